@@ -1,0 +1,92 @@
+-- Joins and covering.
+use Rattle.std.proofs.Common.{ℕ, zero, suc, ◌≤◌, ◌<◌, ◌≡◌, ◌↔◌, Bool, true, List, [], ◌∷◌, length, refl, arith, ap, max, slice_index, slice_set}
+use Rattle.std.specs.Prelude.{false, ◌&&◌, nat_le}
+use Rattle.std.proofs.lemmas.Bool.{and_from, and_parts, leb-true, le-leb}
+use Rattle.tau_base.specs.Vectors.{AtMost, join, covers}
+
+pub join-at : (v w : List ℕ) (j : ℕ) → slice_index (join v w) j ≡ max (slice_index v j) (slice_index w j)
+join-at [] w j = omega arith
+join-at (a ∷ v) [] j = omega arith
+join-at (a ∷ v) (b ∷ w) zero = refl
+join-at (a ∷ v) (b ∷ w) (suc j) = join-at v w j
+
+pub join-wide : (v w : List ℕ) → length v ≤ length (join v w)
+join-wide [] w = omega arith
+join-wide (a ∷ v) [] = omega arith
+join-wide (a ∷ v) (b ∷ w) = let h = join-wide v w in omega arith
+
+pub join-length : (v w : List ℕ) → length v ≡ length w → length (join v w) ≡ length v
+join-length [] [] e = refl
+join-length [] (b ∷ w) e = omega (arith, e)
+join-length (a ∷ v) [] e = refl
+join-length (a ∷ v) (b ∷ w) e = let h = join-length v w (omega (arith, e)) in omega (arith, h)
+
+pub join-left : (v w : List ℕ) → AtMost v (join v w)
+join-left v w j = let e = join-at v w j in omega arith
+
+pub join-right : (v w : List ℕ) → AtMost w (join v w)
+join-right v w j = let e = join-at v w j in omega arith
+
+pub join-below : (v w z : List ℕ) → AtMost v z → AtMost w z → AtMost (join v w) z
+join-below v w z p q j = let e = join-at v w j in let a = p j in let b = q j in omega arith
+
+pub at_most-trans : (u v w : List ℕ) → AtMost u v → AtMost v w → AtMost u w
+at_most-trans u v w p q j = let a = p j in let b = q j in omega arith
+
+pub at_most-itself : (v : List ℕ) → AtMost v v
+at_most-itself v j = omega arith
+
+-- vectors of one width with the same positions are the same
+pub same_positions : (v w : List ℕ) → length v ≡ length w → ((j : ℕ) → slice_index v j ≡ slice_index w j) → v ≡ w
+same_positions [] [] e h = refl
+same_positions [] (b ∷ w) e h = absurd (omega (arith, e))
+same_positions (a ∷ v) [] e h = absurd (omega (arith, e))
+same_positions (a ∷ v) (b ∷ w) e h =
+    let head : a ≡ b = h 0 in
+    let tail = same_positions v w (omega (arith, e)) (λ j. h (suc j)) in
+    λ i. head i ∷ tail i
+
+pub at_most-antisymmetric : (v w : List ℕ) → length v ≡ length w → AtMost v w → AtMost w v → v ≡ w
+at_most-antisymmetric v w e p q = same_positions v w e (λ j. let a = p j in let b = q j in omega (arith, a, b))
+
+pub covers-at_most : (w v : List ℕ) → covers w v ≡ true → AtMost v w
+covers-at_most w [] e j = omega arith
+covers-at_most [] (a ∷ v) e zero = leb-true a 0 (and_parts (nat_le a 0) (covers [] v) e).0
+covers-at_most [] (a ∷ v) e (suc j) = covers-at_most [] v (and_parts (nat_le a 0) (covers [] v) e).1 j
+covers-at_most (b ∷ w) (a ∷ v) e zero = leb-true a b (and_parts (nat_le a b) (covers w v) e).0
+covers-at_most (b ∷ w) (a ∷ v) e (suc j) = covers-at_most w v (and_parts (nat_le a b) (covers w v) e).1 j
+
+pub at_most-covers : (w v : List ℕ) → AtMost v w → covers w v ≡ true
+at_most-covers w [] h = refl
+at_most-covers [] (a ∷ v) h = and_from (nat_le a 0) (covers [] v) (le-leb a 0 (h 0)) (at_most-covers [] v (λ j. h (suc j)))
+at_most-covers (b ∷ w) (a ∷ v) h = and_from (nat_le a b) (covers w v) (le-leb a b (h 0)) (at_most-covers w v (λ j. h (suc j)))
+
+-- a vector that is above w somewhere is not covered
+pub above-covers : (w v : List ℕ) (j : ℕ) → slice_index w j < slice_index v j → covers w v ≡ false
+above-covers w v j above = refused (covers w v) refl
+  where
+    refused : (b : Bool) → covers w v ≡ b → covers w v ≡ false
+    refused true e = let h = covers-at_most w v e j in absurd (omega (arith, h, above))
+    refused false e = e
+
+-- vectors of one width whose positions are the greater ones are the join
+pub join-from : (u v w : List ℕ) → length u ≡ length v → length v ≡ length w → ((k : ℕ) → k < length v → slice_index u k ≡ max (slice_index v k) (slice_index w k)) → u ≡ join v w
+join-from [] [] w e f h = rw (length-none w (omega (arith, f))) refl
+  where
+    length-none : (xs : List ℕ) → length xs ≡ 0 → xs ≡ []
+    length-none [] z = refl
+    length-none (x ∷ xs) z = absurd (omega (arith, z))
+join-from [] (b ∷ v) w e f h = absurd (omega (arith, e))
+join-from (a ∷ u) [] w e f h = absurd (omega (arith, e))
+join-from (a ∷ u) (b ∷ v) [] e f h = absurd (omega (arith, f))
+join-from (a ∷ u) (b ∷ v) (c ∷ w) e f h =
+    let head : a ≡ max b c = h 0 (omega arith) in
+    let tail = join-from u v w (omega (arith, e)) (omega (arith, f)) (λ k lt. h (suc k) (omega (arith, lt))) in
+    λ i. head i ∷ tail i
+
+-- it is enough to look at the positions that v has
+pub at_most-within : (v w : List ℕ) → ((k : ℕ) → k < length v → slice_index v k ≤ slice_index w k) → AtMost v w
+at_most-within [] w h j = omega arith
+at_most-within (a ∷ v) w h zero = h 0 (omega arith)
+at_most-within (a ∷ v) [] h (suc j) = at_most-within v [] (λ k lt. h (suc k) (omega (arith, lt))) j
+at_most-within (a ∷ v) (b ∷ w) h (suc j) = at_most-within v w (λ k lt. h (suc k) (omega (arith, lt))) j

@@ -1,0 +1,11 @@
+use Rattle.tau_base.proofs.Vectors.{join-left, join-right, join-below}
+use Rattle.tau_base.proofs.laws.join_is_least_upper_bound.Goals as goal
+
+pub returns-clause-left : goal.returns-clause-left
+returns-clause-left c = join-left
+
+pub returns-clause-right : goal.returns-clause-right
+returns-clause-right c = join-right
+
+pub returns-clause-least : goal.returns-clause-least
+returns-clause-least c = join-below

@@ -1,0 +1,61 @@
+//! The limits of the engine. Contracts name these constants.
+
+/// Streams of a log, at most.
+pub const MAX_STREAMS: usize = 16;
+
+/// Workers of a run, at most.
+pub const MAX_WORKERS: usize = 16;
+
+/// Workers of a recovery, at most.
+pub const MAX_RECOVERY_WORKERS: usize = 16;
+
+/// Shards of the lock table.
+pub const SHARDS: usize = 64;
+
+/// Tables that a workload declares, at most.
+pub const MAX_TABLES: usize = 64;
+
+/// Procedures that a workload declares, at most.
+pub const MAX_PROCS: usize = 256;
+
+/// Steps of a procedure, at most.
+pub const MAX_STEPS: usize = 64;
+
+/// Arguments of a call, at most.
+pub const MAX_ARGS: usize = 8;
+
+/// Registers of a call.
+pub const REGISTERS: usize = 16;
+
+/// Bytes of a name, at most.
+pub const MAX_NAME: usize = 16;
+
+/// Bytes of a text value, at most.
+pub const MAX_TEXT: usize = 64;
+
+/// Writes of a call, at most.
+pub const MAX_WRITES: usize = 64;
+
+/// Calls of a workload, at most.
+pub const MAX_CALLS: usize = 200_000;
+
+/// Turn words of a workload, at most.
+pub const MAX_TURNS: usize = 1_000_000;
+
+/// Bytes of a workload text, at most.
+pub const MAX_WORKLOAD: usize = 16_777_216;
+
+/// Bytes of a catalogue text, at most.
+pub const MAX_CATALOGUE: usize = 32_768;
+
+/// Bytes of a block's body, at most.
+pub const MAX_BODY: usize = 1_048_576;
+
+/// Tries of a call, before it is left over.
+pub const MAX_TRIES: usize = 64;
+
+/// Bytes of a record, at most: 64 texts and 16 components.
+pub const MAX_RECORD: usize = 5_077;
+
+/// A position in a stream is below this.
+pub const MAX_LSN: u64 = 4_611_686_018_427_387_904;
