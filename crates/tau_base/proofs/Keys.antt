@@ -12,7 +12,7 @@ use Rattle.std.proofs.lemmas.Bool.Decides.{Decides-int_eq}
 use Rattle.tau_base.specs.declared.value.Key.{Key}
 use Rattle.tau_base.specs.declared.value.Value.{Value}
 use Rattle.tau_base.specs.declared.value.Value.TheVariants.{Absent}
-use Rattle.tau_base.specs.Database.{Db, key_cmp, same_key, written, db_of}
+use Rattle.tau_base.specs.Database.{same_key, written, db_of}
 
 then_equal : (o p : Ordering) → is_eq (ordering_then o p) ≡ true → (is_eq o ≡ true) × (is_eq p ≡ true)
 then_equal Less p e = absurd (both_ways false refl e)

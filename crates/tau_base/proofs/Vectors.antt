@@ -1,6 +1,6 @@
 -- Joins and covering.
-use Rattle.std.proofs.Common.{ℕ, zero, suc, ◌≤◌, ◌<◌, ◌≡◌, ◌↔◌, Bool, true, List, [], ◌∷◌, length, refl, arith, ap, max, slice_index, slice_set}
-use Rattle.std.specs.Prelude.{false, ◌&&◌, nat_le}
+use Rattle.std.proofs.Common.{ℕ, zero, suc, ◌≤◌, ◌<◌, ◌≡◌, Bool, true, List, [], ◌∷◌, length, refl, arith, max, slice_index}
+use Rattle.std.specs.Prelude.{false, nat_le}
 use Rattle.std.proofs.lemmas.Bool.{and_from, and_parts, leb-true, le-leb}
 use Rattle.tau_base.specs.Vectors.{AtMost, join, covers}
 

@@ -1,4 +1,4 @@
-use Rattle.std.proofs.Common.{◌≡◌, sym, subst, true}
+use Rattle.std.proofs.Common.{◌≡◌, subst, true}
 use Rattle.tau_base.specs.Database.{same_key}
 use Rattle.tau_base.specs.declared.value.Key.{Key}
 use Rattle.tau_base.proofs.Keys.{same_key-is, same_key-itself}

@@ -1,4 +1,4 @@
-use Rattle.std.proofs.Common.{rules, ap, length, ◌∙◌}
+use Rattle.std.proofs.Common.{ap, length, ◌∙◌}
 use Rattle.tau_base.proofs.Vectors.{join-length}
 use Rattle.tau_base.proofs.lv.Lv.join.Goals as goal
 
