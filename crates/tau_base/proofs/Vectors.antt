@@ -1,6 +1,7 @@
 -- Joins and covering.
-use Rattle.std.proofs.Common.{ℕ, zero, suc, ◌≤◌, ◌<◌, ◌≡◌, Bool, true, List, [], ◌∷◌, length, refl, arith, max, slice_index}
+use Rattle.std.proofs.Common.{ℕ, zero, suc, ◌≤◌, ◌<◌, ◌≡◌, Bool, true, List, [], ◌∷◌, length, refl, arith, inl, inr, max, slice_index}
 use Rattle.std.specs.Prelude.{false, nat_le}
+use Rattle.std.proofs.lemmas.Bool.Decides.{leb_tells}
 use Rattle.std.proofs.lemmas.Bool.{and_from, and_parts, leb-true, le-leb}
 use Rattle.tau_base.specs.Vectors.{AtMost, join, covers}
 
@@ -69,20 +70,20 @@ above-covers w v j above = refused (covers w v) refl
     refused true e = let h = covers-at_most w v e j in absurd (omega (arith, h, above))
     refused false e = e
 
--- vectors of one width whose positions are the greater ones are the join
-pub join-from : (u v w : List ℕ) → length u ≡ length v → length v ≡ length w → ((k : ℕ) → k < length v → slice_index u k ≡ max (slice_index v k) (slice_index w k)) → u ≡ join v w
-join-from [] [] w e f h = rw (length-none w (omega (arith, f))) refl
-  where
-    length-none : (xs : List ℕ) → length xs ≡ 0 → xs ≡ []
-    length-none [] z = refl
-    length-none (x ∷ xs) z = absurd (omega (arith, z))
-join-from [] (b ∷ v) w e f h = absurd (omega (arith, e))
-join-from (a ∷ u) [] w e f h = absurd (omega (arith, e))
-join-from (a ∷ u) (b ∷ v) [] e f h = absurd (omega (arith, f))
-join-from (a ∷ u) (b ∷ v) (c ∷ w) e f h =
-    let head : a ≡ max b c = h 0 (omega arith) in
-    let tail = join-from u v w (omega (arith, e)) (omega (arith, f)) (λ k lt. h (suc k) (omega (arith, lt))) in
-    λ i. head i ∷ tail i
+pub join-none : (v : List ℕ) → join v [] ≡ v
+join-none [] = refl
+join-none (a ∷ v) = refl
+
+pub join-wider : (v w : List ℕ) → (length v ≤ length (join v w)) × (length w ≤ length (join v w)) × (length (join v w) ≤ max (length v) (length w))
+join-wider [] w = (omega arith, omega arith, omega arith)
+join-wider (a ∷ v) [] = (omega arith, omega arith, omega arith)
+join-wider (a ∷ v) (b ∷ w) = let h = join-wider v w in (omega arith, omega arith, omega arith)
+
+-- a vector of the greater width whose positions are the greater ones is the join
+pub join-from : (u v w : List ℕ) → length u ≡ max (length v) (length w) → ((k : ℕ) → slice_index u k ≡ max (slice_index v k) (slice_index w k)) → u ≡ join v w
+join-from u v w e h =
+    let wide = join-wider v w in
+    same_positions u (join v w) (omega (arith, e, wide.0, wide.1, wide.2)) (λ k. let at = join-at v w k in let is = h k in omega (arith, at, is))
 
 -- it is enough to look at the positions that v has
 pub at_most-within : (v w : List ℕ) → ((k : ℕ) → k < length v → slice_index v k ≤ slice_index w k) → AtMost v w
@@ -90,3 +91,21 @@ at_most-within [] w h j = omega arith
 at_most-within (a ∷ v) w h zero = h 0 (omega arith)
 at_most-within (a ∷ v) [] h (suc j) = at_most-within v [] (λ k lt. h (suc k) (omega (arith, lt))) j
 at_most-within (a ∷ v) (b ∷ w) h (suc j) = at_most-within v w (λ k lt. h (suc k) (omega (arith, lt))) j
+
+beyond : (v : List ℕ) (k : ℕ) → length v ≤ k → slice_index v k ≡ 0
+beyond [] k le = refl
+beyond (a ∷ v) zero le = absurd (omega (arith, le))
+beyond (a ∷ v) (suc k) le = beyond v k (omega (arith, le))
+
+-- positions that are the greater ones as far as w goes, and those of v from there on
+pub join-so_far : (u v w : List ℕ) (n : ℕ) → length w ≤ n → length u ≡ max (length v) (length w)
+    → ((k : ℕ) → k < n → slice_index u k ≡ max (slice_index v k) (slice_index w k)) → ((k : ℕ) → n ≤ k → slice_index u k ≡ slice_index v k) → u ≡ join v w
+join-so_far u v w n all e below above = join-from u v w e (λ k. elim (leb_tells n k) [
+  | inl h ↦ let zero_there = beyond w k (omega (arith, all, h.1)) in let same = above k h.1 in omega (arith, zero_there, same)
+  | inr h ↦ below k h.1
+])
+
+pub join-comm : (v w : List ℕ) → join v w ≡ join w v
+join-comm v w =
+    let wide = join-wider v w in
+    join-from (join v w) w v (omega (arith, wide.0, wide.1, wide.2)) (λ k. let at = join-at v w k in omega (arith, at))

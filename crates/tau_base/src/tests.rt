@@ -36,6 +36,8 @@ fn vectors_join_and_cover(rt: HostRuntime) {
     let mut b = zero.with(2, 61);
     assert_eq!(rt; a.get(0), 53);
     assert!(rt; !a.covers(&b));
+    assert_eq!(rt; a.position(5), 0);
+    assert!(rt; a.join(&Lv::zero(5)) == Lv::zero(5).with(0, 53));
     let both = a.join(&b);
     assert!(rt; both.covers(&a));
     assert!(rt; both.covers(&b));

@@ -2,8 +2,8 @@ use Rattle.std.proofs.Common.{sym, rules, arith, ◌<◌, slice_index}
 use Rattle.tau_base.proofs.Vectors.{above-covers, at_most-covers, at_most-within}
 use Rattle.tau_base.proofs.lv.Lv.covers.Goals as goal
 
-pub returns-then-get-clause-same : goal.returns-then-get-clause-same
-returns-then-get-clause-same c =
+pub returns-then-get-position-clause-same : goal.returns-then-get-position-clause-same
+returns-then-get-position-clause-same c =
     let above : slice_index c.args.self.now c.loop-j.j < slice_index c.args.other.now c.loop-j.j = search rules in
     sym (above-covers c.args.self.now c.args.other.now c.loop-j.j above)
 

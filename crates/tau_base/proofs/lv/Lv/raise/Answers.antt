@@ -1,6 +1,6 @@
-use Rattle.std.proofs.Common.{arith}
-use Rattle.tau_base.proofs.Vectors.{join-from}
+use Rattle.std.proofs.Common.{◌∙◌}
+use Rattle.tau_base.proofs.Vectors.{join-comm}
 use Rattle.tau_base.proofs.lv.Lv.raise.Goals as goal
 
-pub returns : goal.returns
-returns c = join-from c.loop-j.self c.args.self.now c.args.other.now c.loop-j.invariant.0 c.requires (λ k lt. c.loop-j.invariant.1 k (omega arith))
+pub returns-else-width : goal.returns-else-width
+returns-else-width c = c.raise_by_narrower-else-width.ensures ∙ join-comm c.args.other.now c.args.self.now
