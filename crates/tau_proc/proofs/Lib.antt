@@ -1,0 +1,11 @@
+pub mod Ascending
+pub mod Bounds
+pub mod Courses
+pub mod Kept
+pub mod Lookups
+pub mod Puts
+pub mod Refusals
+pub mod Sound
+pub mod Stages
+pub mod Starts
+pub mod Walk
