@@ -1,21 +1,16 @@
 -- Where a machine stands, by the values that it was given.
-use Rattle.std.proofs.Common.{◌≡◌, ℕ, ◌+◌, List, [], ◌∷◌, ◌++◌, refl, sym, ap, ◌∙◌, append_assoc, append-nil}
-use Rattle.std.specs.Prelude.{slice_get}
+use Rattle.std.proofs.Common.{◌≡◌, ℕ, ◌+◌, List, [], ◌∷◌, ◌++◌, sym, ap, ◌∙◌, append_assoc, append-nil}
 use Rattle.tau_base.specs.declared.value.Call.{Call}
 use Rattle.tau_base.specs.declared.value.Key.{Key}
 use Rattle.tau_base.specs.declared.value.Value.{Value}
-use Rattle.tau_base.specs.Database.{Db}
 use Rattle.tau_proc.specs.declared.machine.Stop.{Stop}
 use Rattle.tau_proc.specs.declared.machine.Stop.TheVariants.{Row, End}
 use Rattle.tau_proc.specs.declared.proc.Proc.{Proc}
 use Rattle.tau_proc.specs.declared.reply.Reply.{Reply}
-use Rattle.tau_proc.specs.declared.reply.Reply.TheVariants.{Ok, Refused}
-use Rattle.tau_proc.specs.declared.reply.Want.TheVariants.{Read}
 use Rattle.tau_proc.specs.declared.step.Step.{Step}
-use Rattle.tau_proc.specs.Effect.{Effect}
 use Rattle.tau_proc.specs.Meaning.{Running, meaning}
-use Rattle.tau_proc.specs.Progress.{Progress, IsAt, ahead, at_stop, next_want, want_of, want_of_write, buffered}
-use Rattle.tau_proc.specs.Stage.{Stage, Wants, Ends, stage, values}
+use Rattle.tau_proc.specs.Progress.{Progress, IsAt, ahead, at_stop, next_want, want_of, buffered}
+use Rattle.tau_proc.specs.Stage.{Stage, Ends, stage, values}
 use Rattle.tau_proc.specs.Theorems.{WantsAreMeaning}
 use Rattle.tau_proc.proofs.Stages.{stage-ends, stage-wants}
 

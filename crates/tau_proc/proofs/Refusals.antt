@@ -1,15 +1,13 @@
 -- A call that is refused writes nothing.
 use Rattle.std.proofs.Common.{◌≡◌, ℕ, ◌+◌, List, [], ◌∷◌, refl, Option}
 use Rattle.std.specs.Prelude.{Some, None}
-use Rattle.tau_base.specs.declared.value.Call.{Call}
-use Rattle.tau_base.specs.declared.value.Key.{Key}
 use Rattle.tau_base.specs.declared.value.Value.{Value}
 use Rattle.tau_base.specs.Database.{Db}
 use Rattle.tau_proc.specs.declared.proc.Proc.{Proc}
-use Rattle.tau_proc.specs.declared.reply.Reply.TheVariants.{Ok, Refused}
+use Rattle.tau_proc.specs.declared.reply.Reply.TheVariants.{Refused}
 use Rattle.tau_proc.specs.declared.step.Step.{Step}
 use Rattle.tau_proc.specs.Effect.{Effect}
-use Rattle.tau_proc.specs.Meaning.{Running, Action, Go, Ask, Refuse, action, set_register, follow, run, begun, Built, Puts, Adds, Gets, Wrong, built_in, proc_of, effect_by, sum_with, added_writes, added_reply, meaning}
+use Rattle.tau_proc.specs.Meaning.{Running, Action, Go, Ask, Refuse, action, set_register, follow, run, begun, Built, Puts, Adds, Gets, Wrong, built_in, proc_of, effect_by, sum_with, added_writes, added_reply}
 use Rattle.tau_proc.specs.Theorems.{RefusedWritesNothing}
 
 abbrev Nothing : Effect → Type 0

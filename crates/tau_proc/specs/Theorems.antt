@@ -8,7 +8,7 @@ use Rattle.tau_base.specs.Database.{Db, key_cmp}
 use Rattle.tau_proc.specs.declared.proc.Proc.{Proc}
 use Rattle.tau_proc.specs.declared.reply.Reply.TheVariants.{Refused}
 use Rattle.tau_proc.specs.declared.reply.Want.TheVariants.{Read}
-use Rattle.tau_proc.specs.Effect.{Effect, Sound}
+use Rattle.tau_proc.specs.Effect.{Sound}
 use Rattle.tau_proc.specs.Meaning.{meaning}
 use Rattle.tau_proc.specs.Progress.{Progress, IsAt, next_want, want_of_write, buffered}
 use Rattle.tau_proc.specs.Stage.{values}

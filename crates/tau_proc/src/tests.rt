@@ -363,16 +363,14 @@ fn a_refusal_keeps_reads_and_no_writes(rt: HostRuntime) -> Result<(), Fail> {
 fn sixty_four_writes_ascend(rt: HostRuntime) -> Result<(), Fail> {
     let alloc = rt.alloc();
     let mut steps = Vec::new(alloc);
-    for row in 0..64i64 {
-        steps.push(put(int(63 - row), int(row)))?;
+    for row in (0..64i64).rev() {
+        steps.push(put(int(row), int(row)))?;
     }
     let ran = run_steps(&rt, alloc, steps.as_slice(), &[], &[])?;
     assert_eq!(rt; ran.writes.len(), 64);
-    let mut row = 0i64;
-    for write in &ran.writes {
+    for (write, row) in ran.writes.iter().zip(0..64i64) {
         assert_eq!(rt; write.0, key(row));
-        assert_eq!(rt; write.1.copied(), Value::Int(63 - row));
-        row += 1;
+        assert_eq!(rt; write.1.copied(), Value::Int(row));
     }
     let absent = run_steps(&rt, alloc, &[put(int(5), Operand::Absent)], &[], &[])?;
     assert_eq!(rt;
