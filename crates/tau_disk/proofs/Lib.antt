@@ -1,0 +1,3 @@
+pub mod Tears
+pub mod Images
+pub mod Replays
