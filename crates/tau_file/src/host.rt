@@ -1,0 +1,155 @@
+// A file of the system as a disk.
+ghost use Rattle.std.specs.Prelude.{◌≡◌, [], false};
+ghost use Rattle.tau_disk.specs.Disk.{Rose};
+
+use std::alloc::Global;
+use std::fs::{OpenFile, OpenOptions};
+use std::io::{Read, Seek, SeekFrom, Write};
+use std::rt::Files;
+use tau_disk::{Disk, Failed};
+
+/// The file `stream-JJ.log` of the working directory, with two decimal digits. It is opened, or created, at the
+/// first call. What it holds is told to no contract.
+#[derive(Drop)]
+pub struct HostFile<R: Files + Drop> {
+    rt: R,
+    alloc: Global,
+    stream: u8,
+    file: Option<R::File>,
+    faults: u64,
+}
+
+impl<R: Files + Drop> HostFile<R> {
+    /// The file of stream `j`, not opened yet.
+    pub fn of_stream(rt: R, alloc: Global, j: u8) -> HostFile<R> {
+        HostFile {
+            rt,
+            alloc,
+            stream: j,
+            file: None,
+            faults: 0,
+        }
+    }
+
+    // Opens it, if it is not open. Where that fails, no file is there for the call that follows.
+    fn open(&mut self)
+        ensures { self.new.faults ≡ self.old.faults }
+    {
+        if self.file.is_some() {
+            return;
+        }
+        let stream = self.stream;
+        match format!(in self.alloc; "stream-{stream:02}.log") {
+            Ok(name) => {
+                let mut options = OpenOptions::new();
+                options.read(true).write(true).create(true);
+                match options.open(&self.rt, name.as_str()) {
+                    Ok(file) => self.file = Some(file),
+                    Err(_) => {}
+                }
+            }
+            Err(_) => {}
+        }
+    }
+
+    // Counts a failed call.
+    fn fail(&mut self) -> Failed
+        ensures { Rose self.old.faults self.new.faults }
+    {
+        self.faults = self.faults.saturating_add(1);
+        Failed
+    }
+}
+
+// The length, where the system tells it.
+fn len_of<F: OpenFile>(file: &mut Option<F>) -> Option<u64> {
+    match file {
+        Some(file) => match file.metadata() {
+            Ok(found) => Some(found.len()),
+            Err(_) => None,
+        },
+        None => None,
+    }
+}
+
+// Fills the whole buffer.
+fn read_from<F: Read + Seek>(file: &mut Option<F>, at: u64, buf: &mut [u8]) -> bool {
+    match file {
+        Some(file) => file.seek(SeekFrom::Start(at)).is_ok() && file.read_exact(buf).is_ok(),
+        None => false,
+    }
+}
+
+// Writes all the bytes.
+fn write_to<F: Write + Seek>(file: &mut Option<F>, at: u64, bytes: &[u8]) -> bool {
+    match file {
+        Some(file) => file.seek(SeekFrom::Start(at)).is_ok() && file.write_all(bytes).is_ok(),
+        None => false,
+    }
+}
+
+// Waits until the device holds what was written.
+fn sync_of<F: OpenFile>(file: &mut Option<F>) -> bool {
+    match file {
+        Some(file) => file.sync_all().is_ok(),
+        None => false,
+    }
+}
+
+impl<R: Files + Drop> Disk for HostFile<R> {
+    ghost tells = { ⊥ };
+
+    ghost seen = { λ _. [] };
+
+    ghost may_leave = { λ _ _. Unit {0} };
+
+    ghost moment = { λ _. 0 };
+
+    ghost may_leave_since = { λ _ _ _. Unit {0} };
+
+    ghost faults = { λ file. file.faults };
+
+    ghost number = { λ _. 0 };
+
+    ghost fails = { λ _ _. false };
+
+    ghost short = { λ _. false };
+
+    ghost seen_now = { λ _ _. tt };
+
+    ghost counts_now = { λ _ _ _ _ _. tt };
+
+    ghost only_now = { λ _ _ _. tt };
+
+    fn len(&mut self) -> Result<u64, Failed> {
+        self.open();
+        match len_of(&mut self.file) {
+            Some(n) => Ok(n),
+            None => Err(self.fail()),
+        }
+    }
+
+    fn read_at(&mut self, at: u64, buf: &mut [u8]) -> Result<(), Failed> {
+        self.open();
+        if read_from(&mut self.file, at, buf) {
+            return Ok(());
+        }
+        Err(self.fail())
+    }
+
+    fn write_at(&mut self, at: u64, bytes: &[u8]) -> Result<(), Failed> {
+        self.open();
+        if write_to(&mut self.file, at, bytes) {
+            return Ok(());
+        }
+        Err(self.fail())
+    }
+
+    fn sync(&mut self) -> Result<(), Failed> {
+        self.open();
+        if sync_of(&mut self.file) {
+            return Ok(());
+        }
+        Err(self.fail())
+    }
+}
