@@ -1,0 +1,208 @@
+-- Blocks and headers, and how the front of an image grows.
+use Rattle.std.proofs.Common.{◌≡◌, ◌≢◌, ◌⊎◌, inl, inr, ℕ, zero, suc, ◌+◌, ◌-◌, ◌*◌, ◌/◌, ◌%◌, ◌<◌, ◌≤◌, ◌^◌, Bool, true, false, List, [], ◌∷◌, ◌++◌, length, get_or, take, drop, refl, sym, ◌∙◌, ap, subst, arith, append_assoc, length-append, take-append-drop, Option, Some, None, Result, Ok, Err, if◌then◌else◌}
+use Rattle.std.specs.Prelude.{nat_eq, slice_set}
+use Rattle.std.specs.List.{starts_with}
+use Rattle.std.specs.Int.{w16, w32, to_be_bytes, from_be_bytes}
+use Rattle.std.proofs.lemmas.Nat.{from_be_bytes-to_be_bytes_2, from_be_bytes-to_be_bytes_4}
+use Rattle.std.proofs.lemmas.List.{take_at, drop_at, drop_all, drop_more, take_more, take-take, get_or-take, get_or_at, length-take-le, append-nil, get_or_append_left, take-append-le}
+use Rattle.std.proofs.Math.Seq.{set-append_seam}
+use Rattle.std.proofs.lemmas.Bool.{cases_eq, le-leb, lt-leb}
+use Rattle.std.proofs.lemmas.Bool.Decides.{nat_tests}
+use Rattle.tau_base.specs.declared.limits.TheConstants.{MAX_BODY, MAX_STREAMS}
+use Rattle.tau_block.specs.declared.fault.ImageFault.{ImageFault}
+use Rattle.tau_block.specs.declared.fault.ImageFault.TheVariants.{BadMagic, BadCount, BadIndex, OpenGateWithoutBlock}
+use Rattle.tau_block.specs.Image.{Reading, magic, header_of, count_in, index_in, header_fault, extended, bodies, with_count, behind_header, image_of, is_of, bytes_of, content_of, HasContent, block_of, tail_of, IsBody, IsFront, IsLog, IsHeader, IsBlockAt}
+
+pub extended-extended : (a b : List ℕ) (o : Option (List ℕ)) → extended a (extended b o) ≡ extended (a ++ b) o
+extended-extended a b None = refl
+extended-extended a b (Some c) = ap Some (sym (append_assoc a b c))
+
+pub extended-nil : (o : Option (List ℕ)) → extended [] o ≡ o
+extended-nil None = refl
+extended-nil (Some c) = refl
+
+-- a body is read
+bodies-append : (body tail : List ℕ) → bodies (length body) (body ++ tail) ≡ extended body (bodies 0 tail)
+bodies-append [] tail = sym (extended-nil (bodies 0 tail))
+bodies-append (x ∷ body) tail = ap (λ (o : Option (List ℕ)). extended (x ∷ []) o) (bodies-append body tail) ∙ extended-extended (x ∷ []) body (bodies 0 tail)
+
+-- where no byte is left for the next gate there is none
+pub bodies-short : (k : ℕ) (xs : List ℕ) → length xs ≤ k → bodies k xs ≡ None
+bodies-short zero [] le = refl
+bodies-short zero (x ∷ xs) le = absurd (omega arith)
+bodies-short (suc k) [] le = refl
+bodies-short (suc k) (x ∷ xs) le = ap (λ (o : Option (List ℕ)). extended (x ∷ []) o) (bodies-short k xs (omega arith))
+
+-- four bytes that stand for a number above 0 are followed by a body
+pub bodies-open : (a b c d n : ℕ) (rest : List ℕ) → from_be_bytes w32 (a ∷ b ∷ c ∷ d ∷ []) ≡ n → 1 ≤ n → bodies 0 (1 ∷ a ∷ b ∷ c ∷ d ∷ rest) ≡ bodies n rest
+bodies-open a b c d n rest is some = grind (arith, nat_tests)
+
+bodies-zero : (a b c d : ℕ) (rest : List ℕ) → from_be_bytes w32 (a ∷ b ∷ c ∷ d ∷ []) ≡ 0 → bodies 0 (1 ∷ a ∷ b ∷ c ∷ d ∷ rest) ≡ None
+bodies-zero a b c d rest is = grind (arith, nat_tests)
+
+-- so is a block
+pub bodies-block : (body tail : List ℕ) → 1 ≤ length body → length body < 2 ^ 32 → bodies 0 (block_of body ++ tail) ≡ extended body (bodies 0 tail)
+bodies-block body tail some short = bodies-open _ _ _ _ (length body) (body ++ tail) (from_be_bytes-to_be_bytes_4 (length body) short) some ∙ bodies-append body tail
+
+pub bodies-shut : (gate : ℕ) (rest : List ℕ) → gate ≢ 1 → bodies 0 (gate ∷ rest) ≡ Some []
+bodies-shut gate [] shut = grind (arith, nat_tests)
+bodies-shut gate (a ∷ []) shut = grind (arith, nat_tests)
+bodies-shut gate (a ∷ b ∷ []) shut = grind (arith, nat_tests)
+bodies-shut gate (a ∷ b ∷ c ∷ []) shut = grind (arith, nat_tests)
+bodies-shut gate (a ∷ b ∷ c ∷ d ∷ rest) shut = grind (arith, nat_tests)
+
+-- an open gate with fewer than four bytes behind it
+pub no_length : (xs : List ℕ) → length xs < 4 → bodies 0 (1 ∷ xs) ≡ None
+no_length [] lt = refl
+no_length (a ∷ []) lt = refl
+no_length (a ∷ b ∷ []) lt = refl
+no_length (a ∷ b ∷ c ∷ []) lt = refl
+no_length (a ∷ b ∷ c ∷ d ∷ rest) lt = absurd (omega arith)
+
+-- the number that the first four bytes are
+abbrev pub size_in : List ℕ → ℕ
+size_in xs = from_be_bytes w32 (get_or xs 0 0 ∷ get_or xs 1 0 ∷ get_or xs 2 0 ∷ get_or xs 3 0 ∷ [])
+
+-- with a length of 0, or no byte behind the body
+pub no_block : (xs : List ℕ) (n : ℕ) → 4 ≤ length xs → n ≡ size_in xs → (n ≡ 0) ⊎ (length xs ≤ 4 + n) → bodies 0 (1 ∷ xs) ≡ None
+no_block [] n long is why = absurd (omega arith)
+no_block (a ∷ []) n long is why = absurd (omega arith)
+no_block (a ∷ b ∷ []) n long is why = absurd (omega arith)
+no_block (a ∷ b ∷ c ∷ []) n long is why = absurd (omega arith)
+no_block (a ∷ b ∷ c ∷ d ∷ rest) n long is (inl none) = bodies-zero a b c d rest (sym is ∙ none)
+no_block (a ∷ b ∷ c ∷ d ∷ rest) n long is (inr short) = elim (cases_eq n 0) [
+  | inl none ↦ bodies-zero a b c d rest (sym is ∙ none)
+  | inr some ↦ bodies-open a b c d n rest (sym is) (omega arith) ∙ bodies-short n rest (omega arith)
+]
+
+-- a block makes the front longer
+pub front_block : (n j : ℕ) (front content body : List ℕ) → IsFront n j front content → 1 ≤ length body → length body < 2 ^ 32 → IsFront n j (front ++ block_of body) (content ++ body)
+front_block n j front content body is some short = record {
+  long = omega (arith, is.long, length-append front (block_of body));
+  closed = λ gate rest shut. reads (gate ∷ rest) ∙ ap (λ (o : Option (List ℕ)). extended (content ++ body) o) (bodies-shut gate rest shut) ∙ ap Some (append-nil (content ++ body));
+  more = λ tail long. reads tail;
+}
+  where
+    reads : (tail : List ℕ) → content_of n j ((front ++ block_of body) ++ tail) ≡ extended (content ++ body) (bodies 0 tail)
+    reads tail =
+        ap (content_of n j) (append_assoc front (block_of body) tail)
+        ∙ is.more (block_of body ++ tail) (omega arith)
+        ∙ ap (λ (o : Option (List ℕ)). extended content o) (bodies-block body tail some short)
+        ∙ extended-extended content body (bodies 0 tail)
+
+-- of a header alone
+
+pub short_content : (n j : ℕ) (image : List ℕ) → length image ≤ 17 → content_of n j image ≡ Some []
+short_content n j image short = ap (λ (b : Bool). bytes_of n (if b then Ok (record { count = None; bytes = [] }) else behind_header (take 16 image) (header_fault j (take 16 image)) (bodies 0 (drop 16 image)))) (le-leb (length image) 17 short)
+
+counted : (n count : ℕ) (blocks : Option (List ℕ)) → count ≡ n → bytes_of n (with_count count blocks) ≡ blocks
+counted n count None is = refl
+counted n count (Some bytes) is = grind (arith, nat_tests)
+
+pub long_image : (j : ℕ) (image : List ℕ) → 17 < length image → image_of j image ≡ behind_header (take 16 image) (header_fault j (take 16 image)) (bodies 0 (drop 16 image))
+long_image j image long = ap (λ (b : Bool). if b then Ok (record { count = None; bytes = [] }) else behind_header (take 16 image) (header_fault j (take 16 image)) (bodies 0 (drop 16 image))) (lt-leb (length image) 17 long)
+
+pub headed : (j : ℕ) (image : List ℕ) → 17 < length image → header_fault j (take 16 image) ≡ None → image_of j image ≡ with_count (count_in (take 16 image)) (bodies 0 (drop 16 image))
+headed j image long sound = long_image j image long ∙ ap (λ (f : Option ImageFault). behind_header (take 16 image) f (bodies 0 (drop 16 image))) sound
+
+long_content : (n j : ℕ) (image : List ℕ) → 17 < length image → IsHeader n j (take 16 image) → content_of n j image ≡ bodies 0 (drop 16 image)
+long_content n j image long header = ap (bytes_of n) (headed j image long header.sound) ∙ counted n (count_in (take 16 image)) (bodies 0 (drop 16 image)) header.counts
+
+module _ (n j : ℕ) (head : List ℕ) (header : IsHeader n j head) where
+  behind_head : (tail : List ℕ) → 2 ≤ length tail → content_of n j (head ++ tail) ≡ bodies 0 tail
+  behind_head tail long =
+      long_content n j (head ++ tail) (omega (arith, header.size, length-append head tail)) (subst (IsHeader n j) (sym (take_at head tail 16 header.size)) header)
+      ∙ ap (λ (l : List ℕ). bodies 0 l) (drop_at head tail 16 header.size)
+
+  closed_head : (gate : ℕ) (rest : List ℕ) → gate ≢ 1 → content_of n j (head ++ gate ∷ rest) ≡ Some []
+  closed_head gate [] shut = short_content n j (head ++ gate ∷ []) (omega (arith, header.size, length-append head (gate ∷ [])))
+  closed_head gate (x ∷ rest) shut = behind_head (gate ∷ x ∷ rest) (omega arith) ∙ bodies-shut gate (x ∷ rest) shut
+
+  pub front_head : IsFront n j head []
+  front_head = record {
+    long = omega (arith, header.size);
+    closed = closed_head;
+    more = λ tail long. behind_head tail long ∙ sym (extended-nil (bodies 0 tail));
+  }
+
+split_at : (xs : List ℕ) (p : ℕ) → p < length xs → xs ≡ take p xs ++ get_or xs p 0 ∷ drop (p + 1) xs
+split_at xs p lt = sym (take-append-drop p xs) ∙ ap (λ (l : List ℕ). take p xs ++ l) (drop_more xs p 0 lt)
+
+zero_one : (n : ℕ) → n ≡ 0 → n ≡ 1 → ⊥
+zero_one n is_zero is_one = omega arith
+
+-- a front and a closed gate, with anything behind it
+pub log_of_front : (n j : ℕ) (front content rest : List ℕ) → IsFront n j front content → IsLog n j (front ++ 0 ∷ rest) (length front) content
+log_of_front n j front content rest is = record {
+  within = omega (arith, length-append front (0 ∷ rest));
+  shut = zero_one _ (get_or_at front 0 rest 0 (length front) refl);
+  front = subst (λ (l : List ℕ). IsFront n j l content) (sym (take_at front (0 ∷ rest) (length front) refl)) is;
+}
+
+-- the causes in a header, in their order
+
+module _ (j : ℕ) (head : List ℕ) where
+  pub bad_magic : starts_with nat_eq head magic ≡ false → header_fault j head ≡ Some BadMagic
+  unfolding header_fault
+  bad_magic magical = grind (arith, nat_tests)
+
+  pub bad_count : starts_with nat_eq head magic ≡ true → (n : ℕ) → n ≡ count_in head → (n < 1) ⊎ (MAX_STREAMS < n) → header_fault j head ≡ Some BadCount
+  unfolding header_fault
+  bad_count magical n counts why = grind (arith, nat_tests)
+
+  module _ (magical : starts_with nat_eq head magic ≡ true) (n : ℕ) (counts : n ≡ count_in head) (some : 1 ≤ n) (most : n ≤ MAX_STREAMS) (i : ℕ) (indexes : i ≡ index_in head) where
+    pub bad_index : (i ≢ j) ⊎ (n ≤ i) → header_fault j head ≡ Some BadIndex
+    unfolding header_fault
+    bad_index why = grind (arith, nat_tests)
+
+    pub no_fault : i ≡ j → i < n → header_fault j head ≡ None
+    unfolding header_fault
+    no_fault own below = grind (arith, nat_tests)
+
+-- the header that is written is one
+pub header_of-is : (n j : ℕ) → 1 ≤ n → n ≤ MAX_STREAMS → j < n → IsHeader n j (header_of n j)
+unfolding count_in index_in
+header_of-is n j some most below =
+    let counts : count_in (header_of n j) ≡ n = from_be_bytes-to_be_bytes_2 n (omega arith) in
+    let indexes : index_in (header_of n j) ≡ j = from_be_bytes-to_be_bytes_2 j (omega arith) in
+    record {
+      size = refl;
+      sound = no_fault j (header_of n j) refl n (sym counts) some most j (sym indexes) refl below;
+      counts = counts;
+    }
+
+pub log_of_header : (n j : ℕ) → 1 ≤ n → n ≤ MAX_STREAMS → j < n → IsLog n j (header_of n j ++ 0 ∷ []) 16 []
+log_of_header n j some most below = log_of_front n j (header_of n j) [] [] (front_head n j (header_of n j) (header_of-is n j some most below))
+
+-- an image that ends with its closed gate
+
+module _ (n j : ℕ) (image : List ℕ) (gate_at : ℕ) (content : List ℕ) (is : IsLog n j image gate_at content) where
+  -- goes on with anything
+  pub log_longer : (more : List ℕ) → IsLog n j (image ++ more) gate_at content
+  log_longer more = record {
+    within = omega (arith, is.within, length-append image more);
+    shut = λ opens. is.shut (sym (get_or_append_left image more 0 gate_at is.within) ∙ opens);
+    front = subst (λ (l : List ℕ). IsFront n j l content) (sym (take-append-le gate_at image more (omega (arith, is.within)))) is.front;
+  }
+
+  pub log_read : content_of n j image ≡ Some content
+  log_read = ap (content_of n j) (split_at image gate_at is.within) ∙ is.front.closed (get_or image gate_at 0) (drop (gate_at + 1) image) is.shut
+
+  -- and with a block whose gate is opened has one content more
+  pub log_opened : (body : List ℕ) → 1 ≤ length body → length body < 2 ^ 32 → gate_at + 1 ≡ length image →
+      IsLog n j (slice_set (image ++ tail_of body) gate_at 1) (gate_at + length (tail_of body)) (content ++ body)
+  log_opened body some short ends =
+      let size : length (take gate_at image) ≡ gate_at = length-take-le gate_at image (omega (arith, is.within)) in
+      let whole : image ++ tail_of body ≡ take gate_at image ++ get_or image gate_at 0 ∷ tail_of body =
+      ap (λ (l : List ℕ). l ++ tail_of body) (split_at image gate_at is.within ∙ ap (λ (l : List ℕ). take gate_at image ++ get_or image gate_at 0 ∷ l) (drop_all (gate_at + 1) image (omega (arith, ends))))
+      ∙ append_assoc (take gate_at image) (get_or image gate_at 0 ∷ []) (tail_of body) in
+      let opens : slice_set (image ++ tail_of body) gate_at 1 ≡ (take gate_at image ++ block_of body) ++ 0 ∷ [] =
+      ap (λ (l : List ℕ). slice_set l gate_at 1) whole
+      ∙ ap (λ (i : ℕ). slice_set (take gate_at image ++ get_or image gate_at 0 ∷ tail_of body) i 1) (sym size)
+      ∙ set-append_seam (take gate_at image) (get_or image gate_at 0) (tail_of body) 1
+      ∙ sym (append_assoc (take gate_at image) (block_of body) (0 ∷ [])) in
+      let grown : length (take gate_at image ++ block_of body) ≡ gate_at + length (tail_of body) =
+      omega (arith, size, length-append (take gate_at image) (block_of body), length-append body (0 ∷ [])) in
+      let log = log_of_front n j (take gate_at image ++ block_of body) (content ++ body) [] (front_block n j (take gate_at image) content body is.front some short) in
+      subst (λ (g : ℕ). IsLog n j (slice_set (image ++ tail_of body) gate_at 1) g (content ++ body)) grown
+      (subst (λ (l : List ℕ). IsLog n j l (length (take gate_at image ++ block_of body)) (content ++ body)) (sym opens) log)

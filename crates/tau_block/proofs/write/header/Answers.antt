@@ -1,0 +1,13 @@
+use Rattle.std.proofs.Common.{ℕ, List, [], ◌∷◌, ◌++◌, sym, subst, get_or}
+use Rattle.tau_block.specs.Image.{IsLog, magic}
+use Rattle.tau_block.proofs.Blocks.{log_of_header}
+use Rattle.tau_block.proofs.write.header.Goals as goal
+
+-- the header whose numbers have these bytes, and a closed gate
+abbrev spelled : List ℕ → List ℕ → List ℕ
+spelled a b = magic ++ (get_or a 0 0 ∷ get_or a 1 0 ∷ get_or b 0 0 ∷ get_or b 1 0 ∷ 0 ∷ [])
+
+pub returns-clause-empty : goal.returns-clause-empty
+returns-clause-empty c = λ some most below.
+    subst (λ (l : List ℕ). IsLog c.args.n c.args.j l 16 []) (sym (λ i. spelled (c.to_be_bytes.ensures i) (c.to_be_bytes-2.ensures i)))
+    (log_of_header c.args.n c.args.j some most below)

@@ -1,0 +1,130 @@
+-- What the image of a log stream holds.
+use Rattle.std.specs.Prelude.{◌≡◌, ◌≢◌, ℕ, zero, suc, ◌+◌, ◌*◌, ◌<◌, ◌≤◌, ◌^◌, Bool, true, ◌&&◌, List, [], ◌∷◌, ◌++◌, length, take, drop, slice_index, nat_eq, nat_le, nat_lt, Option, Some, None, Result, Ok, Err, if◌then◌else◌, ◌==◌}
+use Rattle.std.specs.List.{starts_with}
+use Rattle.std.specs.Int.{w16, w32, to_be_bytes, from_be_bytes}
+use Rattle.tau_base.specs.declared.limits.TheConstants.{MAX_BODY, MAX_STREAMS}
+use Rattle.tau_block.specs.declared.fault.ImageFault.{ImageFault}
+use Rattle.tau_block.specs.declared.fault.ImageFault.TheVariants.{BadMagic, BadCount, BadIndex, OpenGateWithoutBlock}
+
+-- what an image holds: how many streams its log has, where it has a header, and the bodies of its blocks one after another
+pub record Reading : Type 0 where
+  pub count : Option ℕ
+  pub bytes : List ℕ
+
+-- the text `TAURUS-LOG-1`
+abbrev pub magic : List ℕ
+magic = 84 ∷ 65 ∷ 85 ∷ 82 ∷ 85 ∷ 83 ∷ 45 ∷ 76 ∷ 79 ∷ 71 ∷ 45 ∷ 49 ∷ []
+
+-- the header of stream j of n, before its first gate
+abbrev pub header_of : ℕ → ℕ → List ℕ
+header_of n j = magic ++ (to_be_bytes w16 n ++ to_be_bytes w16 j)
+
+-- the number of streams that a header states, and the index of its own stream
+unfoldable pub count_in : List ℕ → ℕ
+count_in head = from_be_bytes w16 (slice_index head 12 ∷ slice_index head 13 ∷ [])
+
+unfoldable pub index_in : List ℕ → ℕ
+index_in head = from_be_bytes w16 (slice_index head 14 ∷ slice_index head 15 ∷ [])
+
+-- the first cause why these 16 bytes are no header of stream j
+unfoldable pub header_fault : ℕ → List ℕ → Option ImageFault
+header_fault j head =
+    if starts_with nat_eq head magic then
+    (if nat_le 1 (count_in head) && nat_le (count_in head) MAX_STREAMS then
+    (if nat_eq (index_in head) j && nat_lt (index_in head) (count_in head) then None else Some BadIndex)
+    else Some BadCount)
+    else Some BadMagic
+
+-- these bytes, and then what is there
+abbrev pub extended : List ℕ → Option (List ℕ) → Option (List ℕ)
+extended body None = None
+extended body (Some rest) = Some (body ++ rest)
+
+-- The bodies from a place on that has so many bytes of a body before the next gate, one after another as long as
+-- gates read 1. None where an open gate has no whole block behind it: its length is 0 or missing, or the image ends
+-- before the next gate.
+abbrev pub bodies : ℕ → List ℕ → Option (List ℕ)
+bodies zero [] = None
+bodies zero (gate ∷ a ∷ b ∷ c ∷ d ∷ rest) =
+    if gate == 1 then (if from_be_bytes w32 (a ∷ b ∷ c ∷ d ∷ []) == 0 then None else bodies (from_be_bytes w32 (a ∷ b ∷ c ∷ d ∷ [])) rest)
+    else Some []
+bodies zero (gate ∷ rest) = if gate == 1 then None else Some []
+bodies (suc k) [] = None
+bodies (suc k) (x ∷ rest) = extended (x ∷ []) (bodies k rest)
+
+-- what stands behind a header, or a cause
+abbrev pub with_count : ℕ → Option (List ℕ) → Result Reading ImageFault
+with_count n (Some bytes) = Ok (record { count = Some n; bytes = bytes })
+with_count n None = Err OpenGateWithoutBlock
+
+abbrev pub behind_header : List ℕ → Option ImageFault → Option (List ℕ) → Result Reading ImageFault
+behind_header head (Some fault) blocks = Err fault
+behind_header head None blocks = with_count (count_in head) blocks
+
+-- What an image of stream j holds, or the first cause why it holds nothing. One of at most 17 bytes is unborn,
+-- whatever it holds.
+abbrev pub image_of : ℕ → List ℕ → Result Reading ImageFault
+image_of j image =
+    if nat_le (length image) 17 then Ok (record { count = None; bytes = [] })
+    else behind_header (take 16 image) (header_fault j (take 16 image)) (bodies 0 (drop 16 image))
+
+-- no header states another number of streams
+abbrev pub is_of : ℕ → Option ℕ → Bool
+is_of n (Some count) = count == n
+is_of n None = true
+
+abbrev pub bytes_of : ℕ → Result Reading ImageFault → Option (List ℕ)
+bytes_of n (Ok reading) = if is_of n reading.count then Some reading.bytes else None
+bytes_of n (Err fault) = None
+
+-- the content of an image of stream j of n
+abbrev pub content_of : ℕ → ℕ → List ℕ → Option (List ℕ)
+content_of n j image = bytes_of n (image_of j image)
+
+-- the image has this content
+abbrev pub HasContent : ℕ → ℕ → List ℕ → List ℕ → Type 0
+HasContent n j content image = content_of n j image ≡ Some content
+
+-- a block with its open gate, and what of it stands behind the gate, with the next gate closed
+abbrev pub block_of : List ℕ → List ℕ
+block_of body = 1 ∷ (to_be_bytes w32 (length body) ++ body)
+
+abbrev pub tail_of : List ℕ → List ℕ
+tail_of body = to_be_bytes w32 (length body) ++ body ++ 0 ∷ []
+
+-- a writer puts so much into one block
+pub record IsBody (body : List ℕ) : Type 0 where
+  pub some : 1 ≤ length body
+  pub most : length body ≤ MAX_BODY
+
+-- These bytes are a header and whole blocks of this content: whatever stands behind them, the image reads as the
+-- content and then the rest.
+pub record IsFront (n j : ℕ) (front content : List ℕ) : Type 0 where
+  pub long : 16 ≤ length front
+  pub closed : (gate : ℕ) (rest : List ℕ) → gate ≢ 1 → content_of n j (front ++ gate ∷ rest) ≡ Some content
+  pub more : (tail : List ℕ) → 2 ≤ length tail → content_of n j (front ++ tail) ≡ extended content (bodies 0 tail)
+
+-- the image has a header and whole blocks of this content, and behind them a closed gate at this place
+pub record IsLog (n j : ℕ) (image : List ℕ) (gate_at : ℕ) (content : List ℕ) : Type 0 where
+  pub within : gate_at < length image
+  pub shut : slice_index image gate_at ≢ 1
+  pub front : IsFront n j (take gate_at image) content
+
+-- these are 16 bytes before the first gate of stream j of n
+pub record IsHeader (n j : ℕ) (head : List ℕ) : Type 0 where
+  pub size : length head ≡ 16
+  pub sound : header_fault j head ≡ None
+  pub counts : count_in head ≡ n
+
+-- the length of this body and the body stand at this place, and a byte behind them
+pub record IsBlockAt (image : List ℕ) (at : ℕ) (body : List ℕ) : Type 0 where
+  pub some : 1 ≤ length body
+  pub short : length body < 2 ^ 32
+  pub within : at + 4 + length body < length image
+  pub stands : take (4 + length body) (drop at image) ≡ to_be_bytes w32 (length body) ++ body
+
+-- the blocks from the header to the gate at this place are read, and this is what they hold
+pub record IsWalked (image : List ℕ) (gate_at : ℕ) (content : List ℕ) : Type 0 where
+  pub within : gate_at < length image
+  pub reads : bodies 0 (drop 16 image) ≡ extended content (bodies 0 (drop gate_at image))
+  pub front : (n j : ℕ) → IsHeader n j (take 16 image) → IsFront n j (take gate_at image) content

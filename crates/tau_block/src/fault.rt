@@ -1,0 +1,28 @@
+// Why an image has no content.
+use thiserror::Error;
+
+/// Why an image holds no log. The numbers are those of reports.
+#[derive(Clone, Copy, Debug, PartialEq, Eq, Error)]
+pub enum ImageFault {
+    /// The first 12 bytes are not those of a log.
+    #[error("bad magic")]
+    BadMagic = 1,
+    /// The number of streams is 0 or above 16.
+    #[error("bad count")]
+    BadCount,
+    /// The index is not that of the stream, or not below the number of streams.
+    #[error("bad index")]
+    BadIndex,
+    /// An open gate has no whole block behind it.
+    #[error("open gate without a block")]
+    OpenGateWithoutBlock,
+}
+
+/// Why `contents_of` gives no content.
+#[derive(Clone, Copy, Debug, PartialEq, Eq, Error)]
+pub enum ImageRefusal {
+    #[error("out of memory")]
+    NoMemory,
+    #[error(transparent)]
+    Bad(ImageFault),
+}
