@@ -1,0 +1,9 @@
+pub mod ContentLaws
+pub mod FieldLaws
+pub mod ItemLaws
+pub mod Loop
+pub mod RecordLaws
+pub mod SizeLaws
+pub mod Spell
+pub mod VectorLaws
+pub mod Walk

@@ -1,0 +1,43 @@
+use Rattle.std.proofs.Common.{◌≡◌, ◌-◌, ◌+◌, length, arith, sym, [], refl, ◌∙◌}
+use Rattle.std.proofs.lemmas.Bool.{eqb-true, eqb-false}
+use Rattle.tau_record.specs.Format.{One}
+use Rattle.tau_record.specs.Content.{content_at}
+use Rattle.tau_record.specs.Record.{named}
+use Rattle.tau_record.proofs.Walk.{goes_on, ends, is_done, leaves, starts, are_first}
+use Rattle.tau_record.proofs.content.records.Goals as goal
+
+pub loop-init : goal.loop-init
+loop-init c =
+    let first : c.push.new.self.items ≡ named c.args.n [] = rw (c.in_ok-push.ensures.items, c.new-vectors.ensures.items, c.zero.ensures) refl in
+    record {
+      place = omega arith;
+      fuel = omega arith;
+      are = are_first c.args.n c.push.new.self.items first;
+      bytes = λ i. omega (arith, c.type_inv.content i);
+      reads = starts One c.args.n c.args.content.now c.push.new.self.items c.new-placed.result.items first c.new-placed.ensures.items;
+    }
+
+pub returns-then-is_empty : goal.returns-then-is_empty
+returns-then-is_empty c = is_done One c.args.n (length c.args.content.now - c.loop.counter) c.loop.at c.loop.vectors.items c.loop.rest.now c.loop.placed.items (content_at One c.args.n c.args.content.now) (eqb-true _ _ (sym c.is_empty.ensures ∙ c.if-is_empty.true)) c.loop.invariant.reads
+
+pub returns-in-Err : goal.returns-in-Err
+returns-in-Err c = rw c.refusal_at.ensures (ends One c.args.n (length c.args.content.now) c.loop.counter c.loop.at c.loop.vectors.items c.loop.rest.now c.in-Err.e c.loop.placed.items (content_at One c.args.n c.args.content.now) c.loop-test.true (eqb-false _ _ (sym c.is_empty.ensures ∙ c.if-is_empty.false)) (rw c.as_slice.ensures.value at c.in-Err.ensures) c.loop.invariant.reads)
+
+pub overflow_sub-past : goal.overflow_sub-past
+overflow_sub-past c =
+    let left = leaves One c.args.n c.loop.at c.loop.vectors.items c.loop.rest.now c.in-Ok.entry c.in-Ok.after.now c.loop.invariant.bytes c.loop.invariant.are (rw c.as_slice.ensures.value at c.in-Ok.ensures) in
+    omega (arith, left.shorter)
+
+pub loop-preserved : goal.loop-preserved
+loop-preserved c =
+    let left = leaves One c.args.n c.loop.at c.loop.vectors.items c.loop.rest.now c.in-Ok.entry c.in-Ok.after.now c.loop.invariant.bytes c.loop.invariant.are (rw c.as_slice.ensures.value at c.in-Ok.ensures) in
+    record {
+      place = omega (arith, left.shorter, c.loop.invariant.place);
+      fuel = omega (arith, left.shorter, c.loop.invariant.fuel);
+      are = rw c.in_ok-name-in-Ok.ensures left.are;
+      bytes = left.bytes;
+      reads = rw (c.in_ok-name-in-Ok.ensures, c.in_ok-push-in-Ok.ensures.items) (goes_on One c.args.n (length c.args.content.now) c.loop.counter c.loop.at (c.loop.at + (length c.loop.rest.now - length c.in-Ok.after.now)) c.loop.vectors.items c.loop.rest.now c.in-Ok.entry c.in-Ok.after.now c.loop.placed.items (content_at One c.args.n c.args.content.now) c.loop-test.true (eqb-false _ _ (sym c.is_empty.ensures ∙ c.if-is_empty.false)) refl (rw c.as_slice.ensures.value at c.in-Ok.ensures) c.loop.invariant.reads);
+    }
+
+pub returns : goal.returns
+returns c = is_done One c.args.n (length c.args.content.now - c.loop.counter) c.loop.at c.loop.vectors.items c.loop.rest.now c.loop.placed.items (content_at One c.args.n c.args.content.now) (omega (arith, c.loop.invariant.fuel, c.loop-test.false)) c.loop.invariant.reads

@@ -1,0 +1,90 @@
+-- A content: records one after the other, each with its place.
+use Rattle.std.specs.Prelude.{◌≡◌, ℕ, zero, suc, ◌<◌, ◌+◌, ◌-◌, List, [], ◌∷◌, ◌++◌, length, take, drop, Result, Ok, Err, ◌==◌}
+use Rattle.std.specs.Global.{Vec}
+use Rattle.tau_record.specs.declared.entry.Entry.{Entry}
+use Rattle.tau_record.specs.declared.entry.Entry.TheVariants.{Written, Command, Anchor, Catalogue}
+use Rattle.tau_record.specs.declared.entry.Placed.{Placed}
+use Rattle.tau_record.specs.declared.fault.RecordCause.{RecordCause}
+use Rattle.tau_record.specs.declared.fault.FieldError.{FieldError}
+use Rattle.tau_record.specs.declared.fault.FieldError.TheVariants as errors
+use Rattle.tau_record.specs.declared.fault.RecordFault.{RecordFault}
+use Rattle.tau_record.specs.declared.fault.RecordRefusal.{RecordRefusal}
+use Rattle.tau_record.specs.declared.fault.RecordRefusal.TheVariants as refusals
+use Rattle.tau_record.specs.Format.{Format}
+use Rattle.tau_record.specs.Record.{named, spelling, Fits, record_at}
+
+-- the vectors that are named behind a record
+abbrev pub named_after : List (List ℕ) → Entry → List (List ℕ)
+named_after vectors (Written number anchor dep writes) = vectors
+named_after vectors (Command number anchor dep call) = vectors
+named_after vectors (Anchor lv) = vectors ++ lv ∷ []
+named_after vectors (Catalogue text) = vectors
+
+-- the vectors that are named behind these records
+abbrev pub named_behind : List (List ℕ) → List Placed → List (List ℕ)
+named_behind vectors [] = vectors
+named_behind vectors (p ∷ ps) = named_behind (named_after vectors p.entry) ps
+
+-- ---- the relation: this content from this place on is these records
+
+-- the content begins with the spelling of the record, and the rest follows it
+pub record Begins (f : Format) (n at : ℕ) (vectors : List (List ℕ)) (content rest : List ℕ) (p : Placed) : Type 0 where
+  pub parts : content ≡ spelling f vectors p.entry ++ rest
+  pub fits : Fits n vectors (at == 0) p.entry
+  pub starts : p.start ≡ at
+  pub ends : p.past ≡ at + length (spelling f vectors p.entry)
+
+abbrev pub Reads : Format → ℕ → ℕ → List (List ℕ) → List ℕ → List Placed → Type 0
+Reads f n at vectors content [] = content ≡ []
+Reads f n at vectors content (p ∷ ps) = (rest : List ℕ) × Begins f n at vectors content rest p × Reads f n p.past (named_after vectors p.entry) rest ps
+
+abbrev pub IsContent : Format → ℕ → List ℕ → List Placed → Type 0
+IsContent f n content ps = Reads f n 0 (named n []) content ps
+
+-- The first bad record: what stands before it is records, and it fails with the cause.
+pub record FirstBad (f : Format) (n : ℕ) (content : List ℕ) (fault : RecordFault) : Type 0 where
+  pub before : List Placed
+  pub there : fault.at < length content
+  pub good : IsContent f n (take fault.at content) before
+  pub bad : record_at f n (named_behind (named n []) before) (fault.at == 0) (drop fault.at content) ≡ Err fault.cause
+
+-- the answer is these records, unless memory ran out
+abbrev pub IsAnswer : List Placed → Result (Vec Placed) RecordRefusal → Type 0
+IsAnswer ps (Ok v) = v.items ≡ ps
+IsAnswer ps (Err refusals.NoMemory) = Unit {0}
+IsAnswer ps (Err (refusals.Bad fault)) = ⊥
+
+-- ---- the reading, record after record
+
+abbrev pub found_at : ℕ → Result (Entry × List ℕ) RecordCause → (Entry × List ℕ → Result (List Placed) RecordFault) → Result (List Placed) RecordFault
+found_at at (Ok x) f = f x
+found_at at (Err cause) f = Err (record { at = at; cause = cause })
+
+abbrev pub in_front : Placed → Result (List Placed) RecordFault → Result (List Placed) RecordFault
+in_front p (Ok ps) = Ok (p ∷ ps)
+in_front p (Err e) = Err e
+
+abbrev pub placed : Entry → ℕ → ℕ → Placed
+placed e start past = record { entry = e; start = start; past = past }
+
+-- with more fuel than there are records
+unfoldable pub records_at : Format → ℕ → ℕ → ℕ → List (List ℕ) → List ℕ → Result (List Placed) RecordFault
+records_at f n fuel at vectors [] = Ok []
+records_at f n zero at vectors (b ∷ bytes) = Ok []
+records_at f n (suc fuel) at vectors (b ∷ bytes) = found_at at (record_at f n vectors (at == 0) (b ∷ bytes)) (λ x.
+    let past = at + (length (b ∷ bytes) - length x.1) in
+    in_front (placed x.0 at past) (records_at f n fuel past (named_after vectors x.0) x.1))
+
+unfoldable pub content_at : Format → ℕ → List ℕ → Result (List Placed) RecordFault
+content_at f n content = records_at f n (length content) 0 (named n []) content
+
+-- the refusal of a record at a place
+abbrev pub refused : ℕ → FieldError → RecordRefusal
+refused at errors.Memory = refusals.NoMemory
+refused at (errors.Bad cause) = refusals.Bad (record { at = at; cause = cause })
+
+-- What a function returned is what reading gives, unless memory ran out.
+abbrev pub GivesAll : Result (Vec Placed) RecordRefusal → Result (List Placed) RecordFault → Type 0
+GivesAll (Ok v) read = read ≡ Ok v.items
+GivesAll (Err refusals.NoMemory) read = Unit {0}
+GivesAll (Err (refusals.Bad f)) read = read ≡ Err f

@@ -1,0 +1,6 @@
+pub mod Content
+pub mod Field
+pub mod Format
+pub mod Item
+pub mod Record
+pub mod Vector

@@ -1,0 +1,184 @@
+//! Writing records.
+ghost use Rattle.std.specs.Prelude.{◌≡◌, ◌<◌, ◌≤◌, ◌+◌, ◌^◌, ◌++◌, ◌∷◌, [], length, List, ℕ, IfOk, OnOk, IsTrue, true, false};
+ghost use Rattle.std.specs.FinMap.{is_sorted};
+ghost use Rattle.std.specs.Int.{w32, to_be_bytes};
+ghost use Rattle.tau_base.specs.Database.{key_cmp};
+ghost use Rattle.tau_base.specs.Vectors.{AtMost};
+ghost use Rattle.tau_record.specs.Format.{One, most_streams};
+ghost use Rattle.tau_record.specs.Record.{origin, base_of, Spells};
+ghost use Rattle.tau_record.specs.Vector.{ArePlaces};
+ghost use Rattle.tau_record.specs.declared.entry.Entry.TheVariants.{Written, Command, Anchor, Catalogue};
+
+use crate::item::{args_size, put_args, put_writes, writes_size};
+use crate::vector::{parts_size, put_lv, put_vector};
+use std::alloc::{AllocError, Global};
+use tau_base::{Call, Key, Lv, MAX_CATALOGUE, MAX_WRITES, NoMemory, Value};
+
+/// A kind and the length of the whole record, with room for its fields, which take `size` bytes.
+fn begin(alloc: Global, kind: u8, size: usize) -> Result<Vec<u8>, AllocError>
+    requires { size < 2 ^ 31 }
+    ensures { IfOk result (λ v. v.items ≡ kind ∷ to_be_bytes w32 (5 + size)) }
+{
+    let mut out = Vec::with_capacity(alloc, 5 + size)?;
+    out.push(kind)?;
+    out.extend_from_slice(&(5 + size as u32).to_be_bytes())?;
+    Ok(out)
+}
+
+fn put_origin(
+    out: &mut Vec<u8>,
+    number: u64,
+    anchor_number: u32,
+    dep: &Lv,
+    anchor: &Lv,
+) -> Result<(), AllocError>
+    requires width { length anchor.now ≡ length dep.now }
+    requires fits { length anchor.now ≤ most_streams One }
+    ensures bytes { OnOk result (out.new.items ≡ out.old.items ++ origin One anchor.now number anchor_number dep.now) }
+    ensures places { OnOk result (ArePlaces dep.now) }
+{
+    out.extend_from_slice(&number.to_be_bytes())?;
+    out.extend_from_slice(&anchor_number.to_be_bytes())?;
+    put_vector(out, anchor, dep)?;
+    Ok(())
+}
+
+fn written_bytes(
+    alloc: Global,
+    number: u64,
+    anchor_number: u32,
+    dep: &Lv,
+    anchor: &Lv,
+    writes: &[(Key, Value)],
+) -> Result<Vec<u8>, AllocError>
+    requires width { length dep.now ≡ length anchor.now }
+    requires covers { AtMost anchor.now dep.now }
+    requires streams { length dep.now ≤ most_streams One }
+    requires some { 1 ≤ length writes.now }
+    requires most { length writes.now ≤ MAX_WRITES }
+    requires ascending { IsTrue (is_sorted key_cmp writes.now) }
+    requires number { 1 ≤ number }
+    ensures { IfOk result (λ v. (vectors : List (List ℕ)) → base_of vectors anchor_number ≡ anchor.now →
+        Spells One (length dep.now) vectors false (Written number anchor_number dep.now writes.now) v.items) }
+{
+    let size = 16 + parts_size(anchor, dep) + writes_size(writes);
+    let mut out = begin(alloc, 1, size)?;
+    put_origin(&mut out, number, anchor_number, dep, anchor)?;
+    out.extend_from_slice(&(writes.len() as u16).to_be_bytes())?;
+    put_writes(&mut out, writes)?;
+    Ok(out)
+}
+
+/// A data record. `anchor` is the vector of the stream's anchor with the number given, or zero where that is 0.
+pub fn encode_written(
+    alloc: Global,
+    number: u64,
+    anchor_number: u32,
+    dep: &Lv,
+    anchor: &Lv,
+    writes: &[(Key, Value)],
+) -> Result<Vec<u8>, NoMemory>
+    requires width { length dep.now ≡ length anchor.now }
+    requires covers { AtMost anchor.now dep.now }
+    requires streams { length dep.now ≤ most_streams One }
+    requires some { 1 ≤ length writes.now }
+    requires most { length writes.now ≤ MAX_WRITES }
+    requires ascending { IsTrue (is_sorted key_cmp writes.now) }
+    requires number { 1 ≤ number }
+    // The one spelling, behind any anchors of which the number names this one.
+    ensures { IfOk result (λ v. (vectors : List (List ℕ)) → base_of vectors anchor_number ≡ anchor.now →
+        Spells One (length dep.now) vectors false (Written number anchor_number dep.now writes.now) v.items) }
+{
+    match written_bytes(alloc, number, anchor_number, dep, anchor, writes) {
+        Ok(bytes) => Ok(bytes),
+        Err(_) => Err(NoMemory),
+    }
+}
+
+fn command_bytes(
+    alloc: Global,
+    number: u64,
+    anchor_number: u32,
+    dep: &Lv,
+    anchor: &Lv,
+    call: &Call,
+) -> Result<Vec<u8>, AllocError>
+    requires width { length dep.now ≡ length anchor.now }
+    requires covers { AtMost anchor.now dep.now }
+    requires streams { length dep.now ≤ most_streams One }
+    requires number { 1 ≤ number }
+    ensures { IfOk result (λ v. (vectors : List (List ℕ)) → base_of vectors anchor_number ≡ anchor.now →
+        Spells One (length dep.now) vectors false (Command number anchor_number dep.now call.now) v.items) }
+{
+    let args = call.args.as_slice();
+    let size = 17 + parts_size(anchor, dep) + args_size(args);
+    let mut out = begin(alloc, 2, size)?;
+    put_origin(&mut out, number, anchor_number, dep, anchor)?;
+    out.extend_from_slice(&call.proc.to_be_bytes())?;
+    out.push(args.len() as u8)?;
+    put_args(&mut out, args)?;
+    Ok(out)
+}
+
+/// A command record. `anchor` is the vector of the stream's anchor with the number given, or zero where that is 0.
+pub fn encode_command(
+    alloc: Global,
+    number: u64,
+    anchor_number: u32,
+    dep: &Lv,
+    anchor: &Lv,
+    call: &Call,
+) -> Result<Vec<u8>, NoMemory>
+    requires width { length dep.now ≡ length anchor.now }
+    requires covers { AtMost anchor.now dep.now }
+    requires streams { length dep.now ≤ most_streams One }
+    requires number { 1 ≤ number }
+    // The one spelling, behind any anchors of which the number names this one.
+    ensures { IfOk result (λ v. (vectors : List (List ℕ)) → base_of vectors anchor_number ≡ anchor.now →
+        Spells One (length dep.now) vectors false (Command number anchor_number dep.now call.now) v.items) }
+{
+    match command_bytes(alloc, number, anchor_number, dep, anchor, call) {
+        Ok(bytes) => Ok(bytes),
+        Err(_) => Err(NoMemory),
+    }
+}
+
+fn anchor_bytes(alloc: Global, lv: &Lv) -> Result<Vec<u8>, AllocError>
+    ensures { IfOk result (λ v. (vectors : List (List ℕ)) → Spells One (length lv.now) vectors false (Anchor lv.now) v.items) }
+{
+    let mut out = begin(alloc, 3, 8 * lv.width())?;
+    put_lv(&mut out, lv)?;
+    Ok(out)
+}
+
+/// An anchor that holds the vector.
+pub fn encode_anchor(alloc: Global, lv: &Lv) -> Result<Vec<u8>, NoMemory>
+    // The one spelling, behind any anchors.
+    ensures { IfOk result (λ v. (vectors : List (List ℕ)) → Spells One (length lv.now) vectors false (Anchor lv.now) v.items) }
+{
+    match anchor_bytes(alloc, lv) {
+        Ok(bytes) => Ok(bytes),
+        Err(_) => Err(NoMemory),
+    }
+}
+
+fn catalogue_bytes(alloc: Global, text: &[u8]) -> Result<Vec<u8>, AllocError>
+    requires { length text.now ≤ MAX_CATALOGUE }
+    ensures { IfOk result (λ v. (n : ℕ) (vectors : List (List ℕ)) → Spells One n vectors true (Catalogue text.now) v.items) }
+{
+    let mut out = begin(alloc, 4, text.len())?;
+    out.extend_from_slice(text)?;
+    Ok(out)
+}
+
+/// The catalogue record of a text.
+pub fn encode_catalogue(alloc: Global, text: &[u8]) -> Result<Vec<u8>, NoMemory>
+    requires { length text.now ≤ MAX_CATALOGUE }
+    // The one spelling, of the first record.
+    ensures { IfOk result (λ v. (n : ℕ) (vectors : List (List ℕ)) → Spells One n vectors true (Catalogue text.now) v.items) }
+{
+    match catalogue_bytes(alloc, text) {
+        Ok(bytes) => Ok(bytes),
+        Err(_) => Err(NoMemory),
+    }
+}

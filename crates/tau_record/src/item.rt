@@ -1,0 +1,239 @@
+//! Values, keys and writes.
+ghost use Rattle.std.specs.Prelude.{◌≡◌, ◌<◌, ◌≤◌, ◌+◌, ◌*◌, ◌++◌, length, OnOk, Some, None, if◌then◌else◌};
+ghost use Rattle.std.specs.Str.{is_utf8};
+ghost use Rattle.std.specs.List.{flat_map, AllByRecursion};
+ghost use Rattle.tau_record.specs.Field.{Gives};
+ghost use Rattle.tau_record.specs.Item.{value, FitsValue, key, FitsKey, write, FitsWrite, follows, text_at, value_at, key_at, write_at, writes_at, args_at};
+
+use crate::fault::{FieldError, RecordCause};
+use crate::field::{u16_of, u64_of};
+use arrayvec::ArrayVec;
+use std::alloc::{AllocError, Global};
+use std::str;
+use tau_base::{Key, MAX_ARGS, MAX_TEXT, Text64, Value};
+
+// ---- reading
+
+fn short_of(bytes: &[u8]) -> Option<Text64>
+    requires { length bytes.now ≤ MAX_TEXT }
+    ensures { result ≡ (if is_utf8 bytes.now then Some bytes.now else None) }
+{
+    match str::from_utf8(bytes) {
+        Err(_) => None,
+        Ok(text) => Text64::of(text),
+    }
+}
+
+#[tactic(auto, unfolding(crate::specs::Item::text_at))]
+fn text_of(bytes: &[u8]) -> Result<(Value, &[u8]), FieldError>
+    ensures { Gives (λ x. (x.0, x.1.now)) result (text_at bytes.now) }
+{
+    let (len, rest) = u16_of(bytes)?;
+    let len = len as usize;
+    if len > MAX_TEXT {
+        return Err(FieldError::Bad(RecordCause::BadBody));
+    }
+    if rest.len() < len {
+        return Err(FieldError::Bad(RecordCause::BadLength));
+    }
+    let (front, rest) = rest.split_at(len);
+    match short_of(front) {
+        None => Err(FieldError::Bad(RecordCause::BadBody)),
+        Some(text) => Ok((Value::Text(text), rest)),
+    }
+}
+
+#[tactic(auto, unfolding(crate::specs::Item::value_at))]
+pub(crate) fn value_of(bytes: &[u8]) -> Result<(Value, &[u8]), FieldError>
+    ensures { Gives (λ x. (x.0, x.1.now)) result (value_at bytes.now) }
+{
+    match bytes {
+        [] => Err(FieldError::Bad(RecordCause::BadLength)),
+        [0, rest @ ..] => Ok((Value::Absent, rest)),
+        [1, rest @ ..] => {
+            let (number, rest) = u64_of(rest)?;
+            Ok((Value::Int(number.cast_signed()), rest))
+        }
+        [2, rest @ ..] => text_of(rest),
+        [_, ..] => Err(FieldError::Bad(RecordCause::BadBody)),
+    }
+}
+
+#[tactic(auto, unfolding(crate::specs::Item::key_at))]
+fn key_of(bytes: &[u8]) -> Result<(Key, &[u8]), FieldError>
+    ensures { Gives (λ x. (x.0, x.1.now)) result (key_at bytes.now) }
+{
+    let (table, rest) = u16_of(bytes)?;
+    let (row, rest) = u64_of(rest)?;
+    Ok((
+        Key {
+            table,
+            row: row.cast_signed(),
+        },
+        rest,
+    ))
+}
+
+fn is_behind(last: Option<Key>, key: Key) -> bool
+    ensures { result ≡ follows last key }
+{
+    match last {
+        None => true,
+        Some(last) => last < key,
+    }
+}
+
+#[tactic(auto, unfolding(crate::specs::Item::write_at))]
+fn write_of(last: Option<Key>, bytes: &[u8]) -> Result<((Key, Value), &[u8]), FieldError>
+    ensures { Gives (λ x. (x.0, x.1.now)) result (write_at last bytes.now) }
+{
+    let (key, rest) = key_of(bytes)?;
+    if !is_behind(last, key) {
+        return Err(FieldError::Bad(RecordCause::BadBody));
+    }
+    match value_of(rest) {
+        Ok((value, rest)) => Ok(((key, value), rest)),
+        Err(e) => Err(e),
+    }
+}
+
+pub(crate) fn writes_of(
+    alloc: Global,
+    count: u16,
+    bytes: &[u8],
+) -> Result<(Vec<(Key, Value)>, &[u8]), FieldError>
+    ensures { Gives (λ x. (x.0.items, x.1.now)) result (writes_at count None bytes.now) }
+{
+    let mut writes = Vec::with_capacity(alloc, count as usize)?;
+    let mut rest = bytes;
+    let mut last = None;
+    for _ in 0..count {
+        match write_of(last, rest) {
+            Err(e) => return Err(e),
+            Ok((write, after)) => {
+                let key = write.0;
+                writes.push(write)?;
+                last = Some(key);
+                rest = after;
+            }
+        }
+    }
+    Ok((writes, rest))
+}
+
+pub(crate) fn args_of(
+    count: u8,
+    bytes: &[u8],
+) -> Result<(ArrayVec<Value, MAX_ARGS>, &[u8]), FieldError>
+    requires { count ≤ MAX_ARGS }
+    ensures { Gives (λ x. (x.0.items, x.1.now)) result (args_at count bytes.now) }
+{
+    let mut args = ArrayVec::new();
+    let mut rest = bytes;
+    for _ in 0..count {
+        match value_of(rest) {
+            Err(e) => return Err(e),
+            Ok((value, after)) => {
+                args.push(value);
+                rest = after;
+            }
+        }
+    }
+    Ok((args, rest))
+}
+
+// ---- writing
+
+fn value_size(v: &Value) -> usize
+    ensures exact { result ≡ length (value v.now) }
+    ensures small { result ≤ 67 }
+{
+    match v {
+        Value::Absent => 1,
+        Value::Int(_) => 9,
+        Value::Text(text) => 3 + text.as_str().len(),
+    }
+}
+
+/// How many bytes the writes take.
+pub(crate) fn writes_size(writes: &[(Key, Value)]) -> usize
+    requires { length writes.now ≤ 64 }
+    ensures exact { result ≡ length (flat_map write writes.now) }
+    ensures small { result ≤ 77 * length writes.now }
+{
+    let mut size = 0;
+    for w in writes {
+        size += 10 + value_size(&w.1);
+    }
+    size
+}
+
+/// How many bytes the arguments take.
+pub(crate) fn args_size(args: &[Value]) -> usize
+    requires { length args.now ≤ 8 }
+    ensures exact { result ≡ length (flat_map value args.now) }
+    ensures small { result ≤ 67 * length args.now }
+{
+    let mut size = 0;
+    for v in args {
+        size += value_size(v);
+    }
+    size
+}
+
+fn put_value(out: &mut Vec<u8>, v: &Value) -> Result<(), AllocError>
+    ensures bytes { OnOk result (out.new.items ≡ out.old.items ++ value v.now) }
+    ensures fits { OnOk result (FitsValue v.now) }
+{
+    match v {
+        Value::Absent => out.push(0)?,
+        Value::Int(number) => {
+            out.push(1)?;
+            out.extend_from_slice(&number.to_be_bytes())?;
+        }
+        Value::Text(text) => {
+            let text = text.as_str();
+            out.push(2)?;
+            out.extend_from_slice(&(text.len() as u16).to_be_bytes())?;
+            out.extend_from_slice(text.as_bytes())?;
+        }
+    }
+    Ok(())
+}
+
+fn put_key(out: &mut Vec<u8>, k: Key) -> Result<(), AllocError>
+    ensures bytes { OnOk result (out.new.items ≡ out.old.items ++ key k) }
+    ensures fits { OnOk result (FitsKey k) }
+{
+    out.extend_from_slice(&k.table.to_be_bytes())?;
+    out.extend_from_slice(&k.row.to_be_bytes())?;
+    Ok(())
+}
+
+fn put_write(out: &mut Vec<u8>, w: &(Key, Value)) -> Result<(), AllocError>
+    ensures bytes { OnOk result (out.new.items ≡ out.old.items ++ write w.now) }
+    ensures fits { OnOk result (FitsWrite w.now) }
+{
+    put_key(out, w.0)?;
+    put_value(out, &w.1)
+}
+
+pub(crate) fn put_writes(out: &mut Vec<u8>, writes: &[(Key, Value)]) -> Result<(), AllocError>
+    ensures bytes { OnOk result (out.new.items ≡ out.old.items ++ flat_map write writes.now) }
+    ensures fit { OnOk result (AllByRecursion FitsWrite writes.now) }
+{
+    for w in writes {
+        put_write(out, w)?;
+    }
+    Ok(())
+}
+
+pub(crate) fn put_args(out: &mut Vec<u8>, args: &[Value]) -> Result<(), AllocError>
+    ensures bytes { OnOk result (out.new.items ≡ out.old.items ++ flat_map value args.now) }
+    ensures fit { OnOk result (AllByRecursion FitsValue args.now) }
+{
+    for v in args {
+        put_value(out, v)?;
+    }
+    Ok(())
+}
