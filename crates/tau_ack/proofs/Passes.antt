@@ -1,0 +1,24 @@
+-- Passes over the calls.
+use Rattle.std.proofs.Common.{ℕ, ◌+◌, ◌≤◌, ◌<◌, Bool, true, false, ◌≡◌, List, [], ◌∷◌, ◌++◌, length, take, set, refl, arith}
+use Rattle.std.proofs.lemmas.List.{take_more_set}
+use Rattle.tau_base.specs.Vectors.{AtMost, covers}
+use Rattle.tau_base.proofs.Vectors.{covers-at_most, at_most-covers, at_most-trans}
+use Rattle.tau_ack.specs.declared.Waiting.{Waiting}
+use Rattle.tau_ack.specs.Pending.{NoneCovered}
+
+pub none_more : (plv : List ℕ) (xs : List Waiting) (w : Waiting) → NoneCovered plv xs → covers plv w.lv ≡ false → NoneCovered plv (xs ++ w ∷ [])
+none_more plv [] w h no' = (no', tt)
+none_more plv (x ∷ xs) w h no' = (h.0, none_more plv xs w h.1 no')
+
+-- a smaller vector covers none of them either
+pub none_below : (v w : List ℕ) (xs : List Waiting) → AtMost v w → NoneCovered w xs → NoneCovered v xs
+none_below v w [] low h = tt
+none_below v w (x ∷ xs) low h = (below (covers v x.lv) refl, none_below v w xs low h.1)
+  where
+    below : (b : Bool) → covers v x.lv ≡ b → covers v x.lv ≡ false
+    below true e = let up = at_most-covers w x.lv (at_most-trans x.lv v w (covers-at_most v x.lv e) low) in let bad = h.0 in (cc)
+    below false e = e
+
+pub moved_down : (plv : List ℕ) (xs : List Waiting) (p n : ℕ) (w : Waiting) → p ≤ n → n < length xs → NoneCovered plv (take p xs) → covers plv w.lv ≡ false →
+    NoneCovered plv (take (p + 1) (set xs p w))
+moved_down plv xs p n w order inside h no' = rw (take_more_set xs p w (omega arith)) (none_more plv (take p xs) w h no')

@@ -1,0 +1,17 @@
+use Rattle.std.proofs.Common.{arith, ◌≡◌, ◌<◌, false, length, ◌∙◌, sym}
+use Rattle.std.proofs.lemmas.Grind.{common_steps}
+use Rattle.tau_base.specs.Vectors.{covers}
+use Rattle.tau_ack.proofs.Passes.{moved_down}
+use Rattle.tau_ack.proofs.scan.Goals as goal
+
+pub loop-next-preserved : goal.loop-next-preserved
+loop-next-preserved c = record {
+  same = grind (arith, common_steps);
+  order = omega arith;
+  left =
+      let inside : c.loop-next.next < length c.loop-next.calls.items = omega arith in
+      let no' : covers c.args.pass.plv c.index.result.now.lv ≡ false = sym c.covers.ensures.same ∙ c.if-covers.false in
+      moved_down c.args.pass.plv c.loop-next.calls.items c.loop-next.passed c.loop-next.next c.index.result.now c.loop-next.invariant.order inside c.loop-next.invariant.left no';
+  len = grind (arith, common_steps);
+  capacity = grind (arith, common_steps);
+}

@@ -1,0 +1,41 @@
+use super::*;
+
+// Calls with the vectors (53,0), (53,61) and (0,40): what is persisted decides, and not the order of the calls.
+#[test]
+fn takes_covered_calls_in_order(rt: HostRuntime) {
+    let first = Lv::zero(2).with(0, 53);
+    let second = first.with(1, 61);
+    let third = Lv::zero(2).with(1, 40);
+    let mut pending = Pending::new(rt.alloc());
+    assert_eq!(rt; pending.reserve(), Ok(()));
+    pending.put(1, first);
+    assert_eq!(rt; pending.reserve(), Ok(()));
+    pending.put(2, second);
+    assert_eq!(rt; pending.reserve(), Ok(()));
+    pending.put(3, third);
+    let plv = first.with(1, 60);
+    assert_eq!(rt; pending.take_covered(&Lv::zero(2)), None);
+    assert_eq!(rt;
+        pending.take_covered(&plv),
+        Some(Waiting {
+            number: 1,
+            lv: first
+        })
+    );
+    assert_eq!(rt;
+        pending.take_covered(&plv),
+        Some(Waiting {
+            number: 3,
+            lv: third
+        })
+    );
+    assert_eq!(rt; pending.take_covered(&plv), None);
+    assert_eq!(rt;
+        pending.take_covered(&second),
+        Some(Waiting {
+            number: 2,
+            lv: second
+        })
+    );
+    assert_eq!(rt; pending.take_covered(&second), None);
+}
