@@ -1,0 +1,96 @@
+-- What a command line means.
+use Rattle.std.specs.Prelude.{ℕ, ◌-◌, ◌==◌, ◌&&◌, Bool, false, not, nat_le, nat_eq, if◌then◌else◌, List, [], ◌∷◌, codes, Option, Some, None, option_map, option_and_then}
+use Rattle.std.specs.Cmp.Lexicographic.{pointwise}
+use Rattle.std.specs.List.{list_all}
+use Rattle.std.specs.Str.Parse.{digits_value}
+use Rattle.tau_base.specs.declared.value.LogMode.{LogMode}
+use Rattle.tau_base.specs.declared.value.LogMode.TheVariants.{Values, Commands}
+use Rattle.tau_disk.specs.declared.call.Tear.{Tear}
+use Rattle.tau_disk.specs.declared.call.Tear.TheVariants.{Old, New, Torn}
+use Rattle.tau_words.specs.declared.command.Command.{Command}
+use Rattle.tau_words.specs.declared.command.Command.TheVariants.{Run, Recover, Drill, Bench}
+use Rattle.tau_words.specs.declared.command.Ending.{Ending}
+use Rattle.tau_words.specs.declared.command.Ending.TheVariants.{Stop, Fail}
+
+abbrev pub Word : Type 0
+Word = List ℕ
+
+abbrev pub same_word : Word → Word → Bool
+same_word a b = pointwise nat_eq a b
+
+-- ---- numbers
+
+abbrev pub is_digit : ℕ → Bool
+is_digit c = nat_le 48 c && nat_le c 57
+
+-- digits without a leading zero, or 0
+abbrev pub is_number : Word → Bool
+is_number [] = false
+is_number (c ∷ []) = is_digit c
+is_number (c ∷ d ∷ cs) = not (c == 48) && list_all is_digit (c ∷ d ∷ cs)
+
+abbrev pub bounded : ℕ → ℕ → ℕ → Option ℕ
+bounded low high n = if nat_le low n && nat_le n high then Some n else None
+
+-- a number from low to high
+abbrev pub number_in : ℕ → ℕ → Word → Option ℕ
+number_in low high word = if is_number word then bounded low high (digits_value 10 word) else None
+
+-- how many streams, workers or recovery workers
+abbrev pub count_of : Word → Option ℕ
+count_of word = number_in 1 16 word
+
+-- which call of a disk
+abbrev pub call_of : Word → Option ℕ
+call_of word = number_in 1 1000000 word
+
+-- ---- the commands
+
+abbrev pub run_with : LogMode → Word → Word → Option Command
+run_with mode n m = option_and_then (λ streams. option_map (λ workers. Run streams workers mode) (count_of m)) (count_of n)
+
+abbrev pub mode_of : Word → Option LogMode
+mode_of word = if same_word word (codes "data") then Some Values else (if same_word word (codes "command") then Some Commands else None)
+
+-- N M, then `data` or `command` or neither
+abbrev pub run_of : List Word → Option Command
+run_of (n ∷ m ∷ []) = run_with Values n m
+run_of (n ∷ m ∷ mode ∷ []) = option_and_then (λ kind. run_with kind n m) (mode_of mode)
+run_of _ = None
+
+-- N P
+abbrev pub recover_of : List Word → Option Command
+recover_of (n ∷ p ∷ []) = option_and_then (λ streams. option_map (λ workers. Recover streams workers) (count_of p)) (count_of n)
+recover_of _ = None
+
+abbrev pub tear_of : Word → Option Tear
+tear_of word = if same_word word (codes "old") then Some Old else (if same_word word (codes "new") then Some New else (if same_word word (codes "torn") then Some Torn else None))
+
+-- `stop` K T, or `fail` J K with J below the number of streams
+abbrev pub ending_of : ℕ → Word → Word → Word → Option Ending
+ending_of streams how first second =
+    if same_word how (codes "stop") then option_and_then (λ after. option_map (λ tear. Stop after tear) (tear_of second)) (call_of first)
+    else (if same_word how (codes "fail") then option_and_then (λ stream. option_map (λ call. Fail stream call) (call_of second)) (number_in 0 (streams - 1) first) else None)
+
+-- N M P, then an ending
+abbrev pub drill_of : List Word → Option Command
+drill_of (n ∷ m ∷ p ∷ how ∷ first ∷ second ∷ []) =
+    option_and_then (λ streams. option_and_then (λ workers. option_and_then (λ recovery. option_map (λ ending. Drill streams workers recovery ending)
+    (ending_of streams how first second)) (count_of p)) (count_of m)) (count_of n)
+drill_of _ = None
+
+-- A C N M
+abbrev pub bench_of : List Word → Option Command
+bench_of (a ∷ c ∷ n ∷ m ∷ []) =
+    option_and_then (λ start. option_and_then (λ calls. option_and_then (λ streams. option_map (λ workers. Bench start calls streams workers)
+    (count_of m)) (count_of n)) (number_in 0 200000 c)) (number_in 0 999 a)
+bench_of _ = None
+
+-- the command of the words behind the program's name; none where they are none
+abbrev pub command_of : List Word → Option Command
+command_of [] = None
+command_of (name ∷ rest) =
+    if same_word name (codes "run") then run_of rest
+    else (if same_word name (codes "recover") then recover_of rest
+    else (if same_word name (codes "drill") then drill_of rest
+    else (if same_word name (codes "bench") then bench_of rest else None)))

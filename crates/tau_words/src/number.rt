@@ -1,0 +1,57 @@
+//! Numbers in words.
+ghost use Rattle.std.specs.Prelude.{◌≡◌, ◌≤◌, IfSome};
+ghost use Rattle.std.specs.List.{list_all};
+ghost use Rattle.tau_words.specs.Words.{is_digit, is_number, number_in, count_of};
+
+fn is_digit(c: u8) -> bool
+    ensures { result ≡ is_digit c }
+{
+    b'0' <= c && c <= b'9'
+}
+
+fn all_digits(word: &[u8]) -> bool
+    ensures { result ≡ list_all is_digit word.now }
+{
+    for c in word {
+        if !is_digit(*c) {
+            return false;
+        }
+    }
+    true
+}
+
+fn is_number(word: &[u8]) -> bool
+    ensures { result ≡ is_number word.now }
+{
+    match word {
+        [] => false,
+        [c] => is_digit(*c),
+        [b'0', ..] => false,
+        _ => all_digits(word),
+    }
+}
+
+/// The number that the word spells, from `low` to `high`: digits without a leading zero, or 0.
+pub(crate) fn number_in(low: u32, high: u32, word: &str) -> Option<u32>
+    ensures exact { result ≡ number_in low high word.now }
+    ensures within { IfSome result (λ n. (low ≤ n) × (n ≤ high)) }
+{
+    if !is_number(word.as_bytes()) {
+        return None;
+    }
+    match word.parse::<u32>() {
+        Err(_) => None,
+        Ok(n) => { if low <= n && n <= high { Some(n) } else { None } }
+    }
+}
+
+/// A number of streams or workers.
+pub(crate) fn count_of(word: &str) -> Option<u8>
+    ensures exact { result ≡ count_of word.now }
+    ensures within { IfSome result (λ n. (1 ≤ n) × (n ≤ 16)) }
+{
+    match number_in(1, 16, word) {
+        None => None,
+        Some(n) => Some(n as u8),
+    }
+}

@@ -1,0 +1,182 @@
+//! Reading a command line.
+ghost use Rattle.std.specs.Prelude.{◌≡◌, ◌≤◌, Err, IfOk, Some, None, map, option_map, string_bytes};
+ghost use Rattle.tau_words.specs.Words.{same_word, run_with, mode_of, run_of, recover_of, tear_of, ending_of, drill_of, bench_of, command_of};
+ghost use Rattle.tau_words.specs.declared.command.WordsRefusal.TheVariants.{Usage};
+ghost use Rattle.tau_words.specs.declared.command.Command.TheVariants.{Drill};
+
+use crate::command::{Command, Ending, WordsRefusal};
+use crate::number::{count_of, number_in};
+use crate::split::{MAX_WORDS, has_flag, split};
+use std::alloc::Global;
+use tau_base::LogMode;
+use tau_disk::Tear;
+
+fn is_word(word: &str, name: &str) -> bool
+    ensures { result ≡ same_word word.now name.now }
+{
+    word == name
+}
+
+fn run_with(mode: LogMode, n: &str, m: &str) -> Option<Command>
+    ensures { result ≡ run_with mode n.now m.now }
+{
+    match (count_of(n), count_of(m)) {
+        (Some(n), Some(m)) => Some(Command::Run { n, m, mode }),
+        _ => None,
+    }
+}
+
+fn mode_of(word: &str) -> Option<LogMode>
+    ensures { result ≡ mode_of word.now }
+{
+    if is_word(word, "data") {
+        Some(LogMode::Values)
+    } else if is_word(word, "command") {
+        Some(LogMode::Commands)
+    } else {
+        None
+    }
+}
+
+fn run_of(words: &[&str]) -> Option<Command>
+    ensures { result ≡ run_of (map (λ s. s.now) words.now) }
+{
+    match words {
+        [n, m] => run_with(LogMode::Values, n, m),
+        [n, m, mode] => match mode_of(mode) {
+            None => None,
+            Some(mode) => run_with(mode, n, m),
+        },
+        _ => None,
+    }
+}
+
+fn recover_of(words: &[&str]) -> Option<Command>
+    ensures { result ≡ recover_of (map (λ s. s.now) words.now) }
+{
+    match words {
+        [n, p] => match (count_of(n), count_of(p)) {
+            (Some(n), Some(p)) => Some(Command::Recover { n, p }),
+            _ => None,
+        },
+        _ => None,
+    }
+}
+
+fn tear_of(word: &str) -> Option<Tear>
+    ensures { result ≡ tear_of word.now }
+{
+    if is_word(word, "old") {
+        Some(Tear::Old)
+    } else if is_word(word, "new") {
+        Some(Tear::New)
+    } else if is_word(word, "torn") {
+        Some(Tear::Torn)
+    } else {
+        None
+    }
+}
+
+fn ending_of(streams: u8, how: &str, first: &str, second: &str) -> Option<Ending>
+    requires low { 1 ≤ streams }
+    requires high { streams ≤ 16 }
+    ensures { result ≡ ending_of streams how.now first.now second.now }
+{
+    if is_word(how, "stop") {
+        match (number_in(1, 1_000_000, first), tear_of(second)) {
+            (Some(after), Some(tear)) => Some(Ending::Stop { after, tear }),
+            _ => None,
+        }
+    } else if is_word(how, "fail") {
+        let last = u32::from(streams) - 1;
+        match (number_in(0, last, first), number_in(1, 1_000_000, second)) {
+            (Some(stream), Some(call)) => Some(Ending::Fail {
+                stream: stream as u8,
+                call,
+            }),
+            _ => None,
+        }
+    } else {
+        None
+    }
+}
+
+fn drill_with(n: u8, m: u8, p: u8, ending: Option<Ending>) -> Option<Command>
+    ensures { result ≡ option_map (λ e. Drill n m p e) ending }
+{
+    match ending {
+        None => None,
+        Some(ending) => Some(Command::Drill { n, m, p, ending }),
+    }
+}
+
+fn drill_of(words: &[&str]) -> Option<Command>
+    ensures { result ≡ drill_of (map (λ s. s.now) words.now) }
+{
+    match words {
+        [n, m, p, how, first, second] => match (count_of(n), count_of(m), count_of(p)) {
+            (Some(n), Some(m), Some(p)) => drill_with(n, m, p, ending_of(n, how, first, second)),
+            _ => None,
+        },
+        _ => None,
+    }
+}
+
+fn bench_of(words: &[&str]) -> Option<Command>
+    ensures { result ≡ bench_of (map (λ s. s.now) words.now) }
+{
+    match words {
+        [a, c, n, m] => {
+            let start = number_in(0, 999, a);
+            let calls = number_in(0, 200_000, c);
+            match (start, calls, count_of(n), count_of(m)) {
+                (Some(start), Some(calls), Some(n), Some(m)) => Some(Command::Bench {
+                    start: start as u16,
+                    calls,
+                    n,
+                    m,
+                }),
+                _ => None,
+            }
+        }
+        _ => None,
+    }
+}
+
+fn command_of(words: &[&str]) -> Option<Command>
+    ensures { result ≡ command_of (map (λ s. s.now) words.now) }
+{
+    match words {
+        [] => None,
+        [name, rest @ ..] => {
+            if is_word(name, "run") {
+                run_of(rest)
+            } else if is_word(name, "recover") {
+                recover_of(rest)
+            } else if is_word(name, "drill") {
+                drill_of(rest)
+            } else if is_word(name, "bench") {
+                bench_of(rest)
+            } else {
+                None
+            }
+        }
+    }
+}
+
+/// The command of the words behind the program's name.
+pub fn read_words(alloc: Global, words: &[String]) -> Result<Command, WordsRefusal>
+    ensures ok { IfOk result (λ c. command_of (map string_bytes words.now) ≡ Some c) }
+    // Only words that are no command are refused so.
+    ensures usage { result ≡ Err Usage → command_of (map string_bytes words.now) ≡ None }
+{
+    if words.len() > MAX_WORDS || has_flag(words) {
+        return Err(WordsRefusal::Usage);
+    }
+    let matches = split(alloc, words)?;
+    let found = matches.get_strs("word").unwrap_or(&[]);
+    match command_of(found) {
+        Some(command) => Ok(command),
+        None => Err(WordsRefusal::Usage),
+    }
+}
