@@ -1,0 +1,10 @@
+pub mod Cuts
+pub mod Numbers
+pub mod Names
+pub mod Literals
+pub mod Taken
+pub mod Texts
+pub mod Binds
+pub mod Begins
+pub mod Chains
+pub mod Differences

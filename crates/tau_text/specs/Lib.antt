@@ -1,0 +1,10 @@
+pub mod Lines
+pub mod Given
+pub mod Spelled
+pub mod Forms
+pub mod Canonical
+pub mod Text
+pub mod Alone
+pub mod Kept
+pub mod Shapes
+pub mod Causes

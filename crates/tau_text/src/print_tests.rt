@@ -1,0 +1,90 @@
+use super::*;
+use std::alloc::Global;
+use std::test::Fail;
+
+static TRANSFERS: &str =
+    "table acct\nproc move 3\nget r0 acct $1\nneed r0 >= $3\nsub r0 r0 $3\nget r1 acct $2\nadd r1 r1 $3\nput acct $1 r0\nput acct $2 r1\nreply r0\nend\nput acct 1 100\nput acct 2 50\ncall move 1 2 30\ncall move 1 2 80\nget acct 2\nturns\n";
+
+// what the text means, printed
+fn printed(alloc: Global, text: &str) -> Result<Vec<u8>, Fail> {
+    let load = parse_workload(alloc, text.as_bytes())?;
+    Ok(print_workload(alloc, &load)?)
+}
+
+#[test]
+fn transfers_are_read_and_printed(rt: HostRuntime) -> Result<(), Fail> {
+    let load = parse_workload(rt.alloc(), TRANSFERS.as_bytes())?;
+    assert_eq!(rt; load.declarations.tables.len(), 1);
+    assert_eq!(rt; load.declarations.procs.list().len(), 1);
+    assert_eq!(rt; load.declarations.procs.list()[0].name.as_str(), "move");
+    assert_eq!(rt; load.declarations.procs.list()[0].args, 3);
+    assert_eq!(rt; load.declarations.procs.list()[0].steps.len(), 8);
+    assert_eq!(rt; load.calls.len(), 5);
+    assert_eq!(rt; load.calls.as_slice()[2].proc, 4);
+    assert_eq!(rt; load.calls.as_slice()[2].args.len(), 3);
+    assert!(rt; load.turns.is_some());
+    let text = print_workload(rt.alloc(), &load)?;
+    assert_eq!(rt; text.as_slice(), TRANSFERS.as_bytes());
+    let declarations = print_declarations(rt.alloc(), &load.declarations)?;
+    assert_eq!(rt; declarations.len(), 136);
+    assert_eq!(rt;
+        declarations.as_slice(),
+        TRANSFERS.as_bytes().split_at(136).0
+    );
+    Ok(())
+}
+
+#[test]
+fn canonical_text_of_each_form(rt: HostRuntime) -> Result<(), Fail> {
+    let text =
+        "# a workload\nproc p 2\n  get r15  b $2\ndel a none\nmul r0 -1 \"x  y\"\nmin r1 r2 r3\nmax r1 0 $1\ncat r2 \"\" \"é\"\nwhen 1 < 2\nwhen 1 <= 2\nneed r0 = r1\nneed r0 != r1\ndone\nneed 1 > 2\ndone\nreply \"a\"\nend\n";
+    let rest =
+        "put a 1 \"x  y\"\nadd b -9223372036854775808 9223372036854775807\nget a 0\ndel b 7\ncall p none 5\n";
+    let canonical =
+        "proc p 2\nget r15 b $2\ndel a none\nmul r0 -1 \"x  y\"\nmin r1 r2 r3\nmax r1 0 $1\ncat r2 \"\" \"é\"\nwhen 1 < 2\nwhen 1 <= 2\nneed r0 = r1\nneed r0 != r1\ndone\nneed 1 > 2\ndone\nreply \"a\"\nend\n";
+    let source = format!(in rt.alloc();
+        "table  b\n\n table a\n{text}table c\n{rest}turns w0\nturns\nturns m15 a3 c d"
+    )?;
+    let wanted = format!(in rt.alloc();
+        "table b\ntable a\ntable c\n{canonical}{rest}turns w0 m15 a3 c d\n"
+    )?;
+    let found = printed(rt.alloc(), source.as_str())?;
+    assert_eq!(rt; found.as_slice(), wanted.as_str().as_bytes());
+    let again = printed(rt.alloc(), wanted.as_str())?;
+    assert_eq!(rt; again.as_slice(), wanted.as_str().as_bytes());
+    assert_eq!(rt; printed(rt.alloc(), "")?.len(), 0);
+    Ok(())
+}
+
+#[test]
+fn declarations_in_their_canonical_text_alone(rt: HostRuntime) {
+    let rows = [
+        (0, 0, ""),
+        (0, 0, "table a\n"),
+        (0, 0, "table b\ntable a\nproc p 1\nget r0 a $1\nend\n"),
+        (0, 0, "proc p 0\nend\n"),
+        (1, 2, "table a"),
+        (1, 2, " table a\n"),
+        (1, 2, "table  a\n"),
+        (2, 2, "table a\n\n"),
+        (1, 2, "# c\ntable a\n"),
+        (2, 2, "table a\n# c\n"),
+        (2, 2, "table a\nput a 1 1\n"),
+        (2, 2, "table a\nturns\n"),
+        (1, 2, "proc p 0\nend\ntable a\n"),
+        (3, 2, "table a\nproc p 1\nget r0 a  $1\nend\n"),
+        (4, 2, "table a\nproc p 1\nget r0 a $1\nend"),
+        (2, 4, "table a\ntable a\n"),
+        (1, 9, "proc p 0\n"),
+        (2, 3, "table a\nput b 1 1\n"),
+        (1, 8, "table\n"),
+    ];
+    for (line, cause, text) in rows.iter() {
+        let outcome = match parse_declarations(rt.alloc(), text.as_bytes()) {
+            Ok(_) => (0, 0),
+            Err(TextRefusal::NoMemory) => (0, 10),
+            Err(TextRefusal::Bad(fault)) => (fault.line, fault.cause.number()),
+        };
+        assert_eq!(rt; outcome, (*line, *cause), "{text}");
+    }
+}
