@@ -1,0 +1,10 @@
+-- The read-only calls so far.
+use Rattle.std.proofs.Common.{◌≡◌, map, take}
+use Rattle.std.specs.Prelude.{not}
+use Rattle.std.specs.List.{filter}
+use Rattle.tau_model.specs.Committed.{has_record}
+use Rattle.tau_model.specs.Listing.{entry_of}
+use Rattle.tau_model.proofs.report.readers_of.Given as goal
+
+abbrev pub invariant-loop-call : goal.invariant-loop-call
+invariant-loop-call l = l.readers.items ≡ map entry_of (filter (λ c. not (has_record c)) (take l.call-index l.list))

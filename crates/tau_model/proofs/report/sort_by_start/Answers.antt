@@ -1,0 +1,11 @@
+-- The sort is stable, so it gives the ascending order.
+use Rattle.std.proofs.Common.{◌≡◌, rules}
+use Rattle.std.proofs.lemmas.List.Sorted.{answers_always}
+use Rattle.tau_model.specs.Listing.{entry_start}
+use Rattle.tau_model.proofs.Sorting.{sorted-ascending}
+use Rattle.tau_model.proofs.report.sort_by_start.Goals as goal
+
+pub returns-in-Ok : goal.returns-in-Ok
+returns-in-Ok c =
+    sorted-ascending entry_start c.args.entries.now.items c.sort_by_key.new.self.items
+    (c.in-Ok.ensures.sorted entry_start (answers_always _ (λ a r. r ≡ entry_start a.0.now) _ (λ f a r f' k. search rules))) (c.sort_by_key.ensures.stable entry_start (answers_always _ (λ a r. r ≡ entry_start a.0.now) _ (λ f a r f' k. search rules)))

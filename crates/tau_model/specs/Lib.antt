@@ -1,0 +1,11 @@
+pub mod Committed
+pub mod History
+pub mod Light
+pub mod Listing
+pub mod Logged
+pub mod Redo
+pub mod Replay
+pub mod Reported
+pub mod Store
+pub mod Tables
+pub mod Theorems
