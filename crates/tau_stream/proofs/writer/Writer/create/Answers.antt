@@ -1,0 +1,45 @@
+use Rattle.std.proofs.Common.{◌≡◌, ℕ, ◌+◌, ◌-◌, ◌*◌, ◌<◌, ◌≤◌, ◌∙◌, ◌++◌, ◌∷◌, [], sym, subst, length, List, ap, arith, refl, length-append}
+use Rattle.tau_base.specs.declared.limits.TheConstants.{MAX_CATALOGUE}
+use Rattle.tau_block.specs.Image.{IsBody, tail_of}
+use Rattle.tau_stream.specs.Stream.{IsSettled, catalogue_record}
+use Rattle.tau_stream.proofs.writer.Writer.create.Goals as goal
+
+catalogue_is : (text : List ℕ) → length text ≤ MAX_CATALOGUE → IsBody (catalogue_record text)
+catalogue_is text short = record { some = omega arith; most = omega (arith, short) }
+
+length-block : (text block : List ℕ) → block ≡ tail_of (catalogue_record text) → length block ≡ 10 + length text
+length-block text block is = ap length is ∙ omega (arith, length-append (catalogue_record text) (0 ∷ []), length-append text (0 ∷ []))
+
+pub invariant_of-result : goal.invariant_of-result
+invariant_of-result g c =
+    let text = c.args.catalogue.now in
+    let block = c.in-Ok.first.0 in
+    let size : length block.items ≡ 10 + length text = length-block text block.items c.in-Ok.ensures.block in
+    let long : c.len.result ≡ length block.items = omega (arith, c.len.ensures) in
+    record {
+      here = λ tells works. omega (arith, long, ap length c.deref.ensures.value, c.in-Ok-begin.ensures.here tells);
+      counted = omega (arith, c.in-Ok.ensures.size);
+      behind = omega (arith, long, size, c.in-Ok.ensures.size);
+      room = omega (arith, long, size, c.requires.text, ap length c.new.ensures.items);
+      limit = omega arith;
+    }
+
+pub returns-in-Ok-begin-clause-ready : goal.returns-in-Ok-begin-clause-ready
+returns-in-Ok-begin-clause-ready g c = λ tells.
+    let text = c.args.catalogue.now in
+    let size : length c.deref.result.now ≡ c.len.result = omega (arith, c.len.ensures, ap length c.deref.ensures.value) in
+    record {
+      settled = subst (λ (long : ℕ). IsSettled c.args.n c.args.j (g.D.Disk.seen c.begin.new.disk) (g.D.Disk.may_leave c.begin.new.disk) (16 + long) (catalogue_record text)) size
+          (c.in-Ok-begin.ensures.done tells (catalogue_record text) (catalogue_is text c.requires.text) (c.deref.ensures.value ∙ c.in-Ok.ensures.block));
+      counts = c.in-Ok.ensures.size;
+    }
+
+pub returns-in-Ok-begin-clause-moments : goal.returns-in-Ok-begin-clause-moments
+returns-in-Ok-begin-clause-moments g c = λ tells unborn.
+    let text = c.args.catalogue.now in
+    c.begin.ensures.moments tells (catalogue_record text) (catalogue_is text c.requires.text) (c.deref.ensures.value ∙ c.in-Ok.ensures.block) unborn
+
+pub returns-in-Err-begin-clause-moments_err : goal.returns-in-Err-begin-clause-moments_err
+returns-in-Err-begin-clause-moments_err g c = λ tells unborn.
+    let text = c.args.catalogue.now in
+    c.begin.ensures.moments tells (catalogue_record text) (catalogue_is text c.requires.text) (c.deref.ensures.value ∙ c.in-Ok.ensures.block) unborn

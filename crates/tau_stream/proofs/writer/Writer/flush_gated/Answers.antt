@@ -1,0 +1,50 @@
+use Rattle.std.proofs.Common.{◌≡◌, ℕ, ◌+◌, ◌-◌, ◌*◌, ◌<◌, ◌≤◌, ◌∙◌, ◌++◌, sym, subst, length, take, drop, List, ap, arith, length-append, length-drop}
+use Rattle.tau_block.specs.Image.{tail_of}
+use Rattle.tau_stream.specs.Stream.{IsSettled}
+use Rattle.tau_stream.specs.Writer.{part_upto}
+use Rattle.tau_stream.proofs.Parts.{part_is, part_whole, length-part, length-tail}
+use Rattle.tau_stream.proofs.writer.Writer.flush_gated.Goals as goal
+
+pub invariant_of-self : goal.invariant_of-self
+invariant_of-self g c =
+    let w = c.args.self.now in
+    let reach = c.requires.prepared.reach in
+    let some : w.durable < c.args.upto = omega (arith, reach.not_before, c.if-upto-self.false) in
+    let size : length w.block.items ≡ 5 + (c.args.upto - w.durable) = ap length (c.requires.prepared.block some) ∙ length-tail w c.args.upto reach some in
+    let long : c.len.result ≡ length w.block.items = omega (arith, c.len.ensures) in
+    let here : length c.deref.result.now ≡ length w.block.items = ap length c.deref.ensures.value in
+    let whole : w.durable + 5 ≤ c.args.upto = part_whole w c.args.upto reach some in
+    let left : length c.drop_front.new.bytes.items ≡ length w.body.items - (c.args.upto - w.durable) = ap length c.drop_front.ensures ∙ length-drop (c.args.upto - w.durable) w.body.items in
+    record {
+      here = λ tells works. omega (arith, c.in-Ok.ensures.here tells, long, here);
+      counted = omega (arith, left, reach.within, w.counted);
+      behind = omega (arith, w.behind, long, size, reach.not_before);
+      room = omega (arith, left, long, size, whole, reach.within, w.room);
+      limit = w.limit;
+    }
+
+pub returns-in-Ok-clause-done : goal.returns-in-Ok-clause-done
+returns-in-Ok-clause-done g c = λ tells n j content ready.
+    let w = c.args.self.now in
+    let reach = c.requires.prepared.reach in
+    let some : w.durable < c.args.upto = omega (arith, reach.not_before, c.if-upto-self.false) in
+    let settled = c.in-Ok.ensures.done tells n j content (part_upto w c.args.upto) ready.settled (part_is w c.args.upto reach some) (c.deref.ensures.value ∙ c.requires.prepared.block some) in
+    let size : length c.deref.result.now ≡ c.len.result = omega (arith, c.len.ensures, ap length c.deref.ensures.value) in
+    record {
+      settled = subst (λ (long : ℕ). IsSettled n j (g.D.Disk.seen c.publish_gated.new.disk) (g.D.Disk.may_leave c.publish_gated.new.disk) (w.gate_at + long) (content ++ part_upto w c.args.upto)) size settled;
+      counts = omega (arith, ready.counts, length-append content (part_upto w c.args.upto), length-part w c.args.upto reach some, reach.not_before);
+    }
+
+pub returns-in-Ok-clause-moments : goal.returns-in-Ok-clause-moments
+returns-in-Ok-clause-moments g c = λ tells n j content ready.
+    let w = c.args.self.now in
+    let reach = c.requires.prepared.reach in
+    let some : w.durable < c.args.upto = omega (arith, reach.not_before, c.if-upto-self.false) in
+    c.publish_gated.ensures.moments tells n j content (part_upto w c.args.upto) ready.settled (part_is w c.args.upto reach some) (c.deref.ensures.value ∙ c.requires.prepared.block some)
+
+pub returns-in-Err-clause-moments : goal.returns-in-Err-clause-moments
+returns-in-Err-clause-moments g c = λ tells n j content ready.
+    let w = c.args.self.now in
+    let reach = c.requires.prepared.reach in
+    let some : w.durable < c.args.upto = omega (arith, reach.not_before, c.if-upto-self.false) in
+    c.publish_gated.ensures.moments tells n j content (part_upto w c.args.upto) ready.settled (part_is w c.args.upto reach some) (c.deref.ensures.value ∙ c.requires.prepared.block some)

@@ -1,0 +1,16 @@
+// Why a stream was not created or flushed.
+use thiserror::Error;
+
+/// Why a call of a writer did not go through.
+#[derive(Clone, Copy, Debug, PartialEq, Eq, Error)]
+pub enum Flush {
+    /// Memory was wanting. `Writer::flush` never answers it.
+    #[error("out of memory")]
+    NoMemory,
+    /// A call of the disk failed.
+    #[error("the disk failed")]
+    Failed,
+    /// All up to there is durable already. `Writer::create` never answers it.
+    #[error("nothing to flush")]
+    Idle,
+}

@@ -1,0 +1,319 @@
+// The writer of one log stream.
+ghost use Rattle.std.specs.Prelude.{◌≡◌, ◌⊎◌, ◌+◌, ◌-◌, ◌*◌, ◌<◌, ◌≤◌, ◌^◌, ◌++◌, ◌↔◌, [], ◌∷◌, List, ℕ, Bool, true, false, length, take, drop, vec_len, vec_capacity, OnOk, OnErr, IfOk, IfErr, Err};
+ghost use Rattle.tau_base.specs.declared.limits.TheConstants.{MAX_BODY, MAX_CATALOGUE, MAX_STREAMS};
+ghost use Rattle.tau_block.specs.Image.{IsBody, header_of, tail_of};
+ghost use Rattle.tau_disk.specs.Disk.{Passes, Rose, HasCause};
+ghost use Rattle.tau_disk.specs.Plan.{HasMade, MadeAll, MadeSome};
+ghost use Rattle.tau_stream.specs.Stream.{IsOldOrNew, IsSettled, IsUnborn, catalogue_record};
+
+use crate::{Flush, publish, publish_gated};
+use std::alloc::{AllocError, Global};
+use tau_base::NoMemory;
+use tau_block::{append_tail, header};
+use tau_disk::{Disk, Failed, Gate, Quiet, write_durably};
+
+/// Writes one log stream onto a disk, block by block.
+#[derive(Drop)]
+pub struct Writer<D: Disk> {
+    disk: D,
+    alloc: Global,
+    stream: u8,
+    gate_at: u64,
+    durable: u64,
+    added: u64,
+    body: Vec<u8>,
+    block: Vec<u8>,
+    failed: bool,
+    ghost here: { D.tells → failed ≡ false → gate_at < length (D.seen disk) },
+    ghost counted: { added ≤ durable + length body.items },
+    ghost behind: { durable ≤ gate_at },
+    ghost room: { gate_at + 2 * length body.items ≤ 2 ^ 60 + 2 * added },
+    ghost limit: { added ≤ 2 ^ 60 },
+}
+
+impl<D: Disk> Writer<D> {
+    ghost use Rattle.tau_stream.specs.Writer.{disk_of, durable_of, gathered_of, left_of, added_of, has_failed, part_upto, MayReach, IsPrepared, IsReady};
+
+    /// Creates stream `j` of `n` on an empty disk: the header, and one block with the catalogue's record. It makes six
+    /// calls of the disk. A refusal hands the disk back; it is never Idle.
+    pub fn create(
+        alloc: Global,
+        disk: D,
+        n: u16,
+        j: u16,
+        catalogue: &[u8],
+    ) -> Result<Writer<D>, (D, Flush)>
+        requires streams { n ≤ MAX_STREAMS }
+        requires stream { j < n }
+        requires text { length catalogue.now ≤ MAX_CATALOGUE }
+        requires empty { D.tells → D.seen disk ≡ [] }
+
+        ensures ready { IfOk result (λ writer. D.tells → IsReady n j writer (catalogue_record catalogue.now)) }
+        ensures durable { IfOk result (λ writer. durable_of writer ≡ length (catalogue_record catalogue.now)) }
+        ensures left { IfOk result (λ writer. left_of writer ≡ []) }
+        ensures added { IfOk result (λ writer. added_of writer ≡ 0) }
+        ensures works { IfOk result (λ writer. has_failed writer ≡ false) }
+
+        // At each moment every image is empty or has the catalogue's record, where each image at the entry was unborn.
+        ensures moments { IfOk result (λ writer. D.tells → IsUnborn (D.may_leave disk) →
+            Passes D.moment D.may_leave_since disk (disk_of writer) (IsOldOrNew n j [] (catalogue_record catalogue.now))) }
+        ensures moments_err { IfErr result (λ refusal. D.tells → IsUnborn (D.may_leave disk) →
+            Passes D.moment D.may_leave_since disk refusal.0 (IsOldOrNew n j [] (catalogue_record catalogue.now))) }
+
+        // The calls that it made of the disk.
+        ensures made { IfOk result (λ writer. D.tells → MadeAll 6 (D.number disk) (D.number (disk_of writer)) (D.fails disk) (D.short disk) (D.short (disk_of writer))) }
+        ensures made_err { IfErr result (λ refusal. refusal.1 ≡ Flush.Failed → D.tells → MadeSome 6 (D.number disk) (D.number refusal.0) (D.fails disk) (D.short refusal.0)) }
+        ensures plan { IfOk result (λ writer. D.tells → (k : ℕ) → D.fails (disk_of writer) k ≡ D.fails disk k) }
+        ensures plan_err { IfErr result (λ refusal. D.tells → (k : ℕ) → D.fails refusal.0 k ≡ D.fails disk k) }
+
+        ensures failed { IfErr result (λ refusal. refusal.1 ≡ Flush.Failed → Rose (D.faults disk) (D.faults refusal.0)) }
+        ensures memory { IfErr result (λ refusal. refusal.1 ≡ Flush.NoMemory → refusal.0 ≡ disk) }
+        ensures idle { IfErr result (λ refusal. refusal.1 ≡ Flush.Idle → ⊥) }
+        ensures faults { IfOk result (λ writer. D.faults disk ≤ D.faults (disk_of writer)) }
+        ensures faults_err { IfErr result (λ refusal. D.faults disk ≤ D.faults refusal.0) }
+    {
+        let mut disk = disk;
+        let (block, size) = match first_block(alloc, catalogue) {
+            Ok(first) => first,
+            Err(_) => return Err((disk, Flush::NoMemory)),
+        };
+        match begin(&mut disk, n, j, &block) {
+            Ok(()) => Ok(Writer {
+                disk,
+                alloc,
+                stream: j as u8,
+                gate_at: 16 + block.len() as u64,
+                durable: size as u64,
+                added: 0,
+                body: Vec::new(alloc),
+                block,
+                failed: false,
+            }),
+            Err(_) => Err((disk, Flush::Failed)),
+        }
+    }
+
+    /// So many bytes of the content stand in every image.
+    pub fn durable(&self) -> u64
+        ensures { result ≡ durable_of self.now }
+    {
+        self.durable
+    }
+
+    /// The length of the content with all that was added.
+    pub fn gathered(&self) -> u64
+        ensures { result ≡ gathered_of self.now }
+    {
+        self.durable + self.body.len() as u64
+    }
+
+    /// Whether its disk failed.
+    pub fn failed(&self) -> bool
+        ensures { result ≡ has_failed self.now }
+    {
+        self.failed
+    }
+
+    /// Hands the disk out.
+    pub fn into_disk(self) -> D
+        ensures { result ≡ disk_of self }
+    {
+        let Writer {
+            disk,
+            alloc: _,
+            stream: _,
+            gate_at: _,
+            durable: _,
+            added: _,
+            body: _,
+            block: _,
+            failed: _,
+        } = self;
+        disk
+    }
+
+    /// Adds whole records that continue the stream, at most 2^60 bytes in all.
+    pub fn add(&mut self, body: &[u8]) -> Result<(), NoMemory>
+        requires { added_of self.old + length body.now ≤ 2 ^ 60 }
+        ensures left { OnOk result (left_of self.new ≡ left_of self.old ++ body.now) }
+        ensures added { OnOk result (added_of self.new ≡ added_of self.old + length body.now) }
+        ensures disk { disk_of self.new ≡ disk_of self.old }
+        ensures durable { durable_of self.new ≡ durable_of self.old }
+        ensures works { has_failed self.new ≡ has_failed self.old }
+        ensures ready { (n j : ℕ) (content : List ℕ) → IsReady n j self.old content → IsReady n j self.new content }
+        ensures err { OnErr result (left_of self.new ≡ left_of self.old) }
+        ensures err_added { OnErr result (added_of self.new ≡ added_of self.old) }
+    {
+        match self.body.extend_from_slice(body) {
+            Ok(()) => {
+                self.added += body.len() as u64;
+                Ok(())
+            }
+            Err(_) => Err(NoMemory),
+        }
+    }
+
+    /// Makes the block of the content up to there.
+    pub fn prepare(&mut self, upto: u64) -> Result<(), NoMemory>
+        requires { MayReach self.old upto }
+        ensures ok { OnOk result (IsPrepared self.new upto) }
+        ensures disk { disk_of self.new ≡ disk_of self.old }
+        ensures durable { durable_of self.new ≡ durable_of self.old }
+        ensures left { left_of self.new ≡ left_of self.old }
+        ensures added { added_of self.new ≡ added_of self.old }
+        ensures works { has_failed self.new ≡ has_failed self.old }
+        ensures ready { (n j : ℕ) (content : List ℕ) → IsReady n j self.old content → IsReady n j self.new content }
+        ensures err { OnErr result ((k : ℕ) → IsPrepared self.old k → IsPrepared self.new k) }
+    {
+        let count = (upto - self.durable) as usize;
+        if count == 0 {
+            return Ok(());
+        }
+        match make_room(self.alloc, &mut self.block, count + 5) {
+            Ok(()) => {}
+            Err(_) => return Err(NoMemory),
+        }
+        self.block.clear();
+        match append_tail(&mut self.block, &self.body[..count]) {
+            Ok(()) => Ok(()),
+            Err(_) => unreachable!(),
+        }
+    }
+
+    /// Makes the content up to there durable: the block that was prepared, a sync, its gate, a sync.
+    pub fn flush(&mut self, upto: u64) -> Result<(), Flush>
+        requires prepared { IsPrepared self.old upto }
+        requires works { has_failed self.old ≡ false }
+
+        ensures durable { OnOk result (durable_of self.new ≡ upto) }
+        ensures left { OnOk result (left_of self.new ≡ drop (upto - durable_of self.old) (left_of self.old)) }
+        ensures works { OnOk result (has_failed self.new ≡ false) }
+        ensures done { OnOk result (D.tells → (n j : ℕ) (content : List ℕ) → IsReady n j self.old content →
+            IsReady n j self.new (content ++ part_upto self.old upto)) }
+
+        // At each moment every image has the old content or the new one.
+        ensures moments { D.tells → (n j : ℕ) (content : List ℕ) → IsReady n j self.old content →
+            Passes D.moment D.may_leave_since (disk_of self.old) (disk_of self.new) (IsOldOrNew n j content (part_upto self.old upto)) }
+        ensures plan { D.tells → (upto ≡ durable_of self.old → ⊥) → HasMade 4 (D.number (disk_of self.old)) (D.number (disk_of self.new)) (D.fails (disk_of self.old)) (D.fails (disk_of self.new)) (D.short (disk_of self.old)) (D.short (disk_of self.new)) result }
+        ensures idle { (result ≡ Err Flush.Idle) ↔ (upto ≡ durable_of self.old) }
+        ensures idle_same { result ≡ Err Flush.Idle → self.new ≡ self.old }
+        ensures failed { result ≡ Err Flush.Failed → (Rose (D.faults (disk_of self.old)) (D.faults (disk_of self.new))) × (has_failed self.new ≡ true) }
+        ensures memory { result ≡ Err Flush.NoMemory → ⊥ }
+        ensures stays { OnErr result (durable_of self.new ≡ durable_of self.old) }
+        ensures stays_left { OnErr result (left_of self.new ≡ left_of self.old) }
+        ensures added { added_of self.new ≡ added_of self.old }
+        ensures faults { D.faults (disk_of self.old) ≤ D.faults (disk_of self.new) }
+    {
+        self.flush_gated(upto, &Quiet)
+    }
+
+    /// The same with a gate place between the first sync and the opening of the gate byte.
+    pub fn flush_gated<G: Gate>(&mut self, upto: u64, gate: &G) -> Result<(), Flush>
+        requires prepared { IsPrepared self.old upto }
+        requires works { has_failed self.old ≡ false }
+
+        ensures durable { OnOk result (durable_of self.new ≡ upto) }
+        ensures left { OnOk result (left_of self.new ≡ drop (upto - durable_of self.old) (left_of self.old)) }
+        ensures works { OnOk result (has_failed self.new ≡ false) }
+        ensures done { OnOk result (D.tells → (n j : ℕ) (content : List ℕ) → IsReady n j self.old content →
+            IsReady n j self.new (content ++ part_upto self.old upto)) }
+
+        // At each moment every image has the old content or the new one.
+        ensures moments { D.tells → (n j : ℕ) (content : List ℕ) → IsReady n j self.old content →
+            Passes D.moment D.may_leave_since (disk_of self.old) (disk_of self.new) (IsOldOrNew n j content (part_upto self.old upto)) }
+        ensures plan { D.tells → (upto ≡ durable_of self.old → ⊥) → HasMade 4 (D.number (disk_of self.old)) (D.number (disk_of self.new)) (D.fails (disk_of self.old)) (D.fails (disk_of self.new)) (D.short (disk_of self.old)) (D.short (disk_of self.new)) result }
+        ensures idle { (result ≡ Err Flush.Idle) ↔ (upto ≡ durable_of self.old) }
+        ensures idle_same { result ≡ Err Flush.Idle → self.new ≡ self.old }
+        ensures failed { result ≡ Err Flush.Failed → (Rose (D.faults (disk_of self.old)) (D.faults (disk_of self.new))) × (has_failed self.new ≡ true) }
+        ensures memory { result ≡ Err Flush.NoMemory → ⊥ }
+        ensures stays { OnErr result (durable_of self.new ≡ durable_of self.old) }
+        ensures stays_left { OnErr result (left_of self.new ≡ left_of self.old) }
+        ensures added { added_of self.new ≡ added_of self.old }
+        ensures faults { D.faults (disk_of self.old) ≤ D.faults (disk_of self.new) }
+    {
+        if upto == self.durable {
+            return Err(Flush::Idle);
+        }
+        match publish_gated(&mut self.disk, self.gate_at, &self.block, gate, self.stream) {
+            Ok(()) => {
+                self.gate_at += self.block.len() as u64;
+                let count = upto - self.durable;
+                self.durable = upto;
+                drop_front(&mut self.body, count as usize);
+                Ok(())
+            }
+            Err(_) => {
+                self.failed = true;
+                Err(Flush::Failed)
+            }
+        }
+    }
+}
+
+// The block with the catalogue's record, and that record's length.
+fn first_block(alloc: Global, catalogue: &[u8]) -> Result<(Vec<u8>, usize), NoMemory>
+    requires { length catalogue.now ≤ MAX_CATALOGUE }
+    ensures block { IfOk result (λ first. first.0.items ≡ tail_of (catalogue_record catalogue.now)) }
+    ensures size { IfOk result (λ first. first.1 ≡ length (catalogue_record catalogue.now)) }
+{
+    let record = record_of(alloc, catalogue).map_err(|_| NoMemory)?;
+    let mut block = Vec::new(alloc);
+    append_tail(&mut block, &record)?;
+    Ok((block, record.len()))
+}
+
+// The record of a catalogue.
+fn record_of(alloc: Global, text: &[u8]) -> Result<Vec<u8>, AllocError>
+    requires { length text.now ≤ MAX_CATALOGUE }
+    ensures { IfOk result (λ r. r.items ≡ catalogue_record text.now) }
+{
+    let mut record = Vec::with_capacity(alloc, 5 + text.len())?;
+    record.push(4)?;
+    record.extend_from_slice(&(5 + text.len() as u32).to_be_bytes())?;
+    record.extend_from_slice(text)?;
+    Ok(record)
+}
+
+// Writes the header with a closed gate onto an empty disk, and the first block behind it.
+fn begin<D: Disk>(disk: &mut D, n: u16, j: u16, block: &[u8]) -> Result<(), Failed>
+    requires streams { n ≤ MAX_STREAMS }
+    requires stream { j < n }
+    requires empty { D.tells → D.seen disk.old ≡ [] }
+    requires size { length block.now < 2 ^ 32 }
+    ensures done { OnOk result (D.tells → (first : List ℕ) → IsBody first → block.now ≡ tail_of first →
+        IsSettled n j (D.seen disk.new) (D.may_leave disk.new) (16 + length block.now) first) }
+    ensures here { OnOk result (D.tells → 16 + length block.now < length (D.seen disk.new)) }
+    ensures moments { D.tells → (first : List ℕ) → IsBody first → block.now ≡ tail_of first → IsUnborn (D.may_leave disk.old) →
+        Passes D.moment D.may_leave_since disk.old disk.new (IsOldOrNew n j [] first) }
+    ensures plan { D.tells → HasMade 6 (D.number disk.old) (D.number disk.new) (D.fails disk.old) (D.fails disk.new) (D.short disk.old) (D.short disk.new) result }
+    ensures cause { HasCause (D.faults disk.old) (D.faults disk.new) result }
+{
+    write_durably(disk, 0, &header(n, j))?;
+    publish(disk, 16, block)?;
+    Ok(())
+}
+
+// Room for so many bytes. What is there already is kept only where the room was there.
+fn make_room(alloc: Global, block: &mut Vec<u8>, size: usize) -> Result<(), NoMemory>
+    ensures ok { OnOk result (size ≤ vec_capacity block.new) }
+    ensures err { OnErr result (block.new ≡ block.old) }
+{
+    if size <= block.capacity() {
+        return Ok(());
+    }
+    match Vec::with_capacity(alloc, size) {
+        Ok(larger) => {
+            *block = larger;
+            Ok(())
+        }
+        Err(_) => Err(NoMemory),
+    }
+}
+
+// Removes the first bytes.
+fn drop_front(bytes: &mut Vec<u8>, count: usize)
+    requires { count ≤ vec_len bytes.old }
+    ensures { bytes.new.items ≡ drop count bytes.old.items }
+{
+    bytes.drain(..count);
+}
