@@ -1,0 +1,15 @@
+pub mod Accounts
+pub mod Events
+pub mod Good
+pub mod Hands
+pub mod Invariant
+pub mod Pieces
+pub mod Reports
+pub mod Runs
+pub mod Shapes
+pub mod Shard
+pub mod Sight
+pub mod Stage
+pub mod State
+pub mod Theorems
+pub mod Worker
