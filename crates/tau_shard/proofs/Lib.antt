@@ -1,0 +1,6 @@
+pub mod Bridge
+pub mod Drops
+pub mod Masks
+pub mod Puts
+pub mod Sweeps
+pub mod Rows

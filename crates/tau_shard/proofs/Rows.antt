@@ -1,0 +1,61 @@
+-- The present rows of a map.
+use Rattle.std.proofs.Common.{ℕ, ◌+◌, Bool, true, false, ◌≡◌, List, ◌∷◌, ◌++◌, length, take, drop, refl, sym, ap, subst, ◌∙◌, slice_get, Option, arith, length-take}
+use Rattle.std.specs.Prelude.{Some, None, Result, Ok, Err, is_ok, if◌then◌else◌}
+use Rattle.std.specs.Result.{is_err}
+use Rattle.std.specs.List.{IsDistinct}
+use Rattle.std.specs.Map.{lookup, keys_of}
+use Rattle.std.specs.Option.{unwrap_or}
+use Rattle.std.proofs.Math.Path.{fun_ext}
+use Rattle.std.proofs.lemmas.List.{take-append-le}
+use Rattle.std.proofs.lemmas.Map.Entries.{option_filter, lookup-filter-values}
+use Rattle.std.proofs.lemmas.Map.Made.{IsDistinct-keys_filter}
+use Rattle.tau_base.specs.declared.value.Key.{Key}
+use Rattle.tau_base.specs.declared.value.Value.{Value}
+use Rattle.tau_base.specs.declared.value.Value.TheVariants.{Absent, Int, Text}
+use Rattle.tau_base.specs.Database.{Db, same_key, db_of}
+use Rattle.tau_shard.specs.Read.{is_key}
+use Rattle.tau_shard.specs.Present.{is_present, present_rows}
+use Rattle.tau_shard.proofs.Drops.{key-laws}
+use Rattle.tau_shard.proofs.Puts.{is_key-same}
+use Rattle.tau_shard.proofs.Sweeps.{drop-next, drop-past}
+
+same_test : is_key ≡ same_key
+same_test = fun_ext (λ a. fun_ext (λ b. is_key-same a b))
+
+module _ (rows : List (Key × Value)) (distinct : IsDistinct is_key (keys_of rows)) where
+  kept : (o : Option Value) → unwrap_or (option_filter is_present o) Absent ≡ unwrap_or o Absent
+  kept None = refl
+  kept (Some Absent) = refl
+  kept (Some (Int n)) = refl
+  kept (Some (Text t)) = refl
+
+  pub present-database : db_of (λ x. lookup (same_key x) (present_rows rows)) ≡ db_of (λ x. lookup (is_key x) rows)
+  present-database =
+      subst (λ (t : Key → Key → Bool). ◌≡◌ {A = Db} (db_of (λ x. lookup (t x) (present_rows rows))) (db_of (λ x. lookup (is_key x) rows))) same_test
+      (fun_ext (λ x. ap (λ (o : Option Value). unwrap_or o Absent) (lookup-filter-values key-laws is_present x rows distinct) ∙ kept (lookup (is_key x) rows)))
+
+  pub present-once : IsDistinct same_key (keys_of (present_rows rows))
+  present-once = subst (λ (t : Key → Key → Bool). IsDistinct t (keys_of (present_rows rows))) same_test (IsDistinct-keys_filter is_key (λ r. is_present r.1) rows distinct)
+
+-- one row after another
+module _ (rows : List (Key × Value)) (i : ℕ) where
+  pub row-in : (x : Key × Value) → slice_get rows i ≡ Some x → is_present x.1 ≡ true → present_rows (drop i rows) ≡ x ∷ present_rows (drop (i + 1) rows)
+  row-in x at is = ap present_rows (drop-next rows i x at) ∙ rw is refl
+
+  pub row-out : (x : Key × Value) → slice_get rows i ≡ Some x → is_present x.1 ≡ false → present_rows (drop i rows) ≡ present_rows (drop (i + 1) rows)
+  row-out x at is = ap present_rows (drop-next rows i x at) ∙ rw is refl
+
+  pub row-past : slice_get rows i ≡ None → present_rows (drop i rows) ≡ present_rows (drop (i + 1) rows)
+  row-past at = ap present_rows (drop-past rows i at)
+
+-- a list that grows keeps its first part
+pub take-more : {A : Type 0} (old xs ys : List A) → take (length old) xs ≡ old → take (length old) (xs ++ ys) ≡ old
+take-more old xs ys h =
+    let l = length-take (length old) xs in
+    let e : length (take (length old) xs) ≡ length old = ap length h in
+    take-append-le (length old) xs ys (omega (arith, l, e)) ∙ h
+
+-- a list after a push that was not refused
+pub pushed : {T E : Type 0} {xs ys : List T} (zs : List T) (r : Result (Unit {0}) E) (b : Bool) → b ≡ is_err r → b ≡ false → xs ≡ (if is_ok r then ys else zs) → xs ≡ ys
+pushed zs (Ok u) b e f is = is
+pushed zs (Err x) b e f is = absurd (let bad : true ≡ false = sym e ∙ f in cc)

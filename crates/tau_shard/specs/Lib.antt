@@ -1,0 +1,4 @@
+pub mod Blocks
+pub mod Plain
+pub mod Present
+pub mod Read

@@ -1,0 +1,105 @@
+//! Lock entries.
+ghost use Rattle.std.specs.Prelude.{◌≡◌, ◌<◌, ℕ, false, None, Some, IfNone, IfSome};
+ghost use Rattle.tau_machine.specs.Shard.{held_as};
+ghost use Rattle.tau_shard.specs.Read.{bits, entry_of};
+ghost use Rattle.tau_shard.specs.Blocks.{against, blocks, IsLowest, covered};
+
+use crate::mask;
+use tau_base::{Lv, Mode};
+use thiserror::Error;
+
+/// Who holds a key, and its two vectors.
+#[derive(Clone, Copy, Debug, PartialEq, Eq)]
+pub struct LockEntry {
+    /// The join of the vectors of calls that only read the key and freed it.
+    pub read: Lv,
+    /// The join of the vectors of calls that wrote the key and freed it.
+    pub write: Lv,
+    /// The workers that hold the key in read mode; one of `writers` too holds it in write mode.
+    pub readers: u32,
+    /// The workers that hold the key in write mode.
+    pub writers: u32,
+}
+
+/// Why a lock is not given.
+#[derive(Clone, Copy, Debug, PartialEq, Eq, Error)]
+pub enum ShardRefusal {
+    /// Memory was wanting.
+    #[error("out of memory")]
+    NoMemory,
+    /// Others hold the key in a conflicting mode.
+    #[error("held by {holder}")]
+    Busy {
+        /// The lowest of them.
+        holder: u8,
+    },
+}
+
+/// The worker holds the key in this mode, and in no other.
+pub(crate) fn held(entry: &LockEntry, worker: u8, mode: Mode) -> LockEntry
+    requires { worker < 32 }
+    ensures { entry_of result ≡ held_as (entry_of entry.now) worker (Some mode) }
+{
+    match mode {
+        Mode::Read => LockEntry {
+            read: entry.read,
+            write: entry.write,
+            readers: mask::with(entry.readers, worker),
+            writers: mask::without(entry.writers, worker),
+        },
+        Mode::Write => LockEntry {
+            read: entry.read,
+            write: entry.write,
+            readers: entry.readers,
+            writers: mask::with(entry.writers, worker),
+        },
+    }
+}
+
+/// The worker holds the key no more.
+pub(crate) fn released(entry: &LockEntry, worker: u8) -> LockEntry
+    requires { worker < 32 }
+    ensures { entry_of result ≡ held_as (entry_of entry.now) worker None }
+{
+    LockEntry {
+        read: entry.read,
+        write: entry.write,
+        readers: mask::without(entry.readers, worker),
+        writers: mask::without(entry.writers, worker),
+    }
+}
+
+/// The workers whose hold conflicts with a lock in this mode.
+fn conflicting(entry: &LockEntry, mode: Mode) -> u32
+    ensures { bits result ≡ (λ u. against mode ((entry_of entry.now).holders u)) }
+{
+    match mode {
+        Mode::Read => entry.writers,
+        Mode::Write => mask::either(entry.readers, entry.writers),
+    }
+}
+
+/// The lowest other worker whose hold conflicts with a lock.
+pub(crate) fn blocker(entry: &LockEntry, worker: u8, mode: Mode) -> Option<u8>
+    requires { worker < 32 }
+    ensures found { IfSome result (λ u. IsLowest (entry_of entry.now) worker mode u) }
+    ensures free { IfNone result ((u : ℕ) → blocks (entry_of entry.now) worker mode u ≡ false) }
+{
+    mask::lowest(mask::without(conflicting(entry, mode), worker))
+}
+
+/// Whether nobody holds the key and the vector covers both of the entry.
+pub(crate) fn is_covered(entry: &LockEntry, plv: &Lv) -> bool
+    ensures { result ≡ covered plv.now entry.now }
+{
+    if entry.readers != 0 {
+        return false;
+    }
+    if entry.writers != 0 {
+        return false;
+    }
+    if !plv.covers(&entry.write) {
+        return false;
+    }
+    plv.covers(&entry.read)
+}
