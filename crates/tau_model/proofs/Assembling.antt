@@ -1,5 +1,5 @@
 -- What is woven is the reported history.
-use Rattle.std.proofs.Common.{ℕ, zero, suc, ◌+◌, ◌≤◌, ◌<◌, Bool, true, false, cond, ◌≡◌, ◌⊎◌, inl, inr, List, [], ◌∷◌, ◌++◌, length, map, refl, sym, ap, subst, ◌∙◌, arith, Option, get_or-set_other, get_or-set_same, length-append}
+use Rattle.std.proofs.Common.{ℕ, zero, suc, ◌+◌, ◌≤◌, ◌<◌, Bool, true, false, ◌≡◌, inl, inr, List, [], ◌∷◌, ◌++◌, length, map, refl, sym, ap, subst, ◌∙◌, arith, Option, get_or-set_other, get_or-set_same, length-append}
 use Rattle.std.specs.Prelude.{Some, None, is_some, not, ◌&&◌, ◌==◌, slice_index, slice_index_or, slice_set}
 use Rattle.std.specs.List.{All, filter}
 use Rattle.std.specs.Option.{ForSome}

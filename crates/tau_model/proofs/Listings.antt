@@ -1,5 +1,5 @@
 -- Listing records one after another.
-use Rattle.std.proofs.Common.{ℕ, zero, suc, ◌+◌, ◌≤◌, ◌<◌, Bool, true, false, cond, ◌≡◌, ◌⊎◌, inl, inr, List, [], ◌∷◌, ◌++◌, length, map, refl, sym, ap, subst, ◌∙◌, arith, Option, length-set, get_or-set_same, get_or-set_other, append_assoc}
+use Rattle.std.proofs.Common.{ℕ, zero, suc, ◌+◌, ◌≤◌, ◌<◌, Bool, true, false, ◌≡◌, inl, inr, List, [], ◌∷◌, ◌++◌, length, map, refl, sym, ap, subst, ◌∙◌, arith, length-set, get_or-set_same, get_or-set_other, append_assoc}
 use Rattle.std.specs.Prelude.{Some, None, slice_index, slice_index_or, slice_set}
 use Rattle.std.proofs.lemmas.Bool.{cases_Bool, both_ways, cases_lt, cases_eq}
 use Rattle.std.proofs.lemmas.List.{get_or_past}
@@ -8,7 +8,7 @@ use Rattle.tau_base.proofs.Vectors.{same_positions, at_most-trans}
 use Rattle.tau_model.proofs.ReportOrder.{emitted-at, covers-at_most, at_most-covers}
 use Rattle.tau_model.specs.declared.report.Entry.{Entry}
 use Rattle.tau_model.specs.Logged.{Place}
-use Rattle.tau_model.specs.Reported.{with_front, take_record, next_start, emitted}
+use Rattle.tau_model.specs.Reported.{take_record, next_start, emitted}
 use Rattle.tau_model.specs.Listing.{entry_place, covered_by, first_passes, IsQueue, AreQueues, IsNext, IsListed, IsListing, AreRising, lengths, slot_of}
 
 pub take_record-none : {A : Type 0} (p : A → Bool) (streams : List (List A)) → ((k : ℕ) → k < length streams → first_passes p (slice_index_or streams k []) ≡ false) →

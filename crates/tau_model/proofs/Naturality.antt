@@ -1,9 +1,7 @@
 -- The reported history of the images of calls is the image of their reported history.
-use Rattle.std.proofs.Common.{ℕ, zero, suc, Bool, ◌≡◌, inl, inr, List, [], ◌∷◌, length, map, refl, sym, ap, ◌∙◌, arith, Option}
-use Rattle.std.specs.Prelude.{Some, None, nat_le, not}
-use Rattle.std.specs.List.{filter}
+use Rattle.std.proofs.Common.{ℕ, zero, suc, Bool, ◌≡◌, inl, inr, List, [], ◌∷◌, map, refl, ap, ◌∙◌, Option}
+use Rattle.std.specs.Prelude.{Some, None, nat_le}
 use Rattle.std.proofs.lemmas.Bool.{cases_Bool}
-use Rattle.std.proofs.Math.Path.{fun_ext}
 use Rattle.tau_base.specs.Vectors.{covers}
 use Rattle.tau_model.specs.Logged.{Place}
 use Rattle.tau_model.specs.Reported.{with_rest, take_first, with_front, take_record, Left, next_start, emitted, picked, listed, put_in, ascending, each, reported_within}

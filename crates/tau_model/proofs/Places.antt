@@ -1,5 +1,5 @@
 -- Rows that have a place in a map and are absent.
-use Rattle.std.proofs.Common.{ℕ, suc, ◌-◌, ◌<◌, ◌≤◌, Bool, true, false, cond, ◌≡◌, inl, inr, List, [], ◌∷◌, length, drop, drop-cons, arith, refl, sym, ap, subst, ◌∙◌, Option, Result, Ok, Err}
+use Rattle.std.proofs.Common.{ℕ, suc, ◌-◌, ◌<◌, ◌≤◌, true, false, cond, ◌≡◌, inl, inr, List, [], ◌∷◌, length, drop, drop-cons, arith, refl, sym, ap, subst, ◌∙◌, Option, Result, Ok, Err}
 use Rattle.std.specs.Prelude.{Some, None, IsSome, OnOk, OnErr, is_some, slice_index_or}
 use Rattle.std.proofs.Math.Path.{fun_ext}
 use Rattle.std.proofs.lemmas.Bool.{cases_Bool, both_ways}

@@ -1,17 +1,16 @@
 -- A stable sort by a number gives the ascending order.
-use Rattle.std.proofs.Common.{ℕ, ◌≤◌, ◌<◌, Bool, true, false, ◌≡◌, ◌⊎◌, inl, inr, List, [], ◌∷◌, ◌++◌, length, get_or, refl, sym, ap, subst, ◌∙◌, arith}
-use Rattle.std.specs.Prelude.{nat_le, not, ◌==◌, ◌&&◌, zero, suc}
+use Rattle.std.proofs.Common.{ℕ, ◌≤◌, ◌<◌, Bool, true, false, ◌≡◌, inl, inr, List, [], ◌∷◌, length, get_or, refl, sym, ap, subst, ◌∙◌, arith}
+use Rattle.std.specs.Prelude.{nat_le, not, ◌==◌, ◌&&◌, suc}
 use Rattle.std.specs.List.{filter}
 use Rattle.std.specs.List.Sorted.{IsNonDecreasingBy, IsSortedByKey, IsStableByKey, ties}
 use Rattle.std.specs.Ordering.{nat_cmp, is_lt}
 use Rattle.std.proofs.lemmas.Bool.{cases_Bool, both_ways, cases_eq, leb-true, le-leb, eqb-true, eq-eqb, ne_eqb}
 use Rattle.std.proofs.lemmas.Bool.Decides.{nat_tests}
 use Rattle.std.proofs.lemmas.List.Sorted.{IsNonDecreasingBy-from_sort}
-use Rattle.tau_model.specs.History.{Member, Reordered}
+use Rattle.tau_model.specs.History.{Member}
 use Rattle.tau_model.specs.Reported.{put_in, ascending}
 use Rattle.tau_model.proofs.Orders.{member-reordered}
 use Rattle.tau_model.proofs.Logged.{member-filtered}
-use Rattle.tau_model.proofs.ReportOrder.{member-filter-in}
 use Rattle.tau_model.proofs.Ascending.{put_in-reordered}
 
 pub filter-same : {A : Type 0} (p q : A → Bool) (xs : List A) → ((x : A) → p x ≡ q x) → filter p xs ≡ filter q xs
@@ -45,14 +44,20 @@ module _ {A : Type 0} (key : A → ℕ) where
   put_in-rising : (x : A) (ys : List A) → Rising ys → Rising (put_in key x ys)
   put_in-rising x [] h = ((λ y m. absurd m), tt)
   put_in-rising x (y ∷ ys) h = elim (cases_Bool (nat_le (key x) (key y))) [
-    | inl le ↦ rw le ((λ z m. let first : key x ≤ key y = leb-true (key x) (key y) le in elim m [
-      | inl e ↦ subst (λ (w : A). key x ≤ key w) e first
-      | inr n ↦ let next = h.0 z n in omega arith
-    ]), h)
-    | inr gt ↦ rw gt ((λ z m. elim (member-reordered (x ∷ ys) (put_in key x ys) (put_in-reordered key x ys) z m) [
-      | inl e ↦ subst (λ (w : A). key y ≤ key w) e (above gt)
-      | inr n ↦ h.0 z n
-    ]), put_in-rising x ys h.1)
+    | inl le ↦ rw le (
+      (λ z m. let first : key x ≤ key y = leb-true (key x) (key y) le in elim m [
+        | inl e ↦ subst (λ (w : A). key x ≤ key w) e first
+        | inr n ↦ let next = h.0 z n in omega arith
+      ]),
+      h,
+    )
+    | inr gt ↦ rw gt (
+      (λ z m. elim (member-reordered (x ∷ ys) (put_in key x ys) (put_in-reordered key x ys) z m) [
+        | inl e ↦ subst (λ (w : A). key y ≤ key w) e (above gt)
+        | inr n ↦ h.0 z n
+      ]),
+      put_in-rising x ys h.1,
+    )
   ]
     where
       above : nat_le (key x) (key y) ≡ false → key y ≤ key x
@@ -149,8 +154,8 @@ module _ {A : Type 0} (key : A → ℕ) where
   rising-from [] h = tt
   rising-from (x ∷ xs) h = (
     λ y m. let (k, lt, is) = at_some_place y xs m in
-    let up : key x ≤ key (get_or xs k x) = h 0 (suc k) x (omega arith) (omega arith) in
-    subst (λ (z : A). key x ≤ key z) (is x) up,
+        let up : key x ≤ key (get_or xs k x) = h 0 (suc k) x (omega arith) (omega arith) in
+        subst (λ (z : A). key x ≤ key z) (is x) up,
     rising-from xs (λ i j d le lt. h (suc i) (suc j) d (omega arith) (omega arith)),
   )
 

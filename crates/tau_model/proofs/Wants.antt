@@ -1,5 +1,5 @@
 -- Running a call on a database, want by want.
-use Rattle.std.proofs.Common.{ℕ, ◌+◌, ◌≡◌, List, [], ◌∷◌, ◌++◌, map, refl, sym, ap, subst, ◌∙◌, append_assoc, Option}
+use Rattle.std.proofs.Common.{ℕ, ◌+◌, ◌≡◌, List, [], ◌∷◌, ◌++◌, refl, sym, ap, subst, ◌∙◌, append_assoc, Option}
 use Rattle.std.specs.Prelude.{Some, None, slice_get}
 use Rattle.tau_base.specs.declared.value.Call.{Call}
 use Rattle.tau_base.specs.declared.value.Key.{Key}
@@ -7,8 +7,7 @@ use Rattle.tau_base.specs.declared.value.Value.{Value}
 use Rattle.tau_base.specs.Database.{Db}
 use Rattle.tau_proc.specs.declared.proc.Proc.{Proc}
 use Rattle.tau_proc.specs.declared.reply.Reply.{Reply}
-use Rattle.tau_proc.specs.declared.reply.Want.{Want}
-use Rattle.tau_proc.specs.declared.reply.Want.TheVariants.{Read, Write, Finished}
+use Rattle.tau_proc.specs.declared.reply.Want.TheVariants.{Read, Finished}
 use Rattle.tau_proc.specs.Effect.{Agrees}
 use Rattle.tau_proc.specs.Meaning.{meaning}
 use Rattle.tau_proc.specs.Progress.{Progress, IsAt, ahead, next_want, want_of_write, buffered}

@@ -1,5 +1,5 @@
 -- How the reported history is listed: records first, then each read-only call in front of the record before which it is covered first.
-use Rattle.std.specs.Prelude.{ℕ, zero, suc, ◌+◌, ◌≤◌, ◌<◌, ◌==◌, ◌≡◌, Bool, false, cond, List, [], ◌∷◌, ◌++◌, Option, Some, None, length, map, slice_index, slice_index_or, slice_set}
+use Rattle.std.specs.Prelude.{ℕ, suc, ◌+◌, ◌≤◌, ◌<◌, ◌==◌, ◌≡◌, Bool, false, cond, List, [], ◌∷◌, ◌++◌, Some, None, length, map, slice_index, slice_index_or, slice_set}
 use Rattle.std.specs.List.{filter}
 use Rattle.tau_base.specs.Vectors.{AtMost, covers}
 use Rattle.tau_model.specs.declared.committed.Committed.{Committed}

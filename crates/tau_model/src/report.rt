@@ -128,7 +128,11 @@ fn records_of(alloc: Global, stream: usize, list: &[Committed]) -> Result<Vec<En
 }
 
 /// The records of `count` streams.
-fn streams_of(alloc: Global, count: usize, list: &[Committed]) -> Result<Vec<VecDeque<Entry>>, NoMemory>
+fn streams_of(
+    alloc: Global,
+    count: usize,
+    list: &[Committed],
+) -> Result<Vec<VecDeque<Entry>>, NoMemory>
     ensures { IfOk result (λ streams. map deque_items streams.items ≡ each count (λ j. ascending entry_start (map entry_of (filter (in_stream place_of has_record j) list.now)))) }
 {
     let mut streams = Vec::new(alloc);
@@ -200,7 +204,11 @@ fn list_next(ends: &Lv, streams: &mut [VecDeque<Entry>], reach: &mut Lv) -> Opti
 }
 
 /// Lists the records, as long as one is covered.
-fn listing_of(alloc: Global, ends: &Lv, streams: &mut [VecDeque<Entry>]) -> Result<Listing, NoMemory>
+fn listing_of(
+    alloc: Global,
+    ends: &Lv,
+    streams: &mut [VecDeque<Entry>],
+) -> Result<Listing, NoMemory>
     requires { AreQueues ends.now (map deque_items streams.old) }
     ensures { IfOk result (λ l. IsListing ends.now (map deque_items streams.old) l.reached.items l.numbers.items) }
 {
@@ -280,6 +288,7 @@ fn weave(alloc: Global, buckets: &[Vec<u64>], numbers: &[u64]) -> Result<Vec<u64
         out.extend_from_slice(&buckets[k]).map_err(|_| NoMemory)?;
         out.push(*number).map_err(|_| NoMemory)?;
     }
-    out.extend_from_slice(&buckets[numbers.len()]).map_err(|_| NoMemory)?;
+    out.extend_from_slice(&buckets[numbers.len()])
+        .map_err(|_| NoMemory)?;
     Ok(out)
 }

@@ -134,7 +134,12 @@ fn committed(number: u64, dep: Lv, spot: Option<(u8, u64, u64)>) -> Committed {
     }
 }
 
-fn order_of(rt: &impl Abort, alloc: Global, ends: &Lv, list: &[Committed]) -> Result<Vec<u64>, Fail> {
+fn order_of(
+    rt: &impl Abort,
+    alloc: Global,
+    ends: &Lv,
+    list: &[Committed],
+) -> Result<Vec<u64>, Fail> {
     assert!(rt; are_within(ends, list));
     Ok(reported(alloc, ends, list)?)
 }

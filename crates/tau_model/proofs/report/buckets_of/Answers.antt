@@ -1,6 +1,5 @@
 -- One more reader.
-use Rattle.std.proofs.Common.{◌+◌, ◌≡◌, ◌++◌, [], ◌∷◌, take, length, map, refl, sym, ap, subst, ◌∙◌, arith, rules}
-use Rattle.std.specs.Prelude.{slice_index_or, slice_set}
+use Rattle.std.proofs.Common.{◌+◌, ◌≡◌, ◌++◌, [], ◌∷◌, take, length, map, sym, ap, ◌∙◌, arith}
 use Rattle.std.specs.Vec.{vec_items}
 use Rattle.std.proofs.lemmas.Grind.{common_steps}
 use Rattle.tau_model.specs.Reported.{each}

@@ -1,8 +1,7 @@
 -- One more stream.
-use Rattle.std.proofs.Common.{ℕ, ◌+◌, ◌≡◌, ◌<◌, ◌≤◌, ◌≢◌, [], length, map, sym, ◌∙◌, ap, arith, below_more, get_or-set_other, get_or-set_same, length-set}
+use Rattle.std.proofs.Common.{◌<◌, ◌≢◌, [], length, map, sym, ◌∙◌, arith, below_more, get_or-set_other, get_or-set_same, length-set}
 use Rattle.std.proofs.lemmas.List.{length-map}
 use Rattle.std.specs.VecDeque.{deque_items}
-use Rattle.tau_model.specs.Reported.{emitted}
 use Rattle.tau_model.specs.Listing.{entry_place}
 use Rattle.tau_model.proofs.Listings.{map-at, emitted-next, same_below, length-emitted}
 use Rattle.tau_model.proofs.report.emitted_first.Goals as goal

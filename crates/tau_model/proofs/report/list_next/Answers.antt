@@ -1,9 +1,9 @@
 -- What the next record leaves.
-use Rattle.std.proofs.Common.{◌≡◌, ◌<◌, [], ◌∷◌, length, map, refl, sym, ap, subst, ◌∙◌, arith}
-use Rattle.std.specs.Prelude.{slice_index, slice_index_or, slice_set}
+use Rattle.std.proofs.Common.{◌≡◌, [], ◌∷◌, length, map, refl, sym, ap, subst, ◌∙◌, arith}
+use Rattle.std.specs.Prelude.{slice_index_or, slice_set}
 use Rattle.std.specs.VecDeque.{deque_items}
 use Rattle.std.proofs.lemmas.List.{length-map, map-set}
-use Rattle.tau_model.specs.Reported.{emitted, next_start}
+use Rattle.tau_model.specs.Reported.{next_start}
 use Rattle.tau_model.specs.Listing.{IsListed, entry_place}
 use Rattle.tau_model.proofs.Listings.{map-at, length-emitted, next-listed}
 use Rattle.tau_model.proofs.report.list_next.Goals as goal

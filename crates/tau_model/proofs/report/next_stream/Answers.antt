@@ -1,5 +1,5 @@
 -- The first stream that has a covered record next is the lowest.
-use Rattle.std.proofs.Common.{◌≡◌, [], map, length, sym, ◌∙◌, ap, arith, below_more}
+use Rattle.std.proofs.Common.{[], map, sym, ◌∙◌, ap, arith, below_more}
 use Rattle.std.specs.VecDeque.{deque_items}
 use Rattle.std.proofs.lemmas.List.{length-map}
 use Rattle.tau_model.specs.Listing.{covered_by, first_passes}

@@ -1,12 +1,12 @@
 -- The parts are put together.
-use Rattle.std.proofs.Common.{◌≡◌, List, length, map, refl, sym, ap, subst, ◌∙◌, arith}
+use Rattle.std.proofs.Common.{◌≡◌, length, map, refl, sym, ap, subst, ◌∙◌, arith}
 use Rattle.std.specs.Vec.{vec_items}
 use Rattle.std.specs.VecDeque.{deque_items}
 use Rattle.std.proofs.lemmas.List.{length-map}
 use Rattle.std.proofs.lemmas.Result.{IfOk-weaker}
 use Rattle.tau_model.specs.Committed.{reported_numbers}
 use Rattle.tau_model.specs.Reported.{each}
-use Rattle.tau_model.specs.Listing.{AreQueues, AreRising, IsListing, bucket, woven}
+use Rattle.tau_model.specs.Listing.{AreRising, IsListing, bucket, woven}
 use Rattle.tau_model.proofs.Ascending.{length-each}
 use Rattle.tau_model.proofs.Assembling.{entries-left, entries-queues, listing-length, listing-rising, woven-reported}
 use Rattle.tau_model.proofs.report.reported.Goals as goal

@@ -1,7 +1,5 @@
 -- The vectors rise, so half of those between are settled.
-use Rattle.std.proofs.Common.{ℕ, ◌+◌, ◌-◌, ◌/◌, ◌<◌, ◌≤◌, ◌≡◌, true, false, [], length, sym, ◌∙◌, ap, subst, arith}
-use Rattle.std.specs.Prelude.{slice_index_or}
-use Rattle.std.proofs.lemmas.Bool.{cases_lt}
+use Rattle.std.proofs.Common.{◌+◌, ◌-◌, ◌/◌, [], sym, ◌∙◌, ap, arith}
 use Rattle.tau_base.specs.Vectors.{covers}
 use Rattle.tau_model.proofs.Listings.{at-default, rising-covers, rising-uncovered, first-slot}
 use Rattle.tau_model.proofs.report.slot_of.Goals as goal

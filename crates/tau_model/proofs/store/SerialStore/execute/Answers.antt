@@ -1,11 +1,10 @@
 -- Each want is answered as the meaning of the call says.
 use Rattle.std.proofs.Common.{◌≡◌, ◌∷◌, refl, sym, ap, ◌∙◌}
-use Rattle.tau_base.specs.Database.{written}
 use Rattle.tau_proc.specs.Meaning.{meaning}
 use Rattle.tau_proc.specs.Progress.{Progress, ahead, buffered}
 use Rattle.tau_model.specs.Store.{database}
 use Rattle.tau_model.proofs.Places.{on_err}
-use Rattle.tau_model.proofs.Wants.{Underway, read-given, write-granted, finished-meaning}
+use Rattle.tau_model.proofs.Wants.{read-given, finished-meaning}
 use Rattle.tau_model.proofs.store.SerialStore.execute.Goals as goal
 
 pub wants-preserved-in-Read : goal.wants-preserved-in-Read

@@ -1,5 +1,5 @@
 -- An absent row has its place, and the database stays.
-use Rattle.std.proofs.Common.{◌≡◌, sym, ◌∙◌}
+use Rattle.std.proofs.Common.{sym, ◌∙◌}
 use Rattle.std.specs.BTreeMap.{get}
 use Rattle.tau_base.specs.Database.{key_cmp}
 use Rattle.tau_base.specs.declared.value.Value.TheVariants.{Absent}

@@ -1,9 +1,8 @@
 -- One more row at the front.
-use Rattle.std.proofs.Common.{◌≡◌, ◌-◌, [], ◌∷◌, drop, refl, sym, ap, subst, ◌∙◌, arith}
+use Rattle.std.proofs.Common.{◌≡◌, ◌-◌, ◌∷◌, drop, refl, sym, subst, ◌∙◌, arith}
 use Rattle.tau_base.specs.declared.value.Key.{Key}
 use Rattle.tau_base.specs.declared.value.Value.{Value}
-use Rattle.tau_base.specs.Database.{written}
-use Rattle.tau_model.specs.Store.{database, HasPlace}
+use Rattle.tau_model.specs.Store.{HasPlace}
 use Rattle.tau_model.proofs.Places.{drop-before}
 use Rattle.tau_model.proofs.store.SerialStore.set_rows.Goals as goal
 
