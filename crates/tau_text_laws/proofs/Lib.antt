@@ -1,0 +1,12 @@
+pub mod Binds
+pub mod Unique
+pub mod Values
+pub mod Once
+pub mod WholeLines
+pub mod MoreTables
+pub mod Told
+pub mod Behind
+pub mod Runs
+pub mod Whole
+pub mod Bytes
+pub mod Law
