@@ -1,0 +1,9 @@
+//! The generated workload.
+#![tactic(auto)]
+
+mod calls;
+
+pub use calls::generate;
+
+#[cfg(test)]
+mod tests;
