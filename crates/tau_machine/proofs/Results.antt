@@ -31,7 +31,7 @@ use Rattle.tau_model.proofs.Dependence.{conflict-sym, members-order, depends-her
 use Rattle.tau_model.proofs.Logged.{cut_closed, orderly_redo, orderly-filtered, member-first, member-second, covered_taken, covered_depends}
 use Rattle.tau_model.proofs.Orders.{Consistent, trace-calls, redo-trace, same_acts, member-reordered}
 use Rattle.tau_model.proofs.Reorder.{reordered-sym, reordered-length}
-use Rattle.tau_model.proofs.Reported.{IsReport, reported-is}
+use Rattle.tau_model.proofs.ReportOrder.{IsReport, reported-is}
 use Rattle.tau_machine.specs.Hands.{Txn, committed_of, spot_of, Hand, means, lv_of, held_in}
 use Rattle.tau_machine.specs.State.{Setting, Ticket, Item, Record, Anchor, Core, sight, hand_of}
 use Rattle.tau_machine.specs.Accounts.{in_acts, in_committed}
