@@ -1,0 +1,12 @@
+pub mod Histories
+pub mod Numbers
+pub mod Names
+pub mod Lines
+pub mod Loads
+pub mod Records
+pub mod HeldLaws
+pub mod Reports
+pub mod Steps
+pub mod Ran
+pub mod Openings
+pub mod Tops

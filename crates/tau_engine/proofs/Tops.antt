@@ -1,0 +1,93 @@
+-- How a call may end, by its causes.
+use Rattle.std.proofs.Common.{ℕ, zero, suc, ◌≡◌, ◌<◌, ◌≤◌, ◌⊎◌, List, [], ◌∷◌, refl, sym, ap, ◌∙◌, subst, inl, inr, ⊎_elim, true, false, arith, length}
+use Rattle.std.specs.Prelude.{Some, None, ◌&&◌, codes, slice_get, nat_lt}
+use Rattle.std.proofs.lemmas.Bool.Decides.{nat_tests}
+use Rattle.std.proofs.lemmas.Bool.{cases_Bool}
+use Rattle.tau_base.specs.declared.value.LogMode.{LogMode}
+use Rattle.tau_model.specs.History.{Member}
+use Rattle.tau_engine.specs.declared.command.Command.TheVariants.{Run}
+use Rattle.tau_engine.specs.declared.status.Status.{Status}
+use Rattle.tau_engine.specs.declared.status.Status.TheVariants as status
+use Rattle.tau_engine.specs.Words.{command_of, same_word}
+use Rattle.tau_engine.specs.Outside.{AreEmpty, IsFirstLong, OpensBad, ends_run}
+use Rattle.tau_engine.proofs.Openings.{some_is}
+
+pub only_two : (words : List (List ℕ)) (n m : ℕ) (mode : LogMode) → command_of words ≡ Some (Run n m mode) → n ≡ 2
+only_two [] n m mode e = absurd (cc)
+only_two (a ∷ []) n m mode e = absurd (cc)
+only_two (a ∷ b ∷ []) n m mode e = absurd (cc)
+only_two (a ∷ b ∷ c ∷ []) n m mode e = elim (cases_Bool (same_word a (codes "run") && same_word b (codes "2") && same_word c (codes "1"))) [
+  | inl so ↦ let is = rw so at e in cc
+  | inr so ↦ let is = rw so at e in cc
+]
+only_two (a ∷ b ∷ c ∷ d ∷ rest) n m mode e = absurd (cc)
+
+is_below : (j k : ℕ) → nat_lt j k ≡ true → j < k
+is_below j k e = grind (arith, nat_tests)
+
+is_not_below : (j k : ℕ) → nat_lt j k ≡ false → k ≤ j
+is_not_below j k e = grind (arith, nat_tests)
+
+three : (j k : ℕ) → (j < k) ⊎ ((k < j) ⊎ (j ≡ k))
+three j k = elim (cases_Bool (nat_lt j k)) [
+  | inl e ↦ inl (is_below j k e)
+  | inr e ↦ elim (cases_Bool (nat_lt k j)) [
+    | inl f ↦ inr (inl (is_below k j f))
+    | inr f ↦ (let a : k ≤ j = is_not_below j k e in let b : j ≤ k = is_not_below k j f in inr (inr (omega (arith, a, b))))
+  ]
+]
+
+module _ {D : Type 0} (seen : D → List ℕ) (disks : List D) where
+  long_there : (j long : ℕ) → IsFirstLong seen disks j long → (d : D) → slice_get disks j ≡ Some d → seen d ≡ [] → ⊥
+  long_there j long is d get none =
+      let (e, at, size) = is.0 in
+      let same : e ≡ d = some_is e d (sym at ∙ get) in
+      let nothing : length (seen e) ≡ 0 = subst (λ (x : D). length (seen x) ≡ 0) (sym same) (ap (λ (xs : List ℕ). length xs) none) in
+      omega (arith, size, nothing, is.1)
+
+  not_below : (j long k other : ℕ) → IsFirstLong seen disks j long → IsFirstLong seen disks k other → j < k → ⊥
+  not_below j long k other is also lt = let (d, get, size) = is.0 in long_there j long is d get (also.2 j d lt get)
+
+  same_place : (j long k other : ℕ) → IsFirstLong seen disks j long → IsFirstLong seen disks k other → j ≡ k
+  same_place j long k other is also = ⊎_elim (λ (lt : j < k). absurd (not_below j long k other is also lt)) (λ (rest : (k < j) ⊎ (j ≡ k)). ⊎_elim (λ (lt : k < j). absurd (not_below k other j long also is lt)) (λ (e : j ≡ k). e) rest) (three j k)
+
+  same_length : (j long other : ℕ) → IsFirstLong seen disks j long → IsFirstLong seen disks j other → long ≡ other
+  same_length j long other is also =
+      let (d, get, size) = is.0 in
+      let (e, at, count) = also.0 in
+      let same : d ≡ e = some_is d e (sym get ∙ at) in
+      sym size ∙ ap (λ (x : D). length (seen x)) same ∙ count
+
+  pub long_told : (s : Status) (j long : ℕ) → IsFirstLong seen disks j long → OpensBad s → ((k other : ℕ) → s ≡ status.NotEmpty k other → IsFirstLong seen disks k other) →
+      Member s (status.NotEmpty j long ∷ status.ReadFault ∷ status.NoMemory ∷ []) ⊎ ((i : ℕ) × (s ≡ status.DiskFault i))
+  long_told (status.NotEmpty k other) j long is bad cause =
+      let also = cause k other refl in
+      let place : j ≡ k = same_place j long k other is also in
+      let size : long ≡ other = same_length k long other (subst (λ (i : ℕ). IsFirstLong seen disks i long) place is) also in
+      inl (inl (ap (λ (i : ℕ). status.NotEmpty i long) place ∙ ap (λ (n : ℕ). status.NotEmpty k n) size))
+  long_told (status.DiskFault i) j long is bad cause = inr (i, refl)
+  long_told status.Ok j long is bad cause = absurd bad
+  long_told status.NoMemory j long is bad cause = absurd bad
+  long_told status.Usage j long is bad cause = absurd bad
+  long_told (status.BadText at why) j long is bad cause = absurd bad
+  long_told status.ReadFault j long is bad cause = absurd bad
+  long_told status.WriteFault j long is bad cause = absurd bad
+  long_told (status.BadLog fault) j long is bad cause = absurd bad
+  long_told status.TooLong j long is bad cause = absurd bad
+
+  pub none_is_long : (tells : Type 0) (n j long : ℕ) → tells → AreEmpty tells seen disks n → j < n → IsFirstLong seen disks j long → ⊥
+  none_is_long tells n j long told empty lt is = let (d, get, size) = is.0 in long_there j long is d get (empty j d lt get told)
+
+-- without a cause to end otherwise, a run ends well
+pub ends_well : (s : Status) → ends_run s ≡ true → (s ≡ status.WriteFault → ⊥) → ((j : ℕ) → s ≡ status.DiskFault j → ⊥) → ((j long : ℕ) → s ≡ status.NotEmpty j long → ⊥) →
+    Member s (status.Ok ∷ status.NoMemory ∷ [])
+ends_well status.Ok kind sink disk empty = inl refl
+ends_well status.NoMemory kind sink disk empty = inr (inl refl)
+ends_well status.WriteFault kind sink disk empty = absurd (sink refl)
+ends_well (status.DiskFault j) kind sink disk empty = absurd (disk j refl)
+ends_well (status.NotEmpty j long) kind sink disk empty = absurd (empty j long refl)
+ends_well status.Usage kind sink disk empty = absurd (cc)
+ends_well (status.BadText at why) kind sink disk empty = absurd (cc)
+ends_well status.ReadFault kind sink disk empty = absurd (cc)
+ends_well (status.BadLog fault) kind sink disk empty = absurd (cc)
+ends_well status.TooLong kind sink disk empty = absurd (cc)

@@ -1,0 +1,12 @@
+pub mod Words
+pub mod Workload
+pub mod Report
+pub mod Run
+pub mod Puts
+pub mod Source
+pub mod Number
+pub mod Loads
+pub mod Held
+pub mod Outside
+pub mod Facts
+pub mod Runs

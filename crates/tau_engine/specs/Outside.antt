@@ -1,0 +1,83 @@
+-- What is said of the source, the sink and the disks of a call.
+use Rattle.std.specs.Prelude.{ℕ, ◌+◌, ◌<◌, ◌≤◌, Bool, true, false, ◌≡◌, ◌⊎◌, List, [], ◌++◌, length, slice_get, Option, Some, None}
+use Rattle.tau_disk.specs.Disk.{Rose, Passes}
+use Rattle.tau_engine.specs.declared.status.Status.{Status}
+use Rattle.tau_engine.specs.declared.status.Status.TheVariants as status
+
+-- the relation holds of the disk of this stream as it was and as it is
+abbrev pub OfDisk : {D : Type 0} → (D → D → Type 0) → List D → List D → ℕ → Type 0
+OfDisk {D} R old new j = (d : D) × (e : D) × (slice_get old j ≡ Some d) × (slice_get new j ≡ Some e) × R d e
+
+-- the relation holds of each of the first n disks as it was and as it is
+abbrev pub EachUsed : {D : Type 0} → (D → D → Type 0) → List D → List D → ℕ → Type 0
+EachUsed {D} R old new n = (j : ℕ) (d : D) → j < n → slice_get old j ≡ Some d → (e : D) × (slice_get new j ≡ Some e) × R d e
+
+-- the disk's count rose in this call
+abbrev pub RoseAt : {D : Type 0} → (D → ℕ) → List D → List D → ℕ → Type 0
+RoseAt faults old new j = OfDisk (λ d e. Rose (faults d) (faults e)) old new j
+
+-- the used disks begin without a byte
+abbrev pub AreEmpty : {D : Type 0} → Type 0 → (D → List ℕ) → List D → ℕ → Type 0
+AreEmpty {D} tells seen old n = (j : ℕ) (d : D) → j < n → slice_get old j ≡ Some d → tells → seen d ≡ []
+
+-- this is the first used disk that is not empty, and its length
+abbrev pub IsFirstLong : {D : Type 0} → (D → List ℕ) → List D → ℕ → ℕ → Type 0
+IsFirstLong {D} seen old j long = ((d : D) × (slice_get old j ≡ Some d) × (length (seen d) ≡ long)) × (0 < long)
+    × ((i : ℕ) (d : D) → i < j → slice_get old i ≡ Some d → seen d ≡ [])
+
+-- the disk was at most read
+pub record OnlyRead {D : Type 0} (tells : Type 0) (seen : D → List ℕ) (may_leave : D → List ℕ → Type 0) (moment : D → ℕ) (since : D → ℕ → List ℕ → Type 0) (d e : D) : Type 0 where
+  pub same : tells → seen e ≡ seen d
+  pub no_more : (x : List ℕ) → may_leave e x → may_leave d x
+  pub no_less : (x : List ℕ) → may_leave d x → may_leave e x
+  pub moments : Passes moment since d e (may_leave d)
+
+-- the disk has had one call
+abbrev pub OneCall : {D : Type 0} → Type 0 → (D → ℕ) → (D → Bool) → D → D → Type 0
+OneCall tells number short d e = tells → short e ≡ false → number e ≡ number d + 1
+
+-- a sink that tells has this behind what it held
+abbrev pub Wrote : Type 0 → List ℕ → List ℕ → List ℕ → Type 0
+Wrote tells old new text = tells → new ≡ old ++ text
+
+-- the answer comes only once a text was read that is one
+abbrev pub is_behind_text : Status → Bool
+is_behind_text status.Ok = true
+is_behind_text status.WriteFault = true
+is_behind_text (status.DiskFault j) = true
+is_behind_text (status.BadLog fault) = true
+is_behind_text (status.NotEmpty j long) = true
+is_behind_text _ = false
+
+-- the answer comes only once the source was read to its end
+abbrev pub is_behind_end : Status → Bool
+is_behind_end (status.BadText at cause) = true
+is_behind_end other = is_behind_text other
+
+-- with this answer no disk was touched
+abbrev pub is_before_disks : Status → Bool
+is_before_disks status.Usage = true
+is_before_disks (status.BadText at cause) = true
+is_before_disks status.ReadFault = true
+is_before_disks status.TooLong = true
+is_before_disks _ = false
+
+-- a run that was begun may end so
+abbrev pub ends_run : Status → Bool
+ends_run status.Ok = true
+ends_run status.NoMemory = true
+ends_run status.WriteFault = true
+ends_run (status.DiskFault j) = true
+ends_run (status.NotEmpty j long) = true
+ends_run _ = false
+
+-- a call may end so before its run
+abbrev pub ends_reading : Status → Bool
+ends_reading status.NoMemory = true
+ends_reading other = is_before_disks other
+
+-- the opening ended so, or memory was wanting
+abbrev pub OpensBad : Status → Type 0
+OpensBad (status.NotEmpty j long) = Unit {0}
+OpensBad (status.DiskFault j) = Unit {0}
+OpensBad _ = ⊥

@@ -1,0 +1,130 @@
+//! The top call.
+ghost use Rattle.std.specs.Prelude.{◌≡◌, ◌<◌, ◌≤◌, ◌⊎◌, ◌++◌, ◌+◌, List, ℕ, [], ◌∷◌, length, drop, map, true, false, Some, None, vec_len, string_bytes};
+ghost use Rattle.tau_base.specs.declared.value.LogMode.{LogMode};
+ghost use Rattle.tau_disk.specs.Disk.{Rose};
+ghost use Rattle.tau_model.specs.History.{Member};
+ghost use Rattle.tau_engine.specs.declared.command.Command.{Command};
+ghost use Rattle.tau_engine.specs.declared.status.TextCause.{TextCause};
+ghost use Rattle.tau_engine.specs.declared.status.TextFault.{TextFault};
+ghost use Rattle.tau_engine.specs.declared.status.LogFault.{LogFault};
+ghost use Rattle.tau_engine.specs.Words.{command_of, used_by, reads_source};
+ghost use Rattle.tau_engine.specs.Workload.{Load, HasWorkload, HasFault};
+ghost use Rattle.tau_engine.specs.Loads.{load_of, IsWithin};
+ghost use Rattle.tau_engine.specs.Facts.{RunFacts, Holds};
+ghost use Rattle.tau_engine.specs.Outside.{RoseAt, AreEmpty, IsFirstLong, Wrote, OpensBad, is_behind_text, is_behind_end, is_before_disks, ends_run};
+
+use crate::command::Command;
+use crate::disks::{put_first, take_first};
+use crate::reading::read_source;
+use crate::status::Status;
+use crate::streams::run_two;
+use crate::words::read_words;
+use crate::workload::Workload;
+use std::alloc::Global;
+use std::sync::Wait;
+use std::thread::Threads;
+use tau_base::MAX_WORKLOAD;
+use tau_disk::{Disk, Gate, Sink, Source};
+
+/// Runs the workload on the first two disks.
+fn run<D: Disk, K: Sink>(
+    alloc: Global,
+    load: &Workload,
+    sink: &mut K,
+    disks: &mut Vec<D>,
+) -> Status
+    requires disks { vec_len disks.old ≡ 16 }
+    requires within { IsWithin load.now }
+
+    ensures count { vec_len disks.new ≡ 16 }
+    ensures ran { result ≡ Status.Ok → RunFacts 2 1 (load_of load.now) (Holds D.tells D.may_leave 2 disks.new.items) (Wrote K.tells (K.held sink.old) (K.held sink.new)) }
+    ensures not_empty { (j long : ℕ) → result ≡ Status.NotEmpty j long → (j < 2) × (D.tells → IsFirstLong D.seen disks.old.items j long) }
+    ensures was_empty { D.tells → ((j long : ℕ) → j < 2 → IsFirstLong D.seen disks.old.items j long → ⊥) ⊎ OpensBad result }
+    ensures disk_fault { (j : ℕ) → result ≡ Status.DiskFault j → (j < 2) × RoseAt D.faults disks.old.items disks.new.items j }
+    ensures write_fault { result ≡ Status.WriteFault → Rose (K.faults sink.old) (K.faults sink.new) }
+    ensures kind { ends_run result ≡ true }
+    ensures untouched { drop 2 disks.new.items ≡ drop 2 disks.old.items }
+{
+    let first = take_first(disks);
+    let second = take_first(disks);
+    let (first, second, status) = run_two(alloc, load, sink, first, second);
+    put_first(disks, second);
+    put_first(disks, first);
+    status
+}
+
+/// Does what the words say, and answers how it ended. The words are those behind the program's name. A run uses the
+/// first disks, which hold nothing before it; all disks stand in their places again, whatever the answer.
+pub fn taurus<
+    R: Threads + Wait + Sync,
+    S: Source,
+    K: Sink + Send,
+    D: Disk + Send,
+    G: Gate + Sync,
+>(
+    rt: &R,
+    alloc: Global,
+    words: &[String],
+    source: &mut S,
+    sink: &mut K,
+    disks: &mut Vec<D>,
+    gate: &G,
+) -> Status
+    requires { vec_len disks.old ≡ 16 }
+
+    // The disks stand in their places again.
+    ensures count { vec_len disks.new ≡ 16 }
+
+    // Each status has its cause, and none comes where an earlier one applies.
+    ensures usage { result ≡ Status.Usage → command_of (map string_bytes words.now) ≡ None }
+    ensures usage_told { command_of (map string_bytes words.now) ≡ None → Member result (Status.Usage ∷ Status.NoMemory ∷ []) }
+    ensures read_fault { result ≡ Status.ReadFault → (reads_source (command_of (map string_bytes words.now)) ≡ true) × Rose (S.faults source.old) (S.faults source.new) }
+    ensures too_long { result ≡ Status.TooLong → (reads_source (command_of (map string_bytes words.now)) ≡ true) × (S.tells → MAX_WORKLOAD < length (S.left source.old)) }
+    ensures too_long_told { reads_source (command_of (map string_bytes words.now)) ≡ true → S.tells → MAX_WORKLOAD < length (S.left source.old) →
+        Member result (Status.TooLong ∷ Status.ReadFault ∷ Status.NoMemory ∷ []) }
+    ensures bad_text { (line : ℕ) (cause : TextCause) → result ≡ Status.BadText line cause →
+        (reads_source (command_of (map string_bytes words.now)) ≡ true) × (S.tells → HasFault (S.left source.old) (record { line = line; cause = cause })) }
+    ensures bad_text_told { reads_source (command_of (map string_bytes words.now)) ≡ true → S.tells → (fault : TextFault) → HasFault (S.left source.old) fault →
+        Member result (Status.BadText fault.line fault.cause ∷ Status.ReadFault ∷ Status.NoMemory ∷ []) }
+    ensures behind_text { is_behind_text result ≡ true → reads_source (command_of (map string_bytes words.now)) ≡ true → S.tells →
+        (load : Load) × HasWorkload (S.left source.old) load }
+    ensures disk_fault { (j : ℕ) → result ≡ Status.DiskFault j → (j < used_by (command_of (map string_bytes words.now))) × RoseAt D.faults disks.old.items disks.new.items j }
+    ensures not_empty { (j long : ℕ) → result ≡ Status.NotEmpty j long → (n m : ℕ) × (mode : LogMode) × (command_of (map string_bytes words.now) ≡ Some (Command.Run n m mode))
+        × (j < n) × (D.tells → IsFirstLong D.seen disks.old.items j long) }
+    ensures not_empty_told { (n m : ℕ) (mode : LogMode) (j long : ℕ) → command_of (map string_bytes words.now) ≡ Some (Command.Run n m mode) →
+        S.tells → (load : Load) → HasWorkload (S.left source.old) load → D.tells → j < n → IsFirstLong D.seen disks.old.items j long →
+        Member result (Status.NotEmpty j long ∷ Status.ReadFault ∷ Status.NoMemory ∷ []) ⊎ ((i : ℕ) × (result ≡ Status.DiskFault i)) }
+    ensures bad_log { (fault : LogFault) → result ≡ Status.BadLog fault → ⊥ }
+    ensures write_fault { result ≡ Status.WriteFault → Rose (K.faults sink.old) (K.faults sink.new) }
+
+    // What is read of the source.
+    ensures source { S.tells → (k : ℕ) × (k ≤ MAX_WORKLOAD + 1) × (S.left source.new ≡ drop k (S.left source.old)) }
+    ensures source_end { S.tells → is_behind_end result ≡ true → reads_source (command_of (map string_bytes words.now)) ≡ true → S.left source.new ≡ [] }
+    ensures source_unread { S.tells → reads_source (command_of (map string_bytes words.now)) ≡ false → S.left source.new ≡ S.left source.old }
+
+    // A run that went well has one history, of which its report is, and its disks hold it.
+    ensures run { (n m : ℕ) (mode : LogMode) (load : Load) → command_of (map string_bytes words.now) ≡ Some (Command.Run n m mode) →
+        S.tells → HasWorkload (S.left source.old) load → result ≡ Status.Ok →
+        RunFacts n m load (Holds D.tells D.may_leave n disks.new.items) (Wrote K.tells (K.held sink.old) (K.held sink.new)) }
+
+    // What is not touched.
+    ensures untouched { drop (used_by (command_of (map string_bytes words.now))) disks.new.items ≡ drop (used_by (command_of (map string_bytes words.now))) disks.old.items }
+    ensures before_disks { is_before_disks result ≡ true → disks.new.items ≡ disks.old.items }
+
+    // Where nothing is amiss, the work is done.
+    ensures run_done { (n m : ℕ) (mode : LogMode) (load : Load) → command_of (map string_bytes words.now) ≡ Some (Command.Run n m mode) →
+        S.tells → D.tells → HasWorkload (S.left source.old) load → AreEmpty D.tells D.seen disks.old.items n →
+        (Rose (S.faults source.old) (S.faults source.new) → ⊥) → (Rose (K.faults sink.old) (K.faults sink.new) → ⊥) → ((j : ℕ) → j < n → RoseAt D.faults disks.old.items disks.new.items j → ⊥) →
+        Member result (Status.Ok ∷ Status.NoMemory ∷ []) }
+{
+    let _ = rt;
+    let _ = gate;
+    let Some(command) = read_words(words) else {
+        return Status::Usage;
+    };
+    let Command::Run { n: _, m: _, mode: _ } = command;
+    match read_source(alloc, source) {
+        Err(status) => status,
+        Ok(load) => run(alloc, &load, sink, disks),
+    }
+}
