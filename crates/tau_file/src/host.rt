@@ -1,5 +1,5 @@
 // A file of the system as a disk.
-ghost use Rattle.std.specs.Prelude.{◌≡◌, [], false};
+ghost use Rattle.std.specs.Prelude.{◌≡◌, ◌≤◌, [], false};
 ghost use Rattle.tau_disk.specs.Disk.{Rose};
 
 use std::alloc::Global;
@@ -54,7 +54,8 @@ impl<R: Files + Drop> HostFile<R> {
 
     // Counts a failed call.
     fn fail(&mut self) -> Failed
-        ensures { Rose self.old.faults self.new.faults }
+        ensures rose { Rose self.old.faults self.new.faults }
+        ensures later { self.old.faults ≤ self.new.faults }
     {
         self.faults = self.faults.saturating_add(1);
         Failed
