@@ -34,9 +34,9 @@ each [] vectors k s c m = absurd m
 each (p ∷ ps) vectors k s c m = ⊎_elim
     (λ e. subst (IsOf (map call_of (p ∷ ps)) k) e (record { n = 0; number = omega arith; call = refl; home = refl; width = refl }))
     (λ rest.
-        let later : IsOf (map call_of ps) (k + 1) c = each ps _ _ _ c rest in
-        let number : c.number ≡ k + suc later.n = omega (arith, later.number) in
-        record { n = suc later.n; number = number; call = later.call; home = later.home; width = later.width })
+    let later : IsOf (map call_of ps) (k + 1) c = each ps _ _ _ c rest in
+    let number : c.number ≡ k + suc later.n = omega (arith, later.number) in
+    record { n = suc later.n; number = number; call = later.call; home = later.home; width = later.width })
     m
 
 numbers_above : (puts : List Put) (vectors : Key → ℕ) (k s j : ℕ) → Member j (map (λ (c : Committed). c.number) (committed vectors k s puts)) → k ≤ j
@@ -112,7 +112,7 @@ listed (p ∷ ps) vectors k s e0 e1 low =
     let past : ℕ = s + length (record_bytes k (vectors p.key) p) in
     let covers = covered (vectors p.key) s e1 (low p.key) in
     rw covers (ap (λ (rest : List Committed). placed k s (vectors p.key) p ∷ rest)
-        (listed ps (with_end p.key past vectors) (k + 1) past e0 e1 (below_more p.key past s vectors (omega arith) low)))
+    (listed ps (with_end p.key past vectors) (k + 1) past e0 e1 (below_more p.key past s vectors (omega arith) low)))
 
 mapped : {A B : Type 0} (f : A → B) (xs : List A) (b : B) → Member b (map f xs) → (a : A) × Member a xs × (f a ≡ b)
 mapped f [] b m = absurd m
@@ -143,7 +143,7 @@ order_of puts e0 e1 s =
     let place : Committed → Place = λ c. c.place in
     let shown : Left Committed = record { readers = []; streams = calls ∷ [] ∷ [] } in
     let same : shown ≡ left_of place (λ c. c.logs) (λ c. c.number) 2 calls =
-        rw (no_readers puts no_ends 1 s, in_first puts no_ends 1 s, none_in_second puts no_ends 1 s, in_order puts no_ends 1 s) refl in
+    rw (no_readers puts no_ends 1 s, in_first puts no_ends 1 s, none_in_second puts no_ends 1 s, in_order puts no_ends 1 s) refl in
     let first : calls ≡ reported_within place (length puts) (e0 ∷ e1 ∷ []) shown = sym (listed puts no_ends 1 s e0 e1 (λ k. omega arith)) in
     let P : ℕ → Type 0 = λ n. calls ≡ reported_within place n (e0 ∷ e1 ∷ []) shown in
     let Q : Left Committed → Type 0 = λ l. calls ≡ reported_within place (length calls) (e0 ∷ e1 ∷ []) l in
@@ -222,6 +222,6 @@ all_none load puts catalogue same =
     let run : Run = run_of catalogue puts in
     let f : ℕ → Fate = λ k. fate (reply_in (k + 1) (trace (means load.procs) run.calls empty_db)) (has_ack run (k + 1)) in
     let one : (k : ℕ) → k < length puts → f k ≡ Acked (reply.Ok Absent) = λ k lt.
-        let high : k + 1 < 1 + length puts = omega (arith, lt) in
-        rw (reply_among load.procs puts no_ends 1 s (k + 1) empty_db (omega arith) high, has_among puts no_ends 1 s (k + 1) (omega arith) high) refl in
+    let high : k + 1 < 1 + length puts = omega (arith, lt) in
+    rw (reply_among load.procs puts no_ends 1 s (k + 1) empty_db (omega arith) high, has_among puts no_ends 1 s (k + 1) (omega arith) high) refl in
     rw count (map_below f (Acked (reply.Ok Absent)) (length puts) one)

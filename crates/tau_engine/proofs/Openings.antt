@@ -58,6 +58,7 @@ none_long {D} seen d0 d1 all rest was first second j long lt is = at j lt (subst
         let long_is : length (seen d) ≡ long = subst (λ (x : D). length (seen x) ≡ long) (sym (some_is d e same)) size in
         let nothing : length (seen d) ≡ 0 = ap (λ (xs : List ℕ). length xs) none in
         omega (arith, long_is, nothing, some)
+
     at : (j : ℕ) → j < 2 → IsFirstLong seen (d0 ∷ d1 ∷ rest) j long → ⊥
     at zero lt ((d, get, size), some, lower) = empty d0 d get first size some
     at (suc zero) lt ((d, get, size), some, lower) = empty d1 d get second size some

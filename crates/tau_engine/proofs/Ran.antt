@@ -23,7 +23,7 @@ pub log_has : (n j : ℕ) (image : List ℕ) (gate_at : ℕ) (content : List ℕ
 log_has n j image gate_at content log =
     let lt : gate_at < length image = log.within in
     let split : take gate_at image ++ slice_index image gate_at ∷ drop (suc gate_at) image ≡ image =
-        ap (λ (xs : List ℕ). take gate_at image ++ xs) (sym (drop-cons image gate_at 0 lt)) ∙ take-append-drop gate_at image in
+    ap (λ (xs : List ℕ). take gate_at image ++ xs) (sym (drop-cons image gate_at 0 lt)) ∙ take-append-drop gate_at image in
     subst (λ (xs : List ℕ). content_of n j xs ≡ Some content) split (log.front.closed (slice_index image gate_at) (drop (suc gate_at) image) log.shut)
 
 pub settled_has : (n j : ℕ) (file : List ℕ) (may_leave : List ℕ → Type 0) (gate_at : ℕ) (content : List ℕ) → IsSettled n j file may_leave gate_at content →

@@ -19,7 +19,10 @@ mod words;
 mod workload;
 
 pub use command::Command;
-pub use top::taurus;
 pub use status::{
     ImageFault, LogCause, LogFault, RecordCause, RecordFault, Status, TextCause, TextFault,
 };
+pub use top::taurus;
+
+#[cfg(test)]
+mod tests;

@@ -57,12 +57,7 @@ fn name_of(tables: &[Name], table: u16) -> &str
 }
 
 // Adds the line of a row.
-fn add_row(
-    text: &mut String,
-    tables: &[Name],
-    key: Key,
-    value: &Value,
-) -> Result<(), AllocError>
+fn add_row(text: &mut String, tables: &[Name], key: Key, value: &Value) -> Result<(), AllocError>
     ensures { OnOk result (string_bytes text.new ≡ string_bytes text.old ++ row_line tables.now (key, value.now)) }
 {
     let name = name_of(tables, key.table);
@@ -102,11 +97,7 @@ fn add_orders(text: &mut String, count: u64) -> Result<(), AllocError>
 }
 
 // Adds a line for each row.
-fn add_rows(
-    text: &mut String,
-    tables: &[Name],
-    rows: &[(Key, Value)],
-) -> Result<(), AllocError>
+fn add_rows(text: &mut String, tables: &[Name], rows: &[(Key, Value)]) -> Result<(), AllocError>
     ensures { OnOk result (string_bytes text.new ≡ string_bytes text.old ++ row_lines tables.now rows.now) }
 {
     for row in rows {

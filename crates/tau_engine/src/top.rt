@@ -27,12 +27,7 @@ use tau_base::MAX_WORKLOAD;
 use tau_disk::{Disk, Gate, Sink, Source};
 
 /// Runs the workload on the first two disks.
-fn run<D: Disk, K: Sink>(
-    alloc: Global,
-    load: &Workload,
-    sink: &mut K,
-    disks: &mut Vec<D>,
-) -> Status
+fn run<D: Disk, K: Sink>(alloc: Global, load: &Workload, sink: &mut K, disks: &mut Vec<D>) -> Status
     requires disks { vec_len disks.old ≡ 16 }
     requires within { IsWithin load.now }
 
@@ -55,13 +50,7 @@ fn run<D: Disk, K: Sink>(
 
 /// Does what the words say, and answers how it ended. The words are those behind the program's name. A run uses the
 /// first disks, which hold nothing before it; all disks stand in their places again, whatever the answer.
-pub fn taurus<
-    R: Threads + Wait + Sync,
-    S: Source,
-    K: Sink + Send,
-    D: Disk + Send,
-    G: Gate + Sync,
->(
+pub fn taurus<R: Threads + Wait + Sync, S: Source, K: Sink + Send, D: Disk + Send, G: Gate + Sync>(
     rt: &R,
     alloc: Global,
     words: &[String],
@@ -122,7 +111,11 @@ pub fn taurus<
     let Some(command) = read_words(words) else {
         return Status::Usage;
     };
-    let Command::Run { n: _, m: _, mode: _ } = command;
+    let Command::Run {
+        n: _,
+        m: _,
+        mode: _,
+    } = command;
     match read_source(alloc, source) {
         Err(status) => status,
         Ok(load) => run(alloc, &load, sink, disks),

@@ -50,6 +50,6 @@ returns-in-Ok-flush-clause-done g c tells n j content ready =
     let kept : left_of c.prepare.new.self ≡ bytes = c.in-Ok-prepare.ensures.left ∙ body in
     let count : c.gathered-past.result - durable_of c.prepare.new.self ≡ length bytes = omega (arith, c.gathered-past.ensures, size, c.in-Ok-prepare.ensures.durable) in
     let part : part_upto c.prepare.new.self c.gathered-past.result ≡ bytes =
-        ap (λ (k : ℕ). take k (left_of c.prepare.new.self)) count ∙ ap (λ (xs : List ℕ). take (length bytes) xs) kept ∙ take-length bytes in
+    ap (λ (k : ℕ). take k (left_of c.prepare.new.self)) count ∙ ap (λ (xs : List ℕ). take (length bytes) xs) kept ∙ take-length bytes in
     let before = c.in-Ok-prepare.ensures.ready n j content (c.in-Ok-add.ensures.ready n j content ready) in
     subst (λ (xs : List ℕ). IsReady n j c.flush.new.self (content ++ xs)) part (c.in-Ok-flush.ensures.done tells n j content before)

@@ -58,7 +58,7 @@ loop-put-preserved g c =
     let more : committed before k s (drop i puts) ≡ placed k s end p ∷ committed after (k + 1) past rest = committed_more (drop i puts) rest p before after k s end past split end_is past_is after_is in
     let records : logged before k s (drop i puts) ≡ record_bytes k end p ++ logged after (k + 1) past rest = logged_more (drop i puts) rest p before after k s end past split end_is past_is after_is in
     let acked : ack_lines (acks_of (committed before k s (drop i puts))) ≡ ack_line (k, past ∷ 0 ∷ []) ++ ack_lines (acks_of (committed after (k + 1) past rest)) =
-        ap (λ (cs : List Committed). ack_lines (acks_of cs)) more ∙ ap (λ (q : ℕ). ack_line (k, q ∷ 0 ∷ []) ++ ack_lines (acks_of (committed after (k + 1) past rest))) (sym past_is) in
+    ap (λ (cs : List Committed). ack_lines (acks_of cs)) more ∙ ap (λ (q : ℕ). ack_line (k, q ∷ 0 ∷ []) ++ ack_lines (acks_of (committed after (k + 1) past rest))) (sym past_is) in
     let numbers = rw (to_z-of_z w64 p.number fits) at c.in-Ok-put.ensures.numbers in
     record {
       number = omega (arith, c.loop-put.invariant.number);
@@ -83,5 +83,5 @@ returns-clause-stored g c tells n j content ready =
     let (now, is, same) = c.loop-put.invariant.stored tells n j content ready in
     let none : drop c.loop-put.put-index c.args.puts.now ≡ [] = drop_all c.loop-put.put-index c.args.puts.now (omega arith) in
     let whole : content ++ logged no_ends 1 (durable_of c.args.log.now) c.args.puts.now ≡ now =
-        same ∙ ap (λ (ps : List Put). now ++ logged (ends_of (get key_cmp c.loop-put.rows.map)) c.loop-put.number (durable_of c.loop-put.log) ps) none ∙ append-nil now in
+    same ∙ ap (λ (ps : List Put). now ++ logged (ends_of (get key_cmp c.loop-put.rows.map)) c.loop-put.number (durable_of c.loop-put.log) ps) none ∙ append-nil now in
     subst (λ (xs : List ℕ). IsReady n j c.loop-put.log xs) (sym whole) is

@@ -18,21 +18,21 @@ pub returns-in-Err-create-clause-disk_fault : goal.returns-in-Err-create-clause-
 returns-in-Err-create-clause-disk_fault g c j e =
     let told = c.status_of.ensures.failed j e in
     rose_first g.D.Disk.faults c.args.first c.args.second c.in-Err-create.first c.ask_lengths.new.second j told.1
-        (rose_on _ _ _ _ c.ask_lengths.ensures.faults (c.in-Err-create.ensures.failed told.0) (omega arith))
+    (rose_on _ _ _ _ c.ask_lengths.ensures.faults (c.in-Err-create.ensures.failed told.0) (omega arith))
 
 pub returns-in-Err-create-2-clause-disk_fault : goal.returns-in-Err-create-2-clause-disk_fault
 returns-in-Err-create-2-clause-disk_fault g c j e =
     let told = c.status_of-in-Err-create-2.ensures.failed j e in
     rose_second g.D.Disk.faults c.args.first c.args.second c.into_disk.result c.in-Err-create-2.second j told.1
-        (rose_on _ _ _ _ c.ask_lengths.ensures.faults_second (c.in-Err-create-2.ensures.failed told.0) (omega arith))
+    (rose_on _ _ _ _ c.ask_lengths.ensures.faults_second (c.in-Err-create-2.ensures.failed told.0) (omega arith))
 
 pub returns-clause-disk_fault : goal.returns-clause-disk_fault
 returns-clause-disk_fault g c j e =
     let told = c.run_on-status.ensures.disk j e in
     let first : g.D.Disk.faults c.args.first ≤ g.D.Disk.faults (disk_of c.in-Ok-create.log) = omega (arith, c.ask_lengths.ensures.faults, c.in-Ok-create.ensures.faults) in
     rose_first g.D.Disk.faults c.args.first c.args.second c.into_disk-2.result c.into_disk-3.result j told.0
-        (subst (λ (d : g.row.D.Denot). Rose (g.D.Disk.faults c.args.first) (g.D.Disk.faults d)) (sym c.into_disk-2.ensures)
-            (rose_on _ _ _ _ first told.1 (omega arith)))
+    (subst (λ (d : g.row.D.Denot). Rose (g.D.Disk.faults c.args.first) (g.D.Disk.faults d)) (sym c.into_disk-2.ensures)
+    (rose_on _ _ _ _ first told.1 (omega arith)))
 
 pub returns-clause-ran : goal.returns-clause-ran
 returns-clause-ran g c ok =
@@ -41,15 +41,15 @@ returns-clause-ran g c ok =
     let same : catalogue_record c.as_bytes-2.result.now ≡ catalogue = ap (λ (xs : List ℕ). catalogue_record xs) (c.as_bytes-2.ensures.value ∙ sym c.as_bytes.ensures.value) in
     let start : durable_of c.in-Ok-create.log ≡ length catalogue = c.in-Ok-create.ensures.durable in
     let told : IsTold c.args.load.now (length catalogue) (Wrote g.K.Sink.tells (g.K.Sink.held c.args.sink.now) (g.K.Sink.held c.run_on-status.new.sink)) =
-        subst (λ (s : ℕ). IsTold c.args.load.now s (Wrote g.K.Sink.tells (g.K.Sink.held c.args.sink.now) (g.K.Sink.held c.run_on-status.new.sink))) start (c.run_on-status.ensures.told ok) in
+    subst (λ (s : ℕ). IsTold c.args.load.now s (Wrote g.K.Sink.tells (g.K.Sink.held c.args.sink.now) (g.K.Sink.held c.run_on-status.new.sink))) start (c.run_on-status.ensures.told ok) in
     run_facts c.args.load.now catalogue (Holds g.D.Disk.tells g.D.Disk.may_leave 2 (c.into_disk-2.result ∷ c.into_disk-3.result ∷ []))
-        (Wrote g.K.Sink.tells (g.K.Sink.held c.args.sink.now) (g.K.Sink.held c.run_on-status.new.sink)) told
-        (λ tells d is x left.
-            let after : IsReady 2 0 c.run_on-status.new.log (catalogue ++ records (length catalogue)) =
-                subst (λ (s : ℕ). IsReady 2 0 c.run_on-status.new.log (catalogue ++ records s)) start (c.run_on-status.ensures.stored ok tells 2 0 catalogue (c.in-Ok-create.ensures.ready tells)) in
-            let it : d ≡ disk_of c.run_on-status.new.log = sym (some_is _ _ is) ∙ c.into_disk-2.ensures in
-            settled_has 2 0 _ _ _ _ after.settled x (subst (λ (e : g.row.D.Denot). g.D.Disk.may_leave e x) it left))
-        (λ tells d is x left.
-            let before : IsReady 2 1 c.in-Ok-create-2.other catalogue = subst (λ (xs : List ℕ). IsReady 2 1 c.in-Ok-create-2.other xs) same (c.in-Ok-create-2.ensures.ready tells) in
-            let it : d ≡ disk_of c.in-Ok-create-2.other = sym (some_is _ _ is) ∙ c.into_disk-3.ensures in
-            settled_has 2 1 _ _ _ _ before.settled x (subst (λ (e : g.row.D.Denot). g.D.Disk.may_leave e x) it left))
+    (Wrote g.K.Sink.tells (g.K.Sink.held c.args.sink.now) (g.K.Sink.held c.run_on-status.new.sink)) told
+    (λ tells d is x left.
+    let after : IsReady 2 0 c.run_on-status.new.log (catalogue ++ records (length catalogue)) =
+    subst (λ (s : ℕ). IsReady 2 0 c.run_on-status.new.log (catalogue ++ records s)) start (c.run_on-status.ensures.stored ok tells 2 0 catalogue (c.in-Ok-create.ensures.ready tells)) in
+    let it : d ≡ disk_of c.run_on-status.new.log = sym (some_is _ _ is) ∙ c.into_disk-2.ensures in
+    settled_has 2 0 _ _ _ _ after.settled x (subst (λ (e : g.row.D.Denot). g.D.Disk.may_leave e x) it left))
+    (λ tells d is x left.
+    let before : IsReady 2 1 c.in-Ok-create-2.other catalogue = subst (λ (xs : List ℕ). IsReady 2 1 c.in-Ok-create-2.other xs) same (c.in-Ok-create-2.ensures.ready tells) in
+    let it : d ≡ disk_of c.in-Ok-create-2.other = sym (some_is _ _ is) ∙ c.into_disk-3.ensures in
+    settled_has 2 1 _ _ _ _ before.settled x (subst (λ (e : g.row.D.Denot). g.D.Disk.may_leave e x) it left))

@@ -1,0 +1,267 @@
+//! Runs over memory forms.
+ghost use Rattle.std.specs.Prelude.{◌≡◌, IfOk, vec_len};
+
+use super::*;
+use std::alloc::Global;
+use std::sync::Wait;
+use std::test::*;
+use std::thread::Threads;
+use tau_disk::{MemDisk, MemSink, MemSource, Quiet, Tear};
+
+// Sixteen disks, of which these are the first two.
+fn disks_of(alloc: Global, first: MemDisk, second: MemDisk) -> Result<Vec<MemDisk>, Fail>
+    ensures { IfOk result (λ v. vec_len v ≡ 16) }
+{
+    let mut disks = Vec::new(alloc);
+    disks.push(first)?;
+    disks.push(second)?;
+    for _ in 0..14u64 {
+        disks.push(MemDisk::new(alloc, &[])?)?;
+    }
+    Ok(disks)
+}
+
+// Runs `run 2 1` over a text on these disks.
+fn run_text<R: Threads + Wait + Sync>(
+    rt: &R,
+    alloc: Global,
+    text: &[u8],
+    sink: &mut MemSink,
+    disks: &mut Vec<MemDisk>,
+) -> Result<Status, Fail>
+    requires { vec_len disks.old ≡ 16 }
+    ensures { vec_len disks.new ≡ 16 }
+{
+    let mut source = MemSource::new(alloc, text, &[])?;
+    let words = vec![in alloc;
+        String::from_str(alloc, "run")?,
+        String::from_str(alloc, "2")?,
+        String::from_str(alloc, "1")?,
+    ]?;
+    Ok(taurus(
+        rt,
+        alloc,
+        words.as_slice(),
+        &mut source,
+        sink,
+        disks,
+        &Quiet,
+    ))
+}
+
+// The number in these bytes, the highest first.
+fn number_in(bytes: &[u8]) -> u64 {
+    let mut number = 0u64;
+    for byte in bytes {
+        number = number.wrapping_mul(256).wrapping_add(u64::from(*byte));
+    }
+    number
+}
+
+#[test]
+fn empty_text(rt: HostRuntime) -> Result<(), Fail> {
+    let alloc = rt.alloc();
+    let mut disks = disks_of(alloc, MemDisk::new(alloc, &[])?, MemDisk::new(alloc, &[])?)?;
+    let mut sink = MemSink::new(alloc, &[])?;
+    let status = run_text(&rt, alloc, b"", &mut sink, &mut disks)?;
+    assert_eq!(rt; status, Status::Ok);
+    assert_eq!(rt; sink.bytes(), b"end 0\n".as_slice());
+    let first = disks[0].image(Tear::Old)?;
+    assert_eq!(rt;
+        first.as_slice(),
+        b"TAURUS-LOG-1\x00\x02\x00\x00\x01\x00\x00\x00\x05\x04\x00\x00\x00\x05\x00".as_slice()
+    );
+    let second = disks[1].image(Tear::Old)?;
+    assert_eq!(rt;
+        second.as_slice(),
+        b"TAURUS-LOG-1\x00\x02\x00\x01\x01\x00\x00\x00\x05\x04\x00\x00\x00\x05\x00".as_slice()
+    );
+    Ok(())
+}
+
+#[test]
+fn one_put(rt: HostRuntime) -> Result<(), Fail> {
+    let alloc = rt.alloc();
+    let mut disks = disks_of(alloc, MemDisk::new(alloc, &[])?, MemDisk::new(alloc, &[])?)?;
+    let mut sink = MemSink::new(alloc, &[])?;
+    let status = run_text(&rt, alloc, b"table a\nput a 1 5\n", &mut sink, &mut disks)?;
+    assert_eq!(rt; status, Status::Ok);
+    assert_eq!(rt;
+        sink.bytes(),
+        b"ack 1 53,0\nreply 1 none\norder 1\nrow a 1 int 5\nend 0\n".as_slice()
+    );
+    let first = disks[0].image(Tear::Old)?;
+    assert_eq!(rt;
+        first.as_slice(),
+        b"TAURUS-LOG-1\x00\x02\x00\x00\x01\x00\x00\x00\x0d\x04\x00\x00\x00\x0dtable a\n\x01\x00\x00\x00\x28\x01\x00\x00\x00\x28\x00\x00\x00\x00\x00\x00\x00\x01\x00\x00\x00\x00\x00\x00\x00\x01\x00\x00\x00\x00\x00\x00\x00\x00\x00\x01\x01\x00\x00\x00\x00\x00\x00\x00\x05\x00".as_slice()
+    );
+    let second = disks[1].image(Tear::Old)?;
+    assert_eq!(rt;
+        second.as_slice(),
+        b"TAURUS-LOG-1\x00\x02\x00\x01\x01\x00\x00\x00\x0d\x04\x00\x00\x00\x0dtable a\n\x00".as_slice()
+    );
+    assert_eq!(rt; disks[0].calls(), 11);
+    assert_eq!(rt; disks[1].calls(), 7);
+    Ok(())
+}
+
+#[test]
+fn two_puts_on_one_key(rt: HostRuntime) -> Result<(), Fail> {
+    let alloc = rt.alloc();
+    let mut disks = disks_of(alloc, MemDisk::new(alloc, &[])?, MemDisk::new(alloc, &[])?)?;
+    let mut sink = MemSink::new(alloc, &[])?;
+    let status = run_text(
+        &rt,
+        alloc,
+        b"table a\nput a 1 5\nput a 1 6",
+        &mut sink,
+        &mut disks,
+    )?;
+    assert_eq!(rt; status, Status::Ok);
+    assert_eq!(rt;
+        sink.bytes(),
+        b"ack 1 53,0\nack 2 101,0\nreply 1 none\nreply 2 none\norder 1\norder 2\nrow a 1 int 6\nend 0\n".as_slice()
+    );
+    let first = disks[0].image(Tear::Old)?;
+    assert_eq!(rt; first.len(), 133);
+    assert_eq!(rt;
+        first.get(84..132),
+        Some(
+            b"\x01\x00\x00\x00\x30\x00\x00\x00\x00\x00\x00\x00\x02\x00\x00\x00\x00\x00\x01\x00\x00\x00\x00\x00\x00\x00\x35\x00\x01\x00\x00\x00\x00\x00\x00\x00\x00\x00\x01\x01\x00\x00\x00\x00\x00\x00\x00\x06".as_slice()
+        )
+    );
+    Ok(())
+}
+
+#[test]
+fn thousand_puts(rt: HostRuntime) -> Result<(), Fail> {
+    let alloc = rt.alloc();
+    let mut disks = disks_of(alloc, MemDisk::new(alloc, &[])?, MemDisk::new(alloc, &[])?)?;
+    let mut sink = MemSink::new(alloc, &[])?;
+    let mut text = format!(in alloc; "table a\n")?;
+    for k in 0..1000u64 {
+        let number = 2 * k;
+        write!(text, "put a {k} {number}\n")?;
+    }
+    let status = run_text(&rt, alloc, text.as_bytes(), &mut sink, &mut disks)?;
+    assert_eq!(rt; status, Status::Ok);
+    let first = disks[0].image(Tear::Old)?;
+    assert_eq!(rt; first.len(), 45_035);
+    // Behind the catalogue's block each put has a gate, a length and 40 bytes: at 5 the call's number, at 23 its row, at 32
+    // its number.
+    for k in 0..1000usize {
+        let body = 34 + 45 * k + 5;
+        assert_eq!(rt;
+            first.get(body - 5..body),
+            Some(b"\x01\x00\x00\x00\x28".as_slice())
+        );
+        assert_eq!(rt;
+            first.get(body + 5..body + 13).map(|b| number_in(b)),
+            Some(k as u64 + 1)
+        );
+        assert_eq!(rt;
+            first.get(body + 23..body + 31).map(|b| number_in(b)),
+            Some(k as u64)
+        );
+        assert_eq!(rt;
+            first.get(body + 32..body + 40).map(|b| number_in(b)),
+            Some(2 * k as u64)
+        );
+    }
+    Ok(())
+}
+
+#[test]
+fn bad_texts(rt: HostRuntime) -> Result<(), Fail> {
+    let alloc = rt.alloc();
+    let mut disks = disks_of(alloc, MemDisk::new(alloc, &[])?, MemDisk::new(alloc, &[])?)?;
+    let mut sink = MemSink::new(alloc, &[])?;
+    let status = run_text(&rt, alloc, b"table a\nget a 1\n", &mut sink, &mut disks)?;
+    assert_eq!(rt; status.code(), 3);
+    let status = run_text(
+        &rt,
+        alloc,
+        b"table a\nput a 1 5\nput b 1 5\nput a 01 5\n",
+        &mut sink,
+        &mut disks,
+    )?;
+    assert_eq!(rt; status.code(), 3);
+    assert_eq!(rt; sink.bytes().len(), 0);
+    assert_eq!(rt; disks[0].calls(), 0);
+    Ok(())
+}
+
+#[test]
+fn used_and_failing_disks(rt: HostRuntime) -> Result<(), Fail> {
+    let alloc = rt.alloc();
+    let mut sink = MemSink::new(alloc, &[])?;
+    let used = MemDisk::of_image(
+        alloc,
+        b"TAURUS-LOG-1\x00\x02\x00\x01\x01\x00\x00\x00\x0d\x04\x00\x00\x00\x0dtable a\n\x00",
+    )?;
+    let mut disks = disks_of(alloc, MemDisk::new(alloc, &[])?, used)?;
+    let status = run_text(&rt, alloc, b"table a\n", &mut sink, &mut disks)?;
+    assert_eq!(rt;
+        status,
+        Status::NotEmpty {
+            stream: 1,
+            length: 35
+        }
+    );
+    assert_eq!(rt; disks[0].calls(), 1);
+    let mut disks = disks_of(alloc, MemDisk::new(alloc, &[1])?, MemDisk::new(alloc, &[])?)?;
+    let status = run_text(&rt, alloc, b"table a\n", &mut sink, &mut disks)?;
+    assert_eq!(rt; status, Status::DiskFault { stream: 0 });
+    assert_eq!(rt; disks[1].calls(), 0);
+    let mut disks = disks_of(alloc, MemDisk::new(alloc, &[])?, MemDisk::new(alloc, &[4])?)?;
+    let status = run_text(&rt, alloc, b"table a\n", &mut sink, &mut disks)?;
+    assert_eq!(rt; status, Status::DiskFault { stream: 1 });
+    assert_eq!(rt; sink.bytes().len(), 0);
+    Ok(())
+}
+
+#[test]
+fn failing_source_and_sink(rt: HostRuntime) -> Result<(), Fail> {
+    let alloc = rt.alloc();
+    let mut disks = disks_of(alloc, MemDisk::new(alloc, &[])?, MemDisk::new(alloc, &[])?)?;
+    let mut sink = MemSink::new(alloc, &[])?;
+    let mut source = MemSource::new(alloc, b"table a\n", &[1])?;
+    let words = vec![in alloc;
+        String::from_str(alloc, "run")?,
+        String::from_str(alloc, "2")?,
+        String::from_str(alloc, "1")?,
+    ]?;
+    let status = taurus(
+        &rt,
+        alloc,
+        words.as_slice(),
+        &mut source,
+        &mut sink,
+        &mut disks,
+        &Quiet,
+    );
+    assert_eq!(rt; status, Status::ReadFault);
+    let none: Vec<String> = Vec::new(alloc);
+    let status = taurus(
+        &rt,
+        alloc,
+        none.as_slice(),
+        &mut source,
+        &mut sink,
+        &mut disks,
+        &Quiet,
+    );
+    assert_eq!(rt; status, Status::Usage);
+    assert_eq!(rt; sink.bytes().len(), 0);
+    let mut failing = MemSink::new(alloc, &[1])?;
+    let status = run_text(
+        &rt,
+        alloc,
+        b"table a\nput a 1 5\n",
+        &mut failing,
+        &mut disks,
+    )?;
+    assert_eq!(rt; status, Status::WriteFault);
+    assert_eq!(rt; failing.bytes(), b"".as_slice());
+    Ok(())
+}
