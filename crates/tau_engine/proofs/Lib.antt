@@ -10,3 +10,4 @@ pub mod Steps
 pub mod Ran
 pub mod Openings
 pub mod Tops
+pub mod Refusals

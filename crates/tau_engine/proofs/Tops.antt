@@ -67,7 +67,7 @@ module _ {D : Type 0} (seen : D → List ℕ) (disks : List D) where
       inl (inl (ap (λ (i : ℕ). status.NotEmpty i long) place ∙ ap (λ (n : ℕ). status.NotEmpty k n) size))
   long_told (status.DiskFault i) j long is bad cause = inr (i, refl)
   long_told status.Ok j long is bad cause = absurd bad
-  long_told status.NoMemory j long is bad cause = absurd bad
+  long_told status.NoMemory j long is bad cause = inl (inr (inr (inl refl)))
   long_told status.Usage j long is bad cause = absurd bad
   long_told (status.BadText at why) j long is bad cause = absurd bad
   long_told status.ReadFault j long is bad cause = absurd bad

@@ -1,6 +1,10 @@
 -- What a run tells and leaves.
 use Rattle.std.specs.Prelude.{ℕ, ◌<◌, ◌≡◌, List, [], slice_index_or, slice_get, Some, None}
 use Rattle.tau_block.specs.Image.{HasContent}
+use Rattle.tau_engine.specs.declared.status.Status.{Status}
+use Rattle.tau_engine.specs.declared.status.Status.TheVariants as status
+use Rattle.tau_engine.specs.Fault.{fault_text, WroteFront}
+use Rattle.tau_engine.specs.Outside.{EachUsed, OpensBad}
 use Rattle.tau_engine.specs.Workload.{Load}
 use Rattle.tau_engine.specs.Run.{Run, IsHistory, IsReportOf, AllAcked}
 
@@ -18,3 +22,9 @@ pub record RunFacts (n m : ℕ) (load : Load) (holds : ℕ → List ℕ → Type
   pub report : IsReportOf load run None text
   pub told : wrote text
   pub stored : (j : ℕ) → j < n → holds j (slice_index_or run.contents j [])
+
+-- Disks that hold something are refused: they were at most read, and the line of the refusal was written.
+pub record IsRefused {D : Type 0} (only_read : D → D → Type 0) (wrote : List ℕ → Type 0) (sink_rose : Type 0) (old new : List D) (answer : Status) : Type 0 where
+  pub bad : OpensBad answer
+  pub read : EachUsed only_read old new 2
+  pub told : (answer ≡ status.NoMemory → ⊥) → WroteFront wrote sink_rose (fault_text answer)

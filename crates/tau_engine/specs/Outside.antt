@@ -76,8 +76,9 @@ abbrev pub ends_reading : Status → Bool
 ends_reading status.NoMemory = true
 ends_reading other = is_before_disks other
 
--- the opening ended so, or memory was wanting
+-- the opening may end so
 abbrev pub OpensBad : Status → Type 0
 OpensBad (status.NotEmpty j long) = Unit {0}
 OpensBad (status.DiskFault j) = Unit {0}
+OpensBad status.NoMemory = Unit {0}
 OpensBad _ = ⊥

@@ -3,6 +3,7 @@
 
 mod command;
 mod disks;
+mod fault;
 mod log;
 mod number;
 mod pieces;

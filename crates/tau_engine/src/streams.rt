@@ -5,13 +5,14 @@ ghost use Rattle.tau_block.specs.Image.{HasContent};
 ghost use Rattle.tau_disk.specs.Disk.{Rose, Only};
 ghost use Rattle.tau_stream.specs.Stream.{catalogue_record};
 ghost use Rattle.tau_stream.specs.Writer.{disk_of, durable_of, left_of, added_of, has_failed, IsReady};
-ghost use Rattle.tau_engine.specs.Outside.{RoseAt, IsFirstLong, OnlyRead, Wrote, ends_run, OpensBad};
+ghost use Rattle.tau_engine.specs.Outside.{RoseAt, EachUsed, IsFirstLong, OnlyRead, OneCall, Wrote, ends_run, OpensBad};
 ghost use Rattle.tau_engine.specs.Workload.{declarations_of};
 ghost use Rattle.tau_engine.specs.Loads.{load_of, IsWithin};
-ghost use Rattle.tau_engine.specs.Facts.{RunFacts, Holds};
+ghost use Rattle.tau_engine.specs.Facts.{RunFacts, Holds, IsRefused};
 ghost use Rattle.tau_engine.specs.Puts.{logged, no_ends};
 ghost use Rattle.tau_engine.specs.Runs.{IsTold};
 
+use crate::fault::refuse;
 use crate::report::{declarations, report_tail};
 use crate::run::{RunRefusal, run_puts};
 use crate::sink::write_all;
@@ -33,6 +34,9 @@ fn ask_lengths<D: Disk>(first: &mut D, second: &mut D) -> Result<(), Status>
     ensures disk_fault { (j : ℕ) → result ≡ Err (Status.DiskFault j) → (j < 2) × RoseAt D.faults (first.old ∷ second.old ∷ []) (first.new ∷ second.new ∷ []) j }
     ensures kind { IfErr result (λ status. ends_run status ≡ true) }
     ensures opening { IfErr result (λ status. OpensBad status) }
+    ensures read { OnlyRead D.tells D.seen D.may_leave D.moment D.may_leave_since first.old first.new }
+    ensures read_second { OnlyRead D.tells D.seen D.may_leave D.moment D.may_leave_since second.old second.new }
+    ensures once { (j long : ℕ) → result ≡ Err (Status.NotEmpty j long) → OneCall D.tells D.number D.short first.old first.new × OneCall D.tells D.number D.short second.old second.new }
     ensures faults { D.faults first.old ≤ D.faults first.new }
     ensures faults_second { D.faults second.old ≤ D.faults second.new }
 {
@@ -122,7 +126,11 @@ pub fn run_two<D: Disk, K: Sink>(
 
     ensures ran { result.2 ≡ Status.Ok → RunFacts 2 1 (load_of load.now) (Holds D.tells D.may_leave 2 (result.0 ∷ result.1 ∷ [])) (Wrote K.tells (K.held sink.old) (K.held sink.new)) }
     ensures not_empty { (j long : ℕ) → result.2 ≡ Status.NotEmpty j long → (j < 2) × (D.tells → IsFirstLong D.seen (first ∷ second ∷ []) j long) }
-    ensures was_empty { D.tells → ((D.seen first ≡ []) × (D.seen second ≡ [])) ⊎ OpensBad result.2 }
+    ensures was_empty { D.tells → ((D.seen first ≡ []) × (D.seen second ≡ [])) ⊎ IsRefused (OnlyRead D.tells D.seen D.may_leave D.moment D.may_leave_since)
+        (Wrote K.tells (K.held sink.old) (K.held sink.new)) (Rose (K.faults sink.old) (K.faults sink.new)) (first ∷ second ∷ []) (result.0 ∷ result.1 ∷ []) result.2 }
+    ensures asked { (j long : ℕ) → result.2 ≡ Status.NotEmpty j long → IsRefused (OnlyRead D.tells D.seen D.may_leave D.moment D.may_leave_since)
+        (Wrote K.tells (K.held sink.old) (K.held sink.new)) (Rose (K.faults sink.old) (K.faults sink.new)) (first ∷ second ∷ []) (result.0 ∷ result.1 ∷ []) result.2 }
+    ensures asked_once { (j long : ℕ) → result.2 ≡ Status.NotEmpty j long → EachUsed (OneCall D.tells D.number D.short) (first ∷ second ∷ []) (result.0 ∷ result.1 ∷ []) 2 }
     ensures disk_fault { (j : ℕ) → result.2 ≡ Status.DiskFault j → (j < 2) × RoseAt D.faults (first ∷ second ∷ []) (result.0 ∷ result.1 ∷ []) j }
     ensures write_fault { result.2 ≡ Status.WriteFault → Rose (K.faults sink.old) (K.faults sink.new) }
     ensures kind { ends_run result.2 ≡ true }
@@ -130,7 +138,8 @@ pub fn run_two<D: Disk, K: Sink>(
 {
     let mut first = first;
     let mut second = second;
-    if let Err(status) = ask_lengths(&mut first, &mut second) {
+    if let Err(refusal) = ask_lengths(&mut first, &mut second) {
+        let status = refuse(alloc, sink, refusal);
         return (first, second, status);
     }
     let Ok(catalogue) = declarations(alloc, &load.tables) else {
@@ -138,11 +147,17 @@ pub fn run_two<D: Disk, K: Sink>(
     };
     let mut log = match Writer::create(alloc, first, STREAMS, 0, catalogue.as_bytes()) {
         Ok(log) => log,
-        Err((first, refusal)) => return (first, second, status_of(refusal, 0)),
+        Err((first, refusal)) => {
+            let status = refuse(alloc, sink, status_of(refusal, 0));
+            return (first, second, status);
+        }
     };
     let other = match Writer::create(alloc, second, STREAMS, 1, catalogue.as_bytes()) {
         Ok(other) => other,
-        Err((second, refusal)) => return (log.into_disk(), second, status_of(refusal, 1)),
+        Err((second, refusal)) => {
+            let status = refuse(alloc, sink, status_of(refusal, 1));
+            return (log.into_disk(), second, status);
+        }
     };
     let status = run_on(alloc, load, &mut log, sink);
     (log.into_disk(), other.into_disk(), status)

@@ -186,7 +186,7 @@ fn bad_texts(rt: HostRuntime) -> Result<(), Fail> {
         &mut disks,
     )?;
     assert_eq!(rt; status.code(), 3);
-    assert_eq!(rt; sink.bytes().len(), 0);
+    assert_eq!(rt; sink.bytes(), b"fault 3 2 2\nfault 3 3 2\n".as_slice());
     assert_eq!(rt; disks[0].calls(), 0);
     Ok(())
 }
@@ -216,7 +216,10 @@ fn used_and_failing_disks(rt: HostRuntime) -> Result<(), Fail> {
     let mut disks = disks_of(alloc, MemDisk::new(alloc, &[])?, MemDisk::new(alloc, &[4])?)?;
     let status = run_text(&rt, alloc, b"table a\n", &mut sink, &mut disks)?;
     assert_eq!(rt; status, Status::DiskFault { stream: 1 });
-    assert_eq!(rt; sink.bytes().len(), 0);
+    assert_eq!(rt;
+        sink.bytes(),
+        b"fault 8 1 35\nfault 6 0\nfault 6 1\n".as_slice()
+    );
     Ok(())
 }
 
@@ -252,7 +255,7 @@ fn failing_source_and_sink(rt: HostRuntime) -> Result<(), Fail> {
         &Quiet,
     );
     assert_eq!(rt; status, Status::Usage);
-    assert_eq!(rt; sink.bytes().len(), 0);
+    assert_eq!(rt; sink.bytes(), b"fault 4\nfault 2\n".as_slice());
     let mut failing = MemSink::new(alloc, &[1])?;
     let status = run_text(
         &rt,

@@ -10,11 +10,13 @@ ghost use Rattle.tau_engine.specs.declared.status.LogFault.{LogFault};
 ghost use Rattle.tau_engine.specs.Words.{command_of, used_by, reads_source};
 ghost use Rattle.tau_engine.specs.Workload.{Load, HasWorkload, HasFault};
 ghost use Rattle.tau_engine.specs.Loads.{load_of, IsWithin};
-ghost use Rattle.tau_engine.specs.Facts.{RunFacts, Holds};
-ghost use Rattle.tau_engine.specs.Outside.{RoseAt, AreEmpty, IsFirstLong, Wrote, OpensBad, is_behind_text, is_behind_end, is_before_disks, ends_run};
+ghost use Rattle.tau_engine.specs.Facts.{RunFacts, Holds, IsRefused};
+ghost use Rattle.tau_engine.specs.Fault.{fault_text, is_refusal, WroteFront};
+ghost use Rattle.tau_engine.specs.Outside.{RoseAt, EachUsed, AreEmpty, IsFirstLong, OnlyRead, OneCall, Wrote, is_behind_text, is_behind_end, is_before_disks, ends_run};
 
 use crate::command::Command;
 use crate::disks::{put_first, take_first};
+use crate::fault::refuse;
 use crate::reading::read_source;
 use crate::status::Status;
 use crate::streams::run_two;
@@ -34,7 +36,11 @@ fn run<D: Disk, K: Sink>(alloc: Global, load: &Workload, sink: &mut K, disks: &m
     ensures count { vec_len disks.new ≡ 16 }
     ensures ran { result ≡ Status.Ok → RunFacts 2 1 (load_of load.now) (Holds D.tells D.may_leave 2 disks.new.items) (Wrote K.tells (K.held sink.old) (K.held sink.new)) }
     ensures not_empty { (j long : ℕ) → result ≡ Status.NotEmpty j long → (j < 2) × (D.tells → IsFirstLong D.seen disks.old.items j long) }
-    ensures was_empty { D.tells → ((j long : ℕ) → j < 2 → IsFirstLong D.seen disks.old.items j long → ⊥) ⊎ OpensBad result }
+    ensures was_empty { D.tells → ((j long : ℕ) → j < 2 → IsFirstLong D.seen disks.old.items j long → ⊥) ⊎ IsRefused (OnlyRead D.tells D.seen D.may_leave D.moment D.may_leave_since)
+        (Wrote K.tells (K.held sink.old) (K.held sink.new)) (Rose (K.faults sink.old) (K.faults sink.new)) disks.old.items disks.new.items result }
+    ensures asked { (j long : ℕ) → result ≡ Status.NotEmpty j long → IsRefused (OnlyRead D.tells D.seen D.may_leave D.moment D.may_leave_since)
+        (Wrote K.tells (K.held sink.old) (K.held sink.new)) (Rose (K.faults sink.old) (K.faults sink.new)) disks.old.items disks.new.items result }
+    ensures asked_once { (j long : ℕ) → result ≡ Status.NotEmpty j long → EachUsed (OneCall D.tells D.number D.short) disks.old.items disks.new.items 2 }
     ensures disk_fault { (j : ℕ) → result ≡ Status.DiskFault j → (j < 2) × RoseAt D.faults disks.old.items disks.new.items j }
     ensures write_fault { result ≡ Status.WriteFault → Rose (K.faults sink.old) (K.faults sink.new) }
     ensures kind { ends_run result ≡ true }
@@ -91,6 +97,13 @@ pub fn taurus<R: Threads + Wait + Sync, S: Source, K: Sink + Send, D: Disk + Sen
     ensures source_end { S.tells → is_behind_end result ≡ true → reads_source (command_of (map string_bytes words.now)) ≡ true → S.left source.new ≡ [] }
     ensures source_unread { S.tells → reads_source (command_of (map string_bytes words.now)) ≡ false → S.left source.new ≡ S.left source.old }
 
+    // A refusal writes its one line, and want of memory before a run none.
+    ensures refusal { is_refusal result ≡ true → WroteFront (Wrote K.tells (K.held sink.old) (K.held sink.new)) (Rose (K.faults sink.old) (K.faults sink.new)) (fault_text result) }
+    ensures opening_fault { (n m i j long : ℕ) (mode : LogMode) → command_of (map string_bytes words.now) ≡ Some (Command.Run n m mode) → result ≡ Status.DiskFault i →
+        D.tells → j < n → IsFirstLong D.seen disks.old.items j long →
+        WroteFront (Wrote K.tells (K.held sink.old) (K.held sink.new)) (Rose (K.faults sink.old) (K.faults sink.new)) (fault_text result) }
+    ensures silent { result ≡ Status.NoMemory → command_of (map string_bytes words.now) ≡ None → Wrote K.tells (K.held sink.old) (K.held sink.new) [] }
+
     // A run that went well has one history, of which its report is, and its disks hold it.
     ensures run { (n m : ℕ) (mode : LogMode) (load : Load) → command_of (map string_bytes words.now) ≡ Some (Command.Run n m mode) →
         S.tells → HasWorkload (S.left source.old) load → result ≡ Status.Ok →
@@ -99,6 +112,12 @@ pub fn taurus<R: Threads + Wait + Sync, S: Source, K: Sink + Send, D: Disk + Sen
     // What is not touched.
     ensures untouched { drop (used_by (command_of (map string_bytes words.now))) disks.new.items ≡ drop (used_by (command_of (map string_bytes words.now))) disks.old.items }
     ensures before_disks { is_before_disks result ≡ true → disks.new.items ≡ disks.old.items }
+
+    ensures bad_text_untouched { S.tells → reads_source (command_of (map string_bytes words.now)) ≡ true → (fault : TextFault) → HasFault (S.left source.old) fault → disks.new.items ≡ disks.old.items }
+    ensures not_empty_untouched { (n m : ℕ) (mode : LogMode) (j long : ℕ) → command_of (map string_bytes words.now) ≡ Some (Command.Run n m mode) → j < n → D.tells → IsFirstLong D.seen disks.old.items j long →
+        EachUsed (OnlyRead D.tells D.seen D.may_leave D.moment D.may_leave_since) disks.old.items disks.new.items n }
+    ensures asked { (j long : ℕ) → result ≡ Status.NotEmpty j long → EachUsed (OnlyRead D.tells D.seen D.may_leave D.moment D.may_leave_since) disks.old.items disks.new.items (used_by (command_of (map string_bytes words.now))) }
+    ensures asked_once { (j long : ℕ) → result ≡ Status.NotEmpty j long → EachUsed (OneCall D.tells D.number D.short) disks.old.items disks.new.items (used_by (command_of (map string_bytes words.now))) }
 
     // Where nothing is amiss, the work is done.
     ensures run_done { (n m : ℕ) (mode : LogMode) (load : Load) → command_of (map string_bytes words.now) ≡ Some (Command.Run n m mode) →
@@ -109,7 +128,7 @@ pub fn taurus<R: Threads + Wait + Sync, S: Source, K: Sink + Send, D: Disk + Sen
     let _ = rt;
     let _ = gate;
     let Some(command) = read_words(words) else {
-        return Status::Usage;
+        return refuse(alloc, sink, Status::Usage);
     };
     let Command::Run {
         n: _,
@@ -117,7 +136,7 @@ pub fn taurus<R: Threads + Wait + Sync, S: Source, K: Sink + Send, D: Disk + Sen
         mode: _,
     } = command;
     match read_source(alloc, source) {
-        Err(status) => status,
+        Err(refusal) => refuse(alloc, sink, refusal),
         Ok(load) => run(alloc, &load, sink, disks),
     }
 }

@@ -4,7 +4,9 @@ use Rattle.tau_block.specs.Image.{HasContent}
 use Rattle.tau_stream.specs.Stream.{catalogue_record}
 use Rattle.tau_stream.specs.Writer.{disk_of, durable_of, IsReady}
 use Rattle.tau_engine.specs.Runs.{IsTold}
-use Rattle.tau_engine.specs.Outside.{Wrote}
+use Rattle.tau_engine.specs.declared.status.Status.TheVariants as status
+use Rattle.tau_engine.specs.Outside.{OnlyRead, Wrote}
+use Rattle.tau_engine.proofs.Refusals.{answers_as, each_two, refused}
 use Rattle.tau_engine.specs.Facts.{Holds}
 use Rattle.tau_engine.specs.Puts.{logged, no_ends}
 use Rattle.tau_engine.proofs.Openings.{some_is, rose_on, rose_first, rose_second}
@@ -12,17 +14,26 @@ use Rattle.tau_engine.proofs.Ran.{settled_has, run_facts}
 use Rattle.tau_engine.proofs.streams.run_two.Goals as goal
 
 pub returns-in-Err-clause-was_empty : goal.returns-in-Err-clause-was_empty
-returns-in-Err-clause-was_empty g c tells = inr c.in-Err.ensures.opening
+returns-in-Err-clause-was_empty g c tells = inr (refused (OnlyRead g.D.Disk.tells g.D.Disk.seen g.D.Disk.may_leave g.D.Disk.moment g.D.Disk.may_leave_since) _ _ _ _ c.in-Err.refusal c.refuse-status.result c.refuse-status.ensures c.in-Err.ensures.opening
+    (each_two (OnlyRead g.D.Disk.tells g.D.Disk.seen g.D.Disk.may_leave g.D.Disk.moment g.D.Disk.may_leave_since) c.args.first c.args.second c.ask_lengths.new.first c.ask_lengths.new.second c.ask_lengths.ensures.read c.ask_lengths.ensures.read_second))
+
+pub returns-in-Err-clause-asked : goal.returns-in-Err-clause-asked
+returns-in-Err-clause-asked g c j long e = refused (OnlyRead g.D.Disk.tells g.D.Disk.seen g.D.Disk.may_leave g.D.Disk.moment g.D.Disk.may_leave_since) _ _ _ _ c.in-Err.refusal c.refuse-status.result c.refuse-status.ensures c.in-Err.ensures.opening
+    (each_two (OnlyRead g.D.Disk.tells g.D.Disk.seen g.D.Disk.may_leave g.D.Disk.moment g.D.Disk.may_leave_since) c.args.first c.args.second c.ask_lengths.new.first c.ask_lengths.new.second c.ask_lengths.ensures.read c.ask_lengths.ensures.read_second)
 
 pub returns-in-Err-create-clause-disk_fault : goal.returns-in-Err-create-clause-disk_fault
 returns-in-Err-create-clause-disk_fault g c j e =
-    let told = c.status_of.ensures.failed j e in
+    let told = c.status_of.ensures.failed j (answers_as (Wrote g.K.Sink.tells (g.K.Sink.held c.args.sink.now) (g.K.Sink.held c.refuse-status-in-Err-create.new.sink)) (Rose (g.K.Sink.faults c.args.sink.now) (g.K.Sink.faults c.refuse-status-in-Err-create.new.sink)) c.status_of.result c.refuse-status-in-Err-create.result (status.DiskFault j) c.refuse-status-in-Err-create.ensures e (λ none. cc)) in
     rose_first g.D.Disk.faults c.args.first c.args.second c.in-Err-create.first c.ask_lengths.new.second j told.1
     (rose_on _ _ _ _ c.ask_lengths.ensures.faults (c.in-Err-create.ensures.failed told.0) (omega arith))
 
+pub returns-in-Err-create-2-clause-not_empty : goal.returns-in-Err-create-2-clause-not_empty
+returns-in-Err-create-2-clause-not_empty g c j long e =
+    absurd (c.status_of-in-Err-create-2.ensures.asked j long (answers_as (Wrote g.K.Sink.tells (g.K.Sink.held c.args.sink.now) (g.K.Sink.held c.refuse-status-in-Err-create-2.new.sink)) (Rose (g.K.Sink.faults c.args.sink.now) (g.K.Sink.faults c.refuse-status-in-Err-create-2.new.sink)) c.status_of-in-Err-create-2.result c.refuse-status-in-Err-create-2.result (status.NotEmpty j long) c.refuse-status-in-Err-create-2.ensures e (λ none. cc)))
+
 pub returns-in-Err-create-2-clause-disk_fault : goal.returns-in-Err-create-2-clause-disk_fault
 returns-in-Err-create-2-clause-disk_fault g c j e =
-    let told = c.status_of-in-Err-create-2.ensures.failed j e in
+    let told = c.status_of-in-Err-create-2.ensures.failed j (answers_as (Wrote g.K.Sink.tells (g.K.Sink.held c.args.sink.now) (g.K.Sink.held c.refuse-status-in-Err-create-2.new.sink)) (Rose (g.K.Sink.faults c.args.sink.now) (g.K.Sink.faults c.refuse-status-in-Err-create-2.new.sink)) c.status_of-in-Err-create-2.result c.refuse-status-in-Err-create-2.result (status.DiskFault j) c.refuse-status-in-Err-create-2.ensures e (λ none. cc)) in
     rose_second g.D.Disk.faults c.args.first c.args.second c.into_disk.result c.in-Err-create-2.second j told.1
     (rose_on _ _ _ _ c.ask_lengths.ensures.faults_second (c.in-Err-create-2.ensures.failed told.0) (omega arith))
 

@@ -1,5 +1,7 @@
-use Rattle.std.proofs.Common.{◌≡◌, List, ◌∷◌, ap, ◌∙◌}
-use Rattle.tau_engine.proofs.Openings.{long_of_two}
+use Rattle.std.proofs.Common.{◌≡◌, List, ◌∷◌, ap, ◌∙◌, inl, inr, ⊎_elim}
+use Rattle.tau_engine.specs.Outside.{OnlyRead, OneCall}
+use Rattle.tau_engine.proofs.Openings.{long_of_two, none_long}
+use Rattle.tau_engine.proofs.Refusals.{refused_of_two, each_of_two}
 use Rattle.tau_engine.proofs.top.run.Goals as goal
 
 pub returns-clause-not_empty : goal.returns-clause-not_empty
@@ -7,3 +9,27 @@ returns-clause-not_empty g c j long e =
     let is = c.run_two-first.ensures.not_empty j long e in
     let was = c.take_first-first.ensures.items ∙ ap (λ (ds : List g.row.D.Denot). c.take_first-first.result ∷ ds) c.take_first-second.ensures.items in
     (is.0, λ tells. long_of_two g.D.Disk.seen c.take_first-first.result c.take_first-second.result c.args.disks.now.items c.take_first-second.new.list.items was j long is.0 (is.1 tells))
+
+pub returns-clause-was_empty : goal.returns-clause-was_empty
+returns-clause-was_empty g c tells =
+    let was = c.take_first-first.ensures.items ∙ ap (λ (ds : List g.row.D.Denot). c.take_first-first.result ∷ ds) c.take_first-second.ensures.items in
+    let now = c.put_first-2.ensures.items ∙ ap (λ (ds : List g.row.D.Denot). c.run_two-first.result.0 ∷ ds) c.put_first.ensures.items in
+    ⊎_elim
+    (λ none. inl (λ j long lt is. none_long g.D.Disk.seen c.take_first-first.result c.take_first-second.result c.args.disks.now.items c.take_first-second.new.list.items was none.0 none.1 j long lt is))
+    (λ r. inr (refused_of_two (OnlyRead g.D.Disk.tells g.D.Disk.seen g.D.Disk.may_leave g.D.Disk.moment g.D.Disk.may_leave_since) _ _ c.take_first-first.result c.take_first-second.result c.run_two-first.result.0 c.run_two-first.result.1 c.args.disks.now.items c.put_first-2.new.list.items c.take_first-second.new.list.items
+    c.run_two-first.result.2 was now r))
+    (c.run_two-first.ensures.was_empty tells)
+
+pub returns-clause-asked : goal.returns-clause-asked
+returns-clause-asked g c j long e =
+    let was = c.take_first-first.ensures.items ∙ ap (λ (ds : List g.row.D.Denot). c.take_first-first.result ∷ ds) c.take_first-second.ensures.items in
+    let now = c.put_first-2.ensures.items ∙ ap (λ (ds : List g.row.D.Denot). c.run_two-first.result.0 ∷ ds) c.put_first.ensures.items in
+    refused_of_two (OnlyRead g.D.Disk.tells g.D.Disk.seen g.D.Disk.may_leave g.D.Disk.moment g.D.Disk.may_leave_since) _ _ c.take_first-first.result c.take_first-second.result c.run_two-first.result.0 c.run_two-first.result.1 c.args.disks.now.items c.put_first-2.new.list.items c.take_first-second.new.list.items
+    c.run_two-first.result.2 was now (c.run_two-first.ensures.asked j long e)
+
+pub returns-clause-asked_once : goal.returns-clause-asked_once
+returns-clause-asked_once g c j long e =
+    let was = c.take_first-first.ensures.items ∙ ap (λ (ds : List g.row.D.Denot). c.take_first-first.result ∷ ds) c.take_first-second.ensures.items in
+    let now = c.put_first-2.ensures.items ∙ ap (λ (ds : List g.row.D.Denot). c.run_two-first.result.0 ∷ ds) c.put_first.ensures.items in
+    each_of_two (OneCall g.D.Disk.tells g.D.Disk.number g.D.Disk.short) c.take_first-first.result c.take_first-second.result c.run_two-first.result.0 c.run_two-first.result.1 c.args.disks.now.items c.put_first-2.new.list.items
+    c.take_first-second.new.list.items was now (c.run_two-first.ensures.asked_once j long e)

@@ -1,5 +1,8 @@
-use Rattle.std.proofs.Common.{ℕ, ◌≡◌, ◌<◌, subst, ⊎_elim, arith, map}
+use Rattle.std.proofs.Common.{ℕ, ◌≡◌, ◌<◌, sym, ◌∙◌, subst, ⊎_elim, arith, map}
 use Rattle.std.specs.Prelude.{string_bytes}
+use Rattle.tau_engine.specs.Outside.{EachUsed, OnlyRead, OneCall, Wrote}
+use Rattle.tau_disk.specs.Disk.{Rose}
+use Rattle.tau_engine.proofs.Refusals.{told_refusal, refusal_of_run, used_two}
 use Rattle.tau_engine.proofs.Tops.{only_two, long_told, none_is_long, ends_well}
 use Rattle.tau_engine.proofs.top.taurus.Goals as goal
 
@@ -8,7 +11,7 @@ returns-in-Ok-clause-not_empty_told g c n m mode j long words source load read t
     let two : n ≡ 2 = only_two (map string_bytes c.args.words.now) n m mode words in
     let below : j < 2 = omega (arith, two, lt) in
     ⊎_elim (λ none. absurd (none j long below is))
-    (λ bad. long_told g.D.Disk.seen c.args.disks.now.items c.run.result j long is bad (λ k other e. (c.run.ensures.not_empty k other e).1 tells))
+    (λ refused. long_told g.D.Disk.seen c.args.disks.now.items c.run.result j long is refused.bad (λ k other e. (c.run.ensures.not_empty k other e).1 tells))
     (c.run.ensures.was_empty tells)
 
 pub returns-in-Ok-clause-run_done : goal.returns-in-Ok-clause-run_done
@@ -18,3 +21,30 @@ returns-in-Ok-clause-run_done g c n m mode load words source tells read empty no
     (λ e. no_sink (c.run.ensures.write_fault e))
     (λ j e. let h = c.run.ensures.disk_fault j e in no_disk j (omega (arith, two, h.0)) h.1)
     (λ j long e. let h = c.run.ensures.not_empty j long e in none_is_long g.D.Disk.seen c.args.disks.now.items g.D.Disk.tells n j long tells empty (omega (arith, two, h.0)) (h.1 tells))
+
+pub returns-in-Err-clause-refusal : goal.returns-in-Err-clause-refusal
+returns-in-Err-clause-refusal g c e = told_refusal (Wrote g.K.Sink.tells (g.K.Sink.held c.args.sink.now) (g.K.Sink.held c.refuse-in-Err.new.sink)) (Rose (g.K.Sink.faults c.args.sink.now) (g.K.Sink.faults c.refuse-in-Err.new.sink)) c.in-Err.refusal c.refuse-in-Err.result c.refuse-in-Err.ensures e
+
+pub returns-in-Ok-clause-refusal : goal.returns-in-Ok-clause-refusal
+returns-in-Ok-clause-refusal g c e =
+    let (j, (long, is)) = refusal_of_run c.run.result c.run.ensures.kind e in
+    (c.run.ensures.asked j long is).told (λ none. cc)
+
+pub returns-in-Ok-clause-opening_fault : goal.returns-in-Ok-clause-opening_fault
+returns-in-Ok-clause-opening_fault g c n m i j long mode words e tells lt is =
+    let two : n ≡ 2 = only_two (map string_bytes c.args.words.now) n m mode words in
+    let below : j < 2 = omega (arith, two, lt) in
+    ⊎_elim (λ none. absurd (none j long below is)) (λ refused. refused.told (λ none. cc)) (c.run.ensures.was_empty tells)
+
+pub returns-in-Ok-clause-not_empty_untouched : goal.returns-in-Ok-clause-not_empty_untouched
+returns-in-Ok-clause-not_empty_untouched g c n m mode j long words lt tells is =
+    let two : n ≡ 2 = only_two (map string_bytes c.args.words.now) n m mode words in
+    let below : j < 2 = omega (arith, two, lt) in
+    ⊎_elim (λ none. absurd (none j long below is))
+    (λ refused. subst (λ (k : ℕ). EachUsed (OnlyRead g.D.Disk.tells g.D.Disk.seen g.D.Disk.may_leave g.D.Disk.moment g.D.Disk.may_leave_since) c.args.disks.now.items c.run.new.disks.items k) (sym two) refused.read)
+    (c.run.ensures.was_empty tells)
+
+pub returns-in-Ok-clause-asked_once : goal.returns-in-Ok-clause-asked_once
+returns-in-Ok-clause-asked_once g c j long e =
+    let two = used_two (map string_bytes c.args.words.now) c.in-Some.command (sym c.read_words.ensures ∙ c.in-Some.is) in
+    subst (λ (k : ℕ). EachUsed (OneCall g.D.Disk.tells g.D.Disk.number g.D.Disk.short) c.args.disks.now.items c.run.new.disks.items k) (sym two) (c.run.ensures.asked_once j long e)

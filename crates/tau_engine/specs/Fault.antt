@@ -1,0 +1,46 @@
+-- The one line of a refusal.
+use Rattle.std.specs.Prelude.{ℕ, ◌<◌, Bool, true, false, ◌≡◌, ◌⊎◌, List, [], ◌∷◌, ◌++◌, length, take, codes}
+use Rattle.std.specs.Fmt.{decimal}
+use Rattle.tau_engine.specs.declared.status.Status.{Status}
+use Rattle.tau_engine.specs.declared.status.Status.TheVariants as status
+use Rattle.tau_engine.specs.declared.status.TextCause.{TextCause}
+use Rattle.tau_engine.specs.declared.status.TextCause.TheVariants as text_cause
+use Rattle.tau_engine.specs.Report.{line}
+
+abbrev pub text_cause_number : TextCause → ℕ
+text_cause_number text_cause.NotUtf8 = 1
+text_cause_number text_cause.UnknownWord = 2
+text_cause_number text_cause.UnknownName = 3
+text_cause_number text_cause.Twice = 4
+text_cause_number text_cause.BadNumber = 5
+text_cause_number text_cause.BadStep = 6
+text_cause_number text_cause.TooMany = 7
+text_cause_number text_cause.Missing = 8
+text_cause_number text_cause.NoEnd = 9
+
+-- the one line of a refusal, and nothing for what is none
+abbrev pub fault_text : Status → List ℕ
+fault_text status.Usage = line (codes "fault" ∷ codes "2" ∷ [])
+fault_text (status.BadText at cause) = line (codes "fault" ∷ codes "3" ∷ decimal at ∷ decimal (text_cause_number cause) ∷ [])
+fault_text status.ReadFault = line (codes "fault" ∷ codes "4" ∷ [])
+fault_text (status.DiskFault j) = line (codes "fault" ∷ codes "6" ∷ decimal j ∷ [])
+fault_text (status.NotEmpty j long) = line (codes "fault" ∷ codes "8" ∷ decimal j ∷ decimal long ∷ [])
+fault_text status.TooLong = line (codes "fault" ∷ codes "9" ∷ [])
+fault_text _ = []
+
+-- the answer is told by the one fault line, whatever the command
+abbrev pub is_refusal : Status → Bool
+is_refusal status.Usage = true
+is_refusal (status.BadText at cause) = true
+is_refusal status.ReadFault = true
+is_refusal (status.NotEmpty j long) = true
+is_refusal status.TooLong = true
+is_refusal _ = false
+
+-- the text was written, or a first part of it where the sink failed
+abbrev pub WroteFront : (List ℕ → Type 0) → Type 0 → List ℕ → Type 0
+WroteFront wrote sink_rose text = wrote text ⊎ ((k : ℕ) × (k < length text) × wrote (take k text) × sink_rose)
+
+-- the refusal was told and is the answer, or memory was wanting and nothing was told
+abbrev pub TellsFault : (List ℕ → Type 0) → Type 0 → Status → Status → Type 0
+TellsFault wrote sink_rose refusal answer = ((answer ≡ refusal) × WroteFront wrote sink_rose (fault_text refusal)) ⊎ ((answer ≡ status.NoMemory) × wrote [])
