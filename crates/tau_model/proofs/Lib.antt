@@ -1,3 +1,4 @@
+pub mod Contents
 pub mod Dbs
 pub mod Naturality
 pub mod Orders

@@ -1,5 +1,6 @@
 -- Listing records one after another.
 use Rattle.std.proofs.Common.{ℕ, zero, suc, ◌+◌, ◌≤◌, ◌<◌, Bool, true, false, ◌≡◌, inl, inr, List, [], ◌∷◌, ◌++◌, length, map, refl, sym, ap, subst, ◌∙◌, arith, length-set, get_or-set_same, get_or-set_other, append_assoc}
+use Rattle.std.proofs.lemmas.List.{append-nil}
 use Rattle.std.specs.Prelude.{Some, None, slice_index, slice_index_or, slice_set}
 use Rattle.std.proofs.lemmas.Bool.{cases_Bool, both_ways, cases_lt, cases_eq}
 use Rattle.std.proofs.lemmas.List.{get_or_past}
@@ -151,10 +152,6 @@ pub listing-more : (ends : List ℕ) (streams : List (List Entry)) (a grown : Li
     grown ≡ a ++ v ∷ [] → more ≡ b ++ n ∷ [] → IsListing ends streams (a ++ v ∷ reached) (b ++ n ∷ numbers) → IsListing ends streams (grown ++ reached) (more ++ numbers)
 listing-more ends streams a grown v reached b more n numbers e f h = rw (e, f, append_assoc a (v ∷ []) reached, append_assoc b (n ∷ []) numbers) h
 
-append_nil : {A : Type 0} (xs : List A) → xs ++ [] ≡ xs
-append_nil [] = refl
-append_nil (x ∷ xs) = ap (λ l. x ∷ l) (append_nil xs)
-
 pub listing-whole : (ends : List ℕ) (streams : List (List Entry)) (reached : List (List ℕ)) (numbers : List ℕ) → IsListing ends streams (reached ++ []) (numbers ++ []) →
     IsListing ends streams reached numbers
-listing-whole ends streams reached numbers h = rw (append_nil reached, append_nil numbers) at h
+listing-whole ends streams reached numbers h = rw (append-nil reached, append-nil numbers) at h

@@ -1,5 +1,6 @@
 -- Running a call on a database, want by want.
 use Rattle.std.proofs.Common.{ℕ, ◌+◌, ◌≡◌, List, [], ◌∷◌, ◌++◌, refl, sym, ap, subst, ◌∙◌, append_assoc, Option}
+use Rattle.std.proofs.lemmas.List.{append-nil}
 use Rattle.std.specs.Prelude.{Some, None, slice_get}
 use Rattle.tau_base.specs.declared.value.Call.{Call}
 use Rattle.tau_base.specs.declared.value.Key.{Key}
@@ -31,10 +32,6 @@ values-push : (front : List (Key × Value)) (r : Key × Value) (vs : List Value)
 values-push [] r vs = refl
 values-push (f ∷ front) r vs = ap (λ l. f.1 ∷ l) (values-push front r vs)
 
-append_nil : {A : Type 0} (xs : List A) → xs ++ [] ≡ xs
-append_nil [] = refl
-append_nil (x ∷ xs) = ap (λ l. x ∷ l) (append_nil xs)
-
 no_read : (o : Option (Key × Value)) (reply : Reply) (key : Key) → want_of_write o reply ≡ Read key → ⊥
 no_read None reply key e = cc
 no_read (Some w) reply key e = cc
@@ -42,7 +39,7 @@ no_read (Some w) reply key e = cc
 module _ (procs : List Proc) (c : Call) (db : Db) (m : Progress) where
   -- where all was read
   whole : (u : Underway procs c db m) → u.back ≡ [] → IsAt procs c (values (meaning procs c db).reads) u.count m
-  whole u none = subst (λ rs. IsAt procs c (values rs) u.count m) (sym (u.reads ∙ ap (λ l. u.front ++ l) none ∙ append_nil u.front)) u.at
+  whole u none = subst (λ rs. IsAt procs c (values rs) u.count m) (sym (u.reads ∙ ap (λ l. u.front ++ l) none ∙ append-nil u.front)) u.at
 
   pub read-given : (u : Underway procs c db m) (key : Key) (v : Value) (next : Progress) → next_want m ≡ Read key → v ≡ db key →
       ((vs : List Value) → ahead next vs ≡ ahead m (v ∷ vs)) → next.granted ≡ m.granted → Underway procs c db next

@@ -1,5 +1,6 @@
 -- Buckets of read-only calls, and the records between them.
 use Rattle.std.proofs.Common.{ℕ, zero, suc, ◌+◌, ◌<◌, cond, ◌≡◌, inl, inr, List, [], ◌∷◌, ◌++◌, length, map, drop, refl, sym, ap, ◌∙◌, arith, add-one, drop-cons, append_assoc}
+use Rattle.std.proofs.lemmas.List.{append-nil}
 use Rattle.std.specs.Prelude.{◌==◌, slice_index, slice_index_or, slice_set}
 use Rattle.std.specs.List.{filter}
 use Rattle.std.proofs.lemmas.Bool.{cases_Bool, eq-eqb, ne_eqb}
@@ -41,16 +42,12 @@ bucket-push reached rs r k =
       | inr no' ↦ rw no' refl
     ])
 
-append_nil : {A : Type 0} (xs : List A) → xs ++ [] ≡ xs
-append_nil [] = refl
-append_nil (x ∷ xs) = ap (λ l. x ∷ l) (append_nil xs)
-
 pub buckets-push : (reached : List (List ℕ)) (rs : List Entry) (r : Entry) (n : ℕ) →
     slice_set (each n (bucket reached rs)) (slot_of reached r.dep) (slice_index_or (each n (bucket reached rs)) (slot_of reached r.dep) [] ++ r.number ∷ []) ≡ each n (bucket reached (rs ++ r ∷ []))
 buckets-push reached rs r n =
     let s : ℕ = slot_of reached r.dep in
     each-set n s (bucket reached rs) (bucket reached (rs ++ r ∷ [])) (slice_index_or (each n (bucket reached rs)) s [] ++ r.number ∷ [])
-    (λ k ne. sym (bucket-push reached rs r k ∙ rw (ne_eqb s k (λ e. ne (sym e))) (append_nil (bucket reached rs k))))
+    (λ k ne. sym (bucket-push reached rs r k ∙ rw (ne_eqb s k (λ e. ne (sym e))) (append-nil (bucket reached rs k))))
     (λ lt. ap (λ l. l ++ r.number ∷ []) (each-get n (bucket reached rs) s lt) ∙ sym (bucket-push reached rs r s ∙ rw (eq-eqb s s refl) refl))
 
 -- one more bucket and record

@@ -1,5 +1,5 @@
 -- The tables of a database: its present rows in ascending order of keys.
-use Rattle.std.specs.Prelude.{◌≡◌, ◌≢◌, List, map}
+use Rattle.std.specs.Prelude.{◌≡◌, ◌≢◌, Bool, true, false, List, map}
 use Rattle.std.specs.List.{All}
 use Rattle.std.specs.List.Sorted.{IsStrictlySortedBy}
 use Rattle.std.specs.Map.{lookup}
@@ -11,6 +11,14 @@ use Rattle.tau_base.specs.Database.{Db, key_cmp, same_key, db_of}
 -- the database of a list of rows
 abbrev pub db_of_rows : List (Key × Value) → Db
 db_of_rows rows = db_of (λ k. lookup (same_key k) rows)
+
+abbrev pub is_value : Value → Bool
+is_value Absent = false
+is_value v = true
+
+-- whether the row is present
+abbrev pub is_present : Key × Value → Bool
+is_present r = is_value r.1
 
 -- these rows are the tables of the database
 pub record IsTablesOf (db : Db) (rows : List (Key × Value)) : Type 0 where

@@ -3,7 +3,9 @@ ghost use Rattle.std.specs.Prelude.{◌≡◌, ◌∷◌, [], IfOk, OnOk, OnErr,
 ghost use Rattle.tau_base.specs.Database.{empty_db, written};
 ghost use Rattle.tau_proc.specs.Meaning.{meaning};
 ghost use Rattle.tau_proc.specs.Takes.{takes};
+ghost use Rattle.tau_model.specs.Tables.{IsTablesOf, is_value};
 
+use crate::tables::Tables;
 use std::alloc::Global;
 use std::collections::BTreeMap;
 use tau_base::{Call, Key, NoMemory, Value};
@@ -36,6 +38,19 @@ impl SerialStore {
             Some(value) => value.copied(),
             None => Value::Absent,
         }
+    }
+
+    /// The present rows in ascending order of keys.
+    pub fn tables(&self, alloc: Global) -> Result<Tables, NoMemory>
+        ensures { IfOk result (λ tables. IsTablesOf (database self.now) tables) }
+    {
+        let mut rows = Vec::with_capacity(alloc, self.rows.len()).map_err(|_| NoMemory)?;
+        for (key, value) in &self.rows {
+            if is_value(value) {
+                rows.push((*key, value.copied())).map_err(|_| NoMemory)?;
+            }
+        }
+        Ok(Tables::of(rows))
     }
 
     /// Executes a call: its reply, and the database after its writes. After want of memory the database is as before.
@@ -133,5 +148,15 @@ impl SerialStore {
         if let Some(Value::Absent) = self.rows.get(&key) {
             self.rows.remove(&key);
         }
+    }
+}
+
+/// Whether there is a value.
+fn is_value(value: &Value) -> bool
+    ensures { result ≡ is_value value.now }
+{
+    match value {
+        Value::Absent => false,
+        _ => true,
     }
 }

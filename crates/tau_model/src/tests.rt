@@ -101,6 +101,12 @@ fn transfers_move_what_is_there(rt: HostRuntime) -> Result<(), Fail> {
     assert_eq!(rt; store.value(Key { table: 0, row: 1 }), Value::Int(70));
     assert_eq!(rt; store.value(Key { table: 0, row: 2 }), Value::Int(80));
     assert_eq!(rt; store.value(Key { table: 0, row: 3 }), Value::Absent);
+    let tables = store.tables(rt.alloc())?;
+    let rows = [
+        (Key { table: 0, row: 1 }, Value::Int(70)),
+        (Key { table: 0, row: 2 }, Value::Int(80)),
+    ];
+    assert!(rt; tables.rows() == rows.as_slice());
     Ok(())
 }
 
