@@ -58,8 +58,9 @@ fn number_in(bytes: &[u8]) -> u64 {
     number
 }
 
+// A body that always answers that memory is wanting fails this.
 #[test]
-fn empty_text(rt: HostRuntime) -> Result<(), Fail> {
+fn always_out_of_memory(rt: HostRuntime) -> Result<(), Fail> {
     let alloc = rt.alloc();
     let mut disks = disks_of(alloc, MemDisk::new(alloc, &[])?, MemDisk::new(alloc, &[])?)?;
     let mut sink = MemSink::new(alloc, &[])?;
@@ -266,5 +267,93 @@ fn failing_source_and_sink(rt: HostRuntime) -> Result<(), Fail> {
     )?;
     assert_eq!(rt; status, Status::WriteFault);
     assert_eq!(rt; failing.bytes(), b"".as_slice());
+    Ok(())
+}
+
+#[test]
+fn fails_in_mid_stream(rt: HostRuntime) -> Result<(), Fail> {
+    let alloc = rt.alloc();
+    let mut disks = disks_of(alloc, MemDisk::new(alloc, &[])?, MemDisk::new(alloc, &[])?)?;
+    let mut sink = MemSink::new(alloc, &[])?;
+    let mut source = MemSource::new(alloc, b"table a\nget a 1\n", &[2])?;
+    let words = vec![in alloc;
+        String::from_str(alloc, "run")?,
+        String::from_str(alloc, "2")?,
+        String::from_str(alloc, "1")?,
+    ]?;
+    let status = taurus(
+        &rt,
+        alloc,
+        words.as_slice(),
+        &mut source,
+        &mut sink,
+        &mut disks,
+        &Quiet,
+    );
+    assert_eq!(rt; status, Status::ReadFault);
+    assert_eq!(rt; sink.bytes(), b"fault 4\n".as_slice());
+    let mut second = MemSink::new(alloc, &[2])?;
+    let status = run_text(&rt, alloc, b"table a\nput a 1 5\n", &mut second, &mut disks)?;
+    assert_eq!(rt; status, Status::WriteFault);
+    assert_eq!(rt; second.bytes(), b"ack 1 53,0\n".as_slice());
+    Ok(())
+}
+
+#[test]
+fn each_opening_call_fails_in_turn(rt: HostRuntime) -> Result<(), Fail> {
+    let alloc = rt.alloc();
+    for call in 1..8u32 {
+        let mut sink = MemSink::new(alloc, &[])?;
+        let mut disks = disks_of(
+            alloc,
+            MemDisk::new(alloc, &[call])?,
+            MemDisk::new(alloc, &[])?,
+        )?;
+        let status = run_text(&rt, alloc, b"table a\n", &mut sink, &mut disks)?;
+        assert_eq!(rt; status, Status::DiskFault { stream: 0 });
+        assert_eq!(rt; sink.bytes(), b"fault 6 0\n".as_slice());
+        assert_eq!(rt; disks[0].calls(), u64::from(call));
+        let mut other = MemSink::new(alloc, &[])?;
+        let mut disks = disks_of(
+            alloc,
+            MemDisk::new(alloc, &[])?,
+            MemDisk::new(alloc, &[call])?,
+        )?;
+        let status = run_text(&rt, alloc, b"table a\n", &mut other, &mut disks)?;
+        assert_eq!(rt; status, Status::DiskFault { stream: 1 });
+        assert_eq!(rt; other.bytes(), b"fault 6 1\n".as_slice());
+        assert_eq!(rt; disks[1].calls(), u64::from(call));
+    }
+    Ok(())
+}
+
+#[test]
+fn short_images_are_refused(rt: HostRuntime) -> Result<(), Fail> {
+    let alloc = rt.alloc();
+    let mut sink = MemSink::new(alloc, &[])?;
+    let mut disks = disks_of(
+        alloc,
+        MemDisk::of_image(alloc, b"x")?,
+        MemDisk::new(alloc, &[])?,
+    )?;
+    let status = run_text(&rt, alloc, b"table a\n", &mut sink, &mut disks)?;
+    assert_eq!(rt;
+        status,
+        Status::NotEmpty {
+            stream: 0,
+            length: 1
+        }
+    );
+    let born = MemDisk::of_image(alloc, b"TAURUS-LOG-1\x00\x02\x00\x00\x00")?;
+    let mut disks = disks_of(alloc, born, MemDisk::of_image(alloc, b"x")?)?;
+    let status = run_text(&rt, alloc, b"table a\n", &mut sink, &mut disks)?;
+    assert_eq!(rt;
+        status,
+        Status::NotEmpty {
+            stream: 0,
+            length: 17
+        }
+    );
+    assert_eq!(rt; sink.bytes(), b"fault 8 0 1\nfault 8 0 17\n".as_slice());
     Ok(())
 }
