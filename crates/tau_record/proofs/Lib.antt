@@ -1,3 +1,4 @@
+pub mod Appending
 pub mod ContentLaws
 pub mod FieldLaws
 pub mod ItemLaws

@@ -21,7 +21,7 @@ use Rattle.tau_record.proofs.SizeLaws.{size_fits}
 use Rattle.tau_record.proofs.VectorLaws.{leb-lt, raises, raises_width, raises_covers, raises_places, vector_takes, vector_again}
 use Rattle.tau_record.proofs.ItemLaws.{guard_held, are_writes, writes_sorted, writes_fit, writes_take, writes_again, byte_takes, byte_again, args_take, args_again}
 
-eqb-apart : (a b : ℕ) → (a ≡ b → ⊥) → eqb a b ≡ false
+pub eqb-apart : (a b : ℕ) → (a ≡ b → ⊥) → eqb a b ≡ false
 eqb-apart a b h = elim (eqb a b) as (λ v. eqb a b ≡ v → v ≡ false) [ true ↦ λ e. absurd (h (eqb-true a b e)) | false ↦ λ _. refl ] refl
 
 -- ---- the number, the anchor and the vector

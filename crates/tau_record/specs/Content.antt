@@ -13,6 +13,9 @@ use Rattle.tau_record.specs.declared.fault.RecordRefusal.TheVariants as refusals
 use Rattle.tau_record.specs.Format.{Format}
 use Rattle.tau_record.specs.Record.{named, spelling, Fits, record_at}
 
+abbrev pub placed : Entry → ℕ → ℕ → Placed
+placed e start past = record { entry = e; start = start; past = past }
+
 -- the vectors that are named behind a record
 abbrev pub named_after : List (List ℕ) → Entry → List (List ℕ)
 named_after vectors (Written number anchor dep writes) = vectors
@@ -24,6 +27,11 @@ named_after vectors (Catalogue text) = vectors
 abbrev pub named_behind : List (List ℕ) → List Placed → List (List ℕ)
 named_behind vectors [] = vectors
 named_behind vectors (p ∷ ps) = named_behind (named_after vectors p.entry) ps
+
+-- the vectors of the anchors among these records, in their order
+abbrev pub anchors_of : List Placed → List (List ℕ)
+anchors_of [] = []
+anchors_of (p ∷ ps) = named_after [] p.entry ++ anchors_of ps
 
 -- ---- the relation: this content from this place on is these records
 
@@ -63,9 +71,6 @@ found_at at (Err cause) f = Err (record { at = at; cause = cause })
 abbrev pub in_front : Placed → Result (List Placed) RecordFault → Result (List Placed) RecordFault
 in_front p (Ok ps) = Ok (p ∷ ps)
 in_front p (Err e) = Err e
-
-abbrev pub placed : Entry → ℕ → ℕ → Placed
-placed e start past = record { entry = e; start = start; past = past }
 
 -- with more fuel than there are records
 unfoldable pub records_at : Format → ℕ → ℕ → ℕ → List (List ℕ) → List ℕ → Result (List Placed) RecordFault

@@ -1,9 +1,9 @@
 //! Laws of the spelling, of which the contracts of this crate speak.
-ghost use Rattle.std.specs.Prelude.{◌≡◌, ◌≤◌, ◌++◌, List, ℕ, Bool, Ok, length};
+ghost use Rattle.std.specs.Prelude.{◌≡◌, ◌≤◌, ◌+◌, ◌++◌, ◌∷◌, [], List, ℕ, Bool, true, false, Ok, length, take, drop};
 ghost use Rattle.tau_base.specs.Vectors.{AtMost};
-ghost use Rattle.tau_record.specs.Content.{IsContent};
+ghost use Rattle.tau_record.specs.Content.{anchors_of, named_behind, placed, Begins, IsContent, Reads};
 ghost use Rattle.tau_record.specs.Format.{Format, most_streams};
-ghost use Rattle.tau_record.specs.Record.{spelling, AreVectors, Fits, record_at};
+ghost use Rattle.tau_record.specs.Record.{named, spelling, AreVectors, Fits, Spells, record_at};
 ghost use Rattle.tau_record.specs.Vector.{mask_of, above, decoded};
 ghost use Rattle.tau_record.specs.declared.entry.Entry.{Entry};
 ghost use Rattle.tau_record.specs.declared.entry.Placed.{Placed};
@@ -28,4 +28,47 @@ pub fn decoded_vector()
 /// A content has one reading.
 pub fn one_reading()
     ensures { (f : Format) (n : ℕ) (content : List ℕ) (ps qs : List Placed) → n ≤ most_streams f → IsContent f n content ps → IsContent f n content qs → ps ≡ qs }
+{}
+
+/// No bytes are the content of no records.
+pub fn empty_content()
+    ensures { (f : Format) (n : ℕ) → IsContent f n [] [] }
+{}
+
+/// The spelling of a first record is a content.
+pub fn first_record()
+    ensures { (f : Format) (n : ℕ) (e : Entry) (bytes : List ℕ) → Spells f n (named n []) true e bytes → IsContent f n bytes (placed e 0 (length bytes) ∷ []) }
+{}
+
+/// A content that goes on by one more record is a content, and is read as the old one with that record behind it.
+pub fn appended_record()
+    ensures { (f : Format) (n : ℕ) (content : List ℕ) (ps : List Placed) (e : Entry) (bytes : List ℕ) → IsContent f n content ps → 1 ≤ length content →
+        Spells f n (named n (anchors_of ps)) false e bytes → IsContent f n (content ++ bytes) (ps ++ placed e (length content) (length content + length bytes) ∷ []) }
+{}
+
+/// A content that goes on by any records is a content.
+pub fn appended_content()
+    ensures { (f : Format) (n : ℕ) (content more : List ℕ) (ps qs : List Placed) → IsContent f n content ps →
+        Reads f n (length content) (named n (anchors_of ps)) more qs → IsContent f n (content ++ more) (ps ++ qs) }
+{}
+
+/// Each record of a content stands in its place, behind the content of the records before it.
+pub fn record_in_place()
+    ensures { (f : Format) (n : ℕ) (content : List ℕ) (ps : List Placed) (q : Placed) (qs : List Placed) → IsContent f n content (ps ++ q ∷ qs) →
+        IsContent f n (take q.start content) ps × Begins f n q.start (named n (anchors_of ps)) (drop q.start content) (drop q.past content) q × (q.past ≤ length content) }
+{}
+
+/// The vectors that are named behind records are the zero vector and their anchors'.
+pub fn named_anchors()
+    ensures { (n : ℕ) (ps : List Placed) → named_behind (named n []) ps ≡ named n (anchors_of ps) }
+{}
+
+/// The anchors of two parts of a content are those of the first and then those of the second.
+pub fn anchors_appended()
+    ensures { (ps qs : List Placed) → anchors_of (ps ++ qs) ≡ anchors_of ps ++ anchors_of qs }
+{}
+
+/// Each anchor of a content has a place for each stream.
+pub fn anchor_vectors()
+    ensures { (f : Format) (n : ℕ) (content : List ℕ) (ps : List Placed) → IsContent f n content ps → AreVectors n (named n (anchors_of ps)) }
 {}

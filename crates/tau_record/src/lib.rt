@@ -15,7 +15,11 @@ pub use content::decode;
 pub use encode::{encode_anchor, encode_catalogue, encode_command, encode_written};
 pub use entry::{Entry, Placed};
 pub use fault::{RecordCause, RecordFault, RecordRefusal};
-pub use laws::{decoded_vector, one_reading, one_spelling, read_again};
+pub use laws::{
+    anchor_vectors, anchors_appended, appended_content, appended_record, decoded_vector,
+    empty_content, first_record, named_anchors, one_reading, one_spelling, read_again,
+    record_in_place,
+};
 pub use vector::{compress, raise};
 
 #[cfg(test)]
