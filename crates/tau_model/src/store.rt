@@ -74,7 +74,7 @@ impl SerialStore {
     }
 
     /// Writes these rows, or none of them.
-    fn write(&mut self, writes: &[(Key, Value)]) -> Result<(), NoMemory>
+    pub fn write(&mut self, writes: &[(Key, Value)]) -> Result<(), NoMemory>
         ensures ok { OnOk result (database self.new ≡ written writes.now (database self.old)) }
         ensures err { OnErr result (database self.new ≡ database self.old) }
     {

@@ -110,6 +110,19 @@ fn transfers_move_what_is_there(rt: HostRuntime) -> Result<(), Fail> {
     Ok(())
 }
 
+#[test]
+fn rows_are_written_and_removed(rt: HostRuntime) -> Result<(), Fail> {
+    let mut store = SerialStore::new(rt.alloc());
+    let (one, two) = (Key { table: 0, row: 1 }, Key { table: 0, row: 2 });
+    store.write(&[(one, Value::Int(5)), (two, Value::Int(6))])?;
+    store.write(&[(one, Value::Absent), (two, Value::Int(7))])?;
+    assert_eq!(rt; store.value(one), Value::Absent);
+    assert_eq!(rt; store.value(two), Value::Int(7));
+    let tables = store.tables(rt.alloc())?;
+    assert!(rt; tables.rows() == [(two, Value::Int(7))].as_slice());
+    Ok(())
+}
+
 fn vector(rt: &impl Abort, parts: &[u64]) -> Lv {
     assert!(rt; !parts.is_empty() && parts.len() <= MAX_STREAMS);
     let mut out = Lv::zero(parts.len());

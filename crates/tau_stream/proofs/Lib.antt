@@ -1,2 +1,3 @@
+mod Catalogues
 pub mod Tears
 pub mod Parts

@@ -1,11 +1,10 @@
 -- The part of the gathered bytes that a flush makes durable.
-use Rattle.std.proofs.Common.{◌≡◌, ◌⊎◌, ⊎_elim, ℕ, ◌+◌, ◌-◌, ◌<◌, ◌≤◌, List, take, length, ◌∙◌, ap, arith, length-append, ◌∷◌, [], ◌++◌}
+use Rattle.std.proofs.Common.{◌≡◌, ⊎_elim, ℕ, ◌+◌, ◌-◌, ◌<◌, ◌≤◌, length, arith, length-append, ◌∷◌, []}
 use Rattle.std.proofs.lemmas.List.{length-take}
-use Rattle.tau_base.specs.declared.limits.TheConstants.{MAX_BODY}
 use Rattle.tau_disk.specs.declared.disk.Disk.{Ghosts}
 use Rattle.tau_block.specs.Image.{IsBody, tail_of}
 use Rattle.tau_stream.specs.declared.writer.Writer.{Writer}
-use Rattle.tau_stream.specs.Writer.{MayReach, IsPrepared, part_upto}
+use Rattle.tau_stream.specs.Writer.{MayReach, part_upto}
 
 module _ {D : Type 0} {G : Ghosts D} (writer : Writer D G) (upto : ℕ) (reach : MayReach writer upto) (some : writer.durable < upto) where
   pub length-part : length (part_upto writer upto) ≡ upto - writer.durable

@@ -1,11 +1,11 @@
 -- What a torn write leaves of a stream, and what its two steps make.
-use Rattle.std.proofs.Common.{◌≡◌, ◌≢◌, inl, inr, ℕ, ◌+◌, ◌-◌, ◌<◌, ◌≤◌, ◌^◌, List, [], ◌∷◌, ◌++◌, length, get_or, take, drop, refl, sym, ◌∙◌, ap, subst, arith, append_assoc, length-append, length-drop, take-append-drop}
+use Rattle.std.proofs.Common.{◌≡◌, inl, inr, ℕ, ◌+◌, ◌-◌, ◌<◌, ◌≤◌, List, [], ◌∷◌, ◌++◌, length, get_or, take, drop, sym, ◌∙◌, ap, subst, arith, append_assoc, length-append, length-drop, take-append-drop}
 use Rattle.std.specs.Int.{w32, to_be_bytes}
 use Rattle.std.proofs.lemmas.List.{take_at, drop_at, drop_all, drop_more, take_more, take-take, get_or-take, length-take-le, append-nil}
 use Rattle.std.proofs.lemmas.Bool.{cases_eq}
 use Rattle.tau_disk.specs.Disk.{Torn, Holds, Only}
-use Rattle.tau_block.specs.Image.{content_of, HasContent, header_of, block_of, tail_of, IsBody, IsFront, IsLog}
-use Rattle.tau_block.proofs.Blocks.{front_block, log_of_front, log_of_header, short_content}
+use Rattle.tau_block.specs.Image.{content_of, HasContent, header_of, block_of, tail_of, IsBody, IsLog}
+use Rattle.tau_block.proofs.Blocks.{front_block, log_of_front, short_content}
 use Rattle.tau_stream.specs.Stream.{IsSettled, IsOldOrNew}
 
 split_at : (xs : List ℕ) (p : ℕ) → p < length xs → xs ≡ take p xs ++ get_or xs p 0 ∷ drop (p + 1) xs

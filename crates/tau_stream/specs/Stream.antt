@@ -1,12 +1,14 @@
 -- The disk of a log stream.
-use Rattle.std.specs.Prelude.{◌≡◌, ◌⊎◌, ℕ, ◌+◌, ◌≤◌, List, [], ◌∷◌, ◌++◌, length}
-use Rattle.std.specs.Int.{w32, to_be_bytes}
+use Rattle.std.specs.Prelude.{◌⊎◌, ℕ, ◌≤◌, List, [], ◌++◌, length}
 use Rattle.tau_disk.specs.Disk.{Only}
 use Rattle.tau_block.specs.Image.{HasContent, IsLog}
+use Rattle.tau_record.specs.declared.entry.Entry.TheVariants.{Catalogue}
+use Rattle.tau_record.specs.Format.{One}
+use Rattle.tau_record.specs.Record.{spelling}
 
--- the record of a catalogue: its kind, the length of the whole record, and the text
+-- the record of a catalogue, which names no anchor
 abbrev pub catalogue_record : List ℕ → List ℕ
-catalogue_record text = 4 ∷ (to_be_bytes w32 (5 + length text) ++ text)
+catalogue_record text = spelling One [] (Catalogue text)
 
 -- what a read gives is a log of stream j of n with this content and a closed gate at this place, and a stop leaves nothing else
 pub record IsSettled (n j : ℕ) (file : List ℕ) (may_leave : List ℕ → Type 0) (gate_at : ℕ) (content : List ℕ) : Type 0 where

@@ -7,10 +7,11 @@ ghost use Rattle.tau_disk.specs.Plan.{HasMade, MadeAll, MadeSome};
 ghost use Rattle.tau_stream.specs.Stream.{IsOldOrNew, IsSettled, IsUnborn, catalogue_record};
 
 use crate::{Flush, publish, publish_gated};
-use std::alloc::{AllocError, Global};
+use std::alloc::Global;
 use tau_base::NoMemory;
 use tau_block::{append_tail, header};
 use tau_disk::{Disk, Failed, Gate, Quiet, write_durably};
+use tau_record::encode_catalogue;
 
 /// Writes one log stream onto a disk, block by block.
 #[derive(Drop)]
@@ -256,22 +257,10 @@ fn first_block(alloc: Global, catalogue: &[u8]) -> Result<(Vec<u8>, usize), NoMe
     ensures block { IfOk result (λ first. first.0.items ≡ tail_of (catalogue_record catalogue.now)) }
     ensures size { IfOk result (λ first. first.1 ≡ length (catalogue_record catalogue.now)) }
 {
-    let record = record_of(alloc, catalogue).map_err(|_| NoMemory)?;
+    let record = encode_catalogue(alloc, catalogue)?;
     let mut block = Vec::new(alloc);
     append_tail(&mut block, &record)?;
     Ok((block, record.len()))
-}
-
-// The record of a catalogue.
-fn record_of(alloc: Global, text: &[u8]) -> Result<Vec<u8>, AllocError>
-    requires { length text.now ≤ MAX_CATALOGUE }
-    ensures { IfOk result (λ r. r.items ≡ catalogue_record text.now) }
-{
-    let mut record = Vec::with_capacity(alloc, 5 + text.len())?;
-    record.push(4)?;
-    record.extend_from_slice(&(5 + text.len() as u32).to_be_bytes())?;
-    record.extend_from_slice(text)?;
-    Ok(record)
 }
 
 // Writes the header with a closed gate onto an empty disk, and the first block behind it.

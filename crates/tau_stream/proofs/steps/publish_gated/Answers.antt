@@ -1,6 +1,5 @@
-use Rattle.std.proofs.Common.{ℕ, ◌+◌, List, [], ◌∷◌, ◌++◌, length, get_or, inl, subst, sym, ◌∙◌, ◌≤◌, ◌<◌, arith}
-use Rattle.std.proofs.lemmas.Result.{on_ok_weaker}
-use Rattle.tau_disk.specs.Disk.{Torn, Holds, Passes}
+use Rattle.std.proofs.Common.{ℕ, ◌+◌, List, ◌++◌, length, get_or, inl, subst, sym, ◌∙◌, arith}
+use Rattle.tau_disk.specs.Disk.{Torn, Holds}
 use Rattle.tau_disk.specs.Passing.{passes_weaker, passes_on}
 use Rattle.tau_stream.specs.Stream.{IsOldOrNew, IsSettled}
 use Rattle.tau_stream.proofs.Tears.{torn_behind, staged, torn_gate, opened, settles, holds_long}

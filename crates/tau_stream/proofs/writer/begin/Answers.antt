@@ -1,9 +1,9 @@
-use Rattle.std.proofs.Common.{◌≡◌, ◌+◌, ◌++◌, [], List, ℕ, length, ◌∷◌, inl, subst, sym, ap, ◌∙◌, arith, length-append}
+use Rattle.std.proofs.Common.{◌≡◌, [], List, ℕ, length, inl, subst, sym, ap, arith}
 use Rattle.tau_disk.specs.Disk.{Torn}
 use Rattle.tau_disk.specs.Passing.{passes_on, passes_weaker}
-use Rattle.tau_block.specs.Image.{header_of, IsLog}
+use Rattle.tau_block.specs.Image.{IsLog}
 use Rattle.tau_block.proofs.Blocks.{log_of_header}
-use Rattle.tau_stream.specs.Stream.{IsOldOrNew, IsSettled}
+use Rattle.tau_stream.specs.Stream.{IsOldOrNew}
 use Rattle.tau_stream.proofs.Tears.{torn_unborn, header_is}
 use Rattle.tau_stream.proofs.writer.begin.Goals as goal
 

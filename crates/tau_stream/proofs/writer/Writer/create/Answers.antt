@@ -1,14 +1,7 @@
-use Rattle.std.proofs.Common.{◌≡◌, ℕ, ◌+◌, ◌-◌, ◌*◌, ◌<◌, ◌≤◌, ◌∙◌, ◌++◌, ◌∷◌, [], sym, subst, length, List, ap, arith, refl, length-append}
-use Rattle.tau_base.specs.declared.limits.TheConstants.{MAX_CATALOGUE}
-use Rattle.tau_block.specs.Image.{IsBody, tail_of}
+use Rattle.std.proofs.Common.{◌≡◌, ℕ, ◌+◌, ◌∙◌, subst, length, ap, arith}
 use Rattle.tau_stream.specs.Stream.{IsSettled, catalogue_record}
+use Rattle.tau_stream.proofs.Catalogues.{catalogue_is, length-block}
 use Rattle.tau_stream.proofs.writer.Writer.create.Goals as goal
-
-catalogue_is : (text : List ℕ) → length text ≤ MAX_CATALOGUE → IsBody (catalogue_record text)
-catalogue_is text short = record { some = omega arith; most = omega (arith, short) }
-
-length-block : (text block : List ℕ) → block ≡ tail_of (catalogue_record text) → length block ≡ 10 + length text
-length-block text block is = ap length is ∙ omega (arith, length-append (catalogue_record text) (0 ∷ []), length-append text (0 ∷ []))
 
 pub invariant_of-result : goal.invariant_of-result
 invariant_of-result g c =

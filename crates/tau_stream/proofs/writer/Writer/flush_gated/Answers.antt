@@ -1,5 +1,4 @@
-use Rattle.std.proofs.Common.{◌≡◌, ℕ, ◌+◌, ◌-◌, ◌*◌, ◌<◌, ◌≤◌, ◌∙◌, ◌++◌, sym, subst, length, take, drop, List, ap, arith, length-append, length-drop}
-use Rattle.tau_block.specs.Image.{tail_of}
+use Rattle.std.proofs.Common.{◌≡◌, ℕ, ◌+◌, ◌-◌, ◌<◌, ◌≤◌, ◌∙◌, ◌++◌, subst, length, ap, arith, length-append, length-drop}
 use Rattle.tau_stream.specs.Stream.{IsSettled}
 use Rattle.tau_stream.specs.Writer.{part_upto}
 use Rattle.tau_stream.proofs.Parts.{part_is, part_whole, length-part, length-tail}
