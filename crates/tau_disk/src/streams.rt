@@ -1,10 +1,12 @@
 // A source and a sink in memory, and over std's reader and writer.
-ghost use Rattle.std.specs.Prelude.{◌≡◌, ◌≤◌, [], drop, length, IfOk};
+ghost use Rattle.std.specs.Prelude.{◌≡◌, ◌≢◌, ◌≤◌, [], drop, length, IfOk, IfErr};
+ghost use Rattle.std.specs.IoError.{error_kind};
 
 use crate::memory::is_listed;
 use crate::{Failed, Sink, Source};
 use std::alloc::Global;
-use std::io::{Read, Write};
+use std::io;
+use std::io::{ErrorKind, Read, Write};
 use tau_base::NoMemory;
 
 /// Bytes in memory, read from the front. The calls with the numbers in its list fail.
@@ -105,7 +107,25 @@ impl Sink for MemSink {
     }
 }
 
-/// Any reader of std. It tells nothing.
+// One read, tried again where it was interrupted.
+fn read_again<R: Read>(reader: &mut R, buf: &mut [u8]) -> io::Result<usize>
+    ensures bound { IfOk result (λ n. n ≤ length buf.old) }
+    ensures again { IfErr result (λ e. error_kind e ≢ ErrorKind.Interrupted) }
+{
+    for _ in 0..u64::MAX {
+        match reader.read(buf) {
+            Ok(count) => return Ok(count),
+            Err(error) => {
+                if error.kind() != ErrorKind::Interrupted {
+                    return Err(error);
+                }
+            }
+        }
+    }
+    Err(io::Error::from(ErrorKind::TimedOut))
+}
+
+/// Any reader of std. A read that was interrupted is tried again. It tells nothing.
 #[derive(Drop)]
 pub struct ReadSource<R: Read> {
     inner: R,
@@ -126,7 +146,7 @@ impl<R: Read> Source for ReadSource<R> {
     ghost faults = { λ s. s.faults };
 
     fn read(&mut self, buf: &mut [u8]) -> Result<usize, Failed> {
-        match self.inner.read(buf) {
+        match read_again(&mut self.inner, buf) {
             Ok(count) => Ok(count),
             Err(_) => {
                 self.faults = self.faults.saturating_add(1);

@@ -133,3 +133,31 @@ fn streams_of_the_system_fail_in_mid_stream(rt: HostRuntime) -> Result<(), Fail>
 fn quiet_gate_holds_nothing(_rt: HostRuntime) {
     Quiet.at(Place::Flush { stream: 0 });
 }
+
+#[derive(Drop)]
+struct Interrupted {
+    calls: u8,
+}
+
+impl Read for Interrupted {
+    fn read(&mut self, buf: &mut [u8]) -> io::Result<usize> {
+        let call = self.calls;
+        self.calls = call.saturating_add(1);
+        match call {
+            2 => Ok(buf.len().min(3)),
+            4 => Err(io::Error::from(ErrorKind::UnexpectedEof)),
+            6 => Ok(0),
+            _ => Err(io::Error::from(ErrorKind::Interrupted)),
+        }
+    }
+}
+
+#[test]
+fn an_interrupted_read_is_tried_again(rt: HostRuntime) -> Result<(), Fail> {
+    let mut source = ReadSource::new(Interrupted { calls: 0 });
+    let mut buf = [0u8; 4];
+    assert_eq!(rt; source.read(&mut buf)?, 3);
+    assert!(rt; source.read(&mut buf).is_err());
+    assert_eq!(rt; source.read(&mut buf)?, 0);
+    Ok(())
+}
