@@ -1,0 +1,107 @@
+-- Reading disks one after another.
+use Rattle.std.proofs.Common.{ℕ, zero, suc, ◌≡◌, inl, inr, ◌+◌, ◌<◌, ◌≤◌, List, [], ◌∷◌, ◌++◌, map, take, length, ◌≢◌, refl, sym, ap, subst, ◌∙◌, arith}
+use Rattle.std.specs.Prelude.{Some, slice_get}
+use Rattle.std.proofs.Math.ListN.{set}
+use Rattle.std.proofs.lemmas.Bool.{cases_eq}
+use Rattle.std.proofs.lemmas.List.{length-append, length-set}
+use Rattle.tau_disk.specs.Disk.{Elapses}
+use Rattle.tau_scan.specs.Outside.{OnlyRead, Each}
+
+module _ {D : Type 0} (tells : Type 0) (seen : D → List ℕ) (may_leave : D → List ℕ → Type 0) (moment : D → ℕ) (since : D → ℕ → List ℕ → Type 0) (faults : D → ℕ) where
+  -- one call that read
+  pub called : (d e : D) → (tells → seen e ≡ seen d) → ((x : List ℕ) → may_leave e x → may_leave d x) → ((x : List ℕ) → may_leave d x → may_leave e x) →
+      Elapses (moment d) (moment e) (since d) (since e) (may_leave e) → faults d ≤ faults e → OnlyRead tells seen may_leave moment since faults d e
+  called d e same crash keeps time count = record {
+    same = same;
+    no_more = crash;
+    no_less = keeps;
+    moments = record {
+      later = time.later;
+      new_ones = λ t x le s. elim (time.nothing_else t x le s) [ inl old ↦ inl old | inr now ↦ inr (crash x now) ];
+    };
+    counts = count;
+  }
+
+  pub untouched : (d : D) → OnlyRead tells seen may_leave moment since faults d d
+  untouched d = record {
+    same = λ t. refl;
+    no_more = λ x m. m;
+    no_less = λ x m. m;
+    moments = record { later = omega arith; new_ones = λ t x le s. inl s };
+    counts = omega arith;
+  }
+
+  pub read_again : (d e f : D) → OnlyRead tells seen may_leave moment since faults d e → OnlyRead tells seen may_leave moment since faults e f → OnlyRead tells seen may_leave moment since faults d f
+  read_again d e f a b = record {
+    same = λ t. b.same t ∙ a.same t;
+    no_more = λ x m. a.no_more x (b.no_more x m);
+    no_less = λ x m. b.no_less x (a.no_less x m);
+    moments = record {
+      later = omega (arith, a.moments.later, b.moments.later);
+      new_ones = λ t x le s. elim (b.moments.new_ones t x (omega (arith, le, a.moments.later)) s) [
+        | inl old ↦ a.moments.new_ones t x le old
+        | inr now ↦ inr (a.no_more x now)
+      ];
+    };
+    counts = omega (arith, a.counts, b.counts);
+  }
+
+  -- the disks below an index are read, and gave these images; the others are as they were
+  pub record IsReading (old new : List D) (n : ℕ) (images : List (List ℕ)) : Type 0 where
+    pub read : Each (OnlyRead tells seen may_leave moment since faults) old new
+    pub rest : (k : ℕ) → n ≤ k → slice_get new k ≡ slice_get old k
+    pub given : tells → images ≡ map seen (take n old)
+    pub count : length images ≡ n
+    pub many : length new ≡ length old
+
+  get_set_same : (xs : List D) (i : ℕ) (v : D) → i < length xs → slice_get (set xs i v) i ≡ Some v
+  get_set_same [] i v lt = absurd (omega (arith, lt))
+  get_set_same (x ∷ xs) zero v lt = refl
+  get_set_same (x ∷ xs) (suc i) v lt = get_set_same xs i v (omega (arith, lt))
+
+  get_set_other : (xs : List D) (i k : ℕ) (v : D) → k ≢ i → slice_get (set xs i v) k ≡ slice_get xs k
+  get_set_other [] i k v other = refl
+  get_set_other (x ∷ xs) zero zero v other = absurd (other refl)
+  get_set_other (x ∷ xs) zero (suc k) v other = refl
+  get_set_other (x ∷ xs) (suc i) zero v other = refl
+  get_set_other (x ∷ xs) (suc i) (suc k) v other = get_set_other xs i k v (λ e. other (ap (λ (n : ℕ). suc n) e))
+
+  same_some : (d e : D) → Some d ≡ Some e → d ≡ e
+  same_some d e is = cc
+
+  taken_more : (old : List D) (n : ℕ) (d : D) → slice_get old n ≡ Some d → map seen (take (n + 1) old) ≡ map seen (take n old) ++ seen d ∷ []
+  taken_more [] n d here = absurd cc
+  taken_more (y ∷ old) zero d here = ap (λ (z : D). seen z ∷ []) (same_some y d here)
+  taken_more (y ∷ old) (suc n) d here = let next : suc n + 1 ≡ suc (n + 1) = omega arith in rw next (ap (λ (zs : List (List ℕ)). seen y ∷ zs) (taken_more old n d here))
+
+  pub reading_first : (old : List D) → IsReading old old 0 []
+  reading_first old = record {
+    read = λ j d here. (d, here, untouched d);
+    rest = λ k le. refl;
+    given = λ t. refl;
+    count = refl;
+    many = refl;
+  }
+
+  -- the disk at an index was read, and whatever it gave
+  pub each_on : (old new : List D) (n : ℕ) (images : List (List ℕ)) (d e : D) → IsReading old new n images → n < length new → slice_get new n ≡ Some d → OnlyRead tells seen may_leave moment since faults d e →
+      Each (OnlyRead tells seen may_leave moment since faults) old (set new n e)
+  each_on old new n images d e g lt here read j b was = elim (cases_eq j n) [
+    | inl same ↦
+        let mine : slice_get old n ≡ Some b = subst (λ (k : ℕ). slice_get old k ≡ Some b) same was in
+        let is : d ≡ b = same_some d b (sym here ∙ g.rest n (omega arith) ∙ mine) in
+        (e, subst (λ (k : ℕ). slice_get (set new n e) k ≡ Some e) (sym same) (get_set_same new n e lt), subst (λ (z : D). OnlyRead tells seen may_leave moment since faults z e) is read)
+    | inr other ↦ let (f, there, r) = g.read j b was in (f, get_set_other new n j e other ∙ there, r)
+  ]
+
+  pub reading_on : (old new : List D) (n : ℕ) (images : List (List ℕ)) (d e : D) (image : List ℕ) → IsReading old new n images → n < length new → slice_get new n ≡ Some d → OnlyRead tells seen may_leave moment since faults d e →
+      (tells → image ≡ seen d) → IsReading old (set new n e) (n + 1) (images ++ image ∷ [])
+  reading_on old new n images d e image g lt here read gave = record {
+    read = each_on old new n images d e g lt here read;
+    rest = λ k le. get_set_other new n k e (λ same. omega (arith, le, same)) ∙ g.rest k (omega (arith, le));
+    given = λ t.
+        let more = taken_more old n d (sym (g.rest n (omega arith)) ∙ here) in
+        ap (λ (xs : List (List ℕ)). xs ++ image ∷ []) (g.given t) ∙ ap (λ (x : List ℕ). map seen (take n old) ++ x ∷ []) (gave t) ∙ sym more;
+    count = omega (arith, length-append images (image ∷ []), g.count);
+    many = length-set new n e ∙ g.many;
+  }

@@ -1,0 +1,4 @@
+pub mod Reading
+pub mod Taken
+pub mod Outside
+pub mod Found

@@ -1,0 +1,101 @@
+//! Why there is no log, or none that can be redone.
+use tau_block::ImageFault;
+use tau_record::RecordFault;
+use thiserror::Error;
+
+/// What is wrong with a log.
+#[derive(Clone, Copy, Debug, PartialEq, Eq, Error)]
+pub enum LogCause {
+    /// The image of the stream holds no content.
+    #[error(transparent)]
+    Image(ImageFault),
+    /// The image states another number of streams.
+    #[error("asked for {asked} streams, found {found}")]
+    Count {
+        /// How many streams were to be read.
+        asked: u16,
+        /// How many the image states.
+        found: u16,
+    },
+    /// The first bad record of the stream.
+    #[error(transparent)]
+    Body(RecordFault),
+    /// The declarations differ from those of another stream.
+    #[error("the catalogue differs from that of stream {with} at {at}")]
+    Catalogue {
+        /// The lowest stream that has declarations.
+        with: u8,
+        /// The first byte at which the texts differ, or the length of the shorter one.
+        at: u32,
+    },
+    /// Records wait for one another. Reading never answers it.
+    #[error("tangled at {at}")]
+    Tangled {
+        /// Where the first record starts that can't be redone.
+        at: u64,
+    },
+}
+
+/// The first cause why the streams hold no log that can be redone.
+#[derive(Clone, Copy, Debug, PartialEq, Eq, Error)]
+#[error("stream {stream}: {cause}")]
+pub struct LogFault {
+    /// The stream.
+    pub stream: u8,
+    /// What is wrong with it.
+    pub cause: LogCause,
+}
+
+/// Why no log was read.
+#[derive(Clone, Copy, Debug, PartialEq, Eq, Error)]
+pub enum ScanRefusal {
+    /// Memory was wanting.
+    #[error("out of memory")]
+    NoMemory,
+    /// The disk of this stream failed.
+    #[error("the disk of stream {stream} failed")]
+    Failed {
+        /// The stream.
+        stream: u8,
+    },
+    /// The images hold no log. This is the first cause.
+    #[error(transparent)]
+    Bad(LogFault),
+}
+
+/// Why a log was not redone.
+#[derive(Clone, Copy, Debug, PartialEq, Eq, Error)]
+pub enum ReplayRefusal {
+    /// Memory was wanting.
+    #[error("out of memory")]
+    NoMemory,
+    /// No order of the taken records is orderly.
+    #[error("stream {stream} is tangled at {at}")]
+    Tangled {
+        /// The lowest stream with a record that can't be redone.
+        stream: u8,
+        /// Where its first such record starts.
+        at: u64,
+    },
+}
+
+/// Why the disks were not read.
+#[derive(Clone, Copy, Debug, PartialEq, Eq)]
+pub(crate) enum ReadRefusal {
+    /// Memory was wanting.
+    NoMemory,
+    /// The disk of this stream failed.
+    Failed {
+        /// The stream.
+        stream: u8,
+    },
+}
+
+/// Why the images gave no log.
+#[derive(Clone, Copy, Debug, PartialEq, Eq)]
+pub(crate) enum LogRefusal {
+    /// Memory was wanting.
+    NoMemory,
+    /// The first cause.
+    Bad(LogFault),
+}

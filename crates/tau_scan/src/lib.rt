@@ -1,0 +1,17 @@
+//! Reading the log of all streams: what their images hold together, or the first cause why they hold no log.
+#![tactic(auto)]
+
+mod catalogue;
+mod content;
+mod fault;
+mod log;
+mod read;
+mod reading;
+mod records;
+
+pub use fault::{LogCause, LogFault, ReplayRefusal, ScanRefusal};
+pub use log::Log;
+pub use reading::scan;
+
+#[cfg(test)]
+mod tests;

@@ -1,0 +1,65 @@
+//! Reading disks.
+ghost use Rattle.std.specs.Prelude.{◌≡◌, ◌≤◌, ℕ, List, length, map, IfOk, OnErr, Err};
+ghost use Rattle.tau_base.specs.declared.limits.TheConstants.{MAX_STREAMS};
+ghost use Rattle.tau_disk.specs.Disk.{Rose};
+ghost use Rattle.tau_scan.specs.Outside.{OnlyRead, Each, RoseAt};
+
+use crate::fault::ReadRefusal;
+use std::alloc::Global;
+use tau_base::{Listed, NoMemory};
+use tau_disk::Disk;
+
+/// The bytes that a read of the whole disk gives.
+fn read_image<D: Disk>(alloc: Global, disk: &mut D, stream: u8) -> Result<Vec<u8>, ReadRefusal>
+    ensures bytes { IfOk result (λ image. D.tells → image.items ≡ D.seen disk.old) }
+    ensures failed { (j : ℕ) → result ≡ Err (ReadRefusal.Failed j) → (j ≡ stream) × Rose (D.faults disk.old) (D.faults disk.new) }
+    ensures only_read { OnlyRead D.tells D.seen D.may_leave D.moment D.may_leave_since D.faults disk.old disk.new }
+{
+    let length = match disk.len() {
+        Ok(length) => length,
+        Err(_) => return Err(ReadRefusal::Failed { stream }),
+    };
+    let mut image = match zeros(alloc, length as usize) {
+        Ok(image) => image,
+        Err(_) => return Err(ReadRefusal::NoMemory),
+    };
+    match disk.read_at(0, &mut image) {
+        Ok(()) => Ok(image),
+        Err(_) => Err(ReadRefusal::Failed { stream }),
+    }
+}
+
+/// So many zeros.
+fn zeros(alloc: Global, n: usize) -> Result<Vec<u8>, NoMemory>
+    ensures { IfOk result (λ v. length v.items ≡ n) }
+{
+    match vec![in alloc; 0u8; n] {
+        Ok(bytes) => Ok(bytes),
+        Err(_) => Err(NoMemory),
+    }
+}
+
+/// The images of all streams. The lowest disk that fails ends the reading.
+pub fn read_images<D: Disk>(
+    alloc: Global,
+    disks: &mut [D],
+) -> Result<Listed<Listed<u8>>, ReadRefusal>
+    requires { length disks.old ≤ MAX_STREAMS }
+    ensures many { IfOk result (λ images. length images ≡ length disks.old) }
+    ensures bytes { IfOk result (λ images. D.tells → images ≡ map D.seen disks.old) }
+    ensures failed { (j : ℕ) → result ≡ Err (ReadRefusal.Failed j) → RoseAt D.faults disks.old disks.new j }
+    ensures only_read { Each (OnlyRead D.tells D.seen D.may_leave D.moment D.may_leave_since D.faults) disks.old disks.new }
+{
+    let mut images = Listed::new(alloc);
+    for j in 0..disks.len() {
+        let image = match read_image(alloc, &mut disks[j], j as u8) {
+            Ok(image) => image,
+            Err(refusal) => return Err(refusal),
+        };
+        match images.push(Listed::of(image)) {
+            Ok(()) => {}
+            Err(_) => return Err(ReadRefusal::NoMemory),
+        }
+    }
+    Ok(images)
+}
