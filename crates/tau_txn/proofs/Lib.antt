@@ -1,0 +1,13 @@
+pub mod Asked
+pub mod Spots
+pub mod Withouts
+pub mod Follow
+pub mod Bound
+pub mod Granted
+pub mod Keeping
+pub mod Lowest
+pub mod Bridge
+pub mod Nexts
+pub mod Txns
+pub mod Prepared
+pub mod Blocked

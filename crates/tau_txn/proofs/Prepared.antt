@@ -1,0 +1,49 @@
+-- Records that were made.
+use Rattle.std.proofs.Common.{ℕ, zero, suc, ◌≤◌, ◌≡◌, Bool, false, List, [], ◌∷◌, ◌++◌, length, refl, sym, ap, subst, ◌∙◌, arith}
+use Rattle.std.specs.Prelude.{Option, Some, Result, Ok, Err, OnOk, replicate, slice_index_or}
+use Rattle.tau_base.specs.Vectors.{join}
+use Rattle.tau_base.specs.declared.value.LogMode.{LogMode}
+use Rattle.tau_base.specs.declared.value.NoMemory.{NoMemory}
+use Rattle.tau_proc.specs.declared.proc.Proc.{Proc}
+use Rattle.tau_proc.specs.Progress.{Progress, next_want}
+use Rattle.tau_record.specs.declared.entry.Entry.{Entry}
+use Rattle.tau_record.specs.Format.{One}
+use Rattle.tau_record.specs.Record.{base_of, Spells}
+use Rattle.tau_machine.specs.Hands.{Hand}
+use Rattle.tau_txn.specs.Hand.{PlainHand}
+use Rattle.tau_txn.specs.Next.{act_at}
+use Rattle.tau_txn.specs.Progress.{IsRunBy, IsFinished}
+use Rattle.tau_txn.specs.Record.{entry_of}
+use Rattle.tau_txn.specs.Steps.{record_of}
+use Rattle.tau_txn.specs.Txn.{shown}
+use Rattle.tau_txn.proofs.Txns.{record-is}
+
+-- some list of vectors has this one at this number
+base-at : (k : ℕ) (v : List ℕ) → base_of (replicate k [] ++ v ∷ []) k ≡ v
+base-at zero v = refl
+base-at (suc k) v = base-at k v
+
+spelled-some : (n number : ℕ) (anchor : List ℕ) (e : Entry) (bytes : List ℕ) → ((vectors : List (List ℕ)) → base_of vectors number ≡ anchor → Spells One n vectors false e bytes) → 1 ≤ length bytes
+spelled-some n number anchor e bytes spells =
+    let s = spells (replicate number [] ++ anchor ∷ []) (base-at number anchor) in
+    let long = ap length s.text in omega (arith, long)
+
+module _ (w width : ℕ) (mode : LogMode) (h new : PlainHand) (number : ℕ) (anchor : List ℕ) where
+  abbrev Raised : Type 0
+  Raised = new ≡ record h { dep = join h.dep anchor; anchor = number; bytes = new.bytes }
+
+  abbrev Spelled : Type 0
+  Spelled = (vectors : List (List ℕ)) → base_of vectors number ≡ anchor → Spells One (length h.dep) vectors false (record_of mode new) new.bytes
+
+  pub prepared-sized : (r : Result (Unit {0}) NoMemory) → OnOk r Spelled → OnOk r (1 ≤ length new.bytes)
+  prepared-sized (Ok u) s = spelled-some (length h.dep) number anchor (record_of mode new) new.bytes s
+  prepared-sized (Err e) s = tt
+
+  pub prepared-bytes : (r : Result (Unit {0}) NoMemory) → OnOk r Raised → OnOk r Spelled → length h.dep ≡ width → IsFinished (next_want h.machine) → ((procs : List Proc) → IsRunBy procs h → IsRunBy procs new) →
+      OnOk r ((procs : List Proc) (hand : Hand) (start : ℕ) (vectors : List (List ℕ)) → IsRunBy procs h → shown procs w new.standing new ≡ Some hand → base_of vectors number ≡ anchor →
+      Spells One width vectors false (entry_of mode (act_at procs (record { worker = w; width = width; mode = mode; hand = Some new }) start hand)) new.bytes)
+  prepared-bytes (Err e) raised s wide finished runs = tt
+  prepared-bytes (Ok u) raised s wide finished runs = λ procs hand start vectors run is base.
+      let finished' = subst (λ (m : Progress). IsFinished (next_want m)) (sym (ap (λ (a : PlainHand). a.machine) raised)) finished in
+      subst (λ (n : ℕ). Spells One n vectors false (entry_of mode (act_at procs (record { worker = w; width = width; mode = mode; hand = Some new }) start hand)) new.bytes) wide
+      (subst (λ (e : Entry). Spells One (length h.dep) vectors false e new.bytes) (record-is procs w width mode start new hand (runs procs run) finished' is) (s vectors base))

@@ -1,0 +1,10 @@
+pub mod Actions
+pub mod Hand
+pub mod Kept
+pub mod Next
+pub mod Progress
+pub mod Read
+pub mod Record
+pub mod Spot
+pub mod Steps
+pub mod Txn

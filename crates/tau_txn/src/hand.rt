@@ -1,0 +1,628 @@
+//! A call in hand.
+ghost use Rattle.std.specs.Prelude.{◌≡◌, ◌==◌, ◌<◌, ◌≤◌, ◌+◌, ◌||◌, [], ◌∷◌, List, ℕ, Option, Some, length, not, replicate, IsTrue, IsSome, IfOk, true, false, OnOk, OnErr};
+ghost use Rattle.std.specs.Map.{lookup};
+ghost use Rattle.std.specs.FinMap.{is_sorted};
+ghost use Rattle.tau_base.specs.Database.{same_key, key_cmp};
+ghost use Rattle.tau_base.specs.Vectors.{AtMost, join};
+ghost use Rattle.tau_base.specs.declared.limits.TheConstants.{MAX_LSN, MAX_STREAMS};
+ghost use Rattle.tau_base.specs.declared.value.Key.{Key};
+ghost use Rattle.tau_base.specs.declared.value.Mode.{Mode};
+ghost use Rattle.tau_base.specs.declared.value.Call.{Call};
+ghost use Rattle.tau_base.specs.declared.value.Value.{Value};
+ghost use Rattle.tau_proc.specs.declared.proc.Proc.{Proc};
+ghost use Rattle.tau_proc.specs.declared.reply.Reply.{Reply};
+ghost use Rattle.tau_proc.specs.declared.reply.Want.{Want};
+ghost use Rattle.tau_proc.specs.Progress.{ahead, buffered, next_want};
+ghost use Rattle.tau_proc.specs.Takes.{takes};
+ghost use Rattle.tau_record.specs.Format.{One};
+ghost use Rattle.tau_record.specs.Record.{base_of, Spells};
+ghost use Rattle.tau_model.specs.History.{Act};
+ghost use Rattle.tau_machine.specs.Hands.{Txn, Placed, Freeing, hold};
+ghost use Rattle.tau_machine.specs.Worker.{Worker, fresh, settled, hand_busy, hand_quit, hand_joined, hand_freed};
+ghost use Rattle.tau_txn.specs.Actions.{quits, frees};
+ghost use Rattle.tau_txn.specs.Kept.{Shaped, KeepsHand, keeps_in, kept, is_leaving};
+ghost use Rattle.tau_txn.specs.Next.{ends_with, asks, frees_on, next_by, IsForWent, FreesBy};
+ghost use Rattle.tau_txn.specs.Progress.{IsRunBy, IsRun, Follows, WantsUnseen, HasCommitted, IsFinished};
+ghost use Rattle.tau_txn.specs.Read.{hand_of, act_in, placed_act, reading_act};
+ghost use Rattle.tau_txn.specs.Record.{kept_reading, kept_joined, kept_by, spot_by};
+ghost use Rattle.tau_txn.specs.Steps.{lock_in, locked_with, first_key, without_first, record_of};
+ghost use Rattle.tau_txn.specs.Txn.{shown_of, worker_in, joined_by, lv_by};
+
+use crate::action::Action;
+use crate::course::Course;
+use crate::held::{leave_first, take, value_at};
+use crate::standing::Standing;
+use arrayvec::ArrayVec;
+use std::alloc::Global;
+use std::marker::Model;
+use std::mem;
+use tau_base::{Call, Key, LogMode, Lv, MAX_TRIES, Mode, NoMemory, Value};
+use tau_model::{Committed, Spot};
+use tau_proc::{Procs, Reply, Want};
+use tau_record::{encode_command, encode_written, raise};
+
+/// A call in hand. Its keys, the values that it has seen and its machine lie in the value itself; its record alone is on the heap.
+#[derive(Drop)]
+pub struct Hand {
+    alloc: Global,
+    number: u64,
+    call: Call,
+    machine: Course,
+    tries: u8,
+    leaves: bool,
+    given_up: bool,
+    standing: Standing,
+    dep: Lv,
+    held: ArrayVec<(Key, Mode), 64>,
+    seen: ArrayVec<(Key, Value), 64>,
+    anchor: u32,
+    stream: u8,
+    start: u64,
+    past: u64,
+    lv: Lv,
+    bytes: Vec<u8>,
+}
+
+impl Model for Hand {
+    ghost use Rattle.tau_txn.specs.Hand.{PlainHand};
+
+    ghost Value = { PlainHand };
+
+    ghost view = { λ h. record { number = h.number; call = h.call; machine = h.machine; tries = h.tries; leaves = h.leaves; given_up = h.given_up; standing = h.standing; dep = h.dep; held = h.held.items; seen = h.seen.items; anchor = h.anchor; stream = h.stream; start = h.start; past = h.past; lv = h.lv; bytes = h.bytes.items } };
+}
+
+impl Hand {
+    /// A call that begins.
+    pub fn begin(alloc: Global, procs: &Procs, number: u64, call: &Call, n: usize) -> Hand
+        requires low { 1 ≤ n }
+        requires high { n ≤ 16 }
+        requires takes { IsTrue (takes procs.now call.now) }
+        requires number { 1 ≤ number }
+        ensures begun { (w : ℕ) → hand_of procs.now w result ≡ fresh n (record { number = number; call = call.now }) 0 }
+        ensures standing { result.standing ≡ Standing.Running }
+        ensures stays { result.leaves ≡ false }
+        ensures runs { IsRunBy procs.now result }
+        ensures keeps { KeepsHand n result }
+    {
+        let _limits = procs.list();
+        Hand {
+            alloc,
+            number,
+            call: copied(call),
+            machine: Course::start(procs, call),
+            tries: 0,
+            leaves: false,
+            given_up: false,
+            standing: Standing::Running,
+            dep: Lv::zero(n),
+            held: ArrayVec::new(),
+            seen: ArrayVec::new(),
+            anchor: 0,
+            stream: 0,
+            start: 0,
+            past: 0,
+            lv: Lv::zero(n),
+            bytes: Vec::new(alloc),
+        }
+    }
+
+    /// Its number.
+    pub fn number(&self) -> u64
+        ensures { result ≡ self.now.number }
+    {
+        self.number
+    }
+
+    /// Its vector so far, without its own record.
+    pub fn dep(&self) -> Lv
+        ensures { result ≡ self.now.dep }
+    {
+        self.dep
+    }
+
+    /// The vector that it frees its keys with: its own once it has joined the committed calls, before that the one so far.
+    pub fn lv(&self) -> Lv
+        ensures { result ≡ lv_by self.now.standing self.now }
+    {
+        match self.standing {
+            Standing::Running => self.dep,
+            Standing::Quitting => self.dep,
+            Standing::Placed => self.lv,
+            Standing::Freeing => self.lv,
+            Standing::LeftOver => self.dep,
+        }
+    }
+
+    /// Whether it has joined the committed calls.
+    pub fn has_joined(&self) -> bool
+        ensures { result ≡ joined_by self.now.standing }
+    {
+        match self.standing {
+            Standing::Running => false,
+            Standing::Quitting => false,
+            Standing::Placed => true,
+            Standing::Freeing => true,
+            Standing::LeftOver => false,
+        }
+    }
+
+    /// What is kept of it, where it has joined the committed calls or has finished and writes nothing.
+    pub fn committed(&self) -> Option<Committed>
+        ensures kept { result ≡ kept_by self.now.standing self.now }
+        ensures ascend { IsTrue (is_sorted key_cmp (buffered self.now.machine)) }
+    {
+        let _ascending = self.machine.writes();
+        match self.standing {
+            Standing::Running => self.kept_reading(),
+            Standing::Quitting => None,
+            Standing::Placed => self.kept_joined(),
+            Standing::Freeing => self.kept_joined(),
+            Standing::LeftOver => None,
+        }
+    }
+
+    fn kept_reading(&self) -> Option<Committed>
+        ensures { result ≡ kept_reading (next_want self.now.machine) (buffered self.now.machine) self.now }
+    {
+        let Want::Finished(reply) = self.machine.next() else {
+            return None;
+        };
+        if !self.machine.writes().is_empty() {
+            return None;
+        }
+        Some(Committed {
+            number: self.number,
+            reply,
+            dep: self.dep,
+            lv: self.dep,
+            spot: None,
+        })
+    }
+
+    fn kept_joined(&self) -> Option<Committed>
+        ensures { result ≡ kept_joined (next_want self.now.machine) self.now }
+    {
+        let Want::Finished(reply) = self.machine.next() else {
+            return None;
+        };
+        Some(Committed {
+            number: self.number,
+            reply,
+            dep: self.dep,
+            lv: self.lv,
+            spot: self.spot(),
+        })
+    }
+
+    /// The place of its record.
+    fn spot(&self) -> Option<Spot>
+        ensures { result ≡ spot_by (buffered self.now.machine) self.now }
+    {
+        if self.machine.writes().is_empty() {
+            return None;
+        }
+        Some(Spot {
+            stream: self.stream,
+            start: self.start,
+            past: self.past,
+            anchor: self.anchor,
+        })
+    }
+
+    /// From now on it only gives its keys back. Whether it stays in hand, which it does where it holds a key.
+    pub fn give_up(&mut self) -> bool
+        requires { joined_by self.old.standing ≡ false }
+        ensures stays { result ≡ not (length self.old.held == 0) }
+        ensures leaves { self.new ≡ record self.old { leaves = true } }
+        ensures runs { (procs : List Proc) → IsRunBy procs self.old → IsRunBy procs self.new }
+        ensures keeps { (width : ℕ) → KeepsHand width self.old → keeps_in width (kept result self.new) }
+    {
+        self.leaves = true;
+        !self.held.is_empty()
+    }
+
+    /// What the call does next.
+    pub fn turn(&self) -> Action
+        ensures next { result ≡ next_by self.now.standing self.now }
+        ensures ascend { IsTrue (is_sorted key_cmp (buffered self.now.machine)) }
+    {
+        let _ascending = self.machine.writes();
+        match self.standing {
+            Standing::Running => {
+                if self.leaves {
+                    quits(self.held.as_slice())
+                } else {
+                    self.run()
+                }
+            }
+            Standing::Quitting => quits(self.held.as_slice()),
+            Standing::Placed => Action::Post,
+            Standing::Freeing => self.free(),
+            Standing::LeftOver => Action::LeftOver,
+        }
+    }
+
+    /// What a call does next that runs.
+    fn run(&self) -> Action
+        ensures { result ≡ asks (next_want self.now.machine) self.now }
+    {
+        match self.machine.next() {
+            Want::Read(key) => Action::Lock {
+                key,
+                mode: Mode::Read,
+            },
+            Want::Write(key) => Action::Lock {
+                key,
+                mode: Mode::Write,
+            },
+            Want::Finished(reply) => self.end(reply),
+        }
+    }
+
+    /// What a call does next that has all its locks.
+    fn end(&self, reply: Reply) -> Action
+        ensures { result ≡ ends_with (length (buffered self.now.machine) == 0) reply self.now }
+    {
+        if self.machine.writes().is_empty() {
+            return frees(self.held.as_slice(), &[], reply, self.dep);
+        }
+        Action::Commit {
+            size: self.bytes.len() as u64,
+        }
+    }
+
+    /// What a call does next that frees its keys.
+    fn free(&self) -> Action
+        ensures { result ≡ frees_on (next_want self.now.machine) self.now }
+    {
+        let Want::Finished(reply) = self.machine.next() else {
+            return Action::Nothing;
+        };
+        frees(self.held.as_slice(), self.machine.writes(), reply, self.lv)
+    }
+
+    /// The lock was granted, showed this row, and raised the vector to `dep`. It takes no memory.
+    pub fn granted(&mut self, value: Value, dep: Lv)
+        requires run { IsRun self.old }
+        requires running { self.old.standing ≡ Standing.Running }
+        requires lock { IsSome (lock_in self.old) }
+        ensures locked { (procs : List Proc) (w : ℕ) (l : Key × Mode) → lock_in self.old ≡ Some l → hand_of procs w self.new ≡ locked_with (hand_of procs w self.old) l.0 l.1 value dep }
+        ensures runs { (procs : List Proc) → IsRunBy procs self.old → IsRunBy procs self.new }
+        ensures standing { self.new.standing ≡ Standing.Running }
+        ensures keeps { (width : ℕ) → length dep ≡ width → KeepsHand width self.old → KeepsHand width self.new }
+        ensures leaves { self.new.leaves ≡ self.old.leaves }
+    {
+        match self.machine.next() {
+            Want::Read(key) => self.read(key, value, dep),
+            Want::Write(key) => self.write(key, dep),
+            Want::Finished(_) => {}
+        }
+    }
+
+    /// A read lock was granted.
+    fn read(&mut self, key: Key, value: Value, dep: Lv)
+        requires run { IsRun self.old }
+        requires running { self.old.standing ≡ Standing.Running }
+        requires wanted { next_want self.old.machine ≡ Want.Read key }
+        ensures locked { (procs : List Proc) (w : ℕ) → hand_of procs w self.new ≡ locked_with (hand_of procs w self.old) key Mode.Read value dep }
+        ensures same { self.new ≡ record self.old { machine = self.new.machine; held = hold key Mode.Read self.old.held; seen = self.new.seen; dep = dep } }
+        ensures runs { (procs : List Proc) → IsRunBy procs self.old → IsRunBy procs self.new }
+    {
+        take(&mut self.held, key, Mode::Read);
+        self.seen.push((key, value.copied()));
+        self.machine.give(value);
+        catch_up(&mut self.machine, self.seen.as_slice());
+        self.dep = dep;
+    }
+
+    /// A write lock was granted.
+    fn write(&mut self, key: Key, dep: Lv)
+        requires run { IsRun self.old }
+        requires running { self.old.standing ≡ Standing.Running }
+        requires wanted { next_want self.old.machine ≡ Want.Write key }
+        ensures locked { (procs : List Proc) (w : ℕ) (row : Value) → hand_of procs w self.new ≡ locked_with (hand_of procs w self.old) key Mode.Write row dep }
+        ensures same { self.new ≡ record self.old { machine = self.new.machine; held = hold key Mode.Write self.old.held; seen = self.new.seen; dep = dep } }
+        ensures runs { (procs : List Proc) → IsRunBy procs self.old → IsRunBy procs self.new }
+    {
+        take(&mut self.held, key, Mode::Write);
+        self.machine.granted();
+        self.dep = dep;
+    }
+
+    /// The lock was refused: the call has met Busy once more. Whether it stays in hand.
+    pub fn busy(&mut self, procs: &Procs) -> bool
+        requires run { IsRunBy procs.now self.old }
+        requires running { self.old.standing ≡ Standing.Running }
+        requires stays { self.old.leaves ≡ false }
+        ensures settled { (w : ℕ) (wk : Worker) → worker_in procs.now w wk (kept result self.new) ≡ settled (length self.old.dep) wk (hand_busy (hand_of procs.now w self.old)) }
+        ensures runs { IsRunBy procs.now self.new }
+        ensures keeps { (width : ℕ) → Shaped width self.old → keeps_in width (kept result self.new) }
+        ensures leaves { self.new.leaves ≡ self.old.leaves }
+    {
+        self.refused();
+        self.settle(procs)
+    }
+
+    /// It has met Busy once more.
+    fn refused(&mut self)
+        requires run { IsRun self.old }
+        requires running { self.old.standing ≡ Standing.Running }
+        ensures busy { self.new ≡ record self.old { tries = self.old.tries + 1; standing = Standing.Quitting } }
+        ensures runs { (procs : List Proc) → IsRunBy procs self.old → IsRunBy procs self.new }
+    {
+        self.tries += 1;
+        self.standing = Standing::Quitting;
+    }
+
+    /// Its next action was done, and it is none of those with an answer of their own. Whether it stays in hand.
+    pub fn went(&mut self, procs: &Procs) -> bool
+        requires run { IsRunBy procs.now self.old }
+        requires rest { IsForWent (next_by self.old.standing self.old) }
+        ensures quit { (w : ℕ) (wk : Worker) (x : Key) → next_by self.old.standing self.old ≡ Action.Quit x →
+            worker_in procs.now w wk (kept result self.new) ≡ settled (length self.old.dep) wk (hand_quit (hand_of procs.now w self.old) x self.old.leaves) }
+        ensures freed { (w : ℕ) (x : Key) (write : Option Value) (act : Act Txn) → next_by self.old.standing self.old ≡ Action.Free x write → FreesBy procs.now (joined_by self.old.standing) w (hand_of procs.now w self.old) act →
+            shown_of procs.now w (kept result self.new) ≡ Some (hand_freed (hand_joined (hand_of procs.now w self.old) (Freeing act) self.old.dep) x) }
+        ensures done { (reply : Reply) (lv : List ℕ) → next_by self.old.standing self.old ≡ Action.Done reply lv → result ≡ false }
+        ensures left { next_by self.old.standing self.old ≡ Action.LeftOver → result ≡ false }
+        ensures runs { IsRunBy procs.now self.new }
+        ensures keeps { (width : ℕ) → KeepsHand width self.old → keeps_in width (kept result self.new) }
+        ensures leaves { self.new.leaves ≡ self.old.leaves }
+    {
+        match self.standing {
+            Standing::Running => {
+                if self.leaves {
+                    self.give_back(procs)
+                } else {
+                    self.read_only();
+                    self.free_lowest()
+                }
+            }
+            Standing::Quitting => self.give_back(procs),
+            Standing::Placed => true,
+            Standing::Freeing => self.free_lowest(),
+            Standing::LeftOver => false,
+        }
+    }
+
+    /// Gives the lowest key back. Whether it stays in hand.
+    fn give_back(&mut self, procs: &Procs) -> bool
+        requires run { IsRunBy procs.now self.old }
+        requires leaving { is_leaving self.old.standing self.old.leaves ≡ true }
+        ensures settled { (w : ℕ) (wk : Worker) (x : Key) → first_key self.old.held ≡ Some x →
+            worker_in procs.now w wk (kept result self.new) ≡ settled (length self.old.dep) wk (hand_quit (hand_of procs.now w self.old) x self.old.leaves) }
+        ensures runs { IsRunBy procs.now self.new }
+        ensures keeps { (width : ℕ) → Shaped width self.old → keeps_in width (kept result self.new) }
+        ensures leaves { self.new.leaves ≡ self.old.leaves }
+    {
+        self.quit();
+        self.settle(procs)
+    }
+
+    /// It is to quit, and holds its lowest key no more.
+    fn quit(&mut self)
+        requires { is_leaving self.old.standing self.old.leaves ≡ true }
+        ensures quit { self.new ≡ record self.old { standing = Standing.Quitting; given_up = self.old.given_up || self.old.leaves; held = without_first self.old.held } }
+        ensures runs { (procs : List Proc) → IsRunBy procs self.old → IsRunBy procs self.new }
+    {
+        leave_first(&mut self.held);
+        if self.leaves {
+            self.given_up = true;
+        }
+        self.standing = Standing::Quitting;
+    }
+
+    /// Frees the lowest key. Whether it stays in hand, which it does where it held one.
+    fn free_lowest(&mut self) -> bool
+        requires { self.old.standing ≡ Standing.Freeing }
+        ensures stays { result ≡ not (length self.old.held == 0) }
+        ensures freed { self.new ≡ record self.old { held = without_first self.old.held } }
+        ensures runs { (procs : List Proc) → IsRunBy procs self.old → IsRunBy procs self.new }
+    {
+        let stays = !self.held.is_empty();
+        leave_first(&mut self.held);
+        stays
+    }
+
+    /// A read-only call ends: from here on it frees its keys.
+    fn read_only(&mut self)
+        requires running { self.old.standing ≡ Standing.Running }
+        requires finished { IsFinished (next_want self.old.machine) }
+        requires writes { buffered self.old.machine ≡ [] }
+        ensures joined { self.new ≡ record self.old { anchor = 0; stream = 0; start = 0; past = 0; lv = self.old.dep; standing = Standing.Freeing } }
+        ensures runs { (procs : List Proc) → IsRunBy procs self.old → IsRunBy procs self.new }
+    {
+        self.anchor = 0;
+        self.stream = 0;
+        self.start = 0;
+        self.past = 0;
+        self.lv = self.dep;
+        self.standing = Standing::Freeing;
+    }
+
+    /// Raises the vector by an anchor and makes the record. After NoMemory the call is as before.
+    pub fn prepare(
+        &mut self,
+        mode: LogMode,
+        anchor_number: u32,
+        anchor: &Lv,
+    ) -> Result<(), NoMemory>
+        requires run { IsRun self.old }
+        requires running { self.old.standing ≡ Standing.Running }
+        requires finished { IsFinished (next_want self.old.machine) }
+        requires writes { 1 ≤ length (buffered self.old.machine) }
+        requires width { length anchor.now ≡ length self.old.dep }
+        ensures raised { OnOk result (self.new ≡ record self.old { dep = join self.old.dep anchor.now; anchor = anchor_number; bytes = self.new.bytes }) }
+        ensures bytes { OnOk result ((vectors : List (List ℕ)) → base_of vectors anchor_number ≡ anchor.now → Spells One (length self.old.dep) vectors false (record_of mode self.new) self.new.bytes) }
+        ensures unchanged { OnErr result (self.new ≡ self.old) }
+        ensures runs { (procs : List Proc) → IsRunBy procs self.old → IsRunBy procs self.new }
+        ensures keeps { (width : ℕ) → KeepsHand width self.old → KeepsHand width self.new }
+        ensures leaves { self.new.leaves ≡ self.old.leaves }
+    {
+        let dep = raise(&self.dep, anchor);
+        let bytes = self.record_bytes(mode, anchor_number, &dep, anchor)?;
+        self.dep = dep;
+        self.anchor = anchor_number;
+        self.bytes = bytes;
+        Ok(())
+    }
+
+    /// The record of the call, with this vector over that of an anchor.
+    fn record_bytes(
+        &self,
+        mode: LogMode,
+        anchor_number: u32,
+        dep: &Lv,
+        anchor: &Lv,
+    ) -> Result<Vec<u8>, NoMemory>
+        requires run { IsRun self.now }
+        requires finished { IsFinished (next_want self.now.machine) }
+        requires writes { 1 ≤ length (buffered self.now.machine) }
+        requires width { length dep.now ≡ length anchor.now }
+        requires covers { AtMost anchor.now dep.now }
+        ensures { IfOk result (λ v. (vectors : List (List ℕ)) → base_of vectors anchor_number ≡ anchor.now →
+            Spells One (length dep.now) vectors false (record_of mode (record self.now { dep = dep.now; anchor = anchor_number })) v.items) }
+    {
+        let _narrow = dep.width();
+        match mode {
+            LogMode::Values => encode_written(
+                self.alloc,
+                self.number,
+                anchor_number,
+                dep,
+                anchor,
+                self.machine.writes(),
+            ),
+            LogMode::Commands => encode_command(
+                self.alloc,
+                self.number,
+                anchor_number,
+                dep,
+                anchor,
+                &self.call,
+            ),
+        }
+    }
+
+    /// The record got its place. It takes no memory, and nothing takes any from here on.
+    pub fn placed(&mut self, stream: u8, start: u64)
+        requires running { self.old.standing ≡ Standing.Running }
+        requires finished { IsFinished (next_want self.old.machine) }
+        requires writes { 1 ≤ length (buffered self.old.machine) }
+        requires stream { stream < length self.old.dep }
+        requires small { start + length self.old.bytes < MAX_LSN }
+        ensures placed { (procs : List Proc) (w : ℕ) → hand_of procs w self.new ≡ hand_joined (hand_of procs w self.old) (Placed (placed_act procs w stream start self.old)) self.old.dep }
+        ensures same { self.new ≡ record self.old { stream = stream; start = start; past = start + length self.old.bytes; lv = self.new.lv; standing = Standing.Placed } }
+        ensures runs { (procs : List Proc) → IsRunBy procs self.old → IsRunBy procs self.new }
+        ensures keeps { (width : ℕ) → KeepsHand width self.old → KeepsHand width self.new }
+    {
+        self.stream = stream;
+        self.start = start;
+        self.past = start + self.bytes.len() as u64;
+        self.lv = self.dep.with(usize::from(stream), self.past);
+        self.standing = Standing::Placed;
+    }
+
+    /// The bytes of the record, to post. From here on the call frees its keys. It takes no memory.
+    pub fn take_bytes(&mut self) -> Vec<u8>
+        requires { self.old.standing ≡ Standing.Placed }
+        ensures bytes { result.items ≡ self.old.bytes }
+        ensures posted { (procs : List Proc) (w : ℕ) → hand_of procs w self.new ≡ record (hand_of procs w self.old) { phase = Freeing (act_in procs w self.old) } }
+        ensures same { self.new ≡ record self.old { standing = Standing.Freeing; bytes = [] } }
+        ensures runs { (procs : List Proc) → IsRunBy procs self.old → IsRunBy procs self.new }
+        ensures keeps { (width : ℕ) → KeepsHand width self.old → KeepsHand width self.new }
+    {
+        self.standing = Standing::Freeing;
+        mem::replace(&mut self.bytes, Vec::new(self.alloc))
+    }
+
+    /// What becomes of a call that is to quit, once it has given a key back or met Busy: whether it stays in hand.
+    fn settle(&mut self, procs: &Procs) -> bool
+        requires run { IsRunBy procs.now self.old }
+        requires quitting { self.old.standing ≡ Standing.Quitting }
+        requires given_up { self.old.leaves ≡ true → self.old.given_up ≡ true }
+        ensures settled { (w : ℕ) (wk : Worker) → worker_in procs.now w wk (kept result self.new) ≡ settled (length self.old.dep) wk (hand_of procs.now w self.old) }
+        ensures runs { IsRunBy procs.now self.new }
+        ensures keeps { (width : ℕ) → Shaped width self.old → keeps_in width (kept result self.new) }
+        ensures leaves { self.new.leaves ≡ self.old.leaves }
+    {
+        if !self.held.is_empty() {
+            return true;
+        }
+        if self.given_up {
+            return false;
+        }
+        if usize::from(self.tries) == MAX_TRIES {
+            self.standing = Standing::LeftOver;
+        } else {
+            self.restart(procs);
+        }
+        true
+    }
+
+    /// The call begins again, with the zero vector. It takes no memory.
+    fn restart(&mut self, procs: &Procs)
+        requires run { IsRunBy procs.now self.old }
+        requires tries { self.old.tries < MAX_TRIES }
+        requires given_up { self.old.given_up ≡ false }
+        requires held { self.old.held ≡ [] }
+        ensures same { self.new ≡ record self.old { machine = self.new.machine; seen = []; dep = replicate (length self.old.dep) 0; standing = Standing.Running } }
+        ensures begun { (w : ℕ) → hand_of procs.now w self.new ≡ fresh (length self.old.dep) (record { number = self.old.number; call = self.old.call }) self.old.tries }
+        ensures runs { IsRunBy procs.now self.new }
+    {
+        self.machine = Course::start(procs, &self.call);
+        self.seen.clear();
+        self.dep = Lv::zero(self.dep.width());
+        self.standing = Standing::Running;
+    }
+}
+
+/// Gives the lowest key back.
+fn quits(held: &[(Key, Mode)]) -> Action
+    ensures { result ≡ quits held.now }
+{
+    match held.first() {
+        Some(entry) => Action::Quit { key: entry.0 },
+        None => Action::Nothing,
+    }
+}
+
+/// Frees the lowest key.
+fn frees(held: &[(Key, Mode)], writes: &[(Key, Value)], reply: Reply, lv: Lv) -> Action
+    ensures { result ≡ frees reply lv writes.now held.now }
+{
+    match held.first() {
+        Some(entry) => Action::Free {
+            key: entry.0,
+            write: value_at(entry.0, writes),
+        },
+        None => Action::Done { reply, lv },
+    }
+}
+
+/// The call again.
+fn copied(call: &Call) -> Call
+    ensures { result ≡ call.now }
+{
+    let mut args = ArrayVec::new();
+    for arg in call.args.as_slice() {
+        args.push(arg.copied());
+    }
+    Call {
+        proc: call.proc,
+        args,
+    }
+}
+
+/// Gives the machine each value that it wants again.
+fn catch_up(machine: &mut Course, seen: &[(Key, Value)])
+    ensures follows { (procs : List Proc) (c : Call) → Follows procs c seen.now machine.old → Follows procs c seen.now machine.new }
+    ensures unseen { WantsUnseen seen.now (ahead machine.new []) }
+    ensures granted { machine.new.granted ≡ machine.old.granted }
+{
+    while let Want::Read(key) = machine.next() {
+        match value_at(key, seen) {
+            Some(value) => machine.give(value),
+            None => return,
+        }
+    }
+}

@@ -1,0 +1,313 @@
+//! A worker's calls, one at a time.
+ghost use Rattle.std.specs.Prelude.{◌≡◌, ◌<◌, ◌≤◌, ◌+◌, [], List, ℕ, Option, Some, None, false, true, length, is_some, IsTrue, OnOk, OnErr};
+ghost use Rattle.tau_base.specs.Vectors.{join};
+ghost use Rattle.tau_base.specs.declared.limits.TheConstants.{MAX_LSN, MAX_STREAMS};
+ghost use Rattle.tau_base.specs.declared.value.Key.{Key};
+ghost use Rattle.tau_base.specs.declared.value.Mode.{Mode};
+ghost use Rattle.tau_base.specs.declared.value.Value.{Value};
+ghost use Rattle.tau_proc.specs.declared.proc.Proc.{Proc};
+ghost use Rattle.tau_proc.specs.declared.reply.Reply.{Reply};
+ghost use Rattle.tau_proc.specs.Takes.{takes};
+ghost use Rattle.tau_record.specs.Format.{One};
+ghost use Rattle.tau_record.specs.Record.{base_of, Spells};
+ghost use Rattle.tau_model.specs.History.{Act};
+ghost use Rattle.tau_machine.specs.Stage.{stage};
+ghost use Rattle.tau_machine.specs.Worker.{Worker, lock_of, fresh, settled, hand_busy, hand_quit, hand_joined, hand_freed};
+ghost use Rattle.tau_machine.specs.Hands as theory;
+ghost use Rattle.tau_machine.specs.Hands.{Placed, Freeing, act_of, lv_of, committed_of};
+ghost use Rattle.tau_txn.specs.Actions.{action_of};
+ghost use Rattle.tau_txn.specs.Next.{next_action, Means, IsLock, IsCommit, IsForWent, FreesBy, Reads, act_at, lock_by};
+ghost use Rattle.tau_txn.specs.Record.{entry_of, kept_of};
+ghost use Rattle.tau_txn.specs.Steps.{locked_with};
+ghost use Rattle.tau_txn.specs.Txn.{hand_in, worker_of, RunsBy, number_in, dep_in, anchor_in, bytes_in, leaves_in, held_in, lv_in, has_joined};
+
+use crate::action::Action;
+use crate::course::first_want;
+use crate::hand::Hand;
+use std::alloc::Global;
+use std::marker::Model;
+use tau_base::{Call, Key, LogMode, Lv, Mode, NoMemory, Value};
+use tau_model::Committed;
+use tau_proc::{Procs, Want};
+
+/// A worker with the call in its hand. It runs its calls one at a time.
+#[derive(Drop)]
+pub struct Txn {
+    alloc: Global,
+    worker: u8,
+    n: usize,
+    mode: LogMode,
+    hand: Option<Hand>,
+}
+
+impl Model for Txn {
+    ghost use Rattle.tau_txn.specs.Txn.{PlainTxn};
+    ghost use Rattle.tau_txn.specs.Kept.{Keeps};
+
+    ghost Value = { PlainTxn };
+
+    ghost view = { λ t. record { worker = t.worker; width = t.n; mode = t.mode; hand = t.hand } };
+
+    ghost invariant = { λ t. Keeps (record { worker = t.worker; width = t.n; mode = t.mode; hand = t.hand }) };
+}
+
+impl Txn {
+    /// A worker of a run with `n` streams, with no call in hand.
+    pub fn new(alloc: Global, worker: u8, n: usize, mode: LogMode) -> Txn
+        requires low { 1 ≤ n }
+        requires high { n ≤ MAX_STREAMS }
+        ensures { result ≡ record { worker = worker; width = n; mode = mode; hand = None } }
+    {
+        Txn {
+            alloc,
+            worker,
+            n,
+            mode,
+            hand: None,
+        }
+    }
+
+    /// Takes a call into its hand. It takes no memory.
+    pub fn begin(&mut self, procs: &Procs, number: u64, call: &Call)
+        requires resting { self.old.hand ≡ None }
+        requires takes { IsTrue (takes procs.now call.now) }
+        requires number { 1 ≤ number }
+        ensures begun { hand_in procs.now self.new ≡ Some (fresh self.old.width (record { number = number; call = call.now }) 0) }
+        ensures runs { RunsBy procs.now self.new }
+        ensures stays { leaves_in self.new ≡ false }
+        ensures same { self.new ≡ record self.old { hand = self.new.hand } }
+    {
+        self.hand = Some(Hand::begin(self.alloc, procs, number, call, self.n));
+    }
+
+    /// What the call in hand does next; the same until it is answered. Nothing where no call is in hand. The size of a Commit is 0
+    /// before `prepare` has made the record.
+    pub fn turn(&self) -> Action
+        ensures asked { result ≡ next_action self.now }
+        ensures next { (procs : List Proc) (hand : theory.Hand) → RunsBy procs self.now → hand_in procs self.now ≡ Some hand →
+            result ≡ action_of procs self.now.worker (leaves_in self.now) (length (bytes_in self.now)) hand }
+        ensures means { (procs : List Proc) → RunsBy procs self.now → Means procs self.now result }
+    {
+        match &self.hand {
+            Some(hand) => hand.turn(),
+            None => Action::Nothing,
+        }
+    }
+
+    /// The lock was granted: the row that it showed, and the vector that it raised. It takes no memory.
+    pub fn granted(&mut self, value: Value, dep: Lv)
+        requires lock { IsLock (next_action self.old) }
+        requires wide { length dep ≡ self.old.width }
+        ensures locked { (procs : List Proc) (hand : theory.Hand) (x : Key) (m : Mode) → RunsBy procs self.old → next_action self.old ≡ Action.Lock x m → hand_in procs self.old ≡ Some hand →
+            hand_in procs self.new ≡ Some (locked_with hand x m value dep) }
+        ensures runs { (procs : List Proc) → RunsBy procs self.old → RunsBy procs self.new }
+        ensures stays { leaves_in self.old ≡ false → leaves_in self.new ≡ false }
+        ensures same { self.new ≡ record self.old { hand = self.new.hand } }
+    {
+        let Some(hand) = &mut self.hand else {
+            return;
+        };
+        hand.granted(value, dep);
+    }
+
+    /// The lock was refused, since a worker holds the key. The procedures are those of `begin`. It takes no memory.
+    pub fn busy(&mut self, procs: &Procs, _holder: u8)
+        requires lock { IsLock (next_action self.old) }
+        requires run { RunsBy procs.now self.old }
+        ensures busy { (wk : Worker) (hand : theory.Hand) → hand_in procs.now self.old ≡ Some hand → worker_of procs.now wk self.new ≡ settled self.old.width wk (hand_busy hand) }
+        ensures runs { RunsBy procs.now self.new }
+        ensures stays { leaves_in self.old ≡ false → leaves_in self.new ≡ false }
+        ensures same { self.new ≡ record self.old { hand = self.new.hand } }
+    {
+        let Some(hand) = &mut self.hand else {
+            return;
+        };
+        if !hand.busy(procs) {
+            self.hand = None;
+        }
+    }
+
+    /// Raises the call's vector by that of an anchor, or by zero where the number is 0, and makes the record. After NoMemory the call is
+    /// as before.
+    pub fn prepare(&mut self, anchor_number: u32, anchor: &Lv) -> Result<(), NoMemory>
+        requires commit { IsCommit (next_action self.old) }
+        requires wide { length anchor.now ≡ self.old.width }
+        ensures raised { OnOk result ((procs : List Proc) (hand : theory.Hand) → hand_in procs self.old ≡ Some hand → hand_in procs self.new ≡ Some (record hand { dep = join hand.dep anchor.now })) }
+        ensures anchor { OnOk result (anchor_in self.new ≡ anchor_number) }
+        ensures next { OnOk result (next_action self.new ≡ Action.Commit (length (bytes_in self.new))) }
+        ensures sized { OnOk result (1 ≤ length (bytes_in self.new)) }
+        ensures bytes { OnOk result ((procs : List Proc) (hand : theory.Hand) (start : ℕ) (vectors : List (List ℕ)) → RunsBy procs self.old → hand_in procs self.new ≡ Some hand → base_of vectors anchor_number ≡ anchor.now →
+            Spells One self.old.width vectors false (entry_of self.old.mode (act_at procs self.new start hand)) (bytes_in self.new)) }
+        ensures runs { (procs : List Proc) → RunsBy procs self.old → RunsBy procs self.new }
+        ensures stays { leaves_in self.old ≡ false → leaves_in self.new ≡ false }
+        ensures same { self.new ≡ record self.old { hand = self.new.hand } }
+        ensures unchanged { OnErr result (self.new ≡ self.old) }
+    {
+        let mode = self.mode;
+        let Some(hand) = &mut self.hand else {
+            return Ok(());
+        };
+        hand.prepare(mode, anchor_number, anchor)
+    }
+
+    /// The record got its place in the worker's stream. It takes no memory, and nothing takes any from here on.
+    pub fn placed(&mut self, start: u64)
+        requires commit { IsCommit (next_action self.old) }
+        requires sized { 1 ≤ length (bytes_in self.old) }
+        requires small { start + length (bytes_in self.old) < MAX_LSN }
+        ensures placed { (procs : List Proc) (hand : theory.Hand) → RunsBy procs self.old → hand_in procs self.old ≡ Some hand →
+            hand_in procs self.new ≡ Some (hand_joined hand (Placed (act_at procs self.old start hand)) hand.dep) }
+        ensures bytes { bytes_in self.new ≡ bytes_in self.old }
+        ensures runs { (procs : List Proc) → RunsBy procs self.old → RunsBy procs self.new }
+        ensures stays { leaves_in self.old ≡ false → leaves_in self.new ≡ false }
+        ensures same { self.new ≡ record self.old { hand = self.new.hand } }
+    {
+        let stream = usize::from(self.worker) % self.n;
+        let Some(hand) = &mut self.hand else {
+            return;
+        };
+        hand.placed(stream as u8, start);
+    }
+
+    /// The bytes of the record, to post. It takes no memory.
+    pub fn take_bytes(&mut self) -> Vec<u8>
+        requires { next_action self.old ≡ Action.Post }
+        ensures bytes { result.items ≡ bytes_in self.old }
+        ensures posted { (procs : List Proc) (hand : theory.Hand) (act : Act theory.Txn) → RunsBy procs self.old → hand_in procs self.old ≡ Some hand → hand.phase ≡ Placed act →
+            hand_in procs self.new ≡ Some (record hand { phase = Freeing act }) }
+        ensures runs { (procs : List Proc) → RunsBy procs self.old → RunsBy procs self.new }
+        ensures stays { leaves_in self.old ≡ false → leaves_in self.new ≡ false }
+        ensures same { self.new ≡ record self.old { hand = self.new.hand } }
+    {
+        let alloc = self.alloc;
+        let Some(hand) = &mut self.hand else {
+            return Vec::new(alloc);
+        };
+        hand.take_bytes()
+    }
+
+    /// The next action was done: a Quit, a Free, a Done or a LeftOver. The procedures are those of `begin`. It takes no memory.
+    pub fn went(&mut self, procs: &Procs)
+        requires rest { IsForWent (next_action self.old) }
+        requires run { RunsBy procs.now self.old }
+        ensures quit { (wk : Worker) (hand : theory.Hand) (x : Key) → next_action self.old ≡ Action.Quit x → hand_in procs.now self.old ≡ Some hand →
+            worker_of procs.now wk self.new ≡ settled self.old.width wk (hand_quit hand x (leaves_in self.old)) }
+        ensures freed { (hand : theory.Hand) (act : Act theory.Txn) (x : Key) (write : Option Value) → next_action self.old ≡ Action.Free x write → hand_in procs.now self.old ≡ Some hand →
+            FreesBy procs.now (has_joined self.old) self.old.worker hand act → hand_in procs.now self.new ≡ Some (hand_freed (hand_joined hand (Freeing act) hand.dep) x) }
+        ensures done { (reply : Reply) (lv : List ℕ) → next_action self.old ≡ Action.Done reply lv → self.new.hand ≡ None }
+        ensures left { next_action self.old ≡ Action.LeftOver → self.new.hand ≡ None }
+        ensures nothing { next_action self.old ≡ Action.Nothing → self.new ≡ self.old }
+        ensures runs { RunsBy procs.now self.new }
+        ensures stays { leaves_in self.old ≡ false → leaves_in self.new ≡ false }
+        ensures same { self.new ≡ record self.old { hand = self.new.hand } }
+    {
+        let Some(hand) = &mut self.hand else {
+            return;
+        };
+        if !hand.went(procs) {
+            self.hand = None;
+        }
+    }
+
+    /// From now on the call only gives its keys back, and then it is in hand no more. It takes no memory.
+    pub fn give_up(&mut self)
+        requires { has_joined self.old ≡ false }
+        ensures held { (procs : List Proc) → 1 ≤ length (held_in self.old) → hand_in procs self.new ≡ hand_in procs self.old }
+        ensures leaves { 1 ≤ length (held_in self.old) → leaves_in self.new ≡ true }
+        ensures gone { held_in self.old ≡ [] → self.new.hand ≡ None }
+        ensures runs { (procs : List Proc) → RunsBy procs self.old → RunsBy procs self.new }
+        ensures same { self.new ≡ record self.old { hand = self.new.hand } }
+    {
+        let Some(hand) = &mut self.hand else {
+            return;
+        };
+        if !hand.give_up() {
+            self.hand = None;
+        }
+    }
+
+    /// Whether a call is in hand.
+    pub fn in_hand(&self) -> bool
+        ensures { result ≡ is_some self.now.hand }
+    {
+        self.hand.is_some()
+    }
+
+    /// The number of the call in hand.
+    pub fn number(&self) -> Option<u64>
+        ensures { result ≡ number_in self.now }
+    {
+        match &self.hand {
+            Some(hand) => Some(hand.number()),
+            None => None,
+        }
+    }
+
+    /// The vector of the call in hand so far, without its own record; zero where none is in hand.
+    pub fn dep(&self) -> Lv
+        ensures dep { result ≡ dep_in self.now }
+        ensures wide { length result ≡ self.now.width }
+    {
+        match &self.hand {
+            Some(hand) => hand.dep(),
+            None => Lv::zero(self.n),
+        }
+    }
+
+    /// The vector with which the call in hand frees its keys: its own, once its record has its place, before that the one so far; zero
+    /// where none is in hand.
+    pub fn lv(&self) -> Lv
+        ensures lv { result ≡ lv_in self.now }
+        ensures frees { (procs : List Proc) (hand : theory.Hand) (act : Act theory.Txn) → RunsBy procs self.now → hand_in procs self.now ≡ Some hand → FreesBy procs (has_joined self.now) self.now.worker hand act → result ≡ lv_of act }
+    {
+        match &self.hand {
+            Some(hand) => hand.lv(),
+            None => Lv::zero(self.n),
+        }
+    }
+
+    /// Whether the call in hand has joined the committed ones: its record has its place, or it is read-only and has freed a key.
+    pub fn has_joined(&self) -> bool
+        ensures { result ≡ has_joined self.now }
+    {
+        match &self.hand {
+            Some(hand) => hand.has_joined(),
+            None => false,
+        }
+    }
+
+    /// What is kept of the call in hand once it has joined the committed ones, and before that where it is read-only and has finished.
+    pub fn committed(&self) -> Option<Committed>
+        ensures kept { result ≡ kept_of self.now.hand }
+        ensures joined { (procs : List Proc) (hand : theory.Hand) (act : Act theory.Txn) → RunsBy procs self.now → hand_in procs self.now ≡ Some hand → act_of hand.phase ≡ Some act → result ≡ Some (committed_of act) }
+        ensures reading { (procs : List Proc) (hand : theory.Hand) (act : Act theory.Txn) → RunsBy procs self.now → hand_in procs self.now ≡ Some hand → Reads procs self.now.worker hand act → result ≡ Some (committed_of act) }
+    {
+        match &self.hand {
+            Some(hand) => hand.committed(),
+            None => None,
+        }
+    }
+
+    /// The number of the call in hand with the lock that is its next action. None exactly where its next action is none.
+    pub fn next_lock(&self) -> Option<(u64, Key, Mode)>
+        ensures { result ≡ lock_by (number_in self.now) (next_action self.now) }
+    {
+        let number = self.number()?;
+        match self.turn() {
+            Action::Lock { key, mode } => Some((number, key, mode)),
+            _ => None,
+        }
+    }
+
+    /// The lock that is the first action of a call that has not begun. None exactly where its first action is none.
+    pub fn first_lock(procs: &Procs, call: &Call) -> Option<(Key, Mode)>
+        requires { IsTrue (takes procs.now call.now) }
+        ensures { result ≡ lock_of (stage procs.now call.now []) [] }
+    {
+        match first_want(procs, call) {
+            Want::Read(key) => Some((key, Mode::Read)),
+            Want::Write(key) => Some((key, Mode::Write)),
+            Want::Finished(_) => None,
+        }
+    }
+}
