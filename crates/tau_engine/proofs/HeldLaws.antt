@@ -1,6 +1,6 @@
 -- The rows of a run, and the tables of their numbers.
-use Rattle.std.proofs.Common.{ℕ, zero, suc, ◌≡◌, ◌<◌, List, [], ◌∷◌, refl, sym, ap, ◌∙◌, inl, inr, true, false, cond, arith, length, map}
-use Rattle.std.specs.Prelude.{Option, Some, None, ◌≢◌}
+use Rattle.std.proofs.Common.{ℕ, ◌≡◌, List, [], ◌∷◌, refl, ap, inl, inr, cond, map}
+use Rattle.std.specs.Prelude.{Option, Some, ◌≢◌}
 use Rattle.std.specs.Option.{unwrap_or}
 use Rattle.std.specs.List.{All}
 use Rattle.std.specs.List.Sorted.{IsStrictlySortedBy}
@@ -13,7 +13,7 @@ use Rattle.tau_base.specs.declared.value.Value.{Value}
 use Rattle.tau_base.specs.declared.value.Value.TheVariants.{Absent, Int}
 use Rattle.tau_base.specs.Database.{key_cmp, same_key, written}
 use Rattle.tau_base.proofs.Keys.{same_key-sym}
-use Rattle.tau_model.specs.Tables.{IsTablesOf, db_of_rows}
+use Rattle.tau_model.specs.Tables.{IsTablesOf}
 use Rattle.tau_engine.specs.declared.rows.Row.{Row}
 use Rattle.tau_engine.specs.Held.{value_in, numbers_of, shown}
 use Rattle.std.specs.Prelude.{ℤ}

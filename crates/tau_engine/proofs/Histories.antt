@@ -1,6 +1,6 @@
 -- Puts that run one after another are a history.
-use Rattle.std.proofs.Common.{ℕ, zero, suc, ◌≡◌, ◌+◌, ◌<◌, ◌≤◌, ◌⊎◌, List, [], ◌∷◌, ◌++◌, refl, sym, ◌∙◌, subst, ap, map, length, Bool, true, false, cond, arith, inl, inr, ⊎_elim, length-append, replicate}
-use Rattle.std.specs.Prelude.{Option, Some, None, ◌-◌, ◌%◌, ◌==◌, ◌&&◌, ◌||◌, not, nat_le, slice_get, slice_index, pos}
+use Rattle.std.proofs.Common.{ℕ, zero, suc, ◌≡◌, ◌+◌, ◌<◌, ◌≤◌, List, [], ◌∷◌, ◌++◌, refl, sym, ◌∙◌, subst, ap, map, length, Bool, true, arith, inl, inr, ⊎_elim, length-append, replicate}
+use Rattle.std.specs.Prelude.{Some, ◌-◌, ◌%◌, ◌==◌, ◌&&◌, not, nat_le, slice_get, slice_index}
 use Rattle.std.specs.List.{filter, list_any}
 use Rattle.std.proofs.lemmas.List.{length-map, map-append, replicate-append-replicate}
 use Rattle.std.proofs.lemmas.Bool.{cases_Bool}
@@ -10,14 +10,14 @@ use Rattle.tau_base.specs.declared.value.Call.{Call}
 use Rattle.tau_base.specs.declared.value.Value.TheVariants.{Absent}
 use Rattle.tau_base.specs.Database.{Db, empty_db, same_key}
 use Rattle.tau_proc.specs.declared.proc.Proc.{Proc}
-use Rattle.tau_proc.specs.declared.reply.Reply.{Reply}
 use Rattle.tau_proc.specs.declared.reply.Reply.TheVariants as reply
 use Rattle.tau_model.specs.History.{Act, Member, trace, updates}
 use Rattle.tau_model.specs.Logged.{Place}
 use Rattle.tau_model.specs.Reported.{reported_within, reported_of, left_of, ascending, put_in, Left}
 use Rattle.tau_engine.specs.declared.workload.Put.{Put}
 use Rattle.tau_engine.specs.Workload.{Load}
-use Rattle.tau_engine.specs.Report.{Fate, Acked}
+use Rattle.tau_report.specs.declared.report.Fate.{Fate}
+use Rattle.tau_report.specs.declared.report.Fate.TheVariants.{Acked}
 use Rattle.tau_engine.specs.Run.{Committed, Run, means, ends, below, Distinct, StandBetween, of_stream, IsHistory, vector_of, has_ack, reply_in, AllAcked, fate, fates}
 use Rattle.tau_engine.specs.Puts.{call_of, record_bytes, placed, with_end, no_ends, committed, logged, acks_of, run_of}
 

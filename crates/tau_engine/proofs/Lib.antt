@@ -9,5 +9,6 @@ pub mod Reports
 pub mod Steps
 pub mod Ran
 pub mod Openings
+pub mod Plans
 pub mod Tops
 pub mod Refusals

@@ -1,9 +1,9 @@
 -- Lines and words of a text that is cut at a byte.
-use Rattle.std.proofs.Common.{ℕ, zero, suc, ◌≡◌, ◌+◌, ◌≤◌, ◌<◌, length, subst, arith, List, [], ◌∷◌, ◌++◌, refl, sym, ◌∙◌, ap, inl, inr, true, false}
-use Rattle.std.specs.Prelude.{Bool, Option, Some, None, ◌==◌, ◌||◌, nat_eq}
+use Rattle.std.proofs.Common.{ℕ, ◌≡◌, ◌<◌, length, subst, arith, List, [], ◌∷◌, ◌++◌, refl, inl, inr, true, false}
+use Rattle.std.specs.Prelude.{Bool, None, ◌==◌, ◌||◌, nat_eq}
 use Rattle.std.specs.List.{list_any}
 use Rattle.std.proofs.lemmas.Bool.{cases_Bool}
-use Rattle.tau_engine.specs.Workload.{Load, lines_of, words_of, onto_first, with_words, read_on, read_from}
+use Rattle.tau_engine.specs.Workload.{Load, lines_of, words_of, with_words}
 
 or_parts : (a b : Bool) → (a || b) ≡ false → (a ≡ false) × (b ≡ false)
 or_parts true b e = absurd (cc)

@@ -1,6 +1,6 @@
 -- Names are texts.
-use Rattle.std.proofs.Common.{ℕ, zero, suc, ◌≡◌, ◌<◌, ◌≤◌, List, [], ◌∷◌, refl, true, false, arith, length, IsUtf8}
-use Rattle.std.specs.Prelude.{nat_le, nat_eq, nat_lt, slice_index, ◌&&◌, ◌||◌}
+use Rattle.std.proofs.Common.{ℕ, zero, suc, ◌≡◌, ◌<◌, ◌≤◌, List, [], ◌∷◌, true, arith, length, IsUtf8}
+use Rattle.std.specs.Prelude.{nat_lt, slice_index, ◌&&◌}
 use Rattle.std.specs.Str.{IsAscii}
 use Rattle.std.specs.List.{list_all}
 use Rattle.std.proofs.lemmas.Str.{IsUtf8-from_ascii}

@@ -1,10 +1,9 @@
 -- Digits that pass a limit.
-use Rattle.std.proofs.Common.{ℕ, zero, suc, ◌≡◌, ◌+◌, ◌-◌, ◌*◌, ◌<◌, ◌≤◌, List, [], ◌∷◌, refl, sym, subst, inl, inr, true, false, arith, length, drop, get_or, drop-cons}
-use Rattle.std.specs.Prelude.{Option, Some, None, nat_le, ◌&&◌}
+use Rattle.std.proofs.Common.{ℕ, suc, ◌≡◌, ◌+◌, ◌-◌, ◌*◌, ◌<◌, ◌≤◌, List, [], ◌∷◌, refl, inl, inr, true, false, arith, length, drop, get_or, drop-cons}
+use Rattle.std.specs.Prelude.{None, nat_le, ◌&&◌}
 use Rattle.std.proofs.lemmas.Bool.{cases_Bool}
 use Rattle.std.proofs.lemmas.Bool.Decides.{nat_tests}
-use Rattle.tau_engine.specs.Words.{digits_value}
-use Rattle.tau_engine.specs.Number.{capped}
+use Rattle.tau_engine.specs.Number.{capped, digits_value}
 
 too_large : (cs : List ℕ) (high n : ℕ) → high < n → capped high (digits_value n cs) ≡ None
 too_large [] high n lt = let e : nat_le n high ≡ false = grind (arith, nat_tests, lt) in rw e refl

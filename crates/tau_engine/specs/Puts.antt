@@ -1,13 +1,14 @@
 -- Puts that one worker runs one after another, each with its record in stream 0 of two.
-use Rattle.std.specs.Prelude.{ℕ, zero, suc, ◌+◌, Bool, true, if◌then◌else◌, List, [], ◌∷◌, ◌++◌, map, length, replicate, None}
+use Rattle.std.specs.Prelude.{ℕ, zero, suc, ◌+◌, true, if◌then◌else◌, List, [], ◌∷◌, ◌++◌, map, length, replicate, None}
 use Rattle.tau_record.specs.Format.{One}
-use Rattle.std.specs.List.{flat_map}
 use Rattle.tau_base.specs.declared.value.Key.{Key}
 use Rattle.tau_base.specs.declared.value.Call.{Call}
 use Rattle.tau_base.specs.declared.value.Value.{Value}
 use Rattle.tau_base.specs.declared.value.Value.TheVariants.{Int, Absent}
 use Rattle.tau_proc.specs.declared.reply.Reply.TheVariants as reply
-use Rattle.tau_engine.specs.Report.{Acked, fate_lines, order_lines, row_lines, end_line}
+use Rattle.tau_report.specs.declared.report.Fate.TheVariants.{Acked}
+use Rattle.tau_report.specs.declared.report.RunReport.{RunReport}
+use Rattle.tau_report.specs.Report.{rest_text}
 use Rattle.tau_base.specs.Database.{same_key}
 use Rattle.tau_record.specs.declared.entry.Entry.TheVariants.{Written}
 use Rattle.tau_record.specs.Record.{spelling, named}
@@ -66,6 +67,10 @@ abbrev pub counted : ℕ → ℕ → List ℕ
 counted from zero = []
 counted from (suc n) = from ∷ counted (from + 1) n
 
--- what stands in the report of so many puts behind the lines of their acknowledgements
+-- what so many puts tell that are all acknowledged, apart from their acknowledgements
+abbrev pub told_by : ℕ → List (Key × Value) → RunReport
+told_by count rows = record { acks = []; fates = replicate count (Acked (reply.Ok Absent)); order = counted 1 count; tables = rows }
+
+-- their report behind the lines of their acknowledgements
 abbrev pub tail_text : List (List ℕ) → ℕ → List (Key × Value) → List ℕ
-tail_text tables count rows = fate_lines 1 (replicate count (Acked (reply.Ok Absent))) ++ order_lines (counted 1 count) ++ row_lines tables rows ++ end_line None
+tail_text tables count rows = rest_text tables (told_by count rows) None

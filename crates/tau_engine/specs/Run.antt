@@ -1,5 +1,5 @@
 -- A run: the calls that it committed, where their records stand, and what it tells of them.
-use Rattle.std.specs.Prelude.{ℕ, zero, suc, ◌+◌, ◌-◌, ◌%◌, ◌<◌, ◌≤◌, Bool, true, false, not, ◌==◌, ◌≡◌, List, [], ◌∷◌, ◌++◌, map, length, slice_get, slice_index, Option, Some, None, if◌then◌else◌}
+use Rattle.std.specs.Prelude.{ℕ, zero, suc, ◌+◌, ◌-◌, ◌%◌, ◌<◌, ◌≤◌, Bool, true, false, ◌==◌, ◌≡◌, List, [], ◌∷◌, ◌++◌, map, length, slice_get, slice_index, Option, Some, None, if◌then◌else◌}
 use Rattle.std.specs.List.{filter, list_any}
 use Rattle.tau_base.specs.declared.value.Key.{Key}
 use Rattle.tau_base.specs.declared.value.Value.{Value}
@@ -13,7 +13,10 @@ use Rattle.tau_model.specs.History.{Act, Member, trace, exec, updates}
 use Rattle.tau_model.specs.Logged.{Place, lv}
 use Rattle.tau_model.specs.Tables.{IsTablesOf}
 use Rattle.tau_model.specs.Reported.{in_stream, reported_of}
-use Rattle.tau_engine.specs.Report.{Fate, Acked, Unsure, Unrun, Report, report_text}
+use Rattle.tau_report.specs.declared.report.Fate.{Fate}
+use Rattle.tau_report.specs.declared.report.Fate.TheVariants.{Acked, Unsure, Unrun}
+use Rattle.tau_report.specs.declared.report.RunReport.{RunReport}
+use Rattle.tau_report.specs.Report.{report_text}
 use Rattle.tau_engine.specs.Workload.{Load}
 
 -- a call that committed: its number, itself, whether it has a record, and its place. Of the place of a call
@@ -95,9 +98,9 @@ fate (Some r) false = Unsure r
 abbrev pub fates : Load → Run → List Fate
 fates load run = map (λ k. fate (reply_in (k + 1) (acts load.procs run)) (has_ack run (k + 1))) (below (length load.calls))
 
--- the report of a run, but for the rows and how it ended
-abbrev pub report_of : Load → Run → List (Key × Value) → Option ℕ → Report
-report_of load run rows failed = record { acks = run.acks; fates = fates load run; order = map (λ c. c.number) run.calls; rows = rows; failed = failed }
+-- what a run tells, with these rows
+abbrev pub report_of : Load → Run → List (Key × Value) → RunReport
+report_of load run rows = record { acks = run.acks; fates = fates load run; order = map (λ c. c.number) run.calls; tables = rows }
 
 -- the database after the history
 abbrev pub last_db : Load → Run → Db
@@ -111,4 +114,4 @@ AllAcked load run = (k : ℕ) → 1 ≤ k → k ≤ length load.calls → has_ac
 pub record IsReportOf (load : Load) (run : Run) (failed : Option ℕ) (text : List ℕ) : Type 0 where
   pub rows : List (Key × Value)
   pub present : IsTablesOf (last_db load run) rows
-  pub text_is : text ≡ report_text load.tables (report_of load run rows failed)
+  pub text_is : text ≡ report_text load.tables (report_of load run rows) failed

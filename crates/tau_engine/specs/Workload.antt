@@ -1,14 +1,15 @@
 -- The workload of a text: `table NAME` lines, then `put TABLE KEY NUMBER` lines.
-use Rattle.std.specs.Prelude.{ℕ, ℤ, pos, negsuc, ◌+◌, ◌-◌, ◌≤◌, ◌^◌, Bool, true, false, not, ◌&&◌, ◌||◌, nat_eq, nat_le, nat_lt, if◌then◌else◌, ◌≡◌, List, [], ◌∷◌, ◌++◌, length, codes, position, Option, Some, None, Result, Ok, Err}
+use Rattle.std.specs.Prelude.{ℕ, ℤ, pos, negsuc, ◌+◌, ◌-◌, ◌≤◌, ◌^◌, Bool, false, not, ◌&&◌, ◌||◌, nat_eq, nat_le, nat_lt, if◌then◌else◌, ◌≡◌, List, [], ◌∷◌, ◌++◌, length, codes, position, Option, Some, None, Result, Ok, Err}
 use Rattle.std.specs.List.{list_all, flat_map}
 use Rattle.tau_base.specs.declared.limits.TheConstants.{MAX_CALLS, MAX_TABLES, MAX_NAME, MAX_WORKLOAD}
 use Rattle.tau_base.specs.declared.value.Key.{Key}
 use Rattle.tau_base.specs.declared.value.Call.{Call}
 use Rattle.tau_base.specs.declared.value.Value.TheVariants.{Int}
 use Rattle.tau_proc.specs.declared.proc.Proc.{Proc}
-use Rattle.tau_engine.specs.declared.status.TextFault.{TextFault}
-use Rattle.tau_engine.specs.declared.status.TextCause.TheVariants.{UnknownWord}
-use Rattle.tau_engine.specs.Words.{same_word, plain_number}
+use Rattle.tau_text.specs.declared.fault.TextFault.{TextFault}
+use Rattle.tau_text.specs.declared.fault.TextCause.TheVariants.{UnknownWord}
+use Rattle.tau_words.specs.Words.{same_word}
+use Rattle.tau_engine.specs.Number.{plain_number}
 
 -- a workload: the names of its tables, its procedures and its calls
 pub record Load : Type 0 where

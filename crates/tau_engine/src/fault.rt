@@ -1,36 +1,20 @@
 //! The one line of a refusal.
 ghost use Rattle.std.specs.Prelude.{◌≡◌, ◌++◌, [], ◌∷◌, true, IfOk, string_bytes};
 ghost use Rattle.tau_disk.specs.Disk.{Rose};
-ghost use Rattle.tau_engine.specs.Fault.{fault_text, text_cause_number, TellsFault};
+ghost use Rattle.tau_engine.specs.Fault.{fault_text, TellsFault};
 ghost use Rattle.tau_engine.specs.Outside.{Wrote};
 
 use crate::sink::write_all;
-use crate::status::{Status, TextCause};
+use crate::status::Status;
 use std::alloc::{AllocError, Global};
 use tau_disk::Sink;
-
-// The number of a cause.
-fn cause_number(cause: TextCause) -> u8
-    ensures { result ≡ text_cause_number cause }
-{
-    match cause {
-        TextCause::NotUtf8 => 1,
-        TextCause::UnknownWord => 2,
-        TextCause::UnknownName => 3,
-        TextCause::Twice => 4,
-        TextCause::BadNumber => 5,
-        TextCause::BadStep => 6,
-        TextCause::TooMany => 7,
-        TextCause::Missing => 8,
-        TextCause::NoEnd => 9,
-    }
-}
+use tau_text::TextCause;
 
 // The line of a bad text.
 fn bad_text_line(alloc: Global, at: u32, cause: TextCause) -> Result<String, AllocError>
     ensures { IfOk result (λ text. string_bytes text ≡ fault_text (Status.BadText at cause)) }
 {
-    let number = cause_number(cause);
+    let number = cause.number();
     let mut text = String::new(alloc);
     write!(text, "fault 3 {at} {number}\n")?;
     Ok(text)

@@ -1,7 +1,6 @@
 //! The top call of the engine.
 #![tactic(auto)]
 
-mod command;
 mod disks;
 mod fault;
 mod log;
@@ -11,18 +10,15 @@ mod reading;
 mod report;
 mod rows;
 mod run;
+mod served;
 mod sink;
 mod source;
 mod status;
 mod streams;
 mod top;
-mod words;
 mod workload;
 
-pub use command::Command;
-pub use status::{
-    ImageFault, LogCause, LogFault, RecordCause, RecordFault, Status, TextCause, TextFault,
-};
+pub use status::{LogCause, LogFault, Status};
 pub use top::taurus;
 
 #[cfg(test)]

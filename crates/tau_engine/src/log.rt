@@ -2,6 +2,7 @@
 ghost use Rattle.std.specs.Prelude.{◌≡◌, ◌≤◌, ◌<◌, ◌+◌, ◌^◌, ◌++◌, [], ℕ, List, false, length, IfOk, IfErr, Err};
 ghost use Rattle.tau_disk.specs.Disk.{Rose};
 ghost use Rattle.tau_stream.specs.Writer.{disk_of, durable_of, left_of, added_of, has_failed, IsReady};
+ghost use Rattle.tau_engine.specs.Outside.{GoesOn, IsStopped};
 ghost use Rattle.tau_engine.specs.Puts.{record_bytes};
 
 use crate::workload::Put;
@@ -64,6 +65,8 @@ pub fn log_put<D: Disk>(
     // The record is durable, behind what was there.
     ensures done { IfOk result (λ past. D.tells → (n j : ℕ) (content : List ℕ) → IsReady n j log.old content → IsReady n j log.new (content ++ record_bytes number end put)) }
     ensures failed { result ≡ Err LogRefusal.Failed → Rose (D.faults (disk_of log.old)) (D.faults (disk_of log.new)) }
+    ensures goes { IfOk result (λ past. D.tells → GoesOn D.number D.fails (disk_of log.old) (disk_of log.new)) }
+    ensures stopped { result ≡ Err LogRefusal.Failed → D.tells → IsStopped D.tells D.number D.fails D.short (disk_of log.old) (disk_of log.new) }
     ensures faults { D.faults (disk_of log.old) ≤ D.faults (disk_of log.new) }
 {
     let Ok(record) = put_record(alloc, number, end, put.key, put.number) else {

@@ -1,8 +1,7 @@
 //! Whole numbers in words.
 ghost use Rattle.std.specs.Prelude.{◌≡◌, ◌≤◌, ◌^◌, ℕ, Option};
-ghost use Rattle.tau_engine.specs.Words.{digits_value, plain_number};
 ghost use Rattle.tau_engine.specs.Workload.{integer_of};
-ghost use Rattle.tau_engine.specs.Number.{capped};
+ghost use Rattle.tau_engine.specs.Number.{capped, digits_value, plain_number};
 
 /// What lies between the smallest number of 64 bits and 0.
 const MAX_SIZE: u64 = 1 << 63;

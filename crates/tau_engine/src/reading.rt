@@ -1,23 +1,20 @@
 //! From the words and the source to a workload.
 ghost use Rattle.std.specs.Prelude.{◌≡◌, ◌≤◌, ◌<◌, ◌+◌, ℕ, [], ◌∷◌, true, false, length, drop, map, string_bytes, Some, None, Err, IfOk, IfErr, OnOk};
-ghost use Rattle.tau_base.specs.declared.value.LogMode.{LogMode};
 ghost use Rattle.tau_disk.specs.Disk.{Rose};
 ghost use Rattle.tau_model.specs.History.{Member};
-ghost use Rattle.tau_engine.specs.declared.command.Command.{Command};
-ghost use Rattle.tau_engine.specs.declared.status.TextCause.{TextCause};
-ghost use Rattle.tau_engine.specs.declared.status.TextFault.{TextFault};
-ghost use Rattle.tau_engine.specs.Words.{command_of};
+ghost use Rattle.tau_text.specs.declared.fault.TextCause.{TextCause};
+ghost use Rattle.tau_text.specs.declared.fault.TextFault.{TextFault};
 ghost use Rattle.tau_engine.specs.Workload.{HasWorkload, HasFault};
 ghost use Rattle.tau_engine.specs.Loads.{load_of, IsWithin};
 ghost use Rattle.tau_engine.specs.Outside.{ends_reading, is_behind_end};
 
 use crate::source::{SourceRefusal, read_text};
 use crate::status::Status;
-use crate::words::read_words;
-use crate::workload::{TextRefusal, Workload, read_workload};
+use crate::workload::{Workload, read_workload};
 use std::alloc::Global;
 use tau_base::MAX_WORKLOAD;
 use tau_disk::Source;
+use tau_text::TextRefusal;
 
 /// The workload of the source's text.
 pub fn read_source<S: Source>(alloc: Global, source: &mut S) -> Result<Workload, Status>

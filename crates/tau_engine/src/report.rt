@@ -1,127 +1,49 @@
-//! The texts that a run writes.
-ghost use Rattle.std.specs.Prelude.{◌≡◌, ◌<◌, ◌≤◌, ◌^◌, ◌++◌, ◌+◌, ◌∷◌, [], length, replicate, string_bytes, slice_index_or, vec_len, OnOk, IfOk, None};
-ghost use Rattle.tau_base.specs.declared.value.Value.{Value};
-ghost use Rattle.tau_proc.specs.declared.reply.Reply.{Reply};
-ghost use Rattle.tau_engine.specs.Report.{Acked, ack_line, fate_line, fate_lines, order_line, order_lines, row_line, row_lines, end_line, value_text};
-ghost use Rattle.tau_engine.specs.Puts.{counted, tail_text};
+//! What a run of puts tells, and what its streams declare.
+ghost use Rattle.std.specs.Prelude.{◌≡◌, ◌<◌, ◌≤◌, ◌^◌, length, string_bytes, IfOk};
+ghost use Rattle.tau_engine.specs.Puts.{tail_text, told_by};
 ghost use Rattle.tau_engine.specs.Workload.{table_line};
 ghost use Rattle.std.specs.List.{flat_map};
 
 use std::alloc::{AllocError, Global};
-use tau_base::{Key, MAX_CATALOGUE, MAX_TABLES, Name, Value};
+use tau_base::{Listed, MAX_CATALOGUE, MAX_TABLES, Name, NoMemory, Value};
+use tau_model::Tables;
+use tau_proc::Reply;
+use tau_report::{Fate, RunReport, report_text};
+use tau_text::Declarations;
 
-/// Adds the line of an acknowledgement, whose vector has this end in stream 0 of two.
-pub fn add_ack(text: &mut String, number: u64, end: u64) -> Result<(), AllocError>
-    ensures { OnOk result (string_bytes text.new ≡ string_bytes text.old ++ ack_line (number, end ∷ 0 ∷ [])) }
-{
-    let other = 0u64;
-    write!(text, "ack {number} {end},{other}\n")
-}
-
-// Adds the line of a call that replied nothing.
-fn add_reply(text: &mut String, number: u64) -> Result<(), AllocError>
-    ensures { OnOk result (string_bytes text.new ≡ string_bytes text.old ++ fate_line number (Acked (Reply.Ok Value.Absent))) }
-{
-    write!(text, "reply {number} none\n")
-}
-
-// Adds the line of a call in the history.
-fn add_order(text: &mut String, number: u64) -> Result<(), AllocError>
-    ensures { OnOk result (string_bytes text.new ≡ string_bytes text.old ++ order_line number) }
-{
-    write!(text, "order {number}\n")
-}
-
-// Adds a value.
-fn add_value(text: &mut String, value: &Value) -> Result<(), AllocError>
-    ensures { OnOk result (string_bytes text.new ≡ string_bytes text.old ++ value_text value.now) }
-{
-    match value {
-        Value::Absent => write!(text, "none"),
-        Value::Int(number) => write!(text, "int {number}"),
-        Value::Text(held) => {
-            let held = held.as_str();
-            write!(text, "text \"{held}\"")
-        }
-    }
-}
-
-// The name of a table.
-fn name_of(tables: &[Name], table: u16) -> &str
-    ensures { result.now ≡ slice_index_or tables.now table [] }
-{
-    match tables.get(usize::from(table)) {
-        Some(name) => name.as_str(),
-        None => "",
-    }
-}
-
-// Adds the line of a row.
-fn add_row(text: &mut String, tables: &[Name], key: Key, value: &Value) -> Result<(), AllocError>
-    ensures { OnOk result (string_bytes text.new ≡ string_bytes text.old ++ row_line tables.now (key, value.now)) }
-{
-    let name = name_of(tables, key.table);
-    let row = key.row;
-    write!(text, "row {name} {row} ")?;
-    add_value(text, value)?;
-    write!(text, "\n")
-}
-
-// Adds the line of the end of a run that went well.
-fn add_end(text: &mut String) -> Result<(), AllocError>
-    ensures { OnOk result (string_bytes text.new ≡ string_bytes text.old ++ end_line None) }
-{
-    write!(text, "end 0\n")
-}
-
-// Adds a line for each of so many calls, all of which replied nothing.
-fn add_replies(text: &mut String, count: u64) -> Result<(), AllocError>
+// What so many puts tell that are all acknowledged, apart from their acknowledgements.
+fn told_by(alloc: Global, count: usize, tables: Tables) -> Result<RunReport, AllocError>
     requires { count < 2 ^ 32 }
-    ensures { OnOk result (string_bytes text.new ≡ string_bytes text.old ++ fate_lines 1 (replicate count (Acked (Reply.Ok Value.Absent)))) }
+    ensures { IfOk result (λ report. report ≡ told_by count tables) }
 {
+    let mut fates = Vec::new(alloc);
+    let mut order = Vec::new(alloc);
     for done in 0..count {
-        add_reply(text, done + 1)?;
+        fates.push(Fate::Acked(Reply::Ok(Value::Absent)))?;
+        order.push(done as u64 + 1)?;
     }
-    Ok(())
-}
-
-// Adds a line for each of so many calls of the history, in ascending number.
-fn add_orders(text: &mut String, count: u64) -> Result<(), AllocError>
-    requires { count < 2 ^ 32 }
-    ensures { OnOk result (string_bytes text.new ≡ string_bytes text.old ++ order_lines (counted 1 count)) }
-{
-    for done in 0..count {
-        add_order(text, done + 1)?;
-    }
-    Ok(())
-}
-
-// Adds a line for each row.
-fn add_rows(text: &mut String, tables: &[Name], rows: &[(Key, Value)]) -> Result<(), AllocError>
-    ensures { OnOk result (string_bytes text.new ≡ string_bytes text.old ++ row_lines tables.now rows.now) }
-{
-    for row in rows {
-        add_row(text, tables, row.0, &row.1)?;
-    }
-    Ok(())
+    Ok(RunReport {
+        acks: Listed::new(alloc),
+        fates: Listed::of(fates),
+        order: Listed::of(order),
+        tables,
+    })
 }
 
 /// The report of so many puts that are all acknowledged, behind the lines of their acknowledgements.
 pub fn report_tail(
     alloc: Global,
-    tables: &[Name],
-    count: u64,
-    rows: &[(Key, Value)],
-) -> Result<String, AllocError>
+    declarations: &Declarations,
+    count: usize,
+    tables: Tables,
+) -> Result<Vec<u8>, NoMemory>
     requires { count < 2 ^ 32 }
-    ensures { IfOk result (λ text. string_bytes text ≡ tail_text tables.now count rows.now) }
+    ensures { IfOk result (λ text. text.items ≡ tail_text declarations.now.tables count tables) }
 {
-    let mut text = String::new(alloc);
-    add_replies(&mut text, count)?;
-    add_orders(&mut text, count)?;
-    add_rows(&mut text, tables, rows)?;
-    add_end(&mut text)?;
-    Ok(text)
+    match told_by(alloc, count, tables) {
+        Ok(report) => report_text(alloc, declarations, &report, None),
+        Err(_) => Err(NoMemory),
+    }
 }
 
 /// The canonical text of the tables' declarations.

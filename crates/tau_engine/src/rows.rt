@@ -9,6 +9,7 @@ ghost use Rattle.tau_engine.specs.Puts.{with_end, no_ends};
 use std::alloc::{AllocError, Global};
 use std::collections::BTreeMap;
 use tau_base::{Key, NoMemory, Value};
+use tau_model::Tables;
 
 /// A row.
 #[derive(Clone, Copy, Debug)]
@@ -69,11 +70,11 @@ impl Rows {
     }
 
     /// The tables.
-    pub fn tables(&self, alloc: Global) -> Result<Vec<(Key, Value)>, NoMemory>
-        ensures { IfOk result (λ rows. IsTablesOf (numbers_of (get ⟦<Key as Ord>⟧.cmp self.now.map)) rows.items) }
+    pub fn tables(&self, alloc: Global) -> Result<Tables, NoMemory>
+        ensures { IfOk result (λ tables. IsTablesOf (numbers_of (get ⟦<Key as Ord>⟧.cmp self.now.map)) tables) }
     {
         match self.listed(alloc) {
-            Ok(rows) => Ok(rows),
+            Ok(rows) => Ok(Tables::of(rows)),
             Err(_) => Err(NoMemory),
         }
     }

@@ -6,18 +6,20 @@ ghost use Rattle.tau_disk.specs.Disk.{Rose};
 ghost use Rattle.tau_model.specs.History.{exec};
 ghost use Rattle.tau_stream.specs.Writer.{disk_of, durable_of, left_of, added_of, has_failed, IsReady};
 ghost use Rattle.tau_engine.specs.Held.{numbers_of};
-ghost use Rattle.tau_engine.specs.Report.{ack_line, ack_lines};
+ghost use Rattle.tau_report.specs.Lines.{ack_line};
+ghost use Rattle.tau_report.specs.Report.{ack_lines};
+ghost use Rattle.tau_engine.specs.Outside.{GoesOn, IsStopped};
 ghost use Rattle.tau_engine.specs.Run.{means};
 ghost use Rattle.tau_engine.specs.Puts.{committed, logged, acks_of, no_ends};
 
 use crate::log::{LogRefusal, log_put};
-use crate::report::add_ack;
 use crate::rows::Rows;
 use crate::sink::write_all;
 use crate::workload::Put;
 use std::alloc::Global;
-use tau_base::{Key, MAX_CALLS};
+use tau_base::{Key, Lv, MAX_CALLS, MAX_LSN};
 use tau_disk::{Disk, Sink};
+use tau_report::ack_line;
 use tau_stream::Writer;
 
 /// Why a run did not go to its end.
@@ -33,24 +35,25 @@ pub enum RunRefusal {
 
 /// Writes the line of an acknowledgement, once the call's record is durable.
 fn acknowledge<D: Disk, K: Sink>(
-    line: &mut String,
+    line: &mut Vec<u8>,
     sink: &mut K,
     log: &Writer<D>,
     number: u64,
     end: u64,
 ) -> Result<(), RunRefusal>
     requires durable { end ≤ durable_of log.now }
+    requires small { end < MAX_LSN }
     ensures written { OnOk result (K.tells → K.held sink.new ≡ K.held sink.old ++ ack_line (number, end ∷ 0 ∷ [])) }
     ensures cause { result ≡ Err RunRefusal.Sink → Rose (K.faults sink.old) (K.faults sink.new) }
     ensures disk { result ≡ Err RunRefusal.Disk → ⊥ }
     ensures faults { K.faults sink.old ≤ K.faults sink.new }
 {
     let _ = log;
-    line.clear();
-    let Ok(()) = add_ack(line, number, end) else {
+    let lv = Lv::zero(2).with(0, end);
+    let Ok(()) = ack_line(line, number, &lv) else {
         return Err(RunRefusal::NoMemory);
     };
-    match write_all(sink, line.as_bytes()) {
+    match write_all(sink, line) {
         Ok(()) => Ok(()),
         Err(_) => Err(RunRefusal::Sink),
     }
@@ -74,11 +77,13 @@ pub fn run_puts<D: Disk, K: Sink>(
     ensures stored { OnOk result (D.tells → (n j : ℕ) (content : List ℕ) → IsReady n j log.old content → IsReady n j log.new (content ++ logged no_ends 1 (durable_of log.old) puts.now)) }
     ensures sink { result ≡ Err RunRefusal.Sink → Rose (K.faults sink.old) (K.faults sink.new) }
     ensures disk { result ≡ Err RunRefusal.Disk → Rose (D.faults (disk_of log.old)) (D.faults (disk_of log.new)) }
+    ensures goes { OnOk result (D.tells → GoesOn D.number D.fails (disk_of log.old) (disk_of log.new)) }
+    ensures stopped { result ≡ Err RunRefusal.Disk → D.tells → IsStopped D.tells D.number D.fails D.short (disk_of log.old) (disk_of log.new) }
     ensures faults { D.faults (disk_of log.old) ≤ D.faults (disk_of log.new) }
     ensures sink_faults { K.faults sink.old ≤ K.faults sink.new }
 {
     let mut rows = Rows::new(alloc);
-    let mut line = String::new(alloc);
+    let mut line = Vec::new(alloc);
     let mut number = 1;
     for put in puts {
         let end = rows.end(put.key);

@@ -1,75 +1,8 @@
 //! The status of a call, and the causes that it names.
 
-/// Why a line of a workload is none.
-#[derive(Clone, Copy, Debug, PartialEq, Eq)]
-pub enum TextCause {
-    /// Its bytes are no text.
-    NotUtf8 = 1,
-    /// Its first word may not stand there.
-    UnknownWord = 2,
-    /// It names a table or a procedure that is not declared.
-    UnknownName = 3,
-    /// It declares a name again.
-    Twice = 4,
-    /// A word is no number.
-    BadNumber = 5,
-    /// A word is not what may stand in its place.
-    BadStep = 6,
-    /// It passes a limit.
-    TooMany = 7,
-    /// Words are missing.
-    Missing = 8,
-    /// A `when` or a procedure is not ended.
-    NoEnd = 9,
-}
-
-/// The first bad line of a workload.
-#[derive(Clone, Copy, Debug, PartialEq, Eq)]
-pub struct TextFault {
-    /// Its number, from 1.
-    pub line: u32,
-    /// Why it is none.
-    pub cause: TextCause,
-}
-
-/// Why an image is none of a stream.
-#[derive(Clone, Copy, Debug, PartialEq, Eq)]
-pub enum ImageFault {
-    /// It does not begin as one.
-    BadMagic = 1,
-    /// It counts no streams, or more than 16.
-    BadCount = 2,
-    /// It is of another stream.
-    BadIndex = 3,
-    /// A gate is open and no whole block stands behind it.
-    OpenGateWithoutBlock = 4,
-}
-
-/// Why bytes are no record.
-#[derive(Clone, Copy, Debug, PartialEq, Eq)]
-pub enum RecordCause {
-    /// They end before the record does.
-    Short = 1,
-    /// No record of this kind may stand there.
-    BadKind = 2,
-    /// The fields do not fill the record.
-    BadLength = 3,
-    /// It names an anchor that is not there.
-    BadAnchor = 4,
-    /// Its vector is not spelled as it must be.
-    BadMask = 5,
-    /// What it holds may not stand in a record.
-    BadBody = 6,
-}
-
-/// The first bad record of a content.
-#[derive(Clone, Copy, Debug, PartialEq, Eq)]
-pub struct RecordFault {
-    /// Where it begins.
-    pub at: u64,
-    /// Why it is none.
-    pub cause: RecordCause,
-}
+use tau_block::ImageFault;
+use tau_record::RecordFault;
+use tau_text::TextCause;
 
 /// Why images hold no log.
 #[derive(Clone, Copy, Debug, PartialEq, Eq)]

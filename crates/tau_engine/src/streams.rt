@@ -5,9 +5,10 @@ ghost use Rattle.tau_block.specs.Image.{HasContent};
 ghost use Rattle.tau_disk.specs.Disk.{Rose, Only};
 ghost use Rattle.tau_stream.specs.Stream.{catalogue_record};
 ghost use Rattle.tau_stream.specs.Writer.{disk_of, durable_of, left_of, added_of, has_failed, IsReady};
-ghost use Rattle.tau_engine.specs.Outside.{RoseAt, EachUsed, IsFirstLong, OnlyRead, OneCall, Wrote, ends_run, OpensBad};
+ghost use Rattle.tau_engine.specs.Outside.{RoseAt, EachUsed, IsFirstLong, OnlyRead, OneCall, Wrote, ends_run, OpensBad, GoesOn, IsStopped, IsFirstStopped, Made, FailsTold, calls_to_open};
 ghost use Rattle.tau_engine.specs.Workload.{declarations_of};
 ghost use Rattle.tau_engine.specs.Loads.{load_of, IsWithin};
+ghost use Rattle.tau_engine.specs.Fault.{fault_text, WroteFront};
 ghost use Rattle.tau_engine.specs.Facts.{RunFacts, Holds, IsRefused};
 ghost use Rattle.tau_engine.specs.Puts.{logged, no_ends};
 ghost use Rattle.tau_engine.specs.Runs.{IsTold};
@@ -32,6 +33,10 @@ fn ask_lengths<D: Disk>(first: &mut D, second: &mut D) -> Result<(), Status>
     ensures was_empty { OnOk result (D.tells → (D.seen first.old ≡ []) × (D.seen second.old ≡ [])) }
     ensures not_empty { (j long : ℕ) → result ≡ Err (Status.NotEmpty j long) → (j < 2) × (D.tells → IsFirstLong D.seen (first.old ∷ second.old ∷ []) j long) }
     ensures disk_fault { (j : ℕ) → result ≡ Err (Status.DiskFault j) → (j < 2) × RoseAt D.faults (first.old ∷ second.old ∷ []) (first.new ∷ second.new ∷ []) j }
+    ensures goes { OnOk result (D.tells → GoesOn D.number D.fails first.old first.new × (D.number first.new ≡ D.number first.old + 1)) }
+    ensures goes_second { OnOk result (D.tells → GoesOn D.number D.fails second.old second.new × (D.number second.new ≡ D.number second.old + 1)) }
+    ensures stopped { (j : ℕ) → result ≡ Err (Status.DiskFault j) → D.tells → IsFirstStopped D.tells D.number D.fails D.short (first.old ∷ second.old ∷ []) (first.new ∷ second.new ∷ []) j }
+    ensures early { (j : ℕ) → result ≡ Err (Status.DiskFault j) → D.tells → (k : ℕ) × (k ≤ calls_to_open) × Made D.number D.short (first.old ∷ second.old ∷ []) (first.new ∷ second.new ∷ []) j k }
     ensures kind { IfErr result (λ status. ends_run status ≡ true) }
     ensures opening { IfErr result (λ status. OpensBad status) }
     ensures read { OnlyRead D.tells D.seen D.may_leave D.moment D.may_leave_since first.old first.new }
@@ -75,6 +80,8 @@ fn run_on<D: Disk, K: Sink>(
     ensures stored { result ≡ Status.Ok → D.tells → (n j : ℕ) (content : List ℕ) → IsReady n j log.old content → IsReady n j log.new (content ++ logged no_ends 1 (durable_of log.old) load.now.puts.items) }
     ensures sink { result ≡ Status.WriteFault → Rose (K.faults sink.old) (K.faults sink.new) }
     ensures disk { (j : ℕ) → result ≡ Status.DiskFault j → (j ≡ 0) × Rose (D.faults (disk_of log.old)) (D.faults (disk_of log.new)) }
+    ensures goes { result ≡ Status.Ok → D.tells → GoesOn D.number D.fails (disk_of log.old) (disk_of log.new) }
+    ensures stopped { (j : ℕ) → result ≡ Status.DiskFault j → D.tells → IsStopped D.tells D.number D.fails D.short (disk_of log.old) (disk_of log.new) }
     ensures kind { ends_run result ≡ true }
     ensures empty { (j long : ℕ) → result ≡ Status.NotEmpty j long → ⊥ }
     ensures faults { D.faults (disk_of log.old) ≤ D.faults (disk_of log.new) }
@@ -86,14 +93,13 @@ fn run_on<D: Disk, K: Sink>(
         Err(RunRefusal::Sink) => return Status::WriteFault,
         Err(RunRefusal::Disk) => return Status::DiskFault { stream: 0 },
     };
-    let Ok(present) = rows.tables(alloc) else {
+    let Ok(tables) = rows.tables(alloc) else {
         return Status::NoMemory;
     };
-    let count = load.puts.len() as u64;
-    let Ok(text) = report_tail(alloc, &load.tables, count, &present) else {
+    let Ok(text) = report_tail(alloc, &load.declarations, load.puts.len(), tables) else {
         return Status::NoMemory;
     };
-    match write_all(sink, text.as_bytes()) {
+    match write_all(sink, &text) {
         Ok(()) => Status::Ok,
         Err(_) => Status::WriteFault,
     }
@@ -132,6 +138,10 @@ pub fn run_two<D: Disk, K: Sink>(
         (Wrote K.tells (K.held sink.old) (K.held sink.new)) (Rose (K.faults sink.old) (K.faults sink.new)) (first ∷ second ∷ []) (result.0 ∷ result.1 ∷ []) result.2 }
     ensures asked_once { (j long : ℕ) → result.2 ≡ Status.NotEmpty j long → EachUsed (OneCall D.tells D.number D.short) (first ∷ second ∷ []) (result.0 ∷ result.1 ∷ []) 2 }
     ensures disk_fault { (j : ℕ) → result.2 ≡ Status.DiskFault j → (j < 2) × RoseAt D.faults (first ∷ second ∷ []) (result.0 ∷ result.1 ∷ []) j }
+    ensures clean { result.2 ≡ Status.Ok → D.tells → GoesOn D.number D.fails first result.0 × GoesOn D.number D.fails second result.1 }
+    ensures stopped { (j : ℕ) → result.2 ≡ Status.DiskFault j → D.tells → IsFirstStopped D.tells D.number D.fails D.short (first ∷ second ∷ []) (result.0 ∷ result.1 ∷ []) j }
+    ensures fault_told { (j : ℕ) → result.2 ≡ Status.DiskFault j → D.tells → FailsTold (Made D.number D.short (first ∷ second ∷ []) (result.0 ∷ result.1 ∷ []) j)
+        (WroteFront (Wrote K.tells (K.held sink.old) (K.held sink.new)) (Rose (K.faults sink.old) (K.faults sink.new)) (fault_text result.2)) }
     ensures write_fault { result.2 ≡ Status.WriteFault → Rose (K.faults sink.old) (K.faults sink.new) }
     ensures kind { ends_run result.2 ≡ true }
     ensures faults { (D.faults first ≤ D.faults result.0) × (D.faults second ≤ D.faults result.1) }
@@ -142,7 +152,7 @@ pub fn run_two<D: Disk, K: Sink>(
         let status = refuse(alloc, sink, refusal);
         return (first, second, status);
     }
-    let Ok(catalogue) = declarations(alloc, &load.tables) else {
+    let Ok(catalogue) = declarations(alloc, load.declarations.tables.as_slice()) else {
         return (first, second, Status::NoMemory);
     };
     let mut log = match Writer::create(alloc, first, STREAMS, 0, catalogue.as_bytes()) {

@@ -7,6 +7,7 @@ use std::sync::Wait;
 use std::test::*;
 use std::thread::Threads;
 use tau_disk::{MemDisk, MemSink, MemSource, Quiet, Tear};
+use tau_text::TextCause;
 
 // Sixteen disks, of which these are the first two.
 fn disks_of(alloc: Global, first: MemDisk, second: MemDisk) -> Result<Vec<MemDisk>, Fail>
@@ -21,6 +22,34 @@ fn disks_of(alloc: Global, first: MemDisk, second: MemDisk) -> Result<Vec<MemDis
     Ok(disks)
 }
 
+// Does what these words say, over a text and these disks.
+fn do_words<R: Threads + Wait + Sync>(
+    rt: &R,
+    alloc: Global,
+    words: &[&str],
+    text: &[u8],
+    sink: &mut MemSink,
+    disks: &mut Vec<MemDisk>,
+) -> Result<Status, Fail>
+    requires { vec_len disks.old ≡ 16 }
+    ensures { vec_len disks.new ≡ 16 }
+{
+    let mut source = MemSource::new(alloc, text, &[])?;
+    let mut strings = Vec::new(alloc);
+    for word in words {
+        strings.push(String::from_str(alloc, word)?)?;
+    }
+    Ok(taurus(
+        rt,
+        alloc,
+        strings.as_slice(),
+        &mut source,
+        sink,
+        disks,
+        &Quiet,
+    ))
+}
+
 // Runs `run 2 1` over a text on these disks.
 fn run_text<R: Threads + Wait + Sync>(
     rt: &R,
@@ -32,21 +61,7 @@ fn run_text<R: Threads + Wait + Sync>(
     requires { vec_len disks.old ≡ 16 }
     ensures { vec_len disks.new ≡ 16 }
 {
-    let mut source = MemSource::new(alloc, text, &[])?;
-    let words = vec![in alloc;
-        String::from_str(alloc, "run")?,
-        String::from_str(alloc, "2")?,
-        String::from_str(alloc, "1")?,
-    ]?;
-    Ok(taurus(
-        rt,
-        alloc,
-        words.as_slice(),
-        &mut source,
-        sink,
-        disks,
-        &Quiet,
-    ))
+    do_words(rt, alloc, &["run", "2", "1"], text, sink, disks)
 }
 
 // The number in these bytes, the highest first.
@@ -355,5 +370,94 @@ fn short_images_are_refused(rt: HostRuntime) -> Result<(), Fail> {
         }
     );
     assert_eq!(rt; sink.bytes(), b"fault 8 0 1\nfault 8 0 17\n".as_slice());
+    Ok(())
+}
+
+#[test]
+fn words_of_a_run_and_of_no_command(rt: HostRuntime) -> Result<(), Fail> {
+    let alloc = rt.alloc();
+    let mut disks = disks_of(alloc, MemDisk::new(alloc, &[])?, MemDisk::new(alloc, &[])?)?;
+    let mut sink = MemSink::new(alloc, &[])?;
+    let status = do_words(&rt, alloc, &["run", "0", "1"], b"", &mut sink, &mut disks)?;
+    assert_eq!(rt; status, Status::Usage);
+    let status = do_words(&rt, alloc, &["run", "2"], b"", &mut sink, &mut disks)?;
+    assert_eq!(rt; status, Status::Usage);
+    let status = do_words(&rt, alloc, &["run", "02", "1"], b"", &mut sink, &mut disks)?;
+    assert_eq!(rt; status, Status::Usage);
+    let status = do_words(&rt, alloc, &["--help"], b"", &mut sink, &mut disks)?;
+    assert_eq!(rt; status, Status::Usage);
+    assert_eq!(rt;
+        sink.bytes(),
+        b"fault 2\nfault 2\nfault 2\nfault 2\n".as_slice()
+    );
+    assert_eq!(rt; disks[0].calls(), 0);
+    let mut whole = MemSink::new(alloc, &[])?;
+    let status = do_words(
+        &rt,
+        alloc,
+        &["run", "2", "1", "data"],
+        b"",
+        &mut whole,
+        &mut disks,
+    )?;
+    assert_eq!(rt; status, Status::Ok);
+    assert_eq!(rt; whole.bytes(), b"end 0\n".as_slice());
+    Ok(())
+}
+
+// Commands that are words of the table and are not served yet.
+#[test]
+fn commands_that_are_not_there_yet(rt: HostRuntime) -> Result<(), Fail> {
+    let alloc = rt.alloc();
+    let mut disks = disks_of(alloc, MemDisk::new(alloc, &[])?, MemDisk::new(alloc, &[])?)?;
+    let mut sink = MemSink::new(alloc, &[])?;
+    let status = do_words(&rt, alloc, &["run", "2", "2"], b"", &mut sink, &mut disks)?;
+    assert_eq!(rt; status, Status::Usage);
+    let status = do_words(
+        &rt,
+        alloc,
+        &["run", "2", "1", "command"],
+        b"",
+        &mut sink,
+        &mut disks,
+    )?;
+    assert_eq!(rt; status, Status::Usage);
+    let status = do_words(
+        &rt,
+        alloc,
+        &["bench", "7", "0", "4", "8"],
+        b"",
+        &mut sink,
+        &mut disks,
+    )?;
+    assert_eq!(rt; status, Status::Usage);
+    assert_eq!(rt; sink.bytes(), b"fault 2\nfault 2\nfault 2\n".as_slice());
+    Ok(())
+}
+
+// A text of 2 ^ 24 bytes is read, and its line is bad; with one byte more it is too long.
+#[test]
+fn a_text_at_the_limit(rt: HostRuntime) -> Result<(), Fail> {
+    let alloc = rt.alloc();
+    let mut disks = disks_of(alloc, MemDisk::new(alloc, &[])?, MemDisk::new(alloc, &[])?)?;
+    let mut sink = MemSink::new(alloc, &[])?;
+    let mut text = Vec::from_slice(alloc, b"x")?;
+    for _ in 0..24u64 {
+        let half = text.clone()?;
+        text.extend_from_slice(&half)?;
+    }
+    let status = run_text(&rt, alloc, &text, &mut sink, &mut disks)?;
+    assert_eq!(rt;
+        status,
+        Status::BadText {
+            line: 1,
+            cause: TextCause::UnknownWord
+        }
+    );
+    text.push(b'x')?;
+    let status = run_text(&rt, alloc, &text, &mut sink, &mut disks)?;
+    assert_eq!(rt; status, Status::TooLong);
+    assert_eq!(rt; sink.bytes(), b"fault 3 1 2\nfault 9\n".as_slice());
+    assert_eq!(rt; disks[0].calls(), 0);
     Ok(())
 }

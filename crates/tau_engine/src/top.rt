@@ -3,30 +3,30 @@ ghost use Rattle.std.specs.Prelude.{◌≡◌, ◌<◌, ◌≤◌, ◌⊎◌, �
 ghost use Rattle.tau_base.specs.declared.value.LogMode.{LogMode};
 ghost use Rattle.tau_disk.specs.Disk.{Rose};
 ghost use Rattle.tau_model.specs.History.{Member};
-ghost use Rattle.tau_engine.specs.declared.command.Command.{Command};
-ghost use Rattle.tau_engine.specs.declared.status.TextCause.{TextCause};
-ghost use Rattle.tau_engine.specs.declared.status.TextFault.{TextFault};
+ghost use Rattle.tau_words.specs.declared.command.Command.{Command};
+ghost use Rattle.tau_text.specs.declared.fault.TextCause.{TextCause};
+ghost use Rattle.tau_text.specs.declared.fault.TextFault.{TextFault};
 ghost use Rattle.tau_engine.specs.declared.status.LogFault.{LogFault};
-ghost use Rattle.tau_engine.specs.Words.{command_of, used_by, reads_source};
+ghost use Rattle.tau_engine.specs.Served.{served, used_by, reads_source};
 ghost use Rattle.tau_engine.specs.Workload.{Load, HasWorkload, HasFault};
 ghost use Rattle.tau_engine.specs.Loads.{load_of, IsWithin};
 ghost use Rattle.tau_engine.specs.Facts.{RunFacts, Holds, IsRefused};
 ghost use Rattle.tau_engine.specs.Fault.{fault_text, is_refusal, WroteFront};
-ghost use Rattle.tau_engine.specs.Outside.{RoseAt, EachUsed, AreEmpty, IsFirstLong, OnlyRead, OneCall, Wrote, is_behind_text, is_behind_end, is_before_disks, ends_run};
+ghost use Rattle.tau_engine.specs.Outside.{RoseAt, EachUsed, AreEmpty, IsFirstLong, OnlyRead, OneCall, IsClean, IsFirstStopped, Made, FailsTold, Wrote, is_behind_text, is_behind_end, is_before_disks, ends_run};
 
-use crate::command::Command;
 use crate::disks::{put_first, take_first};
 use crate::fault::refuse;
 use crate::reading::read_source;
+use crate::served::read_run;
 use crate::status::Status;
 use crate::streams::run_two;
-use crate::words::read_words;
 use crate::workload::Workload;
 use std::alloc::Global;
 use std::sync::Wait;
 use std::thread::Threads;
 use tau_base::MAX_WORKLOAD;
 use tau_disk::{Disk, Gate, Sink, Source};
+use tau_words::WordsRefusal;
 
 /// Runs the workload on the first two disks.
 fn run<D: Disk, K: Sink>(alloc: Global, load: &Workload, sink: &mut K, disks: &mut Vec<D>) -> Status
@@ -42,6 +42,10 @@ fn run<D: Disk, K: Sink>(alloc: Global, load: &Workload, sink: &mut K, disks: &m
         (Wrote K.tells (K.held sink.old) (K.held sink.new)) (Rose (K.faults sink.old) (K.faults sink.new)) disks.old.items disks.new.items result }
     ensures asked_once { (j long : ℕ) → result ≡ Status.NotEmpty j long → EachUsed (OneCall D.tells D.number D.short) disks.old.items disks.new.items 2 }
     ensures disk_fault { (j : ℕ) → result ≡ Status.DiskFault j → (j < 2) × RoseAt D.faults disks.old.items disks.new.items j }
+    ensures clean { result ≡ Status.Ok → EachUsed (IsClean D.tells D.number D.fails) disks.old.items disks.new.items 2 }
+    ensures stopped { (j : ℕ) → result ≡ Status.DiskFault j → D.tells → IsFirstStopped D.tells D.number D.fails D.short disks.old.items disks.new.items j }
+    ensures fault_told { (j : ℕ) → result ≡ Status.DiskFault j → D.tells → FailsTold (Made D.number D.short disks.old.items disks.new.items j)
+        (WroteFront (Wrote K.tells (K.held sink.old) (K.held sink.new)) (Rose (K.faults sink.old) (K.faults sink.new)) (fault_text result)) }
     ensures write_fault { result ≡ Status.WriteFault → Rose (K.faults sink.old) (K.faults sink.new) }
     ensures kind { ends_run result ≡ true }
     ensures untouched { drop 2 disks.new.items ≡ drop 2 disks.old.items }
@@ -71,22 +75,25 @@ pub fn taurus<R: Threads + Wait + Sync, S: Source, K: Sink + Send, D: Disk + Sen
     ensures count { vec_len disks.new ≡ 16 }
 
     // Each status has its cause, and none comes where an earlier one applies.
-    ensures usage { result ≡ Status.Usage → command_of (map string_bytes words.now) ≡ None }
-    ensures usage_told { command_of (map string_bytes words.now) ≡ None → Member result (Status.Usage ∷ Status.NoMemory ∷ []) }
-    ensures read_fault { result ≡ Status.ReadFault → (reads_source (command_of (map string_bytes words.now)) ≡ true) × Rose (S.faults source.old) (S.faults source.new) }
-    ensures too_long { result ≡ Status.TooLong → (reads_source (command_of (map string_bytes words.now)) ≡ true) × (S.tells → MAX_WORKLOAD < length (S.left source.old)) }
-    ensures too_long_told { reads_source (command_of (map string_bytes words.now)) ≡ true → S.tells → MAX_WORKLOAD < length (S.left source.old) →
+    ensures usage { result ≡ Status.Usage → served (map string_bytes words.now) ≡ None }
+    ensures usage_told { served (map string_bytes words.now) ≡ None → Member result (Status.Usage ∷ Status.NoMemory ∷ []) }
+    ensures read_fault { result ≡ Status.ReadFault → (reads_source (served (map string_bytes words.now)) ≡ true) × Rose (S.faults source.old) (S.faults source.new) }
+    ensures too_long { result ≡ Status.TooLong → (reads_source (served (map string_bytes words.now)) ≡ true) × (S.tells → MAX_WORKLOAD < length (S.left source.old)) }
+    ensures too_long_told { reads_source (served (map string_bytes words.now)) ≡ true → S.tells → MAX_WORKLOAD < length (S.left source.old) →
         Member result (Status.TooLong ∷ Status.ReadFault ∷ Status.NoMemory ∷ []) }
     ensures bad_text { (line : ℕ) (cause : TextCause) → result ≡ Status.BadText line cause →
-        (reads_source (command_of (map string_bytes words.now)) ≡ true) × (S.tells → HasFault (S.left source.old) (record { line = line; cause = cause })) }
-    ensures bad_text_told { reads_source (command_of (map string_bytes words.now)) ≡ true → S.tells → (fault : TextFault) → HasFault (S.left source.old) fault →
+        (reads_source (served (map string_bytes words.now)) ≡ true) × (S.tells → HasFault (S.left source.old) (record { line = line; cause = cause })) }
+    ensures bad_text_told { reads_source (served (map string_bytes words.now)) ≡ true → S.tells → (fault : TextFault) → HasFault (S.left source.old) fault →
         Member result (Status.BadText fault.line fault.cause ∷ Status.ReadFault ∷ Status.NoMemory ∷ []) }
-    ensures behind_text { is_behind_text result ≡ true → reads_source (command_of (map string_bytes words.now)) ≡ true → S.tells →
+    ensures behind_text { is_behind_text result ≡ true → reads_source (served (map string_bytes words.now)) ≡ true → S.tells →
         (load : Load) × HasWorkload (S.left source.old) load }
-    ensures disk_fault { (j : ℕ) → result ≡ Status.DiskFault j → (j < used_by (command_of (map string_bytes words.now))) × RoseAt D.faults disks.old.items disks.new.items j }
-    ensures not_empty { (j long : ℕ) → result ≡ Status.NotEmpty j long → (n m : ℕ) × (mode : LogMode) × (command_of (map string_bytes words.now) ≡ Some (Command.Run n m mode))
+    ensures disk_fault { (j : ℕ) → result ≡ Status.DiskFault j → (j < used_by (served (map string_bytes words.now))) × RoseAt D.faults disks.old.items disks.new.items j }
+    // A fault of a disk is the first call that was to fail, of the lowest disk that has one, unless its memory was short.
+    ensures disk_fault_first { (j : ℕ) → result ≡ Status.DiskFault j → D.tells → IsFirstStopped D.tells D.number D.fails D.short disks.old.items disks.new.items j }
+    ensures disk_fault_told { result ≡ Status.Ok → EachUsed (IsClean D.tells D.number D.fails) disks.old.items disks.new.items (used_by (served (map string_bytes words.now))) }
+    ensures not_empty { (j long : ℕ) → result ≡ Status.NotEmpty j long → (n m : ℕ) × (mode : LogMode) × (served (map string_bytes words.now) ≡ Some (Command.Run n m mode))
         × (j < n) × (D.tells → IsFirstLong D.seen disks.old.items j long) }
-    ensures not_empty_told { (n m : ℕ) (mode : LogMode) (j long : ℕ) → command_of (map string_bytes words.now) ≡ Some (Command.Run n m mode) →
+    ensures not_empty_told { (n m : ℕ) (mode : LogMode) (j long : ℕ) → served (map string_bytes words.now) ≡ Some (Command.Run n m mode) →
         S.tells → (load : Load) → HasWorkload (S.left source.old) load → D.tells → j < n → IsFirstLong D.seen disks.old.items j long →
         Member result (Status.NotEmpty j long ∷ Status.ReadFault ∷ Status.NoMemory ∷ []) ⊎ ((i : ℕ) × (result ≡ Status.DiskFault i)) }
     ensures bad_log { (fault : LogFault) → result ≡ Status.BadLog fault → ⊥ }
@@ -94,49 +101,48 @@ pub fn taurus<R: Threads + Wait + Sync, S: Source, K: Sink + Send, D: Disk + Sen
 
     // What is read of the source.
     ensures source { S.tells → (k : ℕ) × (k ≤ MAX_WORKLOAD + 1) × (S.left source.new ≡ drop k (S.left source.old)) }
-    ensures source_end { S.tells → is_behind_end result ≡ true → reads_source (command_of (map string_bytes words.now)) ≡ true → S.left source.new ≡ [] }
-    ensures source_unread { S.tells → reads_source (command_of (map string_bytes words.now)) ≡ false → S.left source.new ≡ S.left source.old }
+    ensures source_end { S.tells → is_behind_end result ≡ true → reads_source (served (map string_bytes words.now)) ≡ true → S.left source.new ≡ [] }
+    ensures source_unread { S.tells → reads_source (served (map string_bytes words.now)) ≡ false → S.left source.new ≡ S.left source.old }
 
     // A refusal writes its one line, and want of memory before a run none.
     ensures refusal { is_refusal result ≡ true → WroteFront (Wrote K.tells (K.held sink.old) (K.held sink.new)) (Rose (K.faults sink.old) (K.faults sink.new)) (fault_text result) }
-    ensures opening_fault { (n m i j long : ℕ) (mode : LogMode) → command_of (map string_bytes words.now) ≡ Some (Command.Run n m mode) → result ≡ Status.DiskFault i →
+    ensures opening_fault { (n m i j long : ℕ) (mode : LogMode) → served (map string_bytes words.now) ≡ Some (Command.Run n m mode) → result ≡ Status.DiskFault i →
         D.tells → j < n → IsFirstLong D.seen disks.old.items j long →
         WroteFront (Wrote K.tells (K.held sink.old) (K.held sink.new)) (Rose (K.faults sink.old) (K.faults sink.new)) (fault_text result) }
-    ensures silent { result ≡ Status.NoMemory → command_of (map string_bytes words.now) ≡ None → Wrote K.tells (K.held sink.old) (K.held sink.new) [] }
+    // A disk that fails while its stream is made is told too; one that fails later ends the run with no line.
+    ensures making_fault { (j : ℕ) → result ≡ Status.DiskFault j → D.tells → FailsTold (Made D.number D.short disks.old.items disks.new.items j)
+        (WroteFront (Wrote K.tells (K.held sink.old) (K.held sink.new)) (Rose (K.faults sink.old) (K.faults sink.new)) (fault_text result)) }
+    ensures silent { result ≡ Status.NoMemory → served (map string_bytes words.now) ≡ None → Wrote K.tells (K.held sink.old) (K.held sink.new) [] }
 
     // A run that went well has one history, of which its report is, and its disks hold it.
-    ensures run { (n m : ℕ) (mode : LogMode) (load : Load) → command_of (map string_bytes words.now) ≡ Some (Command.Run n m mode) →
+    ensures run { (n m : ℕ) (mode : LogMode) (load : Load) → served (map string_bytes words.now) ≡ Some (Command.Run n m mode) →
         S.tells → HasWorkload (S.left source.old) load → result ≡ Status.Ok →
         RunFacts n m load (Holds D.tells D.may_leave n disks.new.items) (Wrote K.tells (K.held sink.old) (K.held sink.new)) }
 
     // What is not touched.
-    ensures untouched { drop (used_by (command_of (map string_bytes words.now))) disks.new.items ≡ drop (used_by (command_of (map string_bytes words.now))) disks.old.items }
+    ensures untouched { drop (used_by (served (map string_bytes words.now))) disks.new.items ≡ drop (used_by (served (map string_bytes words.now))) disks.old.items }
     ensures before_disks { is_before_disks result ≡ true → disks.new.items ≡ disks.old.items }
 
-    ensures bad_text_untouched { S.tells → reads_source (command_of (map string_bytes words.now)) ≡ true → (fault : TextFault) → HasFault (S.left source.old) fault → disks.new.items ≡ disks.old.items }
-    ensures not_empty_untouched { (n m : ℕ) (mode : LogMode) (j long : ℕ) → command_of (map string_bytes words.now) ≡ Some (Command.Run n m mode) → j < n → D.tells → IsFirstLong D.seen disks.old.items j long →
+    ensures bad_text_untouched { S.tells → reads_source (served (map string_bytes words.now)) ≡ true → (fault : TextFault) → HasFault (S.left source.old) fault → disks.new.items ≡ disks.old.items }
+    ensures not_empty_untouched { (n m : ℕ) (mode : LogMode) (j long : ℕ) → served (map string_bytes words.now) ≡ Some (Command.Run n m mode) → j < n → D.tells → IsFirstLong D.seen disks.old.items j long →
         EachUsed (OnlyRead D.tells D.seen D.may_leave D.moment D.may_leave_since) disks.old.items disks.new.items n }
-    ensures asked { (j long : ℕ) → result ≡ Status.NotEmpty j long → EachUsed (OnlyRead D.tells D.seen D.may_leave D.moment D.may_leave_since) disks.old.items disks.new.items (used_by (command_of (map string_bytes words.now))) }
-    ensures asked_once { (j long : ℕ) → result ≡ Status.NotEmpty j long → EachUsed (OneCall D.tells D.number D.short) disks.old.items disks.new.items (used_by (command_of (map string_bytes words.now))) }
+    ensures asked { (j long : ℕ) → result ≡ Status.NotEmpty j long → EachUsed (OnlyRead D.tells D.seen D.may_leave D.moment D.may_leave_since) disks.old.items disks.new.items (used_by (served (map string_bytes words.now))) }
+    ensures asked_once { (j long : ℕ) → result ≡ Status.NotEmpty j long → EachUsed (OneCall D.tells D.number D.short) disks.old.items disks.new.items (used_by (served (map string_bytes words.now))) }
 
     // Where nothing is amiss, the work is done.
-    ensures run_done { (n m : ℕ) (mode : LogMode) (load : Load) → command_of (map string_bytes words.now) ≡ Some (Command.Run n m mode) →
+    ensures run_done { (n m : ℕ) (mode : LogMode) (load : Load) → served (map string_bytes words.now) ≡ Some (Command.Run n m mode) →
         S.tells → D.tells → HasWorkload (S.left source.old) load → AreEmpty D.tells D.seen disks.old.items n →
         (Rose (S.faults source.old) (S.faults source.new) → ⊥) → (Rose (K.faults sink.old) (K.faults sink.new) → ⊥) → ((j : ℕ) → j < n → RoseAt D.faults disks.old.items disks.new.items j → ⊥) →
         Member result (Status.Ok ∷ Status.NoMemory ∷ []) }
 {
     let _ = rt;
     let _ = gate;
-    let Some(command) = read_words(words) else {
-        return refuse(alloc, sink, Status::Usage);
-    };
-    let Command::Run {
-        n: _,
-        m: _,
-        mode: _,
-    } = command;
-    match read_source(alloc, source) {
-        Err(refusal) => refuse(alloc, sink, refusal),
-        Ok(load) => run(alloc, &load, sink, disks),
+    match read_run(alloc, words) {
+        Err(WordsRefusal::NoMemory) => Status::NoMemory,
+        Err(WordsRefusal::Usage) => refuse(alloc, sink, Status::Usage),
+        Ok(()) => match read_source(alloc, source) {
+            Err(refusal) => refuse(alloc, sink, refusal),
+            Ok(load) => run(alloc, &load, sink, disks),
+        },
     }
 }

@@ -1,17 +1,18 @@
 //! Workloads of tables and puts.
 ghost use Rattle.std.specs.Prelude.{◌≡◌, ◌≤◌, ◌<◌, length, position, IfSome, Some, None, Ok, Err, IfOk, if◌then◌else◌, ◌&&◌, nat_lt, not, vec_len, [], ◌∷◌};
 ghost use Rattle.std.specs.List.{list_all};
-ghost use Rattle.tau_engine.specs.declared.status.TextFault.{TextFault};
-ghost use Rattle.tau_engine.specs.Words.{same_word};
+ghost use Rattle.tau_text.specs.declared.fault.TextFault.{TextFault};
+ghost use Rattle.tau_words.specs.Words.{same_word};
 ghost use Rattle.tau_engine.specs.Workload.{words_of, with_words, is_name, is_name_byte, is_letter, may_declare, put_call, with_call, with_table, workload_of, empty_load};
 ghost use Rattle.tau_engine.specs.Loads.{load_of, ReadsAs, IsWithin};
 
 use crate::number::read_integer;
 use crate::pieces::{cut_line, cut_word};
-use crate::status::{TextCause, TextFault};
 use std::alloc::Global;
 use std::str;
-use tau_base::{Key, MAX_CALLS, MAX_NAME, MAX_TABLES, MAX_WORKLOAD, Name};
+use tau_base::{Key, Listed, MAX_CALLS, MAX_NAME, MAX_TABLES, MAX_WORKLOAD, Name};
+use tau_proc::Procs;
+use tau_text::{Declarations, TextCause, TextFault, TextRefusal};
 
 /// A number that goes into a row.
 #[derive(Clone, Copy, Debug, PartialEq, Eq)]
@@ -25,19 +26,10 @@ pub struct Put {
 /// Tables, and puts into their rows.
 #[derive(Debug, Drop)]
 pub struct Workload {
-    /// The names of the tables, in order of declaration.
-    pub tables: Vec<Name>,
+    /// The tables. No procedure is declared.
+    pub declarations: Declarations,
     /// The calls, in their order.
     pub puts: Vec<Put>,
-}
-
-/// Why a text gives no workload.
-#[derive(Clone, Copy, Debug, PartialEq, Eq)]
-pub enum TextRefusal {
-    /// Memory was wanting.
-    NoMemory,
-    /// Its first bad line.
-    Bad(TextFault),
 }
 
 /// Why a line gives nothing.
@@ -108,26 +100,33 @@ impl Workload {
         ensures within { IsWithin result }
     {
         Workload {
-            tables: Vec::new(alloc),
+            declarations: Declarations {
+                tables: Listed::new(alloc),
+                procs: Procs::new(alloc),
+            },
             puts: Vec::new(alloc),
         }
     }
 
     // The number of the table with this name.
     fn table_number(&self, name: &[u8]) -> Option<usize>
-        ensures bound { IfSome result (λ k. k < vec_len self.now.tables) }
-        ensures same { result ≡ position (same_word name.now) self.now.tables.items }
+        ensures bound { IfSome result (λ k. k < length self.now.declarations.tables) }
+        ensures same { result ≡ position (same_word name.now) self.now.declarations.tables }
     {
-        self.tables
+        self.declarations
+            .tables
+            .as_slice()
             .iter()
             .position(|table| name == table.as_str().as_bytes())
     }
 
     // Whether no table has this name.
     fn is_new(&self, name: &[u8]) -> bool
-        ensures { result ≡ list_all (λ other. not (same_word other name.now)) self.now.tables.items }
+        ensures { result ≡ list_all (λ other. not (same_word other name.now)) self.now.declarations.tables }
     {
-        self.tables
+        self.declarations
+            .tables
+            .as_slice()
             .iter()
             .all(|table| !(table.as_str().as_bytes() == name))
     }
@@ -139,7 +138,7 @@ impl Workload {
         if !is_name(name) {
             return false;
         }
-        if self.tables.len() >= MAX_TABLES {
+        if self.declarations.tables.len() >= MAX_TABLES {
             return false;
         }
         if !self.puts.is_empty() {
@@ -160,7 +159,7 @@ impl Workload {
         let Some(name) = read_name(name) else {
             return Err(LineRefusal::Bad);
         };
-        match self.tables.push(name) {
+        match self.declarations.tables.push(name) {
             Ok(()) => Ok(()),
             Err(_) => Err(LineRefusal::NoMemory),
         }

@@ -1,4 +1,4 @@
-use Rattle.std.proofs.Common.{ℕ, ◌≡◌, ◌≤◌, ◌+◌, ◌-◌, ◌++◌, List, [], length, take, arith, sym, ◌∙◌, ap, inr, subst, w64, rules}
+use Rattle.std.proofs.Common.{ℕ, ◌≡◌, ◌-◌, ◌++◌, List, length, take, arith, ◌∙◌, ap, inr, subst, w64, rules}
 use Rattle.std.proofs.lemmas.Int.{to_z-of_z}
 use mir.Val.{SFits}
 use Rattle.std.proofs.Math.Seq.{take-length}

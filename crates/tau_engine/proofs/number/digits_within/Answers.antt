@@ -1,4 +1,4 @@
-use Rattle.std.proofs.Common.{◌≡◌, ◌<◌, ◌+◌, ◌*◌, ◌-◌, ◌^◌, arith, sym, ◌∙◌, get_or}
+use Rattle.std.proofs.Common.{◌^◌, arith, sym, ◌∙◌}
 use Rattle.tau_engine.proofs.Numbers.{passes_limit}
 use Rattle.tau_engine.proofs.number.digits_within.Goals as goal
 

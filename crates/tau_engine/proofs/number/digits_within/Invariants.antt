@@ -1,6 +1,5 @@
 use Rattle.std.proofs.Common.{◌≡◌, ◌≤◌, ◌^◌, drop}
-use Rattle.tau_engine.specs.Words.{digits_value}
-use Rattle.tau_engine.specs.Number.{capped}
+use Rattle.tau_engine.specs.Number.{capped, digits_value}
 use Rattle.tau_engine.proofs.number.digits_within.Given as goal
 
 abbrev pub invariant-loop-byte : goal.invariant-loop-byte

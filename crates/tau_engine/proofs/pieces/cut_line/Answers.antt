@@ -1,4 +1,3 @@
-use Rattle.std.proofs.Common.{◌≡◌, ◌++◌, ◌∷◌, ℕ, List}
 use Rattle.tau_engine.proofs.Lines.{only_line, first_line}
 use Rattle.tau_engine.proofs.pieces.cut_line.Goals as goal
 

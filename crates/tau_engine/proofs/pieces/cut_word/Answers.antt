@@ -1,4 +1,3 @@
-use Rattle.std.proofs.Common.{◌≡◌, ◌++◌, ◌∷◌, ℕ, List}
 use Rattle.tau_engine.proofs.Lines.{only_word, first_word}
 use Rattle.tau_engine.proofs.pieces.cut_word.Goals as goal
 

@@ -1,4 +1,4 @@
-use Rattle.std.proofs.Common.{◌≡◌, ◌≤◌, ◌+◌, ◌*◌, ◌++◌, ℕ, List, [], false, drop, length, refl, sym, ap, ◌∙◌, subst, arith, ◌∷◌, get_or, add-one, drop-cons, w64, rules}
+use Rattle.std.proofs.Common.{◌≡◌, ◌≤◌, ◌+◌, ◌++◌, ℕ, List, [], drop, length, refl, sym, ap, ◌∙◌, subst, arith, ◌∷◌, get_or, add-one, drop-cons, w64, rules}
 use Rattle.std.specs.Prelude.{pos}
 use Rattle.std.proofs.lemmas.List.{append-nil, drop_all}
 use Rattle.std.proofs.lemmas.Int.{to_z-of_z}
@@ -7,13 +7,15 @@ use Rattle.std.specs.BTreeMap.{get}
 use Rattle.tau_base.specs.declared.value.Key.{Key}
 use Rattle.tau_base.specs.Database.{Db, empty_db, key_cmp}
 use Rattle.tau_model.specs.History.{exec}
-use Rattle.tau_stream.specs.Writer.{disk_of, durable_of, left_of, added_of, has_failed, IsReady}
+use Rattle.tau_stream.specs.Writer.{disk_of, durable_of, IsReady}
 use Rattle.tau_engine.specs.Held.{ends_of, numbers_of}
-use Rattle.tau_engine.specs.Report.{ack_line, ack_lines}
+use Rattle.tau_report.specs.Lines.{ack_line}
+use Rattle.tau_report.specs.Report.{ack_lines}
 use Rattle.tau_engine.specs.Run.{Committed, means}
 use Rattle.tau_engine.specs.Puts.{record_bytes, placed, with_end, committed, logged, acks_of, no_ends}
 use Rattle.tau_engine.specs.declared.workload.Put.{Put}
 use Rattle.tau_engine.proofs.Histories.{AreBelow, below_more}
+use Rattle.tau_engine.proofs.Plans.{goes_on, goes_stopped, stays}
 use Rattle.tau_engine.proofs.Reports.{added}
 use Rattle.tau_engine.proofs.Steps.{committed_more, logged_more}
 use Rattle.tau_engine.proofs.run.run_puts.Goals as goal
@@ -35,6 +37,7 @@ loop-put-init g c =
           ∙ ap (λ (db : Db). exec (means []) (committed (ends_of (get key_cmp c.new-rows.result.map)) 1 s c.args.puts.now) db) numbers;
       stored = λ tells n j content ready. (content, ready, ap (λ (v : Key → ℕ). content ++ logged v 1 s c.args.puts.now) ends);
       faults = omega arith;
+      goes = λ tells. stays g.D.Disk.tells g.D.Disk.number g.D.Disk.fails g.D.Disk.short (disk_of c.args.log.now);
       sink_faults = omega arith;
     }
 
@@ -75,6 +78,7 @@ loop-put-preserved g c =
           let (now, is, same) = c.loop-put.invariant.stored tells n j content ready in
           (now ++ record_bytes k end p, c.in-Ok.ensures.done tells n j now is, added _ _ _ _ _ _ same records refl);
       faults = omega (arith, c.in-Ok.ensures.faults, c.loop-put.invariant.faults);
+      goes = λ tells. goes_on g.D.Disk.tells g.D.Disk.number g.D.Disk.fails g.D.Disk.short (disk_of c.args.log.now) (disk_of c.loop-put.log) (disk_of c.log_put.new.log) (c.loop-put.invariant.goes tells) (c.in-Ok.ensures.goes tells);
       sink_faults = omega (arith, c.in_ok-acknowledge.ensures.faults, c.loop-put.invariant.sink_faults);
     }
 
@@ -85,3 +89,8 @@ returns-clause-stored g c tells n j content ready =
     let whole : content ++ logged no_ends 1 (durable_of c.args.log.now) c.args.puts.now ≡ now =
     same ∙ ap (λ (ps : List Put). now ++ logged (ends_of (get key_cmp c.loop-put.rows.map)) c.loop-put.number (durable_of c.loop-put.log) ps) none ∙ append-nil now in
     subst (λ (xs : List ℕ). IsReady n j c.loop-put.log xs) (sym whole) is
+
+pub returns-in-Err-Failed-clause-stopped : goal.returns-in-Err-Failed-clause-stopped
+returns-in-Err-Failed-clause-stopped g c e tells =
+    let failed = rw c.in-Err-Failed.field-0-is at c.in-Err-Failed.is in
+    goes_stopped g.D.Disk.tells g.D.Disk.number g.D.Disk.fails g.D.Disk.short (disk_of c.args.log.now) (disk_of c.loop-put.log) (disk_of c.log_put.new.log) (c.loop-put.invariant.goes tells) tells (c.log_put.ensures.stopped failed tells)

@@ -1,11 +1,11 @@
-use Rattle.std.proofs.Common.{◌≡◌, ◌≤◌, ◌+◌, ◌*◌, ◌++◌, ℕ, List, [], false, drop, length}
+use Rattle.std.proofs.Common.{◌≡◌, ◌≤◌, ◌+◌, ◌*◌, ◌++◌, ℕ, List, [], false, drop}
 use Rattle.std.specs.BTreeMap.{get}
-use Rattle.tau_base.specs.declared.value.Key.{Key}
 use Rattle.tau_base.specs.Database.{empty_db, key_cmp}
 use Rattle.tau_model.specs.History.{exec}
 use Rattle.tau_stream.specs.Writer.{disk_of, durable_of, left_of, added_of, has_failed, IsReady}
 use Rattle.tau_engine.specs.Held.{ends_of, numbers_of}
-use Rattle.tau_engine.specs.Report.{ack_lines}
+use Rattle.tau_report.specs.Report.{ack_lines}
+use Rattle.tau_engine.specs.Outside.{GoesOn}
 use Rattle.tau_engine.specs.Run.{means}
 use Rattle.tau_engine.specs.Puts.{committed, logged, acks_of, no_ends}
 use Rattle.tau_engine.proofs.Histories.{AreBelow}
@@ -26,5 +26,6 @@ invariant-loop-put g l = record {
   stored : g.D.Disk.tells → (n j : ℕ) (content : List ℕ) → IsReady n j l.fn.log content → (now : List ℕ) × IsReady n j l.log now
       × (content ++ logged no_ends 1 (durable_of l.fn.log) l.puts ≡ now ++ logged (ends_of (get key_cmp l.rows.map)) l.number (durable_of l.log) (drop l.put-index l.puts));
   faults : g.D.Disk.faults (disk_of l.fn.log) ≤ g.D.Disk.faults (disk_of l.log);
+  goes : g.D.Disk.tells → GoesOn g.D.Disk.number g.D.Disk.fails (disk_of l.fn.log) (disk_of l.log);
   sink_faults : g.K.Sink.faults l.fn.sink ≤ g.K.Sink.faults l.sink;
 }

@@ -1,7 +1,6 @@
-use Rattle.std.proofs.Common.{◌≡◌, ◌≤◌, ◌++◌, ◌+◌, ◌-◌, ℕ, List, length, take, drop, arith, append_assoc, sym, ◌∙◌, ap, subst, length-append}
+use Rattle.std.proofs.Common.{◌≡◌, ◌++◌, ◌+◌, ℕ, List, length, drop, arith, append_assoc, sym, ◌∙◌, ap, length-append}
 use Rattle.std.proofs.lemmas.List.{length-take}
 use Rattle.std.proofs.Math.Seq.{drop-append_seam}
-use Rattle.tau_disk.specs.Disk.{Moved}
 use Rattle.tau_engine.proofs.source.read_text.Goals as goal
 
 more : (old text part before now : List ℕ) → old ≡ text ++ before → before ≡ part ++ now → old ≡ (text ++ part) ++ now

@@ -1,4 +1,4 @@
-use Rattle.std.proofs.Common.{◌≡◌, ◌≤◌, ◌+◌, ◌++◌, ◌-◌, length, vec_len}
+use Rattle.std.proofs.Common.{◌≡◌, ◌≤◌, ◌++◌, ◌-◌, vec_len}
 use Rattle.tau_engine.proofs.source.read_text.Given as goal
 
 abbrev pub invariant-loop-text : goal.invariant-loop-text

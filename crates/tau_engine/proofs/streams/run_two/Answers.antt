@@ -1,12 +1,12 @@
-use Rattle.std.proofs.Common.{ℕ, ◌≡◌, ◌≤◌, ◌++◌, List, [], ◌∷◌, refl, sym, ap, ◌∙◌, subst, inr, length, arith}
+use Rattle.std.proofs.Common.{ℕ, ◌≡◌, ◌≤◌, ◌++◌, List, [], ◌∷◌, sym, ap, ◌∙◌, subst, inr, length, arith, ◌+◌, ◌<◌, false, inl}
 use Rattle.tau_disk.specs.Disk.{Rose}
-use Rattle.tau_block.specs.Image.{HasContent}
 use Rattle.tau_stream.specs.Stream.{catalogue_record}
 use Rattle.tau_stream.specs.Writer.{disk_of, durable_of, IsReady}
 use Rattle.tau_engine.specs.Runs.{IsTold}
 use Rattle.tau_engine.specs.declared.status.Status.TheVariants as status
-use Rattle.tau_engine.specs.Outside.{OnlyRead, Wrote}
-use Rattle.tau_engine.proofs.Refusals.{answers_as, each_two, refused}
+use Rattle.tau_engine.specs.Outside.{OnlyRead, Wrote, GoesOn, IsStopped, calls_to_open}
+use Rattle.tau_engine.proofs.Plans.{goes_on, made_all, made_some, goes_stopped, made_early, made_late, first_stopped, second_stopped, first_made, second_made}
+use Rattle.tau_engine.proofs.Refusals.{answers_as, each_two, refused, told_fault}
 use Rattle.tau_engine.specs.Facts.{Holds}
 use Rattle.tau_engine.specs.Puts.{logged, no_ends}
 use Rattle.tau_engine.proofs.Openings.{some_is, rose_on, rose_first, rose_second}
@@ -64,3 +64,68 @@ returns-clause-ran g c ok =
     let before : IsReady 2 1 c.in-Ok-create-2.other catalogue = subst (λ (xs : List ℕ). IsReady 2 1 c.in-Ok-create-2.other xs) same (c.in-Ok-create-2.ensures.ready tells) in
     let it : d ≡ disk_of c.in-Ok-create-2.other = sym (some_is _ _ is) ∙ c.into_disk-3.ensures in
     settled_has 2 1 _ _ _ _ before.settled x (subst (λ (e : g.row.D.Denot). g.D.Disk.may_leave e x) it left))
+
+pub returns-in-Err-create-clause-stopped : goal.returns-in-Err-create-clause-stopped
+returns-in-Err-create-clause-stopped g c j e tells =
+    let told = c.status_of.ensures.failed j (answers_as (Wrote g.K.Sink.tells (g.K.Sink.held c.args.sink.now) (g.K.Sink.held c.refuse-status-in-Err-create.new.sink)) (Rose (g.K.Sink.faults c.args.sink.now) (g.K.Sink.faults c.refuse-status-in-Err-create.new.sink)) c.status_of.result c.refuse-status-in-Err-create.result (status.DiskFault j) c.refuse-status-in-Err-create.ensures e (λ none. cc)) in
+    first_stopped g.D.Disk.tells g.D.Disk.number g.D.Disk.fails g.D.Disk.short c.args.first c.args.second c.in-Err-create.first c.ask_lengths.new.second j told.1
+    (goes_stopped g.D.Disk.tells g.D.Disk.number g.D.Disk.fails g.D.Disk.short c.args.first c.ask_lengths.new.first c.in-Err-create.first (c.in_default.ensures.goes tells).0 tells
+    (made_some g.D.Disk.tells g.D.Disk.number g.D.Disk.fails g.D.Disk.short 6 c.ask_lengths.new.first c.in-Err-create.first (c.in-Err-create.ensures.made_err told.0 tells)))
+
+pub returns-in-Err-create-clause-fault_told : goal.returns-in-Err-create-clause-fault_told
+returns-in-Err-create-clause-fault_told g c j e tells =
+    let told = c.status_of.ensures.failed j (answers_as (Wrote g.K.Sink.tells (g.K.Sink.held c.args.sink.now) (g.K.Sink.held c.refuse-status-in-Err-create.new.sink)) (Rose (g.K.Sink.faults c.args.sink.now) (g.K.Sink.faults c.refuse-status-in-Err-create.new.sink)) c.status_of.result c.refuse-status-in-Err-create.result (status.DiskFault j) c.refuse-status-in-Err-create.ensures e (λ none. cc)) in
+    let (k, few, made) = first_made g.D.Disk.tells g.D.Disk.number g.D.Disk.fails g.D.Disk.short c.args.first c.args.second c.in-Err-create.first c.ask_lengths.new.second j told.1 (λ k. k ≤ calls_to_open)
+    (made_early g.D.Disk.tells g.D.Disk.number g.D.Disk.fails g.D.Disk.short 6 1 c.args.first c.ask_lengths.new.first c.in-Err-create.first (c.in_default.ensures.goes tells).1 (c.in-Err-create.ensures.made_err told.0 tells)) in
+    inl (k, few, made, told_fault (Wrote g.K.Sink.tells (g.K.Sink.held c.args.sink.now) (g.K.Sink.held c.refuse-status-in-Err-create.new.sink)) (Rose (g.K.Sink.faults c.args.sink.now) (g.K.Sink.faults c.refuse-status-in-Err-create.new.sink)) c.status_of.result c.refuse-status-in-Err-create.result c.refuse-status-in-Err-create.ensures (λ none. cc))
+
+pub returns-in-Err-create-2-clause-clean : goal.returns-in-Err-create-2-clause-clean
+returns-in-Err-create-2-clause-clean g c e tells =
+    absurd (c.status_of-in-Err-create-2.ensures.not_ok (answers_as (Wrote g.K.Sink.tells (g.K.Sink.held c.args.sink.now) (g.K.Sink.held c.refuse-status-in-Err-create-2.new.sink)) (Rose (g.K.Sink.faults c.args.sink.now) (g.K.Sink.faults c.refuse-status-in-Err-create-2.new.sink)) c.status_of-in-Err-create-2.result c.refuse-status-in-Err-create-2.result status.Ok c.refuse-status-in-Err-create-2.ensures e (λ none. cc)))
+
+pub returns-in-Err-create-2-clause-stopped : goal.returns-in-Err-create-2-clause-stopped
+returns-in-Err-create-2-clause-stopped g c j e tells =
+    let told = c.status_of-in-Err-create-2.ensures.failed j (answers_as (Wrote g.K.Sink.tells (g.K.Sink.held c.args.sink.now) (g.K.Sink.held c.refuse-status-in-Err-create-2.new.sink)) (Rose (g.K.Sink.faults c.args.sink.now) (g.K.Sink.faults c.refuse-status-in-Err-create-2.new.sink)) c.status_of-in-Err-create-2.result c.refuse-status-in-Err-create-2.result (status.DiskFault j) c.refuse-status-in-Err-create-2.ensures e (λ none. cc)) in
+    let goes = goes_on g.D.Disk.tells g.D.Disk.number g.D.Disk.fails g.D.Disk.short c.args.first c.ask_lengths.new.first (disk_of c.in-Ok-create.log) (c.in_default.ensures.goes tells).0
+    (made_all g.D.Disk.tells g.D.Disk.number g.D.Disk.fails g.D.Disk.short 6 c.ask_lengths.new.first (disk_of c.in-Ok-create.log) (c.in-Ok-create.ensures.plan tells) (c.in-Ok-create.ensures.made tells)) in
+    second_stopped g.D.Disk.tells g.D.Disk.number g.D.Disk.fails g.D.Disk.short c.args.first c.args.second c.into_disk.result c.in-Err-create-2.second j told.1
+    (λ again. subst (λ (d : g.row.D.Denot). (k : ℕ) → g.D.Disk.number c.args.first < k → k ≤ g.D.Disk.number d → g.D.Disk.fails c.args.first k ≡ false) (sym c.into_disk.ensures) goes.clean)
+    (goes_stopped g.D.Disk.tells g.D.Disk.number g.D.Disk.fails g.D.Disk.short c.args.second c.ask_lengths.new.second c.in-Err-create-2.second (c.in_default.ensures.goes_second tells).0 tells
+    (made_some g.D.Disk.tells g.D.Disk.number g.D.Disk.fails g.D.Disk.short 6 c.ask_lengths.new.second c.in-Err-create-2.second (c.in-Err-create-2.ensures.made_err told.0 tells)))
+
+pub returns-in-Err-create-2-clause-fault_told : goal.returns-in-Err-create-2-clause-fault_told
+returns-in-Err-create-2-clause-fault_told g c j e tells =
+    let told = c.status_of-in-Err-create-2.ensures.failed j (answers_as (Wrote g.K.Sink.tells (g.K.Sink.held c.args.sink.now) (g.K.Sink.held c.refuse-status-in-Err-create-2.new.sink)) (Rose (g.K.Sink.faults c.args.sink.now) (g.K.Sink.faults c.refuse-status-in-Err-create-2.new.sink)) c.status_of-in-Err-create-2.result c.refuse-status-in-Err-create-2.result (status.DiskFault j) c.refuse-status-in-Err-create-2.ensures e (λ none. cc)) in
+    let (k, few, made) = second_made g.D.Disk.tells g.D.Disk.number g.D.Disk.fails g.D.Disk.short c.args.first c.args.second c.into_disk.result c.in-Err-create-2.second j told.1 (λ k. k ≤ calls_to_open)
+    (made_early g.D.Disk.tells g.D.Disk.number g.D.Disk.fails g.D.Disk.short 6 1 c.args.second c.ask_lengths.new.second c.in-Err-create-2.second (c.in_default.ensures.goes_second tells).1 (c.in-Err-create-2.ensures.made_err told.0 tells)) in
+    inl (k, few, made, told_fault (Wrote g.K.Sink.tells (g.K.Sink.held c.args.sink.now) (g.K.Sink.held c.refuse-status-in-Err-create-2.new.sink)) (Rose (g.K.Sink.faults c.args.sink.now) (g.K.Sink.faults c.refuse-status-in-Err-create-2.new.sink)) c.status_of-in-Err-create-2.result c.refuse-status-in-Err-create-2.result c.refuse-status-in-Err-create-2.ensures (λ none. cc))
+
+pub returns-clause-clean : goal.returns-clause-clean
+returns-clause-clean g c ok tells =
+    let made = goes_on g.D.Disk.tells g.D.Disk.number g.D.Disk.fails g.D.Disk.short c.args.first c.ask_lengths.new.first (disk_of c.in-Ok-create.log) (c.in_default.ensures.goes tells).0
+    (made_all g.D.Disk.tells g.D.Disk.number g.D.Disk.fails g.D.Disk.short 6 c.ask_lengths.new.first (disk_of c.in-Ok-create.log) (c.in-Ok-create.ensures.plan tells) (c.in-Ok-create.ensures.made tells)) in
+    let ran = goes_on g.D.Disk.tells g.D.Disk.number g.D.Disk.fails g.D.Disk.short c.args.first (disk_of c.in-Ok-create.log) (disk_of c.run_on-status.new.log) made (c.run_on-status.ensures.goes ok tells) in
+    let other = goes_on g.D.Disk.tells g.D.Disk.number g.D.Disk.fails g.D.Disk.short c.args.second c.ask_lengths.new.second (disk_of c.in-Ok-create-2.other) (c.in_default.ensures.goes_second tells).0
+    (made_all g.D.Disk.tells g.D.Disk.number g.D.Disk.fails g.D.Disk.short 6 c.ask_lengths.new.second (disk_of c.in-Ok-create-2.other) (c.in-Ok-create-2.ensures.plan tells) (c.in-Ok-create-2.ensures.made tells)) in (
+      subst (λ (d : g.row.D.Denot). GoesOn g.D.Disk.number g.D.Disk.fails c.args.first d) (sym c.into_disk-2.ensures) ran,
+      subst (λ (d : g.row.D.Denot). GoesOn g.D.Disk.number g.D.Disk.fails c.args.second d) (sym c.into_disk-3.ensures) other,
+    )
+
+pub returns-clause-stopped : goal.returns-clause-stopped
+returns-clause-stopped g c j e tells =
+    let told = c.run_on-status.ensures.disk j e in
+    let made = goes_on g.D.Disk.tells g.D.Disk.number g.D.Disk.fails g.D.Disk.short c.args.first c.ask_lengths.new.first (disk_of c.in-Ok-create.log) (c.in_default.ensures.goes tells).0
+    (made_all g.D.Disk.tells g.D.Disk.number g.D.Disk.fails g.D.Disk.short 6 c.ask_lengths.new.first (disk_of c.in-Ok-create.log) (c.in-Ok-create.ensures.plan tells) (c.in-Ok-create.ensures.made tells)) in
+    let stopped = goes_stopped g.D.Disk.tells g.D.Disk.number g.D.Disk.fails g.D.Disk.short c.args.first (disk_of c.in-Ok-create.log) (disk_of c.run_on-status.new.log) made tells (c.run_on-status.ensures.stopped j e tells) in
+    first_stopped g.D.Disk.tells g.D.Disk.number g.D.Disk.fails g.D.Disk.short c.args.first c.args.second c.into_disk-2.result c.into_disk-3.result j told.0
+    (subst (λ (d : g.row.D.Denot). IsStopped g.D.Disk.tells g.D.Disk.number g.D.Disk.fails g.D.Disk.short c.args.first d) (sym c.into_disk-2.ensures) stopped)
+
+pub returns-clause-fault_told : goal.returns-clause-fault_told
+returns-clause-fault_told g c j e tells =
+    let told = c.run_on-status.ensures.disk j e in
+    let asked = (c.in_default.ensures.goes tells).1 in
+    let made = (c.in-Ok-create.ensures.made tells).0 in
+    let least : g.D.Disk.number c.args.first + 7 ≤ g.D.Disk.number (disk_of c.in-Ok-create.log) = omega (arith, asked, made) in
+    let late = made_late g.D.Disk.tells g.D.Disk.number g.D.Disk.fails g.D.Disk.short 7 c.args.first (disk_of c.in-Ok-create.log) (disk_of c.run_on-status.new.log) least tells (c.run_on-status.ensures.stopped j e tells) in
+    inr (first_made g.D.Disk.tells g.D.Disk.number g.D.Disk.fails g.D.Disk.short c.args.first c.args.second c.into_disk-2.result c.into_disk-3.result j told.0 (λ k. calls_to_open < k)
+    (subst (λ (d : g.row.D.Denot). (k : ℕ) × (7 < k) × (g.D.Disk.short d ≡ false → g.D.Disk.number d ≡ g.D.Disk.number c.args.first + k)) (sym c.into_disk-2.ensures) late))

@@ -1,4 +1,4 @@
-use Rattle.std.proofs.Common.{◌≡◌, sym}
+use Rattle.std.proofs.Common.{sym}
 use Rattle.tau_engine.proofs.Names.{name_is_text}
 use Rattle.tau_engine.proofs.workload.read_name.Goals as goal
 

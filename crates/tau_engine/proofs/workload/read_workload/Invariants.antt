@@ -1,4 +1,4 @@
-use Rattle.std.proofs.Common.{◌≡◌, ◌≤◌, ◌+◌, ℕ, List, [], length, vec_len}
+use Rattle.std.proofs.Common.{◌≡◌, ◌≤◌, ◌+◌, length}
 use Rattle.tau_engine.specs.Workload.{lines_of, read_from, workload_of}
 use Rattle.tau_engine.specs.Loads.{load_of, IsWithin}
 use Rattle.tau_engine.proofs.workload.read_workload.Given as goal

@@ -1,4 +1,4 @@
-use Rattle.std.proofs.Common.{◌≡◌, ◌∷◌, refl}
+use Rattle.std.proofs.Common.{refl}
 use Rattle.tau_engine.specs.Loads.{load_of}
 use Rattle.tau_engine.proofs.Lines.{five_words}
 use Rattle.tau_engine.proofs.workload.Workload.read_line.Goals as goal

@@ -1,0 +1,22 @@
+use Rattle.std.proofs.Common.{ℕ, ◌≡◌, ◌+◌, ◌<◌, ◌++◌, List, length, get_or, ap, ◌∙◌, arith}
+use Rattle.std.specs.Prelude.{Bool}
+use Rattle.std.specs.List.{filter}
+use Rattle.tau_base.specs.Vectors.{covers}
+use Rattle.tau_record.specs.declared.entry.Placed.{Placed}
+use Rattle.tau_scan.specs.Taken.{Kept, kept_in}
+use Rattle.tau_report.specs.Recovery.{taken_lines}
+use Rattle.tau_report.proofs.Taken.{added, stream_more}
+use Rattle.tau_report.proofs.recovery.put_streams.Goals as goal
+
+pub loop-records-preserved : goal.loop-records-preserved
+loop-records-preserved c =
+    let P : Kept → Bool = λ r. covers c.args.elv.now r.place.dep in
+    let i : ℕ = c.loop-records.records-index in
+    let lt : i < length c.args.streams.now = omega (arith, c.loop-records-test.true) in
+    let put = c.in_ok-put_stream.ensures
+    ∙ ap (λ (j : ℕ). c.loop-records.out.items ++ taken_lines (filter P (kept_in j c.as_slice.result.now))) c.loop-records.invariant.counted
+    ∙ ap (λ (ps : List Placed). c.loop-records.out.items ++ taken_lines (filter P (kept_in i ps))) (c.as_slice.ensures ∙ c.records-item.is) in
+    record {
+      counted = omega (arith, c.loop-records.invariant.counted);
+      text = added _ _ _ _ _ _ c.loop-records.invariant.text (stream_more P c.args.streams.now i c.records-item.result lt) put;
+    }

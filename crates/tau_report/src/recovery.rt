@@ -1,0 +1,109 @@
+//! The text of a recovery.
+ghost use Rattle.std.specs.Prelude.{ℕ, [], ◌∷◌, ◌≡◌, ◌++◌, OnOk, IfOk, codes, decimal, if◌then◌else◌};
+ghost use Rattle.std.specs.List.{filter};
+ghost use Rattle.tau_base.specs.Vectors.{covers};
+ghost use Rattle.tau_scan.specs.Taken.{kept_as, kept_in, kept_from};
+ghost use Rattle.tau_report.specs.Lines.{line};
+ghost use Rattle.tau_report.specs.Recovery.{elv_line, taken_lines, recover_text};
+
+use crate::lines::{put_end, put_rows};
+use crate::words::{next_number, next_vector};
+use std::alloc::{AllocError, Global};
+use tau_base::{Listed, Lv, NoMemory};
+use tau_model::Tables;
+use tau_record::{Entry, Placed};
+use tau_scan::Log;
+
+fn put_elv(out: &mut Vec<u8>, elv: &Lv) -> Result<(), AllocError>
+    ensures { OnOk result (out.new.items ≡ out.old.items ++ elv_line elv.now) }
+{
+    out.extend_from_slice(b"elv")?;
+    next_vector(out, elv)?;
+    out.push(b'\n')?;
+    Ok(())
+}
+
+/// The line of a record of that call, where it is taken.
+fn put_taken(
+    out: &mut Vec<u8>,
+    taken: bool,
+    stream: u64,
+    start: u64,
+    number: u64,
+) -> Result<(), AllocError>
+    ensures { OnOk result (out.new.items ≡ out.old.items ++ (if taken then line (codes "taken" ∷ decimal stream ∷ decimal start ∷ decimal number ∷ []) else [])) }
+{
+    if !taken {
+        return Ok(());
+    }
+    out.extend_from_slice(b"taken")?;
+    next_number(out, stream)?;
+    next_number(out, start)?;
+    next_number(out, number)?;
+    out.push(b'\n')?;
+    Ok(())
+}
+
+/// The line of a record, where this end-of-log vector has it taken.
+fn put_record(out: &mut Vec<u8>, elv: &Lv, stream: u64, placed: &Placed) -> Result<(), AllocError>
+    ensures { OnOk result (out.new.items ≡ out.old.items ++ taken_lines (filter (λ r. covers elv.now r.place.dep) (kept_as stream placed.now placed.now.entry))) }
+{
+    match &placed.entry {
+        Entry::Written { number, dep, .. } => {
+            put_taken(out, elv.covers(dep), stream, placed.start, *number)
+        }
+        Entry::Command { number, dep, .. } => {
+            put_taken(out, elv.covers(dep), stream, placed.start, *number)
+        }
+        Entry::Anchor { .. } => Ok(()),
+        Entry::Catalogue { .. } => Ok(()),
+    }
+}
+
+/// The lines of the records of a stream.
+fn put_stream(
+    out: &mut Vec<u8>,
+    elv: &Lv,
+    stream: u64,
+    records: &[Placed],
+) -> Result<(), AllocError>
+    ensures { OnOk result (out.new.items ≡ out.old.items ++ taken_lines (filter (λ r. covers elv.now r.place.dep) (kept_in stream records.now))) }
+{
+    for placed in records {
+        put_record(out, elv, stream, placed)?;
+    }
+    Ok(())
+}
+
+/// The lines of the records of all streams.
+fn put_streams(out: &mut Vec<u8>, elv: &Lv, streams: &[Listed<Placed>]) -> Result<(), AllocError>
+    ensures { OnOk result (out.new.items ≡ out.old.items ++ taken_lines (filter (λ r. covers elv.now r.place.dep) (kept_from 0 streams.now))) }
+{
+    let mut stream = 0u64;
+    for records in streams {
+        put_stream(out, elv, stream, records.as_slice())?;
+        stream += 1;
+    }
+    Ok(())
+}
+
+fn put_recovery(out: &mut Vec<u8>, log: &Log, tables: &Tables) -> Result<(), AllocError>
+    ensures { OnOk result (out.new.items ≡ out.old.items ++ recover_text log.now tables.now) }
+{
+    put_elv(out, &log.elv)?;
+    put_streams(out, &log.elv, log.streams.as_slice())?;
+    put_rows(out, log.declarations.tables.as_slice(), tables.rows())?;
+    put_end(out, None)
+}
+
+/// What recovery tells of a log: its end-of-log vector, the taken records by stream and place, and the rows that redoing
+/// them gives.
+pub fn recover_text(alloc: Global, log: &Log, tables: &Tables) -> Result<Vec<u8>, NoMemory>
+    ensures { IfOk result (λ text. text.items ≡ recover_text log.now tables.now) }
+{
+    let mut text = Vec::new(alloc);
+    match put_recovery(&mut text, log, tables) {
+        Ok(()) => Ok(text),
+        Err(_) => Err(NoMemory),
+    }
+}
