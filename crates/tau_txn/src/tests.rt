@@ -9,7 +9,7 @@ use std::marker::Model;
 use std::process::Abort;
 use std::test::Fail;
 use tau_base::{Call, Key, Listed, LogMode, Lv, Mode, Name, Text64, Value};
-use tau_model::{Committed, Spot};
+use tau_model::Committed;
 use tau_proc::{ADD, FIRST_DECLARED, GET, Operand, PUT, Proc, Procs, Reply, Step};
 use tau_shard::{Shard, ShardRefusal};
 
@@ -23,7 +23,7 @@ enum Went {
     Commit(u64),
     Post,
     Freed(Key),
-    Done(Reply, Lv),
+    Done(Reply, [u64; 3]),
     LeftOver,
     Nothing,
 }
@@ -63,6 +63,11 @@ fn declare(rt: &impl Abort, alloc: Global, args: u8, steps: Vec<Step>) -> Result
     let mut procs = Procs::new(alloc);
     procs.add(proc)?;
     Ok(procs)
+}
+
+/// The first positions of a vector, zeros beyond its end.
+fn positions(lv: &Lv) -> [u64; 3] {
+    [lv.position(0), lv.position(1), lv.position(2)]
 }
 
 fn begin(rt: &impl Abort, txn: &mut Txn, procs: &Procs, number: u64, call: &Call)
@@ -154,7 +159,7 @@ fn act(rt: &impl Abort, txn: &mut Txn, procs: &Procs, shard: &mut Shard, worker:
         }
         Action::Done { reply, lv } => {
             txn.went(procs);
-            Went::Done(reply, lv)
+            Went::Done(reply, positions(&lv))
         }
         Action::LeftOver => {
             txn.went(procs);
@@ -310,12 +315,12 @@ impl Seat {
         self.txn.number()
     }
 
-    fn dep(&self) -> Lv {
-        self.txn.dep()
+    fn dep(&self) -> [u64; 3] {
+        positions(&self.txn.dep())
     }
 
-    fn lv(&self) -> Lv {
-        self.txn.lv()
+    fn lv(&self) -> [u64; 3] {
+        positions(&self.txn.lv())
     }
 
     fn in_hand(&self) -> bool {
@@ -331,10 +336,31 @@ impl Seat {
     }
 }
 
-#[test]
-fn read_then_written_by_another(rt: HostRuntime) -> Result<(), Fail> {
-    let alloc = rt.alloc();
-    let zero = Lv::zero(2);
+/// The seat's next actions are these.
+fn follows(rt: &impl Abort, seat: &mut Seat, shard: &mut Shard, wants: &[Went]) {
+    for want in wants {
+        let went = seat.act(rt, shard);
+        assert!(rt; went == *want, "{went:?}");
+    }
+}
+
+/// The seat's call gets its place: the record behind this anchor has so many bytes.
+fn commits(
+    rt: &impl Abort,
+    seat: &mut Seat,
+    anchor_number: u32,
+    anchor: &[u64],
+    start: u64,
+    size: usize,
+) -> Result<(), Fail> {
+    let anchor = vector(rt, anchor);
+    let bytes = seat.place(rt, anchor_number, &anchor, start)?;
+    assert_eq!(rt; bytes.len(), size);
+    Ok(())
+}
+
+/// `get r0 a 1`, `put a 2 r0`
+fn copies_a_row(alloc: Global) -> Result<Vec<Step>, Fail> {
     let steps = [
         Step::Get {
             into: 0,
@@ -347,223 +373,11 @@ fn read_then_written_by_another(rt: HostRuntime) -> Result<(), Fail> {
             value: Operand::Register(0),
         },
     ];
-    let procs = declare(&rt, alloc, 0, steps.to_vec(alloc)?)?;
-    let mut shard = Shard::new(alloc, 2);
-    let mut first = Seat::new(&rt, alloc, 0, 2, LogMode::Values, procs);
-    first.begin(&rt, 1, &call_of(FIRST_DECLARED, &[]));
-    assert_eq!(rt; first.next_lock(), Some((1, key(1), Mode::Read)));
-    assert_eq!(rt; first.act(&rt, &mut shard), Went::Granted);
-    assert_eq!(rt; first.act(&rt, &mut shard), Went::Granted);
-    assert_eq!(rt; first.next_lock(), None);
-    let bytes = first.place(&rt, 0, &zero, 50)?;
-    assert_eq!(rt; bytes.len(), 32);
-    let lv = vector(&rt, &[82, 0]);
-    assert_eq!(rt; first.act(&rt, &mut shard), Went::Freed(key(1)));
-    assert_eq!(rt; first.act(&rt, &mut shard), Went::Freed(key(2)));
-    assert_eq!(rt;
-        first.act(&rt, &mut shard),
-        Went::Done(Reply::Ok(Value::Absent), lv)
-    );
-    let mut second = Seat::new(&rt, alloc, 1, 2, LogMode::Values, Procs::new(alloc));
-    second.begin(&rt, 2, &put(1, 9));
-    assert_eq!(rt; second.act(&rt, &mut shard), Went::Granted);
-    assert!(rt; second.dep() == lv);
-    let bytes = second.place(&rt, 0, &zero, 50)?;
-    assert_eq!(rt; bytes.len(), 48);
-    assert_eq!(rt; second.act(&rt, &mut shard), Went::Freed(key(1)));
-    assert_eq!(rt;
-        second.act(&rt, &mut shard),
-        Went::Done(Reply::Ok(Value::Absent), vector(&rt, &[82, 98]))
-    );
-    assert_eq!(rt; shard.value(key(1)), Value::Int(9));
-    Ok(())
+    Ok(steps.to_vec(alloc)?)
 }
 
-/// The worker of the lower lock is the first to get it; the other meets Busy, begins again at once, and comes behind.
-#[test]
-fn busy_names_the_holder(rt: HostRuntime) -> Result<(), Fail> {
-    let alloc = rt.alloc();
-    let zero = Lv::zero(2);
-    let mut shard = Shard::new(alloc, 2);
-    let mut first = Seat::new(&rt, alloc, 0, 2, LogMode::Values, Procs::new(alloc));
-    let mut second = Seat::new(&rt, alloc, 1, 2, LogMode::Values, Procs::new(alloc));
-    first.begin(&rt, 1, &put(1, 5));
-    second.begin(&rt, 2, &put(1, 6));
-    assert_eq!(rt; second.act(&rt, &mut shard), Went::Granted);
-    assert_eq!(rt; first.act(&rt, &mut shard), Went::Busy(1));
-    let bytes = second.place(&rt, 0, &zero, 13)?;
-    assert_eq!(rt; bytes.len(), 40);
-    assert_eq!(rt; second.act(&rt, &mut shard), Went::Freed(key(1)));
-    assert_eq!(rt;
-        second.act(&rt, &mut shard),
-        Went::Done(Reply::Ok(Value::Absent), vector(&rt, &[0, 53]))
-    );
-    assert_eq!(rt; first.act(&rt, &mut shard), Went::Granted);
-    let bytes = first.place(&rt, 0, &zero, 13)?;
-    assert_eq!(rt; bytes.len(), 48);
-    assert_eq!(rt;
-        first.committed(),
-        Some(Committed {
-            number: 1,
-            reply: Reply::Ok(Value::Absent),
-            dep: vector(&rt, &[0, 53]),
-            lv: vector(&rt, &[61, 53]),
-            spot: Some(Spot {
-                stream: 0,
-                start: 13,
-                past: 61,
-                anchor: 0,
-            }),
-        })
-    );
-    assert_eq!(rt; first.act(&rt, &mut shard), Went::Freed(key(1)));
-    assert_eq!(rt; shard.value(key(1)), Value::Int(5));
-    Ok(())
-}
-
-/// A removed entry raises the floor, below which no call of the shard begins.
-#[test]
-fn calls_start_at_the_floor(rt: HostRuntime) -> Result<(), Fail> {
-    let alloc = rt.alloc();
-    let zero = Lv::zero(2);
-    let mut shard = Shard::new(alloc, 2);
-    let mut first = Seat::new(&rt, alloc, 0, 2, LogMode::Values, Procs::new(alloc));
-    first.begin(&rt, 1, &put(1, 5));
-    assert_eq!(rt; first.act(&rt, &mut shard), Went::Granted);
-    first.place(&rt, 0, &zero, 13)?;
-    assert_eq!(rt; first.act(&rt, &mut shard), Went::Freed(key(1)));
-    let lv = vector(&rt, &[53, 0]);
-    assert_eq!(rt; shard.drop_covered(&lv), 1);
-    assert!(rt; shard.floor() == lv);
-    let mut second = Seat::new(&rt, alloc, 1, 2, LogMode::Values, Procs::new(alloc));
-    second.begin(&rt, 2, &add(1, 2));
-    assert_eq!(rt; second.act(&rt, &mut shard), Went::Granted);
-    assert!(rt; second.dep() == lv);
-    assert_eq!(rt; second.act(&rt, &mut shard), Went::Granted);
-    let bytes = second.place(&rt, 0, &zero, 13)?;
-    assert_eq!(rt; bytes.len(), 48);
-    assert_eq!(rt; second.act(&rt, &mut shard), Went::Freed(key(1)));
-    assert_eq!(rt;
-        second.act(&rt, &mut shard),
-        Went::Done(Reply::Ok(Value::Int(7)), vector(&rt, &[53, 61]))
-    );
-    second.begin(&rt, 3, &put(65, 7));
-    assert_eq!(rt; second.act(&rt, &mut shard), Went::Granted);
-    assert!(rt; second.dep() == lv);
-    Ok(())
-}
-
-/// Call 1 is raised to the anchor of its stream and names it; call 2 depends on it and names none.
-#[test]
-fn record_above_an_anchor(rt: HostRuntime) -> Result<(), Fail> {
-    let alloc = rt.alloc();
-    let zero = Lv::zero(3);
-    let mut shard = Shard::new(alloc, 3);
-    let mut third = Seat::new(&rt, alloc, 2, 3, LogMode::Values, Procs::new(alloc));
-    third.begin(&rt, 3, &put(3, 9));
-    assert_eq!(rt; third.act(&rt, &mut shard), Went::Granted);
-    third.place(&rt, 0, &zero, 13)?;
-    assert_eq!(rt; third.act(&rt, &mut shard), Went::Freed(key(3)));
-    assert_eq!(rt;
-        third.act(&rt, &mut shard),
-        Went::Done(Reply::Ok(Value::Absent), vector(&rt, &[0, 0, 53]))
-    );
-    let anchor = vector(&rt, &[13, 13, 53]);
-    let mut first = Seat::new(&rt, alloc, 0, 3, LogMode::Values, Procs::new(alloc));
-    first.begin(&rt, 1, &put(1, 5));
-    assert_eq!(rt; first.act(&rt, &mut shard), Went::Granted);
-    let bytes = first.place(&rt, 1, &anchor, 42)?;
-    assert_eq!(rt;
-        bytes.as_slice(),
-        [
-            1, 0, 0, 0, 40, 0, 0, 0, 0, 0, 0, 0, 1, 0, 0, 0, 1, 0, 0, 0, 1, 0, 0, 0, 0, 0, 0, 0, 0,
-            0, 1, 1, 0, 0, 0, 0, 0, 0, 0, 5
-        ]
-        .as_slice()
-    );
-    assert_eq!(rt; first.act(&rt, &mut shard), Went::Freed(key(1)));
-    let lv = vector(&rt, &[82, 13, 53]);
-    assert_eq!(rt;
-        first.act(&rt, &mut shard),
-        Went::Done(Reply::Ok(Value::Absent), lv)
-    );
-    let mut second = Seat::new(&rt, alloc, 1, 3, LogMode::Values, Procs::new(alloc));
-    second.begin(&rt, 2, &add(1, 2));
-    assert_eq!(rt; second.act(&rt, &mut shard), Went::Granted);
-    assert_eq!(rt; second.act(&rt, &mut shard), Went::Granted);
-    assert!(rt; second.dep() == lv);
-    let bytes = second.place(&rt, 0, &zero, 13)?;
-    assert_eq!(rt; bytes.len(), 64);
-    assert_eq!(rt; bytes[18], 7);
-    assert_eq!(rt; second.act(&rt, &mut shard), Went::Freed(key(1)));
-    assert_eq!(rt;
-        second.act(&rt, &mut shard),
-        Went::Done(Reply::Ok(Value::Int(7)), vector(&rt, &[82, 77, 53]))
-    );
-    Ok(())
-}
-
-#[test]
-fn command_record(rt: HostRuntime) -> Result<(), Fail> {
-    let alloc = rt.alloc();
-    let zero = Lv::zero(1);
-    let mut shard = Shard::new(alloc, 1);
-    let mut txn = Seat::new(&rt, alloc, 0, 1, LogMode::Commands, Procs::new(alloc));
-    let procs = Procs::new(alloc);
-    let call = put(1, 5);
-    assert!(rt; procs.takes(&call));
-    assert_eq!(rt; Txn::first_lock(&procs, &call), Some((key(1), Mode::Write)));
-    txn.begin(&rt, 1, &put(1, 5));
-    assert_eq!(rt; txn.act(&rt, &mut shard), Went::Granted);
-    let bytes = txn.place(&rt, 0, &zero, 13)?;
-    assert_eq!(rt;
-        bytes.as_slice(),
-        [
-            2, 0, 0, 0, 49, 0, 0, 0, 0, 0, 0, 0, 1, 0, 0, 0, 0, 0, 0, 0, 0, 3, 1, 0, 0, 0, 0, 0, 0,
-            0, 0, 1, 0, 0, 0, 0, 0, 0, 0, 1, 1, 0, 0, 0, 0, 0, 0, 0, 5
-        ]
-        .as_slice()
-    );
-    assert!(rt; txn.lv() == vector(&rt, &[62]));
-    Ok(())
-}
-
-/// A read-only call joins the committed ones as it begins to free its keys.
-#[test]
-fn read_only_call(rt: HostRuntime) -> Result<(), Fail> {
-    let alloc = rt.alloc();
-    let floor = vector(&rt, &[53, 0]);
-    let mut shard = Shard::with_floor(alloc, floor);
-    let mut txn = Seat::new(&rt, alloc, 1, 2, LogMode::Values, Procs::new(alloc));
-    txn.begin(&rt, 2, &call_of(GET, &[Value::Int(0), Value::Int(1)]));
-    assert_eq!(rt; txn.number(), Some(2));
-    assert_eq!(rt; txn.act(&rt, &mut shard), Went::Granted);
-    assert!(rt; !txn.has_joined());
-    let kept = txn.committed();
-    assert_eq!(rt; txn.act(&rt, &mut shard), Went::Freed(key(1)));
-    assert!(rt; txn.has_joined());
-    assert_eq!(rt; txn.committed(), kept);
-    assert_eq!(rt;
-        kept,
-        Some(Committed {
-            number: 2,
-            reply: Reply::Ok(Value::Absent),
-            dep: floor,
-            lv: floor,
-            spot: None,
-        })
-    );
-    assert_eq!(rt;
-        txn.act(&rt, &mut shard),
-        Went::Done(Reply::Ok(Value::Absent), floor)
-    );
-    assert!(rt; !txn.in_hand());
-    assert_eq!(rt; txn.act(&rt, &mut shard), Went::Nothing);
-    Ok(())
-}
-
-/// The steps that read row 1 and write it, and row 2.
-fn both_rows(alloc: Global) -> Result<Vec<Step>, Fail> {
+/// `get r0 a 1`, `put a 1 3`, `put a 2 r0`
+fn writes_both_rows(alloc: Global) -> Result<Vec<Step>, Fail> {
     let steps = [
         Step::Get {
             into: 0,
@@ -584,61 +398,8 @@ fn both_rows(alloc: Global) -> Result<Vec<Step>, Fail> {
     Ok(steps.to_vec(alloc)?)
 }
 
-/// A key that was read and then written is raised to write mode, and freed once.
-#[test]
-fn key_read_and_then_written(rt: HostRuntime) -> Result<(), Fail> {
-    let alloc = rt.alloc();
-    let procs = declare(&rt, alloc, 0, both_rows(alloc)?)?;
-    let mut shard = Shard::new(alloc, 1);
-    let mut txn = Seat::new(&rt, alloc, 0, 1, LogMode::Values, procs);
-    txn.begin(&rt, 1, &call_of(FIRST_DECLARED, &[]));
-    assert_eq!(rt; txn.next_lock(), Some((1, key(1), Mode::Read)));
-    assert_eq!(rt; txn.act(&rt, &mut shard), Went::Granted);
-    assert_eq!(rt; txn.next_lock(), Some((1, key(1), Mode::Write)));
-    assert_eq!(rt; txn.act(&rt, &mut shard), Went::Granted);
-    assert_eq!(rt; txn.act(&rt, &mut shard), Went::Granted);
-    txn.place(&rt, 0, &Lv::zero(1), 13)?;
-    assert_eq!(rt; txn.act(&rt, &mut shard), Went::Freed(key(1)));
-    assert_eq!(rt; txn.act(&rt, &mut shard), Went::Freed(key(2)));
-    assert_eq!(rt; shard.value(key(1)), Value::Int(3));
-    assert_eq!(rt; shard.value(key(2)), Value::Absent);
-    Ok(())
-}
-
-/// A call that is given up only gives its keys back, and then it is in hand no more.
-#[test]
-fn given_up(rt: HostRuntime) -> Result<(), Fail> {
-    let alloc = rt.alloc();
-    let procs = declare(&rt, alloc, 0, both_rows(alloc)?)?;
-    let mut shard = Shard::new(alloc, 1);
-    let mut txn = Seat::new(&rt, alloc, 0, 1, LogMode::Values, procs);
-    txn.begin(&rt, 1, &call_of(FIRST_DECLARED, &[]));
-    assert_eq!(rt; txn.act(&rt, &mut shard), Went::Granted);
-    assert_eq!(rt; txn.act(&rt, &mut shard), Went::Granted);
-    assert_eq!(rt; txn.act(&rt, &mut shard), Went::Granted);
-    txn.give_up(&rt);
-    assert_eq!(rt; txn.act(&rt, &mut shard), Went::Quit(key(1)));
-    assert_eq!(rt; txn.act(&rt, &mut shard), Went::Quit(key(2)));
-    assert_eq!(rt; txn.act(&rt, &mut shard), Went::Nothing);
-    txn.begin(&rt, 2, &put(1, 5));
-    txn.give_up(&rt);
-    assert_eq!(rt; txn.act(&rt, &mut shard), Went::Nothing);
-    Ok(())
-}
-
-/// The call takes its first lock, and then meets Busy and gives its key back, so many times.
-fn meets_busy(rt: &impl Abort, seat: &mut Seat, shard: &mut Shard, times: usize) {
-    for _ in 0..times {
-        assert_eq!(rt; seat.act(rt, shard), Went::Granted);
-        assert_eq!(rt; seat.act(rt, shard), Went::Busy(1));
-        assert_eq!(rt; seat.act(rt, shard), Went::Quit(key(1)));
-    }
-}
-
-/// After the 64th Busy the call gives its keys back and is left over.
-#[test]
-fn left_over_after_the_last_try(rt: HostRuntime) -> Result<(), Fail> {
-    let alloc = rt.alloc();
+/// `put a 1 3`, `put a 2 4`
+fn writes_two_rows(alloc: Global) -> Result<Vec<Step>, Fail> {
     let steps = [
         Step::Put {
             table: 0,
@@ -651,23 +412,7 @@ fn left_over_after_the_last_try(rt: HostRuntime) -> Result<(), Fail> {
             value: Operand::Int(4),
         },
     ];
-    let procs = declare(&rt, alloc, 0, steps.to_vec(alloc)?)?;
-    let mut shard = Shard::new(alloc, 2);
-    let mut other = Lv::zero(2);
-    assert_eq!(rt;
-        shard.lock(1, key(2), Mode::Read, &mut other),
-        Ok(Value::Absent)
-    );
-    let mut txn = Seat::new(&rt, alloc, 0, 2, LogMode::Values, procs);
-    txn.begin(&rt, 1, &call_of(FIRST_DECLARED, &[]));
-    meets_busy(&rt, &mut txn, &mut shard, 63);
-    assert_eq!(rt; txn.next_lock(), Some((1, key(1), Mode::Write)));
-    meets_busy(&rt, &mut txn, &mut shard, 1);
-    assert_eq!(rt; txn.next_lock(), None);
-    assert_eq!(rt; txn.number(), Some(1));
-    assert_eq!(rt; txn.act(&rt, &mut shard), Went::LeftOver);
-    assert_eq!(rt; txn.act(&rt, &mut shard), Went::Nothing);
-    Ok(())
+    Ok(steps.to_vec(alloc)?)
 }
 
 /// The steps that write their argument to 64 rows.
@@ -683,6 +428,247 @@ fn many_writes(alloc: Global) -> Result<Vec<Step>, Fail> {
     Ok(steps)
 }
 
+/// A call that has run to its end.
+fn done(number: Value, lv: [u64; 3]) -> Went {
+    Went::Done(Reply::Ok(number), lv)
+}
+
+#[test]
+fn read_then_written_by_another(rt: HostRuntime) -> Result<(), Fail> {
+    let alloc = rt.alloc();
+    let mut shard = Shard::new(alloc, 2);
+    let procs = declare(&rt, alloc, 0, copies_a_row(alloc)?)?;
+    let mut first = Seat::new(&rt, alloc, 0, 2, LogMode::Values, procs);
+    first.begin(&rt, 1, &call_of(FIRST_DECLARED, &[]));
+    follows(&rt, &mut first, &mut shard, &[Went::Granted, Went::Granted]);
+    commits(&rt, &mut first, 0, &[0, 0], 50, 32)?;
+    let wants = [
+        Went::Freed(key(1)),
+        Went::Freed(key(2)),
+        done(Value::Absent, [82, 0, 0]),
+    ];
+    follows(&rt, &mut first, &mut shard, &wants);
+    let mut second = Seat::new(&rt, alloc, 1, 2, LogMode::Values, Procs::new(alloc));
+    second.begin(&rt, 2, &put(1, 9));
+    follows(&rt, &mut second, &mut shard, &[Went::Granted]);
+    commits(&rt, &mut second, 0, &[0, 0], 50, 48)?;
+    let wants = [Went::Freed(key(1)), done(Value::Absent, [82, 98, 0])];
+    follows(&rt, &mut second, &mut shard, &wants);
+    Ok(())
+}
+
+/// The later one of two writers meets Busy, begins again at once, and comes behind.
+#[test]
+fn busy_names_the_holder(rt: HostRuntime) -> Result<(), Fail> {
+    let alloc = rt.alloc();
+    let mut shard = Shard::new(alloc, 2);
+    let mut first = Seat::new(&rt, alloc, 0, 2, LogMode::Values, Procs::new(alloc));
+    let mut second = Seat::new(&rt, alloc, 1, 2, LogMode::Values, Procs::new(alloc));
+    first.begin(&rt, 1, &put(1, 5));
+    second.begin(&rt, 2, &put(1, 6));
+    follows(&rt, &mut second, &mut shard, &[Went::Granted]);
+    follows(&rt, &mut first, &mut shard, &[Went::Busy(1)]);
+    commits(&rt, &mut second, 0, &[0, 0], 13, 40)?;
+    let wants = [Went::Freed(key(1)), done(Value::Absent, [0, 53, 0])];
+    follows(&rt, &mut second, &mut shard, &wants);
+    follows(&rt, &mut first, &mut shard, &[Went::Granted]);
+    commits(&rt, &mut first, 0, &[0, 0], 13, 48)?;
+    let wants = [Went::Freed(key(1)), done(Value::Absent, [61, 53, 0])];
+    follows(&rt, &mut first, &mut shard, &wants);
+    Ok(())
+}
+
+/// A removed entry raises the floor, below which no call of the shard begins.
+#[test]
+fn calls_start_at_the_floor(rt: HostRuntime) -> Result<(), Fail> {
+    let alloc = rt.alloc();
+    let mut shard = Shard::new(alloc, 2);
+    let mut first = Seat::new(&rt, alloc, 0, 2, LogMode::Values, Procs::new(alloc));
+    first.begin(&rt, 1, &put(1, 5));
+    follows(&rt, &mut first, &mut shard, &[Went::Granted]);
+    commits(&rt, &mut first, 0, &[0, 0], 13, 40)?;
+    follows(&rt, &mut first, &mut shard, &[Went::Freed(key(1))]);
+    assert_eq!(rt; shard.drop_covered(&vector(&rt, &[53, 0])), 1);
+    let mut second = Seat::new(&rt, alloc, 1, 2, LogMode::Values, Procs::new(alloc));
+    second.begin(&rt, 2, &add(1, 2));
+    follows(
+        &rt,
+        &mut second,
+        &mut shard,
+        &[Went::Granted, Went::Granted],
+    );
+    commits(&rt, &mut second, 0, &[0, 0], 13, 48)?;
+    let wants = [Went::Freed(key(1)), done(Value::Int(7), [53, 61, 0])];
+    follows(&rt, &mut second, &mut shard, &wants);
+    second.begin(&rt, 3, &put(65, 7));
+    follows(&rt, &mut second, &mut shard, &[Went::Granted]);
+    assert_eq!(rt; second.dep(), [53, 0, 0]);
+    Ok(())
+}
+
+/// Call 3 is in the anchor; call 1 is raised to it and names it; call 2 depends on call 1 and names none.
+#[test]
+fn record_above_an_anchor(rt: HostRuntime) -> Result<(), Fail> {
+    let alloc = rt.alloc();
+    let mut shard = Shard::new(alloc, 3);
+    let mut first = Seat::new(&rt, alloc, 0, 3, LogMode::Values, Procs::new(alloc));
+    first.begin(&rt, 1, &put(1, 5));
+    follows(&rt, &mut first, &mut shard, &[Went::Granted]);
+    commits(&rt, &mut first, 1, &[13, 13, 53], 42, 40)?;
+    let wants = [Went::Freed(key(1)), done(Value::Absent, [82, 13, 53])];
+    follows(&rt, &mut first, &mut shard, &wants);
+    let mut second = Seat::new(&rt, alloc, 1, 3, LogMode::Values, Procs::new(alloc));
+    second.begin(&rt, 2, &add(1, 2));
+    follows(
+        &rt,
+        &mut second,
+        &mut shard,
+        &[Went::Granted, Went::Granted],
+    );
+    commits(&rt, &mut second, 0, &[0, 0, 0], 13, 64)?;
+    let wants = [Went::Freed(key(1)), done(Value::Int(7), [82, 77, 53])];
+    follows(&rt, &mut second, &mut shard, &wants);
+    Ok(())
+}
+
+/// The record names anchor 1 and has an empty mask.
+#[test]
+fn bytes_above_an_anchor(rt: HostRuntime) -> Result<(), Fail> {
+    let alloc = rt.alloc();
+    let mut shard = Shard::new(alloc, 3);
+    let mut seat = Seat::new(&rt, alloc, 0, 3, LogMode::Values, Procs::new(alloc));
+    seat.begin(&rt, 1, &put(1, 5));
+    follows(&rt, &mut seat, &mut shard, &[Went::Granted]);
+    let bytes = seat.place(&rt, 1, &vector(&rt, &[13, 13, 53]), 42)?;
+    assert_eq!(rt;
+        bytes.as_slice(),
+        b"\x01\0\0\0\x28\0\0\0\0\0\0\0\x01\0\0\0\x01\0\0\0\x01\0\0\0\0\0\0\0\0\0\x01\x01\0\0\0\0\0\0\0\x05".as_slice()
+    );
+    Ok(())
+}
+
+#[test]
+fn command_record(rt: HostRuntime) -> Result<(), Fail> {
+    let alloc = rt.alloc();
+    let mut shard = Shard::new(alloc, 1);
+    let mut seat = Seat::new(&rt, alloc, 0, 1, LogMode::Commands, Procs::new(alloc));
+    seat.begin(&rt, 1, &put(1, 5));
+    follows(&rt, &mut seat, &mut shard, &[Went::Granted]);
+    let bytes = seat.place(&rt, 0, &vector(&rt, &[0]), 13)?;
+    assert_eq!(rt;
+        bytes.as_slice(),
+        b"\x02\0\0\0\x31\0\0\0\0\0\0\0\x01\0\0\0\0\0\0\0\0\x03\x01\0\0\0\0\0\0\0\0\x01\0\0\0\0\0\0\0\x01\x01\0\0\0\0\0\0\0\x05".as_slice()
+    );
+    assert_eq!(rt; seat.lv(), [62, 0, 0]);
+    Ok(())
+}
+
+#[test]
+fn locks_that_come_next(rt: HostRuntime) {
+    let alloc = rt.alloc();
+    let procs = Procs::new(alloc);
+    let call = put(1, 5);
+    assert!(rt; procs.takes(&call));
+    let write = Some((key(1), Mode::Write));
+    assert_eq!(rt; Txn::first_lock(&procs, &call), write);
+    let mut seat = Seat::new(&rt, alloc, 0, 1, LogMode::Values, procs);
+    assert_eq!(rt; seat.next_lock(), None);
+    seat.begin(&rt, 7, &call);
+    assert_eq!(rt; seat.next_lock(), Some((7, key(1), Mode::Write)));
+}
+
+/// A read-only call joins the committed ones as it begins to free its keys.
+#[test]
+fn read_only_call(rt: HostRuntime) {
+    let alloc = rt.alloc();
+    let mut shard = Shard::with_floor(alloc, vector(&rt, &[53, 0]));
+    let mut seat = Seat::new(&rt, alloc, 1, 2, LogMode::Values, Procs::new(alloc));
+    seat.begin(&rt, 2, &call_of(GET, &[Value::Int(0), Value::Int(1)]));
+    follows(&rt, &mut seat, &mut shard, &[Went::Granted]);
+    assert!(rt; !seat.has_joined());
+    assert_eq!(rt; seat.committed().map(|call| call.spot), Some(None));
+    follows(&rt, &mut seat, &mut shard, &[Went::Freed(key(1))]);
+    assert!(rt; seat.has_joined());
+    assert_eq!(rt;
+        seat.committed().map(|call| positions(&call.lv)),
+        Some([53, 0, 0])
+    );
+    let wants = [done(Value::Absent, [53, 0, 0]), Went::Nothing];
+    follows(&rt, &mut seat, &mut shard, &wants);
+}
+
+/// A key that was read and then written is raised to write mode, and freed once.
+#[test]
+fn key_read_and_then_written(rt: HostRuntime) -> Result<(), Fail> {
+    let alloc = rt.alloc();
+    let mut shard = Shard::new(alloc, 1);
+    let procs = declare(&rt, alloc, 0, writes_both_rows(alloc)?)?;
+    let mut seat = Seat::new(&rt, alloc, 0, 1, LogMode::Values, procs);
+    seat.begin(&rt, 1, &call_of(FIRST_DECLARED, &[]));
+    assert_eq!(rt; seat.next_lock(), Some((1, key(1), Mode::Read)));
+    follows(&rt, &mut seat, &mut shard, &[Went::Granted]);
+    assert_eq!(rt; seat.next_lock(), Some((1, key(1), Mode::Write)));
+    follows(&rt, &mut seat, &mut shard, &[Went::Granted, Went::Granted]);
+    commits(&rt, &mut seat, 0, &[0], 13, 51)?;
+    let wants = [
+        Went::Freed(key(1)),
+        Went::Freed(key(2)),
+        done(Value::Absent, [64, 0, 0]),
+    ];
+    follows(&rt, &mut seat, &mut shard, &wants);
+    assert_eq!(rt; shard.value(key(1)), Value::Int(3));
+    Ok(())
+}
+
+/// A call that is given up only gives its keys back, and then it is in hand no more.
+#[test]
+fn given_up(rt: HostRuntime) -> Result<(), Fail> {
+    let alloc = rt.alloc();
+    let mut shard = Shard::new(alloc, 1);
+    let procs = declare(&rt, alloc, 0, writes_two_rows(alloc)?)?;
+    let mut seat = Seat::new(&rt, alloc, 0, 1, LogMode::Values, procs);
+    seat.begin(&rt, 1, &call_of(FIRST_DECLARED, &[]));
+    follows(
+        &rt,
+        &mut seat,
+        &mut shard,
+        &[Went::Granted, Went::Granted, Went::Commit(0)],
+    );
+    seat.give_up(&rt);
+    let wants = [Went::Quit(key(1)), Went::Quit(key(2)), Went::Nothing];
+    follows(&rt, &mut seat, &mut shard, &wants);
+    seat.begin(&rt, 2, &put(1, 5));
+    seat.give_up(&rt);
+    assert!(rt; !seat.in_hand());
+    Ok(())
+}
+
+/// The call takes its first lock, and then meets Busy and gives its key back, so many times.
+fn meets_busy(rt: &impl Abort, seat: &mut Seat, shard: &mut Shard, times: usize) {
+    for _ in 0..times {
+        let wants = [Went::Granted, Went::Busy(1), Went::Quit(key(1))];
+        follows(rt, seat, shard, &wants);
+    }
+}
+
+/// After the 64th Busy the call gives its keys back and is left over.
+#[test]
+fn left_over_after_the_last_try(rt: HostRuntime) -> Result<(), Fail> {
+    let alloc = rt.alloc();
+    let mut shard = Shard::new(alloc, 2);
+    let mut other = vector(&rt, &[0, 0]);
+    assert!(rt; shard.lock(1, key(2), Mode::Read, &mut other).is_ok());
+    let procs = declare(&rt, alloc, 0, writes_two_rows(alloc)?)?;
+    let mut seat = Seat::new(&rt, alloc, 0, 2, LogMode::Values, procs);
+    seat.begin(&rt, 1, &call_of(FIRST_DECLARED, &[]));
+    meets_busy(&rt, &mut seat, &mut shard, 63);
+    assert_eq!(rt; seat.next_lock(), Some((1, key(1), Mode::Write)));
+    meets_busy(&rt, &mut seat, &mut shard, 1);
+    assert_eq!(rt; seat.number(), Some(1));
+    follows(&rt, &mut seat, &mut shard, &[Went::LeftOver, Went::Nothing]);
+    Ok(())
+}
+
 /// The longest record: 64 texts of 64 bytes, and 16 positions.
 #[test]
 fn longest_record(rt: HostRuntime) -> Result<(), Fail> {
@@ -691,14 +677,12 @@ fn longest_record(rt: HostRuntime) -> Result<(), Fail> {
     let text = Text64::of("xxxxxxxxxxxxxxxxxxxxxxxxxxxxxxxxxxxxxxxxxxxxxxxxxxxxxxxxxxxxxxxx").ok_or(
         "text",
     )?;
-    let mut txn = Seat::new(&rt, alloc, 3, 16, LogMode::Values, procs);
-    txn.begin(&rt, 1, &call_of(FIRST_DECLARED, &[Value::Text(text)]));
-    txn.grant(
-        &rt,
-        &vector(&rt, &[7, 7, 7, 7, 7, 7, 7, 7, 7, 7, 7, 7, 7, 7, 7, 7]),
-        64,
-    );
-    let bytes = txn.place(&rt, 0, &Lv::zero(16), 13)?;
+    let mut seat = Seat::new(&rt, alloc, 3, 16, LogMode::Values, procs);
+    seat.begin(&rt, 1, &call_of(FIRST_DECLARED, &[Value::Text(text)]));
+    let full = vector(&rt, &[7, 7, 7, 7, 7, 7, 7, 7, 7, 7, 7, 7, 7, 7, 7, 7]);
+    seat.grant(&rt, &full, 64);
+    let none = Lv::zero(16);
+    let bytes = seat.place(&rt, 0, &none, 13)?;
     assert_eq!(rt; bytes.len(), 5077);
     Ok(())
 }
