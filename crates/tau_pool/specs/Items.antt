@@ -1,0 +1,54 @@
+-- What the pools keep of the taken records.
+use Rattle.std.specs.Prelude.{ℕ, suc, Bool, true, false, List, [], ◌∷◌, ◌++◌, Option, Some, None, if◌then◌else◌}
+use Rattle.tau_base.specs.Vectors.{covers}
+use Rattle.tau_record.specs.declared.entry.Entry.{Entry}
+use Rattle.tau_record.specs.declared.entry.Entry.TheVariants.{Written, Command, Anchor, Catalogue}
+use Rattle.tau_record.specs.declared.entry.Placed.{Placed}
+use Rattle.tau_pool.specs.declared.item.Item.{Item}
+use Rattle.tau_pool.specs.declared.item.Stage.{Stage}
+use Rattle.tau_pool.specs.declared.item.Stage.TheVariants.{Waiting, Flying, Finished}
+
+-- whether the record is still to be finished, or even to be started
+abbrev pub is_left : Stage → Bool
+is_left Waiting = true
+is_left Flying = true
+is_left Finished = false
+
+abbrev pub is_waiting : Stage → Bool
+is_waiting Waiting = true
+is_waiting Flying = false
+is_waiting Finished = false
+
+abbrev pub is_flying : Stage → Bool
+is_flying Waiting = false
+is_flying Flying = true
+is_flying Finished = false
+
+-- the vector of a data or command record
+abbrev pub dep_of : Entry → Option (List ℕ)
+dep_of (Written number anchor dep writes) = Some dep
+dep_of (Command number anchor dep call) = Some dep
+dep_of (Anchor lv) = None
+dep_of (Catalogue text) = None
+
+abbrev pub item_as : List ℕ → ℕ → ℕ → ℕ → Option (List ℕ) → Option Item
+item_as elv j i start None = None
+item_as elv j i start (Some dep) = if covers elv dep then Some (record { stream = j; index = i; start = start; dep = dep; stage = Waiting }) else None
+
+-- what is kept of a record, where it is taken
+abbrev pub item_of : List ℕ → ℕ → ℕ → Placed → Option Item
+item_of elv j i p = item_as elv j i p.start (dep_of p.entry)
+
+abbrev pub with_item : Option Item → List Item → List Item
+with_item None xs = xs
+with_item (Some x) xs = x ∷ xs
+
+-- the taken records of a stream, from number i on
+abbrev pub items_in : List ℕ → ℕ → ℕ → List Placed → List Item
+items_in elv j i [] = []
+items_in elv j i (p ∷ ps) = with_item (item_of elv j i p) (items_in elv j (suc i) ps)
+
+-- those of all streams, from stream j on
+abbrev pub items_from : List ℕ → ℕ → List (List Placed) → List Item
+items_from elv j [] = []
+items_from elv j (ps ∷ streams) = items_in elv j 0 ps ++ items_from elv (suc j) streams

@@ -1,0 +1,5 @@
+pub mod Items
+pub mod Passing
+pub mod First
+pub mod Kept
+pub mod Pooled

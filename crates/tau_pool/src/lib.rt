@@ -1,0 +1,14 @@
+//! The pools of a recovery: which taken record may start next, and how far each stream is recovered.
+#![tactic(auto)]
+
+mod first;
+mod item;
+mod pass;
+mod pools;
+mod waits;
+
+pub use item::{Item, Job, Stage};
+pub use pools::{Next, Pools};
+
+#[cfg(test)]
+mod tests;

@@ -1,0 +1,227 @@
+//! The pools of a recovery.
+ghost use Rattle.std.specs.Prelude.{◌≡◌, ◌≢◌, ◌≤◌, ℕ, true, length, replicate, slice_get, IfOk, IfSome, IsNone, Some};
+ghost use Rattle.tau_scan.specs.Reading.{IsLog};
+ghost use Rattle.tau_pool.specs.declared.item.Item.{Item};
+ghost use Rattle.tau_pool.specs.declared.item.Job.{Job};
+ghost use Rattle.tau_pool.specs.Items.{is_left, items_from};
+ghost use Rattle.tau_pool.specs.Passing.{is_ready};
+ghost use Rattle.tau_pool.specs.Kept.{AreWithin, IsReached};
+ghost use Rattle.tau_pool.specs.Pooled.{IsRecovered, IsStarted, IsFlying, IsFinished, IsNotYet, IsDone, NoneReady, IsFirstLeft, flying_in};
+
+use crate::first::{first_left, reach_of};
+use crate::item::{Item, Job, Stage, items_of};
+use crate::pass::next_ready;
+use crate::waits::{Wait, waits_of};
+use std::alloc::Global;
+use std::marker::Model;
+use tau_base::{Listed, Lv, NoMemory};
+use tau_scan::Log;
+
+/// What may be done next.
+#[derive(Clone, Copy, Debug, PartialEq, Eq)]
+pub enum Next {
+    /// This record is started: the recovered vector covers it.
+    Taken(Job),
+    /// Some record is not started, and the recovered vector covers none of these.
+    NotYet,
+    /// Each record is started.
+    Done,
+}
+
+/// The taken records of a log: which are started and finished, and how far each stream is recovered.
+#[derive(Debug, Drop)]
+pub struct Pools {
+    ends: Lv,
+    rlv: Lv,
+    /// By stream and place.
+    items: Vec<Item>,
+    /// For each stream the place of its first record that is left, or of one behind it.
+    nexts: Vec<usize>,
+    /// For each stream what waits for it, in the order of what is waited for.
+    waits: Vec<Listed<Wait>>,
+    /// How many of these are passed over.
+    passed: Vec<usize>,
+    waiting: usize,
+    flying: usize,
+}
+
+impl Model for Pools {
+    ghost use Rattle.tau_pool.specs.Pooled.{Pooled};
+    ghost use Rattle.tau_pool.specs.Kept.{IsKept};
+
+    ghost Value = { Pooled };
+
+    ghost view = { λ p. record { ends = p.ends; rlv = p.rlv; items = p.items.items } };
+
+    ghost invariant = { λ p. IsKept p.ends p.rlv p.items.items p.waits.items p.nexts.items p.passed.items p.waiting p.flying };
+}
+
+impl Pools {
+    /// The pools of a log, where no record is started.
+    pub fn new(alloc: Global, log: &Log) -> Result<Pools, NoMemory>
+        requires { IsLog log.now }
+        ensures items { IfOk result (λ p. p.items ≡ items_from log.now.elv 0 log.now.streams) }
+        ensures ends { IfOk result (λ p. p.ends ≡ log.now.elv) }
+        ensures recovered { IfOk result (λ p. IsRecovered p.ends p.rlv p.items) }
+    {
+        let n = log.elv.width();
+        let items = items_of(alloc, &log.elv, log.streams.as_slice())?;
+        let (rlv, nexts) = reached_of(alloc, &log.elv, &items)?;
+        let waits = waits_of(alloc, &items, &rlv)?;
+        let passed = zeros(alloc, n)?;
+        let waiting = items.len();
+        Ok(Pools {
+            ends: log.elv,
+            rlv,
+            items,
+            nexts,
+            waits,
+            passed,
+            waiting,
+            flying: 0,
+        })
+    }
+
+    /// Starts a record that is ready, where there is one.
+    pub fn take(&mut self) -> Next
+        ensures taken { (job : Job) → result ≡ Next.Taken job → IsStarted self.old job self.new }
+        ensures not_yet { result ≡ Next.NotYet → (self.new ≡ self.old) × IsNotYet self.old }
+        ensures done { result ≡ Next.Done → (self.new ≡ self.old) × IsDone self.old }
+        ensures recovered { IsRecovered self.new.ends self.new.rlv self.new.items }
+        // The job is in flight, and no other one that was is the same.
+        ensures flying { (job : Job) → result ≡ Next.Taken job → IsFlying self.new job }
+        ensures fresh { (job other : Job) → result ≡ Next.Taken job → IsFlying self.old other → other.place ≢ job.place }
+        ensures kept { (other : Job) → IsFlying self.old other → IsFlying self.new other }
+    {
+        match self.next_ready() {
+            Some(place) => Next::Taken(self.start(place)),
+            None => self.none_ready(),
+        }
+    }
+
+    /// What is answered where no record is ready.
+    fn none_ready(&self) -> Next
+        requires { NoneReady self.now }
+        ensures taken { (job : Job) → result ≡ Next.Taken job → ⊥ }
+        ensures not_yet { result ≡ Next.NotYet → IsNotYet self.now }
+        ensures done { result ≡ Next.Done → IsDone self.now }
+    {
+        if self.waiting == 0 {
+            return Next::Done;
+        }
+        Next::NotYet
+    }
+
+    /// The place of a ready record.
+    fn next_ready(&mut self) -> Option<usize>
+        ensures same { self.new ≡ self.old }
+        ensures found { IfSome result (λ i. is_ready self.old.items self.old.rlv i ≡ true) }
+        ensures none { IsNone result → NoneReady self.old }
+        ensures recovered { IsRecovered self.new.ends self.new.rlv self.new.items }
+    {
+        next_ready(&self.items, &self.rlv, &self.waits, &mut self.passed)
+    }
+
+    /// Starts the ready record at this place.
+    fn start(&mut self, place: usize) -> Job
+        requires { is_ready self.old.items self.old.rlv place ≡ true }
+        ensures started { IsStarted self.old result self.new }
+        ensures recovered { IsRecovered self.new.ends self.new.rlv self.new.items }
+    {
+        let item = self.items[place];
+        self.items[place] = Item {
+            stage: Stage::Flying,
+            ..item
+        };
+        self.waiting -= 1;
+        self.flying += 1;
+        Job {
+            stream: item.stream,
+            index: item.index,
+            place,
+        }
+    }
+
+    /// Finishes a record that is started and not finished.
+    pub fn finish(&mut self, job: Job)
+        requires { IsFlying self.old job }
+        ensures finished { IsFinished self.old job self.new }
+        ensures kept { (other : Job) → IsFlying self.old other → other.place ≢ job.place → IsFlying self.new other }
+        ensures recovered { IsRecovered self.new.ends self.new.rlv self.new.items }
+    {
+        let item = self.items[job.place];
+        self.items[job.place] = Item {
+            stage: Stage::Finished,
+            ..item
+        };
+        self.flying -= 1;
+        let j = usize::from(item.stream);
+        let next = first_left(&self.items, item.stream, self.nexts[j]);
+        self.nexts[j] = next;
+        let reach = reach_of(&self.items, item.stream, next, self.ends.get(j));
+        self.rlv.set(j, reach);
+    }
+
+    /// The recovered vector.
+    pub fn rlv(&self) -> Lv
+        ensures same { result ≡ self.now.rlv }
+        ensures recovered { IsRecovered self.now.ends result self.now.items }
+    {
+        self.rlv
+    }
+
+    /// How many records are started and not finished.
+    pub fn in_flight(&self) -> usize
+        ensures { result ≡ flying_in self.now.items }
+    {
+        self.flying
+    }
+
+    /// The first record, by stream and place, that is not finished.
+    pub fn first_left(&self) -> Option<Job>
+        ensures some { IfSome result (λ job. IsFirstLeft self.now.items job) }
+        ensures none { IsNone result → (i : ℕ) (x : Item) → slice_get self.now.items i ≡ Some x → is_left x.stage ≡ true → ⊥ }
+    {
+        for (place, item) in self.items.iter().enumerate() {
+            if item.stage.is_left() {
+                return Some(Job {
+                    stream: item.stream,
+                    index: item.index,
+                    place,
+                });
+            }
+        }
+        None
+    }
+}
+
+/// So many zeros.
+fn zeros(alloc: Global, n: usize) -> Result<Vec<usize>, NoMemory>
+    ensures { IfOk result (λ v. v.items ≡ replicate n 0) }
+{
+    match vec![in alloc; 0usize; n] {
+        Ok(zeros) => Ok(zeros),
+        Err(_) => Err(NoMemory),
+    }
+}
+
+/// For each stream how far it is recovered, and the place of its first record that is left.
+fn reached_of(alloc: Global, ends: &Lv, items: &[Item]) -> Result<(Lv, Vec<usize>), NoMemory>
+    requires narrow { length ends.now ≤ 16 }
+    requires within { AreWithin ends.now items.now }
+    ensures reached { IfOk result (λ r. IsReached ends.now r.0 items.now r.1.items) }
+    ensures wide { IfOk result (λ r. (length r.0 ≡ length ends.now) × (length r.1.items ≡ length ends.now)) }
+{
+    let mut rlv = *ends;
+    let mut nexts = Vec::new(alloc);
+    for j in 0..ends.width() {
+        let next = first_left(items, j as u8, 0);
+        let reach = reach_of(items, j as u8, next, ends.get(j));
+        match nexts.push(next) {
+            Ok(()) => {}
+            Err(_) => return Err(NoMemory),
+        }
+        rlv.set(j, reach);
+    }
+    Ok((rlv, nexts))
+}
