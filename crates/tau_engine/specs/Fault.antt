@@ -3,8 +3,39 @@ use Rattle.std.specs.Prelude.{ℕ, ◌<◌, Bool, true, false, ◌≡◌, ◌⊎
 use Rattle.std.specs.Fmt.{decimal}
 use Rattle.tau_engine.specs.declared.status.Status.{Status}
 use Rattle.tau_engine.specs.declared.status.Status.TheVariants as status
+use Rattle.tau_block.specs.declared.fault.ImageFault.{ImageFault}
+use Rattle.tau_block.specs.declared.fault.ImageFault.TheVariants as image
+use Rattle.tau_record.specs.declared.fault.RecordCause.{RecordCause}
+use Rattle.tau_record.specs.declared.fault.RecordCause.TheVariants as body
+use Rattle.tau_scan.specs.declared.fault.LogCause.{LogCause}
+use Rattle.tau_scan.specs.declared.fault.LogCause.TheVariants as log
 use Rattle.tau_report.specs.Lines.{line}
 use Rattle.tau_text.specs.Causes.{cause_number}
+
+abbrev pub image_fault_number : ImageFault → ℕ
+image_fault_number image.BadMagic = 1
+image_fault_number image.BadCount = 2
+image_fault_number image.BadIndex = 3
+image_fault_number image.OpenGateWithoutBlock = 4
+
+abbrev pub record_cause_number : RecordCause → ℕ
+record_cause_number body.Short = 1
+record_cause_number body.BadKind = 2
+record_cause_number body.BadLength = 3
+record_cause_number body.BadAnchor = 4
+record_cause_number body.BadMask = 5
+record_cause_number body.BadBody = 6
+
+abbrev pub log_cause_words : LogCause → List (List ℕ)
+log_cause_words (log.Image fault) = codes "image" ∷ decimal (image_fault_number fault) ∷ []
+log_cause_words (log.Count asked found) = codes "count" ∷ decimal asked ∷ decimal found ∷ []
+log_cause_words (log.Body fault) = codes "record" ∷ decimal (record_cause_number fault.cause) ∷ decimal fault.at ∷ []
+log_cause_words (log.Catalogue with_stream at) = codes "catalogue" ∷ decimal with_stream ∷ decimal at ∷ []
+log_cause_words (log.Tangled at) = codes "tangled" ∷ decimal at ∷ []
+
+-- the line of a stream that is at fault
+abbrev pub log_fault_text : ℕ → LogCause → List ℕ
+log_fault_text stream cause = line (codes "fault" ∷ codes "7" ∷ decimal stream ∷ log_cause_words cause)
 
 -- the one line of a refusal, and nothing for what is none
 abbrev pub fault_text : Status → List ℕ
@@ -12,6 +43,7 @@ fault_text status.Usage = line (codes "fault" ∷ codes "2" ∷ [])
 fault_text (status.BadText at cause) = line (codes "fault" ∷ codes "3" ∷ decimal at ∷ decimal (cause_number cause) ∷ [])
 fault_text status.ReadFault = line (codes "fault" ∷ codes "4" ∷ [])
 fault_text (status.DiskFault j) = line (codes "fault" ∷ codes "6" ∷ decimal j ∷ [])
+fault_text (status.BadLog fault) = log_fault_text fault.stream fault.cause
 fault_text (status.NotEmpty j long) = line (codes "fault" ∷ codes "8" ∷ decimal j ∷ decimal long ∷ [])
 fault_text status.TooLong = line (codes "fault" ∷ codes "9" ∷ [])
 fault_text _ = []
@@ -21,6 +53,7 @@ abbrev pub is_refusal : Status → Bool
 is_refusal status.Usage = true
 is_refusal (status.BadText at cause) = true
 is_refusal status.ReadFault = true
+is_refusal (status.BadLog fault) = true
 is_refusal (status.NotEmpty j long) = true
 is_refusal status.TooLong = true
 is_refusal _ = false

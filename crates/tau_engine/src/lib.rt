@@ -18,7 +18,7 @@ mod streams;
 mod top;
 mod workload;
 
-pub use status::{LogCause, LogFault, Status};
+pub use status::Status;
 pub use top::taurus;
 
 #[cfg(test)]

@@ -1,45 +1,7 @@
 //! The status of a call, and the causes that it names.
 
-use tau_block::ImageFault;
-use tau_record::RecordFault;
+use tau_scan::LogFault;
 use tau_text::TextCause;
-
-/// Why images hold no log.
-#[derive(Clone, Copy, Debug, PartialEq, Eq)]
-pub enum LogCause {
-    /// An image is none of its stream.
-    Image(ImageFault),
-    /// An image is of a log of another number of streams.
-    Count {
-        /// The number asked for.
-        asked: u16,
-        /// The number found.
-        found: u16,
-    },
-    /// A record is bad.
-    Body(RecordFault),
-    /// Two catalogues differ.
-    Catalogue {
-        /// The stream whose catalogue counts.
-        with: u8,
-        /// The first byte that differs.
-        at: u32,
-    },
-    /// No order of the records is possible.
-    Tangled {
-        /// Where the record begins that waits.
-        at: u64,
-    },
-}
-
-/// Which stream's image is at fault, and why.
-#[derive(Clone, Copy, Debug, PartialEq, Eq)]
-pub struct LogFault {
-    /// The stream.
-    pub stream: u8,
-    /// Why.
-    pub cause: LogCause,
-}
 
 /// How a command ended.
 #[derive(Clone, Copy, Debug, PartialEq, Eq)]

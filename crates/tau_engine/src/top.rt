@@ -6,7 +6,7 @@ ghost use Rattle.tau_model.specs.History.{Member};
 ghost use Rattle.tau_words.specs.declared.command.Command.{Command};
 ghost use Rattle.tau_text.specs.declared.fault.TextCause.{TextCause};
 ghost use Rattle.tau_text.specs.declared.fault.TextFault.{TextFault};
-ghost use Rattle.tau_engine.specs.declared.status.LogFault.{LogFault};
+ghost use Rattle.tau_scan.specs.declared.fault.LogFault.{LogFault};
 ghost use Rattle.tau_engine.specs.Served.{served, used_by, reads_source};
 ghost use Rattle.tau_engine.specs.Workload.{Load, HasWorkload, HasFault};
 ghost use Rattle.tau_engine.specs.Loads.{load_of, IsWithin};
