@@ -1,0 +1,64 @@
+-- Orders of records as orders of calls.
+use Rattle.std.proofs.Common.{◌≡◌, List, [], ◌∷◌, ◌++◌, map, refl, sym, ap, subst, ◌∙◌}
+use Rattle.std.specs.List.{filter}
+use Rattle.tau_base.specs.Database.{Db, empty_db}
+use Rattle.tau_proc.specs.declared.proc.Proc.{Proc}
+use Rattle.tau_model.specs.History.{Numbered, Act, means, trace, exec, Reordered}
+use Rattle.tau_model.specs.Logged.{Place, Orderly}
+use Rattle.tau_model.specs.Redo.{Content, content, redo_contents}
+use Rattle.tau_model.specs.Tables.{IsTablesOf}
+use Rattle.tau_model.proofs.Reorder.{reordered-trans, reordered-sym}
+use Rattle.tau_model.proofs.Replays.{finished, ready_exists, turns-keep, started}
+use Rattle.tau_model.proofs.Theorems.{orderly_redo_law}
+use Rattle.tau_scan.specs.Taken.{Kept, taken}
+use Rattle.tau_replay.specs.Laws.{OrderlyTurns, SomeReady, RunsAgree, place_of, waiting, kept_of}
+
+pub orderly-turns : OrderlyTurns
+orderly-turns records order turns is = finished place_of records turns order is
+
+pub some-ready : SomeReady
+some-ready records order turns s is idle same orderly = ready_exists place_of records order s (turns-keep place_of records (waiting records) turns s (started place_of records) is) idle same orderly
+
+split_map : {A B : Type 0} (f : A → B) (front back : List B) (ys : List A) → front ++ back ≡ map f ys → (u v : List A) × (ys ≡ u ++ v) × (map f u ≡ front) × (map f v ≡ back)
+split_map f [] back ys e = ([], ys, refl, refl, sym e)
+split_map f (b ∷ front) back [] e = absurd cc
+split_map {A} {B} f (b ∷ front) back (y ∷ ys) e =
+    let head : b ≡ f y = cc in
+    let tail : front ++ back ≡ map f ys = cc in
+    let (u, v, is, a, c) = split_map f front back ys tail in
+    (y ∷ u, v, ap (λ (zs : List A). y ∷ zs) is, (λ i. sym head i ∷ a i), c)
+
+map-append : {A B : Type 0} (f : A → B) (xs ys : List A) → map f (xs ++ ys) ≡ map f xs ++ map f ys
+map-append f [] ys = refl
+map-append {A} {B} f (x ∷ xs) ys = ap (λ (zs : List B). f x ∷ zs) (map-append f xs ys)
+
+lift : {A B : Type 0} (f : A → B) (xs : List A) (zs : List B) → Reordered (map f xs) zs → (ys : List A) × (zs ≡ map f ys) × Reordered xs ys
+lift f [] zs r = ([], r, refl)
+lift {A} {B} f (x ∷ xs) zs (front, back, e, r) =
+    let (ys, is, more) = lift f xs (front ++ back) r in
+    let (u, v, cut, a, c) = split_map f front back ys is in
+    let all : map f (u ++ x ∷ v) ≡ front ++ f x ∷ back = map-append f u (x ∷ v) ∙ ap (λ (ws : List B). ws ++ f x ∷ map f v) a ∙ ap (λ (ws : List B). front ++ f x ∷ ws) c in
+    (u ++ x ∷ v, e ∙ sym all, (u, v, refl, subst (λ (ws : List A). Reordered xs ws) cut more))
+
+map-map : {A B C : Type 0} (g : B → C) (f : A → B) (xs : List A) → map g (map f xs) ≡ map (λ x. g (f x)) xs
+map-map g f [] = refl
+map-map {A} {B} {C} g f (x ∷ xs) = ap (λ (zs : List C). g (f x) ∷ zs) (map-map g f xs)
+
+abbrev content_of : Kept → Content
+content_of r = r.content
+
+pub runs-agree : RunsAgree
+runs-agree procs h place ends logged cut chosen is_cut mode log same_procs same =
+    let held : List (Act Numbered) = filter (λ x. chosen x.call) (trace (means procs) h empty_db) in
+    let redo = orderly_redo_law procs h empty_db place ends logged cut chosen is_cut in (
+      (
+        map (kept_of place mode) held,
+        record { each_once = reordered-sym (map (kept_of place mode) held) (taken log) same; orderly = subst (λ (ps : List Place). Orderly ps) (sym (map-map place_of (kept_of place mode) held)) redo.0 },
+      ),
+      λ rows r.
+          let (ys, is, more) = lift (kept_of place mode) held r.order (reordered-trans (map (kept_of place mode) held) (taken log) r.order same r.is_order.each_once) in
+          let orderly : Orderly (map (λ (x : Act Numbered). place x.call) ys) = subst (λ (ps : List Place). Orderly ps) (ap (λ (os : List Kept). map place_of os) is ∙ map-map place_of (kept_of place mode) ys) r.is_order.orderly in
+          let done : redo_contents procs (map (λ (x : Act Numbered). content (mode x) x) ys) empty_db ≡ exec (means procs) (filter chosen h) empty_db = redo.1 ys mode more orderly in
+          let contents : map content_of r.order ≡ map (λ (x : Act Numbered). content (mode x) x) ys = ap (λ (os : List Kept). map content_of os) is ∙ map-map content_of (kept_of place mode) ys in
+          subst (λ (db : Db). IsTablesOf db rows) (ap (λ (ps : List Proc). redo_contents ps (map content_of r.order) empty_db) same_procs ∙ ap (λ (cs : List Content). redo_contents procs cs empty_db) contents ∙ done) r.tables,
+    )

@@ -1,0 +1,5 @@
+pub mod Lists
+pub mod Starting
+pub mod Going
+pub mod Hands
+pub mod Histories

@@ -1,0 +1,59 @@
+-- One more turn of the round.
+use Rattle.std.proofs.Common.{ℕ, List, ◌≡◌, ◌+◌, ◌<◌, ◌≤◌, ◌⊎◌, inl, inr, refl, ap, subst, ◌∙◌, arith}
+use Rattle.std.specs.Prelude.{Option, Some, None, slice_get}
+use Rattle.std.proofs.lemmas.Bool.{cases_eq, cases_lt}
+use Rattle.tau_pool.specs.declared.item.Job.{Job}
+use Rattle.tau_pool.proofs.Gets.{get_within}
+use Rattle.tau_replay.specs.Way.{left_of}
+use Rattle.tau_replay.proofs.Hands.{some_hand}
+use Rattle.tau_replay.proofs.replay.round.Goals as goal
+
+-- the hand of this worker holds a job, or none does so far
+turned : (left_new left_now left_old from worker : ℕ) (old now new : List (Option Job)) → left_new ≤ left_now → left_now ≤ left_old →
+    ((job : Job) → slice_get now worker ≡ Some (Some job) → left_new < left_now) → (left_new < left_now) ⊎ (new ≡ now) →
+    (left_now < left_old) ⊎ ((now ≡ old) × ((w : ℕ) (job : Job) → from ≤ w → w < worker → slice_get old w ≡ Some (Some job) → ⊥)) →
+    (left_new < left_old) ⊎ ((new ≡ old) × ((w : ℕ) (job : Job) → from ≤ w → w < worker + 1 → slice_get old w ≡ Some (Some job) → ⊥))
+turned left_new left_now left_old from worker old now new a b busy idle (inl less) = inl (omega (arith, a, less))
+turned left_new left_now left_old from worker old now new a b busy (inl less) (inr same) = inl (omega (arith, b, less))
+turned left_new left_now left_old from worker old now new a b busy (inr is) (inr (same, none)) = by_hand (slice_get now worker) refl
+  where
+    by_hand : (o : Option (Option Job)) → slice_get now worker ≡ o → (left_new < left_old) ⊎ ((new ≡ old) × ((w : ℕ) (job : Job) → from ≤ w → w < worker + 1 → slice_get old w ≡ Some (Some job) → ⊥))
+    by_hand (Some (Some job)) at = inl (let h = busy job at in omega (arith, b, h))
+    by_hand (Some None) at = inr (
+      is ∙ same,
+      λ w job low lt there. elim (cases_eq w worker) [
+        | inl e ↦ let here : slice_get now worker ≡ Some (Some job) = ap (λ (hs : List (Option Job)). slice_get hs worker) same ∙ subst (λ (n : ℕ). slice_get old n ≡ Some (Some job)) e there in absurd cc
+        | inr other ↦ none w job low (omega (arith, lt, below w worker lt other)) there
+      ],
+    )
+      where
+        below : (w worker : ℕ) → w < worker + 1 → (w ≡ worker → ⊥) → w < worker
+        below w worker lt other = elim (cases_lt w worker) [ inl x ↦ x | inr y ↦ absurd (other (omega (arith, lt, y))) ]
+    by_hand None at = inr (
+      is ∙ same,
+      λ w job low lt there. elim (cases_eq w worker) [
+        | inl e ↦ let here : slice_get now worker ≡ Some (Some job) = ap (λ (hs : List (Option Job)). slice_get hs worker) same ∙ subst (λ (n : ℕ). slice_get old n ≡ Some (Some job)) e there in absurd cc
+        | inr other ↦ none w job low (omega (arith, lt, below w worker lt other)) there
+      ],
+    )
+      where
+        below : (w worker : ℕ) → w < worker + 1 → (w ≡ worker → ⊥) → w < worker
+        below w worker lt other = elim (cases_lt w worker) [ inl x ↦ x | inr y ↦ absurd (other (omega (arith, lt, y))) ]
+
+pub loop-worker-preserved : goal.loop-worker-preserved
+loop-worker-preserved c = record {
+  going = c.in-Ok.ensures.going;
+  less = omega (arith, c.in-Ok.ensures.less, c.loop-worker.invariant.less);
+  some = turned (left_of c.turn.new.replay) (left_of c.loop-worker.replay) (left_of c.args.replay.now) c.args.from c.loop-worker.worker c.args.replay.now.hands.items c.loop-worker.replay.hands.items c.turn.new.replay.hands.items
+      c.in-Ok.ensures.less c.loop-worker.invariant.less c.in-Ok.ensures.busy c.in-Ok.ensures.idle c.loop-worker.invariant.some;
+}
+
+pub returns-clause-some : goal.returns-clause-some
+returns-clause-some c e flying = elim c.loop-worker.invariant.some [
+  | inl less ↦ less
+  | inr h ↦
+      let hands = c.requires.going.hands in
+      let (w, job, at) = some_hand c.args.replay.now.hands.items (omega (arith, flying, hands.count)) in
+      let lt = get_within c.args.replay.now.hands.items w (Some job) at in
+      absurd (h.1 w job (omega (arith, e)) (omega (arith, lt, hands.sixteen, c.loop-worker-test.false)) at)
+]

@@ -1,0 +1,42 @@
+-- What a worker has in flight is finished.
+use Rattle.std.proofs.Common.{[], ◌∷◌, ◌++◌, sym, subst, arith}
+use Rattle.std.specs.Prelude.{Some}
+use Rattle.tau_model.specs.Store.{database}
+use Rattle.tau_scan.specs.Taken.{taken}
+use Rattle.tau_pool.specs.declared.item.Job.{Job}
+use Rattle.tau_pool.proofs.Gets.{get_within}
+use Rattle.tau_replay.specs.Going.{Stands}
+use Rattle.tau_replay.proofs.Lists.{of_get}
+use Rattle.tau_replay.proofs.Going.{going_finish}
+use Rattle.tau_replay.proofs.Hands.{hands_finish, less_finish}
+use Rattle.tau_replay.proofs.turns.finish.Goals as goal
+
+pub redo-requires : goal.redo-requires
+redo-requires c =
+    let w = c.requires.going in
+    let f = w.hands.flying c.args.worker c.args.job c.requires.busy in
+    let (r, held, of) = of_get c.args.log.now (taken c.args.log.now) c.args.replay.now.pools.items c.args.job.place f.item w.going.items f.there in
+    (r, subst (λ (j : Job). Stands c.args.log.now j.stream j.index r) (sym f.named) of.stands)
+
+pub index_mut-requires : goal.index_mut-requires
+index_mut-requires c =
+    let lt = get_within c.args.replay.now.hands.items c.args.worker (Some c.args.job) c.requires.busy in
+    let v = c.args.replay.now.hands in
+    omega (arith, lt, v.ok)
+
+pub returns-clause-going : goal.returns-clause-going
+returns-clause-going c =
+    let w = c.requires.going in
+    let f = w.hands.flying c.args.worker c.args.job c.requires.busy in
+    let (r, held, of) = of_get c.args.log.now (taken c.args.log.now) c.args.replay.now.pools.items c.args.job.place f.item w.going.items f.there in
+    let stands : Stands c.args.log.now c.args.job.stream c.args.job.index r = subst (λ (j : Job). Stands c.args.log.now j.stream j.index r) (sym f.named) of.stands in
+    record {
+      order = w.order ++ r ∷ [];
+      going = going_finish c.args.log.now c.args.replay.now.pools (database c.args.replay.now.store) w.order c.args.job c.finish.new.self r (database c.redo.new.store) w.going f c.finish.ensures.finished c.finish.ensures.recovered held (c.in-Ok.ensures r stands);
+      hands = hands_finish c.args.replay.now.pools c.args.replay.now.hands.items c.args.worker c.args.job c.finish.new.self w.hands c.requires.busy c.finish.ensures.finished;
+    }
+
+pub returns-clause-less : goal.returns-clause-less
+returns-clause-less c =
+    let f = c.requires.going.hands.flying c.args.worker c.args.job c.requires.busy in
+    (less_finish c.args.replay.now.pools c.args.job c.finish.new.self f c.finish.ensures.finished).0

@@ -1,0 +1,45 @@
+-- What holds of every recovery.
+use Rattle.std.specs.Prelude.{ℕ, Bool, ◌≡◌, ◌⊎◌, List, [], map}
+use Rattle.std.specs.List.{filter}
+use Rattle.tau_base.specs.declared.value.Key.{Key}
+use Rattle.tau_base.specs.declared.value.Value.{Value}
+use Rattle.tau_base.specs.declared.value.LogMode.{LogMode}
+use Rattle.tau_base.specs.Database.{empty_db}
+use Rattle.tau_proc.specs.declared.proc.Proc.{Proc}
+use Rattle.tau_model.specs.History.{Numbered, Act, means, trace, exec, Member, Reordered}
+use Rattle.tau_model.specs.Logged.{Place, IsLogged, IsCutAt, Orderly}
+use Rattle.tau_model.specs.Redo.{content}
+use Rattle.tau_model.specs.Replay.{Replaying, Turn, Turns, IsReady}
+use Rattle.tau_model.specs.Tables.{IsTablesOf}
+use Rattle.tau_scan.specs.declared.log.Log.{Log}
+use Rattle.tau_scan.specs.Taken.{Kept, taken}
+use Rattle.tau_replay.specs.Redone.{IsOrderOf, IsRedone}
+
+abbrev pub place_of : Kept → Place
+place_of r = r.place
+
+-- nothing is started
+abbrev pub waiting : List Kept → Replaying Kept
+waiting records = record { todo = records; flight = []; order = [] }
+
+-- whatever the turns, the records that are finished, where all are, stand in an orderly order
+abbrev pub OrderlyTurns : Type 0
+OrderlyTurns = (records order : List Kept) (turns : List (Turn Kept)) → Turns place_of (waiting records) turns (record { todo = []; flight = []; order = order }) →
+    Reordered records order × Orderly (map place_of order)
+
+-- whatever the turns, while nothing is in flight, something is unstarted and an orderly order exists, some record is ready
+abbrev pub SomeReady : Type 0
+SomeReady = (records order : List Kept) (turns : List (Turn Kept)) (s : Replaying Kept) → Turns place_of (waiting records) turns s → s.flight ≡ [] → Reordered records order → Orderly (map place_of order) →
+    (s.todo ≡ []) ⊎ ((r : Kept) × Member r s.todo × IsReady place_of s r)
+
+-- the record of a call of a history
+abbrev pub kept_of : (Numbered → Place) → (Act Numbered → LogMode) → Act Numbered → Kept
+kept_of place mode x = record { number = x.call.number; place = place x.call; content = content (mode x) x }
+
+-- Of a log whose taken records are those that a cut of a history holds an orderly order exists, and whatever the turns
+-- the tables are those of executing just the calls that the cut holds.
+abbrev pub RunsAgree : Type 0
+RunsAgree = (procs : List Proc) (h : List Numbered) (place : Numbered → Place) (ends : List ℕ) → IsLogged place ends (trace (means procs) h empty_db) →
+    (cut : List ℕ) (chosen : Numbered → Bool) → IsCutAt place cut (trace (means procs) h empty_db) chosen → (mode : Act Numbered → LogMode) (log : Log) → log.declarations.procs ≡ procs →
+    Reordered (map (kept_of place mode) (filter (λ x. chosen x.call) (trace (means procs) h empty_db))) (taken log) →
+    ((order : List Kept) × IsOrderOf log order) × ((rows : List (Key × Value)) → IsRedone log rows → IsTablesOf (exec (means procs) (filter chosen h) empty_db) rows)

@@ -1,0 +1,4 @@
+pub mod Redone
+pub mod Going
+pub mod Way
+pub mod Laws

@@ -1,0 +1,17 @@
+//! What holds of every recovery, as functions that do nothing.
+ghost use Rattle.tau_replay.specs.Laws.{OrderlyTurns, SomeReady, RunsAgree};
+
+/// Whatever the turns, records that are all finished were finished in an orderly order.
+pub fn orderly_turns()
+    ensures { OrderlyTurns }
+{}
+
+/// While nothing is in flight, something is unstarted and an orderly order exists, some record is ready.
+pub fn some_ready()
+    ensures { SomeReady }
+{}
+
+/// Over the records that a cut of a history holds, every recovery gives the tables of executing just their calls.
+pub fn runs_agree()
+    ensures { RunsAgree }
+{}

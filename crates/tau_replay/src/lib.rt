@@ -1,0 +1,13 @@
+//! Redoing a log: by turns of workers, in an orderly order.
+#![tactic(auto)]
+
+mod laws;
+mod redo;
+mod replay;
+mod turns;
+
+pub use laws::{orderly_turns, runs_agree, some_ready};
+pub use replay::replay_turns;
+
+#[cfg(test)]
+mod tests;

@@ -1,0 +1,149 @@
+//! Redoing a log.
+ghost use Rattle.std.specs.Prelude.{◌≡◌, ◌<◌, ◌≤◌, ℕ, List, true, false, Ok, Err, IfOk, OnOk};
+ghost use Rattle.tau_scan.specs.Reading.{IsLog};
+ghost use Rattle.tau_scan.specs.Taken.{Kept};
+ghost use Rattle.tau_replay.specs.Redone.{IsOrderOf, IsRedone, IsTangledAt};
+ghost use Rattle.tau_pool.specs.Pooled.{IsNotYet, flying_in};
+ghost use Rattle.tau_replay.specs.Going.{IsHeld, IsHeldBy};
+ghost use Rattle.tau_replay.specs.Way.{IsOnWay, IsOver, left_of};
+
+use crate::turns::{Replay, start, turn};
+use std::alloc::Global;
+use tau_base::NoMemory;
+use tau_model::{SerialStore, Tables};
+use tau_pool::{Job, Next, Pools};
+use tau_scan::{Log, ReplayRefusal};
+
+/// Sixteen workers with nothing in flight, before the first turn.
+fn begin(alloc: Global, log: &Log) -> Result<Replay, NoMemory>
+    requires { IsLog log.now }
+    ensures { IfOk result (λ replay. IsOnWay log.now replay) }
+{
+    let pools = Pools::new(alloc, log)?;
+    let mut hands = Vec::new(alloc);
+    for _ in 0..16u64 {
+        match hands.push(None) {
+            Ok(()) => {}
+            Err(_) => return Err(NoMemory),
+        }
+    }
+    Ok(Replay {
+        pools,
+        store: SerialStore::new(alloc),
+        hands,
+    })
+}
+
+/// A turn of each worker from a number on, in ascending order.
+fn round(log: &Log, replay: &mut Replay, from: usize) -> Result<(), NoMemory>
+    requires from { from ≤ 16 }
+    requires going { IsOnWay log.now replay.old }
+    ensures going { OnOk result (IsOnWay log.now replay.new) }
+    ensures less { OnOk result (left_of replay.new ≤ left_of replay.old) }
+    ensures some { from ≡ 0 → 1 ≤ flying_in replay.old.pools.items → OnOk result (left_of replay.new < left_of replay.old) }
+{
+    for worker in from..16 {
+        match turn(log, replay, worker) {
+            Ok(()) => {}
+            Err(_) => return Err(NoMemory),
+        }
+    }
+    Ok(())
+}
+
+/// A round of all workers, where something is in flight or may be started. Whether all is done instead.
+fn next_round(log: &Log, replay: &mut Replay) -> Result<bool, ReplayRefusal>
+    requires log { IsLog log.now }
+    requires going { IsOnWay log.now replay.old }
+    ensures going { OnOk result (IsOnWay log.now replay.new) }
+    ensures over { result ≡ Ok true → IsOver log.now replay.new }
+    ensures less { result ≡ Ok false → left_of replay.new < left_of replay.old }
+    ensures tangled { (j at : ℕ) → result ≡ Err (ReplayRefusal.Tangled j at) → IsTangledAt log.now j at × ((order : List Kept) → IsOrderOf log.now order → ⊥) }
+{
+    if replay.pools.in_flight() > 0 {
+        return match round(log, replay, 0) {
+            Ok(()) => Ok(false),
+            Err(_) => Err(ReplayRefusal::NoMemory),
+        };
+    }
+    match start(log, replay, 0) {
+        Next::Done => Ok(true),
+        Next::NotYet => Err(tangled(log, replay)),
+        Next::Taken(_) => match round(log, replay, 1) {
+            Ok(()) => Ok(false),
+            Err(_) => Err(ReplayRefusal::NoMemory),
+        },
+    }
+}
+
+/// The refusal of a log of which nothing is in flight and nothing is ready.
+fn tangled(log: &Log, replay: &Replay) -> ReplayRefusal
+    requires log { IsLog log.now }
+    requires going { IsOnWay log.now replay.now }
+    requires idle { flying_in replay.now.pools.items ≡ 0 }
+    requires stuck { IsNotYet replay.now.pools }
+    ensures { (j at : ℕ) → result ≡ ReplayRefusal.Tangled j at → IsTangledAt log.now j at × ((order : List Kept) → IsOrderOf log.now order → ⊥) }
+{
+    match replay.pools.first_left() {
+        None => ReplayRefusal::NoMemory,
+        Some(job) => ReplayRefusal::Tangled {
+            stream: job.stream,
+            at: start_of(log, job),
+        },
+    }
+}
+
+/// Where the record of a job starts.
+fn start_of(log: &Log, job: Job) -> u64
+    requires { IsHeldBy log.now job }
+    ensures { (r : Kept) → IsHeld log.now job r → result ≡ r.place.start }
+{
+    let records = &log.streams.as_slice()[usize::from(job.stream)];
+    records.as_slice()[job.index].start
+}
+
+/// Rounds of all workers, until all is done.
+fn run_out(log: &Log, replay: &mut Replay) -> Result<(), ReplayRefusal>
+    requires log { IsLog log.now }
+    requires going { IsOnWay log.now replay.old }
+    ensures done { OnOk result (IsOver log.now replay.new) }
+    ensures tangled { (j at : ℕ) → result ≡ Err (ReplayRefusal.Tangled j at) → IsTangledAt log.now j at × ((order : List Kept) → IsOrderOf log.now order → ⊥) }
+{
+    'rounds: loop {
+        match next_round(log, replay) {
+            Ok(true) => return Ok(()),
+            Ok(false) => {}
+            Err(refusal) => return Err(refusal),
+        }
+    }
+}
+
+/// Redoes the taken records of a log, by these turns and then in rounds of 16 workers. A turn of a worker finishes the
+/// record that it has in flight, or starts one that is ready; a turn of 16 or more changes nothing.
+pub fn replay_turns(alloc: Global, log: &Log, turns: &[u8]) -> Result<Tables, ReplayRefusal>
+    requires { IsLog log.now }
+    // The tables are those of redoing the taken records in an orderly order.
+    ensures ok { IfOk result (λ tables. IsRedone log.now tables) }
+    // No orderly order exists: this is the first record, by stream and place, of those that can't be started.
+    ensures tangled { (j at : ℕ) → result ≡ Err (ReplayRefusal.Tangled j at) → IsTangledAt log.now j at × ((order : List Kept) → IsOrderOf log.now order → ⊥) }
+{
+    let Ok(mut replay) = begin(alloc, log) else {
+        return Err(ReplayRefusal::NoMemory);
+    };
+    for worker in turns {
+        if *worker < 16 {
+            match turn(log, &mut replay, usize::from(*worker)) {
+                Ok(()) => {}
+                Err(_) => return Err(ReplayRefusal::NoMemory),
+            }
+        }
+    }
+    match run_out(log, &mut replay) {
+        Ok(()) => {}
+        Err(refusal) => return Err(refusal),
+    }
+    match replay.store.tables(alloc) {
+        Ok(tables) => Ok(tables),
+        Err(_) => Err(ReplayRefusal::NoMemory),
+    }
+}

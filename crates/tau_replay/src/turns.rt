@@ -1,0 +1,77 @@
+//! The turns of workers.
+ghost use Rattle.std.specs.Prelude.{◌≡◌, ◌<◌, ◌≤◌, ◌⊎◌, ℕ, length, slice_get, slice_set, Some, None, OnOk};
+ghost use Rattle.tau_pool.specs.declared.item.Job.{Job};
+ghost use Rattle.tau_pool.specs.Pooled.{IsNotYet, IsDone, flying_in};
+ghost use Rattle.tau_replay.specs.Way.{IsOnWay, left_of};
+
+use crate::redo::redo;
+use tau_base::NoMemory;
+use tau_model::SerialStore;
+use tau_pool::{Job, Next, Pools};
+use tau_scan::Log;
+
+/// Sixteen workers on their way through a log.
+#[derive(Drop)]
+pub struct Replay {
+    /// What is started and finished.
+    pub pools: Pools,
+    /// What the finished records did.
+    pub store: SerialStore,
+    /// What each worker has in flight.
+    pub hands: Vec<Option<Job>>,
+}
+
+/// Gives an idle worker a record that is ready.
+pub fn start(log: &Log, replay: &mut Replay, worker: usize) -> Next
+    requires going { IsOnWay log.now replay.old }
+    requires idle { slice_get replay.old.hands.items worker ≡ Some None }
+    ensures going { IsOnWay log.now replay.new }
+    ensures taken { (job : Job) → result ≡ Next.Taken job → left_of replay.new < left_of replay.old }
+    ensures not_yet { result ≡ Next.NotYet → (replay.new.hands.items ≡ replay.old.hands.items) × (replay.new.pools ≡ replay.old.pools) × IsNotYet replay.old.pools }
+    ensures done { result ≡ Next.Done → (replay.new.hands.items ≡ replay.old.hands.items) × (replay.new.pools ≡ replay.old.pools) × IsDone replay.old.pools }
+{
+    let _ = log;
+    let next = replay.pools.take();
+    match next {
+        Next::Taken(job) => {
+            replay.hands[worker] = Some(job);
+            next
+        }
+        Next::NotYet => next,
+        Next::Done => next,
+    }
+}
+
+/// Finishes what a worker has in flight.
+fn finish(log: &Log, replay: &mut Replay, worker: usize, job: Job) -> Result<(), NoMemory>
+    requires going { IsOnWay log.now replay.old }
+    requires busy { slice_get replay.old.hands.items worker ≡ Some (Some job) }
+    ensures going { OnOk result (IsOnWay log.now replay.new) }
+    ensures less { OnOk result (left_of replay.new < left_of replay.old) }
+{
+    match redo(log, &mut replay.store, job) {
+        Ok(()) => {}
+        Err(_) => return Err(NoMemory),
+    }
+    replay.pools.finish(job);
+    replay.hands[worker] = None;
+    Ok(())
+}
+
+/// A turn of a worker: it finishes what it has in flight, or starts what is ready.
+pub fn turn(log: &Log, replay: &mut Replay, worker: usize) -> Result<(), NoMemory>
+    requires worker { worker < 16 }
+    requires going { IsOnWay log.now replay.old }
+    ensures going { OnOk result (IsOnWay log.now replay.new) }
+    ensures less { OnOk result (left_of replay.new ≤ left_of replay.old) }
+    ensures busy { (job : Job) → slice_get replay.old.hands.items worker ≡ Some (Some job) → OnOk result (left_of replay.new < left_of replay.old) }
+    ensures idle { OnOk result ((left_of replay.new < left_of replay.old) ⊎ (replay.new.hands.items ≡ replay.old.hands.items)) }
+{
+    match replay.hands[worker] {
+        Some(job) => finish(log, replay, worker, job),
+        None => {
+            let _ = start(log, replay, worker);
+            Ok(())
+        }
+    }
+}
