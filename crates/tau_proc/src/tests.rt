@@ -214,7 +214,13 @@ fn arithmetic_refuses_outside_i64(rt: HostRuntime) -> Result<(), Fail> {
         (max(int(2), int(-3)), Some(2)),
         (max(int(low), int(high)), Some(high)),
         (add(text("1")?, int(1)), None),
+        (add(int(1), Operand::Absent), None),
+        (sub(Operand::Absent, int(1)), None),
+        (sub(int(1), text("1")?), None),
+        (mul(text("2")?, int(2)), None),
+        (mul(int(0), Operand::Absent), None),
         (min(int(1), Operand::Absent), None),
+        (max(text("a")?, text("b")?), None),
     ];
     for (step, want) in &rows {
         let reply = match want {
@@ -238,6 +244,10 @@ fn joined_texts_have_at_most_64_bytes(rt: HostRuntime) -> Result<(), Fail> {
     assert_eq!(rt; past, Reply::Refused(1));
     let number = outcome(&rt, alloc, &cat(text("a")?, int(1)))?;
     assert_eq!(rt; number, Reply::Refused(1));
+    let absent = outcome(&rt, alloc, &cat(Operand::Absent, text("a")?))?;
+    assert_eq!(rt; absent, Reply::Refused(1));
+    let empty = outcome(&rt, alloc, &cat(text("")?, text("")?))?;
+    assert_eq!(rt; empty, Reply::Ok(Value::Text(Text64::of("").ok_or("long")?)));
     assert_eq!(rt;
         Text64::of("0123456789abcdef0123456789abcdef0123456789abcdef0123456789abcdefg"),
         None
@@ -265,6 +275,10 @@ fn comparisons_hold_or_refuse(rt: HostRuntime) -> Result<(), Fail> {
             need(Operand::Absent, Compare::AtMost, Operand::Absent),
             false,
         ),
+        (need(text("a")?, Compare::AtMost, text("a")?), false),
+        (need(text("b")?, Compare::Greater, text("a")?), false),
+        (need(text("a")?, Compare::AtLeast, text("a")?), false),
+        (need(int(1), Compare::AtLeast, Operand::Absent), false),
         (need(int(3), Compare::Greater, int(2)), true),
         (need(int(2), Compare::Greater, int(2)), false),
         (need(int(2), Compare::AtLeast, int(2)), true),

@@ -145,6 +145,7 @@ fn steps_and_texts_up_to_their_limits(rt: HostRuntime) -> Result<(), Fail> {
 #[test]
 fn calls_up_to_their_limit(rt: HostRuntime) -> Result<(), Fail> {
     let rows = [
+        ("table a\n", "get a 1\n", 200_000, "turns", 0, 0),
         ("table a\n", "get a 1\n", 200_001, "turns", 200_002, 7),
         ("table a\n", "get a 1\n", 200_000, "get a x", 200_002, 5),
     ];
@@ -155,6 +156,7 @@ fn calls_up_to_their_limit(rt: HostRuntime) -> Result<(), Fail> {
 #[test]
 fn turns_up_to_their_limit(rt: HostRuntime) -> Result<(), Fail> {
     let rows = [
+        ("turns", " c", 1_000_000, "\n", 0, 0),
         ("turns", " c", 1_000_001, "\n", 1, 7),
         ("turns", " c", 1_000_000, "\nturns\nturns d", 3, 7),
     ];
