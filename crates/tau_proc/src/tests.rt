@@ -247,7 +247,10 @@ fn joined_texts_have_at_most_64_bytes(rt: HostRuntime) -> Result<(), Fail> {
     let absent = outcome(&rt, alloc, &cat(Operand::Absent, text("a")?))?;
     assert_eq!(rt; absent, Reply::Refused(1));
     let empty = outcome(&rt, alloc, &cat(text("")?, text("")?))?;
-    assert_eq!(rt; empty, Reply::Ok(Value::Text(Text64::of("").ok_or("long")?)));
+    assert_eq!(rt;
+        empty,
+        Reply::Ok(Value::Text(Text64::of("").ok_or("long")?))
+    );
     assert_eq!(rt;
         Text64::of("0123456789abcdef0123456789abcdef0123456789abcdef0123456789abcdefg"),
         None
