@@ -133,7 +133,7 @@ impl<D: Disk> Writer<D> {
         disk
     }
 
-    /// Adds whole records that continue the stream, at most 2^60 bytes in all.
+    /// Adds whole records that continue the stream, at most 2^60 bytes in all. A block that was prepared stays.
     pub fn add(&mut self, body: &[u8]) -> Result<(), NoMemory>
         requires { added_of self.old + length body.now ≤ 2 ^ 60 }
         ensures left { OnOk result (left_of self.new ≡ left_of self.old ++ body.now) }
@@ -142,6 +142,7 @@ impl<D: Disk> Writer<D> {
         ensures durable { durable_of self.new ≡ durable_of self.old }
         ensures works { has_failed self.new ≡ has_failed self.old }
         ensures ready { (n j : ℕ) (content : List ℕ) → IsReady n j self.old content → IsReady n j self.new content }
+        ensures prepared { (k : ℕ) → IsPrepared self.old k → IsPrepared self.new k }
         ensures err { OnErr result (left_of self.new ≡ left_of self.old) }
         ensures err_added { OnErr result (added_of self.new ≡ added_of self.old) }
     {

@@ -195,9 +195,18 @@ fn tables_and_procedures_up_to_their_limits(rt: HostRuntime) -> Result<(), Fail>
     Ok(())
 }
 
+// the same for a text that is to be the canonical text of declarations
+fn outcome_of_declarations(alloc: Global, text: &[u8]) -> (u32, u8) {
+    match parse_declarations(alloc, text) {
+        Ok(_) => (0, 0),
+        Err(TextRefusal::NoMemory) => (0, 10),
+        Err(TextRefusal::Bad(fault)) => (fault.line, fault.cause.number()),
+    }
+}
+
 // Procedures p0 to p6, with 64 steps each. A step that replies a text of n bytes takes n + 9, the lines about it 14:
 // six procedures of 4,686 bytes, and one of 4,613 and its last step.
-fn large_declarations(alloc: Global, last: usize) -> Result<Vec<u8>, AllocError> {
+fn large_declarations(alloc: Global, last: usize, end: &str) -> Result<Vec<u8>, AllocError> {
     let full = repeated(alloc, "reply \"", "x", 64, "\"\n")?;
     let mut text = Vec::new(alloc);
     for i in 0..7 {
@@ -213,16 +222,33 @@ fn large_declarations(alloc: Global, last: usize) -> Result<Vec<u8>, AllocError>
             "\"\n",
         )?;
         text.extend_from_slice(step.as_slice())?;
-        text.extend_from_slice(b"\n  end  \n".as_slice())?;
+        text.extend_from_slice(end.as_bytes())?;
     }
     Ok(text)
 }
 
 #[test]
 fn canonical_declarations_of_32768_bytes(rt: HostRuntime) -> Result<(), Fail> {
-    let most = large_declarations(rt.alloc(), 30)?;
+    let most = large_declarations(rt.alloc(), 30, "\n  end  \n")?;
     assert_eq!(rt; outcome(rt.alloc(), most.as_slice()), (0, 0));
-    let more = large_declarations(rt.alloc(), 31)?;
+    let more = large_declarations(rt.alloc(), 31, "\n  end  \n")?;
     assert_eq!(rt; outcome(rt.alloc(), more.as_slice()), (469, 7));
+    Ok(())
+}
+
+#[test]
+fn declarations_alone_of_32768_bytes(rt: HostRuntime) -> Result<(), Fail> {
+    let most = large_declarations(rt.alloc(), 30, "end\n")?;
+    assert_eq!(rt; most.len(), 32_768);
+    assert_eq!(rt;
+        outcome_of_declarations(rt.alloc(), most.as_slice()),
+        (0, 0)
+    );
+    let more = large_declarations(rt.alloc(), 31, "end\n")?;
+    assert_eq!(rt; more.len(), 32_769);
+    assert_eq!(rt;
+        outcome_of_declarations(rt.alloc(), more.as_slice()),
+        (462, 7)
+    );
     Ok(())
 }

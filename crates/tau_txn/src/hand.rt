@@ -81,6 +81,7 @@ impl Hand {
         ensures begun { (w : ℕ) → hand_of procs.now w result ≡ fresh n (record { number = number; call = call.now }) 0 }
         ensures standing { result.standing ≡ Standing.Running }
         ensures stays { result.leaves ≡ false }
+        ensures bytes { result.bytes ≡ [] }
         ensures runs { IsRunBy procs.now result }
         ensures keeps { KeepsHand n result }
     {
@@ -291,6 +292,7 @@ impl Hand {
         ensures standing { self.new.standing ≡ Standing.Running }
         ensures keeps { (width : ℕ) → length dep ≡ width → KeepsHand width self.old → KeepsHand width self.new }
         ensures leaves { self.new.leaves ≡ self.old.leaves }
+        ensures bytes { self.new.bytes ≡ self.old.bytes }
     {
         match self.machine.next() {
             Want::Read(key) => self.read(key, value, dep),
@@ -338,6 +340,7 @@ impl Hand {
         ensures runs { IsRunBy procs.now self.new }
         ensures keeps { (width : ℕ) → Shaped width self.old → keeps_in width (kept result self.new) }
         ensures leaves { self.new.leaves ≡ self.old.leaves }
+        ensures bytes { self.new.bytes ≡ self.old.bytes }
     {
         self.refused();
         self.settle(procs)
@@ -367,6 +370,7 @@ impl Hand {
         ensures runs { IsRunBy procs.now self.new }
         ensures keeps { (width : ℕ) → KeepsHand width self.old → keeps_in width (kept result self.new) }
         ensures leaves { self.new.leaves ≡ self.old.leaves }
+        ensures bytes { self.new.bytes ≡ self.old.bytes }
     {
         match self.standing {
             Standing::Running => {
@@ -393,6 +397,7 @@ impl Hand {
         ensures runs { IsRunBy procs.now self.new }
         ensures keeps { (width : ℕ) → Shaped width self.old → keeps_in width (kept result self.new) }
         ensures leaves { self.new.leaves ≡ self.old.leaves }
+        ensures bytes { self.new.bytes ≡ self.old.bytes }
     {
         self.quit();
         self.settle(procs)
@@ -544,6 +549,7 @@ impl Hand {
         ensures runs { IsRunBy procs.now self.new }
         ensures keeps { (width : ℕ) → Shaped width self.old → keeps_in width (kept result self.new) }
         ensures leaves { self.new.leaves ≡ self.old.leaves }
+        ensures bytes { self.new.bytes ≡ self.old.bytes }
     {
         if !self.held.is_empty() {
             return true;

@@ -75,6 +75,7 @@ impl Txn {
         ensures begun { hand_in procs.now self.new ≡ Some (fresh self.old.width (record { number = number; call = call.now }) 0) }
         ensures runs { RunsBy procs.now self.new }
         ensures stays { leaves_in self.new ≡ false }
+        ensures bytes { bytes_in self.new ≡ [] }
         ensures same { self.new ≡ record self.old { hand = self.new.hand } }
     {
         self.hand = Some(Hand::begin(self.alloc, procs, number, call, self.n));
@@ -102,6 +103,7 @@ impl Txn {
             hand_in procs self.new ≡ Some (locked_with hand x m value dep) }
         ensures runs { (procs : List Proc) → RunsBy procs self.old → RunsBy procs self.new }
         ensures stays { leaves_in self.old ≡ false → leaves_in self.new ≡ false }
+        ensures bytes { bytes_in self.old ≡ [] → bytes_in self.new ≡ [] }
         ensures same { self.new ≡ record self.old { hand = self.new.hand } }
     {
         let Some(hand) = &mut self.hand else {
@@ -117,6 +119,7 @@ impl Txn {
         ensures busy { (wk : Worker) (hand : theory.Hand) → hand_in procs.now self.old ≡ Some hand → worker_of procs.now wk self.new ≡ settled self.old.width wk (hand_busy hand) }
         ensures runs { RunsBy procs.now self.new }
         ensures stays { leaves_in self.old ≡ false → leaves_in self.new ≡ false }
+        ensures bytes { bytes_in self.old ≡ [] → bytes_in self.new ≡ [] }
         ensures same { self.new ≡ record self.old { hand = self.new.hand } }
     {
         let Some(hand) = &mut self.hand else {
@@ -199,6 +202,7 @@ impl Txn {
         ensures nothing { next_action self.old ≡ Action.Nothing → self.new ≡ self.old }
         ensures runs { RunsBy procs.now self.new }
         ensures stays { leaves_in self.old ≡ false → leaves_in self.new ≡ false }
+        ensures bytes { bytes_in self.old ≡ [] → bytes_in self.new ≡ [] }
         ensures same { self.new ≡ record self.old { hand = self.new.hand } }
     {
         let Some(hand) = &mut self.hand else {
