@@ -96,6 +96,17 @@ impl Outbox {
         Ok(move_run(&mut self.pieces, next, body))
     }
 
+    /// As `gather_into`, where the body has room for all that is moved. It takes no memory.
+    pub fn gather_reserved(&mut self, next: u64, body: &mut Vec<u8>) -> u64
+        requires room { vec_len body.old + length (bytes_of (run next (vec_len body.old) self.old.pieces)) ≤ vec_capacity body.old }
+        ensures gathers { Gathers next self.old.pieces self.new.pieces body.old.items body.new.items result }
+        ensures kept { vec_capacity body.old ≤ vec_capacity body.new }
+        ensures room { self.old.room ≤ self.new.room }
+        ensures closed { self.new.closed ≡ self.old.closed }
+    {
+        move_run(&mut self.pieces, next, body)
+    }
+
     /// Says that no piece comes any more.
     pub fn close(&mut self)
         ensures closed { self.new.closed ≡ true }
@@ -141,6 +152,7 @@ fn move_run(pieces: &mut VecDeque<Piece>, next: u64, body: &mut Vec<u8>) -> u64
     ensures body { body.new.items ≡ body.old.items ++ bytes_of (run next (vec_len body.old) pieces.old.items) }
     ensures past { result ≡ next + length (bytes_of (run next (vec_len body.old) pieces.old.items)) }
     ensures room { deque_capacity pieces.old + deque_len pieces.new ≤ deque_capacity pieces.new + deque_len pieces.old }
+    ensures kept { vec_capacity body.old ≤ vec_capacity body.new }
 {
     let mut to = next;
     while let Some(piece) = take_next(pieces, to, body.len()) {

@@ -20,3 +20,15 @@ fn gathers_up_to_a_hole(rt: HostRuntime) {
     outbox.close();
     assert!(rt; outbox.closed());
 }
+
+// The piece that waits at 13 moves into room that was made before.
+#[test]
+fn gathers_into_room_that_was_made(rt: HostRuntime) {
+    let mut outbox = Outbox::new(rt.alloc());
+    let mut body = Vec::with_capacity(rt.alloc(), 2).expect(&rt, "memory");
+    assert_eq!(rt; outbox.reserve(), Ok(()));
+    outbox.post(13, vec![in rt.alloc(); 1, 2].expect(&rt, "memory"));
+    assert_eq!(rt; outbox.gather_reserved(13, &mut body), 15);
+    assert_eq!(rt; body.as_slice(), [1, 2].as_slice());
+    assert_eq!(rt; outbox.gather_reserved(15, &mut body), 15);
+}

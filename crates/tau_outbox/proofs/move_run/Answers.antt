@@ -13,5 +13,6 @@ loop-piece-preserved c =
       past = grind (arith, common_steps);
       room = grind (arith, common_steps);
       order = subst (InOrder 0) (sym c.take_next.ensures.others) (order-others c.loop-piece.to c.len.result 0 c.loop-piece.pieces.items c.loop-piece.invariant.order);
+      kept = grind (arith, common_steps);
       spare = grind (arith, common_steps);
     }

@@ -12,6 +12,7 @@ invariant-loop-piece l = record {
   past : l.to + length (bytes_of (run l.to (vec_len l.body) l.pieces.items)) ≡ l.fn.next + length (bytes_of (run l.fn.next (vec_len l.fn.body) l.fn.pieces.items));
   room : vec_len l.body + length (bytes_of (run l.to (vec_len l.body) l.pieces.items)) ≤ vec_capacity l.body;
   order : InOrder 0 l.pieces.items;
+  kept : vec_capacity l.fn.body ≤ vec_capacity l.body;
   spare : deque_capacity l.fn.pieces + deque_len l.pieces ≤ deque_capacity l.pieces + deque_len l.fn.pieces;
 }
 
