@@ -1,3 +1,4 @@
 pub mod Disks
 pub mod Streams
 pub mod Bad
+pub mod Listed

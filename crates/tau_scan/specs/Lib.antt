@@ -2,3 +2,4 @@ pub mod Reading
 pub mod Taken
 pub mod Outside
 pub mod Found
+pub mod Laws

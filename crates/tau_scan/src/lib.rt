@@ -4,12 +4,14 @@
 mod catalogue;
 mod content;
 mod fault;
+mod laws;
 mod log;
 mod read;
 mod reading;
 mod records;
 
 pub use fault::{LogCause, LogFault, ReplayRefusal, ScanRefusal};
+pub use laws::taken_are_listed;
 pub use log::Log;
 pub use reading::scan;
 

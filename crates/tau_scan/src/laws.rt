@@ -1,0 +1,7 @@
+//! What holds of every log, as functions that do nothing.
+ghost use Rattle.tau_scan.specs.Laws.{TakenAreListed};
+
+/// The list of a log's taken records holds just those of the places that `Log::taken` tells.
+pub fn taken_are_listed()
+    ensures { TakenAreListed }
+{}
