@@ -226,6 +226,7 @@ tangled_at log p db order job r l g none idle f held = record {
   rest = left_in (taken log) p.items;
   parts = g.each_once;
   orderly = g.orderly;
+  free = λ y m w. let (z, n, low) = w in let high = g.ahead y m z n in omega (arith, low, high);
   stuck = waits_for_one log p db order g none idle;
   first = r;
   among = left_put (taken log) p.items job.place f.item r f.there held f.left;

@@ -13,7 +13,7 @@ use Rattle.tau_model.specs.Replay.{Replaying, Turn, Turns, IsReady}
 use Rattle.tau_model.specs.Tables.{IsTablesOf}
 use Rattle.tau_scan.specs.declared.log.Log.{Log}
 use Rattle.tau_scan.specs.Taken.{Kept, taken}
-use Rattle.tau_replay.specs.Redone.{IsOrderOf, IsRedone}
+use Rattle.tau_replay.specs.Redone.{IsOrderOf, IsRedone, IsTangledAt}
 
 abbrev pub place_of : Kept → Place
 place_of r = r.place
@@ -43,3 +43,11 @@ RunsAgree = (procs : List Proc) (h : List Numbered) (place : Numbered → Place)
     (cut : List ℕ) (chosen : Numbered → Bool) → IsCutAt place cut (trace (means procs) h empty_db) chosen → (mode : Act Numbered → LogMode) (log : Log) → log.declarations.procs ≡ procs →
     Reordered (map (kept_of place mode) (filter (λ x. chosen x.call) (trace (means procs) h empty_db))) (taken log) →
     ((order : List Kept) × IsOrderOf log order) × ((rows : List (Key × Value)) → IsRedone log rows → IsTablesOf (exec (means procs) (filter chosen h) empty_db) rows)
+
+-- where recovery gets stuck is told in one way
+abbrev pub TangledAlike : Type 0
+TangledAlike = (log : Log) (j at k other : ℕ) → IsTangledAt log j at → IsTangledAt log k other → (j ≡ k) × (at ≡ other)
+
+-- and then no orderly order exists
+abbrev pub TangledHasNoOrder : Type 0
+TangledHasNoOrder = (log : Log) (j at : ℕ) (order : List Kept) → IsTangledAt log j at → IsOrderOf log order → ⊥

@@ -2,3 +2,4 @@ pub mod Redone
 pub mod Going
 pub mod Way
 pub mod Laws
+pub mod Followed

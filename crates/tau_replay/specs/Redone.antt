@@ -25,13 +25,14 @@ pub record IsRedone (log : Log) (rows : List (Key × Value)) : Type 0 where
 abbrev pub WaitsFor : Kept → List Kept → Type 0
 WaitsFor r rest = (q : Kept) × Member q rest × (q.place.start < slice_index r.place.dep q.place.stream)
 
--- Recovery gets stuck: what is done stands in an orderly order, each record that is left waits for one that is left,
--- and the first of these, by stream and place, is this one.
+-- Recovery gets stuck: what is done stands in an orderly order and waits for nothing that is left, each record that is
+-- left waits for one that is left, and the first of these, by stream and place, is this one.
 pub record IsTangledAt (log : Log) (j at : ℕ) : Type 0 where
   pub done : List Kept
   pub rest : List Kept
   pub parts : Reordered (taken log) (done ++ rest)
   pub orderly : Orderly (map (λ (r : Kept). r.place) done)
+  pub free : (r : Kept) → Member r done → WaitsFor r rest → ⊥
   pub stuck : (r : Kept) → Member r rest → WaitsFor r rest
   pub first : Kept
   pub among : Member first rest

@@ -1,5 +1,5 @@
 //! What holds of every recovery, as functions that do nothing.
-ghost use Rattle.tau_replay.specs.Laws.{OrderlyTurns, SomeReady, RunsAgree};
+ghost use Rattle.tau_replay.specs.Laws.{OrderlyTurns, SomeReady, RunsAgree, TangledAlike, TangledHasNoOrder};
 
 /// Whatever the turns, records that are all finished were finished in an orderly order.
 pub fn orderly_turns()
@@ -14,4 +14,14 @@ pub fn some_ready()
 /// Over the records that a cut of a history holds, every recovery gives the tables of executing just their calls.
 pub fn runs_agree()
     ensures { RunsAgree }
+{}
+
+/// Where recovery gets stuck in a log is told in one way.
+pub fn tangled_alike()
+    ensures { TangledAlike }
+{}
+
+/// Where it gets stuck, no orderly order of the taken records exists.
+pub fn tangled_has_no_order()
+    ensures { TangledHasNoOrder }
 {}

@@ -6,7 +6,7 @@ mod redo;
 mod replay;
 mod turns;
 
-pub use laws::{orderly_turns, runs_agree, some_ready};
+pub use laws::{orderly_turns, runs_agree, some_ready, tangled_alike, tangled_has_no_order};
 pub use replay::replay_turns;
 
 #[cfg(test)]

@@ -1,13 +1,14 @@
 //! Redoing a log.
-ghost use Rattle.std.specs.Prelude.{◌≡◌, ◌<◌, ◌≤◌, ℕ, List, true, false, Ok, Err, IfOk, OnOk};
+ghost use Rattle.std.specs.Prelude.{◌≡◌, ◌<◌, ◌≤◌, ◌++◌, [], ℕ, List, true, false, Ok, Err, IfOk, OnOk};
 ghost use Rattle.tau_scan.specs.Reading.{IsLog};
 ghost use Rattle.tau_scan.specs.Taken.{Kept};
 ghost use Rattle.tau_replay.specs.Redone.{IsOrderOf, IsRedone, IsTangledAt};
 ghost use Rattle.tau_pool.specs.Pooled.{IsNotYet, flying_in};
 ghost use Rattle.tau_replay.specs.Going.{IsHeld, IsHeldBy};
+ghost use Rattle.tau_replay.specs.Followed.{Followed, IsRedoneBy, rounds, workers_from};
 ghost use Rattle.tau_replay.specs.Way.{IsOnWay, IsOver, left_of};
 
-use crate::turns::{Replay, start, turn};
+use crate::turns::{Replay, start, turn, turn_of};
 use std::alloc::Global;
 use tau_base::NoMemory;
 use tau_model::{SerialStore, Tables};
@@ -17,7 +18,8 @@ use tau_scan::{Log, ReplayRefusal};
 /// Sixteen workers with nothing in flight, before the first turn.
 fn begin(alloc: Global, log: &Log) -> Result<Replay, NoMemory>
     requires { IsLog log.now }
-    ensures { IfOk result (λ replay. IsOnWay log.now replay) }
+    ensures going { IfOk result (λ replay. IsOnWay log.now replay) }
+    ensures followed { IfOk result (λ replay. Followed log.now [] replay) }
 {
     let pools = Pools::new(alloc, log)?;
     let mut hands = Vec::new(alloc);
@@ -41,6 +43,7 @@ fn round(log: &Log, replay: &mut Replay, from: usize) -> Result<(), NoMemory>
     ensures going { OnOk result (IsOnWay log.now replay.new) }
     ensures less { OnOk result (left_of replay.new ≤ left_of replay.old) }
     ensures some { from ≡ 0 → 1 ≤ flying_in replay.old.pools.items → OnOk result (left_of replay.new < left_of replay.old) }
+    ensures followed { (turns : List ℕ) → Followed log.now turns replay.old → OnOk result (Followed log.now (turns ++ workers_from from) replay.new) }
 {
     for worker in from..16 {
         match turn(log, replay, worker) {
@@ -58,6 +61,8 @@ fn next_round(log: &Log, replay: &mut Replay) -> Result<bool, ReplayRefusal>
     ensures going { OnOk result (IsOnWay log.now replay.new) }
     ensures over { result ≡ Ok true → IsOver log.now replay.new }
     ensures less { result ≡ Ok false → left_of replay.new < left_of replay.old }
+    ensures followed { (turns : List ℕ) → Followed log.now turns replay.old → result ≡ Ok false → Followed log.now (turns ++ workers_from 0) replay.new }
+    ensures ended { (turns : List ℕ) → Followed log.now turns replay.old → result ≡ Ok true → Followed log.now turns replay.new }
     ensures tangled { (j at : ℕ) → result ≡ Err (ReplayRefusal.Tangled j at) → IsTangledAt log.now j at × ((order : List Kept) → IsOrderOf log.now order → ⊥) }
 {
     if replay.pools.in_flight() > 0 {
@@ -107,6 +112,7 @@ fn run_out(log: &Log, replay: &mut Replay) -> Result<(), ReplayRefusal>
     requires log { IsLog log.now }
     requires going { IsOnWay log.now replay.old }
     ensures done { OnOk result (IsOver log.now replay.new) }
+    ensures followed { (turns : List ℕ) → Followed log.now turns replay.old → OnOk result ((more : ℕ) × Followed log.now (turns ++ rounds more) replay.new) }
     ensures tangled { (j at : ℕ) → result ≡ Err (ReplayRefusal.Tangled j at) → IsTangledAt log.now j at × ((order : List Kept) → IsOrderOf log.now order → ⊥) }
 {
     'rounds: loop {
@@ -124,6 +130,8 @@ pub fn replay_turns(alloc: Global, log: &Log, turns: &[u8]) -> Result<Tables, Re
     requires { IsLog log.now }
     // The tables are those of redoing the taken records in an orderly order.
     ensures ok { IfOk result (λ tables. IsRedone log.now tables) }
+    // They are what the turns named give, and rounds of all workers after them.
+    ensures followed { IfOk result (λ tables. IsRedoneBy log.now turns.now tables) }
     // No orderly order exists: this is the first record, by stream and place, of those that can't be started.
     ensures tangled { (j at : ℕ) → result ≡ Err (ReplayRefusal.Tangled j at) → IsTangledAt log.now j at × ((order : List Kept) → IsOrderOf log.now order → ⊥) }
 {
@@ -131,11 +139,9 @@ pub fn replay_turns(alloc: Global, log: &Log, turns: &[u8]) -> Result<Tables, Re
         return Err(ReplayRefusal::NoMemory);
     };
     for worker in turns {
-        if *worker < 16 {
-            match turn(log, &mut replay, usize::from(*worker)) {
-                Ok(()) => {}
-                Err(_) => return Err(ReplayRefusal::NoMemory),
-            }
+        match turn_of(log, &mut replay, *worker) {
+            Ok(()) => {}
+            Err(_) => return Err(ReplayRefusal::NoMemory),
         }
     }
     match run_out(log, &mut replay) {

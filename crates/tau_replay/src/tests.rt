@@ -76,6 +76,22 @@ const COMMAND: [u8; 89] = [
     0, 0, 5, 0,
 ];
 
+// Stream 0 of two: `put a 1 5` at 13, and `put a 1 9` with vector (53,61) at 53.
+static CHAIN: &[u8] =
+    b"TAURUS-LOG-1\x00\x02\x00\x00\x01\x00\x00\x00\x0d\x04\x00\x00\x00\x0dtable a\x0a\x01\x00\x00\x00`\x01\x00\x00\x00(\x00\x00\x00\x00\x00\x00\x00\x01\x00\x00\x00\x00\x00\x00\x00\x01\x00\x00\x00\x00\x00\x00\x00\x00\x00\x01\x01\x00\x00\x00\x00\x00\x00\x00\x05\x01\x00\x00\x008\x00\x00\x00\x00\x00\x00\x00\x03\x00\x00\x00\x00\x00\x03\x00\x00\x00\x00\x00\x00\x005\x00\x00\x00\x00\x00\x00\x00=\x00\x01\x00\x00\x00\x00\x00\x00\x00\x00\x00\x01\x01\x00\x00\x00\x00\x00\x00\x00\x09\x00";
+
+// Stream 1 of two: `put a 1 7` with vector (53,0) at 13.
+static CHAIN_TOO: &[u8] =
+    b"TAURUS-LOG-1\x00\x02\x00\x01\x01\x00\x00\x00\x0d\x04\x00\x00\x00\x0dtable a\x0a\x01\x00\x00\x000\x01\x00\x00\x000\x00\x00\x00\x00\x00\x00\x00\x02\x00\x00\x00\x00\x00\x01\x00\x00\x00\x00\x00\x00\x005\x00\x01\x00\x00\x00\x00\x00\x00\x00\x00\x00\x01\x01\x00\x00\x00\x00\x00\x00\x00\x07\x00";
+
+// Stream 0 of two: the call of a procedure wrote no value into row 2, at 50.
+static COPIED: &[u8] =
+    b"TAURUS-LOG-1\x00\x02\x00\x00\x01\x00\x00\x002\x04\x00\x00\x002table a\x0aproc dup 0\x0aget r0 a 1\x0aput a 2 r0\x0aend\x0a\x01\x00\x00\x00 \x01\x00\x00\x00 \x00\x00\x00\x00\x00\x00\x00\x01\x00\x00\x00\x00\x00\x00\x00\x01\x00\x00\x00\x00\x00\x00\x00\x00\x00\x02\x00\x00";
+
+// Stream 1 of two: `put a 1 9` with vector (82,0) at 50.
+static COPIED_TOO: &[u8] =
+    b"TAURUS-LOG-1\x00\x02\x00\x01\x01\x00\x00\x002\x04\x00\x00\x002table a\x0aproc dup 0\x0aget r0 a 1\x0aput a 2 r0\x0aend\x0a\x01\x00\x00\x000\x01\x00\x00\x000\x00\x00\x00\x00\x00\x00\x00\x02\x00\x00\x00\x00\x00\x01\x00\x00\x00\x00\x00\x00\x00R\x00\x01\x00\x00\x00\x00\x00\x00\x00\x00\x00\x01\x01\x00\x00\x00\x00\x00\x00\x00\x09\x00";
+
 // The log of these two images.
 fn log_of(alloc: Global, first: &[u8], second: &[u8]) -> Result<Log, Fail>
     ensures { IfOk result (λ log. IsLog log) }
@@ -183,5 +199,78 @@ fn calls_are_executed_again(rt: HostRuntime) -> Result<(), Fail> {
     };
     assert_eq!(rt; tables.rows().len(), 1);
     assert!(rt; is_row(&tables, 0, 1, 5));
+    Ok(())
+}
+
+// The six turns of a number, each of worker 0, 1 or 2 or of none.
+fn six_turns(number: u64) -> [u8; 6] {
+    let mut turns = [0u8; 6];
+    let mut rest = number;
+    for k in 0..6usize {
+        let digit = rest % 4;
+        turns[k] = if digit == 3 { 16 } else { digit as u8 };
+        rest /= 4;
+    }
+    turns
+}
+
+// Whether the table holds this number of row 1 alone, whatever six turns of three workers are named.
+fn all_turns_give(alloc: Global, log: &Log, number: i64) -> Result<bool, Fail>
+    requires { IsLog log.now }
+{
+    for code in 0..4096u64 {
+        let Ok(tables) = replay_turns(alloc, log, &six_turns(code)) else {
+            return Ok(false);
+        };
+        if tables.rows().len() != 1 || !is_row(&tables, 0, 1, number) {
+            return Ok(false);
+        }
+    }
+    Ok(true)
+}
+
+#[test]
+fn every_list_of_turns_gives_the_same(rt: HostRuntime) -> Result<(), Fail> {
+    let alloc = rt.alloc();
+    let log = log_of(alloc, CHAIN, CHAIN_TOO)?;
+    assert!(rt; all_turns_give(alloc, &log, 9)?);
+    Ok(())
+}
+
+// The next of many turns, of any byte.
+fn next_turn(state: &mut u64) -> u8 {
+    *state = state
+        .wrapping_mul(6_364_136_223_846_793_005)
+        .wrapping_add(1_442_695_040_888_963_407);
+    state.to_be_bytes()[0]
+}
+
+// Whether the table holds this number of row 1 alone by this many lists of up to twenty random turns.
+fn random_turns_give(alloc: Global, log: &Log, lists: u64, number: i64) -> Result<bool, Fail>
+    requires { IsLog log.now }
+{
+    let mut state = 1u64;
+    for _ in 0..lists {
+        let mut turns = [16u8; 20];
+        for turn in turns.iter_mut() {
+            *turn = next_turn(&mut state) / 8;
+        }
+        let Ok(tables) = replay_turns(alloc, log, &turns) else {
+            return Ok(false);
+        };
+        if tables.rows().len() != 1 || !is_row(&tables, 0, 1, number) {
+            return Ok(false);
+        }
+    }
+    Ok(true)
+}
+
+#[test]
+fn random_turns_give_the_same(rt: HostRuntime) -> Result<(), Fail> {
+    let alloc = rt.alloc();
+    let copied = log_of(alloc, COPIED, COPIED_TOO)?;
+    assert!(rt; random_turns_give(alloc, &copied, 500, 9)?);
+    let one = log_of(alloc, &FIRST, &SECOND_CUT)?;
+    assert!(rt; random_turns_give(alloc, &one, 500, 5)?);
     Ok(())
 }

@@ -1,7 +1,8 @@
 //! The turns of workers.
-ghost use Rattle.std.specs.Prelude.{◌≡◌, ◌<◌, ◌≤◌, ◌⊎◌, ℕ, length, slice_get, slice_set, Some, None, OnOk};
+ghost use Rattle.std.specs.Prelude.{◌≡◌, ◌<◌, ◌≤◌, ◌⊎◌, ◌++◌, ◌∷◌, [], ℕ, List, length, slice_get, slice_set, Some, None, OnOk};
 ghost use Rattle.tau_pool.specs.declared.item.Job.{Job};
 ghost use Rattle.tau_pool.specs.Pooled.{IsNotYet, IsDone, flying_in};
+ghost use Rattle.tau_replay.specs.Followed.{Followed};
 ghost use Rattle.tau_replay.specs.Way.{IsOnWay, left_of};
 
 use crate::redo::redo;
@@ -29,6 +30,8 @@ pub fn start(log: &Log, replay: &mut Replay, worker: usize) -> Next
     ensures taken { (job : Job) → result ≡ Next.Taken job → left_of replay.new < left_of replay.old }
     ensures not_yet { result ≡ Next.NotYet → (replay.new.hands.items ≡ replay.old.hands.items) × (replay.new.pools ≡ replay.old.pools) × IsNotYet replay.old.pools }
     ensures done { result ≡ Next.Done → (replay.new.hands.items ≡ replay.old.hands.items) × (replay.new.pools ≡ replay.old.pools) × IsDone replay.old.pools }
+    ensures followed { (turns : List ℕ) → Followed log.now turns replay.old → Followed log.now (turns ++ worker ∷ []) replay.new }
+    ensures ended { (turns : List ℕ) → Followed log.now turns replay.old → result ≡ Next.Done → Followed log.now turns replay.new }
 {
     let _ = log;
     let next = replay.pools.take();
@@ -48,6 +51,7 @@ fn finish(log: &Log, replay: &mut Replay, worker: usize, job: Job) -> Result<(),
     requires busy { slice_get replay.old.hands.items worker ≡ Some (Some job) }
     ensures going { OnOk result (IsOnWay log.now replay.new) }
     ensures less { OnOk result (left_of replay.new < left_of replay.old) }
+    ensures followed { (turns : List ℕ) → Followed log.now turns replay.old → OnOk result (Followed log.now (turns ++ worker ∷ []) replay.new) }
 {
     match redo(log, &mut replay.store, job) {
         Ok(()) => {}
@@ -66,6 +70,7 @@ pub fn turn(log: &Log, replay: &mut Replay, worker: usize) -> Result<(), NoMemor
     ensures less { OnOk result (left_of replay.new ≤ left_of replay.old) }
     ensures busy { (job : Job) → slice_get replay.old.hands.items worker ≡ Some (Some job) → OnOk result (left_of replay.new < left_of replay.old) }
     ensures idle { OnOk result ((left_of replay.new < left_of replay.old) ⊎ (replay.new.hands.items ≡ replay.old.hands.items)) }
+    ensures followed { (turns : List ℕ) → Followed log.now turns replay.old → OnOk result (Followed log.now (turns ++ worker ∷ []) replay.new) }
 {
     match replay.hands[worker] {
         Some(job) => finish(log, replay, worker, job),
@@ -73,5 +78,18 @@ pub fn turn(log: &Log, replay: &mut Replay, worker: usize) -> Result<(), NoMemor
             let _ = start(log, replay, worker);
             Ok(())
         }
+    }
+}
+
+/// A turn of a worker by its number; one of 16 or more is no worker, and nothing changes.
+pub fn turn_of(log: &Log, replay: &mut Replay, worker: u8) -> Result<(), NoMemory>
+    requires { IsOnWay log.now replay.old }
+    ensures going { OnOk result (IsOnWay log.now replay.new) }
+    ensures followed { (turns : List ℕ) → Followed log.now turns replay.old → OnOk result (Followed log.now (turns ++ worker ∷ []) replay.new) }
+{
+    if worker < 16 {
+        turn(log, replay, usize::from(worker))
+    } else {
+        Ok(())
     }
 }

@@ -1,5 +1,5 @@
 -- Nothing is started.
-use Rattle.std.proofs.Common.{ℕ, List, ◌≡◌, [], replicate, sym, ap, subst, ◌∙◌, arith}
+use Rattle.std.proofs.Common.{ℕ, List, ◌≡◌, [], replicate, refl, sym, ap, subst, ◌∙◌, arith}
 use Rattle.std.specs.Prelude.{None, true}
 use Rattle.tau_model.proofs.Reorder.{reordered-itself}
 use Rattle.tau_model.specs.History.{Member, Reordered}
@@ -14,8 +14,8 @@ use Rattle.tau_replay.proofs.Starting.{of_taken, all_left}
 use Rattle.tau_replay.proofs.Hands.{empty_hands}
 use Rattle.tau_replay.proofs.replay.begin.Goals as goal
 
-pub returns : goal.returns
-returns c =
+pub returns-clause-going : goal.returns-clause-going
+returns-clause-going c =
     let log = c.args.log.now in
     let items0 = items_from log.elv 0 log.streams in
     let is = c.in_ok-pools.ensures.items in
@@ -36,4 +36,21 @@ returns c =
         database = c.new-2.ensures;
       };
       hands = empty_hands c.in_ok-pools.pools c.loop.hands.items (c.loop.invariant ∙ ap (λ (n : ℕ). replicate n None) sixteen) idle;
+    }
+
+pub returns-clause-followed : goal.returns-clause-followed
+returns-clause-followed c =
+    let sixteen : c.loop.counter ≡ 16 = omega (arith, c.loop-test.false, c.loop.auto.counter-end) in
+    record {
+      begun = record { pools = c.in_ok-pools.pools; hands = c.loop.hands.items; order = [] };
+      unstarted = record {
+        items = c.in_ok-pools.ensures.items;
+        ends = c.in_ok-pools.ensures.ends;
+        recovered = c.in_ok-pools.ensures.recovered;
+        hands = c.loop.invariant ∙ ap (λ (n : ℕ). replicate n None) sixteen;
+        order = refl;
+      };
+      order = [];
+      steps = refl;
+      holds = c.new-2.ensures;
     }

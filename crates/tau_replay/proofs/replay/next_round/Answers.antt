@@ -1,11 +1,12 @@
 -- Nothing is in flight: a record is started, or all is done, or records wait for one another.
-use Rattle.std.proofs.Common.{◌≡◌, sym, ap, subst, ◌∙◌, arith, Err, Bool, Result}
+use Rattle.std.proofs.Common.{[], ◌∷◌, ◌++◌, ◌≡◌, sym, ap, subst, ◌∙◌, arith, Err, Bool, Result}
 use Rattle.tau_scan.specs.declared.fault.ReplayRefusal.TheVariants.{Tangled}
 use Rattle.tau_model.specs.Store.{database}
 use Rattle.tau_scan.specs.declared.fault.ReplayRefusal.{ReplayRefusal}
 use Rattle.tau_pool.specs.Pooled.{Pooled, IsDone, flying_in}
 use Rattle.tau_replay.proofs.Going.{none_left}
 use Rattle.tau_replay.proofs.Hands.{no_hand}
+use Rattle.tau_replay.proofs.Following.{round_of_first}
 use Rattle.tau_replay.proofs.replay.next_round.Goals as goal
 
 pub start-requires-clause-idle : goal.start-requires-clause-idle
@@ -26,3 +27,7 @@ refusal_is a b e = cc
 
 pub returns-in-NotYet-clause-tangled : goal.returns-in-NotYet-clause-tangled
 returns-in-NotYet-clause-tangled c j at e = c.tangled.ensures j at (refusal_is c.tangled.result (Tangled j at) e)
+
+pub returns-in-Ok-round-clause-followed : goal.returns-in-Ok-round-clause-followed
+returns-in-Ok-round-clause-followed c turns f e =
+    round_of_first c.args.log.now turns c.round-in-Taken.new.replay.pools c.round-in-Taken.new.replay.hands.items (database c.round-in-Taken.new.replay.store) (c.in-Ok-round.ensures.followed (turns ++ 0 ∷ []) (c.start.ensures.followed turns f))

@@ -1,6 +1,8 @@
 -- The workers are on their way.
+use Rattle.std.proofs.Common.{take}
+use Rattle.tau_replay.specs.Followed.{Followed}
 use Rattle.tau_replay.specs.Way.{IsOnWay}
 use Rattle.tau_replay.proofs.replay.replay_turns.Given as goal
 
 abbrev pub invariant-loop-worker : goal.invariant-loop-worker
-invariant-loop-worker l = IsOnWay l.log l.replay
+invariant-loop-worker l = record { going : IsOnWay l.log l.replay; followed : Followed l.log (take l.worker-index l.turns) l.replay }

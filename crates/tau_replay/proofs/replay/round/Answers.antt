@@ -4,7 +4,10 @@ use Rattle.std.specs.Prelude.{Option, Some, None, slice_get}
 use Rattle.std.proofs.lemmas.Bool.{cases_eq, cases_lt}
 use Rattle.tau_pool.specs.declared.item.Job.{Job}
 use Rattle.tau_pool.proofs.Gets.{get_within}
+use Rattle.tau_model.specs.Store.{database}
+use Rattle.tau_replay.specs.Followed.{workers_from}
 use Rattle.tau_replay.specs.Way.{left_of}
+use Rattle.tau_replay.proofs.Following.{round_begins, round_goes, round_ends}
 use Rattle.tau_replay.proofs.Hands.{some_hand}
 use Rattle.tau_replay.proofs.replay.round.Goals as goal
 
@@ -40,10 +43,20 @@ turned left_new left_now left_old from worker old now new a b busy (inr is) (inr
         below : (w worker : ℕ) → w < worker + 1 → (w ≡ worker → ⊥) → w < worker
         below w worker lt other = elim (cases_lt w worker) [ inl x ↦ x | inr y ↦ absurd (other (omega (arith, lt, y))) ]
 
+pub loop-worker-init : goal.loop-worker-init
+loop-worker-init c = record {
+  going = c.requires.going;
+  less = omega arith;
+  followed = λ turns f. round_begins c.args.log.now turns c.args.from c.args.replay.now.pools c.args.replay.now.hands.items (database c.args.replay.now.store) f;
+  some = inr (refl, λ w job low lt at. absurd (omega (arith, low, lt)));
+}
+
 pub loop-worker-preserved : goal.loop-worker-preserved
 loop-worker-preserved c = record {
   going = c.in-Ok.ensures.going;
   less = omega (arith, c.in-Ok.ensures.less, c.loop-worker.invariant.less);
+  followed = λ turns f. round_goes c.args.log.now turns (workers_from c.args.from) c.loop-worker.worker c.loop-worker.replay.pools c.turn.new.replay.pools c.loop-worker.replay.hands.items c.turn.new.replay.hands.items
+      (database c.loop-worker.replay.store) (database c.turn.new.replay.store) (omega (arith, c.loop-worker-test.true)) (c.loop-worker.invariant.followed turns f) c.in-Ok.ensures.followed;
   some = turned (left_of c.turn.new.replay) (left_of c.loop-worker.replay) (left_of c.args.replay.now) c.args.from c.loop-worker.worker c.args.replay.now.hands.items c.loop-worker.replay.hands.items c.turn.new.replay.hands.items
       c.in-Ok.ensures.less c.loop-worker.invariant.less c.in-Ok.ensures.busy c.in-Ok.ensures.idle c.loop-worker.invariant.some;
 }
@@ -57,3 +70,7 @@ returns-clause-some c e flying = elim c.loop-worker.invariant.some [
       let lt = get_within c.args.replay.now.hands.items w (Some job) at in
       absurd (h.1 w job (omega (arith, e)) (omega (arith, lt, hands.sixteen, c.loop-worker-test.false)) at)
 ]
+
+pub returns-clause-followed : goal.returns-clause-followed
+returns-clause-followed c turns f =
+    round_ends c.args.log.now turns (workers_from c.args.from) c.loop-worker.worker c.loop-worker.replay.pools c.loop-worker.replay.hands.items (database c.loop-worker.replay.store) (omega (arith, c.loop-worker-test.false)) (c.loop-worker.invariant.followed turns f)

@@ -1,5 +1,8 @@
 -- The refusal of a round is that of all.
-use Rattle.std.proofs.Common.{◌≡◌, ap, Err, Bool, Result}
+use Rattle.std.proofs.Common.{◌≡◌, ◌++◌, true, false, ap, Ok, Err, Bool, Result}
+use Rattle.tau_model.specs.Store.{database}
+use Rattle.tau_replay.specs.Followed.{rounds}
+use Rattle.tau_replay.proofs.Following.{rounds_go}
 use Rattle.tau_scan.specs.declared.fault.ReplayRefusal.{ReplayRefusal}
 use Rattle.tau_scan.specs.declared.fault.ReplayRefusal.TheVariants.{Tangled}
 use Rattle.tau_replay.proofs.replay.run_out.Goals as goal
@@ -15,3 +18,18 @@ failed a = Err a
 
 pub returns-in-Err-clause-tangled : goal.returns-in-Err-clause-tangled
 returns-in-Err-clause-tangled c j at e = c.in-Err.ensures.tangled j at (ap failed (refusal_is c.in-Err.refusal (Tangled j at) e))
+
+pub returns-in-Ok-true-clause-followed : goal.returns-in-Ok-true-clause-followed
+returns-in-Ok-true-clause-followed c turns f =
+    let (more, g) = c.rounds.invariant.followed turns f in
+    let is : c.next_round.result ≡ Ok true = cc in
+    (more, c.next_round.ensures.ended (turns ++ rounds more) g is)
+
+pub rounds-preserved : goal.rounds-preserved
+rounds-preserved c =
+    let is : c.next_round.result ≡ Ok false = cc in
+    record {
+      going = c.in-Ok-false.ensures.going;
+      followed = λ turns f. rounds_go c.args.log.now turns c.rounds.replay.pools c.next_round.new.replay.pools c.rounds.replay.hands.items c.next_round.new.replay.hands.items (database c.rounds.replay.store) (database c.next_round.new.replay.store)
+          (c.rounds.invariant.followed turns f) (λ ts g. c.next_round.ensures.followed ts g is);
+    }

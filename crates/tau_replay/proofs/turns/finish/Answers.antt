@@ -9,6 +9,7 @@ use Rattle.tau_replay.specs.Going.{Stands}
 use Rattle.tau_replay.proofs.Lists.{of_get}
 use Rattle.tau_replay.proofs.Going.{going_finish}
 use Rattle.tau_replay.proofs.Hands.{hands_finish, less_finish}
+use Rattle.tau_replay.proofs.Following.{follow_finish}
 use Rattle.tau_replay.proofs.turns.finish.Goals as goal
 
 pub redo-requires : goal.redo-requires
@@ -40,3 +41,12 @@ pub returns-clause-less : goal.returns-clause-less
 returns-clause-less c =
     let f = c.requires.going.hands.flying c.args.worker c.args.job c.requires.busy in
     (less_finish c.args.replay.now.pools c.args.job c.finish.new.self f c.finish.ensures.finished).0
+
+pub returns-clause-followed : goal.returns-clause-followed
+returns-clause-followed c turns followed =
+    let w = c.requires.going in
+    let f = w.hands.flying c.args.worker c.args.job c.requires.busy in
+    let (r, held, of) = of_get c.args.log.now (taken c.args.log.now) c.args.replay.now.pools.items c.args.job.place f.item w.going.items f.there in
+    let stands : Stands c.args.log.now c.args.job.stream c.args.job.index r = subst (λ (j : Job). Stands c.args.log.now j.stream j.index r) (sym f.named) of.stands in
+    follow_finish c.args.log.now turns c.args.worker c.args.replay.now.pools c.finish.new.self c.args.replay.now.hands.items c.args.job r (database c.args.replay.now.store) (database c.redo.new.store) followed c.requires.busy stands
+    c.finish.ensures.finished c.finish.ensures.recovered (c.in-Ok.ensures r stands)

@@ -1,0 +1,10 @@
+-- Of no worker nothing changes.
+use Rattle.std.proofs.Common.{arith}
+use Rattle.tau_model.specs.Store.{database}
+use Rattle.tau_replay.proofs.Following.{follow_none, past_hands}
+use Rattle.tau_replay.proofs.turns.turn_of.Goals as goal
+
+pub returns-else-worker-lt16-clause-followed : goal.returns-else-worker-lt16-clause-followed
+returns-else-worker-lt16-clause-followed c turns f =
+    let hands = c.args.replay.now.hands.items in
+    follow_none c.args.log.now turns c.args.worker c.args.replay.now.pools hands (database c.args.replay.now.store) f (past_hands hands c.args.worker (omega (arith, c.requires.hands.sixteen, c.if-worker-lt16.false)))
