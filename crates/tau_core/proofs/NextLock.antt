@@ -1,0 +1,108 @@
+-- The lock that a worker takes next.
+use Rattle.std.proofs.Common.{ℕ, ◌≡◌, Bool, true, false, ◌⊎◌, inl, inr, List, [], length, refl, sym, ap, subst, ◌∙◌, Option}
+use Rattle.std.specs.Prelude.{Some, None, is_some, slice_get}
+use Rattle.tau_base.specs.declared.value.Call.{Call}
+use Rattle.tau_base.specs.declared.value.Key.{Key}
+use Rattle.tau_base.specs.declared.value.Mode.{Mode}
+use Rattle.tau_base.specs.declared.value.Mode.TheVariants.{Read}
+use Rattle.tau_proc.specs.declared.proc.Proc.{Proc}
+use Rattle.tau_model.specs.History.{Act, updating}
+use Rattle.tau_machine.specs.Hands.{Txn, Hand}
+use Rattle.tau_machine.specs.Stage.{Stage, Wants, Ends, stage}
+use Rattle.tau_machine.specs.Worker.{Worker, begun_by, lock_of}
+use Rattle.tau_machine.specs.Events.{ready}
+use Rattle.tau_txn.specs.declared.standing.Standing.{Standing}
+use Rattle.tau_txn.specs.declared.standing.Standing.TheVariants as standing
+use Rattle.tau_txn.specs.Hand.{PlainHand}
+use Rattle.tau_txn.specs.Read.{hand_of}
+use Rattle.tau_txn.specs.Txn.{PlainTxn, shown, shown_of, hand_in, number_in, number_by}
+use Rattle.tau_core.specs.declared.state.Load.{Load}
+use Rattle.tau_core.specs.declared.event.Phase.TheVariants.{Locking}
+use Rattle.tau_core.specs.Plain.{PlainSeat}
+use Rattle.tau_core.specs.State.{Plain}
+use Rattle.tau_core.specs.View.{setting_of, Hidden, core_of, call_of}
+use Rattle.tau_core.specs.Stands.{Stands}
+use Rattle.tau_core.specs.Begins.{next_number, next_behind}
+use Rattle.tau_core.specs.Phases.{finished_phase, running_phase, hand_phase}
+use Rattle.tau_core.specs.NextLock.{TellsHand, TellsFirst, TellsLock, IsNextLock, begun_hand}
+use Rattle.tau_core.proofs.Seats.{seat-worker}
+use Rattle.tau_core.proofs.Hands.{hand-gone}
+use Rattle.tau_core.proofs.Begins.{ready-in-hand}
+use Rattle.tau_core.proofs.Starts.{waiting-next}
+use Rattle.tau_core.proofs.FirstSteps.{waits-none}
+
+-- the number of the call in hand is that of the core's
+pub number-shown : (procs : List Proc) (t : PlainTxn) (hand : Hand) (n : ℕ) → hand_in procs t ≡ Some hand → number_in t ≡ Some n → n ≡ hand.call.number
+number-shown procs t hand n is number = by_hand t.hand is number
+  where
+    by_standing : (st : Standing) (x : PlainHand) → shown procs t.worker st x ≡ Some hand → x.number ≡ hand.call.number
+    by_standing standing.Running x e = (let f : hand_of procs t.worker x ≡ hand = cc in ap (λ (y : Hand). y.call.number) f)
+    by_standing standing.Quitting x e = (let f : hand_of procs t.worker x ≡ hand = cc in ap (λ (y : Hand). y.call.number) f)
+    by_standing standing.Placed x e = (let f : hand_of procs t.worker x ≡ hand = cc in ap (λ (y : Hand). y.call.number) f)
+    by_standing standing.Freeing x e = (let f : hand_of procs t.worker x ≡ hand = cc in ap (λ (y : Hand). y.call.number) f)
+    by_standing standing.LeftOver x e = absurd (let bad : None ≡ Some hand = e in cc)
+
+    by_hand : (o : Option PlainHand) → shown_of procs t.worker o ≡ Some hand → number_by o ≡ Some n → n ≡ hand.call.number
+    by_hand None e f = absurd (let bad : None ≡ Some n = f in cc)
+    by_hand (Some x) e f = (let same : x.number ≡ n = cc in sym same ∙ by_standing x.standing x e)
+
+-- a call in hand has a number
+pub number-none : (procs : List Proc) (t : PlainTxn) (hand : Hand) → hand_in procs t ≡ Some hand → number_in t ≡ None → ⊥
+number-none procs t hand is number = by_hand t.hand is number
+  where
+    by_hand : (o : Option PlainHand) → shown_of procs t.worker o ≡ Some hand → number_by o ≡ None → ⊥
+    by_hand None e f = (let bad : None ≡ Some hand = e in cc)
+    by_hand (Some x) e f = (let bad : Some x.number ≡ None = f in cc)
+
+-- a call that begins and has no lock to take has finished
+pub none-first : (l : Load) (n : ℕ) (c : Call) → lock_of (stage l.procs c []) [] ≡ None → hand_phase l.procs (begun_hand l n c) ≡ Locking → ⊥
+none-first l n c none e = by_stage (stage l.procs c []) none e
+  where
+    by_end : (b : Bool) → finished_phase b [] ≡ Locking → ⊥
+    by_end true f = cc
+    by_end false f = cc
+
+    by_stage : (s : Stage) → lock_of s [] ≡ None → running_phase (lock_of s []) s [] ≡ Locking → ⊥
+    by_stage (Wants rs k) f g = (let bad : Some (k, Read) ≡ None = f in cc)
+    by_stage (Ends effect) f g = by_end (updating effect.writes) (ap (λ (o : Option (Key × Mode)). running_phase o (Ends effect) []) (sym f) ∙ g)
+
+module _ (p : Plain) (K : List (Act Txn)) (h : Hidden) (g : Stands p K h) (w : ℕ) (s : PlainSeat) (is : slice_get p.seats w ≡ Some s) where
+  abbrev worker : Worker
+  worker = (core_of p h).workers w
+
+  hand-there : worker.hand ≡ hand_in p.load.procs s.txn
+  hand-there = ap (λ (x : Worker). x.hand) (seat-worker p h w s s is)
+
+  tells : (o : Option Hand) → (ready (setting_of p.load) (core_of p h) w).hand ≡ o → (r : Option (ℕ × Key × Mode)) → TellsHand p.load.procs o r → TellsLock p h w r
+  tells o e r q = subst (λ (x : Option Hand). TellsHand p.load.procs x r) (sym e) q
+
+  some-shown : (o : Option Hand) → hand_in p.load.procs s.txn ≡ o → is_some o ≡ true → (ready (setting_of p.load) (core_of p h) w).hand ≡ hand_in p.load.procs s.txn
+  some-shown None e f = absurd (let bad : false ≡ true = f in cc)
+  some-shown (Some x) e f = ap (λ (y : Worker). y.hand) (ready-in-hand p.load.streams worker x (hand-there ∙ e)) ∙ hand-there
+
+  there : (o : Option PlainHand) → s.txn.hand ≡ o → (s.txn.hand ≡ None → ⊥) → is_some s.txn.hand ≡ true
+  there None e ne = absurd (ne e)
+  there (Some x) e ne = ap is_some e
+
+  begins-next : s.txn.hand ≡ None → (n : ℕ) (c : Call) → next_number (length p.load.calls) s ≡ Some n → call_of p.load.calls n ≡ Some c → (ready (setting_of p.load) (core_of p h) w).hand ≡ begun_hand p.load n c
+  begins-next none n c next call =
+      let new : PlainSeat = record s { next = next_behind p.load.workers s.next s.again; again = None } in
+      let waits = waiting-next p.load w s new n c (g.sound.seat w s is) g.sound.workers_low next call refl refl in
+      let waiting = ap (λ (x : Worker). x.waiting) (seat-worker p h w s s is) ∙ waits in
+      λ i. (begun_by p.load.streams worker ((hand-there ∙ hand-gone p.load.procs s.txn none) i) (waiting i)).hand
+
+  begins-none : s.txn.hand ≡ None → next_number (length p.load.calls) s ≡ None → (ready (setting_of p.load) (core_of p h) w).hand ≡ None
+  begins-none none next =
+      let gone : worker.hand ≡ None = hand-there ∙ hand-gone p.load.procs s.txn none in
+      let waiting : worker.waiting ≡ [] = ap (λ (x : Worker). x.waiting) (seat-worker p h w s s is) ∙ waits-none p.load s next in
+      (λ i. (begun_by p.load.streams worker (gone i) (waiting i)).hand) ∙ gone
+
+  pub next-tells : (r : Option (ℕ × Key × Mode)) → IsNextLock p.load s r → TellsLock p h w r
+  next-tells r (inl q) =
+      let o = g.sound.seat w s is in
+      tells (hand_in p.load.procs s.txn) (some-shown (hand_in p.load.procs s.txn) refl (sym o.stays ∙ there s.txn.hand refl q.0)) r q.1
+  next-tells r (inr q) = by_next q.0 q.1
+    where
+      by_next : s.txn.hand ≡ None → ((n : ℕ) × (next_number (length p.load.calls) s ≡ Some n) × TellsFirst p.load n r) ⊎ ((next_number (length p.load.calls) s ≡ None) × (r ≡ None)) → TellsLock p h w r
+      by_next none (inl a) = tells (begun_hand p.load a.0 a.2.0) (begins-next none a.0 a.2.0 a.1 a.2.1) r a.2.2
+      by_next none (inr b) = tells None (begins-none none b.0) r (subst (λ (x : Option (ℕ × Key × Mode)). TellsHand p.load.procs None x) (sym b.1) (λ e. cc))

@@ -1,0 +1,231 @@
+-- Room is made for a call, and it begins.
+use Rattle.std.proofs.Common.{ℕ, zero, suc, ◌+◌, ◌-◌, ◌≤◌, ◌≡◌, Bool, true, false, inl, inr, List, [], ◌∷◌, ◌++◌, length, drop, refl, sym, ap, subst, ◌∙◌, Option, arith, length-set}
+use Rattle.std.specs.Prelude.{Some, None, ◌==◌, if◌then◌else◌, slice_get, slice_set}
+use Rattle.std.proofs.lemmas.Bool.{eq-eqb}
+use Rattle.std.proofs.lemmas.Bool.Decides.{leb_tells}
+use Rattle.tau_base.specs.declared.value.Call.{Call}
+use Rattle.tau_model.specs.History.{Act, Numbered}
+use Rattle.tau_machine.specs.Hands.{Txn, Hand}
+use Rattle.tau_machine.specs.Worker.{Worker, fresh}
+use Rattle.tau_machine.specs.Invariant.{Invariant}
+use Rattle.tau_machine.specs.Pieces.{placed_in}
+use Rattle.tau_machine.specs.State.{Core, Outbox, Record}
+use Rattle.tau_machine.specs.Accounts.{in_calls, one}
+use Rattle.tau_txn.specs.Txn.{PlainTxn, hand_in, bytes_in}
+use Rattle.tau_core.specs.declared.state.Load.{Load}
+use Rattle.tau_core.specs.Plain.{PlainSeat}
+use Rattle.tau_core.specs.State.{Plain}
+use Rattle.tau_core.specs.View.{setting_of, call_of, worker_of, numbered_by, numbered, every, from_on, again_in, Hidden, tickets, core_of}
+use Rattle.tau_core.specs.Stands.{is_open, open_calls, Stands, SoundSeat, anchors_at}
+use Rattle.tau_core.specs.Pieces.{IsPieceOf, Paired}
+use Rattle.tau_core.specs.Workers.{waiting_in, Begins}
+use Rattle.tau_core.specs.Begins.{number_by, next_number, next_behind, HasNext, RoomMade, IsRoomy, BeginsNext}
+use Rattle.tau_core.proofs.Lists.{each-got}
+use Rattle.tau_core.proofs.Hands.{both-some, hand-gone}
+use Rattle.tau_core.proofs.Numbers.{numbers}
+use Rattle.tau_core.proofs.Seats.{seat-core, seat-worker, same-worker, same-outbox, seat-inside, open-set}
+
+-- no more calls are open than there are workers
+pub open-most : (l : Load) (xs : List PlainSeat) → open_calls l xs ≤ length xs
+open-most l [] = omega arith
+open-most l (x ∷ xs) = let r = open-most l xs in let b = one-at-most (is_open (hand_in l.procs x.txn)) in omega arith
+  where
+    one-at-most : (b : Bool) → (if b then 1 else 0) ≤ 1
+    one-at-most true = omega arith
+    one-at-most false = omega arith
+
+every-skip : (m i k : ℕ) (cs : List Call) → every m i k cs ≡ every m 0 (k + i) (drop i cs)
+every-skip m zero k cs = (let e : k ≡ k + 0 = omega arith in ap (λ n. every m 0 n cs) e)
+every-skip m (suc i) k [] = refl
+every-skip m (suc i) k (c ∷ cs) = every-skip m i (k + 1) cs ∙ (let e : (k + 1) + i ≡ k + suc i = omega arith in ap (λ n. every m 0 n (drop i cs)) e)
+
+dropped : (calls : List Call) (i : ℕ) (c : Call) → slice_get calls i ≡ Some c → drop i calls ≡ c ∷ drop (suc i) calls
+dropped [] i c e = absurd (let bad : None ≡ Some c = e in cc)
+dropped (x ∷ xs) zero c e = (let f : x ≡ c = cc in ap (λ y. y ∷ xs) f)
+dropped (x ∷ xs) (suc i) c e = dropped xs i c e
+
+drop-empty : (i : ℕ) → drop {A = Call} i [] ≡ []
+drop-empty zero = refl
+drop-empty (suc i) = refl
+
+drop-drop : (i j : ℕ) (calls : List Call) → drop i (drop j calls) ≡ drop (j + i) calls
+drop-drop i zero calls = (let e : i ≡ 0 + i = omega arith in ap (λ n. drop n calls) e)
+drop-drop i (suc j) [] = drop-empty i ∙ sym (drop-empty (suc j + i))
+drop-drop i (suc j) (c ∷ calls) = drop-drop i j calls ∙ (let e : suc (j + i) ≡ suc j + i = omega arith in ap (λ n. drop n (c ∷ calls)) e)
+
+-- the calls of a worker from one of them on
+pub from-next : (calls : List Call) (m n : ℕ) (c : Call) → 1 ≤ n → 1 ≤ m → slice_get calls (n - 1) ≡ Some c → from_on calls m n ≡ record { number = n; call = c } ∷ from_on calls m (n + m)
+from-next calls m n c low many got =
+    ap (every m 0 n) (dropped calls (n - 1) c got)
+    ∙ ap (λ l. record { number = n; call = c } ∷ l)
+    (every-skip m (m - 1) (n + 1) (drop (suc (n - 1)) calls)
+    ∙ (λ i. every m 0 (place i) ((drop-drop (m - 1) (suc (n - 1)) calls ∙ ap (λ k. drop k calls) cut) i)))
+  where
+    place : (n + 1) + (m - 1) ≡ n + m
+    place = omega arith
+
+    cut : suc (n - 1) + (m - 1) ≡ (n + m) - 1
+    cut = omega arith
+
+-- the next call, and those behind it
+pub waiting-next : (l : Load) (w : ℕ) (s new : PlainSeat) (n : ℕ) (c : Call) → SoundSeat l w s → 1 ≤ l.workers → next_number (length l.calls) s ≡ Some n → call_of l.calls n ≡ Some c →
+    new.next ≡ next_behind l.workers s.next s.again → new.again ≡ None → waiting_in l s ≡ record { number = n; call = c } ∷ waiting_in l new
+waiting-next l w s new n c o many e is next again = by_again s.again refl e next
+  where
+    by_again : (a : Option ℕ) → s.again ≡ a → number_by (length l.calls) s.next a ≡ Some n → new.next ≡ next_behind l.workers s.next a → waiting_in l s ≡ record { number = n; call = c } ∷ waiting_in l new
+    by_again (Some k) a_is f next_is =
+        let k_is : k ≡ n = cc in
+        (λ i. again_in l.calls (a_is i) ++ from_on l.calls l.workers s.next)
+        ∙ ap (λ (x : ℕ). numbered l.calls x ++ from_on l.calls l.workers s.next) k_is
+        ∙ ap (λ (x : Option Call). numbered_by n x ++ from_on l.calls l.workers s.next) is
+        ∙ (λ i. record { number = n; call = c } ∷ again_in l.calls (sym again i) ++ from_on l.calls l.workers (sym next_is i))
+    by_again None a_is f next_is = elim (leb_tells s.next (length l.calls)) [
+      | inl le ↦
+          let same : s.next ≡ n = (let h = rw le.0 at f in cc) in
+          let number = numbers l n c is in
+          (λ i. again_in l.calls (a_is i) ++ from_on l.calls l.workers (same i))
+          ∙ from-next l.calls l.workers n c number.low many (number.got ∙ (let g : Some number.call ≡ Some c = sym number.is ∙ is in g))
+          ∙ (λ i. record { number = n; call = c } ∷ again_in l.calls (sym again i) ++ from_on l.calls l.workers ((ap (λ k. k + l.workers) (sym same) ∙ sym next_is) i))
+      | inr gt ↦ absurd (let h = rw gt.0 at f in cc)
+    ]
+
+-- the worker's own list has the number
+counts-first : (n : ℕ) (c : Call) (cs : List Numbered) → 1 ≤ in_calls n (record { number = n; call = c } ∷ cs)
+counts-first n c cs = let e : (n == n) ≡ true = eq-eqb n n refl in let f : one n n ≡ 1 = rw e refl in omega arith
+
+-- the next call begins, where room was made
+module _ (p p' : Plain) (K : List (Act Txn)) (h : Hidden) (g : Stands p K h) (w n : ℕ) (q : BeginsNext w n p p') (roomy : IsRoomy w p) (next : HasNext p w n)
+    (rests : (s : PlainSeat) → slice_get p.seats w ≡ Some s → s.txn.hand ≡ None) where
+  abbrev call_n : Numbered
+  call_n = record { number = n; call = q.call }
+
+  o : SoundSeat p.load w q.seat
+  o = g.sound.seat w q.seat q.is
+
+  waiting-is : waiting_in p.load q.seat ≡ call_n ∷ waiting_in p.load q.new
+  waiting-is = waiting-next p.load w q.seat q.new n q.call o g.sound.workers_low (next q.seat q.is) q.call_is (ap (λ (x : PlainSeat). x.next) q.others) (ap (λ (x : PlainSeat). x.again) q.others)
+
+  number-whose : worker_of p.load.workers n ≡ w
+  number-whose =
+      let account = g.inv.agrees.accounts w in
+      let wk : ((core_of p h).workers w).waiting ≡ call_n ∷ waiting_in p.load q.new = ap (λ (x : Worker). x.waiting) (seat-worker p h w q.seat q.new q.is) ∙ waiting-is in
+      let first = counts-first n q.call (waiting_in p.load q.new) in
+      let many : 1 ≤ in_calls n ((core_of p h).workers w).waiting = subst (λ (l : List Numbered). 1 ≤ in_calls n l) (sym wk) first in
+      account.whose n (omega arith)
+
+  begun-is : hand_in p.load.procs q.new.txn ≡ Some (fresh p.load.streams call_n 0)
+  begun-is = q.begun ∙ ap (λ (k : ℕ). Some (fresh k call_n 0)) o.width
+
+  next-high : (a : Option ℕ) → q.seat.again ≡ a → number_by (length p.load.calls) q.seat.next a ≡ Some n → next_behind p.load.workers q.seat.next a ≤ length p.load.calls + p.load.workers
+  next-high (Some k) is e = o.high
+  next-high None is e = elim (leb_tells q.seat.next (length p.load.calls)) [ inl le ↦ (let u = le.1 in omega arith) | inr gt ↦ absurd (let f = rw gt.0 at e in cc) ]
+
+  next-low : (a : Option ℕ) → 1 ≤ next_behind p.load.workers q.seat.next a
+  next-low (Some k) = o.low
+  next-low None = let l = o.low in omega arith
+
+  new-sound : SoundSeat p.load w q.new
+  new-sound =
+      let rooms = roomy.seat q.seat q.is in
+      subst (λ (x : PlainSeat). SoundSeat p.load w x) (sym q.others) (record {
+        worker = ap (λ (t : PlainTxn). t.worker) q.same ∙ o.worker;
+        width = ap (λ (t : PlainTxn). t.width) q.same ∙ o.width;
+        mode = ap (λ (t : PlainTxn). t.mode) q.same ∙ o.mode;
+        runs = q.runs;
+        stays = both-some p.load.procs q.new.txn (fresh p.load.streams call_n 0) begun-is;
+        leaving = q.stays;
+        call = λ x e.
+            let same : fresh p.load.streams call_n 0 ≡ x = (let f : Some (fresh p.load.streams call_n 0) ≡ Some x = sym begun-is ∙ e in cc) in
+            subst (λ (y : Hand). call_of p.load.calls y.call.number ≡ Some y.call.call) same q.call_is;
+        whose = λ x e.
+            let same : fresh p.load.streams call_n 0 ≡ x = (let f : Some (fresh p.load.streams call_n 0) ≡ Some x = sym begun-is ∙ e in cc) in
+            subst (λ (y : Hand). worker_of p.load.workers y.call.number ≡ w) same number-whose;
+        ends = λ e. rooms.0;
+        leaves = λ e. rooms.1;
+        posts = λ t e. absurd (let bad : None ≡ Some t = sym (ap placed_in begun-is) ∙ e in cc);
+        low = next-low q.seat.again;
+        high = next-high q.seat.again refl (next q.seat q.is);
+        again = λ k e. cc;
+        left = o.left;
+      })
+
+  pub begins-of : Begins w p p'
+  begins-of = record {
+    seat = q.seat;
+    new = q.new;
+    call = call_n;
+    room = p.room;
+    is = q.is;
+    rests = hand-gone p.load.procs q.seat.txn (rests q.seat q.is);
+    next = waiting-is;
+    begun = begun-is;
+    left = ap (λ (x : PlainSeat). x.left) q.others;
+    pieces = ap (λ (x : PlainSeat). x.outbox) q.others;
+    pending = ap (λ (x : PlainSeat). x.pending.calls) q.others;
+    sound = new-sound;
+    rooms = (let m = open-most p.load (slice_set p.seats w q.new) in let l = length-set p.seats w q.new in let s = g.sound.seats in let b = g.sound.workers_high in let r = roomy.committed in omega arith);
+    after = q.after;
+  }
+
+-- room was made
+module _ (p p' : Plain) (K : List (Act Txn)) (h : Hidden) (g : Stands p K h) (w : ℕ) (q : RoomMade w p p') where
+  abbrev roomier : PlainSeat
+  roomier = record q.seat { pending = q.pending; room = q.left }
+
+  pub room-core : core_of p' h ≡ core_of p h
+  room-core =
+      ap (λ (x : Plain). core_of x h) q.after ∙ seat-core p h w q.seat roomier q.is
+      ∙ ap (λ (x : (ℕ → Worker) × (ℕ → Outbox)). record (core_of p h) { workers = x.0; outboxes = x.1 })
+      (λ i. (same-worker p h w q.seat roomier q.is refl i, same-outbox p h w q.seat roomier q.is (ap tickets q.calls) i))
+
+  pub room-stands : Stands p' K h
+  room-stands =
+      let within = seat-inside p h w q.seat roomier q.is in
+      let o = g.sound.seat w q.seat q.is in
+      let opens = open-set p.load p.seats w q.seat roomier q.is in
+      let inv : Invariant (setting_of p.load) K (core_of (record p { seats = slice_set p.seats w roomier; room = q.room }) h) =
+      subst (λ (x : Plain). Invariant (setting_of p.load) K (core_of x h)) q.after (subst (λ (c : Core). Invariant (setting_of p.load) K c) (sym room-core) g.inv) in
+      subst (λ (x : Plain). Stands x K h) (sym q.after) (record {
+        sound = record {
+          workers_low = g.sound.workers_low;
+          workers_high = g.sound.workers_high;
+          streams_low = g.sound.streams_low;
+          streams_high = g.sound.streams_high;
+          few = g.sound.few;
+          takes = g.sound.takes;
+          opened = g.sound.opened;
+          shards = g.sound.shards;
+          seats = length-set p.seats w roomier ∙ g.sound.seats;
+          streams = g.sound.streams;
+          ends = g.sound.ends;
+          gathered = g.sound.gathered;
+          plv = g.sound.plv;
+          seat = each-got (SoundSeat p.load) p.seats w roomier within (record {
+            worker = o.worker;
+            width = o.width;
+            mode = o.mode;
+            runs = o.runs;
+            stays = o.stays;
+            leaving = o.leaving;
+            call = o.call;
+            whose = o.whose;
+            ends = λ e. (let a = o.ends e in let b = q.pending_room in omega arith);
+            leaves = λ e. (let a = o.leaves e in let b = q.left_room in omega arith);
+            posts = o.posts;
+            low = o.low;
+            high = o.high;
+            again = o.again;
+            left = o.left;
+          }) g.sound.seat;
+          wide = g.sound.wide;
+          narrow = g.sound.narrow;
+          room = (let r = g.sound.room in let m = q.rooms in omega arith);
+        };
+        inv = inv;
+        order = g.order;
+        posted = each-got (λ k (t : PlainSeat). Paired (IsPieceOf p.load (anchors_at p)) t.outbox.pieces (h.posted k)) p.seats w roomier within (g.posted w q.seat q.is) g.posted;
+        own = g.own;
+        placed = λ k x a e f. (each-got (λ l (y : PlainSeat). (b : Act Txn) → placed_in (hand_in p.load.procs y.txn) ≡ Some b → IsPieceOf p.load (anchors_at p) (record { start = y.start; bytes = bytes_in y.txn }) (Record b))
+            p.seats w roomier within (λ b d. g.placed w q.seat b q.is d) (λ l y d b c. g.placed l y b d c)) k x e a f;
+        gathered = g.gathered;
+      })

@@ -1,0 +1,146 @@
+-- A lock that is taken.
+use Rattle.std.proofs.Common.{ℕ, ◌≡◌, ◌≤◌, true, false, ◌⊎◌, inl, inr, List, refl, sym, ap, subst, ◌∙◌, Option, arith, length-set}
+use Rattle.std.specs.Prelude.{Some, None, ◌==◌, slice_set}
+use Rattle.std.proofs.lemmas.Bool.{ne_eqb}
+use Rattle.std.proofs.lemmas.Option.{slice_get_within}
+use Rattle.tau_base.specs.declared.value.Key.{Key}
+use Rattle.tau_base.specs.declared.value.Value.{Value}
+use Rattle.tau_base.specs.declared.value.Mode.{Mode}
+use Rattle.tau_base.specs.declared.value.Mode.TheVariants.{Read, Write}
+use Rattle.tau_base.specs.Shards.{shard_number}
+use Rattle.tau_model.specs.History.{Act}
+use Rattle.tau_model.specs.declared.committed.Committed.{Committed}
+use Rattle.tau_machine.specs.Hands.{Txn, Hand, Running}
+use Rattle.tau_machine.specs.Shard.{at, Shard, entry_in, shard_locked}
+use Rattle.tau_machine.specs.Worker.{Worker, hand_locked}
+use Rattle.tau_machine.specs.Invariant.{Invariant}
+use Rattle.tau_machine.specs.Pieces.{placed_in, placed_of}
+use Rattle.tau_machine.specs.Shapes.{ShardShape}
+use Rattle.tau_machine.specs.State.{Setting, Record}
+use Rattle.tau_machine.specs.Events.{with_worker, with_shard, ready, Conflicts, Locks}
+use Rattle.tau_shard.specs.Plain.{PlainShard}
+use Rattle.tau_shard.specs.Read.{shard_of}
+use Rattle.tau_shard.specs.Blocks.{against, blocks}
+use Rattle.tau_txn.specs.Txn.{hand_in, bytes_in}
+use Rattle.tau_core.specs.Plain.{PlainSeat}
+use Rattle.tau_core.specs.State.{Plain}
+use Rattle.tau_core.specs.View.{setting_of, Hidden, shard_in, committed_by, seat_worker, tickets, core_of}
+use Rattle.tau_core.specs.Stands.{is_open, Stands, Sound, anchors_at}
+use Rattle.tau_core.specs.Pieces.{IsPieceOf, Paired}
+use Rattle.tau_core.specs.Carried.{Carried}
+use Rattle.tau_core.specs.Workers.{Takes}
+use Rattle.tau_core.proofs.Lists.{reads-got, each-got}
+use Rattle.tau_core.proofs.Seats.{seat-core, seat-worker, same-outbox, seat-inside, seat-sound, one_open}
+use Rattle.tau_core.proofs.Begins.{ready-in-hand}
+
+-- nobody that blocks is nobody that conflicts
+pub none-conflicts : (set : Setting) (sh : Shard) (w : ℕ) (x : Key) (m : Mode) → ((u : ℕ) → blocks (entry_in sh x) w m u ≡ false) → Conflicts set sh w x m → ⊥
+none-conflicts set sh w x m free c = at_mode m c.1 c.4 (sym (ap (against m) c.3) ∙ clear)
+  where
+    apart : (c.0 == w) ≡ false
+    apart = ne_eqb c.0 w c.2
+
+    clear : against m ((entry_in sh x).holders c.0) ≡ false
+    clear = (let f = free c.0 in rw apart at f)
+
+    at_mode : (m n : Mode) → (m ≡ Write) ⊎ (n ≡ Write) → against m (Some n) ≡ false → ⊥
+    at_mode Read Read (inl e) f = cc
+    at_mode Read Read (inr e) f = cc
+    at_mode Read Write o f = cc
+    at_mode Write Read o f = cc
+    at_mode Write Write o f = cc
+
+pub open-running : (o : Option Hand) (h : Hand) → o ≡ Some h → h.phase ≡ Running → is_open o ≡ true
+open-running o h e f = ap is_open e ∙ ap (λ p. is_open (Some (record h { phase = p }))) f
+
+pub unplaced-running : (o : Option Hand) (h : Hand) → o ≡ Some h → h.phase ≡ Running → placed_in o ≡ None
+unplaced-running o h e f = ap placed_in e ∙ ap placed_of f
+
+pub locked-phase : (h : Hand) (x : Key) (m : Mode) (row : Value) (a b : List ℕ) → (hand_locked h x m row a b).phase ≡ h.phase
+locked-phase h x Read row a b = refl
+locked-phase h x Write row a b = refl
+
+module _ (p p' : Plain) (h : Hidden) (w : ℕ) (value : Value) (q : Takes w value p p') where
+  abbrev i : ℕ
+  i = shard_number q.key
+
+  worker-hand : ((core_of p h).workers w).hand ≡ Some q.hand
+  worker-hand = ap (λ (x : Worker). x.hand) (seat-worker p h w q.seat q.new q.is) ∙ q.wants.is
+
+  is-ready : ready (setting_of p.load) (core_of p h) w ≡ (core_of p h).workers w
+  is-ready = ready-in-hand p.load.streams ((core_of p h).workers w) q.hand worker-hand
+
+  shard-is : (core_of p h).shards i ≡ shard_of q.shard
+  shard-is = ap shard_in q.shard_is
+
+  locks-after : core_of p' h ≡ with_shard (with_worker (core_of p h) w (record (ready (setting_of p.load) (core_of p h) w) {
+    hand = Some (hand_locked q.hand q.key q.mode (((core_of p h).shards i).rows q.key) (entry_in ((core_of p h).shards i) q.key).write_lv (entry_in ((core_of p h).shards i) q.key).read_lv);
+  })) i (shard_locked ((core_of p h).shards i) w q.key q.mode)
+  locks-after =
+      let c : List Committed = committed_by p.load.workers w p.committed in
+      let shards : Plain = record p { shards = slice_set p.shards i q.locked } in
+      let new : seat_worker p.load q.new c ≡ record (seat_worker p.load q.seat c) { hand = hand_in p.load.procs q.new.txn } = ap (λ (x : PlainSeat). seat_worker p.load x c) q.others in
+      ap (λ (x : Plain). core_of x h) q.after ∙ seat-core shards h w q.seat q.new q.is
+      ∙ (λ k. record (core_of p h) {
+        workers = at w ((new ∙ (λ l. record (sym (seat-worker p h w q.seat q.new q.is) l) { hand = q.granted l })
+            ∙ (λ l. record (sym is-ready l) { hand = Some (hand_locked q.hand q.key q.mode ((sym shard-is l).rows q.key) (entry_in (sym shard-is l) q.key).write_lv (entry_in (sym shard-is l) q.key).read_lv) })) k) (core_of p h).workers;
+        outboxes = same-outbox p h w q.seat q.new q.is (ap (λ (x : PlainSeat). tickets x.pending.calls) q.others) k;
+        shards = (reads-got (λ j (o : Option PlainShard). shard_in o) p.shards i q.locked (slice_get_within p.shards i q.shard q.shard_is)
+            ∙ ap (λ (x : Shard). at i x (core_of p h).shards) (q.locks ∙ ap (λ (x : Shard). shard_locked x w q.key q.mode) (sym shard-is))) k;
+      })
+
+  pub takes-is : (ready (setting_of p.load) (core_of p h) w).hand ≡ Some q.hand
+  takes-is = ap (λ (x : Worker). x.hand) is-ready ∙ worker-hand
+
+  pub takes-locks : Locks (setting_of p.load) w (core_of p h) (core_of p' h)
+  takes-locks = record {
+    hand = q.hand;
+    key = q.key;
+    mode = q.mode;
+    is = ap (λ (x : Worker). x.hand) is-ready ∙ worker-hand;
+    phase = q.wants.phase;
+    next = q.wants.next;
+    free = λ c. none-conflicts (setting_of p.load) ((core_of p h).shards i) w q.key q.mode (subst (λ (x : Shard). (u : ℕ) → blocks (entry_in x q.key) w q.mode u ≡ false) (sym shard-is) q.free) c;
+    after = locks-after;
+  }
+
+  pub takes-stands : (K : List (Act Txn)) → Carried p K h → Invariant (setting_of p.load) K (core_of p' h) → Stands p' K h
+  takes-stands K g inv =
+      let hand_phase = locked-phase q.hand q.key q.mode ((shard_of q.shard).rows q.key) (entry_in (shard_of q.shard) q.key).write_lv (entry_in (shard_of q.shard) q.key).read_lv ∙ q.wants.phase in
+      let opens : one_open p.load q.new ≤ one_open p.load q.seat =
+      (let a = open-running (hand_in p.load.procs q.new.txn) _ q.granted hand_phase in
+      let b = open-running (hand_in p.load.procs q.seat.txn) q.hand q.wants.is q.wants.phase in
+      rw (a, b) (omega arith)) in
+      let r : Sound (record p { seats = slice_set p.seats w q.new }) = seat-sound p h w q.seat q.new q.is g.sound q.sound opens in
+      let within = seat-inside p h w q.seat q.new q.is in
+      let inv' : Invariant (setting_of p.load) K (core_of (record p { seats = slice_set p.seats w q.new; shards = slice_set p.shards i q.locked }) h) =
+      subst (λ (x : Plain). Invariant (setting_of p.load) K (core_of x h)) q.after inv in
+      subst (λ (x : Plain). Stands x K h) (sym q.after) (record {
+        sound = record {
+          workers_low = r.workers_low;
+          workers_high = r.workers_high;
+          streams_low = r.streams_low;
+          streams_high = r.streams_high;
+          few = r.few;
+          takes = r.takes;
+          opened = r.opened;
+          shards = length-set p.shards i q.locked ∙ g.sound.shards;
+          seats = r.seats;
+          streams = r.streams;
+          ends = r.ends;
+          gathered = r.gathered;
+          plv = r.plv;
+          seat = r.seat;
+          wide = r.wide;
+          narrow = λ k sh e. subst (λ (x : Shard). ShardShape (setting_of p.load) x) (ap shard_in e) (inv'.shapes.shards k);
+          room = r.room;
+        };
+        inv = inv';
+        order = g.order;
+        posted = each-got (λ k (t : PlainSeat). Paired (IsPieceOf p.load (anchors_at p)) t.outbox.pieces (h.posted k)) p.seats w q.new within
+            (subst (λ (x : PlainSeat). Paired (IsPieceOf p.load (anchors_at p)) x.outbox.pieces (h.posted w)) (sym q.others) (g.posted w q.seat q.is)) g.posted;
+        own = g.own;
+        placed = λ k x a e f. (each-got (λ l (y : PlainSeat). (b : Act Txn) → placed_in (hand_in p.load.procs y.txn) ≡ Some b → IsPieceOf p.load (anchors_at p) (record { start = y.start; bytes = bytes_in y.txn }) (Record b))
+            p.seats w q.new within (λ b d. absurd (let bad : None ≡ Some b = sym (unplaced-running (hand_in p.load.procs q.new.txn) _ q.granted hand_phase) ∙ d in cc)) (λ l y d b c. g.placed l y b d c)) k x e a f;
+        gathered = g.gathered;
+      })

@@ -1,0 +1,31 @@
+use Rattle.std.proofs.Common.{ℕ, ◌<◌, List, length, refl, sym, ap, arith}
+use Rattle.tau_core.specs.Plain.{PlainSeat}
+use Rattle.tau_core.specs.State.{Plain, plain}
+use Rattle.tau_core.specs.Commits.{MakesRoom}
+use Rattle.tau_core.proofs.Lists.{some-at, set-got}
+use Rattle.tau_txn.specs.declared.action.Action.TheVariants as action
+use Rattle.tau_core.proofs.PhaseLaws.{means-phase}
+use Rattle.tau_core.proofs.commit.place.Goals as goal
+
+no-room : (p : Plain) (w : ℕ) → w < length p.seats → MakesRoom w p p
+no-room p w lt =
+    let found = some-at p.seats w lt in
+    record { seat = found.0; outbox = found.0.outbox; is = found.1; pieces = refl; room = (omega arith); after = ap (λ (l : List PlainSeat). record p { seats = l }) (sym (set-got p.seats w found.0 found.1)) }
+
+pub returns-then-start : goal.returns-then-start
+returns-then-start c = (
+  no-room (plain c.args.state.now) c.args.worker (let e = c.requires.sound.seats in let l = c.requires.there in omega arith),
+  λ s e.
+      let o = c.requires.sound.seat c.args.worker s e in
+      let at = c.requires.at s e in
+      means-phase c.args.state.now.load.procs s.txn (action.Commit at.0) at.2 o.leaving o.stays,
+)
+
+pub returns-in-None : goal.returns-in-None
+returns-in-None c = (
+  no-room (plain c.args.state.now) c.args.worker (let e = c.requires.sound.seats in let l = c.requires.there in omega arith),
+  λ s e.
+      let o = c.requires.sound.seat c.args.worker s e in
+      let at = c.requires.at s e in
+      means-phase c.args.state.now.load.procs s.txn (action.Commit at.0) at.2 o.leaving o.stays,
+)

@@ -1,0 +1,14 @@
+use Rattle.std.proofs.Common.{◌≡◌}
+use Rattle.std.specs.Prelude.{slice_index}
+use Rattle.tau_core.specs.State.{plain}
+use Rattle.tau_core.specs.Gather.{GathersOn, WaitsBelow}
+use Rattle.tau_core.specs.Ends.{IsNext}
+use Rattle.tau_core.proofs.gather.gather_round.Given as goal
+
+abbrev pub invariant-loop-worker : goal.invariant-loop-worker
+invariant-loop-worker l = record {
+  gathers : GathersOn l.stream (plain l.fn.state) (plain l.state);
+  next : IsNext l.stream (plain l.fn.state) (plain l.state);
+  streams : l.streams ≡ l.state.load.streams;
+  waits : slice_index l.state.gathered l.stream ≡ slice_index l.fn.state.gathered l.stream → WaitsBelow l.stream l.worker (plain l.state);
+}

@@ -1,0 +1,168 @@
+use Rattle.std.proofs.Common.{ℕ, ◌≡◌, ◌<◌, List, length, refl, sym, ap, subst, ◌∙◌, arith}
+use Rattle.std.specs.Prelude.{Some, slice_get, slice_set}
+use Rattle.tau_base.specs.declared.value.Value.{Value}
+use Rattle.tau_base.specs.declared.limits.TheConstants.{SHARDS}
+use Rattle.tau_base.specs.Shards.{shard_number}
+use Rattle.tau_txn.specs.declared.action.Action.{Action}
+use Rattle.tau_txn.specs.declared.action.Action.TheVariants as action
+use Rattle.tau_txn.specs.Next.{IsLock}
+use Rattle.tau_txn.specs.Steps.{locked_with}
+use Rattle.tau_machine.specs.Shard.{Entry, entry_in}
+use Rattle.tau_machine.specs.Worker.{hand_busy, hand_locked, settled}
+use Rattle.tau_machine.specs.Pieces.{placed_of}
+use Rattle.tau_shard.specs.Read.{shard_of}
+use Rattle.tau_shard.specs.Blocks.{dep_locked, IsLowest, RefusedBy}
+use Rattle.tau_shard.specs.declared.entry.ShardRefusal.{ShardRefusal}
+use Rattle.tau_core.specs.Plain.{PlainSeat}
+use Rattle.tau_core.specs.State.{Plain, plain}
+use Rattle.tau_core.proofs.Found.{seat_in, found-seat, found-whole, found-shard}
+use Rattle.tau_core.proofs.Lists.{set-got}
+use Rattle.tau_core.proofs.Hands.{shown-dep, some-hand, locked-alike, locked-wide, locked-call, sound-on, entry-narrow}
+use Rattle.tau_core.proofs.Takes.{locked-phase}
+use Rattle.tau_core.proofs.Leaving.{leaving}
+use Rattle.tau_core.proofs.PhaseLaws.{means-phase}
+use Rattle.tau_core.proofs.lock.take_lock.Goals as goal
+
+pub granted-requires-clause-lock : goal.granted-requires-clause-lock
+granted-requires-clause-lock c =
+    let is = found-seat c.args.state.now c.args.worker c.index_mut-seat.result.now c.seat.inside c.requires.sound c.requires.there c.index_mut-seat.ensures.value c.seat.view_is in
+    let o = c.requires.sound.seat c.args.worker (seat_in c.seat.inside) is in
+    let wants = c.requires.wants (seat_in c.seat.inside) is in
+    let m = wants.1 in
+    subst (λ (a : Action). IsLock a) (sym wants.0) tt
+
+pub busy-requires-clause-lock : goal.busy-requires-clause-lock
+busy-requires-clause-lock c =
+    let is = found-seat c.args.state.now c.args.worker c.index_mut-seat.result.now c.seat.inside c.requires.sound c.requires.there c.index_mut-seat.ensures.value c.seat.view_is in
+    let o = c.requires.sound.seat c.args.worker (seat_in c.seat.inside) is in
+    let wants = c.requires.wants (seat_in c.seat.inside) is in
+    let m = wants.1 in
+    subst (λ (a : Action). IsLock a) (sym wants.0) tt
+
+pub busy-requires-clause-run : goal.busy-requires-clause-run
+busy-requires-clause-run c =
+    let is = found-seat c.args.state.now c.args.worker c.index_mut-seat.result.now c.seat.inside c.requires.sound c.requires.there c.index_mut-seat.ensures.value c.seat.view_is in
+    let o = c.requires.sound.seat c.args.worker (seat_in c.seat.inside) is in
+    let wants = c.requires.wants (seat_in c.seat.inside) is in
+    let m = wants.1 in
+    o.runs
+
+pub granted-requires-clause-wide : goal.granted-requires-clause-wide
+granted-requires-clause-wide c =
+    let is = found-seat c.args.state.now c.args.worker c.index_mut-seat.result.now c.seat.inside c.requires.sound c.requires.there c.index_mut-seat.ensures.value c.seat.view_is in
+    let o = c.requires.sound.seat c.args.worker (seat_in c.seat.inside) is in
+    let wants = c.requires.wants (seat_in c.seat.inside) is in
+    let m = wants.1 in
+    let below : c.from.result < SHARDS = (let e = c.from.ensures in let f = c.shard_of.ensures.small in omega arith) in
+    let shard = found-shard c.args.state.now c.from.result c.index_mut-part.result.now c.requires.sound below c.index_mut-part.ensures.value in
+    let number : c.from.result ≡ shard_number c.args.key = c.from.ensures ∙ c.shard_of.ensures.same in
+    let shard_is = subst (λ (n : ℕ). slice_get c.args.state.now.shards.items n ≡ Some c.index_mut-part.result.now) number shard in
+    let entry : Entry = entry_in (shard_of c.index_mut-part.result.now) c.args.key in
+    let narrow = entry-narrow c.args.state.now.load (shard_of c.index_mut-part.result.now) c.args.key (c.requires.sound.narrow c.from.result c.index_mut-part.result.now shard) in
+    let wide : length (dep_locked c.args.mode c.dep-dep.result entry) ≡ c.seat.inside.txn.width =
+    locked-wide c.args.mode c.seat.inside.txn.width c.dep-dep.result entry c.dep-dep.ensures.wide (let a = narrow.0 in let b = o.width in omega arith) (let a = narrow.1 in let b = o.width in omega arith) in
+    ap length c.in-Ok.ensures.joined ∙ wide
+
+pub leave-requires-clause-room : goal.leave-requires-clause-room
+leave-requires-clause-room c =
+    let is = found-seat c.args.state.now c.args.worker c.index_mut-seat.result.now c.seat.inside c.requires.sound c.requires.there c.index_mut-seat.ensures.value c.seat.view_is in
+    let o = c.requires.sound.seat c.args.worker (seat_in c.seat.inside) is in
+    let wants = c.requires.wants (seat_in c.seat.inside) is in
+    let m = wants.1 in
+    λ e. o.leaves (some-hand c.args.state.now.load.procs c.seat.inside.txn m.hand m.is)
+
+pub returns-in-Ok : goal.returns-in-Ok
+returns-in-Ok c =
+    let is = found-seat c.args.state.now c.args.worker c.index_mut-seat.result.now c.seat.inside c.requires.sound c.requires.there c.index_mut-seat.ensures.value c.seat.view_is in
+    let o = c.requires.sound.seat c.args.worker (seat_in c.seat.inside) is in
+    let wants = c.requires.wants (seat_in c.seat.inside) is in
+    let m = wants.1 in
+    let below : c.from.result < SHARDS = (let e = c.from.ensures in let f = c.shard_of.ensures.small in omega arith) in
+    let shard = found-shard c.args.state.now c.from.result c.index_mut-part.result.now c.requires.sound below c.index_mut-part.ensures.value in
+    let number : c.from.result ≡ shard_number c.args.key = c.from.ensures ∙ c.shard_of.ensures.same in
+    let shard_is = subst (λ (n : ℕ). slice_get c.args.state.now.shards.items n ≡ Some c.index_mut-part.result.now) number shard in
+    let entry : Entry = entry_in (shard_of c.index_mut-part.result.now) c.args.key in
+    let p : Plain = plain c.args.state.now in
+    let row : Value = (shard_of c.index_mut-part.result.now).rows c.args.key in
+    let new : PlainSeat = record (seat_in c.seat.inside) { txn = c.granted.new.self } in
+    let dep : c.lock.new.dep ≡ dep_locked c.args.mode m.hand.dep entry =
+    c.in-Ok.ensures.joined ∙ ap (λ (d : List ℕ). dep_locked c.args.mode d entry) (c.dep-dep.ensures.dep ∙ shown-dep c.args.state.now.load.procs c.seat.inside.txn m.hand m.is) in
+    let granted = c.granted.ensures.locked c.args.state.now.load.procs m.hand c.args.key c.args.mode o.runs wants.0 m.is
+    ∙ ap Some (ap (λ (v : Value). locked_with m.hand c.args.key c.args.mode v c.lock.new.dep) (c.copied.ensures ∙ c.in-Ok.ensures.value) ∙ locked-alike m.hand c.args.key c.args.mode row c.lock.new.dep entry dep) in
+    record {
+      seat = seat_in c.seat.inside;
+      shard = c.index_mut-part.result.now;
+      hand = m.hand;
+      key = c.args.key;
+      mode = c.args.mode;
+      new = new;
+      locked = c.lock.new.self;
+      is = is;
+      shard_is = shard_is;
+      wants = record { is = m.is; phase = m.phase; next = m.next };
+      free = c.in-Ok.ensures.free;
+      value_is = c.in-Ok.ensures.value;
+      locks = c.in-Ok.ensures.locked;
+      granted = granted;
+      others = refl;
+      sound = sound-on c.args.state.now.load c.args.worker (seat_in c.seat.inside) new m.hand (hand_locked m.hand c.args.key c.args.mode row entry.write_lv entry.read_lv) o m.is refl c.granted.ensures.same granted
+          (locked-call m.hand c.args.key c.args.mode row entry.write_lv entry.read_lv) (c.granted.ensures.runs c.args.state.now.load.procs o.runs) (c.granted.ensures.stays o.leaving)
+          (ap placed_of (locked-phase m.hand c.args.key c.args.mode row entry.write_lv entry.read_lv ∙ m.phase));
+      after = ap (λ (n : ℕ). record p { seats = slice_set p.seats c.args.worker new; shards = slice_set p.shards n c.lock.new.self }) number;
+    }
+
+pub returns-in-Err-Busy : goal.returns-in-Err-Busy
+returns-in-Err-Busy c =
+    let is = found-seat c.args.state.now c.args.worker c.index_mut-seat.result.now c.seat.inside c.requires.sound c.requires.there c.index_mut-seat.ensures.value c.seat.view_is in
+    let o = c.requires.sound.seat c.args.worker (seat_in c.seat.inside) is in
+    let wants = c.requires.wants (seat_in c.seat.inside) is in
+    let m = wants.1 in
+    let below : c.from.result < SHARDS = (let e = c.from.ensures in let f = c.shard_of.ensures.small in omega arith) in
+    let shard = found-shard c.args.state.now c.from.result c.index_mut-part.result.now c.requires.sound below c.index_mut-part.ensures.value in
+    let number : c.from.result ≡ shard_number c.args.key = c.from.ensures ∙ c.shard_of.ensures.same in
+    let shard_is = subst (λ (n : ℕ). slice_get c.args.state.now.shards.items n ≡ Some c.index_mut-part.result.now) number shard in
+    let entry : Entry = entry_in (shard_of c.index_mut-part.result.now) c.args.key in
+    let p : Plain = plain c.args.state.now in
+    let settles = leaving c.args.state.now.load c.args.worker (seat_in c.seat.inside) c.leave.new.seat m.hand (hand_busy m.hand) c.busy.new.self o m.is refl refl c.busy.ensures.same
+    (λ wk. c.busy.ensures.busy wk m.hand m.is ∙ ap (λ (n : ℕ). settled n wk (hand_busy m.hand)) o.width) c.busy.ensures.runs (c.busy.ensures.stays o.leaving) c.leave.ensures in
+    let refused = c.in-Err-Busy.ensures.refused in
+    record {
+      seat = seat_in c.seat.inside;
+      shard = c.index_mut-part.result.now;
+      hand = m.hand;
+      key = c.args.key;
+      mode = c.args.mode;
+      new = c.leave.new.seat;
+      kept = c.lock.new.self;
+      is = is;
+      shard_is = shard_is;
+      kept_is = c.in-Err-Busy.ensures.unchanged;
+      wants = record { is = m.is; phase = m.phase; next = m.next };
+      lowest = subst (λ (n : ℕ). IsLowest entry c.args.worker c.args.mode n) (sym c.in-Err-Busy.holder-is) (subst (λ (r : ShardRefusal). RefusedBy entry c.args.worker c.args.mode r) c.in-Err-Busy.field-0-is refused);
+      settles = settles.worker;
+      keeps = settles.keeps;
+      sound = settles.sound;
+      after = ap (λ (n : ℕ). record p { seats = slice_set p.seats c.args.worker c.leave.new.seat; shards = slice_set p.shards n c.lock.new.self }) number;
+    }
+
+pub returns-in-Err-NoMemory : goal.returns-in-Err-NoMemory
+returns-in-Err-NoMemory c =
+    let p : Plain = plain c.args.state.now in
+    let is = found-whole c.args.state.now c.args.worker c.index_mut-seat.result.now c.requires.sound c.requires.there c.index_mut-seat.ensures.value in
+    let below : c.from.result < SHARDS = (let e = c.from.ensures in let f = c.shard_of.ensures.small in omega arith) in
+    let shard = found-shard c.args.state.now c.from.result c.index_mut-part.result.now c.requires.sound below c.index_mut-part.ensures.value in
+    let number : c.from.result ≡ shard_number c.args.key = c.from.ensures ∙ c.shard_of.ensures.same in
+    let shard_is = subst (λ (n : ℕ). slice_get c.args.state.now.shards.items n ≡ Some c.index_mut-part.result.now) number shard in
+    let entry : Entry = entry_in (shard_of c.index_mut-part.result.now) c.args.key in (
+      record {
+        i = c.from.result;
+        shard = c.index_mut-part.result.now;
+        kept = c.lock.new.self;
+        is = shard;
+        kept_is = c.in-Err-NoMemory.ensures.unchanged;
+        after = ap (λ (l : List PlainSeat). record p { seats = l; shards = slice_set p.shards c.from.result c.lock.new.self }) (set-got c.args.state.now.seats.items c.args.worker c.index_mut-seat.result.now is);
+      },
+      λ s e.
+          let o = c.requires.sound.seat c.args.worker s e in
+          means-phase c.args.state.now.load.procs s.txn (action.Lock c.args.key c.args.mode) (c.requires.wants s e).1 o.leaving o.stays,
+    )

@@ -1,0 +1,17 @@
+use Rattle.std.proofs.Common.{ℕ, ◌≡◌, ◌+◌, List, [], length, sym, ap, subst, ◌∙◌}
+use Rattle.std.specs.Prelude.{Some, slice_get}
+use Rattle.tau_shard.specs.Plain.{PlainShard}
+use Rattle.tau_core.specs.Opens.{IsShardAtRest}
+use Rattle.tau_core.proofs.Pushes.{length-snoc, each-snoc}
+use Rattle.tau_core.proofs.RowPuts.{shard-rests}
+use Rattle.tau_core.proofs.parts.empty_shards.Goals as goal
+
+pub loop-shard-preserved : goal.loop-shard-preserved
+loop-shard-preserved c =
+    let xs : List PlainShard = c.loop-shard.all.items in
+    let x : PlainShard = c.with_floor.result in
+    record {
+      count = ap length c.in-Ok.ensures.items ∙ length-snoc xs x ∙ ap (λ (n : ℕ). n + 1) c.loop-shard.invariant.count;
+      each = subst (λ (l : List PlainShard). (i : ℕ) (s : PlainShard) → slice_get l i ≡ Some s → IsShardAtRest c.args.floor [] i s) (sym c.in-Ok.ensures.items)
+          (each-snoc (IsShardAtRest c.args.floor []) xs x c.loop-shard.invariant.each (shard-rests c.args.floor (length xs) x c.with_floor.ensures));
+    }

@@ -1,0 +1,19 @@
+//! What was gathered is given away.
+ghost use Rattle.std.specs.Prelude.{◌≡◌, ◌<◌};
+ghost use Rattle.tau_core.specs.State.{plain};
+ghost use Rattle.tau_core.specs.Stands.{Sound};
+ghost use Rattle.tau_core.specs.Body.{Gives};
+
+use crate::state::State;
+use std::mem;
+
+/// The bytes that were gathered since the last such call.
+pub(crate) fn take_body(state: &mut State, stream: usize) -> Vec<u8>
+    requires sound { Sound (plain state.old) }
+    requires there { stream < state.old.load.streams }
+    ensures { Gives (plain state.old) stream result.items (plain state.new) }
+{
+    let empty = Vec::new(state.alloc);
+    let part = &mut state.streams[stream];
+    mem::replace(&mut part.body, empty)
+}

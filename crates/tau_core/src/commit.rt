@@ -1,0 +1,132 @@
+//! A worker's call gets the place of its record.
+ghost use Rattle.std.specs.Prelude.{◌≡◌, ◌<◌, ◌+◌, IfSome, length, slice_index};
+ghost use Rattle.tau_base.specs.declared.limits.TheConstants.{MAX_LSN};
+ghost use Rattle.tau_core.specs.State.{plain};
+ghost use Rattle.tau_core.specs.Stands.{Sound, anchors_at};
+ghost use Rattle.tau_core.specs.Pieces.{Names, newest_of};
+ghost use Rattle.tau_core.specs.Commits.{IsAtCommit, CommitBy, stream_of};
+ghost use Rattle.tau_txn.specs.declared.action.Action.TheVariants.{Commit};
+ghost use Rattle.tau_txn.specs.Txn.{bytes_in};
+ghost use Rattle.tau_txn.specs.Next.{next_action};
+
+use crate::event::Outcome;
+use crate::free::keep;
+use crate::phase::phase_of;
+use crate::state::State;
+use tau_base::{Lv, MAX_LSN};
+use tau_txn::{Action, Txn};
+
+/// More bytes than any record has.
+const LONGEST: u64 = 4_294_967_296;
+
+/// The updating call that holds all its keys gets its place.
+pub(crate) fn commit(state: &mut State, worker: usize) -> Outcome
+    requires sound { Sound (plain state.old) }
+    requires there { worker < state.old.load.workers }
+    ensures { CommitBy (plain state.old) worker result (plain state.new) }
+{
+    let seat = &state.seats[worker];
+    match seat.txn.turn() {
+        Action::Commit { .. } => place(state, worker),
+        action => Outcome::NotNow {
+            phase: phase_of(&action),
+        },
+    }
+}
+
+/// It names the newest anchor of its stream, if there is one, and gets its place.
+fn place(state: &mut State, worker: usize) -> Outcome
+    requires sound { Sound (plain state.old) }
+    requires there { worker < state.old.load.workers }
+    requires at { IsAtCommit (plain state.old) worker }
+    ensures { CommitBy (plain state.old) worker result (plain state.new) }
+{
+    let stream = worker % state.load.streams;
+    let start = state.ends.get(stream);
+    if start >= MAX_LSN - LONGEST {
+        return Outcome::NoMemory;
+    }
+    match newest(state, stream) {
+        None => Outcome::NoMemory,
+        Some(named) => place_above(state, worker, start, &named),
+    }
+}
+
+/// Its record is made above this anchor, and gets its place.
+fn place_above(state: &mut State, worker: usize, start: u64, named: &Named) -> Outcome
+    requires sound { Sound (plain state.old) }
+    requires there { worker < state.old.load.workers }
+    requires at { IsAtCommit (plain state.old) worker }
+    requires start { start ≡ slice_index state.old.ends (stream_of (plain state.old) worker) }
+    requires low { start + LONGEST < MAX_LSN }
+    requires names { Names state.old.load (stream_of (plain state.old) worker) (anchors_at (plain state.old) (stream_of (plain state.old) worker)) named.now.number named.now.lv }
+    requires newest { named.now.number ≡ newest_of (slice_index state.old.load.opening.anchors.items (stream_of (plain state.old) worker)) (anchors_at (plain state.old) (stream_of (plain state.old) worker)) }
+    requires wide { length named.now.lv ≡ state.old.load.streams }
+    ensures { CommitBy (plain state.old) worker result (plain state.new) }
+{
+    let seat = &mut state.seats[worker];
+    match seat.outbox.reserve() {
+        Err(_) => Outcome::NoMemory,
+        Ok(()) => match seat.txn.prepare(named.number, &named.lv) {
+            Err(_) => Outcome::NoMemory,
+            Ok(()) => {
+                let past = start + size_of(&seat.txn);
+                seat.txn.placed(start);
+                seat.start = start;
+                match seat.txn.committed() {
+                    None => Outcome::NoMemory,
+                    Some(kept) => {
+                        keep(&mut state.committed, kept);
+                        state.ends.set(worker % state.load.streams, past);
+                        Outcome::Placed { start }
+                    }
+                }
+            }
+        },
+    }
+}
+
+/// The size of the record that was made.
+fn size_of(txn: &Txn) -> u64
+    requires { next_action txn.now ≡ Commit (length (bytes_in txn.now)) }
+    ensures { result ≡ length (bytes_in txn.now) }
+{
+    match txn.turn() {
+        Action::Commit { size } => size,
+        _ => 0,
+    }
+}
+
+/// An anchor's vector with its number.
+#[derive(Clone, Copy)]
+struct Named {
+    number: u32,
+    lv: Lv,
+}
+
+/// The newest anchor of the stream; where there is none, the zero vector with the number 0.
+fn newest(state: &State, stream: usize) -> Option<Named>
+    requires sound { Sound (plain state.now) }
+    requires there { stream < state.now.load.streams }
+    ensures names { IfSome result (λ r. Names state.now.load stream (anchors_at (plain state.now) stream) r.number r.lv) }
+    ensures newest { IfSome result (λ r. r.number ≡ newest_of (slice_index state.now.load.opening.anchors.items stream) (anchors_at (plain state.now) stream)) }
+    ensures wide { IfSome result (λ r. length r.lv ≡ state.now.load.streams) }
+{
+    let part = &state.streams[stream];
+    let count = part.anchors.len();
+    if count == 0 {
+        return Some(Named {
+            number: 0,
+            lv: Lv::zero(state.load.streams),
+        });
+    }
+    let before = state.load.opening.anchors.as_slice()[stream];
+    let number = u64::from(before) + count as u64;
+    if number >= LONGEST {
+        return None;
+    }
+    Some(Named {
+        number: number as u32,
+        lv: part.anchors[count - 1],
+    })
+}

@@ -1,0 +1,95 @@
+//! The procedures and the calls of a workload, again.
+ghost use Rattle.std.specs.Prelude.{◌≡◌, ◌<◌, ◌++◌, ◌∷◌, [], IfOk, OnOk, length};
+ghost use Rattle.tau_base.specs.declared.limits.TheConstants.{MAX_PROCS};
+ghost use Rattle.tau_proc.specs.Limits.{IsWellFormed};
+
+use arrayvec::ArrayVec;
+use std::alloc::Global;
+use tau_base::{Call, Listed, NoMemory};
+use tau_proc::{Proc, Procs, Step};
+
+/// The procedures again.
+pub(crate) fn copied_procs(alloc: Global, procs: &Procs) -> Result<Procs, NoMemory>
+    ensures { IfOk result (λ copy. copy ≡ procs.now) }
+{
+    let mut all = Procs::new(alloc);
+    let list = procs.list();
+    for proc in list {
+        match add_copy(&mut all, alloc, proc) {
+            Ok(()) => {}
+            Err(error) => return Err(error),
+        }
+    }
+    Ok(all)
+}
+
+/// Puts the procedure again at the end.
+fn add_copy(procs: &mut Procs, alloc: Global, proc: &Proc) -> Result<(), NoMemory>
+    requires room { length procs.old < MAX_PROCS }
+    requires well_formed { IsWellFormed proc.now }
+    ensures { OnOk result (procs.new ≡ procs.old ++ proc.now ∷ []) }
+{
+    match copied_proc(alloc, proc) {
+        Ok(copy) => match procs.add(copy) {
+            Ok(()) => Ok(()),
+            Err(error) => Err(error),
+        },
+        Err(error) => Err(error),
+    }
+}
+
+/// The procedure again.
+fn copied_proc(alloc: Global, proc: &Proc) -> Result<Proc, NoMemory>
+    ensures { IfOk result (λ copy. copy ≡ proc.now) }
+{
+    match copied_steps(alloc, proc.steps.as_slice()) {
+        Ok(steps) => Ok(Proc {
+            name: proc.name.copied(),
+            args: proc.args,
+            steps,
+        }),
+        Err(error) => Err(error),
+    }
+}
+
+/// The steps again.
+fn copied_steps(alloc: Global, steps: &[Step]) -> Result<Listed<Step>, NoMemory>
+    ensures { IfOk result (λ copy. copy ≡ steps.now) }
+{
+    let mut all = Listed::new(alloc);
+    for step in steps {
+        match all.push(step.copied()) {
+            Ok(()) => {}
+            Err(_) => return Err(NoMemory),
+        }
+    }
+    Ok(all)
+}
+
+/// The calls again.
+pub(crate) fn copied_calls(alloc: Global, calls: &[Call]) -> Result<Listed<Call>, NoMemory>
+    ensures { IfOk result (λ copy. copy ≡ calls.now) }
+{
+    let mut all = Listed::new(alloc);
+    for call in calls {
+        match all.push(copied_call(call)) {
+            Ok(()) => {}
+            Err(_) => return Err(NoMemory),
+        }
+    }
+    Ok(all)
+}
+
+/// The call again. It takes no memory.
+fn copied_call(call: &Call) -> Call
+    ensures { result ≡ call.now }
+{
+    let mut args = ArrayVec::new();
+    for arg in call.args.as_slice() {
+        args.push(arg.copied());
+    }
+    Call {
+        proc: call.proc,
+        args,
+    }
+}

@@ -1,0 +1,93 @@
+//! A worker's call has freed all its keys.
+ghost use Rattle.std.specs.Prelude.{◌≡◌, ◌<◌};
+ghost use Rattle.tau_core.specs.State.{plain};
+ghost use Rattle.tau_core.specs.Stands.{Sound, Stood};
+ghost use Rattle.tau_core.specs.Begins.{HasNext};
+ghost use Rattle.tau_core.specs.Firsts.{ActsBy, BeginsBy, Rests};
+ghost use Rattle.tau_core.specs.Frees.{IsAtDone, DoneBy, EndsCall};
+
+use crate::begin::{begin_call, in_hand, make_room, next_number, undo};
+use crate::event::{Outcome, Phase};
+use crate::free::keep;
+use crate::phase::phase_of;
+use crate::state::State;
+use tau_txn::Action;
+
+/// The worker's call waits for its acknowledgement; a worker that rests begins its next call.
+pub(crate) fn done(state: &mut State, worker: usize) -> Outcome
+    requires stood { Stood (plain state.old) }
+    requires there { worker < state.old.load.workers }
+    ensures { ActsBy DoneBy (plain state.old) worker result (plain state.new) }
+{
+    if in_hand(state, worker) {
+        return done_next(state, worker);
+    }
+    match next_number(state, worker) {
+        None => Outcome::NotNow {
+            phase: Phase::Resting,
+        },
+        Some(number) => first_done(state, worker, number),
+    }
+}
+
+/// It begins the call of this number, which has finished at once.
+fn first_done(state: &mut State, worker: usize, number: u64) -> Outcome
+    requires stood { Stood (plain state.old) }
+    requires there { worker < state.old.load.workers }
+    requires rests { Rests (plain state.old) worker }
+    requires next { HasNext (plain state.old) worker number }
+    ensures { BeginsBy DoneBy worker number (plain state.old) result (plain state.new) }
+{
+    match make_room(state, worker) {
+        Err(_) => Outcome::NoMemory,
+        Ok(()) => {
+            let mark = begin_call(state, worker, number);
+            match done_next(state, worker) {
+                Outcome::NotNow { .. } => {
+                    undo(state, worker, mark);
+                    Outcome::NotNow {
+                        phase: Phase::Resting,
+                    }
+                }
+                outcome => outcome,
+            }
+        }
+    }
+}
+
+/// The call that has finished and holds no key waits for its acknowledgement.
+pub(crate) fn done_next(state: &mut State, worker: usize) -> Outcome
+    requires sound { Sound (plain state.old) }
+    requires there { worker < state.old.load.workers }
+    ensures { DoneBy (plain state.old) worker result (plain state.new) }
+{
+    let seat = &state.seats[worker];
+    match seat.txn.turn() {
+        Action::Done { .. } => {
+            finish(state, worker);
+            Outcome::Went
+        }
+        action => Outcome::NotNow {
+            phase: phase_of(&action),
+        },
+    }
+}
+
+/// It waits.
+fn finish(state: &mut State, worker: usize)
+    requires sound { Sound (plain state.old) }
+    requires there { worker < state.old.load.workers }
+    requires at { IsAtDone (plain state.old) worker }
+    ensures { EndsCall worker (plain state.old) (plain state.new) }
+{
+    let seat = &mut state.seats[worker];
+    let joined = seat.txn.has_joined();
+    let Some(kept) = seat.txn.committed() else {
+        return;
+    };
+    seat.pending.put(kept.number, kept.lv);
+    seat.txn.went(&state.load.procs);
+    if !joined {
+        keep(&mut state.committed, kept);
+    }
+}

@@ -1,0 +1,38 @@
+//! The core of the engine: its state, and each event as a step of it.
+#![tactic(auto)]
+
+mod anchor;
+mod begin;
+mod body;
+mod commit;
+mod copies;
+mod done;
+mod event;
+mod free;
+mod fresh;
+mod gather;
+mod laws;
+mod lock;
+mod next;
+mod open;
+mod opening;
+mod parts;
+mod phase;
+mod position;
+mod post;
+mod quit;
+mod resume;
+mod retry;
+mod state;
+mod sweep;
+mod tables;
+mod top;
+
+pub use event::{Event, Outcome, Phase};
+pub use laws::{
+    acknowledged_calls_survive, committed_calls_are_of_the_run, cuts_are_closed,
+    dependence_is_covered, gathered_bytes_spell_the_stream, numbers_are_of_the_reported_history,
+    rows_are_of_the_commit_order, rows_are_of_the_reported_history, vectors_stay_light,
+};
+pub use opening::Opening;
+pub use top::Core;

@@ -1,0 +1,41 @@
+//! A worker posts the record of its call.
+ghost use Rattle.std.specs.Prelude.{◌≡◌, ◌<◌};
+ghost use Rattle.tau_core.specs.State.{plain};
+ghost use Rattle.tau_core.specs.Stands.{Stood};
+ghost use Rattle.tau_core.specs.Frees.{IsAtPost, PostBy, PostsRecord};
+
+use crate::event::Outcome;
+use crate::phase::phase_of;
+use crate::state::State;
+use tau_txn::Action;
+
+/// The record that has its place is posted.
+pub(crate) fn post(state: &mut State, worker: usize) -> Outcome
+    requires stood { Stood (plain state.old) }
+    requires there { worker < state.old.load.workers }
+    ensures { PostBy (plain state.old) worker result (plain state.new) }
+{
+    let seat = &state.seats[worker];
+    match seat.txn.turn() {
+        Action::Post => {
+            post_record(state, worker);
+            Outcome::Went
+        }
+        action => Outcome::NotNow {
+            phase: phase_of(&action),
+        },
+    }
+}
+
+/// It is posted.
+fn post_record(state: &mut State, worker: usize)
+    requires stood { Stood (plain state.old) }
+    requires there { worker < state.old.load.workers }
+    requires at { IsAtPost (plain state.old) worker }
+    ensures { PostsRecord worker (plain state.old) (plain state.new) }
+{
+    let limit = state.ends.get(worker % state.load.streams);
+    let seat = &mut state.seats[worker];
+    let bytes = seat.txn.take_bytes();
+    seat.outbox.post(seat.start, bytes);
+}

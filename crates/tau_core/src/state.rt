@@ -1,0 +1,82 @@
+//! The state of the core, as its parts.
+use crate::opening::Opening;
+use std::alloc::Global;
+use std::marker::Model;
+use tau_ack::Pending;
+use tau_base::{Call, Listed, LogMode, Lv};
+use tau_model::Committed;
+use tau_outbox::Outbox;
+use tau_proc::Procs;
+use tau_shard::Shard;
+use tau_txn::Txn;
+
+/// What a run stands on. No event changes it.
+#[derive(Drop)]
+pub(crate) struct Load {
+    pub(crate) procs: Procs,
+    pub(crate) calls: Listed<Call>,
+    pub(crate) mode: LogMode,
+    pub(crate) workers: usize,
+    pub(crate) streams: usize,
+    pub(crate) opening: Opening,
+}
+
+/// A worker: its calls, and what it shares with managers and the clerk.
+#[derive(Drop)]
+pub(crate) struct Seat {
+    /// The number of its next call, if there is one.
+    pub(crate) next: usize,
+    /// A call left over that comes before.
+    pub(crate) again: Option<u64>,
+    pub(crate) txn: Txn,
+    /// Where the record of the call in hand starts, from its place to its post.
+    pub(crate) start: u64,
+    pub(crate) left: Vec<u64>,
+    pub(crate) outbox: Outbox,
+    pub(crate) pending: Pending,
+}
+
+impl Model for Seat {
+    ghost use Rattle.std.specs.Prelude.{◌-◌, vec_len, vec_capacity};
+    ghost use Rattle.tau_core.specs.Plain.{PlainSeat};
+
+    ghost Value = { PlainSeat };
+
+    ghost view = { λ s. record { next = s.next; again = s.again; txn = s.txn; start = s.start; left = s.left.items; room = vec_capacity s.left - vec_len s.left; outbox = s.outbox; pending = s.pending } };
+}
+
+/// A stream: what its manager has.
+#[derive(Drop)]
+pub(crate) struct Stream {
+    /// The anchors that it placed and has not gathered.
+    pub(crate) own: Outbox,
+    pub(crate) anchors: Vec<Lv>,
+    pub(crate) stop: Option<u64>,
+    /// What was gathered since the body was taken.
+    pub(crate) body: Vec<u8>,
+}
+
+impl Model for Stream {
+    ghost use Rattle.std.specs.Prelude.{◌-◌, vec_len, vec_capacity};
+    ghost use Rattle.tau_core.specs.Plain.{PlainStream};
+
+    ghost Value = { PlainStream };
+
+    ghost view = { λ s. record { own = s.own; anchors = s.anchors.items; stop = s.stop; body = s.body.items; room = vec_capacity s.body - vec_len s.body } };
+}
+
+/// The state of the core.
+#[derive(Drop)]
+pub(crate) struct State {
+    pub(crate) alloc: Global,
+    pub(crate) load: Load,
+    pub(crate) shards: Vec<Shard>,
+    pub(crate) seats: Vec<Seat>,
+    pub(crate) streams: Vec<Stream>,
+    /// The calls that have committed, in the order in which they did.
+    pub(crate) committed: Vec<Committed>,
+    /// Of each stream where the last place ends, where what is gathered ends, and how far it is persisted.
+    pub(crate) ends: Lv,
+    pub(crate) gathered: Lv,
+    pub(crate) plv: Lv,
+}

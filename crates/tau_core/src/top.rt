@@ -1,0 +1,226 @@
+//! The core.
+ghost use Rattle.std.specs.Prelude.{◌≡◌, ◌<◌, ◌≤◌, IfOk, List, length, map};
+ghost use Rattle.tau_base.specs.Shards.{shard_number};
+ghost use Rattle.tau_base.specs.declared.limits.TheConstants.{MAX_CATALOGUE, MAX_STREAMS, MAX_WORKERS};
+ghost use Rattle.tau_text.specs.Canonical.{declarations_text};
+ghost use Rattle.tau_text.specs.Kept.{AreCalls};
+ghost use Rattle.tau_model.specs.Tables.{IsTablesOf};
+ghost use Rattle.tau_model.specs.History.{Act};
+ghost use Rattle.tau_machine.specs.Hands.{Txn, committed_of};
+ghost use Rattle.tau_machine.specs.State.{hand_of, sight};
+ghost use Rattle.tau_core.specs.View.{Hidden, core_of, setting_of};
+ghost use Rattle.tau_core.specs.Stands.{Stands};
+ghost use Rattle.tau_core.specs.Phases.{hand_phase};
+ghost use Rattle.tau_core.specs.Steps.{HandsOut, IsThere, Steps};
+ghost use Rattle.tau_core.specs.Opens.{Fits, Opened, OpenedFresh, catalogue_size, load_of};
+ghost use Rattle.tau_core.specs.LeftOvers.{ResumeSteps};
+ghost use Rattle.tau_core.specs.Retries.{RetrySteps};
+ghost use Rattle.tau_core.specs.NextLock.{TellsLock};
+
+use crate::anchor::anchor;
+use crate::body::take_body;
+use crate::commit::commit;
+use crate::done::done;
+use crate::event::{Event, Outcome, Phase};
+use crate::free::free;
+use crate::fresh::fresh;
+use crate::gather::gather;
+use crate::lock::lock;
+use crate::next::next_lock;
+use crate::open::open;
+use crate::opening::Opening;
+use crate::phase::phase_of;
+use crate::position::{persist, stop};
+use crate::post::post;
+use crate::quit::quit;
+use crate::resume::resume;
+use crate::retry::retry;
+use crate::state::State;
+use crate::sweep::{ack, sweep};
+use crate::tables::tables;
+use std::alloc::Global;
+use std::marker::Model;
+use tau_base::{Key, LogMode, Lv, Mode, NoMemory, SHARDS, Value, shard_of};
+use tau_model::{Committed, Tables};
+use tau_text::Workload;
+
+/// The core of the engine.
+#[derive(Drop)]
+pub struct Core {
+    state: State,
+}
+
+impl Model for Core {
+    ghost use Rattle.tau_core.specs.State.{Plain, plain};
+    ghost use Rattle.tau_core.specs.Stands.{Stood};
+
+    ghost Value = { Plain };
+
+    ghost view = { λ c. plain c.state };
+
+    ghost invariant = { λ c. Stood (plain c.state) };
+}
+
+impl Core {
+    /// The state in which nothing has happened, of a run of so many workers on this opening. The calls go to the workers in turn.
+    pub fn open(
+        alloc: Global,
+        load: &Workload,
+        opening: Opening,
+        m: u8,
+        mode: LogMode,
+    ) -> Result<Core, NoMemory>
+        requires low { 1 ≤ m }
+        requires high { m ≤ MAX_WORKERS }
+        requires calls { AreCalls load.now.declarations.procs load.now.calls }
+        requires fits { Fits opening }
+        ensures { IfOk result (λ core. Opened (load_of load.now.declarations.procs load.now.calls mode m opening) core) }
+    {
+        match open(alloc, load, opening, usize::from(m), mode) {
+            Ok(state) => Ok(Core { state }),
+            Err(error) => Err(error),
+        }
+    }
+
+    /// The state in which nothing has happened, of a run of so many workers on `n` streams that hold the record of the catalogue alone.
+    pub fn new(
+        alloc: Global,
+        load: &Workload,
+        n: u8,
+        m: u8,
+        mode: LogMode,
+    ) -> Result<Core, NoMemory>
+        requires n_low { 1 ≤ n }
+        requires n_high { n ≤ MAX_STREAMS }
+        requires low { 1 ≤ m }
+        requires high { m ≤ MAX_WORKERS }
+        requires calls { AreCalls load.now.declarations.procs load.now.calls }
+        requires text { length (declarations_text load.now.declarations) ≤ MAX_CATALOGUE }
+        ensures { IfOk result (λ core. OpenedFresh load.now.declarations.procs load.now.calls mode m n (catalogue_size (declarations_text load.now.declarations)) core) }
+    {
+        match fresh(alloc, &load.declarations, usize::from(n)) {
+            Ok(opening) => Core::open(alloc, load, opening, m, mode),
+            Err(error) => Err(error),
+        }
+    }
+
+    /// One event: it happens, or nothing changes.
+    pub fn step(&mut self, event: Event) -> Outcome
+        requires there { IsThere self.old event }
+        ensures { (K : List (Act Txn)) (h : Hidden) → Stands self.old K h → Steps self.old self.new K h event result }
+    {
+        match event {
+            Event::Lock { worker } => lock(&mut self.state, worker as usize),
+            Event::Quit { worker } => quit(&mut self.state, worker as usize),
+            Event::Commit { worker } => commit(&mut self.state, worker as usize),
+            Event::Post { worker } => post(&mut self.state, worker as usize),
+            Event::Free { worker } => free(&mut self.state, worker as usize),
+            Event::Done { worker } => done(&mut self.state, worker as usize),
+            Event::Drop { shard } => {
+                sweep(&mut self.state, shard as usize);
+                Outcome::Went
+            }
+            Event::Gather { stream } => gather(&mut self.state, stream as usize),
+            Event::Anchor { stream } => anchor(&mut self.state, stream as usize),
+            Event::Persist { stream, upto } => persist(&mut self.state, stream as usize, upto),
+            Event::Ack { worker } => ack(&mut self.state, worker as usize),
+            Event::Stop { stream, at } => stop(&mut self.state, stream as usize, at),
+        }
+    }
+
+    /// What the worker's call does next; of a worker without one, that it rests.
+    pub fn next_of(&self, worker: u8) -> Phase
+        requires there { worker < self.now.load.workers }
+        ensures { (K : List (Act Txn)) (h : Hidden) → Stands self.now K h → result ≡ hand_phase self.now.load.procs (hand_of (core_of self.now h) worker) }
+    {
+        let seat = &self.state.seats[worker as usize];
+        phase_of(&seat.txn.turn())
+    }
+
+    /// How far each stream is persisted.
+    pub fn plv(&self) -> Lv
+        ensures { result ≡ self.now.plv }
+    {
+        self.state.plv
+    }
+
+    /// Where the last place of each stream ends.
+    pub fn ends(&self) -> Lv
+        ensures { result ≡ self.now.ends }
+    {
+        self.state.ends
+    }
+
+    /// Where each stream is gathered.
+    pub fn gathered(&self) -> Lv
+        ensures { result ≡ self.now.gathered }
+    {
+        self.state.gathered
+    }
+
+    /// The vector of the shard's keys that have no entry.
+    pub fn floor(&self, shard: u8) -> Lv
+        requires there { shard < SHARDS }
+        ensures { (K : List (Act Txn)) (h : Hidden) → Stands self.now K h → result ≡ ((core_of self.now h).shards shard).floor }
+    {
+        let part = &self.state.shards[shard as usize];
+        part.floor()
+    }
+
+    /// The value of a row.
+    pub fn value(&self, key: Key) -> Value
+        ensures { (K : List (Act Txn)) (h : Hidden) → Stands self.now K h → result ≡ ((core_of self.now h).shards (shard_number key)).rows key }
+    {
+        let part = &self.state.shards[shard_of(key) as usize];
+        part.value(key)
+    }
+
+    /// The committed calls, in the order in which they committed.
+    pub fn committed(&self) -> &[Committed]
+        ensures same { result.now ≡ self.now.committed }
+        ensures order { (K : List (Act Txn)) (h : Hidden) → Stands self.now K h → result.now ≡ map committed_of K }
+    {
+        self.state.committed.as_slice()
+    }
+
+    /// The bytes of the stream that were gathered since the last such call.
+    pub fn take_body(&mut self, stream: u8) -> Vec<u8>
+        requires there { stream < self.old.load.streams }
+        ensures { (K : List (Act Txn)) (h : Hidden) → Stands self.old K h → HandsOut self.old self.new K h stream result.items }
+    {
+        take_body(&mut self.state, stream as usize)
+    }
+
+    /// The present rows.
+    pub fn tables(&self, alloc: Global) -> Result<Tables, NoMemory>
+        ensures { (K : List (Act Txn)) (h : Hidden) → Stands self.now K h → IfOk result (λ tables. IsTablesOf (sight (setting_of self.now.load) (core_of self.now h)).row tables) }
+    {
+        tables(&self.state, alloc)
+    }
+
+    /// Where no worker has a call in hand or one to begin, the lowest call that was left over becomes the next one of its worker, which is the
+    /// answer. None exactly where that is not so, or no call was left over.
+    pub fn resume(&mut self) -> Option<u8>
+        ensures { (K : List (Act Txn)) (h : Hidden) → Stands self.old K h → ResumeSteps self.old self.new K h result }
+    {
+        resume(&mut self.state)
+    }
+
+    /// The number of the worker's call with the lock that is its next action; of a worker that rests, of its next call. None exactly where its
+    /// next action is none.
+    pub fn next_lock(&self, worker: u8) -> Option<(u64, Key, Mode)>
+        requires there { worker < self.now.load.workers }
+        ensures { (K : List (Act Txn)) (h : Hidden) → Stands self.now K h → TellsLock self.now h worker result }
+    {
+        next_lock(&self.state, worker as usize)
+    }
+
+    /// The lock that the worker wants is not taken, and its call is left as by a Busy. NotNow where its next action is no lock; NoMemory only
+    /// where a call would begin.
+    pub fn retry(&mut self, worker: u8) -> Outcome
+        requires there { worker < self.old.load.workers }
+        ensures { (K : List (Act Txn)) (h : Hidden) → Stands self.old K h → RetrySteps self.old self.new K h worker result }
+    {
+        retry(&mut self.state, worker as usize)
+    }
+}
