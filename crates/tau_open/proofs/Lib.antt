@@ -1,0 +1,8 @@
+pub mod Places
+pub mod Calls
+pub mod Lengths
+pub mod Asking
+pub mod Making
+pub mod Joined
+pub mod Told
+pub mod Closed

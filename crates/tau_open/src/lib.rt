@@ -1,0 +1,16 @@
+//! The streams of a run: how they are opened on the caller's disks, and how the disks come back.
+#![tactic(auto)]
+
+mod ask;
+mod close;
+mod create;
+mod opening;
+mod refusal;
+
+pub use ask::ask_lengths;
+pub use close::close_streams;
+pub use opening::open_streams;
+pub use refusal::OpenRefusal;
+
+#[cfg(test)]
+mod tests;
