@@ -12,3 +12,4 @@ pub mod Openings
 pub mod Plans
 pub mod Tops
 pub mod Refusals
+pub mod Recoveries

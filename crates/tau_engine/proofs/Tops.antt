@@ -6,12 +6,26 @@ use Rattle.std.proofs.lemmas.Bool.{cases_Bool}
 use Rattle.tau_base.specs.declared.value.LogMode.{LogMode}
 use Rattle.tau_base.specs.declared.value.LogMode.TheVariants.{Values}
 use Rattle.tau_model.specs.History.{Member}
+use Rattle.tau_scan.specs.declared.fault.LogFault.{LogFault}
 use Rattle.tau_words.specs.declared.command.Command.{Command}
-use Rattle.tau_words.specs.declared.command.Command.TheVariants.{Run}
+use Rattle.tau_words.specs.declared.command.Command.TheVariants.{Run, Recover}
 use Rattle.tau_engine.specs.declared.status.Status.{Status}
 use Rattle.tau_engine.specs.declared.status.Status.TheVariants as status
-use Rattle.tau_engine.specs.Outside.{AreEmpty, IsFirstLong, OpensBad, ends_run}
+use Rattle.tau_engine.specs.declared.served.Work.{Work}
+use Rattle.tau_engine.specs.declared.served.Work.TheVariants as work
+use Rattle.tau_engine.specs.Served.{command_in}
+use Rattle.tau_engine.specs.Outside.{AreEmpty, IsFirstLong, OpensBad, ends_run, ends_recovery}
 use Rattle.tau_engine.proofs.Openings.{some_is}
+
+-- what is asked for, as the command
+pub command_of_run : (o : Option Command) (w : Work) → o ≡ Some (command_in w) → w ≡ work.Run → o ≡ Some (Run 2 1 Values)
+command_of_run o w is e = subst (λ (x : Work). o ≡ Some (command_in x)) e is
+
+pub command_of_recovery : (o : Option Command) (w : Work) (n p : ℕ) → o ≡ Some (command_in w) → w ≡ work.Recover n p → o ≡ Some (Recover n p)
+command_of_recovery o w n p is e = subst (λ (x : Work). o ≡ Some (command_in x)) e is
+
+pub same_streams : (o : Option Command) (a b n p : ℕ) → o ≡ Some (Recover a b) → o ≡ Some (Recover n p) → a ≡ n
+same_streams o a b n p one other = cc
 
 -- the command of words is one
 pub same_command : (o : Option Command) (n m : ℕ) (mode : LogMode) → o ≡ Some (Run 2 1 Values) → o ≡ Some (Run n m mode) → n ≡ 2
@@ -72,6 +86,20 @@ module _ {D : Type 0} (seen : D → List ℕ) (disks : List D) where
 
   pub none_is_long : (tells : Type 0) (n j long : ℕ) → tells → AreEmpty tells seen disks n → j < n → IsFirstLong seen disks j long → ⊥
   none_is_long tells n j long told empty lt is = let (d, get, size) = is.0 in long_there j long is d get (empty j d lt get told)
+
+-- and likewise a recovery
+pub recovers_well : (s : Status) → ends_recovery s ≡ true → (s ≡ status.WriteFault → ⊥) → ((j : ℕ) → s ≡ status.DiskFault j → ⊥) → ((fault : LogFault) → s ≡ status.BadLog fault → ⊥) →
+    Member s (status.Ok ∷ status.NoMemory ∷ [])
+recovers_well status.Ok kind sink disk bad = inl refl
+recovers_well status.NoMemory kind sink disk bad = inr (inl refl)
+recovers_well status.WriteFault kind sink disk bad = absurd (sink refl)
+recovers_well (status.DiskFault j) kind sink disk bad = absurd (disk j refl)
+recovers_well (status.BadLog fault) kind sink disk bad = absurd (bad fault refl)
+recovers_well (status.NotEmpty j long) kind sink disk bad = absurd (cc)
+recovers_well status.Usage kind sink disk bad = absurd (cc)
+recovers_well (status.BadText at why) kind sink disk bad = absurd (cc)
+recovers_well status.ReadFault kind sink disk bad = absurd (cc)
+recovers_well status.TooLong kind sink disk bad = absurd (cc)
 
 -- without a cause to end otherwise, a run ends well
 pub ends_well : (s : Status) → ends_run s ≡ true → (s ≡ status.WriteFault → ⊥) → ((j : ℕ) → s ≡ status.DiskFault j → ⊥) → ((j long : ℕ) → s ≡ status.NotEmpty j long → ⊥) →

@@ -10,3 +10,4 @@ pub mod Outside
 pub mod Facts
 pub mod Runs
 pub mod Fault
+pub mod Recovery

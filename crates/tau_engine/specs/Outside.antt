@@ -71,6 +71,15 @@ ends_run (status.DiskFault j) = true
 ends_run (status.NotEmpty j long) = true
 ends_run _ = false
 
+-- a recovery may end so
+abbrev pub ends_recovery : Status → Bool
+ends_recovery status.Ok = true
+ends_recovery status.NoMemory = true
+ends_recovery status.WriteFault = true
+ends_recovery (status.DiskFault j) = true
+ends_recovery (status.BadLog fault) = true
+ends_recovery _ = false
+
 -- a call may end so before its run
 abbrev pub ends_reading : Status → Bool
 ends_reading status.NoMemory = true

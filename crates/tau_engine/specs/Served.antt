@@ -1,15 +1,18 @@
 -- Which commands are served, and what they use.
-use Rattle.std.specs.Prelude.{ℕ, Bool, true, false, ◌&&◌, ◌==◌, if◌then◌else◌, List, Option, Some, None, option_and_then}
+use Rattle.std.specs.Prelude.{ℕ, Bool, true, false, ◌&&◌, ◌==◌, nat_le, if◌then◌else◌, List, Option, Some, None, option_and_then}
+use Rattle.tau_base.specs.declared.limits.TheConstants.{MAX_STREAMS}
 use Rattle.tau_base.specs.declared.value.LogMode.TheVariants.{Values, Commands}
 use Rattle.tau_words.specs.declared.command.Command.{Command}
 use Rattle.tau_words.specs.declared.command.Command.TheVariants.{Run, Recover, Drill, Bench}
 use Rattle.tau_words.specs.Words.{command_of}
+use Rattle.tau_engine.specs.declared.served.Work.{Work}
+use Rattle.tau_engine.specs.declared.served.Work.TheVariants as work
 
 -- the commands that are there by now
 abbrev pub is_served : Command → Bool
 is_served (Run n m Values) = n == 2 && m == 1
 is_served (Run n m Commands) = false
-is_served (Recover n p) = false
+is_served (Recover n p) = nat_le 1 n && nat_le n MAX_STREAMS
 is_served (Drill n m p ending) = false
 is_served (Bench start calls n m) = false
 
@@ -19,6 +22,17 @@ if_served c = if is_served c then Some c else None
 -- the served command of these words; none where they are none, or one that is not there yet
 abbrev pub served : List (List ℕ) → Option Command
 served words = option_and_then if_served (command_of words)
+
+-- the command of what is asked for
+abbrev pub command_in : Work → Command
+command_in work.Run = Run 2 1 Values
+command_in (work.Recover n p) = Recover n p
+
+-- the command writes nothing before it knows all
+abbrev pub writes_at_end : Option Command → Bool
+writes_at_end None = true
+writes_at_end (Some (Recover n p)) = true
+writes_at_end (Some other) = false
 
 -- the disks that the command uses are the first of them
 abbrev pub used_by : Option Command → ℕ

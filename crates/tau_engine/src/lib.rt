@@ -7,6 +7,7 @@ mod log;
 mod number;
 mod pieces;
 mod reading;
+mod recovery;
 mod report;
 mod rows;
 mod run;

@@ -1,37 +1,54 @@
 //! The commands that are there by now.
-ghost use Rattle.std.specs.Prelude.{◌≡◌, Err, OnOk, Some, None, map, string_bytes};
-ghost use Rattle.tau_engine.specs.Served.{is_served, served};
-ghost use Rattle.tau_base.specs.declared.value.LogMode.{LogMode};
-ghost use Rattle.tau_words.specs.declared.command.Command.{Command};
+ghost use Rattle.std.specs.Prelude.{◌≡◌, ◌≤◌, ℕ, true, false, Err, IfOk, IfSome, IfNone, Some, None, map, string_bytes};
+ghost use Rattle.tau_engine.specs.Served.{command_in, is_served, served};
 ghost use Rattle.tau_words.specs.declared.command.WordsRefusal.TheVariants.{Usage};
 
 use std::alloc::Global;
-use tau_base::LogMode;
+use tau_base::{LogMode, MAX_STREAMS};
 use tau_words::{Command, WordsRefusal, read_words};
 
-// Whether the command is there by now.
-fn is_served(command: Command) -> bool
-    ensures { result ≡ is_served command }
+/// What a command that is there by now asks for.
+#[derive(Clone, Copy, Debug, PartialEq, Eq)]
+pub enum Work {
+    /// A run of one worker over two streams.
+    Run,
+    /// A recovery.
+    Recover {
+        /// Streams, 1 to 16.
+        n: u8,
+        /// Recovery workers, 1 to 16.
+        p: u8,
+    },
+}
+
+// What the command asks for, where it is there by now.
+fn work_of(command: Command) -> Option<Work>
+    ensures some { IfSome result (λ w. command ≡ command_in w) }
+    ensures there { IfSome result (λ w. is_served command ≡ true) }
+    ensures within { IfSome result (λ w. (n p : ℕ) → w ≡ Work.Recover n p → (1 ≤ n) × (n ≤ 16)) }
+    ensures none { IfNone result (is_served command ≡ false) }
 {
     match command {
         Command::Run {
-            n,
-            m,
+            n: 2,
+            m: 1,
             mode: LogMode::Values,
-        } => n == 2 && m == 1,
-        _ => false,
+        } => Some(Work::Run),
+        Command::Recover { n, p } if 1 <= n && usize::from(n) <= MAX_STREAMS => {
+            Some(Work::Recover { n, p })
+        }
+        _ => None,
     }
 }
 
-/// Reads the words of a run that is there by now. Usage exactly where they are those of no command that is.
-pub fn read_run(alloc: Global, words: &[String]) -> Result<(), WordsRefusal>
-    ensures ok { OnOk result (served (map string_bytes words.now) ≡ Some (Command.Run 2 1 LogMode.Values)) }
+/// What these words ask for, where they are those of a command that is there by now. Usage exactly where they are not.
+pub fn read_served(alloc: Global, words: &[String]) -> Result<Work, WordsRefusal>
+    ensures ok { IfOk result (λ w. served (map string_bytes words.now) ≡ Some (command_in w)) }
+    ensures within { IfOk result (λ w. (n p : ℕ) → w ≡ Work.Recover n p → (1 ≤ n) × (n ≤ 16)) }
     ensures usage { result ≡ Err Usage → served (map string_bytes words.now) ≡ None }
 {
-    let command = read_words(alloc, words)?;
-    if is_served(command) {
-        Ok(())
-    } else {
-        Err(WordsRefusal::Usage)
+    match work_of(read_words(alloc, words)?) {
+        Some(work) => Ok(work),
+        None => Err(WordsRefusal::Usage),
     }
 }

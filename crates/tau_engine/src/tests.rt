@@ -461,3 +461,154 @@ fn a_text_at_the_limit(rt: HostRuntime) -> Result<(), Fail> {
     assert_eq!(rt; disks[0].calls(), 0);
     Ok(())
 }
+
+// The image of stream `j` of `n`, with the catalogue of table a and these records behind it.
+fn image_of(alloc: Global, n: u8, j: u8, records: &[u8]) -> Result<MemDisk, Fail> {
+    let mut image = Vec::from_slice(alloc, b"TAURUS-LOG-1")?;
+    image.extend_from_slice(&[0, n, 0, j])?;
+    image.extend_from_slice(b"\x01\x00\x00\x00\x0d\x04\x00\x00\x00\x0dtable a\n")?;
+    if !records.is_empty() {
+        let long = u8::try_from(records.len()).ok().ok_or("too long")?;
+        image.extend_from_slice(&[1, 0, 0, 0, long])?;
+        image.extend_from_slice(records)?;
+    }
+    image.push(0)?;
+    Ok(MemDisk::of_image(alloc, &image)?)
+}
+
+// Call 1 puts 5 into row 1.
+static FIRST: &[u8] =
+    b"\x01\x00\x00\x00\x28\x00\x00\x00\x00\x00\x00\x00\x01\x00\x00\x00\x00\x00\x00\x00\x01\x00\x00\x00\x00\x00\x00\x00\x00\x00\x01\x01\x00\x00\x00\x00\x00\x00\x00\x05";
+// Call 2 puts 7 into row 1, and waits for call 1.
+static SECOND: &[u8] =
+    b"\x01\x00\x00\x00\x30\x00\x00\x00\x00\x00\x00\x00\x02\x00\x00\x00\x00\x00\x01\x00\x00\x00\x00\x00\x00\x00\x35\x00\x01\x00\x00\x00\x00\x00\x00\x00\x00\x00\x01\x01\x00\x00\x00\x00\x00\x00\x00\x07";
+// Call 2 puts 6 into row 2.
+static APART: &[u8] =
+    b"\x01\x00\x00\x00\x28\x00\x00\x00\x00\x00\x00\x00\x02\x00\x00\x00\x00\x00\x00\x00\x01\x00\x00\x00\x00\x00\x00\x00\x00\x00\x02\x01\x00\x00\x00\x00\x00\x00\x00\x06";
+// Call 1, which waits for stream 1.
+static FIRST_WAITS: &[u8] =
+    b"\x01\x00\x00\x00\x30\x00\x00\x00\x00\x00\x00\x00\x01\x00\x00\x00\x00\x00\x02\x00\x00\x00\x00\x00\x00\x00\x3d\x00\x01\x00\x00\x00\x00\x00\x00\x00\x00\x00\x01\x01\x00\x00\x00\x00\x00\x00\x00\x05";
+// Call 2, which waits for stream 0.
+static SECOND_WAITS: &[u8] =
+    b"\x01\x00\x00\x00\x30\x00\x00\x00\x00\x00\x00\x00\x02\x00\x00\x00\x00\x00\x01\x00\x00\x00\x00\x00\x00\x00\x3d\x00\x01\x00\x00\x00\x00\x00\x00\x00\x00\x00\x02\x01\x00\x00\x00\x00\x00\x00\x00\x06";
+
+// What recovery with this many workers writes of these disks, where it ends with this code.
+fn recovered<R: Threads + Wait + Sync>(
+    rt: &R,
+    alloc: Global,
+    n: &str,
+    p: &str,
+    code: u8,
+    disks: &mut Vec<MemDisk>,
+) -> Result<Vec<u8>, Fail>
+    requires { vec_len disks.old ≡ 16 }
+    ensures { vec_len disks.new ≡ 16 }
+{
+    let mut sink = MemSink::new(alloc, &[])?;
+    let status = do_words(rt, alloc, &["recover", n, p], b"", &mut sink, disks)?;
+    let text = if status.code() == code {
+        sink.bytes()
+    } else {
+        b"another status".as_slice()
+    };
+    Ok(Vec::from_slice(alloc, text)?)
+}
+
+#[test]
+fn recovery_of_a_dependence(rt: HostRuntime) -> Result<(), Fail> {
+    let alloc = rt.alloc();
+    let mut disks = disks_of(
+        alloc,
+        image_of(alloc, 2, 0, &[])?,
+        image_of(alloc, 2, 1, SECOND)?,
+    )?;
+    let text = recovered(&rt, alloc, "2", "1", 0, &mut disks)?;
+    assert_eq!(rt; text.as_slice(), b"elv 13,61\nend 0\n".as_slice());
+    let mut disks = disks_of(
+        alloc,
+        image_of(alloc, 2, 0, FIRST)?,
+        image_of(alloc, 2, 1, &[])?,
+    )?;
+    let text = recovered(&rt, alloc, "2", "1", 0, &mut disks)?;
+    assert_eq!(rt;
+        text.as_slice(),
+        b"elv 53,13\ntaken 0 13 1\nrow a 1 int 5\nend 0\n".as_slice()
+    );
+    let mut disks = disks_of(
+        alloc,
+        image_of(alloc, 2, 0, FIRST)?,
+        image_of(alloc, 2, 1, SECOND)?,
+    )?;
+    for p in ["1", "2", "16"] {
+        let text = recovered(&rt, alloc, "2", p, 0, &mut disks)?;
+        assert_eq!(rt;
+            text.as_slice(),
+            b"elv 53,61\ntaken 0 13 1\ntaken 1 13 2\nrow a 1 int 7\nend 0\n".as_slice()
+        );
+    }
+    let mut disks = disks_of(
+        alloc,
+        image_of(alloc, 2, 0, &[])?,
+        image_of(alloc, 2, 1, APART)?,
+    )?;
+    let text = recovered(&rt, alloc, "2", "2", 0, &mut disks)?;
+    assert_eq!(rt;
+        text.as_slice(),
+        b"elv 13,53\ntaken 1 13 2\nrow a 2 int 6\nend 0\n".as_slice()
+    );
+    Ok(())
+}
+
+#[test]
+fn recovery_of_what_a_run_left(rt: HostRuntime) -> Result<(), Fail> {
+    let alloc = rt.alloc();
+    let mut disks = disks_of(alloc, MemDisk::new(alloc, &[])?, MemDisk::new(alloc, &[])?)?;
+    let mut sink = MemSink::new(alloc, &[])?;
+    let status = run_text(&rt, alloc, b"table a\nput a 1 5\n", &mut sink, &mut disks)?;
+    assert_eq!(rt; status, Status::Ok);
+    let text = recovered(&rt, alloc, "2", "1", 0, &mut disks)?;
+    assert_eq!(rt;
+        text.as_slice(),
+        b"elv 53,13\ntaken 0 13 1\nrow a 1 int 5\nend 0\n".as_slice()
+    );
+    let text = recovered(&rt, alloc, "3", "1", 7, &mut disks)?;
+    assert_eq!(rt; text.as_slice(), b"fault 7 0 count 3 2\n".as_slice());
+    Ok(())
+}
+
+#[test]
+fn images_that_hold_no_log(rt: HostRuntime) -> Result<(), Fail> {
+    let alloc = rt.alloc();
+    let mut disks = disks_of(
+        alloc,
+        MemDisk::of_image(alloc, &[0u8; 17])?,
+        MemDisk::new(alloc, &[])?,
+    )?;
+    let text = recovered(&rt, alloc, "1", "1", 0, &mut disks)?;
+    assert_eq!(rt; text.as_slice(), b"elv 0\nend 0\n".as_slice());
+    let mut disks = disks_of(
+        alloc,
+        MemDisk::of_image(alloc, &[0u8; 18])?,
+        MemDisk::new(alloc, &[])?,
+    )?;
+    let text = recovered(&rt, alloc, "1", "1", 7, &mut disks)?;
+    assert_eq!(rt; text.as_slice(), b"fault 7 0 image 1\n".as_slice());
+    let mut disks = disks_of(
+        alloc,
+        image_of(alloc, 1, 0, FIRST_WAITS)?,
+        MemDisk::new(alloc, &[])?,
+    )?;
+    let text = recovered(&rt, alloc, "1", "1", 7, &mut disks)?;
+    assert_eq!(rt; text.as_slice(), b"fault 7 0 record 5 13\n".as_slice());
+    let mut disks = disks_of(
+        alloc,
+        image_of(alloc, 2, 0, FIRST_WAITS)?,
+        image_of(alloc, 2, 1, SECOND_WAITS)?,
+    )?;
+    let text = recovered(&rt, alloc, "2", "2", 7, &mut disks)?;
+    assert_eq!(rt; text.as_slice(), b"fault 7 0 tangled 13\n".as_slice());
+    let mut disks = disks_of(alloc, MemDisk::new(alloc, &[])?, MemDisk::new(alloc, &[1])?)?;
+    let text = recovered(&rt, alloc, "2", "2", 6, &mut disks)?;
+    assert_eq!(rt; text.as_slice(), b"fault 6 1\n".as_slice());
+    Ok(())
+}

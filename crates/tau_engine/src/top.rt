@@ -1,5 +1,5 @@
 //! The top call.
-ghost use Rattle.std.specs.Prelude.{◌≡◌, ◌<◌, ◌≤◌, ◌⊎◌, ◌++◌, ◌+◌, List, ℕ, [], ◌∷◌, length, drop, map, true, false, Some, None, vec_len, string_bytes};
+ghost use Rattle.std.specs.Prelude.{◌≡◌, ◌<◌, ◌≤◌, ◌⊎◌, ◌++◌, ◌+◌, List, ℕ, [], ◌∷◌, length, drop, map, true, false, Some, None, Ok, Err, vec_len, string_bytes};
 ghost use Rattle.tau_base.specs.declared.value.LogMode.{LogMode};
 ghost use Rattle.tau_disk.specs.Disk.{Rose};
 ghost use Rattle.tau_model.specs.History.{Member};
@@ -7,7 +7,12 @@ ghost use Rattle.tau_words.specs.declared.command.Command.{Command};
 ghost use Rattle.tau_text.specs.declared.fault.TextCause.{TextCause};
 ghost use Rattle.tau_text.specs.declared.fault.TextFault.{TextFault};
 ghost use Rattle.tau_scan.specs.declared.fault.LogFault.{LogFault};
-ghost use Rattle.tau_engine.specs.Served.{served, used_by, reads_source};
+ghost use Rattle.tau_scan.specs.declared.log.Log.{Log};
+ghost use Rattle.tau_scan.specs.Reading.{log_of};
+ghost use Rattle.tau_scan.specs.Taken.{Kept};
+ghost use Rattle.tau_replay.specs.Redone.{IsOrderOf};
+ghost use Rattle.tau_engine.specs.Recovery.{IsBadLog, RecoverTells, EndsAsBad, EndsTangled, images_of};
+ghost use Rattle.tau_engine.specs.Served.{served, used_by, reads_source, writes_at_end};
 ghost use Rattle.tau_engine.specs.Workload.{Load, HasWorkload, HasFault};
 ghost use Rattle.tau_engine.specs.Loads.{load_of, IsWithin};
 ghost use Rattle.tau_engine.specs.Facts.{RunFacts, Holds, IsRefused};
@@ -17,7 +22,8 @@ ghost use Rattle.tau_engine.specs.Outside.{RoseAt, EachUsed, AreEmpty, IsFirstLo
 use crate::disks::{put_first, take_first};
 use crate::fault::refuse;
 use crate::reading::read_source;
-use crate::served::read_run;
+use crate::recovery::recover;
+use crate::served::{Work, read_served};
 use crate::status::Status;
 use crate::streams::run_two;
 use crate::workload::Workload;
@@ -89,14 +95,19 @@ pub fn taurus<R: Threads + Wait + Sync, S: Source, K: Sink + Send, D: Disk + Sen
         (load : Load) × HasWorkload (S.left source.old) load }
     ensures disk_fault { (j : ℕ) → result ≡ Status.DiskFault j → (j < used_by (served (map string_bytes words.now))) × RoseAt D.faults disks.old.items disks.new.items j }
     // A fault of a disk is the first call that was to fail, of the lowest disk that has one, unless its memory was short.
-    ensures disk_fault_first { (j : ℕ) → result ≡ Status.DiskFault j → D.tells → IsFirstStopped D.tells D.number D.fails D.short disks.old.items disks.new.items j }
-    ensures disk_fault_told { result ≡ Status.Ok → EachUsed (IsClean D.tells D.number D.fails) disks.old.items disks.new.items (used_by (served (map string_bytes words.now))) }
+    ensures disk_fault_first { (n m j : ℕ) (mode : LogMode) → served (map string_bytes words.now) ≡ Some (Command.Run n m mode) → result ≡ Status.DiskFault j → D.tells → IsFirstStopped D.tells D.number D.fails D.short disks.old.items disks.new.items j }
+    ensures disk_fault_told { (n m : ℕ) (mode : LogMode) → served (map string_bytes words.now) ≡ Some (Command.Run n m mode) → result ≡ Status.Ok → EachUsed (IsClean D.tells D.number D.fails) disks.old.items disks.new.items n }
     ensures not_empty { (j long : ℕ) → result ≡ Status.NotEmpty j long → (n m : ℕ) × (mode : LogMode) × (served (map string_bytes words.now) ≡ Some (Command.Run n m mode))
         × (j < n) × (D.tells → IsFirstLong D.seen disks.old.items j long) }
     ensures not_empty_told { (n m : ℕ) (mode : LogMode) (j long : ℕ) → served (map string_bytes words.now) ≡ Some (Command.Run n m mode) →
         S.tells → (load : Load) → HasWorkload (S.left source.old) load → D.tells → j < n → IsFirstLong D.seen disks.old.items j long →
         Member result (Status.NotEmpty j long ∷ Status.ReadFault ∷ Status.NoMemory ∷ []) ⊎ ((i : ℕ) × (result ≡ Status.DiskFault i)) }
-    ensures bad_log { (fault : LogFault) → result ≡ Status.BadLog fault → ⊥ }
+    ensures bad_log { (fault : LogFault) → result ≡ Status.BadLog fault → (n p : ℕ) × (served (map string_bytes words.now) ≡ Some (Command.Recover n p))
+        × (D.tells → IsBadLog (images_of D.seen disks.old.items n) fault) }
+    ensures bad_log_told { (n p : ℕ) (fault : LogFault) → served (map string_bytes words.now) ≡ Some (Command.Recover n p) → D.tells →
+        log_of (images_of D.seen disks.old.items n) ≡ Err fault → EndsAsBad fault result }
+    ensures tangled_told { (n p : ℕ) (log : Log) → served (map string_bytes words.now) ≡ Some (Command.Recover n p) → D.tells →
+        log_of (images_of D.seen disks.old.items n) ≡ Ok log → ((order : List Kept) → IsOrderOf log order → ⊥) → EndsTangled log result }
     ensures write_fault { result ≡ Status.WriteFault → Rose (K.faults sink.old) (K.faults sink.new) }
 
     // What is read of the source.
@@ -110,14 +121,20 @@ pub fn taurus<R: Threads + Wait + Sync, S: Source, K: Sink + Send, D: Disk + Sen
         D.tells → j < n → IsFirstLong D.seen disks.old.items j long →
         WroteFront (Wrote K.tells (K.held sink.old) (K.held sink.new)) (Rose (K.faults sink.old) (K.faults sink.new)) (fault_text result) }
     // A disk that fails while its stream is made is told too; one that fails later ends the run with no line.
-    ensures making_fault { (j : ℕ) → result ≡ Status.DiskFault j → D.tells → FailsTold (Made D.number D.short disks.old.items disks.new.items j)
+    ensures making_fault { (n m j : ℕ) (mode : LogMode) → served (map string_bytes words.now) ≡ Some (Command.Run n m mode) → result ≡ Status.DiskFault j → D.tells → FailsTold (Made D.number D.short disks.old.items disks.new.items j)
         (WroteFront (Wrote K.tells (K.held sink.old) (K.held sink.new)) (Rose (K.faults sink.old) (K.faults sink.new)) (fault_text result)) }
-    ensures silent { result ≡ Status.NoMemory → served (map string_bytes words.now) ≡ None → Wrote K.tells (K.held sink.old) (K.held sink.new) [] }
+    ensures silent { result ≡ Status.NoMemory → writes_at_end (served (map string_bytes words.now)) ≡ true → Wrote K.tells (K.held sink.old) (K.held sink.new) [] }
 
     // A run that went well has one history, of which its report is, and its disks hold it.
     ensures run { (n m : ℕ) (mode : LogMode) (load : Load) → served (map string_bytes words.now) ≡ Some (Command.Run n m mode) →
         S.tells → HasWorkload (S.left source.old) load → result ≡ Status.Ok →
         RunFacts n m load (Holds D.tells D.may_leave n disks.new.items) (Wrote K.tells (K.held sink.old) (K.held sink.new)) }
+
+    // Recovery is a function of what the disks read.
+    ensures recover { (n p : ℕ) → served (map string_bytes words.now) ≡ Some (Command.Recover n p) → D.tells →
+        RecoverTells (images_of D.seen disks.old.items n) (Wrote K.tells (K.held sink.old) (K.held sink.new)) result }
+    ensures recover_fault { (n p j : ℕ) → served (map string_bytes words.now) ≡ Some (Command.Recover n p) → result ≡ Status.DiskFault j →
+        WroteFront (Wrote K.tells (K.held sink.old) (K.held sink.new)) (Rose (K.faults sink.old) (K.faults sink.new)) (fault_text result) }
 
     // What is not touched.
     ensures untouched { drop (used_by (served (map string_bytes words.now))) disks.new.items ≡ drop (used_by (served (map string_bytes words.now))) disks.old.items }
@@ -129,18 +146,25 @@ pub fn taurus<R: Threads + Wait + Sync, S: Source, K: Sink + Send, D: Disk + Sen
     ensures asked { (j long : ℕ) → result ≡ Status.NotEmpty j long → EachUsed (OnlyRead D.tells D.seen D.may_leave D.moment D.may_leave_since) disks.old.items disks.new.items (used_by (served (map string_bytes words.now))) }
     ensures asked_once { (j long : ℕ) → result ≡ Status.NotEmpty j long → EachUsed (OneCall D.tells D.number D.short) disks.old.items disks.new.items (used_by (served (map string_bytes words.now))) }
 
+    ensures read { (n p : ℕ) → served (map string_bytes words.now) ≡ Some (Command.Recover n p) → EachUsed (OnlyRead D.tells D.seen D.may_leave D.moment D.may_leave_since) disks.old.items disks.new.items n }
+
     // Where nothing is amiss, the work is done.
     ensures run_done { (n m : ℕ) (mode : LogMode) (load : Load) → served (map string_bytes words.now) ≡ Some (Command.Run n m mode) →
         S.tells → D.tells → HasWorkload (S.left source.old) load → AreEmpty D.tells D.seen disks.old.items n →
         (Rose (S.faults source.old) (S.faults source.new) → ⊥) → (Rose (K.faults sink.old) (K.faults sink.new) → ⊥) → ((j : ℕ) → j < n → RoseAt D.faults disks.old.items disks.new.items j → ⊥) →
         Member result (Status.Ok ∷ Status.NoMemory ∷ []) }
+    ensures recover_done { (n p : ℕ) (log : Log) (order : List Kept) → served (map string_bytes words.now) ≡ Some (Command.Recover n p) →
+        D.tells → log_of (images_of D.seen disks.old.items n) ≡ Ok log → IsOrderOf log order →
+        (Rose (K.faults sink.old) (K.faults sink.new) → ⊥) → ((j : ℕ) → j < n → RoseAt D.faults disks.old.items disks.new.items j → ⊥) →
+        Member result (Status.Ok ∷ Status.NoMemory ∷ []) }
 {
     let _ = rt;
     let _ = gate;
-    match read_run(alloc, words) {
+    match read_served(alloc, words) {
         Err(WordsRefusal::NoMemory) => Status::NoMemory,
         Err(WordsRefusal::Usage) => refuse(alloc, sink, Status::Usage),
-        Ok(()) => match read_source(alloc, source) {
+        Ok(Work::Recover { n, p: _ }) => recover(alloc, usize::from(n), sink, disks),
+        Ok(Work::Run) => match read_source(alloc, source) {
             Err(refusal) => refuse(alloc, sink, refusal),
             Ok(load) => run(alloc, &load, sink, disks),
         },

@@ -1,0 +1,58 @@
+-- What recovery tells of the images that the disks give.
+use Rattle.std.specs.Prelude.{ℕ, ◌≡◌, ◌<◌, ◌⊎◌, List, [], length, take, map, Result, Ok, Err}
+use Rattle.tau_base.specs.declared.value.Key.{Key}
+use Rattle.tau_base.specs.declared.value.Value.{Value}
+use Rattle.tau_scan.specs.declared.log.Log.{Log}
+use Rattle.tau_scan.specs.declared.fault.LogFault.{LogFault}
+use Rattle.tau_scan.specs.declared.fault.LogCause.TheVariants as cause
+use Rattle.tau_scan.specs.Reading.{log_of}
+use Rattle.tau_replay.specs.Redone.{IsRedone, IsTangledAt}
+use Rattle.tau_report.specs.Recovery.{recover_text}
+use Rattle.tau_engine.specs.declared.status.Status.{Status}
+use Rattle.tau_engine.specs.declared.status.Status.TheVariants as status
+
+-- the images of the first disks, as a read gives them
+abbrev pub images_of : {D : Type 0} → (D → List ℕ) → List D → ℕ → List (List ℕ)
+images_of seen disks n = map seen (take n disks)
+
+-- this is the text of what recovery finds in the log: its end-of-log vector, what it takes, and the rows of redoing that
+pub record IsRecoveryOf (log : Log) (text : List ℕ) : Type 0 where
+  pub rows : List (Key × Value)
+  pub redone : IsRedone log rows
+  pub text_is : text ≡ recover_text log rows
+
+-- what is written of a log, by how recovery ended: the text, a first part of it, or nothing
+abbrev pub LogTells : Log → (List ℕ → Type 0) → Status → Type 0
+LogTells log wrote status.Ok = (text : List ℕ) × IsRecoveryOf log text × wrote text
+LogTells log wrote status.WriteFault = (text : List ℕ) × (k : ℕ) × IsRecoveryOf log text × (k < length text) × wrote (take k text)
+LogTells log wrote status.NoMemory = wrote []
+LogTells log wrote other = Unit {0}
+
+-- recovery gets stuck in this log, and the fault tells where
+abbrev pub IsTangle : Log → LogFault → Type 0
+IsTangle log fault = (at : ℕ) × (fault.cause ≡ cause.Tangled at) × IsTangledAt log fault.stream at
+
+-- the images are refused for this fault
+abbrev pub IsBadLog : List (List ℕ) → LogFault → Type 0
+IsBadLog images fault = (log_of images ≡ Err fault) ⊎ ((log : Log) × (log_of images ≡ Ok log) × IsTangle log fault)
+
+-- what recovery writes of these images, where they hold a log
+abbrev pub RecoverTells : List (List ℕ) → (List ℕ → Type 0) → Status → Type 0
+RecoverTells images wrote status.Ok = (log : Log) × (log_of images ≡ Ok log) × LogTells log wrote status.Ok
+RecoverTells images wrote status.WriteFault = (log : Log) × (log_of images ≡ Ok log) × LogTells log wrote status.WriteFault
+RecoverTells images wrote status.NoMemory = wrote []
+RecoverTells images wrote other = Unit {0}
+
+-- the answer is this refusal, unless memory was wanting or a disk failed
+abbrev pub EndsAsBad : LogFault → Status → Type 0
+EndsAsBad fault status.NoMemory = Unit {0}
+EndsAsBad fault (status.DiskFault j) = Unit {0}
+EndsAsBad fault (status.BadLog other) = other ≡ fault
+EndsAsBad fault other = ⊥
+
+-- the answer tells where recovery gets stuck, unless memory was wanting or a disk failed
+abbrev pub EndsTangled : Log → Status → Type 0
+EndsTangled log status.NoMemory = Unit {0}
+EndsTangled log (status.DiskFault j) = Unit {0}
+EndsTangled log (status.BadLog fault) = IsTangle log fault
+EndsTangled log other = ⊥

@@ -1,0 +1,90 @@
+//! Recovery.
+ghost use Rattle.std.specs.Prelude.{◌≡◌, ◌≤◌, ◌<◌, ◌⊎◌, ℕ, List, [], true, false, length, take, drop, map, IfOk, Ok, Err};
+ghost use Rattle.tau_disk.specs.Disk.{Rose};
+ghost use Rattle.tau_scan.specs.declared.fault.LogFault.{LogFault};
+ghost use Rattle.tau_scan.specs.declared.log.Log.{Log};
+ghost use Rattle.tau_scan.specs.declared.fault.ScanRefusal.{ScanRefusal};
+ghost use Rattle.tau_scan.specs.Reading.{HasRead, IsLog, log_of};
+ghost use Rattle.tau_scan.specs.Taken.{Kept};
+ghost use Rattle.tau_replay.specs.Redone.{IsOrderOf};
+ghost use Rattle.tau_engine.specs.Fault.{fault_text, is_refusal, WroteFront};
+ghost use Rattle.tau_engine.specs.Outside.{EachUsed, OnlyRead, RoseAt, Wrote, ends_recovery};
+ghost use Rattle.tau_engine.specs.Recovery.{LogTells, IsTangle, IsBadLog, RecoverTells, EndsAsBad, EndsTangled, images_of};
+
+use crate::fault::refuse;
+use crate::sink::write_all;
+use crate::status::Status;
+use std::alloc::Global;
+use tau_disk::{Disk, Sink};
+use tau_replay::replay_turns;
+use tau_report::recover_text;
+use tau_scan::{Log, LogCause, LogFault, ReplayRefusal, ScanRefusal, scan};
+
+/// The log of the first disks.
+fn scan_first<D: Disk>(alloc: Global, n: usize, disks: &mut [D]) -> Result<Log, ScanRefusal>
+    requires low { 1 ≤ n }
+    requires high { n ≤ 16 }
+    requires there { n ≤ length disks.old }
+    ensures read { HasRead D.tells D.seen (take n disks.old) result }
+    ensures sound { IfOk result (λ log. IsLog log) }
+    ensures failed { (j : ℕ) → result ≡ Err (ScanRefusal.Failed j) → (j < n) × RoseAt D.faults disks.old disks.new j }
+    ensures only_read { EachUsed (OnlyRead D.tells D.seen D.may_leave D.moment D.may_leave_since) disks.old disks.new n }
+    ensures untouched { drop n disks.new ≡ drop n disks.old }
+{
+    scan(alloc, &mut disks[..n])
+}
+
+/// Redoes a log and writes what recovery finds in it.
+fn tell_log<K: Sink>(alloc: Global, log: &Log, sink: &mut K) -> Status
+    requires { IsLog log.now }
+    ensures told { LogTells log.now (Wrote K.tells (K.held sink.old) (K.held sink.new)) result }
+    ensures refusal { is_refusal result ≡ true → WroteFront (Wrote K.tells (K.held sink.old) (K.held sink.new)) (Rose (K.faults sink.old) (K.faults sink.new)) (fault_text result) }
+    ensures tangled { (fault : LogFault) → result ≡ Status.BadLog fault → IsTangle log.now fault × ((order : List Kept) → IsOrderOf log.now order → ⊥) }
+    ensures write_fault { result ≡ Status.WriteFault → Rose (K.faults sink.old) (K.faults sink.new) }
+    ensures kind { ends_recovery result ≡ true }
+    ensures no_disk { (j : ℕ) → result ≡ Status.DiskFault j → ⊥ }
+{
+    let tables = match replay_turns(alloc, log, &[]) {
+        Ok(tables) => tables,
+        Err(ReplayRefusal::NoMemory) => return Status::NoMemory,
+        Err(ReplayRefusal::Tangled { stream, at }) => {
+            let cause = LogCause::Tangled { at };
+            return refuse(alloc, sink, Status::BadLog(LogFault { stream, cause }));
+        }
+    };
+    let Ok(text) = recover_text(alloc, log, &tables) else {
+        return Status::NoMemory;
+    };
+    match write_all(sink, &text) {
+        Ok(()) => Status::Ok,
+        Err(_) => Status::WriteFault,
+    }
+}
+
+/// Recovers from the first `n` disks, and writes what it finds.
+pub fn recover<D: Disk, K: Sink>(alloc: Global, n: usize, sink: &mut K, disks: &mut [D]) -> Status
+    requires low { 1 ≤ n }
+    requires high { n ≤ 16 }
+    requires there { n ≤ length disks.old }
+
+    ensures told { D.tells → RecoverTells (images_of D.seen disks.old n) (Wrote K.tells (K.held sink.old) (K.held sink.new)) result }
+    ensures silent { result ≡ Status.NoMemory → Wrote K.tells (K.held sink.old) (K.held sink.new) [] }
+    ensures refusal { is_refusal result ≡ true → WroteFront (Wrote K.tells (K.held sink.old) (K.held sink.new)) (Rose (K.faults sink.old) (K.faults sink.new)) (fault_text result) }
+    ensures fault_line { (j : ℕ) → result ≡ Status.DiskFault j → WroteFront (Wrote K.tells (K.held sink.old) (K.held sink.new)) (Rose (K.faults sink.old) (K.faults sink.new)) (fault_text result) }
+    ensures bad_log { (fault : LogFault) → result ≡ Status.BadLog fault → D.tells → IsBadLog (images_of D.seen disks.old n) fault }
+    ensures bad_log_told { (fault : LogFault) → D.tells → log_of (images_of D.seen disks.old n) ≡ Err fault → EndsAsBad fault result }
+    ensures tangled_told { (log : Log) → D.tells → log_of (images_of D.seen disks.old n) ≡ Ok log → ((order : List Kept) → IsOrderOf log order → ⊥) → EndsTangled log result }
+    ensures ordered { (log : Log) (order : List Kept) (fault : LogFault) → D.tells → log_of (images_of D.seen disks.old n) ≡ Ok log → IsOrderOf log order → result ≡ Status.BadLog fault → ⊥ }
+    ensures disk_fault { (j : ℕ) → result ≡ Status.DiskFault j → (j < n) × RoseAt D.faults disks.old disks.new j }
+    ensures write_fault { result ≡ Status.WriteFault → Rose (K.faults sink.old) (K.faults sink.new) }
+    ensures kind { ends_recovery result ≡ true }
+    ensures read { EachUsed (OnlyRead D.tells D.seen D.may_leave D.moment D.may_leave_since) disks.old disks.new n }
+    ensures untouched { drop n disks.new ≡ drop n disks.old }
+{
+    match scan_first(alloc, n, disks) {
+        Ok(log) => tell_log(alloc, &log, sink),
+        Err(ScanRefusal::NoMemory) => Status::NoMemory,
+        Err(ScanRefusal::Failed { stream }) => refuse(alloc, sink, Status::DiskFault { stream }),
+        Err(ScanRefusal::Bad(fault)) => refuse(alloc, sink, Status::BadLog(fault)),
+    }
+}
