@@ -2,8 +2,10 @@ use Rattle.std.proofs.Common.{ℕ, ◌≡◌, ◌-◌, ◌++◌, List, length, t
 use Rattle.std.proofs.lemmas.Int.{to_z-of_z}
 use mir.Val.{SFits}
 use Rattle.std.proofs.Math.Seq.{take-length}
-use Rattle.tau_stream.specs.Writer.{left_of, durable_of, part_upto, IsReady}
+use Rattle.tau_stream.specs.Writer.{disk_of, left_of, durable_of, part_upto, IsReady}
+use Rattle.tau_engine.specs.Outside.{GoesOn}
 use Rattle.tau_engine.specs.Puts.{record_bytes}
+use Rattle.tau_engine.proofs.Plans.{made_all}
 use Rattle.tau_engine.proofs.Records.{record_size}
 use Rattle.tau_engine.proofs.log.log_put.Goals as goal
 
@@ -53,3 +55,9 @@ returns-in-Ok-flush-clause-done g c tells n j content ready =
     ap (λ (k : ℕ). take k (left_of c.prepare.new.self)) count ∙ ap (λ (xs : List ℕ). take (length bytes) xs) kept ∙ take-length bytes in
     let before = c.in-Ok-prepare.ensures.ready n j content (c.in-Ok-add.ensures.ready n j content ready) in
     subst (λ (xs : List ℕ). IsReady n j c.flush.new.self (content ++ xs)) part (c.in-Ok-flush.ensures.done tells n j content before)
+
+pub returns-in-Ok-flush-clause-goes : goal.returns-in-Ok-flush-clause-goes
+returns-in-Ok-flush-clause-goes g c tells =
+    let made = c.in-Ok-flush.ensures.plan tells (λ same. absurd (cc (c.in-Ok-flush.ensures.idle.1 same))) in
+    let goes = made_all g.D.Disk.tells g.D.Disk.number g.D.Disk.fails g.D.Disk.short 4 (disk_of c.prepare.new.self) (disk_of c.flush.new.self) made.same made.ok in
+    subst (λ d. GoesOn g.D.Disk.number g.D.Disk.fails d (disk_of c.flush.new.self)) (c.prepare.ensures.disk ∙ c.add.ensures.disk) goes
