@@ -2,4 +2,4 @@ use Rattle.std.proofs.Common.{◌≡◌, vec_len}
 use Rattle.tau_engine.proofs.tests.recovery_of_a_dependence.Given as goal
 
 abbrev pub invariant-loop-p : goal.invariant-loop-p
-invariant-loop-p l = vec_len l.disks ≡ 16
+invariant-loop-p g l = vec_len l.disks ≡ 16
