@@ -1,0 +1,76 @@
+-- What the laws say of what stops may leave, over whatever relations say it.
+use Rattle.std.proofs.Common.{ℕ, ◌+◌, ◌<◌, ◌≡◌, List, ◌++◌, length, refl, ap, subst, ◌∙◌, Option, arith}
+use Rattle.std.specs.Prelude.{Some, None, slice_get}
+use Rattle.std.proofs.lemmas.List.{length-append}
+use Rattle.tau_base.specs.declared.value.LogMode.{LogMode}
+use Rattle.tau_model.specs.History.{Act}
+use Rattle.tau_machine.specs.Hands.{Txn}
+use Rattle.tau_machine.specs.State.{Core}
+use Rattle.tau_text.specs.declared.load.Workload.{Workload}
+use Rattle.tau_core.specs.declared.state.Load.{Load}
+use Rattle.tau_run.specs.Run.{Run, AllAcked}
+use Rattle.tau_run.specs.Facts.{catalogue_of, IsImaged, IsAcknowledged, IsEnded}
+use Rattle.tau_run.specs.Course.{IsRunOf, IsCourse}
+use Rattle.tau_run.specs.Left.{IsLeft, Leaves, IsOver}
+use Rattle.tau_run.specs.Told.{Ending, IsCoreRunAt, RunTells, RunFacts}
+use Rattle.tau_run.proofs.Each.{one_content}
+use Rattle.tau_run.proofs.Logs.{got_within}
+use Rattle.tau_run.proofs.Results.{history_law, contents_law, images_law, acked_law, ends_law}
+
+module _ (n m : ℕ) (mode : LogMode) (load : Workload) (l : Load) (K : List (Act Txn)) (s : Core) (c : IsCourse n m mode load l K s) (run : Run) (is : IsRunOf n l K s (catalogue_of load) run)
+    (past now : ℕ → List ℕ → Type 0) (rose : ℕ → Type 0) where
+  within : (images : List (List ℕ)) (j : ℕ) (image : List ℕ) → length images ≡ n → slice_get images j ≡ Some image → j < n
+  within images j image count e = subst (λ (k : ℕ). j < k) count (got_within images j image e)
+
+  pub imaged : (unborn : Type 0) → (unborn → (j : ℕ) (x : List ℕ) → j < n → past j x → IsLeft n j (catalogue_of load) l s x) → IsImaged n mode load unborn past run
+  imaged unborn left =
+      let w = contents_law n m mode load l K s c run is in record {
+        whole = w.0;
+        reads = w.1;
+        records = w.2;
+        each = λ u images from. images_law n m mode load l K s c run is images from.0 (λ j image e. left u j image (within images j image from.0 e) (from.1 j image e));
+      }
+
+  module _ (leaves : Leaves n (catalogue_of load) l s past now rose) where
+    pub acknowledged : IsAcknowledged n load now run
+    acknowledged images from log reads x q e =
+        acked_law n m mode load l K s c run is images from.0 (λ j image f. leaves.present j image (within images j image from.0 f) (from.1 j image f)) log reads x q e
+
+    going : (j : ℕ) → (rose j → ⊥) → (s.streams j).stop ≡ None
+    going j none = by_stop (s.streams j).stop refl
+      where
+        by_stop : (o : Option ℕ) → (s.streams j).stop ≡ o → (s.streams j).stop ≡ None
+        by_stop None e = e
+        by_stop (Some end) e = absurd (none (leaves.stopped j end e))
+
+    pub ended : IsOver n s → (((j : ℕ) → j < n → (s.streams j).stop ≡ None) → AllAcked load run) → IsEnded n load now rose run
+    ended over complete =
+        let law = ends_law n m mode load l K s c run is over in record {
+          durable = s.plv;
+          least = λ j x content lt q has.
+              (let p = leaves.present j x lt q in
+              let same = one_content n j x content (catalogue_of load ++ p.0) has p.1.has in
+              let long : length content ≡ length (catalogue_of load) + length p.0 = ap length same ∙ length-append (catalogue_of load) p.0 in
+              let reach = p.2 in
+              omega (arith, long, reach));
+          reached = leaves.reached;
+          acked = law.0;
+          uncovered = λ d q j lt gap. (let at = law.1 d q j lt gap in leaves.stopped j at.0 at.1);
+          flushed = λ j x lt none q. (let p = leaves.present j x lt q in law.2 j lt (going j none) x p.0 p.1 p.2);
+          opened = law.3;
+          all = λ none. complete (λ j lt. going j (none j lt));
+        }
+
+    -- all of it, for the record of a run
+    pub facts : (unborn sink_rose : Type 0) (made : ℕ → ℕ → Type 0) (wrote : List ℕ → Type 0) (fault : ℕ → List ℕ) (ending : Ending) → IsCoreRunAt n m mode load (λ j. (s.streams j).stop) run ending →
+        RunTells (IsEnded n load now rose) n load rose sink_rose made wrote fault run ending → RunFacts n m mode load unborn past now rose sink_rose made wrote fault ending
+    facts unborn sink_rose made wrote fault ending core told = record {
+      run = run;
+      history = history_law n m mode load l K s c run is;
+      stops = λ j. (s.streams j).stop;
+      core = core;
+      stopped = leaves.stopped;
+      told = told;
+      imaged = imaged unborn (λ u j x lt q. leaves.before j x lt q);
+      acknowledged = acknowledged;
+    }

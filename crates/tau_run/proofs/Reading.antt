@@ -1,0 +1,109 @@
+-- What is read of a content that was given.
+use Rattle.std.proofs.Common.{ℕ, ◌≤◌, ◌<◌, true, ◌≡◌, inl, inr, List, [], ◌∷◌, ◌++◌, map, length, refl, sym, ap, subst, ◌∙◌, arith, slice_index}
+use Rattle.std.specs.Prelude.{Option, None, Ok, slice_index_or, is_ok}
+use Rattle.std.proofs.lemmas.List.{append-nil}
+use Rattle.tau_base.specs.declared.limits.TheConstants.{MAX_CATALOGUE}
+use Rattle.tau_base.specs.declared.value.LogMode.{LogMode}
+use Rattle.tau_base.specs.declared.value.LogMode.TheVariants.{Values, Commands}
+use Rattle.tau_model.specs.History.{Act, Member}
+use Rattle.tau_model.specs.Logged.{Place}
+use Rattle.tau_machine.specs.Hands.{Txn}
+use Rattle.tau_machine.specs.Pieces.{Chain, records_in, anchors_in, NameTheirs}
+use Rattle.tau_machine.specs.State.{Item, Record, Anchor}
+use Rattle.tau_text.specs.declared.load.Workload.{Workload}
+use Rattle.tau_text.specs.declared.load.Declarations.{Declarations}
+use Rattle.tau_text.specs.Alone.{declarations_of}
+use Rattle.tau_text.specs.Canonical.{declarations_text}
+use Rattle.tau_record.specs.declared.entry.Entry.TheVariants as entry
+use Rattle.tau_record.specs.declared.entry.Placed.{Placed}
+use Rattle.tau_record.specs.declared.fault.RecordFault.{RecordFault}
+use Rattle.tau_record.specs.Format.{One}
+use Rattle.tau_record.specs.Record.{named}
+use Rattle.tau_record.specs.Content.{placed, Reads, IsContent}
+use Rattle.tau_record.proofs.Appending.{appended_content}
+use Rattle.tau_record.proofs.ContentLaws.{content_again}
+use Rattle.tau_txn.specs.Record.{entry_of}
+use Rattle.tau_core.specs.declared.state.Load.{Load}
+use Rattle.tau_core.specs.Pieces.{Spelled}
+use Rattle.tau_scan.specs.Reading.{or_none, is_declared, first_undeclared, undeclared, unless, judged, records_of}
+use Rattle.tau_scan.specs.Taken.{Kept, kept_in}
+use Rattle.tau_run.specs.Run.{record_of}
+use Rattle.tau_run.specs.Facts.{catalogue_of}
+use Rattle.tau_run.proofs.Told.{act_of}
+use Rattle.tau_run.proofs.Spelled.{placed_in, AreOf, reads_items}
+
+-- the record of a call, as recovery keeps it
+abbrev pub kept_of : LogMode → Act Txn → Kept
+kept_of mode t = record_of mode (act_of t)
+
+kept_place : (j : ℕ) (t : Act Txn) → t.call.place.stream ≡ j → record { stream = j; start = t.call.place.start; past = t.call.place.past; dep = t.call.place.dep } ≡ t.call.place
+kept_place j t own = λ i. record { stream = sym own i; start = t.call.place.start; past = t.call.place.past; dep = t.call.place.dep }
+
+pub kept_items : (mode : LogMode) (j : ℕ) (items : List Item) → AreOf j items → kept_in j (map (placed_in mode) items) ≡ map (kept_of mode) (records_in items)
+kept_items mode j [] of = refl
+kept_items Values j (Record t ∷ items) of =
+    let place = kept_place j t (of t (inl refl)) in
+    ap (λ (p : Place). record (kept_of Values t) { place = p } ∷ kept_in j (map (placed_in Values) items)) place ∙ ap (λ (l : List Kept). kept_of Values t ∷ l) (kept_items Values j items (λ u m. of u (inr m)))
+kept_items Commands j (Record t ∷ items) of =
+    let place = kept_place j t (of t (inl refl)) in
+    ap (λ (p : Place). record (kept_of Commands t) { place = p } ∷ kept_in j (map (placed_in Commands) items)) place ∙ ap (λ (l : List Kept). kept_of Commands t ∷ l) (kept_items Commands j items (λ u m. of u (inr m)))
+kept_items mode j (Anchor x y v ∷ items) of = kept_items mode j items of
+
+-- each record names what is declared
+abbrev pub AreDeclared : Declarations → LogMode → List (Act Txn) → Type 0
+AreDeclared d mode ts = (t : Act Txn) → Member t ts → is_declared d (entry_of mode t) ≡ true
+
+items_declared : (d : Declarations) (mode : LogMode) (items : List Item) → AreDeclared d mode (records_in items) → first_undeclared d (map (placed_in mode) items) ≡ None
+unfolding first_undeclared
+items_declared d mode [] are = refl
+items_declared d mode (Record t ∷ items) are = rw (are t (inl refl)) (items_declared d mode items (λ u m. are u (inr m)))
+items_declared d mode (Anchor x y v ∷ items) are = items_declared d mode items are
+
+-- the catalogue can be read again
+pub record IsCatalogue (load : Workload) : Type 0 where
+  pub short : length (declarations_text load.declarations) ≤ MAX_CATALOGUE
+  pub bytes : (i : ℕ) → slice_index_or (declarations_text load.declarations) i 0 < 256
+  pub read : declarations_of (declarations_text load.declarations) ≡ Ok load.declarations
+
+abbrev pub first_placed : Workload → Placed
+first_placed load = placed (entry.Catalogue (declarations_text load.declarations)) 0 (length (catalogue_of load))
+
+catalogue_content : (n : ℕ) (load : Workload) → IsCatalogue load → IsContent One n (catalogue_of load) (first_placed load ∷ [])
+catalogue_content n load is = (
+  [],
+  record { parts = sym (append-nil (catalogue_of load)); fits = record { kind = refl; fields = (is.short, is.bytes) }; starts = refl; ends = omega arith },
+  refl,
+)
+
+pub catalogue_long : (load : Workload) → 1 ≤ length (catalogue_of load)
+catalogue_long load = omega arith
+
+-- a content with these records
+whole_read : (n : ℕ) (content : List ℕ) (ps : List Placed) → n ≤ 16 → IsContent One n content ps → undeclared ps ≡ None → records_of n content ≡ Ok ps
+unfolding records_of
+whole_read n content ps room is none =
+    ap (judged n content) (content_again One n content ps room is) ∙ ap (λ (o : Option RecordFault). unless o ps) none
+
+all_declared : (load : Workload) (mode : LogMode) (items : List Item) → IsCatalogue load → AreDeclared load.declarations mode (records_in items) → (d : Declarations) → d ≡ load.declarations →
+    first_undeclared d (first_placed load ∷ map (placed_in mode) items) ≡ None
+unfolding first_undeclared
+all_declared load mode items is are d e =
+    let good : is_ok (declarations_of (declarations_text load.declarations)) ≡ true = ap is_ok is.read in
+    rw good (subst (λ (x : Declarations). first_undeclared x (map (placed_in mode) items) ≡ None) (sym e) (items_declared load.declarations mode items are))
+
+pub content_read : (l : Load) (anchors : ℕ → List (List ℕ)) (load : Workload) (n j to : ℕ) (more : List (List ℕ)) (items : List Item) (bytes : List ℕ) → n ≤ 16 → l.streams ≡ n →
+    slice_index l.opening.anchors.items j ≡ 0 → IsCatalogue load → Spelled l anchors items bytes → Chain (length (catalogue_of load)) items to → AreOf j items → NameTheirs 0 [] items → anchors j ≡ anchors_in items ++ more →
+    AreDeclared load.declarations l.mode (records_in items) → records_of n (catalogue_of load ++ bytes) ≡ Ok (first_placed load ∷ map (placed_in l.mode) items)
+content_read l anchors load n j to more items bytes room width none is h c of names all are =
+    let rest : Reads One n (length (catalogue_of load)) (named n []) bytes (map (placed_in l.mode) items) = reads_items l anchors n j (length (catalogue_of load)) to [] more items bytes width none h c (catalogue_long load) of names all in
+    let content : IsContent One n (catalogue_of load ++ bytes) (first_placed load ∷ map (placed_in l.mode) items) =
+    appended_content One n (catalogue_of load) bytes (first_placed load ∷ []) (map (placed_in l.mode) items) (catalogue_content n load is) rest in
+    whole_read n (catalogue_of load ++ bytes) (first_placed load ∷ map (placed_in l.mode) items) room content
+    (all_declared load l.mode items is are (or_none (declarations_of (declarations_text load.declarations))) (ap or_none is.read))
+
+none_undeclared : undeclared [] ≡ None
+unfolding first_undeclared
+none_undeclared = refl
+
+pub nothing_read : (n : ℕ) → n ≤ 16 → records_of n [] ≡ Ok []
+nothing_read n room = whole_read n [] [] room refl none_undeclared

@@ -1,0 +1,108 @@
+-- The bytes of items are their records, one after another.
+use Rattle.std.proofs.Common.{ℕ, zero, suc, ◌+◌, ◌≤◌, Bool, false, ◌≡◌, inl, inr, List, [], ◌∷◌, ◌++◌, map, length, replicate, refl, sym, ap, subst, ◌∙◌, arith, append_assoc, slice_index}
+use Rattle.std.specs.Prelude.{Some, slice_get, slice_index_or, ◌==◌}
+use Rattle.std.proofs.lemmas.Bool.{ne_eqb}
+use Rattle.std.proofs.lemmas.List.{length-append}
+use Rattle.tau_base.specs.declared.value.LogMode.{LogMode}
+use Rattle.tau_base.specs.declared.value.LogMode.TheVariants.{Values, Commands}
+use Rattle.tau_model.specs.History.{Act, Member}
+use Rattle.tau_machine.specs.Hands.{Txn}
+use Rattle.tau_machine.specs.Pieces.{Chain, records_in, anchors_in, NamesOne, NameTheirs}
+use Rattle.tau_machine.specs.State.{Item, Record, Anchor, start_of, past_of}
+use Rattle.tau_record.specs.declared.entry.Entry.{Entry}
+use Rattle.tau_record.specs.declared.entry.Entry.TheVariants as entry
+use Rattle.tau_record.specs.declared.entry.Placed.{Placed}
+use Rattle.tau_record.specs.Format.{One}
+use Rattle.tau_record.specs.Record.{named, base_of, Spells, Fits}
+use Rattle.tau_record.specs.Content.{placed, named_after, Begins, Reads}
+use Rattle.tau_core.specs.declared.state.Load.{Load}
+use Rattle.tau_txn.specs.Record.{entry_of}
+use Rattle.tau_core.specs.Pieces.{Names, Spelled}
+
+-- the entry of an item, with its place
+abbrev pub entry_in : LogMode → Item → Entry
+entry_in mode (Record t) = entry_of mode t
+entry_in mode (Anchor start past v) = entry.Anchor v
+
+abbrev pub placed_in : LogMode → Item → Placed
+placed_in mode i = placed (entry_in mode i) (start_of i) (past_of i)
+
+-- the records stand in this stream
+abbrev pub AreOf : ℕ → List Item → Type 0
+AreOf j items = (t : Act Txn) → Member t (records_in items) → t.call.place.stream ≡ j
+
+pub spelled_long : (l : Load) (anchors : ℕ → List (List ℕ)) (a b : ℕ) (items : List Item) (bytes : List ℕ) → Spelled l anchors items bytes → Chain a items b → a + length bytes ≡ b
+spelled_long l anchors a b [] bytes h c = let e = ap length h in omega (arith, e, c)
+spelled_long l anchors a b (i ∷ items) bytes h c =
+    let rest = spelled_long l anchors (past_of i) b items h.1 h.5 c.2 in
+    let e = ap length h.2 in
+    let f = length-append h.0 h.1 in
+    let g = h.3 in
+    let k = c.0 in
+    omega (arith, rest, e, f, g, k)
+
+got_front : {A : Type 0} (xs ys : List A) (i : ℕ) (x : A) → slice_get xs i ≡ Some x → slice_get (xs ++ ys) i ≡ Some x
+got_front [] ys i x e = absurd cc
+got_front (y ∷ xs) ys zero x e = e
+got_front (y ∷ xs) ys (suc i) x e = got_front xs ys i x e
+
+pub got_or : {A : Type 0} (xs : List A) (i : ℕ) (x d : A) → slice_get xs i ≡ Some x → slice_index_or xs i d ≡ x
+got_or [] i x d e = absurd cc
+got_or (y ∷ xs) zero x d e = let f : y ≡ x = cc e in f
+got_or (y ∷ xs) (suc i) x d e = got_or xs i x d e
+
+some_same : {A : Type 0} (x y : A) → Some x ≡ Some y → x ≡ y
+some_same x y e = cc e
+
+-- of all records but the first the number tells the base, of the anchors before it
+base_is : (l : Load) (n j : ℕ) (before more : List (List ℕ)) (t : Txn) (base : List ℕ) → l.streams ≡ n → slice_index l.opening.anchors.items j ≡ 0 →
+    NamesOne 0 before t → Names l j (before ++ more) t.anchor base → base_of (named n before) t.anchor ≡ base
+base_is l n j before more t base width none (inl zero_is) (inl p) =
+    ap (base_of (named n before)) zero_is ∙ ap (λ k. replicate k 0) (sym width) ∙ sym p.1
+base_is l n j before more t base width none (inl zero_is) (inr p) = let e = p.1 in absurd (omega (arith, zero_is, e))
+base_is l n j before more t base width none (inr q) (inl p) = let e = q.2 in let f = p.0 in absurd (omega (arith, e, f))
+base_is l n j before more t base width none (inr q) (inr p) =
+    let one : q.0 ≡ p.0 = (let e = q.2 in let f = p.1 in omega (arith, e, f, none)) in
+    let at : t.anchor ≡ suc q.0 = (let e = q.2 in omega (arith, e)) in
+    let got : slice_get (before ++ more) q.0 ≡ Some q.1 = got_front before more q.0 q.1 q.3 in
+    let same : q.1 ≡ base = some_same q.1 base (sym got ∙ ap (slice_get (before ++ more)) one ∙ p.2) in
+    ap (base_of (named n before)) at ∙ got_or before q.0 q.1 [] q.3 ∙ same
+
+begun : (n at : ℕ) (vectors : List (List ℕ)) (e : Entry) (first rest bytes : List ℕ) (start past : ℕ) → Spells One n vectors false e first → bytes ≡ first ++ rest → 1 ≤ at → start ≡ at →
+    start + length first ≡ past → Begins One n at vectors bytes rest (placed e start past)
+begun n at vectors e first rest bytes start past s parts low place long =
+    let other : (at == 0) ≡ false = ne_eqb at 0 (λ z. omega (arith, z, low)) in
+    record {
+      parts = parts ∙ ap (λ (x : List ℕ). x ++ rest) s.text;
+      fits = subst (λ (b : Bool). Fits n vectors b e) (sym other) s.fits;
+      starts = place;
+      ends = sym long ∙ ap (λ k. k + length first) place ∙ ap (λ (x : List ℕ). at + length x) s.text;
+    }
+
+same_vectors : (mode : LogMode) (vectors : List (List ℕ)) (t : Act Txn) → named_after vectors (entry_of mode t) ≡ vectors
+same_vectors Values vectors t = refl
+same_vectors Commands vectors t = refl
+
+pub reads_items : (l : Load) (anchors : ℕ → List (List ℕ)) (n j at to : ℕ) (before more : List (List ℕ)) (items : List Item) (bytes : List ℕ) → l.streams ≡ n →
+    slice_index l.opening.anchors.items j ≡ 0 → Spelled l anchors items bytes → Chain at items to → 1 ≤ at → AreOf j items → NameTheirs 0 before items → anchors j ≡ (before ++ anchors_in items) ++ more →
+    Reads One n at (named n before) bytes (map (placed_in l.mode) items)
+reads_items l anchors n j at to before more [] bytes width none h c low of names all = h
+reads_items l anchors n j at to before more (Record t ∷ items) bytes width none h c low of names all =
+    let own : t.call.place.stream ≡ j = of t (inl refl) in
+    let is = h.4 in
+    let theirs : Names l j (before ++ (anchors_in items ++ more)) t.call.anchor is.base =
+    subst (λ (v : List (List ℕ)). Names l j v t.call.anchor is.base) (all ∙ append_assoc before (anchors_in items) more) (subst (λ k. Names l k (anchors k) t.call.anchor is.base) own is.named) in
+    let base = base_is l n j before (anchors_in items ++ more) t.call is.base width none names.0 theirs in
+    let spells : Spells One n (named n before) false (entry_of l.mode t) h.0 = subst (λ k. Spells One k (named n before) false (entry_of l.mode t) h.0) width (is.spelled (named n before) base) in
+    let lt = c.1 in
+    let rest = reads_items l anchors n j t.call.place.past to before more items h.1 width none h.5 c.2 (omega (arith, lt)) (λ u m. of u (inr m)) names.1 all in (
+      h.1,
+      begun n at (named n before) (entry_of l.mode t) h.0 h.1 bytes t.call.place.start t.call.place.past spells h.2 low c.0 h.3,
+      subst (λ (v : List (List ℕ)). Reads One n t.call.place.past v h.1 (map (placed_in l.mode) items)) (sym (same_vectors l.mode (named n before) t)) rest,
+    )
+reads_items l anchors n j at to before more (Anchor x y v ∷ items) bytes width none h c low of names all =
+    let spells : Spells One n (named n before) false (entry.Anchor v) h.0 = subst (λ k. Spells One k (named n before) false (entry.Anchor v) h.0) width (h.4 (named n before)) in
+    let lt = c.1 in
+    let there : anchors j ≡ ((before ++ v ∷ []) ++ anchors_in items) ++ more = all ∙ ap (λ (z : List (List ℕ)). z ++ more) (sym (append_assoc before (v ∷ []) (anchors_in items))) in
+    let rest = reads_items l anchors n j y to (before ++ v ∷ []) more items h.1 width none h.5 c.2 (omega (arith, lt)) of names there in
+    (h.1, begun n at (named n before) (entry.Anchor v) h.0 h.1 bytes x y spells h.2 low c.0 h.3, rest)

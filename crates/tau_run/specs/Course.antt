@@ -1,0 +1,85 @@
+-- The run that a state of the core has made so far: its history, the contents of its streams, its acknowledgements.
+use Rattle.std.specs.Prelude.{ℕ, ◌<◌, ◌≤◌, ◌≡◌, ◌==◌, Bool, List, [], ◌++◌, length, map, replicate, slice_get, slice_index, slice_index_or, Some, Ok, true}
+use Rattle.std.specs.List.{filter, list_all}
+use Rattle.tau_base.specs.declared.value.LogMode.{LogMode}
+use Rattle.tau_model.specs.History.{Act}
+use Rattle.tau_machine.specs.Hands.{Txn}
+use Rattle.tau_machine.specs.State.{Item, Core}
+use Rattle.tau_machine.specs.Invariant.{Invariant}
+use Rattle.tau_machine.specs.Pieces.{Chain, records_in, anchors_in, NameTheirs, records_of_stream}
+use Rattle.tau_machine.specs.Reports.{reported}
+use Rattle.tau_text.specs.declared.load.Workload.{Workload}
+use Rattle.tau_core.specs.declared.state.Load.{Load}
+use Rattle.tau_core.specs.Pieces.{Spelled}
+use Rattle.tau_core.specs.View.{setting_of, worker_of}
+use Rattle.tau_base.specs.declared.limits.TheConstants.{MAX_CATALOGUE}
+use Rattle.tau_base.specs.declared.value.Call.{Call}
+use Rattle.tau_proc.specs.declared.proc.Proc.{Proc}
+use Rattle.tau_proc.specs.declared.step.Step.{Step}
+use Rattle.tau_proc.specs.declared.step.Step.TheVariants as step
+use Rattle.tau_text.specs.declared.load.Declarations.{Declarations}
+use Rattle.tau_proc.specs.Takes.{takes}
+use Rattle.tau_text.specs.Alone.{declarations_of}
+use Rattle.tau_text.specs.Canonical.{declarations_text}
+use Rattle.tau_scan.specs.Reading.{has_table, is_of_table}
+use Rattle.tau_run.specs.Facts.{catalogue_of}
+use Rattle.tau_run.specs.Run.{Run, told_of, pair_of}
+
+-- what the core stands on is this workload, by m workers, over n streams that have their catalogue alone
+pub record IsLoadOf (n m : ℕ) (mode : LogMode) (load : Workload) (l : Load) : Type 0 where
+  pub procs : l.procs ≡ load.declarations.procs
+  pub calls : l.calls ≡ load.calls
+  pub mode_is : l.mode ≡ mode
+  pub workers : l.workers ≡ m
+  pub streams : l.streams ≡ n
+  pub rows : l.opening.rows ≡ []
+  pub ends : l.opening.ends ≡ replicate n (length (catalogue_of load))
+  pub anchors : l.opening.anchors.items ≡ replicate n 0
+
+-- the acknowledgements, as they were told, are those of each worker in their order
+abbrev pub AreAcks : Load → Core → List (ℕ × List ℕ) → Type 0
+AreAcks l s acks = (w : ℕ) → filter (λ (a : ℕ × List ℕ). worker_of l.workers a.0 == w) acks ≡ map pair_of (s.acked w)
+
+-- The stream was given the catalogue, and behind it the bytes of all its items: those that were gathered, and those
+-- that wait behind them up to its end.
+pub record IsGiven (l : Load) (K : List (Act Txn)) (s : Core) (j : ℕ) (catalogue content : List ℕ) : Type 0 where
+  pub waiting : List Item
+  pub moved : Chain (length catalogue) (s.streams j).moved (slice_index s.gathered j)
+  pub rest : Chain (slice_index s.gathered j) waiting (slice_index s.ends j)
+  pub records : records_in ((s.streams j).moved ++ waiting) ≡ records_of_stream j K
+  pub anchors : anchors_in ((s.streams j).moved ++ waiting) ≡ (s.streams j).anchors
+  pub named : NameTheirs 0 [] ((s.streams j).moved ++ waiting)
+  pub bytes : List ℕ
+  pub spelled : Spelled l (λ i. (s.streams i).anchors) ((s.streams j).moved ++ waiting) bytes
+  pub is : content ≡ catalogue ++ bytes
+
+-- the run that this state has made, where these calls committed in this order, with these acknowledgements
+pub record IsRunOf (n : ℕ) (l : Load) (K : List (Act Txn)) (s : Core) (catalogue : List ℕ) (run : Run) : Type 0 where
+  pub calls : run.calls ≡ map told_of (reported s.ends K)
+  pub streams : length run.contents ≡ n
+  pub given : (j : ℕ) (content : List ℕ) → slice_get run.contents j ≡ Some content → IsGiven l K s j catalogue content
+  pub acks : AreAcks l s run.acks
+
+-- the tables that the step names are declared
+abbrev pub step_named : Declarations → Step → Bool
+step_named d (step.Get into table row) = has_table d table
+step_named d (step.Put table row value) = has_table d table
+step_named d (step.Del table row) = has_table d table
+step_named d _ = true
+
+-- The workload can be run and logged: its catalogue can be read again, its procedures take its calls, and calls and
+-- steps name declared tables alone.
+pub record IsSoundLoad (load : Workload) : Type 0 where
+  pub short : length (declarations_text load.declarations) ≤ MAX_CATALOGUE
+  pub bytes : (i : ℕ) → slice_index_or (declarations_text load.declarations) i 0 < 256
+  pub read : declarations_of (declarations_text load.declarations) ≡ Ok load.declarations
+  pub taken : (k : ℕ) (c : Call) → slice_get load.calls k ≡ Some c → takes load.declarations.procs c ≡ true
+  pub named : (k : ℕ) (c : Call) → slice_get load.calls k ≡ Some c → is_of_table load.declarations c ≡ true
+  pub steps : (i : ℕ) (p : Proc) → slice_get load.declarations.procs i ≡ Some p → list_all (step_named load.declarations) p.steps ≡ true
+
+-- The core stands on this workload, and its state is one that events led to: the invariant of the machine holds of it.
+pub record IsCourse (n m : ℕ) (mode : LogMode) (load : Workload) (l : Load) (K : List (Act Txn)) (s : Core) : Type 0 where
+  pub room : n ≤ 16
+  pub load_is : IsLoadOf n m mode load l
+  pub sound : IsSoundLoad load
+  pub inv : Invariant (setting_of l) K s

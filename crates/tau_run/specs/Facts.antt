@@ -1,0 +1,85 @@
+-- What a run leaves: what its streams hold, what recovery finds of it, and what it has acknowledged.
+use Rattle.std.specs.Prelude.{ℕ, ◌<◌, ◌≤◌, ◌≡◌, ◌↔◌, ◌⊎◌, ◌==◌, Bool, true, List, [], length, map, take, slice_get, slice_index, slice_index_or, Result, Ok, Some}
+use Rattle.std.specs.List.{filter, list_any}
+use Rattle.tau_base.specs.declared.value.LogMode.{LogMode}
+use Rattle.tau_base.specs.Database.{empty_db}
+use Rattle.tau_base.specs.Vectors.{covers}
+use Rattle.tau_model.specs.History.{Act, Member, Closed, Depends, exec, updates}
+use Rattle.tau_model.specs.Redo.{redo_contents}
+use Rattle.tau_block.specs.Image.{HasContent}
+use Rattle.tau_text.specs.declared.load.Workload.{Workload}
+use Rattle.tau_text.specs.Canonical.{declarations_text}
+use Rattle.tau_record.specs.declared.entry.Entry.TheVariants.{Catalogue}
+use Rattle.tau_record.specs.Format.{One}
+use Rattle.tau_record.specs.Record.{spelling}
+use Rattle.tau_scan.specs.declared.log.Log.{Log}
+use Rattle.tau_scan.specs.declared.fault.LogFault.{LogFault}
+use Rattle.tau_scan.specs.Reading.{◌>>=◌, none_declared, contents_of, streams_of, declared_in, log_of}
+use Rattle.tau_scan.specs.Taken.{Kept, kept_in, taken}
+use Rattle.tau_replay.specs.Redone.{IsOrderOf}
+use Rattle.tau_run.specs.Run.{Committed, Run, acts, means, records_in, has_ack, vector_of, AllAcked}
+
+-- the catalogue record of a workload's declarations, with which every stream begins
+abbrev pub catalogue_of : Workload → List ℕ
+catalogue_of load = spelling One [] (Catalogue (declarations_text load.declarations))
+
+-- the log of these contents, one for each stream, or the first cause why they hold none
+abbrev pub log_of_contents : List (List ℕ) → Result Log LogFault
+log_of_contents contents = streams_of contents >>= λ streams. declared_in streams >>= λ declarations.
+    Ok (record { elv = map length contents; declarations = declarations; streams = streams })
+
+-- one image of each stream
+abbrev pub AreFrom : (ℕ → List ℕ → Type 0) → ℕ → List (List ℕ) → Type 0
+AreFrom left n images = (length images ≡ n) × ((j : ℕ) (x : List ℕ) → slice_get images j ≡ Some x → left j x)
+
+-- recovery takes the record of this call
+abbrev pub takes : Log → Committed → Bool
+takes log c = list_any (λ r. r.number == c.number) (taken log)
+
+-- What the images hold is a closed part of the history, and redoing it in each orderly order gives what executing
+-- just these calls gives.
+pub record IsRecovered (n : ℕ) (mode : LogMode) (load : Workload) (run : Run) (images : List (List ℕ)) : Type 0 where
+  pub log : Log
+  -- there is no cause to refuse them
+  pub reads : log_of images ≡ Ok log
+  -- each content is a first part of what the stream was given, and its records are the first ones of the history there
+  pub contents : List (List ℕ)
+  pub have : contents_of images ≡ Ok contents
+  pub fronts : (j : ℕ) → j < n → (k : ℕ) × (slice_index_or contents j [] ≡ take k (slice_index_or run.contents j []))
+  pub records : (j : ℕ) → j < n → (k : ℕ) × (kept_in j (slice_index_or log.streams j []) ≡ take k (records_in mode load run j))
+  pub declared : ((taken log ≡ []) × (log.declarations ≡ none_declared)) ⊎ (log.declarations ≡ load.declarations)
+  pub closed : Closed (acts load.declarations.procs run) (takes log)
+  pub ordered : (order : List Kept) × IsOrderOf log order
+  pub redo : (order : List Kept) → IsOrderOf log order →
+      redo_contents log.declarations.procs (map (λ (r : Kept). r.content) order) empty_db ≡ exec (means load.declarations.procs) (filter (takes log) run.calls) empty_db
+
+-- what the streams were given are the records of the history, and, where the disks began unborn, each image of a stop
+-- has a first part of it
+pub record IsImaged (n : ℕ) (mode : LogMode) (load : Workload) (unborn : Type 0) (past : ℕ → List ℕ → Type 0) (run : Run) : Type 0 where
+  pub whole : Log
+  pub reads : log_of_contents run.contents ≡ Ok whole
+  pub records : (j : ℕ) → j < n → kept_in j (slice_index_or whole.streams j []) ≡ records_in mode load run j
+  pub each : unborn → (images : List (List ℕ)) → AreFrom past n images → IsRecovered n mode load run images
+
+-- whatever a stop now leaves, each updating call that is acknowledged is taken, and each on which an acknowledged call depends
+abbrev pub IsAcknowledged : ℕ → Workload → (ℕ → List ℕ → Type 0) → Run → Type 0
+IsAcknowledged n load now run = (images : List (List ℕ)) → AreFrom now n images → (log : Log) → log_of images ≡ Ok log →
+    (x : Act Committed) → Member x (acts load.declarations.procs run) → has_ack run x.call.number ≡ true →
+    (updates x.effect ≡ true → takes log x.call ≡ true) ×
+    ((u : Act Committed) → Depends (acts load.declarations.procs run) x u → updates u.effect ≡ true → takes log u.call ≡ true)
+
+-- The run went to its end. The durable lengths are those of the shortest contents that a stop now may leave; the
+-- acknowledged calls are those of them that these cover, and where one is not covered, that disk failed.
+pub record IsEnded (n : ℕ) (load : Workload) (now : ℕ → List ℕ → Type 0) (rose : ℕ → Type 0) (run : Run) : Type 0 where
+  pub durable : List ℕ
+  pub least : (j : ℕ) (x content : List ℕ) → j < n → now j x → HasContent n j content x → slice_index durable j ≤ length content
+  pub reached : (j : ℕ) (x : List ℕ) → j < n → now j x →
+      (y content : List ℕ) × now j y × HasContent n j content y × (length content ≡ slice_index durable j)
+  pub acked : (c : Committed) → Member c run.calls → (has_ack run c.number ≡ true) ↔ (covers durable (vector_of c) ≡ true)
+  pub uncovered : (c : Committed) → Member c run.calls → (j : ℕ) → j < n → slice_index durable j < slice_index (vector_of c) j → rose j
+  -- a disk that has not failed has all
+  pub flushed : (j : ℕ) (x : List ℕ) → j < n → (rose j → ⊥) → now j x → HasContent n j (slice_index_or run.contents j []) x
+  -- each stream was made: what it was given begins with the catalogue
+  pub opened : (j : ℕ) (content : List ℕ) → slice_get run.contents j ≡ Some content → take (length (catalogue_of load)) content ≡ catalogue_of load
+  -- where no disk has failed each call committed, and is acknowledged
+  pub all : ((j : ℕ) → j < n → rose j → ⊥) → AllAcked load run

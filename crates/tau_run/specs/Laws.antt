@@ -1,0 +1,88 @@
+-- What holds of every run, whatever its events.
+use Rattle.std.specs.Prelude.{ℕ, ◌⊎◌, ◌==◌, map, false, ◌∷◌, ◌<◌, ◌≤◌, ◌+◌, ◌≡◌, ◌↔◌, true, List, [], length, take, slice_get, slice_index, slice_index_or, Some, None, Ok}
+use Rattle.std.specs.List.{filter}
+use Rattle.tau_base.specs.declared.value.LogMode.{LogMode}
+use Rattle.tau_base.specs.Vectors.{covers}
+use Rattle.tau_block.specs.Image.{HasContent}
+use Rattle.tau_model.specs.History.{Act, Member, Depends, updates}
+use Rattle.tau_machine.specs.Hands.{Txn}
+use Rattle.tau_machine.specs.State.{Setting, Core}
+use Rattle.tau_machine.specs.Accounts.{in_worker}
+use Rattle.tau_machine.specs.Events.{Event, Quit}
+use Rattle.tau_machine.specs.Runs as machine
+use Rattle.tau_text.specs.declared.load.Workload.{Workload}
+use Rattle.tau_core.specs.declared.state.Load.{Load}
+use Rattle.tau_core.specs.State.{Plain}
+use Rattle.tau_core.specs.View.{setting_of, Hidden, core_of}
+use Rattle.tau_core.specs.Stands.{Stands}
+use Rattle.tau_scan.specs.declared.log.Log.{Log}
+use Rattle.tau_scan.specs.Reading.{log_of}
+use Rattle.tau_scan.specs.Taken.{kept_in}
+use Rattle.tau_run.specs.Run.{Committed, Run, pair_of, IsHistory, acts, records_in, has_ack, vector_of, AllAcked}
+use Rattle.tau_run.specs.Facts.{catalogue_of, log_of_contents, takes, IsRecovered}
+use Rattle.tau_run.specs.Course.{IsLoadOf, AreAcks, IsRunOf, IsCourse}
+use Rattle.tau_text.specs.declared.load.Turn.{Turn}
+use Rattle.tau_machine.specs.Runs.{IsOpening}
+use Rattle.tau_run.specs.Turns.{Progress, IsWholeRun, IsPartOfRun}
+use Rattle.tau_run.specs.Left.{HasFront, IsLeft, IsOver}
+
+-- a core that stands has made a run, with its acknowledgements in whatever order the workers' ones were told
+abbrev pub RunIsThere : Type 0
+RunIsThere = (n m : ℕ) (mode : LogMode) (load : Workload) (p : Plain) (K : List (Act Txn)) (h : Hidden) → Stands p K h → IsLoadOf n m mode load p.load →
+    (acks : List (ℕ × List ℕ)) → AreAcks p.load (core_of p h) acks → (run : Run) × IsRunOf n p.load K (core_of p h) (catalogue_of load) run × (run.acks ≡ acks)
+
+-- it is a history of the workload
+abbrev pub RunIsHistory : Type 0
+RunIsHistory = (n m : ℕ) (mode : LogMode) (load : Workload) (l : Load) (K : List (Act Txn)) (s : Core) → IsCourse n m mode load l K s → (run : Run) → IsRunOf n l K s (catalogue_of load) run → IsHistory n m load run
+
+-- what the streams were given can be read, and is the records of the history, stream by stream
+abbrev pub ContentsAreRecords : Type 0
+ContentsAreRecords = (n m : ℕ) (mode : LogMode) (load : Workload) (l : Load) (K : List (Act Txn)) (s : Core) → IsCourse n m mode load l K s → (run : Run) → IsRunOf n l K s (catalogue_of load) run →
+    (log : Log) × (log_of_contents run.contents ≡ Ok log) × ((j : ℕ) → j < n → kept_in j (slice_index_or log.streams j []) ≡ records_in mode load run j)
+
+-- images of which each has nothing, or the catalogue and the first of the items that were gathered, whatever the others have: what recovery finds of them
+abbrev pub ImagesAreRecovered : Type 0
+ImagesAreRecovered = (n m : ℕ) (mode : LogMode) (load : Workload) (l : Load) (K : List (Act Txn)) (s : Core) → IsCourse n m mode load l K s → (run : Run) → IsRunOf n l K s (catalogue_of load) run →
+    (images : List (List ℕ)) → length images ≡ n → ((j : ℕ) (image : List ℕ) → slice_get images j ≡ Some image → IsLeft n j (catalogue_of load) l s image) → IsRecovered n mode load run images
+
+-- images that reach what is persisted: each updating call that is acknowledged is taken, and each on which an acknowledged call depends
+abbrev pub AckedIsTaken : Type 0
+AckedIsTaken = (n m : ℕ) (mode : LogMode) (load : Workload) (l : Load) (K : List (Act Txn)) (s : Core) → IsCourse n m mode load l K s → (run : Run) → IsRunOf n l K s (catalogue_of load) run →
+    (images : List (List ℕ)) → length images ≡ n →
+    ((j : ℕ) (image : List ℕ) → slice_get images j ≡ Some image → (bytes : List ℕ) × HasFront n j (catalogue_of load) l s bytes image × (slice_index s.plv j ≤ length (catalogue_of load) + length bytes)) →
+    (log : Log) → log_of images ≡ Ok log → (x : Act Committed) → Member x (acts load.declarations.procs run) → has_ack run x.call.number ≡ true →
+    (updates x.effect ≡ true → takes log x.call ≡ true) × ((u : Act Committed) → Depends (acts load.declarations.procs run) x u → updates u.effect ≡ true → takes log u.call ≡ true)
+
+-- At the end: a call is acknowledged exactly where it is persisted; where it is not, its stream was stopped; an image of
+-- a stream that was not stopped has all of it; and each stream begins with the catalogue.
+abbrev pub EndsWell : Type 0
+EndsWell = (n m : ℕ) (mode : LogMode) (load : Workload) (l : Load) (K : List (Act Txn)) (s : Core) → IsCourse n m mode load l K s → (run : Run) → IsRunOf n l K s (catalogue_of load) run → IsOver n s →
+    ((c : Committed) → Member c run.calls → (has_ack run c.number ≡ true) ↔ (covers s.plv (vector_of c) ≡ true)) ×
+    ((c : Committed) → Member c run.calls → (j : ℕ) → j < n → slice_index s.plv j < slice_index (vector_of c) j → (end : ℕ) × ((s.streams j).stop ≡ Some end)) ×
+    ((j : ℕ) → j < n → (s.streams j).stop ≡ None → (image bytes : List ℕ) → HasFront n j (catalogue_of load) l s bytes image → slice_index s.plv j ≤ length (catalogue_of load) + length bytes →
+    HasContent n j (slice_index_or run.contents j []) image) ×
+    ((j : ℕ) (content : List ℕ) → slice_get run.contents j ≡ Some content → take (length (catalogue_of load)) content ≡ catalogue_of load)
+
+-- no event gives a call up
+abbrev pub KeepsCall : Event → Type 0
+KeepsCall (Quit w up) = up ≡ false
+KeepsCall _ = Unit {0}
+
+abbrev pub KeepCalls : List Event → Type 0
+KeepCalls [] = Unit {0}
+KeepCalls (e ∷ events) = KeepsCall e × KeepCalls events
+
+-- every call of the workload waits at a worker
+abbrev pub AllWait : Workload → Core → Type 0
+AllWait load s = (k : ℕ) → 1 ≤ k → k ≤ length load.calls → (w : ℕ) × (1 ≤ in_worker k (s.workers w))
+
+-- Where no call was given up and no stream was stopped, every call is acknowledged at the end.
+abbrev pub NothingIsLost : Type 0
+NothingIsLost = (n m : ℕ) (mode : LogMode) (load : Workload) (l : Load) (K : List (Act Txn)) (s : Core) → IsCourse n m mode load l K s → (run : Run) → IsRunOf n l K s (catalogue_of load) run →
+    (opening : Core) (events : List Event) → machine.Run (setting_of l) opening events K s → KeepCalls events → AllWait load opening → IsOver n s → ((j : ℕ) → j < n → (s.streams j).stop ≡ None) → AllAcked load run
+
+-- A run by turns, whole or a part, is a run of the machine by its events, with its commit order; no call is given up in
+-- it; and what it told are the acknowledgements of each worker, in their order.
+abbrev pub TurnsAreARun : Type 0
+TurnsAreARun = (set : Setting) (m n : ℕ) (turns : List Turn) (opening : Core) (p : Progress) → IsOpening set opening → IsWholeRun set m n turns opening p ⊎ IsPartOfRun set m n turns opening p →
+    machine.Run set opening p.events p.joined p.state × KeepCalls p.events × ((w : ℕ) → filter (λ (a : ℕ × List ℕ). set.worker_of a.0 == w) p.told ≡ map pair_of (p.state.acked w))

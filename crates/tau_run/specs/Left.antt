@@ -1,0 +1,35 @@
+-- What a run leaves of its streams, apart from the types of its disks.
+use Rattle.std.specs.Prelude.{ℕ, ◌+◌, ◌<◌, ◌≤◌, ◌≡◌, ◌⊎◌, Some, None, List, [], ◌++◌, length, take, slice_index}
+use Rattle.std.specs.List.{filter}
+use Rattle.tau_base.specs.Vectors.{covers}
+use Rattle.tau_block.specs.Image.{HasContent}
+use Rattle.tau_machine.specs.State.{Ticket, Core}
+use Rattle.tau_core.specs.declared.state.Load.{Load}
+use Rattle.tau_core.specs.Pieces.{Spelled}
+
+-- the image has the catalogue and behind it the bytes of the first of the items that were gathered
+pub record HasFront (n j : ℕ) (catalogue : List ℕ) (l : Load) (s : Core) (bytes image : List ℕ) : Type 0 where
+  pub count : ℕ
+  pub spelled : Spelled l (λ i. (s.streams i).anchors) (take count (s.streams j).moved) bytes
+  pub has : HasContent n j (catalogue ++ bytes) image
+
+-- the image has nothing, or such a front
+abbrev pub IsLeft : ℕ → ℕ → List ℕ → Load → Core → List ℕ → Type 0
+IsLeft n j catalogue l s image = HasContent n j [] image ⊎ ((bytes : List ℕ) × HasFront n j catalogue l s bytes image)
+
+-- What stops may leave: `past` at some moment since the entry, `now` now. `rose` are the streams whose disk failed.
+pub record Leaves (n : ℕ) (catalogue : List ℕ) (l : Load) (s : Core) (past now : ℕ → List ℕ → Type 0) (rose : ℕ → Type 0) : Type 0 where
+  pub before : (j : ℕ) (x : List ℕ) → j < n → past j x → IsLeft n j catalogue l s x
+  -- whatever a stop now leaves reaches what is persisted
+  pub present : (j : ℕ) (x : List ℕ) → j < n → now j x → (bytes : List ℕ) × HasFront n j catalogue l s bytes x × (slice_index s.plv j ≤ length catalogue + length bytes)
+  -- and it may leave no more than that
+  pub reached : (j : ℕ) (x : List ℕ) → j < n → now j x → (y content : List ℕ) × now j y × HasContent n j content y × (length content ≡ slice_index s.plv j)
+  pub stopped : (j at : ℕ) → (s.streams j).stop ≡ Some at → rose j
+
+-- At the end of a run: no call is in hand; what was placed in a stream is persisted, unless its disk failed; what is
+-- persisted is acknowledged; and where no disk failed no call is left.
+pub record IsOver (n : ℕ) (s : Core) : Type 0 where
+  pub rests : (w : ℕ) → (s.workers w).hand ≡ None
+  pub persisted : (j : ℕ) → j < n → (s.streams j).stop ≡ None → slice_index s.plv j ≡ slice_index s.ends j
+  pub told : (w : ℕ) → filter (λ (k : Ticket). covers s.plv k.lv) (s.outboxes w).pending ≡ []
+  pub done : ((j : ℕ) → j < n → (s.streams j).stop ≡ None) → (w : ℕ) → ((s.workers w).waiting ≡ []) × ((s.workers w).left ≡ [])

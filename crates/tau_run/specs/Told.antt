@@ -1,0 +1,87 @@
+-- All that is said of a run, of one history.
+use Rattle.std.specs.Prelude.{ℕ, ◌<◌, ◌≤◌, ◌≡◌, ◌⊎◌, Bool, true, false, List, [], length, take, Option, Some, None, unwrap_or}
+use Rattle.tau_base.specs.declared.value.LogMode.{LogMode}
+use Rattle.tau_text.specs.declared.load.Turn.{Turn}
+use Rattle.tau_text.specs.declared.load.Workload.{Workload}
+use Rattle.tau_report.specs.Report.{ack_lines}
+use Rattle.tau_machine.specs.State.{Core}
+use Rattle.tau_machine.specs.Runs as machine
+use Rattle.tau_core.specs.declared.state.Load.{Load}
+use Rattle.tau_core.specs.View.{setting_of}
+use Rattle.tau_run.specs.Run.{Run, IsHistory, IsReportOf, AllAcked}
+use Rattle.tau_run.specs.Facts.{catalogue_of, IsImaged, IsAcknowledged, IsEnded}
+use Rattle.tau_run.specs.Course.{IsLoadOf, IsRunOf}
+use Rattle.tau_run.specs.Turns.{Progress, IsWholeRun, IsPartOfRun}
+
+-- how a run ended: to its end, with a stream whose disk failed, where the sink failed, for want of memory, or it was not begun
+pub data Ending : Type 0 where
+  Done : Ending
+  DiskFailed : ℕ → Ending
+  SinkFailed : Ending
+  NoMemory : Ending
+  NotBegun : Ending
+
+-- the text was written, or a first part of it where the sink failed
+abbrev pub WroteFront : (List ℕ → Type 0) → Type 0 → List ℕ → Type 0
+WroteFront wrote sink_rose text = wrote text ⊎ ((k : ℕ) × (k < length text) × wrote (take k text) × sink_rose)
+
+-- the stream that the report names has failed
+abbrev pub NamesFailed : (ℕ → Type 0) → ℕ → Option ℕ → Type 0
+NamesFailed rose n None = Unit {0}
+NamesFailed rose n (Some j) = (j < n) × rose j
+
+-- the device calls of a disk that it takes to make a stream: its length, and three writes with a sync
+abbrev pub calls_to_open : ℕ
+calls_to_open = 7
+
+-- What was written of the run, by how it ended; `fault` is the line that tells of a disk that failed before the run began.
+abbrev pub RunTells : (ended : Run → Type 0) → ℕ → Workload → (ℕ → Type 0) → Type 0 → (ℕ → ℕ → Type 0) → (List ℕ → Type 0) → (ℕ → List ℕ) → Run → Ending → Type 0
+RunTells ended n load rose sink_rose made wrote fault run Done = ended run × AllAcked load run × ((text : List ℕ) × IsReportOf load run None text × wrote text)
+RunTells ended n load rose sink_rose made wrote fault run (DiskFailed j) =
+    (ended run × ((i : ℕ) → i < n → (k : ℕ) × (calls_to_open ≤ k) × made i k) × ((text : List ℕ) × IsReportOf load run (Some j) text × wrote text))
+    ⊎ ((run.calls ≡ []) × (run.acks ≡ []) × ((k : ℕ) × (k ≤ calls_to_open) × made j k) × WroteFront wrote sink_rose (fault j))
+RunTells ended n load rose sink_rose made wrote fault run SinkFailed =
+    ended run × ((text : List ℕ) × (failed : Option ℕ) × (k : ℕ) × IsReportOf load run failed text × NamesFailed rose n failed × (k < length text) × wrote (take k text))
+RunTells ended n load rose sink_rose made wrote fault run NoMemory = (k : ℕ) × WroteFront wrote sink_rose (ack_lines (take k run.acks))
+RunTells ended n load rose sink_rose made wrote fault run NotBegun = (run.calls ≡ []) × (run.acks ≡ [])
+
+-- the turns of a workload; none where it has no section of them
+abbrev pub turns_of : Workload → List Turn
+turns_of load = unwrap_or load.turns []
+
+abbrev pub IsByTurns : Bool → ℕ → ℕ → Workload → Load → Core → Progress → Type 0
+IsByTurns true n m load l opening p = IsWholeRun (setting_of l) m n (turns_of load) opening p
+IsByTurns false n m load l opening p = IsPartOfRun (setting_of l) m n (turns_of load) opening p
+
+-- The run is what the events that the turns name have made, to their end or so far, from the opening of this workload
+-- on new streams; a stream was stopped where the function tells.
+pub record IsCoreRun (n m : ℕ) (mode : LogMode) (load : Workload) (whole : Bool) (stops : ℕ → Option ℕ) (run : Run) : Type 0 where
+  pub stands_on : Load
+  pub load_is : IsLoadOf n m mode load stands_on
+  pub opening : Core
+  pub progress : Progress
+  pub led : machine.Run (setting_of stands_on) opening progress.events progress.joined progress.state
+  pub by_turns : IsByTurns whole n m load stands_on opening progress
+  pub is : IsRunOf n stands_on progress.joined progress.state (catalogue_of load) run
+  pub told : run.acks ≡ progress.told
+  pub stopped : (j : ℕ) → j < n → (progress.state.streams j).stop ≡ stops j
+
+-- a run that was not begun has no events; one that went to its end has all
+abbrev pub IsCoreRunAt : ℕ → ℕ → LogMode → Workload → (ℕ → Option ℕ) → Run → Ending → Type 0
+IsCoreRunAt n m mode load stops run NoMemory = IsCoreRun n m mode load false stops run
+IsCoreRunAt n m mode load stops run NotBegun = (run.calls ≡ []) × (run.acks ≡ [])
+IsCoreRunAt n m mode load stops run (DiskFailed j) = IsCoreRun n m mode load true stops run ⊎ ((run.calls ≡ []) × (run.acks ≡ []))
+IsCoreRunAt n m mode load stops run other = IsCoreRun n m mode load true stops run
+
+-- What was written is its report, each image of a stop since the entry is a closed part of it, and a stop now leaves
+-- what it acknowledged.
+pub record RunFacts (n m : ℕ) (mode : LogMode) (load : Workload) (unborn : Type 0) (past now : ℕ → List ℕ → Type 0) (rose : ℕ → Type 0) (sink_rose : Type 0) (made : ℕ → ℕ → Type 0) (wrote : List ℕ → Type 0) (fault : ℕ → List ℕ) (ending : Ending) : Type 0 where
+  pub run : Run
+  pub history : IsHistory n m load run
+  -- it is of a run of the core, in which a stream stops only where its disk failed
+  pub stops : ℕ → Option ℕ
+  pub core : IsCoreRunAt n m mode load stops run ending
+  pub stopped : (j k : ℕ) → stops j ≡ Some k → rose j
+  pub told : RunTells (IsEnded n load now rose) n load rose sink_rose made wrote fault run ending
+  pub imaged : IsImaged n mode load unborn past run
+  pub acknowledged : IsAcknowledged n load now run

@@ -1,0 +1,42 @@
+//! What holds of every run, as functions that do nothing.
+ghost use Rattle.tau_run.specs.Laws.{RunIsThere, RunIsHistory, ContentsAreRecords, ImagesAreRecovered, AckedIsTaken, EndsWell, NothingIsLost, TurnsAreARun};
+
+/// A core that stands has made a run.
+pub fn run_is_there()
+    ensures { RunIsThere }
+{}
+
+/// It is a history of the workload.
+pub fn run_is_history()
+    ensures { RunIsHistory }
+{}
+
+/// What the streams were given can be read, and is the records of the history.
+pub fn contents_are_records()
+    ensures { ContentsAreRecords }
+{}
+
+/// What recovery finds of images that a run has left: a closed part of its history, whose every orderly redo is its execution.
+pub fn images_are_recovered()
+    ensures { ImagesAreRecovered }
+{}
+
+/// Images that reach what is persisted hold what is acknowledged, and what it depends on.
+pub fn acked_is_taken()
+    ensures { AckedIsTaken }
+{}
+
+/// At the end of a run what is persisted is acknowledged, and a stream that was not stopped is there whole.
+pub fn ends_well()
+    ensures { EndsWell }
+{}
+
+/// Where no call was given up and no stream was stopped, every call is acknowledged at the end.
+pub fn nothing_is_lost()
+    ensures { NothingIsLost }
+{}
+
+/// A run by turns is a run of the machine, in which no call is given up.
+pub fn turns_are_a_run()
+    ensures { TurnsAreARun }
+{}

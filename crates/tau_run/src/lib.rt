@@ -1,0 +1,9 @@
+//! What a run of the engine is, and what is said of it: its history, the contents of its streams, its acknowledgements; and the laws that carry the machine's theorems to them.
+#![tactic(auto)]
+
+mod laws;
+
+pub use laws::{
+    acked_is_taken, contents_are_records, ends_well, images_are_recovered, nothing_is_lost,
+    run_is_history, run_is_there, turns_are_a_run,
+};
