@@ -4,3 +4,4 @@ pub mod Passing
 pub mod Plan
 pub mod Replay
 pub mod Tear
+pub mod Used

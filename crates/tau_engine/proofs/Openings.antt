@@ -2,7 +2,7 @@
 use Rattle.std.proofs.Common.{ℕ, zero, suc, ◌≡◌, ◌<◌, ◌≤◌, List, [], ◌∷◌, refl, sym, ap, ◌∙◌, subst, arith, drop, length}
 use Rattle.std.specs.Prelude.{slice_get, Some}
 use Rattle.tau_disk.specs.Disk.{Rose}
-use Rattle.tau_engine.specs.Outside.{OfDisk, RoseAt, IsFirstLong}
+use Rattle.tau_disk.specs.Used.{OfDisk, RoseAt, IsFirstLong}
 
 pub some_is : {D : Type 0} (d e : D) → Some d ≡ Some e → d ≡ e
 some_is d e is = cc

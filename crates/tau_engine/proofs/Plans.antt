@@ -4,7 +4,8 @@ use Rattle.std.specs.Prelude.{Bool, Some, slice_get, nat_lt}
 use Rattle.std.proofs.lemmas.Bool.{cases_Bool}
 use Rattle.std.proofs.lemmas.Bool.Decides.{nat_tests}
 use Rattle.tau_disk.specs.Plan.{MadeAll, MadeSome}
-use Rattle.tau_engine.specs.Outside.{EachUsed, IsClean, IsStopped, IsFirstStopped, Made, FailsTold, GoesOn, calls_to_open}
+use Rattle.tau_disk.specs.Used.{EachUsed, IsClean, IsStopped, IsFirstStopped, Made, GoesOn}
+use Rattle.tau_engine.specs.Outside.{FailsTold, calls_to_open}
 use Rattle.tau_engine.proofs.Openings.{some_is, of_two}
 
 module _ {D : Type 0} (tells : Type 0) (number : D → ℕ) (fails : D → ℕ → Bool) (short : D → Bool) where

@@ -2,8 +2,8 @@
 use Rattle.std.proofs.Common.{ℕ, zero, suc, ◌≡◌, ◌<◌, ◌≤◌, List, [], ◌∷◌, refl, sym, ◌∙◌, subst, ◌++◌, take, drop, length, arith}
 use Rattle.std.proofs.Math.Seq.{take-append_seam}
 use Rattle.std.specs.Prelude.{Some, None, slice_get}
-use Rattle.tau_scan.specs.Outside.{Each, OnlyRead as ScanRead, RoseAt as RoseIn}
-use Rattle.tau_engine.specs.Outside.{EachUsed, OnlyRead, RoseAt}
+use Rattle.tau_disk.specs.Used.{Each, EachUsed, OnlyRead, RoseAt}
+use Rattle.tau_scan.specs.Outside.{IsRead}
 
 module _ {D : Type 0} where
   get_take : (ds : List D) (n j : ℕ) → j < n → slice_get (take n ds) j ≡ slice_get ds j
@@ -23,12 +23,12 @@ module _ {D : Type 0} where
   take_below (x ∷ xs) (suc n) (suc j) d e = let lt : j < n = take_below xs n j d e in omega (arith, lt)
 
   pub read_first : (tells : Type 0) (seen : D → List ℕ) (may_leave : D → List ℕ → Type 0) (moment : D → ℕ) (since : D → ℕ → List ℕ → Type 0) (faults : D → ℕ) (old new : List D) (n : ℕ) →
-      Each (ScanRead tells seen may_leave moment since faults) (take n old) (take n new) → EachUsed (OnlyRead tells seen may_leave moment since) old new n
+      Each (IsRead tells seen may_leave moment since faults) (take n old) (take n new) → EachUsed (OnlyRead tells seen may_leave moment since) old new n
   read_first tells seen may_leave moment since faults old new n each j d lt get =
       let (e, there, r) = each j d (get_take old n j lt ∙ get) in
-      (e, sym (get_take new n j lt) ∙ there, record { same = r.same; no_more = r.no_more; no_less = r.no_less; moments = r.moments })
+      (e, sym (get_take new n j lt) ∙ there, r.read)
 
-  pub rose_among : (faults : D → ℕ) (old new : List D) (n j : ℕ) → RoseIn faults (take n old) (take n new) j → (j < n) × RoseAt faults old new j
+  pub rose_among : (faults : D → ℕ) (old new : List D) (n j : ℕ) → RoseAt faults (take n old) (take n new) j → (j < n) × RoseAt faults old new j
   rose_among faults old new n j (d, e, was, is, rose) =
       let lt : j < n = take_below old n j d was in
       (lt, (d, e, sym (get_take old n j lt) ∙ was, sym (get_take new n j lt) ∙ is, rose))

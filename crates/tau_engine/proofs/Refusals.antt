@@ -2,7 +2,8 @@
 use Rattle.std.proofs.Common.{ℕ, zero, suc, ◌≡◌, List, [], ◌∷◌, refl, sym, ◌∙◌, subst, inl, inr, true, arith}
 use Rattle.tau_engine.specs.declared.status.Status.{Status}
 use Rattle.tau_engine.specs.declared.status.Status.TheVariants as status
-use Rattle.tau_engine.specs.Outside.{EachUsed, OpensBad, ends_run}
+use Rattle.tau_disk.specs.Used.{EachUsed}
+use Rattle.tau_engine.specs.Outside.{OpensBad, ends_run}
 use Rattle.tau_engine.specs.Fault.{fault_text, is_refusal, WroteFront, TellsFault}
 use Rattle.tau_engine.specs.Facts.{IsRefused}
 use Rattle.tau_engine.proofs.Openings.{some_is}

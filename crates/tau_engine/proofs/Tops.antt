@@ -14,7 +14,8 @@ use Rattle.tau_engine.specs.declared.status.Status.TheVariants as status
 use Rattle.tau_engine.specs.declared.served.Work.{Work}
 use Rattle.tau_engine.specs.declared.served.Work.TheVariants as work
 use Rattle.tau_engine.specs.Served.{command_in}
-use Rattle.tau_engine.specs.Outside.{AreEmpty, IsFirstLong, OpensBad, ends_run, ends_recovery}
+use Rattle.tau_disk.specs.Used.{AreEmpty, IsFirstLong}
+use Rattle.tau_engine.specs.Outside.{OpensBad, ends_run, ends_recovery}
 use Rattle.tau_engine.proofs.Openings.{some_is}
 
 -- what is asked for, as the command

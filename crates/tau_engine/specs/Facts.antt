@@ -4,7 +4,8 @@ use Rattle.tau_block.specs.Image.{HasContent}
 use Rattle.tau_engine.specs.declared.status.Status.{Status}
 use Rattle.tau_engine.specs.declared.status.Status.TheVariants as status
 use Rattle.tau_engine.specs.Fault.{fault_text, WroteFront}
-use Rattle.tau_engine.specs.Outside.{EachUsed, OpensBad}
+use Rattle.tau_disk.specs.Used.{EachUsed}
+use Rattle.tau_engine.specs.Outside.{OpensBad}
 use Rattle.tau_engine.specs.Workload.{Load}
 use Rattle.tau_engine.specs.Run.{Run, IsHistory, IsReportOf, AllAcked}
 

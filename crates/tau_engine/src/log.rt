@@ -2,7 +2,7 @@
 ghost use Rattle.std.specs.Prelude.{◌≡◌, ◌≤◌, ◌<◌, ◌+◌, ◌^◌, ◌++◌, [], ℕ, List, false, length, IfOk, IfErr, Err};
 ghost use Rattle.tau_disk.specs.Disk.{Rose};
 ghost use Rattle.tau_stream.specs.Writer.{disk_of, durable_of, left_of, added_of, has_failed, IsReady};
-ghost use Rattle.tau_engine.specs.Outside.{GoesOn, IsStopped};
+ghost use Rattle.tau_disk.specs.Used.{GoesOn, IsStopped};
 ghost use Rattle.tau_engine.specs.Puts.{record_bytes};
 
 use crate::workload::Put;

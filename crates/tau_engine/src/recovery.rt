@@ -8,7 +8,8 @@ ghost use Rattle.tau_scan.specs.Reading.{HasRead, IsLog, log_of};
 ghost use Rattle.tau_scan.specs.Taken.{Kept};
 ghost use Rattle.tau_replay.specs.Redone.{IsOrderOf};
 ghost use Rattle.tau_engine.specs.Fault.{fault_text, is_refusal, WroteFront};
-ghost use Rattle.tau_engine.specs.Outside.{EachUsed, OnlyRead, RoseAt, Wrote, ends_recovery};
+ghost use Rattle.tau_disk.specs.Used.{EachUsed, OnlyRead, RoseAt};
+ghost use Rattle.tau_engine.specs.Outside.{Wrote, ends_recovery};
 ghost use Rattle.tau_engine.specs.Recovery.{LogTells, IsTangle, IsBadLog, RecoverTells, EndsAsBad, EndsTangled, images_of};
 
 use crate::fault::refuse;

@@ -8,7 +8,7 @@ ghost use Rattle.tau_stream.specs.Writer.{disk_of, durable_of, left_of, added_of
 ghost use Rattle.tau_engine.specs.Held.{numbers_of};
 ghost use Rattle.tau_report.specs.Lines.{ack_line};
 ghost use Rattle.tau_report.specs.Report.{ack_lines};
-ghost use Rattle.tau_engine.specs.Outside.{GoesOn, IsStopped};
+ghost use Rattle.tau_disk.specs.Used.{GoesOn, IsStopped};
 ghost use Rattle.tau_engine.specs.Run.{means};
 ghost use Rattle.tau_engine.specs.Puts.{committed, logged, acks_of, no_ends};
 

@@ -17,7 +17,8 @@ ghost use Rattle.tau_engine.specs.Workload.{Load, HasWorkload, HasFault};
 ghost use Rattle.tau_engine.specs.Loads.{load_of, IsWithin};
 ghost use Rattle.tau_engine.specs.Facts.{RunFacts, Holds, IsRefused};
 ghost use Rattle.tau_engine.specs.Fault.{fault_text, is_refusal, WroteFront};
-ghost use Rattle.tau_engine.specs.Outside.{RoseAt, EachUsed, AreEmpty, IsFirstLong, OnlyRead, OneCall, IsClean, IsFirstStopped, Made, FailsTold, Wrote, is_behind_text, is_behind_end, is_before_disks, ends_run};
+ghost use Rattle.tau_disk.specs.Used.{RoseAt, EachUsed, AreEmpty, IsFirstLong, OnlyRead, OneCall, IsClean, IsFirstStopped, Made};
+ghost use Rattle.tau_engine.specs.Outside.{FailsTold, Wrote, is_behind_text, is_behind_end, is_before_disks, ends_run};
 
 use crate::disks::{put_first, take_first};
 use crate::fault::refuse;

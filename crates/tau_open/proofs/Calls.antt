@@ -6,7 +6,8 @@ use Rattle.std.proofs.lemmas.Bool.Decides.{nat_tests}
 use Rattle.tau_disk.specs.declared.disk.Disk.{Ghosts}
 use Rattle.tau_disk.specs.Disk.{Rose, Elapses, Passes}
 use Rattle.tau_disk.specs.Plan.{MadeAll, MadeSome}
-use Rattle.tau_open.specs.Outside.{OnlyRead, IsClean, IsStopped, OneCall, GoesOn, calls_to_make, calls_to_open}
+use Rattle.tau_disk.specs.Used.{OnlyRead, IsClean, IsStopped, OneCall, GoesOn}
+use Rattle.tau_open.specs.Outside.{calls_to_make, calls_to_open}
 use Rattle.tau_open.specs.Opening.{Went, Broke, Begins, Asked, FailsAsked, IsCreated, FailsCreated, IsOpened, FailsOpened}
 
 module _ {D : Type 0} (G : Ghosts D) where

@@ -13,7 +13,7 @@ use Rattle.tau_stream.specs.Stream.{IsOldOrNew, IsUnborn}
 use Rattle.tau_stream.specs.Writer.{disk_of}
 use Rattle.tau_open.specs.declared.refusal.OpenRefusal.{OpenRefusal}
 use Rattle.tau_open.specs.declared.refusal.OpenRefusal.TheVariants.{NoMemory, Failed, NotEmpty}
-use Rattle.tau_open.specs.Outside.{EachIn, EachUsed, OfDisk, AreEmpty, IsFirstLong, OnlyRead}
+use Rattle.tau_disk.specs.Used.{EachIn, EachUsed, OfDisk, AreEmpty, IsFirstLong, OnlyRead}
 use Rattle.tau_open.specs.Opening.{Went, Broke, Begins, Asked, FailsAsked, IsCreated, FailsCreated, IsOpened, FailsOpened, AreAsked, FailsAsking, FailsMaking, GivesUp, Refuses, AreOpened}
 use Rattle.tau_open.specs.Creating.{Creating, StopsCreating, Stops}
 use Rattle.tau_open.proofs.Places.{some_is, get_dropped, dropped_more, each_then, each_weaker}

@@ -3,7 +3,7 @@ use Rattle.std.proofs.Common.{ℕ, ◌≡◌, ◌+◌, ◌<◌, ◌≤◌, List,
 use Rattle.std.specs.Prelude.{Option, Some, None, slice_get, Bool, ◌==◌, cond}
 use Rattle.std.proofs.lemmas.Bool.{cases_eq, cases_Bool}
 use Rattle.std.proofs.lemmas.Bool.Decides.{nat_tests}
-use Rattle.tau_open.specs.Outside.{AreEmpty, IsFirstLong}
+use Rattle.tau_disk.specs.Used.{AreEmpty, IsFirstLong}
 use Rattle.tau_open.specs.Opening.{lower_of}
 use Rattle.tau_open.proofs.Places.{some_is}
 

@@ -9,7 +9,7 @@ use Rattle.tau_stream.specs.declared.writer.Writer.{Writer}
 use Rattle.tau_stream.specs.Writer.{disk_of}
 use Rattle.tau_open.specs.declared.refusal.OpenRefusal.{OpenRefusal}
 use Rattle.tau_open.specs.declared.refusal.OpenRefusal.TheVariants.{NoMemory, Failed, NotEmpty}
-use Rattle.tau_open.specs.Outside.{EachIn, AreEmpty, OfDisk}
+use Rattle.tau_disk.specs.Used.{EachIn, AreEmpty, OfDisk}
 use Rattle.tau_open.specs.Opening.{IsCreated, FailsCreated, IsBegun}
 use Rattle.tau_open.specs.Creating.{CreatesNext, KeepsPlace, Creating, StopsCreating, Stops, Fails}
 use Rattle.tau_open.proofs.Places.{some_is, get_append, get_seam, get_drop, get_dropped, dropped_more, each_moved}

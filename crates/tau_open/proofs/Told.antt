@@ -5,7 +5,8 @@ use Rattle.std.proofs.lemmas.Bool.{cases_eq}
 use Rattle.tau_disk.specs.declared.disk.Disk.{Ghosts}
 use Rattle.tau_open.specs.declared.refusal.OpenRefusal.{OpenRefusal}
 use Rattle.tau_open.specs.declared.refusal.OpenRefusal.TheVariants.{NoMemory, Failed, NotEmpty}
-use Rattle.tau_open.specs.Outside.{EachIn, EachUsed, OfDisk, RoseAt, AreEmpty, IsFirstLong, OnlyRead, IsClean, IsStopped, IsFirstStopped, Made, calls_to_open}
+use Rattle.tau_disk.specs.Used.{EachIn, EachUsed, OfDisk, RoseAt, AreEmpty, IsFirstLong, OnlyRead, IsClean, IsStopped, IsFirstStopped, Made}
+use Rattle.tau_open.specs.Outside.{calls_to_open}
 use Rattle.tau_open.specs.Opening.{Begins, Asked, FailsAsked, IsOpened, FailsOpened, AreAsked, FailsAsking, FailsMaking, GivesUp, Refuses, TellsLong}
 use Rattle.tau_open.proofs.Places.{some_is, get_dropped, dropped_more, each_weaker, each_same}
 use Rattle.tau_open.proofs.Calls.{untouched, went_clean, broke_stopped, broke_early}

@@ -5,7 +5,7 @@ use Rattle.tau_stream.specs.declared.writer.Writer.{Writer}
 use Rattle.tau_stream.specs.Writer.{disk_of}
 use Rattle.tau_open.specs.declared.refusal.OpenRefusal.{OpenRefusal}
 use Rattle.tau_open.specs.declared.refusal.OpenRefusal.TheVariants.{NoMemory, Failed, NotEmpty}
-use Rattle.tau_open.specs.Outside.{EachIn, OfDisk}
+use Rattle.tau_disk.specs.Used.{EachIn, OfDisk}
 use Rattle.tau_open.specs.Opening.{IsCreated, FailsCreated, IsBegun}
 
 module _ {D : Type 0} (G : Ghosts D) (n : ℕ) (content : List ℕ) where

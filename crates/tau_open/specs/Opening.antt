@@ -8,7 +8,8 @@ use Rattle.tau_stream.specs.Stream.{IsOldOrNew, IsUnborn}
 use Rattle.tau_stream.specs.Writer.{disk_of, durable_of, left_of, added_of, has_failed, IsReady}
 use Rattle.tau_open.specs.declared.refusal.OpenRefusal.{OpenRefusal}
 use Rattle.tau_open.specs.declared.refusal.OpenRefusal.TheVariants.{NoMemory, Failed, NotEmpty}
-use Rattle.tau_open.specs.Outside.{EachIn, EachUsed, OfDisk, AreEmpty, IsFirstLong, OnlyRead, calls_to_make, calls_to_open}
+use Rattle.tau_disk.specs.Used.{EachIn, EachUsed, OfDisk, AreEmpty, IsFirstLong, OnlyRead}
+use Rattle.tau_open.specs.Outside.{calls_to_make, calls_to_open}
 
 module _ {D : Type 0} (G : Ghosts D) where
   -- so many calls of the disk were made, and none of them was to fail

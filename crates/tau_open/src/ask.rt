@@ -1,6 +1,6 @@
 //! All lengths are asked before a stream is begun.
 ghost use Rattle.std.specs.Prelude.{◌≡◌, ◌<◌, ◌≤◌, ℕ, length, OnOk, Err};
-ghost use Rattle.tau_open.specs.Outside.{AreEmpty, IsFirstLong};
+ghost use Rattle.tau_disk.specs.Used.{AreEmpty, IsFirstLong};
 ghost use Rattle.tau_open.specs.Opening.{AreAsked, FailsAsking, lower_of};
 
 use crate::refusal::OpenRefusal;

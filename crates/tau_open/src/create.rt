@@ -3,7 +3,7 @@ ghost use Rattle.std.specs.Prelude.{◌≡◌, ◌<◌, ◌≤◌, ◌+◌, ◌+
 ghost use Rattle.tau_base.specs.declared.limits.TheConstants.{MAX_CATALOGUE, MAX_STREAMS};
 ghost use Rattle.tau_stream.specs.Stream.{catalogue_record};
 ghost use Rattle.tau_stream.specs.Writer.{disk_of};
-ghost use Rattle.tau_open.specs.Outside.{AreEmpty};
+ghost use Rattle.tau_disk.specs.Used.{AreEmpty};
 ghost use Rattle.tau_open.specs.Creating.{CreatesNext, KeepsPlace, Creating, Stops};
 
 use crate::refusal::OpenRefusal;

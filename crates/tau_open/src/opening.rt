@@ -2,7 +2,8 @@
 ghost use Rattle.std.specs.Prelude.{◌≡◌, ◌<◌, ◌≤◌, ◌+◌, ℕ, [], length, drop, vec_len, vec_capacity, OnErr, IfOk, IfErr, Err};
 ghost use Rattle.tau_base.specs.declared.limits.TheConstants.{MAX_CATALOGUE, MAX_STREAMS};
 ghost use Rattle.tau_stream.specs.Stream.{catalogue_record};
-ghost use Rattle.tau_open.specs.Outside.{EachIn, EachUsed, RoseAt, IsFirstLong, OnlyRead, IsFirstStopped, Made, calls_to_open};
+ghost use Rattle.tau_disk.specs.Used.{EachIn, EachUsed, RoseAt, IsFirstLong, OnlyRead, IsFirstStopped, Made};
+ghost use Rattle.tau_open.specs.Outside.{calls_to_open};
 ghost use Rattle.tau_open.specs.Opening.{Asked, Begins, Refuses, AreOpened, TellsLong};
 
 use crate::ask::ask_lengths;

@@ -5,50 +5,57 @@ use Rattle.std.proofs.Math.ListN.{set}
 use Rattle.std.proofs.lemmas.Bool.{cases_eq}
 use Rattle.std.proofs.lemmas.List.{length-append, length-set}
 use Rattle.tau_disk.specs.Disk.{Elapses}
-use Rattle.tau_scan.specs.Outside.{OnlyRead, Each}
+use Rattle.tau_disk.specs.Used.{Each}
+use Rattle.tau_scan.specs.Outside.{IsRead}
 
 module _ {D : Type 0} (tells : Type 0) (seen : D → List ℕ) (may_leave : D → List ℕ → Type 0) (moment : D → ℕ) (since : D → ℕ → List ℕ → Type 0) (faults : D → ℕ) where
   -- one call that read
   pub called : (d e : D) → (tells → seen e ≡ seen d) → ((x : List ℕ) → may_leave e x → may_leave d x) → ((x : List ℕ) → may_leave d x → may_leave e x) →
-      Elapses (moment d) (moment e) (since d) (since e) (may_leave e) → faults d ≤ faults e → OnlyRead tells seen may_leave moment since faults d e
+      Elapses (moment d) (moment e) (since d) (since e) (may_leave e) → faults d ≤ faults e → IsRead tells seen may_leave moment since faults d e
   called d e same crash keeps time count = record {
-    same = same;
-    no_more = crash;
-    no_less = keeps;
-    moments = record {
-      later = time.later;
-      new_ones = λ t x le s. elim (time.nothing_else t x le s) [ inl old ↦ inl old | inr now ↦ inr (crash x now) ];
+    read = record {
+      same = same;
+      no_more = crash;
+      no_less = keeps;
+      moments = record {
+        later = time.later;
+        new_ones = λ t x le s. elim (time.nothing_else t x le s) [ inl old ↦ inl old | inr now ↦ inr (crash x now) ];
+      };
     };
     counts = count;
   }
 
-  pub untouched : (d : D) → OnlyRead tells seen may_leave moment since faults d d
+  pub untouched : (d : D) → IsRead tells seen may_leave moment since faults d d
   untouched d = record {
-    same = λ t. refl;
-    no_more = λ x m. m;
-    no_less = λ x m. m;
-    moments = record { later = omega arith; new_ones = λ t x le s. inl s };
+    read = record {
+      same = λ t. refl;
+      no_more = λ x m. m;
+      no_less = λ x m. m;
+      moments = record { later = omega arith; new_ones = λ t x le s. inl s };
+    };
     counts = omega arith;
   }
 
-  pub read_again : (d e f : D) → OnlyRead tells seen may_leave moment since faults d e → OnlyRead tells seen may_leave moment since faults e f → OnlyRead tells seen may_leave moment since faults d f
+  pub read_again : (d e f : D) → IsRead tells seen may_leave moment since faults d e → IsRead tells seen may_leave moment since faults e f → IsRead tells seen may_leave moment since faults d f
   read_again d e f a b = record {
-    same = λ t. b.same t ∙ a.same t;
-    no_more = λ x m. a.no_more x (b.no_more x m);
-    no_less = λ x m. b.no_less x (a.no_less x m);
-    moments = record {
-      later = omega (arith, a.moments.later, b.moments.later);
-      new_ones = λ t x le s. elim (b.moments.new_ones t x (omega (arith, le, a.moments.later)) s) [
-        | inl old ↦ a.moments.new_ones t x le old
-        | inr now ↦ inr (a.no_more x now)
-      ];
+    read = record {
+      same = λ t. b.read.same t ∙ a.read.same t;
+      no_more = λ x m. a.read.no_more x (b.read.no_more x m);
+      no_less = λ x m. b.read.no_less x (a.read.no_less x m);
+      moments = record {
+        later = omega (arith, a.read.moments.later, b.read.moments.later);
+        new_ones = λ t x le s. elim (b.read.moments.new_ones t x (omega (arith, le, a.read.moments.later)) s) [
+          | inl old ↦ a.read.moments.new_ones t x le old
+          | inr now ↦ inr (a.read.no_more x now)
+        ];
+      };
     };
     counts = omega (arith, a.counts, b.counts);
   }
 
   -- the disks below an index are read, and gave these images; the others are as they were
   pub record IsReading (old new : List D) (n : ℕ) (images : List (List ℕ)) : Type 0 where
-    pub read : Each (OnlyRead tells seen may_leave moment since faults) old new
+    pub read : Each (IsRead tells seen may_leave moment since faults) old new
     pub rest : (k : ℕ) → n ≤ k → slice_get new k ≡ slice_get old k
     pub given : tells → images ≡ map seen (take n old)
     pub count : length images ≡ n
@@ -84,17 +91,17 @@ module _ {D : Type 0} (tells : Type 0) (seen : D → List ℕ) (may_leave : D �
   }
 
   -- the disk at an index was read, and whatever it gave
-  pub each_on : (old new : List D) (n : ℕ) (images : List (List ℕ)) (d e : D) → IsReading old new n images → n < length new → slice_get new n ≡ Some d → OnlyRead tells seen may_leave moment since faults d e →
-      Each (OnlyRead tells seen may_leave moment since faults) old (set new n e)
+  pub each_on : (old new : List D) (n : ℕ) (images : List (List ℕ)) (d e : D) → IsReading old new n images → n < length new → slice_get new n ≡ Some d → IsRead tells seen may_leave moment since faults d e →
+      Each (IsRead tells seen may_leave moment since faults) old (set new n e)
   each_on old new n images d e g lt here read j b was = elim (cases_eq j n) [
     | inl same ↦
         let mine : slice_get old n ≡ Some b = subst (λ (k : ℕ). slice_get old k ≡ Some b) same was in
         let is : d ≡ b = same_some d b (sym here ∙ g.rest n (omega arith) ∙ mine) in
-        (e, subst (λ (k : ℕ). slice_get (set new n e) k ≡ Some e) (sym same) (get_set_same new n e lt), subst (λ (z : D). OnlyRead tells seen may_leave moment since faults z e) is read)
+        (e, subst (λ (k : ℕ). slice_get (set new n e) k ≡ Some e) (sym same) (get_set_same new n e lt), subst (λ (z : D). IsRead tells seen may_leave moment since faults z e) is read)
     | inr other ↦ let (f, there, r) = g.read j b was in (f, get_set_other new n j e other ∙ there, r)
   ]
 
-  pub reading_on : (old new : List D) (n : ℕ) (images : List (List ℕ)) (d e : D) (image : List ℕ) → IsReading old new n images → n < length new → slice_get new n ≡ Some d → OnlyRead tells seen may_leave moment since faults d e →
+  pub reading_on : (old new : List D) (n : ℕ) (images : List (List ℕ)) (d e : D) (image : List ℕ) → IsReading old new n images → n < length new → slice_get new n ≡ Some d → IsRead tells seen may_leave moment since faults d e →
       (tells → image ≡ seen d) → IsReading old (set new n e) (n + 1) (images ++ image ∷ [])
   reading_on old new n images d e image g lt here read gave = record {
     read = each_on old new n images d e g lt here read;

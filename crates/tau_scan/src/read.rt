@@ -2,7 +2,8 @@
 ghost use Rattle.std.specs.Prelude.{◌≡◌, ◌≤◌, ℕ, List, length, map, IfOk, OnErr, Err};
 ghost use Rattle.tau_base.specs.declared.limits.TheConstants.{MAX_STREAMS};
 ghost use Rattle.tau_disk.specs.Disk.{Rose};
-ghost use Rattle.tau_scan.specs.Outside.{OnlyRead, Each, RoseAt};
+ghost use Rattle.tau_disk.specs.Used.{Each, RoseAt};
+ghost use Rattle.tau_scan.specs.Outside.{IsRead};
 
 use crate::fault::ReadRefusal;
 use std::alloc::Global;
@@ -13,7 +14,7 @@ use tau_disk::Disk;
 fn read_image<D: Disk>(alloc: Global, disk: &mut D, stream: u8) -> Result<Vec<u8>, ReadRefusal>
     ensures bytes { IfOk result (λ image. D.tells → image.items ≡ D.seen disk.old) }
     ensures failed { (j : ℕ) → result ≡ Err (ReadRefusal.Failed j) → (j ≡ stream) × Rose (D.faults disk.old) (D.faults disk.new) }
-    ensures only_read { OnlyRead D.tells D.seen D.may_leave D.moment D.may_leave_since D.faults disk.old disk.new }
+    ensures only_read { IsRead D.tells D.seen D.may_leave D.moment D.may_leave_since D.faults disk.old disk.new }
 {
     let length = match disk.len() {
         Ok(length) => length,
@@ -48,7 +49,7 @@ pub fn read_images<D: Disk>(
     ensures many { IfOk result (λ images. length images ≡ length disks.old) }
     ensures bytes { IfOk result (λ images. D.tells → images ≡ map D.seen disks.old) }
     ensures failed { (j : ℕ) → result ≡ Err (ReadRefusal.Failed j) → RoseAt D.faults disks.old disks.new j }
-    ensures only_read { Each (OnlyRead D.tells D.seen D.may_leave D.moment D.may_leave_since D.faults) disks.old disks.new }
+    ensures only_read { Each (IsRead D.tells D.seen D.may_leave D.moment D.may_leave_since D.faults) disks.old disks.new }
 {
     let mut images = Listed::new(alloc);
     for j in 0..disks.len() {

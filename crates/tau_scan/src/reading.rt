@@ -5,7 +5,8 @@ ghost use Rattle.tau_base.specs.declared.limits.TheConstants.{MAX_STREAMS};
 ghost use Rattle.tau_record.specs.Format.{One, most_streams};
 ghost use Rattle.tau_scan.specs.Reading.{catalogue_of, declared_by, recorded, records_of, streams_of, declared_in, log_of, HasRead, IsReading, IsLog};
 ghost use Rattle.tau_scan.specs.Found.{Found, IsShort};
-ghost use Rattle.tau_scan.specs.Outside.{OnlyRead, Each, RoseAt};
+ghost use Rattle.tau_disk.specs.Used.{Each, RoseAt};
+ghost use Rattle.tau_scan.specs.Outside.{IsRead};
 
 use crate::catalogue::one_catalogue;
 use crate::content::{contents_in, lengths_of};
@@ -118,7 +119,7 @@ pub fn scan<D: Disk>(alloc: Global, disks: &mut [D]) -> Result<Log, ScanRefusal>
     // A disk failed only where its count rose.
     ensures failed { (j : ℕ) → result ≡ Err (ScanRefusal.Failed j) → RoseAt D.faults disks.old disks.new j }
     // The disks were at most read.
-    ensures only_read { Each (OnlyRead D.tells D.seen D.may_leave D.moment D.may_leave_since D.faults) disks.old disks.new }
+    ensures only_read { Each (IsRead D.tells D.seen D.may_leave D.moment D.may_leave_since D.faults) disks.old disks.new }
 {
     let images = match read_images(alloc, disks) {
         Ok(images) => images,

@@ -3,7 +3,7 @@ use Rattle.std.proofs.lemmas.Int.{to_z-of_z}
 use mir.Val.{SFits}
 use Rattle.std.proofs.Math.Seq.{take-length}
 use Rattle.tau_stream.specs.Writer.{disk_of, left_of, durable_of, part_upto, IsReady}
-use Rattle.tau_engine.specs.Outside.{GoesOn}
+use Rattle.tau_disk.specs.Used.{GoesOn}
 use Rattle.tau_engine.specs.Puts.{record_bytes}
 use Rattle.tau_engine.proofs.Plans.{made_all}
 use Rattle.tau_engine.proofs.Records.{record_size}

@@ -1,6 +1,7 @@
 use Rattle.std.proofs.Common.{ℕ, ◌≡◌, ◌<◌, ◌++◌, List, length, take, drop, sym, subst, rules}
 use Rattle.std.proofs.Math.Seq.{take-append_seam}
-use Rattle.tau_scan.specs.Outside.{OnlyRead, Each, RoseAt}
+use Rattle.tau_disk.specs.Used.{Each, RoseAt}
+use Rattle.tau_scan.specs.Outside.{IsRead}
 use Rattle.tau_engine.proofs.Recoveries.{read_first, rose_among}
 use Rattle.tau_engine.proofs.recovery.scan_first.Goals as goal
 
@@ -18,4 +19,4 @@ returns-clause-only_read g c =
     let same : take c.args.n (c.scan.new.disks ++ drop c.args.n c.args.disks.now) ≡ c.scan.new.disks =
     subst (λ (k : ℕ). take k (c.scan.new.disks ++ drop c.args.n c.args.disks.now) ≡ c.scan.new.disks) long (take-append_seam c.scan.new.disks (drop c.args.n c.args.disks.now)) in
     read_first g.D.Disk.tells g.D.Disk.seen g.D.Disk.may_leave g.D.Disk.moment g.D.Disk.may_leave_since g.D.Disk.faults c.args.disks.now (c.scan.new.disks ++ drop c.args.n c.args.disks.now) c.args.n
-    (subst (λ (ds : List g.row.D.Denot). Each (OnlyRead g.D.Disk.tells g.D.Disk.seen g.D.Disk.may_leave g.D.Disk.moment g.D.Disk.may_leave_since g.D.Disk.faults) (take c.args.n c.args.disks.now) ds) (sym same) c.scan.ensures.only_read)
+    (subst (λ (ds : List g.row.D.Denot). Each (IsRead g.D.Disk.tells g.D.Disk.seen g.D.Disk.may_leave g.D.Disk.moment g.D.Disk.may_leave_since g.D.Disk.faults) (take c.args.n c.args.disks.now) ds) (sym same) c.scan.ensures.only_read)

@@ -5,7 +5,7 @@ use Rattle.tau_model.specs.History.{exec}
 use Rattle.tau_stream.specs.Writer.{disk_of, durable_of, left_of, added_of, has_failed, IsReady}
 use Rattle.tau_engine.specs.Held.{ends_of, numbers_of}
 use Rattle.tau_report.specs.Report.{ack_lines}
-use Rattle.tau_engine.specs.Outside.{GoesOn}
+use Rattle.tau_disk.specs.Used.{GoesOn}
 use Rattle.tau_engine.specs.Run.{means}
 use Rattle.tau_engine.specs.Puts.{committed, logged, acks_of, no_ends}
 use Rattle.tau_engine.proofs.Histories.{AreBelow}

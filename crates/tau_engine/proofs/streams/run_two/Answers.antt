@@ -4,7 +4,8 @@ use Rattle.tau_stream.specs.Stream.{catalogue_record}
 use Rattle.tau_stream.specs.Writer.{disk_of, durable_of, IsReady}
 use Rattle.tau_engine.specs.Runs.{IsTold}
 use Rattle.tau_engine.specs.declared.status.Status.TheVariants as status
-use Rattle.tau_engine.specs.Outside.{OnlyRead, Wrote, GoesOn, IsStopped, calls_to_open}
+use Rattle.tau_disk.specs.Used.{OnlyRead, GoesOn, IsStopped}
+use Rattle.tau_engine.specs.Outside.{Wrote, calls_to_open}
 use Rattle.tau_engine.proofs.Plans.{goes_on, made_all, made_some, goes_stopped, made_early, made_late, first_stopped, second_stopped, first_made, second_made}
 use Rattle.tau_engine.proofs.Refusals.{answers_as, each_two, refused, told_fault}
 use Rattle.tau_engine.specs.Facts.{Holds}

@@ -1,5 +1,5 @@
 use Rattle.std.proofs.Common.{List, ◌∷◌, ap, ◌∙◌, inl, inr, ⊎_elim}
-use Rattle.tau_engine.specs.Outside.{OnlyRead, OneCall, IsClean}
+use Rattle.tau_disk.specs.Used.{OnlyRead, OneCall, IsClean}
 use Rattle.tau_engine.proofs.Plans.{stopped_of_two, told_of_two}
 use Rattle.tau_engine.proofs.Openings.{long_of_two, none_long}
 use Rattle.tau_engine.proofs.Refusals.{refused_of_two, each_of_two, each_two}

@@ -4,7 +4,8 @@ use Rattle.tau_words.specs.declared.command.Command.TheVariants.{Recover}
 use Rattle.tau_scan.specs.Reading.{log_of}
 use Rattle.tau_engine.specs.Recovery.{RecoverTells, IsBadLog, images_of}
 use Rattle.tau_engine.specs.Served.{served, used_by}
-use Rattle.tau_engine.specs.Outside.{EachUsed, OnlyRead, OneCall, RoseAt, Wrote}
+use Rattle.tau_disk.specs.Used.{EachUsed, OnlyRead, OneCall, RoseAt}
+use Rattle.tau_engine.specs.Outside.{Wrote}
 use Rattle.tau_disk.specs.Disk.{Rose}
 use Rattle.tau_engine.proofs.Refusals.{told_refusal, refusal_of_run}
 use Rattle.tau_engine.proofs.Recoveries.{handed_back}

@@ -1,7 +1,7 @@
 use Rattle.std.proofs.Common.{ℕ, ◌≡◌, ◌++◌, List, map, drop, take, reverse, length, sym, ap, ◌∙◌, subst, arith}
 use Rattle.tau_stream.specs.Stream.{catalogue_record}
 use Rattle.tau_stream.specs.Writer.{disk_of}
-use Rattle.tau_open.specs.Outside.{AreEmpty}
+use Rattle.tau_disk.specs.Used.{AreEmpty}
 use Rattle.tau_open.specs.Opening.{Refuses, AreOpened}
 use Rattle.tau_open.specs.Creating.{Creating, Stops}
 use Rattle.tau_open.proofs.Joined.{asked_refuses, whole_again, turned_twice, still_empty, opened, refuses}
