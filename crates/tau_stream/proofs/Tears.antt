@@ -1,5 +1,5 @@
 -- What a torn write leaves of a stream, and what its two steps make.
-use Rattle.std.proofs.Common.{◌≡◌, inl, inr, ℕ, ◌+◌, ◌-◌, ◌<◌, ◌≤◌, List, [], ◌∷◌, ◌++◌, length, get_or, take, drop, sym, ◌∙◌, ap, subst, arith, append_assoc, length-append, length-drop, take-append-drop}
+use Rattle.std.proofs.Common.{Result, Ok, Err, OnErr, ◌≡◌, inl, inr, ℕ, ◌+◌, ◌-◌, ◌<◌, ◌≤◌, List, [], ◌∷◌, ◌++◌, length, get_or, take, drop, sym, ◌∙◌, ap, subst, arith, append_assoc, length-append, length-drop, take-append-drop}
 use Rattle.std.specs.Int.{w32, to_be_bytes}
 use Rattle.std.proofs.lemmas.List.{take_at, drop_at, drop_all, drop_more, take_more, take-take, get_or-take, length-take-le, append-nil}
 use Rattle.std.proofs.lemmas.Bool.{cases_eq}
@@ -7,6 +7,10 @@ use Rattle.tau_disk.specs.Disk.{Torn, Holds, Only}
 use Rattle.tau_block.specs.Image.{content_of, HasContent, header_of, block_of, tail_of, IsBody, IsLog}
 use Rattle.tau_block.proofs.Blocks.{front_block, log_of_front, short_content}
 use Rattle.tau_stream.specs.Stream.{IsSettled, IsOldOrNew}
+
+pub on_err : {A E P : Type 0} (r : Result A E) → P → OnErr r P
+on_err (Ok x) p = tt
+on_err (Err e) p = p
 
 split_at : (xs : List ℕ) (p : ℕ) → p < length xs → xs ≡ take p xs ++ get_or xs p 0 ∷ drop (p + 1) xs
 split_at xs p lt = sym (take-append-drop p xs) ∙ ap (λ (l : List ℕ). take p xs ++ l) (drop_more xs p 0 lt)
@@ -35,6 +39,10 @@ module _ (n j : ℕ) (file : List ℕ) (gate_at : ℕ) (content : List ℕ) (s :
       let gate : get_or x gate_at 0 ≡ get_or file gate_at 0 = sym (get_or-take (gate_at + 1) x gate_at 0 below) ∙ ap (λ (l : List ℕ). get_or l gate_at 0) torn.before ∙ get_or-take (gate_at + 1) file gate_at 0 below in
       let whole : x ≡ front ++ get_or file gate_at 0 ∷ drop (gate_at + 1) x = split_at x gate_at lt ∙ (λ i. same i ++ gate i ∷ drop (gate_at + 1) x) in
       ap (content_of n j) whole ∙ s.front.closed (get_or file gate_at 0) (drop (gate_at + 1) x) s.shut
+
+  -- the image that a read gives has the content
+  pub content_now : HasContent n j content file
+  content_now = ap (content_of n j) (split_at file gate_at s.within) ∙ s.front.closed (get_or file gate_at 0) (drop (gate_at + 1) file) s.shut
 
   module _ (body : List ℕ) (some : IsBody body) where
     abbrev behind : List ℕ

@@ -19,6 +19,10 @@ pub record IsSettled (n j : ℕ) (file : List ℕ) (may_leave : List ℕ → Typ
 abbrev pub IsOldOrNew : ℕ → ℕ → List ℕ → List ℕ → List ℕ → Type 0
 IsOldOrNew n j content body image = HasContent n j content image ⊎ HasContent n j (content ++ body) image
 
+-- a stop may leave an image with this content
+abbrev pub MayHold : ℕ → ℕ → List ℕ → (List ℕ → Type 0) → Type 0
+MayHold n j content may_leave = (x : List ℕ) × may_leave x × HasContent n j content x
+
 -- a stop leaves at most a header
 abbrev pub IsUnborn : (List ℕ → Type 0) → Type 0
 IsUnborn may_leave = (x : List ℕ) → may_leave x → length x ≤ 17

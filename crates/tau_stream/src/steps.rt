@@ -1,9 +1,9 @@
 // A block goes onto a disk in two steps.
-ghost use Rattle.std.specs.Prelude.{◌≡◌, ◌+◌, ◌<◌, ◌≤◌, ◌^◌, ◌++◌, List, ℕ, length, OnOk};
+ghost use Rattle.std.specs.Prelude.{◌≡◌, ◌+◌, ◌<◌, ◌≤◌, ◌^◌, ◌++◌, List, ℕ, length, OnOk, OnErr};
 ghost use Rattle.tau_block.specs.Image.{IsBody, tail_of};
 ghost use Rattle.tau_disk.specs.Disk.{Passes, HasCause};
 ghost use Rattle.tau_disk.specs.Plan.{HasMade};
-ghost use Rattle.tau_stream.specs.Stream.{IsSettled, IsOldOrNew};
+ghost use Rattle.tau_stream.specs.Stream.{IsSettled, IsOldOrNew, MayHold};
 
 use tau_block::open_gate;
 use tau_disk::{Disk, Failed, Gate, Place, Quiet, write_durably};
@@ -31,6 +31,10 @@ pub fn publish_gated<D: Disk, G: Gate>(
     ensures moments { D.tells → (n j : ℕ) (content body : List ℕ) →
         IsSettled n j (D.seen disk.old) (D.may_leave disk.old) gate_at content → IsBody body → block.now ≡ tail_of body →
         Passes D.moment D.may_leave_since disk.old disk.new (IsOldOrNew n j content body) }
+
+    // After a failure some image has the old content.
+    ensures reached { OnErr result (D.tells → (n j : ℕ) (content : List ℕ) →
+        IsSettled n j (D.seen disk.old) (D.may_leave disk.old) gate_at content → MayHold n j content (D.may_leave disk.new)) }
     ensures plan { D.tells → HasMade 4 (D.number disk.old) (D.number disk.new) (D.fails disk.old) (D.fails disk.new) (D.short disk.old) (D.short disk.new) result }
     ensures cause { HasCause (D.faults disk.old) (D.faults disk.new) result }
 {
@@ -56,6 +60,10 @@ pub fn publish<D: Disk>(disk: &mut D, gate_at: u64, block: &[u8]) -> Result<(), 
     ensures moments { D.tells → (n j : ℕ) (content body : List ℕ) →
         IsSettled n j (D.seen disk.old) (D.may_leave disk.old) gate_at content → IsBody body → block.now ≡ tail_of body →
         Passes D.moment D.may_leave_since disk.old disk.new (IsOldOrNew n j content body) }
+
+    // After a failure some image has the old content.
+    ensures reached { OnErr result (D.tells → (n j : ℕ) (content : List ℕ) →
+        IsSettled n j (D.seen disk.old) (D.may_leave disk.old) gate_at content → MayHold n j content (D.may_leave disk.new)) }
     ensures plan { D.tells → HasMade 4 (D.number disk.old) (D.number disk.new) (D.fails disk.old) (D.fails disk.new) (D.short disk.old) (D.short disk.new) result }
     ensures cause { HasCause (D.faults disk.old) (D.faults disk.new) result }
 {

@@ -4,7 +4,7 @@ ghost use Rattle.tau_base.specs.declared.limits.TheConstants.{MAX_BODY, MAX_CATA
 ghost use Rattle.tau_block.specs.Image.{IsBody, header_of, tail_of};
 ghost use Rattle.tau_disk.specs.Disk.{Passes, Rose, HasCause};
 ghost use Rattle.tau_disk.specs.Plan.{HasMade, MadeAll, MadeSome};
-ghost use Rattle.tau_stream.specs.Stream.{IsOldOrNew, IsSettled, IsUnborn, catalogue_record};
+ghost use Rattle.tau_stream.specs.Stream.{IsOldOrNew, IsSettled, IsUnborn, MayHold, catalogue_record};
 
 use crate::{Flush, publish, publish_gated};
 use std::alloc::Global;
@@ -196,6 +196,9 @@ impl<D: Disk> Writer<D> {
         // At each moment every image has the old content or the new one.
         ensures moments { D.tells → (n j : ℕ) (content : List ℕ) → IsReady n j self.old content →
             Passes D.moment D.may_leave_since (disk_of self.old) (disk_of self.new) (IsOldOrNew n j content (part_upto self.old upto)) }
+
+        // After a failure some image has the old content.
+        ensures reached { OnErr result (D.tells → (n j : ℕ) (content : List ℕ) → IsReady n j self.old content → MayHold n j content (D.may_leave (disk_of self.new))) }
         ensures plan { D.tells → (upto ≡ durable_of self.old → ⊥) → HasMade 4 (D.number (disk_of self.old)) (D.number (disk_of self.new)) (D.fails (disk_of self.old)) (D.fails (disk_of self.new)) (D.short (disk_of self.old)) (D.short (disk_of self.new)) result }
         ensures idle { (result ≡ Err Flush.Idle) ↔ (upto ≡ durable_of self.old) }
         ensures idle_same { result ≡ Err Flush.Idle → self.new ≡ self.old }
@@ -223,6 +226,9 @@ impl<D: Disk> Writer<D> {
         // At each moment every image has the old content or the new one.
         ensures moments { D.tells → (n j : ℕ) (content : List ℕ) → IsReady n j self.old content →
             Passes D.moment D.may_leave_since (disk_of self.old) (disk_of self.new) (IsOldOrNew n j content (part_upto self.old upto)) }
+
+        // After a failure some image has the old content.
+        ensures reached { OnErr result (D.tells → (n j : ℕ) (content : List ℕ) → IsReady n j self.old content → MayHold n j content (D.may_leave (disk_of self.new))) }
         ensures plan { D.tells → (upto ≡ durable_of self.old → ⊥) → HasMade 4 (D.number (disk_of self.old)) (D.number (disk_of self.new)) (D.fails (disk_of self.old)) (D.fails (disk_of self.new)) (D.short (disk_of self.old)) (D.short (disk_of self.new)) result }
         ensures idle { (result ≡ Err Flush.Idle) ↔ (upto ≡ durable_of self.old) }
         ensures idle_same { result ≡ Err Flush.Idle → self.new ≡ self.old }

@@ -1,8 +1,9 @@
 use Rattle.std.proofs.Common.{ℕ, ◌+◌, List, ◌++◌, length, get_or, inl, subst, sym, ◌∙◌, arith}
 use Rattle.tau_disk.specs.Disk.{Torn, Holds}
+use Rattle.tau_disk.proofs.Images.{holds_torn}
 use Rattle.tau_disk.specs.Passing.{passes_weaker, passes_on}
 use Rattle.tau_stream.specs.Stream.{IsOldOrNew, IsSettled}
-use Rattle.tau_stream.proofs.Tears.{torn_behind, staged, torn_gate, opened, settles, holds_long}
+use Rattle.tau_stream.proofs.Tears.{on_err, torn_behind, content_now, staged, torn_gate, opened, settles, holds_long}
 use Rattle.tau_stream.proofs.steps.publish_gated.Goals as goal
 
 pub returns-in_err-write_durably-clause-moments : goal.returns-in_err-write_durably-clause-moments
@@ -39,3 +40,15 @@ returns-clause-here g c = λ tells.
     let first = holds_long (c.args.gate_at + 1) c.args.block.now (g.D.Disk.seen c.args.disk.now) (g.D.Disk.seen c.write_durably.new.disk) (omega (arith, c.requires.within tells)) (c.in_ok-write_durably.ensures.written tells) in
     let second = holds_long c.args.gate_at c.open_gate.result (g.D.Disk.seen c.write_durably.new.disk) (g.D.Disk.seen c.write_durably-2.new.disk) (omega (arith, first.0)) (c.in_ok-write_durably-2.ensures.written tells) in
     omega (arith, first.0, second.1)
+
+pub returns-in_err-write_durably-clause-reached : goal.returns-in_err-write_durably-clause-reached
+returns-in_err-write_durably-clause-reached g c = on_err c.from_residual.result (λ tells n j content s.
+    let file = g.D.Disk.seen c.args.disk.now in
+    (file, c.in_err-write_durably.ensures.keeps file (g.met.D.Disk.seen_now c.args.disk.now tells), content_now n j file c.args.gate_at content s.log))
+
+pub returns-in_err-write_durably-2-clause-reached : goal.returns-in_err-write_durably-2-clause-reached
+returns-in_err-write_durably-2-clause-reached g c = on_err c.from_residual-in_err-write_durably-2.result (λ tells n j content s.
+    let file = g.D.Disk.seen c.args.disk.now in
+    let mid = g.D.Disk.seen c.write_durably.new.disk in
+    let torn = holds_torn (c.args.gate_at + 1) c.args.block.now file mid (omega (arith, s.log.within)) (c.in_ok-write_durably.ensures.written tells) in
+    (mid, c.in_err-write_durably-2.ensures.keeps mid (g.met.D.Disk.seen_now c.write_durably.new.disk tells), torn_behind n j file c.args.gate_at content s.log (length c.args.block.now) mid torn))

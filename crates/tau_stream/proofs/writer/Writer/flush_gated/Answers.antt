@@ -1,6 +1,7 @@
 use Rattle.std.proofs.Common.{◌≡◌, ℕ, ◌+◌, ◌-◌, ◌<◌, ◌≤◌, ◌∙◌, ◌++◌, subst, length, ap, arith, length-append, length-drop}
 use Rattle.tau_stream.specs.Stream.{IsSettled}
 use Rattle.tau_stream.specs.Writer.{part_upto}
+use Rattle.tau_stream.proofs.Tears.{content_now}
 use Rattle.tau_stream.proofs.Parts.{part_is, part_whole, length-part, length-tail}
 use Rattle.tau_stream.proofs.writer.Writer.flush_gated.Goals as goal
 
@@ -47,3 +48,11 @@ returns-in-Err-clause-moments g c = λ tells n j content ready.
     let reach = c.requires.prepared.reach in
     let some : w.durable < c.args.upto = omega (arith, reach.not_before, c.if-upto-self.false) in
     c.publish_gated.ensures.moments tells n j content (part_upto w c.args.upto) ready.settled (part_is w c.args.upto reach some) (c.deref.ensures.value ∙ c.requires.prepared.block some)
+
+pub returns-in-Err-clause-reached : goal.returns-in-Err-clause-reached
+returns-in-Err-clause-reached g c = λ tells n j content ready. c.in-Err.ensures.reached tells n j content ready.settled
+
+pub returns-then-upto-self-clause-reached : goal.returns-then-upto-self-clause-reached
+returns-then-upto-self-clause-reached g c = λ tells n j content ready.
+    let w = c.args.self.now in
+    (g.D.Disk.seen w.disk, g.met.D.Disk.seen_now w.disk tells, content_now n j (g.D.Disk.seen w.disk) w.gate_at content ready.settled.log)
