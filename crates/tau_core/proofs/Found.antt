@@ -1,6 +1,6 @@
 -- The parts that code has in hand.
-use Rattle.std.proofs.Common.{ℕ, ◌<◌, ◌-◌, ◌≡◌, length, refl, sym, ap, ◌∙◌, arith}
-use Rattle.std.specs.Prelude.{Some, slice_get, slice_index_or, vec_capacity, vec_len}
+use Rattle.std.proofs.Common.{ℕ, ◌<◌, ◌≡◌, length, refl, sym, ap, ◌∙◌, arith}
+use Rattle.std.specs.Prelude.{Some, slice_get, slice_index_or}
 use Rattle.std.proofs.lemmas.Option.{slice_get_read}
 use Rattle.tau_base.specs.declared.limits.TheConstants.{SHARDS}
 use Rattle.tau_shard.specs.Plain.{PlainShard}
@@ -11,7 +11,7 @@ use Rattle.tau_core.specs.State.{plain}
 use Rattle.tau_core.specs.Stands.{Sound}
 
 abbrev pub seat_in : seat.Inside → PlainSeat
-seat_in s = record { next = s.next; again = s.again; txn = s.txn; start = s.start; left = s.left.items; room = vec_capacity s.left - vec_len s.left; outbox = s.outbox; pending = s.pending }
+seat_in s = record { next = s.next; again = s.again; txn = s.txn; start = s.start; left = s.left.numbers; room = s.left.room; outbox = s.outbox; pending = s.pending }
 
 pub found-seat : (s : State) (w : ℕ) (now : PlainSeat) (i : seat.Inside) → Sound (plain s) → w < s.load.workers → now ≡ slice_index_or s.seats.items w now → seat_in i ≡ now → slice_get s.seats.items w ≡ Some (seat_in i)
 found-seat s w now i g lt is view =

@@ -16,6 +16,11 @@ pub record PlainSeat : Type 0 where
   pub outbox : PlainOutbox
   pub pending : PlainPending
 
+-- the numbers of the calls that a worker left over, in the order in which it did, and how many more are put there without memory
+pub record PlainLeft : Type 0 where
+  pub numbers : List ℕ
+  pub room : ℕ
+
 -- what the manager of a stream has: the anchors that it placed and has not gathered, the vectors of all its anchors, where the stream was stopped,
 -- the bytes that were gathered since the body was taken, and how many more it takes without memory
 pub record PlainStream : Type 0 where

@@ -98,10 +98,7 @@ fn seat_room(seat: &mut Seat) -> Result<(), NoMemory>
     ensures roomy_left { OnOk result (1 ≤ seat.new.room) }
 {
     seat.pending.reserve()?;
-    match seat.left.try_reserve(1) {
-        Ok(()) => Ok(()),
-        Err(_) => Err(NoMemory),
-    }
+    seat.left.reserve()
 }
 
 /// Begins the call of this number, the next one.

@@ -12,6 +12,7 @@ mod free;
 mod fresh;
 mod gather;
 mod laws;
+mod left_over;
 mod lock;
 mod next;
 mod open;

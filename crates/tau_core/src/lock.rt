@@ -111,7 +111,7 @@ pub(crate) fn leave(seat: &mut Seat, procs: &Procs)
         return;
     };
     if let Some(number) = seat.txn.number() {
-        let _ = seat.left.push(number);
+        seat.left.push(number);
     }
     seat.txn.went(procs);
 }

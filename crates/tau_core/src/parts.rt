@@ -3,6 +3,7 @@ ghost use Rattle.std.specs.Prelude.{◌≡◌, ◌≤◌, ◌<◌, [], IfOk, OnO
 ghost use Rattle.tau_base.specs.declared.limits.TheConstants.{MAX_STREAMS, MAX_WORKERS};
 ghost use Rattle.tau_core.specs.Opens.{AreSeats, AreShards, AreStreams, IsSeatAtRest, IsStreamAtRest, IsUnlocked, PutsRow};
 
+use crate::left_over::LeftOvers;
 use crate::state::{Seat, Stream};
 use std::alloc::Global;
 use tau_ack::Pending;
@@ -45,7 +46,7 @@ fn seat(alloc: Global, worker: usize, streams: usize, mode: LogMode) -> Seat
         again: None,
         txn: Txn::new(alloc, worker as u8, streams, mode),
         start: 0,
-        left: Vec::new(alloc),
+        left: LeftOvers::new(alloc),
         outbox: Outbox::new(alloc),
         pending: Pending::new(alloc),
     }

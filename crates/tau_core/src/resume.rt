@@ -1,11 +1,13 @@
 //! A call that was left over goes back to its worker.
 ghost use Rattle.std.specs.Prelude.{◌≡◌, ◌<◌, Some, slice_get, true, false};
+ghost use Rattle.std.specs.List.Sorted.{IsNonDecreasing};
 ghost use Rattle.tau_core.specs.Plain.{PlainSeat};
 ghost use Rattle.tau_core.specs.State.{plain};
 ghost use Rattle.tau_core.specs.Stands.{Sound};
 ghost use Rattle.tau_core.specs.LeftOvers.{AllRest, RestsSeat, IsLeftAt, IsLowestIn, IsLowestOf, ResumedBy, TakesBack, lower};
 
 use crate::begin::{in_hand, next_number};
+use crate::left_over::LeftOvers;
 use crate::state::State;
 
 /// A call that is left over.
@@ -72,23 +74,48 @@ fn lowest(state: &State) -> Option<LeftOver>
     let mut found = None;
     for worker in 0..state.load.workers {
         let seat = &state.seats[worker];
-        found = lower(found, lowest_in(worker, seat.left.as_slice()));
+        found = lower(found, lowest_in(worker, &seat.left));
     }
     found
 }
 
-/// The lowest of these calls, which are left over of one worker.
-fn lowest_in(worker: usize, numbers: &[u64]) -> Option<LeftOver>
-    ensures { IsLowestIn worker numbers.now result }
+/// The lowest of these calls, which are left over of one worker. Where they ascend none but the first is looked at.
+fn lowest_in(worker: usize, left: &LeftOvers) -> Option<LeftOver>
+    ensures { IsLowestIn worker left.now.numbers result }
+{
+    if left.ascends() {
+        return first_in(worker, left);
+    }
+    lowest_of_all(worker, left)
+}
+
+/// The first of them.
+fn first_in(worker: usize, left: &LeftOvers) -> Option<LeftOver>
+    requires ascend { IsNonDecreasing left.now.numbers }
+    ensures { IsLowestIn worker left.now.numbers result }
+{
+    if left.len() == 0 {
+        return None;
+    }
+    Some(LeftOver {
+        number: left.get(0),
+        worker,
+        at: 0,
+    })
+}
+
+/// The lowest of them, in whatever order they are.
+fn lowest_of_all(worker: usize, left: &LeftOvers) -> Option<LeftOver>
+    ensures { IsLowestIn worker left.now.numbers result }
 {
     let mut found = None;
-    for at in 0..numbers.len() {
-        let left = LeftOver {
-            number: numbers[at],
+    for at in 0..left.len() {
+        let next = LeftOver {
+            number: left.get(at),
             worker,
             at,
         };
-        found = lower(found, Some(left));
+        found = lower(found, Some(next));
     }
     found
 }
@@ -111,6 +138,6 @@ fn take_back(state: &mut State, left: LeftOver)
     ensures { TakesBack left (plain state.old) (plain state.new) }
 {
     let seat = &mut state.seats[left.worker];
-    let _ = seat.left.remove(left.at);
+    seat.left.remove(left.at);
     seat.again = Some(left.number);
 }

@@ -1,4 +1,5 @@
 //! The state of the core, as its parts.
+use crate::left_over::LeftOvers;
 use crate::opening::Opening;
 use std::alloc::Global;
 use std::marker::Model;
@@ -31,18 +32,17 @@ pub(crate) struct Seat {
     pub(crate) txn: Txn,
     /// Where the record of the call in hand starts, from its place to its post.
     pub(crate) start: u64,
-    pub(crate) left: Vec<u64>,
+    pub(crate) left: LeftOvers,
     pub(crate) outbox: Outbox,
     pub(crate) pending: Pending,
 }
 
 impl Model for Seat {
-    ghost use Rattle.std.specs.Prelude.{◌-◌, vec_len, vec_capacity};
     ghost use Rattle.tau_core.specs.Plain.{PlainSeat};
 
     ghost Value = { PlainSeat };
 
-    ghost view = { λ s. record { next = s.next; again = s.again; txn = s.txn; start = s.start; left = s.left.items; room = vec_capacity s.left - vec_len s.left; outbox = s.outbox; pending = s.pending } };
+    ghost view = { λ s. record { next = s.next; again = s.again; txn = s.txn; start = s.start; left = s.left.numbers; room = s.left.room; outbox = s.outbox; pending = s.pending } };
 }
 
 /// A stream: what its manager has.

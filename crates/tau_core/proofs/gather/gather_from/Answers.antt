@@ -14,7 +14,7 @@ use Rattle.tau_core.proofs.GathersOn.{next-posted}
 use Rattle.tau_core.proofs.gather.gather_from.Goals as goal
 
 abbrev seat_in : seat.Inside → PlainSeat
-seat_in s = record { next = s.next; again = s.again; txn = s.txn; start = s.start; left = s.left.items; room = vec_capacity s.left - vec_len s.left; outbox = s.outbox; pending = s.pending }
+seat_in s = record { next = s.next; again = s.again; txn = s.txn; start = s.start; left = s.left.numbers; room = s.left.room; outbox = s.outbox; pending = s.pending }
 
 abbrev part_in : Inside → PlainStream
 part_in s = record { own = s.own; anchors = s.anchors.items; stop = s.stop; body = s.body.items; room = vec_capacity s.body - vec_len s.body }

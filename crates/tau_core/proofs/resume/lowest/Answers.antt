@@ -17,7 +17,7 @@ loop-worker-preserved c =
     let len : length (take w xs) ≡ w = length-take-le w xs (omega arith) in
     let more : take (w + 1) xs ≡ take w xs ++ s ∷ [] = take-snoc xs w s is in
     let low : IsLowestIn (length (take w xs)) s.left c.lowest_in.result =
-    subst (λ (x : ℕ × List ℕ). IsLowestIn x.0 x.1 c.lowest_in.result) (λ i. (sym len i, c.as_slice.ensures.value i)) c.lowest_in.ensures in
+    subst (λ (n : ℕ). IsLowestIn n s.left c.lowest_in.result) (sym len) c.lowest_in.ensures in
     subst (λ (x : List PlainSeat × Option LeftOver). IsLowestOf x.0 x.1) (λ i. (sym more i, sym c.lower-found.ensures i)) (lowest-seat (take w xs) s c.loop-worker.found c.lowest_in.result c.loop-worker.invariant low)
 
 pub returns : goal.returns

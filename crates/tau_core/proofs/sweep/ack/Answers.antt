@@ -1,12 +1,12 @@
-use Rattle.std.proofs.Common.{◌≡◌, ◌<◌, ◌-◌, length, refl, sym, ap, ◌∙◌, arith}
-use Rattle.std.specs.Prelude.{Some, slice_get, vec_capacity, vec_len}
+use Rattle.std.proofs.Common.{◌≡◌, ◌<◌, length, refl, sym, ap, ◌∙◌, arith}
+use Rattle.std.specs.Prelude.{Some, slice_get}
 use Rattle.std.proofs.lemmas.Option.{slice_get_read}
 use Rattle.tau_core.specs.Plain.{PlainSeat}
 use Rattle.tau_core.specs.declared.state.Seat.TheInside.{Inside}
 use Rattle.tau_core.proofs.sweep.ack.Goals as goal
 
 abbrev seat_in : Inside → PlainSeat
-seat_in s = record { next = s.next; again = s.again; txn = s.txn; start = s.start; left = s.left.items; room = vec_capacity s.left - vec_len s.left; outbox = s.outbox; pending = s.pending }
+seat_in s = record { next = s.next; again = s.again; txn = s.txn; start = s.start; left = s.left.numbers; room = s.left.room; outbox = s.outbox; pending = s.pending }
 
 pub returns-in-Some : goal.returns-in-Some
 returns-in-Some c =
