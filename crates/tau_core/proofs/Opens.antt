@@ -12,6 +12,7 @@ use Rattle.tau_model.specs.Tables.{db_of_rows}
 use Rattle.tau_model.specs.History.{Act, Numbered, Member}
 use Rattle.tau_model.specs.declared.committed.Committed.{Committed}
 use Rattle.tau_machine.specs.Accounts.{in_worker}
+use Rattle.std.proofs.Math.Nat.{mod-lt}
 use Rattle.tau_machine.specs.Hands.{Txn, Hand}
 use Rattle.tau_machine.specs.Shard as machine
 use Rattle.tau_machine.specs.Worker.{Worker}
@@ -32,7 +33,7 @@ use Rattle.tau_core.specs.Opens.{IsUnlocked, Opens, Opened, nothing}
 use Rattle.tau_core.proofs.Lists.{some-at}
 use Rattle.tau_core.proofs.Numbers.{numbers}
 use Rattle.tau_core.proofs.Shards.{shard-small}
-use Rattle.tau_core.proofs.Turns.{call-there, once-there, whose-there}
+use Rattle.tau_core.proofs.Turns.{call-there, once-there, whose-there, stands-there}
 
 -- a worker that has begun none of these calls
 abbrev resting_on : List Numbered → Worker
@@ -228,11 +229,20 @@ module _ (p : Plain) (o : Opens p.load p) where
       let found = some-at p.shards i within in
       subst (λ (q : Option PlainShard). P (shard_in q).floor) (sym found.1) (f found.0 (shard-unlocked i found.0 found.1))
 
+  call-waits : (k : ℕ) → 1 ≤ k → k ≤ length p.load.calls → (w : ℕ) × (1 ≤ in_worker k (worker_at p w))
+  call-waits k some high =
+      let w = worker_of p.load.workers k in
+      let lt : w < length p.seats = (let c = o.seats.count in let low = o.sound.workers_low in let few = mod-lt (k - 1) {m = p.load.workers} (omega (arith, low)) in omega (arith, c, few)) in
+      let found = some-at p.seats w lt in
+      let there = stands-there p.load.calls p.load.workers k o.sound.workers_low some high in
+      (w, subst (λ (wk : Worker). 1 ≤ in_worker k wk) (sym (seat-rests w found.0 found.1)) (omega (arith, there)))
+
   is-opened : Opened p.load p
   is-opened = record {
     load = refl;
     opening = is-opening;
     stands = is-standing;
+    waits = call-waits;
     floor_low = floor-there (λ v. AtMost p.load.opening.floor v) (λ s u. u.low);
     floor_high = floor-there (λ v. AtMost v p.load.opening.floor) (λ s u. u.high);
   }

@@ -1,7 +1,9 @@
--- The calls of a worker, when none has begun: each has its number, no number comes twice, and all are its own.
-use Rattle.std.proofs.Common.{ℕ, zero, suc, ◌+◌, ◌-◌, ◌%◌, ◌<◌, ◌≤◌, ◌≡◌, Bool, true, false, ◌⊎◌, inl, inr, List, [], ◌∷◌, drop, refl, sym, ap, ◌∙◌, arith}
+-- The calls of a worker, when none has begun: each has its number, no number comes twice, all are its own, and each number is there.
+use Rattle.std.proofs.Common.{ℕ, zero, suc, ◌+◌, ◌-◌, ◌%◌, ◌<◌, ◌≤◌, ◌≡◌, Bool, true, false, ◌⊎◌, inl, inr, List, [], ◌∷◌, length, drop, refl, sym, ap, subst, ◌∙◌, arith}
 use Rattle.std.specs.Prelude.{Some, None, ◌==◌, if◌then◌else◌, slice_get}
-use Rattle.std.proofs.Math.Nat.{add-mod_right, mod-eq_of_lt}
+use Rattle.std.proofs.Math.Nat.{add-mod_right, mod-eq_of_lt, mod-le}
+use Rattle.std.proofs.lemmas.Bool.Decides.{leb_tells}
+use Rattle.std.proofs.lemmas.List.{length-drop}
 use Rattle.std.proofs.lemmas.Bool.{cases_eq, eq-eqb, ne_eqb}
 use Rattle.tau_base.specs.declared.value.Call.{Call}
 use Rattle.tau_model.specs.History.{Numbered, Member}
@@ -24,6 +26,24 @@ up-suc m (suc i) a = (let e : (a + 1) + m ≡ (a + m) + 1 = omega arith in ap (u
 up-mod : (m i a : ℕ) → up m i a % m ≡ a % m
 up-mod m zero a = refl
 up-mod m (suc i) a = up-mod m i (a + m) ∙ add-mod_right a m
+
+up-plus : (m i a : ℕ) → up m i (a + m) ≡ up m i a + m
+up-plus m zero a = refl
+up-plus m (suc i) a = up-plus m i (a + m)
+
+-- each number is so many steps up from its remainder; `left` is no less than it
+steps-up : (m left x : ℕ) → 1 ≤ m → x ≤ left → (i : ℕ) × (x ≡ up m i (x % m))
+steps-up m zero x low le =
+    let lt : x < m = omega arith in
+    (0, sym (mod-eq_of_lt lt))
+steps-up m (suc left) x low le = elim (leb_tells m x) [
+  | inl high ↦
+      let q = steps-up m left (x - m) low (omega arith) in
+      let back : (x - m) + m ≡ x = omega arith in
+      let same : x % m ≡ (x - m) % m = ap (λ (y : ℕ). y % m) (sym back) ∙ add-mod_right (x - m) m in
+      (suc q.0, sym back ∙ ap (λ (y : ℕ). y + m) q.1 ∙ sym (up-plus m q.0 ((x - m) % m)) ∙ ap (λ (y : ℕ). up m q.0 (y + m)) (sym same))
+  | inr lt ↦ (0, sym (mod-eq_of_lt (omega arith)))
+]
 
 one-same : (n k : ℕ) → n ≡ k → one n k ≡ 1
 one-same n k e = (let f : (n == k) ≡ true = eq-eqb n k e in ap (λ (b : Bool). if b then 1 else 0) f)
@@ -73,6 +93,20 @@ once-every m s k n [] low = omega arith
 once-every m (suc s) k n (c ∷ cs) low = once-every m s (k + 1) n cs low
 once-every m zero k n (c ∷ cs) low = once-here m k n (in_calls n (every m (m - 1) (k + 1) cs)) (cases_eq n k) (λ r. found-every m (m - 1) (k + 1) n cs low r) (once-every m (m - 1) (k + 1) n cs low)
 
+-- a number that is so many steps up, of a call that there is, stands there
+stands-every : (m s k n i : ℕ) (cs : List Call) → 1 ≤ m → n ≡ up m i (k + s) → n < k + length cs → 1 ≤ in_calls n (every m s k cs)
+stands-every m s k n i [] low is lt = (let high = up-high m i (k + s) in absurd (omega (arith, is, lt, high)))
+stands-every m (suc s) k n i (c ∷ cs) low is lt =
+    let f : k + suc s ≡ (k + 1) + s = omega arith in
+    stands-every m s (k + 1) n i cs low (is ∙ ap (up m i) f) (omega arith)
+stands-every m zero k n zero (c ∷ cs) low is lt =
+    let first : one n k ≡ 1 = one-same n k (is ∙ omega arith) in
+    omega (arith, first)
+stands-every m zero k n (suc i) (c ∷ cs) low is lt =
+    let f : (k + zero) + m ≡ (k + 1) + (m - 1) = omega arith in
+    let rest = stands-every m (m - 1) (k + 1) n i cs low (is ∙ ap (up m i) f) (omega arith) in
+    omega (arith, rest)
+
 -- each of them has its number
 place-every : (m s k : ℕ) (cs : List Call) (c : Numbered) → Member c (every m s k cs) → (i : ℕ) × (c.number ≡ k + i) × (slice_get cs i ≡ Some c.call)
 place-every m s k [] c e = absurd e
@@ -106,3 +140,13 @@ module _ (calls : List Call) (m w : ℕ) where
       let is : n ≡ up m q.0 w + 1 = q.1 ∙ ap (up m q.0) flat ∙ up-suc m q.0 w in
       let less : n - 1 ≡ up m q.0 w = omega (arith, is) in
       ap (λ x. x % m) less ∙ up-mod m q.0 w ∙ mod-eq_of_lt there
+
+-- each number is there, with its worker
+pub stands-there : (calls : List Call) (m n : ℕ) → 1 ≤ m → 1 ≤ n → n ≤ length calls → 1 ≤ in_calls n (from_on calls m (worker_of m n + 1))
+stands-there calls m n low some high =
+    let w = worker_of m n in
+    let q = steps-up m (n - 1) (n - 1) low (omega arith) in
+    let flat : (w + 1) + 0 ≡ w + 1 = omega arith in
+    let back : (n - 1) + 1 ≡ n = omega arith in
+    let is : n ≡ up m q.0 ((w + 1) + 0) = sym back ∙ ap (λ (x : ℕ). x + 1) q.1 ∙ sym (up-suc m q.0 w) ∙ sym (ap (up m q.0) flat) in
+    stands-every m 0 (w + 1) n q.0 (drop ((w + 1) - 1) calls) low is (let few = mod-le (n - 1) m in let long = length-drop ((w + 1) - 1) calls in omega (arith, few, long))

@@ -14,6 +14,7 @@ use Rattle.tau_record.specs.Record.{spelling}
 use Rattle.tau_record.specs.declared.entry.Entry.TheVariants.{Catalogue}
 use Rattle.tau_text.specs.Kept.{AreCalls}
 use Rattle.tau_model.specs.Tables.{db_of_rows}
+use Rattle.tau_machine.specs.Accounts.{in_worker}
 use Rattle.tau_machine.specs.Runs.{IsOpening}
 use Rattle.tau_shard.specs.Plain.{PlainShard}
 use Rattle.tau_shard.specs.Read.{shard_of}
@@ -116,11 +117,12 @@ pub record Opens (l : Load) (p : Plain) : Type 0 where
 abbrev pub nothing : Hidden
 nothing = record { posted = λ w. []; own = λ j. []; moved = λ j. []; acked = λ w. []; taken = λ j. [] }
 
--- the core of this run, in which nothing has happened: an opening of the machine, with an empty commit order, and each shard has the opening's floor
+-- the core of this run, in which nothing has happened: an opening of the machine, with an empty commit order; each call waits, and each shard has the opening's floor
 pub record Opened (l : Load) (p : Plain) : Type 0 where
   pub load : p.load ≡ l
   pub opening : IsOpening (setting_of p.load) (core_of p nothing)
   pub stands : Stands p [] nothing
+  pub waits : (k : ℕ) → 1 ≤ k → k ≤ length l.calls → (w : ℕ) × (1 ≤ in_worker k ((core_of p nothing).workers w))
   pub floor_low : (i : ℕ) → i < SHARDS → AtMost l.opening.floor ((core_of p nothing).shards i).floor
   pub floor_high : (i : ℕ) → i < SHARDS → AtMost ((core_of p nothing).shards i).floor l.opening.floor
 
