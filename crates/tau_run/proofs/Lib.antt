@@ -24,3 +24,4 @@ pub mod Imaged
 pub mod Led
 pub mod Acks
 pub mod Rows
+pub mod Sources

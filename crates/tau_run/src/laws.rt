@@ -1,5 +1,10 @@
 //! What holds of every run, as functions that do nothing.
-ghost use Rattle.tau_run.specs.Laws.{RunIsThere, RunIsHistory, ContentsAreRecords, ImagesAreRecovered, AckedIsTaken, EndsWell, NothingIsLost, TurnsAreARun};
+ghost use Rattle.tau_run.specs.Laws.{TextsAreSound, RunIsThere, RunIsHistory, ContentsAreRecords, ImagesAreRecovered, AckedIsTaken, EndsWell, NothingIsLost, TurnsAreARun};
+
+/// A workload that a text means can be run and logged: its calls and its steps name declared tables alone, and its catalogue can be read again.
+pub fn texts_are_sound()
+    ensures { TextsAreSound }
+{}
 
 /// A core that stands has made a run.
 pub fn run_is_there()

@@ -5,5 +5,5 @@ mod laws;
 
 pub use laws::{
     acked_is_taken, contents_are_records, ends_well, images_are_recovered, nothing_is_lost,
-    run_is_history, run_is_there, turns_are_a_run,
+    run_is_history, run_is_there, texts_are_sound, turns_are_a_run,
 };

@@ -29,7 +29,7 @@ use Rattle.tau_text_laws.proofs.Bytes.{AreLine, AreLines, text_again}
 
 -- ---- the lines of the canonical text
 
-abbrev declared_lines : List (List ℕ) → List Proc → List (List (List ℕ))
+abbrev pub declared_lines : List (List ℕ) → List Proc → List (List (List ℕ))
 declared_lines ts ps = map table_words ts ++ flat_map (proc_lines ts) ps
 
 abbrev all_lines : Declarations → List Call → Option (List Turn) → List (List (List ℕ))
@@ -51,7 +51,7 @@ procs_text_is : (ts : List (List ℕ)) (ps : List Proc) → flat_map line_text (
 procs_text_is ts [] = refl
 procs_text_is ts (p ∷ ps) = flat_map-append line_text (proc_lines ts p) (flat_map (proc_lines ts) ps) ∙ ap (λ t. t ++ flat_map line_text (flat_map (proc_lines ts) ps)) (proc_text_is ts p) ∙ ap (λ t. proc_text ts p ++ t) (procs_text_is ts ps)
 
-declared_text_is : (d : Declarations) → flat_map line_text (declared_lines d.tables d.procs) ≡ declarations_text d
+pub declared_text_is : (d : Declarations) → flat_map line_text (declared_lines d.tables d.procs) ≡ declarations_text d
 unfolding declarations_text
 declared_text_is d = flat_map-append line_text (map table_words d.tables) (flat_map (proc_lines d.tables) d.procs) ∙ ap (λ t. t ++ flat_map line_text (flat_map (proc_lines d.tables) d.procs)) (flat_mapped line_text table_words d.tables) ∙ ap (λ t. flat_map table_text d.tables ++ t) (procs_text_is d.tables d.procs)
 
@@ -110,7 +110,7 @@ turns_all (Some us) h = ((inl (record { bytes = refl; some = omega arith }), (tu
 
 -- ---- the lines are read
 
-declared_all : (s : Reading) → Told s → AreLines (declared_lines s.tables s.procs)
+pub declared_all : (s : Reading) → Told s → AreLines (declared_lines s.tables s.procs)
 declared_all s h = lines_more (map table_words s.tables) (flat_map (proc_lines s.tables) s.procs) (table_lines [] s.tables h.tables) (procs_all s.tables [] s.procs h.procs)
 
 declared_run : (s : Reading) → Told s → run nothing 1 (declared_lines s.tables s.procs) ≡ Ok (declared s.tables s.procs (0 + tables_size s.tables + procs_size s.tables s.procs))
@@ -120,7 +120,7 @@ declared_run s h =
     (run_tables [] s.tables 1 0 h.tables (omega (arith, le)))
     (run_procs s.tables [] s.procs (0 + tables_size s.tables) (1 + length (map table_words s.tables)) h.procs le)
 
-abbrev load_of : Reading → Workload
+abbrev pub load_of : Reading → Workload
 load_of s = record { declarations = record { tables = s.tables; procs = s.procs }; calls = s.calls; turns = s.turns }
 
 all_run : (s : Reading) → Told s → run nothing 1 (all_lines (load_of s).declarations s.calls s.turns) ≡ Ok (record (calling s.tables s.procs (0 + tables_size s.tables + procs_size s.tables s.procs) s.calls) { turns = s.turns })
@@ -147,12 +147,12 @@ closed_is s None load e = cc
 closed_is s (Some b) load e = absurd cc
 
 -- what is known of the workload that a text means
-record Source (load : Workload) : Type 0 where
-  state : Reading
-  told : Told state
-  same : load_of state ≡ load
+pub record Source (load : Workload) : Type 0 where
+  pub state : Reading
+  pub told : Told state
+  pub same : load_of state ≡ load
 
-source : (text : List ℕ) (load : Workload) → workload_of text ≡ Ok load → Source load
+pub source : (text : List ℕ) (load : Workload) → workload_of text ≡ Ok load → Source load
 unfolding workload_of
 source text load e =
     let a = bound (lines_read nothing 1 0 (lines text)) _ load e in

@@ -10,3 +10,4 @@ pub mod Runs
 pub mod Whole
 pub mod Bytes
 pub mod Law
+pub mod Ranges

@@ -76,7 +76,7 @@ pub steps_more : (ts more : List (List ℕ)) (p : Proc) (d f : ℕ) (xs : List S
 steps_more ts more p d f [] h = h
 steps_more ts more p d f (x ∷ xs) h = (h.0, step_told_more ts more p d h.0 x h.1, steps_more ts more (with_step p x) h.0 f xs h.2)
 
-last_step : (p : Proc) (x y : Step) → with_step p y ≡ with_step p x → y ≡ x
+pub last_step : (p : Proc) (x y : Step) → with_step p y ≡ with_step p x → y ≡ x
 last_step p x y e = last_of p.steps x y (ap (λ (q : Proc). q.steps) e)
   where
     last_of : (xs : List Step) (x y : Step) → xs ++ y ∷ [] ≡ xs ++ x ∷ [] → y ≡ x

@@ -1,7 +1,7 @@
 //! Laws of the workload text.
 #![tactic(auto)]
 
-ghost use Rattle.std.specs.Prelude.{◌≡◌, ◌≤◌, ℕ, ℤ, List, Some, Ok, length};
+ghost use Rattle.std.specs.Prelude.{◌≡◌, ◌≤◌, ◌<◌, ℕ, ℤ, List, Some, Ok, length, slice_index_or};
 ghost use Rattle.std.specs.Fmt.{signed_decimal};
 ghost use Rattle.tau_base.specs.declared.limits.TheConstants.{MAX_CATALOGUE, MAX_WORKLOAD};
 ghost use Rattle.tau_text.specs.declared.load.Workload.{Workload};
@@ -23,6 +23,12 @@ pub fn canonical_texts_are_read_again()
 pub fn canonical_declarations_are_read_again()
     ensures read { (text : List ℕ) (load : Workload) → workload_of text ≡ Ok load → declarations_of (declarations_text load.declarations) ≡ Ok load.declarations }
     ensures short { (text : List ℕ) (load : Workload) → workload_of text ≡ Ok load → length (declarations_text load.declarations) ≤ MAX_CATALOGUE }
+{}
+
+/// And it is of bytes.
+#[tactic(auto, using(crate::proofs::Ranges::declarations_bytes))]
+pub fn canonical_declarations_are_bytes()
+    ensures { (text : List ℕ) (load : Workload) → workload_of text ≡ Ok load → (i : ℕ) → slice_index_or (declarations_text load.declarations) i 0 < 256 }
 {}
 
 /// A number has one spelling, the one that is printed.
