@@ -119,6 +119,18 @@ swept-narrow n v floor [] low each = low
 swept-narrow n v floor (p ∷ es) low each =
     swept-narrow n v (next v floor p.1) es (next-narrow n v floor p.1 low (each 0 p.0 p.1 refl)) (λ i x e at. each (suc i) x e at)
 
+next-wide : (v floor : List ℕ) (e : LockEntry) → length floor ≤ length (next v floor e)
+unfolding next
+next-wide v floor e = elim (cases_Bool (covered v e)) [
+  | inl is ↦ rw is (let a = (join-wider floor e.write).0 in let b = (join-wider (join floor e.write) e.read).0 in omega arith)
+  | inr no' ↦ rw no' (omega arith)
+]
+
+pub swept-wide : (v floor : List ℕ) (es : List (Key × LockEntry)) → length floor ≤ length (swept v floor es)
+unfolding next
+swept-wide v floor [] = omega arith
+swept-wide v floor (p ∷ es) = let a = next-wide v floor p.1 in let b = swept-wide v (next v floor p.1) es in omega arith
+
 module _ (v floor : List ℕ) (rows : List (Key × Value)) (es : List (Key × LockEntry)) (distinct : IsDistinct is_key (keys_of es)) where
   abbrev pub kept : LockEntry → Bool
   kept e = not (covered v e)

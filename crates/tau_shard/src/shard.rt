@@ -228,6 +228,7 @@ impl Shard {
     /// Removes each entry that nobody holds and whose vectors `plv` covers, joins them into the floor, and answers how many.
     pub fn drop_covered(&mut self, plv: &Lv) -> usize
         ensures dropped { Dropped plv.now (shard_of self.old) (shard_of self.new) }
+        ensures wide { length (shard_of self.old).floor ≤ length (shard_of self.new).floor }
         ensures count { result ≡ length self.old.entries - length self.new.entries }
     {
         let plv = *plv;

@@ -1,4 +1,4 @@
-use Rattle.std.proofs.Common.{rules, ◌≡◌, sym, subst, not, filter}
+use Rattle.std.proofs.Common.{rules, ℕ, List, ◌≡◌, ◌≤◌, length, sym, subst, not, filter}
 use Rattle.indexmap.proofs.CallerLemmas.{filter-RetainsPairs}
 use Rattle.tau_base.specs.declared.value.Key.{Key}
 use Rattle.tau_machine.specs.Shard.{Dropped}
@@ -6,7 +6,7 @@ use Rattle.tau_shard.specs.declared.entry.LockEntry.{LockEntry}
 use Rattle.tau_shard.specs.Plain.{PlainShard}
 use Rattle.tau_shard.specs.Read.{shard_of}
 use Rattle.tau_shard.specs.Blocks.{covered, Placed}
-use Rattle.tau_shard.proofs.Drops.{after, dropped, placed-left}
+use Rattle.tau_shard.proofs.Drops.{after, dropped, placed-left, swept-wide}
 use Rattle.tau_shard.proofs.shard.Shard.drop_covered.Goals as goal
 
 pub invariant_of-self : goal.invariant_of-self
@@ -29,3 +29,9 @@ returns-clause-dropped c =
     (subst (λ (p : PlainShard). Dropped c.args.plv.now (shard_of p)
     (shard_of (after c.args.plv.now c.self.inside.floor c.self.inside.rows.entries c.self.inside.entries.entries c.len-before.ensures.unique))) c.self.view_is
     (dropped c.args.plv.now c.self.inside.floor c.self.inside.rows.entries c.self.inside.entries.entries c.len-before.ensures.unique))
+
+pub returns-clause-wide : goal.returns-clause-wide
+returns-clause-wide c =
+    let kept : length c.self.inside.floor ≤ length c.swept-floor.result =
+    subst (λ (f : List ℕ). length c.self.inside.floor ≤ length f) (sym c.swept-floor.ensures) (swept-wide c.args.plv.now c.self.inside.floor c.self.inside.entries.entries) in
+    subst (λ (p : PlainShard). length p.floor ≤ length c.swept-floor.result) c.self.view_is kept
