@@ -1,5 +1,5 @@
 -- What a worker's call does next, and what stands behind it in the core.
-use Rattle.std.proofs.Common.{ℕ, ◌≤◌, ◌≡◌, Bool, true, false, List, [], ◌∷◌, length, refl, sym, ap, subst, ◌∙◌, arith, inl, inr}
+use Rattle.std.proofs.Common.{ℕ, ◌≤◌, ◌≡◌, true, List, [], ◌∷◌, length, refl, sym, ap, subst, ◌∙◌, arith, inl, inr}
 use Rattle.std.specs.Prelude.{Option, Some, None}
 use Rattle.std.specs.Map.{lookup}
 use Rattle.std.specs.FinMap.Entries.{is_sorted}
@@ -32,12 +32,12 @@ use Rattle.tau_txn.specs.Hand.{PlainHand}
 use Rattle.tau_txn.specs.Read.{hand_of, phase_in, act_in, effect_of, effect_in}
 use Rattle.tau_txn.specs.Actions.{action_of}
 use Rattle.tau_txn.specs.Kept.{KeepsHand, is_leaving}
-use Rattle.tau_txn.specs.Next.{next_by, Means, Reads, FreesBy, Locks, Quits, Commits, Posts, Frees, Finishes, IsLeftOver, act_at}
+use Rattle.tau_txn.specs.Next.{next_by, Means, Reads, FreesBy, Locks, Quits, Commits, Posts, Frees, Finishes, act_at}
 use Rattle.tau_txn.specs.Progress.{IsRunBy, IsFinished, HasCommitted}
 use Rattle.tau_txn.specs.Record.{entry_of, spot_by, kept_joined, kept_reading, kept_by}
 use Rattle.tau_txn.specs.Steps.{locked_with, lock_in, lock_by, record_of}
 use Rattle.tau_txn.specs.Txn.{PlainTxn, shown, hand_in, joined_by, lv_by}
-use Rattle.tau_txn.proofs.Asked.{Asked, asked-at, LockAsked, QuitAsked, CommitAsked, ReadsOnly, FreesWith, FreeAsked, DoneAsked}
+use Rattle.tau_txn.proofs.Asked.{Asked, asked-at, LockAsked, QuitAsked, CommitAsked, FreesWith, FreeAsked, DoneAsked}
 use Rattle.tau_txn.proofs.Bridge.{Effected, effected, lock-is}
 use Rattle.tau_txn.proofs.Lowest.{FirstHeld, first-held}
 use Rattle.tau_txn.proofs.Nexts.{next-is, freeing-finished}

@@ -1,5 +1,5 @@
 -- What a worker keeps of its call in hand.
-use Rattle.std.specs.Prelude.{ℕ, ◌≤◌, ◌≡◌, Bool, true, false, Option, Some, None, List, [], length}
+use Rattle.std.specs.Prelude.{ℕ, ◌≤◌, ◌≡◌, Bool, true, false, Option, Some, None, [], length}
 use Rattle.std.specs.FinMap.{is_sorted}
 use Rattle.tau_base.specs.Database.{key_cmp}
 use Rattle.tau_base.specs.declared.limits.TheConstants.{MAX_TRIES}

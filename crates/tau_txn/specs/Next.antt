@@ -1,5 +1,5 @@
 -- What a worker's call does next, by the core's words, and by what its machine wants.
-use Rattle.std.specs.Prelude.{ℕ, ◌≡◌, ◌==◌, ◌⊎◌, ◌+◌, Bool, true, false, if◌then◌else◌, Option, Some, None, List, [], ◌∷◌, length}
+use Rattle.std.specs.Prelude.{ℕ, ◌≡◌, ◌==◌, ◌⊎◌, ◌+◌, Bool, true, false, if◌then◌else◌, Option, Some, None, List, [], length}
 use Rattle.std.specs.Map.{lookup}
 use Rattle.std.specs.Ordering.{is_le}
 use Rattle.tau_base.specs.declared.value.Key.{Key}
@@ -15,7 +15,7 @@ use Rattle.tau_proc.specs.declared.reply.Want.TheVariants as want
 use Rattle.tau_proc.specs.Progress.{buffered, next_want}
 use Rattle.tau_proc.specs.Effect.{Effect}
 use Rattle.tau_model.specs.History.{Act, updating}
-use Rattle.tau_machine.specs.Stage.{Stage, Wants, Ends, stage}
+use Rattle.tau_machine.specs.Stage.{Stage, Ends, stage}
 use Rattle.tau_machine.specs.Hands as theory
 use Rattle.tau_machine.specs.Hands.{Hand, lv_of, unplaced_at, mode_of}
 use Rattle.tau_machine.specs.Worker.{lock_of}

@@ -9,7 +9,6 @@ use Rattle.tau_base.specs.declared.value.LogMode.TheVariants.{Values, Commands}
 use Rattle.tau_record.specs.declared.entry.Entry.{Entry}
 use Rattle.tau_record.specs.declared.entry.Entry.TheVariants.{Written, Command}
 use Rattle.tau_proc.specs.declared.proc.Proc.{Proc}
-use Rattle.tau_proc.specs.declared.reply.Reply.{Reply}
 use Rattle.tau_proc.specs.declared.reply.Want.{Want}
 use Rattle.tau_proc.specs.declared.reply.Want.TheVariants as want
 use Rattle.tau_proc.specs.Progress.{buffered, next_want}

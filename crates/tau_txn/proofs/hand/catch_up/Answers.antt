@@ -1,9 +1,9 @@
-use Rattle.std.proofs.Common.{◌≡◌, List, ◌∷◌, sym, ◌∙◌, ap}
+use Rattle.std.proofs.Common.{◌≡◌, List, ◌∷◌, sym, ◌∙◌}
 use Rattle.std.specs.Prelude.{Some}
 use Rattle.std.specs.Map.{lookup}
 use Rattle.tau_base.specs.Database.{same_key}
 use Rattle.tau_proc.specs.declared.reply.Want.TheVariants.{Read}
-use Rattle.tau_proc.specs.Progress.{Progress, ahead, next_want}
+use Rattle.tau_proc.specs.Progress.{ahead, next_want}
 use Rattle.tau_base.specs.declared.value.Value.{Value}
 use Rattle.tau_txn.proofs.Follow.{follows-again, read-wants}
 use Rattle.tau_txn.proofs.hand.catch_up.Goals as goal

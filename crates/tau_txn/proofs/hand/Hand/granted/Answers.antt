@@ -4,13 +4,11 @@ use Rattle.tau_base.specs.declared.value.Key.{Key}
 use Rattle.tau_base.specs.declared.value.Mode.{Mode}
 use Rattle.tau_base.specs.declared.value.Mode.TheVariants as mode
 use Rattle.tau_proc.specs.declared.reply.Want.TheVariants.{Write}
-use Rattle.tau_proc.specs.Progress.{Progress, next_want}
-use Rattle.tau_txn.specs.contracts.hand.Hand.{the_view}
+use Rattle.tau_proc.specs.Progress.{next_want}
 use Rattle.tau_txn.specs.Hand.{PlainHand}
 use Rattle.tau_txn.specs.Read.{hand_of}
 use Rattle.tau_txn.specs.Steps.{lock_by, locked_with}
 use Rattle.tau_txn.proofs.Keeping.{locked-keeps}
-use Rattle.tau_txn.proofs.Asked.{asked}
 use Rattle.tau_txn.proofs.hand.Hand.granted.Goals as goal
 
 pub returns-in-Write-clause-locked : goal.returns-in-Write-clause-locked

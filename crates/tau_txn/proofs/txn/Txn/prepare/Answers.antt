@@ -1,7 +1,6 @@
 use Rattle.std.proofs.Common.{◌≡◌, ℕ, false, List, sym, ap, subst, ◌∙◌}
 use Rattle.std.specs.Prelude.{Option, Some, OnOk}
 use Rattle.tau_proc.specs.declared.proc.Proc.{Proc}
-use Rattle.tau_proc.specs.Progress.{next_want}
 use Rattle.tau_record.specs.Format.{One}
 use Rattle.tau_record.specs.Record.{base_of, Spells}
 use Rattle.tau_machine.specs.Hands as theory

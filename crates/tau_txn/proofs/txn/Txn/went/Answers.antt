@@ -1,4 +1,4 @@
-use Rattle.std.proofs.Common.{◌≡◌, true, false, length, List, refl, sym, ap, subst, ◌∙◌}
+use Rattle.std.proofs.Common.{◌≡◌, sym, ap, subst, ◌∙◌}
 use Rattle.std.specs.Prelude.{Option, Some, None}
 use Rattle.tau_base.specs.declared.value.Key.{Key}
 use Rattle.tau_base.specs.declared.value.Value.{Value}
@@ -7,7 +7,7 @@ use Rattle.tau_machine.specs.Hands as theory
 use Rattle.tau_machine.specs.Worker.{Worker, settled, hand_quit, hand_freed, hand_joined}
 use Rattle.tau_txn.specs.declared.action.Action.TheVariants as action
 use Rattle.tau_txn.specs.Hand.{PlainHand}
-use Rattle.tau_txn.specs.Kept.{KeepsHand, Keeps, keeps_in, kept}
+use Rattle.tau_txn.specs.Kept.{KeepsHand, keeps_in, kept}
 use Rattle.tau_txn.specs.Next.{next_action, FreesBy}
 use Rattle.tau_txn.specs.Txn.{PlainTxn, RunsBy, hand_in, worker_of, worker_in, shown, shown_of, leaves_in, has_joined}
 use Rattle.tau_txn.proofs.Txns.{quit-in, freed-in, never-rests}
