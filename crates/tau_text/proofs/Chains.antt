@@ -1,10 +1,9 @@
 -- Words and parts of a text, written one after the other.
-use Rattle.std.proofs.Common.{◌≡◌, ℕ, List, [], ◌∷◌, ◌++◌, map, refl, sym, ap, ◌∙◌, append_assoc}
-use Rattle.std.proofs.lemmas.List.{append-nil}
+use Rattle.std.proofs.Common.{◌≡◌, ℕ, List, [], ◌∷◌, ◌++◌, map, refl, ap, ◌∙◌, append_assoc}
 use Rattle.std.specs.List.{flat_map}
 use Rattle.tau_base.specs.declared.value.Value.{Value}
 use Rattle.tau_text.specs.declared.load.Turn.{Turn}
-use Rattle.tau_text.specs.Canonical.{behind, line_text, value_word, turn_word}
+use Rattle.tau_text.specs.Canonical.{behind, value_word, turn_word}
 
 pub one_word : (o w a : List ℕ) → ((o ++ w) ++ 32 ∷ a) ++ 10 ∷ [] ≡ o ++ (w ++ 32 ∷ (a ++ 10 ∷ []))
 one_word o w a = simp append_assoc

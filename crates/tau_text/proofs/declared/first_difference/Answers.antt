@@ -1,4 +1,4 @@
-use Rattle.std.proofs.Common.{◌≡◌, ◌<◌, ◌+◌, true, false, length, bytes_eq, sym, ◌∙◌, arith}
+use Rattle.std.proofs.Common.{◌≡◌, ◌<◌, true, false, length, bytes_eq, sym, ◌∙◌, arith}
 use Rattle.std.proofs.lemmas.Grind.{common_steps}
 use Rattle.tau_text.proofs.Differences.{same_line, other_line, left_only, right_only, both_done}
 use Rattle.tau_text.proofs.declared.first_difference.Goals as goal

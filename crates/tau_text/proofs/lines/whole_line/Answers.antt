@@ -1,6 +1,5 @@
-use Rattle.std.proofs.Common.{◌≡◌, ◌<◌, ◌+◌, ◌∷◌, [], length, take, drop, refl, arith}
+use Rattle.std.proofs.Common.{◌<◌, ◌+◌, length, refl, arith}
 use Rattle.std.proofs.lemmas.List.{take_rest}
-use Rattle.tau_text.specs.Lines.{lines}
 use Rattle.tau_text.proofs.Cuts.{place, lines_cut, lines_whole, lines_nil}
 use Rattle.tau_text.proofs.lines.whole_line.Goals as goal
 
