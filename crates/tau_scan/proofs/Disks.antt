@@ -8,6 +8,21 @@ use Rattle.tau_disk.specs.Disk.{Elapses}
 use Rattle.tau_disk.specs.Used.{Each}
 use Rattle.tau_scan.specs.Outside.{IsRead}
 
+pub get_set_same : {D : Type 0} (xs : List D) (i : ℕ) (v : D) → i < length xs → slice_get (set xs i v) i ≡ Some v
+get_set_same [] i v lt = absurd (omega (arith, lt))
+get_set_same (x ∷ xs) zero v lt = refl
+get_set_same (x ∷ xs) (suc i) v lt = get_set_same xs i v (omega (arith, lt))
+
+pub get_set_other : {D : Type 0} (xs : List D) (i k : ℕ) (v : D) → k ≢ i → slice_get (set xs i v) k ≡ slice_get xs k
+get_set_other [] i k v other = refl
+get_set_other (x ∷ xs) zero zero v other = absurd (other refl)
+get_set_other (x ∷ xs) zero (suc k) v other = refl
+get_set_other (x ∷ xs) (suc i) zero v other = refl
+get_set_other (x ∷ xs) (suc i) (suc k) v other = get_set_other xs i k v (λ e. other (ap (λ (n : ℕ). suc n) e))
+
+pub same_some : {D : Type 0} (d e : D) → Some d ≡ Some e → d ≡ e
+same_some d e is = cc
+
 module _ {D : Type 0} (tells : Type 0) (seen : D → List ℕ) (may_leave : D → List ℕ → Type 0) (moment : D → ℕ) (since : D → ℕ → List ℕ → Type 0) (faults : D → ℕ) where
   -- one call that read
   pub called : (d e : D) → (tells → seen e ≡ seen d) → ((x : List ℕ) → may_leave e x → may_leave d x) → ((x : List ℕ) → may_leave d x → may_leave e x) →
@@ -60,21 +75,6 @@ module _ {D : Type 0} (tells : Type 0) (seen : D → List ℕ) (may_leave : D �
     pub given : tells → images ≡ map seen (take n old)
     pub count : length images ≡ n
     pub many : length new ≡ length old
-
-  get_set_same : (xs : List D) (i : ℕ) (v : D) → i < length xs → slice_get (set xs i v) i ≡ Some v
-  get_set_same [] i v lt = absurd (omega (arith, lt))
-  get_set_same (x ∷ xs) zero v lt = refl
-  get_set_same (x ∷ xs) (suc i) v lt = get_set_same xs i v (omega (arith, lt))
-
-  get_set_other : (xs : List D) (i k : ℕ) (v : D) → k ≢ i → slice_get (set xs i v) k ≡ slice_get xs k
-  get_set_other [] i k v other = refl
-  get_set_other (x ∷ xs) zero zero v other = absurd (other refl)
-  get_set_other (x ∷ xs) zero (suc k) v other = refl
-  get_set_other (x ∷ xs) (suc i) zero v other = refl
-  get_set_other (x ∷ xs) (suc i) (suc k) v other = get_set_other xs i k v (λ e. other (ap (λ (n : ℕ). suc n) e))
-
-  same_some : (d e : D) → Some d ≡ Some e → d ≡ e
-  same_some d e is = cc
 
   taken_more : (old : List D) (n : ℕ) (d : D) → slice_get old n ≡ Some d → map seen (take (n + 1) old) ≡ map seen (take n old) ++ seen d ∷ []
   taken_more [] n d here = absurd cc

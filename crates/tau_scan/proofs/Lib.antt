@@ -2,3 +2,4 @@ pub mod Disks
 pub mod Streams
 pub mod Bad
 pub mod Listed
+pub mod Plans

@@ -1,8 +1,8 @@
 //! Reading disks.
-ghost use Rattle.std.specs.Prelude.{◌≡◌, ◌≤◌, ℕ, List, length, map, IfOk, OnErr, Err};
+ghost use Rattle.std.specs.Prelude.{◌≡◌, ◌≤◌, ℕ, List, length, map, IfOk, OnOk, OnErr, Err};
 ghost use Rattle.tau_base.specs.declared.limits.TheConstants.{MAX_STREAMS};
 ghost use Rattle.tau_disk.specs.Disk.{Rose};
-ghost use Rattle.tau_disk.specs.Used.{Each, RoseAt};
+ghost use Rattle.tau_disk.specs.Used.{Each, RoseAt, GoesOn, IsStopped, IsFirstStopped};
 ghost use Rattle.tau_scan.specs.Outside.{IsRead};
 
 use crate::fault::ReadRefusal;
@@ -15,6 +15,8 @@ fn read_image<D: Disk>(alloc: Global, disk: &mut D, stream: u8) -> Result<Vec<u8
     ensures bytes { IfOk result (λ image. D.tells → image.items ≡ D.seen disk.old) }
     ensures failed { (j : ℕ) → result ≡ Err (ReadRefusal.Failed j) → (j ≡ stream) × Rose (D.faults disk.old) (D.faults disk.new) }
     ensures only_read { IsRead D.tells D.seen D.may_leave D.moment D.may_leave_since D.faults disk.old disk.new }
+    ensures went { OnOk result (D.tells → GoesOn D.number D.fails disk.old disk.new) }
+    ensures stopped { (j : ℕ) → result ≡ Err (ReadRefusal.Failed j) → IsStopped D.tells D.number D.fails D.short disk.old disk.new }
 {
     let length = match disk.len() {
         Ok(length) => length,
@@ -50,6 +52,8 @@ pub fn read_images<D: Disk>(
     ensures bytes { IfOk result (λ images. D.tells → images ≡ map D.seen disks.old) }
     ensures failed { (j : ℕ) → result ≡ Err (ReadRefusal.Failed j) → RoseAt D.faults disks.old disks.new j }
     ensures only_read { Each (IsRead D.tells D.seen D.may_leave D.moment D.may_leave_since D.faults) disks.old disks.new }
+    ensures went { OnOk result (Each (λ d e. D.tells → GoesOn D.number D.fails d e) disks.old disks.new) }
+    ensures stopped { (j : ℕ) → result ≡ Err (ReadRefusal.Failed j) → D.tells → IsFirstStopped D.tells D.number D.fails D.short disks.old disks.new j }
 {
     let mut images = Listed::new(alloc);
     for j in 0..disks.len() {

@@ -1,11 +1,11 @@
 //! Reading the log of all streams.
-ghost use Rattle.std.specs.Prelude.{◌≡◌, ◌≤◌, ℕ, length, Err, IfOk, IfErr};
+ghost use Rattle.std.specs.Prelude.{◌≡◌, ◌≤◌, ℕ, length, Err, IfOk, IfErr, OnOk};
 ghost use Rattle.std.specs.List.{All, AllZip};
 ghost use Rattle.tau_base.specs.declared.limits.TheConstants.{MAX_STREAMS};
 ghost use Rattle.tau_record.specs.Format.{One, most_streams};
 ghost use Rattle.tau_scan.specs.Reading.{catalogue_of, declared_by, recorded, records_of, streams_of, declared_in, log_of, HasRead, IsReading, IsLog};
 ghost use Rattle.tau_scan.specs.Found.{Found, IsShort};
-ghost use Rattle.tau_disk.specs.Used.{Each, RoseAt};
+ghost use Rattle.tau_disk.specs.Used.{Each, RoseAt, GoesOn, IsFirstStopped};
 ghost use Rattle.tau_scan.specs.Outside.{IsRead};
 
 use crate::catalogue::one_catalogue;
@@ -120,6 +120,9 @@ pub fn scan<D: Disk>(alloc: Global, disks: &mut [D]) -> Result<Log, ScanRefusal>
     ensures failed { (j : ℕ) → result ≡ Err (ScanRefusal.Failed j) → RoseAt D.faults disks.old disks.new j }
     // The disks were at most read.
     ensures only_read { Each (IsRead D.tells D.seen D.may_leave D.moment D.may_leave_since D.faults) disks.old disks.new }
+    // No call was one that is to fail, where a log was read; a disk that failed did so by its first such call, and none below it had one.
+    ensures went { OnOk result (Each (λ d e. D.tells → GoesOn D.number D.fails d e) disks.old disks.new) }
+    ensures stopped { (j : ℕ) → result ≡ Err (ScanRefusal.Failed j) → D.tells → IsFirstStopped D.tells D.number D.fails D.short disks.old disks.new j }
 {
     let images = match read_images(alloc, disks) {
         Ok(images) => images,
