@@ -9,7 +9,7 @@ use Rattle.tau_disk.specs.Used.{Each, EachUsed, OfDisk, GoesOn, IsClean, IsStopp
 use Rattle.tau_scan.proofs.Disks.{get_set_same, get_set_other, same_some}
 
 up_to : (n k : ℕ) → (k ≤ n) ⊎ (n < k)
-up_to n k = elim (leb_tells k n) [ | inl le ↦ inl le.1 | inr gt ↦ inr gt.1 ]
+up_to n k = elim (leb_tells k n) [ inl le ↦ inl le.1 | inr gt ↦ inr gt.1 ]
 
 module _ {D : Type 0} (number : D → ℕ) (fails : D → ℕ → Bool) where
   pub goes_here : (d : D) → GoesOn number fails d d

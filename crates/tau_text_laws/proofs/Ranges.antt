@@ -55,7 +55,7 @@ low_by c limit e = grind (arith, common_steps)
 character : (c : ℕ) → scalar c ≡ true → AllBytes (encode_utf8 c)
 unfolding encode_utf8
 character c e =
-    let top : c < 1114112 = elim (scalar_cases c e) [ | inl low ↦ omega (arith, low) | inr high ↦ high.1 ] in
+    let top : c < 1114112 = elim (scalar_cases c e) [ inl low ↦ omega (arith, low) | inr high ↦ high.1 ] in
     encoded (nat_lt c 128) (nat_lt c 2048) (nat_lt c 65536) c top (low_by c 128) (low_by c 2048) (low_by c 65536)
 
 characters : (cs : List ℕ) → scalars cs ≡ true → AllBytes (encode_utf8_all cs)
