@@ -1,0 +1,77 @@
+-- The bytes that are handed out of a stream.
+use Rattle.std.proofs.Common.{ℕ, zero, suc, ◌+◌, ◌<◌, ◌≤◌, ◌≡◌, ◌⊎◌, inl, inr, List, [], ◌∷◌, ◌++◌, length, refl, sym, ap, subst, ◌∙◌, append_assoc, arith, length-append}
+use Rattle.std.specs.Prelude.{Some, slice_get, slice_index, replicate}
+use Rattle.tau_model.specs.History.{Act}
+use Rattle.tau_machine.specs.Hands.{Txn}
+use Rattle.tau_machine.specs.State.{Item, Record, Anchor, past_of}
+use Rattle.tau_machine.specs.Pieces.{Chain}
+use Rattle.tau_record.specs.Format.{One}
+use Rattle.tau_record.specs.Record.{base_of}
+use Rattle.tau_record.specs.declared.entry.Entry.TheVariants as entry
+use Rattle.tau_record.proofs.ContentLaws.{spelling_long}
+use Rattle.tau_txn.specs.Record.{entry_of}
+use Rattle.tau_core.specs.declared.state.Load.{Load}
+use Rattle.tau_core.specs.Plain.{PlainStream}
+use Rattle.tau_core.specs.State.{Plain}
+use Rattle.tau_core.specs.View.{Hidden}
+use Rattle.tau_core.specs.Stands.{Stands, anchors_at}
+use Rattle.tau_core.specs.Pieces.{AreBytesOf, Spelled}
+
+copies : (m k : ℕ) (base : List ℕ) → k < m → base_of (replicate m base) k ≡ base
+copies zero k base lt = absurd (omega arith)
+copies (suc m) zero base lt = refl
+copies (suc m) (suc k) base lt = copies m k base (omega arith)
+
+module _ (l : Load) (anchors : ℕ → List (List ℕ)) where
+  -- a record has at least five bytes
+  five : (i : Item) (bytes : List ℕ) → AreBytesOf l anchors i bytes → 5 ≤ length bytes
+  five (Record t) bytes q =
+      let vectors : List (List ℕ) = replicate (suc t.call.anchor) q.base in
+      let s = q.spelled vectors (copies (suc t.call.anchor) t.call.anchor q.base (omega arith)) in
+      subst (λ (b : List ℕ). 5 ≤ length b) (sym s.text) (spelling_long One vectors (entry_of l.mode t))
+  five (Anchor start past v) bytes q =
+      let s = q [] in
+      subst (λ (b : List ℕ). 5 ≤ length b) (sym s.text) (spelling_long One [] (entry.Anchor v))
+
+  -- the bytes of a chain of items are as long as it is
+  pub spelled-long : (from to : ℕ) (items : List Item) (bytes : List ℕ) → Chain from items to → Spelled l anchors items bytes → from + length bytes ≡ to
+  spelled-long from to [] bytes c s = (let e = ap (length {A = ℕ}) s in let f : from ≡ to = c in omega arith)
+  spelled-long from to (i ∷ is) bytes c s =
+      let (first, rest, whole, size, mine, more) = s in
+      let up = spelled-long (past_of i) to is rest c.2 more in
+      let start = c.0 in
+      let sum : length bytes ≡ length first + length rest = ap (length {A = ℕ}) whole ∙ length-append first rest in
+      omega arith
+
+  -- what stands behind whole records has none or a record
+  pub behind-whole : (is js : List Item) (b c : List ℕ) → Spelled l anchors is b → Spelled l anchors (is ++ js) (b ++ c) → (c ≡ []) ⊎ (5 ≤ length c)
+  behind-whole [] [] b c p q = inl (subst (λ (x : List ℕ). x ++ c ≡ []) p q)
+  behind-whole [] (k ∷ ks) b c p q =
+      let (first, rest, whole, size, mine, more) = q in
+      let is : c ≡ first ++ rest = ap (λ (x : List ℕ). x ++ c) (sym p) ∙ whole in
+      inr (let low = five k first mine in let e = ap (length {A = ℕ}) is ∙ length-append first rest in omega arith)
+  behind-whole (i ∷ is) js b c p q =
+      let (first, rest, whole, size, mine, more) = p in
+      let (first', rest', whole', size', mine', more') = q in
+      let same : first ++ (rest ++ c) ≡ first' ++ rest' = sym (append_assoc first rest c) ∙ ap (λ (x : List ℕ). x ++ c) (sym whole) ∙ whole' in
+      let long : length first ≡ length first' = omega arith in
+      let parts = split first first' (rest ++ c) rest' long same in
+      behind-whole is js rest c more (subst (λ (x : List ℕ). Spelled l anchors (is ++ js) x) (sym parts) more')
+    where
+      split : (a b x y : List ℕ) → length a ≡ length b → a ++ x ≡ b ++ y → x ≡ y
+      split [] [] x y e f = f
+      split [] (k ∷ ks) x y e f = absurd (omega arith)
+      split (k ∷ ks) [] x y e f = absurd (omega arith)
+      split (k ∷ ks) (j ∷ js) x y e f = split ks js x y (omega arith) (ap tail f)
+        where
+          tail : List ℕ → List ℕ
+          tail [] = []
+          tail (z ∷ zs) = zs
+
+module _ (p : Plain) (K : List (Act Txn)) (h : Hidden) (g : Stands p K h) (j : ℕ) (there : j < p.load.streams) where
+  -- what was handed out and what is here reach to where the stream is gathered
+  pub body-long : (s : PlainStream) → slice_get p.streams j ≡ Some s → slice_index p.load.opening.ends j + (length (h.taken j) + length s.body) ≡ slice_index p.gathered j
+  body-long s is =
+      let o = g.inv.agrees.pieces.stream j there in
+      ap (λ (n : ℕ). slice_index p.load.opening.ends j + n) (sym (length-append (h.taken j) s.body))
+      ∙ spelled-long p.load (anchors_at p) (slice_index p.load.opening.ends j) (slice_index p.gathered j) (h.moved j) (h.taken j ++ s.body) o.moved (g.gathered j s is)

@@ -1,0 +1,200 @@
+-- The turn of a manager, with all writers.
+use Rattle.std.proofs.Common.{ℕ, ◌<◌, ◌≤◌, ◌≡◌, ◌⊎◌, inl, inr, Bool, true, false, List, ◌++◌, length, refl, sym, ap, subst, ◌∙◌, arith, length-append, length-set}
+use Rattle.std.specs.Prelude.{Some, None, slice_get, slice_set, is_ok, Result, Ok, Err}
+use Rattle.std.proofs.lemmas.Bool.{cases_Bool, cases_eq}
+use Rattle.std.proofs.lemmas.Option.{slice_get_within}
+use Rattle.tau_base.specs.declared.value.NoMemory.{NoMemory}
+use Rattle.tau_block.specs.Image.{HasContent}
+use Rattle.tau_disk.specs.Disk.{Passes, Rose}
+use Rattle.tau_disk.specs.Used.{GoesOn}
+use Rattle.tau_disk.specs.declared.disk.Disk.{Ghosts}
+use Rattle.tau_disk.specs.Passing.{passes_none}
+use Rattle.tau_stream.specs.declared.writer.Writer.{Writer}
+use Rattle.tau_stream.specs.Writer.{disk_of, has_failed}
+use Rattle.tau_model.specs.History.{Act}
+use Rattle.tau_machine.specs.Hands.{Txn}
+use Rattle.tau_machine.specs.State.{Core}
+use Rattle.tau_machine.specs.Events as machine
+use Rattle.tau_core.specs.declared.state.Load.{Load}
+use Rattle.tau_core.specs.State.{Plain}
+use Rattle.tau_core.specs.View.{Hidden, setting_of, core_of}
+use Rattle.tau_core.specs.Stands.{Stands}
+use Rattle.tau_core.proofs.Lists.{got-same, got-other}
+use Rattle.tau_run.specs.Left.{HasFront, IsLeft}
+use Rattle.tau_run.specs.Turns.{Progress}
+use Rattle.tau_step.specs.declared.manager.Managing.{Managing}
+use Rattle.tau_step.specs.declared.manager.Managing.TheVariants as did
+use Rattle.tau_step.specs.Along.{IsLeaving, Since, AreKept, Went}
+use Rattle.tau_step.specs.Keeping.{IsKept, ManagerTurns, ManagerStops, ManagerTurned}
+use Rattle.tau_step.specs.Progressed.{progress}
+use Rattle.tau_step.specs.Rounding.{managed_by}
+use Rattle.tau_step.proofs.Calls.{calls-none}
+use Rattle.tau_step.proofs.Going.{since-none}
+use Rattle.tau_step.proofs.Idling.{idle-idled, failed-idled, flushed-on, part-stop}
+use Rattle.tau_step.proofs.Kept.{kept-same, kept-leaving, leaving-same}
+use Rattle.tau_step.proofs.Turning.{managed-grows, managed-same}
+
+false-true : (b : Bool) → b ≡ false → b ≡ true → ⊥
+false-true b e f = let bad : false ≡ true = sym e ∙ f in cc
+
+some-is : {A : Type 0} (a b : A) → Some a ≡ Some b → a ≡ b
+some-is a b e = cc e
+
+module _ {D : Type 0} {G : Ghosts D} (seen_now : (d : D) → G.tells → G.may_leave d (G.seen d)) (bases : ℕ → List ℕ) (ws ws' : List (Writer D G)) (j : ℕ) (w w' : Writer D G) (is : slice_get ws j ≡ Some w) (is' : ws' ≡ slice_set ws j w')
+    (p p' : Plain) (told : List (ℕ × List ℕ)) (K : List (Act Txn)) (h : Hidden) (es : List machine.Event) (g : Stands p K h) (k : AreKept bases ws p h) (there : j < p.load.streams) where
+  within : j < length ws
+  within = slice_get_within ws j w is
+
+  got-here : slice_get ws' j ≡ Some w'
+  got-here = ap (λ (xs : List (Writer D G)). slice_get xs j) is' ∙ got-same ws j w' within
+
+  got-there : (i : ℕ) → (i ≡ j → ⊥) → slice_get ws' i ≡ slice_get ws i
+  got-there i ne = ap (λ (xs : List (Writer D G)). slice_get xs i) is' ∙ got-other ws j i w' ne
+
+  many : length ws' ≡ length ws
+  many = ap (length {A = Writer D G}) is' ∙ length-set ws j w'
+
+  -- of each writer, by the one that acts and the others
+  module _ (hidden : Hidden) (P : (i : ℕ) → Writer D G → Type 0) (here : P j w') (others : (i : ℕ) → (i ≡ j → ⊥) → (v : Writer D G) → slice_get ws i ≡ Some v → P i v) where
+    each-now : (i : ℕ) (v : Writer D G) → slice_get ws' i ≡ Some v → P i v
+    each-now i v e = elim (cases_eq i j) [
+      | inl same ↦
+          (let at : slice_get ws' j ≡ Some v = subst (λ (k : ℕ). slice_get ws' k ≡ Some v) same e in
+          let value : w' ≡ v = some-is w' v (sym got-here ∙ at) in
+          subst (λ (k : ℕ). P k v) (sym same) (subst (P j) value here))
+      | inr ne ↦ others i ne v (sym (got-there i ne) ∙ e)
+    ]
+
+  since-now : (l : Load) (s : Core) → Since j (bases j) l s w w' → (i : ℕ) (v : Writer D G) → slice_get ws i ≡ Some v → (v' : Writer D G) × (slice_get ws' i ≡ Some v') × Since i (bases i) l s v v'
+  since-now l s here i v e = elim (cases_eq i j) [
+    | inl same ↦
+        (let at : slice_get ws j ≡ Some v = subst (λ (k : ℕ). slice_get ws k ≡ Some v) same e in
+        let value : w ≡ v = some-is w v (sym is ∙ at) in
+        subst (λ (k : ℕ). (v' : Writer D G) × (slice_get ws' k ≡ Some v') × Since k (bases k) l s v v') (sym same) (w', got-here, subst (λ (x : Writer D G). Since j (bases j) l s x w') value here))
+    | inr ne ↦ (v, got-there i ne ∙ e, since-none i (bases i) l s v)
+  ]
+
+  kept-now : IsKept j (bases j) w p h
+  kept-now = k.each j w is
+
+  module _ (a : Managing) (t : ManagerTurns j (bases j) w w' p p' told K h es a) where
+    abbrev P : Progress
+    P = progress p h es K told
+
+    abbrev P' : Progress
+    P' = progress p' t.hidden t.events t.order told
+
+    was : ((P.state.streams j).stop ≡ None) ⊎ ((x : ℕ) × ((P.state.streams j).stop ≡ Some x))
+    was = let l = kept-leaving seen_now j (bases j) w p h kept-now in elim (cases_Bool (has_failed w)) [
+      | inl fails ↦ inr (l.stopped fails)
+      | inr works ↦ inl (l.going works)
+    ]
+
+    now : IsLeaving j (bases j) w' p' t.hidden
+    now = kept-leaving seen_now j (bases j) w' p' t.hidden t.kept
+
+    long : j < length p.plv
+    long = let e = g.sound.plv in omega (arith, e, there)
+
+    works-first : (P.state.streams j).stop ≡ None → has_failed w ≡ false
+    works-first none = elim (cases_Bool (has_failed w)) [
+      | inl fails ↦ (let (x, e) = (kept-leaving seen_now j (bases j) w p h kept-now).stopped fails in absurd (let bad : None ≡ Some x = sym none ∙ e in cc))
+      | inr works ↦ works
+    ]
+
+    by-answer : (b : Managing) → a ≡ b → managed_by j (Ok b) true p.load P P'
+    by-answer did.Idle e =
+        let i = t.idle e in
+        (t.moved, idle-idled (setting_of p.load) p.load.workers p.load.streams j there P P' was (λ none. now.going (i.0 ∙ works-first none)) i.1 long t.moved)
+    by-answer did.Failed e =
+        let f = t.failed e in
+        let (x, stop) = now.stopped f.1 in
+        (t.moved, failed-idled (setting_of p.load) p.load.workers p.load.streams j there P P' x ((kept-leaving seen_now j (bases j) w p h kept-now).going f.0) stop t.moved)
+    by-answer did.Flushed e =
+        let f = t.flushed e in
+        (t.moved, flushed-on (setting_of p.load) p.load.workers p.load.streams j there P P' ((kept-leaving seen_now j (bases j) w p h kept-now).going f.0) f.2 t.moved)
+
+    turns-went : Went bases (managed_by j (Ok a)) true p p' ws ws' told told K h es
+    turns-went =
+        let grown = managed-grows (setting_of p.load) p.load.workers p.load.streams P P' j true t.moved in
+        record {
+          hidden = t.hidden;
+          order = t.order;
+          events = t.events;
+          stands = t.stands;
+          load = t.load;
+          moved = by-answer a refl;
+          grown = grown;
+          count = many;
+          kept = each-now t.hidden (λ i v. IsKept i (bases i) v p' t.hidden) t.kept
+              (λ i ne v e. kept-same seen_now i (bases i) v p p' h t.hidden t.load grown (managed-same (setting_of p.load) p.load.workers p.load.streams P P' i j ne true t.moved) (t.taken i ne) (k.each i v e));
+          since = since-now p.load (core_of p' t.hidden) (record {
+            before = t.passes;
+            faults = t.faults;
+            goes = t.goes;
+            stops = λ works fails. (rises works fails, t.stops works fails);
+            still = t.still;
+          });
+        }
+      where
+        rises : has_failed w ≡ false → has_failed w' ≡ true → Rose (G.faults (disk_of w)) (G.faults (disk_of w'))
+        rises works fails = by a refl
+          where
+            by : (b : Managing) → a ≡ b → Rose (G.faults (disk_of w)) (G.faults (disk_of w'))
+            by did.Idle e = absurd (false-true (has_failed w') ((t.idle e).0 ∙ works) fails)
+            by did.Failed e = (t.failed e).2
+            by did.Flushed e = absurd (false-true (has_failed w') (t.flushed e).1 fails)
+
+  module _ (x : NoMemory) (t : ManagerStops j (bases j) w w' p p' told K h es) where
+    abbrev Q : Progress
+    Q = progress p h es K told
+
+    abbrev Q' : Progress
+    Q' = progress p' t.hidden t.events t.order told
+
+    same-disk : disk_of w ≡ disk_of w'
+    same-disk = sym t.disk
+
+    stays-working : has_failed w' ≡ false
+    stays-working = t.works ∙ t.worked
+
+    leaves : IsLeaving j (bases j) w' p' t.hidden
+    leaves = record {
+      present = λ tells y left.
+          (let (bytes, front, size) = t.present t.worked tells y (subst (λ (d : D). G.may_leave d y) t.disk left) in
+          (bytes, subst (λ (l : Load). HasFront l.streams j (bases j) l (core_of p' t.hidden) bytes y) (sym t.load) front, omega (arith, size)));
+      reached = λ tells.
+          (let now = seen_now (disk_of w') tells in
+          let (bytes, front, size) = t.present t.worked tells (G.seen (disk_of w')) (subst (λ (d : D). G.may_leave d (G.seen (disk_of w'))) t.disk now) in
+          (G.seen (disk_of w'), bases j ++ bytes, now, subst (λ (l : Load). HasContent l.streams j (bases j ++ bytes) (G.seen (disk_of w'))) (sym t.load) front.has, length-append (bases j) bytes ∙ sym size));
+      going = λ works. part-stop (setting_of p.load) p.load.workers p.load.streams j there Q Q' t.moved ∙ (kept-leaving seen_now j (bases j) w p h kept-now).going t.worked;
+      stopped = λ fails. absurd (false-true (has_failed w') stays-working fails);
+    }
+
+    stops-went : Went bases (managed_by j (Err x)) false p p' ws ws' told told K h es
+    stops-went =
+        let grown = managed-grows (setting_of p.load) p.load.workers p.load.streams Q Q' j false t.moved in
+        record {
+          hidden = t.hidden;
+          order = t.order;
+          events = t.events;
+          stands = t.stands;
+          load = t.load;
+          moved = t.moved;
+          grown = grown;
+          count = many;
+          kept = each-now t.hidden (λ i v. IsLeaving i (bases i) v p' t.hidden) leaves
+              (λ i ne v e. leaving-same seen_now i (bases i) v p p' h t.hidden t.load grown (managed-same (setting_of p.load) p.load.workers p.load.streams Q Q' i j ne false t.moved) (kept-leaving seen_now i (bases i) v p h (k.each i v e)));
+          since = since-now p.load (core_of p' t.hidden) (record {
+            before = λ tells. subst (λ (d : D). Passes G.moment G.may_leave_since (disk_of w) d (IsLeft p.load.streams j (bases j) p.load (core_of p' t.hidden))) same-disk
+                (passes_none G.moment G.may_leave_since (disk_of w) (IsLeft p.load.streams j (bases j) p.load (core_of p' t.hidden)));
+            faults = subst (λ (d : D). G.faults (disk_of w) ≤ G.faults d) same-disk (omega arith);
+            goes = λ works tells. subst (λ (d : D). GoesOn G.number G.fails (disk_of w) d) same-disk (calls-none G.tells G.number G.fails G.short (disk_of w));
+            stops = λ works fails. absurd (false-true (has_failed w') stays-working fails);
+            still = λ fails. absurd (false-true (has_failed w) t.worked fails);
+          });
+        }
+
+  pub manager-went : (r : Result Managing NoMemory) → ManagerTurned j (bases j) w w' p p' told K h es r → (whole : Bool) → whole ≡ is_ok r → Went bases (managed_by j r) whole p p' ws ws' told told K h es
+  manager-went (Ok a) t whole e = subst (λ (b : Bool). Went bases (managed_by j (Ok a)) b p p' ws ws' told told K h es) (sym e) (turns-went a t)
+  manager-went (Err x) t whole e = subst (λ (b : Bool). Went bases (managed_by j (Err x)) b p p' ws ws' told told K h es) (sym e) (stops-went x t)

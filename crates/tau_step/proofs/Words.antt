@@ -1,0 +1,49 @@
+-- Turn words.
+use Rattle.std.proofs.Common.{ℕ, suc, ◌+◌, ◌<◌, ◌≡◌, Bool, true, false, List, [], ◌∷◌, ◌++◌, length, take, drop, sym, ap, subst, ◌∙◌, get_or, take-append-drop, drop-cons}
+use Rattle.std.proofs.Math.Seq.{take-add}
+use Rattle.tau_disk.specs.declared.disk.Disk.{Ghosts}
+use Rattle.tau_stream.specs.declared.writer.Writer.{Writer}
+use Rattle.tau_text.specs.declared.load.Turn.{Turn}
+use Rattle.tau_text.specs.declared.load.Turn.TheVariants as turn
+use Rattle.tau_core.specs.declared.state.Load.{Load}
+use Rattle.tau_core.specs.View.{setting_of}
+use Rattle.tau_run.specs.Turns.{Progress, Turned, TurnedAll}
+use Rattle.tau_step.specs.declared.run.Run.{Run}
+use Rattle.tau_step.specs.Along.{Quiet}
+use Rattle.tau_step.specs.Moving.{IsOn, Works, Manages, Moves}
+use Rattle.tau_step.specs.Rounding.{clerked, turned, turned_all}
+use Rattle.tau_step.proofs.Moved.{works-manages, manages-moves, moves-on, moves-as}
+use Rattle.tau_step.proofs.OneByOne.{one-more, one-cut}
+
+next-taken : {A : Type 0} (xs : List A) (i : ℕ) (x d : A) → i < length xs → x ≡ get_or xs i d → take (i + 1) xs ≡ take i xs ++ x ∷ []
+next-taken {A} xs i x d lt is =
+    take-add i 1 xs ∙ ap (λ (ys : List A). take i xs ++ take 1 ys) (drop-cons xs i d lt ∙ ap (λ (y : A). y ∷ drop (suc i) xs) (sym is))
+
+next-split : {A : Type 0} (xs : List A) (i : ℕ) (x d : A) → i < length xs → x ≡ get_or xs i d → xs ≡ take i xs ++ x ∷ drop (suc i) xs
+next-split {A} xs i x d lt is = sym (take-append-drop i xs) ∙ ap (λ (ys : List A). take i xs ++ ys) (drop-cons xs i d lt ∙ ap (λ (y : A). y ∷ drop (suc i) xs) (sym is))
+
+module _ {D : Type 0} {G : Ghosts D} (seen_now : (d : D) → G.tells → G.may_leave d (G.seen d)) (hears : Type 0) where
+  -- a turn word of workers alone, or of a manager
+  pub word-moves : (t t' : Turn) (whole : Bool) (old new : Run) (ws : List (Writer D G)) (held : List ℕ) (faults : ℕ) → t ≡ t' → IsOn ws old → ((l : Load) (P P' : Progress) → turned t' whole l P P' → Quiet P.state P'.state) →
+      Works (turned t') whole old new → Moves (turned t) whole old new ws ws hears held held faults faults
+  word-moves t t' whole old new ws held faults e on quiet x = subst (λ (u : Turn). Moves (turned u) whole old new ws ws hears held held faults faults) (sym e)
+      (manages-moves seen_now hears (turned t') whole old new ws ws held faults (works-manages seen_now (turned t') whole old new ws on quiet x))
+
+  pub manager-moves : (t t' : Turn) (whole : Bool) (old new : Run) (ws ws' : List (Writer D G)) (held : List ℕ) (faults : ℕ) → t ≡ t' → Manages (turned t') whole old new ws ws' → Moves (turned t) whole old new ws ws' hears held held faults faults
+  manager-moves t t' whole old new ws ws' held faults e x = subst (λ (u : Turn). Moves (turned u) whole old new ws ws' hears held held faults faults) (sym e) (manages-moves seen_now hears (turned t') whole old new ws ws' held faults x)
+
+  pub clerk-word : (t : Turn) (whole : Bool) (old new : Run) (ws : List (Writer D G)) (held held' : List ℕ) (faults faults' : ℕ) → t ≡ turn.Clerk → Moves clerked whole old new ws ws hears held held' faults faults' → Moves (turned t) whole old new ws ws hears held held' faults faults'
+  clerk-word t whole old new ws held held' faults faults' e x = subst (λ (u : Turn). Moves (turned u) whole old new ws ws hears held held' faults faults') (sym e)
+      (moves-as seen_now hears clerked (turned turn.Clerk) whole old new ws ws held held' faults faults' (λ l P P' q. q) x)
+
+  module _ (turns : List Turn) (i : ℕ) (t d : Turn) (lt : i < length turns) (is : t ≡ get_or turns i d) (old mid new : Run) (ws ms ws' : List (Writer D G)) (held held' held'' : List ℕ) (faults faults' faults'' : ℕ)
+      (x : Moves (turned_all (take i turns)) true old mid ws ms hears held held' faults faults') where
+    pub words-more : Moves (turned t) true mid new ms ws' hears held' held'' faults' faults'' → Moves (turned_all (take (i + 1) turns)) true old new ws ws' hears held held'' faults faults''
+    words-more y = moves-on seen_now hears (turned_all (take i turns)) (turned t) (turned_all (take (i + 1) turns)) true old mid new ws ms ws' held held' held'' faults faults' faults''
+        (λ l P Q P' p q. subst (λ (ts : List Turn). TurnedAll (setting_of l) l.workers l.streams true ts P P') (sym (next-taken turns i t d lt is))
+        (one-more (setting_of l) l.workers l.streams (Turned (setting_of l) l.workers l.streams) (take i turns) t P Q P' p q)) x y
+
+    pub words-cut : Moves (turned t) false mid new ms ws' hears held' held'' faults' faults'' → Moves (turned_all turns) false old new ws ws' hears held held'' faults faults''
+    words-cut y = moves-on seen_now hears (turned_all (take i turns)) (turned t) (turned_all turns) false old mid new ws ms ws' held held' held'' faults faults' faults''
+        (λ l P Q P' p q. subst (λ (ts : List Turn). TurnedAll (setting_of l) l.workers l.streams false ts P P') (sym (next-split turns i t d lt is))
+        (one-cut (setting_of l) l.workers l.streams (Turned (setting_of l) l.workers l.streams) (take i turns) t (drop (suc i) turns) P Q P' p q)) x y

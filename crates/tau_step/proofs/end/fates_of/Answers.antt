@@ -1,0 +1,32 @@
+use Rattle.std.proofs.Common.{ℕ, ◌+◌, ◌-◌, ◌≡◌, ◌∙◌, ◌∷◌, Bool, List, length, drop, get_or, sym, ap, subst, arith}
+use Rattle.std.specs.Prelude.{Some, slice_set}
+use Rattle.std.proofs.lemmas.List.{drop_all}
+use Rattle.tau_model.specs.declared.committed.Committed.{Committed}
+use Rattle.tau_model.proofs.Places.{drop-before}
+use Rattle.tau_report.specs.declared.report.Fate.{Fate}
+use Rattle.tau_run.specs.Run.{fate}
+use Rattle.tau_step.specs.RunTold.{is_told}
+use Rattle.tau_step.specs.Fates.{IsNumberOf, fates_in}
+use Rattle.tau_step.proofs.Fates.{get-below, fates-none, fates-more}
+use Rattle.tau_step.proofs.end.fates_of.Goals as goal
+
+pub loop-i-init : goal.loop-i-init
+loop-i-init c =
+    let committed : List Committed = c.args.committed.now in
+    c.in_ok-fates.ensures ∙ fates-none c.args.calls c.args.acks.now ∙ ap (λ (l : List Committed). fates_in c.args.calls l c.args.acks.now) (sym (drop_all (length committed) committed (omega arith)))
+
+pub loop-i-preserved : goal.loop-i-preserved
+loop-i-preserved c =
+    let calls : ℕ = c.args.calls in
+    let acks : List (ℕ × List ℕ) = c.args.acks.now in
+    let committed : List Committed = c.args.committed.now in
+    let i : ℕ = c.loop-i.i in
+    let call : Committed = c.index-committed-i.result in
+    let more : drop (i - 1) committed ≡ call ∷ drop i committed = drop-before committed i call (omega arith) (omega arith) c.index-committed-i.is in
+    let within : IsNumberOf calls call.number = subst (λ (x : Committed). IsNumberOf calls x.number) (sym c.index-committed-i.is) (c.requires.committed (i - 1) call (omega arith)) in
+    let mark : c.index.result.now ≡ is_told acks (call.number - 1 + 1) =
+    c.index.ensures ∙ ap (λ (l : List Bool). get_or l (call.number - 1) c.index.result.now) c.in_ok-marks.ensures
+    ∙ get-below (λ k. is_told acks (k + 1)) calls (call.number - 1) c.index.result.now (omega (arith, within.0, within.1)) in
+    ap (λ (l : List Fate). slice_set l (call.number - 1) c.fate.result) c.loop-i.invariant
+    ∙ fates-more calls call (drop i committed) acks c.fate.result within (c.fate.ensures ∙ ap (λ (b : Bool). fate (Some call.reply) b) mark)
+    ∙ ap (λ (l : List Committed). fates_in calls l acks) (sym more)

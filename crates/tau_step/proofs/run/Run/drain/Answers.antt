@@ -1,0 +1,25 @@
+use Rattle.std.proofs.Common.{refl}
+use Rattle.std.specs.Prelude.{is_ok}
+use Rattle.tau_step.proofs.Draining.{drain-whole, drain-managers}
+use Rattle.tau_step.proofs.Moved.{clerk-moves}
+use Rattle.tau_step.proofs.run.Run.drain.Goals as goal
+
+pub drain_streams-requires : goal.drain_streams-requires
+drain_streams-requires g c = record { on = c.requires.on }
+
+pub clerk-requires-clause-stood : goal.clerk-requires-clause-stood
+clerk-requires-clause-stood g c = let a = (c.in-Ok.ensures.manages.on refl).along in (a.order, a.hidden, a.stands)
+
+pub clerk-requires-clause-workers : goal.clerk-requires-clause-workers
+clerk-requires-clause-workers g c = (c.in-Ok.ensures.manages.on refl).workers
+
+pub returns-in-Ok : goal.returns-in-Ok
+returns-in-Ok g c = record {
+  moves = drain-whole g.met.D.Disk.seen_now g.K.Sink.tells (is_ok c.clerk.result) c.args.self.now c.drain_streams.new.self c.clerk.new.self c.args.writers.now.items c.drain_streams.new.writers.items
+      (g.K.Sink.held c.args.sink.now) (g.K.Sink.held c.clerk.new.sink) (g.K.Sink.faults c.args.sink.now) (g.K.Sink.faults c.clerk.new.sink) c.in-Ok.ensures.manages
+      (clerk-moves g.met.D.Disk.seen_now g.K.Sink.tells c.drain_streams.new.self c.clerk.new.self c.drain_streams.new.writers.items (g.K.Sink.held c.args.sink.now) (g.K.Sink.held c.clerk.new.sink) (g.K.Sink.faults c.args.sink.now) (g.K.Sink.faults c.clerk.new.sink)
+      (c.in-Ok.ensures.manages.on refl) c.clerk.ensures.faults c.clerk.ensures.cause c.clerk.ensures.load c.clerk.ensures.failed c.clerk.ensures.workers c.clerk.ensures.streams _ c.clerk.result c.clerk.ensures.passed c.clerk.ensures.heard);
+}
+
+pub returns-in-Err : goal.returns-in-Err
+returns-in-Err g c = record { moves = drain-managers g.met.D.Disk.seen_now g.K.Sink.tells c.args.self.now c.drain_streams.new.self c.args.writers.now.items c.drain_streams.new.writers.items (g.K.Sink.held c.args.sink.now) (g.K.Sink.faults c.args.sink.now) c.in-Err.ensures.manages }

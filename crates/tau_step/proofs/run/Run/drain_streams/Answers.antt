@@ -1,0 +1,23 @@
+use Rattle.std.proofs.Common.{refl, arith}
+use Rattle.tau_step.proofs.Draining.{drains-none, drains-more, drains-cut, drains-all}
+use Rattle.tau_step.proofs.run.Run.drain_streams.Goals as goal
+
+pub loop-stream-init : goal.loop-stream-init
+loop-stream-init g c = record { manages = drains-none g.met.D.Disk.seen_now c.args.self.now c.args.writers.now.items c.requires.on }
+
+pub drain_stream-requires : goal.drain_stream-requires
+drain_stream-requires g c = record { on = c.loop-stream.invariant.manages.on refl; there = omega (arith, c.loop-stream-test.true, c.loop-stream.invariant.manages.streams) }
+
+pub returns-in-Err : goal.returns-in-Err
+returns-in-Err g c = record {
+  manages = drains-cut g.met.D.Disk.seen_now c.loop-stream.stream c.args.self.now c.loop-stream.self c.drain_stream.new.self c.args.writers.now.items c.loop-stream.writers.items c.drain_stream.new.writers.items
+      (omega (arith, c.loop-stream-test.true, c.requires.on.streams)) c.loop-stream.invariant.manages c.in-Err.ensures.manages;
+}
+
+pub loop-stream-preserved : goal.loop-stream-preserved
+loop-stream-preserved g c = record {
+  manages = drains-more g.met.D.Disk.seen_now c.loop-stream.stream c.args.self.now c.loop-stream.self c.drain_stream.new.self c.args.writers.now.items c.loop-stream.writers.items c.drain_stream.new.writers.items c.loop-stream.invariant.manages c.in-Ok.ensures.manages;
+}
+
+pub returns : goal.returns
+returns g c = record { manages = drains-all g.met.D.Disk.seen_now c.loop-stream.stream c.args.self.now c.loop-stream.self c.args.writers.now.items c.loop-stream.writers.items (omega (arith, c.loop-stream-test.false, c.loop-stream.auto.stream-end, c.requires.on.streams)) c.loop-stream.invariant.manages }

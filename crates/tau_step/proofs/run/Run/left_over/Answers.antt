@@ -1,0 +1,38 @@
+use Rattle.std.proofs.Common.{true, ap, sym, ◌∙◌}
+use Rattle.std.specs.Prelude.{Ok}
+use Rattle.tau_step.proofs.LeftOvers.{left_so, left_so-quiet, calls-none, calls-more, calls-end, calls-cut, none-run, is-none}
+use Rattle.tau_step.proofs.Moved.{works-lowest}
+use Rattle.tau_step.proofs.run.Run.left_over.Goals as goal
+
+pub returns-then-is_some : goal.returns-then-is_some
+returns-then-is_some c = record { works = none-run c.args.self.now c.requires.stood c.requires.lowest (sym c.is_some.ensures ∙ c.if-is_some.true) }
+
+pub calls-init : goal.calls-init
+calls-init c = record { works = calls-none c.args.self.now c.requires.stood; rests = c.requires.rests }
+
+pub resumed-requires-clause-stood : goal.resumed-requires-clause-stood
+resumed-requires-clause-stood c = c.calls.invariant.works.stood
+
+pub resumed-requires-clause-lowest : goal.resumed-requires-clause-lowest
+resumed-requires-clause-lowest c = works-lowest left_so true c.args.self.now c.calls.self c.requires.stood (left_so-quiet true) c.calls.invariant.works c.requires.lowest
+
+pub resumed-requires-clause-going : goal.resumed-requires-clause-going
+resumed-requires-clause-going c = c.calls.invariant.works.failed ∙ is-none c.args.self.now.failed (sym c.is_some.ensures ∙ c.if-is_some.false)
+
+pub resumed-requires-clause-rests : goal.resumed-requires-clause-rests
+resumed-requires-clause-rests c = c.calls.invariant.rests
+
+pub calls-preserved : goal.calls-preserved
+calls-preserved c = record {
+  works = calls-more c.args.self.now c.calls.self c.resumed.new.self c.calls.invariant.works (rw c.in-Ok-true.field-0-test at c.in-Ok-true.ensures.works);
+  rests = c.in-Ok-true.ensures.rests;
+}
+
+pub calls-smaller : goal.calls-smaller
+calls-smaller c = c.resumed.ensures.fewer (c.in-Ok-true.is ∙ ap Ok c.in-Ok-true.field-0-test)
+
+pub returns-in-Ok-false : goal.returns-in-Ok-false
+returns-in-Ok-false c = record { works = calls-end c.args.self.now c.calls.self c.resumed.new.self c.calls.invariant.works (rw c.in-Ok-false.field-0-test at c.in-Ok-false.ensures.works) }
+
+pub returns-in-Err : goal.returns-in-Err
+returns-in-Err c = record { works = calls-cut c.args.self.now c.calls.self c.resumed.new.self c.calls.invariant.works c.in-Err.error c.in-Err.ensures.works }

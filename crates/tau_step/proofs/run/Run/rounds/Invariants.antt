@@ -1,0 +1,12 @@
+use Rattle.std.proofs.Common.{true}
+use Rattle.tau_step.specs.Moving.{Moves, total_left}
+use Rattle.tau_step.proofs.Rounds.{rounds_so}
+use Rattle.tau_step.proofs.run.Run.rounds.Given as goal
+
+abbrev pub invariant-rounds : goal.invariant-rounds
+invariant-rounds g l = record {
+  moves : Moves rounds_so true l.fn.self l.self l.fn.writers.items l.writers.items g.K.Sink.tells (g.K.Sink.held l.fn.sink) (g.K.Sink.held l.sink) (g.K.Sink.faults l.fn.sink) (g.K.Sink.faults l.sink);
+}
+
+abbrev pub decreases-rounds : goal.decreases-rounds
+decreases-rounds g l = total_left l.self.core

@@ -1,0 +1,21 @@
+use Rattle.std.proofs.Common.{refl, []}
+use Rattle.tau_step.proofs.Moved.{moves-none}
+use Rattle.tau_step.proofs.Words.{words-more, words-cut}
+use Rattle.tau_text.specs.declared.load.Turn.TheVariants as turn
+use Rattle.tau_step.specs.Rounding.{turned_all}
+use Rattle.tau_step.proofs.run.Run.words.Goals as goal
+
+pub loop-turn-init : goal.loop-turn-init
+loop-turn-init g c = record { moves = moves-none g.met.D.Disk.seen_now g.K.Sink.tells (turned_all []) c.args.self.now c.args.writers.now.items (g.K.Sink.held c.args.sink.now) (g.K.Sink.faults c.args.sink.now) c.requires.on (λ P. refl) }
+
+pub returns-in-Err : goal.returns-in-Err
+returns-in-Err g c = record {
+  moves = words-cut g.met.D.Disk.seen_now g.K.Sink.tells c.args.turns.now c.loop-turn.turn-index _ (turn.Worker 0) c.loop-turn-test.true refl c.args.self.now c.loop-turn.self c.turn.new.self c.args.writers.now.items c.loop-turn.writers.items c.turn.new.writers.items
+      (g.K.Sink.held c.args.sink.now) (g.K.Sink.held c.loop-turn.sink) (g.K.Sink.held c.turn.new.sink) (g.K.Sink.faults c.args.sink.now) (g.K.Sink.faults c.loop-turn.sink) (g.K.Sink.faults c.turn.new.sink) c.loop-turn.invariant.moves c.in-Err.ensures.moves;
+}
+
+pub loop-turn-preserved : goal.loop-turn-preserved
+loop-turn-preserved g c = record {
+  moves = words-more g.met.D.Disk.seen_now g.K.Sink.tells c.args.turns.now c.loop-turn.turn-index _ (turn.Worker 0) c.loop-turn-test.true refl c.args.self.now c.loop-turn.self c.turn.new.self c.args.writers.now.items c.loop-turn.writers.items c.turn.new.writers.items
+      (g.K.Sink.held c.args.sink.now) (g.K.Sink.held c.loop-turn.sink) (g.K.Sink.held c.turn.new.sink) (g.K.Sink.faults c.args.sink.now) (g.K.Sink.faults c.loop-turn.sink) (g.K.Sink.faults c.turn.new.sink) c.loop-turn.invariant.moves c.in-Ok.ensures.moves;
+}

@@ -1,0 +1,43 @@
+use Rattle.std.proofs.Common.{true, false, ◌≡◌, ap, arith, ◌∙◌}
+use Rattle.std.specs.Prelude.{Ok, Err}
+use Rattle.tau_core.specs.declared.state.Load.{Load}
+use Rattle.tau_step.specs.Moving.{total_left}
+use Rattle.tau_step.proofs.Moved.{works-lowest}
+use Rattle.tau_step.proofs.Rounds.{rounded_below, below-quiet, workers-none, workers-more, workers-cut, workers-all, idle-total, totals-more}
+use Rattle.tau_step.proofs.run.Run.workers_round.Goals as goal
+
+pub loop-worker-init : goal.loop-worker-init
+loop-worker-init c = record { works = workers-none c.args.self.now c.requires.stood; most = omega arith; fewer = λ e. absurd (let bad : false ≡ true = e in cc) }
+
+pub work-requires-clause-stood : goal.work-requires-clause-stood
+work-requires-clause-stood c = c.loop-worker.invariant.works.stood
+
+pub work-requires-clause-there : goal.work-requires-clause-there
+work-requires-clause-there c =
+    let load = ap (λ (l : Load). l.workers) c.loop-worker.invariant.works.load in
+    omega (arith, c.loop-worker-test.true, c.requires.workers, load)
+
+pub work-requires-clause-lowest : goal.work-requires-clause-lowest
+work-requires-clause-lowest c = works-lowest (rounded_below c.loop-worker.worker c.loop-worker.any) true c.args.self.now c.loop-worker.self c.requires.stood (below-quiet c.loop-worker.worker c.loop-worker.any true) c.loop-worker.invariant.works c.requires.lowest
+
+pub returns-in-Err-clause-works : goal.returns-in-Err-clause-works
+returns-in-Err-clause-works c = workers-cut c.loop-worker.worker c.loop-worker.any c.in-Err.error c.args.self.now c.loop-worker.self c.work.new.self (omega (arith, c.loop-worker-test.true, c.requires.workers)) c.loop-worker.invariant.works c.in-Err.ensures.works
+
+pub returns-in-Err-clause-fewer : goal.returns-in-Err-clause-fewer
+returns-in-Err-clause-fewer c = λ e. absurd (let bad : Err c.in-Err.error ≡ Ok true = e in cc)
+
+pub loop-worker-preserved : goal.loop-worker-preserved
+loop-worker-preserved c =
+    let totals = totals-more c.loop-worker.any c.in-Ok.did c.either-any.result (total_left c.args.self.now.core) (total_left c.loop-worker.self.core) (total_left c.work.new.self.core) c.either-any.ensures c.loop-worker.invariant.most c.loop-worker.invariant.fewer
+    (λ e. c.work.ensures.fewer (c.in-Ok.is ∙ ap Ok e)) (λ e. idle-total c.loop-worker.worker c.loop-worker.self c.work.new.self c.loop-worker.invariant.works.stood (rw e at c.in-Ok.ensures.works)) in
+    record {
+      works = workers-more c.loop-worker.worker c.loop-worker.any c.in-Ok.did c.either-any.result c.args.self.now c.loop-worker.self c.work.new.self c.either-any.ensures c.loop-worker.invariant.works c.in-Ok.ensures.works;
+      most = totals.0;
+      fewer = totals.1;
+    }
+
+pub returns-clause-works : goal.returns-clause-works
+returns-clause-works c = workers-all c.loop-worker.worker c.loop-worker.any c.args.self.now c.loop-worker.self (omega (arith, c.loop-worker-test.false, c.loop-worker.auto.worker-end, c.requires.workers)) c.loop-worker.invariant.works
+
+pub returns-clause-fewer : goal.returns-clause-fewer
+returns-clause-fewer c = λ e. c.loop-worker.invariant.fewer (let bad : Ok c.loop-worker.any ≡ Ok true = e in cc)

@@ -1,0 +1,74 @@
+use Rattle.std.proofs.Common.{sym, ◌∙◌}
+use Rattle.tau_machine.specs.State.{hand_of}
+use Rattle.tau_core.specs.View.{core_of}
+use Rattle.tau_step.proofs.Deciding.{rests-empty, never-short, never-stopped}
+use Rattle.tau_step.proofs.Working.{lock-turn, quit-turn, commit-turn, post-turn, free-turn, done-turn}
+use Rattle.tau_step.proofs.Settling.{locked-settles, commit-settles, post-settles, free-settles, done-settles}
+use Rattle.tau_step.proofs.worker.worker_turn.Goals as goal
+
+pub begin_turn-requires-clause-rests : goal.begin_turn-requires-clause-rests
+begin_turn-requires-clause-rests c = λ K h g. rests-empty c.args.core.now.load.procs (hand_of (core_of c.args.core.now h) c.args.worker) (sym (c.next_of.ensures K h g) ∙ c.in-Resting.is)
+
+pub returns-in-Locking-clause-turned : goal.returns-in-Locking-clause-turned
+returns-in-Locking-clause-turned c = λ K h es told g. lock-turn c.args.core.now c.act.new.core K h es told c.args.worker c.act.result c.act.ensures.acts.outcome c.act.ensures.acts.tells (c.act.ensures.acts.steps K h g) (sym (c.next_of.ensures K h g) ∙ c.in-Locking.is) c.requires.there
+
+pub returns-in-Quitting-clause-turned : goal.returns-in-Quitting-clause-turned
+returns-in-Quitting-clause-turned c = λ K h es told g. quit-turn c.args.core.now c.act-in-Quitting.new.core K h es told c.args.worker c.act-in-Quitting.result c.act-in-Quitting.ensures.acts.outcome c.act-in-Quitting.ensures.acts.tells (c.act-in-Quitting.ensures.acts.steps K h g) (sym (c.next_of.ensures K h g) ∙ c.in-Quitting.is) c.requires.there
+
+pub returns-in-Ready-clause-turned : goal.returns-in-Ready-clause-turned
+returns-in-Ready-clause-turned c = λ K h es told g. commit-turn c.args.core.now c.act-in-Ready.new.core K h es told c.args.worker c.act-in-Ready.result c.act-in-Ready.ensures.acts.outcome c.act-in-Ready.ensures.acts.tells (c.act-in-Ready.ensures.acts.steps K h g) (sym (c.next_of.ensures K h g) ∙ c.in-Ready.is) c.requires.there
+
+pub returns-in-Placed-clause-turned : goal.returns-in-Placed-clause-turned
+returns-in-Placed-clause-turned c = λ K h es told g. post-turn c.args.core.now c.act-in-Placed.new.core K h es told c.args.worker c.act-in-Placed.result c.act-in-Placed.ensures.acts.outcome c.act-in-Placed.ensures.acts.tells (c.act-in-Placed.ensures.acts.steps K h g) (sym (c.next_of.ensures K h g) ∙ c.in-Placed.is) c.requires.there
+
+pub returns-in-Freeing-clause-turned : goal.returns-in-Freeing-clause-turned
+returns-in-Freeing-clause-turned c = λ K h es told g. free-turn c.args.core.now c.act-in-Freeing.new.core K h es told c.args.worker c.act-in-Freeing.result c.act-in-Freeing.ensures.acts.outcome c.act-in-Freeing.ensures.acts.tells (c.act-in-Freeing.ensures.acts.steps K h g) (sym (c.next_of.ensures K h g) ∙ c.in-Freeing.is) c.requires.there
+
+pub returns-in-Ended-clause-turned : goal.returns-in-Ended-clause-turned
+returns-in-Ended-clause-turned c = λ K h es told g. done-turn c.args.core.now c.act-in-Ended.new.core K h es told c.args.worker c.act-in-Ended.result c.act-in-Ended.ensures.acts.outcome c.act-in-Ended.ensures.acts.tells (c.act-in-Ended.ensures.acts.steps K h g) (sym (c.next_of.ensures K h g) ∙ c.in-Ended.is) c.requires.there
+
+pub returns-in-Short-clause-turned : goal.returns-in-Short-clause-turned
+returns-in-Short-clause-turned c = λ K h es told g. absurd (never-short c.args.core.now.load.procs (hand_of (core_of c.args.core.now h) c.args.worker) c.in-Short.gathered (sym (c.next_of.ensures K h g) ∙ c.in-Short.is))
+
+pub returns-in-Stopped-clause-turned : goal.returns-in-Stopped-clause-turned
+returns-in-Stopped-clause-turned c = λ K h es told g. absurd (never-stopped c.args.core.now.load.procs (hand_of (core_of c.args.core.now h) c.args.worker) c.in-Stopped.at (sym (c.next_of.ensures K h g) ∙ c.in-Stopped.is))
+
+pub returns-in-Locking-clause-alone : goal.returns-in-Locking-clause-alone
+returns-in-Locking-clause-alone c = λ alone settling.
+    let (K, h, g) = c.requires.stood in
+    locked-settles c.args.core.now c.act.new.core K h g c.args.worker settling alone c.act.ensures.acts.outcome (c.act.ensures.acts.steps K h g)
+
+pub returns-in-Ready-clause-alone : goal.returns-in-Ready-clause-alone
+returns-in-Ready-clause-alone c = λ alone settling.
+    let (K, h, g) = c.requires.stood in
+    commit-settles c.args.core.now c.act-in-Ready.new.core K h g c.args.worker settling c.act-in-Ready.ensures.acts.outcome (c.act-in-Ready.ensures.acts.steps K h g)
+
+pub returns-in-Placed-clause-alone : goal.returns-in-Placed-clause-alone
+returns-in-Placed-clause-alone c = λ alone settling.
+    let (K, h, g) = c.requires.stood in
+    post-settles c.args.core.now c.act-in-Placed.new.core K h g c.args.worker settling c.act-in-Placed.ensures.acts.outcome (c.act-in-Placed.ensures.acts.steps K h g)
+
+pub returns-in-Freeing-clause-alone : goal.returns-in-Freeing-clause-alone
+returns-in-Freeing-clause-alone c = λ alone settling.
+    let (K, h, g) = c.requires.stood in
+    free-settles c.args.core.now c.act-in-Freeing.new.core K h g c.args.worker settling c.act-in-Freeing.ensures.acts.outcome (c.act-in-Freeing.ensures.acts.steps K h g)
+
+pub returns-in-Ended-clause-alone : goal.returns-in-Ended-clause-alone
+returns-in-Ended-clause-alone c = λ alone settling.
+    let (K, h, g) = c.requires.stood in
+    done-settles c.args.core.now c.act-in-Ended.new.core K h g c.args.worker settling c.act-in-Ended.ensures.acts.outcome (c.act-in-Ended.ensures.acts.steps K h g)
+
+pub returns-in-Quitting-clause-alone : goal.returns-in-Quitting-clause-alone
+returns-in-Quitting-clause-alone c = λ alone settling.
+    let (K, h, g) = c.requires.stood in
+    absurd (settling (sym (c.next_of.ensures K h g) ∙ c.in-Quitting.is))
+
+pub returns-in-Short-clause-alone : goal.returns-in-Short-clause-alone
+returns-in-Short-clause-alone c = λ alone settling.
+    let (K, h, g) = c.requires.stood in
+    absurd (never-short c.args.core.now.load.procs (hand_of (core_of c.args.core.now h) c.args.worker) c.in-Short.gathered (sym (c.next_of.ensures K h g) ∙ c.in-Short.is))
+
+pub returns-in-Stopped-clause-alone : goal.returns-in-Stopped-clause-alone
+returns-in-Stopped-clause-alone c = λ alone settling.
+    let (K, h, g) = c.requires.stood in
+    absurd (never-stopped c.args.core.now.load.procs (hand_of (core_of c.args.core.now h) c.args.worker) c.in-Stopped.at (sym (c.next_of.ensures K h g) ∙ c.in-Stopped.is))

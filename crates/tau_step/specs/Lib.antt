@@ -1,0 +1,11 @@
+pub mod Progressed
+pub mod Acting
+pub mod Telling
+pub mod Keeping
+pub mod RunTold
+pub mod Along
+pub mod Remains
+pub mod Rounding
+pub mod Moving
+pub mod Fates
+pub mod Whole

@@ -1,0 +1,136 @@
+//! The clerk acknowledges calls.
+ghost use Rattle.std.specs.Prelude.{ℕ, ◌≡◌, ◌≤◌, ◌<◌, ◌⊎◌, ◌++◌, ◌∷◌, [], true, false, List, Ok, OnOk, OnErr};
+ghost use Rattle.tau_disk.specs.Disk.{Rose};
+ghost use Rattle.tau_model.specs.History.{Act};
+ghost use Rattle.tau_machine.specs.Hands.{Txn};
+ghost use Rattle.tau_machine.specs.Events as machine;
+ghost use Rattle.tau_core.specs.View.{Hidden};
+ghost use Rattle.tau_core.specs.Stands.{Stands, Stood};
+ghost use Rattle.tau_step.specs.Progressed.{clears, clerks};
+ghost use Rattle.tau_step.specs.Telling.{Heard, NextTold, Passed, waiting_of};
+
+use crate::sink::write_all;
+use std::alloc::Global;
+use tau_base::{Listed, Lv, NoMemory};
+use tau_core::{Core, Event, Outcome};
+use tau_disk::Sink;
+use tau_report::ack_line;
+
+/// What the clerk has told.
+#[derive(Drop)]
+pub(crate) struct Clerk {
+    /// The acknowledged calls with their vectors, in the order in which they were told.
+    pub(crate) acks: Listed<(u64, Lv)>,
+    /// The last line.
+    line: Vec<u8>,
+    /// Whether the sink failed. Then nothing more is written to it.
+    pub(crate) sink_failed: bool,
+}
+
+impl Clerk {
+    /// It has told nothing.
+    pub(crate) fn new(alloc: Global) -> Clerk
+        ensures acks { result.acks ≡ [] }
+        ensures works { result.sink_failed ≡ false }
+    {
+        Clerk {
+            acks: Listed::new(alloc),
+            line: Vec::new(alloc),
+            sink_failed: false,
+        }
+    }
+
+    /// The call with this number is acknowledged.
+    fn tell<K: Sink>(&mut self, sink: &mut K, number: u64, lv: Lv) -> Result<(), NoMemory>
+        ensures acks { OnOk result (self.new.acks ≡ self.old.acks ++ (number, lv) ∷ []) }
+        ensures heard { OnOk result (K.tells → (base : List ℕ) → Heard base self.old.acks self.old.sink_failed (K.held sink.old) → Heard base self.new.acks self.new.sink_failed (K.held sink.new)) }
+        ensures short { OnErr result ((sink.new ≡ sink.old) × (self.new.sink_failed ≡ self.old.sink_failed)) }
+        ensures cause { self.new.sink_failed ≡ true → (self.old.sink_failed ≡ true) ⊎ Rose (K.faults sink.old) (K.faults sink.new) }
+        ensures faults { K.faults sink.old ≤ K.faults sink.new }
+    {
+        match self.acks.push((number, lv)) {
+            Ok(()) => {}
+            Err(_) => return Err(NoMemory),
+        }
+        if self.sink_failed {
+            return Ok(());
+        }
+        match ack_line(&mut self.line, number, &lv) {
+            Ok(()) => {}
+            Err(_) => return Err(NoMemory),
+        }
+        match write_all(sink, &self.line) {
+            Ok(()) => Ok(()),
+            Err(_) => {
+                self.sink_failed = true;
+                Ok(())
+            }
+        }
+    }
+
+    /// Acknowledges the first pending call of a worker that the persisted positions cover, and answers whether there was one.
+    fn next<K: Sink>(&mut self, core: &mut Core, sink: &mut K, worker: u8) -> Result<bool, NoMemory>
+        requires stood { Stood core.old }
+        requires there { worker < core.old.load.workers }
+        ensures told { (order : List (Act Txn)) (h : Hidden) (es : List machine.Event) → Stands core.old order h →
+            NextTold worker core.old core.new self.old.acks self.new.acks self.old.sink_failed self.new.sink_failed K.tells (K.held sink.old) (K.held sink.new) order h es result }
+        ensures heard { OnOk result (K.tells → (base : List ℕ) → Heard base self.old.acks self.old.sink_failed (K.held sink.old) → Heard base self.new.acks self.new.sink_failed (K.held sink.new)) }
+        ensures cause { self.new.sink_failed ≡ true → (self.old.sink_failed ≡ true) ⊎ Rose (K.faults sink.old) (K.faults sink.new) }
+        ensures faults { K.faults sink.old ≤ K.faults sink.new }
+        ensures load { core.new.load ≡ core.old.load }
+        ensures stood { Stood core.new }
+        ensures less { result ≡ Ok true → waiting_of core.new worker < waiting_of core.old worker }
+    {
+        match core.step(Event::Ack { worker }) {
+            Outcome::Acked { number, lv } => match self.tell(sink, number, lv) {
+                Ok(()) => Ok(true),
+                Err(error) => Err(error),
+            },
+            _ => Ok(false),
+        }
+    }
+
+    /// Acknowledges all pending calls of a worker that the persisted positions cover, in the order in which they ended.
+    fn pass_worker<K: Sink>(
+        &mut self,
+        core: &mut Core,
+        sink: &mut K,
+        worker: u8,
+    ) -> Result<(), NoMemory>
+        requires stood { Stood core.old }
+        requires there { worker < core.old.load.workers }
+        ensures load { core.new.load ≡ core.old.load }
+        ensures stood { Stood core.new }
+        ensures passed { (order : List (Act Txn)) (h : Hidden) (es : List machine.Event) → Stands core.old order h →
+            Passed (clears worker) core.old core.new self.old.acks self.new.acks self.old.sink_failed self.new.sink_failed K.tells (K.held sink.old) (K.held sink.new) order h es result }
+        ensures heard { OnOk result (K.tells → (base : List ℕ) → Heard base self.old.acks self.old.sink_failed (K.held sink.old) → Heard base self.new.acks self.new.sink_failed (K.held sink.new)) }
+        ensures cause { self.new.sink_failed ≡ true → (self.old.sink_failed ≡ true) ⊎ Rose (K.faults sink.old) (K.faults sink.new) }
+        ensures faults { K.faults sink.old ≤ K.faults sink.new }
+    {
+        while self.next(core, sink, worker)? {}
+        Ok(())
+    }
+
+    /// One pass over all workers in ascending order.
+    pub(crate) fn pass<K: Sink>(
+        &mut self,
+        core: &mut Core,
+        sink: &mut K,
+        workers: u8,
+    ) -> Result<(), NoMemory>
+        requires stood { Stood core.old }
+        requires all { workers ≡ core.old.load.workers }
+        ensures load { core.new.load ≡ core.old.load }
+        ensures stood { Stood core.new }
+        ensures passed { (order : List (Act Txn)) (h : Hidden) (es : List machine.Event) → Stands core.old order h →
+            Passed clerks core.old core.new self.old.acks self.new.acks self.old.sink_failed self.new.sink_failed K.tells (K.held sink.old) (K.held sink.new) order h es result }
+        ensures heard { OnOk result (K.tells → (base : List ℕ) → Heard base self.old.acks self.old.sink_failed (K.held sink.old) → Heard base self.new.acks self.new.sink_failed (K.held sink.new)) }
+        ensures cause { self.new.sink_failed ≡ true → (self.old.sink_failed ≡ true) ⊎ Rose (K.faults sink.old) (K.faults sink.new) }
+        ensures faults { K.faults sink.old ≤ K.faults sink.new }
+    {
+        for worker in 0..workers {
+            self.pass_worker(core, sink, worker)?;
+        }
+        Ok(())
+    }
+}

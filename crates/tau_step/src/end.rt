@@ -1,0 +1,121 @@
+//! The end of a run: what it tells.
+ghost use Rattle.std.specs.Prelude.{ℕ, ◌≡◌, List, Some, IfOk, length, map, replicate};
+ghost use Rattle.std.specs.List.{All};
+ghost use Rattle.tau_model.specs.History.{Act};
+ghost use Rattle.tau_model.specs.Tables.{IsTablesOf};
+ghost use Rattle.tau_machine.specs.Hands.{Txn};
+ghost use Rattle.tau_machine.specs.Reports.{reported};
+ghost use Rattle.tau_machine.specs.State.{sight};
+ghost use Rattle.tau_core.specs.Stands.{Stands, Stood};
+ghost use Rattle.tau_core.specs.View.{Hidden, core_of, setting_of};
+ghost use Rattle.tau_run.specs.Run.{fate};
+ghost use Rattle.tau_step.specs.Fates.{IsNumberOf, fates_in, marks_in};
+ghost use Rattle.tau_step.specs.RunTold.{fates_by};
+
+use crate::run::Run;
+use std::alloc::Global;
+use tau_base::{Listed, Lv, NoMemory};
+use tau_model::{Committed, reported};
+use tau_proc::Reply;
+use tau_report::{Fate, RunEnd, RunReport};
+
+/// The fate of a call with its reply.
+fn fate(acknowledged: bool, reply: &Reply) -> Fate
+    ensures { result ≡ fate (Some reply.now) acknowledged }
+{
+    if acknowledged {
+        Fate::Acked(reply.copied())
+    } else {
+        Fate::Unsure(reply.copied())
+    }
+}
+
+/// So many calls that did not commit.
+fn unrun(alloc: Global, calls: usize) -> Result<Vec<Fate>, NoMemory>
+    ensures { IfOk result (λ fates. fates.items ≡ replicate calls Fate.Unrun) }
+{
+    let mut fates = match Vec::with_capacity(alloc, calls) {
+        Ok(fates) => fates,
+        Err(_) => return Err(NoMemory),
+    };
+    for _ in 0..calls {
+        match fates.push(Fate::Unrun) {
+            Ok(()) => {}
+            Err(_) => return Err(NoMemory),
+        }
+    }
+    Ok(fates)
+}
+
+/// Of each of so many calls, by number from 1, whether it is acknowledged.
+fn marks_of(alloc: Global, calls: usize, acks: &[(u64, Lv)]) -> Result<Vec<bool>, NoMemory>
+    requires { All (λ ack. IsNumberOf calls ack.0) acks.now }
+    ensures { IfOk result (λ marks. marks.items ≡ marks_in calls acks.now) }
+{
+    let mut marks = match vec![in alloc; false; calls] {
+        Ok(marks) => marks,
+        Err(_) => return Err(NoMemory),
+    };
+    for ack in acks {
+        let index = (ack.0 - 1) as usize;
+        marks[index] = true;
+    }
+    Ok(marks)
+}
+
+/// What became of each of so many calls, by number from 1, in one pass over those that committed. Of two with one number the
+/// first counts.
+fn fates_of(
+    alloc: Global,
+    calls: usize,
+    committed: &[Committed],
+    acks: &[(u64, Lv)],
+) -> Result<Vec<Fate>, NoMemory>
+    requires committed { All (λ call. IsNumberOf calls call.number) committed.now }
+    requires acks { All (λ ack. IsNumberOf calls ack.0) acks.now }
+    ensures { IfOk result (λ fates. fates.items ≡ fates_in calls committed.now acks.now) }
+{
+    let marks = marks_of(alloc, calls, acks)?;
+    let mut fates = unrun(alloc, calls)?;
+    for i in (0..committed.len()).rev() {
+        let call = &committed[i];
+        let index = (call.number - 1) as usize;
+        fates[index] = fate(marks[index], &call.reply);
+    }
+    Ok(fates)
+}
+
+/// What the run tells, of so many calls.
+pub(crate) fn end_of(alloc: Global, run: Run, calls: usize) -> Result<RunEnd, NoMemory>
+    requires stood { Stood run.core }
+    requires calls { calls ≡ length run.core.load.calls }
+    requires told { All (λ ack. IsNumberOf calls ack.0) run.clerk.acks }
+    ensures acks { IfOk result (λ end. end.report.acks ≡ run.clerk.acks) }
+    ensures fates { IfOk result (λ end. (K : List (Act Txn)) (h : Hidden) → Stands run.core K h → end.report.fates ≡ fates_by (length run.core.load.calls) K run.clerk.acks) }
+    ensures order { IfOk result (λ end. (K : List (Act Txn)) (h : Hidden) → Stands run.core K h → end.report.order ≡ map (λ t. t.call.call.number) (reported run.core.ends K)) }
+    ensures tables { IfOk result (λ end. (K : List (Act Txn)) (h : Hidden) → Stands run.core K h → IsTablesOf (sight (setting_of run.core.load) (core_of run.core h)).row end.report.tables) }
+    ensures disk { IfOk result (λ end. end.disk ≡ run.failed) }
+    ensures sink { IfOk result (λ end. end.sink_failed ≡ run.clerk.sink_failed) }
+{
+    let Run {
+        core,
+        clerk,
+        workers: _,
+        streams: _,
+        failed,
+    } = run;
+    let fates = fates_of(alloc, calls, core.committed(), clerk.acks.as_slice())?;
+    let order = reported(alloc, &core.ends(), core.committed())?;
+    let tables = core.tables(alloc)?;
+    let sink_failed = clerk.sink_failed;
+    Ok(RunEnd {
+        report: RunReport {
+            acks: clerk.acks,
+            fates: Listed::of(fates),
+            order: Listed::of(order),
+            tables,
+        },
+        disk: failed,
+        sink_failed,
+    })
+}

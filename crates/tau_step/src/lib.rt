@@ -1,0 +1,13 @@
+//! Runs by turns: who acts next is told by a list, on one thread.
+#![tactic(auto)]
+
+mod clerk;
+mod end;
+mod manager;
+mod run;
+mod sink;
+mod top;
+mod worker;
+
+pub use sink::write_all;
+pub use top::{run_turns, run_turns_from};

@@ -1,0 +1,484 @@
+//! A run: turns of its actors.
+ghost use Rattle.std.specs.Prelude.{ℕ, ◌≡◌, ◌<◌, ◌≤◌, ◌⊎◌, ◌||◌, List, Some, None, true, false, is_ok, Ok, OnOk};
+ghost use Rattle.tau_disk.specs.Disk.{Rose};
+ghost use Rattle.tau_model.specs.History.{Act};
+ghost use Rattle.tau_machine.specs.Hands.{Txn};
+ghost use Rattle.tau_machine.specs.Events as machine;
+ghost use Rattle.tau_core.specs.Opens.{nothing};
+ghost use Rattle.tau_core.specs.Stands.{Stands, Stood};
+ghost use Rattle.tau_core.specs.View.{Hidden, core_of};
+ghost use Rattle.tau_run.specs.Told.{turns_of};
+ghost use Rattle.tau_step.specs.Acting.{IsAlone, IsSettling, Settles};
+ghost use Rattle.tau_step.specs.Moving.{IsOn, Manages, Moves, Works, calls_over, rests_in, to_flush, total_left};
+ghost use Rattle.tau_step.specs.Progressed.{clerks};
+ghost use Rattle.tau_step.specs.Rounding.{acted_alone, all_idled, all_managed, drained, flushed_by, idled, in_rounds, managed_by, ran_all, ran_behind, ran_last, ran_left_over, rest_of_round, resumed_by, round_by, rounded_by, turned, turned_all, worked_by};
+ghost use Rattle.tau_step.specs.RunTold.{IsLowestStopped};
+ghost use Rattle.tau_step.specs.Telling.{Heard, Passed};
+
+use crate::clerk::Clerk;
+use crate::manager::{Managing, anchor_turn, manager_turn, removal};
+use crate::worker::worker_turn;
+use tau_base::NoMemory;
+use tau_core::Core;
+use tau_disk::{Disk, Sink};
+use tau_stream::Writer;
+use tau_text::{Turn, Workload};
+
+/// A run by turns. Its writers and its sink are handed in at each turn.
+#[derive(Drop)]
+pub(crate) struct Run {
+    pub(crate) core: Core,
+    pub(crate) clerk: Clerk,
+    /// How many workers it has.
+    pub(crate) workers: u8,
+    /// How many streams it has.
+    pub(crate) streams: u8,
+    /// The lowest stream whose disk failed. Where there is one, workers begin no call.
+    pub(crate) failed: Option<u8>,
+}
+
+/// The lower of two streams, of which the first may be none.
+fn lowest(failed: Option<u8>, stream: u8) -> Option<u8>
+    ensures none { failed ≡ None → result ≡ Some stream }
+    ensures some { (other : ℕ) → failed ≡ Some other → ((other ≤ stream) × (result ≡ Some other)) ⊎ ((stream < other) × (result ≡ Some stream)) }
+{
+    match failed {
+        Some(other) if other <= stream => Some(other),
+        _ => Some(stream),
+    }
+}
+
+/// Whether one of two is so.
+fn either(first: bool, second: bool) -> bool
+    ensures { result ≡ (first || second) }
+{
+    first || second
+}
+
+impl Run {
+    /// A turn of a worker, and whether it did anything.
+    fn work(&mut self, worker: u8) -> Result<bool, NoMemory>
+        requires stood { Stood self.old.core }
+        requires there { worker < self.old.core.load.workers }
+        requires lowest { IsLowestStopped self.old.core.load.streams (core_of self.old.core nothing) self.old.failed }
+        ensures works { Works (worked_by worker result) (is_ok result) self.old self.new }
+        ensures fewer { result ≡ Ok true → total_left self.new.core < total_left self.old.core }
+        ensures alone { IsAlone worker self.old.core → IsSettling worker self.old.core → Settles worker self.old.core self.new.core }
+    {
+        worker_turn(&mut self.core, worker, self.failed.is_some())
+    }
+
+    /// A turn of a manager.
+    fn manage<D: Disk>(
+        &mut self,
+        writers: &mut Vec<Writer<D>>,
+        stream: u8,
+    ) -> Result<Managing, NoMemory>
+        requires on { IsOn writers.old.items self.old }
+        requires there { stream < self.old.streams }
+        ensures manages { Manages (managed_by stream result) (is_ok result) self.old self.new writers.old.items writers.new.items }
+        ensures left { OnOk result (total_left self.new.core ≡ total_left self.old.core) }
+        ensures fewer { result ≡ Ok Managing.Flushed → to_flush self.new.core stream < to_flush self.old.core stream }
+    {
+        let at = usize::from(stream);
+        match manager_turn(&mut self.core, &mut writers[at], stream) {
+            Ok(Managing::Failed) => {
+                self.failed = lowest(self.failed, stream);
+                Ok(Managing::Failed)
+            }
+            Ok(Managing::Flushed) => Ok(Managing::Flushed),
+            Ok(Managing::Idle) => Ok(Managing::Idle),
+            Err(error) => Err(error),
+        }
+    }
+
+    /// A turn of the clerk.
+    fn clerk<K: Sink>(&mut self, sink: &mut K) -> Result<(), NoMemory>
+        requires stood { Stood self.old.core }
+        requires workers { self.old.workers ≡ self.old.core.load.workers }
+        ensures passed { (order : List (Act Txn)) (h : Hidden) (es : List machine.Event) → Stands self.old.core order h →
+            Passed clerks self.old.core self.new.core self.old.clerk.acks self.new.clerk.acks self.old.clerk.sink_failed self.new.clerk.sink_failed K.tells (K.held sink.old) (K.held sink.new) order h es result }
+        ensures heard { OnOk result (K.tells → (base : List ℕ) → Heard base self.old.clerk.acks self.old.clerk.sink_failed (K.held sink.old) → Heard base self.new.clerk.acks self.new.clerk.sink_failed (K.held sink.new)) }
+        ensures cause { self.new.clerk.sink_failed ≡ true → (self.old.clerk.sink_failed ≡ true) ⊎ Rose (K.faults sink.old) (K.faults sink.new) }
+        ensures faults { K.faults sink.old ≤ K.faults sink.new }
+        ensures load { self.new.core.load ≡ self.old.core.load }
+        ensures stood { Stood self.new.core }
+        ensures failed { self.new.failed ≡ self.old.failed }
+        ensures workers { self.new.workers ≡ self.old.workers }
+        ensures streams { self.new.streams ≡ self.old.streams }
+    {
+        self.clerk.pass(&mut self.core, sink, self.workers)
+    }
+
+    /// The turn word of a worker, which may not be there.
+    fn worker_word(&mut self, worker: u8) -> Result<(), NoMemory>
+        requires stood { Stood self.old.core }
+        requires workers { self.old.workers ≡ self.old.core.load.workers }
+        requires lowest { IsLowestStopped self.old.core.load.streams (core_of self.old.core nothing) self.old.failed }
+        ensures works { Works (turned (Turn.Worker worker)) (is_ok result) self.old self.new }
+    {
+        if worker >= self.workers {
+            return Ok(());
+        }
+        match self.work(worker) {
+            Ok(_) => Ok(()),
+            Err(error) => Err(error),
+        }
+    }
+
+    /// The turn word of a manager, which may not be there.
+    fn manager_word<D: Disk>(
+        &mut self,
+        writers: &mut Vec<Writer<D>>,
+        stream: u8,
+    ) -> Result<(), NoMemory>
+        requires on { IsOn writers.old.items self.old }
+        ensures manages { Manages (turned (Turn.Manager stream)) (is_ok result) self.old self.new writers.old.items writers.new.items }
+    {
+        if stream >= self.streams {
+            return Ok(());
+        }
+        match self.manage(writers, stream) {
+            Ok(_) => Ok(()),
+            Err(error) => Err(error),
+        }
+    }
+
+    /// The turn word of an anchor, whose stream may not be there.
+    fn anchor_word(&mut self, stream: u8) -> Result<(), NoMemory>
+        requires stood { Stood self.old.core }
+        requires streams { self.old.streams ≡ self.old.core.load.streams }
+        ensures works { Works (turned (Turn.Anchor stream)) (is_ok result) self.old self.new }
+    {
+        if stream >= self.streams {
+            return Ok(());
+        }
+        anchor_turn(&mut self.core, stream)
+    }
+
+    /// The turn word that removes entries.
+    fn removal_word(&mut self)
+        requires stood { Stood self.old.core }
+        ensures works { Works (turned Turn.Drop) true self.old self.new }
+    {
+        removal(&mut self.core)
+    }
+
+    /// One turn word. One whose actor is not there changes nothing.
+    fn turn<D: Disk, K: Sink>(
+        &mut self,
+        writers: &mut Vec<Writer<D>>,
+        sink: &mut K,
+        turn: Turn,
+    ) -> Result<(), NoMemory>
+        requires on { IsOn writers.old.items self.old }
+        ensures moves { Moves (turned turn) (is_ok result) self.old self.new writers.old.items writers.new.items K.tells (K.held sink.old) (K.held sink.new) (K.faults sink.old) (K.faults sink.new) }
+    {
+        match turn {
+            Turn::Worker(worker) => self.worker_word(worker),
+            Turn::Manager(stream) => self.manager_word(writers, stream),
+            Turn::Anchor(stream) => self.anchor_word(stream),
+            Turn::Clerk => self.clerk(sink),
+            Turn::Drop => {
+                self.removal_word();
+                Ok(())
+            }
+        }
+    }
+
+    /// The turn words in order.
+    pub(crate) fn words<D: Disk, K: Sink>(
+        &mut self,
+        writers: &mut Vec<Writer<D>>,
+        sink: &mut K,
+        turns: &[Turn],
+    ) -> Result<(), NoMemory>
+        requires on { IsOn writers.old.items self.old }
+        ensures moves { Moves (turned_all turns.now) (is_ok result) self.old self.new writers.old.items writers.new.items K.tells (K.held sink.old) (K.held sink.new) (K.faults sink.old) (K.faults sink.new) }
+    {
+        for turn in turns {
+            match self.turn(writers, sink, *turn) {
+                Ok(()) => {}
+                Err(error) => return Err(error),
+            }
+        }
+        Ok(())
+    }
+
+    /// A turn of each worker, and whether any did anything.
+    fn workers_round(&mut self) -> Result<bool, NoMemory>
+        requires stood { Stood self.old.core }
+        requires workers { self.old.workers ≡ self.old.core.load.workers }
+        requires lowest { IsLowestStopped self.old.core.load.streams (core_of self.old.core nothing) self.old.failed }
+        ensures works { Works (rounded_by result) (is_ok result) self.old self.new }
+        ensures fewer { result ≡ Ok true → total_left self.new.core < total_left self.old.core }
+    {
+        let mut any = false;
+        for worker in 0..self.workers {
+            match self.work(worker) {
+                Ok(did) => any = either(any, did),
+                Err(error) => return Err(error),
+            }
+        }
+        Ok(any)
+    }
+
+    /// A turn of each manager.
+    fn managers_round<D: Disk>(&mut self, writers: &mut Vec<Writer<D>>) -> Result<(), NoMemory>
+        requires on { IsOn writers.old.items self.old }
+        ensures manages { Manages all_managed (is_ok result) self.old self.new writers.old.items writers.new.items }
+        ensures left { OnOk result (total_left self.new.core ≡ total_left self.old.core) }
+    {
+        for stream in 0..self.streams {
+            match self.manage(writers, stream) {
+                Ok(_) => {}
+                Err(error) => return Err(error),
+            }
+        }
+        Ok(())
+    }
+
+    /// The managers and the clerk in a round in which some worker did anything.
+    fn rest_of_round<D: Disk, K: Sink>(
+        &mut self,
+        writers: &mut Vec<Writer<D>>,
+        sink: &mut K,
+    ) -> Result<bool, NoMemory>
+        requires on { IsOn writers.old.items self.old }
+        ensures moves { Moves rest_of_round (is_ok result) self.old self.new writers.old.items writers.new.items K.tells (K.held sink.old) (K.held sink.new) (K.faults sink.old) (K.faults sink.new) }
+        ensures left { OnOk result (total_left self.new.core ≡ total_left self.old.core) }
+        ensures some { result ≡ Ok false → ⊥ }
+    {
+        match self.managers_round(writers) {
+            Ok(()) => match self.clerk(sink) {
+                Ok(()) => Ok(true),
+                Err(error) => Err(error),
+            },
+            Err(error) => Err(error),
+        }
+    }
+
+    /// A round of all workers, all managers and the clerk, and whether any worker did anything. Where none did the others do not act.
+    fn round<D: Disk, K: Sink>(
+        &mut self,
+        writers: &mut Vec<Writer<D>>,
+        sink: &mut K,
+    ) -> Result<bool, NoMemory>
+        requires on { IsOn writers.old.items self.old }
+        ensures rests { result ≡ Ok false → rests_in self.new.core }
+        ensures moves { Moves (round_by result) (is_ok result) self.old self.new writers.old.items writers.new.items K.tells (K.held sink.old) (K.held sink.new) (K.faults sink.old) (K.faults sink.new) }
+        ensures fewer { result ≡ Ok true → total_left self.new.core < total_left self.old.core }
+    {
+        match self.workers_round() {
+            Ok(false) => Ok(false),
+            Ok(true) => self.rest_of_round(writers, sink),
+            Err(error) => Err(error),
+        }
+    }
+
+    /// Rounds, until no worker has anything to do.
+    pub(crate) fn rounds<D: Disk, K: Sink>(
+        &mut self,
+        writers: &mut Vec<Writer<D>>,
+        sink: &mut K,
+    ) -> Result<(), NoMemory>
+        requires on { IsOn writers.old.items self.old }
+        ensures moves { Moves in_rounds (is_ok result) self.old self.new writers.old.items writers.new.items K.tells (K.held sink.old) (K.held sink.new) (K.faults sink.old) (K.faults sink.new) }
+        ensures rests { OnOk result (rests_in self.new.core) }
+    {
+        'rounds: loop {
+            match self.round(writers, sink) {
+                Ok(true) => {}
+                Ok(false) => return Ok(()),
+                Err(error) => return Err(error),
+            }
+        }
+    }
+
+    /// A worker acts until it has nothing to do.
+    fn alone(&mut self, worker: u8) -> Result<(), NoMemory>
+        requires stood { Stood self.old.core }
+        requires there { worker < self.old.core.load.workers }
+        requires lowest { IsLowestStopped self.old.core.load.streams (core_of self.old.core nothing) self.old.failed }
+        requires alone { IsAlone worker self.old.core }
+        requires settling { IsSettling worker self.old.core }
+        ensures works { Works (acted_alone worker) (is_ok result) self.old self.new }
+        ensures settles { Settles worker self.old.core self.new.core }
+    {
+        'acts: loop {
+            match self.work(worker) {
+                Ok(true) => {}
+                Ok(false) => return Ok(()),
+                Err(error) => return Err(error),
+            }
+        }
+    }
+
+    /// The lowest call left over runs alone, if there is one.
+    fn resumed(&mut self) -> Result<bool, NoMemory>
+        requires stood { Stood self.old.core }
+        requires lowest { IsLowestStopped self.old.core.load.streams (core_of self.old.core nothing) self.old.failed }
+        requires going { self.old.failed ≡ None }
+        requires rests { rests_in self.old.core }
+        ensures works { Works (resumed_by result) (is_ok result) self.old self.new }
+        ensures rests { OnOk result (rests_in self.new.core) }
+        ensures fewer { result ≡ Ok true → calls_over self.new.core < calls_over self.old.core }
+    {
+        match self.core.resume() {
+            Some(worker) => match self.alone(worker) {
+                Ok(()) => Ok(true),
+                Err(error) => Err(error),
+            },
+            None => Ok(false),
+        }
+    }
+
+    /// The calls left over run alone, each in its own stream, in ascending number. After a stop none does.
+    pub(crate) fn left_over(&mut self) -> Result<(), NoMemory>
+        requires stood { Stood self.old.core }
+        requires lowest { IsLowestStopped self.old.core.load.streams (core_of self.old.core nothing) self.old.failed }
+        requires rests { rests_in self.old.core }
+        ensures works { Works ran_left_over (is_ok result) self.old self.new }
+    {
+        if self.failed.is_some() {
+            return Ok(());
+        }
+        'calls: loop {
+            match self.resumed() {
+                Ok(true) => {}
+                Ok(false) => return Ok(()),
+                Err(error) => return Err(error),
+            }
+        }
+    }
+
+    /// A turn of a manager, and whether it flushed anything.
+    fn flushed<D: Disk>(
+        &mut self,
+        writers: &mut Vec<Writer<D>>,
+        stream: u8,
+    ) -> Result<bool, NoMemory>
+        requires on { IsOn writers.old.items self.old }
+        requires there { stream < self.old.streams }
+        ensures manages { Manages (flushed_by stream result) (is_ok result) self.old self.new writers.old.items writers.new.items }
+        ensures fewer { result ≡ Ok true → to_flush self.new.core stream < to_flush self.old.core stream }
+    {
+        match self.manage(writers, stream) {
+            Ok(Managing::Flushed) => Ok(true),
+            Ok(Managing::Idle) => Ok(false),
+            Ok(Managing::Failed) => Ok(false),
+            Err(error) => Err(error),
+        }
+    }
+
+    /// A manager acts until it has nothing to flush, or its disk has failed.
+    fn drain_stream<D: Disk>(
+        &mut self,
+        writers: &mut Vec<Writer<D>>,
+        stream: u8,
+    ) -> Result<(), NoMemory>
+        requires on { IsOn writers.old.items self.old }
+        requires there { stream < self.old.streams }
+        ensures manages { Manages (idled stream) (is_ok result) self.old self.new writers.old.items writers.new.items }
+    {
+        'flushes: loop {
+            match self.flushed(writers, stream) {
+                Ok(true) => {}
+                Ok(false) => return Ok(()),
+                Err(error) => return Err(error),
+            }
+        }
+    }
+
+    /// All managers act until they have nothing to flush.
+    fn drain_streams<D: Disk>(&mut self, writers: &mut Vec<Writer<D>>) -> Result<(), NoMemory>
+        requires on { IsOn writers.old.items self.old }
+        ensures manages { Manages all_idled (is_ok result) self.old self.new writers.old.items writers.new.items }
+    {
+        for stream in 0..self.streams {
+            match self.drain_stream(writers, stream) {
+                Ok(()) => {}
+                Err(error) => return Err(error),
+            }
+        }
+        Ok(())
+    }
+
+    /// All managers act until they have nothing to flush, and the clerk makes a last pass.
+    pub(crate) fn drain<D: Disk, K: Sink>(
+        &mut self,
+        writers: &mut Vec<Writer<D>>,
+        sink: &mut K,
+    ) -> Result<(), NoMemory>
+        requires on { IsOn writers.old.items self.old }
+        ensures moves { Moves drained (is_ok result) self.old self.new writers.old.items writers.new.items K.tells (K.held sink.old) (K.held sink.new) (K.faults sink.old) (K.faults sink.new) }
+    {
+        match self.drain_streams(writers) {
+            Ok(()) => self.clerk(sink),
+            Err(error) => Err(error),
+        }
+    }
+
+    /// The turn words, if there are any.
+    fn named<D: Disk, K: Sink>(
+        &mut self,
+        writers: &mut Vec<Writer<D>>,
+        sink: &mut K,
+        load: &Workload,
+    ) -> Result<(), NoMemory>
+        requires on { IsOn writers.old.items self.old }
+        ensures moves { Moves (turned_all (turns_of load.now)) (is_ok result) self.old self.new writers.old.items writers.new.items K.tells (K.held sink.old) (K.held sink.new) (K.faults sink.old) (K.faults sink.new) }
+    {
+        match &load.turns {
+            Some(turns) => self.words(writers, sink, turns.as_slice()),
+            None => Ok(()),
+        }
+    }
+
+    /// The whole run: the turn words, rounds, the calls left over, and what is to be flushed.
+    pub(crate) fn all<D: Disk, K: Sink>(
+        &mut self,
+        writers: &mut Vec<Writer<D>>,
+        sink: &mut K,
+        load: &Workload,
+    ) -> Result<(), NoMemory>
+        requires on { IsOn writers.old.items self.old }
+        ensures moves { Moves (ran_all (turns_of load.now)) (is_ok result) self.old self.new writers.old.items writers.new.items K.tells (K.held sink.old) (K.held sink.new) (K.faults sink.old) (K.faults sink.new) }
+    {
+        match self.named(writers, sink, load) {
+            Ok(()) => self.behind_words(writers, sink),
+            Err(error) => Err(error),
+        }
+    }
+
+    /// Behind the turn words.
+    fn behind_words<D: Disk, K: Sink>(
+        &mut self,
+        writers: &mut Vec<Writer<D>>,
+        sink: &mut K,
+    ) -> Result<(), NoMemory>
+        requires on { IsOn writers.old.items self.old }
+        ensures moves { Moves ran_behind (is_ok result) self.old self.new writers.old.items writers.new.items K.tells (K.held sink.old) (K.held sink.new) (K.faults sink.old) (K.faults sink.new) }
+    {
+        match self.rounds(writers, sink) {
+            Ok(()) => self.behind_rounds(writers, sink),
+            Err(error) => Err(error),
+        }
+    }
+
+    /// Behind the rounds.
+    fn behind_rounds<D: Disk, K: Sink>(
+        &mut self,
+        writers: &mut Vec<Writer<D>>,
+        sink: &mut K,
+    ) -> Result<(), NoMemory>
+        requires on { IsOn writers.old.items self.old }
+        requires rests { rests_in self.old.core }
+        ensures moves { Moves ran_last (is_ok result) self.old self.new writers.old.items writers.new.items K.tells (K.held sink.old) (K.held sink.new) (K.faults sink.old) (K.faults sink.new) }
+    {
+        match self.left_over() {
+            Ok(()) => self.drain(writers, sink),
+            Err(error) => Err(error),
+        }
+    }
+}

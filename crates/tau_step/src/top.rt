@@ -1,0 +1,109 @@
+//! Runs by turns.
+ghost use Rattle.std.specs.Prelude.{ℕ, ◌≡◌, ◌≤◌, List, length};
+ghost use Rattle.tau_base.specs.declared.limits.TheConstants.{MAX_CATALOGUE, MAX_STREAMS, MAX_WORKERS};
+ghost use Rattle.tau_disk.specs.Disk.{Rose};
+ghost use Rattle.tau_text.specs.Canonical.{declarations_text};
+ghost use Rattle.tau_text.specs.Kept.{AreCalls};
+ghost use Rattle.tau_core.specs.Opens.{Fits, Opened};
+ghost use Rattle.tau_run.specs.Facts.{catalogue_of};
+ghost use Rattle.tau_run.specs.Told.{turns_of};
+ghost use Rattle.tau_step.specs.RunTold.{AreNew, Began, Ran, RanFrom, RanNew};
+ghost use Rattle.tau_step.specs.Whole.{IsBegun};
+
+use crate::clerk::Clerk;
+use crate::end::end_of;
+use crate::run::Run;
+use std::alloc::Global;
+use tau_base::{LogMode, NoMemory};
+use tau_core::{Core, Opening};
+use tau_disk::{Disk, Sink};
+use tau_report::RunEnd;
+use tau_stream::Writer;
+use tau_text::Workload;
+
+/// Runs a workload by turns, with so many workers, on streams that were just created for it. Each turn word is done in order, then rounds follow until no
+/// worker has anything to do; then the calls left over run alone, each manager flushes what is left, and the clerk makes a last pass.
+/// Lines of acknowledgements go to the sink as they come.
+pub fn run_turns<D: Disk, K: Sink>(
+    alloc: Global,
+    load: &Workload,
+    m: u8,
+    mode: LogMode,
+    writers: &mut Vec<Writer<D>>,
+    sink: &mut K,
+) -> Result<RunEnd, NoMemory>
+    requires streams_low { 1 ≤ length writers.old.items }
+    requires streams_high { length writers.old.items ≤ MAX_STREAMS }
+    requires low { 1 ≤ m }
+    requires high { m ≤ MAX_WORKERS }
+    requires calls { AreCalls load.now.declarations.procs load.now.calls }
+    requires text { length (declarations_text load.now.declarations) ≤ MAX_CATALOGUE }
+    requires fresh { AreNew (λ j. catalogue_of load.now) writers.old.items }
+    ensures ran { Began m mode load.now writers.old.items writers.new.items K.tells (K.held sink.old) (K.held sink.new) (Rose (K.faults sink.old) (K.faults sink.new))
+        (RanNew m mode load.now writers.old.items writers.new.items K.tells (K.held sink.old) (K.held sink.new) (Rose (K.faults sink.old) (K.faults sink.new))) result }
+    ensures faults { K.faults sink.old ≤ K.faults sink.new }
+    ensures count { length writers.new.items ≡ length writers.old.items }
+{
+    match Core::new(alloc, load, writers.len() as u8, m, mode) {
+        Ok(core) => go(alloc, core, load, m, writers, sink),
+        Err(error) => Err(error),
+    }
+}
+
+/// The same from a given state, on streams that end where it says.
+pub fn run_turns_from<D: Disk, K: Sink>(
+    alloc: Global,
+    load: &Workload,
+    opening: Opening,
+    m: u8,
+    mode: LogMode,
+    writers: &mut Vec<Writer<D>>,
+    sink: &mut K,
+) -> Result<RunEnd, NoMemory>
+    requires low { 1 ≤ m }
+    requires high { m ≤ MAX_WORKERS }
+    requires calls { AreCalls load.now.declarations.procs load.now.calls }
+    requires fits { Fits opening }
+    requires begun { (bases : ℕ → List ℕ) × IsBegun bases writers.old.items opening }
+    ensures ran { (bases : ℕ → List ℕ) → IsBegun bases writers.old.items opening →
+        Began m mode load.now writers.old.items writers.new.items K.tells (K.held sink.old) (K.held sink.new) (Rose (K.faults sink.old) (K.faults sink.new))
+        (RanFrom m mode load.now writers.old.items writers.new.items K.tells (K.held sink.old) (K.held sink.new) (Rose (K.faults sink.old) (K.faults sink.new)) opening bases) result }
+    ensures faults { K.faults sink.old ≤ K.faults sink.new }
+    ensures count { length writers.new.items ≡ length writers.old.items }
+{
+    match Core::open(alloc, load, opening, m, mode) {
+        Ok(core) => go(alloc, core, load, m, writers, sink),
+        Err(error) => Err(error),
+    }
+}
+
+/// The run itself.
+fn go<D: Disk, K: Sink>(
+    alloc: Global,
+    core: Core,
+    load: &Workload,
+    m: u8,
+    writers: &mut Vec<Writer<D>>,
+    sink: &mut K,
+) -> Result<RunEnd, NoMemory>
+    requires opened { Opened core.load core }
+    requires workers { m ≡ core.load.workers }
+    requires calls { load.now.calls ≡ core.load.calls }
+    requires begun { (bases : ℕ → List ℕ) × IsBegun bases writers.old.items core.load.opening }
+    ensures ran { (bases : ℕ → List ℕ) → IsBegun bases writers.old.items core.load.opening →
+        Ran (turns_of load.now) bases core writers.old.items writers.new.items K.tells (K.held sink.old) (K.held sink.new) (Rose (K.faults sink.old) (K.faults sink.new)) result }
+    ensures faults { K.faults sink.old ≤ K.faults sink.new }
+    ensures count { length writers.new.items ≡ length writers.old.items }
+{
+    let mut run = Run {
+        core,
+        clerk: Clerk::new(alloc),
+        workers: m,
+        streams: writers.len() as u8,
+        failed: None,
+    };
+    match run.all(writers, sink, load) {
+        Ok(()) => end_of(alloc, run, load.calls.len()),
+        Err(error) => Err(error),
+    }
+}
