@@ -1,8 +1,8 @@
 -- The first disks among all.
-use Rattle.std.proofs.Common.{ℕ, zero, suc, ◌≡◌, ◌<◌, ◌≤◌, List, [], ◌∷◌, refl, sym, ◌∙◌, subst, ◌++◌, take, drop, length, arith}
+use Rattle.std.proofs.Common.{ℕ, Bool, zero, suc, ◌≡◌, ◌<◌, List, [], ◌∷◌, refl, sym, ◌∙◌, subst, ◌++◌, take, drop, length, arith}
 use Rattle.std.proofs.Math.Seq.{take-append_seam}
-use Rattle.std.specs.Prelude.{Some, None, slice_get}
-use Rattle.tau_disk.specs.Used.{Each, EachUsed, OnlyRead, RoseAt}
+use Rattle.std.specs.Prelude.{Some, slice_get}
+use Rattle.tau_disk.specs.Used.{Each, EachUsed, OnlyRead, RoseAt, GoesOn, IsClean, IsFirstStopped}
 use Rattle.tau_scan.specs.Outside.{IsRead}
 
 module _ {D : Type 0} where
@@ -32,3 +32,20 @@ module _ {D : Type 0} where
   rose_among faults old new n j (d, e, was, is, rose) =
       let lt : j < n = take_below old n j d was in
       (lt, (d, e, sym (get_take old n j lt) ∙ was, sym (get_take new n j lt) ∙ is, rose))
+
+  -- no call of the first disks was one that is to fail
+  pub clean_first : (tells : Type 0) (number : D → ℕ) (fails : D → ℕ → Bool) (old new : List D) (n : ℕ) → Each (λ d e. tells → GoesOn number fails d e) (take n old) (take n new) → EachUsed (IsClean tells number fails) old new n
+  clean_first tells number fails old new n each j d lt get =
+      let (e, there, goes) = each j d (get_take old n j lt ∙ get) in
+      (e, sym (get_take new n j lt) ∙ there, λ t. (goes t).clean)
+
+  pub stopped_among : (tells : Type 0) (number : D → ℕ) (fails : D → ℕ → Bool) (short : D → Bool) (old new : List D) (n j : ℕ) → IsFirstStopped tells number fails short (take n old) (take n new) j → IsFirstStopped tells number fails short old new j
+  stopped_among tells number fails short old new n j h =
+      let (d, e, was, is, stop) = h.0 in
+      let lt : j < n = take_below old n j d was in (
+        (d, e, sym (get_take old n j lt) ∙ was, sym (get_take new n j lt) ∙ is, stop),
+        λ i b low get.
+            let under : i < n = omega (arith, low, lt) in
+            let (f, there, clean) = h.1 i b low (get_take old n i under ∙ get) in
+            (f, sym (get_take new n i under) ∙ there, clean),
+      )

@@ -1,26 +1,33 @@
 -- How a call may end, by its causes.
-use Rattle.std.proofs.Common.{ℕ, ◌≡◌, ◌<◌, ◌≤◌, ◌⊎◌, List, [], ◌∷◌, refl, sym, ap, ◌∙◌, subst, inl, inr, ⊎_elim, true, false, arith, length}
-use Rattle.std.specs.Prelude.{Option, Some, slice_get, nat_lt}
+use Rattle.std.proofs.Common.{ℕ, ◌≡◌, ◌≤◌, List, [], ◌∷◌, refl, sym, ap, ◌∙◌, subst, inl, inr, Bool, true, false, arith}
+use Rattle.std.specs.Prelude.{Option, Some, None, Result, Ok, Err, nat_le, ◌&&◌, if◌then◌else◌, option_and_then}
 use Rattle.std.proofs.lemmas.Bool.Decides.{nat_tests}
-use Rattle.std.proofs.lemmas.Bool.{cases_Bool}
+use Rattle.std.proofs.lemmas.Bool.{and_parts}
 use Rattle.tau_base.specs.declared.value.LogMode.{LogMode}
-use Rattle.tau_base.specs.declared.value.LogMode.TheVariants.{Values}
+use Rattle.tau_disk.specs.declared.disk.Disk.{Ghosts}
 use Rattle.tau_model.specs.History.{Member}
+use Rattle.tau_text.specs.declared.load.Workload.{Workload}
+use Rattle.tau_text.specs.declared.fault.TextFault.{TextFault}
 use Rattle.tau_scan.specs.declared.fault.LogFault.{LogFault}
 use Rattle.tau_words.specs.declared.command.Command.{Command}
 use Rattle.tau_words.specs.declared.command.Command.TheVariants.{Run, Recover}
+use Rattle.tau_words.specs.Words.{command_of}
+use Rattle.tau_run.specs.Told.{WroteFront}
 use Rattle.tau_engine.specs.declared.status.Status.{Status}
 use Rattle.tau_engine.specs.declared.status.Status.TheVariants as status
 use Rattle.tau_engine.specs.declared.served.Work.{Work}
 use Rattle.tau_engine.specs.declared.served.Work.TheVariants as work
-use Rattle.tau_engine.specs.Served.{command_in}
-use Rattle.tau_disk.specs.Used.{AreEmpty, IsFirstLong}
-use Rattle.tau_engine.specs.Outside.{OpensBad, ends_run, ends_recovery}
-use Rattle.tau_engine.proofs.Openings.{some_is}
+use Rattle.tau_engine.specs.Served.{command_in, is_served, if_served, served}
+use Rattle.tau_engine.specs.Fault.{fault_text, TellsFault}
+use Rattle.tau_engine.specs.Outside.{HasWorkload, HasFault, is_before_disks, ends_run, ends_recovery, ends_reading}
+use Rattle.tau_engine.specs.Said.{SaysRun}
+
+le_of : (j k : ℕ) → nat_le j k ≡ true → j ≤ k
+le_of j k e = grind (arith, nat_tests)
 
 -- what is asked for, as the command
-pub command_of_run : (o : Option Command) (w : Work) → o ≡ Some (command_in w) → w ≡ work.Run → o ≡ Some (Run 2 1 Values)
-command_of_run o w is e = subst (λ (x : Work). o ≡ Some (command_in x)) e is
+pub command_of_run : (o : Option Command) (w : Work) (n m : ℕ) (mode : LogMode) → o ≡ Some (command_in w) → w ≡ work.Run n m mode → o ≡ Some (Run n m mode)
+command_of_run o w n m mode is e = subst (λ (x : Work). o ≡ Some (command_in x)) e is
 
 pub command_of_recovery : (o : Option Command) (w : Work) (n p : ℕ) → o ≡ Some (command_in w) → w ≡ work.Recover n p → o ≡ Some (Recover n p)
 command_of_recovery o w n p is e = subst (λ (x : Work). o ≡ Some (command_in x)) e is
@@ -29,64 +36,22 @@ pub same_streams : (o : Option Command) (a b n p : ℕ) → o ≡ Some (Recover 
 same_streams o a b n p one other = cc
 
 -- the command of words is one
-pub same_command : (o : Option Command) (n m : ℕ) (mode : LogMode) → o ≡ Some (Run 2 1 Values) → o ≡ Some (Run n m mode) → n ≡ 2
-same_command o n m mode two some = cc
+pub same_command : (o : Option Command) (a b : ℕ) (how : LogMode) (n m : ℕ) (mode : LogMode) → o ≡ Some (Run a b how) → o ≡ Some (Run n m mode) → (a ≡ n) × (b ≡ m) × (how ≡ mode)
+same_command o a b how n m mode one some =
+    let same : Some (Run a b how) ≡ Some (Run n m mode) = sym one ∙ some in
+    (ap (λ (x : Option Command). streams_in x) same, ap (λ (x : Option Command). workers_in x) same, ap (λ (x : Option Command). mode_in how x) same)
+  where
+    streams_in : Option Command → ℕ
+    streams_in (Some (Run n m mode)) = n
+    streams_in other = 0
 
-is_below : (j k : ℕ) → nat_lt j k ≡ true → j < k
-is_below j k e = grind (arith, nat_tests)
+    workers_in : Option Command → ℕ
+    workers_in (Some (Run n m mode)) = m
+    workers_in other = 0
 
-is_not_below : (j k : ℕ) → nat_lt j k ≡ false → k ≤ j
-is_not_below j k e = grind (arith, nat_tests)
-
-three : (j k : ℕ) → (j < k) ⊎ ((k < j) ⊎ (j ≡ k))
-three j k = elim (cases_Bool (nat_lt j k)) [
-  | inl e ↦ inl (is_below j k e)
-  | inr e ↦ elim (cases_Bool (nat_lt k j)) [
-    | inl f ↦ inr (inl (is_below k j f))
-    | inr f ↦ (let a : k ≤ j = is_not_below j k e in let b : j ≤ k = is_not_below k j f in inr (inr (omega (arith, a, b))))
-  ]
-]
-
-module _ {D : Type 0} (seen : D → List ℕ) (disks : List D) where
-  long_there : (j long : ℕ) → IsFirstLong seen disks j long → (d : D) → slice_get disks j ≡ Some d → seen d ≡ [] → ⊥
-  long_there j long is d get none =
-      let (e, at, size) = is.0 in
-      let same : e ≡ d = some_is e d (sym at ∙ get) in
-      let nothing : length (seen e) ≡ 0 = subst (λ (x : D). length (seen x) ≡ 0) (sym same) (ap (λ (xs : List ℕ). length xs) none) in
-      omega (arith, size, nothing, is.1)
-
-  not_below : (j long k other : ℕ) → IsFirstLong seen disks j long → IsFirstLong seen disks k other → j < k → ⊥
-  not_below j long k other is also lt = let (d, get, size) = is.0 in long_there j long is d get (also.2 j d lt get)
-
-  same_place : (j long k other : ℕ) → IsFirstLong seen disks j long → IsFirstLong seen disks k other → j ≡ k
-  same_place j long k other is also = ⊎_elim (λ (lt : j < k). absurd (not_below j long k other is also lt)) (λ (rest : (k < j) ⊎ (j ≡ k)). ⊎_elim (λ (lt : k < j). absurd (not_below k other j long also is lt)) (λ (e : j ≡ k). e) rest) (three j k)
-
-  same_length : (j long other : ℕ) → IsFirstLong seen disks j long → IsFirstLong seen disks j other → long ≡ other
-  same_length j long other is also =
-      let (d, get, size) = is.0 in
-      let (e, at, count) = also.0 in
-      let same : d ≡ e = some_is d e (sym get ∙ at) in
-      sym size ∙ ap (λ (x : D). length (seen x)) same ∙ count
-
-  pub long_told : (s : Status) (j long : ℕ) → IsFirstLong seen disks j long → OpensBad s → ((k other : ℕ) → s ≡ status.NotEmpty k other → IsFirstLong seen disks k other) →
-      Member s (status.NotEmpty j long ∷ status.ReadFault ∷ status.NoMemory ∷ []) ⊎ ((i : ℕ) × (s ≡ status.DiskFault i))
-  long_told (status.NotEmpty k other) j long is bad cause =
-      let also = cause k other refl in
-      let place : j ≡ k = same_place j long k other is also in
-      let size : long ≡ other = same_length k long other (subst (λ (i : ℕ). IsFirstLong seen disks i long) place is) also in
-      inl (inl (ap (λ (i : ℕ). status.NotEmpty i long) place ∙ ap (λ (n : ℕ). status.NotEmpty k n) size))
-  long_told (status.DiskFault i) j long is bad cause = inr (i, refl)
-  long_told status.Ok j long is bad cause = absurd bad
-  long_told status.NoMemory j long is bad cause = inl (inr (inr (inl refl)))
-  long_told status.Usage j long is bad cause = absurd bad
-  long_told (status.BadText at why) j long is bad cause = absurd bad
-  long_told status.ReadFault j long is bad cause = absurd bad
-  long_told status.WriteFault j long is bad cause = absurd bad
-  long_told (status.BadLog fault) j long is bad cause = absurd bad
-  long_told status.TooLong j long is bad cause = absurd bad
-
-  pub none_is_long : (tells : Type 0) (n j long : ℕ) → tells → AreEmpty tells seen disks n → j < n → IsFirstLong seen disks j long → ⊥
-  none_is_long tells n j long told empty lt is = let (d, get, size) = is.0 in long_there j long is d get (empty j d lt get told)
+    mode_in : LogMode → Option Command → LogMode
+    mode_in none (Some (Run n m mode)) = mode
+    mode_in none other = none
 
 -- and likewise a recovery
 pub recovers_well : (s : Status) → ends_recovery s ≡ true → (s ≡ status.WriteFault → ⊥) → ((j : ℕ) → s ≡ status.DiskFault j → ⊥) → ((fault : LogFault) → s ≡ status.BadLog fault → ⊥) →
@@ -115,3 +80,71 @@ ends_well (status.BadText at why) kind sink disk empty = absurd (cc)
 ends_well status.ReadFault kind sink disk empty = absurd (cc)
 ends_well (status.BadLog fault) kind sink disk empty = absurd (cc)
 ends_well status.TooLong kind sink disk empty = absurd (cc)
+
+pub not_recovery : (o : Option Command) (n m k p : ℕ) (mode : LogMode) → o ≡ Some (Run n m mode) → o ≡ Some (Recover k p) → ⊥
+not_recovery o n m k p mode one other = (let f : Some (Run n m mode) ≡ Some (Recover k p) = sym one ∙ other in cc f)
+
+-- the streams and the workers of a run that is served
+pub within_served : (words : List (List ℕ)) (n m : ℕ) (mode : LogMode) → served words ≡ Some (Run n m mode) → (1 ≤ n) × (n ≤ 16) × (1 ≤ m)
+within_served words n m mode e = by_command (command_of words) e
+  where
+    low : (n m : ℕ) → (nat_le 1 n && nat_le n 16 && nat_le 1 m && nat_le m 16) ≡ true → (1 ≤ n) × (n ≤ 16) × (1 ≤ m)
+    low n m t =
+        let a = and_parts (nat_le 1 n && nat_le n 16 && nat_le 1 m) (nat_le m 16) t in
+        let b = and_parts (nat_le 1 n && nat_le n 16) (nat_le 1 m) a.0 in
+        let d = and_parts (nat_le 1 n) (nat_le n 16) b.0 in
+        (le_of 1 n d.0, le_of n 16 d.1, le_of 1 m b.1)
+
+    by_test : (d : Command) (b : Bool) → is_served d ≡ b → (if b then Some d else None) ≡ Some (Run n m mode) → (1 ≤ n) × (n ≤ 16) × (1 ≤ m)
+    by_test d true is f =
+        let same : d ≡ Run n m mode = cc in
+        low n m (sym (ap is_served same) ∙ is)
+    by_test d false is f = absurd (cc)
+
+    by_command : (o : Option Command) → option_and_then if_served o ≡ Some (Run n m mode) → (1 ≤ n) × (n ≤ 16) × (1 ≤ m)
+    by_command None f = absurd (cc)
+    by_command (Some d) f = by_test d (is_served d) refl f
+
+loaded : Workload → Result Workload TextFault → Workload
+loaded a (Ok x) = x
+loaded a (Err x) = a
+
+pub same_load : (text : List ℕ) (a b : Workload) → HasWorkload text a → HasWorkload text b → a ≡ b
+unfolding loaded
+same_load text a b one other = ap (loaded a) (sym one.1 ∙ other.1)
+
+pub not_both : (text : List ℕ) (load : Workload) (fault : TextFault) → HasWorkload text load → HasFault text fault → ⊥
+not_both text load fault one other = (let f : Ok load ≡ Err fault = sym one.1 ∙ other.1 in cc f)
+
+-- an answer of a run is no other one
+pub other_end : (s x : Status) → ends_run s ≡ true → ends_run x ≡ false → s ≡ x → ⊥
+other_end s x kind none e = (let f : true ≡ false = sym kind ∙ ap ends_run e ∙ none in cc f)
+
+pub runs_behind : (s : Status) → ends_run s ≡ true → is_before_disks s ≡ true → ⊥
+runs_behind status.Ok kind e = cc
+runs_behind status.NoMemory kind e = cc
+runs_behind status.WriteFault kind e = cc
+runs_behind (status.DiskFault j) kind e = cc
+runs_behind (status.NotEmpty j long) kind e = cc
+runs_behind status.Usage kind e = cc
+runs_behind (status.BadText at why) kind e = cc
+runs_behind status.ReadFault kind e = cc
+runs_behind (status.BadLog fault) kind e = cc
+runs_behind status.TooLong kind e = cc
+
+-- a refusal before a run: its answer, and that want of memory tells nothing
+pub ends_unread : (wrote : List ℕ → Type 0) (rose : Type 0) (refusal answer : Status) → ends_reading refusal ≡ true → TellsFault wrote rose refusal answer → (ends_reading answer ≡ true) × (answer ≡ status.NoMemory → wrote [])
+ends_unread wrote rose refusal answer kind (inr none) = (ap ends_reading none.0, λ e. none.1)
+ends_unread wrote rose refusal answer kind (inl told) = (ap ends_reading told.0 ∙ kind, λ e. nothing (subst (λ (s : Status). WroteFront wrote rose (fault_text s)) (sym told.0 ∙ e) told.1))
+  where
+    nothing : WroteFront wrote rose [] → wrote []
+    nothing (inl all) = all
+    nothing (inr part) = absurd (let lt = part.1 in omega (arith, lt))
+
+module _ {D : Type 0} (G : Ghosts D) (a b n m : ℕ) (how mode : LogMode) (read load : Workload) (old new : List D) (hears : Type 0) (held held' : List ℕ) (faults faults' : ℕ) (answer : Status) where
+  pub says_at : a ≡ n → b ≡ m → how ≡ mode → read ≡ load → SaysRun G a b how read old new hears held held' faults faults' answer → SaysRun G n m mode load old new hears held held' faults faults' answer
+  says_at en em eh el h =
+      subst (λ (x : Workload). SaysRun G n m mode x old new hears held held' faults faults' answer) el
+      (subst (λ (x : LogMode). SaysRun G n m x read old new hears held held' faults faults' answer) eh
+      (subst (λ (x : ℕ). SaysRun G n x how read old new hears held held' faults faults' answer) em
+      (subst (λ (x : ℕ). SaysRun G x b how read old new hears held held' faults faults' answer) en h)))

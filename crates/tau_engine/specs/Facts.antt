@@ -1,31 +1,35 @@
--- What a run tells and leaves.
-use Rattle.std.specs.Prelude.{ℕ, ◌<◌, ◌≡◌, List, [], slice_index_or, slice_get, Some, None}
-use Rattle.tau_block.specs.Image.{HasContent}
+-- What stops may leave of the disks of a call, how a call ends in the words of runs, and what a refused opening leaves.
+use Rattle.std.specs.Prelude.{ℕ, ◌<◌, ◌≤◌, ◌≡◌, List, length, slice_get, Some}
+use Rattle.tau_disk.specs.Used.{OfDisk, EachUsed}
+use Rattle.tau_run.specs.Told.{Ending, WroteFront}
+use Rattle.tau_run.specs.Told as ending
 use Rattle.tau_engine.specs.declared.status.Status.{Status}
 use Rattle.tau_engine.specs.declared.status.Status.TheVariants as status
-use Rattle.tau_engine.specs.Fault.{fault_text, WroteFront}
-use Rattle.tau_disk.specs.Used.{EachUsed}
+use Rattle.tau_engine.specs.Fault.{fault_text}
 use Rattle.tau_engine.specs.Outside.{OpensBad}
-use Rattle.tau_engine.specs.Workload.{Load}
-use Rattle.tau_engine.specs.Run.{Run, IsHistory, IsReportOf, AllAcked}
 
--- whatever a stop now leaves of the disk of this stream is an image with this content
-abbrev pub Holds : {D : Type 0} → Type 0 → (D → List ℕ → Type 0) → ℕ → List D → ℕ → List ℕ → Type 0
-Holds {D} tells may_leave n new j content = tells → (d : D) → slice_get new j ≡ Some d → (x : List ℕ) → may_leave d x → HasContent n j content x
+-- a stop at some moment since the entry might have left this image of the disk
+abbrev pub Past : {D : Type 0} → Type 0 → (D → ℕ) → (D → ℕ → List ℕ → Type 0) → List D → List D → ℕ → List ℕ → Type 0
+Past tells moment since old new j x = OfDisk (λ d e. tells × since e (moment d) x) old new j
 
--- A run that went to its end, of one history: the text that was written is its report, every call is acknowledged,
--- and whatever a stop now leaves has the whole content of each stream.
-pub record RunFacts (n m : ℕ) (load : Load) (holds : ℕ → List ℕ → Type 0) (wrote : List ℕ → Type 0) : Type 0 where
-  pub run : Run
-  pub history : IsHistory n m load run
-  pub acked : AllAcked load run
-  pub text : List ℕ
-  pub report : IsReportOf load run None text
-  pub told : wrote text
-  pub stored : (j : ℕ) → j < n → holds j (slice_index_or run.contents j [])
+-- a stop now may leave this image of the disk
+abbrev pub Now : {D : Type 0} → Type 0 → (D → List ℕ → Type 0) → List D → List D → ℕ → List ℕ → Type 0
+Now tells may_leave old new j x = OfDisk (λ d e. tells × may_leave e x) old new j
+
+-- a stop at the entry leaves at most a header on each of the first n disks
+abbrev pub AreUnborn : {D : Type 0} → Type 0 → (D → List ℕ → Type 0) → List D → ℕ → Type 0
+AreUnborn {D} tells may_leave old n = (j : ℕ) (d : D) → j < n → slice_get old j ≡ Some d → tells → (x : List ℕ) → may_leave d x → length x ≤ 17
+
+-- the answer, as runs end
+abbrev pub ending_of : Status → Ending
+ending_of status.Ok = ending.Done
+ending_of (status.DiskFault j) = ending.DiskFailed j
+ending_of status.WriteFault = ending.SinkFailed
+ending_of status.NoMemory = ending.NoMemory
+ending_of _ = ending.NotBegun
 
 -- Disks that hold something are refused: they were at most read, and the line of the refusal was written.
-pub record IsRefused {D : Type 0} (only_read : D → D → Type 0) (wrote : List ℕ → Type 0) (sink_rose : Type 0) (old new : List D) (answer : Status) : Type 0 where
+pub record IsRefused {D : Type 0} (n : ℕ) (only_read : D → D → Type 0) (wrote : List ℕ → Type 0) (sink_rose : Type 0) (old new : List D) (answer : Status) : Type 0 where
   pub bad : OpensBad answer
-  pub read : EachUsed only_read old new 2
+  pub read : EachUsed only_read old new n
   pub told : (answer ≡ status.NoMemory → ⊥) → WroteFront wrote sink_rose (fault_text answer)

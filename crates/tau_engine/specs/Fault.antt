@@ -1,5 +1,5 @@
 -- The one line of a refusal.
-use Rattle.std.specs.Prelude.{ℕ, ◌<◌, Bool, true, false, ◌≡◌, ◌⊎◌, List, [], ◌∷◌, length, take, codes}
+use Rattle.std.specs.Prelude.{ℕ, Bool, true, false, ◌≡◌, ◌⊎◌, List, [], ◌∷◌, codes}
 use Rattle.std.specs.Fmt.{decimal}
 use Rattle.tau_engine.specs.declared.status.Status.{Status}
 use Rattle.tau_engine.specs.declared.status.Status.TheVariants as status
@@ -11,6 +11,7 @@ use Rattle.tau_scan.specs.declared.fault.LogCause.{LogCause}
 use Rattle.tau_scan.specs.declared.fault.LogCause.TheVariants as log
 use Rattle.tau_report.specs.Lines.{line}
 use Rattle.tau_text.specs.Causes.{cause_number}
+use Rattle.tau_run.specs.Told.{WroteFront}
 
 abbrev pub image_fault_number : ImageFault → ℕ
 image_fault_number image.BadMagic = 1
@@ -57,10 +58,6 @@ is_refusal (status.BadLog fault) = true
 is_refusal (status.NotEmpty j long) = true
 is_refusal status.TooLong = true
 is_refusal _ = false
-
--- the text was written, or a first part of it where the sink failed
-abbrev pub WroteFront : (List ℕ → Type 0) → Type 0 → List ℕ → Type 0
-WroteFront wrote sink_rose text = wrote text ⊎ ((k : ℕ) × (k < length text) × wrote (take k text) × sink_rose)
 
 -- the refusal was told and is the answer, or memory was wanting and nothing was told
 abbrev pub TellsFault : (List ℕ → Type 0) → Type 0 → Status → Status → Type 0

@@ -1,13 +1,8 @@
 pub mod Served
-pub mod Workload
-pub mod Run
-pub mod Puts
 pub mod Source
-pub mod Number
-pub mod Loads
-pub mod Held
 pub mod Outside
+pub mod Fault
 pub mod Facts
 pub mod Runs
-pub mod Fault
+pub mod Said
 pub mod Recovery

@@ -1,7 +1,20 @@
 -- What is said of the source, the sink and the disks of a call.
-use Rattle.std.specs.Prelude.{ℕ, ◌<◌, ◌≤◌, ◌⊎◌, Bool, true, false, ◌≡◌, List, ◌++◌}
+use Rattle.std.specs.Prelude.{ℕ, ◌<◌, ◌≤◌, ◌⊎◌, Bool, true, false, ◌≡◌, List, ◌++◌, length, Ok, Err}
+use Rattle.tau_base.specs.declared.limits.TheConstants.{MAX_WORKLOAD}
+use Rattle.tau_text.specs.declared.load.Workload.{Workload}
+use Rattle.tau_text.specs.declared.fault.TextFault.{TextFault}
+use Rattle.tau_text.specs.Text.{workload_of}
+use Rattle.tau_open.specs.Outside.{calls_to_open}
 use Rattle.tau_engine.specs.declared.status.Status.{Status}
 use Rattle.tau_engine.specs.declared.status.Status.TheVariants as status
+
+-- the text is within the limit, and is of this workload
+abbrev pub HasWorkload : List ℕ → Workload → Type 0
+HasWorkload text load = (length text ≤ MAX_WORKLOAD) × (workload_of text ≡ Ok load)
+
+-- the text is within the limit, and this is its first bad line
+abbrev pub HasFault : List ℕ → TextFault → Type 0
+HasFault text fault = (length text ≤ MAX_WORKLOAD) × (workload_of text ≡ Err fault)
 
 -- a sink that tells has this behind what it held
 abbrev pub Wrote : Type 0 → List ℕ → List ℕ → List ℕ → Type 0
@@ -58,10 +71,6 @@ OpensBad (status.NotEmpty j long) = Unit {0}
 OpensBad (status.DiskFault j) = Unit {0}
 OpensBad status.NoMemory = Unit {0}
 OpensBad _ = ⊥
-
--- the calls of a disk that make its stream: its length, and three writes with a sync
-abbrev pub calls_to_open : ℕ
-calls_to_open = 7
 
 -- the call that failed was one of those that make the stream, and so much was written of this line; or it was a later one
 abbrev pub FailsTold : (ℕ → Type 0) → Type 0 → Type 0

@@ -1,17 +1,51 @@
--- What a run of puts tells.
-use Rattle.std.specs.Prelude.{ℕ, List, [], ◌++◌, length}
-use Rattle.tau_base.specs.declared.value.Key.{Key}
-use Rattle.tau_base.specs.declared.value.Value.{Value}
-use Rattle.tau_base.specs.Database.{empty_db}
-use Rattle.tau_model.specs.History.{exec}
-use Rattle.tau_model.specs.Tables.{IsTablesOf}
-use Rattle.tau_engine.specs.declared.workload.Workload.{Workload}
-use Rattle.tau_report.specs.Report.{ack_lines}
-use Rattle.tau_engine.specs.Run.{means}
-use Rattle.tau_engine.specs.Puts.{committed, acks_of, no_ends, tail_text}
+-- What a run on open streams leaves and tells.
+use Rattle.std.specs.Prelude.{ℕ, ◌<◌, ◌≤◌, ◌≡◌, ◌⊎◌, true, false, List, ◌++◌, length, map, take, Some, None, Result, Ok, Err}
+use Rattle.tau_base.specs.declared.value.LogMode.{LogMode}
+use Rattle.tau_base.specs.declared.value.NoMemory.{NoMemory}
+use Rattle.tau_disk.specs.Disk.{Rose}
+use Rattle.tau_disk.specs.declared.disk.Disk.{Ghosts}
+use Rattle.tau_stream.specs.declared.writer.Writer.{Writer}
+use Rattle.tau_stream.specs.Writer.{disk_of}
+use Rattle.tau_open.specs.declared.refusal.OpenRefusal.{OpenRefusal}
+use Rattle.tau_open.specs.declared.refusal.OpenRefusal.TheVariants as refusal
+use Rattle.tau_text.specs.declared.load.Workload.{Workload}
+use Rattle.tau_report.specs.declared.report.RunEnd.{RunEnd}
+use Rattle.tau_report.specs.Report.{rest_text}
+use Rattle.tau_step.specs.RunTold.{RanNew, Began}
+use Rattle.tau_engine.specs.declared.status.Status.{Status}
+use Rattle.tau_engine.specs.declared.status.Status.TheVariants as status
+use Rattle.tau_engine.specs.Outside.{Wrote}
 
--- what was written are the lines of all acknowledgements and the rest of the report
-pub record IsTold (load : Workload) (start : ℕ) (wrote : List ℕ → Type 0) : Type 0 where
-  pub rows : List (Key × Value)
-  pub present : IsTablesOf (exec (means []) (committed no_ends 1 start load.puts.items) empty_db) rows
-  pub text : wrote (ack_lines (acks_of (committed no_ends 1 start load.puts.items)) ++ tail_text load.declarations.tables (length load.puts.items) rows)
+-- the answer to a refused opening
+abbrev pub status_in : OpenRefusal → Status
+status_in refusal.NoMemory = status.NoMemory
+status_in (refusal.Failed j) = status.DiskFault j
+status_in (refusal.NotEmpty j long) = status.NotEmpty j long
+
+-- What was told behind the acknowledgements of a run that went to its end, by the answer: the rest of the report, a
+-- first part of it where the sink failed, and nothing where it had failed before.
+abbrev pub TellsEnd : List (List ℕ) → RunEnd → Type 0 → List ℕ → List ℕ → Type 0 → Status → Type 0
+TellsEnd tables end hears held held' rose status.Ok = (end.sink_failed ≡ false) × (end.disk ≡ None) × Wrote hears held held' (rest_text tables end.report None)
+TellsEnd tables end hears held held' rose (status.DiskFault j) = (end.sink_failed ≡ false) × (end.disk ≡ Some j) × Wrote hears held held' (rest_text tables end.report (Some j))
+TellsEnd tables end hears held held' rose status.WriteFault = ((end.sink_failed ≡ true) × (held' ≡ held))
+    ⊎ ((end.sink_failed ≡ false) × rose × ((k : ℕ) × (k < length (rest_text tables end.report end.disk)) × Wrote hears held held' (take k (rest_text tables end.report end.disk))))
+TellsEnd tables end hears held held' rose status.NoMemory = (end.sink_failed ≡ false) × (held' ≡ held)
+TellsEnd tables end hears held held' rose other = ⊥
+
+-- the same where memory was wanting before its end
+abbrev pub TellsRun : List (List ℕ) → Result RunEnd NoMemory → Type 0 → List ℕ → List ℕ → Type 0 → Status → Type 0
+TellsRun tables (Ok end) hears held held' rose answer = TellsEnd tables end hears held held' rose answer
+TellsRun tables (Err e) hears held held' rose answer = (answer ≡ status.NoMemory) × (held' ≡ held)
+
+-- The run on these writers: their disks stand in front of the others, and what it told is behind what the sink held.
+pub record RunsOn {D : Type 0} {G : Ghosts D} (m : ℕ) (mode : LogMode) (load : Workload) (ws : List (Writer D G)) (rest now : List D) (hears : Type 0) (held held' : List ℕ) (faults faults' : ℕ) (answer : Status) : Type 0 where
+  pub after : List (Writer D G)
+  pub back : now ≡ map disk_of after ++ rest
+  -- what the sink held behind the run, and how often it had failed
+  pub mid : List ℕ
+  pub count : ℕ
+  pub early : faults ≤ count
+  pub late : count ≤ faults'
+  pub end : Result RunEnd NoMemory
+  pub ran : Began m mode load ws after hears held mid (Rose faults count) (RanNew m mode load ws after hears held mid (Rose faults count)) end
+  pub told : TellsRun load.declarations.tables end hears mid held' (Rose count faults') answer

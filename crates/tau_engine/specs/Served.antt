@@ -1,7 +1,6 @@
 -- Which commands are served, and what they use.
-use Rattle.std.specs.Prelude.{ℕ, Bool, true, false, ◌&&◌, ◌==◌, nat_le, if◌then◌else◌, List, Option, Some, None, option_and_then}
-use Rattle.tau_base.specs.declared.limits.TheConstants.{MAX_STREAMS}
-use Rattle.tau_base.specs.declared.value.LogMode.TheVariants.{Values, Commands}
+use Rattle.std.specs.Prelude.{ℕ, Bool, true, false, ◌&&◌, nat_le, if◌then◌else◌, List, Option, Some, None, option_and_then}
+use Rattle.tau_base.specs.declared.limits.TheConstants.{MAX_STREAMS, MAX_WORKERS}
 use Rattle.tau_words.specs.declared.command.Command.{Command}
 use Rattle.tau_words.specs.declared.command.Command.TheVariants.{Run, Recover, Drill, Bench}
 use Rattle.tau_words.specs.Words.{command_of}
@@ -10,8 +9,7 @@ use Rattle.tau_engine.specs.declared.served.Work.TheVariants as work
 
 -- the commands that are there by now
 abbrev pub is_served : Command → Bool
-is_served (Run n m Values) = n == 2 && m == 1
-is_served (Run n m Commands) = false
+is_served (Run n m mode) = nat_le 1 n && nat_le n MAX_STREAMS && nat_le 1 m && nat_le m MAX_WORKERS
 is_served (Recover n p) = nat_le 1 n && nat_le n MAX_STREAMS
 is_served (Drill n m p ending) = false
 is_served (Bench start calls n m) = false
@@ -25,7 +23,7 @@ served words = option_and_then if_served (command_of words)
 
 -- the command of what is asked for
 abbrev pub command_in : Work → Command
-command_in work.Run = Run 2 1 Values
+command_in (work.Run n m mode) = Run n m mode
 command_in (work.Recover n p) = Recover n p
 
 -- the command writes nothing before it knows all

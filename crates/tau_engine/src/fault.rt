@@ -5,13 +5,13 @@ ghost use Rattle.tau_scan.specs.declared.fault.LogCause.{LogCause};
 ghost use Rattle.tau_engine.specs.Fault.{fault_text, log_fault_text, image_fault_number, record_cause_number, TellsFault};
 ghost use Rattle.tau_engine.specs.Outside.{Wrote};
 
-use crate::sink::write_all;
 use crate::status::Status;
 use std::alloc::{AllocError, Global};
 use tau_block::ImageFault;
 use tau_disk::Sink;
 use tau_record::{RecordCause, RecordFault};
 use tau_scan::{LogCause, LogFault};
+use tau_step::write_all;
 use tau_text::TextCause;
 
 // The line of a bad text.

@@ -1,20 +1,20 @@
 //! From the words and the source to a workload.
-ghost use Rattle.std.specs.Prelude.{◌≡◌, ◌≤◌, ◌<◌, ◌+◌, ℕ, [], ◌∷◌, true, false, length, drop, map, string_bytes, Some, None, Err, IfOk, IfErr, OnOk};
+ghost use Rattle.std.specs.Prelude.{◌≡◌, ◌≤◌, ◌<◌, ◌+◌, ℕ, List, [], ◌∷◌, true, false, length, drop, map, string_bytes, Some, None, Ok, Err, IfOk, IfErr, OnOk};
 ghost use Rattle.tau_disk.specs.Disk.{Rose};
 ghost use Rattle.tau_model.specs.History.{Member};
 ghost use Rattle.tau_text.specs.declared.fault.TextCause.{TextCause};
 ghost use Rattle.tau_text.specs.declared.fault.TextFault.{TextFault};
-ghost use Rattle.tau_engine.specs.Workload.{HasWorkload, HasFault};
-ghost use Rattle.tau_engine.specs.Loads.{load_of, IsWithin};
+ghost use Rattle.tau_text.specs.Kept.{IsRunnable};
+ghost use Rattle.tau_text.specs.Text.{workload_of};
+ghost use Rattle.tau_engine.specs.Outside.{HasWorkload, HasFault};
 ghost use Rattle.tau_engine.specs.Outside.{ends_reading, is_behind_end};
 
 use crate::source::{SourceRefusal, read_text};
 use crate::status::Status;
-use crate::workload::{Workload, read_workload};
 use std::alloc::Global;
 use tau_base::MAX_WORKLOAD;
 use tau_disk::Source;
-use tau_text::TextRefusal;
+use tau_text::{TextRefusal, Workload, parse_workload};
 
 /// The workload of the source's text.
 pub fn read_source<S: Source>(alloc: Global, source: &mut S) -> Result<Workload, Status>
@@ -22,10 +22,11 @@ pub fn read_source<S: Source>(alloc: Global, source: &mut S) -> Result<Workload,
     ensures too_long { result ≡ Err Status.TooLong → S.tells → MAX_WORKLOAD < length (S.left source.old) }
     ensures too_long_told { S.tells → MAX_WORKLOAD < length (S.left source.old) → Member result (Err Status.TooLong ∷ Err Status.ReadFault ∷ Err Status.NoMemory ∷ []) }
     ensures bad_text { (line : ℕ) (cause : TextCause) → result ≡ Err (Status.BadText line cause) → S.tells → HasFault (S.left source.old) (record { line = line; cause = cause }) }
-    ensures load { IfOk result (λ load. S.tells → HasWorkload (S.left source.old) (load_of load)) }
+    ensures load { IfOk result (λ load. S.tells → HasWorkload (S.left source.old) load) }
     ensures end { IfOk result (λ load. S.tells → S.left source.new ≡ []) }
     ensures end_bad { (line : ℕ) (cause : TextCause) → result ≡ Err (Status.BadText line cause) → S.tells → S.left source.new ≡ [] }
-    ensures within { IfOk result (λ load. IsWithin load) }
+    ensures meant { IfOk result (λ load. (text : List ℕ) × (workload_of text ≡ Ok load)) }
+    ensures runnable { IfOk result (λ load. IsRunnable load) }
     ensures kind { IfErr result (λ status. ends_reading status ≡ true) }
     ensures words { result ≡ Err Status.Usage → ⊥ }
     ensures source { S.tells → (k : ℕ) × (k ≤ MAX_WORKLOAD + 1) × (S.left source.new ≡ drop k (S.left source.old)) }
@@ -35,7 +36,7 @@ pub fn read_source<S: Source>(alloc: Global, source: &mut S) -> Result<Workload,
         Err(SourceRefusal::NoMemory) => Err(Status::NoMemory),
         Err(SourceRefusal::Failed) => Err(Status::ReadFault),
         Err(SourceRefusal::TooLong) => Err(Status::TooLong),
-        Ok(text) => match read_workload(alloc, &text) {
+        Ok(text) => match parse_workload(alloc, &text) {
             Ok(load) => Ok(load),
             Err(TextRefusal::NoMemory) => Err(Status::NoMemory),
             Err(TextRefusal::Bad(fault)) => Err(Status::BadText {

@@ -1,5 +1,5 @@
 //! Recovery.
-ghost use Rattle.std.specs.Prelude.{◌≡◌, ◌≤◌, ◌<◌, ◌⊎◌, ℕ, List, [], true, false, length, take, drop, map, IfOk, Ok, Err};
+ghost use Rattle.std.specs.Prelude.{◌≡◌, ◌≤◌, ◌<◌, ◌⊎◌, ℕ, List, [], true, false, length, take, drop, map, IfOk, OnOk, Ok, Err};
 ghost use Rattle.tau_disk.specs.Disk.{Rose};
 ghost use Rattle.tau_scan.specs.declared.fault.LogFault.{LogFault};
 ghost use Rattle.tau_scan.specs.declared.log.Log.{Log};
@@ -7,19 +7,20 @@ ghost use Rattle.tau_scan.specs.declared.fault.ScanRefusal.{ScanRefusal};
 ghost use Rattle.tau_scan.specs.Reading.{HasRead, IsLog, log_of};
 ghost use Rattle.tau_scan.specs.Taken.{Kept};
 ghost use Rattle.tau_replay.specs.Redone.{IsOrderOf};
-ghost use Rattle.tau_engine.specs.Fault.{fault_text, is_refusal, WroteFront};
-ghost use Rattle.tau_disk.specs.Used.{EachUsed, OnlyRead, RoseAt};
+ghost use Rattle.tau_engine.specs.Fault.{fault_text, is_refusal};
+ghost use Rattle.tau_run.specs.Told.{WroteFront};
+ghost use Rattle.tau_disk.specs.Used.{EachUsed, OnlyRead, RoseAt, IsClean, IsFirstStopped};
 ghost use Rattle.tau_engine.specs.Outside.{Wrote, ends_recovery};
 ghost use Rattle.tau_engine.specs.Recovery.{LogTells, IsTangle, IsBadLog, RecoverTells, EndsAsBad, EndsTangled, images_of};
 
 use crate::fault::refuse;
-use crate::sink::write_all;
 use crate::status::Status;
 use std::alloc::Global;
 use tau_disk::{Disk, Sink};
 use tau_replay::replay_turns;
 use tau_report::recover_text;
 use tau_scan::{Log, LogCause, LogFault, ReplayRefusal, ScanRefusal, scan};
+use tau_step::write_all;
 
 /// The log of the first disks.
 fn scan_first<D: Disk>(alloc: Global, n: usize, disks: &mut [D]) -> Result<Log, ScanRefusal>
@@ -30,6 +31,8 @@ fn scan_first<D: Disk>(alloc: Global, n: usize, disks: &mut [D]) -> Result<Log, 
     ensures sound { IfOk result (λ log. IsLog log) }
     ensures failed { (j : ℕ) → result ≡ Err (ScanRefusal.Failed j) → (j < n) × RoseAt D.faults disks.old disks.new j }
     ensures only_read { EachUsed (OnlyRead D.tells D.seen D.may_leave D.moment D.may_leave_since) disks.old disks.new n }
+    ensures clean { OnOk result (EachUsed (IsClean D.tells D.number D.fails) disks.old disks.new n) }
+    ensures stopped { (j : ℕ) → result ≡ Err (ScanRefusal.Failed j) → D.tells → IsFirstStopped D.tells D.number D.fails D.short disks.old disks.new j }
     ensures untouched { drop n disks.new ≡ drop n disks.old }
 {
     scan(alloc, &mut disks[..n])
@@ -77,6 +80,8 @@ pub fn recover<D: Disk, K: Sink>(alloc: Global, n: usize, sink: &mut K, disks: &
     ensures tangled_told { (log : Log) → D.tells → log_of (images_of D.seen disks.old n) ≡ Ok log → ((order : List Kept) → IsOrderOf log order → ⊥) → EndsTangled log result }
     ensures ordered { (log : Log) (order : List Kept) (fault : LogFault) → D.tells → log_of (images_of D.seen disks.old n) ≡ Ok log → IsOrderOf log order → result ≡ Status.BadLog fault → ⊥ }
     ensures disk_fault { (j : ℕ) → result ≡ Status.DiskFault j → (j < n) × RoseAt D.faults disks.old disks.new j }
+    ensures clean { result ≡ Status.Ok → EachUsed (IsClean D.tells D.number D.fails) disks.old disks.new n }
+    ensures stopped { (j : ℕ) → result ≡ Status.DiskFault j → D.tells → IsFirstStopped D.tells D.number D.fails D.short disks.old disks.new j }
     ensures write_fault { result ≡ Status.WriteFault → Rose (K.faults sink.old) (K.faults sink.new) }
     ensures kind { ends_recovery result ≡ true }
     ensures read { EachUsed (OnlyRead D.tells D.seen D.may_leave D.moment D.may_leave_since) disks.old disks.new n }

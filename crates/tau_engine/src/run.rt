@@ -1,102 +1,114 @@
-//! Puts run one after another.
-ghost use Rattle.std.specs.Prelude.{◌≡◌, ◌≤◌, ◌<◌, ◌+◌, ◌^◌, ◌++◌, ◌∷◌, [], ℕ, List, false, length, OnOk, OnErr, IfOk, Err};
-ghost use Rattle.std.specs.BTreeMap.{get};
-ghost use Rattle.tau_base.specs.Database.{empty_db};
+//! A run on the first disks.
+ghost use Rattle.std.specs.Prelude.{◌≡◌, ◌≤◌, ◌+◌, ℕ, List, Ok, length, vec_len, vec_capacity};
+ghost use Rattle.tau_base.specs.declared.limits.TheConstants.{MAX_CATALOGUE, MAX_STREAMS, MAX_WORKERS};
 ghost use Rattle.tau_disk.specs.Disk.{Rose};
-ghost use Rattle.tau_model.specs.History.{exec};
-ghost use Rattle.tau_stream.specs.Writer.{disk_of, durable_of, left_of, added_of, has_failed, IsReady};
-ghost use Rattle.tau_engine.specs.Held.{numbers_of};
-ghost use Rattle.tau_report.specs.Lines.{ack_line};
-ghost use Rattle.tau_report.specs.Report.{ack_lines};
-ghost use Rattle.tau_disk.specs.Used.{GoesOn, IsStopped};
-ghost use Rattle.tau_engine.specs.Run.{means};
-ghost use Rattle.tau_engine.specs.Puts.{committed, logged, acks_of, no_ends};
+ghost use Rattle.tau_text.specs.Canonical.{declarations_text};
+ghost use Rattle.tau_text.specs.Kept.{IsRunnable};
+ghost use Rattle.tau_text.specs.Text.{workload_of};
+ghost use Rattle.tau_run.specs.Facts.{catalogue_of};
+ghost use Rattle.tau_step.specs.RunTold.{AreNew};
+ghost use Rattle.tau_engine.specs.Runs.{TellsEnd, RunsOn, status_in};
+ghost use Rattle.tau_engine.specs.Said.{SaysRun};
 
-use crate::log::{LogRefusal, log_put};
-use crate::rows::Rows;
-use crate::sink::write_all;
-use crate::workload::Put;
+use crate::fault::refuse;
+use crate::status::Status;
 use std::alloc::Global;
-use tau_base::{Key, Lv, MAX_CALLS, MAX_LSN};
+use tau_base::{LogMode, NoMemory};
 use tau_disk::{Disk, Sink};
-use tau_report::ack_line;
+use tau_open::{OpenRefusal, close_streams, open_streams};
+use tau_report::{RunEnd, report_text};
+use tau_step::{run_turns, write_all};
 use tau_stream::Writer;
+use tau_text::{Workload, print_declarations};
 
-/// Why a run did not go to its end.
-#[derive(Clone, Copy, Debug, PartialEq, Eq)]
-pub enum RunRefusal {
-    /// Memory was wanting.
-    NoMemory,
-    /// The sink failed.
-    Sink,
-    /// The disk of stream 0 failed.
-    Disk,
-}
-
-/// Writes the line of an acknowledgement, once the call's record is durable.
-fn acknowledge<D: Disk, K: Sink>(
-    line: &mut Vec<u8>,
-    sink: &mut K,
-    log: &Writer<D>,
-    number: u64,
-    end: u64,
-) -> Result<(), RunRefusal>
-    requires durable { end ≤ durable_of log.now }
-    requires small { end < MAX_LSN }
-    ensures written { OnOk result (K.tells → K.held sink.new ≡ K.held sink.old ++ ack_line (number, end ∷ 0 ∷ [])) }
-    ensures cause { result ≡ Err RunRefusal.Sink → Rose (K.faults sink.old) (K.faults sink.new) }
-    ensures disk { result ≡ Err RunRefusal.Disk → ⊥ }
+/// Writes what a run tells behind its acknowledgements, and answers how it ended. Nothing is written to a sink that has
+/// failed.
+fn tell_end<K: Sink>(alloc: Global, load: &Workload, end: &RunEnd, sink: &mut K) -> Status
+    ensures told { TellsEnd load.now.declarations.tables end.now K.tells (K.held sink.old) (K.held sink.new) (Rose (K.faults sink.old) (K.faults sink.new)) result }
     ensures faults { K.faults sink.old ≤ K.faults sink.new }
 {
-    let _ = log;
-    let lv = Lv::zero(2).with(0, end);
-    let Ok(()) = ack_line(line, number, &lv) else {
-        return Err(RunRefusal::NoMemory);
+    if end.sink_failed {
+        return Status::WriteFault;
+    }
+    let Ok(text) = report_text(alloc, &load.declarations, &end.report, end.disk) else {
+        return Status::NoMemory;
     };
-    match write_all(sink, line) {
-        Ok(()) => Ok(()),
-        Err(_) => Err(RunRefusal::Sink),
+    match write_all(sink, &text) {
+        Err(_) => Status::WriteFault,
+        Ok(()) => match end.disk {
+            None => Status::Ok,
+            Some(stream) => Status::DiskFault { stream },
+        },
     }
 }
 
-/// Runs the puts one after another: each has its record durable in the stream before it is acknowledged.
-pub fn run_puts<D: Disk, K: Sink>(
-    alloc: Global,
-    puts: &[Put],
-    log: &mut Writer<D>,
-    sink: &mut K,
-) -> Result<Rows, RunRefusal>
-    requires few { length puts.now ≤ MAX_CALLS }
-    requires left { left_of log.old ≡ [] }
-    requires works { has_failed log.old ≡ false }
-    requires added { added_of log.old ≡ 0 }
-    requires durable { durable_of log.old ≤ 2 ^ 60 }
-
-    ensures acks { OnOk result (K.tells → K.held sink.new ≡ K.held sink.old ++ ack_lines (acks_of (committed no_ends 1 (durable_of log.old) puts.now))) }
-    ensures rows { IfOk result (λ rows. numbers_of (get ⟦<Key as Ord>⟧.cmp rows.map) ≡ exec (means []) (committed no_ends 1 (durable_of log.old) puts.now) empty_db) }
-    ensures stored { OnOk result (D.tells → (n j : ℕ) (content : List ℕ) → IsReady n j log.old content → IsReady n j log.new (content ++ logged no_ends 1 (durable_of log.old) puts.now)) }
-    ensures sink { result ≡ Err RunRefusal.Sink → Rose (K.faults sink.old) (K.faults sink.new) }
-    ensures disk { result ≡ Err RunRefusal.Disk → Rose (D.faults (disk_of log.old)) (D.faults (disk_of log.new)) }
-    ensures goes { OnOk result (D.tells → GoesOn D.number D.fails (disk_of log.old) (disk_of log.new)) }
-    ensures stopped { result ≡ Err RunRefusal.Disk → D.tells → IsStopped D.tells D.number D.fails D.short (disk_of log.old) (disk_of log.new) }
-    ensures faults { D.faults (disk_of log.old) ≤ D.faults (disk_of log.new) }
-    ensures sink_faults { K.faults sink.old ≤ K.faults sink.new }
+/// How a run ends where it could not begin.
+fn status_of(refusal: OpenRefusal) -> Status
+    ensures value { result ≡ status_in refusal }
 {
-    let mut rows = Rows::new(alloc);
-    let mut line = Vec::new(alloc);
-    let mut number = 1;
-    for put in puts {
-        let end = rows.end(put.key);
-        let past = match log_put(alloc, log, number, end, *put) {
-            Ok(past) => past,
-            Err(LogRefusal::NoMemory) => return Err(RunRefusal::NoMemory),
-            Err(LogRefusal::Failed) => return Err(RunRefusal::Disk),
-        };
-        let Ok(()) = rows.put(put.key, put.number, past) else {
-            return Err(RunRefusal::NoMemory);
-        };
-        acknowledge(&mut line, sink, log, number, past)?;
-        number += 1;
+    match refusal {
+        OpenRefusal::NoMemory => Status::NoMemory,
+        OpenRefusal::Failed { stream } => Status::DiskFault { stream },
+        OpenRefusal::NotEmpty { stream, length } => Status::NotEmpty { stream, length },
     }
-    Ok(rows)
+}
+
+/// Runs a workload on the streams of these writers, and puts their disks back in front of the others.
+fn run_on<D: Disk, K: Sink>(
+    alloc: Global,
+    load: &Workload,
+    m: u8,
+    mode: LogMode,
+    sink: &mut K,
+    disks: &mut Vec<D>,
+    writers: Vec<Writer<D>>,
+) -> Status
+    requires streams_low { 1 ≤ vec_len writers }
+    requires streams_high { vec_len writers ≤ MAX_STREAMS }
+    requires low { 1 ≤ m }
+    requires high { m ≤ MAX_WORKERS }
+    requires runnable { IsRunnable load.now }
+    requires text { length (declarations_text load.now.declarations) ≤ MAX_CATALOGUE }
+    requires fresh { AreNew (λ j. catalogue_of load.now) writers.items }
+    requires room { vec_len disks.old + vec_len writers ≤ vec_capacity disks.old }
+    ensures ran { RunsOn m mode load.now writers.items disks.old.items disks.new.items K.tells (K.held sink.old) (K.held sink.new) (K.faults sink.old) (K.faults sink.new) result }
+    ensures len { vec_len disks.new ≡ vec_len writers + vec_len disks.old }
+{
+    let mut writers = writers;
+    let end = run_turns(alloc, load, m, mode, &mut writers, sink);
+    close_streams(disks, writers);
+    match end {
+        Ok(end) => tell_end(alloc, load, &end, sink),
+        Err(NoMemory) => Status::NoMemory,
+    }
+}
+
+/// Runs a workload on the first `n` disks, which are to hold nothing, and puts them back in their places.
+pub fn run<D: Disk, K: Sink>(
+    alloc: Global,
+    load: &Workload,
+    n: u8,
+    m: u8,
+    mode: LogMode,
+    sink: &mut K,
+    disks: &mut Vec<D>,
+) -> Status
+    requires disks { vec_len disks.old ≡ 16 }
+    requires streams_low { 1 ≤ n }
+    requires streams_high { n ≤ MAX_STREAMS }
+    requires low { 1 ≤ m }
+    requires high { m ≤ MAX_WORKERS }
+    requires runnable { IsRunnable load.now }
+    requires meant { (text : List ℕ) × (workload_of text ≡ Ok load.now) }
+
+    ensures count { vec_len disks.new ≡ 16 }
+    ensures says { SaysRun ⟦<D as Disk>⟧ n m mode load.now disks.old.items disks.new.items K.tells (K.held sink.old) (K.held sink.new) (K.faults sink.old) (K.faults sink.new) result }
+{
+    let Ok(catalogue) = print_declarations(alloc, &load.declarations) else {
+        return Status::NoMemory;
+    };
+    match open_streams(alloc, disks, n, &catalogue) {
+        Err(refusal) => refuse(alloc, sink, status_of(refusal)),
+        Ok(writers) => run_on(alloc, load, m, mode, sink, disks, writers),
+    }
 }

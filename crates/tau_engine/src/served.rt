@@ -1,5 +1,6 @@
 //! The commands that are there by now.
-ghost use Rattle.std.specs.Prelude.{◌≡◌, ◌≤◌, ℕ, true, false, Err, IfOk, IfSome, IfNone, Some, None, map, string_bytes};
+ghost use Rattle.std.specs.Prelude.{◌≡◌, ◌≤◌, ◌&&◌, nat_le, ℕ, true, false, Err, IfOk, IfSome, IfNone, Some, None, map, string_bytes};
+ghost use Rattle.tau_base.specs.declared.value.LogMode.{LogMode};
 ghost use Rattle.tau_engine.specs.Served.{command_in, is_served, served};
 ghost use Rattle.tau_words.specs.declared.command.WordsRefusal.TheVariants.{Usage};
 
@@ -10,8 +11,15 @@ use tau_words::{Command, WordsRefusal, read_words};
 /// What a command that is there by now asks for.
 #[derive(Clone, Copy, Debug, PartialEq, Eq)]
 pub enum Work {
-    /// A run of one worker over two streams.
-    Run,
+    /// A run.
+    Run {
+        /// Streams, 1 to 16.
+        n: u8,
+        /// Workers, 1 to 16.
+        m: u8,
+        /// What records hold.
+        mode: LogMode,
+    },
     /// A recovery.
     Recover {
         /// Streams, 1 to 16.
@@ -21,22 +29,25 @@ pub enum Work {
     },
 }
 
+// Whether so many streams may be used.
+fn is_count(n: u8) -> bool
+    ensures value { result ≡ (nat_le 1 n && nat_le n 16) }
+    ensures within { result ≡ true → (1 ≤ n) × (n ≤ 16) }
+{
+    1 <= n && usize::from(n) <= MAX_STREAMS
+}
+
 // What the command asks for, where it is there by now.
 fn work_of(command: Command) -> Option<Work>
     ensures some { IfSome result (λ w. command ≡ command_in w) }
     ensures there { IfSome result (λ w. is_served command ≡ true) }
     ensures within { IfSome result (λ w. (n p : ℕ) → w ≡ Work.Recover n p → (1 ≤ n) × (n ≤ 16)) }
+    ensures within_run { IfSome result (λ w. (n m : ℕ) (mode : LogMode) → w ≡ Work.Run n m mode → ((1 ≤ n) × (n ≤ 16)) × (1 ≤ m) × (m ≤ 16)) }
     ensures none { IfNone result (is_served command ≡ false) }
 {
     match command {
-        Command::Run {
-            n: 2,
-            m: 1,
-            mode: LogMode::Values,
-        } => Some(Work::Run),
-        Command::Recover { n, p } if 1 <= n && usize::from(n) <= MAX_STREAMS => {
-            Some(Work::Recover { n, p })
-        }
+        Command::Run { n, m, mode } if is_count(n) && is_count(m) => Some(Work::Run { n, m, mode }),
+        Command::Recover { n, p } if is_count(n) => Some(Work::Recover { n, p }),
         _ => None,
     }
 }
@@ -45,6 +56,7 @@ fn work_of(command: Command) -> Option<Work>
 pub fn read_served(alloc: Global, words: &[String]) -> Result<Work, WordsRefusal>
     ensures ok { IfOk result (λ w. served (map string_bytes words.now) ≡ Some (command_in w)) }
     ensures within { IfOk result (λ w. (n p : ℕ) → w ≡ Work.Recover n p → (1 ≤ n) × (n ≤ 16)) }
+    ensures within_run { IfOk result (λ w. (n m : ℕ) (mode : LogMode) → w ≡ Work.Run n m mode → ((1 ≤ n) × (n ≤ 16)) × (1 ≤ m) × (m ≤ 16)) }
     ensures usage { result ≡ Err Usage → served (map string_bytes words.now) ≡ None }
 {
     match work_of(read_words(alloc, words)?) {

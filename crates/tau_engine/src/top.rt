@@ -13,57 +13,26 @@ ghost use Rattle.tau_scan.specs.Taken.{Kept};
 ghost use Rattle.tau_replay.specs.Redone.{IsOrderOf};
 ghost use Rattle.tau_engine.specs.Recovery.{IsBadLog, RecoverTells, EndsAsBad, EndsTangled, images_of};
 ghost use Rattle.tau_engine.specs.Served.{served, used_by, reads_source, writes_at_end};
-ghost use Rattle.tau_engine.specs.Workload.{Load, HasWorkload, HasFault};
-ghost use Rattle.tau_engine.specs.Loads.{load_of, IsWithin};
-ghost use Rattle.tau_engine.specs.Facts.{RunFacts, Holds, IsRefused};
-ghost use Rattle.tau_engine.specs.Fault.{fault_text, is_refusal, WroteFront};
+ghost use Rattle.tau_text.specs.declared.load.Workload.{Workload};
+ghost use Rattle.tau_run.specs.Told.{RunFacts};
+ghost use Rattle.tau_engine.specs.Facts.{Past, Now, AreUnborn, ending_of};
+ghost use Rattle.tau_engine.specs.Fault.{fault_text, is_refusal};
+ghost use Rattle.tau_run.specs.Told.{WroteFront};
 ghost use Rattle.tau_disk.specs.Used.{RoseAt, EachUsed, AreEmpty, IsFirstLong, OnlyRead, OneCall, IsClean, IsFirstStopped, Made};
-ghost use Rattle.tau_engine.specs.Outside.{FailsTold, Wrote, is_behind_text, is_behind_end, is_before_disks, ends_run};
+ghost use Rattle.tau_engine.specs.Outside.{HasWorkload, HasFault, FailsTold, Wrote, is_behind_text, is_behind_end, is_before_disks};
 
-use crate::disks::{put_first, take_first};
 use crate::fault::refuse;
 use crate::reading::read_source;
 use crate::recovery::recover;
+use crate::run::run;
 use crate::served::{Work, read_served};
 use crate::status::Status;
-use crate::streams::run_two;
-use crate::workload::Workload;
 use std::alloc::Global;
 use std::sync::Wait;
 use std::thread::Threads;
 use tau_base::MAX_WORKLOAD;
 use tau_disk::{Disk, Gate, Sink, Source};
 use tau_words::WordsRefusal;
-
-/// Runs the workload on the first two disks.
-fn run<D: Disk, K: Sink>(alloc: Global, load: &Workload, sink: &mut K, disks: &mut Vec<D>) -> Status
-    requires disks { vec_len disks.old ≡ 16 }
-    requires within { IsWithin load.now }
-
-    ensures count { vec_len disks.new ≡ 16 }
-    ensures ran { result ≡ Status.Ok → RunFacts 2 1 (load_of load.now) (Holds D.tells D.may_leave 2 disks.new.items) (Wrote K.tells (K.held sink.old) (K.held sink.new)) }
-    ensures not_empty { (j long : ℕ) → result ≡ Status.NotEmpty j long → (j < 2) × (D.tells → IsFirstLong D.seen disks.old.items j long) }
-    ensures was_empty { D.tells → ((j long : ℕ) → j < 2 → IsFirstLong D.seen disks.old.items j long → ⊥) ⊎ IsRefused (OnlyRead D.tells D.seen D.may_leave D.moment D.may_leave_since)
-        (Wrote K.tells (K.held sink.old) (K.held sink.new)) (Rose (K.faults sink.old) (K.faults sink.new)) disks.old.items disks.new.items result }
-    ensures asked { (j long : ℕ) → result ≡ Status.NotEmpty j long → IsRefused (OnlyRead D.tells D.seen D.may_leave D.moment D.may_leave_since)
-        (Wrote K.tells (K.held sink.old) (K.held sink.new)) (Rose (K.faults sink.old) (K.faults sink.new)) disks.old.items disks.new.items result }
-    ensures asked_once { (j long : ℕ) → result ≡ Status.NotEmpty j long → EachUsed (OneCall D.tells D.number D.short) disks.old.items disks.new.items 2 }
-    ensures disk_fault { (j : ℕ) → result ≡ Status.DiskFault j → (j < 2) × RoseAt D.faults disks.old.items disks.new.items j }
-    ensures clean { result ≡ Status.Ok → EachUsed (IsClean D.tells D.number D.fails) disks.old.items disks.new.items 2 }
-    ensures stopped { (j : ℕ) → result ≡ Status.DiskFault j → D.tells → IsFirstStopped D.tells D.number D.fails D.short disks.old.items disks.new.items j }
-    ensures fault_told { (j : ℕ) → result ≡ Status.DiskFault j → D.tells → FailsTold (Made D.number D.short disks.old.items disks.new.items j)
-        (WroteFront (Wrote K.tells (K.held sink.old) (K.held sink.new)) (Rose (K.faults sink.old) (K.faults sink.new)) (fault_text result)) }
-    ensures write_fault { result ≡ Status.WriteFault → Rose (K.faults sink.old) (K.faults sink.new) }
-    ensures kind { ends_run result ≡ true }
-    ensures untouched { drop 2 disks.new.items ≡ drop 2 disks.old.items }
-{
-    let first = take_first(disks);
-    let second = take_first(disks);
-    let (first, second, status) = run_two(alloc, load, sink, first, second);
-    put_first(disks, second);
-    put_first(disks, first);
-    status
-}
 
 /// Does what the words say, and answers how it ended. The words are those behind the program's name. A run uses the
 /// first disks, which hold nothing before it; all disks stand in their places again, whatever the answer.
@@ -93,15 +62,15 @@ pub fn taurus<R: Threads + Wait + Sync, S: Source, K: Sink + Send, D: Disk + Sen
     ensures bad_text_told { reads_source (served (map string_bytes words.now)) ≡ true → S.tells → (fault : TextFault) → HasFault (S.left source.old) fault →
         Member result (Status.BadText fault.line fault.cause ∷ Status.ReadFault ∷ Status.NoMemory ∷ []) }
     ensures behind_text { is_behind_text result ≡ true → reads_source (served (map string_bytes words.now)) ≡ true → S.tells →
-        (load : Load) × HasWorkload (S.left source.old) load }
+        (load : Workload) × HasWorkload (S.left source.old) load }
     ensures disk_fault { (j : ℕ) → result ≡ Status.DiskFault j → (j < used_by (served (map string_bytes words.now))) × RoseAt D.faults disks.old.items disks.new.items j }
     // A fault of a disk is the first call that was to fail, of the lowest disk that has one, unless its memory was short.
-    ensures disk_fault_first { (n m j : ℕ) (mode : LogMode) → served (map string_bytes words.now) ≡ Some (Command.Run n m mode) → result ≡ Status.DiskFault j → D.tells → IsFirstStopped D.tells D.number D.fails D.short disks.old.items disks.new.items j }
-    ensures disk_fault_told { (n m : ℕ) (mode : LogMode) → served (map string_bytes words.now) ≡ Some (Command.Run n m mode) → result ≡ Status.Ok → EachUsed (IsClean D.tells D.number D.fails) disks.old.items disks.new.items n }
+    ensures disk_fault_first { (j : ℕ) → result ≡ Status.DiskFault j → D.tells → IsFirstStopped D.tells D.number D.fails D.short disks.old.items disks.new.items j }
+    ensures disk_fault_told { result ≡ Status.Ok → EachUsed (IsClean D.tells D.number D.fails) disks.old.items disks.new.items (used_by (served (map string_bytes words.now))) }
     ensures not_empty { (j long : ℕ) → result ≡ Status.NotEmpty j long → (n m : ℕ) × (mode : LogMode) × (served (map string_bytes words.now) ≡ Some (Command.Run n m mode))
         × (j < n) × (D.tells → IsFirstLong D.seen disks.old.items j long) }
     ensures not_empty_told { (n m : ℕ) (mode : LogMode) (j long : ℕ) → served (map string_bytes words.now) ≡ Some (Command.Run n m mode) →
-        S.tells → (load : Load) → HasWorkload (S.left source.old) load → D.tells → j < n → IsFirstLong D.seen disks.old.items j long →
+        S.tells → (load : Workload) → HasWorkload (S.left source.old) load → D.tells → j < n → IsFirstLong D.seen disks.old.items j long →
         Member result (Status.NotEmpty j long ∷ Status.ReadFault ∷ Status.NoMemory ∷ []) ⊎ ((i : ℕ) × (result ≡ Status.DiskFault i)) }
     ensures bad_log { (fault : LogFault) → result ≡ Status.BadLog fault → (n p : ℕ) × (served (map string_bytes words.now) ≡ Some (Command.Recover n p))
         × (D.tells → IsBadLog (images_of D.seen disks.old.items n) fault) }
@@ -121,15 +90,17 @@ pub fn taurus<R: Threads + Wait + Sync, S: Source, K: Sink + Send, D: Disk + Sen
     ensures opening_fault { (n m i j long : ℕ) (mode : LogMode) → served (map string_bytes words.now) ≡ Some (Command.Run n m mode) → result ≡ Status.DiskFault i →
         D.tells → j < n → IsFirstLong D.seen disks.old.items j long →
         WroteFront (Wrote K.tells (K.held sink.old) (K.held sink.new)) (Rose (K.faults sink.old) (K.faults sink.new)) (fault_text result) }
-    // A disk that fails while its stream is made is told too; one that fails later ends the run with no line.
+    // A disk that fails while its stream is made is told by the one line; one that fails later is told by the report.
     ensures making_fault { (n m j : ℕ) (mode : LogMode) → served (map string_bytes words.now) ≡ Some (Command.Run n m mode) → result ≡ Status.DiskFault j → D.tells → FailsTold (Made D.number D.short disks.old.items disks.new.items j)
         (WroteFront (Wrote K.tells (K.held sink.old) (K.held sink.new)) (Rose (K.faults sink.old) (K.faults sink.new)) (fault_text result)) }
     ensures silent { result ≡ Status.NoMemory → writes_at_end (served (map string_bytes words.now)) ≡ true → Wrote K.tells (K.held sink.old) (K.held sink.new) [] }
 
-    // A run that went well has one history, of which its report is, and its disks hold it.
-    ensures run { (n m : ℕ) (mode : LogMode) (load : Load) → served (map string_bytes words.now) ≡ Some (Command.Run n m mode) →
-        S.tells → HasWorkload (S.left source.old) load → result ≡ Status.Ok →
-        RunFacts n m load (Holds D.tells D.may_leave n disks.new.items) (Wrote K.tells (K.held sink.old) (K.held sink.new)) }
+    // A run has one history, of which its report, the images that stops may leave and its acknowledgements are, however it ends.
+    ensures run { (n m : ℕ) (mode : LogMode) (load : Workload) → served (map string_bytes words.now) ≡ Some (Command.Run n m mode) →
+        S.tells → HasWorkload (S.left source.old) load → AreEmpty D.tells D.seen disks.old.items n →
+        RunFacts n m mode load (AreUnborn D.tells D.may_leave disks.old.items n) (Past D.tells D.moment D.may_leave_since disks.old.items disks.new.items) (Now D.tells D.may_leave disks.old.items disks.new.items)
+        (RoseAt D.faults disks.old.items disks.new.items) (Rose (K.faults sink.old) (K.faults sink.new)) (λ j k. D.tells → Made D.number D.short disks.old.items disks.new.items j k)
+        (Wrote K.tells (K.held sink.old) (K.held sink.new)) (λ j. fault_text (Status.DiskFault j)) (ending_of result) }
 
     // Recovery is a function of what the disks read.
     ensures recover { (n p : ℕ) → served (map string_bytes words.now) ≡ Some (Command.Recover n p) → D.tells →
@@ -150,7 +121,7 @@ pub fn taurus<R: Threads + Wait + Sync, S: Source, K: Sink + Send, D: Disk + Sen
     ensures read { (n p : ℕ) → served (map string_bytes words.now) ≡ Some (Command.Recover n p) → EachUsed (OnlyRead D.tells D.seen D.may_leave D.moment D.may_leave_since) disks.old.items disks.new.items n }
 
     // Where nothing is amiss, the work is done.
-    ensures run_done { (n m : ℕ) (mode : LogMode) (load : Load) → served (map string_bytes words.now) ≡ Some (Command.Run n m mode) →
+    ensures run_done { (n m : ℕ) (mode : LogMode) (load : Workload) → served (map string_bytes words.now) ≡ Some (Command.Run n m mode) →
         S.tells → D.tells → HasWorkload (S.left source.old) load → AreEmpty D.tells D.seen disks.old.items n →
         (Rose (S.faults source.old) (S.faults source.new) → ⊥) → (Rose (K.faults sink.old) (K.faults sink.new) → ⊥) → ((j : ℕ) → j < n → RoseAt D.faults disks.old.items disks.new.items j → ⊥) →
         Member result (Status.Ok ∷ Status.NoMemory ∷ []) }
@@ -165,9 +136,9 @@ pub fn taurus<R: Threads + Wait + Sync, S: Source, K: Sink + Send, D: Disk + Sen
         Err(WordsRefusal::NoMemory) => Status::NoMemory,
         Err(WordsRefusal::Usage) => refuse(alloc, sink, Status::Usage),
         Ok(Work::Recover { n, p: _ }) => recover(alloc, usize::from(n), sink, disks),
-        Ok(Work::Run) => match read_source(alloc, source) {
+        Ok(Work::Run { n, m, mode }) => match read_source(alloc, source) {
             Err(refusal) => refuse(alloc, sink, refusal),
-            Ok(load) => run(alloc, &load, sink, disks),
+            Ok(load) => run(alloc, &load, n, m, mode, sink, disks),
         },
     }
 }

@@ -1,8 +1,9 @@
-use Rattle.std.proofs.Common.{ℕ, ◌≡◌, ◌<◌, ◌++◌, List, length, take, drop, sym, subst, rules}
+use Rattle.std.proofs.Common.{ℕ, ◌≡◌, ◌++◌, List, length, take, drop, sym, subst, rules}
+use Rattle.std.specs.Prelude.{Result, Ok, Err, OnOk}
 use Rattle.std.proofs.Math.Seq.{take-append_seam}
-use Rattle.tau_disk.specs.Used.{Each, RoseAt}
+use Rattle.tau_disk.specs.Used.{Each, RoseAt, GoesOn, IsFirstStopped}
 use Rattle.tau_scan.specs.Outside.{IsRead}
-use Rattle.tau_engine.proofs.Recoveries.{read_first, rose_among}
+use Rattle.tau_engine.proofs.Recoveries.{read_first, rose_among, clean_first, stopped_among}
 use Rattle.tau_engine.proofs.recovery.scan_first.Goals as goal
 
 pub returns-clause-failed : goal.returns-clause-failed
@@ -20,3 +21,24 @@ returns-clause-only_read g c =
     subst (λ (k : ℕ). take k (c.scan.new.disks ++ drop c.args.n c.args.disks.now) ≡ c.scan.new.disks) long (take-append_seam c.scan.new.disks (drop c.args.n c.args.disks.now)) in
     read_first g.D.Disk.tells g.D.Disk.seen g.D.Disk.may_leave g.D.Disk.moment g.D.Disk.may_leave_since g.D.Disk.faults c.args.disks.now (c.scan.new.disks ++ drop c.args.n c.args.disks.now) c.args.n
     (subst (λ (ds : List g.row.D.Denot). Each (IsRead g.D.Disk.tells g.D.Disk.seen g.D.Disk.may_leave g.D.Disk.moment g.D.Disk.may_leave_since g.D.Disk.faults) (take c.args.n c.args.disks.now) ds) (sym same) c.scan.ensures.only_read)
+
+pub returns-clause-stopped : goal.returns-clause-stopped
+returns-clause-stopped g c j e tells =
+    let long : length c.scan.new.disks ≡ c.args.n = search rules in
+    let same : take c.args.n (c.scan.new.disks ++ drop c.args.n c.args.disks.now) ≡ c.scan.new.disks =
+    subst (λ (k : ℕ). take k (c.scan.new.disks ++ drop c.args.n c.args.disks.now) ≡ c.scan.new.disks) long (take-append_seam c.scan.new.disks (drop c.args.n c.args.disks.now)) in
+    stopped_among g.D.Disk.tells g.D.Disk.number g.D.Disk.fails g.D.Disk.short c.args.disks.now (c.scan.new.disks ++ drop c.args.n c.args.disks.now) c.args.n j
+    (subst (λ (ds : List g.row.D.Denot). IsFirstStopped g.D.Disk.tells g.D.Disk.number g.D.Disk.fails g.D.Disk.short (take c.args.n c.args.disks.now) ds j) (sym same) (c.scan.ensures.stopped j e tells))
+
+on_ok : {A E P Q : Type 0} (r : Result A E) → OnOk r P → (P → Q) → OnOk r Q
+on_ok (Ok x) h f = f h
+on_ok (Err e) h f = h
+
+pub returns-clause-clean : goal.returns-clause-clean
+returns-clause-clean g c =
+    let long : length c.scan.new.disks ≡ c.args.n = search rules in
+    let same : take c.args.n (c.scan.new.disks ++ drop c.args.n c.args.disks.now) ≡ c.scan.new.disks =
+    subst (λ (k : ℕ). take k (c.scan.new.disks ++ drop c.args.n c.args.disks.now) ≡ c.scan.new.disks) long (take-append_seam c.scan.new.disks (drop c.args.n c.args.disks.now)) in
+    on_ok c.scan.result c.scan.ensures.went (λ each.
+    clean_first g.D.Disk.tells g.D.Disk.number g.D.Disk.fails c.args.disks.now (c.scan.new.disks ++ drop c.args.n c.args.disks.now) c.args.n
+    (subst (λ (ds : List g.row.D.Denot). Each (λ d e. g.D.Disk.tells → GoesOn g.D.Disk.number g.D.Disk.fails d e) (take c.args.n c.args.disks.now) ds) (sym same) each))

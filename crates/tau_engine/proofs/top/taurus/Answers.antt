@@ -1,59 +1,210 @@
-use Rattle.std.proofs.Common.{ℕ, ◌≡◌, ◌<◌, List, ◌∙◌, sym, ap, subst, ⊎_elim, arith, map, length, rules}
-use Rattle.std.specs.Prelude.{string_bytes, Some, Ok}
-use Rattle.tau_words.specs.declared.command.Command.TheVariants.{Recover}
+use Rattle.std.proofs.Common.{ℕ, ◌≡◌, ◌<◌, List, ◌∙◌, sym, ap, subst, refl, arith, map, length, take, drop, ◌++◌, rules, true, false}
+use Rattle.std.specs.Prelude.{string_bytes, Some, None, Ok}
+use Rattle.tau_base.specs.declared.value.LogMode.{LogMode}
+use Rattle.tau_words.specs.declared.command.Command.TheVariants.{Run, Recover}
+use Rattle.tau_text.specs.declared.load.Workload.{Workload}
 use Rattle.tau_scan.specs.Reading.{log_of}
+use Rattle.tau_run.proofs.Sources.{catalogue_load}
+use Rattle.tau_engine.specs.declared.status.Status.TheVariants as status
 use Rattle.tau_engine.specs.Recovery.{RecoverTells, IsBadLog, images_of}
-use Rattle.tau_engine.specs.Served.{served, used_by}
-use Rattle.tau_disk.specs.Used.{EachUsed, OnlyRead, OneCall, RoseAt}
+use Rattle.tau_engine.specs.Served.{served, used_by, reads_source, writes_at_end}
+use Rattle.tau_engine.specs.Said.{SaysRun}
+use Rattle.tau_disk.specs.Used.{EachUsed, OnlyRead, OneCall, RoseAt, IsClean, IsFirstStopped}
 use Rattle.tau_engine.specs.Outside.{Wrote}
 use Rattle.tau_disk.specs.Disk.{Rose}
+use Rattle.tau_engine.proofs.Longs.{none_is_long, long_told}
 use Rattle.tau_engine.proofs.Refusals.{told_refusal, refusal_of_run}
+use Rattle.tau_engine.proofs.Refused.{untouched_facts}
 use Rattle.tau_engine.proofs.Recoveries.{handed_back}
-use Rattle.tau_engine.proofs.Tops.{command_of_run, command_of_recovery, same_command, same_streams, recovers_well, long_told, none_is_long, ends_well}
+use Rattle.tau_engine.proofs.Tops.{command_of_run, command_of_recovery, not_recovery, same_command, same_streams, within_served, same_load, not_both, says_at, other_end, runs_behind, recovers_well, ends_well, ends_unread}
+use Rattle.tau_engine.proofs.top.taurus.Given.{Over}
 use Rattle.tau_engine.proofs.top.taurus.Goals as goal
 
+-- ---- a run
+
+asked : (g : Over) (c : goal.Joined-load g) → served (map string_bytes c.args.words.now) ≡ Some (Run c.in-Ok-Run.n c.in-Ok-Run.m c.in-Ok-Run.mode)
+asked g c = command_of_run (served (map string_bytes c.args.words.now)) c.in-Ok-Run.field-0 c.in-Ok-Run.n c.in-Ok-Run.m c.in-Ok-Run.mode c.in-Ok-Run.ensures.ok c.in-Ok-Run.field-0-is
+
+used : (g : Over) (c : goal.Joined-load g) → c.in-Ok-Run.n ≡ used_by (served (map string_bytes c.args.words.now))
+used g c = sym (ap used_by (asked g c))
+
+abbrev Says : (g : Over) (c : goal.Joined-load g) → ℕ → ℕ → LogMode → Workload → Type 0
+Says g c n m mode load =
+    SaysRun g.D.Disk n m mode load c.args.disks.now.items c.run.new.disks.items g.K.Sink.tells (g.K.Sink.held c.args.sink.now) (g.K.Sink.held c.run.new.sink) (g.K.Sink.faults c.args.sink.now) (g.K.Sink.faults c.run.new.sink) c.run.result
+
+here : (g : Over) (c : goal.Joined-load g) → Says g c c.in-Ok-Run.n c.in-Ok-Run.m c.in-Ok-Run.mode c.in-Ok.load
+here g c = c.run.ensures.says
+
+says : (g : Over) (c : goal.Joined-load g) (n m : ℕ) (mode : LogMode) → served (map string_bytes c.args.words.now) ≡ Some (Run n m mode) → Says g c n m mode c.in-Ok.load
+says g c n m mode words =
+    let q = same_command (served (map string_bytes c.args.words.now)) c.in-Ok-Run.n c.in-Ok-Run.m c.in-Ok-Run.mode n m mode (asked g c) words in
+    says_at g.D.Disk c.in-Ok-Run.n c.in-Ok-Run.m n m c.in-Ok-Run.mode mode c.in-Ok.load c.in-Ok.load c.args.disks.now.items c.run.new.disks.items g.K.Sink.tells (g.K.Sink.held c.args.sink.now) (g.K.Sink.held c.run.new.sink) (g.K.Sink.faults c.args.sink.now) (g.K.Sink.faults c.run.new.sink)
+    c.run.result q.0 q.1 q.2 refl (here g c)
+
+pub run-requires-clause-meant : goal.run-requires-clause-meant
+run-requires-clause-meant g c = c.in-Ok.ensures.meant
+
+pub run-requires-clause-streams_low : goal.run-requires-clause-streams_low
+run-requires-clause-streams_low g c = (c.in-Ok-Run.ensures.within_run c.in-Ok-Run.n c.in-Ok-Run.m c.in-Ok-Run.mode c.in-Ok-Run.field-0-is).0.0
+
+pub run-requires-clause-streams_high : goal.run-requires-clause-streams_high
+run-requires-clause-streams_high g c = (c.in-Ok-Run.ensures.within_run c.in-Ok-Run.n c.in-Ok-Run.m c.in-Ok-Run.mode c.in-Ok-Run.field-0-is).0.1
+
+pub run-requires-clause-low : goal.run-requires-clause-low
+run-requires-clause-low g c = (c.in-Ok-Run.ensures.within_run c.in-Ok-Run.n c.in-Ok-Run.m c.in-Ok-Run.mode c.in-Ok-Run.field-0-is).1
+
+pub run-requires-clause-high : goal.run-requires-clause-high
+run-requires-clause-high g c = (c.in-Ok-Run.ensures.within_run c.in-Ok-Run.n c.in-Ok-Run.m c.in-Ok-Run.mode c.in-Ok-Run.field-0-is).2
+
+pub run-requires-clause-runnable : goal.run-requires-clause-runnable
+run-requires-clause-runnable g c = c.in-Ok.ensures.runnable
+
+pub returns-in-Ok-clause-count : goal.returns-in-Ok-clause-count
+returns-in-Ok-clause-count g c = c.run.ensures.count
+
+pub returns-in-Ok-clause-usage : goal.returns-in-Ok-clause-usage
+returns-in-Ok-clause-usage g c e = absurd (other_end c.run.result status.Usage (here g c).kind refl e)
+
+pub returns-in-Ok-clause-usage_told : goal.returns-in-Ok-clause-usage_told
+returns-in-Ok-clause-usage_told g c none = absurd (let f : None ≡ Some (Run c.in-Ok-Run.n c.in-Ok-Run.m c.in-Ok-Run.mode) = sym none ∙ asked g c in cc f)
+
+pub returns-in-Ok-clause-read_fault : goal.returns-in-Ok-clause-read_fault
+returns-in-Ok-clause-read_fault g c e = absurd (other_end c.run.result status.ReadFault (here g c).kind refl e)
+
+pub returns-in-Ok-clause-too_long : goal.returns-in-Ok-clause-too_long
+returns-in-Ok-clause-too_long g c e = absurd (other_end c.run.result status.TooLong (here g c).kind refl e)
+
+pub returns-in-Ok-clause-too_long_told : goal.returns-in-Ok-clause-too_long_told
+returns-in-Ok-clause-too_long_told g c reads tells long = absurd (let short = (c.in-Ok.ensures.load tells).0 in omega (arith, short, long))
+
+pub returns-in-Ok-clause-bad_text : goal.returns-in-Ok-clause-bad_text
+returns-in-Ok-clause-bad_text g c line why e = absurd (other_end c.run.result (status.BadText line why) (here g c).kind refl e)
+
+pub returns-in-Ok-clause-bad_text_told : goal.returns-in-Ok-clause-bad_text_told
+returns-in-Ok-clause-bad_text_told g c reads tells fault has = absurd (not_both (g.S.Source.left c.args.source.now) c.in-Ok.load fault (c.in-Ok.ensures.load tells) has)
+
+pub returns-in-Ok-clause-behind_text : goal.returns-in-Ok-clause-behind_text
+returns-in-Ok-clause-behind_text g c behind reads tells = (c.in-Ok.load, c.in-Ok.ensures.load tells)
+
+pub returns-in-Ok-clause-disk_fault : goal.returns-in-Ok-clause-disk_fault
+returns-in-Ok-clause-disk_fault g c j e = (let f = (here g c).disk j e in (subst (λ (k : ℕ). j < k) (used g c) f.0, f.1))
+
+pub returns-in-Ok-clause-disk_fault_first : goal.returns-in-Ok-clause-disk_fault_first
+returns-in-Ok-clause-disk_fault_first g c j e tells = (here g c).stopped j e tells
+
+pub returns-in-Ok-clause-disk_fault_told : goal.returns-in-Ok-clause-disk_fault_told
+returns-in-Ok-clause-disk_fault_told g c e = subst (λ (k : ℕ). EachUsed (IsClean g.D.Disk.tells g.D.Disk.number g.D.Disk.fails) c.args.disks.now.items c.run.new.disks.items k) (used g c) ((here g c).clean e)
+
+pub returns-in-Ok-clause-not_empty : goal.returns-in-Ok-clause-not_empty
+returns-in-Ok-clause-not_empty g c j long e = (let f = (here g c).not_empty j long e in (c.in-Ok-Run.n, c.in-Ok-Run.m, c.in-Ok-Run.mode, asked g c, f.0, f.1))
+
 pub returns-in-Ok-clause-not_empty_told : goal.returns-in-Ok-clause-not_empty_told
-returns-in-Ok-clause-not_empty_told g c n m mode j long words source load read tells lt is =
-    let two : n ≡ 2 = same_command (served (map string_bytes c.args.words.now)) n m mode (command_of_run (served (map string_bytes c.args.words.now)) c.in-Ok-Run.field-0 c.in-Ok-Run.ensures.ok c.in-Ok-Run.field-0-is) words in
-    let below : j < 2 = omega (arith, two, lt) in
-    ⊎_elim (λ none. absurd (none j long below is))
-    (λ refused. long_told g.D.Disk.seen c.args.disks.now.items c.run.result j long is refused.bad (λ k other e. (c.run.ensures.not_empty k other e).1 tells))
-    (c.run.ensures.was_empty tells)
+returns-in-Ok-clause-not_empty_told g c n m mode j long words source load read tells lt is = long_told g.D.Disk.seen c.args.disks.now.items c.run.result j long is ((says g c n m mode words).long j long lt tells is).bad (λ k other e. ((says g c n m mode words).not_empty k other e).1 tells)
+
+pub returns-in-Ok-clause-bad_log : goal.returns-in-Ok-clause-bad_log
+returns-in-Ok-clause-bad_log g c fault e = absurd (other_end c.run.result (status.BadLog fault) (here g c).kind refl e)
+
+pub returns-in-Ok-clause-bad_log_told : goal.returns-in-Ok-clause-bad_log_told
+returns-in-Ok-clause-bad_log_told g c n p fault words tells is = absurd (not_recovery (served (map string_bytes c.args.words.now)) c.in-Ok-Run.n c.in-Ok-Run.m n p c.in-Ok-Run.mode (asked g c) words)
+
+pub returns-in-Ok-clause-tangled_told : goal.returns-in-Ok-clause-tangled_told
+returns-in-Ok-clause-tangled_told g c n p log words tells is none = absurd (not_recovery (served (map string_bytes c.args.words.now)) c.in-Ok-Run.n c.in-Ok-Run.m n p c.in-Ok-Run.mode (asked g c) words)
+
+pub returns-in-Ok-clause-write_fault : goal.returns-in-Ok-clause-write_fault
+returns-in-Ok-clause-write_fault g c e = (here g c).sink e
+
+pub returns-in-Ok-clause-source : goal.returns-in-Ok-clause-source
+returns-in-Ok-clause-source g c tells = c.read_source.ensures.source tells
+
+pub returns-in-Ok-clause-source_end : goal.returns-in-Ok-clause-source_end
+returns-in-Ok-clause-source_end g c tells behind reads = c.in-Ok.ensures.end tells
+
+pub returns-in-Ok-clause-source_unread : goal.returns-in-Ok-clause-source_unread
+returns-in-Ok-clause-source_unread g c tells reads = absurd (let f : true ≡ false = sym (ap reads_source (asked g c)) ∙ reads in cc f)
+
+pub returns-in-Ok-clause-refusal : goal.returns-in-Ok-clause-refusal
+returns-in-Ok-clause-refusal g c e = (let (j, (long, is)) = refusal_of_run c.run.result (here g c).kind e in ((here g c).asked j long is).0.told (λ none. (let f : status.NotEmpty j long ≡ status.NoMemory = sym is ∙ none in cc f)))
+
+pub returns-in-Ok-clause-opening_fault : goal.returns-in-Ok-clause-opening_fault
+returns-in-Ok-clause-opening_fault g c n m i j long mode words e tells lt is = ((says g c n m mode words).long j long lt tells is).told (λ none. (let f : status.DiskFault i ≡ status.NoMemory = sym e ∙ none in cc f))
+
+pub returns-in-Ok-clause-making_fault : goal.returns-in-Ok-clause-making_fault
+returns-in-Ok-clause-making_fault g c n m j mode words e tells = (says g c n m mode words).told j e tells
+
+pub returns-in-Ok-clause-silent : goal.returns-in-Ok-clause-silent
+returns-in-Ok-clause-silent g c e quiet = absurd (let f : false ≡ true = sym (ap writes_at_end (asked g c)) ∙ quiet in cc f)
+
+pub returns-in-Ok-clause-run : goal.returns-in-Ok-clause-run
+returns-in-Ok-clause-run g c n m mode load words tells read empty =
+    let q = same_command (served (map string_bytes c.args.words.now)) c.in-Ok-Run.n c.in-Ok-Run.m c.in-Ok-Run.mode n m mode (asked g c) words in
+    let same : c.in-Ok.load ≡ load = same_load (g.S.Source.left c.args.source.now) c.in-Ok.load load (c.in-Ok.ensures.load tells) read in
+    (says_at g.D.Disk c.in-Ok-Run.n c.in-Ok-Run.m n m c.in-Ok-Run.mode mode c.in-Ok.load load c.args.disks.now.items c.run.new.disks.items g.K.Sink.tells (g.K.Sink.held c.args.sink.now) (g.K.Sink.held c.run.new.sink) (g.K.Sink.faults c.args.sink.now) (g.K.Sink.faults c.run.new.sink)
+    c.run.result q.0 q.1 q.2 same (here g c)).facts
+
+pub returns-in-Ok-clause-recover : goal.returns-in-Ok-clause-recover
+returns-in-Ok-clause-recover g c n p words tells = absurd (not_recovery (served (map string_bytes c.args.words.now)) c.in-Ok-Run.n c.in-Ok-Run.m n p c.in-Ok-Run.mode (asked g c) words)
+
+pub returns-in-Ok-clause-recover_fault : goal.returns-in-Ok-clause-recover_fault
+returns-in-Ok-clause-recover_fault g c n p j words e = absurd (not_recovery (served (map string_bytes c.args.words.now)) c.in-Ok-Run.n c.in-Ok-Run.m n p c.in-Ok-Run.mode (asked g c) words)
+
+pub returns-in-Ok-clause-untouched : goal.returns-in-Ok-clause-untouched
+returns-in-Ok-clause-untouched g c = subst (λ (k : ℕ). drop k c.run.new.disks.items ≡ drop k c.args.disks.now.items) (used g c) (here g c).rest
+
+pub returns-in-Ok-clause-before_disks : goal.returns-in-Ok-clause-before_disks
+returns-in-Ok-clause-before_disks g c e = absurd (runs_behind c.run.result (here g c).kind e)
+
+pub returns-in-Ok-clause-bad_text_untouched : goal.returns-in-Ok-clause-bad_text_untouched
+returns-in-Ok-clause-bad_text_untouched g c tells reads fault has = absurd (not_both (g.S.Source.left c.args.source.now) c.in-Ok.load fault (c.in-Ok.ensures.load tells) has)
+
+pub returns-in-Ok-clause-not_empty_untouched : goal.returns-in-Ok-clause-not_empty_untouched
+returns-in-Ok-clause-not_empty_untouched g c n m mode j long words lt tells is = ((says g c n m mode words).long j long lt tells is).read
+
+pub returns-in-Ok-clause-asked : goal.returns-in-Ok-clause-asked
+returns-in-Ok-clause-asked g c j long e = subst (λ (k : ℕ). EachUsed (OnlyRead g.D.Disk.tells g.D.Disk.seen g.D.Disk.may_leave g.D.Disk.moment g.D.Disk.may_leave_since) c.args.disks.now.items c.run.new.disks.items k) (used g c) ((here g c).asked j long e).0.read
+
+pub returns-in-Ok-clause-asked_once : goal.returns-in-Ok-clause-asked_once
+returns-in-Ok-clause-asked_once g c j long e = subst (λ (k : ℕ). EachUsed (OneCall g.D.Disk.tells g.D.Disk.number g.D.Disk.short) c.args.disks.now.items c.run.new.disks.items k) (used g c) ((here g c).asked j long e).1
+
+pub returns-in-Ok-clause-read : goal.returns-in-Ok-clause-read
+returns-in-Ok-clause-read g c n p words = absurd (not_recovery (served (map string_bytes c.args.words.now)) c.in-Ok-Run.n c.in-Ok-Run.m n p c.in-Ok-Run.mode (asked g c) words)
 
 pub returns-in-Ok-clause-run_done : goal.returns-in-Ok-clause-run_done
 returns-in-Ok-clause-run_done g c n m mode load words source tells read empty no_source no_sink no_disk =
-    let two : n ≡ 2 = same_command (served (map string_bytes c.args.words.now)) n m mode (command_of_run (served (map string_bytes c.args.words.now)) c.in-Ok-Run.field-0 c.in-Ok-Run.ensures.ok c.in-Ok-Run.field-0-is) words in
-    ends_well c.run.result c.run.ensures.kind
-    (λ e. no_sink (c.run.ensures.write_fault e))
-    (λ j e. let h = c.run.ensures.disk_fault j e in no_disk j (omega (arith, two, h.0)) h.1)
-    (λ j long e. let h = c.run.ensures.not_empty j long e in none_is_long g.D.Disk.seen c.args.disks.now.items g.D.Disk.tells n j long tells empty (omega (arith, two, h.0)) (h.1 tells))
+    let q = says g c n m mode words in
+    ends_well c.run.result q.kind (λ e. no_sink (q.sink e)) (λ j e. (let h = q.disk j e in no_disk j h.0 h.1))
+    (λ j long e. (let h = q.not_empty j long e in none_is_long g.D.Disk.seen c.args.disks.now.items g.D.Disk.tells n j long tells empty h.0 (h.1 tells)))
+
+pub returns-in-Ok-clause-recover_done : goal.returns-in-Ok-clause-recover_done
+returns-in-Ok-clause-recover_done g c n p log order words tells is ordered no_sink no_disk = absurd (not_recovery (served (map string_bytes c.args.words.now)) c.in-Ok-Run.n c.in-Ok-Run.m n p c.in-Ok-Run.mode (asked g c) words)
+
+-- ---- no run was begun
+
+pub returns-in-Err-NoMemory-clause-run : goal.returns-in-Err-NoMemory-clause-run
+returns-in-Err-NoMemory-clause-run g c n m mode load words tells read empty =
+    let within = within_served (map string_bytes c.args.words.now) n m mode words in
+    untouched_facts g.D.Disk (g.met.D.Disk g.world.𝓛 g.world.𝓜 g.world.𝓡 ((λ s x. x), (λ x. x), (λ x. x), λ x. x)).only_now n m mode load within.0 within.1 within.2 (catalogue_load (g.S.Source.left c.args.source.now) load read.1) c.args.disks.now.items
+    g.K.Sink.tells (g.K.Sink.held c.args.sink.now) (g.K.Sink.held c.args.sink.now) (g.K.Sink.faults c.args.sink.now) (g.K.Sink.faults c.args.sink.now) status.NoMemory refl (λ e told. search rules)
+
+pub returns-in-Err-Usage-clause-run : goal.returns-in-Err-Usage-clause-run
+returns-in-Err-Usage-clause-run g c n m mode load words tells read empty = absurd (let f : None ≡ Some (Run n m mode) = sym (c.in-Err-Usage.ensures.usage (search rules)) ∙ words in cc f)
+
+pub returns-in-Err-clause-run : goal.returns-in-Err-clause-run
+returns-in-Err-clause-run g c n m mode load words tells read empty =
+    let within = within_served (map string_bytes c.args.words.now) n m mode words in
+    let kind : Rattle.tau_engine.specs.Outside.ends_reading c.in-Err.refusal ≡ true = c.in-Err.ensures.kind in
+    let ended = ends_unread (Wrote g.K.Sink.tells (g.K.Sink.held c.args.sink.now) (g.K.Sink.held c.refuse-in-Err.new.sink)) (Rose (g.K.Sink.faults c.args.sink.now) (g.K.Sink.faults c.refuse-in-Err.new.sink)) c.in-Err.refusal c.refuse-in-Err.result kind c.refuse-in-Err.ensures in
+    untouched_facts g.D.Disk (g.met.D.Disk g.world.𝓛 g.world.𝓜 g.world.𝓡 ((λ s x. x), (λ x. x), (λ x. x), λ x. x)).only_now n m mode load within.0 within.1 within.2 (catalogue_load (g.S.Source.left c.args.source.now) load read.1) c.args.disks.now.items
+    g.K.Sink.tells (g.K.Sink.held c.args.sink.now) (g.K.Sink.held c.refuse-in-Err.new.sink) (g.K.Sink.faults c.args.sink.now) (g.K.Sink.faults c.refuse-in-Err.new.sink) c.refuse-in-Err.result ended.0 ended.1
+
+pub returns-in-Ok-Recover-clause-run : goal.returns-in-Ok-Recover-clause-run
+returns-in-Ok-Recover-clause-run g c n m mode load words tells read empty =
+    absurd (not_recovery (served (map string_bytes c.args.words.now)) n m c.in-Ok-Recover.n c.in-Ok-Recover.field-0-1 mode words
+    (command_of_recovery (served (map string_bytes c.args.words.now)) c.in-Ok-Recover.field-0 c.in-Ok-Recover.n c.in-Ok-Recover.field-0-1 c.in-Ok-Recover.ensures.ok c.in-Ok-Recover.field-0-is))
 
 pub returns-in-Err-clause-refusal : goal.returns-in-Err-clause-refusal
 returns-in-Err-clause-refusal g c e = told_refusal (Wrote g.K.Sink.tells (g.K.Sink.held c.args.sink.now) (g.K.Sink.held c.refuse-in-Err.new.sink)) (Rose (g.K.Sink.faults c.args.sink.now) (g.K.Sink.faults c.refuse-in-Err.new.sink)) c.in-Err.refusal c.refuse-in-Err.result c.refuse-in-Err.ensures e
 
-pub returns-in-Ok-clause-refusal : goal.returns-in-Ok-clause-refusal
-returns-in-Ok-clause-refusal g c e =
-    let (j, (long, is)) = refusal_of_run c.run.result c.run.ensures.kind e in
-    (c.run.ensures.asked j long is).told (λ none. cc)
-
-pub returns-in-Ok-clause-opening_fault : goal.returns-in-Ok-clause-opening_fault
-returns-in-Ok-clause-opening_fault g c n m i j long mode words e tells lt is =
-    let two : n ≡ 2 = same_command (served (map string_bytes c.args.words.now)) n m mode (command_of_run (served (map string_bytes c.args.words.now)) c.in-Ok-Run.field-0 c.in-Ok-Run.ensures.ok c.in-Ok-Run.field-0-is) words in
-    let below : j < 2 = omega (arith, two, lt) in
-    ⊎_elim (λ none. absurd (none j long below is)) (λ refused. refused.told (λ none. cc)) (c.run.ensures.was_empty tells)
-
-pub returns-in-Ok-clause-not_empty_untouched : goal.returns-in-Ok-clause-not_empty_untouched
-returns-in-Ok-clause-not_empty_untouched g c n m mode j long words lt tells is =
-    let two : n ≡ 2 = same_command (served (map string_bytes c.args.words.now)) n m mode (command_of_run (served (map string_bytes c.args.words.now)) c.in-Ok-Run.field-0 c.in-Ok-Run.ensures.ok c.in-Ok-Run.field-0-is) words in
-    let below : j < 2 = omega (arith, two, lt) in
-    ⊎_elim (λ none. absurd (none j long below is))
-    (λ refused. subst (λ (k : ℕ). EachUsed (OnlyRead g.D.Disk.tells g.D.Disk.seen g.D.Disk.may_leave g.D.Disk.moment g.D.Disk.may_leave_since) c.args.disks.now.items c.run.new.disks.items k) (sym two) refused.read)
-    (c.run.ensures.was_empty tells)
-
-pub returns-in-Ok-clause-asked_once : goal.returns-in-Ok-clause-asked_once
-returns-in-Ok-clause-asked_once g c j long e =
-    let two : used_by (served (map string_bytes c.args.words.now)) ≡ 2 = ap used_by (command_of_run (served (map string_bytes c.args.words.now)) c.in-Ok-Run.field-0 c.in-Ok-Run.ensures.ok c.in-Ok-Run.field-0-is) in
-    subst (λ (k : ℕ). EachUsed (OneCall g.D.Disk.tells g.D.Disk.number g.D.Disk.short) c.args.disks.now.items c.run.new.disks.items k) (sym two) (c.run.ensures.asked_once j long e)
+-- ---- a recovery
 
 pub returns-in-Ok-Recover-clause-read : goal.returns-in-Ok-Recover-clause-read
 returns-in-Ok-Recover-clause-read g c n p words =
@@ -86,6 +237,24 @@ returns-in-Ok-Recover-clause-disk_fault g c j e =
     let back = handed_back c.recover.new.disks c.args.disks.now.items c.args.disks.now.len long in
     let fault = c.recover.ensures.disk_fault j e in
     (subst (λ (k : ℕ). j < k) used fault.0, subst (λ (ds : List g.row.D.Denot). RoseAt g.D.Disk.faults c.args.disks.now.items ds j) (sym back) (subst (λ (ds : List g.row.D.Denot). RoseAt g.D.Disk.faults ds c.recover.new.disks j) c.deref_mut.ensures.value fault.1))
+
+pub returns-in-Ok-Recover-clause-disk_fault_first : goal.returns-in-Ok-Recover-clause-disk_fault_first
+returns-in-Ok-Recover-clause-disk_fault_first g c j e tells =
+    let long : length c.recover.new.disks ≡ c.args.disks.now.len = search rules in
+    let back = handed_back c.recover.new.disks c.args.disks.now.items c.args.disks.now.len long in
+    subst (λ (ds : List g.row.D.Denot). IsFirstStopped g.D.Disk.tells g.D.Disk.number g.D.Disk.fails g.D.Disk.short c.args.disks.now.items ds j) (sym back)
+    (subst (λ (ds : List g.row.D.Denot). IsFirstStopped g.D.Disk.tells g.D.Disk.number g.D.Disk.fails g.D.Disk.short ds c.recover.new.disks j) c.deref_mut.ensures.value (c.recover.ensures.stopped j e tells))
+
+pub returns-in-Ok-Recover-clause-disk_fault_told : goal.returns-in-Ok-Recover-clause-disk_fault_told
+returns-in-Ok-Recover-clause-disk_fault_told g c e =
+    let is : served (map string_bytes c.args.words.now) ≡ Some (Recover c.in-Ok-Recover.n c.in-Ok-Recover.field-0-1) =
+    command_of_recovery (served (map string_bytes c.args.words.now)) c.in-Ok-Recover.field-0 c.in-Ok-Recover.n c.in-Ok-Recover.field-0-1 c.in-Ok-Recover.ensures.ok c.in-Ok-Recover.field-0-is in
+    let streams : c.from.result ≡ used_by (served (map string_bytes c.args.words.now)) = c.from.ensures ∙ sym (ap used_by is) in
+    let long : length c.recover.new.disks ≡ c.args.disks.now.len = search rules in
+    let back = handed_back c.recover.new.disks c.args.disks.now.items c.args.disks.now.len long in
+    subst (λ (k : ℕ). EachUsed (IsClean g.D.Disk.tells g.D.Disk.number g.D.Disk.fails) c.args.disks.now.items (take c.args.disks.now.len (c.recover.new.disks ++ drop (length c.recover.new.disks) c.args.disks.now.items)) k) streams
+    (subst (λ (ds : List g.row.D.Denot). EachUsed (IsClean g.D.Disk.tells g.D.Disk.number g.D.Disk.fails) c.args.disks.now.items ds c.from.result) (sym back)
+    (subst (λ (ds : List g.row.D.Denot). EachUsed (IsClean g.D.Disk.tells g.D.Disk.number g.D.Disk.fails) ds c.recover.new.disks c.from.result) c.deref_mut.ensures.value (c.recover.ensures.clean e)))
 
 pub returns-in-Ok-Recover-clause-bad_log : goal.returns-in-Ok-Recover-clause-bad_log
 returns-in-Ok-Recover-clause-bad_log g c fault e =

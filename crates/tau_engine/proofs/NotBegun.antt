@@ -1,0 +1,241 @@
+-- A run that has made nothing: its streams have nothing, or the catalogue alone.
+use Rattle.std.proofs.Common.{ℕ, zero, suc, ◌+◌, ◌<◌, ◌≤◌, ◌≡◌, ◌⊎◌, inl, inr, Bool, true, false, List, [], ◌∷◌, map, length, replicate, refl, sym, ap, subst, ◌∙◌, arith}
+use Rattle.std.specs.Prelude.{Some, None, nat_lt, slice_get, slice_index}
+use Rattle.std.proofs.Math.Nat.{mod-lt}
+use Rattle.std.proofs.lemmas.List.{append-nil, length-replicate}
+use Rattle.std.proofs.lemmas.Bool.{cases_Bool}
+use Rattle.std.proofs.lemmas.Bool.Decides.{nat_tests}
+use Rattle.tau_base.specs.declared.value.LogMode.{LogMode}
+use Rattle.tau_block.specs.Image.{HasContent}
+use Rattle.tau_model.specs.History.{Member, Numbered}
+use Rattle.tau_model.specs.Tables.{db_of_rows}
+use Rattle.tau_machine.specs.Accounts.{in_worker}
+use Rattle.tau_machine.specs.Worker.{Worker}
+use Rattle.tau_machine.specs.State.{Setting, Core}
+use Rattle.tau_machine.specs.Invariant.{Invariant}
+use Rattle.tau_machine.specs.Reports.{reported}
+use Rattle.tau_machine.specs.Runs.{IsOpening, Run as MachineRun}
+use Rattle.tau_machine.proofs.Runs.{run-invariant}
+use Rattle.tau_text.specs.declared.load.Turn.{Turn}
+use Rattle.tau_text.specs.declared.load.Turn.TheVariants as turn
+use Rattle.tau_text.specs.declared.load.Workload.{Workload}
+use Rattle.tau_core.specs.declared.state.Load.{Load}
+use Rattle.tau_core.specs.View.{setting_of, call_of, worker_of, from_on}
+use Rattle.tau_core.proofs.Turns.{call-there, once-there, whose-there}
+use Rattle.tau_run.specs.Run.{Run, told_of, below, IsHistory}
+use Rattle.tau_run.specs.Facts.{catalogue_of, IsEnded}
+use Rattle.tau_run.specs.Course.{IsLoadOf, IsRunOf}
+use Rattle.tau_run.specs.Left.{IsLeft}
+use Rattle.tau_run.specs.Told.{Ending, IsCoreRun, IsCoreRunAt, RunTells, RunFacts, turns_of}
+use Rattle.tau_run.specs.Told as told
+use Rattle.tau_run.specs.Turns.{Progress, begun, Turned, TurnedAll, OneByOne, Cleared, IsPartOfRun}
+use Rattle.tau_run.proofs.Acked.{whole}
+use Rattle.tau_run.proofs.History.{is_history}
+use Rattle.tau_run.proofs.Logs.{got_within}
+use Rattle.tau_run.proofs.Order.{once}
+use Rattle.tau_run.proofs.Reading.{IsCatalogue}
+use Rattle.tau_run.proofs.Recovered.{is_set, recovered}
+use Rattle.tau_run.proofs.Streams.{AreSound}
+
+-- ---- nothing happens in a part of a run
+
+none_told : (set : Setting) (m n : ℕ) (ws : List ℕ) (p : Progress) → OneByOne set m n (λ b w. Cleared set m n w b) false ws p p
+none_told set m n [] p = refl
+none_told set m n (w ∷ ws) p = inl Cleared.cut
+
+none_turned : (set : Setting) (m n : ℕ) (t : Turn) (p : Progress) → Turned set m n false t p p
+none_turned set m n (turn.Worker w) p = refl
+none_turned set m n (turn.Manager j) p = inl refl
+none_turned set m n (turn.Anchor j) p = refl
+none_turned set m n turn.Clerk p = none_told set m n (below m) p
+none_turned set m n turn.Drop p = inl refl
+
+none_of : (set : Setting) (m n : ℕ) (ts : List Turn) (p : Progress) → TurnedAll set m n false ts p p
+none_of set m n [] p = refl
+none_of set m n (t ∷ ts) p = inl (none_turned set m n t p)
+
+-- ---- lists of one value
+
+same_at : (n x j : ℕ) → j < n → slice_index (replicate n x) j ≡ x
+same_at zero x j lt = absurd (omega (arith, lt))
+same_at (suc n) x zero lt = refl
+same_at (suc n) x (suc j) lt = same_at n x j (omega (arith, lt))
+
+got_same : (n : ℕ) (x y : List ℕ) (j : ℕ) → slice_get (replicate n x) j ≡ Some y → x ≡ y
+got_same zero x y j e = absurd (cc)
+got_same (suc n) x y zero e = cc
+got_same (suc n) x y (suc j) e = got_same n x y j e
+
+lengths_same : (n : ℕ) (x : List ℕ) → map length (replicate n x) ≡ replicate n (length x)
+lengths_same zero x = refl
+lengths_same (suc n) x = ap (λ (l : List ℕ). length x ∷ l) (lengths_same n x)
+
+module _ (n m : ℕ) (mode : LogMode) (load : Workload) (some : 1 ≤ n) (room : n ≤ 16) (workers : 1 ≤ m) (sound : IsCatalogue load) where
+  abbrev catalogue : List ℕ
+  catalogue = catalogue_of load
+
+  -- what a run stands on
+  abbrev l : Load
+  l = record {
+    procs = load.declarations.procs;
+    calls = load.calls;
+    mode = mode;
+    workers = m;
+    streams = n;
+    opening = record { rows = []; floor = replicate n 0; ends = replicate n (length catalogue); anchors = record { items = replicate n 0 } };
+  }
+
+  load_is : IsLoadOf n m mode load l
+  load_is = record { procs = refl; calls = refl; mode_is = refl; workers = refl; streams = refl; rows = refl; ends = refl; anchors = refl }
+
+  -- a worker that has begun nothing
+  abbrev resting_on : List Numbered → Worker
+  resting_on calls = record { waiting = calls; hand = None; left = []; committed = [] }
+
+  abbrev waits_at : Bool → ℕ → List Numbered
+  waits_at true w = from_on load.calls m (w + 1)
+  waits_at false w = []
+
+  -- the state in which nothing has happened
+  abbrev first : Core
+  first = record {
+    shards = λ i. record { rows = db_of_rows []; entries = λ x. None; floor = [] };
+    workers = λ w. resting_on (waits_at (nat_lt w m) w);
+    outboxes = λ w. record { posted = []; pending = [] };
+    streams = λ j. record { posted = []; moved = []; anchors = []; stop = None };
+    acked = λ w. [];
+    ends = replicate n (length catalogue);
+    gathered = replicate n (length catalogue);
+    plv = replicate n (length catalogue);
+  }
+
+  -- what holds of each worker that rests on its calls, or on none, holds of each worker
+  by_worker : (P : ℕ → Worker → Type 0) → ((w : ℕ) → w < m → P w (resting_on (from_on load.calls m (w + 1)))) → ((w : ℕ) → P w (resting_on [])) → (w : ℕ) → P w (first.workers w)
+  by_worker P there none w = elim (cases_Bool (nat_lt w m)) [
+    | inl low ↦ (let lt : w < m = grind (arith, nat_tests, low) in subst (λ (b : Bool). P w (resting_on (waits_at b w))) (sym low) (there w lt))
+    | inr high ↦ subst (λ (b : Bool). P w (resting_on (waits_at b w))) (sym high) (none w)
+  ]
+
+  opens : IsOpening (setting_of l) first
+  opens = record {
+    count = length-replicate n (length catalogue);
+    small = λ w. mod-lt w {m = n} (omega (arith, some));
+    ends = refl;
+    gathered = refl;
+    plv = refl;
+    rows = λ x. refl;
+    entries = λ i x. refl;
+    floors = λ i j. omega arith;
+    narrow = λ i. omega arith;
+    hands = λ w. refl;
+    left = λ w. refl;
+    committed = λ w. refl;
+    pending = λ w. refl;
+    posted = λ w. refl;
+    own = λ j. refl;
+    moved = λ j. refl;
+    anchors = λ j. refl;
+    acked = λ w. refl;
+    stops = λ j. refl;
+    calls = by_worker (λ w wk. (c : Numbered) → Member c wk.waiting → call_of load.calls c.number ≡ Some c.call) (λ w lt c q. call-there load.calls m w c q) (λ w c q. absurd q);
+    once = by_worker (λ w wk. (k : ℕ) → in_worker k wk ≤ 1) (λ w lt k. (let e = once-there load.calls m w k workers in omega (arith, e))) (λ w k. omega arith);
+    whose = by_worker (λ w wk. (k : ℕ) → 1 ≤ in_worker k wk → worker_of m k ≡ w) (λ w lt k e. whose-there load.calls m w k workers lt (omega (arith, e))) (λ w k e. absurd (omega (arith, e)));
+  }
+
+  led : MachineRun (setting_of l) first [] [] first
+  led = record { opens = opens; leads = (refl, refl) }
+
+  inv : Invariant (setting_of l) [] first
+  inv = run-invariant (setting_of l) first [] [] first led
+
+  are_sound : AreSound l load []
+  are_sound = record { catalogue = sound; declared = λ t q up. absurd q }
+
+  -- the run
+  abbrev pub empty_run : Run
+  empty_run = record { calls = []; contents = replicate n catalogue; acks = [] }
+
+  none_reported : reported first.ends [] ≡ []
+  none_reported = once (setting_of l) [] first inv
+
+  is_run : IsRunOf n l [] first catalogue empty_run
+  is_run = record {
+    calls = sym (ap (map told_of) none_reported);
+    streams = length-replicate n catalogue;
+    given = λ j content e.
+        (let lt : j < n = subst (λ (k : ℕ). j < k) (length-replicate n catalogue) (got_within (replicate n catalogue) j content e) in
+        let is = got_same n catalogue content j e in
+        record {
+          waiting = [];
+          moved = sym (same_at n (length catalogue) j lt);
+          rest = refl;
+          records = refl;
+          anchors = refl;
+          named = tt;
+          bytes = [];
+          spelled = refl;
+          is = sym is ∙ sym (append-nil catalogue);
+        });
+    acks = λ w. refl;
+  }
+
+  history : IsHistory n m load empty_run
+  history = is_history (setting_of l) [] first inv n m load (is_set n m mode load l load_is) empty_run is_run.calls is_run.streams (lengths_same n catalogue) is_run.acks
+
+  core : IsCoreRun n m mode load false (λ j. None) empty_run
+  core = record {
+    stands_on = l;
+    load_is = load_is;
+    opening = first;
+    progress = begun first;
+    led = led;
+    by_turns = IsPartOfRun.in_turns (none_of (setting_of l) m n (turns_of load) (begun first));
+    is = is_run;
+    told = refl;
+    stopped = λ j lt. refl;
+  }
+
+  -- a run may end so before it began
+  abbrev pub MayEnd : Ending → Type 0
+  MayEnd told.Done = ⊥
+  MayEnd (told.DiskFailed j) = Unit {0}
+  MayEnd told.SinkFailed = ⊥
+  MayEnd told.NoMemory = Unit {0}
+  MayEnd told.NotBegun = Unit {0}
+
+  core_at : (ending : Ending) → MayEnd ending → IsCoreRunAt n m mode load (λ j. None) empty_run ending
+  core_at told.Done may = absurd may
+  core_at (told.DiskFailed j) may = inr (refl, refl)
+  core_at told.SinkFailed may = absurd may
+  core_at told.NoMemory may = core
+  core_at told.NotBegun may = (refl, refl)
+
+  is_left : (j : ℕ) (x : List ℕ) → HasContent n j [] x ⊎ HasContent n j catalogue x → IsLeft n j catalogue l first x
+  is_left j x (inl none) = inl none
+  is_left j x (inr all) = inr ([], record { count = 0; spelled = refl; has = subst (λ (c : List ℕ). HasContent n j c x) (sym (append-nil catalogue)) all })
+
+  -- all that is said of it, where each image has nothing or the catalogue
+  pub facts_of_none : (unborn : Type 0) (past now : ℕ → List ℕ → Type 0) (rose : ℕ → Type 0) (sink_rose : Type 0) (made : ℕ → ℕ → Type 0) (wrote : List ℕ → Type 0) (fault : ℕ → List ℕ) (ending : Ending) → MayEnd ending →
+      (unborn → (j : ℕ) (x : List ℕ) → j < n → past j x → HasContent n j [] x ⊎ HasContent n j catalogue x) →
+      RunTells (IsEnded n load now rose) n load rose sink_rose made wrote fault empty_run ending →
+      RunFacts n m mode load unborn past now rose sink_rose made wrote fault ending
+  facts_of_none unborn past now rose sink_rose made wrote fault ending may left tells = record {
+    run = empty_run;
+    history = history;
+    stops = λ j. None;
+    core = core_at ending may;
+    stopped = λ j k e. absurd (cc);
+    told = tells;
+    imaged =
+        (let w = whole n m mode load l [] first inv load_is room are_sound empty_run is_run in
+        record {
+          whole = w.0;
+          reads = w.1;
+          records = w.2;
+          each = λ u images from. recovered n m mode load l [] first inv load_is room are_sound empty_run is_run images from.0
+              (λ j image e.
+              let lt : j < n = subst (λ (k : ℕ). j < k) from.0 (got_within images j image e) in
+              is_left j image (left u j image lt (from.1 j image e)));
+        });
+    acknowledged = λ images from log reads x q e. absurd q;
+  }
