@@ -1,0 +1,13 @@
+//! Worked calls of the program, whole, over memory forms. They stand in a crate of their own, so that the top call is proved once.
+#![tactic(auto)]
+
+#[cfg(test)]
+mod faults;
+#[cfg(test)]
+mod recoveries;
+#[cfg(test)]
+mod runs;
+#[cfg(test)]
+mod stops;
+#[cfg(test)]
+mod support;
