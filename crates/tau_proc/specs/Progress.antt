@@ -5,6 +5,7 @@ use Rattle.tau_base.specs.declared.limits.TheConstants.{MAX_STEPS, MAX_WRITES}
 use Rattle.tau_base.specs.declared.value.Call.{Call}
 use Rattle.tau_base.specs.declared.value.Key.{Key}
 use Rattle.tau_base.specs.declared.value.Value.{Value}
+use Rattle.tau_base.specs.declared.value.Value.TheVariants.{Absent}
 use Rattle.tau_proc.specs.declared.machine.Stop.{Stop}
 use Rattle.tau_proc.specs.declared.machine.Stop.TheVariants.{Row, End}
 use Rattle.tau_proc.specs.declared.machine.Use.{Use}
@@ -16,7 +17,7 @@ use Rattle.tau_proc.specs.declared.reply.Want.{Want}
 use Rattle.tau_proc.specs.declared.reply.Want.TheVariants.{Read, Write, Finished}
 use Rattle.tau_proc.specs.declared.step.Step.{Step}
 use Rattle.tau_proc.specs.Limits.{is_register, step_fits}
-use Rattle.tau_proc.specs.Meaning.{Running, set_register, sum_with, added_writes, added_reply}
+use Rattle.tau_proc.specs.Meaning.{Running, begun, set_register, sum_with, added_writes, added_reply}
 use Rattle.tau_proc.specs.Stage.{Stage, Wants, Ends, stage_of, stage}
 
 -- the fields of a machine; callers look at it through ahead, granted and buffered alone
@@ -27,6 +28,10 @@ pub record Progress : Type 0 where
   pub running : Running
   pub stop : Stop
   pub granted : ℕ
+
+-- a machine that has ended and wrote nothing
+abbrev pub blank : Progress
+blank = record { args = []; steps = []; done = 0; running = begun; stop = End (Ok Absent); granted = 0 }
 
 -- where steps that stop for a row go on once it has a value
 abbrev pub on_value : List Value → List Step → ℕ → Running → Key → Use → Value → List Value → Stage

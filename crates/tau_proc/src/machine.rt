@@ -5,7 +5,7 @@ ghost use Rattle.tau_base.specs.Database.{key_cmp};
 ghost use Rattle.tau_proc.specs.Limits.{IsWellFormed};
 ghost use Rattle.tau_proc.specs.Meaning.{begun, at_row, puts, adds, gets, dels, Puts};
 ghost use Rattle.tau_proc.specs.Takes.{is_table, takes_put, takes_add, takes_row, takes};
-ghost use Rattle.tau_proc.specs.Progress.{StopFits, KeepsCourse, at_stop, ahead, buffered, IsAt, next_want, IsRead, IsWrite, wants_left, rows_at};
+ghost use Rattle.tau_proc.specs.Progress.{StopFits, KeepsCourse, at_stop, ahead, buffered, blank, IsAt, next_want, IsRead, IsWrite, wants_left, rows_at};
 ghost use Rattle.tau_proc.specs.Stage.{stage_of, built_stage};
 
 use crate::proc::Proc;
@@ -60,22 +60,147 @@ impl Model for Machine {
 }
 
 impl Machine {
+    /// A machine that has ended and wrote nothing.
+    pub fn new() -> Machine
+        ensures { result ≡ blank }
+    {
+        Machine {
+            args: ArrayVec::new(),
+            steps: ArrayVec::new(),
+            done: 0,
+            running: Running::new(),
+            stop: Stop::End(Reply::Ok(Value::Absent)),
+            granted: 0,
+        }
+    }
+
     /// A call that begins.
     pub fn start(procs: &Procs, call: &Call) -> Machine
         requires { IsTrue (takes procs.now call.now) }
         ensures { IsAt procs.now call.now [] 0 result }
     {
+        let mut machine = Machine::new();
+        machine.restart(procs, call);
+        machine
+    }
+
+    /// A call that begins in the place of the one before.
+    pub fn restart(&mut self, procs: &Procs, call: &Call)
+        requires { IsTrue (takes procs.now call.now) }
+        ensures { IsAt procs.now call.now [] 0 self.new }
+    {
         let args = call.args.as_slice();
         match call.proc {
-            PUT => start_put(args),
-            ADD => start_add(args),
-            GET => start_get(args),
-            DEL => start_del(args),
+            PUT => self.begin_put(args),
+            ADD => self.begin_add(args),
+            GET => self.begin_get(args),
+            DEL => self.begin_del(args),
             declared => {
                 let list = procs.list();
-                start_declared(&list[usize::from(declared - FIRST_DECLARED)], args)
+                self.begin_declared(&list[usize::from(declared - FIRST_DECLARED)], args)
             }
         }
+    }
+
+    /// What is left of the call before goes.
+    fn clear(&mut self)
+        ensures { self.new ≡ blank }
+    {
+        self.args.clear();
+        self.steps.clear();
+        self.done = 0;
+        self.running.clear();
+        self.stop = Stop::End(Reply::Ok(Value::Absent));
+        self.granted = 0;
+    }
+
+    /// A built-in that writes a row.
+    fn begin_write(&mut self, key: Key, value: Value)
+        ensures stands { (vs : List Value) → ahead self.new vs ≡ built_stage (Puts key value) vs }
+        ensures granted { self.new.granted ≡ 0 }
+    {
+        self.clear();
+        self.running.put(key, value);
+    }
+
+    /// A built-in that reads a row.
+    fn begin_read(&mut self, key: Key, use_of: Use)
+        requires { StopFits (Stop.Row key use_of) [] [] }
+        ensures stands { (vs : List Value) → ahead self.new vs ≡ at_stop [] [] 0 begun (Stop.Row key use_of) vs }
+        ensures granted { self.new.granted ≡ 0 }
+    {
+        self.clear();
+        self.stop = Stop::Row(key, use_of);
+    }
+
+    fn begin_put(&mut self, args: &[Value])
+        requires { IsTrue (takes_put args.now) }
+        ensures stands { (vs : List Value) → ahead self.new vs ≡ built_stage (puts args.now) vs }
+        ensures granted { self.new.granted ≡ 0 }
+    {
+        match args {
+            [Value::Int(table), Value::Int(row), value] => {
+                self.begin_write(key_of(*table, *row), value.copied())
+            }
+            _ => unreachable!(),
+        }
+    }
+
+    fn begin_add(&mut self, args: &[Value])
+        requires { IsTrue (takes_add args.now) }
+        ensures stands { (vs : List Value) → ahead self.new vs ≡ built_stage (adds args.now) vs }
+        ensures granted { self.new.granted ≡ 0 }
+    {
+        match args {
+            [Value::Int(table), Value::Int(row), Value::Int(number)] => {
+                self.begin_read(key_of(*table, *row), Use::Add(*number))
+            }
+            _ => unreachable!(),
+        }
+    }
+
+    fn begin_get(&mut self, args: &[Value])
+        requires { IsTrue (takes_row args.now) }
+        ensures stands { (vs : List Value) → ahead self.new vs ≡ built_stage (gets args.now) vs }
+        ensures granted { self.new.granted ≡ 0 }
+    {
+        match args {
+            [Value::Int(table), Value::Int(row)] => {
+                self.begin_read(key_of(*table, *row), Use::Reply)
+            }
+            _ => unreachable!(),
+        }
+    }
+
+    fn begin_del(&mut self, args: &[Value])
+        requires { IsTrue (takes_row args.now) }
+        ensures stands { (vs : List Value) → ahead self.new vs ≡ built_stage (dels args.now) vs }
+        ensures granted { self.new.granted ≡ 0 }
+    {
+        match args {
+            [Value::Int(table), Value::Int(row)] => {
+                self.begin_write(key_of(*table, *row), Value::Absent)
+            }
+            _ => unreachable!(),
+        }
+    }
+
+    /// A call of a declared procedure.
+    fn begin_declared(&mut self, proc: &Proc, args: &[Value])
+        requires well_formed { IsWellFormed proc.now }
+        requires args { proc.now.args ≡ length args.now }
+        ensures stands { (vs : List Value) → ahead self.new vs ≡ stage_of args.now proc.now.steps 1 begun vs }
+        ensures granted { self.new.granted ≡ 0 }
+    {
+        self.clear();
+        copy_values(&mut self.args, args);
+        copy_steps(&mut self.steps, proc.steps.as_slice());
+        self.stop = run_on(
+            self.steps.as_slice(),
+            self.args.as_slice(),
+            &mut self.done,
+            &mut self.running,
+        );
     }
 
     /// The next read from the database, else the next written key in ascending order, else the reply.
@@ -154,130 +279,25 @@ fn key_of(table: i64, row: i64) -> Key
     }
 }
 
-/// A built-in that writes a row.
-fn start_write(key: Key, value: Value) -> Machine
-    ensures stands { (vs : List Value) → ahead result vs ≡ built_stage (Puts key value) vs }
-    ensures granted { result.granted ≡ 0 }
+/// Puts the steps there, where none is.
+fn copy_steps(all: &mut ArrayVec<Step, MAX_STEPS>, steps: &[Step])
+    requires empty { all.old.items ≡ [] }
+    requires short { length steps.now ≤ MAX_STEPS }
+    ensures { all.new.items ≡ steps.now }
 {
-    let mut running = Running::new();
-    running.put(key, value);
-    Machine {
-        args: ArrayVec::new(),
-        steps: ArrayVec::new(),
-        done: 0,
-        running,
-        stop: Stop::End(Reply::Ok(Value::Absent)),
-        granted: 0,
-    }
-}
-
-/// A built-in that reads a row.
-fn start_read(key: Key, use_of: Use) -> Machine
-    requires { StopFits (Stop.Row key use_of) [] [] }
-    ensures stands { (vs : List Value) → ahead result vs ≡ at_stop [] [] 0 begun (Stop.Row key use_of) vs }
-    ensures granted { result.granted ≡ 0 }
-{
-    Machine {
-        args: ArrayVec::new(),
-        steps: ArrayVec::new(),
-        done: 0,
-        running: Running::new(),
-        stop: Stop::Row(key, use_of),
-        granted: 0,
-    }
-}
-
-fn start_put(args: &[Value]) -> Machine
-    requires { IsTrue (takes_put args.now) }
-    ensures stands { (vs : List Value) → ahead result vs ≡ built_stage (puts args.now) vs }
-    ensures granted { result.granted ≡ 0 }
-{
-    match args {
-        [Value::Int(table), Value::Int(row), value] => {
-            start_write(key_of(*table, *row), value.copied())
-        }
-        _ => unreachable!(),
-    }
-}
-
-fn start_add(args: &[Value]) -> Machine
-    requires { IsTrue (takes_add args.now) }
-    ensures stands { (vs : List Value) → ahead result vs ≡ built_stage (adds args.now) vs }
-    ensures granted { result.granted ≡ 0 }
-{
-    match args {
-        [Value::Int(table), Value::Int(row), Value::Int(number)] => {
-            start_read(key_of(*table, *row), Use::Add(*number))
-        }
-        _ => unreachable!(),
-    }
-}
-
-fn start_get(args: &[Value]) -> Machine
-    requires { IsTrue (takes_row args.now) }
-    ensures stands { (vs : List Value) → ahead result vs ≡ built_stage (gets args.now) vs }
-    ensures granted { result.granted ≡ 0 }
-{
-    match args {
-        [Value::Int(table), Value::Int(row)] => start_read(key_of(*table, *row), Use::Reply),
-        _ => unreachable!(),
-    }
-}
-
-fn start_del(args: &[Value]) -> Machine
-    requires { IsTrue (takes_row args.now) }
-    ensures stands { (vs : List Value) → ahead result vs ≡ built_stage (dels args.now) vs }
-    ensures granted { result.granted ≡ 0 }
-{
-    match args {
-        [Value::Int(table), Value::Int(row)] => { start_write(key_of(*table, *row), Value::Absent) }
-        _ => unreachable!(),
-    }
-}
-
-/// The steps again, in place.
-fn copied_steps(steps: &[Step]) -> ArrayVec<Step, MAX_STEPS>
-    requires { length steps.now ≤ MAX_STEPS }
-    ensures { result.items ≡ steps.now }
-{
-    let mut all = ArrayVec::new();
     for step in steps {
         all.push(step.copied());
     }
-    all
 }
 
-/// The values again, in place.
-fn copied_values(values: &[Value]) -> ArrayVec<Value, MAX_ARGS>
-    requires { length values.now ≤ MAX_ARGS }
-    ensures { result.items ≡ values.now }
+/// Puts the values there, where none is.
+fn copy_values(all: &mut ArrayVec<Value, MAX_ARGS>, values: &[Value])
+    requires empty { all.old.items ≡ [] }
+    requires short { length values.now ≤ MAX_ARGS }
+    ensures { all.new.items ≡ values.now }
 {
-    let mut all = ArrayVec::new();
     for value in values {
         all.push(value.copied());
-    }
-    all
-}
-
-/// A call of a declared procedure.
-fn start_declared(proc: &Proc, args: &[Value]) -> Machine
-    requires well_formed { IsWellFormed proc.now }
-    requires args { proc.now.args ≡ length args.now }
-    ensures stands { (vs : List Value) → ahead result vs ≡ stage_of args.now proc.now.steps 1 begun vs }
-    ensures granted { result.granted ≡ 0 }
-{
-    let args = copied_values(args);
-    let steps = copied_steps(proc.steps.as_slice());
-    let mut done = 0;
-    let mut running = Running::new();
-    let stop = run_on(steps.as_slice(), args.as_slice(), &mut done, &mut running);
-    Machine {
-        args,
-        steps,
-        done,
-        running,
-        stop,
-        granted: 0,
     }
 }
 

@@ -60,6 +60,16 @@ impl Running {
         }
     }
 
+    /// As before the first step again.
+    pub(crate) fn clear(&mut self)
+        ensures { self.new ≡ begun }
+    {
+        self.registers = Default::default();
+        self.writes.clear();
+        self.reply = Value::Absent;
+        self.skips = 0;
+    }
+
     /// The writes so far, ascending, each key once.
     pub(crate) fn writes(&self) -> &[(Key, Value)]
         ensures same { result.now ≡ self.now.writes }

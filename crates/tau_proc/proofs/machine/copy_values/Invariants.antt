@@ -1,5 +1,5 @@
 use Rattle.std.proofs.Common.{◌≡◌, take}
-use Rattle.tau_proc.proofs.machine.copied_values.Given as goal
+use Rattle.tau_proc.proofs.machine.copy_values.Given as goal
 
 abbrev pub invariant-loop-value : goal.invariant-loop-value
 invariant-loop-value l = l.all.items ≡ take l.value-index l.values

@@ -1,5 +1,5 @@
 use Rattle.std.proofs.Common.{◌≡◌, take}
-use Rattle.tau_proc.proofs.machine.copied_steps.Given as goal
+use Rattle.tau_proc.proofs.machine.copy_steps.Given as goal
 
 abbrev pub invariant-loop-step : goal.invariant-loop-step
 invariant-loop-step l = l.all.items ≡ take l.step-index l.steps
