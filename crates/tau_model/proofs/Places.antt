@@ -5,9 +5,10 @@ use Rattle.std.proofs.Math.Path.{fun_ext}
 use Rattle.std.proofs.lemmas.Bool.{cases_Bool, both_ways}
 use Rattle.tau_base.specs.declared.value.Key.{Key}
 use Rattle.tau_base.specs.declared.value.Value.{Value}
-use Rattle.tau_base.specs.declared.value.Value.TheVariants.{Absent}
+use Rattle.tau_base.specs.declared.value.Value.TheVariants.{Absent, Int, Text}
 use Rattle.tau_base.specs.Database.{Db, same_key, written, db_of}
 use Rattle.tau_base.proofs.Keys.{same_key-is}
+use Rattle.tau_model.specs.Tables.{is_value}
 
 pub none_of : {A : Type 0} (o : Option A) → is_some o ≡ false → o ≡ None
 none_of None e = refl
@@ -52,3 +53,8 @@ drop-before {A} xs i x pos le is =
 
 pub written-first : (w : Key × Value) (ws : List (Key × Value)) (db : Db) → written (w ∷ []) (written ws db) ≡ written (w ∷ ws) db
 written-first w ws db = refl
+
+pub absent_of : (v : Value) → is_value v ≡ false → v ≡ Absent
+absent_of Absent e = refl
+absent_of (Int n) e = absurd (both_ways true e refl)
+absent_of (Text t) e = absurd (both_ways true e refl)

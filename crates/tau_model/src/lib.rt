@@ -5,6 +5,7 @@
 mod committed;
 mod laws;
 mod report;
+mod rows;
 mod store;
 mod tables;
 

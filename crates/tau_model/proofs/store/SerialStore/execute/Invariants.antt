@@ -8,8 +8,8 @@ use Rattle.tau_model.proofs.store.SerialStore.execute.Given as goal
 abbrev pub invariant-wants : goal.invariant-wants
 invariant-wants l = record {
   same : database l.self ≡ database l.fn.self;
-  under : Underway l.procs l.call (database l.fn.self) l.machine;
+  under : Underway l.procs l.call (database l.fn.self) l.self.machine;
 }
 
 abbrev pub decreases-wants : goal.decreases-wants
-decreases-wants l = wants_left l.machine
+decreases-wants l = wants_left l.self.machine

@@ -4,7 +4,7 @@ use Rattle.tau_base.specs.declared.value.Key.{Key}
 use Rattle.tau_base.specs.declared.value.Value.{Value}
 use Rattle.tau_model.specs.Store.{HasPlace}
 use Rattle.tau_model.proofs.Places.{drop-before}
-use Rattle.tau_model.proofs.store.SerialStore.set_rows.Goals as goal
+use Rattle.tau_model.proofs.rows.Rows.set_rows.Goals as goal
 
 pub set_row-requires : goal.set_row-requires
 set_row-requires c = subst (λ (w : Key × Value). HasPlace c.loop-i.self w.0) (sym c.index-writes-i.is) (c.loop-i.invariant.places (c.loop-i.i - 1) c.index-writes-i.result (omega arith))

@@ -1,11 +1,11 @@
--- An absent row has no place, and the database stays.
+-- An absent row has no place, and the rows_of stays.
 use Rattle.std.proofs.Common.{◌≡◌, sym, ap, ◌∙◌}
 use Rattle.std.specs.Prelude.{Some}
 use Rattle.std.specs.BTreeMap.{get}
 use Rattle.tau_base.specs.Database.{key_cmp}
 use Rattle.tau_base.specs.declared.value.Value.TheVariants.{Absent}
 use Rattle.tau_model.proofs.Places.{db_of-dropped}
-use Rattle.tau_model.proofs.store.SerialStore.drop_if_absent.Goals as goal
+use Rattle.tau_model.proofs.rows.Rows.drop_if_absent.Goals as goal
 
 pub returns-in-Some-Absent : goal.returns-in-Some-Absent
 returns-in-Some-Absent c =

@@ -3,7 +3,7 @@ use Rattle.std.specs.BTreeMap.{get}
 use Rattle.tau_base.specs.Database.{key_cmp}
 use Rattle.tau_base.proofs.Keys.{db_of-set}
 use Rattle.tau_model.proofs.Places.{on_ok, some_at, kept-set}
-use Rattle.tau_model.proofs.store.SerialStore.set_row.Goals as goal
+use Rattle.tau_model.proofs.rows.Rows.set_row.Goals as goal
 
 pub returns-clause-set : goal.returns-clause-set
 returns-clause-set c =

@@ -1,10 +1,10 @@
--- An absent row has its place, and the database stays.
+-- An absent row has its place, and the rows_of stays.
 use Rattle.std.proofs.Common.{sym, ◌∙◌}
 use Rattle.std.specs.BTreeMap.{get}
 use Rattle.tau_base.specs.Database.{key_cmp}
 use Rattle.tau_base.specs.declared.value.Value.TheVariants.{Absent}
 use Rattle.tau_model.proofs.Places.{none_of, db_of-placed, kept-set}
-use Rattle.tau_model.proofs.store.SerialStore.make_place.Goals as goal
+use Rattle.tau_model.proofs.rows.Rows.make_place.Goals as goal
 
 pub returns-in-Ok-clause-same : goal.returns-in-Ok-clause-same
 returns-in-Ok-clause-same c = db_of-placed (get key_cmp c.args.self.now.rows) (get key_cmp c.insert.new.self) c.args.key c.in-Ok.ensures.updates.0

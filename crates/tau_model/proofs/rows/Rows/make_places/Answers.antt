@@ -5,7 +5,7 @@ use Rattle.std.proofs.lemmas.List.Elements.{All-more}
 use Rattle.tau_base.specs.declared.value.Key.{Key}
 use Rattle.tau_base.specs.declared.value.Value.{Value}
 use Rattle.tau_model.specs.Store.{HasPlace, HasPlaces}
-use Rattle.tau_model.proofs.store.SerialStore.make_places.Goals as goal
+use Rattle.tau_model.proofs.rows.Rows.make_places.Goals as goal
 
 pub loop-key-preserved : goal.loop-key-preserved
 loop-key-preserved c = record {
