@@ -3,6 +3,7 @@ use Rattle.std.specs.Prelude.{ℕ, ◌<◌, ◌≤◌, ◌≡◌, ◌⊎◌, Boo
 use Rattle.tau_base.specs.declared.value.LogMode.{LogMode}
 use Rattle.tau_text.specs.declared.load.Turn.{Turn}
 use Rattle.tau_text.specs.declared.load.Workload.{Workload}
+use Rattle.tau_open.specs.Outside.{calls_to_open}
 use Rattle.tau_report.specs.Report.{ack_lines}
 use Rattle.tau_machine.specs.State.{Core}
 use Rattle.tau_machine.specs.Runs as machine
@@ -29,10 +30,6 @@ WroteFront wrote sink_rose text = wrote text ⊎ ((k : ℕ) × (k < length text)
 abbrev pub NamesFailed : (ℕ → Type 0) → ℕ → Option ℕ → Type 0
 NamesFailed rose n None = Unit {0}
 NamesFailed rose n (Some j) = (j < n) × rose j
-
--- the device calls of a disk that it takes to make a stream: its length, and three writes with a sync
-abbrev pub calls_to_open : ℕ
-calls_to_open = 7
 
 -- What was written of the run, by how it ended; `fault` is the line that tells of a disk that failed before the run began.
 abbrev pub RunTells : (ended : Run → Type 0) → ℕ → Workload → (ℕ → Type 0) → Type 0 → (ℕ → ℕ → Type 0) → (List ℕ → Type 0) → (ℕ → List ℕ) → Run → Ending → Type 0
