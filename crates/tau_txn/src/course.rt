@@ -6,7 +6,7 @@ ghost use Rattle.tau_base.specs.declared.value.Value.{Value};
 ghost use Rattle.tau_machine.specs.Stage.{stage};
 ghost use Rattle.tau_machine.specs.Worker.{lock_of};
 ghost use Rattle.tau_proc.specs.Takes.{takes};
-ghost use Rattle.tau_proc.specs.Progress.{ahead, buffered, IsAt, next_want, IsRead, IsWrite, wants_left};
+ghost use Rattle.tau_proc.specs.Progress.{ahead, blank, buffered, IsAt, next_want, IsRead, IsWrite, wants_left};
 ghost use Rattle.tau_txn.specs.Steps.{lock_by};
 
 use std::marker::Model;
@@ -32,14 +32,32 @@ impl Model for Course {
 }
 
 impl Course {
+    /// A machine that has ended and wrote nothing.
+    pub fn new() -> Course
+        ensures { result ≡ blank }
+    {
+        let mut machine = Machine::new();
+        let want = machine.next();
+        Course { machine, want }
+    }
+
     /// A call that begins.
     pub fn start(procs: &Procs, call: &Call) -> Course
         requires { IsTrue (takes procs.now call.now) }
         ensures { IsAt procs.now call.now [] 0 result }
     {
-        let mut machine = Machine::start(procs, call);
-        let want = machine.next();
-        Course { machine, want }
+        let mut course = Course::new();
+        course.restart(procs, call);
+        course
+    }
+
+    /// A call that begins in the place of the one before.
+    pub fn restart(&mut self, procs: &Procs, call: &Call)
+        requires { IsTrue (takes procs.now call.now) }
+        ensures { IsAt procs.now call.now [] 0 self.new }
+    {
+        self.machine.restart(procs, call);
+        self.want = self.machine.next();
     }
 
     /// What it wants next.

@@ -72,29 +72,24 @@ impl Model for Hand {
 }
 
 impl Hand {
-    /// A call that begins.
-    pub fn begin(alloc: Global, procs: &Procs, number: u64, call: &Call, n: usize) -> Hand
+    /// With no call yet.
+    pub fn new(alloc: Global, n: usize) -> Hand
         requires low { 1 ≤ n }
         requires high { n ≤ 16 }
-        requires takes { IsTrue (takes procs.now call.now) }
-        requires number { 1 ≤ number }
-        ensures begun { (w : ℕ) → hand_of procs.now w result ≡ fresh n (record { number = number; call = call.now }) 0 }
-        ensures standing { result.standing ≡ Standing.Running }
-        ensures stays { result.leaves ≡ false }
-        ensures bytes { result.bytes ≡ [] }
-        ensures runs { IsRunBy procs.now result }
-        ensures keeps { KeepsHand n result }
+        ensures { result.dep ≡ replicate n 0 }
     {
-        let _limits = procs.list();
         Hand {
             alloc,
-            number,
-            call: copied(call),
-            machine: Course::start(procs, call),
+            number: 0,
+            call: Call {
+                proc: 0,
+                args: ArrayVec::new(),
+            },
+            machine: Course::new(),
             tries: 0,
             leaves: false,
             given_up: false,
-            standing: Standing::Running,
+            standing: Standing::LeftOver,
             dep: Lv::zero(n),
             held: ArrayVec::new(),
             seen: ArrayVec::new(),
@@ -105,6 +100,35 @@ impl Hand {
             lv: Lv::zero(n),
             bytes: Vec::new(alloc),
         }
+    }
+
+    /// A call that begins in the place of the one before. It takes no memory.
+    pub fn begin(&mut self, procs: &Procs, number: u64, call: &Call, n: usize)
+        requires low { 1 ≤ n }
+        requires high { n ≤ 16 }
+        requires takes { IsTrue (takes procs.now call.now) }
+        requires number { 1 ≤ number }
+        ensures begun { (w : ℕ) → hand_of procs.now w self.new ≡ fresh n (record { number = number; call = call.now }) 0 }
+        ensures standing { self.new.standing ≡ Standing.Running }
+        ensures stays { self.new.leaves ≡ false }
+        ensures bytes { self.new.bytes ≡ [] }
+        ensures runs { IsRunBy procs.now self.new }
+        ensures keeps { KeepsHand n self.new }
+    {
+        self.number = number;
+        copy_call(&mut self.call, call);
+        self.tries = 0;
+        self.leaves = false;
+        self.given_up = false;
+        self.dep = Lv::zero(n);
+        self.held.clear();
+        self.anchor = 0;
+        self.stream = 0;
+        self.start = 0;
+        self.past = 0;
+        self.lv = Lv::zero(n);
+        self.bytes = Vec::new(self.alloc);
+        self.restart(procs);
     }
 
     /// Its number.
@@ -565,9 +589,10 @@ impl Hand {
         true
     }
 
-    /// The call begins again, with the zero vector. It takes no memory.
+    /// The call begins, or begins again, with the zero vector. It takes no memory.
     fn restart(&mut self, procs: &Procs)
-        requires run { IsRunBy procs.now self.old }
+        requires takes { IsTrue (takes procs.now self.old.call) }
+        requires number { 1 ≤ self.old.number }
         requires tries { self.old.tries < MAX_TRIES }
         requires given_up { self.old.given_up ≡ false }
         requires held { self.old.held ≡ [] }
@@ -575,7 +600,8 @@ impl Hand {
         ensures begun { (w : ℕ) → hand_of procs.now w self.new ≡ fresh (length self.old.dep) (record { number = self.old.number; call = self.old.call }) self.old.tries }
         ensures runs { IsRunBy procs.now self.new }
     {
-        self.machine = Course::start(procs, &self.call);
+        let _limits = procs.list();
+        self.machine.restart(procs, &self.call);
         self.seen.clear();
         self.dep = Lv::zero(self.dep.width());
         self.standing = Standing::Running;
@@ -605,17 +631,14 @@ fn frees(held: &[(Key, Mode)], writes: &[(Key, Value)], reply: Reply, lv: Lv) ->
     }
 }
 
-/// The call again.
-fn copied(call: &Call) -> Call
-    ensures { result ≡ call.now }
+/// Puts the call in the place of the one before.
+fn copy_call(place: &mut Call, call: &Call)
+    ensures { place.new ≡ call.now }
 {
-    let mut args = ArrayVec::new();
+    place.proc = call.proc;
+    place.args.clear();
     for arg in call.args.as_slice() {
-        args.push(arg.copied());
-    }
-    Call {
-        proc: call.proc,
-        args,
+        place.args.push(arg.copied());
     }
 }
 

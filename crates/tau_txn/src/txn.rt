@@ -37,18 +37,19 @@ pub struct Txn {
     worker: u8,
     n: usize,
     mode: LogMode,
-    hand: Option<Hand>,
+    hand: Hand,
+    in_hand: bool,
 }
 
 impl Model for Txn {
     ghost use Rattle.tau_txn.specs.Txn.{PlainTxn};
-    ghost use Rattle.tau_txn.specs.Kept.{Keeps};
+    ghost use Rattle.tau_txn.specs.Kept.{Keeps, kept};
 
     ghost Value = { PlainTxn };
 
-    ghost view = { λ t. record { worker = t.worker; width = t.n; mode = t.mode; hand = t.hand } };
+    ghost view = { λ t. record { worker = t.worker; width = t.n; mode = t.mode; hand = kept t.in_hand t.hand } };
 
-    ghost invariant = { λ t. Keeps (record { worker = t.worker; width = t.n; mode = t.mode; hand = t.hand }) };
+    ghost invariant = { λ t. Keeps (record { worker = t.worker; width = t.n; mode = t.mode; hand = kept t.in_hand t.hand }) };
 }
 
 impl Txn {
@@ -63,7 +64,8 @@ impl Txn {
             worker,
             n,
             mode,
-            hand: None,
+            hand: Hand::new(alloc, n),
+            in_hand: false,
         }
     }
 
@@ -78,7 +80,8 @@ impl Txn {
         ensures bytes { bytes_in self.new ≡ [] }
         ensures same { self.new ≡ record self.old { hand = self.new.hand } }
     {
-        self.hand = Some(Hand::begin(self.alloc, procs, number, call, self.n));
+        self.hand.begin(procs, number, call, self.n);
+        self.in_hand = true;
     }
 
     /// What the call in hand does next; the same until it is answered. Nothing where no call is in hand. The size of a Commit is 0
@@ -89,10 +92,10 @@ impl Txn {
             result ≡ action_of procs self.now.worker (leaves_in self.now) (length (bytes_in self.now)) hand }
         ensures means { (procs : List Proc) → RunsBy procs self.now → Means procs self.now result }
     {
-        match &self.hand {
-            Some(hand) => hand.turn(),
-            None => Action::Nothing,
+        if !self.in_hand {
+            return Action::Nothing;
         }
+        self.hand.turn()
     }
 
     /// The lock was granted: the row that it showed, and the vector that it raised. It takes no memory.
@@ -106,10 +109,10 @@ impl Txn {
         ensures bytes { bytes_in self.old ≡ [] → bytes_in self.new ≡ [] }
         ensures same { self.new ≡ record self.old { hand = self.new.hand } }
     {
-        let Some(hand) = &mut self.hand else {
+        if !self.in_hand {
             return;
-        };
-        hand.granted(value, dep);
+        }
+        self.hand.granted(value, dep);
     }
 
     /// The lock was refused, since a worker holds the key. The procedures are those of `begin`. It takes no memory.
@@ -122,12 +125,10 @@ impl Txn {
         ensures bytes { bytes_in self.old ≡ [] → bytes_in self.new ≡ [] }
         ensures same { self.new ≡ record self.old { hand = self.new.hand } }
     {
-        let Some(hand) = &mut self.hand else {
+        if !self.in_hand {
             return;
-        };
-        if !hand.busy(procs) {
-            self.hand = None;
         }
+        self.in_hand = self.hand.busy(procs);
     }
 
     /// Raises the call's vector by that of an anchor, or by zero where the number is 0, and makes the record. After NoMemory the call is
@@ -147,10 +148,10 @@ impl Txn {
         ensures unchanged { OnErr result (self.new ≡ self.old) }
     {
         let mode = self.mode;
-        let Some(hand) = &mut self.hand else {
+        if !self.in_hand {
             return Ok(());
-        };
-        hand.prepare(mode, anchor_number, anchor)
+        }
+        self.hand.prepare(mode, anchor_number, anchor)
     }
 
     /// The record got its place in the worker's stream. It takes no memory, and nothing takes any from here on.
@@ -166,10 +167,10 @@ impl Txn {
         ensures same { self.new ≡ record self.old { hand = self.new.hand } }
     {
         let stream = usize::from(self.worker) % self.n;
-        let Some(hand) = &mut self.hand else {
+        if !self.in_hand {
             return;
-        };
-        hand.placed(stream as u8, start);
+        }
+        self.hand.placed(stream as u8, start);
     }
 
     /// The bytes of the record, to post. It takes no memory.
@@ -183,10 +184,10 @@ impl Txn {
         ensures same { self.new ≡ record self.old { hand = self.new.hand } }
     {
         let alloc = self.alloc;
-        let Some(hand) = &mut self.hand else {
+        if !self.in_hand {
             return Vec::new(alloc);
-        };
-        hand.take_bytes()
+        }
+        self.hand.take_bytes()
     }
 
     /// The next action was done: a Quit, a Free, a Done or a LeftOver. The procedures are those of `begin`. It takes no memory.
@@ -205,12 +206,10 @@ impl Txn {
         ensures bytes { bytes_in self.old ≡ [] → bytes_in self.new ≡ [] }
         ensures same { self.new ≡ record self.old { hand = self.new.hand } }
     {
-        let Some(hand) = &mut self.hand else {
+        if !self.in_hand {
             return;
-        };
-        if !hand.went(procs) {
-            self.hand = None;
         }
+        self.in_hand = self.hand.went(procs);
     }
 
     /// From now on the call only gives its keys back, and then it is in hand no more. It takes no memory.
@@ -222,29 +221,27 @@ impl Txn {
         ensures runs { (procs : List Proc) → RunsBy procs self.old → RunsBy procs self.new }
         ensures same { self.new ≡ record self.old { hand = self.new.hand } }
     {
-        let Some(hand) = &mut self.hand else {
+        if !self.in_hand {
             return;
-        };
-        if !hand.give_up() {
-            self.hand = None;
         }
+        self.in_hand = self.hand.give_up();
     }
 
     /// Whether a call is in hand.
     pub fn in_hand(&self) -> bool
         ensures { result ≡ is_some self.now.hand }
     {
-        self.hand.is_some()
+        self.in_hand
     }
 
     /// The number of the call in hand.
     pub fn number(&self) -> Option<u64>
         ensures { result ≡ number_in self.now }
     {
-        match &self.hand {
-            Some(hand) => Some(hand.number()),
-            None => None,
+        if !self.in_hand {
+            return None;
         }
+        Some(self.hand.number())
     }
 
     /// The vector of the call in hand so far, without its own record; zero where none is in hand.
@@ -252,10 +249,10 @@ impl Txn {
         ensures dep { result ≡ dep_in self.now }
         ensures wide { length result ≡ self.now.width }
     {
-        match &self.hand {
-            Some(hand) => hand.dep(),
-            None => Lv::zero(self.n),
+        if !self.in_hand {
+            return Lv::zero(self.n);
         }
+        self.hand.dep()
     }
 
     /// The vector with which the call in hand frees its keys: its own, once its record has its place, before that the one so far; zero
@@ -264,20 +261,20 @@ impl Txn {
         ensures lv { result ≡ lv_in self.now }
         ensures frees { (procs : List Proc) (hand : theory.Hand) (act : Act theory.Txn) → RunsBy procs self.now → hand_in procs self.now ≡ Some hand → FreesBy procs (has_joined self.now) self.now.worker hand act → result ≡ lv_of act }
     {
-        match &self.hand {
-            Some(hand) => hand.lv(),
-            None => Lv::zero(self.n),
+        if !self.in_hand {
+            return Lv::zero(self.n);
         }
+        self.hand.lv()
     }
 
     /// Whether the call in hand has joined the committed ones: its record has its place, or it is read-only and has freed a key.
     pub fn has_joined(&self) -> bool
         ensures { result ≡ has_joined self.now }
     {
-        match &self.hand {
-            Some(hand) => hand.has_joined(),
-            None => false,
+        if !self.in_hand {
+            return false;
         }
+        self.hand.has_joined()
     }
 
     /// What is kept of the call in hand once it has joined the committed ones, and before that where it is read-only and has finished.
@@ -286,10 +283,10 @@ impl Txn {
         ensures joined { (procs : List Proc) (hand : theory.Hand) (act : Act theory.Txn) → RunsBy procs self.now → hand_in procs self.now ≡ Some hand → act_of hand.phase ≡ Some act → result ≡ Some (committed_of act) }
         ensures reading { (procs : List Proc) (hand : theory.Hand) (act : Act theory.Txn) → RunsBy procs self.now → hand_in procs self.now ≡ Some hand → Reads procs self.now.worker hand act → result ≡ Some (committed_of act) }
     {
-        match &self.hand {
-            Some(hand) => hand.committed(),
-            None => None,
+        if !self.in_hand {
+            return None;
         }
+        self.hand.committed()
     }
 
     /// The number of the call in hand with the lock that is its next action. None exactly where its next action is none.
