@@ -1,5 +1,5 @@
 -- What a worker's call does next, and what stands behind it in the core.
-use Rattle.std.proofs.Common.{ℕ, ◌≤◌, ◌≡◌, true, List, [], ◌∷◌, length, refl, sym, ap, subst, ◌∙◌, arith, inl, inr}
+use Rattle.std.proofs.Common.{ℕ, ◌%◌, ◌≤◌, ◌≡◌, true, List, [], ◌∷◌, length, refl, sym, ap, subst, ◌∙◌, arith, inl, inr}
 use Rattle.std.specs.Prelude.{Option, Some, None}
 use Rattle.std.specs.Map.{lookup}
 use Rattle.std.specs.FinMap.Entries.{is_sorted}
@@ -29,7 +29,7 @@ use Rattle.tau_txn.specs.declared.standing.Standing.TheVariants.{Running, Quitti
 use Rattle.tau_txn.specs.declared.action.Action.{Action}
 use Rattle.tau_txn.specs.declared.action.Action.TheVariants as action
 use Rattle.tau_txn.specs.Hand.{PlainHand}
-use Rattle.tau_txn.specs.Read.{hand_of, phase_in, act_in, effect_of, effect_in}
+use Rattle.tau_txn.specs.Read.{hand_of, phase_in, act_in, placed_act, effect_of, effect_in}
 use Rattle.tau_txn.specs.Actions.{action_of}
 use Rattle.tau_txn.specs.Kept.{KeepsHand, is_leaving}
 use Rattle.tau_txn.specs.Next.{next_by, Means, Reads, FreesBy, Locks, Quits, Commits, Posts, Frees, Finishes, act_at}
@@ -216,6 +216,17 @@ locked-in w h new value dep locked running procs hand x m asks' is =
     ap (λ (s : Standing). shown procs w s new) running
     ∙ ap (λ (a : Hand). Some a) (locked procs w (x, m) (asked-at h (action.Lock x m) asks').lock)
     ∙ ap (λ (a : Hand). Some (locked_with a x m value dep)) (shows procs w h hand is).is
+
+-- the core's hand once its record has its place
+pub placed-in : (procs : List Proc) (w width : ℕ) (mode : LogMode) (stream start : ℕ) (h new : PlainHand) → stream ≡ w % width → new.standing ≡ Placed →
+    ((procs : List Proc) (u : ℕ) → hand_of procs u new ≡ hand_joined (hand_of procs u h) (theory.Placed (placed_act procs u stream start h)) h.dep) →
+    (hand : Hand) → shown procs w h.standing h ≡ Some hand →
+    shown procs w new.standing new ≡ Some (hand_joined hand (theory.Placed (act_at procs (record { worker = w; width = width; mode = mode; hand = Some h }) start hand)) hand.dep)
+placed-in procs w width mode stream start h new own stands placed hand is =
+    ap (λ (s : Standing). shown procs w s new) stands
+    ∙ ap (λ (a : Hand). Some a) (placed procs w)
+    ∙ ap (λ (k : ℕ). Some (hand_joined (hand_of procs w h) (theory.Placed (placed_act procs w k start h)) h.dep)) own
+    ∙ ap (λ (a : Hand). Some (hand_joined a (theory.Placed (act_at procs (record { worker = w; width = width; mode = mode; hand = Some h }) start a)) a.dep)) (shows procs w h hand is).is
 
 -- the core's worker after a key was given back
 pub quit-in : (procs : List Proc) (w width : ℕ) (h : PlainHand) (after : Worker → Worker) →

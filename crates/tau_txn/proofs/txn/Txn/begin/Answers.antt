@@ -8,6 +8,6 @@ use Rattle.tau_txn.proofs.txn.Txn.begin.Goals as goal
 
 pub returns-clause-begun : goal.returns-clause-begun
 returns-clause-begun c =
-    ap (λ (s : Standing). shown c.args.procs.now c.self.inside.worker s c.begin.result) c.begin.ensures.standing
+    ap (λ (s : Standing). shown c.args.procs.now c.self.inside.worker s c.begin.new.self) c.begin.ensures.standing
     ∙ ap (λ (h : theory.Hand). Some h) (c.begin.ensures.begun c.self.inside.worker)
     ∙ ap (λ (t : PlainTxn). Some (fresh t.width (record { number = c.args.number; call = c.args.call.now }) 0)) c.self.view_is
