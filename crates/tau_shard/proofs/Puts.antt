@@ -94,6 +94,31 @@ held-other e w u m n no' h = elim (cases_eq u w) [
   | inr ne ↦ sym (at-other w m e.holders u ne) ∙ h
 ]
 
+none-write : None ≡ Some Write → ⊥
+none-write e = cc
+
+-- an entry that a worker gives back: who writes did
+pub released-writes : (e : LockEntry) (f : Entry) (w : ℕ) → f.holders ≡ (held_as (entry_of e) w None).holders →
+    (u : ℕ) → f.holders u ≡ Some Write → (entry_of e).holders u ≡ Some Write
+released-writes e f w is u h = held-other (entry_of e) w u None Write none-write (ap (λ (holders : ℕ → Option Mode). holders u) (sym is) ∙ h)
+
+-- the entry of x is changed in place, and who writes did
+pub placed-in-place : (get get' : Key → Option LockEntry) (floor : List ℕ) (there : Key → Type 0) (x : Key) (e f : LockEntry) → Some e ≡ get x →
+    ((q : Key) → get' q ≡ cond (is_key x q) (Some f) (get q)) → ((w : ℕ) → (entry_of f).holders w ≡ Some Write → (entry_of e).holders w ≡ Some Write) →
+    ((y : Key) (w : ℕ) → (entry_or floor (entry_option (get y))).holders w ≡ Some Write → there y) →
+    (y : Key) (w : ℕ) → (entry_or floor (entry_option (get' y))).holders w ≡ Some Write → there y
+placed-in-place get get' floor there x e f at updates writes old =
+    placed-put get get' floor there x f updates (λ w h. old x w (ap (λ (o : Option LockEntry). (entry_or floor (entry_option o)).holders w) (sym at) ∙ writes w h)) old
+
+pub shard-in-place : (rows : Db) (get get' : Key → Option LockEntry) (floor : List ℕ) (x : Key) (e f : LockEntry) (change : Entry → Entry) → Some e ≡ get x →
+    entry_of f ≡ change (entry_of e) → ((q : Key) → get' q ≡ cond (is_key x q) (Some f) (get q)) →
+    ◌≡◌ {A = Shard} (record { rows = rows; entries = λ q. entry_option (get' q); floor = floor })
+    (put_entry (record { rows = rows; entries = λ q. entry_option (get q); floor = floor }) x (change (entry_or floor (entry_option (get x)))))
+shard-in-place rows get get' floor x e f change at is updates =
+    put-shard rows get get' floor x f updates
+    ∙ ap (put_entry (record { rows = rows; entries = λ q. entry_option (get q); floor = floor }) x)
+    (is ∙ ap (λ (o : Option LockEntry). change (entry_or floor (entry_option o))) at)
+
 -- a key that a worker holds has an entry
 pub entry-there : (s : PlainShard) (x : Key) (w : ℕ) → IsSome ((entry_in (shard_of s) x).holders w) → IsSome (lookup (is_key x) s.entries)
 entry-there s x w h = by (lookup (is_key x) s.entries) h
@@ -101,6 +126,13 @@ entry-there s x w h = by (lookup (is_key x) s.entries) h
     by : (o : Option LockEntry) → IsSome ((entry_or s.floor (entry_option o)).holders w) → IsSome o
     by None q = q
     by (Some e) q = refl
+
+pub held-there : (p s : PlainShard) (x : Key) (w : ℕ) → p ≡ s → None ≡ lookup (is_key x) p.entries → IsSome ((entry_in (shard_of s) x).holders w) → ⊥
+held-there p s x w same at h =
+    no-some (subst (λ (o : Option LockEntry). IsSome o) (sym at) (subst (λ (t : PlainShard). IsSome (lookup (is_key x) t.entries)) (sym same) (entry-there s x w h)))
+  where
+    no-some : IsSome {T = LockEntry} None → ⊥
+    no-some e = cc
 
 pub when-ok : {P : Type 0} (r : Result (Unit {0}) NoMemory) → IsOk r → OnOk r P → P
 when-ok (Ok u) is p = p

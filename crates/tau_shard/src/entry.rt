@@ -1,5 +1,6 @@
 //! Lock entries.
 ghost use Rattle.std.specs.Prelude.{◌≡◌, ◌<◌, ℕ, false, None, Some, IfNone, IfSome};
+ghost use Rattle.tau_base.specs.Vectors.{join};
 ghost use Rattle.tau_machine.specs.Shard.{held_as};
 ghost use Rattle.tau_shard.specs.Read.{bits, entry_of};
 ghost use Rattle.tau_shard.specs.Blocks.{against, blocks, IsLowest, covered};
@@ -57,16 +58,30 @@ pub(crate) fn held(entry: &LockEntry, worker: u8, mode: Mode) -> LockEntry
 }
 
 /// The worker holds the key no more.
-pub(crate) fn released(entry: &LockEntry, worker: u8) -> LockEntry
+pub(crate) fn release(entry: &mut LockEntry, worker: u8)
     requires { worker < 32 }
-    ensures { entry_of result ≡ held_as (entry_of entry.now) worker None }
+    ensures { entry_of entry.new ≡ held_as (entry_of entry.old) worker None }
 {
-    LockEntry {
-        read: entry.read,
-        write: entry.write,
-        readers: mask::without(entry.readers, worker),
-        writers: mask::without(entry.writers, worker),
-    }
+    entry.readers = mask::without(entry.readers, worker);
+    entry.writers = mask::without(entry.writers, worker);
+}
+
+/// The worker holds the key no more, whose read vector is raised.
+pub(crate) fn release_read(entry: &mut LockEntry, worker: u8, lv: &Lv)
+    requires { worker < 32 }
+    ensures { entry_of entry.new ≡ record (held_as (entry_of entry.old) worker None) { read_lv = join entry.old.read lv.now } }
+{
+    release(entry, worker);
+    entry.read.raise(lv);
+}
+
+/// The worker holds the key no more, whose write vector is raised.
+pub(crate) fn release_written(entry: &mut LockEntry, worker: u8, lv: &Lv)
+    requires { worker < 32 }
+    ensures { entry_of entry.new ≡ record (held_as (entry_of entry.old) worker None) { write_lv = join entry.old.write lv.now } }
+{
+    release(entry, worker);
+    entry.write.raise(lv);
 }
 
 /// The workers whose hold conflicts with a lock in this mode.

@@ -1,14 +1,15 @@
 //! A shard.
 ghost use Rattle.std.specs.Prelude.{◌≡◌, ◌<◌, ◌≤◌, ◌-◌, ◌++◌, ℕ, is_some, length, take, [], ◌∷◌, false, not, None, Some, OnOk, OnErr, IfOk, IfErr, IsOk, IsSome, replicate};
 ghost use Rattle.std.specs.Map.{lookup, keys_of};
+ghost use Rattle.tau_base.specs.Vectors.{join};
 ghost use Rattle.tau_base.specs.Database.{same_key, written, db_of};
-ghost use Rattle.tau_machine.specs.Shard.{entry_in, put_entry, shard_locked, shard_quit, shard_freed, Dropped};
+ghost use Rattle.tau_machine.specs.Shard.{entry_in, held_as, put_entry, shard_locked, shard_quit, shard_freed, Dropped};
 ghost use Rattle.tau_shard.specs.Read.{is_key, entry_of, shard_of};
 ghost use Rattle.std.specs.List.{IsDistinct};
 ghost use Rattle.tau_shard.specs.Blocks.{blocks, RefusedBy, covered, dep_locked, empty, swept};
 ghost use Rattle.tau_shard.specs.Present.{is_present, present_rows};
 
-use crate::entry::{LockEntry, ShardRefusal, blocker, held, is_covered, released};
+use crate::entry::{LockEntry, ShardRefusal, blocker, held, is_covered, release, release_read, release_written};
 use indexmap::IndexMap;
 use std::alloc::Global;
 use std::marker::Model;
@@ -184,34 +185,37 @@ impl Shard {
         requires writes { IsSome write → (entry_in (shard_of self.old) key).holders worker ≡ Some Mode.Write }
         ensures { shard_of self.new ≡ shard_freed (shard_of self.old) worker key lv.now write }
     {
-        let before = self.entry(key);
-        let entry = released(&before, worker);
         match write {
-            None => {
-                let read = entry.read.join(lv);
-                let _ = self.put(
-                    key,
-                    LockEntry {
-                        read,
-                        write: entry.write,
-                        readers: entry.readers,
-                        writers: entry.writers,
-                    },
-                );
-            }
+            None => self.free_read(worker, key, lv),
             Some(value) => {
-                let write = entry.write.join(lv);
-                let _ = self.put(
-                    key,
-                    LockEntry {
-                        read: entry.read,
-                        write,
-                        readers: entry.readers,
-                        writers: entry.writers,
-                    },
-                );
+                self.free_written(worker, key, lv);
                 let _ = self.set_row(key, value);
             }
+        }
+    }
+
+    /// Frees a key that the call only read.
+    fn free_read(&mut self, worker: u8, key: Key, lv: &Lv)
+        requires low { worker < 32 }
+        requires held { IsSome ((entry_in (shard_of self.old) key).holders worker) }
+        ensures { shard_of self.new ≡ shard_freed (shard_of self.old) worker key lv.now None }
+    {
+        match self.entries.get_mut(&key) {
+            Some(entry) => release_read(entry, worker, lv),
+            None => {}
+        }
+    }
+
+    /// Frees a key that the call wrote, all but its row.
+    fn free_written(&mut self, worker: u8, key: Key, lv: &Lv)
+        requires low { worker < 32 }
+        requires held { (entry_in (shard_of self.old) key).holders worker ≡ Some Mode.Write }
+        ensures entry { shard_of self.new ≡ put_entry (shard_of self.old) key (record (held_as (entry_in (shard_of self.old) key) worker None) { write_lv = join (entry_in (shard_of self.old) key).write_lv lv.now }) }
+        ensures there { IsSome (lookup (is_key key) self.new.rows) }
+    {
+        match self.entries.get_mut(&key) {
+            Some(entry) => release_written(entry, worker, lv),
+            None => {}
         }
     }
 
@@ -221,8 +225,10 @@ impl Shard {
         requires held { IsSome ((entry_in (shard_of self.old) key).holders worker) }
         ensures { shard_of self.new ≡ shard_quit (shard_of self.old) worker key }
     {
-        let entry = self.entry(key);
-        let _ = self.put(key, released(&entry, worker));
+        match self.entries.get_mut(&key) {
+            Some(entry) => release(entry, worker),
+            None => {}
+        }
     }
 
     /// Removes each entry that nobody holds and whose vectors `plv` covers, joins them into the floor, and answers how many.

@@ -1,19 +1,44 @@
-use Rattle.std.proofs.Common.{◌≡◌, sym, ap, ◌∙◌, None, Some}
-use Rattle.tau_base.specs.declared.value.Mode.TheVariants.{Write}
-use Rattle.tau_machine.specs.Shard.{Entry, held_as, put_entry}
-use Rattle.tau_shard.specs.Read.{entry_of, shard_of}
-use Rattle.tau_shard.proofs.Puts.{held-other, entry-there, when-ok}
+use Rattle.std.proofs.Common.{◌≡◌, refl, sym, ap, subst, ◌∙◌, Option}
+use Rattle.std.specs.Prelude.{Some, IsSome}
+use Rattle.std.specs.Option.{unwrap_or}
+use Rattle.std.specs.Map.{lookup}
+use Rattle.indexmap.specs.IndexMap.{get}
+use Rattle.tau_base.specs.declared.value.Key.{Key}
+use Rattle.tau_base.specs.declared.value.Value.TheVariants.{Absent}
+use Rattle.tau_machine.specs.Shard.{Entry, held_as, shard_quit}
+use Rattle.tau_shard.specs.declared.entry.LockEntry.{LockEntry}
+use Rattle.tau_shard.specs.declared.shard.Shard.TheInside.{Inside}
+use Rattle.tau_shard.specs.Plain.{PlainShard}
+use Rattle.tau_shard.specs.Read.{is_key, entry_of, shard_of}
+use Rattle.tau_shard.specs.Blocks.{Placed}
+use Rattle.tau_shard.proofs.Puts.{shard-in-place, placed-in-place, released-writes, held-there}
 use Rattle.tau_shard.proofs.shard.Shard.quit.Goals as goal
+use Rattle.tau_shard.proofs.shard.Shard.quit.Goals.{in-Some, in-None}
 
-none-write : None ≡ Some Write → ⊥
-none-write e = cc
+abbrev plain : Inside → PlainShard
+plain s = record { rows = s.rows.entries; entries = s.entries.entries; floor = s.floor }
 
-pub put-requires : goal.put-requires
-put-requires c = record {
-  placed = λ u h. c.entry-entry.ensures.placed u (held-other (entry_of c.entry-entry.result) c.args.worker u None Write none-write (ap (λ (e : Entry). e.holders u) (sym c.released.ensures) ∙ h));
-}
+pub invariant_of-self : goal.invariant_of-self
+invariant_of-self c = elim c.match-get_mut.branch [
+  | in-Some w ↦
+      let there : Key → Type 0 = λ x. IsSome (lookup (is_key x) c.self.inside.rows.entries) in
+      let writes = c.get_mut.follows.holds w.release.new.entry in
+      let some : IsSome (get is_key c.self.inside.entries c.args.key) = subst (λ (o : Option LockEntry). IsSome o) w.in-Some.ensures.value refl in
+      subst (λ (s : Inside). Placed (plain s)) (sym w.self-inside-is)
+      (placed-in-place (λ q. get is_key c.self.inside.entries q) _ c.self.inside.floor there c.args.key w.in-Some.entry.now w.release.new.entry w.in-Some.ensures.value
+      (λ q. (writes.3 some).0 q)
+      (released-writes w.in-Some.entry.now (entry_of w.release.new.entry) c.args.worker (ap (λ (e : Entry). e.holders) w.release.ensures)) c.self.invariant)
+  | in-None w ↦ absurd (held-there (plain c.self.inside) c.args.self.now c.args.key c.args.worker c.self.view_is w.in-None.ensures.value c.requires.held)
+]
 
 pub returns : goal.returns
-returns c =
-    when-ok c.put.result (c.put.ensures.kept (entry-there c.args.self.now c.args.key c.args.worker c.requires.held)) c.put.ensures.ok
-    ∙ ap (put_entry (shard_of c.args.self.now) c.args.key) (c.released.ensures ∙ ap (λ (e : Entry). held_as e c.args.worker None) c.entry-entry.ensures.same)
+returns c = elim c.match-get_mut.branch [
+  | in-Some w ↦
+      let writes = c.get_mut.follows.holds w.release.new.entry in
+      let some : IsSome (get is_key c.self.inside.entries c.args.key) = subst (λ (o : Option LockEntry). IsSome o) w.in-Some.ensures.value refl in
+      ap (λ (s : Inside). shard_of (plain s)) w.self-inside-is
+      ∙ shard-in-place (λ x. unwrap_or (get is_key c.self.inside.rows x) Absent) (λ q. get is_key c.self.inside.entries q) _ c.self.inside.floor c.args.key
+      w.in-Some.entry.now w.release.new.entry (λ (e : Entry). held_as e c.args.worker None) w.in-Some.ensures.value w.release.ensures (λ q. (writes.3 some).0 q)
+      ∙ ap (λ (p : PlainShard). shard_quit (shard_of p) c.args.worker c.args.key) c.self.view_is
+  | in-None w ↦ absurd (held-there (plain c.self.inside) c.args.self.now c.args.key c.args.worker c.self.view_is w.in-None.ensures.value c.requires.held)
+]

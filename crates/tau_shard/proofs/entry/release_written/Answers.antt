@@ -1,0 +1,9 @@
+use Rattle.std.proofs.Common.{◌≡◌, List, ℕ, ap, ◌∙◌}
+use Rattle.tau_base.specs.Vectors.{join}
+use Rattle.tau_machine.specs.Shard.{Entry}
+use Rattle.tau_shard.proofs.entry.release_written.Goals as goal
+
+pub returns : goal.returns
+returns c =
+    let raised = c.raise.ensures ∙ ap (λ (e : Entry). join e.write_lv c.args.lv.now) c.release.ensures in
+    λ i. record { holders = (c.release.ensures i).holders; read_lv = (c.release.ensures i).read_lv; write_lv = raised i }
