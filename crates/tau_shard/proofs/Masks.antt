@@ -1,5 +1,5 @@
 -- Sets of workers in masks, and who holds a key by two of them.
-use Rattle.std.proofs.Common.{ℕ, zero, suc, max, ◌*◌, ◌%◌, ◌^◌, ◌-◌, ◌<◌, ◌≤◌, true, false, Bool, ◌≡◌, inl, inr, refl, sym, ap, subst, ◌∙◌, Option, w32, bit_or, bit_and, arith}
+use Rattle.std.proofs.Common.{ℕ, zero, suc, max, ◌*◌, ◌%◌, ◌^◌, ◌-◌, ◌<◌, ◌≤◌, true, false, Bool, ◌≡◌, inl, inr, refl, sym, ap, subst, ◌∙◌, List, Option, w32, bit_or, bit_and, arith}
 use Rattle.std.specs.Prelude.{Some, None, ◌==◌, ◌||◌}
 use Rattle.std.specs.Int.{bit_at, trailing_zeros}
 use Rattle.std.proofs.Math.Path.{fun_ext}
@@ -7,7 +7,7 @@ use Rattle.std.proofs.lemmas.Bool.{cases_Bool, cases_eq, cases_lt, eq-eqb}
 use Rattle.std.proofs.lemmas.Nat.Bits.{bit_at_set_same, bit_at_set_other, bit_at_clear_same, bit_at_clear_other, bit_at_and, bit_at_above, bit_at_or, bit_at-trailing_zeros, bit_at-zero, bit_at-lt, same_from_bits}
 use Rattle.tau_base.specs.declared.value.Mode.{Mode}
 use Rattle.tau_base.specs.declared.value.Mode.TheVariants.{Read, Write}
-use Rattle.tau_machine.specs.Shard.{at, Entry, held_as}
+use Rattle.tau_machine.specs.Shard.{at, Entry, entry_or, held_as}
 use Rattle.tau_machine.proofs.At.{at-same, at-other}
 use Rattle.tau_shard.specs.declared.entry.LockEntry.{LockEntry}
 use Rattle.tau_shard.specs.Read.{bits, holder, entry_of}
@@ -108,6 +108,9 @@ least-bit n above small =
 -- where both masks are empty, nobody holds the key
 pub nobody : (e : LockEntry) → e.readers ≡ 0 → e.writers ≡ 0 → (w : ℕ) → (entry_of e).holders w ≡ None
 nobody e r s w = (λ i. holder (bits (r i) w) (bits (s i) w)) ∙ rw (bits-zero w) refl
+
+pub nobody-new : (floor : List ℕ) → entry_of (record { read = floor; write = floor; readers = 0; writers = 0 }) ≡ entry_or floor None
+nobody-new floor = λ i. record { holders = fun_ext (λ w. nobody (record { read = floor; write = floor; readers = 0; writers = 0 }) refl refl w) i; write_lv = floor; read_lv = floor }
 
 not-held : (r s : Bool) → holder r s ≡ None → (r ≡ false) × (s ≡ false)
 not-held r true e = absurd (let bad : Some Write ≡ None = e in cc)

@@ -1,8 +1,8 @@
 -- Shards in maps that change at one key.
-use Rattle.std.proofs.Common.{ℕ, true, false, cond, ◌≡◌, inl, inr, List, [], ◌∷◌, refl, sym, ap, subst, ◌∙◌, Option}
-use Rattle.std.specs.Prelude.{Some, None, IsSome, IfNone, IsOk, OnOk, Result, Ok, Err, Bool}
+use Rattle.std.proofs.Common.{ℕ, true, false, cond, ◌≡◌, inl, inr, List, [], ◌∷◌, refl, sym, ap, subst, ◌∙◌, Option, arith}
+use Rattle.std.specs.Prelude.{Some, None, IsSome, IfNone, IsOk, OnOk, OnErr, Result, Ok, Err, Bool, not, ◌&&◌, ◌==◌}
 use Rattle.std.specs.Result.{is_err}
-use Rattle.tau_shard.specs.Blocks.{against, blocks}
+use Rattle.tau_shard.specs.Blocks.{against, blocks, dep_locked}
 use Rattle.std.specs.Map.{lookup}
 use Rattle.tau_base.specs.declared.value.NoMemory.{NoMemory}
 use Rattle.std.specs.Option.{unwrap_or}
@@ -14,13 +14,19 @@ use Rattle.tau_base.specs.declared.value.Value.TheVariants.{Absent}
 use Rattle.tau_base.specs.declared.value.Mode.{Mode}
 use Rattle.tau_base.specs.declared.value.Mode.TheVariants.{Read, Write}
 use Rattle.tau_base.specs.Database.{Db, same_key, written}
+use Rattle.tau_base.specs.Vectors.{join}
+use Rattle.tau_base.proofs.Vectors.{join-at, join-wider, join-from}
 use Rattle.tau_base.proofs.Keys.{same_key-itself, same_key-is, same_key-sym, same_key-equal}
 use Rattle.tau_machine.specs.Shard.{at, Entry, Shard, entry_or, entry_in, put_entry, held_as}
 use Rattle.tau_machine.proofs.At.{at-same, at-other}
 use Rattle.tau_machine.proofs.Modes.{cases_key}
 use Rattle.tau_shard.specs.declared.entry.LockEntry.{LockEntry}
+use Rattle.tau_shard.specs.declared.entry.ShardRefusal.{ShardRefusal}
 use Rattle.tau_shard.specs.Plain.{PlainShard}
 use Rattle.tau_shard.specs.Read.{is_key, entry_of, entry_option, shard_of}
+
+abbrev pub with_rows : Db → (Key → Option Entry) → List ℕ → Shard
+with_rows rows entries floor = record { rows = rows; entries = entries; floor = floor }
 
 -- maps find keys as the order of keys does
 pub is_key-same : (a b : Key) → is_key a b ≡ same_key a b
@@ -152,6 +158,10 @@ against-write : (m : Mode) → against m (Some Write) ≡ true
 against-write Read = refl
 against-write Write = refl
 
+against-none : (m : Mode) → against m None ≡ false
+against-none Read = refl
+against-none Write = refl
+
 -- where nobody stands against a lock, only the worker itself writes after it
 pub lock-writes : (e : Entry) (w u : ℕ) (m : Mode) → ((v : ℕ) → blocks e w m v ≡ false) → (held_as e w (Some m)).holders u ≡ Some Write → m ≡ Write
 lock-writes e w u m free h = elim (cases_eq u w) [
@@ -161,3 +171,38 @@ lock-writes e w u m free h = elim (cases_eq u w) [
       let bad : blocks e w m u ≡ true = rw (ne_eqb u w ne, old) (against-write m) in
       absurd (both_ways (blocks e w m u) (free u) bad)
 ]
+
+-- a vector that is raised by the floor twice is raised by it once
+join-twice : (v w : List ℕ) → join v w ≡ join (join v w) w
+join-twice v w = join-from (join v w) (join v w) w (let wide = join-wider v w in omega (arith, wide.1)) (λ k. let at = join-at v w k in omega (arith, at))
+
+pub by-floor : (m : Mode) (dep floor : List ℕ) → join dep floor ≡ dep_locked m dep (entry_or floor None)
+by-floor Read dep floor = refl
+by-floor Write dep floor = join-twice dep floor
+
+-- nobody stands against the first lock of a key
+pub first-free : (floor : List ℕ) (w : ℕ) (m : Mode) (u : ℕ) → blocks (entry_or floor None) w m u ≡ false
+first-free floor w m u = rw (against-none m) (off (u == w))
+  where
+    off : (b : Bool) → not b && false ≡ false
+    off true = refl
+    off false = refl
+
+-- who writes a new entry that is held
+pub first-writes : (floor : List ℕ) (w u : ℕ) (m : Mode) → (held_as (entry_or floor None) w (Some m)).holders u ≡ Some Write → m ≡ Write
+first-writes floor w u m h = lock-writes (entry_or floor None) w u m (λ v. first-free floor w m v) h
+
+pub on-ok : {A E : Type 0} {P Q : Type 0} (r : Result A E) → (P → Q) → OnOk r P → OnOk r Q
+on-ok (Ok a) f p = f p
+on-ok (Err e) f p = tt
+
+pub on-err : {A E : Type 0} {P Q : Type 0} (r : Result A E) → (P → Q) → OnErr r P → OnErr r Q
+on-err (Ok a) f p = tt
+on-err (Err e) f p = f p
+
+-- who writes after a lock, by what it answers
+pub writes-there : {P : Type 0} (r : Result Value ShardRefusal) (e f : LockEntry) (w : ℕ) (m : Mode) → OnOk r (entry_of f ≡ held_as (entry_of e) w (Some m)) →
+    OnOk r ((v : ℕ) → blocks (entry_of e) w m v ≡ false) → OnErr r (f ≡ e) → OnOk r (m ≡ Write → P) → ((u : ℕ) → (entry_of e).holders u ≡ Some Write → P) →
+    (u : ℕ) → (entry_of f).holders u ≡ Some Write → P
+writes-there (Ok v) e f w m is free same there old u h = there (lock-writes (entry_of e) w u m free (ap (λ (x : Entry). x.holders u) (sym is) ∙ h))
+writes-there (Err x) e f w m is free same there old u h = old u (ap (λ (y : LockEntry). (entry_of y).holders u) (sym same) ∙ h)

@@ -1,9 +1,9 @@
 //! Lock entries.
 ghost use Rattle.std.specs.Prelude.{◌≡◌, ◌<◌, ℕ, false, None, Some, IfNone, IfSome};
 ghost use Rattle.tau_base.specs.Vectors.{join};
-ghost use Rattle.tau_machine.specs.Shard.{held_as};
+ghost use Rattle.tau_machine.specs.Shard.{entry_or, held_as};
 ghost use Rattle.tau_shard.specs.Read.{bits, entry_of};
-ghost use Rattle.tau_shard.specs.Blocks.{against, blocks, IsLowest, covered};
+ghost use Rattle.tau_shard.specs.Blocks.{against, blocks, IsLowest, covered, dep_locked};
 
 use crate::mask;
 use tau_base::{Lv, Mode};
@@ -36,25 +36,45 @@ pub enum ShardRefusal {
     },
 }
 
-/// The worker holds the key in this mode, and in no other.
-pub(crate) fn held(entry: &LockEntry, worker: u8, mode: Mode) -> LockEntry
+/// A new entry at the floor, whose key the worker holds.
+pub(crate) fn first_held(floor: &Lv, worker: u8, mode: Mode) -> LockEntry
     requires { worker < 32 }
-    ensures { entry_of result ≡ held_as (entry_of entry.now) worker (Some mode) }
+    ensures { entry_of result ≡ held_as (entry_or floor.now None) worker (Some mode) }
+{
+    let mut entry = LockEntry {
+        read: *floor,
+        write: *floor,
+        readers: 0,
+        writers: 0,
+    };
+    hold(&mut entry, worker, mode);
+    entry
+}
+
+/// The worker holds the key in this mode, and in no other.
+pub(crate) fn hold(entry: &mut LockEntry, worker: u8, mode: Mode)
+    requires { worker < 32 }
+    ensures { entry_of entry.new ≡ held_as (entry_of entry.old) worker (Some mode) }
 {
     match mode {
-        Mode::Read => LockEntry {
-            read: entry.read,
-            write: entry.write,
-            readers: mask::with(entry.readers, worker),
-            writers: mask::without(entry.writers, worker),
-        },
-        Mode::Write => LockEntry {
-            read: entry.read,
-            write: entry.write,
-            readers: entry.readers,
-            writers: mask::with(entry.writers, worker),
-        },
+        Mode::Read => hold_read(entry, worker),
+        Mode::Write => hold_write(entry, worker),
     }
+}
+
+fn hold_read(entry: &mut LockEntry, worker: u8)
+    requires { worker < 32 }
+    ensures { entry_of entry.new ≡ held_as (entry_of entry.old) worker (Some Mode.Read) }
+{
+    entry.readers = mask::with(entry.readers, worker);
+    entry.writers = mask::without(entry.writers, worker);
+}
+
+fn hold_write(entry: &mut LockEntry, worker: u8)
+    requires { worker < 32 }
+    ensures { entry_of entry.new ≡ held_as (entry_of entry.old) worker (Some Mode.Write) }
+{
+    entry.writers = mask::with(entry.writers, worker);
 }
 
 /// The worker holds the key no more.
@@ -117,4 +137,21 @@ pub(crate) fn is_covered(entry: &LockEntry, plv: &Lv) -> bool
         return false;
     }
     plv.covers(&entry.read)
+}
+
+/// Raises the vector of a call by a lock of the key.
+pub(crate) fn raise_by(dep: &mut Lv, mode: Mode, entry: &LockEntry)
+    ensures { dep.new ≡ dep_locked mode dep.old (entry_of entry.now) }
+{
+    match mode {
+        Mode::Read => dep.raise(&entry.write),
+        Mode::Write => raise_by_both(dep, entry),
+    }
+}
+
+fn raise_by_both(dep: &mut Lv, entry: &LockEntry)
+    ensures { dep.new ≡ dep_locked Mode.Write dep.old (entry_of entry.now) }
+{
+    dep.raise(&entry.write);
+    dep.raise(&entry.read);
 }

@@ -1,15 +1,16 @@
 //! A shard.
 ghost use Rattle.std.specs.Prelude.{◌≡◌, ◌<◌, ◌≤◌, ◌-◌, ◌++◌, ℕ, is_some, length, take, [], ◌∷◌, false, not, None, Some, OnOk, OnErr, IfOk, IfErr, IsOk, IsSome, replicate};
 ghost use Rattle.std.specs.Map.{lookup, keys_of};
+ghost use Rattle.std.specs.Option.{unwrap_or};
 ghost use Rattle.tau_base.specs.Vectors.{join};
 ghost use Rattle.tau_base.specs.Database.{same_key, written, db_of};
-ghost use Rattle.tau_machine.specs.Shard.{entry_in, held_as, put_entry, shard_locked, shard_quit, shard_freed, Dropped};
+ghost use Rattle.tau_machine.specs.Shard.{entry_in, entry_or, held_as, put_entry, shard_locked, shard_quit, shard_freed, Dropped};
 ghost use Rattle.tau_shard.specs.Read.{is_key, entry_of, shard_of};
 ghost use Rattle.std.specs.List.{IsDistinct};
 ghost use Rattle.tau_shard.specs.Blocks.{blocks, RefusedBy, covered, dep_locked, empty, swept};
 ghost use Rattle.tau_shard.specs.Present.{is_present, present_rows};
 
-use crate::entry::{LockEntry, ShardRefusal, blocker, held, is_covered, release, release_read, release_written};
+use crate::entry::{LockEntry, ShardRefusal, blocker, first_held, hold, is_covered, raise_by, release, release_read, release_written};
 use indexmap::IndexMap;
 use std::alloc::Global;
 use std::marker::Model;
@@ -72,28 +73,11 @@ impl Shard {
         }
     }
 
-    /// The entry of the key, or a new one at the floor.
-    fn entry(&self, key: Key) -> LockEntry
-        ensures same { entry_of result ≡ entry_in (shard_of self.now) key }
-        ensures placed { (w : ℕ) → (entry_of result).holders w ≡ Some Mode.Write → IsSome (lookup (is_key key) self.now.rows) }
-    {
-        match self.entries.get(&key) {
-            Some(entry) => *entry,
-            None => LockEntry {
-                read: self.floor,
-                write: self.floor,
-                readers: 0,
-                writers: 0,
-            },
-        }
-    }
-
-    /// Puts an entry, which takes no memory where the key has one.
+    /// Puts an entry.
     fn put(&mut self, key: Key, entry: LockEntry) -> Result<(), NoMemory>
         requires placed { (w : ℕ) → (entry_of entry).holders w ≡ Some Mode.Write → IsSome (lookup (is_key key) self.old.rows) }
         ensures ok { OnOk result (shard_of self.new ≡ put_entry (shard_of self.old) key (entry_of entry)) }
         ensures err { OnErr result (shard_of self.new ≡ shard_of self.old) }
-        ensures kept { IsSome (lookup (is_key key) self.old.entries) → IsOk result }
         ensures rows { self.new.rows ≡ self.old.rows }
     {
         match self.entries.insert(key, entry) {
@@ -116,33 +100,28 @@ impl Shard {
         }
     }
 
-    /// Makes the place of a row.
-    fn place_row(&mut self, key: Key) -> Result<(), NoMemory>
-        ensures same { shard_of self.new ≡ shard_of self.old }
-        ensures there { OnOk result (IsSome (lookup (is_key key) self.new.rows)) }
-    {
-        if self.has_row(key) {
-            return Ok(());
-        }
-        self.set_row(key, Value::Absent)
-    }
-
-    /// Whether the row has its place.
-    fn has_row(&self, key: Key) -> bool
-        ensures { result ≡ is_some (lookup (is_key key) self.now.rows) }
-    {
-        self.rows.contains_key(&key)
-    }
-
-    /// Makes the place of a row that is to be written.
-    fn prepare_row(&mut self, key: Key, mode: Mode) -> Result<(), NoMemory>
+    /// The row's value, and the place of a row that is to be written.
+    fn prepare_row(&mut self, key: Key, mode: Mode) -> Result<Value, NoMemory>
         ensures same { shard_of self.new ≡ shard_of self.old }
         ensures there { OnOk result (mode ≡ Mode.Write → IsSome (lookup (is_key key) self.new.rows)) }
+        ensures value { IfOk result (λ v. v ≡ (shard_of self.old).rows key) }
     {
-        match mode {
-            Mode::Read => Ok(()),
-            Mode::Write => self.place_row(key),
-        }
+        place_row(&mut self.rows, key, mode)
+    }
+
+    /// Raises the vector of a call by a lock of a key that has no entry.
+    fn raise_by_floor(&self, dep: &mut Lv, mode: Mode)
+        ensures { dep.new ≡ dep_locked mode dep.old (entry_or (shard_of self.now).floor None) }
+    {
+        dep.raise(&self.floor);
+    }
+
+    /// A new entry, whose key the worker holds.
+    fn first_entry(&self, worker: u8, mode: Mode) -> LockEntry
+        requires { worker < 32 }
+        ensures { entry_of result ≡ held_as (entry_or (shard_of self.now).floor None) worker (Some mode) }
+    {
+        first_held(&self.floor, worker, mode)
     }
 
     /// Locks the key for the worker, one of 32, joins the key's write vector into `dep`, for a write lock its read vector too, and answers the row's
@@ -163,18 +142,40 @@ impl Shard {
         ensures unchanged { OnErr result (shard_of self.new ≡ shard_of self.old) }
         ensures dep_unchanged { OnErr result (dep.new ≡ dep.old) }
     {
-        let entry = self.entry(key);
-        if let Some(holder) = blocker(&entry, worker, mode) {
-            return Err(ShardRefusal::Busy { holder });
+        match self.entries.get_mut(&key) {
+            Some(entry) => lock_old(entry, &mut self.rows, worker, key, mode, dep),
+            None => self.lock_new(worker, key, mode, dep),
         }
-        if self.prepare_row(key, mode).is_err() {
-            return Err(ShardRefusal::NoMemory);
+    }
+
+    /// Locks a key that has no entry.
+    fn lock_new(
+        &mut self,
+        worker: u8,
+        key: Key,
+        mode: Mode,
+        dep: &mut Lv,
+    ) -> Result<Value, ShardRefusal>
+        requires low { worker < 32 }
+        requires none { lookup (is_key key) self.old.entries ≡ None }
+        ensures locked { OnOk result (shard_of self.new ≡ shard_locked (shard_of self.old) worker key mode) }
+        ensures value { IfOk result (λ v. v ≡ (shard_of self.old).rows key) }
+        ensures joined { OnOk result (dep.new ≡ dep_locked mode dep.old (entry_in (shard_of self.old) key)) }
+        ensures free { (u : ℕ) → blocks (entry_in (shard_of self.old) key) worker mode u ≡ false }
+        ensures refused { IfErr result (λ e. e ≡ ShardRefusal.NoMemory) }
+        ensures unchanged { OnErr result (shard_of self.new ≡ shard_of self.old) }
+        ensures dep_unchanged { OnErr result (dep.new ≡ dep.old) }
+    {
+        match self.prepare_row(key, mode) {
+            Ok(value) => match self.put(key, self.first_entry(worker, mode)) {
+                Ok(()) => {
+                    self.raise_by_floor(dep, mode);
+                    Ok(value)
+                }
+                Err(_) => Err(ShardRefusal::NoMemory),
+            },
+            Err(_) => Err(ShardRefusal::NoMemory),
         }
-        if self.put(key, held(&entry, worker, mode)).is_err() {
-            return Err(ShardRefusal::NoMemory);
-        }
-        *dep = raised_by(mode, dep, &entry);
-        Ok(self.value(key))
     }
 
     /// Frees a key of a call with this vector: what the call wrote becomes the row, and the vector is joined into the key's write vector; where the
@@ -304,13 +305,66 @@ fn swept(entries: &IndexMap<Key, LockEntry>, start: Lv, plv: &Lv) -> Lv
     floor
 }
 
-/// The vector of a call after a lock.
-fn raised_by(mode: Mode, dep: &Lv, entry: &LockEntry) -> Lv
-    ensures { result ≡ dep_locked mode dep.now (entry_of entry.now) }
+/// Locks a key that has this entry.
+fn lock_old(
+    entry: &mut LockEntry,
+    rows: &mut IndexMap<Key, Value>,
+    worker: u8,
+    key: Key,
+    mode: Mode,
+    dep: &mut Lv,
+) -> Result<Value, ShardRefusal>
+    requires { worker < 32 }
+    ensures locked { OnOk result (entry_of entry.new ≡ held_as (entry_of entry.old) worker (Some mode)) }
+    ensures value { IfOk result (λ v. v ≡ unwrap_or (lookup (is_key key) rows.old.entries) Value.Absent) }
+    ensures joined { OnOk result (dep.new ≡ dep_locked mode dep.old (entry_of entry.old)) }
+    ensures free { OnOk result ((u : ℕ) → blocks (entry_of entry.old) worker mode u ≡ false) }
+    ensures refused { IfErr result (λ e. RefusedBy (entry_of entry.old) worker mode e) }
+    ensures unchanged { OnErr result (entry.new ≡ entry.old) }
+    ensures dep_unchanged { OnErr result (dep.new ≡ dep.old) }
+    ensures same { db_of (λ x. lookup (is_key x) rows.new.entries) ≡ db_of (λ x. lookup (is_key x) rows.old.entries) }
+    ensures kept { (x : Key) → IsSome (lookup (is_key x) rows.old.entries) → IsSome (lookup (is_key x) rows.new.entries) }
+    ensures there { OnOk result (mode ≡ Mode.Write → IsSome (lookup (is_key key) rows.new.entries)) }
 {
-    let first = dep.join(&entry.write);
+    match blocker(entry, worker, mode) {
+        Some(holder) => Err(ShardRefusal::Busy { holder }),
+        None => match place_row(rows, key, mode) {
+            Ok(value) => {
+                raise_by(dep, mode, entry);
+                hold(entry, worker, mode);
+                Ok(value)
+            }
+            Err(_) => Err(ShardRefusal::NoMemory),
+        },
+    }
+}
+
+/// The row's value. A row that is to be written gets its place.
+fn place_row(rows: &mut IndexMap<Key, Value>, key: Key, mode: Mode) -> Result<Value, NoMemory>
+    ensures same { db_of (λ x. lookup (is_key x) rows.new.entries) ≡ db_of (λ x. lookup (is_key x) rows.old.entries) }
+    ensures kept { (x : Key) → IsSome (lookup (is_key x) rows.old.entries) → IsSome (lookup (is_key x) rows.new.entries) }
+    ensures there { OnOk result (mode ≡ Mode.Write → IsSome (lookup (is_key key) rows.new.entries)) }
+    ensures value { IfOk result (λ v. v ≡ unwrap_or (lookup (is_key key) rows.old.entries) Value.Absent) }
+{
+    match rows.get(&key) {
+        Some(value) => Ok(value.copied()),
+        None => place_absent(rows, key, mode),
+    }
+}
+
+/// Absent, the value of a row without a place. A row that is to be written gets its place.
+fn place_absent(rows: &mut IndexMap<Key, Value>, key: Key, mode: Mode) -> Result<Value, NoMemory>
+    requires { lookup (is_key key) rows.old.entries ≡ None }
+    ensures same { db_of (λ x. lookup (is_key x) rows.new.entries) ≡ db_of (λ x. lookup (is_key x) rows.old.entries) }
+    ensures kept { (x : Key) → IsSome (lookup (is_key x) rows.old.entries) → IsSome (lookup (is_key x) rows.new.entries) }
+    ensures there { OnOk result (mode ≡ Mode.Write → IsSome (lookup (is_key key) rows.new.entries)) }
+    ensures value { IfOk result (λ v. v ≡ Value.Absent) }
+{
     match mode {
-        Mode::Read => first,
-        Mode::Write => first.join(&entry.read),
+        Mode::Read => Ok(Value::Absent),
+        Mode::Write => match rows.insert(key, Value::Absent) {
+            Ok(_) => Ok(Value::Absent),
+            Err(_) => Err(NoMemory),
+        },
     }
 }

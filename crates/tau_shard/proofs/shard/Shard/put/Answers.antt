@@ -37,16 +37,3 @@ returns-clause-ok c =
           rw w.result-is (made ∙ ap (λ (p : PlainShard). put_entry (shard_of p) c.args.key (entry_of c.args.entry)) c.self.view_is)
       | in-Err w ↦ rw w.result-is tt
     ]
-
-pub returns-clause-kept : goal.returns-clause-kept
-returns-clause-kept c = λ h.
-    elim c.match-insert.branch [
-      | in-Ok w ↦ rw w.result-is refl
-      | in-Err w ↦
-          let none : lookup (is_key c.args.key) c.self.inside.entries.entries ≡ None = w.in-Err.ensures.absent in
-          let some : IsSome (lookup (is_key c.args.key) c.self.inside.entries.entries) = subst (λ (p : PlainShard). IsSome (lookup (is_key c.args.key) p.entries)) (sym c.self.view_is) h in
-          absurd (no-some (subst (λ (o : Option LockEntry). IsSome o) none some))
-    ]
-  where
-    no-some : IsSome {T = LockEntry} None → ⊥
-    no-some e = cc

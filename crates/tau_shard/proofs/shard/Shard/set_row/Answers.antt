@@ -5,16 +5,12 @@ use Rattle.indexmap.specs.IndexMap.{get}
 use Rattle.tau_base.specs.declared.value.Key.{Key}
 use Rattle.tau_base.specs.declared.value.Value.{Value}
 use Rattle.tau_base.specs.Database.{Db, written}
-use Rattle.tau_machine.specs.Shard as theory
 use Rattle.tau_shard.specs.Plain.{PlainShard}
 use Rattle.tau_shard.specs.Read.{is_key, entry_option, shard_of}
 use Rattle.tau_shard.specs.Blocks.{Placed}
-use Rattle.tau_shard.proofs.Puts.{set-rows, there-kept}
+use Rattle.tau_shard.proofs.Puts.{with_rows, set-rows, there-kept}
 use Rattle.tau_shard.proofs.shard.Shard.set_row.Goals as goal
 use Rattle.tau_shard.proofs.shard.Shard.set_row.Goals.{in-Ok, in-Err}
-
-abbrev with_rows : Db → (Key → Option theory.Entry) → List ℕ → theory.Shard
-with_rows rows entries floor = record { rows = rows; entries = entries; floor = floor }
 
 pub invariant_of-self : goal.invariant_of-self
 invariant_of-self c =
