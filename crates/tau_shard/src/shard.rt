@@ -1,5 +1,5 @@
 //! A shard.
-ghost use Rattle.std.specs.Prelude.{◌≡◌, ◌<◌, ◌≤◌, ◌-◌, ◌++◌, ℕ, is_some, length, take, [], ◌∷◌, false, not, None, Some, OnOk, OnErr, IfOk, IfErr, IsOk, IsSome, replicate};
+ghost use Rattle.std.specs.Prelude.{◌≡◌, ◌<◌, ◌≤◌, ◌-◌, ◌++◌, ℕ, length, take, [], ◌∷◌, false, not, None, Some, OnOk, OnErr, IfOk, IfErr, IsOk, IsSome, replicate};
 ghost use Rattle.std.specs.Map.{lookup, keys_of};
 ghost use Rattle.std.specs.Option.{unwrap_or};
 ghost use Rattle.tau_base.specs.Vectors.{join};
@@ -10,7 +10,10 @@ ghost use Rattle.std.specs.List.{IsDistinct};
 ghost use Rattle.tau_shard.specs.Blocks.{blocks, RefusedBy, covered, dep_locked, empty, swept};
 ghost use Rattle.tau_shard.specs.Present.{is_present, present_rows};
 
-use crate::entry::{LockEntry, ShardRefusal, blocker, first_held, hold, is_covered, raise_by, release, release_read, release_written};
+use crate::entry::{
+    LockEntry, ShardRefusal, blocker, first_held, hold, is_covered, raise_by, release,
+    release_read, release_written,
+};
 use indexmap::IndexMap;
 use std::alloc::Global;
 use std::marker::Model;

@@ -1,8 +1,7 @@
-use Rattle.std.proofs.Common.{ℕ, ◌≡◌, sym, ap, subst, ◌∙◌, refl, Option}
-use Rattle.std.specs.Prelude.{Some, None, IsSome}
+use Rattle.std.proofs.Common.{ap, ◌∙◌, refl}
+use Rattle.std.specs.Prelude.{None, IsSome}
 use Rattle.tau_base.specs.declared.value.Value.{Value}
-use Rattle.tau_base.specs.declared.value.Mode.{Mode}
-use Rattle.tau_base.specs.declared.value.Mode.TheVariants.{Read, Write}
+use Rattle.tau_base.specs.declared.value.Mode.TheVariants.{Read}
 use Rattle.tau_machine.specs.Shard.{Shard, entry_in}
 use Rattle.tau_shard.specs.Read.{shard_of}
 use Rattle.tau_shard.proofs.Bridge.{locked-held}

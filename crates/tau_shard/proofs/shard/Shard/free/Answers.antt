@@ -1,4 +1,4 @@
-use Rattle.std.proofs.Common.{◌≡◌, [], ◌∷◌, sym, ap, ◌∙◌, Some, refl, Option}
+use Rattle.std.proofs.Common.{[], ◌∷◌, sym, ap, ◌∙◌, refl, Option}
 use Rattle.tau_base.specs.Database.{written}
 use Rattle.tau_base.specs.declared.value.Value.{Value}
 use Rattle.tau_machine.specs.Shard.{Shard, shard_freed}

@@ -32,10 +32,10 @@ returns-in-Some-clause-locked c =
     let f = c.lock_old.new.entry in
     let some : IsSome (get is_key c.self.inside.entries c.args.key) = subst (λ (o : Option LockEntry). IsSome o) c.in-Some.ensures.value refl in
     on-ok c.lock_old.result (λ is.
-      ap (λ (r : Db). with_rows r (λ x. entry_option (get is_key (c.get_mut.follows.lender f) x)) c.self.inside.floor) c.lock_old.ensures.same
-      ∙ shard-in-place (db_of (λ x. get is_key c.self.inside.rows x)) (λ q. get is_key c.self.inside.entries q) (λ q. get is_key (c.get_mut.follows.lender f) q) c.self.inside.floor
-      c.args.key c.in-Some.entry.now f (λ (e : Entry). held_as e c.args.worker (Some c.args.mode)) c.in-Some.ensures.value is (λ q. ((c.get_mut.follows.holds f).3 some).0 q)
-      ∙ ap (λ (p : PlainShard). shard_locked (shard_of p) c.args.worker c.args.key c.args.mode) c.self.view_is
+    ap (λ (r : Db). with_rows r (λ x. entry_option (get is_key (c.get_mut.follows.lender f) x)) c.self.inside.floor) c.lock_old.ensures.same
+    ∙ shard-in-place (db_of (λ x. get is_key c.self.inside.rows x)) (λ q. get is_key c.self.inside.entries q) (λ q. get is_key (c.get_mut.follows.lender f) q) c.self.inside.floor
+    c.args.key c.in-Some.entry.now f (λ (e : Entry). held_as e c.args.worker (Some c.args.mode)) c.in-Some.ensures.value is (λ q. ((c.get_mut.follows.holds f).3 some).0 q)
+    ∙ ap (λ (p : PlainShard). shard_locked (shard_of p) c.args.worker c.args.key c.args.mode) c.self.view_is
     ) c.lock_old.ensures.locked
 
 pub returns-in-Some-clause-refused : goal.returns-in-Some-clause-refused
@@ -49,11 +49,11 @@ returns-in-Some-clause-unchanged c =
     let f = c.lock_old.new.entry in
     let old = c.self.inside.entries.entries in
     on-err c.lock_old.result (λ same.
-      ap (λ (r : Db). with_rows r (λ x. entry_option (get is_key (c.get_mut.follows.lender f) x)) c.self.inside.floor) c.lock_old.ensures.same
-      ∙ ap (λ (l : List (Key × LockEntry)). with_rows (db_of (λ x. get is_key c.self.inside.rows x)) (λ x. entry_option (lookup (is_key x) l)) c.self.inside.floor)
-      ((c.get_mut.follows.holds f).0 ∙ ap (λ (e : LockEntry). set_value (is_key c.args.key) old e) same
-      ∙ set_value_same (is_key c.args.key) old c.in-Some.entry.now (sym c.in-Some.ensures.value))
-      ∙ ap (λ (p : PlainShard). shard_of p) c.self.view_is
+    ap (λ (r : Db). with_rows r (λ x. entry_option (get is_key (c.get_mut.follows.lender f) x)) c.self.inside.floor) c.lock_old.ensures.same
+    ∙ ap (λ (l : List (Key × LockEntry)). with_rows (db_of (λ x. get is_key c.self.inside.rows x)) (λ x. entry_option (lookup (is_key x) l)) c.self.inside.floor)
+    ((c.get_mut.follows.holds f).0 ∙ ap (λ (e : LockEntry). set_value (is_key c.args.key) old e) same
+    ∙ set_value_same (is_key c.args.key) old c.in-Some.entry.now (sym c.in-Some.ensures.value))
+    ∙ ap (λ (p : PlainShard). shard_of p) c.self.view_is
     ) c.lock_old.ensures.unchanged
 
 pub returns-in-None-clause-value : goal.returns-in-None-clause-value

@@ -1,12 +1,11 @@
-use Rattle.std.proofs.Common.{ℕ, ◌≡◌, refl, sym, ap, subst, ◌∙◌, Option}
-use Rattle.std.specs.Prelude.{Some, None, IsSome}
+use Rattle.std.proofs.Common.{ℕ, ◌≡◌, sym, ap, subst, ◌∙◌}
+use Rattle.std.specs.Prelude.{Some, IsSome}
 use Rattle.std.specs.Option.{unwrap_or}
 use Rattle.std.specs.Map.{lookup}
 use Rattle.indexmap.specs.IndexMap.{get}
 use Rattle.tau_base.specs.declared.value.Key.{Key}
 use Rattle.tau_base.specs.declared.value.Value.TheVariants.{Absent}
 use Rattle.tau_machine.specs.Shard.{put_entry}
-use Rattle.tau_shard.specs.declared.entry.LockEntry.{LockEntry}
 use Rattle.tau_shard.specs.declared.shard.Shard.TheInside.{Inside}
 use Rattle.tau_shard.specs.Plain.{PlainShard}
 use Rattle.tau_shard.specs.Read.{is_key, entry_of, shard_of}
