@@ -1,7 +1,6 @@
 -- Shards in maps that change at one key.
 use Rattle.std.proofs.Common.{ℕ, true, false, cond, ◌≡◌, inl, inr, List, [], ◌∷◌, refl, sym, ap, subst, ◌∙◌, Option, arith}
-use Rattle.std.specs.Prelude.{Some, None, IsSome, IfNone, IsOk, OnOk, OnErr, Result, Ok, Err, Bool, not, ◌&&◌, ◌==◌}
-use Rattle.std.specs.Result.{is_err}
+use Rattle.std.specs.Prelude.{Some, None, IsSome, IsOk, OnOk, OnErr, Result, Ok, Err, Bool, not, ◌&&◌, ◌==◌}
 use Rattle.tau_shard.specs.Blocks.{against, blocks, dep_locked}
 use Rattle.std.specs.Map.{lookup}
 use Rattle.tau_base.specs.declared.value.NoMemory.{NoMemory}
@@ -146,13 +145,6 @@ when-ok (Err e) is p = absurd (bad e is)
   where
     bad : (e : NoMemory) → IsOk {T = Unit {0}} (Err e) → ⊥
     bad e q = cc
-
-pub when-none : {A : Type 0} {P : Type 0} (o : Option A) → o ≡ None → IfNone o P → P
-when-none {A} {P} o is h = subst (λ (x : Option A). IfNone x P) is h
-
-pub when-not-err : {P : Type 0} (b : Bool) (r : Result (Unit {0}) NoMemory) → b ≡ is_err r → b ≡ false → OnOk r P → P
-when-not-err b (Ok u) e f p = p
-when-not-err b (Err x) e f p = absurd (let bad : true ≡ false = sym e ∙ f in cc)
 
 against-write : (m : Mode) → against m (Some Write) ≡ true
 against-write Read = refl
