@@ -92,34 +92,30 @@ impl Pending {
         ensures unchanged { IfNone result (self.new.calls ≡ self.old.calls) }
         ensures room { self.old.room ≤ self.new.room }
     {
-        self.pass = begin(&mut self.calls, self.pass, plv);
-        let (pass, found) = scan(&mut self.calls, self.pass);
-        self.pass = pass;
-        found
+        if self.calls.is_empty() {
+            return None;
+        }
+        begin(&mut self.calls, &mut self.pass, plv);
+        scan(&mut self.calls, &mut self.pass)
     }
 }
 
-/// A pass with this vector: the one before it, where that one has left no call that it would take.
-fn begin(calls: &mut Vec<Waiting>, pass: Pass, plv: &Lv) -> Pass
-    requires { IsPass pass.plv pass.passed pass.next calls.old.items }
-    ensures pass { IsPass result.plv result.passed result.next calls.new.items }
-    ensures plv { result.plv ≡ plv.now }
-    ensures calls { in_pass result.passed result.next calls.new.items ≡ in_pass pass.passed pass.next calls.old.items }
+/// Turns the pass to this vector, from the front where it has left a call that it would now take.
+fn begin(calls: &mut Vec<Waiting>, pass: &mut Pass, plv: &Lv)
+    requires { IsPass pass.old.plv pass.old.passed pass.old.next calls.old.items }
+    ensures pass { IsPass pass.new.plv pass.new.passed pass.new.next calls.new.items }
+    ensures plv { pass.new.plv ≡ plv.now }
+    ensures calls { in_pass pass.new.passed pass.new.next calls.new.items ≡ in_pass pass.old.passed pass.old.next calls.old.items }
     ensures room { vec_capacity calls.old + vec_len calls.new ≤ vec_capacity calls.new + vec_len calls.old }
 {
     if pass.plv.covers(plv) {
-        return Pass {
-            plv: *plv,
-            passed: pass.passed,
-            next: pass.next,
-        };
+        pass.plv = *plv;
+        return;
     }
     close(calls, pass.passed, pass.next);
-    Pass {
-        plv: *plv,
-        passed: 0,
-        next: 0,
-    }
+    pass.plv = *plv;
+    pass.passed = 0;
+    pass.next = 0;
 }
 
 /// Closes the gap that a pass has left.
@@ -139,35 +135,29 @@ fn close(calls: &mut Vec<Waiting>, passed: usize, next: usize)
 }
 
 /// Goes on with a pass as far as the next covered call.
-fn scan(calls: &mut Vec<Waiting>, pass: Pass) -> (Pass, Option<Waiting>)
-    requires { IsPass pass.plv pass.passed pass.next calls.old.items }
-    ensures pass { IsPass result.0.plv result.0.passed result.0.next calls.new.items }
-    ensures first { IfSome result.1 (λ w. TakesFirst pass.plv (in_pass pass.passed pass.next calls.old.items) w (in_pass result.0.passed result.0.next calls.new.items)) }
-    ensures none { IfNone result.1 (NoneCovered pass.plv (in_pass pass.passed pass.next calls.old.items)) }
-    ensures unchanged { IfNone result.1 (in_pass result.0.passed result.0.next calls.new.items ≡ in_pass pass.passed pass.next calls.old.items) }
+fn scan(calls: &mut Vec<Waiting>, pass: &mut Pass) -> Option<Waiting>
+    requires { IsPass pass.old.plv pass.old.passed pass.old.next calls.old.items }
+    ensures pass { IsPass pass.new.plv pass.new.passed pass.new.next calls.new.items }
+    ensures first { IfSome result (λ w. TakesFirst pass.old.plv (in_pass pass.old.passed pass.old.next calls.old.items) w (in_pass pass.new.passed pass.new.next calls.new.items)) }
+    ensures none { IfNone result (NoneCovered pass.old.plv (in_pass pass.old.passed pass.old.next calls.old.items)) }
+    ensures unchanged { IfNone result (in_pass pass.new.passed pass.new.next calls.new.items ≡ in_pass pass.old.passed pass.old.next calls.old.items) }
     ensures room { vec_capacity calls.old + vec_len calls.new ≤ vec_capacity calls.new + vec_len calls.old }
 {
     let mut passed = pass.passed;
     for next in pass.next..calls.len() {
         let waiting = calls[next];
         if pass.plv.covers(&waiting.lv) {
-            let pass = Pass {
-                plv: pass.plv,
-                passed,
-                next: next + 1,
-            };
-            return (pass, Some(waiting));
+            pass.passed = passed;
+            pass.next = next + 1;
+            return Some(waiting);
         }
         calls[passed] = waiting;
         passed += 1;
     }
     calls.truncate(passed);
-    let pass = Pass {
-        plv: pass.plv,
-        passed,
-        next: passed,
-    };
-    (pass, None)
+    pass.passed = passed;
+    pass.next = passed;
+    None
 }
 
 #[cfg(test)]

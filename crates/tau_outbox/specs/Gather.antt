@@ -1,5 +1,5 @@
 -- What is gathered from an outbox.
-use Rattle.std.specs.Prelude.{ℕ, ◌+◌, ◌≤◌, ◌≡◌, ◌==◌, ◌&&◌, ◌⊎◌, Bool, if◌then◌else◌, Option, Some, None, List, [], ◌∷◌, ◌++◌, length, nat_le}
+use Rattle.std.specs.Prelude.{ℕ, ◌+◌, ◌≤◌, ◌≡◌, ◌==◌, ◌&&◌, ◌⊎◌, Bool, false, if◌then◌else◌, Option, Some, None, List, [], ◌∷◌, ◌++◌, length, nat_le}
 use Rattle.tau_base.specs.declared.limits.TheConstants.{MAX_BODY}
 use Rattle.tau_outbox.specs.declared.Piece.{Piece}
 use Rattle.tau_outbox.specs.Pieces.{bytes_of}
@@ -27,6 +27,11 @@ pub record Gathers (next : ℕ) (pieces left : List Piece) (body longer : List �
 -- the piece starts at `next`, and a body of so many bytes has room for it
 abbrev pub fits : ℕ → ℕ → Piece → Bool
 fits next used p = p.start == next && nat_le (used + length p.bytes) MAX_BODY
+
+-- the front piece starts at `next`
+abbrev pub begins : ℕ → List Piece → Bool
+begins next [] = false
+begins next (p ∷ ps) = p.start == next
 
 -- the longest front that continues `next` and fits
 abbrev pub run : ℕ → ℕ → List Piece → List Piece

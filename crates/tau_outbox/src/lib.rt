@@ -5,7 +5,7 @@ ghost use Rattle.std.specs.Prelude.{◌≡◌, ◌≤◌, ◌<◌, ◌+◌, [], 
 ghost use Rattle.std.specs.VecDeque.{deque_len, deque_capacity};
 ghost use Rattle.tau_base.specs.declared.limits.TheConstants.{MAX_LSN};
 ghost use Rattle.tau_outbox.specs.Pieces.{past_of, bytes_of, end_of, InOrder};
-ghost use Rattle.tau_outbox.specs.Gather.{Gathers, fits, run, left, front_piece, others};
+ghost use Rattle.tau_outbox.specs.Gather.{Gathers, begins, fits, run, left, front_piece, others};
 
 use std::alloc::Global;
 use std::collections::VecDeque;
@@ -89,6 +89,9 @@ impl Outbox {
         ensures room { self.old.room ≤ self.new.room }
         ensures closed { self.new.closed ≡ self.old.closed }
     {
+        if !begins_at(&self.pieces, next) {
+            return Ok(next);
+        }
         let size = run_size(&self.pieces, next, body.len());
         if body.try_reserve(size).is_err() {
             return Err(NoMemory);
@@ -104,6 +107,9 @@ impl Outbox {
         ensures room { self.old.room ≤ self.new.room }
         ensures closed { self.new.closed ≡ self.old.closed }
     {
+        if !begins_at(&self.pieces, next) {
+            return next;
+        }
         move_run(&mut self.pieces, next, body)
     }
 
@@ -122,6 +128,16 @@ impl Outbox {
     {
         self.is_closed
     }
+}
+
+/// Whether the front piece starts at `next`. Mostly there is none, and nothing more is asked.
+fn begins_at(pieces: &VecDeque<Piece>, next: u64) -> bool
+    ensures { result ≡ begins next pieces.now.items }
+{
+    let Some(piece) = pieces.front() else {
+        return false;
+    };
+    piece.start == next
 }
 
 /// How many bytes the pieces have that continue a body of `used` bytes.

@@ -8,6 +8,6 @@ returns-then-covers-clause-pass c = record {
   order = c.requires.order;
   inside = c.requires.inside;
   left =
-      let low : AtMost c.args.plv.now c.args.pass.plv = c.covers.ensures.covers.0 c.if-covers.true in
-      none_below c.args.plv.now c.args.pass.plv (take c.args.pass.passed c.args.calls.now.items) low c.requires.left;
+      let low : AtMost c.args.plv.now c.args.pass.now.plv = c.covers.ensures.covers.0 c.if-covers.true in
+      none_below c.args.plv.now c.args.pass.now.plv (take c.args.pass.now.passed c.args.calls.now.items) low c.requires.left;
 }

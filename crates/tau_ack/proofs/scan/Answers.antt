@@ -1,4 +1,4 @@
-use Rattle.std.proofs.Common.{arith, ◌≡◌, ◌<◌, false, length, ◌∙◌, sym}
+use Rattle.std.proofs.Common.{arith, ◌≡◌, ◌<◌, false, length, ◌∙◌, sym, subst}
 use Rattle.std.proofs.lemmas.Grind.{common_steps}
 use Rattle.tau_base.specs.Vectors.{covers}
 use Rattle.tau_ack.proofs.Passes.{moved_down}
@@ -10,8 +10,9 @@ loop-next-preserved c = record {
   order = omega arith;
   left =
       let inside : c.loop-next.next < length c.loop-next.calls.items = omega arith in
-      let no' : covers c.args.pass.plv c.index.result.now.lv ≡ false = sym c.covers.ensures.same ∙ c.if-covers.false in
-      moved_down c.args.pass.plv c.loop-next.calls.items c.loop-next.passed c.loop-next.next c.index.result.now c.loop-next.invariant.order inside c.loop-next.invariant.left no';
+      let no' : covers c.args.pass.now.plv c.index.result.now.lv ≡ false = rw (← c.loop-next.invariant.vector) (sym c.covers.ensures.same ∙ c.if-covers.false) in
+      moved_down c.args.pass.now.plv c.loop-next.calls.items c.loop-next.passed c.loop-next.next c.index.result.now c.loop-next.invariant.order inside c.loop-next.invariant.left no';
+  vector = c.loop-next.invariant.vector;
   len = grind (arith, common_steps);
   capacity = grind (arith, common_steps);
 }
