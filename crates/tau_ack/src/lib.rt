@@ -1,7 +1,8 @@
 //! Calls that have ended and wait for their acknowledgement.
 #![tactic(auto)]
 
-ghost use Rattle.std.specs.Prelude.{◌≡◌, ◌≤◌, ◌<◌, ◌+◌, [], ◌∷◌, ◌++◌, OnOk, IfSome, IfNone, vec_len, vec_capacity};
+ghost use Rattle.std.specs.Prelude.{◌≡◌, ◌≤◌, ◌<◌, ◌+◌, [], ◌∷◌, ◌++◌, OnOk, IfSome, IfNone, set, get_or, vec_len, vec_capacity};
+ghost use Rattle.tau_ack.specs.declared.Waiting.{Waiting};
 ghost use Rattle.tau_ack.specs.Pending.{NoneCovered, TakesFirst, IsPass, in_pass};
 
 use std::alloc::Global;
@@ -118,7 +119,7 @@ fn begin(calls: &mut Vec<Waiting>, pass: &mut Pass, plv: &Lv)
     pass.next = 0;
 }
 
-/// Closes the gap that a pass has left.
+/// Closes the gap that a pass has left, if any.
 fn close(calls: &mut Vec<Waiting>, passed: usize, next: usize)
     requires order { passed ≤ next }
     requires inside { next ≤ vec_len calls.old }
@@ -126,12 +127,29 @@ fn close(calls: &mut Vec<Waiting>, passed: usize, next: usize)
     ensures len { vec_len calls.new ≤ vec_len calls.old }
     ensures capacity { vec_capacity calls.new ≡ vec_capacity calls.old }
 {
+    if passed == next {
+        return;
+    }
     let mut to = passed;
     for from in next..calls.len() {
         calls[to] = calls[from];
         to += 1;
     }
     calls.truncate(to);
+}
+
+/// Moves a call to the front of the gap, if there is one.
+fn move_down(calls: &mut Vec<Waiting>, from: usize, to: usize)
+    requires order { to ≤ from }
+    requires inside { from < vec_len calls.old }
+    ensures calls { (d : Waiting) → calls.new.items ≡ set calls.old.items to (get_or calls.old.items from d) }
+    ensures len { vec_len calls.new ≡ vec_len calls.old }
+    ensures capacity { vec_capacity calls.new ≡ vec_capacity calls.old }
+{
+    if to == from {
+        return;
+    }
+    calls[to] = calls[from];
 }
 
 /// Goes on with a pass as far as the next covered call.
@@ -145,13 +163,12 @@ fn scan(calls: &mut Vec<Waiting>, pass: &mut Pass) -> Option<Waiting>
 {
     let mut passed = pass.passed;
     for next in pass.next..calls.len() {
-        let waiting = calls[next];
-        if pass.plv.covers(&waiting.lv) {
+        if pass.plv.covers(&calls[next].lv) {
             pass.passed = passed;
             pass.next = next + 1;
-            return Some(waiting);
+            return Some(calls[next]);
         }
-        calls[passed] = waiting;
+        move_down(calls, next, passed);
         passed += 1;
     }
     calls.truncate(passed);
