@@ -1,7 +1,7 @@
 //! Calls that have ended and wait for their acknowledgement.
 #![tactic(auto)]
 
-ghost use Rattle.std.specs.Prelude.{◌≡◌, ◌≤◌, ◌<◌, ◌+◌, [], ◌∷◌, ◌++◌, OnOk, IfSome, IfNone, set, get_or, vec_len, vec_capacity};
+ghost use Rattle.std.specs.Prelude.{◌≡◌, ◌≤◌, ◌<◌, ◌+◌, [], ◌∷◌, ◌++◌, OnOk, true, false, IfSome, IfNone, set, get_or, vec_len, vec_capacity};
 ghost use Rattle.tau_ack.specs.declared.Waiting.{Waiting};
 ghost use Rattle.tau_ack.specs.Pending.{NoneCovered, TakesFirst, IsPass, in_pass};
 
@@ -96,27 +96,35 @@ impl Pending {
         if self.calls.is_empty() {
             return None;
         }
-        begin(&mut self.calls, &mut self.pass, plv);
+        if !begin(&mut self.calls, &mut self.pass, plv) {
+            return None;
+        }
         scan(&mut self.calls, &mut self.pass)
     }
 }
 
-/// Turns the pass to this vector, from the front where it has left a call that it would now take.
-fn begin(calls: &mut Vec<Waiting>, pass: &mut Pass, plv: &Lv)
+/// Turns the pass to this vector, from the front where it may have left a call that it would now take. It answers
+/// whether there is a call to look at.
+fn begin(calls: &mut Vec<Waiting>, pass: &mut Pass, plv: &Lv) -> bool
     requires { IsPass pass.old.plv pass.old.passed pass.old.next calls.old.items }
     ensures pass { IsPass pass.new.plv pass.new.passed pass.new.next calls.new.items }
-    ensures plv { pass.new.plv ≡ plv.now }
+    ensures plv { result ≡ true → pass.new.plv ≡ plv.now }
+    ensures none { result ≡ false → NoneCovered plv.now (in_pass pass.new.passed pass.new.next calls.new.items) }
     ensures calls { in_pass pass.new.passed pass.new.next calls.new.items ≡ in_pass pass.old.passed pass.old.next calls.old.items }
     ensures room { vec_capacity calls.old + vec_len calls.new ≤ vec_capacity calls.new + vec_len calls.old }
 {
     if pass.plv.covers(plv) {
+        if pass.passed == calls.len() {
+            return false;
+        }
         pass.plv = *plv;
-        return;
+        return true;
     }
     close(calls, pass.passed, pass.next);
     pass.plv = *plv;
     pass.passed = 0;
     pass.next = 0;
+    true
 }
 
 /// Closes the gap that a pass has left, if any.

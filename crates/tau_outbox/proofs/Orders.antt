@@ -1,12 +1,11 @@
 -- Pieces in order.
-use Rattle.std.proofs.Common.{ℕ, zero, suc, ◌+◌, ◌≤◌, ◌<◌, ◌≡◌, true, false, List, [], ◌∷◌, ◌++◌, length, arith, refl, ap, subst, ◌∙◌, inl, inr, eqb-true, eq-eqb, leb-true, le-leb, length-append, sym}
+use Rattle.std.proofs.Common.{ℕ, zero, suc, ◌+◌, ◌≤◌, ◌<◌, ◌≡◌, true, false, List, [], ◌∷◌, ◌++◌, length, arith, refl, ap, subst, ◌∙◌, inl, inr, eqb-true, eq-eqb, leb-true, le-leb, length-append}
 use Rattle.std.specs.Prelude.{Some, None, slice_get, ◌==◌, ◌⊎◌, nat_le}
 use Rattle.std.proofs.lemmas.Bool.{cases_Bool, and_parts, and_from, both_ways}
-use Rattle.std.proofs.lemmas.List.{append-nil}
 use Rattle.tau_base.specs.declared.limits.TheConstants.{MAX_LSN, MAX_BODY}
 use Rattle.tau_outbox.specs.declared.Piece.{Piece}
 use Rattle.tau_outbox.specs.Pieces.{past_of, bytes_of, end_of, InOrder}
-use Rattle.tau_outbox.specs.Gather.{Continues, Stops, Gathers, begins, fits, run, left, front_piece, others}
+use Rattle.tau_outbox.specs.Gather.{Continues, Stops, Gathers, fits, run, left, front_piece, others}
 
 pub lower : (low : ℕ) (ps : List Piece) → InOrder low ps → InOrder 0 ps
 lower low [] h = tt
@@ -103,19 +102,3 @@ gathered next ps body =
       fits = rw n (run-fits next (length body) ps);
       stops = rw n (run-stops next (length body) ps);
     }
-
--- nothing is gathered where the front piece starts elsewhere
-stops-elsewhere : (next used : ℕ) (ps : List Piece) → begins next ps ≡ false → Stops next used ps
-stops-elsewhere next used [] off = tt
-stops-elsewhere next used (p ∷ ps) off = λ at small. let there : (p.start == next) ≡ true = eq-eqb p.start next at in (cc)
-
-pub gathers_none : (next : ℕ) (ps : List Piece) (body : List ℕ) → begins next ps ≡ false → Gathers next ps ps body body next
-gathers_none next ps body off = record {
-  taken = [];
-  front = refl;
-  continues = tt;
-  bytes = sym (append-nil body);
-  past = omega arith;
-  fits = inl refl;
-  stops = stops-elsewhere next (length body) ps off;
-}

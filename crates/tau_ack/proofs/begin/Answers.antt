@@ -1,6 +1,7 @@
-use Rattle.std.proofs.Common.{take}
+use Rattle.std.proofs.Common.{◌≡◌, length, take, arith}
+use Rattle.std.proofs.lemmas.Grind.{common_steps}
 use Rattle.tau_base.specs.Vectors.{AtMost}
-use Rattle.tau_ack.proofs.Passes.{none_below}
+use Rattle.tau_ack.proofs.Passes.{none_below, none_at_end}
 use Rattle.tau_ack.proofs.begin.Goals as goal
 
 pub returns-then-covers-clause-pass : goal.returns-then-covers-clause-pass
@@ -11,3 +12,9 @@ returns-then-covers-clause-pass c = record {
       let low : AtMost c.args.plv.now c.args.pass.now.plv = c.covers.ensures.covers.0 c.if-covers.true in
       none_below c.args.plv.now c.args.pass.now.plv (take c.args.pass.now.passed c.args.calls.now.items) low c.requires.left;
 }
+
+pub returns-then-pass-len-clause-none : goal.returns-then-pass-len-clause-none
+returns-then-pass-len-clause-none c =
+    let low : AtMost c.args.plv.now c.args.pass.now.plv = c.covers.ensures.covers.0 c.if-covers.true in
+    let end : c.args.pass.now.passed ≡ length c.args.calls.now.items = grind (arith, common_steps) in
+    λ _. none_at_end c.args.plv.now c.args.pass.now.plv c.args.calls.now.items c.args.pass.now.passed c.args.pass.now.next c.requires end low

@@ -1,4 +1,4 @@
-use Rattle.std.proofs.Common.{arith, ◌≡◌, ◌<◌, false, length, set, ◌∙◌, sym, subst}
+use Rattle.std.proofs.Common.{arith, ◌≡◌, ◌<◌, false, length, set, ◌∙◌, sym}
 use Rattle.std.proofs.lemmas.Grind.{common_steps}
 use Rattle.tau_base.specs.Vectors.{covers}
 use Rattle.tau_ack.proofs.Passes.{moved_down}
