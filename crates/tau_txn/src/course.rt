@@ -61,14 +61,10 @@ impl Course {
     }
 
     /// What it wants next.
-    pub fn next(&self) -> Want
-        ensures { result ≡ next_want self.now }
+    pub fn want(&self) -> &Want
+        ensures { result.now ≡ next_want self.now }
     {
-        match &self.want {
-            Want::Read(key) => Want::Read(*key),
-            Want::Write(key) => Want::Write(*key),
-            Want::Finished(reply) => Want::Finished(reply.copied()),
-        }
+        &self.want
     }
 
     /// Gives the value of the row that is wanted.
@@ -110,5 +106,16 @@ pub fn first_want(procs: &Procs, call: &Call) -> Want
     let _limits = procs.list();
     let course = Course::start(procs, call);
     let _ascending = course.writes();
-    course.next()
+    copied(course.want())
+}
+
+/// The same want.
+fn copied(want: &Want) -> Want
+    ensures { result ≡ want.now }
+{
+    match want {
+        Want::Read(key) => Want::Read(*key),
+        Want::Write(key) => Want::Write(*key),
+        Want::Finished(reply) => Want::Finished(reply.copied()),
+    }
 }

@@ -189,7 +189,7 @@ impl Hand {
     fn kept_reading(&self) -> Option<Committed>
         ensures { result ≡ kept_reading (next_want self.now.machine) (buffered self.now.machine) self.now }
     {
-        let Want::Finished(reply) = self.machine.next() else {
+        let Want::Finished(reply) = self.machine.want() else {
             return None;
         };
         if !self.machine.writes().is_empty() {
@@ -197,7 +197,7 @@ impl Hand {
         }
         Some(Committed {
             number: self.number,
-            reply,
+            reply: reply.copied(),
             dep: self.dep,
             lv: self.dep,
             spot: None,
@@ -207,12 +207,12 @@ impl Hand {
     fn kept_joined(&self) -> Option<Committed>
         ensures { result ≡ kept_joined (next_want self.now.machine) self.now }
     {
-        let Want::Finished(reply) = self.machine.next() else {
+        let Want::Finished(reply) = self.machine.want() else {
             return None;
         };
         Some(Committed {
             number: self.number,
-            reply,
+            reply: reply.copied(),
             dep: self.dep,
             lv: self.lv,
             spot: self.spot(),
@@ -271,13 +271,13 @@ impl Hand {
     fn run(&self) -> Action
         ensures { result ≡ asks (next_want self.now.machine) self.now }
     {
-        match self.machine.next() {
+        match self.machine.want() {
             Want::Read(key) => Action::Lock {
-                key,
+                key: *key,
                 mode: Mode::Read,
             },
             Want::Write(key) => Action::Lock {
-                key,
+                key: *key,
                 mode: Mode::Write,
             },
             Want::Finished(reply) => self.end(reply),
@@ -285,11 +285,11 @@ impl Hand {
     }
 
     /// What a call does next that has all its locks.
-    fn end(&self, reply: Reply) -> Action
-        ensures { result ≡ ends_with (length (buffered self.now.machine) == 0) reply self.now }
+    fn end(&self, reply: &Reply) -> Action
+        ensures { result ≡ ends_with (length (buffered self.now.machine) == 0) reply.now self.now }
     {
         if self.machine.writes().is_empty() {
-            return frees(self.held.as_slice(), &[], reply, self.dep);
+            return frees(self.held.as_slice(), &[], reply, &self.dep);
         }
         Action::Commit {
             size: self.bytes.len() as u64,
@@ -300,10 +300,10 @@ impl Hand {
     fn free(&self) -> Action
         ensures { result ≡ frees_on (next_want self.now.machine) self.now }
     {
-        let Want::Finished(reply) = self.machine.next() else {
+        let Want::Finished(reply) = self.machine.want() else {
             return Action::Nothing;
         };
-        frees(self.held.as_slice(), self.machine.writes(), reply, self.lv)
+        frees(self.held.as_slice(), self.machine.writes(), reply, &self.lv)
     }
 
     /// The lock was granted, showed this row, and raised the vector to `dep`. It takes no memory.
@@ -318,9 +318,15 @@ impl Hand {
         ensures leaves { self.new.leaves ≡ self.old.leaves }
         ensures bytes { self.new.bytes ≡ self.old.bytes }
     {
-        match self.machine.next() {
-            Want::Read(key) => self.read(key, value, dep),
-            Want::Write(key) => self.write(key, dep),
+        match self.machine.want() {
+            Want::Read(key) => {
+                let key = *key;
+                self.read(key, value, dep)
+            }
+            Want::Write(key) => {
+                let key = *key;
+                self.write(key, dep)
+            }
             Want::Finished(_) => {}
         }
     }
@@ -619,15 +625,18 @@ fn quits(held: &[(Key, Mode)]) -> Action
 }
 
 /// Frees the lowest key.
-fn frees(held: &[(Key, Mode)], writes: &[(Key, Value)], reply: Reply, lv: Lv) -> Action
-    ensures { result ≡ frees reply lv writes.now held.now }
+fn frees(held: &[(Key, Mode)], writes: &[(Key, Value)], reply: &Reply, lv: &Lv) -> Action
+    ensures { result ≡ frees reply.now lv.now writes.now held.now }
 {
     match held.first() {
         Some(entry) => Action::Free {
             key: entry.0,
             write: value_at(entry.0, writes),
         },
-        None => Action::Done { reply, lv },
+        None => Action::Done {
+            reply: reply.copied(),
+            lv: *lv,
+        },
     }
 }
 
@@ -648,7 +657,8 @@ fn catch_up(machine: &mut Course, seen: &[(Key, Value)])
     ensures unseen { WantsUnseen seen.now (ahead machine.new []) }
     ensures granted { machine.new.granted ≡ machine.old.granted }
 {
-    while let Want::Read(key) = machine.next() {
+    while let Want::Read(key) = machine.want() {
+        let key = *key;
         match value_at(key, seen) {
             Some(value) => machine.give(value),
             None => return,

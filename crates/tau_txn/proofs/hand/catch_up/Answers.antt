@@ -10,7 +10,7 @@ use Rattle.tau_txn.proofs.hand.catch_up.Goals as goal
 
 pub loop-key-preserved : goal.loop-key-preserved
 loop-key-preserved c =
-    let wants : next_want c.loop-key.machine ≡ Read c.in-Read.key = sym c.next.ensures ∙ c.in-Read.is in
+    let wants : next_want c.loop-key.machine ≡ Read c.in-Read.key = sym c.want.ensures ∙ c.in-Read.is in
     let found : lookup (same_key c.in-Read.key) c.args.seen.now ≡ Some c.in-Some.value = sym c.value_at.ensures ∙ c.in-Some.is in
     let gives : (vs : List Value) → ahead c.give.new.self vs ≡ ahead c.loop-key.machine (c.in-Some.value ∷ vs) = c.give.ensures.stands in
     let granted : c.give.new.self.granted ≡ c.loop-key.machine.granted = c.give.ensures.granted in

@@ -14,7 +14,7 @@ use Rattle.tau_txn.proofs.hand.Hand.granted.Goals as goal
 pub returns-in-Write-clause-locked : goal.returns-in-Write-clause-locked
 returns-in-Write-clause-locked c = λ procs w l e.
     let wants : next_want c.args.self.now.machine ≡ Write c.in-Write.key =
-    sym (ap (λ (h : PlainHand). next_want h.machine) c.self.view_is) ∙ sym c.next.ensures ∙ c.in-Write.is in
+    sym (ap (λ (h : PlainHand). next_want h.machine) c.self.view_is) ∙ sym c.want.ensures ∙ c.in-Write.is in
     let there : Some (c.in-Write.key, mode.Write) ≡ Some l = sym (ap lock_by wants) ∙ e in
     let same : ◌≡◌ {A = Key × Mode} (c.in-Write.key, mode.Write) l = cc in
     subst (λ (k : Key × Mode). hand_of procs w c.write.new.self ≡ locked_with (hand_of procs w c.args.self.now) k.0 k.1 c.args.value c.args.dep) same
