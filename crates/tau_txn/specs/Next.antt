@@ -23,6 +23,8 @@ use Rattle.tau_txn.specs.declared.standing.Standing.{Standing}
 use Rattle.tau_txn.specs.declared.standing.Standing.TheVariants.{Running, Quitting, Placed, Freeing, LeftOver}
 use Rattle.tau_txn.specs.declared.action.Action.{Action}
 use Rattle.tau_txn.specs.declared.action.Action.TheVariants as action
+use Rattle.tau_txn.specs.declared.action.ActionKind.{ActionKind}
+use Rattle.tau_txn.specs.declared.action.ActionKind.TheVariants as kind
 use Rattle.tau_txn.specs.Hand.{PlainHand}
 use Rattle.tau_txn.specs.Read.{effect_in}
 use Rattle.tau_txn.specs.Actions.{quits, frees}
@@ -58,6 +60,17 @@ next_of (Some h) = next_by h.standing h
 -- what the worker's call does next
 abbrev pub next_action : PlainTxn → Action
 next_action t = next_of t.hand
+
+-- an action without what it carries
+abbrev pub kind_of : Action → ActionKind
+kind_of (action.Lock x m) = kind.Lock
+kind_of (action.Quit x) = kind.Quit
+kind_of (action.Commit size) = kind.Commit
+kind_of action.Post = kind.Post
+kind_of (action.Free x write) = kind.Free
+kind_of (action.Done reply lv) = kind.Done
+kind_of action.LeftOver = kind.LeftOver
+kind_of action.Nothing = kind.Nothing
 
 -- which actions have no answer of their own
 abbrev pub IsForWent : Action → Type 0

@@ -43,3 +43,24 @@ pub enum Action {
     /// Nothing: no call is in hand.
     Nothing,
 }
+
+/// An action without what it carries.
+#[derive(Clone, Copy, Debug, PartialEq, Eq)]
+pub enum ActionKind {
+    /// To lock a key.
+    Lock,
+    /// To give a key back.
+    Quit,
+    /// To get the place of its record.
+    Commit,
+    /// To post its record.
+    Post,
+    /// To free a key.
+    Free,
+    /// Nothing more: it has finished.
+    Done,
+    /// It is left over, to be run alone later.
+    LeftOver,
+    /// Nothing: no call is in hand.
+    Nothing,
+}

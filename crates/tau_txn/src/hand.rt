@@ -21,14 +21,14 @@ ghost use Rattle.tau_machine.specs.Hands.{Txn, Placed, Freeing, hold};
 ghost use Rattle.tau_machine.specs.Worker.{Worker, fresh, settled, hand_busy, hand_quit, hand_joined, hand_freed};
 ghost use Rattle.tau_txn.specs.Actions.{quits, frees};
 ghost use Rattle.tau_txn.specs.Kept.{Shaped, KeepsHand, keeps_in, kept, is_leaving};
-ghost use Rattle.tau_txn.specs.Next.{ends_with, asks, frees_on, next_by, IsForWent, FreesBy};
+ghost use Rattle.tau_txn.specs.Next.{ends_with, asks, frees_on, kind_of, next_by, IsForWent, FreesBy};
 ghost use Rattle.tau_txn.specs.Progress.{IsRunBy, IsRun, Follows, WantsUnseen, HasCommitted, IsFinished};
 ghost use Rattle.tau_txn.specs.Read.{hand_of, act_in, placed_act, reading_act};
 ghost use Rattle.tau_txn.specs.Record.{kept_reading, kept_joined, kept_by, spot_by};
 ghost use Rattle.tau_txn.specs.Steps.{lock_in, locked_with, first_key, without_first, record_of};
 ghost use Rattle.tau_txn.specs.Txn.{shown_of, worker_in, joined_by, lv_by};
 
-use crate::action::Action;
+use crate::action::{Action, ActionKind};
 use crate::course::Course;
 use crate::held::{leave_first, take, value_at};
 use crate::standing::Standing;
@@ -304,6 +304,60 @@ impl Hand {
             return Action::Nothing;
         };
         frees(self.held.as_slice(), self.machine.writes(), reply, &self.lv)
+    }
+
+    /// What the call does next, without what that carries: nothing is copied.
+    pub fn kind(&self) -> ActionKind
+        ensures { result ≡ kind_of (next_by self.now.standing self.now) }
+    {
+        match self.standing {
+            Standing::Running => {
+                if self.leaves {
+                    kind_of_quits(self.held.as_slice())
+                } else {
+                    self.run_kind()
+                }
+            }
+            Standing::Quitting => kind_of_quits(self.held.as_slice()),
+            Standing::Placed => ActionKind::Post,
+            Standing::Freeing => self.free_kind(),
+            Standing::LeftOver => ActionKind::LeftOver,
+        }
+    }
+
+    fn run_kind(&self) -> ActionKind
+        ensures { result ≡ kind_of (asks (next_want self.now.machine) self.now) }
+    {
+        match self.machine.want() {
+            Want::Read(_) => ActionKind::Lock,
+            Want::Write(_) => ActionKind::Lock,
+            Want::Finished(_) => self.end_kind(),
+        }
+    }
+
+    fn end_kind(&self) -> ActionKind
+        ensures { (reply : Reply) → result ≡ kind_of (ends_with (length (buffered self.now.machine) == 0) reply self.now) }
+    {
+        if self.machine.writes().is_empty() {
+            return kind_of_frees(self.held.as_slice());
+        }
+        ActionKind::Commit
+    }
+
+    fn free_kind(&self) -> ActionKind
+        ensures { result ≡ kind_of (frees_on (next_want self.now.machine) self.now) }
+    {
+        let Want::Finished(_) = self.machine.want() else {
+            return ActionKind::Nothing;
+        };
+        kind_of_frees(self.held.as_slice())
+    }
+
+    /// How many bytes the record has, 0 while there is no record.
+    pub fn record_size(&self) -> u64
+        ensures { result ≡ length self.now.bytes }
+    {
+        self.bytes.len() as u64
     }
 
     /// The lock was granted, showed this row, and raised the vector to `dep`. It takes no memory.
@@ -621,6 +675,26 @@ fn quits(held: &[(Key, Mode)]) -> Action
     match held.first() {
         Some(entry) => Action::Quit { key: entry.0 },
         None => Action::Nothing,
+    }
+}
+
+/// Whether it has a key to give back.
+fn kind_of_quits(held: &[(Key, Mode)]) -> ActionKind
+    ensures { result ≡ kind_of (quits held.now) }
+{
+    match held.first() {
+        Some(_) => ActionKind::Quit,
+        None => ActionKind::Nothing,
+    }
+}
+
+/// Whether it has a key to free.
+fn kind_of_frees(held: &[(Key, Mode)]) -> ActionKind
+    ensures { (reply : Reply) (lv : List ℕ) (writes : List (Key × Value)) → result ≡ kind_of (frees reply lv writes held.now) }
+{
+    match held.first() {
+        Some(_) => ActionKind::Free,
+        None => ActionKind::Done,
     }
 }
 

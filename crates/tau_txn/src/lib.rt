@@ -8,7 +8,7 @@ mod held;
 mod standing;
 mod txn;
 
-pub use action::Action;
+pub use action::{Action, ActionKind};
 pub use txn::Txn;
 
 #[cfg(test)]

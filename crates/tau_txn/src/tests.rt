@@ -2,7 +2,7 @@
 ghost use Rattle.std.specs.Prelude.{◌≡◌, ◌<◌, ◌≤◌, length};
 ghost use Rattle.tau_txn.specs.Txn.{RunsBy};
 
-use crate::{Action, Txn};
+use crate::{Action, ActionKind, Txn};
 use arrayvec::ArrayVec;
 use std::alloc::Global;
 use std::marker::Model;
@@ -193,6 +193,8 @@ fn place(
     let Action::Commit { size } = txn.turn() else {
         return Err("no record".into());
     };
+    assert_eq!(rt; txn.record_size(), size);
+    assert!(rt; txn.kind() == ActionKind::Commit);
     assert!(rt; size < 10000);
     txn.placed(start);
     let Action::Post = txn.turn() else {

@@ -16,12 +16,12 @@ ghost use Rattle.tau_machine.specs.Worker.{Worker, lock_of, fresh, settled, hand
 ghost use Rattle.tau_machine.specs.Hands as theory;
 ghost use Rattle.tau_machine.specs.Hands.{Placed, Freeing, act_of, lv_of, committed_of};
 ghost use Rattle.tau_txn.specs.Actions.{action_of};
-ghost use Rattle.tau_txn.specs.Next.{next_action, Means, IsLock, IsCommit, IsForWent, FreesBy, Reads, act_at, lock_by};
+ghost use Rattle.tau_txn.specs.Next.{next_action, kind_of, Means, IsLock, IsCommit, IsForWent, FreesBy, Reads, act_at, lock_by};
 ghost use Rattle.tau_txn.specs.Record.{entry_of, kept_of};
 ghost use Rattle.tau_txn.specs.Steps.{locked_with};
 ghost use Rattle.tau_txn.specs.Txn.{hand_in, worker_of, RunsBy, number_in, dep_in, anchor_in, bytes_in, leaves_in, held_in, lv_in, has_joined};
 
-use crate::action::Action;
+use crate::action::{Action, ActionKind};
 use crate::course::first_want;
 use crate::hand::Hand;
 use std::alloc::Global;
@@ -96,6 +96,26 @@ impl Txn {
             return Action::Nothing;
         }
         self.hand.turn()
+    }
+
+    /// The kind of the next action, which copies nothing.
+    pub fn kind(&self) -> ActionKind
+        ensures { result ≡ kind_of (next_action self.now) }
+    {
+        if !self.in_hand {
+            return ActionKind::Nothing;
+        }
+        self.hand.kind()
+    }
+
+    /// How many bytes the record of the call in hand has, 0 while there is no record.
+    pub fn record_size(&self) -> u64
+        ensures { result ≡ length (bytes_in self.now) }
+    {
+        if !self.in_hand {
+            return 0;
+        }
+        self.hand.record_size()
     }
 
     /// The lock was granted: the row that it showed, and the vector that it raised. It takes no memory.
