@@ -308,8 +308,10 @@ impl Hand {
 
     /// What the call does next, without what that carries: nothing is copied.
     pub fn kind(&self) -> ActionKind
-        ensures { result ≡ kind_of (next_by self.now.standing self.now) }
+        ensures kind { result ≡ kind_of (next_by self.now.standing self.now) }
+        ensures ascend { IsTrue (is_sorted key_cmp (buffered self.now.machine)) }
     {
+        let _ascending = self.machine.writes();
         match self.standing {
             Standing::Running => {
                 if self.leaves {

@@ -98,9 +98,10 @@ impl Txn {
         self.hand.turn()
     }
 
-    /// The kind of the next action, which copies nothing.
+    /// The kind of the next action, which copies nothing; and what that action means.
     pub fn kind(&self) -> ActionKind
-        ensures { result ≡ kind_of (next_action self.now) }
+        ensures kind { result ≡ kind_of (next_action self.now) }
+        ensures means { (procs : List Proc) → RunsBy procs self.now → Means procs self.now (next_action self.now) }
     {
         if !self.in_hand {
             return ActionKind::Nothing;
