@@ -1,12 +1,11 @@
 -- An action that is another one comes in another phase.
-use Rattle.std.proofs.Common.{ℕ, ◌≡◌, List, Option, refl}
+use Rattle.std.proofs.Common.{◌≡◌, Option, refl}
 use Rattle.tau_base.specs.declared.value.Key.{Key}
 use Rattle.tau_base.specs.declared.value.Mode.{Mode}
 use Rattle.tau_base.specs.declared.value.Value.{Value}
-use Rattle.tau_proc.specs.declared.reply.Reply.{Reply}
 use Rattle.tau_txn.specs.declared.action.Action.{Action}
 use Rattle.tau_txn.specs.declared.action.Action.TheVariants as action
-use Rattle.tau_core.specs.declared.event.Phase.TheVariants.{Locking, Quitting, Ready, Placed, Freeing, Ended}
+use Rattle.tau_core.specs.declared.event.Phase.TheVariants.{Locking, Quitting, Freeing}
 use Rattle.tau_core.specs.Phases.{phase_of}
 
 pub elsewhere-lock : (a : Action) → ((x : Key) (m : Mode) → a ≡ action.Lock x m → ⊥) → phase_of a ≡ Locking → ⊥
@@ -29,26 +28,6 @@ elsewhere-quit (action.Done reply lv) n e = cc
 elsewhere-quit action.LeftOver n e = cc
 elsewhere-quit action.Nothing n e = cc
 
-pub elsewhere-commit : (a : Action) → ((size : ℕ) → a ≡ action.Commit size → ⊥) → phase_of a ≡ Ready → ⊥
-elsewhere-commit (action.Lock x m) n e = cc
-elsewhere-commit (action.Quit x) n e = cc
-elsewhere-commit (action.Commit size) n e = n size refl
-elsewhere-commit action.Post n e = cc
-elsewhere-commit (action.Free x write) n e = cc
-elsewhere-commit (action.Done reply lv) n e = cc
-elsewhere-commit action.LeftOver n e = cc
-elsewhere-commit action.Nothing n e = cc
-
-pub elsewhere-post : (a : Action) → (a ≡ action.Post → ⊥) → phase_of a ≡ Placed → ⊥
-elsewhere-post (action.Lock x m) n e = cc
-elsewhere-post (action.Quit x) n e = cc
-elsewhere-post (action.Commit size) n e = cc
-elsewhere-post action.Post n e = n refl
-elsewhere-post (action.Free x write) n e = cc
-elsewhere-post (action.Done reply lv) n e = cc
-elsewhere-post action.LeftOver n e = cc
-elsewhere-post action.Nothing n e = cc
-
 pub elsewhere-free : (a : Action) → ((x : Key) (write : Option Value) → a ≡ action.Free x write → ⊥) → phase_of a ≡ Freeing → ⊥
 elsewhere-free (action.Lock x m) n e = cc
 elsewhere-free (action.Quit x) n e = cc
@@ -58,13 +37,3 @@ elsewhere-free (action.Free x write) n e = n x write refl
 elsewhere-free (action.Done reply lv) n e = cc
 elsewhere-free action.LeftOver n e = cc
 elsewhere-free action.Nothing n e = cc
-
-pub elsewhere-done : (a : Action) → ((reply : Reply) (lv : List ℕ) → a ≡ action.Done reply lv → ⊥) → phase_of a ≡ Ended → ⊥
-elsewhere-done (action.Lock x m) n e = cc
-elsewhere-done (action.Quit x) n e = cc
-elsewhere-done (action.Commit size) n e = cc
-elsewhere-done action.Post n e = cc
-elsewhere-done (action.Free x write) n e = cc
-elsewhere-done (action.Done reply lv) n e = n reply lv refl
-elsewhere-done action.LeftOver n e = cc
-elsewhere-done action.Nothing n e = cc

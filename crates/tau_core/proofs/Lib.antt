@@ -1,3 +1,4 @@
+pub mod ActionKinds
 pub mod Anchors
 pub mod Begins
 pub mod Bodies

@@ -11,6 +11,8 @@ use Rattle.tau_machine.specs.Stage.{Stage, stage}
 use Rattle.tau_machine.specs.Worker.{lock_of}
 use Rattle.tau_txn.specs.declared.action.Action.{Action}
 use Rattle.tau_txn.specs.declared.action.Action.TheVariants as action
+use Rattle.tau_txn.specs.declared.action.ActionKind.{ActionKind}
+use Rattle.tau_txn.specs.declared.action.ActionKind.TheVariants as kind
 use Rattle.tau_core.specs.declared.event.Phase.{Phase}
 use Rattle.tau_core.specs.declared.event.Phase.TheVariants.{Resting, Locking, Quitting, Ready, Placed, Freeing, Ended}
 
@@ -54,3 +56,14 @@ phase_of (action.Free x write) = Freeing
 phase_of (action.Done reply lv) = Ended
 phase_of action.LeftOver = Resting
 phase_of action.Nothing = Resting
+
+-- the phase in which an action of this kind comes
+abbrev pub phase_of_kind : ActionKind → Phase
+phase_of_kind kind.Lock = Locking
+phase_of_kind kind.Quit = Quitting
+phase_of_kind kind.Commit = Ready
+phase_of_kind kind.Post = Placed
+phase_of_kind kind.Free = Freeing
+phase_of_kind kind.Done = Ended
+phase_of_kind kind.LeftOver = Resting
+phase_of_kind kind.Nothing = Resting

@@ -5,16 +5,13 @@ ghost use Rattle.tau_core.specs.State.{plain};
 ghost use Rattle.tau_core.specs.Stands.{Sound, anchors_at};
 ghost use Rattle.tau_core.specs.Pieces.{Names, newest_of};
 ghost use Rattle.tau_core.specs.Commits.{IsAtCommit, CommitBy, stream_of};
-ghost use Rattle.tau_txn.specs.declared.action.Action.TheVariants.{Commit};
-ghost use Rattle.tau_txn.specs.Txn.{bytes_in};
-ghost use Rattle.tau_txn.specs.Next.{next_action};
 
 use crate::event::Outcome;
 use crate::free::keep;
-use crate::phase::phase_of;
+use crate::phase::phase_of_kind;
 use crate::state::State;
 use tau_base::{Lv, MAX_LSN};
-use tau_txn::{Action, Txn};
+use tau_txn::ActionKind;
 
 /// More bytes than any record has.
 const LONGEST: u64 = 4_294_967_296;
@@ -26,10 +23,10 @@ pub(crate) fn commit(state: &mut State, worker: usize) -> Outcome
     ensures { CommitBy (plain state.old) worker result (plain state.new) }
 {
     let seat = &state.seats[worker];
-    match seat.txn.turn() {
-        Action::Commit { .. } => place(state, worker),
-        action => Outcome::NotNow {
-            phase: phase_of(&action),
+    match seat.txn.kind() {
+        ActionKind::Commit => place(state, worker),
+        kind => Outcome::NotNow {
+            phase: phase_of_kind(kind),
         },
     }
 }
@@ -70,7 +67,7 @@ fn place_above(state: &mut State, worker: usize, start: u64, named: &Named) -> O
         Ok(()) => match seat.txn.prepare(named.number, &named.lv) {
             Err(_) => Outcome::NoMemory,
             Ok(()) => {
-                let past = start + size_of(&seat.txn);
+                let past = start + seat.txn.record_size();
                 seat.txn.placed(start);
                 seat.start = start;
                 match seat.txn.committed() {
@@ -83,17 +80,6 @@ fn place_above(state: &mut State, worker: usize, start: u64, named: &Named) -> O
                 }
             }
         },
-    }
-}
-
-/// The size of the record that was made.
-fn size_of(txn: &Txn) -> u64
-    requires { next_action txn.now ≡ Commit (length (bytes_in txn.now)) }
-    ensures { result ≡ length (bytes_in txn.now) }
-{
-    match txn.turn() {
-        Action::Commit { size } => size,
-        _ => 0,
     }
 }
 

@@ -9,9 +9,9 @@ ghost use Rattle.tau_core.specs.Frees.{IsAtDone, DoneBy, EndsCall};
 use crate::begin::{begin_call, in_hand, make_room, next_number, undo};
 use crate::event::{Outcome, Phase};
 use crate::free::keep;
-use crate::phase::phase_of;
+use crate::phase::phase_of_kind;
 use crate::state::State;
-use tau_txn::Action;
+use tau_txn::ActionKind;
 
 /// The worker's call waits for its acknowledgement; a worker that rests begins its next call.
 pub(crate) fn done(state: &mut State, worker: usize) -> Outcome
@@ -62,13 +62,13 @@ pub(crate) fn done_next(state: &mut State, worker: usize) -> Outcome
     ensures { DoneBy (plain state.old) worker result (plain state.new) }
 {
     let seat = &state.seats[worker];
-    match seat.txn.turn() {
-        Action::Done { .. } => {
+    match seat.txn.kind() {
+        ActionKind::Done => {
             finish(state, worker);
             Outcome::Went
         }
-        action => Outcome::NotNow {
-            phase: phase_of(&action),
+        kind => Outcome::NotNow {
+            phase: phase_of_kind(kind),
         },
     }
 }

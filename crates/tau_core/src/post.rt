@@ -5,9 +5,9 @@ ghost use Rattle.tau_core.specs.Stands.{Stood};
 ghost use Rattle.tau_core.specs.Frees.{IsAtPost, PostBy, PostsRecord};
 
 use crate::event::Outcome;
-use crate::phase::phase_of;
+use crate::phase::phase_of_kind;
 use crate::state::State;
-use tau_txn::Action;
+use tau_txn::ActionKind;
 
 /// The record that has its place is posted.
 pub(crate) fn post(state: &mut State, worker: usize) -> Outcome
@@ -16,13 +16,13 @@ pub(crate) fn post(state: &mut State, worker: usize) -> Outcome
     ensures { PostBy (plain state.old) worker result (plain state.new) }
 {
     let seat = &state.seats[worker];
-    match seat.txn.turn() {
-        Action::Post => {
+    match seat.txn.kind() {
+        ActionKind::Post => {
             post_record(state, worker);
             Outcome::Went
         }
-        action => Outcome::NotNow {
-            phase: phase_of(&action),
+        kind => Outcome::NotNow {
+            phase: phase_of_kind(kind),
         },
     }
 }

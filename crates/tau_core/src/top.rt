@@ -29,7 +29,7 @@ use crate::lock::lock;
 use crate::next::next_lock;
 use crate::open::open;
 use crate::opening::Opening;
-use crate::phase::phase_of;
+use crate::phase::phase_of_kind;
 use crate::position::{persist, stop};
 use crate::post::post;
 use crate::quit::quit;
@@ -134,7 +134,7 @@ impl Core {
         ensures { (K : List (Act Txn)) (h : Hidden) → Stands self.now K h → result ≡ hand_phase self.now.load.procs (hand_of (core_of self.now h) worker) }
     {
         let seat = &self.state.seats[worker as usize];
-        phase_of(&seat.txn.turn())
+        phase_of_kind(seat.txn.kind())
     }
 
     /// How far each stream is persisted.

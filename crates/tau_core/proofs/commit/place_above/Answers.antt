@@ -104,7 +104,7 @@ overflow_add-past c =
     (subst (λ (a : Act Txn). Spells One c.seat.inside.txn.width vectors false (entry_of c.seat.inside.txn.mode a) (bytes_in c.prepare.new.self)) act_is (c.in-Ok-prepare.ensures.bytes procs raised c.args.start vectors o.runs raised_is e))) in
     let small : length (bytes_in c.prepare.new.self) < 2 ^ 32 = size-small streams base c.args.state.now.load.mode act (bytes_in c.prepare.new.self) c.requires.sound.streams_high c.requires.wide spelled in
     let low = c.requires.low in
-    let size = c.size_of.ensures in
+    let size = c.record_size.ensures in
     omega arith
 
 pub placed-requires-clause-small : goal.placed-requires-clause-small
@@ -236,7 +236,7 @@ set-requires-clause-small c =
     (subst (λ (a : Act Txn). Spells One c.seat.inside.txn.width vectors false (entry_of c.seat.inside.txn.mode a) (bytes_in c.prepare.new.self)) act_is (c.in-Ok-prepare.ensures.bytes procs raised c.args.start vectors o.runs raised_is e))) in
     let small : length (bytes_in c.prepare.new.self) < 2 ^ 32 = size-small streams base c.args.state.now.load.mode act (bytes_in c.prepare.new.self) c.requires.sound.streams_high c.requires.wide spelled in
     let low = c.requires.low in
-    let size = c.size_of.ensures in
+    let size = c.record_size.ensures in
     omega arith
 
 pub returns-in-Some : goal.returns-in-Some
@@ -310,5 +310,5 @@ returns-in-Some c =
           (c.placed.ensures.stays (c.in-Ok-prepare.ensures.stays o.leaving)) c.in-Ok.ensures.room;
       rooms = rooms-new (plain c.args.state.now) c.args.worker (seat_in c.seat.inside) new m.hand act is m.is (one-none c.args.state.now.load new (hand_joined m.hand (Placed act) (join m.hand.dep base)) act placed refl) left m.phase c.requires.sound.room c.keep.ensures.room;
       after = ap (λ (x : List Committed × List ℕ). record p { seats = slice_set p.seats c.args.worker new; committed = x.0; room = left; ends = x.1 })
-          (λ i. ((c.keep.ensures.items ∙ ap (λ (x : Committed). p.committed ++ x ∷ []) kept) i, (c.set.ensures ∙ ap (λ (n : ℕ). slice_set p.ends (c.args.worker % streams) (c.args.start + n)) (c.size_of.ensures ∙ ap (length {A = ℕ}) (sym bytes_is))) i));
+          (λ i. ((c.keep.ensures.items ∙ ap (λ (x : Committed). p.committed ++ x ∷ []) kept) i, (c.set.ensures ∙ ap (λ (n : ℕ). slice_set p.ends (c.args.worker % streams) (c.args.start + n)) (c.record_size.ensures ∙ ap (length {A = ℕ}) (sym bytes_is))) i));
     }
