@@ -4,8 +4,12 @@ use Rattle.std.specs.Prelude.{Some, None, slice_get, slice_set, is_some, if◌th
 use Rattle.tau_proc.specs.declared.proc.Proc.{Proc}
 use Rattle.tau_model.specs.History.{Act}
 use Rattle.tau_model.specs.declared.committed.Committed.{Committed}
-use Rattle.tau_machine.specs.Hands.{Txn, Hand, Running, Freeing, act_of, committed_of}
-use Rattle.tau_txn.specs.Txn.{PlainTxn, hand_in}
+use Rattle.tau_machine.specs.Hands.{Txn, Hand, Phase, Running, Quitting, Placed, Freeing, act_of, committed_of}
+use Rattle.tau_txn.specs.declared.standing.Standing.{Standing}
+use Rattle.tau_txn.specs.declared.standing.Standing.TheVariants as standing
+use Rattle.tau_txn.specs.Hand.{PlainHand}
+use Rattle.tau_txn.specs.Read.{act_in, phase_in, hand_of}
+use Rattle.tau_txn.specs.Txn.{PlainTxn, shown, shown_of, hand_in, number_in, number_by}
 use Rattle.tau_txn.specs.Next.{FreesBy, Reads}
 use Rattle.tau_core.specs.declared.state.Load.{Load}
 use Rattle.tau_core.specs.Plain.{PlainSeat}
@@ -56,6 +60,33 @@ joined-none l s h t is e = one-none l s h t is (ap act_of e)
 pub reads-phase : (procs : List Proc) (b : Bool) (w : ℕ) (hand : Hand) (act : Act Txn) → b ≡ false → FreesBy procs b w hand act → hand.phase ≡ Running
 reads-phase procs true w hand act f q = absurd (let bad : true ≡ false = f in cc)
 reads-phase procs false w hand act f q = q.phase
+
+-- a call that has joined the committed ones and frees its keys
+pub freeing-on : (procs : List Proc) (b : Bool) (w : ℕ) (hand : Hand) (act : Act Txn) → b ≡ true → FreesBy procs b w hand act → hand.phase ≡ Freeing act
+freeing-on procs true w hand act f q = q
+freeing-on procs false w hand act f q = absurd (let bad : false ≡ true = f in cc)
+
+-- has the number of its act
+pub number-freed : (procs : List Proc) (t : PlainTxn) (hand : Hand) (act : Act Txn) → hand_in procs t ≡ Some hand → hand.phase ≡ Freeing act → number_in t ≡ Some act.call.call.number
+number-freed procs t hand act is freeing = by_hand t.hand is
+  where
+    by_phase : (st : Standing) (x : PlainHand) → phase_in procs t.worker st x ≡ Freeing act → x.number ≡ act.call.call.number
+    by_phase standing.Running x e = absurd (let bad : ◌≡◌ {A = Phase} Running (Freeing act) = e in cc)
+    by_phase standing.Quitting x e = absurd (let bad : ◌≡◌ {A = Phase} Quitting (Freeing act) = e in cc)
+    by_phase standing.Placed x e = absurd (let bad : ◌≡◌ {A = Phase} (Placed (act_in procs t.worker x)) (Freeing act) = e in cc)
+    by_phase standing.Freeing x e = (let f : ◌≡◌ {A = Phase} (Freeing (act_in procs t.worker x)) (Freeing act) = e in let g : act_in procs t.worker x ≡ act = cc in ap (λ (y : Act Txn). y.call.call.number) g)
+    by_phase standing.LeftOver x e = absurd (let bad : ◌≡◌ {A = Phase} Quitting (Freeing act) = e in cc)
+
+    by_standing : (st : Standing) (x : PlainHand) → shown procs t.worker st x ≡ Some hand → hand_of procs t.worker x ≡ hand
+    by_standing standing.Running x e = cc
+    by_standing standing.Quitting x e = cc
+    by_standing standing.Placed x e = cc
+    by_standing standing.Freeing x e = cc
+    by_standing standing.LeftOver x e = absurd (let bad : None ≡ Some hand = e in cc)
+
+    by_hand : (o : Option PlainHand) → shown_of procs t.worker o ≡ Some hand → number_by o ≡ Some act.call.call.number
+    by_hand None e = absurd (let bad : None ≡ Some hand = e in cc)
+    by_hand (Some x) e = ap Some (by_phase x.standing x (ap (λ (y : Hand). y.phase) (by_standing x.standing x e) ∙ freeing))
 
 pub none-open : (l : Load) (s : PlainSeat) → hand_in l.procs s.txn ≡ None → one_open l s ≡ 0
 none-open l s gone = let e : is_open (hand_in l.procs s.txn) ≡ false = ap is_open gone in rw e refl

@@ -1,5 +1,5 @@
 -- Post, Free and Done, on the parts.
-use Rattle.std.specs.Prelude.{ℕ, true, ◌≡◌, ◌≤◌, ◌⊎◌, Option, Some, None, List, [], ◌∷◌, ◌++◌, slice_get, slice_set}
+use Rattle.std.specs.Prelude.{ℕ, Bool, true, ◌≡◌, ◌≤◌, ◌⊎◌, Option, Some, None, List, [], ◌∷◌, ◌++◌, slice_get, slice_set}
 use Rattle.std.specs.Map.{lookup}
 use Rattle.std.specs.Ordering.{is_le}
 use Rattle.tau_base.specs.declared.value.Key.{Key}
@@ -15,7 +15,7 @@ use Rattle.tau_machine.specs.Shard.{shard_freed}
 use Rattle.tau_machine.specs.Worker.{hand_joined, hand_freed}
 use Rattle.tau_shard.specs.Plain.{PlainShard}
 use Rattle.tau_shard.specs.Read.{shard_of}
-use Rattle.tau_txn.specs.Txn.{hand_in, bytes_in}
+use Rattle.tau_txn.specs.Txn.{hand_in, bytes_in, has_joined}
 use Rattle.tau_txn.specs.Next as txn
 use Rattle.tau_txn.specs.Next.{next_action}
 use Rattle.tau_txn.specs.declared.action.Action.TheVariants as action
@@ -50,6 +50,10 @@ abbrev pub PostBy : Plain → ℕ → Outcome → Plain → Type 0
 PostBy p w Went p' = PostsRecord w p p'
 PostBy p w (NotNow phase) p' = (p' ≡ p) × IsElsewhere p w at_phase.Placed phase
 PostBy p w _ p' = ⊥
+
+-- whether the call in hand has joined the committed ones
+abbrev pub HasJoined : Plain → ℕ → Bool → Type 0
+HasJoined p w joined = (s : PlainSeat) → slice_get p.seats w ≡ Some s → has_joined s.txn ≡ joined
 
 -- the call is posted, or read-only and has joined; or it is read-only, has finished, and joins the committed ones by this
 abbrev pub JoinsBy : Load → ℕ → Hand → Act Txn → List Committed → Type 0

@@ -1,10 +1,10 @@
 //! A worker's call has freed all its keys.
-ghost use Rattle.std.specs.Prelude.{◌≡◌, ◌<◌};
+ghost use Rattle.std.specs.Prelude.{◌≡◌, ◌<◌, true, false};
 ghost use Rattle.tau_core.specs.State.{plain};
 ghost use Rattle.tau_core.specs.Stands.{Sound, Stood};
 ghost use Rattle.tau_core.specs.Begins.{HasNext};
 ghost use Rattle.tau_core.specs.Firsts.{ActsBy, BeginsBy, Rests};
-ghost use Rattle.tau_core.specs.Frees.{IsAtDone, DoneBy, EndsCall};
+ghost use Rattle.tau_core.specs.Frees.{IsAtDone, DoneBy, EndsCall, HasJoined};
 
 use crate::begin::{begin_call, in_hand, make_room, next_number, undo};
 use crate::event::{Outcome, Phase};
@@ -80,14 +80,45 @@ fn finish(state: &mut State, worker: usize)
     requires at { IsAtDone (plain state.old) worker }
     ensures { EndsCall worker (plain state.old) (plain state.new) }
 {
-    let seat = &mut state.seats[worker];
+    let seat = &state.seats[worker];
     let joined = seat.txn.has_joined();
+    if joined {
+        finish_on(state, worker);
+        return;
+    }
+    finish_first(state, worker);
+}
+
+/// A call that has joined the committed ones waits.
+fn finish_on(state: &mut State, worker: usize)
+    requires sound { Sound (plain state.old) }
+    requires there { worker < state.old.load.workers }
+    requires at { IsAtDone (plain state.old) worker }
+    requires joined { HasJoined (plain state.old) worker true }
+    ensures { EndsCall worker (plain state.old) (plain state.new) }
+{
+    let seat = &mut state.seats[worker];
+    let Some(number) = seat.txn.number() else {
+        return;
+    };
+    let vector = seat.txn.lv();
+    seat.pending.put(number, vector);
+    seat.txn.went(&state.load.procs);
+}
+
+/// A read-only call without a key joins the committed ones, and waits.
+fn finish_first(state: &mut State, worker: usize)
+    requires sound { Sound (plain state.old) }
+    requires there { worker < state.old.load.workers }
+    requires at { IsAtDone (plain state.old) worker }
+    requires joined { HasJoined (plain state.old) worker false }
+    ensures { EndsCall worker (plain state.old) (plain state.new) }
+{
+    let seat = &mut state.seats[worker];
     let Some(kept) = seat.txn.committed() else {
         return;
     };
     seat.pending.put(kept.number, kept.lv);
     seat.txn.went(&state.load.procs);
-    if !joined {
-        keep(&mut state.committed, kept);
-    }
+    keep(&mut state.committed, kept);
 }

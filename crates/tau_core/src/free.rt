@@ -1,8 +1,8 @@
 //! A worker frees keys.
-ghost use Rattle.std.specs.Prelude.{◌≡◌, ◌<◌, ◌≤◌, ◌+◌, ◌-◌, ◌++◌, ◌∷◌, [], vec_capacity, vec_len};
+ghost use Rattle.std.specs.Prelude.{◌≡◌, ◌<◌, ◌≤◌, ◌+◌, ◌-◌, ◌++◌, ◌∷◌, [], true, false, vec_capacity, vec_len};
 ghost use Rattle.tau_core.specs.State.{plain};
 ghost use Rattle.tau_core.specs.Stands.{Stood};
-ghost use Rattle.tau_core.specs.Frees.{IsAtFree, FreeBy, FreesKey};
+ghost use Rattle.tau_core.specs.Frees.{IsAtFree, FreeBy, FreesKey, HasJoined};
 
 use crate::event::Outcome;
 use crate::phase::phase_of;
@@ -36,17 +36,46 @@ fn free_key(state: &mut State, worker: usize, key: Key, write: Option<Value>)
     requires at { IsAtFree (plain state.old) worker key write }
     ensures { FreesKey worker (plain state.old) (plain state.new) }
 {
+    let seat = &state.seats[worker];
+    let joined = seat.txn.has_joined();
+    if joined {
+        free_on(state, worker, key, write);
+        return;
+    }
+    free_first(state, worker, key, write);
+}
+
+/// A call that has joined the committed ones frees the key.
+fn free_on(state: &mut State, worker: usize, key: Key, write: Option<Value>)
+    requires stood { Stood (plain state.old) }
+    requires there { worker < state.old.load.workers }
+    requires at { IsAtFree (plain state.old) worker key write }
+    requires joined { HasJoined (plain state.old) worker true }
+    ensures { FreesKey worker (plain state.old) (plain state.new) }
+{
     let part = &mut state.shards[usize::from(shard_of(key))];
     let seat = &mut state.seats[worker];
-    let joined = seat.txn.has_joined();
+    let vector = seat.txn.lv();
+    part.free(worker as u8, key, &vector, write);
+    seat.txn.went(&state.load.procs);
+}
+
+/// A read-only call that has finished joins the committed ones, and frees the key.
+fn free_first(state: &mut State, worker: usize, key: Key, write: Option<Value>)
+    requires stood { Stood (plain state.old) }
+    requires there { worker < state.old.load.workers }
+    requires at { IsAtFree (plain state.old) worker key write }
+    requires joined { HasJoined (plain state.old) worker false }
+    ensures { FreesKey worker (plain state.old) (plain state.new) }
+{
+    let part = &mut state.shards[usize::from(shard_of(key))];
+    let seat = &mut state.seats[worker];
     let Some(kept) = seat.txn.committed() else {
         return;
     };
     part.free(worker as u8, key, &kept.lv, write);
     seat.txn.went(&state.load.procs);
-    if !joined {
-        keep(&mut state.committed, kept);
-    }
+    keep(&mut state.committed, kept);
 }
 
 /// Puts a call that has committed last. It takes no memory.
