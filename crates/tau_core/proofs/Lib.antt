@@ -15,6 +15,7 @@ pub mod GathersOwn
 pub mod GathersPosted
 pub mod Hands
 pub mod Holders
+pub mod Idle
 pub mod Joins
 pub mod Leaving
 pub mod LeftOvers

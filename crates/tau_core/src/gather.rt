@@ -23,6 +23,21 @@ pub(crate) fn gather(state: &mut State, stream: usize) -> Outcome
             phase: Phase::Stopped { at },
         };
     }
+    gather_going(state, stream)
+}
+
+/// Where all that was placed is gathered nothing continues the stream.
+fn gather_going(state: &mut State, stream: usize) -> Outcome
+    requires stood { Stood (plain state.old) }
+    requires there { stream < state.old.load.streams }
+    requires going { stop_in (slice_get state.old.streams.items stream) ≡ None }
+    ensures { Gathered (plain state.old) stream result (plain state.new) }
+{
+    let upto = state.gathered.get(stream);
+    let past = state.ends.get(stream);
+    if upto == past {
+        return Outcome::Gathered { upto };
+    }
     gather_all(state, stream)
 }
 
