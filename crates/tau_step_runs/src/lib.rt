@@ -1,0 +1,5 @@
+//! Worked runs by turns, on new streams and from a given opening. They stand in a crate of their own, over the crate that opens streams.
+#![tactic(auto)]
+
+#[cfg(test)]
+mod tests;

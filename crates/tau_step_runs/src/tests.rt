@@ -1,0 +1,127 @@
+ghost use Rattle.std.specs.Prelude.{ℕ, ◌≡◌, ◌≤◌, ◌<◌, [], ◌∷◌, length, vec_len, IfOk, OnOk};
+ghost use Rattle.tau_base.specs.declared.limits.TheConstants.{MAX_CATALOGUE, MAX_LSN};
+ghost use Rattle.tau_text.specs.Canonical.{declarations_text};
+ghost use Rattle.tau_run.specs.Facts.{catalogue_of};
+ghost use Rattle.tau_step.specs.RunTold.{AreNew};
+
+use arrayvec::ArrayVec;
+use std::alloc::Global;
+use std::test::*;
+use tau_base::{LogMode, Lv, MAX_CATALOGUE};
+use tau_core::Opening;
+use tau_disk::{MemDisk, MemSink};
+use tau_model::Tables;
+use tau_open::open_streams;
+use tau_report::{RunEnd, report_text};
+use tau_step::{run_turns, run_turns_from};
+use tau_stream::Writer;
+use tau_text::{Workload, parse_workload, print_declarations};
+
+// The second call takes what the first one wrote, which is persisted in a stream of its own.
+const TEXT: &[u8] = b"table a\nput a 1 5\nadd a 1 2\nturns w0 w0 w0 w0 w0\n";
+
+const REPORT: &[u8] =
+    b"ack 1 53,0\nack 2 53,61\nreply 1 none\nreply 2 int 7\norder 1\norder 2\nrow a 1 int 7\nend 0\n";
+
+/// Two new disks.
+fn two_disks(alloc: Global) -> Result<Vec<MemDisk>, Fail>
+    ensures { IfOk result (λ disks. vec_len disks ≡ 2) }
+{
+    let mut disks = Vec::new(alloc);
+    disks.push(MemDisk::new(alloc, &[])?)?;
+    disks.push(MemDisk::new(alloc, &[])?)?;
+    Ok(disks)
+}
+
+/// Two streams, just created for the workload.
+fn created(alloc: Global, load: &Workload) -> Result<Vec<Writer<MemDisk>>, Fail>
+    ensures count { IfOk result (λ writers. vec_len writers ≡ 2) }
+    ensures text { OnOk result (length (declarations_text load.now.declarations) ≤ MAX_CATALOGUE) }
+    ensures fresh { IfOk result (λ writers. AreNew (λ j. catalogue_of load.now) writers.items) }
+{
+    let mut disks = two_disks(alloc)?;
+    let catalogue = match print_declarations(alloc, &load.declarations) {
+        Ok(catalogue) => catalogue,
+        Err(error) => return Err(error.into()),
+    };
+    if catalogue.len() > MAX_CATALOGUE {
+        return Err("the catalogue".into());
+    }
+    match open_streams(alloc, &mut disks, 2, &catalogue) {
+        Ok(writers) => Ok(writers),
+        Err(_) => Err("the streams".into()),
+    }
+}
+
+/// Two streams that end here, with no rows and no anchors.
+fn opening(alloc: Global, end: u64) -> Opening
+    requires { end < MAX_LSN }
+    ensures rows { result.rows ≡ [] }
+    ensures floor { result.floor ≡ 0 ∷ 0 ∷ [] }
+    ensures ends { result.ends ≡ end ∷ end ∷ [] }
+    ensures anchors { result.anchors.items ≡ 0 ∷ 0 ∷ [] }
+{
+    let mut ends = Lv::zero(2);
+    ends.set(0, end);
+    ends.set(1, end);
+    let mut anchors = ArrayVec::new();
+    anchors.push(0);
+    anchors.push(0);
+    Opening {
+        rows: Tables::of(Vec::new(alloc)),
+        floor: Lv::zero(2),
+        ends,
+        anchors,
+    }
+}
+
+/// All that was told.
+fn told(alloc: Global, load: &Workload, end: &RunEnd, sink: &MemSink) -> Result<Vec<u8>, Fail> {
+    let rest = report_text(alloc, &load.declarations, &end.report, end.disk)?;
+    let mut text = sink.bytes().to_vec(alloc)?;
+    text.extend_from_slice(&rest)?;
+    Ok(text)
+}
+
+#[test]
+fn on_new_streams(rt: HostRuntime) -> Result<(), Fail> {
+    let alloc = rt.alloc();
+    let load = match parse_workload(alloc, TEXT) {
+        Ok(load) => load,
+        Err(_) => panic!(rt; "the text"),
+    };
+    let mut writers = match created(alloc, &load) {
+        Ok(writers) => writers,
+        Err(fail) => return Err(fail),
+    };
+    let mut sink = MemSink::new(alloc, &[])?;
+    let end = run_turns(alloc, &load, 2, LogMode::Values, &mut writers, &mut sink)?;
+    assert!(rt; told(alloc, &load, &end, &sink)?.as_slice() == REPORT);
+    Ok(())
+}
+
+#[test]
+fn from_an_opening(rt: HostRuntime) -> Result<(), Fail> {
+    let alloc = rt.alloc();
+    let load = match parse_workload(alloc, TEXT) {
+        Ok(load) => load,
+        Err(_) => panic!(rt; "the text"),
+    };
+    let mut writers = match created(alloc, &load) {
+        Ok(writers) => writers,
+        Err(fail) => return Err(fail),
+    };
+    let opening = opening(alloc, writers[0].durable());
+    let mut sink = MemSink::new(alloc, &[])?;
+    let end = run_turns_from(
+        alloc,
+        &load,
+        opening,
+        2,
+        LogMode::Values,
+        &mut writers,
+        &mut sink,
+    )?;
+    assert!(rt; told(alloc, &load, &end, &sink)?.as_slice() == REPORT);
+    Ok(())
+}
