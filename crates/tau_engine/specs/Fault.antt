@@ -49,6 +49,19 @@ fault_text (status.NotEmpty j long) = line (codes "fault" ∷ codes "8" ∷ deci
 fault_text status.TooLong = line (codes "fault" ∷ codes "9" ∷ [])
 fault_text _ = []
 
+-- the code with which the program ends, which a fault line names too
+abbrev pub code_of : Status → ℕ
+code_of status.Ok = 0
+code_of status.NoMemory = 1
+code_of status.Usage = 2
+code_of (status.BadText at cause) = 3
+code_of status.ReadFault = 4
+code_of status.WriteFault = 5
+code_of (status.DiskFault j) = 6
+code_of (status.BadLog fault) = 7
+code_of (status.NotEmpty j long) = 8
+code_of status.TooLong = 9
+
 -- the answer is told by the one fault line, whatever the command
 abbrev pub is_refusal : Status → Bool
 is_refusal status.Usage = true

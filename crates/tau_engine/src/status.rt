@@ -1,4 +1,6 @@
 //! The status of a call, and the causes that it names.
+ghost use Rattle.std.specs.Prelude.{◌≡◌};
+ghost use Rattle.tau_engine.specs.Fault.{code_of};
 
 use tau_scan::LogFault;
 use tau_text::TextCause;
@@ -43,7 +45,9 @@ pub enum Status {
 
 impl Status {
     /// The code with which the program ends.
-    pub fn code(self) -> u8 {
+    pub fn code(self) -> u8
+        ensures { result ≡ code_of self }
+    {
         match self {
             Status::Ok => 0,
             Status::NoMemory => 1,
