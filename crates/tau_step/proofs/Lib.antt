@@ -10,6 +10,7 @@ mod Bodies
 mod Images
 mod Flushing
 mod Handing
+mod NothingNew
 mod Gathering
 mod Passing
 mod Growing

@@ -51,7 +51,7 @@ pub(crate) fn manager_turn<D: Disk>(
     flush_gathered(core, writer, stream, upto)
 }
 
-/// Flushes what was gathered up to there.
+/// Flushes what was gathered up to there. Where all of it is durable nothing is handed over.
 fn flush_gathered<D: Disk>(
     core: &mut Core,
     writer: &mut Writer<D>,
@@ -64,6 +64,9 @@ fn flush_gathered<D: Disk>(
         length catalogue ≡ slice_index core.old.load.opening.ends stream → IsFilled stream catalogue upto writer.old core.old h →
         GatheredTurned stream catalogue writer.old writer.new core.old core.new told K h es result }
 {
+    if upto == writer.durable() {
+        return Ok(Managing::Idle);
+    }
     match hand_over(core, writer, stream, upto) {
         Ok(()) => Ok(flush_prepared(core, writer, stream, upto)),
         Err(error) => Err(error),

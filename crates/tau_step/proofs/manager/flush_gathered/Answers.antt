@@ -1,8 +1,9 @@
-use Rattle.std.proofs.Common.{◌<◌, sym, ap, subst, ◌∙◌}
+use Rattle.std.proofs.Common.{◌<◌, sym, ap, subst, ◌∙◌, arith}
 use Rattle.std.specs.Prelude.{slice_index}
 use Rattle.tau_core.specs.declared.state.Load.{Load}
 use Rattle.tau_step.specs.Keeping.{HandedOver}
 use Rattle.tau_step.proofs.Handing.{gathered-turns, gathered-stops}
+use Rattle.tau_step.proofs.NothingNew.{gathered-idle}
 use Rattle.tau_step.proofs.manager.flush_gathered.Goals as goal
 
 pub flush_prepared-requires : goal.flush_prepared-requires
@@ -28,3 +29,7 @@ pub returns-in-Err : goal.returns-in-Err
 returns-in-Err g c = λ catalogue K h es told stands size l.
     let over = subst (λ r. HandedOver c.args.stream catalogue c.args.upto c.hand_over.new.writer c.args.core.now c.hand_over.new.core K h r) c.in-Err.is (c.hand_over.ensures.over catalogue K h stands size l) in
     gathered-stops c.args.stream catalogue c.args.upto c.args.writer.now c.hand_over.new.writer c.hand_over.new.writer c.args.core.now c.hand_over.new.core c.hand_over.new.core told K h es over c.hand_over.ensures.disk c.hand_over.ensures.works
+
+pub returns-then-upto-durable : goal.returns-then-upto-durable
+returns-then-upto-durable g c = λ catalogue K h es told stands size l.
+    gathered-idle c.args.stream catalogue c.args.upto c.args.writer.now c.args.core.now K h stands c.requires.there l (omega (arith, c.if-upto-durable.true, c.durable.ensures)) told es

@@ -1,0 +1,60 @@
+-- A stream of which nothing is new: all that is gathered is durable.
+use Rattle.std.proofs.Common.{ℕ, ◌+◌, ◌<◌, ◌≡◌, List, [], ◌∷◌, ◌++◌, length, refl, sym, ap, subst, ◌∙◌, arith}
+use Rattle.std.specs.Prelude.{Some, slice_get, slice_index}
+use Rattle.std.proofs.lemmas.List.{append-nil}
+use Rattle.tau_disk.specs.declared.disk.Disk.{Ghosts}
+use Rattle.tau_stream.specs.declared.writer.Writer.{Writer}
+use Rattle.tau_stream.specs.Writer.{durable_of, left_of}
+use Rattle.tau_model.specs.History.{Act}
+use Rattle.tau_machine.specs.Hands.{Txn}
+use Rattle.tau_machine.specs.Events as machine
+use Rattle.tau_core.specs.Plain.{PlainStream}
+use Rattle.tau_core.specs.State.{Plain}
+use Rattle.tau_core.specs.View.{Hidden}
+use Rattle.tau_core.specs.Stands.{Stands, anchors_at}
+use Rattle.tau_core.specs.Pieces.{Spelled}
+use Rattle.tau_core.proofs.Lists.{some-at}
+use Rattle.tau_step.specs.declared.manager.Managing.TheVariants as did
+use Rattle.tau_step.specs.Keeping.{IsFilled, IsLoaded, GatheredTurns}
+use Rattle.tau_step.proofs.Bodies.{body-long}
+use Rattle.tau_step.proofs.Flushing.{flush-idle}
+use Rattle.tau_step.proofs.Handing.{gathered-turns}
+
+module _ {D : Type 0} {G : Ghosts D} (j : ℕ) (catalogue : List ℕ) (upto : ℕ) (w : Writer D G) (p : Plain) (K : List (Act Txn)) (h : Hidden)
+    (g : Stands p K h) (there : j < p.load.streams) (l : IsFilled j catalogue upto w p h) (same : upto ≡ durable_of w) where
+  -- the core holds no bytes that were not handed out
+  body-empty : (s : PlainStream) → slice_get p.streams j ≡ Some s → s.body ≡ []
+  body-empty s is = nil s.body (let e = body-long p K h g j there s is in let f = l.gathered in let d = l.durable in let o = l.long in omega (arith, same))
+    where
+      nil : (xs : List ℕ) → length xs ≡ 0 → xs ≡ []
+      nil [] e = refl
+      nil (x ∷ xs) e = absurd (omega arith)
+
+  all-spelled : Spelled p.load (anchors_at p) (h.moved j) (h.taken j)
+  all-spelled =
+      let (s, is) = some-at p.streams j (let e = g.sound.streams in omega arith) in
+      subst (λ (b : List ℕ). Spelled p.load (anchors_at p) (h.moved j) b) (ap (λ (b : List ℕ). h.taken j ++ b) (body-empty s is) ∙ append-nil (h.taken j)) (g.gathered j s is)
+
+  -- so the writer has all of it
+  has-all : IsLoaded j catalogue upto w p h
+  has-all = record {
+    works = l.works;
+    going = l.going;
+    gathered = l.gathered;
+    durable = l.durable;
+    first = h.taken j;
+    is = sym (ap (λ (b : List ℕ). h.taken j ++ b) l.left ∙ append-nil (h.taken j));
+    before = l.before;
+    others = l.others;
+    moved = l.is;
+    front = l.spelled;
+    spelled = all-spelled;
+    long = l.long;
+    count = (let n = ap (length {A = ℕ}) l.left in let d = l.durable in omega (arith, same));
+    ready = l.ready;
+  }
+
+  pub gathered-idle : (told : List (ℕ × List ℕ)) (es : List machine.Event) → GatheredTurns j catalogue w w p p told K h es did.Idle
+  gathered-idle told es =
+      gathered-turns j catalogue upto w w w p p p told K h es (record { hidden = h; same = refl; stands = g; load = refl; taken = λ i ne. refl }) refl did.Idle
+      (flush-idle j catalogue upto w p told K h es g has-all same)
