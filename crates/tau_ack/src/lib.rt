@@ -1,7 +1,7 @@
 //! Calls that have ended and wait for their acknowledgement.
 #![tactic(auto)]
 
-ghost use Rattle.std.specs.Prelude.{◌≡◌, ◌≤◌, ◌<◌, ◌+◌, [], ◌∷◌, ◌++◌, OnOk, true, false, IfSome, IfNone, set, get_or, vec_len, vec_capacity};
+ghost use Rattle.std.specs.Prelude.{◌≡◌, ◌==◌, ◌≤◌, ◌<◌, ◌+◌, [], ◌∷◌, ◌++◌, length, OnOk, true, false, IfSome, IfNone, set, get_or, vec_len, vec_capacity};
 ghost use Rattle.tau_ack.specs.declared.Waiting.{Waiting};
 ghost use Rattle.tau_ack.specs.Pending.{NoneCovered, TakesFirst, IsPass, in_pass};
 
@@ -63,6 +63,15 @@ impl Pending {
                 next: 0,
             },
         }
+    }
+
+    /// Whether no call waits.
+    pub fn is_empty(&self) -> bool
+        ensures { result ≡ (length self.now.calls == 0) }
+    {
+        // A pass leaves a gap where it took calls.
+        let gone = self.pass.next - self.pass.passed;
+        gone == self.calls.len()
     }
 
     /// Makes room for one more call.

@@ -49,3 +49,4 @@ pub mod Turns
 pub mod Undone
 pub mod Whole
 pub mod WorkerSteps
+pub mod Waits

@@ -1,5 +1,5 @@
 //! The core.
-ghost use Rattle.std.specs.Prelude.{◌≡◌, ◌<◌, ◌≤◌, IfOk, List, length, map};
+ghost use Rattle.std.specs.Prelude.{◌≡◌, ◌<◌, ◌≤◌, ◌↔◌, IfOk, IsTrue, List, length, map, slice_get};
 ghost use Rattle.tau_base.specs.Shards.{shard_number};
 ghost use Rattle.tau_base.specs.declared.limits.TheConstants.{MAX_CATALOGUE, MAX_STREAMS, MAX_WORKERS};
 ghost use Rattle.tau_text.specs.Canonical.{declarations_text};
@@ -8,7 +8,7 @@ ghost use Rattle.tau_model.specs.Tables.{IsTablesOf};
 ghost use Rattle.tau_model.specs.History.{Act};
 ghost use Rattle.tau_machine.specs.Hands.{Txn, committed_of};
 ghost use Rattle.tau_machine.specs.State.{hand_of, sight};
-ghost use Rattle.tau_core.specs.View.{Hidden, core_of, setting_of};
+ghost use Rattle.tau_core.specs.View.{Hidden, core_of, pending_in, setting_of};
 ghost use Rattle.tau_core.specs.Stands.{Stands};
 ghost use Rattle.tau_core.specs.Phases.{hand_phase};
 ghost use Rattle.tau_core.specs.Steps.{HandsOut, IsThere, Steps};
@@ -135,6 +135,15 @@ impl Core {
     {
         let seat = &self.state.seats[worker as usize];
         phase_of_kind(seat.txn.kind())
+    }
+
+    /// Whether some call of the worker waits for its acknowledgement.
+    pub fn waits(&self, worker: u8) -> bool
+        requires there { worker < self.now.load.workers }
+        ensures { IsTrue result ↔ (1 ≤ length (pending_in (slice_get self.now.seats worker))) }
+    {
+        let seat = &self.state.seats[worker as usize];
+        !seat.pending.is_empty()
     }
 
     /// How far each stream is persisted.

@@ -1,5 +1,5 @@
 -- A pass of the clerk over a worker.
-use Rattle.std.proofs.Common.{ℕ, ◌<◌, ◌≡◌, ◌++◌, Bool, true, false, List, [], ◌∷◌, length, map, refl, sym, ap, subst, ◌∙◌, Option, arith, length-append}
+use Rattle.std.proofs.Common.{ℕ, ◌≤◌, ◌<◌, ◌≡◌, ◌++◌, Bool, true, false, List, [], ◌∷◌, length, map, refl, sym, ap, subst, ◌∙◌, Option, arith, length-append}
 use Rattle.std.specs.Prelude.{Some, slice_get, ◌||◌}
 use Rattle.std.specs.List.{list_any}
 use Rattle.std.proofs.lemmas.List.{append-nil, map-append}
@@ -106,6 +106,23 @@ module _ (p p' : Plain) (K : List (Act Txn)) (h : Hidden) (g : Stands p K h) (es
         moved = subst (λ (Q : Progress). clears w true p.load P Q) (sym same)
             (none (ap (λ (o : Option PlainSeat). list_any (λ (k : Ticket). covers p.plv k.lv) (pending_in o)) is ∙ none-covered p.plv s.pending.calls (covered s is)));
       }
+
+-- none waits
+none-any : (f : Ticket → Bool) (calls : List Ticket) (some : Bool) → some ≡ false → (1 ≤ length calls → some ≡ true) → list_any f calls ≡ false
+none-any f [] some e all = refl
+none-any f (c ∷ cs) some e all = absurd (let bad : true ≡ false = sym (all (omega arith)) ∙ e in cc)
+
+pub none-waits : (p : Plain) (K : List (Act Txn)) (h : Hidden) (es : List machine.Event) (told : List (ℕ × List ℕ)) (w : ℕ) (some : Bool) → some ≡ false → (1 ≤ length (pending_in (slice_get p.seats w)) → some ≡ true) →
+    Stands p K h → Comes (clears w true) p p told told K h es
+none-waits p K h es told w some e all g = record {
+  hidden = h;
+  order = K;
+  events = es;
+  stands = g;
+  load = refl;
+  taken = refl;
+  moved = none (none-any (λ (k : Ticket). covers p.plv k.lv) (pending_in (slice_get p.seats w)) some e all);
+}
 
 -- whatever the step answered but an acknowledgement
 pub nothing-told : (p p' : Plain) (K : List (Act Txn)) (h : Hidden) (g : Stands p K h) (es : List machine.Event) (told : List (ℕ × List ℕ)) (w : ℕ) → w < p.load.workers →

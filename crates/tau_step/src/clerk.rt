@@ -107,6 +107,9 @@ impl Clerk {
         ensures cause { self.new.sink_failed ≡ true → (self.old.sink_failed ≡ true) ⊎ Rose (K.faults sink.old) (K.faults sink.new) }
         ensures faults { K.faults sink.old ≤ K.faults sink.new }
     {
+        if !core.waits(worker) {
+            return Ok(());
+        }
         while self.next(core, sink, worker)? {}
         Ok(())
     }
