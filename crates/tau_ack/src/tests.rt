@@ -7,12 +7,14 @@ fn takes_covered_calls_in_order(rt: HostRuntime) {
     let second = first.with(1, 61);
     let third = Lv::zero(2).with(1, 40);
     let mut pending = Pending::new(rt.alloc());
+    assert!(rt; pending.is_empty());
     assert_eq!(rt; pending.reserve(), Ok(()));
     pending.put(1, first);
     assert_eq!(rt; pending.reserve(), Ok(()));
     pending.put(2, second);
     assert_eq!(rt; pending.reserve(), Ok(()));
     pending.put(3, third);
+    assert!(rt; !pending.is_empty());
     let plv = first.with(1, 60);
     assert_eq!(rt; pending.take_covered(&Lv::zero(2)), None);
     assert_eq!(rt;
@@ -37,5 +39,6 @@ fn takes_covered_calls_in_order(rt: HostRuntime) {
             lv: second
         })
     );
+    assert!(rt; pending.is_empty());
     assert_eq!(rt; pending.take_covered(&second), None);
 }
