@@ -2,6 +2,7 @@ pub mod Appending
 pub mod ContentLaws
 pub mod FieldLaws
 pub mod ItemLaws
+pub mod Joining
 pub mod Loop
 pub mod RecordLaws
 pub mod SizeLaws

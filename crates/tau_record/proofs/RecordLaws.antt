@@ -100,7 +100,7 @@ total_again w limit wide kind fields rest small =
     let less : n - 5 ≡ length fields = omega arith in
     ap (total_at w kind) regrouped ∙ rw (long, take_at text (fields ++ rest) (byte_len w) len, drop_at text (fields ++ rest) (byte_len w) len, wide.again n small, room, low, less, take_at fields rest (length fields) refl, drop_at fields rest (length fields) refl) refl
 
-frame_takes : (first : Bool) (bytes : List ℕ) (x : (ℕ × List ℕ) × List ℕ) → IsBytes bytes → frame_at first bytes ≡ Ok x → Takes bytes (framed x.0.0 x.0.1) x.1 × (kind_fits first x.0.0 ≡ true) × (5 + length x.0.1 < 2 ^ 32) × IsBytes x.0.1
+pub frame_takes : (first : Bool) (bytes : List ℕ) (x : (ℕ × List ℕ) × List ℕ) → IsBytes bytes → frame_at first bytes ≡ Ok x → Takes bytes (framed x.0.0 x.0.1) x.1 × (kind_fits first x.0.0 ≡ true) × (5 + length x.0.1 < 2 ^ 32) × IsBytes x.0.1
 unfolding frame_at
 frame_takes first [] x fits e = absurd cc
 frame_takes first (kind ∷ bytes) x fits e =

@@ -1,17 +1,19 @@
 -- A content: records one after the other, each with its place.
-use Rattle.std.specs.Prelude.{◌≡◌, ℕ, zero, suc, ◌<◌, ◌+◌, ◌-◌, List, [], ◌∷◌, ◌++◌, length, take, drop, Result, Ok, Err, ◌==◌}
+use Rattle.std.specs.Prelude.{◌≡◌, ℕ, zero, suc, ◌<◌, ◌+◌, ◌-◌, List, [], ◌∷◌, ◌++◌, length, take, drop, Result, Ok, Err, ◌==◌, if◌then◌else◌}
 use Rattle.std.specs.Global.{Vec}
 use Rattle.tau_record.specs.declared.entry.Entry.{Entry}
 use Rattle.tau_record.specs.declared.entry.Entry.TheVariants.{Written, Command, Anchor, Catalogue}
 use Rattle.tau_record.specs.declared.entry.Placed.{Placed}
 use Rattle.tau_record.specs.declared.fault.RecordCause.{RecordCause}
+use Rattle.tau_record.specs.declared.fault.RecordCause.TheVariants.{BadLength}
 use Rattle.tau_record.specs.declared.fault.FieldError.{FieldError}
 use Rattle.tau_record.specs.declared.fault.FieldError.TheVariants as errors
 use Rattle.tau_record.specs.declared.fault.RecordFault.{RecordFault}
 use Rattle.tau_record.specs.declared.fault.RecordRefusal.{RecordRefusal}
 use Rattle.tau_record.specs.declared.fault.RecordRefusal.TheVariants as refusals
+use Rattle.tau_record.specs.Field.{◌>>=◌, Fails}
 use Rattle.tau_record.specs.Format.{Format}
-use Rattle.tau_record.specs.Record.{named, spelling, Fits, record_at}
+use Rattle.tau_record.specs.Record.{named, spelling, Fits, lv_at, record_at}
 
 abbrev pub placed : Entry → ℕ → ℕ → Placed
 placed e start past = record { entry = e; start = start; past = past }
@@ -82,6 +84,29 @@ records_at f n (suc fuel) at vectors (b ∷ bytes) = found_at at (record_at f n 
 
 unfoldable pub content_at : Format → ℕ → List ℕ → Result (List Placed) RecordFault
 content_at f n content = records_at f n (length content) 0 (named n []) content
+
+-- the records with one more behind them, whose fields take all of its bytes, and the vectors that are named then
+abbrev pub put_at : List (List ℕ) → List Placed → ℕ → ℕ → Entry × List ℕ → Result (List Placed × List (List ℕ)) RecordCause
+put_at vectors before start past x = if length x.1 == 0 then Ok (before ++ placed x.0 start past ∷ [], named_after vectors x.0) else Err BadLength
+
+-- the same with the record that is read, where one is
+abbrev pub puts : Result (Entry × List ℕ) RecordCause → List (List ℕ) → List Placed → ℕ → ℕ → Result (List Placed × List (List ℕ)) RecordCause
+puts read vectors before start past = read >>= put_at vectors before start past
+
+abbrev pub anchor_at : ℕ → List ℕ → Result (Entry × List ℕ) RecordCause
+anchor_at n bytes = lv_at n bytes >>= λ v. Ok (Anchor v.0, v.1)
+
+-- the record at the front of the bytes stands behind those before it
+pub record Joined (f : Format) (n at : ℕ) (vectors names : List (List ℕ)) (bytes after : List ℕ) (before now : List Placed) : Type 0 where
+  pub entry : Entry
+  pub read : record_at f n vectors (at == 0) bytes ≡ Ok (entry, after)
+  pub behind : now ≡ before ++ placed entry at (at + (length bytes - length after)) ∷ []
+  pub names_are : names ≡ named_after vectors entry
+
+-- what a function did that returned, seen by view, the bytes after a record, unless memory ran out
+abbrev pub Joins : {X : Type 0} → (X → List ℕ) → Format → ℕ → ℕ → List (List ℕ) → List (List ℕ) → List ℕ → List Placed → List Placed → Result X FieldError → Type 0
+Joins view f n at vectors names bytes before now (Ok x) = Joined f n at vectors names bytes (view x) before now
+Joins view f n at vectors names bytes before now (Err e) = Fails e (record_at f n vectors (at == 0) bytes)
 
 -- the refusal of a record at a place
 abbrev pub refused : ℕ → FieldError → RecordRefusal

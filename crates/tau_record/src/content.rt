@@ -1,30 +1,175 @@
 //! Reading contents.
-ghost use Rattle.std.specs.Prelude.{◌≡◌, ◌≤◌, List, Err, IfOk, OnOk};
+ghost use Rattle.std.specs.Prelude.{◌≡◌, ◌<◌, ◌≤◌, ◌+◌, ◌^◌, List, Err, IfOk, length};
+ghost use Rattle.tau_record.specs.Field.{Gives};
 ghost use Rattle.tau_record.specs.Format.{One, most_streams};
-ghost use Rattle.tau_record.specs.Content.{named_after, IsContent, IsAnswer, FirstBad, content_at, GivesAll};
+ghost use Rattle.tau_record.specs.Content.{puts, anchor_at, Joins, IsContent, IsAnswer, FirstBad, content_at, GivesAll};
+ghost use Rattle.tau_record.specs.Record.{written_at, command_at, fields_at};
 ghost use Rattle.tau_record.specs.declared.entry.Placed.{Placed};
 ghost use Rattle.tau_record.specs.declared.fault.RecordFault.{RecordFault};
 ghost use Rattle.tau_record.specs.declared.fault.RecordRefusal.TheVariants.{Bad};
 
 use crate::entry::{Entry, Placed};
-use crate::fault::{RecordRefusal, refusal_at};
-use crate::record::record_of;
-use std::alloc::{AllocError, Global};
-use tau_base::Lv;
+use crate::fault::{FieldError, RecordCause, RecordRefusal, refusal_at};
+use crate::record::{command_of, frame_of, is_whole, lv_of, written_of};
+use arrayvec::ArrayVec;
+use std::alloc::Global;
+use tau_base::{Call, Listed, Lv, MAX_CATALOGUE};
 
-/// Gives the next number to an anchor.
-fn name(vectors: &mut Vec<Lv>, entry: &Entry) -> Result<(), AllocError>
-    ensures { OnOk result (vectors.new.items ≡ named_after vectors.old.items entry.now) }
+/// Puts a data record behind those before it.
+fn put_written(
+    alloc: Global,
+    vectors: &[Lv],
+    fields: &[u8],
+    start: u64,
+    past: u64,
+    placed: &mut Vec<Placed>,
+) -> Result<(), FieldError>
+    ensures { Gives (λ _. (placed.new.items, vectors.now)) result (puts (written_at One vectors.now fields.now) vectors.now placed.old.items start past) }
 {
-    match entry {
-        Entry::Anchor { lv } => {
-            let lv = *lv;
-            vectors.push(lv)?;
+    let mut dep = Lv::zero(1);
+    match written_of(alloc, vectors, fields, &mut dep) {
+        Err(e) => Err(e),
+        Ok((number, anchor, writes, rest)) => {
+            if !is_whole(rest) {
+                return Err(FieldError::Bad(RecordCause::BadLength));
+            }
+            placed.push(Placed {
+                entry: Entry::Written {
+                    number,
+                    anchor,
+                    dep,
+                    writes: Listed::of(writes),
+                },
+                start,
+                past,
+            })?;
             Ok(())
         }
-        Entry::Written { .. } => Ok(()),
-        Entry::Command { .. } => Ok(()),
-        Entry::Catalogue { .. } => Ok(()),
+    }
+}
+
+/// Puts a command record behind those before it.
+fn put_command(
+    vectors: &[Lv],
+    fields: &[u8],
+    start: u64,
+    past: u64,
+    placed: &mut Vec<Placed>,
+) -> Result<(), FieldError>
+    ensures { Gives (λ _. (placed.new.items, vectors.now)) result (puts (command_at One vectors.now fields.now) vectors.now placed.old.items start past) }
+{
+    let mut dep = Lv::zero(1);
+    let mut args = ArrayVec::new();
+    match command_of(vectors, fields, &mut dep, &mut args) {
+        Err(e) => Err(e),
+        Ok((number, anchor, proc, rest)) => {
+            if !is_whole(rest) {
+                return Err(FieldError::Bad(RecordCause::BadLength));
+            }
+            placed.push(Placed {
+                entry: Entry::Command {
+                    number,
+                    anchor,
+                    dep,
+                    call: Call { proc, args },
+                },
+                start,
+                past,
+            })?;
+            Ok(())
+        }
+    }
+}
+
+/// Puts an anchor behind the records before it, and gives it the next number.
+fn put_anchor(
+    n: usize,
+    fields: &[u8],
+    start: u64,
+    past: u64,
+    vectors: &mut Vec<Lv>,
+    placed: &mut Vec<Placed>,
+) -> Result<(), FieldError>
+    requires low { 1 ≤ n }
+    requires high { n ≤ most_streams One }
+    ensures { Gives (λ _. (placed.new.items, vectors.new.items)) result (puts (anchor_at n fields.now) vectors.old.items placed.old.items start past) }
+{
+    match lv_of(n, fields) {
+        Err(e) => Err(e),
+        Ok((lv, rest)) => {
+            if !is_whole(rest) {
+                return Err(FieldError::Bad(RecordCause::BadLength));
+            }
+            vectors.push(lv)?;
+            placed.push(Placed {
+                entry: Entry::Anchor { lv },
+                start,
+                past,
+            })?;
+            Ok(())
+        }
+    }
+}
+
+/// Puts a record of a kind behind those before it.
+#[tactic(auto, unfolding(crate::specs::Record::fields_at))]
+fn put_fields(
+    alloc: Global,
+    n: usize,
+    kind: u8,
+    fields: &[u8],
+    start: u64,
+    past: u64,
+    vectors: &mut Vec<Lv>,
+    placed: &mut Vec<Placed>,
+) -> Result<(), FieldError>
+    requires low { 1 ≤ n }
+    requires high { n ≤ most_streams One }
+    ensures { Gives (λ _. (placed.new.items, vectors.new.items)) result (puts (fields_at One n vectors.old.items kind fields.now) vectors.old.items placed.old.items start past) }
+{
+    if kind == 1 {
+        return put_written(alloc, vectors.as_slice(), fields, start, past, placed);
+    }
+    if kind == 2 {
+        return put_command(vectors.as_slice(), fields, start, past, placed);
+    }
+    if kind == 3 {
+        return put_anchor(n, fields, start, past, vectors, placed);
+    }
+    if fields.len() > MAX_CATALOGUE {
+        return Err(FieldError::Bad(RecordCause::BadBody));
+    }
+    let text = Vec::from_slice(alloc, fields)?;
+    placed.push(Placed {
+        entry: Entry::Catalogue {
+            text: Listed::of(text),
+        },
+        start,
+        past,
+    })?;
+    Ok(())
+}
+
+/// Puts the record at the front of the bytes behind those before it, and answers the bytes after it.
+#[tactic(auto, unfolding(crate::specs::Record::record_at))]
+fn put_record<'a>(
+    alloc: Global,
+    n: usize,
+    at: u64,
+    bytes: &'a [u8],
+    vectors: &mut Vec<Lv>,
+    placed: &mut Vec<Placed>,
+) -> Result<&'a [u8], FieldError>
+    requires low { 1 ≤ n }
+    requires high { n ≤ most_streams One }
+    requires fits { at + length bytes.now < 2 ^ 64 }
+    ensures { Joins (λ x. x.now) One n at vectors.old.items vectors.new.items bytes.now placed.old.items placed.new.items result }
+{
+    let (kind, fields, after) = frame_of(at == 0, bytes)?;
+    let past = at + (bytes.len() - after.len()) as u64;
+    match put_fields(alloc, n, kind, fields, at, past, vectors, placed) {
+        Ok(()) => Ok(after),
+        Err(e) => Err(e),
     }
 }
 
@@ -42,16 +187,10 @@ fn records(alloc: Global, n: usize, content: &[u8]) -> Result<Vec<Placed>, Recor
         if rest.is_empty() {
             return Ok(placed);
         }
-        match record_of(alloc, n, vectors.as_slice(), at == 0, rest) {
+        match put_record(alloc, n, at, rest, &mut vectors, &mut placed) {
             Err(e) => return Err(refusal_at(at, e)),
-            Ok((entry, after)) => {
+            Ok(after) => {
                 let past = at + (rest.len() - after.len()) as u64;
-                name(&mut vectors, &entry)?;
-                placed.push(Placed {
-                    entry,
-                    start: at,
-                    past,
-                })?;
                 at = past;
                 rest = after;
             }

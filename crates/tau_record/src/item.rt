@@ -1,5 +1,5 @@
 //! Values, keys and writes.
-ghost use Rattle.std.specs.Prelude.{◌≡◌, ◌<◌, ◌≤◌, ◌+◌, ◌*◌, ◌++◌, length, OnOk, Some, None, if◌then◌else◌};
+ghost use Rattle.std.specs.Prelude.{◌≡◌, ◌<◌, ◌≤◌, ◌+◌, ◌*◌, ◌++◌, [], length, OnOk, Some, None, if◌then◌else◌};
 ghost use Rattle.std.specs.Str.{is_utf8};
 ghost use Rattle.std.specs.List.{flat_map, AllByRecursion};
 ghost use Rattle.tau_record.specs.Field.{Gives};
@@ -121,14 +121,16 @@ pub(crate) fn writes_of(
     Ok((writes, rest))
 }
 
-pub(crate) fn args_of(
+/// Reads the arguments of a call into `args`.
+pub(crate) fn args_of<'a>(
     count: u8,
-    bytes: &[u8],
-) -> Result<(ArrayVec<Value, MAX_ARGS>, &[u8]), FieldError>
-    requires { count ≤ MAX_ARGS }
-    ensures { Gives (λ x. (x.0.items, x.1.now)) result (args_at count bytes.now) }
+    bytes: &'a [u8],
+    args: &mut ArrayVec<Value, MAX_ARGS>,
+) -> Result<&'a [u8], FieldError>
+    requires few { count ≤ MAX_ARGS }
+    requires empty { args.old.items ≡ [] }
+    ensures { Gives (λ x. (args.new.items, x.now)) result (args_at count bytes.now) }
 {
-    let mut args = ArrayVec::new();
     let mut rest = bytes;
     for _ in 0..count {
         match value_of(rest) {
@@ -139,7 +141,7 @@ pub(crate) fn args_of(
             }
         }
     }
-    Ok((args, rest))
+    Ok(rest)
 }
 
 // ---- writing

@@ -1,28 +1,27 @@
-//! Reading records.
-ghost use Rattle.std.specs.Prelude.{◌≡◌, ◌≤◌};
+//! Reading the parts of records. A record is large, so its parts are read one by one, vectors into a place that the
+//! caller gives, and put together once, where it is kept.
+ghost use Rattle.std.specs.Prelude.{◌≡◌, ◌≤◌, ◌==◌, [], length};
 ghost use Rattle.tau_record.specs.Field.{Gives};
 ghost use Rattle.tau_record.specs.Format.{One, most_streams};
-ghost use Rattle.tau_record.specs.Record.{origin_at, written_at, command_at, lv_at, fields_at, body_at, kind_fits, frame_at, record_at};
+ghost use Rattle.tau_record.specs.Record.{origin_at, written_at, command_at, lv_at, kind_fits, frame_at};
+ghost use Rattle.tau_record.specs.declared.entry.Entry.TheVariants.{Written, Command};
 
-use crate::entry::Entry;
 use crate::fault::{FieldError, RecordCause};
 use crate::field::{byte_of, u16_of, u32_of, u64_of};
 use crate::item::{args_of, writes_of};
 use crate::vector::vector_of;
+use arrayvec::ArrayVec;
 use std::alloc::Global;
-use tau_base::{Call, Listed, Lv, MAX_ARGS, MAX_CATALOGUE, MAX_LSN, MAX_WRITES};
+use tau_base::{Key, Lv, MAX_ARGS, MAX_LSN, MAX_WRITES, Value};
 
-/// Whose record it is.
-#[derive(Drop)]
-struct Origin {
-    number: u64,
-    anchor: u32,
-    dep: Lv,
-}
-
+/// The number of a record's call and that of its anchor. Its vector goes into `dep`.
 #[tactic(auto, unfolding(crate::specs::Record::origin_at))]
-fn origin_of<'a>(vectors: &[Lv], bytes: &'a [u8]) -> Result<(Origin, &'a [u8]), FieldError>
-    ensures { Gives (λ x. (record { number = x.0.number; anchor = x.0.anchor; dep = x.0.dep }, x.1.now)) result (origin_at One vectors.now bytes.now) }
+fn origin_of<'a>(
+    vectors: &[Lv],
+    bytes: &'a [u8],
+    dep: &mut Lv,
+) -> Result<(u64, u32, &'a [u8]), FieldError>
+    ensures { Gives (λ x. (record { number = x.0; anchor = x.1; dep = dep.new }, x.2.now)) result (origin_at One vectors.now bytes.now) }
 {
     let (number, rest) = u64_of(bytes)?;
     if number == 0 {
@@ -32,30 +31,25 @@ fn origin_of<'a>(vectors: &[Lv], bytes: &'a [u8]) -> Result<(Origin, &'a [u8]), 
     if vectors.len() <= anchor as usize {
         return Err(FieldError::Bad(RecordCause::BadAnchor));
     }
-    match vector_of(&vectors[anchor as usize], rest) {
-        Ok((dep, rest)) => Ok((
-            Origin {
-                number,
-                anchor,
-                dep,
-            },
-            rest,
-        )),
+    match vector_of(&vectors[anchor as usize], rest, dep) {
+        Ok(rest) => Ok((number, anchor, rest)),
         Err(e) => Err(e),
     }
 }
 
+/// The fields of a data record but its vector, which goes into `dep`.
 #[tactic(auto, unfolding(crate::specs::Record::written_at))]
-fn written_of<'a>(
+pub(crate) fn written_of<'a>(
     alloc: Global,
     vectors: &[Lv],
     bytes: &'a [u8],
-) -> Result<(Entry, &'a [u8]), FieldError>
-    ensures { Gives (λ x. (x.0, x.1.now)) result (written_at One vectors.now bytes.now) }
+    dep: &mut Lv,
+) -> Result<(u64, u32, Vec<(Key, Value)>, &'a [u8]), FieldError>
+    ensures { Gives (λ x. (Written x.0 x.1 dep.new x.2.items, x.3.now)) result (written_at One vectors.now bytes.now) }
 {
-    match origin_of(vectors, bytes) {
+    match origin_of(vectors, bytes, dep) {
         Err(e) => Err(e),
-        Ok((origin, rest)) => {
+        Ok((number, anchor, rest)) => {
             let (count, rest) = u16_of(rest)?;
             if count == 0 {
                 return Err(FieldError::Bad(RecordCause::BadBody));
@@ -65,49 +59,41 @@ fn written_of<'a>(
             }
             match writes_of(alloc, count, rest) {
                 Err(e) => Err(e),
-                Ok((writes, rest)) => Ok((
-                    Entry::Written {
-                        number: origin.number,
-                        anchor: origin.anchor,
-                        dep: origin.dep,
-                        writes: Listed::of(writes),
-                    },
-                    rest,
-                )),
+                Ok((writes, rest)) => Ok((number, anchor, writes, rest)),
             }
         }
     }
 }
 
+/// The fields of a command record but its vector, which goes into `dep`, and its arguments, which go into `args`.
 #[tactic(auto, unfolding(crate::specs::Record::command_at))]
-fn command_of<'a>(vectors: &[Lv], bytes: &'a [u8]) -> Result<(Entry, &'a [u8]), FieldError>
-    ensures { Gives (λ x. (x.0, x.1.now)) result (command_at One vectors.now bytes.now) }
+pub(crate) fn command_of<'a>(
+    vectors: &[Lv],
+    bytes: &'a [u8],
+    dep: &mut Lv,
+    args: &mut ArrayVec<Value, MAX_ARGS>,
+) -> Result<(u64, u32, u16, &'a [u8]), FieldError>
+    requires { args.old.items ≡ [] }
+    ensures { Gives (λ x. (Command x.0 x.1 dep.new (record { proc = x.2; args = args.new }), x.3.now)) result (command_at One vectors.now bytes.now) }
 {
-    match origin_of(vectors, bytes) {
+    match origin_of(vectors, bytes, dep) {
         Err(e) => Err(e),
-        Ok((origin, rest)) => {
+        Ok((number, anchor, rest)) => {
             let (proc, rest) = u16_of(rest)?;
             let (count, rest) = byte_of(rest)?;
             if count as usize > MAX_ARGS {
                 return Err(FieldError::Bad(RecordCause::BadBody));
             }
-            match args_of(count, rest) {
+            match args_of(count, rest, args) {
                 Err(e) => Err(e),
-                Ok((args, rest)) => Ok((
-                    Entry::Command {
-                        number: origin.number,
-                        anchor: origin.anchor,
-                        dep: origin.dep,
-                        call: Call { proc, args },
-                    },
-                    rest,
-                )),
+                Ok(rest) => Ok((number, anchor, proc, rest)),
             }
         }
     }
 }
 
-fn lv_of(n: usize, bytes: &[u8]) -> Result<(Lv, &[u8]), FieldError>
+/// The vector of an anchor.
+pub(crate) fn lv_of(n: usize, bytes: &[u8]) -> Result<(Lv, &[u8]), FieldError>
     requires low { 1 ≤ n }
     requires high { n ≤ most_streams One }
     ensures { Gives (λ x. (x.0, x.1.now)) result (lv_at n bytes.now) }
@@ -125,63 +111,11 @@ fn lv_of(n: usize, bytes: &[u8]) -> Result<(Lv, &[u8]), FieldError>
     Ok((lv, rest))
 }
 
-#[tactic(auto, unfolding(crate::specs::Record::fields_at))]
-fn fields_of<'a>(
-    alloc: Global,
-    n: usize,
-    vectors: &[Lv],
-    kind: u8,
-    bytes: &'a [u8],
-) -> Result<(Entry, &'a [u8]), FieldError>
-    requires low { 1 ≤ n }
-    requires high { n ≤ most_streams One }
-    ensures { Gives (λ x. (x.0, x.1.now)) result (fields_at One n vectors.now kind bytes.now) }
+/// Whether the fields of a record take all of its bytes: nothing is left behind them.
+pub(crate) fn is_whole(rest: &[u8]) -> bool
+    ensures { result ≡ (length rest.now == 0) }
 {
-    if kind == 1 {
-        return written_of(alloc, vectors, bytes);
-    }
-    if kind == 2 {
-        return command_of(vectors, bytes);
-    }
-    if kind == 3 {
-        return match lv_of(n, bytes) {
-            Ok((lv, rest)) => Ok((Entry::Anchor { lv }, rest)),
-            Err(e) => Err(e),
-        };
-    }
-    if bytes.len() > MAX_CATALOGUE {
-        return Err(FieldError::Bad(RecordCause::BadBody));
-    }
-    let text = Vec::from_slice(alloc, bytes)?;
-    Ok((
-        Entry::Catalogue {
-            text: Listed::of(text),
-        },
-        &[],
-    ))
-}
-
-#[tactic(auto, unfolding(crate::specs::Record::body_at))]
-fn body_of(
-    alloc: Global,
-    n: usize,
-    vectors: &[Lv],
-    kind: u8,
-    bytes: &[u8],
-) -> Result<Entry, FieldError>
-    requires low { 1 ≤ n }
-    requires high { n ≤ most_streams One }
-    ensures { Gives (λ x. x) result (body_at One n vectors.now kind bytes.now) }
-{
-    match fields_of(alloc, n, vectors, kind, bytes) {
-        Err(e) => Err(e),
-        Ok((entry, rest)) => {
-            if !rest.is_empty() {
-                return Err(FieldError::Bad(RecordCause::BadLength));
-            }
-            Ok(entry)
-        }
-    }
+    rest.is_empty()
 }
 
 fn is_kind(first: bool, kind: u8) -> bool
@@ -196,8 +130,9 @@ fn is_kind(first: bool, kind: u8) -> bool
     }
 }
 
+/// The kind and the fields of the record at the front of the bytes, and the bytes after it.
 #[tactic(auto, unfolding(crate::specs::Record::frame_at))]
-fn frame_of(first: bool, bytes: &[u8]) -> Result<(u8, &[u8], &[u8]), FieldError>
+pub(crate) fn frame_of(first: bool, bytes: &[u8]) -> Result<(u8, &[u8], &[u8]), FieldError>
     ensures { Gives (λ x. ((x.0, x.1.now), x.2.now)) result (frame_at first bytes.now) }
 {
     match bytes {
@@ -220,25 +155,5 @@ fn frame_of(first: bool, bytes: &[u8]) -> Result<(u8, &[u8], &[u8]), FieldError>
             let (fields, after) = left.split_at(total - 5);
             Ok((*kind, fields, after))
         }
-    }
-}
-
-/// The record at the front of the bytes, and the bytes after it.
-#[tactic(auto, unfolding(crate::specs::Record::record_at))]
-pub(crate) fn record_of<'a>(
-    alloc: Global,
-    n: usize,
-    vectors: &[Lv],
-    first: bool,
-    bytes: &'a [u8],
-) -> Result<(Entry, &'a [u8]), FieldError>
-    requires low { 1 ≤ n }
-    requires high { n ≤ most_streams One }
-    ensures { Gives (λ x. (x.0, x.1.now)) result (record_at One n vectors.now first bytes.now) }
-{
-    let (kind, fields, after) = frame_of(first, bytes)?;
-    match body_of(alloc, n, vectors, kind, fields) {
-        Ok(entry) => Ok((entry, after)),
-        Err(e) => Err(e),
     }
 }

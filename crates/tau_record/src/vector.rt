@@ -33,10 +33,10 @@ fn part_of(low: u64, bit: u16, bytes: &[u8]) -> Result<(u64, &[u8]), FieldError>
     Ok((part, rest))
 }
 
-fn parts_of<'a>(base: &Lv, mask: u16, bytes: &'a [u8]) -> Result<(Lv, &'a [u8]), FieldError>
-    ensures { Gives (λ x. (x.0, x.1.now)) result (parts_at base.now mask bytes.now) }
+fn parts_of<'a>(base: &Lv, mask: u16, bytes: &'a [u8], dep: &mut Lv) -> Result<&'a [u8], FieldError>
+    ensures { Gives (λ x. (dep.new, x.now)) result (parts_at base.now mask bytes.now) }
 {
-    let mut dep = *base;
+    *dep = *base;
     let mut left = mask;
     let mut rest = bytes;
     for j in 0..base.width() {
@@ -45,18 +45,23 @@ fn parts_of<'a>(base: &Lv, mask: u16, bytes: &'a [u8]) -> Result<(Lv, &'a [u8]),
         left /= 2;
         rest = after;
     }
-    Ok((dep, rest))
+    Ok(rest)
 }
 
+/// Reads a vector above a base into `dep`.
 #[tactic(auto, unfolding(crate::specs::Vector::vector_at, crate::specs::Format::mask_width))]
-pub(crate) fn vector_of<'a>(base: &Lv, bytes: &'a [u8]) -> Result<(Lv, &'a [u8]), FieldError>
-    ensures { Gives (λ x. (x.0, x.1.now)) result (vector_at One base.now bytes.now) }
+pub(crate) fn vector_of<'a>(
+    base: &Lv,
+    bytes: &'a [u8],
+    dep: &mut Lv,
+) -> Result<&'a [u8], FieldError>
+    ensures { Gives (λ x. (dep.new, x.now)) result (vector_at One base.now bytes.now) }
 {
     let (mask, rest) = u16_of(bytes)?;
     if u64::from(mask) >= 1 << base.width() {
         return Err(FieldError::Bad(RecordCause::BadMask));
     }
-    parts_of(base, mask, rest)
+    parts_of(base, mask, rest, dep)
 }
 
 // ---- writing

@@ -21,22 +21,23 @@ pub returns-then-is_empty : goal.returns-then-is_empty
 returns-then-is_empty c = is_done One c.args.n (length c.args.content.now - c.loop.counter) c.loop.at c.loop.vectors.items c.loop.rest.now c.loop.placed.items (content_at One c.args.n c.args.content.now) (eqb-true _ _ (sym c.is_empty.ensures ∙ c.if-is_empty.true)) c.loop.invariant.reads
 
 pub returns-in-Err : goal.returns-in-Err
-returns-in-Err c = rw c.refusal_at.ensures (ends One c.args.n (length c.args.content.now) c.loop.counter c.loop.at c.loop.vectors.items c.loop.rest.now c.in-Err.e c.loop.placed.items (content_at One c.args.n c.args.content.now) c.loop-test.true (eqb-false _ _ (sym c.is_empty.ensures ∙ c.if-is_empty.false)) (rw c.as_slice.ensures.value at c.in-Err.ensures) c.loop.invariant.reads)
+returns-in-Err c = rw c.refusal_at.ensures (ends One c.args.n (length c.args.content.now) c.loop.counter c.loop.at c.loop.vectors.items c.loop.rest.now c.in-Err.e c.loop.placed.items (content_at One c.args.n c.args.content.now) c.loop-test.true (eqb-false _ _ (sym c.is_empty.ensures ∙ c.if-is_empty.false)) c.in-Err.ensures c.loop.invariant.reads)
 
 pub overflow_sub-past : goal.overflow_sub-past
 overflow_sub-past c =
-    let left = leaves One c.args.n c.loop.at c.loop.vectors.items c.loop.rest.now c.in-Ok.entry c.in-Ok.after.now c.loop.invariant.bytes c.loop.invariant.are (rw c.as_slice.ensures.value at c.in-Ok.ensures) in
+    let left = leaves One c.args.n c.loop.at c.loop.vectors.items c.loop.rest.now c.in-Ok.ensures.entry c.in-Ok.after.now c.loop.invariant.bytes c.loop.invariant.are c.in-Ok.ensures.read in
     omega (arith, left.shorter)
 
 pub loop-preserved : goal.loop-preserved
 loop-preserved c =
-    let left = leaves One c.args.n c.loop.at c.loop.vectors.items c.loop.rest.now c.in-Ok.entry c.in-Ok.after.now c.loop.invariant.bytes c.loop.invariant.are (rw c.as_slice.ensures.value at c.in-Ok.ensures) in
+    let put = c.in-Ok.ensures in
+    let left = leaves One c.args.n c.loop.at c.loop.vectors.items c.loop.rest.now put.entry c.in-Ok.after.now c.loop.invariant.bytes c.loop.invariant.are put.read in
     record {
       place = omega (arith, left.shorter, c.loop.invariant.place);
       fuel = omega (arith, left.shorter, c.loop.invariant.fuel);
-      are = rw c.in_ok-name-in-Ok.ensures left.are;
+      are = rw put.names_are left.are;
       bytes = left.bytes;
-      reads = rw (c.in_ok-name-in-Ok.ensures, c.in_ok-push-in-Ok.ensures.items) (goes_on One c.args.n (length c.args.content.now) c.loop.counter c.loop.at (c.loop.at + (length c.loop.rest.now - length c.in-Ok.after.now)) c.loop.vectors.items c.loop.rest.now c.in-Ok.entry c.in-Ok.after.now c.loop.placed.items (content_at One c.args.n c.args.content.now) c.loop-test.true (eqb-false _ _ (sym c.is_empty.ensures ∙ c.if-is_empty.false)) refl (rw c.as_slice.ensures.value at c.in-Ok.ensures) c.loop.invariant.reads);
+      reads = rw (put.names_are, put.behind) (goes_on One c.args.n (length c.args.content.now) c.loop.counter c.loop.at (c.loop.at + (length c.loop.rest.now - length c.in-Ok.after.now)) c.loop.vectors.items c.loop.rest.now put.entry c.in-Ok.after.now c.loop.placed.items (content_at One c.args.n c.args.content.now) c.loop-test.true (eqb-false _ _ (sym c.is_empty.ensures ∙ c.if-is_empty.false)) refl put.read c.loop.invariant.reads);
     }
 
 pub returns : goal.returns
