@@ -1,5 +1,5 @@
 -- Lines of a text, one after the other.
-use Rattle.std.proofs.Common.{◌≡◌, ℕ, ◌+◌, ◌-◌, ◌≤◌, ◌<◌, Bool, true, false, nat_le, List, [], ◌∷◌, length, take, Option, None, Result, Ok, Err, IsUtf8, refl, sym, ap, ◌∙◌, arith}
+use Rattle.std.proofs.Common.{◌≡◌, ℕ, ◌+◌, ◌-◌, ◌≤◌, ◌<◌, Bool, true, false, nat_le, List, [], ◌∷◌, length, take, None, Result, Ok, Err, IsUtf8, refl, sym, ap, ◌∙◌, arith}
 use Rattle.std.proofs.lemmas.Grind.{common_steps}
 use Rattle.std.proofs.lemmas.List.{length-take-le}
 use Rattle.std.proofs.lemmas.Str.{is_utf8-from_IsUtf8, IsUtf8-from_is_utf8}
@@ -12,7 +12,6 @@ use Rattle.tau_text.specs.declared.fault.LineRefusal.{LineRefusal}
 use Rattle.tau_text.specs.declared.fault.LineRefusal.TheVariants as of_lines
 use Rattle.tau_text.specs.declared.fault.TextFault.{TextFault}
 use Rattle.tau_text.specs.declared.heads.Head.{Head}
-use Rattle.tau_text.specs.declared.reading.Begun.{Begun}
 use Rattle.tau_text.specs.Lines.{lines, body}
 use Rattle.tau_text.specs.Given.{Fails, ◌>>=◌}
 use Rattle.tau_text.specs.Forms.{head}
@@ -62,14 +61,12 @@ reads_long s u n t r a line e f lt le h large = rw (e, f, h, past_line t r a lt 
 goes : {A B : Type 0} (r : Result A TextCause) (x : A) (f : A → Result B TextCause) → r ≡ Ok x → (r >>= f) ≡ f x
 goes r x f e = rw e refl
 
-pub statement_outside : (s : Reading) (n : ℕ) (w : List ℕ) (ws : List (List ℕ)) (h : Head) → s.begun ≡ None → head w ≡ Ok h → is_before h s ≡ true → statement_read s n s.begun w ws ≡ outer_read (record s { begun = None }) n h (w ∷ ws) ws
+pub statement_outside : (s : Reading) (n : ℕ) (w : List ℕ) (ws : List (List ℕ)) (h : Head) → head w ≡ Ok h → is_before h s ≡ true → statement_read s n None w ws ≡ outer_read s n h (w ∷ ws) ws
 unfolding statement_read
-statement_outside s n w ws h e g b =
+statement_outside s n w ws h g b =
     let p : placed s h ≡ Ok h = rw b refl in
-    ap (λ (x : Option Begun). statement_read s n x w ws) e
-    ∙ goes (head w) h (λ k. placed s k >>= λ here. outer_read s n here (w ∷ ws) ws) g
+    goes (head w) h (λ k. placed s k >>= λ here. outer_read s n here (w ∷ ws) ws) g
     ∙ goes (placed s h) h (λ here. outer_read s n here (w ∷ ws) ws) p
-    ∙ ap (λ (x : Option Begun). outer_read (record s { begun = x }) n h (w ∷ ws) ws) e
 
 pub reads_end : (s : Reading) (n past : ℕ) (text : List ℕ) → length text ≡ 0 → lines_read s n past (lines text) ≡ Ok s
 unfolding lines_read lines

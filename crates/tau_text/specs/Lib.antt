@@ -2,6 +2,7 @@ pub mod Lines
 pub mod Given
 pub mod Spelled
 pub mod Forms
+pub mod Called
 pub mod Canonical
 pub mod Text
 pub mod Alone

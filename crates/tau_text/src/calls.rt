@@ -1,83 +1,133 @@
-//! The calls of a text.
-ghost use Rattle.std.specs.Prelude.{◌≡◌, ◌≤◌, ◌<◌, ◌+◌, Ok, length, map, slice_get, IfOk, IfSome, IsTrue, All};
+//! The calls of a text. Each function puts the arguments of a call into an empty list, and on an error may have put some.
+ghost use Rattle.std.specs.Prelude.{◌≡◌, ◌≤◌, ◌<◌, ◌+◌, Ok, [], List, length, map, slice_get, IfOk, OnOk, IfSome, IsTrue, All};
 ghost use Rattle.tau_text.specs.Lines.{words};
 ghost use Rattle.tau_text.specs.Given.{Gives};
-ghost use Rattle.tau_text.specs.Forms.{key_words, put_call, add_call, key_call, number_value, literals, proc_call, args_at};
+ghost use Rattle.tau_text.specs.Forms.{key_words, put_call, add_call, key_call, call_of, number_value, literals, proc_call, args_at};
+ghost use Rattle.tau_text.specs.Called.{called, numbered};
+ghost use Rattle.tau_proc.specs.declared.proc.Proc.{Proc};
 ghost use Rattle.tau_proc.specs.Limits.{IsWellFormed, KeepsLimits};
 ghost use Rattle.tau_proc.specs.Takes.{takes, takes_put, takes_add, takes_row};
 
-use crate::fault::LineRefusal;
+use crate::fault::{LineRefusal, TextCause};
+use crate::heads::Head;
 use crate::lines::{first_word, no_more};
 use crate::spelled::{known_proc, known_table, literal, whole};
 use arrayvec::ArrayVec;
-use tau_base::{Call, MAX_ARGS, MAX_TABLES, Name, Value};
-use tau_proc::{FIRST_DECLARED, Proc};
+use tau_base::{MAX_ARGS, MAX_TABLES, Name, Value};
+use tau_proc::{ADD, DEL, FIRST_DECLARED, GET, PUT, Proc};
 
 pub type Args = ArrayVec<Value, 8>;
 
+/// A table and a row, and what is behind them.
 #[tactic(auto, unfolding(crate::specs::Forms::key_words))]
-fn key_words<'a>(tables: &[Name], rest: &'a [u8]) -> Result<(Args, &'a [u8]), LineRefusal>
-    requires { length tables.now ≤ MAX_TABLES }
-    ensures given { Gives (λ x. (x.0.items, words x.1.now)) result (key_words tables.now (words rest.now)) }
-    ensures two { IfOk result (λ x. length x.0.items ≡ 2) }
-    ensures taken { IfOk result (λ x. IsTrue (takes_row x.0.items)) }
+fn key_words<'a>(tables: &[Name], rest: &'a [u8], args: &mut Args) -> Result<&'a [u8], LineRefusal>
+    requires few { length tables.now ≤ MAX_TABLES }
+    requires empty { args.old.items ≡ [] }
+    ensures given { Gives (λ x. (args.new.items, words x.now)) result (key_words tables.now (words rest.now)) }
+    ensures two { OnOk result (length args.new.items ≡ 2) }
+    ensures taken { OnOk result (IsTrue (takes_row args.new.items)) }
 {
     let (word, rest) = first_word(rest)?;
     let table = known_table(tables, word)?;
     let (word, rest) = first_word(rest)?;
     let row = whole(word)?;
-    let mut args = ArrayVec::new();
     args.push(Value::Int(i64::from(table)));
     args.push(Value::Int(row));
-    Ok((args, rest))
+    Ok(rest)
 }
 
+/// The arguments of a `put`.
 #[tactic(auto, unfolding(crate::specs::Forms::put_call), using(crate::proofs::Taken::put_taken))]
-pub fn put_call(tables: &[Name], rest: &[u8]) -> Result<Args, LineRefusal>
-    requires { length tables.now ≤ MAX_TABLES }
-    ensures given { Gives (λ x. x.items) result (put_call tables.now (words rest.now)) }
-    ensures taken { IfOk result (λ x. IsTrue (takes_put x.items)) }
+fn put_args(tables: &[Name], rest: &[u8], args: &mut Args) -> Result<(), LineRefusal>
+    requires few { length tables.now ≤ MAX_TABLES }
+    requires empty { args.old.items ≡ [] }
+    ensures given { Gives (λ _. args.new.items) result (put_call tables.now (words rest.now)) }
+    ensures taken { OnOk result (IsTrue (takes_put args.new.items)) }
 {
-    let (mut args, rest) = key_words(tables, rest)?;
+    let rest = key_words(tables, rest, args)?;
     let (word, rest) = first_word(rest)?;
     let value = literal(word)?;
     no_more(rest)?;
     args.push(value);
-    Ok(args)
+    Ok(())
 }
 
+/// The arguments of an `add`.
 #[tactic(auto, unfolding(crate::specs::Forms::add_call), using(crate::proofs::Taken::add_taken))]
-pub fn add_call(tables: &[Name], rest: &[u8]) -> Result<Args, LineRefusal>
-    requires { length tables.now ≤ MAX_TABLES }
-    ensures given { Gives (λ x. x.items) result (add_call tables.now (words rest.now)) }
-    ensures taken { IfOk result (λ x. IsTrue (takes_add x.items)) }
+fn add_args(tables: &[Name], rest: &[u8], args: &mut Args) -> Result<(), LineRefusal>
+    requires few { length tables.now ≤ MAX_TABLES }
+    requires empty { args.old.items ≡ [] }
+    ensures given { Gives (λ _. args.new.items) result (add_call tables.now (words rest.now)) }
+    ensures taken { OnOk result (IsTrue (takes_add args.new.items)) }
 {
-    let (mut args, rest) = key_words(tables, rest)?;
+    let rest = key_words(tables, rest, args)?;
     let (word, rest) = first_word(rest)?;
     let number = whole(word)?;
     no_more(rest)?;
     args.push(Value::Int(number));
-    Ok(args)
+    Ok(())
 }
 
+/// The arguments of a `get` and of a `del`.
 #[tactic(auto, unfolding(crate::specs::Forms::key_call))]
-pub fn key_call(tables: &[Name], rest: &[u8]) -> Result<Args, LineRefusal>
-    requires { length tables.now ≤ MAX_TABLES }
-    ensures given { Gives (λ x. x.items) result (key_call tables.now (words rest.now)) }
-    ensures taken { IfOk result (λ x. IsTrue (takes_row x.items)) }
+fn key_args(tables: &[Name], rest: &[u8], args: &mut Args) -> Result<(), LineRefusal>
+    requires few { length tables.now ≤ MAX_TABLES }
+    requires empty { args.old.items ≡ [] }
+    ensures given { Gives (λ _. args.new.items) result (key_call tables.now (words rest.now)) }
+    ensures taken { OnOk result (IsTrue (takes_row args.new.items)) }
 {
-    let (args, rest) = key_words(tables, rest)?;
+    let rest = key_words(tables, rest, args)?;
     no_more(rest)?;
-    Ok(args)
+    Ok(())
+}
+
+fn put_line(tables: &[Name], rest: &[u8], args: &mut Args) -> Result<u16, LineRefusal>
+    requires few { length tables.now ≤ MAX_TABLES }
+    requires empty { args.old.items ≡ [] }
+    ensures given { Gives (λ p. call_of p args.new.items) result (numbered PUT (put_call tables.now (words rest.now))) }
+    ensures taken { IfOk result (λ p. (procs : List Proc) → IsTrue (takes procs (call_of p args.new.items))) }
+{
+    put_args(tables, rest, args)?;
+    Ok(PUT)
+}
+
+fn add_line(tables: &[Name], rest: &[u8], args: &mut Args) -> Result<u16, LineRefusal>
+    requires few { length tables.now ≤ MAX_TABLES }
+    requires empty { args.old.items ≡ [] }
+    ensures given { Gives (λ p. call_of p args.new.items) result (numbered ADD (add_call tables.now (words rest.now))) }
+    ensures taken { IfOk result (λ p. (procs : List Proc) → IsTrue (takes procs (call_of p args.new.items))) }
+{
+    add_args(tables, rest, args)?;
+    Ok(ADD)
+}
+
+fn get_line(tables: &[Name], rest: &[u8], args: &mut Args) -> Result<u16, LineRefusal>
+    requires few { length tables.now ≤ MAX_TABLES }
+    requires empty { args.old.items ≡ [] }
+    ensures given { Gives (λ p. call_of p args.new.items) result (numbered GET (key_call tables.now (words rest.now))) }
+    ensures taken { IfOk result (λ p. (procs : List Proc) → IsTrue (takes procs (call_of p args.new.items))) }
+{
+    key_args(tables, rest, args)?;
+    Ok(GET)
+}
+
+fn del_line(tables: &[Name], rest: &[u8], args: &mut Args) -> Result<u16, LineRefusal>
+    requires few { length tables.now ≤ MAX_TABLES }
+    requires empty { args.old.items ≡ [] }
+    ensures given { Gives (λ p. call_of p args.new.items) result (numbered DEL (key_call tables.now (words rest.now))) }
+    ensures taken { IfOk result (λ p. (procs : List Proc) → IsTrue (takes procs (call_of p args.new.items))) }
+{
+    key_args(tables, rest, args)?;
+    Ok(DEL)
 }
 
 /// The next so many words, each a literal.
-fn literals(n: u8, rest: &[u8]) -> Result<(Args, &[u8]), LineRefusal>
-    requires { n ≤ MAX_ARGS }
-    ensures given { Gives (λ x. (x.0.items, words x.1.now)) result (literals n (words rest.now)) }
-    ensures all { IfOk result (λ x. length x.0.items ≡ n) }
+fn literals<'a>(n: u8, rest: &'a [u8], args: &mut Args) -> Result<&'a [u8], LineRefusal>
+    requires few { n ≤ MAX_ARGS }
+    requires empty { args.old.items ≡ [] }
+    ensures given { Gives (λ x. (args.new.items, words x.now)) result (literals n (words rest.now)) }
+    ensures all { OnOk result (length args.new.items ≡ n) }
 {
-    let mut args = ArrayVec::new();
     let mut rest = rest;
     for _ in 0..n {
         let (word, after) = first_word(rest)?;
@@ -85,24 +135,22 @@ fn literals(n: u8, rest: &[u8]) -> Result<(Args, &[u8]), LineRefusal>
         args.push(value);
         rest = after;
     }
-    Ok((args, rest))
+    Ok(rest)
 }
 
 /// A call of a declared procedure.
 #[tactic(auto, unfolding(crate::specs::Forms::proc_call))]
-pub fn proc_call(procs: &[Proc], rest: &[u8]) -> Result<Call, LineRefusal>
-    requires { KeepsLimits procs.now }
-    ensures given { Gives (λ x. x) result (proc_call procs.now (words rest.now)) }
-    ensures taken { IfOk result (λ c. IsTrue (takes procs.now c)) }
+fn declared_line(procs: &[Proc], rest: &[u8], args: &mut Args) -> Result<u16, LineRefusal>
+    requires limits { KeepsLimits procs.now }
+    requires empty { args.old.items ≡ [] }
+    ensures given { Gives (λ p. call_of p args.new.items) result (proc_call procs.now (words rest.now)) }
+    ensures taken { IfOk result (λ p. IsTrue (takes procs.now (call_of p args.new.items))) }
 {
     let (word, rest) = first_word(rest)?;
     let i = known_proc(procs, word)?;
-    let (args, rest) = literals(args_of(procs, i), rest)?;
+    let rest = literals(args_of(procs, i), rest, args)?;
     no_more(rest)?;
-    Ok(Call {
-        proc: FIRST_DECLARED + i as u16,
-        args,
-    })
+    Ok(FIRST_DECLARED + i as u16)
 }
 
 /// How many arguments the procedure at a place takes.
@@ -115,4 +163,31 @@ fn args_of(procs: &[Proc], i: usize) -> u8
     ensures declared { IfSome (slice_get procs.now i) (λ p. p.args ≡ result) }
 {
     procs[i].args
+}
+
+/// The number of the procedure that a line calls, by its first word.
+#[tactic(auto, unfolding(crate::specs::Called::called))]
+pub fn call_line(
+    tables: &[Name],
+    procs: &[Proc],
+    head: Head,
+    rest: &[u8],
+    args: &mut Args,
+) -> Result<u16, LineRefusal>
+    requires few { length tables.now ≤ MAX_TABLES }
+    requires limits { KeepsLimits procs.now }
+    requires empty { args.old.items ≡ [] }
+    ensures given { Gives (λ p. call_of p args.new.items) result (called tables.now procs.now head (words rest.now)) }
+    ensures taken { IfOk result (λ p. IsTrue (takes procs.now (call_of p args.new.items))) }
+{
+    match head {
+        Head::Put => put_line(tables, rest, args),
+        Head::Add => add_line(tables, rest, args),
+        Head::Get => get_line(tables, rest, args),
+        Head::Del => del_line(tables, rest, args),
+        Head::Call => declared_line(procs, rest, args),
+        Head::Table => Err(LineRefusal::Cause(TextCause::UnknownWord)),
+        Head::Proc => Err(LineRefusal::Cause(TextCause::UnknownWord)),
+        Head::Turns => Err(LineRefusal::Cause(TextCause::UnknownWord)),
+    }
 }

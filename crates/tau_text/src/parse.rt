@@ -1,12 +1,13 @@
-//! What a text means.
-ghost use Rattle.std.specs.Prelude.{true, ◌≡◌, ◌≤◌, ◌<◌, ◌+◌, ◌^◌, Ok, Result, None, Some, length, IfOk, OnOk, IfSome, IsTrue, unwrap_or, [], ◌∷◌};
+//! What a text means. A line changes in place what was read, and on an error may have changed a part of it.
+ghost use Rattle.std.specs.Prelude.{true, ◌≡◌, ◌≤◌, ◌<◌, ◌+◌, ◌^◌, Ok, Result, None, Some, length, IfOk, OnOk, IfSome, IsTrue, unwrap_or, is_none, [], ◌∷◌};
 ghost use Rattle.tau_proc.specs.Takes.{takes};
 ghost use Rattle.tau_text.specs.Lines.{words, lines};
 ghost use Rattle.tau_text.specs.Given.{Gives};
+ghost use Rattle.tau_text.specs.Called.{called};
 ghost use Rattle.tau_text.specs.Text.{workload_of, outer_read, inner_read, words_read, statement_read, line_read, with_call, is_before, lines_read, nothing, closed};
 ghost use Rattle.tau_text.specs.Kept.{IsWithin, IsBegun, IsRunnable, Reads, refusal};
 
-use crate::calls::{add_call, key_call, proc_call, put_call};
+use crate::calls::call_line;
 use crate::fault::{LineRefusal, TextCause, TextFault, TextRefusal};
 use crate::forms::{
     depth_at, grown, head, proc_line, step_added, step_head, table_line, turns_line,
@@ -16,59 +17,62 @@ use crate::lines::{first_line, next_word, no_more};
 use crate::load::{Declarations, Turn, Workload};
 use crate::reading::{Begun, Reading};
 use crate::spelled::begins_with;
+use arrayvec::ArrayVec;
 use std::alloc::Global;
 use std::str;
 use tau_base::{Call, Listed, MAX_CALLS, MAX_TURNS, MAX_WORKLOAD};
-use tau_proc::{ADD, DEL, GET, PUT, Proc, Procs};
+use tau_proc::{Proc, Procs};
 
-/// One more call.
-fn with_call(s: Reading, call: Call) -> Result<Reading, LineRefusal>
-    requires within { IsWithin s }
-    requires outside { s.begun ≡ None }
-    requires taken { IsTrue (takes s.procs call) }
-    ensures given { Gives (λ t. t) result (with_call s (Ok call)) }
-    ensures within { IfOk result IsWithin }
+/// A line of a call. The call is built here, in place, and moves once, into the list: it is large.
+fn call_read(s: &mut Reading, h: Head, rest: &[u8]) -> Result<(), LineRefusal>
+    requires within { IsWithin s.old }
+    requires outside { s.old.begun ≡ None }
+    ensures given { Gives (λ _. s.new) result (with_call s.old (called s.old.tables s.old.procs h (words rest.now))) }
+    ensures within { OnOk result (IsWithin s.new) }
 {
-    let mut s = s;
+    let mut call = Call {
+        proc: 0,
+        args: ArrayVec::new(),
+    };
+    let proc = call_line(s.tables.as_slice(), s.procs.list(), h, rest, &mut call.args)?;
+    call.proc = proc;
     if s.calls.len() >= MAX_CALLS {
         return Err(LineRefusal::Cause(TextCause::TooMany));
     }
     s.calls.push(call)?;
-    Ok(s)
+    Ok(())
 }
 
 /// A line of a table.
 #[tactic(auto, unfolding(crate::specs::Text::outer_read))]
-fn table_read(s: Reading, n: u32, line: &[u8], rest: &[u8]) -> Result<Reading, LineRefusal>
-    requires within { IsWithin s }
-    requires outside { s.begun ≡ None }
-    ensures given { Gives (λ t. t) result (outer_read s n Head.Table (words line.now) (words rest.now)) }
-    ensures within { IfOk result IsWithin }
+fn table_read(s: &mut Reading, n: u32, line: &[u8], rest: &[u8]) -> Result<(), LineRefusal>
+    requires within { IsWithin s.old }
+    requires outside { s.old.begun ≡ None }
+    ensures given { Gives (λ _. s.new) result (outer_read s.old n Head.Table (words line.now) (words rest.now)) }
+    ensures within { OnOk result (IsWithin s.new) }
 {
     let _ = n;
-    let mut s = s;
     let name = table_line(s.tables.as_slice(), rest)?;
     let size = grown(s.size, line)?;
     s.tables.push(name)?;
     s.size = size;
-    Ok(s)
+    Ok(())
 }
 
 /// A line that begins a procedure.
 #[tactic(auto, unfolding(crate::specs::Text::outer_read))]
 fn proc_read(
     alloc: Global,
-    s: Reading,
+    s: &mut Reading,
     n: u32,
     line: &[u8],
     rest: &[u8],
-) -> Result<Reading, LineRefusal>
-    requires within { IsWithin s }
-    requires first { s.calls ≡ [] }
-    ensures given { Gives (λ t. t) result (outer_read s n Head.Proc (words line.now) (words rest.now)) }
-    ensures within { IfOk result IsWithin }
+) -> Result<(), LineRefusal>
+    requires within { IsWithin s.old }
+    requires first { s.old.calls ≡ [] }
+    ensures given { Gives (λ _. s.new) result (outer_read s.old n Head.Proc (words line.now) (words rest.now)) }
+    ensures within { OnOk result (IsWithin s.new) }
 {
-    let mut s = s;
     let (name, args) = proc_line(s.procs.list(), rest)?;
     s.size = grown(s.size, line)?;
     let steps = Listed::new(alloc);
@@ -77,77 +81,7 @@ fn proc_read(
         proc: Proc { name, args, steps },
         depth: 0,
     });
-    Ok(s)
-}
-
-/// A line of a call of `put`.
-#[tactic(auto, unfolding(crate::specs::Text::outer_read))]
-fn put_read(s: Reading, n: u32, line: &[u8], rest: &[u8]) -> Result<Reading, LineRefusal>
-    requires within { IsWithin s }
-    requires outside { s.begun ≡ None }
-    ensures given { Gives (λ t. t) result (outer_read s n Head.Put (words line.now) (words rest.now)) }
-    ensures within { IfOk result IsWithin }
-{
-    let _ = n;
-    let _ = line;
-    let args = put_call(s.tables.as_slice(), rest)?;
-    with_call(s, Call { proc: PUT, args })
-}
-
-/// A line of a call of `add`.
-#[tactic(auto, unfolding(crate::specs::Text::outer_read))]
-fn add_read(s: Reading, n: u32, line: &[u8], rest: &[u8]) -> Result<Reading, LineRefusal>
-    requires within { IsWithin s }
-    requires outside { s.begun ≡ None }
-    ensures given { Gives (λ t. t) result (outer_read s n Head.Add (words line.now) (words rest.now)) }
-    ensures within { IfOk result IsWithin }
-{
-    let _ = n;
-    let _ = line;
-    let args = add_call(s.tables.as_slice(), rest)?;
-    with_call(s, Call { proc: ADD, args })
-}
-
-/// A line of a call of `get`.
-#[tactic(auto, unfolding(crate::specs::Text::outer_read))]
-fn get_read(s: Reading, n: u32, line: &[u8], rest: &[u8]) -> Result<Reading, LineRefusal>
-    requires within { IsWithin s }
-    requires outside { s.begun ≡ None }
-    ensures given { Gives (λ t. t) result (outer_read s n Head.Get (words line.now) (words rest.now)) }
-    ensures within { IfOk result IsWithin }
-{
-    let _ = n;
-    let _ = line;
-    let args = key_call(s.tables.as_slice(), rest)?;
-    with_call(s, Call { proc: GET, args })
-}
-
-/// A line of a call of `del`.
-#[tactic(auto, unfolding(crate::specs::Text::outer_read))]
-fn del_read(s: Reading, n: u32, line: &[u8], rest: &[u8]) -> Result<Reading, LineRefusal>
-    requires within { IsWithin s }
-    requires outside { s.begun ≡ None }
-    ensures given { Gives (λ t. t) result (outer_read s n Head.Del (words line.now) (words rest.now)) }
-    ensures within { IfOk result IsWithin }
-{
-    let _ = n;
-    let _ = line;
-    let args = key_call(s.tables.as_slice(), rest)?;
-    with_call(s, Call { proc: DEL, args })
-}
-
-/// A line of a call of a declared procedure.
-#[tactic(auto, unfolding(crate::specs::Text::outer_read))]
-fn call_read(s: Reading, n: u32, line: &[u8], rest: &[u8]) -> Result<Reading, LineRefusal>
-    requires within { IsWithin s }
-    requires outside { s.begun ≡ None }
-    ensures given { Gives (λ t. t) result (outer_read s n Head.Call (words line.now) (words rest.now)) }
-    ensures within { IfOk result IsWithin }
-{
-    let _ = n;
-    let _ = line;
-    let call = proc_call(s.procs.list(), rest)?;
-    with_call(s, call)
+    Ok(())
 }
 
 /// The turn words so far.
@@ -166,59 +100,46 @@ fn turns_before(alloc: Global, turns: Option<Listed<Turn>>) -> Listed<Turn>
 #[tactic(auto, unfolding(crate::specs::Text::outer_read))]
 fn turns_read(
     alloc: Global,
-    s: Reading,
+    s: &mut Reading,
     n: u32,
     line: &[u8],
     rest: &[u8],
-) -> Result<Reading, LineRefusal>
-    requires { IsWithin s }
-    ensures given { Gives (λ t. t) result (outer_read s n Head.Turns (words line.now) (words rest.now)) }
-    ensures within { IfOk result IsWithin }
+) -> Result<(), LineRefusal>
+    requires { IsWithin s.old }
+    ensures given { Gives (λ _. s.new) result (outer_read s.old n Head.Turns (words line.now) (words rest.now)) }
+    ensures within { OnOk result (IsWithin s.new) }
 {
     let _ = n;
     let _ = line;
-    let Reading {
-        tables,
-        procs,
-        size,
-        begun,
-        calls,
-        turns,
-    } = s;
-    let turns = turns_line(turns_before(alloc, turns), rest)?;
-    Ok(Reading {
-        tables,
-        procs,
-        size,
-        begun,
-        calls,
-        turns: Some(turns),
-    })
+    let turns = turns_line(turns_before(alloc, s.turns.take()), rest)?;
+    s.turns = Some(turns);
+    Ok(())
 }
 
 /// A line outside the procedures, by its first word.
+#[tactic(auto, unfolding(crate::specs::Text::outer_read, crate::specs::Called::called))]
 fn outer_read(
     alloc: Global,
-    s: Reading,
+    s: &mut Reading,
     n: u32,
     h: Head,
     line: &[u8],
     rest: &[u8],
-) -> Result<Reading, LineRefusal>
-    requires within { IsWithin s }
-    requires outside { s.begun ≡ None }
-    requires first { h ≡ Head.Proc → s.calls ≡ [] }
-    ensures given { Gives (λ t. t) result (outer_read s n h (words line.now) (words rest.now)) }
-    ensures within { IfOk result IsWithin }
+) -> Result<(), LineRefusal>
+    requires within { IsWithin s.old }
+    requires outside { s.old.begun ≡ None }
+    requires first { h ≡ Head.Proc → s.old.calls ≡ [] }
+    ensures given { Gives (λ _. s.new) result (outer_read s.old n h (words line.now) (words rest.now)) }
+    ensures within { OnOk result (IsWithin s.new) }
 {
     match h {
         Head::Table => table_read(s, n, line, rest),
         Head::Proc => proc_read(alloc, s, n, line, rest),
-        Head::Put => put_read(s, n, line, rest),
-        Head::Add => add_read(s, n, line, rest),
-        Head::Get => get_read(s, n, line, rest),
-        Head::Del => del_read(s, n, line, rest),
-        Head::Call => call_read(s, n, line, rest),
+        Head::Put => call_read(s, Head::Put, rest),
+        Head::Add => call_read(s, Head::Add, rest),
+        Head::Get => call_read(s, Head::Get, rest),
+        Head::Del => call_read(s, Head::Del, rest),
+        Head::Call => call_read(s, Head::Call, rest),
         Head::Turns => turns_read(alloc, s, n, line, rest),
     }
 }
@@ -239,20 +160,19 @@ fn is_before(h: Head, s: &Reading) -> bool
 /// A line of a step.
 #[tactic(auto, unfolding(crate::specs::Text::inner_read))]
 fn step_read(
-    s: Reading,
+    s: &mut Reading,
     b: Begun,
     h: StepHead,
     line: &[u8],
     rest: &[u8],
-) -> Result<Reading, LineRefusal>
-    requires within { IsWithin s }
-    requires begun { IsBegun s.procs b }
-    requires first { s.calls ≡ [] }
+) -> Result<(), LineRefusal>
+    requires within { IsWithin s.old }
+    requires begun { IsBegun s.old.procs b }
+    requires first { s.old.calls ≡ [] }
     requires step { h ≡ StepHead.End → ⊥ }
-    ensures given { Gives (λ t. t) result (inner_read s b h (words line.now) (words rest.now)) }
-    ensures within { IfOk result IsWithin }
+    ensures given { Gives (λ _. s.new) result (inner_read s.old b h (words line.now) (words rest.now)) }
+    ensures within { OnOk result (IsWithin s.new) }
 {
-    let mut s = s;
     let depth = depth_at(b.depth, h)?;
     let proc = step_added(s.tables.as_slice(), b.proc, h, rest)?;
     s.size = grown(s.size, line)?;
@@ -261,43 +181,42 @@ fn step_read(
         proc,
         depth,
     });
-    Ok(s)
+    Ok(())
 }
 
 /// A line that ends a procedure.
 #[tactic(auto, unfolding(crate::specs::Text::inner_read))]
-fn end_read(s: Reading, b: Begun, line: &[u8], rest: &[u8]) -> Result<Reading, LineRefusal>
-    requires within { IsWithin s }
-    requires begun { IsBegun s.procs b }
-    requires first { s.calls ≡ [] }
-    requires outside { s.begun ≡ None }
-    ensures given { Gives (λ t. t) result (inner_read s b StepHead.End (words line.now) (words rest.now)) }
-    ensures within { IfOk result IsWithin }
+fn end_read(s: &mut Reading, b: Begun, line: &[u8], rest: &[u8]) -> Result<(), LineRefusal>
+    requires within { IsWithin s.old }
+    requires begun { IsBegun s.old.procs b }
+    requires first { s.old.calls ≡ [] }
+    requires outside { s.old.begun ≡ None }
+    ensures given { Gives (λ _. s.new) result (inner_read s.old b StepHead.End (words line.now) (words rest.now)) }
+    ensures within { OnOk result (IsWithin s.new) }
 {
-    let mut s = s;
     depth_at(b.depth, StepHead::End)?;
     no_more(rest)?;
     s.size = grown(s.size, line)?;
     match s.procs.add(b.proc) {
-        Ok(()) => Ok(s),
+        Ok(()) => Ok(()),
         Err(_) => Err(LineRefusal::Memory),
     }
 }
 
 /// A line inside a procedure, by its first word.
 fn inner_read(
-    s: Reading,
+    s: &mut Reading,
     b: Begun,
     h: StepHead,
     line: &[u8],
     rest: &[u8],
-) -> Result<Reading, LineRefusal>
-    requires within { IsWithin s }
-    requires begun { IsBegun s.procs b }
-    requires first { s.calls ≡ [] }
-    requires outside { s.begun ≡ None }
-    ensures given { Gives (λ t. t) result (inner_read s b h (words line.now) (words rest.now)) }
-    ensures within { IfOk result IsWithin }
+) -> Result<(), LineRefusal>
+    requires within { IsWithin s.old }
+    requires begun { IsBegun s.old.procs b }
+    requires first { s.old.calls ≡ [] }
+    requires outside { s.old.begun ≡ None }
+    ensures given { Gives (λ _. s.new) result (inner_read s.old b h (words line.now) (words rest.now)) }
+    ensures within { OnOk result (IsWithin s.new) }
 {
     match h {
         StepHead::End => end_read(s, b, line, rest),
@@ -305,64 +224,77 @@ fn inner_read(
     }
 }
 
-/// A line with a word at its front.
+/// Whether no procedure is begun.
+fn is_outside(s: &Reading) -> bool
+    ensures value { result ≡ is_none s.now.begun }
+    ensures none { result ≡ true → s.now.begun ≡ None }
+{
+    match &s.begun {
+        None => true,
+        Some(_) => false,
+    }
+}
+
+/// A line with a word at its front, outside the procedures.
 #[tactic(auto, unfolding(crate::specs::Text::statement_read), using(crate::proofs::Texts::statement_outside))]
-fn statement_read(
+fn outside_read(
     alloc: Global,
-    s: Reading,
+    s: &mut Reading,
     n: u32,
     line: &[u8],
     word: &[u8],
     rest: &[u8],
-) -> Result<Reading, LineRefusal>
-    requires within { IsWithin s }
+) -> Result<(), LineRefusal>
+    requires within { IsWithin s.old }
+    requires outside { s.old.begun ≡ None }
     requires cut { words line.now ≡ word.now ∷ words rest.now }
-    ensures given { Gives (λ t. t) result (statement_read s n s.begun word.now (words rest.now)) }
-    ensures within { IfOk result IsWithin }
+    ensures given { Gives (λ _. s.new) result (statement_read s.old n None word.now (words rest.now)) }
+    ensures within { OnOk result (IsWithin s.new) }
 {
-    let Reading {
-        tables,
-        procs,
-        size,
-        begun,
-        calls,
-        turns,
-    } = s;
-    let s = Reading {
-        tables,
-        procs,
-        size,
-        begun: None,
-        calls,
-        turns,
-    };
-    match begun {
-        None => {
-            let h = head(word)?;
-            if !is_before(h, &s) {
-                return Err(LineRefusal::Cause(TextCause::UnknownWord));
-            }
-            outer_read(alloc, s, n, h, line, rest)
-        }
-        Some(b) => {
-            let h = step_head(word)?;
-            inner_read(s, b, h, line, rest)
-        }
+    let h = head(word)?;
+    if !is_before(h, s) {
+        return Err(LineRefusal::Cause(TextCause::UnknownWord));
     }
+    outer_read(alloc, s, n, h, line, rest)
+}
+
+/// A line with a word at its front.
+#[tactic(auto, unfolding(crate::specs::Text::statement_read))]
+fn statement_read(
+    alloc: Global,
+    s: &mut Reading,
+    n: u32,
+    line: &[u8],
+    word: &[u8],
+    rest: &[u8],
+) -> Result<(), LineRefusal>
+    requires within { IsWithin s.old }
+    requires cut { words line.now ≡ word.now ∷ words rest.now }
+    ensures given { Gives (λ _. s.new) result (statement_read s.old n s.old.begun word.now (words rest.now)) }
+    ensures within { OnOk result (IsWithin s.new) }
+{
+    if is_outside(s) {
+        return outside_read(alloc, s, n, line, word, rest);
+    }
+    let Some(b) = s.begun.take() else {
+        unreachable!();
+    };
+    let h = step_head(word)?;
+    inner_read(s, b, h, line, rest)
 }
 
 /// The words of a line.
 #[tactic(auto, unfolding(crate::specs::Text::words_read))]
-fn words_read(alloc: Global, s: Reading, n: u32, line: &[u8]) -> Result<Reading, LineRefusal>
-    requires { IsWithin s }
-    ensures given { Gives (λ t. t) result (words_read s n (words line.now)) }
-    ensures within { IfOk result IsWithin }
+fn words_read(alloc: Global, s: &mut Reading, n: u32, line: &[u8]) -> Result<(), LineRefusal>
+    requires { IsWithin s.old }
+    ensures given { Gives (λ _. s.new) result (words_read s.old n (words line.now)) }
+    ensures within { OnOk result (IsWithin s.new) }
 {
     match next_word(line) {
-        None => Ok(s),
+        None => Ok(()),
         Some((word, rest)) => {
             if begins_with(35, word) {
-                Ok(s)
+                Ok(())
             } else {
                 statement_read(alloc, s, n, line, word, rest)
             }
@@ -372,10 +304,10 @@ fn words_read(alloc: Global, s: Reading, n: u32, line: &[u8]) -> Result<Reading,
 
 /// One line.
 #[tactic(auto, unfolding(crate::specs::Text::line_read), using(crate::proofs::Texts::utf8_yes, crate::proofs::Texts::utf8_no))]
-fn line_read(alloc: Global, s: Reading, n: u32, line: &[u8]) -> Result<Reading, LineRefusal>
-    requires { IsWithin s }
-    ensures given { Gives (λ t. t) result (line_read s n line.now) }
-    ensures within { IfOk result IsWithin }
+fn line_read(alloc: Global, s: &mut Reading, n: u32, line: &[u8]) -> Result<(), LineRefusal>
+    requires { IsWithin s.old }
+    ensures given { Gives (λ _. s.new) result (line_read s.old n line.now) }
+    ensures within { OnOk result (IsWithin s.new) }
 {
     match str::from_utf8(line) {
         Ok(_) => words_read(alloc, s, n, line),
@@ -419,8 +351,8 @@ fn lines_read(alloc: Global, text: &[u8]) -> Result<Reading, TextRefusal>
     let mut n: u32 = 1;
     while !rest.is_empty() {
         let (line, after) = first_line(rest);
-        match line_read(alloc, s, n, line) {
-            Ok(t) => s = t,
+        match line_read(alloc, &mut s, n, line) {
+            Ok(()) => {}
             Err(e) => return Err(refusal(n, e)),
         }
         if text.len() - after.len() > MAX_WORKLOAD {

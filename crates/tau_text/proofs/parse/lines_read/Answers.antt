@@ -16,7 +16,7 @@ returns-then-text-after-gt-MAX_WORKLOAD-clause-given c =
     let f = c.first_line in
     let large : MAX_WORKLOAD < length c.args.text.now - length f.result.1.now = omega arith in
     rw c.refusal-then-text-after-gt-MAX_WORKLOAD.ensures
-    (sym c.loop-rest.invariant.so_far ∙ reads_long c.loop-rest.s c.in-Ok.t c.loop-rest.n c.args.text.now c.loop-rest.rest.now f.result.1.now f.result.0.now f.ensures.cut f.ensures.body f.ensures.shorter c.loop-rest.invariant.rest c.in-Ok.ensures.given large)
+    (sym c.loop-rest.invariant.so_far ∙ reads_long c.loop-rest.s c.line_read.new.s c.loop-rest.n c.args.text.now c.loop-rest.rest.now f.result.1.now f.result.0.now f.ensures.cut f.ensures.body f.ensures.shorter c.loop-rest.invariant.rest c.in-Ok.ensures.given large)
 
 pub loop-rest-preserved : goal.loop-rest-preserved
 loop-rest-preserved c =
@@ -27,7 +27,7 @@ loop-rest-preserved c =
       rest = omega (arith, f.ensures.shorter, c.loop-rest.invariant.rest);
       past = small;
       count = omega (arith, f.ensures.shorter, c.loop-rest.invariant.count);
-      so_far = sym (reads_on c.loop-rest.s c.in-Ok.t c.loop-rest.n c.args.text.now c.loop-rest.rest.now f.result.1.now f.result.0.now f.ensures.cut f.ensures.body f.ensures.shorter c.loop-rest.invariant.rest c.in-Ok.ensures.given small) ∙ c.loop-rest.invariant.so_far;
+      so_far = sym (reads_on c.loop-rest.s c.line_read.new.s c.loop-rest.n c.args.text.now c.loop-rest.rest.now f.result.1.now f.result.0.now f.ensures.cut f.ensures.body f.ensures.shorter c.loop-rest.invariant.rest c.in-Ok.ensures.given small) ∙ c.loop-rest.invariant.so_far;
     }
 
 pub returns-clause-given : goal.returns-clause-given

@@ -5,7 +5,7 @@ use Rattle.tau_text.proofs.parse.step_read.Goals as goal
 
 pub returns-clause-within : goal.returns-clause-within
 returns-clause-within c =
-    let s = c.args.s in
+    let s = c.args.s.now in
     let b = c.args.b in
     let h = c.requires.begun in
     let w = c.requires.within in
