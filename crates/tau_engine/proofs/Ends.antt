@@ -37,6 +37,7 @@ use Rattle.tau_engine.specs.Said.{SaysRun}
 use Rattle.tau_engine.proofs.Longs.{none_is_long}
 use Rattle.tau_engine.proofs.NotBegun.{facts_of_none}
 use Rattle.tau_engine.proofs.Ran as ran
+use Rattle.tau_engine.proofs.RanTo as to
 use Rattle.tau_engine.proofs.Streams.{OnlyNow, rest_is}
 use Rattle.tau_engine.proofs.Texts.{heard_front, take_long}
 
@@ -98,8 +99,10 @@ module _ {D : Type 0} {G : Ghosts D} (only_now : OnlyNow G) (n m : ℕ) (mode : 
     cut_short : CutShort (turns_of load) (λ j. catalogue_of load) first ws after hears held held1 (Rose faults faults1) → (held' : List ℕ) (faults' : ℕ) → faults1 ≤ faults' → held' ≡ held1 →
         SaysRun G n m mode load old new hears held held' faults faults' status.NoMemory
     cut_short cut held' faults' late same = record {
-      facts = ran.facts only_now n m mode load room sound first load_is opened ws after false cut.came old mid new many streams back (Rose faults faults') (λ j k. G.tells → Made G.number G.short old new j k) (Wrote hears held held') (λ j. fault_text (status.DiskFault j)) ending.NoMemory
-          (ran.core_run only_now n m mode load room sound first load_is opened ws after false cut.came false (ran.by_turns only_now n m mode load room sound first load_is opened ws after false cut.came)) (
+      facts = to.facts only_now n m mode load ws after cut.came.told (ran.came_to only_now n m mode load room sound first load_is opened ws after false cut.came) old mid new many streams back (Rose faults faults')
+          (λ j k. G.tells → Made G.number G.short old new j k) (Wrote hears held held') (λ j. fault_text (status.DiskFault j)) ending.NoMemory
+          (to.core_run only_now n m mode load ws after cut.came.told (ran.came_to only_now n m mode load room sound first load_is opened ws after false cut.came) false
+          (ran.came_to only_now n m mode load room sound first load_is opened ws after false cut.came).part) (
             cut.count,
             subst (λ (acks : List (ℕ × List ℕ)). WroteFront (Wrote hears held held') (Rose faults faults') (ack_lines (take cut.count acks))) (sym (ran.there only_now n m mode load room sound first load_is opened ws after false cut.came).2)
                 (heard_front hears held held' (Rose faults faults') (take cut.count cut.came.told) cut.sink_failed

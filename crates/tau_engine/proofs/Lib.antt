@@ -3,7 +3,9 @@ pub mod Loaded
 pub mod Texts
 pub mod Streams
 pub mod Reports
+pub mod Chosen
 pub mod NotBegun
+pub mod RanTo
 pub mod Ran
 pub mod Ends
 pub mod Refused

@@ -26,7 +26,8 @@ use Rattle.tau_run.specs.Run.{Run, told_of, below, IsHistory}
 use Rattle.tau_run.specs.Facts.{catalogue_of, IsEnded}
 use Rattle.tau_run.specs.Course.{IsLoadOf, IsRunOf}
 use Rattle.tau_run.specs.Left.{IsLeft}
-use Rattle.tau_run.specs.Told.{Ending, IsCoreRun, IsCoreRunAt, RunTells, RunFacts, turns_of}
+use Rattle.tau_engine.proofs.Chosen.{chosen}
+use Rattle.tau_run.specs.Told.{Ending, chosen_by, IsCoreRun, IsCoreRunAt, RunTells, RunFacts, turns_of}
 use Rattle.tau_run.specs.Told as told
 use Rattle.tau_run.specs.Turns.{Progress, begun, Turned, TurnedAll, OneByOne, Cleared, IsPartOfRun}
 use Rattle.tau_run.proofs.Acked.{whole}
@@ -182,14 +183,14 @@ module _ (n m : ℕ) (mode : LogMode) (load : Workload) (some : 1 ≤ n) (room :
   history : IsHistory n m load empty_run
   history = is_history (setting_of l) [] first inv n m load (is_set n m mode load l load_is) empty_run is_run.calls is_run.streams (lengths_same n catalogue) is_run.acks
 
-  core : IsCoreRun n m mode load false (λ j. None) empty_run
+  core : IsCoreRun (chosen_by load.turns n m load false) n m mode load (λ j. None) empty_run
   core = record {
     stands_on = l;
     load_is = load_is;
     opening = first;
     progress = begun first;
     led = led;
-    by_turns = IsPartOfRun.in_turns (none_of (setting_of l) m n (turns_of load) (begun first));
+    chosen = chosen load.turns false n m load l first (begun first) (IsPartOfRun.in_turns (none_of (setting_of l) m n (turns_of load) (begun first)));
     is = is_run;
     told = refl;
     stopped = λ j lt. refl;
@@ -203,7 +204,7 @@ module _ (n m : ℕ) (mode : LogMode) (load : Workload) (some : 1 ≤ n) (room :
   MayEnd told.NoMemory = Unit {0}
   MayEnd told.NotBegun = Unit {0}
 
-  core_at : (ending : Ending) → MayEnd ending → IsCoreRunAt n m mode load (λ j. None) empty_run ending
+  core_at : (ending : Ending) → MayEnd ending → IsCoreRunAt (chosen_by load.turns n m load) n m mode load (λ j. None) empty_run ending
   core_at told.Done may = absurd may
   core_at (told.DiskFailed j) may = inr (refl, refl)
   core_at told.SinkFailed may = absurd may
@@ -218,7 +219,7 @@ module _ (n m : ℕ) (mode : LogMode) (load : Workload) (some : 1 ≤ n) (room :
   pub facts_of_none : (unborn : Type 0) (past now : ℕ → List ℕ → Type 0) (rose : ℕ → Type 0) (sink_rose : Type 0) (made : ℕ → ℕ → Type 0) (wrote : List ℕ → Type 0) (fault : ℕ → List ℕ) (ending : Ending) → MayEnd ending →
       (unborn → (j : ℕ) (x : List ℕ) → j < n → past j x → HasContent n j [] x ⊎ HasContent n j catalogue x) →
       RunTells (IsEnded n load now rose) n load rose sink_rose made wrote fault empty_run ending →
-      RunFacts n m mode load unborn past now rose sink_rose made wrote fault ending
+      RunFacts (chosen_by load.turns n m load) n m mode load unborn past now rose sink_rose made wrote fault ending
   facts_of_none unborn past now rose sink_rose made wrote fault ending may left tells = record {
     run = empty_run;
     history = history;

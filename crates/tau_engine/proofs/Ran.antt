@@ -29,14 +29,14 @@ use Rattle.tau_run.specs.Facts.{catalogue_of, IsEnded}
 use Rattle.tau_run.specs.Course.{IsLoadOf, AreAcks, IsRunOf, IsSoundLoad, IsCourse}
 use Rattle.tau_run.specs.Laws.{KeepCalls, AllWait}
 use Rattle.tau_run.specs.Left.{IsLeft, Leaves, IsOver}
-use Rattle.tau_run.specs.Told.{Ending, WroteFront, NamesFailed, turns_of, IsByTurns, IsCoreRun, IsCoreRunAt, RunTells, RunFacts}
+use Rattle.tau_run.specs.Told.{Ending, WroteFront, NamesFailed, turns_of, IsByTurns, chosen_by, IsCoreRun, IsCoreRunAt, RunTells, RunFacts}
 use Rattle.tau_run.specs.Told as ending
 use Rattle.tau_run.specs.Turns.{Progress, Cleared, OneByOne, IsWholeRun, IsPartOfRun}
 use Rattle.tau_run.proofs.Acks.{turns_law}
 use Rattle.tau_run.proofs.Imaged.{imaged, acknowledged, ended}
 use Rattle.tau_run.proofs.Results.{history_law, run_law, lost_law}
 use Rattle.tau_step.specs.Progressed.{progress}
-use Rattle.tau_step.specs.RunTold.{Came, IsLowestStopped, fates_by}
+use Rattle.tau_step.specs.RunTold.{Came, EachOf, Left, IsLowestStopped, fates_by}
 use Rattle.tau_step.specs.Telling.{Heard}
 use Rattle.tau_engine.specs.Facts.{Past, Now, AreUnborn}
 use Rattle.tau_engine.specs.declared.status.Status.{Status}
@@ -45,6 +45,9 @@ use Rattle.tau_engine.specs.Fault.{fault_text}
 use Rattle.tau_engine.specs.Outside.{Wrote}
 use Rattle.tau_engine.specs.Runs.{TellsEnd}
 use Rattle.tau_engine.specs.Said.{SaysRun}
+use Rattle.tau_engine.specs.Came.{CameTo}
+use Rattle.tau_engine.proofs.Chosen.{chosen}
+use Rattle.tau_engine.proofs.RanTo as to
 use Rattle.tau_engine.proofs.Longs.{none_is_long}
 use Rattle.tau_engine.proofs.Reports.{reported_by}
 use Rattle.tau_engine.proofs.Streams.{OnlyNow, Joined, joined, rest_is, left_since, rose_at, clean_below, first_stopped, stopped_late, made_all, leaves}
@@ -107,20 +110,7 @@ module _ {D : Type 0} {G : Ghosts D} (only_now : OnlyNow G) (n m : ℕ) (mode : 
   abbrev stops : ℕ → Option ℕ
   stops j = (s.streams j).stop
 
-  pub core_run : (b : Bool) → IsByTurns b n m load l (core_of first nothing) P → IsCoreRun n m mode load b stops run
-  core_run b by = record {
-    stands_on = l;
-    load_is = is_load;
-    opening = core_of first nothing;
-    progress = P;
-    led = led.0;
-    by_turns = by;
-    is = there.1;
-    told = there.2;
-    stopped = λ j lt. refl;
-  }
-
-  stop_low : (j at : ℕ) → stops j ≡ Some at → j < n
+  pub stop_low : (j at : ℕ) → stops j ≡ Some at → j < n
   stop_low j at e = by_case (slice_get came.last.streams j) refl
     where
       by_case : (o : Option PlainStream) → slice_get came.last.streams j ≡ o → j < n
@@ -134,145 +124,37 @@ module _ {D : Type 0} {G : Ghosts D} (only_now : OnlyNow G) (n m : ℕ) (mode : 
   waits : AllWait load (core_of first nothing)
   waits k some high = opened.waits k some (let e = ap length load_is.calls in omega (arith, e, high))
 
-  complete : IsOver n s → ((j : ℕ) → j < n → stops j ≡ None) → AllAcked load run
+  pub complete : IsOver n s → ((j : ℕ) → j < n → stops j ≡ None) → AllAcked load run
   complete over going = lost_law n m mode load l K s course run there.1 (core_of first nothing) came.events led.0 led.1 waits over going
 
+  pub part_by : (b : Bool) → IsByTurns b n m load l (core_of first nothing) P → IsByTurns false n m load l (core_of first nothing) P
+  part_by true h = whole_is_part n m load l (core_of first nothing) P h
+  part_by false h = h
+
+  -- so it is one of any kind of run
+  abbrev pub came_to : CameTo (chosen_by load.turns n m load) n m mode load ws ws' came.told
+  came_to = record {
+    stands_on = l;
+    opening = core_of first nothing;
+    state = s;
+    events = came.events;
+    joined = K;
+    led = led.0;
+    course = course;
+    part = chosen load.turns false n m load l (core_of first nothing) P (part_by whole by_turns);
+    run = run;
+    is = there.1;
+    told = there.2;
+    stop_low = stop_low;
+    writers = subst (λ (x : Load). EachOf (λ j w w'. Left x s j (catalogue_of load) w w') ws ws') (sym came.load) came.writers;
+  }
+
   module _ (old mid new : List D) (many : n ≤ length old) (streams : AreOpened G n (catalogue_of load) old mid ws) (back : new ≡ map disk_of ws' ++ mid) where
-    pub all : EachIn (λ j. j < n) (Joined G n (catalogue_of load) first.load s) old new
-    all = joined G n (catalogue_of load) first.load s old mid new ws ws' streams back came.writers
-
-    pub at_leaves : Leaves n (catalogue_of load) l s (λ j x. ⊥) (Now G.tells G.may_leave old new) (RoseAt G.faults old new)
-    at_leaves =
-        subst (λ (x : Load). Leaves n (catalogue_of load) x s (λ j y. ⊥) (Now G.tells G.may_leave old new) (RoseAt G.faults old new)) (sym came.load)
-        (leaves G n (catalogue_of load) first.load s load_is.streams old new many all stop_low)
-
-    pub facts : (sink_rose : Type 0) (made : ℕ → ℕ → Type 0) (wrote : List ℕ → Type 0) (fault : ℕ → List ℕ) (ending : Ending) → IsCoreRunAt n m mode load stops run ending →
-        RunTells (IsEnded n load (Now G.tells G.may_leave old new) (RoseAt G.faults old new)) n load (RoseAt G.faults old new) sink_rose made wrote fault run ending →
-        RunFacts n m mode load (AreUnborn G.tells G.may_leave old n) (Past G.tells G.moment G.may_leave_since old new) (Now G.tells G.may_leave old new) (RoseAt G.faults old new) sink_rose made wrote fault ending
-    facts sink_rose made wrote fault ending core told = record {
-      run = run;
-      history = history_law n m mode load l K s course run there.1;
-      stops = stops;
-      core = core;
-      stopped = at_leaves.stopped;
-      told = told;
-      imaged = imaged n m mode load l K s course run there.1 (Past G.tells G.moment G.may_leave_since old new) (Now G.tells G.may_leave old new) (RoseAt G.faults old new) (AreUnborn G.tells G.may_leave old n)
-          (λ u j x lt q. subst (λ (y : Load). IsLeft n j (catalogue_of load) y s x) (sym came.load) (left_since G n (catalogue_of load) first.load s load_is.streams old new many all only_now u j x lt q));
-      acknowledged = acknowledged n m mode load l K s course run there.1 (λ j x. ⊥) (Now G.tells G.may_leave old new) (RoseAt G.faults old new) at_leaves;
-    }
-
-    pub has_ended : IsOver n s → IsEnded n load (Now G.tells G.may_leave old new) (RoseAt G.faults old new) run
-    has_ended over = ended n m mode load l K s course run there.1 (λ j x. ⊥) (Now G.tells G.may_leave old new) (RoseAt G.faults old new) at_leaves over (complete over)
-
-    -- ---- the run went to its end
-
-    names : (o : Option ℕ) → IsLowestStopped n s o → NamesFailed (RoseAt G.faults old new) n o
-    names None low = tt
-    names (Some j) low = (low.0, rose_at G n (catalogue_of load) first.load s load_is.streams old new many all j low.1.0 low.0 low.1.1)
-
     module _ (e : RunEnd) (by : IsByTurns true n m load l (core_of first nothing) P) (over : IsOver n s) (hears : Type 0) (held held1 held' : List ℕ) (faults faults1 faults' : ℕ) (early : faults ≤ faults1) (late : faults1 ≤ faults')
         (heard : hears → Heard held came.told e.sink_failed held1) (sink : e.sink_failed ≡ true → Rose faults faults1) (low : IsLowestStopped n s e.disk) (acks : e.report.acks ≡ came.told)
         (fates : e.report.fates ≡ fates_by (length first.load.calls) came.order came.told) (order : e.report.order ≡ map (λ (t : Act Txn). t.call.call.number) (reported came.last.ends came.order))
         (tables : IsTablesOf (sight (setting_of first.load) s).row e.report.tables) where
-      abbrev declared : List (List ℕ)
-      declared = load.declarations.tables
-
-      report_is : (failed : Option ℕ) → IsReportOf load run failed (report_text declared e.report failed)
-      report_is failed =
-          reported_by n m mode load l K s course run there.1 e.report failed (acks ∙ sym there.2)
-          (fates ∙ ap (λ (x : Load). fates_by (length x.calls) K came.told) (sym came.load) ∙ ap (λ (a : List (ℕ × List ℕ)). fates_by (length l.calls) K a) (sym there.2))
-          order (subst (λ (x : Load). IsTablesOf (sight (setting_of x) s).row e.report.tables) (sym came.load) tables) over.rests
-
-      heard_by : (b : Bool) → e.sink_failed ≡ b → hears → Heard held e.report.acks b held1
-      heard_by b is told = subst (λ (a : List (ℕ × List ℕ)). Heard held a b held1) (sym acks) (subst (λ (x : Bool). Heard held came.told x held1) is (heard told))
-
-      tells_ok : (e.disk ≡ None) → e.sink_failed ≡ false → Wrote hears held1 held' (rest_text declared e.report None) → SaysRun G n m mode load old new hears held held' faults faults' status.Ok
-      tells_ok none works wrote =
-          let going : IsLowestStopped n s None = subst (λ (o : Option ℕ). IsLowestStopped n s o) none low in
-          record {
-            facts = facts (Rose faults faults') (λ j k. G.tells → Made G.number G.short old new j k) (Wrote hears held held') (λ j. fault_text (status.DiskFault j)) ending.Done (core_run true by)
-                (has_ended over, complete over going, (report_text declared e.report None, report_is None, whole_text hears held held1 held' declared e.report None (heard_by false works) wrote));
-            kind = refl;
-            disk = λ j f. absurd (cc);
-            clean = λ f. clean_below G n (catalogue_of load) first.load s load_is.streams old new many all n (omega arith) going;
-            stopped = λ j f t. absurd (cc);
-            told = λ j f t. absurd (cc);
-            sink = λ f. absurd (cc);
-            not_empty = λ i size g. absurd (cc);
-            long = λ i size lt t is. absurd (none_is_long G.seen old G.tells n i size t streams.empty lt is);
-            asked = λ i size g. absurd (cc);
-            rest = rest_is G n (catalogue_of load) first.load s old mid new ws ws' streams back came.writers;
-          }
-
-      tells_disk : (j : ℕ) → (e.disk ≡ Some j) → e.sink_failed ≡ false → Wrote hears held1 held' (rest_text declared e.report (Some j)) → SaysRun G n m mode load old new hears held held' faults faults' (status.DiskFault j)
-      tells_disk j is works wrote =
-          let here : IsLowestStopped n s (Some j) = subst (λ (o : Option ℕ). IsLowestStopped n s o) is low in
-          let same : (i : ℕ) → status.DiskFault j ≡ status.DiskFault i → j ≡ i = λ i f. cc in
-          record {
-            facts = facts (Rose faults faults') (λ i k. G.tells → Made G.number G.short old new i k) (Wrote hears held held') (λ i. fault_text (status.DiskFault i)) (ending.DiskFailed j) (inl (core_run true by))
-                (inl (
-                  has_ended over,
-                  λ i lt. made_all G n (catalogue_of load) first.load s load_is.streams old new many all i lt,
-                  (report_text declared e.report (Some j), report_is (Some j), whole_text hears held held1 held' declared e.report (Some j) (heard_by false works) wrote),
-                ));
-            kind = refl;
-            disk = λ i f. subst (λ (k : ℕ). (k < n) × RoseAt G.faults old new k) (same i f) (here.0, rose_at G n (catalogue_of load) first.load s load_is.streams old new many all j here.1.0 here.0 here.1.1);
-            clean = λ f. absurd (cc);
-            stopped = λ i f t. subst (λ (k : ℕ). IsFirstStopped G.tells G.number G.fails G.short old new k) (same i f) (first_stopped G n (catalogue_of load) first.load s load_is.streams old new many all j here.1.0 here.0 here.1.1 here.2 t);
-            told = λ i f t. inr (subst (λ (k : ℕ). (c : ℕ) × (calls_to_open < c) × Made G.number G.short old new k c) (same i f) (stopped_late G n (catalogue_of load) first.load s load_is.streams old new many all j here.1.0 here.0 here.1.1 t));
-            sink = λ f. absurd (cc);
-            not_empty = λ i size g. absurd (cc);
-            long = λ i size lt t is. absurd (none_is_long G.seen old G.tells n i size t streams.empty lt is);
-            asked = λ i size g. absurd (cc);
-            rest = rest_is G n (catalogue_of load) first.load s old mid new ws ws' streams back came.writers;
-          }
-
-      tells_sink : Rose faults faults' → (i : ℕ) × (i < length (report_text declared e.report e.disk)) × Wrote hears held held' (take i (report_text declared e.report e.disk)) → SaysRun G n m mode load old new hears held held' faults faults' status.WriteFault
-      tells_sink rose cut = record {
-        facts = facts (Rose faults faults') (λ j k. G.tells → Made G.number G.short old new j k) (Wrote hears held held') (λ j. fault_text (status.DiskFault j)) ending.SinkFailed (core_run true by)
-            (has_ended over, (report_text declared e.report e.disk, e.disk, cut.0, report_is e.disk, names e.disk low, cut.1, cut.2));
-        kind = refl;
-        disk = λ j f. absurd (cc);
-        clean = λ f. absurd (cc);
-        stopped = λ j f t. absurd (cc);
-        told = λ j f t. absurd (cc);
-        sink = λ f. rose;
-        not_empty = λ i size g. absurd (cc);
-        long = λ i size lt t is. absurd (none_is_long G.seen old G.tells n i size t streams.empty lt is);
-        asked = λ i size g. absurd (cc);
-        rest = rest_is G n (catalogue_of load) first.load s old mid new ws ws' streams back came.writers;
-      }
-
-      tells_memory : e.sink_failed ≡ false → held' ≡ held1 → SaysRun G n m mode load old new hears held held' faults faults' status.NoMemory
-      tells_memory works same = record {
-        facts = facts (Rose faults faults') (λ j k. G.tells → Made G.number G.short old new j k) (Wrote hears held held') (λ j. fault_text (status.DiskFault j)) ending.NoMemory
-            (core_run false (whole_is_part n m load l (core_of first nothing) P by))
-            (length run.acks, inl (λ t. same ∙ heard_by false works t ∙ ap (λ (a : List (ℕ × List ℕ)). held ++ ack_lines a) (acks ∙ sym there.2 ∙ sym (take_long (length run.acks) run.acks (omega arith)))));
-        kind = refl;
-        disk = λ j f. absurd (cc);
-        clean = λ f. absurd (cc);
-        stopped = λ j f t. absurd (cc);
-        told = λ j f t. absurd (cc);
-        sink = λ f. absurd (cc);
-        not_empty = λ i size g. absurd (cc);
-        long = λ i size lt t is. absurd (none_is_long G.seen old G.tells n i size t streams.empty lt is);
-        asked = λ i size g. absurd (cc);
-        rest = rest_is G n (catalogue_of load) first.load s old mid new ws ws' streams back came.writers;
-      }
-
-      pub tells_end : (answer : Status) → TellsEnd declared e hears held1 held' (Rose faults1 faults') answer → SaysRun G n m mode load old new hears held held' faults faults' answer
-      tells_end status.Ok t = tells_ok t.1 t.0 t.2
-      tells_end (status.DiskFault j) t = tells_disk j t.1 t.0 t.2
-      tells_end status.WriteFault (inl gone) =
-          let rose = sink gone.0 in
-          tells_sink (omega (arith, rose, late)) (lines_cut hears held held1 held' declared e.report e.disk (λ t. subst (λ (x : List ℕ). Heard held e.report.acks true x) (sym gone.1) (heard_by true gone.0 t)))
-      tells_end status.WriteFault (inr cut) =
-          let rose = cut.1 in
-          tells_sink (omega (arith, rose, early)) (rest_cut hears held held1 held' declared e.report e.disk cut.2.0 cut.2.1 (heard_by false cut.0) cut.2.2)
-      tells_end status.NoMemory t = tells_memory t.0 t.1
-      tells_end status.Usage t = absurd t
-      tells_end (status.BadText at why) t = absurd t
-      tells_end status.ReadFault t = absurd t
-      tells_end (status.BadLog fault) t = absurd t
-      tells_end (status.NotEmpty j long) t = absurd t
-      tells_end status.TooLong t = absurd t
+      pub tells_end : (answer : Status) → TellsEnd load.declarations.tables e hears held1 held' (Rose faults1 faults') answer → SaysRun G n m mode load old new hears held held' faults faults' answer
+      tells_end answer t =
+          to.tells_end only_now n m mode load ws ws' came.told came_to old mid new many streams back e (chosen load.turns true n m load l (core_of first nothing) P by) over (complete over) hears held held1 held' faults faults1 faults' early late heard sink low acks
+          (fates ∙ ap (λ (x : Load). fates_by (length x.calls) K came.told) (sym came.load)) order (subst (λ (x : Load). IsTablesOf (sight (setting_of x) s).row e.report.tables) (sym came.load) tables) answer t

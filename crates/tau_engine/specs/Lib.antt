@@ -4,5 +4,6 @@ pub mod Outside
 pub mod Fault
 pub mod Facts
 pub mod Runs
+pub mod Came
 pub mod Said
 pub mod Recovery

@@ -100,8 +100,12 @@ module _ (set : Setting) (K : List (Act Txn)) (s : Core) (g : Invariant set K s)
       below : (a c : ℕ) → a ≤ c → (a ≡ c → ⊥) → a < c
       below a c le ne = grind (arith, ne)
 
+  -- the calls in any order have the same history
+  pub again_of : (calls : List (Act Txn)) → Reordered K calls → reported s.ends calls ≡ reported s.ends K
+  again_of calls same = reported_again kept_place kept_up number_of s.ends K calls same starts numbers
+
   again : reported s.ends history ≡ history
-  again = reported_again kept_place kept_up number_of s.ends K history once starts numbers
+  again = again_of history once
 
   pub in_order : map told_of history ≡ reported_of (λ (c : Committed). c.place) (λ c. c.logs) (λ c. c.number) s.ends (map told_of history)
   in_order =

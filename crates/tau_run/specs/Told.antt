@@ -50,34 +50,47 @@ abbrev pub IsByTurns : Bool → ℕ → ℕ → Workload → Load → Core → P
 IsByTurns true n m load l opening p = IsWholeRun (setting_of l) m n (turns_of load) opening p
 IsByTurns false n m load l opening p = IsPartOfRun (setting_of l) m n (turns_of load) opening p
 
--- The run is what the events that the turns name have made, to their end or so far, from the opening of this workload
--- on new streams; a stream was stopped where the function tells.
-pub record IsCoreRun (n m : ℕ) (mode : LogMode) (load : Workload) (whole : Bool) (stops : ℕ → Option ℕ) (run : Run) : Type 0 where
+-- How the events of a run were chosen, of a whole run (true) or of a first part: by turns; in threads, any events in any
+-- order. A workload that has turns is run by them, any other in threads.
+abbrev pub by_turns : ℕ → ℕ → Workload → Bool → Load → Core → Progress → Type 0
+by_turns n m load whole l opening p = IsByTurns whole n m load l opening p
+
+abbrev pub in_any_order : Bool → Load → Core → Progress → Type 0
+in_any_order whole l opening p = Unit {0}
+
+abbrev pub chosen_by : Option (List Turn) → ℕ → ℕ → Workload → Bool → Load → Core → Progress → Type 0
+chosen_by None n m load = in_any_order
+chosen_by (Some turns) n m load = by_turns n m load
+
+-- The run is what these events have made from the opening of this workload on new streams; a stream was stopped where the
+-- function tells.
+pub record IsCoreRun (by : Load → Core → Progress → Type 0) (n m : ℕ) (mode : LogMode) (load : Workload) (stops : ℕ → Option ℕ) (run : Run) : Type 0 where
   pub stands_on : Load
   pub load_is : IsLoadOf n m mode load stands_on
   pub opening : Core
   pub progress : Progress
   pub led : machine.Run (setting_of stands_on) opening progress.events progress.joined progress.state
-  pub by_turns : IsByTurns whole n m load stands_on opening progress
+  pub chosen : by stands_on opening progress
   pub is : IsRunOf n stands_on progress.joined progress.state (catalogue_of load) run
   pub told : run.acks ≡ progress.told
   pub stopped : (j : ℕ) → j < n → (progress.state.streams j).stop ≡ stops j
 
 -- a run that was not begun has no events; one that went to its end has all
-abbrev pub IsCoreRunAt : ℕ → ℕ → LogMode → Workload → (ℕ → Option ℕ) → Run → Ending → Type 0
-IsCoreRunAt n m mode load stops run NoMemory = IsCoreRun n m mode load false stops run
-IsCoreRunAt n m mode load stops run NotBegun = (run.calls ≡ []) × (run.acks ≡ [])
-IsCoreRunAt n m mode load stops run (DiskFailed j) = IsCoreRun n m mode load true stops run ⊎ ((run.calls ≡ []) × (run.acks ≡ []))
-IsCoreRunAt n m mode load stops run other = IsCoreRun n m mode load true stops run
+abbrev pub IsCoreRunAt : (Bool → Load → Core → Progress → Type 0) → ℕ → ℕ → LogMode → Workload → (ℕ → Option ℕ) → Run → Ending → Type 0
+IsCoreRunAt by n m mode load stops run NoMemory = IsCoreRun (by false) n m mode load stops run
+IsCoreRunAt by n m mode load stops run NotBegun = (run.calls ≡ []) × (run.acks ≡ [])
+IsCoreRunAt by n m mode load stops run (DiskFailed j) = IsCoreRun (by true) n m mode load stops run ⊎ ((run.calls ≡ []) × (run.acks ≡ []))
+IsCoreRunAt by n m mode load stops run other = IsCoreRun (by true) n m mode load stops run
 
 -- What was written is its report, each image of a stop since the entry is a closed part of it, and a stop now leaves
 -- what it acknowledged.
-pub record RunFacts (n m : ℕ) (mode : LogMode) (load : Workload) (unborn : Type 0) (past now : ℕ → List ℕ → Type 0) (rose : ℕ → Type 0) (sink_rose : Type 0) (made : ℕ → ℕ → Type 0) (wrote : List ℕ → Type 0) (fault : ℕ → List ℕ) (ending : Ending) : Type 0 where
+pub record RunFacts (by : Bool → Load → Core → Progress → Type 0) (n m : ℕ) (mode : LogMode) (load : Workload) (unborn : Type 0) (past now : ℕ → List ℕ → Type 0) (rose : ℕ → Type 0) (sink_rose : Type 0) (made : ℕ → ℕ → Type 0)
+    (wrote : List ℕ → Type 0) (fault : ℕ → List ℕ) (ending : Ending) : Type 0 where
   pub run : Run
   pub history : IsHistory n m load run
   -- it is of a run of the core, in which a stream stops only where its disk failed
   pub stops : ℕ → Option ℕ
-  pub core : IsCoreRunAt n m mode load stops run ending
+  pub core : IsCoreRunAt by n m mode load stops run ending
   pub stopped : (j k : ℕ) → stops j ≡ Some k → rose j
   pub told : RunTells (IsEnded n load now rose) n load rose sink_rose made wrote fault run ending
   pub imaged : IsImaged n mode load unborn past run

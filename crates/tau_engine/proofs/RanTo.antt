@@ -1,0 +1,232 @@
+-- What a run on open streams has done, in the words of runs: by turns or in threads.
+use Rattle.std.proofs.Common.{ℕ, ◌<◌, ◌≤◌, ◌≡◌, ◌⊎◌, inl, inr, Bool, true, false, List, [], ◌∷◌, ◌++◌, map, length, take, refl, sym, ap, subst, ◌∙◌, Option, arith}
+use Rattle.std.specs.Prelude.{Some, None, slice_get}
+use Rattle.tau_base.specs.declared.value.LogMode.{LogMode}
+use Rattle.tau_disk.specs.declared.disk.Disk.{Ghosts}
+use Rattle.tau_disk.specs.Disk.{Rose}
+use Rattle.tau_disk.specs.Used.{EachIn, RoseAt, IsFirstStopped, Made}
+use Rattle.tau_stream.specs.declared.writer.Writer.{Writer}
+use Rattle.std.proofs.lemmas.Option.{slice_get_within}
+use Rattle.tau_stream.specs.Writer.{disk_of}
+use Rattle.tau_open.specs.Outside.{calls_to_open}
+use Rattle.tau_open.specs.Opening.{AreOpened}
+use Rattle.tau_model.specs.History.{Act}
+use Rattle.tau_machine.specs.Hands.{Txn}
+use Rattle.tau_model.specs.Tables.{IsTablesOf}
+use Rattle.tau_machine.specs.Reports.{reported}
+use Rattle.tau_machine.specs.State.{Setting, Core, sight}
+use Rattle.tau_machine.specs.Runs as machine
+use Rattle.tau_text.specs.declared.load.Workload.{Workload}
+use Rattle.tau_report.specs.declared.report.RunEnd.{RunEnd}
+use Rattle.tau_report.specs.Report.{ack_lines, rest_text, report_text}
+use Rattle.tau_core.specs.declared.state.Load.{Load}
+use Rattle.tau_core.specs.Plain.{PlainStream}
+use Rattle.tau_core.specs.State.{Plain}
+use Rattle.tau_core.specs.View.{setting_of, core_of, stop_in}
+use Rattle.tau_core.specs.Opens.{Opened, nothing}
+use Rattle.tau_run.specs.Run.{Run, below, AllAcked, IsReportOf}
+use Rattle.tau_run.specs.Facts.{catalogue_of, IsEnded}
+use Rattle.tau_run.specs.Course.{IsLoadOf, AreAcks, IsRunOf, IsSoundLoad, IsCourse}
+use Rattle.tau_run.specs.Laws.{KeepCalls, AllWait}
+use Rattle.tau_run.specs.Left.{IsLeft, Leaves, IsOver}
+use Rattle.tau_run.specs.Told.{Ending, WroteFront, NamesFailed, turns_of, IsByTurns, chosen_by, IsCoreRun, IsCoreRunAt, RunTells, RunFacts}
+use Rattle.tau_run.specs.Told as ending
+use Rattle.tau_run.specs.Turns.{Progress, Cleared, OneByOne, IsWholeRun, IsPartOfRun}
+use Rattle.tau_run.proofs.Acks.{turns_law}
+use Rattle.tau_run.proofs.Imaged.{imaged, acknowledged, ended}
+use Rattle.tau_run.proofs.Results.{history_law, run_law, lost_law}
+use Rattle.tau_step.specs.Progressed.{progress}
+use Rattle.tau_step.specs.RunTold.{IsLowestStopped, fates_by}
+use Rattle.tau_step.specs.Telling.{Heard}
+use Rattle.tau_engine.specs.Facts.{Past, Now, AreUnborn}
+use Rattle.tau_engine.specs.declared.status.Status.{Status}
+use Rattle.tau_engine.specs.declared.status.Status.TheVariants as status
+use Rattle.tau_engine.specs.Fault.{fault_text}
+use Rattle.tau_engine.specs.Outside.{Wrote}
+use Rattle.tau_engine.specs.Runs.{TellsEnd}
+use Rattle.tau_engine.specs.Said.{SaysRun}
+use Rattle.tau_engine.specs.Came.{CameTo, came_far}
+use Rattle.tau_engine.proofs.Longs.{none_is_long}
+use Rattle.tau_engine.proofs.Reports.{reported_by}
+use Rattle.tau_engine.proofs.Streams.{OnlyNow, Joined, joined, rest_is, left_since, rose_at, clean_below, first_stopped, stopped_late, made_all, leaves}
+use Rattle.tau_engine.proofs.Texts.{whole_text, rest_cut, lines_cut, take_long}
+
+module _ {D : Type 0} {G : Ghosts D} (only_now : OnlyNow G) (n m : ℕ) (mode : LogMode) (load : Workload) (ws ws' : List (Writer D G)) (acks : List (ℕ × List ℕ)) (t : CameTo (chosen_by load.turns n m load) n m mode load ws ws' acks) where
+  abbrev by : Bool → Load → Core → Progress → Type 0
+  by = chosen_by load.turns n m load
+
+  abbrev l : Load
+  l = t.stands_on
+
+  abbrev K : List (Act Txn)
+  K = t.joined
+
+  abbrev s : Core
+  s = t.state
+
+  abbrev course : IsCourse n m mode load l K s
+  course = t.course
+
+  abbrev run : Run
+  run = t.run
+
+  abbrev stops : ℕ → Option ℕ
+  stops j = (s.streams j).stop
+
+  streams_are : l.streams ≡ n
+  streams_are = t.course.load_is.streams
+
+  stop_low : (j at : ℕ) → stops j ≡ Some at → j < n
+  stop_low j at e = t.stop_low j at e
+
+  pub core_run : (whole : Bool) → by whole l t.opening (came_far t) → IsCoreRun (by whole) n m mode load stops run
+  core_run whole h = record {
+    stands_on = l;
+    load_is = t.course.load_is;
+    opening = t.opening;
+    progress = came_far t;
+    led = t.led;
+    chosen = h;
+    is = t.is;
+    told = t.told;
+    stopped = λ j lt. refl;
+  }
+
+  module _ (old mid new : List D) (many : n ≤ length old) (streams : AreOpened G n (catalogue_of load) old mid ws) (back : new ≡ map disk_of ws' ++ mid) where
+    pub all : EachIn (λ j. j < n) (Joined G n (catalogue_of load) l s) old new
+    all = joined G n (catalogue_of load) l s old mid new ws ws' streams back t.writers
+
+    pub at_leaves : Leaves n (catalogue_of load) l s (λ j x. ⊥) (Now G.tells G.may_leave old new) (RoseAt G.faults old new)
+    at_leaves =
+        leaves G n (catalogue_of load) l s streams_are old new many all stop_low
+
+    pub facts : (sink_rose : Type 0) (made : ℕ → ℕ → Type 0) (wrote : List ℕ → Type 0) (fault : ℕ → List ℕ) (ending : Ending) → IsCoreRunAt (by) n m mode load stops run ending →
+        RunTells (IsEnded n load (Now G.tells G.may_leave old new) (RoseAt G.faults old new)) n load (RoseAt G.faults old new) sink_rose made wrote fault run ending →
+        RunFacts (by) n m mode load (AreUnborn G.tells G.may_leave old n) (Past G.tells G.moment G.may_leave_since old new) (Now G.tells G.may_leave old new) (RoseAt G.faults old new) sink_rose made wrote fault ending
+    facts sink_rose made wrote fault ending core told = record {
+      run = run;
+      history = history_law n m mode load l K s course run t.is;
+      stops = stops;
+      core = core;
+      stopped = at_leaves.stopped;
+      told = told;
+      imaged = imaged n m mode load l K s course run t.is (Past G.tells G.moment G.may_leave_since old new) (Now G.tells G.may_leave old new) (RoseAt G.faults old new) (AreUnborn G.tells G.may_leave old n)
+          (λ u j x lt q. left_since G n (catalogue_of load) l s streams_are old new many all only_now u j x lt q);
+      acknowledged = acknowledged n m mode load l K s course run t.is (λ j x. ⊥) (Now G.tells G.may_leave old new) (RoseAt G.faults old new) at_leaves;
+    }
+
+    pub has_ended : IsOver n s → (((j : ℕ) → j < n → stops j ≡ None) → AllAcked load run) → IsEnded n load (Now G.tells G.may_leave old new) (RoseAt G.faults old new) run
+    has_ended over complete = ended n m mode load l K s course run t.is (λ j x. ⊥) (Now G.tells G.may_leave old new) (RoseAt G.faults old new) at_leaves over complete
+
+    -- ---- the run went to its end
+
+    names : (o : Option ℕ) → IsLowestStopped n s o → NamesFailed (RoseAt G.faults old new) n o
+    names None low = tt
+    names (Some j) low = (low.0, rose_at G n (catalogue_of load) l s streams_are old new many all j low.1.0 low.0 low.1.1)
+
+    module _ (e : RunEnd) (whole : by true l t.opening (came_far t)) (over : IsOver n s) (complete : ((j : ℕ) → j < n → stops j ≡ None) → AllAcked load run) (hears : Type 0) (held held1 held' : List ℕ) (faults faults1 faults' : ℕ) (early : faults ≤ faults1) (late : faults1 ≤ faults')
+        (heard : hears → Heard held acks e.sink_failed held1) (sink : e.sink_failed ≡ true → Rose faults faults1) (low : IsLowestStopped n s e.disk) (acks_are : e.report.acks ≡ acks)
+        (fates : e.report.fates ≡ fates_by (length l.calls) K acks) (order : e.report.order ≡ map (λ (t : Act Txn). t.call.call.number) (reported s.ends K))
+        (tables : IsTablesOf (sight (setting_of l) s).row e.report.tables) where
+      abbrev declared : List (List ℕ)
+      declared = load.declarations.tables
+
+      report_is : (failed : Option ℕ) → IsReportOf load run failed (report_text declared e.report failed)
+      report_is failed =
+          reported_by n m mode load l K s course run t.is e.report failed (acks_are ∙ sym t.told)
+          (fates ∙ ap (λ (a : List (ℕ × List ℕ)). fates_by (length l.calls) K a) (sym t.told))
+          order tables over.rests
+
+      heard_by : (b : Bool) → e.sink_failed ≡ b → hears → Heard held e.report.acks b held1
+      heard_by b is told = subst (λ (a : List (ℕ × List ℕ)). Heard held a b held1) (sym acks_are) (subst (λ (x : Bool). Heard held acks x held1) is (heard told))
+
+      tells_ok : (e.disk ≡ None) → e.sink_failed ≡ false → Wrote hears held1 held' (rest_text declared e.report None) → SaysRun G n m mode load old new hears held held' faults faults' status.Ok
+      tells_ok none works wrote =
+          let going : IsLowestStopped n s None = subst (λ (o : Option ℕ). IsLowestStopped n s o) none low in
+          record {
+            facts = facts (Rose faults faults') (λ j k. G.tells → Made G.number G.short old new j k) (Wrote hears held held') (λ j. fault_text (status.DiskFault j)) ending.Done (core_run true whole)
+                (has_ended over complete, complete going, (report_text declared e.report None, report_is None, whole_text hears held held1 held' declared e.report None (heard_by false works) wrote));
+            kind = refl;
+            disk = λ j f. absurd (cc);
+            clean = λ f. clean_below G n (catalogue_of load) l s streams_are old new many all n (omega arith) going;
+            stopped = λ j f tells. absurd (cc);
+            told = λ j f tells. absurd (cc);
+            sink = λ f. absurd (cc);
+            not_empty = λ i size g. absurd (cc);
+            long = λ i size lt tells is. absurd (none_is_long G.seen old G.tells n i size tells streams.empty lt is);
+            asked = λ i size g. absurd (cc);
+            rest = rest_is G n (catalogue_of load) l s old mid new ws ws' streams back t.writers;
+          }
+
+      tells_disk : (j : ℕ) → (e.disk ≡ Some j) → e.sink_failed ≡ false → Wrote hears held1 held' (rest_text declared e.report (Some j)) → SaysRun G n m mode load old new hears held held' faults faults' (status.DiskFault j)
+      tells_disk j is works wrote =
+          let here : IsLowestStopped n s (Some j) = subst (λ (o : Option ℕ). IsLowestStopped n s o) is low in
+          let same : (i : ℕ) → status.DiskFault j ≡ status.DiskFault i → j ≡ i = λ i f. cc in
+          record {
+            facts = facts (Rose faults faults') (λ i k. G.tells → Made G.number G.short old new i k) (Wrote hears held held') (λ i. fault_text (status.DiskFault i)) (ending.DiskFailed j) (inl (core_run true whole))
+                (inl (
+                  has_ended over complete,
+                  λ i lt. made_all G n (catalogue_of load) l s streams_are old new many all i lt,
+                  (report_text declared e.report (Some j), report_is (Some j), whole_text hears held held1 held' declared e.report (Some j) (heard_by false works) wrote),
+                ));
+            kind = refl;
+            disk = λ i f. subst (λ (k : ℕ). (k < n) × RoseAt G.faults old new k) (same i f) (here.0, rose_at G n (catalogue_of load) l s streams_are old new many all j here.1.0 here.0 here.1.1);
+            clean = λ f. absurd (cc);
+            stopped = λ i f tells. subst (λ (k : ℕ). IsFirstStopped G.tells G.number G.fails G.short old new k) (same i f) (first_stopped G n (catalogue_of load) l s streams_are old new many all j here.1.0 here.0 here.1.1 here.2 tells);
+            told = λ i f tells. inr (subst (λ (k : ℕ). (c : ℕ) × (calls_to_open < c) × Made G.number G.short old new k c) (same i f) (stopped_late G n (catalogue_of load) l s streams_are old new many all j here.1.0 here.0 here.1.1 tells));
+            sink = λ f. absurd (cc);
+            not_empty = λ i size g. absurd (cc);
+            long = λ i size lt tells is. absurd (none_is_long G.seen old G.tells n i size tells streams.empty lt is);
+            asked = λ i size g. absurd (cc);
+            rest = rest_is G n (catalogue_of load) l s old mid new ws ws' streams back t.writers;
+          }
+
+      tells_sink : Rose faults faults' → (i : ℕ) × (i < length (report_text declared e.report e.disk)) × Wrote hears held held' (take i (report_text declared e.report e.disk)) → SaysRun G n m mode load old new hears held held' faults faults' status.WriteFault
+      tells_sink rose cut = record {
+        facts = facts (Rose faults faults') (λ j k. G.tells → Made G.number G.short old new j k) (Wrote hears held held') (λ j. fault_text (status.DiskFault j)) ending.SinkFailed (core_run true whole)
+            (has_ended over complete, (report_text declared e.report e.disk, e.disk, cut.0, report_is e.disk, names e.disk low, cut.1, cut.2));
+        kind = refl;
+        disk = λ j f. absurd (cc);
+        clean = λ f. absurd (cc);
+        stopped = λ j f tells. absurd (cc);
+        told = λ j f tells. absurd (cc);
+        sink = λ f. rose;
+        not_empty = λ i size g. absurd (cc);
+        long = λ i size lt tells is. absurd (none_is_long G.seen old G.tells n i size tells streams.empty lt is);
+        asked = λ i size g. absurd (cc);
+        rest = rest_is G n (catalogue_of load) l s old mid new ws ws' streams back t.writers;
+      }
+
+      tells_memory : e.sink_failed ≡ false → held' ≡ held1 → SaysRun G n m mode load old new hears held held' faults faults' status.NoMemory
+      tells_memory works same = record {
+        facts = facts (Rose faults faults') (λ j k. G.tells → Made G.number G.short old new j k) (Wrote hears held held') (λ j. fault_text (status.DiskFault j)) ending.NoMemory
+            (core_run false t.part)
+            (length run.acks, inl (λ told. same ∙ heard_by false works told ∙ ap (λ (a : List (ℕ × List ℕ)). held ++ ack_lines a) (acks_are ∙ sym t.told ∙ sym (take_long (length run.acks) run.acks (omega arith)))));
+        kind = refl;
+        disk = λ j f. absurd (cc);
+        clean = λ f. absurd (cc);
+        stopped = λ j f tells. absurd (cc);
+        told = λ j f tells. absurd (cc);
+        sink = λ f. absurd (cc);
+        not_empty = λ i size g. absurd (cc);
+        long = λ i size lt tells is. absurd (none_is_long G.seen old G.tells n i size tells streams.empty lt is);
+        asked = λ i size g. absurd (cc);
+        rest = rest_is G n (catalogue_of load) l s old mid new ws ws' streams back t.writers;
+      }
+
+      pub tells_end : (answer : Status) → TellsEnd declared e hears held1 held' (Rose faults1 faults') answer → SaysRun G n m mode load old new hears held held' faults faults' answer
+      tells_end status.Ok h = tells_ok h.1 h.0 h.2
+      tells_end (status.DiskFault j) h = tells_disk j h.1 h.0 h.2
+      tells_end status.WriteFault (inl gone) =
+          let rose = sink gone.0 in
+          tells_sink (omega (arith, rose, late)) (lines_cut hears held held1 held' declared e.report e.disk (λ told. subst (λ (x : List ℕ). Heard held e.report.acks true x) (sym gone.1) (heard_by true gone.0 told)))
+      tells_end status.WriteFault (inr cut) =
+          let rose = cut.1 in
+          tells_sink (omega (arith, rose, early)) (rest_cut hears held held1 held' declared e.report e.disk cut.2.0 cut.2.1 (heard_by false cut.0) cut.2.2)
+      tells_end status.NoMemory h = tells_memory h.0 h.1
+      tells_end status.Usage h = absurd h
+      tells_end (status.BadText at why) h = absurd h
+      tells_end status.ReadFault h = absurd h
+      tells_end (status.BadLog fault) h = absurd h
+      tells_end (status.NotEmpty j long) h = absurd h
+      tells_end status.TooLong h = absurd h
