@@ -1,5 +1,5 @@
 -- A key is freed; a read-only call joins the committed ones by its first.
-use Rattle.std.proofs.Common.{ℕ, ◌≡◌, Bool, true, false, List, [], ◌∷◌, ◌++◌, refl, sym, ap, subst, ◌∙◌, Option, length-set}
+use Rattle.std.proofs.Common.{ℕ, ◌≡◌, Bool, true, false, List, [], ◌∷◌, ◌++◌, refl, sym, ap, subst, ◌∙◌, append_assoc, Option, length-set}
 use Rattle.std.specs.Prelude.{Some, None, ◌==◌, if◌then◌else◌, map, slice_get, slice_set}
 use Rattle.std.specs.Map.{lookup}
 use Rattle.std.proofs.lemmas.List.{append-nil}
@@ -7,8 +7,9 @@ use Rattle.std.proofs.lemmas.Bool.{eq-eqb, ne_eqb}
 use Rattle.std.proofs.lemmas.Option.{slice_get_within}
 use Rattle.tau_base.specs.Database.{same_key}
 use Rattle.tau_base.specs.Shards.{shard_number}
-use Rattle.tau_model.specs.History.{Act}
+use Rattle.tau_model.specs.History.{Act, Reordered}
 use Rattle.tau_model.specs.declared.committed.Committed.{Committed}
+use Rattle.tau_model.proofs.Reorder.{reordered-itself}
 use Rattle.tau_machine.specs.Hands.{Txn, Hand, Freeing, lv_of, committed_of}
 use Rattle.tau_machine.specs.Shard.{at, Shard, shard_freed}
 use Rattle.tau_machine.specs.Worker.{Worker, hand_joined, hand_freed}
@@ -69,8 +70,20 @@ join-none workers w = record {
 pub join-one : (workers w : ℕ) (c : Committed) → worker_of workers c.number ≡ w → JoinAt workers w (c ∷ [])
 join-one workers w c e = record { here = λ xs. by-self workers w xs c e; elsewhere = λ u ne xs. by-other workers w u xs c e ne }
 
-pub order-on : (xs joined : List Committed) (K more : List (Act Txn)) → xs ≡ map committed_of K → joined ≡ map committed_of more → xs ++ joined ≡ map committed_of (K ++ more)
-order-on xs joined K more e f = ap (λ (l : List Committed). l ++ joined) e ∙ ap (λ (l : List Committed). map committed_of K ++ l) f ∙ sym (map-append committed_of K more)
+-- a list and another order of it, with these behind both
+in-front : {A : Type 0} (xs ys zs : List A) → Reordered xs ys → Reordered (xs ++ zs) (ys ++ zs)
+in-front [] ys zs e = rw e (reordered-itself zs)
+in-front {A} (x ∷ xs) ys zs (front, back, e, r) = (
+  front,
+  back ++ zs,
+  ap (λ (l : List A). l ++ zs) e ∙ append_assoc front (x ∷ back) zs,
+  subst (λ (l : List A). Reordered (xs ++ zs) l) (append_assoc front back zs) (in-front xs (front ++ back) zs r),
+)
+
+pub order-on : (xs joined : List Committed) (K more : List (Act Txn)) → Reordered (map committed_of K) xs → joined ≡ map committed_of more → Reordered (map committed_of (K ++ more)) (xs ++ joined)
+order-on xs joined K more e f =
+    subst (λ (l : List Committed). Reordered (map committed_of (K ++ more)) (xs ++ l)) (sym f)
+    (subst (λ (l : List Committed). Reordered l (xs ++ map committed_of more)) (sym (map-append committed_of K more)) (in-front (map committed_of K) xs (map committed_of more) e))
 
 -- a worker's part is another one, and calls of it join the committed ones
 module _ (p : Plain) (h : Hidden) (w : ℕ) (seat new : PlainSeat) (joined : List Committed) (is : slice_get p.seats w ≡ Some seat) (joins : JoinAt p.load.workers w joined) where

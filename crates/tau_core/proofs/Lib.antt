@@ -6,6 +6,7 @@ pub mod Clerk
 pub mod CommitLeads
 pub mod Elsewhere
 pub mod FirstSteps
+pub mod Emptied
 pub mod Firsts
 pub mod Found
 pub mod FreeLeads
@@ -18,10 +19,12 @@ pub mod Holders
 pub mod Idle
 pub mod Joins
 pub mod Leaving
-pub mod LeftOvers
+pub mod LeftBack
+pub mod LetGo
 pub mod Lists
 pub mod Loads
 pub mod Lowest
+pub mod Merged
 pub mod More
 pub mod Moved
 pub mod NextLock
@@ -34,6 +37,7 @@ pub mod Posts
 pub mod Promises
 pub mod Pushes
 pub mod Retries
+pub mod Rested
 pub mod RowPuts
 pub mod Seats
 pub mod Settled
@@ -47,6 +51,6 @@ pub mod Taken
 pub mod Takes
 pub mod Turns
 pub mod Undone
+pub mod Waits
 pub mod Whole
 pub mod WorkerSteps
-pub mod Waits

@@ -1,9 +1,9 @@
 -- The laws, from those of the machine.
-use Rattle.std.proofs.Common.{ℕ, ◌+◌, ◌<◌, ◌≡◌, List, [], ◌∷◌, ◌++◌, length, ap, subst, ◌∙◌, arith, length-append}
-use Rattle.std.specs.Prelude.{slice_index}
+use Rattle.std.proofs.Common.{ℕ, ◌+◌, ◌<◌, ◌≡◌, List, [], ◌∷◌, ◌++◌, length, ap, ◌∙◌, arith, length-append}
+use Rattle.std.specs.Prelude.{map, slice_index}
 use Rattle.std.proofs.lemmas.Option.{slice_get_within}
-use Rattle.tau_model.specs.History.{Reordered}
-use Rattle.tau_model.specs.declared.committed.Committed.{Committed}
+use Rattle.tau_model.proofs.Reorder.{reordered-trans}
+use Rattle.tau_machine.specs.Hands.{committed_of}
 use Rattle.tau_machine.specs.State.{Item, start_of, past_of}
 use Rattle.tau_machine.specs.Pieces.{Chain}
 use Rattle.tau_machine.proofs.Results.{order_theorem, rows_theorem, reported_theorem, numbers_theorem, cuts_theorem, streams_theorem, acknowledged_theorem, contents_theorem, light_theorem, committed_theorem, ended_theorem}
@@ -23,7 +23,7 @@ pub reported_law : ReportedLaw
 reported_law p K h g = reported_theorem (setting_of p.load) K (core_of p h) g.inv
 
 pub numbers_law : NumbersLaw
-numbers_law p K h g list r = numbers_theorem (setting_of p.load) K (core_of p h) g.inv list (subst (λ (l : List Committed). Reordered l list) g.order r)
+numbers_law p K h g list r = numbers_theorem (setting_of p.load) K (core_of p h) g.inv list (reordered-trans (map committed_of K) p.committed list g.order r)
 
 pub cuts_law : CutsLaw
 cuts_law p K h g = cuts_theorem (setting_of p.load) K (core_of p h) g.inv

@@ -14,6 +14,7 @@ pub mod Locks
 pub mod Managers
 pub mod NextLock
 pub mod Opens
+pub mod Parts
 pub mod Phases
 pub mod Pieces
 pub mod Plain

@@ -3,7 +3,7 @@ use Rattle.std.specs.Prelude.{ℕ, ◌+◌, ◌≤◌, ◌≡◌, Bool, true, fa
 use Rattle.tau_base.specs.declared.limits.TheConstants.{MAX_BODY, MAX_CALLS, SHARDS}
 use Rattle.tau_base.specs.declared.value.Call.{Call}
 use Rattle.tau_proc.specs.Takes.{takes}
-use Rattle.tau_model.specs.History.{Act, Member}
+use Rattle.tau_model.specs.History.{Act, Member, Reordered}
 use Rattle.tau_machine.specs.Hands.{Txn, Hand, committed_of, act_in}
 use Rattle.tau_machine.specs.Invariant.{Invariant}
 use Rattle.tau_machine.specs.Pieces.{placed_in}
@@ -87,7 +87,8 @@ anchors_at p j = anchors_in (slice_get p.streams j)
 pub record Stands (p : Plain) (K : List (Act Txn)) (h : Hidden) : Type 0 where
   pub sound : Sound p
   pub inv : Invariant (setting_of p.load) K (core_of p h)
-  pub order : p.committed ≡ map committed_of K
+  -- the calls that are kept are those of the commit order, in some order, with each worker's own by `inv`
+  pub order : Reordered (map committed_of K) p.committed
   -- what is posted, by workers and by managers
   pub posted : (w : ℕ) (s : PlainSeat) → slice_get p.seats w ≡ Some s → Paired (IsPieceOf p.load (anchors_at p)) s.outbox.pieces (h.posted w)
   pub own : (j : ℕ) (s : PlainStream) → slice_get p.streams j ≡ Some s → Paired (IsPieceOf p.load (anchors_at p)) s.own.pieces (h.own j)

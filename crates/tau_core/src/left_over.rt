@@ -10,7 +10,7 @@ use tau_base::NoMemory;
 
 /// The numbers of the calls that a worker left over, in the order in which it did.
 #[derive(Drop)]
-pub(crate) struct LeftOvers {
+pub struct LeftOvers {
     numbers: VecDeque<u64>,
     /// Whether it is known that they ascend.
     ascends: bool,
@@ -30,7 +30,7 @@ impl Model for LeftOvers {
 }
 
 impl LeftOvers {
-    pub(crate) fn new(alloc: Global) -> Self
+    pub fn new(alloc: Global) -> Self
         ensures { result.numbers ≡ [] }
     {
         LeftOvers {
@@ -40,7 +40,7 @@ impl LeftOvers {
     }
 
     /// Makes room for one more.
-    pub(crate) fn reserve(&mut self) -> Result<(), NoMemory>
+    pub fn reserve(&mut self) -> Result<(), NoMemory>
         ensures numbers { self.new.numbers ≡ self.old.numbers }
         ensures room { self.old.room ≤ self.new.room }
         ensures roomy { OnOk result (1 ≤ self.new.room) }
@@ -52,7 +52,7 @@ impl LeftOvers {
     }
 
     /// Puts one more behind the others.
-    pub(crate) fn push(&mut self, number: u64)
+    pub fn push(&mut self, number: u64)
         requires { 1 ≤ self.old.room }
         ensures { self.new.numbers ≡ self.old.numbers ++ number ∷ [] }
     {
@@ -77,20 +77,20 @@ impl LeftOvers {
     }
 
     /// Whether it is known that they ascend.
-    pub(crate) fn ascends(&self) -> bool
+    pub fn ascends(&self) -> bool
         ensures { result ≡ true → IsNonDecreasing self.now.numbers }
     {
         self.ascends
     }
 
-    pub(crate) fn len(&self) -> usize
+    pub fn len(&self) -> usize
         ensures { result ≡ length self.now.numbers }
     {
         self.numbers.len()
     }
 
     /// The one that stands there.
-    pub(crate) fn get(&self, at: usize) -> u64
+    pub fn get(&self, at: usize) -> u64
         requires { at < length self.now.numbers }
         ensures { slice_get self.now.numbers at ≡ Some result }
     {
@@ -98,7 +98,7 @@ impl LeftOvers {
     }
 
     /// Takes the one out that stands there.
-    pub(crate) fn remove(&mut self, at: usize)
+    pub fn remove(&mut self, at: usize)
         requires { at < length self.old.numbers }
         ensures numbers { self.new.numbers ≡ remove self.old.numbers at }
         ensures room { self.old.room ≤ self.new.room }

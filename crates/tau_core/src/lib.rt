@@ -2,6 +2,7 @@
 #![tactic(auto)]
 
 mod anchor;
+mod apart;
 mod begin;
 mod body;
 mod commit;
@@ -29,11 +30,14 @@ mod sweep;
 mod tables;
 mod top;
 
+pub use apart::Parts;
 pub use event::{Event, Outcome, Phase};
 pub use laws::{
     acknowledged_calls_survive, committed_calls_are_of_the_run, cuts_are_closed,
     dependence_is_covered, gathered_bytes_spell_the_stream, numbers_are_of_the_reported_history,
     rows_are_of_the_commit_order, rows_are_of_the_reported_history, vectors_stay_light,
 };
+pub use left_over::LeftOvers;
 pub use opening::Opening;
+pub use state::{Load, Seat, Stream};
 pub use top::Core;

@@ -13,28 +13,28 @@ use tau_txn::Txn;
 
 /// What a run stands on. No event changes it.
 #[derive(Drop)]
-pub(crate) struct Load {
-    pub(crate) procs: Procs,
-    pub(crate) calls: Listed<Call>,
-    pub(crate) mode: LogMode,
-    pub(crate) workers: usize,
-    pub(crate) streams: usize,
-    pub(crate) opening: Opening,
+pub struct Load {
+    pub procs: Procs,
+    pub calls: Listed<Call>,
+    pub mode: LogMode,
+    pub workers: usize,
+    pub streams: usize,
+    pub opening: Opening,
 }
 
 /// A worker: its calls, and what it shares with managers and the clerk.
 #[derive(Drop)]
-pub(crate) struct Seat {
+pub struct Seat {
     /// The number of its next call, if there is one.
-    pub(crate) next: usize,
+    pub next: usize,
     /// A call left over that comes before.
-    pub(crate) again: Option<u64>,
-    pub(crate) txn: Txn,
+    pub again: Option<u64>,
+    pub txn: Txn,
     /// Where the record of the call in hand starts, from its place to its post.
-    pub(crate) start: u64,
-    pub(crate) left: LeftOvers,
-    pub(crate) outbox: Outbox,
-    pub(crate) pending: Pending,
+    pub start: u64,
+    pub left: LeftOvers,
+    pub outbox: Outbox,
+    pub pending: Pending,
 }
 
 impl Model for Seat {
@@ -47,13 +47,13 @@ impl Model for Seat {
 
 /// A stream: what its manager has.
 #[derive(Drop)]
-pub(crate) struct Stream {
+pub struct Stream {
     /// The anchors that it placed and has not gathered.
-    pub(crate) own: Outbox,
-    pub(crate) anchors: Vec<Lv>,
-    pub(crate) stop: Option<u64>,
+    pub own: Outbox,
+    pub anchors: Vec<Lv>,
+    pub stop: Option<u64>,
     /// What was gathered since the body was taken.
-    pub(crate) body: Vec<u8>,
+    pub body: Vec<u8>,
 }
 
 impl Model for Stream {
@@ -73,7 +73,7 @@ pub(crate) struct State {
     pub(crate) shards: Vec<Shard>,
     pub(crate) seats: Vec<Seat>,
     pub(crate) streams: Vec<Stream>,
-    /// The calls that have committed, in the order in which they did.
+    /// The calls that have committed, of each worker in the order in which they did.
     pub(crate) committed: Vec<Committed>,
     /// Of each stream where the last place ends, where what is gathered ends, and how far it is persisted.
     pub(crate) ends: Lv,

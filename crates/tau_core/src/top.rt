@@ -1,11 +1,11 @@
 //! The core.
-ghost use Rattle.std.specs.Prelude.{◌≡◌, ◌<◌, ◌≤◌, ◌↔◌, IfOk, IsTrue, List, length, map, slice_get};
+ghost use Rattle.std.specs.Prelude.{◌≡◌, ◌<◌, ◌≤◌, ◌↔◌, IfOk, IsTrue, List, length, map, slice_get, slice_index};
 ghost use Rattle.tau_base.specs.Shards.{shard_number};
 ghost use Rattle.tau_base.specs.declared.limits.TheConstants.{MAX_CATALOGUE, MAX_STREAMS, MAX_WORKERS};
 ghost use Rattle.tau_text.specs.Canonical.{declarations_text};
 ghost use Rattle.tau_text.specs.Kept.{AreCalls};
 ghost use Rattle.tau_model.specs.Tables.{IsTablesOf};
-ghost use Rattle.tau_model.specs.History.{Act};
+ghost use Rattle.tau_model.specs.History.{Act, Reordered};
 ghost use Rattle.tau_machine.specs.Hands.{Txn, committed_of};
 ghost use Rattle.tau_machine.specs.State.{hand_of, sight};
 ghost use Rattle.tau_core.specs.View.{Hidden, core_of, pending_in, setting_of};
@@ -14,10 +14,12 @@ ghost use Rattle.tau_core.specs.Phases.{hand_phase};
 ghost use Rattle.tau_core.specs.Steps.{HandsOut, IsThere, Steps};
 ghost use Rattle.tau_core.specs.Opens.{Fits, Opened, OpenedFresh, catalogue_size, load_of};
 ghost use Rattle.tau_core.specs.LeftOvers.{ResumeSteps};
+ghost use Rattle.tau_core.specs.Parts.{AreShown, AtRest, IsOfParts, Shows};
 ghost use Rattle.tau_core.specs.Retries.{RetrySteps};
 ghost use Rattle.tau_core.specs.NextLock.{TellsLock};
 
 use crate::anchor::anchor;
+use crate::apart::{Parts, parts_of, state_of};
 use crate::body::take_body;
 use crate::commit::commit;
 use crate::done::done;
@@ -104,6 +106,25 @@ impl Core {
         }
     }
 
+    /// Takes the core apart.
+    pub fn into_parts(self) -> Parts
+        ensures same { result ≡ self }
+        ensures shown { (K : List (Act Txn)) (h : Hidden) → Stands self K h → Shows result (core_of self h) h.taken }
+    {
+        parts_of(self.state)
+    }
+
+    /// The core of these parts, where each call in hand is let go: it holds no key, and has not committed. It takes no memory.
+    pub fn of_parts(parts: Parts) -> Core
+        requires rests { AtRest parts }
+        requires shown { AreShown parts }
+        ensures { IsOfParts parts result }
+    {
+        Core {
+            state: state_of(parts),
+        }
+    }
+
     /// One event: it happens, or nothing changes.
     pub fn step(&mut self, event: Event) -> Outcome
         requires there { IsThere self.old event }
@@ -167,6 +188,16 @@ impl Core {
         self.state.gathered
     }
 
+    /// Whether all that was placed in the stream is gathered.
+    pub fn is_gathered(&self, stream: u8) -> bool
+        requires there { stream < self.now.load.streams }
+        ensures { IsTrue result ↔ (slice_index self.now.gathered stream ≡ slice_index self.now.ends stream) }
+    {
+        let upto = self.state.gathered.get(stream as usize);
+        let past = self.state.ends.get(stream as usize);
+        upto == past
+    }
+
     /// The vector of the shard's keys that have no entry.
     pub fn floor(&self, shard: u8) -> Lv
         requires there { shard < SHARDS }
@@ -184,10 +215,10 @@ impl Core {
         part.value(key)
     }
 
-    /// The committed calls, in the order in which they committed.
+    /// The committed calls, each worker's in the order in which they committed.
     pub fn committed(&self) -> &[Committed]
         ensures same { result.now ≡ self.now.committed }
-        ensures order { (K : List (Act Txn)) (h : Hidden) → Stands self.now K h → result.now ≡ map committed_of K }
+        ensures order { (K : List (Act Txn)) (h : Hidden) → Stands self.now K h → Reordered (map committed_of K) result.now }
     {
         self.state.committed.as_slice()
     }

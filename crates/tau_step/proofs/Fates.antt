@@ -1,5 +1,5 @@
 -- Marks and fates by number, and what a core that stands says of them.
-use Rattle.std.proofs.Common.{ℕ, zero, suc, ◌+◌, ◌-◌, ◌<◌, ◌≡◌, inl, inr, Bool, true, false, List, [], ◌∷◌, ◌++◌, length, map, get_or, refl, sym, ap, subst, ◌∙◌, Option, arith, length-append}
+use Rattle.std.proofs.Common.{ℕ, zero, suc, ◌+◌, ◌-◌, ◌<◌, ◌≡◌, inl, inr, Bool, true, false, List, [], ◌∷◌, ◌++◌, length, map, get_or, refl, sym, ap, subst, ◌∙◌, ◌⊎◌, ⊎_elim, Option, arith, length-append}
 use Rattle.std.specs.Prelude.{Some, None, ◌==◌, ◌||◌, if◌then◌else◌, replicate, slice_get, slice_set, slice_index_or}
 use Rattle.std.specs.List.{All}
 use Rattle.std.proofs.lemmas.List.{map-append, get_or_append_left, set-append_left, replicate-append-replicate}
@@ -11,17 +11,21 @@ use Rattle.tau_base.specs.declared.value.Call.{Call}
 use Rattle.tau_proc.specs.declared.reply.Reply.{Reply}
 use Rattle.tau_model.specs.declared.committed.Committed.{Committed}
 use Rattle.tau_model.specs.Committed.{number_of, has_record, place_of, reported_numbers, IsWithin}
-use Rattle.tau_model.specs.History.{Act, Member}
+use Rattle.tau_model.specs.History.{Act, Member, Before, Reordered}
+use Rattle.tau_model.proofs.Orders.{member-reordered}
+use Rattle.tau_model.proofs.Reorder.{reordered-itself, reordered-sym}
 use Rattle.tau_machine.specs.Hands.{Txn, committed_of}
 use Rattle.tau_machine.specs.Reports.{reported}
 use Rattle.tau_machine.proofs.Mapped.{reported-map}
 use Rattle.tau_core.specs.State.{Plain}
-use Rattle.tau_core.specs.View.{Hidden, call_of}
+use Rattle.tau_core.specs.View.{Hidden, call_of, core_of, setting_of}
 use Rattle.tau_core.specs.Stands.{Stands}
-use Rattle.tau_core.proofs.Promises.{committed_law}
+use Rattle.tau_core.proofs.Promises.{committed_law, numbers_law}
 use Rattle.tau_report.specs.declared.report.Fate.{Fate}
 use Rattle.tau_report.specs.declared.report.Fate.TheVariants.{Unrun}
 use Rattle.tau_run.specs.Run.{below, fate}
+use Rattle.tau_run.proofs.Told.{Apart, apart_reordered}
+use Rattle.tau_run.proofs.Order.{again_of}
 use Rattle.tau_step.specs.RunTold.{fates_by, is_told, reply_at}
 use Rattle.tau_step.specs.Fates.{IsNumberOf, fates_in, marks_in, reply_in}
 
@@ -152,10 +156,54 @@ number-is calls n c e = elim (cases_eq n 0) [
   | inr nz ↦ (let lt = slice_get_within calls (n - 1) c (sym (if-no (n == 0) None (slice_get calls (n - 1)) (ne_eqb n 0 nz)) ∙ e) in (omega (arith, nz), omega (arith, lt, nz)))
 ]
 
+-- the reply of the call with this number, where no two have one
+reply-of : (k : ℕ) (ts : List (Act Txn)) → Apart ts → (t : Act Txn) → Member t ts → t.call.call.number ≡ k → reply_at k ts ≡ Some t.effect.reply
+reply-of k [] apart t m e = absurd m
+reply-of k (x ∷ ts) apart t (inl s) e =
+    if-yes (x.call.call.number == k) (Some x.effect.reply) (reply_at k ts) (eq-eqb x.call.call.number k (ap (λ (y : Act Txn). y.call.call.number) s ∙ e)) ∙ ap (λ (y : Act Txn). Some y.effect.reply) s
+reply-of k (x ∷ ts) apart t (inr m) e =
+    if-no (x.call.call.number == k) (Some x.effect.reply) (reply_at k ts) (ne_eqb x.call.call.number k (λ f. apart x t (inl (refl, m)) (f ∙ sym e)))
+    ∙ reply-of k ts (λ u v b. apart u v (inr b)) t m e
+
+reply-none : (k : ℕ) (ts : List (Act Txn)) → ((t : Act Txn) → Member t ts → t.call.call.number ≡ k → ⊥) → reply_at k ts ≡ None
+reply-none k [] none = refl
+reply-none k (x ∷ ts) none =
+    if-no (x.call.call.number == k) (Some x.effect.reply) (reply_at k ts) (ne_eqb x.call.call.number k (none x (inl refl))) ∙ reply-none k ts (λ t m. none t (inr m))
+
+-- there is one, or none
+one-or-none : (k : ℕ) (ts : List (Act Txn)) → ((t : Act Txn) × Member t ts × (t.call.call.number ≡ k)) ⊎ ((t : Act Txn) → Member t ts → t.call.call.number ≡ k → ⊥)
+one-or-none k [] = inr (λ t m e. m)
+one-or-none k (x ∷ ts) = elim (cases_eq x.call.call.number k) [
+  | inl e ↦ inl (x, inl refl, e)
+  | inr ne ↦ elim (one-or-none k ts) [
+    | inl q ↦ inl (q.0, inr q.1, q.2)
+    | inr none ↦ inr (λ t m e. ⊎_elim (λ (s : x ≡ t). ne (ap (λ (y : Act Txn). y.call.call.number) s ∙ e)) (λ n. none t n e) m)
+  ]
+]
+
+replies-again : (K calls : List (Act Txn)) → Apart K → Reordered K calls → (k : ℕ) → reply_at k calls ≡ reply_at k K
+replies-again K calls apart same k = elim (one-or-none k K) [
+  | inl q ↦ reply-of k calls (apart_reordered K calls apart same) q.0 (member-reordered calls K (reordered-sym K calls same) q.0 q.1) q.2 ∙ sym (reply-of k K apart q.0 q.1 q.2)
+  | inr none ↦ reply-none k calls (λ t m e. none t (member-reordered K calls same t m) e) ∙ sym (reply-none k K none)
+]
+
 module _ (p : Plain) (K : List (Act Txn)) (h : Hidden) (g : Stands p K h) where
+  -- the committed calls, in whatever order they are kept, have the fates and the history of the commit order
+  pub fates-stand : (told : List (ℕ × List ℕ)) → fates_in (length p.load.calls) p.committed told ≡ fates_by (length p.load.calls) K told
+  fates-stand told =
+      let q = numbers_law p K h g p.committed (reordered-itself p.committed) in
+      ap (λ (l : List Committed). fates_in (length p.load.calls) l told) (sym q.2) ∙ fates-same (length p.load.calls) q.0 told
+      ∙ same-below (λ k. fate (reply_at (k + 1) q.0) (is_told told (k + 1))) (λ k. fate (reply_at (k + 1) K) (is_told told (k + 1))) (length p.load.calls)
+      (λ k lt. ap (λ (r : Option Reply). fate r (is_told told (k + 1))) (sym (replies-again K q.0 (committed_law p K h g).1 q.1 (k + 1))))
+
+  pub order-stands : reported_numbers p.ends p.committed ≡ map (λ (t : Act Txn). t.call.call.number) (reported p.ends K)
+  order-stands =
+      let q = numbers_law p K h g p.committed (reordered-itself p.committed) in
+      q.3 ∙ ap (map (λ (t : Act Txn). t.call.call.number)) (again_of (setting_of p.load) K (core_of p h) g.inv q.0 q.1)
+
   of-committed : (P : Committed → Type 0) → ((t : Act Txn) → Member t K → P (committed_of t)) → All P p.committed
   of-committed P each k d lt =
-      let (t, m, e) = of-map committed_of K (slice_index_or p.committed k d) (subst (λ (l : List Committed). Member (slice_index_or p.committed k d) l) g.order (at-member p.committed k d lt)) in
+      let (t, m, e) = of-map committed_of K (slice_index_or p.committed k d) (member-reordered (map committed_of K) p.committed g.order (slice_index_or p.committed k d) (at-member p.committed k d lt)) in
       subst P e (each t m)
 
   pub committed-numbers : All (λ c. IsNumberOf (length p.load.calls) c.number) p.committed

@@ -8,17 +8,21 @@ use Rattle.tau_stream.specs.Writer.{durable_of, left_of}
 use Rattle.tau_model.specs.History.{Act}
 use Rattle.tau_machine.specs.Hands.{Txn}
 use Rattle.tau_machine.specs.Events as machine
+use Rattle.tau_machine.specs.Events.{stop}
 use Rattle.tau_core.specs.Plain.{PlainStream}
 use Rattle.tau_core.specs.State.{Plain}
 use Rattle.tau_core.specs.View.{Hidden}
 use Rattle.tau_core.specs.Stands.{Stands, anchors_at}
 use Rattle.tau_core.specs.Pieces.{Spelled}
+use Rattle.tau_core.specs.Steps.{Happened}
+use Rattle.tau_core.proofs.Idle.{idle-gathered}
 use Rattle.tau_core.proofs.Lists.{some-at}
 use Rattle.tau_step.specs.declared.manager.Managing.TheVariants as did
-use Rattle.tau_step.specs.Keeping.{IsFilled, IsLoaded, GatheredTurns}
+use Rattle.tau_step.specs.Keeping.{IsCurrent, IsFilled, IsLoaded, GatheredTurns, ManagerTurns}
 use Rattle.tau_step.proofs.Bodies.{body-long}
 use Rattle.tau_step.proofs.Flushing.{flush-idle}
 use Rattle.tau_step.proofs.Handing.{gathered-turns}
+use Rattle.tau_step.proofs.Gathering.{filled, manager-turns}
 
 module _ {D : Type 0} {G : Ghosts D} (j : ℕ) (catalogue : List ℕ) (upto : ℕ) (w : Writer D G) (p : Plain) (K : List (Act Txn)) (h : Hidden)
     (g : Stands p K h) (there : j < p.load.streams) (l : IsFilled j catalogue upto w p h) (same : upto ≡ durable_of w) where
@@ -58,3 +62,15 @@ module _ {D : Type 0} {G : Ghosts D} (j : ℕ) (catalogue : List ℕ) (upto : �
   gathered-idle told es =
       gathered-turns j catalogue upto w w w p p p told K h es (record { hidden = h; same = refl; stands = g; load = refl; taken = λ i ne. refl }) refl did.Idle
       (flush-idle j catalogue upto w p told K h es g has-all same)
+
+-- the turn of a manager whose stream is gathered to its end: a Gather in which nothing changes
+module _ {D : Type 0} {G : Ghosts D} (j : ℕ) (catalogue : List ℕ) (w : Writer D G) (p : Plain) (told : List (ℕ × List ℕ)) (K : List (Act Txn)) (h : Hidden) (es : List machine.Event)
+    (g : Stands p K h) (there : j < p.load.streams) (size : length catalogue ≡ slice_index p.load.opening.ends j) (l : IsCurrent j catalogue w p h) (all : slice_index p.gathered j ≡ slice_index p.ends j) where
+  abbrev gathers-none : Happened (machine.Gather j) p p K h
+  gathers-none = record { hidden = h; joined = []; leads = (stop, refl); stands = subst (λ (order : List (Act Txn)). Stands p order h) (sym (append-nil K)) g; load = refl; taken = refl }
+
+  pub manager-rests : ManagerTurns j catalogue w w p p told K h es did.Idle
+  manager-rests =
+      let upto : ℕ = slice_index p.gathered j in
+      manager-turns j catalogue w p p told K h es g there size l gathers-none p w (idle-gathered p (K, h, g) j there all) did.Idle
+      (gathered-idle j catalogue upto w p (K ++ []) h gathers-none.stands there (filled j catalogue w p p told K h es g there size l gathers-none upto refl) (l.gathered ∙ sym l.durable) told (es ++ machine.Gather j ∷ []))

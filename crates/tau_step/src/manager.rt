@@ -44,6 +44,10 @@ pub(crate) fn manager_turn<D: Disk>(
     if writer.failed() {
         return Ok(Managing::Idle);
     }
+    // Behind each turn what is gathered is durable.
+    if core.is_gathered(stream) {
+        return Ok(Managing::Idle);
+    }
     // The stream is not stopped, since its disk has not failed.
     let Outcome::Gathered { upto } = core.step(Event::Gather { stream }) else {
         return Err(NoMemory);

@@ -1,10 +1,9 @@
-use Rattle.std.proofs.Common.{ℕ, ◌∙◌, List, length, map, sym, ap, subst}
+use Rattle.std.proofs.Common.{ℕ, ◌∙◌, List, length, sym, ap, subst}
 use Rattle.std.specs.List.{All}
 use Rattle.tau_model.specs.declared.committed.Committed.{Committed}
 use Rattle.tau_model.specs.Committed.{IsWithin, reported_numbers}
-use Rattle.tau_machine.specs.Hands.{committed_of}
 use Rattle.tau_step.specs.Fates.{IsNumberOf, fates_in}
-use Rattle.tau_step.proofs.Fates.{committed-numbers, committed-within, fates-same, order-same}
+use Rattle.tau_step.proofs.Fates.{committed-numbers, committed-within, fates-stand, order-stands}
 use Rattle.tau_step.proofs.end.end_of.Goals as goal
 
 pub fates_of-requires-clause-committed : goal.fates_of-requires-clause-committed
@@ -23,14 +22,14 @@ pub returns-clause-fates : goal.returns-clause-fates
 returns-clause-fates c = λ K h g.
     let acks : List (ℕ × List ℕ) = c.args.run.clerk.acks in
     c.of.ensures ∙ c.in_ok-fates.ensures
-    ∙ ap (λ (l : List Committed). fates_in c.args.calls l c.as_slice.result.now) (c.committed.ensures.order K h g)
-    ∙ ap (λ (a : List (ℕ × List ℕ)). fates_in c.args.calls (map committed_of K) a) c.as_slice.ensures
-    ∙ ap (λ (n : ℕ). fates_in n (map committed_of K) acks) c.requires.calls
-    ∙ fates-same (length c.args.run.core.load.calls) K acks
+    ∙ ap (λ (l : List Committed). fates_in c.args.calls l c.as_slice.result.now) c.committed.ensures.same
+    ∙ ap (λ (a : List (ℕ × List ℕ)). fates_in c.args.calls c.args.run.core.committed a) c.as_slice.ensures
+    ∙ ap (λ (n : ℕ). fates_in n c.args.run.core.committed acks) c.requires.calls
+    ∙ fates-stand c.args.run.core K h g acks
 
 pub returns-clause-order : goal.returns-clause-order
 returns-clause-order c = λ K h g.
     c.of-2.ensures ∙ c.in_ok-order.ensures
     ∙ ap (λ (e : List ℕ). reported_numbers e c.committed-2.result.now) c.ends.ensures
-    ∙ ap (reported_numbers c.args.run.core.ends) (c.committed-2.ensures.order K h g)
-    ∙ order-same c.args.run.core.ends K
+    ∙ ap (reported_numbers c.args.run.core.ends) c.committed-2.ensures.same
+    ∙ order-stands c.args.run.core K h g

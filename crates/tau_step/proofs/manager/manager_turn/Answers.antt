@@ -6,11 +6,17 @@ use Rattle.tau_core.specs.declared.event.Event.TheVariants as event
 use Rattle.tau_machine.specs.Events as machine
 use Rattle.tau_core.specs.Steps.{Steps}
 use Rattle.tau_step.proofs.Gathering.{filled, manager-turned, manager-idle, is-current, is-broken, gather-short}
+use Rattle.tau_step.proofs.NothingNew.{manager-rests}
 use Rattle.tau_step.proofs.manager.manager_turn.Goals as goal
 
 pub returns-then-failed : goal.returns-then-failed
 returns-then-failed g c = λ catalogue K h es told stands size kept.
     manager-idle c.args.stream catalogue c.args.writer.now c.args.core.now told K h es stands (is-broken c.args.stream catalogue c.args.writer.now c.args.core.now h (sym c.failed.ensures ∙ c.if-failed.true) kept)
+
+pub returns-then-is_gathered : goal.returns-then-is_gathered
+returns-then-is_gathered g c = λ catalogue K h es told stands size kept.
+    let l = is-current c.args.stream catalogue c.args.writer.now c.args.core.now h (sym c.failed.ensures ∙ c.if-failed.false) kept in
+    manager-rests c.args.stream catalogue c.args.writer.now c.args.core.now told K h es stands c.requires.there size l (c.is_gathered.ensures.0 c.if-is_gathered.true)
 
 pub flush_gathered-requires : goal.flush_gathered-requires
 flush_gathered-requires g c =

@@ -5,7 +5,7 @@ use Rattle.tau_core.specs.State.{Plain, plain}
 use Rattle.tau_core.specs.View.{Hidden}
 use Rattle.tau_core.specs.Stands.{Stands}
 use Rattle.tau_core.specs.LeftOvers.{ResumeSteps}
-use Rattle.tau_core.proofs.LeftOvers.{resume-steps, resume-stood}
+use Rattle.tau_core.proofs.LeftBack.{resume-steps, resume-stood}
 use Rattle.tau_core.proofs.top.Core.resume.Goals as goal
 
 pub invariant_of-self : goal.invariant_of-self
