@@ -29,7 +29,7 @@ use Rattle.tau_core.specs.State.{Plain}
 use Rattle.tau_core.specs.View.{call_of, worker_of, from_on, again_in, all_numbered, committed_by, setting_of, core_of, shard_in, worker_in, worker_at, pending_in, anchors_in, stop_in}
 use Rattle.tau_core.specs.Pieces.{IsPieceOf, Paired}
 use Rattle.tau_core.specs.Stands.{is_open, open_calls, AreNumbers, SoundSeat, Sound, anchors_at, Stands}
-use Rattle.tau_core.specs.Opens.{IsUnlocked, Opens, Opened, nothing}
+use Rattle.tau_core.specs.Opens.{IsUnlocked, Opens, Opened, calls_of, nothing}
 use Rattle.tau_core.proofs.Lists.{some-at}
 use Rattle.tau_core.proofs.Numbers.{numbers}
 use Rattle.tau_core.proofs.Shards.{shard-small}
@@ -237,12 +237,19 @@ module _ (p : Plain) (o : Opens p.load p) where
       let there = stands-there p.load.calls p.load.workers k o.sound.workers_low some high in
       (w, subst (λ (wk : Worker). 1 ≤ in_worker k wk) (sym (seat-rests w found.0 found.1)) (omega (arith, there)))
 
+  calls-wait : (w : ℕ) → w < p.load.workers → (worker_at p w).waiting ≡ calls_of p.load w
+  calls-wait w lt =
+      let within : w < length p.seats = (let c = o.seats.count in omega arith) in
+      let found = some-at p.seats w within in
+      ap (λ (wk : Worker). wk.waiting) (seat-rests w found.0 found.1)
+
   is-opened : Opened p.load p
   is-opened = record {
     load = refl;
     opening = is-opening;
     stands = is-standing;
     waits = call-waits;
+    waiting = calls-wait;
     floor_low = floor-there (λ v. AtMost p.load.opening.floor v) (λ s u. u.low);
     floor_high = floor-there (λ v. AtMost v p.load.opening.floor) (λ s u. u.high);
   }

@@ -1,5 +1,5 @@
 -- The calls of a worker, when none has begun: each has its number, no number comes twice, all are its own, and each number is there.
-use Rattle.std.proofs.Common.{ℕ, zero, suc, ◌+◌, ◌-◌, ◌%◌, ◌<◌, ◌≤◌, ◌≡◌, Bool, true, false, ◌⊎◌, inl, inr, List, [], ◌∷◌, length, drop, refl, sym, ap, subst, ◌∙◌, arith}
+use Rattle.std.proofs.Common.{ℕ, zero, suc, ◌+◌, ◌-◌, ◌%◌, ◌<◌, ◌≤◌, ◌≡◌, Bool, true, false, ◌⊎◌, inl, inr, List, [], ◌∷◌, length, drop, refl, sym, ap, ◌∙◌, arith}
 use Rattle.std.specs.Prelude.{Some, None, ◌==◌, if◌then◌else◌, slice_get}
 use Rattle.std.proofs.Math.Nat.{add-mod_right, mod-eq_of_lt, mod-le}
 use Rattle.std.proofs.lemmas.Bool.Decides.{leb_tells}

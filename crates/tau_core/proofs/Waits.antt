@@ -1,5 +1,5 @@
 -- Whether a call of a worker waits.
-use Rattle.std.proofs.Common.{ℕ, ◌≤◌, ◌==◌, ◌≡◌, Bool, true, false, List, [], ◌∷◌, length, sym, ap, ◌∙◌, arith}
+use Rattle.std.proofs.Common.{◌≤◌, ◌==◌, ◌≡◌, Bool, true, false, List, [], ◌∷◌, length, sym, ap, ◌∙◌, arith}
 use Rattle.std.specs.Prelude.{◌↔◌, IsTrue, not}
 use Rattle.std.proofs.lemmas.Bool.{ne_eqb}
 use Rattle.tau_ack.specs.declared.Waiting.{Waiting}

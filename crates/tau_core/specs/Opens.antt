@@ -14,6 +14,7 @@ use Rattle.tau_record.specs.Record.{spelling}
 use Rattle.tau_record.specs.declared.entry.Entry.TheVariants.{Catalogue}
 use Rattle.tau_text.specs.Kept.{AreCalls}
 use Rattle.tau_model.specs.Tables.{db_of_rows}
+use Rattle.tau_model.specs.History.{Numbered}
 use Rattle.tau_machine.specs.Accounts.{in_worker}
 use Rattle.tau_machine.specs.Runs.{IsOpening}
 use Rattle.tau_shard.specs.Plain.{PlainShard}
@@ -22,7 +23,7 @@ use Rattle.tau_core.specs.declared.opening.Opening.{Opening}
 use Rattle.tau_core.specs.declared.state.Load.{Load}
 use Rattle.tau_core.specs.Plain.{PlainSeat, PlainStream}
 use Rattle.tau_core.specs.State.{Plain}
-use Rattle.tau_core.specs.View.{setting_of, Hidden, core_of}
+use Rattle.tau_core.specs.View.{setting_of, from_on, Hidden, core_of}
 use Rattle.tau_core.specs.Stands.{Stands}
 
 -- the parts of an opening fit one another: the ends cover the floor
@@ -117,12 +118,17 @@ pub record Opens (l : Load) (p : Plain) : Type 0 where
 abbrev pub nothing : Hidden
 nothing = record { posted = λ w. []; own = λ j. []; moved = λ j. []; acked = λ w. []; taken = λ j. [] }
 
--- the core of this run, in which nothing has happened: an opening of the machine, with an empty commit order; each call waits, and each shard has the opening's floor
+-- the calls of a worker, ascending
+abbrev pub calls_of : Load → ℕ → List Numbered
+calls_of l w = from_on l.calls l.workers (w + 1)
+
+-- the core of this run, in which nothing has happened: an opening of the machine, with an empty commit order; each worker waits on exactly its calls, and each shard has the opening's floor
 pub record Opened (l : Load) (p : Plain) : Type 0 where
   pub load : p.load ≡ l
   pub opening : IsOpening (setting_of p.load) (core_of p nothing)
   pub stands : Stands p [] nothing
   pub waits : (k : ℕ) → 1 ≤ k → k ≤ length l.calls → (w : ℕ) × (1 ≤ in_worker k ((core_of p nothing).workers w))
+  pub waiting : (w : ℕ) → w < l.workers → ((core_of p nothing).workers w).waiting ≡ calls_of l w
   pub floor_low : (i : ℕ) → i < SHARDS → AtMost l.opening.floor ((core_of p nothing).shards i).floor
   pub floor_high : (i : ℕ) → i < SHARDS → AtMost ((core_of p nothing).shards i).floor l.opening.floor
 
