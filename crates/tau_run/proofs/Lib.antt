@@ -25,3 +25,4 @@ pub mod Led
 pub mod Acks
 pub mod Rows
 pub mod Sources
+pub mod Start

@@ -1,6 +1,6 @@
 -- What is known of the workload that a text means: its calls and its steps name declared tables alone.
-use Rattle.std.proofs.Common.{ℕ, zero, suc, ◌+◌, ◌<◌, ◌≡◌, Bool, true, false, cond, List, [], ◌∷◌, ◌++◌, length, Option, Some, None, Result, Ok, Err, bytes_eq, refl, sym, ap, subst, ◌∙◌, arith}
-use Rattle.std.specs.Prelude.{nat_lt, nat_abs, pos, slice_get, if◌then◌else◌}
+use Rattle.std.proofs.Common.{ℕ, zero, suc, ◌+◌, ◌<◌, ◌≡◌, Bool, true, false, cond, List, [], ◌∷◌, ◌++◌, length, Option, Some, Ok, bytes_eq, refl, ap, subst, ◌∙◌, arith}
+use Rattle.std.specs.Prelude.{nat_lt, slice_get, if◌then◌else◌}
 use Rattle.std.specs.List.{list_all}
 use Rattle.std.proofs.lemmas.Bool.{and_from}
 use Rattle.std.proofs.lemmas.Grind.{common_steps}
@@ -20,15 +20,15 @@ use Rattle.tau_text.specs.declared.heads.Head.TheVariants as heads
 use Rattle.tau_text.specs.declared.heads.StepHead.{StepHead}
 use Rattle.tau_text.specs.declared.heads.StepHead.TheVariants as inner
 use Rattle.tau_text.specs.declared.fault.TextCause.TheVariants.{BadStep, UnknownName}
-use Rattle.tau_text.specs.Given.{◌>>=◌, or_else}
+use Rattle.tau_text.specs.Given.{or_else}
 use Rattle.tau_text.specs.Spelled.{first, ended, whole, literal, name, place_from, known, register, operand}
 use Rattle.tau_text.specs.Forms.{get_words, put_words, del_words, sum_words, test_words, reply_words, step_line, with_step, number_value, call_of, key_words, put_call, add_call, key_call, names_of, literals, args_at, proc_call}
 use Rattle.tau_text.specs.Text.{workload_of}
 use Rattle.tau_text_laws.proofs.Binds.{bind_ok}
 use Rattle.tau_text_laws.proofs.Unique.{was_some}
 use Rattle.tau_text_laws.proofs.MoreTables.{one_step}
-use Rattle.tau_text_laws.proofs.Told.{StepTold, StepsTold, last_step, ProcTold, ProcsTold, call_read, CallTold, CallsTold}
-use Rattle.tau_text_laws.proofs.Law.{Source, source, load_of, declarations_read, declarations_fit}
+use Rattle.tau_text_laws.proofs.Told.{StepsTold, last_step, ProcsTold, call_read, CallsTold}
+use Rattle.tau_text_laws.proofs.Law.{source, load_of, declarations_read, declarations_fit}
 use Rattle.tau_text_laws.proofs.Ranges.{declarations_bytes}
 use Rattle.tau_scan.specs.Reading.{has_table, names_table, is_of_table}
 use Rattle.tau_run.specs.Course.{step_named, IsSoundLoad}

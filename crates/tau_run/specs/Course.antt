@@ -10,9 +10,11 @@ use Rattle.tau_machine.specs.Pieces.{Chain, records_in, anchors_in, NameTheirs, 
 use Rattle.tau_machine.specs.Reports.{reported}
 use Rattle.tau_text.specs.declared.load.Workload.{Workload}
 use Rattle.tau_core.specs.declared.state.Load.{Load}
+use Rattle.tau_core.specs.Opens.{calls_of}
 use Rattle.tau_core.specs.Pieces.{Spelled}
 use Rattle.tau_core.specs.View.{setting_of, worker_of}
-use Rattle.tau_base.specs.declared.limits.TheConstants.{MAX_CATALOGUE}
+use Rattle.tau_base.specs.declared.limits.TheConstants.{MAX_CATALOGUE, SHARDS}
+use Rattle.tau_base.specs.Vectors.{AtMost}
 use Rattle.tau_base.specs.declared.value.Call.{Call}
 use Rattle.tau_proc.specs.declared.proc.Proc.{Proc}
 use Rattle.tau_proc.specs.declared.step.Step.{Step}
@@ -33,15 +35,23 @@ pub record IsLoadOf (n m : ℕ) (mode : LogMode) (load : Workload) (l : Load) : 
   pub workers : l.workers ≡ m
   pub streams : l.streams ≡ n
   pub rows : l.opening.rows ≡ []
+  pub floor : l.opening.floor ≡ replicate n 0
   pub ends : l.opening.ends ≡ replicate n (length (catalogue_of load))
   pub anchors : l.opening.anchors.items ≡ replicate n 0
+
+-- The state in which a run on this begins: the floor of each shard is that of the opening, and each worker waits on
+-- exactly its calls, ascending.
+pub record IsStart (l : Load) (opening : Core) : Type 0 where
+  pub floor_low : (i : ℕ) → i < SHARDS → AtMost l.opening.floor (opening.shards i).floor
+  pub floor_high : (i : ℕ) → i < SHARDS → AtMost (opening.shards i).floor l.opening.floor
+  pub waiting : (w : ℕ) → w < l.workers → (opening.workers w).waiting ≡ calls_of l w
 
 -- the acknowledgements, as they were told, are those of each worker in their order
 abbrev pub AreAcks : Load → Core → List (ℕ × List ℕ) → Type 0
 AreAcks l s acks = (w : ℕ) → filter (λ (a : ℕ × List ℕ). worker_of l.workers a.0 == w) acks ≡ map pair_of (s.acked w)
 
--- The stream was given the catalogue, and behind it the bytes of all its items: those that were gathered, and those
--- that wait behind them up to its end.
+-- The stream was given the catalogue, and after it the bytes of all its items: those that were gathered, and those
+-- that wait after them up to its end.
 pub record IsGiven (l : Load) (K : List (Act Txn)) (s : Core) (j : ℕ) (catalogue content : List ℕ) : Type 0 where
   pub waiting : List Item
   pub moved : Chain (length catalogue) (s.streams j).moved (slice_index s.gathered j)

@@ -7,7 +7,7 @@ use Rattle.tau_machine.specs.State.{Ticket, Core}
 use Rattle.tau_core.specs.declared.state.Load.{Load}
 use Rattle.tau_core.specs.Pieces.{Spelled}
 
--- the image has the catalogue and behind it the bytes of the first of the items that were gathered
+-- the image has the catalogue and after it the bytes of the first of the items that were gathered
 pub record HasFront (n j : ℕ) (catalogue : List ℕ) (l : Load) (s : Core) (bytes image : List ℕ) : Type 0 where
   pub count : ℕ
   pub spelled : Spelled l (λ i. (s.streams i).anchors) (take count (s.streams j).moved) bytes

@@ -70,7 +70,7 @@ abbrev pub Distinct : List ℕ → Type 0
 Distinct [] = Unit {0}
 Distinct (k ∷ ks) = (Member k ks → ⊥) × Distinct ks
 
--- the records stand one behind the other, from this place to that
+-- the records stand one after the other, from this place to that
 abbrev pub StandBetween : ℕ → ℕ → List Committed → Type 0
 StandBetween from to [] = from ≤ to
 StandBetween from to (c ∷ cs) = (from ≤ c.place.start) × (c.place.start < c.place.past) × StandBetween c.place.past to cs

@@ -11,10 +11,10 @@ use Rattle.tau_core.specs.declared.state.Load.{Load}
 use Rattle.tau_core.specs.View.{setting_of}
 use Rattle.tau_run.specs.Run.{Run, IsHistory, IsReportOf, AllAcked}
 use Rattle.tau_run.specs.Facts.{catalogue_of, IsImaged, IsAcknowledged, IsEnded}
-use Rattle.tau_run.specs.Course.{IsLoadOf, IsRunOf}
+use Rattle.tau_run.specs.Course.{IsLoadOf, IsStart, IsRunOf}
 use Rattle.tau_run.specs.Turns.{Progress, IsWholeRun, IsPartOfRun}
 
--- how a run ended: to its end, with a stream whose disk failed, where the sink failed, for want of memory, or it was not begun
+-- how a run ended: it went to its end, a disk failed, the sink failed, it ran out of memory, or it was not begun
 pub data Ending : Type 0 where
   Done : Ending
   DiskFailed : ℕ → Ending
@@ -68,6 +68,7 @@ pub record IsCoreRun (by : Load → Core → Progress → Type 0) (n m : ℕ) (m
   pub stands_on : Load
   pub load_is : IsLoadOf n m mode load stands_on
   pub opening : Core
+  pub start : IsStart stands_on opening
   pub progress : Progress
   pub led : machine.Run (setting_of stands_on) opening progress.events progress.joined progress.state
   pub chosen : by stands_on opening progress

@@ -1,13 +1,15 @@
 -- Runs by turns: which events the turns of a run name.
-use Rattle.std.specs.Prelude.{ℕ, ◌+◌, ◌-◌, ◌<◌, ◌^◌, ◌==◌, ◌≡◌, ◌⊎◌, ◌&&◌, ◌||◌, not, nat_lt, Bool, true, false, is_some, is_none, List, [], ◌∷◌, ◌++◌, map, length, slice_index}
+use Rattle.std.specs.Prelude.{ℕ, ◌+◌, ◌-◌, ◌<◌, ◌≤◌, ◌^◌, Some, ◌==◌, ◌≡◌, ◌⊎◌, ◌&&◌, ◌||◌, not, nat_lt, Bool, true, false, is_some, is_none, List, [], ◌∷◌, ◌++◌, map, length, slice_index}
 use Rattle.std.specs.List.{list_any}
+use Rattle.tau_base.specs.declared.value.Key.{Key}
+use Rattle.tau_base.specs.declared.value.Mode.{Mode}
 use Rattle.tau_base.specs.Vectors.{covers}
 use Rattle.tau_base.specs.declared.limits.TheConstants.{MAX_BODY, SHARDS}
 use Rattle.tau_model.specs.History.{Act, Member}
-use Rattle.tau_machine.specs.Hands.{Txn}
+use Rattle.tau_machine.specs.Hands.{Txn, Hand}
 use Rattle.tau_core.specs.Pieces.{newest_of}
 use Rattle.tau_machine.specs.State.{Setting, Ticket, Item, start_of, past_of, Core}
-use Rattle.tau_machine.specs.Events.{Event, Lock, Busy, Quit, Commit, Post, Free, FirstFree, Done, DoneReading, Drop, Gather, PlaceAnchor, Persist, Ack, Stop, Resume, Leads}
+use Rattle.tau_machine.specs.Events.{Event, Lock, Busy, Quit, Commit, Post, Free, FirstFree, Done, DoneReading, Drop, Gather, PlaceAnchor, Persist, Ack, Stop, Resume, Leads, ready, lock_next, Conflicts}
 use Rattle.tau_text.specs.declared.load.Turn.{Turn}
 use Rattle.tau_text.specs.declared.load.Turn.TheVariants as turn
 use Rattle.tau_run.specs.Run.{below}
@@ -92,17 +94,33 @@ module _ (set : Setting) (m n : ℕ) where
   NamesNewest (Commit w) s new = (t : Act Txn) → Member t new → t.call.anchor ≡ newest_of (set.anchored (set.stream_of w)) (s.streams (set.stream_of w)).anchors
   NamesNewest _ s new = Unit {0}
 
+  -- another worker holds the key that the worker wants next, in a mode that conflicts
+  pub record IsBarred (w : ℕ) (s : Core) : Type 0 where
+    pub hand : Hand
+    pub key : Key
+    pub mode : Mode
+    pub is : (ready set s w).hand ≡ Some hand
+    pub next : lock_next set hand ≡ Some (key, mode)
+    pub held : Conflicts set (s.shards (set.shard_of key)) w key mode
+
+  -- a worker is Busy only if it is barred so
+  abbrev pub BusyHasHolder : Event → Core → Type 0
+  BusyHasHolder (Busy w) s = IsBarred w s
+  BusyHasHolder _ s = Unit {0}
+
   -- the next action of the worker
   abbrev pub Worked : ℕ → Progress → Progress → Type 0
-  Worked w p p' = IfSo (has_work p.state w) ((e : Event) × IsOwn w e × (q : Goes e p p') × NamesNewest e p.state q.new) (Stays p p')
+  Worked w p p' = IfSo (has_work p.state w) ((e : Event) × IsOwn w e × (q : Goes e p p') × NamesNewest e p.state q.new × BusyHasHolder e p.state) (Stays p p')
 
   -- the first of these items does not continue what was gathered, or it is too long for the block that is to be written
   abbrev pub Waits : Core → ℕ → List Item → Type 0
   Waits s j [] = Unit {0}
   Waits s j (i ∷ items) = start_of i ≡ slice_index s.gathered j → slice_index s.plv j + MAX_BODY < past_of i
 
-  -- nothing is left that can be gathered, of what the manager and the workers of the stream have posted
+  -- the stream is gathered by at most one block beyond what is persisted, and nothing is left that can be gathered of what
+  -- the manager and the workers of the stream have posted
   pub record IsGathered (j : ℕ) (s : Core) : Type 0 where
+    pub near : slice_index s.gathered j ≤ slice_index s.plv j + MAX_BODY
     pub own : Waits s j (s.streams j).posted
     pub posted : (w : ℕ) → w < m → set.stream_of w ≡ j → Waits s j (s.outboxes w).posted
 
