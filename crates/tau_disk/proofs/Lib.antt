@@ -1,3 +1,4 @@
 pub mod Tears
 pub mod Images
 pub mod Replays
+mod Kept

@@ -1,5 +1,5 @@
 -- The images of a memory disk, as its calls are replayed.
-use Rattle.std.proofs.Common.{◌≡◌, ℕ, zero, suc, ◌+◌, ◌-◌, ◌<◌, ◌≤◌, List, [], ◌∷◌, ◌++◌, length, take, drop, get_or, refl, sym, ◌∙◌, ap, subst, arith, take-append-drop, length-append}
+use Rattle.std.proofs.Common.{◌≡◌, ℕ, ◌+◌, List, [], ◌∷◌, ◌++◌, length, take, drop, refl, sym, ◌∙◌, ap, subst, arith, take-append-drop, length-append}
 use Rattle.std.proofs.lemmas.List.{take_all, drop_all, take-append-le, drop-append-le}
 use Rattle.tau_disk.specs.declared.call.DiskCall.{DiskCall}
 use Rattle.tau_disk.specs.declared.call.DiskCall.TheVariants.{Wrote, Lost, Synced}
@@ -85,3 +85,7 @@ ends_other calls last call ends other = record {
   calm = λ bytes. subst (λ (l : List DiskCall). IsCalm (replayed (opened bytes) l)) (sym (take-append-le last calls (call ∷ []) ends.within)) (ends.calm bytes);
   rest = subst IsUnsynced (sym (drop-append-le last calls (call ∷ []) ends.within)) (unsynced-append (drop last calls) (call ∷ []) ends.rest other);
 }
+
+-- one call after the others
+pub one_more : (s : DiskState) (old new : List DiskCall) (call : DiskCall) → new ≡ old ++ call ∷ [] → replayed s new ≡ after_call (replayed s old) call
+one_more s old new call is = ap (replayed s) is ∙ replayed-append s old (call ∷ [])

@@ -5,7 +5,7 @@ use Rattle.std.specs.Prelude.{◌≡◌, ◌⊎◌, ℕ, ◌+◌, ◌<◌, ◌�
 abbrev pub MadeAll : ℕ → ℕ → ℕ → (ℕ → Bool) → Bool → Bool → Type 0
 MadeAll count number number' fails short short' = (number' ≡ number + count) × (short' ≡ short) × ((k : ℕ) → number < k → k ≤ number + count → fails k ≡ false)
 
--- at most so many calls were made, and the last one was the first that was to fail, or memory was short
+-- at most so many calls were made, and the last one was the first that was to fail, or a growth was refused
 abbrev pub MadeSome : ℕ → ℕ → ℕ → (ℕ → Bool) → Bool → Type 0
 MadeSome count number number' fails short' = ((number < number') × (number' ≤ number + count) × (fails number' ≡ true) × ((k : ℕ) → number < k → k < number' → fails k ≡ false)) ⊎ (short' ≡ true)
 

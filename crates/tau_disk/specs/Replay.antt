@@ -1,7 +1,7 @@
 -- A disk by its calls.
-use Rattle.std.specs.Prelude.{◌≡◌, ◌⊎◌, ℕ, zero, suc, ◌+◌, ◌<◌, ◌≤◌, max, List, [], ◌∷◌, ◌++◌, length, take, drop, replicate, slice_index, Bool, ◌||◌, ◌&&◌, ◌==◌, nat_le, Option, Some, None}
+use Rattle.std.specs.Prelude.{◌≡◌, ◌⊎◌, ℕ, zero, suc, ◌+◌, ◌<◌, ◌≤◌, max, List, [], ◌∷◌, ◌++◌, length, take, drop, replicate, slice_index, Bool, false, ◌||◌, ◌==◌, nat_le, Option, Some, None}
 use Rattle.std.specs.List.{list_any}
-use Rattle.std.proofs.Common.{inl, inr, arith}
+use Rattle.std.proofs.Common.{inr, arith}
 use Rattle.tau_disk.specs.declared.call.DiskCall.{DiskCall}
 use Rattle.tau_disk.specs.declared.call.DiskCall.TheVariants.{Wrote, Lost, Synced}
 
@@ -25,9 +25,17 @@ over at bytes file = take at file ++ bytes ++ drop (at + length bytes) file
 abbrev pub sevens : ℕ → List ℕ
 sevens count = replicate count 7
 
+-- after a write of these bytes
+abbrev pub wrote : DiskState → ℕ → List ℕ → DiskState
+wrote s at bytes = record { synced = s.synced; seen = over at bytes s.seen; torn = over at (sevens (length bytes)) s.torn; tears = (at, length bytes) ∷ s.tears }
+
+-- after a write of so many bytes of which nothing more is known
+abbrev pub lost : DiskState → ℕ → ℕ → DiskState
+lost s at count = record { synced = s.synced; seen = s.seen; torn = s.torn; tears = (at, count) ∷ s.tears }
+
 abbrev pub after_call : DiskState → DiskCall → DiskState
-after_call s (Wrote at bytes) = record { synced = s.synced; seen = over at bytes.items s.seen; torn = over at (sevens (length bytes.items)) s.torn; tears = (at, length bytes.items) ∷ s.tears }
-after_call s (Lost at count) = record { synced = s.synced; seen = s.seen; torn = s.torn; tears = (at, count) ∷ s.tears }
+after_call s (Wrote at bytes) = wrote s at bytes.items
+after_call s (Lost at count) = lost s at count
 after_call s Synced = record { synced = s.seen; seen = s.seen; torn = s.seen; tears = [] }
 
 abbrev pub replayed : DiskState → List DiskCall → DiskState
@@ -76,7 +84,16 @@ since_only s (call ∷ calls) x since = since_only (after_call s call) calls x s
 abbrev pub is_from : ℕ → ℕ → Bool
 is_from from k = nat_le from k
 
+-- whether the number is in the list
+abbrev pub is_in : List ℕ → ℕ → Bool
+is_in numbers k = list_any (λ n. n == k) numbers
+
 -- whether the call with this number is to fail: it is in the list, or at the stop or later
 abbrev pub is_planned : List ℕ → Option ℕ → ℕ → Bool
 is_planned failing None k = list_any (λ n. n == k) failing
 is_planned failing (Some from) k = list_any (λ n. n == k) failing || is_from from k
+
+-- whether the call with this number is the one at the stop
+abbrev pub is_stop : Option ℕ → ℕ → Bool
+is_stop None k = false
+is_stop (Some from) k = from == k

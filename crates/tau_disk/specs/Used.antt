@@ -46,7 +46,7 @@ OneCall tells number short d e = tells → short e ≡ false → number e ≡ nu
 abbrev pub IsClean : {D : Type 0} → Type 0 → (D → ℕ) → (D → ℕ → Bool) → D → D → Type 0
 IsClean tells number fails d e = tells → (k : ℕ) → number d < k → k ≤ number e → fails d k ≡ false
 
--- the last call of the disk was the first one that is to fail, or its memory was short
+-- the last call of the disk was the first one that is to fail, or it was refused a growth
 abbrev pub IsStopped : {D : Type 0} → Type 0 → (D → ℕ) → (D → ℕ → Bool) → (D → Bool) → D → D → Type 0
 IsStopped tells number fails short d e = tells → (short e ≡ true)
     ⊎ ((number d < number e) × (fails d (number e) ≡ true) × ((k : ℕ) → number d < k → k < number e → fails d k ≡ false))
@@ -55,7 +55,7 @@ IsStopped tells number fails short d e = tells → (short e ≡ true)
 abbrev pub IsFirstStopped : {D : Type 0} → Type 0 → (D → ℕ) → (D → ℕ → Bool) → (D → Bool) → List D → List D → ℕ → Type 0
 IsFirstStopped tells number fails short old new j = OfDisk (IsStopped tells number fails short) old new j × EachUsed (IsClean tells number fails) old new j
 
--- the disk of this stream has had so many calls, where its memory was not short
+-- the disk of this stream has had so many calls, if it was refused no growth
 abbrev pub Made : {D : Type 0} → (D → ℕ) → (D → Bool) → List D → List D → ℕ → ℕ → Type 0
 Made number short old new j k = OfDisk (λ d e. short e ≡ false → number e ≡ number d + k) old new j
 

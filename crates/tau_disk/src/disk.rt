@@ -19,7 +19,7 @@ pub trait Source {
     /// How often it has failed.
     ghost faults: { Self → ℕ };
 
-    /// Moves the first bytes of what is left into the buffer; 0 exactly where nothing is left.
+    /// Moves the first bytes of what is left into the buffer; 0 exactly if nothing is left.
     fn read(&mut self, buf: &mut [u8]) -> Result<usize, Failed>
         requires { 0 < length buf.old }
         ensures bound { IfOk result (λ n. n ≤ length buf.old) }
@@ -38,7 +38,7 @@ pub trait Sink {
     /// How often it has failed.
     ghost faults: { Self → ℕ };
 
-    /// Appends the first bytes of the piece and answers how many, at least one.
+    /// Appends the first bytes of the piece and returns how many, at least one.
     fn write(&mut self, bytes: &[u8]) -> Result<usize, Failed>
         requires { 0 < length bytes.now }
         ensures bound { IfOk result (λ n. (1 ≤ n) × (n ≤ length bytes.now)) }
@@ -66,13 +66,13 @@ pub trait Disk {
     /// How often it has failed.
     ghost faults: { Self → ℕ };
 
-    /// How many calls it has had, where it tells that.
+    /// How many calls it has had, if it tells that.
     ghost number: { Self → ℕ };
 
-    /// Whether the call with this number is to fail, where it tells that.
+    /// Whether the call with this number is to fail, if it tells that.
     ghost fails: { Self → ℕ → Bool };
 
-    /// Whether a call failed for want of memory, where it tells that.
+    /// Whether a call that was not to fail was refused a growth, if it tells that.
     ghost short: { Self → Bool };
 
     /// The length.

@@ -15,7 +15,7 @@ pub enum Place {
     Replay { worker: u8 },
 }
 
-/// Holds a thread at a place, where no lock and no part is held. It answers nothing.
+/// Holds a thread at a place at which no lock and no part is held. It returns nothing.
 pub trait Gate {
     fn at(&self, place: Place);
 }

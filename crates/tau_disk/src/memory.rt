@@ -1,8 +1,8 @@
 // A disk in memory, which keeps its calls.
-ghost use Rattle.std.specs.Prelude.{◌≡◌, ◌+◌, ◌∷◌, ◌++◌, [], ◌≤◌, length, take, drop, List, ℕ, OnOk, OnErr, IfOk, false, true, ◌==◌};
+ghost use Rattle.std.specs.Prelude.{◌≡◌, ◌+◌, ◌∷◌, ◌++◌, [], ◌≤◌, length, take, drop, List, ℕ, OnOk, OnErr, IfOk, false, true, ◌==◌, ◌&&◌, ◌<◌, ◌^◌};
 ghost use Rattle.std.specs.List.{list_any};
-ghost use Rattle.tau_disk.specs.Disk.{Holds, Only, Elapses, HasCause, IsPlanned};
-ghost use Rattle.tau_disk.specs.Replay.{opened, replayed, leaves, leaves_since, since_now, since_only, is_planned, is_from};
+ghost use Rattle.tau_disk.specs.Disk.{Follows, Holds, Only, Elapses, HasCause, IsPlanned, Torn};
+ghost use Rattle.tau_disk.specs.Replay.{opened, replayed, leaves, leaves_since, since_now, since_only, is_planned, is_from, is_in, is_stop};
 
 use crate::image::{old_image, overwrite, torn_image};
 use crate::{Disk, DiskCall, Failed, Tear};
@@ -15,10 +15,11 @@ pub struct MemDisk {
     alloc: Global,
     failing: Vec<u32>,
     stops_at: Option<u32>,
-    writes_last: bool,
+    keeps_last: bool,
     number: u64,
     faults: u64,
     is_short: bool,
+    is_cut: bool,
     first: Vec<u8>,
     calls: Vec<DiskCall>,
     seen: Vec<u8>,
@@ -30,7 +31,7 @@ pub struct MemDisk {
 
 impl MemDisk {
     ghost use Rattle.tau_disk.specs.Tear.{image_by};
-    ghost use Rattle.tau_disk.specs.Memory.{seen_by, state_of, count_of, is_short_by, fails_at};
+    ghost use Rattle.tau_disk.specs.Memory.{seen_by, state_of, count_of, is_short_by, fails_at, keeps_at};
 
     /// An empty disk. The calls with these numbers fail.
     pub fn new(alloc: Global, failing: &[u32]) -> Result<MemDisk, NoMemory>
@@ -39,52 +40,57 @@ impl MemDisk {
         ensures count { IfOk result (λ d. count_of d ≡ 0) }
         ensures short { IfOk result (λ d. is_short_by d ≡ false) }
         ensures plan { IfOk result (λ d. (k : ℕ) → fails_at d k ≡ list_any (λ n. n == k) failing.now) }
+        ensures last { IfOk result (λ d. (k : ℕ) → keeps_at d k ≡ false) }
     {
         let failing = failing.to_vec(alloc).map_err(|_| NoMemory)?;
         Ok(MemDisk {
             alloc,
             failing,
             stops_at: None,
-            writes_last: false,
+            keeps_last: false,
             number: 0,
             faults: 0,
             is_short: false,
+            is_cut: false,
             first: Vec::new(alloc),
             calls: Vec::new(alloc),
             seen: Vec::new(alloc),
         })
     }
 
-    /// An empty disk whose calls from this number on fail. With `writes_last`, what call `from` was to write
-    /// counts as written and not synced.
+    /// An empty disk whose calls from this number on fail. With `writes_last`, if call `from` is a write, what it
+    /// was to write counts as written and not synced.
     pub fn stopping(alloc: Global, from: u32, writes_last: bool) -> Result<MemDisk, NoMemory>
         ensures empty { IfOk result (λ d. seen_by d ≡ []) }
         ensures synced { IfOk result (λ d. state_of d ≡ opened []) }
         ensures count { IfOk result (λ d. count_of d ≡ 0) }
         ensures short { IfOk result (λ d. is_short_by d ≡ false) }
         ensures plan { IfOk result (λ d. (k : ℕ) → fails_at d k ≡ is_from from k) }
+        ensures last { IfOk result (λ d. (k : ℕ) → keeps_at d k ≡ writes_last && is_stop (Some from) k) }
     {
         Ok(MemDisk {
             alloc,
             failing: Vec::new(alloc),
             stops_at: Some(from),
-            writes_last,
+            keeps_last: writes_last,
             number: 0,
             faults: 0,
             is_short: false,
+            is_cut: false,
             first: Vec::new(alloc),
             calls: Vec::new(alloc),
             seen: Vec::new(alloc),
         })
     }
 
-    /// A disk that holds these bytes, all of them synced. No call fails but for want of memory.
+    /// A disk that holds these bytes, all of them synced. A call fails only if it runs out of memory.
     pub fn of_image(alloc: Global, bytes: &[u8]) -> Result<MemDisk, NoMemory>
         ensures holds { IfOk result (λ d. seen_by d ≡ bytes.now) }
         ensures synced { IfOk result (λ d. state_of d ≡ opened bytes.now) }
         ensures count { IfOk result (λ d. count_of d ≡ 0) }
         ensures short { IfOk result (λ d. is_short_by d ≡ false) }
         ensures plan { IfOk result (λ d. (k : ℕ) → fails_at d k ≡ false) }
+        ensures last { IfOk result (λ d. (k : ℕ) → keeps_at d k ≡ false) }
     {
         let first = bytes.to_vec(alloc).map_err(|_| NoMemory)?;
         let seen = bytes.to_vec(alloc).map_err(|_| NoMemory)?;
@@ -92,10 +98,11 @@ impl MemDisk {
             alloc,
             failing: Vec::new(alloc),
             stops_at: None,
-            writes_last: false,
+            keeps_last: false,
             number: 0,
             faults: 0,
             is_short: false,
+            is_cut: false,
             first,
             calls: Vec::new(alloc),
             seen,
@@ -121,15 +128,17 @@ impl MemDisk {
         }
     }
 
-    /// Whether a call failed for want of memory.
+    /// Whether a growth was refused to a call: one that was not to fail, or one that could not keep what it leaves.
     pub fn short(&self) -> bool
         ensures { result ≡ is_short_by self.now }
     {
-        self.is_short
+        self.is_short | self.is_cut
     }
 }
 
 impl Disk for MemDisk {
+    ghost use Rattle.tau_disk.specs.Memory.{seen_by, state_of, count_of, fails_at, StaysAs, WritesTo, SyncsTo};
+
     ghost tells = { Unit {0} };
 
     ghost seen = { λ d. d.seen.items };
@@ -154,7 +163,16 @@ impl Disk for MemDisk {
 
     ghost only_now = { λ d x since. since_only (opened d.first.items) d.calls.items x since };
 
-    fn len(&mut self) -> Result<u64, Failed> {
+    fn len(&mut self) -> Result<u64, Failed>
+        ensures length { IfOk result (λ n. n ≡ length (seen_by self.old)) }
+        ensures seen { seen_by self.new ≡ seen_by self.old }
+        ensures crash { (x : List ℕ) → leaves (state_of self.new) x → leaves (state_of self.old) x }
+        ensures keeps { (x : List ℕ) → leaves (state_of self.old) x → leaves (state_of self.new) x }
+        ensures time { Elapses (length self.old.calls.items) (length self.new.calls.items) (leaves_since (opened self.old.first.items) self.old.calls.items) (leaves_since (opened self.new.first.items) self.new.calls.items) (leaves (state_of self.new)) }
+        ensures plan { IsPlanned (count_of self.old) (count_of self.new) (fails_at self.old) (fails_at self.new) self.old.is_short self.new.is_short result }
+        ensures cause { HasCause self.old.faults self.new.faults result }
+        ensures left { StaysAs self.old self.new }
+    {
         begin(
             &mut self.number,
             &mut self.faults,
@@ -165,7 +183,17 @@ impl Disk for MemDisk {
         Ok(self.seen.len() as u64)
     }
 
-    fn read_at(&mut self, at: u64, buf: &mut [u8]) -> Result<(), Failed> {
+    fn read_at(&mut self, at: u64, buf: &mut [u8]) -> Result<(), Failed>
+        requires { at + length buf.old ≤ length (seen_by self.old) }
+        ensures bytes { OnOk result (buf.new ≡ take (length buf.old) (drop at (seen_by self.old))) }
+        ensures seen { seen_by self.new ≡ seen_by self.old }
+        ensures crash { (x : List ℕ) → leaves (state_of self.new) x → leaves (state_of self.old) x }
+        ensures keeps { (x : List ℕ) → leaves (state_of self.old) x → leaves (state_of self.new) x }
+        ensures time { Elapses (length self.old.calls.items) (length self.new.calls.items) (leaves_since (opened self.old.first.items) self.old.calls.items) (leaves_since (opened self.new.first.items) self.new.calls.items) (leaves (state_of self.new)) }
+        ensures plan { IsPlanned (count_of self.old) (count_of self.new) (fails_at self.old) (fails_at self.new) self.old.is_short self.new.is_short result }
+        ensures cause { HasCause self.old.faults self.new.faults result }
+        ensures left { StaysAs self.old self.new }
+    {
         begin(
             &mut self.number,
             &mut self.faults,
@@ -179,7 +207,17 @@ impl Disk for MemDisk {
         Ok(())
     }
 
-    fn write_at(&mut self, at: u64, bytes: &[u8]) -> Result<(), Failed> {
+    fn write_at(&mut self, at: u64, bytes: &[u8]) -> Result<(), Failed>
+        requires within { at ≤ length (seen_by self.old) }
+        requires end { at + length bytes.now < 2 ^ 62 }
+        ensures written { OnOk result (Holds (seen_by self.old) at bytes.now (seen_by self.new)) }
+        ensures crash { Follows (Torn at (length bytes.now)) (leaves (state_of self.old)) (leaves (state_of self.new)) }
+        ensures keeps { (x : List ℕ) → leaves (state_of self.old) x → leaves (state_of self.new) x }
+        ensures time { Elapses (length self.old.calls.items) (length self.new.calls.items) (leaves_since (opened self.old.first.items) self.old.calls.items) (leaves_since (opened self.new.first.items) self.new.calls.items) (leaves (state_of self.new)) }
+        ensures plan { IsPlanned (count_of self.old) (count_of self.new) (fails_at self.old) (fails_at self.new) self.old.is_short self.new.is_short result }
+        ensures cause { HasCause self.old.faults self.new.faults result }
+        ensures left { WritesTo at bytes.now self.old self.new result }
+    {
         let begun = begin(
             &mut self.number,
             &mut self.faults,
@@ -206,7 +244,7 @@ impl Disk for MemDisk {
                 }
             }
             Err(_) => {
-                if self.writes_last && is_last(self.stops_at, self.number) {
+                if self.keeps_last && is_last(self.stops_at, self.number) {
                     let last = put(
                         self.alloc,
                         &mut self.calls,
@@ -217,7 +255,7 @@ impl Disk for MemDisk {
                     match last {
                         Ok(()) => return Err(Failed),
                         Err(_) => {
-                            self.is_short = true;
+                            self.is_cut = true;
                             return Err(Failed);
                         }
                     }
@@ -226,7 +264,7 @@ impl Disk for MemDisk {
                 match lost {
                     Ok(()) => Err(Failed),
                     Err(_) => {
-                        self.is_short = true;
+                        self.is_cut = true;
                         Err(Failed)
                     }
                 }
@@ -234,7 +272,16 @@ impl Disk for MemDisk {
         }
     }
 
-    fn sync(&mut self) -> Result<(), Failed> {
+    fn sync(&mut self) -> Result<(), Failed>
+        ensures durable { OnOk result (Only (seen_by self.new) (leaves (state_of self.new))) }
+        ensures seen { OnOk result (seen_by self.new ≡ seen_by self.old) }
+        ensures crash { (x : List ℕ) → leaves (state_of self.new) x → leaves (state_of self.old) x }
+        ensures keeps { OnErr result ((x : List ℕ) → leaves (state_of self.old) x → leaves (state_of self.new) x) }
+        ensures time { Elapses (length self.old.calls.items) (length self.new.calls.items) (leaves_since (opened self.old.first.items) self.old.calls.items) (leaves_since (opened self.new.first.items) self.new.calls.items) (leaves (state_of self.new)) }
+        ensures plan { IsPlanned (count_of self.old) (count_of self.new) (fails_at self.old) (fails_at self.new) self.old.is_short self.new.is_short result }
+        ensures cause { HasCause self.old.faults self.new.faults result }
+        ensures left { SyncsTo self.old self.new result }
+    {
         begin(
             &mut self.number,
             &mut self.faults,
@@ -253,7 +300,7 @@ impl Disk for MemDisk {
     }
 }
 
-// Counts a call, and refuses it where it is to fail. At the counter's last value memory for a count is short.
+// Counts a call, and refuses it if it is to fail. At the counter's last value the growth refused is the counter's own.
 fn begin(
     number: &mut u64,
     faults: &mut u64,
@@ -303,7 +350,7 @@ fn put(
     }
 }
 
-// Notes a call behind the others.
+// Notes a call after the others.
 fn note(calls: &mut Vec<DiskCall>, call: DiskCall) -> Result<(), NoMemory>
     ensures ok { OnOk result (calls.new.items ≡ calls.old.items ++ call ∷ []) }
     ensures err { OnErr result (calls.new.items ≡ calls.old.items) }
@@ -316,7 +363,7 @@ fn note(calls: &mut Vec<DiskCall>, call: DiskCall) -> Result<(), NoMemory>
 
 // Whether the number is in the list.
 pub fn is_listed(numbers: &[u32], number: u64) -> bool
-    ensures { result ≡ list_any (λ n. n == number) numbers.now }
+    ensures { result ≡ is_in numbers.now number }
 {
     numbers.iter().any(|n| u64::from(*n) == number)
 }
@@ -336,7 +383,9 @@ fn is_to_fail(failing: &[u32], stops_at: Option<u32>, number: u64) -> bool
 }
 
 // Whether this is the first call that a stop refuses.
-fn is_last(stops_at: Option<u32>, number: u64) -> bool {
+fn is_last(stops_at: Option<u32>, number: u64) -> bool
+    ensures { result ≡ is_stop stops_at number }
+{
     match stops_at {
         Some(from) => u64::from(from) == number,
         None => false,

@@ -77,6 +77,7 @@ fn memory_streams(rt: HostRuntime) -> Result<(), Fail> {
     assert!(rt; sink.write(b"xy").is_err());
     assert_eq!(rt; sink.write(b"c")?, 1);
     assert_eq!(rt; sink.bytes(), b"abc".as_slice());
+    assert!(rt; !sink.short());
     Ok(())
 }
 
@@ -152,6 +153,23 @@ impl Read for Interrupted {
     }
 }
 
+impl Write for Interrupted {
+    fn write(&mut self, buf: &[u8]) -> io::Result<usize> {
+        let call = self.calls;
+        self.calls = call.saturating_add(1);
+        match call {
+            2 => Ok(buf.len().min(3)),
+            4 => Err(io::Error::from(ErrorKind::UnexpectedEof)),
+            6 => Ok(0),
+            _ => Err(io::Error::from(ErrorKind::Interrupted)),
+        }
+    }
+
+    fn flush(&mut self) -> io::Result<()> {
+        Ok(())
+    }
+}
+
 #[test]
 fn an_interrupted_read_is_tried_again(rt: HostRuntime) -> Result<(), Fail> {
     let mut source = ReadSource::new(Interrupted { calls: 0 });
@@ -159,5 +177,14 @@ fn an_interrupted_read_is_tried_again(rt: HostRuntime) -> Result<(), Fail> {
     assert_eq!(rt; source.read(&mut buf)?, 3);
     assert!(rt; source.read(&mut buf).is_err());
     assert_eq!(rt; source.read(&mut buf)?, 0);
+    Ok(())
+}
+
+#[test]
+fn an_interrupted_write_is_tried_again(rt: HostRuntime) -> Result<(), Fail> {
+    let mut sink = WriteSink::new(Interrupted { calls: 0 });
+    assert_eq!(rt; sink.write(b"abcd")?, 3);
+    assert!(rt; sink.write(b"d").is_err());
+    assert!(rt; sink.write(b"d").is_err());
     Ok(())
 }

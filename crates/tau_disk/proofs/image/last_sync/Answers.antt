@@ -1,7 +1,7 @@
 use Rattle.std.proofs.Common.{ℕ, ◌+◌, List, length, take, subst, sym, ap, ◌∙◌, ◌≡◌, ◌++◌, ◌∷◌, [], arith, get_or, refl, ◌<◌}
 use Rattle.std.proofs.lemmas.List.{take_all, take_more, length-take-le}
 use Rattle.tau_disk.specs.declared.call.DiskCall.{DiskCall}
-use Rattle.tau_disk.specs.declared.call.DiskCall.TheVariants.{Wrote, Lost, Synced}
+use Rattle.tau_disk.specs.declared.call.DiskCall.TheVariants.{Synced}
 use Rattle.tau_disk.specs.Tear.{EndsAtSync, IsUnsynced}
 use Rattle.tau_disk.proofs.Replays.{ends_none, ends_synced, ends_other}
 use Rattle.tau_disk.proofs.image.last_sync.Goals as goal

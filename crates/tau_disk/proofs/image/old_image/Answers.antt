@@ -1,4 +1,4 @@
-use Rattle.std.proofs.Common.{sym, ◌∙◌, ap, List, ℕ, length, take, rules, ◌≡◌}
+use Rattle.std.proofs.Common.{sym, ◌∙◌, ap, List, ℕ, take, rules, ◌≡◌}
 use Rattle.tau_disk.specs.Tear.{rewritten}
 use Rattle.tau_disk.proofs.Replays.{old_is}
 use Rattle.tau_disk.proofs.image.old_image.Goals as goal

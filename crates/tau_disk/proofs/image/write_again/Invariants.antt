@@ -1,5 +1,5 @@
 use Rattle.std.proofs.Common.{◌≡◌, take}
-use Rattle.tau_disk.specs.Tear.{rewritten, sevened}
+use Rattle.tau_disk.specs.Tear.{rewritten}
 use Rattle.tau_disk.proofs.image.write_again.Given as goal
 
 abbrev pub invariant-loop-call : goal.invariant-loop-call
