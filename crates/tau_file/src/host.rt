@@ -9,13 +9,15 @@ use std::rt::Files;
 use tau_disk::{Disk, Failed};
 
 /// The file `stream-JJ.log` of the working directory, with two decimal digits. It is opened, or created, at the
-/// first call. What it holds is told to no contract.
+/// first call. Its first sync syncs the directory too. What it holds is told to no contract.
 #[derive(Drop)]
 pub struct HostFile<R: Files + Drop> {
     rt: R,
     alloc: Global,
     stream: u8,
     file: Option<R::File>,
+    // Whether the folder was synced since the file was opened.
+    is_entered: bool,
     faults: u64,
 }
 
@@ -27,11 +29,12 @@ impl<R: Files + Drop> HostFile<R> {
             alloc,
             stream: j,
             file: None,
+            is_entered: false,
             faults: 0,
         }
     }
 
-    // Opens it, if it is not open. Where that fails, no file is there for the call that follows.
+    // Opens it, if it is not open. If that fails, no file is there for the call that follows.
     fn open(&mut self)
         ensures { self.new.faults ≡ self.old.faults }
     {
@@ -52,6 +55,16 @@ impl<R: Files + Drop> HostFile<R> {
         }
     }
 
+    // Syncs the folder, once: until then a loss of power may take a file away that was created in it, synced or not.
+    fn enter(&mut self) -> bool
+        ensures { self.new.faults ≡ self.old.faults }
+    {
+        if !self.is_entered {
+            self.is_entered = sync_folder(&self.rt);
+        }
+        self.is_entered
+    }
+
     // Counts a failed call.
     fn fail(&mut self) -> Failed
         ensures rose { Rose self.old.faults self.new.faults }
@@ -62,7 +75,7 @@ impl<R: Files + Drop> HostFile<R> {
     }
 }
 
-// The length, where the system tells it.
+// The length, if the system tells it.
 fn len_of<F: OpenFile>(file: &mut Option<F>) -> Option<u64> {
     match file {
         Some(file) => match file.metadata() {
@@ -94,6 +107,16 @@ fn sync_of<F: OpenFile>(file: &mut Option<F>) -> bool {
     match file {
         Some(file) => file.sync_all().is_ok(),
         None => false,
+    }
+}
+
+// Waits until the device holds what the working directory names.
+fn sync_folder<R: Files>(rt: &R) -> bool {
+    let mut options = OpenOptions::new();
+    options.read(true);
+    match options.open(rt, ".") {
+        Ok(folder) => folder.sync_all().is_ok(),
+        Err(_) => false,
     }
 }
 
@@ -148,7 +171,10 @@ impl<R: Files + Drop> Disk for HostFile<R> {
 
     fn sync(&mut self) -> Result<(), Failed> {
         self.open();
-        if sync_of(&mut self.file) {
+        if !sync_of(&mut self.file) {
+            return Err(self.fail());
+        }
+        if self.enter() {
             return Ok(());
         }
         Err(self.fail())

@@ -1,6 +1,9 @@
 use super::*;
-use std::fs;
+use std::alloc::{Allocator, Global};
+use std::fs::{Files, Metadata, OpenFile, OpenOptions};
+use std::io::{Empty, ErrorKind, Read, Seek, SeekFrom, Write};
 use std::test::*;
+use std::{fs, io};
 use tau_disk::Disk;
 
 #[test]
@@ -17,5 +20,118 @@ fn a_file_gives_what_was_written(rt: HostRuntime) -> Result<(), Fail> {
     assert!(rt; size >= 6);
     assert!(rt; disk.read_at(size, &mut bytes).is_err());
     fs::remove_file(&rt, "stream-07.log")?;
+    Ok(())
+}
+
+// A system whose files take every byte, and of which the directory can't be synced.
+#[derive(Drop)]
+struct NoFolder;
+
+#[derive(Drop)]
+struct Taking {
+    is_folder: bool,
+}
+
+fn refused() -> io::Error {
+    io::Error::from(ErrorKind::Unsupported)
+}
+
+impl Read for Taking {
+    fn read(&mut self, _buf: &mut [u8]) -> io::Result<usize> {
+        Ok(0)
+    }
+}
+
+impl Write for Taking {
+    fn write(&mut self, buf: &[u8]) -> io::Result<usize> {
+        Ok(buf.len())
+    }
+
+    fn flush(&mut self) -> io::Result<()> {
+        Ok(())
+    }
+}
+
+impl Seek for Taking {
+    fn seek(&mut self, _pos: SeekFrom) -> io::Result<u64> {
+        Ok(0)
+    }
+}
+
+impl OpenFile for Taking {
+    fn metadata(&self) -> io::Result<Metadata> {
+        Err(refused())
+    }
+
+    fn set_len(&self, _size: u64) -> io::Result<()> {
+        Err(refused())
+    }
+
+    fn sync_all(&self) -> io::Result<()> {
+        if self.is_folder {
+            return Err(refused());
+        }
+        Ok(())
+    }
+
+    fn sync_data(&self) -> io::Result<()> {
+        Ok(())
+    }
+}
+
+impl Files for NoFolder {
+    type File = Taking;
+
+    type Dir = Empty;
+
+    fn open_file(&self, _how: &OpenOptions, path: &str) -> io::Result<Taking> {
+        Ok(Taking {
+            is_folder: path == ".",
+        })
+    }
+
+    fn open_dir(&self, _path: &str) -> io::Result<Empty> {
+        Err(refused())
+    }
+
+    fn metadata(&self, _path: &str) -> io::Result<Metadata> {
+        Err(refused())
+    }
+
+    fn symlink_metadata(&self, _path: &str) -> io::Result<Metadata> {
+        Err(refused())
+    }
+
+    fn copy(&self, _from: &str, _to: &str) -> io::Result<u64> {
+        Err(refused())
+    }
+
+    fn rename(&self, _from: &str, _to: &str) -> io::Result<()> {
+        Err(refused())
+    }
+
+    fn remove_file(&self, _path: &str) -> io::Result<()> {
+        Err(refused())
+    }
+
+    fn create_dir(&self, _path: &str) -> io::Result<()> {
+        Err(refused())
+    }
+
+    fn remove_dir(&self, _path: &str) -> io::Result<()> {
+        Err(refused())
+    }
+
+    fn remove_dir_all<B: Allocator>(&self, _alloc: B, _path: &str) -> io::Result<()> {
+        Err(refused())
+    }
+}
+
+#[test]
+fn a_sync_without_the_directory_fails(rt: HostRuntime) -> Result<(), Fail> {
+    let mut disk = HostFile::of_stream(NoFolder, rt.alloc(), 7);
+    disk.write_at(0, b"abc")?;
+    assert!(rt; disk.sync().is_err());
+    assert!(rt; disk.sync().is_err());
     Ok(())
 }
