@@ -1,0 +1,13 @@
+pub mod Turns
+pub mod Gives
+pub mod Workers
+pub mod Numbers
+pub mod Placing
+pub mod Persisting
+pub mod Boxes
+pub mod Gathering
+pub mod Anchoring
+pub mod Stopping
+pub mod Heads
+pub mod Resuming
+pub mod Opening

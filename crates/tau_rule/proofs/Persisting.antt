@@ -1,0 +1,226 @@
+-- Loads and stores of the words of persisted positions.
+use Rattle.std.proofs.Common.{◌≡◌, ◌≢◌, ℕ, zero, suc, ◌+◌, ◌-◌, ◌*◌, ◌<◌, ◌≤◌, ◌⊎◌, inl, inr, true, false, Bool, List, [], ◌∷◌, Option, length, set, get_or, refl, sym, ap, ◌∙◌, subst, arith, length-set, get_or-set_same, get_or-set_other, length-append, add-zero}
+use Rattle.std.specs.Prelude.{Some, None, ◌==◌, if◌then◌else◌, slice_index, slice_set, nat_le}
+use Rattle.std.proofs.lemmas.Bool.{cases_eq, eq-eqb, ne_eqb, lt-leb}
+use Rattle.std.proofs.lemmas.Bool.Decides.{leb_tells}
+use mathlib.Core.Option.{none}
+use Rattle.atomic_table.specs.Table.{State, Me, Step, step, Allows}
+use Rattle.tau_shown.proofs.Steps.{words_step, loads_word}
+use Rattle.tau_base.specs.Vectors.{AtMost}
+use Rattle.tau_machine.specs.State.{Core}
+use Rattle.tau_machine.specs.Events.{Event, Persist, Leads}
+use Rattle.tau_core.specs.State.{Plain}
+use Rattle.tau_core.specs.View.{setting_of}
+use Rattle.tau_rule.specs.Role.{Managed, Share, Working, Managing, Clerking, Role, role_in}
+use Rattle.tau_rule.specs.Knows.{Knows}
+use Rattle.tau_rule.specs.Rule.{MAX_ANCHOR, Now, Rule, IsPart, IsShare, IsManaged, IsRole, Sees, Meets, word_of, hand_of, has, part_count, manager_role, number_if, is_raised}
+use Rattle.tau_rule.specs.Steps.{Sat}
+use Rattle.tau_rule.specs.Positions.{plv_word, sees_to, looked, stored, IsManager}
+use Rattle.tau_rule.specs.declared.part.Part.{Part}
+use Rattle.tau_rule.specs.declared.part.Part.TheVariants as part
+use Rattle.tau_rule.proofs.Gives.{one-origin}
+use Rattle.tau_rule.proofs.Turns.{reached-invariant, Turn, reached-on, alone, one-role}
+use Rattle.tau_base.specs.declared.limits.TheConstants.{MAX_RECORD}
+
+same-beyond : (xs : List ℕ) (j y : ℕ) → length xs ≤ j → slice_set xs j y ≡ xs
+same-beyond [] j y e = refl
+same-beyond (x ∷ xs) zero y e = absurd (omega arith)
+same-beyond (x ∷ xs) (suc j) y e = ap (λ (xs : List ℕ). x ∷ xs) (same-beyond xs j y (omega arith))
+
+-- where a vector is set, it is what was set, or beyond its end as it was
+set-at : (xs : List ℕ) (j y : ℕ) → (slice_index (slice_set xs j y) j ≡ y) ⊎ (slice_index (slice_set xs j y) j ≡ slice_index xs j)
+set-at xs j y = elim (leb_tells (length xs) j) [
+  | inl beyond ↦ inr (ap (λ (v : List ℕ). slice_index v j) (same-beyond xs j y beyond.1))
+  | inr within ↦ inl (get_or-set_same xs j y 0 within.1)
+]
+
+-- the words of persisted positions
+word-plv : (origin : Plain) (j : ℕ) (c : Now) → j < origin.load.streams → word_of origin.load (origin.load.streams + j) c ≡ slice_index c.core.plv j
+word-plv origin j c low =
+    let a : (origin.load.streams + j == origin.load.streams + origin.load.streams) ≡ false = ne_eqb (origin.load.streams + j) (origin.load.streams + origin.load.streams) (λ e. omega arith) in
+    let b : nat_le (origin.load.streams + j + 1) origin.load.streams ≡ false = lt-leb (origin.load.streams + j + 1) origin.load.streams (omega arith) in
+    let d : origin.load.streams + j - origin.load.streams ≡ j = omega arith in
+    ap (λ (z : Bool). if z then number_if (is_raised (origin.load.workers + origin.load.streams + 1) c.raised) else (if nat_le (origin.load.streams + j + 1) origin.load.streams then slice_index c.core.ends (origin.load.streams + j) else slice_index c.core.plv (origin.load.streams + j - origin.load.streams))) a
+    ∙ ap (λ (z : Bool). if z then slice_index c.core.ends (origin.load.streams + j) else slice_index c.core.plv (origin.load.streams + j - origin.load.streams)) b
+    ∙ ap (slice_index c.core.plv) d
+
+seen-more : (origin : Plain) (c : Now) (v : Knows) (j : ℕ) → Sees origin c v → Sees origin c (sees_to j (slice_index c.core.plv j) v)
+seen-more origin c v j h = record {
+  opened = h.opened;
+  wide = λ u r e. length-set v.seen j (slice_index c.core.plv j) ∙ h.wide u r e;
+  low = λ i. elim (cases_eq i j) [
+    | inl is ↦ subst (λ (z : ℕ). slice_index (slice_set v.seen j (slice_index c.core.plv j)) z ≤ slice_index c.core.plv z) (sym is) (elim (set-at v.seen j (slice_index c.core.plv j)) [
+      | inl here ↦ omega arith
+      | inr was ↦ (let b = h.low j in omega arith)
+    ])
+    | inr ne ↦ (let e = get_or-set_other v.seen j i (slice_index c.core.plv j) 0 ne in let b = h.low i in omega arith)
+  ];
+  own = λ i r lt e. elim (cases_eq i j) [
+    | inl is ↦ subst (λ (z : ℕ). slice_index v.seen z ≡ slice_index c.core.plv z → slice_index (slice_set v.seen j (slice_index c.core.plv j)) z ≡ slice_index c.core.plv z) (sym is)
+        (λ was. elim (set-at v.seen j (slice_index c.core.plv j)) [ inl here ↦ here | inr same ↦ same ∙ was ]) (h.own i r lt e)
+    | inr ne ↦ get_or-set_other v.seen j i (slice_index c.core.plv j) 0 ne ∙ h.own i r lt e
+  ];
+  read = h.read;
+  found = h.found;
+}
+
+-- the stream whose persisted position is this word
+stream-at : (origin o : Plain) (j i : ℕ) → Some origin ≡ Some o → plv_word origin.load j ≡ plv_word o.load i → i ≡ j
+stream-at origin o j i e at =
+    let same : origin ≡ o = one-origin origin o e in
+    let b : plv_word o.load i ≡ plv_word origin.load i = ap (λ (x : Plain). plv_word x.load i) (sym same) in
+    let d : plv_word origin.load j ≡ plv_word origin.load i = at ∙ b in
+    omega arith
+
+-- any seat loads the persisted position of a stream
+pub loads_plv : (origin : Plain) (id j : ℕ) (m : Sat) (st : Step (Option Part)) → m.0.opened ≡ Some origin → j < origin.load.streams → st.word ≡ plv_word origin.load j → Allows (Rule origin) (part_count origin.load) id m (plv_word origin.load j) (λ n. n) (looked st m)
+loads_plv origin id j m st opened low word =
+    loads_word (IsPart origin.load) (IsRole origin.load) (word_of origin.load) hand_of has (Sees origin) (Meets origin) (part_count origin.load) (origin.load.streams + origin.load.streams + 1) id (origin.load.streams + j) m.0 m.1 (omega arith)
+    (λ n. sees_to j n m.0) (λ n. refl) (λ n u. refl)
+    (λ c meets h. subst (λ (n : ℕ). Sees origin c (sees_to j n m.0)) (sym (word-plv origin j c low)) (seen-more origin c m.0 j h))
+    (looked st m)
+    (λ c meets h o its i at.
+    let is = word-plv origin j c low in
+    let same : i ≡ j = stream-at origin o j i (sym opened ∙ its) (sym word ∙ at) in
+    let me : Sat = (sees_to j (word_of origin.load (origin.load.streams + j) c) m.0, m.1) in
+    subst (λ (z : ℕ). (slice_index m.0.seen z ≤ word_of origin.load (origin.load.streams + j) c) × (me ≡ (sees_to z (word_of origin.load (origin.load.streams + j) c) m.0, m.1))) (sym same)
+    ((let b = h.low j in omega arith), refl))
+
+module _ (origin : Plain) (j : ℕ) (m : Sat) (managed : Managed) (new : ℕ) (p : IsManager origin j m managed) (up : slice_index m.0.seen j ≤ new) (high : new ≤ managed.gathered) where
+  abbrev pub then_persisted : Now → Now
+  then_persisted c = record { core = record c.core { plv = slice_set c.core.plv j new }; raised = c.raised; spare = c.spare }
+
+  module _ (c : Now) (meets : Meets origin c) (mine : IsRole origin.load (manager_role origin.load j) p.role c) (sees : Sees origin c m.0) where
+    managing : (i : ℕ) × (manager_role origin.load j ≡ manager_role origin.load i) × (i < origin.load.streams) × IsManaged origin.load i managed c.core
+    managing = subst (λ (x : Share). IsShare origin.load (manager_role origin.load j) x c.core) p.share mine.0
+
+    gathered-is : slice_index c.core.gathered j ≡ managed.gathered
+    gathered-is = subst (λ (z : ℕ). slice_index c.core.gathered z ≡ managed.gathered) (let e = managing.1 in omega arith) managing.3.gathered
+
+    now-is : slice_index m.0.seen j ≡ slice_index c.core.plv j
+    now-is = sees.own j p.role p.there (one-role m.0 (manager_role origin.load j) p.role p.roles)
+
+    wide-plv : j < length c.core.plv
+    wide-plv =
+        let inv = reached-invariant origin c.core meets.reached in
+        let count : length c.core.plv ≡ origin.load.streams = inv.agrees.good.count_plv in
+        let low = p.there in
+        omega arith
+
+    leads : Leads (setting_of origin.load) (Persist j new) c.core (then_persisted c).core []
+    leads = (
+      record {
+        there = p.there;
+        going = meets.going j;
+        low = (let e = now-is in omega arith);
+        high = (let e = gathered-is in omega arith);
+        after = refl;
+      },
+      refl,
+    )
+
+    parts-stay : (k : ℕ) (q : Part) → IsPart origin.load k q c → IsPart origin.load k q (then_persisted c)
+    parts-stay k (part.Shard b) h = h
+    parts-stay k (part.Outbox o b) h = h
+    parts-stay k (part.Anchor number lv) h = h
+
+    shares-stay : (u : ℕ) (x : Share) → IsShare origin.load u x c.core → IsShare origin.load u x (then_persisted c).core
+    shares-stay u (Working x) h = h
+    shares-stay u (Managing g) h = (h.0, h.1, h.2, record { moved = h.3.moved; gathered = h.3.gathered; anchors = h.3.anchors; own = h.3.own })
+    shares-stay u (Clerking acked) h = h
+
+    rises : (i : ℕ) → slice_index c.core.plv i ≤ slice_index (slice_set c.core.plv j new) i
+    rises i = elim (cases_eq i j) [
+      | inl is ↦ subst (λ (z : ℕ). slice_index c.core.plv z ≤ slice_index (slice_set c.core.plv j new) z) (sym is) (let e = get_or-set_same c.core.plv j new 0 wide-plv in let n = now-is in omega arith)
+      | inr ne ↦ (let e = get_or-set_other c.core.plv j i new 0 ne in omega arith)
+    ]
+
+    sight-stays : (v : Knows) → ((r : Role) → has (manager_role origin.load j) v ≡ Some r → ⊥) → Sees origin c v → Sees origin (then_persisted c) v
+    sight-stays v lacks h = record {
+      opened = h.opened;
+      wide = h.wide;
+      low = λ i. (let a = h.low i in let b = rises i in omega arith);
+      own = λ i r lt e. elim (cases_eq i j) [
+        | inl is ↦ absurd (lacks r (subst (λ (z : ℕ). has (manager_role origin.load z) v ≡ Some r) is e))
+        | inr ne ↦ h.own i r lt e ∙ sym (get_or-set_other c.core.plv j i new 0 ne)
+      ];
+      read = h.read;
+      found = h.found;
+    }
+
+    pub persist-turn : Turn origin c (then_persisted c) (part_count origin.load) (manager_role origin.load j) p.role
+    persist-turn = record {
+      parts = λ k q low apart h. parts-stay k q h;
+      mine = (shares-stay (manager_role origin.load j) p.role.share mine.0, mine.1, mine.2);
+      others = λ u x apart h. (shares-stay u x.share h.0, h.1, h.2);
+      sight = sight-stays;
+      kept = record {
+        reached = reached-on origin (Persist j new) c.core (then_persisted c).core [] meets.reached leads;
+        going = meets.going;
+        fits = subst (λ (k : ℕ). (i : ℕ) → i < origin.load.streams → slice_index c.core.ends i ≤ slice_index origin.load.opening.ends i + MAX_RECORD * k + MAX_ANCHOR * length (c.core.streams i).anchors) (sym (length-append meets.reached.joined [] ∙ add-zero (length meets.reached.joined))) meets.fits;
+        anchors = meets.anchors;
+        opened = meets.opened;
+        limited = meets.limited;
+        beyond = meets.beyond;
+        shards = meets.shards;
+        streams = meets.streams;
+      };
+    }
+
+    own-sees : Sees origin (then_persisted c) (sees_to j new m.0)
+    own-sees = record {
+      opened = sees.opened;
+      wide = λ u r e. length-set m.0.seen j new ∙ sees.wide u r e;
+      low = λ i. elim (cases_eq i j) [
+        | inl is ↦ subst (λ (z : ℕ). slice_index (slice_set m.0.seen j new) z ≤ slice_index (slice_set c.core.plv j new) z) (sym is)
+            (let e = get_or-set_same c.core.plv j new 0 wide-plv in let f = get_or-set_same m.0.seen j new 0 wide-seen in omega arith)
+        | inr ne ↦ (let e = get_or-set_other c.core.plv j i new 0 ne in let f = get_or-set_other m.0.seen j i new 0 ne in let a = sees.low i in omega arith)
+      ];
+      own = λ i r lt e. elim (cases_eq i j) [
+        | inl is ↦ subst (λ (z : ℕ). slice_index (slice_set m.0.seen j new) z ≡ slice_index (slice_set c.core.plv j new) z) (sym is)
+            (get_or-set_same m.0.seen j new 0 wide-seen ∙ sym (get_or-set_same c.core.plv j new 0 wide-plv))
+        | inr ne ↦ get_or-set_other m.0.seen j i new 0 ne ∙ sees.own i r lt e ∙ sym (get_or-set_other c.core.plv j i new 0 ne)
+      ];
+      read = sees.read;
+      found = sees.found;
+    }
+      where
+        wide-seen : j < length m.0.seen
+        wide-seen = (let e = sees.wide (manager_role origin.load j) p.role (one-role m.0 (manager_role origin.load j) p.role p.roles) in let low = p.there in omega arith)
+
+  words-same : (c : Now) (i : ℕ) → i < origin.load.streams + origin.load.streams + 1 → (i ≡ origin.load.streams + j → ⊥) → word_of origin.load i (then_persisted c) ≡ word_of origin.load i c
+  words-same c i lt apart = elim (leb_tells (i + 1) origin.load.streams) [
+    | inl low ↦ ap (λ (b : Bool). if i == origin.load.streams + origin.load.streams then number_if (is_raised (origin.load.workers + origin.load.streams + 1) c.raised) else (if b then slice_index c.core.ends i else slice_index (slice_set c.core.plv j new) (i - origin.load.streams))) low.0
+        ∙ sym (ap (λ (b : Bool). if i == origin.load.streams + origin.load.streams then number_if (is_raised (origin.load.workers + origin.load.streams + 1) c.raised) else (if b then slice_index c.core.ends i else slice_index c.core.plv (i - origin.load.streams))) low.0)
+    | inr high ↦
+        let ne : i - origin.load.streams ≡ j → ⊥ = (λ e. let h = high.1 in apart (omega arith)) in
+        ap (λ (n : ℕ). if i == origin.load.streams + origin.load.streams then number_if (is_raised (origin.load.workers + origin.load.streams + 1) c.raised) else (if nat_le (i + 1) origin.load.streams then slice_index c.core.ends i else n)) (get_or-set_other c.core.plv j (i - origin.load.streams) new 0 ne)
+  ]
+
+  -- the manager stores how far its disk is
+  pub persists : (id : ℕ) (st : Step (Option Part)) → st.first ≡ new → st.word ≡ plv_word origin.load j → Allows (Rule origin) (part_count origin.load) id m (plv_word origin.load j) (λ _. new) (λ _. stored st m new)
+  persists id st first word =
+      words_step (IsPart origin.load) (IsRole origin.load) (word_of origin.load) hand_of has (Sees origin) (Meets origin) (part_count origin.load) (origin.load.streams + origin.load.streams + 1) id (origin.load.streams + j) m.0 m.1 (manager_role origin.load j) p.role (let low = p.there in omega arith) (one-role m.0 (manager_role origin.load j) p.role p.roles)
+      (λ _. new) (λ _. sees_to j new m.0) (λ _. p.role) (λ _. refl) (λ _. one-role m.0 (manager_role origin.load j) p.role p.roles) (λ n u z h. alone (manager_role origin.load j) p.role u z (sym (ap (role_in u) p.roles) ∙ h))
+      (λ c meets mine sees. (
+        then_persisted c,
+        persist-turn c meets mine sees,
+        own-sees c meets mine sees,
+        word-plv origin j (then_persisted c) p.there ∙ get_or-set_same c.core.plv j new 0 (wide-plv c meets mine sees),
+        words-same c,
+      ))
+      (λ _. stored st m new)
+      (λ c meets mine sees o its i at.
+      let same : i ≡ j = stream-at origin o j i (sym p.opened ∙ its) (sym word ∙ at) in
+      λ k. (sees_to (sym same k) (sym first k) m.0, m.1))
+
+pub loads_as : (origin : Plain) (slots id j word : ℕ) (m : Sat) → slots ≡ part_count origin.load → m.0.opened ≡ Some origin → j < origin.load.streams → word ≡ plv_word origin.load j → Allows (Rule origin) slots id m word (λ n. n) (looked (step slots word 0 0 none) m)
+loads_as origin slots id j word m es opened low is =
+    subst (λ (z : ℕ × ℕ). Allows (Rule origin) z.0 id m z.1 (λ n. n) (looked (step z.0 z.1 0 0 none) m)) (λ i. (sym es i, sym is i))
+    (loads_plv origin id j m (step (part_count origin.load) (plv_word origin.load j) 0 0 none) opened low refl)
+
+pub persists_as : (origin : Plain) (slots id j word new : ℕ) (m : Sat) (managed : Managed) → IsManager origin j m managed → slice_index m.0.seen j ≤ new → new ≤ managed.gathered → slots ≡ part_count origin.load → word ≡ plv_word origin.load j
+    → Allows (Rule origin) slots id m word (λ _. new) (λ _. stored (step slots word new 0 none) m new)
+persists_as origin slots id j word new m managed p up high es is =
+    subst (λ (z : ℕ × ℕ). Allows (Rule origin) z.0 id m z.1 (λ _. new) (λ _. stored (step z.0 z.1 new 0 none) m new)) (λ i. (sym es i, sym is i))
+    (persists origin j m managed new p up high id (step (part_count origin.load) (plv_word origin.load j) new 0 none) refl refl)

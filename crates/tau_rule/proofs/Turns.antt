@@ -1,0 +1,117 @@
+-- What an event of the core is on the parts and on what seats know.
+use Rattle.std.proofs.Common.{◌≡◌, ◌≢◌, ℕ, ◌+◌, ◌*◌, ◌<◌, ◌≤◌, ◌==◌, cond, Bool, List, [], ◌∷◌, ◌++◌, Option, refl, sym, ap, ◌∙◌, subst, arith, eq-eqb, ne_eqb, length, length-append}
+use Rattle.std.specs.Prelude.{Some, None}
+use mathlib.Core.Logic.{dite}
+use native.Mathlib.Decide.{ℕ_discrete}
+use Rattle.tau_base.specs.declared.limits.TheConstants.{SHARDS, MAX_RECORD}
+use Rattle.tau_model.specs.History.{Act}
+use Rattle.tau_machine.specs.Hands.{Txn}
+use Rattle.tau_machine.specs.Shard.{at, Shard}
+use Rattle.tau_machine.specs.Worker.{Worker}
+use Rattle.tau_machine.specs.State.{Core}
+use Rattle.tau_machine.specs.Events.{Event, Leads, with_worker, with_shard}
+use Rattle.tau_machine.proofs.At.{at-same, at-other}
+use Rattle.tau_machine.specs.Invariant.{Invariant}
+use Rattle.tau_machine.proofs.Runs.{lead_on-more, run-invariant}
+use Rattle.tau_core.specs.Opens.{nothing}
+use Rattle.tau_core.specs.View.{core_of}
+use Rattle.tau_shard.specs.Plain.{PlainShard}
+use Rattle.tau_shard.specs.Read.{shard_of}
+use Rattle.tau_shown.specs.Shown.{Turns}
+use Rattle.tau_core.specs.State.{Plain}
+use Rattle.tau_core.specs.View.{setting_of}
+use Rattle.tau_rule.specs.Role.{Share, Working, Managing, Clerking, Role, role_in}
+use Rattle.tau_rule.specs.Knows.{Knows}
+use Rattle.tau_rule.specs.Rule.{IsReached, Now, IsPart, IsShare, IsRole, IsOutbox, Sees, Meets, word_of, hand_of, has, part_count, manager_role}
+use Rattle.tau_rule.specs.Steps.{handed, shard_in, StepsShard, working}
+use Rattle.tau_rule.specs.declared.part.Part.{Part}
+use Rattle.tau_rule.specs.declared.part.Part.TheVariants as part
+
+-- one event more
+abbrev pub reached-on : (origin : Plain) (e : Event) (s s' : Core) (new : List (Act Txn)) → IsReached origin s → Leads (setting_of origin.load) e s s' new → IsReached origin s'
+reached-on origin e s s' new r leads = record {
+  events = r.events ++ e ∷ [];
+  joined = r.joined ++ new;
+  run = record { opens = r.run.opens; leads = lead_on-more (setting_of origin.load) r.events r.joined (core_of origin nothing) s s' e new r.run.leads leads };
+}
+
+-- what holds of every state that a run leads to
+pub reached-invariant : (origin : Plain) (s : Core) (r : IsReached origin s) → Invariant (setting_of origin.load) r.joined s
+reached-invariant origin s r = run-invariant (setting_of origin.load) (core_of origin nothing) r.events r.joined s r.run
+
+-- a longer list of committed calls bounds a stream too
+pub more : (e o a b r : ℕ) → e ≤ o + MAX_RECORD * a + r → a ≤ b → e ≤ o + MAX_RECORD * b + r
+more e o a b r h low = omega arith
+
+pub role-alone : (w : ℕ) (x : Role) → role_in w ((w, x) ∷ []) ≡ Some x
+role-alone w x = ap (λ b. cond b (Some x) None) (eq-eqb w w refl)
+
+pub alone : (w : ℕ) (x : Role) (u : ℕ) (z : Role) → role_in u ((w, x) ∷ []) ≡ Some z → u ≡ w
+alone w x u z e = dite (ℕ_discrete w u) sym (λ n. absurd (let a : None ≡ Some z = sym (ap (λ b. cond b (Some x) None) (ne_eqb w u n)) ∙ e in cc))
+
+pub one-role : (v : Knows) (w : ℕ) (x : Role) → v.roles ≡ (w, x) ∷ [] → has w v ≡ Some x
+one-role v w x is = ap (role_in w) is ∙ role-alone w x
+
+module _ (origin : Plain) where
+  abbrev pub Turn : Now → Now → ℕ → ℕ → Role → Type 0
+  Turn = Turns (IsPart origin.load) (IsRole origin.load) (word_of origin.load) hand_of has (Sees origin) (Meets origin) (part_count origin.load)
+
+  -- an event of one worker on one shard
+  module _ (c : Now) (w k : ℕ) (old : Role) (wk : Worker) (sh : Shard) (wide : w < origin.load.workers) (there : k < SHARDS) where
+    abbrev pub on_shard : Now
+    on_shard = record { core = with_shard (with_worker c.core w wk) k sh; raised = c.raised; spare = c.spare }
+
+    parts-stay : (j : ℕ) (p : Part) → (j ≡ k → ⊥) → IsPart origin.load j p c → IsPart origin.load j p on_shard
+    parts-stay j (part.Shard b) apart h = (h.0, at-other k sh c.core.shards j apart ∙ h.1)
+    parts-stay j (part.Outbox o p) apart h = h
+    parts-stay j (part.Anchor number lv) apart h = h
+
+    shares-stay : (u : ℕ) (x : Share) → (u ≡ w → ⊥) → IsShare origin.load u x c.core → IsShare origin.load u x on_shard.core
+    shares-stay u (Working x) apart h = (h.0, at-other w wk c.core.workers u apart ∙ h.1)
+    shares-stay u (Managing g) apart h = (h.0, h.1, h.2, record { moved = h.3.moved; gathered = h.3.gathered; anchors = h.3.anchors; own = h.3.own })
+    shares-stay u (Clerking acked) apart h = h
+
+    sight-stays : (v : Knows) → Sees origin c v → Sees origin on_shard v
+    sight-stays v h = record { opened = h.opened; wide = h.wide; low = h.low; own = h.own; read = h.read; found = h.found }
+
+    pub on_shard-turn : (e : Event) (new : List (Act Txn)) → Meets origin c → IsRole origin.load w old c → Leads (setting_of origin.load) e c.core on_shard.core new → Turn c on_shard k w (working old wk)
+    on_shard-turn e new meets mine leads = record {
+      parts = λ j p low apart h. parts-stay j p apart h;
+      mine = ((wide, at-same w wk c.core.workers), mine.1, mine.2);
+      others = λ u x apart h. (shares-stay u x.share apart h.0, h.1, h.2);
+      sight = λ v none h. sight-stays v h;
+      kept = record {
+        reached = reached-on origin e c.core on_shard.core new meets.reached leads;
+        going = meets.going;
+        fits = λ j low. more _ _ (length meets.reached.joined) (length (meets.reached.joined ++ new)) _ (meets.fits j low) (let a = length-append meets.reached.joined new in omega arith);
+        anchors = meets.anchors;
+        opened = meets.opened;
+        limited = meets.limited;
+        beyond = λ u low. at-other w wk c.core.workers u (λ e. omega arith) ∙ meets.beyond u low;
+        shards = λ i low. at-other k sh c.core.shards i (λ e. omega arith) ∙ meets.shards i low;
+        streams = meets.streams;
+      };
+    }
+
+  pub handed-sees : (c : Now) (v : Knows) (w : ℕ) (x y : Role) → w < origin.load.workers → v.opened ≡ Some origin → has w v ≡ Some x → Sees origin c v → Sees origin c (handed v w y)
+  handed-sees c v w x y wide opened is h = record {
+    opened = λ u r e. opened;
+    wide = λ u r e. h.wide w x is;
+    low = h.low;
+    own = λ j r lt e. absurd (let a = alone w y (manager_role origin.load j) r e in omega arith);
+    read = λ u r lt e. subst (λ (n : ℕ). n < origin.load.workers → Rattle.tau_core.specs.Pieces.Names origin.load ((setting_of origin.load).stream_of n) (Rattle.tau_rule.specs.Rule.anchors_at c.core ((setting_of origin.load).stream_of n)) v.read.0 v.read.1) (sym (alone w y u r e)) (λ q. h.read w x q is) lt;
+    found = h.found;
+  }
+
+  pub part-shard : (c : Now) (k : ℕ) (p : Part) (sh : Shard) → shard_in p ≡ Some sh → IsPart origin.load k p c → (k < SHARDS) × (c.core.shards k ≡ sh)
+  part-shard c k (part.Shard b) sh is h = (h.0, h.1 ∙ cc)
+  part-shard c k (part.Outbox o p) sh is h = cc
+  part-shard c k (part.Anchor number lv) sh is h = cc
+
+  pub shard-part : (c : Now) (k : ℕ) (p : Part) (sh : Shard) → shard_in p ≡ Some sh → k < SHARDS → c.core.shards k ≡ sh → IsPart origin.load k p c
+  shard-part c k (part.Shard b) sh is low e = (low, e ∙ cc)
+  shard-part c k (part.Outbox o p) sh is low e = cc
+  shard-part c k (part.Anchor number lv) sh is low e = cc
+
+  pub share-worker : (u : ℕ) (x : Share) (wk : Worker) (s : Core) → x ≡ Working wk → IsShare origin.load u x s → (u < origin.load.workers) × (s.workers u ≡ wk)
+  share-worker u x wk s is h = subst (λ (y : Share). IsShare origin.load u y s) is h

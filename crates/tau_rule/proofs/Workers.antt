@@ -1,0 +1,147 @@
+-- The events of a worker on a shard, from what the shard and the call in hand say.
+use Rattle.std.proofs.Common.{◌≡◌, ℕ, ◌<◌, true, false, ◌⊎◌, inl, inr, Bool, List, [], ◌∷◌, ◌++◌, Option, refl, sym, ap, ◌∙◌, subst}
+use Rattle.std.specs.Prelude.{Some, None, ◌==◌}
+use Rattle.std.specs.Map.{lookup}
+use Rattle.std.proofs.lemmas.Bool.{ne_eqb}
+use Rattle.tau_base.specs.declared.value.Key.{Key}
+use Rattle.tau_base.specs.declared.value.Value.{Value}
+use Rattle.tau_base.specs.declared.value.Mode.{Mode}
+use Rattle.tau_base.specs.declared.value.Mode.TheVariants.{Read, Write}
+use Rattle.tau_base.specs.Database.{same_key}
+use Rattle.tau_base.specs.Shards.{shard_number}
+use Rattle.tau_proc.specs.declared.proc.Proc.{Proc}
+use Rattle.tau_model.specs.History.{Act}
+use Rattle.tau_machine.specs.Hands.{Txn, Hand, Running, Freeing, mode_of, lv_of}
+use Rattle.tau_machine.specs.Shard.{at, Shard, Entry, entry_in, shard_locked, shard_freed}
+use Rattle.tau_machine.specs.Worker.{Worker, begun, hand_locked, hand_busy, settled, hand_freed}
+use Rattle.tau_machine.specs.State.{Setting, Core}
+use Rattle.tau_machine.specs.Events.{Event, Lock, Busy, Free, Leads, Locks, Refuses, Frees, Conflicts, lock_next, ready, with_worker, with_shard}
+use Rattle.tau_machine.proofs.At.{at-itself}
+use Rattle.tau_shard.specs.Blocks.{against, blocks, dep_locked}
+use Rattle.tau_txn.specs.declared.standing.Standing.{Standing}
+use Rattle.tau_txn.specs.declared.standing.Standing.TheVariants as standing
+use Rattle.tau_txn.specs.Hand.{PlainHand}
+use Rattle.tau_txn.specs.Read.{hand_of}
+use Rattle.tau_txn.specs.Steps.{locked_with, worker_by}
+use Rattle.tau_txn.specs.Next.{IsLowest}
+use Rattle.tau_txn.specs.Txn.{PlainTxn, shown, shown_of, hand_in, worker_of, worker_in, dep_in, dep_by}
+use Rattle.tau_core.specs.State.{Plain}
+use Rattle.tau_core.specs.View.{setting_of}
+use Rattle.tau_rule.specs.Steps.{StepsShard, next_worker}
+
+-- these four stand in tau_core's lemmas too
+
+pub none-conflicts : (set : Setting) (sh : Shard) (w : ℕ) (x : Key) (m : Mode) → ((u : ℕ) → blocks (entry_in sh x) w m u ≡ false) → Conflicts set sh w x m → ⊥
+none-conflicts set sh w x m free c = at_mode m c.1 c.4 (sym (ap (against m) c.3) ∙ clear)
+  where
+    apart : (c.0 == w) ≡ false
+    apart = ne_eqb c.0 w c.2
+
+    clear : against m ((entry_in sh x).holders c.0) ≡ false
+    clear = (let f = free c.0 in rw apart at f)
+
+    at_mode : (m n : Mode) → (m ≡ Write) ⊎ (n ≡ Write) → against m (Some n) ≡ false → ⊥
+    at_mode Read Read (inl e) f = cc
+    at_mode Read Read (inr e) f = cc
+    at_mode Read Write o f = cc
+    at_mode Write Read o f = cc
+    at_mode Write Write o f = cc
+
+pub shown-dep : (procs : List Proc) (t : PlainTxn) (h : Hand) → hand_in procs t ≡ Some h → dep_in t ≡ h.dep
+shown-dep procs t h e = by_case t.hand e
+  where
+    at : (st : Standing) (x : PlainHand) → shown procs t.worker st x ≡ Some h → x.dep ≡ h.dep
+    at standing.Running x f = (let g : hand_of procs t.worker x ≡ h = cc in ap (λ (y : Hand). y.dep) g)
+    at standing.Quitting x f = (let g : hand_of procs t.worker x ≡ h = cc in ap (λ (y : Hand). y.dep) g)
+    at standing.Placed x f = (let g : hand_of procs t.worker x ≡ h = cc in ap (λ (y : Hand). y.dep) g)
+    at standing.Freeing x f = (let g : hand_of procs t.worker x ≡ h = cc in ap (λ (y : Hand). y.dep) g)
+    at standing.LeftOver x f = cc
+
+    by_case : (o : Option PlainHand) → shown_of procs t.worker o ≡ Some h → dep_by t.width o ≡ h.dep
+    by_case None f = cc
+    by_case (Some x) f = at x.standing x f
+
+pub locked-alike : (h : Hand) (x : Key) (m : Mode) (row : Value) (dep : List ℕ) (e : Entry) → dep ≡ dep_locked m h.dep e → locked_with h x m row dep ≡ hand_locked h x m row e.write_lv e.read_lv
+locked-alike h x Read row dep e is = ap (λ (d : List ℕ). locked_with h x Read row d) is
+locked-alike h x Write row dep e is = ap (λ (d : List ℕ). locked_with h x Write row d) is
+
+-- a call that is in hand is the worker's
+pub worker-shown : (procs : List Proc) (wk : Worker) (t : PlainTxn) (h : Hand) → hand_in procs t ≡ Some h → worker_of procs wk t ≡ record wk { hand = Some h }
+worker-shown procs wk t h e = by_case t.hand e
+  where
+    at : (st : Standing) (x : PlainHand) → shown procs t.worker st x ≡ Some h → worker_by procs t.worker wk st x ≡ record wk { hand = Some h }
+    at standing.Running x f = ap (λ (y : Option Hand). record wk { hand = y }) f
+    at standing.Quitting x f = ap (λ (y : Option Hand). record wk { hand = y }) f
+    at standing.Placed x f = ap (λ (y : Option Hand). record wk { hand = y }) f
+    at standing.Freeing x f = ap (λ (y : Option Hand). record wk { hand = y }) f
+    at standing.LeftOver x f = cc
+
+    by_case : (o : Option PlainHand) → shown_of procs t.worker o ≡ Some h → worker_in procs t.worker wk o ≡ record wk { hand = Some h }
+    by_case None f = cc
+    by_case (Some x) f = at x.standing x f
+
+module _ (origin : Plain) (w k : ℕ) (wk : Worker) (sh : Shard) (hand : Hand) (key : Key) (mode : Mode) (is : (begun origin.load.streams wk).hand ≡ Some hand) (number : k ≡ shard_number key) where
+  module _ (phase : hand.phase ≡ Running) (next : lock_next (setting_of origin.load) hand ≡ Some (key, mode)) where
+    pub locks : (wk' : Worker) (sh' : Shard) → (Conflicts (setting_of origin.load) sh w key mode → ⊥) → wk' ≡ record (begun origin.load.streams wk) { hand = Some (hand_locked hand key mode (sh.rows key) (entry_in sh key).write_lv (entry_in sh key).read_lv) } →
+        sh' ≡ shard_locked sh w key mode → StepsShard origin (Lock w) w wk wk' k sh sh'
+    locks wk' sh' free worker shard s r at_worker at_shard =
+        let here : sh ≡ s.shards (shard_number key) = sym at_shard ∙ ap s.shards number in (
+          [],
+          (
+            record {
+              hand = hand;
+              key = key;
+              mode = mode;
+              is = ap (λ (x : Worker). (begun origin.load.streams x).hand) at_worker ∙ is;
+              phase = phase;
+              next = next;
+              free = λ c. free (subst (λ (x : Shard). Conflicts (setting_of origin.load) x w key mode) (sym here) c);
+              after = (λ i. with_shard (with_worker s w (worker i)) (number i) (shard i))
+                  ∙ (λ i. with_shard (with_worker s w (record (begun origin.load.streams (sym at_worker i)) { hand = Some (hand_locked hand key mode ((here i).rows key) (entry_in (here i) key).write_lv (entry_in (here i) key).read_lv) }))
+                  (shard_number key) (shard_locked (here i) w key mode));
+            },
+            refl,
+          ),
+        )
+
+    pub refuses : (wk' : Worker) → wk' ≡ settled origin.load.streams (begun origin.load.streams wk) (hand_busy hand) → StepsShard origin (Busy w) w wk wk' k sh sh
+    refuses wk' worker s r at_worker at_shard = (
+      [],
+      (
+        record {
+          hand = hand;
+          key = key;
+          mode = mode;
+          is = ap (λ (x : Worker). (begun origin.load.streams x).hand) at_worker ∙ is;
+          phase = phase;
+          next = next;
+          after = (λ i. with_shard (with_worker s w (worker i)) k (sym at_shard i))
+              ∙ ap (λ (f : ℕ → Shard). record (with_worker s w (settled origin.load.streams (begun origin.load.streams wk) (hand_busy hand))) { shards = f }) (at-itself k s.shards)
+              ∙ (λ i. with_worker s w (settled origin.load.streams (begun origin.load.streams (sym at_worker i)) (hand_busy hand)));
+        },
+        refl,
+      ),
+    )
+
+-- a key of a call that has joined is freed
+pub frees : (origin : Plain) (w k : ℕ) (wk wk' : Worker) (sh sh' : Shard) (hand : Hand) (key : Key) (mode : Mode) (act : Act Txn) → wk.hand ≡ Some hand → k ≡ shard_number key → hand.phase ≡ Freeing act → mode_of key hand.held ≡ Some mode → IsLowest key hand.held →
+    wk' ≡ record wk { hand = Some (hand_freed hand key) } → sh' ≡ shard_freed sh w key (lv_of act) (lookup (same_key key) act.effect.writes) → StepsShard origin (Free w) w wk wk' k sh sh'
+frees origin w k wk wk' sh sh' hand key mode act is number phase held lowest worker shard s r at_worker at_shard =
+    let here : sh ≡ s.shards (shard_number key) = sym at_shard ∙ ap s.shards number in (
+      [],
+      (
+        record {
+          hand = hand;
+          act = act;
+          key = key;
+          mode = mode;
+          is = ap (λ (x : Worker). x.hand) at_worker ∙ is;
+          phase = phase;
+          held = held;
+          lowest = lowest;
+          after = (λ i. with_shard (with_worker s w (worker i)) (number i) (shard i))
+              ∙ (λ i. with_shard (with_worker s w (record (sym at_worker i) { hand = Some (hand_freed hand key) })) (shard_number key) (shard_freed (here i) w key (lv_of act) (lookup (same_key key) act.effect.writes)));
+        },
+        refl,
+      ),
+    )

@@ -1,0 +1,11 @@
+pub mod Role
+pub mod Knows
+pub mod Rule
+pub mod Steps
+pub mod Places
+pub mod Positions
+pub mod Boxes
+pub mod Heads
+pub mod First
+pub mod Anchoring
+pub mod Stopping

@@ -1,0 +1,8 @@
+//! The rule of the desk: the words, the parts and what the seats know show one state of the core, and each step keeps it.
+#![tactic(auto)]
+
+mod part;
+mod view;
+
+pub use part::Part;
+pub use view::{Give, JoinIn, Know, Look, OneCore, Place, Seat, SplitOff, Store, Take, Told, View};
