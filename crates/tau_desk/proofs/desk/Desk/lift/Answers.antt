@@ -1,0 +1,31 @@
+use Rattle.std.proofs.Common.{rules, None, true, false, Bool, ◌≡◌, ◌+◌, ◌*◌, ◌<◌, ℕ, [], ◌∷◌, Some, subst, sym, ap, ◌∙◌, List, Option, refl, arith}
+use Rattle.std.specs.Option.{IsSome}
+use Rattle.atomic_table.specs.Table.{rest}
+use Rattle.tau_rule.specs.Rule.{has, part_count}
+use Rattle.tau_rule.specs.Steps.{Sat, Agrees, Took, holding}
+use Rattle.tau_rule.specs.Knows.{Knows}
+use Rattle.tau_rule.specs.declared.part.Part.{Part}
+use Rattle.tau_rule.proofs.Gives.{first}
+use Rattle.tau_desk.proofs.desk.Desk.lift.Goals as goal
+
+pub exchange-requires : goal.exchange-requires
+exchange-requires c =
+    let p = c.requires.has in
+    (search rules, (Some p.0, p.1 ∙ ap (λ r. (c.args.number, Some p.0) ∷ rest r) (sym p.1)))
+
+pub unwrap-requires : goal.unwrap-requires
+unwrap-requires c =
+    let p = c.requires.has in
+    subst IsSome (first (sym p.1 ∙ c.exchange.ensures.2)) refl
+
+pub returns-clause-part : goal.returns-clause-part
+returns-clause-part c =
+    let p = c.requires.has in
+    let e = c.unwrap.ensures in
+    let same : Some p.0 ≡ Some c.unwrap.result = first (sym p.1 ∙ c.exchange.ensures.2) ∙ e in
+    p.1 ∙ ap (λ z. (c.args.number, z) ∷ []) same
+
+pub returns-clause-seat : goal.returns-clause-seat
+returns-clause-seat c =
+    let p = c.requires.has in
+    c.exchange.ensures.3 ∙ ap (λ r. (c.args.seat.now.me.0, (c.args.number, None) ∷ rest r)) p.1

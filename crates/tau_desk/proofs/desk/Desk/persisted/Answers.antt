@@ -1,0 +1,19 @@
+use Rattle.std.proofs.Common.{rules, ◌≡◌, ◌+◌, ◌*◌, ◌<◌, ℕ, sym, ap, ◌∙◌, refl, arith}
+use Rattle.tau_rule.specs.Positions.{plv_word}
+use Rattle.tau_rule.proofs.Persisting.{loads_as}
+use Rattle.tau_desk.proofs.desk.Desk.persisted.Goals as goal
+
+pub load-requires : goal.load-requires
+load-requires c =
+    let sized = c.args.self.now.sized in
+    let streams = c.args.self.now.streams_are in (
+      search rules,
+      (let a = sized.0 in let b = streams.0 in let d = c.requires.there in omega arith),
+      loads_as c.args.self.now.table.shared.key.value _ _ c.args.stream _ c.args.seat.now.me (sized.1 ∙ sized.2) c.requires.opened (let b = streams.0 in let d = c.requires.there in omega arith) (λ i. 8 * (sized.2 i + (streams.0 i + c.args.stream))),
+    )
+
+pub returns-clause-seen : goal.returns-clause-seen
+returns-clause-seen c =
+    let sized = c.args.self.now.sized in
+    let streams = c.args.self.now.streams_are in
+    c.load.ensures.2 _ c.requires.opened c.args.stream ((λ i. 8 * (sized.2 i + (streams.0 i + c.args.stream))))

@@ -1,0 +1,123 @@
+use Rattle.std.proofs.Common.{rules, ◌≡◌, ◌+◌, ◌<◌, ℕ, [], ◌∷◌, None, Some, subst, sym, ap, ◌∙◌, List, Option, refl, arith, Bool}
+use Rattle.std.specs.Option.{IsSome}
+use Rattle.std.specs.Map.{lookup}
+use Rattle.tau_base.specs.declared.value.Key.{Key}
+use Rattle.tau_base.specs.declared.value.Value.{Value}
+use Rattle.tau_base.specs.declared.value.Mode.{Mode}
+use Rattle.tau_base.specs.declared.value.Mode.TheVariants.{Write}
+use Rattle.tau_base.specs.Database.{same_key}
+use Rattle.tau_base.specs.Shards.{shard_number}
+use Rattle.tau_shard.specs.Plain.{PlainShard}
+use Rattle.tau_shard.specs.Read.{shard_of}
+use Rattle.tau_machine.specs.Hands.{Freeing, lv_of}
+use Rattle.tau_machine.specs.Events.{Free}
+use Rattle.tau_machine.specs.Shard.{Shard, entry_in, shard_freed}
+use Rattle.tau_machine.specs.Worker.{hand_freed, hand_joined}
+use Rattle.tau_proc.specs.declared.proc.Proc.{Proc}
+use Rattle.tau_txn.specs.declared.action.Action.{Action}
+use Rattle.tau_txn.specs.declared.action.Action.TheVariants as action
+use Rattle.tau_txn.specs.Next.{next_action, Means, Frees, FreesBy, IsForWent}
+use Rattle.tau_txn.specs.Txn.{PlainTxn, RunsBy, hand_in, has_joined}
+use Rattle.tau_core.specs.State.{Plain}
+use Rattle.tau_rule.specs.Knows.{Knows}
+use Rattle.tau_rule.specs.Steps.{Sat, Agrees, IsAfter, told, shard_in}
+use Rattle.tau_desk.proofs.Locking.{after}
+use Rattle.tau_desk.proofs.Freeing.{was-begun, taken-held, taken-written, freed-steps, written-some}
+use Rattle.tau_desk.proofs.work.free.Goals as goal
+
+pub free-requires-clause-held : goal.free-requires-clause-held
+free-requires-clause-held g c =
+    let r = c.requires.ready in
+    let held = c.take_shard-shard.ensures.held in
+    let origin : Plain = c.args.desk.now.table.shared.key.value in
+    let v : Knows = c.args.seat.now.me.0 in
+    let k : ℕ = c.from-number.result in
+    let key : Key = c.in-Free.key in
+    let sh : Shard = shard_of c.deref_mut.result.now in
+    let was : shard_in held.0 ≡ Some sh = held.2 ∙ ap (λ (s : PlainShard). Some (shard_of s)) (sym c.deref_mut.ensures.value) in
+    let number : k ≡ shard_number key = c.from-number.ensures ∙ c.shard_of.ensures.same in
+    let means : Frees origin.load.procs c.args.txn.now key c.in-Free.write = subst (λ (a : Action). Means origin.load.procs c.args.txn.now a) c.in-Free.is (c.turn.ensures.means origin.load.procs r.runs) in
+    let next : next_action c.args.txn.now ≡ action.Free key c.in-Free.write = sym c.turn.ensures.asked ∙ c.in-Free.is in
+    let phase : means.hand.phase ≡ Freeing means.act = subst (λ (b : Bool). FreesBy origin.load.procs b c.args.txn.now.worker means.hand means.act) c.requires.joined means.act_is in
+    let begun = was-begun origin.load.streams r.worker means.hand means.act (r.agrees ∙ means.is) phase in
+    let agrees : Agrees origin v k held.0 = held.3 in
+    let holds = taken-held origin c.args.seat.now.me c.args.txn.now c.args.worker k held.0 sh r means.hand key begun.0 agrees was number in
+    let is : Some means.mode ≡ (entry_in sh key).holders c.args.worker = sym (holds ∙ means.held) in
+    subst IsSome is refl
+
+pub free-requires-clause-writes : goal.free-requires-clause-writes
+free-requires-clause-writes g c =
+    let r = c.requires.ready in
+    let held = c.take_shard-shard.ensures.held in
+    let origin : Plain = c.args.desk.now.table.shared.key.value in
+    let v : Knows = c.args.seat.now.me.0 in
+    let k : ℕ = c.from-number.result in
+    let key : Key = c.in-Free.key in
+    let sh : Shard = shard_of c.deref_mut.result.now in
+    let was : shard_in held.0 ≡ Some sh = held.2 ∙ ap (λ (s : PlainShard). Some (shard_of s)) (sym c.deref_mut.ensures.value) in
+    let number : k ≡ shard_number key = c.from-number.ensures ∙ c.shard_of.ensures.same in
+    let means : Frees origin.load.procs c.args.txn.now key c.in-Free.write = subst (λ (a : Action). Means origin.load.procs c.args.txn.now a) c.in-Free.is (c.turn.ensures.means origin.load.procs r.runs) in
+    let next : next_action c.args.txn.now ≡ action.Free key c.in-Free.write = sym c.turn.ensures.asked ∙ c.in-Free.is in
+    let phase : means.hand.phase ≡ Freeing means.act = subst (λ (b : Bool). FreesBy origin.load.procs b c.args.txn.now.worker means.hand means.act) c.requires.joined means.act_is in
+    let begun = was-begun origin.load.streams r.worker means.hand means.act (r.agrees ∙ means.is) phase in
+    let agrees : Agrees origin v k held.0 = held.3 in
+    let holds = taken-held origin c.args.seat.now.me c.args.txn.now c.args.worker k held.0 sh r means.hand key begun.0 agrees was number in
+    λ some. let wrote = written-some c.in-Free.write some in
+    holds ∙ means.held ∙ ap Some (taken-written origin c.args.seat.now.me c.args.txn.now c.args.worker k held.0 r means.hand means.act key means.mode wrote.0 begun.0 phase agrees means.held (sym means.write_is ∙ wrote.1))
+
+pub give_shard-requires-clause-event : goal.give_shard-requires-clause-event
+give_shard-requires-clause-event g c =
+    let r = c.requires.ready in
+    let held = c.take_shard-shard.ensures.held in
+    let origin : Plain = c.args.desk.now.table.shared.key.value in
+    let v : Knows = c.args.seat.now.me.0 in
+    let k : ℕ = c.from-number.result in
+    let key : Key = c.in-Free.key in
+    let sh : Shard = shard_of c.deref_mut.result.now in
+    let was : shard_in held.0 ≡ Some sh = held.2 ∙ ap (λ (s : PlainShard). Some (shard_of s)) (sym c.deref_mut.ensures.value) in
+    let number : k ≡ shard_number key = c.from-number.ensures ∙ c.shard_of.ensures.same in
+    let means : Frees origin.load.procs c.args.txn.now key c.in-Free.write = subst (λ (a : Action). Means origin.load.procs c.args.txn.now a) c.in-Free.is (c.turn.ensures.means origin.load.procs r.runs) in
+    let next : next_action c.args.txn.now ≡ action.Free key c.in-Free.write = sym c.turn.ensures.asked ∙ c.in-Free.is in
+    let phase : means.hand.phase ≡ Freeing means.act = subst (λ (b : Bool). FreesBy origin.load.procs b c.args.txn.now.worker means.hand means.act) c.requires.joined means.act_is in
+    let begun = was-begun origin.load.streams r.worker means.hand means.act (r.agrees ∙ means.is) phase in
+    let agrees : Agrees origin v k held.0 = held.3 in
+    let holds = taken-held origin c.args.seat.now.me c.args.txn.now c.args.worker k held.0 sh r means.hand key begun.0 agrees was number in (
+      Free c.args.worker,
+      c.args.worker,
+      record {
+        taken = held.0;
+        role = r.role;
+        worker = r.worker;
+        before = sh;
+        held = ap (λ m. m.0.hand) held.1;
+        carried = ap (λ m. m.1) held.1;
+        roles = ap (λ m. m.0.roles) held.1 ∙ r.seat.roles;
+        share = r.share;
+        was = was;
+        there = r.there;
+        steps = freed-steps origin c.args.worker k r.worker sh (shard_of c.free.new.self) c.args.txn.now c.went.new.self key means.mode means.act means.hand begun.0 begun.1 number phase means.held means.lowest
+            (c.free.ensures ∙ (λ i. shard_freed sh c.args.worker key (c.lv-lv.ensures.frees origin.load.procs means.hand means.act r.runs means.is means.act_is i) (means.write_is i)))
+            (subst (λ (p : List Proc). hand_in p c.args.txn.now ≡ Some means.hand → FreesBy p (has_joined c.args.txn.now) c.args.txn.now.worker means.hand means.act → hand_in p c.went.new.self ≡ Some (hand_freed (hand_joined means.hand (Freeing means.act) means.hand.dep) key)) c.requires.procs
+            (λ is frees. c.went.ensures.freed means.hand means.act key c.in-Free.write next is frees) means.is means.act_is);
+      },
+    )
+
+pub returns-clause-step : goal.returns-clause-step
+returns-clause-step g c =
+    let r = c.requires.ready in
+    let held = c.take_shard-shard.ensures.held in
+    let origin : Plain = c.args.desk.now.table.shared.key.value in
+    let v : Knows = c.args.seat.now.me.0 in
+    let k : ℕ = c.from-number.result in
+    let key : Key = c.in-Free.key in
+    let sh : Shard = shard_of c.deref_mut.result.now in
+    let was : shard_in held.0 ≡ Some sh = held.2 ∙ ap (λ (s : PlainShard). Some (shard_of s)) (sym c.deref_mut.ensures.value) in
+    let number : k ≡ shard_number key = c.from-number.ensures ∙ c.shard_of.ensures.same in
+    let means : Frees origin.load.procs c.args.txn.now key c.in-Free.write = subst (λ (a : Action). Means origin.load.procs c.args.txn.now a) c.in-Free.is (c.turn.ensures.means origin.load.procs r.runs) in
+    let next : next_action c.args.txn.now ≡ action.Free key c.in-Free.write = sym c.turn.ensures.asked ∙ c.in-Free.is in
+    let phase : means.hand.phase ≡ Freeing means.act = subst (λ (b : Bool). FreesBy origin.load.procs b c.args.txn.now.worker means.hand means.act) c.requires.joined means.act_is in
+    let begun = was-begun origin.load.streams r.worker means.hand means.act (r.agrees ∙ means.is) phase in
+    let agrees : Agrees origin v k held.0 = held.3 in
+    let holds = taken-held origin c.args.seat.now.me c.args.txn.now c.args.worker k held.0 sh r means.hand key begun.0 agrees was number in
+    let now : c.give_shard.new.seat.me ≡ (told origin.load v c.went.new.self, []) = c.give_shard.ensures.given ∙ ap (λ m. (told origin.load m.0 c.went.new.self, [])) held.1 in
+    (now, subst (λ (m : Sat). IsAfter origin c.args.worker m c.went.new.self) (sym now) (after origin c.args.worker c.args.seat.now.me c.args.txn.now c.went.new.self r (ap (λ (t : PlainTxn). t.worker) c.went.ensures.same) (ap (λ (t : PlainTxn). t.width) c.went.ensures.same) (subst (λ (p : List Proc). RunsBy p c.went.new.self) c.requires.procs c.went.ensures.runs)))

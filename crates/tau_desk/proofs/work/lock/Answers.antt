@@ -1,0 +1,150 @@
+use Rattle.std.proofs.Common.{rules, ◌≡◌, ◌+◌, ◌<◌, ℕ, [], ◌∷◌, None, Some, subst, sym, ap, ◌∙◌, List, Option, refl, arith, length}
+use Rattle.tau_base.specs.declared.value.Mode.{Mode}
+use Rattle.tau_shard.specs.Read.{shard_of}
+use Rattle.tau_machine.specs.Events.{Lock, Busy}
+use Rattle.tau_machine.specs.Hands.{Hand}
+use Rattle.tau_machine.specs.Worker.{Worker, settled, hand_busy}
+use Rattle.tau_machine.specs.Shard.{Shard}
+use Rattle.tau_base.specs.Shards.{shard_number}
+use Rattle.tau_shard.specs.Plain.{PlainShard}
+use Rattle.tau_proc.specs.declared.proc.Proc.{Proc}
+use Rattle.tau_txn.specs.declared.action.Action.{Action}
+use Rattle.tau_txn.specs.declared.action.Action.TheVariants as action
+use Rattle.tau_txn.specs.Next.{next_action, Means, Locks, IsLock}
+use Rattle.tau_txn.specs.Txn.{PlainTxn, RunsBy, hand_in, worker_of}
+use Rattle.tau_core.specs.State.{Plain}
+use Rattle.tau_rule.specs.Knows.{Knows}
+use Rattle.tau_rule.specs.Steps.{Sat, Agrees, IsAfter, told, shard_in}
+use Rattle.tau_rule.specs.Rule.{Now, IsPart}
+use Rattle.tau_rule.proofs.Turns.{part-shard}
+use Rattle.tau_desk.proofs.Locking.{granted-steps, busy-steps, after, taken-wide}
+use Rattle.tau_desk.proofs.work.lock.Goals as goal
+
+pub granted-requires-clause-wide : goal.granted-requires-clause-wide
+granted-requires-clause-wide g c =
+    let r = c.requires.ready in
+    let held = c.take_shard-shard.ensures.held in
+    let origin : Plain = c.args.desk.now.table.shared.key.value in
+    let v : Knows = c.args.seat.now.me.0 in
+    let k : ℕ = c.from-number.result in
+    let sh : Shard = shard_of c.deref_mut.result.now in
+    let was : shard_in held.0 ≡ Some sh = held.2 ∙ ap (λ (s : PlainShard). Some (shard_of s)) (sym c.deref_mut.ensures.value) in
+    let number : k ≡ shard_number c.in-Lock.key = c.from-number.ensures ∙ c.shard_of.ensures.same in
+    let means : Locks origin.load.procs c.args.txn.now c.in-Lock.key c.in-Lock.mode = subst (λ (a : Action). Means origin.load.procs c.args.txn.now a) c.in-Lock.is (c.turn.ensures.means origin.load.procs r.runs) in
+    let next : next_action c.args.txn.now ≡ action.Lock c.in-Lock.key c.in-Lock.mode = sym c.turn.ensures.asked ∙ c.in-Lock.is in
+    let agrees : Agrees origin v k held.0 = held.3 in
+    ap (length {A = ℕ}) c.in-Ok.ensures.joined ∙ taken-wide origin v k held.0 sh c.in-Lock.key c.in-Lock.mode c.dep-dep.result agrees was (c.dep-dep.ensures.wide ∙ r.width)
+    ∙ sym r.width
+
+pub give_shard-requires-clause-event : goal.give_shard-requires-clause-event
+give_shard-requires-clause-event g c =
+    let r = c.requires.ready in
+    let held = c.take_shard-shard.ensures.held in
+    let origin : Plain = c.args.desk.now.table.shared.key.value in
+    let v : Knows = c.args.seat.now.me.0 in
+    let k : ℕ = c.from-number.result in
+    let sh : Shard = shard_of c.deref_mut.result.now in
+    let was : shard_in held.0 ≡ Some sh = held.2 ∙ ap (λ (s : PlainShard). Some (shard_of s)) (sym c.deref_mut.ensures.value) in
+    let number : k ≡ shard_number c.in-Lock.key = c.from-number.ensures ∙ c.shard_of.ensures.same in
+    let means : Locks origin.load.procs c.args.txn.now c.in-Lock.key c.in-Lock.mode = subst (λ (a : Action). Means origin.load.procs c.args.txn.now a) c.in-Lock.is (c.turn.ensures.means origin.load.procs r.runs) in
+    let next : next_action c.args.txn.now ≡ action.Lock c.in-Lock.key c.in-Lock.mode = sym c.turn.ensures.asked ∙ c.in-Lock.is in (
+      Lock c.args.worker,
+      c.args.worker,
+      record {
+        taken = held.0;
+        role = r.role;
+        worker = r.worker;
+        before = sh;
+        held = ap (λ m. m.0.hand) held.1;
+        carried = ap (λ m. m.1) held.1;
+        roles = ap (λ m. m.0.roles) held.1 ∙ r.seat.roles;
+        share = r.share;
+        was = was;
+        there = r.there;
+        steps = granted-steps origin c.args.worker k r.worker sh (shard_of c.lock.new.self) c.args.txn.now c.granted.new.self c.in-Lock.key c.in-Lock.mode c.in-Ok.value c.dep-dep.result c.lock.new.dep means r.agrees number
+            c.dep-dep.ensures.dep c.in-Ok.ensures.joined c.in-Ok.ensures.value c.in-Ok.ensures.free c.in-Ok.ensures.locked
+            (c.granted.ensures.locked origin.load.procs means.hand c.in-Lock.key c.in-Lock.mode r.runs next means.is);
+      },
+    )
+
+pub give_shard-requires-in-Err-Busy-clause-event : goal.give_shard-requires-in-Err-Busy-clause-event
+give_shard-requires-in-Err-Busy-clause-event g c =
+    let r = c.requires.ready in
+    let held = c.take_shard-shard.ensures.held in
+    let origin : Plain = c.args.desk.now.table.shared.key.value in
+    let v : Knows = c.args.seat.now.me.0 in
+    let k : ℕ = c.from-number.result in
+    let sh : Shard = shard_of c.deref_mut.result.now in
+    let was : shard_in held.0 ≡ Some sh = held.2 ∙ ap (λ (s : PlainShard). Some (shard_of s)) (sym c.deref_mut.ensures.value) in
+    let number : k ≡ shard_number c.in-Lock.key = c.from-number.ensures ∙ c.shard_of.ensures.same in
+    let means : Locks origin.load.procs c.args.txn.now c.in-Lock.key c.in-Lock.mode = subst (λ (a : Action). Means origin.load.procs c.args.txn.now a) c.in-Lock.is (c.turn.ensures.means origin.load.procs r.runs) in
+    let next : next_action c.args.txn.now ≡ action.Lock c.in-Lock.key c.in-Lock.mode = sym c.turn.ensures.asked ∙ c.in-Lock.is in (
+      Busy c.args.worker,
+      c.args.worker,
+      record {
+        taken = held.0;
+        role = r.role;
+        worker = r.worker;
+        before = sh;
+        held = ap (λ m. m.0.hand) held.1;
+        carried = ap (λ m. m.1) held.1;
+        roles = ap (λ m. m.0.roles) held.1 ∙ r.seat.roles;
+        share = r.share;
+        was = was;
+        there = r.there;
+        steps = busy-steps origin c.args.worker k r.worker sh (shard_of c.lock.new.self) c.args.txn.now c.busy.new.self c.in-Lock.key c.in-Lock.mode means r.agrees number c.in-Err-Busy.ensures.unchanged r.width
+            (subst (λ (p : List Proc). (x : Worker) (h : Hand) → hand_in p c.args.txn.now ≡ Some h → worker_of p x c.busy.new.self ≡ settled c.args.txn.now.width x (hand_busy h)) c.requires.procs c.busy.ensures.busy);
+      },
+    )
+
+pub give_back-requires-clause-same : goal.give_back-requires-clause-same
+give_back-requires-clause-same g c =
+    let r = c.requires.ready in
+    let held = c.take_shard-shard.ensures.held in
+    let origin : Plain = c.args.desk.now.table.shared.key.value in
+    let v : Knows = c.args.seat.now.me.0 in
+    let k : ℕ = c.from-number.result in
+    let sh : Shard = shard_of c.deref_mut.result.now in
+    let was : shard_in held.0 ≡ Some sh = held.2 ∙ ap (λ (s : PlainShard). Some (shard_of s)) (sym c.deref_mut.ensures.value) in
+    let number : k ≡ shard_number c.in-Lock.key = c.from-number.ensures ∙ c.shard_of.ensures.same in
+    let means : Locks origin.load.procs c.args.txn.now c.in-Lock.key c.in-Lock.mode = subst (λ (a : Action). Means origin.load.procs c.args.txn.now a) c.in-Lock.is (c.turn.ensures.means origin.load.procs r.runs) in
+    let next : next_action c.args.txn.now ≡ action.Lock c.in-Lock.key c.in-Lock.mode = sym c.turn.ensures.asked ∙ c.in-Lock.is in
+    record {
+      taken = held.0;
+      number = c.args.worker;
+      role = r.role;
+      held = ap (λ m. m.0.hand) held.1;
+      carried = ap (λ m. m.1) held.1;
+      roles = ap (λ m. m.0.roles) held.1 ∙ r.seat.roles;
+      same = λ s part. let is = part-shard origin s k held.0 sh was part in (is.0, is.1 ∙ sym c.in-Err-NoMemory.ensures.unchanged);
+    }
+
+pub returns-in-Ok-clause-step : goal.returns-in-Ok-clause-step
+returns-in-Ok-clause-step g c =
+    let r = c.requires.ready in
+    let held = c.take_shard-shard.ensures.held in
+    let origin : Plain = c.args.desk.now.table.shared.key.value in
+    let v : Knows = c.args.seat.now.me.0 in
+    let k : ℕ = c.from-number.result in
+    let sh : Shard = shard_of c.deref_mut.result.now in
+    let was : shard_in held.0 ≡ Some sh = held.2 ∙ ap (λ (s : PlainShard). Some (shard_of s)) (sym c.deref_mut.ensures.value) in
+    let number : k ≡ shard_number c.in-Lock.key = c.from-number.ensures ∙ c.shard_of.ensures.same in
+    let means : Locks origin.load.procs c.args.txn.now c.in-Lock.key c.in-Lock.mode = subst (λ (a : Action). Means origin.load.procs c.args.txn.now a) c.in-Lock.is (c.turn.ensures.means origin.load.procs r.runs) in
+    let next : next_action c.args.txn.now ≡ action.Lock c.in-Lock.key c.in-Lock.mode = sym c.turn.ensures.asked ∙ c.in-Lock.is in
+    let now : c.give_shard.new.seat.me ≡ (told origin.load v c.granted.new.self, []) = c.give_shard.ensures.given ∙ ap (λ m. (told origin.load m.0 c.granted.new.self, [])) held.1 in
+    (now, subst (λ (m : Sat). IsAfter origin c.args.worker m c.granted.new.self) (sym now) (after origin c.args.worker c.args.seat.now.me c.args.txn.now c.granted.new.self r (ap (λ (t : PlainTxn). t.worker) c.granted.ensures.same) (ap (λ (t : PlainTxn). t.width) c.granted.ensures.same) (c.granted.ensures.runs origin.load.procs r.runs)))
+
+pub returns-in-Err-Busy-clause-step : goal.returns-in-Err-Busy-clause-step
+returns-in-Err-Busy-clause-step g c =
+    let r = c.requires.ready in
+    let held = c.take_shard-shard.ensures.held in
+    let origin : Plain = c.args.desk.now.table.shared.key.value in
+    let v : Knows = c.args.seat.now.me.0 in
+    let k : ℕ = c.from-number.result in
+    let sh : Shard = shard_of c.deref_mut.result.now in
+    let was : shard_in held.0 ≡ Some sh = held.2 ∙ ap (λ (s : PlainShard). Some (shard_of s)) (sym c.deref_mut.ensures.value) in
+    let number : k ≡ shard_number c.in-Lock.key = c.from-number.ensures ∙ c.shard_of.ensures.same in
+    let means : Locks origin.load.procs c.args.txn.now c.in-Lock.key c.in-Lock.mode = subst (λ (a : Action). Means origin.load.procs c.args.txn.now a) c.in-Lock.is (c.turn.ensures.means origin.load.procs r.runs) in
+    let next : next_action c.args.txn.now ≡ action.Lock c.in-Lock.key c.in-Lock.mode = sym c.turn.ensures.asked ∙ c.in-Lock.is in
+    let now : c.give_shard-in-Err-Busy.new.seat.me ≡ (told origin.load v c.busy.new.self, []) = c.give_shard-in-Err-Busy.ensures.given ∙ ap (λ m. (told origin.load m.0 c.busy.new.self, [])) held.1 in
+    (now, subst (λ (m : Sat). IsAfter origin c.args.worker m c.busy.new.self) (sym now) (after origin c.args.worker c.args.seat.now.me c.args.txn.now c.busy.new.self r (ap (λ (t : PlainTxn). t.worker) c.busy.ensures.same) (ap (λ (t : PlainTxn). t.width) c.busy.ensures.same) (subst (λ (p : List Proc). RunsBy p c.busy.new.self) c.requires.procs c.busy.ensures.runs)))

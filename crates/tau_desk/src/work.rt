@@ -1,0 +1,178 @@
+//! What a worker does on the desk.
+ghost use Rattle.std.specs.Prelude.{◌≡◌, ◌+◌, ◌<◌, ◌≤◌, [], ◌∷◌, None, Some, ℕ, true};
+ghost use Rattle.tau_machine.specs.Shard.{Shard as ShardOf};
+ghost use Rattle.tau_shard.specs.Read.{shard_of};
+ghost use Rattle.tau_base.specs.declared.limits.TheConstants.{SHARDS};
+ghost use Rattle.tau_txn.specs.Txn.{PlainTxn, RunsBy, hand_in, has_joined};
+ghost use Rattle.tau_rule.specs.Steps.{Agrees, IsReady, told, holding, shard_in, IsAfter, first_role};
+ghost use Rattle.tau_desk.specs.Acts.{LockedBy};
+ghost use Rattle.tau_rule.specs.Boxes.{box_in, told_box, IsToPost};
+ghost use Rattle.tau_rule.specs.Places.{IsToPlace, placed};
+ghost use Rattle.tau_txn.specs.Next.{IsCommit, next_action};
+ghost use Rattle.tau_rule.specs.declared.part.Part.{Part as PartOf};
+
+use crate::desk::Desk;
+use crate::room::Room;
+use std::sync::Wait;
+use tau_ack::Pending;
+use tau_base::{SHARDS, shard_of};
+use tau_outbox::Outbox;
+use tau_proc::Procs;
+use tau_rule::{Part, Seat};
+use tau_shard::{Shard, ShardRefusal};
+use tau_txn::{Action, Txn};
+
+/// What came of an action on a shard.
+#[derive(Clone, Copy)]
+pub enum Acted {
+    /// It was done.
+    Went,
+    /// Another worker holds the key.
+    Busy,
+    /// The call's next action is another one.
+    Other,
+    /// Out of memory.
+    NoMemory,
+}
+
+/// Takes a shard.
+pub fn take_shard<R: Wait>(rt: &R, desk: &Desk, seat: &mut Seat, number: usize) -> Box<Shard>
+    requires own { seat.old.table_id ≡ desk.now.table.shared.table_id }
+    requires role { (w : ℕ) × (t : PlainTxn) × IsReady desk.now.table.shared.key.value w seat.old.me t }
+    requires low { number < SHARDS }
+    ensures own { (seat.new.table_id ≡ seat.old.table_id) × (seat.new.id ≡ seat.old.id) }
+    ensures held { (p : PartOf) × (seat.new.me ≡ (holding number seat.old.me.0 p, (number, None) ∷ [])) × (shard_in p ≡ Some (shard_of result.value)) × Agrees desk.now.table.shared.key.value seat.old.me.0 number p }
+{
+    match desk.take(rt, seat, number) {
+        Part::Shard(shard) => shard,
+        Part::Outbox(_, _) => unreachable!(),
+        Part::Anchor(_, _) => unreachable!(),
+    }
+}
+
+/// The worker locks the key that the call in hand wants.
+pub fn lock<R: Wait>(
+    rt: &R,
+    desk: &Desk,
+    seat: &mut Seat,
+    worker: u8,
+    procs: &Procs,
+    txn: &mut Txn,
+) -> Acted
+    requires own { seat.old.table_id ≡ desk.now.table.shared.table_id }
+    requires procs { procs.now ≡ desk.now.table.shared.key.value.load.procs }
+    requires small { worker < 16 }
+    requires ready { IsReady desk.now.table.shared.key.value worker seat.old.me txn.old }
+    ensures own { (seat.new.table_id ≡ seat.old.table_id) × (seat.new.id ≡ seat.old.id) }
+    ensures step { LockedBy desk.now.table.shared.key.value worker seat.old.me txn.old seat.new.me txn.new result }
+{
+    let Action::Lock { key, mode } = txn.turn() else {
+        return Acted::Other;
+    };
+    let number = usize::from(shard_of(key));
+    let mut shard = take_shard(rt, desk, seat, number);
+    let mut dep = txn.dep();
+    match shard.lock(worker, key, mode, &mut dep) {
+        Ok(value) => {
+            txn.granted(value, dep);
+            desk.give_shard(seat, number, shard, txn);
+            Acted::Went
+        }
+        Err(ShardRefusal::Busy { holder }) => {
+            txn.busy(procs, holder);
+            desk.give_shard(seat, number, shard, txn);
+            Acted::Busy
+        }
+        Err(ShardRefusal::NoMemory) => {
+            desk.give_back(seat, number, Part::Shard(shard));
+            Acted::NoMemory
+        }
+    }
+}
+
+/// The worker, whose call has joined the committed ones, frees its lowest key.
+pub fn free<R: Wait>(
+    rt: &R,
+    desk: &Desk,
+    seat: &mut Seat,
+    worker: u8,
+    procs: &Procs,
+    txn: &mut Txn,
+) -> Acted
+    requires own { seat.old.table_id ≡ desk.now.table.shared.table_id }
+    requires procs { procs.now ≡ desk.now.table.shared.key.value.load.procs }
+    requires small { worker < 16 }
+    requires joined { has_joined txn.old ≡ true }
+    requires ready { IsReady desk.now.table.shared.key.value worker seat.old.me txn.old }
+    ensures own { (seat.new.table_id ≡ seat.old.table_id) × (seat.new.id ≡ seat.old.id) }
+    ensures step { LockedBy desk.now.table.shared.key.value worker seat.old.me txn.old seat.new.me txn.new result }
+{
+    let Action::Free { key, write } = txn.turn() else {
+        return Acted::Other;
+    };
+    let number = usize::from(shard_of(key));
+    let mut shard = take_shard(rt, desk, seat, number);
+    let lv = txn.lv();
+    shard.free(worker, key, &lv, write);
+    txn.went(procs);
+    desk.give_shard(seat, number, shard, txn);
+    Acted::Went
+}
+
+/// The call, whose record is made, gets its place.
+pub fn commit(desk: &Desk, seat: &mut Seat, worker: u8, txn: &mut Txn)
+    requires own { seat.old.table_id ≡ desk.now.table.shared.table_id }
+    requires call { IsToPlace desk.now.table.shared.key.value worker seat.old.me txn.old }
+    requires runs { RunsBy desk.now.table.shared.key.value.load.procs txn.old }
+    requires next { IsCommit (next_action txn.old) }
+    ensures own { (seat.new.table_id ≡ seat.old.table_id) × (seat.new.id ≡ seat.old.id) }
+    ensures step { (start : ℕ) × (seat.new.me ≡ (placed desk.now.table.shared.key.value.load seat.old.me.0 txn.old start, seat.old.me.1)) }
+    ensures after { IsAfter desk.now.table.shared.key.value worker seat.new.me txn.new }
+{
+    let start = desk.place(seat, worker, txn);
+    txn.placed(start);
+}
+
+/// Takes the worker's outbox.
+pub fn take_outbox<R: Wait>(
+    rt: &R,
+    desk: &Desk,
+    seat: &mut Seat,
+    worker: u8,
+) -> (Box<Outbox>, Box<Pending>)
+    requires own { seat.old.table_id ≡ desk.now.table.shared.table_id }
+    requires role { (t : PlainTxn) × IsReady desk.now.table.shared.key.value worker seat.old.me t }
+    ensures own { (seat.new.table_id ≡ seat.old.table_id) × (seat.new.id ≡ seat.old.id) }
+    ensures held { (p : PartOf) × (seat.new.me ≡ (holding (SHARDS + worker) seat.old.me.0 p, (SHARDS + worker, None) ∷ [])) × (box_in p ≡ Some (result.0.value, result.1.value)) × Agrees desk.now.table.shared.key.value seat.old.me.0 (SHARDS + worker) p }
+{
+    match desk.take(rt, seat, SHARDS + usize::from(worker)) {
+        Part::Outbox(outbox, pending) => (outbox, pending),
+        Part::Shard(_) => unreachable!(),
+        Part::Anchor(_, _) => unreachable!(),
+    }
+}
+
+/// The record of the call, which has its place, is posted.
+pub fn post<R: Wait>(
+    rt: &R,
+    desk: &Desk,
+    seat: &mut Seat,
+    worker: u8,
+    start: u64,
+    txn: &mut Txn,
+    room: &mut Room,
+)
+    requires own { seat.old.table_id ≡ desk.now.table.shared.table_id }
+    requires ready { IsReady desk.now.table.shared.key.value worker seat.old.me txn.old }
+    requires posts { IsToPost desk.now.table.shared.key.value seat.old.me txn.old start }
+    requires room { ((first_role seat.old.me.0.roles).1.spare ≡ (room.old.records, room.old.calls)) × (1 ≤ room.old.records) }
+    ensures own { (seat.new.table_id ≡ seat.old.table_id) × (seat.new.id ≡ seat.old.id) }
+    ensures step { seat.new.me ≡ (told_box desk.now.table.shared.key.value.load seat.old.me.0 txn.new (room.new.records, room.new.calls), []) }
+    ensures room { (room.new.records + 1 ≡ room.old.records) × (room.new.calls ≡ room.old.calls) }
+{
+    let (mut outbox, pending) = take_outbox(rt, desk, seat, worker);
+    let bytes = txn.take_bytes();
+    outbox.post(start, bytes);
+    room.records -= 1;
+    desk.give_outbox(seat, worker, outbox, pending, txn, *room);
+}
