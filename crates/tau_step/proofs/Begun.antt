@@ -40,6 +40,7 @@ module _ {D : Type 0} {G : Ghosts D} (m : ℕ) (mode : LogMode) (load : Workload
       workers = refl;
       streams = ends-long;
       rows = q.1.rows;
+      floor = q.1.floor;
       ends = q.1.ends;
       anchors = q.1.anchors;
     })

@@ -11,7 +11,7 @@ use Rattle.tau_base.specs.declared.value.Call.{Call}
 use Rattle.tau_proc.specs.declared.reply.Reply.{Reply}
 use Rattle.tau_model.specs.declared.committed.Committed.{Committed}
 use Rattle.tau_model.specs.Committed.{number_of, has_record, place_of, reported_numbers, IsWithin}
-use Rattle.tau_model.specs.History.{Act, Member, Before, Reordered}
+use Rattle.tau_model.specs.History.{Act, Member, Reordered}
 use Rattle.tau_model.proofs.Orders.{member-reordered}
 use Rattle.tau_model.proofs.Reorder.{reordered-itself, reordered-sym}
 use Rattle.tau_machine.specs.Hands.{Txn, committed_of}

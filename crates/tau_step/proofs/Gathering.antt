@@ -90,6 +90,7 @@ module _ (p : Plain) (K : List (Act Txn)) (h : Hidden) (g : Stands p K h) (j : �
   nothing-waits q =
       let (s, is) = some-at p.streams j (let e = g.sound.streams in omega arith) in
       record {
+        near = (let most : ℕ = MAX_BODY in let used = used-is s is in let small = (g.sound.wide j s is).1 in omega (arith, used, small));
         own = waits-items (setting_of p.load) p.load.workers p.load.streams p.load (anchors_at p) (core_of p h) j (length s.body) s.own.pieces (h.own j) (used-is s is) (q.own s is s is) (g.own j s is);
         posted = λ w lt whose.
             let (t, at) = some-at p.seats w (let e = g.sound.seats in omega arith) in

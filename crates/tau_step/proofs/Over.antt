@@ -280,6 +280,7 @@ module _ (set : Setting) (m n : ℕ) where
   settled-apart : (j : ℕ) (s s' : Core) → Apart j s s' → Settled j s → Settled j s'
   settled-apart j s s' a g = record {
     gathered = record {
+      near = (let e = a.gathered in let f = a.plv in let most = g.gathered.near in omega (arith, e, f, most));
       own = waits (s.streams j).posted (s'.streams j).posted a.own g.gathered.own;
       posted = λ w lt e. waits (s.outboxes w).posted (s'.outboxes w).posted (a.posted w e) (g.gathered.posted w lt e);
     };

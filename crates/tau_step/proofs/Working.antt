@@ -1,10 +1,16 @@
 -- A worker's turn is an event of its own, exactly where it has something to do.
-use Rattle.std.proofs.Common.{ℕ, ◌<◌, ◌≡◌, ◌%◌, ◌++◌, inl, inr, Bool, true, false, List, [], ◌∷◌, refl, sym, ap, subst, ◌∙◌, Option}
-use Rattle.std.specs.Prelude.{Some, None, slice_index, Result, Ok, Err}
+use Rattle.std.proofs.Common.{ℕ, ◌<◌, ◌==◌, ◌≡◌, ◌⊎◌, ◌%◌, ◌++◌, inl, inr, Bool, true, false, List, [], ◌∷◌, refl, sym, ap, subst, ◌∙◌, Option}
+use Rattle.std.specs.Prelude.{Some, None, ◌&&◌, not, slice_index, Result, Ok, Err}
+use Rattle.std.proofs.lemmas.Bool.{cases_eq, eq-eqb, ne_eqb}
+use Rattle.tau_base.specs.declared.value.Mode.{Mode}
+use Rattle.tau_base.specs.declared.value.Mode.TheVariants.{Read, Write}
+use Rattle.tau_base.specs.Shards.{shard_number}
 use Rattle.tau_base.specs.declared.value.NoMemory.{NoMemory}
 use Rattle.tau_model.specs.History.{Act}
 use Rattle.tau_machine.specs.Hands.{Txn, Hand}
+use Rattle.tau_machine.specs.Shard.{entry_in}
 use Rattle.tau_machine.specs.State.{Core, hand_of}
+use Rattle.tau_shard.specs.Blocks.{against}
 use Rattle.tau_machine.specs.Events as machine
 use Rattle.tau_machine.specs.Events.{Leads, ready}
 use Rattle.tau_core.specs.declared.event.Event.TheVariants as event
@@ -17,8 +23,9 @@ use Rattle.tau_core.specs.View.{Hidden, setting_of, core_of}
 use Rattle.tau_core.specs.Stands.{anchors_at}
 use Rattle.tau_core.specs.Pieces as core
 use Rattle.tau_core.specs.Phases.{hand_phase}
-use Rattle.tau_core.specs.Steps.{Steps, Happened, Unmoved, StandsElsewhere}
-use Rattle.tau_run.specs.Turns.{Progress, Stays, Goes, NamesNewest, IsOwn}
+use Rattle.tau_core.specs.Steps.{Steps, Happened, Unmoved, StandsElsewhere, IsBarred}
+use Rattle.tau_run.specs.Turns as run
+use Rattle.tau_run.specs.Turns.{Progress, Stays, Goes, NamesNewest, BusyHasHolder, IsOwn}
 use Rattle.tau_step.specs.Progressed as on
 use Rattle.tau_step.specs.Progressed.{progress, Comes}
 use Rattle.tau_step.specs.Acting.{Tells, Acts, WorkerTurned, raised, has_work_in}
@@ -38,6 +45,27 @@ unmoved-happened e p m p' K h u q = record {
 
 pub unmoved-on : (p m p' : Plain) (K : List (Act Txn)) (h : Hidden) (u : Unmoved p m K h) → Unmoved m p' K u.hidden → Unmoved p p' K h
 unmoved-on p m p' K h u q = record { hidden = q.hidden; same = q.same ∙ u.same; stands = q.stands; load = q.load ∙ u.load; taken = q.taken ∙ u.taken }
+
+-- who stands against a lock holds the key, in a mode that conflicts
+against-conflicts : (m : Mode) (o : Option Mode) → against m o ≡ true → (n : Mode) × (o ≡ Some n) × ((m ≡ Write) ⊎ (n ≡ Write))
+against-conflicts m None e = absurd (let bad : false ≡ true = e in cc)
+against-conflicts Read (Some Read) e = absurd (let bad : false ≡ true = e in cc)
+against-conflicts Read (Some Write) e = (Write, refl, inr refl)
+against-conflicts Write (Some n) e = (n, refl, inl refl)
+
+blocks-other : (u w : ℕ) (b : Bool) → (not (u == w) && b) ≡ true → (u ≡ w → ⊥) × (b ≡ true)
+blocks-other u w b e = elim (cases_eq u w) [
+  | inl is ↦ absurd (let f : (u == w) ≡ true = eq-eqb u w is in let bad : (not (u == w) && b) ≡ false = ap (λ (x : Bool). not x && b) f in let g : true ≡ false = sym e ∙ bad in cc)
+  | inr ne ↦ (ne, (let f : (u == w) ≡ false = ne_eqb u w ne in sym (ap (λ (x : Bool). not x && b) f) ∙ e))
+]
+
+-- the holder that the core names is another worker with the key that is wanted
+barred : (p : Plain) (h : Hidden) (w holder : ℕ) → IsBarred p h w holder → run.IsBarred (setting_of p.load) p.load.workers p.load.streams w (core_of p h)
+barred p h w holder (key, mode, wants, lowest) =
+    let entry = entry_in ((core_of p h).shards (shard_number key)) key in
+    let other = blocks-other holder w (against mode (entry.holders holder)) lowest.0 in
+    let (n, has, conflict) = against-conflicts mode (entry.holders holder) other.1 in
+    record { hand = wants.hand; key = key; mode = mode; is = wants.is; next = wants.next; held = (holder, n, other.0, has, conflict) }
 
 module _ (p p' : Plain) (K : List (Act Txn)) (h : Hidden) (es : List machine.Event) (told : List (ℕ × List ℕ)) where
   pub same-progress : (u : Unmoved p p' K h) → progress p' u.hidden es K told ≡ progress p h es K told
@@ -61,10 +89,12 @@ module _ (p p' : Plain) (K : List (Act Txn)) (h : Hidden) (es : List machine.Eve
 
   module _ (w : ℕ) where
     abbrev own_event : Progress → Progress → Type 0
-    own_event P P' = (f : machine.Event) × IsOwn w f × (q : Goes (setting_of p.load) p.load.workers p.load.streams f P P') × NamesNewest (setting_of p.load) p.load.workers p.load.streams f P.state q.new
+    own_event P P' = (f : machine.Event) × IsOwn w f × (q : Goes (setting_of p.load) p.load.workers p.load.streams f P P') × NamesNewest (setting_of p.load) p.load.workers p.load.streams f P.state q.new ×
+        BusyHasHolder (setting_of p.load) p.load.workers p.load.streams f P.state
 
-    pub worked : (e : machine.Event) → IsOwn w e → has_work_in p h w ≡ true → (q : Happened e p p' K h) → NamesNewest (setting_of p.load) p.load.workers p.load.streams e (core_of p h) q.joined → WorkerTurned w p p' K h es told (Ok true)
-    worked e own works q newest = (
+    pub worked : (e : machine.Event) → IsOwn w e → has_work_in p h w ≡ true → (q : Happened e p p' K h) → NamesNewest (setting_of p.load) p.load.workers p.load.streams e (core_of p h) q.joined →
+        BusyHasHolder (setting_of p.load) p.load.workers p.load.streams e (core_of p h) → WorkerTurned w p p' K h es told (Ok true)
+    worked e own works q newest rightly = (
       sym works,
       record {
         hidden = q.hidden;
@@ -76,7 +106,7 @@ module _ (p p' : Plain) (K : List (Act Txn)) (h : Hidden) (es : List machine.Eve
         moved =
             let P = progress p h es K told in
             let P' = progress p' q.hidden (es ++ e ∷ []) (K ++ q.joined) told in
-            if-so (has_work_in p h w) (own_event P P') (Stays P P') works (e, own, record { new = q.joined; leads = q.leads; events = refl; joined = refl; told = refl }, newest);
+            if-so (has_work_in p h w) (own_event P P') (Stays P P') works (e, own, record { new = q.joined; leads = q.leads; events = refl; joined = refl; told = refl }, newest, rightly);
       },
     )
 
@@ -124,8 +154,8 @@ module _ (p p' : Plain) (K : List (Act Txn)) (h : Hidden) (es : List machine.Eve
 
     pub lock-turn : (r : Result Bool NoMemory) (o : Outcome) → Tells o r → Steps p p' K h (event.Lock w) o → hand_at Locking → w < p.load.workers → WorkerTurned w p p' K h es told r
     lock-turn r outcome.Went e t at lt = absurd t
-    lock-turn r (outcome.Granted value) e t at lt = did r true e (worked (machine.Lock w) refl (held Locking (λ q. cc) at lt) t.0 tt)
-    lock-turn r (outcome.Busy holder) e t at lt = did r true e (worked (machine.Busy w) refl (held Locking (λ q. cc) at lt) t.0 tt)
+    lock-turn r (outcome.Granted value) e t at lt = did r true e (worked (machine.Lock w) refl (held Locking (λ q. cc) at lt) t.0 tt tt)
+    lock-turn r (outcome.Busy holder) e t at lt = did r true e (worked (machine.Busy w) refl (held Locking (λ q. cc) at lt) t.0 tt (barred p h w holder t.1))
     lock-turn r (outcome.Placed start) e t at lt = absurd t
     lock-turn r (outcome.Gathered upto) e t at lt = absurd t
     lock-turn r (outcome.Acked number lv) e t at lt = absurd t
@@ -134,7 +164,7 @@ module _ (p p' : Plain) (K : List (Act Txn)) (h : Hidden) (es : List machine.Eve
     lock-turn r outcome.NoMemory e t at lt = short r e t.0
 
     pub quit-turn : (r : Result Bool NoMemory) (o : Outcome) → Tells o r → Steps p p' K h (event.Quit w) o → hand_at Quitting → w < p.load.workers → WorkerTurned w p p' K h es told r
-    quit-turn r outcome.Went e t at lt = did r true e (worked (machine.Quit w false) (refl, refl) (held Quitting (λ q. cc) at lt) t tt)
+    quit-turn r outcome.Went e t at lt = did r true e (worked (machine.Quit w false) (refl, refl) (held Quitting (λ q. cc) at lt) t tt tt)
     quit-turn r (outcome.Granted value) e t at lt = absurd t
     quit-turn r (outcome.Busy holder) e t at lt = absurd t
     quit-turn r (outcome.Placed start) e t at lt = absurd t
@@ -148,7 +178,7 @@ module _ (p p' : Plain) (K : List (Act Txn)) (h : Hidden) (es : List machine.Eve
     commit-turn r outcome.Went e t at lt = absurd t
     commit-turn r (outcome.Granted value) e t at lt = absurd t
     commit-turn r (outcome.Busy holder) e t at lt = absurd t
-    commit-turn r (outcome.Placed start) e t at lt = let (x, start, named) = t in did r true e (worked (machine.Commit w) refl (held Ready (λ q. cc) at lt) x (newest x named.0 named.1 named.2))
+    commit-turn r (outcome.Placed start) e t at lt = let (x, start, named) = t in did r true e (worked (machine.Commit w) refl (held Ready (λ q. cc) at lt) x (newest x named.0 named.1 named.2) tt)
     commit-turn r (outcome.Gathered upto) e t at lt = absurd t
     commit-turn r (outcome.Acked number lv) e t at lt = absurd t
     commit-turn r outcome.NothingCovered e t at lt = absurd t
@@ -156,7 +186,7 @@ module _ (p p' : Plain) (K : List (Act Txn)) (h : Hidden) (es : List machine.Eve
     commit-turn r outcome.NoMemory e t at lt = short r e t.0
 
     pub post-turn : (r : Result Bool NoMemory) (o : Outcome) → Tells o r → Steps p p' K h (event.Post w) o → hand_at Placed → w < p.load.workers → WorkerTurned w p p' K h es told r
-    post-turn r outcome.Went e t at lt = did r true e (worked (machine.Post w) refl (held Placed (λ q. cc) at lt) t tt)
+    post-turn r outcome.Went e t at lt = did r true e (worked (machine.Post w) refl (held Placed (λ q. cc) at lt) t tt tt)
     post-turn r (outcome.Granted value) e t at lt = absurd t
     post-turn r (outcome.Busy holder) e t at lt = absurd t
     post-turn r (outcome.Placed start) e t at lt = absurd t
@@ -167,7 +197,7 @@ module _ (p p' : Plain) (K : List (Act Txn)) (h : Hidden) (es : List machine.Eve
     post-turn r outcome.NoMemory e t at lt = absurd t
 
     pub free-turn : (r : Result Bool NoMemory) (o : Outcome) → Tells o r → Steps p p' K h (event.Free w) o → hand_at Freeing → w < p.load.workers → WorkerTurned w p p' K h es told r
-    free-turn r outcome.Went e t at lt = did r true e (elim t [ inl q ↦ worked (machine.Free w) refl (held Freeing (λ q. cc) at lt) q tt | inr q ↦ worked (machine.FirstFree w) refl (held Freeing (λ q. cc) at lt) q tt ])
+    free-turn r outcome.Went e t at lt = did r true e (elim t [ inl q ↦ worked (machine.Free w) refl (held Freeing (λ q. cc) at lt) q tt tt | inr q ↦ worked (machine.FirstFree w) refl (held Freeing (λ q. cc) at lt) q tt tt ])
     free-turn r (outcome.Granted value) e t at lt = absurd t
     free-turn r (outcome.Busy holder) e t at lt = absurd t
     free-turn r (outcome.Placed start) e t at lt = absurd t
@@ -178,7 +208,7 @@ module _ (p p' : Plain) (K : List (Act Txn)) (h : Hidden) (es : List machine.Eve
     free-turn r outcome.NoMemory e t at lt = absurd t
 
     pub done-turn : (r : Result Bool NoMemory) (o : Outcome) → Tells o r → Steps p p' K h (event.Done w) o → hand_at Ended → w < p.load.workers → WorkerTurned w p p' K h es told r
-    done-turn r outcome.Went e t at lt = did r true e (elim t [ inl q ↦ worked (machine.Done w) refl (held Ended (λ q. cc) at lt) q tt | inr q ↦ worked (machine.DoneReading w) refl (held Ended (λ q. cc) at lt) q tt ])
+    done-turn r outcome.Went e t at lt = did r true e (elim t [ inl q ↦ worked (machine.Done w) refl (held Ended (λ q. cc) at lt) q tt tt | inr q ↦ worked (machine.DoneReading w) refl (held Ended (λ q. cc) at lt) q tt tt ])
     done-turn r (outcome.Granted value) e t at lt = absurd t
     done-turn r (outcome.Busy holder) e t at lt = absurd t
     done-turn r (outcome.Placed start) e t at lt = absurd t
@@ -197,8 +227,8 @@ module _ (p p' : Plain) (K : List (Act Txn)) (h : Hidden) (es : List machine.Eve
     -- the next call begins with a lock
     pub begin-locked : (o : Outcome) → Tells o (Ok true) → Steps p p' K h (event.Lock w) o → hand_of (core_of p h) w ≡ None → raised p h ≡ false → w < p.load.workers → WorkerTurned w p p' K h es told (Ok true)
     begin-locked outcome.Went e t none going lt = absurd t
-    begin-locked (outcome.Granted value) e t none going lt = let (key, mode, wants, is) = t.1 in worked (machine.Lock w) refl (waiting wants.hand none wants.is going lt) t.0 tt
-    begin-locked (outcome.Busy holder) e t none going lt = let (key, mode, wants, is) = t.1 in worked (machine.Busy w) refl (waiting wants.hand none wants.is going lt) t.0 tt
+    begin-locked (outcome.Granted value) e t none going lt = let (key, mode, wants, is) = t.1 in worked (machine.Lock w) refl (waiting wants.hand none wants.is going lt) t.0 tt tt
+    begin-locked (outcome.Busy holder) e t none going lt = let (key, mode, wants, is) = t.1 in worked (machine.Busy w) refl (waiting wants.hand none wants.is going lt) t.0 tt (barred p h w holder t.1)
     begin-locked (outcome.Placed start) e t none going lt = absurd t
     begin-locked (outcome.Gathered upto) e t none going lt = absurd t
     begin-locked (outcome.Acked number lv) e t none going lt = absurd t
@@ -235,7 +265,7 @@ module _ (p p' : Plain) (K : List (Act Txn)) (h : Hidden) (es : List machine.Eve
         | inl q ↦ (let c = unmoved-happened (machine.Done w) p m p' K h u q in absurd (none-some (hand_of (core_of p h) w) c.leads.0.hand none c.leads.0.is))
         | inr q ↦ (let c = unmoved-happened (machine.DoneReading w) p m p' K h u q in
             let (mid, t, reads, ends, new) = c.leads in
-            worked (machine.DoneReading w) refl (waiting reads.hand none reads.is going lt) c tt)
+            worked (machine.DoneReading w) refl (waiting reads.hand none reads.is going lt) c tt tt)
       ])
       by-end u locking r (outcome.Granted value) e t = absurd t
       by-end u locking r (outcome.Busy holder) e t = absurd t

@@ -16,7 +16,7 @@ use Rattle.tau_core.specs.Steps.{Steps}
 use Rattle.tau_run.specs.Turns.{is_raised, has_work}
 use Rattle.tau_step.specs.Progressed.{Comes, stays, works}
 
--- what an outcome means for a turn: whether anything was done, or want of memory
+-- what an outcome means for a turn: whether anything was done, or out of memory
 abbrev pub Tells : Outcome → Result Bool NoMemory → Type 0
 Tells outcome.NoMemory (Ok did) = ⊥
 Tells outcome.NoMemory (Err e) = Unit {0}

@@ -54,7 +54,7 @@ module _ {D : Type 0} {G : Ghosts D} (j : ℕ) (base : List ℕ) where
     pub going : has_failed w ≡ false → ((core_of p h).streams j).stop ≡ None
     pub stopped : has_failed w ≡ true → (at : ℕ) × (((core_of p h).streams j).stop ≡ Some at)
 
-  -- as it is kept from turn to turn, or where memory was wanting
+  -- as it is kept from turn to turn, or if it was out of memory
   abbrev pub KeptBy : Bool → Writer D G → Plain → Hidden → Type 0
   KeptBy true w p h = IsKept j base w p h
   KeptBy false w p h = IsLeaving w p h

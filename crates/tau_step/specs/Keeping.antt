@@ -42,7 +42,7 @@ module _ {D : Type 0} {G : Ghosts D} (j : ℕ) (catalogue : List ℕ) where
         (bytes : List ℕ) × HasFront p.load.streams j catalogue p.load (core_of p h) bytes x × (slice_index p.plv j ≤ length catalogue + length bytes)
     pub reached : G.tells → (y content : List ℕ) × G.may_leave (disk_of w) y × HasContent p.load.streams j content y × (length content ≡ slice_index p.plv j)
 
-  -- behind a Gather, where the stream is gathered up to there: what was gathered before was handed out, and is durable
+  -- after a Gather, if the stream is gathered up to there: what was gathered before was handed out, and is durable
   pub record IsFilled (upto : ℕ) (w : Writer D G) (p : Plain) (h : Hidden) : Type 0 where
     pub works : has_failed w ≡ false
     pub going : stop_in (slice_get p.streams j) ≡ None
@@ -96,7 +96,7 @@ module _ {D : Type 0} {G : Ghosts D} (j : ℕ) (catalogue : List ℕ) where
       pub stops : has_failed w ≡ false → has_failed w' ≡ true → IsStopped G.tells G.number G.fails G.short (disk_of w) (disk_of w')
       pub still : has_failed w ≡ true → w' ≡ w
 
-    -- want of memory behind the gathering: the disk is as it was
+    -- out of memory after the gathering: the disk is as it was
     pub record ManagerStops : Type 0 where
       pub hidden : Hidden
       pub order : List (Act Txn)
@@ -128,7 +128,7 @@ module _ {D : Type 0} {G : Ghosts D} (j : ℕ) (catalogue : List ℕ) where
       pub goes : has_failed w' ≡ false → G.tells → GoesOn G.number G.fails (disk_of w) (disk_of w')
       pub stops : has_failed w' ≡ true → IsStopped G.tells G.number G.fails G.short (disk_of w) (disk_of w')
 
-    -- the turn behind its Gather
+    -- the turn after its Gather
     pub record GatheredTurns (a : Managing) : Type 0 where
       pub hidden : Hidden
       pub order : List (Act Txn)
@@ -146,7 +146,7 @@ module _ {D : Type 0} {G : Ghosts D} (j : ℕ) (catalogue : List ℕ) where
       pub goes : has_failed w' ≡ false → G.tells → GoesOn G.number G.fails (disk_of w) (disk_of w')
       pub stops : has_failed w' ≡ true → IsStopped G.tells G.number G.fails G.short (disk_of w) (disk_of w')
 
-    -- want of memory: nothing happened, and the disk is as it was
+    -- out of memory: nothing happened, and the disk is as it was
     pub record GatheredStops : Type 0 where
       pub hidden : Hidden
       pub same : core_of p' hidden ≡ core_of p h
@@ -164,7 +164,7 @@ module _ {D : Type 0} {G : Ghosts D} (j : ℕ) (catalogue : List ℕ) where
     ManagerTurned (Err e) = ManagerStops
 
 module _ {D : Type 0} {G : Ghosts D} (j : ℕ) (catalogue : List ℕ) (upto : ℕ) (w' : Writer D G) (p p' : Plain) (K : List (Act Txn)) (h : Hidden) where
-  -- nothing happened but that bytes were handed out, to the writer, unless memory was wanting
+  -- nothing happened but that bytes were handed out, to the writer, unless it was out of memory
   pub record Handed : Type 0 where
     pub hidden : Hidden
     pub same : core_of p' hidden ≡ core_of p h

@@ -38,7 +38,7 @@ tells w l P P' = Tells (setting_of l) l.workers l.streams w P P'
 abbrev pub clears : ℕ → Bool → Load → Progress → Progress → Type 0
 clears w whole l P P' = Cleared (setting_of l) l.workers l.streams w whole P P'
 
--- behind what happened the pass over the worker goes on
+-- after what happened the pass over the worker goes on
 abbrev pub clears_on : ℕ → Load → Progress → Progress → Type 0
 clears_on w l P P' = (whole : Bool) (Q : Progress) → clears w whole l P' Q → clears w whole l P Q
 

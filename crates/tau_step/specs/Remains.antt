@@ -16,7 +16,7 @@ use Rattle.tau_machine.specs.Hands as hands
 use Rattle.tau_machine.specs.Hands.{Phase, Quitting, Placed, Freeing, Hand, mode_of}
 use Rattle.tau_machine.specs.Worker.{Worker, held_writing}
 
--- the steps behind the next row that is wanted, and it, of a call that has seen these values
+-- the steps after the next row that is wanted, and it, of a call that has seen these values
 
 abbrev pub looked_left : Option Value → Running → ℕ → ℕ → (Running → ℕ) → ℕ
 looked_left None r into count rest = suc count

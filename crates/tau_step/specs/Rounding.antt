@@ -67,7 +67,7 @@ abbrev pub rest_of_round : Bool → Load → Progress → Progress → Type 0
 rest_of_round true l P P' = (Q : Progress) × all_managed true l P Q × clerked true l Q P'
 rest_of_round false l P P' = all_managed false l P P' ⊎ ((Q : Progress) × all_managed true l P Q × clerked false l Q P')
 
--- rounds; where memory was wanting before the first one began, and no worker had anything to do, they are over
+-- rounds; if it was out of memory before the first one began, and no worker had anything to do, they are over
 abbrev pub in_rounds : Bool → Load → Progress → Progress → Type 0
 in_rounds true l P P' = Rounds (setting_of l) l.workers l.streams true P P'
 in_rounds false l P P' = Rounds (setting_of l) l.workers l.streams false P P' ⊎ Rounds (setting_of l) l.workers l.streams true P P'
@@ -92,12 +92,12 @@ abbrev pub drained : Bool → Load → Progress → Progress → Type 0
 drained true l P P' = (Q : Progress) × all_idled true l P Q × clerked true l Q P'
 drained false l P P' = all_idled false l P P' ⊎ ((Q : Progress) × all_idled true l P Q × clerked false l Q P')
 
--- behind the rounds: the calls left over, the managers and the clerk
+-- after the rounds: the calls left over, the managers and the clerk
 abbrev pub ran_last : Bool → Load → Progress → Progress → Type 0
 ran_last true l P P' = (Q : Progress) × ran_left_over true l P Q × drained true l Q P'
 ran_last false l P P' = ran_left_over false l P P' ⊎ ((Q : Progress) × ran_left_over true l P Q × drained false l Q P')
 
--- behind the turn words: rounds, and the rest. Of a part the rounds may be over, and no more was done
+-- after the turn words: rounds, and the rest. Of a part the rounds may be over, and no more was done
 abbrev pub ran_behind : Bool → Load → Progress → Progress → Type 0
 ran_behind true l P P' = (Q : Progress) × in_rounds true l P Q × ran_last true l Q P'
 ran_behind false l P P' = in_rounds false l P P' ⊎ ((Q : Progress) × in_rounds true l P Q × ran_last false l Q P')
@@ -107,7 +107,7 @@ abbrev pub ran_all : List Turn → Bool → Load → Progress → Progress → T
 ran_all ts true l P P' = (Q : Progress) × turned_all ts true l P Q × ran_behind true l Q P'
 ran_all ts false l P P' = turned_all ts false l P P' ⊎ ((Q : Progress) × turned_all ts true l P Q × ran_behind false l Q P')
 
--- behind what happened the rounds go on; and so of a worker alone, of calls left over, of a manager until it is idle
+-- after what happened the rounds go on; and so of a worker alone, of calls left over, of a manager until it is idle
 
 abbrev pub rounds_on : Load → Progress → Progress → Type 0
 rounds_on l P P' = (whole : Bool) (Q : Progress) → Rounds (setting_of l) l.workers l.streams whole P' Q → Rounds (setting_of l) l.workers l.streams whole P Q
@@ -121,7 +121,7 @@ left_over_on l P P' = (whole : Bool) (Q : Progress) → RanLeftOver (setting_of 
 abbrev pub idles_on : ℕ → Load → Progress → Progress → Type 0
 idles_on j l P P' = (whole : Bool) (Q : Progress) → Idled (setting_of l) l.workers l.streams j whole P' Q → Idled (setting_of l) l.workers l.streams j whole P Q
 
--- by the answers of those that do one step of a loop
+-- by the results of those that do one step of a loop
 
 -- the turn of a worker
 abbrev pub worked_by : ℕ → Result Bool NoMemory → Bool → Load → Progress → Progress → Type 0
@@ -145,7 +145,7 @@ resumed_by (Ok true) whole l P P' = left_over_on l P P'
 resumed_by (Ok false) whole l P P' = ran_left_over true l P P'
 resumed_by (Err e) whole l P P' = ran_left_over false l P P'
 
--- the turn of a manager, which is idle behind it where it flushed nothing
+-- the turn of a manager, which is idle after it if it flushed nothing
 abbrev pub managed_by : ℕ → Result Managing NoMemory → Bool → Load → Progress → Progress → Type 0
 managed_by j (Ok did.Flushed) whole l P P' = managed j true l P P' × idles_on j l P P'
 managed_by j (Ok other) whole l P P' = managed j true l P P' × idled j true l P P'

@@ -127,7 +127,7 @@ module _ {D : Type 0} {G : Ghosts D} (turns : List Turn) (bases : ℕ → List �
   Ran (Ok end) = Ended end
   Ran (Err e) = CutShort
 
--- The run of a workload by m workers on streams that were just created for it. Memory may have been wanting before it began: then nothing was touched.
+-- The run of a workload by m workers on streams that were just created for it. It may have been out of memory before it began: then nothing was touched.
 module _ {D : Type 0} {G : Ghosts D} (m : ℕ) (mode : LogMode) (load : Workload) (ws ws' : List (Writer D G)) (hears : Type 0) (held held' : List ℕ) (sink_rose : Type 0) where
   pub record RanNew (result : Result RunEnd NoMemory) : Type 0 where
     pub first : Plain

@@ -11,7 +11,7 @@ use Rattle.tau_core.specs.declared.state.Load.{Load}
 use Rattle.tau_run.specs.Turns.{Progress}
 use Rattle.tau_step.specs.Progressed.{Comes, tells, clears}
 
--- behind what it held at first the sink holds a first part of the lines
+-- after what it held at first the sink holds a first part of the lines
 abbrev pub HeardFront : List ℕ → List (ℕ × List ℕ) → List ℕ → Type 0
 HeardFront base acks held = (k : ℕ) × (held ≡ base ++ take k (ack_lines acks))
 
@@ -20,7 +20,7 @@ abbrev pub Heard : List ℕ → List (ℕ × List ℕ) → Bool → List ℕ →
 Heard base acks false held = held ≡ base ++ ack_lines acks
 Heard base acks true held = HeardFront base acks held
 
--- A pass of the clerk, whole or cut off for want of memory. Then one call more may be acknowledged than was told, and the
+-- A pass of the clerk, whole or cut off when out of memory. Then one call more may be acknowledged than was told, and the
 -- sink was given so many lines.
 module _ (R : Bool → Load → Progress → Progress → Type 0) (p p' : Plain) (acks acks' : List (ℕ × List ℕ)) (failed failed' : Bool) (heeds : Type 0) (held held' : List ℕ)
     (K : List (Act Txn)) (h : Hidden) (es : List Event) where

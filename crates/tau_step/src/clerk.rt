@@ -68,7 +68,7 @@ impl Clerk {
         }
     }
 
-    /// Acknowledges the first pending call of a worker that the persisted positions cover, and answers whether there was one.
+    /// Acknowledges the first pending call of a worker that the persisted positions cover, and returns whether there was one.
     fn next<K: Sink>(&mut self, core: &mut Core, sink: &mut K, worker: u8) -> Result<bool, NoMemory>
         requires stood { Stood core.old }
         requires there { worker < core.old.load.workers }

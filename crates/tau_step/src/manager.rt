@@ -44,7 +44,7 @@ pub(crate) fn manager_turn<D: Disk>(
     if writer.failed() {
         return Ok(Managing::Idle);
     }
-    // Behind each turn what is gathered is durable.
+    // After each turn what is gathered is durable.
     if core.is_gathered(stream) {
         return Ok(Managing::Idle);
     }
@@ -152,7 +152,7 @@ pub(crate) fn anchor_turn(core: &mut Core, stream: u8) -> Result<(), NoMemory>
     Ok(())
 }
 
-/// Whether memory was wanting.
+/// Whether it was out of memory.
 fn is_short(outcome: &Outcome) -> bool
     ensures { IsTrue result ↔ (outcome.now ≡ Outcome.NoMemory) }
 {

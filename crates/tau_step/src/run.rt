@@ -451,7 +451,7 @@ impl Run {
         }
     }
 
-    /// Behind the turn words.
+    /// What comes after the turn words.
     fn behind_words<D: Disk, K: Sink>(
         &mut self,
         writers: &mut Vec<Writer<D>>,
@@ -466,7 +466,7 @@ impl Run {
         }
     }
 
-    /// Behind the rounds.
+    /// What comes after the rounds.
     fn behind_rounds<D: Disk, K: Sink>(
         &mut self,
         writers: &mut Vec<Writer<D>>,

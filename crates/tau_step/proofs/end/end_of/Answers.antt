@@ -1,4 +1,4 @@
-use Rattle.std.proofs.Common.{ℕ, ◌∙◌, List, length, sym, ap, subst}
+use Rattle.std.proofs.Common.{ℕ, ◌∙◌, List, sym, ap, subst}
 use Rattle.std.specs.List.{All}
 use Rattle.tau_model.specs.declared.committed.Committed.{Committed}
 use Rattle.tau_model.specs.Committed.{IsWithin, reported_numbers}
