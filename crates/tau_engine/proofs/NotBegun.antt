@@ -1,5 +1,5 @@
 -- A run that has made nothing: its streams have nothing, or the catalogue alone.
-use Rattle.std.proofs.Common.{ℕ, zero, suc, ◌+◌, ◌<◌, ◌≤◌, ◌≡◌, ◌⊎◌, inl, inr, Bool, true, false, List, [], ◌∷◌, map, length, replicate, refl, sym, ap, subst, ◌∙◌, arith}
+use Rattle.std.proofs.Common.{ℕ, zero, suc, ◌+◌, ◌<◌, ◌≤◌, ◌≡◌, ◌⊎◌, inl, inr, Bool, true, false, List, [], ◌∷◌, map, length, replicate, refl, sym, ap, subst, ◌∙◌, arith, lt-ltb}
 use Rattle.std.specs.Prelude.{Some, None, nat_lt, slice_get, slice_index}
 use Rattle.std.proofs.Math.Nat.{mod-lt}
 use Rattle.std.proofs.lemmas.List.{append-nil, length-replicate}
@@ -24,7 +24,7 @@ use Rattle.tau_core.specs.View.{setting_of, call_of, worker_of, from_on}
 use Rattle.tau_core.proofs.Turns.{call-there, once-there, whose-there}
 use Rattle.tau_run.specs.Run.{Run, told_of, below, IsHistory}
 use Rattle.tau_run.specs.Facts.{catalogue_of, IsEnded}
-use Rattle.tau_run.specs.Course.{IsLoadOf, IsRunOf}
+use Rattle.tau_run.specs.Course.{IsLoadOf, IsStart, IsRunOf}
 use Rattle.tau_run.specs.Left.{IsLeft}
 use Rattle.tau_engine.proofs.Chosen.{chosen}
 use Rattle.tau_run.specs.Told.{Ending, chosen_by, IsCoreRun, IsCoreRunAt, RunTells, RunFacts, turns_of}
@@ -67,6 +67,11 @@ got_same zero x y j e = absurd (cc)
 got_same (suc n) x y zero e = cc
 got_same (suc n) x y (suc j) e = got_same n x y j e
 
+no_more : (n j : ℕ) → slice_index (replicate n 0) j ≤ 0
+no_more zero j = omega arith
+no_more (suc n) zero = omega arith
+no_more (suc n) (suc j) = no_more n j
+
 lengths_same : (n : ℕ) (x : List ℕ) → map length (replicate n x) ≡ replicate n (length x)
 lengths_same zero x = refl
 lengths_same (suc n) x = ap (λ (l : List ℕ). length x ∷ l) (lengths_same n x)
@@ -87,7 +92,7 @@ module _ (n m : ℕ) (mode : LogMode) (load : Workload) (some : 1 ≤ n) (room :
   }
 
   load_is : IsLoadOf n m mode load l
-  load_is = record { procs = refl; calls = refl; mode_is = refl; workers = refl; streams = refl; rows = refl; ends = refl; anchors = refl }
+  load_is = record { procs = refl; calls = refl; mode_is = refl; workers = refl; streams = refl; rows = refl; floor = refl; ends = refl; anchors = refl }
 
   -- a worker that has begun nothing
   abbrev resting_on : List Numbered → Worker
@@ -143,6 +148,13 @@ module _ (n m : ℕ) (mode : LogMode) (load : Workload) (some : 1 ≤ n) (room :
     whose = by_worker (λ w wk. (k : ℕ) → 1 ≤ in_worker k wk → worker_of m k ≡ w) (λ w lt k e. whose-there load.calls m w k workers lt (omega (arith, e))) (λ w k e. absurd (omega (arith, e)));
   }
 
+  starts : IsStart l first
+  starts = record {
+    floor_low = λ i lt j. no_more n j;
+    floor_high = λ i lt j. omega arith;
+    waiting = λ w lt. (let low : nat_lt w m ≡ true = lt-ltb w m lt in ap (λ (b : Bool). waits_at b w) low);
+  }
+
   led : MachineRun (setting_of l) first [] [] first
   led = record { opens = opens; leads = (refl, refl) }
 
@@ -188,6 +200,7 @@ module _ (n m : ℕ) (mode : LogMode) (load : Workload) (some : 1 ≤ n) (room :
     stands_on = l;
     load_is = load_is;
     opening = first;
+    start = starts;
     progress = begun first;
     led = led;
     chosen = chosen load.turns false n m load l first (begun first) (IsPartOfRun.in_turns (none_of (setting_of l) m n (turns_of load) (begun first)));

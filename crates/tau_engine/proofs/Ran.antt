@@ -26,7 +26,7 @@ use Rattle.tau_core.specs.View.{setting_of, core_of, stop_in}
 use Rattle.tau_core.specs.Opens.{Opened, nothing}
 use Rattle.tau_run.specs.Run.{Run, below, AllAcked, IsReportOf}
 use Rattle.tau_run.specs.Facts.{catalogue_of, IsEnded}
-use Rattle.tau_run.specs.Course.{IsLoadOf, AreAcks, IsRunOf, IsSoundLoad, IsCourse}
+use Rattle.tau_run.specs.Course.{IsLoadOf, IsStart, AreAcks, IsRunOf, IsSoundLoad, IsCourse}
 use Rattle.tau_run.specs.Laws.{KeepCalls, AllWait}
 use Rattle.tau_run.specs.Left.{IsLeft, Leaves, IsOver}
 use Rattle.tau_run.specs.Told.{Ending, WroteFront, NamesFailed, turns_of, IsByTurns, chosen_by, IsCoreRun, IsCoreRunAt, RunTells, RunFacts}
@@ -35,6 +35,7 @@ use Rattle.tau_run.specs.Turns.{Progress, Cleared, OneByOne, IsWholeRun, IsPartO
 use Rattle.tau_run.proofs.Acks.{turns_law}
 use Rattle.tau_run.proofs.Imaged.{imaged, acknowledged, ended}
 use Rattle.tau_run.proofs.Results.{history_law, run_law, lost_law}
+use Rattle.tau_run.proofs.Start.{started}
 use Rattle.tau_step.specs.Progressed.{progress}
 use Rattle.tau_step.specs.RunTold.{Came, EachOf, Left, IsLowestStopped, fates_by}
 use Rattle.tau_step.specs.Telling.{Heard}
@@ -136,6 +137,7 @@ module _ {D : Type 0} {G : Ghosts D} (only_now : OnlyNow G) (n m : ℕ) (mode : 
   came_to = record {
     stands_on = l;
     opening = core_of first nothing;
+    start = subst (λ (x : Load). IsStart x (core_of first nothing)) (sym came.load) (started first.load first opened);
     state = s;
     events = came.events;
     joined = K;

@@ -84,6 +84,7 @@ module _ {D : Type 0} {G : Ghosts D} (only_now : OnlyNow G) (n m : ℕ) (mode : 
     stands_on = l;
     load_is = t.course.load_is;
     opening = t.opening;
+    start = t.start;
     progress = came_far t;
     led = t.led;
     chosen = h;

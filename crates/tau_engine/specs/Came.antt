@@ -13,7 +13,7 @@ use Rattle.tau_core.specs.declared.state.Load.{Load}
 use Rattle.tau_core.specs.View.{setting_of}
 use Rattle.tau_run.specs.Run.{Run}
 use Rattle.tau_run.specs.Facts.{catalogue_of}
-use Rattle.tau_run.specs.Course.{IsRunOf, IsCourse}
+use Rattle.tau_run.specs.Course.{IsStart, IsRunOf, IsCourse}
 use Rattle.tau_run.specs.Turns.{Progress}
 use Rattle.tau_step.specs.RunTold.{EachOf, Left}
 
@@ -21,6 +21,7 @@ use Rattle.tau_step.specs.RunTold.{EachOf, Left}
 pub record CameTo {D : Type 0} {G : Ghosts D} (by : Bool → Load → Core → Progress → Type 0) (n m : ℕ) (mode : LogMode) (load : Workload) (ws ws' : List (Writer D G)) (acks : List (ℕ × List ℕ)) : Type 0 where
   pub stands_on : Load
   pub opening : Core
+  pub start : IsStart stands_on opening
   pub state : Core
   pub events : List Event
   pub joined : List (Act Txn)
