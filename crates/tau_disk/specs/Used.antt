@@ -1,6 +1,7 @@
 -- What is said of the disks of a call, as they were and as they are.
 use Rattle.std.specs.Prelude.{ℕ, ◌+◌, ◌<◌, ◌≤◌, ◌⊎◌, Bool, true, false, ◌≡◌, List, [], length, slice_get, Some}
 use Rattle.tau_disk.specs.Disk.{Rose, Passes}
+use Rattle.tau_disk.specs.Plan.{MadeAll}
 
 -- the relation of a stream holds of the disk of each stream in the range, as it was and as it is
 abbrev pub EachIn : {D : Type 0} → (ℕ → Type 0) → (ℕ → D → D → Type 0) → List D → List D → Type 0
@@ -41,6 +42,10 @@ pub record OnlyRead {D : Type 0} (tells : Type 0) (seen : D → List ℕ) (may_l
 -- the disk has had one call
 abbrev pub OneCall : {D : Type 0} → Type 0 → (D → ℕ) → (D → Bool) → D → D → Type 0
 OneCall tells number short d e = tells → short e ≡ false → number e ≡ number d + 1
+
+-- the disk has had so many calls, none of which was to fail or was refused a growth
+abbrev pub AllCalls : {D : Type 0} → Type 0 → (D → ℕ) → (D → ℕ → Bool) → (D → Bool) → ℕ → D → D → Type 0
+AllCalls tells number fails short count d e = tells → MadeAll count (number d) (number e) (fails d) (short d) (short e)
 
 -- no call of the disk was one that is to fail
 abbrev pub IsClean : {D : Type 0} → Type 0 → (D → ℕ) → (D → ℕ → Bool) → D → D → Type 0

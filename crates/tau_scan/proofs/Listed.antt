@@ -8,7 +8,6 @@ use Rattle.tau_model.proofs.Orders.{member-front, member-back}
 use Rattle.tau_record.specs.declared.entry.Entry.{Entry}
 use Rattle.tau_record.specs.declared.entry.Entry.TheVariants.{Written, Command, Anchor, Catalogue}
 use Rattle.tau_record.specs.declared.entry.Placed.{Placed}
-use Rattle.tau_scan.specs.declared.log.Log.{Log}
 use Rattle.tau_scan.specs.Taken.{Kept, kept_as, kept_in, kept_from, is_taken_by, is_taken_one, is_taken_in}
 use Rattle.tau_scan.specs.Laws.{TakenAreListed}
 

@@ -1,11 +1,12 @@
 -- Which calls a reading makes of the disks.
-use Rattle.std.proofs.Common.{ℕ, zero, suc, ◌≡◌, ◌⊎◌, inl, inr, ◌+◌, ◌<◌, ◌≤◌, ◌≢◌, Bool, true, false, List, length, refl, sym, ap, subst, ◌∙◌, arith}
+use Rattle.std.proofs.Common.{ℕ, ◌≡◌, ◌⊎◌, inl, inr, ◌+◌, ◌<◌, ◌≤◌, Bool, true, false, List, length, refl, sym, subst, ◌∙◌, arith}
 use Rattle.std.specs.Prelude.{Some, slice_get}
 use Rattle.std.proofs.Math.ListN.{set}
 use Rattle.std.proofs.lemmas.Bool.{cases_eq}
 use Rattle.std.proofs.lemmas.Bool.Decides.{leb_tells}
-use Rattle.std.proofs.lemmas.Option.{slice_get_within}
-use Rattle.tau_disk.specs.Used.{Each, EachUsed, OfDisk, GoesOn, IsClean, IsStopped, IsFirstStopped}
+use Rattle.tau_disk.specs.Used.{GoesOn, AllCalls, IsStopped}
+use Rattle.tau_disk.specs.Disk.{WasToFail, WasRefused}
+use Rattle.tau_scan.specs.Outside.{calls_to_read}
 use Rattle.tau_scan.proofs.Disks.{get_set_same, get_set_other, same_some}
 
 up_to : (n k : ℕ) → (k ≤ n) ⊎ (n < k)
@@ -35,10 +36,10 @@ module _ {D : Type 0} (number : D → ℕ) (fails : D → ℕ → Bool) where
 
   module _ (tells : Type 0) (short : D → Bool) where
     -- one call that failed
-    pub stops_once : (d e : D) → (tells → ((number e ≡ number d + 1) × (fails d (number d + 1) ≡ true) × (short e ≡ short d)) ⊎ (short e ≡ true)) → IsStopped tells number fails short d e
+    pub stops_once : (d e : D) → (tells → WasToFail (number d) (number e) (fails d) (short d) (short e) ⊎ WasRefused (number d) (number e) (fails d) (short e)) → IsStopped tells number fails short d e
     stops_once d e h told = elim (h told) [
       | inl made ↦ (let next = made.0 in inr (omega (arith, next), subst (λ (n : ℕ). fails d n ≡ true) (sym next) made.1, λ k low high. absurd (omega (arith, low, high, next))))
-      | inr memory ↦ inl memory
+      | inr memory ↦ inl memory.1
     ]
 
     pub goes_stopped : (d e f : D) → GoesOn number fails d e → tells → IsStopped tells number fails short e f → IsStopped tells number fails short d f
@@ -57,19 +58,27 @@ module _ {D : Type 0} (number : D → ℕ) (fails : D → ℕ → Bool) where
     -- no call of the disks below an index was one that is to fail; the others are as they were
     pub record IsGoing (old new : List D) (n : ℕ) : Type 0 where
       pub went : (j : ℕ) (d : D) → j < n → slice_get old j ≡ Some d → (e : D) × (slice_get new j ≡ Some e) × (tells → GoesOn number fails d e)
+      pub calls : (j : ℕ) (d : D) → j < n → slice_get old j ≡ Some d → (e : D) × (slice_get new j ≡ Some e) × AllCalls tells number fails short calls_to_read d e
       pub rest : (k : ℕ) → n ≤ k → slice_get new k ≡ slice_get old k
 
     pub going_first : (old : List D) → IsGoing old old 0
-    going_first old = record { went = λ j d lt was. absurd (omega (arith, lt)); rest = λ k le. refl }
+    going_first old = record { went = λ j d lt was. absurd (omega (arith, lt)); calls = λ j d lt was. absurd (omega (arith, lt)); rest = λ k le. refl }
 
-    pub going_on : (old new : List D) (n : ℕ) (d e : D) → IsGoing old new n → n < length new → slice_get new n ≡ Some d → (tells → GoesOn number fails d e) → IsGoing old (set new n e) (n + 1)
-    going_on old new n d e g low here goes = record {
-      went = λ j b lt was. elim (cases_eq j n) [
-        | inl same ↦
-            let mine : slice_get old n ≡ Some b = subst (λ (k : ℕ). slice_get old k ≡ Some b) same was in
-            let is : d ≡ b = same_some d b (sym here ∙ g.rest n (omega arith) ∙ mine) in
-            (e, subst (λ (k : ℕ). slice_get (set new n e) k ≡ Some e) (sym same) (get_set_same new n e low), subst (λ (z : D). tells → GoesOn number fails z e) is goes)
-        | inr other ↦ (let f = g.went j b (omega (arith, lt, other)) was in (f.0, get_set_other new n j e other ∙ f.1, f.2))
-      ];
+    -- what held of each disk below an index holds with one more
+    one_more : (P : D → D → Type 0) (old new : List D) (n : ℕ) (d e : D) → ((k : ℕ) → n ≤ k → slice_get new k ≡ slice_get old k)
+        → ((j : ℕ) (d : D) → j < n → slice_get old j ≡ Some d → (e : D) × (slice_get new j ≡ Some e) × P d e) → n < length new → slice_get new n ≡ Some d → P d e
+        → (j : ℕ) (b : D) → j < n + 1 → slice_get old j ≡ Some b → (f : D) × (slice_get (set new n e) j ≡ Some f) × P b f
+    one_more P old new n d e rest below low here made j b lt was = elim (cases_eq j n) [
+      | inl same ↦
+          let mine : slice_get old n ≡ Some b = subst (λ (k : ℕ). slice_get old k ≡ Some b) same was in
+          let is : d ≡ b = same_some d b (sym here ∙ rest n (omega arith) ∙ mine) in
+          (e, subst (λ (k : ℕ). slice_get (set new n e) k ≡ Some e) (sym same) (get_set_same new n e low), subst (λ (z : D). P z e) is made)
+      | inr other ↦ (let f = below j b (omega (arith, lt, other)) was in (f.0, get_set_other new n j e other ∙ f.1, f.2))
+    ]
+
+    pub going_on : (old new : List D) (n : ℕ) (d e : D) → IsGoing old new n → n < length new → slice_get new n ≡ Some d → (tells → GoesOn number fails d e) → AllCalls tells number fails short calls_to_read d e → IsGoing old (set new n e) (n + 1)
+    going_on old new n d e g low here goes calls = record {
+      went = one_more (λ (a b : D). tells → GoesOn number fails a b) old new n d e g.rest g.went low here goes;
+      calls = one_more (AllCalls tells number fails short calls_to_read) old new n d e g.rest g.calls low here calls;
       rest = λ k le. get_set_other new n k e (λ same. omega (arith, le, same)) ∙ g.rest k (omega (arith, le));
     }

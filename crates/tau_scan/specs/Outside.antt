@@ -6,3 +6,7 @@ use Rattle.tau_disk.specs.Used.{OnlyRead}
 pub record IsRead {D : Type 0} (tells : Type 0) (seen : D → List ℕ) (may_leave : D → List ℕ → Type 0) (moment : D → ℕ) (since : D → ℕ → List ℕ → Type 0) (faults : D → ℕ) (d e : D) : Type 0 where
   pub read : OnlyRead tells seen may_leave moment since d e
   pub counts : faults d ≤ faults e
+
+-- the calls of a disk that read it whole: its length, and its bytes
+abbrev pub calls_to_read : ℕ
+calls_to_read = 2

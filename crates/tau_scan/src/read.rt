@@ -2,8 +2,8 @@
 ghost use Rattle.std.specs.Prelude.{◌≡◌, ◌≤◌, ℕ, List, length, map, IfOk, OnOk, OnErr, Err};
 ghost use Rattle.tau_base.specs.declared.limits.TheConstants.{MAX_STREAMS};
 ghost use Rattle.tau_disk.specs.Disk.{Rose};
-ghost use Rattle.tau_disk.specs.Used.{Each, RoseAt, GoesOn, IsStopped, IsFirstStopped};
-ghost use Rattle.tau_scan.specs.Outside.{IsRead};
+ghost use Rattle.tau_disk.specs.Used.{Each, RoseAt, GoesOn, AllCalls, IsStopped, IsFirstStopped};
+ghost use Rattle.tau_scan.specs.Outside.{IsRead, calls_to_read};
 
 use crate::fault::ReadRefusal;
 use std::alloc::Global;
@@ -16,6 +16,7 @@ fn read_image<D: Disk>(alloc: Global, disk: &mut D, stream: u8) -> Result<Vec<u8
     ensures failed { (j : ℕ) → result ≡ Err (ReadRefusal.Failed j) → (j ≡ stream) × Rose (D.faults disk.old) (D.faults disk.new) }
     ensures only_read { IsRead D.tells D.seen D.may_leave D.moment D.may_leave_since D.faults disk.old disk.new }
     ensures went { OnOk result (D.tells → GoesOn D.number D.fails disk.old disk.new) }
+    ensures calls { OnOk result (AllCalls D.tells D.number D.fails D.short calls_to_read disk.old disk.new) }
     ensures stopped { (j : ℕ) → result ≡ Err (ReadRefusal.Failed j) → IsStopped D.tells D.number D.fails D.short disk.old disk.new }
 {
     let length = match disk.len() {
@@ -52,7 +53,7 @@ pub fn read_images<D: Disk>(
     ensures bytes { IfOk result (λ images. D.tells → images ≡ map D.seen disks.old) }
     ensures failed { (j : ℕ) → result ≡ Err (ReadRefusal.Failed j) → RoseAt D.faults disks.old disks.new j }
     ensures only_read { Each (IsRead D.tells D.seen D.may_leave D.moment D.may_leave_since D.faults) disks.old disks.new }
-    ensures went { OnOk result (Each (λ d e. D.tells → GoesOn D.number D.fails d e) disks.old disks.new) }
+    ensures calls { OnOk result (Each (AllCalls D.tells D.number D.fails D.short calls_to_read) disks.old disks.new) }
     ensures stopped { (j : ℕ) → result ≡ Err (ReadRefusal.Failed j) → D.tells → IsFirstStopped D.tells D.number D.fails D.short disks.old disks.new j }
 {
     let mut images = Listed::new(alloc);

@@ -3,10 +3,11 @@ ghost use Rattle.std.specs.Prelude.{◌≡◌, ◌≤◌, ℕ, length, Err, IfOk
 ghost use Rattle.std.specs.List.{All, AllZip};
 ghost use Rattle.tau_base.specs.declared.limits.TheConstants.{MAX_STREAMS};
 ghost use Rattle.tau_record.specs.Format.{One, most_streams};
+ghost use Rattle.tau_scan.specs.declared.fault.LogFault.{LogFault};
 ghost use Rattle.tau_scan.specs.Reading.{catalogue_of, declared_by, recorded, records_of, streams_of, declared_in, log_of, HasRead, IsReading, IsLog};
 ghost use Rattle.tau_scan.specs.Found.{Found, IsShort};
-ghost use Rattle.tau_disk.specs.Used.{Each, RoseAt, GoesOn, IsFirstStopped};
-ghost use Rattle.tau_scan.specs.Outside.{IsRead};
+ghost use Rattle.tau_disk.specs.Used.{Each, RoseAt, AllCalls, IsFirstStopped};
+ghost use Rattle.tau_scan.specs.Outside.{IsRead, calls_to_read};
 
 use crate::catalogue::one_catalogue;
 use crate::content::{contents_in, lengths_of};
@@ -116,12 +117,14 @@ pub fn scan<D: Disk>(alloc: Global, disks: &mut [D]) -> Result<Log, ScanRefusal>
     ensures read { HasRead D.tells D.seen disks.old result }
     // What is read is a log.
     ensures sound { IfOk result (λ log. IsLog log) }
-    // A disk failed only where its count rose.
+    // A disk failed only if its count rose.
     ensures failed { (j : ℕ) → result ≡ Err (ScanRefusal.Failed j) → RoseAt D.faults disks.old disks.new j }
     // The disks were at most read.
     ensures only_read { Each (IsRead D.tells D.seen D.may_leave D.moment D.may_leave_since D.faults) disks.old disks.new }
-    // No call was one that is to fail, where a log was read; a disk that failed did so by its first such call, and none below it had one.
-    ensures went { OnOk result (Each (λ d e. D.tells → GoesOn D.number D.fails d e) disks.old disks.new) }
+    // Before a log or a cause is told every disk was read whole, and no call of any was to fail: a disk that fails
+    // comes before a bad image. A disk that failed did so by its first call that was to fail, and none below it had one.
+    ensures calls { OnOk result (Each (AllCalls D.tells D.number D.fails D.short calls_to_read) disks.old disks.new) }
+    ensures calls_bad { (fault : LogFault) → result ≡ Err (ScanRefusal.Bad fault) → Each (AllCalls D.tells D.number D.fails D.short calls_to_read) disks.old disks.new }
     ensures stopped { (j : ℕ) → result ≡ Err (ScanRefusal.Failed j) → D.tells → IsFirstStopped D.tells D.number D.fails D.short disks.old disks.new j }
 {
     let images = match read_images(alloc, disks) {

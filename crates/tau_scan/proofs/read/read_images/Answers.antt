@@ -16,7 +16,7 @@ loop-j-preserved g c =
           (reading_on g.D.Disk.tells g.D.Disk.seen g.D.Disk.may_leave g.D.Disk.moment g.D.Disk.may_leave_since g.D.Disk.faults c.args.disks.now c.loop-j.disks c.loop-j.j c.loop-j.images
           (get_or c.loop-j.disks c.loop-j.j c.index-disks-j.result) c.read_image.new.disk c.of.result c.loop-j.invariant.reading low at c.read_image.ensures.only_read (λ t. c.of.ensures ∙ c.in-Ok.ensures.bytes t));
       going = going_on g.D.Disk.number g.D.Disk.fails g.D.Disk.tells g.D.Disk.short c.args.disks.now c.loop-j.disks c.loop-j.j (get_or c.loop-j.disks c.loop-j.j c.index-disks-j.result) c.read_image.new.disk c.loop-j.invariant.going low at
-          (λ t. c.in-Ok.ensures.went t);
+          (λ t. c.in-Ok.ensures.went t) c.in-Ok.ensures.calls;
     }
 
 pub returns-in-Err-push-clause-only_read : goal.returns-in-Err-push-clause-only_read
