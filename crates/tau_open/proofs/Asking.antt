@@ -4,7 +4,7 @@ use Rattle.std.specs.Prelude.{Some, slice_get}
 use Rattle.std.proofs.Math.ListN.{set}
 use Rattle.std.proofs.lemmas.List.{length-set}
 use Rattle.tau_disk.specs.declared.disk.Disk.{Ghosts}
-use Rattle.tau_disk.specs.Disk.{Rose, Elapses}
+use Rattle.tau_disk.specs.Disk.{Rose, Elapses, WasToFail, WasRefused}
 use Rattle.tau_open.specs.Opening.{Asked, FailsAsked, AreAsked, FailsAsking}
 use Rattle.tau_open.proofs.Places.{each_more, each_below, at_here, rest_more}
 use Rattle.tau_open.proofs.Calls.{only_read, one_went, one_broke}
@@ -21,7 +21,7 @@ module _ {D : Type 0} (G : Ghosts D) (old cur : List D) (j : ℕ) (d e : D) (ask
   }
 
   pub asking_fails : Rose (G.faults d) (G.faults e) →
-      (G.tells → ((G.number e ≡ G.number d + 1) × (G.fails d (G.number d + 1) ≡ true) × (G.short e ≡ G.short d)) ⊎ (G.short e ≡ true)) → FailsAsking G j old (set cur j e)
+      (G.tells → WasToFail (G.number d) (G.number e) (G.fails d) (G.short d) (G.short e) ⊎ WasRefused (G.number d) (G.number e) (G.fails d) (G.short e)) → FailsAsking G j old (set cur j e)
   asking_fails rose one = record {
     below = each_below (λ i. Asked G) old cur j d e asked.rest lt here asked.each;
     here = at_here (λ i. Asked G) old cur j d e asked.rest lt here (FailsAsked G) (record { read = only_read G d e same crash keeps time; broke = one_broke G d e count rose plan one });

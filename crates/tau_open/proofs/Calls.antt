@@ -4,9 +4,9 @@ use Rattle.std.specs.Prelude.{Bool, nat_lt}
 use Rattle.std.proofs.lemmas.Bool.{cases_Bool}
 use Rattle.std.proofs.lemmas.Bool.Decides.{nat_tests}
 use Rattle.tau_disk.specs.declared.disk.Disk.{Ghosts}
-use Rattle.tau_disk.specs.Disk.{Rose, Elapses, Passes}
+use Rattle.tau_disk.specs.Disk.{Rose, Elapses, Passes, WasToFail, WasRefused}
 use Rattle.tau_disk.specs.Plan.{MadeAll, MadeSome}
-use Rattle.tau_disk.specs.Used.{OnlyRead, IsClean, IsStopped, OneCall, GoesOn}
+use Rattle.tau_disk.specs.Used.{OnlyRead, IsClean, IsStopped, AllCalls, OneCall, GoesOn}
 use Rattle.tau_open.specs.Outside.{calls_to_make, calls_to_open}
 use Rattle.tau_open.specs.Opening.{Went, Broke, Begins, Asked, FailsAsked, IsCreated, FailsCreated, IsOpened, FailsOpened}
 
@@ -43,14 +43,14 @@ module _ {D : Type 0} (G : Ghosts D) where
   }
 
   pub one_broke : (d e : D) → G.faults d ≤ G.faults e → Rose (G.faults d) (G.faults e) → (G.tells → (k : ℕ) → G.fails e k ≡ G.fails d k) →
-      (G.tells → ((G.number e ≡ G.number d + 1) × (G.fails d (G.number d + 1) ≡ true) × (G.short e ≡ G.short d)) ⊎ (G.short e ≡ true)) → Broke G 1 d e
+      (G.tells → WasToFail (G.number d) (G.number e) (G.fails d) (G.short d) (G.short e) ⊎ WasRefused (G.number d) (G.number e) (G.fails d) (G.short e)) → Broke G 1 d e
   one_broke d e count rose same one = record {
     counts = count;
     rose = rose;
     same = same;
     made = λ t. elim (one t) [
       | inl made ↦ inl (omega (arith, made.0), omega (arith, made.0), subst (λ (n : ℕ). G.fails d n ≡ true) (sym made.0) made.1, λ k low high. absurd (omega (arith, low, high, made.0)))
-      | inr memory ↦ inr memory
+      | inr memory ↦ inr memory.1
     ];
   }
 
@@ -118,3 +118,6 @@ module _ {D : Type 0} (G : Ghosts D) where
 
   pub one_call : (d e : D) → Asked G d e → OneCall G.tells G.number G.short d e
   one_call d e asked t s = (asked.went.made t).0
+
+  pub all_calls : (count : ℕ) (d e : D) → Went G count d e → AllCalls G.tells G.number G.fails G.short count d e
+  all_calls count d e went t = went.made t
