@@ -199,6 +199,7 @@ impl Desk {
         requires opened { seat.old.me.0.opened ≡ Some self.now.table.shared.key.value }
         requires there { stream < self.now.streams }
         ensures own { (seat.new.table_id ≡ seat.old.table_id) × (seat.new.id ≡ seat.old.id) }
+        ensures small { result < 2 ^ 62 }
         ensures seen { (slice_index seat.old.me.0.seen stream ≤ result) × (seat.new.me ≡ (sees_to stream result seat.old.me.0, seat.old.me.1)) }
     {
         let word = 8 * (self.parts + (self.streams + stream));

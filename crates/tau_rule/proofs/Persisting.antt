@@ -1,5 +1,5 @@
 -- Loads and stores of the words of persisted positions.
-use Rattle.std.proofs.Common.{◌≡◌, ◌≢◌, ℕ, zero, suc, ◌+◌, ◌-◌, ◌*◌, ◌<◌, ◌≤◌, ◌⊎◌, inl, inr, true, false, Bool, List, [], ◌∷◌, Option, length, set, get_or, refl, sym, ap, ◌∙◌, subst, arith, length-set, get_or-set_same, get_or-set_other, length-append, add-zero}
+use Rattle.std.proofs.Common.{◌≡◌, ◌≢◌, ℕ, zero, suc, ◌+◌, ◌-◌, ◌*◌, ◌^◌, ◌<◌, ◌≤◌, ◌⊎◌, inl, inr, true, false, Bool, List, [], ◌∷◌, Option, length, set, get_or, refl, sym, ap, ◌∙◌, subst, arith, length-set, get_or-set_same, get_or-set_other, length-append, add-zero}
 use Rattle.std.specs.Prelude.{Some, None, ◌==◌, if◌then◌else◌, slice_index, slice_set, nat_le}
 use Rattle.std.proofs.lemmas.Bool.{cases_eq, eq-eqb, ne_eqb, lt-leb}
 use Rattle.std.proofs.lemmas.Bool.Decides.{leb_tells}
@@ -19,8 +19,10 @@ use Rattle.tau_rule.specs.Positions.{plv_word, sees_to, looked, stored, IsManage
 use Rattle.tau_rule.specs.declared.part.Part.{Part}
 use Rattle.tau_rule.specs.declared.part.Part.TheVariants as part
 use Rattle.tau_rule.proofs.Gives.{one-origin}
+use Rattle.tau_rule.proofs.Numbers.{few-joined}
+use Rattle.tau_rule.proofs.Placing.{room}
 use Rattle.tau_rule.proofs.Turns.{reached-invariant, Turn, reached-on, alone, one-role}
-use Rattle.tau_base.specs.declared.limits.TheConstants.{MAX_RECORD}
+use Rattle.tau_base.specs.declared.limits.TheConstants.{MAX_CALLS, MAX_RECORD}
 
 same-beyond : (xs : List ℕ) (j y : ℕ) → length xs ≤ j → slice_set xs j y ≡ xs
 same-beyond [] j y e = refl
@@ -64,6 +66,18 @@ seen-more origin c v j h = record {
   found = h.found;
 }
 
+-- no position wraps
+pub small-plv : (origin : Plain) (c : Now) → Meets origin c → (j : ℕ) → j < origin.load.streams → slice_index c.core.plv j < 2 ^ 62
+small-plv origin c meets j low =
+    let inv = reached-invariant origin c.core meets.reached in
+    let behind : slice_index c.core.plv j ≤ slice_index c.core.ends j = inv.agrees.good.good.order.behind j in
+    let few = few-joined origin c.core meets.reached in
+    let calls = meets.limited.few in
+    let all : length meets.reached.joined ≤ MAX_CALLS = omega (arith, few, calls) in
+    let ends : slice_index c.core.ends j < 2 ^ 62 = room (slice_index c.core.ends j) (slice_index origin.load.opening.ends j) (length meets.reached.joined) (MAX_ANCHOR * length (c.core.streams j).anchors) (length (c.core.streams j).anchors)
+        (meets.limited.low j low) all refl (meets.anchors j low) (meets.fits j low) in
+    omega (arith, behind, ends)
+
 -- the stream whose persisted position is this word
 stream-at : (origin o : Plain) (j i : ℕ) → Some origin ≡ Some o → plv_word origin.load j ≡ plv_word o.load i → i ≡ j
 stream-at origin o j i e at =
@@ -83,8 +97,8 @@ loads_plv origin id j m st opened low word =
     let is = word-plv origin j c low in
     let same : i ≡ j = stream-at origin o j i (sym opened ∙ its) (sym word ∙ at) in
     let me : Sat = (sees_to j (word_of origin.load (origin.load.streams + j) c) m.0, m.1) in
-    subst (λ (z : ℕ). (slice_index m.0.seen z ≤ word_of origin.load (origin.load.streams + j) c) × (me ≡ (sees_to z (word_of origin.load (origin.load.streams + j) c) m.0, m.1))) (sym same)
-    ((let b = h.low j in omega arith), refl))
+    subst (λ (z : ℕ). (slice_index m.0.seen z ≤ word_of origin.load (origin.load.streams + j) c) × (word_of origin.load (origin.load.streams + j) c < 2 ^ 62) × (me ≡ (sees_to z (word_of origin.load (origin.load.streams + j) c) m.0, m.1))) (sym same)
+    ((let b = h.low j in omega arith), (let b = small-plv origin c meets j low in omega arith), refl))
 
 module _ (origin : Plain) (j : ℕ) (m : Sat) (managed : Managed) (new : ℕ) (p : IsManager origin j m managed) (up : slice_index m.0.seen j ≤ new) (high : new ≤ managed.gathered) where
   abbrev pub then_persisted : Now → Now

@@ -1,5 +1,5 @@
 -- Persisted positions: loads and stores of their words.
-use Rattle.std.specs.Prelude.{ℕ, ◌+◌, ◌*◌, ◌<◌, ◌≤◌, ◌≡◌, List, [], ◌∷◌, slice_index, slice_set, Option, Some, None}
+use Rattle.std.specs.Prelude.{ℕ, ◌+◌, ◌*◌, ◌^◌, ◌<◌, ◌≤◌, ◌≡◌, List, [], ◌∷◌, slice_index, slice_set, Option, Some, None}
 use Rattle.atomic_table.specs.Table.{Step}
 use Rattle.tau_core.specs.State.{Plain}
 use Rattle.tau_core.specs.declared.state.Load.{Load}
@@ -16,9 +16,9 @@ plv_word l j = 8 * (part_count l + (l.streams + j))
 abbrev pub sees_to : ℕ → ℕ → Knows → Knows
 sees_to j n v = record v { seen = slice_set v.seen j n }
 
--- what was found is no less than what was seen
+-- what was found is no less than what was seen, and within the limit of positions
 abbrev pub looked : Step (Option Part) → Sat → ℕ → Sat → Type 0
-looked st m found m' = (origin : Plain) → m.0.opened ≡ Some origin → (j : ℕ) → st.word ≡ plv_word origin.load j → (slice_index m.0.seen j ≤ found) × (m' ≡ (sees_to j found m.0, m.1))
+looked st m found m' = (origin : Plain) → m.0.opened ≡ Some origin → (j : ℕ) → st.word ≡ plv_word origin.load j → (slice_index m.0.seen j ≤ found) × (found < 2 ^ 62) × (m' ≡ (sees_to j found m.0, m.1))
 
 abbrev pub stored : Step (Option Part) → Sat → ℕ → Sat → Type 0
 stored st m found m' = (origin : Plain) → m.0.opened ≡ Some origin → (j : ℕ) → st.word ≡ plv_word origin.load j → m' ≡ (sees_to j st.first m.0, m.1)

@@ -12,8 +12,15 @@ load-requires c =
       loads_as c.args.self.now.table.shared.key.value _ _ c.args.stream _ c.args.seat.now.me (sized.1 ∙ sized.2) c.requires.opened (let b = streams.0 in let d = c.requires.there in omega arith) (λ i. 8 * (sized.2 i + (streams.0 i + c.args.stream))),
     )
 
+pub returns-clause-small : goal.returns-clause-small
+returns-clause-small c =
+    let sized = c.args.self.now.sized in
+    let streams = c.args.self.now.streams_are in
+    (c.load.ensures.2 _ c.requires.opened c.args.stream (λ i. 8 * (sized.2 i + (streams.0 i + c.args.stream)))).1
+
 pub returns-clause-seen : goal.returns-clause-seen
 returns-clause-seen c =
     let sized = c.args.self.now.sized in
     let streams = c.args.self.now.streams_are in
-    c.load.ensures.2 _ c.requires.opened c.args.stream ((λ i. 8 * (sized.2 i + (streams.0 i + c.args.stream))))
+    let t = c.load.ensures.2 _ c.requires.opened c.args.stream (λ i. 8 * (sized.2 i + (streams.0 i + c.args.stream))) in
+    (t.0, t.2)
