@@ -1,2 +1,9 @@
 pub mod Acts
 pub mod Close
+pub mod Shares
+pub mod Seats
+pub mod Names
+pub mod Kept
+pub mod Works
+pub mod Manages
+pub mod Ends

@@ -2,9 +2,17 @@
 #![tactic(auto)]
 
 mod desk;
+mod kept;
+mod mark;
+mod name;
 mod room;
+mod seat;
 mod work;
 
 pub use desk::Desk;
+pub use kept::Kept;
+pub use mark::Mark;
+pub use name::{PartName, Role};
 pub use room::Room;
+pub use seat::{ClerkSeat, Head, ManagerSeat, Stock, Work, WorkerSeat};
 pub use work::{Acted, commit, free, lock, post, take_outbox, take_shard};

@@ -1,0 +1,99 @@
+-- What a worker's steps owe and tell, besides a Lock, a Busy, a Quit, a Free, a Post and a Done, which owe `GivesShard` and `GivesOutbox`.
+use Rattle.std.specs.Prelude.{ℕ, ◌≤◌, ◌<◌, ◌≡◌, Option, Some, None, List, [], ◌∷◌, ◌++◌}
+use Rattle.tau_model.specs.declared.committed.Committed.{Committed}
+use Rattle.tau_machine.specs.Shard.{Shard}
+use Rattle.tau_machine.specs.Worker.{Worker}
+use Rattle.tau_machine.specs.Events.{FirstFree, DoneReading}
+use Rattle.tau_shard.specs.Plain.{PlainShard}
+use Rattle.tau_shard.specs.Read.{shard_of}
+use Rattle.tau_txn.specs.Txn.{PlainTxn}
+use Rattle.tau_core.specs.declared.state.Load.{Load}
+use Rattle.tau_core.specs.State.{Plain}
+use Rattle.tau_core.specs.View.{setting_of}
+use Rattle.tau_rule.specs.Role.{Role, Working}
+use Rattle.tau_rule.specs.Knows.{Knows}
+use Rattle.tau_rule.specs.Rule.{anchor_part, outbox_part}
+use Rattle.tau_rule.specs.Steps.{Sat, StepsShard, first_role, handed, next_worker, shard_in, worker_in, working}
+use Rattle.tau_rule.specs.Boxes.{BoxOf, StepsBox, box_in, with_box}
+use Rattle.tau_rule.specs.declared.part.Part.{Part}
+use Rattle.tau_rule.specs.declared.part.Part.TheVariants as part
+
+-- the worker whose call only read: it commits by the step after which this is in hand, and this is kept of it
+abbrev pub joined_worker : Load → Worker → PlainTxn → Committed → Worker
+joined_worker l wk t kept = record (next_worker l wk t) { committed = wk.committed ++ kept ∷ [] }
+
+-- what its seat knows then, after a shard has come home
+abbrev pub told_joined : Load → Knows → PlainTxn → Committed → Knows
+told_joined l v t kept = handed v (first_role v.roles).0 (working (first_role v.roles).1 (joined_worker l (worker_in v) t kept))
+
+-- and after its outbox has
+abbrev pub told_read_only : Load → Knows → PlainTxn → Committed → ℕ × ℕ → Knows
+told_read_only l v t kept spare = handed v (first_role v.roles).0 (with_box (first_role v.roles).1 (joined_worker l (worker_in v) t kept) spare)
+
+-- the seat has the shard k in hand, and the first free of its call, which only read, leaves it so, with this call in hand
+pub record GivesFirst (origin : Plain) (m : Sat) (k : ℕ) (q : PlainShard) (w : ℕ) (t : PlainTxn) (kept : Committed) : Type 0 where
+  pub taken : Part
+  pub role : Role
+  pub worker : Worker
+  pub before : Shard
+  pub held : m.0.hand ≡ Some (k, taken)
+  pub carried : m.1 ≡ (k, None) ∷ []
+  pub roles : m.0.roles ≡ (w, role) ∷ []
+  pub share : role.share ≡ Working worker
+  pub was : shard_in taken ≡ Some before
+  pub there : w < origin.load.workers
+  pub steps : StepsShard origin (FirstFree w) w worker (joined_worker origin.load worker t kept) k before (shard_of q)
+
+-- the seat has its outbox in hand, and the end of its call, which only read and holds no key, leaves it so, with no call in hand
+pub record GivesReadOnly (origin : Plain) (m : Sat) (b : BoxOf) (w : ℕ) (t : PlainTxn) (kept : Committed) (spare : ℕ × ℕ) : Type 0 where
+  pub taken : Part
+  pub role : Role
+  pub worker : Worker
+  pub before : BoxOf
+  pub held : m.0.hand ≡ Some (outbox_part w, taken)
+  pub carried : m.1 ≡ (outbox_part w, None) ∷ []
+  pub roles : m.0.roles ≡ (w, role) ∷ []
+  pub share : role.share ≡ Working worker
+  pub was : box_in taken ≡ Some before
+  pub there : w < origin.load.workers
+  pub records : spare.0 ≤ b.0.room
+  pub calls : spare.1 ≤ b.1.room
+  pub steps : StepsBox origin (DoneReading w) m.0 w worker (joined_worker origin.load worker t kept) before b
+
+-- room was made in the outbox that the seat has in hand, or it was closed, and no event happens
+pub record GivesRoom (m : Sat) (b : BoxOf) (w : ℕ) (spare : ℕ × ℕ) : Type 0 where
+  pub taken : Part
+  pub role : Role
+  pub before : BoxOf
+  pub held : m.0.hand ≡ Some (outbox_part w, taken)
+  pub carried : m.1 ≡ (outbox_part w, None) ∷ []
+  pub roles : m.0.roles ≡ (w, role) ∷ []
+  pub was : box_in taken ≡ Some before
+  pub pieces : b.0.pieces ≡ before.0.pieces
+  pub pending : b.1.calls ≡ before.1.calls
+  pub records : spare.0 ≤ b.0.room
+  pub calls : spare.1 ≤ b.1.room
+
+-- what the seat knows then
+abbrev pub told_room : Knows → ℕ × ℕ → Knows
+told_room v spare = handed v (first_role v.roles).0 (record (first_role v.roles).1 { spare = spare })
+
+-- the anchor in a part
+abbrev pub anchor_in : Part → Option (ℕ × List ℕ)
+anchor_in (part.Shard b) = None
+anchor_in (part.Outbox o p) = None
+anchor_in (part.Anchor number lv) = Some (number, lv.value)
+
+-- the worker has the published anchor of its stream in hand, reads it, and gives it back
+pub record GivesRead (l : Load) (m : Sat) (w : ℕ) (number : ℕ) (lv : List ℕ) : Type 0 where
+  pub taken : Part
+  pub role : Role
+  pub held : m.0.hand ≡ Some (anchor_part l ((setting_of l).stream_of w), taken)
+  pub carried : m.1 ≡ (anchor_part l ((setting_of l).stream_of w), None) ∷ []
+  pub roles : m.0.roles ≡ (w, role) ∷ []
+  pub there : w < l.workers
+  pub is : anchor_in taken ≡ Some (number, lv)
+
+-- what it knows then
+abbrev pub told_read : Knows → ℕ → List ℕ → Knows
+told_read v number lv = record v { hand = None; read = (number, lv) }

@@ -1,0 +1,16 @@
+//! What a core was made of, emptied: the room for the core that the desk makes when it closes.
+use std::alloc::Global;
+use tau_core::Stream;
+use tau_model::Committed;
+use tau_shard::Shard;
+
+/// The emptied vectors of a core.
+#[derive(Drop)]
+pub struct Kept {
+    pub alloc: Global,
+    pub shards: Vec<Shard>,
+    pub seats: Vec<tau_core::Seat>,
+    pub streams: Vec<Stream>,
+    /// With room for every call of the run.
+    pub committed: Vec<Committed>,
+}
