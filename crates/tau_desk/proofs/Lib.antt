@@ -3,3 +3,16 @@ pub mod Freeing
 pub mod Posting
 pub mod Closing
 pub mod Backing
+pub mod Quitting
+pub mod Beginning
+pub mod Reading
+pub mod Finishing
+pub mod Owning
+pub mod Sweeping
+pub mod OwnAnchors
+pub mod Acknowledging
+pub mod Looking
+pub mod Slots
+pub mod SplittingOff
+pub mod JoiningIn
+pub mod Assembling

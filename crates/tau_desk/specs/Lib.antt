@@ -5,5 +5,6 @@ pub mod Seats
 pub mod Names
 pub mod Kept
 pub mod Works
+pub mod Owns
 pub mod Manages
 pub mod Ends

@@ -6,6 +6,8 @@ use Rattle.tau_machine.specs.Hands.{Hand}
 use Rattle.tau_machine.specs.Worker.{Worker, begun}
 use Rattle.tau_outbox.specs.Pieces.{PlainOutbox}
 use Rattle.tau_txn.specs.Txn.{PlainTxn, RunsBy, hand_in, has_joined, leaves_in}
+use Rattle.tau_txn.specs.Next.{next_action}
+use Rattle.tau_txn.specs.declared.action.Action.TheVariants as action
 use Rattle.tau_core.specs.declared.state.Load.{Load}
 use Rattle.tau_core.specs.State.{Plain}
 use Rattle.tau_core.specs.View.{again_in, all_numbered, call_of, from_on, worker_of}
@@ -66,6 +68,8 @@ pub record FitsWork (l : Load) (w : ℕ) (o : PlainWork) : Type 0 where
   pub again : (n : ℕ) → o.again ≡ Some n → IsNumber l n
   pub left : AreNumbers l o.left
   pub leaves : is_some o.txn.hand ≡ true → 1 ≤ o.left_room
+  pub ends : is_some o.txn.hand ≡ true → 1 ≤ o.spare.1
+  pub posts : next_action o.txn ≡ action.Post → 1 ≤ o.spare.0
   pub commits : is_some o.txn.hand ≡ true → has_joined o.txn ≡ false → 1 ≤ o.committed_room
 
 -- the role is this worker's, and what it has is what the role knows

@@ -1,13 +1,25 @@
 //! The core split over a table: shards, outboxes and anchors in parts, each with its turn; places, persisted positions and the stop in words; the rest in what each seat knows.
 #![tactic(auto)]
 
+mod clerk;
+mod clerk_gives;
+mod closes;
 mod desk;
+mod joins;
 mod kept;
+mod laws;
+mod manager;
+mod manager_gives;
 mod mark;
 mod name;
+mod opens;
 mod room;
 mod seat;
+mod splits;
+mod stops;
 mod work;
+mod worker;
+mod worker_gives;
 
 pub use desk::Desk;
 pub use kept::Kept;

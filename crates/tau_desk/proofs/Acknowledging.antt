@@ -1,0 +1,1 @@
+-- The clerk acknowledges a call.

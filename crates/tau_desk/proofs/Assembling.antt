@@ -1,0 +1,1 @@
+-- What the head has put together when the desk closes.

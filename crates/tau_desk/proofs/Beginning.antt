@@ -1,0 +1,1 @@
+-- A worker begins its next call, and undoes that where the call has made no event.

@@ -1,0 +1,1 @@
+-- A call ends and waits for its acknowledgement; room for it.

@@ -1,0 +1,1 @@
+-- Seats come back to the head.

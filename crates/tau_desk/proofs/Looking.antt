@@ -1,0 +1,1 @@
+-- Seats look at words, and raise the stop.

@@ -1,0 +1,1 @@
+-- A manager gathers the records of its own anchors, and publishes an anchor.

@@ -1,0 +1,1 @@
+-- What a seat knows of its own calls holds of the part that it has taken.

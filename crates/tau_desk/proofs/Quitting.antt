@@ -1,0 +1,1 @@
+-- A worker gives a key back after a Busy, or as its call is given up.

@@ -1,0 +1,1 @@
+-- A call that only read commits with its first free, or with its end; a worker reads an anchor.

@@ -1,0 +1,1 @@
+-- The slots and the words of the table as the desk opens and closes.

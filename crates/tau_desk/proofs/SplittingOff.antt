@@ -1,0 +1,1 @@
+-- Roles leave the head.

@@ -1,0 +1,1 @@
+-- A seat drops free entries of a shard.

@@ -1,0 +1,1 @@
+//! An outbox comes home to which the clerk has acknowledged a call.

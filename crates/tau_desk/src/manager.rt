@@ -1,0 +1,1 @@
+//! The manager of a stream on its seat.

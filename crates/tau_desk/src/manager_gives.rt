@@ -1,0 +1,1 @@
+//! Parts and words that a manager changes: gathered outboxes, swept shards, anchors placed and published.

@@ -1,0 +1,1 @@
+//! The desk opens: a core apart, its parts in the slots.

@@ -1,0 +1,1 @@
+//! Roles leave the head for seats of their own.
