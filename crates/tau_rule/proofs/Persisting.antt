@@ -75,7 +75,7 @@ small-plv origin c meets j low =
     let calls = meets.limited.few in
     let all : length meets.reached.joined ≤ MAX_CALLS = omega (arith, few, calls) in
     let ends : slice_index c.core.ends j < 2 ^ 62 = room (slice_index c.core.ends j) (slice_index origin.load.opening.ends j) (length meets.reached.joined) (MAX_ANCHOR * length (c.core.streams j).anchors) (length (c.core.streams j).anchors)
-        (meets.limited.low j low) all refl (meets.anchors j low) (meets.fits j low) in
+    (meets.limited.low j low) all refl (meets.anchors j low) (meets.fits j low) in
     omega (arith, behind, ends)
 
 -- the stream whose persisted position is this word
