@@ -1,5 +1,5 @@
 ghost use Rattle.std.specs.Prelude.{ℕ, ◌≡◌, ◌≤◌, ◌<◌, [], ◌∷◌, length, vec_len, IfOk, OnOk};
-ghost use Rattle.tau_base.specs.declared.limits.TheConstants.{MAX_CATALOGUE, MAX_LSN};
+ghost use Rattle.tau_base.specs.declared.limits.TheConstants.{MAX_CATALOGUE, MAX_LSN, MAX_WORKERS};
 ghost use Rattle.tau_text.specs.Canonical.{declarations_text};
 ghost use Rattle.tau_run.specs.Facts.{catalogue_of};
 ghost use Rattle.tau_step.specs.RunTold.{AreNew};
@@ -83,20 +83,58 @@ fn told(alloc: Global, load: &Workload, end: &RunEnd, sink: &MemSink) -> Result<
     Ok(text)
 }
 
-#[test]
-fn on_new_streams(rt: HostRuntime) -> Result<(), Fail> {
-    let alloc = rt.alloc();
-    let load = match parse_workload(alloc, TEXT) {
+/// What a run of so many workers over this text on two new streams tells.
+fn told_of(alloc: Global, text: &[u8], m: u8) -> Result<Vec<u8>, Fail>
+    requires low { 1 ≤ m }
+    requires high { m ≤ MAX_WORKERS }
+{
+    let load = match parse_workload(alloc, text) {
         Ok(load) => load,
-        Err(_) => panic!(rt; "the text"),
+        Err(_) => return Err("the text".into()),
     };
     let mut writers = match created(alloc, &load) {
         Ok(writers) => writers,
         Err(fail) => return Err(fail),
     };
     let mut sink = MemSink::new(alloc, &[])?;
-    let end = run_turns(alloc, &load, 2, LogMode::Values, &mut writers, &mut sink)?;
-    assert!(rt; told(alloc, &load, &end, &sink)?.as_slice() == REPORT);
+    let end = run_turns(alloc, &load, m, LogMode::Values, &mut writers, &mut sink)?;
+    told(alloc, &load, &end, &sink)
+}
+
+#[test]
+fn on_new_streams(rt: HostRuntime) -> Result<(), Fail> {
+    let alloc = rt.alloc();
+    assert!(rt; told_of(alloc, TEXT, 2)?.as_slice() == REPORT);
+    Ok(())
+}
+
+// A record that depends on nothing takes 40 bytes, since the run begins with a floor of zeros.
+#[test]
+fn a_record_that_depends_on_nothing(rt: HostRuntime) -> Result<(), Fail> {
+    let alloc = rt.alloc();
+    let report: &[u8] = b"ack 1 53,0\nreply 1 none\norder 1\nrow a 1 int 5\nend 0\n";
+    assert!(rt; told_of(alloc, b"table a\nput a 1 5\n", 1)?.as_slice() == report);
+    Ok(())
+}
+
+// Worker 0 holds a row that worker 1 doesn't want, so worker 1 meets no Busy.
+#[test]
+fn a_worker_beside_another(rt: HostRuntime) -> Result<(), Fail> {
+    let alloc = rt.alloc();
+    let text: &[u8] = b"table a\nput a 1 5\nput a 2 6\nturns w0 w1 w1 w1 w1 w1 m1 c\n";
+    let report: &[u8] =
+        b"ack 2 0,53\nack 1 53,0\nreply 1 none\nreply 2 none\norder 1\norder 2\nrow a 1 int 5\nrow a 2 int 6\nend 0\n";
+    assert!(rt; told_of(alloc, text, 2)?.as_slice() == report);
+    Ok(())
+}
+
+#[test]
+fn calls_of_one_worker_in_order(rt: HostRuntime) -> Result<(), Fail> {
+    let alloc = rt.alloc();
+    let text: &[u8] = b"table a\nput a 1 5\nput a 1 6\n";
+    let report: &[u8] =
+        b"ack 1 53,0\nack 2 101,0\nreply 1 none\nreply 2 none\norder 1\norder 2\nrow a 1 int 6\nend 0\n";
+    assert!(rt; told_of(alloc, text, 1)?.as_slice() == report);
     Ok(())
 }
 
