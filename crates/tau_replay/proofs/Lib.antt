@@ -5,3 +5,8 @@ pub mod Hands
 pub mod Following
 pub mod Tangles
 pub mod Histories
+pub mod Sounds
+pub mod Totals
+pub mod Shares
+pub mod Steps
+pub mod Firsts

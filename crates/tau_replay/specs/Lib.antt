@@ -3,3 +3,5 @@ pub mod Going
 pub mod Way
 pub mod Laws
 pub mod Followed
+pub mod Sound
+pub mod Rule

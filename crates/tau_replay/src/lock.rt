@@ -1,0 +1,147 @@
+//! The lock and its four kinds of step: take the turn, give the turn, split a seat, join a seat.
+ghost use Rattle.std.specs.Prelude.{◌≡◌, ◌<◌, [], ◌∷◌, ℕ, length, replicate, slice_get, true, false, Some, None, IfOk};
+ghost use Rattle.tau_replay.specs.Sound.{IsSound};
+ghost use Rattle.tau_replay.specs.Rule.{IsIdle, MayGive, Names, Took, Boxed, hands_of, first_view, holding, given, without_first, first_alone, both};
+
+use crate::view::{Give, OneRecovery, OneWorker, Part, Seat, Take, View};
+use atomic_table::Table;
+use std::alloc::{AllocError, Global};
+use std::snapshot::Snapshot;
+use std::sync::Wait;
+use std::sync::atomic::AtomicU64;
+use tau_scan::Log;
+
+/// One recovery, of which one seat at a time has the turn. The word is 0 where it is free, and 2 where somebody may wait.
+pub struct Lock {
+    table: Table<Option<Box<Part>>, View, Snapshot<Log>, OneRecovery, Global>,
+    /// It changes when a sleeping worker is to look again.
+    pub bell: AtomicU64,
+    ghost sized: { (table.shared.table_id.words ≡ 1) × (table.shared.table_id.slots ≡ 1) },
+}
+
+impl Lock {
+    /// The lock with the seat that steps for all workers.
+    pub fn new(alloc: Global, log: &Log, part: Part) -> Result<(Lock, Seat), AllocError>
+        requires sound { IsSound log.now part.replay }
+        requires idle { part.replay.hands.items ≡ replicate 16 None }
+        ensures own { IfOk result (λ made. made.1.table_id ≡ made.0.table.shared.table_id) }
+        ensures first { IfOk result (λ made. made.1.me ≡ (first_view log.now, [])) }
+    {
+        let about = Snapshot::of(log);
+        let mut slots = Vec::new(alloc);
+        slots.reserve(1)?;
+        slots.push_reserved(Some(Box::new(alloc, part)?));
+        let Ok((table, seat)) = Table::new(alloc, &[0], slots, &about) else {
+            return Err(AllocError);
+        };
+        Ok((
+            Lock {
+                table,
+                bell: AtomicU64::new(0),
+            },
+            seat,
+        ))
+    }
+
+    /// The part whose turn the seat has.
+    fn lift(&self, seat: &mut Seat) -> Box<Part>
+        requires own { seat.old.table_id ≡ self.now.table.shared.table_id }
+        requires has { (b : Boxed) × (seat.old.me.1 ≡ (0, Some b) ∷ []) }
+        ensures own { (seat.new.table_id ≡ seat.old.table_id) × (seat.new.id ≡ seat.old.id) }
+        ensures part { seat.old.me.1 ≡ (0, Some result) ∷ [] }
+        ensures seat { seat.new.me ≡ (seat.old.me.0, (0, None) ∷ []) }
+    {
+        self.table.shared.exchange(seat, 0, None).unwrap()
+    }
+
+    /// Takes the turn where it is free.
+    fn try_take(&self, seat: &mut Seat) -> bool
+        requires own { seat.old.table_id ≡ self.now.table.shared.table_id }
+        requires idle { IsIdle seat.old.me }
+        ensures own { (seat.new.table_id ≡ seat.old.table_id) × (seat.new.id ≡ seat.old.id) }
+        ensures took { result ≡ true → Took seat.old.me seat.new.me }
+        ensures missed { result ≡ false → seat.new.me ≡ seat.old.me }
+    {
+        self.table.shared.compare_exchange::<Take>(seat, 0, 0, 1) == 0
+    }
+
+    /// Waits for the turn. The word is 2 then, so that who gives it back wakes another.
+    fn wait_for<R: Wait>(&self, rt: &R, seat: &mut Seat)
+        requires own { seat.old.table_id ≡ self.now.table.shared.table_id }
+        requires idle { IsIdle seat.old.me }
+        ensures own { (seat.new.table_id ≡ seat.old.table_id) × (seat.new.id ≡ seat.old.id) }
+        ensures took { Took seat.old.me seat.new.me }
+    {
+        let shared = &self.table.shared;
+        for _ in rt.forever() {
+            if shared.swap::<Take>(seat, 0, 2) == 0 {
+                return;
+            }
+            shared.park(rt, 0, 2);
+        }
+        unreachable!()
+    }
+
+    /// Waits for the turn, and takes the part.
+    pub fn take<R: Wait>(&self, rt: &R, seat: &mut Seat) -> Box<Part>
+        requires own { seat.old.table_id ≡ self.now.table.shared.table_id }
+        requires idle { IsIdle seat.old.me }
+        ensures own { (seat.new.table_id ≡ seat.old.table_id) × (seat.new.id ≡ seat.old.id) }
+        ensures held { seat.new.me ≡ (holding seat.old.me.0 result, (0, None) ∷ []) }
+        ensures sound { IsSound seat.old.me.0.log result.value.replay }
+        ensures named { Names (hands_of result) seat.old.me.0.hands }
+    {
+        if self.try_take(seat) {
+            return self.lift(seat);
+        }
+        self.wait_for(rt, seat);
+        self.lift(seat)
+    }
+
+    /// The part comes home. Only what the seat's first worker has in flight may have changed.
+    pub fn give(&self, seat: &mut Seat, part: Box<Part>)
+        requires own { seat.old.table_id ≡ self.now.table.shared.table_id }
+        requires held { (seat.old.me.1 ≡ (0, None) ∷ []) × MayGive seat.old.me.0 part }
+        ensures own { (seat.new.table_id ≡ seat.old.table_id) × (seat.new.id ≡ seat.old.id) }
+        ensures given { seat.new.me ≡ (given seat.old.me.0 part, []) }
+    {
+        let shared = &self.table.shared;
+        shared.exchange(seat, 0, Some(part));
+        if shared.swap::<Give>(seat, 0, 0) == 2 {
+            shared.wake_one(0);
+        }
+    }
+
+    /// The first worker of the seat goes to a seat of its own.
+    pub fn split(&self, seat: &mut Seat) -> Seat
+        requires own { seat.old.table_id ≡ self.now.table.shared.table_id }
+        requires idle { IsIdle seat.old.me }
+        ensures own { (seat.new.table_id ≡ seat.old.table_id) × (result.table_id ≡ seat.old.table_id) }
+        ensures views { (seat.new.me ≡ (without_first seat.old.me.0, [])) × (result.me ≡ (first_alone seat.old.me.0, [])) }
+    {
+        self.table.shared.split_seat::<OneWorker>(seat)
+    }
+
+    /// The workers of another seat come to this one.
+    pub fn join(&self, seat: &mut Seat, other: Seat)
+        requires own { (seat.old.table_id ≡ self.now.table.shared.table_id) × (other.table_id ≡ seat.old.table_id) }
+        requires idle { IsIdle seat.old.me × IsIdle other.me }
+        ensures own { seat.new.table_id ≡ seat.old.table_id }
+        ensures views { seat.new.me ≡ (both seat.old.me.0 other.me.0, []) }
+    {
+        self.table.shared.join_seat::<OneWorker>(seat, other)
+    }
+
+    /// What is under the lock, once one seat steps for all workers.
+    pub fn close(self, seat: Seat) -> Part
+        requires own { seat.table_id ≡ self.table.shared.table_id }
+        requires whole { IsIdle seat.me × (length seat.me.0.hands ≡ 16) }
+        ensures sound { IsSound seat.me.0.log result.replay }
+    {
+        let Lock { table, bell: _ } = self;
+        let mut closed = table.close_with(seat);
+        let part = closed.take(0).unwrap();
+        closed.free();
+        Box::into_inner(part)
+    }
+}
