@@ -10,3 +10,6 @@ pub mod Totals
 pub mod Shares
 pub mod Steps
 pub mod Firsts
+pub mod Tries
+pub mod Visits
+pub mod Crews

@@ -5,3 +5,5 @@ pub mod Laws
 pub mod Followed
 pub mod Sound
 pub mod Rule
+pub mod Result
+pub mod Working

@@ -3,13 +3,18 @@
 
 mod laws;
 mod lock;
+mod outcome;
 mod redo;
 mod replay;
+mod threads;
 mod turns;
 mod view;
+mod visit;
+mod worker;
 
 pub use laws::{orderly_turns, runs_agree, some_ready, tangled_alike, tangled_has_no_order};
 pub use replay::replay_turns;
+pub use threads::replay_threads;
 
 #[cfg(test)]
 mod tests;

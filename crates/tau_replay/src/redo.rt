@@ -1,5 +1,5 @@
 //! Redoing one record.
-ghost use Rattle.std.specs.Prelude.{◌≡◌, ℕ, List, OnOk};
+ghost use Rattle.std.specs.Prelude.{◌≡◌, ℕ, List, OnOk, OnErr};
 ghost use Rattle.tau_base.specs.declared.value.Call.{Call};
 ghost use Rattle.tau_base.specs.declared.value.Key.{Key};
 ghost use Rattle.tau_base.specs.declared.value.Value.{Value};
@@ -17,7 +17,8 @@ use tau_scan::Log;
 /// Redoes a record on the database as it is: a data record sets its writes, a command record what its call writes.
 pub fn redo(log: &Log, store: &mut SerialStore, job: Job) -> Result<(), NoMemory>
     requires { IsHeldBy log.now job }
-    ensures { (r : Kept) → IsHeld log.now job r → OnOk result (database store.new ≡ redone log.now.declarations.procs r.content (database store.old)) }
+    ensures ok { (r : Kept) → IsHeld log.now job r → OnOk result (database store.new ≡ redone log.now.declarations.procs r.content (database store.old)) }
+    ensures err { OnErr result (database store.new ≡ database store.old) }
 {
     let records = &log.streams.as_slice()[usize::from(job.stream)];
     redo_entry(log, store, &records.as_slice()[job.index].entry)
@@ -27,6 +28,7 @@ pub fn redo(log: &Log, store: &mut SerialStore, job: Job) -> Result<(), NoMemory
 fn redo_entry(log: &Log, store: &mut SerialStore, entry: &Entry) -> Result<(), NoMemory>
     ensures written { (number anchor : ℕ) (dep : List ℕ) (writes : List (Key × Value)) → entry.now ≡ Entry.Written number anchor dep writes → OnOk result (database store.new ≡ redone log.now.declarations.procs (Written writes) (database store.old)) }
     ensures command { (number anchor : ℕ) (dep : List ℕ) (call : Call) → entry.now ≡ Entry.Command number anchor dep call → OnOk result (database store.new ≡ redone log.now.declarations.procs (Command call) (database store.old)) }
+    ensures err { OnErr result (database store.new ≡ database store.old) }
 {
     match entry {
         Entry::Written { writes, .. } => store.write(writes.as_slice()),
@@ -38,7 +40,8 @@ fn redo_entry(log: &Log, store: &mut SerialStore, entry: &Entry) -> Result<(), N
 
 /// Executes a call. Each call of a log is one that its procedures take.
 fn redo_call(log: &Log, store: &mut SerialStore, call: &Call) -> Result<(), NoMemory>
-    ensures { OnOk result (database store.new ≡ redone log.now.declarations.procs (Command call.now) (database store.old)) }
+    ensures ok { OnOk result (database store.new ≡ redone log.now.declarations.procs (Command call.now) (database store.old)) }
+    ensures err { OnErr result (database store.new ≡ database store.old) }
 {
     if !log.declarations.procs.takes(call) {
         return Err(NoMemory);

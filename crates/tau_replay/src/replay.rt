@@ -1,5 +1,5 @@
 //! Redoing a log.
-ghost use Rattle.std.specs.Prelude.{◌≡◌, ◌<◌, ◌≤◌, ◌++◌, [], ℕ, List, true, false, Ok, Err, IfOk, OnOk};
+ghost use Rattle.std.specs.Prelude.{◌≡◌, ◌<◌, ◌≤◌, ◌++◌, [], ℕ, List, None, replicate, true, false, Ok, Err, IfOk, OnOk};
 ghost use Rattle.tau_scan.specs.Reading.{IsLog};
 ghost use Rattle.tau_scan.specs.Taken.{Kept};
 ghost use Rattle.tau_replay.specs.Redone.{IsOrderOf, IsRedone, IsTangledAt};
@@ -16,8 +16,9 @@ use tau_pool::{Job, Next, Pools};
 use tau_scan::{Log, ReplayRefusal};
 
 /// Sixteen workers with nothing in flight, before the first turn.
-fn begin(alloc: Global, log: &Log) -> Result<Replay, NoMemory>
+pub fn begin(alloc: Global, log: &Log) -> Result<Replay, NoMemory>
     requires { IsLog log.now }
+    ensures idle { IfOk result (λ replay. replay.hands.items ≡ replicate 16 None) }
     ensures going { IfOk result (λ replay. IsOnWay log.now replay) }
     ensures followed { IfOk result (λ replay. Followed log.now [] replay) }
 {
@@ -124,6 +125,24 @@ fn run_out(log: &Log, replay: &mut Replay) -> Result<(), ReplayRefusal>
     }
 }
 
+/// Rounds of all workers until all is done, and the tables then.
+pub fn end(alloc: Global, log: &Log, mut replay: Replay) -> Result<Tables, ReplayRefusal>
+    requires log { IsLog log.now }
+    requires going { IsOnWay log.now replay }
+    ensures ok { IfOk result (λ tables. IsRedone log.now tables) }
+    ensures followed { (turns : List ℕ) → Followed log.now turns replay → IfOk result (λ tables. IsRedoneBy log.now turns tables) }
+    ensures tangled { (j at : ℕ) → result ≡ Err (ReplayRefusal.Tangled j at) → IsTangledAt log.now j at × ((order : List Kept) → IsOrderOf log.now order → ⊥) }
+{
+    match run_out(log, &mut replay) {
+        Ok(()) => {}
+        Err(refusal) => return Err(refusal),
+    }
+    match replay.store.tables(alloc) {
+        Ok(tables) => Ok(tables),
+        Err(_) => Err(ReplayRefusal::NoMemory),
+    }
+}
+
 /// Redoes the taken records of a log, by these turns and then in rounds of 16 workers. A turn of a worker finishes the
 /// record that it has in flight, or starts one that is ready; a turn of 16 or more changes nothing.
 pub fn replay_turns(alloc: Global, log: &Log, turns: &[u8]) -> Result<Tables, ReplayRefusal>
@@ -144,12 +163,5 @@ pub fn replay_turns(alloc: Global, log: &Log, turns: &[u8]) -> Result<Tables, Re
             Err(_) => return Err(ReplayRefusal::NoMemory),
         }
     }
-    match run_out(log, &mut replay) {
-        Ok(()) => {}
-        Err(refusal) => return Err(refusal),
-    }
-    match replay.store.tables(alloc) {
-        Ok(tables) => Ok(tables),
-        Err(_) => Err(ReplayRefusal::NoMemory),
-    }
+    end(alloc, log, replay)
 }

@@ -1,11 +1,12 @@
 //! The turns of workers.
-ghost use Rattle.std.specs.Prelude.{◌≡◌, ◌<◌, ◌≤◌, ◌⊎◌, ◌++◌, ◌∷◌, [], ℕ, List, length, slice_get, slice_set, Some, None, OnOk};
+ghost use Rattle.std.specs.Prelude.{◌≡◌, ◌<◌, ◌≤◌, ◌⊎◌, ◌++◌, ◌∷◌, [], ℕ, List, length, slice_get, slice_set, Some, None, OnOk, OnErr};
+ghost use Rattle.tau_model.specs.Store.{database};
 ghost use Rattle.tau_pool.specs.declared.item.Job.{Job};
 ghost use Rattle.tau_pool.specs.Pooled.{IsNotYet, IsDone, flying_in};
 ghost use Rattle.tau_replay.specs.Followed.{Followed};
 ghost use Rattle.tau_replay.specs.Way.{IsOnWay, left_of};
 
-use crate::redo::redo;
+use crate::outcome::{Outcome, apply};
 use tau_base::NoMemory;
 use tau_model::SerialStore;
 use tau_pool::{Job, Next, Pools};
@@ -28,6 +29,7 @@ pub fn start(log: &Log, replay: &mut Replay, worker: usize) -> Next
     requires idle { slice_get replay.old.hands.items worker ≡ Some None }
     ensures going { IsOnWay log.now replay.new }
     ensures taken { (job : Job) → result ≡ Next.Taken job → left_of replay.new < left_of replay.old }
+    ensures hand { (job : Job) → result ≡ Next.Taken job → replay.new.hands.items ≡ slice_set replay.old.hands.items worker (Some job) }
     ensures not_yet { result ≡ Next.NotYet → (replay.new.hands.items ≡ replay.old.hands.items) × (replay.new.pools ≡ replay.old.pools) × IsNotYet replay.old.pools }
     ensures done { result ≡ Next.Done → (replay.new.hands.items ≡ replay.old.hands.items) × (replay.new.pools ≡ replay.old.pools) × IsDone replay.old.pools }
     ensures followed { (turns : List ℕ) → Followed log.now turns replay.old → Followed log.now (turns ++ worker ∷ []) replay.new }
@@ -45,19 +47,27 @@ pub fn start(log: &Log, replay: &mut Replay, worker: usize) -> Next
     }
 }
 
-/// Finishes what a worker has in flight.
-fn finish(log: &Log, replay: &mut Replay, worker: usize, job: Job) -> Result<(), NoMemory>
+/// Finishes what a worker has in flight. If memory is refused nothing changes.
+pub fn finish(
+    log: &Log,
+    replay: &mut Replay,
+    worker: usize,
+    outcome: &Outcome,
+) -> Result<(), NoMemory>
+    requires of_log { outcome.now.log.value ≡ log.now }
     requires going { IsOnWay log.now replay.old }
-    requires busy { slice_get replay.old.hands.items worker ≡ Some (Some job) }
+    requires busy { slice_get replay.old.hands.items worker ≡ Some (Some outcome.now.job) }
     ensures going { OnOk result (IsOnWay log.now replay.new) }
     ensures less { OnOk result (left_of replay.new < left_of replay.old) }
+    ensures hand { OnOk result (replay.new.hands.items ≡ slice_set replay.old.hands.items worker None) }
     ensures followed { (turns : List ℕ) → Followed log.now turns replay.old → OnOk result (Followed log.now (turns ++ worker ∷ []) replay.new) }
+    ensures err { OnErr result ((replay.new.pools ≡ replay.old.pools) × (replay.new.hands.items ≡ replay.old.hands.items) × (database replay.new.store ≡ database replay.old.store)) }
 {
-    match redo(log, &mut replay.store, job) {
+    match apply(log, &mut replay.store, outcome) {
         Ok(()) => {}
         Err(_) => return Err(NoMemory),
     }
-    replay.pools.finish(job);
+    replay.pools.finish(outcome.job);
     replay.hands[worker] = None;
     Ok(())
 }
@@ -73,7 +83,7 @@ pub fn turn(log: &Log, replay: &mut Replay, worker: usize) -> Result<(), NoMemor
     ensures followed { (turns : List ℕ) → Followed log.now turns replay.old → OnOk result (Followed log.now (turns ++ worker ∷ []) replay.new) }
 {
     match replay.hands[worker] {
-        Some(job) => finish(log, replay, worker, job),
+        Some(job) => finish(log, replay, worker, &Outcome::anew(log, job)),
         None => {
             let _ = start(log, replay, worker);
             Ok(())

@@ -1,0 +1,158 @@
+//! Redoing a log by workers in threads.
+ghost use Rattle.std.specs.Prelude.{◌≡◌, ◌+◌, ◌-◌, ◌<◌, ◌≤◌, ℕ, List, [], Err, None, IfOk, length, replicate};
+ghost use Rattle.std.specs.Thread.{IsSync};
+ghost use Rattle.tau_scan.specs.Reading.{IsLog};
+ghost use Rattle.tau_scan.specs.Taken.{Kept};
+ghost use Rattle.tau_replay.specs.Redone.{IsOrderOf, IsRedone, IsTangledAt};
+ghost use Rattle.tau_replay.specs.Followed.{IsRedoneBy};
+ghost use Rattle.tau_replay.specs.Rule.{IsIdle, idle_from};
+ghost use Rattle.tau_replay.specs.Sound.{IsSound};
+ghost use Rattle.tau_replay.specs.Working.{IsFor};
+
+use crate::lock::Lock;
+use crate::replay::{begin, end};
+use crate::turns::Replay;
+use crate::view::{Part, Seat};
+use crate::worker::work;
+use std::alloc::Global;
+use std::sync::Wait;
+use std::thread::{Threads, join};
+use tau_base::NoMemory;
+use tau_disk::Gate;
+use tau_model::Tables;
+use tau_scan::{Log, ReplayRefusal};
+
+/// Splits the first worker's seat off.
+fn split_first(lock: &Lock, seat: &mut Seat, worker: u8, others: u8) -> Seat
+    requires own { seat.old.table_id ≡ lock.now.table.shared.table_id }
+    requires idle { IsIdle seat.old.me × (seat.old.me.0.hands ≡ idle_from worker (16 - worker)) }
+    requires few { (1 ≤ others) × (worker + others < 16) }
+    ensures own { (seat.new.table_id ≡ seat.old.table_id) × (result.table_id ≡ seat.old.table_id) }
+    ensures of_log { (seat.new.me.0.log ≡ seat.old.me.0.log) × (result.me.0.log ≡ seat.old.me.0.log) }
+    ensures first { IsFor worker None result.me }
+    ensures left { IsIdle seat.new.me × (seat.new.me.0.hands ≡ idle_from (worker + 1) (16 - (worker + 1))) }
+    ensures workers { length seat.new.me.0.hands + length result.me.0.hands ≡ length seat.old.me.0.hands }
+{
+    let _ = (worker, others);
+    lock.split(seat)
+}
+
+/// Joins a seat to another.
+fn join_seats(lock: &Lock, seat: &mut Seat, other: Seat)
+    requires own { (seat.old.table_id ≡ lock.now.table.shared.table_id) × (other.table_id ≡ seat.old.table_id) }
+    requires idle { IsIdle seat.old.me × IsIdle other.me }
+    ensures own { seat.new.table_id ≡ seat.old.table_id }
+    ensures of_log { seat.new.me.0.log ≡ seat.old.me.0.log }
+    ensures idle { IsIdle seat.new.me }
+    ensures workers { length seat.new.me.0.hands ≡ length seat.old.me.0.hands + length other.me.0.hands }
+{
+    lock.join(seat, other)
+}
+
+/// A worker, and so many others behind it, side by side.
+fn crew<R: Threads + Wait + Sync, G: Gate + Sync>(
+    rt: &R,
+    alloc: Global,
+    lock: &Lock,
+    mut seat: Seat,
+    log: &Log,
+    worker: u8,
+    others: u8,
+    alone: bool,
+    gate: &G,
+) -> Seat
+    requires own { seat.table_id ≡ lock.now.table.shared.table_id }
+    requires of_log { seat.me.0.log ≡ log.now }
+    requires idle { IsIdle seat.me × (seat.me.0.hands ≡ idle_from worker (16 - worker)) }
+    requires few { worker + others < 16 }
+    ensures own { result.table_id ≡ seat.table_id }
+    ensures of_log { result.me.0.log ≡ seat.me.0.log }
+    ensures idle { IsIdle result.me × (length result.me.0.hands ≡ length seat.me.0.hands) }
+{
+    if others == 0 {
+        return work(rt, alloc, lock, seat, log, worker, alone, gate);
+    }
+    let mine = split_first(lock, &mut seat, worker, others);
+    let (mine, mut seat) = join(
+        rt,
+        move || -> Seat
+            requires { (mine.table_id ≡ lock.now.table.shared.table_id) × (mine.me.0.log ≡ log.now) × IsFor worker None mine.me }
+            ensures { (result.table_id ≡ mine.table_id) × IsIdle result.me × (length result.me.0.hands ≡ length mine.me.0.hands) }
+        { work(rt, alloc, lock, mine, log, worker, alone, gate) },
+        move || -> Seat
+            requires { IsSync R.row × IsSync G.row × (seat.table_id ≡ lock.now.table.shared.table_id) × (seat.me.0.log ≡ log.now) × IsIdle seat.me × (seat.me.0.hands ≡ idle_from (worker + 1) (16 - (worker + 1))) × (1 ≤ others) × (worker + others < 16) }
+            ensures { (result.table_id ≡ seat.table_id) × (result.me.0.log ≡ seat.me.0.log) × IsIdle result.me × (length result.me.0.hands ≡ length seat.me.0.hands) }
+        {
+            crew(
+                rt,
+                alloc,
+                lock,
+                seat,
+                log,
+                worker + 1,
+                others - 1,
+                alone,
+                gate,
+            )
+        },
+    );
+    join_seats(lock, &mut seat, mine);
+    seat
+}
+
+/// Runs a recovery by so many workers until their work is over.
+fn run<R: Threads + Wait + Sync, G: Gate + Sync>(
+    rt: &R,
+    alloc: Global,
+    log: &Log,
+    replay: Replay,
+    workers: u8,
+    gate: &G,
+) -> Result<Replay, NoMemory>
+    requires sound { IsSound log.now replay }
+    requires idle { replay.hands.items ≡ replicate 16 None }
+    requires workers { (1 ≤ workers) × (workers ≤ 16) }
+    ensures sound { IfOk result (λ r. IsSound log.now r) }
+{
+    let part = Part {
+        replay,
+        sleeping: 0,
+        refused: false,
+    };
+    let Ok((lock, seat)) = Lock::new(alloc, log, part) else {
+        return Err(NoMemory);
+    };
+    let alone = workers == 1;
+    let seat = crew(rt, alloc, &lock, seat, log, 0, workers - 1, alone, gate);
+    let part = lock.close(seat);
+    if part.refused {
+        return Err(NoMemory);
+    }
+    Ok(part.replay)
+}
+
+/// Redoes the taken records of a log by 1 to 16 workers side by side, with what `replay_turns` gives of some list of turns.
+pub fn replay_threads<R: Threads + Wait + Sync, G: Gate + Sync>(
+    rt: &R,
+    alloc: Global,
+    log: &Log,
+    workers: u8,
+    gate: &G,
+) -> Result<Tables, ReplayRefusal>
+    requires log { IsLog log.now }
+    requires workers { (1 ≤ workers) × (workers ≤ 16) }
+    // The tables are those of redoing the taken records in an orderly order.
+    ensures ok { IfOk result (λ tables. IsRedone log.now tables) }
+    // They are what some turns of workers give, and rounds of all workers after them.
+    ensures followed { IfOk result (λ tables. (turns : List ℕ) × IsRedoneBy log.now turns tables) }
+    // No orderly order exists: this is the first record, by stream and place, of those that can't be started.
+    ensures tangled { (j at : ℕ) → result ≡ Err (ReplayRefusal.Tangled j at) → IsTangledAt log.now j at × ((order : List Kept) → IsOrderOf log.now order → ⊥) }
+{
+    let Ok(replay) = begin(alloc, log) else {
+        return Err(ReplayRefusal::NoMemory);
+    };
+    let Ok(replay) = run(rt, alloc, log, replay, workers, gate) else {
+        return Err(ReplayRefusal::NoMemory);
+    };
+    end(alloc, log, replay)
+}
