@@ -1,17 +1,21 @@
 -- Orders of records as orders of calls.
-use Rattle.std.proofs.Common.{◌≡◌, List, [], ◌∷◌, ◌++◌, map, refl, sym, ap, subst, ◌∙◌}
+use Rattle.std.proofs.Common.{ℕ, Bool, ◌≡◌, List, [], ◌∷◌, ◌++◌, map, refl, sym, ap, subst, ◌∙◌}
 use Rattle.std.specs.List.{filter}
 use Rattle.tau_base.specs.Database.{Db, empty_db}
 use Rattle.tau_proc.specs.declared.proc.Proc.{Proc}
 use Rattle.tau_model.specs.History.{Numbered, Act, means, trace, exec, Reordered}
-use Rattle.tau_model.specs.Logged.{Place, Orderly}
+use Rattle.tau_base.specs.declared.value.LogMode.{LogMode}
+use Rattle.tau_model.specs.Logged.{Place, IsLogged, IsCutAt, Orderly}
 use Rattle.tau_model.specs.Redo.{Content, content, redo_contents}
 use Rattle.tau_model.specs.Tables.{IsTablesOf}
 use Rattle.tau_model.proofs.Reorder.{reordered-trans, reordered-sym}
 use Rattle.tau_model.proofs.Replays.{finished, ready_exists, turns-keep, started}
 use Rattle.tau_model.proofs.Theorems.{orderly_redo_law}
 use Rattle.tau_scan.specs.Taken.{Kept, taken}
-use Rattle.tau_replay.specs.Laws.{OrderlyTurns, SomeReady, RunsAgree, place_of, waiting, kept_of}
+use Rattle.tau_scan.specs.declared.log.Log.{Log}
+use Rattle.tau_replay.specs.Redone.{IsOrderOf}
+use Rattle.tau_replay.specs.Laws.{OrderlyTurns, SomeReady, RunsAgree, OrdersAgree, OneRecovery, RunsOrdersAgree, place_of, waiting, kept_of}
+use Rattle.tau_replay.proofs.Ones.{tables_one}
 
 pub orderly-turns : OrderlyTurns
 orderly-turns records order turns is = finished place_of records turns order is
@@ -47,6 +51,20 @@ map-map {A} {B} {C} g f (x ∷ xs) = ap (λ (zs : List C). g (f x) ∷ zs) (map-
 abbrev content_of : Kept → Content
 content_of r = r.content
 
+-- redoing an order of the records that a cut holds is executing just their calls
+cut_redone : (procs : List Proc) (h : List Numbered) (place : Numbered → Place) (ends : List ℕ) → IsLogged place ends (trace (means procs) h empty_db) →
+    (cut : List ℕ) (chosen : Numbered → Bool) → IsCutAt place cut (trace (means procs) h empty_db) chosen → (mode : Act Numbered → LogMode) (log : Log) → log.declarations.procs ≡ procs →
+    Reordered (map (kept_of place mode) (filter (λ x. chosen x.call) (trace (means procs) h empty_db))) (taken log) → (order : List Kept) → IsOrderOf log order →
+    redo_contents log.declarations.procs (map content_of order) empty_db ≡ exec (means procs) (filter chosen h) empty_db
+cut_redone procs h place ends logged cut chosen is_cut mode log same_procs same order o =
+    let held : List (Act Numbered) = filter (λ x. chosen x.call) (trace (means procs) h empty_db) in
+    let redo = orderly_redo_law procs h empty_db place ends logged cut chosen is_cut in
+    let (ys, is, more) = lift (kept_of place mode) held order (reordered-trans (map (kept_of place mode) held) (taken log) order same o.each_once) in
+    let orderly : Orderly (map (λ (x : Act Numbered). place x.call) ys) = subst (λ (ps : List Place). Orderly ps) (ap (λ (os : List Kept). map place_of os) is ∙ map-map place_of (kept_of place mode) ys) o.orderly in
+    let done : redo_contents procs (map (λ (x : Act Numbered). content (mode x) x) ys) empty_db ≡ exec (means procs) (filter chosen h) empty_db = redo.1 ys mode more orderly in
+    let contents : map content_of order ≡ map (λ (x : Act Numbered). content (mode x) x) ys = ap (λ (os : List Kept). map content_of os) is ∙ map-map content_of (kept_of place mode) ys in
+    ap (λ (ps : List Proc). redo_contents ps (map content_of order) empty_db) same_procs ∙ ap (λ (cs : List Content). redo_contents procs cs empty_db) contents ∙ done
+
 pub runs-agree : RunsAgree
 runs-agree procs h place ends logged cut chosen is_cut mode log same_procs same =
     let held : List (Act Numbered) = filter (λ x. chosen x.call) (trace (means procs) h empty_db) in
@@ -55,10 +73,13 @@ runs-agree procs h place ends logged cut chosen is_cut mode log same_procs same 
         map (kept_of place mode) held,
         record { each_once = reordered-sym (map (kept_of place mode) held) (taken log) same; orderly = subst (λ (ps : List Place). Orderly ps) (sym (map-map place_of (kept_of place mode) held)) redo.0 },
       ),
-      λ rows r.
-          let (ys, is, more) = lift (kept_of place mode) held r.order (reordered-trans (map (kept_of place mode) held) (taken log) r.order same r.is_order.each_once) in
-          let orderly : Orderly (map (λ (x : Act Numbered). place x.call) ys) = subst (λ (ps : List Place). Orderly ps) (ap (λ (os : List Kept). map place_of os) is ∙ map-map place_of (kept_of place mode) ys) r.is_order.orderly in
-          let done : redo_contents procs (map (λ (x : Act Numbered). content (mode x) x) ys) empty_db ≡ exec (means procs) (filter chosen h) empty_db = redo.1 ys mode more orderly in
-          let contents : map content_of r.order ≡ map (λ (x : Act Numbered). content (mode x) x) ys = ap (λ (os : List Kept). map content_of os) is ∙ map-map content_of (kept_of place mode) ys in
-          subst (λ (db : Db). IsTablesOf db rows) (ap (λ (ps : List Proc). redo_contents ps (map content_of r.order) empty_db) same_procs ∙ ap (λ (cs : List Content). redo_contents procs cs empty_db) contents ∙ done) r.tables,
+      λ rows r. subst (λ (db : Db). IsTablesOf db rows) (cut_redone procs h place ends logged cut chosen is_cut mode log same_procs same r.order r.is_order) r.tables,
     )
+
+pub runs-orders_agree : RunsOrdersAgree
+runs-orders_agree procs h place ends logged cut chosen is_cut mode log same_procs same one other a b =
+    cut_redone procs h place ends logged cut chosen is_cut mode log same_procs same one a ∙ sym (cut_redone procs h place ends logged cut chosen is_cut mode log same_procs same other b)
+
+pub one-recovery : OneRecovery
+one-recovery log rows other agree a b =
+    tables_one (redo_contents log.declarations.procs (map content_of b.order) empty_db) rows other (subst (λ (db : Db). IsTablesOf db rows) (agree a.order b.order a.is_order b.is_order) a.tables) b.tables

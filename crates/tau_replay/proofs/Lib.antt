@@ -4,6 +4,7 @@ pub mod Going
 pub mod Hands
 pub mod Following
 pub mod Tangles
+pub mod Ones
 pub mod Histories
 pub mod Sounds
 pub mod Totals

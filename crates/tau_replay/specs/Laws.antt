@@ -8,7 +8,7 @@ use Rattle.tau_base.specs.Database.{empty_db}
 use Rattle.tau_proc.specs.declared.proc.Proc.{Proc}
 use Rattle.tau_model.specs.History.{Numbered, Act, means, trace, exec, Member, Reordered}
 use Rattle.tau_model.specs.Logged.{Place, IsLogged, IsCutAt, Orderly}
-use Rattle.tau_model.specs.Redo.{content}
+use Rattle.tau_model.specs.Redo.{content, redo_contents}
 use Rattle.tau_model.specs.Replay.{Replaying, Turn, Turns, IsReady}
 use Rattle.tau_model.specs.Tables.{IsTablesOf}
 use Rattle.tau_scan.specs.declared.log.Log.{Log}
@@ -43,6 +43,21 @@ RunsAgree = (procs : List Proc) (h : List Numbered) (place : Numbered → Place)
     (cut : List ℕ) (chosen : Numbered → Bool) → IsCutAt place cut (trace (means procs) h empty_db) chosen → (mode : Act Numbered → LogMode) (log : Log) → log.declarations.procs ≡ procs →
     Reordered (map (kept_of place mode) (filter (λ x. chosen x.call) (trace (means procs) h empty_db))) (taken log) →
     ((order : List Kept) × IsOrderOf log order) × ((rows : List (Key × Value)) → IsRedone log rows → IsTablesOf (exec (means procs) (filter chosen h) empty_db) rows)
+
+-- all orderly orders of the taken records give one database
+abbrev pub OrdersAgree : Log → Type 0
+OrdersAgree log = (one other : List Kept) → IsOrderOf log one → IsOrderOf log other →
+    redo_contents log.declarations.procs (map (λ (r : Kept). r.content) one) empty_db ≡ redo_contents log.declarations.procs (map (λ (r : Kept). r.content) other) empty_db
+
+-- Where they do, recovery gives one list of rows, however many workers there are and whatever their turns.
+abbrev pub OneRecovery : Type 0
+OneRecovery = (log : Log) (rows other : List (Key × Value)) → OrdersAgree log → IsRedone log rows → IsRedone log other → rows ≡ other
+
+-- They do where the taken records are those that a cut of a history holds.
+abbrev pub RunsOrdersAgree : Type 0
+RunsOrdersAgree = (procs : List Proc) (h : List Numbered) (place : Numbered → Place) (ends : List ℕ) → IsLogged place ends (trace (means procs) h empty_db) →
+    (cut : List ℕ) (chosen : Numbered → Bool) → IsCutAt place cut (trace (means procs) h empty_db) chosen → (mode : Act Numbered → LogMode) (log : Log) → log.declarations.procs ≡ procs →
+    Reordered (map (kept_of place mode) (filter (λ x. chosen x.call) (trace (means procs) h empty_db))) (taken log) → OrdersAgree log
 
 -- where recovery gets stuck is told in one way
 abbrev pub TangledAlike : Type 0

@@ -12,7 +12,10 @@ mod view;
 mod visit;
 mod worker;
 
-pub use laws::{orderly_turns, runs_agree, some_ready, tangled_alike, tangled_has_no_order};
+pub use laws::{
+    one_recovery, orderly_turns, runs_agree, runs_orders_agree, some_ready, tangled_alike,
+    tangled_has_no_order,
+};
 pub use replay::replay_turns;
 pub use threads::replay_threads;
 
