@@ -1,18 +1,16 @@
 -- The core that the head puts together stands.
-use Rattle.std.proofs.Common.{ℕ, ◌+◌, ◌-◌, ◌<◌, ◌≤◌, ◌==◌, ◌≡◌, inl, inr, Bool, true, false, List, [], ◌∷◌, ◌++◌, length, refl, sym, ap, subst, ◌∙◌, Option, arith, eq-eqb, ne_eqb}
-use Rattle.std.specs.Prelude.{Some, None, if◌then◌else◌, nat_le, slice_get, slice_index}
+use Rattle.std.proofs.Common.{ℕ, ◌+◌, ◌-◌, ◌<◌, ◌≤◌, ◌==◌, ◌≡◌, inl, inr, false, List, [], ◌∷◌, length, refl, sym, ap, subst, ◌∙◌, Option, arith, ne_eqb}
+use Rattle.std.specs.Prelude.{Some, None, slice_get, slice_index}
 use Rattle.std.proofs.lemmas.Bool.Decides.{leb_tells}
 use Rattle.std.proofs.lemmas.List.{ext_get_or}
-use Rattle.std.proofs.lemmas.Option.{slice_get_within}
 use Rattle.atomic_table.specs.Table.{Final, Seen as SeenBy}
 use Rattle.tau_shown.proofs.Steps.{Closes, closes_all}
 use Rattle.tau_base.specs.declared.limits.TheConstants.{SHARDS}
 use Rattle.tau_model.specs.History.{Act}
-use Rattle.tau_model.specs.declared.committed.Committed.{Committed}
 use Rattle.tau_machine.specs.Hands.{Txn}
 use Rattle.tau_machine.specs.Invariant.{Invariant}
 use Rattle.tau_machine.specs.Reports.{in_turn}
-use Rattle.tau_machine.specs.State.{Core, Item, Outbox, start_of, past_of}
+use Rattle.tau_machine.specs.State.{Core, Item, start_of, past_of}
 use Rattle.tau_machine.specs.Worker.{Worker}
 use Rattle.tau_outbox.specs.declared.Piece.{Piece}
 use Rattle.tau_outbox.specs.Pieces.{bytes_of}
@@ -21,17 +19,16 @@ use Rattle.tau_shard.specs.Read.{shard_of}
 use Rattle.tau_core.specs.declared.state.Load.{Load}
 use Rattle.tau_core.specs.Plain.{PlainSeat, PlainStream}
 use Rattle.tau_core.specs.State.{Plain}
-use Rattle.tau_core.specs.View.{setting_of, committed_by, seat_worker, core_of, tickets}
+use Rattle.tau_core.specs.View.{setting_of, committed_by, seat_worker, tickets}
 use Rattle.tau_core.specs.Pieces.{IsPieceOf, Paired, Spelled}
-use Rattle.tau_core.specs.Opens.{nothing}
-use Rattle.tau_core.specs.Parts.{no_shard, nobody, anchors_of, AtRest, Shows, AreShown, IsOfParts, hidden_of}
+use Rattle.tau_core.specs.Parts.{no_shard, nobody, anchors_of, Shows, AreShown, IsOfParts, hidden_of}
 use Rattle.tau_core.proofs.Lists.{some-at}
 use Rattle.tau_core.proofs.Merged.{in-turn-listed}
 use Rattle.tau_rule.specs.Role.{Managed, Share, Working, Managing, Clerking, Role}
 use Rattle.tau_rule.specs.Knows.{Knows}
 use Rattle.tau_rule.specs.Rule.{Now, Rule, anchors_at, IsOutbox, IsPart, IsShare, IsManaged, IsRole, Sees, Meets, has, hand_of, outbox_part, part_count, manager_role, word_of}
 use Rattle.tau_rule.proofs.Turns.{reached-invariant}
-use Rattle.tau_desk.specs.Close.{IsShardOf, IsBoxOf, IsSeatOf, IsStreamOf, PutTogether, IsClosed}
+use Rattle.tau_desk.specs.Close.{IsShardOf, IsBoxOf, IsStreamOf, PutTogether, IsClosed}
 use Rattle.tau_rule.specs.declared.part.Part.{Part}
 use Rattle.tau_rule.specs.declared.part.Part.TheVariants as part
 

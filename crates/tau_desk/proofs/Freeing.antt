@@ -1,5 +1,5 @@
 -- A worker frees a key.
-use Rattle.std.proofs.Common.{◌≡◌, ℕ, ◌<◌, false, true, Bool, inl, inr, List, [], ◌∷◌, Option, refl, sym, ap, ◌∙◌, subst}
+use Rattle.std.proofs.Common.{◌≡◌, ℕ, true, inl, inr, List, [], ◌∷◌, Option, refl, sym, ap, ◌∙◌, subst}
 use Rattle.std.specs.Prelude.{Some, None, IsSome}
 use Rattle.std.specs.Map.{lookup}
 use Rattle.tau_base.specs.declared.value.Key.{Key}
@@ -14,16 +14,13 @@ use Rattle.tau_machine.specs.Hands.{Txn, Hand, Phase, Running, Freeing, mode_of,
 use Rattle.tau_machine.specs.Good.{InPhase}
 use Rattle.tau_machine.specs.State.{sight}
 use Rattle.std.proofs.lemmas.Bool.{cases_Bool}
-use Rattle.tau_machine.specs.Shard.{Shard, Entry, entry_in, shard_freed}
+use Rattle.tau_machine.specs.Shard.{Shard, entry_in, shard_freed}
 use Rattle.tau_machine.specs.Worker.{Worker, begun, begun_by, fresh, hand_freed, hand_joined}
 use Rattle.tau_machine.specs.Events.{Free}
 use Rattle.tau_txn.specs.Next as txn
 use Rattle.tau_txn.specs.Txn.{PlainTxn, hand_in, worker_of}
 use Rattle.tau_core.specs.State.{Plain}
 use Rattle.tau_core.specs.View.{setting_of}
-use Rattle.tau_rule.specs.Role.{Role}
-use Rattle.tau_rule.specs.Knows.{Knows}
-use Rattle.tau_rule.specs.Rule.{has}
 use Rattle.tau_rule.specs.Steps.{Sat, Agrees, IsReady, StepsShard, next_worker, shard_in}
 use Rattle.tau_rule.specs.declared.part.Part.{Part}
 use Rattle.tau_rule.proofs.Turns.{part-shard, reached-invariant, share-worker, one-role}

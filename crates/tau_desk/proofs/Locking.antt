@@ -1,5 +1,5 @@
 -- A worker locks a key, or meets Busy.
-use Rattle.std.proofs.Common.{◌≡◌, ◌≤◌, ℕ, ◌<◌, false, Bool, List, [], ◌∷◌, ◌++◌, Option, length, refl, sym, ap, ◌∙◌, subst, arith}
+use Rattle.std.proofs.Common.{◌≡◌, ◌≤◌, ℕ, false, List, [], Option, length, refl, sym, ap, ◌∙◌, subst, arith}
 use Rattle.std.specs.Prelude.{Some, None}
 use Rattle.tau_base.specs.declared.value.Key.{Key}
 use Rattle.tau_base.specs.declared.value.Value.{Value}
@@ -23,9 +23,8 @@ use Rattle.tau_txn.specs.Next as txn
 use Rattle.tau_txn.specs.Txn.{PlainTxn, hand_in, shown, shown_of, worker_of, worker_in, dep_in, RunsBy}
 use Rattle.tau_core.specs.State.{Plain}
 use Rattle.tau_core.specs.View.{setting_of}
-use Rattle.tau_rule.specs.Role.{Role}
 use Rattle.tau_rule.specs.Knows.{Knows}
-use Rattle.tau_rule.specs.Steps.{Sat, Agrees, IsWorker, IsReady, IsAfter, StepsShard, next_worker, told, handed, working, shard_in}
+use Rattle.tau_rule.specs.Steps.{Sat, Agrees, IsReady, IsAfter, StepsShard, next_worker, told, working, shard_in}
 use Rattle.tau_rule.specs.declared.part.Part.{Part}
 use Rattle.tau_rule.proofs.Gives.{told-is}
 use Rattle.tau_rule.proofs.Turns.{part-shard, reached-invariant}

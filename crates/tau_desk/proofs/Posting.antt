@@ -1,7 +1,6 @@
 -- A worker posts the record of its call.
-use Rattle.std.proofs.Common.{◌≡◌, ℕ, ◌+◌, ◌<◌, ◌≤◌, ◌⊎◌, inl, inr, List, [], ◌∷◌, ◌++◌, Option, length, refl, sym, ap, ◌∙◌, subst, arith}
-use Rattle.std.specs.Prelude.{Some, None, replicate, slice_get, slice_index}
-use Rattle.tau_base.specs.declared.limits.TheConstants.{SHARDS}
+use Rattle.std.proofs.Common.{◌≡◌, ℕ, ◌≤◌, inl, inr, List, [], ◌∷◌, ◌++◌, Option, refl, sym, ap, ◌∙◌, subst}
+use Rattle.std.specs.Prelude.{Some, None}
 use Rattle.tau_model.specs.History.{Act, Numbered}
 use Rattle.tau_machine.specs.Hands.{Txn, Hand, Running, Placed, Freeing}
 use Rattle.tau_machine.specs.State.{Record}
@@ -15,11 +14,10 @@ use Rattle.tau_core.specs.View.{setting_of}
 use Rattle.tau_rule.specs.Role.{Role}
 use Rattle.tau_core.specs.Pieces.{Names, IsPieceOf}
 use Rattle.tau_rule.specs.Knows.{Knows}
-use Rattle.tau_rule.specs.Rule.{Now, IsPart, Sees, anchors_at, outbox_part}
+use Rattle.tau_rule.specs.Rule.{Now, Sees, anchors_at, outbox_part}
 use Rattle.tau_rule.specs.Steps.{Sat, Agrees, IsReady, holding, first_role, next_worker}
 use Rattle.tau_rule.specs.Boxes.{BoxOf, box_in, StepsBox, IsToPost}
 use Rattle.tau_rule.specs.declared.part.Part.{Part}
-use Rattle.tau_rule.specs.declared.part.Part.TheVariants as part
 use Rattle.tau_rule.proofs.Turns.{one-role, share-worker}
 use Rattle.tau_rule.proofs.Workers.{worker-shown}
 use Rattle.tau_rule.proofs.Boxes.{part-rooms, posts, posts-behind, part-box}

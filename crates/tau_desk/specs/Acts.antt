@@ -1,10 +1,6 @@
 -- What a worker's actions come to.
-use Rattle.std.specs.Prelude.{ℕ, ◌≡◌, [], Some}
-use Rattle.tau_machine.specs.Hands.{Hand}
-use Rattle.tau_machine.specs.Events.{Lock, Busy}
+use Rattle.std.specs.Prelude.{ℕ, ◌≡◌, []}
 use Rattle.tau_txn.specs.Txn.{PlainTxn}
-use Rattle.tau_txn.specs.Next.{next_action}
-use Rattle.tau_txn.specs.declared.action.Action.TheVariants as action
 use Rattle.tau_core.specs.State.{Plain}
 use Rattle.tau_rule.specs.Steps.{Sat, told, IsAfter}
 use Rattle.tau_desk.specs.declared.work.Acted.{Acted}

@@ -1,6 +1,6 @@
 -- The ends of a desk: what it opens with, what leaves the head and comes back, and what it gives when it closes.
-use Rattle.std.specs.Prelude.{ℕ, ◌+◌, ◌<◌, ◌≡◌, Some, None, List, [], slice_get}
-use Rattle.tau_model.specs.History.{Act, Numbered}
+use Rattle.std.specs.Prelude.{ℕ, ◌+◌, ◌<◌, ◌≡◌, Some, List, [], slice_get}
+use Rattle.tau_model.specs.History.{Act}
 use Rattle.tau_machine.specs.Hands.{Txn}
 use Rattle.tau_machine.specs.Reports.{in_turn}
 use Rattle.tau_core.specs.Opens.{Opened}
@@ -12,7 +12,7 @@ use Rattle.tau_core.specs.View.{Hidden, core_of}
 use Rattle.tau_rule.specs.Role.{Role}
 use Rattle.tau_rule.specs.Knows.{Knows}
 use Rattle.tau_rule.specs.Rule.{IsOutbox, IsRole, Meets, Now, Sees, anchors_at, has}
-use Rattle.tau_rule.specs.Heads.{both, left_by, role_or, split_as, split_off}
+use Rattle.tau_rule.specs.Heads.{both, left_by, split_as, split_off}
 use Rattle.tau_rule.specs.First.{first_view}
 use Rattle.tau_rule.specs.Steps.{Sat}
 

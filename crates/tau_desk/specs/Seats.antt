@@ -1,5 +1,5 @@
 -- The seats: each knows what its actor has of its own.
-use Rattle.std.specs.Prelude.{ℕ, ◌+◌, ◌<◌, ◌≡◌, Bool, true, Option, Some, None, List, [], ◌∷◌, length, replicate, slice_get}
+use Rattle.std.specs.Prelude.{ℕ, ◌≡◌, Bool, true, Option, Some, None, List, [], ◌∷◌, length, replicate, slice_get}
 use Rattle.atomic_table.specs.Seated.{TableId}
 use Rattle.tau_machine.specs.State.{Ticket}
 use Rattle.tau_txn.specs.Next.{next_action}

@@ -1,16 +1,15 @@
 -- What an actor has of its own at run time, and how it is what its seat knows.
-use Rattle.std.specs.Prelude.{ℕ, ◌+◌, ◌<◌, ◌≤◌, ◌≡◌, is_some, true, false, Bool, Option, Some, None, List, [], ◌++◌, length}
+use Rattle.std.specs.Prelude.{ℕ, ◌+◌, ◌<◌, ◌≤◌, ◌≡◌, is_some, true, false, Option, Some, None, List, ◌++◌, length}
 use Rattle.tau_model.specs.declared.committed.Committed.{Committed}
 use Rattle.tau_model.specs.History.{Member}
 use Rattle.tau_machine.specs.Hands.{Hand}
 use Rattle.tau_machine.specs.Worker.{Worker, begun}
 use Rattle.tau_outbox.specs.Pieces.{PlainOutbox}
-use Rattle.tau_txn.specs.Txn.{PlainTxn, RunsBy, hand_in, has_joined, leaves_in}
+use Rattle.tau_txn.specs.Txn.{PlainTxn, RunsBy, hand_in, has_joined}
 use Rattle.tau_txn.specs.Next.{next_action}
 use Rattle.tau_txn.specs.declared.action.Action.TheVariants as action
 use Rattle.tau_core.specs.declared.state.Load.{Load}
-use Rattle.tau_core.specs.State.{Plain}
-use Rattle.tau_core.specs.View.{again_in, all_numbered, call_of, from_on, worker_of}
+use Rattle.tau_core.specs.View.{again_in, all_numbered, call_of, from_on}
 use Rattle.tau_core.specs.Stands.{AreNumbers, IsNumber}
 use Rattle.tau_desk.specs.declared.mark.Mark.{Mark}
 use Rattle.tau_rule.specs.Role.{Managed, Managing, Role, Working}

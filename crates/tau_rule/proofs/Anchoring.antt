@@ -1,28 +1,24 @@
 -- A manager places an anchor: what names anchors goes on naming them.
-use Rattle.std.proofs.Common.{◌≡◌, ℕ, zero, suc, ◌+◌, ◌-◌, ◌*◌, ◌%◌, ◌^◌, ◌<◌, ◌≤◌, ◌⊎◌, inl, inr, List, [], ◌∷◌, ◌++◌, Option, length, refl, sym, ap, ◌∙◌, subst, arith, add-zero, length-append, length-set, get_or-set_same, get_or-set_other, ⊎_elim}
+use Rattle.std.proofs.Common.{◌≡◌, ℕ, zero, suc, ◌+◌, ◌-◌, ◌*◌, ◌%◌, ◌^◌, ◌<◌, ◌≤◌, inl, inr, List, [], ◌∷◌, ◌++◌, Option, length, refl, sym, ap, ◌∙◌, subst, arith, add-zero, length-append, get_or-set_same, get_or-set_other}
 use Rattle.std.specs.Prelude.{Some, None, slice_get, slice_index, slice_set}
 use Rattle.std.proofs.Math.Nat.{mod-eq_of_lt}
 use Rattle.std.proofs.lemmas.List.{append-nil}
 use Rattle.std.proofs.lemmas.Bool.{cases_eq}
-use Rattle.atomic_table.specs.Table.{Me, Step, Allows}
+use Rattle.atomic_table.specs.Table.{Step, Allows}
 use Rattle.tau_shown.proofs.Steps.{words_step}
-use Rattle.tau_base.specs.declared.limits.TheConstants.{SHARDS, MAX_RECORD, MAX_CALLS}
-use Rattle.tau_base.specs.Vectors.{AtMost}
-use Rattle.tau_model.specs.History.{Act}
-use Rattle.tau_machine.specs.Hands.{Txn}
+use Rattle.tau_base.specs.declared.limits.TheConstants.{MAX_RECORD}
 use Rattle.tau_machine.specs.Shard.{at}
-use Rattle.tau_machine.specs.State.{Item, Record, Anchor, Stream, Core}
-use Rattle.tau_machine.specs.Events.{Event, PlaceAnchor, Leads, with_stream}
+use Rattle.tau_machine.specs.State.{Item, Record, Anchor, Stream}
+use Rattle.tau_machine.specs.Events.{PlaceAnchor, Leads, with_stream}
 use Rattle.tau_machine.proofs.At.{at-same, at-other}
 use Rattle.tau_outbox.specs.declared.Piece.{Piece}
 use Rattle.tau_core.specs.State.{Plain}
 use Rattle.tau_core.specs.View.{setting_of}
-use Rattle.tau_rule.specs.Role.{Managed, Share, Working, Managing, Clerking, Role, role_in}
-use Rattle.tau_core.specs.Pieces.{Names, IsRecordOf, AreBytesOf, IsPieceOf, Paired, Spelled}
+use Rattle.tau_rule.specs.Role.{Share, Working, Managing, Clerking, Role}
+use Rattle.tau_core.specs.Pieces.{Names, AreBytesOf, IsPieceOf, Paired, Spelled}
 use Rattle.tau_rule.specs.Knows.{Knows}
-use Rattle.tau_rule.specs.Rule.{Now, Rule, IsPart, IsShare, IsManaged, IsRole, IsOutbox, Sees, Meets, MAX_ANCHOR, anchors_at, word_of, hand_of, has, part_count, manager_role}
+use Rattle.tau_rule.specs.Rule.{Now, Rule, IsPart, IsShare, IsManaged, IsRole, Sees, Meets, MAX_ANCHOR, anchors_at, word_of, hand_of, has, part_count, manager_role}
 use Rattle.tau_rule.specs.Steps.{Sat}
-use Rattle.tau_rule.specs.Positions.{IsManager}
 use Rattle.tau_rule.specs.Places.{got_place}
 use Rattle.tau_rule.specs.Anchoring.{anchored, anchored_view, IsToAnchor}
 use Rattle.tau_rule.specs.declared.part.Part.{Part}

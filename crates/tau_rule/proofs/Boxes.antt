@@ -1,16 +1,13 @@
 -- A worker's events on its outbox: the step, and Post.
-use Rattle.std.proofs.Common.{◌≡◌, ◌≢◌, ℕ, ◌+◌, ◌*◌, ◌<◌, ◌≤◌, ◌⊎◌, inl, inr, List, [], ◌∷◌, ◌++◌, Option, length, refl, sym, ap, ◌∙◌, subst, arith, length-append, add-zero}
-use Rattle.std.specs.Prelude.{Some, None, slice_index, replicate}
-use mathlib.Core.Option.{none}
-use Rattle.atomic_table.specs.Table.{State, Me, Step, step, Allows}
+use Rattle.std.proofs.Common.{◌≡◌, ℕ, ◌+◌, ◌<◌, ◌≤◌, inl, inr, List, [], ◌∷◌, ◌++◌, Option, length, refl, sym, ap, ◌∙◌, subst, arith, length-append}
+use Rattle.std.specs.Prelude.{Some}
 use Rattle.tau_shown.proofs.Steps.{gives_part}
-use Rattle.tau_base.specs.declared.limits.TheConstants.{SHARDS}
 use Rattle.tau_model.specs.History.{Act, Member}
-use Rattle.tau_machine.specs.Hands.{Txn, Hand, Phase, Placed, Freeing}
+use Rattle.tau_machine.specs.Hands.{Txn, Hand, Placed, Freeing}
 use Rattle.tau_machine.specs.Shard.{at}
-use Rattle.tau_machine.specs.Worker.{Worker, begun}
+use Rattle.tau_machine.specs.Worker.{Worker}
 use Rattle.tau_machine.specs.Pieces.{placed_in, placed_of}
-use Rattle.tau_machine.specs.State.{Core, Outbox, Item, Record, start_of, past_of}
+use Rattle.tau_machine.specs.State.{Outbox, Item, Record, past_of}
 use Rattle.tau_machine.specs.Events.{Event, Post, Leads, with_worker, with_outbox}
 use Rattle.tau_machine.proofs.At.{at-same, at-other}
 use Rattle.tau_outbox.specs.declared.Piece.{Piece}
@@ -20,12 +17,12 @@ use Rattle.tau_outbox.specs.Pieces.{PlainOutbox}
 use Rattle.tau_ack.specs.Pending.{PlainPending}
 use Rattle.tau_core.specs.State.{Plain}
 use Rattle.tau_core.specs.View.{setting_of}
-use Rattle.tau_rule.specs.Role.{Share, Working, Managing, Clerking, Role, role_in}
+use Rattle.tau_rule.specs.Role.{Share, Working, Managing, Clerking, Role}
 use Rattle.tau_core.specs.Pieces.{IsPieceOf, Paired}
 use Rattle.tau_rule.specs.Knows.{Knows}
-use Rattle.tau_rule.specs.Rule.{Now, Rule, IsPart, IsShare, IsRole, IsOutbox, Sees, Meets, anchors_at, word_of, hand_of, has, part_count, manager_role, outbox_part}
-use Rattle.tau_rule.specs.Steps.{Sat, ComesHome, handed, first_role, worker_in_share, next_worker}
-use Rattle.tau_rule.specs.Boxes.{BoxOf, box_in, with_box, StepsBox, GivesBox, GivesOutbox, told_box}
+use Rattle.tau_rule.specs.Rule.{Now, IsPart, IsShare, IsRole, IsOutbox, Sees, Meets, anchors_at, word_of, hand_of, has, part_count, outbox_part}
+use Rattle.tau_rule.specs.Steps.{ComesHome, handed, first_role, worker_in_share, next_worker}
+use Rattle.tau_rule.specs.Boxes.{BoxOf, box_in, with_box, StepsBox, GivesBox, told_box}
 use Rattle.tau_rule.specs.declared.part.Part.{Part}
 use Rattle.tau_rule.specs.declared.part.Part.TheVariants as part
 use Rattle.tau_core.specs.View.{tickets}

@@ -1,16 +1,15 @@
 -- A manager gathers front pieces of an outbox, one after another.
-use Rattle.std.proofs.Common.{◌≡◌, ℕ, zero, suc, ◌+◌, ◌*◌, ◌^◌, ◌<◌, ◌≤◌, ◌⊎◌, inl, inr, List, [], ◌∷◌, ◌++◌, Option, length, refl, sym, ap, ◌∙◌, subst, arith, add-zero, length-append, length-set, get_or-set_same, get_or-set_other}
+use Rattle.std.proofs.Common.{◌≡◌, ℕ, zero, suc, ◌+◌, ◌*◌, ◌^◌, ◌<◌, ◌≤◌, inl, inr, List, [], ◌∷◌, ◌++◌, Option, length, refl, sym, ap, ◌∙◌, subst, arith, add-zero, length-append, length-set, get_or-set_same, get_or-set_other}
 use Rattle.std.specs.Prelude.{Some, None, slice_index, slice_set}
 use Rattle.std.proofs.Math.Path.{fun_ext}
 use Rattle.std.proofs.lemmas.List.{append-nil, append_assoc}
 use Rattle.std.proofs.lemmas.Bool.{cases_eq}
-use Rattle.tau_base.specs.declared.limits.TheConstants.{MAX_RECORD, SHARDS}
-use Rattle.tau_model.specs.History.{Act, Member}
-use Rattle.tau_machine.specs.Hands.{Txn}
+use Rattle.tau_base.specs.declared.limits.TheConstants.{MAX_RECORD}
+use Rattle.tau_model.specs.History.{Member}
 use Rattle.tau_machine.specs.Shard.{at}
 use Rattle.tau_machine.specs.Pieces.{Chain}
 use Rattle.tau_machine.specs.State.{Setting, Item, Outbox, Stream, Core, start_of, past_of}
-use Rattle.tau_machine.specs.Events.{Event, Gather, Gathered, Leads, stop, record_first, GathersRecord, with_outbox, with_stream}
+use Rattle.tau_machine.specs.Events.{Gather, Gathered, Leads, stop, record_first, GathersRecord, with_outbox, with_stream}
 use Rattle.tau_machine.proofs.At.{at-same, at-other, at-at, at-itself}
 use Rattle.tau_machine.proofs.Pieces.{chain-member}
 use Rattle.tau_outbox.specs.declared.Piece.{Piece}
@@ -19,17 +18,16 @@ use Rattle.tau_outbox.specs.Gather.{Continues}
 use Rattle.tau_ack.specs.Pending.{PlainPending}
 use Rattle.tau_core.specs.State.{Plain}
 use Rattle.tau_core.specs.View.{setting_of, tickets}
-use Rattle.tau_rule.specs.Role.{Managed, Share, Working, Managing, Clerking, Role, role_in}
-use Rattle.tau_core.specs.Pieces.{Names, IsPieceOf, Paired, Spelled}
+use Rattle.tau_rule.specs.Role.{Managed, Share, Working, Managing, Clerking, Role}
+use Rattle.tau_core.specs.Pieces.{Names, IsPieceOf, Paired}
 use Rattle.tau_rule.specs.Knows.{Knows}
-use Rattle.tau_rule.specs.Rule.{MAX_ANCHOR, Now, Rule, IsPart, IsShare, IsManaged, IsRole, IsOutbox, Sees, Meets, anchors_at, word_of, hand_of, has, part_count, manager_role, outbox_part}
-use Rattle.tau_rule.specs.Boxes.{BoxOf, box_in, GivesGathered, gathered_by}
+use Rattle.tau_rule.specs.Rule.{MAX_ANCHOR, Now, IsPart, IsShare, IsManaged, IsRole, IsOutbox, Sees, Meets, anchors_at, word_of, hand_of, has, part_count, manager_role, outbox_part}
+use Rattle.tau_rule.specs.Boxes.{GivesGathered, gathered_by}
 use Rattle.tau_rule.specs.declared.part.Part.{Part}
 use Rattle.tau_rule.specs.declared.part.Part.TheVariants as part
 use Rattle.tau_rule.specs.Steps.{ComesHome, handed}
 use Rattle.tau_rule.proofs.Turns.{reached-invariant, Turn, reached-on, one-role, role-alone, alone}
 use Rattle.tau_rule.proofs.Boxes.{part-box, box-part, part-rooms}
-use Rattle.atomic_table.specs.Table.{Me, Step, Allows}
 use Rattle.tau_shown.proofs.Steps.{gives_part}
 
 set-twice : (xs : List ℕ) (j a b : ℕ) → slice_set (slice_set xs j a) j b ≡ slice_set xs j b

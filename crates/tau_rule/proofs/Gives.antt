@@ -1,9 +1,9 @@
 -- What the steps of the desk ask of the table.
-use Rattle.std.proofs.Common.{◌≡◌, ◌≢◌, ℕ, zero, suc, ◌+◌, ◌*◌, ◌<◌, ◌≤◌, ◌==◌, cond, Bool, List, [], ◌∷◌, ◌++◌, Option, refl, sym, ap, ◌∙◌, subst, arith, ne_eqb}
+use Rattle.std.proofs.Common.{◌≡◌, ℕ, zero, suc, ◌+◌, ◌*◌, ◌<◌, ◌==◌, Bool, List, [], ◌∷◌, Option, refl, sym, ap, ◌∙◌, subst, arith, ne_eqb}
 use Rattle.std.specs.Prelude.{Some, None}
 use mathlib.Core.Option.{none}
 use prog.Atomic.{either}
-use Rattle.atomic_table.specs.Table.{State, Me, Step, step, Allows}
+use Rattle.atomic_table.specs.Table.{Step, step, Allows}
 use Rattle.tau_shown.proofs.Steps.{gives_part, takes_part}
 use Rattle.tau_machine.specs.Shard.{Shard}
 use Rattle.tau_machine.specs.Worker.{Worker}
@@ -16,7 +16,7 @@ use Rattle.tau_rule.specs.Knows.{Knows}
 use Rattle.tau_rule.specs.Rule.{Now, Rule, IsPart, IsRole, Sees, Meets, word_of, hand_of, has, part_count}
 use Rattle.tau_rule.specs.Steps.{Sat, Agrees, Took, ComesHome, idle, holding, took, gave, handed, told, first_role, worker_in_share, next_worker, working, shard_in, StepsShard}
 use Rattle.tau_rule.specs.declared.part.Part.{Part}
-use Rattle.tau_rule.proofs.Turns.{Turn, on_shard, on_shard-turn, handed-sees, part-shard, shard-part, share-worker, one-role, role-alone, alone}
+use Rattle.tau_rule.proofs.Turns.{on_shard, on_shard-turn, handed-sees, part-shard, shard-part, share-worker, one-role, role-alone, alone}
 
 abbrev extra : Plain → ℕ
 extra origin = origin.load.streams + origin.load.streams + 1

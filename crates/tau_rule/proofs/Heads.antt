@@ -1,17 +1,15 @@
 -- Splitting and joining seats.
-use Rattle.std.proofs.Common.{◌≡◌, ◌≢◌, ℕ, ◌+◌, ◌<◌, ◌≤◌, ◌==◌, ◌⊎◌, inl, inr, cond, true, false, Bool, List, [], ◌∷◌, ◌++◌, Option, length, refl, sym, ap, ◌∙◌, subst, arith, eq-eqb, ne_eqb, ⊎_elim}
-use Rattle.std.specs.Prelude.{Some, None, ◌||◌, replicate, slice_index}
-use Rattle.std.proofs.lemmas.Bool.{cases_eq, cases_Bool}
+use Rattle.std.proofs.Common.{◌≡◌, ◌≢◌, ℕ, ◌+◌, ◌⊎◌, inl, inr, cond, true, false, Bool, List, [], ◌∷◌, ◌++◌, length, refl, sym, ap, ◌∙◌, arith, eq-eqb, ne_eqb, ⊎_elim}
+use Rattle.std.specs.Prelude.{Some, None, ◌||◌, replicate}
+use Rattle.std.proofs.lemmas.Bool.{cases_eq}
 use Rattle.atomic_table.specs.Table.{Splits, Joins}
 use Rattle.tau_shown.proofs.Steps.{splits_role, joins_roles}
 use Rattle.tau_base.specs.Vectors.{AtMost, join}
 use Rattle.tau_base.proofs.Vectors.{join-left, join-right, join-below, join-wider}
 use Rattle.tau_core.specs.State.{Plain}
-use Rattle.tau_core.specs.View.{setting_of}
 use Rattle.tau_rule.specs.Role.{Role, role_in}
 use Rattle.tau_rule.specs.Knows.{Knows, spent}
-use Rattle.tau_core.specs.Pieces.{Names}
-use Rattle.tau_rule.specs.Rule.{Now, Rule, IsPart, IsRole, Sees, Meets, anchors_at, word_of, hand_of, has, part_count, manager_role}
+use Rattle.tau_rule.specs.Rule.{Now, Rule, IsPart, IsRole, Sees, Meets, word_of, hand_of, has, part_count, manager_role}
 use Rattle.tau_rule.specs.Heads.{without, role_or, left_by, split_off, both}
 use Rattle.tau_rule.proofs.Turns.{Turn, role-alone, alone}
 

@@ -1,16 +1,14 @@
 -- The table at the beginning shows the opening.
-use Rattle.std.proofs.Common.{◌≡◌, ◌≢◌, ℕ, zero, suc, ◌+◌, ◌-◌, ◌*◌, ◌^◌, ◌<◌, ◌≤◌, ◌==◌, ◌⊎◌, inl, inr, cond, true, false, Bool, List, [], ◌∷◌, ◌++◌, Option, length, refl, sym, ap, ◌∙◌, subst, arith, eq-eqb, ne_eqb, ⊎_elim, add-zero, le_refl}
-use Rattle.std.specs.Prelude.{Some, None, if◌then◌else◌, nat_le, replicate, slice_get, slice_index, slice_index_or}
+use Rattle.std.proofs.Common.{◌≡◌, ℕ, zero, suc, ◌+◌, ◌-◌, ◌*◌, ◌^◌, ◌<◌, ◌≤◌, inl, inr, cond, true, false, Bool, List, [], Option, length, refl, sym, ap, ◌∙◌, subst, arith, eq-eqb, ne_eqb}
+use Rattle.std.specs.Prelude.{Some, None, if◌then◌else◌, replicate, slice_get, slice_index, slice_index_or}
 use Rattle.std.proofs.lemmas.Bool.{cases_eq}
 use Rattle.std.proofs.lemmas.Bool.Decides.{leb_tells}
 use mathlib.Core.Option.{some}
 use lib.ListN.{get_elem?}
-use Rattle.atomic_table.specs.Table.{State, opening}
+use Rattle.atomic_table.specs.Table.{opening}
 use Rattle.tau_shown.proofs.Steps.{opens}
 use Rattle.tau_base.specs.declared.limits.TheConstants.{SHARDS}
-use Rattle.tau_machine.specs.Worker.{Worker}
 use Rattle.tau_machine.specs.State.{Core, Ticket, Item}
-use Rattle.tau_machine.specs.Runs.{Run}
 use Rattle.tau_machine.proofs.Results.{goes_on_theorem}
 use Rattle.tau_core.specs.State.{Plain}
 use Rattle.tau_core.specs.View.{setting_of, core_of, worker_in, shard_in, committed_by}
@@ -19,13 +17,11 @@ use Rattle.tau_core.specs.Plain.{PlainSeat}
 use Rattle.tau_model.specs.declared.committed.Committed.{Committed}
 use Rattle.std.proofs.lemmas.Option.{slice_get_past}
 use Rattle.tau_core.specs.Parts.{nobody, no_shard}
-use Rattle.tau_rule.specs.Role.{Managed, Share, Working, Managing, Clerking, Role, role_in}
-use Rattle.tau_core.specs.Pieces.{IsPieceOf, Paired, Spelled}
-use Rattle.tau_rule.specs.Knows.{Knows}
-use Rattle.tau_rule.specs.Rule.{Now, Rule, anchors_at, IsPart, IsShare, IsRole, IsLimited, Sees, Meets, word_of, hand_of, has, part_count, manager_role, clerk_role, is_raised}
+use Rattle.tau_rule.specs.Role.{Role, role_in}
+use Rattle.tau_core.specs.Pieces.{IsPieceOf, Paired}
+use Rattle.tau_rule.specs.Rule.{Now, Rule, anchors_at, IsPart, IsShare, IsRole, IsLimited, Sees, Meets, word_of, hand_of, has, part_count, is_raised}
 use Rattle.tau_rule.specs.First.{worker_share, manager_share, clerk_share, outer_share, share_at, role_at, roles_below, first_view}
 use Rattle.tau_rule.specs.declared.part.Part.{Part}
-use Rattle.tau_rule.proofs.Heads.{in-either}
 
 none_raised : (n : ℕ) → is_raised n (λ u. false) ≡ false
 none_raised zero = refl

@@ -1,14 +1,12 @@
 -- Loads and stores of the words of persisted positions.
-use Rattle.std.proofs.Common.{◌≡◌, ◌≢◌, ℕ, zero, suc, ◌+◌, ◌-◌, ◌*◌, ◌^◌, ◌<◌, ◌≤◌, ◌⊎◌, inl, inr, true, false, Bool, List, [], ◌∷◌, Option, length, set, get_or, refl, sym, ap, ◌∙◌, subst, arith, length-set, get_or-set_same, get_or-set_other, length-append, add-zero}
-use Rattle.std.specs.Prelude.{Some, None, ◌==◌, if◌then◌else◌, slice_index, slice_set, nat_le}
-use Rattle.std.proofs.lemmas.Bool.{cases_eq, eq-eqb, ne_eqb, lt-leb}
+use Rattle.std.proofs.Common.{◌≡◌, ℕ, zero, suc, ◌+◌, ◌-◌, ◌*◌, ◌^◌, ◌<◌, ◌≤◌, ◌⊎◌, inl, inr, false, Bool, List, [], ◌∷◌, Option, length, refl, sym, ap, ◌∙◌, subst, arith, length-set, get_or-set_same, get_or-set_other, length-append, add-zero}
+use Rattle.std.specs.Prelude.{Some, ◌==◌, if◌then◌else◌, slice_index, slice_set, nat_le}
+use Rattle.std.proofs.lemmas.Bool.{cases_eq, ne_eqb, lt-leb}
 use Rattle.std.proofs.lemmas.Bool.Decides.{leb_tells}
 use mathlib.Core.Option.{none}
-use Rattle.atomic_table.specs.Table.{State, Me, Step, step, Allows}
+use Rattle.atomic_table.specs.Table.{Step, step, Allows}
 use Rattle.tau_shown.proofs.Steps.{words_step, loads_word}
-use Rattle.tau_base.specs.Vectors.{AtMost}
-use Rattle.tau_machine.specs.State.{Core}
-use Rattle.tau_machine.specs.Events.{Event, Persist, Leads}
+use Rattle.tau_machine.specs.Events.{Persist, Leads}
 use Rattle.tau_core.specs.State.{Plain}
 use Rattle.tau_core.specs.View.{setting_of}
 use Rattle.tau_rule.specs.Role.{Managed, Share, Working, Managing, Clerking, Role, role_in}

@@ -1,20 +1,18 @@
 -- A call gets its place by adding to the word of its stream.
-use Rattle.std.proofs.Common.{◌≡◌, ◌≢◌, ℕ, zero, suc, ◌+◌, ◌-◌, ◌*◌, ◌%◌, ◌^◌, ◌<◌, ◌≤◌, ◌⊎◌, inl, inr, true, false, Bool, List, [], ◌∷◌, ◌++◌, Option, length, set, get_or, refl, sym, ap, ◌∙◌, subst, arith, length-set, length-append, get_or-set_same, get_or-set_other}
-use Rattle.std.specs.Prelude.{Some, None, ◌==◌, if◌then◌else◌, max, replicate, slice_get, slice_index, slice_set, nat_le}
+use Rattle.std.proofs.Common.{◌≡◌, ℕ, zero, suc, ◌+◌, ◌-◌, ◌*◌, ◌%◌, ◌^◌, ◌<◌, ◌≤◌, ◌⊎◌, inl, inr, true, false, Bool, List, [], ◌∷◌, ◌++◌, Option, length, refl, sym, ap, ◌∙◌, subst, arith, length-append, get_or-set_same, get_or-set_other}
+use Rattle.std.specs.Prelude.{Some, ◌==◌, if◌then◌else◌, max, replicate, slice_get, slice_index, slice_set, nat_le}
 use Rattle.std.proofs.Math.Nat.{mod-eq_of_lt}
-use Rattle.std.proofs.lemmas.Bool.{cases_eq, cases_Bool, eq-eqb, ne_eqb, le-leb, leb-true}
+use Rattle.std.proofs.lemmas.Bool.{cases_eq, ne_eqb, le-leb}
 use mathlib.Core.Option.{none}
-use Rattle.atomic_table.specs.Table.{State, Me, Step, step, Allows}
+use Rattle.atomic_table.specs.Table.{Step, step, Allows}
 use Rattle.tau_shown.proofs.Steps.{words_step}
-use Rattle.tau_base.specs.declared.limits.TheConstants.{SHARDS, MAX_RECORD, MAX_CALLS}
+use Rattle.tau_base.specs.declared.limits.TheConstants.{MAX_RECORD, MAX_CALLS}
 use Rattle.tau_base.specs.Vectors.{join}
 use Rattle.tau_model.specs.History.{Act}
 use Rattle.tau_machine.specs.Hands.{Txn, Hand, Placed, committed_of}
-use Rattle.tau_machine.specs.Stage.{Stage}
-use Rattle.tau_machine.specs.Shard.{at}
 use Rattle.tau_machine.specs.Worker.{Worker, begun, hand_joined}
 use Rattle.tau_machine.specs.State.{Core}
-use Rattle.tau_machine.specs.Events.{Event, Commit, Commits, Leads, with_worker, ready}
+use Rattle.tau_machine.specs.Events.{Commit, Leads, with_worker}
 use Rattle.tau_machine.proofs.At.{at-same, at-other}
 use Rattle.tau_machine.proofs.Commits.{begun-committed}
 use Rattle.tau_txn.specs.Read.{effect_in}
@@ -22,7 +20,7 @@ use Rattle.tau_txn.specs.Next.{act_at}
 use Rattle.tau_txn.specs.Txn.{PlainTxn, RunsBy, hand_in, bytes_in, anchor_in}
 use Rattle.tau_core.specs.State.{Plain}
 use Rattle.tau_core.specs.View.{setting_of}
-use Rattle.tau_rule.specs.Role.{Share, Working, Managing, Clerking, Role, role_in}
+use Rattle.tau_rule.specs.Role.{Share, Working, Managing, Clerking, Role}
 use Rattle.tau_core.specs.Pieces.{Names}
 use Rattle.tau_rule.specs.Knows.{Knows}
 use Rattle.tau_rule.specs.Rule.{Now, Rule, IsPart, IsShare, IsRole, Sees, Meets, MAX_ANCHOR, anchors_at, word_of, hand_of, has, part_count, manager_role, number_if, is_raised}

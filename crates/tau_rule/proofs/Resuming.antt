@@ -1,20 +1,17 @@
 -- A worker's seat is split again for the lowest call that is left over.
-use Rattle.std.proofs.Common.{◌≡◌, ◌≢◌, ℕ, ◌+◌, ◌*◌, ◌<◌, ◌≤◌, ◌⊎◌, inl, inr, List, [], ◌∷◌, ◌++◌, Option, length, refl, sym, ap, ◌∙◌, subst, arith, length-append, add-zero}
+use Rattle.std.proofs.Common.{◌≡◌, ℕ, ◌+◌, ◌*◌, ◌<◌, ◌≤◌, inl, inr, List, [], ◌∷◌, ◌++◌, length, refl, sym, ap, ◌∙◌, subst, arith, length-append, add-zero}
 use Rattle.std.specs.Prelude.{Some, None, slice_index}
 use Rattle.std.proofs.lemmas.Bool.Decides.{leb_tells}
 use Rattle.atomic_table.specs.Table.{Splits}
 use Rattle.tau_shown.proofs.Steps.{splits_role}
-use Rattle.tau_model.specs.History.{Act, Numbered, Member}
-use Rattle.tau_machine.specs.Hands.{Txn}
-use Rattle.tau_machine.specs.Shard.{at}
+use Rattle.tau_model.specs.History.{Numbered, Member}
 use Rattle.tau_machine.specs.Worker.{Worker}
-use Rattle.tau_machine.specs.State.{Core}
-use Rattle.tau_machine.specs.Events.{Event, Resume, Leads, with_worker}
+use Rattle.tau_machine.specs.Events.{Resume, Leads, with_worker}
 use Rattle.tau_machine.proofs.At.{at-same, at-other}
 use Rattle.tau_core.specs.State.{Plain}
 use Rattle.tau_core.specs.View.{setting_of}
 use Rattle.tau_core.specs.Parts.{nobody}
-use Rattle.tau_rule.specs.Role.{Share, Working, Managing, Clerking, Role, role_in}
+use Rattle.tau_rule.specs.Role.{Share, Working, Managing, Clerking, Role}
 use Rattle.tau_rule.specs.Knows.{Knows}
 use Rattle.tau_rule.specs.Rule.{MAX_ANCHOR, Now, Rule, IsPart, IsShare, IsRole, Sees, Meets, word_of, hand_of, has, part_count, manager_role}
 use Rattle.tau_rule.specs.Heads.{left_by, split_as, CanResume, resumed}

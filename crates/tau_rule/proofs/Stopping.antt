@@ -1,21 +1,20 @@
 -- A seat raises the stop, or looks whether it is raised.
-use Rattle.std.proofs.Common.{◌≡◌, ℕ, zero, suc, ◌+◌, ◌-◌, ◌*◌, ◌<◌, ◌≤◌, ◌==◌, ◌⊎◌, inl, inr, true, false, Bool, List, [], ◌∷◌, ◌++◌, Option, refl, sym, ap, ◌∙◌, subst, arith, eq-eqb, ne_eqb}
-use Rattle.std.specs.Prelude.{Some, None, ◌||◌, if◌then◌else◌, nat_le, slice_index}
-use Rattle.std.proofs.lemmas.Bool.{cases_eq, cases_Bool}
-use Rattle.atomic_table.specs.Table.{Me, Step, Allows}
+use Rattle.std.proofs.Common.{◌≡◌, ℕ, zero, suc, ◌+◌, ◌-◌, ◌<◌, ◌==◌, inl, inr, true, false, Bool, [], ◌∷◌, Option, refl, sym, ap, ◌∙◌, subst, arith, eq-eqb, ne_eqb}
+use Rattle.std.specs.Prelude.{Some, ◌||◌, if◌then◌else◌, nat_le, slice_index}
+use Rattle.std.proofs.lemmas.Bool.{cases_eq}
+use Rattle.atomic_table.specs.Table.{Step, Allows}
 use Rattle.tau_shown.proofs.Steps.{words_step, loads_word}
 use Rattle.tau_machine.specs.Shard.{at}
 use Rattle.tau_machine.proofs.At.{at-same, at-other}
 use Rattle.tau_core.specs.State.{Plain}
-use Rattle.tau_core.specs.View.{setting_of}
-use Rattle.tau_rule.specs.Role.{Share, Role, role_in}
+use Rattle.tau_rule.specs.Role.{Role}
 use Rattle.tau_rule.specs.Knows.{Knows}
-use Rattle.tau_rule.specs.Rule.{Now, Rule, IsPart, IsShare, IsRole, Sees, Meets, word_of, hand_of, has, part_count, manager_role, number_if, is_raised}
+use Rattle.tau_rule.specs.Rule.{Now, Rule, IsPart, IsRole, Sees, Meets, word_of, hand_of, has, part_count, manager_role, number_if, is_raised}
 use Rattle.tau_rule.specs.Steps.{Sat, knew}
 use Rattle.tau_rule.specs.Stopping.{stop_word, raising}
 use Rattle.tau_rule.specs.declared.part.Part.{Part}
 use Rattle.tau_rule.specs.declared.part.Part.TheVariants as part
-use Rattle.tau_rule.proofs.Turns.{Turn, one-role, role-alone, alone}
+use Rattle.tau_rule.proofs.Turns.{one-role, role-alone, alone}
 
 raises : (n u : ℕ) (f : ℕ → Bool) → u < n → is_raised n (at u true f) ≡ true
 raises zero u f low = absurd (omega arith)

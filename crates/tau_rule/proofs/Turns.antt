@@ -1,12 +1,12 @@
 -- What an event of the core is on the parts and on what seats know.
-use Rattle.std.proofs.Common.{◌≡◌, ◌≢◌, ℕ, ◌+◌, ◌*◌, ◌<◌, ◌≤◌, ◌==◌, cond, Bool, List, [], ◌∷◌, ◌++◌, Option, refl, sym, ap, ◌∙◌, subst, arith, eq-eqb, ne_eqb, length, length-append}
+use Rattle.std.proofs.Common.{◌≡◌, ℕ, ◌+◌, ◌*◌, ◌<◌, ◌≤◌, cond, List, [], ◌∷◌, ◌++◌, refl, sym, ap, ◌∙◌, subst, arith, eq-eqb, ne_eqb, length, length-append}
 use Rattle.std.specs.Prelude.{Some, None}
 use mathlib.Core.Logic.{dite}
 use native.Mathlib.Decide.{ℕ_discrete}
 use Rattle.tau_base.specs.declared.limits.TheConstants.{SHARDS, MAX_RECORD}
 use Rattle.tau_model.specs.History.{Act}
 use Rattle.tau_machine.specs.Hands.{Txn}
-use Rattle.tau_machine.specs.Shard.{at, Shard}
+use Rattle.tau_machine.specs.Shard.{Shard}
 use Rattle.tau_machine.specs.Worker.{Worker}
 use Rattle.tau_machine.specs.State.{Core}
 use Rattle.tau_machine.specs.Events.{Event, Leads, with_worker, with_shard}
@@ -15,15 +15,13 @@ use Rattle.tau_machine.specs.Invariant.{Invariant}
 use Rattle.tau_machine.proofs.Runs.{lead_on-more, run-invariant}
 use Rattle.tau_core.specs.Opens.{nothing}
 use Rattle.tau_core.specs.View.{core_of}
-use Rattle.tau_shard.specs.Plain.{PlainShard}
-use Rattle.tau_shard.specs.Read.{shard_of}
 use Rattle.tau_shown.specs.Shown.{Turns}
 use Rattle.tau_core.specs.State.{Plain}
 use Rattle.tau_core.specs.View.{setting_of}
 use Rattle.tau_rule.specs.Role.{Share, Working, Managing, Clerking, Role, role_in}
 use Rattle.tau_rule.specs.Knows.{Knows}
 use Rattle.tau_rule.specs.Rule.{IsReached, Now, IsPart, IsShare, IsRole, IsOutbox, Sees, Meets, word_of, hand_of, has, part_count, manager_role}
-use Rattle.tau_rule.specs.Steps.{handed, shard_in, StepsShard, working}
+use Rattle.tau_rule.specs.Steps.{handed, shard_in, working}
 use Rattle.tau_rule.specs.declared.part.Part.{Part}
 use Rattle.tau_rule.specs.declared.part.Part.TheVariants as part
 

@@ -1,5 +1,5 @@
 -- The events of a worker on a shard, from what the shard and the call in hand say.
-use Rattle.std.proofs.Common.{◌≡◌, ℕ, ◌<◌, true, false, ◌⊎◌, inl, inr, Bool, List, [], ◌∷◌, ◌++◌, Option, refl, sym, ap, ◌∙◌, subst}
+use Rattle.std.proofs.Common.{◌≡◌, ℕ, false, ◌⊎◌, inl, inr, List, [], Option, refl, sym, ap, ◌∙◌, subst}
 use Rattle.std.specs.Prelude.{Some, None, ◌==◌}
 use Rattle.std.specs.Map.{lookup}
 use Rattle.std.proofs.lemmas.Bool.{ne_eqb}
@@ -12,10 +12,10 @@ use Rattle.tau_base.specs.Shards.{shard_number}
 use Rattle.tau_proc.specs.declared.proc.Proc.{Proc}
 use Rattle.tau_model.specs.History.{Act}
 use Rattle.tau_machine.specs.Hands.{Txn, Hand, Running, Freeing, mode_of, lv_of}
-use Rattle.tau_machine.specs.Shard.{at, Shard, Entry, entry_in, shard_locked, shard_freed}
+use Rattle.tau_machine.specs.Shard.{Shard, Entry, entry_in, shard_locked, shard_freed}
 use Rattle.tau_machine.specs.Worker.{Worker, begun, hand_locked, hand_busy, settled, hand_freed}
-use Rattle.tau_machine.specs.State.{Setting, Core}
-use Rattle.tau_machine.specs.Events.{Event, Lock, Busy, Free, Leads, Locks, Refuses, Frees, Conflicts, lock_next, ready, with_worker, with_shard}
+use Rattle.tau_machine.specs.State.{Setting}
+use Rattle.tau_machine.specs.Events.{Lock, Busy, Free, Conflicts, lock_next, with_worker, with_shard}
 use Rattle.tau_machine.proofs.At.{at-itself}
 use Rattle.tau_shard.specs.Blocks.{against, blocks, dep_locked}
 use Rattle.tau_txn.specs.declared.standing.Standing.{Standing}
@@ -27,7 +27,7 @@ use Rattle.tau_txn.specs.Next.{IsLowest}
 use Rattle.tau_txn.specs.Txn.{PlainTxn, shown, shown_of, hand_in, worker_of, worker_in, dep_in, dep_by}
 use Rattle.tau_core.specs.State.{Plain}
 use Rattle.tau_core.specs.View.{setting_of}
-use Rattle.tau_rule.specs.Steps.{StepsShard, next_worker}
+use Rattle.tau_rule.specs.Steps.{StepsShard}
 
 -- these four stand in tau_core's lemmas too
 

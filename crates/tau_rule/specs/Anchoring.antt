@@ -1,6 +1,5 @@
 -- A manager places an anchor.
-use Rattle.std.specs.Prelude.{ℕ, false, ◌+◌, ◌-◌, ◌^◌, ◌<◌, ◌≤◌, ◌≡◌, List, [], ◌∷◌, ◌++◌, length, slice_index}
-use Rattle.tau_outbox.specs.declared.Piece.{Piece}
+use Rattle.std.specs.Prelude.{ℕ, false, ◌+◌, ◌-◌, ◌^◌, ◌<◌, ◌≤◌, List, [], ◌∷◌, ◌++◌, length, slice_index}
 use Rattle.tau_record.specs.Format.{One}
 use Rattle.tau_record.specs.Record.{Spells}
 use Rattle.tau_record.specs.declared.entry.Entry.TheVariants as entry

@@ -4,9 +4,9 @@ use Rattle.tau_txn.specs.Next.{next_action}
 use Rattle.tau_txn.specs.declared.action.Action.TheVariants as action
 use Rattle.std.specs.Prelude.{false, ℕ, ◌+◌, ◌≤◌, ◌<◌, ◌≡◌, ◌⊎◌, List, [], ◌∷◌, ◌++◌, length, replicate, Option, Some, None}
 use Rattle.tau_model.specs.History.{Act}
-use Rattle.tau_machine.specs.Hands.{Txn, Hand, Placed, Freeing}
+use Rattle.tau_machine.specs.Hands.{Txn, Hand, Placed}
 use Rattle.tau_machine.specs.Worker.{Worker}
-use Rattle.tau_machine.specs.State.{Core, Outbox}
+use Rattle.tau_machine.specs.State.{Outbox}
 use Rattle.tau_machine.specs.Events.{Event, Leads, with_worker, with_outbox}
 use Rattle.tau_outbox.specs.declared.Piece.{Piece}
 use Rattle.tau_outbox.specs.Pieces.{PlainOutbox, bytes_of}
@@ -15,7 +15,7 @@ use Rattle.tau_ack.specs.Pending.{PlainPending}
 use Rattle.tau_record.specs.Format.{One}
 use Rattle.tau_record.specs.Record.{base_of, Spells}
 use Rattle.tau_txn.specs.Record.{entry_of}
-use Rattle.tau_txn.specs.Txn.{PlainTxn, hand_in, bytes_in, RunsBy}
+use Rattle.tau_txn.specs.Txn.{PlainTxn, hand_in, bytes_in}
 use Rattle.tau_core.specs.State.{Plain}
 use Rattle.tau_core.specs.declared.state.Load.{Load}
 use Rattle.tau_core.specs.View.{setting_of}

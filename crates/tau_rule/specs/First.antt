@@ -1,9 +1,8 @@
 -- What the head knows when nothing has happened: every role, as the opening has it.
-use Rattle.std.specs.Prelude.{ℕ, zero, suc, ◌+◌, ◌-◌, Bool, true, false, if◌then◌else◌, nat_le, List, [], ◌∷◌, Some, None, replicate, slice_index}
-use Rattle.tau_machine.specs.Worker.{Worker}
+use Rattle.std.specs.Prelude.{ℕ, zero, suc, ◌+◌, ◌-◌, false, if◌then◌else◌, nat_le, List, [], ◌∷◌, Some, None, replicate, slice_index}
 use Rattle.tau_core.specs.State.{Plain}
 use Rattle.tau_core.specs.View.{worker_at}
-use Rattle.tau_rule.specs.Role.{Managed, Share, Working, Managing, Clerking, Role}
+use Rattle.tau_rule.specs.Role.{Share, Working, Managing, Clerking, Role}
 use Rattle.tau_rule.specs.Knows.{Knows}
 
 abbrev pub worker_share : Plain → ℕ → Share

@@ -3,8 +3,8 @@ use Rattle.std.specs.Prelude.{ℕ, ◌+◌, ◌^◌, ◌<◌, ◌≤◌, ◌≡�
 use Rattle.tau_base.specs.declared.limits.TheConstants.{MAX_RECORD}
 use Rattle.tau_base.specs.Vectors.{join}
 use Rattle.tau_proc.specs.Effect.{Effect}
-use Rattle.tau_model.specs.History.{Act, updating}
-use Rattle.tau_machine.specs.Hands.{Txn, Hand, Running, Placed, committed_of}
+use Rattle.tau_model.specs.History.{updating}
+use Rattle.tau_machine.specs.Hands.{Hand, Running, Placed, committed_of}
 use Rattle.tau_machine.specs.Stage.{Ends, stage}
 use Rattle.tau_machine.specs.Worker.{Worker, begun, hand_joined}
 use Rattle.tau_machine.specs.Events.{lock_next}

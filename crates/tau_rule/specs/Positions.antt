@@ -1,5 +1,5 @@
 -- Persisted positions: loads and stores of their words.
-use Rattle.std.specs.Prelude.{ℕ, ◌+◌, ◌*◌, ◌^◌, ◌<◌, ◌≤◌, ◌≡◌, List, [], ◌∷◌, slice_index, slice_set, Option, Some, None}
+use Rattle.std.specs.Prelude.{ℕ, ◌+◌, ◌*◌, ◌^◌, ◌<◌, ◌≤◌, ◌≡◌, [], ◌∷◌, slice_index, slice_set, Option, Some}
 use Rattle.atomic_table.specs.Table.{Step}
 use Rattle.tau_core.specs.State.{Plain}
 use Rattle.tau_core.specs.declared.state.Load.{Load}

@@ -1,14 +1,12 @@
 -- The rule of the desk: its words, parts and views show one state of the core.
-use Rattle.std.specs.Prelude.{ℕ, ◌+◌, ◌-◌, ◌*◌, ◌^◌, ◌<◌, ◌≤◌, ◌==◌, ◌≡◌, ◌⊎◌, Bool, true, false, if◌then◌else◌, List, [], ◌∷◌, map, length, Option, Some, None, slice_index, slice_index_or, replicate, zero, suc, nat_le}
+use Rattle.std.specs.Prelude.{ℕ, ◌+◌, ◌-◌, ◌*◌, ◌^◌, ◌<◌, ◌≤◌, ◌==◌, ◌≡◌, Bool, true, false, if◌then◌else◌, List, [], length, Option, Some, None, slice_index, slice_index_or, zero, suc, nat_le}
 use Rattle.tau_base.specs.declared.limits.TheConstants.{SHARDS, MAX_RECORD, MAX_CALLS, MAX_STREAMS, MAX_WORKERS}
 use Rattle.tau_base.specs.Vectors.{AtMost}
-use Rattle.atomic_table.specs.Table.{State, Me, Step}
-use Rattle.tau_machine.specs.State.{Core, Outbox, Stream, Ticket, Item}
-use Rattle.tau_machine.specs.Worker.{Worker}
+use Rattle.atomic_table.specs.Table.{State}
+use Rattle.tau_machine.specs.State.{Core, Outbox}
 use Rattle.tau_shard.specs.Read.{shard_of}
 use Rattle.tau_outbox.specs.Pieces.{PlainOutbox}
 use Rattle.tau_ack.specs.Pending.{PlainPending}
-use Rattle.tau_ack.specs.declared.Waiting.{Waiting}
 use Rattle.tau_shown.specs.Shown.{Shown}
 use Rattle.tau_machine.specs.Runs.{Run}
 use Rattle.tau_machine.specs.Events.{Event}

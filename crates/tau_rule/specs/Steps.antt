@@ -1,5 +1,5 @@
 -- What each step tells.
-use Rattle.std.specs.Prelude.{ℕ, ◌+◌, ◌*◌, ◌<◌, ◌≡◌, ◌≢◌, List, [], ◌∷◌, Option, Some, None, false}
+use Rattle.std.specs.Prelude.{ℕ, ◌*◌, ◌<◌, ◌≡◌, ◌≢◌, List, [], ◌∷◌, Option, Some, None, false}
 use Rattle.atomic_table.specs.Table.{Me, Step, Allows}
 use Rattle.tau_model.specs.History.{Act}
 use Rattle.tau_machine.specs.Hands.{Txn}
@@ -13,7 +13,7 @@ use Rattle.tau_txn.specs.Txn.{PlainTxn, hand_in, worker_of, RunsBy}
 use Rattle.tau_core.specs.State.{Plain}
 use Rattle.tau_core.specs.View.{setting_of}
 use Rattle.tau_core.specs.declared.state.Load.{Load}
-use Rattle.tau_rule.specs.Role.{Share, Working, Managing, Clerking, Role, role_in}
+use Rattle.tau_rule.specs.Role.{Share, Working, Managing, Clerking, Role}
 use Rattle.tau_rule.specs.Knows.{Knows}
 use Rattle.tau_rule.specs.Rule.{Now, IsPart, IsRole, IsReached, Sees, Meets, Rule, has, part_count}
 use Rattle.tau_rule.specs.declared.part.Part.{Part}

@@ -1,6 +1,5 @@
 -- The stop.
-use Rattle.std.specs.Prelude.{ℕ, ◌+◌, ◌*◌, ◌≡◌, true, List, [], ◌∷◌}
-use Rattle.atomic_table.specs.Table.{Step}
+use Rattle.std.specs.Prelude.{ℕ, ◌+◌, ◌*◌, true, [], ◌∷◌}
 use Rattle.tau_core.specs.declared.state.Load.{Load}
 use Rattle.tau_rule.specs.Role.{Role}
 use Rattle.tau_rule.specs.Knows.{Knows}

@@ -1,4 +1,4 @@
-use Rattle.std.proofs.Common.{◌≡◌, sym, ap, subst}
+use Rattle.std.proofs.Common.{sym, ap, subst}
 use Rattle.tau_txn.specs.Txn.{PlainTxn}
 use Rattle.tau_core.specs.State.{Plain}
 use Rattle.tau_rule.specs.Steps.{Sat, IsAfter}

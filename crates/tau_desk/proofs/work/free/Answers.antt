@@ -1,22 +1,17 @@
-use Rattle.std.proofs.Common.{rules, ◌≡◌, ◌+◌, ◌<◌, ℕ, [], ◌∷◌, None, Some, subst, sym, ap, ◌∙◌, List, Option, refl, arith, Bool}
+use Rattle.std.proofs.Common.{◌≡◌, ℕ, [], Some, subst, sym, ap, ◌∙◌, List, refl, Bool}
 use Rattle.std.specs.Option.{IsSome}
-use Rattle.std.specs.Map.{lookup}
 use Rattle.tau_base.specs.declared.value.Key.{Key}
-use Rattle.tau_base.specs.declared.value.Value.{Value}
-use Rattle.tau_base.specs.declared.value.Mode.{Mode}
-use Rattle.tau_base.specs.declared.value.Mode.TheVariants.{Write}
-use Rattle.tau_base.specs.Database.{same_key}
 use Rattle.tau_base.specs.Shards.{shard_number}
 use Rattle.tau_shard.specs.Plain.{PlainShard}
 use Rattle.tau_shard.specs.Read.{shard_of}
-use Rattle.tau_machine.specs.Hands.{Freeing, lv_of}
+use Rattle.tau_machine.specs.Hands.{Freeing}
 use Rattle.tau_machine.specs.Events.{Free}
 use Rattle.tau_machine.specs.Shard.{Shard, entry_in, shard_freed}
 use Rattle.tau_machine.specs.Worker.{hand_freed, hand_joined}
 use Rattle.tau_proc.specs.declared.proc.Proc.{Proc}
 use Rattle.tau_txn.specs.declared.action.Action.{Action}
 use Rattle.tau_txn.specs.declared.action.Action.TheVariants as action
-use Rattle.tau_txn.specs.Next.{next_action, Means, Frees, FreesBy, IsForWent}
+use Rattle.tau_txn.specs.Next.{next_action, Means, Frees, FreesBy}
 use Rattle.tau_txn.specs.Txn.{PlainTxn, RunsBy, hand_in, has_joined}
 use Rattle.tau_core.specs.State.{Plain}
 use Rattle.tau_rule.specs.Knows.{Knows}

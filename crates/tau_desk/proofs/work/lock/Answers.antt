@@ -1,5 +1,4 @@
-use Rattle.std.proofs.Common.{rules, ◌≡◌, ◌+◌, ◌<◌, ℕ, [], ◌∷◌, None, Some, subst, sym, ap, ◌∙◌, List, Option, refl, arith, length}
-use Rattle.tau_base.specs.declared.value.Mode.{Mode}
+use Rattle.std.proofs.Common.{◌≡◌, ℕ, [], Some, subst, sym, ap, ◌∙◌, List, length}
 use Rattle.tau_shard.specs.Read.{shard_of}
 use Rattle.tau_machine.specs.Events.{Lock, Busy}
 use Rattle.tau_machine.specs.Hands.{Hand}
@@ -10,12 +9,11 @@ use Rattle.tau_shard.specs.Plain.{PlainShard}
 use Rattle.tau_proc.specs.declared.proc.Proc.{Proc}
 use Rattle.tau_txn.specs.declared.action.Action.{Action}
 use Rattle.tau_txn.specs.declared.action.Action.TheVariants as action
-use Rattle.tau_txn.specs.Next.{next_action, Means, Locks, IsLock}
+use Rattle.tau_txn.specs.Next.{next_action, Means, Locks}
 use Rattle.tau_txn.specs.Txn.{PlainTxn, RunsBy, hand_in, worker_of}
 use Rattle.tau_core.specs.State.{Plain}
 use Rattle.tau_rule.specs.Knows.{Knows}
 use Rattle.tau_rule.specs.Steps.{Sat, Agrees, IsAfter, told, shard_in}
-use Rattle.tau_rule.specs.Rule.{Now, IsPart}
 use Rattle.tau_rule.proofs.Turns.{part-shard}
 use Rattle.tau_desk.proofs.Locking.{granted-steps, busy-steps, after, taken-wide}
 use Rattle.tau_desk.proofs.work.lock.Goals as goal

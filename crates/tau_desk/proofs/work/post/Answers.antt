@@ -1,4 +1,4 @@
-use Rattle.std.proofs.Common.{rules, None, ◌≡◌, ◌+◌, ◌-◌, ◌<◌, ◌≤◌, ℕ, [], ◌∷◌, ◌++◌, Some, subst, sym, ap, ◌∙◌, List, Option, refl, arith}
+use Rattle.std.proofs.Common.{◌≡◌, ◌+◌, ◌≤◌, ℕ, [], ◌∷◌, ◌++◌, subst, sym, ap, ◌∙◌, List, refl, arith}
 use Rattle.tau_base.specs.declared.limits.TheConstants.{SHARDS}
 use Rattle.tau_machine.specs.Events.{Post}
 use Rattle.tau_outbox.specs.declared.Piece.{Piece}

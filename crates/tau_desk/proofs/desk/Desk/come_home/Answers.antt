@@ -1,4 +1,4 @@
-use Rattle.std.proofs.Common.{rules, None, ◌≡◌, ◌+◌, ◌*◌, ◌<◌, ℕ, [], ◌∷◌, Some, sym, ap, ◌∙◌, List, Option, refl, arith}
+use Rattle.std.proofs.Common.{rules, None, ◌∷◌, Some, sym, ap, ◌∙◌, arith}
 use Rattle.atomic_table.specs.Table.{rest}
 use Rattle.tau_rule.proofs.Gives.{comes_home_as}
 use Rattle.tau_desk.proofs.desk.Desk.come_home.Goals as goal

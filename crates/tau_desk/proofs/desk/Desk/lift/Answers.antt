@@ -1,10 +1,6 @@
-use Rattle.std.proofs.Common.{rules, None, true, false, Bool, ◌≡◌, ◌+◌, ◌*◌, ◌<◌, ℕ, [], ◌∷◌, Some, subst, sym, ap, ◌∙◌, List, Option, refl, arith}
+use Rattle.std.proofs.Common.{rules, None, ◌≡◌, [], ◌∷◌, Some, subst, sym, ap, ◌∙◌, refl}
 use Rattle.std.specs.Option.{IsSome}
 use Rattle.atomic_table.specs.Table.{rest}
-use Rattle.tau_rule.specs.Rule.{has, part_count}
-use Rattle.tau_rule.specs.Steps.{Sat, Agrees, Took, holding}
-use Rattle.tau_rule.specs.Knows.{Knows}
-use Rattle.tau_rule.specs.declared.part.Part.{Part}
 use Rattle.tau_rule.proofs.Gives.{first}
 use Rattle.tau_desk.proofs.desk.Desk.lift.Goals as goal
 

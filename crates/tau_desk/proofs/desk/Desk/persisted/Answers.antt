@@ -1,5 +1,4 @@
-use Rattle.std.proofs.Common.{rules, ◌≡◌, ◌+◌, ◌*◌, ◌<◌, ℕ, sym, ap, ◌∙◌, refl, arith}
-use Rattle.tau_rule.specs.Positions.{plv_word}
+use Rattle.std.proofs.Common.{rules, ◌+◌, ◌*◌, ◌∙◌, arith}
 use Rattle.tau_rule.proofs.Persisting.{loads_as}
 use Rattle.tau_desk.proofs.desk.Desk.persisted.Goals as goal
 

@@ -1,11 +1,5 @@
-use Rattle.std.proofs.Common.{rules, None, true, false, Bool, ◌≡◌, ◌+◌, ◌*◌, ◌<◌, ℕ, [], ◌∷◌, Some, subst, sym, ap, ◌∙◌, List, Option, refl, arith}
-use Rattle.std.specs.Option.{IsSome}
-use Rattle.atomic_table.specs.Table.{rest}
-use Rattle.tau_rule.specs.Rule.{has, part_count}
-use Rattle.tau_rule.specs.Steps.{Sat, Agrees, Took, holding}
-use Rattle.tau_rule.specs.Knows.{Knows}
-use Rattle.tau_rule.specs.declared.part.Part.{Part}
-use Rattle.tau_rule.proofs.Gives.{takes_as, takes_swap_as, first}
+use Rattle.std.proofs.Common.{rules, ◌∙◌, refl, arith}
+use Rattle.tau_rule.proofs.Gives.{takes_as}
 use Rattle.tau_desk.proofs.desk.Desk.try_take.Goals as goal
 
 pub compare_exchange-requires : goal.compare_exchange-requires

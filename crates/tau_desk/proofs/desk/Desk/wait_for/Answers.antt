@@ -1,11 +1,7 @@
-use Rattle.std.proofs.Common.{rules, None, true, false, Bool, ◌≡◌, ◌+◌, ◌*◌, ◌<◌, ℕ, [], ◌∷◌, Some, subst, sym, ap, ◌∙◌, List, Option, refl, arith}
-use Rattle.std.specs.Option.{IsSome}
-use Rattle.atomic_table.specs.Table.{rest}
-use Rattle.tau_rule.specs.Rule.{has, part_count}
-use Rattle.tau_rule.specs.Steps.{Sat, Agrees, Took, holding}
-use Rattle.tau_rule.specs.Knows.{Knows}
-use Rattle.tau_rule.specs.declared.part.Part.{Part}
-use Rattle.tau_rule.proofs.Gives.{takes_as, takes_swap_as, first}
+use Rattle.std.proofs.Common.{rules, subst, ap, ◌∙◌, refl, arith}
+use Rattle.tau_rule.specs.Rule.{has}
+use Rattle.tau_rule.specs.Steps.{Sat, Took}
+use Rattle.tau_rule.proofs.Gives.{takes_swap_as}
 use Rattle.tau_desk.proofs.desk.Desk.wait_for.Goals as goal
 
 pub swap-requires : goal.swap-requires
