@@ -55,10 +55,7 @@ impl Clerk {
         if self.sink_failed {
             return Ok(());
         }
-        match ack_line(&mut self.line, number, &lv) {
-            Ok(()) => {}
-            Err(_) => return Err(NoMemory),
-        }
+        ack_line(&mut self.line, number, &lv)?;
         match write_all(sink, &self.line) {
             Ok(()) => Ok(()),
             Err(_) => {
