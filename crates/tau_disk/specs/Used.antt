@@ -39,10 +39,6 @@ pub record OnlyRead {D : Type 0} (tells : Type 0) (seen : D → List ℕ) (may_l
   pub no_less : (x : List ℕ) → may_leave d x → may_leave e x
   pub moments : Passes moment since d e (may_leave d)
 
--- the disk has had one call
-abbrev pub OneCall : {D : Type 0} → Type 0 → (D → ℕ) → (D → Bool) → D → D → Type 0
-OneCall tells number short d e = tells → short e ≡ false → number e ≡ number d + 1
-
 -- the disk has had so many calls, none of which was to fail or was refused a growth
 abbrev pub AllCalls : {D : Type 0} → Type 0 → (D → ℕ) → (D → ℕ → Bool) → (D → Bool) → ℕ → D → D → Type 0
 AllCalls tells number fails short count d e = tells → MadeAll count (number d) (number e) (fails d) (short d) (short e)

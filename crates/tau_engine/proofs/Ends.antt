@@ -87,9 +87,11 @@ module _ {D : Type 0} {G : Ghosts D} (only_now : OnlyNow G) (n m : ℕ) (mode : 
     stopped = λ j e t. absurd (cc);
     told = λ j e t. absurd (cc);
     sink = λ e. absurd (cc);
+    opened = λ e. absurd (cc);
     not_empty = λ i size g. absurd (cc);
     long = λ i size lt t is. absurd (none_is_long G.seen old G.tells n i size t streams.empty lt is);
     asked = λ i size g. absurd (cc);
+    moments = λ unborn j d lt was. (let h = each_back n old new mid ws streams.count back (λ j. IsOpened G n (catalogue_of load) j) streams.disks j d lt was in (h.0, h.1, λ t. (h.2.begins t (unborn j d lt was t)).later));
     rest = rest_back n old new mid ws streams.count back ∙ streams.rest;
   }
 
@@ -115,9 +117,11 @@ module _ {D : Type 0} {G : Ghosts D} (only_now : OnlyNow G) (n m : ℕ) (mode : 
       stopped = λ j e t. absurd (cc);
       told = λ j e t. absurd (cc);
       sink = λ e. absurd (cc);
+      opened = λ e. absurd (cc);
       not_empty = λ i size g. absurd (cc);
       long = λ i size lt t is. absurd (none_is_long G.seen old G.tells n i size t streams.empty lt is);
       asked = λ i size g. absurd (cc);
+      moments = to.rise only_now n m mode load ws after cut.came.told (ran.came_to only_now n m mode load room sound first load_is opened ws after false cut.came) old mid new many streams back;
       rest = rest_is G n (catalogue_of load) first.load (core_of cut.came.last cut.came.hidden) old mid new ws after streams back cut.came.writers;
     }
 

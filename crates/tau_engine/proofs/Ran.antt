@@ -1,14 +1,12 @@
 -- What a run on open streams has done, in the words of runs.
-use Rattle.std.proofs.Common.{ℕ, ◌<◌, ◌≤◌, ◌≡◌, ◌⊎◌, inl, inr, Bool, true, false, List, [], ◌∷◌, ◌++◌, map, length, take, refl, sym, ap, subst, ◌∙◌, Option, arith}
+use Rattle.std.proofs.Common.{ℕ, ◌<◌, ◌≤◌, ◌≡◌, ◌⊎◌, inl, inr, Bool, true, false, List, [], ◌∷◌, ◌++◌, map, length, refl, sym, ap, subst, ◌∙◌, Option, arith}
 use Rattle.std.specs.Prelude.{Some, None, slice_get}
 use Rattle.tau_base.specs.declared.value.LogMode.{LogMode}
 use Rattle.tau_disk.specs.declared.disk.Disk.{Ghosts}
 use Rattle.tau_disk.specs.Disk.{Rose}
-use Rattle.tau_disk.specs.Used.{EachIn, RoseAt, IsFirstStopped, Made}
 use Rattle.tau_stream.specs.declared.writer.Writer.{Writer}
 use Rattle.std.proofs.lemmas.Option.{slice_get_within}
 use Rattle.tau_stream.specs.Writer.{disk_of}
-use Rattle.tau_open.specs.Outside.{calls_to_open}
 use Rattle.tau_open.specs.Opening.{AreOpened}
 use Rattle.tau_model.specs.History.{Act}
 use Rattle.tau_machine.specs.Hands.{Txn}
@@ -18,41 +16,31 @@ use Rattle.tau_machine.specs.State.{Setting, Core, sight}
 use Rattle.tau_machine.specs.Runs as machine
 use Rattle.tau_text.specs.declared.load.Workload.{Workload}
 use Rattle.tau_report.specs.declared.report.RunEnd.{RunEnd}
-use Rattle.tau_report.specs.Report.{ack_lines, rest_text, report_text}
 use Rattle.tau_core.specs.declared.state.Load.{Load}
 use Rattle.tau_core.specs.Plain.{PlainStream}
 use Rattle.tau_core.specs.State.{Plain}
 use Rattle.tau_core.specs.View.{setting_of, core_of, stop_in}
 use Rattle.tau_core.specs.Opens.{Opened, nothing}
-use Rattle.tau_run.specs.Run.{Run, below, AllAcked, IsReportOf}
-use Rattle.tau_run.specs.Facts.{catalogue_of, IsEnded}
+use Rattle.tau_run.specs.Run.{Run, below, AllAcked}
+use Rattle.tau_run.specs.Facts.{catalogue_of}
 use Rattle.tau_run.specs.Course.{IsLoadOf, IsStart, AreAcks, IsRunOf, IsSoundLoad, IsCourse}
 use Rattle.tau_run.specs.Laws.{KeepCalls, AllWait}
-use Rattle.tau_run.specs.Left.{IsLeft, Leaves, IsOver}
-use Rattle.tau_run.specs.Told.{Ending, WroteFront, NamesFailed, turns_of, IsByTurns, chosen_by, IsCoreRun, IsCoreRunAt, RunTells, RunFacts}
-use Rattle.tau_run.specs.Told as ending
+use Rattle.tau_run.specs.Left.{IsOver}
+use Rattle.tau_run.specs.Told.{turns_of, IsByTurns, chosen_by}
 use Rattle.tau_run.specs.Turns.{Progress, Cleared, OneByOne, IsWholeRun, IsPartOfRun}
 use Rattle.tau_run.proofs.Acks.{turns_law}
-use Rattle.tau_run.proofs.Imaged.{imaged, acknowledged, ended}
-use Rattle.tau_run.proofs.Results.{history_law, run_law, lost_law}
+use Rattle.tau_run.proofs.Results.{run_law, lost_law}
 use Rattle.tau_run.proofs.Start.{started}
 use Rattle.tau_step.specs.Progressed.{progress}
 use Rattle.tau_step.specs.RunTold.{Came, EachOf, Left, IsLowestStopped, fates_by}
 use Rattle.tau_step.specs.Telling.{Heard}
-use Rattle.tau_engine.specs.Facts.{Past, Now, AreUnborn}
 use Rattle.tau_engine.specs.declared.status.Status.{Status}
-use Rattle.tau_engine.specs.declared.status.Status.TheVariants as status
-use Rattle.tau_engine.specs.Fault.{fault_text}
-use Rattle.tau_engine.specs.Outside.{Wrote}
 use Rattle.tau_engine.specs.Runs.{TellsEnd}
 use Rattle.tau_engine.specs.Said.{SaysRun}
 use Rattle.tau_engine.specs.Came.{CameTo}
 use Rattle.tau_engine.proofs.Chosen.{chosen}
 use Rattle.tau_engine.proofs.RanTo as to
-use Rattle.tau_engine.proofs.Longs.{none_is_long}
-use Rattle.tau_engine.proofs.Reports.{reported_by}
-use Rattle.tau_engine.proofs.Streams.{OnlyNow, Joined, joined, rest_is, left_since, rose_at, clean_below, first_stopped, stopped_late, made_all, leaves}
-use Rattle.tau_engine.proofs.Texts.{whole_text, rest_cut, lines_cut, take_long}
+use Rattle.tau_engine.proofs.Streams.{OnlyNow}
 
 -- ---- a whole run is a first part of itself
 

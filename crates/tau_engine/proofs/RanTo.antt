@@ -1,12 +1,11 @@
 -- What a run on open streams has done, in the words of runs: by turns or in threads.
-use Rattle.std.proofs.Common.{ℕ, ◌<◌, ◌≤◌, ◌≡◌, ◌⊎◌, inl, inr, Bool, true, false, List, [], ◌∷◌, ◌++◌, map, length, take, refl, sym, ap, subst, ◌∙◌, Option, arith}
-use Rattle.std.specs.Prelude.{Some, None, slice_get}
+use Rattle.std.proofs.Common.{ℕ, ◌<◌, ◌≤◌, ◌≡◌, inl, inr, Bool, true, false, List, ◌++◌, map, length, take, refl, sym, ap, subst, ◌∙◌, Option, arith}
+use Rattle.std.specs.Prelude.{Some, None}
 use Rattle.tau_base.specs.declared.value.LogMode.{LogMode}
 use Rattle.tau_disk.specs.declared.disk.Disk.{Ghosts}
 use Rattle.tau_disk.specs.Disk.{Rose}
-use Rattle.tau_disk.specs.Used.{EachIn, RoseAt, IsFirstStopped, Made}
+use Rattle.tau_disk.specs.Used.{EachIn, EachUsed, RoseAt, IsFirstStopped, Made}
 use Rattle.tau_stream.specs.declared.writer.Writer.{Writer}
-use Rattle.std.proofs.lemmas.Option.{slice_get_within}
 use Rattle.tau_stream.specs.Writer.{disk_of}
 use Rattle.tau_open.specs.Outside.{calls_to_open}
 use Rattle.tau_open.specs.Opening.{AreOpened}
@@ -14,31 +13,24 @@ use Rattle.tau_model.specs.History.{Act}
 use Rattle.tau_machine.specs.Hands.{Txn}
 use Rattle.tau_model.specs.Tables.{IsTablesOf}
 use Rattle.tau_machine.specs.Reports.{reported}
-use Rattle.tau_machine.specs.State.{Setting, Core, sight}
-use Rattle.tau_machine.specs.Runs as machine
+use Rattle.tau_machine.specs.State.{Core, sight}
 use Rattle.tau_text.specs.declared.load.Workload.{Workload}
 use Rattle.tau_report.specs.declared.report.RunEnd.{RunEnd}
 use Rattle.tau_report.specs.Report.{ack_lines, rest_text, report_text}
 use Rattle.tau_core.specs.declared.state.Load.{Load}
-use Rattle.tau_core.specs.Plain.{PlainStream}
-use Rattle.tau_core.specs.State.{Plain}
-use Rattle.tau_core.specs.View.{setting_of, core_of, stop_in}
-use Rattle.tau_core.specs.Opens.{Opened, nothing}
-use Rattle.tau_run.specs.Run.{Run, below, AllAcked, IsReportOf}
+use Rattle.tau_core.specs.View.{setting_of}
+use Rattle.tau_run.specs.Run.{Run, AllAcked, IsReportOf}
 use Rattle.tau_run.specs.Facts.{catalogue_of, IsEnded}
-use Rattle.tau_run.specs.Course.{IsLoadOf, AreAcks, IsRunOf, IsSoundLoad, IsCourse}
-use Rattle.tau_run.specs.Laws.{KeepCalls, AllWait}
-use Rattle.tau_run.specs.Left.{IsLeft, Leaves, IsOver}
+use Rattle.tau_run.specs.Course.{IsCourse}
+use Rattle.tau_run.specs.Left.{Leaves, IsOver}
 use Rattle.tau_run.specs.Told.{Ending, WroteFront, NamesFailed, turns_of, IsByTurns, chosen_by, IsCoreRun, IsCoreRunAt, RunTells, RunFacts}
 use Rattle.tau_run.specs.Told as ending
-use Rattle.tau_run.specs.Turns.{Progress, Cleared, OneByOne, IsWholeRun, IsPartOfRun}
-use Rattle.tau_run.proofs.Acks.{turns_law}
+use Rattle.tau_run.specs.Turns.{Progress}
 use Rattle.tau_run.proofs.Imaged.{imaged, acknowledged, ended}
-use Rattle.tau_run.proofs.Results.{history_law, run_law, lost_law}
-use Rattle.tau_step.specs.Progressed.{progress}
+use Rattle.tau_run.proofs.Results.{history_law}
 use Rattle.tau_step.specs.RunTold.{IsLowestStopped, fates_by}
 use Rattle.tau_step.specs.Telling.{Heard}
-use Rattle.tau_engine.specs.Facts.{Past, Now, AreUnborn}
+use Rattle.tau_engine.specs.Facts.{Past, Now, AreUnborn, NotEarlier, NextClean}
 use Rattle.tau_engine.specs.declared.status.Status.{Status}
 use Rattle.tau_engine.specs.declared.status.Status.TheVariants as status
 use Rattle.tau_engine.specs.Fault.{fault_text}
@@ -48,7 +40,7 @@ use Rattle.tau_engine.specs.Said.{SaysRun}
 use Rattle.tau_engine.specs.Came.{CameTo, came_far}
 use Rattle.tau_engine.proofs.Longs.{none_is_long}
 use Rattle.tau_engine.proofs.Reports.{reported_by}
-use Rattle.tau_engine.proofs.Streams.{OnlyNow, Joined, joined, rest_is, left_since, rose_at, clean_below, first_stopped, stopped_late, made_all, leaves}
+use Rattle.tau_engine.proofs.Streams.{OnlyNow, Joined, joined, rest_is, left_since, rises, opens_clean, rose_at, clean_below, first_stopped, stopped_late, made_all, leaves}
 use Rattle.tau_engine.proofs.Texts.{whole_text, rest_cut, lines_cut, take_long}
 
 module _ {D : Type 0} {G : Ghosts D} (only_now : OnlyNow G) (n m : ℕ) (mode : LogMode) (load : Workload) (ws ws' : List (Writer D G)) (acks : List (ℕ × List ℕ)) (t : CameTo (chosen_by load.turns n m load) n m mode load ws ws' acks) where
@@ -119,6 +111,12 @@ module _ {D : Type 0} {G : Ghosts D} (only_now : OnlyNow G) (n m : ℕ) (mode : 
     pub has_ended : IsOver n s → (((j : ℕ) → j < n → stops j ≡ None) → AllAcked load run) → IsEnded n load (Now G.tells G.may_leave old new) (RoseAt G.faults old new) run
     has_ended over complete = ended n m mode load l K s course run t.is (λ j x. ⊥) (Now G.tells G.may_leave old new) (RoseAt G.faults old new) at_leaves over complete
 
+    pub rise : AreUnborn G.tells G.may_leave old n → EachUsed (NotEarlier G.tells G.moment) old new n
+    rise unborn = rises G n (catalogue_of load) l s streams_are old new many all unborn
+
+    opened_clean : EachUsed (NextClean G.tells G.number G.fails calls_to_open) old new n
+    opened_clean = opens_clean G n (catalogue_of load) l s streams_are old new many all
+
     -- ---- the run went to its end
 
     names : (o : Option ℕ) → IsLowestStopped n s o → NamesFailed (RoseAt G.faults old new) n o
@@ -153,9 +151,11 @@ module _ {D : Type 0} {G : Ghosts D} (only_now : OnlyNow G) (n m : ℕ) (mode : 
             stopped = λ j f tells. absurd (cc);
             told = λ j f tells. absurd (cc);
             sink = λ f. absurd (cc);
+            opened = λ f. absurd (cc);
             not_empty = λ i size g. absurd (cc);
             long = λ i size lt tells is. absurd (none_is_long G.seen old G.tells n i size tells streams.empty lt is);
             asked = λ i size g. absurd (cc);
+            moments = rise;
             rest = rest_is G n (catalogue_of load) l s old mid new ws ws' streams back t.writers;
           }
 
@@ -176,9 +176,11 @@ module _ {D : Type 0} {G : Ghosts D} (only_now : OnlyNow G) (n m : ℕ) (mode : 
             stopped = λ i f tells. subst (λ (k : ℕ). IsFirstStopped G.tells G.number G.fails G.short old new k) (same i f) (first_stopped G n (catalogue_of load) l s streams_are old new many all j here.1.0 here.0 here.1.1 here.2 tells);
             told = λ i f tells. inr (subst (λ (k : ℕ). (c : ℕ) × (calls_to_open < c) × Made G.number G.short old new k c) (same i f) (stopped_late G n (catalogue_of load) l s streams_are old new many all j here.1.0 here.0 here.1.1 tells));
             sink = λ f. absurd (cc);
+            opened = λ f. absurd (cc);
             not_empty = λ i size g. absurd (cc);
             long = λ i size lt tells is. absurd (none_is_long G.seen old G.tells n i size tells streams.empty lt is);
             asked = λ i size g. absurd (cc);
+            moments = rise;
             rest = rest_is G n (catalogue_of load) l s old mid new ws ws' streams back t.writers;
           }
 
@@ -192,9 +194,11 @@ module _ {D : Type 0} {G : Ghosts D} (only_now : OnlyNow G) (n m : ℕ) (mode : 
         stopped = λ j f tells. absurd (cc);
         told = λ j f tells. absurd (cc);
         sink = λ f. rose;
+        opened = λ f. opened_clean;
         not_empty = λ i size g. absurd (cc);
         long = λ i size lt tells is. absurd (none_is_long G.seen old G.tells n i size tells streams.empty lt is);
         asked = λ i size g. absurd (cc);
+        moments = rise;
         rest = rest_is G n (catalogue_of load) l s old mid new ws ws' streams back t.writers;
       }
 
@@ -209,9 +213,11 @@ module _ {D : Type 0} {G : Ghosts D} (only_now : OnlyNow G) (n m : ℕ) (mode : 
         stopped = λ j f tells. absurd (cc);
         told = λ j f tells. absurd (cc);
         sink = λ f. absurd (cc);
+        opened = λ f. absurd (cc);
         not_empty = λ i size g. absurd (cc);
         long = λ i size lt tells is. absurd (none_is_long G.seen old G.tells n i size tells streams.empty lt is);
         asked = λ i size g. absurd (cc);
+        moments = rise;
         rest = rest_is G n (catalogue_of load) l s old mid new ws ws' streams back t.writers;
       }
 

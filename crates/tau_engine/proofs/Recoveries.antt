@@ -2,7 +2,7 @@
 use Rattle.std.proofs.Common.{ℕ, Bool, zero, suc, ◌≡◌, ◌<◌, List, [], ◌∷◌, refl, sym, ◌∙◌, subst, ◌++◌, take, drop, length, arith}
 use Rattle.std.proofs.Math.Seq.{take-append_seam}
 use Rattle.std.specs.Prelude.{Some, slice_get}
-use Rattle.tau_disk.specs.Used.{Each, EachUsed, OnlyRead, RoseAt, GoesOn, IsClean, IsFirstStopped}
+use Rattle.tau_disk.specs.Used.{Each, EachUsed, OnlyRead, RoseAt, AllCalls, IsClean, IsFirstStopped}
 use Rattle.tau_scan.specs.Outside.{IsRead}
 
 module _ {D : Type 0} where
@@ -33,11 +33,23 @@ module _ {D : Type 0} where
       let lt : j < n = take_below old n j d was in
       (lt, (d, e, sym (get_take old n j lt) ∙ was, sym (get_take new n j lt) ∙ is, rose))
 
-  -- no call of the first disks was one that is to fail
-  pub clean_first : (tells : Type 0) (number : D → ℕ) (fails : D → ℕ → Bool) (old new : List D) (n : ℕ) → Each (λ d e. tells → GoesOn number fails d e) (take n old) (take n new) → EachUsed (IsClean tells number fails) old new n
-  clean_first tells number fails old new n each j d lt get =
-      let (e, there, goes) = each j d (get_take old n j lt ∙ get) in
-      (e, sym (get_take new n j lt) ∙ there, λ t. (goes t).clean)
+  -- what holds of each disk of a slice of the first ones holds of these
+  pub each_first : (R : D → D → Type 0) (old new : List D) (n : ℕ) → Each R (take n old) (take n new) → EachUsed R old new n
+  each_first R old new n each j d lt get =
+      let (e, there, r) = each j d (get_take old n j lt ∙ get) in
+      (e, sym (get_take new n j lt) ∙ there, r)
+
+  -- and of a slice that was lent
+  pub each_lent : (R : D → D → Type 0) (old new : List D) (n : ℕ) → length new ≡ n → Each R (take n old) new → EachUsed R old (new ++ drop n old) n
+  each_lent R old new n long each =
+      let same : take n (new ++ drop n old) ≡ new = subst (λ (k : ℕ). take k (new ++ drop n old) ≡ new) long (take-append_seam new (drop n old)) in
+      each_first R old (new ++ drop n old) n (subst (λ (ds : List D). Each R (take n old) ds) (sym same) each)
+
+  -- so many calls of which none failed: none was one that is to fail
+  pub clean_of : (tells : Type 0) (number : D → ℕ) (fails : D → ℕ → Bool) (short : D → Bool) (count : ℕ) (old new : List D) (n : ℕ) → EachUsed (AllCalls tells number fails short count) old new n → EachUsed (IsClean tells number fails) old new n
+  clean_of tells number fails short count old new n each j d lt get =
+      let (e, there, calls) = each j d lt get in
+      (e, there, λ t k low high. (let made = calls t in made.2 k low (omega (arith, high, made.0))))
 
   pub stopped_among : (tells : Type 0) (number : D → ℕ) (fails : D → ℕ → Bool) (short : D → Bool) (old new : List D) (n j : ℕ) → IsFirstStopped tells number fails short (take n old) (take n new) j → IsFirstStopped tells number fails short old new j
   stopped_among tells number fails short old new n j h =

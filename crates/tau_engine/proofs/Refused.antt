@@ -12,7 +12,7 @@ use Rattle.tau_open.specs.Outside.{calls_to_open}
 use Rattle.tau_open.specs.Opening.{Asked, Begins}
 use Rattle.tau_open.specs.declared.refusal.OpenRefusal.{OpenRefusal}
 use Rattle.tau_open.specs.declared.refusal.OpenRefusal.TheVariants as refusal
-use Rattle.tau_open.proofs.Calls.{untouched, one_call}
+use Rattle.tau_open.proofs.Calls.{untouched, all_calls}
 use Rattle.tau_text.specs.declared.load.Workload.{Workload}
 use Rattle.tau_run.specs.Facts.{catalogue_of}
 use Rattle.tau_run.specs.Told.{WroteFront}
@@ -20,7 +20,7 @@ use Rattle.tau_run.specs.Told as ending
 use Rattle.tau_run.proofs.Reading.{IsCatalogue}
 use Rattle.tau_engine.specs.declared.status.Status.{Status}
 use Rattle.tau_engine.specs.declared.status.Status.TheVariants as status
-use Rattle.tau_engine.specs.Facts.{Past, Now, AreUnborn}
+use Rattle.tau_engine.specs.Facts.{Past, Now, AreUnborn, NotEarlier}
 use Rattle.tau_engine.specs.Fault.{fault_text, TellsFault}
 use Rattle.tau_engine.specs.Outside.{Wrote, OpensBad, ends_reading}
 use Rattle.tau_engine.specs.Runs.{status_in}
@@ -72,9 +72,11 @@ module _ {D : Type 0} (G : Ghosts D) (only_now : OnlyNow G) (n m : ℕ) (mode : 
     stopped = λ j e t. absurd (cc);
     told = λ j e t. absurd (cc);
     sink = λ e. absurd (cc);
+    opened = λ e. absurd (cc);
     not_empty = λ j long e. absurd (cc);
-    long = λ j long lt t is. record { bad = tt; read = untouched_each; told = λ not. absurd (not refl) };
+    long = λ j long lt t is. record { bad = tt; read = untouched_each; told = λ not. absurd (not refl); silent = λ e told. same ∙ sym (append-nil held) };
     asked = λ j long e. absurd (cc);
+    moments = λ unborn j d lt was. (d, was, λ t. omega arith);
     rest = refl;
   }
 
@@ -103,6 +105,9 @@ module _ {D : Type 0} (G : Ghosts D) (only_now : OnlyNow G) (n m : ℕ) (mode : 
     begun : (r : OpenRefusal) → IsOpenRefusal r → AreUnborn G.tells G.may_leave old n → (j : ℕ) (x : List ℕ) → j < n → Past G.tells G.moment G.may_leave_since old new j x → HasContent n j [] x ⊎ HasContent n j (catalogue_of load) x
     begun r h = begun_left G only_now n (catalogue_of load) old new (λ j d lt was. h.begins j d lt was)
 
+    rises : (r : OpenRefusal) → IsOpenRefusal r → AreUnborn G.tells G.may_leave old n → EachUsed (NotEarlier G.tells G.moment) old new n
+    rises r h unborn j d lt was = (let b = h.begins j d lt was in (b.0, b.1, λ t. (b.2 t (unborn j d lt was t)).later))
+
     says_memory : (r : OpenRefusal) → IsOpenRefusal r → wrote [] → SaysRun G n m mode load old new hears held held' faults faults' status.NoMemory
     says_memory r h silent = record {
       facts =
@@ -114,9 +119,11 @@ module _ {D : Type 0} (G : Ghosts D) (only_now : OnlyNow G) (n m : ℕ) (mode : 
       stopped = λ j e t. absurd (cc);
       told = λ j e t. absurd (cc);
       sink = λ e. absurd (cc);
+      opened = λ e. absurd (cc);
       not_empty = λ j long e. absurd (cc);
-      long = λ j long lt t is. record { bad = tt; read = h.long j long lt t is; told = λ not. absurd (not refl) };
+      long = λ j long lt t is. record { bad = tt; read = h.long j long lt t is; told = λ not. absurd (not refl); silent = λ e. silent };
       asked = λ j long e. absurd (cc);
+      moments = rises r h;
       rest = h.rest;
     }
 
@@ -155,9 +162,11 @@ module _ {D : Type 0} (G : Ghosts D) (only_now : OnlyNow G) (n m : ℕ) (mode : 
           stopped = λ i e t. subst (λ (k : ℕ). IsFirstStopped G.tells G.number G.fails G.short old new k) (let same : j ≡ i = cc in same) (h.first j refl t);
           told = λ i e t. (let k = h.early j refl t in inl (k.0, k.1, subst (λ (x : ℕ). Made G.number G.short old new x k.0) (let same : j ≡ i = cc in same) k.2, line));
           sink = λ e. absurd (cc);
+          opened = λ e. absurd (cc);
           not_empty = λ i long e. absurd (cc);
-          long = λ i long lt t is. record { bad = tt; read = h.long i long lt t is; told = λ not. line };
+          long = λ i long lt t is. record { bad = tt; read = h.long i long lt t is; told = λ not. line; silent = λ e. absurd (cc) };
           asked = λ i long e. absurd (cc);
+          moments = rises (refusal.Failed j) h;
           rest = h.rest;
         }
 
@@ -165,7 +174,7 @@ module _ {D : Type 0} (G : Ghosts D) (only_now : OnlyNow G) (n m : ℕ) (mode : 
     says_long j size h line =
         let each = h.asked j size refl in
         let refused : SaysRefused G n m mode load old new hears held held' faults faults' (status.NotEmpty j size) =
-        record { bad = tt; read = λ i d lt was. (let a = each i d lt was in (a.0, a.1, a.2.read)); told = λ not. line } in
+        record { bad = tt; read = λ i d lt was. (let a = each i d lt was in (a.0, a.1, a.2.read)); told = λ not. line; silent = λ e. absurd (cc) } in
         record {
           facts =
               facts_of_none n m mode load some room workers sound (AreUnborn G.tells G.may_leave old n) (Past G.tells G.moment G.may_leave_since old new) (Now G.tells G.may_leave old new) (RoseAt G.faults old new) (Rose faults faults')
@@ -176,12 +185,14 @@ module _ {D : Type 0} (G : Ghosts D) (only_now : OnlyNow G) (n m : ℕ) (mode : 
           stopped = λ i e t. absurd (cc);
           told = λ i e t. absurd (cc);
           sink = λ e. absurd (cc);
+          opened = λ e. absurd (cc);
           not_empty = λ i long e.
               (let one : j ≡ i = cc in
               let other : size ≡ long = cc in
               subst (λ (x : ℕ). (x < n) × (G.tells → IsFirstLong G.seen old x long)) one (subst (λ (x : ℕ). (j < n) × (G.tells → IsFirstLong G.seen old j x)) other (h.not_empty j size refl)));
           long = λ i long lt t is. refused;
-          asked = λ i long e. (refused, λ k d lt was. (let a = each k d lt was in (a.0, a.1, one_call G d a.0 a.2)));
+          asked = λ i long e. (refused, λ k d lt was. (let a = each k d lt was in (a.0, a.1, all_calls G 1 d a.0 a.2.went)));
+          moments = rises (refusal.NotEmpty j size) h;
           rest = h.rest;
         }
 

@@ -1,8 +1,7 @@
 -- The disks of a run, from the entry of the call to its end.
-use Rattle.std.proofs.Common.{ℕ, zero, suc, ◌+◌, ◌-◌, ◌<◌, ◌≤◌, ◌≡◌, ◌⊎◌, inl, inr, true, false, List, [], ◌∷◌, ◌++◌, map, length, drop, refl, sym, ap, subst, ◌∙◌, arith}
+use Rattle.std.proofs.Common.{ℕ, zero, suc, ◌+◌, ◌-◌, ◌<◌, ◌≤◌, ◌≡◌, inl, inr, true, false, List, [], ◌∷◌, ◌++◌, map, length, drop, refl, sym, ap, subst, ◌∙◌, arith}
 use Rattle.std.specs.Prelude.{Some, None, slice_get}
 use Rattle.std.proofs.lemmas.Bool.{cases_Bool}
-use Rattle.std.proofs.lemmas.Bool.Decides.{leb_tells}
 use Rattle.std.proofs.lemmas.List.{append-nil}
 use Rattle.tau_block.specs.Image.{HasContent}
 use Rattle.tau_disk.specs.declared.disk.Disk.{Ghosts}
@@ -21,7 +20,7 @@ use Rattle.tau_machine.specs.State.{Core}
 use Rattle.tau_core.specs.declared.state.Load.{Load}
 use Rattle.tau_run.specs.Left.{HasFront, IsLeft, Leaves}
 use Rattle.tau_step.specs.RunTold.{EachOf, Left}
-use Rattle.tau_engine.specs.Facts.{Past, Now, AreUnborn}
+use Rattle.tau_engine.specs.Facts.{Past, Now, AreUnborn, NotEarlier, NextClean}
 
 same_some : {A : Type 0} (x y : A) → Some x ≡ Some y → x ≡ y
 same_some x y e = cc
@@ -102,6 +101,22 @@ module _ {D : Type 0} (G : Ghosts D) where
 
     pub left_since : OnlyNow G → AreUnborn G.tells G.may_leave old n → (j : ℕ) (x : List ℕ) → j < n → Past G.tells G.moment G.may_leave_since old new j x → IsLeft n j catalogue l s x
     left_since only_now unborn j x lt (d, e, was, is, (t, since)) = since_entry only_now j d e (at_end j lt d e was is) t (unborn j d lt was t) x since
+
+    -- no moment has fallen
+    pub rises : AreUnborn G.tells G.may_leave old n → EachUsed (NotEarlier G.tells G.moment) old new n
+    rises unborn j d lt was =
+        let h = all j d lt was in (
+          h.0,
+          h.1,
+          λ t.
+              let first = (h.2.opened.begins t (unborn j d lt was t)).later in
+              let next = (h.2.left.before t).later in
+              subst (λ (x : D). G.moment d ≤ G.moment x) (sym h.2.is) (omega (arith, first, next)),
+        )
+
+    -- no call that opens a stream was to fail
+    pub opens_clean : EachUsed (NextClean G.tells G.number G.fails calls_to_open) old new n
+    opens_clean j d lt was = (let h = all j d lt was in (h.0, h.1, λ t. (h.2.opened.went.made t).2))
 
     -- ---- a stream that is stopped has a disk that has failed
 

@@ -1,5 +1,5 @@
 -- What every run on open streams has come to, by turns or in threads, in words of the machine.
-use Rattle.std.specs.Prelude.{ℕ, ◌<◌, ◌≡◌, Bool, true, false, List, Some, None}
+use Rattle.std.specs.Prelude.{ℕ, ◌<◌, ◌≡◌, Bool, false, List, Some}
 use Rattle.tau_base.specs.declared.value.LogMode.{LogMode}
 use Rattle.tau_disk.specs.declared.disk.Disk.{Ghosts}
 use Rattle.tau_stream.specs.declared.writer.Writer.{Writer}

@@ -1,5 +1,5 @@
 -- What stops may leave of the disks of a call, how a call ends in the words of runs, and what a refused opening leaves.
-use Rattle.std.specs.Prelude.{ℕ, ◌<◌, ◌≤◌, ◌≡◌, List, length, slice_get, Some}
+use Rattle.std.specs.Prelude.{ℕ, Bool, false, ◌+◌, ◌<◌, ◌≤◌, ◌≡◌, List, [], length, slice_get, Some}
 use Rattle.tau_disk.specs.Used.{OfDisk, EachUsed}
 use Rattle.tau_run.specs.Told.{Ending, WroteFront}
 use Rattle.tau_run.specs.Told as ending
@@ -20,6 +20,14 @@ Now tells may_leave old new j x = OfDisk (λ d e. tells × may_leave e x) old ne
 abbrev pub AreUnborn : {D : Type 0} → Type 0 → (D → List ℕ → Type 0) → List D → ℕ → Type 0
 AreUnborn {D} tells may_leave old n = (j : ℕ) (d : D) → j < n → slice_get old j ≡ Some d → tells → (x : List ℕ) → may_leave d x → length x ≤ 17
 
+-- the moment of the disk has not fallen
+abbrev pub NotEarlier : {D : Type 0} → Type 0 → (D → ℕ) → D → D → Type 0
+NotEarlier tells moment d e = tells → moment d ≤ moment e
+
+-- none of the next so many calls of the disk was one that is to fail
+abbrev pub NextClean : {D : Type 0} → Type 0 → (D → ℕ) → (D → ℕ → Bool) → ℕ → D → D → Type 0
+NextClean tells number fails count d e = tells → (k : ℕ) → number d < k → k ≤ number d + count → fails d k ≡ false
+
 -- the answer, as runs end
 abbrev pub ending_of : Status → Ending
 ending_of status.Ok = ending.Done
@@ -28,8 +36,9 @@ ending_of status.WriteFault = ending.SinkFailed
 ending_of status.NoMemory = ending.NoMemory
 ending_of _ = ending.NotBegun
 
--- Disks that hold something are refused: they were at most read, and the line of the refusal was written.
+-- Disks that hold something are refused: they were at most read, and the line of the refusal was written, or nothing if memory ran out.
 pub record IsRefused {D : Type 0} (n : ℕ) (only_read : D → D → Type 0) (wrote : List ℕ → Type 0) (sink_rose : Type 0) (old new : List D) (answer : Status) : Type 0 where
   pub bad : OpensBad answer
   pub read : EachUsed only_read old new n
   pub told : (answer ≡ status.NoMemory → ⊥) → WroteFront wrote sink_rose (fault_text answer)
+  pub silent : answer ≡ status.NoMemory → wrote []

@@ -16,6 +16,10 @@ HasWorkload text load = (length text ≤ MAX_WORKLOAD) × (workload_of text ≡ 
 abbrev pub HasFault : List ℕ → TextFault → Type 0
 HasFault text fault = (length text ≤ MAX_WORKLOAD) × (workload_of text ≡ Err fault)
 
+-- the text is too long, or of no workload
+abbrev pub HasNoWorkload : List ℕ → Type 0
+HasNoWorkload text = (load : Workload) → HasWorkload text load → ⊥
+
 -- a sink that tells has this behind what it held
 abbrev pub Wrote : Type 0 → List ℕ → List ℕ → List ℕ → Type 0
 Wrote tells old new text = tells → new ≡ old ++ text
@@ -59,6 +63,13 @@ ends_recovery status.WriteFault = true
 ends_recovery (status.DiskFault j) = true
 ends_recovery (status.BadLog fault) = true
 ends_recovery _ = false
+
+-- a recovery ends so only once every disk was read
+abbrev pub is_behind_reading : Status → Bool
+is_behind_reading status.Ok = true
+is_behind_reading status.WriteFault = true
+is_behind_reading (status.BadLog fault) = true
+is_behind_reading _ = false
 
 -- a call may end so before its run
 abbrev pub ends_reading : Status → Bool

@@ -3,12 +3,13 @@ use Rattle.std.specs.Prelude.{ℕ, ◌<◌, ◌≡◌, true, List, drop}
 use Rattle.tau_base.specs.declared.value.LogMode.{LogMode}
 use Rattle.tau_disk.specs.declared.disk.Disk.{Ghosts}
 use Rattle.tau_disk.specs.Disk.{Rose}
-use Rattle.tau_disk.specs.Used.{EachUsed, RoseAt, IsFirstLong, OnlyRead, OneCall, IsClean, IsFirstStopped, Made}
+use Rattle.tau_disk.specs.Used.{EachUsed, RoseAt, IsFirstLong, OnlyRead, AllCalls, IsClean, IsFirstStopped, Made}
+use Rattle.tau_open.specs.Outside.{calls_to_open}
 use Rattle.tau_text.specs.declared.load.Workload.{Workload}
 use Rattle.tau_run.specs.Told.{WroteFront, chosen_by, RunFacts}
 use Rattle.tau_engine.specs.declared.status.Status.{Status}
 use Rattle.tau_engine.specs.declared.status.Status.TheVariants as status
-use Rattle.tau_engine.specs.Facts.{Past, Now, AreUnborn, IsRefused, ending_of}
+use Rattle.tau_engine.specs.Facts.{Past, Now, AreUnborn, NotEarlier, NextClean, IsRefused, ending_of}
 use Rattle.tau_engine.specs.Fault.{fault_text}
 use Rattle.tau_engine.specs.Outside.{Wrote, FailsTold, ends_run}
 
@@ -30,7 +31,9 @@ module _ {D : Type 0} (G : Ghosts D) (n m : ℕ) (mode : LogMode) (load : Worklo
     pub stopped : (j : ℕ) → answer ≡ status.DiskFault j → G.tells → IsFirstStopped G.tells G.number G.fails G.short old new j
     pub told : (j : ℕ) → answer ≡ status.DiskFault j → G.tells → FailsTold (Made G.number G.short old new j) (WroteFront (Wrote hears held held') (Rose faults faults') (fault_text answer))
     pub sink : answer ≡ status.WriteFault → Rose faults faults'
+    pub opened : answer ≡ status.WriteFault → EachUsed (NextClean G.tells G.number G.fails calls_to_open) old new n
     pub not_empty : (j long : ℕ) → answer ≡ status.NotEmpty j long → (j < n) × (G.tells → IsFirstLong G.seen old j long)
     pub long : (j long : ℕ) → j < n → G.tells → IsFirstLong G.seen old j long → SaysRefused
-    pub asked : (j long : ℕ) → answer ≡ status.NotEmpty j long → SaysRefused × EachUsed (OneCall G.tells G.number G.short) old new n
+    pub asked : (j long : ℕ) → answer ≡ status.NotEmpty j long → SaysRefused × EachUsed (AllCalls G.tells G.number G.fails G.short 1) old new n
+    pub moments : AreUnborn G.tells G.may_leave old n → EachUsed (NotEarlier G.tells G.moment) old new n
     pub rest : drop n new ≡ drop n old

@@ -5,12 +5,13 @@ ghost use Rattle.tau_scan.specs.declared.fault.LogFault.{LogFault};
 ghost use Rattle.tau_scan.specs.declared.log.Log.{Log};
 ghost use Rattle.tau_scan.specs.declared.fault.ScanRefusal.{ScanRefusal};
 ghost use Rattle.tau_scan.specs.Reading.{HasRead, IsLog, log_of};
+ghost use Rattle.tau_scan.specs.Outside.{calls_to_read};
 ghost use Rattle.tau_scan.specs.Taken.{Kept};
 ghost use Rattle.tau_replay.specs.Redone.{IsOrderOf};
 ghost use Rattle.tau_engine.specs.Fault.{fault_text, is_refusal};
 ghost use Rattle.tau_run.specs.Told.{WroteFront};
-ghost use Rattle.tau_disk.specs.Used.{EachUsed, OnlyRead, RoseAt, IsClean, IsFirstStopped};
-ghost use Rattle.tau_engine.specs.Outside.{Wrote, ends_recovery};
+ghost use Rattle.tau_disk.specs.Used.{EachUsed, OnlyRead, RoseAt, AllCalls, IsFirstStopped};
+ghost use Rattle.tau_engine.specs.Outside.{Wrote, ends_recovery, is_behind_reading};
 ghost use Rattle.tau_engine.specs.Recovery.{LogTells, IsTangle, IsBadLog, RecoverTells, EndsAsBad, EndsTangled, images_of};
 
 use crate::fault::refuse;
@@ -31,7 +32,8 @@ fn scan_first<D: Disk>(alloc: Global, n: usize, disks: &mut [D]) -> Result<Log, 
     ensures sound { IfOk result (λ log. IsLog log) }
     ensures failed { (j : ℕ) → result ≡ Err (ScanRefusal.Failed j) → (j < n) × RoseAt D.faults disks.old disks.new j }
     ensures only_read { EachUsed (OnlyRead D.tells D.seen D.may_leave D.moment D.may_leave_since) disks.old disks.new n }
-    ensures clean { OnOk result (EachUsed (IsClean D.tells D.number D.fails) disks.old disks.new n) }
+    ensures calls { OnOk result (EachUsed (AllCalls D.tells D.number D.fails D.short calls_to_read) disks.old disks.new n) }
+    ensures calls_bad { (fault : LogFault) → result ≡ Err (ScanRefusal.Bad fault) → EachUsed (AllCalls D.tells D.number D.fails D.short calls_to_read) disks.old disks.new n }
     ensures stopped { (j : ℕ) → result ≡ Err (ScanRefusal.Failed j) → D.tells → IsFirstStopped D.tells D.number D.fails D.short disks.old disks.new j }
     ensures untouched { drop n disks.new ≡ drop n disks.old }
 {
@@ -80,7 +82,7 @@ pub fn recover<D: Disk, K: Sink>(alloc: Global, n: usize, sink: &mut K, disks: &
     ensures tangled_told { (log : Log) → D.tells → log_of (images_of D.seen disks.old n) ≡ Ok log → ((order : List Kept) → IsOrderOf log order → ⊥) → EndsTangled log result }
     ensures ordered { (log : Log) (order : List Kept) (fault : LogFault) → D.tells → log_of (images_of D.seen disks.old n) ≡ Ok log → IsOrderOf log order → result ≡ Status.BadLog fault → ⊥ }
     ensures disk_fault { (j : ℕ) → result ≡ Status.DiskFault j → (j < n) × RoseAt D.faults disks.old disks.new j }
-    ensures clean { result ≡ Status.Ok → EachUsed (IsClean D.tells D.number D.fails) disks.old disks.new n }
+    ensures calls { is_behind_reading result ≡ true → EachUsed (AllCalls D.tells D.number D.fails D.short calls_to_read) disks.old disks.new n }
     ensures stopped { (j : ℕ) → result ≡ Status.DiskFault j → D.tells → IsFirstStopped D.tells D.number D.fails D.short disks.old disks.new j }
     ensures write_fault { result ≡ Status.WriteFault → Rose (K.faults sink.old) (K.faults sink.new) }
     ensures kind { ends_recovery result ≡ true }

@@ -9,17 +9,19 @@ ghost use Rattle.tau_text.specs.declared.fault.TextFault.{TextFault};
 ghost use Rattle.tau_scan.specs.declared.fault.LogFault.{LogFault};
 ghost use Rattle.tau_scan.specs.declared.log.Log.{Log};
 ghost use Rattle.tau_scan.specs.Reading.{log_of};
+ghost use Rattle.tau_scan.specs.Outside.{calls_to_read};
 ghost use Rattle.tau_scan.specs.Taken.{Kept};
 ghost use Rattle.tau_replay.specs.Redone.{IsOrderOf};
 ghost use Rattle.tau_engine.specs.Recovery.{IsBadLog, RecoverTells, EndsAsBad, EndsTangled, images_of};
 ghost use Rattle.tau_engine.specs.Served.{served, used_by, reads_source, writes_at_end};
 ghost use Rattle.tau_text.specs.declared.load.Workload.{Workload};
 ghost use Rattle.tau_run.specs.Told.{chosen_by, RunFacts};
-ghost use Rattle.tau_engine.specs.Facts.{Past, Now, AreUnborn, ending_of};
+ghost use Rattle.tau_open.specs.Outside.{calls_to_open};
+ghost use Rattle.tau_engine.specs.Facts.{Past, Now, AreUnborn, NotEarlier, NextClean, ending_of};
 ghost use Rattle.tau_engine.specs.Fault.{fault_text, is_refusal};
 ghost use Rattle.tau_run.specs.Told.{WroteFront};
-ghost use Rattle.tau_disk.specs.Used.{RoseAt, EachUsed, AreEmpty, IsFirstLong, OnlyRead, OneCall, IsClean, IsFirstStopped, Made};
-ghost use Rattle.tau_engine.specs.Outside.{HasWorkload, HasFault, FailsTold, Wrote, is_behind_text, is_behind_end, is_before_disks};
+ghost use Rattle.tau_disk.specs.Used.{RoseAt, EachUsed, AreEmpty, IsFirstLong, OnlyRead, AllCalls, IsClean, IsFirstStopped, Made};
+ghost use Rattle.tau_engine.specs.Outside.{HasWorkload, HasNoWorkload, HasFault, FailsTold, Wrote, is_behind_text, is_behind_end, is_behind_reading, is_before_disks};
 
 use crate::fault::refuse;
 use crate::reading::read_source;
@@ -79,13 +81,16 @@ pub fn taurus<R: Threads + Wait + Sync, S: Source, K: Sink + Send, D: Disk + Sen
     ensures tangled_told { (n p : ℕ) (log : Log) → served (map string_bytes words.now) ≡ Some (Command.Recover n p) → D.tells →
         log_of (images_of D.seen disks.old.items n) ≡ Ok log → ((order : List Kept) → IsOrderOf log order → ⊥) → EndsTangled log result }
     ensures write_fault { result ≡ Status.WriteFault → Rose (K.faults sink.old) (K.faults sink.new) }
+    // A disk that fails while the streams are opened comes before a sink that fails.
+    ensures write_fault_late { (n m : ℕ) (mode : LogMode) → served (map string_bytes words.now) ≡ Some (Command.Run n m mode) → result ≡ Status.WriteFault →
+        EachUsed (NextClean D.tells D.number D.fails calls_to_open) disks.old.items disks.new.items n }
 
     // What is read of the source.
     ensures source { S.tells → (k : ℕ) × (k ≤ MAX_WORKLOAD + 1) × (S.left source.new ≡ drop k (S.left source.old)) }
     ensures source_end { S.tells → is_behind_end result ≡ true → reads_source (served (map string_bytes words.now)) ≡ true → S.left source.new ≡ [] }
     ensures source_unread { S.tells → reads_source (served (map string_bytes words.now)) ≡ false → S.left source.new ≡ S.left source.old }
 
-    // A refusal writes its one line, and want of memory before a run none.
+    // A refusal writes its one line, and a call that runs out of memory before a run nothing.
     ensures refusal { is_refusal result ≡ true → WroteFront (Wrote K.tells (K.held sink.old) (K.held sink.new)) (Rose (K.faults sink.old) (K.faults sink.new)) (fault_text result) }
     ensures opening_fault { (n m i j long : ℕ) (mode : LogMode) → served (map string_bytes words.now) ≡ Some (Command.Run n m mode) → result ≡ Status.DiskFault i →
         D.tells → j < n → IsFirstLong D.seen disks.old.items j long →
@@ -95,12 +100,21 @@ pub fn taurus<R: Threads + Wait + Sync, S: Source, K: Sink + Send, D: Disk + Sen
         (WroteFront (Wrote K.tells (K.held sink.old) (K.held sink.new)) (Rose (K.faults sink.old) (K.faults sink.new)) (fault_text result)) }
     ensures silent { result ≡ Status.NoMemory → writes_at_end (served (map string_bytes words.now)) ≡ true → Wrote K.tells (K.held sink.old) (K.held sink.new) [] }
 
+    // Out of memory after a text that is no workload, or if a used disk holds something, writes nothing.
+    ensures silent_text { result ≡ Status.NoMemory → reads_source (served (map string_bytes words.now)) ≡ true → S.tells → HasNoWorkload (S.left source.old) → Wrote K.tells (K.held sink.old) (K.held sink.new) [] }
+    ensures silent_long { (n m j long : ℕ) (mode : LogMode) → served (map string_bytes words.now) ≡ Some (Command.Run n m mode) → result ≡ Status.NoMemory →
+        D.tells → j < n → IsFirstLong D.seen disks.old.items j long → Wrote K.tells (K.held sink.old) (K.held sink.new) [] }
+
     // A run has one history, of which its report, the images that stops may leave and its acknowledgements are, however it ends.
     ensures run { (n m : ℕ) (mode : LogMode) (load : Workload) → served (map string_bytes words.now) ≡ Some (Command.Run n m mode) →
         S.tells → HasWorkload (S.left source.old) load → AreEmpty D.tells D.seen disks.old.items n →
         RunFacts (chosen_by load.turns n m load) n m mode load (AreUnborn D.tells D.may_leave disks.old.items n) (Past D.tells D.moment D.may_leave_since disks.old.items disks.new.items) (Now D.tells D.may_leave disks.old.items disks.new.items)
         (RoseAt D.faults disks.old.items disks.new.items) (Rose (K.faults sink.old) (K.faults sink.new)) (λ j k. D.tells → Made D.number D.short disks.old.items disks.new.items j k)
         (Wrote K.tells (K.held sink.old) (K.held sink.new)) (λ j. fault_text (Status.DiskFault j)) (ending_of result) }
+
+    // So an image that a stop now may leave is one that a stop since the entry might have left.
+    ensures moments { (n m : ℕ) (mode : LogMode) → served (map string_bytes words.now) ≡ Some (Command.Run n m mode) →
+        AreUnborn D.tells D.may_leave disks.old.items n → EachUsed (NotEarlier D.tells D.moment) disks.old.items disks.new.items n }
 
     // Recovery is a function of what the disks read.
     ensures recover { (n p : ℕ) → served (map string_bytes words.now) ≡ Some (Command.Recover n p) → D.tells →
@@ -116,8 +130,12 @@ pub fn taurus<R: Threads + Wait + Sync, S: Source, K: Sink + Send, D: Disk + Sen
     ensures not_empty_untouched { (n m : ℕ) (mode : LogMode) (j long : ℕ) → served (map string_bytes words.now) ≡ Some (Command.Run n m mode) → j < n → D.tells → IsFirstLong D.seen disks.old.items j long →
         EachUsed (OnlyRead D.tells D.seen D.may_leave D.moment D.may_leave_since) disks.old.items disks.new.items n }
     ensures asked { (j long : ℕ) → result ≡ Status.NotEmpty j long → EachUsed (OnlyRead D.tells D.seen D.may_leave D.moment D.may_leave_since) disks.old.items disks.new.items (used_by (served (map string_bytes words.now))) }
-    ensures asked_once { (j long : ℕ) → result ≡ Status.NotEmpty j long → EachUsed (OneCall D.tells D.number D.short) disks.old.items disks.new.items (used_by (served (map string_bytes words.now))) }
+    // A disk that fails comes before one that is not empty: each was asked, once, and none failed.
+    ensures asked_once { (j long : ℕ) → result ≡ Status.NotEmpty j long → EachUsed (AllCalls D.tells D.number D.fails D.short 1) disks.old.items disks.new.items (used_by (served (map string_bytes words.now))) }
 
+    // A disk that fails comes before a bad log, and before a sink that fails: each disk was read whole, and none failed.
+    ensures recover_calls { (n p : ℕ) → served (map string_bytes words.now) ≡ Some (Command.Recover n p) → is_behind_reading result ≡ true →
+        EachUsed (AllCalls D.tells D.number D.fails D.short calls_to_read) disks.old.items disks.new.items n }
     ensures read { (n p : ℕ) → served (map string_bytes words.now) ≡ Some (Command.Recover n p) → EachUsed (OnlyRead D.tells D.seen D.may_leave D.moment D.may_leave_since) disks.old.items disks.new.items n }
 
     // Where nothing is amiss, the work is done.

@@ -202,6 +202,17 @@ fn disks_that_are_not_empty(rt: HostRuntime) -> Result<(), Fail> {
 }
 
 #[test]
+fn a_disk_that_fails_comes_before_one_that_is_not_empty(rt: HostRuntime) -> Result<(), Fail> {
+    let alloc = rt.alloc();
+    let first = MemDisk::of_image(alloc, b"x")?;
+    let mut disks = disks_of(alloc, first, MemDisk::new(alloc, &[1])?)?;
+    let text = told(&rt, alloc, &["run", "2", "1"], b"table a\n", 6, &mut disks)?;
+    assert_eq!(rt; text.as_slice(), b"fault 6 1\n".as_slice());
+    assert_eq!(rt; disks[0].calls(), 1);
+    Ok(())
+}
+
+#[test]
 fn each_opening_call_fails_in_turn(rt: HostRuntime) -> Result<(), Fail> {
     let alloc = rt.alloc();
     for call in 1..8u32 {

@@ -269,3 +269,24 @@ fn images_that_hold_no_log(rt: HostRuntime) -> Result<(), Fail> {
     assert_eq!(rt; text.as_slice(), b"fault 6 1\n".as_slice());
     Ok(())
 }
+
+// Stream 0 of two, whose first byte is none of a log's.
+static HOSTILE: &[u8] =
+    b"\x00AURUS-LOG-1\x00\x02\x00\x00\x01\x00\x00\x00\x0d\x04\x00\x00\x00\x0dtable a\n\x00";
+
+#[test]
+fn a_disk_that_fails_comes_before_a_bad_image(rt: HostRuntime) -> Result<(), Fail> {
+    let alloc = rt.alloc();
+    let rows = [
+        (3u32, 7u8, b"fault 7 0 image 1\n".as_slice()),
+        (1, 6, b"fault 6 1\n".as_slice()),
+        (2, 6, b"fault 6 1\n".as_slice()),
+    ];
+    for (call, code, line) in rows {
+        let first = MemDisk::of_image(alloc, HOSTILE)?;
+        let mut disks = disks_of(alloc, first, MemDisk::new(alloc, &[call])?)?;
+        let text = told(&rt, alloc, &["recover", "2", "1"], b"", code, &mut disks)?;
+        assert_eq!(rt; text.as_slice(), line, "call {call}");
+    }
+    Ok(())
+}

@@ -6,7 +6,7 @@ use Rattle.std.proofs.lemmas.Bool.Decides.{nat_tests}
 use Rattle.tau_disk.specs.declared.disk.Disk.{Ghosts}
 use Rattle.tau_disk.specs.Disk.{Rose, Elapses, Passes, WasToFail, WasRefused}
 use Rattle.tau_disk.specs.Plan.{MadeAll, MadeSome}
-use Rattle.tau_disk.specs.Used.{OnlyRead, IsClean, IsStopped, AllCalls, OneCall, GoesOn}
+use Rattle.tau_disk.specs.Used.{OnlyRead, IsClean, IsStopped, AllCalls, GoesOn}
 use Rattle.tau_open.specs.Outside.{calls_to_make, calls_to_open}
 use Rattle.tau_open.specs.Opening.{Went, Broke, Begins, Asked, FailsAsked, IsCreated, FailsCreated, IsOpened, FailsOpened}
 
@@ -115,9 +115,6 @@ module _ {D : Type 0} (G : Ghosts D) where
       early : MadeSome count (G.number d) (G.number e) (G.fails d) (G.short e) → (k : ℕ) × (k ≤ count) × (G.short e ≡ false → G.number e ≡ G.number d + k)
       early (inl made) = (G.number e - G.number d, omega (arith, made.1), λ s. omega (arith, made.0))
       early (inr memory) = (0, omega arith, λ s. absurd (cc))
-
-  pub one_call : (d e : D) → Asked G d e → OneCall G.tells G.number G.short d e
-  one_call d e asked t s = (asked.went.made t).0
 
   pub all_calls : (count : ℕ) (d e : D) → Went G count d e → AllCalls G.tells G.number G.fails G.short count d e
   all_calls count d e went t = went.made t

@@ -4,6 +4,7 @@
 ghost use Rattle.std.specs.Prelude.{◌≡◌, IfOk, vec_len};
 
 use std::alloc::{AllocError, Global};
+use std::io::ErrorKind;
 use std::process::ExitCode;
 use std::rt::Files;
 use std::{env, io};
@@ -11,7 +12,7 @@ use tau_disk::{Quiet, ReadSource, WriteSink};
 use tau_engine::taurus;
 use tau_file::HostFile;
 
-/// The sixteen files of the working directory, each made where it is first used.
+/// The sixteen files of the working directory, each made as it is first used.
 fn host_files<R: Files + Clone + Drop>(
     rt: &R,
     alloc: Global,
@@ -26,13 +27,18 @@ fn host_files<R: Files + Clone + Drop>(
     Ok(files)
 }
 
+/// The words after the program's name. If one of all is no text, none: no words are no command.
+fn words(rt: &HostRuntime, alloc: Global) -> Result<Vec<String>, AllocError> {
+    match env::args(rt) {
+        Ok(args) => args.skip(1).collect(alloc),
+        Err(error) if error.kind() == ErrorKind::OutOfMemory => Err(AllocError),
+        Err(_) => Ok(Vec::new(alloc)),
+    }
+}
+
 fn main(rt: HostRuntime) -> ExitCode {
     let alloc = rt.alloc();
-    let Ok(args) = env::args(&rt) else {
-        return ExitCode::from(1);
-    };
-    let words: Result<Vec<String>, AllocError> = args.skip(1).collect(alloc);
-    let Ok(words) = words else {
+    let Ok(words) = words(&rt, alloc) else {
         return ExitCode::from(1);
     };
     let Ok(mut disks) = host_files(&rt, alloc) else {

@@ -1,9 +1,9 @@
 use Rattle.std.proofs.Common.{ℕ, ◌≡◌, ◌++◌, List, length, take, drop, sym, subst, rules}
 use Rattle.std.specs.Prelude.{Result, Ok, Err, OnOk}
 use Rattle.std.proofs.Math.Seq.{take-append_seam}
-use Rattle.tau_disk.specs.Used.{Each, RoseAt, GoesOn, IsFirstStopped}
-use Rattle.tau_scan.specs.Outside.{IsRead}
-use Rattle.tau_engine.proofs.Recoveries.{read_first, rose_among, clean_first, stopped_among}
+use Rattle.tau_disk.specs.Used.{Each, RoseAt, AllCalls, IsFirstStopped}
+use Rattle.tau_scan.specs.Outside.{IsRead, calls_to_read}
+use Rattle.tau_engine.proofs.Recoveries.{read_first, rose_among, each_lent, stopped_among}
 use Rattle.tau_engine.proofs.recovery.scan_first.Goals as goal
 
 pub returns-clause-failed : goal.returns-clause-failed
@@ -34,11 +34,12 @@ on_ok : {A E P Q : Type 0} (r : Result A E) → OnOk r P → (P → Q) → OnOk 
 on_ok (Ok x) h f = f h
 on_ok (Err e) h f = h
 
-pub returns-clause-clean : goal.returns-clause-clean
-returns-clause-clean g c =
+pub returns-clause-calls : goal.returns-clause-calls
+returns-clause-calls g c =
     let long : length c.scan.new.disks ≡ c.args.n = search rules in
-    let same : take c.args.n (c.scan.new.disks ++ drop c.args.n c.args.disks.now) ≡ c.scan.new.disks =
-    subst (λ (k : ℕ). take k (c.scan.new.disks ++ drop c.args.n c.args.disks.now) ≡ c.scan.new.disks) long (take-append_seam c.scan.new.disks (drop c.args.n c.args.disks.now)) in
-    on_ok c.scan.result c.scan.ensures.went (λ each.
-    clean_first g.D.Disk.tells g.D.Disk.number g.D.Disk.fails c.args.disks.now (c.scan.new.disks ++ drop c.args.n c.args.disks.now) c.args.n
-    (subst (λ (ds : List g.row.D.Denot). Each (λ d e. g.D.Disk.tells → GoesOn g.D.Disk.number g.D.Disk.fails d e) (take c.args.n c.args.disks.now) ds) (sym same) each))
+    on_ok c.scan.result c.scan.ensures.calls (λ each. each_lent (AllCalls g.D.Disk.tells g.D.Disk.number g.D.Disk.fails g.D.Disk.short calls_to_read) c.args.disks.now c.scan.new.disks c.args.n long each)
+
+pub returns-clause-calls_bad : goal.returns-clause-calls_bad
+returns-clause-calls_bad g c fault e =
+    let long : length c.scan.new.disks ≡ c.args.n = search rules in
+    each_lent (AllCalls g.D.Disk.tells g.D.Disk.number g.D.Disk.fails g.D.Disk.short calls_to_read) c.args.disks.now c.scan.new.disks c.args.n long (c.scan.ensures.calls_bad fault e)

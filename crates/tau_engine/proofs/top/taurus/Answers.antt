@@ -3,19 +3,20 @@ use Rattle.std.specs.Prelude.{string_bytes, Some, None, Ok}
 use Rattle.tau_base.specs.declared.value.LogMode.{LogMode}
 use Rattle.tau_words.specs.declared.command.Command.TheVariants.{Run, Recover}
 use Rattle.tau_text.specs.declared.load.Workload.{Workload}
+use Rattle.tau_scan.specs.Outside.{calls_to_read}
 use Rattle.tau_scan.specs.Reading.{log_of}
 use Rattle.tau_run.proofs.Sources.{catalogue_load}
 use Rattle.tau_engine.specs.declared.status.Status.TheVariants as status
 use Rattle.tau_engine.specs.Recovery.{RecoverTells, IsBadLog, images_of}
 use Rattle.tau_engine.specs.Served.{served, used_by, reads_source, writes_at_end}
 use Rattle.tau_engine.specs.Said.{SaysRun}
-use Rattle.tau_disk.specs.Used.{EachUsed, OnlyRead, OneCall, RoseAt, IsClean, IsFirstStopped}
-use Rattle.tau_engine.specs.Outside.{Wrote}
+use Rattle.tau_disk.specs.Used.{EachUsed, OnlyRead, AllCalls, RoseAt, IsClean, IsFirstStopped}
+use Rattle.tau_engine.specs.Outside.{Wrote, is_behind_reading}
 use Rattle.tau_disk.specs.Disk.{Rose}
 use Rattle.tau_engine.proofs.Longs.{none_is_long, long_told}
 use Rattle.tau_engine.proofs.Refusals.{told_refusal, refusal_of_run}
 use Rattle.tau_engine.proofs.Refused.{untouched_facts}
-use Rattle.tau_engine.proofs.Recoveries.{handed_back}
+use Rattle.tau_engine.proofs.Recoveries.{handed_back, clean_of}
 use Rattle.tau_engine.proofs.Tops.{command_of_run, command_of_recovery, not_recovery, same_command, same_streams, within_served, same_load, not_both, says_at, other_end, runs_behind, recovers_well, ends_well, ends_unread}
 use Rattle.tau_engine.proofs.top.taurus.Given.{Over}
 use Rattle.tau_engine.proofs.top.taurus.Goals as goal
@@ -113,6 +114,9 @@ returns-in-Ok-clause-tangled_told g c n p log words tells is none = absurd (not_
 pub returns-in-Ok-clause-write_fault : goal.returns-in-Ok-clause-write_fault
 returns-in-Ok-clause-write_fault g c e = (here g c).sink e
 
+pub returns-in-Ok-clause-write_fault_late : goal.returns-in-Ok-clause-write_fault_late
+returns-in-Ok-clause-write_fault_late g c n m mode words e = (says g c n m mode words).opened e
+
 pub returns-in-Ok-clause-source : goal.returns-in-Ok-clause-source
 returns-in-Ok-clause-source g c tells = c.read_source.ensures.source tells
 
@@ -163,7 +167,19 @@ pub returns-in-Ok-clause-asked : goal.returns-in-Ok-clause-asked
 returns-in-Ok-clause-asked g c j long e = subst (λ (k : ℕ). EachUsed (OnlyRead g.D.Disk.tells g.D.Disk.seen g.D.Disk.may_leave g.D.Disk.moment g.D.Disk.may_leave_since) c.args.disks.now.items c.run.new.disks.items k) (used g c) ((here g c).asked j long e).0.read
 
 pub returns-in-Ok-clause-asked_once : goal.returns-in-Ok-clause-asked_once
-returns-in-Ok-clause-asked_once g c j long e = subst (λ (k : ℕ). EachUsed (OneCall g.D.Disk.tells g.D.Disk.number g.D.Disk.short) c.args.disks.now.items c.run.new.disks.items k) (used g c) ((here g c).asked j long e).1
+returns-in-Ok-clause-asked_once g c j long e = subst (λ (k : ℕ). EachUsed (AllCalls g.D.Disk.tells g.D.Disk.number g.D.Disk.fails g.D.Disk.short 1) c.args.disks.now.items c.run.new.disks.items k) (used g c) ((here g c).asked j long e).1
+
+pub returns-in-Ok-clause-silent_text : goal.returns-in-Ok-clause-silent_text
+returns-in-Ok-clause-silent_text g c e reads tells none = absurd (none c.in-Ok.load (c.in-Ok.ensures.load tells))
+
+pub returns-in-Ok-clause-silent_long : goal.returns-in-Ok-clause-silent_long
+returns-in-Ok-clause-silent_long g c n m j long mode words e tells lt is = ((says g c n m mode words).long j long lt tells is).silent e
+
+pub returns-in-Ok-clause-moments : goal.returns-in-Ok-clause-moments
+returns-in-Ok-clause-moments g c n m mode words unborn = (says g c n m mode words).moments unborn
+
+pub returns-in-Ok-clause-recover_calls : goal.returns-in-Ok-clause-recover_calls
+returns-in-Ok-clause-recover_calls g c n p words e = absurd (not_recovery (served (map string_bytes c.args.words.now)) c.in-Ok-Run.n c.in-Ok-Run.m n p c.in-Ok-Run.mode (asked g c) words)
 
 pub returns-in-Ok-clause-read : goal.returns-in-Ok-clause-read
 returns-in-Ok-clause-read g c n p words = absurd (not_recovery (served (map string_bytes c.args.words.now)) c.in-Ok-Run.n c.in-Ok-Run.m n p c.in-Ok-Run.mode (asked g c) words)
@@ -204,7 +220,39 @@ returns-in-Ok-Recover-clause-run g c n m mode load words tells read empty =
 pub returns-in-Err-clause-refusal : goal.returns-in-Err-clause-refusal
 returns-in-Err-clause-refusal g c e = told_refusal (Wrote g.K.Sink.tells (g.K.Sink.held c.args.sink.now) (g.K.Sink.held c.refuse-in-Err.new.sink)) (Rose (g.K.Sink.faults c.args.sink.now) (g.K.Sink.faults c.refuse-in-Err.new.sink)) c.in-Err.refusal c.refuse-in-Err.result c.refuse-in-Err.ensures e
 
+pub returns-in-Err-clause-silent_text : goal.returns-in-Err-clause-silent_text
+returns-in-Err-clause-silent_text g c e reads tells none =
+    (ends_unread (Wrote g.K.Sink.tells (g.K.Sink.held c.args.sink.now) (g.K.Sink.held c.refuse-in-Err.new.sink)) (Rose (g.K.Sink.faults c.args.sink.now) (g.K.Sink.faults c.refuse-in-Err.new.sink)) c.in-Err.refusal c.refuse-in-Err.result c.in-Err.ensures.kind c.refuse-in-Err.ensures).1 e
+
+pub returns-in-Err-clause-silent_long : goal.returns-in-Err-clause-silent_long
+returns-in-Err-clause-silent_long g c n m j long mode words e tells lt is =
+    (ends_unread (Wrote g.K.Sink.tells (g.K.Sink.held c.args.sink.now) (g.K.Sink.held c.refuse-in-Err.new.sink)) (Rose (g.K.Sink.faults c.args.sink.now) (g.K.Sink.faults c.refuse-in-Err.new.sink)) c.in-Err.refusal c.refuse-in-Err.result c.in-Err.ensures.kind c.refuse-in-Err.ensures).1 e
+
 -- ---- a recovery
+
+pub returns-in-Ok-Recover-clause-write_fault_late : goal.returns-in-Ok-Recover-clause-write_fault_late
+returns-in-Ok-Recover-clause-write_fault_late g c n m mode words e =
+    absurd (not_recovery (served (map string_bytes c.args.words.now)) n m c.in-Ok-Recover.n c.in-Ok-Recover.field-0-1 mode words
+    (command_of_recovery (served (map string_bytes c.args.words.now)) c.in-Ok-Recover.field-0 c.in-Ok-Recover.n c.in-Ok-Recover.field-0-1 c.in-Ok-Recover.ensures.ok c.in-Ok-Recover.field-0-is))
+
+pub returns-in-Ok-Recover-clause-moments : goal.returns-in-Ok-Recover-clause-moments
+returns-in-Ok-Recover-clause-moments g c n m mode words unborn =
+    absurd (not_recovery (served (map string_bytes c.args.words.now)) n m c.in-Ok-Recover.n c.in-Ok-Recover.field-0-1 mode words
+    (command_of_recovery (served (map string_bytes c.args.words.now)) c.in-Ok-Recover.field-0 c.in-Ok-Recover.n c.in-Ok-Recover.field-0-1 c.in-Ok-Recover.ensures.ok c.in-Ok-Recover.field-0-is))
+
+pub returns-in-Ok-Recover-clause-silent_long : goal.returns-in-Ok-Recover-clause-silent_long
+returns-in-Ok-Recover-clause-silent_long g c n m j long mode words e tells lt is = c.recover.ensures.silent e
+
+pub returns-in-Ok-Recover-clause-recover_calls : goal.returns-in-Ok-Recover-clause-recover_calls
+returns-in-Ok-Recover-clause-recover_calls g c n p words e =
+    let asked : served (map string_bytes c.args.words.now) ≡ Some (Recover c.in-Ok-Recover.n c.in-Ok-Recover.field-0-1) =
+    command_of_recovery (served (map string_bytes c.args.words.now)) c.in-Ok-Recover.field-0 c.in-Ok-Recover.n c.in-Ok-Recover.field-0-1 c.in-Ok-Recover.ensures.ok c.in-Ok-Recover.field-0-is in
+    let streams : c.from.result ≡ n = c.from.ensures ∙ same_streams (served (map string_bytes c.args.words.now)) c.in-Ok-Recover.n c.in-Ok-Recover.field-0-1 n p asked words in
+    let long : length c.recover.new.disks ≡ c.args.disks.now.len = search rules in
+    let back = handed_back c.recover.new.disks c.args.disks.now.items c.args.disks.now.len long in
+    subst (λ (ds : List g.row.D.Denot). EachUsed (AllCalls g.D.Disk.tells g.D.Disk.number g.D.Disk.fails g.D.Disk.short calls_to_read) c.args.disks.now.items ds n) (sym back)
+    (subst (λ (k : ℕ). EachUsed (AllCalls g.D.Disk.tells g.D.Disk.number g.D.Disk.fails g.D.Disk.short calls_to_read) c.args.disks.now.items c.recover.new.disks k) streams
+    (subst (λ (ds : List g.row.D.Denot). EachUsed (AllCalls g.D.Disk.tells g.D.Disk.number g.D.Disk.fails g.D.Disk.short calls_to_read) ds c.recover.new.disks c.from.result) c.deref_mut.ensures.value (c.recover.ensures.calls e)))
 
 pub returns-in-Ok-Recover-clause-read : goal.returns-in-Ok-Recover-clause-read
 returns-in-Ok-Recover-clause-read g c n p words =
@@ -254,7 +302,8 @@ returns-in-Ok-Recover-clause-disk_fault_told g c e =
     let back = handed_back c.recover.new.disks c.args.disks.now.items c.args.disks.now.len long in
     subst (λ (k : ℕ). EachUsed (IsClean g.D.Disk.tells g.D.Disk.number g.D.Disk.fails) c.args.disks.now.items (take c.args.disks.now.len (c.recover.new.disks ++ drop (length c.recover.new.disks) c.args.disks.now.items)) k) streams
     (subst (λ (ds : List g.row.D.Denot). EachUsed (IsClean g.D.Disk.tells g.D.Disk.number g.D.Disk.fails) c.args.disks.now.items ds c.from.result) (sym back)
-    (subst (λ (ds : List g.row.D.Denot). EachUsed (IsClean g.D.Disk.tells g.D.Disk.number g.D.Disk.fails) ds c.recover.new.disks c.from.result) c.deref_mut.ensures.value (c.recover.ensures.clean e)))
+    (subst (λ (ds : List g.row.D.Denot). EachUsed (IsClean g.D.Disk.tells g.D.Disk.number g.D.Disk.fails) ds c.recover.new.disks c.from.result) c.deref_mut.ensures.value
+    (clean_of g.D.Disk.tells g.D.Disk.number g.D.Disk.fails g.D.Disk.short calls_to_read c.deref_mut.result.now c.recover.new.disks c.from.result (c.recover.ensures.calls (ap is_behind_reading e)))))
 
 pub returns-in-Ok-Recover-clause-bad_log : goal.returns-in-Ok-Recover-clause-bad_log
 returns-in-Ok-Recover-clause-bad_log g c fault e =
