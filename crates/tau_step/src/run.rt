@@ -197,10 +197,7 @@ impl Run {
         ensures moves { Moves (turned_all turns.now) (is_ok result) self.old self.new writers.old.items writers.new.items K.tells (K.held sink.old) (K.held sink.new) (K.faults sink.old) (K.faults sink.new) }
     {
         for turn in turns {
-            match self.turn(writers, sink, *turn) {
-                Ok(()) => {}
-                Err(error) => return Err(error),
-            }
+            self.turn(writers, sink, *turn)?;
         }
         Ok(())
     }
@@ -215,10 +212,8 @@ impl Run {
     {
         let mut any = false;
         for worker in 0..self.workers {
-            match self.work(worker) {
-                Ok(did) => any = either(any, did),
-                Err(error) => return Err(error),
-            }
+            let did = self.work(worker)?;
+            any = either(any, did);
         }
         Ok(any)
     }
@@ -230,10 +225,7 @@ impl Run {
         ensures left { OnOk result (total_left self.new.core ≡ total_left self.old.core) }
     {
         for stream in 0..self.streams {
-            match self.manage(writers, stream) {
-                Ok(_) => {}
-                Err(error) => return Err(error),
-            }
+            self.manage(writers, stream)?;
         }
         Ok(())
     }
@@ -396,10 +388,7 @@ impl Run {
         ensures manages { Manages all_idled (is_ok result) self.old self.new writers.old.items writers.new.items }
     {
         for stream in 0..self.streams {
-            match self.drain_stream(writers, stream) {
-                Ok(()) => {}
-                Err(error) => return Err(error),
-            }
+            self.drain_stream(writers, stream)?;
         }
         Ok(())
     }

@@ -1,4 +1,8 @@
-use Rattle.std.proofs.Common.{refl, arith, ◌∙◌}
+use Rattle.std.proofs.Common.{refl, sym, subst, arith, ◌∙◌}
+use Rattle.std.specs.Prelude.{is_ok}
+use Rattle.std.proofs.lemmas.Result.{err_from_is_err_and}
+use Rattle.tau_step.specs.Moving.{Manages}
+use Rattle.tau_step.specs.Rounding.{all_managed}
 use Rattle.tau_step.proofs.Rounds.{managers-none, managers-more, managers-cut, managers-all}
 use Rattle.tau_step.proofs.run.Run.managers_round.Goals as goal
 
@@ -11,15 +15,17 @@ manage-requires-clause-on g c = c.loop-stream.invariant.manages.on refl
 pub manage-requires-clause-there : goal.manage-requires-clause-there
 manage-requires-clause-there g c = omega (arith, c.loop-stream-test.true, c.loop-stream.invariant.manages.streams)
 
-pub returns-in-Err-clause-manages : goal.returns-in-Err-clause-manages
-returns-in-Err-clause-manages g c =
-    managers-cut g.met.D.Disk.seen_now c.loop-stream.stream c.in-Err.error c.args.self.now c.loop-stream.self c.manage.new.self c.args.writers.now.items c.loop-stream.writers.items c.manage.new.writers.items
-    (omega (arith, c.loop-stream-test.true, c.requires.on.streams)) c.loop-stream.invariant.manages c.in-Err.ensures.manages
+pub returns-in_err-manage-clause-manages : goal.returns-in_err-manage-clause-manages
+returns-in_err-manage-clause-manages g c =
+    let p = err_from_is_err_and c.from_residual.result c.from_residual.ensures.1 in
+    subst (λ r. Manages all_managed (is_ok r) c.args.self.now c.manage.new.self c.args.writers.now.items c.manage.new.writers.items) (sym p.1)
+    (managers-cut g.met.D.Disk.seen_now c.loop-stream.stream _ c.args.self.now c.loop-stream.self c.manage.new.self c.args.writers.now.items c.loop-stream.writers.items c.manage.new.writers.items
+    (omega (arith, c.loop-stream-test.true, c.requires.on.streams)) c.loop-stream.invariant.manages c.in_err-manage.ensures.manages)
 
 pub loop-stream-preserved : goal.loop-stream-preserved
 loop-stream-preserved g c = record {
-  manages = managers-more g.met.D.Disk.seen_now c.loop-stream.stream c.in-Ok.field-0 c.args.self.now c.loop-stream.self c.manage.new.self c.args.writers.now.items c.loop-stream.writers.items c.manage.new.writers.items c.loop-stream.invariant.manages c.in-Ok.ensures.manages;
-  left = c.in-Ok.ensures.left ∙ c.loop-stream.invariant.left;
+  manages = managers-more g.met.D.Disk.seen_now c.loop-stream.stream c.in_ok-manage.field-0 c.args.self.now c.loop-stream.self c.manage.new.self c.args.writers.now.items c.loop-stream.writers.items c.manage.new.writers.items c.loop-stream.invariant.manages c.in_ok-manage.ensures.manages;
+  left = c.in_ok-manage.ensures.left ∙ c.loop-stream.invariant.left;
 }
 
 pub returns-clause-manages : goal.returns-clause-manages

@@ -1,7 +1,9 @@
-use Rattle.std.proofs.Common.{true, false, ◌≡◌, ap, arith, ◌∙◌}
-use Rattle.std.specs.Prelude.{Ok, Err}
+use Rattle.std.proofs.Common.{true, false, ◌≡◌, sym, ap, subst, arith, ◌∙◌}
+use Rattle.std.specs.Prelude.{Ok, Err, is_ok}
+use Rattle.std.proofs.lemmas.Result.{err_from_is_err_and}
 use Rattle.tau_core.specs.declared.state.Load.{Load}
-use Rattle.tau_step.specs.Moving.{total_left}
+use Rattle.tau_step.specs.Moving.{Works, total_left}
+use Rattle.tau_step.specs.Rounding.{rounded_by}
 use Rattle.tau_step.proofs.Moved.{works-lowest}
 use Rattle.tau_step.proofs.Rounds.{rounded_below, below-quiet, workers-none, workers-more, workers-cut, workers-all, idle-total, totals-more}
 use Rattle.tau_step.proofs.run.Run.workers_round.Goals as goal
@@ -20,18 +22,23 @@ work-requires-clause-there c =
 pub work-requires-clause-lowest : goal.work-requires-clause-lowest
 work-requires-clause-lowest c = works-lowest (rounded_below c.loop-worker.worker c.loop-worker.any) true c.args.self.now c.loop-worker.self c.requires.stood (below-quiet c.loop-worker.worker c.loop-worker.any true) c.loop-worker.invariant.works c.requires.lowest
 
-pub returns-in-Err-clause-works : goal.returns-in-Err-clause-works
-returns-in-Err-clause-works c = workers-cut c.loop-worker.worker c.loop-worker.any c.in-Err.error c.args.self.now c.loop-worker.self c.work.new.self (omega (arith, c.loop-worker-test.true, c.requires.workers)) c.loop-worker.invariant.works c.in-Err.ensures.works
+pub returns-in_err-did-clause-works : goal.returns-in_err-did-clause-works
+returns-in_err-did-clause-works c =
+    let p = err_from_is_err_and c.from_residual.result c.from_residual.ensures.1 in
+    subst (λ r. Works (rounded_by r) (is_ok r) c.args.self.now c.work.new.self) (sym p.1)
+    (workers-cut c.loop-worker.worker c.loop-worker.any _ c.args.self.now c.loop-worker.self c.work.new.self (omega (arith, c.loop-worker-test.true, c.requires.workers)) c.loop-worker.invariant.works c.in_err-did.ensures.works)
 
-pub returns-in-Err-clause-fewer : goal.returns-in-Err-clause-fewer
-returns-in-Err-clause-fewer c = λ e. absurd (let bad : Err c.in-Err.error ≡ Ok true = e in cc)
+pub returns-in_err-did-clause-fewer : goal.returns-in_err-did-clause-fewer
+returns-in_err-did-clause-fewer c = λ e.
+    let p = err_from_is_err_and c.from_residual.result c.from_residual.ensures.1 in
+    absurd (let bad : Err p.0 ≡ Ok true = sym p.1 ∙ e in cc)
 
 pub loop-worker-preserved : goal.loop-worker-preserved
 loop-worker-preserved c =
-    let totals = totals-more c.loop-worker.any c.in-Ok.did c.either-any.result (total_left c.args.self.now.core) (total_left c.loop-worker.self.core) (total_left c.work.new.self.core) c.either-any.ensures c.loop-worker.invariant.most c.loop-worker.invariant.fewer
-    (λ e. c.work.ensures.fewer (c.in-Ok.is ∙ ap Ok e)) (λ e. idle-total c.loop-worker.worker c.loop-worker.self c.work.new.self c.loop-worker.invariant.works.stood (rw e at c.in-Ok.ensures.works)) in
+    let totals = totals-more c.loop-worker.any c.in_ok-did.did c.either-any.result (total_left c.args.self.now.core) (total_left c.loop-worker.self.core) (total_left c.work.new.self.core) c.either-any.ensures c.loop-worker.invariant.most c.loop-worker.invariant.fewer
+    (λ e. c.work.ensures.fewer (c.in_ok-did.was ∙ ap Ok e)) (λ e. idle-total c.loop-worker.worker c.loop-worker.self c.work.new.self c.loop-worker.invariant.works.stood (rw e at c.in_ok-did.ensures.works)) in
     record {
-      works = workers-more c.loop-worker.worker c.loop-worker.any c.in-Ok.did c.either-any.result c.args.self.now c.loop-worker.self c.work.new.self c.either-any.ensures c.loop-worker.invariant.works c.in-Ok.ensures.works;
+      works = workers-more c.loop-worker.worker c.loop-worker.any c.in_ok-did.did c.either-any.result c.args.self.now c.loop-worker.self c.work.new.self c.either-any.ensures c.loop-worker.invariant.works c.in_ok-did.ensures.works;
       most = totals.0;
       fewer = totals.1;
     }
