@@ -1,6 +1,6 @@
 -- Which commands are served, and what they use.
 use Rattle.std.specs.Prelude.{ℕ, Bool, true, false, ◌&&◌, nat_le, if◌then◌else◌, List, Option, Some, None, option_and_then}
-use Rattle.tau_base.specs.declared.limits.TheConstants.{MAX_STREAMS, MAX_WORKERS}
+use Rattle.tau_base.specs.declared.limits.TheConstants.{MAX_STREAMS, MAX_WORKERS, MAX_RECOVERY_WORKERS}
 use Rattle.tau_words.specs.declared.command.Command.{Command}
 use Rattle.tau_words.specs.declared.command.Command.TheVariants.{Run, Recover, Drill, Bench}
 use Rattle.tau_words.specs.Words.{command_of}
@@ -10,7 +10,7 @@ use Rattle.tau_engine.specs.declared.served.Work.TheVariants as work
 -- the commands that are there by now
 abbrev pub is_served : Command → Bool
 is_served (Run n m mode) = nat_le 1 n && nat_le n MAX_STREAMS && nat_le 1 m && nat_le m MAX_WORKERS
-is_served (Recover n p) = nat_le 1 n && nat_le n MAX_STREAMS
+is_served (Recover n p) = nat_le 1 n && nat_le n MAX_STREAMS && nat_le 1 p && nat_le p MAX_RECOVERY_WORKERS
 is_served (Drill n m p ending) = false
 is_served (Bench start calls n m) = false
 

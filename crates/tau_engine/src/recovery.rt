@@ -17,8 +17,10 @@ ghost use Rattle.tau_engine.specs.Recovery.{LogTells, IsTangle, IsBadLog, Recove
 use crate::fault::refuse;
 use crate::status::Status;
 use std::alloc::Global;
-use tau_disk::{Disk, Sink};
-use tau_replay::replay_turns;
+use std::sync::Wait;
+use std::thread::Threads;
+use tau_disk::{Disk, Gate, Sink};
+use tau_replay::replay_threads;
 use tau_report::recover_text;
 use tau_scan::{Log, LogCause, LogFault, ReplayRefusal, ScanRefusal, scan};
 use tau_step::write_all;
@@ -40,9 +42,17 @@ fn scan_first<D: Disk>(alloc: Global, n: usize, disks: &mut [D]) -> Result<Log, 
     scan(alloc, &mut disks[..n])
 }
 
-/// Redoes a log and writes what recovery finds in it.
-fn tell_log<K: Sink>(alloc: Global, log: &Log, sink: &mut K) -> Status
-    requires { IsLog log.now }
+/// Redoes a log by so many workers, and writes what recovery finds in it.
+fn tell_log<R: Threads + Wait + Sync, K: Sink, G: Gate + Sync>(
+    rt: &R,
+    alloc: Global,
+    log: &Log,
+    workers: u8,
+    sink: &mut K,
+    gate: &G,
+) -> Status
+    requires log { IsLog log.now }
+    requires workers { (1 ≤ workers) × (workers ≤ 16) }
     ensures told { LogTells log.now (Wrote K.tells (K.held sink.old) (K.held sink.new)) result }
     ensures refusal { is_refusal result ≡ true → WroteFront (Wrote K.tells (K.held sink.old) (K.held sink.new)) (Rose (K.faults sink.old) (K.faults sink.new)) (fault_text result) }
     ensures tangled { (fault : LogFault) → result ≡ Status.BadLog fault → IsTangle log.now fault × ((order : List Kept) → IsOrderOf log.now order → ⊥) }
@@ -50,7 +60,7 @@ fn tell_log<K: Sink>(alloc: Global, log: &Log, sink: &mut K) -> Status
     ensures kind { ends_recovery result ≡ true }
     ensures no_disk { (j : ℕ) → result ≡ Status.DiskFault j → ⊥ }
 {
-    let tables = match replay_turns(alloc, log, &[]) {
+    let tables = match replay_threads(rt, alloc, log, workers, gate) {
         Ok(tables) => tables,
         Err(ReplayRefusal::NoMemory) => return Status::NoMemory,
         Err(ReplayRefusal::Tangled { stream, at }) => {
@@ -67,8 +77,17 @@ fn tell_log<K: Sink>(alloc: Global, log: &Log, sink: &mut K) -> Status
     }
 }
 
-/// Recovers from the first `n` disks, and writes what it finds.
-pub fn recover<D: Disk, K: Sink>(alloc: Global, n: usize, sink: &mut K, disks: &mut [D]) -> Status
+/// Recovers from the first `n` disks by so many workers, and writes what it finds.
+pub fn recover<R: Threads + Wait + Sync, D: Disk, K: Sink, G: Gate + Sync>(
+    rt: &R,
+    alloc: Global,
+    n: usize,
+    workers: u8,
+    sink: &mut K,
+    disks: &mut [D],
+    gate: &G,
+) -> Status
+    requires workers { (1 ≤ workers) × (workers ≤ 16) }
     requires low { 1 ≤ n }
     requires high { n ≤ 16 }
     requires there { n ≤ length disks.old }
@@ -90,7 +109,7 @@ pub fn recover<D: Disk, K: Sink>(alloc: Global, n: usize, sink: &mut K, disks: &
     ensures untouched { drop n disks.new ≡ drop n disks.old }
 {
     match scan_first(alloc, n, disks) {
-        Ok(log) => tell_log(alloc, &log, sink),
+        Ok(log) => tell_log(rt, alloc, &log, workers, sink, gate),
         Err(ScanRefusal::NoMemory) => Status::NoMemory,
         Err(ScanRefusal::Failed { stream }) => refuse(alloc, sink, Status::DiskFault { stream }),
         Err(ScanRefusal::Bad(fault)) => refuse(alloc, sink, Status::BadLog(fault)),

@@ -41,13 +41,13 @@ fn is_count(n: u8) -> bool
 fn work_of(command: Command) -> Option<Work>
     ensures some { IfSome result (λ w. command ≡ command_in w) }
     ensures there { IfSome result (λ w. is_served command ≡ true) }
-    ensures within { IfSome result (λ w. (n p : ℕ) → w ≡ Work.Recover n p → (1 ≤ n) × (n ≤ 16)) }
+    ensures within { IfSome result (λ w. (n p : ℕ) → w ≡ Work.Recover n p → ((1 ≤ n) × (n ≤ 16)) × (1 ≤ p) × (p ≤ 16)) }
     ensures within_run { IfSome result (λ w. (n m : ℕ) (mode : LogMode) → w ≡ Work.Run n m mode → ((1 ≤ n) × (n ≤ 16)) × (1 ≤ m) × (m ≤ 16)) }
     ensures none { IfNone result (is_served command ≡ false) }
 {
     match command {
         Command::Run { n, m, mode } if is_count(n) && is_count(m) => Some(Work::Run { n, m, mode }),
-        Command::Recover { n, p } if is_count(n) => Some(Work::Recover { n, p }),
+        Command::Recover { n, p } if is_count(n) && is_count(p) => Some(Work::Recover { n, p }),
         _ => None,
     }
 }
@@ -55,7 +55,7 @@ fn work_of(command: Command) -> Option<Work>
 /// What these words ask for, where they are those of a command that is there by now. Usage exactly where they are not.
 pub fn read_served(alloc: Global, words: &[String]) -> Result<Work, WordsRefusal>
     ensures ok { IfOk result (λ w. served (map string_bytes words.now) ≡ Some (command_in w)) }
-    ensures within { IfOk result (λ w. (n p : ℕ) → w ≡ Work.Recover n p → (1 ≤ n) × (n ≤ 16)) }
+    ensures within { IfOk result (λ w. (n p : ℕ) → w ≡ Work.Recover n p → ((1 ≤ n) × (n ≤ 16)) × (1 ≤ p) × (p ≤ 16)) }
     ensures within_run { IfOk result (λ w. (n m : ℕ) (mode : LogMode) → w ≡ Work.Run n m mode → ((1 ≤ n) × (n ≤ 16)) × (1 ≤ m) × (m ≤ 16)) }
     ensures usage { result ≡ Err Usage → served (map string_bytes words.now) ≡ None }
 {

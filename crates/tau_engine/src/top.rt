@@ -148,12 +148,10 @@ pub fn taurus<R: Threads + Wait + Sync, S: Source, K: Sink + Send, D: Disk + Sen
         (Rose (K.faults sink.old) (K.faults sink.new) → ⊥) → ((j : ℕ) → j < n → RoseAt D.faults disks.old.items disks.new.items j → ⊥) →
         Member result (Status.Ok ∷ Status.NoMemory ∷ []) }
 {
-    let _ = rt;
-    let _ = gate;
     match read_served(alloc, words) {
         Err(WordsRefusal::NoMemory) => Status::NoMemory,
         Err(WordsRefusal::Usage) => refuse(alloc, sink, Status::Usage),
-        Ok(Work::Recover { n, p: _ }) => recover(alloc, usize::from(n), sink, disks),
+        Ok(Work::Recover { n, p }) => recover(rt, alloc, usize::from(n), p, sink, disks, gate),
         Ok(Work::Run { n, m, mode }) => match read_source(alloc, source) {
             Err(refusal) => refuse(alloc, sink, refusal),
             Ok(load) => run(alloc, &load, n, m, mode, sink, disks),

@@ -17,5 +17,5 @@ returns-in-Err-Tangled-clause-tangled g c fault e =
     (status.BadLog here) c.refuse.result (status.BadLog fault) c.refuse.ensures e (λ none. cc) in
     let same : here ≡ fault = cc in
     let failed = rw c.in-Err-Tangled.field-0-is at c.in-Err-Tangled.is in
-    let stuck = c.replay_turns.ensures.tangled c.in-Err-Tangled.stream c.in-Err-Tangled.at failed in
+    let stuck = c.replay_threads.ensures.tangled c.in-Err-Tangled.stream c.in-Err-Tangled.at failed in
     subst (λ (f : LogFault). IsTangle c.args.log.now f × ((order : List Kept) → IsOrderOf c.args.log.now order → ⊥)) same ((c.in-Err-Tangled.at, refl, stuck.0), stuck.1)

@@ -214,8 +214,8 @@ returns-in-Err-clause-run g c n m mode load words tells read empty =
 
 pub returns-in-Ok-Recover-clause-run : goal.returns-in-Ok-Recover-clause-run
 returns-in-Ok-Recover-clause-run g c n m mode load words tells read empty =
-    absurd (not_recovery (served (map string_bytes c.args.words.now)) n m c.in-Ok-Recover.n c.in-Ok-Recover.field-0-1 mode words
-    (command_of_recovery (served (map string_bytes c.args.words.now)) c.in-Ok-Recover.field-0 c.in-Ok-Recover.n c.in-Ok-Recover.field-0-1 c.in-Ok-Recover.ensures.ok c.in-Ok-Recover.field-0-is))
+    absurd (not_recovery (served (map string_bytes c.args.words.now)) n m c.in-Ok-Recover.n c.in-Ok-Recover.p mode words
+    (command_of_recovery (served (map string_bytes c.args.words.now)) c.in-Ok-Recover.field-0 c.in-Ok-Recover.n c.in-Ok-Recover.p c.in-Ok-Recover.ensures.ok c.in-Ok-Recover.field-0-is))
 
 pub returns-in-Err-clause-refusal : goal.returns-in-Err-clause-refusal
 returns-in-Err-clause-refusal g c e = told_refusal (Wrote g.K.Sink.tells (g.K.Sink.held c.args.sink.now) (g.K.Sink.held c.refuse-in-Err.new.sink)) (Rose (g.K.Sink.faults c.args.sink.now) (g.K.Sink.faults c.refuse-in-Err.new.sink)) c.in-Err.refusal c.refuse-in-Err.result c.refuse-in-Err.ensures e
@@ -256,9 +256,9 @@ returns-in-Ok-Recover-clause-recover_calls g c n p words e =
 
 pub returns-in-Ok-Recover-clause-read : goal.returns-in-Ok-Recover-clause-read
 returns-in-Ok-Recover-clause-read g c n p words =
-    let asked : served (map string_bytes c.args.words.now) ≡ Some (Recover c.in-Ok-Recover.n c.in-Ok-Recover.field-0-1) =
-    command_of_recovery (served (map string_bytes c.args.words.now)) c.in-Ok-Recover.field-0 c.in-Ok-Recover.n c.in-Ok-Recover.field-0-1 c.in-Ok-Recover.ensures.ok c.in-Ok-Recover.field-0-is in
-    let streams : c.from.result ≡ n = c.from.ensures ∙ same_streams (served (map string_bytes c.args.words.now)) c.in-Ok-Recover.n c.in-Ok-Recover.field-0-1 n p asked words in
+    let asked : served (map string_bytes c.args.words.now) ≡ Some (Recover c.in-Ok-Recover.n c.in-Ok-Recover.p) =
+    command_of_recovery (served (map string_bytes c.args.words.now)) c.in-Ok-Recover.field-0 c.in-Ok-Recover.n c.in-Ok-Recover.p c.in-Ok-Recover.ensures.ok c.in-Ok-Recover.field-0-is in
+    let streams : c.from.result ≡ n = c.from.ensures ∙ same_streams (served (map string_bytes c.args.words.now)) c.in-Ok-Recover.n c.in-Ok-Recover.p n p asked words in
     let long : length c.recover.new.disks ≡ c.args.disks.now.len = search rules in
     let back = handed_back c.recover.new.disks c.args.disks.now.items c.args.disks.now.len long in
     subst (λ (ds : List g.row.D.Denot). EachUsed (OnlyRead g.D.Disk.tells g.D.Disk.seen g.D.Disk.may_leave g.D.Disk.moment g.D.Disk.may_leave_since) c.args.disks.now.items ds n) (sym back)
@@ -267,9 +267,9 @@ returns-in-Ok-Recover-clause-read g c n p words =
 
 pub returns-in-Ok-Recover-clause-recover : goal.returns-in-Ok-Recover-clause-recover
 returns-in-Ok-Recover-clause-recover g c n p words tells =
-    let asked : served (map string_bytes c.args.words.now) ≡ Some (Recover c.in-Ok-Recover.n c.in-Ok-Recover.field-0-1) =
-    command_of_recovery (served (map string_bytes c.args.words.now)) c.in-Ok-Recover.field-0 c.in-Ok-Recover.n c.in-Ok-Recover.field-0-1 c.in-Ok-Recover.ensures.ok c.in-Ok-Recover.field-0-is in
-    let streams : c.from.result ≡ n = c.from.ensures ∙ same_streams (served (map string_bytes c.args.words.now)) c.in-Ok-Recover.n c.in-Ok-Recover.field-0-1 n p asked words in
+    let asked : served (map string_bytes c.args.words.now) ≡ Some (Recover c.in-Ok-Recover.n c.in-Ok-Recover.p) =
+    command_of_recovery (served (map string_bytes c.args.words.now)) c.in-Ok-Recover.field-0 c.in-Ok-Recover.n c.in-Ok-Recover.p c.in-Ok-Recover.ensures.ok c.in-Ok-Recover.field-0-is in
+    let streams : c.from.result ≡ n = c.from.ensures ∙ same_streams (served (map string_bytes c.args.words.now)) c.in-Ok-Recover.n c.in-Ok-Recover.p n p asked words in
     subst (λ (k : ℕ). RecoverTells (images_of g.D.Disk.seen c.args.disks.now.items k) (Wrote g.K.Sink.tells (g.K.Sink.held c.args.sink.now) (g.K.Sink.held c.recover.new.sink)) c.recover.result) streams
     (subst (λ (ds : List g.row.D.Denot). RecoverTells (images_of g.D.Disk.seen ds c.from.result) (Wrote g.K.Sink.tells (g.K.Sink.held c.args.sink.now) (g.K.Sink.held c.recover.new.sink)) c.recover.result) c.deref_mut.ensures.value (c.recover.ensures.told tells))
 
@@ -278,8 +278,8 @@ returns-in-Ok-Recover-clause-recover_fault g c n p j words e = c.recover.ensures
 
 pub returns-in-Ok-Recover-clause-disk_fault : goal.returns-in-Ok-Recover-clause-disk_fault
 returns-in-Ok-Recover-clause-disk_fault g c j e =
-    let asked : served (map string_bytes c.args.words.now) ≡ Some (Recover c.in-Ok-Recover.n c.in-Ok-Recover.field-0-1) =
-    command_of_recovery (served (map string_bytes c.args.words.now)) c.in-Ok-Recover.field-0 c.in-Ok-Recover.n c.in-Ok-Recover.field-0-1 c.in-Ok-Recover.ensures.ok c.in-Ok-Recover.field-0-is in
+    let asked : served (map string_bytes c.args.words.now) ≡ Some (Recover c.in-Ok-Recover.n c.in-Ok-Recover.p) =
+    command_of_recovery (served (map string_bytes c.args.words.now)) c.in-Ok-Recover.field-0 c.in-Ok-Recover.n c.in-Ok-Recover.p c.in-Ok-Recover.ensures.ok c.in-Ok-Recover.field-0-is in
     let used : c.from.result ≡ used_by (served (map string_bytes c.args.words.now)) = c.from.ensures ∙ sym (ap used_by asked) in
     let long : length c.recover.new.disks ≡ c.args.disks.now.len = search rules in
     let back = handed_back c.recover.new.disks c.args.disks.now.items c.args.disks.now.len long in
@@ -295,8 +295,8 @@ returns-in-Ok-Recover-clause-disk_fault_first g c j e tells =
 
 pub returns-in-Ok-Recover-clause-disk_fault_told : goal.returns-in-Ok-Recover-clause-disk_fault_told
 returns-in-Ok-Recover-clause-disk_fault_told g c e =
-    let is : served (map string_bytes c.args.words.now) ≡ Some (Recover c.in-Ok-Recover.n c.in-Ok-Recover.field-0-1) =
-    command_of_recovery (served (map string_bytes c.args.words.now)) c.in-Ok-Recover.field-0 c.in-Ok-Recover.n c.in-Ok-Recover.field-0-1 c.in-Ok-Recover.ensures.ok c.in-Ok-Recover.field-0-is in
+    let is : served (map string_bytes c.args.words.now) ≡ Some (Recover c.in-Ok-Recover.n c.in-Ok-Recover.p) =
+    command_of_recovery (served (map string_bytes c.args.words.now)) c.in-Ok-Recover.field-0 c.in-Ok-Recover.n c.in-Ok-Recover.p c.in-Ok-Recover.ensures.ok c.in-Ok-Recover.field-0-is in
     let streams : c.from.result ≡ used_by (served (map string_bytes c.args.words.now)) = c.from.ensures ∙ sym (ap used_by is) in
     let long : length c.recover.new.disks ≡ c.args.disks.now.len = search rules in
     let back = handed_back c.recover.new.disks c.args.disks.now.items c.args.disks.now.len long in
@@ -307,10 +307,10 @@ returns-in-Ok-Recover-clause-disk_fault_told g c e =
 
 pub returns-in-Ok-Recover-clause-bad_log : goal.returns-in-Ok-Recover-clause-bad_log
 returns-in-Ok-Recover-clause-bad_log g c fault e =
-    let asked : served (map string_bytes c.args.words.now) ≡ Some (Recover c.in-Ok-Recover.n c.in-Ok-Recover.field-0-1) =
-    command_of_recovery (served (map string_bytes c.args.words.now)) c.in-Ok-Recover.field-0 c.in-Ok-Recover.n c.in-Ok-Recover.field-0-1 c.in-Ok-Recover.ensures.ok c.in-Ok-Recover.field-0-is in (
+    let asked : served (map string_bytes c.args.words.now) ≡ Some (Recover c.in-Ok-Recover.n c.in-Ok-Recover.p) =
+    command_of_recovery (served (map string_bytes c.args.words.now)) c.in-Ok-Recover.field-0 c.in-Ok-Recover.n c.in-Ok-Recover.p c.in-Ok-Recover.ensures.ok c.in-Ok-Recover.field-0-is in (
       c.in-Ok-Recover.n,
-      c.in-Ok-Recover.field-0-1,
+      c.in-Ok-Recover.p,
       asked,
       λ tells.
           subst (λ (k : ℕ). IsBadLog (images_of g.D.Disk.seen c.args.disks.now.items k) fault) c.from.ensures
@@ -319,9 +319,9 @@ returns-in-Ok-Recover-clause-bad_log g c fault e =
 
 pub returns-in-Ok-Recover-clause-recover_done : goal.returns-in-Ok-Recover-clause-recover_done
 returns-in-Ok-Recover-clause-recover_done g c n p log order words tells is ordered no_sink no_disk =
-    let asked : served (map string_bytes c.args.words.now) ≡ Some (Recover c.in-Ok-Recover.n c.in-Ok-Recover.field-0-1) =
-    command_of_recovery (served (map string_bytes c.args.words.now)) c.in-Ok-Recover.field-0 c.in-Ok-Recover.n c.in-Ok-Recover.field-0-1 c.in-Ok-Recover.ensures.ok c.in-Ok-Recover.field-0-is in
-    let streams : c.from.result ≡ n = c.from.ensures ∙ same_streams (served (map string_bytes c.args.words.now)) c.in-Ok-Recover.n c.in-Ok-Recover.field-0-1 n p asked words in
+    let asked : served (map string_bytes c.args.words.now) ≡ Some (Recover c.in-Ok-Recover.n c.in-Ok-Recover.p) =
+    command_of_recovery (served (map string_bytes c.args.words.now)) c.in-Ok-Recover.field-0 c.in-Ok-Recover.n c.in-Ok-Recover.p c.in-Ok-Recover.ensures.ok c.in-Ok-Recover.field-0-is in
+    let streams : c.from.result ≡ n = c.from.ensures ∙ same_streams (served (map string_bytes c.args.words.now)) c.in-Ok-Recover.n c.in-Ok-Recover.p n p asked words in
     let same : images_of g.D.Disk.seen c.args.disks.now.items n ≡ images_of g.D.Disk.seen c.deref_mut.result.now c.from.result =
     sym (ap (λ (ds : List g.row.D.Denot). images_of g.D.Disk.seen ds c.from.result) c.deref_mut.ensures.value ∙ ap (λ (k : ℕ). images_of g.D.Disk.seen c.args.disks.now.items k) streams) in
     let read : log_of (images_of g.D.Disk.seen c.deref_mut.result.now c.from.result) ≡ Ok log = ap (λ (xs : List (List ℕ)). log_of xs) (sym same) ∙ is in
