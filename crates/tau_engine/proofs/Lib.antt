@@ -12,3 +12,4 @@ pub mod Refused
 pub mod Refusals
 pub mod Recoveries
 pub mod Tops
+pub mod Same

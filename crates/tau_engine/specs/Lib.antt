@@ -7,3 +7,4 @@ pub mod Runs
 pub mod Came
 pub mod Said
 pub mod Recovery
+pub mod Same

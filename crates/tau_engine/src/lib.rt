@@ -2,6 +2,7 @@
 #![tactic(auto)]
 
 mod fault;
+mod laws;
 mod reading;
 mod recovery;
 mod run;
@@ -10,5 +11,6 @@ mod source;
 mod status;
 mod top;
 
+pub use laws::{one_text, runs_have_one_text};
 pub use status::Status;
 pub use top::taurus;
