@@ -232,22 +232,22 @@ returns-in-Err-clause-silent_long g c n m j long mode words e tells lt is =
 
 pub returns-in-Ok-Recover-clause-write_fault_late : goal.returns-in-Ok-Recover-clause-write_fault_late
 returns-in-Ok-Recover-clause-write_fault_late g c n m mode words e =
-    absurd (not_recovery (served (map string_bytes c.args.words.now)) n m c.in-Ok-Recover.n c.in-Ok-Recover.field-0-1 mode words
-    (command_of_recovery (served (map string_bytes c.args.words.now)) c.in-Ok-Recover.field-0 c.in-Ok-Recover.n c.in-Ok-Recover.field-0-1 c.in-Ok-Recover.ensures.ok c.in-Ok-Recover.field-0-is))
+    absurd (not_recovery (served (map string_bytes c.args.words.now)) n m c.in-Ok-Recover.n c.in-Ok-Recover.p mode words
+    (command_of_recovery (served (map string_bytes c.args.words.now)) c.in-Ok-Recover.field-0 c.in-Ok-Recover.n c.in-Ok-Recover.p c.in-Ok-Recover.ensures.ok c.in-Ok-Recover.field-0-is))
 
 pub returns-in-Ok-Recover-clause-moments : goal.returns-in-Ok-Recover-clause-moments
 returns-in-Ok-Recover-clause-moments g c n m mode words unborn =
-    absurd (not_recovery (served (map string_bytes c.args.words.now)) n m c.in-Ok-Recover.n c.in-Ok-Recover.field-0-1 mode words
-    (command_of_recovery (served (map string_bytes c.args.words.now)) c.in-Ok-Recover.field-0 c.in-Ok-Recover.n c.in-Ok-Recover.field-0-1 c.in-Ok-Recover.ensures.ok c.in-Ok-Recover.field-0-is))
+    absurd (not_recovery (served (map string_bytes c.args.words.now)) n m c.in-Ok-Recover.n c.in-Ok-Recover.p mode words
+    (command_of_recovery (served (map string_bytes c.args.words.now)) c.in-Ok-Recover.field-0 c.in-Ok-Recover.n c.in-Ok-Recover.p c.in-Ok-Recover.ensures.ok c.in-Ok-Recover.field-0-is))
 
 pub returns-in-Ok-Recover-clause-silent_long : goal.returns-in-Ok-Recover-clause-silent_long
 returns-in-Ok-Recover-clause-silent_long g c n m j long mode words e tells lt is = c.recover.ensures.silent e
 
 pub returns-in-Ok-Recover-clause-recover_calls : goal.returns-in-Ok-Recover-clause-recover_calls
 returns-in-Ok-Recover-clause-recover_calls g c n p words e =
-    let asked : served (map string_bytes c.args.words.now) ≡ Some (Recover c.in-Ok-Recover.n c.in-Ok-Recover.field-0-1) =
-    command_of_recovery (served (map string_bytes c.args.words.now)) c.in-Ok-Recover.field-0 c.in-Ok-Recover.n c.in-Ok-Recover.field-0-1 c.in-Ok-Recover.ensures.ok c.in-Ok-Recover.field-0-is in
-    let streams : c.from.result ≡ n = c.from.ensures ∙ same_streams (served (map string_bytes c.args.words.now)) c.in-Ok-Recover.n c.in-Ok-Recover.field-0-1 n p asked words in
+    let asked : served (map string_bytes c.args.words.now) ≡ Some (Recover c.in-Ok-Recover.n c.in-Ok-Recover.p) =
+    command_of_recovery (served (map string_bytes c.args.words.now)) c.in-Ok-Recover.field-0 c.in-Ok-Recover.n c.in-Ok-Recover.p c.in-Ok-Recover.ensures.ok c.in-Ok-Recover.field-0-is in
+    let streams : c.from.result ≡ n = c.from.ensures ∙ same_streams (served (map string_bytes c.args.words.now)) c.in-Ok-Recover.n c.in-Ok-Recover.p n p asked words in
     let long : length c.recover.new.disks ≡ c.args.disks.now.len = search rules in
     let back = handed_back c.recover.new.disks c.args.disks.now.items c.args.disks.now.len long in
     subst (λ (ds : List g.row.D.Denot). EachUsed (AllCalls g.D.Disk.tells g.D.Disk.number g.D.Disk.fails g.D.Disk.short calls_to_read) c.args.disks.now.items ds n) (sym back)
