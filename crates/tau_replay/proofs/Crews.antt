@@ -1,17 +1,16 @@
 -- Seats of workers.
-use Rattle.std.proofs.Common.{ℕ, zero, suc, ◌≡◌, ◌+◌, ◌-◌, ◌<◌, ◌≤◌, List, [], ◌∷◌, ◌++◌, length, refl, sym, ap, subst, ◌∙◌, arith}
-use Rattle.std.specs.Prelude.{Option, Some, None, slice_get, Result, Ok, Err, IfOk}
+use Rattle.std.proofs.Common.{ℕ, zero, suc, ◌≡◌, ◌+◌, ◌-◌, ◌<◌, ◌≤◌, List, [], ◌∷◌, length, refl, sym, ap, subst, ◌∙◌, arith}
+use Rattle.std.specs.Prelude.{Option, Some, None, Result, Ok, Err, IfOk}
 use Rattle.tau_base.specs.declared.value.Key.{Key}
 use Rattle.tau_base.specs.declared.value.Value.{Value}
 use Rattle.tau_scan.specs.declared.fault.ReplayRefusal.{ReplayRefusal}
 use Rattle.std.proofs.lemmas.List.{length-append}
 use Rattle.tau_scan.specs.declared.log.Log.{Log}
 use Rattle.tau_pool.specs.declared.item.Job.{Job}
-use Rattle.tau_replay.specs.declared.view.View.{View}
 use Rattle.tau_replay.specs.declared.visit.Order.{Order}
-use Rattle.tau_replay.specs.declared.visit.Order.TheVariants.{Redo, Sleep, Stop}
+use Rattle.tau_replay.specs.declared.visit.Order.TheVariants.{Redo, Sleep}
 use Rattle.tau_replay.specs.Going.{IsHeldBy}
-use Rattle.tau_replay.specs.Rule.{Hand, Sat, Boxed, hands_of, Names, view, rest_of, front_of, in_hand, idle_from, first_now, first_alone, without_first, both, holding, given, OthersStay, MayGive, IsIdle}
+use Rattle.tau_replay.specs.Rule.{Hand, Sat, Boxed, hands_of, Names, view, rest_of, front_of, in_hand, idle_from, first_now, first_alone, without_first, both, holding, given, MayGive, IsIdle}
 use Rattle.tau_replay.specs.Sound.{IsSound}
 use Rattle.tau_replay.specs.Working.{HandFits, IsFor, Went, WentOn}
 

@@ -14,7 +14,7 @@ use Rattle.tau_model.proofs.Theorems.{orderly_redo_law}
 use Rattle.tau_scan.specs.Taken.{Kept, taken}
 use Rattle.tau_scan.specs.declared.log.Log.{Log}
 use Rattle.tau_replay.specs.Redone.{IsOrderOf}
-use Rattle.tau_replay.specs.Laws.{OrderlyTurns, SomeReady, RunsAgree, OrdersAgree, OneRecovery, RunsOrdersAgree, place_of, waiting, kept_of}
+use Rattle.tau_replay.specs.Laws.{OrderlyTurns, SomeReady, RunsAgree, OneRecovery, RunsOrdersAgree, place_of, waiting, kept_of}
 use Rattle.tau_replay.proofs.Ones.{tables_one}
 
 pub orderly-turns : OrderlyTurns

@@ -1,10 +1,9 @@
 -- Which workers a view steps for, and what they have in flight.
-use Rattle.std.proofs.Common.{◌≡◌, ◌≢◌, ℕ, zero, suc, ◌+◌, ◌==◌, ◌<◌, ◌≤◌, Bool, true, false, List, [], ◌∷◌, ◌++◌, length, refl, sym, ap, ◌∙◌, subst, arith, Option, Some, None}
+use Rattle.std.proofs.Common.{◌≡◌, ◌≢◌, ℕ, zero, suc, ◌+◌, ◌==◌, ◌<◌, ◌≤◌, Bool, true, false, List, [], ◌∷◌, ◌++◌, length, refl, ◌∙◌, arith, Option, Some, None}
 use Rattle.std.specs.Prelude.{slice_get, if◌then◌else◌}
 use Rattle.std.proofs.lemmas.Bool.Decides.{nat_tests}
 use Rattle.tau_pool.specs.declared.item.Job.{Job}
 use Rattle.tau_replay.specs.Rule.{Hand, weigh, idle_from, Names, rest_of, front_of, in_hand, first_now, OthersStay}
-use Rattle.tau_replay.proofs.Totals.{weigh_append}
 
 -- each worker counts for one
 abbrev pub one : ℕ → ℕ

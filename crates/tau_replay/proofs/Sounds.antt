@@ -1,5 +1,5 @@
 -- Of a recovery that turns led to.
-use Rattle.std.proofs.Common.{ℕ, ◌≡◌, length}
+use Rattle.std.proofs.Common.{◌≡◌, length}
 use Rattle.tau_scan.specs.declared.log.Log.{Log}
 use Rattle.tau_replay.specs.declared.turns.Replay.{Replay}
 use Rattle.tau_replay.specs.Sound.{IsSound}

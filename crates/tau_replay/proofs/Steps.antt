@@ -1,5 +1,5 @@
 -- Each step keeps the rule.
-use Rattle.std.proofs.Common.{◌≡◌, ◌≢◌, ◌⊎◌, ℕ, zero, suc, ◌+◌, ◌<◌, ◌≤◌, ◌==◌, Bool, true, false, List, [], ◌∷◌, ◌++◌, length, set, Some, None, refl, sym, ap, ◌∙◌, subst, ⊎_elim, inl, inr, arith, length-set, length-append, Option}
+use Rattle.std.proofs.Common.{◌≡◌, ◌≢◌, ◌⊎◌, ℕ, zero, suc, ◌+◌, ◌<◌, ◌≤◌, ◌==◌, Bool, true, false, List, [], ◌∷◌, ◌++◌, length, set, Some, None, refl, sym, ap, ◌∙◌, subst, ⊎_elim, inl, inr, arith, length-set, length-append}
 use Rattle.std.specs.Prelude.{slice_index, replicate}
 use Rattle.std.proofs.lemmas.Bool.Decides.{nat_tests}
 use mathlib.Core.Option.{some, none, some-ne-none, some-injective}
@@ -8,16 +8,15 @@ use mathlib.Core.Logic.{dite}
 use native.Mathlib.Decide.{ℕ_discrete}
 use lib.ListN.{get_elem?}
 use prog.Atomic.{either}
-use Rattle.atomic_table.specs.Table.{State, Me, Act, Step, step, keeps, takes, gives, opening, stepped, Valid, Allows, Splits, Joins, Final, Seen, carried_after}
-use Rattle.atomic_table.proofs.Lists.{at_set, at_snoc, set_again, set_else}
-use Rattle.tau_pool.specs.declared.item.Job.{Job}
+use Rattle.atomic_table.specs.Table.{State, Act, step, keeps, takes, gives, opening, stepped, Valid, Allows, Splits, Joins, Final, Seen, carried_after}
+use Rattle.atomic_table.proofs.Lists.{set_again, set_else}
 use Rattle.tau_scan.specs.declared.log.Log.{Log}
 use Rattle.tau_replay.specs.declared.view.View.{View}
 use Rattle.tau_replay.specs.Sound.{IsSound}
-use Rattle.tau_replay.specs.Rule.{Hand, Boxed, Slot, hands_of, weigh, total, idle_from, Names, AtHome, Holder, IsOut, Fits, Kept, view, first_view, rest_of, front_of, without_first, first_alone, both, spent, holding, in_hand, first_now, given, OthersStay, MayGive, Sat, IsIdle, Took, took, gave}
+use Rattle.tau_replay.specs.Rule.{Hand, Boxed, Slot, hands_of, weigh, total, idle_from, Names, AtHome, Holder, IsOut, Fits, Kept, first_view, rest_of, without_first, first_alone, both, spent, holding, first_now, given, OthersStay, MayGive, Sat, IsIdle, took, gave}
 use Rattle.tau_replay.proofs.Sounds.{sound_sixteen}
 use Rattle.tau_replay.proofs.Totals.{weigh_append, total_set, total_snoc, total_two, total_only, each_set, each_snoc, each_end, inside, there}
-use Rattle.tau_replay.proofs.Shares.{one, this, weigh_one, at_most_one, is_other, names_stay, names_append, names_rest, names_front, names_now, names_idle, weigh_parts, weigh_now, length_now}
+use Rattle.tau_replay.proofs.Shares.{one, this, weigh_one, at_most_one, names_stay, names_append, names_rest, names_front, names_now, names_idle, weigh_parts, weigh_now}
 
 abbrev St : Type 0
 St = State Slot View

@@ -1,5 +1,5 @@
 -- A call that is executed on values that were read one after another.
-use Rattle.std.proofs.Common.{ℕ, ◌+◌, ◌≡◌, ◌<◌, List, [], ◌∷◌, ◌++◌, length, take, get_or, refl, sym, ap, subst, ◌∙◌, append_assoc, Option}
+use Rattle.std.proofs.Common.{ℕ, ◌+◌, ◌≡◌, ◌<◌, List, [], ◌∷◌, ◌++◌, length, take, get_or, refl, sym, ap, subst, ◌∙◌, Option}
 use Rattle.std.proofs.lemmas.List.{append-nil, take_more}
 use Rattle.std.specs.Prelude.{Some, None, slice_get}
 use Rattle.tau_base.specs.declared.value.Call.{Call}
@@ -10,11 +10,10 @@ use Rattle.tau_proc.specs.declared.machine.Stop.{Stop}
 use Rattle.tau_proc.specs.declared.machine.Stop.TheVariants.{Row, End}
 use Rattle.tau_proc.specs.declared.proc.Proc.{Proc}
 use Rattle.tau_proc.specs.declared.reply.Reply.{Reply}
-use Rattle.tau_proc.specs.declared.reply.Want.{Want}
-use Rattle.tau_proc.specs.declared.reply.Want.TheVariants.{Read, Write, Finished}
+use Rattle.tau_proc.specs.declared.reply.Want.TheVariants.{Read}
 use Rattle.tau_proc.specs.declared.step.Step.{Step}
 use Rattle.tau_proc.specs.Effect.{Effect, Agrees}
-use Rattle.tau_proc.specs.Meaning.{Running, meaning}
+use Rattle.tau_proc.specs.Meaning.{Running}
 use Rattle.tau_proc.specs.Progress.{Progress, IsAt, IsRead, ahead, at_stop, next_want, want_of, want_of_write, buffered}
 use Rattle.tau_proc.specs.Stage.{Stage, Wants, Ends, Asked, stage, values}
 use Rattle.tau_proc.proofs.Stages.{meaning-from_stage}

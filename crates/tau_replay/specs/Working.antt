@@ -1,5 +1,5 @@
 -- What a worker does next, and what its seat then knows.
-use Rattle.std.specs.Prelude.{ℕ, ◌≡◌, List, [], ◌∷◌, Option, Some, None}
+use Rattle.std.specs.Prelude.{ℕ, ◌≡◌, [], ◌∷◌, Option, Some, None}
 use Rattle.tau_scan.specs.declared.log.Log.{Log}
 use Rattle.tau_pool.specs.declared.item.Job.{Job}
 use Rattle.tau_replay.specs.declared.visit.Order.{Order}

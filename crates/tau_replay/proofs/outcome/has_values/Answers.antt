@@ -1,5 +1,5 @@
 -- One more value is that of the database.
-use Rattle.std.proofs.Common.{rules, ◌≡◌, sym, ◌∙◌, arith}
+use Rattle.std.proofs.Common.{rules, ◌≡◌, sym, ◌∙◌}
 use Rattle.tau_model.specs.Store.{database}
 use Rattle.tau_replay.proofs.Tries.{agrees-more}
 use Rattle.tau_replay.proofs.outcome.has_values.Goals as goal

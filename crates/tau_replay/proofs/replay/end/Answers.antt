@@ -1,5 +1,5 @@
 -- The refusal of the rounds; the tables of the order in which the records were finished.
-use Rattle.std.proofs.Common.{ℕ, List, ◌≡◌, ap, Err, Result}
+use Rattle.std.proofs.Common.{◌≡◌, ap, Err, Result}
 use Rattle.tau_replay.proofs.Following.{over_by}
 use Rattle.tau_model.specs.declared.tables.Tables.{Tables}
 use Rattle.tau_scan.specs.declared.fault.ReplayRefusal.{ReplayRefusal}

@@ -1,5 +1,5 @@
 -- Each seat that is split off leaves one worker fewer.
-use Rattle.std.proofs.Common.{ℕ, ◌*◌, ◌-◌}
+use Rattle.std.proofs.Common.{◌*◌, ◌-◌}
 use Rattle.tau_replay.proofs.threads.+crew+fn-crew-join+arg3.Given as goal
 
 abbrev pub decreases-crew : goal.decreases-crew

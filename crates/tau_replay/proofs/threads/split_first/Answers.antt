@@ -1,5 +1,5 @@
 -- One seat is the first worker's, the other is that of the rest.
-use Rattle.std.proofs.Common.{ap, ◌∙◌, arith, length}
+use Rattle.std.proofs.Common.{ap, arith, length}
 use Rattle.tau_replay.specs.Rule.{Sat}
 use Rattle.tau_replay.proofs.Crews.{for_alone, rest_hands, rest_idle, split_length}
 use Rattle.tau_replay.proofs.threads.split_first.Goals as goal

@@ -1,5 +1,5 @@
 -- A record is started, or nothing changes.
-use Rattle.std.specs.Prelude.{Some, None}
+use Rattle.std.specs.Prelude.{Some}
 use Rattle.tau_replay.proofs.Visits.{sound_turn, others_set, fits_started}
 use Rattle.tau_replay.proofs.visit.start_next.Goals as goal
 

@@ -1,6 +1,6 @@
 -- The part is given back as it was left.
-use Rattle.std.proofs.Common.{rules, ◌≡◌, [], ◌∷◌, sym, ap, subst}
-use Rattle.std.specs.Prelude.{Some, None}
+use Rattle.std.proofs.Common.{rules, ◌≡◌, sym, ap, subst}
+use Rattle.std.specs.Prelude.{Some}
 use Rattle.std.specs.Box.{with_value}
 use Rattle.tau_scan.specs.declared.log.Log.{Log}
 use Rattle.tau_replay.specs.declared.view.Part.{Part}

@@ -1,5 +1,5 @@
 -- The part is given back as it was.
-use Rattle.std.proofs.Common.{[], ◌∷◌, ap}
+use Rattle.std.proofs.Common.{ap}
 use Rattle.tau_replay.specs.Rule.{Sat}
 use Rattle.tau_replay.proofs.Crews.{may_give_same, gave_same}
 use Rattle.tau_replay.proofs.worker.row.Goals as goal

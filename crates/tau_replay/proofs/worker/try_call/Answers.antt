@@ -2,7 +2,6 @@
 use Rattle.std.proofs.Common.{rules, ◌≡◌, ◌++◌, ◌∷◌, [], sym, ap, subst, ◌∙◌, List}
 use Rattle.tau_base.specs.declared.value.Key.{Key}
 use Rattle.tau_base.specs.declared.value.Value.{Value}
-use Rattle.tau_proc.specs.declared.reply.Want.{Want}
 use Rattle.tau_proc.specs.Progress.{Progress, IsRead, ahead, buffered}
 use Rattle.tau_replay.specs.Result.{IsTrying, Executes}
 use Rattle.tau_replay.proofs.Tries.{trying-read, trying-ends}

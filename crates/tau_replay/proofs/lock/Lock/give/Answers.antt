@@ -1,5 +1,5 @@
 -- The step keeps the rule.
-use Rattle.std.proofs.Common.{rules, ◌≡◌, [], ◌∷◌, None, Some, subst, sym, ap, ◌∙◌, List, Option}
+use Rattle.std.proofs.Common.{rules, ◌∷◌, Some, subst, sym, ap, ◌∙◌}
 use Rattle.atomic_table.specs.Table.{rest}
 use Rattle.tau_replay.specs.Rule.{MayGive}
 use Rattle.tau_replay.proofs.Steps.{gives_part}

@@ -1,8 +1,7 @@
 -- The slot that the seat has is full.
-use Rattle.std.proofs.Common.{rules, None, ◌≡◌, [], ◌∷◌, Some, subst, sym, ap, ◌∙◌, List, ℕ, refl}
+use Rattle.std.proofs.Common.{rules, None, ◌≡◌, [], ◌∷◌, Some, subst, sym, ap, ◌∙◌, refl}
 use Rattle.std.specs.Option.{IsSome}
 use Rattle.atomic_table.specs.Table.{rest}
-use Rattle.tau_replay.specs.Rule.{Slot}
 use Rattle.tau_replay.proofs.Firsts.{first}
 use Rattle.tau_replay.proofs.lock.Lock.lift.Goals as goal
 

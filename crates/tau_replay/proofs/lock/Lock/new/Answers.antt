@@ -1,6 +1,5 @@
 -- At the beginning the rule holds.
-use Rattle.std.proofs.Common.{rules, ◌≡◌, [], ◌∷◌, Some, subst, sym, ap, ◌∙◌, List, Option}
-use Rattle.std.specs.Prelude.{replicate}
+use Rattle.std.proofs.Common.{rules, ◌≡◌, [], ◌∷◌, Some, subst, sym, ap, ◌∙◌, List}
 use Rattle.tau_scan.specs.declared.log.Log.{Log}
 use Rattle.atomic_table.specs.Table.{opening}
 use Rattle.tau_replay.specs.declared.view.Part.{Part}

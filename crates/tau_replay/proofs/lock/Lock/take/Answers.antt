@@ -1,8 +1,6 @@
 -- The seat has the part.
-use Rattle.std.proofs.Common.{rules, ap, refl, ◌∙◌, ◌≡◌, sym, subst, [], ◌∷◌, None, Some, ℕ, List}
-use Rattle.tau_replay.specs.Rule.{Boxed, Sat, hands_of, Names, holding}
-use Rattle.tau_replay.specs.Sound.{IsSound}
-use Rattle.tau_replay.proofs.Firsts.{taken_is, taken_sound, taken_named}
+use Rattle.std.proofs.Common.{rules, ap}
+use Rattle.tau_replay.specs.Rule.{Sat}
 use Rattle.tau_replay.proofs.lock.Lock.take.Goals as goal
 
 pub lift-requires-clause-has : goal.lift-requires-clause-has
