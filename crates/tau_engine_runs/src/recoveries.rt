@@ -7,7 +7,7 @@ use std::thread::Threads;
 use tau_disk::MemDisk;
 
 // The image of stream `j` of `n`, with the catalogue of table a and these records behind it.
-fn image_of(alloc: Global, n: u8, j: u8, records: &[u8]) -> Result<MemDisk, Fail> {
+pub(crate) fn image_of(alloc: Global, n: u8, j: u8, records: &[u8]) -> Result<MemDisk, Fail> {
     let mut image = Vec::from_slice(alloc, b"TAURUS-LOG-1")?;
     image.extend_from_slice(&[0, n, 0, j])?;
     image.extend_from_slice(b"\x01\x00\x00\x00\x0d\x04\x00\x00\x00\x0dtable a\n")?;
@@ -21,13 +21,13 @@ fn image_of(alloc: Global, n: u8, j: u8, records: &[u8]) -> Result<MemDisk, Fail
 }
 
 // Call 1 puts 5 into row 1.
-static FIRST: &[u8] =
+pub(crate) static FIRST: &[u8] =
     b"\x01\x00\x00\x00\x28\x00\x00\x00\x00\x00\x00\x00\x01\x00\x00\x00\x00\x00\x00\x00\x01\x00\x00\x00\x00\x00\x00\x00\x00\x00\x01\x01\x00\x00\x00\x00\x00\x00\x00\x05";
 // Call 2 puts 7 into row 1, and waits for call 1.
 static SECOND: &[u8] =
     b"\x01\x00\x00\x00\x30\x00\x00\x00\x00\x00\x00\x00\x02\x00\x00\x00\x00\x00\x01\x00\x00\x00\x00\x00\x00\x00\x35\x00\x01\x00\x00\x00\x00\x00\x00\x00\x00\x00\x01\x01\x00\x00\x00\x00\x00\x00\x00\x07";
 // Call 2 puts 6 into row 2.
-static APART: &[u8] =
+pub(crate) static APART: &[u8] =
     b"\x01\x00\x00\x00\x28\x00\x00\x00\x00\x00\x00\x00\x02\x00\x00\x00\x00\x00\x00\x00\x01\x00\x00\x00\x00\x00\x00\x00\x00\x00\x02\x01\x00\x00\x00\x00\x00\x00\x00\x06";
 // Call 1, which waits for stream 1.
 static FIRST_WAITS: &[u8] =

@@ -5,7 +5,7 @@ use std::alloc::Global;
 use std::sync::Wait;
 use std::test::Fail;
 use std::thread::Threads;
-use tau_disk::{MemDisk, MemSink, MemSource, Quiet};
+use tau_disk::{Gate, MemDisk, MemSink, MemSource, Quiet};
 use tau_engine::{Status, taurus};
 
 /// Sixteen disks, of which these are the first two.
@@ -43,7 +43,27 @@ pub(crate) fn new_disks(alloc: Global) -> Result<Vec<MemDisk>, Fail>
     failing_disks(alloc, &[], &[])
 }
 
-/// Does what these words say, over this source.
+/// Does what these words say, over this source, with this gate.
+pub(crate) fn do_at<R: Threads + Wait + Sync, G: Gate + Sync>(
+    rt: &R,
+    alloc: Global,
+    words: &[&str],
+    source: &mut MemSource,
+    sink: &mut MemSink,
+    disks: &mut Vec<MemDisk>,
+    gate: &G,
+) -> Result<Status, Fail>
+    requires { vec_len disks.old ≡ 16 }
+    ensures { vec_len disks.new ≡ 16 }
+{
+    let mut strings = Vec::new(alloc);
+    for word in words {
+        strings.push(String::from_str(alloc, word)?)?;
+    }
+    Ok(taurus(rt, alloc, strings.as_slice(), source, sink, disks, gate))
+}
+
+/// The same with a gate that holds nothing.
 pub(crate) fn do_over<R: Threads + Wait + Sync>(
     rt: &R,
     alloc: Global,
@@ -55,11 +75,7 @@ pub(crate) fn do_over<R: Threads + Wait + Sync>(
     requires { vec_len disks.old ≡ 16 }
     ensures { vec_len disks.new ≡ 16 }
 {
-    let mut strings = Vec::new(alloc);
-    for word in words {
-        strings.push(String::from_str(alloc, word)?)?;
-    }
-    Ok(taurus(rt, alloc, strings.as_slice(), source, sink, disks, &Quiet))
+    do_at(rt, alloc, words, source, sink, disks, &Quiet)
 }
 
 /// Does what these words say, over a text.
