@@ -26,13 +26,13 @@ module _ {D : Type 0} {G : Ghosts D} (m : ℕ) (mode : LogMode) (load : Workload
 
   -- on new streams
   module _ (p : Plain) (q : OpenedFresh load.declarations.procs load.calls mode m (length ws) (catalogue_size (declarations_text load.declarations)) p) where
-    fresh-opened : Opened p.load p
+    pub fresh-opened : Opened p.load p
     fresh-opened = subst (λ (l : Load). Opened l p) (sym q.2.load) q.2
 
     ends-long : length q.0.ends ≡ length ws
     ends-long = ap (length {A = ℕ}) q.1.ends ∙ length-replicate (length ws) (length (catalogue_of load))
 
-    fresh-load : IsLoadOf (length ws) m mode load p.load
+    pub fresh-load : IsLoadOf (length ws) m mode load p.load
     fresh-load = subst (λ (l : Load). IsLoadOf (length ws) m mode load l) (sym q.2.load) (record {
       procs = refl;
       calls = refl;

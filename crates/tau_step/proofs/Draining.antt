@@ -14,6 +14,8 @@ use Rattle.tau_step.specs.Moving.{IsOn, Manages, Moves}
 use Rattle.tau_step.specs.Progressed.{progress}
 use Rattle.tau_step.specs.Rounding.{managed_by, flushed_by, idled, idles_on, idled_below, all_idled, clerked, drained}
 use Rattle.tau_step.proofs.Going.{kept-after, went-on}
+use Rattle.tau_step.specs.Device.{noting}
+use Rattle.tau_step.proofs.Silent.{false-not}
 use Rattle.tau_step.proofs.Moved.{manages-on, manages-as, manages-none, manages-moves, moves-on, moves-as}
 use Rattle.tau_step.proofs.OneByOne.{one-more, one-cut, below-split}
 
@@ -60,15 +62,15 @@ module _ {D : Type 0} {G : Ghosts D} (seen_now : (d : D) → G.tells → G.may_l
   pub drains-cut : (i : ℕ) (old mid new : Run) (ws ms ws' : List (Writer D G)) → i < old.core.load.streams → Manages (idled_below i) true old mid ws ms → Manages (idled i) false mid new ms ws' → Manages all_idled false old new ws ws'
   drains-cut i old mid new ws ms ws' lt x y = record {
     went = λ bases K h es told g k. (let a = x.went bases K h es told g k in
-        let b = y.went bases a.order a.hidden a.events told a.stands (kept-after seen_now bases (idled_below i) old.core mid.core ws ms told told K h es k a) in
-        let whole = went-on seen_now bases (idled_below i) (idled i) cut_at false old.core mid.core new.core ws ms ws' told told told K h es (λ l P Q P' p q. (Q, p, q)) a b in
+        let b = y.went bases a.order a.hidden a.events told a.stands (kept-after seen_now bases (noting old.flushes mid.flushes (idled_below i)) old.core mid.core ws ms told told K h es k a) in
+        let whole = went-on seen_now bases (noting old.flushes mid.flushes (idled_below i)) (noting mid.flushes new.flushes (idled i)) cut_at false old.core mid.core new.core ws ms ws' told told told K h es (λ l P Q P' p q. (Q, p.0, q.0)) a b in
         record {
           hidden = whole.hidden;
           order = whole.order;
           events = whole.events;
           stands = whole.stands;
           load = whole.load;
-          moved = join old.core.load lt (progress old.core h es K told) (progress new.core whole.hidden whole.events whole.order told) whole.moved;
+          moved = (join old.core.load lt (progress old.core h es K told) (progress new.core whole.hidden whole.events whole.order told) whole.moved, λ e. false-not e);
           grown = whole.grown;
           count = whole.count;
           kept = whole.kept;
@@ -101,7 +103,7 @@ module _ {D : Type 0} {G : Ghosts D} (seen_now : (d : D) → G.tells → G.may_l
           count = a.count;
           kept = a.kept;
           since = a.since;
-          moved = subst (λ (k : ℕ). idled_below k true old.core.load (progress old.core h es K told) (progress new.core a.hidden a.events a.order told)) e a.moved;
+          moved = (subst (λ (k : ℕ). idled_below k true old.core.load (progress old.core h es K told) (progress new.core a.hidden a.events a.order told)) e a.moved.0, a.moved.1);
         });
     clerk = x.clerk;
     streams = x.streams;

@@ -34,6 +34,7 @@ use Rattle.tau_run.specs.Turns.{Progress, begun, IsWholeRun}
 use Rattle.tau_run.proofs.Acks.{turns_law}
 use Rattle.tau_step.specs.declared.run.Run.{Run}
 use Rattle.tau_step.specs.Along.{AreKept, IsAlong, IsLeaving, KeptBy, Since, Went}
+use Rattle.tau_step.specs.Device.{noting}
 use Rattle.tau_step.specs.Fates.{IsNumberOf}
 use Rattle.tau_step.specs.Moving.{Moves}
 use Rattle.tau_step.specs.Progressed.{progress}
@@ -159,11 +160,11 @@ module _ {D : Type 0} {G : Ghosts D} (seen_now : (d : D) → G.tells → G.may_l
   from-begun whole P r = subst (λ (a : List (ℕ × List ℕ)). ran_all turns whole old.core.load (record { state = core_of old.core nothing; events = []; joined = []; told = a }) P) acks r
 
   module _ (x : Moves (ran_all turns) true old new ws ws' hears held held' faults faults') where
-    went : Went bases (ran_all turns) true old.core new.core ws ws' old.clerk.acks new.clerk.acks [] nothing []
+    went : Went bases (noting old.flushes new.flushes (ran_all turns)) true old.core new.core ws ws' old.clerk.acks new.clerk.acks [] nothing []
     went = x.went bases [] nothing [] o.stands (begun-kept bases ws old.core o b)
 
     whole : IsWholeRun (setting_of old.core.load) old.core.load.workers old.core.load.streams turns (core_of old.core nothing) (progress new.core went.hidden went.events went.order new.clerk.acks)
-    whole = all-whole old.core.load turns (core_of old.core nothing) (progress new.core went.hidden went.events went.order new.clerk.acks) (from-begun true (progress new.core went.hidden went.events went.order new.clerk.acks) went.moved)
+    whole = all-whole old.core.load turns (core_of old.core nothing) (progress new.core went.hidden went.events went.order new.clerk.acks) (from-begun true (progress new.core went.hidden went.events went.order new.clerk.acks) went.moved.0)
 
     pub told-numbers : All (λ (a : ℕ × List ℕ). IsNumberOf (length new.core.load.calls) a.0) new.clerk.acks
     told-numbers = λ k d lt.
@@ -187,7 +188,7 @@ module _ {D : Type 0} {G : Ghosts D} (seen_now : (d : D) → G.tells → G.may_l
         stands = went.stands;
         load = went.load;
         by = whole;
-        writers = writers-left seen_now bases (ran_all turns) true old.core new.core ws ws' old.clerk.acks new.clerk.acks b.new went;
+        writers = writers-left seen_now bases (noting old.flushes new.flushes (ran_all turns)) true old.core new.core ws ws' old.clerk.acks new.clerk.acks b.new went;
       };
       over = subst (λ (l : Load). IsOver l.streams (core_of new.core went.hidden)) went.load
           (over-at new.core went.order went.hidden went.stands turns (core_of old.core nothing) (progress new.core went.hidden went.events went.order new.clerk.acks) refl
@@ -215,8 +216,8 @@ module _ {D : Type 0} {G : Ghosts D} (seen_now : (d : D) → G.tells → G.may_l
         stands = went.stands;
         load = went.load;
         by = whole-part old.core.load turns (core_of old.core nothing) (progress new.core went.hidden went.events went.order new.clerk.acks) (o.stands.sound.workers_low)
-            (from-begun true (progress new.core went.hidden went.events went.order new.clerk.acks) went.moved);
-        writers = writers-left seen_now bases (ran_all turns) true old.core new.core ws ws' old.clerk.acks new.clerk.acks b.new went;
+            (from-begun true (progress new.core went.hidden went.events went.order new.clerk.acks) went.moved.0);
+        writers = writers-left seen_now bases (noting old.flushes new.flushes (ran_all turns)) true old.core new.core ws ws' old.clerk.acks new.clerk.acks b.new went;
       };
       count = length new.clerk.acks;
       sink_failed = new.clerk.sink_failed;

@@ -97,6 +97,7 @@ none-run run stood lowest some = record {
   failed = refl;
   workers = refl;
   streams = refl;
+  flushes = refl;
 }
 
 pub is-none : (o : Option ℕ) → is_some o ≡ false → o ≡ None
@@ -220,8 +221,8 @@ module _ (w : ℕ) (old mid : Run) (stood : Stood old.core) (steps : (K : List (
     | inr le ↦ (let r = (steps K h g).leads.0 in absurd (none-not r.call r.front r.back (sym (beyond-left old.core K h g w le) ∙ r.is)))
   ]
 
-  pub resume-works : mid.clerk ≡ old.clerk → mid.failed ≡ old.failed → mid.workers ≡ old.workers → mid.streams ≡ old.streams → IsLowestStopped old.core.load.streams (core_of old.core nothing) old.failed → old.failed ≡ None → Works (resume_so w) true old mid
-  resume-works clerk failed workers streams lowest none = record {
+  pub resume-works : mid.clerk ≡ old.clerk → mid.failed ≡ old.failed → mid.workers ≡ old.workers → mid.streams ≡ old.streams → mid.flushes ≡ old.flushes → IsLowestStopped old.core.load.streams (core_of old.core nothing) old.failed → old.failed ≡ None → Works (resume_so w) true old mid
+  resume-works clerk failed workers streams flushes lowest none = record {
     comes = λ K h es told g. (let q = steps K h g in
         record {
           hidden = q.hidden;
@@ -238,6 +239,7 @@ module _ (w : ℕ) (old mid : Run) (stood : Stood old.core) (steps : (K : List (
     failed = failed;
     workers = workers;
     streams = streams;
+    flushes = flushes;
   }
 
   abbrev Back : (K : List (Act Txn)) (h : Hidden) → Type 0
@@ -334,8 +336,8 @@ module _ (old new : Run) (stood : Stood old.core) (steps : (K : List (Act Txn)) 
         }))
       ]
 
-  pub none-works : new.clerk ≡ old.clerk → new.failed ≡ old.failed → new.workers ≡ old.workers → new.streams ≡ old.streams → Works (resumed_by (Ok false)) true old new
-  none-works clerk failed workers streams = record {
+  pub none-works : new.clerk ≡ old.clerk → new.failed ≡ old.failed → new.workers ≡ old.workers → new.streams ≡ old.streams → new.flushes ≡ old.flushes → Works (resumed_by (Ok false)) true old new
+  none-works clerk failed workers streams flushes = record {
     comes = λ K h es told g. (let u = (steps K h g).0 in
         record {
           hidden = u.hidden;
@@ -352,6 +354,7 @@ module _ (old new : Run) (stood : Stood old.core) (steps : (K : List (Act Txn)) 
     failed = failed;
     workers = workers;
     streams = streams;
+    flushes = flushes;
   }
 
   pub none-rests : rests_in new.core

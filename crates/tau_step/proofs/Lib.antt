@@ -42,3 +42,6 @@ mod Whole
 mod Short
 mod Ending
 mod Begun
+mod Silent
+mod Noting
+mod Ordered

@@ -1,5 +1,5 @@
 -- The turn of a manager in a run.
-use Rattle.std.proofs.Common.{ℕ, ◌<◌, ◌≤◌, ◌≡◌, ◌⊎◌, inl, inr, Bool, true, false, List, [], length, refl, sym, ap, subst, ◌∙◌, Option, arith, get_or}
+use Rattle.std.proofs.Common.{◌∷◌, ◌++◌, ℕ, ◌<◌, ◌≤◌, ◌≡◌, ◌⊎◌, inl, inr, Bool, true, false, List, [], length, refl, sym, ap, subst, ◌∙◌, Option, arith, get_or}
 use Rattle.std.specs.Prelude.{Some, None, slice_get, slice_set, slice_index, is_ok, Result, Ok, Err}
 use Rattle.std.proofs.lemmas.Bool.{cases_Bool, cases_eq}
 use Rattle.std.proofs.lemmas.Option.{slice_get_within, get_or_from_slice_get}
@@ -29,11 +29,13 @@ use Rattle.tau_step.specs.Progressed.{progress}
 use Rattle.tau_step.specs.Remains.{sum_below, worker_left}
 use Rattle.tau_step.specs.Rounding.{managed, managed_by, turned}
 use Rattle.tau_step.specs.RunTold.{IsLowestStopped}
-use Rattle.tau_step.proofs.Going.{kept-after}
+use Rattle.tau_step.proofs.Going.{went-as, kept-after}
 use Rattle.tau_step.proofs.Idling.{managed-ends}
 use Rattle.tau_step.proofs.Kept.{kept-leaving}
 use Rattle.tau_step.proofs.Managers.{manager-went}
-use Rattle.tau_step.proofs.Moved.{manages-as, manages-none}
+use Rattle.tau_step.specs.Device.{NotesTurn, managed_flushing, noting}
+use Rattle.tau_step.proofs.Silent.{false-not}
+use Rattle.tau_step.proofs.Moved.{manages-as, manages-none, noted-same}
 use Rattle.tau_step.proofs.Others.{managed-workers}
 use Rattle.tau_step.proofs.Running.{absent-manager}
 use Rattle.tau_step.proofs.Turning.{managed-same}
@@ -134,16 +136,23 @@ module _ {D : Type 0} {G : Ghosts D} (seen_now : (d : D) → G.tells → G.may_l
   low : j < old.core.load.streams
   low = let e = on.streams in omega (arith, there, e)
 
-  goes : (r : Result Managing NoMemory) (t : Turned r) (bases : ℕ → List ℕ) (K : List (Act Txn)) (h : Hidden) (es : List machine.Event) (told : List (ℕ × List ℕ)) → Stands old.core K h → AreKept bases ws old.core h →
-      Went bases (managed_by j r) (is_ok r) old.core new.core ws ws' told told K h es
-  goes r t bases K h es told g k =
-      manager-went seen_now bases ws ws' j w w' is is' old.core new.core told K h es g k low r (t (bases j) K h es told g (k.long j low) (k.each j w is)) (is_ok r) refl
+  noted-by : (r : Result Managing NoMemory) → NotesTurn j r old.flushes new.flushes → (l : Load) (P P' : Progress) → managed_flushing j r (is_ok r) l P P' → noting old.flushes new.flushes (managed_by j r) (is_ok r) l P P'
+  noted-by (Ok did.Flushed) notes l P P' q = (q.0, λ e was now. (let more = notes now in more.1 ∙ ap (λ (xs : List ℕ). xs ++ j ∷ []) (was more.0) ∙ sym q.1))
+  noted-by (Ok did.Idle) notes l P P' q = (q.0, λ e was. noted-same old.flushes new.flushes P P' notes q.1 was)
+  noted-by (Ok did.Failed) notes l P P' q = (q.0, λ e was. noted-same old.flushes new.flushes P P' notes q.1 was)
+  noted-by (Err x) notes l P P' q = (q.0, λ e. false-not e)
+
+  goes : (r : Result Managing NoMemory) → NotesTurn j r old.flushes new.flushes → (t : Turned r) (bases : ℕ → List ℕ) (K : List (Act Txn)) (h : Hidden) (es : List machine.Event) (told : List (ℕ × List ℕ)) → Stands old.core K h → AreKept bases ws old.core h →
+      Went bases (noting old.flushes new.flushes (managed_by j r)) (is_ok r) old.core new.core ws ws' told told K h es
+  goes r notes t bases K h es told g k =
+      went-as seen_now bases (managed_flushing j r) (noting old.flushes new.flushes (managed_by j r)) (is_ok r) old.core new.core ws ws' told told K h es (noted-by r notes)
+      (manager-went seen_now bases ws ws' j w w' is is' old.core new.core told K h es g k low r (t (bases j) K h es told g (k.long j low) (k.each j w is)) (is_ok r) refl)
 
   module _ (clerk : new.clerk ≡ old.clerk) (workers : new.workers ≡ old.workers) (streams : new.streams ≡ old.streams) where
-    on-behind : (a : Managing) → Turned (Ok a) → FailsBy j (Ok a) old.failed new.failed → IsOn ws' new
-    on-behind a t fails =
+    on-behind : (a : Managing) → NotesTurn j (Ok a) old.flushes new.flushes → Turned (Ok a) → FailsBy j (Ok a) old.failed new.failed → IsOn ws' new
+    on-behind a notes t fails =
         let o = on.along in
-        let x = goes (Ok a) t o.bases o.order o.hidden [] [] o.stands o.kept in
+        let x = goes (Ok a) notes t o.bases o.order o.hidden [] [] o.stands o.kept in
         let m = t (o.bases j) o.order o.hidden [] [] o.stands (o.kept.long j low) (o.kept.each j w is) in
         let (v, got, since) = x.since j w is in
         let v-is : v ≡ w' = some-is v w' (sym got ∙ ap (λ (xs : List (Writer D G)). slice_get xs j) is' ∙ got-same ws j w' (slice_get_within ws j w is)) in
@@ -158,10 +167,10 @@ module _ {D : Type 0} {G : Ghosts D} (seen_now : (d : D) → G.tells → G.may_l
             order = x.order;
             hidden = x.hidden;
             stands = x.stands;
-            kept = kept-after seen_now o.bases (managed_by j (Ok a)) old.core new.core ws ws' [] [] o.order o.hidden [] o.kept x;
+            kept = kept-after seen_now o.bases (noting old.flushes new.flushes (managed_by j (Ok a))) old.core new.core ws ws' [] [] o.order o.hidden [] o.kept x;
             lowest = subst (λ (l : Load). IsLowestStopped l.streams (core_of new.core x.hidden) new.failed) (sym x.load)
                 (lowest-by old.core.load.streams j (core_of old.core o.hidden) (core_of new.core x.hidden) low
-                (λ i ne. (managed-same (setting_of old.core.load) old.core.load.workers old.core.load.streams P P' i j ne true (moved-by j a old.core.load P P' x.moved)).stop)
+                (λ i ne. (managed-same (setting_of old.core.load) old.core.load.workers old.core.load.streams P P' i j ne true (moved-by j a old.core.load P P' x.moved.0)).stop)
                 (has_failed w) (has_failed v) before.going before.stopped after.going after.stopped a
                 (λ e. f ∙ (m.idle e).0) (λ e. ((m.flushed e).0, f ∙ (m.flushed e).1)) (λ e. ((m.failed e).0, f ∙ (m.failed e).1)) old.failed new.failed fails o.lowest);
           };
@@ -169,9 +178,9 @@ module _ {D : Type 0} {G : Ghosts D} (seen_now : (d : D) → G.tells → G.may_l
           streams = streams ∙ on.streams ∙ sym (ap (λ (l : Load). l.streams) x.load);
         }
 
-    pub manage-manages : (r : Result Managing NoMemory) → Turned r → FailsBy j r old.failed new.failed → Manages (managed_by j r) (is_ok r) old new ws ws'
-    manage-manages (Ok a) t fails = record { went = goes (Ok a) t; clerk = clerk; streams = streams; on = λ e. on-behind a t fails }
-    manage-manages (Err x) t fails = record { went = goes (Err x) t; clerk = clerk; streams = streams; on = λ e. absurd (false-true false refl e) }
+    pub manage-manages : (r : Result Managing NoMemory) → NotesTurn j r old.flushes new.flushes → Turned r → FailsBy j r old.failed new.failed → Manages (managed_by j r) (is_ok r) old new ws ws'
+    manage-manages (Ok a) notes t fails = record { went = goes (Ok a) notes t; clerk = clerk; streams = streams; on = λ e. on-behind a notes t fails }
+    manage-manages (Err x) notes t fails = record { went = goes (Err x) notes t; clerk = clerk; streams = streams; on = λ e. absurd (false-true false refl e) }
 
   pub is-held : IsHeld j w old.core
   is-held = let a = on.along in (a.bases j, a.order, a.hidden, a.stands, a.kept.long j low, a.kept.each j w is)

@@ -27,10 +27,11 @@ use Rattle.tau_step.specs.declared.manager.Managing.TheVariants as did
 use Rattle.tau_step.specs.Along.{IsLeaving, Since, AreKept, Went}
 use Rattle.tau_step.specs.Keeping.{IsKept, ManagerTurns, ManagerStops, ManagerTurned}
 use Rattle.tau_step.specs.Progressed.{progress}
-use Rattle.tau_step.specs.Rounding.{managed_by}
+use Rattle.tau_step.specs.Device.{managed_flushing}
 use Rattle.tau_step.proofs.Calls.{calls-none}
 use Rattle.tau_step.proofs.Going.{since-none}
 use Rattle.tau_step.proofs.Idling.{idle-idled, failed-idled, flushed-on, part-stop}
+use Rattle.tau_step.proofs.Noting.{idle-silent, failed-silent, flushed-noted}
 use Rattle.tau_step.proofs.Kept.{kept-same, kept-leaving, leaving-same}
 use Rattle.tau_step.proofs.Turning.{managed-grows, managed-same}
 
@@ -102,19 +103,27 @@ module _ {D : Type 0} {G : Ghosts D} (seen_now : (d : D) → G.tells → G.may_l
       | inr works ↦ works
     ]
 
-    by-answer : (b : Managing) → a ≡ b → managed_by j (Ok b) true p.load P P'
+    by-answer : (b : Managing) → a ≡ b → managed_flushing j (Ok b) true p.load P P'
     by-answer did.Idle e =
-        let i = t.idle e in
-        (t.moved, idle-idled (setting_of p.load) p.load.workers p.load.streams j there P P' was (λ none. now.going (i.0 ∙ works-first none)) i.1 long t.moved)
+        let i = t.idle e in (
+          (t.moved, idle-idled (setting_of p.load) p.load.workers p.load.streams j there P P' was (λ none. now.going (i.0 ∙ works-first none)) i.1 long t.moved),
+          idle-silent (setting_of p.load) p.load.workers p.load.streams j there P P' was i.1 long t.moved,
+        )
     by-answer did.Failed e =
         let f = t.failed e in
         let (x, stop) = now.stopped f.1 in
-        (t.moved, failed-idled (setting_of p.load) p.load.workers p.load.streams j there P P' x ((kept-leaving seen_now j (bases j) w p h kept-now).going f.0) stop t.moved)
+        let going = (kept-leaving seen_now j (bases j) w p h kept-now).going f.0 in (
+          (t.moved, failed-idled (setting_of p.load) p.load.workers p.load.streams j there P P' x going stop t.moved),
+          failed-silent (setting_of p.load) p.load.workers p.load.streams j there P P' x going stop t.moved,
+        )
     by-answer did.Flushed e =
         let f = t.flushed e in
-        (t.moved, flushed-on (setting_of p.load) p.load.workers p.load.streams j there P P' ((kept-leaving seen_now j (bases j) w p h kept-now).going f.0) f.2 t.moved)
+        let going = (kept-leaving seen_now j (bases j) w p h kept-now).going f.0 in (
+          (t.moved, flushed-on (setting_of p.load) p.load.workers p.load.streams j there P P' going f.2 t.moved),
+          flushed-noted (setting_of p.load) p.load.workers p.load.streams j there P P' going f.2 t.moved,
+        )
 
-    turns-went : Went bases (managed_by j (Ok a)) true p p' ws ws' told told K h es
+    turns-went : Went bases (managed_flushing j (Ok a)) true p p' ws ws' told told K h es
     turns-went =
         let grown = managed-grows (setting_of p.load) p.load.workers p.load.streams P P' j true t.moved in
         record {
@@ -171,7 +180,7 @@ module _ {D : Type 0} {G : Ghosts D} (seen_now : (d : D) → G.tells → G.may_l
       stopped = λ fails. absurd (false-true (has_failed w') stays-working fails);
     }
 
-    stops-went : Went bases (managed_by j (Err x)) false p p' ws ws' told told K h es
+    stops-went : Went bases (managed_flushing j (Err x)) false p p' ws ws' told told K h es
     stops-went =
         let grown = managed-grows (setting_of p.load) p.load.workers p.load.streams Q Q' j false t.moved in
         record {
@@ -180,7 +189,7 @@ module _ {D : Type 0} {G : Ghosts D} (seen_now : (d : D) → G.tells → G.may_l
           events = t.events;
           stands = t.stands;
           load = t.load;
-          moved = t.moved;
+          moved = (t.moved, tt);
           grown = grown;
           count = many;
           kept = each-now t.hidden (λ i v. IsLeaving i (bases i) v p' t.hidden) leaves
@@ -195,6 +204,6 @@ module _ {D : Type 0} {G : Ghosts D} (seen_now : (d : D) → G.tells → G.may_l
           });
         }
 
-  pub manager-went : (r : Result Managing NoMemory) → ManagerTurned j (bases j) w w' p p' told K h es r → (whole : Bool) → whole ≡ is_ok r → Went bases (managed_by j r) whole p p' ws ws' told told K h es
-  manager-went (Ok a) t whole e = subst (λ (b : Bool). Went bases (managed_by j (Ok a)) b p p' ws ws' told told K h es) (sym e) (turns-went a t)
-  manager-went (Err x) t whole e = subst (λ (b : Bool). Went bases (managed_by j (Err x)) b p p' ws ws' told told K h es) (sym e) (stops-went x t)
+  pub manager-went : (r : Result Managing NoMemory) → ManagerTurned j (bases j) w w' p p' told K h es r → (whole : Bool) → whole ≡ is_ok r → Went bases (managed_flushing j r) whole p p' ws ws' told told K h es
+  manager-went (Ok a) t whole e = subst (λ (b : Bool). Went bases (managed_flushing j (Ok a)) b p p' ws ws' told told K h es) (sym e) (turns-went a t)
+  manager-went (Err x) t whole e = subst (λ (b : Bool). Went bases (managed_flushing j (Err x)) b p p' ws ws' told told K h es) (sym e) (stops-went x t)

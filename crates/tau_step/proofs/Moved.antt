@@ -17,8 +17,10 @@ use Rattle.tau_core.specs.Opens.{nothing}
 use Rattle.tau_core.specs.Stands.{Stands, Stood}
 use Rattle.tau_run.specs.Turns.{Progress}
 use Rattle.tau_step.specs.declared.clerk.Clerk.{Clerk}
+use Rattle.tau_step.specs.declared.flushes.Flushes.{Flushes}
 use Rattle.tau_step.specs.declared.run.Run.{Run}
 use Rattle.tau_step.specs.Along.{Quiet, AreKept, IsAlong, Went}
+use Rattle.tau_step.specs.Device.{IsNoted, flushed_in, noting}
 use Rattle.tau_step.specs.Moving.{IsOn, Works, Manages, Moves, WentBy}
 use Rattle.tau_step.specs.Progressed.{progress, clerks}
 use Rattle.tau_step.specs.Rounding.{clerked}
@@ -27,6 +29,7 @@ use Rattle.tau_step.specs.Telling.{Heard, Passed}
 use Rattle.tau_step.proofs.Going.{kept-after, went-quiet, went-on, went-as, since-none}
 use Rattle.tau_step.proofs.Growing.{grows-none}
 use Rattle.tau_step.proofs.Joined.{comes-as, comes-on}
+use Rattle.tau_step.proofs.Silent.{Silent, clerked-silent}
 use Rattle.tau_step.proofs.Turning.{clerked-grows, clerked-same}
 
 rose-on : (a b c : ℕ) → a ≤ b → Rose b c → Rose a c
@@ -34,6 +37,20 @@ rose-on a b c le r = omega (arith, le, r)
 
 rose-more : (a b c : ℕ) → b ≤ c → Rose a b → Rose a c
 rose-more a b c le r = omega (arith, le, r)
+
+-- ---- what is noted of flushes
+
+pub noted-same : (f f' : Flushes) (P P' : Progress) → f' ≡ f → Silent P P' → IsNoted f P.events → IsNoted f' P'.events
+noted-same f f' P P' e silent was = λ noted. ap (λ (x : Flushes). x.streams) e ∙ was (sym (ap (λ (x : Flushes). x.noted) e) ∙ noted) ∙ sym silent
+
+-- one behind the other
+pub noting-on : (R S T : Bool → Load → Progress → Progress → Type 0) (whole : Bool) (f f' f'' : Flushes) → ((l : Load) (P Q P' : Progress) → R true l P Q → S whole l Q P' → T whole l P P') →
+    (l : Load) (P Q P' : Progress) → noting f f' R true l P Q → noting f' f'' S whole l Q P' → noting f f'' T whole l P P'
+noting-on R S T whole f f' f'' on l P Q P' p q = (on l P Q P' p.0 q.0, λ e was. q.1 e (p.1 refl was))
+
+pub noting-as : (R S : Bool → Load → Progress → Progress → Type 0) (whole : Bool) (f f' : Flushes) → ((l : Load) (P P' : Progress) → R whole l P P' → S whole l P P') →
+    (l : Load) (P P' : Progress) → noting f f' R whole l P P' → noting f f' S whole l P P'
+noting-as R S whole f f' turn l P P' p = (turn l P P' p.0, p.1)
 
 -- ---- workers alone
 
@@ -48,6 +65,7 @@ works-on R S T whole old mid new f x y = record {
   failed = y.failed ∙ x.failed;
   workers = y.workers ∙ x.workers;
   streams = y.streams ∙ x.streams;
+  flushes = y.flushes ∙ x.flushes;
 }
 
 pub works-as : (R S : Bool → Load → Progress → Progress → Type 0) (whole whole' : Bool) (old new : Run) → ((l : Load) (P P' : Progress) → R whole l P P' → S whole' l P P') → Works R whole old new → Works S whole' old new
@@ -59,6 +77,7 @@ works-as R S whole whole' old new f x = record {
   failed = x.failed;
   workers = x.workers;
   streams = x.streams;
+  flushes = x.flushes;
 }
 
 pub works-none : (R : Bool → Load → Progress → Progress → Type 0) (run : Run) → Stood run.core → ((P : Progress) → R true run.core.load P P) → Works R true run run
@@ -70,6 +89,7 @@ works-none R run stood r = record {
   failed = refl;
   workers = refl;
   streams = refl;
+  flushes = refl;
 }
 
 -- the lowest stream that is stopped is the same where the streams are
@@ -98,24 +118,37 @@ module _ {D : Type 0} {G : Ghosts D} (seen_now : (d : D) → G.tells → G.may_l
 
   -- ---- with writers
 
-  module _ (R : Bool → Load → Progress → Progress → Type 0) (whole : Bool) (old new : Run) (ws : List (Writer D G)) (on : IsOn ws old) (quiet : (l : Load) (P P' : Progress) → R whole l P P' → Quiet P.state P'.state) (x : Works R whole old new) where
-    works-went : (bases : ℕ → List ℕ) (K : List (Act Txn)) (h : Hidden) (es : List machine.Event) (told : List (ℕ × List ℕ)) → Stands old.core K h → AreKept bases ws old.core h → Went bases R whole old.core new.core ws ws told told K h es
+  module _ (R : Bool → Load → Progress → Progress → Type 0) (whole : Bool) (old new : Run) (ws : List (Writer D G)) (on : IsOn ws old) (quiet : (l : Load) (P P' : Progress) → R whole l P P' → Quiet P.state P'.state) (silent : (l : Load) (P P' : Progress) → whole ≡ true → R whole l P P' → Silent P P') (x : Works R whole old new) where
+    abbrev N : Bool → Load → Progress → Progress → Type 0
+    N = noting old.flushes new.flushes R
+
+    works-went : (bases : ℕ → List ℕ) (K : List (Act Txn)) (h : Hidden) (es : List machine.Event) (told : List (ℕ × List ℕ)) → Stands old.core K h → AreKept bases ws old.core h → Went bases N whole old.core new.core ws ws told told K h es
     works-went bases K h es told g k =
         let c = x.comes K h es told g in
-        went-quiet seen_now bases R whole old.core new.core ws told told K h es k c (quiet old.core.load (progress old.core h es K told) (progress new.core c.hidden c.events c.order told) c.moved)
+        let P = progress old.core h es K told in
+        let P' = progress new.core c.hidden c.events c.order told in
+        went-quiet seen_now bases N whole old.core new.core ws told told K h es k (record {
+          hidden = c.hidden;
+          order = c.order;
+          events = c.events;
+          stands = c.stands;
+          load = c.load;
+          taken = c.taken;
+          moved = (c.moved, λ e was. noted-same old.flushes new.flushes P P' x.flushes (silent old.core.load P P' e c.moved) was);
+        }) (quiet old.core.load P P' c.moved)
 
     works-along : whole ≡ true → IsAlong ws new.core new.failed
     works-along e =
         let a = on.along in
         let c = x.comes a.order a.hidden [] [] a.stands in
         let q = quiet old.core.load (progress old.core a.hidden [] a.order []) (progress new.core c.hidden c.events c.order []) c.moved in
-        let w = whole-went a.bases R whole old.core new.core ws ws [] [] a.order a.hidden [] e (works-went a.bases a.order a.hidden [] [] a.stands a.kept) in
+        let w = whole-went a.bases N whole old.core new.core ws ws [] [] a.order a.hidden [] e (works-went a.bases a.order a.hidden [] [] a.stands a.kept) in
         record {
           bases = a.bases;
           order = w.order;
           hidden = w.hidden;
           stands = w.stands;
-          kept = kept-after seen_now a.bases R old.core new.core ws ws [] [] a.order a.hidden [] a.kept w;
+          kept = kept-after seen_now a.bases N old.core new.core ws ws [] [] a.order a.hidden [] a.kept w;
           lowest = subst (λ (f : Option ℕ). IsLowestStopped new.core.load.streams (core_of new.core w.hidden) f) (sym x.failed)
               (subst (λ (l : Load). IsLowestStopped l.streams (core_of new.core w.hidden) old.failed) (sym x.load)
               (lowest-same old.core.load.streams (core_of old.core a.hidden) (core_of new.core w.hidden) (λ j. (q.same j).stop) old.failed a.lowest));
@@ -137,7 +170,7 @@ module _ {D : Type 0} {G : Ghosts D} (seen_now : (d : D) → G.tells → G.may_l
       Manages R true old mid ws ms → Manages S whole mid new ms ws' → Manages T whole old new ws ws'
   manages-on R S T whole old mid new ws ms ws' f x y = record {
     went = λ bases K h es told g k. (let a = x.went bases K h es told g k in
-        went-on seen_now bases R S T whole old.core mid.core new.core ws ms ws' told told told K h es f a (y.went bases a.order a.hidden a.events told a.stands (kept-after seen_now bases R old.core mid.core ws ms told told K h es k a)));
+        went-on seen_now bases (noting old.flushes mid.flushes R) (noting mid.flushes new.flushes S) (noting old.flushes new.flushes T) whole old.core mid.core new.core ws ms ws' told told told K h es (noting-on R S T whole old.flushes mid.flushes new.flushes f) a (y.went bases a.order a.hidden a.events told a.stands (kept-after seen_now bases (noting old.flushes mid.flushes R) old.core mid.core ws ms told told K h es k a)));
     clerk = y.clerk ∙ x.clerk;
     streams = y.streams ∙ x.streams;
     on = y.on;
@@ -145,7 +178,7 @@ module _ {D : Type 0} {G : Ghosts D} (seen_now : (d : D) → G.tells → G.may_l
 
   pub manages-as : (R S : Bool → Load → Progress → Progress → Type 0) (whole : Bool) (old new : Run) (ws ws' : List (Writer D G)) → ((l : Load) (P P' : Progress) → R whole l P P' → S whole l P P') → Manages R whole old new ws ws' → Manages S whole old new ws ws'
   manages-as R S whole old new ws ws' f x = record {
-    went = λ bases K h es told g k. went-as seen_now bases R S whole old.core new.core ws ws' told told K h es f (x.went bases K h es told g k);
+    went = λ bases K h es told g k. went-as seen_now bases (noting old.flushes new.flushes R) (noting old.flushes new.flushes S) whole old.core new.core ws ws' told told K h es (noting-as R S whole old.flushes new.flushes f) (x.went bases K h es told g k);
     clerk = x.clerk;
     streams = x.streams;
     on = x.on;
@@ -168,7 +201,7 @@ module _ {D : Type 0} {G : Ghosts D} (seen_now : (d : D) → G.tells → G.may_l
 
   pub manages-none : (R : Bool → Load → Progress → Progress → Type 0) (run : Run) (ws : List (Writer D G)) → IsOn ws run → ((P : Progress) → R true run.core.load P P) → Manages R true run run ws ws
   manages-none R run ws on r = record {
-    went = λ bases K h es told g k. none-went bases R run.core ws told K h es r g k;
+    went = λ bases K h es told g k. none-went bases (noting run.flushes run.flushes R) run.core ws told K h es (λ P. (r P, λ e was. was)) g k;
     clerk = refl;
     streams = refl;
     on = λ e. on;
@@ -186,11 +219,11 @@ module _ {D : Type 0} {G : Ghosts D} (seen_now : (d : D) → G.tells → G.may_l
       on = x.on;
     }
       where
-        by : (bases : ℕ → List ℕ) (K : List (Act Txn)) (h : Hidden) (es : List machine.Event) (b : Bool) → Went bases R b old.core new.core ws ws' old.clerk.acks old.clerk.acks K h es → WentBy bases R b old new ws ws' hears held held K h es
-        by bases K h es true w = subst (λ (c : Clerk). Went bases R true old.core new.core ws ws' old.clerk.acks c.acks K h es) (sym x.clerk) w
+        by : (bases : ℕ → List ℕ) (K : List (Act Txn)) (h : Hidden) (es : List machine.Event) (b : Bool) → Went bases (noting old.flushes new.flushes R) b old.core new.core ws ws' old.clerk.acks old.clerk.acks K h es → WentBy bases R b old new ws ws' hears held held K h es
+        by bases K h es true w = subst (λ (c : Clerk). Went bases (noting old.flushes new.flushes R) true old.core new.core ws ws' old.clerk.acks c.acks K h es) (sym x.clerk) w
         by bases K h es false w = record {
           told_now = old.clerk.acks;
-          went = w;
+          went = went-as seen_now bases (noting old.flushes new.flushes R) R false old.core new.core ws ws' old.clerk.acks old.clerk.acks K h es (λ l P P' q. q.0) w;
           count = length old.clerk.acks;
           heard = λ q from f. subst (λ (b : Bool). Heard from (take (length old.clerk.acks) old.clerk.acks) b held) (sym (ap (λ (c : Clerk). c.sink_failed) x.clerk))
               (subst (λ (acks : List (ℕ × List ℕ)). Heard from acks old.clerk.sink_failed held) (sym (take-length old.clerk.acks)) f);
@@ -201,7 +234,7 @@ module _ {D : Type 0} {G : Ghosts D} (seen_now : (d : D) → G.tells → G.may_l
         Moves R true old mid ws ms hears held held' faults faults' → Moves S whole mid new ms ws' hears held' held'' faults' faults'' → Moves T whole old new ws ws' hears held held'' faults faults''
     moves-on R S T whole old mid new ws ms ws' held held' held'' faults faults' faults'' f x y = record {
       went = λ bases K h es g k. (let a = x.went bases K h es g k in
-          by bases K h es a whole f (y.went bases a.order a.hidden a.events a.stands (kept-after seen_now bases R old.core mid.core ws ms old.clerk.acks mid.clerk.acks K h es k a)));
+          by bases K h es a whole f (y.went bases a.order a.hidden a.events a.stands (kept-after seen_now bases (noting old.flushes mid.flushes R) old.core mid.core ws ms old.clerk.acks mid.clerk.acks K h es k a)));
       heard = λ e q from first. y.heard e q from (x.heard refl q from first);
       rose = λ e. elim (y.rose e) [
         | inl was ↦ elim (x.rose was) [ inl earlier ↦ inl earlier | inr r ↦ inr (rose-more faults faults' faults'' y.later r) ]
@@ -211,12 +244,12 @@ module _ {D : Type 0} {G : Ghosts D} (seen_now : (d : D) → G.tells → G.may_l
       on = y.on;
     }
       where
-        by : (bases : ℕ → List ℕ) (K : List (Act Txn)) (h : Hidden) (es : List machine.Event) (a : Went bases R true old.core mid.core ws ms old.clerk.acks mid.clerk.acks K h es) (b : Bool) →
+        by : (bases : ℕ → List ℕ) (K : List (Act Txn)) (h : Hidden) (es : List machine.Event) (a : Went bases (noting old.flushes mid.flushes R) true old.core mid.core ws ms old.clerk.acks mid.clerk.acks K h es) (b : Bool) →
             ((l : Load) (P Q P' : Progress) → R true l P Q → S b l Q P' → T b l P P') → WentBy bases S b mid new ms ws' hears held' held'' a.order a.hidden a.events → WentBy bases T b old new ws ws' hears held held'' K h es
-        by bases K h es a true f w = went-on seen_now bases R S T true old.core mid.core new.core ws ms ws' old.clerk.acks mid.clerk.acks new.clerk.acks K h es f a w
+        by bases K h es a true f w = went-on seen_now bases (noting old.flushes mid.flushes R) (noting mid.flushes new.flushes S) (noting old.flushes new.flushes T) true old.core mid.core new.core ws ms ws' old.clerk.acks mid.clerk.acks new.clerk.acks K h es (noting-on R S T true old.flushes mid.flushes new.flushes f) a w
         by bases K h es a false f w = record {
           told_now = w.told_now;
-          went = went-on seen_now bases R S T false old.core mid.core new.core ws ms ws' old.clerk.acks mid.clerk.acks w.told_now K h es f a w.went;
+          went = went-on seen_now bases (noting old.flushes mid.flushes R) S T false old.core mid.core new.core ws ms ws' old.clerk.acks mid.clerk.acks w.told_now K h es (λ l P Q P' p q. f l P Q P' p.0 q) a w.went;
           count = w.count;
           heard = λ q from first. w.heard q from (x.heard refl q from first);
         }
@@ -232,7 +265,7 @@ module _ {D : Type 0} {G : Ghosts D} (seen_now : (d : D) → G.tells → G.may_l
     }
       where
         by : (bases : ℕ → List ℕ) (K : List (Act Txn)) (h : Hidden) (es : List machine.Event) (b : Bool) → ((l : Load) (P P' : Progress) → R b l P P' → S b l P P') → WentBy bases R b old new ws ws' hears held held' K h es → WentBy bases S b old new ws ws' hears held held' K h es
-        by bases K h es true f w = went-as seen_now bases R S true old.core new.core ws ws' old.clerk.acks new.clerk.acks K h es f w
+        by bases K h es true f w = went-as seen_now bases (noting old.flushes new.flushes R) (noting old.flushes new.flushes S) true old.core new.core ws ws' old.clerk.acks new.clerk.acks K h es (noting-as R S true old.flushes new.flushes f) w
         by bases K h es false f w = record {
           told_now = w.told_now;
           went = went-as seen_now bases R S false old.core new.core ws ws' old.clerk.acks w.told_now K h es f w.went;
@@ -245,7 +278,7 @@ module _ {D : Type 0} {G : Ghosts D} (seen_now : (d : D) → G.tells → G.may_l
 
     -- the clerk's turn
     module _ (old new : Run) (ws : List (Writer D G)) (held held' : List ℕ) (faults faults' : ℕ) (on : IsOn ws old) (later : faults ≤ faults') (rose : new.clerk.sink_failed ≡ true → (old.clerk.sink_failed ≡ true) ⊎ Rose faults faults')
-        (load : new.core.load ≡ old.core.load) (failed : new.failed ≡ old.failed) (workers : new.workers ≡ old.workers) (streams : new.streams ≡ old.streams) where
+        (load : new.core.load ≡ old.core.load) (failed : new.failed ≡ old.failed) (workers : new.workers ≡ old.workers) (streams : new.streams ≡ old.streams) (flushes : new.flushes ≡ old.flushes) where
       abbrev Clears : {A : Type 0} → Result A NoMemory → Type 0
       Clears r = (K : List (Act Txn)) (h : Hidden) (es : List machine.Event) → Stands old.core K h → Passed clerks old.core new.core old.clerk.acks new.clerk.acks old.clerk.sink_failed new.clerk.sink_failed hears held held' K h es r
 
@@ -269,7 +302,7 @@ module _ {D : Type 0} {G : Ghosts D} (seen_now : (d : D) → G.tells → G.may_l
                 order = w.order;
                 hidden = w.hidden;
                 stands = w.stands;
-                kept = kept-after seen_now a.bases clerked old.core new.core ws ws old.clerk.acks new.clerk.acks a.order a.hidden [] a.kept w;
+                kept = kept-after seen_now a.bases (noting old.flushes new.flushes clerked) old.core new.core ws ws old.clerk.acks new.clerk.acks a.order a.hidden [] a.kept w;
                 lowest = subst (λ (f : Option ℕ). IsLowestStopped new.core.load.streams (core_of new.core w.hidden) f) (sym failed)
                     (subst (λ (l : Load). IsLowestStopped l.streams (core_of new.core w.hidden) old.failed) (sym load)
                     (lowest-same old.core.load.streams (core_of old.core a.hidden) (core_of new.core w.hidden) (λ j. (q.same j).stop) old.failed a.lowest));
@@ -279,10 +312,20 @@ module _ {D : Type 0} {G : Ghosts D} (seen_now : (d : D) → G.tells → G.may_l
             });
       }
         where
-          went : (bases : ℕ → List ℕ) (K : List (Act Txn)) (h : Hidden) (es : List machine.Event) → Stands old.core K h → AreKept bases ws old.core h → Went bases clerked true old.core new.core ws ws old.clerk.acks new.clerk.acks K h es
+          went : (bases : ℕ → List ℕ) (K : List (Act Txn)) (h : Hidden) (es : List machine.Event) → Stands old.core K h → AreKept bases ws old.core h → Went bases (noting old.flushes new.flushes clerked) true old.core new.core ws ws old.clerk.acks new.clerk.acks K h es
           went bases K h es g k =
               let c = passed K h es g in
-              went-quiet seen_now bases clerked true old.core new.core ws old.clerk.acks new.clerk.acks K h es k c (quiet true old.core.load (progress old.core h es K old.clerk.acks) (progress new.core c.hidden c.events c.order new.clerk.acks) c.moved)
+              let P = progress old.core h es K old.clerk.acks in
+              let P' = progress new.core c.hidden c.events c.order new.clerk.acks in
+              went-quiet seen_now bases (noting old.flushes new.flushes clerked) true old.core new.core ws old.clerk.acks new.clerk.acks K h es k (record {
+                hidden = c.hidden;
+                order = c.order;
+                events = c.events;
+                stands = c.stands;
+                load = c.load;
+                taken = c.taken;
+                moved = (c.moved, λ e was. noted-same old.flushes new.flushes P P' flushes (clerked-silent true old.core.load P P' e c.moved) was);
+              }) (quiet true old.core.load P P' c.moved)
       clerk-moves A (Err e) passed heard = record {
         went = λ bases K h es g k. (let t = passed K h es g in let c = t.comes in
             record {

@@ -25,6 +25,8 @@ use Rattle.tau_step.specs.Progressed.{progress, clerks}
 use Rattle.tau_step.specs.Telling.{Passed}
 use Rattle.tau_step.specs.Rounding.{managed, Rounded, worked_by, rounded_by, round_by, rounds_on, in_rounds, managed_by, managed_below, all_managed, clerked, rest_of_round}
 use Rattle.tau_step.proofs.Going.{kept-after, went-on}
+use Rattle.tau_step.specs.Device.{noting}
+use Rattle.tau_step.proofs.Silent.{false-not, rounded-silent}
 use Rattle.tau_step.proofs.Moved.{works-on, works-none, works-manages, manages-on, manages-as, manages-none, manages-moves, moves-on, moves-as, moves-none}
 use Rattle.tau_step.proofs.ManagerRuns.{moved-by, total-same}
 use Rattle.tau_step.proofs.Others.{clerked-workers}
@@ -65,6 +67,7 @@ workers-cut i any error old mid new lt x y = record {
   failed = y.failed ∙ x.failed;
   workers = y.workers ∙ x.workers;
   streams = y.streams ∙ x.streams;
+  flushes = y.flushes ∙ x.flushes;
 }
 
 pub workers-all : (i : ℕ) (any : Bool) (old new : Run) → i ≡ old.core.load.workers → Works (rounded_below i any) true old new → Works (rounded_by (Ok any)) true old new
@@ -85,6 +88,7 @@ workers-all i any old new e x = record {
   failed = x.failed;
   workers = x.workers;
   streams = x.streams;
+  flushes = x.flushes;
 }
 
 pub rounded-quiet : (r : Result Bool NoMemory) (whole : Bool) (l : Load) (P P' : Progress) → rounded_by r whole l P P' → Quiet P.state P'.state
@@ -127,15 +131,15 @@ module _ {D : Type 0} {G : Ghosts D} (seen_now : (d : D) → G.tells → G.may_l
   pub managers-cut : (i : ℕ) (error : NoMemory) (old mid new : Run) (ws ms ws' : List (Writer D G)) → i < old.core.load.streams → Manages (managed_below i) true old mid ws ms → Manages (managed_by i (Err error)) false mid new ms ws' → Manages all_managed false old new ws ws'
   managers-cut i error old mid new ws ms ws' lt x y = record {
     went = λ bases K h es told g k. (let a = x.went bases K h es told g k in
-        let b = y.went bases a.order a.hidden a.events told a.stands (kept-after seen_now bases (managed_below i) old.core mid.core ws ms told told K h es k a) in
-        let whole = went-on seen_now bases (managed_below i) (managed_by i (Err error)) (cut_at i) false old.core mid.core new.core ws ms ws' told told told K h es (λ l P Q P' p q. (Q, p, q)) a b in
+        let b = y.went bases a.order a.hidden a.events told a.stands (kept-after seen_now bases (noting old.flushes mid.flushes (managed_below i)) old.core mid.core ws ms told told K h es k a) in
+        let whole = went-on seen_now bases (noting old.flushes mid.flushes (managed_below i)) (noting mid.flushes new.flushes (managed_by i (Err error))) (cut_at i) false old.core mid.core new.core ws ms ws' told told told K h es (λ l P Q P' p q. (Q, p.0, q.0)) a b in
         record {
           hidden = whole.hidden;
           order = whole.order;
           events = whole.events;
           stands = whole.stands;
           load = whole.load;
-          moved = join old.core.load lt (progress old.core h es K told) (progress new.core whole.hidden whole.events whole.order told) whole.moved;
+          moved = (join old.core.load lt (progress old.core h es K told) (progress new.core whole.hidden whole.events whole.order told) whole.moved, λ e. false-not e);
           grown = whole.grown;
           count = whole.count;
           kept = whole.kept;
@@ -168,7 +172,7 @@ module _ {D : Type 0} {G : Ghosts D} (seen_now : (d : D) → G.tells → G.may_l
           count = a.count;
           kept = a.kept;
           since = a.since;
-          moved = subst (λ (k : ℕ). managed_below k true old.core.load (progress old.core h es K told) (progress new.core a.hidden a.events a.order told)) e a.moved;
+          moved = (subst (λ (k : ℕ). managed_below k true old.core.load (progress old.core h es K told) (progress new.core a.hidden a.events a.order told)) e a.moved.0, a.moved.1);
         });
     clerk = x.clerk;
     streams = x.streams;
@@ -195,7 +199,7 @@ module _ {D : Type 0} {G : Ghosts D} (seen_now : (d : D) → G.tells → G.may_l
     round-on old mid new ws ws' held held' faults faults' x on y =
         moves-on seen_now hears (rounded_by (Ok true)) rest_of_round (round_by (Ok true)) true old mid new ws ws ws' held held held' faults faults faults'
         (λ l P A P' r rest whole R more. Rounds.again (busy-of l P A r) (round-whole (setting_of l) l.workers l.streams P A rest.0 P' r.turns rest.1 rest.2) more)
-        (manages-moves seen_now hears (rounded_by (Ok true)) true old mid ws ws held faults (works-manages seen_now (rounded_by (Ok true)) true old mid ws on (rounded-quiet (Ok true) true) x)) y
+        (manages-moves seen_now hears (rounded_by (Ok true)) true old mid ws ws held faults (works-manages seen_now (rounded_by (Ok true)) true old mid ws on (rounded-quiet (Ok true) true) (rounded-silent true true) x)) y
 
     pub round-cut : (error : NoMemory) (old mid new : Run) (ws ws' : List (Writer D G)) (held held' : List ℕ) (faults faults' : ℕ) → Works (rounded_by (Ok true)) true old mid → IsOn ws old → Moves rest_of_round false mid new ws ws' hears held held' faults faults' → Moves (round_by (Err error)) false old new ws ws' hears held held' faults faults'
     round-cut error old mid new ws ws' held held' faults faults' x on y =
@@ -204,14 +208,14 @@ module _ {D : Type 0} {G : Ghosts D} (seen_now : (d : D) → G.tells → G.may_l
           | inl managers ↦ round-managers (setting_of l) l.workers l.streams P A P' r.turns managers
           | inr q ↦ round-clerk (setting_of l) l.workers l.streams P A q.0 P' r.turns q.1 q.2
         ])))
-        (manages-moves seen_now hears (rounded_by (Ok true)) true old mid ws ws held faults (works-manages seen_now (rounded_by (Ok true)) true old mid ws on (rounded-quiet (Ok true) true) x)) y
+        (manages-moves seen_now hears (rounded_by (Ok true)) true old mid ws ws held faults (works-manages seen_now (rounded_by (Ok true)) true old mid ws on (rounded-quiet (Ok true) true) (rounded-silent true true) x)) y
 
     -- no worker had anything to do
     pub round-over : (old new : Run) (ws : List (Writer D G)) (held : List ℕ) (faults : ℕ) → Works (rounded_by (Ok false)) true old new → IsOn ws old → Moves (round_by (Ok false)) true old new ws ws hears held held faults faults
     round-over old new ws held faults x on =
         manages-moves seen_now hears (round_by (Ok false)) true old new ws ws held faults (manages-as seen_now (rounded_by (Ok false)) (round_by (Ok false)) true old new ws ws
         (λ l P P' r. subst (λ (X : Progress). in_rounds true l P X) (sym (r.still refl)) (Rounds.over (sym r.any_is)))
-        (works-manages seen_now (rounded_by (Ok false)) true old new ws on (rounded-quiet (Ok false) true) x))
+        (works-manages seen_now (rounded_by (Ok false)) true old new ws on (rounded-quiet (Ok false) true) (rounded-silent false true) x))
 
     pub round-short : (error : NoMemory) (old new : Run) (ws : List (Writer D G)) (held : List ℕ) (faults : ℕ) → Works (rounded_by (Err error)) false old new → IsOn ws old → Moves (round_by (Err error)) false old new ws ws hears held held faults faults
     round-short error old new ws held faults x on =
@@ -220,7 +224,7 @@ module _ {D : Type 0} {G : Ghosts D} (seen_now : (d : D) → G.tells → G.may_l
           | inl busy ↦ inl (Rounds.cut busy (round-workers (setting_of l) l.workers l.streams P P' r.turns))
           | inr none ↦ inr (subst (λ (X : Progress). in_rounds true l P X) (sym (r.still none)) (Rounds.over none))
         ])
-        (works-manages seen_now (rounded_by (Err error)) false old new ws on (rounded-quiet (Err error) false) x))
+        (works-manages seen_now (rounded_by (Err error)) false old new ws on (rounded-quiet (Err error) false) (λ l P P' e q. false-not e) x))
 
 -- the clerk leaves workers as they are
 pub clerk-total : {A : Type 0} (old new : Run) (hears : Type 0) (held held' : List ℕ) → Stood old.core → (a : A) →

@@ -37,13 +37,13 @@ not-first : (a b : Bool) → a ≡ false → (a && b) ≡ false
 not-first false b e = refl
 not-first true b e = absurd (let bad : true ≡ false = e in cc)
 
-module _ (old new : Run) (clerk : new.clerk ≡ old.clerk) (failed : new.failed ≡ old.failed) (workers : new.workers ≡ old.workers) (streams : new.streams ≡ old.streams) (stood : Stood old.core) where
+module _ (old new : Run) (clerk : new.clerk ≡ old.clerk) (failed : new.failed ≡ old.failed) (workers : new.workers ≡ old.workers) (streams : new.streams ≡ old.streams) (flushes : new.flushes ≡ old.flushes) (stood : Stood old.core) where
   -- from what always comes
   pub works-of : (R : Bool → Load → Progress → Progress → Type 0) (whole : Bool) → ((K : List (Act Txn)) (h : Hidden) (es : List machine.Event) (told : List (ℕ × List ℕ)) → Stands old.core K h → Comes (R whole) old.core new.core told told K h es) → Works R whole old new
   works-of R whole comes =
       let (K, h, g) = stood in
       let c = comes K h [] [] g in
-      record { comes = comes; stood = (c.order, c.hidden, c.stands); load = c.load; clerk = clerk; failed = failed; workers = workers; streams = streams }
+      record { comes = comes; stood = (c.order, c.hidden, c.stands); load = c.load; clerk = clerk; failed = failed; workers = workers; streams = streams; flushes = flushes }
 
   -- the turn of a worker
   pub work-works : (w : ℕ) (r : Result Bool NoMemory) → ((K : List (Act Txn)) (h : Hidden) (es : List machine.Event) (told : List (ℕ × List ℕ)) → Stands old.core K h → WorkerTurned w old.core new.core K h es told r) → Works (worked_by w r) (is_ok r) old new

@@ -10,6 +10,7 @@ use Rattle.tau_step.specs.declared.run.Run.{Run}
 use Rattle.tau_step.specs.Along.{Quiet}
 use Rattle.tau_step.specs.Moving.{IsOn, Works, Moves}
 use Rattle.tau_step.specs.Rounding.{turned_all, in_rounds, ran_left_over, drained, ran_last, ran_behind, ran_all}
+use Rattle.tau_step.proofs.Silent.{left_over-silent}
 use Rattle.tau_step.proofs.Moved.{works-manages, manages-moves, moves-on, moves-as, moves-none}
 
 left-quiet : (whole : Bool) (l : Load) (P P' : Progress) → ran_left_over whole l P P' → Quiet P.state P'.state
@@ -17,7 +18,7 @@ left-quiet whole l P P' q = q.quiet
 
 module _ {D : Type 0} {G : Ghosts D} (seen_now : (d : D) → G.tells → G.may_leave d (G.seen d)) (hears : Type 0) where
   left-moves : (whole : Bool) (old new : Run) (ws : List (Writer D G)) (held : List ℕ) (faults : ℕ) → IsOn ws old → Works ran_left_over whole old new → Moves ran_left_over whole old new ws ws hears held held faults faults
-  left-moves whole old new ws held faults on x = manages-moves seen_now hears ran_left_over whole old new ws ws held faults (works-manages seen_now ran_left_over whole old new ws on (left-quiet whole) x)
+  left-moves whole old new ws held faults on x = manages-moves seen_now hears ran_left_over whole old new ws ws held faults (works-manages seen_now ran_left_over whole old new ws on (left-quiet whole) (left_over-silent whole) x)
 
   pub left-on : (old new : Run) (ws : List (Writer D G)) (held : List ℕ) (faults : ℕ) → IsOn ws old → Works ran_left_over true old new → IsOn ws new
   left-on old new ws held faults on x = (left-moves true old new ws held faults on x).on refl

@@ -11,7 +11,7 @@ use Rattle.tau_run.specs.Turns.{Progress, Stays, IfSo, IsOwn, Goes, has_work, is
 use Rattle.tau_step.specs.Along.{Grows, SameAt, Spares}
 use Rattle.tau_step.proofs.Growing.{grows-none, grows-on, grows, same-none, same-on, spared}
 
-if-either : (b : Bool) (A B R : Type 0) → IfSo b A B → (A → R) → (B → R) → R
+pub if-either : (b : Bool) (A B R : Type 0) → IfSo b A B → (A → R) → (B → R) → R
 if-either true A B R h f g = f h
 if-either false A B R h f g = g h
 

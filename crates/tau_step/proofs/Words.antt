@@ -12,6 +12,7 @@ use Rattle.tau_step.specs.declared.run.Run.{Run}
 use Rattle.tau_step.specs.Along.{Quiet}
 use Rattle.tau_step.specs.Moving.{IsOn, Works, Manages, Moves}
 use Rattle.tau_step.specs.Rounding.{clerked, turned, turned_all}
+use Rattle.tau_step.proofs.Silent.{Silent}
 use Rattle.tau_step.proofs.Moved.{works-manages, manages-moves, moves-on, moves-as}
 use Rattle.tau_step.proofs.OneByOne.{one-more, one-cut}
 
@@ -24,10 +25,10 @@ next-split {A} xs i x d lt is = sym (take-append-drop i xs) ∙ ap (λ (ys : Lis
 
 module _ {D : Type 0} {G : Ghosts D} (seen_now : (d : D) → G.tells → G.may_leave d (G.seen d)) (hears : Type 0) where
   -- a turn word of workers alone, or of a manager
-  pub word-moves : (t t' : Turn) (whole : Bool) (old new : Run) (ws : List (Writer D G)) (held : List ℕ) (faults : ℕ) → t ≡ t' → IsOn ws old → ((l : Load) (P P' : Progress) → turned t' whole l P P' → Quiet P.state P'.state) →
+  pub word-moves : (t t' : Turn) (whole : Bool) (old new : Run) (ws : List (Writer D G)) (held : List ℕ) (faults : ℕ) → t ≡ t' → IsOn ws old → ((l : Load) (P P' : Progress) → turned t' whole l P P' → Quiet P.state P'.state) → ((l : Load) (P P' : Progress) → whole ≡ true → turned t' whole l P P' → Silent P P') →
       Works (turned t') whole old new → Moves (turned t) whole old new ws ws hears held held faults faults
-  word-moves t t' whole old new ws held faults e on quiet x = subst (λ (u : Turn). Moves (turned u) whole old new ws ws hears held held faults faults) (sym e)
-      (manages-moves seen_now hears (turned t') whole old new ws ws held faults (works-manages seen_now (turned t') whole old new ws on quiet x))
+  word-moves t t' whole old new ws held faults e on quiet silent x = subst (λ (u : Turn). Moves (turned u) whole old new ws ws hears held held faults faults) (sym e)
+      (manages-moves seen_now hears (turned t') whole old new ws ws held faults (works-manages seen_now (turned t') whole old new ws on quiet silent x))
 
   pub manager-moves : (t t' : Turn) (whole : Bool) (old new : Run) (ws ws' : List (Writer D G)) (held : List ℕ) (faults : ℕ) → t ≡ t' → Manages (turned t') whole old new ws ws' → Moves (turned t) whole old new ws ws' hears held held faults faults
   manager-moves t t' whole old new ws ws' held faults e x = subst (λ (u : Turn). Moves (turned u) whole old new ws ws' hears held held faults faults) (sym e) (manages-moves seen_now hears (turned t') whole old new ws ws' held faults x)

@@ -4,6 +4,7 @@ pub mod Telling
 pub mod Keeping
 pub mod RunTold
 pub mod Along
+pub mod Device
 pub mod Remains
 pub mod Rounding
 pub mod Moving

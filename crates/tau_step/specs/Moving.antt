@@ -14,6 +14,7 @@ use Rattle.tau_core.specs.Stands.{Stands, Stood}
 use Rattle.tau_run.specs.Turns.{Progress, is_busy}
 use Rattle.tau_step.specs.declared.run.Run.{Run}
 use Rattle.tau_step.specs.Along.{AreKept, IsAlong, Went, WentShort}
+use Rattle.tau_step.specs.Device.{noting}
 use Rattle.tau_step.specs.Progressed.{Comes}
 use Rattle.tau_step.specs.Remains.{sum_below, worker_left}
 use Rattle.tau_step.specs.Telling.{Heard}
@@ -45,18 +46,19 @@ pub record Works (R : Bool → Load → Progress → Progress → Type 0) (whole
   pub failed : new.failed ≡ old.failed
   pub workers : new.workers ≡ old.workers
   pub streams : new.streams ≡ old.streams
+  pub flushes : new.flushes ≡ old.flushes
 
 module _ {D : Type 0} {G : Ghosts D} where
   -- and managers
   pub record Manages (R : Bool → Load → Progress → Progress → Type 0) (whole : Bool) (old new : Run) (ws ws' : List (Writer D G)) : Type 0 where
     pub went : (bases : ℕ → List ℕ) (K : List (Act Txn)) (h : Hidden) (es : List Event) (told : List (ℕ × List ℕ)) → Stands old.core K h → AreKept bases ws old.core h →
-        Went bases R whole old.core new.core ws ws' told told K h es
+        Went bases (noting old.flushes new.flushes R) whole old.core new.core ws ws' told told K h es
     pub clerk : new.clerk ≡ old.clerk
     pub streams : new.streams ≡ old.streams
     pub on : whole ≡ true → IsOn ws' new
 
   abbrev pub WentBy : (ℕ → List ℕ) → (Bool → Load → Progress → Progress → Type 0) → Bool → Run → Run → List (Writer D G) → List (Writer D G) → Type 0 → List ℕ → List ℕ → List (Act Txn) → Hidden → List Event → Type 0
-  WentBy bases R true old new ws ws' hears held held' K h es = Went bases R true old.core new.core ws ws' old.clerk.acks new.clerk.acks K h es
+  WentBy bases R true old new ws ws' hears held held' K h es = Went bases (noting old.flushes new.flushes R) true old.core new.core ws ws' old.clerk.acks new.clerk.acks K h es
   WentBy bases R false old new ws ws' hears held held' K h es = WentShort bases R old.core new.core ws ws' old.clerk.acks old.clerk.sink_failed new.clerk.sink_failed hears held held' K h es
 
   -- and the clerk

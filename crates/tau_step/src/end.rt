@@ -103,6 +103,7 @@ pub(crate) fn end_of(alloc: Global, run: Run, calls: usize) -> Result<RunEnd, No
         workers: _,
         streams: _,
         failed,
+        flushes: _,
     } = run;
     let fates = fates_of(alloc, calls, core.committed(), clerk.acks.as_slice())?;
     let order = reported(alloc, &core.ends(), core.committed())?;

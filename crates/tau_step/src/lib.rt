@@ -2,12 +2,15 @@
 #![tactic(auto)]
 
 mod clerk;
+mod device;
 mod end;
+mod flushes;
 mod manager;
 mod run;
 mod sink;
 mod top;
 mod worker;
 
+pub use device::device_order;
 pub use sink::write_all;
 pub use top::{run_turns, run_turns_from};

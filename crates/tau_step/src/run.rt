@@ -16,6 +16,7 @@ ghost use Rattle.tau_step.specs.RunTold.{IsLowestStopped};
 ghost use Rattle.tau_step.specs.Telling.{Heard, Passed};
 
 use crate::clerk::Clerk;
+use crate::flushes::Flushes;
 use crate::manager::{Managing, anchor_turn, manager_turn, removal};
 use crate::worker::worker_turn;
 use tau_base::NoMemory;
@@ -35,6 +36,8 @@ pub(crate) struct Run {
     pub(crate) streams: u8,
     /// The lowest stream whose disk failed. Where there is one, workers begin no call.
     pub(crate) failed: Option<u8>,
+    /// What it has flushed, if that is noted.
+    pub(crate) flushes: Flushes,
 }
 
 /// The lower of two streams, of which the first may be none.
@@ -86,7 +89,10 @@ impl Run {
                 self.failed = lowest(self.failed, stream);
                 Ok(Managing::Failed)
             }
-            Ok(Managing::Flushed) => Ok(Managing::Flushed),
+            Ok(Managing::Flushed) => {
+                self.flushes.note(stream);
+                Ok(Managing::Flushed)
+            }
             Ok(Managing::Idle) => Ok(Managing::Idle),
             Err(error) => Err(error),
         }
@@ -106,6 +112,7 @@ impl Run {
         ensures failed { self.new.failed ≡ self.old.failed }
         ensures workers { self.new.workers ≡ self.old.workers }
         ensures streams { self.new.streams ≡ self.old.streams }
+        ensures flushes { self.new.flushes ≡ self.old.flushes }
     {
         self.clerk.pass(&mut self.core, sink, self.workers)
     }

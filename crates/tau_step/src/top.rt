@@ -12,6 +12,7 @@ ghost use Rattle.tau_step.specs.Whole.{IsBegun};
 
 use crate::clerk::Clerk;
 use crate::end::end_of;
+use crate::flushes::Flushes;
 use crate::run::Run;
 use std::alloc::Global;
 use tau_base::{LogMode, NoMemory};
@@ -101,6 +102,7 @@ fn go<D: Disk, K: Sink>(
         workers: m,
         streams: writers.len() as u8,
         failed: None,
+        flushes: Flushes::new(alloc, false),
     };
     match run.all(writers, sink, load) {
         Ok(()) => end_of(alloc, run, load.calls.len()),

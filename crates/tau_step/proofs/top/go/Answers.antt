@@ -23,7 +23,7 @@ all-requires g c =
 
 pub end_of-requires-clause-calls : goal.end_of-requires-clause-calls
 end_of-requires-clause-calls g c =
-    let first : Run = record { core = c.args.core; clerk = c.new.result; workers = c.args.m; streams = c.len.result; failed = None } in
+    let first : Run = record { core = c.args.core; clerk = c.new.result; workers = c.args.m; streams = c.len.result; failed = None; flushes = c.new-2.result } in
     let x = subst (λ b. Moves (ran_all (turns_of c.args.load.now)) b first c.all.new.self c.args.writers.now.items c.all.new.writers.items g.K.Sink.tells (g.K.Sink.held c.args.sink.now) (g.K.Sink.held c.all.new.sink) (g.K.Sink.faults c.args.sink.now) (g.K.Sink.faults c.all.new.sink))
     (ap is_ok c.in-Ok.is) c.all.ensures.moves in
     c.len-in-Ok.ensures ∙ ap (length {A = Call}) c.requires.calls ∙ sym (calls-same g.met.D.Disk.seen_now (turns_of c.args.load.now) c.requires.begun.0 first c.all.new.self c.args.writers.now.items c.all.new.writers.items g.K.Sink.tells (g.K.Sink.held c.args.sink.now) (g.K.Sink.held c.all.new.sink) (g.K.Sink.faults c.args.sink.now) (g.K.Sink.faults c.all.new.sink)
@@ -31,7 +31,7 @@ end_of-requires-clause-calls g c =
 
 pub end_of-requires-clause-told : goal.end_of-requires-clause-told
 end_of-requires-clause-told g c =
-    let first : Run = record { core = c.args.core; clerk = c.new.result; workers = c.args.m; streams = c.len.result; failed = None } in
+    let first : Run = record { core = c.args.core; clerk = c.new.result; workers = c.args.m; streams = c.len.result; failed = None; flushes = c.new-2.result } in
     let x = subst (λ b. Moves (ran_all (turns_of c.args.load.now)) b first c.all.new.self c.args.writers.now.items c.all.new.writers.items g.K.Sink.tells (g.K.Sink.held c.args.sink.now) (g.K.Sink.held c.all.new.sink) (g.K.Sink.faults c.args.sink.now) (g.K.Sink.faults c.all.new.sink))
     (ap is_ok c.in-Ok.is) c.all.ensures.moves in
     let same : c.len-in-Ok.result ≡ length c.all.new.self.core.load.calls = c.len-in-Ok.ensures ∙ ap (length {A = Call}) c.requires.calls ∙ sym (calls-same g.met.D.Disk.seen_now (turns_of c.args.load.now) c.requires.begun.0 first c.all.new.self c.args.writers.now.items c.all.new.writers.items g.K.Sink.tells (g.K.Sink.held c.args.sink.now) (g.K.Sink.held c.all.new.sink) (g.K.Sink.faults c.args.sink.now) (g.K.Sink.faults c.all.new.sink)
@@ -41,7 +41,7 @@ end_of-requires-clause-told g c =
 
 pub returns-in-Ok-clause-ran : goal.returns-in-Ok-clause-ran
 returns-in-Ok-clause-ran g c = λ bases begun.
-    let first : Run = record { core = c.args.core; clerk = c.new.result; workers = c.args.m; streams = c.len.result; failed = None } in
+    let first : Run = record { core = c.args.core; clerk = c.new.result; workers = c.args.m; streams = c.len.result; failed = None; flushes = c.new-2.result } in
     let x = subst (λ b. Moves (ran_all (turns_of c.args.load.now)) b first c.all.new.self c.args.writers.now.items c.all.new.writers.items g.K.Sink.tells (g.K.Sink.held c.args.sink.now) (g.K.Sink.held c.all.new.sink) (g.K.Sink.faults c.args.sink.now) (g.K.Sink.faults c.all.new.sink))
     (ap is_ok c.in-Ok.is) c.all.ensures.moves in
     ran-by g.met.D.Disk.seen_now (turns_of c.args.load.now) bases first c.all.new.self c.args.writers.now.items c.all.new.writers.items g.K.Sink.tells (g.K.Sink.held c.args.sink.now) (g.K.Sink.held c.all.new.sink) (g.K.Sink.faults c.args.sink.now) (g.K.Sink.faults c.all.new.sink)
@@ -50,13 +50,13 @@ returns-in-Ok-clause-ran g c = λ bases begun.
 
 pub returns-in-Ok-clause-count : goal.returns-in-Ok-clause-count
 returns-in-Ok-clause-count g c =
-    let first : Run = record { core = c.args.core; clerk = c.new.result; workers = c.args.m; streams = c.len.result; failed = None } in
+    let first : Run = record { core = c.args.core; clerk = c.new.result; workers = c.args.m; streams = c.len.result; failed = None; flushes = c.new-2.result } in
     count-same g.met.D.Disk.seen_now (turns_of c.args.load.now) c.requires.begun.0 first c.all.new.self c.args.writers.now.items c.all.new.writers.items g.K.Sink.tells (g.K.Sink.held c.args.sink.now) (g.K.Sink.held c.all.new.sink) (g.K.Sink.faults c.args.sink.now) (g.K.Sink.faults c.all.new.sink)
     c.requires.opened c.requires.begun.1 c.new.ensures.acks c.new.ensures.works (is_ok c.all.result) c.all.ensures.moves
 
 pub returns-in-Err-clause-ran : goal.returns-in-Err-clause-ran
 returns-in-Err-clause-ran g c = λ bases begun.
-    let first : Run = record { core = c.args.core; clerk = c.new.result; workers = c.args.m; streams = c.len.result; failed = None } in
+    let first : Run = record { core = c.args.core; clerk = c.new.result; workers = c.args.m; streams = c.len.result; failed = None; flushes = c.new-2.result } in
     let x = subst (λ b. Moves (ran_all (turns_of c.args.load.now)) b first c.all.new.self c.args.writers.now.items c.all.new.writers.items g.K.Sink.tells (g.K.Sink.held c.args.sink.now) (g.K.Sink.held c.all.new.sink) (g.K.Sink.faults c.args.sink.now) (g.K.Sink.faults c.all.new.sink))
     (ap is_ok c.in-Err.is) c.all.ensures.moves in
     cut-short g.met.D.Disk.seen_now (turns_of c.args.load.now) bases first c.all.new.self c.args.writers.now.items c.all.new.writers.items g.K.Sink.tells (g.K.Sink.held c.args.sink.now) (g.K.Sink.held c.all.new.sink) (g.K.Sink.faults c.args.sink.now) (g.K.Sink.faults c.all.new.sink)
@@ -64,6 +64,6 @@ returns-in-Err-clause-ran g c = λ bases begun.
 
 pub returns-in-Err-clause-count : goal.returns-in-Err-clause-count
 returns-in-Err-clause-count g c =
-    let first : Run = record { core = c.args.core; clerk = c.new.result; workers = c.args.m; streams = c.len.result; failed = None } in
+    let first : Run = record { core = c.args.core; clerk = c.new.result; workers = c.args.m; streams = c.len.result; failed = None; flushes = c.new-2.result } in
     count-same g.met.D.Disk.seen_now (turns_of c.args.load.now) c.requires.begun.0 first c.all.new.self c.args.writers.now.items c.all.new.writers.items g.K.Sink.tells (g.K.Sink.held c.args.sink.now) (g.K.Sink.held c.all.new.sink) (g.K.Sink.faults c.args.sink.now) (g.K.Sink.faults c.all.new.sink)
     c.requires.opened c.requires.begun.1 c.new.ensures.acks c.new.ensures.works (is_ok c.all.result) c.all.ensures.moves

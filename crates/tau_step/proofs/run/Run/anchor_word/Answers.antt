@@ -9,4 +9,4 @@ pub anchor_turn-requires : goal.anchor_turn-requires
 anchor_turn-requires c = record { there = omega (arith, c.if-stream-self.false, c.requires.streams) }
 
 pub returns : goal.returns
-returns c = record { works = anchor-works c.args.self.now _ refl refl refl refl c.requires.stood c.args.stream c.anchor_turn.result c.anchor_turn.ensures.ok c.anchor_turn.ensures.short }
+returns c = record { works = anchor-works c.args.self.now _ refl refl refl refl refl c.requires.stood c.args.stream c.anchor_turn.result c.anchor_turn.ensures.ok c.anchor_turn.ensures.short }

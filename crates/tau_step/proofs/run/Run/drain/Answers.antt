@@ -18,7 +18,7 @@ returns-in-Ok g c = record {
   moves = drain-whole g.met.D.Disk.seen_now g.K.Sink.tells (is_ok c.clerk.result) c.args.self.now c.drain_streams.new.self c.clerk.new.self c.args.writers.now.items c.drain_streams.new.writers.items
       (g.K.Sink.held c.args.sink.now) (g.K.Sink.held c.clerk.new.sink) (g.K.Sink.faults c.args.sink.now) (g.K.Sink.faults c.clerk.new.sink) c.in-Ok.ensures.manages
       (clerk-moves g.met.D.Disk.seen_now g.K.Sink.tells c.drain_streams.new.self c.clerk.new.self c.drain_streams.new.writers.items (g.K.Sink.held c.args.sink.now) (g.K.Sink.held c.clerk.new.sink) (g.K.Sink.faults c.args.sink.now) (g.K.Sink.faults c.clerk.new.sink)
-      (c.in-Ok.ensures.manages.on refl) c.clerk.ensures.faults c.clerk.ensures.cause c.clerk.ensures.load c.clerk.ensures.failed c.clerk.ensures.workers c.clerk.ensures.streams _ c.clerk.result c.clerk.ensures.passed c.clerk.ensures.heard);
+      (c.in-Ok.ensures.manages.on refl) c.clerk.ensures.faults c.clerk.ensures.cause c.clerk.ensures.load c.clerk.ensures.failed c.clerk.ensures.workers c.clerk.ensures.streams c.clerk.ensures.flushes _ c.clerk.result c.clerk.ensures.passed c.clerk.ensures.heard);
 }
 
 pub returns-in-Err : goal.returns-in-Err

@@ -17,7 +17,7 @@ manager_turn-requires-clause-held g c =
 pub returns-in-Ok-Failed-clause-manages : goal.returns-in-Ok-Failed-clause-manages
 returns-in-Ok-Failed-clause-manages g c =
     manage-manages g.met.D.Disk.seen_now c.args.writers.now.items _ c.args.stream c.index_mut.result.now c.manager_turn.new.writer (got-of c.args.writers.now.items c.from-at.result c.args.stream c.index_mut.result.now c.from-at.ensures (omega (arith, c.from-at.ensures, c.requires.there, c.requires.on.streams, c.requires.on.along.kept.count)) c.index_mut.ensures.value) (ap (λ (i : ℕ). slice_set c.args.writers.now.items i c.manager_turn.new.writer) c.from-at.ensures)
-    c.args.self.now _ c.requires.on c.requires.there refl refl refl (Ok did.Failed) (rw c.in-Ok-Failed.field-0-is at c.in-Ok-Failed.ensures) (c.lowest-self.ensures.none, c.lowest-self.ensures.some)
+    c.args.self.now _ c.requires.on c.requires.there refl refl refl (Ok did.Failed) refl (rw c.in-Ok-Failed.field-0-is at c.in-Ok-Failed.ensures) (c.lowest-self.ensures.none, c.lowest-self.ensures.some)
 
 pub returns-in-Ok-Failed-clause-left : goal.returns-in-Ok-Failed-clause-left
 returns-in-Ok-Failed-clause-left g c =
@@ -27,7 +27,7 @@ returns-in-Ok-Failed-clause-left g c =
 pub returns-in-Ok-Flushed-clause-manages : goal.returns-in-Ok-Flushed-clause-manages
 returns-in-Ok-Flushed-clause-manages g c =
     manage-manages g.met.D.Disk.seen_now c.args.writers.now.items _ c.args.stream c.index_mut.result.now c.manager_turn.new.writer (got-of c.args.writers.now.items c.from-at.result c.args.stream c.index_mut.result.now c.from-at.ensures (omega (arith, c.from-at.ensures, c.requires.there, c.requires.on.streams, c.requires.on.along.kept.count)) c.index_mut.ensures.value) (ap (λ (i : ℕ). slice_set c.args.writers.now.items i c.manager_turn.new.writer) c.from-at.ensures)
-    c.args.self.now _ c.requires.on c.requires.there refl refl refl (Ok did.Flushed) (rw c.in-Ok-Flushed.field-0-is at c.in-Ok-Flushed.ensures) refl
+    c.args.self.now _ c.requires.on c.requires.there refl refl refl (Ok did.Flushed) c.note.ensures (rw c.in-Ok-Flushed.field-0-is at c.in-Ok-Flushed.ensures) refl
 
 pub returns-in-Ok-Flushed-clause-left : goal.returns-in-Ok-Flushed-clause-left
 returns-in-Ok-Flushed-clause-left g c =
@@ -37,7 +37,7 @@ returns-in-Ok-Flushed-clause-left g c =
 pub returns-in-Ok-Idle-clause-manages : goal.returns-in-Ok-Idle-clause-manages
 returns-in-Ok-Idle-clause-manages g c =
     manage-manages g.met.D.Disk.seen_now c.args.writers.now.items _ c.args.stream c.index_mut.result.now c.manager_turn.new.writer (got-of c.args.writers.now.items c.from-at.result c.args.stream c.index_mut.result.now c.from-at.ensures (omega (arith, c.from-at.ensures, c.requires.there, c.requires.on.streams, c.requires.on.along.kept.count)) c.index_mut.ensures.value) (ap (λ (i : ℕ). slice_set c.args.writers.now.items i c.manager_turn.new.writer) c.from-at.ensures)
-    c.args.self.now _ c.requires.on c.requires.there refl refl refl (Ok did.Idle) (rw c.in-Ok-Idle.field-0-is at c.in-Ok-Idle.ensures) refl
+    c.args.self.now _ c.requires.on c.requires.there refl refl refl (Ok did.Idle) refl (rw c.in-Ok-Idle.field-0-is at c.in-Ok-Idle.ensures) refl
 
 pub returns-in-Ok-Idle-clause-left : goal.returns-in-Ok-Idle-clause-left
 returns-in-Ok-Idle-clause-left g c =
@@ -58,7 +58,7 @@ returns-in-Ok-Idle-clause-fewer g c = λ e. absurd (let bad : Ok did.Idle ≡ Ok
 pub returns-in-Err-clause-manages : goal.returns-in-Err-clause-manages
 returns-in-Err-clause-manages g c =
     manage-manages g.met.D.Disk.seen_now c.args.writers.now.items _ c.args.stream c.index_mut.result.now c.manager_turn.new.writer (got-of c.args.writers.now.items c.from-at.result c.args.stream c.index_mut.result.now c.from-at.ensures (omega (arith, c.from-at.ensures, c.requires.there, c.requires.on.streams, c.requires.on.along.kept.count)) c.index_mut.ensures.value) (ap (λ (i : ℕ). slice_set c.args.writers.now.items i c.manager_turn.new.writer) c.from-at.ensures)
-    c.args.self.now _ c.requires.on c.requires.there refl refl refl (Err c.in-Err.error) c.in-Err.ensures refl
+    c.args.self.now _ c.requires.on c.requires.there refl refl refl (Err c.in-Err.error) refl c.in-Err.ensures refl
 
 pub returns-in-Err-clause-fewer : goal.returns-in-Err-clause-fewer
 returns-in-Err-clause-fewer g c = λ e. absurd (let bad : Err c.in-Err.error ≡ Ok did.Flushed = e in cc)

@@ -17,7 +17,7 @@ pub returns-in-Ok-clerk-clause-moves : goal.returns-in-Ok-clerk-clause-moves
 returns-in-Ok-clerk-clause-moves g c =
     rest-whole g.met.D.Disk.seen_now g.K.Sink.tells c.args.self.now c.managers_round.new.self c.clerk.new.self c.args.writers.now.items c.managers_round.new.writers.items (g.K.Sink.held c.args.sink.now) (g.K.Sink.held c.clerk.new.sink) (g.K.Sink.faults c.args.sink.now) (g.K.Sink.faults c.clerk.new.sink) c.in-Ok.ensures.manages
     (clerk-moves g.met.D.Disk.seen_now g.K.Sink.tells c.managers_round.new.self c.clerk.new.self c.managers_round.new.writers.items (g.K.Sink.held c.args.sink.now) (g.K.Sink.held c.clerk.new.sink) (g.K.Sink.faults c.args.sink.now) (g.K.Sink.faults c.clerk.new.sink)
-    (c.in-Ok.ensures.manages.on refl) c.clerk.ensures.faults c.clerk.ensures.cause c.clerk.ensures.load c.clerk.ensures.failed c.clerk.ensures.workers c.clerk.ensures.streams _ (Ok c.in-Ok-clerk.field-0) c.in-Ok-clerk.ensures.passed c.in-Ok-clerk.ensures.heard)
+    (c.in-Ok.ensures.manages.on refl) c.clerk.ensures.faults c.clerk.ensures.cause c.clerk.ensures.load c.clerk.ensures.failed c.clerk.ensures.workers c.clerk.ensures.streams c.clerk.ensures.flushes _ (Ok c.in-Ok-clerk.field-0) c.in-Ok-clerk.ensures.passed c.in-Ok-clerk.ensures.heard)
 
 pub returns-in-Ok-clerk-clause-left : goal.returns-in-Ok-clerk-clause-left
 returns-in-Ok-clerk-clause-left g c =
@@ -31,7 +31,7 @@ pub returns-in-Err-clerk-clause-moves : goal.returns-in-Err-clerk-clause-moves
 returns-in-Err-clerk-clause-moves g c =
     rest-clerk g.met.D.Disk.seen_now g.K.Sink.tells c.args.self.now c.managers_round.new.self c.clerk.new.self c.args.writers.now.items c.managers_round.new.writers.items (g.K.Sink.held c.args.sink.now) (g.K.Sink.held c.clerk.new.sink) (g.K.Sink.faults c.args.sink.now) (g.K.Sink.faults c.clerk.new.sink) c.in-Ok.ensures.manages
     (clerk-moves g.met.D.Disk.seen_now g.K.Sink.tells c.managers_round.new.self c.clerk.new.self c.managers_round.new.writers.items (g.K.Sink.held c.args.sink.now) (g.K.Sink.held c.clerk.new.sink) (g.K.Sink.faults c.args.sink.now) (g.K.Sink.faults c.clerk.new.sink)
-    (c.in-Ok.ensures.manages.on refl) c.clerk.ensures.faults c.clerk.ensures.cause c.clerk.ensures.load c.clerk.ensures.failed c.clerk.ensures.workers c.clerk.ensures.streams (Unit {0}) (Err c.in-Err-clerk.error) c.in-Err-clerk.ensures.passed c.in-Err-clerk.ensures.heard)
+    (c.in-Ok.ensures.manages.on refl) c.clerk.ensures.faults c.clerk.ensures.cause c.clerk.ensures.load c.clerk.ensures.failed c.clerk.ensures.workers c.clerk.ensures.streams c.clerk.ensures.flushes (Unit {0}) (Err c.in-Err-clerk.error) c.in-Err-clerk.ensures.passed c.in-Err-clerk.ensures.heard)
 
 pub returns-in-Err-clerk-clause-some : goal.returns-in-Err-clerk-clause-some
 returns-in-Err-clerk-clause-some g c = λ e. (let bad : Err c.in-Err-clerk.error ≡ Ok false = e in cc)

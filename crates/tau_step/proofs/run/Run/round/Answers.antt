@@ -3,6 +3,7 @@ use Rattle.std.specs.Prelude.{Ok, Err}
 use Rattle.tau_step.specs.Moving.{total_left}
 use Rattle.tau_step.specs.Rounding.{rounded_by}
 use Rattle.tau_step.proofs.Moved.{lowest-nothing, works-manages}
+use Rattle.tau_step.proofs.Silent.{rounded-silent}
 use Rattle.tau_step.proofs.Rounds.{round-rest, round-over, round-short, round-total, round-rests, rounded-quiet}
 use Rattle.tau_step.proofs.run.Run.round.Goals as goal
 
@@ -16,7 +17,7 @@ pub workers_round-requires-clause-lowest : goal.workers_round-requires-clause-lo
 workers_round-requires-clause-lowest g c = lowest-nothing c.args.self.now.core c.requires.on.along.hidden c.args.self.now.failed c.requires.on.along.lowest
 
 pub rest_of_round-requires : goal.rest_of_round-requires
-rest_of_round-requires g c = record { on = (works-manages g.met.D.Disk.seen_now (rounded_by (Ok true)) true c.args.self.now c.workers_round.new.self c.args.writers.now.items c.requires.on (rounded-quiet (Ok true) true) (rw c.in-Ok-true.field-0-test at c.in-Ok-true.ensures.works)).on refl }
+rest_of_round-requires g c = record { on = (works-manages g.met.D.Disk.seen_now (rounded_by (Ok true)) true c.args.self.now c.workers_round.new.self c.args.writers.now.items c.requires.on (rounded-quiet (Ok true) true) (rounded-silent true true) (rw c.in-Ok-true.field-0-test at c.in-Ok-true.ensures.works)).on refl }
 
 pub returns-in-Ok-true-clause-moves : goal.returns-in-Ok-true-clause-moves
 returns-in-Ok-true-clause-moves g c =

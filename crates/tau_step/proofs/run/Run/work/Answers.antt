@@ -14,7 +14,7 @@ pub worker_turn-requires-clause-stop : goal.worker_turn-requires-clause-stop
 worker_turn-requires-clause-stop c = λ h. c.is_some.ensures ∙ lowest-raised c.args.self.now.core nothing h c.args.self.now.failed c.requires.lowest
 
 pub returns-clause-works : goal.returns-clause-works
-returns-clause-works c = work-works c.args.self.now _ refl refl refl refl c.requires.stood c.args.worker c.worker_turn.result c.worker_turn.ensures.turned
+returns-clause-works c = work-works c.args.self.now _ refl refl refl refl refl c.requires.stood c.args.worker c.worker_turn.result c.worker_turn.ensures.turned
 
 pub returns-clause-fewer : goal.returns-clause-fewer
 returns-clause-fewer c = work-fewer c.args.worker c.args.self.now.core c.worker_turn.new.core c.worker_turn.result c.requires.there c.requires.stood c.worker_turn.ensures.turned

@@ -1,0 +1,138 @@
+-- The flushes of a whole run in which no stream stops.
+use Rattle.std.proofs.Common.{ℕ, ◌<◌, ◌≡◌, inl, Bool, true, List, [], ◌∷◌, length, refl, sym, ap, subst, ◌∙◌, Option}
+use Rattle.std.specs.Prelude.{None}
+use Rattle.tau_base.specs.declared.value.LogMode.{LogMode}
+use Rattle.tau_disk.specs.declared.disk.Disk.{Ghosts}
+use Rattle.tau_stream.specs.declared.writer.Writer.{Writer}
+use Rattle.tau_stream.specs.Writer.{IsReady}
+use Rattle.tau_open.specs.Opening.{AreOpened}
+use Rattle.tau_model.specs.History.{Act}
+use Rattle.tau_machine.specs.Hands.{Txn}
+use Rattle.tau_machine.specs.State.{Core}
+use Rattle.tau_machine.specs.Runs as machine
+use Rattle.tau_text.specs.declared.load.Workload.{Workload}
+use Rattle.tau_text.specs.Canonical.{declarations_text}
+use Rattle.tau_core.specs.declared.state.Load.{Load}
+use Rattle.tau_core.specs.State.{Plain}
+use Rattle.tau_core.specs.View.{core_of, setting_of}
+use Rattle.tau_core.specs.Opens.{Opened, OpenedFresh, catalogue_size, nothing}
+use Rattle.tau_run.specs.Facts.{catalogue_of}
+use Rattle.tau_run.specs.Course.{IsLoadOf, IsStart, AreAcks, IsRunOf}
+use Rattle.tau_run.specs.Laws.{KeepCalls}
+use Rattle.tau_run.specs.Run as told
+use Rattle.tau_run.specs.Told.{turns_of, by_turns, IsCoreRun}
+use Rattle.tau_run.specs.Turns.{Progress, IsWholeRun, begun}
+use Rattle.tau_run.proofs.Acks.{turns_law}
+use Rattle.tau_run.proofs.Results.{run_law}
+use Rattle.tau_run.proofs.Start.{started}
+use Rattle.tau_step.specs.declared.flushes.Flushes.{Flushes}
+use Rattle.tau_step.specs.declared.run.Run.{Run}
+use Rattle.tau_step.specs.Along.{IsAlong, Went}
+use Rattle.tau_step.specs.Device.{IsFlushOrder, IsOfRun, flushed_in, noting}
+use Rattle.tau_step.specs.Moving.{IsOn, Moves}
+use Rattle.tau_step.specs.Progressed.{progress}
+use Rattle.tau_step.specs.Rounding.{ran_all}
+use Rattle.tau_step.specs.RunTold.{AreNew, IsLowestStopped}
+use Rattle.tau_step.proofs.Begun.{fresh-begun, fresh-load, fresh-opened}
+use Rattle.tau_step.proofs.Ending.{begun-along, begun-kept}
+use Rattle.tau_step.proofs.Moved.{lowest-same}
+use Rattle.tau_step.proofs.Whole.{all-whole}
+
+-- the writers of streams that were just opened
+pub are-new : {D : Type 0} {G : Ghosts D} (n : ℕ) (load : Workload) (old mid : List D) (ws : List (Writer D G)) → AreOpened G n (catalogue_of load) old mid ws → AreNew (λ j. catalogue_of load) ws
+are-new {D} {G} n load old mid ws streams j w e =
+    let b = streams.begun j w e in
+    record {
+      works = b.works;
+      durable = b.durable;
+      left = b.left;
+      ready = λ t. subst (λ (k : ℕ). IsReady k j w (catalogue_of load)) (sym streams.count) (b.ready t);
+    }
+
+-- a run that was not begun
+module _ {D : Type 0} {G : Ghosts D} (m : ℕ) (mode : LogMode) (load : Workload) (run : Run) (ws : List (Writer D G)) (fresh : OpenedFresh load.declarations.procs load.calls mode m (length ws) (catalogue_size (declarations_text load.declarations)) run.core)
+    (are : AreNew (λ j. catalogue_of load) ws) (workers : run.workers ≡ m) (streams : run.streams ≡ length ws) (none : run.failed ≡ None) where
+  pub begun-on : IsOn ws run
+  begun-on =
+      let opened = fresh-opened m mode load ws ws ⊥ [] [] ⊥ run.core fresh in
+      let loaded = fresh-load m mode load ws ws ⊥ [] [] ⊥ run.core fresh in
+      record {
+        along = subst (λ (f : Option ℕ). IsAlong ws run.core f) (sym none) (begun-along (λ j. catalogue_of load) ws run.core opened (fresh-begun m mode load ws ws ⊥ [] [] ⊥ run.core fresh are));
+        workers = workers ∙ sym loaded.workers;
+        streams = streams ∙ sym loaded.streams;
+      }
+
+module _ {D : Type 0} {G : Ghosts D} (m : ℕ) (mode : LogMode) (load : Workload) (old new : Run) (ws ws' : List (Writer D G)) (hears : Type 0) (held held' : List ℕ) (faults faults' : ℕ)
+    (fresh : OpenedFresh load.declarations.procs load.calls mode m (length ws) (catalogue_size (declarations_text load.declarations)) old.core) (are : AreNew (λ j. catalogue_of load) ws) (acks : old.clerk.acks ≡ [])
+    (none : old.flushes.streams ≡ []) (x : Moves (ran_all (turns_of load)) true old new ws ws' hears held held' faults faults') where
+  abbrev n : ℕ
+  n = length ws
+
+  abbrev bases : ℕ → List ℕ
+  bases j = catalogue_of load
+
+  opened : Opened old.core.load old.core
+  opened = fresh-opened m mode load ws ws hears held held hears old.core fresh
+
+  first_load : IsLoadOf n m mode load old.core.load
+  first_load = fresh-load m mode load ws ws hears held held hears old.core fresh
+
+  went : Went bases (noting old.flushes new.flushes (ran_all (turns_of load))) true old.core new.core ws ws' old.clerk.acks new.clerk.acks [] nothing []
+  went = x.went bases [] nothing [] opened.stands (begun-kept bases ws old.core opened (fresh-begun m mode load ws ws hears held held hears old.core fresh are))
+
+  abbrev l : Load
+  l = new.core.load
+
+  abbrev s : Core
+  s = core_of new.core went.hidden
+
+  abbrev P : Progress
+  P = progress new.core went.hidden went.events went.order new.clerk.acks
+
+  is_load : IsLoadOf n m mode load l
+  is_load = subst (λ (d : Load). IsLoadOf n m mode load d) (sym went.load) first_load
+
+  from_begun : ran_all (turns_of load) true old.core.load (begun (core_of old.core nothing)) P
+  from_begun = subst (λ (a : List (ℕ × List ℕ)). ran_all (turns_of load) true old.core.load (record { state = core_of old.core nothing; events = []; joined = []; told = a }) P) acks went.moved.0
+
+  whole : IsWholeRun (setting_of l) m n (turns_of load) (core_of old.core nothing) P
+  whole =
+      subst (λ (d : Load). IsWholeRun (setting_of d) m n (turns_of load) (core_of old.core nothing) P) (sym went.load)
+      (subst (λ (k : ℕ). IsWholeRun (setting_of old.core.load) m k (turns_of load) (core_of old.core nothing) P) first_load.streams
+      (subst (λ (k : ℕ). IsWholeRun (setting_of old.core.load) k old.core.load.streams (turns_of load) (core_of old.core nothing) P) first_load.workers
+      (all-whole old.core.load (turns_of load) (core_of old.core nothing) P from_begun)))
+
+  opening_is : machine.IsOpening (setting_of l) (core_of old.core nothing)
+  opening_is = subst (λ (d : Load). machine.IsOpening (setting_of d) (core_of old.core nothing)) (sym went.load) opened.opening
+
+  led : machine.Run (setting_of l) (core_of old.core nothing) went.events went.order s × KeepCalls went.events × AreAcks l s new.clerk.acks
+  led = turns_law (setting_of l) m n (turns_of load) (core_of old.core nothing) P opening_is (inl whole)
+
+  there : (run : told.Run) × IsRunOf n l went.order s (catalogue_of load) run × (run.acks ≡ new.clerk.acks)
+  there = run_law n m mode load new.core went.order went.hidden went.stands is_load new.clerk.acks led.2
+
+  module _ (flushes : List ℕ) (of_run : IsOfRun new.failed new.flushes flushes) where
+    unstopped : (j : ℕ) → j < n → (s.streams j).stop ≡ None
+    unstopped j lt =
+        let a = (x.on refl).along in
+        let lowest = lowest-same new.core.load.streams (core_of new.core a.hidden) s (λ i. refl) new.failed a.lowest in
+        let all : IsLowestStopped new.core.load.streams s None = subst (λ (f : Option ℕ). IsLowestStopped new.core.load.streams s f) of_run.0 lowest in
+        all j (subst (λ (k : ℕ). j < k) (sym is_load.streams) lt)
+
+    pub flush-order : IsFlushOrder n m mode load flushes
+    flush-order = record {
+      run = there.0;
+      core = record {
+        stands_on = l;
+        load_is = is_load;
+        opening = core_of old.core nothing;
+        start = subst (λ (d : Load). IsStart d (core_of old.core nothing)) (sym went.load) (started old.core.load old.core opened);
+        progress = P;
+        led = led.0;
+        chosen = whole;
+        is = there.1;
+        told = there.2;
+        stopped = unstopped;
+      };
+      flushes_are = of_run.2 ∙ went.moved.1 refl (λ e. none) of_run.1;
+    }

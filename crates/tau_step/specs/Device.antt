@@ -1,0 +1,76 @@
+-- The order in which a run calls its disks.
+use Rattle.std.specs.Prelude.{ℕ, ◌≡◌, Bool, true, List, [], ◌∷◌, ◌++◌, replicate, Option, None, Result, Ok, Err}
+use Rattle.std.specs.List.{flat_map}
+use Rattle.tau_base.specs.declared.value.LogMode.{LogMode}
+use Rattle.tau_base.specs.declared.value.NoMemory.{NoMemory}
+use Rattle.tau_machine.specs.Events.{Event, Persist}
+use Rattle.tau_text.specs.declared.load.Workload.{Workload}
+use Rattle.tau_core.specs.declared.state.Load.{Load}
+use Rattle.tau_open.specs.Outside.{calls_to_make}
+use Rattle.tau_run.specs.Run.{Run, below}
+use Rattle.tau_run.specs.Told.{by_turns, IsCoreRun}
+use Rattle.tau_run.specs.Turns.{Progress}
+use Rattle.tau_step.specs.declared.flushes.Flushes.{Flushes}
+use Rattle.tau_step.specs.declared.manager.Managing.{Managing}
+use Rattle.tau_step.specs.declared.manager.Managing.TheVariants as did
+use Rattle.tau_step.specs.Rounding.{managed_by}
+
+-- the stream that an event flushes
+abbrev pub flushed_by_event : Event → List ℕ
+flushed_by_event (Persist j upto) = j ∷ []
+flushed_by_event _ = []
+
+-- the streams that these events flush, in their order
+abbrev pub flushed_in : List Event → List ℕ
+flushed_in events = flat_map flushed_by_event events
+
+-- what is noted are the flushes of these events, where they are noted
+abbrev pub IsNoted : Flushes → List Event → Type 0
+IsNoted flushes events = flushes.noted ≡ true → flushes.streams ≡ flushed_in events
+
+-- the relation, and a run of which the flushes were noted has them noted
+abbrev pub noting : Flushes → Flushes → (Bool → Load → Progress → Progress → Type 0) → Bool → Load → Progress → Progress → Type 0
+noting flushes flushes' R whole l P P' = R whole l P P' × (whole ≡ true → IsNoted flushes P.events → IsNoted flushes' P'.events)
+
+-- one flush of the stream more
+abbrev pub NotesFlush : ℕ → Flushes → Flushes → Type 0
+NotesFlush j old new = new.noted ≡ true → (old.noted ≡ true) × (new.streams ≡ old.streams ++ j ∷ [])
+
+-- what the turn of a manager flushes
+abbrev pub flushed_by_turn : ℕ → Result Managing NoMemory → Progress → Progress → Type 0
+flushed_by_turn j (Ok did.Flushed) P P' = flushed_in P'.events ≡ flushed_in P.events ++ j ∷ []
+flushed_by_turn j (Ok other) P P' = flushed_in P'.events ≡ flushed_in P.events
+flushed_by_turn j (Err e) P P' = Unit {0}
+
+abbrev pub managed_flushing : ℕ → Result Managing NoMemory → Bool → Load → Progress → Progress → Type 0
+managed_flushing j r whole l P P' = managed_by j r whole l P P' × flushed_by_turn j r P P'
+
+-- and what is noted of it
+abbrev pub NotesTurn : ℕ → Result Managing NoMemory → Flushes → Flushes → Type 0
+NotesTurn j (Ok did.Flushed) old new = NotesFlush j old new
+NotesTurn j other old new = new ≡ old
+
+-- the calls of a flush: two writes, each with a sync
+abbrev pub calls_to_flush : ℕ
+calls_to_flush = 4
+
+-- The stream of each disk call of a run by n streams that has these flushes, and in which none stops: each is asked its
+-- length, each is made, and then come the flushes.
+abbrev pub device_calls : ℕ → List ℕ → List ℕ
+device_calls n flushes = below n ++ flat_map (replicate calls_to_make) (below n) ++ flat_map (replicate calls_to_flush) flushes
+
+-- the stream of each flush, in order, of the run by turns in which no stream stops
+pub record IsFlushOrder (n m : ℕ) (mode : LogMode) (load : Workload) (flushes : List ℕ) : Type 0 where
+  pub run : Run
+  pub core : IsCoreRun (by_turns n m load true) n m mode load (λ j. None) run
+  pub flushes_are : flushes ≡ flushed_in core.progress.events
+
+-- the stream of each disk call, in order, of that run
+pub record IsDeviceOrder (n m : ℕ) (mode : LogMode) (load : Workload) (order : List ℕ) : Type 0 where
+  pub flushes : List ℕ
+  pub ordered : IsFlushOrder n m mode load flushes
+  pub order_is : order ≡ device_calls n flushes
+
+-- no stream has stopped, and these are the flushes, all of which were noted
+abbrev pub IsOfRun : Option ℕ → Flushes → List ℕ → Type 0
+IsOfRun failed noted flushes = (failed ≡ None) × (noted.noted ≡ true) × (flushes ≡ noted.streams)
