@@ -13,3 +13,6 @@ pub mod Refusals
 pub mod Recoveries
 pub mod Tops
 pub mod Same
+mod Rehearsed
+mod Drilled
+mod Drilling

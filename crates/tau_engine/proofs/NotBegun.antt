@@ -55,6 +55,9 @@ none_of : (set : Setting) (m n : ℕ) (ts : List Turn) (p : Progress) → Turned
 none_of set m n [] p = refl
 none_of set m n (t ∷ ts) p = inl (none_turned set m n t p)
 
+never_stopped : (k : ℕ) → None ≡ Some k → ⊥
+never_stopped k e = cc
+
 -- ---- lists of one value
 
 same_at : (n x j : ℕ) → j < n → slice_index (replicate n x) j ≡ x
@@ -229,16 +232,16 @@ module _ (n m : ℕ) (mode : LogMode) (load : Workload) (some : 1 ≤ n) (room :
   is_left j x (inr all) = inr ([], record { count = 0; spelled = refl; has = subst (λ (c : List ℕ). HasContent n j c x) (sym (append-nil catalogue)) all })
 
   -- all that is said of it, where each image has nothing or the catalogue
-  pub facts_of_none : (unborn : Type 0) (past now : ℕ → List ℕ → Type 0) (rose : ℕ → Type 0) (sink_rose : Type 0) (made : ℕ → ℕ → Type 0) (wrote : List ℕ → Type 0) (fault : ℕ → List ℕ) (ending : Ending) → MayEnd ending →
+  abbrev built_of_none : (unborn : Type 0) (past now : ℕ → List ℕ → Type 0) (rose : ℕ → Type 0) (sink_rose : Type 0) (made : ℕ → ℕ → Type 0) (wrote : List ℕ → Type 0) (fault : ℕ → List ℕ) (ending : Ending) → MayEnd ending →
       (unborn → (j : ℕ) (x : List ℕ) → j < n → past j x → HasContent n j [] x ⊎ HasContent n j catalogue x) →
       RunTells (IsEnded n load now rose) n load rose sink_rose made wrote fault empty_run ending →
       RunFacts (chosen_by load.turns n m load) n m mode load unborn past now rose sink_rose made wrote fault ending
-  facts_of_none unborn past now rose sink_rose made wrote fault ending may left tells = record {
+  built_of_none unborn past now rose sink_rose made wrote fault ending may left tells = record {
     run = empty_run;
     history = history;
     stops = λ j. None;
     core = core_at ending may;
-    stopped = λ j k e. absurd (cc);
+    stopped = λ j k e. absurd (never_stopped k e);
     told = tells;
     imaged =
         (let w = whole n m mode load l [] first inv load_is room are_sound empty_run is_run in
@@ -253,3 +256,16 @@ module _ (n m : ℕ) (mode : LogMode) (load : Workload) (some : 1 ≤ n) (room :
         });
     acknowledged = λ images from log reads x q e. absurd q;
   }
+
+  pub facts_of_none : (unborn : Type 0) (past now : ℕ → List ℕ → Type 0) (rose : ℕ → Type 0) (sink_rose : Type 0) (made : ℕ → ℕ → Type 0) (wrote : List ℕ → Type 0) (fault : ℕ → List ℕ) (ending : Ending) → MayEnd ending →
+      (unborn → (j : ℕ) (x : List ℕ) → j < n → past j x → HasContent n j [] x ⊎ HasContent n j catalogue x) →
+      RunTells (IsEnded n load now rose) n load rose sink_rose made wrote fault empty_run ending →
+      RunFacts (chosen_by load.turns n m load) n m mode load unborn past now rose sink_rose made wrote fault ending
+  facts_of_none unborn past now rose sink_rose made wrote fault ending may left tells = built_of_none unborn past now rose sink_rose made wrote fault ending may left tells
+
+  -- and nothing is acknowledged
+  pub told_of_none : (unborn : Type 0) (past now : ℕ → List ℕ → Type 0) (rose : ℕ → Type 0) (sink_rose : Type 0) (made : ℕ → ℕ → Type 0) (wrote : List ℕ → Type 0) (fault : ℕ → List ℕ) (ending : Ending) → MayEnd ending →
+      (unborn → (j : ℕ) (x : List ℕ) → j < n → past j x → HasContent n j [] x ⊎ HasContent n j catalogue x) →
+      RunTells (IsEnded n load now rose) n load rose sink_rose made wrote fault empty_run ending →
+      (facts : RunFacts (chosen_by load.turns n m load) n m mode load unborn past now rose sink_rose made wrote fault ending) × (facts.run.acks ≡ [])
+  told_of_none unborn past now rose sink_rose made wrote fault ending may left tells = (built_of_none unborn past now rose sink_rose made wrote fault ending may left tells, refl)

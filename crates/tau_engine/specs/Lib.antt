@@ -8,3 +8,4 @@ pub mod Came
 pub mod Said
 pub mod Recovery
 pub mod Same
+pub mod Drill

@@ -64,6 +64,23 @@ ends_recovery (status.DiskFault j) = true
 ends_recovery (status.BadLog fault) = true
 ends_recovery _ = false
 
+-- the run of a drill and what recovery finds may end so
+abbrev pub ends_rehearsal : Status → Bool
+ends_rehearsal status.Ok = true
+ends_rehearsal status.NoMemory = true
+ends_rehearsal status.WriteFault = true
+ends_rehearsal _ = false
+
+-- a drill may end so
+abbrev pub ends_drill : Status → Bool
+ends_drill status.Ok = true
+ends_drill status.NoMemory = true
+ends_drill status.WriteFault = true
+ends_drill (status.BadText at cause) = true
+ends_drill status.ReadFault = true
+ends_drill status.TooLong = true
+ends_drill _ = false
+
 -- a recovery ends so only once every disk was read
 abbrev pub is_behind_reading : Status → Bool
 is_behind_reading status.Ok = true

@@ -1,17 +1,24 @@
 -- Which commands are served, and what they use.
-use Rattle.std.specs.Prelude.{ℕ, Bool, true, false, ◌&&◌, nat_le, if◌then◌else◌, List, Option, Some, None, option_and_then}
+use Rattle.std.specs.Prelude.{ℕ, Bool, true, false, ◌&&◌, nat_le, nat_lt, if◌then◌else◌, List, Option, Some, None, option_and_then}
 use Rattle.tau_base.specs.declared.limits.TheConstants.{MAX_STREAMS, MAX_WORKERS, MAX_RECOVERY_WORKERS}
 use Rattle.tau_words.specs.declared.command.Command.{Command}
 use Rattle.tau_words.specs.declared.command.Command.TheVariants.{Run, Recover, Drill, Bench}
+use Rattle.tau_words.specs.declared.command.Ending.{Ending}
+use Rattle.tau_words.specs.declared.command.Ending.TheVariants.{Stop, Fail}
 use Rattle.tau_words.specs.Words.{command_of}
 use Rattle.tau_engine.specs.declared.served.Work.{Work}
 use Rattle.tau_engine.specs.declared.served.Work.TheVariants as work
+
+-- a drill of n streams may end so: by a call of all disks at which they stop, or by one of one disk that fails
+abbrev pub is_ending : ℕ → Ending → Bool
+is_ending n (Stop after tear) = nat_le 1 after && nat_le after 1000000
+is_ending n (Fail stream call) = nat_lt stream n && nat_le 1 call && nat_le call 1000000
 
 -- the commands that are there by now
 abbrev pub is_served : Command → Bool
 is_served (Run n m mode) = nat_le 1 n && nat_le n MAX_STREAMS && nat_le 1 m && nat_le m MAX_WORKERS
 is_served (Recover n p) = nat_le 1 n && nat_le n MAX_STREAMS && nat_le 1 p && nat_le p MAX_RECOVERY_WORKERS
-is_served (Drill n m p ending) = false
+is_served (Drill n m p ending) = nat_le 1 n && nat_le n MAX_STREAMS && nat_le 1 m && nat_le m MAX_WORKERS && is_ending n ending
 is_served (Bench start calls n m) = false
 
 abbrev pub if_served : Command → Option Command
@@ -25,11 +32,13 @@ served words = option_and_then if_served (command_of words)
 abbrev pub command_in : Work → Command
 command_in (work.Run n m mode) = Run n m mode
 command_in (work.Recover n p) = Recover n p
+command_in (work.Drill n m p ending) = Drill n m p ending
 
 -- the command writes nothing before it knows all
 abbrev pub writes_at_end : Option Command → Bool
 writes_at_end None = true
 writes_at_end (Some (Recover n p)) = true
+writes_at_end (Some (Drill n m p ending)) = true
 writes_at_end (Some other) = false
 
 -- the disks that the command uses are the first of them

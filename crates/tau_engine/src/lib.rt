@@ -1,6 +1,7 @@
 //! The top call of the engine.
 #![tactic(auto)]
 
+mod drill;
 mod fault;
 mod laws;
 mod reading;

@@ -1,12 +1,16 @@
 //! The commands that are there by now.
 ghost use Rattle.std.specs.Prelude.{◌≡◌, ◌≤◌, ◌&&◌, nat_le, ℕ, true, false, Err, IfOk, IfSome, IfNone, Some, None, map, string_bytes};
 ghost use Rattle.tau_base.specs.declared.value.LogMode.{LogMode};
-ghost use Rattle.tau_engine.specs.Served.{command_in, is_served, served};
+ghost use Rattle.tau_engine.specs.Served.{command_in, is_ending, is_served, served};
+ghost use Rattle.tau_words.specs.declared.command.Ending.{Ending};
 ghost use Rattle.tau_words.specs.declared.command.WordsRefusal.TheVariants.{Usage};
 
 use std::alloc::Global;
 use tau_base::{LogMode, MAX_STREAMS};
-use tau_words::{Command, WordsRefusal, read_words};
+use tau_words::{Command, Ending, WordsRefusal, read_words};
+
+/// Calls of disks are named by their number up to this.
+const MAX_CALL: u32 = 1_000_000;
 
 /// What a command that is there by now asks for.
 #[derive(Clone, Copy, Debug, PartialEq, Eq)]
@@ -27,6 +31,17 @@ pub enum Work {
         /// Recovery workers, 1 to 16.
         p: u8,
     },
+    /// A rehearsed crash.
+    Drill {
+        /// Streams, 1 to 16.
+        n: u8,
+        /// Workers, 1 to 16.
+        m: u8,
+        /// Recovery workers, 1 to 16.
+        p: u8,
+        /// How its run ends.
+        ending: Ending,
+    },
 }
 
 // Whether so many streams may be used.
@@ -37,17 +52,30 @@ fn is_count(n: u8) -> bool
     1 <= n && usize::from(n) <= MAX_STREAMS
 }
 
+// Whether a drill of so many streams may end so.
+fn is_ending(n: u8, ending: Ending) -> bool
+    ensures { result ≡ is_ending n ending }
+{
+    match ending {
+        Ending::Stop { after, tear: _ } => 1 <= after && after <= MAX_CALL,
+        Ending::Fail { stream, call } => stream < n && 1 <= call && call <= MAX_CALL,
+    }
+}
+
 // What the command asks for, where it is there by now.
 fn work_of(command: Command) -> Option<Work>
     ensures some { IfSome result (λ w. command ≡ command_in w) }
     ensures there { IfSome result (λ w. is_served command ≡ true) }
     ensures within { IfSome result (λ w. (n p : ℕ) → w ≡ Work.Recover n p → ((1 ≤ n) × (n ≤ 16)) × (1 ≤ p) × (p ≤ 16)) }
     ensures within_run { IfSome result (λ w. (n m : ℕ) (mode : LogMode) → w ≡ Work.Run n m mode → ((1 ≤ n) × (n ≤ 16)) × (1 ≤ m) × (m ≤ 16)) }
+    ensures within_drill { IfSome result (λ w. (n m p : ℕ) (ending : Ending) → w ≡ Work.Drill n m p ending → ((1 ≤ n) × (n ≤ 16)) × ((1 ≤ m) × (m ≤ 16)) × (is_ending n ending ≡ true)) }
     ensures none { IfNone result (is_served command ≡ false) }
 {
     match command {
         Command::Run { n, m, mode } if is_count(n) && is_count(m) => Some(Work::Run { n, m, mode }),
         Command::Recover { n, p } if is_count(n) && is_count(p) => Some(Work::Recover { n, p }),
+        Command::Drill { n, m, p, ending } if is_count(n) && is_count(m) && is_ending(n, ending) =>
+            { Some(Work::Drill { n, m, p, ending }) }
         _ => None,
     }
 }
@@ -57,6 +85,7 @@ pub fn read_served(alloc: Global, words: &[String]) -> Result<Work, WordsRefusal
     ensures ok { IfOk result (λ w. served (map string_bytes words.now) ≡ Some (command_in w)) }
     ensures within { IfOk result (λ w. (n p : ℕ) → w ≡ Work.Recover n p → ((1 ≤ n) × (n ≤ 16)) × (1 ≤ p) × (p ≤ 16)) }
     ensures within_run { IfOk result (λ w. (n m : ℕ) (mode : LogMode) → w ≡ Work.Run n m mode → ((1 ≤ n) × (n ≤ 16)) × (1 ≤ m) × (m ≤ 16)) }
+    ensures within_drill { IfOk result (λ w. (n m p : ℕ) (ending : Ending) → w ≡ Work.Drill n m p ending → ((1 ≤ n) × (n ≤ 16)) × ((1 ≤ m) × (m ≤ 16)) × (is_ending n ending ≡ true)) }
     ensures usage { result ≡ Err Usage → served (map string_bytes words.now) ≡ None }
 {
     match work_of(read_words(alloc, words)?) {

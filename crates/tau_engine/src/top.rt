@@ -13,6 +13,8 @@ ghost use Rattle.tau_scan.specs.Outside.{calls_to_read};
 ghost use Rattle.tau_scan.specs.Taken.{Kept};
 ghost use Rattle.tau_replay.specs.Redone.{IsOrderOf};
 ghost use Rattle.tau_engine.specs.Recovery.{IsBadLog, RecoverTells, EndsAsBad, EndsTangled, images_of};
+ghost use Rattle.tau_engine.specs.Drill.{DrillTells, with_turns};
+ghost use Rattle.tau_words.specs.declared.command.Ending.{Ending};
 ghost use Rattle.tau_engine.specs.Served.{served, used_by, reads_source, writes_at_end};
 ghost use Rattle.tau_text.specs.declared.load.Workload.{Workload};
 ghost use Rattle.tau_run.specs.Told.{chosen_by, RunFacts};
@@ -23,6 +25,7 @@ ghost use Rattle.tau_run.specs.Told.{WroteFront};
 ghost use Rattle.tau_disk.specs.Used.{RoseAt, EachUsed, AreEmpty, IsFirstLong, OnlyRead, AllCalls, IsClean, IsFirstStopped, Made};
 ghost use Rattle.tau_engine.specs.Outside.{HasWorkload, HasNoWorkload, HasFault, FailsTold, Wrote, is_behind_text, is_behind_end, is_behind_reading, is_before_disks};
 
+use crate::drill::drill_source;
 use crate::fault::refuse;
 use crate::reading::read_source;
 use crate::recovery::recover;
@@ -33,7 +36,7 @@ use std::alloc::Global;
 use std::sync::Wait;
 use std::thread::Threads;
 use tau_base::MAX_WORKLOAD;
-use tau_disk::{Disk, Gate, Sink, Source};
+use tau_disk::{Disk, Gate, MemDisk, Sink, Source};
 use tau_words::WordsRefusal;
 
 /// Does what the words say, and answers how it ended. The words are those behind the program's name. A run uses the
@@ -122,6 +125,10 @@ pub fn taurus<R: Threads + Wait + Sync, S: Source, K: Sink + Send, D: Disk + Sen
     ensures recover_fault { (n p j : ℕ) → served (map string_bytes words.now) ≡ Some (Command.Recover n p) → result ≡ Status.DiskFault j →
         WroteFront (Wrote K.tells (K.held sink.old) (K.held sink.new)) (Rose (K.faults sink.old) (K.faults sink.new)) (fault_text result) }
 
+    // A drill tells of the run by turns on disks of its own that fail exactly as it says, and of what recovery finds on them.
+    ensures drill { (n m p : ℕ) (ending : Ending) (load : Workload) → served (map string_bytes words.now) ≡ Some (Command.Drill n m p ending) → S.tells → HasWorkload (S.left source.old) load →
+        DrillTells ⟦<MemDisk as Disk>⟧ n m ending (with_turns load) (Wrote K.tells (K.held sink.old) (K.held sink.new)) result }
+
     // What is not touched.
     ensures untouched { drop (used_by (served (map string_bytes words.now))) disks.new.items ≡ drop (used_by (served (map string_bytes words.now))) disks.old.items }
     ensures before_disks { is_before_disks result ≡ true → disks.new.items ≡ disks.old.items }
@@ -143,6 +150,8 @@ pub fn taurus<R: Threads + Wait + Sync, S: Source, K: Sink + Send, D: Disk + Sen
         S.tells → D.tells → HasWorkload (S.left source.old) load → AreEmpty D.tells D.seen disks.old.items n →
         (Rose (S.faults source.old) (S.faults source.new) → ⊥) → (Rose (K.faults sink.old) (K.faults sink.new) → ⊥) → ((j : ℕ) → j < n → RoseAt D.faults disks.old.items disks.new.items j → ⊥) →
         Member result (Status.Ok ∷ Status.NoMemory ∷ []) }
+    ensures drill_done { (n m p : ℕ) (ending : Ending) (load : Workload) → served (map string_bytes words.now) ≡ Some (Command.Drill n m p ending) → S.tells → HasWorkload (S.left source.old) load →
+        (Rose (S.faults source.old) (S.faults source.new) → ⊥) → (Rose (K.faults sink.old) (K.faults sink.new) → ⊥) → Member result (Status.Ok ∷ Status.NoMemory ∷ []) }
     ensures recover_done { (n p : ℕ) (log : Log) (order : List Kept) → served (map string_bytes words.now) ≡ Some (Command.Recover n p) →
         D.tells → log_of (images_of D.seen disks.old.items n) ≡ Ok log → IsOrderOf log order →
         (Rose (K.faults sink.old) (K.faults sink.new) → ⊥) → ((j : ℕ) → j < n → RoseAt D.faults disks.old.items disks.new.items j → ⊥) →
@@ -152,6 +161,9 @@ pub fn taurus<R: Threads + Wait + Sync, S: Source, K: Sink + Send, D: Disk + Sen
         Err(WordsRefusal::NoMemory) => Status::NoMemory,
         Err(WordsRefusal::Usage) => refuse(alloc, sink, Status::Usage),
         Ok(Work::Recover { n, p }) => recover(rt, alloc, usize::from(n), p, sink, disks, gate),
+        Ok(Work::Drill { n, m, p: _, ending }) => drill_source(
+            rt, alloc, n, m, ending, source, sink, gate,
+        ),
         Ok(Work::Run { n, m, mode }) => match read_source(alloc, source) {
             Err(refusal) => refuse(alloc, sink, refusal),
             Ok(load) => run(alloc, &load, n, m, mode, sink, disks),

@@ -18,6 +18,9 @@ use Rattle.tau_engine.proofs.Refusals.{told_refusal, refusal_of_run}
 use Rattle.tau_engine.proofs.Refused.{untouched_facts}
 use Rattle.tau_engine.proofs.Recoveries.{handed_back, clean_of}
 use Rattle.tau_engine.proofs.Tops.{command_of_run, command_of_recovery, not_recovery, same_command, same_streams, within_served, same_load, not_both, says_at, other_end, runs_behind, recovers_well, ends_well, ends_unread}
+use Rattle.tau_disk.specs.contracts.memory.MemDiskDisk.TheImpl.{ghosts}
+use Rattle.tau_engine.specs.Drill.{with_turns}
+use Rattle.tau_engine.proofs.Drilling.{command_of_drill, tells_at}
 use Rattle.tau_engine.proofs.top.taurus.Given.{Over}
 use Rattle.tau_engine.proofs.top.taurus.Goals as goal
 
@@ -332,3 +335,26 @@ returns-in-Ok-Recover-clause-recover_done g c n p log order words tells is order
     (λ j e. let fault = c.recover.ensures.disk_fault j e in
     no_disk j (subst (λ (k : ℕ). j < k) streams fault.0) (subst (λ (ds : List g.row.D.Denot). RoseAt g.D.Disk.faults c.args.disks.now.items ds j) (sym back) (subst (λ (ds : List g.row.D.Denot). RoseAt g.D.Disk.faults ds c.recover.new.disks j) c.deref_mut.ensures.value fault.1)))
     (λ fault e. c.recover.ensures.ordered log order fault tells read ordered e)
+
+-- ---- a drill
+
+pub drill_source-requires-clause-streams_low : goal.drill_source-requires-clause-streams_low
+drill_source-requires-clause-streams_low g c = (c.in-Ok-Drill.ensures.within_drill c.in-Ok-Drill.n c.in-Ok-Drill.m c.in-Ok-Drill.field-0-2 c.in-Ok-Drill.ending c.in-Ok-Drill.field-0-is).0.0
+
+pub drill_source-requires-clause-streams_high : goal.drill_source-requires-clause-streams_high
+drill_source-requires-clause-streams_high g c = (c.in-Ok-Drill.ensures.within_drill c.in-Ok-Drill.n c.in-Ok-Drill.m c.in-Ok-Drill.field-0-2 c.in-Ok-Drill.ending c.in-Ok-Drill.field-0-is).0.1
+
+pub drill_source-requires-clause-low : goal.drill_source-requires-clause-low
+drill_source-requires-clause-low g c = (c.in-Ok-Drill.ensures.within_drill c.in-Ok-Drill.n c.in-Ok-Drill.m c.in-Ok-Drill.field-0-2 c.in-Ok-Drill.ending c.in-Ok-Drill.field-0-is).1.0
+
+pub drill_source-requires-clause-high : goal.drill_source-requires-clause-high
+drill_source-requires-clause-high g c = (c.in-Ok-Drill.ensures.within_drill c.in-Ok-Drill.n c.in-Ok-Drill.m c.in-Ok-Drill.field-0-2 c.in-Ok-Drill.ending c.in-Ok-Drill.field-0-is).1.1
+
+pub drill_source-requires-clause-ending : goal.drill_source-requires-clause-ending
+drill_source-requires-clause-ending g c = (c.in-Ok-Drill.ensures.within_drill c.in-Ok-Drill.n c.in-Ok-Drill.m c.in-Ok-Drill.field-0-2 c.in-Ok-Drill.ending c.in-Ok-Drill.field-0-is).2
+
+pub returns-in-Ok-Drill-clause-drill : goal.returns-in-Ok-Drill-clause-drill
+returns-in-Ok-Drill-clause-drill g c n m p how load words tells has =
+    let asked = command_of_drill (served (map string_bytes c.args.words.now)) c.in-Ok-Drill.field-0 c.in-Ok-Drill.n c.in-Ok-Drill.m c.in-Ok-Drill.field-0-2 c.in-Ok-Drill.ending c.in-Ok-Drill.ensures.ok c.in-Ok-Drill.field-0-is in
+    tells_at ghosts (served (map string_bytes c.args.words.now)) c.in-Ok-Drill.n c.in-Ok-Drill.m c.in-Ok-Drill.field-0-2 n m p c.in-Ok-Drill.ending how (with_turns load) (Wrote g.K.Sink.tells (g.K.Sink.held c.args.sink.now) (g.K.Sink.held c.drill_source.new.sink))
+    c.drill_source.result asked words (c.drill_source.ensures.told tells load has)

@@ -1,0 +1,171 @@
+-- The run of a drill: on streams that were opened, or one whose opening failed.
+use Rattle.std.proofs.Common.{ℕ, ◌<◌, ◌≤◌, ◌≡◌, ◌⊎◌, inl, inr, Bool, true, false, List, [], ◌∷◌, ◌++◌, map, length, refl, sym, ap, subst, ◌∙◌, Option, arith}
+use Rattle.std.specs.Prelude.{Some, None, slice_get}
+use Rattle.std.proofs.lemmas.List.{append-nil}
+use Rattle.tau_base.specs.declared.value.LogMode.TheVariants.{Values}
+use Rattle.tau_block.specs.Image.{HasContent}
+use Rattle.tau_disk.specs.declared.disk.Disk.{Ghosts}
+use Rattle.tau_disk.specs.Used.{EachIn, RoseAt, IsFirstStopped, Made}
+use Rattle.tau_stream.specs.declared.writer.Writer.{Writer}
+use Rattle.tau_stream.specs.Writer.{disk_of}
+use Rattle.tau_open.specs.Outside.{calls_to_open}
+use Rattle.tau_open.specs.Opening.{AreOpened, Begins}
+use Rattle.tau_model.specs.History.{Act}
+use Rattle.tau_machine.specs.Hands.{Txn}
+use Rattle.tau_machine.specs.State.{Core}
+use Rattle.tau_text.specs.declared.load.Workload.{Workload}
+use Rattle.tau_report.specs.declared.report.RunEnd.{RunEnd}
+use Rattle.tau_report.specs.Report.{ack_lines, report_text}
+use Rattle.tau_core.specs.declared.state.Load.{Load}
+use Rattle.tau_core.specs.View.{setting_of, core_of}
+use Rattle.tau_run.specs.Run.{Run, AllAcked, IsReportOf}
+use Rattle.tau_run.specs.Facts.{catalogue_of, IsEnded}
+use Rattle.tau_run.specs.Course.{IsLoadOf, IsSoundLoad, IsCourse}
+use Rattle.tau_run.specs.Left.{IsLeft, IsOver}
+use Rattle.tau_run.specs.Told as ending
+use Rattle.tau_run.specs.Told.{turns_of, chosen_by, IsCoreRun, RunFacts}
+use Rattle.tau_run.proofs.Imaged.{imaged, acknowledged}
+use Rattle.tau_run.proofs.Reading.{IsCatalogue}
+use Rattle.tau_run.proofs.Results.{history_law}
+use Rattle.tau_step.specs.RunTold.{Ended, RanNew, IsLowestStopped, fates_by}
+use Rattle.tau_step.specs.Telling.{Heard}
+use Rattle.tau_engine.specs.Came.{CameTo, came_far}
+use Rattle.tau_engine.specs.Drill.{EndsAt, IsRehearsed, PlaysOn}
+use Rattle.tau_engine.specs.Facts.{Past, Now, AreUnborn}
+use Rattle.tau_engine.specs.Outside.{Wrote}
+use Rattle.tau_engine.proofs.Chosen.{chosen}
+use Rattle.tau_engine.proofs.Ends.{begun_left}
+use Rattle.tau_engine.proofs.NotBegun.{told_of_none}
+use Rattle.tau_engine.proofs.Ran as ran
+use Rattle.tau_engine.proofs.RanTo as to
+use Rattle.tau_engine.proofs.Reports.{reported_by}
+use Rattle.tau_engine.proofs.Streams.{OnlyNow, Joined, clean_below, first_stopped, made_all}
+
+module _ {D : Type 0} {G : Ghosts D} (only_now : OnlyNow G) (n m : ℕ) (load : Workload) (room : n ≤ 16) (sound : IsSoundLoad load) (old mid new : List D) (many : n ≤ length old) (ws : List (Writer D G))
+    (streams : AreOpened G n (catalogue_of load) old mid ws) (tells : G.tells) (hears : Type 0) (held held' : List ℕ) (rose : Type 0) (p : PlaysOn m load ws mid new hears held held' rose) where
+  abbrev x : RanNew m Values load ws p.after hears held held' rose (Rattle.std.specs.Prelude.Ok p.end)
+  x = p.ran
+
+  load_is : IsLoadOf n m Values load x.first.load
+  load_is = subst (λ (k : ℕ). IsLoadOf k m Values load x.first.load) streams.count x.load_is
+
+  abbrev h : Ended (turns_of load) (λ j. catalogue_of load) x.first ws p.after hears held held' rose p.end
+  h = x.ran
+
+  abbrev t : CameTo (chosen_by load.turns n m load) n m Values load ws p.after h.came.told
+  t = ran.came_to only_now n m Values load room sound x.first load_is x.opened ws p.after true h.came
+
+  abbrev l : Load
+  l = t.stands_on
+
+  abbrev s : Core
+  s = t.state
+
+  abbrev run : Run
+  run = t.run
+
+  over : IsOver n s
+  over = subst (λ (k : ℕ). IsOver k s) load_is.streams h.over
+
+  low : IsLowestStopped n s p.end.disk
+  low = subst (λ (k : ℕ). IsLowestStopped k s p.end.disk) load_is.streams h.disk
+
+  complete : ((j : ℕ) → j < n → (s.streams j).stop ≡ None) → AllAcked load run
+  complete going = ran.complete only_now n m Values load room sound x.first load_is x.opened ws p.after true h.came over going
+
+  core : IsCoreRun (chosen_by load.turns n m load true) n m Values load (λ j. (s.streams j).stop) run
+  core = to.core_run only_now n m Values load ws p.after h.came.told t true (chosen load.turns true n m load l t.opening (came_far t) (ran.by_turns only_now n m Values load room sound x.first load_is x.opened ws p.after true h.came))
+
+  at_leaves : Rattle.tau_run.specs.Left.Leaves n (catalogue_of load) l s (λ j x. ⊥) (Now G.tells G.may_leave old new) (RoseAt G.faults old new)
+  at_leaves = to.at_leaves only_now n m Values load ws p.after h.came.told t old mid new many streams p.back
+
+  ended : IsEnded n load (Now G.tells G.may_leave old new) (RoseAt G.faults old new) run
+  ended = to.has_ended only_now n m Values load ws p.after h.came.told t old mid new many streams p.back over complete
+
+  reports : (failed : Option ℕ) → IsReportOf load run failed (report_text load.declarations.tables p.end.report failed)
+  reports failed =
+      reported_by n m Values load l t.joined s t.course run t.is p.end.report failed (h.acks ∙ sym t.told)
+      (h.fates ∙ ap (λ (y : Load). fates_by (length y.calls) t.joined h.came.told) (sym h.came.load) ∙ ap (λ (a : List (ℕ × List ℕ)). fates_by (length l.calls) t.joined a) (sym t.told))
+      h.order (subst (λ (y : Load). Rattle.tau_model.specs.Tables.IsTablesOf (Rattle.tau_machine.specs.State.sight (setting_of y) s).row p.end.report.tables) (sym h.came.load) h.tables) over.rests
+
+  left_now : (j : ℕ) (image : List ℕ) → j < n → Now G.tells G.may_leave old new j image → IsLeft n j (catalogue_of load) l s image
+  left_now j image lt now = let q = at_leaves.present j image lt now in inr (q.0, q.1)
+
+  told : hears → held' ≡ held ++ ack_lines run.acks
+  told hear =
+      let lines : Heard held h.came.told false held' = subst (λ (b : Bool). Heard held h.came.told b held') p.heard (h.heard hear) in
+      lines ∙ ap (λ (a : List (ℕ × List ℕ)). held ++ ack_lines a) (sym t.told)
+
+  abbrev streams_are : l.streams ≡ n
+  streams_are = t.course.load_is.streams
+
+  all : EachIn (λ j. j < n) (Joined G n (catalogue_of load) l s) old new
+  all = to.all only_now n m Values load ws p.after h.came.told t old mid new many streams p.back
+
+  pub rehearsed_on : IsRehearsed G n m load old new (Wrote hears held held')
+  rehearsed_on = by p.end.disk low
+    where
+      by : (failed : Option ℕ) → IsLowestStopped n s failed → IsRehearsed G n m load old new (Wrote hears held held')
+      by None going = record {
+        failed = None;
+        ends = clean_below G n (catalogue_of load) l s streams_are old new many all n (omega arith) going;
+        facts = record {
+          run = run;
+          history = history_law n m Values load l t.joined s t.course run t.is;
+          stops = λ j. (s.streams j).stop;
+          core = core;
+          stopped = at_leaves.stopped;
+          told = (ended, complete going, (report_text load.declarations.tables p.end.report None, reports None, tt));
+          imaged = imaged n m Values load l t.joined s t.course run t.is (Now G.tells G.may_leave old new) (Now G.tells G.may_leave old new) (RoseAt G.faults old new) (Unit {0}) (λ u j y lt q. left_now j y lt q);
+          acknowledged = acknowledged n m Values load l t.joined s t.course run t.is (λ j y. ⊥) (Now G.tells G.may_leave old new) (RoseAt G.faults old new) at_leaves;
+        };
+        acked = told;
+      }
+      by (Some j) q = record {
+        failed = Some j;
+        ends = (q.0, first_stopped G n (catalogue_of load) l s streams_are old new many all j q.1.0 q.0 q.1.1 q.2 tells);
+        facts = record {
+          run = run;
+          history = history_law n m Values load l t.joined s t.course run t.is;
+          stops = λ i. (s.streams i).stop;
+          core = inl core;
+          stopped = at_leaves.stopped;
+          told = inl (
+            ended,
+            λ i lt. (let k = made_all G n (catalogue_of load) l s streams_are old new many all i lt in (k.0, k.1, k.2 tells)),
+            (report_text load.declarations.tables p.end.report (Some j), reports (Some j), tt),
+          );
+          imaged = imaged n m Values load l t.joined s t.course run t.is (Now G.tells G.may_leave old new) (Now G.tells G.may_leave old new) (RoseAt G.faults old new) (Unit {0}) (λ u i y lt w. left_now i y lt w);
+          acknowledged = acknowledged n m Values load l t.joined s t.course run t.is (λ i y. ⊥) (Now G.tells G.may_leave old new) (RoseAt G.faults old new) at_leaves;
+        };
+        acked = told;
+      }
+
+-- what a sink that tells has heard
+pub heard_now : {D : Type 0} {G : Ghosts D} (n m : ℕ) (load : Workload) (old new : List D) (held held' : List ℕ) → IsRehearsed G n m load old new (λ lines. Unit {0} → held' ≡ held ++ lines) → IsRehearsed G n m load old new (λ lines. held' ≡ held ++ lines)
+heard_now n m load old new held held' r = record { failed = r.failed; ends = r.ends; facts = r.facts; acked = r.acked tt }
+
+-- ---- a disk failed while the streams were opened
+
+module _ {D : Type 0} (G : Ghosts D) (only_now : OnlyNow G) (counts_now : (d : D) (t : ℕ) (x : List ℕ) → t ≤ G.moment d → G.may_leave d x → G.may_leave_since d t x) (n m : ℕ) (load : Workload) (some : 1 ≤ n) (room : n ≤ 16) (workers : 1 ≤ m) (sound : IsSoundLoad load)
+    (old new : List D) (tells : G.tells) (unborn : AreUnborn G.tells G.may_leave old n) (begins : EachIn (λ j. j < n) (Begins G n (catalogue_of load)) old new) (hears : Type 0) (held : List ℕ) where
+  past_now : (j : ℕ) (x : List ℕ) → j < n → Now G.tells G.may_leave old new j x → Past G.tells G.moment G.may_leave_since old new j x
+  past_now j x lt (d, e, was, is, (t, now)) =
+      let (f, there, begun) = begins j d lt was in
+      let same : f ≡ e = (let q : Some f ≡ Some e = sym there ∙ is in cc) in
+      let later : G.moment d ≤ G.moment e = subst (λ (y : D). G.moment d ≤ G.moment y) same (begun t (unborn j d lt was t)).later in
+      (d, e, was, is, (t, counts_now e (G.moment d) x later now))
+
+  pub rehearsed_none : (j : ℕ) → j < n → IsFirstStopped G.tells G.number G.fails G.short old new j → (k : ℕ) → k ≤ calls_to_open → Made G.number G.short old new j k → IsRehearsed G n m load old new (Wrote hears held held)
+  rehearsed_none j lt stopped k few made =
+      let told =
+      told_of_none n m Values load some room workers (record { short = sound.short; bytes = sound.bytes; read = sound.read }) (Unit {0}) (Now G.tells G.may_leave old new) (Now G.tells G.may_leave old new) (RoseAt G.faults old new) ⊥
+      (λ i c. Made G.number G.short old new i c) (λ text. Unit {0}) (λ i. []) (ending.DiskFailed j) tt
+      (λ u i x low now. begun_left G only_now n (catalogue_of load) old new (λ a d below was. (let b = begins a d below was in (b.0, b.1, b.2))) unborn i x low (past_now i x low now))
+      (inr (refl, refl, (k, few, made), inl tt)) in
+      record {
+        failed = Some j;
+        ends = (lt, stopped);
+        facts = told.0;
+        acked = λ hear. sym (append-nil held) ∙ ap (λ (acks : List (ℕ × List ℕ)). held ++ ack_lines acks) (sym told.1);
+      }
