@@ -49,7 +49,7 @@ known-of p c m = record {
   streams = m.streams;
 }
 
-word-ends : (l : Load) (c : Now) (j : ℕ) → j < l.streams → word_of l j c ≡ slice_index c.core.ends j
+pub word-ends : (l : Load) (c : Now) (j : ℕ) → j < l.streams → word_of l j c ≡ slice_index c.core.ends j
 word-ends l c j lt =
     let a : (j == l.streams + l.streams) ≡ false = ne_eqb j (l.streams + l.streams) (λ e. omega (arith, e, lt)) in
     rw a (elim (leb_tells (j + 1) l.streams) [
@@ -57,7 +57,7 @@ word-ends l c j lt =
       | inr b ↦ absurd (let h = b.1 in omega (arith, h, lt))
     ])
 
-word-plv : (l : Load) (c : Now) (j : ℕ) → j < l.streams → word_of l (l.streams + j) c ≡ slice_index c.core.plv j
+pub word-plv : (l : Load) (c : Now) (j : ℕ) → j < l.streams → word_of l (l.streams + j) c ≡ slice_index c.core.plv j
 word-plv l c j lt =
     let a : (l.streams + j == l.streams + l.streams) ≡ false = ne_eqb (l.streams + j) (l.streams + l.streams) (λ e. omega (arith, e, lt)) in
     let back : (l.streams + j) - l.streams ≡ j = omega arith in

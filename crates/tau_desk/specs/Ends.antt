@@ -1,5 +1,5 @@
 -- The ends of a desk: what it opens with, what leaves the head and comes back, and what it gives when it closes.
-use Rattle.std.specs.Prelude.{ℕ, ◌+◌, ◌<◌, ◌≡◌, Some, List, [], slice_get}
+use Rattle.std.specs.Prelude.{ℕ, ◌+◌, ◌/◌, ◌<◌, ◌≤◌, ◌≡◌, true, false, Some, None, List, [], length, replicate, slice_get, slice_set}
 use Rattle.tau_model.specs.History.{Act}
 use Rattle.tau_machine.specs.Hands.{Txn}
 use Rattle.tau_machine.specs.Reports.{in_turn}
@@ -11,20 +11,60 @@ use Rattle.tau_core.specs.State.{Plain}
 use Rattle.tau_core.specs.View.{Hidden, core_of}
 use Rattle.tau_rule.specs.Role.{Role}
 use Rattle.tau_rule.specs.Knows.{Knows}
-use Rattle.tau_rule.specs.Rule.{IsOutbox, IsRole, Meets, Now, Sees, anchors_at, has}
+use Rattle.tau_core.specs.declared.state.Load.{Load}
+use Rattle.tau_rule.specs.Rule.{IsOutbox, IsRole, Meets, Now, Sees, anchors_at, clerk_role, has, manager_role}
 use Rattle.tau_rule.specs.Heads.{both, left_by, split_as, split_off}
 use Rattle.tau_rule.specs.First.{first_view}
 use Rattle.tau_rule.specs.Steps.{Sat}
+use Rattle.tau_desk.specs.Seats.{PlainClerkSeat, PlainHead, PlainManagerSeat, PlainWorkerSeat}
 
 -- the head's seat when the desk has just opened with this core
 pub record IsFirst (origin : Plain) (m : Sat) : Type 0 where
   pub opened : Opened origin.load origin
   pub knows : m ≡ (first_view origin, [])
 
+-- no role is out
+pub record IsWhole (h : PlainHead) : Type 0 where
+  pub workers : (w : ℕ) → slice_get h.workers w ≡ Some None → ⊥
+  pub managers : (j : ℕ) → slice_get h.managers j ≡ Some None → ⊥
+  pub clerk : h.clerk ≡ true
+
 -- the role leaves the head for a new seat
 pub record IsSplitOff (role : ℕ) (head head' new : Sat) : Type 0 where
   pub head_is : head' ≡ (left_by role head.0, [])
   pub new_is : new ≡ (split_off role head.0, [])
+
+-- of how many calls a worker makes room, which is of all its own
+abbrev pub calls_each : Load → ℕ
+calls_each l = length l.calls / l.workers + 1
+
+-- the seat of a worker leaves the head, which has what the worker has of its own, with room for so many more committed calls
+pub record IsWorkerSplit (w calls : ℕ) (head head' : PlainHead) (new : PlainWorkerSeat) : Type 0 where
+  pub split : IsSplitOff w head.me head'.me new.me
+  pub left : head' ≡ record head { me = head'.me; workers = slice_set head.workers w None }
+  pub table : new.table_id ≡ head.table_id
+  pub worker : new.worker ≡ w
+  pub room : ℕ
+  pub work : slice_get head.workers w ≡ Some (Some (record new.work { committed_room = room }))
+  pub roomy : calls ≤ new.work.committed_room
+  pub read : new.read ≡ (0, replicate (length head.seen) 0)
+  pub seen : new.seen ≡ head.seen
+
+-- the seat of the manager of a stream
+pub record IsManagerSplit (l : Load) (j : ℕ) (head head' : PlainHead) (new : PlainManagerSeat) : Type 0 where
+  pub split : IsSplitOff (manager_role l j) head.me head'.me new.me
+  pub left : head' ≡ record head { me = head'.me; managers = slice_set head.managers j None }
+  pub table : new.table_id ≡ head.table_id
+  pub stream : new.stream ≡ j
+  pub stock : slice_get head.managers j ≡ Some (Some new.stock)
+  pub seen : new.seen ≡ head.seen
+
+-- the clerk's
+pub record IsClerkSplit (l : Load) (head head' : PlainHead) (new : PlainClerkSeat) : Type 0 where
+  pub split : IsSplitOff (clerk_role l) head.me head'.me new.me
+  pub left : head' ≡ record head { me = head'.me; clerk = false }
+  pub table : new.table_id ≡ head.table_id
+  pub seen : new.seen ≡ head.seen
 
 -- a worker's role leaves the head, and a call that was left over comes next there
 pub record IsResumed (role : ℕ) (back : Role) (head head' new : Sat) : Type 0 where

@@ -7,4 +7,5 @@ pub mod Kept
 pub mod Works
 pub mod Owns
 pub mod Manages
+pub mod Laid
 pub mod Ends

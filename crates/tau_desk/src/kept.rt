@@ -1,10 +1,10 @@
-//! What a core was made of, emptied: the room for the core that the desk makes when it closes.
+//! The room for the core that the desk makes when it closes.
 use std::alloc::Global;
 use tau_core::Stream;
 use tau_model::Committed;
 use tau_shard::Shard;
 
-/// The emptied vectors of a core.
+/// Empty vectors with room for what the core is made of.
 #[derive(Drop)]
 pub struct Kept {
     pub alloc: Global,

@@ -1,1 +1,320 @@
-//! The desk opens: a core apart, its parts in the slots.
+//! The desk opens.
+ghost use Rattle.std.specs.Prelude.{◌≡◌, ◌≤◌, ◌<◌, ◌+◌, ◌*◌, ◌^◌, ◌++◌, ℕ, IfOk, length, slice_index, vec_len, vec_capacity};
+ghost use Rattle.tau_base.specs.declared.limits.TheConstants.{MAX_CATALOGUE, MAX_STREAMS, MAX_WORKERS, SHARDS};
+ghost use Rattle.tau_text.specs.Canonical.{declarations_text};
+ghost use Rattle.tau_text.specs.Kept.{AreCalls};
+ghost use Rattle.tau_core.specs.Opens.{Fits, Opened, OpenedFresh, catalogue_size, load_of};
+ghost use Rattle.tau_rule.specs.Rule.{part_count};
+ghost use Rattle.tau_desk.specs.Close.{IsShardOf, IsBoxOf};
+ghost use Rattle.tau_desk.specs.Ends.{IsFirst, IsWhole};
+ghost use Rattle.tau_desk.specs.Kept.{HasRoom};
+ghost use Rattle.tau_desk.specs.Laid.{AreFirstWords, AreWords, EachOf, HasAnchor, HasBox, HasShard, IsFirstAnchor, IsItsStock, IsItsWork, stock_at, work_of};
+
+use crate::desk::Desk;
+use crate::kept::Kept;
+use crate::room::Room;
+use crate::seat::{Head, Stock, Work};
+use atomic_table::Table;
+use std::alloc::Global;
+use std::snapshot::Snapshot;
+use tau_base::{LogMode, Lv, NoMemory, SHARDS};
+use tau_core::{Core, Load, Opening, Parts, Stream};
+use tau_rule::Part;
+use tau_shard::Shard;
+use tau_text::Workload;
+
+impl Desk {
+    /// The desk on this opening, for so many workers. The head has every role.
+    pub fn open(
+        alloc: Global,
+        load: &Workload,
+        opening: Opening,
+        m: u8,
+        mode: LogMode,
+    ) -> Result<(Desk, Head), NoMemory>
+        requires low { 1 ≤ m }
+        requires high { m ≤ MAX_WORKERS }
+        requires calls { AreCalls load.now.declarations.procs load.now.calls }
+        requires fits { Fits opening }
+        requires short { (j : ℕ) → j < length opening.ends → slice_index opening.ends j ≤ 2 ^ 61 }
+        ensures { IfOk result (λ d. Opened (load_of load.now.declarations.procs load.now.calls mode m opening) d.0.table.shared.key.value × IsFirst d.0.table.shared.key.value d.1.me × IsWhole d.1 × (d.1.table_id ≡ d.0.table.shared.table_id)) }
+    {
+        match Core::open(alloc, load, opening, m, mode) {
+            Ok(core) => desk_of(alloc, core),
+            Err(error) => Err(error),
+        }
+    }
+
+    /// The desk of a run of so many workers on `n` streams that hold the record of the catalogue alone. The head has every role.
+    pub fn new(
+        alloc: Global,
+        load: &Workload,
+        n: u8,
+        m: u8,
+        mode: LogMode,
+    ) -> Result<(Desk, Head), NoMemory>
+        requires n_low { 1 ≤ n }
+        requires n_high { n ≤ MAX_STREAMS }
+        requires low { 1 ≤ m }
+        requires high { m ≤ MAX_WORKERS }
+        requires calls { AreCalls load.now.declarations.procs load.now.calls }
+        requires text { length (declarations_text load.now.declarations) ≤ MAX_CATALOGUE }
+        ensures { IfOk result (λ d. OpenedFresh load.now.declarations.procs load.now.calls mode m n (catalogue_size (declarations_text load.now.declarations)) d.0.table.shared.key.value × IsFirst d.0.table.shared.key.value d.1.me × IsWhole d.1 × (d.1.table_id ≡ d.0.table.shared.table_id)) }
+    {
+        match Core::new(alloc, load, n, m, mode) {
+            Ok(core) => desk_of(alloc, core),
+            Err(error) => Err(error),
+        }
+    }
+}
+
+/// The desk of a core that has just opened.
+fn desk_of(alloc: Global, core: Core) -> Result<(Desk, Head), NoMemory>
+    requires opened { Opened core.load core }
+    requires short { (j : ℕ) → j < core.load.streams → slice_index core.load.opening.ends j ≤ 2 ^ 61 }
+    ensures { IfOk result (λ d. (d.0.table.shared.key.value ≡ core) × IsFirst core d.1.me × IsWhole d.1 × (d.1.table_id ≡ d.0.table.shared.table_id)) }
+{
+    let key = Snapshot::of(&core);
+    let Parts {
+        alloc: _,
+        load,
+        shards,
+        seats,
+        streams,
+        committed: _,
+        ends,
+        gathered: _,
+        plv,
+    } = core.into_parts();
+    let kept = kept_of(alloc, &load)?;
+    let (boxes, workers) = lay_seats(alloc, seats)?;
+    let (anchors, managers) = lay_streams(alloc, streams, &ends)?;
+    let slots = all_of(lay_shards(alloc, shards)?, boxes, anchors)?;
+    let parts = slots.len();
+    let words = first_words(alloc, parts, &ends, &plv)?;
+    let Ok((table, seat)) = Table::new(alloc, words.as_slice(), slots, &key) else {
+        return Err(NoMemory);
+    };
+    let streams = load.streams;
+    let desk = Desk {
+        table,
+        load,
+        parts,
+        streams,
+        kept,
+    };
+    let head = Head {
+        seat,
+        workers,
+        managers,
+        clerk: true,
+        seen: ends,
+    };
+    Ok((desk, head))
+}
+
+/// The room for the core that the desk makes when it closes.
+fn kept_of(alloc: Global, load: &Load) -> Result<Kept, NoMemory>
+    ensures { IfOk result (λ kept. HasRoom load.now (vec_len kept.shards, vec_capacity kept.shards) (vec_len kept.seats, vec_capacity kept.seats) (vec_len kept.streams, vec_capacity kept.streams) (vec_len kept.committed, vec_capacity kept.committed)) }
+{
+    let Ok(shards) = Vec::with_capacity(alloc, SHARDS) else {
+        return Err(NoMemory);
+    };
+    let Ok(seats) = Vec::with_capacity(alloc, load.workers) else {
+        return Err(NoMemory);
+    };
+    let Ok(streams) = Vec::with_capacity(alloc, load.streams) else {
+        return Err(NoMemory);
+    };
+    let Ok(committed) = Vec::with_capacity(alloc, load.calls.len()) else {
+        return Err(NoMemory);
+    };
+    Ok(Kept {
+        alloc,
+        shards,
+        seats,
+        streams,
+        committed,
+    })
+}
+
+/// Each shard in a slot.
+fn lay_shards(alloc: Global, shards: Vec<Shard>) -> Result<Vec<Option<Part>>, NoMemory>
+    ensures { IfOk result (λ slots. EachOf HasShard shards.items slots.items) }
+{
+    let mut slots = Vec::new(alloc);
+    for shard in shards {
+        let part = shard_part(alloc, shard)?;
+        match slots.push(Some(part)) {
+            Ok(()) => {}
+            Err(_) => return Err(NoMemory),
+        }
+    }
+    Ok(slots)
+}
+
+fn shard_part(alloc: Global, shard: Shard) -> Result<Part, NoMemory>
+    ensures { IfOk result (λ part. IsShardOf part shard) }
+{
+    match Box::new(alloc, shard) {
+        Ok(shard) => Ok(Part::Shard(shard)),
+        Err(_) => Err(NoMemory),
+    }
+}
+
+/// What each worker shares in a slot, and what it has of its own.
+fn lay_seats(
+    alloc: Global,
+    seats: Vec<tau_core::Seat>,
+) -> Result<(Vec<Option<Part>>, Vec<Option<Work>>), NoMemory>
+    ensures { IfOk result (λ laid. EachOf HasBox seats.items laid.0.items × EachOf IsItsWork seats.items laid.1.items) }
+{
+    let mut slots = Vec::new(alloc);
+    let mut works = Vec::new(alloc);
+    for seat in seats {
+        let (part, work) = lay_seat(alloc, seat)?;
+        match slots.push(Some(part)) {
+            Ok(()) => {}
+            Err(_) => return Err(NoMemory),
+        }
+        match works.push(Some(work)) {
+            Ok(()) => {}
+            Err(_) => return Err(NoMemory),
+        }
+    }
+    Ok((slots, works))
+}
+
+fn lay_seat(alloc: Global, seat: tau_core::Seat) -> Result<(Part, Work), NoMemory>
+    ensures shared { IfOk result (λ laid. IsBoxOf laid.0 seat) }
+    ensures work { IfOk result (λ laid. (room : ℕ) × (laid.1 ≡ work_of seat room)) }
+{
+    let tau_core::Seat {
+        next,
+        again,
+        txn,
+        start,
+        left,
+        outbox,
+        pending,
+    } = seat;
+    let Ok(outbox) = Box::new(alloc, outbox) else {
+        return Err(NoMemory);
+    };
+    let Ok(pending) = Box::new(alloc, pending) else {
+        return Err(NoMemory);
+    };
+    let room = Room {
+        records: 0,
+        calls: 0,
+    };
+    let work = Work {
+        next,
+        again,
+        txn,
+        start,
+        left,
+        committed: Vec::new(alloc),
+        room,
+        mark: None,
+    };
+    Ok((Part::Outbox(outbox, pending), work))
+}
+
+/// The published anchor of each stream in a slot, and what its manager has of its own.
+fn lay_streams(
+    alloc: Global,
+    streams: Vec<Stream>,
+    ends: &Lv,
+) -> Result<(Vec<Option<Part>>, Vec<Option<Stock>>), NoMemory>
+    ensures { IfOk result (λ laid. EachOf (HasAnchor (length ends.now)) streams.items laid.0.items × EachOf (IsItsStock ends.now) streams.items laid.1.items) }
+{
+    let mut slots = Vec::new(alloc);
+    let mut stocks = Vec::new(alloc);
+    for stream in streams {
+        let end = ends.position(stocks.len());
+        let part = first_anchor(alloc, ends.width())?;
+        match slots.push(Some(part)) {
+            Ok(()) => {}
+            Err(_) => return Err(NoMemory),
+        }
+        match stocks.push(Some(stock_of(stream, end))) {
+            Ok(()) => {}
+            Err(_) => return Err(NoMemory),
+        }
+    }
+    Ok((slots, stocks))
+}
+
+fn first_anchor(alloc: Global, streams: usize) -> Result<Part, NoMemory>
+    requires low { 1 ≤ streams }
+    requires high { streams ≤ MAX_STREAMS }
+    ensures { IfOk result (λ part. IsFirstAnchor streams part) }
+{
+    match Box::new(alloc, Lv::zero(streams)) {
+        Ok(lv) => Ok(Part::Anchor(0, lv)),
+        Err(_) => Err(NoMemory),
+    }
+}
+
+fn stock_of(stream: Stream, gathered: u64) -> Stock
+    ensures { (room : ℕ) × (result ≡ stock_at stream gathered room) }
+{
+    let Stream {
+        own,
+        anchors,
+        stop: _,
+        body: _,
+    } = stream;
+    Stock {
+        anchors,
+        own,
+        gathered,
+    }
+}
+
+/// The slots of all parts, in the order of their numbers.
+fn all_of(
+    mut shards: Vec<Option<Part>>,
+    mut boxes: Vec<Option<Part>>,
+    mut anchors: Vec<Option<Part>>,
+) -> Result<Vec<Option<Part>>, NoMemory>
+    ensures { IfOk result (λ slots. slots.items ≡ (shards.items ++ boxes.items) ++ anchors.items) }
+{
+    let Ok(()) = shards.append(&mut boxes) else {
+        return Err(NoMemory);
+    };
+    let Ok(()) = shards.append(&mut anchors) else {
+        return Err(NoMemory);
+    };
+    Ok(shards)
+}
+
+/// The words of a table with so many free turns.
+fn first_words(alloc: Global, parts: usize, ends: &Lv, plv: &Lv) -> Result<Vec<u64>, NoMemory>
+    requires few { parts < 2 ^ 16 }
+    requires wide { length plv.now ≡ length ends.now }
+    ensures { IfOk result (λ words. AreFirstWords parts ends.now plv.now words.items) }
+{
+    let streams = ends.width();
+    let count = 8 * (parts + (streams + streams + 1));
+    let Ok(mut words) = Vec::from_elem(alloc, 0u64, count) else {
+        return Err(NoMemory);
+    };
+    put_words(&mut words, parts, ends);
+    put_words(&mut words, parts + streams, plv);
+    Ok(words)
+}
+
+/// Puts the positions of a vector into the words from this one on.
+fn put_words(words: &mut Vec<u64>, from: usize, lv: &Lv)
+    requires few { from < 2 ^ 17 }
+    requires wide { 8 * (from + length lv.now) ≤ length words.old.items }
+    ensures count { length words.new.items ≡ length words.old.items }
+    ensures put { AreWords words.new.items from lv.now }
+    ensures others { (k : ℕ) → ((j : ℕ) → j < length lv.now → k ≡ from + j → ⊥) → slice_index words.new.items (8 * k) ≡ slice_index words.old.items (8 * k) }
+{
+    for j in 0..lv.width() {
+        words[8 * (from + j)] = lv.get(j);
+    }
+}
