@@ -4,13 +4,9 @@ use Rattle.std.specs.Prelude.{Some, None, is_some, if◌then◌else◌, replicat
 use Rattle.std.proofs.lemmas.Bool.{cases_eq}
 use Rattle.std.proofs.lemmas.Bool.Decides.{leb_tells}
 use Rattle.std.proofs.lemmas.Option.{slice_get_within}
-use mathlib.Core.Option.{some}
-use lib.ListN.{get_elem?, length-replicate}
-use Rattle.tau_base.specs.declared.limits.TheConstants.{SHARDS}
+use lib.ListN.{length-replicate}
+use Rattle.tau_base.specs.declared.limits.TheConstants.{MAX_CATALOGUE, SHARDS}
 use Rattle.tau_model.specs.declared.committed.Committed.{Committed}
-use Rattle.tau_model.specs.History.{Member}
-use Rattle.tau_machine.specs.State.{Item}
-use Rattle.tau_machine.specs.Worker.{Worker}
 use Rattle.tau_outbox.specs.declared.Piece.{Piece}
 use Rattle.tau_shard.specs.Plain.{PlainShard}
 use Rattle.tau_shard.specs.Read.{shard_of}
@@ -20,22 +16,23 @@ use Rattle.tau_txn.specs.Next.{next_action, next_of}
 use Rattle.tau_txn.specs.declared.action.Action.TheVariants as action
 use Rattle.tau_core.specs.Plain.{PlainSeat, PlainStream}
 use Rattle.tau_core.specs.State.{Plain}
-use Rattle.tau_core.specs.Opens.{Opened, nothing}
+use Rattle.tau_core.specs.declared.opening.Opening.{Opening}
+use Rattle.tau_core.specs.Opens.{IsFresh, Opened, catalogue_size, nothing}
 use Rattle.tau_core.specs.Pieces.{IsPieceOf, Paired}
 use Rattle.tau_core.specs.View.{anchors_in, committed_by, core_of, pending_in, seat_worker, shard_in, tickets, worker_at, worker_in}
 use Rattle.tau_core.proofs.Lists.{some-at}
 use Rattle.tau_rule.specs.declared.part.Part.{Part}
 use Rattle.tau_rule.specs.declared.part.Part.TheVariants as part
 use Rattle.tau_rule.specs.First.{clerk_share, first_view, manager_share, outer_share, role_at, roles_below, share_at, worker_share}
-use Rattle.tau_rule.specs.Role.{Clerking, Managing, Role, Share, Working, role_in}
-use Rattle.tau_rule.specs.Rule.{IsOutbox, IsPart, Now, Rule, anchors_at, has, is_raised, number_if, part_count, word_of}
+use Rattle.tau_rule.specs.Role.{role_in}
+use Rattle.tau_rule.specs.Rule.{IsPart, Rule, anchors_at, is_raised, number_if, part_count, word_of}
 use Rattle.atomic_table.specs.Table.{opening}
 use Rattle.tau_rule.proofs.Opening.{begins, limited, now}
 use Rattle.tau_desk.proofs.Closing.{word-ends, word-plv}
 use Rattle.tau_desk.specs.Close.{IsBoxOf, IsShardOf}
 use Rattle.tau_desk.specs.Laid.{AreFirstWords, EachOf, HasAnchor, HasBox, HasShard, IsFirstAnchor, IsItsStock, IsItsWork, stock_at, work_of}
 use Rattle.tau_desk.specs.Seats.{HasClerk, HasStock, HasWork, IsHead}
-use Rattle.tau_desk.specs.Shares.{PlainStock, PlainWork, own_worker}
+use Rattle.tau_desk.specs.Shares.{PlainStock, PlainWork}
 use Rattle.tau_desk.proofs.Backing.{no-hand}
 use Rattle.tau_desk.proofs.Slots.{get-behind, get-longer, got-elem}
 
@@ -253,6 +250,7 @@ module _ (origin : Plain) (q : Opened origin.load origin) where
     where
       some-same : {A : Type 0} (x y : A) → Some x ≡ Some y → x ≡ y
       some-same x y e = cc
+
       inside : {A : Type 0} (xs : List A) (k : ℕ) (x : A) (n : ℕ) → length xs ≡ n → slice_get xs k ≡ Some x → k < n
       inside xs k x n len e = (let h = slice_get_within xs k x e in omega (arith, h, len))
 
@@ -267,7 +265,7 @@ module _ (origin : Plain) (q : Opened origin.load origin) where
   begins-so short n wide shards boxes anchors a b c ws xs parts is many w =
       let count : parts ≡ part_count origin.load = many ∙ ap length is ∙ slot_count n wide shards boxes anchors a b c in
       let all : (k : ℕ) → k < part_count origin.load → (p : Part) × (slice_get xs k ≡ Some (Some p)) × IsPart origin.load k p (now origin q) =
-          (λ k lt. let h = slot-at n wide shards boxes anchors a b c k lt in (h.0, ap (λ (l : List (Option Part)). slice_get l k) is ∙ h.1, h.2)) in
+      (λ k lt. let h = slot-at n wide shards boxes anchors a b c k lt in (h.0, ap (λ (l : List (Option Part)). slice_get l k) is ∙ h.1, h.2)) in
       let d : Part = (all 0 (omega arith)).0 in
       let streams : length origin.ends ≡ origin.load.streams = q.stands.sound.ends in
       let first : AreFirstWords (part_count origin.load) origin.ends origin.plv ws = subst (λ (m : ℕ). AreFirstWords m origin.ends origin.plv ws) count w in
@@ -308,3 +306,16 @@ all-work xs works a w e = (let h = a.each w None e in let bad : None ≡ Some (w
 
 pub all-stock : (ends : List ℕ) (xs : List PlainStream) (stocks : List (Option PlainStock)) → EachOf (IsItsStock ends) xs stocks → (j : ℕ) → slice_get stocks j ≡ Some None → ⊥
 all-stock ends xs stocks a j e = (let h = a.each j None e in let bad : None ≡ Some (stock_at h.0 (slice_index ends j) h.2.0) = h.2.1 in cc)
+
+at-most : (n x k : ℕ) → slice_index (replicate n x) k ≤ x
+at-most zero x k = omega arith
+at-most (suc n) x zero = omega arith
+at-most (suc n) x (suc k) = at-most n x k
+
+-- the catalogue's record leaves room in each stream
+pub fresh-short : (n : ℕ) (text : List ℕ) (o : Opening) → IsFresh n (catalogue_size text) o → length text ≤ MAX_CATALOGUE → (j : ℕ) → slice_index o.ends j ≤ 2 ^ 61
+fresh-short n text o f few j =
+    let e : slice_index o.ends j ≡ slice_index (replicate n (catalogue_size text)) j = ap (λ (l : List ℕ). slice_index l j) f.ends in
+    let low = at-most n (catalogue_size text) j in
+    let long : catalogue_size text ≡ suc (suc (suc (suc (suc (length text))))) = refl in
+    omega (arith, e, low, long, few)

@@ -39,10 +39,9 @@ impl Desk {
         requires short { (j : ℕ) → j < length opening.ends → slice_index opening.ends j ≤ 2 ^ 61 }
         ensures { IfOk result (λ d. Opened (load_of load.now.declarations.procs load.now.calls mode m opening) d.0.table.shared.key.value × IsFirst d.0.table.shared.key.value d.1.me × IsWhole d.1 × (d.1.table_id ≡ d.0.table.shared.table_id)) }
     {
-        match Core::open(alloc, load, opening, m, mode) {
-            Ok(core) => desk_of(alloc, core),
-            Err(error) => Err(error),
-        }
+        let core = Core::open(alloc, load, opening, m, mode)?;
+        let (desk, head) = desk_of(alloc, core)?;
+        Ok((desk, head))
     }
 
     /// The desk of a run of so many workers on `n` streams that hold the record of the catalogue alone. The head has every role.
@@ -61,10 +60,9 @@ impl Desk {
         requires text { length (declarations_text load.now.declarations) ≤ MAX_CATALOGUE }
         ensures { IfOk result (λ d. OpenedFresh load.now.declarations.procs load.now.calls mode m n (catalogue_size (declarations_text load.now.declarations)) d.0.table.shared.key.value × IsFirst d.0.table.shared.key.value d.1.me × IsWhole d.1 × (d.1.table_id ≡ d.0.table.shared.table_id)) }
     {
-        match Core::new(alloc, load, n, m, mode) {
-            Ok(core) => desk_of(alloc, core),
-            Err(error) => Err(error),
-        }
+        let core = Core::new(alloc, load, n, m, mode)?;
+        let (desk, head) = desk_of(alloc, core)?;
+        Ok((desk, head))
     }
 }
 

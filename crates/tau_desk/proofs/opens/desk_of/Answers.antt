@@ -1,15 +1,13 @@
-use Rattle.std.proofs.Common.{rules, ◌≡◌, ◌+◌, ℕ, true, List, [], Option, refl, sym, ap, ◌∙◌, subst, length}
+use Rattle.std.proofs.Common.{rules, ◌≡◌, ℕ, true, List, [], refl, sym, ap, ◌∙◌, subst, length}
 use Rattle.atomic_table.specs.Table.{opening}
 use Rattle.tau_shard.specs.Plain.{PlainShard}
 use Rattle.tau_core.specs.Plain.{PlainSeat, PlainStream}
 use Rattle.tau_core.specs.State.{Plain}
-use Rattle.tau_rule.specs.declared.part.Part.{Part}
 use Rattle.tau_rule.specs.First.{first_view}
 use Rattle.tau_rule.specs.Rule.{Rule}
 use Rattle.tau_rule.specs.Steps.{Sat}
 use Rattle.tau_desk.specs.Laid.{AreFirstWords, EachOf, HasAnchor, HasBox, HasShard, IsItsStock, IsItsWork}
 use Rattle.tau_desk.specs.Seats.{IsHead}
-use Rattle.tau_desk.specs.Shares.{PlainStock, PlainWork}
 use Rattle.tau_desk.proofs.Beginning.{all-stock, all-work, begins-so, head-is}
 use Rattle.tau_desk.proofs.opens.desk_of.Goals as goal
 
@@ -24,11 +22,11 @@ new-requires c =
     let shards : EachOf HasShard core.shards c.in_ok-lay_shards.field-0.items = subst (λ (l : List PlainShard). EachOf HasShard l c.in_ok-lay_shards.field-0.items) (ap (λ (p : Plain). p.shards) same) c.in_ok-lay_shards.ensures in
     let boxes : EachOf HasBox core.seats c.in_ok-boxes.boxes.items = subst (λ (l : List PlainSeat). EachOf HasBox l c.in_ok-boxes.boxes.items) (ap (λ (p : Plain). p.seats) same) c.in_ok-boxes.ensures.0 in
     let anchors : EachOf (HasAnchor (length parts.ends)) core.streams c.in_ok-anchors.anchors.items =
-        subst (λ (l : List PlainStream). EachOf (HasAnchor (length parts.ends)) l c.in_ok-anchors.anchors.items) (ap (λ (p : Plain). p.streams) same) c.in_ok-anchors.ensures.0 in
+    subst (λ (l : List PlainStream). EachOf (HasAnchor (length parts.ends)) l c.in_ok-anchors.anchors.items) (ap (λ (p : Plain). p.streams) same) c.in_ok-anchors.ensures.0 in
     let words : c.as_slice.result.now ≡ c.in_ok-words.words.items = c.as_slice.ensures.value in
     let count : c.len-parts.result ≡ length c.in_ok-slots.slots.items = search rules in
     let first : AreFirstWords c.len-parts.result core.ends core.plv c.as_slice.result.now =
-        subst (λ (z : List ℕ × List ℕ × List ℕ). AreFirstWords c.len-parts.result z.0 z.1 z.2) (λ i. (ends i, plv i, sym words i)) c.in_ok-words.ensures in
+    subst (λ (z : List ℕ × List ℕ × List ℕ). AreFirstWords c.len-parts.result z.0 z.1 z.2) (λ i. (ends i, plv i, sym words i)) c.in_ok-words.ensures in
     subst (λ (o : Plain). Rule o (opening c.as_slice.result.now c.in_ok-slots.slots.items (first_view o))) (sym c.of-key.ensures)
     (begins-so core c.requires.opened c.requires.short (length parts.ends) wide c.in_ok-lay_shards.field-0.items c.in_ok-boxes.boxes.items c.in_ok-anchors.anchors.items shards boxes anchors
     c.as_slice.result.now c.in_ok-slots.slots.items c.len-parts.result c.in_ok-slots.ensures count first)
@@ -41,15 +39,14 @@ invariant_of-head c =
     let ends : parts.ends ≡ core.ends = ap (λ (p : Plain). p.ends) same in
     let works : EachOf IsItsWork core.seats c.in_ok-boxes.workers.items = subst (λ (l : List PlainSeat). EachOf IsItsWork l c.in_ok-boxes.workers.items) (ap (λ (p : Plain). p.seats) same) c.in_ok-boxes.ensures.1 in
     let stocks : EachOf (IsItsStock core.ends) core.streams c.in_ok-anchors.managers.items =
-        subst (λ (z : List ℕ × List PlainStream). EachOf (IsItsStock z.0) z.1 c.in_ok-anchors.managers.items) (λ i. (ends i, ap (λ (p : Plain). p.streams) same i)) c.in_ok-anchors.ensures.1 in
+    subst (λ (z : List ℕ × List PlainStream). EachOf (IsItsStock z.0) z.1 c.in_ok-anchors.managers.items) (λ i. (ends i, ap (λ (p : Plain). p.streams) same i)) c.in_ok-anchors.ensures.1 in
     let me : c.in-Ok.seat.me ≡ (first_view core, []) = c.in-Ok.ensures.ok.4 ∙ ap (λ (o : Plain). (first_view o, [])) c.of-key.ensures in
     subst (λ (z : Sat × List ℕ). IsHead z.0 c.in_ok-boxes.workers.items c.in_ok-anchors.managers.items true z.1) (λ i. (sym me i, sym ends i)) (head-is core c.requires.opened c.in_ok-boxes.workers.items c.in_ok-anchors.managers.items works stocks)
 
 pub returns : goal.returns
 returns c =
     let core = c.args.core in
-    let parts = c.load.inside in
-    (
+    let parts = c.load.inside in (
       ap (λ k. k.value) c.in-Ok.ensures.ok.5 ∙ c.of-key.ensures,
       record { opened = c.requires.opened; knows = c.in-Ok.ensures.ok.4 ∙ ap (λ (o : Plain). (first_view o, [])) c.of-key.ensures },
       record { workers = all-work parts.seats.items c.in_ok-boxes.workers.items c.in_ok-boxes.ensures.1; managers = all-stock parts.ends parts.streams.items c.in_ok-anchors.managers.items c.in_ok-anchors.ensures.1; clerk = refl },
