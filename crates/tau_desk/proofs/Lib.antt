@@ -16,3 +16,4 @@ pub mod Slots
 pub mod SplittingOff
 pub mod JoiningIn
 pub mod Assembling
+pub mod Taking

@@ -3,9 +3,9 @@ use Rattle.std.specs.Prelude.{ℕ, ◌+◌, ◌-◌, ◌≤◌, ◌<◌, ◌≡�
 use Rattle.tau_machine.specs.Shard.{Shard, Dropped}
 use Rattle.tau_machine.specs.State.{Ticket}
 use Rattle.tau_outbox.specs.declared.Piece.{Piece}
-use Rattle.tau_outbox.specs.Gather.{Continues}
+use Rattle.tau_outbox.specs.Gather.{Continues, Gathers}
 use Rattle.tau_outbox.specs.Pieces.{bytes_of}
-use Rattle.tau_ack.specs.Pending.{TakesFirst}
+use Rattle.tau_ack.specs.Pending.{NoneCovered, TakesFirst}
 use Rattle.tau_ack.specs.declared.Waiting.{Waiting}
 use Rattle.tau_shard.specs.Plain.{PlainShard}
 use Rattle.tau_shard.specs.Read.{shard_of}
@@ -15,9 +15,10 @@ use Rattle.tau_core.specs.State.{Plain}
 use Rattle.tau_rule.specs.Role.{Clerking, Managed, Managing, Role, Share, Working}
 use Rattle.tau_rule.specs.Knows.{Knows}
 use Rattle.tau_rule.specs.Rule.{anchor_part, clerk_role, manager_role, outbox_part}
-use Rattle.tau_rule.specs.Steps.{Sat, first_role, handed, shard_in}
+use Rattle.tau_rule.specs.Steps.{Agrees, Sat, first_role, handed, shard_in}
 use Rattle.tau_rule.specs.Boxes.{BoxOf, box_in, gathered_by}
 use Rattle.tau_rule.specs.declared.part.Part.{Part}
+use Rattle.tau_desk.specs.Seats.{PlainClerkSeat, PlainManagerSeat}
 use Rattle.tau_desk.specs.Works.{anchor_in}
 
 -- what a manager's share is, and the clerk's lists
@@ -135,3 +136,32 @@ told_raised v = record v { roles = ((first_role v.roles).0, record (first_role v
 -- and one that has looked
 abbrev pub told_found : Knows → ℕ → Knows
 told_found v n = record v { found = n == 1 || v.found }
+
+-- the manager took the outbox of a worker, moved the longest front of its pieces that continues the stream and fits to the body, and knows that it has gathered just these
+pub record GathersBox (origin : Plain) (s : PlainManagerSeat) (w : ℕ) (body : List ℕ) (s' : PlainManagerSeat) (longer : List ℕ) : Type 0 where
+  pub part_taken : Part
+  pub agrees : Agrees origin s.me.0 (outbox_part w) part_taken
+  pub before : BoxOf
+  pub was : box_in part_taken ≡ Some before
+  pub left : List Piece
+  pub moved : Gathers s.stock.gathered before.0.pieces left body longer s'.stock.gathered
+  pub after : s' ≡ record s { me = (managing s.me.0 (gathered_by (managed_in s.me.0) moved.taken), []); stock = record s.stock { gathered = s'.stock.gathered } }
+
+-- the clerk took the outbox of a worker and acknowledged the first pending call there that is covered by the positions which it has seen persisted
+pub record AcksFirst (origin : Plain) (s : PlainClerkSeat) (w : ℕ) (call : Waiting) (s' : PlainClerkSeat) : Type 0 where
+  pub part_taken : Part
+  pub agrees : Agrees origin s.me.0 (outbox_part w) part_taken
+  pub before : BoxOf
+  pub was : box_in part_taken ≡ Some before
+  pub left : List Waiting
+  pub takes : TakesFirst s.seen before.1.calls call left
+  pub after : s' ≡ record s { me = (told_acked s.me.0 w call, []) }
+
+-- or found none
+pub record AcksNone (origin : Plain) (s : PlainClerkSeat) (w : ℕ) (s' : PlainClerkSeat) : Type 0 where
+  pub part_taken : Part
+  pub agrees : Agrees origin s.me.0 (outbox_part w) part_taken
+  pub before : BoxOf
+  pub was : box_in part_taken ≡ Some before
+  pub none : NoneCovered s.seen before.1.calls
+  pub after : s' ≡ s

@@ -1,1 +1,71 @@
 //! The manager of a stream on its seat.
+ghost use Rattle.std.specs.Prelude.{◌≡◌, ◌+◌, ◌%◌, ◌<◌, [], ◌∷◌, None, Some, ℕ, OnErr, OnOk};
+ghost use Rattle.tau_base.specs.declared.limits.TheConstants.{SHARDS};
+ghost use Rattle.tau_rule.specs.Role.{Role as RoleOf};
+ghost use Rattle.tau_rule.specs.Boxes.{box_in};
+ghost use Rattle.tau_rule.specs.Rule.{has};
+ghost use Rattle.tau_rule.specs.Steps.{Agrees, holding};
+ghost use Rattle.tau_rule.specs.declared.part.Part.{Part as PartOf};
+ghost use Rattle.tau_desk.specs.Manages.{GathersBox};
+
+use crate::desk::Desk;
+use crate::seat::ManagerSeat;
+use std::sync::Wait;
+use tau_ack::Pending;
+use tau_base::{NoMemory, SHARDS};
+use tau_outbox::Outbox;
+use tau_rule::{Part, Seat};
+
+/// Takes the outbox of a worker.
+pub(crate) fn take_box<R: Wait>(
+    rt: &R,
+    desk: &Desk,
+    seat: &mut Seat,
+    worker: u8,
+) -> (Box<Outbox>, Box<Pending>)
+    requires own { seat.old.table_id ≡ desk.now.table.shared.table_id }
+    requires role { (u : ℕ) × (x : RoleOf) × (has u seat.old.me.0 ≡ Some x) }
+    requires opened { seat.old.me.0.opened ≡ Some desk.now.table.shared.key.value }
+    requires idle { (seat.old.me.1 ≡ []) × (seat.old.me.0.hand ≡ None) }
+    requires there { worker < desk.now.table.shared.key.value.load.workers }
+    ensures own { (seat.new.table_id ≡ seat.old.table_id) × (seat.new.id ≡ seat.old.id) }
+    ensures held { (p : PartOf) × (seat.new.me ≡ (holding (SHARDS + worker) seat.old.me.0 p, (SHARDS + worker, None) ∷ [])) × (box_in p ≡ Some (result.0.value, result.1.value)) × Agrees desk.now.table.shared.key.value seat.old.me.0 (SHARDS + worker) p }
+{
+    match desk.take(rt, seat, SHARDS + usize::from(worker)) {
+        Part::Outbox(outbox, pending) => (outbox, pending),
+        Part::Shard(_) => unreachable!(),
+        Part::Anchor(_, _) => unreachable!(),
+    }
+}
+
+impl ManagerSeat {
+    /// Moves front pieces of the outbox of a worker of the stream to the body, as far as they continue the stream and fit. After NoMemory nothing has changed.
+    pub fn gather<R: Wait>(
+        &mut self,
+        rt: &R,
+        desk: &Desk,
+        worker: u8,
+        body: &mut Vec<u8>,
+    ) -> Result<(), NoMemory>
+        requires own { self.old.table_id ≡ desk.now.table.shared.table_id }
+        requires opened { self.old.me.0.opened ≡ Some desk.now.table.shared.key.value }
+        requires there { worker < desk.now.table.shared.key.value.load.workers }
+        requires whose { worker % desk.now.table.shared.key.value.load.streams ≡ self.old.stream }
+        ensures gathers { OnOk result (GathersBox desk.now.table.shared.key.value self.old worker body.old.items self.new body.new.items) }
+        ensures same { OnErr result ((self.new ≡ self.old) × (body.new.items ≡ body.old.items)) }
+    {
+        let (mut outbox, pending) = take_box(rt, desk, &mut self.seat, worker);
+        match outbox.gather_into(self.stock.gathered, body) {
+            Ok(past) => {
+                desk.give_gathered(&mut self.seat, self.stream, worker, outbox, pending);
+                self.stock.gathered = past;
+                Ok(())
+            }
+            Err(_) => {
+                let part = Part::Outbox(outbox, pending);
+                desk.give_back(&mut self.seat, SHARDS + usize::from(worker), part);
+                Err(NoMemory)
+            }
+        }
+    }
+}

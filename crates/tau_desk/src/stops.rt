@@ -1,1 +1,126 @@
-//! The stop word.
+//! The stop: any seat raises it, and any looks whether it is raised.
+ghost use Rattle.std.specs.Prelude.{◌≡◌, ◌+◌, ◌<◌, ◌==◌, [], ◌∷◌, Some, ℕ, true};
+ghost use Rattle.tau_rule.specs.Role.{Role as RoleOf};
+ghost use Rattle.tau_desk.specs.Manages.{told_found, told_raised};
+
+use crate::desk::Desk;
+use crate::seat::{ClerkSeat, Head, ManagerSeat, WorkerSeat};
+use std::marker::Brand;
+use tau_rule::{Know, Seat, Told};
+
+impl Desk {
+    // A seat that has one role raises the stop.
+    fn raise(&self, seat: &mut Seat)
+        requires own { seat.old.table_id ≡ self.now.table.shared.table_id }
+        requires opened { seat.old.me.0.opened ≡ Some self.now.table.shared.key.value }
+        requires role { (u : ℕ) × (x : RoleOf) × (seat.old.me.0.roles ≡ (u, x) ∷ []) × (u < self.now.table.shared.key.value.load.workers + self.now.table.shared.key.value.load.streams + 1) }
+        ensures own { (seat.new.table_id ≡ seat.old.table_id) × (seat.new.id ≡ seat.old.id) }
+        ensures raised { seat.new.me ≡ (told_raised seat.old.me.0, seat.old.me.1) }
+    {
+        self.raise_as::<Brand>(seat);
+    }
+
+    fn raise_as<N: Told>(&self, seat: &mut Seat)
+        requires own { seat.old.table_id ≡ self.now.table.shared.table_id }
+        requires opened { seat.old.me.0.opened ≡ Some self.now.table.shared.key.value }
+        requires role { (u : ℕ) × (x : RoleOf) × (seat.old.me.0.roles ≡ (u, x) ∷ []) × (u < self.now.table.shared.key.value.load.workers + self.now.table.shared.key.value.load.streams + 1) }
+        requires told { N.knows ≡ λ _. told_raised seat.old.me.0 }
+        ensures own { (seat.new.table_id ≡ seat.old.table_id) × (seat.new.id ≡ seat.old.id) }
+        ensures raised { seat.new.me ≡ (told_raised seat.old.me.0, seat.old.me.1) }
+    {
+        let word = 8 * (self.parts + (self.streams + self.streams));
+        self.table.shared.store::<Know<N>>(seat, word, 1);
+    }
+
+    // A seat looks whether the stop is raised.
+    fn found(&self, seat: &mut Seat) -> bool
+        requires own { seat.old.table_id ≡ self.now.table.shared.table_id }
+        requires opened { seat.old.me.0.opened ≡ Some self.now.table.shared.key.value }
+        ensures own { (seat.new.table_id ≡ seat.old.table_id) × (seat.new.id ≡ seat.old.id) }
+        ensures found { (word : ℕ) × (result ≡ (word == 1)) × (seat.new.me ≡ (told_found seat.old.me.0 word, seat.old.me.1)) }
+    {
+        self.found_as::<Brand>(seat)
+    }
+
+    fn found_as<N: Told>(&self, seat: &mut Seat) -> bool
+        requires own { seat.old.table_id ≡ self.now.table.shared.table_id }
+        requires opened { seat.old.me.0.opened ≡ Some self.now.table.shared.key.value }
+        requires told { N.knows ≡ told_found seat.old.me.0 }
+        ensures own { (seat.new.table_id ≡ seat.old.table_id) × (seat.new.id ≡ seat.old.id) }
+        ensures found { (word : ℕ) × (result ≡ (word == 1)) × (seat.new.me ≡ (told_found seat.old.me.0 word, seat.old.me.1)) }
+    {
+        let word = 8 * (self.parts + (self.streams + self.streams));
+        self.table.shared.load::<Know<N>>(seat, word) == 1
+    }
+}
+
+impl WorkerSeat {
+    /// Raises the stop.
+    pub fn stop(&mut self, desk: &Desk)
+        requires own { self.old.table_id ≡ desk.now.table.shared.table_id }
+        requires opened { self.old.me.0.opened ≡ Some desk.now.table.shared.key.value }
+        ensures knows { self.new ≡ record self.old { me = (told_raised self.old.me.0, self.old.me.1) } }
+    {
+        desk.raise(&mut self.seat);
+    }
+
+    /// Looks whether the stop is raised.
+    pub fn stopped(&mut self, desk: &Desk) -> bool
+        requires own { self.old.table_id ≡ desk.now.table.shared.table_id }
+        requires opened { self.old.me.0.opened ≡ Some desk.now.table.shared.key.value }
+        ensures knows { (word : ℕ) × (result ≡ (word == 1)) × (self.new ≡ record self.old { me = (told_found self.old.me.0 word, self.old.me.1) }) }
+    {
+        desk.found(&mut self.seat)
+    }
+}
+
+impl ManagerSeat {
+    /// Raises the stop.
+    pub fn stop(&mut self, desk: &Desk)
+        requires own { self.old.table_id ≡ desk.now.table.shared.table_id }
+        requires opened { self.old.me.0.opened ≡ Some desk.now.table.shared.key.value }
+        ensures knows { self.new ≡ record self.old { me = (told_raised self.old.me.0, self.old.me.1) } }
+    {
+        desk.raise(&mut self.seat);
+    }
+
+    /// Looks whether the stop is raised.
+    pub fn stopped(&mut self, desk: &Desk) -> bool
+        requires own { self.old.table_id ≡ desk.now.table.shared.table_id }
+        requires opened { self.old.me.0.opened ≡ Some desk.now.table.shared.key.value }
+        ensures knows { (word : ℕ) × (result ≡ (word == 1)) × (self.new ≡ record self.old { me = (told_found self.old.me.0 word, self.old.me.1) }) }
+    {
+        desk.found(&mut self.seat)
+    }
+}
+
+impl ClerkSeat {
+    /// Raises the stop.
+    pub fn stop(&mut self, desk: &Desk)
+        requires own { self.old.table_id ≡ desk.now.table.shared.table_id }
+        requires opened { self.old.me.0.opened ≡ Some desk.now.table.shared.key.value }
+        ensures knows { self.new ≡ record self.old { me = (told_raised self.old.me.0, self.old.me.1) } }
+    {
+        desk.raise(&mut self.seat);
+    }
+
+    /// Looks whether the stop is raised.
+    pub fn stopped(&mut self, desk: &Desk) -> bool
+        requires own { self.old.table_id ≡ desk.now.table.shared.table_id }
+        requires opened { self.old.me.0.opened ≡ Some desk.now.table.shared.key.value }
+        ensures knows { (word : ℕ) × (result ≡ (word == 1)) × (self.new ≡ record self.old { me = (told_found self.old.me.0 word, self.old.me.1) }) }
+    {
+        desk.found(&mut self.seat)
+    }
+}
+
+impl Head {
+    /// Looks whether the stop is raised.
+    pub fn stopped(&mut self, desk: &Desk) -> bool
+        requires own { self.old.table_id ≡ desk.now.table.shared.table_id }
+        requires opened { self.old.me.0.opened ≡ Some desk.now.table.shared.key.value }
+        ensures knows { (word : ℕ) × (result ≡ (word == 1)) × (self.new ≡ record self.old { me = (told_found self.old.me.0 word, self.old.me.1) }) }
+    {
+        desk.found(&mut self.seat)
+    }
+}

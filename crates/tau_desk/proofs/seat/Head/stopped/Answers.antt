@@ -1,0 +1,10 @@
+use Rattle.std.proofs.Common.{sym, subst}
+use Rattle.tau_rule.specs.Steps.{Sat}
+use Rattle.tau_desk.specs.Seats.{IsHead}
+use Rattle.tau_desk.proofs.Looking.{head-found}
+use Rattle.tau_desk.proofs.seat.Head.stopped.Goals as goal
+
+pub invariant_of-self : goal.invariant_of-self
+invariant_of-self c =
+    subst (λ (m : Sat). IsHead m c.self.inside.workers.items c.self.inside.managers.items c.self.inside.clerk c.self.inside.seen) (sym c.found.ensures.found.2)
+    (head-found c.self.inside.seat.me c.self.inside.workers.items c.self.inside.managers.items c.self.inside.clerk c.self.inside.seen c.found.ensures.found.0 c.self.invariant)
