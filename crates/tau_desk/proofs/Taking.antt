@@ -5,11 +5,13 @@ use Rattle.std.proofs.Math.Seq.{take-append_seam}
 use Rattle.tau_outbox.specs.declared.Piece.{Piece}
 use Rattle.tau_outbox.specs.Gather.{Gathers}
 use Rattle.tau_outbox.specs.Pieces.{bytes_of}
+use Rattle.tau_core.specs.Pieces.{IsPieceOf, Paired}
 use Rattle.tau_core.specs.State.{Plain}
+use Rattle.tau_core.specs.View.{tickets}
 use Rattle.tau_rule.specs.Role.{Managed, Managing, Role}
 use Rattle.tau_rule.specs.Knows.{Knows}
-use Rattle.tau_rule.specs.Rule.{IsPart, Now, manager_role, outbox_part}
-use Rattle.tau_rule.specs.Steps.{IsBack, Sat, first_role, handed, holding}
+use Rattle.tau_rule.specs.Rule.{IsOutbox, IsPart, Now, anchors_at, manager_role, outbox_part}
+use Rattle.tau_rule.specs.Steps.{IsBack, Sat, first_role, handed, holding, idle}
 use Rattle.tau_rule.specs.Boxes.{BoxOf, GivesGathered, box_in, gathered_by}
 use Rattle.tau_rule.specs.declared.part.Part.{Part}
 use Rattle.tau_rule.specs.declared.part.Part.TheVariants as part
@@ -109,3 +111,27 @@ told-holding k v p b taken left was front =
     let held : pieces_in (box_in p) ≡ taken ++ left = ap pieces_in was ∙ front in
     let is : gone (pieces_in (box_in p)) left ≡ taken = ap (λ (ps : List Piece). gone ps left) held ∙ gone-is taken left in
     ap (λ (ps : List Piece). managing v (gathered_by (managed_in v) ps)) is
+
+-- an outbox comes home with the same pieces and calls
+pub box-back : (key : Plain) (m m' : Sat) (u : ℕ) (r : Role) (w k : ℕ) (p q : Part) (b b' : BoxOf) → m.0.roles ≡ (u, r) ∷ [] → w < key.load.workers → k ≡ outbox_part w → m' ≡ (holding (outbox_part w) m.0 p, (outbox_part w, None) ∷ []) → box_in p ≡ Some b → box_in q ≡ Some b' →
+    b'.0.pieces ≡ b.0.pieces → b'.1.calls ≡ b.1.calls → b.0.room ≤ b'.0.room → b.1.room ≤ b'.1.room → IsBack key m' k q
+box-back key m m' u r w k p q b b' roles low number is was after pieces calls records pending =
+    subst (λ (n : ℕ). IsBack key m' n q) (sym number) (record {
+      taken = p;
+      number = u;
+      role = r;
+      held = ap (λ (x : Sat). x.0.hand) is;
+      carried = ap (λ (x : Sat). x.1) is;
+      roles = ap (λ (x : Sat). x.0.roles) is ∙ roles;
+      same = λ c h. (let box = part-box key c w p b was h in
+        let rooms = part-rooms key c w p b was h in
+        let now : IsOutbox key.load b'.0 b'.1 (anchors_at c.core) (c.core.outboxes w) = record {
+          posted = subst (λ (ps : List Piece). Paired (IsPieceOf key.load (anchors_at c.core)) ps (c.core.outboxes w).posted) (sym pieces) box.posted;
+          pending = box.pending ∙ ap tickets (sym calls);
+        } in
+        box-part key c w q b' after low now (let x = rooms.0 in omega (arith, x, records)) (let x = rooms.1 in omega (arith, x, pending)));
+    })
+
+-- a seat that gave its part back knows what it knew
+pub idle-again : (k : ℕ) (m : Sat) (p : Part) → m.0.hand ≡ None → m.1 ≡ [] → (idle (holding k m.0 p), []) ≡ m
+idle-again k m p none bare = λ i. (record m.0 { hand = sym none i }, sym bare i)

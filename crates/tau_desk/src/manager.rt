@@ -9,7 +9,7 @@ ghost use Rattle.tau_rule.specs.declared.part.Part.{Part as PartOf};
 ghost use Rattle.tau_desk.specs.Manages.{GathersBox};
 
 use crate::desk::Desk;
-use crate::seat::ManagerSeat;
+use crate::seat::{ManagerSeat, Stock};
 use std::sync::Wait;
 use tau_ack::Pending;
 use tau_base::{NoMemory, SHARDS};
@@ -38,6 +38,21 @@ pub(crate) fn take_box<R: Wait>(
     }
 }
 
+impl Stock {
+    // Where what it gathered ends.
+    fn upto(&self) -> u64
+        ensures { result ≡ self.now.gathered }
+    {
+        self.gathered
+    }
+
+    fn goes_to(&mut self, past: u64)
+        ensures { self.new ≡ record self.old { gathered = past } }
+    {
+        self.gathered = past;
+    }
+}
+
 impl ManagerSeat {
     /// Moves front pieces of the outbox of a worker of the stream to the body, as far as they continue the stream and fit. After NoMemory nothing has changed.
     pub fn gather<R: Wait>(
@@ -55,10 +70,10 @@ impl ManagerSeat {
         ensures same { OnErr result ((self.new ≡ self.old) × (body.new.items ≡ body.old.items)) }
     {
         let (mut outbox, pending) = take_box(rt, desk, &mut self.seat, worker);
-        match outbox.gather_into(self.stock.gathered, body) {
+        match outbox.gather_into(self.stock.upto(), body) {
             Ok(past) => {
                 desk.give_gathered(&mut self.seat, self.stream, worker, outbox, pending);
-                self.stock.gathered = past;
+                self.stock.goes_to(past);
                 Ok(())
             }
             Err(_) => {
