@@ -1,5 +1,5 @@
 -- The clerk acknowledges a call.
-use Rattle.std.proofs.Common.{◌≡◌, ℕ, ◌+◌, ◌<◌, ◌≤◌, inl, inr, List, [], ◌∷◌, ◌++◌, Option, length, refl, sym, ap, ◌∙◌, subst, arith, length-append, get_or-set_same, get_or-set_other}
+use Rattle.std.proofs.Common.{◌≡◌, ℕ, ◌+◌, ◌<◌, ◌≤◌, inl, inr, List, [], ◌∷◌, ◌++◌, Option, length, refl, sym, ap, ◌∙◌, subst, arith, length-append, length-set, get_or-set_same, get_or-set_other}
 use Rattle.std.specs.Prelude.{Some, None, slice_index_or, slice_set}
 use Rattle.std.proofs.lemmas.Bool.{cases_eq}
 use Rattle.tau_base.specs.Vectors.{AtMost}
@@ -9,6 +9,7 @@ use Rattle.tau_machine.specs.Events.{Ack, Leads, with_outbox}
 use Rattle.tau_machine.proofs.Accounts.{map-append}
 use Rattle.tau_machine.proofs.At.{at-same, at-other}
 use Rattle.tau_outbox.specs.declared.Piece.{Piece}
+use Rattle.tau_outbox.specs.Pieces.{PlainOutbox}
 use Rattle.tau_ack.specs.Pending.{TakesFirst}
 use Rattle.tau_ack.specs.declared.Waiting.{Waiting}
 use Rattle.tau_core.specs.Pieces.{IsPieceOf, Paired}
@@ -19,12 +20,14 @@ use Rattle.tau_shown.proofs.Steps.{gives_part}
 use Rattle.tau_rule.specs.Role.{Clerking, Managing, Role, Share, Working}
 use Rattle.tau_rule.specs.Knows.{Knows}
 use Rattle.tau_rule.specs.Rule.{IsOutbox, IsPart, IsRole, IsShare, Meets, Now, Rule, Sees, anchors_at, clerk_role, hand_of, has, manager_role, outbox_part, part_count, word_of}
-use Rattle.tau_rule.specs.Steps.{ComesHome, Sat, first_role, handed}
+use Rattle.tau_rule.specs.Steps.{ComesHome, Sat, first_role, handed, holding}
 use Rattle.tau_rule.specs.Boxes.{BoxOf, box_in}
 use Rattle.tau_rule.specs.declared.part.Part.{Part}
 use Rattle.tau_rule.specs.declared.part.Part.TheVariants as part
+use Rattle.tau_rule.proofs.Gives.{one-origin}
 use Rattle.tau_rule.proofs.Turns.{Turn, alone, more, one-role, reached-on, role-alone}
 use Rattle.tau_rule.proofs.Boxes.{box-part, part-box, part-rooms}
+use Rattle.tau_desk.specs.Seats.{IsClerkSeat}
 use Rattle.tau_desk.specs.Manages.{GivesAcked, acked_in, acked_in_share, told_acked}
 
 abbrev ticket-of : Waiting → Ticket
@@ -145,3 +148,55 @@ pub told_acked-is : (l : Load) (m : Sat) (b : BoxOf) (w : ℕ) (call : Waiting) 
 told_acked-is l m b w call g =
     let lists : acked_in m.0 ≡ g.acked = ap (λ (rs : List (ℕ × Role)). acked_in_share (first_role rs).1.share) g.roles ∙ ap acked_in_share g.share in
     λ i. handed m.0 (first_role (g.roles i)).0 (record (first_role (g.roles i)).1 { share = Clerking (acked-with (lists i) w call) })
+
+-- the clerk's seat of the desk that was opened with this core
+pub record At (origin : Plain) (m : Sat) : Type 0 where
+  pub role : Role
+  pub acked : List (List Ticket)
+  pub roles : m.0.roles ≡ (clerk_role origin.load, role) ∷ []
+  pub share : role.share ≡ Clerking acked
+  pub wide : length acked ≡ origin.load.workers
+
+pub at-key : (m : Sat) (seen : List ℕ) (key : Plain) → IsClerkSeat m seen → m.0.opened ≡ Some key → At key m
+at-key m seen key h opened = subst (λ (p : Plain). At p m) (one-origin h.origin key (sym h.opened ∙ opened)) (record { role = h.role; acked = h.acked; roles = h.roles; share = h.share; wide = h.wide })
+
+-- what it gives home with a call taken out
+pub box-acked : (key : Plain) (m m' : Sat) (h : At key m) (seen : List ℕ) (w : ℕ) (call : Waiting) (p : Part) (b b' : BoxOf) → m.0.seen ≡ seen → w < key.load.workers → m' ≡ (holding (outbox_part w) m.0 p, (outbox_part w, None) ∷ []) → box_in p ≡ Some b → b'.0 ≡ b.0 → b.1.room ≤ b'.1.room →
+    TakesFirst seen b.1.calls call b'.1.calls → GivesAcked key.load m' b' w call
+box-acked key m m' h seen w call p b b' seen_is low is was box room takes = record {
+  taken = p;
+  role = h.role;
+  acked = h.acked;
+  before = b;
+  held = ap (λ (x : Sat). x.0.hand) is;
+  carried = ap (λ (x : Sat). x.1) is;
+  roles = ap (λ (x : Sat). x.0.roles) is ∙ h.roles;
+  share = h.share;
+  wide = h.wide;
+  was = was;
+  there = low;
+  pieces = ap (λ (o : PlainOutbox). o.pieces) box;
+  takes = subst (λ (v : List ℕ). TakesFirst v b.1.calls call b'.1.calls) (sym (ap (λ (x : Sat). x.0.seen) is ∙ seen_is)) takes;
+  records = (let e = ap (λ (o : PlainOutbox). o.room) box in omega (arith, e));
+  calls = room;
+}
+
+pub seat-acked : (m : Sat) (seen : List ℕ) (w : ℕ) (call : Waiting) → IsClerkSeat m seen → IsClerkSeat (told_acked m.0 w call, []) seen
+seat-acked m seen w call h =
+    let u : ℕ = clerk_role h.origin.load in
+    let y : Role = record h.role { share = Clerking (acked-with h.acked w call) } in
+    let lists : acked_in m.0 ≡ h.acked = ap (λ (rs : List (ℕ × Role)). acked_in_share (first_role rs).1.share) h.roles ∙ ap acked_in_share h.share in
+    let knows : told_acked m.0 w call ≡ handed m.0 u y = (λ i. handed m.0 (first_role (h.roles i)).0 (record (first_role (h.roles i)).1 { share = Clerking (acked-with (lists i) w call) })) in
+    subst (λ (v : Knows). IsClerkSeat (v, []) seen) (sym knows) (record {
+      origin = h.origin;
+      role = y;
+      acked = acked-with h.acked w call;
+      opened = h.opened;
+      roles = refl;
+      idle = refl;
+      none = refl;
+      share = refl;
+      wide = length-set h.acked w (slice_index_or h.acked w [] ++ ticket-of call ∷ []) ∙ h.wide;
+      seen_is = h.seen_is;
+      seen_wide = h.seen_wide;
+    })

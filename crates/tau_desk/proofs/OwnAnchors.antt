@@ -1,1 +1,192 @@
 -- A manager gathers the records of its own anchors, and publishes an anchor.
+use Rattle.std.proofs.Common.{◌≡◌, ℕ, ◌+◌, ◌*◌, ◌^◌, ◌<◌, ◌≤◌, inl, inr, List, [], ◌∷◌, ◌++◌, Option, length, refl, sym, ap, ◌∙◌, subst, arith, length-append, length-set, get_or-set_same, get_or-set_other}
+use Rattle.std.specs.Prelude.{Some, None, slice_index, slice_set}
+use Rattle.std.proofs.Math.Path.{fun_ext}
+use Rattle.std.proofs.lemmas.Bool.{cases_eq}
+use Rattle.tau_base.specs.declared.limits.TheConstants.{MAX_RECORD}
+use Rattle.tau_model.specs.History.{Member}
+use Rattle.tau_model.proofs.Orders.{member-front}
+use Rattle.tau_machine.specs.Shard.{at}
+use Rattle.tau_machine.specs.Pieces.{Chain}
+use Rattle.tau_machine.specs.State.{Item, Stream, past_of, start_of}
+use Rattle.tau_machine.specs.Events.{Gather, Leads}
+use Rattle.tau_machine.proofs.At.{at-same, at-other}
+use Rattle.tau_machine.proofs.Pieces.{chain-member}
+use Rattle.tau_outbox.specs.declared.Piece.{Piece}
+use Rattle.tau_outbox.specs.Gather.{Continues}
+use Rattle.tau_outbox.specs.Pieces.{bytes_of}
+use Rattle.tau_core.specs.Pieces.{IsPieceOf, Names, Paired}
+use Rattle.tau_core.specs.State.{Plain}
+use Rattle.tau_core.specs.View.{setting_of}
+use Rattle.tau_core.proofs.Moved.{own_moved, own-moved}
+use Rattle.tau_core.proofs.Spellings.{Split, chain-of, paired-append, paired-split}
+use Rattle.tau_shown.proofs.Steps.{gives_part}
+use Rattle.tau_rule.specs.Role.{Clerking, Managed, Managing, Role, Share, Working}
+use Rattle.tau_rule.specs.Knows.{Knows}
+use Rattle.tau_rule.specs.Rule.{IsManaged, IsOutbox, IsPart, IsRole, IsShare, MAX_ANCHOR, Meets, Now, Rule, Sees, anchor_part, anchors_at, hand_of, has, manager_role, part_count, word_of}
+use Rattle.tau_rule.specs.Steps.{ComesHome, Sat, first_role, handed}
+use Rattle.tau_rule.specs.declared.part.Part.{Part}
+use Rattle.tau_rule.specs.declared.part.Part.TheVariants as part
+use Rattle.tau_rule.proofs.Turns.{Turn, alone, more, one-role, reached-invariant, reached-on, role-alone}
+use Rattle.tau_desk.specs.Manages.{GivesOwn, gone, managed_in, managing, own_gathered, told_own}
+use Rattle.tau_desk.proofs.Taking.{gone-is, managed-is, managing-is}
+
+-- the state after a Gather of these of its own anchors' records by the manager of stream j
+module _ (origin : Plain) (c : Now) (j : ℕ) (taken left : List Piece) (g : Managed) (old : Role) (there : j < origin.load.streams) (front : g.own ≡ taken ++ left) (continues : Continues g.gathered taken) (meets : Meets origin c) (mine : IsManaged origin.load j g c.core) where
+  split : Split (IsPieceOf origin.load (anchors_at c.core)) taken left (c.core.streams j).posted
+  split = paired-split (IsPieceOf origin.load (anchors_at c.core)) taken left (c.core.streams j).posted (subst (λ (z : List Piece). Paired (IsPieceOf origin.load (anchors_at c.core)) z (c.core.streams j).posted) front mine.own)
+
+  abbrev past : ℕ
+  past = g.gathered + length (bytes_of taken)
+
+  abbrev str_then : Stream
+  str_then = record (c.core.streams j) { posted = split.back; moved = (c.core.streams j).moved ++ split.front }
+
+  abbrev own_now : Now
+  own_now = record { core = own_moved (setting_of origin.load) j there c.core split.back ((c.core.streams j).moved ++ split.front) past; raised = c.raised; spare = c.spare }
+
+  abbrev managed_then : Managed
+  managed_then = record { taken = g.taken ++ taken; gathered = past; anchors = g.anchors; own = left }
+
+  here : own_now.core.streams j ≡ str_then
+  here = at-same j str_then c.core.streams
+
+  same : anchors_at own_now.core ≡ anchors_at c.core
+  same = fun_ext (λ i. elim (cases_eq i j) [
+    | inl is ↦ subst (λ (k : ℕ). (at j str_then c.core.streams k).anchors ≡ (c.core.streams k).anchors) (sym is) (ap (λ (x : Stream). x.anchors) here)
+    | inr ne ↦ ap (λ (x : Stream). x.anchors) (at-other j str_then c.core.streams i ne)
+  ])
+
+  wide : j < length c.core.gathered
+  wide = (let count = (reached-invariant origin c.core meets.reached).agrees.good.count_gathered in omega (arith, count, there))
+
+  rises : (i : Item) → Member i split.front → start_of i < past_of i
+  rises i m =
+      let o = (reached-invariant origin c.core meets.reached).agrees.pieces.stream j there in
+      let among : Member i (c.core.streams j).posted = subst (λ (x : List Item). Member i x) (sym split.is) (member-front i split.front split.back m) in
+      (chain-member (slice_index c.core.gathered j) (slice_index c.core.ends j) o.waiting i o.rest (o.posted i (inr among))).1
+
+  own-leads : Leads (setting_of origin.load) (Gather j) c.core own_now.core []
+  own-leads = (
+    own-moved (setting_of origin.load) j there split.front split.back c.core past wide (meets.going j) split.is
+        (subst (λ (n : ℕ). Chain n split.front past) (sym mine.gathered) (chain-of origin.load (anchors_at c.core) g.gathered taken split.front continues split.fronts rises)),
+    refl,
+  )
+
+  own-managed : IsManaged origin.load j managed_then own_now.core
+  own-managed = record {
+    moved = subst (λ (z : (ℕ → List (List ℕ)) × List Item). Paired (IsPieceOf origin.load z.0) (g.taken ++ taken) z.1) (λ i. (sym same i, ap (λ (x : Stream). x.moved) (sym here) i))
+        (paired-append (IsPieceOf origin.load (anchors_at c.core)) g.taken taken (c.core.streams j).moved split.front mine.moved split.fronts);
+    gathered = get_or-set_same c.core.gathered j past 0 wide;
+    anchors = ap (λ (x : Stream). x.anchors) here ∙ mine.anchors;
+    own = subst (λ (z : (ℕ → List (List ℕ)) × List Item). Paired (IsPieceOf origin.load z.0) left z.1) (λ i. (sym same i, ap (λ (x : Stream). x.posted) (sym here) i)) split.backs;
+  }
+
+  parts-stay : (k : ℕ) (q : Part) → IsPart origin.load k q c → IsPart origin.load k q own_now
+  parts-stay k (part.Shard b) h = h
+  parts-stay k (part.Outbox a b) h = (h.0, h.1, h.2, subst (λ (z : ℕ → List (List ℕ)). IsOutbox origin.load a.value b.value z (c.core.outboxes h.0)) (sym same) h.3, h.4, h.5)
+  parts-stay k (part.Anchor number lv) h = (h.0, h.1, h.2, subst (λ (z : ℕ → List (List ℕ)). Names origin.load h.0 (z h.0) number lv.value) (sym same) h.3)
+
+  shares-stay : (u : ℕ) (x : Share) → (u ≡ manager_role origin.load j → ⊥) → IsShare origin.load u x c.core → IsShare origin.load u x own_now.core
+  shares-stay u (Working x) apart h = h
+  shares-stay u (Managing m) apart h =
+      let other : h.0 ≡ j → ⊥ = (λ e. apart (h.1 ∙ ap (manager_role origin.load) e)) in
+      let at' = at-other j str_then c.core.streams h.0 other in (
+        h.0,
+        h.1,
+        h.2,
+        record {
+          moved = subst (λ (z : (ℕ → List (List ℕ)) × List Item). Paired (IsPieceOf origin.load z.0) m.taken z.1) (λ i. (sym same i, ap (λ (x : Stream). x.moved) (sym at') i)) h.3.moved;
+          gathered = get_or-set_other c.core.gathered j h.0 past 0 other ∙ h.3.gathered;
+          anchors = ap (λ (x : Stream). x.anchors) at' ∙ h.3.anchors;
+          own = subst (λ (z : (ℕ → List (List ℕ)) × List Item). Paired (IsPieceOf origin.load z.0) m.own z.1) (λ i. (sym same i, ap (λ (x : Stream). x.posted) (sym at') i)) h.3.own;
+        },
+      )
+  shares-stay u (Clerking acked) apart h = h
+
+  own-sees : (v : Knows) → Sees origin c v → Sees origin own_now v
+  own-sees v h = record {
+    opened = h.opened;
+    wide = h.wide;
+    low = h.low;
+    own = h.own;
+    read = λ u r lt e. subst (λ (z : ℕ → List (List ℕ)). Names origin.load ((setting_of origin.load).stream_of u) (z ((setting_of origin.load).stream_of u)) v.read.0 v.read.1) (sym same) (h.read u r lt e);
+    found = h.found;
+  }
+
+  no-stop : (i : ℕ) → (own_now.core.streams i).stop ≡ None
+  no-stop i = elim (cases_eq i j) [
+    | inl e ↦ subst (λ (k : ℕ). (at j str_then c.core.streams k).stop ≡ None) (sym e) (ap (λ (x : Stream). x.stop) here ∙ meets.going j)
+    | inr ne ↦ ap (λ (x : Stream). x.stop) (at-other j str_then c.core.streams i ne) ∙ meets.going i
+  ]
+
+  fits-on : (i : ℕ) → i < origin.load.streams → slice_index c.core.ends i ≤ slice_index origin.load.opening.ends i + MAX_RECORD * length (meets.reached.joined ++ []) + MAX_ANCHOR * length (anchors_at own_now.core i)
+  fits-on i lt = subst (λ (z : ℕ → List (List ℕ)). slice_index c.core.ends i ≤ slice_index origin.load.opening.ends i + MAX_RECORD * length (meets.reached.joined ++ []) + MAX_ANCHOR * length (z i)) (sym same)
+      (more _ _ (length meets.reached.joined) (length (meets.reached.joined ++ [])) _ (meets.fits i lt) (let a = length-append meets.reached.joined [] in omega arith))
+
+  own-turn : (k : ℕ) → c.raised (manager_role origin.load j) ≡ old.raised → c.spare (manager_role origin.load j) ≡ old.spare → Turn origin c own_now k (manager_role origin.load j) (record old { share = Managing managed_then })
+  own-turn k raised spare = record {
+    parts = λ i q lt apart h. parts-stay i q h;
+    mine = ((j, refl, there, own-managed), raised, spare);
+    others = λ u x apart h. (shares-stay u x.share apart h.0, h.1, h.2);
+    sight = λ v lacks h. own-sees v h;
+    kept = record {
+      reached = reached-on origin (Gather j) c.core own_now.core [] meets.reached own-leads;
+      going = no-stop;
+      fits = fits-on;
+      anchors = subst (λ (z : ℕ → List (List ℕ)). (i : ℕ) → i < origin.load.streams → length (z i) < 2 ^ 32) (sym same) meets.anchors;
+      opened = meets.opened;
+      limited = meets.limited;
+      beyond = meets.beyond;
+      shards = meets.shards;
+      streams = λ i low. ap (λ (f : ℕ → List (List ℕ)). f i) same ∙ meets.streams i low;
+    };
+  }
+
+-- a manager's seat, with another share of its own
+pub managing-sees : (origin : Plain) (c : Now) (v : Knows) (j : ℕ) (x y : Role) → j < origin.load.streams → has (manager_role origin.load j) v ≡ Some x → Sees origin c v → Sees origin c (handed v (manager_role origin.load j) y)
+managing-sees origin c v j x y there is h = record {
+  opened = λ u r e. h.opened (manager_role origin.load j) x is;
+  wide = λ u r e. h.wide (manager_role origin.load j) x is;
+  low = h.low;
+  own = λ i r lt e. let same = alone (manager_role origin.load j) y (manager_role origin.load i) r e in h.own i x lt (ap (λ (n : ℕ). has n v) same ∙ is);
+  read = λ w r lt e. absurd (let a = alone (manager_role origin.load j) y w r e in omega (arith, a, lt));
+  found = h.found;
+}
+
+pub share-managed : (origin : Plain) (j : ℕ) (x : Share) (g : Managed) (c : Now) → x ≡ Managing g → IsShare origin.load (manager_role origin.load j) x c.core → IsManaged origin.load j g c.core
+share-managed origin j x g c is h =
+    let it = subst (λ (y : Share). IsShare origin.load (manager_role origin.load j) y c.core) is h in
+    subst (λ (i : ℕ). IsManaged origin.load i g c.core) (let e = it.1 in omega (arith, e)) it.3
+
+-- the anchor part comes home as it was, and the manager has gathered these of its own anchors' records
+pub gives_own : (origin : Plain) (id : ℕ) (m : Sat) (j : ℕ) (taken left : List Piece) (g : GivesOwn origin m j taken left) →
+    ComesHome origin id m.0 (anchor_part origin.load j) g.part_taken (handed m.0 (manager_role origin.load j) (record g.role { share = Managing (record { taken = g.managed.taken ++ taken; gathered = g.managed.gathered + length (bytes_of taken); anchors = g.managed.anchors; own = left }) }))
+gives_own origin id m j taken left g =
+    let v : Knows = m.0 in
+    let u : ℕ = manager_role origin.load j in
+    let y : Role = record g.role { share = Managing (record { taken = g.managed.taken ++ taken; gathered = g.managed.gathered + length (bytes_of taken); anchors = g.managed.anchors; own = left }) } in
+    gives_part (IsPart origin.load) (IsRole origin.load) (word_of origin.load) hand_of has (Sees origin) (Meets origin) (part_count origin.load) (origin.load.streams + origin.load.streams + 1) id (anchor_part origin.load j) v (handed v u y) g.part_taken g.part_taken u g.role y g.held (one-role v u g.role g.roles) refl
+    (role-alone u y) (λ a z h. alone u y a z h)
+    (λ c meets part mine seen.
+    let mine' = share-managed origin j g.role.share g.managed c g.share mine.0 in
+    let c' : Now = own_now origin c j taken left g.managed g.role g.there g.front g.continues meets mine' in (
+      c',
+      own-turn origin c j taken left g.managed g.role g.there g.front g.continues meets mine' (anchor_part origin.load j) mine.1 mine.2,
+      parts-stay origin c j taken left g.managed g.role g.there g.front g.continues meets mine' (anchor_part origin.load j) g.part_taken part,
+      managing-sees origin c' v j g.role y g.there (one-role v u g.role g.roles) (own-sees origin c j taken left g.managed g.role g.there g.front g.continues meets mine' v seen),
+      (λ i low. refl),
+    ))
+    (λ found z. z ≡ (handed v u y, []))
+    (λ z. refl)
+
+pub own-is : (g : Managed) (taken left : List Piece) → g.own ≡ taken ++ left → own_gathered g left ≡ record { taken = g.taken ++ taken; gathered = g.gathered + length (bytes_of taken); anchors = g.anchors; own = left }
+own-is g taken left front =
+    let is : gone g.own left ≡ taken = ap (λ (ps : List Piece). gone ps left) front ∙ gone-is taken left in
+    λ i. record { taken = g.taken ++ is i; gathered = g.gathered + length (bytes_of (is i)); anchors = g.anchors; own = left }
+
+pub told_own-is : (origin : Plain) (m : Sat) (j : ℕ) (taken left : List Piece) (g : GivesOwn origin m j taken left) →
+    told_own m.0 left ≡ handed m.0 (manager_role origin.load j) (record g.role { share = Managing (record { taken = g.managed.taken ++ taken; gathered = g.managed.gathered + length (bytes_of taken); anchors = g.managed.anchors; own = left }) })
+told_own-is origin m j taken left g =
+    ap (managing m.0) (ap (λ (x : Managed). own_gathered x left) (managed-is m.0 (manager_role origin.load j) g.role g.managed g.roles g.share) ∙ own-is g.managed taken left g.front)
+    ∙ managing-is m.0 (manager_role origin.load j) g.role _ g.roles

@@ -1,9 +1,15 @@
 //! The clerk on its seat.
-ghost use Rattle.std.specs.Prelude.{◌≡◌, ◌<◌, ◌≤◌, Some, slice_index, slice_set};
+ghost use Rattle.std.specs.Prelude.{◌≡◌, ◌<◌, ◌≤◌, IfNone, IfSome, Some, slice_index, slice_set};
 ghost use Rattle.tau_rule.specs.Positions.{sees_to};
+ghost use Rattle.tau_desk.specs.Manages.{AcksFirst, AcksNone};
 
 use crate::desk::Desk;
+use crate::manager::take_box;
 use crate::seat::ClerkSeat;
+use std::sync::Wait;
+use tau_ack::Waiting;
+use tau_base::SHARDS;
+use tau_rule::Part;
 
 impl ClerkSeat {
     /// Looks how far a stream is persisted.
@@ -17,5 +23,27 @@ impl ClerkSeat {
         let upto = desk.persisted(&mut self.seat, stream as usize);
         self.seen.set(stream as usize, upto);
         upto
+    }
+
+    /// Acknowledges the first pending call of the worker whose vector is covered by the positions that the clerk has seen persisted.
+    pub fn ack<R: Wait>(&mut self, rt: &R, desk: &Desk, worker: u8) -> Option<Waiting>
+        requires own { self.old.table_id ≡ desk.now.table.shared.table_id }
+        requires opened { self.old.me.0.opened ≡ Some desk.now.table.shared.key.value }
+        requires there { worker < desk.now.table.shared.key.value.load.workers }
+        ensures acked { IfSome result (λ call. AcksFirst desk.now.table.shared.key.value self.old worker call self.new) }
+        ensures none { IfNone result (AcksNone desk.now.table.shared.key.value self.old worker self.new) }
+    {
+        let (outbox, mut pending) = take_box(rt, desk, &mut self.seat, worker);
+        match pending.take_covered(&self.seen) {
+            Some(call) => {
+                desk.give_acked(&mut self.seat, worker, outbox, pending, &call);
+                Some(call)
+            }
+            None => {
+                let part = Part::Outbox(outbox, pending);
+                desk.give_back(&mut self.seat, SHARDS + usize::from(worker), part);
+                None
+            }
+        }
     }
 }

@@ -18,13 +18,13 @@ impl Desk {
         worker: u8,
         outbox: Box<Outbox>,
         pending: Box<Pending>,
-        call: Waiting,
+        call: &Waiting,
     )
         requires own { seat.old.table_id ≡ self.now.table.shared.table_id }
         requires opened { seat.old.me.0.opened ≡ Some self.now.table.shared.key.value }
-        requires event { (b : BoxOf) × (b ≡ (outbox.value, pending.value)) × GivesAcked self.now.table.shared.key.value.load seat.old.me b worker call }
+        requires event { (b : BoxOf) × (b ≡ (outbox.value, pending.value)) × GivesAcked self.now.table.shared.key.value.load seat.old.me b worker call.now }
         ensures own { (seat.new.table_id ≡ seat.old.table_id) × (seat.new.id ≡ seat.old.id) }
-        ensures given { seat.new.me ≡ (told_acked seat.old.me.0 worker call, []) }
+        ensures given { seat.new.me ≡ (told_acked seat.old.me.0 worker call.now, []) }
     {
         self.give_acked_told::<Brand>(seat, worker, outbox, pending, call);
     }
@@ -35,14 +35,14 @@ impl Desk {
         worker: u8,
         outbox: Box<Outbox>,
         pending: Box<Pending>,
-        call: Waiting,
+        call: &Waiting,
     )
         requires own { seat.old.table_id ≡ self.now.table.shared.table_id }
         requires opened { seat.old.me.0.opened ≡ Some self.now.table.shared.key.value }
-        requires event { (b : BoxOf) × (b ≡ (outbox.value, pending.value)) × GivesAcked self.now.table.shared.key.value.load seat.old.me b worker call }
-        requires told { N.knows 0 ≡ told_acked seat.old.me.0 worker call }
+        requires event { (b : BoxOf) × (b ≡ (outbox.value, pending.value)) × GivesAcked self.now.table.shared.key.value.load seat.old.me b worker call.now }
+        requires told { N.knows 0 ≡ told_acked seat.old.me.0 worker call.now }
         ensures own { (seat.new.table_id ≡ seat.old.table_id) × (seat.new.id ≡ seat.old.id) }
-        ensures given { seat.new.me ≡ (told_acked seat.old.me.0 worker call, []) }
+        ensures given { seat.new.me ≡ (told_acked seat.old.me.0 worker call.now, []) }
     {
         let _ = call;
         let number = SHARDS + usize::from(worker);

@@ -1,10 +1,12 @@
 //! The manager of a stream on its seat.
-ghost use Rattle.std.specs.Prelude.{◌≡◌, ◌+◌, ◌%◌, ◌<◌, [], ◌∷◌, None, Some, ℕ, OnErr, OnOk};
-ghost use Rattle.tau_base.specs.declared.limits.TheConstants.{SHARDS};
+ghost use Rattle.std.specs.Prelude.{◌≡◌, ◌+◌, ◌%◌, ◌<◌, ◌≤◌, [], ◌∷◌, None, Some, ℕ, OnErr, OnOk, slice_index, slice_set};
+ghost use Rattle.tau_base.specs.declared.limits.TheConstants.{MAX_LSN, SHARDS};
 ghost use Rattle.tau_rule.specs.Role.{Role as RoleOf};
 ghost use Rattle.tau_rule.specs.Boxes.{box_in};
+ghost use Rattle.tau_rule.specs.Positions.{sees_to};
 ghost use Rattle.tau_rule.specs.Rule.{has};
-ghost use Rattle.tau_rule.specs.Steps.{Agrees, holding};
+ghost use Rattle.tau_shard.specs.Read.{shard_of};
+ghost use Rattle.tau_rule.specs.Steps.{Agrees, holding, shard_in};
 ghost use Rattle.tau_rule.specs.declared.part.Part.{Part as PartOf};
 ghost use Rattle.tau_desk.specs.Manages.{GathersBox};
 
@@ -15,6 +17,7 @@ use tau_ack::Pending;
 use tau_base::{NoMemory, SHARDS};
 use tau_outbox::Outbox;
 use tau_rule::{Part, Seat};
+use tau_shard::Shard;
 
 /// Takes the outbox of a worker.
 pub(crate) fn take_box<R: Wait>(
@@ -82,5 +85,60 @@ impl ManagerSeat {
                 Err(NoMemory)
             }
         }
+    }
+
+    /// Looks how far a stream is persisted.
+    pub fn persisted(&mut self, desk: &Desk, stream: u8) -> u64
+        requires own { self.old.table_id ≡ desk.now.table.shared.table_id }
+        requires opened { self.old.me.0.opened ≡ Some desk.now.table.shared.key.value }
+        requires there { stream < desk.now.streams }
+        ensures seen { slice_index self.old.seen stream ≤ result }
+        ensures knows { self.new ≡ record self.old { me = (sees_to stream result self.old.me.0, self.old.me.1); seen = slice_set self.old.seen stream result } }
+    {
+        let upto = desk.persisted(&mut self.seat, stream as usize);
+        self.seen.set(stream as usize, upto);
+        upto
+    }
+
+    /// Stores how far the stream is persisted.
+    pub fn persist(&mut self, desk: &Desk, durable: u64)
+        requires own { self.old.table_id ≡ desk.now.table.shared.table_id }
+        requires opened { self.old.me.0.opened ≡ Some desk.now.table.shared.key.value }
+        requires low { slice_index self.old.seen self.old.stream ≤ durable }
+        requires high { durable ≤ self.old.stock.gathered }
+        requires small { durable < MAX_LSN }
+        ensures knows { self.new ≡ record self.old { me = (sees_to self.old.stream durable self.old.me.0, self.old.me.1); seen = slice_set self.old.seen self.old.stream durable } }
+    {
+        desk.persist(&mut self.seat, self.stream as usize, durable);
+        self.seen.set(self.stream as usize, durable);
+    }
+
+    /// Drops the free entries of a shard that are covered by the positions that the manager has seen persisted.
+    pub fn drop_covered<R: Wait>(&mut self, rt: &R, desk: &Desk, number: u8)
+        requires own { self.old.table_id ≡ desk.now.table.shared.table_id }
+        requires opened { self.old.me.0.opened ≡ Some desk.now.table.shared.key.value }
+        requires there { number < SHARDS }
+        ensures same { self.new ≡ self.old }
+    {
+        let mut shard = take_free(rt, desk, &mut self.seat, number as usize);
+        shard.drop_covered(&self.seen);
+        desk.give_swept(&mut self.seat, number as usize, shard);
+    }
+}
+
+/// Takes a shard.
+fn take_free<R: Wait>(rt: &R, desk: &Desk, seat: &mut Seat, number: usize) -> Box<Shard>
+    requires own { seat.old.table_id ≡ desk.now.table.shared.table_id }
+    requires role { (u : ℕ) × (x : RoleOf) × (has u seat.old.me.0 ≡ Some x) }
+    requires opened { seat.old.me.0.opened ≡ Some desk.now.table.shared.key.value }
+    requires idle { (seat.old.me.1 ≡ []) × (seat.old.me.0.hand ≡ None) }
+    requires low { number < SHARDS }
+    ensures own { (seat.new.table_id ≡ seat.old.table_id) × (seat.new.id ≡ seat.old.id) }
+    ensures held { (p : PartOf) × (seat.new.me ≡ (holding number seat.old.me.0 p, (number, None) ∷ [])) × (shard_in p ≡ Some (shard_of result.value)) × Agrees desk.now.table.shared.key.value seat.old.me.0 number p }
+{
+    match desk.take(rt, seat, number) {
+        Part::Shard(shard) => shard,
+        Part::Outbox(_, _) => unreachable!(),
+        Part::Anchor(_, _) => unreachable!(),
     }
 }

@@ -2,16 +2,19 @@
 ghost use Rattle.std.specs.Prelude.{◌≡◌, ◌+◌, ◌<◌, [], ◌∷◌, None, Some, List};
 ghost use Rattle.tau_outbox.specs.declared.Piece.{Piece as PieceOf};
 ghost use Rattle.tau_rule.specs.Boxes.{GivesGathered};
-ghost use Rattle.tau_rule.specs.Rule.{outbox_part};
+ghost use Rattle.tau_rule.specs.Rule.{anchor_part, outbox_part};
 ghost use Rattle.tau_rule.specs.declared.part.Part.TheVariants.{Outbox as OutboxOf};
-ghost use Rattle.tau_desk.specs.Manages.{told_gathered};
+ghost use Rattle.tau_rule.specs.Steps.{idle};
+ghost use Rattle.tau_desk.specs.Manages.{GivesOwn, GivesSwept, told_gathered, told_own};
 
 use crate::desk::Desk;
+use crate::seat::Stock;
 use std::marker::Brand;
 use tau_ack::Pending;
 use tau_base::SHARDS;
 use tau_outbox::Outbox;
 use tau_rule::{Part, Seat, Told};
+use tau_shard::Shard;
 
 impl Desk {
     /// The outbox of a worker comes home, of which the manager has gathered front pieces.
@@ -50,5 +53,57 @@ impl Desk {
         let _ = stream;
         let number = SHARDS + usize::from(worker);
         self.come_home::<N>(seat, number, Part::Outbox(outbox, pending));
+    }
+
+    /// A shard comes home, of which free entries were dropped that the positions cover which the seat has seen persisted.
+    pub(crate) fn give_swept(&self, seat: &mut Seat, number: usize, shard: Box<Shard>)
+        requires own { seat.old.table_id ≡ self.now.table.shared.table_id }
+        requires part { number < self.now.parts }
+        requires event { GivesSwept seat.old.me number shard.value }
+        ensures own { (seat.new.table_id ≡ seat.old.table_id) × (seat.new.id ≡ seat.old.id) }
+        ensures given { seat.new.me ≡ (idle seat.old.me.0, []) }
+    {
+        self.give_swept_told::<Brand>(seat, number, shard);
+    }
+
+    fn give_swept_told<N: Told>(&self, seat: &mut Seat, number: usize, shard: Box<Shard>)
+        requires own { seat.old.table_id ≡ self.now.table.shared.table_id }
+        requires part { number < self.now.parts }
+        requires event { GivesSwept seat.old.me number shard.value }
+        requires told { N.knows 0 ≡ idle seat.old.me.0 }
+        ensures own { (seat.new.table_id ≡ seat.old.table_id) × (seat.new.id ≡ seat.old.id) }
+        ensures given { seat.new.me ≡ (idle seat.old.me.0, []) }
+    {
+        self.come_home::<N>(seat, number, Part::Shard(shard));
+    }
+
+    /// The number of the part with the published anchor of a stream.
+    pub(crate) fn anchor_number(&self, stream: u8) -> usize
+        requires there { stream < self.now.streams }
+        ensures { result ≡ anchor_part self.now.table.shared.key.value.load stream }
+    {
+        self.parts - self.streams + stream as usize
+    }
+
+    /// The anchor part comes home as it was, and the manager has gathered front records of its own anchors.
+    pub(crate) fn give_own(&self, seat: &mut Seat, stream: u8, part: Part, stock: &Stock)
+        requires own { seat.old.table_id ≡ self.now.table.shared.table_id }
+        requires event { (taken : List PieceOf) × (g : GivesOwn self.now.table.shared.key.value seat.old.me stream taken stock.now.own.pieces) × (g.part_taken ≡ part) }
+        ensures own { (seat.new.table_id ≡ seat.old.table_id) × (seat.new.id ≡ seat.old.id) }
+        ensures given { seat.new.me ≡ (told_own seat.old.me.0 stock.now.own.pieces, []) }
+    {
+        self.give_own_told::<Brand>(seat, stream, part, stock);
+    }
+
+    fn give_own_told<N: Told>(&self, seat: &mut Seat, stream: u8, part: Part, stock: &Stock)
+        requires own { seat.old.table_id ≡ self.now.table.shared.table_id }
+        requires event { (taken : List PieceOf) × (g : GivesOwn self.now.table.shared.key.value seat.old.me stream taken stock.now.own.pieces) × (g.part_taken ≡ part) }
+        requires told { N.knows 0 ≡ told_own seat.old.me.0 stock.now.own.pieces }
+        ensures own { (seat.new.table_id ≡ seat.old.table_id) × (seat.new.id ≡ seat.old.id) }
+        ensures given { seat.new.me ≡ (told_own seat.old.me.0 stock.now.own.pieces, []) }
+    {
+        let _ = stock;
+        let number = self.anchor_number(stream);
+        self.come_home::<N>(seat, number, part);
     }
 }
