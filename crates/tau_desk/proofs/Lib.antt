@@ -17,3 +17,4 @@ pub mod SplittingOff
 pub mod JoiningIn
 pub mod Assembling
 pub mod Taking
+pub mod Anchored

@@ -13,7 +13,7 @@ use Rattle.tau_machine.specs.Events.{Gather, Leads}
 use Rattle.tau_machine.proofs.At.{at-same, at-other}
 use Rattle.tau_machine.proofs.Pieces.{chain-member}
 use Rattle.tau_outbox.specs.declared.Piece.{Piece}
-use Rattle.tau_outbox.specs.Gather.{Continues}
+use Rattle.tau_outbox.specs.Gather.{Continues, Gathers}
 use Rattle.tau_outbox.specs.Pieces.{bytes_of}
 use Rattle.tau_core.specs.Pieces.{IsPieceOf, Names, Paired}
 use Rattle.tau_core.specs.State.{Plain}
@@ -24,12 +24,14 @@ use Rattle.tau_shown.proofs.Steps.{gives_part}
 use Rattle.tau_rule.specs.Role.{Clerking, Managed, Managing, Role, Share, Working}
 use Rattle.tau_rule.specs.Knows.{Knows}
 use Rattle.tau_rule.specs.Rule.{IsManaged, IsOutbox, IsPart, IsRole, IsShare, MAX_ANCHOR, Meets, Now, Rule, Sees, anchor_part, anchors_at, hand_of, has, manager_role, part_count, word_of}
-use Rattle.tau_rule.specs.Steps.{ComesHome, Sat, first_role, handed}
+use Rattle.tau_rule.specs.Steps.{ComesHome, Sat, first_role, handed, holding}
 use Rattle.tau_rule.specs.declared.part.Part.{Part}
 use Rattle.tau_rule.specs.declared.part.Part.TheVariants as part
 use Rattle.tau_rule.proofs.Turns.{Turn, alone, more, one-role, reached-invariant, reached-on, role-alone}
-use Rattle.tau_desk.specs.Manages.{GivesOwn, gone, managed_in, managing, own_gathered, told_own}
-use Rattle.tau_desk.proofs.Taking.{gone-is, managed-is, managing-is}
+use Rattle.tau_desk.specs.Shares.{IsStock, PlainStock}
+use Rattle.tau_desk.specs.Seats.{IsManagerSeat}
+use Rattle.tau_desk.specs.Manages.{GivesOwn, OnlyRoom, gone, managed_in, managing, own_gathered, told_own}
+use Rattle.tau_desk.proofs.Taking.{At, gone-is, managed-is, managing-is}
 
 -- the state after a Gather of these of its own anchors' records by the manager of stream j
 module _ (origin : Plain) (c : Now) (j : ℕ) (taken left : List Piece) (g : Managed) (old : Role) (there : j < origin.load.streams) (front : g.own ≡ taken ++ left) (continues : Continues g.gathered taken) (meets : Meets origin c) (mine : IsManaged origin.load j g c.core) where
@@ -190,3 +192,75 @@ pub told_own-is : (origin : Plain) (m : Sat) (j : ℕ) (taken left : List Piece)
 told_own-is origin m j taken left g =
     ap (managing m.0) (ap (λ (x : Managed). own_gathered x left) (managed-is m.0 (manager_role origin.load j) g.role g.managed g.roles g.share) ∙ own-is g.managed taken left g.front)
     ∙ managing-is m.0 (manager_role origin.load j) g.role _ g.roles
+
+-- what the manager gives home after a Gather of its own anchors' records
+pub own-gives : (key : Plain) (m m' : Sat) (j k : ℕ) (o : PlainStock) (h : At key m j o) (p : Part) (left : List Piece) (body longer : List ℕ) (past : ℕ) → k ≡ anchor_part key.load j → m' ≡ (holding k m.0 p, (k, None) ∷ []) → (g : Gathers o.gathered o.own.pieces left body longer past) →
+    (e : GivesOwn key m' j g.taken left) × (e.part_taken ≡ p)
+own-gives key m m' j k o h p left body longer upto number is g =
+    let s = h.stock in (
+      record {
+        part_taken = p;
+        role = h.role;
+        managed = s.managed;
+        opened = ap (λ (x : Sat). x.0.opened) is ∙ h.opened;
+        held = ap (λ (x : Sat). x.0.hand) is ∙ ap (λ (n : ℕ). Some (n, p)) number;
+        carried = ap (λ (x : Sat). x.1) is ∙ ap (λ (n : ℕ). (n, None) ∷ []) number;
+        roles = ap (λ (x : Sat). x.0.roles) is ∙ h.roles;
+        share = s.share;
+        there = s.there;
+        front = s.own ∙ g.front;
+        continues = subst (λ (n : ℕ). Continues n g.taken) (sym s.gathered) g.continues;
+      },
+      refl,
+    )
+
+pub seat-own : (m : Sat) (j : ℕ) (o o' : PlainStock) (seen body longer : List ℕ) → IsManagerSeat m j o seen → Gathers o.gathered o.own.pieces o'.own.pieces body longer o'.gathered → o'.anchors ≡ o.anchors → IsManagerSeat (told_own m.0 o'.own.pieces, []) j o' seen
+seat-own m j o o' seen body longer h g anchors =
+    let s = h.stock in
+    let u : ℕ = manager_role h.origin.load j in
+    let then : Managed = record { taken = s.managed.taken ++ g.taken; gathered = s.managed.gathered + length (bytes_of g.taken); anchors = s.managed.anchors; own = o'.own.pieces } in
+    let y : Role = record h.role { share = Managing then } in
+    let knows : told_own m.0 o'.own.pieces ≡ handed m.0 u y =
+        ap (managing m.0) (ap (λ (x : Managed). own_gathered x o'.own.pieces) (managed-is m.0 u h.role s.managed h.roles s.share) ∙ own-is s.managed g.taken o'.own.pieces (s.own ∙ g.front))
+        ∙ managing-is m.0 u h.role then h.roles in
+    subst (λ (v : Knows). IsManagerSeat (v, []) j o' seen) (sym knows) (record {
+      origin = h.origin;
+      role = y;
+      opened = h.opened;
+      roles = refl;
+      idle = refl;
+      none = refl;
+      stock = record {
+        managed = then;
+        share = refl;
+        there = s.there;
+        anchors = s.anchors ∙ sym anchors;
+        own = refl;
+        gathered = ap (λ (n : ℕ). n + length (bytes_of g.taken)) s.gathered ∙ sym g.past;
+        wide = λ a e. s.wide a (subst (λ (l : List (List ℕ)). Member a l) anchors e);
+      };
+      seen_is = h.seen_is;
+      seen_wide = h.seen_wide;
+    })
+
+-- more room is no change
+pub seat-roomier : (m : Sat) (j : ℕ) (o o' : PlainStock) (seen : List ℕ) → IsManagerSeat m j o seen → OnlyRoom o o' → IsManagerSeat m j o' seen
+seat-roomier m j o o' seen h r = record {
+  origin = h.origin;
+  role = h.role;
+  opened = h.opened;
+  roles = h.roles;
+  idle = h.idle;
+  none = h.none;
+  stock = (let s = h.stock in record {
+    managed = s.managed;
+    share = s.share;
+    there = s.there;
+    anchors = s.anchors ∙ sym r.anchors;
+    own = s.own ∙ sym r.pieces;
+    gathered = s.gathered ∙ sym r.gathered;
+    wide = λ a e. s.wide a (subst (λ (l : List (List ℕ)). Member a l) r.anchors e);
+  });
+  seen_is = h.seen_is;
+  seen_wide = h.seen_wide;
+}

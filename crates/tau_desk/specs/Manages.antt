@@ -1,5 +1,6 @@
 -- What the steps of managers and of the clerk owe and tell, besides a Gather of an outbox, which owes `GivesGathered`, and the place of an anchor, which owes `IsToAnchor`.
-use Rattle.std.specs.Prelude.{ℕ, ◌+◌, ◌-◌, ◌≤◌, ◌<◌, ◌≡◌, ◌==◌, ◌||◌, true, Option, Some, None, List, [], ◌∷◌, ◌++◌, length, slice_index_or, slice_set, take}
+use Rattle.std.specs.Prelude.{ℕ, false, ◌+◌, ◌-◌, ◌≤◌, ◌<◌, ◌≡◌, ◌==◌, ◌||◌, true, Option, Some, None, List, [], ◌∷◌, ◌++◌, length, slice_index_or, slice_set, take}
+use Rattle.tau_base.specs.declared.limits.TheConstants.{MAX_LSN}
 use Rattle.tau_machine.specs.Shard.{Shard, Dropped}
 use Rattle.tau_machine.specs.State.{Ticket}
 use Rattle.tau_outbox.specs.declared.Piece.{Piece}
@@ -9,6 +10,9 @@ use Rattle.tau_ack.specs.Pending.{NoneCovered, TakesFirst}
 use Rattle.tau_ack.specs.declared.Waiting.{Waiting}
 use Rattle.tau_shard.specs.Plain.{PlainShard}
 use Rattle.tau_shard.specs.Read.{shard_of}
+use Rattle.tau_record.specs.Format.{One}
+use Rattle.tau_record.specs.Record.{Spells}
+use Rattle.tau_record.specs.declared.entry.Entry.TheVariants as entry
 use Rattle.tau_core.specs.declared.state.Load.{Load}
 use Rattle.tau_core.specs.Pieces.{Names}
 use Rattle.tau_core.specs.State.{Plain}
@@ -16,8 +20,10 @@ use Rattle.tau_rule.specs.Role.{Clerking, Managed, Managing, Role, Share, Workin
 use Rattle.tau_rule.specs.Knows.{Knows}
 use Rattle.tau_rule.specs.Rule.{anchor_part, clerk_role, manager_role, outbox_part}
 use Rattle.tau_rule.specs.Steps.{Agrees, Sat, first_role, handed, shard_in}
+use Rattle.tau_rule.specs.Anchoring.{anchored}
 use Rattle.tau_rule.specs.Boxes.{BoxOf, box_in, gathered_by}
 use Rattle.tau_rule.specs.declared.part.Part.{Part}
+use Rattle.tau_desk.specs.Shares.{PlainStock}
 use Rattle.tau_desk.specs.Seats.{PlainClerkSeat, PlainManagerSeat}
 use Rattle.tau_desk.specs.Works.{anchor_in}
 
@@ -165,3 +171,36 @@ pub record AcksNone (origin : Plain) (s : PlainClerkSeat) (w : ℕ) (s' : PlainC
   pub was : box_in part_taken ≡ Some before
   pub none : NoneCovered s.seen before.1.calls
   pub after : s' ≡ s
+
+-- the manager moved the longest front of its own anchors' records that continues the stream and fits to the body, and knows that it has gathered just these
+pub record GathersOwn (s : PlainManagerSeat) (body : List ℕ) (s' : PlainManagerSeat) (longer : List ℕ) : Type 0 where
+  pub moved : Gathers s.stock.gathered s.stock.own.pieces s'.stock.own.pieces body longer s'.stock.gathered
+  pub room : s.stock.own.room ≤ s'.stock.own.room
+  pub after : s' ≡ record s { me = (told_own s.me.0 s'.stock.own.pieces, []); stock = record s.stock { own = s'.stock.own; gathered = s'.stock.gathered } }
+
+-- only room was made in what the manager has of its own
+pub record OnlyRoom (o o' : PlainStock) : Type 0 where
+  pub anchors : o'.anchors ≡ o.anchors
+  pub pieces : o'.own.pieces ≡ o.own.pieces
+  pub gathered : o'.gathered ≡ o.gathered
+  pub records : o.own.room ≤ o'.own.room
+  pub vectors : o.room ≤ o'.room
+
+-- what the manager knows that has placed an anchor with these bytes there, which holds what it has seen
+abbrev pub told_anchored : Knows → List ℕ → ℕ → Knows
+told_anchored v bytes start = record v { roles = ((first_role v.roles).0, record (first_role v.roles).1 { share = Managing (anchored (managed_in v) v.seen bytes start) }) ∷ [] }
+
+-- one anchor more, whose record starts there
+pub record PutsAnchor (o : PlainStock) (lv bytes : List ℕ) (start : ℕ) (o' : PlainStock) : Type 0 where
+  pub anchors : o'.anchors ≡ o.anchors ++ lv ∷ []
+  pub pieces : o'.own.pieces ≡ o.own.pieces ++ record { start = start; bytes = bytes } ∷ []
+  pub gathered : o'.gathered ≡ o.gathered
+
+-- the manager has placed an anchor that holds what it has seen persisted
+pub record PlacesAnchor (l : Load) (s s' : PlainManagerSeat) : Type 0 where
+  pub bytes : List ℕ
+  pub start : ℕ
+  pub spelled : (vectors : List (List ℕ)) → Spells One l.streams vectors false (entry.Anchor s.seen) bytes
+  pub small : start + length bytes < MAX_LSN
+  pub puts : PutsAnchor s.stock s.seen bytes start s'.stock
+  pub after : s' ≡ record s { me = (told_anchored s.me.0 bytes start, []); stock = s'.stock }

@@ -1,5 +1,5 @@
 //! The manager of a stream on its seat.
-ghost use Rattle.std.specs.Prelude.{◌≡◌, ◌+◌, ◌%◌, ◌<◌, ◌≤◌, [], ◌∷◌, None, Some, ℕ, OnErr, OnOk, slice_index, slice_set};
+ghost use Rattle.std.specs.Prelude.{◌≡◌, ◌+◌, ◌-◌, ◌%◌, ◌^◌, ◌<◌, ◌≤◌, [], ◌∷◌, None, Some, ℕ, OnErr, OnOk, length, slice_index, slice_set, vec_len};
 ghost use Rattle.tau_base.specs.declared.limits.TheConstants.{MAX_LSN, SHARDS};
 ghost use Rattle.tau_rule.specs.Role.{Role as RoleOf};
 ghost use Rattle.tau_rule.specs.Boxes.{box_in};
@@ -8,14 +8,17 @@ ghost use Rattle.tau_rule.specs.Rule.{has};
 ghost use Rattle.tau_shard.specs.Read.{shard_of};
 ghost use Rattle.tau_rule.specs.Steps.{Agrees, holding, shard_in};
 ghost use Rattle.tau_rule.specs.declared.part.Part.{Part as PartOf};
-ghost use Rattle.tau_desk.specs.Manages.{GathersBox};
+ghost use Rattle.tau_outbox.specs.Gather.{Gathers};
+ghost use Rattle.tau_outbox.specs.Pieces.{end_of};
+ghost use Rattle.tau_desk.specs.Manages.{GathersBox, GathersOwn, OnlyRoom, PlacesAnchor, PutsAnchor};
 
 use crate::desk::Desk;
 use crate::seat::{ManagerSeat, Stock};
 use std::sync::Wait;
 use tau_ack::Pending;
-use tau_base::{NoMemory, SHARDS};
+use tau_base::{Lv, NoMemory, SHARDS};
 use tau_outbox::Outbox;
+use tau_record::encode_anchor;
 use tau_rule::{Part, Seat};
 use tau_shard::Shard;
 
@@ -53,6 +56,46 @@ impl Stock {
         ensures { self.new ≡ record self.old { gathered = past } }
     {
         self.gathered = past;
+    }
+
+    // Gathers front records of its own anchors.
+    fn gather_own(&mut self, body: &mut Vec<u8>) -> Result<(), NoMemory>
+        ensures moved { OnOk result (Gathers self.old.gathered self.old.own.pieces self.new.own.pieces body.old.items body.new.items self.new.gathered) }
+        ensures rest { (self.new.anchors ≡ self.old.anchors) × (self.new.room ≡ self.old.room) × (self.old.own.room ≤ self.new.own.room) }
+        ensures same { OnErr result ((self.new.own.pieces ≡ self.old.own.pieces) × (self.new.gathered ≡ self.old.gathered) × (body.new.items ≡ body.old.items)) }
+    {
+        match self.own.gather_into(self.gathered, body) {
+            Ok(past) => {
+                self.gathered = past;
+                Ok(())
+            }
+            Err(_) => Err(NoMemory),
+        }
+    }
+
+    // Makes room for one more anchor.
+    fn reserve(&mut self) -> Result<(), NoMemory>
+        ensures room { OnOk result ((1 ≤ self.new.room) × (1 ≤ self.new.own.room)) }
+        ensures kept { OnlyRoom self.old self.new }
+    {
+        if self.own.reserve().is_err() {
+            return Err(NoMemory);
+        }
+        match self.anchors.try_reserve(1) {
+            Ok(()) => Ok(()),
+            Err(_) => Err(NoMemory),
+        }
+    }
+
+    // One anchor more. It takes no memory.
+    fn put(&mut self, lv: &Lv, start: u64, bytes: Vec<u8>)
+        requires room { (1 ≤ self.old.room) × (1 ≤ self.old.own.room) }
+        requires order { end_of 0 self.old.own.pieces ≤ start }
+        requires small { start + vec_len bytes < MAX_LSN }
+        ensures puts { PutsAnchor self.old lv.now bytes.items start self.new }
+    {
+        let _ = self.anchors.push(*lv);
+        self.own.post(start, bytes);
     }
 }
 
@@ -123,6 +166,61 @@ impl ManagerSeat {
         let mut shard = take_free(rt, desk, &mut self.seat, number as usize);
         shard.drop_covered(&self.seen);
         desk.give_swept(&mut self.seat, number as usize, shard);
+    }
+}
+
+impl ManagerSeat {
+    /// Moves front records of its own anchors to the body, as far as they continue the stream and fit. After NoMemory nothing has changed but room.
+    pub fn gather_own<R: Wait>(
+        &mut self,
+        rt: &R,
+        desk: &Desk,
+        body: &mut Vec<u8>,
+    ) -> Result<(), NoMemory>
+        requires own { self.old.table_id ≡ desk.now.table.shared.table_id }
+        requires opened { self.old.me.0.opened ≡ Some desk.now.table.shared.key.value }
+        ensures gathers { OnOk result (GathersOwn self.old body.old.items self.new body.new.items) }
+        ensures same { OnErr result (OnlyRoom self.old.stock self.new.stock × (self.new ≡ record self.old { stock = self.new.stock }) × (body.new.items ≡ body.old.items)) }
+    {
+        match self.stock.gather_own(body) {
+            Ok(()) => {
+                let number = desk.anchor_number(self.stream);
+                let part = desk.take(rt, &mut self.seat, number);
+                desk.give_own(&mut self.seat, self.stream, part, &self.stock);
+                Ok(())
+            }
+            Err(_) => Err(NoMemory),
+        }
+    }
+
+    /// Places an anchor that holds the positions which the manager has seen persisted. After NoMemory nothing has changed.
+    pub fn place_anchor<R: Wait>(&mut self, rt: &R, desk: &Desk) -> Result<(), NoMemory>
+        requires own { self.old.table_id ≡ desk.now.table.shared.table_id }
+        requires opened { self.old.me.0.opened ≡ Some desk.now.table.shared.key.value }
+        requires room { (1 ≤ self.old.stock.room) × (1 ≤ self.old.stock.own.room) }
+        requires few { slice_index desk.now.table.shared.key.value.load.opening.anchors.items self.old.stream + length self.old.stock.anchors < 2 ^ 32 - 1 }
+        ensures placed { OnOk result (PlacesAnchor desk.now.table.shared.key.value.load self.old self.new) }
+        ensures same { OnErr result (self.new ≡ self.old) }
+    {
+        match encode_anchor(desk.kept.alloc, &self.seen) {
+            Ok(bytes) => {
+                let start = desk.place_anchor(&mut self.seat, self.stream, &bytes);
+                let number = desk.anchor_number(self.stream);
+                let part = desk.take(rt, &mut self.seat, number);
+                self.stock.put(&self.seen, start, bytes);
+                desk.give_back(&mut self.seat, number, part);
+                Ok(())
+            }
+            Err(_) => Err(NoMemory),
+        }
+    }
+
+    /// Makes room for one more anchor.
+    pub fn reserve(&mut self) -> Result<(), NoMemory>
+        ensures room { OnOk result ((1 ≤ self.new.stock.room) × (1 ≤ self.new.stock.own.room)) }
+        ensures kept { OnlyRoom self.old.stock self.new.stock × (self.new ≡ record self.old { stock = self.new.stock }) }
+    {
+        self.stock.reserve()
     }
 }
 

@@ -1,11 +1,12 @@
 //! Parts come home from a manager.
-ghost use Rattle.std.specs.Prelude.{◌≡◌, ◌+◌, ◌<◌, [], ◌∷◌, None, Some, List};
+ghost use Rattle.std.specs.Prelude.{◌≡◌, ◌+◌, ◌<◌, ◌^◌, [], ◌∷◌, None, Some, List, vec_len};
 ghost use Rattle.tau_outbox.specs.declared.Piece.{Piece as PieceOf};
 ghost use Rattle.tau_rule.specs.Boxes.{GivesGathered};
 ghost use Rattle.tau_rule.specs.Rule.{anchor_part, outbox_part};
 ghost use Rattle.tau_rule.specs.declared.part.Part.TheVariants.{Outbox as OutboxOf};
 ghost use Rattle.tau_rule.specs.Steps.{idle};
-ghost use Rattle.tau_desk.specs.Manages.{GivesOwn, GivesSwept, told_gathered, told_own};
+ghost use Rattle.tau_desk.specs.Manages.{GivesOwn, GivesSwept, told_anchored, told_gathered, told_own};
+ghost use Rattle.tau_rule.specs.Anchoring.{IsToAnchor};
 
 use crate::desk::Desk;
 use crate::seat::Stock;
@@ -13,7 +14,7 @@ use std::marker::Brand;
 use tau_ack::Pending;
 use tau_base::SHARDS;
 use tau_outbox::Outbox;
-use tau_rule::{Part, Seat, Told};
+use tau_rule::{Part, Place, Seat, Told};
 use tau_shard::Shard;
 
 impl Desk {
@@ -105,5 +106,29 @@ impl Desk {
         let _ = stock;
         let number = self.anchor_number(stream);
         self.come_home::<N>(seat, number, part);
+    }
+
+    /// An anchor that holds what the manager has seen gets the place of its record, which has these bytes.
+    pub(crate) fn place_anchor(&self, seat: &mut Seat, stream: u8, bytes: &Vec<u8>) -> u64
+        requires own { seat.old.table_id ≡ self.now.table.shared.table_id }
+        requires anchor { IsToAnchor self.now.table.shared.key.value stream seat.old.me bytes.now.items }
+        ensures own { (seat.new.table_id ≡ seat.old.table_id) × (seat.new.id ≡ seat.old.id) }
+        ensures placed { seat.new.me ≡ (told_anchored seat.old.me.0 bytes.now.items result, seat.old.me.1) }
+        ensures small { result + vec_len bytes.now < 2 ^ 62 }
+    {
+        self.place_anchor_as::<Brand>(seat, stream, bytes)
+    }
+
+    fn place_anchor_as<N: Told>(&self, seat: &mut Seat, stream: u8, bytes: &Vec<u8>) -> u64
+        requires own { seat.old.table_id ≡ self.now.table.shared.table_id }
+        requires anchor { IsToAnchor self.now.table.shared.key.value stream seat.old.me bytes.now.items }
+        requires told { N.knows ≡ told_anchored seat.old.me.0 bytes.now.items }
+        ensures own { (seat.new.table_id ≡ seat.old.table_id) × (seat.new.id ≡ seat.old.id) }
+        ensures placed { seat.new.me ≡ (told_anchored seat.old.me.0 bytes.now.items result, seat.old.me.1) }
+        ensures small { result + vec_len bytes.now < 2 ^ 62 }
+    {
+        let word = 8 * (self.parts + stream as usize);
+        let size = bytes.len() as u64;
+        self.table.shared.fetch_add::<Place<N>>(seat, word, size)
     }
 }
