@@ -18,3 +18,4 @@ pub mod JoiningIn
 pub mod Assembling
 pub mod Taking
 pub mod Anchored
+pub mod Publishing

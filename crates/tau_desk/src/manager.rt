@@ -1,15 +1,16 @@
 //! The manager of a stream on its seat.
-ghost use Rattle.std.specs.Prelude.{◌≡◌, ◌+◌, ◌-◌, ◌%◌, ◌^◌, ◌<◌, ◌≤◌, [], ◌∷◌, None, Some, ℕ, OnErr, OnOk, length, slice_index, slice_set, vec_len};
+ghost use Rattle.std.specs.Prelude.{◌≡◌, ◌+◌, ◌-◌, ◌%◌, ◌^◌, ◌<◌, ◌≤◌, [], ◌∷◌, None, Some, ℕ, IfSome, OnErr, OnOk, length, slice_get, slice_index, slice_set, vec_len};
 ghost use Rattle.tau_base.specs.declared.limits.TheConstants.{MAX_LSN, SHARDS};
 ghost use Rattle.tau_rule.specs.Role.{Role as RoleOf};
 ghost use Rattle.tau_rule.specs.Boxes.{box_in};
 ghost use Rattle.tau_rule.specs.Positions.{sees_to};
-ghost use Rattle.tau_rule.specs.Rule.{has};
+ghost use Rattle.tau_rule.specs.Rule.{anchor_part, has};
 ghost use Rattle.tau_shard.specs.Read.{shard_of};
 ghost use Rattle.tau_rule.specs.Steps.{Agrees, holding, shard_in};
 ghost use Rattle.tau_rule.specs.declared.part.Part.{Part as PartOf};
 ghost use Rattle.tau_outbox.specs.Gather.{Gathers};
 ghost use Rattle.tau_outbox.specs.Pieces.{end_of};
+ghost use Rattle.tau_desk.specs.Works.{anchor_in};
 ghost use Rattle.tau_desk.specs.Manages.{GathersBox, GathersOwn, OnlyRoom, PlacesAnchor, PutsAnchor};
 
 use crate::desk::Desk;
@@ -71,6 +72,22 @@ impl Stock {
             }
             Err(_) => Err(NoMemory),
         }
+    }
+
+    // The newest anchor with its number, where the stream was opened with so many, and where it is newer than this.
+    fn newer(&self, first: u32, before: u32) -> Option<(u32, Lv)>
+        requires few { first + length self.now.anchors < 2 ^ 32 }
+        ensures newest { IfSome result (λ p. (before < p.0) × (i : ℕ) × (p.0 ≡ first + i + 1) × (slice_get self.now.anchors i ≡ Some p.1)) }
+    {
+        let count = self.anchors.len();
+        if count == 0 {
+            return None;
+        }
+        let newest = first + count as u32;
+        if newest <= before {
+            return None;
+        }
+        Some((newest, self.anchors[count - 1]))
     }
 
     // Makes room for one more anchor.
@@ -215,12 +232,50 @@ impl ManagerSeat {
         }
     }
 
+    /// Publishes the newest anchor that the manager placed, where it is newer than the one published before.
+    pub fn publish<R: Wait>(&mut self, rt: &R, desk: &Desk)
+        requires own { self.old.table_id ≡ desk.now.table.shared.table_id }
+        requires opened { self.old.me.0.opened ≡ Some desk.now.table.shared.key.value }
+        requires few { slice_index desk.now.table.shared.key.value.load.opening.anchors.items self.old.stream + length self.old.stock.anchors < 2 ^ 32 }
+        ensures same { self.new ≡ self.old }
+    {
+        let number = desk.anchor_number(self.stream);
+        let (before, mut lv) = take_anchor(rt, desk, &mut self.seat, number);
+        let first = desk.load.opening.anchors.as_slice()[self.stream as usize];
+        match self.stock.newer(first, before) {
+            Some((newest, vector)) => {
+                *lv = vector;
+                desk.give_published(&mut self.seat, self.stream, newest, lv);
+            }
+            None => {
+                desk.give_back(&mut self.seat, number, Part::Anchor(before, lv));
+            }
+        }
+    }
+
     /// Makes room for one more anchor.
     pub fn reserve(&mut self) -> Result<(), NoMemory>
         ensures room { OnOk result ((1 ≤ self.new.stock.room) × (1 ≤ self.new.stock.own.room)) }
         ensures kept { OnlyRoom self.old.stock self.new.stock × (self.new ≡ record self.old { stock = self.new.stock }) }
     {
         self.stock.reserve()
+    }
+}
+
+/// Takes a published anchor.
+fn take_anchor<R: Wait>(rt: &R, desk: &Desk, seat: &mut Seat, number: usize) -> (u32, Box<Lv>)
+    requires own { seat.old.table_id ≡ desk.now.table.shared.table_id }
+    requires role { (u : ℕ) × (x : RoleOf) × (has u seat.old.me.0 ≡ Some x) }
+    requires opened { seat.old.me.0.opened ≡ Some desk.now.table.shared.key.value }
+    requires idle { (seat.old.me.1 ≡ []) × (seat.old.me.0.hand ≡ None) }
+    requires there { (j : ℕ) × (j < desk.now.streams) × (number ≡ anchor_part desk.now.table.shared.key.value.load j) }
+    ensures own { (seat.new.table_id ≡ seat.old.table_id) × (seat.new.id ≡ seat.old.id) }
+    ensures held { (p : PartOf) × (seat.new.me ≡ (holding number seat.old.me.0 p, (number, None) ∷ [])) × (anchor_in p ≡ Some (result.0, result.1.value)) × Agrees desk.now.table.shared.key.value seat.old.me.0 number p }
+{
+    match desk.take(rt, seat, number) {
+        Part::Anchor(before, lv) => (before, lv),
+        Part::Shard(_) => unreachable!(),
+        Part::Outbox(_, _) => unreachable!(),
     }
 }
 

@@ -5,14 +5,14 @@ ghost use Rattle.tau_rule.specs.Boxes.{GivesGathered};
 ghost use Rattle.tau_rule.specs.Rule.{anchor_part, outbox_part};
 ghost use Rattle.tau_rule.specs.declared.part.Part.TheVariants.{Outbox as OutboxOf};
 ghost use Rattle.tau_rule.specs.Steps.{idle};
-ghost use Rattle.tau_desk.specs.Manages.{GivesOwn, GivesSwept, told_anchored, told_gathered, told_own};
+ghost use Rattle.tau_desk.specs.Manages.{GivesOwn, GivesPublished, GivesSwept, told_anchored, told_gathered, told_own};
 ghost use Rattle.tau_rule.specs.Anchoring.{IsToAnchor};
 
 use crate::desk::Desk;
 use crate::seat::Stock;
 use std::marker::Brand;
 use tau_ack::Pending;
-use tau_base::SHARDS;
+use tau_base::{Lv, SHARDS};
 use tau_outbox::Outbox;
 use tau_rule::{Part, Place, Seat, Told};
 use tau_shard::Shard;
@@ -130,5 +130,32 @@ impl Desk {
         let word = 8 * (self.parts + stream as usize);
         let size = bytes.len() as u64;
         self.table.shared.fetch_add::<Place<N>>(seat, word, size)
+    }
+
+    /// The anchor part comes home with a newer anchor that the manager placed.
+    pub(crate) fn give_published(&self, seat: &mut Seat, stream: u8, number: u32, lv: Box<Lv>)
+        requires own { seat.old.table_id ≡ self.now.table.shared.table_id }
+        requires event { GivesPublished self.now.table.shared.key.value seat.old.me stream number lv.value }
+        ensures own { (seat.new.table_id ≡ seat.old.table_id) × (seat.new.id ≡ seat.old.id) }
+        ensures given { seat.new.me ≡ (idle seat.old.me.0, []) }
+    {
+        self.give_published_told::<Brand>(seat, stream, number, lv);
+    }
+
+    fn give_published_told<N: Told>(
+        &self,
+        seat: &mut Seat,
+        stream: u8,
+        number: u32,
+        lv: Box<Lv>,
+    )
+        requires own { seat.old.table_id ≡ self.now.table.shared.table_id }
+        requires event { GivesPublished self.now.table.shared.key.value seat.old.me stream number lv.value }
+        requires told { N.knows 0 ≡ idle seat.old.me.0 }
+        ensures own { (seat.new.table_id ≡ seat.old.table_id) × (seat.new.id ≡ seat.old.id) }
+        ensures given { seat.new.me ≡ (idle seat.old.me.0, []) }
+    {
+        let home = self.anchor_number(stream);
+        self.come_home::<N>(seat, home, Part::Anchor(number, lv));
     }
 }

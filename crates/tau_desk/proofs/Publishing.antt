@@ -1,0 +1,51 @@
+-- A manager publishes an anchor that it placed.
+use Rattle.std.proofs.Common.{◌≡◌, ℕ, ◌+◌, ◌<◌, List, [], ◌∷◌, Option, refl, sym, ap, ◌∙◌, subst, arith}
+use Rattle.std.specs.Prelude.{Some, None}
+use Rattle.tau_core.specs.Pieces.{Names}
+use Rattle.tau_core.specs.State.{Plain}
+use Rattle.tau_shown.proofs.Steps.{gives_part}
+use Rattle.tau_rule.specs.Role.{Role, role_in}
+use Rattle.tau_rule.specs.Knows.{Knows}
+use Rattle.tau_rule.specs.Rule.{IsPart, IsRole, Meets, Now, Rule, Sees, anchor_part, anchors_at, hand_of, has, manager_role, part_count, word_of}
+use Rattle.tau_rule.specs.Steps.{ComesHome, Sat, idle}
+use Rattle.tau_rule.specs.declared.part.Part.{Part}
+use Rattle.tau_rule.specs.declared.part.Part.TheVariants as part
+use Rattle.tau_rule.proofs.Turns.{alone, one-role}
+use Rattle.tau_desk.specs.Works.{anchor_in}
+use Rattle.tau_desk.specs.Manages.{GivesPublished}
+use Rattle.tau_desk.proofs.OwnAnchors.{share-managed}
+
+names-part : (origin : Plain) (c : Now) (j number : ℕ) (lv : List ℕ) (q : Part) → anchor_in q ≡ Some (number, lv) → j < origin.load.streams → Names origin.load j (anchors_at c.core j) number lv → IsPart origin.load (anchor_part origin.load j) q c
+names-part origin c j number lv (part.Shard b) is low h = cc
+names-part origin c j number lv (part.Outbox o p) is low h = cc
+names-part origin c j number lv (part.Anchor n v) is low h =
+    let same : (number, lv) ≡ (n, v.value) = cc in
+    (j, refl, low, subst (λ (z : ℕ × List ℕ). Names origin.load j (anchors_at c.core j) z.0 z.1) same h)
+
+-- the part comes home with an anchor that the manager placed
+pub gives_published : (origin : Plain) (id : ℕ) (m : Sat) (j number : ℕ) (lv : List ℕ) (q : Part) → anchor_in q ≡ Some (number, lv) → GivesPublished origin m j number lv → ComesHome origin id m.0 (anchor_part origin.load j) q (idle m.0)
+gives_published origin id m j number lv q is g =
+    let v : Knows = m.0 in
+    let u : ℕ = manager_role origin.load j in
+    gives_part (IsPart origin.load) (IsRole origin.load) (word_of origin.load) hand_of has (Sees origin) (Meets origin) (part_count origin.load) (origin.load.streams + origin.load.streams + 1) id (anchor_part origin.load j) v (idle v) g.taken q u g.role g.role g.held (one-role v u g.role g.roles) refl
+    (one-role v u g.role g.roles) (λ a z h. alone u g.role a z (sym (ap (role_in a) g.roles) ∙ h))
+    (λ c meets part mine seen.
+    let managed = share-managed origin j g.role.share g.managed c g.share mine.0 in (
+      c,
+      record { parts = λ k r low apart h. h; mine = mine; others = λ a y apart h. h; sight = λ a none h. h; kept = meets },
+      names-part origin c j number lv q is g.there (subst (λ (l : List (List ℕ)). Names origin.load j l number lv) (sym managed.anchors) g.named),
+      record { opened = seen.opened; wide = seen.wide; low = seen.low; own = seen.own; read = seen.read; found = seen.found },
+      (λ i low. refl),
+    ))
+    (λ found z. z ≡ (idle v, []))
+    (λ z. refl)
+
+-- a part is known by the anchor in it
+pub anchor-same : (origin : Plain) (k : ℕ) (p q : Part) (a : ℕ × List ℕ) → anchor_in p ≡ Some a → anchor_in q ≡ Some a → (c : Now) → IsPart origin.load k p c → IsPart origin.load k q c
+anchor-same origin k (part.Shard b) q a is too c h = cc
+anchor-same origin k (part.Outbox o x) q a is too c h = cc
+anchor-same origin k (part.Anchor n v) (part.Shard b) a is too c h = cc
+anchor-same origin k (part.Anchor n v) (part.Outbox o x) a is too c h = cc
+anchor-same origin k (part.Anchor n v) (part.Anchor n' v') a is too c h =
+    let same : (n, v.value) ≡ (n', v'.value) = (let e : Some (n, v.value) ≡ Some (n', v'.value) = is ∙ sym too in cc) in
+    (h.0, h.1, h.2, subst (λ (z : ℕ × List ℕ). Names origin.load h.0 (anchors_at c.core h.0) z.0 z.1) same h.3)
