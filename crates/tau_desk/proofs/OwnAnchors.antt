@@ -221,8 +221,8 @@ seat-own m j o o' seen body longer h g anchors =
     let then : Managed = record { taken = s.managed.taken ++ g.taken; gathered = s.managed.gathered + length (bytes_of g.taken); anchors = s.managed.anchors; own = o'.own.pieces } in
     let y : Role = record h.role { share = Managing then } in
     let knows : told_own m.0 o'.own.pieces ≡ handed m.0 u y =
-        ap (managing m.0) (ap (λ (x : Managed). own_gathered x o'.own.pieces) (managed-is m.0 u h.role s.managed h.roles s.share) ∙ own-is s.managed g.taken o'.own.pieces (s.own ∙ g.front))
-        ∙ managing-is m.0 u h.role then h.roles in
+    ap (managing m.0) (ap (λ (x : Managed). own_gathered x o'.own.pieces) (managed-is m.0 u h.role s.managed h.roles s.share) ∙ own-is s.managed g.taken o'.own.pieces (s.own ∙ g.front))
+    ∙ managing-is m.0 u h.role then h.roles in
     subst (λ (v : Knows). IsManagerSeat (v, []) j o' seen) (sym knows) (record {
       origin = h.origin;
       role = y;

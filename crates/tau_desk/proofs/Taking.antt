@@ -84,7 +84,7 @@ seat-gathered m j o seen taken past h end =
     let u : ℕ = manager_role h.origin.load j in
     let y : Role = record h.role { share = Managing (gathered_by s.managed taken) } in
     let knows : managing m.0 (gathered_by (managed_in m.0) taken) ≡ handed m.0 u y =
-        ap (λ (g : Managed). managing m.0 (gathered_by g taken)) (managed-is m.0 u h.role s.managed h.roles s.share) ∙ managing-is m.0 u h.role (gathered_by s.managed taken) h.roles in
+    ap (λ (g : Managed). managing m.0 (gathered_by g taken)) (managed-is m.0 u h.role s.managed h.roles s.share) ∙ managing-is m.0 u h.role (gathered_by s.managed taken) h.roles in
     subst (λ (v : Knows). IsManagerSeat (v, []) j (record o { gathered = past }) seen) (sym knows) (record {
       origin = h.origin;
       role = y;
@@ -124,12 +124,12 @@ box-back key m m' u r w k p q b b' roles low number is was after pieces calls re
       carried = ap (λ (x : Sat). x.1) is;
       roles = ap (λ (x : Sat). x.0.roles) is ∙ roles;
       same = λ c h. (let box = part-box key c w p b was h in
-        let rooms = part-rooms key c w p b was h in
-        let now : IsOutbox key.load b'.0 b'.1 (anchors_at c.core) (c.core.outboxes w) = record {
-          posted = subst (λ (ps : List Piece). Paired (IsPieceOf key.load (anchors_at c.core)) ps (c.core.outboxes w).posted) (sym pieces) box.posted;
-          pending = box.pending ∙ ap tickets (sym calls);
-        } in
-        box-part key c w q b' after low now (let x = rooms.0 in omega (arith, x, records)) (let x = rooms.1 in omega (arith, x, pending)));
+          let rooms = part-rooms key c w p b was h in
+          let now : IsOutbox key.load b'.0 b'.1 (anchors_at c.core) (c.core.outboxes w) = record {
+            posted = subst (λ (ps : List Piece). Paired (IsPieceOf key.load (anchors_at c.core)) ps (c.core.outboxes w).posted) (sym pieces) box.posted;
+            pending = box.pending ∙ ap tickets (sym calls);
+          } in
+          box-part key c w q b' after low now (let x = rooms.0 in omega (arith, x, records)) (let x = rooms.1 in omega (arith, x, pending)));
     })
 
 -- a seat that gave its part back knows what it knew

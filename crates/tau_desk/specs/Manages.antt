@@ -1,5 +1,6 @@
 -- What the steps of managers and of the clerk owe and tell, besides a Gather of an outbox, which owes `GivesGathered`, and the place of an anchor, which owes `IsToAnchor`.
 use Rattle.std.specs.Prelude.{ℕ, false, ◌+◌, ◌-◌, ◌≤◌, ◌<◌, ◌≡◌, ◌==◌, ◌||◌, true, Option, Some, None, List, [], ◌∷◌, ◌++◌, length, slice_index_or, slice_set, take}
+use Rattle.tau_base.specs.Vectors.{AtMost}
 use Rattle.tau_base.specs.declared.limits.TheConstants.{MAX_LSN}
 use Rattle.tau_machine.specs.Shard.{Shard, Dropped}
 use Rattle.tau_machine.specs.State.{Ticket}
@@ -204,3 +205,9 @@ pub record PlacesAnchor (l : Load) (s s' : PlainManagerSeat) : Type 0 where
   pub small : start + length bytes < MAX_LSN
   pub puts : PutsAnchor s.stock s.seen bytes start s'.stock
   pub after : s' ≡ record s { me = (told_anchored s.me.0 bytes start, []); stock = s'.stock }
+
+-- the seat may have seen streams persisted further, and knows no more by that
+pub record SeesOn (m m' : Sat) (seen seen' : List ℕ) : Type 0 where
+  pub up : AtMost seen seen'
+  pub wide : length seen' ≡ length seen
+  pub knows : m' ≡ (record m.0 { seen = m'.0.seen }, m.1)

@@ -1,7 +1,7 @@
 //! The clerk on its seat.
-ghost use Rattle.std.specs.Prelude.{◌≡◌, ◌<◌, ◌≤◌, IfNone, IfSome, Some, slice_index, slice_set};
+ghost use Rattle.std.specs.Prelude.{◌≡◌, ◌<◌, ◌≤◌, IfNone, IfSome, Some, false, length, slice_index, slice_set};
 ghost use Rattle.tau_rule.specs.Positions.{sees_to};
-ghost use Rattle.tau_desk.specs.Manages.{AcksFirst, AcksNone};
+ghost use Rattle.tau_desk.specs.Manages.{AcksFirst, AcksNone, SeesOn};
 
 use crate::desk::Desk;
 use crate::manager::take_box;
@@ -45,5 +45,46 @@ impl ClerkSeat {
                 None
             }
         }
+    }
+
+    // How far it has seen a stream persisted.
+    fn seen_at(&self, desk: &Desk, stream: u8) -> u64
+        requires opened { self.now.me.0.opened ≡ Some desk.now.table.shared.key.value }
+        requires there { stream < desk.now.streams }
+        ensures same { result ≡ slice_index self.now.seen stream }
+        ensures wide { length self.now.seen ≡ desk.now.streams }
+    {
+        let _ = desk;
+        self.seen.get(stream as usize)
+    }
+
+    // Looks how far a stream is persisted, and says whether that is further.
+    fn looks(&mut self, desk: &Desk, stream: u8) -> bool
+        requires own { self.old.table_id ≡ desk.now.table.shared.table_id }
+        requires opened { self.old.me.0.opened ≡ Some desk.now.table.shared.key.value }
+        requires there { stream < desk.now.streams }
+        ensures sees { SeesOn self.old.me self.new.me self.old.seen self.new.seen }
+        ensures rest { self.new ≡ record self.old { me = self.new.me; seen = self.new.seen } }
+        ensures none { result ≡ false → self.new.seen ≡ self.old.seen }
+    {
+        let before = self.seen_at(desk, stream);
+        self.look(desk, stream) > before
+    }
+
+    /// Looks how far each stream is persisted, and says whether one is further than was seen.
+    pub fn look_all(&mut self, desk: &Desk) -> bool
+        requires own { self.old.table_id ≡ desk.now.table.shared.table_id }
+        requires opened { self.old.me.0.opened ≡ Some desk.now.table.shared.key.value }
+        ensures sees { SeesOn self.old.me self.new.me self.old.seen self.new.seen }
+        ensures rest { self.new ≡ record self.old { me = self.new.me; seen = self.new.seen } }
+        ensures none { result ≡ false → self.new.seen ≡ self.old.seen }
+    {
+        let mut rose = false;
+        for stream in 0..desk.streams {
+            if self.looks(desk, stream as u8) {
+                rose = true;
+            }
+        }
+        rose
     }
 }

@@ -1,5 +1,5 @@
 //! The manager of a stream on its seat.
-ghost use Rattle.std.specs.Prelude.{◌≡◌, ◌+◌, ◌-◌, ◌%◌, ◌^◌, ◌<◌, ◌≤◌, [], ◌∷◌, None, Some, ℕ, IfSome, OnErr, OnOk, length, slice_get, slice_index, slice_set, vec_len};
+ghost use Rattle.std.specs.Prelude.{◌≡◌, ◌+◌, ◌-◌, ◌%◌, ◌^◌, ◌<◌, ◌≤◌, [], ◌∷◌, None, Some, ℕ, IfSome, OnErr, OnOk, false, length, slice_get, slice_index, slice_set, vec_len};
 ghost use Rattle.tau_base.specs.declared.limits.TheConstants.{MAX_LSN, SHARDS};
 ghost use Rattle.tau_rule.specs.Role.{Role as RoleOf};
 ghost use Rattle.tau_rule.specs.Boxes.{box_in};
@@ -11,7 +11,7 @@ ghost use Rattle.tau_rule.specs.declared.part.Part.{Part as PartOf};
 ghost use Rattle.tau_outbox.specs.Gather.{Gathers};
 ghost use Rattle.tau_outbox.specs.Pieces.{end_of};
 ghost use Rattle.tau_desk.specs.Works.{anchor_in};
-ghost use Rattle.tau_desk.specs.Manages.{GathersBox, GathersOwn, OnlyRoom, PlacesAnchor, PutsAnchor};
+ghost use Rattle.tau_desk.specs.Manages.{GathersBox, GathersOwn, OnlyRoom, PlacesAnchor, PutsAnchor, SeesOn};
 
 use crate::desk::Desk;
 use crate::seat::{ManagerSeat, Stock};
@@ -158,6 +158,47 @@ impl ManagerSeat {
         let upto = desk.persisted(&mut self.seat, stream as usize);
         self.seen.set(stream as usize, upto);
         upto
+    }
+
+    // How far it has seen a stream persisted.
+    fn seen_at(&self, desk: &Desk, stream: u8) -> u64
+        requires opened { self.now.me.0.opened ≡ Some desk.now.table.shared.key.value }
+        requires there { stream < desk.now.streams }
+        ensures same { result ≡ slice_index self.now.seen stream }
+        ensures wide { length self.now.seen ≡ desk.now.streams }
+    {
+        let _ = desk;
+        self.seen.get(stream as usize)
+    }
+
+    // Looks how far a stream is persisted, and says whether that is further.
+    fn looks(&mut self, desk: &Desk, stream: u8) -> bool
+        requires own { self.old.table_id ≡ desk.now.table.shared.table_id }
+        requires opened { self.old.me.0.opened ≡ Some desk.now.table.shared.key.value }
+        requires there { stream < desk.now.streams }
+        ensures sees { SeesOn self.old.me self.new.me self.old.seen self.new.seen }
+        ensures rest { self.new ≡ record self.old { me = self.new.me; seen = self.new.seen } }
+        ensures none { result ≡ false → self.new.seen ≡ self.old.seen }
+    {
+        let before = self.seen_at(desk, stream);
+        self.persisted(desk, stream) > before
+    }
+
+    /// Looks how far each stream is persisted, and says whether one is further than was seen.
+    pub fn persisted_all(&mut self, desk: &Desk) -> bool
+        requires own { self.old.table_id ≡ desk.now.table.shared.table_id }
+        requires opened { self.old.me.0.opened ≡ Some desk.now.table.shared.key.value }
+        ensures sees { SeesOn self.old.me self.new.me self.old.seen self.new.seen }
+        ensures rest { self.new ≡ record self.old { me = self.new.me; seen = self.new.seen } }
+        ensures none { result ≡ false → self.new.seen ≡ self.old.seen }
+    {
+        let mut rose = false;
+        for stream in 0..desk.streams {
+            if self.looks(desk, stream as u8) {
+                rose = true;
+            }
+        }
+        rose
     }
 
     /// Stores how far the stream is persisted.

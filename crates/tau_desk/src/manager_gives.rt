@@ -142,13 +142,7 @@ impl Desk {
         self.give_published_told::<Brand>(seat, stream, number, lv);
     }
 
-    fn give_published_told<N: Told>(
-        &self,
-        seat: &mut Seat,
-        stream: u8,
-        number: u32,
-        lv: Box<Lv>,
-    )
+    fn give_published_told<N: Told>(&self, seat: &mut Seat, stream: u8, number: u32, lv: Box<Lv>)
         requires own { seat.old.table_id ≡ self.now.table.shared.table_id }
         requires event { GivesPublished self.now.table.shared.key.value seat.old.me stream number lv.value }
         requires told { N.knows 0 ≡ idle seat.old.me.0 }

@@ -27,12 +27,11 @@ give_acked-requires-clause-event g c =
     let b : BoxOf = (c.take_box-outbox.result.0.value, c.take_box-outbox.result.1.value) in
     let b' : BoxOf = (c.take_box-outbox.result.0.value, c.take_covered.new.self) in
     let before : c.deref_mut.result.now ≡ c.take_box-outbox.result.1.value = c.deref_mut.ensures.value in
-    let takes : TakesFirst c.self.inside.seen b.1.calls c.in-Some.call b'.1.calls = subst (λ (z : PlainPending). TakesFirst c.self.inside.seen z.calls c.in-Some.call c.take_covered.new.self.calls) before c.in-Some.ensures.first in
-    (
+    let takes : TakesFirst c.self.inside.seen b.1.calls c.in-Some.call b'.1.calls = subst (λ (z : PlainPending). TakesFirst c.self.inside.seen z.calls c.in-Some.call c.take_covered.new.self.calls) before c.in-Some.ensures.first in (
       b',
       refl,
       box-acked key c.self.inside.seat.me c.take_box-outbox.new.seat.me (at-key c.self.inside.seat.me c.self.inside.seen key h (ap (λ s. s.me.0.opened) c.self.view_is ∙ c.requires.opened)) c.self.inside.seen c.args.worker c.in-Some.call held.0 b b'
-      h.seen_is c.requires.there held.1 held.2 refl (let e = ap (λ (p : PlainPending). p.room) before in let d = c.in-Some.ensures.room in omega (arith, e, d)) takes,
+          h.seen_is c.requires.there held.1 held.2 refl (let e = ap (λ (p : PlainPending). p.room) before in let d = c.in-Some.ensures.room in omega (arith, e, d)) takes,
     )
 
 pub invariant_of-self : goal.invariant_of-self

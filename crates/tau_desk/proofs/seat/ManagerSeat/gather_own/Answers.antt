@@ -18,9 +18,9 @@ pub give_own-requires-clause-event : goal.give_own-requires-clause-event
 give_own-requires-clause-event g c =
     let key : Plain = c.args.desk.now.table.shared.key.value in
     let given =
-      own-gives key c.self.inside.seat.me c.take-part.new.seat.me c.self.inside.stream c.anchor_number-number.result c.self.inside.stock
-      (at-key c.self.inside.seat.me c.self.inside.stream c.self.inside.stock c.self.inside.seen key c.self.invariant (ap (λ s. s.me.0.opened) c.self.view_is ∙ c.requires.opened)) c.take-part.result c.gather_own.new.self.own.pieces
-      c.args.body.now.items c.gather_own.new.body.items c.gather_own.new.self.gathered c.anchor_number-number.ensures c.take-part.ensures.held c.in-Ok.ensures.moved in
+    own-gives key c.self.inside.seat.me c.take-part.new.seat.me c.self.inside.stream c.anchor_number-number.result c.self.inside.stock
+    (at-key c.self.inside.seat.me c.self.inside.stream c.self.inside.stock c.self.inside.seen key c.self.invariant (ap (λ s. s.me.0.opened) c.self.view_is ∙ c.requires.opened)) c.take-part.result c.gather_own.new.self.own.pieces
+    c.args.body.now.items c.gather_own.new.body.items c.gather_own.new.self.gathered c.anchor_number-number.ensures c.take-part.ensures.held c.in-Ok.ensures.moved in
     (c.in-Ok.ensures.moved.taken, given.0, given.1)
 
 pub invariant_of-self : goal.invariant_of-self

@@ -24,7 +24,7 @@ place_anchor-start-requires-clause-anchor g c =
 pub take-part-requires-clause-role : goal.take-part-requires-clause-role
 take-part-requires-clause-role g c =
     let h = seat-anchored c.self.inside.seat.me c.self.inside.stream c.self.inside.stock (record c.self.inside.stock { anchors = c.self.inside.stock.anchors ++ c.self.inside.seen ∷ []; own = record c.self.inside.stock.own { pieces = c.self.inside.stock.own.pieces ++ record { start = c.place_anchor-start.result; bytes = c.in-Ok.bytes.items } ∷ [] } })
-        c.self.inside.seen c.in-Ok.bytes.items c.place_anchor-start.result c.self.invariant (record { anchors = refl; pieces = refl; gathered = refl }) in
+    c.self.inside.seen c.in-Ok.bytes.items c.place_anchor-start.result c.self.invariant (record { anchors = refl; pieces = refl; gathered = refl }) in
     (manager_role h.origin.load c.self.inside.stream, h.role, one-role c.place_anchor-start.new.seat.me.0 (manager_role h.origin.load c.self.inside.stream) h.role (ap (λ (m : Sat). m.0.roles) c.place_anchor-start.ensures.placed ∙ h.roles))
 
 pub put-requires-clause-order : goal.put-requires-clause-order
@@ -32,7 +32,7 @@ put-requires-clause-order g c =
     let key : Plain = c.args.desk.now.table.shared.key.value in
     let h = at-key c.self.inside.seat.me c.self.inside.stream c.self.inside.stock c.self.inside.seen key c.self.invariant (ap (λ s. s.me.0.opened) c.self.view_is ∙ c.requires.opened) in
     let agrees : Agrees key (told_anchored c.self.inside.seat.me.0 c.in-Ok.bytes.items c.place_anchor-start.result) c.anchor_number-number.result c.take-part.result =
-        subst (λ (m : Sat). Agrees key m.0 c.anchor_number-number.result c.take-part.result) c.place_anchor-start.ensures.placed c.take-part.ensures.agrees in
+    subst (λ (m : Sat). Agrees key m.0 c.anchor_number-number.result c.take-part.result) c.place_anchor-start.ensures.placed c.take-part.ensures.agrees in
     own-order key c.self.inside.seat.me c.self.inside.stream c.anchor_number-number.result c.self.inside.stock h c.in-Ok.bytes.items c.place_anchor-start.result c.take-part.result agrees
 
 pub give_back-requires-clause-same : goal.give_back-requires-clause-same
@@ -52,8 +52,8 @@ pub invariant_of-self : goal.invariant_of-self
 invariant_of-self g c =
     let m' : Sat = (told_anchored c.self.inside.seat.me.0 c.in-Ok.bytes.items c.place_anchor-start.result, c.self.inside.seat.me.1) in
     let knows : c.give_back.new.seat.me ≡ m' =
-        c.give_back.ensures.given ∙ ap (λ (m : Sat). (idle m.0, [])) c.take-part.ensures.held ∙ ap (λ (m : Sat). (idle (holding c.anchor_number-number.result m.0 c.take-part.result), [])) c.place_anchor-start.ensures.placed
-        ∙ idle-again c.anchor_number-number.result m' c.take-part.result c.self.invariant.idle c.self.invariant.none in
+    c.give_back.ensures.given ∙ ap (λ (m : Sat). (idle m.0, [])) c.take-part.ensures.held ∙ ap (λ (m : Sat). (idle (holding c.anchor_number-number.result m.0 c.take-part.result), [])) c.place_anchor-start.ensures.placed
+    ∙ idle-again c.anchor_number-number.result m' c.take-part.result c.self.invariant.idle c.self.invariant.none in
     subst (λ (m : Sat). IsManagerSeat m c.self.inside.stream c.put.new.self c.self.inside.seen) (sym knows)
     (seat-anchored c.self.inside.seat.me c.self.inside.stream c.self.inside.stock c.put.new.self c.self.inside.seen c.in-Ok.bytes.items c.place_anchor-start.result c.self.invariant c.put.ensures.puts)
 
@@ -64,8 +64,8 @@ returns-in-Ok-clause-placed g c =
     let wide : length c.self.inside.seen ≡ key.load.streams = c.self.invariant.seen_wide ∙ ap (λ (p : Plain). p.load.streams) same in
     let m' : Sat = (told_anchored c.self.inside.seat.me.0 c.in-Ok.bytes.items c.place_anchor-start.result, c.self.inside.seat.me.1) in
     let knows : c.give_back.new.seat.me ≡ (told_anchored c.self.inside.seat.me.0 c.in-Ok.bytes.items c.place_anchor-start.result, []) =
-        c.give_back.ensures.given ∙ ap (λ (m : Sat). (idle m.0, [])) c.take-part.ensures.held ∙ ap (λ (m : Sat). (idle (holding c.anchor_number-number.result m.0 c.take-part.result), [])) c.place_anchor-start.ensures.placed
-        ∙ idle-again c.anchor_number-number.result m' c.take-part.result c.self.invariant.idle c.self.invariant.none ∙ ap (λ l. (told_anchored c.self.inside.seat.me.0 c.in-Ok.bytes.items c.place_anchor-start.result, l)) c.self.invariant.none in
+    c.give_back.ensures.given ∙ ap (λ (m : Sat). (idle m.0, [])) c.take-part.ensures.held ∙ ap (λ (m : Sat). (idle (holding c.anchor_number-number.result m.0 c.take-part.result), [])) c.place_anchor-start.ensures.placed
+    ∙ idle-again c.anchor_number-number.result m' c.take-part.result c.self.invariant.idle c.self.invariant.none ∙ ap (λ l. (told_anchored c.self.inside.seat.me.0 c.in-Ok.bytes.items c.place_anchor-start.result, l)) c.self.invariant.none in
     let back = c.give_back.ensures.own in
     let took = c.take-part.ensures.own in
     let placed = c.place_anchor-start.ensures.own in
