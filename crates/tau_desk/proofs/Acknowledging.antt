@@ -1,5 +1,5 @@
 -- The clerk acknowledges a call.
-use Rattle.std.proofs.Common.{◌≡◌, ℕ, ◌+◌, ◌<◌, ◌≤◌, inl, inr, List, [], ◌∷◌, ◌++◌, Option, length, refl, sym, ap, ◌∙◌, subst, arith, length-append, length-set, get_or-set_same, get_or-set_other}
+use Rattle.std.proofs.Common.{◌≡◌, ℕ, ◌+◌, ◌<◌, ◌≤◌, inl, inr, List, [], ◌∷◌, ◌++◌, length, refl, sym, ap, ◌∙◌, subst, arith, length-append, length-set, get_or-set_same, get_or-set_other}
 use Rattle.std.specs.Prelude.{Some, None, slice_index_or, slice_set}
 use Rattle.std.proofs.lemmas.Bool.{cases_eq}
 use Rattle.tau_base.specs.Vectors.{AtMost}
@@ -19,7 +19,7 @@ use Rattle.tau_core.specs.declared.state.Load.{Load}
 use Rattle.tau_shown.proofs.Steps.{gives_part}
 use Rattle.tau_rule.specs.Role.{Clerking, Managing, Role, Share, Working}
 use Rattle.tau_rule.specs.Knows.{Knows}
-use Rattle.tau_rule.specs.Rule.{IsOutbox, IsPart, IsRole, IsShare, Meets, Now, Rule, Sees, anchors_at, clerk_role, hand_of, has, manager_role, outbox_part, part_count, word_of}
+use Rattle.tau_rule.specs.Rule.{IsOutbox, IsPart, IsRole, IsShare, Meets, Now, Sees, anchors_at, clerk_role, hand_of, has, manager_role, outbox_part, part_count, word_of}
 use Rattle.tau_rule.specs.Steps.{ComesHome, Sat, first_role, handed, holding}
 use Rattle.tau_rule.specs.Boxes.{BoxOf, box_in}
 use Rattle.tau_rule.specs.declared.part.Part.{Part}

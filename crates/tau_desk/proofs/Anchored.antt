@@ -1,6 +1,6 @@
 -- A manager places an anchor: what its seat knows then, and how its record stands behind those before.
-use Rattle.std.proofs.Common.{◌≡◌, ℕ, false, ◌+◌, ◌-◌, ◌*◌, ◌%◌, ◌^◌, ◌<◌, ◌≤◌, inl, inr, List, [], ◌∷◌, ◌++◌, Option, length, refl, sym, ap, ◌∙◌, subst, arith, length-append}
-use Rattle.std.specs.Prelude.{Some, None, slice_index}
+use Rattle.std.proofs.Common.{◌≡◌, ℕ, false, ◌+◌, ◌-◌, ◌*◌, ◌%◌, ◌^◌, ◌<◌, ◌≤◌, inl, inr, List, [], ◌∷◌, ◌++◌, length, refl, sym, ap, ◌∙◌, subst, arith, length-append}
+use Rattle.std.specs.Prelude.{slice_index}
 use Rattle.std.specs.Int.{to_be_bytes, w32, w64}
 use Rattle.std.specs.List.{flat_map}
 use mathlib.Core.Option.{none}
@@ -22,14 +22,14 @@ use Rattle.tau_rule.specs.Anchoring.{IsToAnchor, anchored, anchored_view}
 use Rattle.tau_rule.specs.Places.{got_place}
 use Rattle.tau_rule.specs.Role.{Managed, Managing, Role}
 use Rattle.tau_rule.specs.Knows.{Knows}
-use Rattle.tau_rule.specs.Rule.{IsManaged, MAX_ANCHOR, Now, Rule, anchors_at, has, manager_role, part_count}
-use Rattle.tau_rule.specs.Steps.{Agrees, Sat, first_role, handed}
+use Rattle.tau_rule.specs.Rule.{IsManaged, MAX_ANCHOR, Rule, anchors_at, manager_role, part_count}
+use Rattle.tau_rule.specs.Steps.{Agrees, Sat, first_role}
 use Rattle.tau_rule.specs.declared.part.Part.{Part}
 use Rattle.tau_rule.proofs.Anchoring.{anchors}
 use Rattle.tau_rule.proofs.Turns.{one-role, reached-invariant}
 use Rattle.tau_desk.specs.Shares.{PlainStock}
 use Rattle.tau_desk.specs.Seats.{IsManagerSeat}
-use Rattle.tau_desk.specs.Manages.{PutsAnchor, managed_in, told_anchored}
+use Rattle.tau_desk.specs.Manages.{PutsAnchor, told_anchored}
 use Rattle.tau_desk.proofs.OwnAnchors.{share-managed}
 use Rattle.tau_desk.proofs.Taking.{At, managed-is}
 

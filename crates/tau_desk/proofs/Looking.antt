@@ -1,8 +1,8 @@
 -- Seats look at words, and raise the stop.
-use Rattle.std.proofs.Common.{◌≡◌, ℕ, ◌+◌, ◌<◌, ◌==◌, true, Bool, List, [], ◌∷◌, Option, refl, sym, ap, ◌∙◌, subst, arith}
-use Rattle.std.specs.Prelude.{Some, ◌||◌, ◌⊎◌, replicate}
+use Rattle.std.proofs.Common.{◌≡◌, ℕ, ◌+◌, ◌<◌, true, Bool, List, [], ◌∷◌, Option, refl, sym, ap, ◌∙◌, subst, arith}
+use Rattle.std.specs.Prelude.{Some, ◌⊎◌, replicate}
 use mathlib.Core.Option.{none}
-use Rattle.atomic_table.specs.Table.{Step, step, Allows}
+use Rattle.atomic_table.specs.Table.{step, Allows}
 use Rattle.tau_txn.specs.Txn.{PlainTxn}
 use Rattle.tau_core.specs.State.{Plain}
 use Rattle.tau_core.specs.declared.state.Load.{Load}
@@ -12,7 +12,6 @@ use Rattle.tau_rule.specs.Rule.{Rule, part_count, clerk_role, manager_role}
 use Rattle.tau_rule.specs.Boxes.{IsToPost}
 use Rattle.tau_rule.specs.Steps.{Sat, first_role, knew}
 use Rattle.tau_rule.specs.Stopping.{stop_word, raising}
-use Rattle.tau_rule.specs.declared.part.Part.{Part}
 use Rattle.tau_rule.proofs.Gives.{one-origin}
 use Rattle.tau_rule.proofs.Stopping.{stops, looks_stop}
 use Rattle.tau_desk.specs.Shares.{IsWork, PlainStock, PlainWork}

@@ -1,6 +1,6 @@
 -- A manager gathers the records of its own anchors, and publishes an anchor.
-use Rattle.std.proofs.Common.{◌≡◌, ℕ, ◌+◌, ◌*◌, ◌^◌, ◌<◌, ◌≤◌, inl, inr, List, [], ◌∷◌, ◌++◌, Option, length, refl, sym, ap, ◌∙◌, subst, arith, length-append, length-set, get_or-set_same, get_or-set_other}
-use Rattle.std.specs.Prelude.{Some, None, slice_index, slice_set}
+use Rattle.std.proofs.Common.{◌≡◌, ℕ, ◌+◌, ◌*◌, ◌^◌, ◌<◌, ◌≤◌, inl, inr, List, [], ◌∷◌, ◌++◌, length, refl, sym, ap, ◌∙◌, subst, arith, length-append, get_or-set_same, get_or-set_other}
+use Rattle.std.specs.Prelude.{Some, None, slice_index}
 use Rattle.std.proofs.Math.Path.{fun_ext}
 use Rattle.std.proofs.lemmas.Bool.{cases_eq}
 use Rattle.tau_base.specs.declared.limits.TheConstants.{MAX_RECORD}
@@ -23,14 +23,14 @@ use Rattle.tau_core.proofs.Spellings.{Split, chain-of, paired-append, paired-spl
 use Rattle.tau_shown.proofs.Steps.{gives_part}
 use Rattle.tau_rule.specs.Role.{Clerking, Managed, Managing, Role, Share, Working}
 use Rattle.tau_rule.specs.Knows.{Knows}
-use Rattle.tau_rule.specs.Rule.{IsManaged, IsOutbox, IsPart, IsRole, IsShare, MAX_ANCHOR, Meets, Now, Rule, Sees, anchor_part, anchors_at, hand_of, has, manager_role, part_count, word_of}
-use Rattle.tau_rule.specs.Steps.{ComesHome, Sat, first_role, handed, holding}
+use Rattle.tau_rule.specs.Rule.{IsManaged, IsOutbox, IsPart, IsRole, IsShare, MAX_ANCHOR, Meets, Now, Sees, anchor_part, anchors_at, hand_of, has, manager_role, part_count, word_of}
+use Rattle.tau_rule.specs.Steps.{ComesHome, Sat, handed, holding}
 use Rattle.tau_rule.specs.declared.part.Part.{Part}
 use Rattle.tau_rule.specs.declared.part.Part.TheVariants as part
 use Rattle.tau_rule.proofs.Turns.{Turn, alone, more, one-role, reached-invariant, reached-on, role-alone}
-use Rattle.tau_desk.specs.Shares.{IsStock, PlainStock}
+use Rattle.tau_desk.specs.Shares.{PlainStock}
 use Rattle.tau_desk.specs.Seats.{IsManagerSeat}
-use Rattle.tau_desk.specs.Manages.{GivesOwn, OnlyRoom, gone, managed_in, managing, own_gathered, told_own}
+use Rattle.tau_desk.specs.Manages.{GivesOwn, OnlyRoom, gone, managing, own_gathered, told_own}
 use Rattle.tau_desk.proofs.Taking.{At, gone-is, managed-is, managing-is}
 
 -- the state after a Gather of these of its own anchors' records by the manager of stream j

@@ -1,12 +1,12 @@
 -- A manager publishes an anchor that it placed.
-use Rattle.std.proofs.Common.{◌≡◌, ℕ, ◌+◌, ◌<◌, List, [], ◌∷◌, Option, refl, sym, ap, ◌∙◌, subst, arith}
-use Rattle.std.specs.Prelude.{Some, None}
+use Rattle.std.proofs.Common.{◌≡◌, ℕ, ◌+◌, ◌<◌, List, [], refl, sym, ap, ◌∙◌, subst}
+use Rattle.std.specs.Prelude.{Some}
 use Rattle.tau_core.specs.Pieces.{Names}
 use Rattle.tau_core.specs.State.{Plain}
 use Rattle.tau_shown.proofs.Steps.{gives_part}
-use Rattle.tau_rule.specs.Role.{Role, role_in}
+use Rattle.tau_rule.specs.Role.{role_in}
 use Rattle.tau_rule.specs.Knows.{Knows}
-use Rattle.tau_rule.specs.Rule.{IsPart, IsRole, Meets, Now, Rule, Sees, anchor_part, anchors_at, hand_of, has, manager_role, part_count, word_of}
+use Rattle.tau_rule.specs.Rule.{IsPart, IsRole, Meets, Now, Sees, anchor_part, anchors_at, hand_of, has, manager_role, part_count, word_of}
 use Rattle.tau_rule.specs.Steps.{ComesHome, Sat, idle}
 use Rattle.tau_rule.specs.declared.part.Part.{Part}
 use Rattle.tau_rule.specs.declared.part.Part.TheVariants as part

@@ -1,6 +1,6 @@
 -- A seat drops free entries of a shard.
-use Rattle.std.proofs.Common.{◌≡◌, ℕ, ◌+◌, ◌<◌, List, [], ◌∷◌, ◌++◌, Option, length, refl, sym, ap, ◌∙◌, subst, arith, length-append}
-use Rattle.std.specs.Prelude.{Some, None}
+use Rattle.std.proofs.Common.{◌≡◌, ℕ, ◌+◌, ◌<◌, List, [], ◌++◌, length, refl, sym, ap, ◌∙◌, subst, arith, length-append}
+use Rattle.std.specs.Prelude.{Some}
 use Rattle.tau_base.specs.Vectors.{AtMost}
 use Rattle.tau_base.specs.declared.limits.TheConstants.{SHARDS}
 use Rattle.tau_machine.specs.Shard.{Dropped, Shard}
@@ -13,7 +13,7 @@ use Rattle.tau_core.specs.View.{setting_of}
 use Rattle.tau_shown.proofs.Steps.{gives_part}
 use Rattle.tau_rule.specs.Role.{Clerking, Managing, Role, Share, Working, role_in}
 use Rattle.tau_rule.specs.Knows.{Knows}
-use Rattle.tau_rule.specs.Rule.{IsPart, IsRole, IsShare, Meets, Now, Rule, Sees, hand_of, has, part_count, word_of}
+use Rattle.tau_rule.specs.Rule.{IsPart, IsRole, IsShare, Meets, Now, Sees, hand_of, has, part_count, word_of}
 use Rattle.tau_rule.specs.Steps.{ComesHome, Sat, idle, shard_in}
 use Rattle.tau_rule.specs.declared.part.Part.{Part}
 use Rattle.tau_rule.specs.declared.part.Part.TheVariants as part

@@ -1,5 +1,5 @@
 -- A manager has gathered front pieces: what its seat knows then.
-use Rattle.std.proofs.Common.{◌≡◌, ℕ, ◌+◌, ◌-◌, ◌%◌, ◌<◌, ◌≤◌, List, [], ◌∷◌, ◌++◌, Option, length, length-append, refl, sym, ap, ◌∙◌, subst, arith}
+use Rattle.std.proofs.Common.{◌≡◌, ℕ, ◌+◌, ◌-◌, ◌%◌, ◌<◌, ◌≤◌, List, [], ◌∷◌, ◌++◌, length, length-append, refl, sym, ap, ◌∙◌, subst, arith}
 use Rattle.std.specs.Prelude.{Some, None, take}
 use Rattle.std.proofs.Math.Seq.{take-append_seam}
 use Rattle.tau_outbox.specs.declared.Piece.{Piece}
@@ -10,11 +10,10 @@ use Rattle.tau_core.specs.State.{Plain}
 use Rattle.tau_core.specs.View.{tickets}
 use Rattle.tau_rule.specs.Role.{Managed, Managing, Role}
 use Rattle.tau_rule.specs.Knows.{Knows}
-use Rattle.tau_rule.specs.Rule.{IsOutbox, IsPart, Now, anchors_at, manager_role, outbox_part}
+use Rattle.tau_rule.specs.Rule.{IsOutbox, anchors_at, manager_role, outbox_part}
 use Rattle.tau_rule.specs.Steps.{IsBack, Sat, first_role, handed, holding, idle}
 use Rattle.tau_rule.specs.Boxes.{BoxOf, GivesGathered, box_in, gathered_by}
 use Rattle.tau_rule.specs.declared.part.Part.{Part}
-use Rattle.tau_rule.specs.declared.part.Part.TheVariants as part
 use Rattle.tau_rule.proofs.Gives.{one-origin}
 use Rattle.tau_rule.proofs.Boxes.{box-part, part-box, part-rooms}
 use Rattle.tau_desk.specs.Shares.{IsStock, PlainStock}

@@ -1,4 +1,4 @@
-use Rattle.std.proofs.Common.{None, ◌≡◌, ◌+◌, ℕ, [], ◌∷◌, Some, refl, subst, sym, ap, ◌∙◌, arith}
+use Rattle.std.proofs.Common.{None, ◌≡◌, ◌+◌, ℕ, [], ◌∷◌, refl, subst, sym, ap, ◌∙◌, arith}
 use Rattle.tau_base.specs.declared.limits.TheConstants.{SHARDS}
 use Rattle.tau_rule.specs.Knows.{Knows}
 use Rattle.tau_rule.specs.Steps.{ComesHome}

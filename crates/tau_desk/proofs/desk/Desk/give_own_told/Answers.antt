@@ -1,6 +1,5 @@
-use Rattle.std.proofs.Common.{None, ◌≡◌, ◌+◌, ℕ, [], ◌∷◌, refl, subst, sym, ap, ◌∙◌, arith}
+use Rattle.std.proofs.Common.{None, ℕ, [], ◌∷◌, subst, sym, ap, ◌∙◌, arith}
 use Rattle.tau_rule.specs.Knows.{Knows}
-use Rattle.tau_rule.specs.Rule.{anchor_part}
 use Rattle.tau_rule.specs.Steps.{ComesHome}
 use Rattle.tau_rule.specs.declared.part.Part.{Part}
 use Rattle.tau_desk.proofs.OwnAnchors.{gives_own, told_own-is}

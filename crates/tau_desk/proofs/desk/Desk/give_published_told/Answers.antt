@@ -1,4 +1,4 @@
-use Rattle.std.proofs.Common.{None, ◌≡◌, ◌+◌, ℕ, [], ◌∷◌, refl, subst, sym, ap, ◌∙◌, arith}
+use Rattle.std.proofs.Common.{None, ℕ, [], ◌∷◌, refl, subst, sym, ap, ◌∙◌, arith}
 use Rattle.tau_rule.specs.Knows.{Knows}
 use Rattle.tau_rule.specs.Steps.{ComesHome}
 use Rattle.tau_rule.specs.declared.part.Part.{Part}

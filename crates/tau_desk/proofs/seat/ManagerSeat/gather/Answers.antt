@@ -1,5 +1,4 @@
-use Rattle.std.proofs.Common.{◌≡◌, ◌+◌, ◌≤◌, ℕ, [], refl, subst, sym, ap, ◌∙◌, arith}
-use Rattle.std.specs.Prelude.{Some}
+use Rattle.std.proofs.Common.{◌≡◌, ◌+◌, ℕ, [], refl, subst, sym, ap, ◌∙◌, arith}
 use Rattle.tau_base.specs.declared.limits.TheConstants.{SHARDS}
 use Rattle.tau_outbox.specs.Gather.{Gathers}
 use Rattle.tau_outbox.specs.Pieces.{PlainOutbox}
@@ -12,7 +11,7 @@ use Rattle.tau_rule.proofs.Turns.{one-role}
 use Rattle.tau_desk.specs.Manages.{GathersBox, managed_in, managing, told_gathered}
 use Rattle.tau_desk.specs.Shares.{PlainStock}
 use Rattle.tau_desk.specs.Seats.{IsManagerSeat, PlainManagerSeat}
-use Rattle.tau_desk.proofs.Taking.{at-key, box-back, box-gathered, idle-again, seat-gathered, told-holding}
+use Rattle.tau_desk.proofs.Taking.{at-key, box-back, box-gathered, seat-gathered, told-holding}
 use Rattle.tau_desk.proofs.seat.ManagerSeat.gather.Goals as goal
 
 pub take_box-outbox-requires-clause-role : goal.take_box-outbox-requires-clause-role

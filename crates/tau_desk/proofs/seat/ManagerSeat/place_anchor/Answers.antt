@@ -4,10 +4,9 @@ use Rattle.tau_core.specs.State.{Plain}
 use Rattle.tau_rule.specs.Rule.{manager_role}
 use Rattle.tau_rule.specs.Steps.{Agrees, Sat, holding, idle}
 use Rattle.tau_rule.proofs.Turns.{one-role}
-use Rattle.tau_desk.specs.Shares.{PlainStock}
 use Rattle.tau_desk.specs.Seats.{IsManagerSeat, PlainManagerSeat}
 use Rattle.tau_desk.specs.Manages.{PlacesAnchor, told_anchored}
-use Rattle.tau_desk.proofs.Anchored.{own-order, seat-anchored, seat-role, to-anchor}
+use Rattle.tau_desk.proofs.Anchored.{own-order, seat-anchored, to-anchor}
 use Rattle.tau_desk.proofs.Taking.{at-key, idle-again}
 use Rattle.tau_desk.proofs.seat.ManagerSeat.place_anchor.Goals as goal
 
