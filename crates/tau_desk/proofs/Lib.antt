@@ -19,3 +19,4 @@ pub mod Assembling
 pub mod Taking
 pub mod Anchored
 pub mod Publishing
+pub mod Ends

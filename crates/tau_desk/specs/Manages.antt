@@ -1,5 +1,5 @@
 -- What the steps of managers and of the clerk owe and tell, besides a Gather of an outbox, which owes `GivesGathered`, and the place of an anchor, which owes `IsToAnchor`.
-use Rattle.std.specs.Prelude.{ℕ, false, ◌+◌, ◌-◌, ◌≤◌, ◌<◌, ◌≡◌, ◌==◌, ◌||◌, true, Option, Some, None, List, [], ◌∷◌, ◌++◌, length, slice_index_or, slice_set, take}
+use Rattle.std.specs.Prelude.{ℕ, false, slice_index, ◌*◌, ◌+◌, ◌-◌, ◌≤◌, ◌<◌, ◌≡◌, ◌==◌, ◌||◌, true, Option, Some, None, List, [], ◌∷◌, ◌++◌, length, slice_index_or, slice_set, take}
 use Rattle.tau_base.specs.Vectors.{AtMost}
 use Rattle.tau_base.specs.declared.limits.TheConstants.{MAX_LSN}
 use Rattle.tau_machine.specs.Shard.{Shard, Dropped}
@@ -19,7 +19,8 @@ use Rattle.tau_core.specs.Pieces.{Names}
 use Rattle.tau_core.specs.State.{Plain}
 use Rattle.tau_rule.specs.Role.{Clerking, Managed, Managing, Role, Share, Working}
 use Rattle.tau_rule.specs.Knows.{Knows}
-use Rattle.tau_rule.specs.Rule.{anchor_part, clerk_role, manager_role, outbox_part}
+use Rattle.atomic_table.specs.Table.{Step}
+use Rattle.tau_rule.specs.Rule.{IsRole, Meets, Now, anchor_part, clerk_role, has, manager_role, outbox_part, part_count}
 use Rattle.tau_rule.specs.Steps.{Agrees, Sat, first_role, handed, shard_in}
 use Rattle.tau_rule.specs.Anchoring.{anchored}
 use Rattle.tau_rule.specs.Boxes.{BoxOf, box_in, gathered_by}
@@ -211,3 +212,14 @@ pub record SeesOn (m m' : Sat) (seen seen' : List ℕ) : Type 0 where
   pub up : AtMost seen seen'
   pub wide : length seen' ≡ length seen
   pub knows : m' ≡ (record m.0 { seen = m'.0.seen }, m.1)
+
+-- at a state with which the seat agrees the stream was placed up to there
+pub record PlacedTo (origin : Plain) (v : Knows) (j upto : ℕ) : Type 0 where
+  pub state : Now
+  pub meets : Meets origin state
+  pub roles : (u : ℕ) (r : Role) → has u v ≡ Some r → IsRole origin.load u r state
+  pub end : slice_index state.core.ends j ≡ upto
+
+-- the manager of a stream has read its placed end
+abbrev pub saw_end : Step (Option Part) → Sat → ℕ → Sat → Type 0
+saw_end st m found m' = (m' ≡ m) × ((origin : Plain) → m.0.opened ≡ Some origin → (j : ℕ) → j < origin.load.streams → st.word ≡ 8 * (part_count origin.load + j) → PlacedTo origin m.0 j found)

@@ -11,7 +11,7 @@ ghost use Rattle.tau_rule.specs.declared.part.Part.{Part as PartOf};
 ghost use Rattle.tau_outbox.specs.Gather.{Gathers};
 ghost use Rattle.tau_outbox.specs.Pieces.{end_of};
 ghost use Rattle.tau_desk.specs.Works.{anchor_in};
-ghost use Rattle.tau_desk.specs.Manages.{GathersBox, GathersOwn, OnlyRoom, PlacesAnchor, PutsAnchor, SeesOn};
+ghost use Rattle.tau_desk.specs.Manages.{GathersBox, GathersOwn, OnlyRoom, PlacedTo, PlacesAnchor, PutsAnchor, SeesOn};
 
 use crate::desk::Desk;
 use crate::seat::{ManagerSeat, Stock};
@@ -249,6 +249,16 @@ impl ManagerSeat {
             }
             Err(_) => Err(NoMemory),
         }
+    }
+
+    /// Up to where the stream is placed: nothing is posted where that is the gathered end.
+    pub fn placed_end(&mut self, desk: &Desk) -> u64
+        requires own { self.old.table_id ≡ desk.now.table.shared.table_id }
+        requires opened { self.old.me.0.opened ≡ Some desk.now.table.shared.key.value }
+        ensures same { self.new ≡ self.old }
+        ensures end { PlacedTo desk.now.table.shared.key.value self.old.me.0 self.old.stream result }
+    {
+        desk.placed_end(&mut self.seat, self.stream)
     }
 
     /// Places an anchor that holds the positions which the manager has seen persisted. After NoMemory nothing has changed.

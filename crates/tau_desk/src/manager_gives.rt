@@ -4,18 +4,30 @@ ghost use Rattle.tau_outbox.specs.declared.Piece.{Piece as PieceOf};
 ghost use Rattle.tau_rule.specs.Boxes.{GivesGathered};
 ghost use Rattle.tau_rule.specs.Rule.{anchor_part, outbox_part};
 ghost use Rattle.tau_rule.specs.declared.part.Part.TheVariants.{Outbox as OutboxOf};
+ghost use Rattle.tau_rule.specs.Positions.{IsManager};
+ghost use Rattle.tau_rule.specs.Role.{Managed as ManagedOf};
 ghost use Rattle.tau_rule.specs.Steps.{idle};
-ghost use Rattle.tau_desk.specs.Manages.{GivesOwn, GivesPublished, GivesSwept, told_anchored, told_gathered, told_own};
+ghost use Rattle.tau_desk.specs.Manages.{PlacedTo, GivesOwn, GivesPublished, GivesSwept, told_anchored, told_gathered, told_own};
 ghost use Rattle.tau_rule.specs.Anchoring.{IsToAnchor};
 
 use crate::desk::Desk;
 use crate::seat::Stock;
+use atomic_table::Play;
 use std::marker::Brand;
 use tau_ack::Pending;
 use tau_base::{Lv, SHARDS};
 use tau_outbox::Outbox;
-use tau_rule::{Part, Place, Seat, Told};
+use tau_rule::{Part, Place, Seat, Told, View};
 use tau_shard::Shard;
+
+/// The placed end of a stream was read.
+pub struct LookEnd;
+
+impl Play<Option<Part>, View> for LookEnd {
+    ghost use Rattle.tau_desk.specs.Manages.{saw_end};
+
+    ghost then = { saw_end };
+}
 
 impl Desk {
     /// The outbox of a worker comes home, of which the manager has gathered front pieces.
@@ -151,5 +163,17 @@ impl Desk {
     {
         let home = self.anchor_number(stream);
         self.come_home::<N>(seat, home, Part::Anchor(number, lv));
+    }
+
+    /// Up to where the stream of the manager is placed.
+    pub(crate) fn placed_end(&self, seat: &mut Seat, stream: u8) -> u64
+        requires own { seat.old.table_id ≡ self.now.table.shared.table_id }
+        requires manager { (g : ManagedOf) × IsManager self.now.table.shared.key.value stream seat.old.me g }
+        ensures own { (seat.new.table_id ≡ seat.old.table_id) × (seat.new.id ≡ seat.old.id) }
+        ensures same { seat.new.me ≡ seat.old.me }
+        ensures end { PlacedTo self.now.table.shared.key.value seat.old.me.0 stream result }
+    {
+        let word = 8 * (self.parts + stream as usize);
+        self.table.shared.load::<LookEnd>(seat, word)
     }
 }
