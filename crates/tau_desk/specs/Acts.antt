@@ -1,14 +1,74 @@
 -- What a worker's actions come to.
-use Rattle.std.specs.Prelude.{ℕ, ◌≡◌, []}
-use Rattle.tau_txn.specs.Txn.{PlainTxn}
+use Rattle.std.specs.Prelude.{ℕ, ◌≡◌, List, [], Option, Some}
+use Rattle.tau_base.specs.declared.value.Key.{Key}
+use Rattle.tau_base.specs.declared.value.Mode.{Mode}
+use Rattle.tau_base.specs.declared.value.Value.{Value}
+use Rattle.tau_proc.specs.declared.proc.Proc.{Proc}
+use Rattle.tau_machine.specs.Hands.{Freeing}
+use Rattle.tau_machine.specs.Worker.{Worker, hand_busy, hand_freed, hand_joined, hand_quit, settled}
+use Rattle.tau_txn.specs.Txn.{PlainTxn, RunsBy, hand_in, leaves_in, worker_of}
+use Rattle.tau_txn.specs.Next as txn
+use Rattle.tau_txn.specs.Steps.{locked_with}
 use Rattle.tau_core.specs.State.{Plain}
-use Rattle.tau_rule.specs.Steps.{Sat, told, IsAfter}
+use Rattle.tau_rule.specs.Steps.{Sat, told}
 use Rattle.tau_desk.specs.declared.work.Acted.{Acted}
 use Rattle.tau_desk.specs.declared.work.Acted.TheVariants.{Went, Busy as IsBusy, Other, NoMemory}
 
+module _ (procs : List Proc) (t t' : PlainTxn) where
+  -- another call stands there only in what the hand has
+  pub record SameWorker : Type 0 where
+    pub runs : RunsBy procs t'
+    pub same : t' ≡ record t { hand = t'.hand }
+
+  -- the call in hand has got the key that it wanted, with this row and this vector
+  pub record HasLocked : Type 0 where
+    pub key : Key
+    pub mode : Mode
+    pub row : Value
+    pub dep : List ℕ
+    pub wanted : txn.Locks procs t key mode
+    pub is : hand_in procs t' ≡ Some (locked_with wanted.hand key mode row dep)
+    pub worker : SameWorker
+
+  -- it has met Busy at that key
+  pub record HasMetBusy : Type 0 where
+    pub key : Key
+    pub mode : Mode
+    pub wanted : txn.Locks procs t key mode
+    pub settles : (wk : Worker) → worker_of procs wk t' ≡ settled t.width wk (hand_busy wanted.hand)
+    pub worker : SameWorker
+
+  -- it has given its lowest key back
+  pub record HasQuit : Type 0 where
+    pub key : Key
+    pub quits : txn.Quits procs t key
+    pub settles : (wk : Worker) → worker_of procs wk t' ≡ settled t.width wk (hand_quit quits.hand key (leaves_in t))
+    pub worker : SameWorker
+
+  -- it has freed its lowest key
+  pub record HasFreed : Type 0 where
+    pub key : Key
+    pub write : Option Value
+    pub frees : txn.Frees procs t key write
+    pub is : hand_in procs t' ≡ Some (hand_freed (hand_joined frees.hand (Freeing frees.act) frees.hand.dep) key)
+    pub worker : SameWorker
+
 -- after a lock, or a Busy, the seat knows what the call in hand shows; else nothing changed
-abbrev pub LockedBy : Plain → ℕ → Sat → PlainTxn → Sat → PlainTxn → Acted → Type 0
-LockedBy origin w m t m' t' Went = (m' ≡ (told origin.load m.0 t', [])) × IsAfter origin w m' t'
-LockedBy origin w m t m' t' IsBusy = (m' ≡ (told origin.load m.0 t', [])) × IsAfter origin w m' t'
-LockedBy origin w m t m' t' Other = (m' ≡ m) × (t' ≡ t)
-LockedBy origin w m t m' t' NoMemory = (m' ≡ m) × (t' ≡ t)
+abbrev pub LockedBy : Plain → Sat → PlainTxn → Sat → PlainTxn → Acted → Type 0
+LockedBy origin m t m' t' Went = (m' ≡ (told origin.load m.0 t', [])) × HasLocked origin.load.procs t t'
+LockedBy origin m t m' t' IsBusy = (m' ≡ (told origin.load m.0 t', [])) × HasMetBusy origin.load.procs t t'
+LockedBy origin m t m' t' Other = (m' ≡ m) × (t' ≡ t)
+LockedBy origin m t m' t' NoMemory = (m' ≡ m) × (t' ≡ t)
+
+-- the same after a key was given back, and after one was freed
+abbrev pub QuitBy : Plain → Sat → PlainTxn → Sat → PlainTxn → Acted → Type 0
+QuitBy origin m t m' t' Went = (m' ≡ (told origin.load m.0 t', [])) × HasQuit origin.load.procs t t'
+QuitBy origin m t m' t' IsBusy = ⊥
+QuitBy origin m t m' t' Other = (m' ≡ m) × (t' ≡ t)
+QuitBy origin m t m' t' NoMemory = ⊥
+
+abbrev pub FreedBy : Plain → Sat → PlainTxn → Sat → PlainTxn → Acted → Type 0
+FreedBy origin m t m' t' Went = (m' ≡ (told origin.load m.0 t', [])) × HasFreed origin.load.procs t t'
+FreedBy origin m t m' t' IsBusy = ⊥
+FreedBy origin m t m' t' Other = (m' ≡ m) × (t' ≡ t)
+FreedBy origin m t m' t' NoMemory = ⊥

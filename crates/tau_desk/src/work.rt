@@ -5,7 +5,7 @@ ghost use Rattle.tau_shard.specs.Read.{shard_of};
 ghost use Rattle.tau_base.specs.declared.limits.TheConstants.{SHARDS};
 ghost use Rattle.tau_txn.specs.Txn.{PlainTxn, RunsBy, hand_in, has_joined};
 ghost use Rattle.tau_rule.specs.Steps.{Agrees, IsReady, told, holding, shard_in, IsAfter, first_role};
-ghost use Rattle.tau_desk.specs.Acts.{LockedBy};
+ghost use Rattle.tau_desk.specs.Acts.{FreedBy, LockedBy, QuitBy};
 ghost use Rattle.tau_rule.specs.Boxes.{box_in, told_box, IsToPost};
 ghost use Rattle.tau_rule.specs.Places.{IsToPlace, placed};
 ghost use Rattle.tau_txn.specs.Next.{IsCommit, next_action};
@@ -61,10 +61,10 @@ pub fn lock<R: Wait>(
 ) -> Acted
     requires own { seat.old.table_id ≡ desk.now.table.shared.table_id }
     requires procs { procs.now ≡ desk.now.table.shared.key.value.load.procs }
-    requires small { worker < 16 }
+    requires small { worker < 32 }
     requires ready { IsReady desk.now.table.shared.key.value worker seat.old.me txn.old }
     ensures own { (seat.new.table_id ≡ seat.old.table_id) × (seat.new.id ≡ seat.old.id) }
-    ensures step { LockedBy desk.now.table.shared.key.value worker seat.old.me txn.old seat.new.me txn.new result }
+    ensures step { LockedBy desk.now.table.shared.key.value seat.old.me txn.old seat.new.me txn.new result }
 {
     let Action::Lock { key, mode } = txn.turn() else {
         return Acted::Other;
@@ -101,11 +101,11 @@ pub fn free<R: Wait>(
 ) -> Acted
     requires own { seat.old.table_id ≡ desk.now.table.shared.table_id }
     requires procs { procs.now ≡ desk.now.table.shared.key.value.load.procs }
-    requires small { worker < 16 }
+    requires small { worker < 32 }
     requires joined { has_joined txn.old ≡ true }
     requires ready { IsReady desk.now.table.shared.key.value worker seat.old.me txn.old }
     ensures own { (seat.new.table_id ≡ seat.old.table_id) × (seat.new.id ≡ seat.old.id) }
-    ensures step { LockedBy desk.now.table.shared.key.value worker seat.old.me txn.old seat.new.me txn.new result }
+    ensures step { FreedBy desk.now.table.shared.key.value seat.old.me txn.old seat.new.me txn.new result }
 {
     let Action::Free { key, write } = txn.turn() else {
         return Acted::Other;
@@ -114,6 +114,33 @@ pub fn free<R: Wait>(
     let mut shard = take_shard(rt, desk, seat, number);
     let lv = txn.lv();
     shard.free(worker, key, &lv, write);
+    txn.went(procs);
+    desk.give_shard(seat, number, shard, txn);
+    Acted::Went
+}
+
+/// The worker, whose call is to quit, gives its lowest key back.
+pub fn quit<R: Wait>(
+    rt: &R,
+    desk: &Desk,
+    seat: &mut Seat,
+    worker: u8,
+    procs: &Procs,
+    txn: &mut Txn,
+) -> Acted
+    requires own { seat.old.table_id ≡ desk.now.table.shared.table_id }
+    requires procs { procs.now ≡ desk.now.table.shared.key.value.load.procs }
+    requires small { worker < 32 }
+    requires ready { IsReady desk.now.table.shared.key.value worker seat.old.me txn.old }
+    ensures own { (seat.new.table_id ≡ seat.old.table_id) × (seat.new.id ≡ seat.old.id) }
+    ensures step { QuitBy desk.now.table.shared.key.value seat.old.me txn.old seat.new.me txn.new result }
+{
+    let Action::Quit { key } = txn.turn() else {
+        return Acted::Other;
+    };
+    let number = usize::from(shard_of(key));
+    let mut shard = take_shard(rt, desk, seat, number);
+    shard.quit(worker, key);
     txn.went(procs);
     desk.give_shard(seat, number, shard, txn);
     Acted::Went

@@ -15,8 +15,7 @@ use Rattle.tau_txn.specs.Next.{next_action, Means, Frees, FreesBy}
 use Rattle.tau_txn.specs.Txn.{PlainTxn, RunsBy, hand_in, has_joined}
 use Rattle.tau_core.specs.State.{Plain}
 use Rattle.tau_rule.specs.Knows.{Knows}
-use Rattle.tau_rule.specs.Steps.{Sat, Agrees, IsAfter, told, shard_in}
-use Rattle.tau_desk.proofs.Locking.{after}
+use Rattle.tau_rule.specs.Steps.{Agrees, told, shard_in}
 use Rattle.tau_desk.proofs.Freeing.{was-begun, taken-held, taken-written, freed-steps, written-some}
 use Rattle.tau_desk.proofs.work.free.Goals as goal
 
@@ -113,6 +112,14 @@ returns-clause-step g c =
     let phase : means.hand.phase ≡ Freeing means.act = subst (λ (b : Bool). FreesBy origin.load.procs b c.args.txn.now.worker means.hand means.act) c.requires.joined means.act_is in
     let begun = was-begun origin.load.streams r.worker means.hand means.act (r.agrees ∙ means.is) phase in
     let agrees : Agrees origin v k held.0 = held.3 in
-    let holds = taken-held origin c.args.seat.now.me c.args.txn.now c.args.worker k held.0 sh r means.hand key begun.0 agrees was number in
-    let now : c.give_shard.new.seat.me ≡ (told origin.load v c.went.new.self, []) = c.give_shard.ensures.given ∙ ap (λ m. (told origin.load m.0 c.went.new.self, [])) held.1 in
-    (now, subst (λ (m : Sat). IsAfter origin c.args.worker m c.went.new.self) (sym now) (after origin c.args.worker c.args.seat.now.me c.args.txn.now c.went.new.self r (ap (λ (t : PlainTxn). t.worker) c.went.ensures.same) (ap (λ (t : PlainTxn). t.width) c.went.ensures.same) (subst (λ (p : List Proc). RunsBy p c.went.new.self) c.requires.procs c.went.ensures.runs)))
+    let holds = taken-held origin c.args.seat.now.me c.args.txn.now c.args.worker k held.0 sh r means.hand key begun.0 agrees was number in (
+      c.give_shard.ensures.given ∙ ap (λ m. (told origin.load m.0 c.went.new.self, [])) held.1,
+      record {
+        key = key;
+        write = c.in-Free.write;
+        frees = means;
+        is = subst (λ (p : List Proc). hand_in p c.args.txn.now ≡ Some means.hand → FreesBy p (has_joined c.args.txn.now) c.args.txn.now.worker means.hand means.act → hand_in p c.went.new.self ≡ Some (hand_freed (hand_joined means.hand (Freeing means.act) means.hand.dep) key)) c.requires.procs
+            (λ is frees. c.went.ensures.freed means.hand means.act key c.in-Free.write next is frees) means.is means.act_is;
+        worker = record { runs = subst (λ (p : List Proc). RunsBy p c.went.new.self) c.requires.procs c.went.ensures.runs; same = c.went.ensures.same };
+      },
+    )

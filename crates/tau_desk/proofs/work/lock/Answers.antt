@@ -13,9 +13,9 @@ use Rattle.tau_txn.specs.Next.{next_action, Means, Locks}
 use Rattle.tau_txn.specs.Txn.{PlainTxn, RunsBy, hand_in, worker_of}
 use Rattle.tau_core.specs.State.{Plain}
 use Rattle.tau_rule.specs.Knows.{Knows}
-use Rattle.tau_rule.specs.Steps.{Sat, Agrees, IsAfter, told, shard_in}
+use Rattle.tau_rule.specs.Steps.{Agrees, told, shard_in}
 use Rattle.tau_rule.proofs.Turns.{part-shard}
-use Rattle.tau_desk.proofs.Locking.{granted-steps, busy-steps, after, taken-wide}
+use Rattle.tau_desk.proofs.Locking.{granted-steps, busy-steps, taken-wide}
 use Rattle.tau_desk.proofs.work.lock.Goals as goal
 
 pub granted-requires-clause-wide : goal.granted-requires-clause-wide
@@ -123,14 +123,19 @@ returns-in-Ok-clause-step g c =
     let held = c.take_shard-shard.ensures.held in
     let origin : Plain = c.args.desk.now.table.shared.key.value in
     let v : Knows = c.args.seat.now.me.0 in
-    let k : ℕ = c.from-number.result in
-    let sh : Shard = shard_of c.deref_mut.result.now in
-    let was : shard_in held.0 ≡ Some sh = held.2 ∙ ap (λ (s : PlainShard). Some (shard_of s)) (sym c.deref_mut.ensures.value) in
-    let number : k ≡ shard_number c.in-Lock.key = c.from-number.ensures ∙ c.shard_of.ensures.same in
     let means : Locks origin.load.procs c.args.txn.now c.in-Lock.key c.in-Lock.mode = subst (λ (a : Action). Means origin.load.procs c.args.txn.now a) c.in-Lock.is (c.turn.ensures.means origin.load.procs r.runs) in
-    let next : next_action c.args.txn.now ≡ action.Lock c.in-Lock.key c.in-Lock.mode = sym c.turn.ensures.asked ∙ c.in-Lock.is in
-    let now : c.give_shard.new.seat.me ≡ (told origin.load v c.granted.new.self, []) = c.give_shard.ensures.given ∙ ap (λ m. (told origin.load m.0 c.granted.new.self, [])) held.1 in
-    (now, subst (λ (m : Sat). IsAfter origin c.args.worker m c.granted.new.self) (sym now) (after origin c.args.worker c.args.seat.now.me c.args.txn.now c.granted.new.self r (ap (λ (t : PlainTxn). t.worker) c.granted.ensures.same) (ap (λ (t : PlainTxn). t.width) c.granted.ensures.same) (c.granted.ensures.runs origin.load.procs r.runs)))
+    let next : next_action c.args.txn.now ≡ action.Lock c.in-Lock.key c.in-Lock.mode = sym c.turn.ensures.asked ∙ c.in-Lock.is in (
+      c.give_shard.ensures.given ∙ ap (λ m. (told origin.load m.0 c.granted.new.self, [])) held.1,
+      record {
+        key = c.in-Lock.key;
+        mode = c.in-Lock.mode;
+        row = c.in-Ok.value;
+        dep = c.lock.new.dep;
+        wanted = means;
+        is = c.granted.ensures.locked origin.load.procs means.hand c.in-Lock.key c.in-Lock.mode r.runs next means.is;
+        worker = record { runs = c.granted.ensures.runs origin.load.procs r.runs; same = c.granted.ensures.same };
+      },
+    )
 
 pub returns-in-Err-Busy-clause-step : goal.returns-in-Err-Busy-clause-step
 returns-in-Err-Busy-clause-step g c =
@@ -138,11 +143,14 @@ returns-in-Err-Busy-clause-step g c =
     let held = c.take_shard-shard.ensures.held in
     let origin : Plain = c.args.desk.now.table.shared.key.value in
     let v : Knows = c.args.seat.now.me.0 in
-    let k : ℕ = c.from-number.result in
-    let sh : Shard = shard_of c.deref_mut.result.now in
-    let was : shard_in held.0 ≡ Some sh = held.2 ∙ ap (λ (s : PlainShard). Some (shard_of s)) (sym c.deref_mut.ensures.value) in
-    let number : k ≡ shard_number c.in-Lock.key = c.from-number.ensures ∙ c.shard_of.ensures.same in
     let means : Locks origin.load.procs c.args.txn.now c.in-Lock.key c.in-Lock.mode = subst (λ (a : Action). Means origin.load.procs c.args.txn.now a) c.in-Lock.is (c.turn.ensures.means origin.load.procs r.runs) in
-    let next : next_action c.args.txn.now ≡ action.Lock c.in-Lock.key c.in-Lock.mode = sym c.turn.ensures.asked ∙ c.in-Lock.is in
-    let now : c.give_shard-in-Err-Busy.new.seat.me ≡ (told origin.load v c.busy.new.self, []) = c.give_shard-in-Err-Busy.ensures.given ∙ ap (λ m. (told origin.load m.0 c.busy.new.self, [])) held.1 in
-    (now, subst (λ (m : Sat). IsAfter origin c.args.worker m c.busy.new.self) (sym now) (after origin c.args.worker c.args.seat.now.me c.args.txn.now c.busy.new.self r (ap (λ (t : PlainTxn). t.worker) c.busy.ensures.same) (ap (λ (t : PlainTxn). t.width) c.busy.ensures.same) (subst (λ (p : List Proc). RunsBy p c.busy.new.self) c.requires.procs c.busy.ensures.runs)))
+    let next : next_action c.args.txn.now ≡ action.Lock c.in-Lock.key c.in-Lock.mode = sym c.turn.ensures.asked ∙ c.in-Lock.is in (
+      c.give_shard-in-Err-Busy.ensures.given ∙ ap (λ m. (told origin.load m.0 c.busy.new.self, [])) held.1,
+      record {
+        key = c.in-Lock.key;
+        mode = c.in-Lock.mode;
+        wanted = means;
+        settles = λ wk. subst (λ (p : List Proc). (x : Worker) (h : Hand) → hand_in p c.args.txn.now ≡ Some h → worker_of p x c.busy.new.self ≡ settled c.args.txn.now.width x (hand_busy h)) c.requires.procs c.busy.ensures.busy wk means.hand means.is;
+        worker = record { runs = subst (λ (p : List Proc). RunsBy p c.busy.new.self) c.requires.procs c.busy.ensures.runs; same = c.busy.ensures.same };
+      },
+    )
