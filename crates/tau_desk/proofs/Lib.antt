@@ -20,3 +20,4 @@ pub mod Taking
 pub mod Anchored
 pub mod Publishing
 pub mod Ends
+pub mod GoingOn

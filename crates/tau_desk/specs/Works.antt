@@ -6,6 +6,9 @@ use Rattle.tau_machine.specs.Worker.{Worker}
 use Rattle.tau_machine.specs.Events.{FirstFree, DoneReading}
 use Rattle.tau_shard.specs.Plain.{PlainShard}
 use Rattle.tau_shard.specs.Read.{shard_of}
+use Rattle.tau_txn.specs.declared.standing.Standing.{Standing}
+use Rattle.tau_txn.specs.declared.standing.Standing.TheVariants.{LeftOver}
+use Rattle.tau_txn.specs.Hand.{PlainHand}
 use Rattle.tau_txn.specs.Txn.{PlainTxn}
 use Rattle.tau_core.specs.declared.state.Load.{Load}
 use Rattle.tau_core.specs.State.{Plain}
@@ -13,9 +16,14 @@ use Rattle.tau_core.specs.View.{setting_of}
 use Rattle.tau_rule.specs.Role.{Role, Working}
 use Rattle.tau_rule.specs.Knows.{Knows}
 use Rattle.tau_rule.specs.Rule.{anchor_part, outbox_part}
-use Rattle.tau_rule.specs.Steps.{Sat, StepsShard, first_role, handed, next_worker, shard_in, worker_in, working}
+use Rattle.tau_rule.specs.Steps.{Sat, StepsShard, first_role, handed, next_worker, shard_in, told, worker_in, working}
 use Rattle.tau_rule.specs.Boxes.{BoxOf, StepsBox, box_in, with_box}
 use Rattle.tau_rule.specs.declared.part.Part.{Part}
+use Rattle.tau_desk.specs.Acts.{HasFreed, HasLocked, HasMetBusy, HasQuit}
+use Rattle.tau_desk.specs.Seats.{PlainWorkerSeat}
+use Rattle.tau_desk.specs.Shares.{PlainWork}
+use Rattle.tau_desk.specs.declared.work.Acted.{Acted}
+use Rattle.tau_desk.specs.declared.work.Acted.TheVariants as acted
 use Rattle.tau_rule.specs.declared.part.Part.TheVariants as part
 
 -- the worker whose call only read: it commits by the step after which this is in hand, and this is kept of it
@@ -97,3 +105,40 @@ pub record GivesRead (l : Load) (m : Sat) (w : ℕ) (number : ℕ) (lv : List �
 -- what it knows then
 abbrev pub told_read : Knows → ℕ → List ℕ → Knows
 told_read v number lv = record v { hand = None; read = (number, lv) }
+
+-- a call that is left over goes to the others that are, any other one stays
+abbrev pub LeavesBy : Standing → PlainHand → PlainWork → PlainWork → Type 0
+LeavesBy LeftOver h o o' = (o'.txn ≡ record o.txn { hand = None }) × (o'.left ≡ o.left ++ h.number ∷ []) × (o' ≡ record o { txn = o'.txn; left = o'.left; left_room = o'.left_room })
+LeavesBy _ h o o' = o' ≡ o
+
+abbrev pub leaves_of : Option PlainHand → PlainWork → PlainWork → Type 0
+leaves_of None o o' = o' ≡ o
+leaves_of (Some h) o o' = LeavesBy h.standing h o o'
+
+abbrev pub Leaves : PlainWork → PlainWork → Type 0
+Leaves o o' = leaves_of o.txn.hand o o'
+
+-- the call in hand went on, and the seat knows what it shows then
+pub record GoesOn (l : Load) (s s' : PlainWorkerSeat) (t : PlainTxn) : Type 0 where
+  pub me : s'.me ≡ (told l s.me.0 t, [])
+  pub leaves : Leaves (record s.work { txn = t; mark = None }) s'.work
+  pub others : s' ≡ record s { me = s'.me; work = s'.work }
+
+-- what comes of a lock, of a key that is given back, and of one that is freed
+abbrev pub LocksOn : Load → PlainWorkerSeat → PlainWorkerSeat → Acted → Type 0
+LocksOn l s s' acted.Went = (t : PlainTxn) × HasLocked l.procs s.work.txn t × GoesOn l s s' t
+LocksOn l s s' acted.Busy = (t : PlainTxn) × HasMetBusy l.procs s.work.txn t × GoesOn l s s' t
+LocksOn l s s' acted.Other = s' ≡ s
+LocksOn l s s' acted.NoMemory = s' ≡ s
+
+abbrev pub QuitsOn : Load → PlainWorkerSeat → PlainWorkerSeat → Acted → Type 0
+QuitsOn l s s' acted.Went = (t : PlainTxn) × HasQuit l.procs s.work.txn t × GoesOn l s s' t
+QuitsOn l s s' acted.Busy = ⊥
+QuitsOn l s s' acted.Other = s' ≡ s
+QuitsOn l s s' acted.NoMemory = ⊥
+
+abbrev pub FreesOn : Load → PlainWorkerSeat → PlainWorkerSeat → Acted → Type 0
+FreesOn l s s' acted.Went = (t : PlainTxn) × HasFreed l.procs s.work.txn t × GoesOn l s s' t
+FreesOn l s s' acted.Busy = ⊥
+FreesOn l s s' acted.Other = s' ≡ s
+FreesOn l s s' acted.NoMemory = ⊥
