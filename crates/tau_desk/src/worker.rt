@@ -1,6 +1,7 @@
 //! A worker on its seat.
 ghost use Rattle.std.specs.Prelude.{◌≡◌, ◌≤◌, Some, true, is_some};
-ghost use Rattle.tau_txn.specs.Txn.{RunsBy};
+ghost use Rattle.tau_txn.specs.Txn.{RunsBy, has_joined};
+ghost use Rattle.tau_txn.specs.Next.{kind_of, next_action};
 ghost use Rattle.tau_desk.specs.Works.{Leaves, LocksOn, QuitsOn, FreesOn};
 
 use crate::desk::Desk;
@@ -9,7 +10,7 @@ use crate::work;
 use crate::work::Acted;
 use std::sync::Wait;
 use tau_proc::Procs;
-use tau_txn::Action;
+use tau_txn::{Action, ActionKind};
 
 impl WorkerSeat {
     /// The call in hand locks the key that it wants. Out of memory, nothing has changed.
@@ -42,6 +43,71 @@ impl WorkerSeat {
             Acted::Other => Acted::Other,
             Acted::NoMemory => Acted::NoMemory,
         }
+    }
+
+    /// The call in hand, which is to quit, gives its lowest key back.
+    pub fn quit<R: Wait>(&mut self, rt: &R, desk: &Desk) -> Acted
+        requires own { self.old.table_id ≡ desk.now.table.shared.table_id }
+        requires opened { self.old.me.0.opened ≡ Some desk.now.table.shared.key.value }
+        ensures { QuitsOn desk.now.table.shared.key.value.load self.old self.new result }
+    {
+        if !self.work.txn.in_hand() {
+            return Acted::Other;
+        }
+        let procs = &desk.load.procs;
+        match work::quit(
+            rt,
+            desk,
+            &mut self.seat,
+            self.worker,
+            procs,
+            &mut self.work.txn,
+        ) {
+            Acted::Went => {
+                self.work.mark = None;
+                leave(&mut self.work, procs);
+                Acted::Went
+            }
+            Acted::Busy => Acted::Busy,
+            Acted::Other => Acted::Other,
+            Acted::NoMemory => Acted::NoMemory,
+        }
+    }
+
+    /// The call in hand, which has joined the committed ones, frees its lowest key.
+    pub fn free<R: Wait>(&mut self, rt: &R, desk: &Desk) -> Acted
+        requires own { self.old.table_id ≡ desk.now.table.shared.table_id }
+        requires opened { self.old.me.0.opened ≡ Some desk.now.table.shared.key.value }
+        requires joined { has_joined self.old.work.txn ≡ true }
+        ensures { FreesOn desk.now.table.shared.key.value.load self.old self.new result }
+    {
+        if !self.work.txn.in_hand() {
+            return Acted::Other;
+        }
+        let procs = &desk.load.procs;
+        match work::free(
+            rt,
+            desk,
+            &mut self.seat,
+            self.worker,
+            procs,
+            &mut self.work.txn,
+        ) {
+            Acted::Went => {
+                self.work.mark = None;
+                Acted::Went
+            }
+            Acted::Busy => Acted::Busy,
+            Acted::Other => Acted::Other,
+            Acted::NoMemory => Acted::NoMemory,
+        }
+    }
+
+    /// The kind of what the call in hand does next.
+    pub fn next(&self) -> ActionKind
+        ensures { result ≡ kind_of (next_action self.now.work.txn) }
+    {
+        self.work.txn.kind()
     }
 }
 
