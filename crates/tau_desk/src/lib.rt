@@ -23,6 +23,7 @@ mod worker_gives;
 
 pub use desk::Desk;
 pub use kept::Kept;
+pub use laws::{own_calls, own_committed, own_keys, own_pieces, own_rows, own_vectors};
 pub use mark::Mark;
 pub use name::{PartName, Role};
 pub use room::Room;
