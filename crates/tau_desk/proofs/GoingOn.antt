@@ -1,5 +1,5 @@
 -- The call in hand of a seat goes on by a step, and a call that is left over goes to the others that are.
-use Rattle.std.proofs.Common.{ℕ, ◌≡◌, ◌⊎◌, ◌≤◌, Bool, true, false, inl, inr, List, [], ◌∷◌, ◌++◌, refl, sym, ap, subst, ◌∙◌, Option, append_assoc}
+use Rattle.std.proofs.Common.{ℕ, ◌≡◌, ◌⊎◌, ◌≤◌, ◌<◌, Bool, true, false, inl, inr, List, [], ◌∷◌, ◌++◌, refl, sym, ap, subst, ◌∙◌, Option, append_assoc}
 use Rattle.std.specs.Prelude.{Some, None, is_some, length}
 use Rattle.std.specs.Map.{lookup}
 use Rattle.std.proofs.lemmas.List.{append-nil}
@@ -36,11 +36,12 @@ use Rattle.tau_core.proofs.Hands.{some-hand}
 use Rattle.tau_core.proofs.Leaving.{settled-hand, settled-left}
 use Rattle.tau_rule.specs.Knows.{Knows}
 use Rattle.tau_rule.specs.Role.{Role, Working}
-use Rattle.tau_rule.specs.Steps.{IsReady, IsWorker, Sat, next_worker, told, working}
-use Rattle.tau_rule.specs.Boxes.{IsToPost}
+use Rattle.tau_rule.specs.Steps.{IsReady, IsWorker, Sat, handed, next_worker, told, working}
+use Rattle.tau_rule.specs.Boxes.{told_box, with_box}
+use Rattle.tau_rule.proofs.Boxes.{told_box-is}
 use Rattle.tau_rule.proofs.Gives.{one-origin, told-is}
 use Rattle.tau_rule.proofs.Workers.{worker-shown}
-use Rattle.tau_desk.specs.Acts.{HasFreed, HasLocked, HasMetBusy, HasQuit, SameWorker}
+use Rattle.tau_desk.specs.Acts.{HasEnded, HasFreed, HasLocked, HasMetBusy, HasPosted, HasQuit, SameWorker}
 use Rattle.tau_desk.specs.declared.mark.Mark.{Mark}
 use Rattle.tau_desk.specs.Shares.{FitsWork, IsWork, PlainWork, ShowsWorker, own_worker, unbegun}
 use Rattle.tau_desk.specs.Seats.{IsWorkerSeat}
@@ -407,3 +408,98 @@ module _ (origin : Plain) (m m' : Sat) (w : ℕ) (o : PlainWork) (t : PlainTxn) 
 
   pub seat-freed : has_joined o.txn ≡ true → HasFreed origin.load.procs o.txn t → IsWorkerSeat m' w (record o { txn = t; mark = None }) read seen
   seat-freed joined q = seat-on origin m m' w o (record o { txn = t; mark = None }) t read seen opened s (some-hand origin.load.procs o.txn q.frees.hand q.frees.is) knows (freed-on-key origin.load w o fits-at t joined q)
+
+-- a seat whose worker is this after a step
+
+pub seat-shown : (origin : Plain) (m m' : Sat) (w : ℕ) (o o' : PlainWork) (read : ℕ × List ℕ) (seen : List ℕ) → m.0.opened ≡ Some origin → (s : IsWorkerSeat m w o read seen) → (role : Role) (wk : Worker) → role.share ≡ Working wk → m' ≡ (handed m.0 w role, []) →
+    wk ≡ own_worker origin.load o' → o'.mark ≡ None → FitsWork origin.load w o' → role.spare ≡ o'.spare → (next_action o'.txn ≡ action.Post → ⊥) → IsWorkerSeat m' w o' read seen
+seat-shown origin m m' w o o' read seen opened s role wk share me shows bare fits spare no-post =
+    let same = seat-origin origin m w o read seen opened s in
+    subst (λ (x : Sat). IsWorkerSeat x w o' read seen) (sym me) (record {
+      origin = origin;
+      role = role;
+      seat = record { opened = opened; roles = refl; idle = refl; none = refl };
+      work = record {
+        worker = wk;
+        share = share;
+        there = subst (λ (p : Plain). w < p.load.workers) same s.work.there;
+        shows = subst (λ (k : Option Mark). ShowsWorker origin.load wk o' k) (sym bare) shows;
+        fits = fits;
+        spare = spare;
+      };
+      read_is = s.read_is;
+      read_wide = subst (λ (p : Plain). length read.1 ≡ p.load.streams) same s.read_wide;
+      seen_is = s.seen_is;
+      seen_wide = subst (λ (p : Plain). length seen ≡ p.load.streams) same s.seen_wide;
+      posts = λ e. absurd (no-post e);
+    })
+
+-- what the seat has of the run
+pub work-at : (origin : Plain) (m : Sat) (w : ℕ) (o : PlainWork) (read : ℕ × List ℕ) (seen : List ℕ) → m.0.opened ≡ Some origin → (s : IsWorkerSeat m w o read seen) → IsWork origin.load w s.role o
+work-at origin m w o read seen opened s = subst (λ (p : Plain). IsWork p.load w s.role o) (seat-origin origin m w o read seen opened s) s.work
+
+spare-made : (l : Load) (w : ℕ) (o : PlainWork) (spare : ℕ × ℕ) → FitsWork l w o → (next_action o.txn ≡ action.Post → ⊥) → (is_some o.txn.hand ≡ true → 1 ≤ spare.1) → FitsWork l w (record o { spare = spare })
+spare-made l w o spare f no-post low = record {
+  worker = f.worker;
+  width = f.width;
+  mode = f.mode;
+  runs = f.runs;
+  stays = f.stays;
+  call = f.call;
+  low = f.low;
+  high = f.high;
+  again = f.again;
+  left = f.left;
+  leaves = f.leaves;
+  ends = low;
+  posts = λ e. absurd (no-post e);
+  commits = f.commits;
+}
+
+pub seat-posted : (origin : Plain) (m m' : Sat) (w : ℕ) (o : PlainWork) (t : PlainTxn) (spare : ℕ × ℕ) (read : ℕ × List ℕ) (seen : List ℕ) → m.0.opened ≡ Some origin → IsWorkerSeat m w o read seen → m' ≡ (told_box origin.load m.0 t spare, []) → spare.1 ≡ o.spare.1 → HasPosted origin.load.procs o.txn t →
+    IsWorkerSeat m' w (record o { txn = t; spare = spare; mark = None }) read seen
+seat-posted origin m m' w o t spare read seen opened s knows calls q =
+    let l : Load = origin.load in
+    let work = work-at origin m w o read seen opened s in
+    let f = work.fits in
+    let h : Hand = q.posts.hand in
+    let x : Hand = record h { phase = theory.Freeing q.posts.act } in
+    let step : Stepped l w o t (record o { txn = t; mark = None }) =
+        stays-in l w o f h q.posts.is t q.worker x q.is refl (λ act e. freeing-not (theory.Freeing q.posts.act) q.posts.act act refl e) (λ e. absurd (not-both false refl (sym e))) in
+    let wk : Worker = next_worker l work.worker t in
+    seat-shown origin m m' w o (record o { txn = t; spare = spare; mark = None }) read seen opened s (with_box s.role wk spare) wk refl
+    (knows ∙ ap (λ (v : Knows). (v, [])) (told_box-is origin m.0 t spare w s.role work.worker s.seat.roles work.share))
+    (step.own work.worker (begun-own l work.worker o h q.posts.is work.shows)) refl
+    (spare-made l w (record o { txn = t; mark = None }) spare step.fits step.posts (λ e. subst (λ (n : ℕ). 1 ≤ n) (sym calls) (f.ends (some-hand l.procs o.txn h q.posts.is)))) refl step.posts
+
+pub seat-ended : (origin : Plain) (m m' : Sat) (w : ℕ) (o : PlainWork) (t : PlainTxn) (spare : ℕ × ℕ) (read : ℕ × List ℕ) (seen : List ℕ) → m.0.opened ≡ Some origin → IsWorkerSeat m w o read seen → m' ≡ (told_box origin.load m.0 t spare, []) → HasEnded origin.load.procs o.txn t →
+    IsWorkerSeat m' w (record o { txn = t; spare = spare; mark = None }) read seen
+seat-ended origin m m' w o t spare read seen opened s knows q =
+    let l : Load = origin.load in
+    let work = work-at origin m w o read seen opened s in
+    let f = work.fits in
+    let wk : Worker = next_worker l work.worker t in
+    let gone : hand_in l.procs t ≡ None = ap (shown_of l.procs t.worker) q.gone in
+    let none : is_some t.hand ≡ false = ap is_some q.gone in
+    let no-post : next_action t ≡ action.Post → ⊥ = (λ e. not-both false refl (ap is_post (sym (ap next_of q.gone) ∙ e))) in
+    seat-shown origin m m' w o (record o { txn = t; spare = spare; mark = None }) read seen opened s (with_box s.role wk spare) wk refl
+    (knows ∙ ap (λ (v : Knows). (v, [])) (told_box-is origin m.0 t spare w s.role work.worker s.seat.roles work.share))
+    (ap (λ (y : Worker). worker_of l.procs y t) (begun-own l work.worker o q.ends.hand q.ends.is work.shows) ∙ ap (worker_in l.procs t.worker (own_worker l o)) q.gone ∙ ap (λ (y : Option Hand). record (own_worker l o) { hand = y }) (sym gone))
+    refl
+    (record {
+      worker = ap (λ (y : PlainTxn). y.worker) q.worker.same ∙ f.worker;
+      width = ap (λ (y : PlainTxn). y.width) q.worker.same ∙ f.width;
+      mode = ap (λ (y : PlainTxn). y.mode) q.worker.same ∙ f.mode;
+      runs = q.worker.runs;
+      stays = none ∙ sym (ap is_some gone);
+      call = λ y g. absurd (let bad : None ≡ Some y = sym gone ∙ g in cc);
+      low = f.low;
+      high = f.high;
+      again = f.again;
+      left = f.left;
+      leaves = λ g. absurd (not-both (is_some t.hand) none g);
+      ends = λ g. absurd (not-both (is_some t.hand) none g);
+      posts = λ g. absurd (no-post g);
+      commits = λ g j. absurd (not-both (is_some t.hand) none g);
+    })
+    refl no-post

@@ -1,13 +1,15 @@
 -- What a worker's actions come to.
-use Rattle.std.specs.Prelude.{ℕ, ◌≡◌, List, [], Option, Some}
+use Rattle.std.specs.Prelude.{ℕ, ◌≡◌, List, [], Option, Some, None}
 use Rattle.tau_base.specs.declared.value.Key.{Key}
 use Rattle.tau_base.specs.declared.value.Mode.{Mode}
 use Rattle.tau_base.specs.declared.value.Value.{Value}
 use Rattle.tau_proc.specs.declared.proc.Proc.{Proc}
+use Rattle.tau_proc.specs.declared.reply.Reply.{Reply}
 use Rattle.tau_machine.specs.Hands.{Freeing}
 use Rattle.tau_machine.specs.Worker.{Worker, hand_busy, hand_freed, hand_joined, hand_quit, settled}
 use Rattle.tau_txn.specs.Txn.{PlainTxn, RunsBy, hand_in, leaves_in, worker_of}
 use Rattle.tau_txn.specs.Next as txn
+use Rattle.tau_txn.specs.declared.action.Action.TheVariants as action
 use Rattle.tau_txn.specs.Steps.{locked_with}
 use Rattle.tau_core.specs.State.{Plain}
 use Rattle.tau_rule.specs.Steps.{Sat, told}
@@ -52,6 +54,22 @@ module _ (procs : List Proc) (t t' : PlainTxn) where
     pub frees : txn.Frees procs t key write
     pub is : hand_in procs t' ≡ Some (hand_freed (hand_joined frees.hand (Freeing frees.act) frees.hand.dep) key)
     pub worker : SameWorker
+
+module _ (procs : List Proc) (t t' : PlainTxn) where
+  -- its record is posted
+  pub record HasPosted : Type 0 where
+    pub posts : txn.Posts procs t
+    pub is : hand_in procs t' ≡ Some (record posts.hand { phase = Freeing posts.act })
+    pub worker : SameWorker procs t t'
+
+  -- it has joined the committed ones and freed its keys, and is no longer in hand
+  pub record HasEnded : Type 0 where
+    pub reply : Reply
+    pub lv : List ℕ
+    pub next : txn.next_action t ≡ action.Done reply lv
+    pub ends : txn.Finishes procs t reply lv
+    pub gone : t'.hand ≡ None
+    pub worker : SameWorker procs t t'
 
 -- after a lock, or a Busy, the seat knows what the call in hand shows; else nothing changed
 abbrev pub LockedBy : Plain → Sat → PlainTxn → Sat → PlainTxn → Acted → Type 0

@@ -1,5 +1,5 @@
 -- What a worker's steps owe and tell, besides a Lock, a Busy, a Quit, a Free, a Post and a Done, which owe `GivesShard` and `GivesOutbox`.
-use Rattle.std.specs.Prelude.{ℕ, ◌≤◌, ◌<◌, ◌≡◌, Option, Some, None, List, [], ◌∷◌, ◌++◌}
+use Rattle.std.specs.Prelude.{ℕ, ◌+◌, ◌≤◌, ◌<◌, ◌≡◌, Option, Some, None, List, [], ◌∷◌, ◌++◌}
 use Rattle.tau_model.specs.declared.committed.Committed.{Committed}
 use Rattle.tau_machine.specs.Shard.{Shard}
 use Rattle.tau_machine.specs.Worker.{Worker}
@@ -17,9 +17,9 @@ use Rattle.tau_rule.specs.Role.{Role, Working}
 use Rattle.tau_rule.specs.Knows.{Knows}
 use Rattle.tau_rule.specs.Rule.{anchor_part, outbox_part}
 use Rattle.tau_rule.specs.Steps.{Sat, StepsShard, first_role, handed, next_worker, shard_in, told, worker_in, working}
-use Rattle.tau_rule.specs.Boxes.{BoxOf, StepsBox, box_in, with_box}
+use Rattle.tau_rule.specs.Boxes.{BoxOf, StepsBox, box_in, told_box, with_box}
 use Rattle.tau_rule.specs.declared.part.Part.{Part}
-use Rattle.tau_desk.specs.Acts.{HasFreed, HasLocked, HasMetBusy, HasQuit}
+use Rattle.tau_desk.specs.Acts.{HasEnded, HasFreed, HasLocked, HasMetBusy, HasPosted, HasQuit}
 use Rattle.tau_desk.specs.Seats.{PlainWorkerSeat}
 use Rattle.tau_desk.specs.Shares.{PlainWork}
 use Rattle.tau_desk.specs.declared.work.Acted.{Acted}
@@ -142,3 +142,23 @@ FreesOn l s s' acted.Went = (t : PlainTxn) × HasFreed l.procs s.work.txn t × G
 FreesOn l s s' acted.Busy = ⊥
 FreesOn l s s' acted.Other = s' ≡ s
 FreesOn l s s' acted.NoMemory = ⊥
+
+-- the record of the call in hand stands in the outbox, and takes of its room
+pub record PostsOn (l : Load) (s s' : PlainWorkerSeat) : Type 0 where
+  pub txn : PlainTxn
+  pub posted : HasPosted l.procs s.work.txn txn
+  pub spare : ℕ × ℕ
+  pub records : spare.0 + 1 ≡ s.work.spare.0
+  pub calls : spare.1 ≡ s.work.spare.1
+  pub me : s'.me ≡ (told_box l s.me.0 txn spare, [])
+  pub after : s' ≡ record s { me = s'.me; work = record s.work { txn = txn; spare = spare; mark = None } }
+
+-- the call waits in the outbox for its acknowledgement and is in hand no more; room was made there
+pub record EndsOn (l : Load) (s s' : PlainWorkerSeat) : Type 0 where
+  pub txn : PlainTxn
+  pub ended : HasEnded l.procs s.work.txn txn
+  pub spare : ℕ × ℕ
+  pub records : s.work.spare.0 ≤ spare.0
+  pub calls : s.work.spare.1 ≤ spare.1 + 1
+  pub me : s'.me ≡ (told_box l s.me.0 txn spare, [])
+  pub after : s' ≡ record s { me = s'.me; work = record s.work { txn = txn; spare = spare; mark = None } }

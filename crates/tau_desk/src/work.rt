@@ -1,14 +1,14 @@
 //! What a worker does on the desk.
-ghost use Rattle.std.specs.Prelude.{◌≡◌, ◌+◌, ◌<◌, ◌≤◌, [], ◌∷◌, None, Some, ℕ, true};
+ghost use Rattle.std.specs.Prelude.{◌≡◌, ◌+◌, ◌<◌, ◌≤◌, [], ◌∷◌, None, Some, ℕ, is_some, true};
 ghost use Rattle.tau_machine.specs.Shard.{Shard as ShardOf};
 ghost use Rattle.tau_shard.specs.Read.{shard_of};
 ghost use Rattle.tau_base.specs.declared.limits.TheConstants.{SHARDS};
-ghost use Rattle.tau_txn.specs.Txn.{PlainTxn, RunsBy, hand_in, has_joined};
+ghost use Rattle.tau_txn.specs.Txn.{PlainTxn, RunsBy, hand_in, has_joined, number_in};
 ghost use Rattle.tau_rule.specs.Steps.{Agrees, IsReady, told, holding, shard_in, IsAfter, first_role};
-ghost use Rattle.tau_desk.specs.Acts.{FreedBy, LockedBy, QuitBy};
+ghost use Rattle.tau_desk.specs.Acts.{FreedBy, HasEnded, HasPosted, LockedBy, QuitBy};
 ghost use Rattle.tau_rule.specs.Boxes.{box_in, told_box, IsToPost};
 ghost use Rattle.tau_rule.specs.Places.{IsToPlace, placed};
-ghost use Rattle.tau_txn.specs.Next.{IsCommit, next_action};
+ghost use Rattle.tau_txn.specs.Next.{IsCommit, kind_of, next_action};
 ghost use Rattle.tau_rule.specs.declared.part.Part.{Part as PartOf};
 
 use crate::desk::Desk;
@@ -20,7 +20,7 @@ use tau_outbox::Outbox;
 use tau_proc::Procs;
 use tau_rule::{Part, Seat};
 use tau_shard::{Shard, ShardRefusal};
-use tau_txn::{Action, Txn};
+use tau_txn::{Action, ActionKind, Txn};
 
 /// What came of an action on a shard.
 #[derive(Clone, Copy)]
@@ -195,6 +195,7 @@ pub fn post<R: Wait>(
     requires room { ((first_role seat.old.me.0.roles).1.spare ≡ (room.old.records, room.old.calls)) × (1 ≤ room.old.records) }
     ensures own { (seat.new.table_id ≡ seat.old.table_id) × (seat.new.id ≡ seat.old.id) }
     ensures step { seat.new.me ≡ (told_box desk.now.table.shared.key.value.load seat.old.me.0 txn.new (room.new.records, room.new.calls), []) }
+    ensures call { HasPosted desk.now.table.shared.key.value.load.procs txn.old txn.new }
     ensures room { (room.new.records + 1 ≡ room.old.records) × (room.new.calls ≡ room.old.calls) }
 {
     let (mut outbox, pending) = take_outbox(rt, desk, seat, worker);
@@ -202,4 +203,78 @@ pub fn post<R: Wait>(
     outbox.post(start, bytes);
     room.records -= 1;
     desk.give_outbox(seat, worker, outbox, pending, txn, *room);
+}
+
+/// The call, which has joined the committed ones and freed its keys, waits for its acknowledgement. Where room for the next call is missing, it is made.
+pub fn done<R: Wait>(
+    rt: &R,
+    desk: &Desk,
+    seat: &mut Seat,
+    worker: u8,
+    procs: &Procs,
+    txn: &mut Txn,
+    room: &mut Room,
+)
+    requires own { seat.old.table_id ≡ desk.now.table.shared.table_id }
+    requires procs { procs.now ≡ desk.now.table.shared.key.value.load.procs }
+    requires joined { has_joined txn.old ≡ true }
+    requires ready { IsReady desk.now.table.shared.key.value worker seat.old.me txn.old }
+    requires next { kind_of (next_action txn.old) ≡ ActionKind.Done }
+    requires room { ((first_role seat.old.me.0.roles).1.spare ≡ (room.old.records, room.old.calls)) × (1 ≤ room.old.calls) }
+    ensures own { (seat.new.table_id ≡ seat.old.table_id) × (seat.new.id ≡ seat.old.id) }
+    ensures step { seat.new.me ≡ (told_box desk.now.table.shared.key.value.load seat.old.me.0 txn.new (room.new.records, room.new.calls), []) }
+    ensures call { HasEnded desk.now.table.shared.key.value.load.procs txn.old txn.new }
+    ensures room { (room.old.records ≤ room.new.records) × (room.old.calls ≤ room.new.calls + 1) }
+{
+    let ActionKind::Done = txn.kind() else {
+        unreachable!()
+    };
+    let (mut outbox, mut pending) = take_outbox(rt, desk, seat, worker);
+    let number = number_of(txn);
+    let lv = txn.lv();
+    pending.put(number, lv);
+    txn.went(procs);
+    room.records = more_records(&mut outbox, room.records);
+    room.calls = more_calls(&mut pending, room.calls - 1);
+    desk.give_outbox(seat, worker, outbox, pending, txn, *room);
+}
+
+/// The number of the call in hand.
+fn number_of(txn: &Txn) -> u64
+    requires { is_some txn.now.hand ≡ true }
+    ensures { Some result ≡ number_in txn.now }
+{
+    txn.number().unwrap()
+}
+
+/// Where there is no room for a record, it is made.
+fn more_records(outbox: &mut Outbox, room: usize) -> usize
+    requires { room ≤ outbox.old.room }
+    ensures pieces { outbox.new.pieces ≡ outbox.old.pieces }
+    ensures kept { room ≤ result }
+    ensures there { result ≤ outbox.new.room }
+{
+    if room > 0 {
+        return room;
+    }
+    match outbox.reserve() {
+        Ok(()) => 1,
+        Err(_) => 0,
+    }
+}
+
+/// Where there is no room for a call that waits, it is made.
+fn more_calls(pending: &mut Pending, room: usize) -> usize
+    requires { room ≤ pending.old.room }
+    ensures calls { pending.new.calls ≡ pending.old.calls }
+    ensures kept { room ≤ result }
+    ensures there { result ≤ pending.new.room }
+{
+    if room > 0 {
+        return room;
+    }
+    match pending.reserve() {
+        Ok(()) => 1,
+        Err(_) => 0,
+    }
 }

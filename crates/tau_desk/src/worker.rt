@@ -2,7 +2,7 @@
 ghost use Rattle.std.specs.Prelude.{◌≡◌, ◌≤◌, Some, true, is_some};
 ghost use Rattle.tau_txn.specs.Txn.{RunsBy, has_joined};
 ghost use Rattle.tau_txn.specs.Next.{kind_of, next_action};
-ghost use Rattle.tau_desk.specs.Works.{Leaves, LocksOn, QuitsOn, FreesOn};
+ghost use Rattle.tau_desk.specs.Works.{EndsOn, FreesOn, Leaves, LocksOn, PostsOn, QuitsOn};
 
 use crate::desk::Desk;
 use crate::seat::{Work, WorkerSeat};
@@ -101,6 +101,45 @@ impl WorkerSeat {
             Acted::Other => Acted::Other,
             Acted::NoMemory => Acted::NoMemory,
         }
+    }
+
+    /// The record of the call in hand, which has its place, is posted.
+    pub fn post<R: Wait>(&mut self, rt: &R, desk: &Desk)
+        requires own { self.old.table_id ≡ desk.now.table.shared.table_id }
+        requires opened { self.old.me.0.opened ≡ Some desk.now.table.shared.key.value }
+        requires next { next_action self.old.work.txn ≡ Action.Post }
+        ensures { PostsOn desk.now.table.shared.key.value.load self.old self.new }
+    {
+        work::post(
+            rt,
+            desk,
+            &mut self.seat,
+            self.worker,
+            self.work.start,
+            &mut self.work.txn,
+            &mut self.work.room,
+        );
+        self.work.mark = None;
+    }
+
+    /// The call in hand, which has joined the committed ones and freed its keys, waits for its acknowledgement, and is in hand no more. Where room for the next call is missing, it is made.
+    pub fn done<R: Wait>(&mut self, rt: &R, desk: &Desk)
+        requires own { self.old.table_id ≡ desk.now.table.shared.table_id }
+        requires opened { self.old.me.0.opened ≡ Some desk.now.table.shared.key.value }
+        requires joined { has_joined self.old.work.txn ≡ true }
+        requires next { kind_of (next_action self.old.work.txn) ≡ ActionKind.Done }
+        ensures { EndsOn desk.now.table.shared.key.value.load self.old self.new }
+    {
+        work::done(
+            rt,
+            desk,
+            &mut self.seat,
+            self.worker,
+            &desk.load.procs,
+            &mut self.work.txn,
+            &mut self.work.room,
+        );
+        self.work.mark = None;
     }
 
     /// The kind of what the call in hand does next.

@@ -59,3 +59,14 @@ give_outbox-requires-clause-event g c =
         },
       ),
     )
+
+pub returns-clause-call : goal.returns-clause-call
+returns-clause-call g c =
+    let origin : Plain = c.args.desk.now.table.shared.key.value in
+    let r = c.requires.ready in
+    let q = c.requires.posts in
+    record {
+      posts = record { hand = q.hand; act = q.act; is = q.is; phase = q.phase };
+      is = c.take_bytes-bytes.ensures.posted origin.load.procs q.hand q.act r.runs q.is q.phase;
+      worker = record { runs = c.take_bytes-bytes.ensures.runs origin.load.procs r.runs; same = c.take_bytes-bytes.ensures.same };
+    }
