@@ -88,7 +88,7 @@ runs-on false h w = asks-on w h
 not-both : (b : Bool) → b ≡ false → b ≡ true → ⊥
 not-both b e f = (let bad : false ≡ true = sym e ∙ f in cc)
 
-posts-placed : (procs : List Proc) (t : PlainTxn) (h : Hand) → hand_in procs t ≡ Some h → next_action t ≡ action.Post → (act : Act theory.Txn) × (h.phase ≡ Placed act)
+pub posts-placed : (procs : List Proc) (t : PlainTxn) (h : Hand) → hand_in procs t ≡ Some h → next_action t ≡ action.Post → (act : Act theory.Txn) × (h.phase ≡ Placed act)
 posts-placed procs t h e next = by_hand t.hand e next
   where
     by_standing : (st : Standing) (x : PlainHand) → shown procs t.worker st (record x { standing = st }) ≡ Some h → next_by st x ≡ action.Post → (act : Act theory.Txn) × (h.phase ≡ Placed act)

@@ -21,3 +21,4 @@ pub mod Anchored
 pub mod Publishing
 pub mod Ends
 pub mod GoingOn
+pub mod CallBegins

@@ -1,5 +1,5 @@
 -- What a worker's steps owe and tell, besides a Lock, a Busy, a Quit, a Free, a Post and a Done, which owe `GivesShard` and `GivesOutbox`.
-use Rattle.std.specs.Prelude.{ℕ, ◌+◌, ◌≤◌, ◌<◌, ◌≡◌, Option, Some, None, List, [], ◌∷◌, ◌++◌}
+use Rattle.std.specs.Prelude.{ℕ, ◌+◌, ◌≤◌, ◌<◌, ◌≡◌, Bool, true, false, Option, Some, None, Result, Ok, Err, length, List, [], ◌∷◌, ◌++◌}
 use Rattle.tau_model.specs.declared.committed.Committed.{Committed}
 use Rattle.tau_machine.specs.Shard.{Shard}
 use Rattle.tau_machine.specs.Worker.{Worker}
@@ -10,7 +10,14 @@ use Rattle.tau_txn.specs.declared.standing.Standing.{Standing}
 use Rattle.tau_txn.specs.declared.standing.Standing.TheVariants.{LeftOver}
 use Rattle.tau_txn.specs.Hand.{PlainHand}
 use Rattle.tau_txn.specs.Txn.{PlainTxn}
+use Rattle.tau_base.specs.declared.value.Call.{Call}
+use Rattle.tau_base.specs.declared.value.NoMemory.{NoMemory}
+use Rattle.tau_machine.specs.Worker.{fresh}
+use Rattle.tau_txn.specs.Txn.{hand_in}
+use Rattle.tau_core.specs.Begins.{next_behind, number_by}
+use Rattle.tau_core.specs.View.{call_of}
 use Rattle.tau_core.specs.declared.state.Load.{Load}
+use Rattle.tau_desk.specs.declared.mark.Mark.{Mark}
 use Rattle.tau_core.specs.State.{Plain}
 use Rattle.tau_core.specs.View.{setting_of}
 use Rattle.tau_rule.specs.Role.{Role, Working}
@@ -162,3 +169,29 @@ pub record EndsOn (l : Load) (s s' : PlainWorkerSeat) : Type 0 where
   pub calls : s.work.spare.1 ≤ spare.1 + 1
   pub me : s'.me ≡ (told_box l s.me.0 txn spare, [])
   pub after : s' ≡ record s { me = s'.me; work = record s.work { txn = txn; spare = spare; mark = None } }
+
+-- only room was made, for a call that is left over and for one that commits
+pub record RoomMade (o o' : PlainWork) : Type 0 where
+  pub left : o.left_room ≤ o'.left_room
+  pub committed : o.committed_room ≤ o'.committed_room
+  pub others : o' ≡ record o { left_room = o'.left_room; committed_room = o'.committed_room }
+
+-- the next call is in hand, and has made no event
+pub record BeginsNext (l : Load) (o o' : PlainWork) : Type 0 where
+  pub roomy : PlainWork
+  pub made : RoomMade o roomy
+  pub number : ℕ
+  pub call : Call
+  pub next : number_by (length l.calls) o.next o.again ≡ Some number
+  pub is : call_of l.calls number ≡ Some call
+  pub begun : hand_in l.procs o'.txn ≡ Some (fresh o.txn.width (record { number = number; call = call }) 0)
+  pub same : o'.txn ≡ record o.txn { hand = o'.txn.hand }
+  pub others : o' ≡ record roomy { txn = o'.txn; next = next_behind l.workers o.next o.again; again = None; mark = Some (record { next = o.next; again = o.again }) }
+
+abbrev pub BeginsBy : Load → PlainWork → PlainWork → Bool → Type 0
+BeginsBy l o o' true = BeginsNext l o o'
+BeginsBy l o o' false = (o' ≡ o) × (number_by (length l.calls) o.next o.again ≡ None)
+
+abbrev pub BeginsIn : Load → PlainWork → PlainWork → Result Bool NoMemory → Type 0
+BeginsIn l o o' (Ok b) = BeginsBy l o o' b
+BeginsIn l o o' (Err e) = RoomMade o o'

@@ -1,14 +1,21 @@
 //! A worker on its seat.
-ghost use Rattle.std.specs.Prelude.{◌≡◌, ◌≤◌, Some, true, is_some};
-ghost use Rattle.tau_txn.specs.Txn.{RunsBy, has_joined};
+ghost use Rattle.std.specs.Prelude.{◌≡◌, ◌≤◌, ◌<◌, ◌+◌, ◌^◌, ℕ, None, Some, IfOk, IsTrue, OnOk, true, is_some};
+ghost use Rattle.tau_proc.specs.Takes.{takes};
+ghost use Rattle.tau_machine.specs.Worker.{fresh};
+ghost use Rattle.tau_core.specs.Begins.{next_behind, number_by};
+ghost use Rattle.tau_core.specs.Opens.{Opened};
+ghost use Rattle.tau_desk.specs.Shares.{FitsWork};
+ghost use Rattle.tau_txn.specs.Txn.{RunsBy, hand_in, has_joined};
 ghost use Rattle.tau_txn.specs.Next.{kind_of, next_action};
-ghost use Rattle.tau_desk.specs.Works.{EndsOn, FreesOn, Leaves, LocksOn, PostsOn, QuitsOn};
+ghost use Rattle.tau_desk.specs.Works.{BeginsIn, EndsOn, FreesOn, Leaves, LocksOn, PostsOn, QuitsOn, RoomMade};
 
 use crate::desk::Desk;
+use crate::mark::Mark;
 use crate::seat::{Work, WorkerSeat};
 use crate::work;
 use crate::work::Acted;
 use std::sync::Wait;
+use tau_base::{Call, NoMemory};
 use tau_proc::Procs;
 use tau_txn::{Action, ActionKind};
 
@@ -142,12 +149,95 @@ impl WorkerSeat {
         self.work.mark = None;
     }
 
+    /// The next call comes into the hand, with room for what it puts away, and returns whether there is one. Out of memory, no call is in hand.
+    pub fn begin(&mut self, desk: &Desk) -> Result<bool, NoMemory>
+        requires opened { self.old.me.0.opened ≡ Some desk.now.table.shared.key.value }
+        requires run { Opened desk.now.table.shared.key.value.load desk.now.table.shared.key.value }
+        requires rests { self.old.work.txn.hand ≡ None }
+        requires room { 1 ≤ self.old.work.spare.1 }
+        ensures begins { BeginsIn desk.now.table.shared.key.value.load self.old.work self.new.work result }
+        ensures others { self.new ≡ record self.old { work = self.new.work } }
+    {
+        begin_next(&mut self.work, desk)
+    }
+
     /// The kind of what the call in hand does next.
     pub fn next(&self) -> ActionKind
         ensures { result ≡ kind_of (next_action self.now.work.txn) }
     {
         self.work.txn.kind()
     }
+}
+
+/// The next call comes into the hand.
+fn begin_next(work: &mut Work, desk: &Desk) -> Result<bool, NoMemory>
+    requires run { Opened desk.now.table.shared.key.value.load desk.now.table.shared.key.value }
+    requires fits { (w : ℕ) × FitsWork desk.now.table.shared.key.value.load w work.old }
+    requires rests { work.old.txn.hand ≡ None }
+    ensures begins { BeginsIn desk.now.table.shared.key.value.load work.old work.new result }
+    ensures roomy { IfOk result (λ b. b ≡ true → (1 ≤ work.new.left_room) × (1 ≤ work.new.committed_room)) }
+    ensures runs { IfOk result (λ b. b ≡ true → RunsBy desk.now.table.shared.key.value.load.procs work.new.txn) }
+{
+    let Some(number) = number_in(work, desk.load.calls.len()) else {
+        return Ok(false);
+    };
+    match reserve(work) {
+        Err(error) => Err(error),
+        Ok(()) => {
+            let call = &desk.load.calls.as_slice()[(number - 1) as usize];
+            start(work, &desk.load.procs, number, call, desk.load.workers);
+            Ok(true)
+        }
+    }
+}
+
+/// The number of the next call, where there are so many calls.
+fn number_in(work: &Work, calls: usize) -> Option<u64>
+    ensures { result ≡ number_by calls work.now.next work.now.again }
+{
+    match work.again {
+        Some(number) => Some(number),
+        None => {
+            if work.next <= calls {
+                Some(work.next as u64)
+            } else {
+                None
+            }
+        }
+    }
+}
+
+/// Makes room for a call that is left over, and for one that commits.
+fn reserve(work: &mut Work) -> Result<(), NoMemory>
+    ensures made { RoomMade work.old work.new }
+    ensures roomy { OnOk result ((1 ≤ work.new.left_room) × (1 ≤ work.new.committed_room)) }
+{
+    match work.committed.try_reserve(1) {
+        Err(_) => Err(NoMemory),
+        Ok(()) => work.left.reserve(),
+    }
+}
+
+/// Takes the call into the hand, and goes on by one among the calls.
+fn start(work: &mut Work, procs: &Procs, number: u64, call: &Call, workers: usize)
+    requires rests { work.old.txn.hand ≡ None }
+    requires takes { IsTrue (takes procs.now call.now) }
+    requires low { 1 ≤ number }
+    requires small { work.old.next + workers < 2 ^ 32 }
+    ensures begun { hand_in procs.now work.new.txn ≡ Some (fresh work.old.txn.width (record { number = number; call = call.now }) 0) }
+    ensures runs { RunsBy procs.now work.new.txn }
+    ensures same { work.new.txn ≡ record work.old.txn { hand = work.new.txn.hand } }
+    ensures others { work.new ≡ record work.old { txn = work.new.txn; next = next_behind workers work.old.next work.old.again; again = None; mark = Some (record { next = work.old.next; again = work.old.again }) } }
+{
+    work.mark = Some(Mark {
+        next: work.next,
+        again: work.again,
+    });
+    work.txn.begin(procs, number, call);
+    if work.again.is_none() {
+        work.next += workers;
+    }
+    work.again = None;
 }
 
 /// A call that is left over goes to the others that are.

@@ -19,7 +19,7 @@ pub play-requires-clause-new : goal.play-requires-clause-new
 play-requires-clause-new g c = λ j d got. ((c.in_ok-disks.ensures.new j d got).0, tt)
 
 pub tell-requires-clause-ordered : goal.tell-requires-clause-ordered
-tell-requires-clause-ordered g c =
+tell-requires-clause-ordered g c κs within =
     let count : length c.in_ok-disks.disks.items ≡ c.args.n = (let e = c.in_ok-disks.ensures.count in omega (arith, e)) in
     let same : length c.play.new.disks.items ≡ c.args.n = (let e = c.in_ok-play.ensures.count in omega (arith, e)) in
     subst (λ (ds : List MemDisk). (log : Log) × (log_of (images_by c.args.tear ds) ≡ Ok log) × (order : List Kept) × IsOrderOf log order) (sym c.as_slice-2.ensures.value)
