@@ -20,7 +20,7 @@ use Rattle.tau_core.specs.Pieces.{IsPieceOf, Paired}
 use Rattle.tau_rule.specs.Knows.{Knows}
 use Rattle.tau_rule.specs.Role.{Role}
 use Rattle.tau_rule.specs.Rule.{anchors_at, outbox_part}
-use Rattle.tau_rule.specs.Steps.{Agrees, IsReady, Sat, first_role, next_worker}
+use Rattle.tau_rule.specs.Steps.{Agrees, IsReady, IsWorker, Sat, first_role, next_worker}
 use Rattle.tau_rule.specs.Boxes.{BoxOf, StepsBox, box_in}
 use Rattle.tau_rule.specs.declared.part.Part.{Part}
 use Rattle.tau_rule.proofs.Boxes.{part-rooms}
@@ -68,3 +68,10 @@ box-rooms origin w m t r p b records calls a is spare =
     let mine = a.roles w r.role (one-role m.0 w r.role r.seat.roles) in
     let same : a.state.spare w ≡ (records, calls) = mine.2 ∙ sym (ap (λ (rs : List (ℕ × Role)). (first_role rs).1.spare) r.seat.roles) ∙ spare in
     subst (λ (z : ℕ × ℕ). (z.0 ≤ b.0.room) × (z.1 ≤ b.1.room)) same here
+
+-- the same of a seat whose worker may rest
+pub own-rooms : (origin : Plain) (w : ℕ) (m : Sat) (x : Role) → IsWorker origin m w x → (p : Part) (b : BoxOf) → Agrees origin m.0 (outbox_part w) p → box_in p ≡ Some b → (x.spare.0 ≤ b.0.room) × (x.spare.1 ≤ b.1.room)
+own-rooms origin w m x s p b a is =
+    let here = part-rooms origin a.state w p b is a.part in
+    let mine = a.roles w x (one-role m.0 w x s.roles) in
+    subst (λ (z : ℕ × ℕ). (z.0 ≤ b.0.room) × (z.1 ≤ b.1.room)) mine.2 here

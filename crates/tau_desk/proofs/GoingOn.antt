@@ -1,5 +1,5 @@
 -- The call in hand of a seat goes on by a step, and a call that is left over goes to the others that are.
-use Rattle.std.proofs.Common.{ℕ, ◌≡◌, ◌⊎◌, ◌≤◌, ◌<◌, Bool, true, false, inl, inr, List, [], ◌∷◌, ◌++◌, refl, sym, ap, subst, ◌∙◌, Option, append_assoc}
+use Rattle.std.proofs.Common.{ℕ, ◌≡◌, ◌⊎◌, ◌≤◌, ◌<◌, Bool, true, false, inl, inr, arith, List, [], ◌∷◌, ◌++◌, refl, sym, ap, subst, ◌∙◌, Option, append_assoc}
 use Rattle.std.specs.Prelude.{Some, None, is_some, length}
 use Rattle.std.specs.Map.{lookup}
 use Rattle.std.proofs.lemmas.List.{append-nil}
@@ -45,7 +45,8 @@ use Rattle.tau_desk.specs.Acts.{HasEnded, HasFreed, HasLocked, HasMetBusy, HasPo
 use Rattle.tau_desk.specs.declared.mark.Mark.{Mark}
 use Rattle.tau_desk.specs.Shares.{FitsWork, IsWork, PlainWork, ShowsWorker, own_worker, unbegun}
 use Rattle.tau_desk.specs.Seats.{IsWorkerSeat}
-use Rattle.tau_desk.specs.Works.{Leaves, LeavesBy, leaves_of}
+use Rattle.tau_desk.specs.Works.{Leaves, LeavesBy, leaves_of, told_room}
+use Rattle.tau_desk.proofs.Reading.{told_room-is}
 
 -- which calls post next
 
@@ -503,3 +504,49 @@ seat-ended origin m m' w o t spare read seen opened s knows q =
       commits = λ g j. absurd (not-both (is_some t.hand) none g);
     })
     refl no-post
+
+-- room was made in its outbox
+pub seat-room : (origin : Plain) (m m' : Sat) (w : ℕ) (o : PlainWork) (spare : ℕ × ℕ) (read : ℕ × List ℕ) (seen : List ℕ) → m.0.opened ≡ Some origin → IsWorkerSeat m w o read seen → m' ≡ (told_room m.0 spare, []) → o.spare.0 ≤ spare.0 → o.spare.1 ≤ spare.1 →
+    IsWorkerSeat m' w (record o { spare = spare }) read seen
+seat-room origin m m' w o spare read seen opened s knows records calls =
+    let f = s.work.fits in
+    subst (λ (x : Sat). IsWorkerSeat x w (record o { spare = spare }) read seen) (sym (knows ∙ ap (λ (v : Knows). (v, [])) (told_room-is m.0 spare w s.role s.seat.roles))) (record {
+      origin = s.origin;
+      role = record s.role { spare = spare };
+      seat = record { opened = s.seat.opened; roles = refl; idle = refl; none = refl };
+      work = record {
+        worker = s.work.worker;
+        share = s.work.share;
+        there = s.work.there;
+        shows = by_mark o.mark s.work.shows;
+        fits = record {
+          worker = f.worker;
+          width = f.width;
+          mode = f.mode;
+          runs = f.runs;
+          stays = f.stays;
+          call = f.call;
+          low = f.low;
+          high = f.high;
+          again = f.again;
+          left = f.left;
+          leaves = f.leaves;
+          ends = λ e. more o.spare.1 spare.1 (f.ends e) calls;
+          posts = λ e. more o.spare.0 spare.0 (f.posts e) records;
+          commits = f.commits;
+        };
+        spare = refl;
+      };
+      read_is = s.read_is;
+      read_wide = s.read_wide;
+      seen_is = s.seen_is;
+      seen_wide = s.seen_wide;
+      posts = λ e. (let p = s.posts e in record { hand = p.hand; act = p.act; base = p.base; next = p.next; is = p.is; phase = p.phase; starts = p.starts; past = p.past; small = p.small; stream = p.stream; named = p.named; spelled = p.spelled });
+    })
+  where
+    more : (a b : ℕ) → 1 ≤ a → a ≤ b → 1 ≤ b
+    more a b h k = omega arith
+
+    by_mark : (k : Option Mark) → ShowsWorker s.origin.load s.work.worker o k → ShowsWorker s.origin.load s.work.worker (record o { spare = spare }) k
+    by_mark None h = h
+    by_mark (Some k) h = h

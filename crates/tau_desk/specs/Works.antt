@@ -195,3 +195,11 @@ BeginsBy l o o' false = (o' ≡ o) × (number_by (length l.calls) o.next o.again
 abbrev pub BeginsIn : Load → PlainWork → PlainWork → Result Bool NoMemory → Type 0
 BeginsIn l o o' (Ok b) = BeginsBy l o o' b
 BeginsIn l o o' (Err e) = RoomMade o o'
+
+-- room was made in the outbox
+pub record RoomOn (s s' : PlainWorkerSeat) : Type 0 where
+  pub spare : ℕ × ℕ
+  pub records : s.work.spare.0 ≤ spare.0
+  pub calls : s.work.spare.1 ≤ spare.1
+  pub me : s'.me ≡ (told_room s.me.0 spare, [])
+  pub after : s' ≡ record s { me = s'.me; work = record s.work { spare = spare } }

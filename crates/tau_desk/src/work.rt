@@ -4,8 +4,10 @@ ghost use Rattle.tau_machine.specs.Shard.{Shard as ShardOf};
 ghost use Rattle.tau_shard.specs.Read.{shard_of};
 ghost use Rattle.tau_base.specs.declared.limits.TheConstants.{SHARDS};
 ghost use Rattle.tau_txn.specs.Txn.{PlainTxn, RunsBy, hand_in, has_joined, number_in};
-ghost use Rattle.tau_rule.specs.Steps.{Agrees, IsReady, told, holding, shard_in, IsAfter, first_role};
+ghost use Rattle.tau_rule.specs.Steps.{Agrees, IsReady, IsWorker, told, holding, shard_in, IsAfter, first_role};
 ghost use Rattle.tau_desk.specs.Acts.{FreedBy, HasEnded, HasPosted, LockedBy, QuitBy};
+ghost use Rattle.tau_rule.specs.Role.{Role as RoleOf};
+ghost use Rattle.tau_desk.specs.Works.{told_room};
 ghost use Rattle.tau_rule.specs.Boxes.{box_in, told_box, IsToPost};
 ghost use Rattle.tau_rule.specs.Places.{IsToPlace, placed};
 ghost use Rattle.tau_txn.specs.Next.{IsCommit, kind_of, next_action};
@@ -277,4 +279,57 @@ fn more_calls(pending: &mut Pending, room: usize) -> usize
         Ok(()) => 1,
         Err(_) => 0,
     }
+}
+
+/// Takes the outbox of a worker, whatever call it has.
+fn take_own_outbox<R: Wait>(
+    rt: &R,
+    desk: &Desk,
+    seat: &mut Seat,
+    worker: u8,
+) -> (Box<Outbox>, Box<Pending>)
+    requires own { seat.old.table_id ≡ desk.now.table.shared.table_id }
+    requires role { (r : RoleOf) × IsWorker desk.now.table.shared.key.value seat.old.me worker r }
+    requires there { worker < desk.now.table.shared.key.value.load.workers }
+    ensures own { (seat.new.table_id ≡ seat.old.table_id) × (seat.new.id ≡ seat.old.id) }
+    ensures held { (p : PartOf) × (seat.new.me ≡ (holding (SHARDS + worker) seat.old.me.0 p, (SHARDS + worker, None) ∷ [])) × (box_in p ≡ Some (result.0.value, result.1.value)) × Agrees desk.now.table.shared.key.value seat.old.me.0 (SHARDS + worker) p }
+{
+    match desk.take(rt, seat, SHARDS + usize::from(worker)) {
+        Part::Outbox(outbox, pending) => (outbox, pending),
+        Part::Shard(_) => unreachable!(),
+        Part::Anchor(_, _) => unreachable!(),
+    }
+}
+
+/// Where room for the next call is missing in the outbox, it is made; returns whether there is room now.
+pub fn make_room<R: Wait>(
+    rt: &R,
+    desk: &Desk,
+    seat: &mut Seat,
+    worker: u8,
+    room: &mut Room,
+) -> bool
+    requires own { seat.old.table_id ≡ desk.now.table.shared.table_id }
+    requires role { (r : RoleOf) × (IsWorker desk.now.table.shared.key.value seat.old.me worker r × (r.spare ≡ (room.old.records, room.old.calls))) }
+    requires there { worker < desk.now.table.shared.key.value.load.workers }
+    ensures own { (seat.new.table_id ≡ seat.old.table_id) × (seat.new.id ≡ seat.old.id) }
+    ensures step { seat.new.me ≡ (told_room seat.old.me.0 (room.new.records, room.new.calls), []) }
+    ensures room { (room.old.records ≤ room.new.records) × (room.old.calls ≤ room.new.calls) }
+    ensures roomy { result ≡ true → (1 ≤ room.new.records) × (1 ≤ room.new.calls) }
+{
+    let (mut outbox, mut pending) = take_own_outbox(rt, desk, seat, worker);
+    room.records = more_records(&mut outbox, room.records);
+    room.calls = more_calls(&mut pending, room.calls);
+    desk.give_room(seat, worker, outbox, pending, *room);
+    is_roomy(*room)
+}
+
+/// Whether there is room for a call.
+fn is_roomy(room: Room) -> bool
+    ensures { result ≡ true → (1 ≤ room.records) × (1 ≤ room.calls) }
+{
+    if room.records == 0 {
+        return false;
+    }
+    room.calls > 0
 }

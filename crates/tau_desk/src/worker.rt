@@ -7,7 +7,7 @@ ghost use Rattle.tau_core.specs.Opens.{Opened};
 ghost use Rattle.tau_desk.specs.Shares.{FitsWork};
 ghost use Rattle.tau_txn.specs.Txn.{RunsBy, hand_in, has_joined};
 ghost use Rattle.tau_txn.specs.Next.{kind_of, next_action};
-ghost use Rattle.tau_desk.specs.Works.{BeginsIn, EndsOn, FreesOn, Leaves, LocksOn, PostsOn, QuitsOn, RoomMade};
+ghost use Rattle.tau_desk.specs.Works.{BeginsIn, EndsOn, FreesOn, Leaves, LocksOn, PostsOn, QuitsOn, RoomMade, RoomOn};
 
 use crate::desk::Desk;
 use crate::mark::Mark;
@@ -147,6 +147,22 @@ impl WorkerSeat {
             &mut self.work.room,
         );
         self.work.mark = None;
+    }
+
+    /// Where room for the next call is missing in the outbox, it is made; returns whether there is room now.
+    pub fn make_room<R: Wait>(&mut self, rt: &R, desk: &Desk) -> bool
+        requires own { self.old.table_id ≡ desk.now.table.shared.table_id }
+        requires opened { self.old.me.0.opened ≡ Some desk.now.table.shared.key.value }
+        ensures made { RoomOn self.old self.new }
+        ensures roomy { result ≡ true → (1 ≤ self.new.work.spare.0) × (1 ≤ self.new.work.spare.1) }
+    {
+        work::make_room(
+            rt,
+            desk,
+            &mut self.seat,
+            self.worker,
+            &mut self.work.room,
+        )
     }
 
     /// The next call comes into the hand, with room for what it puts away, and returns whether there is one. Out of memory, no call is in hand.
