@@ -160,7 +160,7 @@ seat-begun origin m w o o' read seen opened s many rests low b runs rooms =
     let t : PlainTxn = o'.txn in
     let next : ℕ = next_behind origin.load.workers o.next o.again in
     let same : o' ≡ record o { left_room = b.roomy.left_room; committed_room = b.roomy.committed_room; txn = t; next = next; again = None; mark = Some k } =
-        b.others ∙ ap (λ (y : PlainWork). record y { txn = t; next = next; again = None; mark = Some k }) b.made.others in
+    b.others ∙ ap (λ (y : PlainWork). record y { txn = t; next = next; again = None; mark = Some k }) b.made.others in
     let left = subst (λ (y : PlainWork). 1 ≤ y.left_room) same rooms.0 in
     let committed = subst (λ (y : PlainWork). 1 ≤ y.committed_room) same rooms.1 in
     subst (λ (y : PlainWork). IsWorkerSeat m w y read seen) (sym same)

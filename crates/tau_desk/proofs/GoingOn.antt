@@ -331,7 +331,7 @@ seat-on origin m m' w o o' t read seen opened s has knows step =
     let there = hand-there l w o s.work.fits has in
     let wk : Worker = next_worker l s.work.worker t in
     let me : m' ≡ (Rattle.tau_rule.specs.Steps.handed m.0 w (working s.role wk), []) =
-        knows ∙ ap (λ (p : Plain). (told p.load m.0 t, [])) (sym same) ∙ ap (λ (v : Knows). (v, [])) (told-is s.origin m.0 t w s.role s.work.worker s.seat.roles s.work.share) in
+    knows ∙ ap (λ (p : Plain). (told p.load m.0 t, [])) (sym same) ∙ ap (λ (v : Knows). (v, [])) (told-is s.origin m.0 t w s.role s.work.worker s.seat.roles s.work.share) in
     let shows : wk ≡ own_worker l o' = step'.own s.work.worker (begun-own l s.work.worker o there.0 there.1 s.work.shows) in
     subst (λ (x : Sat). IsWorkerSeat x w o' read seen) (sym me) (record {
       origin = s.origin;
@@ -466,7 +466,7 @@ seat-posted origin m m' w o t spare read seen opened s knows calls q =
     let h : Hand = q.posts.hand in
     let x : Hand = record h { phase = theory.Freeing q.posts.act } in
     let step : Stepped l w o t (record o { txn = t; mark = None }) =
-        stays-in l w o f h q.posts.is t q.worker x q.is refl (λ act e. freeing-not (theory.Freeing q.posts.act) q.posts.act act refl e) (λ e. absurd (not-both false refl (sym e))) in
+    stays-in l w o f h q.posts.is t q.worker x q.is refl (λ act e. freeing-not (theory.Freeing q.posts.act) q.posts.act act refl e) (λ e. absurd (not-both false refl (sym e))) in
     let wk : Worker = next_worker l work.worker t in
     seat-shown origin m m' w o (record o { txn = t; spare = spare; mark = None }) read seen opened s (with_box s.role wk spare) wk refl
     (knows ∙ ap (λ (v : Knows). (v, [])) (told_box-is origin m.0 t spare w s.role work.worker s.seat.roles work.share))

@@ -37,7 +37,7 @@ quit-steps origin w k wk sh sh' t t' key q is same number width shard settles s 
     let up : Bool = leaves_in t in
     let here : sh ≡ s.shards (shard_number key) = sym at_shard ∙ ap s.shards number in
     let worker : next_worker origin.load wk t' ≡ settled origin.load.streams wk (hand_quit q.hand key up) =
-        ap (λ (x : Worker). worker_of origin.load.procs x t') same ∙ settles wk ∙ ap (λ (n : ℕ). settled n wk (hand_quit q.hand key up)) width in
+    ap (λ (x : Worker). worker_of origin.load.procs x t') same ∙ settles wk ∙ ap (λ (n : ℕ). settled n wk (hand_quit q.hand key up)) width in
     let phase : (q.hand.phase ≡ Quitting) ⊎ ((q.hand.phase ≡ Running) × ((q.hand.given_up || up) ≡ true)) = elim q.phase [
       | inl a ↦ inl a
       | inr b ↦ inr (b.0, or-true q.hand.given_up up b.1)

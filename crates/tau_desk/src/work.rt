@@ -302,13 +302,7 @@ fn take_own_outbox<R: Wait>(
 }
 
 /// Where room for the next call is missing in the outbox, it is made; returns whether there is room now.
-pub fn make_room<R: Wait>(
-    rt: &R,
-    desk: &Desk,
-    seat: &mut Seat,
-    worker: u8,
-    room: &mut Room,
-) -> bool
+pub fn make_room<R: Wait>(rt: &R, desk: &Desk, seat: &mut Seat, worker: u8, room: &mut Room) -> bool
     requires own { seat.old.table_id ≡ desk.now.table.shared.table_id }
     requires role { (r : RoleOf) × (IsWorker desk.now.table.shared.key.value seat.old.me worker r × (r.spare ≡ (room.old.records, room.old.calls))) }
     requires there { worker < desk.now.table.shared.key.value.load.workers }

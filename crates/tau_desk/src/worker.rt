@@ -156,13 +156,7 @@ impl WorkerSeat {
         ensures made { RoomOn self.old self.new }
         ensures roomy { result ≡ true → (1 ≤ self.new.work.spare.0) × (1 ≤ self.new.work.spare.1) }
     {
-        work::make_room(
-            rt,
-            desk,
-            &mut self.seat,
-            self.worker,
-            &mut self.work.room,
-        )
+        work::make_room(rt, desk, &mut self.seat, self.worker, &mut self.work.room)
     }
 
     /// The next call comes into the hand, with room for what it puts away, and returns whether there is one. Out of memory, no call is in hand.

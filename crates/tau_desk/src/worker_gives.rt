@@ -141,14 +141,7 @@ impl Desk {
     }
 
     /// The published anchor of the worker's stream comes home, and the worker has read it.
-    pub fn give_read(
-        &self,
-        seat: &mut Seat,
-        worker: u8,
-        part: usize,
-        number: u32,
-        lv: Box<Lv>,
-    )
+    pub fn give_read(&self, seat: &mut Seat, worker: u8, part: usize, number: u32, lv: Box<Lv>)
         requires own { seat.old.table_id ≡ self.now.table.shared.table_id }
         requires opened { seat.old.me.0.opened ≡ Some self.now.table.shared.key.value }
         requires part { part < self.now.parts }
