@@ -4,7 +4,7 @@ use Rattle.std.specs.Prelude.{Some, None, Result, Ok, Err, IfOk, is_some, slice_
 use Rattle.std.proofs.lemmas.Bool.Decides.{leb_tells}
 use Rattle.tau_base.specs.declared.value.Call.{Call}
 use Rattle.tau_base.specs.declared.value.NoMemory.{NoMemory}
-use Rattle.tau_model.specs.History.{Act, Numbered}
+use Rattle.tau_model.specs.History.{Numbered}
 use Rattle.tau_machine.specs.Hands as theory
 use Rattle.tau_machine.specs.Hands.{Hand, Placed}
 use Rattle.tau_machine.specs.Worker.{Worker, begun, begun_by, fresh}

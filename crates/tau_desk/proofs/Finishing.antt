@@ -1,10 +1,10 @@
 -- A call ends and waits for its acknowledgement; room for it.
-use Rattle.std.proofs.Common.{◌≡◌, ◌≤◌, ℕ, subst, List, [], ◌∷◌, ◌++◌, Option, refl, sym, ap, ◌∙◌}
+use Rattle.std.proofs.Common.{◌≡◌, ◌≤◌, ℕ, subst, List, [], ◌∷◌, ◌++◌, refl, sym, ap, ◌∙◌}
 use Rattle.std.specs.Prelude.{Some, None}
 use Rattle.tau_ack.specs.declared.Waiting.{Waiting}
 use Rattle.tau_model.specs.History.{Act}
 use Rattle.tau_machine.specs.Hands.{Txn, Hand, Freeing}
-use Rattle.tau_machine.specs.State.{Ticket, ticket}
+use Rattle.tau_machine.specs.State.{ticket}
 use Rattle.tau_machine.specs.Worker.{Worker, begun}
 use Rattle.tau_machine.specs.Events.{Done, with_outbox, with_worker}
 use Rattle.tau_machine.proofs.Accounts.{map-append}

@@ -1,5 +1,5 @@
 -- The call in hand of a seat goes on by a step, and a call that is left over goes to the others that are.
-use Rattle.std.proofs.Common.{ℕ, ◌≡◌, ◌⊎◌, ◌≤◌, ◌<◌, Bool, true, false, inl, inr, arith, List, [], ◌∷◌, ◌++◌, refl, sym, ap, subst, ◌∙◌, Option, append_assoc}
+use Rattle.std.proofs.Common.{ℕ, ◌≡◌, ◌≤◌, ◌<◌, Bool, true, false, inl, inr, arith, List, [], ◌∷◌, ◌++◌, refl, sym, ap, subst, ◌∙◌, Option, append_assoc}
 use Rattle.std.specs.Prelude.{Some, None, is_some, length}
 use Rattle.std.specs.Map.{lookup}
 use Rattle.std.proofs.lemmas.List.{append-nil}
@@ -43,7 +43,7 @@ use Rattle.tau_rule.proofs.Gives.{one-origin, told-is}
 use Rattle.tau_rule.proofs.Workers.{worker-shown}
 use Rattle.tau_desk.specs.Acts.{HasEnded, HasFreed, HasLocked, HasMetBusy, HasPosted, HasQuit, SameWorker}
 use Rattle.tau_desk.specs.declared.mark.Mark.{Mark}
-use Rattle.tau_desk.specs.Shares.{FitsWork, IsWork, PlainWork, ShowsWorker, own_worker, unbegun}
+use Rattle.tau_desk.specs.Shares.{FitsWork, IsWork, PlainWork, ShowsWorker, own_worker}
 use Rattle.tau_desk.specs.Seats.{IsWorkerSeat}
 use Rattle.tau_desk.specs.Works.{Leaves, LeavesBy, leaves_of, told_room}
 use Rattle.tau_desk.proofs.Reading.{told_room-is}

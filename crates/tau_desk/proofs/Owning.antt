@@ -1,11 +1,9 @@
 -- What a seat knows of its own calls holds of the part that it has taken.
-use Rattle.std.proofs.Common.{ℕ, ◌≡◌, ◌⊎◌, ◌++◌, Option, refl, sym, ap, subst, ◌∙◌}
+use Rattle.std.proofs.Common.{ℕ, ◌≡◌, ◌⊎◌, ◌++◌, Option, sym, ap, subst, ◌∙◌}
 use Rattle.std.specs.Prelude.{Some}
 use Rattle.tau_base.specs.declared.value.Key.{Key}
 use Rattle.tau_base.specs.Shards.{shard_number}
 use Rattle.tau_base.specs.Vectors.{AtMost}
-use Rattle.tau_model.specs.History.{Act}
-use Rattle.tau_model.specs.declared.committed.Committed.{Committed}
 use Rattle.tau_machine.specs.Accounts.{joined_list}
 use Rattle.tau_machine.specs.Hands.{Hand, Holds, act_in, held_in, lv_of}
 use Rattle.tau_machine.specs.State.{hand_of}

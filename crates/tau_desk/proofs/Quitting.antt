@@ -12,7 +12,6 @@ use Rattle.tau_machine.specs.Events.{Quit, with_shard, with_worker}
 use Rattle.tau_txn.specs.Next as txn
 use Rattle.tau_txn.specs.Txn.{PlainTxn, leaves_in, worker_of}
 use Rattle.tau_core.specs.State.{Plain}
-use Rattle.tau_core.specs.View.{setting_of}
 use Rattle.tau_rule.specs.Steps.{StepsShard, next_worker}
 
 -- a call that holds a key is in hand already

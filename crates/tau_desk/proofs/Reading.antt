@@ -1,31 +1,38 @@
 -- A call that only read commits with its first free, or with its end; a worker reads an anchor.
 use Rattle.std.proofs.Common.{◌≡◌, ℕ, ◌≤◌, ◌<◌, ◌+◌, List, [], ◌∷◌, ◌++◌, Option, refl, sym, ap, ◌∙◌, subst, arith}
-use Rattle.std.specs.Prelude.{Some, None}
+use Rattle.std.specs.Prelude.{Some}
 use Rattle.tau_shown.proofs.Steps.{gives_part}
-use Rattle.tau_base.specs.declared.limits.TheConstants.{SHARDS}
 use Rattle.tau_model.specs.declared.committed.Committed.{Committed}
-use Rattle.tau_machine.specs.Shard.{at, Shard}
+use Rattle.tau_machine.specs.Shard.{at, Shard, shard_freed}
 use Rattle.tau_machine.proofs.At.{at-same, at-other}
-use Rattle.tau_machine.specs.Worker.{Worker}
-use Rattle.tau_machine.specs.Events.{FirstFree, DoneReading}
-use Rattle.tau_shard.specs.Plain.{PlainShard}
-use Rattle.tau_shard.specs.Read.{shard_of}
-use Rattle.tau_txn.specs.Txn.{PlainTxn}
+use Rattle.tau_machine.specs.Worker.{Worker, begun, hand_freed, hand_joined}
+use Rattle.std.specs.Map.{lookup}
+use Rattle.tau_base.specs.Database.{same_key}
+use Rattle.tau_base.specs.Shards.{shard_number}
+use Rattle.tau_base.specs.declared.value.Key.{Key}
+use Rattle.tau_base.specs.declared.value.Mode.{Mode}
+use Rattle.tau_model.specs.History.{Act}
+use Rattle.tau_machine.specs.Hands.{Txn, Hand, Freeing, committed_of, lv_of, mode_of}
+use Rattle.tau_machine.specs.State.{Core}
+use Rattle.tau_machine.proofs.States.{again}
+use Rattle.tau_machine.specs.Events.{FirstFree, with_shard, with_worker}
+use Rattle.tau_txn.specs.Next as txn
+use Rattle.tau_rule.proofs.Workers.{worker-shown}
+use Rattle.tau_txn.specs.Txn.{PlainTxn, hand_in, worker_of}
 use Rattle.tau_core.specs.declared.state.Load.{Load}
 use Rattle.tau_core.specs.Pieces.{Names}
 use Rattle.tau_core.specs.State.{Plain}
 use Rattle.tau_core.specs.View.{setting_of}
 use Rattle.tau_rule.specs.Role.{Role, Share, Working, Managing, Clerking}
 use Rattle.tau_rule.specs.Knows.{Knows}
-use Rattle.tau_rule.specs.Rule.{Now, Rule, IsOutbox, IsPart, IsShare, IsRole, Meets, Sees, anchor_part, anchors_at, has, hand_of, manager_role, outbox_part, part_count, word_of}
-use Rattle.tau_rule.specs.Steps.{ComesHome, Sat, first_role, handed, shard_in, worker_in_share, working}
+use Rattle.tau_rule.specs.Rule.{Now, IsPart, IsRole, Meets, Sees, anchor_part, anchors_at, has, hand_of, outbox_part, part_count, word_of}
+use Rattle.tau_rule.specs.Steps.{ComesHome, StepsShard, first_role, handed, next_worker, worker_in_share, working}
 use Rattle.tau_rule.specs.Boxes.{BoxOf, box_in, with_box}
 use Rattle.tau_rule.specs.declared.part.Part.{Part}
 use Rattle.tau_rule.specs.declared.part.Part.TheVariants as part
 use Rattle.tau_rule.proofs.Turns.{Turn, alone, handed-sees, one-role, role-alone}
-use Rattle.tau_rule.proofs.Gives.{gives_shard}
-use Rattle.tau_rule.proofs.Boxes.{box-part, gives_box, part-box}
-use Rattle.tau_desk.specs.Works.{GivesFirst, GivesRead, GivesReadOnly, GivesRoom, anchor_in, joined_worker, told_joined, told_read, told_read_only, told_room}
+use Rattle.tau_rule.proofs.Boxes.{box-part, part-box}
+use Rattle.tau_desk.specs.Works.{GivesRead, GivesRoom, anchor_in, joined_worker, told_joined, told_read, told_read_only, told_room}
 
 pub told_joined-is : (l : Load) (v : Knows) (t : PlainTxn) (kept : Committed) (w : ℕ) (x : Role) (wk : Worker) → v.roles ≡ (w, x) ∷ [] → x.share ≡ Working wk → told_joined l v t kept ≡ handed v w (working x (joined_worker l wk t kept))
 told_joined-is l v t kept w x wk roles share =
@@ -135,3 +142,44 @@ gives_read origin id v carried q w number lv g is opened =
 abbrev pub first_number : List (ℕ × Option Part) → ℕ
 first_number [] = 0
 first_number (x ∷ xs) = x.0
+
+-- a call that only read joins the committed ones, and frees its lowest key
+pub first-steps : (origin : Plain) (w k : ℕ) (wk : Worker) (sh sh' : Shard) (t' : PlainTxn) (key : Key) (mode : Mode) (act : Act Txn) (h : Hand) → wk.hand ≡ Some h → begun origin.load.streams wk ≡ wk → k ≡ shard_number key → txn.Reads origin.load.procs w h act → mode_of key h.held ≡ Some mode → txn.IsLowest key h.held →
+    sh' ≡ shard_freed sh w key (lv_of act) (lookup (same_key key) act.effect.writes) → hand_in origin.load.procs t' ≡ Some (hand_freed (hand_joined h (Freeing act) h.dep) key) → StepsShard origin (FirstFree w) w wk (joined_worker origin.load wk t' (committed_of act)) k sh sh'
+first-steps origin w k wk sh sh' t' key mode act h is same number r held lowest shard shown s reached at_worker at_shard =
+    let n : ℕ = origin.load.streams in
+    let here : sh ≡ s.shards (shard_number key) = sym at_shard ∙ ap s.shards number in
+    let hj : Hand = hand_joined h (Freeing act) h.dep in
+    let hf : Hand = hand_freed hj key in
+    let kept : Committed = committed_of act in
+    let wkj : Worker = record (begun n (s.workers w)) { hand = Some hj; committed = (s.workers w).committed ++ kept ∷ [] } in
+    let m : Core = with_worker s w wkj in
+    let left : Shard = shard_freed (s.shards (shard_number key)) w key (lv_of act) (lookup (same_key key) act.effect.writes) in
+    let shows : next_worker origin.load wk t' ≡ record wk { hand = Some hf } =
+    ap (λ (y : Worker). worker_of origin.load.procs y t') same ∙ worker-shown origin.load.procs wk t' hf shown in
+    let worker : joined_worker origin.load wk t' kept ≡ record wk { hand = Some hf; committed = wk.committed ++ kept ∷ [] } = ap (λ (y : Worker). record y { committed = wk.committed ++ kept ∷ [] }) shows in
+    let back : wk ≡ begun n (s.workers w) = sym same ∙ ap (begun n) (sym at_worker) in
+    let bridge : record wk { hand = Some hf; committed = wk.committed ++ kept ∷ [] } ≡ record wkj { hand = Some hf } =
+    (λ i. record (back i) { hand = Some hf; committed = (sym at_worker i).committed ++ kept ∷ [] }) in (
+      act ∷ [],
+      (
+        m,
+        act,
+        record { hand = h; effect = r.effect; is = ap (λ (x : Worker). (begun n x).hand) at_worker ∙ ap (λ (x : Worker). x.hand) same ∙ is; phase = r.phase; ended = r.ended; no_write = r.no_write; act = r.is; after = refl },
+        record {
+          hand = hj;
+          act = act;
+          key = key;
+          mode = mode;
+          is = ap (λ (x : Worker). x.hand) (at-same w wkj s.workers);
+          phase = refl;
+          held = held;
+          lowest = lowest;
+          after = (λ i. with_shard (with_worker s w (worker i)) (number i) (shard i))
+              ∙ (λ i. with_shard (with_worker s w (bridge i)) (shard_number key) (shard_freed (here i) w key (lv_of act) (lookup (same_key key) act.effect.writes)))
+              ∙ ap (λ (c : Core). with_shard c (shard_number key) left) (sym (again s w (record wkj { hand = Some hf }) wkj))
+              ∙ ap (λ (x : Worker). with_shard (with_worker m w (record x { hand = Some hf })) (shard_number key) left) (sym (at-same w wkj s.workers));
+        },
+        refl,
+      ),
+    )

@@ -5,7 +5,8 @@ use Rattle.tau_base.specs.declared.value.Mode.{Mode}
 use Rattle.tau_base.specs.declared.value.Value.{Value}
 use Rattle.tau_proc.specs.declared.proc.Proc.{Proc}
 use Rattle.tau_proc.specs.declared.reply.Reply.{Reply}
-use Rattle.tau_machine.specs.Hands.{Freeing}
+use Rattle.tau_model.specs.declared.committed.Committed.{Committed}
+use Rattle.tau_machine.specs.Hands.{Freeing, committed_of}
 use Rattle.tau_machine.specs.Worker.{Worker, hand_busy, hand_freed, hand_joined, hand_quit, settled}
 use Rattle.tau_txn.specs.Txn.{PlainTxn, RunsBy, hand_in, leaves_in, worker_of}
 use Rattle.tau_txn.specs.Next as txn
@@ -60,6 +61,15 @@ module _ (procs : List Proc) (t t' : PlainTxn) where
   pub record HasPosted : Type 0 where
     pub posts : txn.Posts procs t
     pub is : hand_in procs t' ≡ Some (record posts.hand { phase = Freeing posts.act })
+    pub worker : SameWorker procs t t'
+
+  -- it only read, has joined the committed ones, of which this is kept, and has freed its lowest key
+  pub record HasFirstFreed (kept : Committed) : Type 0 where
+    pub key : Key
+    pub write : Option Value
+    pub frees : txn.Frees procs t key write
+    pub kept_is : kept ≡ committed_of frees.act
+    pub is : hand_in procs t' ≡ Some (hand_freed (hand_joined frees.hand (Freeing frees.act) frees.hand.dep) key)
     pub worker : SameWorker procs t t'
 
   -- it has joined the committed ones and freed its keys, and is no longer in hand

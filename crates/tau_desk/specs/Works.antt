@@ -17,7 +17,6 @@ use Rattle.tau_txn.specs.Txn.{hand_in}
 use Rattle.tau_core.specs.Begins.{next_behind, number_by}
 use Rattle.tau_core.specs.View.{call_of}
 use Rattle.tau_core.specs.declared.state.Load.{Load}
-use Rattle.tau_desk.specs.declared.mark.Mark.{Mark}
 use Rattle.tau_core.specs.State.{Plain}
 use Rattle.tau_core.specs.View.{setting_of}
 use Rattle.tau_rule.specs.Role.{Role, Working}
@@ -26,7 +25,7 @@ use Rattle.tau_rule.specs.Rule.{anchor_part, outbox_part}
 use Rattle.tau_rule.specs.Steps.{Sat, StepsShard, first_role, handed, next_worker, shard_in, told, worker_in, working}
 use Rattle.tau_rule.specs.Boxes.{BoxOf, StepsBox, box_in, told_box, with_box}
 use Rattle.tau_rule.specs.declared.part.Part.{Part}
-use Rattle.tau_desk.specs.Acts.{HasEnded, HasFreed, HasLocked, HasMetBusy, HasPosted, HasQuit}
+use Rattle.tau_desk.specs.Acts.{HasEnded, HasFirstFreed, HasFreed, HasLocked, HasMetBusy, HasPosted, HasQuit}
 use Rattle.tau_desk.specs.Seats.{PlainWorkerSeat}
 use Rattle.tau_desk.specs.Shares.{PlainWork}
 use Rattle.tau_desk.specs.declared.work.Acted.{Acted}
@@ -203,3 +202,8 @@ pub record RoomOn (s s' : PlainWorkerSeat) : Type 0 where
   pub calls : s.work.spare.1 ≤ spare.1
   pub me : s'.me ≡ (told_room s.me.0 spare, [])
   pub after : s' ≡ record s { me = s'.me; work = record s.work { spare = spare } }
+
+-- after the first free of a call that only read
+abbrev pub FirstFreedBy : Plain → Sat → PlainTxn → Sat → PlainTxn → Option Committed → Type 0
+FirstFreedBy origin m t m' t' None = (m' ≡ m) × (t' ≡ t)
+FirstFreedBy origin m t m' t' (Some kept) = (m' ≡ (told_joined origin.load m.0 t' kept, [])) × HasFirstFreed origin.load.procs t t' kept

@@ -28,4 +28,6 @@ pub use mark::Mark;
 pub use name::{PartName, Role};
 pub use room::Room;
 pub use seat::{ClerkSeat, Head, ManagerSeat, Stock, Work, WorkerSeat};
-pub use work::{Acted, commit, free, lock, post, take_outbox, take_shard};
+pub use work::{
+    Acted, commit, done, first_free, free, lock, make_room, post, quit, take_outbox, take_shard,
+};

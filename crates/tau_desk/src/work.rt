@@ -1,5 +1,5 @@
 //! What a worker does on the desk.
-ghost use Rattle.std.specs.Prelude.{◌≡◌, ◌+◌, ◌<◌, ◌≤◌, [], ◌∷◌, None, Some, ℕ, is_some, true};
+ghost use Rattle.std.specs.Prelude.{◌≡◌, ◌+◌, ◌<◌, ◌≤◌, [], ◌∷◌, None, Some, ℕ, is_some, true, false};
 ghost use Rattle.tau_machine.specs.Shard.{Shard as ShardOf};
 ghost use Rattle.tau_shard.specs.Read.{shard_of};
 ghost use Rattle.tau_base.specs.declared.limits.TheConstants.{SHARDS};
@@ -7,7 +7,7 @@ ghost use Rattle.tau_txn.specs.Txn.{PlainTxn, RunsBy, hand_in, has_joined, numbe
 ghost use Rattle.tau_rule.specs.Steps.{Agrees, IsReady, IsWorker, told, holding, shard_in, IsAfter, first_role};
 ghost use Rattle.tau_desk.specs.Acts.{FreedBy, HasEnded, HasPosted, LockedBy, QuitBy};
 ghost use Rattle.tau_rule.specs.Role.{Role as RoleOf};
-ghost use Rattle.tau_desk.specs.Works.{told_room};
+ghost use Rattle.tau_desk.specs.Works.{FirstFreedBy, told_room};
 ghost use Rattle.tau_rule.specs.Boxes.{box_in, told_box, IsToPost};
 ghost use Rattle.tau_rule.specs.Places.{IsToPlace, placed};
 ghost use Rattle.tau_txn.specs.Next.{IsCommit, kind_of, next_action};
@@ -18,6 +18,7 @@ use crate::room::Room;
 use std::sync::Wait;
 use tau_ack::Pending;
 use tau_base::{SHARDS, shard_of};
+use tau_model::Committed;
 use tau_outbox::Outbox;
 use tau_proc::Procs;
 use tau_rule::{Part, Seat};
@@ -326,4 +327,36 @@ fn is_roomy(room: Room) -> bool
         return false;
     }
     room.calls > 0
+}
+
+/// The worker, whose call only read and has not joined the committed ones, frees its lowest key; the call joins them by that.
+pub fn first_free<R: Wait>(
+    rt: &R,
+    desk: &Desk,
+    seat: &mut Seat,
+    worker: u8,
+    procs: &Procs,
+    txn: &mut Txn,
+) -> Option<Committed>
+    requires own { seat.old.table_id ≡ desk.now.table.shared.table_id }
+    requires procs { procs.now ≡ desk.now.table.shared.key.value.load.procs }
+    requires small { worker < 32 }
+    requires unjoined { has_joined txn.old ≡ false }
+    requires ready { IsReady desk.now.table.shared.key.value worker seat.old.me txn.old }
+    ensures own { (seat.new.table_id ≡ seat.old.table_id) × (seat.new.id ≡ seat.old.id) }
+    ensures step { FirstFreedBy desk.now.table.shared.key.value seat.old.me txn.old seat.new.me txn.new result }
+{
+    let Action::Free { key, write } = txn.turn() else {
+        return None;
+    };
+    let Some(kept) = txn.committed() else {
+        unreachable!()
+    };
+    let number = usize::from(shard_of(key));
+    let mut shard = take_shard(rt, desk, seat, number);
+    let vector = txn.lv();
+    shard.free(worker, key, &vector, write);
+    txn.went(procs);
+    desk.give_first(seat, number, shard, txn, &kept);
+    Some(kept)
 }

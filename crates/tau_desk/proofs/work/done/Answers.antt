@@ -1,16 +1,13 @@
-use Rattle.std.proofs.Common.{◌≡◌, ◌+◌, ◌≤◌, ℕ, Bool, List, [], ◌∷◌, ◌++◌, Some, None, refl, subst, sym, ap, ◌∙◌, arith}
+use Rattle.std.proofs.Common.{◌≡◌, ◌≤◌, Bool, List, [], ◌∷◌, ◌++◌, Some, None, refl, subst, sym, ap, ◌∙◌, arith}
 use Rattle.tau_ack.specs.Pending.{PlainPending}
-use Rattle.tau_ack.specs.declared.Waiting.{Waiting}
 use Rattle.tau_proc.specs.declared.proc.Proc.{Proc}
 use Rattle.tau_machine.specs.Events.{Done}
 use Rattle.tau_machine.specs.Hands.{Freeing, lv_of}
-use Rattle.tau_machine.specs.State.{ticket}
 use Rattle.tau_outbox.specs.Pieces.{PlainOutbox}
 use Rattle.tau_txn.specs.declared.action.Action.{Action}
 use Rattle.tau_txn.specs.Next.{Finishes, FreesBy, Means, next_action}
-use Rattle.tau_txn.specs.Txn.{RunsBy, number_in}
+use Rattle.tau_txn.specs.Txn.{RunsBy}
 use Rattle.tau_core.specs.State.{Plain}
-use Rattle.tau_core.proofs.Hands.{some-hand}
 use Rattle.tau_core.proofs.Joins.{number-freed}
 use Rattle.tau_rule.specs.Boxes.{BoxOf}
 use Rattle.tau_desk.proofs.Finishing.{box-rooms, done-is, dones}

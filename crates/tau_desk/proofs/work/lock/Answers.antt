@@ -10,7 +10,7 @@ use Rattle.tau_proc.specs.declared.proc.Proc.{Proc}
 use Rattle.tau_txn.specs.declared.action.Action.{Action}
 use Rattle.tau_txn.specs.declared.action.Action.TheVariants as action
 use Rattle.tau_txn.specs.Next.{next_action, Means, Locks}
-use Rattle.tau_txn.specs.Txn.{PlainTxn, RunsBy, hand_in, worker_of}
+use Rattle.tau_txn.specs.Txn.{RunsBy, hand_in, worker_of}
 use Rattle.tau_core.specs.State.{Plain}
 use Rattle.tau_rule.specs.Knows.{Knows}
 use Rattle.tau_rule.specs.Steps.{Agrees, told, shard_in}
