@@ -339,19 +339,19 @@ returns-in-Ok-Recover-clause-recover_done g c n p log order words tells is order
 -- ---- a drill
 
 pub drill_source-requires-clause-streams_low : goal.drill_source-requires-clause-streams_low
-drill_source-requires-clause-streams_low g c = (c.in-Ok-Drill.ensures.within_drill c.in-Ok-Drill.n c.in-Ok-Drill.m c.in-Ok-Drill.field-0-2 c.in-Ok-Drill.ending c.in-Ok-Drill.field-0-is).0.0
+drill_source-requires-clause-streams_low g c κs within = (c.in-Ok-Drill.ensures.within_drill c.in-Ok-Drill.n c.in-Ok-Drill.m c.in-Ok-Drill.field-0-2 c.in-Ok-Drill.ending c.in-Ok-Drill.field-0-is).0.0
 
 pub drill_source-requires-clause-streams_high : goal.drill_source-requires-clause-streams_high
-drill_source-requires-clause-streams_high g c = (c.in-Ok-Drill.ensures.within_drill c.in-Ok-Drill.n c.in-Ok-Drill.m c.in-Ok-Drill.field-0-2 c.in-Ok-Drill.ending c.in-Ok-Drill.field-0-is).0.1
+drill_source-requires-clause-streams_high g c κs within = (c.in-Ok-Drill.ensures.within_drill c.in-Ok-Drill.n c.in-Ok-Drill.m c.in-Ok-Drill.field-0-2 c.in-Ok-Drill.ending c.in-Ok-Drill.field-0-is).0.1
 
 pub drill_source-requires-clause-low : goal.drill_source-requires-clause-low
-drill_source-requires-clause-low g c = (c.in-Ok-Drill.ensures.within_drill c.in-Ok-Drill.n c.in-Ok-Drill.m c.in-Ok-Drill.field-0-2 c.in-Ok-Drill.ending c.in-Ok-Drill.field-0-is).1.0
+drill_source-requires-clause-low g c κs within = (c.in-Ok-Drill.ensures.within_drill c.in-Ok-Drill.n c.in-Ok-Drill.m c.in-Ok-Drill.field-0-2 c.in-Ok-Drill.ending c.in-Ok-Drill.field-0-is).1.0
 
 pub drill_source-requires-clause-high : goal.drill_source-requires-clause-high
-drill_source-requires-clause-high g c = (c.in-Ok-Drill.ensures.within_drill c.in-Ok-Drill.n c.in-Ok-Drill.m c.in-Ok-Drill.field-0-2 c.in-Ok-Drill.ending c.in-Ok-Drill.field-0-is).1.1
+drill_source-requires-clause-high g c κs within = (c.in-Ok-Drill.ensures.within_drill c.in-Ok-Drill.n c.in-Ok-Drill.m c.in-Ok-Drill.field-0-2 c.in-Ok-Drill.ending c.in-Ok-Drill.field-0-is).1.1
 
 pub drill_source-requires-clause-ending : goal.drill_source-requires-clause-ending
-drill_source-requires-clause-ending g c = (c.in-Ok-Drill.ensures.within_drill c.in-Ok-Drill.n c.in-Ok-Drill.m c.in-Ok-Drill.field-0-2 c.in-Ok-Drill.ending c.in-Ok-Drill.field-0-is).2
+drill_source-requires-clause-ending g c κs within = (c.in-Ok-Drill.ensures.within_drill c.in-Ok-Drill.n c.in-Ok-Drill.m c.in-Ok-Drill.field-0-2 c.in-Ok-Drill.ending c.in-Ok-Drill.field-0-is).2
 
 pub returns-in-Ok-Drill-clause-drill : goal.returns-in-Ok-Drill-clause-drill
 returns-in-Ok-Drill-clause-drill g c n m p how load words tells has =
