@@ -6,10 +6,14 @@ ghost use Rattle.tau_replay.specs.Rule.{IsIdle, MayGive, Names, Took, Boxed, han
 use crate::view::{Give, OneRecovery, OneWorker, Part, Seat, Take, View};
 use atomic_table::Table;
 use std::alloc::{AllocError, Global};
+use std::hint::spin_loop;
 use std::snapshot::Snapshot;
 use std::sync::Wait;
 use std::sync::atomic::AtomicU64;
 use tau_scan::Log;
+
+/// How often a worker looks for the turn before it sleeps: longer than the others mostly keep it.
+const LOOKS: u64 = 200;
 
 /// One recovery, of which one seat at a time has the turn. The word is 0 where it is free, and 2 where somebody may wait.
 pub struct Lock {
@@ -65,21 +69,78 @@ impl Lock {
         self.table.shared.compare_exchange::<Take>(seat, 0, 0, 1) == 0
     }
 
-    /// Waits for the turn. The word is 2 then, so that who gives it back wakes another.
+    /// The same, where the turn was seen to be free.
+    fn try_seen(&self, seat: &mut Seat) -> bool
+        requires own { seat.old.table_id ≡ self.now.table.shared.table_id }
+        requires idle { IsIdle seat.old.me }
+        ensures own { (seat.new.table_id ≡ seat.old.table_id) × (seat.new.id ≡ seat.old.id) }
+        ensures took { result ≡ true → Took seat.old.me seat.new.me }
+        ensures missed { result ≡ false → seat.new.me ≡ seat.old.me }
+    {
+        if self.table.shared.peek(0) != 0 {
+            return false;
+        }
+        self.try_take(seat)
+    }
+
+    /// Takes the turn where it becomes free soon.
+    fn look_for(&self, seat: &mut Seat) -> bool
+        requires own { seat.old.table_id ≡ self.now.table.shared.table_id }
+        requires idle { IsIdle seat.old.me }
+        ensures own { (seat.new.table_id ≡ seat.old.table_id) × (seat.new.id ≡ seat.old.id) }
+        ensures took { result ≡ true → Took seat.old.me seat.new.me }
+        ensures missed { result ≡ false → seat.new.me ≡ seat.old.me }
+    {
+        for _ in 0..LOOKS {
+            if self.try_seen(seat) {
+                return true;
+            }
+            spin_loop();
+        }
+        false
+    }
+
+    /// Takes the turn where it is free. The word is 2 then, so that who gives the turn back wakes another.
+    fn swap_turn(&self, seat: &mut Seat) -> bool
+        requires own { seat.old.table_id ≡ self.now.table.shared.table_id }
+        requires idle { IsIdle seat.old.me }
+        ensures own { (seat.new.table_id ≡ seat.old.table_id) × (seat.new.id ≡ seat.old.id) }
+        ensures took { result ≡ true → Took seat.old.me seat.new.me }
+        ensures missed { result ≡ false → seat.new.me ≡ seat.old.me }
+    {
+        self.table.shared.swap::<Take>(seat, 0, 2) == 0
+    }
+
+    /// Sleeps until the turn is free, and takes it.
     fn wait_for<R: Wait>(&self, rt: &R, seat: &mut Seat)
         requires own { seat.old.table_id ≡ self.now.table.shared.table_id }
         requires idle { IsIdle seat.old.me }
         ensures own { (seat.new.table_id ≡ seat.old.table_id) × (seat.new.id ≡ seat.old.id) }
         ensures took { Took seat.old.me seat.new.me }
     {
-        let shared = &self.table.shared;
         for _ in rt.forever() {
-            if shared.swap::<Take>(seat, 0, 2) == 0 {
+            if self.swap_turn(seat) {
                 return;
             }
-            shared.park(rt, 0, 2);
+            self.table.shared.park(rt, 0, 2);
         }
         unreachable!()
+    }
+
+    /// Takes the turn: at once, or after some looks, or after a sleep.
+    fn take_turn<R: Wait>(&self, rt: &R, seat: &mut Seat)
+        requires own { seat.old.table_id ≡ self.now.table.shared.table_id }
+        requires idle { IsIdle seat.old.me }
+        ensures own { (seat.new.table_id ≡ seat.old.table_id) × (seat.new.id ≡ seat.old.id) }
+        ensures took { Took seat.old.me seat.new.me }
+    {
+        if self.try_take(seat) {
+            return;
+        }
+        if self.look_for(seat) {
+            return;
+        }
+        self.wait_for(rt, seat)
     }
 
     /// Waits for the turn, and takes the part.
@@ -91,10 +152,7 @@ impl Lock {
         ensures sound { IsSound seat.old.me.0.log result.value.replay }
         ensures named { Names (hands_of result) seat.old.me.0.hands }
     {
-        if self.try_take(seat) {
-            return self.lift(seat);
-        }
-        self.wait_for(rt, seat);
+        self.take_turn(rt, seat);
         self.lift(seat)
     }
 

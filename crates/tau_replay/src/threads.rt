@@ -9,6 +9,7 @@ ghost use Rattle.tau_replay.specs.Rule.{IsIdle, idle_from};
 ghost use Rattle.tau_replay.specs.Sound.{IsSound};
 ghost use Rattle.tau_replay.specs.Working.{IsFor};
 
+use crate::alone::run_alone;
 use crate::lock::Lock;
 use crate::replay::{begin, end};
 use crate::turns::Replay;
@@ -58,7 +59,6 @@ fn crew<R: Threads + Wait + Sync, G: Gate + Sync>(
     log: &Log,
     worker: u8,
     others: u8,
-    alone: bool,
     gate: &G,
 ) -> Seat
     requires own { seat.table_id ≡ lock.now.table.shared.table_id }
@@ -70,7 +70,7 @@ fn crew<R: Threads + Wait + Sync, G: Gate + Sync>(
     ensures idle { IsIdle result.me × (length result.me.0.hands ≡ length seat.me.0.hands) }
 {
     if others == 0 {
-        return work(rt, alloc, lock, seat, log, worker, alone, gate);
+        return work(rt, alloc, lock, seat, log, worker, gate);
     }
     let mine = split_first(lock, &mut seat, worker, others);
     let (mine, mut seat) = join(
@@ -78,29 +78,17 @@ fn crew<R: Threads + Wait + Sync, G: Gate + Sync>(
         move || -> Seat
             requires { (mine.table_id ≡ lock.now.table.shared.table_id) × (mine.me.0.log ≡ log.now) × IsFor worker None mine.me }
             ensures { (result.table_id ≡ mine.table_id) × IsIdle result.me × (length result.me.0.hands ≡ length mine.me.0.hands) }
-        { work(rt, alloc, lock, mine, log, worker, alone, gate) },
+        { work(rt, alloc, lock, mine, log, worker, gate) },
         move || -> Seat
             requires { IsSync R.row × IsSync G.row × (seat.table_id ≡ lock.now.table.shared.table_id) × (seat.me.0.log ≡ log.now) × IsIdle seat.me × (seat.me.0.hands ≡ idle_from (worker + 1) (16 - (worker + 1))) × (1 ≤ others) × (worker + others < 16) }
             ensures { (result.table_id ≡ seat.table_id) × (result.me.0.log ≡ seat.me.0.log) × IsIdle result.me × (length result.me.0.hands ≡ length seat.me.0.hands) }
-        {
-            crew(
-                rt,
-                alloc,
-                lock,
-                seat,
-                log,
-                worker + 1,
-                others - 1,
-                alone,
-                gate,
-            )
-        },
+        { crew(rt, alloc, lock, seat, log, worker + 1, others - 1, gate) },
     );
     join_seats(lock, &mut seat, mine);
     seat
 }
 
-/// Runs a recovery by so many workers until their work is over.
+/// Runs a recovery by so many workers until their work is over. One worker needs no lock.
 fn run<R: Threads + Wait + Sync, G: Gate + Sync>(
     rt: &R,
     alloc: Global,
@@ -114,6 +102,9 @@ fn run<R: Threads + Wait + Sync, G: Gate + Sync>(
     requires workers { (1 ≤ workers) × (workers ≤ 16) }
     ensures sound { IfOk result (λ r. IsSound log.now r) }
 {
+    if workers == 1 {
+        return run_alone(log, replay, gate);
+    }
     let part = Part {
         replay,
         sleeping: 0,
@@ -122,8 +113,7 @@ fn run<R: Threads + Wait + Sync, G: Gate + Sync>(
     let Ok((lock, seat)) = Lock::new(alloc, log, part) else {
         return Err(NoMemory);
     };
-    let alone = workers == 1;
-    let seat = crew(rt, alloc, &lock, seat, log, 0, workers - 1, alone, gate);
+    let seat = crew(rt, alloc, &lock, seat, log, 0, workers - 1, gate);
     let part = lock.close(seat);
     if part.refused {
         return Err(NoMemory);

@@ -1,5 +1,5 @@
 //! What a worker does under the lock.
-ghost use Rattle.std.specs.Prelude.{◌≡◌, ◌⊎◌, ℕ, Some, None, slice_get};
+ghost use Rattle.std.specs.Prelude.{◌≡◌, ◌⊎◌, ℕ, true, Some, None, slice_get};
 ghost use Rattle.tau_replay.specs.Rule.{OthersStay, in_hand};
 ghost use Rattle.tau_replay.specs.Sound.{IsSound};
 ghost use Rattle.tau_replay.specs.Working.{HandFits, IsFor, WentOn};
@@ -73,7 +73,25 @@ fn start_next(log: &Log, part: &mut Part, worker: usize, seen: u64) -> Order
     }
 }
 
-/// A worker finishes what it has in flight, and starts what is ready. If memory is refused, nobody starts a record.
+/// A worker finishes what it has in flight. If memory is refused, nobody starts a record. Whether there was memory.
+fn finish_one(log: &Log, part: &mut Part, worker: usize, outcome: &Outcome) -> bool
+    requires of_log { outcome.now.log.value ≡ log.now }
+    requires sound { IsSound log.now part.old.replay }
+    requires busy { slice_get part.old.replay.hands.items worker ≡ Some (Some outcome.now.job) }
+    ensures sound { IsSound log.now part.new.replay }
+    ensures others { OthersStay worker part.old.replay.hands.items part.new.replay.hands.items }
+    ensures idle { result ≡ true → slice_get part.new.replay.hands.items worker ≡ Some None }
+{
+    match finish(log, &mut part.replay, worker, outcome) {
+        Ok(()) => true,
+        Err(_) => {
+            part.refused = true;
+            false
+        }
+    }
+}
+
+/// A worker finishes what it has in flight, and starts what is ready.
 fn finish_and_start(
     log: &Log,
     part: &mut Part,
@@ -88,12 +106,10 @@ fn finish_and_start(
     ensures others { OthersStay worker part.old.replay.hands.items part.new.replay.hands.items }
     ensures hand { HandFits log.now result (in_hand (slice_get part.new.replay.hands.items worker)) }
 {
-    match finish(log, &mut part.replay, worker, outcome) {
-        Ok(()) => start_next(log, part, worker, seen),
-        Err(_) => {
-            part.refused = true;
-            Order::Stop
-        }
+    if finish_one(log, part, worker, outcome) {
+        start_next(log, part, worker, seen)
+    } else {
+        Order::Stop
     }
 }
 

@@ -90,14 +90,13 @@ fn try_entry<R: Wait>(
     }
 }
 
-/// The same of the record of a job. A worker that is alone leaves all to the finish.
+/// The same of the record of a job.
 fn try_job<R: Wait>(
     rt: &R,
     lock: &Lock,
     seat: &mut Seat,
     log: &Log,
     job: Job,
-    alone: bool,
     scratch: &mut Scratch,
 ) -> bool
     requires own { seat.old.table_id ≡ lock.now.table.shared.table_id }
@@ -107,9 +106,6 @@ fn try_job<R: Wait>(
     ensures same { seat.new.me ≡ seat.old.me }
     ensures just { result ≡ true → DoesJust log.now job scratch.new.reads.items (buffered scratch.new.machine) }
 {
-    if alone {
-        return false;
-    }
     let records = &log.streams.as_slice()[usize::from(job.stream)];
     let entry = &records.as_slice()[job.index].entry;
     try_entry(rt, lock, seat, &log.declarations.procs, entry, scratch)
@@ -123,7 +119,6 @@ fn redo_one<R: Wait, G: Gate>(
     log: &Log,
     worker: u8,
     job: Job,
-    alone: bool,
     scratch: &mut Scratch,
     gate: &G,
 ) -> Order
@@ -134,7 +129,7 @@ fn redo_one<R: Wait, G: Gate>(
     ensures own { seat.new.table_id ≡ seat.old.table_id }
     ensures went { WentOn log.now worker result seat.old.me seat.new.me }
 {
-    let tried = try_job(rt, lock, seat, log, job, alone, scratch);
+    let tried = try_job(rt, lock, seat, log, job, scratch);
     gate.at(Place::Replay { worker });
     if tried {
         step_done(rt, lock, seat, log, worker, &Outcome::of(log, job, scratch))
@@ -151,7 +146,6 @@ pub fn work<R: Wait, G: Gate>(
     mut seat: Seat,
     log: &Log,
     worker: u8,
-    alone: bool,
     gate: &G,
 ) -> Seat
     requires own { seat.table_id ≡ lock.now.table.shared.table_id }
@@ -173,7 +167,6 @@ pub fn work<R: Wait, G: Gate>(
                 log,
                 worker,
                 job,
-                alone,
                 &mut scratch,
                 gate,
             ),

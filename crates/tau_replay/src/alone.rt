@@ -1,0 +1,47 @@
+//! A recovery by one worker, which needs no lock.
+ghost use Rattle.std.specs.Prelude.{◌≡◌, ◌<◌, true, Ok, Some, None, IfOk, OnOk, replicate, slice_get};
+ghost use Rattle.tau_replay.specs.Sound.{IsSound};
+ghost use Rattle.tau_replay.specs.Way.{left_of};
+
+use crate::outcome::Outcome;
+use crate::turns::{Replay, finish, start};
+use tau_base::NoMemory;
+use tau_disk::{Gate, Place};
+use tau_pool::Next;
+use tau_scan::Log;
+
+/// Starts a record and redoes it. Whether one was ready.
+fn redo_next<G: Gate>(log: &Log, replay: &mut Replay, gate: &G) -> Result<bool, NoMemory>
+    requires sound { IsSound log.now replay.old }
+    requires idle { slice_get replay.old.hands.items 0 ≡ Some None }
+    ensures sound { OnOk result (IsSound log.now replay.new) }
+    ensures idle { OnOk result (slice_get replay.new.hands.items 0 ≡ Some None) }
+    ensures less { result ≡ Ok true → left_of replay.new < left_of replay.old }
+{
+    match start(log, replay, 0) {
+        Next::Taken(job) => {
+            gate.at(Place::Replay { worker: 0 });
+            match finish(log, replay, 0, &Outcome::anew(log, job)) {
+                Ok(()) => Ok(true),
+                Err(_) => Err(NoMemory),
+            }
+        }
+        Next::NotYet => Ok(false),
+        Next::Done => Ok(false),
+    }
+}
+
+/// Redoes one record after another until none is ready.
+pub fn run_alone<G: Gate>(log: &Log, mut replay: Replay, gate: &G) -> Result<Replay, NoMemory>
+    requires sound { IsSound log.now replay }
+    requires idle { replay.hands.items ≡ replicate 16 None }
+    ensures sound { IfOk result (λ r. IsSound log.now r) }
+{
+    'records: loop {
+        match redo_next(log, &mut replay, gate) {
+            Ok(true) => {}
+            Ok(false) => return Ok(replay),
+            Err(_) => return Err(NoMemory),
+        }
+    }
+}
