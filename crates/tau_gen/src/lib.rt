@@ -2,8 +2,10 @@
 #![tactic(auto)]
 
 mod calls;
+mod laws;
 
 pub use calls::generate;
+pub use laws::any_order;
 
 #[cfg(test)]
 mod tests;

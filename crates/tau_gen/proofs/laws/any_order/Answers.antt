@@ -1,0 +1,5 @@
+use Rattle.tau_gen.proofs.BenchSums.{any-order}
+use Rattle.tau_gen.proofs.laws.any_order.Goals as goal
+
+pub returns : goal.returns
+returns c = any-order
