@@ -1,0 +1,2 @@
+pub mod Managing
+pub mod Spacing
