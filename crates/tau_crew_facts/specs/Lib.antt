@@ -1,3 +1,4 @@
 pub mod Writers
 pub mod Spacing
+pub mod Telling
 pub mod Laws

@@ -1,0 +1,104 @@
+-- Behind the run of the desk each stream whose disk failed is stopped, where it is persisted.
+use Rattle.std.proofs.Common.{ℕ, zero, suc, ◌<◌, ◌≤◌, ◌≡◌, inl, inr, Bool, true, false, List, [], ◌∷◌, ◌++◌, refl, sym, ap, subst, ◌∙◌, arith, append_assoc, slice_index}
+use Rattle.std.specs.Prelude.{Option, Some, None, if◌then◌else◌}
+use Rattle.std.proofs.Math.Path.{fun_ext}
+use Rattle.std.proofs.lemmas.Bool.{cases_Bool, cases_eq}
+use Rattle.std.proofs.lemmas.List.{append-nil}
+use Rattle.tau_model.specs.History.{Act}
+use Rattle.tau_machine.specs.Hands.{Txn}
+use Rattle.tau_machine.specs.Shard.{at}
+use Rattle.tau_machine.specs.State.{Setting, Stream, Core}
+use Rattle.tau_machine.specs.Events.{Event, Stop, Stops, with_stream}
+use Rattle.tau_machine.specs.Invariant.{Invariant}
+use Rattle.tau_machine.specs.Runs.{Run}
+use Rattle.tau_machine.proofs.At.{at-same, at-other}
+use Rattle.tau_machine.proofs.Results.{run_theorem, goes_on_theorem}
+
+-- the state with its streams stopped where the function tells
+abbrev pub stopped_at : (ℕ → Option ℕ) → Core → Core
+stopped_at stops c = record c { streams = λ j. record (c.streams j) { stop = stops j } }
+
+-- the first k streams, of those that failed
+abbrev pub stops_by : (ℕ → Bool) → List ℕ → ℕ → ℕ → Option ℕ
+stops_by f plv zero = λ j. None
+stops_by f plv (suc k) = if f k then at k (Some (slice_index plv k)) (stops_by f plv k) else stops_by f plv k
+
+abbrev pub stop_events : (ℕ → Bool) → List ℕ → ℕ → List Event
+stop_events f plv zero = []
+stop_events f plv (suc k) = stop_events f plv k ++ (if f k then Stop k (slice_index plv k) ∷ [] else [])
+
+-- ---- what the function tells
+
+pub none-above : (f : ℕ → Bool) (plv : List ℕ) (k j : ℕ) → k ≤ j → stops_by f plv k j ≡ None
+none-above f plv zero j le = refl
+none-above f plv (suc k) j le = elim (cases_Bool (f k)) [
+  | inl failed ↦ rw failed (at-other k (Some (slice_index plv k)) (stops_by f plv k) j (λ e. omega (arith, e, le)) ∙ none-above f plv k j (omega (arith, le)))
+  | inr works ↦ rw works (none-above f plv k j (omega (arith, le)))
+]
+
+pub none-works : (f : ℕ → Bool) (plv : List ℕ) (k j : ℕ) → f j ≡ false → stops_by f plv k j ≡ None
+none-works f plv zero j e = refl
+none-works f plv (suc k) j e = elim (cases_Bool (f k)) [
+  | inl failed ↦ rw failed (at-other k (Some (slice_index plv k)) (stops_by f plv k) j (λ is. (let bad : true ≡ false = sym failed ∙ ap f (sym is) ∙ e in cc bad)) ∙ none-works f plv k j e)
+  | inr works ↦ rw works (none-works f plv k j e)
+]
+
+pub some-failed : (f : ℕ → Bool) (plv : List ℕ) (k j : ℕ) → j < k → f j ≡ true → stops_by f plv k j ≡ Some (slice_index plv j)
+some-failed f plv zero j lt e = absurd (omega (arith, lt))
+some-failed f plv (suc k) j lt e = elim (cases_eq j k) [
+  | inl is ↦
+      let here : f k ≡ true = ap f (sym is) ∙ e in
+      rw here (subst (λ (i : ℕ). at k (Some (slice_index plv k)) (stops_by f plv k) i ≡ Some (slice_index plv i)) (sym is) (at-same k (Some (slice_index plv k)) (stops_by f plv k)))
+  | inr other ↦ elim (cases_Bool (f k)) [
+    | inl failed ↦ rw failed (at-other k (Some (slice_index plv k)) (stops_by f plv k) j other ∙ some-failed f plv k j (omega (arith, lt, other)) e)
+    | inr works ↦ rw works (some-failed f plv k j (omega (arith, lt, other)) e)
+  ]
+]
+
+-- ---- the events
+
+module _ (set : Setting) (opening : Core) (events : List Event) (K : List (Act Txn)) (c : Core) (run : Run set opening events K c) (going : (j : ℕ) → (c.streams j).stop ≡ None) (f : ℕ → Bool) where
+  abbrev after : ℕ → Core
+  after k = stopped_at (stops_by f c.plv k) c
+
+  pub inv : Invariant set K c
+  inv = run_theorem set opening events K c run
+
+  none-yet : stopped_at (λ j. None) c ≡ c
+  none-yet = ap (λ (g : ℕ → Stream). record c { streams = g }) (fun_ext (λ j. ap (λ (o : Option ℕ). record (c.streams j) { stop = o }) (sym (going j))))
+
+  -- one stream more
+  one-more : (k : ℕ) → with_stream (after k) k (record ((after k).streams k) { stop = Some (slice_index c.plv k) }) ≡ stopped_at (at k (Some (slice_index c.plv k)) (stops_by f c.plv k)) c
+  one-more k = ap (λ (g : ℕ → Stream). record c { streams = g }) (fun_ext (λ j. elim (cases_eq j k) [
+    | inl is ↦ subst (λ (i : ℕ). at k (record ((after k).streams k) { stop = Some (slice_index c.plv k) }) (after k).streams i ≡ record (c.streams i) { stop = at k (Some (slice_index c.plv k)) (stops_by f c.plv k) i }) (sym is)
+        (at-same k (record ((after k).streams k) { stop = Some (slice_index c.plv k) }) (after k).streams ∙ ap (λ (o : Option ℕ). record (c.streams k) { stop = o }) (sym (at-same k (Some (slice_index c.plv k)) (stops_by f c.plv k))))
+    | inr other ↦
+        at-other k (record ((after k).streams k) { stop = Some (slice_index c.plv k) }) (after k).streams j other ∙ ap (λ (o : Option ℕ). record (c.streams j) { stop = o }) (sym (at-other k (Some (slice_index c.plv k)) (stops_by f c.plv k) j other))
+  ]))
+
+  pub stops-led : (k : ℕ) → k ≤ set.width → Run set opening (events ++ stop_events f c.plv k) K (after k)
+  stops-led zero le = subst (λ (es : List Event). Run set opening es K (after 0)) (sym (append-nil events)) (subst (λ (s : Core). Run set opening events K s) (sym none-yet) run)
+  stops-led (suc k) le =
+      let before = stops-led k (omega (arith, le)) in elim (cases_Bool (f k)) [
+        | inr works ↦
+            let same : after (suc k) ≡ after k = ap (λ (b : Bool). stopped_at (if b then at k (Some (slice_index c.plv k)) (stops_by f c.plv k) else stops_by f c.plv k) c) works in
+            let no_more : events ++ stop_events f c.plv (suc k) ≡ events ++ stop_events f c.plv k =
+            ap (λ (b : Bool). events ++ (stop_events f c.plv k ++ (if b then Stop k (slice_index c.plv k) ∷ [] else []))) works ∙ ap (λ (es : List Event). events ++ es) (append-nil (stop_events f c.plv k)) in
+            subst (λ (es : List Event). Run set opening es K (after (suc k))) (sym no_more) (subst (λ (s : Core). Run set opening (events ++ stop_events f c.plv k) K s) (sym same) before)
+        | inl failed ↦
+            let stop : Stops set k (slice_index c.plv k) (after k) (with_stream (after k) k (record ((after k).streams k) { stop = Some (slice_index c.plv k) })) = record {
+              there = omega (arith, le);
+              going = none-above f c.plv k k (omega arith);
+              low = omega arith;
+              high = inv.agrees.good.persisted k;
+              after = refl;
+            } in
+            let gone = (goes_on_theorem set opening).1 (events ++ stop_events f c.plv k) K (after k) (with_stream (after k) k (record ((after k).streams k) { stop = Some (slice_index c.plv k) })) (Stop k (slice_index c.plv k)) [] before (stop, refl) in
+            let state : with_stream (after k) k (record ((after k).streams k) { stop = Some (slice_index c.plv k) }) ≡ after (suc k) =
+            one-more k ∙ ap (λ (b : Bool). stopped_at (if b then at k (Some (slice_index c.plv k)) (stops_by f c.plv k) else stops_by f c.plv k) c) (sym failed) in
+            let all : (events ++ stop_events f c.plv k) ++ Stop k (slice_index c.plv k) ∷ [] ≡ events ++ stop_events f c.plv (suc k) =
+            append_assoc events (stop_events f c.plv k) (Stop k (slice_index c.plv k) ∷ []) ∙ ap (λ (b : Bool). events ++ (stop_events f c.plv k ++ (if b then Stop k (slice_index c.plv k) ∷ [] else []))) (sym failed) in
+            subst (λ (es : List Event). Run set opening es K (after (suc k))) all
+            (subst (λ (s : Core). Run set opening ((events ++ stop_events f c.plv k) ++ Stop k (slice_index c.plv k) ∷ []) K s) state
+            (subst (λ (ts : List (Act Txn)). Run set opening ((events ++ stop_events f c.plv k) ++ Stop k (slice_index c.plv k) ∷ []) ts (with_stream (after k) k (record ((after k).streams k) { stop = Some (slice_index c.plv k) }))) (append-nil K) gone))
+      ]
