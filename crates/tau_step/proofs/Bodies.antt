@@ -24,7 +24,7 @@ copies (suc m) (suc k) base lt = copies m k base (omega arith)
 
 module _ (l : Load) (anchors : ℕ → List (List ℕ)) where
   -- a record has at least five bytes
-  five : (i : Item) (bytes : List ℕ) → AreBytesOf l anchors i bytes → 5 ≤ length bytes
+  pub five : (i : Item) (bytes : List ℕ) → AreBytesOf l anchors i bytes → 5 ≤ length bytes
   five (Record t) bytes q =
       let vectors : List (List ℕ) = replicate (suc t.call.anchor) q.base in
       let s = q.spelled vectors (copies (suc t.call.anchor) t.call.anchor q.base (omega arith)) in

@@ -10,3 +10,4 @@ pub mod Rounding
 pub mod Moving
 pub mod Fates
 pub mod Whole
+pub mod Came

@@ -15,6 +15,7 @@ ghost use Rattle.tau_step.specs.RunTold.{fates_by};
 use crate::run::Run;
 use std::alloc::Global;
 use tau_base::{Listed, Lv, NoMemory};
+use tau_core::Core;
 use tau_model::{Committed, reported};
 use tau_proc::Reply;
 use tau_report::{Fate, RunEnd, RunReport};
@@ -85,6 +86,41 @@ fn fates_of(
     Ok(fates)
 }
 
+/// What a run tells that has led to this core, of so many calls, with its acknowledgements as they were told, the lowest
+/// stream whose disk failed, and whether the sink did.
+pub fn tell_end(
+    alloc: Global,
+    core: &Core,
+    acks: Listed<(u64, Lv)>,
+    calls: usize,
+    failed: Option<u8>,
+    sink_failed: bool,
+) -> Result<RunEnd, NoMemory>
+    requires stood { Stood core.now }
+    requires calls { calls ≡ length core.now.load.calls }
+    requires told { All (λ ack. IsNumberOf calls ack.0) acks }
+    ensures acks { IfOk result (λ end. end.report.acks ≡ acks) }
+    ensures fates { IfOk result (λ end. (K : List (Act Txn)) (h : Hidden) → Stands core.now K h → end.report.fates ≡ fates_by (length core.now.load.calls) K acks) }
+    ensures order { IfOk result (λ end. (K : List (Act Txn)) (h : Hidden) → Stands core.now K h → end.report.order ≡ map (λ t. t.call.call.number) (reported core.now.ends K)) }
+    ensures tables { IfOk result (λ end. (K : List (Act Txn)) (h : Hidden) → Stands core.now K h → IsTablesOf (sight (setting_of core.now.load) (core_of core.now h)).row end.report.tables) }
+    ensures disk { IfOk result (λ end. end.disk ≡ failed) }
+    ensures sink { IfOk result (λ end. end.sink_failed ≡ sink_failed) }
+{
+    let fates = fates_of(alloc, calls, core.committed(), acks.as_slice())?;
+    let order = reported(alloc, &core.ends(), core.committed())?;
+    let tables = core.tables(alloc)?;
+    Ok(RunEnd {
+        report: RunReport {
+            acks,
+            fates: Listed::of(fates),
+            order: Listed::of(order),
+            tables,
+        },
+        disk: failed,
+        sink_failed,
+    })
+}
+
 /// What the run tells, of so many calls.
 pub(crate) fn end_of(alloc: Global, run: Run, calls: usize) -> Result<RunEnd, NoMemory>
     requires stood { Stood run.core }
@@ -105,18 +141,6 @@ pub(crate) fn end_of(alloc: Global, run: Run, calls: usize) -> Result<RunEnd, No
         failed,
         flushes: _,
     } = run;
-    let fates = fates_of(alloc, calls, core.committed(), clerk.acks.as_slice())?;
-    let order = reported(alloc, &core.ends(), core.committed())?;
-    let tables = core.tables(alloc)?;
     let sink_failed = clerk.sink_failed;
-    Ok(RunEnd {
-        report: RunReport {
-            acks: clerk.acks,
-            fates: Listed::of(fates),
-            order: Listed::of(order),
-            tables,
-        },
-        disk: failed,
-        sink_failed,
-    })
+    tell_end(alloc, &core, clerk.acks, calls, failed, sink_failed)
 }

@@ -12,5 +12,6 @@ mod top;
 mod worker;
 
 pub use device::device_order;
+pub use end::tell_end;
 pub use sink::write_all;
 pub use top::{run_turns, run_turns_from};
