@@ -1,4 +1,4 @@
--- A worker that gives no call up loses none, whatever the others do. The first half stands, private, in tau_run's proofs/Complete.
+-- A worker that gives no call up loses none, whatever the others do.
 use Rattle.std.proofs.Common.{ℕ, ◌≤◌, Bool, true, false, ◌≡◌, inl, inr, List, [], ◌∷◌, ◌++◌, refl, sym, ap, subst, ◌∙◌, Option, arith}
 use Rattle.std.specs.Prelude.{Some, None, ◌==◌, ◌||◌}
 use Rattle.std.proofs.lemmas.Bool.{cases_eq}
@@ -17,7 +17,7 @@ use Rattle.tau_machine.specs.Accounts.{one, in_calls, in_committed, in_phase, in
 use Rattle.tau_machine.specs.Events.{Event, Lock, Busy, Quit, Commit, Post, Free, FirstFree, Done, DoneReading, Drop, Gather, PlaceAnchor, Persist, Ack, Stop, Resume, Leads, ready, Gathered, stop, record_first, anchor_first, Reads, Frees, Finishes}
 use Rattle.tau_machine.proofs.At.{at-same, at-other}
 use Rattle.tau_machine.proofs.Accounts.{calls-append, committed-append}
-use Rattle.tau_run.proofs.Complete.{Steady, Keeps}
+use Rattle.tau_crew_facts.specs.Keeping.{Keeps, KeepsOf, Steady}
 
 keeps_on : (a b c : Worker) → Keeps a b → Keeps b c → Keeps a c
 keeps_on a b c p q = record { all = λ n. (let x = p.all n in let y = q.all n in omega (arith, x, y)); steady = q.steady }
@@ -103,11 +103,6 @@ joins_keeps width wk h p dep c e runs number steady =
 locked_same : (h : Hand) (key : Key) (mode : Mode) (row : Value) (write_lv read_lv : List ℕ) → ((n : ℕ) → in_hand n (Some h) ≤ in_hand n (Some (hand_locked h key mode row write_lv read_lv))) × ((hand_locked h key mode row write_lv read_lv).given_up ≡ h.given_up)
 locked_same h key Read row write_lv read_lv = (λ n. omega arith, refl)
 locked_same h key Write row write_lv read_lv = (λ n. omega arith, refl)
-
--- the event gives no call of worker u up
-abbrev pub KeepsOf : ℕ → Event → Type 0
-KeepsOf u (Quit w up) = u ≡ w → up ≡ false
-KeepsOf u _ = Unit {0}
 
 module _ (u : ℕ) where
   same_workers : (s s' : Core) → Steady (s.workers u) → s'.workers ≡ s.workers → Keeps (s.workers u) (s'.workers u)

@@ -5,3 +5,9 @@ pub mod Keeping
 pub mod Stops
 pub mod Lost
 pub mod Anchors
+pub mod There
+pub mod Came
+pub mod Done
+pub mod Closing
+pub mod Apart
+pub mod Facts

@@ -1,7 +1,53 @@
 -- What holds of each run in threads.
-use Rattle.std.specs.Prelude.{ℕ, List, ◌++◌}
+use Rattle.std.specs.Prelude.{ℕ, ◌<◌, ◌≡◌, false, Some, List, [], ◌++◌, length, slice_get, slice_index_or}
+use Rattle.tau_base.specs.declared.value.LogMode.{LogMode}
+use Rattle.tau_disk.specs.declared.disk.Disk.{Ghosts}
+use Rattle.tau_stream.specs.declared.writer.Writer.{Writer}
+use Rattle.tau_stream.specs.Writer.{has_failed}
+use Rattle.tau_model.specs.History.{Act}
+use Rattle.tau_machine.specs.Events.{Event, Leads}
+use Rattle.tau_machine.specs.Hands.{Txn}
+use Rattle.tau_machine.specs.State.{Core, Setting, Ticket}
+use Rattle.tau_machine.specs.Worker.{Worker}
+use Rattle.tau_text.specs.declared.load.Workload.{Workload}
+use Rattle.tau_core.specs.State.{Plain}
+use Rattle.tau_run.specs.Course.{IsLoadOf, IsSoundLoad}
+use Rattle.tau_run.specs.Facts.{catalogue_of}
+use Rattle.tau_run.specs.Told.{in_any_order}
+use Rattle.tau_rule.specs.Knows.{Knows}
+use Rattle.tau_rule.specs.Role.{Managed}
+use Rattle.tau_rule.specs.Rule.{Now}
+use Rattle.tau_step.specs.Came.{CameTo}
+use Rattle.tau_step.specs.RunTold.{EachOf}
+use Rattle.tau_crew_facts.specs.Closing.{ClerkDone, IsClosing, ManagerApart, ManagerDone, ManagerKnows, WorkerDone}
+use Rattle.tau_crew_facts.specs.Ends.{AreApart, IsLoose, IsThreadDone, IsThreadEnd}
 use Rattle.tau_crew_facts.specs.Spacing.{Flushes, IsSpacing, newest, placed_after}
+use Rattle.tau_crew_facts.specs.Telling.{IsTelling}
+use Rattle.tau_crew_facts.specs.Keeping.{Keeps, KeepsOf, Steady}
 
 -- anchors that are placed after each flush that makes them due stand in their distance, wherever the flushes end
 abbrev pub AnchorsKeepApart : Type 0
 AnchorsKeepApart = (base durable : ℕ) (anchors ends : List ℕ) → IsSpacing base durable anchors → Flushes durable ends → IsSpacing base (newest durable ends) (anchors ++ placed_after (newest base anchors) ends)
+
+-- no event loses a call of a worker but one by which this worker gives it up
+abbrev pub WorkersKeepCalls : Type 0
+WorkersKeepCalls = (w : ℕ) (set : Setting) (e : Event) (s s' : Core) (new : List (Act Txn)) → Steady (s.workers w) → KeepsOf w e → Leads set e s s' new → Keeps (s.workers w) (s'.workers w)
+
+module _ {D : Type 0} (G : Ghosts D) where
+  -- a desk that closes ends a run, with what the loops know of their own at their ends
+  abbrev pub ClosedDesksEnd : Type 0
+  ClosedDesksEnd =
+      (first : Plain) (v : Knows) (workers : ℕ → Worker) (managers : ℕ → Managed) (acked : List (List Ticket)) (c : Now) → IsClosing first v workers managers acked c → (bases : ℕ → List ℕ) (ws ws' : List (Writer D G)) (acks : List (ℕ × List ℕ)) →
+      length ws ≡ first.load.streams → ((w : ℕ) → w < first.load.workers → IsLoose (workers w).hand) → EachOf (λ j w w'. ManagerKnows first.load v.seen j (bases j) (managers j) w w') ws ws' → IsTelling first.load acked v.seen acks →
+      IsThreadEnd bases first c.core ws ws' acks
+      × (((j : ℕ) → j < first.load.streams → ManagerApart v.seen j (bases j) (managers j)) → AreApart bases first.load.streams c.core)
+      × (((w : ℕ) → w < first.load.workers → WorkerDone first.load w (workers w)) →
+      ((j : ℕ) (w' : Writer D G) → slice_get ws' j ≡ Some w' → has_failed w' ≡ false → ManagerDone first.load v.seen workers j (managers j)) →
+      ((w : ℕ) → w < first.load.workers → ClerkDone v.seen (workers w) (slice_index_or acked w [])) →
+      (((j : ℕ) (w' : Writer D G) → slice_get ws' j ≡ Some w' → has_failed w' ≡ false) → (w : ℕ) → w < first.load.workers → ((workers w).waiting ≡ []) × ((workers w).left ≡ [])) → IsThreadDone first.load c.core ws')
+
+  -- and that is a run of the core, by events in any order
+  abbrev pub EndsAreRuns : Type 0
+  EndsAreRuns =
+      (n m : ℕ) (mode : LogMode) (load : Workload) (first : Plain) → IsLoadOf n m mode load first.load → IsSoundLoad load → (c : Core) (ws ws' : List (Writer D G)) (acks : List (ℕ × List ℕ)) → IsThreadEnd (λ j. catalogue_of load) first c ws ws' acks →
+      CameTo in_any_order n m mode load ws ws' acks

@@ -1,4 +1,7 @@
 pub mod Writers
 pub mod Spacing
 pub mod Telling
+pub mod Keeping
+pub mod Ends
+pub mod Closing
 pub mod Laws

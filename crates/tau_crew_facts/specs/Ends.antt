@@ -1,0 +1,95 @@
+-- What a run in threads has at its end: the state that the desk gives when it closes, and what became of the writers and the sink.
+use Rattle.std.specs.Prelude.{ℕ, ◌<◌, ◌≤◌, ◌≡◌, ◌==◌, false, Option, Some, None, List, [], length, map, slice_get, slice_index}
+use Rattle.std.specs.List.{filter}
+use Rattle.tau_base.specs.Vectors.{AtMost, covers}
+use Rattle.tau_disk.specs.Disk.{Rose}
+use Rattle.tau_disk.specs.declared.disk.Disk.{Ghosts}
+use Rattle.tau_stream.specs.declared.writer.Writer.{Writer}
+use Rattle.tau_stream.specs.Writer.{disk_of, has_failed, IsReady}
+use Rattle.tau_outbox.specs.declared.Piece.{Piece}
+use Rattle.tau_model.specs.History.{Act, Member}
+use Rattle.tau_machine.specs.Hands.{Txn, Hand, act_in}
+use Rattle.tau_machine.specs.State.{Ticket, Core}
+use Rattle.tau_machine.specs.Accounts.{in_worker}
+use Rattle.tau_machine.specs.Events.{Event}
+use Rattle.tau_machine.specs.Runs as machine
+use Rattle.tau_core.specs.Opens.{Opened, nothing}
+use Rattle.tau_core.specs.Pieces.{IsPieceOf, Paired}
+use Rattle.tau_core.specs.State.{Plain}
+use Rattle.tau_core.specs.View.{core_of, setting_of, worker_of}
+use Rattle.tau_core.specs.declared.state.Load.{Load}
+use Rattle.tau_run.specs.Run.{pair_of}
+use Rattle.tau_rule.specs.Rule.{anchors_at}
+use Rattle.tau_step.specs.RunTold.{EachOf}
+use Rattle.tau_crew_facts.specs.Writers.{HasWritten}
+use Rattle.tau_crew_facts.specs.Spacing.{IsSpacing}
+
+-- ---- the state of the desk at its close
+
+-- a call in hand has not committed and holds no key
+abbrev pub IsLoose : Option Hand → Type 0
+IsLoose None = Unit {0}
+IsLoose (Some h) = (act_in (Some h) ≡ None) × (h.held ≡ [])
+
+-- Events lead to this state from the core `first`, with which the desk was opened, and no stream was stopped; each outbox is at home.
+pub record IsClosed (first : Plain) (c : Core) : Type 0 where
+  pub opened : Opened first.load first
+  pub events : List Event
+  pub joined : List (Act Txn)
+  pub run : machine.Run (setting_of first.load) (core_of first nothing) events joined c
+  pub going : (j : ℕ) → (c.streams j).stop ≡ None
+  pub loose : (w : ℕ) → IsLoose (c.workers w).hand
+  pub boxes : (w : ℕ) → w < first.load.workers → (pieces : List Piece) × Paired (IsPieceOf first.load (anchors_at c)) pieces (c.outboxes w).posted
+
+-- The manager of stream j: the pieces that it has gathered, those of its own that wait, and its writer, w at the entry and w' now.
+-- What it has stored last is the persisted position.
+pub record ManagerEnds {D : Type 0} {G : Ghosts D} (l : Load) (c : Core) (j : ℕ) (base : List ℕ) (w w' : Writer D G) : Type 0 where
+  pub taken : List Piece
+  pub own : List Piece
+  pub moved : Paired (IsPieceOf l (anchors_at c)) taken (c.streams j).moved
+  pub posted : Paired (IsPieceOf l (anchors_at c)) own (c.streams j).posted
+  pub ready : G.tells → IsReady l.streams j w base
+  pub written : HasWritten l.streams j base taken (slice_index c.plv j) w w'
+
+-- The clerk has told the calls of each worker in their order, and each with a vector that it had seen to be persisted.
+pub record ClerkEnds (l : Load) (c : Core) (acks : List (ℕ × List ℕ)) : Type 0 where
+  pub told : (w : ℕ) → w < l.workers → filter (λ (a : ℕ × List ℕ). worker_of l.workers a.0 == w) acks ≡ map pair_of (c.acked w)
+  pub seen : List ℕ
+  pub low : AtMost seen c.plv
+  pub licensed : (a : ℕ × List ℕ) → Member a acks → AtMost a.1 seen
+
+-- A run in threads from the core `first` on streams that had these bytes, at whatever end, out of memory too.
+pub record IsThreadEnd {D : Type 0} {G : Ghosts D} (bases : ℕ → List ℕ) (first : Plain) (c : Core) (ws ws' : List (Writer D G)) (acks : List (ℕ × List ℕ)) : Type 0 where
+  pub closed : IsClosed first c
+  pub count : length ws ≡ first.load.streams
+  pub managers : EachOf (λ j w w'. ManagerEnds first.load c j (bases j) w w') ws ws'
+  pub clerk : ClerkEnds first.load c acks
+
+-- The run went to its end: no call is in hand and none was given up; what was placed in a stream is persisted, unless its
+-- disk failed; what is persisted is acknowledged; and where no disk failed no call is left.
+pub record IsThreadDone {D : Type 0} {G : Ghosts D} (l : Load) (c : Core) (ws' : List (Writer D G)) : Type 0 where
+  pub rests : (w : ℕ) → (c.workers w).hand ≡ None
+  pub kept : (k : ℕ) → 1 ≤ k → k ≤ length l.calls → (w : ℕ) × (1 ≤ in_worker k (c.workers w))
+  pub flushed : (j : ℕ) (w' : Writer D G) → slice_get ws' j ≡ Some w' → has_failed w' ≡ false → slice_index c.plv j ≡ slice_index c.ends j
+  pub told : (w : ℕ) → filter (λ (k : Ticket). covers c.plv k.lv) (c.outboxes w).pending ≡ []
+  pub done : ((j : ℕ) (w' : Writer D G) → slice_get ws' j ≡ Some w' → has_failed w' ≡ false) → (w : ℕ) → ((c.workers w).waiting ≡ []) × ((c.workers w).left ≡ [])
+
+-- ---- what stops may leave, over the writers of a run
+
+abbrev pub OfWriters : {W : Type 0} → (W → W → Type 0) → List W → List W → ℕ → Type 0
+OfWriters {W} R old new j = (w : W) × (w' : W) × (slice_get old j ≡ Some w) × (slice_get new j ≡ Some w') × R w w'
+
+abbrev pub PastOf : {D : Type 0} {G : Ghosts D} → List (Writer D G) → List (Writer D G) → ℕ → List ℕ → Type 0
+PastOf {D} {G} ws ws' j x = OfWriters (λ w w'. G.tells × G.may_leave_since (disk_of w') (G.moment (disk_of w)) x) ws ws' j
+
+abbrev pub NowOf : {D : Type 0} {G : Ghosts D} → List (Writer D G) → List (Writer D G) → ℕ → List ℕ → Type 0
+NowOf {D} {G} ws ws' j x = OfWriters (λ w w'. G.tells × G.may_leave (disk_of w') x) ws ws' j
+
+abbrev pub RoseOf : {D : Type 0} {G : Ghosts D} → List (Writer D G) → List (Writer D G) → ℕ → Type 0
+RoseOf {D} {G} ws ws' j = OfWriters (λ w w'. Rose (G.faults (disk_of w)) (G.faults (disk_of w'))) ws ws' j
+
+-- ---- anchors
+
+-- the managers have kept their distance, over the own components of their anchors, from the opening's end on
+abbrev pub AreApart : (ℕ → List ℕ) → ℕ → Core → Type 0
+AreApart bases n c = (j : ℕ) → j < n → IsSpacing (length (bases j)) (slice_index c.plv j) (map (λ (v : List ℕ). slice_index v j) (c.streams j).anchors)
