@@ -31,9 +31,13 @@ dep_of (Command number anchor dep call) = Some dep
 dep_of (Anchor lv) = None
 dep_of (Catalogue text) = None
 
+-- a record that is not started
+abbrev pub unstarted : ℕ → ℕ → ℕ → List ℕ → Item
+unstarted j i start dep = record { stream = j; index = i; start = start; dep = dep; stage = Waiting }
+
 abbrev pub item_as : List ℕ → ℕ → ℕ → ℕ → Option (List ℕ) → Option Item
 item_as elv j i start None = None
-item_as elv j i start (Some dep) = if covers elv dep then Some (record { stream = j; index = i; start = start; dep = dep; stage = Waiting }) else None
+item_as elv j i start (Some dep) = if covers elv dep then Some (unstarted j i start dep) else None
 
 -- what is kept of a record, where it is taken
 abbrev pub item_of : List ℕ → ℕ → ℕ → Placed → Option Item

@@ -1,7 +1,7 @@
 //! What the pools keep of a taken record.
-ghost use Rattle.std.specs.Prelude.{◌≡◌, ◌≤◌, ◌++◌, length, IfOk, OnOk};
+ghost use Rattle.std.specs.Prelude.{◌≡◌, ◌≤◌, ◌++◌, ◌∷◌, [], Some, None, length, IfOk, IfSome, IsNone, OnOk};
 ghost use Rattle.tau_base.specs.declared.limits.TheConstants.{MAX_STREAMS};
-ghost use Rattle.tau_pool.specs.Items.{is_left, is_waiting, dep_of, item_of, items_in, items_from};
+ghost use Rattle.tau_pool.specs.Items.{is_left, is_waiting, dep_of, unstarted, with_item, item_of, items_in, items_from};
 
 use std::alloc::Global;
 use tau_base::{Listed, Lv, NoMemory};
@@ -69,34 +69,59 @@ pub struct Job {
 }
 
 /// The vector of a data or command record.
-fn dep_of(entry: &Entry) -> Option<Lv>
-    ensures { result ≡ dep_of entry.now }
+fn dep_of(entry: &Entry) -> Option<&Lv>
+    ensures some { IfSome result (λ dep. dep_of entry.now ≡ Some dep.now) }
+    ensures none { IsNone result → dep_of entry.now ≡ None }
 {
     match entry {
-        Entry::Written { dep, .. } => Some(*dep),
-        Entry::Command { dep, .. } => Some(*dep),
+        Entry::Written { dep, .. } => Some(dep),
+        Entry::Command { dep, .. } => Some(dep),
         Entry::Anchor { .. } => None,
         Entry::Catalogue { .. } => None,
     }
 }
 
-/// What is kept of a record, where it is taken.
-fn item_of(elv: &Lv, stream: u8, index: usize, placed: &Placed) -> Option<Item>
-    ensures { result ≡ item_of elv.now stream index placed.now }
+/// Puts a record behind the others.
+fn put_item(
+    items: &mut Vec<Item>,
+    stream: u8,
+    index: usize,
+    start: u64,
+    dep: &Lv,
+) -> Result<(), NoMemory>
+    ensures { OnOk result (items.new.items ≡ items.old.items ++ unstarted stream index start dep.now ∷ []) }
+{
+    match items.reserve(1) {
+        Ok(()) => {}
+        Err(_) => return Err(NoMemory),
+    }
+    items.push_reserved(Item {
+        stream,
+        index,
+        start,
+        dep: *dep,
+        stage: Stage::Waiting,
+    });
+    Ok(())
+}
+
+/// Puts a record behind the others, where it is taken.
+fn put_record(
+    items: &mut Vec<Item>,
+    elv: &Lv,
+    stream: u8,
+    index: usize,
+    placed: &Placed,
+) -> Result<(), NoMemory>
+    ensures { OnOk result (items.new.items ≡ items.old.items ++ with_item (item_of elv.now stream index placed.now) []) }
 {
     match dep_of(&placed.entry) {
-        None => None,
+        None => Ok(()),
         Some(dep) => {
-            if !elv.covers(&dep) {
-                return None;
+            if !elv.covers(dep) {
+                return Ok(());
             }
-            Some(Item {
-                stream,
-                index,
-                start: placed.start,
-                dep,
-                stage: Stage::Waiting,
-            })
+            put_item(items, stream, index, placed.start, dep)
         }
     }
 }
@@ -111,12 +136,9 @@ fn put_stream(
     ensures { OnOk result (items.new.items ≡ items.old.items ++ items_in elv.now stream 0 records.now) }
 {
     for (index, placed) in records.iter().enumerate() {
-        match item_of(elv, stream, index, placed) {
-            None => {}
-            Some(item) => match items.push(item) {
-                Ok(()) => {}
-                Err(_) => return Err(NoMemory),
-            },
+        match put_record(items, elv, stream, index, placed) {
+            Ok(()) => {}
+            Err(_) => return Err(NoMemory),
         }
     }
     Ok(())

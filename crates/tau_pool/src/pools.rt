@@ -128,18 +128,16 @@ impl Pools {
         ensures started { IsStarted self.old result self.new }
         ensures recovered { IsRecovered self.new.ends self.new.rlv self.new.items }
     {
-        let item = self.items[place];
-        self.items[place] = Item {
-            stage: Stage::Flying,
-            ..item
-        };
-        self.waiting -= 1;
-        self.flying += 1;
-        Job {
+        let item = &mut self.items[place];
+        item.stage = Stage::Flying;
+        let job = Job {
             stream: item.stream,
             index: item.index,
             place,
-        }
+        };
+        self.waiting -= 1;
+        self.flying += 1;
+        job
     }
 
     /// Finishes a record that is started and not finished.
@@ -149,16 +147,14 @@ impl Pools {
         ensures kept { (other : Job) → IsFlying self.old other → other.place ≢ job.place → IsFlying self.new other }
         ensures recovered { IsRecovered self.new.ends self.new.rlv self.new.items }
     {
-        let item = self.items[job.place];
-        self.items[job.place] = Item {
-            stage: Stage::Finished,
-            ..item
-        };
+        let item = &mut self.items[job.place];
+        item.stage = Stage::Finished;
+        let stream = item.stream;
         self.flying -= 1;
-        let j = usize::from(item.stream);
-        let next = first_left(&self.items, item.stream, self.nexts[j]);
+        let j = usize::from(stream);
+        let next = first_left(&self.items, stream, self.nexts[j]);
         self.nexts[j] = next;
-        let reach = reach_of(&self.items, item.stream, next, self.ends.get(j));
+        let reach = reach_of(&self.items, stream, next, self.ends.get(j));
         self.rlv.set(j, reach);
     }
 

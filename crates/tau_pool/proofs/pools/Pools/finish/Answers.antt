@@ -21,8 +21,8 @@ pub overflow_sub-self : goal.overflow_sub-self
 overflow_sub-self c =
     let f : IsFlying _ c.args.job = subst (λ (p : Pooled). IsFlying p c.args.job) (sym c.self.view_is) (record { item = c.requires.item; there = c.requires.there; started = c.requires.started; named = c.requires.named }) in
     let items = c.self.inside.items.items in
-    let x = c.index-item.result.now in
-    let here = slice_get_read items (length items) c.args.job.place x refl (get_within items c.args.job.place f.item f.there) c.index-item.ensures in
+    let x = c.index_mut-item.result.now in
+    let here = slice_get_read items (length items) c.args.job.place x refl (get_within items c.args.job.place f.item f.there) c.index_mut-item.ensures.value in
     let flies : is_flying x.stage ≡ true = subst (λ (q : Item). is_flying q.stage ≡ true) (some_is f.item x (sym f.there ∙ here)) f.started in
     let k = c.self.invariant in
     let w = k.within c.args.job.place x here in
@@ -34,8 +34,8 @@ pub index-requires : goal.index-requires
 index-requires c =
     let f : IsFlying _ c.args.job = subst (λ (p : Pooled). IsFlying p c.args.job) (sym c.self.view_is) (record { item = c.requires.item; there = c.requires.there; started = c.requires.started; named = c.requires.named }) in
     let items = c.self.inside.items.items in
-    let x = c.index-item.result.now in
-    let here = slice_get_read items (length items) c.args.job.place x refl (get_within items c.args.job.place f.item f.there) c.index-item.ensures in
+    let x = c.index_mut-item.result.now in
+    let here = slice_get_read items (length items) c.args.job.place x refl (get_within items c.args.job.place f.item f.there) c.index_mut-item.ensures.value in
     let flies : is_flying x.stage ≡ true = subst (λ (q : Item). is_flying q.stage ≡ true) (some_is f.item x (sym f.there ∙ here)) f.started in
     let k = c.self.invariant in
     let w = k.within c.args.job.place x here in
@@ -47,8 +47,8 @@ pub first_left-next-requires : goal.first_left-next-requires
 first_left-next-requires c =
     let f : IsFlying _ c.args.job = subst (λ (p : Pooled). IsFlying p c.args.job) (sym c.self.view_is) (record { item = c.requires.item; there = c.requires.there; started = c.requires.started; named = c.requires.named }) in
     let items = c.self.inside.items.items in
-    let x = c.index-item.result.now in
-    let here = slice_get_read items (length items) c.args.job.place x refl (get_within items c.args.job.place f.item f.there) c.index-item.ensures in
+    let x = c.index_mut-item.result.now in
+    let here = slice_get_read items (length items) c.args.job.place x refl (get_within items c.args.job.place f.item f.there) c.index_mut-item.ensures.value in
     let flies : is_flying x.stage ≡ true = subst (λ (q : Item). is_flying q.stage ≡ true) (some_is f.item x (sym f.there ∙ here)) f.started in
     let k = c.self.invariant in
     let w = k.within c.args.job.place x here in
@@ -58,12 +58,12 @@ first_left-next-requires c =
     let size : length c.deref.result.now ≡ length items = ap (λ (xs : List Item). length xs) c.deref.ensures.value ∙ length-set items c.args.job.place (staged Finished x) in
     omega (arith, at, first, high, size)
 
-pub index_mut-requires-2 : goal.index_mut-requires-2
-index_mut-requires-2 c =
+pub index_mut-requires : goal.index_mut-requires
+index_mut-requires c =
     let f : IsFlying _ c.args.job = subst (λ (p : Pooled). IsFlying p c.args.job) (sym c.self.view_is) (record { item = c.requires.item; there = c.requires.there; started = c.requires.started; named = c.requires.named }) in
     let items = c.self.inside.items.items in
-    let x = c.index-item.result.now in
-    let here = slice_get_read items (length items) c.args.job.place x refl (get_within items c.args.job.place f.item f.there) c.index-item.ensures in
+    let x = c.index_mut-item.result.now in
+    let here = slice_get_read items (length items) c.args.job.place x refl (get_within items c.args.job.place f.item f.there) c.index_mut-item.ensures.value in
     let flies : is_flying x.stage ≡ true = subst (λ (q : Item). is_flying q.stage ≡ true) (some_is f.item x (sym f.there ∙ here)) f.started in
     let k = c.self.invariant in
     let w = k.within c.args.job.place x here in
@@ -75,8 +75,8 @@ pub get-requires : goal.get-requires
 get-requires c =
     let f : IsFlying _ c.args.job = subst (λ (p : Pooled). IsFlying p c.args.job) (sym c.self.view_is) (record { item = c.requires.item; there = c.requires.there; started = c.requires.started; named = c.requires.named }) in
     let items = c.self.inside.items.items in
-    let x = c.index-item.result.now in
-    let here = slice_get_read items (length items) c.args.job.place x refl (get_within items c.args.job.place f.item f.there) c.index-item.ensures in
+    let x = c.index_mut-item.result.now in
+    let here = slice_get_read items (length items) c.args.job.place x refl (get_within items c.args.job.place f.item f.there) c.index_mut-item.ensures.value in
     let flies : is_flying x.stage ≡ true = subst (λ (q : Item). is_flying q.stage ≡ true) (some_is f.item x (sym f.there ∙ here)) f.started in
     let k = c.self.invariant in
     let w = k.within c.args.job.place x here in
@@ -86,8 +86,8 @@ pub reach_of-reach-requires : goal.reach_of-reach-requires
 reach_of-reach-requires c =
     let f : IsFlying _ c.args.job = subst (λ (p : Pooled). IsFlying p c.args.job) (sym c.self.view_is) (record { item = c.requires.item; there = c.requires.there; started = c.requires.started; named = c.requires.named }) in
     let items = c.self.inside.items.items in
-    let x = c.index-item.result.now in
-    let here = slice_get_read items (length items) c.args.job.place x refl (get_within items c.args.job.place f.item f.there) c.index-item.ensures in
+    let x = c.index_mut-item.result.now in
+    let here = slice_get_read items (length items) c.args.job.place x refl (get_within items c.args.job.place f.item f.there) c.index_mut-item.ensures.value in
     let flies : is_flying x.stage ≡ true = subst (λ (q : Item). is_flying q.stage ≡ true) (some_is f.item x (sym f.there ∙ here)) f.started in
     let k = c.self.invariant in
     let w = k.within c.args.job.place x here in
@@ -101,8 +101,8 @@ pub set-requires-clause-there : goal.set-requires-clause-there
 set-requires-clause-there c =
     let f : IsFlying _ c.args.job = subst (λ (p : Pooled). IsFlying p c.args.job) (sym c.self.view_is) (record { item = c.requires.item; there = c.requires.there; started = c.requires.started; named = c.requires.named }) in
     let items = c.self.inside.items.items in
-    let x = c.index-item.result.now in
-    let here = slice_get_read items (length items) c.args.job.place x refl (get_within items c.args.job.place f.item f.there) c.index-item.ensures in
+    let x = c.index_mut-item.result.now in
+    let here = slice_get_read items (length items) c.args.job.place x refl (get_within items c.args.job.place f.item f.there) c.index_mut-item.ensures.value in
     let flies : is_flying x.stage ≡ true = subst (λ (q : Item). is_flying q.stage ≡ true) (some_is f.item x (sym f.there ∙ here)) f.started in
     let k = c.self.invariant in
     let w = k.within c.args.job.place x here in
@@ -112,8 +112,8 @@ pub invariant_of-self : goal.invariant_of-self
 invariant_of-self c =
     let f : IsFlying _ c.args.job = subst (λ (p : Pooled). IsFlying p c.args.job) (sym c.self.view_is) (record { item = c.requires.item; there = c.requires.there; started = c.requires.started; named = c.requires.named }) in
     let items = c.self.inside.items.items in
-    let x = c.index-item.result.now in
-    let here = slice_get_read items (length items) c.args.job.place x refl (get_within items c.args.job.place f.item f.there) c.index-item.ensures in
+    let x = c.index_mut-item.result.now in
+    let here = slice_get_read items (length items) c.args.job.place x refl (get_within items c.args.job.place f.item f.there) c.index_mut-item.ensures.value in
     let flies : is_flying x.stage ≡ true = subst (λ (q : Item). is_flying q.stage ≡ true) (some_is f.item x (sym f.there ∙ here)) f.started in
     let k = c.self.invariant in
     let w = k.within c.args.job.place x here in
@@ -133,8 +133,8 @@ pub returns-clause-finished : goal.returns-clause-finished
 returns-clause-finished c =
     let f : IsFlying _ c.args.job = subst (λ (p : Pooled). IsFlying p c.args.job) (sym c.self.view_is) (record { item = c.requires.item; there = c.requires.there; started = c.requires.started; named = c.requires.named }) in
     let items = c.self.inside.items.items in
-    let x = c.index-item.result.now in
-    let here = slice_get_read items (length items) c.args.job.place x refl (get_within items c.args.job.place f.item f.there) c.index-item.ensures in
+    let x = c.index_mut-item.result.now in
+    let here = slice_get_read items (length items) c.args.job.place x refl (get_within items c.args.job.place f.item f.there) c.index_mut-item.ensures.value in
     let flies : is_flying x.stage ≡ true = subst (λ (q : Item). is_flying q.stage ≡ true) (some_is f.item x (sym f.there ∙ here)) f.started in
     let k = c.self.invariant in
     let w = k.within c.args.job.place x here in
@@ -144,8 +144,8 @@ pub returns-clause-recovered : goal.returns-clause-recovered
 returns-clause-recovered c =
     let f : IsFlying _ c.args.job = subst (λ (p : Pooled). IsFlying p c.args.job) (sym c.self.view_is) (record { item = c.requires.item; there = c.requires.there; started = c.requires.started; named = c.requires.named }) in
     let items = c.self.inside.items.items in
-    let x = c.index-item.result.now in
-    let here = slice_get_read items (length items) c.args.job.place x refl (get_within items c.args.job.place f.item f.there) c.index-item.ensures in
+    let x = c.index_mut-item.result.now in
+    let here = slice_get_read items (length items) c.args.job.place x refl (get_within items c.args.job.place f.item f.there) c.index_mut-item.ensures.value in
     let flies : is_flying x.stage ≡ true = subst (λ (q : Item). is_flying q.stage ≡ true) (some_is f.item x (sym f.there ∙ here)) f.started in
     let k = c.self.invariant in
     let w = k.within c.args.job.place x here in

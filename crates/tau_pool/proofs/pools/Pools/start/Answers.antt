@@ -38,18 +38,18 @@ pub invariant_of-self : goal.invariant_of-self
 invariant_of-self c =
     let ready : is_ready c.self.inside.items.items c.self.inside.rlv c.args.place ≡ true = subst (λ (p : Pooled). is_ready p.items p.rlv c.args.place ≡ true) (sym c.self.view_is) c.requires in
     let (x, there, waits, covered) = ready_inv c.self.inside.items.items c.self.inside.rlv c.args.place ready in
-    let here = slice_get_read c.self.inside.items.items (length c.self.inside.items.items) c.args.place c.index-item.result.now refl (get_within c.self.inside.items.items c.args.place x there) c.index-item.ensures in
-    let waits_is : is_waiting c.index-item.result.now.stage ≡ true = subst (λ (q : Item). is_waiting q.stage ≡ true) (some_is x c.index-item.result.now (sym there ∙ here)) waits in
-    start_kept c.self.inside.ends c.self.inside.rlv c.self.inside.items.items c.self.inside.waits.items c.self.inside.nexts.items c.self.inside.passed.items c.self.inside.waiting c.self.inside.flying c.args.place c.index-item.result.now c.self.invariant here waits_is
+    let here = slice_get_read c.self.inside.items.items (length c.self.inside.items.items) c.args.place c.index_mut-item.result.now refl (get_within c.self.inside.items.items c.args.place x there) c.index_mut-item.ensures.value in
+    let waits_is : is_waiting c.index_mut-item.result.now.stage ≡ true = subst (λ (q : Item). is_waiting q.stage ≡ true) (some_is x c.index_mut-item.result.now (sym there ∙ here)) waits in
+    start_kept c.self.inside.ends c.self.inside.rlv c.self.inside.items.items c.self.inside.waits.items c.self.inside.nexts.items c.self.inside.passed.items c.self.inside.waiting c.self.inside.flying c.args.place c.index_mut-item.result.now c.self.invariant here waits_is
 
 pub returns-clause-started : goal.returns-clause-started
 returns-clause-started c =
     let ready : is_ready c.self.inside.items.items c.self.inside.rlv c.args.place ≡ true = subst (λ (p : Pooled). is_ready p.items p.rlv c.args.place ≡ true) (sym c.self.view_is) c.requires in
     let (x, there, waits, covered) = ready_inv c.self.inside.items.items c.self.inside.rlv c.args.place ready in
-    let here = slice_get_read c.self.inside.items.items (length c.self.inside.items.items) c.args.place c.index-item.result.now refl (get_within c.self.inside.items.items c.args.place x there) c.index-item.ensures in
-    let same = some_is x c.index-item.result.now (sym there ∙ here) in
+    let here = slice_get_read c.self.inside.items.items (length c.self.inside.items.items) c.args.place c.index_mut-item.result.now refl (get_within c.self.inside.items.items c.args.place x there) c.index_mut-item.ensures.value in
+    let same = some_is x c.index_mut-item.result.now (sym there ∙ here) in
     let items = c.self.inside.items.items in
-    let now = c.index-item.result.now in
+    let now = c.index_mut-item.result.now in
     subst (λ (p : Pooled). IsStarted p (record { stream = now.stream; index = now.index; place = c.args.place }) (record { ends = c.self.inside.ends; rlv = c.self.inside.rlv; items = set items c.args.place (staged Flying now) })) c.self.view_is (record {
       item = now;
       there = here;
@@ -63,7 +63,7 @@ pub returns-clause-recovered : goal.returns-clause-recovered
 returns-clause-recovered c =
     let ready : is_ready c.self.inside.items.items c.self.inside.rlv c.args.place ≡ true = subst (λ (p : Pooled). is_ready p.items p.rlv c.args.place ≡ true) (sym c.self.view_is) c.requires in
     let (x, there, waits, covered) = ready_inv c.self.inside.items.items c.self.inside.rlv c.args.place ready in
-    let here = slice_get_read c.self.inside.items.items (length c.self.inside.items.items) c.args.place c.index-item.result.now refl (get_within c.self.inside.items.items c.args.place x there) c.index-item.ensures in
-    let waits_is : is_waiting c.index-item.result.now.stage ≡ true = subst (λ (q : Item). is_waiting q.stage ≡ true) (some_is x c.index-item.result.now (sym there ∙ here)) waits in
-    let kept = start_kept c.self.inside.ends c.self.inside.rlv c.self.inside.items.items c.self.inside.waits.items c.self.inside.nexts.items c.self.inside.passed.items c.self.inside.waiting c.self.inside.flying c.args.place c.index-item.result.now c.self.invariant here waits_is in
-    recovered c.self.inside.ends c.self.inside.rlv (set c.self.inside.items.items c.args.place (staged Flying c.index-item.result.now)) c.self.inside.nexts.items kept.wide kept.ordered kept.within kept.reached
+    let here = slice_get_read c.self.inside.items.items (length c.self.inside.items.items) c.args.place c.index_mut-item.result.now refl (get_within c.self.inside.items.items c.args.place x there) c.index_mut-item.ensures.value in
+    let waits_is : is_waiting c.index_mut-item.result.now.stage ≡ true = subst (λ (q : Item). is_waiting q.stage ≡ true) (some_is x c.index_mut-item.result.now (sym there ∙ here)) waits in
+    let kept = start_kept c.self.inside.ends c.self.inside.rlv c.self.inside.items.items c.self.inside.waits.items c.self.inside.nexts.items c.self.inside.passed.items c.self.inside.waiting c.self.inside.flying c.args.place c.index_mut-item.result.now c.self.invariant here waits_is in
+    recovered c.self.inside.ends c.self.inside.rlv (set c.self.inside.items.items c.args.place (staged Flying c.index_mut-item.result.now)) c.self.inside.nexts.items kept.wide kept.ordered kept.within kept.reached
