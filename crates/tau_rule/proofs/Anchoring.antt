@@ -6,7 +6,6 @@ use Rattle.std.proofs.lemmas.List.{append-nil}
 use Rattle.std.proofs.lemmas.Bool.{cases_eq}
 use Rattle.atomic_table.specs.Table.{Step, Allows}
 use Rattle.tau_shown.proofs.Steps.{words_step}
-use Rattle.tau_base.specs.declared.limits.TheConstants.{MAX_RECORD}
 use Rattle.tau_machine.specs.Shard.{at}
 use Rattle.tau_machine.specs.State.{Item, Record, Anchor, Stream}
 use Rattle.tau_machine.specs.Events.{PlaceAnchor, Leads, with_stream}
@@ -17,7 +16,7 @@ use Rattle.tau_core.specs.View.{setting_of}
 use Rattle.tau_rule.specs.Role.{Share, Working, Managing, Clerking, Role}
 use Rattle.tau_core.specs.Pieces.{Names, AreBytesOf, IsPieceOf, Paired, Spelled}
 use Rattle.tau_rule.specs.Knows.{Knows}
-use Rattle.tau_rule.specs.Rule.{Now, Rule, IsPart, IsShare, IsManaged, IsRole, Sees, Meets, MAX_ANCHOR, anchors_at, word_of, hand_of, has, part_count, manager_role}
+use Rattle.tau_rule.specs.Rule.{Now, Rule, IsPart, IsShare, IsManaged, IsRole, Sees, Meets, MAX_ANCHOR, anchors_at, word_of, hand_of, has, part_count, manager_role, LONGEST}
 use Rattle.tau_rule.specs.Steps.{Sat}
 use Rattle.tau_rule.specs.Places.{got_place}
 use Rattle.tau_rule.specs.Anchoring.{anchored, anchored_view, IsToAnchor}
@@ -106,7 +105,7 @@ module _ (origin : Plain) (j : ℕ) (m : Sat) (bytes : List ℕ) (p : IsToAnchor
     parts-stay : (k : ℕ) (q : Part) → IsPart origin.load k q c → IsPart origin.load k q (then_anchored c)
     parts-stay k (part.Shard b) h = h
     parts-stay k (part.Outbox a b) h = (h.0, h.1, h.2, record { posted = paired-grow origin (anchors_at c.core) (anchors_at (then_anchored c).core) grown a.value.pieces (c.core.outboxes h.0).posted h.3.posted; pending = h.3.pending }, h.4, h.5)
-    parts-stay k (part.Anchor number lv) h = (h.0, h.1, h.2, names-grow origin (anchors_at c.core) (anchors_at (then_anchored c).core) grown h.0 number lv.value h.3)
+    parts-stay k (part.Anchor number lv) h = (h.0, h.1, h.2, names-grow origin (anchors_at c.core) (anchors_at (then_anchored c).core) grown h.0 number lv.value h.3, h.4)
 
     shares-stay : (u : ℕ) (x : Share) → (u ≡ manager_role origin.load j → ⊥) → IsShare origin.load u x c.core → IsShare origin.load u x (then_anchored c).core
     shares-stay u (Working x) apart h = h
@@ -161,7 +160,7 @@ module _ (origin : Plain) (j : ℕ) (m : Sat) (bytes : List ℕ) (p : IsToAnchor
     count-same : length (meets.reached.joined ++ []) ≡ length meets.reached.joined
     count-same = length-append meets.reached.joined [] ∙ add-zero (length meets.reached.joined)
 
-    up-to : slice_index c.core.ends j + length bytes ≤ slice_index origin.load.opening.ends j + MAX_RECORD * length meets.reached.joined + MAX_ANCHOR * (length (c.core.streams j).anchors + 1)
+    up-to : slice_index c.core.ends j + length bytes ≤ slice_index origin.load.opening.ends j + LONGEST * length meets.reached.joined + MAX_ANCHOR * (length (c.core.streams j).anchors + 1)
     up-to = (let f = meets.fits j p.is.there in let h = p.high in omega arith)
 
     pub small : slice_index c.core.ends j + length bytes < 2 ^ 62
@@ -171,11 +170,11 @@ module _ (origin : Plain) (j : ℕ) (m : Sat) (bytes : List ℕ) (p : IsToAnchor
         room (slice_index c.core.ends j + length bytes) (slice_index origin.load.opening.ends j) (length meets.reached.joined) (MAX_ANCHOR * (length (c.core.streams j).anchors + 1)) (length (c.core.streams j).anchors + 1)
         (meets.limited.low j p.is.there) (omega (arith, many, calls)) refl few up-to
 
-    fits-on : (i : ℕ) → i < origin.load.streams → slice_index (slice_set c.core.ends j (slice_index c.core.ends j + length bytes)) i ≤ slice_index origin.load.opening.ends i + MAX_RECORD * length (meets.reached.joined ++ []) + MAX_ANCHOR * length ((then_anchored c).core.streams i).anchors
+    fits-on : (i : ℕ) → i < origin.load.streams → slice_index (slice_set c.core.ends j (slice_index c.core.ends j + length bytes)) i ≤ slice_index origin.load.opening.ends i + LONGEST * length (meets.reached.joined ++ []) + MAX_ANCHOR * length ((then_anchored c).core.streams i).anchors
     fits-on i low = elim (cases_eq i j) [
-      | inl is ↦ subst (λ (z : ℕ). slice_index (slice_set c.core.ends j (slice_index c.core.ends j + length bytes)) z ≤ slice_index origin.load.opening.ends z + MAX_RECORD * length (meets.reached.joined ++ []) + MAX_ANCHOR * length ((then_anchored c).core.streams z).anchors) (sym is)
-          (subst (λ (z : (ℕ × ℕ) × ℕ). z.0.0 ≤ slice_index origin.load.opening.ends j + MAX_RECORD * z.0.1 + MAX_ANCHOR * z.1) (λ k. ((sym (get_or-set_same c.core.ends j (slice_index c.core.ends j + length bytes) 0 wide) k, sym count-same k), sym next-length k)) up-to)
-      | inr ne ↦ subst (λ (z : (ℕ × ℕ) × List (List ℕ)). z.0.0 ≤ slice_index origin.load.opening.ends i + MAX_RECORD * z.0.1 + MAX_ANCHOR * length z.1)
+      | inl is ↦ subst (λ (z : ℕ). slice_index (slice_set c.core.ends j (slice_index c.core.ends j + length bytes)) z ≤ slice_index origin.load.opening.ends z + LONGEST * length (meets.reached.joined ++ []) + MAX_ANCHOR * length ((then_anchored c).core.streams z).anchors) (sym is)
+          (subst (λ (z : (ℕ × ℕ) × ℕ). z.0.0 ≤ slice_index origin.load.opening.ends j + LONGEST * z.0.1 + MAX_ANCHOR * z.1) (λ k. ((sym (get_or-set_same c.core.ends j (slice_index c.core.ends j + length bytes) 0 wide) k, sym count-same k), sym next-length k)) up-to)
+      | inr ne ↦ subst (λ (z : (ℕ × ℕ) × List (List ℕ)). z.0.0 ≤ slice_index origin.load.opening.ends i + LONGEST * z.0.1 + MAX_ANCHOR * length z.1)
           (λ k. ((sym (get_or-set_other c.core.ends j i (slice_index c.core.ends j + length bytes) 0 ne) k, sym count-same k), ap (λ (x : Stream). x.anchors) (sym (at-other j (str_then c) c.core.streams i ne)) k)) (meets.fits i low)
     ]
 

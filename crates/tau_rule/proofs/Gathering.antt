@@ -4,7 +4,6 @@ use Rattle.std.specs.Prelude.{Some, None, slice_index, slice_set}
 use Rattle.std.proofs.Math.Path.{fun_ext}
 use Rattle.std.proofs.lemmas.List.{append-nil, append_assoc}
 use Rattle.std.proofs.lemmas.Bool.{cases_eq}
-use Rattle.tau_base.specs.declared.limits.TheConstants.{MAX_RECORD}
 use Rattle.tau_model.specs.History.{Member}
 use Rattle.tau_machine.specs.Shard.{at}
 use Rattle.tau_machine.specs.Pieces.{Chain}
@@ -21,13 +20,14 @@ use Rattle.tau_core.specs.View.{setting_of, tickets}
 use Rattle.tau_rule.specs.Role.{Managed, Share, Working, Managing, Clerking, Role}
 use Rattle.tau_core.specs.Pieces.{Names, IsPieceOf, Paired}
 use Rattle.tau_rule.specs.Knows.{Knows}
-use Rattle.tau_rule.specs.Rule.{MAX_ANCHOR, Now, IsPart, IsShare, IsManaged, IsRole, IsOutbox, Sees, Meets, anchors_at, word_of, hand_of, has, part_count, manager_role, outbox_part}
+use Rattle.tau_rule.specs.Rule.{MAX_ANCHOR, Now, IsPart, IsShare, IsManaged, IsRole, IsOutbox, Sees, Meets, anchors_at, word_of, hand_of, has, part_count, manager_role, outbox_part, LONGEST}
 use Rattle.tau_rule.specs.Boxes.{GivesGathered, gathered_by}
 use Rattle.tau_rule.specs.declared.part.Part.{Part}
 use Rattle.tau_rule.specs.declared.part.Part.TheVariants as part
 use Rattle.tau_rule.specs.Steps.{ComesHome, handed}
 use Rattle.tau_rule.proofs.Turns.{reached-invariant, Turn, reached-on, one-role, role-alone, alone}
 use Rattle.tau_rule.proofs.Boxes.{part-box, box-part, part-rooms}
+use Rattle.tau_rule.proofs.Persisting.{small-gathered}
 use Rattle.tau_shown.proofs.Steps.{gives_part}
 
 set-twice : (xs : List ℕ) (j a b : ℕ) → slice_set (slice_set xs j a) j b ≡ slice_set xs j b
@@ -200,7 +200,7 @@ module _ (origin : Plain) where
           h.4,
           h.5,
         )
-    parts-stay k (part.Anchor number lv) apart h = (h.0, h.1, h.2, subst (λ (z : ℕ → List (List ℕ)). Names origin.load h.0 (z h.0) number lv.value) (sym same) h.3)
+    parts-stay k (part.Anchor number lv) apart h = (h.0, h.1, h.2, subst (λ (z : ℕ → List (List ℕ)). Names origin.load h.0 (z h.0) number lv.value) (sym same) h.3, h.4)
 
     shares-stay : (u : ℕ) (x : Share) → (u ≡ manager_role origin.load j → ⊥) → IsShare origin.load u x c.core → IsShare origin.load u x gathered_now.core
     shares-stay u (Working x) apart h = h
@@ -239,6 +239,26 @@ module _ (origin : Plain) where
     count-same : length (meets.reached.joined ++ []) ≡ length meets.reached.joined
     count-same = length-append meets.reached.joined [] ∙ add-zero (length meets.reached.joined)
 
+    gather-kept : Meets origin gathered_now
+    gather-kept = record {
+      reached = reached-on origin (Gather j) c.core gathered_now.core [] meets.reached gather-leads;
+      going = no-stop;
+      fits = subst (λ (z : ℕ × (ℕ → List (List ℕ))). (i : ℕ) → i < origin.load.streams → slice_index c.core.ends i ≤ slice_index origin.load.opening.ends i + LONGEST * z.0 + MAX_ANCHOR * length (z.1 i)) (λ i. (sym count-same i, sym same i)) meets.fits;
+      anchors = subst (λ (z : ℕ → List (List ℕ)). (i : ℕ) → i < origin.load.streams → length (z i) < 2 ^ 32) (sym same) meets.anchors;
+      opened = meets.opened;
+      limited = meets.limited;
+      beyond = meets.beyond;
+      shards = meets.shards;
+      streams = λ i low. ap (λ (f : ℕ → List (List ℕ)). f i) same ∙ meets.streams i low;
+    }
+
+    -- the gathered end does not wrap
+    pub past-small : past < 2 ^ 62
+    past-small =
+        let h = small-gathered origin gathered_now gather-kept j there in
+        let is = gather-managed.gathered in
+        omega (arith, h, is)
+
     -- a Gather is a turn of the manager on the outbox
     pub gather-turn : c.raised (manager_role origin.load j) ≡ old.raised → c.spare (manager_role origin.load j) ≡ old.spare → Turn origin c gathered_now (outbox_part w) (manager_role origin.load j) (record old { share = Managing managed_then })
     gather-turn raised spare = record {
@@ -246,17 +266,7 @@ module _ (origin : Plain) where
       mine = ((j, refl, there, gather-managed), raised, spare);
       others = λ u x apart h. (shares-stay u x.share apart h.0, h.1, h.2);
       sight = λ v lacks h. gather-sees v h;
-      kept = record {
-        reached = reached-on origin (Gather j) c.core gathered_now.core [] meets.reached gather-leads;
-        going = no-stop;
-        fits = subst (λ (z : ℕ × (ℕ → List (List ℕ))). (i : ℕ) → i < origin.load.streams → slice_index c.core.ends i ≤ slice_index origin.load.opening.ends i + MAX_RECORD * z.0 + MAX_ANCHOR * length (z.1 i)) (λ i. (sym count-same i, sym same i)) meets.fits;
-        anchors = subst (λ (z : ℕ → List (List ℕ)). (i : ℕ) → i < origin.load.streams → length (z i) < 2 ^ 32) (sym same) meets.anchors;
-        opened = meets.opened;
-        limited = meets.limited;
-        beyond = meets.beyond;
-        shards = meets.shards;
-        streams = λ i low. ap (λ (f : ℕ → List (List ℕ)). f i) same ∙ meets.streams i low;
-      };
+      kept = gather-kept;
     }
 
 -- a manager's seat, with another share of its own

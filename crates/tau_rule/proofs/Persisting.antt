@@ -11,7 +11,7 @@ use Rattle.tau_core.specs.State.{Plain}
 use Rattle.tau_core.specs.View.{setting_of}
 use Rattle.tau_rule.specs.Role.{Managed, Share, Working, Managing, Clerking, Role, role_in}
 use Rattle.tau_rule.specs.Knows.{Knows}
-use Rattle.tau_rule.specs.Rule.{MAX_ANCHOR, Now, Rule, IsPart, IsShare, IsManaged, IsRole, Sees, Meets, word_of, hand_of, has, part_count, manager_role, number_if, is_raised}
+use Rattle.tau_rule.specs.Rule.{MAX_ANCHOR, Now, Rule, IsPart, IsShare, IsManaged, IsRole, Sees, Meets, word_of, hand_of, has, part_count, manager_role, number_if, is_raised, LONGEST}
 use Rattle.tau_rule.specs.Steps.{Sat}
 use Rattle.tau_rule.specs.Positions.{plv_word, sees_to, looked, stored, IsManager}
 use Rattle.tau_rule.specs.declared.part.Part.{Part}
@@ -20,7 +20,7 @@ use Rattle.tau_rule.proofs.Gives.{one-origin}
 use Rattle.tau_rule.proofs.Numbers.{few-joined}
 use Rattle.tau_rule.proofs.Placing.{room}
 use Rattle.tau_rule.proofs.Turns.{reached-invariant, Turn, reached-on, alone, one-role}
-use Rattle.tau_base.specs.declared.limits.TheConstants.{MAX_CALLS, MAX_RECORD}
+use Rattle.tau_base.specs.declared.limits.TheConstants.{MAX_CALLS}
 
 same-beyond : (xs : List ℕ) (j y : ℕ) → length xs ≤ j → slice_set xs j y ≡ xs
 same-beyond [] j y e = refl
@@ -65,15 +65,24 @@ seen-more origin c v j h = record {
 }
 
 -- no position wraps
-pub small-plv : (origin : Plain) (c : Now) → Meets origin c → (j : ℕ) → j < origin.load.streams → slice_index c.core.plv j < 2 ^ 62
-small-plv origin c meets j low =
-    let inv = reached-invariant origin c.core meets.reached in
-    let behind : slice_index c.core.plv j ≤ slice_index c.core.ends j = inv.agrees.good.good.order.behind j in
+pub small-end : (origin : Plain) (c : Now) → Meets origin c → (j : ℕ) → j < origin.load.streams → slice_index c.core.ends j < 2 ^ 62
+small-end origin c meets j low =
     let few = few-joined origin c.core meets.reached in
     let calls = meets.limited.few in
     let all : length meets.reached.joined ≤ MAX_CALLS = omega (arith, few, calls) in
-    let ends : slice_index c.core.ends j < 2 ^ 62 = room (slice_index c.core.ends j) (slice_index origin.load.opening.ends j) (length meets.reached.joined) (MAX_ANCHOR * length (c.core.streams j).anchors) (length (c.core.streams j).anchors)
-    (meets.limited.low j low) all refl (meets.anchors j low) (meets.fits j low) in
+    room (slice_index c.core.ends j) (slice_index origin.load.opening.ends j) (length meets.reached.joined) (MAX_ANCHOR * length (c.core.streams j).anchors) (length (c.core.streams j).anchors)
+    (meets.limited.low j low) all refl (meets.anchors j low) (meets.fits j low)
+
+pub small-plv : (origin : Plain) (c : Now) → Meets origin c → (j : ℕ) → j < origin.load.streams → slice_index c.core.plv j < 2 ^ 62
+small-plv origin c meets j low =
+    let behind : slice_index c.core.plv j ≤ slice_index c.core.ends j = (reached-invariant origin c.core meets.reached).agrees.good.good.order.behind j in
+    let ends = small-end origin c meets j low in
+    omega (arith, behind, ends)
+
+pub small-gathered : (origin : Plain) (c : Now) → Meets origin c → (j : ℕ) → j < origin.load.streams → slice_index c.core.gathered j < 2 ^ 62
+small-gathered origin c meets j low =
+    let behind : slice_index c.core.gathered j ≤ slice_index c.core.ends j = (reached-invariant origin c.core meets.reached).agrees.good.gathered j in
+    let ends = small-end origin c meets j low in
     omega (arith, behind, ends)
 
 -- the stream whose persisted position is this word
@@ -169,7 +178,7 @@ module _ (origin : Plain) (j : ℕ) (m : Sat) (managed : Managed) (new : ℕ) (p
       kept = record {
         reached = reached-on origin (Persist j new) c.core (then_persisted c).core [] meets.reached leads;
         going = meets.going;
-        fits = subst (λ (k : ℕ). (i : ℕ) → i < origin.load.streams → slice_index c.core.ends i ≤ slice_index origin.load.opening.ends i + MAX_RECORD * k + MAX_ANCHOR * length (c.core.streams i).anchors) (sym (length-append meets.reached.joined [] ∙ add-zero (length meets.reached.joined))) meets.fits;
+        fits = subst (λ (k : ℕ). (i : ℕ) → i < origin.load.streams → slice_index c.core.ends i ≤ slice_index origin.load.opening.ends i + LONGEST * k + MAX_ANCHOR * length (c.core.streams i).anchors) (sym (length-append meets.reached.joined [] ∙ add-zero (length meets.reached.joined))) meets.fits;
         anchors = meets.anchors;
         opened = meets.opened;
         limited = meets.limited;

@@ -1,17 +1,19 @@
 -- A call gets its place by adding to the word of its stream.
 use Rattle.std.proofs.Common.{◌≡◌, ℕ, zero, suc, ◌+◌, ◌-◌, ◌*◌, ◌%◌, ◌^◌, ◌<◌, ◌≤◌, ◌⊎◌, inl, inr, true, false, Bool, List, [], ◌∷◌, ◌++◌, Option, length, refl, sym, ap, ◌∙◌, subst, arith, length-append, get_or-set_same, get_or-set_other}
-use Rattle.std.specs.Prelude.{Some, ◌==◌, if◌then◌else◌, max, replicate, slice_get, slice_index, slice_set, nat_le}
+use Rattle.std.specs.Prelude.{None, Some, ◌==◌, if◌then◌else◌, max, replicate, slice_get, slice_index, slice_set, nat_le}
 use Rattle.std.proofs.Math.Nat.{mod-eq_of_lt}
 use Rattle.std.proofs.lemmas.Bool.{cases_eq, ne_eqb, le-leb}
 use mathlib.Core.Option.{none}
+use lib.ListN.{length-replicate}
 use Rattle.atomic_table.specs.Table.{Step, step, Allows}
 use Rattle.tau_shown.proofs.Steps.{words_step}
-use Rattle.tau_base.specs.declared.limits.TheConstants.{MAX_RECORD, MAX_CALLS}
+use Rattle.tau_base.specs.declared.limits.TheConstants.{MAX_CALLS}
 use Rattle.tau_base.specs.Vectors.{join}
-use Rattle.tau_model.specs.History.{Act}
+use Rattle.tau_model.specs.History.{Act, Numbered}
 use Rattle.tau_machine.specs.Hands.{Txn, Hand, Placed, committed_of}
-use Rattle.tau_machine.specs.Worker.{Worker, begun, hand_joined}
-use Rattle.tau_machine.specs.State.{Core}
+use Rattle.tau_machine.specs.Worker.{Worker, begun, begun_by, fresh, hand_joined}
+use Rattle.tau_machine.specs.Shapes.{WorkerShape}
+use Rattle.tau_machine.specs.State.{Core, Setting}
 use Rattle.tau_machine.specs.Events.{Commit, Leads, with_worker}
 use Rattle.tau_machine.proofs.At.{at-same, at-other}
 use Rattle.tau_machine.proofs.Commits.{begun-committed}
@@ -23,7 +25,7 @@ use Rattle.tau_core.specs.View.{setting_of}
 use Rattle.tau_rule.specs.Role.{Share, Working, Managing, Clerking, Role}
 use Rattle.tau_core.specs.Pieces.{Names}
 use Rattle.tau_rule.specs.Knows.{Knows}
-use Rattle.tau_rule.specs.Rule.{Now, Rule, IsPart, IsShare, IsRole, Sees, Meets, MAX_ANCHOR, anchors_at, word_of, hand_of, has, part_count, manager_role, number_if, is_raised}
+use Rattle.tau_rule.specs.Rule.{Now, Rule, IsPart, IsShare, IsRole, Sees, Meets, MAX_ANCHOR, anchors_at, word_of, hand_of, has, part_count, manager_role, number_if, is_raised, LONGEST}
 use Rattle.tau_rule.specs.Steps.{Sat, IsAfter, working, first_role, worker_in_share}
 use Rattle.tau_rule.specs.Places.{IsToPlace, placed_by, placed_worker, placed, got_place}
 use Rattle.tau_rule.specs.declared.part.Part.{Part}
@@ -75,11 +77,22 @@ word-other origin j c s past plv ends i apart = λ k. if i == origin.load.stream
     else (if nat_le (i + 1) origin.load.streams then (ap (λ (v : List ℕ). slice_index v i) ends ∙ get_or-set_other c.core.ends j i past 0 apart) k else slice_index (plv k) (i - origin.load.streams))
 
 -- the records and anchors of a stream end below 2^62
-pub room : (e o a b r : ℕ) → o ≤ 2 ^ 61 → a ≤ MAX_CALLS → b ≡ MAX_ANCHOR * r → r < 2 ^ 32 → e ≤ o + MAX_RECORD * a + b → e < 2 ^ 62
+pub room : (e o a b r : ℕ) → o ≤ 2 ^ 61 → a ≤ MAX_CALLS → b ≡ MAX_ANCHOR * r → r < 2 ^ 32 → e ≤ o + LONGEST * a + b → e < 2 ^ 62
 room e o a b r low few is anchors h = omega arith
 
-grown : (now was o a b r size : ℕ) → now ≡ was + size → was ≤ o + MAX_RECORD * a + r → b ≡ a + 1 → size ≤ MAX_RECORD → now ≤ o + MAX_RECORD * b + r
+grown : (now was o a b r size : ℕ) → now ≡ was + size → was ≤ o + LONGEST * a + r → b ≡ a + 1 → size ≤ LONGEST → now ≤ o + LONGEST * b + r
 grown now was o a b r size is low next small = omega arith
+
+-- a call in hand has a position for each stream, whether it had begun or begins
+begun-wide : (set : Setting) (wk : Worker) (h : Hand) → WorkerShape set wk → (begun set.width wk).hand ≡ Some h → length h.dep ≡ set.width
+begun-wide set wk h p e = by_case wk.hand wk.waiting refl e
+  where
+    by_case : (o : Option Hand) (cs : List Numbered) → wk.hand ≡ o → (begun_by set.width wk o cs).hand ≡ Some h → length h.dep ≡ set.width
+    by_case (Some x) cs is f = (p.hand h f).1
+    by_case None [] is f = (p.hand h f).1
+    by_case None (c ∷ cs) is f =
+        let same : fresh set.width c 0 ≡ h = cc in
+        ap (λ (x : Hand). length x.dep) (sym same) ∙ length-replicate set.width zero
 
 module _ (origin : Plain) (w : ℕ) (m : Sat) (t : PlainTxn) (p : IsToPlace origin w m t) where
   abbrev j : ℕ
@@ -103,8 +116,11 @@ module _ (origin : Plain) (w : ℕ) (m : Sat) (t : PlainTxn) (p : IsToPlace orig
     start : ℕ
     start = slice_index c.core.ends j
 
+    wide-dep : length p.hand.dep ≡ origin.load.streams
+    wide-dep = begun-wide (setting_of origin.load) p.worker p.hand (subst (WorkerShape (setting_of origin.load)) mine ((reached-invariant origin c.core meets.reached).shapes.workers w)) p.is
+
     so : NamedSo origin (anchors_at c.core j) j (anchor_in t) p.hand.dep p.base
-    so = named-so origin (anchors_at c.core j) j (anchor_in t) p.hand.dep p.base p.wide (names-of origin (anchors_at c.core j) j (anchor_in t) p.base m.0.read p.named (sees.read w p.role p.there (one-role m.0 w p.role p.seat.roles)))
+    so = named-so origin (anchors_at c.core j) j (anchor_in t) p.hand.dep p.base wide-dep (names-of origin (anchors_at c.core j) j (anchor_in t) p.base m.0.read p.named (sees.read w p.role p.there (one-role m.0 w p.role p.seat.roles)))
 
     pub leads : Leads (setting_of origin.load) (Commit w) c.core (then_placed c).core (act c ∷ [])
     leads = (
@@ -171,9 +187,9 @@ module _ (origin : Plain) (w : ℕ) (m : Sat) (t : PlainTxn) (p : IsToPlace orig
     sight-stays : (v : Knows) → Sees origin c v → Sees origin (then_placed c) v
     sight-stays v h = record { opened = h.opened; wide = h.wide; low = h.low; own = h.own; read = h.read; found = h.found }
 
-    fits-on : (i : ℕ) → i < origin.load.streams → slice_index (slice_set c.core.ends j (slice_index c.core.ends j + length (bytes_in t))) i ≤ slice_index origin.load.opening.ends i + MAX_RECORD * length (meets.reached.joined ++ act c ∷ []) + MAX_ANCHOR * length (c.core.streams i).anchors
+    fits-on : (i : ℕ) → i < origin.load.streams → slice_index (slice_set c.core.ends j (slice_index c.core.ends j + length (bytes_in t))) i ≤ slice_index origin.load.opening.ends i + LONGEST * length (meets.reached.joined ++ act c ∷ []) + MAX_ANCHOR * length (c.core.streams i).anchors
     fits-on i low = elim (cases_eq i j) [
-      | inl is ↦ subst (λ (z : ℕ). slice_index (slice_set c.core.ends j (slice_index c.core.ends j + length (bytes_in t))) z ≤ slice_index origin.load.opening.ends z + MAX_RECORD * length (meets.reached.joined ++ act c ∷ []) + MAX_ANCHOR * length (c.core.streams z).anchors) (sym is)
+      | inl is ↦ subst (λ (z : ℕ). slice_index (slice_set c.core.ends j (slice_index c.core.ends j + length (bytes_in t))) z ≤ slice_index origin.load.opening.ends z + LONGEST * length (meets.reached.joined ++ act c ∷ []) + MAX_ANCHOR * length (c.core.streams z).anchors) (sym is)
           (let here = get_or-set_same c.core.ends j (slice_index c.core.ends j + length (bytes_in t)) 0 wide in
           let f = meets.fits j (meets.reached.run.opens.small w) in
           let a = length-append meets.reached.joined (act c ∷ []) in
@@ -181,7 +197,7 @@ module _ (origin : Plain) (w : ℕ) (m : Sat) (t : PlainTxn) (p : IsToPlace orig
           grown _ _ _ _ _ _ _ here f a size)
       | inr ne ↦ (let there = get_or-set_other c.core.ends j i (slice_index c.core.ends j + length (bytes_in t)) 0 ne in
           let f = more (slice_index c.core.ends i) (slice_index origin.load.opening.ends i) (length meets.reached.joined) (length (meets.reached.joined ++ act c ∷ [])) (MAX_ANCHOR * length (c.core.streams i).anchors) (meets.fits i low) (let a = length-append meets.reached.joined (act c ∷ []) in omega arith) in
-          subst (λ (z : ℕ). z ≤ slice_index origin.load.opening.ends i + MAX_RECORD * length (meets.reached.joined ++ act c ∷ []) + MAX_ANCHOR * length (c.core.streams i).anchors) (sym there) f)
+          subst (λ (z : ℕ). z ≤ slice_index origin.load.opening.ends i + LONGEST * length (meets.reached.joined ++ act c ∷ []) + MAX_ANCHOR * length (c.core.streams i).anchors) (sym there) f)
     ]
 
     pub kept : Meets origin (then_placed c)

@@ -13,13 +13,12 @@ use Rattle.tau_core.specs.View.{setting_of}
 use Rattle.tau_core.specs.Parts.{nobody}
 use Rattle.tau_rule.specs.Role.{Share, Working, Managing, Clerking, Role}
 use Rattle.tau_rule.specs.Knows.{Knows}
-use Rattle.tau_rule.specs.Rule.{MAX_ANCHOR, Now, Rule, IsPart, IsShare, IsRole, Sees, Meets, word_of, hand_of, has, part_count, manager_role}
+use Rattle.tau_rule.specs.Rule.{MAX_ANCHOR, Now, Rule, IsPart, IsShare, IsRole, Sees, Meets, word_of, hand_of, has, part_count, manager_role, LONGEST}
 use Rattle.tau_rule.specs.Heads.{left_by, split_as, CanResume, resumed}
 use Rattle.tau_rule.specs.declared.part.Part.{Part}
 use Rattle.tau_rule.specs.declared.part.Part.TheVariants as part
 use Rattle.tau_rule.proofs.Turns.{Turn, reached-on, role-alone, alone, share-worker}
 use Rattle.tau_rule.proofs.Heads.{still-in}
-use Rattle.tau_base.specs.declared.limits.TheConstants.{MAX_RECORD}
 
 module _ (origin : Plain) (v : Knows) (w : ℕ) (call : Numbered) (front back : List Numbered) (p : CanResume origin.load v w call front back) where
   abbrev next : Worker
@@ -80,7 +79,7 @@ module _ (origin : Plain) (v : Knows) (w : ℕ) (call : Numbered) (front back : 
       kept = record {
         reached = reached-on origin (Resume w) c.core (then_resumed c).core [] meets.reached leads;
         going = meets.going;
-        fits = subst (λ (k : ℕ). (i : ℕ) → i < origin.load.streams → slice_index c.core.ends i ≤ slice_index origin.load.opening.ends i + MAX_RECORD * k + MAX_ANCHOR * length (c.core.streams i).anchors)
+        fits = subst (λ (k : ℕ). (i : ℕ) → i < origin.load.streams → slice_index c.core.ends i ≤ slice_index origin.load.opening.ends i + LONGEST * k + MAX_ANCHOR * length (c.core.streams i).anchors)
             (sym (length-append meets.reached.joined [] ∙ add-zero (length meets.reached.joined))) meets.fits;
         anchors = meets.anchors;
         opened = meets.opened;

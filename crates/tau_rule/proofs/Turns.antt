@@ -3,7 +3,7 @@ use Rattle.std.proofs.Common.{◌≡◌, ℕ, ◌+◌, ◌*◌, ◌<◌, ◌≤�
 use Rattle.std.specs.Prelude.{Some, None}
 use mathlib.Core.Logic.{dite}
 use native.Mathlib.Decide.{ℕ_discrete}
-use Rattle.tau_base.specs.declared.limits.TheConstants.{SHARDS, MAX_RECORD}
+use Rattle.tau_base.specs.declared.limits.TheConstants.{SHARDS}
 use Rattle.tau_model.specs.History.{Act}
 use Rattle.tau_machine.specs.Hands.{Txn}
 use Rattle.tau_machine.specs.Shard.{Shard}
@@ -20,7 +20,7 @@ use Rattle.tau_core.specs.State.{Plain}
 use Rattle.tau_core.specs.View.{setting_of}
 use Rattle.tau_rule.specs.Role.{Share, Working, Managing, Clerking, Role, role_in}
 use Rattle.tau_rule.specs.Knows.{Knows}
-use Rattle.tau_rule.specs.Rule.{IsReached, Now, IsPart, IsShare, IsRole, IsOutbox, Sees, Meets, word_of, hand_of, has, part_count, manager_role}
+use Rattle.tau_rule.specs.Rule.{IsReached, Now, IsPart, IsShare, IsRole, IsOutbox, Sees, Meets, word_of, hand_of, has, part_count, manager_role, LONGEST}
 use Rattle.tau_rule.specs.Steps.{handed, shard_in, working}
 use Rattle.tau_rule.specs.declared.part.Part.{Part}
 use Rattle.tau_rule.specs.declared.part.Part.TheVariants as part
@@ -38,7 +38,7 @@ pub reached-invariant : (origin : Plain) (s : Core) (r : IsReached origin s) →
 reached-invariant origin s r = run-invariant (setting_of origin.load) (core_of origin nothing) r.events r.joined s r.run
 
 -- a longer list of committed calls bounds a stream too
-pub more : (e o a b r : ℕ) → e ≤ o + MAX_RECORD * a + r → a ≤ b → e ≤ o + MAX_RECORD * b + r
+pub more : (e o a b r : ℕ) → e ≤ o + LONGEST * a + r → a ≤ b → e ≤ o + LONGEST * b + r
 more e o a b r h low = omega arith
 
 pub role-alone : (w : ℕ) (x : Role) → role_in w ((w, x) ∷ []) ≡ Some x

@@ -1,6 +1,5 @@
 -- A call gets its place.
 use Rattle.std.specs.Prelude.{ℕ, ◌+◌, ◌^◌, ◌<◌, ◌≤◌, ◌≡◌, ◌⊎◌, true, List, [], ◌∷◌, ◌++◌, length, replicate, Option, Some, None}
-use Rattle.tau_base.specs.declared.limits.TheConstants.{MAX_RECORD}
 use Rattle.tau_base.specs.Vectors.{join}
 use Rattle.tau_proc.specs.Effect.{Effect}
 use Rattle.tau_model.specs.History.{updating}
@@ -16,6 +15,7 @@ use Rattle.tau_core.specs.declared.state.Load.{Load}
 use Rattle.tau_core.specs.View.{setting_of}
 use Rattle.tau_rule.specs.Role.{Working, Role}
 use Rattle.tau_rule.specs.Knows.{Knows}
+use Rattle.tau_rule.specs.Rule.{LONGEST}
 use Rattle.tau_rule.specs.Steps.{Sat, IsWorker, first_role, worker_in, working}
 use Rattle.tau_rule.specs.declared.part.Part.{Part}
 
@@ -45,14 +45,13 @@ pub record IsToPlace (origin : Plain) (w : ℕ) (m : Sat) (t : PlainTxn) : Type 
   pub base : List ℕ
   pub is : (begun origin.load.streams worker).hand ≡ Some hand
   pub phase : hand.phase ≡ Running
-  pub wide : length hand.dep ≡ origin.load.streams
   pub ended : stage origin.load.procs hand.call.call hand.seen ≡ Ends effect
   pub locked : lock_next (setting_of origin.load) hand ≡ None
   pub updates : updating effect.writes ≡ true
   pub named : ((anchor_in t ≡ 0) × (base ≡ replicate origin.load.streams 0)) ⊎ ((anchor_in t ≡ m.0.read.0) × (base ≡ m.0.read.1))
   pub shown : hand_in origin.load.procs t ≡ Some (record hand { dep = join hand.dep base })
   pub size_low : 1 ≤ length (bytes_in t)
-  pub size_high : length (bytes_in t) ≤ MAX_RECORD
+  pub size_high : length (bytes_in t) ≤ LONGEST
 
 -- the seat knows what was told of the start, and the record ends within the limit of positions
 abbrev pub got_place : (ℕ → Knows) → Step (Option Part) → Sat → ℕ → Sat → Type 0

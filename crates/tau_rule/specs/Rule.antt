@@ -1,6 +1,6 @@
 -- The rule of the desk: its words, parts and views show one state of the core.
 use Rattle.std.specs.Prelude.{ℕ, ◌+◌, ◌-◌, ◌*◌, ◌^◌, ◌<◌, ◌≤◌, ◌==◌, ◌≡◌, Bool, true, false, if◌then◌else◌, List, [], length, Option, Some, None, slice_index, slice_index_or, zero, suc, nat_le}
-use Rattle.tau_base.specs.declared.limits.TheConstants.{SHARDS, MAX_RECORD, MAX_CALLS, MAX_STREAMS, MAX_WORKERS}
+use Rattle.tau_base.specs.declared.limits.TheConstants.{SHARDS, MAX_CALLS, MAX_STREAMS, MAX_WORKERS}
 use Rattle.tau_base.specs.Vectors.{AtMost}
 use Rattle.atomic_table.specs.Table.{State}
 use Rattle.tau_machine.specs.State.{Core, Outbox}
@@ -57,7 +57,7 @@ pub record IsOutbox (l : Load) (o : PlainOutbox) (p : PlainPending) (anchors : �
 abbrev pub IsPart : Load → ℕ → Part → Now → Type 0
 IsPart l k (part.Shard b) c = (k < SHARDS) × (c.core.shards k ≡ shard_of b.value)
 IsPart l k (part.Outbox o p) c = (w : ℕ) × (k ≡ outbox_part w) × (w < l.workers) × IsOutbox l o.value p.value (anchors_at c.core) (c.core.outboxes w) × ((c.spare w).0 ≤ o.value.room) × ((c.spare w).1 ≤ p.value.room)
-IsPart l k (part.Anchor number lv) c = (j : ℕ) × (k ≡ anchor_part l j) × (j < l.streams) × Names l j (anchors_at c.core j) number lv.value
+IsPart l k (part.Anchor number lv) c = (j : ℕ) × (k ≡ anchor_part l j) × (j < l.streams) × Names l j (anchors_at c.core j) number lv.value × (length lv.value ≡ l.streams)
 
 pub record IsManaged (l : Load) (j : ℕ) (g : Managed) (s : Core) : Type 0 where
   pub moved : Paired (IsPieceOf l (anchors_at s)) g.taken (s.streams j).moved
@@ -109,6 +109,10 @@ pub record Sees (origin : Plain) (c : Now) (v : Knows) : Type 0 where
 abbrev pub MAX_ANCHOR : ℕ
 MAX_ANCHOR = 149
 
+-- no record of a call is longer
+abbrev pub LONGEST : ℕ
+LONGEST = 2 ^ 32
+
 -- the limits of a run
 pub record IsLimited (l : Load) : Type 0 where
   pub streams_low : 1 ≤ l.streams
@@ -129,7 +133,7 @@ pub record Meets (origin : Plain) (c : Now) : Type 0 where
   pub reached : IsReached origin c.core
   pub going : (j : ℕ) → (c.core.streams j).stop ≡ None
   -- each stream has grown by the records of the committed calls and by its anchors
-  pub fits : (j : ℕ) → j < origin.load.streams → slice_index c.core.ends j ≤ slice_index origin.load.opening.ends j + MAX_RECORD * length reached.joined + MAX_ANCHOR * length (c.core.streams j).anchors
+  pub fits : (j : ℕ) → j < origin.load.streams → slice_index c.core.ends j ≤ slice_index origin.load.opening.ends j + LONGEST * length reached.joined + MAX_ANCHOR * length (c.core.streams j).anchors
   pub anchors : (j : ℕ) → j < origin.load.streams → length (c.core.streams j).anchors < 2 ^ 32
   pub opened : Opened origin.load origin
   pub limited : IsLimited origin.load
