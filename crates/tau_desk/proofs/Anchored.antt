@@ -123,6 +123,7 @@ seat-anchored m j o o' seen bytes start h put =
         anchors = (λ i. s.anchors i ++ h.seen_is i ∷ []) ∙ sym put.anchors;
         own = ap (λ (ps : List Piece). ps ++ record { start = start; bytes = bytes } ∷ []) s.own ∙ sym put.pieces;
         gathered = s.gathered ∙ sym put.gathered;
+        small = (let a = s.small in let e = put.gathered in omega (arith, a, e));
         wide = λ a e. member-snoc (λ (v : List ℕ). length v ≡ h.origin.load.streams) o.anchors seen s.wide h.seen_wide a (subst (λ (l : List (List ℕ)). Member a l) put.anchors e);
       };
       seen_is = h.seen_is;

@@ -33,6 +33,7 @@ use Rattle.tau_desk.specs.Close.{IsBoxOf, IsShardOf}
 use Rattle.tau_desk.specs.Laid.{AreFirstWords, EachOf, HasAnchor, HasBox, HasShard, IsFirstAnchor, IsItsStock, IsItsWork, stock_at, work_of}
 use Rattle.tau_desk.specs.Seats.{HasClerk, HasStock, HasWork, IsHead}
 use Rattle.tau_desk.specs.Shares.{PlainStock, PlainWork}
+use Rattle.tau_desk.specs.declared.mark.Mark.{Mark}
 use Rattle.tau_desk.proofs.Backing.{no-hand}
 use Rattle.tau_desk.proofs.Slots.{get-behind, get-longer, got-elem}
 
@@ -82,7 +83,7 @@ module _ (origin : Plain) (q : Opened origin.load origin) where
   anchor-part : (j k : ℕ) → k ≡ SHARDS + origin.load.workers + j → j < origin.load.streams → (n : ℕ) → n ≡ origin.load.streams → (p : Part) → IsFirstAnchor n p → IsPart origin.load k p (now origin q)
   anchor-part j k at low n is (part.Shard b) h = absurd h
   anchor-part j k at low n is (part.Outbox o p) h = absurd h
-  anchor-part j k at low n is (part.Anchor number lv) h = (j, at, low, inl (h.0, h.1 ∙ ap (λ (m : ℕ). replicate m 0) is))
+  anchor-part j k at low n is (part.Anchor number lv) h = (j, at, low, inl (h.0, h.1 ∙ ap (λ (m : ℕ). replicate m 0) is), ap length h.1 ∙ length-replicate n 0 ∙ is)
 
   module _ (n : ℕ) (wide : n ≡ origin.load.streams) (shards boxes anchors : List (Option Part)) (a : EachOf HasShard origin.shards shards) (b : EachOf HasBox origin.seats boxes) (c : EachOf (HasAnchor n) origin.streams anchors) where
     abbrev pub slots : List (Option Part)
@@ -151,6 +152,7 @@ module _ (origin : Plain) (q : Opened origin.load origin) where
       let empty : cs ≡ [] = ap (λ (s : Option PlainSeat). (worker_in origin.load s cs).committed) (sym e) ∙ q.opening.committed w in
       let lacks : is_some x.txn.hand ≡ true → ⊥ = λ h. (let bad : false ≡ true = sym (ap is_some none) ∙ h in cc) in
       let quiet : next_action x.txn ≡ action.Post → ⊥ = λ h. no-post x.txn.hand none h in
+      let no-mark : (k : Mark) → None ≡ Some k → ⊥ = λ k h. cc in
       record {
         role = role_at origin w;
         is = role-below origin (origin.load.workers + origin.load.streams + 1) w (omega (arith, low));
@@ -172,6 +174,7 @@ module _ (origin : Plain) (q : Opened origin.load origin) where
             low = g.low;
             high = g.high;
             again = g.again;
+            mark = λ k h. absurd (no-mark k h);
             left = g.left;
             leaves = λ h. absurd (lacks h);
             ends = λ h. absurd (lacks h);
@@ -183,8 +186,8 @@ module _ (origin : Plain) (q : Opened origin.load origin) where
         rests = quiet;
       }
 
-  stock-is : (j : ℕ) (x : PlainStream) (room end : ℕ) → j < origin.load.streams → slice_get origin.streams j ≡ Some x → end ≡ slice_index origin.ends j → HasStock origin (first_view origin) j (stock_at x end room)
-  stock-is j x room end low e is =
+  stock-is : ((i : ℕ) → i < origin.load.streams → slice_index origin.load.opening.ends i ≤ 2 ^ 61) → (j : ℕ) (x : PlainStream) (room end : ℕ) → j < origin.load.streams → slice_get origin.streams j ≡ Some x → end ≡ slice_index origin.ends j → HasStock origin (first_view origin) j (stock_at x end room)
+  stock-is short j x room end low e is =
       let none : [] ≡ x.anchors = sym (q.opening.anchors j) ∙ ap anchors_in e in
       let u : ℕ = origin.load.workers + j in
       let up : share_at origin u ≡ manager_share origin u = elim (leb_tells (u + 1) origin.load.workers) [
@@ -204,6 +207,7 @@ module _ (origin : Plain) (q : Opened origin.load origin) where
           there = low;
           anchors = none;
           own = sym (none-paired (IsPieceOf origin.load (anchors_at (core_of origin nothing))) x.own.pieces (q.stands.own j x e));
+          small = (let s = short j low in let e = ap (λ (v : List ℕ). slice_index v j) q.opening.ends in omega (arith, s, e, is));
           gathered = ap (slice_index origin.load.opening.ends) back ∙ ap (λ (v : List ℕ). slice_index v j) (sym q.opening.ends) ∙ sym is;
           wide = (q.stands.sound.wide j x e).0;
         };
@@ -226,8 +230,8 @@ module _ (origin : Plain) (q : Opened origin.load origin) where
         wide = length-replicate origin.load.workers [];
       }
 
-  pub head-is : (works : List (Option PlainWork)) (stocks : List (Option PlainStock)) → EachOf IsItsWork origin.seats works → EachOf (IsItsStock origin.ends) origin.streams stocks → IsHead (first_view origin, []) works stocks true origin.ends
-  head-is works stocks a b = record {
+  pub head-is : ((i : ℕ) → i < origin.load.streams → slice_index origin.load.opening.ends i ≤ 2 ^ 61) → (works : List (Option PlainWork)) (stocks : List (Option PlainStock)) → EachOf IsItsWork origin.seats works → EachOf (IsItsStock origin.ends) origin.streams stocks → IsHead (first_view origin, []) works stocks true origin.ends
+  head-is short works stocks a b = record {
     origin = origin;
     opened = refl;
     idle = refl;
@@ -244,7 +248,7 @@ module _ (origin : Plain) (q : Opened origin.load origin) where
     manager = λ j o e.
         let h = b.each j (Some o) e in
         let same : o ≡ stock_at h.0 (slice_index origin.ends j) h.2.0 = some-same o (stock_at h.0 (slice_index origin.ends j) h.2.0) h.2.1 in
-        subst (HasStock origin (first_view origin) j) (sym same) (stock-is j h.0 h.2.0 (slice_index origin.ends j) (inside origin.streams j h.0 origin.load.streams q.stands.sound.streams h.1) h.1 refl);
+        subst (HasStock origin (first_view origin) j) (sym same) (stock-is short j h.0 h.2.0 (slice_index origin.ends j) (inside origin.streams j h.0 origin.load.streams q.stands.sound.streams h.1) h.1 refl);
     clerk_is = λ _. clerk-is;
   }
     where

@@ -22,7 +22,7 @@ use Rattle.tau_core.proofs.Starts.{from-next}
 use Rattle.tau_rule.specs.Steps.{Sat}
 use Rattle.tau_desk.specs.declared.mark.Mark.{Mark}
 use Rattle.tau_desk.specs.Seats.{IsWorkerSeat}
-use Rattle.tau_desk.specs.Shares.{FitsWork, IsWork, PlainWork, ShowsWorker, own_worker, unbegun}
+use Rattle.tau_desk.specs.Shares.{FitsWork, IsMark, IsWork, PlainWork, ShowsWorker, own_worker, unbegun}
 use Rattle.tau_desk.specs.Works.{BeginsIn, BeginsNext, RoomMade}
 use Rattle.tau_desk.proofs.GoingOn.{posts-placed, seat-origin, work-at}
 
@@ -124,6 +124,7 @@ module _ (origin : Plain) (m : Sat) (w : ℕ) (o : PlainWork) (read : ℕ × Lis
     low = next-low l.workers o.next o.again work.fits.low;
     high = next-high l.workers (length l.calls) o.next n o.again next work.fits.high;
     again = λ k e. absurd (let bad : None ≡ Some k = e in cc);
+    mark = λ k e. (let it : mark_of ≡ k = cc in subst (IsMark l) it (record { low = work.fits.low; high = work.fits.high; again = work.fits.again }));
     left = work.fits.left;
     leaves = λ e. left_low;
     ends = λ e. low;
@@ -191,6 +192,7 @@ seat-roomy m w o o' read seen s r rests =
           low = f.low;
           high = f.high;
           again = f.again;
+          mark = f.mark;
           left = f.left;
           leaves = λ e. absurd (not e);
           ends = f.ends;

@@ -184,6 +184,7 @@ module _ (l : Load) (w : ℕ) (o : PlainWork) (f : FitsWork l w o) (h : Hand) (i
     low = f.low;
     high = f.high;
     again = f.again;
+    mark = λ k e. absurd (let bad : None ≡ Some k = e in cc);
     left = f.left;
     leaves = λ e. f.leaves had;
     ends = λ e. f.ends had;
@@ -271,6 +272,7 @@ module _ (l : Load) (w : ℕ) (o : PlainWork) (f : FitsWork l w o) (h : Hand) (i
             low = f.low;
             high = f.high;
             again = f.again;
+            mark = λ k e. absurd (let bad : None ≡ Some k = e in cc);
             left = subst (λ (z : List ℕ). AreNumbers l z) (sym r.1) (numbers-append l o.left x.number f.left (x.call, has));
             leaves = λ g. absurd (not-both (is_some o'.txn.hand) empty_hand g);
             ends = λ g. absurd (not-both (is_some o'.txn.hand) empty_hand g);
@@ -450,6 +452,7 @@ spare-made l w o spare f no-post low = record {
   low = f.low;
   high = f.high;
   again = f.again;
+  mark = f.mark;
   left = f.left;
   leaves = f.leaves;
   ends = low;
@@ -497,6 +500,7 @@ seat-ended origin m m' w o t spare read seen opened s knows q =
       low = f.low;
       high = f.high;
       again = f.again;
+      mark = λ k e. absurd (let bad : None ≡ Some k = e in cc);
       left = f.left;
       leaves = λ g. absurd (not-both (is_some t.hand) none g);
       ends = λ g. absurd (not-both (is_some t.hand) none g);
@@ -529,6 +533,7 @@ seat-room origin m m' w o spare read seen opened s knows records calls =
           low = f.low;
           high = f.high;
           again = f.again;
+          mark = f.mark;
           left = f.left;
           leaves = f.leaves;
           ends = λ e. more o.spare.1 spare.1 (f.ends e) calls;

@@ -58,7 +58,7 @@ manager-raised m j o seen h = record {
   roles = λ i. ((first_role (h.roles i)).0, record (first_role (h.roles i)).1 { raised = true }) ∷ [];
   idle = h.idle;
   none = h.none;
-  stock = record { managed = h.stock.managed; share = h.stock.share; there = h.stock.there; anchors = h.stock.anchors; own = h.stock.own; gathered = h.stock.gathered; wide = h.stock.wide };
+  stock = record { managed = h.stock.managed; share = h.stock.share; there = h.stock.there; anchors = h.stock.anchors; own = h.stock.own; gathered = h.stock.gathered; small = h.stock.small; wide = h.stock.wide };
   seen_is = h.seen_is;
   seen_wide = h.seen_wide;
 }

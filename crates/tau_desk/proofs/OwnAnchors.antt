@@ -3,7 +3,7 @@ use Rattle.std.proofs.Common.{◌≡◌, ℕ, ◌+◌, ◌*◌, ◌^◌, ◌<◌
 use Rattle.std.specs.Prelude.{Some, None, slice_index}
 use Rattle.std.proofs.Math.Path.{fun_ext}
 use Rattle.std.proofs.lemmas.Bool.{cases_eq}
-use Rattle.tau_base.specs.declared.limits.TheConstants.{MAX_RECORD}
+use Rattle.tau_base.specs.declared.limits.TheConstants.{MAX_LSN}
 use Rattle.tau_model.specs.History.{Member}
 use Rattle.tau_model.proofs.Orders.{member-front}
 use Rattle.tau_machine.specs.Shard.{at}
@@ -23,11 +23,12 @@ use Rattle.tau_core.proofs.Spellings.{Split, chain-of, paired-append, paired-spl
 use Rattle.tau_shown.proofs.Steps.{gives_part}
 use Rattle.tau_rule.specs.Role.{Clerking, Managed, Managing, Role, Share, Working}
 use Rattle.tau_rule.specs.Knows.{Knows}
-use Rattle.tau_rule.specs.Rule.{IsManaged, IsOutbox, IsPart, IsRole, IsShare, MAX_ANCHOR, Meets, Now, Sees, anchor_part, anchors_at, hand_of, has, manager_role, part_count, word_of}
-use Rattle.tau_rule.specs.Steps.{ComesHome, Sat, handed, holding}
+use Rattle.tau_rule.specs.Rule.{IsManaged, IsOutbox, IsPart, IsRole, IsShare, MAX_ANCHOR, Meets, Now, Sees, anchor_part, anchors_at, hand_of, has, manager_role, part_count, word_of, LONGEST}
+use Rattle.tau_rule.specs.Steps.{Agrees, ComesHome, Sat, handed, holding}
 use Rattle.tau_rule.specs.declared.part.Part.{Part}
 use Rattle.tau_rule.specs.declared.part.Part.TheVariants as part
 use Rattle.tau_rule.proofs.Turns.{Turn, alone, more, one-role, reached-invariant, reached-on, role-alone}
+use Rattle.tau_rule.proofs.Persisting.{small-gathered}
 use Rattle.tau_desk.specs.Shares.{PlainStock}
 use Rattle.tau_desk.specs.Seats.{IsManagerSeat}
 use Rattle.tau_desk.specs.Manages.{GivesOwn, OnlyRoom, gone, managing, own_gathered, told_own}
@@ -87,7 +88,7 @@ module _ (origin : Plain) (c : Now) (j : ℕ) (taken left : List Piece) (g : Man
   parts-stay : (k : ℕ) (q : Part) → IsPart origin.load k q c → IsPart origin.load k q own_now
   parts-stay k (part.Shard b) h = h
   parts-stay k (part.Outbox a b) h = (h.0, h.1, h.2, subst (λ (z : ℕ → List (List ℕ)). IsOutbox origin.load a.value b.value z (c.core.outboxes h.0)) (sym same) h.3, h.4, h.5)
-  parts-stay k (part.Anchor number lv) h = (h.0, h.1, h.2, subst (λ (z : ℕ → List (List ℕ)). Names origin.load h.0 (z h.0) number lv.value) (sym same) h.3)
+  parts-stay k (part.Anchor number lv) h = (h.0, h.1, h.2, subst (λ (z : ℕ → List (List ℕ)). Names origin.load h.0 (z h.0) number lv.value) (sym same) h.3, h.4)
 
   shares-stay : (u : ℕ) (x : Share) → (u ≡ manager_role origin.load j → ⊥) → IsShare origin.load u x c.core → IsShare origin.load u x own_now.core
   shares-stay u (Working x) apart h = h
@@ -122,9 +123,29 @@ module _ (origin : Plain) (c : Now) (j : ℕ) (taken left : List Piece) (g : Man
     | inr ne ↦ ap (λ (x : Stream). x.stop) (at-other j str_then c.core.streams i ne) ∙ meets.going i
   ]
 
-  fits-on : (i : ℕ) → i < origin.load.streams → slice_index c.core.ends i ≤ slice_index origin.load.opening.ends i + MAX_RECORD * length (meets.reached.joined ++ []) + MAX_ANCHOR * length (anchors_at own_now.core i)
-  fits-on i lt = subst (λ (z : ℕ → List (List ℕ)). slice_index c.core.ends i ≤ slice_index origin.load.opening.ends i + MAX_RECORD * length (meets.reached.joined ++ []) + MAX_ANCHOR * length (z i)) (sym same)
+  fits-on : (i : ℕ) → i < origin.load.streams → slice_index c.core.ends i ≤ slice_index origin.load.opening.ends i + LONGEST * length (meets.reached.joined ++ []) + MAX_ANCHOR * length (anchors_at own_now.core i)
+  fits-on i lt = subst (λ (z : ℕ → List (List ℕ)). slice_index c.core.ends i ≤ slice_index origin.load.opening.ends i + LONGEST * length (meets.reached.joined ++ []) + MAX_ANCHOR * length (z i)) (sym same)
       (more _ _ (length meets.reached.joined) (length (meets.reached.joined ++ [])) _ (meets.fits i lt) (let a = length-append meets.reached.joined [] in omega arith))
+
+  own-kept : Meets origin own_now
+  own-kept = record {
+    reached = reached-on origin (Gather j) c.core own_now.core [] meets.reached own-leads;
+    going = no-stop;
+    fits = fits-on;
+    anchors = subst (λ (z : ℕ → List (List ℕ)). (i : ℕ) → i < origin.load.streams → length (z i) < 2 ^ 32) (sym same) meets.anchors;
+    opened = meets.opened;
+    limited = meets.limited;
+    beyond = meets.beyond;
+    shards = meets.shards;
+    streams = λ i low. ap (λ (f : ℕ → List (List ℕ)). f i) same ∙ meets.streams i low;
+  }
+
+  -- the gathered end does not wrap
+  own-past-small : past < 2 ^ 62
+  own-past-small =
+      let h = small-gathered origin own_now own-kept j there in
+      let is = own-managed.gathered in
+      omega (arith, h, is)
 
   own-turn : (k : ℕ) → c.raised (manager_role origin.load j) ≡ old.raised → c.spare (manager_role origin.load j) ≡ old.spare → Turn origin c own_now k (manager_role origin.load j) (record old { share = Managing managed_then })
   own-turn k raised spare = record {
@@ -132,17 +153,7 @@ module _ (origin : Plain) (c : Now) (j : ℕ) (taken left : List Piece) (g : Man
     mine = ((j, refl, there, own-managed), raised, spare);
     others = λ u x apart h. (shares-stay u x.share apart h.0, h.1, h.2);
     sight = λ v lacks h. own-sees v h;
-    kept = record {
-      reached = reached-on origin (Gather j) c.core own_now.core [] meets.reached own-leads;
-      going = no-stop;
-      fits = fits-on;
-      anchors = subst (λ (z : ℕ → List (List ℕ)). (i : ℕ) → i < origin.load.streams → length (z i) < 2 ^ 32) (sym same) meets.anchors;
-      opened = meets.opened;
-      limited = meets.limited;
-      beyond = meets.beyond;
-      shards = meets.shards;
-      streams = λ i low. ap (λ (f : ℕ → List (List ℕ)). f i) same ∙ meets.streams i low;
-    };
+    kept = own-kept;
   }
 
 -- a manager's seat, with another share of its own
@@ -214,8 +225,20 @@ own-gives key m m' j k o h p left body longer upto number is g =
       refl,
     )
 
-pub seat-own : (m : Sat) (j : ℕ) (o o' : PlainStock) (seen body longer : List ℕ) → IsManagerSeat m j o seen → Gathers o.gathered o.own.pieces o'.own.pieces body longer o'.gathered → o'.anchors ≡ o.anchors → IsManagerSeat (told_own m.0 o'.own.pieces, []) j o' seen
-seat-own m j o o' seen body longer h g anchors =
+-- the gathered end does not wrap
+pub own-small : (key : Plain) (m : Sat) (j k : ℕ) (o : PlainStock) (h : At key m j o) (p : Part) (left : List Piece) (body longer : List ℕ) (past : ℕ) → Agrees key m.0 k p → Gathers o.gathered o.own.pieces left body longer past → past < MAX_LSN
+own-small key m j k o h p left body longer upto a g =
+    let s = h.stock in
+    let u : ℕ = manager_role key.load j in
+    let mine = a.roles u h.role (one-role m.0 u h.role h.roles) in
+    let managed = share-managed key j h.role.share s.managed a.state s.share mine.0 in
+    let low = own-past-small key a.state j g.taken left s.managed h.role s.there (s.own ∙ g.front) (subst (λ (n : ℕ). Continues n g.taken) (sym s.gathered) g.continues) a.meets managed in
+    let is = s.gathered in
+    let end = g.past in
+    omega (arith, low, is, end)
+
+pub seat-own : (m : Sat) (j : ℕ) (o o' : PlainStock) (seen body longer : List ℕ) → IsManagerSeat m j o seen → Gathers o.gathered o.own.pieces o'.own.pieces body longer o'.gathered → o'.anchors ≡ o.anchors → o'.gathered < MAX_LSN → IsManagerSeat (told_own m.0 o'.own.pieces, []) j o' seen
+seat-own m j o o' seen body longer h g anchors small =
     let s = h.stock in
     let u : ℕ = manager_role h.origin.load j in
     let then : Managed = record { taken = s.managed.taken ++ g.taken; gathered = s.managed.gathered + length (bytes_of g.taken); anchors = s.managed.anchors; own = o'.own.pieces } in
@@ -237,6 +260,7 @@ seat-own m j o o' seen body longer h g anchors =
         anchors = s.anchors ∙ sym anchors;
         own = refl;
         gathered = ap (λ (n : ℕ). n + length (bytes_of g.taken)) s.gathered ∙ sym g.past;
+        small = small;
         wide = λ a e. s.wide a (subst (λ (l : List (List ℕ)). Member a l) anchors e);
       };
       seen_is = h.seen_is;
@@ -259,6 +283,7 @@ seat-roomier m j o o' seen h r = record {
     anchors = s.anchors ∙ sym r.anchors;
     own = s.own ∙ sym r.pieces;
     gathered = s.gathered ∙ sym r.gathered;
+    small = (let a = s.small in let e = r.gathered in omega (arith, a, e));
     wide = λ a e. s.wide a (subst (λ (l : List (List ℕ)). Member a l) r.anchors e);
   });
   seen_is = h.seen_is;

@@ -1,5 +1,5 @@
 -- A manager publishes an anchor that it placed.
-use Rattle.std.proofs.Common.{◌≡◌, ℕ, ◌+◌, ◌<◌, List, [], refl, sym, ap, ◌∙◌, subst}
+use Rattle.std.proofs.Common.{◌≡◌, ℕ, ◌+◌, ◌<◌, List, [], length, refl, sym, ap, ◌∙◌, subst}
 use Rattle.std.specs.Prelude.{Some}
 use Rattle.tau_core.specs.Pieces.{Names}
 use Rattle.tau_core.specs.State.{Plain}
@@ -15,12 +15,12 @@ use Rattle.tau_desk.specs.Works.{anchor_in}
 use Rattle.tau_desk.specs.Manages.{GivesPublished}
 use Rattle.tau_desk.proofs.OwnAnchors.{share-managed}
 
-names-part : (origin : Plain) (c : Now) (j number : ℕ) (lv : List ℕ) (q : Part) → anchor_in q ≡ Some (number, lv) → j < origin.load.streams → Names origin.load j (anchors_at c.core j) number lv → IsPart origin.load (anchor_part origin.load j) q c
-names-part origin c j number lv (part.Shard b) is low h = cc
-names-part origin c j number lv (part.Outbox o p) is low h = cc
-names-part origin c j number lv (part.Anchor n v) is low h =
+names-part : (origin : Plain) (c : Now) (j number : ℕ) (lv : List ℕ) (q : Part) → anchor_in q ≡ Some (number, lv) → j < origin.load.streams → Names origin.load j (anchors_at c.core j) number lv → length lv ≡ origin.load.streams → IsPart origin.load (anchor_part origin.load j) q c
+names-part origin c j number lv (part.Shard b) is low h wide = cc
+names-part origin c j number lv (part.Outbox o p) is low h wide = cc
+names-part origin c j number lv (part.Anchor n v) is low h wide =
     let same : (number, lv) ≡ (n, v.value) = cc in
-    (j, refl, low, subst (λ (z : ℕ × List ℕ). Names origin.load j (anchors_at c.core j) z.0 z.1) same h)
+    (j, refl, low, subst (λ (z : ℕ × List ℕ). Names origin.load j (anchors_at c.core j) z.0 z.1) same h, subst (λ (z : ℕ × List ℕ). length z.1 ≡ origin.load.streams) same wide)
 
 -- the part comes home with an anchor that the manager placed
 pub gives_published : (origin : Plain) (id : ℕ) (m : Sat) (j number : ℕ) (lv : List ℕ) (q : Part) → anchor_in q ≡ Some (number, lv) → GivesPublished origin m j number lv → ComesHome origin id m.0 (anchor_part origin.load j) q (idle m.0)
@@ -33,7 +33,7 @@ gives_published origin id m j number lv q is g =
     let managed = share-managed origin j g.role.share g.managed c g.share mine.0 in (
       c,
       record { parts = λ k r low apart h. h; mine = mine; others = λ a y apart h. h; sight = λ a none h. h; kept = meets },
-      names-part origin c j number lv q is g.there (subst (λ (l : List (List ℕ)). Names origin.load j l number lv) (sym managed.anchors) g.named),
+      names-part origin c j number lv q is g.there (subst (λ (l : List (List ℕ)). Names origin.load j l number lv) (sym managed.anchors) g.named) g.wide,
       record { opened = seen.opened; wide = seen.wide; low = seen.low; own = seen.own; read = seen.read; found = seen.found },
       (λ i low. refl),
     ))
@@ -48,4 +48,4 @@ anchor-same origin k (part.Anchor n v) (part.Shard b) a is too c h = cc
 anchor-same origin k (part.Anchor n v) (part.Outbox o x) a is too c h = cc
 anchor-same origin k (part.Anchor n v) (part.Anchor n' v') a is too c h =
     let same : (n, v.value) ≡ (n', v'.value) = (let e : Some (n, v.value) ≡ Some (n', v'.value) = is ∙ sym too in cc) in
-    (h.0, h.1, h.2, subst (λ (z : ℕ × List ℕ). Names origin.load h.0 (anchors_at c.core h.0) z.0 z.1) same h.3)
+    (h.0, h.1, h.2, subst (λ (z : ℕ × List ℕ). Names origin.load h.0 (anchors_at c.core h.0) z.0 z.1) same h.3, subst (λ (z : ℕ × List ℕ). length z.1 ≡ origin.load.streams) same h.4)

@@ -1,5 +1,5 @@
 -- A call that only read commits with its first free, or with its end; a worker reads an anchor.
-use Rattle.std.proofs.Common.{◌≡◌, ℕ, ◌≤◌, ◌<◌, ◌+◌, List, [], ◌∷◌, ◌++◌, Option, refl, sym, ap, ◌∙◌, subst, arith}
+use Rattle.std.proofs.Common.{◌≡◌, ℕ, ◌≤◌, ◌<◌, ◌+◌, List, [], ◌∷◌, ◌++◌, Option, length, refl, sym, ap, ◌∙◌, subst, arith}
 use Rattle.std.specs.Prelude.{Some}
 use Rattle.tau_shown.proofs.Steps.{gives_part}
 use Rattle.tau_model.specs.declared.committed.Committed.{Committed}
@@ -108,7 +108,7 @@ part-anchor l c j (part.Anchor n v) number lv is h =
 anchor-part : (l : Load) (c : Now) (k : ℕ) (p q : Part) → anchor_in p ≡ anchor_in q → (z : ℕ × List ℕ) → anchor_in q ≡ Some z → IsPart l k p c → IsPart l k q c
 anchor-part l c k (part.Anchor n v) (part.Anchor m u) e z is h =
     let pair : (n, v.value) ≡ (m, u.value) = cc in
-    (h.0, h.1, h.2, subst (λ (y : ℕ × List ℕ). Names l h.0 (anchors_at c.core h.0) y.0 y.1) pair h.3)
+    (h.0, h.1, h.2, subst (λ (y : ℕ × List ℕ). Names l h.0 (anchors_at c.core h.0) y.0 y.1) pair h.3, subst (λ (y : ℕ × List ℕ). length y.1 ≡ l.streams) pair h.4)
 anchor-part l c k p (part.Shard b) e z is h = cc
 anchor-part l c k p (part.Outbox o r) e z is h = cc
 anchor-part l c k (part.Shard b) (part.Anchor m u) e z is h = cc

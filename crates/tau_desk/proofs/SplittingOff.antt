@@ -114,6 +114,7 @@ module _ (m : Sat) (works : List (Option PlainWork)) (stocks : List (Option Plai
             low = f.low;
             high = f.high;
             again = f.again;
+            mark = f.mark;
             left = f.left;
             leaves = f.leaves;
             ends = f.ends;

@@ -2,20 +2,23 @@
 use Rattle.std.proofs.Common.{◌≡◌, ℕ, ◌+◌, ◌-◌, ◌%◌, ◌<◌, ◌≤◌, List, [], ◌∷◌, ◌++◌, length, length-append, refl, sym, ap, ◌∙◌, subst, arith}
 use Rattle.std.specs.Prelude.{Some, None, take}
 use Rattle.std.proofs.Math.Seq.{take-append_seam}
+use Rattle.tau_base.specs.declared.limits.TheConstants.{MAX_LSN}
 use Rattle.tau_outbox.specs.declared.Piece.{Piece}
 use Rattle.tau_outbox.specs.Gather.{Gathers}
 use Rattle.tau_outbox.specs.Pieces.{bytes_of}
 use Rattle.tau_core.specs.Pieces.{IsPieceOf, Paired}
 use Rattle.tau_core.specs.State.{Plain}
 use Rattle.tau_core.specs.View.{tickets}
-use Rattle.tau_rule.specs.Role.{Managed, Managing, Role}
+use Rattle.tau_rule.specs.Role.{Managed, Managing, Role, Share}
 use Rattle.tau_rule.specs.Knows.{Knows}
-use Rattle.tau_rule.specs.Rule.{IsOutbox, anchors_at, manager_role, outbox_part}
-use Rattle.tau_rule.specs.Steps.{IsBack, Sat, first_role, handed, holding, idle}
+use Rattle.tau_rule.specs.Rule.{IsManaged, IsOutbox, IsShare, anchors_at, manager_role, outbox_part}
+use Rattle.tau_rule.specs.Steps.{Agrees, IsBack, Sat, first_role, handed, holding, idle}
 use Rattle.tau_rule.specs.Boxes.{BoxOf, GivesGathered, box_in, gathered_by}
 use Rattle.tau_rule.specs.declared.part.Part.{Part}
 use Rattle.tau_rule.proofs.Gives.{one-origin}
 use Rattle.tau_rule.proofs.Boxes.{box-part, part-box, part-rooms}
+use Rattle.tau_rule.proofs.Gathering.{past-small}
+use Rattle.tau_rule.proofs.Turns.{one-role}
 use Rattle.tau_desk.specs.Shares.{IsStock, PlainStock}
 use Rattle.tau_desk.specs.Seats.{IsManagerSeat}
 use Rattle.tau_desk.specs.Manages.{gone, managed_in, managed_in_share, managing, pieces_held, pieces_in, told_gathered}
@@ -76,9 +79,22 @@ box-gathered key m m' j w o h p q b b' body longer past low whose is was after c
       pending = pending;
     }
 
+-- the gathered end does not wrap
+pub box-small : (key : Plain) (m : Sat) (j w : ℕ) (o : PlainStock) (h : At key m j o) (p : Part) (b : BoxOf) (left : List Piece) (body longer : List ℕ) (past : ℕ) → w < key.load.workers → w % key.load.streams ≡ j → Agrees key m.0 (outbox_part w) p → box_in p ≡ Some b → Gathers o.gathered b.0.pieces left body longer past → past < MAX_LSN
+box-small key m j w o h p b left body longer upto low whose a was g =
+    let s = h.stock in
+    let u : ℕ = manager_role key.load j in
+    let mine = a.roles u h.role (one-role m.0 u h.role h.roles) in
+    let share = subst (λ (x : Share). IsShare key.load u x a.state.core) s.share mine.0 in
+    let managed : IsManaged key.load j s.managed a.state.core = subst (λ (i : ℕ). IsManaged key.load i s.managed a.state.core) (let e = share.1 in omega (arith, e)) share.3 in
+    let small = past-small key a.state w j g.taken left b.0 (record b.0 { pieces = left }) b.1 b.1 s.managed h.role s.there low whose g.front refl refl (subst (λ (n : ℕ). Rattle.tau_outbox.specs.Gather.Continues n g.taken) (sym s.gathered) g.continues) a.meets managed (part-box key a.state w p b was a.part) in
+    let is = s.gathered in
+    let end = g.past in
+    omega (arith, small, is, end)
+
 -- what its seat is then
-pub seat-gathered : (m : Sat) (j : ℕ) (o : PlainStock) (seen : List ℕ) (taken : List Piece) (past : ℕ) → IsManagerSeat m j o seen → past ≡ o.gathered + length (bytes_of taken) → IsManagerSeat (managing m.0 (gathered_by (managed_in m.0) taken), []) j (record o { gathered = past }) seen
-seat-gathered m j o seen taken past h end =
+pub seat-gathered : (m : Sat) (j : ℕ) (o : PlainStock) (seen : List ℕ) (taken : List Piece) (past : ℕ) → IsManagerSeat m j o seen → past ≡ o.gathered + length (bytes_of taken) → past < MAX_LSN → IsManagerSeat (managing m.0 (gathered_by (managed_in m.0) taken), []) j (record o { gathered = past }) seen
+seat-gathered m j o seen taken past h end small =
     let s = h.stock in
     let u : ℕ = manager_role h.origin.load j in
     let y : Role = record h.role { share = Managing (gathered_by s.managed taken) } in
@@ -98,6 +114,7 @@ seat-gathered m j o seen taken past h end =
         anchors = s.anchors;
         own = s.own;
         gathered = ap (λ (n : ℕ). n + length (bytes_of taken)) s.gathered ∙ sym end;
+        small = small;
         wide = s.wide;
       };
       seen_is = h.seen_is;

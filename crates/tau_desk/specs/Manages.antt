@@ -136,6 +136,7 @@ pub record GivesPublished (origin : Plain) (m : Sat) (j : ℕ) (number : ℕ) (l
   pub was : anchor_in taken ≡ Some before
   pub newer : before.0 < number
   pub named : Names origin.load j managed.anchors number lv
+  pub wide : length lv ≡ origin.load.streams
 
 -- what a seat knows that has raised the stop
 abbrev pub told_raised : Knows → Knows

@@ -1,5 +1,6 @@
 -- What an actor has of its own at run time, and how it is what its seat knows.
 use Rattle.std.specs.Prelude.{ℕ, ◌+◌, ◌<◌, ◌≤◌, ◌≡◌, is_some, true, false, Option, Some, None, List, ◌++◌, length}
+use Rattle.tau_base.specs.declared.limits.TheConstants.{MAX_LSN}
 use Rattle.tau_model.specs.declared.committed.Committed.{Committed}
 use Rattle.tau_model.specs.History.{Member}
 use Rattle.tau_machine.specs.Hands.{Hand}
@@ -53,6 +54,12 @@ abbrev pub ShowsWorker : Load → Worker → PlainWork → Option Mark → Type 
 ShowsWorker l wk o None = wk ≡ own_worker l o
 ShowsWorker l wk o (Some k) = (wk ≡ own_worker l (unbegun o k)) × (begun l.streams wk ≡ own_worker l o)
 
+-- a worker of the run may stand there among its calls
+pub record IsMark (l : Load) (k : Mark) : Type 0 where
+  pub low : 1 ≤ k.next
+  pub high : k.next ≤ length l.calls + l.workers
+  pub again : (n : ℕ) → k.again ≡ Some n → IsNumber l n
+
 -- what a worker has is of the run, and a call in hand has the room that it will need
 pub record FitsWork (l : Load) (w : ℕ) (o : PlainWork) : Type 0 where
   pub worker : o.txn.worker ≡ w
@@ -65,6 +72,7 @@ pub record FitsWork (l : Load) (w : ℕ) (o : PlainWork) : Type 0 where
   pub low : 1 ≤ o.next
   pub high : o.next ≤ length l.calls + l.workers
   pub again : (n : ℕ) → o.again ≡ Some n → IsNumber l n
+  pub mark : (k : Mark) → o.mark ≡ Some k → IsMark l k
   pub left : AreNumbers l o.left
   pub leaves : is_some o.txn.hand ≡ true → 1 ≤ o.left_room
   pub ends : is_some o.txn.hand ≡ true → 1 ≤ o.spare.1
@@ -88,4 +96,5 @@ pub record IsStock (l : Load) (j : ℕ) (role : Role) (o : PlainStock) : Type 0 
   pub anchors : managed.anchors ≡ o.anchors
   pub own : managed.own ≡ o.own.pieces
   pub gathered : managed.gathered ≡ o.gathered
+  pub small : o.gathered < MAX_LSN
   pub wide : (a : List ℕ) → Member a o.anchors → length a ≡ l.streams

@@ -74,10 +74,10 @@ impl Stock {
         }
     }
 
-    // The newest anchor with its number, where the stream was opened with so many, and where it is newer than this.
-    fn newer(&self, first: u32, before: u32) -> Option<(u32, Lv)>
+    // The number of the newest anchor, where the stream was opened with so many, and where it is newer than this.
+    fn newer(&self, first: u32, before: u32) -> Option<u32>
         requires few { first + length self.now.anchors < 2 ^ 32 }
-        ensures newest { IfSome result (λ p. (before < p.0) × (i : ℕ) × (p.0 ≡ first + i + 1) × (slice_get self.now.anchors i ≡ Some p.1)) }
+        ensures newest { IfSome result (λ n. (before < n) × (1 ≤ length self.now.anchors) × (n ≡ first + length self.now.anchors)) }
     {
         let count = self.anchors.len();
         if count == 0 {
@@ -87,7 +87,16 @@ impl Stock {
         if newest <= before {
             return None;
         }
-        Some((newest, self.anchors[count - 1]))
+        Some(newest)
+    }
+
+    // The box with the newest anchor in it.
+    fn newest_in(&self, mut lv: Box<Lv>) -> Box<Lv>
+        requires some { 1 ≤ length self.now.anchors }
+        ensures newest { slice_get self.now.anchors (length self.now.anchors - 1) ≡ Some result.value }
+    {
+        *lv = self.anchors[self.anchors.len() - 1];
+        lv
     }
 
     // Makes room for one more anchor.
@@ -291,11 +300,11 @@ impl ManagerSeat {
         ensures same { self.new ≡ self.old }
     {
         let number = desk.anchor_number(self.stream);
-        let (before, mut lv) = take_anchor(rt, desk, &mut self.seat, number);
+        let (before, lv) = take_anchor(rt, desk, &mut self.seat, number);
         let first = desk.load.opening.anchors.as_slice()[self.stream as usize];
         match self.stock.newer(first, before) {
-            Some((newest, vector)) => {
-                *lv = vector;
+            Some(newest) => {
+                let lv = self.stock.newest_in(lv);
                 desk.give_published(&mut self.seat, self.stream, newest, lv);
             }
             None => {

@@ -41,7 +41,7 @@ invariant_of-head c =
     let stocks : EachOf (IsItsStock core.ends) core.streams c.in_ok-anchors.managers.items =
     subst (λ (z : List ℕ × List PlainStream). EachOf (IsItsStock z.0) z.1 c.in_ok-anchors.managers.items) (λ i. (ends i, ap (λ (p : Plain). p.streams) same i)) c.in_ok-anchors.ensures.1 in
     let me : c.in-Ok.seat.me ≡ (first_view core, []) = c.in-Ok.ensures.ok.4 ∙ ap (λ (o : Plain). (first_view o, [])) c.of-key.ensures in
-    subst (λ (z : Sat × List ℕ). IsHead z.0 c.in_ok-boxes.workers.items c.in_ok-anchors.managers.items true z.1) (λ i. (sym me i, sym ends i)) (head-is core c.requires.opened c.in_ok-boxes.workers.items c.in_ok-anchors.managers.items works stocks)
+    subst (λ (z : Sat × List ℕ). IsHead z.0 c.in_ok-boxes.workers.items c.in_ok-anchors.managers.items true z.1) (λ i. (sym me i, sym ends i)) (head-is core c.requires.opened c.requires.short c.in_ok-boxes.workers.items c.in_ok-anchors.managers.items works stocks)
 
 pub returns : goal.returns
 returns c =

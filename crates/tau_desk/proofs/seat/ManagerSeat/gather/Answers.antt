@@ -11,7 +11,7 @@ use Rattle.tau_rule.proofs.Turns.{one-role}
 use Rattle.tau_desk.specs.Manages.{GathersBox, managed_in, managing, told_gathered}
 use Rattle.tau_desk.specs.Shares.{PlainStock}
 use Rattle.tau_desk.specs.Seats.{IsManagerSeat, PlainManagerSeat}
-use Rattle.tau_desk.proofs.Taking.{at-key, box-back, box-gathered, seat-gathered, told-holding}
+use Rattle.tau_desk.proofs.Taking.{at-key, box-back, box-gathered, box-small, seat-gathered, told-holding}
 use Rattle.tau_desk.proofs.seat.ManagerSeat.gather.Goals as goal
 
 pub take_box-outbox-requires-clause-role : goal.take_box-outbox-requires-clause-role
@@ -45,7 +45,10 @@ invariant_of-self g c =
     c.give_gathered.ensures.given ∙ ap (λ (m : Sat). (told_gathered m.0 c.gather_into.new.self.pieces, [])) held.1
     ∙ ap (λ v. (v, [])) (told-holding (outbox_part c.args.worker) c.self.inside.seat.me.0 held.0 b moved.taken c.gather_into.new.self.pieces held.2 moved.front) in
     subst (λ (z : Sat × PlainStock). IsManagerSeat z.0 c.self.inside.stream z.1 c.self.inside.seen) (λ i. (sym knows i, sym c.goes_to.ensures i))
-    (seat-gathered c.self.inside.seat.me c.self.inside.stream c.self.inside.stock c.self.inside.seen moved.taken c.in-Ok.past c.self.invariant moved.past)
+    (seat-gathered c.self.inside.seat.me c.self.inside.stream c.self.inside.stock c.self.inside.seen moved.taken c.in-Ok.past c.self.invariant moved.past
+    (box-small c.args.desk.now.table.shared.key.value c.self.inside.seat.me c.self.inside.stream c.args.worker c.self.inside.stock
+    (at-key c.self.inside.seat.me c.self.inside.stream c.self.inside.stock c.self.inside.seen c.args.desk.now.table.shared.key.value c.self.invariant (ap (λ s. s.me.0.opened) c.self.view_is ∙ c.requires.opened))
+    held.0 b c.gather_into.new.self.pieces c.args.body.now.items c.gather_into.new.body.items c.in-Ok.past c.requires.there (c.requires.whose ∙ sym (ap (λ s. s.stream) c.self.view_is)) held.3 held.2 moved))
 
 pub give_back-requires-clause-same : goal.give_back-requires-clause-same
 give_back-requires-clause-same g c =

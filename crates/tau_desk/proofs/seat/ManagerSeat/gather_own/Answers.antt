@@ -6,7 +6,7 @@ use Rattle.tau_rule.proofs.Turns.{one-role}
 use Rattle.tau_desk.specs.Manages.{told_own}
 use Rattle.tau_desk.specs.Seats.{IsManagerSeat}
 use Rattle.tau_desk.proofs.Taking.{at-key}
-use Rattle.tau_desk.proofs.OwnAnchors.{own-gives, seat-own}
+use Rattle.tau_desk.proofs.OwnAnchors.{own-gives, own-small, seat-own}
 use Rattle.tau_desk.proofs.seat.ManagerSeat.gather_own.Goals as goal
 
 pub take-part-requires-clause-role : goal.take-part-requires-clause-role
@@ -27,4 +27,7 @@ pub invariant_of-self : goal.invariant_of-self
 invariant_of-self g c =
     let knows : c.give_own.new.seat.me ≡ (told_own c.self.inside.seat.me.0 c.gather_own.new.self.own.pieces, []) = c.give_own.ensures.given ∙ ap (λ (m : Sat). (told_own m.0 c.gather_own.new.self.own.pieces, [])) c.take-part.ensures.held in
     subst (λ (m : Sat). IsManagerSeat m c.self.inside.stream c.gather_own.new.self c.self.inside.seen) (sym knows)
-    (seat-own c.self.inside.seat.me c.self.inside.stream c.self.inside.stock c.gather_own.new.self c.self.inside.seen c.args.body.now.items c.gather_own.new.body.items c.self.invariant c.in-Ok.ensures.moved c.in-Ok.ensures.rest.0)
+    (seat-own c.self.inside.seat.me c.self.inside.stream c.self.inside.stock c.gather_own.new.self c.self.inside.seen c.args.body.now.items c.gather_own.new.body.items c.self.invariant c.in-Ok.ensures.moved c.in-Ok.ensures.rest.0
+    (own-small c.args.desk.now.table.shared.key.value c.self.inside.seat.me c.self.inside.stream c.anchor_number-number.result c.self.inside.stock
+    (at-key c.self.inside.seat.me c.self.inside.stream c.self.inside.stock c.self.inside.seen c.args.desk.now.table.shared.key.value c.self.invariant (ap (λ s. s.me.0.opened) c.self.view_is ∙ c.requires.opened)) c.take-part.result c.gather_own.new.self.own.pieces
+    c.args.body.now.items c.gather_own.new.body.items c.gather_own.new.self.gathered c.take-part.ensures.agrees c.in-Ok.ensures.moved))

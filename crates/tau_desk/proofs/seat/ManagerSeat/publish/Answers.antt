@@ -1,8 +1,15 @@
-use Rattle.std.proofs.Common.{ap, ◌∙◌, refl}
+use Rattle.std.proofs.Common.{◌≡◌, ◌+◌, ◌-◌, inr, arith, length, ℕ, List, None, [], ◌∷◌, ap, sym, subst, ◌∙◌, refl}
+use Rattle.std.specs.Prelude.{Some, slice_get, slice_index}
+use Rattle.tau_core.specs.declared.state.Load.{Load}
+use Rattle.tau_core.specs.Pieces.{Names}
+use Rattle.tau_core.specs.State.{Plain}
+use Rattle.tau_core.proofs.Lists.{member-got}
 use Rattle.tau_rule.specs.Rule.{manager_role}
 use Rattle.tau_rule.specs.Steps.{Sat}
 use Rattle.tau_rule.specs.declared.part.Part.TheVariants as part
 use Rattle.tau_rule.proofs.Turns.{one-role}
+use Rattle.tau_rule.proofs.Gives.{one-origin}
+use Rattle.tau_desk.specs.Shares.{IsStock}
 use Rattle.tau_desk.proofs.Publishing.{anchor-same}
 use Rattle.tau_desk.proofs.seat.ManagerSeat.publish.Goals as goal
 
@@ -10,6 +17,38 @@ pub take_anchor-before-requires-clause-role : goal.take_anchor-before-requires-c
 take_anchor-before-requires-clause-role g c =
     let h = c.self.invariant in
     (manager_role h.origin.load c.self.inside.stream, h.role, one-role c.self.inside.seat.me.0 (manager_role h.origin.load c.self.inside.stream) h.role h.roles)
+
+pub give_published-requires-clause-event : goal.give_published-requires-clause-event
+give_published-requires-clause-event g c =
+    let h = c.self.invariant in
+    let key : Plain = c.args.desk.now.table.shared.key.value in
+    let same : h.origin ≡ key = one-origin h.origin key (sym h.opened ∙ ap (λ s. s.me.0.opened) c.self.view_is ∙ c.requires.opened) in
+    let s = subst (λ (p : Plain). IsStock p.load c.self.inside.stream h.role c.self.inside.stock) same h.stock in
+    let held = c.take_anchor-before.ensures.held in
+    let newest = c.in-Some.ensures.newest in
+    let vector : List ℕ = c.newest_in-lv.result.value in
+    let i : ℕ = length c.self.inside.stock.anchors - 1 in
+    let wide : length vector ≡ key.load.streams = s.wide vector (member-got c.self.inside.stock.anchors i vector c.newest_in-lv.ensures.newest) in
+    let first : slice_index c.as_slice.result.now c.self.inside.stream ≡ slice_index key.load.opening.anchors.items c.self.inside.stream =
+    ap (λ (l : List ℕ). slice_index l c.self.inside.stream) c.as_slice.ensures.value ∙ ap (λ (l : Load). slice_index l.opening.anchors.items c.self.inside.stream) c.args.desk.now.same_load in
+    let number : c.in-Some.newest ≡ slice_index key.load.opening.anchors.items c.self.inside.stream + i + 1 = (let n = newest.2 in let some = newest.1 in omega (arith, n, some, first)) in
+    let named : Names key.load c.self.inside.stream s.managed.anchors c.in-Some.newest vector = inr (i, number, ap (λ (l : List (List ℕ)). slice_get l i) s.anchors ∙ c.newest_in-lv.ensures.newest) in
+    record {
+      taken = held.0;
+      role = h.role;
+      managed = s.managed;
+      before = (c.take_anchor-before.result.0, c.take_anchor-before.result.1.value);
+      opened = ap (λ (x : Sat). x.0.opened) held.1 ∙ ap (λ s. s.me.0.opened) c.self.view_is ∙ c.requires.opened;
+      held = ap (λ (x : Sat). x.0.hand) held.1 ∙ ap (λ (n : ℕ). Some (n, held.0)) c.anchor_number-number.ensures;
+      carried = ap (λ (x : Sat). x.1) held.1 ∙ ap (λ (n : ℕ). (n, None) ∷ []) c.anchor_number-number.ensures;
+      roles = ap (λ (x : Sat). x.0.roles) held.1 ∙ h.roles ∙ ap (λ (p : Plain). (manager_role p.load c.self.inside.stream, h.role) ∷ []) same;
+      share = s.share;
+      there = s.there;
+      was = held.2;
+      newer = newest.0;
+      named = named;
+      wide = wide;
+    }
 
 pub give_back-requires-clause-same : goal.give_back-requires-clause-same
 give_back-requires-clause-same g c =
