@@ -1,13 +1,15 @@
 -- The core that the head puts together stands.
 use Rattle.std.proofs.Common.{ℕ, ◌+◌, ◌-◌, ◌<◌, ◌≤◌, ◌==◌, ◌≡◌, inl, inr, false, List, [], ◌∷◌, length, refl, sym, ap, subst, ◌∙◌, Option, arith, ne_eqb}
-use Rattle.std.specs.Prelude.{Some, None, slice_get, slice_index}
+use Rattle.std.specs.Prelude.{Some, None, map, slice_get, slice_index}
+use Rattle.std.specs.Option.{option_map}
 use Rattle.std.proofs.lemmas.Bool.Decides.{leb_tells}
+use Rattle.std.proofs.lemmas.Option.{slice_get-map}
 use Rattle.std.proofs.lemmas.List.{ext_get_or}
 use Rattle.atomic_table.specs.Table.{Final, Seen as SeenBy}
 use Rattle.tau_shown.proofs.Steps.{Closes, closes_all}
 use Rattle.tau_base.specs.declared.limits.TheConstants.{SHARDS}
 use Rattle.tau_model.specs.History.{Act}
-use Rattle.tau_machine.specs.Hands.{Txn}
+use Rattle.tau_machine.specs.Hands.{Hand, Txn, act_of}
 use Rattle.tau_machine.specs.Invariant.{Invariant}
 use Rattle.tau_machine.specs.Reports.{in_turn}
 use Rattle.tau_machine.specs.State.{Core, Item, start_of, past_of}
@@ -16,19 +18,22 @@ use Rattle.tau_outbox.specs.declared.Piece.{Piece}
 use Rattle.tau_outbox.specs.Pieces.{bytes_of}
 use Rattle.tau_shard.specs.Plain.{PlainShard}
 use Rattle.tau_shard.specs.Read.{shard_of}
+use Rattle.tau_txn.specs.Txn.{hand_in}
 use Rattle.tau_core.specs.declared.state.Load.{Load}
 use Rattle.tau_core.specs.Plain.{PlainSeat, PlainStream}
 use Rattle.tau_core.specs.State.{Plain}
 use Rattle.tau_core.specs.View.{setting_of, committed_by, seat_worker, tickets}
 use Rattle.tau_core.specs.Pieces.{IsPieceOf, Paired, Spelled}
-use Rattle.tau_core.specs.Parts.{no_shard, nobody, anchors_of, Shows, AreShown, IsOfParts, hidden_of}
+use Rattle.tau_core.specs.Parts.{no_shard, nobody, anchors_of, without_hand, Shows, AreShown, IsOfParts, hidden_of}
 use Rattle.tau_core.proofs.Lists.{some-at}
 use Rattle.tau_core.proofs.Merged.{in-turn-listed}
 use Rattle.tau_rule.specs.Role.{Managed, Share, Working, Managing, Clerking, Role}
 use Rattle.tau_rule.specs.Knows.{Knows}
 use Rattle.tau_rule.specs.Rule.{Now, Rule, anchors_at, IsOutbox, IsPart, IsShare, IsManaged, IsRole, Sees, Meets, has, hand_of, outbox_part, part_count, manager_role, word_of}
 use Rattle.tau_rule.proofs.Turns.{reached-invariant}
-use Rattle.tau_desk.specs.Close.{IsShardOf, IsBoxOf, IsStreamOf, PutTogether, IsClosed}
+use Rattle.tau_desk.specs.Close.{IsShardOf, IsBoxOf, IsStreamOf, PutTogether}
+use Rattle.tau_desk.specs.Ends.{HasAll, IsClosing}
+use Rattle.tau_desk.proofs.CloseHands.{hand-free}
 use Rattle.tau_rule.specs.declared.part.Part.{Part}
 use Rattle.tau_rule.specs.declared.part.Part.TheVariants as part
 
@@ -133,28 +138,60 @@ module _ (p : Plain) (c : Now) (m : Meets p c) (q : Plain) (taken : ℕ → List
   pub asked : AreShown q
   asked = record { order = m.reached.joined; state = c.core; taken = taken; inv = here.inv; shows = shown q c taken m.reached.joined here t }
 
+  boxed : (w : ℕ) (x : PlainSeat) (o : Option PlainSeat) → slice_get q.seats w ≡ o → option_map without_hand o ≡ Some x → IsOutbox q.load x.outbox x.pending (anchors_at c.core) (c.core.outboxes w)
+  boxed w x None a b = absurd (let bad : None ≡ Some x = b in cc)
+  boxed w x (Some y) a b =
+      let r = t.seats w y a in
+      let is : without_hand y ≡ x = (let e : Some (without_hand y) ≡ Some x = b in cc) in
+      subst (λ (z : PlainSeat). IsOutbox q.load z.outbox z.pending (anchors_at c.core) (c.core.outboxes w)) is (box-is q c taken m.reached.joined here t w y r.box r.part r.of_box)
+
+  free : (w : ℕ) (x : PlainSeat) → slice_get q.seats w ≡ Some x → (h : Hand) → (c.core.workers w).hand ≡ Some h → (act_of h.phase ≡ None) × (h.held ≡ [])
+  free w x e h f =
+      let r = t.seats w x e in
+      let rest = t.rests.seat w x e in
+      let is : (c.core.workers w).hand ≡ hand_in q.load.procs x.txn = ap (λ (k : Worker). k.hand) (r.share.1 ∙ r.own) in
+      hand-free q.load.procs x.txn.worker x.txn.hand rest.joined rest.held h (sym is ∙ f)
+
   -- and what close says of it
-  pub closed : (v : Knows) → ((u : ℕ) (r : Role) → has u v ≡ Some r → IsRole p.load u r c) → (result : Plain) → IsOfParts q result → IsClosed p v result
-  closed v roles result is = (
-    c,
-    m,
-    roles,
-    (m.reached.joined, hidden_of c.core taken, is.stands m.reached.joined c.core taken here.inv (shown q c taken m.reached.joined here t), is.core m.reached.joined c.core taken here.inv (shown q c taken m.reached.joined here t)),
-    ap (λ (x : Plain). x.committed) is.after ∙ t.committed ∙ ap (λ (l : Load). in_turn l.workers (λ w. (c.core.workers w).committed)) same,
-  )
+  pub closed : (v : Knows) → Sees p c v → ((u : ℕ) (r : Role) → has u v ≡ Some r → IsRole p.load u r c) → HasAll p v → (result : Plain) → IsOfParts q result → IsClosing p v result
+  closed v sees roles all result is = record {
+    state = c;
+    meets = m;
+    sees = sees;
+    roles = roles;
+    all = all;
+    loose = λ w h f. elim (leb_tells (w + 1) q.load.workers) [
+      | inl a ↦
+          let low : w < length q.seats = (let b = a.1 in let n = t.rests.seats in omega (arith, b, n)) in
+          let x = some-at q.seats w low in
+          free w x.0 x.1 h f
+      | inr b ↦
+          let none : c.core.workers w ≡ nobody = here.beyond w (let d = b.1 in omega (arith, d)) in
+          absurd (let bad : None ≡ Some h = sym (ap (λ (k : Worker). k.hand) none) ∙ f in cc)
+    ];
+    box = λ w x e.
+        let seats : slice_get (map without_hand q.seats) w ≡ Some x = ap (λ (z : Plain). slice_get z.seats w) (sym is.after) ∙ e in
+        subst (λ (l : Load). IsOutbox l x.outbox x.pending (anchors_at c.core) (c.core.outboxes w)) same
+        (boxed w x (slice_get q.seats w) refl (sym (slice_get-map without_hand q.seats w) ∙ seats));
+    load = ap (λ (z : Plain). z.load) is.after ∙ same;
+    hidden = hidden_of c.core taken;
+    stands = is.stands m.reached.joined c.core taken here.inv (shown q c taken m.reached.joined here t);
+    core = is.core m.reached.joined c.core taken here.inv (shown q c taken m.reached.joined here t);
+    committed = ap (λ (x : Plain). x.committed) is.after ∙ t.committed ∙ ap (λ (l : Load). in_turn l.workers (λ w. (c.core.workers w).committed)) same;
+  }
 
 -- a head that has each role has those of each state
-in-range : (p : Plain) (c : Now) (u : ℕ) (share : Share) → IsShare p.load u share c.core → u < p.load.workers + p.load.streams + 1
+pub in-range : (p : Plain) (c : Now) (u : ℕ) (share : Share) → IsShare p.load u share c.core → u < p.load.workers + p.load.streams + 1
 in-range p c u (Working wk) h = (let a = h.0 in omega (arith, a))
 in-range p c u (Managing g) h = (let a = h.1 in let b = h.2 in omega (arith, a, b))
 in-range p c u (Clerking acked) h = (let a = h.0 in omega (arith, a))
 
-abbrev pub HasAll : Plain → Knows → Type 0
-HasAll p v = (u : ℕ) → u < p.load.workers + p.load.streams + 1 → (y : Role) × (has u v ≡ Some y)
+-- the end of the table, of which the head knows this
+abbrev pub ClosesAt : Plain → Knows → List ℕ → List (Option Part) → Type 0
+ClosesAt p v ws xs = Closes (IsPart p.load) (IsRole p.load) (word_of p.load) hand_of has (Sees p) (Meets p) (part_count p.load) (p.load.streams + p.load.streams + 1) v ws xs
 
 -- at the end of the table every part is at home, and shows a state whose roles the head has
-pub ends : (p : Plain) (id : ℕ) (v : Knows) (ws : List ℕ) (xs : List (Option Part)) → hand_of v ≡ None → HasAll p v → Final (SeenBy (Rule p) id v) ws xs →
-    Closes (IsPart p.load) (IsRole p.load) (word_of p.load) hand_of has (Sees p) (Meets p) (part_count p.load) (p.load.streams + p.load.streams + 1) v ws xs
+pub ends : (p : Plain) (id : ℕ) (v : Knows) (ws : List ℕ) (xs : List (Option Part)) → hand_of v ≡ None → HasAll p v → Final (SeenBy (Rule p) id v) ws xs → ClosesAt p v ws xs
 ends p id v ws xs idle all final =
     closes_all (IsPart p.load) (IsRole p.load) (word_of p.load) hand_of has (Sees p) (Meets p) (part_count p.load) (p.load.streams + p.load.streams + 1) id v ws xs idle
     (λ c u x m sees r. all u (in-range p c u x.share r.0)) final

@@ -22,3 +22,8 @@ pub mod Publishing
 pub mod Ends
 pub mod GoingOn
 pub mod CallBegins
+pub mod CloseHands
+pub mod CloseCalls
+pub mod CloseHead
+pub mod CloseTaken
+pub mod CloseMade

@@ -1,7 +1,5 @@
 -- What the head has put together when the desk closes.
 use Rattle.std.specs.Prelude.{ℕ, ◌+◌, ◌<◌, ◌≡◌, List, ◌++◌, Some, None, slice_get, slice_index}
-use Rattle.tau_model.specs.History.{Act}
-use Rattle.tau_machine.specs.Hands.{Txn}
 use Rattle.tau_machine.specs.Reports.{in_turn}
 use Rattle.tau_machine.specs.Worker.{Worker}
 use Rattle.tau_outbox.specs.Pieces.{bytes_of}
@@ -9,12 +7,10 @@ use Rattle.tau_shard.specs.Plain.{PlainShard}
 use Rattle.tau_core.specs.declared.state.Load.{Load}
 use Rattle.tau_core.specs.Plain.{PlainSeat, PlainStream}
 use Rattle.tau_core.specs.State.{Plain}
-use Rattle.tau_core.specs.View.{seat_worker, core_of, Hidden}
-use Rattle.tau_core.specs.Stands.{Stands}
-use Rattle.tau_core.specs.Parts.{AtRest, all_idle}
-use Rattle.tau_rule.specs.Role.{Managed, Working, Managing, Role}
-use Rattle.tau_rule.specs.Rule.{Now, IsPart, IsShare, IsRole, Meets, has, outbox_part, manager_role, word_of}
-use Rattle.tau_rule.specs.Knows.{Knows}
+use Rattle.tau_core.specs.View.{seat_worker}
+use Rattle.tau_core.specs.Parts.{AtRest}
+use Rattle.tau_rule.specs.Role.{Managed, Working, Managing}
+use Rattle.tau_rule.specs.Rule.{Now, IsPart, IsShare, outbox_part, manager_role, word_of}
 use Rattle.tau_rule.specs.declared.part.Part.{Part}
 use Rattle.tau_rule.specs.declared.part.Part.TheVariants as part
 
@@ -56,10 +52,3 @@ pub record PutTogether (q : Plain) (c : Now) (taken : ℕ → List ℕ) : Type 0
   pub committed : q.committed ≡ in_turn q.load.workers (λ w. (c.core.workers w).committed)
   pub ends : (j : ℕ) → j < q.load.streams → slice_index q.ends j ≡ word_of q.load j c
   pub plv : (j : ℕ) → j < q.load.streams → slice_index q.plv j ≡ word_of q.load (q.load.streams + j) c
-
--- the core is that of a state that events lead to, where each call in hand is let go, and the view has the roles of that state
-abbrev pub IsClosed : Plain → Knows → Plain → Type 0
-IsClosed origin v result =
-    (c : Now) × Meets origin c × ((u : ℕ) (r : Role) → has u v ≡ Some r → IsRole origin.load u r c)
-    × ((K : List (Act Txn)) × (h : Hidden) × Stands result K h × (core_of result h ≡ all_idle c.core))
-    × (result.committed ≡ in_turn origin.load.workers (λ w. (c.core.workers w).committed))

@@ -8,4 +8,5 @@ pub mod Works
 pub mod Owns
 pub mod Manages
 pub mod Laid
+pub mod Taken
 pub mod Ends

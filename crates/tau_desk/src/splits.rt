@@ -97,7 +97,7 @@ impl Desk {
 }
 
 /// What the worker has of its own leaves its place.
-fn take_work(workers: &mut Vec<Option<Work>>, at: usize) -> Work
+pub(crate) fn take_work(workers: &mut Vec<Option<Work>>, at: usize) -> Work
     requires { (o : PlainWork) × (slice_get workers.old.items at ≡ Some (Some o)) }
     ensures taken { slice_get workers.old.items at ≡ Some (Some result) }
     ensures left { workers.new.items ≡ slice_set workers.old.items at None }
@@ -113,7 +113,7 @@ fn put_work(workers: &mut Vec<Option<Work>>, at: usize, work: Work)
 }
 
 /// What the manager has of its own leaves its place.
-fn take_stock(managers: &mut Vec<Option<Stock>>, at: usize) -> Stock
+pub(crate) fn take_stock(managers: &mut Vec<Option<Stock>>, at: usize) -> Stock
     requires { (o : PlainStock) × (slice_get managers.old.items at ≡ Some (Some o)) }
     ensures taken { slice_get managers.old.items at ≡ Some (Some result) }
     ensures left { managers.new.items ≡ slice_set managers.old.items at None }
