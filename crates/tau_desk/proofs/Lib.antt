@@ -27,3 +27,5 @@ pub mod CloseCalls
 pub mod CloseHead
 pub mod CloseTaken
 pub mod CloseMade
+pub mod EndWords
+pub mod EndStops

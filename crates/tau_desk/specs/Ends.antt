@@ -1,5 +1,5 @@
 -- The ends of a desk: what it opens with, what leaves the head and comes back, and what it gives when it closes.
-use Rattle.std.specs.Prelude.{ℕ, ◌+◌, ◌/◌, ◌<◌, ◌≤◌, ◌≡◌, true, false, Some, None, List, [], length, replicate, slice_get, slice_set}
+use Rattle.std.specs.Prelude.{ℕ, ◌+◌, ◌/◌, ◌<◌, ◌≤◌, ◌≡◌, true, false, Some, None, List, [], ◌∷◌, length, replicate, slice_get, slice_set}
 use Rattle.tau_machine.specs.Hands.{Hand, act_of}
 use Rattle.tau_machine.specs.Reports.{in_turn}
 use Rattle.tau_txn.specs.Txn.{has_joined, held_in}
@@ -71,6 +71,14 @@ pub record IsClerkSplit (l : Load) (head head' : PlainHead) (new : PlainClerkSea
 pub record IsResumed (role : ℕ) (back : Role) (head head' new : Sat) : Type 0 where
   pub head_is : head' ≡ (left_by role head.0, [])
   pub new_is : new ≡ (split_as role back head.0, [])
+
+-- the head knows that the actor of its first role has raised the stop
+abbrev pub first_raised : List (ℕ × Role) → List (ℕ × Role)
+first_raised [] = []
+first_raised (x ∷ xs) = (x.0, record x.1 { raised = true }) ∷ xs
+
+abbrev pub told_head_raised : Knows → Knows
+told_head_raised v = record v { roles = first_raised v.roles }
 
 -- the head has each role
 abbrev pub HasAll : Plain → Knows → Type 0
