@@ -29,3 +29,6 @@ pub mod CloseTaken
 pub mod CloseMade
 pub mod EndWords
 pub mod EndStops
+pub mod Committing
+pub mod WorkerReading
+pub mod WorkerUndoes

@@ -1,14 +1,20 @@
 -- What a worker's actions come to.
-use Rattle.std.specs.Prelude.{ℕ, ◌≡◌, List, [], Option, Some, None}
+use Rattle.std.specs.Prelude.{ℕ, ◌+◌, ◌<◌, ◌≡◌, false, length, List, [], Option, Some, None}
+use Rattle.tau_base.specs.Vectors.{join}
+use Rattle.tau_base.specs.declared.limits.TheConstants.{MAX_LSN}
 use Rattle.tau_base.specs.declared.value.Key.{Key}
 use Rattle.tau_base.specs.declared.value.Mode.{Mode}
 use Rattle.tau_base.specs.declared.value.Value.{Value}
 use Rattle.tau_proc.specs.declared.proc.Proc.{Proc}
 use Rattle.tau_proc.specs.declared.reply.Reply.{Reply}
 use Rattle.tau_model.specs.declared.committed.Committed.{Committed}
-use Rattle.tau_machine.specs.Hands.{Freeing, committed_of}
+use Rattle.tau_model.specs.History.{Act}
+use Rattle.tau_machine.specs.Hands.{Freeing, Hand, Placed, Txn, committed_of}
 use Rattle.tau_machine.specs.Worker.{Worker, hand_busy, hand_freed, hand_joined, hand_quit, settled}
-use Rattle.tau_txn.specs.Txn.{PlainTxn, RunsBy, hand_in, leaves_in, worker_of}
+use Rattle.tau_record.specs.Format.{One}
+use Rattle.tau_record.specs.Record.{base_of, Spells}
+use Rattle.tau_txn.specs.Record.{entry_of}
+use Rattle.tau_txn.specs.Txn.{PlainTxn, RunsBy, bytes_in, hand_in, leaves_in, stream_in, worker_of}
 use Rattle.tau_txn.specs.Next as txn
 use Rattle.tau_txn.specs.declared.action.Action.TheVariants as action
 use Rattle.tau_txn.specs.Steps.{locked_with}
@@ -79,6 +85,39 @@ module _ (procs : List Proc) (t t' : PlainTxn) where
     pub next : txn.next_action t ≡ action.Done reply lv
     pub ends : txn.Finishes procs t reply lv
     pub gone : t'.hand ≡ None
+    pub worker : SameWorker procs t t'
+
+module _ (procs : List Proc) (t t' : PlainTxn) where
+  -- it only read, holds no key, has joined the committed ones, of which this is kept, and is no longer in hand
+  pub record HasEndedReading (kept : Committed) : Type 0 where
+    pub reply : Reply
+    pub lv : List ℕ
+    pub next : txn.next_action t ≡ action.Done reply lv
+    pub ends : txn.Finishes procs t reply lv
+    pub kept_is : kept ≡ committed_of ends.act
+    pub gone : t'.hand ≡ None
+    pub worker : SameWorker procs t t'
+
+  -- its record, which was made, has its place there, and of the call this is kept
+  pub record IsPlaced (start : ℕ) (kept : Committed) : Type 0 where
+    pub is : (hand : Hand) → hand_in procs t ≡ Some hand → (hand_in procs t' ≡ Some (hand_joined hand (Placed (txn.act_at procs t start hand)) hand.dep)) × (kept ≡ committed_of (txn.act_at procs t start hand))
+    pub bytes : bytes_in t' ≡ bytes_in t
+    pub worker : SameWorker procs t t'
+
+  -- it has all its keys, its record is made above the anchor with this number and this vector, and has its place there; by that it has joined the committed ones, of which this is kept, and posts next
+  pub record HasCommitted (number : ℕ) (anchor : List ℕ) (start : ℕ) (kept : Committed) : Type 0 where
+    pub size : ℕ
+    pub commits : txn.Commits procs t size
+    pub act : Act Txn
+    pub act_is : act ≡ record {
+      call = record { call = commits.hand.call; worker = t.worker; place = record { stream = stream_in t; start = start; past = start + length (bytes_in t'); dep = join commits.hand.dep anchor }; anchor = number };
+      effect = commits.effect;
+    }
+    pub is : hand_in procs t' ≡ Some (hand_joined commits.hand (Placed act) (join commits.hand.dep anchor))
+    pub next : txn.next_action t' ≡ action.Post
+    pub small : start + length (bytes_in t') < MAX_LSN
+    pub spelled : (vectors : List (List ℕ)) → base_of vectors number ≡ anchor → Spells One t.width vectors false (entry_of t.mode act) (bytes_in t')
+    pub kept_is : kept ≡ committed_of act
     pub worker : SameWorker procs t t'
 
 -- after a lock, or a Busy, the seat knows what the call in hand shows; else nothing changed

@@ -25,9 +25,10 @@ use Rattle.tau_rule.specs.Rule.{anchor_part, outbox_part}
 use Rattle.tau_rule.specs.Steps.{Sat, StepsShard, first_role, handed, next_worker, shard_in, told, worker_in, working}
 use Rattle.tau_rule.specs.Boxes.{BoxOf, StepsBox, box_in, told_box, with_box}
 use Rattle.tau_rule.specs.declared.part.Part.{Part}
-use Rattle.tau_desk.specs.Acts.{HasEnded, HasFirstFreed, HasFreed, HasLocked, HasMetBusy, HasPosted, HasQuit}
+use Rattle.tau_desk.specs.declared.mark.Mark.{Mark}
+use Rattle.tau_desk.specs.Acts.{HasCommitted, HasEnded, HasEndedReading, HasFirstFreed, HasFreed, HasLocked, HasMetBusy, HasPosted, HasQuit}
 use Rattle.tau_desk.specs.Seats.{PlainWorkerSeat}
-use Rattle.tau_desk.specs.Shares.{PlainWork}
+use Rattle.tau_desk.specs.Shares.{PlainWork, unbegun}
 use Rattle.tau_desk.specs.declared.work.Acted.{Acted}
 use Rattle.tau_desk.specs.declared.work.Acted.TheVariants as acted
 use Rattle.tau_rule.specs.declared.part.Part.TheVariants as part
@@ -207,3 +208,49 @@ pub record RoomOn (s s' : PlainWorkerSeat) : Type 0 where
 abbrev pub FirstFreedBy : Plain → Sat → PlainTxn → Sat → PlainTxn → Option Committed → Type 0
 FirstFreedBy origin m t m' t' None = (m' ≡ m) × (t' ≡ t)
 FirstFreedBy origin m t m' t' (Some kept) = (m' ≡ (told_joined origin.load m.0 t' kept, [])) × HasFirstFreed origin.load.procs t t' kept
+
+-- and after the end of one that only read and held no key
+abbrev pub EndedReadingBy : Plain → Sat → PlainTxn → Sat → PlainTxn → Committed → ℕ × ℕ → Type 0
+EndedReadingBy origin m t m' t' kept spare = (m' ≡ (told_read_only origin.load m.0 t' kept spare, [])) × HasEndedReading origin.load.procs t t' kept
+
+-- after a call got the place of its record, above this anchor; out of memory, nothing has changed
+abbrev pub CommittedBy : Plain → Sat → PlainTxn → Sat → PlainTxn → ℕ × List ℕ → Result (ℕ × Committed) NoMemory → Type 0
+CommittedBy origin m t m' t' anchor (Ok r) = (m' ≡ (told_joined origin.load m.0 t' r.1, [])) × HasCommitted origin.load.procs t t' anchor.0 anchor.1 r.0 r.1
+CommittedBy origin m t m' t' anchor (Err e) = (m' ≡ m) × (t' ≡ t)
+
+-- the call in hand has joined the committed ones, of which this is kept, and the seat knows what it shows then
+pub record JoinsOn (l : Load) (s s' : PlainWorkerSeat) (t : PlainTxn) (start : ℕ) (kept : Committed) : Type 0 where
+  pub me : s'.me ≡ (told_joined l s.me.0 t kept, [])
+  pub work : s'.work ≡ record s.work { txn = t; start = start; committed = s.work.committed ++ kept ∷ []; committed_room = s'.work.committed_room; mark = None }
+  pub others : s' ≡ record s { me = s'.me; work = s'.work }
+
+-- what comes of a commit; where there is no memory, or no room for a record in the outbox, nothing has changed
+abbrev pub CommitsOn : Load → PlainWorkerSeat → PlainWorkerSeat → Acted → Type 0
+CommitsOn l s s' acted.Went = (t : PlainTxn) × (start : ℕ) × (kept : Committed) × HasCommitted l.procs s.work.txn t s.read.0 s.read.1 start kept × JoinsOn l s s' t start kept
+CommitsOn l s s' acted.Busy = ⊥
+CommitsOn l s s' acted.Other = s' ≡ s
+CommitsOn l s s' acted.NoMemory = s' ≡ s
+
+-- of the first key that a call frees which only read
+abbrev pub FirstFreesOn : Load → PlainWorkerSeat → PlainWorkerSeat → Acted → Type 0
+FirstFreesOn l s s' acted.Went = (t : PlainTxn) × (kept : Committed) × HasFirstFreed l.procs s.work.txn t kept × JoinsOn l s s' t s.work.start kept
+FirstFreesOn l s s' acted.Busy = ⊥
+FirstFreesOn l s s' acted.Other = s' ≡ s
+FirstFreesOn l s s' acted.NoMemory = ⊥
+
+-- the call, which only read and held no key, has joined the committed ones, waits in the outbox for its acknowledgement and is in hand no more; room was made there
+pub record EndsReadingOn (l : Load) (s s' : PlainWorkerSeat) : Type 0 where
+  pub txn : PlainTxn
+  pub kept : Committed
+  pub ended : HasEndedReading l.procs s.work.txn txn kept
+  pub spare : ℕ × ℕ
+  pub records : s.work.spare.0 ≤ spare.0
+  pub calls : s.work.spare.1 ≤ spare.1 + 1
+  pub me : s'.me ≡ (told_read_only l s.me.0 txn kept spare, [])
+  pub work : s'.work ≡ record s.work { txn = txn; committed = s.work.committed ++ kept ∷ []; committed_room = s'.work.committed_room; spare = spare; mark = None }
+  pub others : s' ≡ record s { me = s'.me; work = s'.work }
+
+-- as it was before the call in hand was begun, where that has made no event
+abbrev pub undone : PlainWork → Option Mark → PlainWork
+undone o None = o
+undone o (Some k) = unbegun o k

@@ -29,5 +29,6 @@ pub use name::{PartName, Role};
 pub use room::Room;
 pub use seat::{ClerkSeat, Head, ManagerSeat, Stock, Work, WorkerSeat};
 pub use work::{
-    Acted, commit, done, first_free, free, lock, make_room, post, quit, take_outbox, take_shard,
+    Acted, commit, done, done_reading, first_free, free, lock, make_room, post, quit, take_outbox,
+    take_shard,
 };

@@ -1,13 +1,15 @@
 //! A worker on its seat.
-ghost use Rattle.std.specs.Prelude.{◌≡◌, ◌≤◌, ◌<◌, ◌+◌, ◌^◌, ℕ, None, Some, IfOk, IsTrue, OnOk, true, is_some};
+ghost use Rattle.std.specs.Prelude.{◌≡◌, ◌≤◌, ◌<◌, ◌+◌, ◌-◌, ◌^◌, ◌++◌, ◌∷◌, [], ℕ, None, Some, IfOk, IsTrue, OnOk, true, false, is_some, vec_len, vec_capacity};
 ghost use Rattle.tau_proc.specs.Takes.{takes};
 ghost use Rattle.tau_machine.specs.Worker.{fresh};
 ghost use Rattle.tau_core.specs.Begins.{next_behind, number_by};
 ghost use Rattle.tau_core.specs.Opens.{Opened};
-ghost use Rattle.tau_desk.specs.Shares.{FitsWork};
+ghost use Rattle.tau_core.specs.State.{Plain};
+ghost use Rattle.tau_rule.specs.Role.{Role as RoleOf};
+ghost use Rattle.tau_desk.specs.Shares.{FitsWork, IsWork};
 ghost use Rattle.tau_txn.specs.Txn.{RunsBy, hand_in, has_joined};
 ghost use Rattle.tau_txn.specs.Next.{kind_of, next_action};
-ghost use Rattle.tau_desk.specs.Works.{BeginsIn, EndsOn, FreesOn, Leaves, LocksOn, PostsOn, QuitsOn, RoomMade, RoomOn};
+ghost use Rattle.tau_desk.specs.Works.{BeginsIn, CommitsOn, EndsOn, EndsReadingOn, FirstFreesOn, FreesOn, Leaves, LocksOn, PostsOn, QuitsOn, RoomMade, RoomOn, undone};
 
 use crate::desk::Desk;
 use crate::mark::Mark;
@@ -16,6 +18,7 @@ use crate::work;
 use crate::work::Acted;
 use std::sync::Wait;
 use tau_base::{Call, NoMemory};
+use tau_model::Committed;
 use tau_proc::Procs;
 use tau_txn::{Action, ActionKind};
 
@@ -110,6 +113,63 @@ impl WorkerSeat {
         }
     }
 
+    /// The call in hand, which only read and has not joined the committed ones, frees its lowest key; it joins them by that.
+    pub fn first_free<R: Wait>(&mut self, rt: &R, desk: &Desk) -> Acted
+        requires own { self.old.table_id ≡ desk.now.table.shared.table_id }
+        requires opened { self.old.me.0.opened ≡ Some desk.now.table.shared.key.value }
+        requires unjoined { has_joined self.old.work.txn ≡ false }
+        ensures { FirstFreesOn desk.now.table.shared.key.value.load self.old self.new result }
+    {
+        if !self.work.txn.in_hand() {
+            return Acted::Other;
+        }
+        match work::first_free(
+            rt,
+            desk,
+            &mut self.seat,
+            self.worker,
+            &desk.load.procs,
+            &mut self.work.txn,
+        ) {
+            Some(kept) => {
+                keep(&mut self.work.committed, kept);
+                self.work.mark = None;
+                Acted::Went
+            }
+            None => Acted::Other,
+        }
+    }
+
+    /// The record of the call in hand, which has all its keys and writes, is made above the anchor that the seat read last, and gets its place; the call has joined the committed ones. NoMemory also where the outbox has no room for a record, which `make_room` makes. After that nothing has changed.
+    pub fn commit(&mut self, desk: &Desk) -> Acted
+        requires own { self.old.table_id ≡ desk.now.table.shared.table_id }
+        requires opened { self.old.me.0.opened ≡ Some desk.now.table.shared.key.value }
+        ensures { CommitsOn desk.now.table.shared.key.value.load self.old self.new result }
+    {
+        let ActionKind::Commit = self.work.txn.kind() else {
+            return Acted::Other;
+        };
+        if self.work.room.records == 0 {
+            return Acted::NoMemory;
+        }
+        match work::commit(
+            desk,
+            &mut self.seat,
+            self.worker,
+            self.anchor,
+            &self.anchor_lv,
+            &mut self.work.txn,
+        ) {
+            Ok((start, kept)) => {
+                keep(&mut self.work.committed, kept);
+                self.work.start = start;
+                self.work.mark = None;
+                Acted::Went
+            }
+            Err(_) => Acted::NoMemory,
+        }
+    }
+
     /// The record of the call in hand, which has its place, is posted.
     pub fn post<R: Wait>(&mut self, rt: &R, desk: &Desk)
         requires own { self.old.table_id ≡ desk.now.table.shared.table_id }
@@ -147,6 +207,41 @@ impl WorkerSeat {
             &mut self.work.room,
         );
         self.work.mark = None;
+    }
+
+    /// The call in hand, which only read, holds no key and has not joined the committed ones, joins them, waits for its acknowledgement, and is in hand no more. Where room for the next call is missing, it is made.
+    pub fn done_reading<R: Wait>(&mut self, rt: &R, desk: &Desk)
+        requires own { self.old.table_id ≡ desk.now.table.shared.table_id }
+        requires opened { self.old.me.0.opened ≡ Some desk.now.table.shared.key.value }
+        requires unjoined { has_joined self.old.work.txn ≡ false }
+        requires next { kind_of (next_action self.old.work.txn) ≡ ActionKind.Done }
+        ensures { EndsReadingOn desk.now.table.shared.key.value.load self.old self.new }
+    {
+        let kept = work::done_reading(
+            rt,
+            desk,
+            &mut self.seat,
+            self.worker,
+            &desk.load.procs,
+            &mut self.work.txn,
+            &mut self.work.room,
+        );
+        keep(&mut self.work.committed, kept);
+        self.work.mark = None;
+    }
+
+    /// The call in hand, where it has made no event, is in hand no more, and comes next again.
+    pub fn undo(&mut self)
+        ensures { self.new ≡ record self.old { work = undone self.old.work self.old.work.mark } }
+    {
+        undo(&mut self.work);
+    }
+
+    /// Whether the call in hand has joined the committed ones.
+    pub fn has_joined(&self) -> bool
+        ensures { result ≡ has_joined self.now.work.txn }
+    {
+        self.work.txn.has_joined()
     }
 
     /// Where room for the next call is missing in the outbox, it is made; returns whether there is room now.
@@ -248,6 +343,29 @@ fn start(work: &mut Work, procs: &Procs, number: u64, call: &Call, workers: usiz
         work.next += workers;
     }
     work.again = None;
+}
+
+/// What is kept of a call that has joined the committed ones stands last. It takes no memory.
+fn keep(committed: &mut Vec<Committed>, kept: Committed)
+    requires { 1 ≤ vec_capacity committed.old - vec_len committed.old }
+    ensures items { committed.new.items ≡ committed.old.items ++ kept ∷ [] }
+    ensures room { vec_capacity committed.old - vec_len committed.old ≤ (vec_capacity committed.new - vec_len committed.new) + 1 }
+{
+    let _ = committed.push(kept);
+}
+
+/// The call in hand, where it has made no event, goes back among those that wait.
+fn undo(work: &mut Work)
+    requires shows { (p : Plain) × (w : ℕ) × (r : RoleOf) × IsWork p.load w r work.old }
+    ensures { work.new ≡ undone work.old work.old.mark }
+{
+    let Some(mark) = work.mark else {
+        return;
+    };
+    work.next = mark.next;
+    work.again = mark.again;
+    work.txn.give_up();
+    work.mark = None;
 }
 
 /// A call that is left over goes to the others that are.

@@ -1,13 +1,47 @@
-use Rattle.std.proofs.Common.{sym, ap, subst}
-use Rattle.tau_txn.specs.Txn.{PlainTxn}
+use Rattle.std.proofs.Common.{◌≡◌, ℕ, false, List, subst, ◌∙◌, arith}
+use Rattle.tau_proc.specs.declared.proc.Proc.{Proc}
+use Rattle.tau_record.specs.Format.{One}
+use Rattle.tau_record.specs.Record.{base_of, Spells}
+use Rattle.tau_txn.specs.declared.action.Action.{Action}
+use Rattle.tau_txn.specs.Next.{Commits, Means, act_at, next_action}
+use Rattle.tau_txn.specs.Record.{entry_of}
+use Rattle.tau_txn.specs.Txn.{bytes_in}
 use Rattle.tau_core.specs.State.{Plain}
-use Rattle.tau_rule.specs.Steps.{Sat, IsAfter}
-use Rattle.tau_rule.proofs.Placing.{placed-after}
+use Rattle.tau_core.proofs.ActionKinds.{commit-kind}
+use Rattle.tau_rule.specs.Places.{IsToPlace}
+use Rattle.tau_desk.proofs.Committing.{has-committed, placed-joined, raised_by, to-place}
 use Rattle.tau_desk.proofs.work.commit.Goals as goal
 
-pub returns-clause-after : goal.returns-clause-after
-returns-clause-after c =
+pub place-requires-clause-call : goal.place-requires-clause-call
+place-requires-clause-call c =
     let origin : Plain = c.args.desk.now.table.shared.key.value in
-    subst (λ (m : Sat). IsAfter origin c.args.worker m c.placed.new.self) (sym c.place-start.ensures.placed)
-    (placed-after origin c.args.worker c.args.seat.now.me c.args.txn.now c.placed.new.self c.place-start.result c.requires.call (ap (λ (t : PlainTxn). t.worker) c.placed.ensures.same) (ap (λ (t : PlainTxn). t.width) c.placed.ensures.same)
-    (c.placed.ensures.runs origin.load.procs c.requires.runs) (λ h is. c.placed.ensures.placed origin.load.procs h c.requires.runs is))
+    let procs : List Proc = origin.load.procs in
+    let r = c.requires.ready in
+    let next = commit-kind (next_action c.args.txn.now) c.requires.next in
+    let q : Commits procs c.args.txn.now next.0 = subst (λ (a : Action). Means procs c.args.txn.now a) next.1 (c.kind.ensures.means procs r.runs) in
+    let raised = c.in-Ok.ensures.raised procs q.hand q.is in
+    let streams = c.args.desk.now.streams_are in
+    to-place origin c.args.worker c.args.seat.now.me c.args.txn.now c.prepare.new.self next.0 c.args.number c.args.anchor.now r q c.requires.read c.requires.wide (let a = streams.0 in let b = streams.2 in omega (arith, a, b)) c.in-Ok.ensures.same raised
+    c.in-Ok.ensures.anchor c.in-Ok.ensures.sized (λ vectors e. c.in-Ok.ensures.bytes procs (raised_by q.hand c.args.anchor.now) 0 vectors r.runs raised e)
+
+pub place-requires-clause-runs : goal.place-requires-clause-runs
+place-requires-clause-runs c = c.prepare.ensures.runs c.args.desk.now.table.shared.key.value.load.procs c.requires.ready.runs
+
+pub returns-in-Ok-clause-step : goal.returns-in-Ok-clause-step
+returns-in-Ok-clause-step c =
+    let origin : Plain = c.args.desk.now.table.shared.key.value in
+    let procs : List Proc = origin.load.procs in
+    let r = c.requires.ready in
+    let next = commit-kind (next_action c.args.txn.now) c.requires.next in
+    let q : Commits procs c.args.txn.now next.0 = subst (λ (a : Action). Means procs c.args.txn.now a) next.1 (c.kind.ensures.means procs r.runs) in
+    let raised = c.in-Ok.ensures.raised procs q.hand q.is in
+    let streams = c.args.desk.now.streams_are in
+    let spelled : (start : ℕ) (vectors : List (List ℕ)) → base_of vectors c.args.number ≡ c.args.anchor.now →
+    Spells One c.args.txn.now.width vectors false (entry_of c.args.txn.now.mode (act_at procs c.prepare.new.self start (raised_by q.hand c.args.anchor.now))) (bytes_in c.prepare.new.self) =
+    (λ start vectors e. c.in-Ok.ensures.bytes procs (raised_by q.hand c.args.anchor.now) start vectors r.runs raised e) in
+    let to : IsToPlace origin c.args.worker c.args.seat.now.me c.prepare.new.self =
+    to-place origin c.args.worker c.args.seat.now.me c.args.txn.now c.prepare.new.self next.0 c.args.number c.args.anchor.now r q c.requires.read c.requires.wide (let a = streams.0 in let b = streams.2 in omega (arith, a, b)) c.in-Ok.ensures.same raised
+    c.in-Ok.ensures.anchor c.in-Ok.ensures.sized (spelled 0) in (
+      c.place.ensures.step ∙ placed-joined origin c.args.worker c.args.seat.now.me c.prepare.new.self c.place.new.txn c.place.result.0 c.place.result.1 to c.place.ensures.call,
+      has-committed procs c.args.txn.now c.prepare.new.self c.place.new.txn next.0 c.args.number c.args.anchor.now c.place.result.0 c.place.result.1 q c.in-Ok.ensures.same raised c.in-Ok.ensures.anchor c.place.ensures.small (spelled c.place.result.0) c.place.ensures.call,
+    )

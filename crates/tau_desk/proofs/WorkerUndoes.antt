@@ -1,0 +1,102 @@
+-- A call that was begun and has made no event goes back.
+use Rattle.std.proofs.Common.{◌≡◌, ℕ, true, false, List, [], ◌∷◌, refl, sym, ap, ◌∙◌, Option}
+use Rattle.std.specs.Prelude.{Some, None, is_some}
+use Rattle.tau_proc.specs.declared.proc.Proc.{Proc}
+use Rattle.tau_model.specs.History.{Numbered}
+use Rattle.tau_machine.specs.Hands.{Hand}
+use Rattle.tau_machine.specs.Worker.{Worker, begun, begun_by, fresh}
+use Rattle.tau_txn.specs.declared.action.Action.TheVariants as action
+use Rattle.tau_txn.specs.declared.standing.Standing.{Standing}
+use Rattle.tau_txn.specs.declared.standing.Standing.TheVariants as standing
+use Rattle.tau_txn.specs.Hand.{PlainHand}
+use Rattle.tau_txn.specs.Read.{hand_of}
+use Rattle.tau_txn.specs.Txn.{PlainTxn, hand_in, has_joined, held_by, held_in, joined_of, shown, shown_of}
+use Rattle.tau_core.specs.declared.state.Load.{Load}
+use Rattle.tau_rule.specs.Steps.{Sat}
+use Rattle.tau_desk.specs.declared.mark.Mark.{Mark}
+use Rattle.tau_desk.specs.Seats.{IsWorkerSeat}
+use Rattle.tau_desk.specs.Shares.{FitsWork, PlainWork, ShowsWorker}
+use Rattle.tau_desk.specs.Works.{undone}
+use Rattle.tau_desk.proofs.GoingOn.{joined-is}
+
+-- the keys that are shown are those of the core's hand
+pub shown-held : (procs : List Proc) (t : PlainTxn) (h : Hand) → hand_in procs t ≡ Some h → held_in t ≡ h.held
+shown-held procs t h e = by_case t.hand e
+  where
+    at : (st : Standing) (x : PlainHand) → shown procs t.worker st x ≡ Some h → x.held ≡ h.held
+    at standing.Running x f = (let g : hand_of procs t.worker x ≡ h = cc in ap (λ (y : Hand). y.held) g)
+    at standing.Quitting x f = (let g : hand_of procs t.worker x ≡ h = cc in ap (λ (y : Hand). y.held) g)
+    at standing.Placed x f = (let g : hand_of procs t.worker x ≡ h = cc in ap (λ (y : Hand). y.held) g)
+    at standing.Freeing x f = (let g : hand_of procs t.worker x ≡ h = cc in ap (λ (y : Hand). y.held) g)
+    at standing.LeftOver x f = cc
+
+    by_case : (o : Option PlainHand) → shown_of procs t.worker o ≡ Some h → held_by o ≡ h.held
+    by_case None f = cc
+    by_case (Some x) f = at x.standing x f
+
+-- a call that has made no event holds no key, and has not joined the committed ones
+pub marked : (l : Load) (w : ℕ) (wk : Worker) (o : PlainWork) (k : Mark) → FitsWork l w o → ShowsWorker l wk o (Some k) → (held_in o.txn ≡ []) × (has_joined o.txn ≡ false)
+marked l w wk o k f s = by_case wk.waiting refl
+  where
+    rests : wk.hand ≡ None
+    rests = ap (λ (x : Worker). x.hand) s.0
+
+    shows : (begun l.streams wk).hand ≡ hand_in l.procs o.txn
+    shows = ap (λ (x : Worker). x.hand) s.1
+
+    none : (h : Option PlainHand) → is_some h ≡ false → (held_by h ≡ []) × (joined_of h ≡ false)
+    none None e = (refl, refl)
+    none (Some x) e = absurd (let bad : true ≡ false = e in cc)
+
+    by_case : (cs : List Numbered) → wk.waiting ≡ cs → (held_in o.txn ≡ []) × (has_joined o.txn ≡ false)
+    by_case [] e =
+        let gone : None ≡ hand_in l.procs o.txn = sym rests ∙ (λ i. (begun_by l.streams wk (sym rests i) (sym e i)).hand) ∙ shows in
+        none o.txn.hand (f.stays ∙ sym (ap is_some gone))
+    by_case (c ∷ cs) e =
+        let there : hand_in l.procs o.txn ≡ Some (fresh l.streams c 0) = sym shows ∙ (λ i. (begun_by l.streams wk (rests i) (e i)).hand) in
+        (shown-held l.procs o.txn (fresh l.streams c 0) there, joined-is l.procs o.txn (fresh l.streams c 0) there)
+
+pub seat-undone : (m : Sat) (w : ℕ) (o : PlainWork) (read : ℕ × List ℕ) (seen : List ℕ) → IsWorkerSeat m w o read seen → IsWorkerSeat m w (undone o o.mark) read seen
+seat-undone m w o read seen s = by_mark o.mark refl s.work.shows
+  where
+    f : FitsWork s.origin.load w o
+    f = s.work.fits
+
+    by_mark : (k : Option Mark) → o.mark ≡ k → ShowsWorker s.origin.load s.work.worker o k → IsWorkerSeat m w (undone o k) read seen
+    by_mark None e shows = s
+    by_mark (Some k) e shows =
+        let was = f.mark k e in
+        record {
+          origin = s.origin;
+          role = s.role;
+          seat = s.seat;
+          work = record {
+            worker = s.work.worker;
+            share = s.work.share;
+            there = s.work.there;
+            shows = shows.0;
+            fits = record {
+              worker = f.worker;
+              width = f.width;
+              mode = f.mode;
+              runs = tt;
+              stays = refl;
+              call = λ h g. absurd (let bad : None ≡ Some h = g in cc);
+              low = was.low;
+              high = was.high;
+              again = was.again;
+              mark = λ n g. absurd (let bad : None ≡ Some n = g in cc);
+              left = f.left;
+              leaves = λ g. absurd (let bad : false ≡ true = g in cc);
+              ends = λ g. absurd (let bad : false ≡ true = g in cc);
+              posts = λ g. absurd (let bad : action.Nothing ≡ action.Post = g in cc);
+              commits = λ g j. absurd (let bad : false ≡ true = g in cc);
+            };
+            spare = s.work.spare;
+          };
+          read_is = s.read_is;
+          read_wide = s.read_wide;
+          seen_is = s.seen_is;
+          seen_wide = s.seen_wide;
+          posts = λ g. absurd (let bad : action.Nothing ≡ action.Post = g in cc);
+        }

@@ -1,0 +1,124 @@
+use Rattle.std.proofs.Common.{◌≡◌, ◌≤◌, ℕ, Bool, List, [], ◌∷◌, ◌++◌, Some, None, refl, subst, sym, ap, ◌∙◌, arith}
+use Rattle.tau_ack.specs.Pending.{PlainPending}
+use Rattle.tau_proc.specs.declared.proc.Proc.{Proc}
+use Rattle.tau_machine.specs.Events.{DoneReading}
+use Rattle.tau_model.specs.declared.committed.Committed.{Committed}
+use Rattle.tau_machine.specs.Hands.{committed_of, lv_of}
+use Rattle.tau_outbox.specs.Pieces.{PlainOutbox}
+use Rattle.tau_txn.specs.declared.action.Action.{Action}
+use Rattle.tau_txn.specs.Next.{Finishes, FreesBy, Means, Reads, next_action}
+use Rattle.tau_txn.specs.Txn.{RunsBy}
+use Rattle.tau_core.specs.State.{Plain}
+use Rattle.tau_rule.specs.Boxes.{BoxOf}
+use Rattle.tau_rule.specs.Boxes.{StepsBox}
+use Rattle.tau_rule.specs.Knows.{Knows}
+use Rattle.tau_desk.specs.Works.{joined_worker, told_read_only}
+use Rattle.tau_desk.proofs.Finishing.{box-rooms, done-is}
+use Rattle.tau_desk.proofs.WorkerReading.{number-shown, reading-dones}
+use Rattle.tau_desk.proofs.work.done_reading.Goals as goal
+
+pub put-requires : goal.put-requires
+put-requires g c =
+    let origin : Plain = c.args.desk.now.table.shared.key.value in
+    let r = c.requires.ready in
+    let held = c.take_outbox-outbox.ensures.held in
+    let b : BoxOf = (c.take_outbox-outbox.result.0.value, c.take_outbox-outbox.result.1.value) in
+    let rooms = box-rooms origin c.args.worker c.args.seat.now.me c.args.txn.now r held.0 b c.args.room.now.records c.args.room.now.calls held.3 held.2 c.requires.room.0 in
+    let low = c.requires.room.1 in
+    subst (λ (o : PlainPending). 1 ≤ o.room) (sym c.deref_mut.ensures.value) (omega (arith, rooms.1, low))
+
+pub more_records-room-requires : goal.more_records-room-requires
+more_records-room-requires g c =
+    let origin : Plain = c.args.desk.now.table.shared.key.value in
+    let r = c.requires.ready in
+    let held = c.take_outbox-outbox.ensures.held in
+    let b : BoxOf = (c.take_outbox-outbox.result.0.value, c.take_outbox-outbox.result.1.value) in
+    let rooms = box-rooms origin c.args.worker c.args.seat.now.me c.args.txn.now r held.0 b c.args.room.now.records c.args.room.now.calls held.3 held.2 c.requires.room.0 in
+    let low = c.requires.room.1 in
+    subst (λ (o : PlainOutbox). c.args.room.now.records ≤ o.room) (sym c.deref_mut-2.ensures.value) rooms.0
+
+pub more_calls-room-requires : goal.more_calls-room-requires
+more_calls-room-requires g c =
+    let origin : Plain = c.args.desk.now.table.shared.key.value in
+    let r = c.requires.ready in
+    let held = c.take_outbox-outbox.ensures.held in
+    let b : BoxOf = (c.take_outbox-outbox.result.0.value, c.take_outbox-outbox.result.1.value) in
+    let rooms = box-rooms origin c.args.worker c.args.seat.now.me c.args.txn.now r held.0 b c.args.room.now.records c.args.room.now.calls held.3 held.2 c.requires.room.0 in
+    let low = c.requires.room.1 in
+    let before = ap (λ (o : PlainPending). o.room) c.deref_mut.ensures.value in
+    let after = ap (λ (o : PlainPending). o.room) c.deref_mut-3.ensures.value in
+    let put = c.put.ensures.room in
+    omega (arith, rooms.1, low, before, after, put)
+
+pub unreachable-requires-in_default-committed : goal.unreachable-requires-in_default-committed
+unreachable-requires-in_default-committed g c =
+    let origin : Plain = c.args.desk.now.table.shared.key.value in
+    let r = c.requires.ready in
+    let next = done-is (next_action c.args.txn.now) c.requires.next in
+    let means : Finishes origin.load.procs c.args.txn.now next.0 next.1 = subst (λ (a : Action). Means origin.load.procs c.args.txn.now a) next.2 (c.kind.ensures.means origin.load.procs r.runs) in
+    let reads : Reads origin.load.procs c.args.txn.now.worker means.hand means.act = subst (λ (j : Bool). FreesBy origin.load.procs j c.args.txn.now.worker means.hand means.act) c.requires.unjoined means.act_is in
+    c.in_default-committed.not-Some (committed_of means.act) (c.committed.ensures.reading origin.load.procs means.hand means.act r.runs means.is reads)
+
+pub give_read_only-requires-clause-event : goal.give_read_only-requires-clause-event
+give_read_only-requires-clause-event g c =
+    let origin : Plain = c.args.desk.now.table.shared.key.value in
+    let r = c.requires.ready in
+    let held = c.take_outbox-outbox.ensures.held in
+    let next = done-is (next_action c.args.txn.now) c.requires.next in
+    let means : Finishes origin.load.procs c.args.txn.now next.0 next.1 = subst (λ (a : Action). Means origin.load.procs c.args.txn.now a) next.2 (c.kind.ensures.means origin.load.procs r.runs) in
+    let empty : c.went.new.self.hand ≡ None = c.went.ensures.done next.0 next.1 next.2 in
+    let reads : Reads origin.load.procs c.args.txn.now.worker means.hand means.act = subst (λ (j : Bool). FreesBy origin.load.procs j c.args.txn.now.worker means.hand means.act) c.requires.unjoined means.act_is in
+    let kept : c.in-Some.kept ≡ committed_of means.act =
+    (let e : Some c.in-Some.kept ≡ Some (committed_of means.act) = sym c.in-Some.is ∙ c.committed.ensures.reading origin.load.procs means.hand means.act r.runs means.is reads in cc) in
+    let b : BoxOf = (c.take_outbox-outbox.result.0.value, c.take_outbox-outbox.result.1.value) in
+    let b' : BoxOf = (c.more_records-room.new.outbox, c.more_calls-room.new.pending) in
+    let number : c.number_of-number.result ≡ means.act.call.call.number =
+    (let e : Some c.number_of-number.result ≡ Some means.act.call.call.number = c.number_of-number.ensures ∙ number-shown origin.load.procs c.args.txn.now means.hand means.act means.is reads in cc) in
+    let lv : c.lv-lv.result ≡ lv_of means.act = c.lv-lv.ensures.frees origin.load.procs means.hand means.act r.runs means.is means.act_is in
+    let v : Knows = c.take_outbox-outbox.new.seat.me.0 in (
+      b',
+      refl,
+      record {
+        taken = held.0;
+        role = r.role;
+        worker = r.worker;
+        before = b;
+        held = ap (λ m. m.0.hand) held.1;
+        carried = ap (λ m. m.1) held.1;
+        roles = ap (λ m. m.0.roles) held.1 ∙ r.seat.roles;
+        share = r.share;
+        was = held.2;
+        there = r.there;
+        records = c.more_records-room.ensures.there;
+        calls = c.more_calls-room.ensures.there;
+        steps = subst (λ (x : Committed). StepsBox origin (DoneReading c.args.worker) v c.args.worker r.worker (joined_worker origin.load r.worker c.went.new.self x) b b') (sym kept)
+            (reading-dones origin v c.args.worker r.worker c.went.new.self means.hand means.act b b' c.number_of-number.result c.lv-lv.result (r.agrees ∙ means.is) (subst (λ (n : ℕ). Reads origin.load.procs n means.hand means.act) r.number reads) means.held empty
+            (c.more_records-room.ensures.pieces ∙ ap (λ (o : PlainOutbox). o.pieces) c.deref_mut-2.ensures.value)
+            (c.more_calls-room.ensures.calls ∙ ap (λ (o : PlainPending). o.calls) c.deref_mut-3.ensures.value ∙ c.put.ensures.calls ∙ ap (λ (o : PlainPending). o.calls ++ record { number = c.number_of-number.result; lv = c.lv-lv.result } ∷ []) c.deref_mut.ensures.value)
+            (λ i. record { number = number i; lv = lv i }));
+      },
+    )
+
+pub returns-clause-step : goal.returns-clause-step
+returns-clause-step g c =
+    let origin : Plain = c.args.desk.now.table.shared.key.value in
+    let r = c.requires.ready in
+    let held = c.take_outbox-outbox.ensures.held in
+    let next = done-is (next_action c.args.txn.now) c.requires.next in
+    let means : Finishes origin.load.procs c.args.txn.now next.0 next.1 = subst (λ (a : Action). Means origin.load.procs c.args.txn.now a) next.2 (c.kind.ensures.means origin.load.procs r.runs) in
+    let empty : c.went.new.self.hand ≡ None = c.went.ensures.done next.0 next.1 next.2 in
+    let reads : Reads origin.load.procs c.args.txn.now.worker means.hand means.act = subst (λ (j : Bool). FreesBy origin.load.procs j c.args.txn.now.worker means.hand means.act) c.requires.unjoined means.act_is in
+    let kept : c.in-Some.kept ≡ committed_of means.act =
+    (let e : Some c.in-Some.kept ≡ Some (committed_of means.act) = sym c.in-Some.is ∙ c.committed.ensures.reading origin.load.procs means.hand means.act r.runs means.is reads in cc) in
+    let spare : ℕ × ℕ = (c.more_records-room.result, c.more_calls-room.result) in (
+      c.give_read_only.ensures.given ∙ ap (λ m. (told_read_only origin.load m.0 c.went.new.self c.in-Some.kept spare, [])) held.1,
+      record {
+        reply = next.0;
+        lv = next.1;
+        next = next.2;
+        ends = means;
+        kept_is = kept;
+        gone = empty;
+        worker = record { runs = subst (λ (p : List Proc). RunsBy p c.went.new.self) c.requires.procs c.went.ensures.runs; same = c.went.ensures.same };
+      },
+    )
