@@ -125,6 +125,10 @@ leaves_of (Some h) o o' = LeavesBy h.standing h o o'
 abbrev pub Leaves : PlainWork → PlainWork → Type 0
 Leaves o o' = leaves_of o.txn.hand o o'
 
+-- the seat is the same, of the same desk and the same worker
+abbrev pub IsSameSeat : PlainWorkerSeat → PlainWorkerSeat → Type 0
+IsSameSeat s s' = (s'.table_id ≡ s.table_id) × (s'.id ≡ s.id) × (s'.worker ≡ s.worker) × (s'.me.0.opened ≡ s.me.0.opened)
+
 -- the call in hand went on, and the seat knows what it shows then
 pub record GoesOn (l : Load) (s s' : PlainWorkerSeat) (t : PlainTxn) : Type 0 where
   pub me : s'.me ≡ (told l s.me.0 t, [])

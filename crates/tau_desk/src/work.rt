@@ -390,7 +390,7 @@ pub fn make_room<R: Wait>(rt: &R, desk: &Desk, seat: &mut Seat, worker: u8, room
 }
 
 /// Whether there is room for a call.
-fn is_roomy(room: Room) -> bool
+pub(crate) fn is_roomy(room: Room) -> bool
     ensures { result ≡ true → (1 ≤ room.records) × (1 ≤ room.calls) }
 {
     if room.records == 0 {

@@ -9,7 +9,7 @@ ghost use Rattle.tau_rule.specs.Role.{Role as RoleOf};
 ghost use Rattle.tau_desk.specs.Shares.{FitsWork, IsWork};
 ghost use Rattle.tau_txn.specs.Txn.{RunsBy, hand_in, has_joined};
 ghost use Rattle.tau_txn.specs.Next.{kind_of, next_action};
-ghost use Rattle.tau_desk.specs.Works.{BeginsIn, CommitsOn, EndsOn, EndsReadingOn, FirstFreesOn, FreesOn, Leaves, LocksOn, PostsOn, QuitsOn, RoomMade, RoomOn, undone};
+ghost use Rattle.tau_desk.specs.Works.{BeginsIn, CommitsOn, EndsOn, EndsReadingOn, FirstFreesOn, FreesOn, IsSameSeat, Leaves, LocksOn, PostsOn, QuitsOn, RoomMade, RoomOn, undone};
 
 use crate::desk::Desk;
 use crate::mark::Mark;
@@ -27,7 +27,8 @@ impl WorkerSeat {
     pub fn lock<R: Wait>(&mut self, rt: &R, desk: &Desk) -> Acted
         requires own { self.old.table_id ≡ desk.now.table.shared.table_id }
         requires opened { self.old.me.0.opened ≡ Some desk.now.table.shared.key.value }
-        ensures { LocksOn desk.now.table.shared.key.value.load self.old self.new result }
+        ensures step { LocksOn desk.now.table.shared.key.value.load self.old self.new result }
+        ensures seat { IsSameSeat self.old self.new }
     {
         if !self.work.txn.in_hand() {
             return Acted::Other;
@@ -59,7 +60,8 @@ impl WorkerSeat {
     pub fn quit<R: Wait>(&mut self, rt: &R, desk: &Desk) -> Acted
         requires own { self.old.table_id ≡ desk.now.table.shared.table_id }
         requires opened { self.old.me.0.opened ≡ Some desk.now.table.shared.key.value }
-        ensures { QuitsOn desk.now.table.shared.key.value.load self.old self.new result }
+        ensures step { QuitsOn desk.now.table.shared.key.value.load self.old self.new result }
+        ensures seat { IsSameSeat self.old self.new }
     {
         if !self.work.txn.in_hand() {
             return Acted::Other;
@@ -89,7 +91,8 @@ impl WorkerSeat {
         requires own { self.old.table_id ≡ desk.now.table.shared.table_id }
         requires opened { self.old.me.0.opened ≡ Some desk.now.table.shared.key.value }
         requires joined { has_joined self.old.work.txn ≡ true }
-        ensures { FreesOn desk.now.table.shared.key.value.load self.old self.new result }
+        ensures step { FreesOn desk.now.table.shared.key.value.load self.old self.new result }
+        ensures seat { IsSameSeat self.old self.new }
     {
         if !self.work.txn.in_hand() {
             return Acted::Other;
@@ -118,7 +121,8 @@ impl WorkerSeat {
         requires own { self.old.table_id ≡ desk.now.table.shared.table_id }
         requires opened { self.old.me.0.opened ≡ Some desk.now.table.shared.key.value }
         requires unjoined { has_joined self.old.work.txn ≡ false }
-        ensures { FirstFreesOn desk.now.table.shared.key.value.load self.old self.new result }
+        ensures step { FirstFreesOn desk.now.table.shared.key.value.load self.old self.new result }
+        ensures seat { IsSameSeat self.old self.new }
     {
         if !self.work.txn.in_hand() {
             return Acted::Other;
@@ -144,7 +148,8 @@ impl WorkerSeat {
     pub fn commit(&mut self, desk: &Desk) -> Acted
         requires own { self.old.table_id ≡ desk.now.table.shared.table_id }
         requires opened { self.old.me.0.opened ≡ Some desk.now.table.shared.key.value }
-        ensures { CommitsOn desk.now.table.shared.key.value.load self.old self.new result }
+        ensures step { CommitsOn desk.now.table.shared.key.value.load self.old self.new result }
+        ensures seat { IsSameSeat self.old self.new }
     {
         let ActionKind::Commit = self.work.txn.kind() else {
             return Acted::Other;
@@ -175,7 +180,8 @@ impl WorkerSeat {
         requires own { self.old.table_id ≡ desk.now.table.shared.table_id }
         requires opened { self.old.me.0.opened ≡ Some desk.now.table.shared.key.value }
         requires next { next_action self.old.work.txn ≡ Action.Post }
-        ensures { PostsOn desk.now.table.shared.key.value.load self.old self.new }
+        ensures step { PostsOn desk.now.table.shared.key.value.load self.old self.new }
+        ensures seat { IsSameSeat self.old self.new }
     {
         work::post(
             rt,
@@ -195,7 +201,8 @@ impl WorkerSeat {
         requires opened { self.old.me.0.opened ≡ Some desk.now.table.shared.key.value }
         requires joined { has_joined self.old.work.txn ≡ true }
         requires next { kind_of (next_action self.old.work.txn) ≡ ActionKind.Done }
-        ensures { EndsOn desk.now.table.shared.key.value.load self.old self.new }
+        ensures step { EndsOn desk.now.table.shared.key.value.load self.old self.new }
+        ensures seat { IsSameSeat self.old self.new }
     {
         work::done(
             rt,
@@ -215,7 +222,8 @@ impl WorkerSeat {
         requires opened { self.old.me.0.opened ≡ Some desk.now.table.shared.key.value }
         requires unjoined { has_joined self.old.work.txn ≡ false }
         requires next { kind_of (next_action self.old.work.txn) ≡ ActionKind.Done }
-        ensures { EndsReadingOn desk.now.table.shared.key.value.load self.old self.new }
+        ensures step { EndsReadingOn desk.now.table.shared.key.value.load self.old self.new }
+        ensures seat { IsSameSeat self.old self.new }
     {
         let kept = work::done_reading(
             rt,
@@ -242,6 +250,20 @@ impl WorkerSeat {
         ensures { result ≡ has_joined self.now.work.txn }
     {
         self.work.txn.has_joined()
+    }
+
+    /// Whether a call is in hand.
+    pub fn in_hand(&self) -> bool
+        ensures { result ≡ is_some self.now.work.txn.hand }
+    {
+        self.work.txn.in_hand()
+    }
+
+    /// Whether the outbox has room for the next call's record, and for the call while it waits.
+    pub fn is_roomy(&self) -> bool
+        ensures { result ≡ true → (1 ≤ self.now.work.spare.0) × (1 ≤ self.now.work.spare.1) }
+    {
+        work::is_roomy(self.work.room)
     }
 
     /// Where room for the next call is missing in the outbox, it is made; returns whether there is room now.
