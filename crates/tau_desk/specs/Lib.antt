@@ -1,4 +1,5 @@
 pub mod Acts
+pub mod Anchors
 pub mod Close
 pub mod Shares
 pub mod Seats

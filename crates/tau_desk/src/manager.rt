@@ -323,7 +323,12 @@ impl ManagerSeat {
 }
 
 /// Takes a published anchor.
-fn take_anchor<R: Wait>(rt: &R, desk: &Desk, seat: &mut Seat, number: usize) -> (u32, Box<Lv>)
+pub(crate) fn take_anchor<R: Wait>(
+    rt: &R,
+    desk: &Desk,
+    seat: &mut Seat,
+    number: usize,
+) -> (u32, Box<Lv>)
     requires own { seat.old.table_id ≡ desk.now.table.shared.table_id }
     requires role { (u : ℕ) × (x : RoleOf) × (has u seat.old.me.0 ≡ Some x) }
     requires opened { seat.old.me.0.opened ≡ Some desk.now.table.shared.key.value }
