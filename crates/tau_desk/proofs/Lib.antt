@@ -32,3 +32,5 @@ pub mod EndStops
 pub mod Committing
 pub mod WorkerReading
 pub mod WorkerUndoes
+pub mod ResumeLowest
+pub mod ResumeSplits

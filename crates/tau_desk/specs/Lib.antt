@@ -11,3 +11,4 @@ pub mod Manages
 pub mod Laid
 pub mod Taken
 pub mod Ends
+pub mod Resumes

@@ -14,6 +14,7 @@ mod manager_gives;
 mod mark;
 mod name;
 mod opens;
+mod resumes;
 mod room;
 mod seat;
 mod splits;

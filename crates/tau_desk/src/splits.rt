@@ -105,7 +105,7 @@ pub(crate) fn take_work(workers: &mut Vec<Option<Work>>, at: usize) -> Work
     workers[at].take().unwrap()
 }
 
-fn put_work(workers: &mut Vec<Option<Work>>, at: usize, work: Work)
+pub(crate) fn put_work(workers: &mut Vec<Option<Work>>, at: usize, work: Work)
     requires { at < length workers.old.items }
     ensures { workers.new.items ≡ slice_set workers.old.items at (Some work) }
 {
