@@ -2,6 +2,7 @@
 #![tactic(auto)]
 
 mod anchors;
+mod agrees;
 mod clerk;
 mod clerk_gives;
 mod closes;
