@@ -1,5 +1,6 @@
 //! A recovery by one worker, which needs no lock.
-ghost use Rattle.std.specs.Prelude.{◌≡◌, ◌<◌, true, Ok, Some, None, IfOk, OnOk, replicate, slice_get};
+ghost use Rattle.std.specs.Prelude.{◌≡◌, ◌<◌, true, false, Ok, Some, None, IfOk, OnOk, replicate, slice_get};
+ghost use Rattle.tau_pool.specs.Pooled.{NoneReady};
 ghost use Rattle.tau_replay.specs.Sound.{IsSound};
 ghost use Rattle.tau_replay.specs.Way.{left_of};
 
@@ -17,6 +18,7 @@ fn redo_next<G: Gate>(log: &Log, replay: &mut Replay, gate: &G) -> Result<bool, 
     ensures sound { OnOk result (IsSound log.now replay.new) }
     ensures idle { OnOk result (slice_get replay.new.hands.items 0 ≡ Some None) }
     ensures less { result ≡ Ok true → left_of replay.new < left_of replay.old }
+    ensures over { result ≡ Ok false → NoneReady replay.new.pools }
 {
     match start(log, replay, 0) {
         Next::Taken(job) => {
@@ -36,6 +38,7 @@ pub fn run_alone<G: Gate>(log: &Log, mut replay: Replay, gate: &G) -> Result<Rep
     requires sound { IsSound log.now replay }
     requires idle { replay.hands.items ≡ replicate 16 None }
     ensures sound { IfOk result (λ r. IsSound log.now r) }
+    ensures over { IfOk result (λ r. NoneReady r.pools) }
 {
     'records: loop {
         match redo_next(log, &mut replay, gate) {

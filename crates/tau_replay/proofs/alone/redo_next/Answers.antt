@@ -2,6 +2,8 @@
 use Rattle.std.proofs.Common.{◌≡◌, sym, subst}
 use Rattle.std.specs.Prelude.{Some, None, slice_get}
 use Rattle.tau_pool.specs.declared.item.Job.{Job}
+use Rattle.tau_pool.specs.Pooled.{Pooled, NoneReady}
+use Rattle.tau_replay.proofs.Following.{none_ready}
 use Rattle.tau_replay.proofs.Visits.{sound_turn, set_here}
 use Rattle.tau_replay.proofs.alone.redo_next.Goals as goal
 
@@ -21,3 +23,6 @@ returns-in-Ok-clause-idle g c =
 
 pub returns-in-NotYet-clause-sound : goal.returns-in-NotYet-clause-sound
 returns-in-NotYet-clause-sound g c = sound_turn c.args.log.now c.args.replay.now c.start.new.replay 0 c.requires.sound c.start.ensures.going c.start.ensures.followed
+
+pub returns-in-NotYet-clause-over : goal.returns-in-NotYet-clause-over
+returns-in-NotYet-clause-over g c = λ is. let none = c.start.ensures.not_yet c.in-NotYet.is in subst (λ (p : Pooled). NoneReady p) (sym none.1) none.2.none_ready
