@@ -1,6 +1,6 @@
 -- What recovery finds on the disks of a drill.
 use Rattle.std.proofs.Common.{ℕ, zero, suc, ◌<◌, ◌≤◌, ◌≡◌, ◌⊎◌, inl, inr, Bool, true, false, List, [], ◌∷◌, ◌++◌, map, length, refl, sym, ap, subst, ◌∙◌, arith, ◌+◌, ◌-◌, ◌==◌, ◌&&◌, take, length-append}
-use Rattle.std.specs.Prelude.{Some, None, slice_get, Ok}
+use Rattle.std.specs.Prelude.{Some, slice_get, Ok}
 use Rattle.std.specs.List.{filter, list_any}
 use Rattle.tau_base.specs.declared.value.LogMode.TheVariants.{Values}
 use Rattle.tau_base.specs.Database.{Db, empty_db}
@@ -9,7 +9,7 @@ use Rattle.tau_disk.specs.declared.call.Tear.TheVariants.{Old, New, Torn}
 use Rattle.tau_disk.specs.declared.disk.Disk.{Ghosts}
 use Rattle.tau_disk.specs.declared.memory.MemDisk.{MemDisk}
 use Rattle.tau_disk.specs.Memory.{seen_by, state_of, is_short_by, fails_at, keeps_at}
-use Rattle.tau_disk.specs.Replay.{DiskState, opened, leaves, reach, IsImage, is_from, is_stop}
+use Rattle.tau_disk.specs.Replay.{DiskState, leaves, reach, IsImage, is_from, is_stop}
 use Rattle.tau_disk.specs.Tear.{image_by}
 use Rattle.tau_model.specs.History.{Act, Member, exec, updates}
 use Rattle.tau_model.specs.Tables.{IsTablesOf}
@@ -20,10 +20,10 @@ use Rattle.tau_scan.specs.declared.log.Log.{Log}
 use Rattle.tau_scan.specs.Reading.{log_of}
 use Rattle.tau_scan.specs.Taken.{Kept}
 use Rattle.tau_replay.specs.Redone.{IsOrderOf}
-use Rattle.tau_run.specs.Run.{Run, Committed, acts, means, has_ack}
+use Rattle.tau_run.specs.Run.{Committed, acts, means, has_ack}
 use Rattle.tau_run.specs.Facts.{AreFrom, IsRecovered, takes}
 use Rattle.tau_engine.specs.Drill.{AreNewDisks, ArePlanned, IsDrill, IsFound, IsNew, IsRehearsed, StopsAt, images_by, is_of, stop_at, tear_in}
-use Rattle.tau_engine.specs.Facts.{Now, AreUnborn}
+use Rattle.tau_engine.specs.Facts.{Now}
 use Rattle.tau_engine.specs.Recovery.{IsRecoveryOf}
 
 -- ---- disks in memory

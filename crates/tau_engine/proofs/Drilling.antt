@@ -1,12 +1,12 @@
 -- How a drill may end.
-use Rattle.std.proofs.Common.{ℕ, ◌≡◌, List, [], ◌∷◌, refl, sym, ap, ◌∙◌, subst, inl, inr, Bool, true, false, Option}
+use Rattle.std.proofs.Common.{ℕ, ◌≡◌, List, [], ◌∷◌, refl, sym, ap, ◌∙◌, subst, inl, inr, true, false, Option}
 use Rattle.std.specs.Prelude.{Some}
 use Rattle.tau_disk.specs.declared.disk.Disk.{Ghosts}
 use Rattle.tau_disk.specs.declared.memory.MemDisk.{MemDisk}
 use Rattle.tau_model.specs.History.{Member}
 use Rattle.tau_text.specs.declared.load.Workload.{Workload}
 use Rattle.tau_words.specs.declared.command.Command.{Command}
-use Rattle.tau_words.specs.declared.command.Command.TheVariants.{Run, Recover, Drill}
+use Rattle.tau_words.specs.declared.command.Command.TheVariants.{Drill}
 use Rattle.tau_words.specs.declared.command.Ending.{Ending}
 use Rattle.tau_run.specs.Course.{IsSoundLoad}
 use Rattle.tau_engine.specs.Drill.{DrillTells, with_turns}

@@ -16,3 +16,8 @@ pub mod Same
 mod Rehearsed
 mod Drilled
 mod Drilling
+mod BenchNumbers
+mod BenchLines
+mod BenchSound
+mod BenchFound
+mod BenchTops

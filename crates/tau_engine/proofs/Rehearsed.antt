@@ -1,36 +1,35 @@
 -- The run of a drill: on streams that were opened, or one whose opening failed.
-use Rattle.std.proofs.Common.{ℕ, ◌<◌, ◌≤◌, ◌≡◌, ◌⊎◌, inl, inr, Bool, true, false, List, [], ◌∷◌, ◌++◌, map, length, refl, sym, ap, subst, ◌∙◌, Option, arith}
+use Rattle.std.proofs.Common.{ℕ, ◌<◌, ◌≤◌, ◌≡◌, inl, inr, Bool, true, false, List, [], ◌++◌, length, refl, sym, ap, subst, ◌∙◌, Option, arith}
 use Rattle.std.specs.Prelude.{Some, None, slice_get}
 use Rattle.std.proofs.lemmas.List.{append-nil}
+use Rattle.tau_base.specs.declared.value.Key.{Key}
 use Rattle.tau_base.specs.declared.value.LogMode.TheVariants.{Values}
-use Rattle.tau_block.specs.Image.{HasContent}
+use Rattle.tau_base.specs.declared.value.Value.{Value}
+use Rattle.tau_base.specs.Database.{Db}
 use Rattle.tau_disk.specs.declared.disk.Disk.{Ghosts}
 use Rattle.tau_disk.specs.Used.{EachIn, RoseAt, IsFirstStopped, Made}
 use Rattle.tau_stream.specs.declared.writer.Writer.{Writer}
-use Rattle.tau_stream.specs.Writer.{disk_of}
 use Rattle.tau_open.specs.Outside.{calls_to_open}
 use Rattle.tau_open.specs.Opening.{AreOpened, Begins}
-use Rattle.tau_model.specs.History.{Act}
-use Rattle.tau_machine.specs.Hands.{Txn}
-use Rattle.tau_machine.specs.State.{Core}
+use Rattle.tau_model.specs.Tables.{IsTablesOf}
+use Rattle.tau_machine.specs.State.{Core, sight}
 use Rattle.tau_text.specs.declared.load.Workload.{Workload}
-use Rattle.tau_report.specs.declared.report.RunEnd.{RunEnd}
 use Rattle.tau_report.specs.Report.{ack_lines, report_text}
 use Rattle.tau_core.specs.declared.state.Load.{Load}
-use Rattle.tau_core.specs.View.{setting_of, core_of}
-use Rattle.tau_run.specs.Run.{Run, AllAcked, IsReportOf}
+use Rattle.tau_core.specs.View.{setting_of}
+use Rattle.tau_run.specs.Run.{Run, AllAcked, IsReportOf, last_db}
 use Rattle.tau_run.specs.Facts.{catalogue_of, IsEnded}
-use Rattle.tau_run.specs.Course.{IsLoadOf, IsSoundLoad, IsCourse}
+use Rattle.tau_run.specs.Course.{IsLoadOf, IsSoundLoad}
 use Rattle.tau_run.specs.Left.{IsLeft, IsOver}
 use Rattle.tau_run.specs.Told as ending
 use Rattle.tau_run.specs.Told.{turns_of, chosen_by, IsCoreRun, RunFacts}
 use Rattle.tau_run.proofs.Imaged.{imaged, acknowledged}
-use Rattle.tau_run.proofs.Reading.{IsCatalogue}
 use Rattle.tau_run.proofs.Results.{history_law}
 use Rattle.tau_step.specs.RunTold.{Ended, RanNew, IsLowestStopped, fates_by}
 use Rattle.tau_step.specs.Telling.{Heard}
+use Rattle.tau_engine.specs.Bench.{IsMeasured, PlaysWell}
 use Rattle.tau_engine.specs.Came.{CameTo, came_far}
-use Rattle.tau_engine.specs.Drill.{EndsAt, IsRehearsed, PlaysOn}
+use Rattle.tau_engine.specs.Drill.{IsRehearsed, PlaysOn}
 use Rattle.tau_engine.specs.Facts.{Past, Now, AreUnborn}
 use Rattle.tau_engine.specs.Outside.{Wrote}
 use Rattle.tau_engine.proofs.Chosen.{chosen}
@@ -38,7 +37,7 @@ use Rattle.tau_engine.proofs.Ends.{begun_left}
 use Rattle.tau_engine.proofs.NotBegun.{told_of_none}
 use Rattle.tau_engine.proofs.Ran as ran
 use Rattle.tau_engine.proofs.RanTo as to
-use Rattle.tau_engine.proofs.Reports.{reported_by}
+use Rattle.tau_engine.proofs.Reports.{reported_by, last_is}
 use Rattle.tau_engine.proofs.Streams.{OnlyNow, Joined, clean_below, first_stopped, made_all}
 
 module _ {D : Type 0} {G : Ghosts D} (only_now : OnlyNow G) (n m : ℕ) (load : Workload) (room : n ≤ 16) (sound : IsSoundLoad load) (old mid new : List D) (many : n ≤ length old) (ws : List (Writer D G))
@@ -82,11 +81,18 @@ module _ {D : Type 0} {G : Ghosts D} (only_now : OnlyNow G) (n m : ℕ) (load : 
   ended : IsEnded n load (Now G.tells G.may_leave old new) (RoseAt G.faults old new) run
   ended = to.has_ended only_now n m Values load ws p.after h.came.told t old mid new many streams p.back over complete
 
+  tables : IsTablesOf (sight (setting_of l) s).row p.end.report.tables
+  tables = subst (λ (y : Load). IsTablesOf (sight (setting_of y) s).row p.end.report.tables) (sym h.came.load) h.tables
+
+  -- its rows are those of the history
+  present : IsTablesOf (last_db load run) p.end.report.tables
+  present = subst (λ (db : Db). IsTablesOf db p.end.report.tables) (last_is n m Values load l t.joined s t.course run t.is over.rests) tables
+
   reports : (failed : Option ℕ) → IsReportOf load run failed (report_text load.declarations.tables p.end.report failed)
   reports failed =
       reported_by n m Values load l t.joined s t.course run t.is p.end.report failed (h.acks ∙ sym t.told)
       (h.fates ∙ ap (λ (y : Load). fates_by (length y.calls) t.joined h.came.told) (sym h.came.load) ∙ ap (λ (a : List (ℕ × List ℕ)). fates_by (length l.calls) t.joined a) (sym t.told))
-      h.order (subst (λ (y : Load). Rattle.tau_model.specs.Tables.IsTablesOf (Rattle.tau_machine.specs.State.sight (setting_of y) s).row p.end.report.tables) (sym h.came.load) h.tables) over.rests
+      h.order tables over.rests
 
   left_now : (j : ℕ) (image : List ℕ) → j < n → Now G.tells G.may_leave old new j image → IsLeft n j (catalogue_of load) l s image
   left_now j image lt now = let q = at_leaves.present j image lt now in inr (q.0, q.1)
@@ -102,25 +108,29 @@ module _ {D : Type 0} {G : Ghosts D} (only_now : OnlyNow G) (n m : ℕ) (load : 
   all : EachIn (λ j. j < n) (Joined G n (catalogue_of load) l s) old new
   all = to.all only_now n m Values load ws p.after h.came.told t old mid new many streams p.back
 
+  -- where no disk failed
+  abbrev went_well : IsLowestStopped n s None → IsRehearsed G n m load old new (Wrote hears held held')
+  went_well going = record {
+    failed = None;
+    ends = clean_below G n (catalogue_of load) l s streams_are old new many all n (omega arith) going;
+    facts = record {
+      run = run;
+      history = history_law n m Values load l t.joined s t.course run t.is;
+      stops = λ j. (s.streams j).stop;
+      core = core;
+      stopped = at_leaves.stopped;
+      told = (ended, complete going, (report_text load.declarations.tables p.end.report None, reports None, tt));
+      imaged = imaged n m Values load l t.joined s t.course run t.is (Now G.tells G.may_leave old new) (Now G.tells G.may_leave old new) (RoseAt G.faults old new) (Unit {0}) (λ u j y lt q. left_now j y lt q);
+      acknowledged = acknowledged n m Values load l t.joined s t.course run t.is (λ j y. ⊥) (Now G.tells G.may_leave old new) (RoseAt G.faults old new) at_leaves;
+    };
+    acked = told;
+  }
+
   pub rehearsed_on : IsRehearsed G n m load old new (Wrote hears held held')
   rehearsed_on = by p.end.disk low
     where
       by : (failed : Option ℕ) → IsLowestStopped n s failed → IsRehearsed G n m load old new (Wrote hears held held')
-      by None going = record {
-        failed = None;
-        ends = clean_below G n (catalogue_of load) l s streams_are old new many all n (omega arith) going;
-        facts = record {
-          run = run;
-          history = history_law n m Values load l t.joined s t.course run t.is;
-          stops = λ j. (s.streams j).stop;
-          core = core;
-          stopped = at_leaves.stopped;
-          told = (ended, complete going, (report_text load.declarations.tables p.end.report None, reports None, tt));
-          imaged = imaged n m Values load l t.joined s t.course run t.is (Now G.tells G.may_leave old new) (Now G.tells G.may_leave old new) (RoseAt G.faults old new) (Unit {0}) (λ u j y lt q. left_now j y lt q);
-          acknowledged = acknowledged n m Values load l t.joined s t.course run t.is (λ j y. ⊥) (Now G.tells G.may_leave old new) (RoseAt G.faults old new) at_leaves;
-        };
-        acked = told;
-      }
+      by None going = went_well going
       by (Some j) q = record {
         failed = Some j;
         ends = (q.0, first_stopped G n (catalogue_of load) l s streams_are old new many all j q.1.0 q.0 q.1.1 q.2 tells);
@@ -140,6 +150,23 @@ module _ {D : Type 0} {G : Ghosts D} (only_now : OnlyNow G) (n m : ℕ) (load : 
         };
         acked = told;
       }
+
+-- a run in which nothing failed, with its rows
+module _ {D : Type 0} {G : Ghosts D} (only_now : OnlyNow G) (n m : ℕ) (load : Workload) (room : n ≤ 16) (sound : IsSoundLoad load) (old mid new : List D) (many : n ≤ length old) (ws : List (Writer D G))
+    (streams : AreOpened G n (catalogue_of load) old mid ws) (tells : G.tells) (hears : Type 0) (held held' : List ℕ) (rose : Type 0) (rows : List (Key × Value)) (q : PlaysWell m load ws mid new hears held held' rose rows) where
+  abbrev p : PlaysOn m load ws mid new hears held held' rose
+  p = record { after = q.after; back = q.back; end = q.end; ran = q.ran; heard = q.heard }
+
+  going : IsLowestStopped n (s only_now n m load room sound old mid new many ws streams tells hears held held' rose p) None
+  going = subst (λ (o : Option ℕ). IsLowestStopped n (s only_now n m load room sound old mid new many ws streams tells hears held held' rose p) o) q.whole (low only_now n m load room sound old mid new many ws streams tells hears held held' rose p)
+
+  pub measured_on : IsMeasured G n m load old new (Wrote hears held held') rows
+  measured_on = record {
+    rehearsed = went_well only_now n m load room sound old mid new many ws streams tells hears held held' rose p going;
+    all = complete only_now n m load room sound old mid new many ws streams tells hears held held' rose p going;
+    present = subst (λ (xs : List (Key × Value)). IsTablesOf (last_db load (run only_now n m load room sound old mid new many ws streams tells hears held held' rose p)) xs) q.rows_are
+        (present only_now n m load room sound old mid new many ws streams tells hears held held' rose p);
+  }
 
 -- what a sink that tells has heard
 pub heard_now : {D : Type 0} {G : Ghosts D} (n m : ℕ) (load : Workload) (old new : List D) (held held' : List ℕ) → IsRehearsed G n m load old new (λ lines. Unit {0} → held' ≡ held ++ lines) → IsRehearsed G n m load old new (λ lines. held' ≡ held ++ lines)

@@ -94,7 +94,8 @@ module _ (n m : ℕ) (mode : LogMode) (load : Workload) (l : Load) (K : List (Ac
   unheld : ((w : ℕ) → (s.workers w).hand ≡ None) → (x : Key) → Unheld s x
   unheld rests x w t e held = absurd (let f : act_in None ≡ Some t = ap act_in (sym (rests w)) ∙ e in cc)
 
-  last_is : ((w : ℕ) → (s.workers w).hand ≡ None) → (sight (setting_of l) s).row ≡ last_db load run
+  -- the rows at the end are those of the history
+  pub last_is : ((w : ℕ) → (s.workers w).hand ≡ None) → (sight (setting_of l) s).row ≡ last_db load run
   last_is rests =
       let set = is_set n m mode load l c.load_is in
       let law = reported_theorem (setting_of l) K s c.inv K (reordered-itself K) in

@@ -9,3 +9,4 @@ pub mod Said
 pub mod Recovery
 pub mod Same
 pub mod Drill
+pub mod Bench

@@ -1,6 +1,6 @@
 -- Which commands are served, and what they use.
 use Rattle.std.specs.Prelude.{ℕ, Bool, true, false, ◌&&◌, nat_le, nat_lt, if◌then◌else◌, List, Option, Some, None, option_and_then}
-use Rattle.tau_base.specs.declared.limits.TheConstants.{MAX_STREAMS, MAX_WORKERS, MAX_RECOVERY_WORKERS}
+use Rattle.tau_base.specs.declared.limits.TheConstants.{MAX_CALLS, MAX_STREAMS, MAX_WORKERS, MAX_RECOVERY_WORKERS}
 use Rattle.tau_words.specs.declared.command.Command.{Command}
 use Rattle.tau_words.specs.declared.command.Command.TheVariants.{Run, Recover, Drill, Bench}
 use Rattle.tau_words.specs.declared.command.Ending.{Ending}
@@ -14,12 +14,16 @@ abbrev pub is_ending : ℕ → Ending → Bool
 is_ending n (Stop after tear) = nat_le 1 after && nat_le after 1000000
 is_ending n (Fail stream call) = nat_lt stream n && nat_le 1 call && nat_le call 1000000
 
+-- so many calls may be generated, whose rows begin there
+abbrev pub is_job : ℕ → ℕ → Bool
+is_job start calls = nat_le start 999 && nat_le calls MAX_CALLS
+
 -- the commands that are there by now
 abbrev pub is_served : Command → Bool
 is_served (Run n m mode) = nat_le 1 n && nat_le n MAX_STREAMS && nat_le 1 m && nat_le m MAX_WORKERS
 is_served (Recover n p) = nat_le 1 n && nat_le n MAX_STREAMS && nat_le 1 p && nat_le p MAX_RECOVERY_WORKERS
 is_served (Drill n m p ending) = nat_le 1 n && nat_le n MAX_STREAMS && nat_le 1 m && nat_le m MAX_WORKERS && is_ending n ending
-is_served (Bench start calls n m) = false
+is_served (Bench start calls n m) = is_job start calls && (nat_le 1 n && nat_le n MAX_STREAMS) && (nat_le 1 m && nat_le m MAX_WORKERS)
 
 abbrev pub if_served : Command → Option Command
 if_served c = if is_served c then Some c else None
@@ -33,12 +37,14 @@ abbrev pub command_in : Work → Command
 command_in (work.Run n m mode) = Run n m mode
 command_in (work.Recover n p) = Recover n p
 command_in (work.Drill n m p ending) = Drill n m p ending
+command_in (work.Bench start calls n m) = Bench start calls n m
 
 -- the command writes nothing before it knows all
 abbrev pub writes_at_end : Option Command → Bool
 writes_at_end None = true
 writes_at_end (Some (Recover n p)) = true
 writes_at_end (Some (Drill n m p ending)) = true
+writes_at_end (Some (Bench start calls n m)) = true
 writes_at_end (Some other) = false
 
 -- the disks that the command uses are the first of them

@@ -1,6 +1,7 @@
 //! The top call of the engine.
 #![tactic(auto)]
 
+mod bench;
 mod drill;
 mod fault;
 mod laws;

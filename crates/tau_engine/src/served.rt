@@ -1,16 +1,20 @@
 //! The commands that are there by now.
 ghost use Rattle.std.specs.Prelude.{◌≡◌, ◌≤◌, ◌&&◌, nat_le, ℕ, true, false, Err, IfOk, IfSome, IfNone, Some, None, map, string_bytes};
+ghost use Rattle.tau_base.specs.declared.limits.TheConstants.{MAX_CALLS};
 ghost use Rattle.tau_base.specs.declared.value.LogMode.{LogMode};
-ghost use Rattle.tau_engine.specs.Served.{command_in, is_ending, is_served, served};
+ghost use Rattle.tau_engine.specs.Served.{command_in, is_ending, is_job, is_served, served};
 ghost use Rattle.tau_words.specs.declared.command.Ending.{Ending};
 ghost use Rattle.tau_words.specs.declared.command.WordsRefusal.TheVariants.{Usage};
 
 use std::alloc::Global;
-use tau_base::{LogMode, MAX_STREAMS};
+use tau_base::{LogMode, MAX_CALLS, MAX_STREAMS};
 use tau_words::{Command, Ending, WordsRefusal, read_words};
 
 /// Calls of disks are named by their number up to this.
 const MAX_CALL: u32 = 1_000_000;
+
+/// The rows of generated calls begin at this at most.
+const MAX_START: u16 = 999;
 
 /// What a command that is there by now asks for.
 #[derive(Clone, Copy, Debug, PartialEq, Eq)]
@@ -42,6 +46,17 @@ pub enum Work {
         /// How its run ends.
         ending: Ending,
     },
+    /// The measured job.
+    Bench {
+        /// Where the rows begin, 0 to 999.
+        start: u16,
+        /// Calls, up to 200,000.
+        calls: u32,
+        /// Streams, 1 to 16.
+        n: u8,
+        /// Workers, 1 to 16.
+        m: u8,
+    },
 }
 
 // Whether so many streams may be used.
@@ -62,6 +77,14 @@ fn is_ending(n: u8, ending: Ending) -> bool
     }
 }
 
+// Whether so many calls may be generated, whose rows begin there.
+fn is_job(start: u16, calls: u32) -> bool
+    ensures value { result ≡ is_job start calls }
+    ensures within { result ≡ true → (start ≤ 999) × (calls ≤ MAX_CALLS) }
+{
+    start <= MAX_START && calls as usize <= MAX_CALLS
+}
+
 // What the command asks for, where it is there by now.
 fn work_of(command: Command) -> Option<Work>
     ensures some { IfSome result (λ w. command ≡ command_in w) }
@@ -69,6 +92,7 @@ fn work_of(command: Command) -> Option<Work>
     ensures within { IfSome result (λ w. (n p : ℕ) → w ≡ Work.Recover n p → ((1 ≤ n) × (n ≤ 16)) × (1 ≤ p) × (p ≤ 16)) }
     ensures within_run { IfSome result (λ w. (n m : ℕ) (mode : LogMode) → w ≡ Work.Run n m mode → ((1 ≤ n) × (n ≤ 16)) × (1 ≤ m) × (m ≤ 16)) }
     ensures within_drill { IfSome result (λ w. (n m p : ℕ) (ending : Ending) → w ≡ Work.Drill n m p ending → ((1 ≤ n) × (n ≤ 16)) × ((1 ≤ m) × (m ≤ 16)) × (is_ending n ending ≡ true)) }
+    ensures within_bench { IfSome result (λ w. (start calls n m : ℕ) → w ≡ Work.Bench start calls n m → ((start ≤ 999) × (calls ≤ MAX_CALLS)) × ((1 ≤ n) × (n ≤ 16)) × (1 ≤ m) × (m ≤ 16)) }
     ensures none { IfNone result (is_served command ≡ false) }
 {
     match command {
@@ -76,6 +100,10 @@ fn work_of(command: Command) -> Option<Work>
         Command::Recover { n, p } if is_count(n) && is_count(p) => Some(Work::Recover { n, p }),
         Command::Drill { n, m, p, ending } if is_count(n) && is_count(m) && is_ending(n, ending) =>
             { Some(Work::Drill { n, m, p, ending }) }
+        Command::Bench { start, calls, n, m }
+            if is_job(start, calls) && is_count(n) && is_count(m) => {
+            Some(Work::Bench { start, calls, n, m })
+        }
         _ => None,
     }
 }
@@ -86,6 +114,7 @@ pub fn read_served(alloc: Global, words: &[String]) -> Result<Work, WordsRefusal
     ensures within { IfOk result (λ w. (n p : ℕ) → w ≡ Work.Recover n p → ((1 ≤ n) × (n ≤ 16)) × (1 ≤ p) × (p ≤ 16)) }
     ensures within_run { IfOk result (λ w. (n m : ℕ) (mode : LogMode) → w ≡ Work.Run n m mode → ((1 ≤ n) × (n ≤ 16)) × (1 ≤ m) × (m ≤ 16)) }
     ensures within_drill { IfOk result (λ w. (n m p : ℕ) (ending : Ending) → w ≡ Work.Drill n m p ending → ((1 ≤ n) × (n ≤ 16)) × ((1 ≤ m) × (m ≤ 16)) × (is_ending n ending ≡ true)) }
+    ensures within_bench { IfOk result (λ w. (start calls n m : ℕ) → w ≡ Work.Bench start calls n m → ((start ≤ 999) × (calls ≤ MAX_CALLS)) × ((1 ≤ n) × (n ≤ 16)) × (1 ≤ m) × (m ≤ 16)) }
     ensures usage { result ≡ Err Usage → served (map string_bytes words.now) ≡ None }
 {
     match work_of(read_words(alloc, words)?) {

@@ -13,6 +13,7 @@ ghost use Rattle.tau_scan.specs.Outside.{calls_to_read};
 ghost use Rattle.tau_scan.specs.Taken.{Kept};
 ghost use Rattle.tau_replay.specs.Redone.{IsOrderOf};
 ghost use Rattle.tau_engine.specs.Recovery.{IsBadLog, RecoverTells, EndsAsBad, EndsTangled, images_of};
+ghost use Rattle.tau_engine.specs.Bench.{BenchTells};
 ghost use Rattle.tau_engine.specs.Drill.{DrillTells, with_turns};
 ghost use Rattle.tau_words.specs.declared.command.Ending.{Ending};
 ghost use Rattle.tau_engine.specs.Served.{served, used_by, reads_source, writes_at_end};
@@ -25,6 +26,7 @@ ghost use Rattle.tau_run.specs.Told.{WroteFront};
 ghost use Rattle.tau_disk.specs.Used.{RoseAt, EachUsed, AreEmpty, IsFirstLong, OnlyRead, AllCalls, IsClean, IsFirstStopped, Made};
 ghost use Rattle.tau_engine.specs.Outside.{HasWorkload, HasNoWorkload, HasFault, FailsTold, Wrote, is_behind_text, is_behind_end, is_behind_reading, is_before_disks};
 
+use crate::bench::bench;
 use crate::drill::drill_source;
 use crate::fault::refuse;
 use crate::reading::read_source;
@@ -129,6 +131,10 @@ pub fn taurus<R: Threads + Wait + Sync, S: Source, K: Sink + Send, D: Disk + Sen
     ensures drill { (n m p : ℕ) (ending : Ending) (load : Workload) → served (map string_bytes words.now) ≡ Some (Command.Drill n m p ending) → S.tells → HasWorkload (S.left source.old) load →
         DrillTells ⟦<MemDisk as Disk>⟧ n m ending (with_turns load) (Wrote K.tells (K.held sink.old) (K.held sink.new)) result }
 
+    // The measured job tells a function of its first row and of how many calls it makes, whatever streams and workers.
+    ensures bench { (start calls n m : ℕ) → served (map string_bytes words.now) ≡ Some (Command.Bench start calls n m) →
+        BenchTells start calls (Wrote K.tells (K.held sink.old) (K.held sink.new)) result }
+
     // What is not touched.
     ensures untouched { drop (used_by (served (map string_bytes words.now))) disks.new.items ≡ drop (used_by (served (map string_bytes words.now))) disks.old.items }
     ensures before_disks { is_before_disks result ≡ true → disks.new.items ≡ disks.old.items }
@@ -152,6 +158,8 @@ pub fn taurus<R: Threads + Wait + Sync, S: Source, K: Sink + Send, D: Disk + Sen
         Member result (Status.Ok ∷ Status.NoMemory ∷ []) }
     ensures drill_done { (n m p : ℕ) (ending : Ending) (load : Workload) → served (map string_bytes words.now) ≡ Some (Command.Drill n m p ending) → S.tells → HasWorkload (S.left source.old) load →
         (Rose (S.faults source.old) (S.faults source.new) → ⊥) → (Rose (K.faults sink.old) (K.faults sink.new) → ⊥) → Member result (Status.Ok ∷ Status.NoMemory ∷ []) }
+    ensures bench_done { (start calls n m : ℕ) → served (map string_bytes words.now) ≡ Some (Command.Bench start calls n m) →
+        (Rose (K.faults sink.old) (K.faults sink.new) → ⊥) → Member result (Status.Ok ∷ Status.NoMemory ∷ []) }
     ensures recover_done { (n p : ℕ) (log : Log) (order : List Kept) → served (map string_bytes words.now) ≡ Some (Command.Recover n p) →
         D.tells → log_of (images_of D.seen disks.old.items n) ≡ Ok log → IsOrderOf log order →
         (Rose (K.faults sink.old) (K.faults sink.new) → ⊥) → ((j : ℕ) → j < n → RoseAt D.faults disks.old.items disks.new.items j → ⊥) →
@@ -164,6 +172,7 @@ pub fn taurus<R: Threads + Wait + Sync, S: Source, K: Sink + Send, D: Disk + Sen
         Ok(Work::Drill { n, m, p: _, ending }) => drill_source(
             rt, alloc, n, m, ending, source, sink, gate,
         ),
+        Ok(Work::Bench { start, calls, n, m }) => bench(rt, alloc, start, calls, n, m, sink, gate),
         Ok(Work::Run { n, m, mode }) => match read_source(alloc, source) {
             Err(refusal) => refuse(alloc, sink, refusal),
             Ok(load) => run(alloc, &load, n, m, mode, sink, disks),

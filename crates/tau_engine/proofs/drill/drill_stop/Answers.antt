@@ -1,17 +1,14 @@
-use Rattle.std.proofs.Common.{ℕ, ◌++◌, ◌≡◌, ◌∙◌, min, List, length, refl, sym, ap, subst, arith}
+use Rattle.std.proofs.Common.{ℕ, ◌++◌, ◌≡◌, ◌∙◌, min, List, length, sym, ap, subst, arith}
 use Rattle.std.specs.Prelude.{OnOk, Result, Ok, Err}
 use Rattle.tau_base.specs.declared.value.NoMemory.{NoMemory}
-use Rattle.tau_disk.specs.declared.call.Tear.{Tear}
-use Rattle.tau_disk.specs.declared.call.Tear.TheVariants.{New}
 use Rattle.tau_disk.specs.declared.memory.MemDisk.{MemDisk}
 use Rattle.tau_disk.specs.Streams.{held_by}
-use Rattle.tau_words.specs.declared.command.Ending.{Ending}
-use Rattle.tau_words.specs.declared.command.Ending.TheVariants.{Stop, Fail}
+use Rattle.tau_words.specs.declared.command.Ending.TheVariants.{Stop}
 use Rattle.tau_scan.specs.declared.log.Log.{Log}
 use Rattle.tau_scan.specs.Reading.{log_of}
 use Rattle.tau_scan.specs.Taken.{Kept}
 use Rattle.tau_replay.specs.Redone.{IsOrderOf}
-use Rattle.tau_engine.specs.Drill.{AreNewDisks, IsFound, StopsAt, calls_of, images_by}
+use Rattle.tau_engine.specs.Drill.{AreNewDisks, IsFound, StopsAt, images_by}
 use Rattle.tau_engine.proofs.Drilled.{drilled, image_left, ordered}
 use Rattle.tau_engine.proofs.drill.drill_stop.Goals as goal
 

@@ -1,6 +1,4 @@
-use Rattle.std.proofs.Common.{ℕ, ◌≡◌, ◌∙◌, List, [], ◌∷◌, ◌++◌, length, ap, subst, arith, length-append}
-use Rattle.tau_disk.specs.declared.memory.MemDisk.{MemDisk}
-use Rattle.tau_engine.specs.Drill.{AreNewDisks, FailsOnce}
+use Rattle.tau_engine.specs.Drill.{FailsOnce}
 use Rattle.tau_engine.proofs.Drilled.{one_new, one_longer}
 use Rattle.tau_engine.proofs.drill.failing_disks.Goals as goal
 

@@ -1,4 +1,4 @@
-use Rattle.std.proofs.Common.{ℕ, ◌≡◌, ◌<◌, List, length, refl, ap, subst, ◌∙◌, arith, rules}
+use Rattle.std.proofs.Common.{ℕ, ◌≡◌, ◌<◌, List, ap, subst, ◌∙◌, arith}
 use Rattle.std.specs.Prelude.{OnOk, Result, Ok, Err}
 use Rattle.tau_base.specs.declared.value.NoMemory.{NoMemory}
 use Rattle.tau_stream.specs.Stream.{catalogue_record}

@@ -1,6 +1,5 @@
-use Rattle.std.proofs.Common.{ℕ, ◌≡◌, ◌≤◌, ◌<◌, ◌+◌, ◌-◌, ◌∙◌, rules, List, length, take, refl, sym, ap, subst, arith}
-use Rattle.tau_disk.specs.declared.memory.MemDisk.{MemDisk}
-use Rattle.tau_engine.specs.Drill.{AreNewDisks, StopsAt}
+use Rattle.std.proofs.Common.{◌≤◌, ◌<◌, ◌+◌, ◌-◌, rules, arith}
+use Rattle.tau_engine.specs.Drill.{StopsAt}
 use Rattle.tau_engine.proofs.Drilled.{one_new, one_longer, stops_at, taken_few}
 use Rattle.tau_engine.proofs.drill.stopping_disks.Goals as goal
 

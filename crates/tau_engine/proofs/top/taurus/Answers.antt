@@ -20,7 +20,8 @@ use Rattle.tau_engine.proofs.Recoveries.{handed_back, clean_of}
 use Rattle.tau_engine.proofs.Tops.{command_of_run, command_of_recovery, not_recovery, same_command, same_streams, within_served, same_load, not_both, says_at, other_end, runs_behind, recovers_well, ends_well, ends_unread}
 use Rattle.tau_disk.specs.contracts.memory.MemDiskDisk.TheImpl.{ghosts}
 use Rattle.tau_engine.specs.Drill.{with_turns}
-use Rattle.tau_engine.proofs.Drilling.{command_of_drill, tells_at}
+use Rattle.tau_engine.proofs.BenchTops.{command_of_bench, benched_at}
+use Rattle.tau_engine.proofs.Drilling.{command_of_drill, tells_at, rehearses_well}
 use Rattle.tau_engine.proofs.top.taurus.Given.{Over}
 use Rattle.tau_engine.proofs.top.taurus.Goals as goal
 
@@ -358,3 +359,32 @@ returns-in-Ok-Drill-clause-drill g c n m p how load words tells has =
     let asked = command_of_drill (served (map string_bytes c.args.words.now)) c.in-Ok-Drill.field-0 c.in-Ok-Drill.n c.in-Ok-Drill.m c.in-Ok-Drill.field-0-2 c.in-Ok-Drill.ending c.in-Ok-Drill.ensures.ok c.in-Ok-Drill.field-0-is in
     tells_at ghosts (served (map string_bytes c.args.words.now)) c.in-Ok-Drill.n c.in-Ok-Drill.m c.in-Ok-Drill.field-0-2 n m p c.in-Ok-Drill.ending how (with_turns load) (Wrote g.K.Sink.tells (g.K.Sink.held c.args.sink.now) (g.K.Sink.held c.drill_source.new.sink))
     c.drill_source.result asked words (c.drill_source.ensures.told tells load has)
+
+-- ---- the measured job
+
+pub bench-requires-clause-start : goal.bench-requires-clause-start
+bench-requires-clause-start g c κs within = (c.in-Ok-Bench.ensures.within_bench c.in-Ok-Bench.start c.in-Ok-Bench.calls c.in-Ok-Bench.n c.in-Ok-Bench.m c.in-Ok-Bench.field-0-is).0.0
+
+pub bench-requires-clause-calls : goal.bench-requires-clause-calls
+bench-requires-clause-calls g c κs within = (c.in-Ok-Bench.ensures.within_bench c.in-Ok-Bench.start c.in-Ok-Bench.calls c.in-Ok-Bench.n c.in-Ok-Bench.m c.in-Ok-Bench.field-0-is).0.1
+
+pub bench-requires-clause-streams_low : goal.bench-requires-clause-streams_low
+bench-requires-clause-streams_low g c κs within = (c.in-Ok-Bench.ensures.within_bench c.in-Ok-Bench.start c.in-Ok-Bench.calls c.in-Ok-Bench.n c.in-Ok-Bench.m c.in-Ok-Bench.field-0-is).1.0
+
+pub bench-requires-clause-streams_high : goal.bench-requires-clause-streams_high
+bench-requires-clause-streams_high g c κs within = (c.in-Ok-Bench.ensures.within_bench c.in-Ok-Bench.start c.in-Ok-Bench.calls c.in-Ok-Bench.n c.in-Ok-Bench.m c.in-Ok-Bench.field-0-is).1.1
+
+pub bench-requires-clause-low : goal.bench-requires-clause-low
+bench-requires-clause-low g c κs within = (c.in-Ok-Bench.ensures.within_bench c.in-Ok-Bench.start c.in-Ok-Bench.calls c.in-Ok-Bench.n c.in-Ok-Bench.m c.in-Ok-Bench.field-0-is).2
+
+pub bench-requires-clause-high : goal.bench-requires-clause-high
+bench-requires-clause-high g c κs within = (c.in-Ok-Bench.ensures.within_bench c.in-Ok-Bench.start c.in-Ok-Bench.calls c.in-Ok-Bench.n c.in-Ok-Bench.m c.in-Ok-Bench.field-0-is).3
+
+pub returns-in-Ok-Bench-clause-bench : goal.returns-in-Ok-Bench-clause-bench
+returns-in-Ok-Bench-clause-bench g c start calls n m words =
+    let asked = command_of_bench (served (map string_bytes c.args.words.now)) c.in-Ok-Bench.field-0 c.in-Ok-Bench.start c.in-Ok-Bench.calls c.in-Ok-Bench.n c.in-Ok-Bench.m c.in-Ok-Bench.ensures.ok c.in-Ok-Bench.field-0-is in
+    benched_at (served (map string_bytes c.args.words.now)) c.in-Ok-Bench.start c.in-Ok-Bench.calls c.in-Ok-Bench.n c.in-Ok-Bench.m start calls n m (Wrote g.K.Sink.tells (g.K.Sink.held c.args.sink.now) (g.K.Sink.held c.bench.new.sink)) c.bench.result asked words
+    c.bench.ensures.told
+
+pub returns-in-Ok-Bench-clause-bench_done : goal.returns-in-Ok-Bench-clause-bench_done
+returns-in-Ok-Bench-clause-bench_done g c start calls n m words no_sink = rehearses_well c.bench.result c.bench.ensures.kind (λ e. no_sink (c.bench.ensures.write_fault e))

@@ -1,0 +1,335 @@
+//! The measured job: the generated calls, run on new disks in memory and recovered from them.
+ghost use Rattle.std.specs.Prelude.{ℕ, ◌≡◌, ◌≤◌, ◌+◌, ◌++◌, ◌∷◌, List, [], false, true, length, map, string_bytes, vec_len, vec_capacity, codes, Ok, Some, None, IfOk, OnOk};
+ghost use Rattle.tau_base.specs.declared.limits.TheConstants.{MAX_CALLS, MAX_CATALOGUE, MAX_STREAMS, MAX_WORKERS};
+ghost use Rattle.tau_disk.specs.Disk.{Rose};
+ghost use Rattle.tau_disk.specs.Memory.{seen_by};
+ghost use Rattle.tau_disk.specs.Used.{AreEmpty};
+ghost use Rattle.tau_text.specs.Canonical.{declarations_text};
+ghost use Rattle.tau_text.specs.Kept.{AreCalls};
+ghost use Rattle.tau_scan.specs.declared.log.Log.{Log};
+ghost use Rattle.tau_scan.specs.Reading.{log_of};
+ghost use Rattle.tau_scan.specs.Taken.{Kept};
+ghost use Rattle.tau_replay.specs.Redone.{IsOrderOf};
+ghost use Rattle.tau_report.specs.Lines.{line};
+ghost use Rattle.tau_run.specs.Facts.{catalogue_of};
+ghost use Rattle.tau_run.specs.Course.{IsSoundLoad};
+ghost use Rattle.tau_step.specs.RunTold.{AreNew};
+ghost use Rattle.tau_engine.specs.Bench.{AreFound, BenchTells, IsMeasured, PlaysWell, bench_text, count_lines, digest_lines, digest_of, lines_in, measured_text, number_in, number_line, sum_of};
+ghost use Rattle.tau_engine.specs.Drill.{AreNewDisks};
+ghost use Rattle.tau_engine.specs.Facts.{AreUnborn};
+ghost use Rattle.tau_engine.specs.Outside.{Wrote, ends_rehearsal};
+
+use crate::status::Status;
+use sha2::{Digest, Sha256};
+use std::alloc::{AllocError, Global};
+use std::sync::Wait;
+use std::thread::Threads;
+use tau_base::{Key, LogMode, NoMemory, Value};
+use tau_disk::{Disk, Gate, MemDisk, MemSink, Sink};
+use tau_gen::generate;
+use tau_model::Tables;
+use tau_open::{close_streams, open_streams};
+use tau_replay::replay_threads;
+use tau_report::{RunEnd, table_text};
+use tau_scan::{Log, ReplayRefusal, ScanRefusal, scan};
+use tau_step::{run_turns, write_all};
+use tau_stream::Writer;
+use tau_text::{Declarations, Workload, print_declarations};
+
+/// The rows of a run in which nothing failed. Out of memory if a disk or the sink failed: those in memory do so for
+/// want of it alone.
+fn rows_of(end: RunEnd) -> Result<Tables, NoMemory>
+    ensures heard { OnOk result (end.sink_failed ≡ false) }
+    ensures whole { OnOk result (end.disk ≡ None) }
+    ensures rows { IfOk result (λ rows. end.report.tables ≡ rows) }
+{
+    let RunEnd {
+        report,
+        disk,
+        sink_failed,
+    } = end;
+    if sink_failed {
+        return Err(NoMemory);
+    }
+    match disk {
+        Some(_) => Err(NoMemory),
+        None => Ok(report.tables),
+    }
+}
+
+/// Runs the calls of a workload by so many workers on the streams of these writers, and puts their disks back in front
+/// of the others. The lines of acknowledgements go to the sink.
+fn play_on<D: Disk, K: Sink>(
+    alloc: Global,
+    load: &Workload,
+    m: u8,
+    sink: &mut K,
+    disks: &mut Vec<D>,
+    writers: Vec<Writer<D>>,
+) -> Result<Tables, NoMemory>
+    requires streams_low { 1 ≤ vec_len writers }
+    requires streams_high { vec_len writers ≤ MAX_STREAMS }
+    requires low { 1 ≤ m }
+    requires high { m ≤ MAX_WORKERS }
+    requires calls { AreCalls load.now.declarations.procs load.now.calls }
+    requires text { length (declarations_text load.now.declarations) ≤ MAX_CATALOGUE }
+    requires fresh { AreNew (λ j. catalogue_of load.now) writers.items }
+    requires room { vec_len disks.old + vec_len writers ≤ vec_capacity disks.old }
+    ensures ran { IfOk result (λ rows. PlaysWell m load.now writers.items disks.old.items disks.new.items K.tells (K.held sink.old) (K.held sink.new) (Rose (K.faults sink.old) (K.faults sink.new)) rows) }
+    ensures len { vec_len disks.new ≡ vec_len writers + vec_len disks.old }
+{
+    let mut writers = writers;
+    let end = run_turns(alloc, load, m, LogMode::Values, &mut writers, sink);
+    close_streams(disks, writers);
+    match end {
+        Ok(end) => rows_of(end),
+        Err(error) => Err(error),
+    }
+}
+
+/// Runs the calls of a workload on empty disks. The lines of acknowledgements go to the sink. Out of memory also if a
+/// disk or the sink fails.
+fn play<D: Disk, K: Sink>(
+    alloc: Global,
+    load: &Workload,
+    n: u8,
+    m: u8,
+    sink: &mut K,
+    disks: &mut Vec<D>,
+) -> Result<Tables, NoMemory>
+    requires streams_low { 1 ≤ n }
+    requires streams_high { n ≤ MAX_STREAMS }
+    requires low { 1 ≤ m }
+    requires high { m ≤ MAX_WORKERS }
+    requires sound { IsSoundLoad load.now }
+    requires calls { AreCalls load.now.declarations.procs load.now.calls }
+    requires count { vec_len disks.old ≡ n }
+    requires tells { D.tells }
+    requires empty { AreEmpty D.tells D.seen disks.old.items n }
+    requires unborn { AreUnborn D.tells D.may_leave disks.old.items n }
+    ensures told { IfOk result (λ rows. IsMeasured ⟦<D as Disk>⟧ n m load.now disks.old.items disks.new.items (Wrote K.tells (K.held sink.old) (K.held sink.new)) rows) }
+    ensures count { OnOk result (vec_len disks.new ≡ n) }
+{
+    let catalogue = match print_declarations(alloc, &load.declarations) {
+        Ok(catalogue) => catalogue,
+        Err(error) => return Err(error),
+    };
+    match open_streams(alloc, disks, n, &catalogue) {
+        Ok(writers) => play_on(alloc, load, m, sink, disks, writers),
+        Err(_) => Err(NoMemory),
+    }
+}
+
+/// So many new disks.
+fn new_disks(alloc: Global, n: u8) -> Result<Vec<MemDisk>, NoMemory>
+    ensures count { IfOk result (λ disks. vec_len disks ≡ n) }
+    ensures new { IfOk result (λ disks. AreNewDisks (λ j d. Unit {0}) disks.items) }
+{
+    let mut disks = Vec::new(alloc);
+    for _j in 0..n {
+        let disk = MemDisk::new(alloc, &[])?;
+        match disks.push(disk) {
+            Ok(()) => {}
+            Err(_) => return Err(NoMemory),
+        }
+    }
+    Ok(disks)
+}
+
+/// The rows that so many workers recover from these disks.
+fn recovered<R: Threads + Wait + Sync, G: Gate + Sync>(
+    rt: &R,
+    alloc: Global,
+    workers: u8,
+    disks: &mut [MemDisk],
+    gate: &G,
+) -> Result<Tables, NoMemory>
+    requires low { 1 ≤ length disks.old }
+    requires high { length disks.old ≤ MAX_STREAMS }
+    requires workers { (1 ≤ workers) × (workers ≤ 16) }
+    requires ordered { (log : Log) × (log_of (map seen_by disks.old) ≡ Ok log) × (order : List Kept) × IsOrderOf log order }
+    ensures { IfOk result (λ rows. AreFound disks.old rows) }
+{
+    let log = match scan(alloc, disks) {
+        Ok(log) => log,
+        Err(ScanRefusal::Bad(_)) => unreachable!(),
+        Err(_) => return Err(NoMemory),
+    };
+    match replay_threads(rt, alloc, &log, workers, gate) {
+        Ok(rows) => Ok(rows),
+        Err(ReplayRefusal::NoMemory) => Err(NoMemory),
+        Err(ReplayRefusal::Tangled { stream: _, at: _ }) => unreachable!(),
+    }
+}
+
+/// How many lines there are.
+fn lines_in(text: &[u8]) -> usize
+    ensures { result ≡ lines_in text.now }
+{
+    let mut count = 0;
+    for byte in text {
+        if *byte == b'\n' {
+            count += 1;
+        }
+    }
+    count
+}
+
+/// The number of a row; none is below 0.
+fn number_in(value: &Value) -> u64
+    ensures { result ≡ number_in value.now }
+{
+    match value {
+        Value::Int(number) if *number >= 0 => *number as u64,
+        _ => 0,
+    }
+}
+
+/// The sum of the numbers of these rows. Out of memory if it is too large for its type.
+fn sum_of(rows: &[(Key, Value)]) -> Result<u64, NoMemory>
+    ensures { IfOk result (λ sum. sum ≡ sum_of rows.now) }
+{
+    let mut sum = 0u64;
+    for row in rows {
+        sum = match sum.checked_add(number_in(&row.1)) {
+            Some(sum) => sum,
+            None => return Err(NoMemory),
+        };
+    }
+    Ok(sum)
+}
+
+/// The digest of the lines of these rows, in lower-case digits.
+fn digest_of(alloc: Global, declarations: &Declarations, rows: &Tables) -> Result<String, NoMemory>
+    ensures { IfOk result (λ digest. string_bytes digest ≡ digest_of declarations.now.tables rows.now) }
+{
+    let text = table_text(alloc, declarations, rows)?;
+    let digest = Sha256::digest(text.as_slice());
+    hex::encode(alloc, digest.as_slice()).map_err(|_| NoMemory)
+}
+
+/// Puts a line of a word and a number.
+fn put_number(text: &mut String, word: &str, number: u64) -> Result<(), AllocError>
+    ensures { OnOk result (string_bytes text.new ≡ string_bytes text.old ++ number_line word.now number) }
+{
+    write!(text, "{word} {number}\n")
+}
+
+/// Puts a line of two words.
+fn put_word(text: &mut String, word: &str, second: &str) -> Result<(), AllocError>
+    ensures { OnOk result (string_bytes text.new ≡ string_bytes text.old ++ line (word.now ∷ second.now ∷ [])) }
+{
+    write!(text, "{word} {second}\n")
+}
+
+/// Puts how many calls there are, how many were acknowledged, how many rows they left, and the sum of these.
+fn put_counts(
+    text: &mut String,
+    calls: u64,
+    acked: u64,
+    rows: u64,
+    sum: u64,
+) -> Result<(), AllocError>
+    ensures { OnOk result (string_bytes text.new ≡ string_bytes text.old ++ count_lines calls acked rows sum) }
+{
+    put_number(text, "calls", calls)?;
+    put_number(text, "acked", acked)?;
+    put_number(text, "rows", rows)?;
+    put_number(text, "sum", sum)
+}
+
+/// Puts the digests of the rows of the run and of those that recovery found, and the end.
+fn put_digests(text: &mut String, tables: &str, recovered: &str) -> Result<(), AllocError>
+    ensures { OnOk result (string_bytes text.new ≡ string_bytes text.old ++ digest_lines tables.now recovered.now) }
+{
+    put_word(text, "tables", tables)?;
+    put_word(text, "recovered", recovered)?;
+    text.push_str("end 0\n")
+}
+
+/// What is told of so many calls, of which so many were acknowledged: the rows of the run, and those that recovery
+/// found.
+fn measured_text(
+    alloc: Global,
+    declarations: &Declarations,
+    calls: u32,
+    acked: usize,
+    rows: &Tables,
+    recovered: &Tables,
+) -> Result<String, NoMemory>
+    ensures { IfOk result (λ text. string_bytes text ≡ measured_text declarations.now.tables calls acked rows.now recovered.now) }
+{
+    let sum = sum_of(rows.rows())?;
+    let before = digest_of(alloc, declarations, rows)?;
+    let after = digest_of(alloc, declarations, recovered)?;
+    let count = rows.rows().len() as u64;
+    let mut text = String::new(alloc);
+    match put_counts(&mut text, u64::from(calls), acked as u64, count, sum) {
+        Ok(()) => {}
+        Err(_) => return Err(NoMemory),
+    }
+    match put_digests(&mut text, &before, &after) {
+        Ok(()) => Ok(text),
+        Err(_) => Err(NoMemory),
+    }
+}
+
+/// Runs the generated calls, recovers them, and says what came of both.
+fn measure<R: Threads + Wait + Sync, G: Gate + Sync>(
+    rt: &R,
+    alloc: Global,
+    start: u16,
+    calls: u32,
+    n: u8,
+    m: u8,
+    gate: &G,
+) -> Result<String, NoMemory>
+    requires start { start ≤ 999 }
+    requires calls { calls ≤ MAX_CALLS }
+    requires streams_low { 1 ≤ n }
+    requires streams_high { n ≤ MAX_STREAMS }
+    requires low { 1 ≤ m }
+    requires high { m ≤ MAX_WORKERS }
+    ensures { IfOk result (λ text. string_bytes text ≡ bench_text start calls) }
+{
+    let load = generate(alloc, start, calls)?;
+    let mut disks = new_disks(alloc, n)?;
+    let mut out = MemSink::new(alloc, &[])?;
+    let rows = play(alloc, &load, n, m, &mut out, &mut disks)?;
+    let acked = lines_in(out.bytes());
+    let again = recovered(rt, alloc, m, disks.as_mut_slice(), gate)?;
+    measured_text(alloc, &load.declarations, calls, acked, &rows, &again)
+}
+
+/// The measured job: runs the generated calls, of which the first one's row begins at `start`, by `m` workers on `n` new
+/// disks in memory, recovers from these by `m` workers, and writes what came of both. The time and the memory that it
+/// takes grow with the number of calls.
+pub fn bench<R: Threads + Wait + Sync, K: Sink, G: Gate + Sync>(
+    rt: &R,
+    alloc: Global,
+    start: u16,
+    calls: u32,
+    n: u8,
+    m: u8,
+    sink: &mut K,
+    gate: &G,
+) -> Status
+    requires start { start ≤ 999 }
+    requires calls { calls ≤ MAX_CALLS }
+    requires streams_low { 1 ≤ n }
+    requires streams_high { n ≤ MAX_STREAMS }
+    requires low { 1 ≤ m }
+    requires high { m ≤ MAX_WORKERS }
+    // The text is a function of the first row and of how many calls there are.
+    ensures told { BenchTells start calls (Wrote K.tells (K.held sink.old) (K.held sink.new)) result }
+    ensures kind { ends_rehearsal result ≡ true }
+    ensures write_fault { result ≡ Status.WriteFault → Rose (K.faults sink.old) (K.faults sink.new) }
+{
+    let Ok(text) = measure(rt, alloc, start, calls, n, m, gate) else {
+        return Status::NoMemory;
+    };
+    match write_all(sink, text.as_bytes()) {
+        Ok(()) => Status::Ok,
+        Err(_) => Status::WriteFault,
+    }
+}
