@@ -234,6 +234,13 @@ impl Hand {
         })
     }
 
+    /// Whether it holds a key.
+    pub fn holds_key(&self) -> bool
+        ensures { result ≡ not (length self.now.held == 0) }
+    {
+        !self.held.is_empty()
+    }
+
     /// From now on it only gives its keys back. Whether it stays in hand, which it does where it holds a key.
     pub fn give_up(&mut self) -> bool
         requires { joined_by self.old.standing ≡ false }

@@ -329,6 +329,10 @@ impl Seat {
         self.txn.in_hand()
     }
 
+    fn holds_key(&self) -> bool {
+        self.txn.holds_key()
+    }
+
     fn has_joined(&self) -> bool {
         self.txn.has_joined()
     }
@@ -636,10 +640,12 @@ fn given_up(rt: HostRuntime) -> Result<(), Fail> {
         &mut shard,
         &[Went::Granted, Went::Granted, Went::Commit(0)],
     );
+    assert!(rt; seat.holds_key());
     seat.give_up(&rt);
     let wants = [Went::Quit(key(1)), Went::Quit(key(2)), Went::Nothing];
     follows(&rt, &mut seat, &mut shard, &wants);
     seat.begin(&rt, 2, &put(1, 5));
+    assert!(rt; !seat.holds_key());
     seat.give_up(&rt);
     assert!(rt; !seat.in_hand());
     Ok(())

@@ -255,6 +255,17 @@ impl Txn {
         self.in_hand
     }
 
+    /// Whether the call in hand holds a key.
+    pub fn holds_key(&self) -> bool
+        ensures some { result ≡ true → 1 ≤ length (held_in self.now) }
+        ensures none { result ≡ false → held_in self.now ≡ [] }
+    {
+        if !self.in_hand {
+            return false;
+        }
+        self.hand.holds_key()
+    }
+
     /// The number of the call in hand.
     pub fn number(&self) -> Option<u64>
         ensures { result ≡ number_in self.now }
