@@ -13,7 +13,8 @@ use Rattle.tau_txn.specs.Txn.{PlainTxn}
 use Rattle.tau_base.specs.declared.value.Call.{Call}
 use Rattle.tau_base.specs.declared.value.NoMemory.{NoMemory}
 use Rattle.tau_machine.specs.Worker.{fresh}
-use Rattle.tau_txn.specs.Txn.{hand_in}
+use Rattle.tau_proc.specs.declared.proc.Proc.{Proc}
+use Rattle.tau_txn.specs.Txn.{RunsBy, hand_in, held_in, leaves_in}
 use Rattle.tau_core.specs.Begins.{next_behind, number_by}
 use Rattle.tau_core.specs.View.{call_of}
 use Rattle.tau_core.specs.declared.state.Load.{Load}
@@ -258,3 +259,16 @@ pub record EndsReadingOn (l : Load) (s s' : PlainWorkerSeat) : Type 0 where
 abbrev pub undone : PlainWork → Option Mark → PlainWork
 undone o None = o
 undone o (Some k) = unbegun o k
+
+-- the call in hand holds keys, and from now on only gives them back
+pub record GivesUp (t t' : PlainTxn) : Type 0 where
+  pub held : 1 ≤ length (held_in t)
+  pub shown : (procs : List Proc) → hand_in procs t' ≡ hand_in procs t
+  pub leaves : leaves_in t' ≡ true
+  pub runs : (procs : List Proc) → RunsBy procs t → RunsBy procs t'
+  pub same : t' ≡ record t { hand = t'.hand }
+
+-- where it holds none, it stays, or is undone where it has made no event
+abbrev pub GivesUpOn : PlainWorkerSeat → PlainWorkerSeat → Bool → Type 0
+GivesUpOn s s' true = GivesUp s.work.txn s'.work.txn × (s' ≡ record s { work = record s.work { txn = s'.work.txn } })
+GivesUpOn s s' false = (held_in s.work.txn ≡ []) × (s' ≡ record s { work = undone s.work s.work.mark })

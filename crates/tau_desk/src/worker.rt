@@ -1,5 +1,5 @@
 //! A worker on its seat.
-ghost use Rattle.std.specs.Prelude.{◌≡◌, ◌≤◌, ◌<◌, ◌+◌, ◌-◌, ◌^◌, ◌++◌, ◌∷◌, [], ℕ, None, Some, IfOk, IsTrue, OnOk, true, false, is_some, vec_len, vec_capacity};
+ghost use Rattle.std.specs.Prelude.{◌≡◌, ◌≤◌, ◌<◌, ◌+◌, ◌-◌, ◌^◌, ◌++◌, ◌∷◌, [], ℕ, None, Some, IfOk, IsTrue, OnOk, true, false, is_some, length, vec_len, vec_capacity};
 ghost use Rattle.tau_proc.specs.Takes.{takes};
 ghost use Rattle.tau_machine.specs.Worker.{fresh};
 ghost use Rattle.tau_core.specs.Begins.{next_behind, number_by};
@@ -7,9 +7,9 @@ ghost use Rattle.tau_core.specs.Opens.{Opened};
 ghost use Rattle.tau_core.specs.State.{Plain};
 ghost use Rattle.tau_rule.specs.Role.{Role as RoleOf};
 ghost use Rattle.tau_desk.specs.Shares.{FitsWork, IsWork};
-ghost use Rattle.tau_txn.specs.Txn.{RunsBy, hand_in, has_joined};
+ghost use Rattle.tau_txn.specs.Txn.{RunsBy, hand_in, has_joined, held_in};
 ghost use Rattle.tau_txn.specs.Next.{kind_of, next_action};
-ghost use Rattle.tau_desk.specs.Works.{BeginsIn, CommitsOn, EndsOn, EndsReadingOn, FirstFreesOn, FreesOn, IsSameSeat, Leaves, LocksOn, PostsOn, QuitsOn, RoomMade, RoomOn, undone};
+ghost use Rattle.tau_desk.specs.Works.{BeginsIn, CommitsOn, EndsOn, EndsReadingOn, FirstFreesOn, FreesOn, GivesUp, GivesUpOn, IsSameSeat, Leaves, LocksOn, PostsOn, QuitsOn, RoomMade, RoomOn, undone};
 
 use crate::desk::Desk;
 use crate::mark::Mark;
@@ -20,7 +20,7 @@ use std::sync::Wait;
 use tau_base::{Call, NoMemory};
 use tau_model::Committed;
 use tau_proc::Procs;
-use tau_txn::{Action, ActionKind};
+use tau_txn::{Action, ActionKind, Txn};
 
 impl WorkerSeat {
     /// The call in hand locks the key that it wants. Out of memory, nothing has changed.
@@ -245,6 +245,19 @@ impl WorkerSeat {
         undo(&mut self.work);
     }
 
+    /// From now on the call in hand, which has not joined the committed ones, only gives its keys back, and then it is in hand no more. One that holds none stays, or is undone where it has made no event. Returns whether it holds any.
+    pub fn give_up(&mut self) -> bool
+        requires unjoined { has_joined self.old.work.txn ≡ false }
+        ensures { GivesUpOn self.old self.new result }
+    {
+        if !self.work.txn.holds_key() {
+            undo(&mut self.work);
+            return false;
+        }
+        give_back_keys(&mut self.work.txn);
+        true
+    }
+
     /// Whether the call in hand has joined the committed ones.
     pub fn has_joined(&self) -> bool
         ensures { result ≡ has_joined self.now.work.txn }
@@ -374,6 +387,15 @@ fn keep(committed: &mut Vec<Committed>, kept: Committed)
     ensures room { vec_capacity committed.old - vec_len committed.old ≤ (vec_capacity committed.new - vec_len committed.new) + 1 }
 {
     let _ = committed.push(kept);
+}
+
+/// The call in hand, which holds keys, from now on only gives them back.
+fn give_back_keys(txn: &mut Txn)
+    requires unjoined { has_joined txn.old ≡ false }
+    requires held { 1 ≤ length (held_in txn.old) }
+    ensures { GivesUp txn.old txn.new }
+{
+    txn.give_up();
 }
 
 /// The call in hand, where it has made no event, goes back among those that wait.
