@@ -27,7 +27,7 @@ fn words_of_no_command(rt: HostRuntime) -> Result<(), Fail> {
         &["recover", "17", "1"],
         &["recover", "1", "0"],
         &["--help"],
-        &["bench", "7", "0", "4", "8"],
+        &["bench", "7", "0", "4"],
     ];
     for words in rows {
         let text = told_anew(&rt, alloc, words, b"", 2)?;
