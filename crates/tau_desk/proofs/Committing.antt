@@ -21,7 +21,7 @@ use Rattle.tau_txn.specs.Next as txn
 use Rattle.tau_txn.specs.Next.{act_at, next_action, next_by, next_of}
 use Rattle.tau_txn.specs.Read.{effect_in}
 use Rattle.tau_txn.specs.Record.{entry_of}
-use Rattle.tau_txn.specs.Txn.{PlainTxn, anchor_in, bytes_in, hand_in, has_joined, shown, shown_of, stream_in, worker_of}
+use Rattle.tau_txn.specs.Txn.{PlainTxn, anchor_in, bytes_in, hand_in, has_joined, leaves_in, shown, shown_of, stream_in, worker_of}
 use Rattle.tau_core.specs.declared.state.Load.{Load}
 use Rattle.tau_core.specs.State.{Plain}
 use Rattle.tau_core.specs.View.{call_of}
@@ -107,9 +107,9 @@ to-place origin w m t p size number anchor r q read wide few same raised named s
     }
 
 -- what the call is then
-pub has-committed : (procs : List Proc) (t p t' : PlainTxn) (size number : ℕ) (anchor : List ℕ) (start : ℕ) (kept : Committed) (q : txn.Commits procs t size) → p ≡ record t { hand = p.hand } → hand_in procs p ≡ Some (raised_by q.hand anchor) → anchor_in p ≡ number →
+pub has-committed : (procs : List Proc) (t p t' : PlainTxn) (size number : ℕ) (anchor : List ℕ) (start : ℕ) (kept : Committed) (q : txn.Commits procs t size) → p ≡ record t { hand = p.hand } → (leaves_in t ≡ false → leaves_in p ≡ false) → hand_in procs p ≡ Some (raised_by q.hand anchor) → anchor_in p ≡ number →
     start + length (bytes_in p) < MAX_LSN → ((vectors : List (List ℕ)) → base_of vectors number ≡ anchor → Spells One t.width vectors false (entry_of t.mode (act_at procs p start (raised_by q.hand anchor))) (bytes_in p)) → IsPlaced procs p t' start kept → HasCommitted procs t t' number anchor start kept
-has-committed procs t p t' size number anchor start kept q same raised named small spelled s =
+has-committed procs t p t' size number anchor start kept q same stays raised named small spelled s =
     let h : Hand = raised_by q.hand anchor in
     let a : Act theory.Txn = act_at procs p start h in
     let now = s.is h raised in
@@ -128,7 +128,7 @@ has-committed procs t p t' size number anchor start kept q same raised named sma
       small = subst (λ (b : List ℕ). start + length b < MAX_LSN) (sym s.bytes) small;
       spelled = λ vectors e. subst (λ (b : List ℕ). Spells One t.width vectors false (entry_of t.mode a) b) (sym s.bytes) (spelled vectors e);
       kept_is = now.1;
-      worker = record { runs = s.worker.runs; same = s.worker.same ∙ ap (λ (x : PlainTxn). record x { hand = t'.hand }) same };
+      worker = record { runs = s.worker.runs; same = s.worker.same ∙ ap (λ (x : PlainTxn). record x { hand = t'.hand }) same; stays = λ e. s.worker.stays (stays e) };
     }
 
 -- what the seat was told of the place is that its call has joined the committed ones

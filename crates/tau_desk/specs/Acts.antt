@@ -28,6 +28,8 @@ module _ (procs : List Proc) (t t' : PlainTxn) where
   pub record SameWorker : Type 0 where
     pub runs : RunsBy procs t'
     pub same : t' ≡ record t { hand = t'.hand }
+    -- it is not given up by that
+    pub stays : leaves_in t ≡ false → leaves_in t' ≡ false
 
   -- the call in hand has got the key that it wanted, with this row and this vector
   pub record HasLocked : Type 0 where

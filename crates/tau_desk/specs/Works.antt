@@ -190,6 +190,7 @@ pub record BeginsNext (l : Load) (o o' : PlainWork) : Type 0 where
   pub next : number_by (length l.calls) o.next o.again ≡ Some number
   pub is : call_of l.calls number ≡ Some call
   pub begun : hand_in l.procs o'.txn ≡ Some (fresh o.txn.width (record { number = number; call = call }) 0)
+  pub stays : leaves_in o'.txn ≡ false
   pub same : o'.txn ≡ record o.txn { hand = o'.txn.hand }
   pub others : o' ≡ record roomy { txn = o'.txn; next = next_behind l.workers o.next o.again; again = None; mark = Some (record { next = o.next; again = o.again }) }
 

@@ -7,7 +7,7 @@ ghost use Rattle.tau_core.specs.Opens.{Opened};
 ghost use Rattle.tau_core.specs.State.{Plain};
 ghost use Rattle.tau_rule.specs.Role.{Role as RoleOf};
 ghost use Rattle.tau_desk.specs.Shares.{FitsWork, IsWork};
-ghost use Rattle.tau_txn.specs.Txn.{RunsBy, hand_in, has_joined, held_in};
+ghost use Rattle.tau_txn.specs.Txn.{RunsBy, hand_in, has_joined, held_in, leaves_in};
 ghost use Rattle.tau_txn.specs.Next.{kind_of, next_action};
 ghost use Rattle.tau_desk.specs.Works.{BeginsIn, CommitsOn, EndsOn, EndsReadingOn, FirstFreesOn, FreesOn, GivesUp, GivesUpOn, IsSameSeat, Leaves, LocksOn, PostsOn, QuitsOn, RoomMade, RoomOn, undone};
 
@@ -366,6 +366,7 @@ fn start(work: &mut Work, procs: &Procs, number: u64, call: &Call, workers: usiz
     requires small { work.old.next + workers < 2 ^ 32 }
     ensures begun { hand_in procs.now work.new.txn ≡ Some (fresh work.old.txn.width (record { number = number; call = call.now }) 0) }
     ensures runs { RunsBy procs.now work.new.txn }
+    ensures stays { leaves_in work.new.txn ≡ false }
     ensures same { work.new.txn ≡ record work.old.txn { hand = work.new.txn.hand } }
     ensures others { work.new ≡ record work.old { txn = work.new.txn; next = next_behind workers work.old.next work.old.again; again = None; mark = Some (record { next = work.old.next; again = work.old.again }) } }
 {

@@ -43,5 +43,5 @@ returns-in-Ok-clause-step c =
     to-place origin c.args.worker c.args.seat.now.me c.args.txn.now c.prepare.new.self next.0 c.args.number c.args.anchor.now r q c.requires.read c.requires.wide (let a = streams.0 in let b = streams.2 in omega (arith, a, b)) c.in-Ok.ensures.same raised
     c.in-Ok.ensures.anchor c.in-Ok.ensures.sized (spelled 0) in (
       c.place.ensures.step ∙ placed-joined origin c.args.worker c.args.seat.now.me c.prepare.new.self c.place.new.txn c.place.result.0 c.place.result.1 to c.place.ensures.call,
-      has-committed procs c.args.txn.now c.prepare.new.self c.place.new.txn next.0 c.args.number c.args.anchor.now c.place.result.0 c.place.result.1 q c.in-Ok.ensures.same raised c.in-Ok.ensures.anchor c.place.ensures.small (spelled c.place.result.0) c.place.ensures.call,
+      has-committed procs c.args.txn.now c.prepare.new.self c.place.new.txn next.0 c.args.number c.args.anchor.now c.place.result.0 c.place.result.1 q c.in-Ok.ensures.same c.prepare.ensures.stays raised c.in-Ok.ensures.anchor c.place.ensures.small (spelled c.place.result.0) c.place.ensures.call,
     )

@@ -119,6 +119,6 @@ returns-clause-step g c =
         ends = means;
         kept_is = kept;
         gone = empty;
-        worker = record { runs = subst (λ (p : List Proc). RunsBy p c.went.new.self) c.requires.procs c.went.ensures.runs; same = c.went.ensures.same };
+        worker = record { runs = subst (λ (p : List Proc). RunsBy p c.went.new.self) c.requires.procs c.went.ensures.runs; same = c.went.ensures.same; stays = c.went.ensures.stays };
       },
     )

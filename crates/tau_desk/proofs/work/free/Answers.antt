@@ -120,6 +120,6 @@ returns-clause-step g c =
         frees = means;
         is = subst (λ (p : List Proc). hand_in p c.args.txn.now ≡ Some means.hand → FreesBy p (has_joined c.args.txn.now) c.args.txn.now.worker means.hand means.act → hand_in p c.went.new.self ≡ Some (hand_freed (hand_joined means.hand (Freeing means.act) means.hand.dep) key)) c.requires.procs
             (λ is frees. c.went.ensures.freed means.hand means.act key c.in-Free.write next is frees) means.is means.act_is;
-        worker = record { runs = subst (λ (p : List Proc). RunsBy p c.went.new.self) c.requires.procs c.went.ensures.runs; same = c.went.ensures.same };
+        worker = record { runs = subst (λ (p : List Proc). RunsBy p c.went.new.self) c.requires.procs c.went.ensures.runs; same = c.went.ensures.same; stays = c.went.ensures.stays };
       },
     )

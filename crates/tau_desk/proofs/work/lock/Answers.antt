@@ -133,7 +133,7 @@ returns-in-Ok-clause-step g c =
         dep = c.lock.new.dep;
         wanted = means;
         is = c.granted.ensures.locked origin.load.procs means.hand c.in-Lock.key c.in-Lock.mode r.runs next means.is;
-        worker = record { runs = c.granted.ensures.runs origin.load.procs r.runs; same = c.granted.ensures.same };
+        worker = record { runs = c.granted.ensures.runs origin.load.procs r.runs; same = c.granted.ensures.same; stays = c.granted.ensures.stays };
       },
     )
 
@@ -151,6 +151,6 @@ returns-in-Err-Busy-clause-step g c =
         mode = c.in-Lock.mode;
         wanted = means;
         settles = λ wk. subst (λ (p : List Proc). (x : Worker) (h : Hand) → hand_in p c.args.txn.now ≡ Some h → worker_of p x c.busy.new.self ≡ settled c.args.txn.now.width x (hand_busy h)) c.requires.procs c.busy.ensures.busy wk means.hand means.is;
-        worker = record { runs = subst (λ (p : List Proc). RunsBy p c.busy.new.self) c.requires.procs c.busy.ensures.runs; same = c.busy.ensures.same };
+        worker = record { runs = subst (λ (p : List Proc). RunsBy p c.busy.new.self) c.requires.procs c.busy.ensures.runs; same = c.busy.ensures.same; stays = c.busy.ensures.stays };
       },
     )

@@ -27,5 +27,5 @@ returns-clause-call c =
           let kept : Some c.in-Some.kept ≡ Some (committed_of a) = sym c.in-Some.is ∙ c.committed.ensures.joined procs (hand_joined h (Placed a) h.dep) a runs now refl in
           (now, cc);
       bytes = c.placed.ensures.bytes;
-      worker = record { runs = runs; same = c.placed.ensures.same };
+      worker = record { runs = runs; same = c.placed.ensures.same; stays = c.placed.ensures.stays };
     }

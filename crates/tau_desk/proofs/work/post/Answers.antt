@@ -68,5 +68,5 @@ returns-clause-call g c =
     record {
       posts = record { hand = q.hand; act = q.act; is = q.is; phase = q.phase };
       is = c.take_bytes-bytes.ensures.posted origin.load.procs q.hand q.act r.runs q.is q.phase;
-      worker = record { runs = c.take_bytes-bytes.ensures.runs origin.load.procs r.runs; same = c.take_bytes-bytes.ensures.same };
+      worker = record { runs = c.take_bytes-bytes.ensures.runs origin.load.procs r.runs; same = c.take_bytes-bytes.ensures.same; stays = c.take_bytes-bytes.ensures.stays };
     }

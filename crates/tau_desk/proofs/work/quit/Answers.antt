@@ -85,6 +85,6 @@ returns-clause-step g c =
         quits = means;
         settles = λ x. subst (λ (p : List Proc). (wk : Worker) (h : Hand) (y : Key) → next_action c.args.txn.now ≡ action.Quit y → hand_in p c.args.txn.now ≡ Some h → worker_of p wk c.went.new.self ≡ settled c.args.txn.now.width wk (hand_quit h y (leaves_in c.args.txn.now))) c.requires.procs
             (λ wk h y. c.went.ensures.quit wk h y) x means.hand key next means.is;
-        worker = record { runs = subst (λ (p : List Proc). RunsBy p c.went.new.self) c.requires.procs c.went.ensures.runs; same = c.went.ensures.same };
+        worker = record { runs = subst (λ (p : List Proc). RunsBy p c.went.new.self) c.requires.procs c.went.ensures.runs; same = c.went.ensures.same; stays = c.went.ensures.stays };
       },
     )

@@ -53,6 +53,7 @@ returns-in-Ok-clause-begins c =
       next = next;
       is = n.is ∙ ap Some call;
       begun = ap (λ (k : Load). hand_in k.procs c.start.new.work.txn) (sym same) ∙ c.start.ensures.begun ∙ ap (λ (t : PlainTxn). Some (fresh t.width (record { number = number; call = c.index-as_slice-number.result }) 0)) txn_is;
+      stays = c.start.ensures.stays;
       same = c.start.ensures.same ∙ ap {A = PlainTxn} (λ (t : PlainTxn). record t { hand = c.start.new.work.txn.hand }) txn_is;
       others = c.start.ensures.others ∙ (λ i. record roomy { txn = c.start.new.work.txn; next = next_behind (same i).workers (next_is i) (again_is i); again = None; mark = Some (record { next = next_is i; again = again_is i }) });
     }
