@@ -19,16 +19,16 @@ use Rattle.tau_machine.proofs.At.{at-same, at-other}
 use Rattle.tau_machine.proofs.Accounts.{calls-append, committed-append}
 use Rattle.tau_crew_facts.specs.Keeping.{Keeps, KeepsOf, Steady}
 
-keeps_on : (a b c : Worker) → Keeps a b → Keeps b c → Keeps a c
+pub keeps_on : (a b c : Worker) → Keeps a b → Keeps b c → Keeps a c
 keeps_on a b c p q = record { all = λ n. (let x = p.all n in let y = q.all n in omega (arith, x, y)); steady = q.steady }
 
-itself : (wk : Worker) → Steady wk → Keeps wk wk
+pub itself : (wk : Worker) → Steady wk → Keeps wk wk
 itself wk h = record { all = λ n. omega arith; steady = h }
 
 some_hand : (a b : Hand) → Some a ≡ Some b → a ≡ b
 some_hand a b e = cc e
 
-begun_keeps : (width : ℕ) (wk : Worker) → Steady wk → Keeps wk (begun width wk)
+pub begun_keeps : (width : ℕ) (wk : Worker) → Steady wk → Keeps wk (begun width wk)
 begun_keeps width wk steady = by_hand wk.hand wk.waiting refl refl
   where
     by_hand : (o : Option Hand) (cs : List Numbered) → wk.hand ≡ o → wk.waiting ≡ cs → Keeps wk (begun_by width wk o cs)
@@ -48,7 +48,7 @@ begun_committed width wk = by_hand wk.hand wk.waiting
     by_hand None (c ∷ cs) = refl
 
 -- another hand that accounts for the same call
-hand_keeps : (wk : Worker) (h h' : Hand) → wk.hand ≡ Some h → Steady wk → ((n : ℕ) → in_hand n (Some h) ≤ in_hand n (Some h')) → h'.given_up ≡ h.given_up → Keeps wk (record wk { hand = Some h' })
+pub hand_keeps : (wk : Worker) (h h' : Hand) → wk.hand ≡ Some h → Steady wk → ((n : ℕ) → in_hand n (Some h) ≤ in_hand n (Some h')) → h'.given_up ≡ h.given_up → Keeps wk (record wk { hand = Some h' })
 hand_keeps wk h h' e steady more same = record {
   all = λ n. (let x = ap (in_hand n) e in let y = more n in omega (arith, x, y));
   steady = λ g f. (ap (λ (x : Hand). x.given_up) (sym (some_hand h' g f)) ∙ same ∙ steady h e);
@@ -61,7 +61,7 @@ phase_one n m (Placed t) e = absurd (cc e)
 phase_one n m (Freeing t) e = absurd (cc e)
 
 -- a call that is to quit
-settled_keeps : (width : ℕ) (wk : Worker) (h h' : Hand) → wk.hand ≡ Some h → act_of h.phase ≡ None → h'.phase ≡ Quitting → h'.call ≡ h.call → h'.given_up ≡ false → Keeps wk (settled width wk h')
+pub settled_keeps : (width : ℕ) (wk : Worker) (h h' : Hand) → wk.hand ≡ Some h → act_of h.phase ≡ None → h'.phase ≡ Quitting → h'.call ≡ h.call → h'.given_up ≡ false → Keeps wk (settled width wk h')
 settled_keeps width wk h h' e none quits call up = by_held h'.held h'.given_up (h'.tries == MAX_TRIES) up
   where
     was : (n : ℕ) → in_hand n wk.hand ≡ one n h'.call.number
@@ -86,7 +86,7 @@ settled_keeps width wk h h' e none quits call up = by_held h'.held h'.given_up (
     }
 
 -- the call in hand joins the committed ones
-joins_keeps : (width : ℕ) (wk : Worker) (h : Hand) (p : Phase) (dep : List ℕ) (c : Committed) → (begun width wk).hand ≡ Some h → h.phase ≡ Running → c.number ≡ h.call.number → Steady wk →
+pub joins_keeps : (width : ℕ) (wk : Worker) (h : Hand) (p : Phase) (dep : List ℕ) (c : Committed) → (begun width wk).hand ≡ Some h → h.phase ≡ Running → c.number ≡ h.call.number → Steady wk →
     Keeps wk (record (begun width wk) { hand = Some (hand_joined h p dep); committed = wk.committed ++ c ∷ [] })
 joins_keeps width wk h p dep c e runs number steady =
     let b = begun_keeps width wk steady in record {
