@@ -1,5 +1,6 @@
 //! The clerk on its seat.
 ghost use Rattle.std.specs.Prelude.{◌≡◌, ◌<◌, ◌≤◌, IfNone, IfSome, Some, false, length, slice_index, slice_set};
+ghost use Rattle.tau_ack.specs.Pending.{NoneCovered, TakesFirst};
 ghost use Rattle.tau_rule.specs.Positions.{sees_to};
 ghost use Rattle.tau_desk.specs.Manages.{AcksFirst, AcksNone, SeesOn};
 
@@ -7,8 +8,8 @@ use crate::desk::Desk;
 use crate::manager::take_box;
 use crate::seat::ClerkSeat;
 use std::sync::Wait;
-use tau_ack::Waiting;
-use tau_base::SHARDS;
+use tau_ack::{Pending, Waiting};
+use tau_base::{Lv, SHARDS};
 use tau_rule::Part;
 
 impl ClerkSeat {
@@ -34,7 +35,7 @@ impl ClerkSeat {
         ensures none { IfNone result (AcksNone desk.now.table.shared.key.value self.old worker self.new) }
     {
         let (outbox, mut pending) = take_box(rt, desk, &mut self.seat, worker);
-        match pending.take_covered(&self.seen) {
+        match take_first(&mut pending, &self.seen) {
             Some(call) => {
                 desk.give_acked(&mut self.seat, worker, outbox, pending, &call);
                 Some(call)
@@ -87,4 +88,14 @@ impl ClerkSeat {
         }
         rose
     }
+}
+
+/// The first call whose vector these positions cover, taken out. None exactly where no call is covered.
+fn take_first(pending: &mut Pending, seen: &Lv) -> Option<Waiting>
+    ensures first { IfSome result (λ w. TakesFirst seen.now pending.old.calls w pending.new.calls) }
+    ensures none { IfNone result (NoneCovered seen.now pending.old.calls) }
+    ensures unchanged { IfNone result (pending.new.calls ≡ pending.old.calls) }
+    ensures room { pending.old.room ≤ pending.new.room }
+{
+    pending.take_covered(seen)
 }

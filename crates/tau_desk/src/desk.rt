@@ -195,7 +195,7 @@ impl Desk {
     {
         let stream = usize::from(worker) % self.streams;
         let word = 8 * (self.parts + stream);
-        let size = txn.record_size();
+        let size = size_of(txn);
         self.table.shared.fetch_add::<Place<N>>(seat, word, size)
     }
 
@@ -263,4 +263,11 @@ impl Desk {
         let number = SHARDS + usize::from(worker);
         self.come_home::<N>(seat, number, Part::Outbox(outbox, pending));
     }
+}
+
+/// How many bytes the record of the call in hand has.
+fn size_of(txn: &Txn) -> u64
+    ensures { result ≡ length (bytes_in txn.now) }
+{
+    txn.record_size()
 }

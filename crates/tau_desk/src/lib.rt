@@ -1,8 +1,8 @@
 //! The core split over a table: shards, outboxes and anchors in parts, each with its turn; places, persisted positions and the stop in words; the rest in what each seat knows.
 #![tactic(auto)]
 
-mod anchors;
 mod agrees;
+mod anchors;
 mod clerk;
 mod clerk_gives;
 mod closes;

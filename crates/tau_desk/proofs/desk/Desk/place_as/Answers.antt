@@ -12,5 +12,5 @@ fetch_add-requires g c =
     let low : k < c.args.self.now.streams = mod-lt c.from.result (omega (arith, streams.1)) in (
       search rules,
       (let a = sized.0 in let b = streams.0 in omega arith),
-      places_as c.args.self.now.table.shared.key.value _ _ c.args.worker k _ _ c.args.seat.now.me c.args.txn.now c.requires.call _ (sized.1 ∙ sized.2) is (let b = streams.0 in omega arith) (ap (λ (n : ℕ). 8 * (n + k)) sized.2) c.record_size-size.ensures c.requires.told,
+      places_as c.args.self.now.table.shared.key.value _ _ c.args.worker k _ _ c.args.seat.now.me c.args.txn.now c.requires.call _ (sized.1 ∙ sized.2) is (let b = streams.0 in omega arith) (ap (λ (n : ℕ). 8 * (n + k)) sized.2) c.size_of-size.ensures c.requires.told,
     )

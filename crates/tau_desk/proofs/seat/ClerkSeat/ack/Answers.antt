@@ -25,9 +25,9 @@ give_acked-requires-clause-event g c =
     let held = c.take_box-outbox.ensures.held in
     let h = c.self.invariant in
     let b : BoxOf = (c.take_box-outbox.result.0.value, c.take_box-outbox.result.1.value) in
-    let b' : BoxOf = (c.take_box-outbox.result.0.value, c.take_covered.new.self) in
+    let b' : BoxOf = (c.take_box-outbox.result.0.value, c.take_first.new.pending) in
     let before : c.deref_mut.result.now ≡ c.take_box-outbox.result.1.value = c.deref_mut.ensures.value in
-    let takes : TakesFirst c.self.inside.seen b.1.calls c.in-Some.call b'.1.calls = subst (λ (z : PlainPending). TakesFirst c.self.inside.seen z.calls c.in-Some.call c.take_covered.new.self.calls) before c.in-Some.ensures.first in (
+    let takes : TakesFirst c.self.inside.seen b.1.calls c.in-Some.call b'.1.calls = subst (λ (z : PlainPending). TakesFirst c.self.inside.seen z.calls c.in-Some.call c.take_first.new.pending.calls) before c.in-Some.ensures.first in (
       b',
       refl,
       box-acked key c.self.inside.seat.me c.take_box-outbox.new.seat.me (at-key c.self.inside.seat.me c.self.inside.seen key h (ap (λ s. s.me.0.opened) c.self.view_is ∙ c.requires.opened)) c.self.inside.seen c.args.worker c.in-Some.call held.0 b b'
@@ -45,8 +45,8 @@ give_back-requires-clause-same g c =
     let h = c.self.invariant in
     let held = c.take_box-outbox.ensures.held in
     let before : c.deref_mut.result.now ≡ c.take_box-outbox.result.1.value = c.deref_mut.ensures.value in
-    box-back c.args.desk.now.table.shared.key.value c.self.inside.seat.me c.take_box-outbox.new.seat.me (clerk_role h.origin.load) h.role c.args.worker (SHARDS + c.from.result) held.0 (part.Outbox c.take_box-outbox.result.0 (with_value c.take_box-outbox.result.1 c.take_covered.new.self))
-    (c.take_box-outbox.result.0.value, c.take_box-outbox.result.1.value) (c.take_box-outbox.result.0.value, c.take_covered.new.self) h.roles c.requires.there (let e = c.from.ensures in omega (arith, e)) held.1 held.2 refl refl
+    box-back c.args.desk.now.table.shared.key.value c.self.inside.seat.me c.take_box-outbox.new.seat.me (clerk_role h.origin.load) h.role c.args.worker (SHARDS + c.from.result) held.0 (part.Outbox c.take_box-outbox.result.0 (with_value c.take_box-outbox.result.1 c.take_first.new.pending))
+    (c.take_box-outbox.result.0.value, c.take_box-outbox.result.1.value) (c.take_box-outbox.result.0.value, c.take_first.new.pending) h.roles c.requires.there (let e = c.from.ensures in omega (arith, e)) held.1 held.2 refl refl
     (c.in-None.ensures.unchanged ∙ ap (λ (p : PlainPending). p.calls) before) (omega arith) (let e = ap (λ (p : PlainPending). p.room) before in let d = c.in-None.ensures.room in omega (arith, e, d))
 
 pub returns-in-Some-clause-acked : goal.returns-in-Some-clause-acked
@@ -64,8 +64,8 @@ returns-in-Some-clause-acked g c =
       agrees = held.3;
       before = (c.take_box-outbox.result.0.value, c.take_box-outbox.result.1.value);
       was = held.2;
-      left = c.take_covered.new.self.calls;
-      takes = subst (λ (z : PlainPending). TakesFirst c.self.inside.seen z.calls c.in-Some.call c.take_covered.new.self.calls) before c.in-Some.ensures.first;
+      left = c.take_first.new.pending.calls;
+      takes = subst (λ (z : PlainPending). TakesFirst c.self.inside.seen z.calls c.in-Some.call c.take_first.new.pending.calls) before c.in-Some.ensures.first;
       after = λ i. record s { table_id = (own.0 ∙ took.0) i; id = (own.1 ∙ took.1) i; me = knows i };
     } in
     subst (λ (z : PlainClerkSeat). AcksFirst key z c.args.worker c.in-Some.call s') c.self.view_is all
