@@ -1,5 +1,6 @@
 pub mod Acts
 pub mod Anchors
+pub mod Asks
 pub mod Close
 pub mod Shares
 pub mod Seats

@@ -3,6 +3,7 @@
 
 mod agrees;
 mod anchors;
+mod asks;
 mod clerk;
 mod clerk_gives;
 mod closes;

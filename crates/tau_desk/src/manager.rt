@@ -47,7 +47,7 @@ pub(crate) fn take_box<R: Wait>(
 
 impl Stock {
     // Where what it gathered ends.
-    fn upto(&self) -> u64
+    pub(crate) fn upto(&self) -> u64
         ensures { result ≡ self.now.gathered }
     {
         self.gathered
