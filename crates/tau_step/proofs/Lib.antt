@@ -6,9 +6,9 @@ mod Clearing
 mod Joined
 mod OneByOne
 mod Managing
-mod Bodies
+pub mod Bodies
 mod Images
-mod Flushing
+pub mod Flushing
 mod Handing
 mod NothingNew
 mod Gathering
