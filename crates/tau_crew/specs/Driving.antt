@@ -1,0 +1,81 @@
+-- A manager with its writer: what its loop keeps.
+use Rattle.std.specs.Prelude.{ℕ, ◌+◌, ◌≤◌, ◌≡◌, Bool, false, List, [], length, map, slice_index}
+use Rattle.tau_base.specs.declared.limits.TheConstants.{MAX_BODY}
+use Rattle.tau_disk.specs.declared.disk.Disk.{Ghosts}
+use Rattle.tau_stream.specs.declared.writer.Writer.{Writer}
+use Rattle.tau_stream.specs.Writer.{durable_of, has_failed, left_of}
+use Rattle.tau_outbox.specs.Pieces.{bytes_of}
+use Rattle.tau_desk.specs.Seats.{PlainManagerSeat}
+use Rattle.tau_crew_facts.specs.Spacing.{IsSpacing, newest}
+use Rattle.tau_crew_facts.specs.Writers.{HasWritten, IsManaging}
+use Rattle.tau_crew.specs.Gathering.{AreLong, raised_in, taken_in}
+
+-- the own components of the anchors that the manager of a stream has placed
+abbrev pub own_of : ℕ → List (List ℕ) → List ℕ
+own_of j anchors = map (λ (v : List ℕ). slice_index v j) anchors
+
+module _ {D : Type 0} {G : Ghosts D} where
+  -- The seat of the manager of stream j of n with its writer, which was w0 at the entry: the writer has what the view has gathered, and what was
+  -- stored last is durable. The stop was raised exactly if the disk has failed.
+  pub record IsDriven (n j : ℕ) (base : List ℕ) (w0 : Writer D G) (s : PlainManagerSeat) (w : Writer D G) : Type 0 where
+    pub stream : s.stream ≡ j
+    pub managing : IsManaging n j base (taken_in s) w0 w
+    pub stored : slice_index s.seen j ≡ durable_of w
+    pub counted : s.stock.gathered ≡ length base + length (bytes_of (taken_in s))
+    pub long : AreLong s.stock.own.pieces
+    pub raised : raised_in s.me.0 ≡ has_failed w
+
+  -- all that was gathered is durable, unless the disk failed
+  abbrev pub IsFlushed : Writer D G → Type 0
+  IsFlushed w = has_failed w ≡ false → left_of w ≡ []
+
+  -- where memory was wanting the view may have more than the writer has
+  pub record IsDrivenShort (n j : ℕ) (base : List ℕ) (w0 : Writer D G) (s : PlainManagerSeat) (w : Writer D G) : Type 0 where
+    pub stream : s.stream ≡ j
+    pub written : HasWritten n j base (taken_in s) (slice_index s.seen j) w0 w
+
+  -- whatever the stream began with and the writer was at the entry, a step keeps it
+  abbrev pub KeepsDriven : PlainManagerSeat → PlainManagerSeat → Writer D G → Writer D G → Type 0
+  KeepsDriven s s' w w' = (n j : ℕ) (base : List ℕ) (w0 : Writer D G) → IsDriven n j base w0 s w → IsDriven n j base w0 s' w'
+
+  abbrev pub EndsShort : PlainManagerSeat → PlainManagerSeat → Writer D G → Writer D G → Type 0
+  EndsShort s s' w w' = (n j : ℕ) (base : List ℕ) (w0 : Writer D G) → IsDriven n j base w0 s w → IsFlushed w → IsDrivenShort n j base w0 s' w'
+
+  -- some manager's loop keeps it
+  abbrev pub CanDrive : PlainManagerSeat → Writer D G → Type 0
+  CanDrive s w = (n : ℕ) × (j : ℕ) × (base : List ℕ) × (w0 : Writer D G) × IsDriven n j base w0 s w
+
+-- nothing changed of the seat but what it knows
+pub record SameButKnows (s s' : PlainManagerSeat) : Type 0 where
+  pub table : s'.table_id ≡ s.table_id
+  pub stream : s'.stream ≡ s.stream
+  pub stock : s'.stock ≡ s.stock
+  pub opened : s'.me.0.opened ≡ s.me.0.opened
+
+-- a step by which the manager gathers nothing and stores nothing
+pub record KeepsSeat (s s' : PlainManagerSeat) : Type 0 where
+  pub table : s'.table_id ≡ s.table_id
+  pub stream : s'.stream ≡ s.stream
+  pub opened : s'.me.0.opened ≡ s.me.0.opened
+  pub raised : raised_in s'.me.0 ≡ raised_in s.me.0
+  pub taken : taken_in s' ≡ taken_in s
+  pub gathered : s'.stock.gathered ≡ s.stock.gathered
+  pub stored : slice_index s'.seen s.stream ≡ slice_index s.seen s.stream
+  pub long : AreLong s.stock.own.pieces → AreLong s'.stock.own.pieces
+
+-- So many anchors were placed, in their distance up to there; the newest one, or the opening's end, is `last`.
+pub record IsApart (base durable last placed : ℕ) (s : PlainManagerSeat) : Type 0 where
+  pub spacing : IsSpacing base durable (own_of s.stream s.stock.anchors)
+  pub last_is : last ≡ newest base (own_of s.stream s.stock.anchors)
+  pub placed_is : placed ≡ length s.stock.anchors
+
+-- what was durable before, and what is now, a block further at most
+abbrev pub IsBlock : ℕ → ℕ → Type 0
+IsBlock before durable = (before ≤ durable) × (durable ≤ before + MAX_BODY)
+
+-- The manager of stream j of n, whose writer was w0 at the entry, at the head of a turn. Where memory was wanting it says less.
+pub record IsManagerAt {D : Type 0} {G : Ghosts D} (n j : ℕ) (base : List ℕ) (w0 : Writer D G) (s : PlainManagerSeat) (w : Writer D G) (last placed : ℕ) (short : Bool) : Type 0 where
+  pub wrote : IsDrivenShort n j base w0 s w
+  pub driven : short ≡ false → IsDriven n j base w0 s w
+  pub flushed : short ≡ false → IsFlushed w
+  pub apart : short ≡ false → IsApart (length base) (durable_of w) last placed s

@@ -1,0 +1,143 @@
+//! A manager places anchors, and removes entries that are not needed any more.
+ghost use Rattle.std.specs.Prelude.{◌≡◌, ◌+◌, ◌^◌, ◌<◌, ◌≤◌, ◌++◌, ◌∷◌, [], Some, ℕ, OnOk, length, slice_index};
+ghost use Rattle.tau_crew.specs.Driving.{IsApart, IsBlock, KeepsSeat};
+
+use std::sync::Wait;
+use tau_base::{NoMemory, SHARDS};
+use tau_desk::{Desk, ManagerSeat};
+
+/// How many content bytes are persisted at least from one anchor to the next.
+const ANCHOR_BYTES: u64 = 65_536;
+
+/// No anchor has a greater number.
+const LAST_ANCHOR: u64 = 4_294_967_295;
+
+/// Where the anchors of a manager stand.
+#[derive(Clone, Copy, Debug, PartialEq, Eq)]
+pub struct Marks {
+    /// What the newest one holds of its own stream; where there is none, where the opening ended.
+    pub last: u64,
+    /// How many there are.
+    pub placed: u32,
+}
+
+/// Looks how far another stream is persisted.
+fn look_other(desk: &Desk, seat: &mut ManagerSeat, stream: u8, other: usize)
+    requires own { seat.old.table_id ≡ desk.now.table.shared.table_id }
+    requires opened { seat.old.me.0.opened ≡ Some desk.now.table.shared.key.value }
+    requires stream { seat.old.stream ≡ stream }
+    requires there { other < desk.now.streams }
+    ensures keeps { KeepsSeat seat.old seat.new }
+    ensures stock { seat.new.stock ≡ seat.old.stock }
+{
+    if other == stream as usize {
+        return;
+    }
+    seat.persisted(desk, other as u8);
+}
+
+/// Looks how far the other streams are persisted. Of its own the manager knows it.
+fn look_others(desk: &Desk, seat: &mut ManagerSeat, stream: u8)
+    requires own { seat.old.table_id ≡ desk.now.table.shared.table_id }
+    requires opened { seat.old.me.0.opened ≡ Some desk.now.table.shared.key.value }
+    requires stream { seat.old.stream ≡ stream }
+    ensures keeps { KeepsSeat seat.old seat.new }
+    ensures stock { seat.new.stock ≡ seat.old.stock }
+{
+    for other in 0..desk.streams {
+        look_other(desk, seat, stream, other);
+    }
+}
+
+/// Removes the entries of a shard that are covered, where the shard belongs to the stream.
+fn sweep_shard<R: Wait>(rt: &R, desk: &Desk, seat: &mut ManagerSeat, stream: u8, number: usize)
+    requires own { seat.old.table_id ≡ desk.now.table.shared.table_id }
+    requires opened { seat.old.me.0.opened ≡ Some desk.now.table.shared.key.value }
+    requires there { number < SHARDS }
+    ensures { seat.new ≡ seat.old }
+{
+    if number % desk.streams != stream as usize {
+        return;
+    }
+    seat.drop_covered(rt, desk, number as u8);
+}
+
+/// Removes the covered entries from the shards of the stream.
+fn sweep<R: Wait>(rt: &R, desk: &Desk, seat: &mut ManagerSeat, stream: u8)
+    requires own { seat.old.table_id ≡ desk.now.table.shared.table_id }
+    requires opened { seat.old.me.0.opened ≡ Some desk.now.table.shared.key.value }
+    ensures { seat.new ≡ seat.old }
+{
+    for number in 0..SHARDS {
+        sweep_shard(rt, desk, seat, stream, number);
+    }
+}
+
+/// Places and publishes an anchor that holds the positions which the manager has seen persisted, where so many were placed.
+fn anchor<R: Wait>(
+    rt: &R,
+    desk: &Desk,
+    seat: &mut ManagerSeat,
+    stream: u8,
+    placed: u32,
+) -> Result<(), NoMemory>
+    requires own { seat.old.table_id ≡ desk.now.table.shared.table_id }
+    requires opened { seat.old.me.0.opened ≡ Some desk.now.table.shared.key.value }
+    requires stream { seat.old.stream ≡ stream }
+    requires placed { placed ≡ length seat.old.stock.anchors }
+    requires there { stream < length desk.now.load.opening.anchors.items }
+    ensures keeps { KeepsSeat seat.old seat.new }
+    ensures more { OnOk result (seat.new.stock.anchors ≡ seat.old.stock.anchors ++ seat.old.seen ∷ []) }
+    ensures room { OnOk result (placed + 1 < 2 ^ 32) }
+{
+    seat.agrees();
+    let before = desk.load.opening.anchors.as_slice()[stream as usize];
+    if u64::from(before) + u64::from(placed) >= LAST_ANCHOR {
+        return Err(NoMemory);
+    }
+    match seat.reserve() {
+        Ok(()) => {}
+        Err(_) => return Err(NoMemory),
+    }
+    match seat.place_anchor(rt, desk) {
+        Ok(()) => {
+            seat.publish(rt, desk);
+            Ok(())
+        }
+        Err(_) => Err(NoMemory),
+    }
+}
+
+/// What follows a flush, up to which the stream is persisted: entries that are covered go, and an anchor is placed if one is due.
+pub(crate) fn follow<R: Wait>(
+    rt: &R,
+    desk: &Desk,
+    seat: &mut ManagerSeat,
+    stream: u8,
+    durable: u64,
+    marks: &mut Marks,
+) -> Result<(), NoMemory>
+    requires own { seat.old.table_id ≡ desk.now.table.shared.table_id }
+    requires opened { seat.old.me.0.opened ≡ Some desk.now.table.shared.key.value }
+    requires stream { seat.old.stream ≡ stream }
+    requires stored { slice_index seat.old.seen stream ≡ durable }
+    requires placed { marks.old.placed ≡ length seat.old.stock.anchors }
+    requires low { marks.old.last ≤ durable }
+    requires there { stream < length desk.now.load.opening.anchors.items }
+    ensures keeps { KeepsSeat seat.old seat.new }
+    ensures apart { OnOk result ((base before : ℕ) → IsApart base before marks.old.last marks.old.placed seat.old → IsBlock before durable → IsApart base durable marks.new.last marks.new.placed seat.new) }
+{
+    look_others(desk, seat, stream);
+    sweep(rt, desk, seat, stream);
+    if durable - marks.last < ANCHOR_BYTES {
+        return Ok(());
+    }
+    match anchor(rt, desk, seat, stream, marks.placed) {
+        Ok(()) => {
+            marks.last = durable;
+            marks.placed += 1;
+            Ok(())
+        }
+        Err(_) => Err(NoMemory),
+    }
+}

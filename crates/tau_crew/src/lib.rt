@@ -1,0 +1,12 @@
+//! Runs in threads: workers, managers and the clerk side by side, each on its seat at the desk.
+#![tactic(auto)]
+
+mod anchor;
+mod flush;
+mod gather;
+mod manager;
+mod shared;
+
+pub use anchor::Marks;
+pub use manager::ManagerJob;
+pub use shared::Crew;
