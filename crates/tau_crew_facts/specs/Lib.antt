@@ -5,3 +5,4 @@ pub mod Keeping
 pub mod Ends
 pub mod Closing
 pub mod Laws
+pub mod Threads

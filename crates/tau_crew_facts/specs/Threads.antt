@@ -1,0 +1,83 @@
+-- What a run in threads leaves, and what it tells.
+use Rattle.std.specs.Prelude.{ℕ, ◌<◌, ◌≡◌, Bool, true, false, Option, Some, None, List, length, map, take, slice_get, Result, Ok, Err}
+use Rattle.tau_base.specs.declared.value.LogMode.{LogMode}
+use Rattle.tau_base.specs.declared.value.NoMemory.{NoMemory}
+use Rattle.tau_disk.specs.declared.disk.Disk.{Ghosts}
+use Rattle.tau_stream.specs.declared.writer.Writer.{Writer}
+use Rattle.tau_stream.specs.Writer.{has_failed}
+use Rattle.tau_model.specs.History.{Act}
+use Rattle.tau_model.specs.Tables.{IsTablesOf}
+use Rattle.tau_machine.specs.Hands.{Txn}
+use Rattle.tau_machine.specs.Reports.{reported}
+use Rattle.tau_machine.specs.State.{Core, sight}
+use Rattle.tau_text.specs.declared.load.Workload.{Workload}
+use Rattle.tau_report.specs.declared.report.RunEnd.{RunEnd}
+use Rattle.tau_core.specs.declared.opening.Opening.{Opening}
+use Rattle.tau_core.specs.Opens.{load_of}
+use Rattle.tau_core.specs.State.{Plain}
+use Rattle.tau_core.specs.View.{setting_of}
+use Rattle.tau_run.specs.Course.{IsLoadOf}
+use Rattle.tau_run.specs.Facts.{catalogue_of}
+use Rattle.tau_step.specs.RunTold.{Began, fates_by}
+use Rattle.tau_step.specs.Telling.{Heard}
+use Rattle.tau_crew_facts.specs.Ends.{AreApart, IsThreadDone, IsThreadEnd}
+
+-- no disk failed
+abbrev pub NoneFailed : {D : Type 0} {G : Ghosts D} → List (Writer D G) → Type 0
+NoneFailed {D} {G} ws = (j : ℕ) (w : Writer D G) → slice_get ws j ≡ Some w → has_failed w ≡ false
+
+-- the lowest stream whose disk failed
+abbrev pub IsLowestFailed : {D : Type 0} {G : Ghosts D} → List (Writer D G) → Option ℕ → Type 0
+IsLowestFailed {D} {G} ws None = NoneFailed ws
+IsLowestFailed {D} {G} ws (Some j) = ((w : Writer D G) × (slice_get ws j ≡ Some w) × (has_failed w ≡ true)) × ((i : ℕ) (w : Writer D G) → i < j → slice_get ws i ≡ Some w → has_failed w ≡ false)
+
+-- The run from the core `first`, on streams that had these bytes. All that it leaves and tells is of one state.
+module _ {D : Type 0} {G : Ghosts D} (bases : ℕ → List ℕ) (first : Plain) (ws ws' : List (Writer D G)) (hears : Type 0) (held held' : List ℕ) (sink_rose : Type 0) where
+  -- to its end, with what it tells
+  pub record ThreadsEnded (end : RunEnd) : Type 0 where
+    pub state : Core
+    pub acks : List (ℕ × List ℕ)
+    pub came : IsThreadEnd bases first state ws ws' acks
+    pub done : IsThreadDone first.load state ws'
+    pub heard : hears → Heard held acks end.sink_failed held'
+    pub sink : end.sink_failed ≡ true → sink_rose
+    pub disk : IsLowestFailed ws' end.disk
+    pub told : end.report.acks ≡ acks
+    pub fates : end.report.fates ≡ fates_by (length first.load.calls) came.closed.joined acks
+    pub order : end.report.order ≡ map (λ (t : Act Txn). t.call.call.number) (reported state.ends came.closed.joined)
+    pub tables : IsTablesOf (sight (setting_of first.load) state).row end.report.tables
+    pub apart : NoneFailed ws' → AreApart bases first.load.streams state
+
+  -- So far as memory was there: the sink holds the lines of the first acknowledgements, a first part of them where it failed.
+  pub record ThreadsShort : Type 0 where
+    pub state : Core
+    pub acks : List (ℕ × List ℕ)
+    pub came : IsThreadEnd bases first state ws ws' acks
+    pub count : ℕ
+    pub sink_failed : Bool
+    pub heard : hears → Heard held (take count acks) sink_failed held'
+    pub sink : sink_failed ≡ true → sink_rose
+
+  abbrev pub ThreadsRan : Result RunEnd NoMemory → Type 0
+  ThreadsRan (Ok end) = ThreadsEnded end
+  ThreadsRan (Err e) = ThreadsShort
+
+module _ {D : Type 0} {G : Ghosts D} (m : ℕ) (mode : LogMode) (load : Workload) (ws ws' : List (Writer D G)) (hears : Type 0) (held held' : List ℕ) (sink_rose : Type 0) where
+  -- by m workers on streams that were just created for the workload
+  pub record ThreadsNew (result : Result RunEnd NoMemory) : Type 0 where
+    pub first : Plain
+    pub load_is : IsLoadOf (length ws) m mode load first.load
+    pub ran : ThreadsRan (λ j. catalogue_of load) first ws ws' hears held held' sink_rose result
+
+  -- the same from a given state, on streams that had these bytes
+  pub record ThreadsFrom (opening : Opening) (bases : ℕ → List ℕ) (result : Result RunEnd NoMemory) : Type 0 where
+    pub first : Plain
+    pub load_is : first.load ≡ load_of load.declarations.procs load.calls mode m opening
+    pub ran : ThreadsRan bases first ws ws' hears held held' sink_rose result
+
+  -- It may have been out of memory before it began: then nothing was touched.
+  abbrev pub RanInThreads : Result RunEnd NoMemory → Type 0
+  RanInThreads result = Began m mode load ws ws' hears held held' sink_rose ThreadsNew result
+
+  abbrev pub RanInThreadsFrom : Opening → (ℕ → List ℕ) → Result RunEnd NoMemory → Type 0
+  RanInThreadsFrom opening bases result = Began m mode load ws ws' hears held held' sink_rose (ThreadsFrom opening bases) result
