@@ -28,6 +28,7 @@ use tau_shard::Shard;
 use tau_txn::Txn;
 
 /// The core, split over a table.
+#[derive(Drop)]
 pub struct Desk {
     pub table: Table<Option<Part>, View, Snapshot<Core>, OneCore, Global>,
     /// What the run stands on.

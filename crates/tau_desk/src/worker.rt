@@ -265,6 +265,13 @@ impl WorkerSeat {
         self.work.txn.has_joined()
     }
 
+    /// What is kept of its calls that have joined the committed ones, in their order.
+    pub fn committed(&self) -> &[Committed]
+        ensures { result.now ≡ self.now.work.committed }
+    {
+        self.work.committed.as_slice()
+    }
+
     /// Whether a call is in hand.
     pub fn in_hand(&self) -> bool
         ensures { result ≡ is_some self.now.work.txn.hand }
