@@ -1,0 +1,9 @@
+//! Runs of the desk in threads. They stand in a crate of their own, so that the desk is proved once.
+#![tactic(auto)]
+
+#[cfg(test)]
+mod rounds;
+#[cfg(test)]
+mod runs;
+#[cfg(test)]
+mod support;
