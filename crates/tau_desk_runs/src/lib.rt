@@ -7,3 +7,8 @@ mod rounds;
 mod runs;
 #[cfg(test)]
 mod support;
+//! Worked runs of the desk, seat by seat on one thread. They stand in a crate of their own, so that the desk is proved once.
+#![tactic(auto)]
+
+#[cfg(test)]
+mod tests;
