@@ -1,3 +1,4 @@
 pub mod Gathering
 pub mod Driving
 pub mod Anchoring
+pub mod Clerking

@@ -1,3 +1,4 @@
 pub mod Gathering
 pub mod Driving
 pub mod Jobs
+pub mod Clerking

@@ -2,11 +2,14 @@
 #![tactic(auto)]
 
 mod anchor;
+mod clerk;
 mod flush;
 mod gather;
 mod manager;
 mod shared;
+mod told;
 
 pub use anchor::Marks;
 pub use manager::ManagerJob;
 pub use shared::Crew;
+pub use told::Told;

@@ -1,0 +1,7 @@
+use Rattle.std.proofs.Common.{◌≡◌}
+use Rattle.std.specs.Prelude.{None}
+use Rattle.tau_crew.specs.Clerking.{Acknowledges}
+use Rattle.tau_crew.proofs.clerk.ack_all.Given as goal
+
+abbrev pub invariant-loop-worker : goal.invariant-loop-worker
+invariant-loop-worker g l = Acknowledges l.desk.load l.initial.seat l.seat l.initial.told l.told × (l.told.missing ≡ None)

@@ -1,0 +1,27 @@
+use Rattle.std.proofs.Common.{◌∙◌, refl}
+use Rattle.tau_crew.proofs.Clerking.{acknowledges-none, acknowledges-on}
+use Rattle.tau_crew.proofs.clerk.ack_worker.Goals as goal
+
+pub loop-call-init : goal.loop-call-init
+loop-call-init g c = (acknowledges-none c.args.desk.now.load c.args.seat.now c.args.seat.now c.args.told.now refl, c.requires.none)
+
+pub ack_one-requires-clause-own : goal.ack_one-requires-clause-own
+ack_one-requires-clause-own g c = c.loop-call.invariant.0.same.table ∙ c.requires.own
+
+pub ack_one-requires-clause-opened : goal.ack_one-requires-clause-opened
+ack_one-requires-clause-opened g c = c.loop-call.invariant.0.same.opened ∙ c.requires.opened
+
+pub ack_one-requires-clause-none : goal.ack_one-requires-clause-none
+ack_one-requires-clause-none g c = c.loop-call.invariant.1
+
+pub returns-in-Ok-false-clause-goes : goal.returns-in-Ok-false-clause-goes
+returns-in-Ok-false-clause-goes g c = acknowledges-on c.args.desk.now.load c.args.seat.now c.loop-call.seat c.ack_one.new.seat c.args.told.now c.loop-call.told c.ack_one.new.told c.loop-call.invariant.0 c.ack_one.ensures.goes
+
+pub returns-in-Err-clause-goes : goal.returns-in-Err-clause-goes
+returns-in-Err-clause-goes g c = acknowledges-on c.args.desk.now.load c.args.seat.now c.loop-call.seat c.ack_one.new.seat c.args.told.now c.loop-call.told c.ack_one.new.told c.loop-call.invariant.0 c.ack_one.ensures.goes
+
+pub loop-call-preserved : goal.loop-call-preserved
+loop-call-preserved g c = (
+  acknowledges-on c.args.desk.now.load c.args.seat.now c.loop-call.seat c.ack_one.new.seat c.args.told.now c.loop-call.told c.ack_one.new.told c.loop-call.invariant.0 c.ack_one.ensures.goes,
+  c.in-Ok-true.ensures.none,
+)
