@@ -1,5 +1,5 @@
 -- How a run on open streams ends, by its answer.
-use Rattle.std.proofs.Common.{ℕ, ◌<◌, ◌≤◌, ◌≡◌, ◌⊎◌, inl, inr, true, false, List, [], ◌++◌, map, length, take, refl, sym, ap, subst, ◌∙◌, Result, Ok, Err, arith}
+use Rattle.std.proofs.Common.{ℕ, ◌<◌, ◌≤◌, ◌≡◌, ◌⊎◌, inl, inr, List, [], ◌++◌, map, length, refl, sym, ap, subst, ◌∙◌, Result, Ok, Err, arith}
 use Rattle.std.specs.Prelude.{Some, slice_get}
 use Rattle.std.proofs.lemmas.List.{append-nil}
 use Rattle.tau_base.specs.declared.value.LogMode.{LogMode}
@@ -15,35 +15,25 @@ use Rattle.tau_open.specs.Opening.{IsOpened, AreOpened, Begins}
 use Rattle.tau_open.proofs.Closed.{rest_back, each_back}
 use Rattle.tau_text.specs.declared.load.Workload.{Workload}
 use Rattle.tau_report.specs.declared.report.RunEnd.{RunEnd}
-use Rattle.tau_report.specs.Report.{ack_lines}
-use Rattle.tau_core.specs.View.{core_of}
-use Rattle.tau_core.specs.State.{Plain}
-use Rattle.tau_core.specs.Opens.{Opened}
 use Rattle.tau_run.specs.Facts.{catalogue_of}
-use Rattle.tau_run.specs.Course.{IsLoadOf, IsSoundLoad}
-use Rattle.tau_run.specs.Left.{IsOver}
+use Rattle.tau_run.specs.Course.{IsSoundLoad}
 use Rattle.tau_run.specs.Told.{WroteFront, NamesFailed, RunFacts, turns_of, IsByTurns}
 use Rattle.tau_run.specs.Told as ending
 use Rattle.tau_run.proofs.Reading.{IsCatalogue}
-use Rattle.tau_step.specs.Telling.{Heard}
-use Rattle.tau_step.specs.RunTold.{AreNew, Ended, CutShort, RanNew, Began, IsLowestStopped}
+use Rattle.tau_step.specs.RunTold.{AreNew}
 use Rattle.tau_engine.specs.declared.status.Status.{Status}
 use Rattle.tau_engine.specs.declared.status.Status.TheVariants as status
+use Rattle.tau_engine.specs.Came.{Gave}
 use Rattle.tau_engine.specs.Facts.{Past, Now, AreUnborn}
 use Rattle.tau_engine.specs.Fault.{fault_text}
 use Rattle.tau_engine.specs.Outside.{Wrote}
-use Rattle.tau_engine.specs.Runs.{TellsEnd, TellsRun, RunsOn}
+use Rattle.tau_engine.specs.Runs.{TellsRun, RunsOn}
 use Rattle.tau_engine.specs.Said.{SaysRun}
 use Rattle.tau_engine.proofs.Longs.{none_is_long}
 use Rattle.tau_engine.proofs.NotBegun.{facts_of_none}
 use Rattle.tau_engine.proofs.Ran as ran
 use Rattle.tau_engine.proofs.RanTo as to
-use Rattle.tau_engine.proofs.Streams.{OnlyNow, rest_is}
-use Rattle.tau_engine.proofs.Texts.{heard_front, take_long}
-
--- a list that is as long as it was needed whole
-all_taken : {A : Type 0} (xs : List A) → take (length xs) xs ≡ xs
-all_taken xs = take_long (length xs) xs (omega arith)
+use Rattle.tau_engine.proofs.Streams.{OnlyNow}
 
 -- an image of a disk on which at most the catalogue was written
 module _ {D : Type 0} (G : Ghosts D) (only_now : OnlyNow G) (n : ℕ) (catalogue : List ℕ) (old new : List D) (each : (j : ℕ) (d : D) → j < n → slice_get old j ≡ Some d → (e : D) × (slice_get new j ≡ Some e) × Begins G n catalogue j d e) where
@@ -95,54 +85,15 @@ module _ {D : Type 0} {G : Ghosts D} (only_now : OnlyNow G) (n m : ℕ) (mode : 
     rest = rest_back n old new mid ws streams.count back ∙ streams.rest;
   }
 
-  module _ (first : Plain) (load_is : IsLoadOf n m mode load first.load) (opened : Opened first.load first) (after : List (Writer D G)) (back : new ≡ map (disk_of {D = D} {G = G}) after ++ mid) (held1 : List ℕ) (faults1 : ℕ) (early : faults ≤ faults1) where
-    -- ---- memory was wanting before the end
-
-    cut_short : CutShort (turns_of load) (λ j. catalogue_of load) first ws after hears held held1 (Rose faults faults1) → (held' : List ℕ) (faults' : ℕ) → faults1 ≤ faults' → held' ≡ held1 →
-        SaysRun G n m mode load old new hears held held' faults faults' status.NoMemory
-    cut_short cut held' faults' late same = record {
-      facts = to.facts only_now n m mode load ws after cut.came.told (ran.came_to only_now n m mode load room sound first load_is opened ws after false cut.came) old mid new many streams back (Rose faults faults')
-          (λ j k. G.tells → Made G.number G.short old new j k) (Wrote hears held held') (λ j. fault_text (status.DiskFault j)) ending.NoMemory
-          (to.core_run only_now n m mode load ws after cut.came.told (ran.came_to only_now n m mode load room sound first load_is opened ws after false cut.came) false
-          (ran.came_to only_now n m mode load room sound first load_is opened ws after false cut.came).part) (
-            cut.count,
-            subst (λ (acks : List (ℕ × List ℕ)). WroteFront (Wrote hears held held') (Rose faults faults') (ack_lines (take cut.count acks))) (sym (ran.there only_now n m mode load room sound first load_is opened ws after false cut.came).2)
-                (heard_front hears held held' (Rose faults faults') (take cut.count cut.came.told) cut.sink_failed
-                (λ told. subst (λ (h : List ℕ). Heard held (take cut.count cut.came.told) cut.sink_failed h) (sym same) (cut.heard told))
-                (λ e. (let rose = cut.sink e in omega (arith, rose, late)))),
-          );
-      kind = refl;
-      disk = λ j e. absurd (cc);
-      clean = λ e. absurd (cc);
-      stopped = λ j e t. absurd (cc);
-      told = λ j e t. absurd (cc);
-      sink = λ e. absurd (cc);
-      opened = λ e. absurd (cc);
-      not_empty = λ i size g. absurd (cc);
-      long = λ i size lt t is. absurd (none_is_long G.seen old G.tells n i size t streams.empty lt is);
-      asked = λ i size g. absurd (cc);
-      moments = to.rise only_now n m mode load ws after cut.came.told (ran.came_to only_now n m mode load room sound first load_is opened ws after false cut.came) old mid new many streams back;
-      rest = rest_is G n (catalogue_of load) first.load (core_of cut.came.last cut.came.hidden) old mid new ws after streams back cut.came.writers;
-    }
-
-    -- ---- the run went to its end
-
-    went_through : (e : RunEnd) → Ended (turns_of load) (λ j. catalogue_of load) first ws after hears held held1 (Rose faults faults1) e → (held' : List ℕ) (faults' : ℕ) → faults1 ≤ faults' → (answer : Status) →
-        TellsEnd load.declarations.tables e hears held1 held' (Rose faults1 faults') answer → SaysRun G n m mode load old new hears held held' faults faults' answer
-    went_through e h held' faults' late answer t =
-        let whole_by = ran.by_turns only_now n m mode load room sound first load_is opened ws after true h.came in
-        ran.tells_end only_now n m mode load room sound first load_is opened ws after true h.came old mid new many streams back e whole_by (subst (λ (k : ℕ). IsOver k (core_of h.came.last h.came.hidden)) load_is.streams h.over)
-        hears held held1 held' faults faults1 faults' early late h.heard h.sink (subst (λ (k : ℕ). IsLowestStopped k (core_of h.came.last h.came.hidden) e.disk) load_is.streams h.disk) h.acks h.fates h.order h.tables answer t
+  pub says_gave : (after : List (Writer D G)) → new ≡ map (disk_of {D = D} {G = G}) after ++ mid → (held1 : List ℕ) (faults1 : ℕ) → faults ≤ faults1 → (held' : List ℕ) (faults' : ℕ) → faults1 ≤ faults' → (end : Result RunEnd NoMemory) →
+      Gave n m mode load ws after hears held held1 (Rose faults faults1) end → (answer : Status) → TellsRun load.declarations.tables end hears held1 held' (Rose faults1 faults') answer → SaysRun G n m mode load old new hears held held' faults faults' answer
+  says_gave after back held1 faults1 early held' faults' late (Ok e) x answer t = to.concludes only_now n m mode load ws after old mid new many streams back hears held held1 held' faults faults1 faults' early late e x answer t
+  says_gave after back held1 faults1 early held' faults' late (Err no_memory) (inl x) answer t =
+      subst (λ (a : Status). SaysRun G n m mode load old new hears held held' faults faults' a) (sym t.0) (to.cuts_off only_now n m mode load ws after old mid new many streams back hears held held1 held' faults faults1 faults' early late x t.1)
+  says_gave after back held1 faults1 early held' faults' late (Err no_memory) (inr none) answer t =
+      subst (λ (a : Status). SaysRun G n m mode load old new hears held held' faults faults' a) (sym t.0)
+      (none_begun held' faults' (back ∙ ap (λ (w : List (Writer D G)). map (disk_of {D = D} {G = G}) w ++ mid) none.0) (t.1 ∙ none.1))
 
   pub says_run : (held' : List ℕ) (faults' : ℕ) (answer : Status) → RunsOn m mode load ws mid new hears held held' faults faults' answer → SaysRun G n m mode load old new hears held held' faults faults' answer
-  says_run held' faults' answer r = by_end r.end r.ran r.told
-    where
-      by_end : (end : Result RunEnd NoMemory) → Began m mode load ws r.after hears held r.mid (Rose faults r.count) (RanNew m mode load ws r.after hears held r.mid (Rose faults r.count)) end →
-          TellsRun load.declarations.tables end hears r.mid held' (Rose r.count faults') answer → SaysRun G n m mode load old new hears held held' faults faults' answer
-      by_end (Ok e) x t = went_through x.first (subst (λ (k : ℕ). IsLoadOf k m mode load x.first.load) streams.count x.load_is) x.opened r.after r.back r.mid r.count r.early e x.ran held' faults' r.late answer t
-      by_end (Err no_memory) (inl x) t =
-          subst (λ (a : Status). SaysRun G n m mode load old new hears held held' faults faults' a) (sym t.0)
-          (cut_short x.first (subst (λ (k : ℕ). IsLoadOf k m mode load x.first.load) streams.count x.load_is) x.opened r.after r.back r.mid r.count r.early x.ran held' faults' r.late t.1)
-      by_end (Err no_memory) (inr none) t =
-          subst (λ (a : Status). SaysRun G n m mode load old new hears held held' faults faults' a) (sym t.0)
-          (none_begun held' faults' (r.back ∙ ap (λ (w : List (Writer D G)). map (disk_of {D = D} {G = G}) w ++ mid) none.0) (t.1 ∙ none.1))
+  says_run held' faults' answer r =
+      says_gave r.after r.back r.mid r.count r.early held' faults' r.late r.end (ran.gave only_now n m mode load room sound ws r.after streams.count hears held r.mid (Rose faults r.count) r.end r.ran) answer r.told

@@ -7,6 +7,7 @@ pub mod Chosen
 pub mod NotBegun
 pub mod RanTo
 pub mod Ran
+pub mod Threaded
 pub mod Ends
 pub mod Refused
 pub mod Refusals

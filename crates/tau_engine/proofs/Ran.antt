@@ -1,17 +1,14 @@
 -- What a run on open streams has done, in the words of runs.
-use Rattle.std.proofs.Common.{ℕ, ◌<◌, ◌≤◌, ◌≡◌, ◌⊎◌, inl, inr, Bool, true, false, List, [], ◌∷◌, ◌++◌, map, length, refl, sym, ap, subst, ◌∙◌, Option, arith}
+use Rattle.std.proofs.Common.{ℕ, ◌<◌, ◌≤◌, ◌≡◌, ◌⊎◌, inl, inr, Bool, true, false, List, [], ◌∷◌, length, refl, sym, ap, subst, ◌∙◌, Option, Result, Ok, Err, arith}
 use Rattle.std.specs.Prelude.{Some, None, slice_get}
 use Rattle.tau_base.specs.declared.value.LogMode.{LogMode}
+use Rattle.tau_base.specs.declared.value.NoMemory.{NoMemory}
 use Rattle.tau_disk.specs.declared.disk.Disk.{Ghosts}
-use Rattle.tau_disk.specs.Disk.{Rose}
 use Rattle.tau_stream.specs.declared.writer.Writer.{Writer}
 use Rattle.std.proofs.lemmas.Option.{slice_get_within}
-use Rattle.tau_stream.specs.Writer.{disk_of}
-use Rattle.tau_open.specs.Opening.{AreOpened}
 use Rattle.tau_model.specs.History.{Act}
 use Rattle.tau_machine.specs.Hands.{Txn}
 use Rattle.tau_model.specs.Tables.{IsTablesOf}
-use Rattle.tau_machine.specs.Reports.{reported}
 use Rattle.tau_machine.specs.State.{Setting, Core, sight}
 use Rattle.tau_machine.specs.Runs as machine
 use Rattle.tau_text.specs.declared.load.Workload.{Workload}
@@ -31,15 +28,11 @@ use Rattle.tau_run.specs.Turns.{Progress, Cleared, OneByOne, IsWholeRun, IsPartO
 use Rattle.tau_run.proofs.Acks.{turns_law}
 use Rattle.tau_run.proofs.Results.{run_law, lost_law}
 use Rattle.tau_run.proofs.Start.{started}
+use Rattle.tau_step.specs.Came.{CameTo}
 use Rattle.tau_step.specs.Progressed.{progress}
-use Rattle.tau_step.specs.RunTold.{Came, EachOf, Left, IsLowestStopped, fates_by}
-use Rattle.tau_step.specs.Telling.{Heard}
-use Rattle.tau_engine.specs.declared.status.Status.{Status}
-use Rattle.tau_engine.specs.Runs.{TellsEnd}
-use Rattle.tau_engine.specs.Said.{SaysRun}
-use Rattle.tau_engine.specs.Came.{CameTo}
+use Rattle.tau_step.specs.RunTold.{Began, Came, CutShort, EachOf, Ended, Left, IsLowestStopped, RanNew, fates_by}
+use Rattle.tau_engine.specs.Came.{Concluded, CutOff, Gave}
 use Rattle.tau_engine.proofs.Chosen.{chosen}
-use Rattle.tau_engine.proofs.RanTo as to
 use Rattle.tau_engine.proofs.Streams.{OnlyNow}
 
 -- ---- a whole run is a first part of itself
@@ -139,12 +132,41 @@ module _ {D : Type 0} {G : Ghosts D} (only_now : OnlyNow G) (n m : ℕ) (mode : 
     writers = subst (λ (x : Load). EachOf (λ j w w'. Left x s j (catalogue_of load) w w') ws ws') (sym came.load) came.writers;
   }
 
-  module _ (old mid new : List D) (many : n ≤ length old) (streams : AreOpened G n (catalogue_of load) old mid ws) (back : new ≡ map disk_of ws' ++ mid) where
-    module _ (e : RunEnd) (by : IsByTurns true n m load l (core_of first nothing) P) (over : IsOver n s) (hears : Type 0) (held held1 held' : List ℕ) (faults faults1 faults' : ℕ) (early : faults ≤ faults1) (late : faults1 ≤ faults')
-        (heard : hears → Heard held came.told e.sink_failed held1) (sink : e.sink_failed ≡ true → Rose faults faults1) (low : IsLowestStopped n s e.disk) (acks : e.report.acks ≡ came.told)
-        (fates : e.report.fates ≡ fates_by (length first.load.calls) came.order came.told) (order : e.report.order ≡ map (λ (t : Act Txn). t.call.call.number) (reported came.last.ends came.order))
-        (tables : IsTablesOf (sight (setting_of first.load) s).row e.report.tables) where
-      pub tells_end : (answer : Status) → TellsEnd load.declarations.tables e hears held1 held' (Rose faults1 faults') answer → SaysRun G n m mode load old new hears held held' faults faults' answer
-      tells_end answer t =
-          to.tells_end only_now n m mode load ws ws' came.told came_to old mid new many streams back e (chosen load.turns true n m load l (core_of first nothing) P by) over (complete over) hears held held1 held' faults faults1 faults' early late heard sink low acks
-          (fates ∙ ap (λ (x : Load). fates_by (length x.calls) K came.told) (sym came.load)) order (subst (λ (x : Load). IsTablesOf (sight (setting_of x) s).row e.report.tables) (sym came.load) tables) answer t
+module _ {D : Type 0} {G : Ghosts D} (only_now : OnlyNow G) (n m : ℕ) (mode : LogMode) (load : Workload) (room : n ≤ 16) (sound : IsSoundLoad load) (first : Plain) (load_is : IsLoadOf n m mode load first.load) (opened : Opened first.load first)
+    (ws ws' : List (Writer D G)) (hears : Type 0) (held held' : List ℕ) (sink_rose : Type 0) where
+  -- to its end
+  pub concluded : (e : RunEnd) → Ended (turns_of load) (λ j. catalogue_of load) first ws ws' hears held held' sink_rose e → Concluded n m mode load ws ws' hears held held' sink_rose e
+  concluded e h = record {
+    acks = h.came.told;
+    came = came_to only_now n m mode load room sound first load_is opened ws ws' true h.came;
+    whole = chosen load.turns true n m load h.came.last.load (core_of first nothing) (progress h.came.last h.came.hidden h.came.events h.came.order h.came.told) (by_turns only_now n m mode load room sound first load_is opened ws ws' true h.came);
+    over = over_now;
+    complete = complete only_now n m mode load room sound first load_is opened ws ws' true h.came over_now;
+    heard = h.heard;
+    sink = h.sink;
+    disk = subst (λ (k : ℕ). IsLowestStopped k (core_of h.came.last h.came.hidden) e.disk) load_is.streams h.disk;
+    told = h.acks;
+    fates = h.fates ∙ ap (λ (x : Load). fates_by (length x.calls) h.came.order h.came.told) (sym h.came.load);
+    order = h.order;
+    tables = subst (λ (x : Load). IsTablesOf (sight (setting_of x) (core_of h.came.last h.came.hidden)).row e.report.tables) (sym h.came.load) h.tables;
+  }
+    where
+      over_now : IsOver n (core_of h.came.last h.came.hidden)
+      over_now = subst (λ (k : ℕ). IsOver k (core_of h.came.last h.came.hidden)) load_is.streams h.over
+
+  -- so far as memory was there
+  pub cut : CutShort (turns_of load) (λ j. catalogue_of load) first ws ws' hears held held' sink_rose → CutOff n m mode load ws ws' hears held held' sink_rose
+  cut h = record {
+    acks = h.came.told;
+    came = came_to only_now n m mode load room sound first load_is opened ws ws' false h.came;
+    count = h.count;
+    sink_failed = h.sink_failed;
+    heard = h.heard;
+    sink = h.sink;
+  }
+
+module _ {D : Type 0} {G : Ghosts D} (only_now : OnlyNow G) (n m : ℕ) (mode : LogMode) (load : Workload) (room : n ≤ 16) (sound : IsSoundLoad load) (ws ws' : List (Writer D G)) (count : length ws ≡ n) (hears : Type 0) (held held' : List ℕ) (sink_rose : Type 0) where
+  pub gave : (result : Result RunEnd NoMemory) → Began m mode load ws ws' hears held held' sink_rose (RanNew m mode load ws ws' hears held held' sink_rose) result → Gave n m mode load ws ws' hears held held' sink_rose result
+  gave (Ok e) x = concluded only_now n m mode load room sound x.first (subst (λ (k : ℕ). IsLoadOf k m mode load x.first.load) count x.load_is) x.opened ws ws' hears held held' sink_rose e x.ran
+  gave (Err no_memory) (inl x) = inl (cut only_now n m mode load room sound x.first (subst (λ (k : ℕ). IsLoadOf k m mode load x.first.load) count x.load_is) x.opened ws ws' hears held held' sink_rose x.ran)
+  gave (Err no_memory) (inr none) = inr none

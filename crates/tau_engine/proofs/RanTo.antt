@@ -1,12 +1,13 @@
 -- What a run on open streams has done, in the words of runs: by turns or in threads.
-use Rattle.std.proofs.Common.{ℕ, ◌<◌, ◌≤◌, ◌≡◌, inl, inr, Bool, true, false, List, ◌++◌, map, length, take, refl, sym, ap, subst, ◌∙◌, Option, arith}
-use Rattle.std.specs.Prelude.{Some, None}
+use Rattle.std.proofs.Common.{ℕ, ◌<◌, ◌≤◌, ◌≡◌, inl, inr, Bool, true, false, List, [], ◌++◌, map, length, take, refl, sym, ap, subst, ◌∙◌, Option, arith}
+use Rattle.std.specs.Prelude.{Some, None, slice_index_or}
 use Rattle.tau_base.specs.declared.value.LogMode.{LogMode}
 use Rattle.tau_disk.specs.declared.disk.Disk.{Ghosts}
 use Rattle.tau_disk.specs.Disk.{Rose}
 use Rattle.tau_disk.specs.Used.{EachIn, EachUsed, RoseAt, IsFirstStopped, Made}
 use Rattle.tau_stream.specs.declared.writer.Writer.{Writer}
 use Rattle.tau_stream.specs.Writer.{disk_of}
+use Rattle.tau_block.specs.Image.{HasContent}
 use Rattle.tau_open.specs.Outside.{calls_to_open}
 use Rattle.tau_open.specs.Opening.{AreOpened}
 use Rattle.tau_model.specs.History.{Act}
@@ -27,7 +28,8 @@ use Rattle.tau_run.specs.Told.{Ending, WroteFront, NamesFailed, turns_of, IsByTu
 use Rattle.tau_run.specs.Told as ending
 use Rattle.tau_run.specs.Turns.{Progress}
 use Rattle.tau_run.proofs.Imaged.{imaged, acknowledged, ended}
-use Rattle.tau_run.proofs.Results.{history_law}
+use Rattle.tau_run.proofs.Results.{ends_law, history_law}
+use Rattle.tau_step.specs.Came.{CameTo, came_far}
 use Rattle.tau_step.specs.RunTold.{IsLowestStopped, fates_by}
 use Rattle.tau_step.specs.Telling.{Heard}
 use Rattle.tau_engine.specs.Facts.{Past, Now, AreUnborn, NotEarlier, NextClean}
@@ -37,11 +39,11 @@ use Rattle.tau_engine.specs.Fault.{fault_text}
 use Rattle.tau_engine.specs.Outside.{Wrote}
 use Rattle.tau_engine.specs.Runs.{TellsEnd}
 use Rattle.tau_engine.specs.Said.{SaysRun}
-use Rattle.tau_engine.specs.Came.{CameTo, came_far}
+use Rattle.tau_engine.specs.Came.{Concluded, CutOff}
 use Rattle.tau_engine.proofs.Longs.{none_is_long}
 use Rattle.tau_engine.proofs.Reports.{reported_by}
 use Rattle.tau_engine.proofs.Streams.{OnlyNow, Joined, joined, rest_is, left_since, rises, opens_clean, rose_at, clean_below, first_stopped, stopped_late, made_all, leaves}
-use Rattle.tau_engine.proofs.Texts.{whole_text, rest_cut, lines_cut, take_long}
+use Rattle.tau_engine.proofs.Texts.{heard_front, whole_text, rest_cut, lines_cut, take_long}
 
 module _ {D : Type 0} {G : Ghosts D} (only_now : OnlyNow G) (n m : ℕ) (mode : LogMode) (load : Workload) (ws ws' : List (Writer D G)) (acks : List (ℕ × List ℕ)) (t : CameTo (chosen_by load.turns n m load) n m mode load ws ws' acks) where
   abbrev by : Bool → Load → Core → Progress → Type 0
@@ -110,6 +112,15 @@ module _ {D : Type 0} {G : Ghosts D} (only_now : OnlyNow G) (n m : ℕ) (mode : 
 
     pub has_ended : IsOver n s → (((j : ℕ) → j < n → stops j ≡ None) → AllAcked load run) → IsEnded n load (Now G.tells G.may_leave old new) (RoseAt G.faults old new) run
     has_ended over complete = ended n m mode load l K s course run t.is (λ j x. ⊥) (Now G.tells G.may_leave old new) (RoseAt G.faults old new) at_leaves over complete
+
+    -- where no stream was stopped, whatever a stop now may leave has all that the stream was given
+    pub whole_now : IsOver n s → ((j : ℕ) → j < n → stops j ≡ None) → (j : ℕ) (x : List ℕ) → j < n → Now G.tells G.may_leave old new j x → HasContent n j (slice_index_or run.contents j []) x
+    whole_now over going j x lt now =
+        let stopping : Leaves n (catalogue_of load) l s (λ i y. ⊥) (Now G.tells G.may_leave old new) (λ i. (at : ℕ) × (i < n) × (stops i ≡ Some at)) =
+        record { before = at_leaves.before; present = at_leaves.present; reached = at_leaves.reached; stopped = λ i at e. (at, stop_low i at e, e) } in
+        let last = ends_law n m mode load l K s course run t.is over in
+        let p = stopping.present j x lt now in
+        last.2 j lt (going j lt) x p.0 p.1 p.2
 
     pub rise : AreUnborn G.tells G.may_leave old n → EachUsed (NotEarlier G.tells G.moment) old new n
     rise unborn = rises G n (catalogue_of load) l s streams_are old new many all unborn
@@ -237,3 +248,37 @@ module _ {D : Type 0} {G : Ghosts D} (only_now : OnlyNow G) (n m : ℕ) (mode : 
       tells_end (status.BadLog fault) h = absurd h
       tells_end (status.NotEmpty j long) h = absurd h
       tells_end status.TooLong h = absurd h
+
+-- ---- over any kind of run
+
+module _ {D : Type 0} {G : Ghosts D} (only_now : OnlyNow G) (n m : ℕ) (mode : LogMode) (load : Workload) (ws ws' : List (Writer D G)) (old mid new : List D) (many : n ≤ length old) (streams : AreOpened G n (catalogue_of load) old mid ws) (back : new ≡ map disk_of ws' ++ mid)
+    (hears : Type 0) (held held1 held' : List ℕ) (faults faults1 faults' : ℕ) (early : faults ≤ faults1) (late : faults1 ≤ faults') where
+  -- it went to its end
+  pub concludes : (e : RunEnd) → Concluded n m mode load ws ws' hears held held1 (Rose faults faults1) e → (answer : Status) → TellsEnd load.declarations.tables e hears held1 held' (Rose faults1 faults') answer → SaysRun G n m mode load old new hears held held' faults faults' answer
+  concludes e c answer t =
+      tells_end only_now n m mode load ws ws' c.acks c.came old mid new many streams back e c.whole c.over c.complete hears held held1 held' faults faults1 faults' early late c.heard c.sink c.disk c.told c.fates c.order c.tables answer t
+
+  -- it was out of memory before: one history, of which the first acknowledgements were told
+  pub cuts_off : CutOff n m mode load ws ws' hears held held1 (Rose faults faults1) → held' ≡ held1 → SaysRun G n m mode load old new hears held held' faults faults' status.NoMemory
+  cuts_off c same = record {
+    facts = facts only_now n m mode load ws ws' c.acks c.came old mid new many streams back (Rose faults faults') (λ j k. G.tells → Made G.number G.short old new j k) (Wrote hears held held') (λ j. fault_text (status.DiskFault j)) ending.NoMemory
+        (core_run only_now n m mode load ws ws' c.acks c.came false c.came.part) (
+          c.count,
+          subst (λ (acks : List (ℕ × List ℕ)). WroteFront (Wrote hears held held') (Rose faults faults') (ack_lines (take c.count acks))) (sym c.came.told)
+              (heard_front hears held held' (Rose faults faults') (take c.count c.acks) c.sink_failed
+              (λ told. subst (λ (h : List ℕ). Heard held (take c.count c.acks) c.sink_failed h) (sym same) (c.heard told))
+              (λ e. (let rose = c.sink e in omega (arith, rose, late)))),
+        );
+    kind = refl;
+    disk = λ j e. absurd (cc);
+    clean = λ e. absurd (cc);
+    stopped = λ j e t. absurd (cc);
+    told = λ j e t. absurd (cc);
+    sink = λ e. absurd (cc);
+    opened = λ e. absurd (cc);
+    not_empty = λ i size g. absurd (cc);
+    long = λ i size lt t is. absurd (none_is_long G.seen old G.tells n i size t streams.empty lt is);
+    asked = λ i size g. absurd (cc);
+    moments = rise only_now n m mode load ws ws' c.acks c.came old mid new many streams back;
+    rest = rest_is G n (catalogue_of load) c.came.stands_on c.came.state old mid new ws ws' streams back c.came.writers;
+  }

@@ -1,6 +1,6 @@
 -- The run of a drill: on streams that were opened, or one whose opening failed.
-use Rattle.std.proofs.Common.{ℕ, ◌<◌, ◌≤◌, ◌≡◌, inl, inr, Bool, true, false, List, [], ◌++◌, length, refl, sym, ap, subst, ◌∙◌, Option, arith}
-use Rattle.std.specs.Prelude.{Some, None, slice_get}
+use Rattle.std.proofs.Common.{ℕ, ◌<◌, ◌≤◌, ◌≡◌, inl, inr, Bool, true, false, List, [], ◌++◌, map, length, refl, sym, ap, subst, ◌∙◌, Option, Ok, arith}
+use Rattle.std.specs.Prelude.{Some, None}
 use Rattle.std.proofs.lemmas.List.{append-nil}
 use Rattle.tau_base.specs.declared.value.Key.{Key}
 use Rattle.tau_base.specs.declared.value.LogMode.TheVariants.{Values}
@@ -9,30 +9,31 @@ use Rattle.tau_base.specs.Database.{Db}
 use Rattle.tau_disk.specs.declared.disk.Disk.{Ghosts}
 use Rattle.tau_disk.specs.Used.{EachIn, RoseAt, IsFirstStopped, Made}
 use Rattle.tau_stream.specs.declared.writer.Writer.{Writer}
+use Rattle.tau_stream.specs.Writer.{disk_of}
 use Rattle.tau_open.specs.Outside.{calls_to_open}
 use Rattle.tau_open.specs.Opening.{AreOpened, Begins}
 use Rattle.tau_model.specs.Tables.{IsTablesOf}
-use Rattle.tau_machine.specs.State.{Core, sight}
+use Rattle.tau_machine.specs.State.{Core}
 use Rattle.tau_text.specs.declared.load.Workload.{Workload}
+use Rattle.tau_report.specs.declared.report.RunEnd.{RunEnd}
 use Rattle.tau_report.specs.Report.{ack_lines, report_text}
 use Rattle.tau_core.specs.declared.state.Load.{Load}
-use Rattle.tau_core.specs.View.{setting_of}
-use Rattle.tau_run.specs.Run.{Run, AllAcked, IsReportOf, last_db}
+use Rattle.tau_run.specs.Run.{Run, IsReportOf, last_db}
 use Rattle.tau_run.specs.Facts.{catalogue_of, IsEnded}
-use Rattle.tau_run.specs.Course.{IsLoadOf, IsSoundLoad}
+use Rattle.tau_run.specs.Course.{IsSoundLoad}
 use Rattle.tau_run.specs.Left.{IsLeft, IsOver}
 use Rattle.tau_run.specs.Told as ending
 use Rattle.tau_run.specs.Told.{turns_of, chosen_by, IsCoreRun, RunFacts}
 use Rattle.tau_run.proofs.Imaged.{imaged, acknowledged}
 use Rattle.tau_run.proofs.Results.{history_law}
-use Rattle.tau_step.specs.RunTold.{Ended, RanNew, IsLowestStopped, fates_by}
+use Rattle.tau_step.specs.Came.{CameTo}
+use Rattle.tau_step.specs.RunTold.{IsLowestStopped, fates_by}
 use Rattle.tau_step.specs.Telling.{Heard}
 use Rattle.tau_engine.specs.Bench.{IsMeasured, PlaysWell}
-use Rattle.tau_engine.specs.Came.{CameTo, came_far}
+use Rattle.tau_engine.specs.Came.{Concluded}
 use Rattle.tau_engine.specs.Drill.{IsRehearsed, PlaysOn}
 use Rattle.tau_engine.specs.Facts.{Past, Now, AreUnborn}
 use Rattle.tau_engine.specs.Outside.{Wrote}
-use Rattle.tau_engine.proofs.Chosen.{chosen}
 use Rattle.tau_engine.proofs.Ends.{begun_left}
 use Rattle.tau_engine.proofs.NotBegun.{told_of_none}
 use Rattle.tau_engine.proofs.Ran as ran
@@ -40,19 +41,11 @@ use Rattle.tau_engine.proofs.RanTo as to
 use Rattle.tau_engine.proofs.Reports.{reported_by, last_is}
 use Rattle.tau_engine.proofs.Streams.{OnlyNow, Joined, clean_below, first_stopped, made_all}
 
-module _ {D : Type 0} {G : Ghosts D} (only_now : OnlyNow G) (n m : ℕ) (load : Workload) (room : n ≤ 16) (sound : IsSoundLoad load) (old mid new : List D) (many : n ≤ length old) (ws : List (Writer D G))
-    (streams : AreOpened G n (catalogue_of load) old mid ws) (tells : G.tells) (hears : Type 0) (held held' : List ℕ) (rose : Type 0) (p : PlaysOn m load ws mid new hears held held' rose) where
-  abbrev x : RanNew m Values load ws p.after hears held held' rose (Rattle.std.specs.Prelude.Ok p.end)
-  x = p.ran
-
-  load_is : IsLoadOf n m Values load x.first.load
-  load_is = subst (λ (k : ℕ). IsLoadOf k m Values load x.first.load) streams.count x.load_is
-
-  abbrev h : Ended (turns_of load) (λ j. catalogue_of load) x.first ws p.after hears held held' rose p.end
-  h = x.ran
-
-  abbrev t : CameTo (chosen_by load.turns n m load) n m Values load ws p.after h.came.told
-  t = ran.came_to only_now n m Values load room sound x.first load_is x.opened ws p.after true h.came
+-- a run of any kind that went to its end, on these writers, where the sink has not failed
+module _ {D : Type 0} {G : Ghosts D} (only_now : OnlyNow G) (n m : ℕ) (load : Workload) (old mid new : List D) (many : n ≤ length old) (ws after : List (Writer D G)) (streams : AreOpened G n (catalogue_of load) old mid ws) (back : new ≡ map disk_of after ++ mid)
+    (tells : G.tells) (hears : Type 0) (held held' : List ℕ) (rose : Type 0) (end : RunEnd) (h : Concluded n m Values load ws after hears held held' rose end) (works : end.sink_failed ≡ false) where
+  abbrev t : CameTo (chosen_by load.turns n m load) n m Values load ws after h.acks
+  t = h.came
 
   abbrev l : Load
   l = t.stands_on
@@ -63,50 +56,37 @@ module _ {D : Type 0} {G : Ghosts D} (only_now : OnlyNow G) (n m : ℕ) (load : 
   abbrev run : Run
   run = t.run
 
-  over : IsOver n s
-  over = subst (λ (k : ℕ). IsOver k s) load_is.streams h.over
-
-  low : IsLowestStopped n s p.end.disk
-  low = subst (λ (k : ℕ). IsLowestStopped k s p.end.disk) load_is.streams h.disk
-
-  complete : ((j : ℕ) → j < n → (s.streams j).stop ≡ None) → AllAcked load run
-  complete going = ran.complete only_now n m Values load room sound x.first load_is x.opened ws p.after true h.came over going
-
   core : IsCoreRun (chosen_by load.turns n m load true) n m Values load (λ j. (s.streams j).stop) run
-  core = to.core_run only_now n m Values load ws p.after h.came.told t true (chosen load.turns true n m load l t.opening (came_far t) (ran.by_turns only_now n m Values load room sound x.first load_is x.opened ws p.after true h.came))
+  core = to.core_run only_now n m Values load ws after h.acks t true h.whole
 
   at_leaves : Rattle.tau_run.specs.Left.Leaves n (catalogue_of load) l s (λ j x. ⊥) (Now G.tells G.may_leave old new) (RoseAt G.faults old new)
-  at_leaves = to.at_leaves only_now n m Values load ws p.after h.came.told t old mid new many streams p.back
+  at_leaves = to.at_leaves only_now n m Values load ws after h.acks t old mid new many streams back
 
   ended : IsEnded n load (Now G.tells G.may_leave old new) (RoseAt G.faults old new) run
-  ended = to.has_ended only_now n m Values load ws p.after h.came.told t old mid new many streams p.back over complete
-
-  tables : IsTablesOf (sight (setting_of l) s).row p.end.report.tables
-  tables = subst (λ (y : Load). IsTablesOf (sight (setting_of y) s).row p.end.report.tables) (sym h.came.load) h.tables
+  ended = to.has_ended only_now n m Values load ws after h.acks t old mid new many streams back h.over h.complete
 
   -- its rows are those of the history
-  present : IsTablesOf (last_db load run) p.end.report.tables
-  present = subst (λ (db : Db). IsTablesOf db p.end.report.tables) (last_is n m Values load l t.joined s t.course run t.is over.rests) tables
+  present : IsTablesOf (last_db load run) end.report.tables
+  present = subst (λ (db : Db). IsTablesOf db end.report.tables) (last_is n m Values load l t.joined s t.course run t.is h.over.rests) h.tables
 
-  reports : (failed : Option ℕ) → IsReportOf load run failed (report_text load.declarations.tables p.end.report failed)
+  reports : (failed : Option ℕ) → IsReportOf load run failed (report_text load.declarations.tables end.report failed)
   reports failed =
-      reported_by n m Values load l t.joined s t.course run t.is p.end.report failed (h.acks ∙ sym t.told)
-      (h.fates ∙ ap (λ (y : Load). fates_by (length y.calls) t.joined h.came.told) (sym h.came.load) ∙ ap (λ (a : List (ℕ × List ℕ)). fates_by (length l.calls) t.joined a) (sym t.told))
-      h.order tables over.rests
+      reported_by n m Values load l t.joined s t.course run t.is end.report failed (h.told ∙ sym t.told) (h.fates ∙ ap (λ (a : List (ℕ × List ℕ)). fates_by (length l.calls) t.joined a) (sym t.told))
+      h.order h.tables h.over.rests
 
   left_now : (j : ℕ) (image : List ℕ) → j < n → Now G.tells G.may_leave old new j image → IsLeft n j (catalogue_of load) l s image
   left_now j image lt now = let q = at_leaves.present j image lt now in inr (q.0, q.1)
 
   told : hears → held' ≡ held ++ ack_lines run.acks
   told hear =
-      let lines : Heard held h.came.told false held' = subst (λ (b : Bool). Heard held h.came.told b held') p.heard (h.heard hear) in
+      let lines : Heard held h.acks false held' = subst (λ (b : Bool). Heard held h.acks b held') works (h.heard hear) in
       lines ∙ ap (λ (a : List (ℕ × List ℕ)). held ++ ack_lines a) (sym t.told)
 
   abbrev streams_are : l.streams ≡ n
   streams_are = t.course.load_is.streams
 
   all : EachIn (λ j. j < n) (Joined G n (catalogue_of load) l s) old new
-  all = to.all only_now n m Values load ws p.after h.came.told t old mid new many streams p.back
+  all = to.all only_now n m Values load ws after h.acks t old mid new many streams back
 
   -- where no disk failed
   abbrev went_well : IsLowestStopped n s None → IsRehearsed G n m load old new (Wrote hears held held')
@@ -119,15 +99,15 @@ module _ {D : Type 0} {G : Ghosts D} (only_now : OnlyNow G) (n m : ℕ) (load : 
       stops = λ j. (s.streams j).stop;
       core = core;
       stopped = at_leaves.stopped;
-      told = (ended, complete going, (report_text load.declarations.tables p.end.report None, reports None, tt));
+      told = (ended, h.complete going, (report_text load.declarations.tables end.report None, reports None, tt));
       imaged = imaged n m Values load l t.joined s t.course run t.is (Now G.tells G.may_leave old new) (Now G.tells G.may_leave old new) (RoseAt G.faults old new) (Unit {0}) (λ u j y lt q. left_now j y lt q);
       acknowledged = acknowledged n m Values load l t.joined s t.course run t.is (λ j y. ⊥) (Now G.tells G.may_leave old new) (RoseAt G.faults old new) at_leaves;
     };
     acked = told;
   }
 
-  pub rehearsed_on : IsRehearsed G n m load old new (Wrote hears held held')
-  rehearsed_on = by p.end.disk low
+  pub rehearsal : IsRehearsed G n m load old new (Wrote hears held held')
+  rehearsal = by end.disk h.disk
     where
       by : (failed : Option ℕ) → IsLowestStopped n s failed → IsRehearsed G n m load old new (Wrote hears held held')
       by None going = went_well going
@@ -143,7 +123,7 @@ module _ {D : Type 0} {G : Ghosts D} (only_now : OnlyNow G) (n m : ℕ) (load : 
           told = inl (
             ended,
             λ i lt. (let k = made_all G n (catalogue_of load) l s streams_are old new many all i lt in (k.0, k.1, k.2 tells)),
-            (report_text load.declarations.tables p.end.report (Some j), reports (Some j), tt),
+            (report_text load.declarations.tables end.report (Some j), reports (Some j), tt),
           );
           imaged = imaged n m Values load l t.joined s t.course run t.is (Now G.tells G.may_leave old new) (Now G.tells G.may_leave old new) (RoseAt G.faults old new) (Unit {0}) (λ u i y lt w. left_now i y lt w);
           acknowledged = acknowledged n m Values load l t.joined s t.course run t.is (λ i y. ⊥) (Now G.tells G.may_leave old new) (RoseAt G.faults old new) at_leaves;
@@ -151,21 +131,27 @@ module _ {D : Type 0} {G : Ghosts D} (only_now : OnlyNow G) (n m : ℕ) (load : 
         acked = told;
       }
 
+-- the run of a drill
+module _ {D : Type 0} {G : Ghosts D} (only_now : OnlyNow G) (n m : ℕ) (load : Workload) (room : n ≤ 16) (sound : IsSoundLoad load) (old mid new : List D) (many : n ≤ length old) (ws : List (Writer D G))
+    (streams : AreOpened G n (catalogue_of load) old mid ws) (tells : G.tells) (hears : Type 0) (held held' : List ℕ) (rose : Type 0) (p : PlaysOn m load ws mid new hears held held' rose) where
+  pub rehearsed_on : IsRehearsed G n m load old new (Wrote hears held held')
+  rehearsed_on =
+      rehearsal only_now n m load old mid new many ws p.after streams p.back tells hears held held' rose p.end (ran.gave only_now n m Values load room sound ws p.after streams.count hears held held' rose (Ok p.end) p.ran) p.heard
+
 -- a run in which nothing failed, with its rows
 module _ {D : Type 0} {G : Ghosts D} (only_now : OnlyNow G) (n m : ℕ) (load : Workload) (room : n ≤ 16) (sound : IsSoundLoad load) (old mid new : List D) (many : n ≤ length old) (ws : List (Writer D G))
     (streams : AreOpened G n (catalogue_of load) old mid ws) (tells : G.tells) (hears : Type 0) (held held' : List ℕ) (rose : Type 0) (rows : List (Key × Value)) (q : PlaysWell m load ws mid new hears held held' rose rows) where
-  abbrev p : PlaysOn m load ws mid new hears held held' rose
-  p = record { after = q.after; back = q.back; end = q.end; ran = q.ran; heard = q.heard }
+  abbrev h_on : Concluded n m Values load ws q.after hears held held' rose q.end
+  h_on = ran.gave only_now n m Values load room sound ws q.after streams.count hears held held' rose (Ok q.end) q.ran
 
-  going : IsLowestStopped n (s only_now n m load room sound old mid new many ws streams tells hears held held' rose p) None
-  going = subst (λ (o : Option ℕ). IsLowestStopped n (s only_now n m load room sound old mid new many ws streams tells hears held held' rose p) o) q.whole (low only_now n m load room sound old mid new many ws streams tells hears held held' rose p)
+  going : IsLowestStopped n h_on.came.state None
+  going = subst (λ (o : Option ℕ). IsLowestStopped n h_on.came.state o) q.whole h_on.disk
 
   pub measured_on : IsMeasured G n m load old new (Wrote hears held held') rows
   measured_on = record {
-    rehearsed = went_well only_now n m load room sound old mid new many ws streams tells hears held held' rose p going;
-    all = complete only_now n m load room sound old mid new many ws streams tells hears held held' rose p going;
-    present = subst (λ (xs : List (Key × Value)). IsTablesOf (last_db load (run only_now n m load room sound old mid new many ws streams tells hears held held' rose p)) xs) q.rows_are
-        (present only_now n m load room sound old mid new many ws streams tells hears held held' rose p);
+    rehearsed = went_well only_now n m load old mid new many ws q.after streams q.back tells hears held held' rose q.end h_on q.heard going;
+    all = h_on.complete going;
+    present = subst (λ (xs : List (Key × Value)). IsTablesOf (last_db load h_on.came.run) xs) q.rows_are (present only_now n m load old mid new many ws q.after streams q.back tells hears held held' rose q.end h_on q.heard);
   }
 
 -- what a sink that tells has heard

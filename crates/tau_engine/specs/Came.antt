@@ -1,39 +1,50 @@
--- What every run on open streams has come to, by turns or in threads, in words of the machine.
-use Rattle.std.specs.Prelude.{ℕ, ◌<◌, ◌≡◌, Bool, false, List, Some}
+-- What a run on open streams gives, by turns or in threads: if it went to its end, and if it was out of memory before.
+use Rattle.std.specs.Prelude.{ℕ, ◌<◌, ◌≡◌, ◌⊎◌, Bool, true, None, List, map, length, take, Result, Ok, Err}
 use Rattle.tau_base.specs.declared.value.LogMode.{LogMode}
+use Rattle.tau_base.specs.declared.value.NoMemory.{NoMemory}
 use Rattle.tau_disk.specs.declared.disk.Disk.{Ghosts}
 use Rattle.tau_stream.specs.declared.writer.Writer.{Writer}
 use Rattle.tau_model.specs.History.{Act}
+use Rattle.tau_model.specs.Tables.{IsTablesOf}
 use Rattle.tau_machine.specs.Hands.{Txn}
-use Rattle.tau_machine.specs.State.{Core}
-use Rattle.tau_machine.specs.Events.{Event}
-use Rattle.tau_machine.specs.Runs as machine
+use Rattle.tau_machine.specs.Reports.{reported}
+use Rattle.tau_machine.specs.State.{sight}
 use Rattle.tau_text.specs.declared.load.Workload.{Workload}
-use Rattle.tau_core.specs.declared.state.Load.{Load}
+use Rattle.tau_report.specs.declared.report.RunEnd.{RunEnd}
 use Rattle.tau_core.specs.View.{setting_of}
-use Rattle.tau_run.specs.Run.{Run}
-use Rattle.tau_run.specs.Facts.{catalogue_of}
-use Rattle.tau_run.specs.Course.{IsStart, IsRunOf, IsCourse}
-use Rattle.tau_run.specs.Turns.{Progress}
-use Rattle.tau_step.specs.RunTold.{EachOf, Left}
+use Rattle.tau_run.specs.Left.{IsOver}
+use Rattle.tau_run.specs.Run.{AllAcked}
+use Rattle.tau_run.specs.Told.{chosen_by}
+use Rattle.tau_step.specs.Came.{CameTo, came_far}
+use Rattle.tau_step.specs.RunTold.{IsLowestStopped, fates_by}
+use Rattle.tau_step.specs.Telling.{Heard}
 
--- `by` says how its events were chosen, of a whole run (true) or of a part; `acks` are its acknowledgements as they were told.
-pub record CameTo {D : Type 0} {G : Ghosts D} (by : Bool → Load → Core → Progress → Type 0) (n m : ℕ) (mode : LogMode) (load : Workload) (ws ws' : List (Writer D G)) (acks : List (ℕ × List ℕ)) : Type 0 where
-  pub stands_on : Load
-  pub opening : Core
-  pub start : IsStart stands_on opening
-  pub state : Core
-  pub events : List Event
-  pub joined : List (Act Txn)
-  pub led : machine.Run (setting_of stands_on) opening events joined state
-  pub course : IsCourse n m mode load stands_on joined state
-  pub part : by false stands_on opening (record { state = state; events = events; joined = joined; told = acks })
-  pub run : Run
-  pub is : IsRunOf n stands_on joined state (catalogue_of load) run
-  pub told : run.acks ≡ acks
-  pub stop_low : (j at : ℕ) → (state.streams j).stop ≡ Some at → j < n
-  pub writers : EachOf (λ j w w'. Left stands_on state j (catalogue_of load) w w') ws ws'
+module _ {D : Type 0} {G : Ghosts D} (n m : ℕ) (mode : LogMode) (load : Workload) (ws ws' : List (Writer D G)) (hears : Type 0) (held held' : List ℕ) (sink_rose : Type 0) where
+  -- to its end, with what it tells
+  pub record Concluded (end : RunEnd) : Type 0 where
+    pub acks : List (ℕ × List ℕ)
+    pub came : CameTo (chosen_by load.turns n m load) n m mode load ws ws' acks
+    pub whole : chosen_by load.turns n m load true came.stands_on came.opening (came_far came)
+    pub over : IsOver n came.state
+    pub complete : ((j : ℕ) → j < n → (came.state.streams j).stop ≡ None) → AllAcked load came.run
+    pub heard : hears → Heard held acks end.sink_failed held'
+    pub sink : end.sink_failed ≡ true → sink_rose
+    pub disk : IsLowestStopped n came.state end.disk
+    pub told : end.report.acks ≡ acks
+    pub fates : end.report.fates ≡ fates_by (length came.stands_on.calls) came.joined acks
+    pub order : end.report.order ≡ map (λ (t : Act Txn). t.call.call.number) (reported came.state.ends came.joined)
+    pub tables : IsTablesOf (sight (setting_of came.stands_on) came.state).row end.report.tables
 
--- how far it has come
-abbrev pub came_far : {D : Type 0} {G : Ghosts D} {by : Bool → Load → Core → Progress → Type 0} {n m : ℕ} {mode : LogMode} {load : Workload} {ws ws' : List (Writer D G)} {acks : List (ℕ × List ℕ)} → CameTo by n m mode load ws ws' acks → Progress
-came_far {acks = acks} t = record { state = t.state; events = t.events; joined = t.joined; told = acks }
+  -- so far as memory was there: the first acknowledgements were told
+  pub record CutOff : Type 0 where
+    pub acks : List (ℕ × List ℕ)
+    pub came : CameTo (chosen_by load.turns n m load) n m mode load ws ws' acks
+    pub count : ℕ
+    pub sink_failed : Bool
+    pub heard : hears → Heard held (take count acks) sink_failed held'
+    pub sink : sink_failed ≡ true → sink_rose
+
+  -- It may have been out of memory before it began: then nothing was touched.
+  abbrev pub Gave : Result RunEnd NoMemory → Type 0
+  Gave (Ok end) = Concluded end
+  Gave (Err e) = CutOff ⊎ ((ws' ≡ ws) × (held' ≡ held))

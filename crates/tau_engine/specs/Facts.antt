@@ -1,8 +1,12 @@
 -- What stops may leave of the disks of a call, how a call ends in the words of runs, and what a refused opening leaves.
 use Rattle.std.specs.Prelude.{ℕ, Bool, false, ◌+◌, ◌<◌, ◌≤◌, ◌≡◌, List, [], length, slice_get, Some}
+use Rattle.tau_block.specs.Image.{HasContent}
+use Rattle.tau_crew_facts.specs.Spacing.{AreSpaced}
 use Rattle.tau_disk.specs.Used.{OfDisk, EachUsed}
+use Rattle.tau_run.specs.Facts.{catalogue_of}
 use Rattle.tau_run.specs.Told.{Ending, WroteFront}
 use Rattle.tau_run.specs.Told as ending
+use Rattle.tau_text.specs.declared.load.Workload.{Workload}
 use Rattle.tau_engine.specs.declared.status.Status.{Status}
 use Rattle.tau_engine.specs.declared.status.Status.TheVariants as status
 use Rattle.tau_engine.specs.Fault.{fault_text}
@@ -42,3 +46,7 @@ pub record IsRefused {D : Type 0} (n : ℕ) (only_read : D → D → Type 0) (wr
   pub read : EachUsed only_read old new n
   pub told : (answer ≡ status.NoMemory → ⊥) → WroteFront wrote sink_rose (fault_text answer)
   pub silent : answer ≡ status.NoMemory → wrote []
+
+-- the image of stream j has a content, and the anchors that are read of it stand in their distance, the first of them from the catalogue's end
+abbrev pub HasSpaced : ℕ → ℕ → Workload → List ℕ → Type 0
+HasSpaced n j load x = (content : List ℕ) × HasContent n j content x × AreSpaced n j (length (catalogue_of load)) content

@@ -1,0 +1,193 @@
+-- What a run in threads has done, in the words of runs.
+use Rattle.std.proofs.Common.{ℕ, ◌<◌, ◌≤◌, ◌≡◌, Bool, true, false, List, [], ◌++◌, map, length, refl, sym, ap, subst, ◌∙◌, Option, Result, Ok, Err, inl, inr, arith}
+use Rattle.std.specs.Prelude.{Some, None, slice_index_or}
+use Rattle.std.proofs.lemmas.Option.{get_or_from_slice_get}
+use Rattle.tau_base.specs.declared.value.Call.{Call}
+use Rattle.tau_base.specs.declared.value.LogMode.{LogMode}
+use Rattle.tau_base.specs.declared.value.NoMemory.{NoMemory}
+use Rattle.tau_block.specs.Image.{HasContent}
+use Rattle.tau_disk.specs.declared.disk.Disk.{Ghosts}
+use Rattle.tau_stream.specs.declared.writer.Writer.{Writer}
+use Rattle.tau_stream.specs.Writer.{disk_of, has_failed}
+use Rattle.tau_open.specs.Opening.{AreOpened}
+use Rattle.tau_model.specs.History.{Act}
+use Rattle.tau_model.specs.Tables.{IsTablesOf}
+use Rattle.tau_machine.specs.Accounts.{in_worker}
+use Rattle.tau_machine.specs.Hands.{Txn}
+use Rattle.tau_machine.specs.Reports.{reported}
+use Rattle.tau_machine.specs.State.{Core, sight}
+use Rattle.tau_text.specs.declared.load.Turn.{Turn}
+use Rattle.tau_text.specs.declared.load.Workload.{Workload}
+use Rattle.tau_report.specs.declared.report.RunEnd.{RunEnd}
+use Rattle.tau_core.specs.declared.state.Load.{Load}
+use Rattle.tau_core.specs.Opens.{nothing}
+use Rattle.tau_core.specs.State.{Plain}
+use Rattle.tau_core.specs.View.{core_of, setting_of}
+use Rattle.tau_run.specs.Run.{AllAcked}
+use Rattle.tau_run.specs.Facts.{catalogue_of}
+use Rattle.tau_run.specs.Course.{IsLoadOf, IsRunOf, IsSoundLoad}
+use Rattle.tau_run.specs.Left.{IsOver}
+use Rattle.tau_run.specs.Told.{chosen_by}
+use Rattle.tau_run.specs.Turns.{Progress}
+use Rattle.tau_run.proofs.Logs.{some_within, got_within}
+use Rattle.tau_step.specs.Came.{CameTo, came_far}
+use Rattle.tau_step.specs.RunTold.{IsLowestStopped, fates_by}
+use Rattle.tau_crew_facts.specs.Ends.{AreApart, IsThreadEnd, IsThreadDone}
+use Rattle.tau_crew_facts.specs.Threads.{IsLowestFailed, NoneFailed, RanInThreads, ThreadsEnded, ThreadsShort}
+use Rattle.tau_crew_facts.proofs.Came as at
+use Rattle.tau_crew_facts.proofs.Apart as apart
+use Rattle.tau_crew_facts.proofs.Lost as lost
+use Rattle.tau_engine.specs.Came.{Concluded, CutOff, Gave}
+use Rattle.tau_engine.specs.Facts.{HasSpaced, Now}
+use Rattle.tau_engine.proofs.RanTo as to
+use Rattle.tau_engine.proofs.Streams.{OnlyNow}
+
+same_some : {A : Type 0} (x y : A) → Some x ≡ Some y → x ≡ y
+same_some x y e = cc
+
+-- nothing is asked of the events of a run in threads
+pub any_order : (turns : Option (List Turn)) (n m : ℕ) (load : Workload) → turns ≡ None → (whole : Bool) (l : Load) (opening : Core) (p : Progress) → chosen_by turns n m load whole l opening p
+any_order None n m load e whole l opening p = tt
+any_order (Some turns) n m load e whole l opening p = absurd (cc e)
+
+module _ {D : Type 0} {G : Ghosts D} (n m : ℕ) (mode : LogMode) (load : Workload) (threads : load.turns ≡ None) (sound : IsSoundLoad load) (first : Plain) (load_is : IsLoadOf n m mode load first.load)
+    (ws ws' : List (Writer D G)) (c : Core) (acks : List (ℕ × List ℕ)) (e : IsThreadEnd (λ j. catalogue_of load) first c ws ws' acks) where
+  abbrev by : Bool → Load → Core → Progress → Type 0
+  by = chosen_by load.turns n m load
+
+  abbrev any : (whole : Bool) (p : Progress) → by whole first.load (core_of first nothing) p
+  any = λ whole p. any_order load.turns n m load threads whole first.load (core_of first nothing) p
+
+  -- it is one of any kind of run
+  abbrev pub came_to : CameTo (chosen_by load.turns n m load) n m mode load ws ws' acks
+  came_to = at.came n m mode load first load_is sound c ws ws' acks e by any
+
+  pub load_at : came_to.stands_on ≡ first.load
+  load_at = at.load-is n m mode load first load_is sound c ws ws' acks e by any
+
+  pub state_at : came_to.state ≡ at.end n m mode load first load_is sound c ws ws' acks e
+  state_at = at.state-is n m mode load first load_is sound c ws ws' acks e by any
+
+  pub joined_at : came_to.joined ≡ e.closed.joined
+  joined_at = at.joined-is n m mode load first load_is sound c ws ws' acks e by any
+
+  many : length ws ≡ n
+  many = e.count ∙ load_is.streams
+
+  -- the lowest failed disk is that of the lowest stopped stream
+  pub lowest : (o : Option ℕ) → IsLowestFailed ws' o → IsLowestStopped n came_to.state o
+  lowest None all = λ j lt.
+      (let w = some_within ws j (let b = many in omega (arith, lt, b)) in
+      let x = came_to.writers.each j w.0 w.1 in
+      (x.2.goes (all j x.0 x.1)).0)
+  lowest (Some j) (f, below) =
+      let lt : j < n = (let a = got_within ws' j f.0 f.1 in let b = e.managers.count in let d = many in omega (arith, a, b, d)) in
+      let v = some_within ws j (let b = many in omega (arith, lt, b)) in
+      let x = came_to.writers.each j v.0 v.1 in (
+        lt,
+        (x.2.stops (subst (λ (y : Writer D G). has_failed y ≡ true) (same_some f.0 x.0 (sym f.1 ∙ x.1)) f.2)).0,
+        λ i less.
+            (let w = some_within ws i (let b = many in omega (arith, lt, less, b)) in
+            let y = came_to.writers.each i w.0 w.1 in
+            (y.2.goes (below i y.0 less y.1)).0),
+      )
+
+  -- a disk whose stream is not stopped works
+  pub works : ((j : ℕ) → j < n → (came_to.state.streams j).stop ≡ None) → NoneFailed ws'
+  works going j w is = by_flag (has_failed w) refl
+    where
+      lt : j < n
+      lt = let a = got_within ws' j w is in let b = e.managers.count in let d = many in omega (arith, a, b, d)
+
+      by_flag : (b : Bool) → has_failed w ≡ b → has_failed w ≡ false
+      by_flag false f = f
+      by_flag true f =
+          let v = some_within ws j (let b = many in let low = lt in omega (arith, low, b)) in
+          let x = came_to.writers.each j v.0 v.1 in
+          let at = (x.2.stops (subst (λ (y : Writer D G). has_failed y ≡ true) (same_some w x.0 (sym is ∙ x.1)) f)).0 in
+          absurd (let bad : None ≡ Some at.0 = sym (going j lt) ∙ at.1 in cc bad)
+
+  module _ (d : IsThreadDone first.load c ws') where
+    pub over : IsOver n came_to.state
+    over = at.over-at n m mode load first load_is sound c ws ws' acks e by any d
+
+    kept : (k : ℕ) → 1 ≤ k → k ≤ length load.calls → (w : ℕ) × (1 ≤ in_worker k (came_to.state.workers w))
+    kept k low high =
+        let calls : length first.load.calls ≡ length load.calls = ap (length {A = Call}) load_is.calls in
+        subst (λ (x : Core). (w : ℕ) × (1 ≤ in_worker k (x.workers w))) (sym state_at) (d.kept k low (omega (arith, high, calls)))
+
+    pub complete : ((j : ℕ) → j < n → (came_to.state.streams j).stop ≡ None) → AllAcked load came_to.run
+    complete going = lost.kept-acked n m mode load came_to.stands_on came_to.joined came_to.state came_to.course came_to.run came_to.is over kept going
+
+module _ {D : Type 0} {G : Ghosts D} (n m : ℕ) (mode : LogMode) (load : Workload) (threads : load.turns ≡ None) (sound : IsSoundLoad load) (first : Plain) (load_is : IsLoadOf n m mode load first.load)
+    (ws ws' : List (Writer D G)) (hears : Type 0) (held held' : List ℕ) (sink_rose : Type 0) where
+  -- to its end
+  pub concluded : (e : RunEnd) → ThreadsEnded (λ j. catalogue_of load) first ws ws' hears held held' sink_rose e → Concluded n m mode load ws ws' hears held held' sink_rose e
+  concluded e r =
+      let l = load_at n m mode load threads sound first load_is ws ws' r.state r.acks r.came in
+      let s = state_at n m mode load threads sound first load_is ws ws' r.state r.acks r.came in
+      let joined = joined_at n m mode load threads sound first load_is ws ws' r.state r.acks r.came in
+      let t : CameTo (chosen_by load.turns n m load) n m mode load ws ws' r.acks = came_to n m mode load threads sound first load_is ws ws' r.state r.acks r.came in
+      record {
+        acks = r.acks;
+        came = came_to n m mode load threads sound first load_is ws ws' r.state r.acks r.came;
+        whole = any_order load.turns n m load threads true t.stands_on t.opening (came_far t);
+        over = over n m mode load threads sound first load_is ws ws' r.state r.acks r.came r.done;
+        complete = complete n m mode load threads sound first load_is ws ws' r.state r.acks r.came r.done;
+        heard = r.heard;
+        sink = r.sink;
+        disk = lowest n m mode load threads sound first load_is ws ws' r.state r.acks r.came e.disk r.disk;
+        told = r.told;
+        fates = r.fates ∙ ap (λ (x : Load). fates_by (length x.calls) r.came.closed.joined r.acks) (sym l) ∙ ap (λ (K : List (Act Txn)). fates_by (length t.stands_on.calls) K r.acks) (sym joined);
+        order =
+            r.order ∙ ap (λ (K : List (Act Txn)). map (λ (x : Act Txn). x.call.call.number) (reported r.state.ends K)) (sym joined)
+            ∙ ap (λ (x : Core). map (λ (y : Act Txn). y.call.call.number) (reported x.ends t.joined)) (sym s);
+        tables =
+            subst (λ (x : Load). IsTablesOf (sight (setting_of x) t.state).row e.report.tables) (sym l)
+            (subst (λ (x : Core). IsTablesOf (sight (setting_of first.load) x).row e.report.tables) (sym s) r.tables);
+      }
+
+  -- so far as memory was there
+  pub cut : ThreadsShort (λ j. catalogue_of load) first ws ws' hears held held' sink_rose → CutOff n m mode load ws ws' hears held held' sink_rose
+  cut r = record {
+    acks = r.acks;
+    came = came_to n m mode load threads sound first load_is ws ws' r.state r.acks r.came;
+    count = r.count;
+    sink_failed = r.sink_failed;
+    heard = r.heard;
+    sink = r.sink;
+  }
+
+module _ {D : Type 0} {G : Ghosts D} (n m : ℕ) (mode : LogMode) (load : Workload) (threads : load.turns ≡ None) (sound : IsSoundLoad load) (ws ws' : List (Writer D G)) (count : length ws ≡ n) (hears : Type 0) (held held' : List ℕ) (sink_rose : Type 0) where
+  pub gave : (result : Result RunEnd NoMemory) → RanInThreads m mode load ws ws' hears held held' sink_rose result → Gave n m mode load ws ws' hears held held' sink_rose result
+  gave (Ok e) x = concluded n m mode load threads sound x.first (subst (λ (k : ℕ). IsLoadOf k m mode load x.first.load) count x.load_is) ws ws' hears held held' sink_rose e x.ran
+  gave (Err no_memory) (inl x) = inl (cut n m mode load threads sound x.first (subst (λ (k : ℕ). IsLoadOf k m mode load x.first.load) count x.load_is) ws ws' hears held held' sink_rose x.ran)
+  gave (Err no_memory) (inr none) = inr none
+
+-- ---- anchors, in a run in which no disk failed
+
+module _ {D : Type 0} {G : Ghosts D} (only_now : OnlyNow G) (n m : ℕ) (mode : LogMode) (load : Workload) (threads : load.turns ≡ None) (sound : IsSoundLoad load) (first : Plain) (load_is : IsLoadOf n m mode load first.load) (ws ws' : List (Writer D G)) (hears : Type 0) (held held' : List ℕ)
+    (sink_rose : Type 0) (old mid new : List D) (many : n ≤ length old) (streams : AreOpened G n (catalogue_of load) old mid ws) (back : new ≡ map disk_of ws' ++ mid) (e : RunEnd) (r : ThreadsEnded (λ j. catalogue_of load) first ws ws' hears held held' sink_rose e) (none : e.disk ≡ None) where
+  abbrev t : CameTo (chosen_by load.turns n m load) n m mode load ws ws' r.acks
+  t = came_to n m mode load threads sound first load_is ws ws' r.state r.acks r.came
+
+  going : (j : ℕ) → j < n → (t.state.streams j).stop ≡ None
+  going = subst (λ (o : Option ℕ). IsLowestStopped n t.state o) none (lowest n m mode load threads sound first load_is ws ws' r.state r.acks r.came e.disk r.disk)
+
+  is : IsRunOf n first.load r.came.closed.joined (at.end n m mode load first load_is sound r.state ws ws' r.acks r.came) (catalogue_of load) t.run
+  is =
+      subst (λ (s : Core). IsRunOf n first.load r.came.closed.joined s (catalogue_of load) t.run) (state_at n m mode load threads sound first load_is ws ws' r.state r.acks r.came)
+      (subst (λ (K : List (Act Txn)). IsRunOf n first.load K t.state (catalogue_of load) t.run) (joined_at n m mode load threads sound first load_is ws ws' r.state r.acks r.came)
+      (subst (λ (l : Load). IsRunOf n l t.joined t.state (catalogue_of load) t.run) (load_at n m mode load threads sound first load_is ws ws' r.state r.acks r.came) t.is))
+
+  -- what a stop now may leave of a used disk has them in their distance
+  pub spaced : (j : ℕ) (x : List ℕ) → j < n → Now G.tells G.may_leave old new j x → HasSpaced n j load x
+  spaced j x lt now =
+      let whole = to.whole_now only_now n m mode load ws ws' r.acks t old mid new many streams back (over n m mode load threads sound first load_is ws ws' r.state r.acks r.came r.done) going j x lt now in
+      let content = some_within t.run.contents j (let a = t.is.streams in omega (arith, lt, a)) in
+      let same : slice_index_or t.run.contents j [] ≡ content.0 = get_or_from_slice_get t.run.contents j content.0 [] content.1 in
+      let working = works n m mode load threads sound first load_is ws ws' r.state r.acks r.came going in (
+        content.0,
+        subst (λ (b : List ℕ). HasContent n j b x) same whole,
+        apart.thread-spaced n m mode load first load_is sound r.state ws ws' r.acks r.came r.done working (subst (λ (k : ℕ). AreApart (λ j. catalogue_of load) k r.state) load_is.streams (r.apart working)) t.run is j content.0 lt content.1,
+      )
