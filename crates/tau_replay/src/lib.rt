@@ -1,6 +1,7 @@
 //! Redoing a log: by turns of workers, in an orderly order.
 #![tactic(auto)]
 
+mod ahead;
 mod alone;
 mod laws;
 mod lock;

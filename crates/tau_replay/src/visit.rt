@@ -4,12 +4,14 @@ ghost use Rattle.tau_replay.specs.Rule.{OthersStay, in_hand};
 ghost use Rattle.tau_replay.specs.Sound.{IsSound};
 ghost use Rattle.tau_replay.specs.Working.{HandFits, IsFor, WentOn};
 
+use crate::ahead::read_ahead;
 use crate::lock::Lock;
 use crate::outcome::Outcome;
 use crate::turns::{finish, start};
 use crate::view::{Part, Seat};
 use std::sync::Wait;
 use std::sync::atomic::{AtomicU64, Ordering};
+use tau_base::{Key, Value};
 use tau_pool::{Job, Next, Pools};
 use tau_scan::Log;
 
@@ -130,7 +132,14 @@ fn ring(bell: &AtomicU64, order: Order) {
 }
 
 /// An idle worker takes the lock for what it does next.
-pub fn step_idle<R: Wait>(rt: &R, lock: &Lock, seat: &mut Seat, log: &Log, worker: u8) -> Order
+pub fn step_idle<R: Wait>(
+    rt: &R,
+    lock: &Lock,
+    seat: &mut Seat,
+    log: &Log,
+    worker: u8,
+    ahead: &mut Vec<(Key, Value)>,
+) -> Order
     requires own { seat.old.table_id ≡ lock.now.table.shared.table_id }
     requires of_log { seat.old.me.0.log ≡ log.now }
     requires stands { IsFor worker None seat.old.me }
@@ -140,6 +149,7 @@ pub fn step_idle<R: Wait>(rt: &R, lock: &Lock, seat: &mut Seat, log: &Log, worke
     let mut part = lock.take(rt, seat);
     let seen = lock.bell.load(Ordering::SeqCst);
     let order = start_next(log, &mut part, worker as usize, seen);
+    read_ahead(log, &part.replay.store, order, ahead);
     lock.give(seat, part);
     ring(&lock.bell, order);
     order
@@ -153,6 +163,7 @@ pub fn step_done<R: Wait>(
     log: &Log,
     worker: u8,
     outcome: &Outcome,
+    ahead: &mut Vec<(Key, Value)>,
 ) -> Order
     requires own { seat.old.table_id ≡ lock.now.table.shared.table_id }
     requires of_log { (seat.old.me.0.log ≡ log.now) × (outcome.now.log.value ≡ log.now) }
@@ -163,6 +174,7 @@ pub fn step_done<R: Wait>(
     let mut part = lock.take(rt, seat);
     let seen = lock.bell.load(Ordering::SeqCst);
     let order = finish_and_start(log, &mut part, worker as usize, outcome, seen);
+    read_ahead(log, &part.replay.store, order, ahead);
     lock.give(seat, part);
     ring(&lock.bell, order);
     order

@@ -6,6 +6,7 @@ ghost use Rattle.tau_replay.specs.Result.{DoesJust, Executes, IsExecuted};
 ghost use Rattle.tau_replay.specs.Rule.{IsIdle};
 ghost use Rattle.tau_replay.specs.Working.{IsFor, Went, WentOn};
 
+use crate::ahead::found;
 use crate::lock::Lock;
 use crate::outcome::{Outcome, Scratch};
 use crate::view::Seat;
@@ -32,6 +33,25 @@ fn row<R: Wait>(rt: &R, lock: &Lock, seat: &mut Seat, key: Key) -> Value
     value
 }
 
+/// The value of a row as it was read ahead, else read now.
+fn value_of<R: Wait>(
+    rt: &R,
+    lock: &Lock,
+    seat: &mut Seat,
+    key: Key,
+    ahead: &[(Key, Value)],
+) -> Value
+    requires own { seat.old.table_id ≡ lock.now.table.shared.table_id }
+    requires idle { IsIdle seat.old.me }
+    ensures own { seat.new.table_id ≡ seat.old.table_id }
+    ensures same { seat.new.me ≡ seat.old.me }
+{
+    match found(ahead, key) {
+        Some(value) => value.copied(),
+        None => row(rt, lock, seat, key),
+    }
+}
+
 /// Executes a call outside the lock, on values that are each read under it. Whether it came to its end.
 fn try_call<R: Wait>(
     rt: &R,
@@ -39,6 +59,7 @@ fn try_call<R: Wait>(
     seat: &mut Seat,
     procs: &Procs,
     call: &Call,
+    ahead: &[(Key, Value)],
     scratch: &mut Scratch,
 ) -> bool
     requires own { seat.old.table_id ≡ lock.now.table.shared.table_id }
@@ -55,7 +76,7 @@ fn try_call<R: Wait>(
     'wants: loop {
         match scratch.machine.next() {
             Want::Read(key) => {
-                let value = row(rt, lock, seat, key);
+                let value = value_of(rt, lock, seat, key, ahead);
                 match scratch.reads.push((key, value.copied())) {
                     Ok(()) => scratch.machine.give(value),
                     Err(_) => return false,
@@ -74,6 +95,7 @@ fn try_entry<R: Wait>(
     seat: &mut Seat,
     procs: &Procs,
     entry: &Entry,
+    ahead: &[(Key, Value)],
     scratch: &mut Scratch,
 ) -> bool
     requires own { seat.old.table_id ≡ lock.now.table.shared.table_id }
@@ -83,7 +105,7 @@ fn try_entry<R: Wait>(
     ensures executed { result ≡ true → IsExecuted procs.now entry.now scratch.new.reads.items (buffered scratch.new.machine) }
 {
     match entry {
-        Entry::Command { call, .. } => try_call(rt, lock, seat, procs, call, scratch),
+        Entry::Command { call, .. } => try_call(rt, lock, seat, procs, call, ahead, scratch),
         Entry::Written { .. } => false,
         Entry::Anchor { .. } => false,
         Entry::Catalogue { .. } => false,
@@ -97,6 +119,7 @@ fn try_job<R: Wait>(
     seat: &mut Seat,
     log: &Log,
     job: Job,
+    ahead: &[(Key, Value)],
     scratch: &mut Scratch,
 ) -> bool
     requires own { seat.old.table_id ≡ lock.now.table.shared.table_id }
@@ -108,7 +131,15 @@ fn try_job<R: Wait>(
 {
     let records = &log.streams.as_slice()[usize::from(job.stream)];
     let entry = &records.as_slice()[job.index].entry;
-    try_entry(rt, lock, seat, &log.declarations.procs, entry, scratch)
+    try_entry(
+        rt,
+        lock,
+        seat,
+        &log.declarations.procs,
+        entry,
+        ahead,
+        scratch,
+    )
 }
 
 /// Redoes the record that a worker has in flight, and finishes it.
@@ -119,6 +150,7 @@ fn redo_one<R: Wait, G: Gate>(
     log: &Log,
     worker: u8,
     job: Job,
+    ahead: &mut Vec<(Key, Value)>,
     scratch: &mut Scratch,
     gate: &G,
 ) -> Order
@@ -129,12 +161,20 @@ fn redo_one<R: Wait, G: Gate>(
     ensures own { seat.new.table_id ≡ seat.old.table_id }
     ensures went { WentOn log.now worker result seat.old.me seat.new.me }
 {
-    let tried = try_job(rt, lock, seat, log, job, scratch);
+    let tried = try_job(rt, lock, seat, log, job, ahead, scratch);
     gate.at(Place::Replay { worker });
     if tried {
-        step_done(rt, lock, seat, log, worker, &Outcome::of(log, job, scratch))
+        step_done(
+            rt,
+            lock,
+            seat,
+            log,
+            worker,
+            &Outcome::of(log, job, scratch),
+            ahead,
+        )
     } else {
-        step_done(rt, lock, seat, log, worker, &Outcome::anew(log, job))
+        step_done(rt, lock, seat, log, worker, &Outcome::anew(log, job), ahead)
     }
 }
 
@@ -157,7 +197,8 @@ pub fn work<R: Wait, G: Gate>(
     ensures workers { length result.me.0.hands ≡ length seat.me.0.hands }
 {
     let mut scratch = Scratch::new(alloc);
-    let mut order = step_idle(rt, lock, &mut seat, log, worker);
+    let mut ahead = Vec::new(alloc);
+    let mut order = step_idle(rt, lock, &mut seat, log, worker, &mut ahead);
     for _ in rt.forever() {
         order = match order {
             Order::Redo { job, .. } => redo_one(
@@ -167,12 +208,13 @@ pub fn work<R: Wait, G: Gate>(
                 log,
                 worker,
                 job,
+                &mut ahead,
                 &mut scratch,
                 gate,
             ),
             Order::Sleep { seen } => {
                 lock.bell.park(rt, (seen % 4_294_967_296) as u32);
-                step_idle(rt, lock, &mut seat, log, worker)
+                step_idle(rt, lock, &mut seat, log, worker, &mut ahead)
             }
             Order::Stop => return seat,
         };

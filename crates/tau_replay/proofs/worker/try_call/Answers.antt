@@ -9,13 +9,13 @@ use Rattle.tau_replay.proofs.worker.try_call.Goals as goal
 
 pub wants-preserved : goal.wants-preserved
 wants-preserved g c =
-    let pushed : c.push.new.self.items ≡ c.wants.scratch.reads.items ++ (c.in-Read.key, c.row-value.result) ∷ [] = search rules in
+    let pushed : c.push.new.self.items ≡ c.wants.scratch.reads.items ++ (c.in-Read.key, c.value_of-value.result) ∷ [] = search rules in
     record {
-      own = c.row-value.ensures.own ∙ c.wants.invariant.own;
-      same = c.row-value.ensures.same ∙ c.wants.invariant.same;
+      own = c.value_of-value.ensures.own ∙ c.wants.invariant.own;
+      same = c.value_of-value.ensures.same ∙ c.wants.invariant.same;
       trying = subst (λ (rs : List (Key × Value)). IsTrying c.args.procs.now c.args.call.now rs c.give.new.self) (sym pushed)
-          (trying-read c.args.procs.now c.args.call.now c.wants.scratch.reads.items c.wants.scratch.machine c.in-Read.key c.row-value.result c.give.new.self c.wants.invariant.trying
-          (sym c.next.ensures.want ∙ c.in-Read.is) (λ vs. c.give.ensures.stands vs ∙ ap (λ (m : Progress). ahead m (c.row-value.result ∷ vs)) c.next.ensures.same) (c.give.ensures.granted ∙ ap (λ (m : Progress). m.granted) c.next.ensures.same));
+          (trying-read c.args.procs.now c.args.call.now c.wants.scratch.reads.items c.wants.scratch.machine c.in-Read.key c.value_of-value.result c.give.new.self c.wants.invariant.trying
+          (sym c.next.ensures.want ∙ c.in-Read.is) (λ vs. c.give.ensures.stands vs ∙ ap (λ (m : Progress). ahead m (c.value_of-value.result ∷ vs)) c.next.ensures.same) (c.give.ensures.granted ∙ ap (λ (m : Progress). m.granted) c.next.ensures.same));
     }
 
 pub returns-in-Write-clause-executed : goal.returns-in-Write-clause-executed
