@@ -1,4 +1,4 @@
-//! Runs of the desk in threads. They stand in a crate of their own, so that the desk is proved once.
+//! Worked runs of the desk, seat by seat on one thread, and in threads. They stand in a crate of their own, so that the desk is proved once.
 #![tactic(auto)]
 
 #[cfg(test)]
@@ -7,8 +7,5 @@ mod rounds;
 mod runs;
 #[cfg(test)]
 mod support;
-//! Worked runs of the desk, seat by seat on one thread. They stand in a crate of their own, so that the desk is proved once.
-#![tactic(auto)]
-
 #[cfg(test)]
 mod tests;
