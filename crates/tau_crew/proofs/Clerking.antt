@@ -21,7 +21,7 @@ use Rattle.tau_rule.specs.Steps.{Sat, first_role}
 use Rattle.tau_rule.specs.declared.part.Part.{Part}
 use Rattle.tau_rule.specs.declared.part.Part.TheVariants as part
 use Rattle.tau_step.specs.Telling.{Heard, HeardFront}
-use Rattle.tau_desk.specs.Manages.{AcksFirst, SeesOn, acked_in, acked_in_share}
+use Rattle.tau_desk.specs.Manages.{AcksFirst, SeesOn, acked_in, acked_in_share, told_raised}
 use Rattle.tau_desk.specs.Seats.{Clerks, PlainClerkSeat}
 use Rattle.tau_crew_facts.specs.Telling.{IsTelling}
 use Rattle.tau_crew_facts.proofs.Telling.{pending-own, telling-more, telling-sees}
@@ -186,3 +186,10 @@ acknowledges-missing origin s s' w call t t' c opened lt a none same missing lin
       (subst (λ (l : List ℕ). IsSoFar base t'.acks l t.sink_failed held) (sym lines) (subst (λ (xs : List (ℕ × List ℕ)). IsSoFar base xs t.lines.items t.sink_failed held) (sym same) h));
   sink = sink;
 }
+
+-- the stop was raised
+pub tells-stopped : (l : Load) (s s' : PlainClerkSeat) (acks : List (ℕ × List ℕ)) → s' ≡ record s { me = (told_raised s.me.0, s.me.1) } → IsTelling l (acked_in s.me.0) s.seen acks → IsTelling l (acked_in s'.me.0) s'.seen acks
+tells-stopped l s s' acks e t = subst (λ (x : PlainClerkSeat). IsTelling l (acked_in x.me.0) x.seen acks) (sym e) t
+
+pub same-stopped : (s s' : PlainClerkSeat) → s' ≡ record s { me = (told_raised s.me.0, s.me.1) } → IsSameClerk s s'
+same-stopped s s' e = record { table = ap (λ (x : PlainClerkSeat). x.table_id) e; opened = ap (λ (x : PlainClerkSeat). x.me.0.opened) e }

@@ -2,3 +2,4 @@ pub mod Gathering
 pub mod Driving
 pub mod Jobs
 pub mod Clerking
+pub mod ClerkJobs

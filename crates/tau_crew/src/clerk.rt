@@ -1,11 +1,15 @@
 //! The clerk in a thread of its own.
-ghost use Rattle.std.specs.Prelude.{◌≡◌, ◌<◌, None, Some, OnOk};
-ghost use Rattle.tau_crew.specs.Clerking.{Acknowledges};
+ghost use Rattle.std.specs.Prelude.{◌≡◌, ◌≤◌, ◌<◌, ◌⊎◌, [], true, List, ℕ, None, Some, OnOk};
+ghost use Rattle.tau_disk.specs.Disk.{Rose};
+ghost use Rattle.tau_crew.specs.Clerking.{Acknowledges, IsSameClerk, IsToldSoFar, KeepsTelling};
+ghost use Rattle.tau_crew.specs.ClerkJobs.{ClerkGoes, IsClerkJob};
 
+use crate::shared::Crew;
 use crate::told::Told;
 use std::sync::Wait;
 use tau_base::NoMemory;
 use tau_desk::{ClerkSeat, Desk};
+use tau_disk::Sink;
 
 /// Acknowledges the first pending call of a worker that the positions cover which the clerk has seen, and returns whether there was one.
 fn ack_one<R: Wait>(
@@ -74,4 +78,111 @@ fn ack_all<R: Wait>(
         ack_worker(rt, desk, seat, told, worker)?;
     }
     Ok(())
+}
+
+/// One pass, whose lines go to the sink in one write.
+fn ack_and_write<R: Wait, K: Sink>(
+    rt: &R,
+    desk: &Desk,
+    seat: &mut ClerkSeat,
+    told: &mut Told,
+    sink: &mut K,
+) -> Result<(), NoMemory>
+    requires own { seat.old.table_id ≡ desk.now.table.shared.table_id }
+    requires opened { seat.old.me.0.opened ≡ Some desk.now.table.shared.key.value }
+    requires none { told.old.missing ≡ None }
+    ensures tells { KeepsTelling desk.now.load seat.old seat.new told.old told.new }
+    ensures same { IsSameClerk seat.old seat.new }
+    ensures none { OnOk result (told.new.missing ≡ None) }
+    ensures written { told.new.lines.items ≡ [] }
+    ensures heard { K.tells → (base : List ℕ) → IsToldSoFar base told.old (K.held sink.old) → IsToldSoFar base told.new (K.held sink.new) }
+    ensures cause { told.new.sink_failed ≡ true → (told.old.sink_failed ≡ true) ⊎ Rose (K.faults sink.old) (K.faults sink.new) }
+    ensures faults { K.faults sink.old ≤ K.faults sink.new }
+{
+    match ack_all(rt, desk, seat, told) {
+        Ok(()) => {
+            told.write(sink);
+            Ok(())
+        }
+        Err(_) => {
+            told.write(sink);
+            Err(NoMemory)
+        }
+    }
+}
+
+/// What the clerk works with beside the sink.
+#[derive(Drop)]
+pub struct ClerkJob {
+    /// Its seat at the desk.
+    pub seat: ClerkSeat,
+    /// What it has told.
+    pub told: Told,
+    /// Whether it was out of memory. Then it does nothing more.
+    pub short: bool,
+}
+
+impl ClerkJob {
+    /// One pass, if memory was there so far. Want of memory raises the stop. Returns whether it goes on.
+    fn pass<R: Wait, K: Sink>(&mut self, rt: &R, desk: &Desk, sink: &mut K) -> bool
+        requires own { self.old.seat.table_id ≡ desk.now.table.shared.table_id }
+        requires opened { self.old.seat.me.0.opened ≡ Some desk.now.table.shared.key.value }
+        requires clerk { IsClerkJob self.old }
+        ensures goes { ClerkGoes desk.now.load self.old self.new }
+        ensures clerk { IsClerkJob self.new }
+        ensures heard { K.tells → (base : List ℕ) → IsToldSoFar base self.old.told (K.held sink.old) → IsToldSoFar base self.new.told (K.held sink.new) }
+        ensures cause { self.new.told.sink_failed ≡ true → (self.old.told.sink_failed ≡ true) ⊎ Rose (K.faults sink.old) (K.faults sink.new) }
+        ensures faults { K.faults sink.old ≤ K.faults sink.new }
+    {
+        if self.short {
+            return false;
+        }
+        let ClerkJob { seat, told, short } = self;
+        match ack_and_write(rt, desk, seat, told, sink) {
+            Ok(()) => true,
+            Err(_) => {
+                seat.stop(desk);
+                *short = true;
+                false
+            }
+        }
+    }
+
+    /// Looks how far each stream is persisted, and says whether one is further than was seen.
+    fn look(&mut self, desk: &Desk) -> bool
+        requires own { self.old.seat.table_id ≡ desk.now.table.shared.table_id }
+        requires opened { self.old.seat.me.0.opened ≡ Some desk.now.table.shared.key.value }
+        requires clerk { IsClerkJob self.old }
+        ensures goes { ClerkGoes desk.now.load self.old self.new }
+        ensures clerk { IsClerkJob self.new }
+        ensures told { self.new.told ≡ self.old.told }
+    {
+        self.seat.look_all(desk)
+    }
+
+    /// The clerk's loop: it passes over the workers where a stream is persisted further, and from time to time, and rests else,
+    /// until the managers are through and a last pass is made, or memory is wanting.
+    pub fn run<R: Wait, K: Sink>(&mut self, rt: &R, desk: &Desk, crew: &Crew, sink: &mut K)
+        requires own { self.old.seat.table_id ≡ desk.now.table.shared.table_id }
+        requires opened { self.old.seat.me.0.opened ≡ Some desk.now.table.shared.key.value }
+        requires clerk { IsClerkJob self.old }
+        ensures goes { ClerkGoes desk.now.load self.old self.new }
+        ensures clerk { IsClerkJob self.new }
+        ensures heard { K.tells → (base : List ℕ) → IsToldSoFar base self.old.told (K.held sink.old) → IsToldSoFar base self.new.told (K.held sink.new) }
+        ensures cause { self.new.told.sink_failed ≡ true → (self.old.told.sink_failed ≡ true) ⊎ Rose (K.faults sink.old) (K.faults sink.new) }
+        ensures faults { K.faults sink.old ≤ K.faults sink.new }
+    {
+        for _ in rt.forever() {
+            // Read before the look, so that a pass after the last manager has left tells all that was persisted.
+            let over = crew.are_flushed();
+            let rose = self.look(desk);
+            if !self.pass(rt, desk, sink) || over {
+                return;
+            }
+            if !rose {
+                crew.rest(rt);
+            }
+        }
+        unreachable!()
+    }
 }

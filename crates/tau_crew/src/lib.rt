@@ -10,6 +10,7 @@ mod shared;
 mod told;
 
 pub use anchor::Marks;
+pub use clerk::ClerkJob;
 pub use manager::ManagerJob;
 pub use shared::Crew;
 pub use told::Told;
