@@ -3,3 +3,4 @@ pub mod Driving
 pub mod Jobs
 pub mod Clerking
 pub mod ClerkJobs
+pub mod Working

@@ -8,9 +8,11 @@ mod gather;
 mod manager;
 mod shared;
 mod told;
+mod worker;
 
 pub use anchor::Marks;
 pub use clerk::ClerkJob;
 pub use manager::ManagerJob;
 pub use shared::Crew;
 pub use told::Told;
+pub use worker::work;

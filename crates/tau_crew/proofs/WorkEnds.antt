@@ -1,0 +1,127 @@
+-- How the loop of a worker ends.
+use Rattle.std.proofs.Common.{ℕ, ◌≡◌, ◌⊎◌, ◌≤◌, Bool, true, false, arith, [], length, refl, sym, ap, subst, ◌∙◌, Option, inl, inr}
+use Rattle.std.specs.Prelude.{Some, None, Result, Ok, Err, IfOk, OnErr}
+use Rattle.std.proofs.lemmas.Bool.Decides.{leb_tells}
+use Rattle.tau_base.specs.declared.value.NoMemory.{NoMemory}
+use Rattle.tau_machine.specs.Accounts.{in_calls, in_worker}
+use Rattle.tau_txn.specs.Txn.{held_by, held_in, leaves_by}
+use Rattle.tau_core.specs.Begins.{number_by}
+use Rattle.tau_core.specs.Opens.{calls_of}
+use Rattle.tau_core.specs.State.{Plain}
+use Rattle.tau_core.specs.declared.state.Load.{Load}
+use Rattle.tau_desk.specs.Manages.{told_raised}
+use Rattle.tau_desk.specs.Resumes.{RestsWork}
+use Rattle.tau_desk.specs.Seats.{PlainWorkerSeat, Works}
+use Rattle.tau_desk.specs.Shares.{PlainWork, unbegun}
+use Rattle.tau_desk.specs.Works.{BeginsIn, GivesUpOn, IsSameSeat, undone}
+use Rattle.tau_desk.specs.declared.mark.Mark.{Mark}
+use Rattle.tau_crew_facts.specs.Closing.{WorkerDone}
+use Rattle.tau_crew.specs.Working.{HasNone, HasRun, IsBare, IsSteady, IsUnjoined, WorkerEnds, WorksOn, has_raised, worker_at}
+use Rattle.tau_crew.proofs.WorkSteps.{loose-hand, none-waits, rests-hand, unjoined-none}
+
+pub same-then : (a b c : PlainWorkerSeat) → IsSameSeat a b → IsSameSeat b c → IsSameSeat a c
+same-then a b c p q = (q.0 ∙ p.0, q.1 ∙ p.1, q.2 ∙ p.2, q.3 ∙ p.3)
+
+-- a worker that has no call to begin
+pub has-none : (origin : Plain) (s : PlainWorkerSeat) → Works s → s.me.0.opened ≡ Some origin → s.work.txn.hand ≡ None → number_by (length origin.load.calls) s.work.next s.work.again ≡ None → HasNone origin.load s
+has-none origin s a opened hand none = (none-waits origin s a opened hand none, none)
+
+rests-work : (l : Load) (s : PlainWorkerSeat) → s.work.txn.hand ≡ None → IsBare s → number_by (length l.calls) s.work.next s.work.again ≡ None → RestsWork (length l.calls) s.work
+rests-work l s hand bare none = by_again s.work.again refl none
+  where
+    by_again : (x : Option ℕ) → s.work.again ≡ x → number_by (length l.calls) s.work.next x ≡ None → RestsWork (length l.calls) s.work
+    by_again (Some k) is f = absurd (let bad : Some k ≡ None = f in cc)
+    by_again None is f = elim (leb_tells s.work.next (length l.calls)) [
+      | inl le ↦ absurd (let bad : Some s.work.next ≡ None = (let u = rw le.0 at f in u) in cc)
+      | inr gt ↦ record { hand = hand; begun = bare hand; again = is; next = (let u = gt.1 in omega (arith, u)) }
+    ]
+
+-- what comes of the beginning of the next call
+module _ (origin : Plain) (s s' : PlainWorkerSeat) (a : Works s) (opened : s.me.0.opened ≡ Some origin) (hand : s.work.txn.hand ≡ None) (others : s' ≡ record s { work = s'.work }) where
+  pub begun-rests : (r : Result Bool NoMemory) → BeginsIn origin.load s.work s'.work r → IfOk r (λ b. b ≡ false → s'.work.txn.hand ≡ None)
+  begun-rests (Err e) q = tt
+  begun-rests (Ok true) q = λ e. absurd (let bad : true ≡ false = e in cc)
+  begun-rests (Ok false) q = λ _. ap (λ (o : PlainWork). o.txn.hand) q.0 ∙ hand
+
+  unbegun-same : s'.work ≡ s.work → s' ≡ s
+  unbegun-same e = others ∙ ap (λ (o : PlainWork). record s { work = o }) e
+
+  pub begun-none : (r : Result Bool NoMemory) → BeginsIn origin.load s.work s'.work r → IfOk r (λ b. b ≡ false → HasNone origin.load s')
+  begun-none (Err e) q = tt
+  begun-none (Ok true) q = λ e. absurd (let bad : true ≡ false = e in cc)
+  begun-none (Ok false) q = λ _. subst (HasNone origin.load) (sym (unbegun-same q.0)) (has-none origin s a opened hand q.1)
+
+  pub begun-short : (r : Result Bool NoMemory) → BeginsIn origin.load s.work s'.work r → OnErr r (IsUnjoined s'.work.txn)
+  begun-short (Err e) q = unjoined-none s'.work.txn (ap (λ (o : PlainWork). o.txn.hand) q.others ∙ hand)
+  begun-short (Ok b) q = tt
+
+-- without a call in hand none is given up
+rests-steady : (origin : Plain) (s : PlainWorkerSeat) → Works s → s.me.0.opened ≡ Some origin → s.work.txn.hand ≡ None → IsSteady s
+rests-steady origin s a opened hand = ((λ h e. absurd (let bad : None ≡ Some h = sym (rests-hand origin s a opened hand) ∙ e in cc)), ap leaves_by hand)
+
+has-run : (origin : Plain) (s s' : PlainWorkerSeat) → Works s → Works s' → s.me.0.opened ≡ Some origin → s.work.txn.hand ≡ None → WorksOn s s' → s'.work.txn.hand ≡ None → (s'.me.0.found ≡ true) ⊎ HasNone origin.load s' → HasRun origin.load s s'
+has-run origin s s' a a' opened rested w hand ended = record {
+  hand = hand;
+  rests = rests-hand origin s' a' (w.seat.3 ∙ opened) hand;
+  keeps = w.keeps (rests-steady origin s a opened rested);
+  raised = w.raised;
+  bare = w.bare;
+  ended = elim ended [ inl found ↦ inl found | inr none ↦ inr none.0 ];
+  resting = λ bare. elim ended [ inl found ↦ inl found | inr none ↦ inr (rests-work origin.load s' hand (w.bare bare) none.1) ];
+}
+
+-- it ran to its end
+pub ends-run : (origin : Plain) (s s' : PlainWorkerSeat) → Works s → Works s' → s.me.0.opened ≡ Some origin → s.work.txn.hand ≡ None → WorksOn s s' → s'.work.txn.hand ≡ None → (s'.me.0.found ≡ true) ⊎ HasNone origin.load s' → (u : Unit {0}) → WorkerEnds origin.load s s' (Ok u)
+ends-run origin s s' a a' opened rested w hand ended u =
+    let free = unjoined-none s'.work.txn hand in
+    let held : held_in s'.work.txn ≡ [] = ap held_by hand in
+    record {
+      seat = w.seat;
+      loose = loose-hand s' a' held free.joined;
+      held = held;
+      unjoined = free;
+      done = has-run origin s s' a a' opened rested w hand ended;
+      short = tt;
+    }
+
+-- its call was given up, and it raised the stop
+pub ends-short : (l : Load) (s t s' : PlainWorkerSeat) → Works s' → IsSameSeat s t → held_in t.work.txn ≡ [] → IsUnjoined t.work.txn → s' ≡ record t { me = (told_raised t.me.0, t.me.1) } → (e : NoMemory) → WorkerEnds l s s' (Err e)
+ends-short l s t s' a same held free is e =
+    let txn_is : s'.work.txn ≡ t.work.txn = ap (λ (x : PlainWorkerSeat). x.work.txn) is in
+    let held' : held_in s'.work.txn ≡ [] = ap held_in txn_is ∙ held in
+    let free' : IsUnjoined s'.work.txn = subst IsUnjoined (sym txn_is) free in
+    record {
+      seat = same-then s t s' same (ap (λ (x : PlainWorkerSeat). x.table_id) is, ap (λ (x : PlainWorkerSeat). x.id) is, ap (λ (x : PlainWorkerSeat). x.worker) is, ap (λ (x : PlainWorkerSeat). x.me.0.opened) is);
+      loose = loose-hand s' a held' free'.joined;
+      held = held';
+      unjoined = free';
+      done = tt;
+      short = ap has_raised is;
+    }
+
+-- a call that is given up and holds no key stays, or is undone
+pub record GaveUp (s s' : PlainWorkerSeat) : Type 0 where
+  pub seat : IsSameSeat s s'
+  pub held : held_in s'.work.txn ≡ []
+  pub unjoined : IsUnjoined s'.work.txn
+
+pub gave-none : (s s' : PlainWorkerSeat) → IsUnjoined s.work.txn → GivesUpOn s s' false → GaveUp s s'
+gave-none s s' free q = record {
+  seat = (ap (λ (x : PlainWorkerSeat). x.table_id) q.1, ap (λ (x : PlainWorkerSeat). x.id) q.1, ap (λ (x : PlainWorkerSeat). x.worker) q.1, ap (λ (x : PlainWorkerSeat). x.me.0.opened) q.1);
+  held = ap (λ (x : PlainWorkerSeat). held_in x.work.txn) q.1 ∙ held_by_mark s.work.mark;
+  unjoined = subst (λ (x : PlainWorkerSeat). IsUnjoined x.work.txn) (sym q.1) (free_by_mark s.work.mark);
+}
+  where
+    held_by_mark : (m : Option Mark) → held_in (undone s.work m).txn ≡ []
+    held_by_mark None = q.0
+    held_by_mark (Some k) = refl
+
+    free_by_mark : (m : Option Mark) → IsUnjoined (undone s.work m).txn
+    free_by_mark None = free
+    free_by_mark (Some k) = unjoined-none (unbegun s.work k).txn refl
+
+-- ---- what the end of a run in threads wants of a worker
+
+-- none of its calls was lost
+pub worker-done : (l : Load) (s s' : PlainWorkerSeat) (w : ℕ) → ((k : ℕ) → in_calls k (calls_of l w) ≤ in_worker k (worker_at s)) → HasRun l s s' → WorkerDone l w (worker_at s')
+worker-done l s s' w was r = record { rests = r.rests; kept = λ k. (let a = was k in let b = r.keeps.all k in omega (arith, a, b)) }

@@ -1,0 +1,12 @@
+use Rattle.tau_crew.proofs.WorkEnds.{ends-run, ends-short, same-then}
+use Rattle.tau_crew.proofs.worker.work.Goals as goal
+
+pub returns-in-Ok : goal.returns-in-Ok
+returns-in-Ok g c =
+    ends-run c.args.desk.now.table.shared.key.value c.args.seat.now c.run_calls.new.seat c.agrees.ensures c.agrees-in-Ok.ensures c.requires.opened c.requires.rests c.run_calls.ensures.works
+    c.in-Ok.ensures.rests c.in-Ok.ensures.ended tt
+
+pub returns-in-Err : goal.returns-in-Err
+returns-in-Err g c =
+    ends-short c.args.desk.now.table.shared.key.value.load c.args.seat.now c.give_up.new.seat c.stop.new.self c.agrees-in-Err.ensures
+    (same-then c.args.seat.now c.run_calls.new.seat c.give_up.new.seat c.run_calls.ensures.works.seat c.give_up.ensures.seat) c.give_up.ensures.held c.give_up.ensures.unjoined c.stop.ensures.knows c.in-Err.error
