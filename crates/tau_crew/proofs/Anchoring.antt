@@ -133,6 +133,7 @@ apart-same base durable last placed s s' a stream anchors =
 pub short-stopped : {D : Type 0} {G : Ghosts D} (n j : ℕ) (base : List ℕ) (w0 : Writer D G) (s s' : PlainManagerSeat) (w : Writer D G) → IsDrivenShort n j base w0 s w → s' ≡ record s { me = (told_raised s.me.0, s.me.1) } → IsDrivenShort n j base w0 s' w
 short-stopped n j base w0 s s' w d e = record {
   stream = ap (λ (x : PlainManagerSeat). x.stream) e ∙ d.stream;
+  stored = ap (λ (x : PlainManagerSeat). slice_index x.seen j) e ∙ d.stored;
   written =
       subst (λ (ps : List Piece). HasWritten n j base ps (slice_index s'.seen j) w0 w) (sym (ap taken_in e))
       (subst (λ (k : ℕ). HasWritten n j base (taken_in s) k w0 w) (sym (ap (λ (x : PlainManagerSeat). slice_index x.seen j) e)) d.written);

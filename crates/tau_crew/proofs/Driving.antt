@@ -74,6 +74,7 @@ module _ {D : Type 0} {G : Ghosts D} (n j : ℕ) (base : List ℕ) (w0 : Writer 
   pub driven-short : (seen_now : SeenNow G) (s s' : PlainManagerSeat) (b b' : List ℕ) (w w' : Writer D G) → IsDriven n j base w0 s w → GathersMore s s' b b' → disk_of w' ≡ disk_of w → durable_of w' ≡ durable_of w → has_failed w' ≡ has_failed w → IsDrivenShort n j base w0 s' w'
   driven-short seen_now s s' b b' w w' d g disk durable same = record {
     stream = g.stream ∙ d.stream;
+    stored = ap (λ (v : List ℕ). slice_index v j) g.seen ∙ d.stored ∙ sym durable;
     written =
         subst (λ (k : ℕ). HasWritten n j base (taken_in s') k w0 w') (sym (ap (λ (v : List ℕ). slice_index v j) g.seen ∙ d.stored ∙ sym durable))
         (subst (λ (ps : List Piece). HasWritten n j base ps (durable_of w') w0 w') (sym g.taken) (gathers-short n j base seen_now (taken_in s) g.pieces w0 w w' d.managing disk durable same));
@@ -93,7 +94,7 @@ module _ {D : Type 0} {G : Ghosts D} (n j : ℕ) (base : List ℕ) (w0 : Writer 
 
   -- what is driven has written so much
   pub short-of : (s : PlainManagerSeat) (w : Writer D G) → IsDriven n j base w0 s w → IsDrivenShort n j base w0 s w
-  short-of s w d = record { stream = d.stream; written = subst (λ (k : ℕ). HasWritten n j base (taken_in s) k w0 w) (sym d.stored) d.managing.managed }
+  short-of s w d = record { stream = d.stream; stored = d.stored; written = subst (λ (k : ℕ). HasWritten n j base (taken_in s) k w0 w) (sym d.stored) d.managing.managed }
 
   module _ (seen_now : SeenNow G) (counts_now : CountsNow G) (only_now : OnlyNow G) (s s' : PlainManagerSeat) (w w' : Writer D G) (d : IsDriven n j base w0 s w) (works : has_failed w ≡ false) (upto : ℕ) (all : upto ≡ durable_of w + length (left_of w))
       (moments : G.tells → (n j : ℕ) (content : List ℕ) → IsReady n j w content → Passes G.moment G.may_leave_since (disk_of w) (disk_of w') (IsOldOrNew n j content (part_upto w upto))) (faults : G.faults (disk_of w) ≤ G.faults (disk_of w')) where

@@ -32,6 +32,7 @@ module _ {D : Type 0} {G : Ghosts D} where
   -- where memory was wanting the view may have more than the writer has
   pub record IsDrivenShort (n j : ℕ) (base : List ℕ) (w0 : Writer D G) (s : PlainManagerSeat) (w : Writer D G) : Type 0 where
     pub stream : s.stream ≡ j
+    pub stored : slice_index s.seen j ≡ durable_of w
     pub written : HasWritten n j base (taken_in s) (slice_index s.seen j) w0 w
 
   -- whatever the stream began with and the writer was at the entry, a step keeps it
