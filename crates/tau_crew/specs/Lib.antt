@@ -4,3 +4,4 @@ pub mod Jobs
 pub mod Clerking
 pub mod ClerkJobs
 pub mod Working
+pub mod Ending
