@@ -5,3 +5,4 @@ pub mod Clerking
 pub mod WorkKeeps
 pub mod WorkSteps
 pub mod WorkEnds
+pub mod WorkBack

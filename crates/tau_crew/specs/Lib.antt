@@ -5,3 +5,4 @@ pub mod Clerking
 pub mod ClerkJobs
 pub mod Working
 pub mod Ending
+pub mod WorkersBack

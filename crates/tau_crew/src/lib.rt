@@ -8,6 +8,7 @@ mod gather;
 mod manager;
 mod shared;
 mod told;
+mod work_all;
 mod worker;
 
 pub use anchor::Marks;
