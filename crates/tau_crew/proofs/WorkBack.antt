@@ -85,8 +85,8 @@ rests-there h g w o is rest =
 loose-none : (o : _) → o ≡ None → IsLoose o
 loose-none o e = subst IsLoose (sym e) tt
 
-pub refused-back : (from to : ℕ) (h h' : PlainHead) → Heads h → AreReady h from to → h' ≡ record h { me = (told_head_raised h.me.0, h.me.1) } → WorkersBack from to h h' true
-refused-back from to h h' g ready e = subst (λ (x : PlainHead). WorkersBack from to h x true) (sym e) (record {
+pub refused-back : (l : Load) (from to : ℕ) (h h' : PlainHead) → Heads h → AreReady h from to → h' ≡ record h { me = (told_head_raised h.me.0, h.me.1) } → WorkersBack l from to h h' true
+refused-back l from to h h' g ready e = subst (λ (x : PlainHead). WorkersBack l from to h x true) (sym e) (record {
   table = refl;
   opened = refl;
   managers = refl;
@@ -118,8 +118,8 @@ refused-back from to h h' g ready e = subst (λ (x : PlainHead). WorkersBack fro
 -- ---- a worker beside the others
 
 -- without workers nothing happens
-pub none-back : (from to : ℕ) (h : PlainHead) → to ≤ from → WorkersBack from to h h false
-none-back from to h none = record {
+pub none-back : (l : Load) (from to : ℕ) (h : PlainHead) → to ≤ from → WorkersBack l from to h h false
+none-back l from to h none = record {
   table = refl;
   opened = refl;
   managers = refl;
@@ -147,7 +147,7 @@ seat-rests w to calls h h1 s q ready high =
     inside : (a b : PlainWork) → Some (Some a) ≡ Some (Some b) → a ≡ b
     inside a b e = cc e
 
-module _ (l : Load) (w to calls : ℕ) (h h1 h2 h3 : PlainHead) (s s' : PlainWorkerSeat) (one rest : Bool) (g : Heads h) (split : IsWorkerSplit w calls h h1 s) (high : w < to) (ready : AreReady h w to) (ran : SeatRan l s s' one) (back : WorkersBack (w + 1) to h1 h2 rest)
+module _ (l : Load) (w to calls : ℕ) (h h1 h2 h3 : PlainHead) (s s' : PlainWorkerSeat) (one rest : Bool) (g : Heads h) (split : IsWorkerSplit w calls h h1 s) (high : w < to) (ready : AreReady h w to) (ran : SeatRan l s s' one) (back : WorkersBack l (w + 1) to h1 h2 rest)
     (join_is : h3 ≡ record h2 { me = (both h2.me.0 s'.me.0, []); workers = slice_set h2.workers s'.worker (Some s'.work); seen = join h2.seen s'.seen }) where
   a' : Works s'
   a' = ran.works
@@ -211,10 +211,10 @@ module _ (l : Load) (w to calls : ℕ) (h h1 h2 h3 : PlainHead) (s s' : PlainWor
       inside : (x y : PlainWork) → Some (Some x) ≡ Some (Some y) → x ≡ y
       inside x y e = cc e
 
-  itself-ran : one ≡ false → WorkerRan there.0 a'.role had.0 s'.work h3.me.0.found
+  itself-ran : one ≡ false → WorkerRan l there.0 a'.role had.0 s'.work h3.me.0.found
   itself-ran f = by_result ran.returned ran.ends (sym ran.short_is ∙ f)
     where
-      from_run : HasRun l s s' → WorkerRan there.0 a'.role had.0 s'.work h3.me.0.found
+      from_run : HasRun l s s' → WorkerRan l there.0 a'.role had.0 s'.work h3.me.0.found
       from_run q = record {
         hand = q.hand;
         rests = ap (λ (r : Role). (worker_of r).hand) (sym seat-role') ∙ q.rests;
@@ -225,13 +225,17 @@ module _ (l : Load) (w to calls : ℕ) (h h1 h2 h3 : PlainHead) (s s' : PlainWor
           | inl found ↦ inl (found-is ∙ or-true h2.me.0.found s'.me.0.found found)
           | inr none ↦ inr (ap (λ (r : Role). (worker_of r).waiting) (sym seat-role') ∙ none)
         ];
+        resting = λ e. elim (q.resting (λ _. ap (λ (x : PlainWork). x.mark) (sym same-work) ∙ e)) [
+          | inl found ↦ inl (found-is ∙ or-true h2.me.0.found s'.me.0.found found)
+          | inr rest ↦ inr rest
+        ];
       }
 
-      by_result : (r : Result Unit NoMemory) → WorkerEnds l s s' r → is_err r ≡ false → WorkerRan there.0 a'.role had.0 s'.work h3.me.0.found
+      by_result : (r : Result Unit NoMemory) → WorkerEnds l s s' r → is_err r ≡ false → WorkerRan l there.0 a'.role had.0 s'.work h3.me.0.found
       by_result (Ok u) q e = from_run q.done
       by_result (Err x) q e = absurd (let bad : true ≡ false = e in cc)
 
-  itself-back : WorkerIsBack w h h3 (one || rest)
+  itself-back : WorkerIsBack l w h h3 (one || rest)
   itself-back = record {
     role = there.0;
     role' = a'.role;
@@ -249,7 +253,7 @@ module _ (l : Load) (w to calls : ℕ) (h h1 h2 h3 : PlainHead) (s s' : PlainWor
 
   -- ---- the others
 
-  other-back : (u : ℕ) → (u ≡ w → ⊥) → WorkerIsBack u h1 h2 rest → WorkerIsBack u h h3 (one || rest)
+  other-back : (u : ℕ) → (u ≡ w → ⊥) → WorkerIsBack l u h1 h2 rest → WorkerIsBack l u h h3 (one || rest)
   other-back u ne q = record {
     role = q.role;
     role' = q.role';
@@ -269,6 +273,7 @@ module _ (l : Load) (w to calls : ℕ) (h h1 h2 h3 : PlainHead) (s s' : PlainWor
       raised = r.raised;
       bare = r.bare;
       ended = elim r.ended [ inl found ↦ inl (found-is ∙ or-left h2.me.0.found s'.me.0.found found) | inr none ↦ inr none ];
+      resting = λ e. elim (r.resting e) [ inl found ↦ inl (found-is ∙ or-left h2.me.0.found s'.me.0.found found) | inr work ↦ inr work ];
     });
   }
 
@@ -278,7 +283,7 @@ module _ (l : Load) (w to calls : ℕ) (h h1 h2 h3 : PlainHead) (s s' : PlainWor
   not-mine : (u : ℕ) → (u < w) ⊎ (to ≤ u) → u ≡ w → ⊥
   not-mine u out e = elim out [ inl lt ↦ omega (arith, lt, e) | inr le ↦ omega (arith, le, e, high) ]
 
-  pub one-back : WorkersBack w to h h3 (one || rest)
+  pub one-back : WorkersBack l w to h h3 (one || rest)
   one-back = record {
     table = ap (λ (x : PlainHead). x.table_id) join_is ∙ back.table ∙ ap (λ (x : PlainHead). x.table_id) split.left;
     opened = ap (λ (x : PlainHead). x.me.0.opened) join_is ∙ back.opened ∙ ap (λ (m : Sat). m.0.opened) split.split.head_is;
@@ -292,7 +297,7 @@ module _ (l : Load) (w to calls : ℕ) (h h1 h2 h3 : PlainHead) (s s' : PlainWor
         (b.0, others u ne ∙ b.1, still one rest r b.0 b.0 b.2 refl));
     works = λ u out. (let ne = not-mine u out in other-work u ne ∙ back.works u (next-out u out) ∙ first-work u ne);
     each = λ u low top. elim (cases_eq u w) [
-      | inl is ↦ subst (λ (x : ℕ). WorkerIsBack x h h3 (one || rest)) (sym is) itself-back
+      | inl is ↦ subst (λ (x : ℕ). WorkerIsBack l x h h3 (one || rest)) (sym is) itself-back
       | inr ne ↦ other-back u ne (back.each u (above u w low ne) top)
     ];
   }

@@ -7,6 +7,7 @@ use Rattle.tau_core.specs.declared.state.Load.{Load}
 use Rattle.tau_rule.specs.Role.{Role}
 use Rattle.tau_rule.specs.Rule.{has}
 use Rattle.tau_rule.specs.Steps.{worker_in_share}
+use Rattle.tau_desk.specs.Resumes.{RestsWork}
 use Rattle.tau_desk.specs.Seats.{PlainHead, PlainWorkerSeat, Works}
 use Rattle.tau_desk.specs.Shares.{PlainWork}
 use Rattle.tau_crew_facts.specs.Ends.{IsLoose}
@@ -35,15 +36,16 @@ pub record IsStillRole (short : Bool) (r r' : Role) : Type 0 where
 
 -- A worker's role and what it has of its own, before and after, where its loop went to its end: no call is in hand, none was
 -- lost, and none is to begin, unless the stop was found raised.
-pub record WorkerRan (role role' : Role) (o o' : PlainWork) (found : Bool) : Type 0 where
+pub record WorkerRan (l : Load) (role role' : Role) (o o' : PlainWork) (found : Bool) : Type 0 where
   pub hand : o'.txn.hand ≡ None
   pub rests : (worker_of role').hand ≡ None
   pub keeps : Keeps (worker_of role) (worker_of role')
   pub raised : role'.raised ≡ role.raised
   pub bare : o.mark ≡ None → o'.mark ≡ None
   pub ended : (found ≡ true) ⊎ ((worker_of role').waiting ≡ [])
+  pub resting : o.mark ≡ None → (found ≡ true) ⊎ RestsWork (length l.calls) o'
 
-pub record WorkerIsBack (w : ℕ) (h h' : PlainHead) (short : Bool) : Type 0 where
+pub record WorkerIsBack (l : Load) (w : ℕ) (h h' : PlainHead) (short : Bool) : Type 0 where
   pub role : Role
   pub role' : Role
   pub work : PlainWork
@@ -55,10 +57,10 @@ pub record WorkerIsBack (w : ℕ) (h h' : PlainHead) (short : Bool) : Type 0 whe
   pub loose : IsLoose (worker_of role').hand
   pub held : held_in work'.txn ≡ []
   pub unjoined : IsUnjoined work'.txn
-  pub ran : short ≡ false → WorkerRan role role' work work' h'.me.0.found
+  pub ran : short ≡ false → WorkerRan l role role' work work' h'.me.0.found
 
 -- the head with the roles of the workers from here to there again; the others' are as they were
-pub record WorkersBack (from to : ℕ) (h h' : PlainHead) (short : Bool) : Type 0 where
+pub record WorkersBack (l : Load) (from to : ℕ) (h h' : PlainHead) (short : Bool) : Type 0 where
   pub table : h'.table_id ≡ h.table_id
   pub opened : h'.me.0.opened ≡ h.me.0.opened
   pub managers : h'.managers ≡ h.managers
@@ -67,4 +69,4 @@ pub record WorkersBack (from to : ℕ) (h h' : PlainHead) (short : Bool) : Type 
   pub found : h.me.0.found ≡ true → h'.me.0.found ≡ true
   pub roles : (u : ℕ) (r : Role) → (u < from) ⊎ (to ≤ u) → has u h.me.0 ≡ Some r → (r' : Role) × (has u h'.me.0 ≡ Some r') × IsStillRole short r r'
   pub works : (u : ℕ) → (u < from) ⊎ (to ≤ u) → slice_get h'.workers u ≡ slice_get h.workers u
-  pub each : (w : ℕ) → from ≤ w → w < to → WorkerIsBack w h h' short
+  pub each : (w : ℕ) → from ≤ w → w < to → WorkerIsBack l w h h' short

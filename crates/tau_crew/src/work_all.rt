@@ -44,7 +44,7 @@ fn refuse(desk: &Desk, mut head: Head, crew: &Crew, first: u8, workers: u8) -> H
     requires opened { head.me.0.opened ≡ Some desk.now.table.shared.key.value }
     requires some { 1 ≤ workers }
     requires ready { AreReady head first (first + workers) }
-    ensures { WorkersBack first (first + workers) head result true }
+    ensures { WorkersBack desk.now.table.shared.key.value.load first (first + workers) head result true }
 {
     head.agrees();
     head.stop(desk);
@@ -111,7 +111,7 @@ pub(crate) fn work_all<R: Threads + Wait + Sync, G: Gate + Sync>(
     requires run { Opened desk.now.table.shared.key.value.load desk.now.table.shared.key.value }
     requires few { first + others < 16 }
     requires ready { AreReady head first (first + (others + 1)) }
-    ensures { WorkersBack first (first + (others + 1)) head result.0 result.1 }
+    ensures { WorkersBack desk.now.table.shared.key.value.load first (first + (others + 1)) head result.0 result.1 }
 {
     let Some(seat) = part(desk, &mut head, first, others) else {
         return (refuse(desk, head, crew, first, others + 1), true);
@@ -129,7 +129,7 @@ pub(crate) fn work_all<R: Threads + Wait + Sync, G: Gate + Sync>(
         { run_seat(rt, desk, seat, crew, gate, first) },
         move || -> (Head, bool)
             requires { IsSync R.row × (head.table_id ≡ desk.now.table.shared.table_id) × (head.me.0.opened ≡ Some desk.now.table.shared.key.value) × Opened desk.now.table.shared.key.value.load desk.now.table.shared.key.value × (1 ≤ others) × (first + others < 16) × AreReady head (first + 1) (first + (others + 1)) }
-            ensures { WorkersBack (first + 1) (first + (others + 1)) head result.0 result.1 }
+            ensures { WorkersBack desk.entry.now.table.shared.key.value.load (first + 1) (first + (others + 1)) head result.0 result.1 }
         { work_all(rt, desk, head, crew, gate, first + 1, others - 1) },
     );
     back(desk, &mut head, seat);

@@ -10,4 +10,4 @@ stop-requires-clause-role c =
     (c.args.first, r.0, r.1)
 
 pub returns : goal.returns
-returns c = refused-back c.args.first (c.args.first + c.args.workers) c.args.head c.stop.new.self c.agrees.ensures c.requires.ready c.stop.ensures.knows
+returns c = refused-back c.args.desk.now.table.shared.key.value.load c.args.first (c.args.first + c.args.workers) c.args.head c.stop.new.self c.agrees.ensures c.requires.ready c.stop.ensures.knows
