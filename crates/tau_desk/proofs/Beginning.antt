@@ -30,7 +30,7 @@ use Rattle.atomic_table.specs.Table.{opening}
 use Rattle.tau_rule.proofs.Opening.{begins, limited, now}
 use Rattle.tau_desk.proofs.Closing.{word-ends, word-plv}
 use Rattle.tau_desk.specs.Close.{IsBoxOf, IsShardOf}
-use Rattle.tau_desk.specs.Laid.{AreFirstWords, EachOf, HasAnchor, HasBox, HasShard, IsFirstAnchor, IsItsStock, IsItsWork, stock_at, work_of}
+use Rattle.tau_desk.specs.Laid.{AreUnbegun, AreFirstWords, EachOf, HasAnchor, HasBox, HasShard, IsFirstAnchor, IsItsStock, IsItsWork, stock_at, work_of}
 use Rattle.tau_desk.specs.Seats.{HasClerk, HasStock, HasWork, IsHead}
 use Rattle.tau_desk.specs.Shares.{PlainStock, PlainWork}
 use Rattle.tau_desk.specs.declared.mark.Mark.{Mark}
@@ -185,6 +185,20 @@ module _ (origin : Plain) (q : Opened origin.load origin) where
         };
         rests = quiet;
       }
+
+  -- no worker has begun a call
+  pub all-unbegun : (works : List (Option PlainWork)) → EachOf IsItsWork origin.seats works → AreUnbegun works
+  all-unbegun works a w o e =
+      let h = a.each w (Some o) e in
+      let x : PlainSeat = h.0 in
+      let same : o ≡ work_of x h.2.0 = inside o (work_of x h.2.0) h.2.1 in
+      let cs : List Committed = committed_by origin.load.workers w origin.committed in
+      let shown : hand_in origin.load.procs x.txn ≡ None = sym (ap (λ (s : Option PlainSeat). (worker_in origin.load s cs).hand) h.1) ∙ q.opening.hands w in
+      let none : x.txn.hand ≡ None = no-hand x.txn.hand ((q.stands.sound.seat w x h.1).stays ∙ ap is_some shown) in
+      (ap (λ (y : PlainWork). y.txn.hand) same ∙ none, ap (λ (y : PlainWork). y.mark) same)
+    where
+      inside : (y z : PlainWork) → Some y ≡ Some z → y ≡ z
+      inside y z f = cc f
 
   stock-is : ((i : ℕ) → i < origin.load.streams → slice_index origin.load.opening.ends i ≤ 2 ^ 61) → (j : ℕ) (x : PlainStream) (room end : ℕ) → j < origin.load.streams → slice_get origin.streams j ≡ Some x → end ≡ slice_index origin.ends j → HasStock origin (first_view origin) j (stock_at x end room)
   stock-is short j x room end low e is =

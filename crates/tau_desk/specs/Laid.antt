@@ -46,6 +46,10 @@ work_of x room = record {
 abbrev pub IsItsWork : ℕ → PlainSeat → Option PlainWork → Type 0
 IsItsWork k x o = (room : ℕ) × (o ≡ Some (work_of x room))
 
+-- no worker has begun a call
+abbrev pub AreUnbegun : List (Option PlainWork) → Type 0
+AreUnbegun works = (w : ℕ) (o : PlainWork) → slice_get works w ≡ Some (Some o) → (o.txn.hand ≡ None) × (o.mark ≡ None)
+
 -- what the manager has of its own, where the stream ends there, with room for so many anchors
 abbrev pub stock_at : PlainStream → ℕ → ℕ → PlainStock
 stock_at x end room = record { anchors = x.anchors; room = room; own = x.own; gathered = end }

@@ -8,7 +8,7 @@ use Rattle.tau_rule.specs.Rule.{Rule}
 use Rattle.tau_rule.specs.Steps.{Sat}
 use Rattle.tau_desk.specs.Laid.{AreFirstWords, EachOf, HasAnchor, HasBox, HasShard, IsItsStock, IsItsWork}
 use Rattle.tau_desk.specs.Seats.{IsHead}
-use Rattle.tau_desk.proofs.Beginning.{all-stock, all-work, begins-so, head-is}
+use Rattle.tau_desk.proofs.Beginning.{all-stock, all-unbegun, all-work, begins-so, head-is}
 use Rattle.tau_desk.proofs.opens.desk_of.Goals as goal
 
 pub new-requires : goal.new-requires
@@ -51,4 +51,5 @@ returns c =
       record { opened = c.requires.opened; knows = c.in-Ok.ensures.ok.4 ∙ ap (λ (o : Plain). (first_view o, [])) c.of-key.ensures },
       record { workers = all-work parts.seats.items c.in_ok-boxes.workers.items c.in_ok-boxes.ensures.1; managers = all-stock parts.ends parts.streams.items c.in_ok-anchors.managers.items c.in_ok-anchors.ensures.1; clerk = refl },
       c.in-Ok.ensures.ok.2,
+      all-unbegun core c.requires.opened c.in_ok-boxes.workers.items (subst (λ (l : List PlainSeat). EachOf IsItsWork l c.in_ok-boxes.workers.items) (ap (λ (p : Plain). p.seats) (c.load.view_is ∙ c.into_parts.ensures.same)) c.in_ok-boxes.ensures.1),
     )

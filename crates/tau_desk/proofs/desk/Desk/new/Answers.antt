@@ -22,4 +22,5 @@ returns c =
       subst (λ (o : Plain). IsFirst o c.in_ok-desk.head.me) (sym d.0) d.1,
       d.2,
       d.3,
+      d.4,
     )
