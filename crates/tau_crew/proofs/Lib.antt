@@ -6,3 +6,6 @@ pub mod WorkKeeps
 pub mod WorkSteps
 pub mod WorkEnds
 pub mod WorkBack
+pub mod EndJoins
+pub mod EndSettles
+pub mod EndCloses

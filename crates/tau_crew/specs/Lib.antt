@@ -6,3 +6,6 @@ pub mod ClerkJobs
 pub mod Working
 pub mod Ending
 pub mod WorkersBack
+pub mod EndJoins
+pub mod EndSettles
+pub mod EndCloses

@@ -3,6 +3,8 @@
 
 mod anchor;
 mod clerk;
+mod ending_join;
+mod ending_settle;
 mod flush;
 mod gather;
 mod manager;

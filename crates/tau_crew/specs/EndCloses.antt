@@ -1,0 +1,31 @@
+-- What the head has before the desk closes: every role, of the managers as their seats had them, and the sight of what is durable.
+use Rattle.std.specs.Prelude.{ℕ, ◌≡◌, true, List}
+use Rattle.atomic_table.specs.Seated.{TableId}
+use Rattle.tau_disk.specs.declared.disk.Disk.{Ghosts}
+use Rattle.tau_stream.specs.declared.writer.Writer.{Writer}
+use Rattle.std.specs.Prelude.{map}
+use Rattle.tau_machine.specs.State.{Ticket}
+use Rattle.tau_core.specs.State.{Plain}
+use Rattle.tau_rule.specs.Role.{Managed}
+use Rattle.tau_rule.specs.Rule.{clerk_role, manager_role}
+use Rattle.tau_desk.specs.Manages.{acked_in_share, managed_in_share}
+use Rattle.tau_desk.specs.Seats.{PlainHead}
+use Rattle.tau_crew.specs.declared.clerk.ClerkJob.{ClerkJob}
+use Rattle.tau_crew.specs.declared.manager.ManagerJob.{ManagerJob}
+use Rattle.tau_crew.specs.Ending.{AreManagersBack, IsClerkBack, IsHeadBack, role_back}
+use Rattle.tau_crew.specs.EndJoins.{HasClerkOf, HasManagers, SeesDurable, writer_in}
+
+abbrev pub managed_back : Plain → PlainHead → ℕ → Managed
+managed_back first h j = managed_in_share (role_back h (manager_role first.load j)).share
+
+abbrev pub acked_back : Plain → PlainHead → List (List Ticket)
+acked_back first h = acked_in_share (role_back h (clerk_role first.load)).share
+
+pub record IsAllBack {D : Type 0} {G : Ghosts D} (first : Plain) (table : TableId) (bases : ℕ → List ℕ) (ws : List (Writer D G)) (h : PlainHead) (jobs : List (ManagerJob D G)) (telling : ClerkJob) : Type 0 where
+  pub head : IsHeadBack first table h
+  pub managers : AreManagersBack first table bases ws jobs
+  pub has : HasManagers first h 0 jobs
+  pub clerk : IsClerkBack first table telling
+  pub has_clerk : HasClerkOf first h telling.seat
+  pub there : h.clerk ≡ true
+  pub sees : SeesDurable h (map writer_in jobs)
