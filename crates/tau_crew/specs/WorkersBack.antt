@@ -1,8 +1,10 @@
 -- What workers have done, each on a seat that left the head, when the head has their roles again.
 use Rattle.std.specs.Prelude.{ℕ, ◌+◌, ◌<◌, ◌≤◌, ◌≡◌, ◌⊎◌, Bool, true, false, Some, None, List, [], is_err, length, slice_get, Result}
 use Rattle.tau_base.specs.declared.value.NoMemory.{NoMemory}
+use Rattle.tau_machine.specs.Accounts.{in_calls, in_worker}
 use Rattle.tau_machine.specs.Worker.{Worker}
 use Rattle.tau_txn.specs.Txn.{held_in}
+use Rattle.tau_core.specs.Opens.{calls_of}
 use Rattle.tau_core.specs.declared.state.Load.{Load}
 use Rattle.tau_rule.specs.Role.{Role}
 use Rattle.tau_rule.specs.Rule.{has}
@@ -70,3 +72,11 @@ pub record WorkersBack (l : Load) (from to : ℕ) (h h' : PlainHead) (short : Bo
   pub roles : (u : ℕ) (r : Role) → (u < from) ⊎ (to ≤ u) → has u h.me.0 ≡ Some r → (r' : Role) × (has u h'.me.0 ≡ Some r') × IsStillRole short r r'
   pub works : (u : ℕ) → (u < from) ⊎ (to ≤ u) → slice_get h'.workers u ≡ slice_get h.workers u
   pub each : (w : ℕ) → from ≤ w → w < to → WorkerIsBack l w h h' short
+
+-- a worker at the beginning of a run: its calls are those that it has to begin, and it has not raised the stop
+pub record IsAtStart (l : Load) (h : PlainHead) (w : ℕ) : Type 0 where
+  pub role : Role
+  pub is : has w h.me.0 ≡ Some role
+  pub calls : (k : ℕ) → in_calls k (calls_of l w) ≤ in_worker k (worker_of role)
+  pub raised : role.raised ≡ false
+  pub unmarked : (work : PlainWork) → slice_get h.workers w ≡ Some (Some work) → work.mark ≡ None

@@ -1,13 +1,14 @@
 //! All workers side by side.
-ghost use Rattle.std.specs.Prelude.{◌≡◌, ◌+◌, ◌<◌, ◌≤◌, ◌||◌, [], None, Some, IfNone, IfSome, slice_set, true};
+ghost use Rattle.std.specs.Prelude.{ℕ, ◌≡◌, ◌+◌, ◌<◌, ◌≤◌, ◌||◌, [], None, Some, IfNone, IfSome, false, slice_set, true};
 ghost use Rattle.std.specs.Thread.{IsSync};
 ghost use Rattle.tau_core.specs.Opens.{Opened};
 ghost use Rattle.tau_base.specs.Vectors.{join};
 ghost use Rattle.tau_rule.specs.Heads.{both};
 ghost use Rattle.tau_desk.specs.Ends.{IsWorkerSplit, calls_each};
 ghost use Rattle.tau_desk.specs.Seats.{Heads};
+ghost use Rattle.tau_crew.specs.Ending.{HasRunBack, IsWorkerBack};
 ghost use Rattle.tau_crew.specs.Working.{IsUnjoined};
-ghost use Rattle.tau_crew.specs.WorkersBack.{AreReady, SeatRan, WorkersBack};
+ghost use Rattle.tau_crew.specs.WorkersBack.{AreReady, IsAtStart, SeatRan, WorkersBack};
 
 use crate::shared::Crew;
 use crate::worker::work;
@@ -134,4 +135,25 @@ pub(crate) fn work_all<R: Threads + Wait + Sync, G: Gate + Sync>(
     );
     back(desk, &mut head, seat);
     (head, either(one, rest))
+}
+
+/// All workers of the desk side by side, each on a seat that leaves the head, which has their roles again then. Returns also
+/// whether memory was wanting.
+pub(crate) fn work_side_by_side<R: Threads + Wait + Sync, G: Gate + Sync>(
+    rt: &R,
+    desk: &Desk,
+    head: Head,
+    crew: &Crew,
+    gate: &G,
+) -> (Head, bool)
+    requires own { head.table_id ≡ desk.now.table.shared.table_id }
+    requires opened { head.me.0.opened ≡ Some desk.now.table.shared.key.value }
+    requires run { Opened desk.now.table.shared.key.value.load desk.now.table.shared.key.value }
+    requires ready { AreReady head 0 desk.now.table.shared.key.value.load.workers }
+    ensures all { WorkersBack desk.now.table.shared.key.value.load 0 desk.now.table.shared.key.value.load.workers head result.0 result.1 }
+    ensures back { (w : ℕ) → w < desk.now.table.shared.key.value.load.workers → IsWorkerBack result.0 w }
+    ensures ran { result.1 ≡ false → (w : ℕ) → w < desk.now.table.shared.key.value.load.workers → IsAtStart desk.now.table.shared.key.value.load head w → HasRunBack desk.now.table.shared.key.value.load result.0 w }
+{
+    let others = desk.load.workers - 1;
+    work_all(rt, desk, head, crew, gate, 0, others as u8)
 }
