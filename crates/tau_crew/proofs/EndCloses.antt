@@ -1,7 +1,18 @@
 -- The head has every role back: the desk closes, and that ends the run.
 use Rattle.std.proofs.Common.{ℕ, ◌+◌, ◌<◌, ◌≤◌, ◌≡◌, true, false, Option, List, [], ◌∷◌, length, map, refl, sym, ap, subst, ◌∙◌, arith, slice_index}
 use Rattle.std.specs.Prelude.{Some, None, slice_get}
+use Rattle.std.specs.Prelude.{slice_index_or}
+use Rattle.std.specs.Option.{option_map}
+use Rattle.std.proofs.lemmas.List.{length-map}
 use Rattle.std.proofs.lemmas.Option.{slice_get-map}
+use Rattle.tau_outbox.specs.declared.Piece.{Piece}
+use Rattle.tau_run.specs.Run.{pair_of}
+use Rattle.tau_step.specs.RunTold.{EachOf}
+use Rattle.tau_crew_facts.specs.Ends.{IsThreadEnd}
+use Rattle.tau_crew_facts.specs.Telling.{IsTelling}
+use Rattle.tau_crew_facts.proofs.Closing.{thread-end}
+use Rattle.tau_desk.specs.Manages.{acked_in, managed_in}
+use Rattle.tau_crew.specs.Clerking.{all_told}
 use Rattle.atomic_table.specs.Seated.{TableId}
 use Rattle.tau_disk.specs.declared.disk.Disk.{Ghosts}
 use Rattle.tau_stream.specs.declared.writer.Writer.{Writer}
@@ -26,7 +37,7 @@ use Rattle.tau_crew.specs.declared.clerk.ClerkJob.{ClerkJob}
 use Rattle.tau_crew.specs.declared.manager.ManagerJob.{ManagerJob}
 use Rattle.tau_crew.specs.Gathering.{taken_in}
 use Rattle.tau_crew.specs.Ending.{role_back, worker_back}
-use Rattle.tau_crew.specs.EndCloses.{IsAllBack, acked_back, managed_back}
+use Rattle.tau_crew.specs.EndCloses.{ClosesRun, IsAllBack, acked_back, managed_back}
 use Rattle.tau_crew.specs.EndJoins.{writer_in}
 use Rattle.tau_crew.proofs.EndJoins.{same-origin}
 use Rattle.tau_crew.proofs.EndSettles.{got-low}
@@ -93,4 +104,70 @@ module _ {D : Type 0} {G : Ghosts D} (first : Plain) (table : TableId) (bases : 
         (let count : length result.seats ≡ first.load.workers = k.stands.sound.seats ∙ ap (λ (l : _). l.workers) k.load in
         let (x, is) = at-place result.seats w (omega (arith, lt, count)) in
         (x.outbox, x.pending, k.box w x is));
+  }
+
+  -- the role of a manager is as its seat had it
+  managed-is : (j : ℕ) (job : ManagerJob D G) → slice_get jobs j ≡ Some job → managed_back first h j ≡ managed_in job.seat.me.0
+  managed-is j job is =
+      let e : 0 + j ≡ j = omega arith in
+      ap (λ (o : Option Role). managed_in_share (role_or o).share) (subst (λ (i : ℕ). has (manager_role first.load i) h.me.0 ≡ Some (first_role job.seat.me.0.roles).1) e (b.has j job is).role)
+
+  acked-is : acked_back first h ≡ acked_in telling.seat.me.0
+  acked-is = ap (λ (o : Option Role). acked_in_share (role_or o).share) b.has_clerk
+
+  -- what each manager knows
+  knows : EachOf (λ j w w'. ManagerKnows first.load h.me.0.seen j (bases j) (managed_back first h j) w w') ws (map writer_in jobs)
+  knows = record {
+    count = length-map jobs writer_in ∙ b.managers.count ∙ sym b.managers.writers;
+    each = λ j w is.
+        (let low : j < length ws = got-low ws j w is in
+        let (job, at) = job-at j (let e = b.managers.writers in omega (arith, low, e)) in
+        let back = b.managers.each j w job is at in
+        let its : slice_get (map writer_in jobs) j ≡ Some job.writer = slice_get-map writer_in jobs j ∙ ap (option_map writer_in) at in
+        let seen : slice_index job.seat.seen j ≡ slice_index h.me.0.seen j = back.manager.wrote.stored ∙ sym (b.sees j job.writer its) ∙ ap (λ (v : List ℕ). slice_index v j) (sym d.seen_is) in (
+          job.writer,
+          its,
+          record {
+            ready = back.ready;
+            written =
+                subst (λ (ps : List Piece). HasWritten first.load.streams j (bases j) ps (slice_index h.me.0.seen j) w job.writer) (sym (ap (λ (m : Managed). m.taken) (managed-is j job at)))
+                (subst (λ (k : ℕ). HasWritten first.load.streams j (bases j) (taken_in job.seat) k w job.writer) seen back.manager.wrote.written);
+          },
+        ));
+  }
+
+  -- the clerk has told what the head has acknowledged
+  telling-back : IsTelling first.load (acked_back first h) h.me.0.seen (all_told telling.told)
+  telling-back = record {
+    each = λ w lt. b.clerk.tells.each w lt ∙ ap (λ (a : List (List Ticket)). map pair_of (slice_index_or a w [])) (sym acked-is);
+    licensed = λ a m j. (let x = b.clerk.tells.licensed a m j in let y = b.clerk_seen j in let z = ap (λ (v : List ℕ). slice_index v j) d.seen_is in omega (arith, x, y, z));
+  }
+
+  pub ends-thread : (result : Plain) (k : desk.IsClosing first h.me.0 result) → IsThreadEnd bases first k.state.core ws (map writer_in jobs) (all_told telling.told)
+  ends-thread result k =
+      let t = thread-end first h.me.0 (worker_back h) (managed_back first h) (acked_back first h) k.state (closing result k) bases ws (map writer_in jobs) (all_told telling.told) b.managers.writers (λ w lt. (b.head.workers w lt).loose) knows telling-back in
+      record {
+        closed = record {
+          opened = k.meets.opened;
+          events = k.meets.reached.events;
+          joined = k.meets.reached.joined;
+          run = k.meets.reached.run;
+          going = k.meets.going;
+          loose = t.closed.loose;
+          boxes = t.closed.boxes;
+        };
+        count = t.count;
+        managers = t.managers;
+        clerk = t.clerk;
+      }
+
+  pub closes-run : (result : Plain) → desk.IsClosing first h.me.0 result → ClosesRun first bases ws (map writer_in jobs) telling result
+  unfolding ends-thread
+  closes-run result k = record {
+    state = k.state.core;
+    came = ends-thread result k;
+    load = k.load;
+    hidden = k.hidden;
+    stands = k.stands;
+    core = k.core;
   }

@@ -4,7 +4,13 @@ use Rattle.atomic_table.specs.Seated.{TableId}
 use Rattle.tau_disk.specs.declared.disk.Disk.{Ghosts}
 use Rattle.tau_stream.specs.declared.writer.Writer.{Writer}
 use Rattle.std.specs.Prelude.{map}
-use Rattle.tau_machine.specs.State.{Ticket}
+use Rattle.tau_base.specs.Vectors.{AtMost}
+use Rattle.tau_machine.specs.State.{Core, Ticket}
+use Rattle.tau_core.specs.Parts.{all_idle}
+use Rattle.tau_core.specs.Stands.{Stands}
+use Rattle.tau_core.specs.View.{Hidden, core_of}
+use Rattle.tau_crew_facts.specs.Ends.{IsThreadEnd}
+use Rattle.tau_crew.specs.Clerking.{all_told}
 use Rattle.tau_core.specs.State.{Plain}
 use Rattle.tau_rule.specs.Role.{Managed}
 use Rattle.tau_rule.specs.Rule.{clerk_role, manager_role}
@@ -27,5 +33,15 @@ pub record IsAllBack {D : Type 0} {G : Ghosts D} (first : Plain) (table : TableI
   pub has : HasManagers first h 0 jobs
   pub clerk : IsClerkBack first table telling
   pub has_clerk : HasClerkOf first h telling.seat
+  pub clerk_seen : AtMost telling.seat.seen h.seen
   pub there : h.clerk ≡ true
   pub sees : SeesDurable h (map writer_in jobs)
+
+-- The core is that of a state in which the run has ended, where calls in hand are let go.
+pub record ClosesRun {D : Type 0} {G : Ghosts D} (first : Plain) (bases : ℕ → List ℕ) (ws ws' : List (Writer D G)) (telling : ClerkJob) (result : Plain) : Type 0 where
+  pub state : Core
+  pub came : IsThreadEnd bases first state ws ws' (all_told telling.told)
+  pub load : result.load ≡ first.load
+  pub hidden : Hidden
+  pub stands : Stands result came.closed.joined hidden
+  pub core : core_of result hidden ≡ all_idle state
