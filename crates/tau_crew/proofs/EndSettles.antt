@@ -44,6 +44,11 @@ same-head first h m h' s s' d opened there split keeps e =
       workers = ap (λ (x : PlainHead). x.workers) e ∙ ap (λ (x : PlainHead). x.workers) split.left;
       managers = ap (λ (x : PlainHead). x.managers) e ∙ ap (λ (x : PlainHead). x.managers) split.left;
       clerk = ap (λ (x : PlainHead). x.clerk) e ∙ sym there;
+      up = λ j.
+          (let a : slice_index h'.seen j ≡ slice_index (join m.seen s'.seen) j = ap (λ (x : PlainHead). slice_index x.seen j) e in
+          let b = join-at m.seen s'.seen j in
+          let same : slice_index m.seen j ≡ slice_index h.seen j = ap (λ (x : PlainHead). slice_index x.seen j) split.left in
+          omega (arith, a, b, same));
       roles = λ u. elim (cases_eq u k) [
         | inl at ↦ ap (λ (x : PlainHead). has u x.me.0) e ∙ ap (λ (i : ℕ). role_in i (s'.me.0.roles ++ m.me.0.roles)) at ∙ role-here s'.me.0.roles m.me.0.roles k (role_or (role_in k h.me.0.roles)) seat_roles ∙ ap (λ (o : Option Role). Some (role_or o)) is ∙ sym is ∙ ap (λ (i : ℕ). has i h.me.0) (sym at)
         | inr ne ↦ ap (λ (x : PlainHead). has u x.me.0) e ∙ role-other s'.me.0.roles m.me.0.roles k (role_or (role_in k h.me.0.roles)) u seat_roles ne ∙ ap (role_in u) left_roles ∙ role-stays k u h.me.0.roles ne
@@ -111,3 +116,15 @@ pub got-low : {A : Type 0} (xs : List A) (j : ℕ) (x : A) → slice_get xs j �
 got-low {A} [] j x is = absurd (let bad : ◌≡◌ {A = Option A} None (Some x) = is in cc bad)
 got-low (y ∷ ys) zero x is = omega arith
 got-low (y ∷ ys) (suc j) x is = let h = got-low ys j x is in omega (arith, h)
+
+pub same-head-on : (h h' h'' : PlainHead) → IsSameHead h h' → IsSameHead h' h'' → IsSameHead h h''
+same-head-on h h' h'' a b = record {
+  table = b.table ∙ a.table;
+  opened = b.opened ∙ a.opened;
+  found = b.found ∙ a.found;
+  workers = b.workers ∙ a.workers;
+  managers = b.managers ∙ a.managers;
+  clerk = b.clerk ∙ a.clerk;
+  roles = λ u. b.roles u ∙ a.roles u;
+  up = λ j. (let x = a.up j in let y = b.up j in omega (arith, x, y));
+}

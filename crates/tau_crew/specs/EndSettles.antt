@@ -22,6 +22,7 @@ pub record IsSameHead (h h' : PlainHead) : Type 0 where
   pub managers : h'.managers ≡ h.managers
   pub clerk : h'.clerk ≡ h.clerk
   pub roles : (u : ℕ) → has u h'.me.0 ≡ has u h.me.0
+  pub up : AtMost h.seen h'.seen
 
 -- the first streams were seen persisted as far as their writers have them durable
 abbrev pub SightDurable : {D : Type 0} {G : Ghosts D} → List ℕ → List (Writer D G) → ℕ → Type 0
