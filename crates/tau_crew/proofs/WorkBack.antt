@@ -5,25 +5,23 @@ use Rattle.std.proofs.lemmas.Bool.{cases_eq}
 use Rattle.tau_base.specs.Vectors.{join}
 use Rattle.tau_base.specs.declared.value.NoMemory.{NoMemory}
 use Rattle.tau_machine.specs.Worker.{Worker}
-use Rattle.tau_txn.specs.Txn.{PlainTxn, held_by, shown_of}
+use Rattle.tau_txn.specs.Txn.{held_by, shown_of}
 use Rattle.tau_core.specs.declared.state.Load.{Load}
-use Rattle.tau_core.specs.State.{Plain}
 use Rattle.tau_core.proofs.Lists.{got-other, got-same}
 use Rattle.tau_rule.specs.Heads.{both, role_or}
-use Rattle.tau_rule.specs.Knows.{Knows}
 use Rattle.tau_rule.specs.Role.{Role, role_in}
 use Rattle.tau_rule.specs.Rule.{has}
 use Rattle.tau_rule.specs.Steps.{Sat, first_role, worker_in_share}
 use Rattle.tau_desk.specs.Ends.{IsWorkerSplit, first_raised, told_head_raised}
 use Rattle.tau_desk.specs.Seats.{HasWork, Heads, PlainHead, PlainWorkerSeat, Works}
-use Rattle.tau_desk.specs.Shares.{PlainWork, own_worker}
+use Rattle.tau_desk.specs.Shares.{PlainWork}
 use Rattle.tau_desk.proofs.CallBegins.{rests-own}
 use Rattle.tau_desk.proofs.SplittingOff.{role-stays}
 use Rattle.tau_crew_facts.specs.Ends.{IsLoose}
 use Rattle.tau_crew_facts.specs.Keeping.{Keeps}
-use Rattle.tau_crew.specs.Working.{HasRun, WorkerEnds, has_raised, worker_at}
+use Rattle.tau_crew.specs.Working.{HasRun, WorkerEnds, worker_at}
 use Rattle.tau_crew.specs.WorkersBack.{AreReady, IsStillRole, SeatRan, WorkerIsBack, WorkerRan, WorkersBack, worker_of}
-use Rattle.tau_crew.proofs.WorkSteps.{unjoined-none, worker-is}
+use Rattle.tau_crew.proofs.WorkSteps.{unjoined-none}
 
 or-first : (a b : Bool) → (a || b) ≡ false → a ≡ false
 or-first true b e = e

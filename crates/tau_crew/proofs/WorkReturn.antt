@@ -1,28 +1,24 @@
 -- What is told of a worker that is back, in the words of the ending; and where workers stand when a run begins.
-use Rattle.std.proofs.Common.{ℕ, zero, suc, ◌+◌, ◌<◌, ◌≤◌, ◌≡◌, ◌⊎◌, Bool, true, false, inl, inr, cond, arith, List, [], ◌∷◌, length, refl, sym, ap, subst, ◌∙◌, Option, eq-eqb}
-use Rattle.std.specs.Prelude.{Some, None, if◌then◌else◌, nat_le, slice_get}
+use Rattle.std.proofs.Common.{ℕ, zero, suc, ◌+◌, ◌<◌, ◌≡◌, ◌⊎◌, Bool, true, false, inl, inr, arith, List, [], ◌∷◌, length, refl, sym, ap, subst, ◌∙◌, Option}
+use Rattle.std.specs.Prelude.{Some, None, if◌then◌else◌, slice_get}
 use Rattle.std.proofs.lemmas.Bool.Decides.{leb_tells}
-use Rattle.tau_model.specs.History.{Numbered}
 use Rattle.tau_machine.specs.Accounts.{in_calls, in_worker}
-use Rattle.tau_machine.specs.Worker.{Worker}
-use Rattle.tau_core.specs.Opens.{Opened, calls_of, nothing}
+use Rattle.tau_core.specs.Opens.{Opened, calls_of}
 use Rattle.tau_core.specs.State.{Plain}
-use Rattle.tau_core.specs.View.{core_of, worker_at}
+use Rattle.tau_core.specs.View.{worker_at}
 use Rattle.tau_core.specs.declared.state.Load.{Load}
 use Rattle.tau_rule.specs.First.{first_view, outer_share, role_at, worker_share}
 use Rattle.tau_rule.specs.Heads.{role_or}
-use Rattle.tau_rule.specs.Knows.{Knows}
-use Rattle.tau_rule.specs.Role.{Role, Share, role_in}
+use Rattle.tau_rule.specs.Role.{Role, role_in}
 use Rattle.tau_rule.specs.Rule.{has}
 use Rattle.tau_rule.specs.Steps.{Sat, worker_in_share}
 use Rattle.tau_desk.proofs.Beginning.{role-below}
-use Rattle.tau_desk.specs.Ends.{IsFirst}
 use Rattle.tau_desk.specs.Laid.{AreUnbegun}
 use Rattle.tau_desk.specs.Resumes.{RestsWork}
-use Rattle.tau_desk.specs.Seats.{HasWork, Heads, PlainHead}
+use Rattle.tau_desk.specs.Seats.{Heads, PlainHead}
 use Rattle.tau_desk.specs.Shares.{PlainWork}
 use Rattle.tau_crew_facts.specs.Ends.{IsLoose}
-use Rattle.tau_crew.specs.Ending.{HasRunBack, IsWorkerBack, role_back, worker_back}
+use Rattle.tau_crew.specs.Ending.{HasRunBack, IsWorkerBack, role_back}
 use Rattle.tau_crew.specs.WorkersBack.{AreReady, IsAtStart, WorkerIsBack, WorkersBack, worker_of}
 
 module _ (l : Load) (w : ℕ) (h h' : PlainHead) (short : Bool) (b : WorkerIsBack l w h h' short) where

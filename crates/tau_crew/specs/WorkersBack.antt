@@ -1,5 +1,5 @@
 -- What workers have done, each on a seat that left the head, when the head has their roles again.
-use Rattle.std.specs.Prelude.{ℕ, ◌+◌, ◌<◌, ◌≤◌, ◌≡◌, ◌⊎◌, Bool, true, false, Some, None, List, [], is_err, length, slice_get, Result}
+use Rattle.std.specs.Prelude.{ℕ, ◌<◌, ◌≤◌, ◌≡◌, ◌⊎◌, Bool, true, false, Some, None, [], is_err, length, slice_get, Result}
 use Rattle.tau_base.specs.declared.value.NoMemory.{NoMemory}
 use Rattle.tau_machine.specs.Accounts.{in_calls, in_worker}
 use Rattle.tau_machine.specs.Worker.{Worker}
