@@ -85,19 +85,15 @@ ends-run origin s s' a a' opened rested w hand ended u =
     }
 
 -- its call was given up, and it raised the stop
-pub ends-short : (l : Load) (s t s' : PlainWorkerSeat) → Works s' → IsSameSeat s t → held_in t.work.txn ≡ [] → IsUnjoined t.work.txn → s' ≡ record t { me = (told_raised t.me.0, t.me.1) } → (e : NoMemory) → WorkerEnds l s s' (Err e)
-ends-short l s t s' a same held free is e =
-    let txn_is : s'.work.txn ≡ t.work.txn = ap (λ (x : PlainWorkerSeat). x.work.txn) is in
-    let held' : held_in s'.work.txn ≡ [] = ap held_in txn_is ∙ held in
-    let free' : IsUnjoined s'.work.txn = subst IsUnjoined (sym txn_is) free in
-    record {
-      seat = same-then s t s' same (ap (λ (x : PlainWorkerSeat). x.table_id) is, ap (λ (x : PlainWorkerSeat). x.id) is, ap (λ (x : PlainWorkerSeat). x.worker) is, ap (λ (x : PlainWorkerSeat). x.me.0.opened) is);
-      loose = loose-hand s' a held' free'.joined;
-      held = held';
-      unjoined = free';
-      done = tt;
-      short = ap has_raised is;
-    }
+pub ends-short : (l : Load) (s s' : PlainWorkerSeat) → Works s' → IsSameSeat s s' → held_in s'.work.txn ≡ [] → IsUnjoined s'.work.txn → has_raised s' ≡ true → (e : NoMemory) → WorkerEnds l s s' (Err e)
+ends-short l s s' a same held free raised e = record {
+  seat = same;
+  loose = loose-hand s' a held free.joined;
+  held = held;
+  unjoined = free;
+  done = tt;
+  short = raised;
+}
 
 -- a call that is given up and holds no key stays, or is undone
 pub record GaveUp (s s' : PlainWorkerSeat) : Type 0 where

@@ -4,7 +4,7 @@ ghost use Rattle.tau_core.specs.Opens.{Opened};
 ghost use Rattle.tau_txn.specs.Next.{kind_of, next_action};
 ghost use Rattle.tau_txn.specs.Txn.{held_in};
 ghost use Rattle.tau_desk.specs.Works.{IsSameSeat};
-ghost use Rattle.tau_crew.specs.Working.{HasNone, IsUnjoined, WorkerEnds, WorksOn};
+ghost use Rattle.tau_crew.specs.Working.{HasNone, IsUnjoined, WorkerEnds, WorksOn, has_raised};
 
 use std::sync::Wait;
 use tau_base::NoMemory;
@@ -34,12 +34,25 @@ pub fn work<R: Wait, G: Gate>(
             Ok(())
         }
         Err(error) => {
-            give_up(rt, desk, seat);
-            seat.stop(desk);
+            cut_short(rt, desk, seat);
             seat.agrees();
             Err(error)
         }
     }
+}
+
+/// The call in hand, which has not joined the committed ones, is given up, and the stop is raised.
+fn cut_short<R: Wait>(rt: &R, desk: &Desk, seat: &mut WorkerSeat)
+    requires own { seat.old.table_id ≡ desk.now.table.shared.table_id }
+    requires opened { seat.old.me.0.opened ≡ Some desk.now.table.shared.key.value }
+    requires unjoined { IsUnjoined seat.old.work.txn }
+    ensures seat { IsSameSeat seat.old seat.new }
+    ensures held { held_in seat.new.work.txn ≡ [] }
+    ensures unjoined { IsUnjoined seat.new.work.txn }
+    ensures raised { has_raised seat.new ≡ true }
+{
+    give_up(rt, desk, seat);
+    seat.stop(desk);
 }
 
 /// The call in hand, which has not joined the committed ones, gives its keys back. One that has made no event comes next again.

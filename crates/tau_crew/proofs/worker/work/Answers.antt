@@ -8,5 +8,5 @@ returns-in-Ok g c =
 
 pub returns-in-Err : goal.returns-in-Err
 returns-in-Err g c =
-    ends-short c.args.desk.now.table.shared.key.value.load c.args.seat.now c.give_up.new.seat c.stop.new.self c.agrees-in-Err.ensures
-    (same-then c.args.seat.now c.run_calls.new.seat c.give_up.new.seat c.run_calls.ensures.works.seat c.give_up.ensures.seat) c.give_up.ensures.held c.give_up.ensures.unjoined c.stop.ensures.knows c.in-Err.error
+    ends-short c.args.desk.now.table.shared.key.value.load c.args.seat.now c.cut_short.new.seat c.agrees-in-Err.ensures
+    (same-then c.args.seat.now c.run_calls.new.seat c.cut_short.new.seat c.run_calls.ensures.works.seat c.cut_short.ensures.seat) c.cut_short.ensures.held c.cut_short.ensures.unjoined c.cut_short.ensures.raised c.in-Err.error
