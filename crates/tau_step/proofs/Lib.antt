@@ -41,7 +41,7 @@ mod Fates
 mod Whole
 mod Short
 mod Ending
-mod Begun
+pub mod Begun
 mod Silent
 mod Noting
 mod Ordered
