@@ -1,6 +1,6 @@
 -- Splitting and joining seats.
-use Rattle.std.proofs.Common.{◌≡◌, ◌≢◌, ℕ, ◌+◌, ◌⊎◌, inl, inr, cond, true, false, Bool, List, [], ◌∷◌, ◌++◌, length, refl, sym, ap, ◌∙◌, arith, eq-eqb, ne_eqb, ⊎_elim}
-use Rattle.std.specs.Prelude.{Some, None, ◌||◌, replicate}
+use Rattle.std.proofs.Common.{◌≡◌, ◌≢◌, ℕ, zero, suc, ◌<◌, ◌+◌, length-set, ◌⊎◌, inl, inr, cond, true, false, Bool, List, [], ◌∷◌, ◌++◌, length, refl, sym, ap, ◌∙◌, arith, eq-eqb, ne_eqb, ⊎_elim}
+use Rattle.std.specs.Prelude.{Some, None, ◌||◌, replicate, slice_index, slice_set}
 use Rattle.std.proofs.lemmas.Bool.{cases_eq}
 use Rattle.atomic_table.specs.Table.{Splits, Joins}
 use Rattle.tau_shown.proofs.Steps.{splits_role, joins_roles}
@@ -10,7 +10,7 @@ use Rattle.tau_core.specs.State.{Plain}
 use Rattle.tau_rule.specs.Role.{Role, role_in}
 use Rattle.tau_rule.specs.Knows.{Knows, spent}
 use Rattle.tau_rule.specs.Rule.{Now, Rule, IsPart, IsRole, Sees, Meets, word_of, hand_of, has, part_count, manager_role}
-use Rattle.tau_rule.specs.Heads.{without, role_or, left_by, split_off, both}
+use Rattle.tau_rule.specs.Heads.{without, role_or, left_by, split_off, both, both_at}
 use Rattle.tau_rule.proofs.Turns.{Turn, role-alone, alone}
 
 pub still-in : (r : ℕ) (rs : List (ℕ × Role)) (u : ℕ) (z : Role) → role_in u (without r rs) ≡ Some z → (u ≢ r) × (role_in u rs ≡ Some z)
@@ -99,3 +99,55 @@ joins origin id other v w idle rests opened wide_v wide_w read =
     found-of : {A : Type 0} (a b : Bool) → (a || b) ≡ true → (a ≡ true → A) → (b ≡ true → A) → A
     found-of true b h f g = f refl
     found-of false b h f g = g h
+
+-- it takes in what the seat of the manager of stream j has
+pub joins-at : (origin : Plain) (id other : ℕ) (v w : Knows) (j : ℕ) (x : Role) → v.hand ≡ None → w.hand ≡ None → v.opened ≡ Some origin → length v.seen ≡ origin.load.streams → v.read ≡ (0, replicate origin.load.streams 0) →
+    j < origin.load.streams → w.roles ≡ (manager_role origin.load j, x) ∷ [] → Joins (Rule origin) id v other w (both_at j v w) spent
+joins-at origin id other v w j x idle rests opened wide read there manages =
+    joins_roles (IsPart origin.load) (IsRole origin.load) (word_of origin.load) hand_of has (Sees origin) (Meets origin) (part_count origin.load) (origin.load.streams + origin.load.streams + 1) id v other w (both_at j v w) spent idle rests idle refl
+    (λ u z h. in-either w.roles v.roles u z h) (λ u z h. let bad : None ≡ Some z = h in cc)
+    (λ c meets a b.
+    let own_is : has (manager_role origin.load j) w ≡ Some x = ap (role_in (manager_role origin.load j)) manages ∙ role-alone (manager_role origin.load j) x in
+    let inside : j < length v.seen = omega (arith, wide, there) in
+    let now : List ℕ = slice_set v.seen j (slice_index w.seen j) in record {
+      opened = λ u r h. opened;
+      wide = λ u r h. length-set v.seen j (slice_index w.seen j) ∙ wide;
+      low = λ i. elim (cases_eq i j) [
+        | inl is ↦ (let e = ap (slice_index now) is in let f = set-there v.seen j (slice_index w.seen j) inside in let g = b.low j in let k = ap (slice_index c.core.plv) is in omega (arith, e, f, g, k))
+        | inr ne ↦ (let e = set-elsewhere v.seen j i (slice_index w.seen j) (λ d. ne (sym d)) in let g = a.low i in omega (arith, e, g))
+      ];
+      own = λ i r lt h. elim (cases_eq i j) [
+        | inl is ↦ (let e = ap (slice_index now) is in let f = set-there v.seen j (slice_index w.seen j) inside in let g = b.own j x there own_is in let k = ap (slice_index c.core.plv) is in omega (arith, e, f, g, k))
+        | inr ne ↦ (let e = set-elsewhere v.seen j i (slice_index w.seen j) (λ d. ne (sym d)) in ⊎_elim
+            (λ (q : has (manager_role origin.load i) w ≡ Some r).
+            (let same = alone (manager_role origin.load j) x (manager_role origin.load i) r (sym (ap (role_in (manager_role origin.load i)) manages) ∙ q) in absurd (ne (omega (arith, same)))))
+            (λ (q : has (manager_role origin.load i) v ≡ Some r). (let s = a.own i r lt q in omega (arith, e, s)))
+            (in-either w.roles v.roles (manager_role origin.load i) r h))
+      ];
+      read = λ u r lt h. inl (ap (λ (z : ℕ × List ℕ). z.0) read, ap (λ (z : ℕ × List ℕ). z.1) read);
+      found = λ h. found-of v.found w.found h a.found b.found;
+    })
+    (λ c meets. record {
+      opened = λ u r h. let bad : None ≡ Some r = h in cc;
+      wide = λ u r h. let bad : None ≡ Some r = h in cc;
+      low = λ i. omega arith;
+      own = λ i r lt h. let bad : None ≡ Some r = h in cc;
+      read = λ u r lt h. let bad : None ≡ Some r = h in cc;
+      found = λ h. let bad : false ≡ true = h in cc;
+    })
+  where
+    found-of : {A : Type 0} (a b : Bool) → (a || b) ≡ true → (a ≡ true → A) → (b ≡ true → A) → A
+    found-of true b h f g = f refl
+    found-of false b h f g = g h
+
+    set-there : (xs : List ℕ) (i y : ℕ) → i < length xs → slice_index (slice_set xs i y) i ≡ y
+    set-there [] i y lt = absurd (omega (arith, lt))
+    set-there (z ∷ xs) zero y lt = refl
+    set-there (z ∷ xs) (suc i) y lt = set-there xs i y (omega (arith, lt))
+
+    set-elsewhere : (xs : List ℕ) (i k y : ℕ) → (i ≡ k → ⊥) → slice_index (slice_set xs i y) k ≡ slice_index xs k
+    set-elsewhere [] i k y ne = refl
+    set-elsewhere (z ∷ xs) zero zero y ne = absurd (ne refl)
+    set-elsewhere (z ∷ xs) zero (suc k) y ne = refl
+    set-elsewhere (z ∷ xs) (suc i) zero y ne = refl
+    set-elsewhere (z ∷ xs) (suc i) (suc k) y ne = set-elsewhere xs i k y (λ e. ne (ap suc e))

@@ -5,4 +5,6 @@ mod part;
 mod view;
 
 pub use part::Part;
-pub use view::{Give, JoinIn, Know, Look, OneCore, Place, Seat, SplitOff, Store, Take, Told, View};
+pub use view::{
+    Give, JoinAs, JoinIn, Know, Look, OneCore, Place, Seat, SplitOff, Store, Take, Told, View,
+};

@@ -129,3 +129,16 @@ impl atomic_table::Join<View> for JoinIn {
 
     ghost spent = { spent };
 }
+
+/// A seat takes in what another knows, and then knows `knows 0`.
+pub struct JoinAs<N> {
+    of: PhantomData<N>,
+}
+
+impl<N: Told> atomic_table::Join<View> for JoinAs<N> {
+    ghost use Rattle.tau_rule.specs.Knows.{spent};
+
+    ghost both = { λ _ _. N.knows 0 };
+
+    ghost spent = { spent };
+}
