@@ -1,6 +1,6 @@
 -- The head takes in a role, and goes on with it and the others.
 use Rattle.std.proofs.Common.{ℕ, ◌<◌, ◌≡◌, inl, inr, cond, true, Bool, List, [], ◌∷◌, ◌++◌, length, refl, sym, ap, subst, ◌∙◌, Option, arith, eq-eqb, ne_eqb, length-set}
-use Rattle.std.specs.Prelude.{Some, None, slice_get, slice_set}
+use Rattle.std.specs.Prelude.{Some, None, slice_get, slice_index, slice_set}
 use Rattle.std.proofs.lemmas.Bool.{cases_eq}
 use Rattle.tau_base.specs.Vectors.{join}
 use Rattle.tau_base.proofs.Vectors.{join-wider}
@@ -8,7 +8,7 @@ use Rattle.tau_txn.specs.Next.{next_action}
 use Rattle.tau_txn.specs.declared.action.Action.TheVariants as action
 use Rattle.tau_core.specs.State.{Plain}
 use Rattle.tau_core.proofs.Lists.{got-same, got-other}
-use Rattle.tau_rule.specs.Heads.{both}
+use Rattle.tau_rule.specs.Heads.{both, both_at}
 use Rattle.tau_rule.specs.Knows.{Knows}
 use Rattle.tau_rule.specs.Role.{Role, role_in}
 use Rattle.tau_rule.specs.Rule.{clerk_role, has, manager_role}
@@ -79,7 +79,11 @@ module _ (m : Sat) (works : List (Option PlainWork)) (stocks : List (Option Plai
         clerk_is = λ e. clerk-on (λ d. omega (arith, d, at, there)) (h.clerk_is e);
       }
 
-  pub head-and-manager : (j : ℕ) (o : PlainStock) → r ≡ manager_role h.origin.load j → IsStock h.origin.load j x o → IsHead (after, []) works (slice_set stocks j (Some o)) clerk (join seen seen')
+  -- the same, with what the manager has seen of its own stream
+  abbrev after_at : ℕ → Knows
+  after_at j = both_at j m.0 m'.0
+
+  pub head-and-manager : (j : ℕ) (o : PlainStock) → r ≡ manager_role h.origin.load j → IsStock h.origin.load j x o → IsHead (after_at j, []) works (slice_set stocks j (Some o)) clerk (slice_set seen j (slice_index seen' j))
   head-and-manager j o at stock =
       let there : j < h.origin.load.streams = stock.there in
       let inside : j < length stocks = (let c = h.manager_count in omega (arith, c, there)) in
@@ -89,19 +93,19 @@ module _ (m : Sat) (works : List (Option PlainWork)) (stocks : List (Option Plai
         idle = h.idle;
         none = refl;
         read = h.read;
-        seen_is = seen-is;
-        seen_wide = seen-wide;
+        seen_is = λ i. slice_set (h.seen_is i) j (slice_index (seen_is i) j);
+        seen_wide = length-set seen j (slice_index seen' j) ∙ h.seen_wide;
         worker_count = h.worker_count;
         manager_count = length-set stocks j (Some o) ∙ h.manager_count;
-        worker = λ u y e. (let g = h.worker u y e in let t = g.work.there in work-on u y (λ d. omega (arith, d, at, t)) g);
+        worker = λ u y e. (let g = h.worker u y e in let t = g.work.there in let k = work-on u y (λ d. omega (arith, d, at, t)) g in record { role = k.role; is = k.is; work = k.work; rests = k.rests });
         manager = λ i y e. elim (cases_eq i j) [
           | inl is ↦
               let same : o ≡ y = same-inside o y (sym (got-same stocks j (Some o) inside) ∙ ap (slice_get (slice_set stocks j (Some o))) (sym is) ∙ e) in
-              subst (λ (z : ℕ × PlainStock). HasStock h.origin after z.0 z.1) (λ k. (sym is k, same k))
+              subst (λ (z : ℕ × PlainStock). HasStock h.origin (after_at j) z.0 z.1) (λ k. (sym is k, same k))
               (record { role = x; is = ap (λ (k : ℕ). role_in k (m'.0.roles ++ m.0.roles)) (sym at) ∙ first-role r x m'.0.roles m.0.roles roles; stock = stock })
-          | inr ne ↦ stock-on i y (λ d. ne (omega (arith, d, at))) (h.manager i y (sym (got-other stocks j i (Some o) ne) ∙ e))
+          | inr ne ↦ (let k = stock-on i y (λ d. ne (omega (arith, d, at))) (h.manager i y (sym (got-other stocks j i (Some o) ne) ∙ e)) in record { role = k.role; is = k.is; stock = k.stock })
         ];
-        clerk_is = λ e. clerk-on (λ d. omega (arith, d, at, there)) (h.clerk_is e);
+        clerk_is = λ e. (let k = clerk-on (λ d. omega (arith, d, at, there)) (h.clerk_is e) in record { role = k.role; acked = k.acked; is = k.is; share = k.share; wide = k.wide });
       }
 
   pub head-and-clerk : r ≡ clerk_role h.origin.load → HasClerk h.origin m'.0 → IsHead (after, []) works stocks true (join seen seen')
