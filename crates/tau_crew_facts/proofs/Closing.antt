@@ -1,8 +1,11 @@
 -- From the close of a desk, and what the loops know of their own, to the end of a run in threads.
 use Rattle.std.proofs.Common.{ℕ, suc, ◌+◌, ◌-◌, ◌<◌, ◌≤◌, ◌≡◌, ◌⊎◌, inl, inr, false, List, [], ◌∷◌, map, length, refl, sym, ap, subst, ◌∙◌, arith, slice_index}
-use Rattle.std.specs.Prelude.{Option, Some, None, slice_get, slice_index_or}
+use Rattle.std.specs.Prelude.{Option, Some, None, slice_get, slice_index_or, ◌==◌}
 use Rattle.std.specs.List.{filter}
 use Rattle.std.proofs.Math.Nat.{mod-lt}
+use Rattle.std.proofs.lemmas.Bool.{eq-eqb}
+use Rattle.tau_model.proofs.ReportOrder.{member-filter-in}
+use Rattle.tau_run.proofs.Lists.{member_map}
 use Rattle.tau_base.specs.Vectors.{AtMost, covers}
 use Rattle.tau_base.proofs.Vectors.{at_most-itself}
 use Rattle.tau_disk.specs.declared.disk.Disk.{Ghosts}
@@ -110,6 +113,19 @@ module _ (first : Plain) (v : Knows) (workers : ℕ → Worker) (managers : ℕ 
     | inl lt ↦ subst (λ (worker : Worker). IsLoose worker.hand) (sym (worker-is w lt)) (loose w lt)
     | inr le ↦ subst (λ (worker : Worker). IsLoose worker.hand) (sym (k.meets.beyond w le)) tt
   ]
+
+  -- what the clerk has told is persisted, whatever it had seen
+  pub telling-now : (other : List ℕ) (acks : List (ℕ × List ℕ)) → IsTelling l acked other acks → IsTelling l acked seen acks
+  telling-now other acks t = record {
+    each = t.each;
+    licensed = λ a m.
+        (let u : ℕ = worker_of l.workers a.0 in
+        let lt : u < l.workers = mod-lt (a.0 - 1) {m = l.workers} (omega (arith, some)) in
+        let mine : Member a (filter (λ (b : ℕ × List ℕ). worker_of l.workers b.0 == u) acks) = member-filter-in (λ (b : ℕ × List ℕ). worker_of l.workers b.0 == u) acks a m (eq-eqb u u refl) in
+        let told : Member a (map pair_of (s.acked u)) = subst (λ (xs : List (ℕ × List ℕ)). Member a xs) (t.each u lt ∙ ap (map pair_of) (sym (clerk-is u lt))) mine in
+        let k = member_map pair_of a (s.acked u) told in
+        subst (λ (v : List ℕ). AtMost a.1 v) (sym seen-is) (subst (λ (b : ℕ × List ℕ). AtMost b.1 s.plv) k.2 (inv.agrees.good.acked u k.0 k.1).0));
+  }
 
   module _ {D : Type 0} {G : Ghosts D} (bases : ℕ → List ℕ) (ws ws' : List (Writer D G)) (acks : List (ℕ × List ℕ)) (count : length ws ≡ l.streams) (loose : (w : ℕ) → w < l.workers → IsLoose (workers w).hand)
       (managed : EachOf (λ j w w'. ManagerKnows l seen j (bases j) (managers j) w w') ws ws') (telling : IsTelling l acked seen acks) where
