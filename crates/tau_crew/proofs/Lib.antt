@@ -11,3 +11,4 @@ pub mod EndSettles
 pub mod EndCloses
 pub mod WorkReturn
 pub mod EndTold
+pub mod ManagerEnds

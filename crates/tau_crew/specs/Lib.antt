@@ -9,3 +9,4 @@ pub mod WorkersBack
 pub mod EndJoins
 pub mod EndSettles
 pub mod EndCloses
+pub mod Together

@@ -1,0 +1,75 @@
+-- How a manager's loop begins, and what is known when it has ended.
+use Rattle.std.proofs.Common.{ℕ, ◌+◌, ◌<◌, ◌≤◌, ◌≡◌, Bool, true, false, List, [], ◌∷◌, ◌++◌, length, refl, sym, ap, subst, ◌∙◌, arith, length-append, slice_index}
+use Rattle.std.specs.Prelude.{◌%◌}
+use Rattle.tau_disk.specs.declared.disk.Disk.{Ghosts}
+use Rattle.tau_stream.specs.declared.writer.Writer.{Writer}
+use Rattle.tau_stream.specs.Writer.{durable_of, has_failed, left_of, IsReady}
+use Rattle.tau_outbox.specs.declared.Piece.{Piece}
+use Rattle.tau_outbox.specs.Pieces.{bytes_of}
+use Rattle.tau_model.specs.History.{Member}
+use Rattle.tau_model.specs.declared.committed.Committed.{Committed}
+use Rattle.tau_machine.specs.Worker.{Worker}
+use Rattle.tau_core.specs.declared.state.Load.{Load}
+use Rattle.tau_step.specs.RunTold.{IsNew}
+use Rattle.tau_desk.specs.Manages.{managed_in}
+use Rattle.tau_desk.specs.Seats.{Manages, PlainManagerSeat}
+use Rattle.tau_crew_facts.specs.Closing.{EndsBy, ManagerApart, ManagerDone, ManagerKnows}
+use Rattle.tau_crew_facts.specs.Spacing.{IsSpacing, newest}
+use Rattle.tau_crew_facts.specs.Writers.{HasWritten, IsCurrent, IsManaging, SeenNow}
+use Rattle.tau_crew_facts.proofs.Managing.{begins}
+use Rattle.tau_crew_facts.proofs.Spacing.{spacing-begins}
+use Rattle.tau_crew.specs.Gathering.{AreLong, raised_in, taken_in}
+use Rattle.tau_crew.specs.Driving.{IsApart, IsDriven, IsDrivenShort, IsManagerAt, own_of}
+use Rattle.tau_crew.proofs.Driving.{left-long, short-of}
+use Rattle.tau_crew.proofs.Gathering.{managed-anchors, managed-gathered, managed-own}
+
+-- a manager that has done nothing, with a writer that was just opened
+pub manager-begins : {D : Type 0} {G : Ghosts D} → SeenNow G → (n j : ℕ) (base : List ℕ) (s : PlainManagerSeat) (w : Writer D G) → IsNew n j base w → s.stream ≡ j → taken_in s ≡ [] → slice_index s.seen j ≡ length base → s.stock.gathered ≡ length base → s.stock.anchors ≡ [] → s.stock.own.pieces ≡ [] →
+    raised_in s.me.0 ≡ false → IsManagerAt n j base w s w (length base) 0 false
+manager-begins seen_now n j base s w new stream taken seen gathered anchors own raised =
+    let driven : IsDriven n j base w s w = record {
+      stream = stream;
+      managing = subst (λ (ps : List Piece). IsManaging n j base ps w w) (sym taken) (begins n j base seen_now w (record { works = new.works; durable = new.durable; none = new.left; ready = new.ready }));
+      stored = seen ∙ sym new.durable;
+      counted = (let e = ap (λ (ps : List Piece). length (bytes_of ps)) taken in omega (arith, gathered, e));
+      long = subst AreLong (sym own) tt;
+      raised = raised ∙ sym new.works;
+    } in
+    let none : own_of s.stream s.stock.anchors ≡ [] = ap (own_of s.stream) anchors in
+    record {
+      wrote = short-of n j base w s w driven;
+      driven = λ e. driven;
+      flushed = λ e f. new.left;
+      apart = λ e. record {
+        spacing = subst (λ (xs : List ℕ). IsSpacing (length base) (durable_of w) xs) (sym none) (subst (λ (d : ℕ). IsSpacing (length base) d []) (sym new.durable) (spacing-begins (length base)));
+        last_is = sym (ap (newest (length base)) none);
+        placed_is = sym (ap (length {A = List ℕ}) anchors);
+      };
+    }
+
+module _ {D : Type 0} {G : Ghosts D} (l : Load) (v : List ℕ) (j : ℕ) (base : List ℕ) (s : PlainManagerSeat) (w0 w : Writer D G) (last placed : ℕ) (short : Bool) (m : IsManagerAt l.streams j base w0 s w last placed short) (manages : Manages s) (now : slice_index v j ≡ slice_index s.seen j) where
+  -- at whatever end
+  pub manager-knows : (G.tells → IsReady l.streams j w0 base) → ManagerKnows l v j base (managed_in s.me.0) w0 w
+  manager-knows ready = record { ready = ready; written = subst (λ (d : ℕ). HasWritten l.streams j base (taken_in s) d w0 w) (sym now) m.wrote.written }
+
+  -- where memory was there
+  module _ (enough : short ≡ false) where
+    pub manager-apart : ManagerApart v j base (managed_in s.me.0)
+    manager-apart =
+        let a = m.apart enough in
+        let stored : slice_index v j ≡ durable_of w = now ∙ (m.driven enough).stored in
+        let anchors : own_of s.stream s.stock.anchors ≡ own_of j (managed_in s.me.0).anchors = ap (λ (i : ℕ). own_of i s.stock.anchors) m.wrote.stream ∙ ap (own_of j) (sym (managed-anchors s manages)) in
+        subst (λ (d : ℕ). IsSpacing (length base) d (own_of j (managed_in s.me.0).anchors)) (sym stored) (subst (λ (xs : List ℕ). IsSpacing (length base) (durable_of w) xs) anchors a.spacing)
+
+    -- and where its disk works, it has no anchor that waits, and the records of the workers end within what it gathered
+    pub manager-done : has_failed w ≡ false → s.stock.own.pieces ≡ [] → (workers : ℕ → Worker) → ((u : ℕ) (call : Committed) → u < l.workers → u % l.streams ≡ j → Member call (workers u).committed → EndsBy s.stock.gathered call.spot) → ManagerDone l v workers j (managed_in s.me.0)
+    manager-done works own workers placed_by =
+        let d = m.driven enough in
+        let gathered : (managed_in s.me.0).gathered ≡ s.stock.gathered = managed-gathered s manages in
+        let all : s.stock.gathered ≡ durable_of w =
+        (let long = left-long l.streams j base w0 s w d works in let none = ap (length {A = ℕ}) (m.flushed enough works) in omega (arith, long, none)) in
+        record {
+          durable = now ∙ d.stored ∙ sym all ∙ sym gathered;
+          own = managed-own s manages ∙ own;
+          placed = λ u call lt stream q. subst (λ (upto : ℕ). EndsBy upto call.spot) (sym gathered) (placed_by u call lt stream q);
+        }
