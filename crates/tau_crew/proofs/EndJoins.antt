@@ -1,6 +1,6 @@
 -- The head takes the managers' seats in.
 use Rattle.std.proofs.Common.{ℕ, zero, suc, ◌+◌, ◌<◌, ◌≡◌, ◌==◌, cond, true, false, Option, List, [], ◌∷◌, ◌++◌, length, refl, sym, ap, subst, ◌∙◌, arith, eq-eqb, ne_eqb, length-append, map, reverse}
-use Rattle.std.specs.Prelude.{Some, None, slice_get, slice_set}
+use Rattle.std.specs.Prelude.{Some, None, slice_get, slice_index, slice_set}
 use Rattle.std.proofs.lemmas.List.{reverse-append}
 use Rattle.atomic_table.specs.Seated.{TableId}
 use Rattle.tau_core.specs.State.{Plain}
@@ -8,7 +8,7 @@ use Rattle.tau_core.proofs.Lists.{got-other, got-same}
 use Rattle.tau_base.specs.Vectors.{join}
 use Rattle.tau_disk.specs.declared.disk.Disk.{Ghosts}
 use Rattle.tau_stream.specs.declared.writer.Writer.{Writer}
-use Rattle.tau_rule.specs.Heads.{both}
+use Rattle.tau_rule.specs.Heads.{both_at}
 use Rattle.tau_rule.specs.Role.{Role, role_in}
 use Rattle.tau_rule.specs.Rule.{has, manager_role}
 use Rattle.tau_rule.specs.Steps.{first_role}
@@ -28,7 +28,7 @@ same-origin {a} {b} o e f = let g : Some a ≡ Some b = sym e ∙ f in cc g
 
 -- the head has one manager's role more
 pub manager-joined : (first : Plain) (h h' : PlainHead) (s : PlainManagerSeat) → Heads h → Manages s → h.me.0.opened ≡ Some first → s.me.0.opened ≡ Some first →
-    h' ≡ record h { me = (both h.me.0 s.me.0, []); managers = slice_set h.managers s.stream (Some s.stock); seen = join h.seen s.seen } → TakesManager first h h' s
+    h' ≡ record h { me = (both_at s.stream h.me.0 s.me.0, []); managers = slice_set h.managers s.stream (Some s.stock); seen = slice_set h.seen s.stream (slice_index s.seen s.stream) } → TakesManager first h h' s
 manager-joined first h h' s d m opened mine e =
     let as_head : d.origin ≡ first = same-origin h.me.0.opened d.opened opened in
     let as_seat : m.origin ≡ first = same-origin s.me.0.opened m.opened mine in
