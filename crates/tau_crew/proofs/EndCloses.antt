@@ -1,5 +1,5 @@
 -- The head has every role back: the desk closes, and that ends the run.
-use Rattle.std.proofs.Common.{ℕ, ◌+◌, ◌<◌, ◌≤◌, ◌≡◌, true, false, Option, List, [], ◌∷◌, length, map, refl, sym, ap, subst, ◌∙◌, arith, slice_index}
+use Rattle.std.proofs.Common.{ℕ, ◌+◌, ◌<◌, ◌≡◌, Option, List, [], length, map, sym, ap, subst, ◌∙◌, arith, slice_index}
 use Rattle.std.specs.Prelude.{Some, None, slice_get}
 use Rattle.std.specs.Prelude.{slice_index_or}
 use Rattle.std.specs.Option.{option_map}
@@ -16,16 +16,13 @@ use Rattle.tau_crew.specs.Clerking.{all_told}
 use Rattle.atomic_table.specs.Seated.{TableId}
 use Rattle.tau_disk.specs.declared.disk.Disk.{Ghosts}
 use Rattle.tau_stream.specs.declared.writer.Writer.{Writer}
-use Rattle.tau_stream.specs.Writer.{durable_of}
 use Rattle.tau_machine.specs.State.{Ticket}
-use Rattle.tau_machine.specs.Worker.{Worker}
 use Rattle.tau_txn.specs.Txn.{has_joined, held_in}
-use Rattle.tau_core.specs.Plain.{PlainSeat}
 use Rattle.tau_core.specs.State.{Plain}
 use Rattle.tau_core.proofs.Lists.{some-at}
 use Rattle.tau_rule.specs.Heads.{role_or}
 use Rattle.tau_rule.specs.Role.{Clerking, Managing, Managed, Role, Working}
-use Rattle.tau_rule.specs.Rule.{Now, clerk_role, has, manager_role}
+use Rattle.tau_rule.specs.Rule.{clerk_role, has, manager_role}
 use Rattle.tau_rule.specs.Steps.{first_role, worker_in_share}
 use Rattle.tau_desk.specs.Ends as desk
 use Rattle.tau_desk.specs.Manages.{acked_in_share, managed_in_share}

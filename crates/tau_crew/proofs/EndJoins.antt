@@ -1,6 +1,6 @@
 -- The head takes the managers' seats in.
-use Rattle.std.proofs.Common.{ℕ, zero, suc, ◌+◌, ◌<◌, ◌≡◌, ◌==◌, cond, true, false, Option, List, [], ◌∷◌, ◌++◌, length, refl, sym, ap, subst, ◌∙◌, arith, eq-eqb, ne_eqb, length-append, map, reverse}
-use Rattle.std.specs.Prelude.{Some, None, slice_get, slice_index, slice_set}
+use Rattle.std.proofs.Common.{ℕ, zero, suc, ◌+◌, ◌<◌, ◌≡◌, ◌||◌, Bool, cond, Option, List, [], ◌∷◌, ◌++◌, length, refl, sym, ap, subst, ◌∙◌, arith, eq-eqb, ne_eqb, length-append, map, reverse}
+use Rattle.std.specs.Prelude.{Some, slice_get, slice_index, slice_set}
 use Rattle.std.proofs.lemmas.List.{reverse-append}
 use Rattle.atomic_table.specs.Seated.{TableId}
 use Rattle.tau_core.specs.State.{Plain}
@@ -13,7 +13,6 @@ use Rattle.tau_rule.specs.Role.{Role, role_in}
 use Rattle.tau_rule.specs.Rule.{has, manager_role}
 use Rattle.tau_rule.specs.Steps.{first_role}
 use Rattle.tau_desk.specs.Seats.{Heads, Manages, PlainHead, PlainManagerSeat}
-use Rattle.tau_desk.specs.Shares.{PlainStock}
 use Rattle.tau_crew.specs.declared.manager.ManagerJob.{ManagerJob}
 use Rattle.tau_crew.specs.EndJoins.{AreSeats, HasManager, HasManagers, IsSeatAt, KeepsHead, TakesManager, writer_in}
 
@@ -42,6 +41,7 @@ manager-joined first h h' s d m opened mine e =
       keeps = record {
         table = ap (λ (x : PlainHead). x.table_id) e;
         opened = ap (λ (x : PlainHead). x.me.0.opened) e;
+        found = λ yes. ap (λ (x : PlainHead). x.me.0.found) e ∙ ap (λ (b : Bool). b || s.me.0.found) yes;
         workers = ap (λ (x : PlainHead). x.workers) e;
         roles = λ u lt. ap (λ (x : PlainHead). has u x.me.0) e ∙ role-other s.me.0.roles h.me.0.roles k m.role u roles (λ i. omega (arith, i, lt));
       };
@@ -94,6 +94,7 @@ pub keeps-head : (first : Plain) (h h' h'' : PlainHead) → KeepsHead first h h'
 keeps-head first h h' h'' a b = record {
   table = b.table ∙ a.table;
   opened = b.opened ∙ a.opened;
+  found = λ yes. b.found (a.found yes);
   workers = b.workers ∙ a.workers;
   roles = λ u lt. b.roles u lt ∙ a.roles u lt;
 }

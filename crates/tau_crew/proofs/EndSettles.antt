@@ -1,11 +1,11 @@
 -- The head looks how far the streams are persisted.
-use Rattle.std.proofs.Common.{ℕ, zero, suc, ◌+◌, ◌<◌, ◌≤◌, ◌≡◌, ◌==◌, ◌||◌, inl, inr, cond, true, false, Bool, Option, List, [], ◌∷◌, ◌++◌, length, refl, sym, ap, subst, ◌∙◌, arith, eq-eqb, ne_eqb, slice_index}
+use Rattle.std.proofs.Common.{ℕ, zero, suc, ◌+◌, ◌<◌, ◌≤◌, ◌≡◌, ◌||◌, inl, inr, true, false, Bool, Option, List, [], ◌∷◌, ◌++◌, length, refl, sym, ap, subst, ◌∙◌, arith, slice_index}
 use Rattle.std.specs.Prelude.{Some, None, slice_get, slice_set}
 use Rattle.std.proofs.lemmas.Bool.{cases_eq}
-use Rattle.tau_base.specs.Vectors.{AtMost, join}
+use Rattle.tau_base.specs.Vectors.{join}
 use Rattle.tau_base.proofs.Vectors.{join-at}
 use Rattle.tau_core.specs.State.{Plain}
-use Rattle.tau_rule.specs.Heads.{both, left_by, role_or, split_off, without}
+use Rattle.tau_rule.specs.Heads.{both, role_or, without}
 use Rattle.tau_rule.specs.Role.{Role, role_in}
 use Rattle.tau_rule.specs.Rule.{clerk_role, has}
 use Rattle.tau_desk.specs.Ends.{IsClerkSplit}

@@ -12,3 +12,4 @@ pub mod EndCloses
 pub mod WorkReturn
 pub mod EndTold
 pub mod ManagerEnds
+pub mod EndBack

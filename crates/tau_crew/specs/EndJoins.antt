@@ -1,5 +1,5 @@
 -- What the head has when it has taken the managers' seats and the clerk's in.
-use Rattle.std.specs.Prelude.{ℕ, ◌+◌, ◌<◌, ◌≡◌, Some, List, length, slice_get, slice_index}
+use Rattle.std.specs.Prelude.{ℕ, ◌+◌, ◌<◌, ◌≡◌, true, Some, List, slice_get, slice_index}
 use Rattle.atomic_table.specs.Seated.{TableId}
 use Rattle.tau_disk.specs.declared.disk.Disk.{Ghosts}
 use Rattle.tau_stream.specs.declared.writer.Writer.{Writer}
@@ -23,6 +23,7 @@ HasClerkOf first h s = has (clerk_role first.load) h.me.0 ≡ Some (first_role s
 pub record KeepsHead (first : Plain) (h h' : PlainHead) : Type 0 where
   pub table : h'.table_id ≡ h.table_id
   pub opened : h'.me.0.opened ≡ h.me.0.opened
+  pub found : h.me.0.found ≡ true → h'.me.0.found ≡ true
   pub workers : h'.workers ≡ h.workers
   pub roles : (u : ℕ) → u < first.load.workers → has u h'.me.0 ≡ has u h.me.0
 

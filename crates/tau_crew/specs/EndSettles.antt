@@ -1,5 +1,5 @@
 -- The head looks how far the streams are persisted, and changes nothing else.
-use Rattle.std.specs.Prelude.{ℕ, ◌<◌, ◌≡◌, Some, List, length, slice_get, slice_index}
+use Rattle.std.specs.Prelude.{ℕ, ◌<◌, ◌≡◌, Some, List, slice_get, slice_index}
 use Rattle.tau_base.specs.Vectors.{AtMost}
 use Rattle.tau_disk.specs.declared.disk.Disk.{Ghosts}
 use Rattle.tau_stream.specs.declared.writer.Writer.{Writer}

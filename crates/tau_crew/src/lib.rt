@@ -3,6 +3,7 @@
 
 mod anchor;
 mod clerk;
+mod ending;
 mod ending_close;
 mod ending_join;
 mod ending_settle;

@@ -1,4 +1,4 @@
-use Rattle.std.proofs.Common.{◌≡◌, sym, subst, List}
+use Rattle.std.proofs.Common.{sym, subst, List}
 use Rattle.tau_crew.specs.EndCloses.{ClosesRun}
 use Rattle.tau_crew.proofs.EndCloses.{closes-run, resting, whole}
 use Rattle.tau_crew.proofs.ending_close.close_run.Goals as goal

@@ -1,4 +1,4 @@
-use Rattle.std.proofs.Common.{rules, ◌≡◌, ◌∙◌, ◌∷◌, [], List, length}
+use Rattle.std.proofs.Common.{rules, ◌≡◌, ◌∙◌, ◌∷◌, []}
 use Rattle.tau_crew.proofs.EndJoins.{keeps-head, last-is, last-seat, managers-all, managers-step, writers-step}
 use Rattle.tau_crew.proofs.ending_join.take_managers.Goals as goal
 

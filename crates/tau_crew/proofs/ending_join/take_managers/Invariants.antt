@@ -1,7 +1,6 @@
 -- The managers that are left, and those whose roles the head has.
 use Rattle.std.proofs.Common.{◌≡◌, ◌++◌, ◌+◌, List, length, map, reverse, vec_len, vec_capacity}
 use Rattle.tau_crew.specs.EndJoins.{HasManagers, KeepsHead, writer_in}
-use Rattle.tau_crew.specs.declared.manager.ManagerJob.{ManagerJob}
 use Rattle.tau_crew.proofs.ending_join.take_managers.Given as goal
 
 abbrev pub invariant-loop-job : goal.invariant-loop-job

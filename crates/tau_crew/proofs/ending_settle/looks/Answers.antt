@@ -1,4 +1,4 @@
-use Rattle.std.proofs.Common.{◌∙◌, ◌<◌, length, subst}
+use Rattle.std.proofs.Common.{◌∙◌, ◌<◌, subst}
 use Rattle.tau_crew.proofs.EndSettles.{got-low, same-head, seen-joined}
 use Rattle.tau_crew.proofs.ending_settle.looks.Goals as goal
 
