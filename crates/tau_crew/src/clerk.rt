@@ -9,15 +9,16 @@ use crate::told::Told;
 use std::sync::Wait;
 use tau_base::NoMemory;
 use tau_desk::{ClerkSeat, Desk};
-use tau_disk::Sink;
+use tau_disk::{Gate, Place, Sink};
 
 /// Acknowledges the first pending call of a worker that the positions cover which the clerk has seen, and returns whether there was one.
-fn ack_one<R: Wait>(
+fn ack_one<R: Wait, G: Gate>(
     rt: &R,
     desk: &Desk,
     seat: &mut ClerkSeat,
     told: &mut Told,
     worker: usize,
+    gate: &G,
 ) -> Result<bool, NoMemory>
     requires own { seat.old.table_id ≡ desk.now.table.shared.table_id }
     requires opened { seat.old.me.0.opened ≡ Some desk.now.table.shared.key.value }
@@ -28,21 +29,25 @@ fn ack_one<R: Wait>(
 {
     seat.agrees();
     match seat.ack(rt, desk, worker as u8) {
-        Some(call) => match told.put(call.number, call.lv) {
-            Ok(()) => Ok(true),
-            Err(_) => Err(NoMemory),
-        },
+        Some(call) => {
+            gate.at(Place::Ack);
+            match told.put(call.number, call.lv) {
+                Ok(()) => Ok(true),
+                Err(_) => Err(NoMemory),
+            }
+        }
         None => Ok(false),
     }
 }
 
 /// The same until there is none, or as often as the run has calls.
-fn ack_worker<R: Wait>(
+fn ack_worker<R: Wait, G: Gate>(
     rt: &R,
     desk: &Desk,
     seat: &mut ClerkSeat,
     told: &mut Told,
     worker: usize,
+    gate: &G,
 ) -> Result<(), NoMemory>
     requires own { seat.old.table_id ≡ desk.now.table.shared.table_id }
     requires opened { seat.old.me.0.opened ≡ Some desk.now.table.shared.key.value }
@@ -52,7 +57,7 @@ fn ack_worker<R: Wait>(
     ensures none { OnOk result (told.new.missing ≡ None) }
 {
     for _call in 0..desk.load.calls.len() {
-        match ack_one(rt, desk, seat, told, worker) {
+        match ack_one(rt, desk, seat, told, worker, gate) {
             Ok(true) => {}
             Ok(false) => return Ok(()),
             Err(error) => return Err(error),
@@ -62,11 +67,12 @@ fn ack_worker<R: Wait>(
 }
 
 /// One pass over all workers in ascending order.
-fn ack_all<R: Wait>(
+fn ack_all<R: Wait, G: Gate>(
     rt: &R,
     desk: &Desk,
     seat: &mut ClerkSeat,
     told: &mut Told,
+    gate: &G,
 ) -> Result<(), NoMemory>
     requires own { seat.old.table_id ≡ desk.now.table.shared.table_id }
     requires opened { seat.old.me.0.opened ≡ Some desk.now.table.shared.key.value }
@@ -75,18 +81,19 @@ fn ack_all<R: Wait>(
     ensures none { OnOk result (told.new.missing ≡ None) }
 {
     for worker in 0..desk.load.workers {
-        ack_worker(rt, desk, seat, told, worker)?;
+        ack_worker(rt, desk, seat, told, worker, gate)?;
     }
     Ok(())
 }
 
 /// One pass, whose lines go to the sink in one write.
-fn ack_and_write<R: Wait, K: Sink>(
+fn ack_and_write<R: Wait, K: Sink, G: Gate>(
     rt: &R,
     desk: &Desk,
     seat: &mut ClerkSeat,
     told: &mut Told,
     sink: &mut K,
+    gate: &G,
 ) -> Result<(), NoMemory>
     requires own { seat.old.table_id ≡ desk.now.table.shared.table_id }
     requires opened { seat.old.me.0.opened ≡ Some desk.now.table.shared.key.value }
@@ -99,7 +106,7 @@ fn ack_and_write<R: Wait, K: Sink>(
     ensures cause { told.new.sink_failed ≡ true → (told.old.sink_failed ≡ true) ⊎ Rose (K.faults sink.old) (K.faults sink.new) }
     ensures faults { K.faults sink.old ≤ K.faults sink.new }
 {
-    match ack_all(rt, desk, seat, told) {
+    match ack_all(rt, desk, seat, told, gate) {
         Ok(()) => {
             told.write(sink);
             Ok(())
@@ -124,7 +131,13 @@ pub struct ClerkJob {
 
 impl ClerkJob {
     /// One pass, if memory was there so far. Want of memory raises the stop. Returns whether it goes on.
-    fn pass<R: Wait, K: Sink>(&mut self, rt: &R, desk: &Desk, sink: &mut K) -> bool
+    fn pass<R: Wait, K: Sink, G: Gate>(
+        &mut self,
+        rt: &R,
+        desk: &Desk,
+        sink: &mut K,
+        gate: &G,
+    ) -> bool
         requires own { self.old.seat.table_id ≡ desk.now.table.shared.table_id }
         requires opened { self.old.seat.me.0.opened ≡ Some desk.now.table.shared.key.value }
         requires clerk { IsClerkJob self.old }
@@ -138,7 +151,7 @@ impl ClerkJob {
             return false;
         }
         let ClerkJob { seat, told, short } = self;
-        match ack_and_write(rt, desk, seat, told, sink) {
+        match ack_and_write(rt, desk, seat, told, sink, gate) {
             Ok(()) => true,
             Err(_) => {
                 seat.stop(desk);
@@ -162,7 +175,14 @@ impl ClerkJob {
 
     /// The clerk's loop: it passes over the workers where a stream is persisted further, and from time to time, and rests else,
     /// until the managers are through and a last pass is made, or memory is wanting.
-    pub fn run<R: Wait, K: Sink>(&mut self, rt: &R, desk: &Desk, crew: &Crew, sink: &mut K)
+    pub fn run<R: Wait, K: Sink, G: Gate>(
+        &mut self,
+        rt: &R,
+        desk: &Desk,
+        crew: &Crew,
+        sink: &mut K,
+        gate: &G,
+    )
         requires own { self.old.seat.table_id ≡ desk.now.table.shared.table_id }
         requires opened { self.old.seat.me.0.opened ≡ Some desk.now.table.shared.key.value }
         requires clerk { IsClerkJob self.old }
@@ -176,7 +196,7 @@ impl ClerkJob {
             // Read before the look, so that a pass after the last manager has left tells all that was persisted.
             let over = crew.are_flushed();
             let rose = self.look(desk);
-            if !self.pass(rt, desk, sink) || over {
+            if !self.pass(rt, desk, sink, gate) || over {
                 return;
             }
             if !rose {

@@ -108,11 +108,18 @@ fn manage_all<R: Threads + Wait + Sync, D: Disk + Send, G: Gate + Sync>(
 }
 
 /// The clerk's loop.
-fn tell<R: Wait, K: Sink>(rt: &R, desk: &Desk, crew: &Crew, clerk: &mut ClerkJob, sink: &mut K)
+fn tell<R: Wait, K: Sink, G: Gate>(
+    rt: &R,
+    desk: &Desk,
+    crew: &Crew,
+    clerk: &mut ClerkJob,
+    sink: &mut K,
+    gate: &G,
+)
     requires ready { IsClerkReady desk.now clerk.old }
     ensures { ClerkWent desk.now.load K.tells (K.held sink.old) (K.held sink.new) (K.faults sink.old) (K.faults sink.new) clerk.old clerk.new }
 {
-    clerk.run(rt, desk, crew, sink);
+    clerk.run(rt, desk, crew, sink, gate);
 }
 
 /// The managers, and the clerk beside them. Where no thread can be made the clerk comes last.
@@ -134,9 +141,9 @@ fn flush_and_tell<R: Threads + Wait + Sync, D: Disk + Send, K: Sink + Send, G: G
     join_mut(
         rt,
         &mut ||
-            requires { IsSync R.row × IsClerkReady desk.now clerk.now }
+            requires { IsSync R.row × IsSync G.row × IsClerkReady desk.now clerk.now }
             ensures { ClerkWent desk.entry.now.load K.tells (K.held sink.entry.now) (K.held sink.exit.now) (K.faults sink.entry.now) (K.faults sink.exit.now) clerk.entry.now clerk.exit.now }
-        { tell(rt, desk, crew, clerk, sink) },
+        { tell(rt, desk, crew, clerk, sink, gate) },
         &mut ||
             requires { IsSync R.row × IsSync G.row × All (IsManagerReady desk.now) managers.now × (0 < length managers.now) }
             ensures { ManagersWent managers.entry.now managers.exit.now }
