@@ -13,3 +13,4 @@ pub mod WorkReturn
 pub mod EndTold
 pub mod ManagerEnds
 pub mod EndBack
+pub mod Dealing

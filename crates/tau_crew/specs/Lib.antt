@@ -10,3 +10,4 @@ pub mod EndJoins
 pub mod EndSettles
 pub mod EndCloses
 pub mod Together
+pub mod Dealing

@@ -1,0 +1,127 @@
+-- A manager's seat leaves the head.
+use Rattle.std.proofs.Common.{ℕ, zero, suc, ◌+◌, ◌-◌, ◌<◌, ◌≤◌, ◌≡◌, ◌⊎◌, inl, inr, Bool, true, false, cond, List, [], ◌∷◌, ◌++◌, length, refl, sym, ap, subst, ◌∙◌, arith, eq-eqb, ne_eqb, slice_index}
+use Rattle.std.specs.Prelude.{◌==◌, None, Option, Some, if◌then◌else◌, slice_get, slice_set}
+use Rattle.std.proofs.lemmas.Bool.{cases_eq}
+use Rattle.std.proofs.lemmas.Bool.Decides.{leb_tells}
+use Rattle.atomic_table.specs.Seated.{TableId}
+use Rattle.tau_disk.specs.declared.disk.Disk.{Ghosts}
+use Rattle.tau_stream.specs.declared.writer.Writer.{Writer}
+use Rattle.tau_outbox.specs.declared.Piece.{Piece}
+use Rattle.tau_core.proofs.Lists.{got-other}
+use Rattle.tau_core.specs.State.{Plain}
+use Rattle.tau_core.specs.declared.state.Load.{Load}
+use Rattle.tau_rule.specs.First.{manager_share, outer_share, role_at, share_at, worker_share, clerk_share}
+use Rattle.tau_rule.specs.Heads.{left_by, role_or, split_off, without}
+use Rattle.tau_rule.specs.Knows.{Knows}
+use Rattle.tau_rule.specs.Role.{Managed, Role, Share, role_in}
+use Rattle.tau_rule.specs.Rule.{clerk_role, has, manager_role}
+use Rattle.tau_rule.specs.Steps.{Sat, first_role}
+use Rattle.tau_step.specs.RunTold.{IsNew}
+use Rattle.tau_desk.specs.Ends.{IsManagerSplit}
+use Rattle.tau_desk.specs.Manages.{managed_in, managed_in_share}
+use Rattle.tau_desk.specs.Seats.{Manages, PlainHead, PlainManagerSeat}
+use Rattle.tau_crew_facts.specs.Writers.{SeenNow}
+use Rattle.tau_crew.specs.declared.manager.ManagerJob.{ManagerJob}
+use Rattle.tau_crew.specs.Dealing.{AreDealt, HasFirst, IsDealing, IsDealt}
+use Rattle.tau_crew.specs.Driving.{IsManagerAt}
+use Rattle.tau_crew.specs.Gathering.{raised_in, taken_in}
+use Rattle.tau_crew.proofs.Gathering.{managed-anchors, managed-gathered, managed-own}
+use Rattle.tau_crew.proofs.ManagerEnds.{manager-begins}
+
+-- another role stays
+role-stays : (r u : ℕ) (rs : List (ℕ × Role)) → (u ≡ r → ⊥) → role_in u (without r rs) ≡ role_in u rs
+role-stays r u [] ne = refl
+role-stays r u (x ∷ xs) ne = elim (cases_eq x.0 r) [
+  | inl is ↦
+      ap (λ (b : Bool). role_in u (cond b (without r xs) (x ∷ without r xs))) (eq-eqb x.0 r is) ∙ role-stays r u xs ne
+      ∙ sym (ap (λ (b : Bool). cond b (Some x.1) (role_in u xs)) (ne_eqb x.0 u (λ e. ne (sym e ∙ is))))
+  | inr off ↦
+      ap (λ (b : Bool). role_in u (cond b (without r xs) (x ∷ without r xs))) (ne_eqb x.0 r off)
+      ∙ ap (λ (o : Option Role). cond (x.0 == u) (Some x.1) o) (role-stays r u xs ne)
+]
+
+-- a manager's share in the opening
+share-is : (first : Plain) (j : ℕ) → j < first.load.streams → share_at first (manager_role first.load j) ≡ manager_share first (manager_role first.load j)
+share-is first j lt = elim (leb_tells (manager_role first.load j + 1) first.load.workers) [
+  | inl a ↦ absurd (let low = a.1 in omega (arith, low))
+  | inr a ↦
+      ap (λ (b : Bool). if b then worker_share first (manager_role first.load j) else outer_share first (manager_role first.load j)) a.0
+      ∙ elim (leb_tells (manager_role first.load j + 1) (first.load.workers + first.load.streams)) [
+        | inl b ↦ ap (λ (c : Bool). if c then manager_share first (manager_role first.load j) else clerk_share first) b.0
+        | inr b ↦ absurd (let high = b.1 in omega (arith, high, lt))
+      ]
+]
+
+got-last : {A : Type 0} (xs : List A) (y z : A) (j : ℕ) → slice_get (xs ++ y ∷ []) j ≡ Some z → (slice_get xs j ≡ Some z) ⊎ ((j ≡ length xs) × (y ≡ z))
+got-last [] y z zero e = inr (refl, (let f : y ≡ z = cc e in f))
+got-last [] y z (suc j) e = inl e
+got-last (x ∷ xs) y z zero e = inl e
+got-last (x ∷ xs) y z (suc j) e = elim (got-last xs y z j e) [ inl f ↦ inl f | inr f ↦ inr (ap suc f.0, f.1) ]
+
+same-some : {A : Type 0} (x y : A) → Some x ≡ Some y → x ≡ y
+same-some x y e = cc e
+
+-- one more has left
+pub dealing-more : (first : Plain) (table : TableId) (k : ℕ) (h h' : PlainHead) (s : PlainManagerSeat) → IsDealing first table k h → k < first.load.streams → IsManagerSplit first.load k h h' s → IsDealing first table (k + 1) h'
+dealing-more first table k h h' s d lt split =
+    let me : h'.me.0 ≡ left_by (manager_role first.load k) h.me.0 = ap (λ (m : Sat). m.0) split.split.head_is in
+    record {
+      own = ap (λ (x : PlainHead). x.table_id) split.left ∙ d.own;
+      opened = ap (λ (v : Knows). v.opened) me ∙ d.opened;
+      seen = ap (λ (x : PlainHead). x.seen) split.left ∙ d.seen;
+      there = λ j le low.
+          (let f = d.there j (omega (arith, le)) low in
+          let ne : j ≡ k → ⊥ = (λ e. omega (arith, e, le)) in
+          (f.0, ap (λ (x : PlainHead). slice_get x.managers j) split.left ∙ got-other h.managers k j None ne ∙ f.1,
+              ap (has (manager_role first.load j)) me ∙ role-stays (manager_role first.load k) (manager_role first.load j) h.me.0.roles (λ e. ne (omega (arith, e))) ∙ f.2));
+      clerk = (
+        ap (λ (x : PlainHead). x.clerk) split.left ∙ d.clerk.0,
+        ap (has (clerk_role first.load)) me ∙ role-stays (manager_role first.load k) (clerk_role first.load) h.me.0.roles (λ e. omega (arith, e, lt)) ∙ d.clerk.1,
+      );
+    }
+
+-- and it is a manager that has done nothing
+pub dealt : {D : Type 0} {G : Ghosts D} → SeenNow G → (first : Plain) (table : TableId) (bases : ℕ → List ℕ) (k : ℕ) (h h' : PlainHead) (w : Writer D G) (job : ManagerJob D G) → IsDealing first table k h → k < first.load.streams → IsManagerSplit first.load k h h' job.seat → Manages job.seat →
+    IsNew first.load.streams k (bases k) w → length (bases k) ≡ slice_index first.load.opening.ends k → job.writer ≡ w → job.stream ≡ k → job.marks.last ≡ length (bases k) → job.marks.placed ≡ 0 → job.short ≡ false → IsDealt first table bases k w job
+dealt {D} {G} seen_now first table bases k h h' w job d lt split manages new long writer stream last placed short =
+    let r : ℕ = manager_role first.load k in
+    let s : PlainManagerSeat = job.seat in
+    let me : s.me.0 ≡ split_off r h.me.0 = ap (λ (m : Sat). m.0) split.split.new_is in
+    let role : role_or (role_in r h.me.0.roles) ≡ role_at first r = ap role_or (d.there k (omega arith) lt).2 in
+    let managed : managed_in s.me.0 ≡ managed_in_share (manager_share first r) =
+    ap managed_in me ∙ ap (λ (x : Role). managed_in_share x.share) role ∙ ap managed_in_share (share-is first k lt) in
+    let offset : r - first.load.workers ≡ k = omega arith in
+    let base_is : slice_index first.load.opening.ends (r - first.load.workers) ≡ length (bases k) = ap (slice_index first.load.opening.ends) offset ∙ sym long in
+    let begun : IsManagerAt first.load.streams k (bases k) w s w (length (bases k)) 0 false =
+    manager-begins seen_now first.load.streams k (bases k) s w new split.stream (ap (λ (g : Managed). g.taken) managed) (ap (λ (v : List ℕ). slice_index v k) (split.seen ∙ d.seen) ∙ sym long)
+        (sym (managed-gathered s manages) ∙ ap (λ (g : Managed). g.gathered) managed ∙ base_is) (sym (managed-anchors s manages) ∙ ap (λ (g : Managed). g.anchors) managed) (sym (managed-own s manages) ∙ ap (λ (g : Managed). g.own) managed)
+        (ap raised_in me ∙ ap (λ (x : Role). x.raised) role) in
+    record {
+      own = split.table ∙ d.own;
+      opened = ap (λ (v : Knows). v.opened) me ∙ d.opened;
+      at = split.stream;
+      stream = stream;
+      manager =
+          subst (λ (b : Bool). IsManagerAt first.load.streams k (bases k) w s job.writer job.marks.last job.marks.placed b) (sym short)
+          (subst (λ (p : ℕ). IsManagerAt first.load.streams k (bases k) w s job.writer job.marks.last p false) (sym placed)
+          (subst (λ (p : ℕ). IsManagerAt first.load.streams k (bases k) w s job.writer p 0 false) (sym last)
+          (subst (λ (x : Writer D G). IsManagerAt first.load.streams k (bases k) w s x (length (bases k)) 0 false) (sym writer) begun)));
+    }
+
+-- the jobs with it
+pub dealt-more : {D : Type 0} {G : Ghosts D} (first : Plain) (table : TableId) (bases : ℕ → List ℕ) (ws : List (Writer D G)) (k : ℕ) (w : Writer D G) (jobs : List (ManagerJob D G)) (job : ManagerJob D G) → AreDealt first table bases ws k jobs → slice_get ws k ≡ Some w → IsDealt first table bases k w job →
+    AreDealt first table bases ws (k + 1) (jobs ++ job ∷ [])
+dealt-more {D} {G} first table bases ws k w jobs job a is d = record {
+  count = (let e = a.count in let f = length-more jobs job in omega (arith, e, f));
+  each = λ j x y there got. elim (got-last jobs job y j got) [
+    | inl old ↦ a.each j x y there old
+    | inr (at, same) ↦
+        let here : j ≡ k = at ∙ a.count in
+        let writer : w ≡ x = same-some w x (sym is ∙ ap (slice_get ws) (sym here) ∙ there) in
+        subst (λ (z : ManagerJob D G). IsDealt first table bases j x z) same (subst (λ (i : ℕ). IsDealt first table bases i x job) (sym here) (subst (λ (v : Writer D G). IsDealt first table bases k v job) writer d))
+  ];
+}
+  where
+    length-more : {A : Type 0} (xs : List A) (y : A) → length (xs ++ y ∷ []) ≡ length xs + 1
+    length-more [] y = refl
+    length-more (x ∷ xs) y = let e = length-more xs y in omega (arith, e)
