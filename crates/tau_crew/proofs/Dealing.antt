@@ -1,6 +1,7 @@
 -- A manager's seat leaves the head.
 use Rattle.std.proofs.Common.{ℕ, zero, suc, ◌+◌, ◌-◌, ◌<◌, ◌≤◌, ◌≡◌, ◌⊎◌, inl, inr, Bool, true, false, cond, List, [], ◌∷◌, ◌++◌, length, refl, sym, ap, subst, ◌∙◌, arith, eq-eqb, ne_eqb, slice_index}
-use Rattle.std.specs.Prelude.{◌==◌, None, Option, Some, if◌then◌else◌, slice_get, slice_set}
+use Rattle.std.specs.Prelude.{◌==◌, None, Option, Some, drop, if◌then◌else◌, slice_get, slice_index_or, slice_set}
+use Rattle.std.specs.List.{remove}
 use Rattle.std.proofs.lemmas.Bool.{cases_eq}
 use Rattle.std.proofs.lemmas.Bool.Decides.{leb_tells}
 use Rattle.atomic_table.specs.Seated.{TableId}
@@ -22,7 +23,8 @@ use Rattle.tau_desk.specs.Manages.{managed_in, managed_in_share}
 use Rattle.tau_desk.specs.Seats.{Manages, PlainHead, PlainManagerSeat}
 use Rattle.tau_crew_facts.specs.Writers.{SeenNow}
 use Rattle.tau_crew.specs.declared.manager.ManagerJob.{ManagerJob}
-use Rattle.tau_crew.specs.Dealing.{AreDealt, HasFirst, IsDealing, IsDealt}
+use Rattle.tau_crew.specs.Dealing.{AreDealt, DealsOne, HasFirst, IsDealing, IsDealt}
+use Rattle.tau_step.specs.Whole.{IsBegun}
 use Rattle.tau_crew.specs.Driving.{IsManagerAt}
 use Rattle.tau_crew.specs.Gathering.{raised_in, taken_in}
 use Rattle.tau_crew.proofs.Gathering.{managed-anchors, managed-gathered, managed-own}
@@ -71,9 +73,11 @@ dealing-more first table k h h' s d lt split =
       seen = ap (λ (x : PlainHead). x.seen) split.left ∙ d.seen;
       there = λ j le low.
           (let f = d.there j (omega (arith, le)) low in
-          let ne : j ≡ k → ⊥ = (λ e. omega (arith, e, le)) in
-          (f.0, ap (λ (x : PlainHead). slice_get x.managers j) split.left ∙ got-other h.managers k j None ne ∙ f.1,
-              ap (has (manager_role first.load j)) me ∙ role-stays (manager_role first.load k) (manager_role first.load j) h.me.0.roles (λ e. ne (omega (arith, e))) ∙ f.2));
+          let ne : j ≡ k → ⊥ = (λ e. omega (arith, e, le)) in (
+            f.0,
+            ap (λ (x : PlainHead). slice_get x.managers j) split.left ∙ got-other h.managers k j None ne ∙ f.1,
+            ap (has (manager_role first.load j)) me ∙ role-stays (manager_role first.load k) (manager_role first.load j) h.me.0.roles (λ e. ne (omega (arith, e))) ∙ f.2,
+          ));
       clerk = (
         ap (λ (x : PlainHead). x.clerk) split.left ∙ d.clerk.0,
         ap (has (clerk_role first.load)) me ∙ role-stays (manager_role first.load k) (clerk_role first.load) h.me.0.roles (λ e. omega (arith, e, lt)) ∙ d.clerk.1,
@@ -94,8 +98,8 @@ dealt {D} {G} seen_now first table bases k h h' w job d lt split manages new lon
     let base_is : slice_index first.load.opening.ends (r - first.load.workers) ≡ length (bases k) = ap (slice_index first.load.opening.ends) offset ∙ sym long in
     let begun : IsManagerAt first.load.streams k (bases k) w s w (length (bases k)) 0 false =
     manager-begins seen_now first.load.streams k (bases k) s w new split.stream (ap (λ (g : Managed). g.taken) managed) (ap (λ (v : List ℕ). slice_index v k) (split.seen ∙ d.seen) ∙ sym long)
-        (sym (managed-gathered s manages) ∙ ap (λ (g : Managed). g.gathered) managed ∙ base_is) (sym (managed-anchors s manages) ∙ ap (λ (g : Managed). g.anchors) managed) (sym (managed-own s manages) ∙ ap (λ (g : Managed). g.own) managed)
-        (ap raised_in me ∙ ap (λ (x : Role). x.raised) role) in
+    (sym (managed-gathered s manages) ∙ ap (λ (g : Managed). g.gathered) managed ∙ base_is) (sym (managed-anchors s manages) ∙ ap (λ (g : Managed). g.anchors) managed) (sym (managed-own s manages) ∙ ap (λ (g : Managed). g.own) managed)
+    (ap raised_in me ∙ ap (λ (x : Role). x.raised) role) in
     record {
       own = split.table ∙ d.own;
       opened = ap (λ (v : Knows). v.opened) me ∙ d.opened;
@@ -125,3 +129,44 @@ dealt-more {D} {G} first table bases ws k w jobs job a is d = record {
     length-more : {A : Type 0} (xs : List A) (y : A) → length (xs ++ y ∷ []) ≡ length xs + 1
     length-more [] y = refl
     length-more (x ∷ xs) y = let e = length-more xs y in omega (arith, e)
+
+pub first-got : {A : Type 0} (xs : List A) (y : A) → 0 < length xs → y ≡ slice_index_or xs 0 y → slice_get xs 0 ≡ Some y
+first-got [] y lt e = absurd (omega (arith, lt))
+first-got (x ∷ xs) y lt e = ap Some (sym e)
+
+pub first-removed : {A : Type 0} (xs : List A) → remove xs 0 ≡ drop 1 xs
+first-removed [] = refl
+first-removed (x ∷ xs) = refl
+
+drop-none : {A : Type 0} (xs : List A) (n : ℕ) → xs ≡ [] → drop n xs ≡ []
+drop-none xs zero e = e
+drop-none [] (suc n) e = refl
+drop-none (x ∷ xs) (suc n) e = absurd (cc e)
+
+pub drop-more : {A : Type 0} (xs : List A) (k : ℕ) → drop 1 (drop k xs) ≡ drop (k + 1) xs
+drop-more [] zero = refl
+drop-more {A} [] (suc k) = (let none : List A = [] in sym (drop-none none (suc k + 1) refl))
+drop-more (x ∷ xs) zero = refl
+drop-more (x ∷ xs) (suc k) = drop-more xs k ∙ ap (λ (i : ℕ). drop i (x ∷ xs)) (let e : suc (k + 1) ≡ suc k + 1 = omega arith in e)
+
+pub got-dropped : {A : Type 0} (xs : List A) (k : ℕ) → slice_get (drop k xs) 0 ≡ slice_get xs k
+got-dropped [] zero = refl
+got-dropped [] (suc k) = refl
+got-dropped (x ∷ xs) zero = refl
+got-dropped (x ∷ xs) (suc k) = got-dropped xs k
+
+pub one-longer : {A : Type 0} (xs ys : List A) (y : A) (k : ℕ) → ys ≡ xs ++ y ∷ [] → length xs ≡ k → length ys ≡ k + 1
+one-longer {A} xs ys y k e l = (let a = ap (length {A = A}) e in let b = longer xs in omega (arith, a, b, l))
+  where
+    longer : (zs : List A) → length (zs ++ y ∷ []) ≡ length zs + 1
+    longer [] = refl
+    longer (z ∷ zs) = let e = longer zs in omega (arith, e)
+
+-- one more manager was dealt
+pub deals-more : {D : Type 0} {G : Ghosts D} (first : Plain) (table : TableId) (bases : ℕ → List ℕ) (ws left left' : List (Writer D G)) (k : ℕ) (jobs jobs' : List (ManagerJob D G)) → IsBegun bases ws first.load.opening → length ws ≡ first.load.streams → k < first.load.streams → left ≡ drop k ws →
+    AreDealt first table bases ws k jobs → DealsOne first table k left left' jobs jobs' → AreDealt first table bases ws (k + 1) jobs'
+deals-more {D} {G} first table bases ws left left' k jobs jobs' b count lt left_is a d =
+    let there : slice_get ws k ≡ Some d.writer = sym (got-dropped ws k) ∙ ap (λ (xs : List (Writer D G)). slice_get xs 0) (sym left_is) ∙ d.is in
+    let new : IsNew first.load.streams k (bases k) d.writer = subst (λ (n : ℕ). IsNew n k (bases k) d.writer) count (b.new k d.writer there) in
+    let long = b.long k (let e = b.count in omega (arith, e, count, lt)) in
+    subst (λ (xs : List (ManagerJob D G)). AreDealt first table bases ws (k + 1) xs) (sym d.jobs_are) (dealt-more first table bases ws k d.writer jobs d.job a there (d.dealt bases new long))

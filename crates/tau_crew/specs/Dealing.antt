@@ -1,11 +1,12 @@
 -- The managers' seats leave the head, each with the writer of its stream.
-use Rattle.std.specs.Prelude.{ℕ, ◌<◌, ◌≤◌, ◌≡◌, true, Some, List, drop, length, slice_get}
+use Rattle.std.specs.Prelude.{ℕ, ◌+◌, ◌<◌, ◌≤◌, ◌≡◌, true, Some, List, [], ◌∷◌, ◌++◌, drop, length, slice_get, slice_index}
 use Rattle.atomic_table.specs.Seated.{TableId}
 use Rattle.tau_disk.specs.declared.disk.Disk.{Ghosts}
 use Rattle.tau_stream.specs.declared.writer.Writer.{Writer}
 use Rattle.tau_core.specs.State.{Plain}
 use Rattle.tau_rule.specs.First.{role_at}
 use Rattle.tau_rule.specs.Rule.{clerk_role, has, manager_role}
+use Rattle.tau_step.specs.RunTold.{IsNew}
 use Rattle.tau_desk.specs.Seats.{PlainHead}
 use Rattle.tau_desk.specs.Shares.{PlainStock}
 use Rattle.tau_crew.specs.declared.manager.ManagerJob.{ManagerJob}
@@ -36,3 +37,13 @@ module _ {D : Type 0} {G : Ghosts D} (first : Plain) (table : TableId) (bases : 
   pub record AreDealt (ws : List (Writer D G)) (k : ℕ) (jobs : List (ManagerJob D G)) : Type 0 where
     pub count : length jobs ≡ k
     pub each : (j : ℕ) (w : Writer D G) (job : ManagerJob D G) → slice_get ws j ≡ Some w → slice_get jobs j ≡ Some job → IsDealt j w job
+
+-- The manager of stream k leaves with the first of the writers: its job comes last.
+module _ {D : Type 0} {G : Ghosts D} (first : Plain) (table : TableId) (k : ℕ) (left left' : List (Writer D G)) (jobs jobs' : List (ManagerJob D G)) where
+  pub record DealsOne : Type 0 where
+    pub writer : Writer D G
+    pub job : ManagerJob D G
+    pub is : slice_get left 0 ≡ Some writer
+    pub rest : left' ≡ drop 1 left
+    pub jobs_are : jobs' ≡ jobs ++ job ∷ []
+    pub dealt : (bases : ℕ → List ℕ) → IsNew first.load.streams k (bases k) writer → length (bases k) ≡ slice_index first.load.opening.ends k → IsDealt first table bases k writer job

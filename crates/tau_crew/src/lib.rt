@@ -7,6 +7,7 @@ mod ending;
 mod ending_close;
 mod ending_join;
 mod ending_settle;
+mod deal;
 mod flush;
 mod gather;
 mod manager;
