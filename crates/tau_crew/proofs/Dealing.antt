@@ -1,32 +1,35 @@
 -- A manager's seat leaves the head.
-use Rattle.std.proofs.Common.{ℕ, zero, suc, ◌+◌, ◌-◌, ◌<◌, ◌≤◌, ◌≡◌, ◌⊎◌, inl, inr, Bool, true, false, cond, List, [], ◌∷◌, ◌++◌, length, refl, sym, ap, subst, ◌∙◌, arith, eq-eqb, ne_eqb, slice_index}
-use Rattle.std.specs.Prelude.{◌==◌, None, Option, Some, drop, if◌then◌else◌, slice_get, slice_index_or, slice_set}
+use Rattle.std.proofs.Common.{ℕ, zero, suc, ◌+◌, ◌-◌, ◌<◌, ◌≡◌, ◌⊎◌, inl, inr, Bool, false, cond, List, [], ◌∷◌, ◌++◌, length, refl, sym, ap, subst, ◌∙◌, arith, eq-eqb, ne_eqb, slice_index}
+use Rattle.std.specs.Prelude.{replicate, ◌==◌, None, Option, Some, drop, if◌then◌else◌, slice_get, slice_index_or}
 use Rattle.std.specs.List.{remove}
 use Rattle.std.proofs.lemmas.Bool.{cases_eq}
 use Rattle.std.proofs.lemmas.Bool.Decides.{leb_tells}
 use Rattle.atomic_table.specs.Seated.{TableId}
 use Rattle.tau_disk.specs.declared.disk.Disk.{Ghosts}
 use Rattle.tau_stream.specs.declared.writer.Writer.{Writer}
-use Rattle.tau_outbox.specs.declared.Piece.{Piece}
 use Rattle.tau_core.proofs.Lists.{got-other}
 use Rattle.tau_core.specs.State.{Plain}
-use Rattle.tau_core.specs.declared.state.Load.{Load}
-use Rattle.tau_rule.specs.First.{manager_share, outer_share, role_at, share_at, worker_share, clerk_share}
+use Rattle.tau_rule.specs.First.{clerk_share, first_view, manager_share, outer_share, role_at, roles_below, share_at, worker_share}
 use Rattle.tau_rule.specs.Heads.{left_by, role_or, split_off, without}
 use Rattle.tau_rule.specs.Knows.{Knows}
-use Rattle.tau_rule.specs.Role.{Managed, Role, Share, role_in}
+use Rattle.tau_rule.specs.Role.{Managed, Role, role_in}
 use Rattle.tau_rule.specs.Rule.{clerk_role, has, manager_role}
-use Rattle.tau_rule.specs.Steps.{Sat, first_role}
+use Rattle.tau_rule.specs.Steps.{Sat}
 use Rattle.tau_step.specs.RunTold.{IsNew}
-use Rattle.tau_desk.specs.Ends.{IsManagerSplit}
-use Rattle.tau_desk.specs.Manages.{managed_in, managed_in_share}
-use Rattle.tau_desk.specs.Seats.{Manages, PlainHead, PlainManagerSeat}
+use Rattle.tau_desk.specs.Ends.{IsClerkSplit, IsFirst, IsManagerSplit, IsWhole}
+use Rattle.tau_desk.specs.Shares.{PlainStock}
+use Rattle.tau_machine.specs.State.{Ticket}
+use Rattle.tau_run.proofs.Logs.{some_within}
+use Rattle.tau_crew_facts.specs.Telling.{IsTelling}
+use Rattle.tau_crew_facts.proofs.Telling.{telling-begins}
+use Rattle.tau_desk.specs.Manages.{acked_in, acked_in_share, managed_in, managed_in_share}
+use Rattle.tau_desk.specs.Seats.{Heads, Manages, PlainClerkSeat, PlainHead, PlainManagerSeat}
 use Rattle.tau_crew_facts.specs.Writers.{SeenNow}
 use Rattle.tau_crew.specs.declared.manager.ManagerJob.{ManagerJob}
-use Rattle.tau_crew.specs.Dealing.{AreDealt, DealsOne, HasFirst, IsDealing, IsDealt}
+use Rattle.tau_crew.specs.Dealing.{AreDealt, DealsOne, IsDealing, IsDealt}
 use Rattle.tau_step.specs.Whole.{IsBegun}
 use Rattle.tau_crew.specs.Driving.{IsManagerAt}
-use Rattle.tau_crew.specs.Gathering.{raised_in, taken_in}
+use Rattle.tau_crew.specs.Gathering.{raised_in}
 use Rattle.tau_crew.proofs.Gathering.{managed-anchors, managed-gathered, managed-own}
 use Rattle.tau_crew.proofs.ManagerEnds.{manager-begins}
 
@@ -170,3 +173,71 @@ deals-more {D} {G} first table bases ws left left' k jobs jobs' b count lt left_
     let new : IsNew first.load.streams k (bases k) d.writer = subst (λ (n : ℕ). IsNew n k (bases k) d.writer) count (b.new k d.writer there) in
     let long = b.long k (let e = b.count in omega (arith, e, count, lt)) in
     subst (λ (xs : List (ManagerJob D G)). AreDealt first table bases ws (k + 1) xs) (sym d.jobs_are) (dealt-more first table bases ws k d.writer jobs d.job a there (d.dealt bases new long))
+
+-- ---- at first
+
+role-below : (first : Plain) (n u : ℕ) → u < n → role_in u (roles_below first n) ≡ Some (role_at first u)
+role-below first zero u lt = absurd (omega (arith, lt))
+role-below first (suc n) u lt = elim (cases_eq n u) [
+  | inl is ↦ ap (λ (b : Bool). cond b (Some (role_at first n)) (role_in u (roles_below first n))) (eq-eqb n u is) ∙ ap (λ (k : ℕ). Some (role_at first k)) is
+  | inr ne ↦ ap (λ (b : Bool). cond b (Some (role_at first n)) (role_in u (roles_below first n))) (ne_eqb n u ne) ∙ role-below first n u (omega (arith, lt, ne))
+]
+
+-- nothing has left the head of a desk that has just opened
+pub dealing-begins : (first : Plain) (table : TableId) (h : PlainHead) → IsFirst first h.me → IsWhole h → Heads h → h.table_id ≡ table → IsDealing first table 0 h
+dealing-begins first table h f whole heads own =
+    let me : h.me.0 ≡ first_view first = ap (λ (m : Sat). m.0) f.knows in
+    let opened : h.me.0.opened ≡ Some first = ap (λ (v : Knows). v.opened) me in
+    let same : heads.origin ≡ first = same-some heads.origin first (sym heads.opened ∙ opened) in
+    let count : length h.managers ≡ first.load.streams = heads.manager_count ∙ ap (λ (p : Plain). p.load.streams) same in
+    let role : (u : ℕ) → u < first.load.workers + first.load.streams + 1 → has u h.me.0 ≡ Some (role_at first u) = (λ u lt. ap (has u) me ∙ role-below first (first.load.workers + first.load.streams + 1) u lt) in
+    record {
+      own = own;
+      opened = opened;
+      seen = sym heads.seen_is ∙ ap (λ (v : Knows). v.seen) me;
+      there = λ j le lt.
+          (let got = some_within h.managers j (omega (arith, count, lt)) in
+          let o = stock-there got.0 (λ e. whole.managers j (got.1 ∙ ap Some e)) in
+          (o.0, got.1 ∙ ap Some o.1, role (manager_role first.load j) (omega (arith, lt))));
+      clerk = (whole.clerk, role (clerk_role first.load) (omega arith));
+    }
+  where
+    stock-there : (x : Option PlainStock) → (x ≡ None → ⊥) → (o : PlainStock) × (x ≡ Some o)
+    stock-there None no_stock = absurd (no_stock refl)
+    stock-there (Some o) no_stock = (o, refl)
+
+-- ---- the clerk
+
+clerk-share-is : (first : Plain) → share_at first (clerk_role first.load) ≡ clerk_share first
+clerk-share-is first = elim (leb_tells (clerk_role first.load + 1) first.load.workers) [
+  | inl a ↦ absurd (let low = a.1 in omega (arith, low))
+  | inr a ↦
+      ap (λ (b : Bool). if b then worker_share first (clerk_role first.load) else outer_share first (clerk_role first.load)) a.0
+      ∙ elim (leb_tells (clerk_role first.load + 1) (first.load.workers + first.load.streams)) [
+        | inl b ↦ absurd (let high = b.1 in omega (arith, high))
+        | inr b ↦ ap (λ (c : Bool). if c then manager_share first (clerk_role first.load) else clerk_share first) b.0
+      ]
+]
+
+none-acked : (n w : ℕ) (acked : List (List Ticket)) → acked ≡ replicate n [] → slice_index_or acked w [] ≡ []
+none-acked n w acked e = ap (λ (xs : List (List Ticket)). slice_index_or xs w []) e ∙ at n w
+  where
+    no_tickets : List Ticket
+    no_tickets = []
+
+    at : (n w : ℕ) → slice_index_or (replicate n no_tickets) w no_tickets ≡ no_tickets
+    at zero w = refl
+    at (suc n) zero = refl
+    at (suc n) (suc w) = at n w
+
+-- the clerk's seat has told nothing
+pub clerk-begins : (first : Plain) (table : TableId) (k : ℕ) (h h' : PlainHead) (s : PlainClerkSeat) → IsDealing first table k h → IsClerkSplit first.load h h' s → (s.table_id ≡ table) × (s.me.0.opened ≡ Some first) × IsTelling first.load (acked_in s.me.0) s.seen []
+clerk-begins first table k h h' s d split =
+    let r : ℕ = clerk_role first.load in
+    let me : s.me.0 ≡ split_off r h.me.0 = ap (λ (m : Sat). m.0) split.split.new_is in
+    let role : role_or (role_in r h.me.0.roles) ≡ role_at first r = ap role_or d.clerk.1 in
+    let acked : acked_in s.me.0 ≡ replicate first.load.workers [] = ap acked_in me ∙ ap (λ (x : Role). acked_in_share x.share) role ∙ ap acked_in_share (clerk-share-is first) in (
+      split.table ∙ d.own,
+      ap (λ (v : Knows). v.opened) me ∙ d.opened,
+      telling-begins first.load (acked_in s.me.0) s.seen (λ w lt. none-acked first.load.workers w (acked_in s.me.0) acked),
+    )

@@ -1,9 +1,9 @@
 -- How a manager's loop begins, and what is known when it has ended.
-use Rattle.std.proofs.Common.{ℕ, ◌+◌, ◌<◌, ◌≤◌, ◌≡◌, Bool, true, false, List, [], ◌∷◌, ◌++◌, length, refl, sym, ap, subst, ◌∙◌, arith, length-append, slice_index}
+use Rattle.std.proofs.Common.{ℕ, ◌<◌, ◌≡◌, Bool, false, List, [], length, sym, ap, subst, ◌∙◌, arith, slice_index}
 use Rattle.std.specs.Prelude.{◌%◌}
 use Rattle.tau_disk.specs.declared.disk.Disk.{Ghosts}
 use Rattle.tau_stream.specs.declared.writer.Writer.{Writer}
-use Rattle.tau_stream.specs.Writer.{durable_of, has_failed, left_of, IsReady}
+use Rattle.tau_stream.specs.Writer.{durable_of, has_failed, IsReady}
 use Rattle.tau_outbox.specs.declared.Piece.{Piece}
 use Rattle.tau_outbox.specs.Pieces.{bytes_of}
 use Rattle.tau_model.specs.History.{Member}
@@ -15,11 +15,11 @@ use Rattle.tau_desk.specs.Manages.{managed_in}
 use Rattle.tau_desk.specs.Seats.{Manages, PlainManagerSeat}
 use Rattle.tau_crew_facts.specs.Closing.{EndsBy, ManagerApart, ManagerDone, ManagerKnows}
 use Rattle.tau_crew_facts.specs.Spacing.{IsSpacing, newest}
-use Rattle.tau_crew_facts.specs.Writers.{HasWritten, IsCurrent, IsManaging, SeenNow}
+use Rattle.tau_crew_facts.specs.Writers.{HasWritten, IsManaging, SeenNow}
 use Rattle.tau_crew_facts.proofs.Managing.{begins}
 use Rattle.tau_crew_facts.proofs.Spacing.{spacing-begins}
 use Rattle.tau_crew.specs.Gathering.{AreLong, raised_in, taken_in}
-use Rattle.tau_crew.specs.Driving.{IsApart, IsDriven, IsDrivenShort, IsManagerAt, own_of}
+use Rattle.tau_crew.specs.Driving.{IsDriven, IsManagerAt, own_of}
 use Rattle.tau_crew.proofs.Driving.{left-long, short-of}
 use Rattle.tau_crew.proofs.Gathering.{managed-anchors, managed-gathered, managed-own}
 

@@ -1,5 +1,5 @@
 -- The managers' seats leave the head, each with the writer of its stream.
-use Rattle.std.specs.Prelude.{ℕ, ◌+◌, ◌<◌, ◌≤◌, ◌≡◌, true, Some, List, [], ◌∷◌, ◌++◌, drop, length, slice_get, slice_index}
+use Rattle.std.specs.Prelude.{ℕ, ◌<◌, ◌≤◌, ◌≡◌, true, Some, List, [], ◌∷◌, ◌++◌, drop, length, slice_get, slice_index}
 use Rattle.atomic_table.specs.Seated.{TableId}
 use Rattle.tau_disk.specs.declared.disk.Disk.{Ghosts}
 use Rattle.tau_stream.specs.declared.writer.Writer.{Writer}

@@ -1,10 +1,15 @@
 //! The managers' seats leave the head, each with the writer of its stream.
-ghost use Rattle.std.specs.Prelude.{◌≡◌, ◌+◌, ◌-◌, ◌<◌, ◌≤◌, [], Some, ℕ, List, drop, length, vec_capacity, vec_len};
+ghost use Rattle.std.specs.Prelude.{false, ◌≡◌, ◌+◌, ◌-◌, ◌<◌, ◌≤◌, [], Some, ℕ, List, drop, length, vec_capacity, vec_len};
 ghost use Rattle.tau_step.specs.Whole.{IsBegun};
+ghost use Rattle.tau_desk.specs.Ends.{IsClerkSplit};
+ghost use Rattle.tau_crew.specs.Clerking.{IsToldSoFar, Tells};
 ghost use Rattle.tau_crew.specs.Dealing.{AreDealt, DealsOne, IsDealing};
+ghost use Rattle.tau_crew.specs.Together.{IsClerkReady};
 
 use crate::anchor::Marks;
+use crate::clerk::ClerkJob;
 use crate::manager::ManagerJob;
+use crate::told::Told;
 use std::alloc::Global;
 use tau_desk::{Desk, Head};
 use tau_disk::Disk;
@@ -60,5 +65,24 @@ pub(crate) fn deal_managers<D: Disk>(
 {
     for stream in 0..desk.streams {
         deal_manager(alloc, desk, head, writers, jobs, stream);
+    }
+}
+
+/// The clerk's seat leaves the head, with nothing told.
+pub(crate) fn clerk_job(alloc: Global, desk: &Desk, head: &mut Head, streams: usize) -> ClerkJob
+    requires own { head.old.table_id ≡ desk.now.table.shared.table_id }
+    requires dealing { IsDealing desk.now.table.shared.key.value desk.now.table.shared.table_id streams head.old }
+    ensures ready { IsClerkReady desk.now result }
+    ensures tells { Tells desk.now.table.shared.key.value.load result.seat result.told }
+    ensures heard { (held : List ℕ) → IsToldSoFar held result.told held }
+    ensures split { IsClerkSplit desk.now.table.shared.key.value.load head.old head.new result.seat }
+    ensures works { (result.told.sink_failed ≡ false) × (result.short ≡ false) }
+{
+    let _ = streams;
+    let seat = desk.split_clerk(head);
+    ClerkJob {
+        seat,
+        told: Told::new(alloc),
+        short: false,
     }
 }
