@@ -33,7 +33,7 @@ are-seats first table bases ws jobs m j job is =
     let back = m.each j w job at is in
     record { own = back.own; opened = back.opened; at = back.at }
 
-worker-same : (first : Plain) (h h' : PlainHead) (w : ℕ) → w < first.load.workers → KeepsHead first h h' → role_back h' w ≡ role_back h w
+pub worker-same : (first : Plain) (h h' : PlainHead) (w : ℕ) → w < first.load.workers → KeepsHead first h h' → role_back h' w ≡ role_back h w
 worker-same first h h' w lt k = ap (λ (o : Option Role). role_or o) (k.roles w lt)
 
 keeps-worker : (first : Plain) (h h' : PlainHead) (w : ℕ) → w < first.load.workers → KeepsHead first h h' → IsWorkerBack h w → IsWorkerBack h' w

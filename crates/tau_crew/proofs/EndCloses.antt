@@ -1,5 +1,5 @@
 -- The head has every role back: the desk closes, and that ends the run.
-use Rattle.std.proofs.Common.{ℕ, ◌+◌, ◌<◌, ◌≡◌, Option, List, [], length, map, sym, ap, subst, ◌∙◌, arith, slice_index}
+use Rattle.std.proofs.Common.{ℕ, ◌+◌, ◌<◌, ◌≡◌, Option, List, [], length, map, refl, sym, ap, subst, ◌∙◌, arith, slice_index}
 use Rattle.std.specs.Prelude.{Some, None, slice_get}
 use Rattle.std.specs.Prelude.{slice_index_or}
 use Rattle.std.specs.Option.{option_map}
@@ -43,10 +43,10 @@ at-place : {A : Type 0} (xs : List A) (j : ℕ) → j < length xs → (x : A) ×
 at-place xs j lt = some-at xs j lt
 
 module _ {D : Type 0} {G : Ghosts D} (first : Plain) (table : TableId) (bases : ℕ → List ℕ) (ws : List (Writer D G)) (h : PlainHead) (jobs : List (ManagerJob D G)) (telling : ClerkJob) (b : IsAllBack first table bases ws h jobs telling) (d : Heads h) where
-  as-first : d.origin ≡ first
+  pub as-first : d.origin ≡ first
   as-first = same-origin h.me.0.opened d.opened b.head.opened
 
-  job-at : (j : ℕ) → j < first.load.streams → (job : ManagerJob D G) × (slice_get jobs j ≡ Some job)
+  pub job-at : (j : ℕ) → j < first.load.streams → (job : ManagerJob D G) × (slice_get jobs j ≡ Some job)
   job-at j lt = at-place jobs j (let e = b.managers.count in omega (arith, lt, e))
 
   -- no role is out
@@ -104,16 +104,16 @@ module _ {D : Type 0} {G : Ghosts D} (first : Plain) (table : TableId) (bases : 
   }
 
   -- the role of a manager is as its seat had it
-  managed-is : (j : ℕ) (job : ManagerJob D G) → slice_get jobs j ≡ Some job → managed_back first h j ≡ managed_in job.seat.me.0
+  pub managed-is : (j : ℕ) (job : ManagerJob D G) → slice_get jobs j ≡ Some job → managed_back first h j ≡ managed_in job.seat.me.0
   managed-is j job is =
       let e : 0 + j ≡ j = omega arith in
       ap (λ (o : Option Role). managed_in_share (role_or o).share) (subst (λ (i : ℕ). has (manager_role first.load i) h.me.0 ≡ Some (first_role job.seat.me.0.roles).1) e (b.has j job is).role)
 
-  acked-is : acked_back first h ≡ acked_in telling.seat.me.0
+  pub acked-is : acked_back first h ≡ acked_in telling.seat.me.0
   acked-is = ap (λ (o : Option Role). acked_in_share (role_or o).share) b.has_clerk
 
   -- what each manager knows
-  knows : EachOf (λ j w w'. ManagerKnows first.load h.me.0.seen j (bases j) (managed_back first h j) w w') ws (map writer_in jobs)
+  pub knows : EachOf (λ j w w'. ManagerKnows first.load h.me.0.seen j (bases j) (managed_back first h j) w w') ws (map writer_in jobs)
   knows = record {
     count = length-map jobs writer_in ∙ b.managers.count ∙ sym b.managers.writers;
     each = λ j w is.
@@ -134,7 +134,7 @@ module _ {D : Type 0} {G : Ghosts D} (first : Plain) (table : TableId) (bases : 
   }
 
   -- the clerk has told what the head has acknowledged
-  telling-back : IsTelling first.load (acked_back first h) h.me.0.seen (all_told telling.told)
+  pub telling-back : IsTelling first.load (acked_back first h) h.me.0.seen (all_told telling.told)
   telling-back = record {
     each = λ w lt. b.clerk.tells.each w lt ∙ ap (λ (a : List (List Ticket)). map pair_of (slice_index_or a w [])) (sym acked-is);
     licensed = λ a m j. (let x = b.clerk.tells.licensed a m j in let y = b.clerk_seen j in let z = ap (λ (v : List ℕ). slice_index v j) d.seen_is in omega (arith, x, y, z));
@@ -168,3 +168,7 @@ module _ {D : Type 0} {G : Ghosts D} (first : Plain) (table : TableId) (bases : 
     stands = k.stands;
     core = k.core;
   }
+
+  pub closes-state : (result : Plain) (k : desk.IsClosing first h.me.0 result) → (closes-run result k).state ≡ k.state.core
+  unfolding closes-run
+  closes-state result k = refl

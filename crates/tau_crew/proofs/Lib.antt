@@ -14,3 +14,5 @@ pub mod EndTold
 pub mod ManagerEnds
 pub mod EndBack
 pub mod Dealing
+pub mod EndDone
+pub mod EndTells

@@ -11,3 +11,4 @@ pub mod EndSettles
 pub mod EndCloses
 pub mod Together
 pub mod Dealing
+pub mod EndDone
