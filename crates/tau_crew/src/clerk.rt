@@ -173,8 +173,8 @@ impl ClerkJob {
         self.seat.look_all(desk)
     }
 
-    /// The clerk's loop: it passes over the workers where a stream is persisted further, and from time to time, and rests else,
-    /// until the managers are through and a last pass is made, or memory is wanting.
+    /// The clerk's loop: it looks how far the streams are persisted and passes over the workers, and rests if no stream is persisted
+    /// further, until the managers are through and a last pass is made, or it is out of memory.
     pub fn run<R: Wait, K: Sink, G: Gate>(
         &mut self,
         rt: &R,
