@@ -3,11 +3,11 @@
 
 mod anchor;
 mod clerk;
+mod deal;
 mod ending;
 mod ending_close;
 mod ending_join;
 mod ending_settle;
-mod deal;
 mod flush;
 mod gather;
 mod manager;
