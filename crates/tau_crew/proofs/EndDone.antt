@@ -18,6 +18,8 @@ use Rattle.tau_rule.specs.Rule.{manager_role}
 use Rattle.tau_rule.specs.Steps.{worker_in_share}
 use Rattle.tau_desk.specs.Ends as desk
 use Rattle.tau_desk.specs.Manages.{acked_in, managed_in_share}
+use Rattle.tau_desk.specs.Resumes.{CanGoOn}
+use Rattle.tau_desk.specs.Shares.{PlainWork}
 use Rattle.tau_desk.specs.Seats.{HasStock, Heads, PlainHead}
 use Rattle.tau_crew_facts.specs.Closing.{ClerkDone, EndsBy, ManagerApart, ManagerDone}
 use Rattle.tau_crew_facts.specs.Ends.{AreApart, IsThreadDone}
@@ -33,6 +35,7 @@ use Rattle.tau_crew.specs.EndDone.{ClosesDone, IsDone, NoneShort, durable_in, du
 use Rattle.tau_crew.specs.EndJoins.{KeepsHead, writer_in}
 use Rattle.tau_crew.proofs.EndBack.{keeps-ran, worker-same}
 use Rattle.tau_crew.proofs.EndCloses.{acked-is, as-first, closes-run, closes-state, closing, job-at, knows, managed-is, telling-back}
+use Rattle.tau_crew.proofs.EndNone.{nothing-left}
 use Rattle.tau_crew.proofs.EndSettles.{got-low}
 use Rattle.tau_core.proofs.Lists.{some-at}
 
@@ -112,7 +115,7 @@ module _ {D : Type 0} {G : Ghosts D} (first : Plain) (table : TableId) (bases : 
     run = closes-run first table bases ws h jobs telling b d result k;
     done = λ q. subst (λ (s : Core). IsThreadDone first.load s (map writer_in jobs)) (sym (closes-state first table bases ws h jobs telling b d result k))
         (thread-done first h.me.0 (worker_back h) (managed_back first h) (acked_back first h) k.state (closing first table bases ws h jobs telling b d result k) bases ws (map writer_in jobs) (all_told telling.told) b.managers.writers (λ w lt. (b.head.workers w lt).loose)
-        (knows first table bases ws h jobs telling b d) (telling-back first table bases ws h jobs telling b d) (λ w lt. record { rests = (q.workers w lt).rests; kept = (q.workers w lt).kept }) (done-manager q) (done-clerk q) q.none);
+        (knows first table bases ws h jobs telling b d) (telling-back first table bases ws h jobs telling b d) (λ w lt. record { rests = (q.workers w lt).rests; kept = (q.workers w lt).kept }) (done-manager q) (done-clerk q) (λ works. nothing-left first table bases ws h jobs telling b d result k q.memory q.workers q.raised works q.left));
     apart = λ memory. subst (λ (s : Core). AreApart bases first.load.streams s) (sym (closes-state first table bases ws h jobs telling b d result k))
         (thread-apart first h.me.0 (worker_back h) (managed_back first h) (acked_back first h) k.state (closing first table bases ws h jobs telling b d result k) bases ws (map writer_in jobs) (all_told telling.told) b.managers.writers (λ w lt. (b.head.workers w lt).loose)
         (knows first table bases ws h jobs telling b d) (telling-back first table bases ws h jobs telling b d) (apart-at memory));
@@ -129,5 +132,6 @@ done-keeps first h h' jobs telling k q =
           (let m = q.managers j job at works in
           record { durable = m.durable; own = m.own; placed = λ w call lt st c. m.placed w call lt st (subst (λ (x : Worker). Member call x.committed) (same w lt) c) });
       clerk = λ w lt. subst (λ (x : Worker). ClerkDone (durables jobs) x (slice_index_or (acked_in telling.seat.me.0) w [])) (sym (same w lt)) (q.clerk w lt);
-      none = λ works w lt. (let n = q.none works w lt in (ap (λ (x : Worker). x.waiting) (same w lt) ∙ n.0, ap (λ (x : Worker). x.left) (same w lt) ∙ n.1));
+      raised = q.raised;
+      left = subst (λ (ps : List (Option PlainWork)). CanGoOn (length first.load.calls) ps None) (sym k.workers) q.left;
     }

@@ -5,7 +5,6 @@ use Rattle.std.proofs.lemmas.List.{reverse-append}
 use Rattle.atomic_table.specs.Seated.{TableId}
 use Rattle.tau_core.specs.State.{Plain}
 use Rattle.tau_core.proofs.Lists.{got-other, got-same}
-use Rattle.tau_base.specs.Vectors.{join}
 use Rattle.tau_disk.specs.declared.disk.Disk.{Ghosts}
 use Rattle.tau_stream.specs.declared.writer.Writer.{Writer}
 use Rattle.tau_rule.specs.Heads.{both_at}

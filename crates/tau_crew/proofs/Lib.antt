@@ -14,5 +14,6 @@ pub mod EndTold
 pub mod ManagerEnds
 pub mod EndBack
 pub mod Dealing
+pub mod EndNone
 pub mod EndDone
 pub mod EndTells
