@@ -17,3 +17,4 @@ pub mod Dealing
 pub mod EndNone
 pub mod EndDone
 pub mod EndTells
+pub mod EndPasses

@@ -7,6 +7,7 @@ mod deal;
 mod ending;
 mod ending_close;
 mod ending_join;
+mod ending_pass;
 mod ending_settle;
 mod flush;
 mod gather;
