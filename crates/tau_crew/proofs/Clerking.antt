@@ -26,6 +26,7 @@ use Rattle.tau_desk.specs.Seats.{Clerks, PlainClerkSeat}
 use Rattle.tau_crew_facts.specs.Telling.{IsTelling}
 use Rattle.tau_crew_facts.proofs.Telling.{pending-own, telling-more, telling-sees}
 use Rattle.tau_crew.specs.declared.told.Told.{Told}
+use Rattle.tau_crew.specs.Gathering.{raised_in}
 use Rattle.tau_crew.specs.Clerking.{Acknowledges, IsSameClerk, IsSoFar, all_told, with_missing}
 
 lines-append : (xs ys : List (ℕ × List ℕ)) → ack_lines (xs ++ ys) ≡ ack_lines xs ++ ack_lines ys
@@ -150,12 +151,13 @@ pub tells-same : (l : Load) (s s' : PlainClerkSeat) (acks : List (ℕ × List �
 tells-same l s s' acks e t = subst (λ (x : PlainClerkSeat). IsTelling l (acked_in x.me.0) x.seen acks) (sym e) t
 
 pub acknowledges-none : (l : Load) (s s' : PlainClerkSeat) (t : Told) → s' ≡ s → Acknowledges l s s' t t
-acknowledges-none l s s' t e = record { tells = λ h. tells-same l s s' (all_told t) e h; same = same-none s s' e; heard = λ base held h. h; sink = refl }
+acknowledges-none l s s' t e = record { tells = λ h. tells-same l s s' (all_told t) e h; same = same-none s s' e; raised = ap (λ (x : PlainClerkSeat). raised_in x.me.0) e; heard = λ base held h. h; sink = refl }
 
 pub acknowledges-on : (l : Load) (s1 s2 s3 : PlainClerkSeat) (t1 t2 t3 : Told) → Acknowledges l s1 s2 t1 t2 → Acknowledges l s2 s3 t2 t3 → Acknowledges l s1 s3 t1 t3
 acknowledges-on l s1 s2 s3 t1 t2 t3 a b = record {
   tells = λ h. b.tells (a.tells h);
   same = same-on s1 s2 s3 a.same b.same;
+  raised = b.raised ∙ a.raised;
   heard = λ base held h. b.heard base held (a.heard base held h);
   sink = b.sink ∙ a.sink;
 }
@@ -167,6 +169,7 @@ acknowledges-put origin s s' w call t t' c opened lt a none more missing lines s
   tells = λ h. tells-first origin s s' w call (all_told t) (all_told t') c opened lt a
       (ap (with_missing t'.acks) (missing ∙ none) ∙ more ∙ ap (λ (xs : List (ℕ × List ℕ)). xs ++ (call.number, call.lv) ∷ []) (sym (ap (with_missing t.acks) none))) h;
   same = same-acks origin s s' w call a;
+  raised = ap (λ (x : PlainClerkSeat). raised_in x.me.0) a.after;
   heard = λ base held h.
       subst (λ (f : Bool). IsSoFar base t'.acks t'.lines.items f held) (sym sink)
       (subst (λ (l : List ℕ). IsSoFar base t'.acks l t.sink_failed held) (sym lines)
@@ -181,6 +184,7 @@ acknowledges-missing origin s s' w call t t' c opened lt a none same missing lin
   tells = λ h. tells-first origin s s' w call (all_told t) (all_told t') c opened lt a
       (ap (with_missing t'.acks) missing ∙ ap (λ (xs : List (ℕ × List ℕ)). xs ++ (call.number, call.lv) ∷ []) (same ∙ sym (ap (with_missing t.acks) none))) h;
   same = same-acks origin s s' w call a;
+  raised = ap (λ (x : PlainClerkSeat). raised_in x.me.0) a.after;
   heard = λ base held h.
       subst (λ (f : Bool). IsSoFar base t'.acks t'.lines.items f held) (sym sink)
       (subst (λ (l : List ℕ). IsSoFar base t'.acks l t.sink_failed held) (sym lines) (subst (λ (xs : List (ℕ × List ℕ)). IsSoFar base xs t.lines.items t.sink_failed held) (sym same) h));

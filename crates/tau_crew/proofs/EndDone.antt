@@ -115,7 +115,7 @@ module _ {D : Type 0} {G : Ghosts D} (first : Plain) (table : TableId) (bases : 
     run = closes-run first table bases ws h jobs telling b d result k;
     done = λ q. subst (λ (s : Core). IsThreadDone first.load s (map writer_in jobs)) (sym (closes-state first table bases ws h jobs telling b d result k))
         (thread-done first h.me.0 (worker_back h) (managed_back first h) (acked_back first h) k.state (closing first table bases ws h jobs telling b d result k) bases ws (map writer_in jobs) (all_told telling.told) b.managers.writers (λ w lt. (b.head.workers w lt).loose)
-        (knows first table bases ws h jobs telling b d) (telling-back first table bases ws h jobs telling b d) (λ w lt. record { rests = (q.workers w lt).rests; kept = (q.workers w lt).kept }) (done-manager q) (done-clerk q) (λ works. nothing-left first table bases ws h jobs telling b d result k q.memory q.workers q.raised works q.left));
+        (knows first table bases ws h jobs telling b d) (telling-back first table bases ws h jobs telling b d) (λ w lt. record { rests = (q.workers w lt).rests; kept = (q.workers w lt).kept }) (done-manager q) (done-clerk q) (λ works. nothing-left first table bases ws h jobs telling b d result k q.memory q.workers (b.clerk.clerk.raised q.telling_memory) works q.left));
     apart = λ memory. subst (λ (s : Core). AreApart bases first.load.streams s) (sym (closes-state first table bases ws h jobs telling b d result k))
         (thread-apart first h.me.0 (worker_back h) (managed_back first h) (acked_back first h) k.state (closing first table bases ws h jobs telling b d result k) bases ws (map writer_in jobs) (all_told telling.told) b.managers.writers (λ w lt. (b.head.workers w lt).loose)
         (knows first table bases ws h jobs telling b d) (telling-back first table bases ws h jobs telling b d) (apart-at memory));
@@ -132,6 +132,6 @@ done-keeps first h h' jobs telling k q =
           (let m = q.managers j job at works in
           record { durable = m.durable; own = m.own; placed = λ w call lt st c. m.placed w call lt st (subst (λ (x : Worker). Member call x.committed) (same w lt) c) });
       clerk = λ w lt. subst (λ (x : Worker). ClerkDone (durables jobs) x (slice_index_or (acked_in telling.seat.me.0) w [])) (sym (same w lt)) (q.clerk w lt);
-      raised = q.raised;
+      telling_memory = q.telling_memory;
       left = subst (λ (ps : List (Option PlainWork)). CanGoOn (length first.load.calls) ps None) (sym k.workers) q.left;
     }

@@ -7,6 +7,7 @@ use Rattle.tau_desk.specs.Seats.{PlainClerkSeat}
 use Rattle.tau_step.specs.Telling.{HeardFront}
 use Rattle.tau_crew_facts.specs.Telling.{IsTelling}
 use Rattle.tau_crew.specs.declared.told.Told.{Told}
+use Rattle.tau_crew.specs.Gathering.{raised_in}
 
 -- the sink holds the lines of the first of these calls after what it held at first, and those of the others are still to be written
 pub record IsWaiting (base : List ℕ) (acks : List (ℕ × List ℕ)) (lines held : List ℕ) : Type 0 where
@@ -48,5 +49,6 @@ pub record IsSameClerk (s s' : PlainClerkSeat) : Type 0 where
 pub record Acknowledges (l : Load) (s s' : PlainClerkSeat) (t t' : Told) : Type 0 where
   pub tells : KeepsTelling l s s' t t'
   pub same : IsSameClerk s s'
+  pub raised : raised_in s'.me.0 ≡ raised_in s.me.0
   pub heard : (base held : List ℕ) → IsToldSoFar base t held → IsToldSoFar base t' held
   pub sink : t'.sink_failed ≡ t.sink_failed

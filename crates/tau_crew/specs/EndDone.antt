@@ -11,7 +11,6 @@ use Rattle.tau_crew_facts.specs.Closing.{ClerkDone, ManagerDone}
 use Rattle.tau_crew_facts.specs.Ends.{AreApart, IsThreadDone}
 use Rattle.tau_crew.specs.declared.clerk.ClerkJob.{ClerkJob}
 use Rattle.tau_crew.specs.declared.manager.ManagerJob.{ManagerJob}
-use Rattle.tau_crew.specs.Gathering.{raised_in}
 use Rattle.tau_crew.specs.Ending.{HasRunBack, worker_back}
 use Rattle.tau_crew.specs.EndCloses.{ClosesRun}
 
@@ -27,13 +26,13 @@ module _ {D : Type 0} {G : Ghosts D} where
   abbrev pub NoneShort : List (ManagerJob D G) → Type 0
   NoneShort jobs = (j : ℕ) (job : ManagerJob D G) → slice_get jobs j ≡ Some job → job.short ≡ false
 
-  -- Each worker has run to its end; each manager whose disk works has nothing to do; the clerk has acknowledged what is durable, and has not raised the stop; and no call that was left over can go on.
+  -- Each worker has run to its end; each manager whose disk works has nothing to do; the clerk has acknowledged what is durable; none of them was out of memory; and no call that was left over can go on.
   pub record IsDone (first : Plain) (h : PlainHead) (jobs : List (ManagerJob D G)) (telling : ClerkJob) : Type 0 where
     pub memory : NoneShort jobs
     pub workers : (w : ℕ) → w < first.load.workers → HasRunBack first.load h w
     pub managers : (j : ℕ) (job : ManagerJob D G) → slice_get jobs j ≡ Some job → has_failed job.writer ≡ false → ManagerDone first.load job.seat.seen (worker_back h) j (managed_in job.seat.me.0)
     pub clerk : (w : ℕ) → w < first.load.workers → ClerkDone (durables jobs) (worker_back h w) (slice_index_or (acked_in telling.seat.me.0) w [])
-    pub raised : raised_in telling.seat.me.0 ≡ false
+    pub telling_memory : telling.short ≡ false
     pub left : CanGoOn (length first.load.calls) h.workers None
 
   -- The core is that of a state in which the run has ended, and it has gone to its end if all of them say so.

@@ -1,6 +1,7 @@
 //! The clerk in a thread of its own.
 ghost use Rattle.std.specs.Prelude.{◌≡◌, ◌≤◌, ◌<◌, ◌⊎◌, [], true, List, ℕ, None, Some, OnOk};
 ghost use Rattle.tau_disk.specs.Disk.{Rose};
+ghost use Rattle.tau_crew.specs.Gathering.{raised_in};
 ghost use Rattle.tau_crew.specs.Clerking.{Acknowledges, IsSameClerk, IsToldSoFar, KeepsTelling};
 ghost use Rattle.tau_crew.specs.ClerkJobs.{ClerkGoes, IsClerkJob};
 
@@ -100,6 +101,7 @@ fn ack_and_write<R: Wait, K: Sink, G: Gate>(
     requires none { told.old.missing ≡ None }
     ensures tells { KeepsTelling desk.now.load seat.old seat.new told.old told.new }
     ensures same { IsSameClerk seat.old seat.new }
+    ensures raised { raised_in seat.new.me.0 ≡ raised_in seat.old.me.0 }
     ensures none { OnOk result (told.new.missing ≡ None) }
     ensures written { told.new.lines.items ≡ [] }
     ensures heard { K.tells → (base : List ℕ) → IsToldSoFar base told.old (K.held sink.old) → IsToldSoFar base told.new (K.held sink.new) }
