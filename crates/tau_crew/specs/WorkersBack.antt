@@ -1,5 +1,5 @@
 -- What workers have done, each on a seat that left the head, when the head has their roles again.
-use Rattle.std.specs.Prelude.{ℕ, ◌<◌, ◌≤◌, ◌≡◌, ◌⊎◌, Bool, true, false, Some, None, [], is_err, length, slice_get, Result}
+use Rattle.std.specs.Prelude.{ℕ, ◌<◌, ◌≤◌, ◌≡◌, ◌⊎◌, Bool, true, false, Option, Some, None, [], is_err, length, slice_get, Result}
 use Rattle.tau_base.specs.declared.value.NoMemory.{NoMemory}
 use Rattle.tau_machine.specs.Accounts.{in_calls, in_worker}
 use Rattle.tau_machine.specs.Worker.{Worker}
@@ -9,11 +9,13 @@ use Rattle.tau_core.specs.declared.state.Load.{Load}
 use Rattle.tau_rule.specs.Role.{Role}
 use Rattle.tau_rule.specs.Rule.{has}
 use Rattle.tau_rule.specs.Steps.{worker_in_share}
+use Rattle.tau_desk.specs.declared.desk.Desk.{Desk}
 use Rattle.tau_desk.specs.Resumes.{RestsWork}
 use Rattle.tau_desk.specs.Seats.{PlainHead, PlainWorkerSeat, Works}
 use Rattle.tau_desk.specs.Shares.{PlainWork}
 use Rattle.tau_crew_facts.specs.Ends.{IsLoose}
 use Rattle.tau_crew_facts.specs.Keeping.{Keeps}
+use Rattle.tau_crew.specs.Ending.{HasRunBack, IsWorkerBack}
 use Rattle.tau_crew.specs.Working.{IsUnjoined, WorkerEnds}
 
 abbrev pub worker_of : Role → Worker
@@ -80,3 +82,25 @@ pub record IsAtStart (l : Load) (h : PlainHead) (w : ℕ) : Type 0 where
   pub calls : (k : ℕ) → in_calls k (calls_of l w) ≤ in_worker k (worker_of role)
   pub raised : role.raised ≡ false
   pub unmarked : (work : PlainWork) → slice_get h.workers w ≡ Some (Some work) → work.mark ≡ None
+
+-- all workers of the desk are back, as the ending wants them
+pub record AllAreBack (l : Load) (h h' : PlainHead) (short : Bool) : Type 0 where
+  pub all : WorkersBack l 0 l.workers h h' short
+  pub back : (w : ℕ) → w < l.workers → IsWorkerBack h' w
+  pub ran : short ≡ false → (w : ℕ) → w < l.workers → IsAtStart l h w → HasRunBack l h' w
+
+-- the same of a head in its place
+abbrev pub AreBackIn : Load → Option PlainHead → Option PlainHead → Bool → Type 0
+AreBackIn l None p short = Unit {0}
+AreBackIn l (Some h) p short = (h' : PlainHead) × (p ≡ Some h') × AllAreBack l h h' short
+
+-- a head of this desk, with workers that are ready
+pub record IsHeadReady (desk : Desk) (h : PlainHead) : Type 0 where
+  pub own : h.table_id ≡ desk.table.shared.table_id
+  pub opened : h.me.0.opened ≡ Some desk.table.shared.key.value
+  pub ready : AreReady h 0 desk.table.shared.key.value.load.workers
+
+-- it stands there
+abbrev pub IsPlaced : Desk → Option PlainHead → Type 0
+IsPlaced desk None = ⊥
+IsPlaced desk (Some h) = IsHeadReady desk h

@@ -16,6 +16,7 @@ mod shared;
 mod together;
 mod told;
 mod work_all;
+mod work_beside;
 mod worker;
 
 pub use anchor::Marks;

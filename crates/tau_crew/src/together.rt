@@ -123,7 +123,12 @@ fn tell<R: Wait, K: Sink, G: Gate>(
 }
 
 /// The managers, and the clerk beside them. Where no thread can be made the clerk comes last.
-fn flush_and_tell<R: Threads + Wait + Sync, D: Disk + Send, K: Sink + Send, G: Gate + Sync>(
+pub(crate) fn flush_and_tell<
+    R: Threads + Wait + Sync,
+    D: Disk + Send,
+    K: Sink + Send,
+    G: Gate + Sync,
+>(
     rt: &R,
     desk: &Desk,
     crew: &Crew,
