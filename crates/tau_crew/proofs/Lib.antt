@@ -18,3 +18,4 @@ pub mod EndNone
 pub mod EndDone
 pub mod EndTells
 pub mod EndPasses
+pub mod WorkStays

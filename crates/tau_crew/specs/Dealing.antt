@@ -4,6 +4,7 @@ use Rattle.atomic_table.specs.Seated.{TableId}
 use Rattle.tau_disk.specs.declared.disk.Disk.{Ghosts}
 use Rattle.tau_stream.specs.declared.writer.Writer.{Writer}
 use Rattle.tau_core.specs.State.{Plain}
+use Rattle.tau_core.specs.declared.state.Load.{Load}
 use Rattle.tau_rule.specs.First.{role_at}
 use Rattle.tau_rule.specs.Rule.{clerk_role, has, manager_role}
 use Rattle.tau_step.specs.RunTold.{IsNew}
@@ -23,6 +24,11 @@ pub record IsDealing (first : Plain) (table : TableId) (k : ℕ) (h : PlainHead)
   pub seen : h.seen ≡ first.load.opening.ends
   pub there : (j : ℕ) → k ≤ j → j < first.load.streams → HasFirst first j h
   pub clerk : (h.clerk ≡ true) × (has (clerk_role first.load) h.me.0 ≡ Some (role_at first (clerk_role first.load)))
+
+-- the workers' roles, and what they have of their own, are as they were
+pub record KeepsWorkers (l : Load) (h h' : PlainHead) : Type 0 where
+  pub works : h'.workers ≡ h.workers
+  pub roles : (w : ℕ) → w < l.workers → has w h'.me.0 ≡ has w h.me.0
 
 module _ {D : Type 0} {G : Ghosts D} (first : Plain) (table : TableId) (bases : ℕ → List ℕ) where
   -- the manager of stream j, which has these bytes and this writer, and has done nothing

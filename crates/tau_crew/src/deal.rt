@@ -3,7 +3,7 @@ ghost use Rattle.std.specs.Prelude.{false, ◌≡◌, ◌+◌, ◌-◌, ◌<◌,
 ghost use Rattle.tau_step.specs.Whole.{IsBegun};
 ghost use Rattle.tau_desk.specs.Ends.{IsClerkSplit};
 ghost use Rattle.tau_crew.specs.Clerking.{IsToldSoFar, Tells};
-ghost use Rattle.tau_crew.specs.Dealing.{AreDealt, DealsOne, IsDealing};
+ghost use Rattle.tau_crew.specs.Dealing.{AreDealt, DealsOne, IsDealing, KeepsWorkers};
 ghost use Rattle.tau_crew.specs.Together.{IsClerkReady};
 
 use crate::anchor::Marks;
@@ -30,6 +30,7 @@ fn deal_manager<D: Disk>(
     requires some { 0 < length writers.old.items }
     requires room { vec_len jobs.old < vec_capacity jobs.old }
     ensures dealing { IsDealing desk.now.table.shared.key.value desk.now.table.shared.table_id (stream + 1) head.new }
+    ensures workers { KeepsWorkers desk.now.table.shared.key.value.load head.old head.new }
     ensures dealt { DealsOne desk.now.table.shared.key.value desk.now.table.shared.table_id stream writers.old.items writers.new.items jobs.old.items jobs.new.items }
     ensures room { vec_capacity jobs.new ≡ vec_capacity jobs.old }
 {
@@ -60,6 +61,7 @@ pub(crate) fn deal_managers<D: Disk>(
     requires writers { length writers.old.items ≡ desk.now.streams }
     requires room { (jobs.old.items ≡ []) × (desk.now.streams ≤ vec_capacity jobs.old) }
     ensures dealing { IsDealing desk.now.table.shared.key.value desk.now.table.shared.table_id desk.now.streams head.new }
+    ensures workers { KeepsWorkers desk.now.table.shared.key.value.load head.old head.new }
     ensures dealt { (bases : ℕ → List ℕ) → IsBegun bases writers.old.items desk.now.table.shared.key.value.load.opening → AreDealt desk.now.table.shared.key.value desk.now.table.shared.table_id bases writers.old.items desk.now.streams jobs.new.items }
     ensures writers { writers.new.items ≡ [] }
 {

@@ -1,6 +1,7 @@
 use Rattle.std.proofs.Common.{◌<◌, ◌∙◌, false, refl, arith}
 use Rattle.tau_crew.specs.declared.manager.ManagerJob.{ManagerJob}
 use Rattle.tau_crew.proofs.Dealing.{dealing-more, dealt, first-got, first-removed}
+use Rattle.tau_crew.proofs.WorkStays.{workers-stay}
 use Rattle.tau_crew.proofs.deal.deal_manager.Goals as goal
 
 pub returns-clause-dealing : goal.returns-clause-dealing
@@ -29,3 +30,6 @@ returns-clause-dealt g c =
           dealt g.met.D.Disk.seen_now c.args.desk.now.table.shared.key.value c.args.desk.now.table.shared.table_id bases c.args.stream c.args.head.now c.split_manager-seat.new.head c.remove-writer.result job c.requires.dealing there c.split_manager-seat.ensures.split c.agrees.ensures
           new long refl refl (c.durable-last.ensures ∙ new.durable) refl refl;
     }
+
+pub returns-clause-workers : goal.returns-clause-workers
+returns-clause-workers g c = workers-stay c.args.desk.now.table.shared.key.value.load c.args.stream c.args.head.now c.split_manager-seat.new.head c.split_manager-seat.result c.split_manager-seat.ensures.split

@@ -1,6 +1,7 @@
 use Rattle.std.proofs.Common.{ℕ, ◌<◌, ◌≡◌, ◌∙◌, ap, drop, subst, arith}
 use Rattle.tau_crew.specs.Dealing.{AreDealt}
 use Rattle.tau_crew.proofs.Dealing.{deals-more, drop-more, one-longer}
+use Rattle.tau_crew.proofs.WorkStays.{workers-then}
 use Rattle.tau_crew.proofs.deal.deal_managers.Goals as goal
 
 pub loop-stream-preserved : goal.loop-stream-preserved
@@ -16,6 +17,7 @@ loop-stream-preserved g c =
       c.deal_manager.ensures.room ∙ i.3,
       λ bases b.
           deals-more key c.args.desk.now.table.shared.table_id bases c.args.writers.now.items c.loop-stream.writers.items c.deal_manager.new.writers.items c.loop-stream.stream c.loop-stream.jobs.items c.deal_manager.new.jobs.items b (c.requires.writers ∙ streams) there i.1 (i.4 bases b) one,
+      workers-then key.load c.args.head.now c.loop-stream.head c.deal_manager.new.head i.5 c.deal_manager.ensures.workers,
     )
 
 pub returns-clause-dealt : goal.returns-clause-dealt
