@@ -19,3 +19,4 @@ pub mod EndDone
 pub mod EndTells
 pub mod EndPasses
 pub mod WorkStays
+pub mod WorkPhase

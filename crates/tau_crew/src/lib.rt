@@ -17,6 +17,7 @@ mod together;
 mod told;
 mod work_all;
 mod work_beside;
+mod work_phase;
 mod worker;
 
 pub use anchor::Marks;
