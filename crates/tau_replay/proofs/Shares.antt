@@ -3,7 +3,7 @@ use Rattle.std.proofs.Common.{◌≡◌, ◌≢◌, ℕ, zero, suc, ◌+◌, ◌
 use Rattle.std.specs.Prelude.{slice_get, if◌then◌else◌}
 use Rattle.std.proofs.lemmas.Bool.Decides.{nat_tests}
 use Rattle.tau_pool.specs.declared.item.Job.{Job}
-use Rattle.tau_replay.specs.Rule.{Hand, weigh, idle_from, Names, rest_of, front_of, in_hand, first_now, OthersStay}
+use Rattle.tau_replay.specs.Rule.{Hand, weigh, idle_from, Names, rest_of, front_of, in_hand, hands_now, IsNoneOf, OthersStay}
 
 -- each worker counts for one
 abbrev pub one : ℕ → ℕ
@@ -38,11 +38,19 @@ at_most_one w k (suc n) = by_test (at_most_one w (suc k) n) (k == w) refl
     by_test more true e = let same : k ≡ w = grind (arith, nat_tests) in let o = same_counts w k same in let r = none_above w (suc k) n (omega (arith, same)) in omega arith
     by_test more false e = let o : this w k ≡ 0 = grind (arith, nat_tests) in omega arith
 
--- names stay where no worker of them changes
-pub names_stay : (w : ℕ) (old new : List (Option Job)) (xs : List Hand) → OthersStay w old new → weigh (this w) xs ≡ 0 → Names old xs → Names new xs
-names_stay w old new [] others none names = tt
-names_stay w old new (x ∷ xs) others none names =
-    (others x.0 (is_other w x.0 (omega (arith, none))) ∙ names.0, names_stay w old new xs others (omega (arith, none)) names.1)
+-- a worker that does not count among these is none of them
+none_of : (w : ℕ) (xs : List Hand) → weigh (this w) xs ≡ 0 → IsNoneOf w xs
+none_of w [] none = tt
+none_of w (x ∷ xs) none = (is_other w x.0 (omega (arith, none)), none_of w xs (omega (arith, none)))
+
+-- names stay where no worker of them is one of those that change
+pub names_stay : (mine : List Hand) (old new : List (Option Job)) (xs : List Hand) → OthersStay mine old new → ((w : ℕ) → 1 ≤ weigh (this w) xs → weigh (this w) mine ≡ 0) → Names old xs → Names new xs
+names_stay mine old new [] others apart names = tt
+names_stay mine old new (x ∷ xs) others apart names =
+    let here : this x.0 x.0 ≡ 1 = same_counts x.0 x.0 refl in (
+      others x.0 (none_of x.0 mine (apart x.0 (omega (arith, here)))) ∙ names.0,
+      names_stay mine old new xs others (λ w le. apart w (omega (arith, le))) names.1,
+    )
 
 pub names_append : (hands : List (Option Job)) (xs ys : List Hand) → Names hands xs → Names hands ys → Names hands (xs ++ ys)
 names_append hands [] ys a b = b
@@ -60,13 +68,9 @@ pub weigh_parts : (h : ℕ → ℕ) (xs : List Hand) → weigh h (rest_of xs) + 
 weigh_parts h [] = refl
 weigh_parts h (x ∷ xs) = omega arith
 
-pub weigh_now : (h : ℕ → ℕ) (hands : List (Option Job)) (xs : List Hand) → weigh h (first_now hands xs) ≡ weigh h xs
+pub weigh_now : (h : ℕ → ℕ) (hands : List (Option Job)) (xs : List Hand) → weigh h (hands_now hands xs) ≡ weigh h xs
 weigh_now h hands [] = refl
-weigh_now h hands (x ∷ xs) = refl
-
-pub length_now : (hands : List (Option Job)) (xs : List Hand) → length (first_now hands xs) ≡ length xs
-length_now hands [] = refl
-length_now hands (x ∷ xs) = refl
+weigh_now h hands (x ∷ xs) = let r = weigh_now h hands xs in omega arith
 
 -- within the list each place has something
 get_some : (xs : List (Option Job)) (w : ℕ) → w < length xs → slice_get xs w ≡ Some (in_hand (slice_get xs w))
@@ -79,10 +83,10 @@ got_within [] w o e = absurd cc
 got_within (x ∷ xs) zero o e = omega arith
 got_within (x ∷ xs) (suc w) o e = let r = got_within xs w o e in omega arith
 
--- the first worker's hand is as it is now, and the others' stay
-pub names_now : (old new : List (Option Job)) (w : ℕ) (o : Option Job) (xs : List Hand) → length old ≡ length new → OthersStay w old new → weigh (this w) xs ≡ 0 → Names old ((w, o) ∷ xs) → Names new (first_now new ((w, o) ∷ xs))
-names_now old new w o xs long others none names =
-    (get_some new w (let l = got_within old w o names.0 in omega (arith, l, long)), names_stay w old new xs others none names.1)
+-- the workers' hands are as they are now
+pub names_now : (old new : List (Option Job)) (xs : List Hand) → length old ≡ length new → Names old xs → Names new (hands_now new xs)
+names_now old new [] long names = tt
+names_now old new (x ∷ xs) long names = (get_some new x.0 (let l = got_within old x.0 x.1 names.0 in omega (arith, l, long)), names_now old new xs long names.1)
 
 abbrev no_jobs : ℕ → List (Option Job)
 no_jobs n = Rattle.std.specs.Prelude.replicate n None

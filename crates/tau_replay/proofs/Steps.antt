@@ -1,5 +1,5 @@
 -- Each step keeps the rule.
-use Rattle.std.proofs.Common.{◌≡◌, ◌≢◌, ◌⊎◌, ℕ, zero, suc, ◌+◌, ◌<◌, ◌≤◌, ◌==◌, Bool, true, false, List, [], ◌∷◌, ◌++◌, length, set, Some, None, refl, sym, ap, ◌∙◌, subst, ⊎_elim, inl, inr, arith, length-set, length-append}
+use Rattle.std.proofs.Common.{◌≡◌, ◌≢◌, ◌⊎◌, ℕ, zero, suc, ◌<◌, ◌≤◌, ◌==◌, Bool, true, false, List, [], ◌∷◌, ◌++◌, length, set, Some, None, refl, sym, ap, ◌∙◌, subst, ⊎_elim, inl, inr, arith, length-set, length-append}
 use Rattle.std.specs.Prelude.{slice_index, replicate}
 use Rattle.std.proofs.lemmas.Bool.Decides.{nat_tests}
 use mathlib.Core.Option.{some, none, some-ne-none, some-injective}
@@ -13,9 +13,9 @@ use Rattle.atomic_table.proofs.Lists.{set_again, set_else}
 use Rattle.tau_scan.specs.declared.log.Log.{Log}
 use Rattle.tau_replay.specs.declared.view.View.{View}
 use Rattle.tau_replay.specs.Sound.{IsSound}
-use Rattle.tau_replay.specs.Rule.{Hand, Boxed, Slot, hands_of, weigh, total, idle_from, Names, AtHome, Holder, IsOut, Fits, Kept, first_view, rest_of, without_first, first_alone, both, spent, holding, first_now, given, OthersStay, MayGive, Sat, IsIdle, took, gave}
+use Rattle.tau_replay.specs.Rule.{Boxed, Slot, hands_of, weigh, total, idle_from, Names, AtHome, Holder, IsOut, Fits, Kept, first_view, without_first, first_alone, both, spent, holding, given, OthersStay, MayGive, Sat, IsIdle, took, gave}
 use Rattle.tau_replay.proofs.Sounds.{sound_sixteen}
-use Rattle.tau_replay.proofs.Totals.{weigh_append, total_set, total_snoc, total_two, total_only, each_set, each_snoc, each_end, inside, there}
+use Rattle.tau_replay.proofs.Totals.{weigh_append, total_set, total_snoc, total_two, each_set, each_snoc, each_end, inside, there}
 use Rattle.tau_replay.proofs.Shares.{one, this, weigh_one, at_most_one, names_stay, names_append, names_rest, names_front, names_now, names_idle, weigh_parts, weigh_now}
 
 abbrev St : Type 0
@@ -151,19 +151,13 @@ module _ (log : Log) (id : ℕ) (v : View) (b : Boxed) (may : MayGive v b) where
       × Kept log (stepped s 0 0 id ((0, Some b) ∷ []) w a)
       × gave (step 1 0 0 0 none) (v, (0, Some b) ∷ []) n (w, carried_after ((0, Some b) ∷ []) a)
 
-  -- no view but this one has the worker
-  alone : (s : St) (r : Kept log s) → get_elem? s.views id ≡ some v → weigh (this may.worker) (rest_of v.hands) ≡ 0
-      × ((j : ℕ) (u : View) → j ≢ id → get_elem? s.views j ≡ some u → weigh (this may.worker) u.hands ≡ 0)
-  alone s r at =
-      let most = at_most_one may.worker 0 16 in
-      let all = r.each_once (this may.worker) in
-      let mine : weigh (this may.worker) v.hands ≡ 1 + weigh (this may.worker) (rest_of v.hands) = ap (weigh (this may.worker)) may.first ∙ here may.worker (rest_of v.hands) in (
-        (let t = Rattle.tau_replay.proofs.Totals.total_one (workers (this may.worker)) s.views id v at in omega (arith, t, mine, all, most)),
-        (λ j u n e. let t = total_two (workers (this may.worker)) s.views j id u v n e at in omega (arith, t, mine, all, most)),
-      )
-    where
-      here : (w : ℕ) (xs : List Hand) → this w w + weigh (this w) xs ≡ 1 + weigh (this w) xs
-      here w xs = grind (arith, nat_tests)
+  -- no other view has a worker of this one
+  alone : (s : St) (r : Kept log s) → get_elem? s.views id ≡ some v → (j : ℕ) (u : View) → j ≢ id → get_elem? s.views j ≡ some u → (w : ℕ) → 1 ≤ weigh (this w) u.hands → weigh (this w) v.hands ≡ 0
+  alone s r at j u n e w some_of =
+      let most = at_most_one w 0 16 in
+      let all = r.each_once (this w) in
+      let t = total_two (workers (this w)) s.views j id u v n e at in
+      omega (arith, t, all, most, some_of)
 
   gives_out : (n : ℕ) (s : St) (r : Kept log s) (k : ℕ) → id ≡ k → (out : IsOut r.now k s) → get_elem? s.views id ≡ some v → GivesAt n (state (out.word ∷ []) (none ∷ []) s.views)
   gives_out n s r k same out at =
@@ -171,14 +165,12 @@ module _ (log : Log) (id : ℕ) (v : View) (b : Boxed) (may : MayGive v b) where
       let mine = r.fits id v at in
       let held : Some (hands_of r.now) ≡ Some may.old = sym ((out.holder id v at).0 same) ∙ may.held in
       let old : hands_of r.now ≡ may.old = cc in
-      let some_worker : 0 < length v.hands = (let l = ap length may.first in omega (arith, l)) in
+      let some_worker : 0 < length v.hands = may.some in
       let is_log : v.log ≡ log = mine.of_log some_worker in
       let sound : IsSound log b.value.replay = subst (λ l. IsSound l b.value.replay) is_log may.sound in
-      let others : OthersStay may.worker (hands_of r.now) (hands_of b) = subst (λ hs. OthersStay may.worker hs (hands_of b)) (sym old) may.others in
+      let others : OthersStay v.hands (hands_of r.now) (hands_of b) = subst (λ hs. OthersStay v.hands hs (hands_of b)) (sym old) may.others in
       let long : length (hands_of r.now) ≡ length (hands_of b) = sound_sixteen log r.now.value.replay r.sound ∙ sym (sound_sixteen log b.value.replay sound) in
-      let single = alone s r at in
-      let names : Names (hands_of r.now) ((may.worker, may.job) ∷ rest_of v.hands) = subst (Names (hands_of r.now)) may.first mine.named in
-      let now : Names (hands_of b) (first_now (hands_of b) v.hands) = subst (λ xs. Names (hands_of b) (first_now (hands_of b) xs)) (sym may.first) (names_now (hands_of r.now) (hands_of b) may.worker may.job (rest_of v.hands) long others single.0 names) in (
+      let now : Names (hands_of b) (given v b).hands = names_now (hands_of r.now) (hands_of b) v.hands long mine.named in (
         w,
         gives,
         tt,
@@ -188,7 +180,7 @@ module _ (log : Log) (id : ℕ) (v : View) (b : Boxed) (may : MayGive v b) where
           place = inl (record { words = refl; homes = refl; free = each_set (λ j u. u.held ≡ None) s.views id w (λ j u n e. (out.holder j u e).1 (λ q. n (q ∙ sym same))) refl });
           each_once = λ h. (let t = total_set (workers h) s.views id v w at in let p = r.each_once h in let a = weigh_now h (hands_of b) v.hands in omega arith);
           fits = each_set (λ j u. Fits log (hands_of b) u) s.views id w
-              (λ j u n e. let theirs = r.fits j u e in record { of_log = theirs.of_log; spent = theirs.spent; named = names_stay may.worker (hands_of r.now) (hands_of b) u.hands others (single.1 j u n e) theirs.named })
+              (λ j u n e. let theirs = r.fits j u e in record { of_log = theirs.of_log; spent = theirs.spent; named = names_stay v.hands (hands_of r.now) (hands_of b) u.hands others (alone s r at j u n e) theirs.named })
               (record { of_log = λ _. is_log; spent = λ _. refl; named = now });
         },
         (λ n' e'. let en : b ≡ n' = ap (lead b) e' in ap (λ (z : Boxed). (given v z, [])) en),

@@ -114,25 +114,29 @@ abbrev pub in_hand : Option (Option Job) → Option Job
 in_hand None = None
 in_hand (Some o) = o
 
-abbrev pub first_now : List (Option Job) → List Hand → List Hand
-first_now hands [] = []
-first_now hands (x ∷ xs) = (x.0, in_hand (slice_get hands x.0)) ∷ xs
+-- what each of these workers has in flight now
+abbrev pub hands_now : List (Option Job) → List Hand → List Hand
+hands_now hands [] = []
+hands_now hands (x ∷ xs) = (x.0, in_hand (slice_get hands x.0)) ∷ hands_now hands xs
 
 abbrev pub given : View → Boxed → View
-given v b = view v.log (first_now (hands_of b) v.hands) None
+given v b = view v.log (hands_now (hands_of b) v.hands) None
 
--- of each worker but this one what is in flight stays
-abbrev pub OthersStay : ℕ → List (Option Job) → List (Option Job) → Type 0
-OthersStay w old new = (v : ℕ) → v ≢ w → slice_get new v ≡ slice_get old v
+-- the worker is none of these
+abbrev pub IsNoneOf : ℕ → List Hand → Type 0
+IsNoneOf w [] = Unit {0}
+IsNoneOf w (x ∷ xs) = (x.0 ≢ w) × IsNoneOf w xs
 
--- the seat took these hands, steps for this worker first, and may give this part back
+-- of each worker but these what is in flight stays
+abbrev pub OthersStay : List Hand → List (Option Job) → List (Option Job) → Type 0
+OthersStay xs old new = (w : ℕ) → IsNoneOf w xs → slice_get new w ≡ slice_get old w
+
+-- the seat took these hands, and may give this part back
 pub record MayGive (v : View) (b : Boxed) : Type 0 where
-  pub worker : ℕ
-  pub job : Option Job
-  pub first : v.hands ≡ (worker, job) ∷ rest_of v.hands
+  pub some : 0 < length v.hands
   pub old : List (Option Job)
   pub held : v.held ≡ Some old
-  pub others : OthersStay worker old (hands_of b)
+  pub others : OthersStay v.hands old (hands_of b)
   pub sound : IsSound v.log b.value.replay
 
 abbrev pub Sat : Type 0

@@ -1,6 +1,5 @@
 //! Rows that a worker reads as it starts a record, in the same visit to the lock. They are a guess: what the call then
 //! wants and is not among them is read in a visit of its own.
-use crate::visit::Order;
 use tau_base::{Call, Key, Value};
 use tau_model::SerialStore;
 use tau_pool::Job;
@@ -84,14 +83,10 @@ fn read_job(log: &Log, store: &SerialStore, job: Job, ahead: &mut Vec<(Key, Valu
     }
 }
 
-/// Reads the rows that a worker's next record will want.
-pub fn read_ahead(log: &Log, store: &SerialStore, order: Order, ahead: &mut Vec<(Key, Value)>) {
+/// Reads the rows that a record will want.
+pub fn read_ahead(log: &Log, store: &SerialStore, job: Job, ahead: &mut Vec<(Key, Value)>) {
     ahead.clear();
-    match order {
-        Order::Redo { job, .. } => read_job(log, store, job, ahead),
-        Order::Sleep { .. } => {}
-        Order::Stop => {}
-    }
+    read_job(log, store, job, ahead);
 }
 
 /// The value of a row among those that were read.

@@ -3,11 +3,13 @@
 
 mod ahead;
 mod alone;
+mod calls;
 mod laws;
 mod lock;
 mod outcome;
 mod redo;
 mod replay;
+mod task;
 mod threads;
 mod turns;
 mod view;

@@ -156,7 +156,7 @@ impl Lock {
         self.lift(seat)
     }
 
-    /// The part comes home. Only what the seat's first worker has in flight may have changed.
+    /// The part comes home. Only what the seat's workers have in flight may have changed.
     pub fn give(&self, seat: &mut Seat, part: Box<Part>)
         requires own { seat.old.table_id ≡ self.now.table.shared.table_id }
         requires held { (seat.old.me.1 ≡ (0, None) ∷ []) × MayGive seat.old.me.0 part }

@@ -5,9 +5,9 @@ ghost use Rattle.tau_scan.specs.Reading.{IsLog};
 ghost use Rattle.tau_scan.specs.Taken.{Kept};
 ghost use Rattle.tau_replay.specs.Redone.{IsOrderOf, IsRedone, IsTangledAt};
 ghost use Rattle.tau_replay.specs.Followed.{IsRedoneBy};
-ghost use Rattle.tau_replay.specs.Rule.{IsIdle, idle_from};
+ghost use Rattle.tau_replay.specs.Rule.{IsIdle};
 ghost use Rattle.tau_replay.specs.Sound.{IsSound};
-ghost use Rattle.tau_replay.specs.Working.{IsFor};
+ghost use Rattle.tau_replay.specs.Working.{IsSpare};
 
 use crate::alone::run_alone;
 use crate::lock::Lock;
@@ -23,19 +23,60 @@ use tau_disk::Gate;
 use tau_model::Tables;
 use tau_scan::{Log, ReplayRefusal};
 
-/// Splits the first worker's seat off.
-fn split_first(lock: &Lock, seat: &mut Seat, worker: u8, others: u8) -> Seat
+/// How many hands a worker gets, where those from this one on are left for it and for others.
+fn share(first: u8, others: u8) -> u8
+    requires { first + others < 16 }
+    ensures some { 1 ≤ result }
+    ensures left { first + result + others ≤ 16 }
+{
+    let left = 16 - first;
+    (left / (others + 1)).min(left - others).max(1)
+}
+
+/// Splits the seat of the first hand off.
+fn split_one(lock: &Lock, seat: &mut Seat, first: u8, many: u8) -> Seat
     requires own { seat.old.table_id ≡ lock.now.table.shared.table_id }
-    requires idle { IsIdle seat.old.me × (seat.old.me.0.hands ≡ idle_from worker (16 - worker)) }
-    requires few { (1 ≤ others) × (worker + others < 16) }
+    requires spare { IsSpare first many seat.old.me }
+    requires more { (2 ≤ many) × (first + many ≤ 16) }
     ensures own { (seat.new.table_id ≡ seat.old.table_id) × (result.table_id ≡ seat.old.table_id) }
     ensures of_log { (seat.new.me.0.log ≡ seat.old.me.0.log) × (result.me.0.log ≡ seat.old.me.0.log) }
-    ensures first { IsFor worker None result.me }
-    ensures left { IsIdle seat.new.me × (seat.new.me.0.hands ≡ idle_from (worker + 1) (16 - (worker + 1))) }
+    ensures first { IsSpare first 1 result.me }
+    ensures left { IsSpare (first + 1) (many - 1) seat.new.me }
+{
+    let _ = (first, many);
+    lock.split(seat)
+}
+
+/// Puts the next hand to those of a seat.
+fn put_one(lock: &Lock, seat: &mut Seat, next: Seat, first: u8, many: u8)
+    requires own { (seat.old.table_id ≡ lock.now.table.shared.table_id) × (next.table_id ≡ seat.old.table_id) }
+    requires spare { IsSpare first many seat.old.me × IsSpare (first + many) 1 next.me }
+    requires few { first + many < 16 }
+    ensures own { seat.new.table_id ≡ seat.old.table_id }
+    ensures of_log { seat.new.me.0.log ≡ seat.old.me.0.log }
+    ensures more { IsSpare first (many + 1) seat.new.me }
+{
+    let _ = (first, many);
+    lock.join(seat, next)
+}
+
+/// Splits the seat of the first hands off.
+fn split_first(lock: &Lock, seat: &mut Seat, first: u8, many: u8) -> Seat
+    requires own { seat.old.table_id ≡ lock.now.table.shared.table_id }
+    requires spare { IsSpare first (16 - first) seat.old.me }
+    requires few { (1 ≤ many) × (first + many < 16) }
+    ensures own { (seat.new.table_id ≡ seat.old.table_id) × (result.table_id ≡ seat.old.table_id) }
+    ensures of_log { (seat.new.me.0.log ≡ seat.old.me.0.log) × (result.me.0.log ≡ seat.old.me.0.log) }
+    ensures first { IsSpare first many result.me }
+    ensures left { IsSpare (first + many) (16 - (first + many)) seat.new.me }
     ensures workers { length seat.new.me.0.hands + length result.me.0.hands ≡ length seat.old.me.0.hands }
 {
-    let _ = (worker, others);
-    lock.split(seat)
+    let mut mine = split_one(lock, seat, first, 16 - first);
+    for k in 1..many {
+        let next = split_one(lock, seat, first + k, 16 - (first + k));
+        put_one(lock, &mut mine, next, first, k);
+    }
+    mine
 }
 
 /// Joins a seat to another.
@@ -50,7 +91,7 @@ fn join_seats(lock: &Lock, seat: &mut Seat, other: Seat)
     lock.join(seat, other)
 }
 
-/// A worker, and so many others behind it, side by side.
+/// A worker with the hands from one on that are its share, and so many others behind it, side by side.
 fn crew<R: Threads + Wait + Sync, G: Gate + Sync>(
     rt: &R,
     alloc: Global,
@@ -58,31 +99,45 @@ fn crew<R: Threads + Wait + Sync, G: Gate + Sync>(
     mut seat: Seat,
     log: &Log,
     worker: u8,
+    first: u8,
     others: u8,
     gate: &G,
 ) -> Seat
     requires own { seat.table_id ≡ lock.now.table.shared.table_id }
     requires of_log { seat.me.0.log ≡ log.now }
-    requires idle { IsIdle seat.me × (seat.me.0.hands ≡ idle_from worker (16 - worker)) }
-    requires few { worker + others < 16 }
+    requires spare { IsSpare first (16 - first) seat.me }
+    requires few { (worker + others < 16) × (first + others < 16) }
     ensures own { result.table_id ≡ seat.table_id }
     ensures of_log { result.me.0.log ≡ seat.me.0.log }
     ensures idle { IsIdle result.me × (length result.me.0.hands ≡ length seat.me.0.hands) }
 {
     if others == 0 {
-        return work(rt, alloc, lock, seat, log, worker, gate);
+        return work(rt, alloc, lock, seat, log, worker, first, 16 - first, gate);
     }
-    let mine = split_first(lock, &mut seat, worker, others);
+    let many = share(first, others);
+    let mine = split_first(lock, &mut seat, first, many);
     let (mine, mut seat) = join(
         rt,
         move || -> Seat
-            requires { (mine.table_id ≡ lock.now.table.shared.table_id) × (mine.me.0.log ≡ log.now) × IsFor worker None mine.me }
+            requires { (mine.table_id ≡ lock.now.table.shared.table_id) × (mine.me.0.log ≡ log.now) × IsSpare first many mine.me × (first + many ≤ 16) }
             ensures { (result.table_id ≡ mine.table_id) × IsIdle result.me × (length result.me.0.hands ≡ length mine.me.0.hands) }
-        { work(rt, alloc, lock, mine, log, worker, gate) },
+        { work(rt, alloc, lock, mine, log, worker, first, many, gate) },
         move || -> Seat
-            requires { IsSync R.row × IsSync G.row × (seat.table_id ≡ lock.now.table.shared.table_id) × (seat.me.0.log ≡ log.now) × IsIdle seat.me × (seat.me.0.hands ≡ idle_from (worker + 1) (16 - (worker + 1))) × (1 ≤ others) × (worker + others < 16) }
+            requires { IsSync R.row × IsSync G.row × (seat.table_id ≡ lock.now.table.shared.table_id) × (seat.me.0.log ≡ log.now) × IsSpare (first + many) (16 - (first + many)) seat.me × (1 ≤ others) × (worker + others < 16) × (first + many + others ≤ 16) }
             ensures { (result.table_id ≡ seat.table_id) × (result.me.0.log ≡ seat.me.0.log) × IsIdle result.me × (length result.me.0.hands ≡ length seat.me.0.hands) }
-        { crew(rt, alloc, lock, seat, log, worker + 1, others - 1, gate) },
+        {
+            crew(
+                rt,
+                alloc,
+                lock,
+                seat,
+                log,
+                worker + 1,
+                first + many,
+                others - 1,
+                gate,
+            )
+        },
     );
     join_seats(lock, &mut seat, mine);
     seat
@@ -113,7 +168,7 @@ fn run<R: Threads + Wait + Sync, G: Gate + Sync>(
     let Ok((lock, seat)) = Lock::new(alloc, log, part) else {
         return Err(NoMemory);
     };
-    let seat = crew(rt, alloc, &lock, seat, log, 0, workers - 1, gate);
+    let seat = crew(rt, alloc, &lock, seat, log, 0, 0, workers - 1, gate);
     let part = lock.close(seat);
     if part.refused {
         return Err(NoMemory);

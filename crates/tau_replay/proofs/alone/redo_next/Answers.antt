@@ -3,7 +3,6 @@ use Rattle.std.proofs.Common.{◌≡◌, sym, subst}
 use Rattle.std.specs.Prelude.{Some, None, slice_get}
 use Rattle.tau_pool.specs.declared.item.Job.{Job}
 use Rattle.tau_pool.specs.Pooled.{Pooled, NoneReady}
-use Rattle.tau_replay.proofs.Following.{none_ready}
 use Rattle.tau_replay.proofs.Visits.{sound_turn, set_here}
 use Rattle.tau_replay.proofs.alone.redo_next.Goals as goal
 

@@ -1,6 +1,6 @@
 -- The seat is as it was before it had the turn.
-use Rattle.std.proofs.Common.{subst, sym, ◌∙◌}
-use Rattle.tau_replay.specs.Rule.{Sat, IsIdle, Took}
+use Rattle.std.proofs.Common.{subst, ◌∙◌}
+use Rattle.tau_replay.specs.Rule.{Sat, Took}
 use Rattle.tau_replay.proofs.lock.Lock.take_turn.Goals as goal
 
 pub returns-then-try_take-clause-took : goal.returns-then-try_take-clause-took

@@ -2,7 +2,7 @@
 use Rattle.std.proofs.Common.{ap}
 use Rattle.tau_replay.specs.Rule.{Sat}
 use Rattle.tau_replay.proofs.Crews.{may_give_same, gave_same}
-use Rattle.tau_replay.proofs.worker.row.Goals as goal
+use Rattle.tau_replay.proofs.calls.row.Goals as goal
 
 pub give-requires-clause-held : goal.give-requires-clause-held
 give-requires-clause-held g c =

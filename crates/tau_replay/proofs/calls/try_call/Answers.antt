@@ -5,7 +5,7 @@ use Rattle.tau_base.specs.declared.value.Value.{Value}
 use Rattle.tau_proc.specs.Progress.{Progress, IsRead, ahead, buffered}
 use Rattle.tau_replay.specs.Result.{IsTrying, Executes}
 use Rattle.tau_replay.proofs.Tries.{trying-read, trying-ends}
-use Rattle.tau_replay.proofs.worker.try_call.Goals as goal
+use Rattle.tau_replay.proofs.calls.try_call.Goals as goal
 
 pub wants-preserved : goal.wants-preserved
 wants-preserved g c =

@@ -2,7 +2,7 @@
 use Rattle.std.proofs.Common.{◌≡◌}
 use Rattle.tau_proc.specs.Progress.{wants_left}
 use Rattle.tau_replay.specs.Result.{IsTrying}
-use Rattle.tau_replay.proofs.worker.try_call.Given as goal
+use Rattle.tau_replay.proofs.calls.try_call.Given as goal
 
 abbrev pub invariant-wants : goal.invariant-wants
 invariant-wants g l = record {

@@ -1,0 +1,117 @@
+//! What a hand of a worker has to do outside the lock.
+ghost use Rattle.std.specs.Prelude.{◌≡◌, [], Some, IfOk, replicate};
+ghost use Rattle.tau_replay.specs.Rule.{IsIdle};
+
+use crate::ahead::read_ahead;
+use crate::calls::try_job;
+use crate::lock::Lock;
+use crate::outcome::{Outcome, Scratch};
+use crate::view::Seat;
+use std::alloc::Global;
+use std::marker::Model;
+use std::snapshot::Snapshot;
+use std::sync::Wait;
+use tau_base::{Key, NoMemory, Value};
+use tau_model::SerialStore;
+use tau_pool::Job;
+use tau_scan::Log;
+
+/// The record that a hand has in flight, and how its call was executed outside the lock, if it was.
+#[derive(Drop)]
+pub struct Task {
+    log: Snapshot<Log>,
+    job: Option<Job>,
+    /// Whether the call of the record was executed.
+    tried: bool,
+    scratch: Scratch,
+    /// The rows that were read as the record was started.
+    ahead: Vec<(Key, Value)>,
+}
+
+impl Model for Task {
+    ghost use Rattle.std.specs.Prelude.{◌≡◌, true, Some};
+    ghost use Rattle.tau_proc.specs.Progress.{buffered};
+    ghost use Rattle.tau_pool.specs.declared.item.Job.{Job};
+    ghost use Rattle.tau_scan.specs.declared.log.Log.{Log};
+    ghost use Rattle.tau_replay.specs.Result.{DoesJust};
+
+    ghost Value = { Log };
+
+    ghost view = { λ t. t.log.value };
+
+    ghost invariant = { λ t. t.tried ≡ true → (job : Job) → t.job ≡ Some job → DoesJust t.log.value job t.scratch.reads.items (buffered t.scratch.machine) };
+}
+
+impl Task {
+    /// Of a hand with nothing in flight. It takes no memory.
+    pub fn new(alloc: Global, log: &Log) -> Task
+        ensures { result ≡ log.now }
+    {
+        Task {
+            log: Snapshot::of(log),
+            job: None,
+            tried: false,
+            scratch: Scratch::new(alloc),
+            ahead: Vec::new(alloc),
+        }
+    }
+
+    /// The hand has finished its record.
+    pub fn rest(&mut self)
+        ensures { self.new ≡ self.old }
+    {
+        self.tried = false;
+        self.job = None;
+    }
+
+    /// The hand has started this record.
+    pub fn begin(&mut self, log: &Log, store: &SerialStore, job: Job)
+        ensures { self.new ≡ self.old }
+    {
+        self.tried = false;
+        self.job = Some(job);
+        read_ahead(log, store, job, &mut self.ahead);
+    }
+
+    /// Executes the record's call outside the lock, if it has one. Whether the hand has a record.
+    pub fn redo<R: Wait>(&mut self, rt: &R, lock: &Lock, seat: &mut Seat, log: &Log) -> bool
+        requires of_log { self.old ≡ log.now }
+        requires own { seat.old.table_id ≡ lock.now.table.shared.table_id }
+        requires idle { IsIdle seat.old.me }
+        ensures same { self.new ≡ self.old }
+        ensures own { seat.new.table_id ≡ seat.old.table_id }
+        ensures seat { seat.new.me ≡ seat.old.me }
+    {
+        let Some(job) = self.job else {
+            return false;
+        };
+        self.tried = try_job(rt, lock, seat, log, job, &self.ahead, &mut self.scratch);
+        true
+    }
+
+    /// What is used of it at the finish of a record.
+    pub fn outcome(&self, log: &Log, job: Job) -> Outcome<'_>
+        requires of_log { self.now ≡ log.now }
+        ensures { (result.log.value ≡ log.now) × (result.job ≡ job) }
+    {
+        if self.tried && self.job == Some(job) {
+            Outcome::of(log, job, &self.scratch)
+        } else {
+            Outcome::anew(log, job)
+        }
+    }
+}
+
+/// So many hands with nothing in flight.
+pub fn tasks_of(alloc: Global, log: &Log, many: u8) -> Result<Vec<Task>, NoMemory>
+    ensures { IfOk result (λ tasks. tasks.items ≡ replicate many log.now) }
+{
+    let mut tasks = Vec::new(alloc);
+    for _ in 0..many {
+        match tasks.push(Task::new(alloc, log)) {
+            Ok(()) => {}
+            Err(_) => return Err(NoMemory),
+        }
+    }
+    Ok(tasks)
+}
