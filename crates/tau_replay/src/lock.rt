@@ -12,8 +12,9 @@ use std::sync::Wait;
 use std::sync::atomic::AtomicU64;
 use tau_scan::Log;
 
-/// How often a worker looks for the turn before it sleeps: longer than the others mostly keep it.
-const LOOKS: u64 = 200;
+/// How often a worker looks for the turn before it sleeps: far longer than the others mostly keep it, since for one that
+/// sleeps each turn that is given back costs a call of the system, and then others sleep too.
+const LOOKS: u64 = 5_000;
 
 /// One recovery, of which one seat at a time has the turn. The word is 0 where it is free, and 2 where somebody may wait.
 pub struct Lock {
