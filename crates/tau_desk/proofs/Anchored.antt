@@ -38,7 +38,7 @@ lv-long [] = omega arith
 lv-long (x ∷ lv) = (let rest = lv-long lv in let all = length-append (to_be_bytes w64 x) (flat_map (to_be_bytes w64) lv) in omega (arith, rest, all))
 
 -- the record of an anchor is short
-anchor-long : (n : ℕ) (lv bytes : List ℕ) → length lv ≤ 16 → Spells One n [] false (entry.Anchor lv) bytes → (1 ≤ length bytes) × (length bytes ≤ MAX_ANCHOR)
+pub anchor-long : (n : ℕ) (lv bytes : List ℕ) → length lv ≤ 16 → Spells One n [] false (entry.Anchor lv) bytes → (1 ≤ length bytes) × (length bytes ≤ MAX_ANCHOR)
 anchor-long n lv bytes few s =
     let fields : List ℕ = flat_map (to_be_bytes w64) lv in
     let text : length bytes ≡ 1 + length (to_be_bytes w32 (5 + length fields) ++ fields) = (let e = ap (length {A = ℕ}) s.text in omega (arith, e)) in

@@ -337,3 +337,7 @@ fresh-short n text o f few j =
     let low = at-most n (catalogue_size text) j in
     let long : catalogue_size text ≡ suc (suc (suc (suc (suc (length text))))) = refl in
     omega (arith, e, low, long, few)
+
+-- no anchor of its own waits with a manager
+pub none-own : (origin : Plain) → Opened origin.load origin → (j : ℕ) (s : PlainStream) → slice_get origin.streams j ≡ Some s → s.own.pieces ≡ []
+none-own origin q j s e = none-paired (IsPieceOf origin.load (anchors_at (core_of origin nothing))) s.own.pieces (q.stands.own j s e)

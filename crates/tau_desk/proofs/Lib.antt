@@ -34,3 +34,4 @@ pub mod WorkerReading
 pub mod WorkerUndoes
 pub mod ResumeLowest
 pub mod ResumeSplits
+pub mod OwnCount

@@ -1,5 +1,8 @@
 -- What is asked of the head.
-use Rattle.std.specs.Prelude.{ℕ, ◌≡◌, Option, Some, None, List, slice_get}
+use Rattle.std.specs.Prelude.{ℕ, ◌≡◌, Option, Some, None, List, length, slice_get}
+use Rattle.std.specs.List.{filter}
+use Rattle.tau_base.specs.Vectors.{covers}
+use Rattle.tau_model.specs.declared.committed.Committed.{Committed}
 use Rattle.tau_desk.specs.Shares.{PlainWork}
 
 -- nothing is out
@@ -13,3 +16,7 @@ IsIdle (Some o) = o.txn.hand ≡ None
 
 abbrev pub AreIdle : List (Option PlainWork) → Type 0
 AreIdle works = (w : ℕ) (o : Option PlainWork) → slice_get works w ≡ Some o → IsIdle o
+
+-- how many of these calls the positions cover
+abbrev pub covered_calls : List ℕ → List Committed → ℕ
+covered_calls positions calls = length (filter (λ (call : Committed). covers positions call.lv) calls)

@@ -20,7 +20,7 @@ use Rattle.tau_core.specs.State.{Plain}
 use Rattle.tau_rule.specs.Role.{Clerking, Managed, Managing, Role, Share, Working}
 use Rattle.tau_rule.specs.Knows.{Knows}
 use Rattle.atomic_table.specs.Table.{Step}
-use Rattle.tau_rule.specs.Rule.{IsRole, Meets, Now, anchor_part, clerk_role, has, manager_role, outbox_part, part_count}
+use Rattle.tau_rule.specs.Rule.{IsRole, Meets, Now, Sees, anchor_part, clerk_role, has, manager_role, outbox_part, part_count}
 use Rattle.tau_rule.specs.Steps.{Agrees, Sat, first_role, handed, shard_in}
 use Rattle.tau_rule.specs.Anchoring.{anchored}
 use Rattle.tau_rule.specs.Boxes.{BoxOf, box_in, gathered_by}
@@ -214,13 +214,14 @@ pub record SeesOn (m m' : Sat) (seen seen' : List ℕ) : Type 0 where
   pub wide : length seen' ≡ length seen
   pub knows : m' ≡ (record m.0 { seen = m'.0.seen }, m.1)
 
--- at a state with which the seat agrees the stream was placed up to there
+-- at a state with which all that the seat knows agrees the stream was placed up to there
 pub record PlacedTo (origin : Plain) (v : Knows) (j upto : ℕ) : Type 0 where
   pub state : Now
   pub meets : Meets origin state
+  pub sees : Sees origin state v
   pub roles : (u : ℕ) (r : Role) → has u v ≡ Some r → IsRole origin.load u r state
   pub end : slice_index state.core.ends j ≡ upto
 
--- the manager of a stream has read its placed end
+-- a seat has read the placed end of a stream
 abbrev pub saw_end : Step (Option Part) → Sat → ℕ → Sat → Type 0
 saw_end st m found m' = (m' ≡ m) × ((origin : Plain) → m.0.opened ≡ Some origin → (j : ℕ) → j < origin.load.streams → st.word ≡ 8 * (part_count origin.load + j) → PlacedTo origin m.0 j found)

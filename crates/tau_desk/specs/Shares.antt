@@ -1,11 +1,12 @@
 -- What an actor has of its own at run time, and how it is what its seat knows.
-use Rattle.std.specs.Prelude.{ℕ, ◌+◌, ◌<◌, ◌≤◌, ◌≡◌, is_some, true, false, Option, Some, None, List, ◌++◌, length}
+use Rattle.std.specs.Prelude.{ℕ, ◌+◌, ◌<◌, ◌≤◌, ◌≡◌, is_some, true, false, Option, Some, None, List, [], ◌∷◌, ◌++◌, length}
 use Rattle.tau_base.specs.declared.limits.TheConstants.{MAX_LSN}
 use Rattle.tau_model.specs.declared.committed.Committed.{Committed}
 use Rattle.tau_model.specs.History.{Member}
 use Rattle.tau_machine.specs.Hands.{Hand}
 use Rattle.tau_machine.specs.Worker.{Worker, begun}
-use Rattle.tau_outbox.specs.Pieces.{PlainOutbox}
+use Rattle.tau_outbox.specs.Pieces.{PlainOutbox, bytes_of, end_of}
+use Rattle.tau_outbox.specs.declared.Piece.{Piece}
 use Rattle.tau_txn.specs.Txn.{PlainTxn, RunsBy, hand_in, has_joined}
 use Rattle.tau_txn.specs.Next.{next_action}
 use Rattle.tau_txn.specs.declared.action.Action.TheVariants as action
@@ -98,3 +99,14 @@ pub record IsStock (l : Load) (j : ℕ) (role : Role) (o : PlainStock) : Type 0 
   pub gathered : managed.gathered ≡ o.gathered
   pub small : o.gathered < MAX_LSN
   pub wide : (a : List ℕ) → Member a o.anchors → length a ≡ l.streams
+
+-- none of these records is empty
+abbrev pub HaveBytes : List Piece → Type 0
+HaveBytes [] = Unit {0}
+HaveBytes (p ∷ ps) = (1 ≤ length p.bytes) × HaveBytes ps
+
+-- these records have so many bytes, none is empty, and the last one ends no earlier than that
+pub record AreCounted (count : ℕ) (pieces : List Piece) : Type 0 where
+  pub all : count ≡ length (bytes_of pieces)
+  pub each : HaveBytes pieces
+  pub within : count ≤ end_of 0 pieces

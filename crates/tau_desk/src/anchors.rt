@@ -1,5 +1,6 @@
 //! A worker looks how far its stream is persisted, and reads the published anchor of it.
-ghost use Rattle.std.specs.Prelude.{◌≡◌, ◌≤◌, ◌<◌, Some, slice_index, slice_set};
+ghost use Rattle.std.specs.Prelude.{◌≡◌, ◌≤◌, ◌<◌, ◌%◌, Some, length, slice_index, slice_set};
+ghost use Rattle.tau_base.specs.declared.limits.TheConstants.{MAX_LSN};
 ghost use Rattle.tau_rule.specs.Positions.{sees_to};
 ghost use Rattle.tau_txn.specs.Next.{next_action};
 ghost use Rattle.tau_txn.specs.declared.action.Action.TheVariants as action;
@@ -38,5 +39,14 @@ impl WorkerSeat {
         desk.give_read(&mut self.seat, self.worker, part, number, lv);
         self.anchor = number;
         self.anchor_lv = read;
+    }
+
+    /// The position of the worker's own stream in the anchor that the seat read last, 0 if it has read none.
+    pub fn anchored(&self) -> u64
+        ensures same { result ≡ slice_index self.now.read.1 (self.now.worker % length self.now.read.1) }
+        ensures small { result < MAX_LSN }
+    {
+        let stream = self.worker as usize % self.anchor_lv.width();
+        self.anchor_lv.get(stream)
     }
 }

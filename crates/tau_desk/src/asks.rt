@@ -1,11 +1,15 @@
 //! What is asked of the head and of a manager's seat.
-ghost use Rattle.std.specs.Prelude.{◌≡◌, ◌<◌, Some, None, true, false, slice_get};
+ghost use Rattle.std.specs.Prelude.{◌≡◌, ◌<◌, ◌≤◌, [], Some, None, true, false, length, slice_get};
 ghost use Rattle.tau_base.specs.declared.limits.TheConstants.{MAX_LSN};
-ghost use Rattle.tau_desk.specs.Asks.{AreIdle, AreThere, IsIdle};
+ghost use Rattle.tau_desk.specs.Asks.{AreIdle, AreThere, IsIdle, covered_calls};
 ghost use Rattle.tau_desk.specs.Ends.{AreResting, IsWhole};
+ghost use Rattle.tau_desk.specs.Manages.{PlacedTo};
 ghost use Rattle.tau_desk.specs.Shares.{PlainStock, PlainWork};
 
+use crate::desk::Desk;
 use crate::seat::{Head, ManagerSeat, Stock, Work};
+use tau_base::Lv;
+use tau_model::Committed;
 
 impl ManagerSeat {
     /// Where what the manager has gathered ends.
@@ -14,6 +18,14 @@ impl ManagerSeat {
         ensures small { result < MAX_LSN }
     {
         self.stock.upto()
+    }
+
+    /// Whether a record of an anchor of its own waits to be gathered.
+    pub fn has_own(&self) -> bool
+        ensures none { result ≡ false → self.now.stock.own.pieces ≡ [] }
+        ensures some { result ≡ true → self.now.stock.own.pieces ≡ [] → ⊥ }
+    {
+        !self.stock.own.is_empty()
     }
 }
 
@@ -63,6 +75,49 @@ impl Head {
     {
         works_idle(&self.workers)
     }
+
+    /// Up to where a stream is placed.
+    pub fn placed_end(&mut self, desk: &Desk, stream: u8) -> u64
+        requires own { self.old.table_id ≡ desk.now.table.shared.table_id }
+        requires opened { self.old.me.0.opened ≡ Some desk.now.table.shared.key.value }
+        requires there { stream < desk.now.streams }
+        ensures same { self.new ≡ self.old }
+        ensures end { PlacedTo desk.now.table.shared.key.value self.old.me.0 stream result }
+    {
+        desk.placed_end(&mut self.seat, stream)
+    }
+
+    /// How many committed calls of a worker, whose role the head has, these positions cover.
+    pub fn covered(&self, worker: u8, positions: &Lv) -> usize
+        requires there { (o : PlainWork) × (slice_get self.now.workers worker ≡ Some (Some o)) }
+        ensures { (o : PlainWork) → slice_get self.now.workers worker ≡ Some (Some o) → result ≡ covered_calls positions.now o.committed }
+    {
+        covered_of(&self.workers[worker as usize], positions)
+    }
+}
+
+/// How many committed calls of the worker, which is there, these positions cover.
+fn covered_of(work: &Option<Work>, positions: &Lv) -> usize
+    requires there { (o : PlainWork) × (work.now ≡ Some o) }
+    ensures { (o : PlainWork) → work.now ≡ Some o → result ≡ covered_calls positions.now o.committed }
+{
+    match work {
+        Some(work) => covered_in(work.committed.as_slice(), positions),
+        None => unreachable!(),
+    }
+}
+
+/// How many of these calls the positions cover.
+fn covered_in(calls: &[Committed], positions: &Lv) -> usize
+    ensures { result ≡ covered_calls positions.now calls.now }
+{
+    let mut count = 0;
+    for call in calls {
+        if positions.covers(&call.lv) {
+            count += 1;
+        }
+    }
+    count
 }
 
 fn work_there(works: &Vec<Option<Work>>, at: usize) -> bool

@@ -216,7 +216,7 @@ fn stream_of(alloc: Global, stock: Stock) -> Stream
         gathered: _,
     } = stock;
     Stream {
-        own,
+        own: own.into_outbox(),
         anchors,
         stop: None,
         body: Vec::new(alloc),

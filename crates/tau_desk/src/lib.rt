@@ -16,6 +16,7 @@ mod manager_gives;
 mod mark;
 mod name;
 mod opens;
+mod own_records;
 mod resumes;
 mod room;
 mod seat;
@@ -30,6 +31,7 @@ pub use kept::Kept;
 pub use laws::{own_calls, own_committed, own_keys, own_pieces, own_rows, own_vectors};
 pub use mark::Mark;
 pub use name::{PartName, Role};
+pub use own_records::OwnRecords;
 pub use room::Room;
 pub use seat::{ClerkSeat, Head, ManagerSeat, Stock, Work, WorkerSeat};
 pub use work::{

@@ -117,6 +117,7 @@ impl Stock {
     fn put(&mut self, lv: &Lv, start: u64, bytes: Vec<u8>)
         requires room { (1 ≤ self.old.room) × (1 ≤ self.old.own.room) }
         requires order { end_of 0 self.old.own.pieces ≤ start }
+        requires some { 1 ≤ vec_len bytes }
         requires small { start + vec_len bytes < MAX_LSN }
         ensures puts { PutsAnchor self.old lv.now bytes.items start self.new }
     {

@@ -4,8 +4,6 @@ ghost use Rattle.tau_outbox.specs.declared.Piece.{Piece as PieceOf};
 ghost use Rattle.tau_rule.specs.Boxes.{GivesGathered};
 ghost use Rattle.tau_rule.specs.Rule.{anchor_part, outbox_part};
 ghost use Rattle.tau_rule.specs.declared.part.Part.TheVariants.{Outbox as OutboxOf};
-ghost use Rattle.tau_rule.specs.Positions.{IsManager};
-ghost use Rattle.tau_rule.specs.Role.{Managed as ManagedOf};
 ghost use Rattle.tau_rule.specs.Steps.{idle};
 ghost use Rattle.tau_desk.specs.Manages.{PlacedTo, GivesOwn, GivesPublished, GivesSwept, told_anchored, told_gathered, told_own};
 ghost use Rattle.tau_rule.specs.Anchoring.{IsToAnchor};
@@ -165,10 +163,11 @@ impl Desk {
         self.come_home::<N>(seat, home, Part::Anchor(number, lv));
     }
 
-    /// Up to where the stream of the manager is placed.
+    /// Up to where a stream is placed.
     pub(crate) fn placed_end(&self, seat: &mut Seat, stream: u8) -> u64
         requires own { seat.old.table_id ≡ self.now.table.shared.table_id }
-        requires manager { (g : ManagedOf) × IsManager self.now.table.shared.key.value stream seat.old.me g }
+        requires opened { seat.old.me.0.opened ≡ Some self.now.table.shared.key.value }
+        requires there { stream < self.now.streams }
         ensures own { (seat.new.table_id ≡ seat.old.table_id) × (seat.new.id ≡ seat.old.id) }
         ensures same { seat.new.me ≡ seat.old.me }
         ensures end { PlacedTo self.now.table.shared.key.value seat.old.me.0 stream result }

@@ -1,9 +1,10 @@
 //! The desk opens.
-ghost use Rattle.std.specs.Prelude.{◌≡◌, ◌≤◌, ◌<◌, ◌+◌, ◌*◌, ◌^◌, ◌++◌, ℕ, IfOk, length, slice_index, vec_len, vec_capacity};
+ghost use Rattle.std.specs.Prelude.{◌≡◌, ◌≤◌, ◌<◌, ◌+◌, ◌*◌, ◌^◌, ◌++◌, [], ℕ, IfOk, Some, length, slice_get, slice_index, vec_len, vec_capacity};
 ghost use Rattle.tau_base.specs.declared.limits.TheConstants.{MAX_CATALOGUE, MAX_STREAMS, MAX_WORKERS, SHARDS};
 ghost use Rattle.tau_text.specs.Canonical.{declarations_text};
 ghost use Rattle.tau_text.specs.Kept.{AreCalls};
 ghost use Rattle.tau_core.specs.Opens.{Fits, Opened, OpenedFresh, catalogue_size, load_of};
+ghost use Rattle.tau_core.specs.Plain.{PlainStream};
 ghost use Rattle.tau_rule.specs.Rule.{part_count};
 ghost use Rattle.tau_desk.specs.Close.{IsShardOf, IsBoxOf};
 ghost use Rattle.tau_desk.specs.Ends.{IsFirst, IsWhole};
@@ -12,6 +13,7 @@ ghost use Rattle.tau_desk.specs.Laid.{AreUnbegun, AreFirstWords, AreWords, EachO
 
 use crate::desk::Desk;
 use crate::kept::Kept;
+use crate::own_records::OwnRecords;
 use crate::room::Room;
 use crate::seat::{Head, Stock, Work};
 use atomic_table::Table;
@@ -225,6 +227,7 @@ fn lay_streams(
     streams: Vec<Stream>,
     ends: &Lv,
 ) -> Result<(Vec<Option<Part>>, Vec<Option<Stock>>), NoMemory>
+    requires rest { (j : ℕ) (s : PlainStream) → slice_get streams.items j ≡ Some s → s.own.pieces ≡ [] }
     ensures { IfOk result (λ laid. EachOf (HasAnchor (length ends.now)) streams.items laid.0.items × EachOf (IsItsStock ends.now) streams.items laid.1.items) }
 {
     let mut slots = Vec::new(alloc);
@@ -256,6 +259,7 @@ fn first_anchor(alloc: Global, streams: usize) -> Result<Part, NoMemory>
 }
 
 fn stock_of(stream: Stream, gathered: u64) -> Stock
+    requires { stream.own.pieces ≡ [] }
     ensures { (room : ℕ) × (result ≡ stock_at stream gathered room) }
 {
     let Stream {
@@ -266,7 +270,7 @@ fn stock_of(stream: Stream, gathered: u64) -> Stock
     } = stream;
     Stock {
         anchors,
-        own,
+        own: OwnRecords::of(own),
         gathered,
     }
 }

@@ -1,11 +1,11 @@
 //! The seats: what an actor knows of the desk, with what it has of its own.
 use crate::mark::Mark;
+use crate::own_records::OwnRecords;
 use crate::room::Room;
 use std::marker::Model;
 use tau_base::Lv;
 use tau_core::LeftOvers;
 use tau_model::Committed;
-use tau_outbox::Outbox;
 use tau_rule::Seat;
 use tau_txn::Txn;
 
@@ -41,7 +41,7 @@ impl Model for Work {
 pub struct Stock {
     pub anchors: Vec<Lv>,
     /// The anchors that it placed and has not gathered.
-    pub own: Outbox,
+    pub own: OwnRecords,
     /// Where what it gathered ends.
     pub gathered: u64,
 }

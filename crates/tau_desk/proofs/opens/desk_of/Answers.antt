@@ -1,3 +1,4 @@
+use Rattle.std.specs.Prelude.{slice_get}
 use Rattle.std.proofs.Common.{rules, ◌≡◌, ℕ, true, List, [], refl, sym, ap, ◌∙◌, subst, length}
 use Rattle.atomic_table.specs.Table.{opening}
 use Rattle.tau_shard.specs.Plain.{PlainShard}
@@ -8,8 +9,13 @@ use Rattle.tau_rule.specs.Rule.{Rule}
 use Rattle.tau_rule.specs.Steps.{Sat}
 use Rattle.tau_desk.specs.Laid.{AreFirstWords, EachOf, HasAnchor, HasBox, HasShard, IsItsStock, IsItsWork}
 use Rattle.tau_desk.specs.Seats.{IsHead}
-use Rattle.tau_desk.proofs.Beginning.{all-stock, all-unbegun, all-work, begins-so, head-is}
+use Rattle.tau_desk.proofs.Beginning.{all-stock, all-unbegun, all-work, begins-so, head-is, none-own}
 use Rattle.tau_desk.proofs.opens.desk_of.Goals as goal
+
+pub lay_streams-requires : goal.lay_streams-requires
+lay_streams-requires c = record {
+  rest = λ j s e. none-own c.args.core c.requires.opened j s (ap (λ (l : List PlainStream). slice_get l j) (sym (ap (λ (p : Plain). p.streams) (c.load.view_is ∙ c.into_parts.ensures.same))) ∙ e);
+}
 
 pub new-requires : goal.new-requires
 new-requires c =

@@ -1,10 +1,22 @@
 use Rattle.std.proofs.Common.{rules, ◌++◌, ◌∷◌, ◌≡◌, ◌∙◌, [], ℕ, List, Option, length, refl, sym, ap, subst}
 use Rattle.std.specs.Prelude.{Some, slice_index}
+use Rattle.std.specs.Vec.Iter.{into_iter_items, into_iter_len}
+use Rattle.std.proofs.lemmas.Iterator.Consumers.{YieldsList-turn}
+use Rattle.std.proofs.lemmas.Iterator.Adapters.{YieldsList-from_vec}
+use Rattle.std.proofs.lemmas.Option.{slice_get_read}
 use Rattle.tau_rule.specs.declared.part.Part.{Part}
 use Rattle.tau_desk.specs.Shares.{PlainStock}
 use Rattle.tau_desk.specs.Laid.{EachOf, HasAnchor, IsFirstAnchor, IsItsStock, stock_at}
 use Rattle.tau_desk.proofs.Slots.{each-more}
 use Rattle.tau_desk.proofs.opens.lay_streams.Goals as goal
+
+pub stock_of-requires : goal.stock_of-requires
+stock_of-requires c =
+    let items = c.args.streams.items in
+    let all : into_iter_items c.into_iter-stream-iterator.result ≡ items = search rules in
+    let size : into_iter_len c.into_iter-stream-iterator.result ≡ length items = search rules in
+    let t = YieldsList-turn (YieldsList-from_vec items all size) c.loop-stream.yielded c.loop-stream.stream-iterator c.loop-stream.yielded_by c.next.result c.next.new.self c.in-Some.stream c.in-Some.is c.next.ensures.steps in
+    c.requires.rest (length c.loop-stream.yielded) c.in-Some.stream (slice_get_read items (length items) (length c.loop-stream.yielded) c.in-Some.stream refl t.0 t.1)
 
 pub loop-stream-preserved : goal.loop-stream-preserved
 loop-stream-preserved c =

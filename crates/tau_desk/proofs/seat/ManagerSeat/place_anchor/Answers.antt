@@ -6,7 +6,7 @@ use Rattle.tau_rule.specs.Steps.{Agrees, Sat, holding, idle}
 use Rattle.tau_rule.proofs.Turns.{one-role}
 use Rattle.tau_desk.specs.Seats.{IsManagerSeat, PlainManagerSeat}
 use Rattle.tau_desk.specs.Manages.{PlacesAnchor, told_anchored}
-use Rattle.tau_desk.proofs.Anchored.{own-order, seat-anchored, to-anchor}
+use Rattle.tau_desk.proofs.Anchored.{anchor-long, own-order, seat-anchored, to-anchor}
 use Rattle.tau_desk.proofs.Taking.{at-key, idle-again}
 use Rattle.tau_desk.proofs.seat.ManagerSeat.place_anchor.Goals as goal
 
@@ -33,6 +33,16 @@ put-requires-clause-order g c =
     let agrees : Agrees key (told_anchored c.self.inside.seat.me.0 c.in-Ok.bytes.items c.place_anchor-start.result) c.anchor_number-number.result c.take-part.result =
     subst (λ (m : Sat). Agrees key m.0 c.anchor_number-number.result c.take-part.result) c.place_anchor-start.ensures.placed c.take-part.ensures.agrees in
     own-order key c.self.inside.seat.me c.self.inside.stream c.anchor_number-number.result c.self.inside.stock h c.in-Ok.bytes.items c.place_anchor-start.result c.take-part.result agrees
+
+pub put-requires-clause-some : goal.put-requires-clause-some
+put-requires-clause-some g c =
+    let key : Plain = c.args.desk.now.table.shared.key.value in
+    let same = Rattle.tau_rule.proofs.Gives.one-origin c.self.invariant.origin key (sym c.self.invariant.opened ∙ ap (λ s. s.me.0.opened) c.self.view_is ∙ c.requires.opened) in
+    let wide : length c.self.inside.seen ≡ key.load.streams = c.self.invariant.seen_wide ∙ ap (λ (p : Plain). p.load.streams) same in
+    let streams = c.args.desk.now.streams_are in
+    let some = (anchor-long (length c.self.inside.seen) c.self.inside.seen c.in-Ok.bytes.items (let a = streams.0 in let b = streams.2 in omega (arith, a, b, wide)) (c.in-Ok.ensures [])).0 in
+    let o = c.in-Ok.bytes.ok in
+    omega (arith, some, o)
 
 pub give_back-requires-clause-same : goal.give_back-requires-clause-same
 give_back-requires-clause-same g c =
