@@ -11,7 +11,7 @@ use Rattle.tau_outbox.specs.declared.Piece.{Piece}
 use Rattle.tau_shard.specs.Plain.{PlainShard}
 use Rattle.tau_shard.specs.Read.{shard_of}
 use Rattle.tau_txn.specs.Hand.{PlainHand}
-use Rattle.tau_txn.specs.Txn.{hand_in}
+use Rattle.tau_txn.specs.Txn.{hand_in, held_by, joined_of}
 use Rattle.tau_txn.specs.Next.{next_action, next_of}
 use Rattle.tau_txn.specs.declared.action.Action.TheVariants as action
 use Rattle.tau_core.specs.Plain.{PlainSeat, PlainStream}
@@ -30,8 +30,9 @@ use Rattle.atomic_table.specs.Table.{opening}
 use Rattle.tau_rule.proofs.Opening.{begins, limited, now}
 use Rattle.tau_desk.proofs.Closing.{word-ends, word-plv}
 use Rattle.tau_desk.specs.Close.{IsBoxOf, IsShardOf}
+use Rattle.tau_desk.specs.Ends.{AreResting}
 use Rattle.tau_desk.specs.Laid.{AreUnbegun, AreFirstWords, EachOf, HasAnchor, HasBox, HasShard, IsFirstAnchor, IsItsStock, IsItsWork, stock_at, work_of}
-use Rattle.tau_desk.specs.Seats.{HasClerk, HasStock, HasWork, IsHead}
+use Rattle.tau_desk.specs.Seats.{HasClerk, HasStock, HasWork, IsHead, PlainHead}
 use Rattle.tau_desk.specs.Shares.{PlainStock, PlainWork}
 use Rattle.tau_desk.specs.declared.mark.Mark.{Mark}
 use Rattle.tau_desk.proofs.Backing.{no-hand}
@@ -341,3 +342,7 @@ fresh-short n text o f few j =
 -- no anchor of its own waits with a manager
 pub none-own : (origin : Plain) → Opened origin.load origin → (j : ℕ) (s : PlainStream) → slice_get origin.streams j ≡ Some s → s.own.pieces ≡ []
 none-own origin q j s e = none-paired (IsPieceOf origin.load (anchors_at (core_of origin nothing))) s.own.pieces (q.stands.own j s e)
+
+-- where no call is in hand, all rest
+pub unbegun-rests : (h : PlainHead) → AreUnbegun h.workers → AreResting h
+unbegun-rests h unbegun = λ w o e. let none = (unbegun w o e).0 in (ap held_by none, ap joined_of none)

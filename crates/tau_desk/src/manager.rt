@@ -217,7 +217,6 @@ impl ManagerSeat {
         requires opened { self.old.me.0.opened ≡ Some desk.now.table.shared.key.value }
         requires low { slice_index self.old.seen self.old.stream ≤ durable }
         requires high { durable ≤ self.old.stock.gathered }
-        requires small { durable < MAX_LSN }
         ensures knows { self.new ≡ record self.old { me = (sees_to self.old.stream durable self.old.me.0, self.old.me.1); seen = slice_set self.old.seen self.old.stream durable } }
     {
         desk.persist(&mut self.seat, self.stream as usize, durable);

@@ -7,7 +7,7 @@ ghost use Rattle.tau_core.specs.Opens.{Fits, Opened, OpenedFresh, catalogue_size
 ghost use Rattle.tau_core.specs.Plain.{PlainStream};
 ghost use Rattle.tau_rule.specs.Rule.{part_count};
 ghost use Rattle.tau_desk.specs.Close.{IsShardOf, IsBoxOf};
-ghost use Rattle.tau_desk.specs.Ends.{IsFirst, IsWhole};
+ghost use Rattle.tau_desk.specs.Ends.{AreResting, IsFirst, IsWhole};
 ghost use Rattle.tau_desk.specs.Kept.{HasRoom};
 ghost use Rattle.tau_desk.specs.Laid.{AreUnbegun, AreFirstWords, AreWords, EachOf, HasAnchor, HasBox, HasShard, IsFirstAnchor, IsItsStock, IsItsWork, stock_at, work_of};
 
@@ -39,7 +39,7 @@ impl Desk {
         requires calls { AreCalls load.now.declarations.procs load.now.calls }
         requires fits { Fits opening }
         requires short { (j : ℕ) → j < length opening.ends → slice_index opening.ends j ≤ 2 ^ 61 }
-        ensures { IfOk result (λ d. Opened (load_of load.now.declarations.procs load.now.calls mode m opening) d.0.table.shared.key.value × IsFirst d.0.table.shared.key.value d.1.me × IsWhole d.1 × (d.1.table_id ≡ d.0.table.shared.table_id) × AreUnbegun d.1.workers) }
+        ensures { IfOk result (λ d. Opened (load_of load.now.declarations.procs load.now.calls mode m opening) d.0.table.shared.key.value × IsFirst d.0.table.shared.key.value d.1.me × IsWhole d.1 × (d.1.table_id ≡ d.0.table.shared.table_id) × AreUnbegun d.1.workers × AreResting d.1) }
     {
         let core = Core::open(alloc, load, opening, m, mode)?;
         let (desk, head) = desk_of(alloc, core)?;
@@ -60,7 +60,7 @@ impl Desk {
         requires high { m ≤ MAX_WORKERS }
         requires calls { AreCalls load.now.declarations.procs load.now.calls }
         requires text { length (declarations_text load.now.declarations) ≤ MAX_CATALOGUE }
-        ensures { IfOk result (λ d. OpenedFresh load.now.declarations.procs load.now.calls mode m n (catalogue_size (declarations_text load.now.declarations)) d.0.table.shared.key.value × IsFirst d.0.table.shared.key.value d.1.me × IsWhole d.1 × (d.1.table_id ≡ d.0.table.shared.table_id) × AreUnbegun d.1.workers) }
+        ensures { IfOk result (λ d. OpenedFresh load.now.declarations.procs load.now.calls mode m n (catalogue_size (declarations_text load.now.declarations)) d.0.table.shared.key.value × IsFirst d.0.table.shared.key.value d.1.me × IsWhole d.1 × (d.1.table_id ≡ d.0.table.shared.table_id) × AreUnbegun d.1.workers × AreResting d.1) }
     {
         let core = Core::new(alloc, load, n, m, mode)?;
         let (desk, head) = desk_of(alloc, core)?;

@@ -68,6 +68,7 @@ pub fn lock<R: Wait>(
     requires ready { IsReady desk.now.table.shared.key.value worker seat.old.me txn.old }
     ensures own { (seat.new.table_id ≡ seat.old.table_id) × (seat.new.id ≡ seat.old.id) }
     ensures step { LockedBy desk.now.table.shared.key.value seat.old.me txn.old seat.new.me txn.new result }
+    ensures other { result ≡ Acted.Other → kind_of (next_action txn.old) ≡ ActionKind.Lock → ⊥ }
 {
     let Action::Lock { key, mode } = txn.turn() else {
         return Acted::Other;
@@ -109,6 +110,7 @@ pub fn free<R: Wait>(
     requires ready { IsReady desk.now.table.shared.key.value worker seat.old.me txn.old }
     ensures own { (seat.new.table_id ≡ seat.old.table_id) × (seat.new.id ≡ seat.old.id) }
     ensures step { FreedBy desk.now.table.shared.key.value seat.old.me txn.old seat.new.me txn.new result }
+    ensures other { result ≡ Acted.Other → kind_of (next_action txn.old) ≡ ActionKind.Free → ⊥ }
 {
     let Action::Free { key, write } = txn.turn() else {
         return Acted::Other;
@@ -137,6 +139,7 @@ pub fn quit<R: Wait>(
     requires ready { IsReady desk.now.table.shared.key.value worker seat.old.me txn.old }
     ensures own { (seat.new.table_id ≡ seat.old.table_id) × (seat.new.id ≡ seat.old.id) }
     ensures step { QuitBy desk.now.table.shared.key.value seat.old.me txn.old seat.new.me txn.new result }
+    ensures other { result ≡ Acted.Other → kind_of (next_action txn.old) ≡ ActionKind.Quit → ⊥ }
 {
     let Action::Quit { key } = txn.turn() else {
         return Acted::Other;
@@ -415,6 +418,7 @@ pub fn first_free<R: Wait>(
     requires ready { IsReady desk.now.table.shared.key.value worker seat.old.me txn.old }
     ensures own { (seat.new.table_id ≡ seat.old.table_id) × (seat.new.id ≡ seat.old.id) }
     ensures step { FirstFreedBy desk.now.table.shared.key.value seat.old.me txn.old seat.new.me txn.new result }
+    ensures other { result ≡ None → kind_of (next_action txn.old) ≡ ActionKind.Free → ⊥ }
 {
     let Action::Free { key, write } = txn.turn() else {
         return None;

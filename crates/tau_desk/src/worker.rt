@@ -28,6 +28,7 @@ impl WorkerSeat {
         requires own { self.old.table_id ≡ desk.now.table.shared.table_id }
         requires opened { self.old.me.0.opened ≡ Some desk.now.table.shared.key.value }
         ensures step { LocksOn desk.now.table.shared.key.value.load self.old self.new result }
+        ensures other { result ≡ Acted.Other → kind_of (next_action self.old.work.txn) ≡ ActionKind.Lock → ⊥ }
         ensures seat { IsSameSeat self.old self.new }
     {
         if !self.work.txn.in_hand() {
@@ -61,6 +62,7 @@ impl WorkerSeat {
         requires own { self.old.table_id ≡ desk.now.table.shared.table_id }
         requires opened { self.old.me.0.opened ≡ Some desk.now.table.shared.key.value }
         ensures step { QuitsOn desk.now.table.shared.key.value.load self.old self.new result }
+        ensures other { result ≡ Acted.Other → kind_of (next_action self.old.work.txn) ≡ ActionKind.Quit → ⊥ }
         ensures seat { IsSameSeat self.old self.new }
     {
         if !self.work.txn.in_hand() {
@@ -92,6 +94,7 @@ impl WorkerSeat {
         requires opened { self.old.me.0.opened ≡ Some desk.now.table.shared.key.value }
         requires joined { has_joined self.old.work.txn ≡ true }
         ensures step { FreesOn desk.now.table.shared.key.value.load self.old self.new result }
+        ensures other { result ≡ Acted.Other → kind_of (next_action self.old.work.txn) ≡ ActionKind.Free → ⊥ }
         ensures seat { IsSameSeat self.old self.new }
     {
         if !self.work.txn.in_hand() {
@@ -122,6 +125,7 @@ impl WorkerSeat {
         requires opened { self.old.me.0.opened ≡ Some desk.now.table.shared.key.value }
         requires unjoined { has_joined self.old.work.txn ≡ false }
         ensures step { FirstFreesOn desk.now.table.shared.key.value.load self.old self.new result }
+        ensures other { result ≡ Acted.Other → kind_of (next_action self.old.work.txn) ≡ ActionKind.Free → ⊥ }
         ensures seat { IsSameSeat self.old self.new }
     {
         if !self.work.txn.in_hand() {
@@ -149,6 +153,7 @@ impl WorkerSeat {
         requires own { self.old.table_id ≡ desk.now.table.shared.table_id }
         requires opened { self.old.me.0.opened ≡ Some desk.now.table.shared.key.value }
         ensures step { CommitsOn desk.now.table.shared.key.value.load self.old self.new result }
+        ensures other { result ≡ Acted.Other → kind_of (next_action self.old.work.txn) ≡ ActionKind.Commit → ⊥ }
         ensures seat { IsSameSeat self.old self.new }
     {
         let ActionKind::Commit = self.work.txn.kind() else {

@@ -5,7 +5,7 @@ use Rattle.tau_core.specs.declared.state.Load.{Load}
 use Rattle.tau_core.specs.Opens.{Opened, OpenedFresh, catalogue_size}
 use Rattle.tau_core.specs.State.{Plain}
 use Rattle.tau_desk.specs.Ends.{IsFirst}
-use Rattle.tau_desk.proofs.Beginning.{fresh-short}
+use Rattle.tau_desk.proofs.Beginning.{fresh-short, unbegun-rests}
 use Rattle.tau_desk.proofs.desk.Desk.new.Goals as goal
 
 pub desk_of-requires-clause-opened : goal.desk_of-requires-clause-opened
@@ -23,4 +23,5 @@ returns c =
       d.2,
       d.3,
       d.4,
+      unbegun-rests c.in_ok-desk.head d.4,
     )
