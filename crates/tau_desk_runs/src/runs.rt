@@ -5,7 +5,7 @@ ghost use Rattle.tau_core.specs.Opens.{Opened};
 
 use crate::rounds::managers;
 use crate::support::{
-    Stuck, closes, desk_of, join_clerk, join_manager, join_worker, manage, split_clerk,
+    Stuck, closes, desk_of, join_clerk, join_manager, join_worker, manage, number_at, split_clerk,
     split_manager, split_resumed, tell, work,
 };
 use std::alloc::Global;
@@ -13,7 +13,6 @@ use std::sync::Wait;
 use std::sync::atomic::AtomicU64;
 use std::test::*;
 use std::thread::Threads;
-use tau_base::{Key, Value};
 use tau_core::Core;
 use tau_desk::{Desk, Head};
 
@@ -94,14 +93,6 @@ fn run_of<R: Threads + Wait + Sync>(
     match closes(desk, head) {
         Ok(core) => Ok(core),
         Err(stuck) => Err(Fail::new(stuck.why)),
-    }
-}
-
-/// The number of a row of the first table.
-fn number_at(core: &Core, row: i64) -> Option<i64> {
-    match core.value(Key { table: 0, row }) {
-        Value::Int(n) => Some(n),
-        _ => None,
     }
 }
 

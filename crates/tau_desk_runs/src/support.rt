@@ -9,7 +9,7 @@ use std::alloc::Global;
 use std::sync::Wait;
 use std::sync::atomic::{AtomicU64, Ordering};
 use std::test::Fail;
-use tau_base::{LogMode, MAX_CATALOGUE};
+use tau_base::{Key, LogMode, MAX_CATALOGUE, Value};
 use tau_core::Core;
 use tau_desk::{Acted, ClerkSeat, Desk, Head, ManagerSeat, WorkerSeat};
 use tau_text::{parse_workload, print_declarations};
@@ -398,4 +398,12 @@ pub fn closes(desk: Desk, head: Head) -> Result<Core, Stuck>
         });
     }
     Ok(desk.close(head))
+}
+
+/// The number of a row of the first table.
+pub fn number_at(core: &Core, row: i64) -> Option<i64> {
+    match core.value(Key { table: 0, row }) {
+        Value::Int(n) => Some(n),
+        _ => None,
+    }
 }
