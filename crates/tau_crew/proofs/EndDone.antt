@@ -1,5 +1,5 @@
 -- The desk closes, and the run has gone to its end.
-use Rattle.std.proofs.Common.{ℕ, zero, suc, ◌+◌, ◌<◌, ◌≡◌, false, Option, List, [], ◌∷◌, length, map, refl, sym, ap, subst, ◌∙◌, arith, slice_index}
+use Rattle.std.proofs.Common.{ℕ, zero, suc, ◌+◌, ◌<◌, ◌≡◌, inl, inr, false, Option, List, [], ◌∷◌, length, map, refl, sym, ap, subst, ◌∙◌, arith, slice_index}
 use Rattle.std.specs.Prelude.{Some, None, slice_get, slice_index_or}
 use Rattle.std.specs.Option.{option_map}
 use Rattle.std.proofs.lemmas.List.{length-map}
@@ -133,5 +133,8 @@ done-keeps first h h' jobs telling k q =
           record { durable = m.durable; own = m.own; placed = λ w call lt st c. m.placed w call lt st (subst (λ (x : Worker). Member call x.committed) (same w lt) c) });
       clerk = λ w lt. subst (λ (x : Worker). ClerkDone (durables jobs) x (slice_index_or (acked_in telling.seat.me.0) w [])) (sym (same w lt)) (q.clerk w lt);
       telling_memory = q.telling_memory;
-      left = subst (λ (ps : List (Option PlainWork)). CanGoOn (length first.load.calls) ps None) (sym k.workers) q.left;
+      left = elim q.left [
+        | inl so ↦ inl (k.found so)
+        | inr can ↦ inr (subst (λ (ps : List (Option PlainWork)). CanGoOn (length first.load.calls) ps None) (sym k.workers) can)
+      ];
     }

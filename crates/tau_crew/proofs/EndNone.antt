@@ -89,14 +89,17 @@ module _ {D : Type 0} {G : Ghosts D} (first : Plain) (table : TableId) (bases : 
       let same : Some back.work ≡ o = (let e : Some (Some back.work) ≡ Some o = sym back.there ∙ is in cc e) in
       subst (Rests (length first.load.calls)) same (rests-at w back.work lt back.there)
 
-  left-none : CanGoOn (length first.load.calls) h.workers None → (w : ℕ) (o : Option PlainWork) → slice_get h.workers w ≡ Some o → left_in o ≡ []
+  left-none : (h.me.0.found ≡ true) ⊎ CanGoOn (length first.load.calls) h.workers None → (w : ℕ) (o : Option PlainWork) → slice_get h.workers w ≡ Some o → left_in o ≡ []
   left-none can = elim can [
-    | inl some ↦ absurd (some all-rest)
-    | inr none ↦ none
+    | inl so ↦ absurd (not-found so)
+    | inr rest ↦ elim rest [
+      | inl some ↦ absurd (some all-rest)
+      | inr none ↦ none
+    ]
   ]
 
   -- no worker has a call to begin, and none was left over
-  pub nothing-left : CanGoOn (length first.load.calls) h.workers None → (w : ℕ) → w < first.load.workers → ((worker_back h w).waiting ≡ []) × ((worker_back h w).left ≡ [])
+  pub nothing-left : (h.me.0.found ≡ true) ⊎ CanGoOn (length first.load.calls) h.workers None → (w : ℕ) → w < first.load.workers → ((worker_back h w).waiting ≡ []) × ((worker_back h w).left ≡ [])
   nothing-left can w lt =
       let back = b.head.workers w lt in
       let has_work : HasWork first h.me.0 w back.work = subst (λ (o : Plain). HasWork o h.me.0 w back.work) (as-first first table bases ws h jobs telling b d) (d.worker w back.work back.there) in
