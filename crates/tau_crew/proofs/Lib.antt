@@ -20,3 +20,4 @@ pub mod EndTells
 pub mod EndPasses
 pub mod WorkStays
 pub mod WorkPhase
+pub mod LeftOver

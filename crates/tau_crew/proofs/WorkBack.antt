@@ -35,11 +35,11 @@ pub or-alone : (a : Bool) → (a || false) ≡ a
 or-alone true = refl
 or-alone false = refl
 
-or-true : (a b : Bool) → b ≡ true → (a || b) ≡ true
+pub or-true : (a b : Bool) → b ≡ true → (a || b) ≡ true
 or-true true b e = refl
 or-true false b e = e
 
-or-left : (a b : Bool) → a ≡ true → (a || b) ≡ true
+pub or-left : (a b : Bool) → a ≡ true → (a || b) ≡ true
 or-left true b e = refl
 or-left false b e = absurd (let bad : false ≡ true = e in cc)
 

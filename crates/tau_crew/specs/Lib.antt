@@ -12,3 +12,4 @@ pub mod EndCloses
 pub mod Together
 pub mod Dealing
 pub mod EndDone
+pub mod LeftOver

@@ -11,6 +11,7 @@ mod ending_pass;
 mod ending_settle;
 mod flush;
 mod gather;
+mod left_over;
 mod manager;
 mod shared;
 mod together;
