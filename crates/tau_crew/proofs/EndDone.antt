@@ -39,7 +39,7 @@ use Rattle.tau_crew.proofs.EndNone.{nothing-left}
 use Rattle.tau_crew.proofs.EndSettles.{got-low}
 use Rattle.tau_core.proofs.Lists.{some-at}
 
-same-entries : (xs ys : List ℕ) → length xs ≡ length ys → ((j : ℕ) → j < length xs → slice_index xs j ≡ slice_index ys j) → xs ≡ ys
+pub same-entries : (xs ys : List ℕ) → length xs ≡ length ys → ((j : ℕ) → j < length xs → slice_index xs j ≡ slice_index ys j) → xs ≡ ys
 same-entries [] [] e f = refl
 same-entries [] (y ∷ ys) e f = absurd (omega (arith, e))
 same-entries (x ∷ xs) [] e f = absurd (omega (arith, e))
@@ -48,7 +48,7 @@ same-entries (x ∷ xs) (y ∷ ys) e f =
     let rest : xs ≡ ys = same-entries xs ys (omega (arith, e)) (λ j lt. f (suc j) (omega (arith, lt))) in
     ap (λ (z : ℕ). z ∷ xs) first ∙ ap (λ (zs : List ℕ). y ∷ zs) rest
 
-index-map : {A : Type 0} (f : A → ℕ) (xs : List A) (j : ℕ) (x : A) → slice_get xs j ≡ Some x → slice_index (map f xs) j ≡ f x
+pub index-map : {A : Type 0} (f : A → ℕ) (xs : List A) (j : ℕ) (x : A) → slice_get xs j ≡ Some x → slice_index (map f xs) j ≡ f x
 index-map {A} f [] j x is = absurd (let bad : ◌≡◌ {A = Option A} None (Some x) = is in cc bad)
 index-map f (y ∷ ys) zero x is = (let e : Some y ≡ Some x = is in let same : y ≡ x = cc e in ap f same)
 index-map f (y ∷ ys) (suc j) x is = index-map f ys j x is

@@ -82,7 +82,7 @@ set-up (y ∷ xs) zero x le (suc i) = omega arith
 set-up (y ∷ xs) (suc j) x le zero = omega arith
 set-up (y ∷ xs) (suc j) x le (suc i) = set-up xs j x le i
 
-set-other : (xs : List ℕ) (j x i : ℕ) → (i ≡ j → ⊥) → slice_index (slice_set xs j x) i ≡ slice_index xs i
+pub set-other : (xs : List ℕ) (j x i : ℕ) → (i ≡ j → ⊥) → slice_index (slice_set xs j x) i ≡ slice_index xs i
 set-other [] j x i ne = refl
 set-other (y ∷ xs) zero x zero ne = absurd (ne refl)
 set-other (y ∷ xs) zero x (suc i) ne = refl

@@ -18,6 +18,8 @@ pub mod EndNone
 pub mod EndDone
 pub mod EndTells
 pub mod EndPasses
+pub mod EndLeft
 pub mod WorkStays
 pub mod WorkPhase
+pub mod Tops
 pub mod LeftOver

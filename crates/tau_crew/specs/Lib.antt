@@ -12,4 +12,6 @@ pub mod EndCloses
 pub mod Together
 pub mod Dealing
 pub mod EndDone
+pub mod EndLeft
+pub mod Tops
 pub mod LeftOver

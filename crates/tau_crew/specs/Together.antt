@@ -1,30 +1,14 @@
--- Workers, managers and the clerk side by side.
-use Rattle.std.specs.Prelude.{ℕ, ◌<◌, ◌≤◌, ◌≡◌, ◌⊎◌, true, false, List, Some, None, length, slice_index_or, Result, Ok}
-use Rattle.tau_base.specs.declared.value.NoMemory.{NoMemory}
+-- Managers and the clerk side by side.
+use Rattle.std.specs.Prelude.{ℕ, ◌<◌, ◌≤◌, ◌≡◌, ◌⊎◌, true, List, Some, length, slice_index_or}
 use Rattle.tau_disk.specs.Disk.{Rose}
 use Rattle.tau_disk.specs.declared.disk.Disk.{Ghosts}
 use Rattle.tau_core.specs.declared.state.Load.{Load}
 use Rattle.tau_desk.specs.declared.desk.Desk.{Desk}
 use Rattle.tau_crew.specs.declared.clerk.ClerkJob.{ClerkJob}
 use Rattle.tau_crew.specs.declared.manager.ManagerJob.{ManagerJob}
-use Rattle.tau_crew.specs.declared.together.WorkerJob.{WorkerJob}
 use Rattle.tau_crew.specs.Clerking.{IsToldSoFar}
 use Rattle.tau_crew.specs.ClerkJobs.{ClerkGoes, IsClerkJob}
 use Rattle.tau_crew.specs.Jobs.{CanManage, IsSameManager, KeepsManager}
-use Rattle.tau_crew.specs.Working.{WorkerEnds}
-
--- a worker's seat at this desk, with no call in hand
-pub record IsWorkerReady (desk : Desk) (job : WorkerJob) : Type 0 where
-  pub own : job.seat.table_id ≡ desk.table.shared.table_id
-  pub opened : job.seat.me.0.opened ≡ Some desk.table.shared.key.value
-  pub rests : job.seat.work.txn.hand ≡ None
-
--- how it ended
-pub record WorkerWent (l : Load) (job job' : WorkerJob) : Type 0 where
-  pub worker : job'.worker ≡ job.worker
-  pub result : Result Unit NoMemory
-  pub ends : WorkerEnds l job.seat job'.seat result
-  pub ok : job'.short ≡ false → result ≡ Ok tt
 
 module _ {D : Type 0} {G : Ghosts D} where
   -- a manager's seat at this desk, at the head of a turn
@@ -42,9 +26,6 @@ module _ {D : Type 0} {G : Ghosts D} where
   -- each of them did
   pub record ManagersWent (jobs jobs' : List (ManagerJob D G)) : Type 0 where
     pub each : (k : ℕ) (d : ManagerJob D G) → k < length jobs → ManagerWent (slice_index_or jobs k d) (slice_index_or jobs' k d)
-
-pub record WorkersWent (l : Load) (jobs jobs' : List WorkerJob) : Type 0 where
-  pub each : (k : ℕ) (d : WorkerJob) → k < length jobs → WorkerWent l (slice_index_or jobs k d) (slice_index_or jobs' k d)
 
 -- the clerk's seat at this desk, at the head of a pass
 pub record IsClerkReady (desk : Desk) (job : ClerkJob) : Type 0 where

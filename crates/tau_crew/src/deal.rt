@@ -33,6 +33,7 @@ fn deal_manager<D: Disk>(
     ensures workers { KeepsWorkers desk.now.table.shared.key.value.load head.old head.new }
     ensures dealt { DealsOne desk.now.table.shared.key.value desk.now.table.shared.table_id stream writers.old.items writers.new.items jobs.old.items jobs.new.items }
     ensures room { vec_capacity jobs.new ≡ vec_capacity jobs.old }
+    ensures kept { vec_capacity writers.new ≡ vec_capacity writers.old }
 {
     let seat = desk.split_manager(head, stream as u8);
     seat.agrees();
@@ -64,6 +65,7 @@ pub(crate) fn deal_managers<D: Disk>(
     ensures workers { KeepsWorkers desk.now.table.shared.key.value.load head.old head.new }
     ensures dealt { (bases : ℕ → List ℕ) → IsBegun bases writers.old.items desk.now.table.shared.key.value.load.opening → AreDealt desk.now.table.shared.key.value desk.now.table.shared.table_id bases writers.old.items desk.now.streams jobs.new.items }
     ensures writers { writers.new.items ≡ [] }
+    ensures kept { vec_capacity writers.new ≡ vec_capacity writers.old }
 {
     for stream in 0..desk.streams {
         deal_manager(alloc, desk, head, writers, jobs, stream);

@@ -7,6 +7,7 @@ use std::time::Duration;
 const REST: u64 = 50;
 
 /// How many workers and managers are not through, and where others rest.
+#[derive(Drop)]
 pub struct Crew {
     working: AtomicU64,
     flushing: AtomicU64,

@@ -1,47 +1,17 @@
-//! Workers, managers and the clerk side by side, each in a thread of its own.
-ghost use Rattle.std.specs.Prelude.{◌≡◌, ◌<◌, length};
+//! Managers and the clerk side by side, each in a thread of its own.
+ghost use Rattle.std.specs.Prelude.{◌<◌, length};
 ghost use Rattle.std.specs.List.{All};
 ghost use Rattle.std.specs.Thread.{IsSync};
-ghost use Rattle.tau_core.specs.Opens.{Opened};
-ghost use Rattle.tau_crew.specs.Together.{ClerkWent, IsClerkReady, IsManagerReady, IsWorkerReady, ManagerWent, ManagersWent, WorkerWent, WorkersWent};
+ghost use Rattle.tau_crew.specs.Together.{ClerkWent, IsClerkReady, IsManagerReady, ManagerWent, ManagersWent};
 
 use crate::clerk::ClerkJob;
 use crate::manager::ManagerJob;
 use crate::shared::Crew;
-use crate::worker::work;
 use std::sync::Wait;
 use std::thread;
 use std::thread::{Threads, join_mut};
-use tau_desk::{Desk, WorkerSeat};
+use tau_desk::Desk;
 use tau_disk::{Disk, Gate, Sink};
-
-/// What a worker works with.
-#[derive(Drop)]
-pub struct WorkerJob {
-    /// Its seat at the desk.
-    pub seat: WorkerSeat,
-    /// Its number.
-    pub worker: u8,
-    /// Whether it was out of memory.
-    pub short: bool,
-}
-
-impl WorkerJob {
-    /// Runs the worker's calls. Then the worker is through.
-    fn run<R: Wait, G: Gate>(&mut self, rt: &R, desk: &Desk, crew: &Crew, gate: &G)
-        requires ready { IsWorkerReady desk.now self.old }
-        requires run { Opened desk.now.table.shared.key.value.load desk.now.table.shared.key.value }
-        ensures { WorkerWent desk.now.table.shared.key.value.load self.old self.new }
-    {
-        let WorkerJob {
-            seat,
-            worker,
-            short,
-        } = self;
-        *short = work(rt, desk, seat, *worker, gate).is_err();
-        crew.leave();
-    }
-}
 
 /// A manager's loop. Then the manager is through.
 fn manage<R: Wait, D: Disk, G: Gate>(
@@ -56,31 +26,6 @@ fn manage<R: Wait, D: Disk, G: Gate>(
 {
     job.run(rt, desk, crew, gate);
     crew.flushed();
-}
-
-/// All workers, each in a thread of its own.
-fn work_all<R: Threads + Wait + Sync, G: Gate + Sync>(
-    rt: &R,
-    desk: &Desk,
-    crew: &Crew,
-    jobs: &mut [WorkerJob],
-    gate: &G,
-)
-    requires ready { All (IsWorkerReady desk.now) jobs.old }
-    requires run { Opened desk.now.table.shared.key.value.load desk.now.table.shared.key.value }
-    requires some { 0 < length jobs.old }
-    ensures { WorkersWent desk.now.table.shared.key.value.load jobs.old jobs.new }
-{
-    let count = jobs.len();
-    thread::for_each_mut(
-        rt,
-        jobs,
-        count,
-        &|_index: usize, job: &mut WorkerJob|
-            requires { IsWorkerReady desk.now job.old × Opened desk.now.table.shared.key.value.load desk.now.table.shared.key.value }
-            ensures { WorkerWent desk.entry.now.table.shared.key.value.load job.old job.new }
-        { job.run(rt, desk, crew, gate) },
-    );
 }
 
 /// All managers, each in a thread of its own.
@@ -153,43 +98,5 @@ pub(crate) fn flush_and_tell<
             requires { IsSync R.row × IsSync G.row × All (IsManagerReady desk.now) managers.now × (0 < length managers.now) }
             ensures { ManagersWent managers.entry.now managers.exit.now }
         { manage_all(rt, desk, crew, managers, gate) },
-    );
-}
-
-/// Workers beside managers and the clerk. Where no thread can be made they run one after another, workers first and the clerk last.
-pub(crate) fn side_by_side<
-    R: Threads + Wait + Sync,
-    D: Disk + Send,
-    K: Sink + Send,
-    G: Gate + Sync,
->(
-    rt: &R,
-    desk: &Desk,
-    crew: &Crew,
-    workers: &mut [WorkerJob],
-    managers: &mut [ManagerJob<D>],
-    clerk: &mut ClerkJob,
-    sink: &mut K,
-    gate: &G,
-)
-    requires run { Opened desk.now.table.shared.key.value.load desk.now.table.shared.key.value }
-    requires workers { All (IsWorkerReady desk.now) workers.old }
-    requires managers { All (IsManagerReady desk.now) managers.old }
-    requires some { (0 < length workers.old) × (0 < length managers.old) }
-    requires clerk { IsClerkReady desk.now clerk.old }
-    ensures workers { WorkersWent desk.now.table.shared.key.value.load workers.old workers.new }
-    ensures managers { ManagersWent managers.old managers.new }
-    ensures clerk { ClerkWent desk.now.load K.tells (K.held sink.old) (K.held sink.new) (K.faults sink.old) (K.faults sink.new) clerk.old clerk.new }
-{
-    join_mut(
-        rt,
-        &mut ||
-            requires { IsSync R.row × IsSync G.row × All (IsManagerReady desk.now) managers.now × (0 < length managers.now) × IsClerkReady desk.now clerk.now }
-            ensures { ManagersWent managers.entry.now managers.exit.now × ClerkWent desk.entry.now.load K.tells (K.held sink.entry.now) (K.held sink.exit.now) (K.faults sink.entry.now) (K.faults sink.exit.now) clerk.entry.now clerk.exit.now }
-        { flush_and_tell(rt, desk, crew, managers, clerk, sink, gate) },
-        &mut ||
-            requires { IsSync R.row × IsSync G.row × Opened desk.now.table.shared.key.value.load desk.now.table.shared.key.value × All (IsWorkerReady desk.now) workers.now × (0 < length workers.now) }
-            ensures { WorkersWent desk.entry.now.table.shared.key.value.load workers.entry.now workers.exit.now }
-        { work_all(rt, desk, crew, workers, gate) },
     );
 }

@@ -18,6 +18,7 @@ loop-stream-preserved g c =
       λ bases b.
           deals-more key c.args.desk.now.table.shared.table_id bases c.args.writers.now.items c.loop-stream.writers.items c.deal_manager.new.writers.items c.loop-stream.stream c.loop-stream.jobs.items c.deal_manager.new.jobs.items b (c.requires.writers ∙ streams) there i.1 (i.4 bases b) one,
       workers-then key.load c.args.head.now c.loop-stream.head c.deal_manager.new.head i.5 c.deal_manager.ensures.workers,
+      c.deal_manager.ensures.kept ∙ i.6,
     )
 
 pub returns-clause-dealt : goal.returns-clause-dealt

@@ -10,3 +10,4 @@ invariant-loop-stream g l =
     × (vec_capacity l.jobs ≡ vec_capacity l.initial.jobs)
     × ((bases : ℕ → List ℕ) → IsBegun bases l.initial.writers.items l.desk.table.shared.key.value.load.opening → AreDealt l.desk.table.shared.key.value l.desk.table.shared.table_id bases l.initial.writers.items l.stream l.jobs.items)
     × KeepsWorkers l.desk.table.shared.key.value.load l.initial.head l.head
+    × (vec_capacity l.writers ≡ vec_capacity l.initial.writers)
