@@ -1,6 +1,6 @@
 -- How a run on open streams ends, by its answer.
-use Rattle.std.proofs.Common.{ℕ, ◌<◌, ◌≤◌, ◌≡◌, ◌⊎◌, inl, inr, List, [], ◌++◌, map, length, refl, sym, ap, subst, ◌∙◌, Result, Ok, Err, arith}
-use Rattle.std.specs.Prelude.{Some, slice_get}
+use Rattle.std.proofs.Common.{ℕ, ◌<◌, ◌≤◌, ◌≡◌, ◌⊎◌, inl, inr, List, [], ◌++◌, map, length, refl, sym, ap, subst, ◌∙◌, Option, Result, Ok, Err, arith}
+use Rattle.std.specs.Prelude.{Some, None, slice_get}
 use Rattle.std.proofs.lemmas.List.{append-nil}
 use Rattle.tau_base.specs.declared.value.LogMode.{LogMode}
 use Rattle.tau_base.specs.declared.value.NoMemory.{NoMemory}
@@ -13,10 +13,11 @@ use Rattle.tau_stream.specs.Writer.{disk_of, IsReady}
 use Rattle.tau_block.proofs.Blocks.{short_content}
 use Rattle.tau_open.specs.Opening.{IsOpened, AreOpened, Begins}
 use Rattle.tau_open.proofs.Closed.{rest_back, each_back}
+use Rattle.tau_text.specs.declared.load.Turn.{Turn}
 use Rattle.tau_text.specs.declared.load.Workload.{Workload}
 use Rattle.tau_report.specs.declared.report.RunEnd.{RunEnd}
 use Rattle.tau_run.specs.Facts.{catalogue_of}
-use Rattle.tau_run.specs.Course.{IsSoundLoad}
+use Rattle.tau_run.specs.Course.{IsLoadOf, IsSoundLoad}
 use Rattle.tau_run.specs.Told.{WroteFront, NamesFailed, RunFacts, turns_of, IsByTurns}
 use Rattle.tau_run.specs.Told as ending
 use Rattle.tau_run.proofs.Reading.{IsCatalogue}
@@ -24,15 +25,16 @@ use Rattle.tau_step.specs.RunTold.{AreNew}
 use Rattle.tau_engine.specs.declared.status.Status.{Status}
 use Rattle.tau_engine.specs.declared.status.Status.TheVariants as status
 use Rattle.tau_engine.specs.Came.{Gave}
-use Rattle.tau_engine.specs.Facts.{Past, Now, AreUnborn}
+use Rattle.tau_engine.specs.Facts.{HasSpaced, Past, Now, AreUnborn}
 use Rattle.tau_engine.specs.Fault.{fault_text}
 use Rattle.tau_engine.specs.Outside.{Wrote}
-use Rattle.tau_engine.specs.Runs.{TellsRun, RunsOn}
+use Rattle.tau_engine.specs.Runs.{RanChosen, RunsOn, TellsRun}
 use Rattle.tau_engine.specs.Said.{SaysRun}
 use Rattle.tau_engine.proofs.Longs.{none_is_long}
 use Rattle.tau_engine.proofs.NotBegun.{facts_of_none}
 use Rattle.tau_engine.proofs.Ran as ran
 use Rattle.tau_engine.proofs.RanTo as to
+use Rattle.tau_engine.proofs.Threaded as of_threads
 use Rattle.tau_engine.proofs.Streams.{OnlyNow}
 
 -- an image of a disk on which at most the catalogue was written
@@ -58,6 +60,12 @@ are_new {D} {G} n load old mid ws streams j w e =
       ready = λ t. subst (λ (k : ℕ). IsReady k j w (catalogue_of load)) (sym streams.count) (b.ready t);
     }
 
+-- what either kind of run gives
+pub gave : {D : Type 0} {G : Ghosts D} → OnlyNow G → (n m : ℕ) (mode : LogMode) (load : Workload) → n ≤ 16 → IsSoundLoad load → (ws ws' : List (Writer D G)) → length ws ≡ n → (hears : Type 0) (held held' : List ℕ) (sink_rose : Type 0) (turns : Option (List Turn)) → load.turns ≡ turns →
+    (result : Result RunEnd NoMemory) → RanChosen turns m mode load ws ws' hears held held' sink_rose result → Gave n m mode load ws ws' hears held held' sink_rose result
+gave {D} {G} only_now n m mode load room sound ws ws' count hears held held' sink_rose None is result x = of_threads.gave n m mode load is sound ws ws' count hears held held' sink_rose result x
+gave {D} {G} only_now n m mode load room sound ws ws' count hears held held' sink_rose (Some turns) is result x = ran.gave only_now n m mode load room sound ws ws' count hears held held' sink_rose result x
+
 module _ {D : Type 0} {G : Ghosts D} (only_now : OnlyNow G) (n m : ℕ) (mode : LogMode) (load : Workload) (some : 1 ≤ n) (room : n ≤ 16) (workers : 1 ≤ m) (sound : IsSoundLoad load) (old mid new : List D) (many : n ≤ length old)
     (ws : List (Writer D G)) (streams : AreOpened G n (catalogue_of load) old mid ws) (hears : Type 0) (held : List ℕ) (faults : ℕ) where
   abbrev is_catalogue : IsCatalogue load
@@ -81,19 +89,33 @@ module _ {D : Type 0} {G : Ghosts D} (only_now : OnlyNow G) (n m : ℕ) (mode : 
     not_empty = λ i size g. absurd (cc);
     long = λ i size lt t is. absurd (none_is_long G.seen old G.tells n i size t streams.empty lt is);
     asked = λ i size g. absurd (cc);
+    spaced = λ none e. absurd (cc);
     moments = λ unborn j d lt was. (let h = each_back n old new mid ws streams.count back (λ j. IsOpened G n (catalogue_of load) j) streams.disks j d lt was in (h.0, h.1, λ t. (h.2.begins t (unborn j d lt was t)).later));
     rest = rest_back n old new mid ws streams.count back ∙ streams.rest;
   }
 
-  pub says_gave : (after : List (Writer D G)) → new ≡ map (disk_of {D = D} {G = G}) after ++ mid → (held1 : List ℕ) (faults1 : ℕ) → faults ≤ faults1 → (held' : List ℕ) (faults' : ℕ) → faults1 ≤ faults' → (end : Result RunEnd NoMemory) →
-      Gave n m mode load ws after hears held held1 (Rose faults faults1) end → (answer : Status) → TellsRun load.declarations.tables end hears held1 held' (Rose faults1 faults') answer → SaysRun G n m mode load old new hears held held' faults faults' answer
-  says_gave after back held1 faults1 early held' faults' late (Ok e) x answer t = to.concludes only_now n m mode load ws after old mid new many streams back hears held held1 held' faults faults1 faults' early late e x answer t
-  says_gave after back held1 faults1 early held' faults' late (Err no_memory) (inl x) answer t =
-      subst (λ (a : Status). SaysRun G n m mode load old new hears held held' faults faults' a) (sym t.0) (to.cuts_off only_now n m mode load ws after old mid new many streams back hears held held1 held' faults faults1 faults' early late x t.1)
-  says_gave after back held1 faults1 early held' faults' late (Err no_memory) (inr none) answer t =
-      subst (λ (a : Status). SaysRun G n m mode load old new hears held held' faults faults' a) (sym t.0)
-      (none_begun held' faults' (back ∙ ap (λ (w : List (Writer D G)). map (disk_of {D = D} {G = G}) w ++ mid) none.0) (t.1 ∙ none.1))
+  -- its anchors, if it went to its end and no disk failed
+  abbrev Spaces : Result RunEnd NoMemory → Type 0
+  Spaces (Ok e) = load.turns ≡ None → e.disk ≡ None → (j : ℕ) (x : List ℕ) → j < n → Now G.tells G.may_leave old new j x → HasSpaced n j load x
+  Spaces (Err e) = Unit {0}
+
+  module _ (after : List (Writer D G)) (back : new ≡ map (disk_of {D = D} {G = G}) after ++ mid) (held1 : List ℕ) (faults1 : ℕ) (early : faults ≤ faults1) where
+    says_gave : (held' : List ℕ) (faults' : ℕ) → faults1 ≤ faults' → (end : Result RunEnd NoMemory) → Gave n m mode load ws after hears held held1 (Rose faults faults1) end → Spaces end →
+        (answer : Status) → TellsRun load.declarations.tables end hears held1 held' (Rose faults1 faults') answer → SaysRun G n m mode load old new hears held held' faults faults' answer
+    says_gave held' faults' late (Ok e) x spaced answer t = to.concludes only_now n m mode load ws after old mid new many streams back hears held held1 held' faults faults1 faults' early late e x spaced answer t
+    says_gave held' faults' late (Err no_memory) (inl x) spaced answer t =
+        subst (λ (a : Status). SaysRun G n m mode load old new hears held held' faults faults' a) (sym t.0) (to.cuts_off only_now n m mode load ws after old mid new many streams back hears held held1 held' faults faults1 faults' early late x t.1)
+    says_gave held' faults' late (Err no_memory) (inr none) spaced answer t =
+        subst (λ (a : Status). SaysRun G n m mode load old new hears held held' faults faults' a) (sym t.0)
+        (none_begun held' faults' (back ∙ ap (λ (w : List (Writer D G)). map (disk_of {D = D} {G = G}) w ++ mid) none.0) (t.1 ∙ none.1))
+
+    spaces : (turns : Option (List Turn)) → load.turns ≡ turns → (end : Result RunEnd NoMemory) → RanChosen turns m mode load ws after hears held held1 (Rose faults faults1) end → Spaces end
+    spaces turns is (Err e) x = tt
+    spaces None is (Ok e) x = λ threads none j y lt now.
+        of_threads.spaced only_now n m mode load is sound x.first (subst (λ (k : ℕ). IsLoadOf k m mode load x.first.load) streams.count x.load_is) ws after hears held held1 (Rose faults faults1) old mid new many streams back e x.ran none j y lt now
+    spaces (Some turns) is (Ok e) x = λ threads. absurd (let bad : None ≡ Some turns = sym threads ∙ is in cc bad)
 
   pub says_run : (held' : List ℕ) (faults' : ℕ) (answer : Status) → RunsOn m mode load ws mid new hears held held' faults faults' answer → SaysRun G n m mode load old new hears held held' faults faults' answer
   says_run held' faults' answer r =
-      says_gave r.after r.back r.mid r.count r.early held' faults' r.late r.end (ran.gave only_now n m mode load room sound ws r.after streams.count hears held r.mid (Rose faults r.count) r.end r.ran) answer r.told
+      says_gave r.after r.back r.mid r.count r.early held' faults' r.late r.end (gave only_now n m mode load room sound ws r.after streams.count hears held r.mid (Rose faults r.count) load.turns refl r.end r.ran)
+      (spaces r.after r.back r.mid r.count r.early load.turns refl r.end r.ran) answer r.told

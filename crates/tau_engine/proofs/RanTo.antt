@@ -32,7 +32,7 @@ use Rattle.tau_run.proofs.Results.{ends_law, history_law}
 use Rattle.tau_step.specs.Came.{CameTo, came_far}
 use Rattle.tau_step.specs.RunTold.{IsLowestStopped, fates_by}
 use Rattle.tau_step.specs.Telling.{Heard}
-use Rattle.tau_engine.specs.Facts.{Past, Now, AreUnborn, NotEarlier, NextClean}
+use Rattle.tau_engine.specs.Facts.{HasSpaced, Past, Now, AreUnborn, NotEarlier, NextClean}
 use Rattle.tau_engine.specs.declared.status.Status.{Status}
 use Rattle.tau_engine.specs.declared.status.Status.TheVariants as status
 use Rattle.tau_engine.specs.Fault.{fault_text}
@@ -137,7 +137,7 @@ module _ {D : Type 0} {G : Ghosts D} (only_now : OnlyNow G) (n m : ℕ) (mode : 
     module _ (e : RunEnd) (whole : by true l t.opening (came_far t)) (over : IsOver n s) (complete : ((j : ℕ) → j < n → stops j ≡ None) → AllAcked load run) (hears : Type 0) (held held1 held' : List ℕ) (faults faults1 faults' : ℕ) (early : faults ≤ faults1) (late : faults1 ≤ faults')
         (heard : hears → Heard held acks e.sink_failed held1) (sink : e.sink_failed ≡ true → Rose faults faults1) (low : IsLowestStopped n s e.disk) (acks_are : e.report.acks ≡ acks)
         (fates : e.report.fates ≡ fates_by (length l.calls) K acks) (order : e.report.order ≡ map (λ (t : Act Txn). t.call.call.number) (reported s.ends K))
-        (tables : IsTablesOf (sight (setting_of l) s).row e.report.tables) where
+        (tables : IsTablesOf (sight (setting_of l) s).row e.report.tables) (spaced : load.turns ≡ None → e.disk ≡ None → (j : ℕ) (x : List ℕ) → j < n → Now G.tells G.may_leave old new j x → HasSpaced n j load x) where
       abbrev declared : List (List ℕ)
       declared = load.declarations.tables
 
@@ -166,6 +166,7 @@ module _ {D : Type 0} {G : Ghosts D} (only_now : OnlyNow G) (n m : ℕ) (mode : 
             not_empty = λ i size g. absurd (cc);
             long = λ i size lt tells is. absurd (none_is_long G.seen old G.tells n i size tells streams.empty lt is);
             asked = λ i size g. absurd (cc);
+            spaced = λ threads f. spaced threads none;
             moments = rise;
             rest = rest_is G n (catalogue_of load) l s old mid new ws ws' streams back t.writers;
           }
@@ -191,6 +192,7 @@ module _ {D : Type 0} {G : Ghosts D} (only_now : OnlyNow G) (n m : ℕ) (mode : 
             not_empty = λ i size g. absurd (cc);
             long = λ i size lt tells is. absurd (none_is_long G.seen old G.tells n i size tells streams.empty lt is);
             asked = λ i size g. absurd (cc);
+            spaced = λ none e. absurd (cc);
             moments = rise;
             rest = rest_is G n (catalogue_of load) l s old mid new ws ws' streams back t.writers;
           }
@@ -209,6 +211,7 @@ module _ {D : Type 0} {G : Ghosts D} (only_now : OnlyNow G) (n m : ℕ) (mode : 
         not_empty = λ i size g. absurd (cc);
         long = λ i size lt tells is. absurd (none_is_long G.seen old G.tells n i size tells streams.empty lt is);
         asked = λ i size g. absurd (cc);
+        spaced = λ none e. absurd (cc);
         moments = rise;
         rest = rest_is G n (catalogue_of load) l s old mid new ws ws' streams back t.writers;
       }
@@ -228,6 +231,7 @@ module _ {D : Type 0} {G : Ghosts D} (only_now : OnlyNow G) (n m : ℕ) (mode : 
         not_empty = λ i size g. absurd (cc);
         long = λ i size lt tells is. absurd (none_is_long G.seen old G.tells n i size tells streams.empty lt is);
         asked = λ i size g. absurd (cc);
+        spaced = λ none e. absurd (cc);
         moments = rise;
         rest = rest_is G n (catalogue_of load) l s old mid new ws ws' streams back t.writers;
       }
@@ -254,9 +258,10 @@ module _ {D : Type 0} {G : Ghosts D} (only_now : OnlyNow G) (n m : ℕ) (mode : 
 module _ {D : Type 0} {G : Ghosts D} (only_now : OnlyNow G) (n m : ℕ) (mode : LogMode) (load : Workload) (ws ws' : List (Writer D G)) (old mid new : List D) (many : n ≤ length old) (streams : AreOpened G n (catalogue_of load) old mid ws) (back : new ≡ map disk_of ws' ++ mid)
     (hears : Type 0) (held held1 held' : List ℕ) (faults faults1 faults' : ℕ) (early : faults ≤ faults1) (late : faults1 ≤ faults') where
   -- it went to its end
-  pub concludes : (e : RunEnd) → Concluded n m mode load ws ws' hears held held1 (Rose faults faults1) e → (answer : Status) → TellsEnd load.declarations.tables e hears held1 held' (Rose faults1 faults') answer → SaysRun G n m mode load old new hears held held' faults faults' answer
-  concludes e c answer t =
-      tells_end only_now n m mode load ws ws' c.acks c.came old mid new many streams back e c.whole c.over c.complete hears held held1 held' faults faults1 faults' early late c.heard c.sink c.disk c.told c.fates c.order c.tables answer t
+  pub concludes : (e : RunEnd) → Concluded n m mode load ws ws' hears held held1 (Rose faults faults1) e → (load.turns ≡ None → e.disk ≡ None → (j : ℕ) (x : List ℕ) → j < n → Now G.tells G.may_leave old new j x → HasSpaced n j load x) →
+      (answer : Status) → TellsEnd load.declarations.tables e hears held1 held' (Rose faults1 faults') answer → SaysRun G n m mode load old new hears held held' faults faults' answer
+  concludes e c spaced answer t =
+      tells_end only_now n m mode load ws ws' c.acks c.came old mid new many streams back e c.whole c.over c.complete hears held held1 held' faults faults1 faults' early late c.heard c.sink c.disk c.told c.fates c.order c.tables spaced answer t
 
   -- it was out of memory before: one history, of which the first acknowledgements were told
   pub cuts_off : CutOff n m mode load ws ws' hears held held1 (Rose faults faults1) → held' ≡ held1 → SaysRun G n m mode load old new hears held held' faults faults' status.NoMemory
@@ -279,6 +284,7 @@ module _ {D : Type 0} {G : Ghosts D} (only_now : OnlyNow G) (n m : ℕ) (mode : 
     not_empty = λ i size g. absurd (cc);
     long = λ i size lt t is. absurd (none_is_long G.seen old G.tells n i size t streams.empty lt is);
     asked = λ i size g. absurd (cc);
+    spaced = λ none e. absurd (cc);
     moments = rise only_now n m mode load ws ws' c.acks c.came old mid new many streams back;
     rest = rest_is G n (catalogue_of load) c.came.stands_on c.came.state old mid new ws ws' streams back c.came.writers;
   }

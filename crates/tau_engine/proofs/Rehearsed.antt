@@ -34,7 +34,7 @@ use Rattle.tau_engine.specs.Came.{Concluded}
 use Rattle.tau_engine.specs.Drill.{IsRehearsed, PlaysOn}
 use Rattle.tau_engine.specs.Facts.{Past, Now, AreUnborn}
 use Rattle.tau_engine.specs.Outside.{Wrote}
-use Rattle.tau_engine.proofs.Ends.{begun_left}
+use Rattle.tau_engine.proofs.Ends.{begun_left, gave}
 use Rattle.tau_engine.proofs.NotBegun.{told_of_none}
 use Rattle.tau_engine.proofs.Ran as ran
 use Rattle.tau_engine.proofs.RanTo as to
@@ -142,7 +142,7 @@ module _ {D : Type 0} {G : Ghosts D} (only_now : OnlyNow G) (n m : ℕ) (load : 
 module _ {D : Type 0} {G : Ghosts D} (only_now : OnlyNow G) (n m : ℕ) (load : Workload) (room : n ≤ 16) (sound : IsSoundLoad load) (old mid new : List D) (many : n ≤ length old) (ws : List (Writer D G))
     (streams : AreOpened G n (catalogue_of load) old mid ws) (tells : G.tells) (hears : Type 0) (held held' : List ℕ) (rose : Type 0) (rows : List (Key × Value)) (q : PlaysWell m load ws mid new hears held held' rose rows) where
   abbrev h_on : Concluded n m Values load ws q.after hears held held' rose q.end
-  h_on = ran.gave only_now n m Values load room sound ws q.after streams.count hears held held' rose (Ok q.end) q.ran
+  h_on = gave only_now n m Values load room sound ws q.after streams.count hears held held' rose load.turns refl (Ok q.end) q.ran
 
   going : IsLowestStopped n h_on.came.state None
   going = subst (λ (o : Option ℕ). IsLowestStopped n h_on.came.state o) q.whole h_on.disk

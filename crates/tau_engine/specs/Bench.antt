@@ -26,8 +26,8 @@ use Rattle.tau_run.specs.Run.{AllAcked, last_db}
 use Rattle.tau_scan.specs.declared.log.Log.{Log}
 use Rattle.tau_scan.specs.Reading.{log_of}
 use Rattle.tau_replay.specs.Redone.{IsRedone}
-use Rattle.tau_step.specs.RunTold.{RanNew}
 use Rattle.tau_engine.specs.Drill.{IsRehearsed}
+use Rattle.tau_engine.specs.Runs.{RanChosen}
 use Rattle.tau_engine.specs.declared.status.Status.{Status}
 use Rattle.tau_engine.specs.declared.status.Status.TheVariants as status
 
@@ -79,7 +79,7 @@ pub record PlaysWell {D : Type 0} {G : Ghosts D} (m : ℕ) (load : Workload) (ws
   pub after : List (Writer D G)
   pub back : now ≡ map disk_of after ++ rest
   pub end : RunEnd
-  pub ran : RanNew m Values load ws after hears held held' rose (Ok end)
+  pub ran : RanChosen load.turns m Values load ws after hears held held' rose (Ok end)
   pub heard : end.sink_failed ≡ false
   pub whole : end.disk ≡ None
   pub rows_are : end.report.tables ≡ rows

@@ -19,6 +19,7 @@ ghost use Rattle.tau_engine.specs.Drill.{AreNewDisks};
 ghost use Rattle.tau_engine.specs.Facts.{AreUnborn};
 ghost use Rattle.tau_engine.specs.Outside.{Wrote, ends_rehearsal};
 
+use crate::run::run_writers;
 use crate::status::Status;
 use sha2::{Digest, Sha256};
 use std::alloc::{AllocError, Global};
@@ -32,7 +33,7 @@ use tau_open::{close_streams, open_streams};
 use tau_replay::replay_threads;
 use tau_report::{RunEnd, table_text};
 use tau_scan::{Log, ReplayRefusal, ScanRefusal, scan};
-use tau_step::{run_turns, write_all};
+use tau_step::write_all;
 use tau_stream::Writer;
 use tau_text::{Declarations, Workload, print_declarations};
 
@@ -59,13 +60,15 @@ fn rows_of(end: RunEnd) -> Result<Tables, NoMemory>
 
 /// Runs the calls of a workload by so many workers on the streams of these writers, and puts their disks back in front
 /// of the others. The lines of acknowledgements go to the sink.
-fn play_on<D: Disk, K: Sink>(
+fn play_on<R: Threads + Wait + Sync, D: Disk + Send, K: Sink + Send, G: Gate + Sync>(
+    rt: &R,
     alloc: Global,
     load: &Workload,
     m: u8,
     sink: &mut K,
     disks: &mut Vec<D>,
     writers: Vec<Writer<D>>,
+    gate: &G,
 ) -> Result<Tables, NoMemory>
     requires streams_low { 1 ≤ vec_len writers }
     requires streams_high { vec_len writers ≤ MAX_STREAMS }
@@ -79,7 +82,16 @@ fn play_on<D: Disk, K: Sink>(
     ensures len { vec_len disks.new ≡ vec_len writers + vec_len disks.old }
 {
     let mut writers = writers;
-    let end = run_turns(alloc, load, m, LogMode::Values, &mut writers, sink);
+    let end = run_writers(
+        rt,
+        alloc,
+        load,
+        m,
+        LogMode::Values,
+        &mut writers,
+        sink,
+        gate,
+    );
     close_streams(disks, writers);
     match end {
         Ok(end) => rows_of(end),
@@ -89,13 +101,15 @@ fn play_on<D: Disk, K: Sink>(
 
 /// Runs the calls of a workload on empty disks. The lines of acknowledgements go to the sink. Out of memory also if a
 /// disk or the sink fails.
-fn play<D: Disk, K: Sink>(
+fn play<R: Threads + Wait + Sync, D: Disk + Send, K: Sink + Send, G: Gate + Sync>(
+    rt: &R,
     alloc: Global,
     load: &Workload,
     n: u8,
     m: u8,
     sink: &mut K,
     disks: &mut Vec<D>,
+    gate: &G,
 ) -> Result<Tables, NoMemory>
     requires streams_low { 1 ≤ n }
     requires streams_high { n ≤ MAX_STREAMS }
@@ -115,7 +129,7 @@ fn play<D: Disk, K: Sink>(
         Err(error) => return Err(error),
     };
     match open_streams(alloc, disks, n, &catalogue) {
-        Ok(writers) => play_on(alloc, load, m, sink, disks, writers),
+        Ok(writers) => play_on(rt, alloc, load, m, sink, disks, writers, gate),
         Err(_) => Err(NoMemory),
     }
 }
@@ -295,7 +309,7 @@ fn measure<R: Threads + Wait + Sync, G: Gate + Sync>(
     let load = generate(alloc, start, calls)?;
     let mut disks = new_disks(alloc, n)?;
     let mut out = MemSink::new(alloc, &[])?;
-    let rows = play(alloc, &load, n, m, &mut out, &mut disks)?;
+    let rows = play(rt, alloc, &load, n, m, &mut out, &mut disks, gate)?;
     let acked = lines_in(out.bytes());
     let again = recovered(rt, alloc, m, disks.as_mut_slice(), gate)?;
     measured_text(alloc, &load.declarations, calls, acked, &rows, &again)

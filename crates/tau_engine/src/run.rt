@@ -3,18 +3,21 @@ ghost use Rattle.std.specs.Prelude.{◌≡◌, ◌≤◌, ◌+◌, ℕ, List, Ok
 ghost use Rattle.tau_base.specs.declared.limits.TheConstants.{MAX_CATALOGUE, MAX_STREAMS, MAX_WORKERS};
 ghost use Rattle.tau_disk.specs.Disk.{Rose};
 ghost use Rattle.tau_text.specs.Canonical.{declarations_text};
-ghost use Rattle.tau_text.specs.Kept.{IsRunnable};
+ghost use Rattle.tau_text.specs.Kept.{AreCalls, IsRunnable};
 ghost use Rattle.tau_text.specs.Text.{workload_of};
 ghost use Rattle.tau_run.specs.Facts.{catalogue_of};
 ghost use Rattle.tau_step.specs.RunTold.{AreNew};
-ghost use Rattle.tau_engine.specs.Runs.{TellsEnd, RunsOn, status_in};
+ghost use Rattle.tau_engine.specs.Runs.{RanChosen, RunsOn, TellsEnd, status_in};
 ghost use Rattle.tau_engine.specs.Said.{SaysRun};
 
 use crate::fault::refuse;
 use crate::status::Status;
 use std::alloc::Global;
+use std::sync::Wait;
+use std::thread::Threads;
 use tau_base::{LogMode, NoMemory};
-use tau_disk::{Disk, Sink};
+use tau_crew::run_threads;
+use tau_disk::{Disk, Gate, Sink};
 use tau_open::{OpenRefusal, close_streams, open_streams};
 use tau_report::{RunEnd, report_text};
 use tau_step::{run_turns, write_all};
@@ -53,8 +56,37 @@ fn status_of(refusal: OpenRefusal) -> Status
     }
 }
 
+/// Runs a workload on the streams of these writers: by turns if it has them, else in threads.
+pub(crate) fn run_writers<R: Threads + Wait + Sync, D: Disk + Send, K: Sink + Send, G: Gate + Sync>(
+    rt: &R,
+    alloc: Global,
+    load: &Workload,
+    m: u8,
+    mode: LogMode,
+    writers: &mut Vec<Writer<D>>,
+    sink: &mut K,
+    gate: &G,
+) -> Result<RunEnd, NoMemory>
+    requires streams_low { 1 ≤ length writers.old.items }
+    requires streams_high { length writers.old.items ≤ MAX_STREAMS }
+    requires low { 1 ≤ m }
+    requires high { m ≤ MAX_WORKERS }
+    requires calls { AreCalls load.now.declarations.procs load.now.calls }
+    requires text { length (declarations_text load.now.declarations) ≤ MAX_CATALOGUE }
+    requires fresh { AreNew (λ j. catalogue_of load.now) writers.old.items }
+    ensures ran { RanChosen load.now.turns m mode load.now writers.old.items writers.new.items K.tells (K.held sink.old) (K.held sink.new) (Rose (K.faults sink.old) (K.faults sink.new)) result }
+    ensures faults { K.faults sink.old ≤ K.faults sink.new }
+    ensures count { length writers.new.items ≡ length writers.old.items }
+{
+    match load.turns {
+        Some(_) => run_turns(alloc, load, m, mode, writers, sink),
+        None => run_threads(rt, alloc, load, m, mode, writers, sink, gate),
+    }
+}
+
 /// Runs a workload on the streams of these writers, and puts their disks back in front of the others.
-fn run_on<D: Disk, K: Sink>(
+fn run_on<R: Threads + Wait + Sync, D: Disk + Send, K: Sink + Send, G: Gate + Sync>(
+    rt: &R,
     alloc: Global,
     load: &Workload,
     m: u8,
@@ -62,6 +94,7 @@ fn run_on<D: Disk, K: Sink>(
     sink: &mut K,
     disks: &mut Vec<D>,
     writers: Vec<Writer<D>>,
+    gate: &G,
 ) -> Status
     requires streams_low { 1 ≤ vec_len writers }
     requires streams_high { vec_len writers ≤ MAX_STREAMS }
@@ -75,7 +108,7 @@ fn run_on<D: Disk, K: Sink>(
     ensures len { vec_len disks.new ≡ vec_len writers + vec_len disks.old }
 {
     let mut writers = writers;
-    let end = run_turns(alloc, load, m, mode, &mut writers, sink);
+    let end = run_writers(rt, alloc, load, m, mode, &mut writers, sink, gate);
     close_streams(disks, writers);
     match end {
         Ok(end) => tell_end(alloc, load, &end, sink),
@@ -84,7 +117,8 @@ fn run_on<D: Disk, K: Sink>(
 }
 
 /// Runs a workload on the first `n` disks, which are to hold nothing, and puts them back in their places.
-pub fn run<D: Disk, K: Sink>(
+pub fn run<R: Threads + Wait + Sync, D: Disk + Send, K: Sink + Send, G: Gate + Sync>(
+    rt: &R,
     alloc: Global,
     load: &Workload,
     n: u8,
@@ -92,6 +126,7 @@ pub fn run<D: Disk, K: Sink>(
     mode: LogMode,
     sink: &mut K,
     disks: &mut Vec<D>,
+    gate: &G,
 ) -> Status
     requires disks { vec_len disks.old ≡ 16 }
     requires streams_low { 1 ≤ n }
@@ -109,6 +144,6 @@ pub fn run<D: Disk, K: Sink>(
     };
     match open_streams(alloc, disks, n, &catalogue) {
         Err(refusal) => refuse(alloc, sink, status_of(refusal)),
-        Ok(writers) => run_on(alloc, load, m, mode, sink, disks, writers),
+        Ok(writers) => run_on(rt, alloc, load, m, mode, sink, disks, writers, gate),
     }
 }

@@ -21,10 +21,10 @@ use Rattle.tau_engine.proofs.Drilled.{image_left}
 use Rattle.tau_engine.proofs.bench.measure.Goals as goal
 
 pub play-requires-clause-sound : goal.play-requires-clause-sound
-play-requires-clause-sound g c = subst (λ (l : Workload). IsSoundLoad l) (sym c.in_ok-load.ensures) (sound_generated c.args.start c.args.calls)
+play-requires-clause-sound g c κs within = subst (λ (l : Workload). IsSoundLoad l) (sym c.in_ok-load.ensures) (sound_generated c.args.start c.args.calls)
 
 pub play-requires-clause-calls : goal.play-requires-clause-calls
-play-requires-clause-calls g c = subst (λ (l : Workload). AreCalls l.declarations.procs l.calls) (sym c.in_ok-load.ensures) (are_calls c.args.start c.args.calls c.requires.calls)
+play-requires-clause-calls g c κs within = subst (λ (l : Workload). AreCalls l.declarations.procs l.calls) (sym c.in_ok-load.ensures) (are_calls c.args.start c.args.calls c.requires.calls)
 
 pub recovered-requires-clause-ordered : goal.recovered-requires-clause-ordered
 recovered-requires-clause-ordered g c κs within =

@@ -9,6 +9,7 @@ use Rattle.tau_run.proofs.Sources.{catalogue_load}
 use Rattle.tau_engine.specs.declared.status.Status.TheVariants as status
 use Rattle.tau_engine.specs.Recovery.{RecoverTells, IsBadLog, images_of}
 use Rattle.tau_engine.specs.Served.{served, used_by, reads_source, writes_at_end}
+use Rattle.tau_engine.specs.Facts.{HasSpaced, Now}
 use Rattle.tau_engine.specs.Said.{SaysRun}
 use Rattle.tau_disk.specs.Used.{EachUsed, OnlyRead, AllCalls, RoseAt, IsClean, IsFirstStopped}
 use Rattle.tau_engine.specs.Outside.{Wrote, is_behind_reading}
@@ -47,22 +48,22 @@ says g c n m mode words =
     c.run.result q.0 q.1 q.2 refl (here g c)
 
 pub run-requires-clause-meant : goal.run-requires-clause-meant
-run-requires-clause-meant g c = c.in-Ok.ensures.meant
+run-requires-clause-meant g c κs within = c.in-Ok.ensures.meant
 
 pub run-requires-clause-streams_low : goal.run-requires-clause-streams_low
-run-requires-clause-streams_low g c = (c.in-Ok-Run.ensures.within_run c.in-Ok-Run.n c.in-Ok-Run.m c.in-Ok-Run.mode c.in-Ok-Run.field-0-is).0.0
+run-requires-clause-streams_low g c κs within = (c.in-Ok-Run.ensures.within_run c.in-Ok-Run.n c.in-Ok-Run.m c.in-Ok-Run.mode c.in-Ok-Run.field-0-is).0.0
 
 pub run-requires-clause-streams_high : goal.run-requires-clause-streams_high
-run-requires-clause-streams_high g c = (c.in-Ok-Run.ensures.within_run c.in-Ok-Run.n c.in-Ok-Run.m c.in-Ok-Run.mode c.in-Ok-Run.field-0-is).0.1
+run-requires-clause-streams_high g c κs within = (c.in-Ok-Run.ensures.within_run c.in-Ok-Run.n c.in-Ok-Run.m c.in-Ok-Run.mode c.in-Ok-Run.field-0-is).0.1
 
 pub run-requires-clause-low : goal.run-requires-clause-low
-run-requires-clause-low g c = (c.in-Ok-Run.ensures.within_run c.in-Ok-Run.n c.in-Ok-Run.m c.in-Ok-Run.mode c.in-Ok-Run.field-0-is).1
+run-requires-clause-low g c κs within = (c.in-Ok-Run.ensures.within_run c.in-Ok-Run.n c.in-Ok-Run.m c.in-Ok-Run.mode c.in-Ok-Run.field-0-is).1
 
 pub run-requires-clause-high : goal.run-requires-clause-high
-run-requires-clause-high g c = (c.in-Ok-Run.ensures.within_run c.in-Ok-Run.n c.in-Ok-Run.m c.in-Ok-Run.mode c.in-Ok-Run.field-0-is).2
+run-requires-clause-high g c κs within = (c.in-Ok-Run.ensures.within_run c.in-Ok-Run.n c.in-Ok-Run.m c.in-Ok-Run.mode c.in-Ok-Run.field-0-is).2
 
 pub run-requires-clause-runnable : goal.run-requires-clause-runnable
-run-requires-clause-runnable g c = c.in-Ok.ensures.runnable
+run-requires-clause-runnable g c κs within = c.in-Ok.ensures.runnable
 
 pub returns-in-Ok-clause-count : goal.returns-in-Ok-clause-count
 returns-in-Ok-clause-count g c = c.run.ensures.count
@@ -181,6 +182,12 @@ returns-in-Ok-clause-silent_long g c n m j long mode words e tells lt is = ((say
 
 pub returns-in-Ok-clause-moments : goal.returns-in-Ok-clause-moments
 returns-in-Ok-clause-moments g c n m mode words unborn = (says g c n m mode words).moments unborn
+
+pub returns-in-Ok-clause-anchors : goal.returns-in-Ok-clause-anchors
+returns-in-Ok-clause-anchors g c n m mode load words tells read threads e =
+    let same : c.in-Ok.load ≡ load = same_load (g.S.Source.left c.args.source.now) c.in-Ok.load load (c.in-Ok.ensures.load tells) read in
+    subst (λ (l : Workload). (j : ℕ) (image : List ℕ) → j < n → Now g.D.Disk.tells g.D.Disk.may_leave c.args.disks.now.items c.run.new.disks.items j image → HasSpaced n j l image) same
+    ((says g c n m mode words).spaced (ap (λ (l : Workload). l.turns) same ∙ threads) e)
 
 pub returns-in-Ok-clause-recover_calls : goal.returns-in-Ok-clause-recover_calls
 returns-in-Ok-clause-recover_calls g c n p words e = absurd (not_recovery (served (map string_bytes c.args.words.now)) c.in-Ok-Run.n c.in-Ok-Run.m n p c.in-Ok-Run.mode (asked g c) words)
