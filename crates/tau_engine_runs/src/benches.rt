@@ -42,28 +42,36 @@ fn streams_and_workers_change_nothing(rt: HostRuntime) -> Result<(), Fail> {
     Ok(())
 }
 
-// Counts the records that are replayed.
+// Counts the records that are posted and those that are replayed, and the flushes of two streams.
 #[derive(Drop)]
-struct Replays {
-    count: AtomicU64,
+struct Counts {
+    commits: AtomicU64,
+    flushes: AtomicU64,
+    other_flushes: AtomicU64,
+    replays: AtomicU64,
 }
 
-impl Gate for Replays {
+impl Gate for Counts {
     fn at(&self, place: Place) {
-        match place {
-            Place::Replay { worker: _ } => {
-                self.count.fetch_add(1, Ordering::SeqCst);
-            }
-            _ => {}
-        }
+        let counter = match place {
+            Place::Commit { stream: _ } => &self.commits,
+            Place::Flush { stream: 0 } => &self.flushes,
+            Place::Flush { stream: _ } => &self.other_flushes,
+            Place::Replay { worker: _ } => &self.replays,
+            _ => return,
+        };
+        counter.fetch_add(1, Ordering::SeqCst);
     }
 }
 
 #[test]
 fn bench_runs_calls(rt: HostRuntime) -> Result<(), Fail> {
     let alloc = rt.alloc();
-    let gate = Replays {
-        count: AtomicU64::new(0),
+    let gate = Counts {
+        commits: AtomicU64::new(0),
+        flushes: AtomicU64::new(0),
+        other_flushes: AtomicU64::new(0),
+        replays: AtomicU64::new(0),
     };
     let mut source = MemSource::new(alloc, b"table a\n", &[1])?;
     let mut sink = MemSink::new(alloc, &[])?;
@@ -80,7 +88,10 @@ fn bench_runs_calls(rt: HostRuntime) -> Result<(), Fail> {
     )?;
     assert!(rt; status == Status::Ok);
     assert_eq!(rt; sink.bytes(), HUNDRED);
-    assert!(rt; gate.count.load(Ordering::SeqCst) >= 100);
+    assert!(rt; gate.commits.load(Ordering::SeqCst) >= 100);
+    assert!(rt; gate.flushes.load(Ordering::SeqCst) >= 1);
+    assert!(rt; gate.other_flushes.load(Ordering::SeqCst) >= 1);
+    assert!(rt; gate.replays.load(Ordering::SeqCst) >= 100);
     for disk in &disks {
         assert_eq!(rt; disk.calls(), 0);
     }

@@ -1,5 +1,5 @@
 //! Drills: rehearsed crashes.
-use crate::support::{do_words, new_disks, told_anew};
+use crate::support::{do_words, has_line, new_disks, told_anew};
 use std::alloc::Global;
 use std::sync::Wait;
 use std::test::*;
@@ -129,16 +129,6 @@ fn no_disk_of_the_caller_is_touched(rt: HostRuntime) -> Result<(), Fail> {
         assert_eq!(rt; disk.image(Tear::New)?.as_slice(), b"".as_slice());
     }
     Ok(())
-}
-
-/// Whether the text has the line.
-fn has_line(text: &[u8], line: &[u8]) -> bool {
-    for at in 0..text.len() {
-        if text[at..].starts_with(line) {
-            return true;
-        }
-    }
-    false
 }
 
 /// Whether of these four calls each that is acknowledged is taken, with its record.

@@ -17,3 +17,5 @@ mod runs;
 mod stops;
 #[cfg(test)]
 mod support;
+#[cfg(test)]
+mod threads;

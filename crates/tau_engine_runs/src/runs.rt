@@ -1,4 +1,4 @@
-//! Runs, and recoveries of what they left.
+//! Runs by turns and runs of one call, and recoveries of what they left.
 use crate::support::{do_words, first_wrong, new_disks, told, told_anew};
 use std::alloc::Global;
 use std::sync::Wait;
@@ -9,7 +9,7 @@ use tau_engine::Status;
 
 // A transfer between two rows, and its calls.
 static TRANSFERS: &str =
-    "table acct\nproc move 3\nget r0 acct $1\nneed r0 >= $3\nsub r0 r0 $3\nget r1 acct $2\nadd r1 r1 $3\nput acct $1 r0\nput acct $2 r1\nreply r0\nend\nput acct 1 100\nput acct 2 50\ncall move 1 2 30\ncall move 1 2 80\nget acct 2\n";
+    "table acct\nproc move 3\nget r0 acct $1\nneed r0 >= $3\nsub r0 r0 $3\nget r1 acct $2\nadd r1 r1 $3\nput acct $1 r0\nput acct $2 r1\nreply r0\nend\nput acct 1 100\nput acct 2 50\ncall move 1 2 30\ncall move 1 2 80\nget acct 2\nturns\n";
 // Three workers, of which the third goes first, and an anchor.
 static ANCHORED: &str =
     "table a\nput a 1 5\nadd a 1 2\nput a 3 9\nturns w2 w2 w2 w2 w2 m2 a0 w0 w0 w0 w0 w0\n";
@@ -47,7 +47,7 @@ fn two_streams_two_workers(rt: HostRuntime) -> Result<(), Fail> {
             "ack 1 53,0\nack 2 53,61\nreply 1 none\nreply 2 int 7\norder 1\norder 2\nrow a 1 int 7\nend 0\n",
         ),
         (
-            "table a\nput a 1 5\nput a 2 6\n",
+            "table a\nput a 1 5\nput a 2 6\nturns\n",
             "ack 1 53,0\nack 2 0,53\nreply 1 none\nreply 2 none\norder 1\norder 2\nrow a 1 int 5\nrow a 2 int 6\nend 0\n",
         ),
         (
@@ -170,7 +170,7 @@ fn images_of_one_put(rt: HostRuntime) -> Result<(), Fail> {
 fn two_puts_on_one_key(rt: HostRuntime) -> Result<(), Fail> {
     let alloc = rt.alloc();
     let mut disks = new_disks(alloc)?;
-    let text = b"table a\nput a 1 5\nput a 1 6";
+    let text = b"table a\nput a 1 5\nput a 1 6\nturns";
     let got = told(&rt, alloc, &["run", "2", "1"], text, 0, &mut disks)?;
     assert_eq!(rt;
         got.as_slice(),
@@ -206,6 +206,7 @@ fn thousand_puts(rt: HostRuntime) -> Result<(), Fail> {
         let number = 2 * k;
         write!(text, "put a {k} {number}\n")?;
     }
+    text.push_str("turns\n")?;
     let status = do_words(
         &rt,
         alloc,

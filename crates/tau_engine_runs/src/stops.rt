@@ -101,7 +101,7 @@ fn a_failed_sink_ends_all_writing(rt: HostRuntime) -> Result<(), Fail> {
     let alloc = rt.alloc();
     let mut disks = new_disks(alloc)?;
     let mut sink = MemSink::new(alloc, &[2])?;
-    let text = b"table a\nput a 1 5\nput a 2 6\nput a 3 7\n";
+    let text = b"table a\nput a 1 5\nput a 2 6\nput a 3 7\nturns\n";
     let status = do_words(&rt, alloc, &["run", "1", "1"], text, &mut sink, &mut disks)?;
     assert_eq!(rt; status, Status::WriteFault);
     assert_eq!(rt; sink.bytes(), b"ack 1 53\n".as_slice());

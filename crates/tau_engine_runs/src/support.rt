@@ -143,3 +143,26 @@ pub(crate) fn first_wrong<R: Threads + Wait + Sync>(
     }
     Ok(None)
 }
+
+/// Whether the text has the line.
+pub(crate) fn has_line(text: &[u8], line: &[u8]) -> bool {
+    for at in 0..text.len() {
+        if text[at..].starts_with(line) {
+            return true;
+        }
+    }
+    false
+}
+
+/// How many lines of the text begin with these bytes.
+pub(crate) fn lines_from(text: &[u8], start: &[u8]) -> u64 {
+    let mut count = 0u64;
+    let mut begins = true;
+    for at in 0..text.len() {
+        if begins && text[at..].starts_with(start) {
+            count = count.wrapping_add(1);
+        }
+        begins = text[at] == b'\n';
+    }
+    count
+}
