@@ -89,7 +89,7 @@ module _ {D : Type 0} {G : Ghosts D} (only_now : OnlyNow G) (n m : ℕ) (mode : 
     not_empty = λ i size g. absurd (cc);
     long = λ i size lt t is. absurd (none_is_long G.seen old G.tells n i size t streams.empty lt is);
     asked = λ i size g. absurd (cc);
-    spaced = λ none e. absurd (cc);
+    spaced = λ threads worked. absurd worked;
     moments = λ unborn j d lt was. (let h = each_back n old new mid ws streams.count back (λ j. IsOpened G n (catalogue_of load) j) streams.disks j d lt was in (h.0, h.1, λ t. (h.2.begins t (unborn j d lt was t)).later));
     rest = rest_back n old new mid ws streams.count back ∙ streams.rest;
   }

@@ -134,6 +134,11 @@ module _ {D : Type 0} {G : Ghosts D} (only_now : OnlyNow G) (n m : ℕ) (mode : 
     names None low = tt
     names (Some j) low = (low.0, rose_at G n (catalogue_of load) l s streams_are old new many all j low.1.0 low.0 low.1.1)
 
+    -- the report names none if no count rose
+    none_failed : (o : Option ℕ) → IsLowestStopped n s o → ((j : ℕ) → j < n → RoseAt G.faults old new j → ⊥) → o ≡ None
+    none_failed None low worked = refl
+    none_failed (Some j) low worked = (let named = names (Some j) low in absurd (worked j named.0 named.1))
+
     module _ (e : RunEnd) (whole : by true l t.opening (came_far t)) (over : IsOver n s) (complete : ((j : ℕ) → j < n → stops j ≡ None) → AllAcked load run) (hears : Type 0) (held held1 held' : List ℕ) (faults faults1 faults' : ℕ) (early : faults ≤ faults1) (late : faults1 ≤ faults')
         (heard : hears → Heard held acks e.sink_failed held1) (sink : e.sink_failed ≡ true → Rose faults faults1) (low : IsLowestStopped n s e.disk) (acks_are : e.report.acks ≡ acks)
         (fates : e.report.fates ≡ fates_by (length l.calls) K acks) (order : e.report.order ≡ map (λ (t : Act Txn). t.call.call.number) (reported s.ends K))
@@ -166,7 +171,7 @@ module _ {D : Type 0} {G : Ghosts D} (only_now : OnlyNow G) (n m : ℕ) (mode : 
             not_empty = λ i size g. absurd (cc);
             long = λ i size lt tells is. absurd (none_is_long G.seen old G.tells n i size tells streams.empty lt is);
             asked = λ i size g. absurd (cc);
-            spaced = λ threads f. spaced threads none;
+            spaced = λ threads worked. spaced threads none;
             moments = rise;
             rest = rest_is G n (catalogue_of load) l s old mid new ws ws' streams back t.writers;
           }
@@ -192,7 +197,7 @@ module _ {D : Type 0} {G : Ghosts D} (only_now : OnlyNow G) (n m : ℕ) (mode : 
             not_empty = λ i size g. absurd (cc);
             long = λ i size lt tells is. absurd (none_is_long G.seen old G.tells n i size tells streams.empty lt is);
             asked = λ i size g. absurd (cc);
-            spaced = λ none e. absurd (cc);
+            spaced = λ threads worked. absurd worked;
             moments = rise;
             rest = rest_is G n (catalogue_of load) l s old mid new ws ws' streams back t.writers;
           }
@@ -211,7 +216,7 @@ module _ {D : Type 0} {G : Ghosts D} (only_now : OnlyNow G) (n m : ℕ) (mode : 
         not_empty = λ i size g. absurd (cc);
         long = λ i size lt tells is. absurd (none_is_long G.seen old G.tells n i size tells streams.empty lt is);
         asked = λ i size g. absurd (cc);
-        spaced = λ none e. absurd (cc);
+        spaced = λ threads worked. spaced threads (none_failed e.disk low worked);
         moments = rise;
         rest = rest_is G n (catalogue_of load) l s old mid new ws ws' streams back t.writers;
       }
@@ -231,7 +236,7 @@ module _ {D : Type 0} {G : Ghosts D} (only_now : OnlyNow G) (n m : ℕ) (mode : 
         not_empty = λ i size g. absurd (cc);
         long = λ i size lt tells is. absurd (none_is_long G.seen old G.tells n i size tells streams.empty lt is);
         asked = λ i size g. absurd (cc);
-        spaced = λ none e. absurd (cc);
+        spaced = λ threads worked. absurd worked;
         moments = rise;
         rest = rest_is G n (catalogue_of load) l s old mid new ws ws' streams back t.writers;
       }
@@ -284,7 +289,7 @@ module _ {D : Type 0} {G : Ghosts D} (only_now : OnlyNow G) (n m : ℕ) (mode : 
     not_empty = λ i size g. absurd (cc);
     long = λ i size lt t is. absurd (none_is_long G.seen old G.tells n i size t streams.empty lt is);
     asked = λ i size g. absurd (cc);
-    spaced = λ none e. absurd (cc);
+    spaced = λ threads worked. absurd worked;
     moments = rise only_now n m mode load ws ws' c.acks c.came old mid new many streams back;
     rest = rest_is G n (catalogue_of load) c.came.stands_on c.came.state old mid new ws ws' streams back c.came.writers;
   }

@@ -76,7 +76,7 @@ module _ {D : Type 0} (G : Ghosts D) (only_now : OnlyNow G) (n m : ℕ) (mode : 
     not_empty = λ j long e. absurd (cc);
     long = λ j long lt t is. record { bad = tt; read = untouched_each; told = λ not. absurd (not refl); silent = λ e told. same ∙ sym (append-nil held) };
     asked = λ j long e. absurd (cc);
-    spaced = λ none e. absurd (cc);
+    spaced = λ threads worked. absurd worked;
     moments = λ unborn j d lt was. (d, was, λ t. omega arith);
     rest = refl;
   }
@@ -124,7 +124,7 @@ module _ {D : Type 0} (G : Ghosts D) (only_now : OnlyNow G) (n m : ℕ) (mode : 
       not_empty = λ j long e. absurd (cc);
       long = λ j long lt t is. record { bad = tt; read = h.long j long lt t is; told = λ not. absurd (not refl); silent = λ e. silent };
       asked = λ j long e. absurd (cc);
-      spaced = λ none e. absurd (cc);
+      spaced = λ threads worked. absurd worked;
       moments = rises r h;
       rest = h.rest;
     }
@@ -168,7 +168,7 @@ module _ {D : Type 0} (G : Ghosts D) (only_now : OnlyNow G) (n m : ℕ) (mode : 
           not_empty = λ i long e. absurd (cc);
           long = λ i long lt t is. record { bad = tt; read = h.long i long lt t is; told = λ not. line; silent = λ e. absurd (cc) };
           asked = λ i long e. absurd (cc);
-          spaced = λ none e. absurd (cc);
+          spaced = λ threads worked. absurd worked;
           moments = rises (refusal.Failed j) h;
           rest = h.rest;
         }
@@ -195,7 +195,7 @@ module _ {D : Type 0} (G : Ghosts D) (only_now : OnlyNow G) (n m : ℕ) (mode : 
               subst (λ (x : ℕ). (x < n) × (G.tells → IsFirstLong G.seen old x long)) one (subst (λ (x : ℕ). (j < n) × (G.tells → IsFirstLong G.seen old j x)) other (h.not_empty j size refl)));
           long = λ i long lt t is. refused;
           asked = λ i long e. (refused, λ k d lt was. (let a = each k d lt was in (a.0, a.1, all_calls G 1 d a.0 a.2.went)));
-          spaced = λ none e. absurd (cc);
+          spaced = λ threads worked. absurd worked;
           moments = rises (refusal.NotEmpty j size) h;
           rest = h.rest;
         }

@@ -18,6 +18,7 @@ use Rattle.tau_engine.specs.declared.status.Status.TheVariants as status
 use Rattle.tau_engine.specs.declared.served.Work.{Work}
 use Rattle.tau_engine.specs.declared.served.Work.TheVariants as work
 use Rattle.tau_engine.specs.Served.{command_in, is_served, if_served, served}
+use Rattle.tau_engine.specs.Facts.{DisksWorked}
 use Rattle.tau_engine.specs.Fault.{fault_text, TellsFault}
 use Rattle.tau_engine.specs.Outside.{HasWorkload, HasFault, is_before_disks, ends_run, ends_recovery, ends_reading}
 use Rattle.tau_engine.specs.Said.{SaysRun}
@@ -131,6 +132,19 @@ runs_behind (status.BadText at why) kind e = cc
 runs_behind status.ReadFault kind e = cc
 runs_behind (status.BadLog fault) kind e = cc
 runs_behind status.TooLong kind e = cc
+
+-- a refusal before a run is no end of one
+pub not_worked : (n : ℕ) (rose : ℕ → Type 0) (s : Status) → ends_reading s ≡ true → DisksWorked n rose s → ⊥
+not_worked n rose status.Ok kind worked = cc
+not_worked n rose status.WriteFault kind worked = cc
+not_worked n rose (status.DiskFault j) kind worked = worked
+not_worked n rose (status.NotEmpty j long) kind worked = worked
+not_worked n rose (status.BadLog fault) kind worked = worked
+not_worked n rose (status.BadText at why) kind worked = worked
+not_worked n rose status.NoMemory kind worked = worked
+not_worked n rose status.Usage kind worked = worked
+not_worked n rose status.ReadFault kind worked = worked
+not_worked n rose status.TooLong kind worked = worked
 
 -- a refusal before a run: its answer, and that want of memory tells nothing
 pub ends_unread : (wrote : List ℕ → Type 0) (rose : Type 0) (refusal answer : Status) → ends_reading refusal ≡ true → TellsFault wrote rose refusal answer → (ends_reading answer ≡ true) × (answer ≡ status.NoMemory → wrote [])

@@ -40,6 +40,12 @@ ending_of status.WriteFault = ending.SinkFailed
 ending_of status.NoMemory = ending.NoMemory
 ending_of _ = ending.NotBegun
 
+-- The run went to its end, and no used disk failed; the sink may have failed.
+abbrev pub DisksWorked : ℕ → (ℕ → Type 0) → Status → Type 0
+DisksWorked n rose status.Ok = Unit {0}
+DisksWorked n rose status.WriteFault = (j : ℕ) → j < n → rose j → ⊥
+DisksWorked n rose _ = ⊥
+
 -- Disks that hold something are refused: they were at most read, and the line of the refusal was written, or nothing if memory ran out.
 pub record IsRefused {D : Type 0} (n : ℕ) (only_read : D → D → Type 0) (wrote : List ℕ → Type 0) (sink_rose : Type 0) (old new : List D) (answer : Status) : Type 0 where
   pub bad : OpensBad answer

@@ -9,7 +9,7 @@ use Rattle.tau_text.specs.declared.load.Workload.{Workload}
 use Rattle.tau_run.specs.Told.{WroteFront, chosen_by, RunFacts}
 use Rattle.tau_engine.specs.declared.status.Status.{Status}
 use Rattle.tau_engine.specs.declared.status.Status.TheVariants as status
-use Rattle.tau_engine.specs.Facts.{HasSpaced, Past, Now, AreUnborn, NotEarlier, NextClean, IsRefused, ending_of}
+use Rattle.tau_engine.specs.Facts.{DisksWorked, HasSpaced, Past, Now, AreUnborn, NotEarlier, NextClean, IsRefused, ending_of}
 use Rattle.tau_engine.specs.Fault.{fault_text}
 use Rattle.tau_engine.specs.Outside.{Wrote, FailsTold, ends_run}
 
@@ -35,7 +35,7 @@ module _ {D : Type 0} (G : Ghosts D) (n m : ℕ) (mode : LogMode) (load : Worklo
     pub not_empty : (j long : ℕ) → answer ≡ status.NotEmpty j long → (j < n) × (G.tells → IsFirstLong G.seen old j long)
     pub long : (j long : ℕ) → j < n → G.tells → IsFirstLong G.seen old j long → SaysRefused
     pub asked : (j long : ℕ) → answer ≡ status.NotEmpty j long → SaysRefused × EachUsed (AllCalls G.tells G.number G.fails G.short 1) old new n
-    -- in threads, where all went well, the anchors of each used disk stand in their distance
-    pub spaced : load.turns ≡ None → answer ≡ status.Ok → (j : ℕ) (x : List ℕ) → j < n → Now G.tells G.may_leave old new j x → HasSpaced n j load x
+    -- in threads, if no disk failed, the anchors of each used disk stand in their distance
+    pub spaced : load.turns ≡ None → DisksWorked n (RoseAt G.faults old new) answer → (j : ℕ) (x : List ℕ) → j < n → Now G.tells G.may_leave old new j x → HasSpaced n j load x
     pub moments : AreUnborn G.tells G.may_leave old n → EachUsed (NotEarlier G.tells G.moment) old new n
     pub rest : drop n new ≡ drop n old

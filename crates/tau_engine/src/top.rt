@@ -20,7 +20,7 @@ ghost use Rattle.tau_engine.specs.Served.{served, used_by, reads_source, writes_
 ghost use Rattle.tau_text.specs.declared.load.Workload.{Workload};
 ghost use Rattle.tau_run.specs.Told.{chosen_by, RunFacts};
 ghost use Rattle.tau_open.specs.Outside.{calls_to_open};
-ghost use Rattle.tau_engine.specs.Facts.{HasSpaced, Past, Now, AreUnborn, NotEarlier, NextClean, ending_of};
+ghost use Rattle.tau_engine.specs.Facts.{DisksWorked, HasSpaced, Past, Now, AreUnborn, NotEarlier, NextClean, ending_of};
 ghost use Rattle.tau_engine.specs.Fault.{fault_text, is_refusal};
 ghost use Rattle.tau_run.specs.Told.{WroteFront};
 ghost use Rattle.tau_disk.specs.Used.{RoseAt, EachUsed, AreEmpty, IsFirstLong, OnlyRead, AllCalls, IsClean, IsFirstStopped, Made};
@@ -117,9 +117,10 @@ pub fn taurus<R: Threads + Wait + Sync, S: Source, K: Sink + Send, D: Disk + Sen
         (RoseAt D.faults disks.old.items disks.new.items) (Rose (K.faults sink.old) (K.faults sink.new)) (λ j k. D.tells → Made D.number D.short disks.old.items disks.new.items j k)
         (Wrote K.tells (K.held sink.old) (K.held sink.new)) (λ j. fault_text (Status.DiskFault j)) (ending_of result) }
 
-    // In threads, if all went well, the anchors that are read of each used disk stand in their distance.
-    ensures anchors { (n m : ℕ) (mode : LogMode) (load : Workload) → served (map string_bytes words.now) ≡ Some (Command.Run n m mode) → S.tells → HasWorkload (S.left source.old) load → load.turns ≡ None → result ≡ Status.Ok →
-        (j : ℕ) (image : List ℕ) → j < n → Now D.tells D.may_leave disks.old.items disks.new.items j image → HasSpaced n j load image }
+    // In threads, if the run went to its end and no disk failed, the anchors that are read of each used disk stand in their
+    // distance, also if the sink failed.
+    ensures anchors { (n m : ℕ) (mode : LogMode) (load : Workload) → served (map string_bytes words.now) ≡ Some (Command.Run n m mode) → S.tells → HasWorkload (S.left source.old) load → load.turns ≡ None →
+        DisksWorked n (RoseAt D.faults disks.old.items disks.new.items) result → (j : ℕ) (image : List ℕ) → j < n → Now D.tells D.may_leave disks.old.items disks.new.items j image → HasSpaced n j load image }
 
     // So an image that a stop now may leave is one that a stop since the entry might have left.
     ensures moments { (n m : ℕ) (mode : LogMode) → served (map string_bytes words.now) ≡ Some (Command.Run n m mode) →

@@ -18,7 +18,7 @@ use Rattle.tau_engine.proofs.Longs.{none_is_long, long_told}
 use Rattle.tau_engine.proofs.Refusals.{told_refusal, refusal_of_run}
 use Rattle.tau_engine.proofs.Refused.{untouched_facts}
 use Rattle.tau_engine.proofs.Recoveries.{handed_back, clean_of}
-use Rattle.tau_engine.proofs.Tops.{command_of_run, command_of_recovery, not_recovery, same_command, same_streams, within_served, same_load, not_both, says_at, other_end, runs_behind, recovers_well, ends_well, ends_unread}
+use Rattle.tau_engine.proofs.Tops.{command_of_run, command_of_recovery, not_recovery, same_command, same_streams, within_served, same_load, not_both, says_at, other_end, runs_behind, recovers_well, ends_well, ends_unread, not_worked}
 use Rattle.tau_disk.specs.contracts.memory.MemDiskDisk.TheImpl.{ghosts}
 use Rattle.tau_engine.specs.Drill.{with_turns}
 use Rattle.tau_engine.proofs.BenchTops.{command_of_bench, benched_at}
@@ -184,10 +184,10 @@ pub returns-in-Ok-clause-moments : goal.returns-in-Ok-clause-moments
 returns-in-Ok-clause-moments g c n m mode words unborn = (says g c n m mode words).moments unborn
 
 pub returns-in-Ok-clause-anchors : goal.returns-in-Ok-clause-anchors
-returns-in-Ok-clause-anchors g c n m mode load words tells read threads e =
+returns-in-Ok-clause-anchors g c n m mode load words tells read threads worked =
     let same : c.in-Ok.load ≡ load = same_load (g.S.Source.left c.args.source.now) c.in-Ok.load load (c.in-Ok.ensures.load tells) read in
     subst (λ (l : Workload). (j : ℕ) (image : List ℕ) → j < n → Now g.D.Disk.tells g.D.Disk.may_leave c.args.disks.now.items c.run.new.disks.items j image → HasSpaced n j l image) same
-    ((says g c n m mode words).spaced (ap (λ (l : Workload). l.turns) same ∙ threads) e)
+    ((says g c n m mode words).spaced (ap (λ (l : Workload). l.turns) same ∙ threads) worked)
 
 pub returns-in-Ok-clause-recover_calls : goal.returns-in-Ok-clause-recover_calls
 returns-in-Ok-clause-recover_calls g c n p words e = absurd (not_recovery (served (map string_bytes c.args.words.now)) c.in-Ok-Run.n c.in-Ok-Run.m n p c.in-Ok-Run.mode (asked g c) words)
@@ -212,6 +212,9 @@ returns-in-Err-NoMemory-clause-run g c n m mode load words tells read empty =
     untouched_facts g.D.Disk (g.met.D.Disk g.world.𝓛 g.world.𝓜 g.world.𝓡 ((λ s x. x), (λ x. x), (λ x. x), λ x. x)).only_now n m mode load within.0 within.1 within.2 (catalogue_load (g.S.Source.left c.args.source.now) load read.1) c.args.disks.now.items
     g.K.Sink.tells (g.K.Sink.held c.args.sink.now) (g.K.Sink.held c.args.sink.now) (g.K.Sink.faults c.args.sink.now) (g.K.Sink.faults c.args.sink.now) status.NoMemory refl (λ e told. search rules)
 
+pub returns-in-Err-NoMemory-clause-anchors : goal.returns-in-Err-NoMemory-clause-anchors
+returns-in-Err-NoMemory-clause-anchors g c n m mode load words tells read threads worked = absurd worked
+
 pub returns-in-Err-Usage-clause-run : goal.returns-in-Err-Usage-clause-run
 returns-in-Err-Usage-clause-run g c n m mode load words tells read empty = absurd (let f : None ≡ Some (Run n m mode) = sym (c.in-Err-Usage.ensures.usage (search rules)) ∙ words in cc f)
 
@@ -230,6 +233,11 @@ returns-in-Ok-Recover-clause-run g c n m mode load words tells read empty =
 
 pub returns-in-Err-clause-refusal : goal.returns-in-Err-clause-refusal
 returns-in-Err-clause-refusal g c e = told_refusal (Wrote g.K.Sink.tells (g.K.Sink.held c.args.sink.now) (g.K.Sink.held c.refuse-in-Err.new.sink)) (Rose (g.K.Sink.faults c.args.sink.now) (g.K.Sink.faults c.refuse-in-Err.new.sink)) c.in-Err.refusal c.refuse-in-Err.result c.refuse-in-Err.ensures e
+
+pub returns-in-Err-clause-anchors : goal.returns-in-Err-clause-anchors
+returns-in-Err-clause-anchors g c n m mode load words tells read threads worked =
+    absurd (not_worked n (RoseAt g.D.Disk.faults c.args.disks.now.items c.args.disks.now.items) c.refuse-in-Err.result
+    (ends_unread (Wrote g.K.Sink.tells (g.K.Sink.held c.args.sink.now) (g.K.Sink.held c.refuse-in-Err.new.sink)) (Rose (g.K.Sink.faults c.args.sink.now) (g.K.Sink.faults c.refuse-in-Err.new.sink)) c.in-Err.refusal c.refuse-in-Err.result c.in-Err.ensures.kind c.refuse-in-Err.ensures).0 worked)
 
 pub returns-in-Err-clause-silent_text : goal.returns-in-Err-clause-silent_text
 returns-in-Err-clause-silent_text g c e reads tells none =
