@@ -23,6 +23,12 @@ fn one_worker_in_threads(rt: HostRuntime) -> Result<(), Fail> {
         ),
     ];
     assert_eq!(rt; first_wrong(&rt, alloc, &["run", "1", "1"], &rows)?, None);
+    // The other stream has no record.
+    let rows = [(
+        "table a\nput a 1 5\n",
+        "ack 1 53,0\nreply 1 none\norder 1\nrow a 1 int 5\nend 0\n",
+    )];
+    assert_eq!(rt; first_wrong(&rt, alloc, &["run", "2", "1"], &rows)?, None);
     Ok(())
 }
 
@@ -38,6 +44,10 @@ fn independent_puts(rt: HostRuntime) -> Result<(), Fail> {
     let second =
         b"ack 2 0,53\nack 1 53,0\nreply 1 none\nreply 2 none\norder 1\norder 2\nrow a 1 int 5\nrow a 2 int 6\nend 0\n";
     assert!(rt; got.as_slice() == first.as_slice() || got.as_slice() == second.as_slice());
+    assert_eq!(rt;
+        disks[0].image(Tear::Old)?.as_slice(),
+        b"TAURUS-LOG-1\x00\x02\x00\x00\x01\x00\x00\x00\x0d\x04\x00\x00\x00\x0dtable a\n\x01\x00\x00\x00\x28\x01\x00\x00\x00\x28\x00\x00\x00\x00\x00\x00\x00\x01\x00\x00\x00\x00\x00\x00\x00\x01\x00\x00\x00\x00\x00\x00\x00\x00\x00\x01\x01\x00\x00\x00\x00\x00\x00\x00\x05\x00".as_slice()
+    );
     assert_eq!(rt;
         disks[1].image(Tear::Old)?.as_slice(),
         b"TAURUS-LOG-1\x00\x02\x00\x01\x01\x00\x00\x00\x0d\x04\x00\x00\x00\x0dtable a\n\x01\x00\x00\x00\x28\x01\x00\x00\x00\x28\x00\x00\x00\x00\x00\x00\x00\x02\x00\x00\x00\x00\x00\x00\x00\x01\x00\x00\x00\x00\x00\x00\x00\x00\x00\x02\x01\x00\x00\x00\x00\x00\x00\x00\x06\x00".as_slice()
