@@ -4,6 +4,7 @@ pub mod Anchoring
 pub mod Clerking
 pub mod WorkKeeps
 pub mod WorkSteps
+pub mod WorkSees
 pub mod WorkEnds
 pub mod WorkBack
 pub mod EndJoins

@@ -7,7 +7,7 @@ use tau_base::{NoMemory, SHARDS};
 use tau_desk::{Desk, ManagerSeat};
 
 /// How many content bytes are persisted at least from one anchor to the next.
-const ANCHOR_BYTES: u64 = 65_536;
+pub(crate) const ANCHOR_BYTES: u64 = 65_536;
 
 /// No anchor has a greater number.
 const LAST_ANCHOR: u64 = 4_294_967_295;

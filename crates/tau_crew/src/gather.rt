@@ -84,8 +84,37 @@ fn gather_round<R: Wait>(
     }
 }
 
-/// Gathers all that continues the stream and fits into a block, round by round until a round brings nothing.
+/// Whether records were placed that the manager has not gathered.
+fn is_behind(desk: &Desk, seat: &mut ManagerSeat) -> bool
+    requires own { seat.old.table_id ≡ desk.now.table.shared.table_id }
+    requires opened { seat.old.me.0.opened ≡ Some desk.now.table.shared.key.value }
+    ensures { seat.new ≡ seat.old }
+{
+    let gathered = seat.gathered();
+    seat.placed_end(desk) > gathered
+}
+
+/// Gathers all that continues the stream and fits into a block. The outboxes are left alone where nothing was placed.
 pub(crate) fn gather_all<R: Wait>(
+    rt: &R,
+    desk: &Desk,
+    seat: &mut ManagerSeat,
+    stream: u8,
+    body: &mut Vec<u8>,
+) -> Result<(), NoMemory>
+    requires own { seat.old.table_id ≡ desk.now.table.shared.table_id }
+    requires opened { seat.old.me.0.opened ≡ Some desk.now.table.shared.key.value }
+    requires stream { seat.old.stream ≡ stream }
+    ensures { GathersMore seat.old seat.new body.old.items body.new.items }
+{
+    if !is_behind(desk, seat) {
+        return Ok(());
+    }
+    gather_rounds(rt, desk, seat, stream, body)
+}
+
+/// Gathers round by round until a round brings nothing.
+fn gather_rounds<R: Wait>(
     rt: &R,
     desk: &Desk,
     seat: &mut ManagerSeat,

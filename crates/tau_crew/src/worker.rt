@@ -1,11 +1,12 @@
 //! A worker runs its calls.
-ghost use Rattle.std.specs.Prelude.{◌≡◌, ◌≤◌, ◌⊎◌, [], None, Some, IfOk, OnErr, OnOk, true, false};
+ghost use Rattle.std.specs.Prelude.{◌≡◌, ◌≤◌, ◌<◌, ◌⊎◌, [], None, Some, IfOk, OnErr, OnOk, true, false};
 ghost use Rattle.tau_core.specs.Opens.{Opened};
 ghost use Rattle.tau_txn.specs.Next.{kind_of, next_action};
 ghost use Rattle.tau_txn.specs.Txn.{held_in};
 ghost use Rattle.tau_desk.specs.Works.{IsSameSeat};
 ghost use Rattle.tau_crew.specs.Working.{HasNone, IsUnjoined, WorkerEnds, WorksOn, has_raised};
 
+use crate::anchor::ANCHOR_BYTES;
 use std::sync::Wait;
 use tau_base::NoMemory;
 use tau_desk::{Acted, Desk, WorkerSeat};
@@ -226,7 +227,7 @@ fn act<R: Wait, G: Gate>(
     match seat.next() {
         ActionKind::Lock => lock(rt, desk, seat),
         ActionKind::Quit => Ok(quit(rt, desk, seat)),
-        ActionKind::Commit => commit(rt, desk, seat),
+        ActionKind::Commit => commit(rt, desk, seat, worker),
         ActionKind::Post => Ok(post(rt, desk, seat, worker, gate)),
         ActionKind::Free => Ok(free(rt, desk, seat)),
         ActionKind::Done => Ok(done(rt, desk, seat)),
@@ -262,15 +263,44 @@ fn quit<R: Wait>(rt: &R, desk: &Desk, seat: &mut WorkerSeat)
     let _acted = seat.quit(rt, desk);
 }
 
+/// Whether an anchor may be published that the worker has not read: the stream is persisted so far beyond the last one as
+/// anchors stand apart.
+fn may_be_newer(desk: &Desk, seat: &mut WorkerSeat, stream: u8) -> bool
+    requires own { seat.old.table_id ≡ desk.now.table.shared.table_id }
+    requires opened { seat.old.me.0.opened ≡ Some desk.now.table.shared.key.value }
+    requires there { stream < desk.now.streams }
+    ensures works { WorksOn seat.old seat.new }
+    ensures txn { seat.new.work.txn ≡ seat.old.work.txn }
+{
+    let upto = seat.persisted(desk, stream);
+    upto >= seat.anchored() + ANCHOR_BYTES
+}
+
+/// Reads the newest published anchor, if there may be one that the worker has not read.
+fn read_newer<R: Wait>(rt: &R, desk: &Desk, seat: &mut WorkerSeat, stream: u8)
+    requires own { seat.old.table_id ≡ desk.now.table.shared.table_id }
+    requires opened { seat.old.me.0.opened ≡ Some desk.now.table.shared.key.value }
+    requires there { stream < desk.now.streams }
+    requires next { kind_of (next_action seat.old.work.txn) ≡ ActionKind.Commit }
+    ensures works { WorksOn seat.old seat.new }
+    ensures txn { seat.new.work.txn ≡ seat.old.work.txn }
+{
+    if !may_be_newer(desk, seat, stream) {
+        return;
+    }
+    seat.read_anchor(rt, desk);
+}
+
 /// The record of the call, which has all its keys, is made above the newest published anchor of the stream, and gets its place.
-fn commit<R: Wait>(rt: &R, desk: &Desk, seat: &mut WorkerSeat) -> Result<(), NoMemory>
+fn commit<R: Wait>(rt: &R, desk: &Desk, seat: &mut WorkerSeat, worker: u8) -> Result<(), NoMemory>
     requires own { seat.old.table_id ≡ desk.now.table.shared.table_id }
     requires opened { seat.old.me.0.opened ≡ Some desk.now.table.shared.key.value }
     requires next { kind_of (next_action seat.old.work.txn) ≡ ActionKind.Commit }
     ensures works { WorksOn seat.old seat.new }
     ensures short { OnErr result (IsUnjoined seat.new.work.txn) }
 {
-    seat.read_anchor(rt, desk);
+    let stream = worker as usize % desk.streams;
+    read_newer(rt, desk, seat, stream as u8);
     seat.agrees();
     match seat.commit(desk) {
         Acted::Went => Ok(()),
