@@ -9,7 +9,6 @@ use Rattle.tau_core.specs.Begins.{number_by}
 use Rattle.tau_core.specs.Opens.{calls_of}
 use Rattle.tau_core.specs.State.{Plain}
 use Rattle.tau_core.specs.declared.state.Load.{Load}
-use Rattle.tau_desk.specs.Manages.{told_raised}
 use Rattle.tau_desk.specs.Resumes.{RestsWork}
 use Rattle.tau_desk.specs.Seats.{PlainWorkerSeat, Works}
 use Rattle.tau_desk.specs.Shares.{PlainWork, unbegun}

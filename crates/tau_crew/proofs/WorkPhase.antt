@@ -1,5 +1,5 @@
 -- When workers, managers and the clerk have run side by side, all is as the ending wants it.
-use Rattle.std.proofs.Common.{ℕ, zero, suc, ◌<◌, ◌≤◌, ◌≡◌, ◌⊎◌, inl, inr, Bool, true, false, arith, List, [], ◌∷◌, length, refl, sym, ap, subst, ◌∙◌, Option}
+use Rattle.std.proofs.Common.{ℕ, zero, suc, ◌<◌, ◌≡◌, inl, inr, Bool, true, false, arith, List, [], ◌∷◌, length, sym, subst, ◌∙◌}
 use Rattle.std.specs.Prelude.{Some, None, slice_get, slice_index_or}
 use Rattle.atomic_table.specs.Seated.{TableId}
 use Rattle.tau_disk.specs.Disk.{Rose}
@@ -7,16 +7,14 @@ use Rattle.tau_disk.specs.declared.disk.Disk.{Ghosts}
 use Rattle.tau_stream.specs.declared.writer.Writer.{Writer}
 use Rattle.tau_stream.specs.Writer.{IsReady}
 use Rattle.tau_core.specs.State.{Plain}
-use Rattle.tau_core.specs.declared.state.Load.{Load}
 use Rattle.tau_core.proofs.Lists.{some-at}
 use Rattle.tau_step.specs.Whole.{IsBegun}
 use Rattle.tau_desk.specs.Seats.{PlainHead}
 use Rattle.tau_crew.specs.declared.clerk.ClerkJob.{ClerkJob}
 use Rattle.tau_crew.specs.declared.manager.ManagerJob.{ManagerJob}
 use Rattle.tau_crew.specs.Clerking.{IsToldSoFar, Tells}
-use Rattle.tau_crew.specs.ClerkJobs.{IsClerkJob}
 use Rattle.tau_crew.specs.Dealing.{AreDealt, IsDealt}
-use Rattle.tau_crew.specs.Ending.{AreManagersBack, IsBack, IsClerkBack, IsHeadBack, IsManagerBack}
+use Rattle.tau_crew.specs.Ending.{AreManagersBack, IsBack}
 use Rattle.tau_crew.specs.Together.{ClerkWent, ManagerWent, ManagersWent}
 use Rattle.tau_crew.specs.WorkersBack.{AllAreBack, IsAtStart}
 

@@ -1,8 +1,8 @@
 -- Workers while other actors leave the head.
-use Rattle.std.proofs.Common.{ℕ, ◌+◌, ◌<◌, ◌≡◌, List, arith, refl, ap, ◌∙◌}
+use Rattle.std.proofs.Common.{ℕ, arith, refl, ap, ◌∙◌}
 use Rattle.tau_core.specs.declared.state.Load.{Load}
-use Rattle.tau_rule.specs.Role.{Role, role_in}
-use Rattle.tau_rule.specs.Rule.{clerk_role, has, manager_role}
+use Rattle.tau_rule.specs.Role.{role_in}
+use Rattle.tau_rule.specs.Rule.{clerk_role, manager_role}
 use Rattle.tau_rule.specs.Steps.{Sat}
 use Rattle.tau_desk.specs.Ends.{IsClerkSplit, IsManagerSplit}
 use Rattle.tau_desk.specs.Seats.{PlainClerkSeat, PlainHead, PlainManagerSeat}

@@ -3,7 +3,7 @@ ghost use Rattle.std.specs.Prelude.{ℕ, ◌≡◌, ◌≤◌, ◌<◌, ◌⊎�
 ghost use Rattle.tau_core.specs.Opens.{Opened};
 ghost use Rattle.tau_disk.specs.Disk.{Rose};
 ghost use Rattle.tau_crew.specs.Clerking.{IsToldSoFar};
-ghost use Rattle.tau_crew.specs.Ending.{AreManagersBack, HasRunBack, IsBack, IsClerkBack, IsHeadBack};
+ghost use Rattle.tau_crew.specs.Ending.{AreManagersBack, HasRunBack, IsClerkBack, IsHeadBack};
 ghost use Rattle.tau_crew.specs.EndDone.{IsDone, NoneShort, durables};
 ghost use Rattle.tau_crew.specs.EndLeft.{AreTold, GoesOn, HaveGathered};
 

@@ -1,9 +1,8 @@
-use Rattle.std.proofs.Common.{◌<◌, ◌∙◌, length, subst, sym, arith}
+use Rattle.std.proofs.Common.{◌∙◌, subst, sym, arith}
 use Rattle.tau_desk.specs.Seats.{PlainHead}
 use Rattle.tau_crew.specs.Ending.{IsHeadBack}
 use Rattle.tau_crew.specs.EndLeft.{HasGatheredAll}
 use Rattle.tau_crew.proofs.EndLeft.{gathered-more}
-use Rattle.tau_crew.proofs.EndSettles.{got-low}
 use Rattle.tau_crew.proofs.ending_done.are_flushed.Goals as goal
 
 pub flushed_at-requires-clause-head : goal.flushed_at-requires-clause-head

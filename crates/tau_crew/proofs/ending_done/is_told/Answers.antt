@@ -1,4 +1,4 @@
-use Rattle.std.proofs.Common.{◌<◌, ◌≤◌, arith, subst}
+use Rattle.std.proofs.Common.{◌<◌, subst}
 use Rattle.tau_core.specs.declared.state.Load.{Load}
 use Rattle.tau_crew.proofs.ending_done.is_told.Goals as goal
 

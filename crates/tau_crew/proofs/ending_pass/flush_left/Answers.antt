@@ -1,4 +1,4 @@
-use Rattle.std.proofs.Common.{◌<◌, ◌≡◌, ◌+◌, ◌∙◌, length, subst, sym}
+use Rattle.std.proofs.Common.{◌<◌, ◌≡◌, ◌∙◌, length, subst, sym}
 use Rattle.tau_crew.proofs.ending_pass.flush_left.Goals as goal
 
 pub flush_at-requires-clause-there : goal.flush_at-requires-clause-there

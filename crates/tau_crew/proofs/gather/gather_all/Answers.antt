@@ -1,4 +1,4 @@
-use Rattle.std.proofs.Common.{◌∙◌, List, ap, ℕ, subst, sym}
+use Rattle.std.proofs.Common.{◌∙◌, ap, subst, sym}
 use Rattle.tau_desk.specs.Seats.{PlainManagerSeat}
 use Rattle.tau_crew.specs.Gathering.{GathersMore}
 use Rattle.tau_crew.proofs.Gathering.{gathers-none}
