@@ -1,0 +1,6 @@
+//! Worked runs in threads, on new streams and from a given opening. They stand in a crate of their own, over the crate that
+//! opens streams.
+#![tactic(auto)]
+
+#[cfg(test)]
+mod tests;

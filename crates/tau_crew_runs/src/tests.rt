@@ -1,0 +1,137 @@
+ghost use Rattle.std.specs.Prelude.{ℕ, ◌≡◌, ◌≤◌, ◌<◌, [], ◌∷◌, length, vec_len, IfOk, OnOk};
+ghost use Rattle.tau_base.specs.declared.limits.TheConstants.{MAX_CATALOGUE, MAX_LSN};
+ghost use Rattle.tau_text.specs.Canonical.{declarations_text};
+ghost use Rattle.tau_run.specs.Facts.{catalogue_of};
+ghost use Rattle.tau_step.specs.RunTold.{AreNew};
+
+use arrayvec::ArrayVec;
+use std::alloc::Global;
+use std::test::*;
+use tau_base::{LogMode, Lv, MAX_CATALOGUE};
+use tau_core::Opening;
+use tau_crew::{run_threads, run_threads_from};
+use tau_disk::{MemDisk, MemSink, Quiet};
+use tau_model::Tables;
+use tau_open::open_streams;
+use tau_report::{RunEnd, report_text};
+use tau_stream::Writer;
+use tau_text::{Workload, parse_workload, print_declarations};
+
+const TEXT: &[u8] = b"table a\nput a 1 5\n";
+
+// The record of the call takes 40 bytes after the catalogue's 13.
+const REPORT: &[u8] = b"ack 1 53,0\nreply 1 none\norder 1\nrow a 1 int 5\nend 0\n";
+
+/// Two new disks.
+fn two_disks(alloc: Global) -> Result<Vec<MemDisk>, Fail>
+    ensures { IfOk result (λ disks. vec_len disks ≡ 2) }
+{
+    let mut disks = Vec::new(alloc);
+    disks.push(MemDisk::new(alloc, &[])?)?;
+    disks.push(MemDisk::new(alloc, &[])?)?;
+    Ok(disks)
+}
+
+/// Two streams, just created for the workload.
+fn created(alloc: Global, load: &Workload) -> Result<Vec<Writer<MemDisk>>, Fail>
+    ensures count { IfOk result (λ writers. vec_len writers ≡ 2) }
+    ensures text { OnOk result (length (declarations_text load.now.declarations) ≤ MAX_CATALOGUE) }
+    ensures fresh { IfOk result (λ writers. AreNew (λ j. catalogue_of load.now) writers.items) }
+{
+    let mut disks = two_disks(alloc)?;
+    let catalogue = match print_declarations(alloc, &load.declarations) {
+        Ok(catalogue) => catalogue,
+        Err(error) => return Err(error.into()),
+    };
+    if catalogue.len() > MAX_CATALOGUE {
+        return Err("the catalogue".into());
+    }
+    match open_streams(alloc, &mut disks, 2, &catalogue) {
+        Ok(writers) => Ok(writers),
+        Err(_) => Err("the streams".into()),
+    }
+}
+
+/// Two streams that end here, with no rows and no anchors.
+fn opening(alloc: Global, end: u64) -> Opening
+    requires { end < MAX_LSN }
+    ensures rows { result.rows ≡ [] }
+    ensures floor { result.floor ≡ 0 ∷ 0 ∷ [] }
+    ensures ends { result.ends ≡ end ∷ end ∷ [] }
+    ensures anchors { result.anchors.items ≡ 0 ∷ 0 ∷ [] }
+{
+    let mut ends = Lv::zero(2);
+    ends.set(0, end);
+    ends.set(1, end);
+    let mut anchors = ArrayVec::new();
+    anchors.push(0);
+    anchors.push(0);
+    Opening {
+        rows: Tables::of(Vec::new(alloc)),
+        floor: Lv::zero(2),
+        ends,
+        anchors,
+    }
+}
+
+/// All that was told.
+fn told(alloc: Global, load: &Workload, end: &RunEnd, sink: &MemSink) -> Result<Vec<u8>, Fail> {
+    let rest = report_text(alloc, &load.declarations, &end.report, end.disk)?;
+    let mut text = sink.bytes().to_vec(alloc)?;
+    text.extend_from_slice(&rest)?;
+    Ok(text)
+}
+
+#[test]
+fn on_new_streams(rt: HostRuntime) -> Result<(), Fail> {
+    let alloc = rt.alloc();
+    let load = match parse_workload(alloc, TEXT) {
+        Ok(load) => load,
+        Err(_) => panic!(rt; "the text"),
+    };
+    let mut writers = match created(alloc, &load) {
+        Ok(writers) => writers,
+        Err(fail) => return Err(fail),
+    };
+    let mut sink = MemSink::new(alloc, &[])?;
+    let end = run_threads(
+        &rt,
+        alloc,
+        &load,
+        1,
+        LogMode::Values,
+        &mut writers,
+        &mut sink,
+        &Quiet,
+    )?;
+    assert!(rt; told(alloc, &load, &end, &sink)?.as_slice() == REPORT);
+    Ok(())
+}
+
+#[test]
+fn from_an_opening(rt: HostRuntime) -> Result<(), Fail> {
+    let alloc = rt.alloc();
+    let load = match parse_workload(alloc, TEXT) {
+        Ok(load) => load,
+        Err(_) => panic!(rt; "the text"),
+    };
+    let mut writers = match created(alloc, &load) {
+        Ok(writers) => writers,
+        Err(fail) => return Err(fail),
+    };
+    let opening = opening(alloc, writers[0].durable());
+    let mut sink = MemSink::new(alloc, &[])?;
+    let end = run_threads_from(
+        &rt,
+        alloc,
+        &load,
+        opening,
+        1,
+        LogMode::Values,
+        &mut writers,
+        &mut sink,
+        &Quiet,
+    )?;
+    assert!(rt; told(alloc, &load, &end, &sink)?.as_slice() == REPORT);
+    Ok(())
+}
