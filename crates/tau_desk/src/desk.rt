@@ -16,6 +16,7 @@ use crate::kept::Kept;
 use crate::room::Room;
 use atomic_table::Table;
 use std::alloc::Global;
+use std::hint::spin_loop;
 use std::marker::Brand;
 use std::snapshot::Snapshot;
 use std::sync::Wait;
@@ -26,6 +27,10 @@ use tau_outbox::Outbox;
 use tau_rule::{Give, Look, OneCore, Part, Place, Seat, Store, Take, Told, View};
 use tau_shard::Shard;
 use tau_txn::Txn;
+
+/// How often a seat looks for a turn before it sleeps: longer than a part is mostly out, since for one that sleeps each turn
+/// that is given back costs a call of the system, and then others sleep too.
+const LOOKS: u64 = 1_000;
 
 /// The core, split over a table.
 #[derive(Drop)]
@@ -74,6 +79,41 @@ impl Desk {
             == 0
     }
 
+    // The same, if a look at the word shows it free.
+    fn try_seen(&self, seat: &mut Seat, number: usize) -> bool
+        requires own { seat.old.table_id ≡ self.now.table.shared.table_id }
+        requires role { (w : ℕ) × (x : RoleOf) × (has w seat.old.me.0 ≡ Some x) }
+        requires opened { seat.old.me.0.opened ≡ Some self.now.table.shared.key.value }
+        requires idle { (seat.old.me.1 ≡ []) × (seat.old.me.0.hand ≡ None) × (number < self.now.parts) }
+        ensures own { (seat.new.table_id ≡ seat.old.table_id) × (seat.new.id ≡ seat.old.id) }
+        ensures took { result ≡ true → Took self.now.table.shared.key.value number seat.old.me seat.new.me }
+        ensures missed { result ≡ false → seat.new.me ≡ seat.old.me }
+    {
+        if self.table.shared.peek(8 * number) != 0 {
+            return false;
+        }
+        self.try_take(seat, number)
+    }
+
+    // Takes the turn of a part if it becomes free soon.
+    fn look_for(&self, seat: &mut Seat, number: usize) -> bool
+        requires own { seat.old.table_id ≡ self.now.table.shared.table_id }
+        requires role { (w : ℕ) × (x : RoleOf) × (has w seat.old.me.0 ≡ Some x) }
+        requires opened { seat.old.me.0.opened ≡ Some self.now.table.shared.key.value }
+        requires idle { (seat.old.me.1 ≡ []) × (seat.old.me.0.hand ≡ None) × (number < self.now.parts) }
+        ensures own { (seat.new.table_id ≡ seat.old.table_id) × (seat.new.id ≡ seat.old.id) }
+        ensures took { result ≡ true → Took self.now.table.shared.key.value number seat.old.me seat.new.me }
+        ensures missed { result ≡ false → seat.new.me ≡ seat.old.me }
+    {
+        for _ in 0..LOOKS {
+            if self.try_seen(seat, number) {
+                return true;
+            }
+            spin_loop();
+        }
+        false
+    }
+
     // Waits for the turn of a part. The word is 2 then, so that who gives it back wakes another.
     fn wait_for<R: Wait>(&self, rt: &R, seat: &mut Seat, number: usize)
         requires own { seat.old.table_id ≡ self.now.table.shared.table_id }
@@ -104,6 +144,9 @@ impl Desk {
         ensures agrees { Agrees self.now.table.shared.key.value seat.old.me.0 number result }
     {
         if self.try_take(seat, number) {
+            return self.lift(seat, number);
+        }
+        if self.look_for(seat, number) {
             return self.lift(seat, number);
         }
         self.wait_for(rt, seat, number);
