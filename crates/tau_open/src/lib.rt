@@ -11,6 +11,3 @@ pub use ask::ask_lengths;
 pub use close::close_streams;
 pub use opening::open_streams;
 pub use refusal::OpenRefusal;
-
-#[cfg(test)]
-mod tests;

@@ -9,6 +9,3 @@ mod waits;
 
 pub use item::{Item, Job, Stage};
 pub use pools::{Next, Pools};
-
-#[cfg(test)]
-mod tests;

@@ -22,6 +22,3 @@ pub use laws::{
 };
 pub use replay::replay_turns;
 pub use threads::replay_threads;
-
-#[cfg(test)]
-mod tests;

@@ -150,8 +150,8 @@ fn execute(log: &Log, store: &mut SerialStore, j: usize, place: usize) -> Result
     let records = log.streams.as_slice().get(j).ok_or("no stream")?;
     let placed = records.as_slice().get(place).ok_or("no record")?;
     match &placed.entry {
-        Entry::Command { call, .. } if log.declarations.procs.takes(call) => {
-            match store.execute(&log.declarations.procs, call) {
+        Entry::Command { call, .. } if log.declarations.procs.takes(&call.call()) => {
+            match store.execute(&log.declarations.procs, &call.call()) {
                 Ok(_) => Ok(()),
                 Err(_) => Err(Fail::from("no memory")),
             }

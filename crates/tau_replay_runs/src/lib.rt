@@ -9,3 +9,5 @@ mod gates;
 mod rows;
 #[cfg(test)]
 mod support;
+#[cfg(test)]
+mod worked;

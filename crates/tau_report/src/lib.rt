@@ -11,6 +11,3 @@ pub use lines::ack_line;
 pub use recovery::recover_text;
 pub use report::{Fate, RunEnd, RunReport};
 pub use texts::{report_text, table_text};
-
-#[cfg(test)]
-mod tests;

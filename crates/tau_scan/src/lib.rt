@@ -14,6 +14,3 @@ pub use fault::{LogCause, LogFault, ReplayRefusal, ScanRefusal};
 pub use laws::taken_are_listed;
 pub use log::Log;
 pub use reading::scan;
-
-#[cfg(test)]
-mod tests;

@@ -7,6 +7,3 @@ mod shard;
 
 pub use entry::{LockEntry, ShardRefusal};
 pub use shard::Shard;
-
-#[cfg(test)]
-mod tests;

@@ -8,6 +8,3 @@ mod writer;
 pub use flush::Flush;
 pub use steps::{publish, publish_gated};
 pub use writer::Writer;
-
-#[cfg(test)]
-mod tests;

@@ -10,6 +10,3 @@ mod txn;
 
 pub use action::{Action, ActionKind};
 pub use txn::Txn;
-
-#[cfg(test)]
-mod tests;

@@ -1,0 +1,9 @@
+//! Reading of logs, the pools of a recovery and the texts of reports, as tests.
+#![tactic(auto)]
+
+#[cfg(test)]
+mod pool;
+#[cfg(test)]
+mod report;
+#[cfg(test)]
+mod scan;

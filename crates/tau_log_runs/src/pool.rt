@@ -1,0 +1,97 @@
+ghost use Rattle.std.specs.Prelude.{IfOk};
+ghost use Rattle.tau_scan.specs.Reading.{IsLog};
+
+use std::alloc::Global;
+use std::test::*;
+use tau_base::Lv;
+use tau_disk::MemDisk;
+use tau_pool::{Next, Pools};
+use tau_scan::{Log, scan};
+
+// Stream 0 of two: `put a 1 5` with vector (0,53) at 13, and `put a 3 7` with vector (0,0) at 61.
+const FIRST: [u8; 128] = [
+    84, 65, 85, 82, 85, 83, 45, 76, 79, 71, 45, 49, 0, 2, 0, 0, 1, 0, 0, 0, 13, 4, 0, 0, 0, 13,
+    116, 97, 98, 108, 101, 32, 97, 10, 1, 0, 0, 0, 88, 1, 0, 0, 0, 48, 0, 0, 0, 0, 0, 0, 0, 1, 0,
+    0, 0, 0, 0, 2, 0, 0, 0, 0, 0, 0, 0, 53, 0, 1, 0, 0, 0, 0, 0, 0, 0, 0, 0, 1, 1, 0, 0, 0, 0, 0,
+    0, 0, 5, 1, 0, 0, 0, 40, 0, 0, 0, 0, 0, 0, 0, 3, 0, 0, 0, 0, 0, 0, 0, 1, 0, 0, 0, 0, 0, 0, 0,
+    0, 0, 3, 1, 0, 0, 0, 0, 0, 0, 0, 7, 0,
+];
+
+// Stream 1 of two: `put a 2 6` with vector (0,0) at 13.
+const SECOND: [u8; 80] = [
+    84, 65, 85, 82, 85, 83, 45, 76, 79, 71, 45, 49, 0, 2, 0, 1, 1, 0, 0, 0, 13, 4, 0, 0, 0, 13,
+    116, 97, 98, 108, 101, 32, 97, 10, 1, 0, 0, 0, 40, 1, 0, 0, 0, 40, 0, 0, 0, 0, 0, 0, 0, 2, 0,
+    0, 0, 0, 0, 0, 0, 1, 0, 0, 0, 0, 0, 0, 0, 0, 0, 2, 1, 0, 0, 0, 0, 0, 0, 0, 6, 0,
+];
+
+// Stream 0 of two: a record at 13 that waits for the end of the other stream.
+const TANGLED: [u8; 88] = [
+    84, 65, 85, 82, 85, 83, 45, 76, 79, 71, 45, 49, 0, 2, 0, 0, 1, 0, 0, 0, 13, 4, 0, 0, 0, 13,
+    116, 97, 98, 108, 101, 32, 97, 10, 1, 0, 0, 0, 48, 1, 0, 0, 0, 48, 0, 0, 0, 0, 0, 0, 0, 1, 0,
+    0, 0, 0, 0, 2, 0, 0, 0, 0, 0, 0, 0, 61, 0, 1, 0, 0, 0, 0, 0, 0, 0, 0, 0, 1, 1, 0, 0, 0, 0, 0,
+    0, 0, 5, 0,
+];
+
+// Stream 1 of two: likewise.
+const TANGLED_TOO: [u8; 88] = [
+    84, 65, 85, 82, 85, 83, 45, 76, 79, 71, 45, 49, 0, 2, 0, 1, 1, 0, 0, 0, 13, 4, 0, 0, 0, 13,
+    116, 97, 98, 108, 101, 32, 97, 10, 1, 0, 0, 0, 48, 1, 0, 0, 0, 48, 0, 0, 0, 0, 0, 0, 0, 2, 0,
+    0, 0, 0, 0, 1, 0, 0, 0, 0, 0, 0, 0, 61, 0, 1, 0, 0, 0, 0, 0, 0, 0, 0, 0, 2, 1, 0, 0, 0, 0, 0,
+    0, 0, 6, 0,
+];
+
+// The log of these two images.
+fn log_of(alloc: Global, first: &[u8], second: &[u8]) -> Result<Log, Fail>
+    ensures { IfOk result (λ log. IsLog log) }
+{
+    let mut disks = vec![in alloc;
+        MemDisk::of_image(alloc, first)?,
+        MemDisk::of_image(alloc, second)?,
+    ]?;
+    match scan(alloc, disks.as_mut_slice()) {
+        Ok(log) => Ok(log),
+        Err(_) => Err(Fail::from("no log")),
+    }
+}
+
+#[test]
+fn a_record_waits_for_another_stream(rt: HostRuntime) -> Result<(), Fail> {
+    let alloc = rt.alloc();
+    let log = log_of(alloc, &FIRST, &SECOND)?;
+    let mut pools = Pools::new(alloc, &log).ok().ok_or("memory")?;
+    let Next::Taken(third) = pools.take() else {
+        return Err(Fail::from("nothing is ready"));
+    };
+    assert_eq!(rt; (third.stream, third.index), (0, 2));
+    let Next::Taken(second) = pools.take() else {
+        return Err(Fail::from("one is ready"));
+    };
+    assert_eq!(rt; (second.stream, second.index), (1, 1));
+    assert_eq!(rt; pools.take(), Next::NotYet);
+    assert_eq!(rt; pools.in_flight(), 2);
+    pools.finish(third);
+    assert_eq!(rt; pools.rlv(), Lv::zero(2).with(0, 13).with(1, 13));
+    assert_eq!(rt; pools.take(), Next::NotYet);
+    pools.finish(second);
+    assert_eq!(rt; pools.rlv(), Lv::zero(2).with(0, 13).with(1, 53));
+    let Next::Taken(first) = pools.take() else {
+        return Err(Fail::from("the last is ready"));
+    };
+    assert_eq!(rt; (first.stream, first.index), (0, 1));
+    assert_eq!(rt; pools.take(), Next::Done);
+    pools.finish(first);
+    assert_eq!(rt; pools.rlv(), Lv::zero(2).with(0, 101).with(1, 53));
+    assert_eq!(rt; pools.in_flight(), 0);
+    Ok(())
+}
+
+#[test]
+fn tangled_records_are_never_ready(rt: HostRuntime) -> Result<(), Fail> {
+    let alloc = rt.alloc();
+    let log = log_of(alloc, &TANGLED, &TANGLED_TOO)?;
+    let mut pools = Pools::new(alloc, &log).ok().ok_or("memory")?;
+    assert_eq!(rt; pools.take(), Next::NotYet);
+    let left = pools.first_left().ok_or("one is left")?;
+    assert_eq!(rt; (left.stream, left.index), (0, 1));
+    Ok(())
+}

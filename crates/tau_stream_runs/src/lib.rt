@@ -1,0 +1,7 @@
+//! Streams on disks that fail or stop, and how they are opened, as tests.
+#![tactic(auto)]
+
+#[cfg(test)]
+mod open;
+#[cfg(test)]
+mod stream;

@@ -1,4 +1,0 @@
-use Rattle.tau_txn.proofs.tests.act.Goals as goal
-
-pub returns-in-Ok-clause-run : goal.returns-in-Ok-clause-run
-returns-in-Ok-clause-run g c = c.granted.ensures.runs c.args.procs.now c.requires.run

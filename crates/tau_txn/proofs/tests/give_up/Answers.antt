@@ -1,4 +1,0 @@
-use Rattle.tau_txn.proofs.tests.give_up.Goals as goal
-
-pub returns : goal.returns
-returns g c = record { run = c.give_up.ensures.runs c.args.procs.now c.requires }

@@ -1,7 +1,0 @@
-use Rattle.tau_txn.proofs.tests.place.Goals as goal
-
-pub returns-in_default-turn-2-clause-run : goal.returns-in_default-turn-2-clause-run
-returns-in_default-turn-2-clause-run g c = c.placed.ensures.runs c.args.procs.now (c.prepare.ensures.runs c.args.procs.now c.requires.run)
-
-pub returns-clause-run : goal.returns-clause-run
-returns-clause-run g c = c.take_bytes.ensures.runs c.args.procs.now (c.placed.ensures.runs c.args.procs.now (c.prepare.ensures.runs c.args.procs.now c.requires.run))
