@@ -80,3 +80,66 @@ fn lists_keep_their_elements(rt: HostRuntime) -> Result<(), Fail> {
     assert!(rt; Listed::of(copy.into_vec()) == list);
     Ok(())
 }
+
+#[test]
+fn lists_begin_with_room(rt: HostRuntime) -> Result<(), Fail> {
+    let list: Listed<u64> = Listed::with_capacity(rt.alloc(), 3)
+        .ok()
+        .ok_or("there is room")?;
+    assert_eq!(rt; list.len(), 0);
+    Ok(())
+}
+
+fn call(proc: u16, args: &[i64]) -> Call {
+    let mut call = Call {
+        proc,
+        args: ArrayVec::new(),
+    };
+    for arg in args.iter().take(8) {
+        let _ = call.args.try_push(Value::Int(*arg));
+    }
+    call
+}
+
+#[test]
+fn calls_come_back_as_they_were_put(rt: HostRuntime) -> Result<(), Fail> {
+    let mut calls = Calls::new(rt.alloc());
+    let mut text = call(0, &[0, 5]);
+    let five = Text64::of("five").ok_or("it fits")?;
+    let _ = text.args.try_push(Value::Text(five));
+    let mut absent = call(4, &[]);
+    let _ = absent.args.try_push(Value::Absent);
+    let many = call(5, &[1, 2, 3, 4, 5, 6, 7, -8]);
+    let put = [
+        &call(1, &[0, 65, -3]),
+        &call(2, &[3, i64::MIN]),
+        &call(6, &[]),
+        &text,
+        &absent,
+        &many,
+    ];
+    for call in put {
+        calls.push(call).ok().ok_or("there is room")?;
+    }
+    let copy = calls.copied(rt.alloc()).ok().ok_or("there is room")?;
+    assert_eq!(rt; copy.len(), 6);
+    let mut place = call(9, &[9, 9, 9, 9]);
+    for (i, call) in put.iter().enumerate() {
+        copy.put_into(i, &mut place);
+        assert_eq!(rt; place.proc, call.proc);
+        assert!(rt; place.args.as_slice() == call.args.as_slice(), "call {i}");
+        let again = copy.call_at(i).copied();
+        let kept = KeptCall::of(rt.alloc(), &again)
+            .ok()
+            .ok_or("there is room")?;
+        assert!(rt;
+            kept.call().args.as_slice() == call.args.as_slice(),
+            "call {i} kept"
+        );
+        assert!(rt;
+            again.args.as_slice() == place.args.as_slice(),
+            "call {i} again"
+        );
+    }
+    Ok(())
+}

@@ -3,8 +3,8 @@ ghost use Rattle.std.specs.Prelude.{◌≡◌, ◌≤◌, codes, IfOk, IfErr};
 ghost use Rattle.tau_gen.specs.Generated.{call_of, calls_of, generated};
 
 use arrayvec::ArrayVec;
-use std::alloc::{AllocError, Global};
-use tau_base::{Call, Listed, MAX_CALLS, Name, NoMemory, Value};
+use std::alloc::Global;
+use tau_base::{Call, Calls, Listed, MAX_CALLS, Name, NoMemory, Value};
 use tau_proc::{ADD, Procs};
 use tau_text::{Declarations, Workload};
 
@@ -32,34 +32,16 @@ fn call_of(start: u16, k: u32) -> Call
     Call { proc: ADD, args }
 }
 
-fn calls_of(alloc: Global, start: u16, count: u32) -> Result<Vec<Call>, AllocError>
+fn calls_of(alloc: Global, start: u16, count: u32) -> Result<Calls, NoMemory>
     requires start { start ≤ 999 }
     requires calls { count ≤ MAX_CALLS }
-    ensures { IfOk result (λ v. v.items ≡ calls_of start count) }
+    ensures { IfOk result (λ calls. calls ≡ calls_of start count) }
 {
-    let mut calls = Vec::with_capacity(alloc, count as usize)?;
+    let mut calls = Calls::new(alloc);
     for i in 0..count {
-        calls.push(call_of(start, i + 1))?;
+        calls.push(&call_of(start, i + 1))?;
     }
     Ok(calls)
-}
-
-fn workload(alloc: Global, start: u16, count: u32) -> Result<Workload, AllocError>
-    requires start { start ≤ 999 }
-    requires calls { count ≤ MAX_CALLS }
-    ensures { IfOk result (λ w. w ≡ generated start count) }
-{
-    let mut tables = Vec::new(alloc);
-    tables.push(acct())?;
-    let calls = calls_of(alloc, start, count)?;
-    Ok(Workload {
-        declarations: Declarations {
-            tables: Listed::of(tables),
-            procs: Procs::new(alloc),
-        },
-        calls: Listed::of(calls),
-        turns: None,
-    })
 }
 
 /// The workload of `calls` calls over the table `acct`, whose rows begin at `start`.
@@ -68,8 +50,15 @@ pub fn generate(alloc: Global, start: u16, calls: u32) -> Result<Workload, NoMem
     requires calls { calls ≤ MAX_CALLS }
     ensures { IfOk result (λ w. w ≡ generated start calls) }
 {
-    match workload(alloc, start, calls) {
-        Ok(load) => Ok(load),
-        Err(_) => Err(NoMemory),
-    }
+    let mut tables = Listed::new(alloc);
+    tables.push(acct()).map_err(|_| NoMemory)?;
+    let calls = calls_of(alloc, start, calls)?;
+    Ok(Workload {
+        declarations: Declarations {
+            tables,
+            procs: Procs::new(alloc),
+        },
+        calls,
+        turns: None,
+    })
 }

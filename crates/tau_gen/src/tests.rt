@@ -11,7 +11,7 @@ fn calls_follow_the_formula(rt: HostRuntime) -> Result<(), Fail> {
     assert_eq!(rt; load.calls.len(), 10);
     let rows = [(0, 44, 2), (1, 81, 3), (8, 340, 10), (9, 377, 1)];
     for (at, row, amount) in rows {
-        let call = &load.calls[at];
+        let call = load.calls.call_at(at);
         assert_eq!(rt; call.proc, 1);
         let args = call.args.as_slice();
         assert_eq!(rt; args.len(), 3);
@@ -30,7 +30,8 @@ fn amounts_of_each_row(rt: HostRuntime) -> Result<(), Fail> {
     let load = generate(rt.alloc(), 7, 20_000)?;
     assert_eq!(rt; load.calls.len(), 20_000);
     let mut sums = [0i64; 4];
-    for call in load.calls.iter() {
+    for i in 0..load.calls.len() {
+        let call = load.calls.call_at(i);
         if let [_, Value::Int(row), Value::Int(amount)] = call.args.as_slice() {
             sums[0] = sums[0].wrapping_add(*amount);
             match *row {

@@ -13,7 +13,7 @@ use crate::fault::{FieldError, RecordCause, RecordRefusal, refusal_at};
 use crate::record::{command_of, frame_of, is_whole, lv_of, written_of};
 use arrayvec::ArrayVec;
 use std::alloc::Global;
-use tau_base::{Call, Listed, Lv, MAX_CATALOGUE};
+use tau_base::{Call, KeptCall, Listed, Lv, MAX_CATALOGUE};
 
 /// Puts a data record behind those before it.
 fn put_written(
@@ -50,6 +50,7 @@ fn put_written(
 
 /// Puts a command record behind those before it.
 fn put_command(
+    alloc: Global,
     vectors: &[Lv],
     fields: &[u8],
     start: u64,
@@ -59,19 +60,26 @@ fn put_command(
     ensures { Gives (λ _. (placed.new.items, vectors.now)) result (puts (command_at One vectors.now fields.now) vectors.now placed.old.items start past) }
 {
     let mut dep = Lv::zero(1);
-    let mut args = ArrayVec::new();
-    match command_of(vectors, fields, &mut dep, &mut args) {
+    let mut call = Call {
+        proc: 0,
+        args: ArrayVec::new(),
+    };
+    match command_of(vectors, fields, &mut dep, &mut call.args) {
         Err(e) => Err(e),
         Ok((number, anchor, proc, rest)) => {
             if !is_whole(rest) {
                 return Err(FieldError::Bad(RecordCause::BadLength));
             }
+            call.proc = proc;
+            let Ok(call) = KeptCall::of(alloc, &call) else {
+                return Err(FieldError::Memory);
+            };
             placed.push(Placed {
                 entry: Entry::Command {
                     number,
                     anchor,
                     dep,
-                    call: Call { proc, args },
+                    call,
                 },
                 start,
                 past,
@@ -131,7 +139,7 @@ fn put_fields(
         return put_written(alloc, vectors.as_slice(), fields, start, past, placed);
     }
     if kind == 2 {
-        return put_command(vectors.as_slice(), fields, start, past, placed);
+        return put_command(alloc, vectors.as_slice(), fields, start, past, placed);
     }
     if kind == 3 {
         return put_anchor(n, fields, start, past, vectors, placed);

@@ -1,5 +1,5 @@
 //! Records as values.
-use tau_base::{Call, Key, Listed, Lv, Value};
+use tau_base::{KeptCall, Key, Listed, Lv, Value};
 
 /// A record of a log stream.
 #[derive(Debug, Drop)]
@@ -24,7 +24,7 @@ pub enum Entry {
         /// The call's dependence vector, without its own record.
         dep: Lv,
         /// The call.
-        call: Call,
+        call: KeptCall,
     },
     /// A vector that later records of the stream may be written above.
     Anchor {

@@ -78,7 +78,9 @@ fn read_job(log: &Log, store: &SerialStore, job: Job, ahead: &mut Vec<(Key, Valu
         return;
     };
     match &placed.entry {
-        Entry::Command { call, .. } => read_call(&log.declarations.procs, store, call, ahead),
+        Entry::Command { call, .. } => {
+            read_call(&log.declarations.procs, store, &call.call(), ahead)
+        }
         _ => {}
     }
 }

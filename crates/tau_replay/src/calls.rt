@@ -100,7 +100,9 @@ fn try_entry<R: Wait>(
     ensures executed { result ≡ true → IsExecuted procs.now entry.now scratch.new.reads.items (buffered scratch.new.machine) }
 {
     match entry {
-        Entry::Command { call, .. } => try_call(rt, lock, seat, procs, call, ahead, scratch),
+        Entry::Command { call, .. } => {
+            try_call(rt, lock, seat, procs, &call.call(), ahead, scratch)
+        }
         Entry::Written { .. } => false,
         Entry::Anchor { .. } => false,
         Entry::Catalogue { .. } => false,

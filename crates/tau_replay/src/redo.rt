@@ -32,7 +32,7 @@ fn redo_entry(log: &Log, store: &mut SerialStore, entry: &Entry) -> Result<(), N
 {
     match entry {
         Entry::Written { writes, .. } => store.write(writes.as_slice()),
-        Entry::Command { call, .. } => redo_call(log, store, call),
+        Entry::Command { call, .. } => redo_call(log, store, &call.call()),
         Entry::Anchor { .. } => Ok(()),
         Entry::Catalogue { .. } => Ok(()),
     }

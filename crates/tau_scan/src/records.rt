@@ -118,7 +118,8 @@ fn is_declared(alloc: Global, declarations: &Declarations, entry: &Entry) -> Res
     match entry {
         Entry::Written { writes, .. } => Ok(have_tables(declarations, writes.as_slice())),
         Entry::Command { call, .. } => {
-            Ok(declarations.procs.takes(call) && is_of_table(declarations, call))
+            let call = call.call();
+            Ok(declarations.procs.takes(&call) && is_of_table(declarations, &call))
         }
         Entry::Anchor { .. } => Ok(true),
         Entry::Catalogue { text } => is_canonical(alloc, text.as_slice()),

@@ -1,5 +1,5 @@
 //! What a workload text means.
-use tau_base::{Call, Listed, Name};
+use tau_base::{Calls, Listed, Name};
 use tau_proc::Procs;
 
 /// The declared tables and procedures, each in order of declaration. Tables are numbered from 0.
@@ -32,7 +32,7 @@ pub struct Workload {
     /// The declared tables and procedures.
     pub declarations: Declarations,
     /// The calls in order, at most 200,000. A table stands in a call as its number.
-    pub calls: Listed<Call>,
+    pub calls: Calls,
     /// The turns, where the text has a section of them; at most 1,000,000.
     pub turns: Option<Listed<Turn>>,
 }

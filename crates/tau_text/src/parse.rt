@@ -20,27 +20,26 @@ use crate::spelled::begins_with;
 use arrayvec::ArrayVec;
 use std::alloc::Global;
 use std::str;
-use tau_base::{Call, Listed, MAX_CALLS, MAX_TURNS, MAX_WORKLOAD};
+use tau_base::{Call, Calls, Listed, MAX_CALLS, MAX_TURNS, MAX_WORKLOAD};
 use tau_proc::{Proc, Procs};
 
-/// A line of a call. The call is built here, in place, and moves once, into the list: it is large.
-fn call_read(s: &mut Reading, h: Head, rest: &[u8]) -> Result<(), LineRefusal>
+/// A line of a call. The call is built in a place that serves for all lines, since it is large, and the list keeps it short.
+fn call_read(s: &mut Reading, h: Head, rest: &[u8], call: &mut Call) -> Result<(), LineRefusal>
     requires within { IsWithin s.old }
     requires outside { s.old.begun ≡ None }
     ensures given { Gives (λ _. s.new) result (with_call s.old (called s.old.tables s.old.procs h (words rest.now))) }
     ensures within { OnOk result (IsWithin s.new) }
 {
-    let mut call = Call {
-        proc: 0,
-        args: ArrayVec::new(),
-    };
+    call.args.clear();
     let proc = call_line(s.tables.as_slice(), s.procs.list(), h, rest, &mut call.args)?;
     call.proc = proc;
     if s.calls.len() >= MAX_CALLS {
         return Err(LineRefusal::Cause(TextCause::TooMany));
     }
-    s.calls.push(call)?;
-    Ok(())
+    match s.calls.push(call) {
+        Ok(()) => Ok(()),
+        Err(_) => Err(LineRefusal::Memory),
+    }
 }
 
 /// A line of a table.
@@ -125,6 +124,7 @@ fn outer_read(
     h: Head,
     line: &[u8],
     rest: &[u8],
+    call: &mut Call,
 ) -> Result<(), LineRefusal>
     requires within { IsWithin s.old }
     requires outside { s.old.begun ≡ None }
@@ -135,11 +135,11 @@ fn outer_read(
     match h {
         Head::Table => table_read(s, n, line, rest),
         Head::Proc => proc_read(alloc, s, n, line, rest),
-        Head::Put => call_read(s, Head::Put, rest),
-        Head::Add => call_read(s, Head::Add, rest),
-        Head::Get => call_read(s, Head::Get, rest),
-        Head::Del => call_read(s, Head::Del, rest),
-        Head::Call => call_read(s, Head::Call, rest),
+        Head::Put => call_read(s, Head::Put, rest, call),
+        Head::Add => call_read(s, Head::Add, rest, call),
+        Head::Get => call_read(s, Head::Get, rest, call),
+        Head::Del => call_read(s, Head::Del, rest, call),
+        Head::Call => call_read(s, Head::Call, rest, call),
         Head::Turns => turns_read(alloc, s, n, line, rest),
     }
 }
@@ -244,6 +244,7 @@ fn outside_read(
     line: &[u8],
     word: &[u8],
     rest: &[u8],
+    call: &mut Call,
 ) -> Result<(), LineRefusal>
     requires within { IsWithin s.old }
     requires outside { s.old.begun ≡ None }
@@ -255,7 +256,7 @@ fn outside_read(
     if !is_before(h, s) {
         return Err(LineRefusal::Cause(TextCause::UnknownWord));
     }
-    outer_read(alloc, s, n, h, line, rest)
+    outer_read(alloc, s, n, h, line, rest, call)
 }
 
 /// A line with a word at its front.
@@ -267,6 +268,7 @@ fn statement_read(
     line: &[u8],
     word: &[u8],
     rest: &[u8],
+    call: &mut Call,
 ) -> Result<(), LineRefusal>
     requires within { IsWithin s.old }
     requires cut { words line.now ≡ word.now ∷ words rest.now }
@@ -274,7 +276,7 @@ fn statement_read(
     ensures within { OnOk result (IsWithin s.new) }
 {
     if is_outside(s) {
-        return outside_read(alloc, s, n, line, word, rest);
+        return outside_read(alloc, s, n, line, word, rest, call);
     }
     let Some(b) = s.begun.take() else {
         unreachable!();
@@ -285,7 +287,13 @@ fn statement_read(
 
 /// The words of a line.
 #[tactic(auto, unfolding(crate::specs::Text::words_read))]
-fn words_read(alloc: Global, s: &mut Reading, n: u32, line: &[u8]) -> Result<(), LineRefusal>
+fn words_read(
+    alloc: Global,
+    s: &mut Reading,
+    n: u32,
+    line: &[u8],
+    call: &mut Call,
+) -> Result<(), LineRefusal>
     requires { IsWithin s.old }
     ensures given { Gives (λ _. s.new) result (words_read s.old n (words line.now)) }
     ensures within { OnOk result (IsWithin s.new) }
@@ -296,7 +304,7 @@ fn words_read(alloc: Global, s: &mut Reading, n: u32, line: &[u8]) -> Result<(),
             if begins_with(35, word) {
                 Ok(())
             } else {
-                statement_read(alloc, s, n, line, word, rest)
+                statement_read(alloc, s, n, line, word, rest, call)
             }
         }
     }
@@ -304,13 +312,19 @@ fn words_read(alloc: Global, s: &mut Reading, n: u32, line: &[u8]) -> Result<(),
 
 /// One line.
 #[tactic(auto, unfolding(crate::specs::Text::line_read), using(crate::proofs::Texts::utf8_yes, crate::proofs::Texts::utf8_no))]
-fn line_read(alloc: Global, s: &mut Reading, n: u32, line: &[u8]) -> Result<(), LineRefusal>
+fn line_read(
+    alloc: Global,
+    s: &mut Reading,
+    n: u32,
+    line: &[u8],
+    call: &mut Call,
+) -> Result<(), LineRefusal>
     requires { IsWithin s.old }
     ensures given { Gives (λ _. s.new) result (line_read s.old n line.now) }
     ensures within { OnOk result (IsWithin s.new) }
 {
     match str::from_utf8(line) {
-        Ok(_) => words_read(alloc, s, n, line),
+        Ok(_) => words_read(alloc, s, n, line, call),
         Err(_) => Err(LineRefusal::Cause(TextCause::NotUtf8)),
     }
 }
@@ -325,6 +339,14 @@ fn refusal(n: u32, e: LineRefusal) -> TextRefusal
     }
 }
 
+/// The place in which each call is built.
+fn blank_call() -> Call {
+    Call {
+        proc: 0,
+        args: ArrayVec::new(),
+    }
+}
+
 /// Nothing is read.
 fn nothing(alloc: Global) -> Reading
     ensures same { result ≡ nothing }
@@ -335,7 +357,7 @@ fn nothing(alloc: Global) -> Reading
         procs: Procs::new(alloc),
         size: 0,
         begun: None,
-        calls: Listed::new(alloc),
+        calls: Calls::new(alloc),
         turns: None,
     }
 }
@@ -347,11 +369,12 @@ fn lines_read(alloc: Global, text: &[u8]) -> Result<Reading, TextRefusal>
     ensures short { OnOk result (length text.now ≤ MAX_WORKLOAD) }
 {
     let mut s = nothing(alloc);
+    let mut call = blank_call();
     let mut rest = text;
     let mut n: u32 = 1;
     while !rest.is_empty() {
         let (line, after) = first_line(rest);
-        match line_read(alloc, &mut s, n, line) {
+        match line_read(alloc, &mut s, n, line, &mut call) {
             Ok(()) => {}
             Err(e) => return Err(refusal(n, e)),
         }

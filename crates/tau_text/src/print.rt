@@ -8,8 +8,9 @@ use crate::words::{
     name_of, name_of_proc, name_of_table, next_compare, next_count, next_operand, next_register,
     next_turns, next_values, next_word,
 };
+use arrayvec::ArrayVec;
 use std::alloc::{AllocError, Global};
-use tau_base::{Call, Listed, Name, NoMemory, Value};
+use tau_base::{Call, Calls, Listed, Name, NoMemory, Value};
 use tau_proc::{ADD, Compare, DEL, FIRST_DECLARED, GET, Operand, PUT, Proc, Step};
 
 #[tactic(auto, using(crate::proofs::Chains::one_word))]
@@ -265,11 +266,16 @@ fn put_call(out: &mut Vec<u8>, d: &Declarations, call: &Call) -> Result<(), Allo
     }
 }
 
-fn put_calls(out: &mut Vec<u8>, d: &Declarations, calls: &[Call]) -> Result<(), AllocError>
+fn put_calls(out: &mut Vec<u8>, d: &Declarations, calls: &Calls) -> Result<(), AllocError>
     ensures { OnOk result (out.new.items ≡ out.old.items ++ flat_map (call_text d.now) calls.now) }
 {
-    for call in calls {
-        put_call(out, d, call)?;
+    let mut call = Call {
+        proc: 0,
+        args: ArrayVec::new(),
+    };
+    for i in 0..calls.len() {
+        calls.put_into(i, &mut call);
+        put_call(out, d, &call)?;
     }
     Ok(())
 }
@@ -291,7 +297,7 @@ fn put_workload(out: &mut Vec<u8>, load: &Workload) -> Result<(), AllocError>
     ensures { OnOk result (out.new.items ≡ out.old.items ++ workload_text load.now) }
 {
     put_declarations(out, &load.declarations)?;
-    put_calls(out, &load.declarations, load.calls.as_slice())?;
+    put_calls(out, &load.declarations, &load.calls)?;
     put_turns(out, &load.turns)
 }
 

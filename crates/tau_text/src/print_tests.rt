@@ -20,8 +20,8 @@ fn transfers_are_read_and_printed(rt: HostRuntime) -> Result<(), Fail> {
     assert_eq!(rt; load.declarations.procs.list()[0].args, 3);
     assert_eq!(rt; load.declarations.procs.list()[0].steps.len(), 8);
     assert_eq!(rt; load.calls.len(), 5);
-    assert_eq!(rt; load.calls.as_slice()[2].proc, 4);
-    assert_eq!(rt; load.calls.as_slice()[2].args.len(), 3);
+    assert_eq!(rt; load.calls.call_at(2).proc, 4);
+    assert_eq!(rt; load.calls.call_at(2).args.len(), 3);
     assert!(rt; load.turns.is_some());
     let text = print_workload(rt.alloc(), &load)?;
     assert_eq!(rt; text.as_slice(), TRANSFERS.as_bytes());

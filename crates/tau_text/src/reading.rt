@@ -1,6 +1,6 @@
 //! What the lines of a text have said so far.
 use crate::load::Turn;
-use tau_base::{Call, Listed, Name};
+use tau_base::{Calls, Listed, Name};
 use tau_proc::{Proc, Procs};
 
 /// A procedure whose `end` is still to come: the line where it began, and how many `when` in it are open.
@@ -18,6 +18,6 @@ pub struct Reading {
     pub procs: Procs,
     pub size: u32,
     pub begun: Option<Begun>,
-    pub calls: Listed<Call>,
+    pub calls: Calls,
     pub turns: Option<Listed<Turn>>,
 }

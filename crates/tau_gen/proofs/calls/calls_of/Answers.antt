@@ -6,4 +6,4 @@ use Rattle.tau_gen.proofs.calls.calls_of.Goals as goal
 
 pub loop-i-preserved : goal.loop-i-preserved
 loop-i-preserved c =
-    c.in_ok-push.ensures.items ∙ ap (λ (xs : List Call). xs ++ c.call_of.result ∷ []) c.loop-i.invariant ∙ ap (λ (x : Call). calls_of c.args.start c.loop-i.i ++ x ∷ []) c.call_of.ensures ∙ sym (calls_more c.args.start c.loop-i.i)
+    c.in_ok-push.ensures.ok ∙ ap (λ (xs : List Call). xs ++ c.call_of.result ∷ []) c.loop-i.invariant ∙ ap (λ (x : Call). calls_of c.args.start c.loop-i.i ++ x ∷ []) c.call_of.ensures ∙ sym (calls_more c.args.start c.loop-i.i)
