@@ -1,10 +1,12 @@
 pub mod Ascending
+pub mod Blank
 pub mod Bounds
 pub mod Courses
 pub mod Kept
 pub mod Lookups
 pub mod Puts
 pub mod Refusals
+pub mod Same
 pub mod Sound
 pub mod Stages
 pub mod Starts

@@ -1,5 +1,7 @@
 pub mod Did
 pub mod Effect
+pub mod Kept
+pub mod Lent
 pub mod Limits
 pub mod Meaning
 pub mod Progress

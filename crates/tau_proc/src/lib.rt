@@ -2,9 +2,11 @@
 #![tactic(auto)]
 
 mod laws;
+mod lent;
 mod machine;
 mod proc;
 mod procs;
+mod program;
 mod reply;
 mod running;
 mod step;

@@ -10,13 +10,14 @@ ghost use Rattle.tau_proc.specs.Stage.{stage_of, built_stage};
 
 use crate::proc::Proc;
 use crate::procs::{ADD, DEL, FIRST_DECLARED, GET, PUT, Procs};
+use crate::program::Program;
 use crate::reply::{Reply, Want};
 use crate::running::{Did, Running};
 use crate::step::Step;
 use crate::values::sum_with;
 use arrayvec::ArrayVec;
 use std::marker::Model;
-use tau_base::{Call, Key, MAX_ARGS, MAX_STEPS, Value};
+use tau_base::{Call, Key, MAX_ARGS, Value};
 
 /// What becomes of the value of a row.
 #[derive(Clone, Copy, Debug)]
@@ -42,7 +43,7 @@ enum Stop {
 #[derive(Debug, Drop)]
 pub struct Machine {
     args: ArrayVec<Value, MAX_ARGS>,
-    steps: ArrayVec<Step, MAX_STEPS>,
+    steps: Program,
     done: usize,
     running: Running,
     stop: Stop,
@@ -54,9 +55,9 @@ impl Model for Machine {
 
     ghost Value = { Progress };
 
-    ghost view = { λ m. record { args = m.args.items; steps = m.steps.items; done = m.done; running = m.running; stop = m.stop; granted = m.granted } };
+    ghost view = { λ m. record { args = m.args.items; steps = m.steps; done = m.done; running = m.running; stop = m.stop; granted = m.granted } };
 
-    ghost invariant = { λ m. KeepsCourse m.args.items m.steps.items m.done m.running × StopFits m.stop m.steps.items m.running.writes };
+    ghost invariant = { λ m. KeepsCourse m.args.items m.steps m.done m.running × StopFits m.stop m.steps m.running.writes };
 }
 
 impl Machine {
@@ -66,7 +67,7 @@ impl Machine {
     {
         Machine {
             args: ArrayVec::new(),
-            steps: ArrayVec::new(),
+            steps: Program::new(),
             done: 0,
             running: Running::new(),
             stop: Stop::End(Reply::Ok(Value::Absent)),
@@ -107,7 +108,7 @@ impl Machine {
         ensures { self.new ≡ blank }
     {
         self.args.clear();
-        self.steps.clear();
+        self.steps.leave();
         self.done = 0;
         self.running.clear();
         self.stop = Stop::End(Reply::Ok(Value::Absent));
@@ -194,7 +195,7 @@ impl Machine {
     {
         self.clear();
         copy_values(&mut self.args, args);
-        copy_steps(&mut self.steps, proc.steps.as_slice());
+        self.steps.take(proc.steps.as_slice());
         self.stop = run_on(
             self.steps.as_slice(),
             self.args.as_slice(),
@@ -241,8 +242,8 @@ impl Machine {
             Use::Reply => self.stop = Stop::End(Reply::Ok(value)),
             Use::Add(number) => match sum_with(&value, number) {
                 Some(sum) => {
-                    self.running.put(key, sum.copied());
-                    self.stop = Stop::End(Reply::Ok(sum));
+                    self.running.put(key, Value::Int(sum));
+                    self.stop = Stop::End(Reply::Ok(Value::Int(sum)));
                 }
                 None => self.stop = Stop::End(Reply::Refused(1)),
             },
@@ -276,17 +277,6 @@ fn key_of(table: i64, row: i64) -> Key
     Key {
         table: table as u16,
         row,
-    }
-}
-
-/// Puts the steps there, where none is.
-fn copy_steps(all: &mut ArrayVec<Step, MAX_STEPS>, steps: &[Step])
-    requires empty { all.old.items ≡ [] }
-    requires short { length steps.now ≤ MAX_STEPS }
-    ensures { all.new.items ≡ steps.now }
-{
-    for step in steps {
-        all.push(step.copied());
     }
 }
 

@@ -1,13 +1,15 @@
 //! What a call holds while its steps run.
-ghost use Rattle.std.specs.Prelude.{◌≡◌, ◌<◌, ◌+◌, [], length, replicate, slice_get, IsTrue, Option};
+ghost use Rattle.std.specs.Prelude.{◌≡◌, ◌<◌, ◌+◌, ◌+ℤ◌, ◌-ℤ◌, ◌*ℤ◌, [], length, replicate, slice_get, IsTrue, Option};
 ghost use Rattle.std.specs.Map.{lookup};
 ghost use Rattle.std.specs.FinMap.{put, is_sorted};
 ghost use Rattle.tau_base.specs.Database.{key_cmp, same_key};
 ghost use Rattle.tau_proc.specs.Limits.{is_register, step_fits};
-ghost use Rattle.tau_proc.specs.Meaning.{begun, value_of, set_register, become, got, stored, needed, chosen, does, skipped, action};
-ghost use Rattle.tau_proc.specs.Did.{did_of, after, operand_values};
+ghost use Rattle.tau_proc.specs.Meaning.{begun, value_of, set_register, become, read_at, got, stored, needed, chosen, does, skipped, action, computed, in_range, smaller, greater, joined, holds};
+ghost use Rattle.tau_proc.specs.Did.{did_of, after};
+ghost use Rattle.tau_proc.specs.Lent.{value_of_lent, number_value};
 
-use crate::step::{Operand, Step};
+use crate::lent::{Lent, lend};
+use crate::step::{Compare, Operand, Step};
 use crate::values::{difference, greater, holds, joined, product, smaller, sum, value_of};
 use crate::writes::{Writes, write, written_last};
 use arrayvec::ArrayVec;
@@ -31,6 +33,8 @@ pub(crate) struct Running {
     writes: Writes,
     reply: Value,
     skips: u8,
+    /// Whether a register was written.
+    touched: bool,
 }
 
 impl Model for Running {
@@ -38,13 +42,14 @@ impl Model for Running {
     ghost use Rattle.std.specs.FinMap.{is_sorted};
     ghost use Rattle.tau_base.specs.declared.limits.TheConstants.{REGISTERS};
     ghost use Rattle.tau_base.specs.Database.{key_cmp};
+    ghost use Rattle.tau_proc.specs.Kept.{AbsentUnless};
     ghost use Rattle.tau_proc.specs.Meaning.{Running as Stand};
 
     ghost Value = { Stand };
 
     ghost view = { λ r. record { registers = r.registers; writes = r.writes.items; reply = r.reply; skips = r.skips } };
 
-    ghost invariant = { λ r. (length r.registers ≡ REGISTERS) × IsTrue (is_sorted key_cmp r.writes.items) };
+    ghost invariant = { λ r. (length r.registers ≡ REGISTERS) × IsTrue (is_sorted key_cmp r.writes.items) × AbsentUnless r.touched r.registers };
 }
 
 impl Running {
@@ -57,6 +62,7 @@ impl Running {
             writes: ArrayVec::new(),
             reply: Value::Absent,
             skips: 0,
+            touched: false,
         }
     }
 
@@ -64,10 +70,21 @@ impl Running {
     pub(crate) fn clear(&mut self)
         ensures { self.new ≡ begun }
     {
-        self.registers = Default::default();
+        self.clear_registers();
         self.writes.clear();
         self.reply = Value::Absent;
         self.skips = 0;
+    }
+
+    /// Makes all registers absent. A call without registers leaves nothing to write there.
+    fn clear_registers(&mut self)
+        ensures { self.new ≡ record self.old { registers = replicate REGISTERS Value.Absent } }
+    {
+        if !self.touched {
+            return;
+        }
+        self.registers = Default::default();
+        self.touched = false;
     }
 
     /// The writes so far, ascending, each key once.
@@ -98,6 +115,7 @@ impl Running {
         ensures { self.new ≡ set_register self.old into value }
     {
         self.registers[usize::from(into)] = value;
+        self.touched = true;
     }
 
     /// A row becomes a value.
@@ -115,29 +133,45 @@ impl Running {
         value_of(args, &self.registers, operand)
     }
 
-    /// A register becomes the value, where there is one.
-    fn settle(&mut self, into: u8, value: Option<Value>) -> Did
-        requires { IsTrue (is_register into) }
-        ensures did { result ≡ did_of (become self.old into value) }
-        ensures stands { self.new ≡ after (become self.old into value) self.old }
+    /// The value of an operand, lent.
+    fn lend<'a>(&'a self, args: &'a [Value], operand: &'a Operand) -> Lent<'a>
+        ensures { value_of_lent result ≡ value_of args.now self.now.registers operand.now }
     {
-        let Some(value) = value else {
+        lend(args, &self.registers, operand)
+    }
+
+    /// A register becomes the text, where there is one.
+    fn settle(&mut self, into: u8, text: Option<Value>) -> Did
+        requires { IsTrue (is_register into) }
+        ensures did { result ≡ did_of (become self.old into text) }
+        ensures stands { self.new ≡ after (become self.old into text) self.old }
+    {
+        let Some(text) = text else {
             return Did::Refuses;
         };
-        self.set_register(into, value);
+        self.set_register(into, text);
+        Did::Goes
+    }
+
+    /// A register becomes the number, where there is one.
+    fn settle_number(&mut self, into: u8, number: Option<i64>) -> Did
+        requires { IsTrue (is_register into) }
+        ensures did { result ≡ did_of (become self.old into (number_value number)) }
+        ensures stands { self.new ≡ after (become self.old into (number_value number)) self.old }
+    {
+        let Some(number) = number else {
+            return Did::Refuses;
+        };
+        self.set_register(into, Value::Int(number));
         Did::Goes
     }
 
     /// Reads a row: the value that the call wrote last, else the database's.
-    fn get(&mut self, into: u8, table: u16, row: &Value) -> Did
+    fn get(&mut self, into: u8, key: Key) -> Did
         requires { IsTrue (is_register into) }
-        ensures did { result ≡ did_of (got self.old into table row.now) }
-        ensures stands { self.new ≡ after (got self.old into table row.now) self.old }
+        ensures did { result ≡ did_of (read_at self.old into key (lookup (same_key key) self.old.writes)) }
+        ensures stands { self.new ≡ after (read_at self.old into key (lookup (same_key key) self.old.writes)) self.old }
     {
-        let Value::Int(row) = row else {
-            return Did::Refuses;
-        };
-        let key = Key { table, row: *row };
         match written_last(key, self.writes.as_slice()) {
             Some(value) => {
                 self.set_register(into, value);
@@ -147,17 +181,100 @@ impl Running {
         }
     }
 
-    /// Writes a row.
-    fn store(&mut self, table: u16, row: &Value, value: Value) -> Did
-        requires { length self.old.writes < MAX_WRITES }
-        ensures did { result ≡ did_of (stored self.old table row.now value) }
-        ensures stands { self.new ≡ after (stored self.old table row.now value) self.old }
+    /// Reads the row that an operand names.
+    fn get_at(&mut self, args: &[Value], into: u8, table: u16, row: &Operand) -> Did
+        requires { IsTrue (is_register into) }
+        ensures did { result ≡ did_of (got self.old into table (value_of args.now self.old.registers row.now)) }
+        ensures stands { self.new ≡ after (got self.old into table (value_of args.now self.old.registers row.now)) self.old }
     {
-        let Value::Int(row) = row else {
-            return Did::Refuses;
-        };
-        self.put(Key { table, row: *row }, value);
-        Did::Goes
+        match self.lend(args, row) {
+            Lent::Int(row) => self.get(into, Key { table, row }),
+            Lent::Absent => Did::Refuses,
+            Lent::Text(_) => Did::Refuses,
+        }
+    }
+
+    /// Writes the row that an operand names.
+    fn store_at(&mut self, args: &[Value], table: u16, row: &Operand, value: Value) -> Did
+        requires { length self.old.writes < MAX_WRITES }
+        ensures did { result ≡ did_of (stored self.old table (value_of args.now self.old.registers row.now) value) }
+        ensures stands { self.new ≡ after (stored self.old table (value_of args.now self.old.registers row.now) value) self.old }
+    {
+        match self.lend(args, row) {
+            Lent::Int(row) => {
+                self.put(Key { table, row }, value);
+                Did::Goes
+            }
+            Lent::Absent => Did::Refuses,
+            Lent::Text(_) => Did::Refuses,
+        }
+    }
+
+    /// A register becomes the sum of two numbers.
+    fn add(&mut self, args: &[Value], into: u8, left: &Operand, right: &Operand) -> Did
+        requires { IsTrue (is_register into) }
+        ensures did { result ≡ did_of (become self.old into (computed (λ a b. in_range (a +ℤ b)) (value_of args.now self.old.registers left.now) (value_of args.now self.old.registers right.now))) }
+        ensures stands { self.new ≡ after (become self.old into (computed (λ a b. in_range (a +ℤ b)) (value_of args.now self.old.registers left.now) (value_of args.now self.old.registers right.now))) self.old }
+    {
+        let number = sum(&self.lend(args, left), &self.lend(args, right));
+        self.settle_number(into, number)
+    }
+
+    /// A register becomes the difference of two numbers.
+    fn subtract(&mut self, args: &[Value], into: u8, left: &Operand, right: &Operand) -> Did
+        requires { IsTrue (is_register into) }
+        ensures did { result ≡ did_of (become self.old into (computed (λ a b. in_range (a -ℤ b)) (value_of args.now self.old.registers left.now) (value_of args.now self.old.registers right.now))) }
+        ensures stands { self.new ≡ after (become self.old into (computed (λ a b. in_range (a -ℤ b)) (value_of args.now self.old.registers left.now) (value_of args.now self.old.registers right.now))) self.old }
+    {
+        let number = difference(&self.lend(args, left), &self.lend(args, right));
+        self.settle_number(into, number)
+    }
+
+    /// A register becomes the product of two numbers.
+    fn multiply(&mut self, args: &[Value], into: u8, left: &Operand, right: &Operand) -> Did
+        requires { IsTrue (is_register into) }
+        ensures did { result ≡ did_of (become self.old into (computed (λ a b. in_range (a *ℤ b)) (value_of args.now self.old.registers left.now) (value_of args.now self.old.registers right.now))) }
+        ensures stands { self.new ≡ after (become self.old into (computed (λ a b. in_range (a *ℤ b)) (value_of args.now self.old.registers left.now) (value_of args.now self.old.registers right.now))) self.old }
+    {
+        let number = product(&self.lend(args, left), &self.lend(args, right));
+        self.settle_number(into, number)
+    }
+
+    /// A register becomes the smaller of two numbers.
+    fn lower(&mut self, args: &[Value], into: u8, left: &Operand, right: &Operand) -> Did
+        requires { IsTrue (is_register into) }
+        ensures did { result ≡ did_of (become self.old into (computed (λ a b. Some (Value.Int (smaller a b))) (value_of args.now self.old.registers left.now) (value_of args.now self.old.registers right.now))) }
+        ensures stands { self.new ≡ after (become self.old into (computed (λ a b. Some (Value.Int (smaller a b))) (value_of args.now self.old.registers left.now) (value_of args.now self.old.registers right.now))) self.old }
+    {
+        let number = smaller(&self.lend(args, left), &self.lend(args, right));
+        self.settle_number(into, number)
+    }
+
+    /// A register becomes the greater of two numbers.
+    fn higher(&mut self, args: &[Value], into: u8, left: &Operand, right: &Operand) -> Did
+        requires { IsTrue (is_register into) }
+        ensures did { result ≡ did_of (become self.old into (computed (λ a b. Some (Value.Int (greater a b))) (value_of args.now self.old.registers left.now) (value_of args.now self.old.registers right.now))) }
+        ensures stands { self.new ≡ after (become self.old into (computed (λ a b. Some (Value.Int (greater a b))) (value_of args.now self.old.registers left.now) (value_of args.now self.old.registers right.now))) self.old }
+    {
+        let number = greater(&self.lend(args, left), &self.lend(args, right));
+        self.settle_number(into, number)
+    }
+
+    /// A register becomes two texts joined.
+    fn join(&mut self, args: &[Value], into: u8, left: &Operand, right: &Operand) -> Did
+        requires { IsTrue (is_register into) }
+        ensures did { result ≡ did_of (become self.old into (joined (value_of args.now self.old.registers left.now) (value_of args.now self.old.registers right.now))) }
+        ensures stands { self.new ≡ after (become self.old into (joined (value_of args.now self.old.registers left.now) (value_of args.now self.old.registers right.now))) self.old }
+    {
+        let text = joined(&self.lend(args, left), &self.lend(args, right));
+        self.settle(into, text)
+    }
+
+    /// Whether a comparison of two operands holds; none where it is not allowed.
+    fn holds(&self, args: &[Value], how: Compare, left: &Operand, right: &Operand) -> Option<bool>
+        ensures { result ≡ holds how (value_of args.now self.now.registers left.now) (value_of args.now self.now.registers right.now) }
+    {
+        holds(how, &self.lend(args, left), &self.lend(args, right))
     }
 
     /// Goes on where a comparison holds.
@@ -197,30 +314,6 @@ impl Running {
         }
     }
 
-    /// The values of a step's operands, absent where it has fewer than two.
-    fn operands(&self, args: &[Value], step: &Step) -> (Value, Value)
-        ensures { result ≡ operand_values (value_of args.now self.now.registers) step.now }
-    {
-        match step {
-            Step::Get { row, .. } | Step::Del { row, .. } => {
-                (self.value_of(args, row), Value::Absent)
-            }
-            Step::Reply(value) => (self.value_of(args, value), Value::Absent),
-            Step::Put { row, value, .. } => (self.value_of(args, row), self.value_of(args, value)),
-            Step::Add { left, right, .. }
-            | Step::Sub { left, right, .. }
-            | Step::Mul { left, right, .. }
-            | Step::Min { left, right, .. }
-            | Step::Max { left, right, .. }
-            | Step::Cat { left, right, .. }
-            | Step::Need { left, right, .. }
-            | Step::When { left, right, .. } => {
-                (self.value_of(args, left), self.value_of(args, right))
-            }
-            Step::Done => (Value::Absent, Value::Absent),
-        }
-    }
-
     /// Does a step that is not skipped.
     fn perform(&mut self, args: &[Value], step: &Step) -> Did
         requires fits { IsTrue (step_fits (length args.now) step.now) }
@@ -228,22 +321,27 @@ impl Running {
         ensures did { result ≡ did_of (does args.now self.old step.now) }
         ensures stands { self.new ≡ after (does args.now self.old step.now) self.old }
     {
-        let (left, right) = self.operands(args, step);
         match step {
-            Step::Get { into, table, .. } => self.get(*into, *table, &left),
-            Step::Put { table, .. } => self.store(*table, &left, right),
-            Step::Del { table, .. } => self.store(*table, &left, Value::Absent),
-            Step::Add { into, .. } => self.settle(*into, sum(&left, &right)),
-            Step::Sub { into, .. } => self.settle(*into, difference(&left, &right)),
-            Step::Mul { into, .. } => self.settle(*into, product(&left, &right)),
-            Step::Min { into, .. } => self.settle(*into, smaller(&left, &right)),
-            Step::Max { into, .. } => self.settle(*into, greater(&left, &right)),
-            Step::Cat { into, .. } => self.settle(*into, joined(&left, &right)),
-            Step::Need { how, .. } => self.need(holds(*how, &left, &right)),
-            Step::When { how, .. } => self.choose(holds(*how, &left, &right)),
+            Step::Get { into, table, row } => self.get_at(args, *into, *table, row),
+            Step::Put { table, row, value } => {
+                let value = self.value_of(args, value);
+                self.store_at(args, *table, row, value)
+            }
+            Step::Del { table, row } => self.store_at(args, *table, row, Value::Absent),
+            Step::Add { into, left, right } => self.add(args, *into, left, right),
+            Step::Sub { into, left, right } => self.subtract(args, *into, left, right),
+            Step::Mul { into, left, right } => self.multiply(args, *into, left, right),
+            Step::Min { into, left, right } => self.lower(args, *into, left, right),
+            Step::Max { into, left, right } => self.higher(args, *into, left, right),
+            Step::Cat { into, left, right } => self.join(args, *into, left, right),
+            Step::Need { left, how, right } => self.need(self.holds(args, *how, left, right)),
+            Step::When { left, how, right } => {
+                let is_so = self.holds(args, *how, left, right);
+                self.choose(is_so)
+            }
             Step::Done => Did::Goes,
-            Step::Reply(_) => {
-                self.reply = left;
+            Step::Reply(value) => {
+                self.reply = self.value_of(args, value);
                 Did::Goes
             }
         }

@@ -1,5 +1,5 @@
 //! The steps of procedures.
-ghost use Rattle.std.specs.Prelude.{◌≡◌};
+ghost use Rattle.std.specs.Prelude.{◌≡◌, IsTrue};
 
 use tau_base::Text64;
 
@@ -189,5 +189,12 @@ impl Step {
             Step::Done => Step::Done,
             Step::Reply(value) => Step::Reply(value.copied()),
         }
+    }
+
+    /// Whether both are the same step.
+    pub(crate) fn is_same(&self, other: &Step) -> bool
+        ensures { IsTrue result → self.now ≡ other.now }
+    {
+        self == other
     }
 }

@@ -1,7 +1,9 @@
 //! What steps make of values.
 ghost use Rattle.std.specs.Prelude.{◌≡◌, ◌+ℤ◌, ◌-ℤ◌, ◌*ℤ◌, ◌++◌, nat_le, length, Some, None, if◌then◌else◌};
-ghost use Rattle.tau_proc.specs.Meaning.{value_of, holds, computed, in_range, smaller, greater, joined, sum_with};
+ghost use Rattle.tau_proc.specs.Lent.{value_of_lent, number_value};
+ghost use Rattle.tau_proc.specs.Meaning.{value_of, same_value, holds, computed, in_range, smaller, greater, joined, sum_with};
 
+use crate::lent::Lent;
 use crate::step::{Compare, Operand};
 use arrayvec::ArrayString;
 use tau_base::{MAX_TEXT, Text64, Value};
@@ -25,16 +27,28 @@ pub(crate) fn value_of(args: &[Value], registers: &[Value], operand: &Operand) -
     }
 }
 
+/// Whether both are of one kind with equal content.
+fn is_same(left: &Lent, right: &Lent) -> bool
+    ensures { result ≡ same_value (value_of_lent left.now) (value_of_lent right.now) }
+{
+    match (left, right) {
+        (Lent::Absent, Lent::Absent) => true,
+        (Lent::Int(a), Lent::Int(b)) => a == b,
+        (Lent::Text(a), Lent::Text(b)) => a == b,
+        _ => false,
+    }
+}
+
 /// Whether the comparison holds; none where it is not allowed.
-pub(crate) fn holds(how: Compare, left: &Value, right: &Value) -> Option<bool>
-    ensures { result ≡ holds how left.now right.now }
+pub(crate) fn holds(how: Compare, left: &Lent, right: &Lent) -> Option<bool>
+    ensures { result ≡ holds how (value_of_lent left.now) (value_of_lent right.now) }
 {
     match how {
-        Compare::Equal => return Some(left == right),
-        Compare::NotEqual => return Some(left != right),
+        Compare::Equal => return Some(is_same(left, right)),
+        Compare::NotEqual => return Some(!is_same(left, right)),
         _ => {}
     }
-    let (Value::Int(a), Value::Int(b)) = (left, right) else {
+    let (Lent::Int(a), Lent::Int(b)) = (left, right) else {
         return None;
     };
     Some(match how {
@@ -46,72 +60,72 @@ pub(crate) fn holds(how: Compare, left: &Value, right: &Value) -> Option<bool>
 }
 
 /// The sum of two numbers; none of other values, or outside i64.
-pub(crate) fn sum(left: &Value, right: &Value) -> Option<Value>
-    ensures { result ≡ computed (λ a b. in_range (a +ℤ b)) left.now right.now }
+pub(crate) fn sum(left: &Lent, right: &Lent) -> Option<i64>
+    ensures { number_value result ≡ computed (λ a b. in_range (a +ℤ b)) (value_of_lent left.now) (value_of_lent right.now) }
 {
     match (left, right) {
-        (Value::Int(a), Value::Int(b)) => Some(Value::Int(a.checked_add(*b)?)),
+        (Lent::Int(a), Lent::Int(b)) => Some(a.checked_add(*b)?),
         _ => None,
     }
 }
 
 /// The difference, likewise.
-pub(crate) fn difference(left: &Value, right: &Value) -> Option<Value>
-    ensures { result ≡ computed (λ a b. in_range (a -ℤ b)) left.now right.now }
+pub(crate) fn difference(left: &Lent, right: &Lent) -> Option<i64>
+    ensures { number_value result ≡ computed (λ a b. in_range (a -ℤ b)) (value_of_lent left.now) (value_of_lent right.now) }
 {
     match (left, right) {
-        (Value::Int(a), Value::Int(b)) => Some(Value::Int(a.checked_sub(*b)?)),
+        (Lent::Int(a), Lent::Int(b)) => Some(a.checked_sub(*b)?),
         _ => None,
     }
 }
 
 /// The product, likewise.
-pub(crate) fn product(left: &Value, right: &Value) -> Option<Value>
-    ensures { result ≡ computed (λ a b. in_range (a *ℤ b)) left.now right.now }
+pub(crate) fn product(left: &Lent, right: &Lent) -> Option<i64>
+    ensures { number_value result ≡ computed (λ a b. in_range (a *ℤ b)) (value_of_lent left.now) (value_of_lent right.now) }
 {
     match (left, right) {
-        (Value::Int(a), Value::Int(b)) => Some(Value::Int(a.checked_mul(*b)?)),
+        (Lent::Int(a), Lent::Int(b)) => Some(a.checked_mul(*b)?),
         _ => None,
     }
 }
 
 /// The smaller of two numbers; none of other values.
-pub(crate) fn smaller(left: &Value, right: &Value) -> Option<Value>
-    ensures { result ≡ computed (λ a b. Some (Value.Int (smaller a b))) left.now right.now }
+pub(crate) fn smaller(left: &Lent, right: &Lent) -> Option<i64>
+    ensures { number_value result ≡ computed (λ a b. Some (Value.Int (smaller a b))) (value_of_lent left.now) (value_of_lent right.now) }
 {
     match (left, right) {
-        (Value::Int(a), Value::Int(b)) => Some(Value::Int(if *b < *a { *b } else { *a })),
+        (Lent::Int(a), Lent::Int(b)) => Some(if *b < *a { *b } else { *a }),
         _ => None,
     }
 }
 
 /// The greater, likewise.
-pub(crate) fn greater(left: &Value, right: &Value) -> Option<Value>
-    ensures { result ≡ computed (λ a b. Some (Value.Int (greater a b))) left.now right.now }
+pub(crate) fn greater(left: &Lent, right: &Lent) -> Option<i64>
+    ensures { number_value result ≡ computed (λ a b. Some (Value.Int (greater a b))) (value_of_lent left.now) (value_of_lent right.now) }
 {
     match (left, right) {
-        (Value::Int(a), Value::Int(b)) => Some(Value::Int(if *a < *b { *b } else { *a })),
+        (Lent::Int(a), Lent::Int(b)) => Some(if *a < *b { *b } else { *a }),
         _ => None,
     }
 }
 
 /// Two texts joined; none of other values, or where the result has more than 64 bytes.
-pub(crate) fn joined(left: &Value, right: &Value) -> Option<Value>
-    ensures { result ≡ joined left.now right.now }
+pub(crate) fn joined(left: &Lent, right: &Lent) -> Option<Value>
+    ensures { result ≡ joined (value_of_lent left.now) (value_of_lent right.now) }
 {
     match (left, right) {
-        (Value::Text(a), Value::Text(b)) => Some(Value::Text(joined_text(a, b)?)),
+        (Lent::Text(a), Lent::Text(b)) => Some(Value::Text(joined_text(a, b)?)),
         _ => None,
     }
 }
 
 /// The sum of a row's value, where absent counts as 0, and a number; none of a text, or outside i64.
-pub(crate) fn sum_with(value: &Value, number: i64) -> Option<Value>
-    ensures { result ≡ sum_with value.now number }
+pub(crate) fn sum_with(value: &Value, number: i64) -> Option<i64>
+    ensures { number_value result ≡ sum_with value.now number }
 {
     match value {
-        Value::Absent => Some(Value::Int(number)),
-        Value::Int(held) => Some(Value::Int(held.checked_add(number)?)),
+        Value::Absent => Some(number),
+        Value::Int(held) => Some(held.checked_add(number)?),
         Value::Text(_) => None,
     }
 }
