@@ -92,7 +92,16 @@ impl Pending {
         ensures calls { self.new.calls ≡ self.old.calls ++ record { number = number; lv = lv } ∷ [] }
         ensures room { self.old.room ≤ self.new.room + 1 }
     {
-        let _ = self.calls.push(Waiting { number, lv });
+        self.put_from(number, &lv);
+    }
+
+    /// Puts a call last, with a vector that is lent: it is copied once, to where it stays. It takes no memory.
+    pub fn put_from(&mut self, number: u64, lv: &Lv)
+        requires { 1 ≤ self.old.room }
+        ensures calls { self.new.calls ≡ self.old.calls ++ record { number = number; lv = lv.now } ∷ [] }
+        ensures room { self.old.room ≤ self.new.room + 1 }
+    {
+        self.calls.push_reserved(Waiting { number, lv: *lv });
     }
 
     /// The first call whose vector `plv` covers, taken out. None exactly where no call is covered.
@@ -102,14 +111,47 @@ impl Pending {
         ensures unchanged { IfNone result (self.new.calls ≡ self.old.calls) }
         ensures room { self.old.room ≤ self.new.room }
     {
-        if self.calls.is_empty() {
-            return None;
+        match next_covered(&mut self.calls, &mut self.pass, plv) {
+            Some(at) => Some(self.calls[at]),
+            None => None,
         }
-        if !begin(&mut self.calls, &mut self.pass, plv) {
-            return None;
-        }
-        scan(&mut self.calls, &mut self.pass)
     }
+
+    /// The same, where the call that is taken out is written into `taken`. It answers whether there was one.
+    pub fn take_covered_into(&mut self, plv: &Lv, taken: &mut Waiting) -> bool
+        ensures first { result ≡ true → TakesFirst plv.now self.old.calls taken.new self.new.calls }
+        ensures none { result ≡ false → NoneCovered plv.now self.old.calls }
+        ensures unchanged { result ≡ false → self.new.calls ≡ self.old.calls }
+        ensures kept { result ≡ false → taken.new ≡ taken.old }
+        ensures room { self.old.room ≤ self.new.room }
+    {
+        match next_covered(&mut self.calls, &mut self.pass, plv) {
+            Some(at) => {
+                *taken = self.calls[at];
+                true
+            }
+            None => false,
+        }
+    }
+}
+
+/// Takes out the first call that the vector covers. It answers where that call still lies.
+fn next_covered(calls: &mut Vec<Waiting>, pass: &mut Pass, plv: &Lv) -> Option<usize>
+    requires { IsPass pass.old.plv pass.old.passed pass.old.next calls.old.items }
+    ensures pass { IsPass pass.new.plv pass.new.passed pass.new.next calls.new.items }
+    ensures there { IfSome result (λ at. at < length calls.new.items) }
+    ensures first { IfSome result (λ at. (w : Waiting) → w ≡ get_or calls.new.items at w → TakesFirst plv.now (in_pass pass.old.passed pass.old.next calls.old.items) w (in_pass pass.new.passed pass.new.next calls.new.items)) }
+    ensures none { IfNone result (NoneCovered plv.now (in_pass pass.old.passed pass.old.next calls.old.items)) }
+    ensures unchanged { IfNone result (in_pass pass.new.passed pass.new.next calls.new.items ≡ in_pass pass.old.passed pass.old.next calls.old.items) }
+    ensures room { vec_capacity calls.old + vec_len calls.new ≤ vec_capacity calls.new + vec_len calls.old }
+{
+    if calls.is_empty() {
+        return None;
+    }
+    if !begin(calls, pass, plv) {
+        return None;
+    }
+    scan(calls, pass)
 }
 
 /// Turns the pass to this vector, from the front where it may have left a call that it would now take. It answers
@@ -169,11 +211,12 @@ fn move_down(calls: &mut Vec<Waiting>, from: usize, to: usize)
     calls[to] = calls[from];
 }
 
-/// Goes on with a pass as far as the next covered call.
-fn scan(calls: &mut Vec<Waiting>, pass: &mut Pass) -> Option<Waiting>
+/// Goes on with a pass as far as the next covered call, which is gone from then on. It answers where that call still lies.
+fn scan(calls: &mut Vec<Waiting>, pass: &mut Pass) -> Option<usize>
     requires { IsPass pass.old.plv pass.old.passed pass.old.next calls.old.items }
     ensures pass { IsPass pass.new.plv pass.new.passed pass.new.next calls.new.items }
-    ensures first { IfSome result (λ w. TakesFirst pass.old.plv (in_pass pass.old.passed pass.old.next calls.old.items) w (in_pass pass.new.passed pass.new.next calls.new.items)) }
+    ensures there { IfSome result (λ at. at < length calls.new.items) }
+    ensures first { IfSome result (λ at. (w : Waiting) → w ≡ get_or calls.new.items at w → TakesFirst pass.old.plv (in_pass pass.old.passed pass.old.next calls.old.items) w (in_pass pass.new.passed pass.new.next calls.new.items)) }
     ensures none { IfNone result (NoneCovered pass.old.plv (in_pass pass.old.passed pass.old.next calls.old.items)) }
     ensures unchanged { IfNone result (in_pass pass.new.passed pass.new.next calls.new.items ≡ in_pass pass.old.passed pass.old.next calls.old.items) }
     ensures room { vec_capacity calls.old + vec_len calls.new ≤ vec_capacity calls.new + vec_len calls.old }
@@ -183,7 +226,7 @@ fn scan(calls: &mut Vec<Waiting>, pass: &mut Pass) -> Option<Waiting>
         if pass.plv.covers(&calls[next].lv) {
             pass.passed = passed;
             pass.next = next + 1;
-            return Some(calls[next]);
+            return Some(next);
         }
         move_down(calls, next, passed);
         passed += 1;

@@ -42,3 +42,32 @@ fn takes_covered_calls_in_order(rt: HostRuntime) {
     assert!(rt; pending.is_empty());
     assert_eq!(rt; pending.take_covered(&second), None);
 }
+
+// The same calls with vectors that are lent, each taken into its place.
+#[test]
+fn takes_covered_calls_into_a_place(rt: HostRuntime) {
+    let first = Lv::zero(2).with(0, 53);
+    let second = first.with(1, 61);
+    let mut pending = Pending::new(rt.alloc());
+    assert_eq!(rt; pending.reserve(), Ok(()));
+    pending.put_from(1, &second);
+    assert_eq!(rt; pending.reserve(), Ok(()));
+    pending.put_from(2, &first);
+    let mut taken = Waiting {
+        number: 0,
+        lv: Lv::zero(2),
+    };
+    assert!(rt; pending.take_covered_into(&first, &mut taken));
+    assert_eq!(rt;
+        taken,
+        Waiting {
+            number: 2,
+            lv: first
+        }
+    );
+    assert!(rt; !pending.take_covered_into(&first, &mut taken));
+    assert_eq!(rt; taken.number, 2);
+    assert!(rt; pending.take_covered_into(&second, &mut taken));
+    assert_eq!(rt; taken.number, 1);
+    assert!(rt; pending.is_empty());
+}

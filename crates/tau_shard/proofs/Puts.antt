@@ -193,7 +193,7 @@ on-err (Ok a) f p = tt
 on-err (Err e) f p = f p
 
 -- who writes after a lock, by what it answers
-pub writes-there : {P : Type 0} (r : Result Value ShardRefusal) (e f : LockEntry) (w : ℕ) (m : Mode) → OnOk r (entry_of f ≡ held_as (entry_of e) w (Some m)) →
+pub writes-there : {P : Type 0} (r : Result (Unit {0}) ShardRefusal) (e f : LockEntry) (w : ℕ) (m : Mode) → OnOk r (entry_of f ≡ held_as (entry_of e) w (Some m)) →
     OnOk r ((v : ℕ) → blocks (entry_of e) w m v ≡ false) → OnErr r (f ≡ e) → OnOk r (m ≡ Write → P) → ((u : ℕ) → (entry_of e).holders u ≡ Some Write → P) →
     (u : ℕ) → (entry_of f).holders u ≡ Some Write → P
 writes-there (Ok v) e f w m is free same there old u h = there (lock-writes (entry_of e) w u m free (ap (λ (x : Entry). x.holders u) (sym is) ∙ h))

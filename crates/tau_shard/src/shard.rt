@@ -1,7 +1,7 @@
 //! A shard.
-ghost use Rattle.std.specs.Prelude.{◌≡◌, ◌<◌, ◌≤◌, ◌-◌, ◌++◌, ℕ, length, take, [], ◌∷◌, false, not, None, Some, OnOk, OnErr, IfOk, IfErr, IsOk, IsSome, replicate};
+ghost use Rattle.std.specs.Prelude.{◌≡◌, ◌<◌, ◌≤◌, ◌-◌, ◌++◌, ℕ, length, take, [], ◌∷◌, false, not, None, Some, OnOk, OnErr, IfOk, IfErr, IsSome, replicate, filter};
 ghost use Rattle.std.specs.Map.{lookup, keys_of};
-ghost use Rattle.std.specs.Option.{unwrap_or};
+ghost use Rattle.std.specs.Option.{option_copied, unwrap_or};
 ghost use Rattle.tau_base.specs.Vectors.{join};
 ghost use Rattle.tau_base.specs.Database.{same_key, written, db_of};
 ghost use Rattle.tau_machine.specs.Shard.{entry_in, entry_or, held_as, put_entry, shard_locked, shard_quit, shard_freed, Dropped};
@@ -66,6 +66,13 @@ impl Shard {
         self.floor
     }
 
+    /// The row's value, lent. None only where the row is Absent.
+    pub fn row(&self, key: Key) -> Option<&Value>
+        ensures { unwrap_or (option_copied result) Value.Absent ≡ (shard_of self.now).rows key }
+    {
+        self.rows.get(&key)
+    }
+
     /// The row's value, Absent where there is none.
     pub fn value(&self, key: Key) -> Value
         ensures { result ≡ (shard_of self.now).rows key }
@@ -89,25 +96,21 @@ impl Shard {
         }
     }
 
-    /// Puts a row, which takes no memory where the key has its place.
-    fn set_row(&mut self, key: Key, value: Value) -> Result<(), NoMemory>
-        ensures ok { OnOk result (shard_of self.new ≡ record (shard_of self.old) { rows = written ((key, value) ∷ []) (shard_of self.old).rows }) }
-        ensures there { OnOk result (IsSome (lookup (is_key key) self.new.rows)) }
-        ensures err { OnErr result (shard_of self.new ≡ shard_of self.old) }
-        ensures kept { IsSome (lookup (is_key key) self.old.rows) → IsOk result }
-        ensures entries { self.new.entries ≡ self.old.entries }
+    /// Writes a row that has its place. It takes no memory.
+    fn write_row(&mut self, key: Key, value: &Value)
+        requires { IsSome (lookup (is_key key) self.old.rows) }
+        ensures { shard_of self.new ≡ record (shard_of self.old) { rows = written ((key, value.now) ∷ []) (shard_of self.old).rows } }
     {
-        match self.rows.insert(key, value) {
-            Ok(_) => Ok(()),
-            Err(_) => Err(NoMemory),
+        match self.rows.get_mut(&key) {
+            Some(place) => put_value(place, value),
+            None => {}
         }
     }
 
-    /// The row's value, and the place of a row that is to be written.
-    fn prepare_row(&mut self, key: Key, mode: Mode) -> Result<Value, NoMemory>
+    /// A row that is to be written gets its place.
+    fn prepare_row(&mut self, key: Key, mode: Mode) -> Result<(), NoMemory>
         ensures same { shard_of self.new ≡ shard_of self.old }
         ensures there { OnOk result (mode ≡ Mode.Write → IsSome (lookup (is_key key) self.new.rows)) }
-        ensures value { IfOk result (λ v. v ≡ (shard_of self.old).rows key) }
     {
         place_row(&mut self.rows, key, mode)
     }
@@ -145,6 +148,28 @@ impl Shard {
         ensures unchanged { OnErr result (shard_of self.new ≡ shard_of self.old) }
         ensures dep_unchanged { OnErr result (dep.new ≡ dep.old) }
     {
+        match self.lock_key(worker, key, mode, dep) {
+            Ok(()) => Ok(self.value(key)),
+            Err(refusal) => Err(refusal),
+        }
+    }
+
+    /// Locks the key as `lock` does, and answers no value: `row` lends it.
+    pub fn lock_key(
+        &mut self,
+        worker: u8,
+        key: Key,
+        mode: Mode,
+        dep: &mut Lv,
+    ) -> Result<(), ShardRefusal>
+        requires { worker < 32 }
+        ensures locked { OnOk result (shard_of self.new ≡ shard_locked (shard_of self.old) worker key mode) }
+        ensures joined { OnOk result (dep.new ≡ dep_locked mode dep.old (entry_in (shard_of self.old) key)) }
+        ensures free { OnOk result ((u : ℕ) → blocks (entry_in (shard_of self.old) key) worker mode u ≡ false) }
+        ensures refused { IfErr result (λ e. RefusedBy (entry_in (shard_of self.old) key) worker mode e) }
+        ensures unchanged { OnErr result (shard_of self.new ≡ shard_of self.old) }
+        ensures dep_unchanged { OnErr result (dep.new ≡ dep.old) }
+    {
         match self.entries.get_mut(&key) {
             Some(entry) => lock_old(entry, &mut self.rows, worker, key, mode, dep),
             None => self.lock_new(worker, key, mode, dep),
@@ -158,11 +183,10 @@ impl Shard {
         key: Key,
         mode: Mode,
         dep: &mut Lv,
-    ) -> Result<Value, ShardRefusal>
+    ) -> Result<(), ShardRefusal>
         requires low { worker < 32 }
         requires none { lookup (is_key key) self.old.entries ≡ None }
         ensures locked { OnOk result (shard_of self.new ≡ shard_locked (shard_of self.old) worker key mode) }
-        ensures value { IfOk result (λ v. v ≡ (shard_of self.old).rows key) }
         ensures joined { OnOk result (dep.new ≡ dep_locked mode dep.old (entry_in (shard_of self.old) key)) }
         ensures free { (u : ℕ) → blocks (entry_in (shard_of self.old) key) worker mode u ≡ false }
         ensures refused { IfErr result (λ e. e ≡ ShardRefusal.NoMemory) }
@@ -170,10 +194,10 @@ impl Shard {
         ensures dep_unchanged { OnErr result (dep.new ≡ dep.old) }
     {
         match self.prepare_row(key, mode) {
-            Ok(value) => match self.put(key, self.first_entry(worker, mode)) {
+            Ok(()) => match self.put(key, self.first_entry(worker, mode)) {
                 Ok(()) => {
                     self.raise_by_floor(dep, mode);
-                    Ok(value)
+                    Ok(())
                 }
                 Err(_) => Err(ShardRefusal::NoMemory),
             },
@@ -189,11 +213,21 @@ impl Shard {
         requires writes { IsSome write → (entry_in (shard_of self.old) key).holders worker ≡ Some Mode.Write }
         ensures { shard_of self.new ≡ shard_freed (shard_of self.old) worker key lv.now write }
     {
+        self.free_by(worker, key, lv, write.as_ref());
+    }
+
+    /// Frees a key as `free` does. What the call wrote is lent, and copied once, into the row.
+    pub fn free_by(&mut self, worker: u8, key: Key, lv: &Lv, write: Option<&Value>)
+        requires low { worker < 32 }
+        requires held { IsSome ((entry_in (shard_of self.old) key).holders worker) }
+        requires writes { IsSome write → (entry_in (shard_of self.old) key).holders worker ≡ Some Mode.Write }
+        ensures { shard_of self.new ≡ shard_freed (shard_of self.old) worker key lv.now (option_copied write.entry) }
+    {
         match write {
             None => self.free_read(worker, key, lv),
             Some(value) => {
                 self.free_written(worker, key, lv);
-                let _ = self.set_row(key, value);
+                self.write_row(key, value);
             }
         }
     }
@@ -241,15 +275,8 @@ impl Shard {
         ensures wide { length (shard_of self.old).floor ≤ length (shard_of self.new).floor }
         ensures count { result ≡ length self.old.entries - length self.new.entries }
     {
-        let plv = *plv;
-        let floor = swept(&self.entries, self.floor, &plv);
         let before = self.entries.len();
-        self.entries.retain(
-            |_key: &Key, entry: &mut LockEntry| -> bool
-                ensures { (result ≡ not (covered plv entry.old)) × (entry.new ≡ entry.old) }
-            { !is_covered(entry, &plv) },
-        );
-        self.floor = floor;
+        remove_covered(&mut self.entries, &mut self.floor, plv);
         before - self.entries.len()
     }
 
@@ -293,19 +320,58 @@ fn is_present(value: &Value) -> bool
     !matches!(value, Value::Absent)
 }
 
-/// The floor with the vectors of all entries that are covered.
-fn swept(entries: &IndexMap<Key, LockEntry>, start: Lv, plv: &Lv) -> Lv
-    ensures { result ≡ swept plv.now start entries.now.entries }
+/// Removes the entries that are covered, and raises the floor by their vectors.
+fn remove_covered(entries: &mut IndexMap<Key, LockEntry>, floor: &mut Lv, plv: &Lv)
+    ensures left { entries.new.entries ≡ filter (λ e. not (covered plv.now e.1)) entries.old.entries }
+    ensures raised { floor.new ≡ swept plv.now floor.old entries.old.entries }
+    ensures fewer { length entries.new.entries ≤ length entries.old.entries }
 {
-    let mut floor = start;
+    if !sweep(entries, floor, plv) {
+        return;
+    }
+    entries.retain(
+        |_key: &Key, entry: &mut LockEntry| -> bool
+            ensures { (result ≡ not (covered plv.entry.now entry.old)) × (entry.new ≡ entry.old) }
+        { !is_covered(entry, plv) },
+    );
+}
+
+/// Raises the floor by the vectors of all entries that are covered. Whether there are such.
+fn sweep(entries: &IndexMap<Key, LockEntry>, floor: &mut Lv, plv: &Lv) -> bool
+    ensures raised { floor.new ≡ swept plv.now floor.old entries.now.entries }
+    ensures none { result ≡ false → filter (λ e. not (covered plv.now e.1)) entries.now.entries ≡ entries.now.entries }
+{
+    let mut found = false;
     for i in 0..entries.len() {
         if let Some((_, entry)) = entries.get_index(i) {
             if is_covered(entry, plv) {
-                floor = floor.join(&entry.write).join(&entry.read);
+                raise_floor(floor, entry);
+                found = true;
             }
         }
     }
-    floor
+    found
+}
+
+/// Raises the floor by both vectors of an entry.
+fn raise_floor(floor: &mut Lv, entry: &LockEntry)
+    ensures { floor.new ≡ join (join floor.old entry.now.write) entry.now.read }
+{
+    floor.raise(&entry.write);
+    floor.raise(&entry.read);
+}
+
+/// Puts the value in the place of another.
+fn put_value(place: &mut Value, value: &Value)
+    ensures { place.new ≡ value.now }
+{
+    if let Value::Int(old) = place {
+        if let Value::Int(number) = value {
+            *old = *number;
+            return;
+        }
+    }
+    *place = value.copied();
 }
 
 /// Locks a key that has this entry.
@@ -316,10 +382,9 @@ fn lock_old(
     key: Key,
     mode: Mode,
     dep: &mut Lv,
-) -> Result<Value, ShardRefusal>
+) -> Result<(), ShardRefusal>
     requires { worker < 32 }
     ensures locked { OnOk result (entry_of entry.new ≡ held_as (entry_of entry.old) worker (Some mode)) }
-    ensures value { IfOk result (λ v. v ≡ unwrap_or (lookup (is_key key) rows.old.entries) Value.Absent) }
     ensures joined { OnOk result (dep.new ≡ dep_locked mode dep.old (entry_of entry.old)) }
     ensures free { OnOk result ((u : ℕ) → blocks (entry_of entry.old) worker mode u ≡ false) }
     ensures refused { IfErr result (λ e. RefusedBy (entry_of entry.old) worker mode e) }
@@ -332,42 +397,49 @@ fn lock_old(
     match blocker(entry, worker, mode) {
         Some(holder) => Err(ShardRefusal::Busy { holder }),
         None => match place_row(rows, key, mode) {
-            Ok(value) => {
+            Ok(()) => {
                 raise_by(dep, mode, entry);
                 hold(entry, worker, mode);
-                Ok(value)
+                Ok(())
             }
             Err(_) => Err(ShardRefusal::NoMemory),
         },
     }
 }
 
-/// The row's value. A row that is to be written gets its place.
-fn place_row(rows: &mut IndexMap<Key, Value>, key: Key, mode: Mode) -> Result<Value, NoMemory>
+/// A row that is to be written gets its place.
+fn place_row(rows: &mut IndexMap<Key, Value>, key: Key, mode: Mode) -> Result<(), NoMemory>
     ensures same { db_of (λ x. lookup (is_key x) rows.new.entries) ≡ db_of (λ x. lookup (is_key x) rows.old.entries) }
     ensures kept { (x : Key) → IsSome (lookup (is_key x) rows.old.entries) → IsSome (lookup (is_key x) rows.new.entries) }
     ensures there { OnOk result (mode ≡ Mode.Write → IsSome (lookup (is_key key) rows.new.entries)) }
-    ensures value { IfOk result (λ v. v ≡ unwrap_or (lookup (is_key key) rows.old.entries) Value.Absent) }
 {
-    match rows.get(&key) {
-        Some(value) => Ok(value.copied()),
-        None => place_absent(rows, key, mode),
+    match mode {
+        Mode::Read => Ok(()),
+        Mode::Write => place_written(rows, key),
     }
 }
 
-/// Absent, the value of a row without a place. A row that is to be written gets its place.
-fn place_absent(rows: &mut IndexMap<Key, Value>, key: Key, mode: Mode) -> Result<Value, NoMemory>
+/// A row gets its place. One without a place is Absent there.
+fn place_written(rows: &mut IndexMap<Key, Value>, key: Key) -> Result<(), NoMemory>
+    ensures same { db_of (λ x. lookup (is_key x) rows.new.entries) ≡ db_of (λ x. lookup (is_key x) rows.old.entries) }
+    ensures kept { (x : Key) → IsSome (lookup (is_key x) rows.old.entries) → IsSome (lookup (is_key x) rows.new.entries) }
+    ensures there { OnOk result (IsSome (lookup (is_key key) rows.new.entries)) }
+{
+    match rows.get(&key) {
+        Some(_) => Ok(()),
+        None => place_absent(rows, key),
+    }
+}
+
+/// A row without a place gets it, and is Absent.
+fn place_absent(rows: &mut IndexMap<Key, Value>, key: Key) -> Result<(), NoMemory>
     requires { lookup (is_key key) rows.old.entries ≡ None }
     ensures same { db_of (λ x. lookup (is_key x) rows.new.entries) ≡ db_of (λ x. lookup (is_key x) rows.old.entries) }
     ensures kept { (x : Key) → IsSome (lookup (is_key x) rows.old.entries) → IsSome (lookup (is_key x) rows.new.entries) }
-    ensures there { OnOk result (mode ≡ Mode.Write → IsSome (lookup (is_key key) rows.new.entries)) }
-    ensures value { IfOk result (λ v. v ≡ Value.Absent) }
+    ensures there { OnOk result (IsSome (lookup (is_key key) rows.new.entries)) }
 {
-    match mode {
-        Mode::Read => Ok(Value::Absent),
-        Mode::Write => match rows.insert(key, Value::Absent) {
-            Ok(_) => Ok(Value::Absent),
-            Err(_) => Err(NoMemory),
-        },
+    match rows.insert(key, Value::Absent) {
+        Ok(_) => Ok(()),
+        Err(_) => Err(NoMemory),
     }
 }

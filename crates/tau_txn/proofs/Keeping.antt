@@ -90,3 +90,9 @@ pub prepared-keeps : (width : ℕ) (h : PlainHand) (anchor : List ℕ) (number :
     IsRun (record h { dep = join h.dep anchor; anchor = number; bytes = bytes }) → KeepsHand width (record h { dep = join h.dep anchor; anchor = number; bytes = bytes })
 prepared-keeps width h anchor number bytes wide keeps run =
     record { run = run; shaped = record { wide = join-length h.dep anchor (sym wide) ∙ keeps.shaped.wide; ascend = keeps.shaped.ascend }; settled = record { holds = keeps.settled.holds; last = keeps.settled.last } }
+
+-- a record was made above an anchor that the vector covers
+pub covering-keeps : (width : ℕ) (h : PlainHand) (number : ℕ) (bytes : List ℕ) → KeepsHand width h →
+    IsRun (record h { anchor = number; bytes = bytes }) → KeepsHand width (record h { anchor = number; bytes = bytes })
+covering-keeps width h number bytes keeps run =
+    record { run = run; shaped = record { wide = keeps.shaped.wide; ascend = keeps.shaped.ascend }; settled = record { holds = keeps.settled.holds; last = keeps.settled.last } }

@@ -11,3 +11,4 @@ pub mod Nexts
 pub mod Txns
 pub mod Prepared
 pub mod Blocked
+pub mod Narrow

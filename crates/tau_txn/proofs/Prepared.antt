@@ -1,7 +1,8 @@
 -- Records that were made.
-use Rattle.std.proofs.Common.{ℕ, zero, suc, ◌≤◌, ◌≡◌, false, List, [], ◌∷◌, ◌++◌, length, refl, sym, ap, subst, arith}
+use Rattle.std.proofs.Common.{ℕ, zero, suc, ◌≤◌, ◌≡◌, false, List, [], ◌∷◌, ◌++◌, length, refl, sym, ap, subst, ◌∙◌, arith}
 use Rattle.std.specs.Prelude.{Some, Result, Ok, Err, OnOk, replicate}
-use Rattle.tau_base.specs.Vectors.{join}
+use Rattle.tau_base.specs.Vectors.{AtMost, join}
+use Rattle.tau_base.proofs.Vectors.{join-from}
 use Rattle.tau_base.specs.declared.value.LogMode.{LogMode}
 use Rattle.tau_base.specs.declared.value.NoMemory.{NoMemory}
 use Rattle.tau_proc.specs.declared.proc.Proc.{Proc}
@@ -47,3 +48,13 @@ module _ (w width : ℕ) (mode : LogMode) (h new : PlainHand) (number : ℕ) (an
       let finished' = subst (λ (m : Progress). IsFinished (next_want m)) (sym (ap (λ (a : PlainHand). a.machine) raised)) finished in
       subst (λ (n : ℕ). Spells One n vectors false (entry_of mode (act_at procs (record { worker = w; width = width; mode = mode; hand = Some new }) start hand)) new.bytes) wide
       (subst (λ (e : Entry). Spells One (length h.dep) vectors false e new.bytes) (record-is procs w width mode start new hand (runs procs run) finished' is) (s vectors base))
+
+-- a vector that covers another is their join
+join-covered : (v w : List ℕ) → length w ≡ length v → AtMost w v → v ≡ join v w
+join-covered v w wide covers = join-from v v w (omega (arith, wide)) (λ k. let a = covers k in omega (arith, a))
+
+pub prepared-covering : (h new : PlainHand) (number : ℕ) (anchor : List ℕ) (r : Result (Unit {0}) NoMemory) → length anchor ≡ length h.dep → AtMost anchor h.dep →
+    OnOk r (new ≡ record h { anchor = number; bytes = new.bytes }) → OnOk r (new ≡ record h { dep = join h.dep anchor; anchor = number; bytes = new.bytes })
+prepared-covering h new number anchor (Err e) wide covers raised = tt
+prepared-covering h new number anchor (Ok u) wide covers raised =
+    raised ∙ ap (λ (v : List ℕ). record h { dep = v; anchor = number; bytes = new.bytes }) (join-covered h.dep anchor wide covers)

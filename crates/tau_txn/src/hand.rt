@@ -1,5 +1,6 @@
 //! A call in hand.
-ghost use Rattle.std.specs.Prelude.{◌≡◌, ◌==◌, ◌<◌, ◌≤◌, ◌+◌, ◌||◌, [], ◌∷◌, List, ℕ, Option, Some, length, not, replicate, IsTrue, IsSome, IfOk, true, false, OnOk, OnErr};
+ghost use Rattle.std.specs.Prelude.{◌≡◌, ◌==◌, ◌<◌, ◌≤◌, ◌+◌, ◌-◌, ◌++◌, ◌||◌, [], ◌∷◌, List, ℕ, Option, Some, length, not, replicate, IsTrue, IsSome, IfOk, true, false, OnOk, OnErr, slice_set, vec_capacity, vec_len};
+ghost use Rattle.std.specs.Option.{option_copied, unwrap_or};
 ghost use Rattle.std.specs.Map.{lookup};
 ghost use Rattle.std.specs.FinMap.{is_sorted};
 ghost use Rattle.tau_base.specs.Database.{same_key, key_cmp};
@@ -21,16 +22,17 @@ ghost use Rattle.tau_machine.specs.Hands.{Txn, Placed, Freeing, hold};
 ghost use Rattle.tau_machine.specs.Worker.{Worker, fresh, settled, hand_busy, hand_quit, hand_joined, hand_freed};
 ghost use Rattle.tau_txn.specs.Actions.{quits, frees};
 ghost use Rattle.tau_txn.specs.Kept.{Shaped, KeepsHand, keeps_in, kept, is_leaving};
+ghost use Rattle.tau_txn.specs.Narrow.{lock_asked, quit_asked, free_asked, free_wanted, is_left_over, listed};
 ghost use Rattle.tau_txn.specs.Next.{ends_with, asks, frees_on, kind_of, next_by, IsForWent, FreesBy};
 ghost use Rattle.tau_txn.specs.Progress.{IsRunBy, IsRun, Follows, WantsUnseen, HasCommitted, IsFinished};
 ghost use Rattle.tau_txn.specs.Read.{hand_of, act_in, placed_act, reading_act};
 ghost use Rattle.tau_txn.specs.Record.{kept_reading, kept_joined, kept_by, spot_by};
-ghost use Rattle.tau_txn.specs.Steps.{lock_in, locked_with, first_key, without_first, record_of};
+ghost use Rattle.tau_txn.specs.Steps.{lock_by, lock_in, locked_with, first_key, without_first, record_of};
 ghost use Rattle.tau_txn.specs.Txn.{shown_of, worker_in, joined_by, lv_by};
 
 use crate::action::{Action, ActionKind};
 use crate::course::Course;
-use crate::held::{leave_first, take, value_at};
+use crate::held::{leave_first, lent_at, take, value_at};
 use crate::standing::Standing;
 use arrayvec::ArrayVec;
 use std::alloc::Global;
@@ -122,12 +124,7 @@ impl Hand {
         self.given_up = false;
         self.dep = Lv::zero(n);
         self.held.clear();
-        self.anchor = 0;
-        self.stream = 0;
-        self.start = 0;
-        self.past = 0;
-        self.lv = Lv::zero(n);
-        self.bytes = Vec::new(self.alloc);
+        self.bytes.clear();
         self.restart(procs);
     }
 
@@ -139,22 +136,22 @@ impl Hand {
     }
 
     /// Its vector so far, without its own record.
-    pub fn dep(&self) -> Lv
-        ensures { result ≡ self.now.dep }
+    pub fn dep(&self) -> &Lv
+        ensures { result.now ≡ self.now.dep }
     {
-        self.dep
+        &self.dep
     }
 
     /// The vector that it frees its keys with: its own once it has joined the committed calls, before that the one so far.
-    pub fn lv(&self) -> Lv
-        ensures { result ≡ lv_by self.now.standing self.now }
+    pub fn lv(&self) -> &Lv
+        ensures { result.now ≡ lv_by self.now.standing self.now }
     {
         match self.standing {
-            Standing::Running => self.dep,
-            Standing::Quitting => self.dep,
-            Standing::Placed => self.lv,
-            Standing::Freeing => self.lv,
-            Standing::LeftOver => self.dep,
+            Standing::Running => &self.dep,
+            Standing::Quitting => &self.dep,
+            Standing::Placed => &self.lv,
+            Standing::Freeing => &self.lv,
+            Standing::LeftOver => &self.dep,
         }
     }
 
@@ -217,6 +214,60 @@ impl Hand {
             lv: self.lv,
             spot: self.spot(),
         })
+    }
+
+    /// Appends what is kept of it, as `committed` answers it.
+    pub fn commit_into(&self, out: &mut Vec<Committed>)
+        requires { 1 ≤ vec_capacity out.old - vec_len out.old }
+        ensures items { out.new.items ≡ out.old.items ++ listed (kept_by self.now.standing self.now) }
+        ensures room { vec_capacity out.old - vec_len out.old ≤ (vec_capacity out.new - vec_len out.new) + 1 }
+        ensures ascend { IsTrue (is_sorted key_cmp (buffered self.now.machine)) }
+    {
+        let _ascending = self.machine.writes();
+        match self.standing {
+            Standing::Running => self.put_reading(out),
+            Standing::Quitting => {}
+            Standing::Placed => self.put_joined(out),
+            Standing::Freeing => self.put_joined(out),
+            Standing::LeftOver => {}
+        }
+    }
+
+    fn put_reading(&self, out: &mut Vec<Committed>)
+        requires { 1 ≤ vec_capacity out.old - vec_len out.old }
+        ensures items { out.new.items ≡ out.old.items ++ listed (kept_reading (next_want self.now.machine) (buffered self.now.machine) self.now) }
+        ensures room { vec_capacity out.old - vec_len out.old ≤ (vec_capacity out.new - vec_len out.new) + 1 }
+    {
+        let Want::Finished(reply) = self.machine.want() else {
+            return;
+        };
+        if !self.machine.writes().is_empty() {
+            return;
+        }
+        out.push_reserved(Committed {
+            number: self.number,
+            reply: reply.copied(),
+            dep: self.dep,
+            lv: self.dep,
+            spot: None,
+        });
+    }
+
+    fn put_joined(&self, out: &mut Vec<Committed>)
+        requires { 1 ≤ vec_capacity out.old - vec_len out.old }
+        ensures items { out.new.items ≡ out.old.items ++ listed (kept_joined (next_want self.now.machine) self.now) }
+        ensures room { vec_capacity out.old - vec_len out.old ≤ (vec_capacity out.new - vec_len out.new) + 1 }
+    {
+        let Want::Finished(reply) = self.machine.want() else {
+            return;
+        };
+        out.push_reserved(Committed {
+            number: self.number,
+            reply: reply.copied(),
+            dep: self.dep,
+            lv: self.lv,
+            spot: self.spot(),
+        });
     }
 
     /// The place of its record.
@@ -362,6 +413,109 @@ impl Hand {
         kind_of_frees(self.held.as_slice())
     }
 
+    /// The lock that it takes next.
+    pub fn lock_asked(&self) -> Option<(Key, Mode)>
+        ensures asked { result ≡ lock_asked self.now.standing self.now }
+        ensures ascend { IsTrue (is_sorted key_cmp (buffered self.now.machine)) }
+    {
+        let _ascending = self.machine.writes();
+        match self.standing {
+            Standing::Running => {
+                if self.leaves {
+                    None
+                } else {
+                    lock_of(self.machine.want())
+                }
+            }
+            Standing::Quitting => None,
+            Standing::Placed => None,
+            Standing::Freeing => None,
+            Standing::LeftOver => None,
+        }
+    }
+
+    /// The key that it gives back next.
+    pub fn quit_asked(&self) -> Option<Key>
+        ensures asked { result ≡ quit_asked self.now.standing self.now }
+        ensures ascend { IsTrue (is_sorted key_cmp (buffered self.now.machine)) }
+    {
+        let _ascending = self.machine.writes();
+        match self.standing {
+            Standing::Running => {
+                if self.leaves {
+                    lowest(self.held.as_slice())
+                } else {
+                    None
+                }
+            }
+            Standing::Quitting => lowest(self.held.as_slice()),
+            Standing::Placed => None,
+            Standing::Freeing => None,
+            Standing::LeftOver => None,
+        }
+    }
+
+    /// The key that it frees next.
+    pub fn free_asked(&self) -> Option<Key>
+        ensures asked { result ≡ free_asked self.now.standing self.now }
+        ensures ascend { IsTrue (is_sorted key_cmp (buffered self.now.machine)) }
+    {
+        let _ascending = self.machine.writes();
+        match self.standing {
+            Standing::Running => {
+                if self.leaves {
+                    None
+                } else {
+                    self.read_only_free()
+                }
+            }
+            Standing::Quitting => None,
+            Standing::Placed => None,
+            Standing::Freeing => self.finished_free(),
+            Standing::LeftOver => None,
+        }
+    }
+
+    fn read_only_free(&self) -> Option<Key>
+        ensures { result ≡ free_wanted (length (buffered self.now.machine) == 0) (next_want self.now.machine) self.now.held }
+    {
+        if self.machine.writes().is_empty() {
+            return self.finished_free();
+        }
+        None
+    }
+
+    fn finished_free(&self) -> Option<Key>
+        ensures { result ≡ free_wanted true (next_want self.now.machine) self.now.held }
+    {
+        let Want::Finished(_) = self.machine.want() else {
+            return None;
+        };
+        lowest(self.held.as_slice())
+    }
+
+    /// What it wrote at this key so far.
+    pub fn written_at(&self, key: Key) -> Option<&Value>
+        ensures { option_copied result ≡ lookup (same_key key) (buffered self.now.machine) }
+    {
+        lent_at(key, self.machine.writes())
+    }
+
+    /// Whether it is left over.
+    pub fn is_left_over(&self) -> bool
+        ensures asked { result ≡ is_left_over self.now.standing }
+        ensures ascend { IsTrue (is_sorted key_cmp (buffered self.now.machine)) }
+    {
+        let _ascending = self.machine.writes();
+        match self.standing {
+            Standing::Running => false,
+            Standing::Quitting => false,
+            Standing::Placed => false,
+            Standing::Freeing => false,
+            Standing::LeftOver => true,
+        }
+    }
+
     /// How many bytes the record has, 0 while there is no record.
     pub fn record_size(&self) -> u64
         ensures { result ≡ length self.now.bytes }
@@ -370,21 +524,21 @@ impl Hand {
     }
 
     /// The lock was granted, showed this row, and raised the vector to `dep`. It takes no memory.
-    pub fn granted(&mut self, value: Value, dep: Lv)
+    pub fn granted(&mut self, row: Option<&Value>, dep: &Lv)
         requires run { IsRun self.old }
         requires running { self.old.standing ≡ Standing.Running }
         requires lock { IsSome (lock_in self.old) }
-        ensures locked { (procs : List Proc) (w : ℕ) (l : Key × Mode) → lock_in self.old ≡ Some l → hand_of procs w self.new ≡ locked_with (hand_of procs w self.old) l.0 l.1 value dep }
+        ensures locked { (procs : List Proc) (w : ℕ) (l : Key × Mode) → lock_in self.old ≡ Some l → hand_of procs w self.new ≡ locked_with (hand_of procs w self.old) l.0 l.1 (unwrap_or (option_copied row.entry) Value.Absent) dep.now }
         ensures runs { (procs : List Proc) → IsRunBy procs self.old → IsRunBy procs self.new }
         ensures standing { self.new.standing ≡ Standing.Running }
-        ensures keeps { (width : ℕ) → length dep ≡ width → KeepsHand width self.old → KeepsHand width self.new }
+        ensures keeps { (width : ℕ) → length dep.now ≡ width → KeepsHand width self.old → KeepsHand width self.new }
         ensures leaves { self.new.leaves ≡ self.old.leaves }
         ensures bytes { self.new.bytes ≡ self.old.bytes }
     {
         match self.machine.want() {
             Want::Read(key) => {
                 let key = *key;
-                self.read(key, value, dep)
+                self.read(key, row, dep)
             }
             Want::Write(key) => {
                 let key = *key;
@@ -395,33 +549,34 @@ impl Hand {
     }
 
     /// A read lock was granted.
-    fn read(&mut self, key: Key, value: Value, dep: Lv)
+    fn read(&mut self, key: Key, row: Option<&Value>, dep: &Lv)
         requires run { IsRun self.old }
         requires running { self.old.standing ≡ Standing.Running }
         requires wanted { next_want self.old.machine ≡ Want.Read key }
-        ensures locked { (procs : List Proc) (w : ℕ) → hand_of procs w self.new ≡ locked_with (hand_of procs w self.old) key Mode.Read value dep }
-        ensures same { self.new ≡ record self.old { machine = self.new.machine; held = hold key Mode.Read self.old.held; seen = self.new.seen; dep = dep } }
+        ensures locked { (procs : List Proc) (w : ℕ) → hand_of procs w self.new ≡ locked_with (hand_of procs w self.old) key Mode.Read (unwrap_or (option_copied row.entry) Value.Absent) dep.now }
+        ensures same { self.new ≡ record self.old { machine = self.new.machine; held = hold key Mode.Read self.old.held; seen = self.new.seen; dep = dep.now } }
         ensures runs { (procs : List Proc) → IsRunBy procs self.old → IsRunBy procs self.new }
     {
         take(&mut self.held, key, Mode::Read);
-        self.seen.push((key, value.copied()));
-        self.machine.give(value);
+        let seen = value_of(row);
+        self.seen.push((key, seen));
+        self.machine.give(value_of(row));
         catch_up(&mut self.machine, self.seen.as_slice());
-        self.dep = dep;
+        self.dep = *dep;
     }
 
     /// A write lock was granted.
-    fn write(&mut self, key: Key, dep: Lv)
+    fn write(&mut self, key: Key, dep: &Lv)
         requires run { IsRun self.old }
         requires running { self.old.standing ≡ Standing.Running }
         requires wanted { next_want self.old.machine ≡ Want.Write key }
-        ensures locked { (procs : List Proc) (w : ℕ) (row : Value) → hand_of procs w self.new ≡ locked_with (hand_of procs w self.old) key Mode.Write row dep }
-        ensures same { self.new ≡ record self.old { machine = self.new.machine; held = hold key Mode.Write self.old.held; seen = self.new.seen; dep = dep } }
+        ensures locked { (procs : List Proc) (w : ℕ) (row : Value) → hand_of procs w self.new ≡ locked_with (hand_of procs w self.old) key Mode.Write row dep.now }
+        ensures same { self.new ≡ record self.old { machine = self.new.machine; held = hold key Mode.Write self.old.held; seen = self.new.seen; dep = dep.now } }
         ensures runs { (procs : List Proc) → IsRunBy procs self.old → IsRunBy procs self.new }
     {
         take(&mut self.held, key, Mode::Write);
         self.machine.granted();
-        self.dep = dep;
+        self.dep = *dep;
     }
 
     /// The lock was refused: the call has met Busy once more. Whether it stays in hand.
@@ -556,6 +711,57 @@ impl Hand {
         ensures keeps { (width : ℕ) → KeepsHand width self.old → KeepsHand width self.new }
         ensures leaves { self.new.leaves ≡ self.old.leaves }
     {
+        if self.dep.covers(anchor) {
+            return self.prepare_covering(mode, anchor_number, anchor);
+        }
+        self.prepare_raised(mode, anchor_number, anchor)
+    }
+
+    /// The vector covers that of the anchor, as that of no anchor: it stays, and is not copied.
+    fn prepare_covering(
+        &mut self,
+        mode: LogMode,
+        anchor_number: u32,
+        anchor: &Lv,
+    ) -> Result<(), NoMemory>
+        requires run { IsRun self.old }
+        requires running { self.old.standing ≡ Standing.Running }
+        requires finished { IsFinished (next_want self.old.machine) }
+        requires writes { 1 ≤ length (buffered self.old.machine) }
+        requires width { length anchor.now ≡ length self.old.dep }
+        requires covers { AtMost anchor.now self.old.dep }
+        ensures raised { OnOk result (self.new ≡ record self.old { anchor = anchor_number; bytes = self.new.bytes }) }
+        ensures bytes { OnOk result ((vectors : List (List ℕ)) → base_of vectors anchor_number ≡ anchor.now → Spells One (length self.old.dep) vectors false (record_of mode self.new) self.new.bytes) }
+        ensures unchanged { OnErr result (self.new ≡ self.old) }
+        ensures runs { (procs : List Proc) → IsRunBy procs self.old → IsRunBy procs self.new }
+        ensures keeps { (width : ℕ) → KeepsHand width self.old → KeepsHand width self.new }
+        ensures leaves { self.new.leaves ≡ self.old.leaves }
+    {
+        let bytes = self.record_bytes(mode, anchor_number, &self.dep, anchor)?;
+        self.anchor = anchor_number;
+        self.bytes = bytes;
+        Ok(())
+    }
+
+    /// The vector is raised by that of the anchor.
+    fn prepare_raised(
+        &mut self,
+        mode: LogMode,
+        anchor_number: u32,
+        anchor: &Lv,
+    ) -> Result<(), NoMemory>
+        requires run { IsRun self.old }
+        requires running { self.old.standing ≡ Standing.Running }
+        requires finished { IsFinished (next_want self.old.machine) }
+        requires writes { 1 ≤ length (buffered self.old.machine) }
+        requires width { length anchor.now ≡ length self.old.dep }
+        ensures raised { OnOk result (self.new ≡ record self.old { dep = join self.old.dep anchor.now; anchor = anchor_number; bytes = self.new.bytes }) }
+        ensures bytes { OnOk result ((vectors : List (List ℕ)) → base_of vectors anchor_number ≡ anchor.now → Spells One (length self.old.dep) vectors false (record_of mode self.new) self.new.bytes) }
+        ensures unchanged { OnErr result (self.new ≡ self.old) }
+        ensures runs { (procs : List Proc) → IsRunBy procs self.old → IsRunBy procs self.new }
+        ensures keeps { (width : ℕ) → KeepsHand width self.old → KeepsHand width self.new }
+        ensures leaves { self.new.leaves ≡ self.old.leaves }
+    {
         let dep = raise(&self.dep, anchor);
         let bytes = self.record_bytes(mode, anchor_number, &dep, anchor)?;
         self.dep = dep;
@@ -616,7 +822,7 @@ impl Hand {
         self.stream = stream;
         self.start = start;
         self.past = start + self.bytes.len() as u64;
-        self.lv = self.dep.with(usize::from(stream), self.past);
+        put_placed(&mut self.lv, &self.dep, usize::from(stream), self.past);
         self.standing = Standing::Placed;
     }
 
@@ -675,6 +881,47 @@ impl Hand {
         self.dep = Lv::zero(self.dep.width());
         self.standing = Standing::Running;
     }
+}
+
+/// The lock that is wanted.
+fn lock_of(want: &Want) -> Option<(Key, Mode)>
+    ensures { result ≡ lock_by want.now }
+{
+    match want {
+        Want::Read(key) => Some((*key, Mode::Read)),
+        Want::Write(key) => Some((*key, Mode::Write)),
+        Want::Finished(_) => None,
+    }
+}
+
+/// The lowest key that is held.
+fn lowest(held: &[(Key, Mode)]) -> Option<Key>
+    ensures { result ≡ first_key held.now }
+{
+    match held.first() {
+        Some(entry) => Some(entry.0),
+        None => None,
+    }
+}
+
+/// The value of a row that is lent, Absent where there is none.
+fn value_of(row: Option<&Value>) -> Value
+    ensures { result ≡ unwrap_or (option_copied row.entry) Value.Absent }
+{
+    match row {
+        Some(value) => value.copied(),
+        None => Value::Absent,
+    }
+}
+
+/// The vector with the end of the record in its stream.
+fn put_placed(lv: &mut Lv, dep: &Lv, stream: usize, past: u64)
+    requires there { stream < length dep.now }
+    requires small { past < MAX_LSN }
+    ensures { lv.new ≡ slice_set dep.now stream past }
+{
+    *lv = *dep;
+    lv.set(stream, past);
 }
 
 /// Gives the lowest key back.

@@ -2,6 +2,7 @@
 ghost use Rattle.std.specs.Prelude.{◌≡◌, ◌<◌, not};
 ghost use Rattle.arrayvec.specs.ArrayVec.{array_vec_len};
 ghost use Rattle.std.specs.Map.{lookup};
+ghost use Rattle.std.specs.Option.{option_copied};
 ghost use Rattle.tau_base.specs.Database.{same_key};
 ghost use Rattle.tau_machine.specs.Hands.{hold, without};
 ghost use Rattle.tau_txn.specs.Spot.{spot};
@@ -43,6 +44,18 @@ pub(crate) fn value_at(key: Key, entries: &[(Key, Value)]) -> Option<Value>
     for entry in entries {
         if key == entry.0 {
             return Some(entry.1.copied());
+        }
+    }
+    None
+}
+
+/// The value that goes with the key, lent.
+pub(crate) fn lent_at(key: Key, entries: &[(Key, Value)]) -> Option<&Value>
+    ensures { option_copied result ≡ lookup (same_key key) entries.now }
+{
+    for entry in entries {
+        if key == entry.0 {
+            return Some(&entry.1);
         }
     }
     None

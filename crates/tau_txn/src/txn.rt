@@ -1,5 +1,6 @@
 //! A worker's calls, one at a time.
-ghost use Rattle.std.specs.Prelude.{◌≡◌, ◌<◌, ◌≤◌, ◌+◌, [], List, ℕ, Option, Some, None, false, true, length, is_some, IsTrue, OnOk, OnErr};
+ghost use Rattle.std.specs.Prelude.{◌≡◌, ◌<◌, ◌≤◌, ◌+◌, ◌-◌, ◌++◌, ◌∷◌, [], List, ℕ, Option, Some, None, false, true, length, is_some, IsTrue, IsSome, IfSome, IfNone, OnOk, OnErr, vec_capacity, vec_len};
+ghost use Rattle.std.specs.Option.{option_copied, unwrap_or};
 ghost use Rattle.tau_base.specs.Vectors.{join};
 ghost use Rattle.tau_base.specs.declared.limits.TheConstants.{MAX_LSN, MAX_STREAMS};
 ghost use Rattle.tau_base.specs.declared.value.Key.{Key};
@@ -16,7 +17,8 @@ ghost use Rattle.tau_machine.specs.Worker.{Worker, lock_of, fresh, settled, hand
 ghost use Rattle.tau_machine.specs.Hands as theory;
 ghost use Rattle.tau_machine.specs.Hands.{Placed, Freeing, act_of, lv_of, committed_of};
 ghost use Rattle.tau_txn.specs.Actions.{action_of};
-ghost use Rattle.tau_txn.specs.Next.{next_action, kind_of, Means, IsLock, IsCommit, IsForWent, FreesBy, Reads, act_at, lock_by};
+ghost use Rattle.tau_txn.specs.Narrow.{lock_at, quit_at, free_at, left_over_at, written_in, listed};
+ghost use Rattle.tau_txn.specs.Next.{next_action, kind_of, Means, Locks, Quits, Frees, IsLeftOver, IsLock, IsCommit, IsForWent, FreesBy, Reads, act_at, lock_by};
 ghost use Rattle.tau_txn.specs.Record.{entry_of, kept_of};
 ghost use Rattle.tau_txn.specs.Steps.{locked_with};
 ghost use Rattle.tau_txn.specs.Txn.{hand_in, worker_of, RunsBy, number_in, dep_in, anchor_in, bytes_in, leaves_in, held_in, lv_in, has_joined};
@@ -119,6 +121,88 @@ impl Txn {
         self.hand.record_size()
     }
 
+    /// The lock that is the next action. It copies nothing else.
+    pub fn lock_asked(&self) -> Option<(Key, Mode)>
+        ensures asked { result ≡ lock_at (next_action self.now) }
+        ensures next { IfSome result (λ l. next_action self.now ≡ Action.Lock l.0 l.1) }
+        ensures means { (procs : List Proc) → RunsBy procs self.now → IfSome result (λ l. Locks procs self.now l.0 l.1) }
+        ensures other { IfNone result ((x : Key) (m : Mode) → next_action self.now ≡ Action.Lock x m → ⊥) }
+        ensures hand { IsSome result → is_some self.now.hand ≡ true }
+    {
+        if !self.in_hand {
+            return None;
+        }
+        self.hand.lock_asked()
+    }
+
+    /// The key that the next action gives back.
+    pub fn quit_asked(&self) -> Option<Key>
+        ensures asked { result ≡ quit_at (next_action self.now) }
+        ensures next { IfSome result (λ x. next_action self.now ≡ Action.Quit x) }
+        ensures means { (procs : List Proc) → RunsBy procs self.now → IfSome result (λ x. Quits procs self.now x) }
+        ensures other { IfNone result ((x : Key) → next_action self.now ≡ Action.Quit x → ⊥) }
+        ensures hand { IsSome result → is_some self.now.hand ≡ true }
+    {
+        if !self.in_hand {
+            return None;
+        }
+        self.hand.quit_asked()
+    }
+
+    /// The key that the next action frees. `written_at` has what the call wrote there.
+    pub fn free_asked(&self) -> Option<Key>
+        ensures asked { result ≡ free_at (next_action self.now) }
+        ensures next { IfSome result (λ x. next_action self.now ≡ Action.Free x (written_in self.now x)) }
+        ensures means { (procs : List Proc) → RunsBy procs self.now → IfSome result (λ x. Frees procs self.now x (written_in self.now x)) }
+        ensures other { IfNone result ((x : Key) (write : Option Value) → next_action self.now ≡ Action.Free x write → ⊥) }
+        ensures hand { IsSome result → is_some self.now.hand ≡ true }
+    {
+        if !self.in_hand {
+            return None;
+        }
+        self.hand.free_asked()
+    }
+
+    /// What the call in hand wrote at this key so far, lent.
+    pub fn written_at(&self, key: Key) -> Option<&Value>
+        ensures { option_copied result ≡ written_in self.now key }
+    {
+        if !self.in_hand {
+            return None;
+        }
+        self.hand.written_at(key)
+    }
+
+    /// Whether the next action is that the call is left over.
+    pub fn is_left_over(&self) -> bool
+        ensures asked { result ≡ left_over_at (next_action self.now) }
+        ensures next { result ≡ true → next_action self.now ≡ Action.LeftOver }
+        ensures means { (procs : List Proc) → RunsBy procs self.now → result ≡ true → IsLeftOver procs self.now }
+        ensures other { result ≡ false → next_action self.now ≡ Action.LeftOver → ⊥ }
+    {
+        if !self.in_hand {
+            return false;
+        }
+        self.hand.is_left_over()
+    }
+
+    /// The lock was granted, as for `granted`, with the row and the vector lent; no row is one that is Absent. It takes no memory.
+    pub fn granted_by(&mut self, row: Option<&Value>, dep: &Lv)
+        requires lock { IsLock (next_action self.old) }
+        requires wide { length dep.now ≡ self.old.width }
+        ensures locked { (procs : List Proc) (hand : theory.Hand) (x : Key) (m : Mode) → RunsBy procs self.old → next_action self.old ≡ Action.Lock x m → hand_in procs self.old ≡ Some hand →
+            hand_in procs self.new ≡ Some (locked_with hand x m (unwrap_or (option_copied row.entry) Value.Absent) dep.now) }
+        ensures runs { (procs : List Proc) → RunsBy procs self.old → RunsBy procs self.new }
+        ensures stays { leaves_in self.old ≡ false → leaves_in self.new ≡ false }
+        ensures bytes { bytes_in self.old ≡ [] → bytes_in self.new ≡ [] }
+        ensures same { self.new ≡ record self.old { hand = self.new.hand } }
+    {
+        if !self.in_hand {
+            return;
+        }
+        self.hand.granted(row, dep);
+    }
+
     /// The lock was granted: the row that it showed, and the vector that it raised. It takes no memory.
     pub fn granted(&mut self, value: Value, dep: Lv)
         requires lock { IsLock (next_action self.old) }
@@ -130,10 +214,7 @@ impl Txn {
         ensures bytes { bytes_in self.old ≡ [] → bytes_in self.new ≡ [] }
         ensures same { self.new ≡ record self.old { hand = self.new.hand } }
     {
-        if !self.in_hand {
-            return;
-        }
-        self.hand.granted(value, dep);
+        self.granted_by(Some(&value), &dep);
     }
 
     /// The lock was refused, since a worker holds the key. The procedures are those of `begin`. It takes no memory.
@@ -284,6 +365,15 @@ impl Txn {
         if !self.in_hand {
             return Lv::zero(self.n);
         }
+        *self.hand.dep()
+    }
+
+    /// The same vector, lent, where a call is in hand.
+    pub fn dep_ref(&self) -> &Lv
+        requires { is_some self.now.hand ≡ true }
+        ensures dep { result.now ≡ dep_in self.now }
+        ensures wide { length result.now ≡ self.now.width }
+    {
         self.hand.dep()
     }
 
@@ -296,6 +386,15 @@ impl Txn {
         if !self.in_hand {
             return Lv::zero(self.n);
         }
+        *self.hand.lv()
+    }
+
+    /// The same vector, lent, where a call is in hand.
+    pub fn lv_ref(&self) -> &Lv
+        requires { is_some self.now.hand ≡ true }
+        ensures lv { result.now ≡ lv_in self.now }
+        ensures frees { (procs : List Proc) (hand : theory.Hand) (act : Act theory.Txn) → RunsBy procs self.now → hand_in procs self.now ≡ Some hand → FreesBy procs (has_joined self.now) self.now.worker hand act → result.now ≡ lv_of act }
+    {
         self.hand.lv()
     }
 
@@ -321,14 +420,28 @@ impl Txn {
         self.hand.committed()
     }
 
+    /// Appends what is kept of the call in hand, as `committed` answers it; nothing where that is nothing. It takes no memory.
+    pub fn commit_into(&self, out: &mut Vec<Committed>)
+        requires room { 1 ≤ vec_capacity out.old - vec_len out.old }
+        ensures kept { out.new.items ≡ out.old.items ++ listed (kept_of self.now.hand) }
+        ensures joined { (procs : List Proc) (hand : theory.Hand) (act : Act theory.Txn) → RunsBy procs self.now → hand_in procs self.now ≡ Some hand → act_of hand.phase ≡ Some act → out.new.items ≡ out.old.items ++ committed_of act ∷ [] }
+        ensures reading { (procs : List Proc) (hand : theory.Hand) (act : Act theory.Txn) → RunsBy procs self.now → hand_in procs self.now ≡ Some hand → Reads procs self.now.worker hand act → out.new.items ≡ out.old.items ++ committed_of act ∷ [] }
+        ensures room { vec_capacity out.old - vec_len out.old ≤ (vec_capacity out.new - vec_len out.new) + 1 }
+    {
+        if !self.in_hand {
+            return;
+        }
+        self.hand.commit_into(out);
+    }
+
     /// The number of the call in hand with the lock that is its next action. None exactly where its next action is none.
     pub fn next_lock(&self) -> Option<(u64, Key, Mode)>
         ensures { result ≡ lock_by (number_in self.now) (next_action self.now) }
     {
         let number = self.number()?;
-        match self.turn() {
-            Action::Lock { key, mode } => Some((number, key, mode)),
-            _ => None,
+        match self.lock_asked() {
+            Some((key, mode)) => Some((number, key, mode)),
+            None => None,
         }
     }
 

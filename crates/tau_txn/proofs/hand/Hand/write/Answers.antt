@@ -17,4 +17,4 @@ returns-clause-runs c = λ procs is.
     let run = subst (IsRunBy procs) (sym c.self.view_is) is in
     let running : c.self.inside.standing ≡ Running = ap (λ (h : PlainHand). h.standing) c.self.view_is ∙ c.requires.running in
     let wants : next_want c.self.inside.machine ≡ Write c.args.key = ap (λ (h : PlainHand). next_want h.machine) c.self.view_is ∙ c.requires.wanted in
-    rw c.take.ensures (run-write procs _ c.args.key c.granted.new.self c.args.dep run running wants c.granted.ensures.stands c.granted.ensures.granted)
+    rw c.take.ensures (run-write procs _ c.args.key c.granted.new.self c.args.dep.now run running wants c.granted.ensures.stands c.granted.ensures.granted)

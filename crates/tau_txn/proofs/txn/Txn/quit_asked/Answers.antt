@@ -1,0 +1,46 @@
+use Rattle.std.proofs.Common.{List, ◌≡◌, true, refl, sym, ap, subst, ◌∙◌}
+use Rattle.std.specs.Prelude.{Bool, Some, IfSome, IfNone, is_some}
+use Rattle.tau_base.specs.declared.value.Key.{Key}
+use Rattle.tau_proc.specs.declared.proc.Proc.{Proc}
+use Rattle.tau_txn.specs.declared.action.Action.TheVariants as action
+use Rattle.tau_txn.specs.Kept.{keeps_in, kept}
+use Rattle.tau_txn.specs.Narrow.{quit_at}
+use Rattle.tau_txn.specs.Next.{next_action, Quits}
+use Rattle.tau_txn.specs.Txn.{PlainTxn, RunsBy}
+use Rattle.tau_txn.proofs.Narrow.{quit-next, quit-is, quit-means, quit-other}
+use Rattle.tau_txn.proofs.Txns.{means-of}
+use Rattle.tau_txn.proofs.txn.Txn.quit_asked.Goals as goal
+
+pub returns-clause-asked : goal.returns-clause-asked
+returns-clause-asked c =
+    subst (λ (t : PlainTxn). c.quit_asked.result ≡ quit_at (next_action t))
+    (ap (λ (b : Bool). record { worker = c.self.inside.worker; width = c.self.inside.n; mode = c.self.inside.mode; hand = kept b c.self.inside.hand }) (sym c.if-not-self.false) ∙ c.self.view_is)
+    (c.quit_asked.ensures.asked ∙ sym (quit-next c.self.inside.hand.standing c.self.inside.hand))
+
+pub returns-clause-next : goal.returns-clause-next
+returns-clause-next c =
+    subst (λ (t : PlainTxn). IfSome c.quit_asked.result (λ x. next_action t ≡ action.Quit x))
+    (ap (λ (b : Bool). record { worker = c.self.inside.worker; width = c.self.inside.n; mode = c.self.inside.mode; hand = kept b c.self.inside.hand }) (sym c.if-not-self.false) ∙ c.self.view_is)
+    (quit-is (record { worker = c.self.inside.worker; width = c.self.inside.n; mode = c.self.inside.mode; hand = Some c.self.inside.hand }) c.quit_asked.result (c.quit_asked.ensures.asked ∙ sym (quit-next c.self.inside.hand.standing c.self.inside.hand)))
+
+pub returns-clause-means : goal.returns-clause-means
+returns-clause-means c =
+    subst (λ (t : PlainTxn). (procs : List Proc) → RunsBy procs t → IfSome c.quit_asked.result (λ x. Quits procs t x))
+    (ap (λ (b : Bool). record { worker = c.self.inside.worker; width = c.self.inside.n; mode = c.self.inside.mode; hand = kept b c.self.inside.hand }) (sym c.if-not-self.false) ∙ c.self.view_is)
+    (λ procs run.
+    let keeps = subst (λ (b : Bool). keeps_in c.self.inside.n (kept b c.self.inside.hand)) c.if-not-self.false c.self.invariant.hand in
+    quit-means (record { worker = c.self.inside.worker; width = c.self.inside.n; mode = c.self.inside.mode; hand = Some c.self.inside.hand }) procs c.quit_asked.result
+    (c.quit_asked.ensures.asked ∙ sym (quit-next c.self.inside.hand.standing c.self.inside.hand))
+    (means-of procs c.self.inside.worker c.self.inside.n c.self.inside.mode c.self.inside.hand run keeps c.quit_asked.ensures.ascend))
+
+pub returns-clause-other : goal.returns-clause-other
+returns-clause-other c =
+    subst (λ (t : PlainTxn). IfNone c.quit_asked.result ((x : Key) → next_action t ≡ action.Quit x → ⊥))
+    (ap (λ (b : Bool). record { worker = c.self.inside.worker; width = c.self.inside.n; mode = c.self.inside.mode; hand = kept b c.self.inside.hand }) (sym c.if-not-self.false) ∙ c.self.view_is)
+    (quit-other (record { worker = c.self.inside.worker; width = c.self.inside.n; mode = c.self.inside.mode; hand = Some c.self.inside.hand }) c.quit_asked.result (c.quit_asked.ensures.asked ∙ sym (quit-next c.self.inside.hand.standing c.self.inside.hand)))
+
+pub returns-clause-hand : goal.returns-clause-hand
+returns-clause-hand c = λ some.
+    subst (λ (t : PlainTxn). is_some t.hand ≡ true)
+    (ap (λ (b : Bool). record { worker = c.self.inside.worker; width = c.self.inside.n; mode = c.self.inside.mode; hand = kept b c.self.inside.hand }) (sym c.if-not-self.false) ∙ c.self.view_is)
+    refl
