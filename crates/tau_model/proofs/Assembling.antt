@@ -9,11 +9,10 @@ use Rattle.tau_base.specs.Vectors.{AtMost, covers}
 use Rattle.tau_base.proofs.Vectors.{at_most-trans, at_most-itself}
 use Rattle.tau_model.specs.declared.committed.Committed.{Committed}
 use Rattle.tau_model.specs.declared.committed.Spot.{Spot}
-use Rattle.tau_model.specs.declared.report.Entry.{Entry}
 use Rattle.tau_model.specs.History.{Member}
 use Rattle.tau_model.specs.Committed.{IsWithin, has_record, number_of, place_at, place_of, reported_numbers}
 use Rattle.tau_model.specs.Reported.{take_first, take_record, Left, next_start, emitted, picked, listed, ascending, each, in_stream, left_of, reported_within}
-use Rattle.tau_model.specs.Listing.{entry_number, entry_of, entry_place, entry_start, covered_by, IsQueue, AreQueues, IsListing, AreRising, lengths, slot_of, bucket, woven}
+use Rattle.tau_model.specs.Listing.{Entry, entry_number, entry_of, entry_place, entry_start, covered_by, IsQueue, AreQueues, IsListing, AreListed, AreRising, lengths, slot_of, bucket, woven}
 use Rattle.tau_model.proofs.ReportOrder.{emitted-at, FirstTaken, take_first-is, RecordTaken, take_record-is}
 use Rattle.tau_model.proofs.Listings.{emitted-set, length-emitted, lengths-set, queues-set}
 use Rattle.tau_model.proofs.Naturality.{left_map, reported-map, ascending-map, map-each}
@@ -22,7 +21,7 @@ use Rattle.tau_model.proofs.Ascending.{ascending-reordered, each-at, each-past, 
 use Rattle.tau_model.proofs.Orders.{member-reordered}
 use Rattle.tau_model.proofs.Logged.{member-filtered}
 use Rattle.tau_model.proofs.Sorting.{Rising, ascending-rising, at_some_place, filter-same}
-use Rattle.tau_model.proofs.Weaving.{each-same}
+use Rattle.tau_model.proofs.Weaving.{each-same, woven-none}
 
 -- what does not pass
 abbrev pub without : {A : Type 0} → (A → Bool) → List A → List A
@@ -338,6 +337,17 @@ woven-reported ends list reached numbers h =
     let image = ap (λ (l : Left Entry). map entry_number (reported_within entry_place (length list) ends l)) (entries-are (length ends) list) ∙
     ap (map entry_number) (reported-map entry_of place_of entry_place (λ c. refl) (λ c. refl) (length list) ends left) in
     weave ∙ report ∙ image ∙ map-map entry_number entry_of (reported_within place_of (length list) ends left)
+
+pub nothing-there : {A : Type 0} (xs : List A) (n : ℕ) (b : Bool) → n ≡ length xs → b ≡ (n == 0) → b ≡ true → xs ≡ []
+nothing-there [] n b long e f = refl
+nothing-there (x ∷ xs) n b long e f = absurd (let none : n ≡ 0 = eqb-true n 0 (sym e ∙ f) in omega arith)
+
+-- and where no call only reads, the records that are listed are all
+pub numbers-reported : (ends : List ℕ) (list : List Committed) (numbers : List ℕ) → (entries-left (length ends) list).readers ≡ [] →
+    AreListed ends (entries-left (length ends) list).streams numbers → numbers ≡ reported_numbers ends list
+numbers-reported ends list numbers none (reached, h) =
+    let long = listing-length ends (entries-left (length ends) list).streams reached numbers h in
+    sym (ap (λ (readers : List Entry). woven (each (length reached) (bucket reached readers)) numbers) none ∙ woven-none numbers (length reached) long) ∙ woven-reported ends list reached numbers h
 
 queue-from : (end : ℕ) (es : List Entry) → Rising entry_start es → ((e : Entry) → Member e es → e.start ≤ end) → IsQueue end es
 queue-from end [] up low = tt

@@ -7,10 +7,9 @@ use Rattle.std.proofs.lemmas.List.{get_or_past}
 use Rattle.tau_base.specs.Vectors.{covers}
 use Rattle.tau_base.proofs.Vectors.{same_positions, at_most-trans}
 use Rattle.tau_model.proofs.ReportOrder.{emitted-at, covers-at_most, at_most-covers}
-use Rattle.tau_model.specs.declared.report.Entry.{Entry}
 use Rattle.tau_model.specs.Logged.{Place}
 use Rattle.tau_model.specs.Reported.{take_record, next_start, emitted}
-use Rattle.tau_model.specs.Listing.{entry_place, covered_by, first_passes, IsQueue, AreQueues, IsNext, IsListed, IsListing, AreRising, lengths, slot_of}
+use Rattle.tau_model.specs.Listing.{Entry, entry_place, covered_by, first_passes, IsQueue, AreQueues, IsNext, IsListed, IsListing, AreListed, AreRising, lengths, slot_of}
 
 pub take_record-none : {A : Type 0} (p : A → Bool) (streams : List (List A)) → ((k : ℕ) → k < length streams → first_passes p (slice_index_or streams k []) ≡ false) →
     take_record p streams ≡ None
@@ -155,3 +154,16 @@ listing-more ends streams a grown v reached b more n numbers e f h = rw (e, f, a
 pub listing-whole : (ends : List ℕ) (streams : List (List Entry)) (reached : List (List ℕ)) (numbers : List ℕ) → IsListing ends streams (reached ++ []) (numbers ++ []) →
     IsListing ends streams reached numbers
 listing-whole ends streams reached numbers h = rw (append-nil reached, append-nil numbers) at h
+
+-- the record that is listed first
+pub listed-first : (ends : List ℕ) (streams left : List (List Entry)) (v w : List ℕ) (n : ℕ) (numbers : List ℕ) → v ≡ emitted entry_place streams ends → IsListed ends streams left v w n →
+    AreListed ends left numbers → AreListed ends streams (n ∷ numbers)
+listed-first ends streams left v w n numbers is next (reached, h) = (v ∷ reached, (is, (next.entry, left, next.taken, next.is, h)))
+
+-- one more record at the end of what was listed
+pub listed-more : (ends : List ℕ) (streams : List (List Entry)) (b more : List ℕ) (n : ℕ) (numbers : List ℕ) → more ≡ b ++ n ∷ [] → AreListed ends streams (b ++ n ∷ numbers) →
+    AreListed ends streams (more ++ numbers)
+listed-more ends streams b more n numbers f h = rw (f, append_assoc b (n ∷ []) numbers) h
+
+pub listed-whole : (ends : List ℕ) (streams : List (List Entry)) (numbers : List ℕ) → AreListed ends streams (numbers ++ []) → AreListed ends streams numbers
+listed-whole ends streams numbers h = rw (append-nil numbers) at h

@@ -5,9 +5,8 @@ use Rattle.std.specs.Prelude.{◌==◌, slice_index, slice_index_or, slice_set}
 use Rattle.std.specs.List.{filter}
 use Rattle.std.proofs.lemmas.Bool.{cases_Bool, eq-eqb, ne_eqb}
 use Rattle.std.proofs.lemmas.List.Elements.{filter-append}
-use Rattle.tau_model.specs.declared.report.Entry.{Entry}
 use Rattle.tau_model.specs.Reported.{each}
-use Rattle.tau_model.specs.Listing.{entry_number, slot_of, bucket, woven}
+use Rattle.tau_model.specs.Listing.{Entry, entry_number, slot_of, bucket, woven}
 
 pub each-same : {A : Type 0} (n : ℕ) (f g : ℕ → A) → ((k : ℕ) → f k ≡ g k) → each n f ≡ each n g
 each-same zero f g h = refl
@@ -60,3 +59,9 @@ woven-step buckets numbers k lt e =
 pub woven-more : (out grown old bucket' : List ℕ) (n : ℕ) (rest next : List ℕ) → out ≡ grown ++ n ∷ [] → grown ≡ old ++ bucket' → rest ≡ bucket' ++ n ∷ next → out ++ next ≡ old ++ rest
 woven-more out grown old bucket' n rest next o g r =
     rw (o, g, r, append_assoc (old ++ bucket') (n ∷ []) next, append_assoc old bucket' (n ∷ next)) refl
+
+-- where no call only reads, the records are all
+pub woven-none : (numbers : List ℕ) (n : ℕ) → n ≡ length numbers + 1 → woven (each n (λ k. [])) numbers ≡ numbers
+woven-none numbers zero e = absurd (omega arith)
+woven-none [] (suc n) e = refl
+woven-none (m ∷ numbers) (suc n) e = ap (λ l. m ∷ l) (woven-none numbers n (omega arith))

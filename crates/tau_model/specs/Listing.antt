@@ -3,12 +3,16 @@ use Rattle.std.specs.Prelude.{ℕ, suc, ◌+◌, ◌≤◌, ◌<◌, ◌==◌, �
 use Rattle.std.specs.List.{filter}
 use Rattle.tau_base.specs.Vectors.{AtMost, covers}
 use Rattle.tau_model.specs.declared.committed.Committed.{Committed}
-use Rattle.tau_model.specs.declared.report.Entry.{Entry}
 use Rattle.tau_model.specs.Logged.{Place}
 use Rattle.tau_model.specs.Committed.{place_of}
 use Rattle.tau_model.specs.Reported.{take_record, next_start, emitted}
 
--- what the listing keeps of a call
+-- what the listing keeps of a call: where its record starts, its number and its vector
+pub record Entry : Type 0 where
+  pub start : ℕ
+  pub number : ℕ
+  pub dep : List ℕ
+
 abbrev pub entry_of : Committed → Entry
 entry_of c = record { start = (place_of c).start; number = c.number; dep = (place_of c).dep }
 
@@ -68,6 +72,10 @@ IsListing ends streams [] numbers = ⊥
 IsListing ends streams (v ∷ reached) [] = (v ≡ emitted entry_place streams ends) × (reached ≡ []) × (take_record (covered_by v) streams ≡ None)
 IsListing ends streams (v ∷ reached) (n ∷ numbers) = (v ≡ emitted entry_place streams ends) ×
     ((e : Entry) × (rest : List (List Entry)) × (take_record (covered_by v) streams ≡ Some (e, rest)) × (n ≡ e.number) × IsListing ends rest reached numbers)
+
+-- the records with these numbers are listed from these streams one after another until none is covered
+abbrev pub AreListed : List ℕ → List (List Entry) → List ℕ → Type 0
+AreListed ends streams numbers = (reached : List (List ℕ)) × IsListing ends streams reached numbers
 
 -- the place of the first of these vectors that covers the dep, or their count
 abbrev pub slot_of : List (List ℕ) → List ℕ → ℕ

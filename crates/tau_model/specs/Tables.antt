@@ -16,6 +16,10 @@ abbrev pub is_value : Value → Bool
 is_value Absent = false
 is_value v = true
 
+-- the key of a row
+abbrev pub row_key : Key × Value → Key
+row_key r = r.0
+
 -- whether the row is present
 abbrev pub is_present : Key × Value → Bool
 is_present r = is_value r.1

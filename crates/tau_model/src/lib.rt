@@ -3,6 +3,7 @@
 #![tactic(auto)]
 
 mod committed;
+mod entry;
 mod laws;
 mod report;
 mod rows;

@@ -6,21 +6,13 @@ ghost use Rattle.std.specs.VecDeque.{deque_items};
 ghost use Rattle.tau_base.specs.Vectors.{AtMost};
 ghost use Rattle.tau_model.specs.Reported.{ascending, each, emitted, in_stream, next_start, take_record};
 ghost use Rattle.tau_model.specs.Committed.{IsWithin, has_record, place_of, reported_numbers};
-ghost use Rattle.tau_model.specs.Listing.{AreQueues, IsListing, bucket, AreRising, IsListed, IsNext, covered_by, entry_number, entry_of, entry_place, entry_start, first_passes, slot_of, woven};
+ghost use Rattle.tau_model.specs.Listing.{AreListed, AreQueues, IsListing, bucket, AreRising, IsListed, IsNext, covered_by, entry_number, entry_of, entry_place, entry_start, first_passes, slot_of, woven};
 
 use crate::committed::Committed;
+use crate::entry::Entry;
 use std::alloc::Global;
 use std::collections::VecDeque;
 use tau_base::{Lv, NoMemory};
-
-/// What the listing keeps of a call.
-#[derive(Clone, Copy, Debug)]
-struct Entry {
-    /// Where its record starts; 0 for a read-only call.
-    start: u64,
-    number: u64,
-    dep: Lv,
-}
 
 /// The records in the order in which they are listed.
 #[derive(Drop)]
@@ -37,6 +29,9 @@ pub fn reported(alloc: Global, ends: &Lv, list: &[Committed]) -> Result<Vec<u64>
 {
     let readers = readers_of(alloc, list)?;
     let mut streams = streams_of(alloc, ends.width(), list)?;
+    if readers.is_empty() {
+        return numbers_of(alloc, ends, &mut streams);
+    }
     let listing = listing_of(alloc, ends, &mut streams)?;
     let buckets = buckets_of(alloc, &listing.reached, &readers)?;
     weave(alloc, &buckets, &listing.numbers)
@@ -68,38 +63,33 @@ fn is_within(ends: &Lv, call: &Committed) -> bool
 }
 
 /// Puts the entries in ascending order of their numbers; those with one number keep their order.
-fn sort_by_number(entries: &mut Vec<Entry>) -> Result<(), NoMemory>
+fn sort_by_number(entries: &mut Vec<Entry<'_>>) -> Result<(), NoMemory>
     ensures { OnOk result (entries.new.items ≡ ascending entry_number entries.old.items) }
 {
-    match entries.sort_by_key(|entry| entry.number) {
+    match entries.sort_by_key(|entry| entry.number()) {
         Ok(()) => Ok(()),
         Err(_) => Err(NoMemory),
     }
 }
 
 /// Puts the entries in ascending order of their starts; those with one start keep their order.
-fn sort_by_start(entries: &mut Vec<Entry>) -> Result<(), NoMemory>
+fn sort_by_start(entries: &mut Vec<Entry<'_>>) -> Result<(), NoMemory>
     ensures { OnOk result (entries.new.items ≡ ascending entry_start entries.old.items) }
 {
-    match entries.sort_by_key(|entry| entry.start) {
+    match entries.sort_by_key(|entry| entry.start()) {
         Ok(()) => Ok(()),
         Err(_) => Err(NoMemory),
     }
 }
 
 /// The read-only calls in ascending order of their numbers.
-fn readers_of(alloc: Global, list: &[Committed]) -> Result<Vec<Entry>, NoMemory>
+fn readers_of<'a>(alloc: Global, list: &'a [Committed]) -> Result<Vec<Entry<'a>>, NoMemory>
     ensures { IfOk result (λ readers. readers.items ≡ ascending entry_number (map entry_of (filter (λ c. not (has_record c)) list.now))) }
 {
     let mut readers = Vec::new(alloc);
     for call in list {
         if call.spot.is_none() {
-            let entry = Entry {
-                start: 0,
-                number: call.number,
-                dep: call.dep,
-            };
-            readers.push(entry).map_err(|_| NoMemory)?;
+            readers.push(Entry::of(call, 0)).map_err(|_| NoMemory)?;
         }
     }
     sort_by_number(&mut readers)?;
@@ -107,7 +97,11 @@ fn readers_of(alloc: Global, list: &[Committed]) -> Result<Vec<Entry>, NoMemory>
 }
 
 /// The records of a stream in the order of their starts.
-fn records_of(alloc: Global, stream: usize, list: &[Committed]) -> Result<Vec<Entry>, NoMemory>
+fn records_of<'a>(
+    alloc: Global,
+    stream: usize,
+    list: &'a [Committed],
+) -> Result<Vec<Entry<'a>>, NoMemory>
     ensures { IfOk result (λ records. records.items ≡ ascending entry_start (map entry_of (filter (in_stream place_of has_record stream) list.now))) }
 {
     let mut records = Vec::new(alloc);
@@ -115,11 +109,7 @@ fn records_of(alloc: Global, stream: usize, list: &[Committed]) -> Result<Vec<En
         if let Some(spot) = call.spot
             && usize::from(spot.stream) == stream
         {
-            let entry = Entry {
-                start: spot.start,
-                number: call.number,
-                dep: call.dep,
-            };
+            let entry = Entry::of(call, spot.start);
             records.push(entry).map_err(|_| NoMemory)?;
         }
     }
@@ -128,11 +118,11 @@ fn records_of(alloc: Global, stream: usize, list: &[Committed]) -> Result<Vec<En
 }
 
 /// The records of `count` streams.
-fn streams_of(
+fn streams_of<'a>(
     alloc: Global,
     count: usize,
-    list: &[Committed],
-) -> Result<Vec<VecDeque<Entry>>, NoMemory>
+    list: &'a [Committed],
+) -> Result<Vec<VecDeque<Entry<'a>>>, NoMemory>
     ensures { IfOk result (λ streams. map deque_items streams.items ≡ each count (λ j. ascending entry_start (map entry_of (filter (in_stream place_of has_record j) list.now)))) }
 {
     let mut streams = Vec::new(alloc);
@@ -144,17 +134,17 @@ fn streams_of(
 }
 
 /// Where the next record of a stream starts, or the stream ends.
-fn next_start(stream: &VecDeque<Entry>, end: u64) -> u64
+fn next_start(stream: &VecDeque<Entry<'_>>, end: u64) -> u64
     ensures { result ≡ next_start entry_place stream.now.items end }
 {
     match stream.front() {
-        Some(entry) => entry.start,
+        Some(entry) => entry.start(),
         None => end,
     }
 }
 
 /// What is emitted where nothing is listed.
-fn emitted_first(ends: &Lv, streams: &[VecDeque<Entry>]) -> Lv
+fn emitted_first(ends: &Lv, streams: &[VecDeque<Entry<'_>>]) -> Lv
     requires { AreQueues ends.now (map deque_items streams.now) }
     ensures { result ≡ emitted entry_place (map deque_items streams.now) ends.now }
 {
@@ -166,17 +156,17 @@ fn emitted_first(ends: &Lv, streams: &[VecDeque<Entry>]) -> Lv
 }
 
 /// Whether the stream has a next record, and it is covered.
-fn is_next_covered(stream: &VecDeque<Entry>, reach: &Lv) -> bool
+fn is_next_covered(stream: &VecDeque<Entry<'_>>, reach: &Lv) -> bool
     ensures { result ≡ first_passes (covered_by reach.now) stream.now.items }
 {
     match stream.front() {
-        Some(entry) => reach.covers(&entry.dep),
+        Some(entry) => reach.covers(entry.dep()),
         None => false,
     }
 }
 
 /// The lowest stream whose next record is covered.
-fn next_stream(streams: &[VecDeque<Entry>], reach: &Lv) -> Option<usize>
+fn next_stream(streams: &[VecDeque<Entry<'_>>], reach: &Lv) -> Option<usize>
     ensures { MatchOption result (take_record (covered_by reach.now) (map deque_items streams.now) ≡ None) (IsNext reach.now (map deque_items streams.now)) }
 {
     for (j, stream) in streams.iter().enumerate() {
@@ -188,7 +178,7 @@ fn next_stream(streams: &[VecDeque<Entry>], reach: &Lv) -> Option<usize>
 }
 
 /// Lists the next record, where one is covered, and raises `reach`, what is emitted. The answer is its number.
-fn list_next(ends: &Lv, streams: &mut [VecDeque<Entry>], reach: &mut Lv) -> Option<u64>
+fn list_next(ends: &Lv, streams: &mut [VecDeque<Entry<'_>>], reach: &mut Lv) -> Option<u64>
     requires queues { AreQueues ends.now (map deque_items streams.old) }
     requires reached { reach.old ≡ emitted entry_place (map deque_items streams.old) ends.now }
     ensures none { IfNone result (take_record (covered_by reach.old) (map deque_items streams.old) ≡ None) }
@@ -200,14 +190,31 @@ fn list_next(ends: &Lv, streams: &mut [VecDeque<Entry>], reach: &mut Lv) -> Opti
         return None;
     };
     reach.set(j, next_start(stream, ends.get(j)));
-    Some(entry.number)
+    Some(entry.number())
+}
+
+/// The numbers of the records as they are listed, as long as one is covered.
+fn numbers_of(
+    alloc: Global,
+    ends: &Lv,
+    streams: &mut [VecDeque<Entry<'_>>],
+) -> Result<Vec<u64>, NoMemory>
+    requires { AreQueues ends.now (map deque_items streams.old) }
+    ensures { IfOk result (λ numbers. AreListed ends.now (map deque_items streams.old) numbers.items) }
+{
+    let mut numbers = Vec::new(alloc);
+    let mut reach = emitted_first(ends, streams);
+    while let Some(number) = list_next(ends, streams, &mut reach) {
+        numbers.push(number).map_err(|_| NoMemory)?;
+    }
+    Ok(numbers)
 }
 
 /// Lists the records, as long as one is covered.
 fn listing_of(
     alloc: Global,
     ends: &Lv,
-    streams: &mut [VecDeque<Entry>],
+    streams: &mut [VecDeque<Entry<'_>>],
 ) -> Result<Listing, NoMemory>
     requires { AreQueues ends.now (map deque_items streams.old) }
     ensures { IfOk result (λ l. IsListing ends.now (map deque_items streams.old) l.reached.items l.numbers.items) }
@@ -267,13 +274,17 @@ fn put(buckets: &mut Vec<Vec<u64>>, slot: usize, number: u64) -> Result<(), NoMe
 }
 
 /// For each vector the numbers of the read-only calls that it covers first.
-fn buckets_of(alloc: Global, reached: &[Lv], readers: &[Entry]) -> Result<Vec<Vec<u64>>, NoMemory>
+fn buckets_of(
+    alloc: Global,
+    reached: &[Lv],
+    readers: &[Entry<'_>],
+) -> Result<Vec<Vec<u64>>, NoMemory>
     requires { AreRising reached.now }
     ensures { IfOk result (λ buckets. map vec_items buckets.items ≡ each (length reached.now) (bucket reached.now readers.now)) }
 {
     let mut buckets = empty_buckets(alloc, reached.len())?;
     for entry in readers {
-        put(&mut buckets, slot_of(reached, &entry.dep), entry.number)?;
+        put(&mut buckets, slot_of(reached, entry.dep()), entry.number())?;
     }
     Ok(buckets)
 }

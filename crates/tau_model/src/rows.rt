@@ -1,29 +1,42 @@
-//! Rows that have their places.
-ghost use Rattle.std.specs.Prelude.{◌≡◌, ◌∷◌, [], IfOk, OnOk, OnErr};
-ghost use Rattle.tau_base.specs.Database.{empty_db, written};
-ghost use Rattle.tau_model.specs.Tables.{IsTablesOf, is_value};
+//! The rows of a database.
+ghost use Rattle.std.specs.Prelude.{◌≡◌, ◌<◌, ◌≤◌, ◌+◌, ◌∷◌, [], length, IfOk, OnOk, OnErr};
+ghost use Rattle.std.specs.List.{IsDistinct, filter};
+ghost use Rattle.std.specs.List.Sorted.{IsPermutation, IsSortedByKey};
+ghost use Rattle.std.specs.Map.{keys_of};
+ghost use Rattle.std.specs.Option.{option_copied, unwrap_or};
+ghost use Rattle.indexmap.specs.IndexMap.{spare};
+ghost use Rattle.tau_base.specs.Database.{empty_db, key_cmp, written};
+ghost use Rattle.tau_base.specs.declared.value.Value.TheVariants.{Absent};
+ghost use Rattle.tau_model.specs.Tables.{IsTablesOf, is_present, is_value, row_key};
 
 use crate::tables::Tables;
+use indexmap::IndexMap;
 use std::alloc::Global;
-use std::collections::BTreeMap;
 use tau_base::{Key, NoMemory, Value};
 
-/// The rows of a database. One that is about to be written has its place already, and is absent.
+/// The rows of a database. An absent row takes no place.
 #[derive(Drop)]
 pub(crate) struct Rows {
-    rows: BTreeMap<Key, Value>,
+    rows: IndexMap<Key, Value>,
 }
 
 impl Rows {
-    ghost use Rattle.tau_model.specs.Store.{rows_of, HasPlace, HasPlaces, KeepsPlaces};
+    ghost use Rattle.tau_model.specs.Store.{is_key, rows_of};
 
     /// No row. It takes no memory.
     pub(crate) fn new(alloc: Global) -> Rows
         ensures { rows_of result ≡ empty_db }
     {
         Rows {
-            rows: BTreeMap::new(alloc),
+            rows: IndexMap::new(alloc),
         }
+    }
+
+    /// The value of a row, lent. An absent row has none.
+    pub(crate) fn value_ref(&self, key: Key) -> Option<&Value>
+        ensures { unwrap_or (option_copied result) Absent ≡ rows_of self.now key }
+    {
+        self.rows.get(&key)
     }
 
     /// The value of a row.
@@ -40,13 +53,23 @@ impl Rows {
     pub(crate) fn tables(&self, alloc: Global) -> Result<Tables, NoMemory>
         ensures { IfOk result (λ tables. IsTablesOf (rows_of self.now) tables) }
     {
+        let mut rows = self.present(alloc)?;
+        sort_rows(&mut rows);
+        Ok(Tables::of(rows))
+    }
+
+    /// The present rows, each once.
+    fn present(&self, alloc: Global) -> Result<Vec<(Key, Value)>, NoMemory>
+        ensures rows { IfOk result (λ rows. rows.items ≡ filter is_present self.now.rows.entries) }
+        ensures once { OnOk result (IsDistinct is_key (keys_of self.now.rows.entries)) }
+    {
         let mut rows = Vec::with_capacity(alloc, self.rows.len()).map_err(|_| NoMemory)?;
         for (key, value) in &self.rows {
             if is_value(value) {
                 rows.push((*key, value.copied())).map_err(|_| NoMemory)?;
             }
         }
-        Ok(Tables::of(rows))
+        Ok(rows)
     }
 
     /// Writes these rows, or none of them.
@@ -54,103 +77,74 @@ impl Rows {
         ensures ok { OnOk result (rows_of self.new ≡ written writes.now (rows_of self.old)) }
         ensures err { OnErr result (rows_of self.new ≡ rows_of self.old) }
     {
-        match writes {
-            [(key, value)] => self.write_row(*key, value.copied()),
-            _ => self.write_all(writes),
-        }
-    }
-
-    /// Writes a row.
-    fn write_row(&mut self, key: Key, value: Value) -> Result<(), NoMemory>
-        ensures ok { OnOk result (rows_of self.new ≡ written ((key, value) ∷ []) (rows_of self.old)) }
-        ensures err { OnErr result (rows_of self.new ≡ rows_of self.old) }
-    {
-        if !is_value(&value) {
-            self.rows.remove(&key);
-            return Ok(());
-        }
-        match self.rows.insert(key, value) {
-            Ok(_) => Ok(()),
+        match self.rows.reserve(writes.len()) {
+            Ok(()) => {
+                self.set_rows(writes);
+                Ok(())
+            }
             Err(_) => Err(NoMemory),
         }
     }
 
-    /// Writes several rows, or none of them.
-    fn write_all(&mut self, writes: &[(Key, Value)]) -> Result<(), NoMemory>
-        ensures ok { OnOk result (rows_of self.new ≡ written writes.now (rows_of self.old)) }
-        ensures err { OnErr result (rows_of self.new ≡ rows_of self.old) }
-    {
-        let placed = self.make_places(writes);
-        if placed.is_ok() {
-            self.set_rows(writes);
-        }
-        self.drop_absent(writes);
-        placed
-    }
-
-    /// Gives each of these rows a place.
-    fn make_places(&mut self, writes: &[(Key, Value)]) -> Result<(), NoMemory>
-        ensures same { rows_of self.new ≡ rows_of self.old }
-        ensures places { OnOk result (HasPlaces self.new writes.now) }
-    {
-        for (key, _) in writes {
-            self.make_place(*key)?;
-        }
-        Ok(())
-    }
-
-    /// Gives the row a place, where it has none.
-    fn make_place(&mut self, key: Key) -> Result<(), NoMemory>
-        ensures same { rows_of self.new ≡ rows_of self.old }
-        ensures kept { KeepsPlaces self.old self.new }
-        ensures there { OnOk result (HasPlace self.new key) }
-    {
-        if self.rows.contains_key(&key) {
-            return Ok(());
-        }
-        match self.rows.insert(key, Value::Absent) {
-            Ok(_) => Ok(()),
-            Err(_) => Err(NoMemory),
-        }
-    }
-
-    /// Sets rows that have their places, which takes no memory. Of two values for one row the first counts.
+    /// Sets rows for which there is room. Of two values for one row the first counts.
     fn set_rows(&mut self, writes: &[(Key, Value)])
-        requires { HasPlaces self.old writes.now }
+        requires { length writes.now ≤ spare self.old.rows }
         ensures { rows_of self.new ≡ written writes.now (rows_of self.old) }
     {
         for i in (0..writes.len()).rev() {
             let (key, value) = &writes[i];
-            self.set_row(*key, value.copied());
+            self.set_row(*key, value);
         }
     }
 
-    /// Sets a row that has its place, which takes no memory.
-    fn set_row(&mut self, key: Key, value: Value)
-        requires { HasPlace self.old key }
-        ensures set { rows_of self.new ≡ written ((key, value) ∷ []) (rows_of self.old) }
-        ensures kept { KeepsPlaces self.old self.new }
+    /// Sets a row, or takes its place if it becomes absent.
+    fn set_row(&mut self, key: Key, value: &Value)
+        requires { 0 < spare self.old.rows }
+        ensures set { rows_of self.new ≡ written ((key, value.now) ∷ []) (rows_of self.old) }
+        ensures room { spare self.old.rows ≤ spare self.new.rows + 1 }
     {
-        let _ = self.rows.insert(key, value);
+        if !is_value(value) {
+            self.rows.swap_remove(&key);
+            return;
+        }
+        self.put_row(key, value);
     }
 
-    /// Takes the places of those of these rows that are absent.
-    fn drop_absent(&mut self, writes: &[(Key, Value)])
-        ensures { rows_of self.new ≡ rows_of self.old }
+    /// Puts a value in the row's place, or gives the row one.
+    fn put_row(&mut self, key: Key, value: &Value)
+        requires { 0 < spare self.old.rows }
+        ensures set { rows_of self.new ≡ written ((key, value.now) ∷ []) (rows_of self.old) }
+        ensures room { spare self.old.rows ≤ spare self.new.rows + 1 }
     {
-        for (key, _) in writes {
-            self.drop_if_absent(*key);
-        }
+        let Some(place) = self.rows.get_mut(&key) else {
+            return self.add_row(key, value);
+        };
+        put_value(place, value);
     }
 
-    /// Takes the place of the row, where it is absent.
-    fn drop_if_absent(&mut self, key: Key)
-        ensures { rows_of self.new ≡ rows_of self.old }
+    /// Puts a row, which takes no memory if there is room.
+    fn add_row(&mut self, key: Key, value: &Value)
+        requires { 0 < spare self.old.rows }
+        ensures set { rows_of self.new ≡ written ((key, value.now) ∷ []) (rows_of self.old) }
+        ensures room { spare self.old.rows ≤ spare self.new.rows + 1 }
     {
-        if let Some(Value::Absent) = self.rows.get(&key) {
-            self.rows.remove(&key);
-        }
+        let _ = self.rows.insert(key, value.copied());
     }
+}
+
+/// Puts a value in the place of another.
+fn put_value(place: &mut Value, value: &Value)
+    ensures { place.new ≡ value.now }
+{
+    *place = value.copied();
+}
+
+/// Puts rows in ascending order of keys.
+fn sort_rows(rows: &mut Vec<(Key, Value)>)
+    ensures same { IsPermutation rows.old.items rows.new.items }
+    ensures ascending { IsSortedByKey row_key key_cmp rows.new.items }
+{
+    rows.sort_unstable_by_key(|row| row.0);
 }
 
 /// Whether there is a value.

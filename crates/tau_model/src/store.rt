@@ -1,6 +1,8 @@
 //! A store that executes one call after another.
 ghost use Rattle.std.specs.Prelude.{◌≡◌, [], IfOk, OnOk, OnErr, IsTrue};
+ghost use Rattle.std.specs.Option.{option_copied, unwrap_or};
 ghost use Rattle.tau_base.specs.Database.{empty_db, written};
+ghost use Rattle.tau_base.specs.declared.value.Value.TheVariants.{Absent};
 ghost use Rattle.tau_proc.specs.Meaning.{meaning};
 ghost use Rattle.tau_proc.specs.Takes.{takes};
 ghost use Rattle.tau_model.specs.Tables.{IsTablesOf};
@@ -37,6 +39,13 @@ impl SerialStore {
         ensures { result ≡ database self.now key }
     {
         self.rows.value(key)
+    }
+
+    /// The value of a row, lent; none only of an absent row.
+    pub fn value_ref(&self, key: Key) -> Option<&Value>
+        ensures { unwrap_or (option_copied result) Absent ≡ database self.now key }
+    {
+        self.rows.value_ref(key)
     }
 
     /// The present rows in ascending order of keys.

@@ -118,6 +118,7 @@ fn rows_are_written_and_removed(rt: HostRuntime) -> Result<(), Fail> {
     store.write(&[(one, Value::Absent), (two, Value::Int(7))])?;
     assert_eq!(rt; store.value(one), Value::Absent);
     assert_eq!(rt; store.value(two), Value::Int(7));
+    assert!(rt; store.value_ref(two) == Some(&Value::Int(7)));
     let tables = store.tables(rt.alloc())?;
     assert!(rt; tables.rows() == [(two, Value::Int(7))].as_slice());
     Ok(())

@@ -12,5 +12,5 @@ loop-entry-preserved c =
     let more : take (c.loop-entry.entry-index + 1) c.args.readers.now ≡ take c.loop-entry.entry-index c.args.readers.now ++ c.entry-item.result ∷ [] = grind (arith, common_steps) in
     let step = buckets-push c.args.reached.now (take c.loop-entry.entry-index c.args.readers.now) c.entry-item.result (length c.args.reached.now) in
     let done : map vec_items c.put.new.buckets.items ≡ each (length c.args.reached.now) (bucket c.args.reached.now (take (c.loop-entry.entry-index + 1) c.args.readers.now)) =
-    c.in_ok-put.ensures ∙ rw (c.loop-entry.invariant, c.slot_of.ensures) (step ∙ ap (λ rs. each (length c.args.reached.now) (bucket c.args.reached.now rs)) (sym more)) in
+    c.in_ok-put.ensures ∙ rw (c.loop-entry.invariant, c.slot_of.ensures, c.dep.ensures, c.number.ensures) (step ∙ ap (λ rs. each (length c.args.reached.now) (bucket c.args.reached.now rs)) (sym more)) in
     done

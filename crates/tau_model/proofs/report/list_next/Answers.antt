@@ -29,5 +29,7 @@ returns-clause-next c =
     let next = next-listed c.args.ends.now (map deque_items c.args.streams.now) c.args.reach.now c.in_ok-j.j c.in_ok-j.ensures c.in-Some.entry c.pop_front.new.self.items c.next_start.result
     c.set.new.self c.requires.queues c.requires.reached front
     (c.next_start.ensures ∙ ap (next_start entry_place c.pop_front.new.self.items) c.get.ensures.same) c.set.ensures in
-    subst (λ l. IsListed c.args.ends.now (map deque_items c.args.streams.now) l c.args.reach.now c.set.new.self c.in-Some.entry.number)
-    (sym (map-set deque_items c.args.streams.now c.in_ok-j.j c.pop_front.new.self)) next.1
+    subst (λ n. IsListed c.args.ends.now (map deque_items c.args.streams.now) (map deque_items (slice_set c.args.streams.now c.in_ok-j.j c.pop_front.new.self)) c.args.reach.now c.set.new.self n)
+    (sym c.number.ensures)
+    (subst (λ l. IsListed c.args.ends.now (map deque_items c.args.streams.now) l c.args.reach.now c.set.new.self c.in-Some.entry.number)
+    (sym (map-set deque_items c.args.streams.now c.in_ok-j.j c.pop_front.new.self)) next.1)

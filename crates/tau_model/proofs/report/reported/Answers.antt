@@ -1,23 +1,35 @@
 -- The parts are put together.
-use Rattle.std.proofs.Common.{◌≡◌, length, map, refl, sym, ap, subst, ◌∙◌, arith}
-use Rattle.std.specs.Vec.{vec_items}
+use Rattle.std.proofs.Common.{◌≡◌, [], length, map, refl, sym, ap, subst, ◌∙◌, arith}
+use Rattle.std.specs.Vec.{vec_items, vec_len}
 use Rattle.std.specs.VecDeque.{deque_items}
 use Rattle.std.proofs.lemmas.List.{length-map}
 use Rattle.std.proofs.lemmas.Result.{IfOk-weaker}
 use Rattle.tau_model.specs.Committed.{reported_numbers}
 use Rattle.tau_model.specs.Reported.{each}
-use Rattle.tau_model.specs.Listing.{AreRising, IsListing, bucket, woven}
+use Rattle.tau_model.specs.Listing.{AreListed, AreRising, IsListing, bucket, woven}
 use Rattle.tau_model.proofs.Ascending.{length-each}
-use Rattle.tau_model.proofs.Assembling.{entries-left, entries-queues, listing-length, listing-rising, woven-reported}
+use Rattle.tau_model.proofs.Assembling.{entries-left, entries-queues, listing-length, listing-rising, nothing-there, numbers-reported, woven-reported}
 use Rattle.tau_model.proofs.report.reported.Goals as goal
+
+pub numbers_of-requires : goal.numbers_of-requires
+numbers_of-requires c =
+    rw (c.deref_mut.ensures.value, c.in_ok-streams.ensures, c.width.ensures.same) (entries-queues c.args.ends.now c.args.list.now c.requires)
+
+pub returns-then-is_empty : goal.returns-then-is_empty
+returns-then-is_empty c =
+    let streams : map deque_items c.deref_mut.result.now ≡ (entries-left (length c.args.ends.now) c.args.list.now).streams = rw (c.deref_mut.ensures.value, c.in_ok-streams.ensures, c.width.ensures.same) refl in
+    let none : (entries-left (length c.args.ends.now) c.args.list.now).readers ≡ [] =
+    sym c.in_ok-readers.ensures ∙ nothing-there c.in_ok-readers.readers.items (vec_len c.in_ok-readers.readers) c.is_empty.result c.in_ok-readers.readers.ok.0 c.is_empty.ensures c.if-is_empty.true in
+    IfOk-weaker c.numbers_of.result _ _ (λ numbers is. numbers-reported c.args.ends.now c.args.list.now numbers.items none
+    (subst (λ s. AreListed c.args.ends.now s numbers.items) streams is)) c.numbers_of.ensures
 
 pub listing_of-requires : goal.listing_of-requires
 listing_of-requires c =
-    rw (c.deref_mut.ensures.value, c.in_ok-streams.ensures, c.width.ensures.same) (entries-queues c.args.ends.now c.args.list.now c.requires)
+    rw (c.deref_mut-2.ensures.value, c.in_ok-streams.ensures, c.width.ensures.same) (entries-queues c.args.ends.now c.args.list.now c.requires)
 
 pub buckets_of-requires : goal.buckets_of-requires
 buckets_of-requires c =
-    let streams : map deque_items c.deref_mut.result.now ≡ (entries-left (length c.args.ends.now) c.args.list.now).streams = rw (c.deref_mut.ensures.value, c.in_ok-streams.ensures, c.width.ensures.same) refl in
+    let streams : map deque_items c.deref_mut-2.result.now ≡ (entries-left (length c.args.ends.now) c.args.list.now).streams = rw (c.deref_mut-2.ensures.value, c.in_ok-streams.ensures, c.width.ensures.same) refl in
     let listing : IsListing c.args.ends.now (entries-left (length c.args.ends.now) c.args.list.now).streams c.in_ok-listing.listing.reached.items c.in_ok-listing.listing.numbers.items =
     subst (λ s. IsListing c.args.ends.now s c.in_ok-listing.listing.reached.items c.in_ok-listing.listing.numbers.items) streams c.in_ok-listing.ensures in
     subst (λ r. AreRising r) (sym c.deref.ensures.value)
@@ -26,7 +38,7 @@ buckets_of-requires c =
 
 pub weave-requires : goal.weave-requires
 weave-requires c =
-    let streams : map deque_items c.deref_mut.result.now ≡ (entries-left (length c.args.ends.now) c.args.list.now).streams = rw (c.deref_mut.ensures.value, c.in_ok-streams.ensures, c.width.ensures.same) refl in
+    let streams : map deque_items c.deref_mut-2.result.now ≡ (entries-left (length c.args.ends.now) c.args.list.now).streams = rw (c.deref_mut-2.ensures.value, c.in_ok-streams.ensures, c.width.ensures.same) refl in
     let listing : IsListing c.args.ends.now (entries-left (length c.args.ends.now) c.args.list.now).streams c.in_ok-listing.listing.reached.items c.in_ok-listing.listing.numbers.items =
     subst (λ s. IsListing c.args.ends.now s c.in_ok-listing.listing.reached.items c.in_ok-listing.listing.numbers.items) streams c.in_ok-listing.ensures in
     let whole = listing-length c.args.ends.now (entries-left (length c.args.ends.now) c.args.list.now).streams c.in_ok-listing.listing.reached.items c.in_ok-listing.listing.numbers.items listing in
@@ -35,7 +47,7 @@ weave-requires c =
 
 pub returns : goal.returns
 returns c =
-    let streams : map deque_items c.deref_mut.result.now ≡ (entries-left (length c.args.ends.now) c.args.list.now).streams = rw (c.deref_mut.ensures.value, c.in_ok-streams.ensures, c.width.ensures.same) refl in
+    let streams : map deque_items c.deref_mut-2.result.now ≡ (entries-left (length c.args.ends.now) c.args.list.now).streams = rw (c.deref_mut-2.ensures.value, c.in_ok-streams.ensures, c.width.ensures.same) refl in
     let listing : IsListing c.args.ends.now (entries-left (length c.args.ends.now) c.args.list.now).streams c.in_ok-listing.listing.reached.items c.in_ok-listing.listing.numbers.items =
     subst (λ s. IsListing c.args.ends.now s c.in_ok-listing.listing.reached.items c.in_ok-listing.listing.numbers.items) streams c.in_ok-listing.ensures in
     let report = woven-reported c.args.ends.now c.args.list.now c.in_ok-listing.listing.reached.items c.in_ok-listing.listing.numbers.items listing in

@@ -1,16 +1,11 @@
--- A row that has its place is replaced.
-use Rattle.std.specs.BTreeMap.{get}
-use Rattle.tau_base.specs.Database.{key_cmp}
-use Rattle.tau_base.proofs.Keys.{db_of-set}
-use Rattle.tau_model.proofs.Places.{on_ok, some_at, kept-set}
+-- A row that becomes absent is taken out.
+use Rattle.std.proofs.Common.{sym, ◌∙◌}
+use Rattle.indexmap.specs.IndexMap.{get}
+use Rattle.tau_model.specs.Store.{is_key}
+use Rattle.tau_model.proofs.Places.{rows-removed}
 use Rattle.tau_model.proofs.rows.Rows.set_row.Goals as goal
 
-pub returns-clause-set : goal.returns-clause-set
-returns-clause-set c =
-    let set = on_ok c.insert.result c.insert.ensures.updates c.insert.ensures.absent (some_at (get key_cmp c.args.self.now.rows c.args.key) c.requires) in
-    db_of-set (get key_cmp c.args.self.now.rows) (get key_cmp c.insert.new.self) c.args.key c.args.value set.0
-
-pub returns-clause-kept : goal.returns-clause-kept
-returns-clause-kept c =
-    let set = on_ok c.insert.result c.insert.ensures.updates c.insert.ensures.absent (some_at (get key_cmp c.args.self.now.rows c.args.key) c.requires) in
-    kept-set (get key_cmp c.args.self.now.rows) (get key_cmp c.insert.new.self) c.args.key c.args.value set.0
+pub returns-then-not-is_value-clause-set : goal.returns-then-not-is_value-clause-set
+returns-then-not-is_value-clause-set c =
+    rows-removed (λ q. get is_key c.args.self.now.rows q) (λ q. get is_key c.swap_remove.new.self q) c.args.key c.args.value.now
+    (sym c.is_value.ensures ∙ c.if-not-is_value.true) (λ q. c.swap_remove.ensures.updates.0 q)

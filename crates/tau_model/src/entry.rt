@@ -1,0 +1,52 @@
+//! What the listing keeps of a call.
+ghost use Rattle.std.specs.Prelude.{◌≡◌};
+
+use crate::committed::Committed;
+use std::marker::Model;
+use tau_base::Lv;
+
+/// A call with the start of its record.
+#[derive(Drop)]
+pub(crate) struct Entry<'a> {
+    /// Where its record starts; 0 for a read-only call.
+    start: u64,
+    call: &'a Committed,
+}
+
+impl<'a> Model for Entry<'a> {
+    ghost use Rattle.tau_model.specs.Listing.{Entry as Listed};
+
+    ghost Value = { Listed };
+
+    ghost view = { λ e. record { start = e.start; number = e.call.now.number; dep = e.call.now.dep } };
+}
+
+impl<'a> Entry<'a> {
+    /// A call whose record starts here.
+    pub(crate) fn of(call: &'a Committed, start: u64) -> Entry<'a>
+        ensures { result ≡ record { start = start; number = call.now.number; dep = call.now.dep } }
+    {
+        Entry { start, call }
+    }
+
+    /// Where its record starts.
+    pub(crate) fn start(&self) -> u64
+        ensures { result ≡ self.now.start }
+    {
+        self.start
+    }
+
+    /// The call's number.
+    pub(crate) fn number(&self) -> u64
+        ensures { result ≡ self.now.number }
+    {
+        self.call.number
+    }
+
+    /// The call's vector.
+    pub(crate) fn dep(&self) -> &Lv
+        ensures { result.now ≡ self.now.dep }
+    {
+        &self.call.dep
+    }
+}
