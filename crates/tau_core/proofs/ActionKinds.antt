@@ -1,5 +1,7 @@
 -- The kind of an action tells its phase, and which action it is.
 use Rattle.std.proofs.Common.{ℕ, ◌≡◌, List, refl}
+use Rattle.tau_base.specs.declared.value.Key.{Key}
+use Rattle.tau_base.specs.declared.value.Mode.{Mode}
 use Rattle.tau_proc.specs.declared.reply.Reply.{Reply}
 use Rattle.tau_txn.specs.declared.action.Action.{Action}
 use Rattle.tau_txn.specs.declared.action.Action.TheVariants as action
@@ -18,6 +20,16 @@ phase-kind (action.Free x write) = refl
 phase-kind (action.Done reply lv) = refl
 phase-kind action.LeftOver = refl
 phase-kind action.Nothing = refl
+
+pub lock-kind : (a : Action) → kind_of a ≡ kind.Lock → (x : Key) × (m : Mode) × (a ≡ action.Lock x m)
+lock-kind (action.Lock x m) e = (x, m, refl)
+lock-kind (action.Quit x) e = cc
+lock-kind (action.Commit size) e = cc
+lock-kind action.Post e = cc
+lock-kind (action.Free x write) e = cc
+lock-kind (action.Done reply lv) e = cc
+lock-kind action.LeftOver e = cc
+lock-kind action.Nothing e = cc
 
 pub commit-kind : (a : Action) → kind_of a ≡ kind.Commit → (size : ℕ) × (a ≡ action.Commit size)
 commit-kind (action.Lock x m) e = cc

@@ -1,6 +1,8 @@
 -- Who holds a key in its shard.
 use Rattle.std.proofs.Common.{ℕ, ◌≡◌, Bool, true, false, inl, inr, List, [], ◌∷◌, refl, sym, ap, subst, ◌∙◌, Option}
-use Rattle.std.specs.Prelude.{Some, IsSome, slice_get}
+use Rattle.std.specs.Prelude.{None, Some, IsSome, slice_get}
+use Rattle.std.specs.Borrow.{Bor}
+use Rattle.std.specs.Option.{option_copied}
 use Rattle.std.specs.Map.{lookup}
 use Rattle.std.proofs.lemmas.Bool.{cases_Bool}
 use Rattle.tau_base.specs.Database.{same_key}
@@ -25,6 +27,11 @@ use Rattle.tau_core.specs.State.{Plain}
 use Rattle.tau_core.specs.View.{Hidden, setting_of, shard_in, core_of}
 use Rattle.tau_core.specs.Stands.{Stands}
 use Rattle.tau_core.proofs.Seats.{seat-worker}
+
+-- a value that is lent is one
+pub copied-some : {T : Type 0} (o : Option (Bor T)) → IsSome o → IsSome (option_copied o)
+copied-some None some = some
+copied-some (Some x) some = refl
 
 -- the keys that the call in hand holds are held in their shards
 pub holds : (p : Plain) (K : List (Act Txn)) (h : Hidden) → Stands p K h → (w : ℕ) (s : PlainSeat) (hand : Hand) (shard : PlainShard) (key : Key) (m : Mode) →

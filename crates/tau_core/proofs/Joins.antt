@@ -1,5 +1,5 @@
 -- The act of a call that frees its keys, and the room of the committed calls.
-use Rattle.std.proofs.Common.{ℕ, ◌+◌, ◌≡◌, ◌≤◌, Bool, true, false, inl, inr, List, [], ◌∷◌, refl, ap, subst, ◌∙◌, Option, arith}
+use Rattle.std.proofs.Common.{ℕ, ◌+◌, ◌≡◌, ◌≤◌, Bool, true, false, inl, inr, List, [], ◌∷◌, ◌++◌, refl, sym, ap, subst, ◌∙◌, Option, arith}
 use Rattle.std.specs.Prelude.{Some, None, slice_get, slice_set, is_some, if◌then◌else◌}
 use Rattle.tau_proc.specs.declared.proc.Proc.{Proc}
 use Rattle.tau_model.specs.History.{Act}
@@ -18,10 +18,11 @@ use Rattle.tau_core.specs.Stands.{is_open, open_calls}
 use Rattle.tau_core.specs.Frees.{JoinsBy}
 use Rattle.tau_core.proofs.Seats.{one_open, open-set}
 
-pub kept-is : (procs : List Proc) (t : PlainTxn) (hand : Hand) (act : Act Txn) (b : Bool) (kept : Option Committed) → FreesBy procs b t.worker hand act →
-    ((a : Act Txn) → act_of hand.phase ≡ Some a → kept ≡ Some (committed_of a)) → ((a : Act Txn) → Reads procs t.worker hand a → kept ≡ Some (committed_of a)) → kept ≡ Some (committed_of act)
-kept-is procs t hand act true kept q joined reading = joined act (ap act_of q)
-kept-is procs t hand act false kept q joined reading = reading act q
+-- what is kept of a call that frees its keys, put behind the others
+pub kept-into : (procs : List Proc) (t : PlainTxn) (hand : Hand) (act : Act Txn) (b : Bool) (old new : List Committed) → FreesBy procs b t.worker hand act →
+    ((a : Act Txn) → act_of hand.phase ≡ Some a → new ≡ old ++ committed_of a ∷ []) → ((a : Act Txn) → Reads procs t.worker hand a → new ≡ old ++ committed_of a ∷ []) → new ≡ old ++ committed_of act ∷ []
+kept-into procs t hand act true old new q joined reading = joined act (ap act_of q)
+kept-into procs t hand act false old new q joined reading = reading act q
 
 pub joins-on : (l : Load) (w : ℕ) (hand : Hand) (act : Act Txn) (b : Bool) (t : PlainTxn) → t.worker ≡ w → b ≡ true → FreesBy l.procs b t.worker hand act → JoinsBy l w hand act []
 joins-on l w hand act true t e f q = inl (q, refl)
@@ -87,6 +88,26 @@ number-freed procs t hand act is freeing = by_hand t.hand is
     by_hand : (o : Option PlainHand) → shown_of procs t.worker o ≡ Some hand → number_by o ≡ Some act.call.call.number
     by_hand None e = absurd (let bad : None ≡ Some hand = e in cc)
     by_hand (Some x) e = ap Some (by_phase x.standing x (ap (λ (y : Hand). y.phase) (by_standing x.standing x e) ∙ freeing))
+
+-- a call in hand has its number
+pub number-hand : (procs : List Proc) (t : PlainTxn) (hand : Hand) → hand_in procs t ≡ Some hand → number_in t ≡ Some hand.call.number
+number-hand procs t hand is = by_hand t.hand is
+  where
+    by_standing : (st : Standing) (x : PlainHand) → shown procs t.worker st x ≡ Some hand → x.number ≡ hand.call.number
+    by_standing standing.Running x e = (let f : hand_of procs t.worker x ≡ hand = cc in ap (λ (y : Hand). y.call.number) f)
+    by_standing standing.Quitting x e = (let f : hand_of procs t.worker x ≡ hand = cc in ap (λ (y : Hand). y.call.number) f)
+    by_standing standing.Placed x e = (let f : hand_of procs t.worker x ≡ hand = cc in ap (λ (y : Hand). y.call.number) f)
+    by_standing standing.Freeing x e = (let f : hand_of procs t.worker x ≡ hand = cc in ap (λ (y : Hand). y.call.number) f)
+    by_standing standing.LeftOver x e = absurd (let bad : None ≡ Some hand = e in cc)
+
+    by_hand : (o : Option PlainHand) → shown_of procs t.worker o ≡ Some hand → number_by o ≡ Some hand.call.number
+    by_hand None e = absurd (let bad : None ≡ Some hand = e in cc)
+    by_hand (Some x) e = ap Some (by_standing x.standing x e)
+
+-- that of a read-only call which joins by this is that of its act
+pub number-reads : (procs : List Proc) (b : Bool) (w : ℕ) (hand : Hand) (act : Act Txn) → b ≡ false → FreesBy procs b w hand act → hand.call.number ≡ act.call.call.number
+number-reads procs true w hand act f q = absurd (let bad : true ≡ false = f in cc)
+number-reads procs false w hand act f q = ap (λ (y : Act Txn). y.call.call.number) (sym q.is)
 
 pub none-open : (l : Load) (s : PlainSeat) → hand_in l.procs s.txn ≡ None → one_open l s ≡ 0
 none-open l s gone = let e : is_open (hand_in l.procs s.txn) ≡ false = ap is_open gone in rw e refl

@@ -47,7 +47,6 @@ pub mod Sizes
 pub mod Spellings
 pub mod Starts
 pub mod Steps
-pub mod Taken
 pub mod Takes
 pub mod Turns
 pub mod Undone

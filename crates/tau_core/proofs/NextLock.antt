@@ -31,29 +31,6 @@ use Rattle.tau_core.proofs.Begins.{ready-in-hand}
 use Rattle.tau_core.proofs.Starts.{waiting-next}
 use Rattle.tau_core.proofs.FirstSteps.{waits-none}
 
--- the number of the call in hand is that of the core's
-pub number-shown : (procs : List Proc) (t : PlainTxn) (hand : Hand) (n : ℕ) → hand_in procs t ≡ Some hand → number_in t ≡ Some n → n ≡ hand.call.number
-number-shown procs t hand n is number = by_hand t.hand is number
-  where
-    by_standing : (st : Standing) (x : PlainHand) → shown procs t.worker st x ≡ Some hand → x.number ≡ hand.call.number
-    by_standing standing.Running x e = (let f : hand_of procs t.worker x ≡ hand = cc in ap (λ (y : Hand). y.call.number) f)
-    by_standing standing.Quitting x e = (let f : hand_of procs t.worker x ≡ hand = cc in ap (λ (y : Hand). y.call.number) f)
-    by_standing standing.Placed x e = (let f : hand_of procs t.worker x ≡ hand = cc in ap (λ (y : Hand). y.call.number) f)
-    by_standing standing.Freeing x e = (let f : hand_of procs t.worker x ≡ hand = cc in ap (λ (y : Hand). y.call.number) f)
-    by_standing standing.LeftOver x e = absurd (let bad : None ≡ Some hand = e in cc)
-
-    by_hand : (o : Option PlainHand) → shown_of procs t.worker o ≡ Some hand → number_by o ≡ Some n → n ≡ hand.call.number
-    by_hand None e f = absurd (let bad : None ≡ Some n = f in cc)
-    by_hand (Some x) e f = (let same : x.number ≡ n = cc in sym same ∙ by_standing x.standing x e)
-
--- a call in hand has a number
-pub number-none : (procs : List Proc) (t : PlainTxn) (hand : Hand) → hand_in procs t ≡ Some hand → number_in t ≡ None → ⊥
-number-none procs t hand is number = by_hand t.hand is number
-  where
-    by_hand : (o : Option PlainHand) → shown_of procs t.worker o ≡ Some hand → number_by o ≡ None → ⊥
-    by_hand None e f = (let bad : None ≡ Some hand = e in cc)
-    by_hand (Some x) e f = (let bad : Some x.number ≡ None = f in cc)
-
 -- a call that begins and has no lock to take has finished
 pub none-first : (l : Load) (n : ℕ) (c : Call) → lock_of (stage l.procs c []) [] ≡ None → hand_phase l.procs (begun_hand l n c) ≡ Locking → ⊥
 none-first l n c none e = by_stage (stage l.procs c []) none e

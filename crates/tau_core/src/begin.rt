@@ -112,8 +112,8 @@ pub(crate) fn begin_call(state: &mut State, worker: usize, number: u64) -> Mark
 {
     let seat = &mut state.seats[worker];
     let mark = mark_of(seat);
-    let call = &state.load.calls.as_slice()[(number - 1) as usize];
-    start(seat, &state.load.procs, number, call, state.load.workers);
+    let call = state.load.calls.call_at((number - 1) as usize);
+    start(seat, &state.load.procs, number, &call, state.load.workers);
     mark
 }
 

@@ -7,7 +7,6 @@ ghost use Rattle.tau_core.specs.Pieces.{Names, newest_of};
 ghost use Rattle.tau_core.specs.Commits.{IsAtCommit, CommitBy, stream_of};
 
 use crate::event::Outcome;
-use crate::free::keep;
 use crate::phase::phase_of_kind;
 use crate::state::State;
 use tau_base::{Lv, MAX_LSN};
@@ -70,14 +69,9 @@ fn place_above(state: &mut State, worker: usize, start: u64, named: &Named) -> O
                 let past = start + seat.txn.record_size();
                 seat.txn.placed(start);
                 seat.start = start;
-                match seat.txn.committed() {
-                    None => Outcome::NoMemory,
-                    Some(kept) => {
-                        keep(&mut state.committed, kept);
-                        state.ends.set(worker % state.load.streams, past);
-                        Outcome::Placed { start }
-                    }
-                }
+                seat.txn.commit_into(&mut state.committed);
+                state.ends.set(worker % state.load.streams, past);
+                Outcome::Placed { start }
             }
         },
     }

@@ -1,11 +1,10 @@
-//! The procedures and the calls of a workload, again.
+//! The procedures of a workload, again.
 ghost use Rattle.std.specs.Prelude.{◌≡◌, ◌<◌, ◌++◌, ◌∷◌, [], IfOk, OnOk, length};
 ghost use Rattle.tau_base.specs.declared.limits.TheConstants.{MAX_PROCS};
 ghost use Rattle.tau_proc.specs.Limits.{IsWellFormed};
 
-use arrayvec::ArrayVec;
 use std::alloc::Global;
-use tau_base::{Call, Listed, NoMemory};
+use tau_base::{Listed, NoMemory};
 use tau_proc::{Proc, Procs, Step};
 
 /// The procedures again.
@@ -64,32 +63,4 @@ fn copied_steps(alloc: Global, steps: &[Step]) -> Result<Listed<Step>, NoMemory>
         }
     }
     Ok(all)
-}
-
-/// The calls again.
-pub(crate) fn copied_calls(alloc: Global, calls: &[Call]) -> Result<Listed<Call>, NoMemory>
-    ensures { IfOk result (λ copy. copy ≡ calls.now) }
-{
-    let mut all = Listed::new(alloc);
-    for call in calls {
-        match all.push(copied_call(call)) {
-            Ok(()) => {}
-            Err(_) => return Err(NoMemory),
-        }
-    }
-    Ok(all)
-}
-
-/// The call again. It takes no memory.
-fn copied_call(call: &Call) -> Call
-    ensures { result ≡ call.now }
-{
-    let mut args = ArrayVec::new();
-    for arg in call.args.as_slice() {
-        args.push(arg.copied());
-    }
-    Call {
-        proc: call.proc,
-        args,
-    }
 }

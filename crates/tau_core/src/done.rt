@@ -8,7 +8,6 @@ ghost use Rattle.tau_core.specs.Frees.{IsAtDone, DoneBy, EndsCall, HasJoined};
 
 use crate::begin::{begin_call, in_hand, make_room, next_number, undo};
 use crate::event::{Outcome, Phase};
-use crate::free::keep;
 use crate::phase::phase_of_kind;
 use crate::state::State;
 use tau_txn::ActionKind;
@@ -101,8 +100,8 @@ fn finish_on(state: &mut State, worker: usize)
     let Some(number) = seat.txn.number() else {
         return;
     };
-    let vector = seat.txn.lv();
-    seat.pending.put(number, vector);
+    let vector = seat.txn.lv_ref();
+    seat.pending.put_from(number, vector);
     seat.txn.went(&state.load.procs);
 }
 
@@ -115,10 +114,10 @@ fn finish_first(state: &mut State, worker: usize)
     ensures { EndsCall worker (plain state.old) (plain state.new) }
 {
     let seat = &mut state.seats[worker];
-    let Some(kept) = seat.txn.committed() else {
+    let Some(number) = seat.txn.number() else {
         return;
     };
-    seat.pending.put(kept.number, kept.lv);
+    seat.txn.commit_into(&mut state.committed);
+    seat.pending.put_from(number, seat.txn.lv_ref());
     seat.txn.went(&state.load.procs);
-    keep(&mut state.committed, kept);
 }

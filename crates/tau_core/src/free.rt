@@ -1,15 +1,15 @@
 //! A worker frees keys.
-ghost use Rattle.std.specs.Prelude.{◌≡◌, ◌<◌, ◌≤◌, ◌+◌, ◌-◌, ◌++◌, ◌∷◌, [], true, false, vec_capacity, vec_len};
+ghost use Rattle.std.specs.Prelude.{◌≡◌, ◌<◌, Some, true, false, slice_get};
 ghost use Rattle.tau_core.specs.State.{plain};
+ghost use Rattle.tau_core.specs.Plain.{PlainSeat};
 ghost use Rattle.tau_core.specs.Stands.{Stood};
 ghost use Rattle.tau_core.specs.Frees.{IsAtFree, FreeBy, FreesKey, HasJoined};
+ghost use Rattle.tau_txn.specs.Narrow.{written_in};
 
 use crate::event::Outcome;
-use crate::phase::phase_of;
+use crate::phase::phase_of_kind;
 use crate::state::State;
-use tau_base::{Key, Value, shard_of};
-use tau_model::Committed;
-use tau_txn::Action;
+use tau_base::{Key, shard_of};
 
 /// The call that is posted, or read-only and has finished, frees its lowest key.
 pub(crate) fn free(state: &mut State, worker: usize) -> Outcome
@@ -18,71 +18,64 @@ pub(crate) fn free(state: &mut State, worker: usize) -> Outcome
     ensures { FreeBy (plain state.old) worker result (plain state.new) }
 {
     let seat = &state.seats[worker];
-    match seat.txn.turn() {
-        Action::Free { key, write } => {
-            free_key(state, worker, key, write);
+    match seat.txn.free_asked() {
+        Some(key) => {
+            free_key(state, worker, key);
             Outcome::Went
         }
-        action => Outcome::NotNow {
-            phase: phase_of(&action),
+        None => Outcome::NotNow {
+            phase: phase_of_kind(seat.txn.kind()),
         },
     }
 }
 
 /// It frees this key.
-fn free_key(state: &mut State, worker: usize, key: Key, write: Option<Value>)
+fn free_key(state: &mut State, worker: usize, key: Key)
     requires stood { Stood (plain state.old) }
     requires there { worker < state.old.load.workers }
-    requires at { IsAtFree (plain state.old) worker key write }
+    requires at { (s : PlainSeat) → slice_get state.old.seats.items worker ≡ Some s → IsAtFree (plain state.old) worker key (written_in s.txn key) }
     ensures { FreesKey worker (plain state.old) (plain state.new) }
 {
     let seat = &state.seats[worker];
     let joined = seat.txn.has_joined();
     if joined {
-        free_on(state, worker, key, write);
+        free_on(state, worker, key);
         return;
     }
-    free_first(state, worker, key, write);
+    free_first(state, worker, key);
 }
 
 /// A call that has joined the committed ones frees the key.
-fn free_on(state: &mut State, worker: usize, key: Key, write: Option<Value>)
+fn free_on(state: &mut State, worker: usize, key: Key)
     requires stood { Stood (plain state.old) }
     requires there { worker < state.old.load.workers }
-    requires at { IsAtFree (plain state.old) worker key write }
+    requires at { (s : PlainSeat) → slice_get state.old.seats.items worker ≡ Some s → IsAtFree (plain state.old) worker key (written_in s.txn key) }
     requires joined { HasJoined (plain state.old) worker true }
     ensures { FreesKey worker (plain state.old) (plain state.new) }
 {
     let part = &mut state.shards[usize::from(shard_of(key))];
     let seat = &mut state.seats[worker];
-    let vector = seat.txn.lv();
-    part.free(worker as u8, key, &vector, write);
+    let vector = seat.txn.lv_ref();
+    part.free_by(worker as u8, key, vector, seat.txn.written_at(key));
     seat.txn.went(&state.load.procs);
 }
 
 /// A read-only call that has finished joins the committed ones, and frees the key.
-fn free_first(state: &mut State, worker: usize, key: Key, write: Option<Value>)
+fn free_first(state: &mut State, worker: usize, key: Key)
     requires stood { Stood (plain state.old) }
     requires there { worker < state.old.load.workers }
-    requires at { IsAtFree (plain state.old) worker key write }
+    requires at { (s : PlainSeat) → slice_get state.old.seats.items worker ≡ Some s → IsAtFree (plain state.old) worker key (written_in s.txn key) }
     requires joined { HasJoined (plain state.old) worker false }
     ensures { FreesKey worker (plain state.old) (plain state.new) }
 {
     let part = &mut state.shards[usize::from(shard_of(key))];
     let seat = &mut state.seats[worker];
-    let Some(kept) = seat.txn.committed() else {
-        return;
-    };
-    part.free(worker as u8, key, &kept.lv, write);
+    seat.txn.commit_into(&mut state.committed);
+    part.free_by(
+        worker as u8,
+        key,
+        seat.txn.lv_ref(),
+        seat.txn.written_at(key),
+    );
     seat.txn.went(&state.load.procs);
-    keep(&mut state.committed, kept);
-}
-
-/// Puts a call that has committed last. It takes no memory.
-pub(crate) fn keep(committed: &mut Vec<Committed>, kept: Committed)
-    requires { 1 ≤ vec_capacity committed.old - vec_len committed.old }
-    ensures items { committed.new.items ≡ committed.old.items ++ kept ∷ [] }
-    ensures room { vec_capacity committed.old - vec_len committed.old ≤ (vec_capacity committed.new - vec_len committed.new) + 1 }
-{
-    let _ = committed.push(kept);
 }

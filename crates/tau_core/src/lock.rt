@@ -1,5 +1,6 @@
 //! A worker locks the key that its call wants.
 ghost use Rattle.std.specs.Prelude.{◌≡◌, ◌<◌, ◌≤◌, is_some, true};
+ghost use Rattle.std.specs.Option.{option_copied, unwrap_or};
 ghost use Rattle.tau_core.specs.State.{plain};
 ghost use Rattle.tau_core.specs.Stands.{Sound, Stood};
 ghost use Rattle.tau_core.specs.Begins.{HasNext};
@@ -9,12 +10,11 @@ ghost use Rattle.tau_txn.specs.Txn.{RunsBy};
 
 use crate::begin::{begin_call, in_hand, make_room, next_number, undo};
 use crate::event::{Outcome, Phase};
-use crate::phase::phase_of;
+use crate::phase::phase_of_kind;
 use crate::state::{Seat, State};
-use tau_base::{Key, Mode, shard_of};
+use tau_base::{Key, Mode, Value, shard_of};
 use tau_proc::Procs;
 use tau_shard::ShardRefusal;
-use tau_txn::Action;
 
 /// The worker locks the key that it wants; one that rests begins its next call.
 pub(crate) fn lock(state: &mut State, worker: usize) -> Outcome
@@ -69,10 +69,10 @@ pub(crate) fn lock_next(state: &mut State, worker: usize) -> Outcome
     ensures { LockedBy (plain state.old) worker result (plain state.new) }
 {
     let seat = &state.seats[worker];
-    match seat.txn.turn() {
-        Action::Lock { key, mode } => take_lock(state, worker, key, mode),
-        action => Outcome::NotNow {
-            phase: phase_of(&action),
+    match seat.txn.lock_asked() {
+        Some((key, mode)) => take_lock(state, worker, key, mode),
+        None => Outcome::NotNow {
+            phase: phase_of_kind(seat.txn.kind()),
         },
     }
 }
@@ -86,11 +86,12 @@ fn take_lock(state: &mut State, worker: usize, key: Key, mode: Mode) -> Outcome
 {
     let part = &mut state.shards[usize::from(shard_of(key))];
     let seat = &mut state.seats[worker];
-    let mut dep = seat.txn.dep();
-    match part.lock(worker as u8, key, mode, &mut dep) {
-        Ok(value) => {
-            seat.txn.granted(value.copied(), dep);
-            Outcome::Granted(value)
+    let mut dep = *seat.txn.dep_ref();
+    match part.lock_key(worker as u8, key, mode, &mut dep) {
+        Ok(()) => {
+            let row = part.row(key);
+            seat.txn.granted_by(row, &dep);
+            Outcome::Granted(value_of(row))
         }
         Err(ShardRefusal::Busy { holder }) => {
             seat.txn.busy(&state.load.procs, holder);
@@ -101,15 +102,25 @@ fn take_lock(state: &mut State, worker: usize, key: Key, mode: Mode) -> Outcome
     }
 }
 
+/// The value of a row, Absent where there is none.
+fn value_of(row: Option<&Value>) -> Value
+    ensures { result ≡ unwrap_or (option_copied row.entry) Value.Absent }
+{
+    match row {
+        Some(value) => value.copied(),
+        None => Value::Absent,
+    }
+}
+
 /// A call that is left over goes to the others that are.
 pub(crate) fn leave(seat: &mut Seat, procs: &Procs)
     requires run { RunsBy procs.now seat.old.txn }
     requires room { is_some seat.old.txn.hand ≡ true → 1 ≤ seat.old.room }
     ensures { Leaves seat.old seat.new }
 {
-    let Action::LeftOver = seat.txn.turn() else {
+    if !seat.txn.is_left_over() {
         return;
-    };
+    }
     if let Some(number) = seat.txn.number() {
         seat.left.push(number);
     }

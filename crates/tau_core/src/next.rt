@@ -9,7 +9,7 @@ ghost use Rattle.tau_txn.specs.Txn.{hand_in};
 use crate::begin::{in_hand, next_number};
 use crate::state::State;
 use tau_base::{Key, Mode};
-use tau_txn::{Action, Txn};
+use tau_txn::{ActionKind, Txn};
 
 /// The number of the worker's call with the lock that is its next action; of a worker that rests, of its next call.
 pub(crate) fn next_lock(state: &State, worker: usize) -> Option<(u64, Key, Mode)>
@@ -33,11 +33,8 @@ fn lock_in_hand(state: &State, worker: usize) -> Option<(u64, Key, Mode)>
     ensures { (s : PlainSeat) → slice_get state.now.seats.items worker ≡ Some s → TellsHand state.now.load.procs (hand_in state.now.load.procs s.txn) result }
 {
     let seat = &state.seats[worker];
-    match seat.txn.turn() {
-        Action::Lock { key, mode } => match seat.txn.number() {
-            Some(number) => Some((number, key, mode)),
-            None => None,
-        },
+    match seat.txn.kind() {
+        ActionKind::Lock => seat.txn.next_lock(),
         _ => None,
     }
 }
@@ -48,8 +45,8 @@ fn first_lock(state: &State, number: u64) -> Option<(u64, Key, Mode)>
     requires call { IsNumber state.now.load number }
     ensures { TellsFirst state.now.load number result }
 {
-    let call = &state.load.calls.as_slice()[(number - 1) as usize];
-    match Txn::first_lock(&state.load.procs, call) {
+    let call = state.load.calls.call_at((number - 1) as usize);
+    match Txn::first_lock(&state.load.procs, &call) {
         Some((key, mode)) => Some((number, key, mode)),
         None => None,
     }

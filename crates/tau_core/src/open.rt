@@ -5,7 +5,7 @@ ghost use Rattle.tau_text.specs.Kept.{AreCalls};
 ghost use Rattle.tau_core.specs.State.{plain};
 ghost use Rattle.tau_core.specs.Opens.{AreSeats, AreShards, AreStreams, Fits, IsLoad, Opens, load_of};
 
-use crate::copies::{copied_calls, copied_procs};
+use crate::copies::copied_procs;
 use crate::opening::Opening;
 use crate::parts::{seats, shards, streams};
 use crate::state::{Load, Seat, State, Stream};
@@ -45,7 +45,7 @@ fn load_of(
     ensures { IfOk result (λ copy. copy ≡ load_of load.now.declarations.procs load.now.calls mode workers opening) }
 {
     let procs = copied_procs(alloc, &load.declarations.procs)?;
-    let calls = copied_calls(alloc, load.calls.as_slice())?;
+    let calls = load.calls.copied(alloc)?;
     Ok(Load {
         procs,
         calls,

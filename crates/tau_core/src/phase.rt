@@ -1,24 +1,9 @@
 //! Where a worker stands.
 ghost use Rattle.std.specs.Prelude.{◌≡◌};
-ghost use Rattle.tau_core.specs.Phases.{phase_of, phase_of_kind};
+ghost use Rattle.tau_core.specs.Phases.{phase_of_kind};
 
 use crate::event::Phase;
-use tau_txn::{Action, ActionKind};
-
-/// The phase in which an action comes.
-pub(crate) fn phase_of(action: &Action) -> Phase
-    ensures { result ≡ phase_of action.now }
-{
-    match action {
-        Action::Lock { .. } => Phase::Locking,
-        Action::Quit { .. } => Phase::Quitting,
-        Action::Commit { .. } => Phase::Ready,
-        Action::Post => Phase::Placed,
-        Action::Free { .. } => Phase::Freeing,
-        Action::Done { .. } => Phase::Ended,
-        Action::LeftOver | Action::Nothing => Phase::Resting,
-    }
-}
+use tau_txn::ActionKind;
 
 /// The phase in which an action of this kind comes.
 pub(crate) fn phase_of_kind(kind: ActionKind) -> Phase

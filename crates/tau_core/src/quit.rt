@@ -7,10 +7,9 @@ ghost use Rattle.tau_core.specs.Workers.{GivesBack};
 
 use crate::event::Outcome;
 use crate::lock::leave;
-use crate::phase::phase_of;
+use crate::phase::phase_of_kind;
 use crate::state::State;
 use tau_base::{Key, shard_of};
-use tau_txn::Action;
 
 /// The call in hand, which is to quit, gives its lowest key back.
 pub(crate) fn quit(state: &mut State, worker: usize) -> Outcome
@@ -19,13 +18,13 @@ pub(crate) fn quit(state: &mut State, worker: usize) -> Outcome
     ensures { QuitBy (plain state.old) worker result (plain state.new) }
 {
     let seat = &state.seats[worker];
-    match seat.txn.turn() {
-        Action::Quit { key } => {
+    match seat.txn.quit_asked() {
+        Some(key) => {
             give_back(state, worker, key);
             Outcome::Went
         }
-        action => Outcome::NotNow {
-            phase: phase_of(&action),
+        None => Outcome::NotNow {
+            phase: phase_of_kind(seat.txn.kind()),
         },
     }
 }

@@ -9,9 +9,8 @@ ghost use Rattle.tau_core.specs.Retries.{GivesWay, IsAtSome, RetriedBy};
 use crate::begin::{begin_call, in_hand, make_room, next_number, undo};
 use crate::event::{Outcome, Phase};
 use crate::lock::leave;
-use crate::phase::phase_of;
+use crate::phase::phase_of_kind;
 use crate::state::State;
-use tau_txn::Action;
 
 /// The worker's call, at a lock, meets Busy once more; a worker that rests begins its next call.
 pub(crate) fn retry(state: &mut State, worker: usize) -> Outcome
@@ -62,13 +61,13 @@ fn retry_next(state: &mut State, worker: usize) -> Outcome
     ensures { RetriedBy (plain state.old) worker result (plain state.new) }
 {
     let seat = &state.seats[worker];
-    match seat.txn.turn() {
-        Action::Lock { .. } => {
+    match seat.txn.lock_asked() {
+        Some(_) => {
             give_way(state, worker);
             Outcome::Went
         }
-        action => Outcome::NotNow {
-            phase: phase_of(&action),
+        None => Outcome::NotNow {
+            phase: phase_of_kind(seat.txn.kind()),
         },
     }
 }

@@ -4,7 +4,7 @@ use crate::opening::Opening;
 use std::alloc::Global;
 use std::marker::Model;
 use tau_ack::Pending;
-use tau_base::{Call, Listed, LogMode, Lv};
+use tau_base::{Calls, LogMode, Lv};
 use tau_model::Committed;
 use tau_outbox::Outbox;
 use tau_proc::Procs;
@@ -15,7 +15,7 @@ use tau_txn::Txn;
 #[derive(Drop)]
 pub struct Load {
     pub procs: Procs,
-    pub calls: Listed<Call>,
+    pub calls: Calls,
     pub mode: LogMode,
     pub workers: usize,
     pub streams: usize,

@@ -14,9 +14,8 @@ pub(crate) fn sweep(state: &mut State, shard: usize)
     requires there { shard < SHARDS }
     ensures { Swept (plain state.old) shard (plain state.new) }
 {
-    let plv = state.plv;
     let part = &mut state.shards[shard];
-    part.drop_covered(&plv);
+    part.drop_covered(&state.plv);
 }
 
 /// The first pending call of the worker that is persisted is acknowledged.
@@ -25,9 +24,8 @@ pub(crate) fn ack(state: &mut State, worker: usize) -> Outcome
     requires there { worker < state.old.load.workers }
     ensures { AckedBy (plain state.old) worker result (plain state.new) }
 {
-    let plv = state.plv;
     let seat = &mut state.seats[worker];
-    match seat.pending.take_covered(&plv) {
+    match seat.pending.take_covered(&state.plv) {
         Some(waiting) => Outcome::Acked {
             number: waiting.number,
             lv: waiting.lv,

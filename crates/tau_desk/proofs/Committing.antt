@@ -13,18 +13,21 @@ use Rattle.tau_machine.specs.Hands as theory
 use Rattle.tau_machine.specs.Hands.{Hand, Phase, Placed, committed_of}
 use Rattle.tau_machine.specs.Worker.{Worker, begun, hand_joined}
 use Rattle.tau_machine.proofs.Commits.{begun-committed}
+use Rattle.tau_txn.specs.declared.action.Action.{Action}
 use Rattle.tau_txn.specs.declared.action.Action.TheVariants as action
+use Rattle.tau_txn.specs.declared.action.ActionKind.TheVariants as kind
 use Rattle.tau_txn.specs.declared.standing.Standing.{Standing}
 use Rattle.tau_txn.specs.declared.standing.Standing.TheVariants as standing
 use Rattle.tau_txn.specs.Hand.{PlainHand}
 use Rattle.tau_txn.specs.Next as txn
-use Rattle.tau_txn.specs.Next.{act_at, next_action, next_by, next_of}
+use Rattle.tau_txn.specs.Next.{act_at, kind_of, next_action, next_by, next_of}
 use Rattle.tau_txn.specs.Read.{effect_in}
 use Rattle.tau_txn.specs.Record.{entry_of}
 use Rattle.tau_txn.specs.Txn.{PlainTxn, anchor_in, bytes_in, hand_in, has_joined, leaves_in, shown, shown_of, stream_in, worker_of}
 use Rattle.tau_core.specs.declared.state.Load.{Load}
 use Rattle.tau_core.specs.State.{Plain}
 use Rattle.tau_core.specs.View.{call_of}
+use Rattle.tau_core.proofs.ActionKinds.{commit-kind}
 use Rattle.tau_core.proofs.Hands.{some-hand}
 use Rattle.tau_core.proofs.Sizes.{size-small}
 use Rattle.tau_rule.specs.Knows.{Knows}
@@ -105,6 +108,13 @@ to-place origin w m t p size number anchor r q read wide few same raised named s
       size_low = sized;
       size_high = omega (arith, small);
     }
+
+-- for a call that commits there is room among those that have
+pub commit-room : (l : Load) (w : ℕ) (o : PlainWork) → FitsWork l w o → txn.Means l.procs o.txn (next_action o.txn) → kind_of (next_action o.txn) ≡ kind.Commit → 1 ≤ o.committed_room
+commit-room l w o f m e =
+    let next = commit-kind (next_action o.txn) e in
+    let q : txn.Commits l.procs o.txn next.0 = subst (λ (a : Action). txn.Means l.procs o.txn a) next.1 m in
+    f.commits (some-hand l.procs o.txn q.hand q.is) (joined-is l.procs o.txn q.hand q.is ∙ ap joined_at q.phase)
 
 -- what the call is then
 pub has-committed : (procs : List Proc) (t p t' : PlainTxn) (size number : ℕ) (anchor : List ℕ) (start : ℕ) (kept : Committed) (q : txn.Commits procs t size) → p ≡ record t { hand = p.hand } → (leaves_in t ≡ false → leaves_in p ≡ false) → hand_in procs p ≡ Some (raised_by q.hand anchor) → anchor_in p ≡ number →

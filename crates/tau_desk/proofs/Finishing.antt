@@ -1,6 +1,6 @@
 -- A call ends and waits for its acknowledgement; room for it.
-use Rattle.std.proofs.Common.{◌≡◌, ◌≤◌, ℕ, subst, List, [], ◌∷◌, ◌++◌, refl, sym, ap, ◌∙◌}
-use Rattle.std.specs.Prelude.{Some, None}
+use Rattle.std.proofs.Common.{◌≡◌, ◌≤◌, ℕ, true, subst, Option, List, [], ◌∷◌, ◌++◌, refl, sym, ap, ◌∙◌}
+use Rattle.std.specs.Prelude.{Some, None, is_some}
 use Rattle.tau_ack.specs.declared.Waiting.{Waiting}
 use Rattle.tau_model.specs.History.{Act}
 use Rattle.tau_machine.specs.Hands.{Txn, Hand, Freeing}
@@ -11,7 +11,8 @@ use Rattle.tau_machine.proofs.Accounts.{map-append}
 use Rattle.tau_txn.specs.declared.action.Action.{Action}
 use Rattle.tau_txn.specs.declared.action.Action.TheVariants as action
 use Rattle.tau_txn.specs.declared.action.ActionKind.TheVariants as kind
-use Rattle.tau_txn.specs.Next.{kind_of}
+use Rattle.tau_txn.specs.Hand.{PlainHand}
+use Rattle.tau_txn.specs.Next.{kind_of, next_action, next_of}
 use Rattle.tau_txn.specs.Txn.{PlainTxn, worker_in, worker_of}
 use Rattle.tau_proc.specs.declared.reply.Reply.{Reply}
 use Rattle.tau_core.specs.State.{Plain}
@@ -25,6 +26,14 @@ use Rattle.tau_rule.specs.Boxes.{BoxOf, StepsBox, box_in}
 use Rattle.tau_rule.specs.declared.part.Part.{Part}
 use Rattle.tau_rule.proofs.Boxes.{part-rooms}
 use Rattle.tau_rule.proofs.Turns.{one-role}
+
+-- a call that is done is in hand
+pub done-hand : (t : PlainTxn) → kind_of (next_action t) ≡ kind.Done → is_some t.hand ≡ true
+done-hand t e = by_hand t.hand e
+  where
+    by_hand : (o : Option PlainHand) → kind_of (next_of o) ≡ kind.Done → is_some o ≡ true
+    by_hand None f = cc
+    by_hand (Some x) f = refl
 
 -- what a call that is done replies, with its vector
 pub done-is : (a : Action) → kind_of a ≡ kind.Done → (reply : Reply) × (lv : List ℕ) × (a ≡ action.Done reply lv)

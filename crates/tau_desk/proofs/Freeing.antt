@@ -1,6 +1,8 @@
 -- A worker frees a key.
 use Rattle.std.proofs.Common.{◌≡◌, ℕ, true, inl, inr, List, [], ◌∷◌, Option, refl, sym, ap, ◌∙◌, subst}
 use Rattle.std.specs.Prelude.{Some, None, IsSome}
+use Rattle.std.specs.Borrow.{Bor}
+use Rattle.std.specs.Option.{option_copied}
 use Rattle.std.specs.Map.{lookup}
 use Rattle.tau_base.specs.declared.value.Key.{Key}
 use Rattle.tau_base.specs.declared.value.Value.{Value}
@@ -25,6 +27,22 @@ use Rattle.tau_rule.specs.Steps.{Sat, Agrees, IsReady, StepsShard, next_worker, 
 use Rattle.tau_rule.specs.declared.part.Part.{Part}
 use Rattle.tau_rule.proofs.Turns.{part-shard, reached-invariant, share-worker, one-role}
 use Rattle.tau_rule.proofs.Workers.{frees, worker-shown}
+use Rattle.tau_txn.specs.declared.action.Action.{Action}
+use Rattle.tau_txn.specs.declared.action.Action.TheVariants as action
+use Rattle.tau_txn.specs.declared.action.ActionKind.TheVariants as kind
+use Rattle.tau_txn.specs.Narrow.{free_at}
+use Rattle.tau_txn.specs.Next.{kind_of}
+
+-- an action that asks for no such thing is not a key to free
+pub no-free : (a : Action) (o : Option Key) → o ≡ free_at a → ((l : Key) → o ≡ Some l → ⊥) → kind_of a ≡ kind.Free → ⊥
+no-free (action.Lock x m) o asked none e = cc
+no-free (action.Quit x) o asked none e = cc
+no-free (action.Commit size) o asked none e = cc
+no-free action.Post o asked none e = cc
+no-free (action.Free x write) o asked none e = none x asked
+no-free (action.Done reply lv) o asked none e = cc
+no-free action.LeftOver o asked none e = cc
+no-free action.Nothing o asked none e = cc
 
 -- a call that has joined is in hand already
 pub was-begun : (n : ℕ) (wk : Worker) (h : Hand) (act : Act Txn) → (begun n wk).hand ≡ Some h → h.phase ≡ Freeing act → (wk.hand ≡ Some h) × (begun n wk ≡ wk)
@@ -75,3 +93,8 @@ freed-steps origin w k wk sh sh' t t' key mode act h is same number phase held l
 pub written-some : (o : Option Value) → IsSome o → (v : Value) × (o ≡ Some v)
 written-some (Some v) some = (v, refl)
 written-some None some = cc
+
+-- a value that is lent is one
+pub copied-some : {T : Type 0} (o : Option (Bor T)) → IsSome o → IsSome (option_copied o)
+copied-some None some = some
+copied-some (Some x) some = refl

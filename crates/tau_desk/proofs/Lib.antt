@@ -35,3 +35,4 @@ pub mod WorkerUndoes
 pub mod ResumeLowest
 pub mod ResumeSplits
 pub mod OwnCount
+pub mod Lasts

@@ -29,6 +29,22 @@ use Rattle.tau_rule.specs.declared.part.Part.{Part}
 use Rattle.tau_rule.proofs.Gives.{told-is}
 use Rattle.tau_rule.proofs.Turns.{part-shard, reached-invariant}
 use Rattle.tau_rule.proofs.Workers.{locks, refuses, none-conflicts, shown-dep, locked-alike, worker-shown}
+use Rattle.tau_txn.specs.declared.action.Action.{Action}
+use Rattle.tau_txn.specs.declared.action.Action.TheVariants as action
+use Rattle.tau_txn.specs.declared.action.ActionKind.TheVariants as kind
+use Rattle.tau_txn.specs.Narrow.{lock_at}
+use Rattle.tau_txn.specs.Next.{kind_of}
+
+-- an action that asks for no such thing is not a lock
+pub no-lock : (a : Action) (o : Option (Key × Mode)) → o ≡ lock_at a → ((l : (Key × Mode)) → o ≡ Some l → ⊥) → kind_of a ≡ kind.Lock → ⊥
+no-lock (action.Lock x m) o asked none e = none (x, m) asked
+no-lock (action.Quit x) o asked none e = cc
+no-lock (action.Commit size) o asked none e = cc
+no-lock action.Post o asked none e = cc
+no-lock (action.Free x write) o asked none e = cc
+no-lock (action.Done reply lv) o asked none e = cc
+no-lock action.LeftOver o asked none e = cc
+no-lock action.Nothing o asked none e = cc
 
 pub granted-steps : (origin : Plain) (w k : ℕ) (wk : Worker) (sh sh' : Shard) (t t' : PlainTxn) (key : Key) (mode : Mode) (row : Value) (dep dep' : List ℕ) (m : txn.Locks origin.load.procs t key mode) → (begun origin.load.streams wk).hand ≡ hand_in origin.load.procs t → k ≡ shard_number key →
     dep ≡ dep_in t → dep' ≡ dep_locked mode dep (entry_in sh key) → row ≡ sh.rows key → ((u : ℕ) → blocks (entry_in sh key) w mode u ≡ false) → sh' ≡ shard_locked sh w key mode →

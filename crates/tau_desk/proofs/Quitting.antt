@@ -13,6 +13,22 @@ use Rattle.tau_txn.specs.Next as txn
 use Rattle.tau_txn.specs.Txn.{PlainTxn, leaves_in, worker_of}
 use Rattle.tau_core.specs.State.{Plain}
 use Rattle.tau_rule.specs.Steps.{StepsShard, next_worker}
+use Rattle.tau_txn.specs.declared.action.Action.{Action}
+use Rattle.tau_txn.specs.declared.action.Action.TheVariants as action
+use Rattle.tau_txn.specs.declared.action.ActionKind.TheVariants as kind
+use Rattle.tau_txn.specs.Narrow.{quit_at}
+use Rattle.tau_txn.specs.Next.{kind_of}
+
+-- an action that asks for no such thing is not a key to give back
+pub no-quit : (a : Action) (o : Option Key) → o ≡ quit_at a → ((l : Key) → o ≡ Some l → ⊥) → kind_of a ≡ kind.Quit → ⊥
+no-quit (action.Lock x m) o asked none e = cc
+no-quit (action.Quit x) o asked none e = none x asked
+no-quit (action.Commit size) o asked none e = cc
+no-quit action.Post o asked none e = cc
+no-quit (action.Free x write) o asked none e = cc
+no-quit (action.Done reply lv) o asked none e = cc
+no-quit action.LeftOver o asked none e = cc
+no-quit action.Nothing o asked none e = cc
 
 -- a call that holds a key is in hand already
 pub was-holding : (n : ℕ) (wk : Worker) (h : Hand) (x : Key) (mode : Mode) → (begun n wk).hand ≡ Some h → mode_of x h.held ≡ Some mode → (wk.hand ≡ Some h) × (begun n wk ≡ wk)

@@ -1,5 +1,5 @@
 -- A call that only read joins the committed ones: by its first free, or by its end, where it holds no key.
-use Rattle.std.proofs.Common.{◌≡◌, ℕ, Bool, true, false, List, [], ◌∷◌, ◌++◌, refl, sym, ap, ◌∙◌, subst, Option}
+use Rattle.std.proofs.Common.{◌≡◌, ◌≤◌, ℕ, Bool, true, false, List, [], ◌∷◌, ◌++◌, refl, sym, ap, ◌∙◌, subst, Option}
 use Rattle.std.specs.Prelude.{Some, None, is_some}
 use Rattle.tau_ack.specs.declared.Waiting.{Waiting}
 use Rattle.tau_model.specs.declared.committed.Committed.{Committed}
@@ -14,14 +14,15 @@ use Rattle.tau_machine.proofs.At.{at-same}
 use Rattle.tau_machine.proofs.Commits.{begun-committed}
 use Rattle.tau_machine.proofs.States.{again}
 use Rattle.tau_txn.specs.declared.action.Action.TheVariants as action
+use Rattle.tau_txn.specs.declared.action.ActionKind.TheVariants as kind
 use Rattle.tau_txn.specs.Next as txn
-use Rattle.tau_txn.specs.Next.{next_action, next_of}
+use Rattle.tau_txn.specs.Next.{kind_of, next_action, next_of}
 use Rattle.tau_proc.specs.declared.proc.Proc.{Proc}
 use Rattle.tau_txn.specs.declared.standing.Standing.{Standing}
 use Rattle.tau_txn.specs.declared.standing.Standing.TheVariants as standing
 use Rattle.tau_txn.specs.Hand.{PlainHand}
 use Rattle.tau_txn.specs.Read.{hand_of}
-use Rattle.tau_txn.specs.Txn.{PlainTxn, hand_in, number_by, number_in, shown, shown_of, worker_in, worker_of}
+use Rattle.tau_txn.specs.Txn.{PlainTxn, hand_in, has_joined, number_by, number_in, shown, shown_of, worker_in, worker_of}
 use Rattle.tau_core.specs.declared.state.Load.{Load}
 use Rattle.tau_core.specs.State.{Plain}
 use Rattle.tau_core.specs.View.{tickets}
@@ -32,9 +33,10 @@ use Rattle.tau_rule.specs.Steps.{Sat, next_worker}
 use Rattle.tau_rule.specs.Boxes.{BoxOf, StepsBox, with_box}
 use Rattle.tau_desk.specs.Acts.{HasEndedReading, HasFirstFreed}
 use Rattle.tau_desk.specs.Seats.{IsWorkerSeat}
-use Rattle.tau_desk.specs.Shares.{PlainWork, own_worker}
+use Rattle.tau_desk.specs.Shares.{FitsWork, PlainWork, own_worker}
 use Rattle.tau_desk.specs.Works.{joined_worker, told_joined, told_read_only}
 use Rattle.tau_desk.proofs.Committing.{seat-joined}
+use Rattle.tau_desk.proofs.Finishing.{done-hand}
 use Rattle.tau_desk.proofs.GoingOn.{begun-own, posts-placed, seat-shown, work-at}
 use Rattle.tau_desk.proofs.Reading.{told_read_only-is}
 
@@ -55,6 +57,10 @@ number-shown procs t hand act e r = by_case t.hand e ∙ ap (λ (a : Act theory.
     by_case : (o : Option PlainHand) → shown_of procs t.worker o ≡ Some hand → number_by o ≡ Some hand.call.number
     by_case None f = cc
     by_case (Some x) f = ap Some (at x.standing x f)
+
+-- for a call that ends, and has not joined the committed ones, there is room among them
+pub ended-room : (l : Load) (w : ℕ) (o : PlainWork) → FitsWork l w o → kind_of (next_action o.txn) ≡ kind.Done → has_joined o.txn ≡ false → 1 ≤ o.committed_room
+ended-room l w o f e unjoined = f.commits (done-hand o.txn e) unjoined
 
 -- after its first free
 pub seat-first : (origin : Plain) (m m' : Sat) (w : ℕ) (o : PlainWork) (t : PlainTxn) (kept : Committed) (cs : List Committed) (room : ℕ) (read : ℕ × List ℕ) (seen : List ℕ) → m.0.opened ≡ Some origin → IsWorkerSeat m w o read seen → m' ≡ (told_joined origin.load m.0 t kept, []) → cs ≡ o.committed ++ kept ∷ [] →

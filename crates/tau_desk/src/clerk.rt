@@ -1,5 +1,5 @@
 //! The clerk on its seat.
-ghost use Rattle.std.specs.Prelude.{◌≡◌, ◌<◌, ◌≤◌, IfNone, IfSome, Some, false, length, slice_index, slice_set};
+ghost use Rattle.std.specs.Prelude.{◌≡◌, ◌<◌, ◌≤◌, IfNone, IfSome, Some, false, true, length, slice_index, slice_set};
 ghost use Rattle.tau_ack.specs.Pending.{NoneCovered, TakesFirst};
 ghost use Rattle.tau_rule.specs.Positions.{sees_to};
 ghost use Rattle.tau_desk.specs.Manages.{AcksFirst, AcksNone, SeesOn};
@@ -35,17 +35,17 @@ impl ClerkSeat {
         ensures none { IfNone result (AcksNone desk.now.table.shared.key.value self.old worker self.new) }
     {
         let (outbox, mut pending) = take_box(rt, desk, &mut self.seat, worker);
-        match take_first(&mut pending, &self.seen) {
-            Some(call) => {
-                desk.give_acked(&mut self.seat, worker, outbox, pending, &call);
-                Some(call)
-            }
-            None => {
-                let part = Part::Outbox(outbox, pending);
-                desk.give_back(&mut self.seat, SHARDS + usize::from(worker), part);
-                None
-            }
+        let mut call = Waiting {
+            number: 0,
+            lv: Lv::zero(1),
+        };
+        if !take_first(&mut pending, &self.seen, &mut call) {
+            let part = Part::Outbox(outbox, pending);
+            desk.give_back(&mut self.seat, SHARDS + usize::from(worker), part);
+            return None;
         }
+        desk.give_acked(&mut self.seat, worker, outbox, pending, &call);
+        Some(call)
     }
 
     // How far it has seen a stream persisted.
@@ -90,12 +90,12 @@ impl ClerkSeat {
     }
 }
 
-/// The first call whose vector these positions cover, taken out. None exactly where no call is covered.
-fn take_first(pending: &mut Pending, seen: &Lv) -> Option<Waiting>
-    ensures first { IfSome result (λ w. TakesFirst seen.now pending.old.calls w pending.new.calls) }
-    ensures none { IfNone result (NoneCovered seen.now pending.old.calls) }
-    ensures unchanged { IfNone result (pending.new.calls ≡ pending.old.calls) }
+/// The first call whose vector these positions cover is taken out, and written there. Returns whether there was one.
+fn take_first(pending: &mut Pending, seen: &Lv, call: &mut Waiting) -> bool
+    ensures first { result ≡ true → TakesFirst seen.now pending.old.calls call.new pending.new.calls }
+    ensures none { result ≡ false → NoneCovered seen.now pending.old.calls }
+    ensures unchanged { result ≡ false → pending.new.calls ≡ pending.old.calls }
     ensures room { pending.old.room ≤ pending.new.room }
 {
-    pending.take_covered(seen)
+    pending.take_covered_into(seen, call)
 }

@@ -9,6 +9,7 @@ mod clerk_gives;
 mod closes;
 mod desk;
 mod joins;
+mod keeps;
 mod kept;
 mod laws;
 mod manager;
@@ -34,7 +35,4 @@ pub use name::{PartName, Role};
 pub use own_records::OwnRecords;
 pub use room::Room;
 pub use seat::{ClerkSeat, Head, ManagerSeat, Stock, Work, WorkerSeat};
-pub use work::{
-    Acted, commit, done, done_reading, first_free, free, lock, make_room, post, quit, take_outbox,
-    take_shard,
-};
+pub use work::Acted;

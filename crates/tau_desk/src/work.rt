@@ -1,29 +1,26 @@
 //! What a worker does on the desk.
-ghost use Rattle.std.specs.Prelude.{◌≡◌, ◌+◌, ◌<◌, ◌≤◌, [], ◌∷◌, None, Some, ℕ, is_some, length, true, false};
-ghost use Rattle.tau_machine.specs.Shard.{Shard as ShardOf};
+ghost use Rattle.std.specs.Prelude.{◌≡◌, ◌+◌, ◌<◌, ◌≤◌, [], ◌∷◌, None, Some, ℕ, is_some, true, false};
 ghost use Rattle.tau_shard.specs.Read.{shard_of};
-ghost use Rattle.tau_base.specs.declared.limits.TheConstants.{MAX_LSN, SHARDS};
-ghost use Rattle.tau_txn.specs.Txn.{PlainTxn, RunsBy, bytes_in, has_joined, number_in};
-ghost use Rattle.tau_rule.specs.Steps.{Agrees, IsReady, IsWorker, told, holding, shard_in, first_role};
-ghost use Rattle.tau_desk.specs.Acts.{FreedBy, HasEnded, HasPosted, IsPlaced, LockedBy, QuitBy};
+ghost use Rattle.tau_base.specs.declared.limits.TheConstants.{SHARDS};
+ghost use Rattle.tau_txn.specs.Txn.{PlainTxn, has_joined, number_in};
+ghost use Rattle.tau_rule.specs.Steps.{Agrees, IsReady, IsWorker, holding, shard_in, first_role};
+ghost use Rattle.tau_desk.specs.Acts.{FreedBy, HasEnded, HasPosted, LockedBy, QuitBy};
 ghost use Rattle.tau_rule.specs.Role.{Role as RoleOf};
-ghost use Rattle.tau_desk.specs.Works.{CommittedBy, EndedReadingBy, FirstFreedBy, told_room};
+ghost use Rattle.tau_desk.specs.Works.{told_room};
 ghost use Rattle.tau_rule.specs.Boxes.{box_in, told_box, IsToPost};
-ghost use Rattle.tau_rule.specs.Places.{IsToPlace, placed};
-ghost use Rattle.tau_txn.specs.Next.{IsCommit, kind_of, next_action};
+ghost use Rattle.tau_txn.specs.Next.{kind_of, next_action};
 ghost use Rattle.tau_rule.specs.declared.part.Part.{Part as PartOf};
 
 use crate::desk::Desk;
 use crate::room::Room;
 use std::sync::Wait;
 use tau_ack::Pending;
-use tau_base::{Lv, NoMemory, SHARDS, shard_of};
-use tau_model::Committed;
+use tau_base::{NoMemory, SHARDS, shard_of};
 use tau_outbox::Outbox;
 use tau_proc::Procs;
 use tau_rule::{Part, Seat};
 use tau_shard::{Shard, ShardRefusal};
-use tau_txn::{Action, ActionKind, Txn};
+use tau_txn::{ActionKind, Txn};
 
 /// What came of an action on a shard.
 #[derive(Clone, Copy)]
@@ -70,15 +67,15 @@ pub fn lock<R: Wait>(
     ensures step { LockedBy desk.now.table.shared.key.value seat.old.me txn.old seat.new.me txn.new result }
     ensures other { result ≡ Acted.Other → kind_of (next_action txn.old) ≡ ActionKind.Lock → ⊥ }
 {
-    let Action::Lock { key, mode } = txn.turn() else {
+    let Some((key, mode)) = txn.lock_asked() else {
         return Acted::Other;
     };
     let number = usize::from(shard_of(key));
     let mut shard = take_shard(rt, desk, seat, number);
-    let mut dep = txn.dep();
-    match shard.lock(worker, key, mode, &mut dep) {
-        Ok(value) => {
-            txn.granted(value, dep);
+    let mut dep = *txn.dep_ref();
+    match shard.lock_key(worker, key, mode, &mut dep) {
+        Ok(()) => {
+            txn.granted_by(shard.row(key), &dep);
             desk.give_shard(seat, number, shard, txn);
             Acted::Went
         }
@@ -112,13 +109,13 @@ pub fn free<R: Wait>(
     ensures step { FreedBy desk.now.table.shared.key.value seat.old.me txn.old seat.new.me txn.new result }
     ensures other { result ≡ Acted.Other → kind_of (next_action txn.old) ≡ ActionKind.Free → ⊥ }
 {
-    let Action::Free { key, write } = txn.turn() else {
+    let Some(key) = txn.free_asked() else {
         return Acted::Other;
     };
     let number = usize::from(shard_of(key));
     let mut shard = take_shard(rt, desk, seat, number);
-    let lv = txn.lv();
-    shard.free(worker, key, &lv, write);
+    let lv = txn.lv_ref();
+    shard.free_by(worker, key, lv, txn.written_at(key));
     txn.went(procs);
     desk.give_shard(seat, number, shard, txn);
     Acted::Went
@@ -141,7 +138,7 @@ pub fn quit<R: Wait>(
     ensures step { QuitBy desk.now.table.shared.key.value seat.old.me txn.old seat.new.me txn.new result }
     ensures other { result ≡ Acted.Other → kind_of (next_action txn.old) ≡ ActionKind.Quit → ⊥ }
 {
-    let Action::Quit { key } = txn.turn() else {
+    let Some(key) = txn.quit_asked() else {
         return Acted::Other;
     };
     let number = usize::from(shard_of(key));
@@ -150,52 +147,6 @@ pub fn quit<R: Wait>(
     txn.went(procs);
     desk.give_shard(seat, number, shard, txn);
     Acted::Went
-}
-
-/// The record of the call, which has all its keys, is made above this anchor, and gets its place: where it starts, and what is kept of the call, which has joined the committed ones. Out of memory, nothing has changed.
-pub fn commit(
-    desk: &Desk,
-    seat: &mut Seat,
-    worker: u8,
-    number: u32,
-    anchor: &Lv,
-    txn: &mut Txn,
-) -> Result<(u64, Committed), NoMemory>
-    requires own { seat.old.table_id ≡ desk.now.table.shared.table_id }
-    requires ready { IsReady desk.now.table.shared.key.value worker seat.old.me txn.old }
-    requires mode { txn.old.mode ≡ desk.now.table.shared.key.value.load.mode }
-    requires read { seat.old.me.0.read ≡ (number, anchor.now) }
-    requires wide { length anchor.now ≡ desk.now.table.shared.key.value.load.streams }
-    requires next { kind_of (next_action txn.old) ≡ ActionKind.Commit }
-    ensures own { (seat.new.table_id ≡ seat.old.table_id) × (seat.new.id ≡ seat.old.id) }
-    ensures step { CommittedBy desk.now.table.shared.key.value seat.old.me txn.old seat.new.me txn.new (number, anchor.now) result }
-{
-    let ActionKind::Commit = txn.kind() else {
-        unreachable!()
-    };
-    match txn.prepare(number, anchor) {
-        Err(_) => Err(NoMemory),
-        Ok(()) => Ok(place(desk, seat, worker, txn)),
-    }
-}
-
-/// The call, whose record is made, gets its place: where the record starts, and what is kept of the call.
-fn place(desk: &Desk, seat: &mut Seat, worker: u8, txn: &mut Txn) -> (u64, Committed)
-    requires own { seat.old.table_id ≡ desk.now.table.shared.table_id }
-    requires call { IsToPlace desk.now.table.shared.key.value worker seat.old.me txn.old }
-    requires runs { RunsBy desk.now.table.shared.key.value.load.procs txn.old }
-    requires next { IsCommit (next_action txn.old) }
-    ensures own { (seat.new.table_id ≡ seat.old.table_id) × (seat.new.id ≡ seat.old.id) }
-    ensures step { seat.new.me ≡ (placed desk.now.table.shared.key.value.load seat.old.me.0 txn.old result.0, seat.old.me.1) }
-    ensures small { result.0 + length (bytes_in txn.old) < MAX_LSN }
-    ensures call { IsPlaced desk.now.table.shared.key.value.load.procs txn.old txn.new result.0 result.1 }
-{
-    let start = desk.place(seat, worker, txn);
-    txn.placed(start);
-    let Some(kept) = txn.committed() else {
-        unreachable!()
-    };
-    (start, kept)
 }
 
 /// Takes the worker's outbox.
@@ -268,55 +219,15 @@ pub fn done<R: Wait>(
         unreachable!()
     };
     let (mut outbox, mut pending) = take_outbox(rt, desk, seat, worker);
-    let number = number_of(txn);
-    let lv = txn.lv();
-    pending.put(number, lv);
+    pending.put_from(number_of(txn), txn.lv_ref());
     txn.went(procs);
     room.records = more_records(&mut outbox, room.records);
     room.calls = more_calls(&mut pending, room.calls - 1);
     desk.give_outbox(seat, worker, outbox, pending, txn, *room);
 }
 
-/// The call, which only read, holds no key and has not joined the committed ones, joins them, and waits for its acknowledgement. Where room for the next call is missing, it is made.
-pub fn done_reading<R: Wait>(
-    rt: &R,
-    desk: &Desk,
-    seat: &mut Seat,
-    worker: u8,
-    procs: &Procs,
-    txn: &mut Txn,
-    room: &mut Room,
-) -> Committed
-    requires own { seat.old.table_id ≡ desk.now.table.shared.table_id }
-    requires procs { procs.now ≡ desk.now.table.shared.key.value.load.procs }
-    requires unjoined { has_joined txn.old ≡ false }
-    requires ready { IsReady desk.now.table.shared.key.value worker seat.old.me txn.old }
-    requires next { kind_of (next_action txn.old) ≡ ActionKind.Done }
-    requires room { ((first_role seat.old.me.0.roles).1.spare ≡ (room.old.records, room.old.calls)) × (1 ≤ room.old.calls) }
-    ensures own { (seat.new.table_id ≡ seat.old.table_id) × (seat.new.id ≡ seat.old.id) }
-    ensures step { EndedReadingBy desk.now.table.shared.key.value seat.old.me txn.old seat.new.me txn.new result (room.new.records, room.new.calls) }
-    ensures room { (room.old.records ≤ room.new.records) × (room.old.calls ≤ room.new.calls + 1) }
-{
-    let ActionKind::Done = txn.kind() else {
-        unreachable!()
-    };
-    let Some(kept) = txn.committed() else {
-        unreachable!()
-    };
-    let (mut outbox, mut pending) = take_outbox(rt, desk, seat, worker);
-    let number = number_of(txn);
-    let lv = txn.lv();
-    pending.put(number, lv);
-    txn.went(procs);
-    room.records = more_records(&mut outbox, room.records);
-    let calls = room.calls - 1;
-    room.calls = more_calls(&mut pending, calls);
-    desk.give_read_only(seat, worker, outbox, pending, txn, &kept, *room);
-    kept
-}
-
 /// The number of the call in hand.
-fn number_of(txn: &Txn) -> u64
+pub(crate) fn number_of(txn: &Txn) -> u64
     requires { is_some txn.now.hand ≡ true }
     ensures { Some result ≡ number_in txn.now }
 {
@@ -324,7 +235,7 @@ fn number_of(txn: &Txn) -> u64
 }
 
 /// Where there is no room for a record, it is made.
-fn more_records(outbox: &mut Outbox, room: usize) -> usize
+pub(crate) fn more_records(outbox: &mut Outbox, room: usize) -> usize
     requires { room ≤ outbox.old.room }
     ensures pieces { outbox.new.pieces ≡ outbox.old.pieces }
     ensures kept { room ≤ result }
@@ -340,7 +251,7 @@ fn more_records(outbox: &mut Outbox, room: usize) -> usize
 }
 
 /// Where there is no room for a call that waits, it is made.
-fn more_calls(pending: &mut Pending, room: usize) -> usize
+pub(crate) fn more_calls(pending: &mut Pending, room: usize) -> usize
     requires { room ≤ pending.old.room }
     ensures calls { pending.new.calls ≡ pending.old.calls }
     ensures kept { room ≤ result }
@@ -400,37 +311,4 @@ pub(crate) fn is_roomy(room: Room) -> bool
         return false;
     }
     room.calls > 0
-}
-
-/// The worker, whose call only read and has not joined the committed ones, frees its lowest key; the call joins them by that.
-pub fn first_free<R: Wait>(
-    rt: &R,
-    desk: &Desk,
-    seat: &mut Seat,
-    worker: u8,
-    procs: &Procs,
-    txn: &mut Txn,
-) -> Option<Committed>
-    requires own { seat.old.table_id ≡ desk.now.table.shared.table_id }
-    requires procs { procs.now ≡ desk.now.table.shared.key.value.load.procs }
-    requires small { worker < 32 }
-    requires unjoined { has_joined txn.old ≡ false }
-    requires ready { IsReady desk.now.table.shared.key.value worker seat.old.me txn.old }
-    ensures own { (seat.new.table_id ≡ seat.old.table_id) × (seat.new.id ≡ seat.old.id) }
-    ensures step { FirstFreedBy desk.now.table.shared.key.value seat.old.me txn.old seat.new.me txn.new result }
-    ensures other { result ≡ None → kind_of (next_action txn.old) ≡ ActionKind.Free → ⊥ }
-{
-    let Action::Free { key, write } = txn.turn() else {
-        return None;
-    };
-    let Some(kept) = txn.committed() else {
-        unreachable!()
-    };
-    let number = usize::from(shard_of(key));
-    let mut shard = take_shard(rt, desk, seat, number);
-    let vector = txn.lv();
-    shard.free(worker, key, &vector, write);
-    txn.went(procs);
-    desk.give_first(seat, number, shard, txn, &kept);
-    Some(kept)
 }

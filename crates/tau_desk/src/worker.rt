@@ -14,8 +14,8 @@ ghost use Rattle.tau_desk.specs.Works.{BeginsIn, CommitsOn, EndsOn, EndsReadingO
 use crate::desk::Desk;
 use crate::mark::Mark;
 use crate::seat::{Work, WorkerSeat};
-use crate::work;
 use crate::work::Acted;
+use crate::{keeps, work};
 use std::sync::Wait;
 use tau_base::{Call, NoMemory};
 use tau_model::Committed;
@@ -131,21 +131,19 @@ impl WorkerSeat {
         if !self.work.txn.in_hand() {
             return Acted::Other;
         }
-        match work::first_free(
+        if !keeps::first_free(
             rt,
             desk,
             &mut self.seat,
             self.worker,
             &desk.load.procs,
             &mut self.work.txn,
+            &mut self.work.committed,
         ) {
-            Some(kept) => {
-                keep(&mut self.work.committed, kept);
-                self.work.mark = None;
-                Acted::Went
-            }
-            None => Acted::Other,
+            return Acted::Other;
         }
+        self.work.mark = None;
+        Acted::Went
     }
 
     /// The record of the call in hand, which has all its keys and writes, is made above the anchor that the seat read last, and gets its place; the call has joined the committed ones. NoMemory also where the outbox has no room for a record, which `make_room` makes. After that nothing has changed.
@@ -162,16 +160,16 @@ impl WorkerSeat {
         if self.work.room.records == 0 {
             return Acted::NoMemory;
         }
-        match work::commit(
+        match keeps::commit(
             desk,
             &mut self.seat,
             self.worker,
             self.anchor,
             &self.anchor_lv,
             &mut self.work.txn,
+            &mut self.work.committed,
         ) {
-            Ok((start, kept)) => {
-                keep(&mut self.work.committed, kept);
+            Ok(start) => {
                 self.work.start = start;
                 self.work.mark = None;
                 Acted::Went
@@ -230,7 +228,7 @@ impl WorkerSeat {
         ensures step { EndsReadingOn desk.now.table.shared.key.value.load self.old self.new }
         ensures seat { IsSameSeat self.old self.new }
     {
-        let kept = work::done_reading(
+        keeps::done_reading(
             rt,
             desk,
             &mut self.seat,
@@ -238,8 +236,8 @@ impl WorkerSeat {
             &desk.load.procs,
             &mut self.work.txn,
             &mut self.work.room,
+            &mut self.work.committed,
         );
-        keep(&mut self.work.committed, kept);
         self.work.mark = None;
     }
 
@@ -336,8 +334,8 @@ fn begin_next(work: &mut Work, desk: &Desk) -> Result<bool, NoMemory>
     match reserve(work) {
         Err(error) => Err(error),
         Ok(()) => {
-            let call = &desk.load.calls.as_slice()[(number - 1) as usize];
-            start(work, &desk.load.procs, number, call, desk.load.workers);
+            let call = desk.load.calls.call_at((number - 1) as usize);
+            start(work, &desk.load.procs, number, &call, desk.load.workers);
             Ok(true)
         }
     }
@@ -393,15 +391,6 @@ fn start(work: &mut Work, procs: &Procs, number: u64, call: &Call, workers: usiz
     work.again = None;
 }
 
-/// What is kept of a call that has joined the committed ones stands last. It takes no memory.
-fn keep(committed: &mut Vec<Committed>, kept: Committed)
-    requires { 1 ≤ vec_capacity committed.old - vec_len committed.old }
-    ensures items { committed.new.items ≡ committed.old.items ++ kept ∷ [] }
-    ensures room { vec_capacity committed.old - vec_len committed.old ≤ (vec_capacity committed.new - vec_len committed.new) + 1 }
-{
-    let _ = committed.push(kept);
-}
-
 /// The call in hand, which holds keys, from now on only gives them back.
 fn give_back_keys(txn: &mut Txn)
     requires unjoined { has_joined txn.old ≡ false }
@@ -431,9 +420,9 @@ fn leave(work: &mut Work, procs: &Procs)
     requires room { is_some work.old.txn.hand ≡ true → 1 ≤ work.old.left_room }
     ensures { Leaves work.old work.new }
 {
-    let Action::LeftOver = work.txn.turn() else {
+    if !work.txn.is_left_over() {
         return;
-    };
+    }
     if let Some(number) = work.txn.number() {
         work.left.push(number);
     }

@@ -1,6 +1,5 @@
-use Rattle.std.proofs.Common.{◌<◌, ◌-◌, ◌≡◌, List, length, refl, sym, ap, subst, ◌∙◌, arith}
-use Rattle.std.specs.Prelude.{Some, IsTrue, slice_get}
-use Rattle.std.proofs.lemmas.Option.{slice_get_read}
+use Rattle.std.proofs.Common.{◌≡◌, refl, sym, ap, subst, ◌∙◌, arith}
+use Rattle.std.specs.Prelude.{Some, IsTrue}
 use Rattle.tau_base.specs.declared.value.Call.{Call}
 use Rattle.tau_proc.specs.Takes.{takes}
 use Rattle.tau_core.specs.Plain.{PlainSeat}
@@ -8,28 +7,18 @@ use Rattle.tau_core.proofs.Found.{found-whole}
 use Rattle.tau_core.proofs.Numbers.{next-is}
 use Rattle.tau_core.proofs.begin.begin_call.Goals as goal
 
-pub overflow_sub-call : goal.overflow_sub-call
-overflow_sub-call c =
+pub overflow_sub-number : goal.overflow_sub-number
+overflow_sub-number c =
     let is = found-whole c.args.state.now c.args.worker c.index_mut-seat.result.now c.requires.sound c.requires.there c.index_mut-seat.ensures.value in
     let o = c.requires.sound.seat c.args.worker c.index_mut-seat.result.now is in
     let n = next-is c.args.state.now.load c.args.worker c.index_mut-seat.result.now c.args.number o (c.requires.next c.index_mut-seat.result.now is) in
     n.low
 
-pub offset_bounds-as_slice-number : goal.offset_bounds-as_slice-number
-offset_bounds-as_slice-number c =
+pub call_at-call-requires : goal.call_at-call-requires
+call_at-call-requires c =
     let is = found-whole c.args.state.now c.args.worker c.index_mut-seat.result.now c.requires.sound c.requires.there c.index_mut-seat.ensures.value in
     let o = c.requires.sound.seat c.args.worker c.index_mut-seat.result.now is in
     let n = next-is c.args.state.now.load c.args.worker c.index_mut-seat.result.now c.args.number o (c.requires.next c.index_mut-seat.result.now is) in
-    let few = c.requires.sound.few in
-    let high = n.high in
-    omega arith
-
-pub bounds-as_slice-number : goal.bounds-as_slice-number
-bounds-as_slice-number c =
-    let is = found-whole c.args.state.now c.args.worker c.index_mut-seat.result.now c.requires.sound c.requires.there c.index_mut-seat.ensures.value in
-    let o = c.requires.sound.seat c.args.worker c.index_mut-seat.result.now is in
-    let n = next-is c.args.state.now.load c.args.worker c.index_mut-seat.result.now c.args.number o (c.requires.next c.index_mut-seat.result.now is) in
-    let e = ap (length {A = Call}) c.as_slice.ensures in
     let high = n.high in
     let low = n.low in
     omega arith
@@ -63,12 +52,8 @@ start-requires-clause-takes c =
     let is = found-whole c.args.state.now c.args.worker c.index_mut-seat.result.now c.requires.sound c.requires.there c.index_mut-seat.ensures.value in
     let o = c.requires.sound.seat c.args.worker c.index_mut-seat.result.now is in
     let n = next-is c.args.state.now.load c.args.worker c.index_mut-seat.result.now c.args.number o (c.requires.next c.index_mut-seat.result.now is) in
-    let calls = c.as_slice.ensures in
-    let within : c.args.number - 1 < length c.as_slice.result.now = (let e = ap (length {A = Call}) calls in let high = n.high in let low = n.low in omega arith) in
-    let got : slice_get c.as_slice.result.now (c.args.number - 1) ≡ Some c.index-as_slice-number.result =
-    slice_get_read c.as_slice.result.now (length c.as_slice.result.now) (c.args.number - 1) c.index-as_slice-number.result refl within c.index-as_slice-number.is in
-    let same : n.call ≡ c.index-as_slice-number.result =
-    (let f : Some n.call ≡ Some c.index-as_slice-number.result = sym n.got ∙ ap (λ (l : List Call). slice_get l (c.args.number - 1)) (sym calls) ∙ got in cc) in
+    let same : n.call ≡ c.call_at-call.result =
+    (let f : Some n.call ≡ Some c.call_at-call.result = sym n.got ∙ c.call_at-call.ensures in cc) in
     subst (λ (x : Call). IsTrue (takes c.args.state.now.load.procs x)) same (c.requires.sound.takes c.args.number n.call n.is)
 
 pub returns-clause-begins : goal.returns-clause-begins
@@ -76,16 +61,12 @@ returns-clause-begins c =
     let is = found-whole c.args.state.now c.args.worker c.index_mut-seat.result.now c.requires.sound c.requires.there c.index_mut-seat.ensures.value in
     let o = c.requires.sound.seat c.args.worker c.index_mut-seat.result.now is in
     let n = next-is c.args.state.now.load c.args.worker c.index_mut-seat.result.now c.args.number o (c.requires.next c.index_mut-seat.result.now is) in
-    let calls = c.as_slice.ensures in
-    let within : c.args.number - 1 < length c.as_slice.result.now = (let e = ap (length {A = Call}) calls in let high = n.high in let low = n.low in omega arith) in
-    let got : slice_get c.as_slice.result.now (c.args.number - 1) ≡ Some c.index-as_slice-number.result =
-    slice_get_read c.as_slice.result.now (length c.as_slice.result.now) (c.args.number - 1) c.index-as_slice-number.result refl within c.index-as_slice-number.is in
-    let same : n.call ≡ c.index-as_slice-number.result =
-    (let f : Some n.call ≡ Some c.index-as_slice-number.result = sym n.got ∙ ap (λ (l : List Call). slice_get l (c.args.number - 1)) (sym calls) ∙ got in cc) in
+    let same : n.call ≡ c.call_at-call.result =
+    (let f : Some n.call ≡ Some c.call_at-call.result = sym n.got ∙ c.call_at-call.ensures in cc) in
     record {
       seat = c.index_mut-seat.result.now;
       new = c.start.new.seat;
-      call = c.index-as_slice-number.result;
+      call = c.call_at-call.result;
       is = is;
       call_is = n.is ∙ ap Some same;
       begun = c.start.ensures.begun;

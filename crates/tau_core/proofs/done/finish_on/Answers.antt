@@ -21,8 +21,14 @@ returns-in_default c =
     let m = at.3 in
     absurd (c.in_default.not-Some m.act.call.call.number (c.number.ensures ∙ number-freed c.args.state.now.load.procs c.seat.inside.txn m.hand m.act m.is (freeing-on c.args.state.now.load.procs (has_joined c.seat.inside.txn) c.seat.inside.txn.worker m.hand m.act (c.requires.joined (seat_in c.seat.inside) is) m.act_is)))
 
-pub put-requires : goal.put-requires
-put-requires c =
+pub lv_ref-vector-requires : goal.lv_ref-vector-requires
+lv_ref-vector-requires c =
+    let is = found-seat c.args.state.now c.args.worker c.index_mut-seat.result.now c.seat.inside c.requires.sound c.requires.there c.index_mut-seat.ensures.value c.seat.view_is in
+    let m = (c.requires.at (seat_in c.seat.inside) is).3 in
+    some-hand c.args.state.now.load.procs c.seat.inside.txn m.hand m.is
+
+pub put_from-requires : goal.put_from-requires
+put_from-requires c =
     let is = found-seat c.args.state.now c.args.worker c.index_mut-seat.result.now c.seat.inside c.requires.sound c.requires.there c.index_mut-seat.ensures.value c.seat.view_is in
     let o = c.requires.sound.seat c.args.worker (seat_in c.seat.inside) is in
     let at = c.requires.at (seat_in c.seat.inside) is in
@@ -52,13 +58,13 @@ returns c =
     let at = c.requires.at (seat_in c.seat.inside) is in
     let m = at.3 in
     let p : Plain = plain c.args.state.now in
-    let new : PlainSeat = record (seat_in c.seat.inside) { txn = c.went.new.self; pending = c.put.new.self } in
+    let new : PlainSeat = record (seat_in c.seat.inside) { txn = c.went.new.self; pending = c.put_from.new.self } in
     let empty = c.went.ensures.done at.0 at.1 at.2 in
     let gone = hand-gone c.args.state.now.load.procs c.went.new.self empty in
-    let vector : c.lv-vector.result ≡ lv_of m.act = c.lv-vector.ensures.frees c.args.state.now.load.procs m.hand m.act o.runs m.is m.act_is in
+    let vector : c.lv_ref-vector.result.now ≡ lv_of m.act = c.lv_ref-vector.ensures.frees c.args.state.now.load.procs m.hand m.act o.runs m.is m.act_is in
     let number : c.in-Some.number ≡ m.act.call.call.number =
     (let e : Some c.in-Some.number ≡ Some m.act.call.call.number = sym c.in-Some.is ∙ c.number.ensures ∙ number-freed c.args.state.now.load.procs c.seat.inside.txn m.hand m.act m.is (freeing-on c.args.state.now.load.procs (has_joined c.seat.inside.txn) c.seat.inside.txn.worker m.hand m.act (c.requires.joined (seat_in c.seat.inside) is) m.act_is) in cc) in
-    let sound = sound-gone c.args.state.now.load c.args.worker (seat_in c.seat.inside) c.went.new.self c.put.new.self o c.went.ensures.same empty in
+    let sound = sound-gone c.args.state.now.load c.args.worker (seat_in c.seat.inside) c.went.new.self c.put_from.new.self o c.went.ensures.same empty in
     record {
       seat = seat_in c.seat.inside;
       hand = m.hand;
@@ -71,7 +77,7 @@ returns c =
       joins = joins-on c.args.state.now.load c.args.worker m.hand m.act (has_joined c.seat.inside.txn) c.seat.inside.txn o.worker (c.requires.joined (seat_in c.seat.inside) is) m.act_is;
       held = m.held;
       gone = gone;
-      waits = c.put.ensures.calls ∙ (λ i. c.seat.inside.pending.calls ++ record { number = number i; lv = vector i } ∷ []);
+      waits = c.put_from.ensures.calls ∙ (λ i. c.seat.inside.pending.calls ++ record { number = number i; lv = vector i } ∷ []);
       others = refl;
       sound = sound;
       rooms = rooms-on p c.args.worker (seat_in c.seat.inside) new m.hand m.act is m.is (none-open c.args.state.now.load new gone) c.requires.sound.room;

@@ -2,33 +2,37 @@ use Rattle.std.proofs.Common.{◌≡◌, refl, sym, ap, subst, ◌∙◌}
 use Rattle.std.specs.Prelude.{Some}
 use Rattle.tau_txn.specs.declared.action.Action.{Action}
 use Rattle.tau_txn.specs.declared.action.Action.TheVariants as action
-use Rattle.tau_txn.specs.Next.{next_action, Means}
+use Rattle.tau_txn.specs.Next.{next_action, Frees}
+use Rattle.tau_txn.specs.Narrow.{written_in}
 use Rattle.tau_core.specs.Plain.{PlainSeat}
 use Rattle.tau_txn.specs.Txn.{hand_in}
-use Rattle.tau_core.specs.Phases.{hand_phase}
+use Rattle.tau_core.specs.Phases.{hand_phase, phase_of_kind}
 use Rattle.tau_core.proofs.PhaseLaws.{means-phase}
 use Rattle.tau_core.proofs.Found.{seat_in, found-seat}
 use Rattle.tau_core.proofs.Elsewhere.{elsewhere-free}
+use Rattle.tau_core.proofs.ActionKinds.{phase-kind}
 use Rattle.tau_core.proofs.free.free.Goals as goal
 
 pub free_key-requires-clause-at : goal.free_key-requires-clause-at
-free_key-requires-clause-at c = λ s e.
+free_key-requires-clause-at c = λ s e t f.
     let is = found-seat c.args.state.now c.args.worker c.index-seat.result.now c.seat.inside c.requires.stood.2.sound c.requires.there c.index-seat.ensures c.seat.view_is in
     let o = c.requires.stood.2.sound.seat c.args.worker (seat_in c.seat.inside) is in
-    let same : seat_in c.seat.inside ≡ s = (let f : Some (seat_in c.seat.inside) ≡ Some s = sym is ∙ e in cc) in
-    let asked = c.turn.ensures.asked in
-    let means : Means c.args.state.now.load.procs c.seat.inside.txn (action.Free c.in-Free.key c.in-Free.write) =
-    subst (λ (a : Action). Means c.args.state.now.load.procs c.seat.inside.txn a) c.in-Free.is (c.turn.ensures.means c.args.state.now.load.procs o.runs) in
-    subst (λ (x : PlainSeat). (next_action x.txn ≡ action.Free c.in-Free.key c.in-Free.write) × Means c.args.state.now.load.procs x.txn (action.Free c.in-Free.key c.in-Free.write)) same
-    (sym asked ∙ c.in-Free.is, means)
+    let same : seat_in c.seat.inside ≡ s = (let g : Some (seat_in c.seat.inside) ≡ Some s = sym is ∙ e in cc) in
+    let other : seat_in c.seat.inside ≡ t = (let g : Some (seat_in c.seat.inside) ≡ Some t = sym is ∙ f in cc) in
+    subst
+    (λ (x : PlainSeat × PlainSeat).
+    (next_action x.1.txn ≡ action.Free c.in-Some.key (written_in x.0.txn c.in-Some.key)) × Frees c.args.state.now.load.procs x.1.txn c.in-Some.key (written_in x.0.txn c.in-Some.key)) (λ i. (same i, other i))
+    (c.in-Some.ensures.next, c.in-Some.ensures.means c.args.state.now.load.procs o.runs)
 
-pub returns-in_default : goal.returns-in_default
-returns-in_default c = (
+pub returns-in-None : goal.returns-in-None
+returns-in-None c = (
   refl,
   λ s e.
       let is = found-seat c.args.state.now c.args.worker c.index-seat.result.now c.seat.inside c.requires.stood.2.sound c.requires.there c.index-seat.ensures c.seat.view_is in
       let same : seat_in c.seat.inside ≡ s = (let f : Some (seat_in c.seat.inside) ≡ Some s = sym is ∙ e in cc) in
       let o = c.requires.stood.2.sound.seat c.args.worker (seat_in c.seat.inside) is in
-      let phase = means-phase c.args.state.now.load.procs c.seat.inside.txn c.turn.result (c.turn.ensures.means c.args.state.now.load.procs o.runs) o.leaving o.stays in
-      (c.phase_of.ensures ∙ sym phase ∙ ap (λ (x : PlainSeat). hand_phase c.args.state.now.load.procs (hand_in c.args.state.now.load.procs x.txn)) same, λ f. elsewhere-free c.turn.result c.in_default.not-Free (sym c.phase_of.ensures ∙ f)),
+      let next : Action = next_action c.seat.inside.txn in
+      let phase = means-phase c.args.state.now.load.procs c.seat.inside.txn next (c.kind.ensures.means c.args.state.now.load.procs o.runs) o.leaving o.stays in
+      let told = c.phase_of_kind.ensures ∙ ap phase_of_kind c.kind.ensures.kind ∙ sym (phase-kind next) in
+      (told ∙ sym phase ∙ ap (λ (x : PlainSeat). hand_phase c.args.state.now.load.procs (hand_in c.args.state.now.load.procs x.txn)) same, λ f. elsewhere-free next c.in-None.ensures.other (sym told ∙ f)),
 )

@@ -1,5 +1,5 @@
-use Rattle.std.proofs.Common.{ℕ, ◌≡◌, ◌<◌, ◌-◌, List, [], ◌∷◌, ◌++◌, refl, sym, ap, subst, ◌∙◌, Option, arith}
-use Rattle.std.specs.Prelude.{Some, IsSome, slice_get, slice_set, vec_capacity, vec_len}
+use Rattle.std.proofs.Common.{ℕ, ◌≡◌, ◌<◌, ◌-◌, List, [], ◌∷◌, refl, sym, ap, subst, ◌∙◌, Option, arith}
+use Rattle.std.specs.Prelude.{None, Some, IsSome, slice_get, slice_set, vec_capacity, vec_len}
 use Rattle.std.specs.Map.{lookup}
 use Rattle.tau_base.specs.Database.{same_key}
 use Rattle.tau_base.specs.declared.limits.TheConstants.{SHARDS}
@@ -9,6 +9,7 @@ use Rattle.tau_base.specs.Shards.{shard_number}
 use Rattle.tau_model.specs.declared.committed.Committed.{Committed}
 use Rattle.tau_txn.specs.declared.action.Action.{Action}
 use Rattle.tau_txn.specs.Txn.{has_joined}
+use Rattle.tau_txn.specs.Narrow.{written_in}
 use Rattle.tau_txn.specs.Next.{IsForWent}
 use Rattle.tau_machine.specs.Hands.{Hand, Freeing, lv_of, committed_of}
 use Rattle.tau_machine.specs.Shard.{shard_freed}
@@ -17,27 +18,35 @@ use Rattle.tau_shard.specs.Read.{shard_of}
 use Rattle.tau_core.specs.Plain.{PlainSeat}
 use Rattle.tau_core.specs.State.{Plain, plain}
 use Rattle.tau_core.proofs.Found.{seat_in, found-seat, found-shard}
-use Rattle.tau_core.proofs.Hands.{sound-on}
-use Rattle.tau_core.proofs.Holders.{holds, writes-held}
-use Rattle.tau_core.proofs.Joins.{kept-is, joins-new, joined-none, reads-phase, rooms-new, room-new}
+use Rattle.tau_core.proofs.Hands.{some-hand, sound-on}
+use Rattle.tau_core.proofs.Holders.{copied-some, holds, writes-held}
+use Rattle.tau_core.proofs.Joins.{kept-into, joins-new, none-open, joined-none, reads-phase, rooms-new, room-new}
 use Rattle.tau_core.proofs.free.free_first.Goals as goal
 
-pub returns-in_default : goal.returns-in_default
-returns-in_default c =
+pub commit_into-requires : goal.commit_into-requires
+commit_into-requires c =
     let g = c.requires.stood in
     let is = found-seat c.args.state.now c.args.worker c.index_mut-seat.result.now c.seat.inside g.2.sound c.requires.there c.index_mut-seat.ensures.value c.seat.view_is in
-    let o = g.2.sound.seat c.args.worker (seat_in c.seat.inside) is in
-    let at = c.requires.at (seat_in c.seat.inside) is in
-    let m = at.1 in
-    absurd (c.in_default.not-Some (committed_of m.act) (kept-is c.args.state.now.load.procs c.seat.inside.txn m.hand m.act (has_joined c.seat.inside.txn) c.committed.result m.act_is
-    (λ a e. c.committed.ensures.joined c.args.state.now.load.procs m.hand a o.runs m.is e) (λ a e. c.committed.ensures.reading c.args.state.now.load.procs m.hand a o.runs m.is e)))
+    let m = (c.requires.at (seat_in c.seat.inside) is (seat_in c.seat.inside) is).1 in
+    let let_go : PlainSeat = record (seat_in c.seat.inside) { txn = record c.seat.inside.txn { hand = None } } in
+    record {
+      room = room-new (plain c.args.state.now) c.args.worker (seat_in c.seat.inside) let_go m.hand m.act is m.is (none-open c.args.state.now.load let_go refl)
+          (reads-phase c.args.state.now.load.procs (has_joined c.seat.inside.txn) c.seat.inside.txn.worker m.hand m.act (c.requires.joined (seat_in c.seat.inside) is) m.act_is) g.2.sound.room;
+    }
 
-pub free-requires-clause-held : goal.free-requires-clause-held
-free-requires-clause-held c =
+pub lv_ref-requires : goal.lv_ref-requires
+lv_ref-requires c =
+    let g = c.requires.stood in
+    let is = found-seat c.args.state.now c.args.worker c.index_mut-seat.result.now c.seat.inside g.2.sound c.requires.there c.index_mut-seat.ensures.value c.seat.view_is in
+    let m = (c.requires.at (seat_in c.seat.inside) is (seat_in c.seat.inside) is).1 in
+    some-hand c.args.state.now.load.procs c.seat.inside.txn m.hand m.is
+
+pub free_by-requires-clause-held : goal.free_by-requires-clause-held
+free_by-requires-clause-held c =
     let g = c.requires.stood in
     let is = found-seat c.args.state.now c.args.worker c.index_mut-seat.result.now c.seat.inside g.2.sound c.requires.there c.index_mut-seat.ensures.value c.seat.view_is in
     let o = g.2.sound.seat c.args.worker (seat_in c.seat.inside) is in
-    let at = c.requires.at (seat_in c.seat.inside) is in
+    let at = c.requires.at (seat_in c.seat.inside) is (seat_in c.seat.inside) is in
     let m = at.1 in
     let below : c.from.result < SHARDS = (let e = c.from.ensures in let f = c.shard_of.ensures.small in omega arith) in
     let shard = found-shard c.args.state.now c.from.result c.index_mut-part.result.now g.2.sound below c.index_mut-part.ensures.value in
@@ -45,12 +54,12 @@ free-requires-clause-held c =
     let shard_is = subst (λ (n : ℕ). slice_get c.args.state.now.shards.items n ≡ Some c.index_mut-part.result.now) number shard in
     subst (λ (x : Option Mode). IsSome x) (sym (holds (plain c.args.state.now) g.0 g.1 g.2 c.args.worker (seat_in c.seat.inside) m.hand c.index_mut-part.result.now c.args.key m.mode is m.is shard_is m.held)) refl
 
-pub free-requires-clause-writes : goal.free-requires-clause-writes
-free-requires-clause-writes c =
+pub free_by-requires-clause-writes : goal.free_by-requires-clause-writes
+free_by-requires-clause-writes c =
     let g = c.requires.stood in
     let is = found-seat c.args.state.now c.args.worker c.index_mut-seat.result.now c.seat.inside g.2.sound c.requires.there c.index_mut-seat.ensures.value c.seat.view_is in
     let o = g.2.sound.seat c.args.worker (seat_in c.seat.inside) is in
-    let at = c.requires.at (seat_in c.seat.inside) is in
+    let at = c.requires.at (seat_in c.seat.inside) is (seat_in c.seat.inside) is in
     let m = at.1 in
     let below : c.from.result < SHARDS = (let e = c.from.ensures in let f = c.shard_of.ensures.small in omega arith) in
     let shard = found-shard c.args.state.now c.from.result c.index_mut-part.result.now g.2.sound below c.index_mut-part.ensures.value in
@@ -58,14 +67,14 @@ free-requires-clause-writes c =
     let shard_is = subst (λ (n : ℕ). slice_get c.args.state.now.shards.items n ≡ Some c.index_mut-part.result.now) number shard in
     λ some. holds (plain c.args.state.now) g.0 g.1 g.2 c.args.worker (seat_in c.seat.inside) m.hand c.index_mut-part.result.now c.args.key m.mode is m.is shard_is m.held
     ∙ ap Some (writes-held (plain c.args.state.now) g.0 g.1 g.2 c.args.worker (seat_in c.seat.inside) m.hand m.act c.args.key m.mode (has_joined c.seat.inside.txn) is m.is m.act_is m.held
-    (subst (λ (x : Option Value). IsSome x) m.write_is some))
+    (subst (λ (x : Option Value). IsSome x) (c.written_at.ensures ∙ m.write_is) (copied-some c.written_at.result some)))
 
 pub went-requires-clause-rest : goal.went-requires-clause-rest
 went-requires-clause-rest c =
     let g = c.requires.stood in
     let is = found-seat c.args.state.now c.args.worker c.index_mut-seat.result.now c.seat.inside g.2.sound c.requires.there c.index_mut-seat.ensures.value c.seat.view_is in
     let o = g.2.sound.seat c.args.worker (seat_in c.seat.inside) is in
-    let at = c.requires.at (seat_in c.seat.inside) is in
+    let at = c.requires.at (seat_in c.seat.inside) is (seat_in c.seat.inside) is in
     let m = at.1 in
     subst (λ (a : Action). IsForWent a) (sym at.0) tt
 
@@ -74,39 +83,16 @@ went-requires-clause-run c =
     let g = c.requires.stood in
     let is = found-seat c.args.state.now c.args.worker c.index_mut-seat.result.now c.seat.inside g.2.sound c.requires.there c.index_mut-seat.ensures.value c.seat.view_is in
     let o = g.2.sound.seat c.args.worker (seat_in c.seat.inside) is in
-    let at = c.requires.at (seat_in c.seat.inside) is in
+    let at = c.requires.at (seat_in c.seat.inside) is (seat_in c.seat.inside) is in
     let m = at.1 in
     o.runs
-
-pub keep-requires : goal.keep-requires
-keep-requires c =
-    let g = c.requires.stood in
-    let is = found-seat c.args.state.now c.args.worker c.index_mut-seat.result.now c.seat.inside g.2.sound c.requires.there c.index_mut-seat.ensures.value c.seat.view_is in
-    let o = g.2.sound.seat c.args.worker (seat_in c.seat.inside) is in
-    let at = c.requires.at (seat_in c.seat.inside) is in
-    let m = at.1 in
-    let below : c.from.result < SHARDS = (let e = c.from.ensures in let f = c.shard_of.ensures.small in omega arith) in
-    let shard = found-shard c.args.state.now c.from.result c.index_mut-part.result.now g.2.sound below c.index_mut-part.ensures.value in
-    let number : c.from.result ≡ shard_number c.args.key = c.from.ensures ∙ c.shard_of.ensures.same in
-    let shard_is = subst (λ (n : ℕ). slice_get c.args.state.now.shards.items n ≡ Some c.index_mut-part.result.now) number shard in
-    let p : Plain = plain c.args.state.now in
-    let new : PlainSeat = record (seat_in c.seat.inside) { txn = c.went.new.self } in
-    let k : Hand = hand_freed (hand_joined m.hand (Freeing m.act) m.hand.dep) c.args.key in
-    let left = c.went.ensures.freed m.hand m.act c.args.key c.args.write at.0 m.is m.act_is in
-    let kept : c.in-Some.kept ≡ committed_of m.act =
-    (let e : Some c.in-Some.kept ≡ Some (committed_of m.act) = sym c.in-Some.is ∙ kept-is c.args.state.now.load.procs c.seat.inside.txn m.hand m.act (has_joined c.seat.inside.txn) c.committed.result m.act_is
-    (λ a e. c.committed.ensures.joined c.args.state.now.load.procs m.hand a o.runs m.is e) (λ a e. c.committed.ensures.reading c.args.state.now.load.procs m.hand a o.runs m.is e) in cc) in
-    let frees : shard_of c.free.new.self ≡ shard_freed (shard_of c.index_mut-part.result.now) c.args.worker c.args.key (lv_of m.act) (lookup (same_key c.args.key) m.act.effect.writes) =
-    c.free.ensures ∙ (λ i. shard_freed (shard_of c.index_mut-part.result.now) c.args.worker c.args.key (kept i).lv (m.write_is i)) in
-    let sound = sound-on c.args.state.now.load c.args.worker (seat_in c.seat.inside) new m.hand k o m.is refl c.went.ensures.same left refl c.went.ensures.runs (c.went.ensures.stays o.leaving) refl in
-    room-new p c.args.worker (seat_in c.seat.inside) new m.hand m.act is m.is (joined-none c.args.state.now.load new k m.act left refl) (reads-phase c.args.state.now.load.procs (has_joined c.seat.inside.txn) c.seat.inside.txn.worker m.hand m.act (c.requires.joined (seat_in c.seat.inside) is) m.act_is) g.2.sound.room
 
 pub returns : goal.returns
 returns c =
     let g = c.requires.stood in
     let is = found-seat c.args.state.now c.args.worker c.index_mut-seat.result.now c.seat.inside g.2.sound c.requires.there c.index_mut-seat.ensures.value c.seat.view_is in
     let o = g.2.sound.seat c.args.worker (seat_in c.seat.inside) is in
-    let at = c.requires.at (seat_in c.seat.inside) is in
+    let at = c.requires.at (seat_in c.seat.inside) is (seat_in c.seat.inside) is in
     let m = at.1 in
     let below : c.from.result < SHARDS = (let e = c.from.ensures in let f = c.shard_of.ensures.small in omega arith) in
     let shard = found-shard c.args.state.now c.from.result c.index_mut-part.result.now g.2.sound below c.index_mut-part.ensures.value in
@@ -115,12 +101,13 @@ returns c =
     let p : Plain = plain c.args.state.now in
     let new : PlainSeat = record (seat_in c.seat.inside) { txn = c.went.new.self } in
     let k : Hand = hand_freed (hand_joined m.hand (Freeing m.act) m.hand.dep) c.args.key in
-    let left = c.went.ensures.freed m.hand m.act c.args.key c.args.write at.0 m.is m.act_is in
-    let kept : c.in-Some.kept ≡ committed_of m.act =
-    (let e : Some c.in-Some.kept ≡ Some (committed_of m.act) = sym c.in-Some.is ∙ kept-is c.args.state.now.load.procs c.seat.inside.txn m.hand m.act (has_joined c.seat.inside.txn) c.committed.result m.act_is
-    (λ a e. c.committed.ensures.joined c.args.state.now.load.procs m.hand a o.runs m.is e) (λ a e. c.committed.ensures.reading c.args.state.now.load.procs m.hand a o.runs m.is e) in cc) in
-    let frees : shard_of c.free.new.self ≡ shard_freed (shard_of c.index_mut-part.result.now) c.args.worker c.args.key (lv_of m.act) (lookup (same_key c.args.key) m.act.effect.writes) =
-    c.free.ensures ∙ (λ i. shard_freed (shard_of c.index_mut-part.result.now) c.args.worker c.args.key (kept i).lv (m.write_is i)) in
+    let left = c.went.ensures.freed m.hand m.act c.args.key (written_in c.seat.inside.txn c.args.key) at.0 m.is m.act_is in
+    let kept = kept-into c.args.state.now.load.procs c.seat.inside.txn m.hand m.act (has_joined c.seat.inside.txn) p.committed c.commit_into.new.out.items m.act_is
+    (λ a e. c.commit_into.ensures.joined c.args.state.now.load.procs m.hand a o.runs m.is e) (λ a e. c.commit_into.ensures.reading c.args.state.now.load.procs m.hand a o.runs m.is e) in
+    let write = c.written_at.ensures ∙ m.write_is in
+    let vector : c.lv_ref.result.now ≡ lv_of m.act = c.lv_ref.ensures.frees c.args.state.now.load.procs m.hand m.act o.runs m.is m.act_is in
+    let frees : shard_of c.free_by.new.self ≡ shard_freed (shard_of c.index_mut-part.result.now) c.args.worker c.args.key (lv_of m.act) (lookup (same_key c.args.key) m.act.effect.writes) =
+    c.free_by.ensures ∙ (λ i. shard_freed (shard_of c.index_mut-part.result.now) c.args.worker c.args.key (vector i) (write i)) in
     let sound = sound-on c.args.state.now.load c.args.worker (seat_in c.seat.inside) new m.hand k o m.is refl c.went.ensures.same left refl c.went.ensures.runs (c.went.ensures.stays o.leaving) refl in
     record {
       seat = seat_in c.seat.inside;
@@ -130,9 +117,9 @@ returns c =
       key = c.args.key;
       mode = m.mode;
       new = new;
-      freed = c.free.new.self;
+      freed = c.free_by.new.self;
       joined = committed_of m.act ∷ [];
-      room = vec_capacity c.keep.new.committed - vec_len c.keep.new.committed;
+      room = vec_capacity c.commit_into.new.out - vec_len c.commit_into.new.out;
       is = is;
       shard_is = shard_is;
       hand_is = m.is;
@@ -143,6 +130,6 @@ returns c =
       left = left;
       others = refl;
       sound = sound;
-      rooms = rooms-new p c.args.worker (seat_in c.seat.inside) new m.hand m.act is m.is (joined-none c.args.state.now.load new k m.act left refl) (vec_capacity c.keep.new.committed - vec_len c.keep.new.committed) (reads-phase c.args.state.now.load.procs (has_joined c.seat.inside.txn) c.seat.inside.txn.worker m.hand m.act (c.requires.joined (seat_in c.seat.inside) is) m.act_is) g.2.sound.room c.keep.ensures.room;
-      after = ap (λ (x : ℕ × List Committed). record p { seats = slice_set p.seats c.args.worker new; shards = slice_set p.shards x.0 c.free.new.self; committed = x.1; room = vec_capacity c.keep.new.committed - vec_len c.keep.new.committed }) (λ i. (number i, (c.keep.ensures.items ∙ ap (λ (x : Committed). p.committed ++ x ∷ []) kept) i));
+      rooms = rooms-new p c.args.worker (seat_in c.seat.inside) new m.hand m.act is m.is (joined-none c.args.state.now.load new k m.act left refl) (vec_capacity c.commit_into.new.out - vec_len c.commit_into.new.out) (reads-phase c.args.state.now.load.procs (has_joined c.seat.inside.txn) c.seat.inside.txn.worker m.hand m.act (c.requires.joined (seat_in c.seat.inside) is) m.act_is) g.2.sound.room c.commit_into.ensures.room;
+      after = ap (λ (x : ℕ × List Committed). record p { seats = slice_set p.seats c.args.worker new; shards = slice_set p.shards x.0 c.free_by.new.self; committed = x.1; room = vec_capacity c.commit_into.new.out - vec_len c.commit_into.new.out }) (λ i. (number i, kept i));
     }

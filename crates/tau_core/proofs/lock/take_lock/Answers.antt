@@ -7,7 +7,7 @@ use Rattle.tau_txn.specs.declared.action.Action.{Action}
 use Rattle.tau_txn.specs.declared.action.Action.TheVariants as action
 use Rattle.tau_txn.specs.Next.{IsLock}
 use Rattle.tau_txn.specs.Steps.{locked_with}
-use Rattle.tau_machine.specs.Shard.{Entry, entry_in}
+use Rattle.tau_machine.specs.Shard.{Entry, Shard, entry_in}
 use Rattle.tau_machine.specs.Worker.{hand_busy, hand_locked, settled}
 use Rattle.tau_machine.specs.Pieces.{placed_of}
 use Rattle.tau_shard.specs.Read.{shard_of}
@@ -23,8 +23,14 @@ use Rattle.tau_core.proofs.Leaving.{leaving}
 use Rattle.tau_core.proofs.PhaseLaws.{means-phase}
 use Rattle.tau_core.proofs.lock.take_lock.Goals as goal
 
-pub granted-requires-clause-lock : goal.granted-requires-clause-lock
-granted-requires-clause-lock c =
+pub dep_ref-requires : goal.dep_ref-requires
+dep_ref-requires c =
+    let is = found-seat c.args.state.now c.args.worker c.index_mut-seat.result.now c.seat.inside c.requires.sound c.requires.there c.index_mut-seat.ensures.value c.seat.view_is in
+    let m = (c.requires.wants (seat_in c.seat.inside) is).1 in
+    some-hand c.args.state.now.load.procs c.seat.inside.txn m.hand m.is
+
+pub granted_by-requires-clause-lock : goal.granted_by-requires-clause-lock
+granted_by-requires-clause-lock c =
     let is = found-seat c.args.state.now c.args.worker c.index_mut-seat.result.now c.seat.inside c.requires.sound c.requires.there c.index_mut-seat.ensures.value c.seat.view_is in
     let o = c.requires.sound.seat c.args.worker (seat_in c.seat.inside) is in
     let wants = c.requires.wants (seat_in c.seat.inside) is in
@@ -47,8 +53,8 @@ busy-requires-clause-run c =
     let m = wants.1 in
     o.runs
 
-pub granted-requires-clause-wide : goal.granted-requires-clause-wide
-granted-requires-clause-wide c =
+pub granted_by-requires-clause-wide : goal.granted_by-requires-clause-wide
+granted_by-requires-clause-wide c =
     let is = found-seat c.args.state.now c.args.worker c.index_mut-seat.result.now c.seat.inside c.requires.sound c.requires.there c.index_mut-seat.ensures.value c.seat.view_is in
     let o = c.requires.sound.seat c.args.worker (seat_in c.seat.inside) is in
     let wants = c.requires.wants (seat_in c.seat.inside) is in
@@ -59,8 +65,8 @@ granted-requires-clause-wide c =
     let shard_is = subst (λ (n : ℕ). slice_get c.args.state.now.shards.items n ≡ Some c.index_mut-part.result.now) number shard in
     let entry : Entry = entry_in (shard_of c.index_mut-part.result.now) c.args.key in
     let narrow = entry-narrow c.args.state.now.load (shard_of c.index_mut-part.result.now) c.args.key (c.requires.sound.narrow c.from.result c.index_mut-part.result.now shard) in
-    let wide : length (dep_locked c.args.mode c.dep-dep.result entry) ≡ c.seat.inside.txn.width =
-    locked-wide c.args.mode c.seat.inside.txn.width c.dep-dep.result entry c.dep-dep.ensures.wide (let a = narrow.0 in let b = o.width in omega arith) (let a = narrow.1 in let b = o.width in omega arith) in
+    let wide : length (dep_locked c.args.mode c.dep_ref.result.now entry) ≡ c.seat.inside.txn.width =
+    locked-wide c.args.mode c.seat.inside.txn.width c.dep_ref.result.now entry c.dep_ref.ensures.wide (let a = narrow.0 in let b = o.width in omega arith) (let a = narrow.1 in let b = o.width in omega arith) in
     ap length c.in-Ok.ensures.joined ∙ wide
 
 pub leave-requires-clause-room : goal.leave-requires-clause-room
@@ -84,11 +90,12 @@ returns-in-Ok c =
     let entry : Entry = entry_in (shard_of c.index_mut-part.result.now) c.args.key in
     let p : Plain = plain c.args.state.now in
     let row : Value = (shard_of c.index_mut-part.result.now).rows c.args.key in
-    let new : PlainSeat = record (seat_in c.seat.inside) { txn = c.granted.new.self } in
-    let dep : c.lock.new.dep ≡ dep_locked c.args.mode m.hand.dep entry =
-    c.in-Ok.ensures.joined ∙ ap (λ (d : List ℕ). dep_locked c.args.mode d entry) (c.dep-dep.ensures.dep ∙ shown-dep c.args.state.now.load.procs c.seat.inside.txn m.hand m.is) in
-    let granted = c.granted.ensures.locked c.args.state.now.load.procs m.hand c.args.key c.args.mode o.runs wants.0 m.is
-    ∙ ap Some (ap (λ (v : Value). locked_with m.hand c.args.key c.args.mode v c.lock.new.dep) (c.copied.ensures ∙ c.in-Ok.ensures.value) ∙ locked-alike m.hand c.args.key c.args.mode row c.lock.new.dep entry dep) in
+    let new : PlainSeat = record (seat_in c.seat.inside) { txn = c.granted_by.new.self } in
+    let dep : c.lock_key.new.dep ≡ dep_locked c.args.mode m.hand.dep entry =
+    c.in-Ok.ensures.joined ∙ ap (λ (d : List ℕ). dep_locked c.args.mode d entry) (c.dep_ref.ensures.dep ∙ shown-dep c.args.state.now.load.procs c.seat.inside.txn m.hand m.is) in
+    let lent = c.row-row.ensures ∙ ap (λ (t : Shard). t.rows c.args.key) c.in-Ok.ensures.locked in
+    let granted = c.granted_by.ensures.locked c.args.state.now.load.procs m.hand c.args.key c.args.mode o.runs wants.0 m.is
+    ∙ ap Some (ap (λ (v : Value). locked_with m.hand c.args.key c.args.mode v c.lock_key.new.dep) lent ∙ locked-alike m.hand c.args.key c.args.mode row c.lock_key.new.dep entry dep) in
     record {
       seat = seat_in c.seat.inside;
       shard = c.index_mut-part.result.now;
@@ -96,19 +103,19 @@ returns-in-Ok c =
       key = c.args.key;
       mode = c.args.mode;
       new = new;
-      locked = c.lock.new.self;
+      locked = c.lock_key.new.self;
       is = is;
       shard_is = shard_is;
       wants = record { is = m.is; phase = m.phase; next = m.next };
       free = c.in-Ok.ensures.free;
-      value_is = c.in-Ok.ensures.value;
+      value_is = c.value_of.ensures ∙ lent;
       locks = c.in-Ok.ensures.locked;
       granted = granted;
       others = refl;
-      sound = sound-on c.args.state.now.load c.args.worker (seat_in c.seat.inside) new m.hand (hand_locked m.hand c.args.key c.args.mode row entry.write_lv entry.read_lv) o m.is refl c.granted.ensures.same granted
-          (locked-call m.hand c.args.key c.args.mode row entry.write_lv entry.read_lv) (c.granted.ensures.runs c.args.state.now.load.procs o.runs) (c.granted.ensures.stays o.leaving)
+      sound = sound-on c.args.state.now.load c.args.worker (seat_in c.seat.inside) new m.hand (hand_locked m.hand c.args.key c.args.mode row entry.write_lv entry.read_lv) o m.is refl c.granted_by.ensures.same granted
+          (locked-call m.hand c.args.key c.args.mode row entry.write_lv entry.read_lv) (c.granted_by.ensures.runs c.args.state.now.load.procs o.runs) (c.granted_by.ensures.stays o.leaving)
           (ap placed_of (locked-phase m.hand c.args.key c.args.mode row entry.write_lv entry.read_lv ∙ m.phase));
-      after = ap (λ (n : ℕ). record p { seats = slice_set p.seats c.args.worker new; shards = slice_set p.shards n c.lock.new.self }) number;
+      after = ap (λ (n : ℕ). record p { seats = slice_set p.seats c.args.worker new; shards = slice_set p.shards n c.lock_key.new.self }) number;
     }
 
 pub returns-in-Err-Busy : goal.returns-in-Err-Busy
@@ -133,7 +140,7 @@ returns-in-Err-Busy c =
       key = c.args.key;
       mode = c.args.mode;
       new = c.leave.new.seat;
-      kept = c.lock.new.self;
+      kept = c.lock_key.new.self;
       is = is;
       shard_is = shard_is;
       kept_is = c.in-Err-Busy.ensures.unchanged;
@@ -142,7 +149,7 @@ returns-in-Err-Busy c =
       settles = settles.worker;
       keeps = settles.keeps;
       sound = settles.sound;
-      after = ap (λ (n : ℕ). record p { seats = slice_set p.seats c.args.worker c.leave.new.seat; shards = slice_set p.shards n c.lock.new.self }) number;
+      after = ap (λ (n : ℕ). record p { seats = slice_set p.seats c.args.worker c.leave.new.seat; shards = slice_set p.shards n c.lock_key.new.self }) number;
     }
 
 pub returns-in-Err-NoMemory : goal.returns-in-Err-NoMemory
@@ -157,10 +164,10 @@ returns-in-Err-NoMemory c =
       record {
         i = c.from.result;
         shard = c.index_mut-part.result.now;
-        kept = c.lock.new.self;
+        kept = c.lock_key.new.self;
         is = shard;
         kept_is = c.in-Err-NoMemory.ensures.unchanged;
-        after = ap (λ (l : List PlainSeat). record p { seats = l; shards = slice_set p.shards c.from.result c.lock.new.self }) (set-got c.args.state.now.seats.items c.args.worker c.index_mut-seat.result.now is);
+        after = ap (λ (l : List PlainSeat). record p { seats = l; shards = slice_set p.shards c.from.result c.lock_key.new.self }) (set-got c.args.state.now.seats.items c.args.worker c.index_mut-seat.result.now is);
       },
       λ s e.
           let o = c.requires.sound.seat c.args.worker s e in

@@ -1,6 +1,5 @@
 use Rattle.std.proofs.Common.{◌≡◌, ◌<◌, ◌-◌, List, [], length, refl, sym, ap, ◌∙◌, arith}
 use Rattle.std.specs.Prelude.{Some, None, slice_get}
-use Rattle.std.proofs.lemmas.Option.{slice_get_read}
 use Rattle.tau_base.specs.declared.value.Call.{Call}
 use Rattle.tau_machine.specs.Stage.{stage}
 use Rattle.tau_machine.specs.Hands.{Hand}
@@ -12,12 +11,8 @@ use Rattle.tau_core.proofs.next.first_lock.Goals as goal
 pub returns-in-Some : goal.returns-in-Some
 returns-in-Some c =
     let n = numbers c.args.state.now.load c.args.number c.requires.call.0 c.requires.call.1 in
-    let calls = c.as_slice.ensures in
-    let within : c.args.number - 1 < length c.as_slice.result.now = (let e = ap (length {A = Call}) calls in let high = n.high in let low = n.low in omega arith) in
-    let got : slice_get c.as_slice.result.now (c.args.number - 1) ≡ Some c.index-as_slice-number.result =
-    slice_get_read c.as_slice.result.now (length c.as_slice.result.now) (c.args.number - 1) c.index-as_slice-number.result refl within c.index-as_slice-number.is in
-    let same : c.index-as_slice-number.result ≡ n.call =
-    (let f : Some c.index-as_slice-number.result ≡ Some n.call = sym got ∙ ap (λ (l : List Call). slice_get l (c.args.number - 1)) calls ∙ n.got in cc) in
+    let same : c.call_at-call.result ≡ n.call =
+    (let f : Some c.call_at-call.result ≡ Some n.call = sym c.call_at-call.ensures ∙ n.got in cc) in
     let next : lock_of (stage c.args.state.now.load.procs n.call []) [] ≡ Some (c.in-Some.key, c.in-Some.mode) =
     ap (λ (x : Call). lock_of (stage c.args.state.now.load.procs x []) []) (sym same) ∙ sym c.first_lock.ensures ∙ c.in-Some.is in
     let hand : Hand = fresh c.args.state.now.load.streams (record { number = c.args.number; call = n.call }) 0 in
@@ -26,12 +21,8 @@ returns-in-Some c =
 pub returns-in-None : goal.returns-in-None
 returns-in-None c =
     let n = numbers c.args.state.now.load c.args.number c.requires.call.0 c.requires.call.1 in
-    let calls = c.as_slice.ensures in
-    let within : c.args.number - 1 < length c.as_slice.result.now = (let e = ap (length {A = Call}) calls in let high = n.high in let low = n.low in omega arith) in
-    let got : slice_get c.as_slice.result.now (c.args.number - 1) ≡ Some c.index-as_slice-number.result =
-    slice_get_read c.as_slice.result.now (length c.as_slice.result.now) (c.args.number - 1) c.index-as_slice-number.result refl within c.index-as_slice-number.is in
-    let same : c.index-as_slice-number.result ≡ n.call =
-    (let f : Some c.index-as_slice-number.result ≡ Some n.call = sym got ∙ ap (λ (l : List Call). slice_get l (c.args.number - 1)) calls ∙ n.got in cc) in
+    let same : c.call_at-call.result ≡ n.call =
+    (let f : Some c.call_at-call.result ≡ Some n.call = sym c.call_at-call.ensures ∙ n.got in cc) in
     let none : lock_of (stage c.args.state.now.load.procs n.call []) [] ≡ None =
     ap (λ (x : Call). lock_of (stage c.args.state.now.load.procs x []) []) (sym same) ∙ sym c.first_lock.ensures ∙ c.in-None.is in
     (n.call, n.is, none-first c.args.state.now.load c.args.number n.call none)

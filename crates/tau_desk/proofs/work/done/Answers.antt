@@ -8,14 +8,22 @@ use Rattle.tau_txn.specs.declared.action.Action.{Action}
 use Rattle.tau_txn.specs.Next.{Finishes, FreesBy, Means, next_action}
 use Rattle.tau_txn.specs.Txn.{RunsBy}
 use Rattle.tau_core.specs.State.{Plain}
+use Rattle.tau_core.proofs.Hands.{some-hand}
 use Rattle.tau_core.proofs.Joins.{number-freed}
 use Rattle.tau_rule.specs.Boxes.{BoxOf}
 use Rattle.tau_desk.proofs.Finishing.{box-rooms, done-is, dones}
 use Rattle.tau_desk.proofs.Freeing.{was-begun}
 use Rattle.tau_desk.proofs.work.done.Goals as goal
 
-pub put-requires : goal.put-requires
-put-requires g c =
+pub lv_ref-requires : goal.lv_ref-requires
+lv_ref-requires g c =
+    let origin : Plain = c.args.desk.now.table.shared.key.value in
+    let next = done-is (next_action c.args.txn.now) c.requires.next in
+    let means : Finishes origin.load.procs c.args.txn.now next.0 next.1 = subst (λ (a : Action). Means origin.load.procs c.args.txn.now a) next.2 (c.kind.ensures.means origin.load.procs c.requires.ready.runs) in
+    some-hand origin.load.procs c.args.txn.now means.hand means.is
+
+pub put_from-requires : goal.put_from-requires
+put_from-requires g c =
     let origin : Plain = c.args.desk.now.table.shared.key.value in
     let r = c.requires.ready in
     let held = c.take_outbox-outbox.ensures.held in
@@ -44,7 +52,7 @@ more_calls-room-requires g c =
     let low = c.requires.room.1 in
     let before = ap (λ (o : PlainPending). o.room) c.deref_mut.ensures.value in
     let after = ap (λ (o : PlainPending). o.room) c.deref_mut-3.ensures.value in
-    let put = c.put.ensures.room in
+    let put = c.put_from.ensures.room in
     omega (arith, rooms.1, low, before, after, put)
 
 pub give_outbox-requires-clause-event : goal.give_outbox-requires-clause-event
@@ -60,9 +68,9 @@ give_outbox-requires-clause-event g c =
     let empty : c.went.new.self.hand ≡ None = c.went.ensures.done next.0 next.1 next.2 in
     let phase : means.hand.phase ≡ Freeing means.act = subst (λ (j : Bool). FreesBy origin.load.procs j c.args.txn.now.worker means.hand means.act) c.requires.joined means.act_is in
     let begun = was-begun origin.load.streams r.worker means.hand means.act (r.agrees ∙ means.is) phase in
-    let number : c.number_of-number.result ≡ means.act.call.call.number =
-    (let e : Some c.number_of-number.result ≡ Some means.act.call.call.number = c.number_of-number.ensures ∙ number-freed origin.load.procs c.args.txn.now means.hand means.act means.is phase in cc) in
-    let lv : c.lv-lv.result ≡ lv_of means.act = c.lv-lv.ensures.frees origin.load.procs means.hand means.act r.runs means.is means.act_is in
+    let number : c.number_of.result ≡ means.act.call.call.number =
+    (let e : Some c.number_of.result ≡ Some means.act.call.call.number = c.number_of.ensures ∙ number-freed origin.load.procs c.args.txn.now means.hand means.act means.is phase in cc) in
+    let lv : c.lv_ref.result.now ≡ lv_of means.act = c.lv_ref.ensures.frees origin.load.procs means.hand means.act r.runs means.is means.act_is in
     let b' : BoxOf = (c.more_records-room.new.outbox, c.more_calls-room.new.pending) in (
       Done c.args.worker,
       (
@@ -81,9 +89,9 @@ give_outbox-requires-clause-event g c =
           there = r.there;
           records = c.more_records-room.ensures.there;
           calls = c.more_calls-room.ensures.there;
-          steps = dones origin c.take_outbox-outbox.new.seat.me.0 c.args.worker r.worker c.went.new.self means.hand means.act b b' c.number_of-number.result c.lv-lv.result begun.0 begun.1 phase means.held empty
+          steps = dones origin c.take_outbox-outbox.new.seat.me.0 c.args.worker r.worker c.went.new.self means.hand means.act b b' c.number_of.result c.lv_ref.result.now begun.0 begun.1 phase means.held empty
               (c.more_records-room.ensures.pieces ∙ ap (λ (o : PlainOutbox). o.pieces) c.deref_mut-2.ensures.value)
-              (c.more_calls-room.ensures.calls ∙ ap (λ (o : PlainPending). o.calls) c.deref_mut-3.ensures.value ∙ c.put.ensures.calls ∙ ap (λ (o : PlainPending). o.calls ++ record { number = c.number_of-number.result; lv = c.lv-lv.result } ∷ []) c.deref_mut.ensures.value)
+              (c.more_calls-room.ensures.calls ∙ ap (λ (o : PlainPending). o.calls) c.deref_mut-3.ensures.value ∙ c.put_from.ensures.calls ∙ ap (λ (o : PlainPending). o.calls ++ record { number = c.number_of.result; lv = c.lv_ref.result.now } ∷ []) c.deref_mut.ensures.value)
               (λ i. record { number = number i; lv = lv i });
         },
       ),

@@ -9,15 +9,14 @@ use Rattle.tau_machine.specs.Hands.{Hand}
 use Rattle.tau_machine.specs.Shard.{Shard, entry_in}
 use Rattle.tau_machine.specs.Worker.{Worker, hand_quit, settled}
 use Rattle.tau_proc.specs.declared.proc.Proc.{Proc}
-use Rattle.tau_txn.specs.declared.action.Action.{Action}
 use Rattle.tau_txn.specs.declared.action.Action.TheVariants as action
-use Rattle.tau_txn.specs.Next.{next_action, Means, Quits}
+use Rattle.tau_txn.specs.Next.{next_action, Quits}
 use Rattle.tau_txn.specs.Txn.{RunsBy, hand_in, leaves_in, worker_of}
 use Rattle.tau_core.specs.State.{Plain}
 use Rattle.tau_rule.specs.Knows.{Knows}
 use Rattle.tau_rule.specs.Steps.{Agrees, shard_in, told}
 use Rattle.tau_desk.proofs.Freeing.{taken-held}
-use Rattle.tau_desk.proofs.Quitting.{quit-steps, was-holding}
+use Rattle.tau_desk.proofs.Quitting.{no-quit, quit-steps, was-holding}
 use Rattle.tau_desk.proofs.work.quit.Goals as goal
 
 pub quit-requires-clause-held : goal.quit-requires-clause-held
@@ -27,11 +26,11 @@ quit-requires-clause-held g c =
     let origin : Plain = c.args.desk.now.table.shared.key.value in
     let v : Knows = c.args.seat.now.me.0 in
     let k : ℕ = c.from-number.result in
-    let key : Key = c.in-Quit.key in
+    let key : Key = c.in-Some.key in
     let sh : Shard = shard_of c.deref_mut.result.now in
     let was : shard_in held.0 ≡ Some sh = held.2 ∙ ap (λ (s : PlainShard). Some (shard_of s)) (sym c.deref_mut.ensures.value) in
     let number : k ≡ shard_number key = c.from-number.ensures ∙ c.shard_of.ensures.same in
-    let means : Quits origin.load.procs c.args.txn.now key = subst (λ (a : Action). Means origin.load.procs c.args.txn.now a) c.in-Quit.is (c.turn.ensures.means origin.load.procs r.runs) in
+    let means : Quits origin.load.procs c.args.txn.now key = c.in-Some.ensures.means origin.load.procs r.runs in
     let begun = was-holding origin.load.streams r.worker means.hand key means.mode (r.agrees ∙ means.is) means.held in
     let agrees : Agrees origin v k held.0 = held.3 in
     let holds = taken-held origin c.args.seat.now.me c.args.txn.now c.args.worker k held.0 sh r means.hand key begun.0 agrees was number in
@@ -44,12 +43,12 @@ give_shard-requires-clause-event g c =
     let held = c.take_shard-shard.ensures.held in
     let origin : Plain = c.args.desk.now.table.shared.key.value in
     let k : ℕ = c.from-number.result in
-    let key : Key = c.in-Quit.key in
+    let key : Key = c.in-Some.key in
     let sh : Shard = shard_of c.deref_mut.result.now in
     let was : shard_in held.0 ≡ Some sh = held.2 ∙ ap (λ (s : PlainShard). Some (shard_of s)) (sym c.deref_mut.ensures.value) in
     let number : k ≡ shard_number key = c.from-number.ensures ∙ c.shard_of.ensures.same in
-    let means : Quits origin.load.procs c.args.txn.now key = subst (λ (a : Action). Means origin.load.procs c.args.txn.now a) c.in-Quit.is (c.turn.ensures.means origin.load.procs r.runs) in
-    let next : next_action c.args.txn.now ≡ action.Quit key = sym c.turn.ensures.asked ∙ c.in-Quit.is in
+    let means : Quits origin.load.procs c.args.txn.now key = c.in-Some.ensures.means origin.load.procs r.runs in
+    let next : next_action c.args.txn.now ≡ action.Quit key = c.in-Some.ensures.next in
     let begun = was-holding origin.load.streams r.worker means.hand key means.mode (r.agrees ∙ means.is) means.held in (
       Quit c.args.worker (leaves_in c.args.txn.now),
       c.args.worker,
@@ -76,9 +75,9 @@ returns-clause-step g c =
     let held = c.take_shard-shard.ensures.held in
     let origin : Plain = c.args.desk.now.table.shared.key.value in
     let v : Knows = c.args.seat.now.me.0 in
-    let key : Key = c.in-Quit.key in
-    let means : Quits origin.load.procs c.args.txn.now key = subst (λ (a : Action). Means origin.load.procs c.args.txn.now a) c.in-Quit.is (c.turn.ensures.means origin.load.procs r.runs) in
-    let next : next_action c.args.txn.now ≡ action.Quit key = sym c.turn.ensures.asked ∙ c.in-Quit.is in (
+    let key : Key = c.in-Some.key in
+    let means : Quits origin.load.procs c.args.txn.now key = c.in-Some.ensures.means origin.load.procs r.runs in
+    let next : next_action c.args.txn.now ≡ action.Quit key = c.in-Some.ensures.next in (
       c.give_shard.ensures.given ∙ ap (λ m. (told origin.load m.0 c.went.new.self, [])) held.1,
       record {
         key = key;
@@ -88,3 +87,6 @@ returns-clause-step g c =
         worker = record { runs = subst (λ (p : List Proc). RunsBy p c.went.new.self) c.requires.procs c.went.ensures.runs; same = c.went.ensures.same; stays = c.went.ensures.stays };
       },
     )
+
+pub returns-in_default-clause-other : goal.returns-in_default-clause-other
+returns-in_default-clause-other g c = λ e. no-quit (next_action c.args.txn.now) c.quit_asked.result c.quit_asked.ensures.asked c.in_default.not-Some

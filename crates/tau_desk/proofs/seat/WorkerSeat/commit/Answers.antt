@@ -2,14 +2,24 @@ use Rattle.std.proofs.Common.{◌-◌, ℕ, ap, subst, sym, ◌∙◌, arith}
 use Rattle.std.specs.Prelude.{vec_capacity, vec_len}
 use Rattle.tau_core.specs.State.{Plain}
 use Rattle.tau_desk.specs.Seats.{IsWorkerSeat}
-use Rattle.tau_desk.proofs.Committing.{seat-committed}
+use Rattle.tau_desk.proofs.GoingOn.{work-at}
+use Rattle.tau_desk.proofs.Committing.{commit-room, seat-committed}
 use Rattle.tau_desk.proofs.seat.WorkerSeat.commit.Goals as goal
+
+pub commit-requires-clause-list : goal.commit-requires-clause-list
+commit-requires-clause-list c =
+    let origin : Plain = c.args.desk.now.table.shared.key.value in
+    let opened = ap (λ x. x.seat.me.0.opened) c.self-inside.view_is ∙ ap (λ v. v.me.0.opened) c.self.view_is ∙ c.requires.opened in
+    let s = subst (λ x. IsWorkerSeat x.seat.me x.worker x.work (x.anchor, x.anchor_lv) x.seen) (sym c.self-inside.view_is) c.self.invariant in
+    let f = (work-at origin _ _ _ _ _ opened s).fits in
+    commit-room origin.load _ _ f (c.kind.ensures.means origin.load.procs f.runs) (sym c.kind.ensures.kind ∙ c.in-Commit.is)
 
 pub invariant_of-self : goal.invariant_of-self
 invariant_of-self c =
     let origin : Plain = c.args.desk.now.table.shared.key.value in
     let opened = ap (λ x. x.seat.me.0.opened) c.self-inside.view_is ∙ ap (λ v. v.me.0.opened) c.self.view_is ∙ c.requires.opened in
     let s = subst (λ x. IsWorkerSeat x.seat.me x.worker x.work (x.anchor, x.anchor_lv) x.seen) (sym c.self-inside.view_is) c.self.invariant in
-    let room : ℕ = vec_capacity c.keep.new.committed - vec_len c.keep.new.committed in
+    let room : ℕ = vec_capacity c.commit.new.committed - vec_len c.commit.new.committed in
     let some = c.if-self-eq0.false in
-    seat-committed origin _ c.commit.new.seat.me _ _ c.commit.new.txn c.in-Ok.start c.in-Ok.kept c.keep.new.committed.items room _ _ opened s c.in-Ok.ensures.step.0 c.keep.ensures.items (omega (arith, some)) c.in-Ok.ensures.step.1
+    let step = c.in-Ok.ensures.step in
+    seat-committed origin _ c.commit.new.seat.me _ _ c.commit.new.txn c.in-Ok.start step.0 c.commit.new.committed.items room _ _ opened s step.1.0 step.2 (omega (arith, some)) step.1.1

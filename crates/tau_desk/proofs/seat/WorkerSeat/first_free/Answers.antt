@@ -2,13 +2,23 @@ use Rattle.std.proofs.Common.{◌-◌, ℕ, ap, subst, sym, ◌∙◌}
 use Rattle.std.specs.Prelude.{vec_capacity, vec_len}
 use Rattle.tau_core.specs.State.{Plain}
 use Rattle.tau_desk.specs.Seats.{IsWorkerSeat}
+use Rattle.tau_txn.specs.Txn.{has_joined}
+use Rattle.tau_desk.proofs.GoingOn.{work-at}
 use Rattle.tau_desk.proofs.WorkerReading.{seat-first}
 use Rattle.tau_desk.proofs.seat.WorkerSeat.first_free.Goals as goal
 
-pub invariant_of-self : goal.invariant_of-self
-invariant_of-self g c =
+pub first_free-requires-clause-list : goal.first_free-requires-clause-list
+first_free-requires-clause-list g c =
     let origin : Plain = c.args.desk.now.table.shared.key.value in
     let opened = ap (λ x. x.seat.me.0.opened) c.self-inside.view_is ∙ ap (λ v. v.me.0.opened) c.self.view_is ∙ c.requires.opened in
     let s = subst (λ x. IsWorkerSeat x.seat.me x.worker x.work (x.anchor, x.anchor_lv) x.seen) (sym c.self-inside.view_is) c.self.invariant in
-    let room : ℕ = vec_capacity c.keep.new.committed - vec_len c.keep.new.committed in
-    seat-first origin _ c.first_free.new.seat.me _ _ c.first_free.new.txn c.in-Some.kept c.keep.new.committed.items room _ _ opened s c.in-Some.ensures.step.0 c.keep.ensures.items c.in-Some.ensures.step.1
+    (work-at origin _ _ _ _ _ opened s).fits.commits (sym c.in_hand.ensures ∙ c.if-not-in_hand.false) (ap (λ x. has_joined x.work.txn) c.self-inside.view_is ∙ ap (λ v. has_joined v.work.txn) c.self.view_is ∙ c.requires.unjoined)
+
+pub invariant_of-self-2 : goal.invariant_of-self-2
+invariant_of-self-2 g c =
+    let origin : Plain = c.args.desk.now.table.shared.key.value in
+    let opened = ap (λ x. x.seat.me.0.opened) c.self-inside.view_is ∙ ap (λ v. v.me.0.opened) c.self.view_is ∙ c.requires.opened in
+    let s = subst (λ x. IsWorkerSeat x.seat.me x.worker x.work (x.anchor, x.anchor_lv) x.seen) (sym c.self-inside.view_is) c.self.invariant in
+    let room : ℕ = vec_capacity c.first_free.new.committed - vec_len c.first_free.new.committed in
+    let step = c.first_free.ensures.step c.if-not-first_free.false in
+    seat-first origin _ c.first_free.new.seat.me _ _ c.first_free.new.txn step.0 c.first_free.new.committed.items room _ _ opened s step.1.0 step.2 step.1.1

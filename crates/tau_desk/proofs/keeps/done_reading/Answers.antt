@@ -9,16 +9,26 @@ use Rattle.tau_txn.specs.declared.action.Action.{Action}
 use Rattle.tau_txn.specs.Next.{Finishes, FreesBy, Means, Reads, next_action}
 use Rattle.tau_txn.specs.Txn.{RunsBy}
 use Rattle.tau_core.specs.State.{Plain}
+use Rattle.tau_core.proofs.Hands.{some-hand}
 use Rattle.tau_rule.specs.Boxes.{BoxOf}
 use Rattle.tau_rule.specs.Boxes.{StepsBox}
 use Rattle.tau_rule.specs.Knows.{Knows}
 use Rattle.tau_desk.specs.Works.{joined_worker, told_read_only}
 use Rattle.tau_desk.proofs.Finishing.{box-rooms, done-is}
+use Rattle.tau_desk.proofs.Lasts.{some-last}
 use Rattle.tau_desk.proofs.WorkerReading.{number-shown, reading-dones}
-use Rattle.tau_desk.proofs.work.done_reading.Goals as goal
+use Rattle.tau_desk.proofs.keeps.done_reading.Goals as goal
 
-pub put-requires : goal.put-requires
-put-requires g c =
+pub lv_ref-requires : goal.lv_ref-requires
+lv_ref-requires g c =
+    let origin : Plain = c.args.desk.now.table.shared.key.value in
+    let r = c.requires.ready in
+    let next = done-is (next_action c.args.txn.now) c.requires.next in
+    let means : Finishes origin.load.procs c.args.txn.now next.0 next.1 = subst (λ (a : Action). Means origin.load.procs c.args.txn.now a) next.2 (c.kind.ensures.means origin.load.procs r.runs) in
+    some-hand origin.load.procs c.args.txn.now means.hand means.is
+
+pub put_from-requires : goal.put_from-requires
+put_from-requires g c =
     let origin : Plain = c.args.desk.now.table.shared.key.value in
     let r = c.requires.ready in
     let held = c.take_outbox-outbox.ensures.held in
@@ -47,17 +57,17 @@ more_calls-room-requires g c =
     let low = c.requires.room.1 in
     let before = ap (λ (o : PlainPending). o.room) c.deref_mut.ensures.value in
     let after = ap (λ (o : PlainPending). o.room) c.deref_mut-3.ensures.value in
-    let put = c.put.ensures.room in
+    let put = c.put_from.ensures.room in
     omega (arith, rooms.1, low, before, after, put)
 
-pub unreachable-requires-in_default-committed : goal.unreachable-requires-in_default-committed
-unreachable-requires-in_default-committed g c =
+pub last_of-kept-requires : goal.last_of-kept-requires
+last_of-kept-requires g c =
     let origin : Plain = c.args.desk.now.table.shared.key.value in
     let r = c.requires.ready in
     let next = done-is (next_action c.args.txn.now) c.requires.next in
     let means : Finishes origin.load.procs c.args.txn.now next.0 next.1 = subst (λ (a : Action). Means origin.load.procs c.args.txn.now a) next.2 (c.kind.ensures.means origin.load.procs r.runs) in
     let reads : Reads origin.load.procs c.args.txn.now.worker means.hand means.act = subst (λ (j : Bool). FreesBy origin.load.procs j c.args.txn.now.worker means.hand means.act) c.requires.unjoined means.act_is in
-    c.in_default-committed.not-Some (committed_of means.act) (c.committed.ensures.reading origin.load.procs means.hand means.act r.runs means.is reads)
+    record { some = subst (λ (n : ℕ). 1 ≤ n) (sym c.commit_into.new.out.ok.0) (some-last c.commit_into.new.out.items c.args.committed.now.items (committed_of means.act) (c.commit_into.ensures.reading origin.load.procs means.hand means.act r.runs means.is reads)) }
 
 pub give_read_only-requires-clause-event : goal.give_read_only-requires-clause-event
 give_read_only-requires-clause-event g c =
@@ -68,13 +78,13 @@ give_read_only-requires-clause-event g c =
     let means : Finishes origin.load.procs c.args.txn.now next.0 next.1 = subst (λ (a : Action). Means origin.load.procs c.args.txn.now a) next.2 (c.kind.ensures.means origin.load.procs r.runs) in
     let empty : c.went.new.self.hand ≡ None = c.went.ensures.done next.0 next.1 next.2 in
     let reads : Reads origin.load.procs c.args.txn.now.worker means.hand means.act = subst (λ (j : Bool). FreesBy origin.load.procs j c.args.txn.now.worker means.hand means.act) c.requires.unjoined means.act_is in
-    let kept : c.in-Some.kept ≡ committed_of means.act =
-    (let e : Some c.in-Some.kept ≡ Some (committed_of means.act) = sym c.in-Some.is ∙ c.committed.ensures.reading origin.load.procs means.hand means.act r.runs means.is reads in cc) in
+    let items : c.commit_into.new.out.items ≡ c.args.committed.now.items ++ committed_of means.act ∷ [] = c.commit_into.ensures.reading origin.load.procs means.hand means.act r.runs means.is reads in
+    let kept : c.last_of-kept.result.now ≡ committed_of means.act = c.last_of-kept.ensures.last c.args.committed.now.items (committed_of means.act) items in
     let b : BoxOf = (c.take_outbox-outbox.result.0.value, c.take_outbox-outbox.result.1.value) in
     let b' : BoxOf = (c.more_records-room.new.outbox, c.more_calls-room.new.pending) in
-    let number : c.number_of-number.result ≡ means.act.call.call.number =
-    (let e : Some c.number_of-number.result ≡ Some means.act.call.call.number = c.number_of-number.ensures ∙ number-shown origin.load.procs c.args.txn.now means.hand means.act means.is reads in cc) in
-    let lv : c.lv-lv.result ≡ lv_of means.act = c.lv-lv.ensures.frees origin.load.procs means.hand means.act r.runs means.is means.act_is in
+    let number : c.number_of.result ≡ means.act.call.call.number =
+    (let e : Some c.number_of.result ≡ Some means.act.call.call.number = c.number_of.ensures ∙ number-shown origin.load.procs c.args.txn.now means.hand means.act means.is reads in cc) in
+    let lv : c.lv_ref.result.now ≡ lv_of means.act = c.lv_ref.ensures.frees origin.load.procs means.hand means.act r.runs means.is means.act_is in
     let v : Knows = c.take_outbox-outbox.new.seat.me.0 in (
       b',
       refl,
@@ -92,9 +102,9 @@ give_read_only-requires-clause-event g c =
         records = c.more_records-room.ensures.there;
         calls = c.more_calls-room.ensures.there;
         steps = subst (λ (x : Committed). StepsBox origin (DoneReading c.args.worker) v c.args.worker r.worker (joined_worker origin.load r.worker c.went.new.self x) b b') (sym kept)
-            (reading-dones origin v c.args.worker r.worker c.went.new.self means.hand means.act b b' c.number_of-number.result c.lv-lv.result (r.agrees ∙ means.is) (subst (λ (n : ℕ). Reads origin.load.procs n means.hand means.act) r.number reads) means.held empty
+            (reading-dones origin v c.args.worker r.worker c.went.new.self means.hand means.act b b' c.number_of.result c.lv_ref.result.now (r.agrees ∙ means.is) (subst (λ (n : ℕ). Reads origin.load.procs n means.hand means.act) r.number reads) means.held empty
             (c.more_records-room.ensures.pieces ∙ ap (λ (o : PlainOutbox). o.pieces) c.deref_mut-2.ensures.value)
-            (c.more_calls-room.ensures.calls ∙ ap (λ (o : PlainPending). o.calls) c.deref_mut-3.ensures.value ∙ c.put.ensures.calls ∙ ap (λ (o : PlainPending). o.calls ++ record { number = c.number_of-number.result; lv = c.lv-lv.result } ∷ []) c.deref_mut.ensures.value)
+            (c.more_calls-room.ensures.calls ∙ ap (λ (o : PlainPending). o.calls) c.deref_mut-3.ensures.value ∙ c.put_from.ensures.calls ∙ ap (λ (o : PlainPending). o.calls ++ record { number = c.number_of.result; lv = c.lv_ref.result.now } ∷ []) c.deref_mut.ensures.value)
             (λ i. record { number = number i; lv = lv i }));
       },
     )
@@ -108,17 +118,21 @@ returns-clause-step g c =
     let means : Finishes origin.load.procs c.args.txn.now next.0 next.1 = subst (λ (a : Action). Means origin.load.procs c.args.txn.now a) next.2 (c.kind.ensures.means origin.load.procs r.runs) in
     let empty : c.went.new.self.hand ≡ None = c.went.ensures.done next.0 next.1 next.2 in
     let reads : Reads origin.load.procs c.args.txn.now.worker means.hand means.act = subst (λ (j : Bool). FreesBy origin.load.procs j c.args.txn.now.worker means.hand means.act) c.requires.unjoined means.act_is in
-    let kept : c.in-Some.kept ≡ committed_of means.act =
-    (let e : Some c.in-Some.kept ≡ Some (committed_of means.act) = sym c.in-Some.is ∙ c.committed.ensures.reading origin.load.procs means.hand means.act r.runs means.is reads in cc) in
+    let items : c.commit_into.new.out.items ≡ c.args.committed.now.items ++ committed_of means.act ∷ [] = c.commit_into.ensures.reading origin.load.procs means.hand means.act r.runs means.is reads in
+    let kept : c.last_of-kept.result.now ≡ committed_of means.act = c.last_of-kept.ensures.last c.args.committed.now.items (committed_of means.act) items in
     let spare : ℕ × ℕ = (c.more_records-room.result, c.more_calls-room.result) in (
-      c.give_read_only.ensures.given ∙ ap (λ m. (told_read_only origin.load m.0 c.went.new.self c.in-Some.kept spare, [])) held.1,
-      record {
-        reply = next.0;
-        lv = next.1;
-        next = next.2;
-        ends = means;
-        kept_is = kept;
-        gone = empty;
-        worker = record { runs = subst (λ (p : List Proc). RunsBy p c.went.new.self) c.requires.procs c.went.ensures.runs; same = c.went.ensures.same; stays = c.went.ensures.stays };
-      },
+      c.last_of-kept.result.now,
+      (
+        c.give_read_only.ensures.given ∙ ap (λ m. (told_read_only origin.load m.0 c.went.new.self c.last_of-kept.result.now spare, [])) held.1,
+        record {
+          reply = next.0;
+          lv = next.1;
+          next = next.2;
+          ends = means;
+          kept_is = kept;
+          gone = empty;
+          worker = record { runs = subst (λ (p : List Proc). RunsBy p c.went.new.self) c.requires.procs c.went.ensures.runs; same = c.went.ensures.same; stays = c.went.ensures.stays };
+        },
+      ),
+      items ∙ ap (λ (x : Committed). c.args.committed.now.items ++ x ∷ []) (sym kept),
     )

@@ -10,7 +10,7 @@ use Rattle.tau_core.specs.State.{Plain}
 use Rattle.tau_core.proofs.ActionKinds.{commit-kind}
 use Rattle.tau_rule.specs.Places.{IsToPlace}
 use Rattle.tau_desk.proofs.Committing.{has-committed, placed-joined, raised_by, to-place}
-use Rattle.tau_desk.proofs.work.commit.Goals as goal
+use Rattle.tau_desk.proofs.keeps.commit.Goals as goal
 
 pub place-requires-clause-call : goal.place-requires-clause-call
 place-requires-clause-call c =
@@ -41,7 +41,12 @@ returns-in-Ok-clause-step c =
     (λ start vectors e. c.in-Ok.ensures.bytes procs (raised_by q.hand c.args.anchor.now) start vectors r.runs raised e) in
     let to : IsToPlace origin c.args.worker c.args.seat.now.me c.prepare.new.self =
     to-place origin c.args.worker c.args.seat.now.me c.args.txn.now c.prepare.new.self next.0 c.args.number c.args.anchor.now r q c.requires.read c.requires.wide (let a = streams.0 in let b = streams.2 in omega (arith, a, b)) c.in-Ok.ensures.same raised
-    c.in-Ok.ensures.anchor c.in-Ok.ensures.sized (spelled 0) in (
-      c.place.ensures.step ∙ placed-joined origin c.args.worker c.args.seat.now.me c.prepare.new.self c.place.new.txn c.place.result.0 c.place.result.1 to c.place.ensures.call,
-      has-committed procs c.args.txn.now c.prepare.new.self c.place.new.txn next.0 c.args.number c.args.anchor.now c.place.result.0 c.place.result.1 q c.in-Ok.ensures.same c.prepare.ensures.stays raised c.in-Ok.ensures.anchor c.place.ensures.small (spelled c.place.result.0) c.place.ensures.call,
+    c.in-Ok.ensures.anchor c.in-Ok.ensures.sized (spelled 0) in
+    let kept = c.place.ensures.call in (
+      kept.0,
+      (
+        c.place.ensures.step ∙ placed-joined origin c.args.worker c.args.seat.now.me c.prepare.new.self c.place.new.txn c.place.result kept.0 to kept.1,
+        has-committed procs c.args.txn.now c.prepare.new.self c.place.new.txn next.0 c.args.number c.args.anchor.now c.place.result kept.0 q c.in-Ok.ensures.same c.prepare.ensures.stays raised c.in-Ok.ensures.anchor c.place.ensures.small (spelled c.place.result) kept.1,
+      ),
+      kept.2,
     )
