@@ -10,4 +10,3 @@ pub mod Came
 pub mod Done
 pub mod Closing
 pub mod Apart
-pub mod Facts

@@ -18,7 +18,7 @@ use Rattle.tau_text.specs.declared.load.Workload.{Workload}
 use Rattle.tau_report.specs.declared.report.RunEnd.{RunEnd}
 use Rattle.tau_run.specs.Facts.{catalogue_of}
 use Rattle.tau_run.specs.Course.{IsLoadOf, IsSoundLoad}
-use Rattle.tau_run.specs.Told.{WroteFront, NamesFailed, RunFacts, turns_of, IsByTurns}
+use Rattle.tau_run.specs.Told.{WroteFront, RunFacts, turns_of, IsByTurns}
 use Rattle.tau_run.specs.Told as ending
 use Rattle.tau_run.proofs.Reading.{IsCatalogue}
 use Rattle.tau_step.specs.RunTold.{AreNew}

@@ -234,7 +234,7 @@ module _ (n m : ℕ) (mode : LogMode) (load : Workload) (some : 1 ≤ n) (room :
   -- all that is said of it, where each image has nothing or the catalogue
   abbrev built_of_none : (unborn : Type 0) (past now : ℕ → List ℕ → Type 0) (rose : ℕ → Type 0) (sink_rose : Type 0) (made : ℕ → ℕ → Type 0) (wrote : List ℕ → Type 0) (fault : ℕ → List ℕ) (ending : Ending) → MayEnd ending →
       (unborn → (j : ℕ) (x : List ℕ) → j < n → past j x → HasContent n j [] x ⊎ HasContent n j catalogue x) →
-      RunTells (IsEnded n load now rose) n load rose sink_rose made wrote fault empty_run ending →
+      RunTells (IsEnded n load now rose) n load (λ j. None) sink_rose made wrote fault empty_run ending →
       RunFacts (chosen_by load.turns n m load) n m mode load unborn past now rose sink_rose made wrote fault ending
   built_of_none unborn past now rose sink_rose made wrote fault ending may left tells = record {
     run = empty_run;
@@ -259,13 +259,13 @@ module _ (n m : ℕ) (mode : LogMode) (load : Workload) (some : 1 ≤ n) (room :
 
   pub facts_of_none : (unborn : Type 0) (past now : ℕ → List ℕ → Type 0) (rose : ℕ → Type 0) (sink_rose : Type 0) (made : ℕ → ℕ → Type 0) (wrote : List ℕ → Type 0) (fault : ℕ → List ℕ) (ending : Ending) → MayEnd ending →
       (unborn → (j : ℕ) (x : List ℕ) → j < n → past j x → HasContent n j [] x ⊎ HasContent n j catalogue x) →
-      RunTells (IsEnded n load now rose) n load rose sink_rose made wrote fault empty_run ending →
+      RunTells (IsEnded n load now rose) n load (λ j. None) sink_rose made wrote fault empty_run ending →
       RunFacts (chosen_by load.turns n m load) n m mode load unborn past now rose sink_rose made wrote fault ending
   facts_of_none unborn past now rose sink_rose made wrote fault ending may left tells = built_of_none unborn past now rose sink_rose made wrote fault ending may left tells
 
   -- and nothing is acknowledged
   pub told_of_none : (unborn : Type 0) (past now : ℕ → List ℕ → Type 0) (rose : ℕ → Type 0) (sink_rose : Type 0) (made : ℕ → ℕ → Type 0) (wrote : List ℕ → Type 0) (fault : ℕ → List ℕ) (ending : Ending) → MayEnd ending →
       (unborn → (j : ℕ) (x : List ℕ) → j < n → past j x → HasContent n j [] x ⊎ HasContent n j catalogue x) →
-      RunTells (IsEnded n load now rose) n load rose sink_rose made wrote fault empty_run ending →
+      RunTells (IsEnded n load now rose) n load (λ j. None) sink_rose made wrote fault empty_run ending →
       (facts : RunFacts (chosen_by load.turns n m load) n m mode load unborn past now rose sink_rose made wrote fault ending) × (facts.run.acks ≡ [])
   told_of_none unborn past now rose sink_rose made wrote fault ending may left tells = (built_of_none unborn past now rose sink_rose made wrote fault ending may left tells, refl)

@@ -24,7 +24,7 @@ use Rattle.tau_run.specs.Run.{Run, AllAcked, IsReportOf}
 use Rattle.tau_run.specs.Facts.{catalogue_of, IsEnded}
 use Rattle.tau_run.specs.Course.{IsCourse}
 use Rattle.tau_run.specs.Left.{Leaves, IsOver}
-use Rattle.tau_run.specs.Told.{Ending, WroteFront, NamesFailed, turns_of, IsByTurns, chosen_by, IsCoreRun, IsCoreRunAt, RunTells, RunFacts}
+use Rattle.tau_run.specs.Told.{Ending, WroteFront, NamesLowest, turns_of, IsByTurns, chosen_by, IsCoreRun, IsCoreRunAt, RunTells, RunFacts}
 use Rattle.tau_run.specs.Told as ending
 use Rattle.tau_run.specs.Turns.{Progress}
 use Rattle.tau_run.proofs.Imaged.{imaged, acknowledged, ended}
@@ -96,7 +96,7 @@ module _ {D : Type 0} {G : Ghosts D} (only_now : OnlyNow G) (n m : ℕ) (mode : 
         leaves G n (catalogue_of load) l s streams_are old new many all stop_low
 
     pub facts : (sink_rose : Type 0) (made : ℕ → ℕ → Type 0) (wrote : List ℕ → Type 0) (fault : ℕ → List ℕ) (ending : Ending) → IsCoreRunAt (by) n m mode load stops run ending →
-        RunTells (IsEnded n load (Now G.tells G.may_leave old new) (RoseAt G.faults old new)) n load (RoseAt G.faults old new) sink_rose made wrote fault run ending →
+        RunTells (IsEnded n load (Now G.tells G.may_leave old new) (RoseAt G.faults old new)) n load stops sink_rose made wrote fault run ending →
         RunFacts (by) n m mode load (AreUnborn G.tells G.may_leave old n) (Past G.tells G.moment G.may_leave_since old new) (Now G.tells G.may_leave old new) (RoseAt G.faults old new) sink_rose made wrote fault ending
     facts sink_rose made wrote fault ending core told = record {
       run = run;
@@ -130,14 +130,14 @@ module _ {D : Type 0} {G : Ghosts D} (only_now : OnlyNow G) (n m : ℕ) (mode : 
 
     -- ---- the run went to its end
 
-    names : (o : Option ℕ) → IsLowestStopped n s o → NamesFailed (RoseAt G.faults old new) n o
-    names None low = tt
-    names (Some j) low = (low.0, rose_at G n (catalogue_of load) l s streams_are old new many all j low.1.0 low.0 low.1.1)
+    names : (o : Option ℕ) → IsLowestStopped n s o → NamesLowest n stops o
+    names None low = low
+    names (Some j) low = low
 
     -- the report names none if no count rose
     none_failed : (o : Option ℕ) → IsLowestStopped n s o → ((j : ℕ) → j < n → RoseAt G.faults old new j → ⊥) → o ≡ None
     none_failed None low worked = refl
-    none_failed (Some j) low worked = (let named = names (Some j) low in absurd (worked j named.0 named.1))
+    none_failed (Some j) low worked = absurd (worked j low.0 (rose_at G n (catalogue_of load) l s streams_are old new many all j low.1.0 low.0 low.1.1))
 
     module _ (e : RunEnd) (whole : by true l t.opening (came_far t)) (over : IsOver n s) (complete : ((j : ℕ) → j < n → stops j ≡ None) → AllAcked load run) (hears : Type 0) (held held1 held' : List ℕ) (faults faults1 faults' : ℕ) (early : faults ≤ faults1) (late : faults1 ≤ faults')
         (heard : hears → Heard held acks e.sink_failed held1) (sink : e.sink_failed ≡ true → Rose faults faults1) (low : IsLowestStopped n s e.disk) (acks_are : e.report.acks ≡ acks)
@@ -160,7 +160,7 @@ module _ {D : Type 0} {G : Ghosts D} (only_now : OnlyNow G) (n m : ℕ) (mode : 
           let going : IsLowestStopped n s None = subst (λ (o : Option ℕ). IsLowestStopped n s o) none low in
           record {
             facts = facts (Rose faults faults') (λ j k. G.tells → Made G.number G.short old new j k) (Wrote hears held held') (λ j. fault_text (status.DiskFault j)) ending.Done (core_run true whole)
-                (has_ended over complete, complete going, (report_text declared e.report None, report_is None, whole_text hears held held1 held' declared e.report None (heard_by false works) wrote));
+                (has_ended over complete, going, complete going, (report_text declared e.report None, report_is None, whole_text hears held held1 held' declared e.report None (heard_by false works) wrote));
             kind = refl;
             disk = λ j f. absurd (cc);
             clean = λ f. clean_below G n (catalogue_of load) l s streams_are old new many all n (omega arith) going;
@@ -184,6 +184,7 @@ module _ {D : Type 0} {G : Ghosts D} (only_now : OnlyNow G) (n m : ℕ) (mode : 
             facts = facts (Rose faults faults') (λ i k. G.tells → Made G.number G.short old new i k) (Wrote hears held held') (λ i. fault_text (status.DiskFault i)) (ending.DiskFailed j) (inl (core_run true whole))
                 (inl (
                   has_ended over complete,
+                  here,
                   λ i lt. made_all G n (catalogue_of load) l s streams_are old new many all i lt,
                   (report_text declared e.report (Some j), report_is (Some j), whole_text hears held held1 held' declared e.report (Some j) (heard_by false works) wrote),
                 ));

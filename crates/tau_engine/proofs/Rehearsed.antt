@@ -99,7 +99,7 @@ module _ {D : Type 0} {G : Ghosts D} (only_now : OnlyNow G) (n m : ℕ) (load : 
       stops = λ j. (s.streams j).stop;
       core = core;
       stopped = at_leaves.stopped;
-      told = (ended, h.complete going, (report_text load.declarations.tables end.report None, reports None, tt));
+      told = (ended, going, h.complete going, (report_text load.declarations.tables end.report None, reports None, tt));
       imaged = imaged n m Values load l t.joined s t.course run t.is (Now G.tells G.may_leave old new) (Now G.tells G.may_leave old new) (RoseAt G.faults old new) (Unit {0}) (λ u j y lt q. left_now j y lt q);
       acknowledged = acknowledged n m Values load l t.joined s t.course run t.is (λ j y. ⊥) (Now G.tells G.may_leave old new) (RoseAt G.faults old new) at_leaves;
     };
@@ -122,6 +122,7 @@ module _ {D : Type 0} {G : Ghosts D} (only_now : OnlyNow G) (n m : ℕ) (load : 
           stopped = at_leaves.stopped;
           told = inl (
             ended,
+            q,
             λ i lt. (let k = made_all G n (catalogue_of load) l s streams_are old new many all i lt in (k.0, k.1, k.2 tells)),
             (report_text load.declarations.tables end.report (Some j), reports (Some j), tt),
           );

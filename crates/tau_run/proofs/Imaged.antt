@@ -1,5 +1,5 @@
 -- What the laws say of what stops may leave, over whatever relations say it.
-use Rattle.std.proofs.Common.{ℕ, ◌+◌, ◌<◌, ◌≡◌, List, ◌++◌, length, refl, ap, subst, ◌∙◌, Bool, Option, arith}
+use Rattle.std.proofs.Common.{ℕ, ◌+◌, ◌<◌, ◌≡◌, List, ◌++◌, length, refl, ap, subst, ◌∙◌, Option, arith}
 use Rattle.std.specs.Prelude.{Some, None, slice_get}
 use Rattle.std.proofs.lemmas.List.{length-append}
 use Rattle.tau_base.specs.declared.value.LogMode.{LogMode}
@@ -12,11 +12,9 @@ use Rattle.tau_run.specs.Run.{Run, AllAcked}
 use Rattle.tau_run.specs.Facts.{catalogue_of, IsImaged, IsAcknowledged, IsEnded}
 use Rattle.tau_run.specs.Course.{IsRunOf, IsCourse}
 use Rattle.tau_run.specs.Left.{IsLeft, Leaves, IsOver}
-use Rattle.tau_run.specs.Told.{Ending, IsCoreRunAt, RunTells, RunFacts}
-use Rattle.tau_run.specs.Turns.{Progress}
 use Rattle.tau_run.proofs.Each.{one_content}
 use Rattle.tau_run.proofs.Logs.{got_within}
-use Rattle.tau_run.proofs.Results.{history_law, contents_law, images_law, acked_law, ends_law}
+use Rattle.tau_run.proofs.Results.{contents_law, images_law, acked_law, ends_law}
 
 module _ (n m : ℕ) (mode : LogMode) (load : Workload) (l : Load) (K : List (Act Txn)) (s : Core) (c : IsCourse n m mode load l K s) (run : Run) (is : IsRunOf n l K s (catalogue_of load) run)
     (past now : ℕ → List ℕ → Type 0) (rose : ℕ → Type 0) where
@@ -61,17 +59,3 @@ module _ (n m : ℕ) (mode : LogMode) (load : Workload) (l : Load) (K : List (Ac
           opened = law.3;
           all = λ none. complete (λ j lt. going j (none j lt));
         }
-
-    -- all of it, for the record of a run
-    pub facts : (by : Bool → Load → Core → Progress → Type 0) (unborn sink_rose : Type 0) (made : ℕ → ℕ → Type 0) (wrote : List ℕ → Type 0) (fault : ℕ → List ℕ) (ending : Ending) → IsCoreRunAt by n m mode load (λ j. (s.streams j).stop) run ending →
-        RunTells (IsEnded n load now rose) n load rose sink_rose made wrote fault run ending → RunFacts by n m mode load unborn past now rose sink_rose made wrote fault ending
-    facts by unborn sink_rose made wrote fault ending core told = record {
-      run = run;
-      history = history_law n m mode load l K s c run is;
-      stops = λ j. (s.streams j).stop;
-      core = core;
-      stopped = leaves.stopped;
-      told = told;
-      imaged = imaged unborn (λ u j x lt q. leaves.before j x lt q);
-      acknowledged = acknowledged;
-    }

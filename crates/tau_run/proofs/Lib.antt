@@ -23,6 +23,5 @@ pub mod Results
 pub mod Imaged
 pub mod Led
 pub mod Acks
-pub mod Rows
 pub mod Sources
 pub mod Start

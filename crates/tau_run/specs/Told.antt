@@ -26,21 +26,21 @@ pub data Ending : Type 0 where
 abbrev pub WroteFront : (List ℕ → Type 0) → Type 0 → List ℕ → Type 0
 WroteFront wrote sink_rose text = wrote text ⊎ ((k : ℕ) × (k < length text) × wrote (take k text) × sink_rose)
 
--- the stream that the report names has failed
-abbrev pub NamesFailed : (ℕ → Type 0) → ℕ → Option ℕ → Type 0
-NamesFailed rose n None = Unit {0}
-NamesFailed rose n (Some j) = (j < n) × rose j
+-- the report names the lowest stream that was stopped, and none if none was
+abbrev pub NamesLowest : ℕ → (ℕ → Option ℕ) → Option ℕ → Type 0
+NamesLowest n stops None = (j : ℕ) → j < n → stops j ≡ None
+NamesLowest n stops (Some j) = (j < n) × ((at : ℕ) × (stops j ≡ Some at)) × ((i : ℕ) → i < j → stops i ≡ None)
 
--- What was written of the run, by how it ended; `fault` is the line that tells of a disk that failed before the run began.
-abbrev pub RunTells : (ended : Run → Type 0) → ℕ → Workload → (ℕ → Type 0) → Type 0 → (ℕ → ℕ → Type 0) → (List ℕ → Type 0) → (ℕ → List ℕ) → Run → Ending → Type 0
-RunTells ended n load rose sink_rose made wrote fault run Done = ended run × AllAcked load run × ((text : List ℕ) × IsReportOf load run None text × wrote text)
-RunTells ended n load rose sink_rose made wrote fault run (DiskFailed j) =
-    (ended run × ((i : ℕ) → i < n → (k : ℕ) × (calls_to_open ≤ k) × made i k) × ((text : List ℕ) × IsReportOf load run (Some j) text × wrote text))
+-- What was written of the run, by how it ended; `stops` tells where each stream was stopped, and `fault` is the line that tells of a disk that failed before the run began.
+abbrev pub RunTells : (ended : Run → Type 0) → ℕ → Workload → (ℕ → Option ℕ) → Type 0 → (ℕ → ℕ → Type 0) → (List ℕ → Type 0) → (ℕ → List ℕ) → Run → Ending → Type 0
+RunTells ended n load stops sink_rose made wrote fault run Done = ended run × NamesLowest n stops None × AllAcked load run × ((text : List ℕ) × IsReportOf load run None text × wrote text)
+RunTells ended n load stops sink_rose made wrote fault run (DiskFailed j) =
+    (ended run × NamesLowest n stops (Some j) × ((i : ℕ) → i < n → (k : ℕ) × (calls_to_open ≤ k) × made i k) × ((text : List ℕ) × IsReportOf load run (Some j) text × wrote text))
     ⊎ ((run.calls ≡ []) × (run.acks ≡ []) × ((k : ℕ) × (k ≤ calls_to_open) × made j k) × WroteFront wrote sink_rose (fault j))
-RunTells ended n load rose sink_rose made wrote fault run SinkFailed =
-    ended run × ((text : List ℕ) × (failed : Option ℕ) × (k : ℕ) × IsReportOf load run failed text × NamesFailed rose n failed × (k < length text) × wrote (take k text))
-RunTells ended n load rose sink_rose made wrote fault run NoMemory = (k : ℕ) × WroteFront wrote sink_rose (ack_lines (take k run.acks))
-RunTells ended n load rose sink_rose made wrote fault run NotBegun = (run.calls ≡ []) × (run.acks ≡ [])
+RunTells ended n load stops sink_rose made wrote fault run SinkFailed =
+    ended run × ((text : List ℕ) × (failed : Option ℕ) × (k : ℕ) × IsReportOf load run failed text × NamesLowest n stops failed × (k < length text) × wrote (take k text))
+RunTells ended n load stops sink_rose made wrote fault run NoMemory = (k : ℕ) × WroteFront wrote sink_rose (ack_lines (take k run.acks))
+RunTells ended n load stops sink_rose made wrote fault run NotBegun = (run.calls ≡ []) × (run.acks ≡ [])
 
 -- the turns of a workload; none where it has no section of them
 abbrev pub turns_of : Workload → List Turn
@@ -93,6 +93,6 @@ pub record RunFacts (by : Bool → Load → Core → Progress → Type 0) (n m :
   pub stops : ℕ → Option ℕ
   pub core : IsCoreRunAt by n m mode load stops run ending
   pub stopped : (j k : ℕ) → stops j ≡ Some k → rose j
-  pub told : RunTells (IsEnded n load now rose) n load rose sink_rose made wrote fault run ending
+  pub told : RunTells (IsEnded n load now rose) n load stops sink_rose made wrote fault run ending
   pub imaged : IsImaged n mode load unborn past run
   pub acknowledged : IsAcknowledged n load now run
