@@ -236,6 +236,3 @@ fn scan(calls: &mut Vec<Waiting>, pass: &mut Pass) -> Option<usize>
     pass.next = passed;
     None
 }
-
-#[cfg(test)]
-mod tests;

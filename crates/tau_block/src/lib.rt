@@ -8,6 +8,3 @@ mod write;
 pub use content::{Content, contents_of};
 pub use fault::{ImageFault, ImageRefusal};
 pub use write::{append_tail, header, open_gate};
-
-#[cfg(test)]
-mod tests;

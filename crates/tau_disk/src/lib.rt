@@ -15,6 +15,3 @@ pub use durable::write_durably;
 pub use gate::{Gate, Place, Quiet};
 pub use memory::MemDisk;
 pub use streams::{MemSink, MemSource, ReadSource, WriteSink};
-
-#[cfg(test)]
-mod tests;

@@ -6,6 +6,3 @@ mod laws;
 
 pub use calls::generate;
 pub use laws::any_order;
-
-#[cfg(test)]
-mod tests;

@@ -18,6 +18,3 @@ pub use laws::{
 pub use report::{are_within, reported};
 pub use store::SerialStore;
 pub use tables::Tables;
-
-#[cfg(test)]
-mod tests;

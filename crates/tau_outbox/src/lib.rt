@@ -199,6 +199,3 @@ fn continues(piece: &Piece, to: u64, used: usize) -> bool
     }
     piece.bytes.len() <= MAX_BODY - used
 }
-
-#[cfg(test)]
-mod tests;

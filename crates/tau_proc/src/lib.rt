@@ -19,6 +19,3 @@ pub use proc::Proc;
 pub use procs::{ADD, DEL, FIRST_DECLARED, GET, PUT, Procs};
 pub use reply::{Reply, Want};
 pub use step::{Compare, Operand, Step};
-
-#[cfg(test)]
-mod tests;

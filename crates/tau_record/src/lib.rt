@@ -21,6 +21,3 @@ pub use laws::{
     record_in_place,
 };
 pub use vector::{compress, raise};
-
-#[cfg(test)]
-mod tests;

@@ -21,10 +21,3 @@ pub use load::{Declarations, Turn, Workload};
 pub use parse::parse_workload;
 pub use print::{print_declarations, print_workload};
 pub use reading::{Begun, Reading};
-
-#[cfg(test)]
-mod print_tests;
-#[cfg(test)]
-mod rows;
-#[cfg(test)]
-mod tests;

@@ -8,6 +8,3 @@ mod split;
 
 pub use command::{Command, Ending, WordsRefusal};
 pub use read::read_words;
-
-#[cfg(test)]
-mod tests;

@@ -1,4 +1,4 @@
-use super::*;
+use tau_text::{TextRefusal, parse_declarations, parse_workload};
 use crate::rows::{CALLS, DECLARATIONS, LINES, STEPS};
 use std::alloc::{AllocError, Global};
 use std::process::Abort;

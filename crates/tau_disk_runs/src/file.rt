@@ -1,10 +1,10 @@
-use super::*;
 use std::alloc::{Allocator, Global};
 use std::fs::{Files, Metadata, OpenFile, OpenOptions};
 use std::io::{Empty, ErrorKind, Read, Seek, SeekFrom, Write};
 use std::test::*;
 use std::{fs, io};
 use tau_disk::Disk;
+use tau_file::HostFile;
 
 #[test]
 fn a_file_gives_what_was_written(rt: HostRuntime) -> Result<(), Fail> {

@@ -1,7 +1,5 @@
 //! What calls do, against values worked out by hand.
-use crate::{
-    ADD, Compare, DEL, FIRST_DECLARED, GET, Machine, Operand, PUT, Proc, Procs, Reply, Step, Want,
-};
+use tau_proc::{ADD, Compare, DEL, FIRST_DECLARED, GET, Machine, Operand, PUT, Proc, Procs, Reply, Step, Want};
 use arrayvec::ArrayVec;
 use std::alloc::Global;
 use std::process::Abort;

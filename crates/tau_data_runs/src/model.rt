@@ -1,5 +1,5 @@
 //! The store and the reported history, against values worked out by hand.
-use crate::{Committed, SerialStore, Spot, are_within, reported};
+use tau_model::{Committed, SerialStore, Spot, are_within, reported};
 use arrayvec::ArrayVec;
 use std::alloc::Global;
 use std::process::Abort;

@@ -1,4 +1,4 @@
-use super::*;
+use tau_outbox::Outbox;
 
 // Pieces at 13, 15 and 20: nothing is gathered past the hole from 16 to 20.
 #[test]

@@ -1,7 +1,10 @@
-use super::*;
 use std::io;
 use std::io::{ErrorKind, Read, Write};
 use std::test::*;
+use tau_disk::{
+    Disk, Gate, MemDisk, MemSink, MemSource, Place, Quiet, ReadSource, Sink, Source, Tear,
+    WriteSink, write_durably,
+};
 
 #[test]
 fn images_of_a_stop(rt: HostRuntime) -> Result<(), Fail> {

@@ -1,4 +1,4 @@
-use super::*;
+use tau_block::{ImageRefusal, append_tail, contents_of, header, open_gate};
 use std::alloc::Global;
 use std::test::*;
 use tau_base::MAX_BODY;

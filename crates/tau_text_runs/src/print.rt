@@ -1,4 +1,4 @@
-use super::*;
+use tau_text::{TextRefusal, parse_declarations, parse_workload, print_declarations, print_workload};
 use std::alloc::Global;
 use std::test::Fail;
 

@@ -1,4 +1,4 @@
-use super::*;
+use tau_words::{Command, Ending, WordsRefusal, read_words};
 use std::alloc::Global;
 use std::test::Fail;
 use tau_base::LogMode;

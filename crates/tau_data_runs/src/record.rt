@@ -1,6 +1,6 @@
 ghost use Rattle.std.specs.Prelude.{◌≤◌};
 
-use super::*;
+use tau_record::{Entry, RecordCause, RecordFault, RecordRefusal, compress, decode, encode_anchor, encode_catalogue, encode_command, encode_written, raise};
 use arrayvec::ArrayVec;
 use std::alloc::Global;
 use std::process::Abort;

@@ -1,4 +1,5 @@
-use super::*;
+use tau_ack::{Pending, Waiting};
+use tau_base::Lv;
 
 // Calls with the vectors (53,0), (53,61) and (0,40): what is persisted decides, and not the order of the calls.
 #[test]

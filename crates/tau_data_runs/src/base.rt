@@ -1,4 +1,4 @@
-use super::*;
+use tau_base::{Call, Calls, KeptCall, Key, Listed, Lv, Name, Text64, Value, shard_of};
 use arrayvec::ArrayVec;
 use std::test::*;
 

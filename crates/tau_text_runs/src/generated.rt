@@ -1,4 +1,4 @@
-use super::*;
+use tau_gen::generate;
 use std::test::Fail;
 use tau_base::Value;
 

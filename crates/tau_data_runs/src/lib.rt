@@ -1,0 +1,17 @@
+//! Values, procedures, records, blocks, outboxes, waiting calls and histories, as tests.
+#![tactic(auto)]
+
+#[cfg(test)]
+mod ack;
+#[cfg(test)]
+mod base;
+#[cfg(test)]
+mod block;
+#[cfg(test)]
+mod model;
+#[cfg(test)]
+mod outbox;
+#[cfg(test)]
+mod proc;
+#[cfg(test)]
+mod record;

@@ -1,0 +1,7 @@
+//! Disks in memory and real files, as tests.
+#![tactic(auto)]
+
+#[cfg(test)]
+mod disk;
+#[cfg(test)]
+mod file;

@@ -1,0 +1,13 @@
+//! The workload text, its printer, generated workloads and command lines, as tests.
+#![tactic(auto)]
+
+#[cfg(test)]
+mod generated;
+#[cfg(test)]
+mod print;
+#[cfg(test)]
+mod rows;
+#[cfg(test)]
+mod text;
+#[cfg(test)]
+mod words;
