@@ -27,3 +27,4 @@ pub mod Results
 pub mod OnePut
 pub mod Shapes
 pub mod Classes
+pub mod Floors

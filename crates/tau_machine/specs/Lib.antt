@@ -1,3 +1,4 @@
+pub mod Above
 pub mod Accounts
 pub mod Events
 pub mod Good

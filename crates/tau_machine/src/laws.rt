@@ -1,4 +1,5 @@
 //! The theorems on runs of the core, as functions that do nothing.
+ghost use Rattle.tau_machine.specs.Above.{AboveTheorem};
 ghost use Rattle.tau_machine.specs.Theorems.{KeptTheorem, RunTheorem, GoesOnTheorem, LetGoTheorem, OrderTheorem, RowsTheorem, ReportedTheorem, NumbersTheorem, CutsTheorem, StreamsTheorem, AcknowledgedTheorem, ContentsTheorem, LightTheorem, CommittedTheorem, EndedTheorem, OwnRowTheorem, PostedTheorem, ExampleTheorem};
 
 /// Each event keeps the invariant, where the calls that commit by it join the commit order.
@@ -85,6 +86,11 @@ pub fn own_row()
 /// The record of a committed call is in flight, posted or gathered.
 pub fn posted()
     ensures { PostedTheorem }
+{}
+
+/// All vectors that a state shows, and those of all committed calls that write, cover what the floors of the opening cover.
+pub fn above()
+    ensures { AboveTheorem }
 {}
 
 /// There are runs: the conditions of the events can be met together.

@@ -5,6 +5,6 @@
 mod laws;
 
 pub use laws::{
-    acknowledged, committed, contents, cuts, ended, example, goes_on, kept, let_go, light, numbers,
-    order, own_row, posted, reported, rows, run, streams,
+    above, acknowledged, committed, contents, cuts, ended, example, goes_on, kept, let_go, light,
+    numbers, order, own_row, posted, reported, rows, run, streams,
 };
