@@ -1,0 +1,3 @@
+pub mod Epochs
+pub mod Known
+pub mod Laws
