@@ -1,4 +1,4 @@
-//! Values, procedures, records, blocks, outboxes, waiting calls and histories, as tests.
+//! Values, procedures, records, blocks, outboxes, waiting calls, epochs and histories, as tests.
 #![tactic(auto)]
 
 #[cfg(test)]
@@ -7,6 +7,8 @@ mod ack;
 mod base;
 #[cfg(test)]
 mod block;
+#[cfg(test)]
+mod epoch;
 #[cfg(test)]
 mod model;
 #[cfg(test)]
