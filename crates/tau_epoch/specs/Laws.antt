@@ -1,4 +1,4 @@
--- What the least epoch above a number and the known epochs with one more are, without the recursions.
+-- What the least epoch above a number is, without the recursion.
 use Rattle.std.specs.Prelude.{ℕ, ◌≤◌, ◌<◌, List}
 use Rattle.std.specs.List.{Contains}
 use Rattle.tau_epoch.specs.Epochs.{Mark}
