@@ -54,13 +54,13 @@ raises (suc n) u f low = elim (cases_eq n u) [
     either-way true = refl
     either-way false = refl
 
-abbrev bound : Plain → ℕ
+abbrev pub bound : Plain → ℕ
 bound origin = origin.load.workers + origin.load.streams + 1
 
-abbrev stop_at : Plain → ℕ
+abbrev pub stop_at : Plain → ℕ
 stop_at origin = origin.load.streams + origin.load.streams
 
-word-stop : (origin : Plain) (c : Now) → word_of origin.load (stop_at origin) c ≡ number_if (is_raised (bound origin) c.raised)
+pub word-stop : (origin : Plain) (c : Now) → word_of origin.load (stop_at origin) c ≡ number_if (is_raised (bound origin) c.raised)
 word-stop origin c = ap (λ (b : Bool). if b then number_if (is_raised (bound origin) c.raised) else (if nat_le (stop_at origin + 1) origin.load.streams then slice_index c.core.ends (stop_at origin) else slice_index c.core.plv (stop_at origin - origin.load.streams)))
     (eq-eqb (stop_at origin) (stop_at origin) refl)
 

@@ -12,6 +12,7 @@ pub mod Sweeping
 pub mod OwnAnchors
 pub mod Acknowledging
 pub mod Looking
+pub mod Words
 pub mod Slots
 pub mod SplittingOff
 pub mod JoiningIn

@@ -9,6 +9,8 @@ pub mod Kept
 pub mod Works
 pub mod Owns
 pub mod Manages
+pub mod Looks
+pub mod Visits
 pub mod Laid
 pub mod Taken
 pub mod Ends

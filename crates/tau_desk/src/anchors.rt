@@ -5,6 +5,7 @@ ghost use Rattle.tau_rule.specs.Positions.{sees_to};
 ghost use Rattle.tau_txn.specs.Next.{next_action};
 ghost use Rattle.tau_txn.specs.declared.action.Action.TheVariants as action;
 ghost use Rattle.tau_desk.specs.Anchors.{ReadsAnchor};
+ghost use Rattle.tau_desk.specs.Looks.{PersistedAt};
 
 use crate::desk::Desk;
 use crate::manager::take_anchor;
@@ -19,6 +20,7 @@ impl WorkerSeat {
         requires there { stream < desk.now.streams }
         ensures seen { slice_index self.old.seen stream ≤ result }
         ensures knows { self.new ≡ record self.old { me = (sees_to stream result self.old.me.0, self.old.me.1); seen = slice_set self.old.seen stream result } }
+        ensures stands { PersistedAt desk.now.table.shared.key.value self.old.me.0 self.old.seen stream result }
     {
         let upto = desk.persisted(&mut self.seat, stream as usize);
         self.seen.set(stream as usize, upto);

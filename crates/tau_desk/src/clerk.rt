@@ -1,7 +1,8 @@
 //! The clerk on its seat.
-ghost use Rattle.std.specs.Prelude.{◌≡◌, ◌<◌, ◌≤◌, IfNone, IfSome, Some, false, true, length, slice_index, slice_set};
+ghost use Rattle.std.specs.Prelude.{◌≡◌, ◌<◌, ◌≤◌, IfNone, IfSome, Some, ℕ, false, true, length, slice_index, slice_set};
 ghost use Rattle.tau_ack.specs.Pending.{NoneCovered, TakesFirst};
 ghost use Rattle.tau_rule.specs.Positions.{sees_to};
+ghost use Rattle.tau_desk.specs.Looks.{LooksOver, PersistedAt};
 ghost use Rattle.tau_desk.specs.Manages.{AcksFirst, AcksNone, SeesOn};
 
 use crate::desk::Desk;
@@ -20,6 +21,7 @@ impl ClerkSeat {
         requires there { stream < desk.now.streams }
         ensures seen { slice_index self.old.seen stream ≤ result }
         ensures knows { self.new ≡ record self.old { me = (sees_to stream result self.old.me.0, self.old.me.1); seen = slice_set self.old.seen stream result } }
+        ensures stands { PersistedAt desk.now.table.shared.key.value self.old.me.0 self.old.seen stream result }
     {
         let upto = desk.persisted(&mut self.seat, stream as usize);
         self.seen.set(stream as usize, upto);
@@ -67,6 +69,9 @@ impl ClerkSeat {
         ensures sees { SeesOn self.old.me self.new.me self.old.seen self.new.seen }
         ensures rest { self.new ≡ record self.old { me = self.new.me; seen = self.new.seen } }
         ensures none { result ≡ false → self.new.seen ≡ self.old.seen }
+        ensures others { (j : ℕ) → (j ≡ stream → ⊥) → slice_index self.new.seen j ≡ slice_index self.old.seen j }
+        ensures stands { PersistedAt desk.now.table.shared.key.value self.old.me.0 self.old.seen stream (slice_index self.new.seen stream) }
+        ensures rose { result ≡ true → slice_index self.old.seen stream < slice_index self.new.seen stream }
     {
         let before = self.seen_at(desk, stream);
         self.look(desk, stream) > before
@@ -79,6 +84,7 @@ impl ClerkSeat {
         ensures sees { SeesOn self.old.me self.new.me self.old.seen self.new.seen }
         ensures rest { self.new ≡ record self.old { me = self.new.me; seen = self.new.seen } }
         ensures none { result ≡ false → self.new.seen ≡ self.old.seen }
+        ensures looks { LooksOver desk.now.table.shared.key.value self.old.me.0 desk.now.streams self.old.seen self.new.seen result }
     {
         let mut rose = false;
         for stream in 0..desk.streams {

@@ -11,10 +11,11 @@ ghost use Rattle.tau_rule.specs.Places.{IsToPlace, placed};
 ghost use Rattle.tau_rule.specs.Boxes.{BoxOf, GivesOutbox, told_box};
 ghost use Rattle.tau_rule.specs.Positions.{IsManager, sees_to};
 ghost use Rattle.tau_rule.specs.declared.part.Part.{Part as PartOf};
+ghost use Rattle.tau_desk.specs.Looks.{PersistedAt};
 
 use crate::kept::Kept;
 use crate::room::Room;
-use atomic_table::Table;
+use atomic_table::{Play, Table};
 use std::alloc::Global;
 use std::hint::spin_loop;
 use std::marker::Brand;
@@ -24,13 +25,22 @@ use tau_ack::Pending;
 use tau_base::SHARDS;
 use tau_core::{Core, Load};
 use tau_outbox::Outbox;
-use tau_rule::{Give, Look, OneCore, Part, Place, Seat, Store, Take, Told, View};
+use tau_rule::{Give, OneCore, Part, Place, Seat, Store, Take, Told, View};
 use tau_shard::Shard;
 use tau_txn::Txn;
 
 /// How often a seat looks for a turn before it sleeps: longer than a part is mostly out, since for one that sleeps each turn
 /// that is given back costs a call of the system, and then others sleep too.
 const LOOKS: u64 = 1_000;
+
+/// The word of a persisted position was read.
+pub struct LookPersisted;
+
+impl Play<Option<Part>, View> for LookPersisted {
+    ghost use Rattle.tau_desk.specs.Looks.{saw_persisted};
+
+    ghost then = { saw_persisted };
+}
 
 /// The core, split over a table.
 #[derive(Drop)]
@@ -251,9 +261,10 @@ impl Desk {
         ensures own { (seat.new.table_id ≡ seat.old.table_id) × (seat.new.id ≡ seat.old.id) }
         ensures small { result < 2 ^ 62 }
         ensures seen { (slice_index seat.old.me.0.seen stream ≤ result) × (seat.new.me ≡ (sees_to stream result seat.old.me.0, seat.old.me.1)) }
+        ensures stands { PersistedAt self.now.table.shared.key.value seat.old.me.0 seat.old.me.0.seen stream result }
     {
         let word = 8 * (self.parts + (self.streams + stream));
-        self.table.shared.load::<Look>(seat, word)
+        self.table.shared.load::<LookPersisted>(seat, word)
     }
 
     /// The manager of the stream stores how far its disk is.

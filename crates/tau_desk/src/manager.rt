@@ -1,5 +1,5 @@
 //! The manager of a stream on its seat.
-ghost use Rattle.std.specs.Prelude.{◌≡◌, ◌+◌, ◌-◌, ◌%◌, ◌^◌, ◌<◌, ◌≤◌, [], ◌∷◌, None, Some, ℕ, IfSome, OnErr, OnOk, false, length, slice_get, slice_index, slice_set, vec_len};
+ghost use Rattle.std.specs.Prelude.{◌≡◌, ◌+◌, ◌-◌, ◌%◌, ◌^◌, ◌<◌, ◌≤◌, [], ◌∷◌, None, Some, ℕ, IfNone, IfSome, OnErr, OnOk, false, true, length, slice_get, slice_index, slice_set, vec_len};
 ghost use Rattle.tau_base.specs.declared.limits.TheConstants.{MAX_LSN, SHARDS};
 ghost use Rattle.tau_rule.specs.Role.{Role as RoleOf};
 ghost use Rattle.tau_rule.specs.Boxes.{box_in};
@@ -11,7 +11,9 @@ ghost use Rattle.tau_rule.specs.declared.part.Part.{Part as PartOf};
 ghost use Rattle.tau_outbox.specs.Gather.{Gathers};
 ghost use Rattle.tau_outbox.specs.Pieces.{end_of};
 ghost use Rattle.tau_desk.specs.Works.{anchor_in};
+ghost use Rattle.tau_desk.specs.Looks.{LooksOver, PersistedAt};
 ghost use Rattle.tau_desk.specs.Manages.{GathersBox, GathersOwn, OnlyRoom, PlacedTo, PlacesAnchor, PutsAnchor, SeesOn};
+ghost use Rattle.tau_desk.specs.Visits.{Publishes, Sweeps};
 
 use crate::desk::Desk;
 use crate::seat::{ManagerSeat, Stock};
@@ -78,6 +80,7 @@ impl Stock {
     fn newer(&self, first: u32, before: u32) -> Option<u32>
         requires few { first + length self.now.anchors < 2 ^ 32 }
         ensures newest { IfSome result (λ n. (before < n) × (1 ≤ length self.now.anchors) × (n ≡ first + length self.now.anchors)) }
+        ensures none { IfNone result (1 ≤ length self.now.anchors → first + length self.now.anchors ≤ before) }
     {
         let count = self.anchors.len();
         if count == 0 {
@@ -164,6 +167,7 @@ impl ManagerSeat {
         requires there { stream < desk.now.streams }
         ensures seen { slice_index self.old.seen stream ≤ result }
         ensures knows { self.new ≡ record self.old { me = (sees_to stream result self.old.me.0, self.old.me.1); seen = slice_set self.old.seen stream result } }
+        ensures stands { PersistedAt desk.now.table.shared.key.value self.old.me.0 self.old.seen stream result }
     {
         let upto = desk.persisted(&mut self.seat, stream as usize);
         self.seen.set(stream as usize, upto);
@@ -189,6 +193,9 @@ impl ManagerSeat {
         ensures sees { SeesOn self.old.me self.new.me self.old.seen self.new.seen }
         ensures rest { self.new ≡ record self.old { me = self.new.me; seen = self.new.seen } }
         ensures none { result ≡ false → self.new.seen ≡ self.old.seen }
+        ensures others { (j : ℕ) → (j ≡ stream → ⊥) → slice_index self.new.seen j ≡ slice_index self.old.seen j }
+        ensures stands { PersistedAt desk.now.table.shared.key.value self.old.me.0 self.old.seen stream (slice_index self.new.seen stream) }
+        ensures rose { result ≡ true → slice_index self.old.seen stream < slice_index self.new.seen stream }
     {
         let before = self.seen_at(desk, stream);
         self.persisted(desk, stream) > before
@@ -201,6 +208,7 @@ impl ManagerSeat {
         ensures sees { SeesOn self.old.me self.new.me self.old.seen self.new.seen }
         ensures rest { self.new ≡ record self.old { me = self.new.me; seen = self.new.seen } }
         ensures none { result ≡ false → self.new.seen ≡ self.old.seen }
+        ensures looks { LooksOver desk.now.table.shared.key.value self.old.me.0 desk.now.streams self.old.seen self.new.seen result }
     {
         let mut rose = false;
         for stream in 0..desk.streams {
@@ -229,6 +237,7 @@ impl ManagerSeat {
         requires opened { self.old.me.0.opened ≡ Some desk.now.table.shared.key.value }
         requires there { number < SHARDS }
         ensures same { self.new ≡ self.old }
+        ensures sweeps { Sweeps desk.now.table.shared.key.value self.old number }
     {
         let mut shard = take_free(rt, desk, &mut self.seat, number as usize);
         shard.drop_covered(&self.seen);
@@ -298,6 +307,7 @@ impl ManagerSeat {
         requires opened { self.old.me.0.opened ≡ Some desk.now.table.shared.key.value }
         requires few { slice_index desk.now.table.shared.key.value.load.opening.anchors.items self.old.stream + length self.old.stock.anchors < 2 ^ 32 }
         ensures same { self.new ≡ self.old }
+        ensures publishes { Publishes desk.now.table.shared.key.value self.old }
     {
         let number = desk.anchor_number(self.stream);
         let (before, lv) = take_anchor(rt, desk, &mut self.seat, number);

@@ -3,12 +3,23 @@ ghost use Rattle.std.specs.Prelude.{◌≡◌, ◌+◌, ◌<◌, ◌==◌, [], �
 ghost use Rattle.tau_rule.specs.Role.{Role as RoleOf};
 ghost use Rattle.tau_rule.specs.Rule.{has};
 ghost use Rattle.tau_desk.specs.Ends.{told_head_raised};
+ghost use Rattle.tau_desk.specs.Looks.{HasRaised, StopStands};
 ghost use Rattle.tau_desk.specs.Manages.{told_found, told_raised};
 
 use crate::desk::Desk;
 use crate::seat::{ClerkSeat, Head, ManagerSeat, WorkerSeat};
+use atomic_table::Play;
 use std::marker::Brand;
-use tau_rule::{Know, Seat, Told};
+use tau_rule::{Know, Part, Seat, Told, View};
+
+/// The word of the stop was read.
+pub struct LookStop;
+
+impl Play<Option<Part>, View> for LookStop {
+    ghost use Rattle.tau_desk.specs.Looks.{saw_stop};
+
+    ghost then = { saw_stop };
+}
 
 impl Desk {
     // A seat that has one role raises the stop.
@@ -63,19 +74,10 @@ impl Desk {
         requires opened { seat.old.me.0.opened ≡ Some self.now.table.shared.key.value }
         ensures own { (seat.new.table_id ≡ seat.old.table_id) × (seat.new.id ≡ seat.old.id) }
         ensures found { (word : ℕ) × (result ≡ (word == 1)) × (seat.new.me ≡ (told_found seat.old.me.0 word, seat.old.me.1)) }
-    {
-        self.found_as::<Brand>(seat)
-    }
-
-    fn found_as<N: Told>(&self, seat: &mut Seat) -> bool
-        requires own { seat.old.table_id ≡ self.now.table.shared.table_id }
-        requires opened { seat.old.me.0.opened ≡ Some self.now.table.shared.key.value }
-        requires told { N.knows ≡ told_found seat.old.me.0 }
-        ensures own { (seat.new.table_id ≡ seat.old.table_id) × (seat.new.id ≡ seat.old.id) }
-        ensures found { (word : ℕ) × (result ≡ (word == 1)) × (seat.new.me ≡ (told_found seat.old.me.0 word, seat.old.me.1)) }
+        ensures stands { StopStands self.now.table.shared.key.value seat.old.me.0 result }
     {
         let word = 8 * (self.parts + (self.streams + self.streams));
-        self.table.shared.load::<Know<N>>(seat, word) == 1
+        self.table.shared.load::<LookStop>(seat, word) == 1
     }
 }
 
@@ -89,11 +91,13 @@ impl WorkerSeat {
         desk.raise(&mut self.seat);
     }
 
-    /// Looks whether the stop is raised.
+    /// Looks whether the stop is raised, as it is for one that raised it.
     pub fn stopped(&mut self, desk: &Desk) -> bool
         requires own { self.old.table_id ≡ desk.now.table.shared.table_id }
         requires opened { self.old.me.0.opened ≡ Some desk.now.table.shared.key.value }
         ensures knows { (word : ℕ) × (result ≡ (word == 1)) × (self.new ≡ record self.old { me = (told_found self.old.me.0 word, self.old.me.1) }) }
+        ensures stands { StopStands desk.now.table.shared.key.value self.old.me.0 result }
+        ensures mine { HasRaised self.old.me.0 → result ≡ true }
     {
         desk.found(&mut self.seat)
     }
@@ -109,11 +113,13 @@ impl ManagerSeat {
         desk.raise(&mut self.seat);
     }
 
-    /// Looks whether the stop is raised.
+    /// Looks whether the stop is raised, as it is for one that raised it.
     pub fn stopped(&mut self, desk: &Desk) -> bool
         requires own { self.old.table_id ≡ desk.now.table.shared.table_id }
         requires opened { self.old.me.0.opened ≡ Some desk.now.table.shared.key.value }
         ensures knows { (word : ℕ) × (result ≡ (word == 1)) × (self.new ≡ record self.old { me = (told_found self.old.me.0 word, self.old.me.1) }) }
+        ensures stands { StopStands desk.now.table.shared.key.value self.old.me.0 result }
+        ensures mine { HasRaised self.old.me.0 → result ≡ true }
     {
         desk.found(&mut self.seat)
     }
@@ -129,11 +135,13 @@ impl ClerkSeat {
         desk.raise(&mut self.seat);
     }
 
-    /// Looks whether the stop is raised.
+    /// Looks whether the stop is raised, as it is for one that raised it.
     pub fn stopped(&mut self, desk: &Desk) -> bool
         requires own { self.old.table_id ≡ desk.now.table.shared.table_id }
         requires opened { self.old.me.0.opened ≡ Some desk.now.table.shared.key.value }
         ensures knows { (word : ℕ) × (result ≡ (word == 1)) × (self.new ≡ record self.old { me = (told_found self.old.me.0 word, self.old.me.1) }) }
+        ensures stands { StopStands desk.now.table.shared.key.value self.old.me.0 result }
+        ensures mine { HasRaised self.old.me.0 → result ≡ true }
     {
         desk.found(&mut self.seat)
     }
@@ -150,11 +158,13 @@ impl Head {
         desk.raise_head(&mut self.seat);
     }
 
-    /// Looks whether the stop is raised.
+    /// Looks whether the stop is raised, as it is for one that raised it.
     pub fn stopped(&mut self, desk: &Desk) -> bool
         requires own { self.old.table_id ≡ desk.now.table.shared.table_id }
         requires opened { self.old.me.0.opened ≡ Some desk.now.table.shared.key.value }
         ensures knows { (word : ℕ) × (result ≡ (word == 1)) × (self.new ≡ record self.old { me = (told_found self.old.me.0 word, self.old.me.1) }) }
+        ensures stands { StopStands desk.now.table.shared.key.value self.old.me.0 result }
+        ensures mine { HasRaised self.old.me.0 → result ≡ true }
     {
         desk.found(&mut self.seat)
     }

@@ -295,6 +295,7 @@ pub fn make_room<R: Wait>(rt: &R, desk: &Desk, seat: &mut Seat, worker: u8, room
     ensures step { seat.new.me ≡ (told_room seat.old.me.0 (room.new.records, room.new.calls), []) }
     ensures room { (room.old.records ≤ room.new.records) × (room.old.calls ≤ room.new.calls) }
     ensures roomy { result ≡ true → (1 ≤ room.new.records) × (1 ≤ room.new.calls) }
+    ensures other { result ≡ false → 1 ≤ room.new.records → 1 ≤ room.new.calls → ⊥ }
 {
     let (mut outbox, mut pending) = take_own_outbox(rt, desk, seat, worker);
     room.records = more_records(&mut outbox, room.records);
@@ -305,7 +306,8 @@ pub fn make_room<R: Wait>(rt: &R, desk: &Desk, seat: &mut Seat, worker: u8, room
 
 /// Whether there is room for a call.
 pub(crate) fn is_roomy(room: Room) -> bool
-    ensures { result ≡ true → (1 ≤ room.records) × (1 ≤ room.calls) }
+    ensures roomy { result ≡ true → (1 ≤ room.records) × (1 ≤ room.calls) }
+    ensures other { result ≡ false → 1 ≤ room.records → 1 ≤ room.calls → ⊥ }
 {
     if room.records == 0 {
         return false;

@@ -284,7 +284,8 @@ impl WorkerSeat {
 
     /// Whether the outbox has room for the next call's record, and for the call while it waits.
     pub fn is_roomy(&self) -> bool
-        ensures { result ≡ true → (1 ≤ self.now.work.spare.0) × (1 ≤ self.now.work.spare.1) }
+        ensures roomy { result ≡ true → (1 ≤ self.now.work.spare.0) × (1 ≤ self.now.work.spare.1) }
+        ensures other { result ≡ false → 1 ≤ self.now.work.spare.0 → 1 ≤ self.now.work.spare.1 → ⊥ }
     {
         work::is_roomy(self.work.room)
     }
@@ -295,6 +296,7 @@ impl WorkerSeat {
         requires opened { self.old.me.0.opened ≡ Some desk.now.table.shared.key.value }
         ensures made { RoomOn self.old self.new }
         ensures roomy { result ≡ true → (1 ≤ self.new.work.spare.0) × (1 ≤ self.new.work.spare.1) }
+        ensures other { result ≡ false → 1 ≤ self.new.work.spare.0 → 1 ≤ self.new.work.spare.1 → ⊥ }
     {
         work::make_room(rt, desk, &mut self.seat, self.worker, &mut self.work.room)
     }

@@ -1,0 +1,14 @@
+use Rattle.std.proofs.Common.{subst}
+use Rattle.tau_core.specs.State.{Plain}
+use Rattle.tau_desk.specs.Looks.{StopStands}
+use Rattle.tau_desk.specs.Seats.{PlainClerkSeat}
+use Rattle.tau_desk.proofs.Words.{has-raised}
+use Rattle.tau_desk.proofs.seat.ClerkSeat.stopped.Goals as goal
+
+pub returns-clause-stands : goal.returns-clause-stands
+returns-clause-stands c = subst (λ (s : PlainClerkSeat). StopStands c.args.desk.now.table.shared.key.value s.me.0 c.found.result) c.self.view_is c.found.ensures.stands
+
+pub returns-clause-mine : goal.returns-clause-mine
+returns-clause-mine c =
+    let key : Plain = c.args.desk.now.table.shared.key.value in
+    λ raised. has-raised key c.args.self.now.me.0 c.found.result (subst (λ (s : PlainClerkSeat). StopStands key s.me.0 c.found.result) c.self.view_is c.found.ensures.stands) raised
