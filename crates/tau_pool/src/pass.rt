@@ -20,7 +20,7 @@ pub struct Pass {
 }
 
 /// Whether the record at this place is not started, and covered.
-fn is_ready(items: &[Item], rlv: &Lv, place: usize) -> bool
+pub fn is_ready(items: &[Item], rlv: &Lv, place: usize) -> bool
     ensures { result ≡ is_ready items.now rlv.now place }
 {
     match items.get(place) {

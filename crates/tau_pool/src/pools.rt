@@ -10,7 +10,7 @@ ghost use Rattle.tau_pool.specs.Pooled.{IsRecovered, IsStarted, IsFlying, IsFini
 
 use crate::first::{first_left, reach_of};
 use crate::item::{Item, Job, Stage, items_of};
-use crate::pass::next_ready;
+use crate::pass::{is_ready, next_ready};
 use crate::waits::{Wait, waits_of};
 use std::alloc::Global;
 use std::marker::Model;
@@ -93,10 +93,61 @@ impl Pools {
         ensures fresh { (job other : Job) → result ≡ Next.Taken job → IsFlying self.old other → other.place ≢ job.place }
         ensures kept { (other : Job) → IsFlying self.old other → IsFlying self.new other }
     {
+        if self.all_started() {
+            return Next::Done;
+        }
         match self.next_ready() {
             Some(place) => Next::Taken(self.start(place)),
             None => self.none_ready(),
         }
+    }
+
+    /// Starts the record at this place, if it is ready.
+    pub fn take_at(&mut self, place: usize) -> Option<Job>
+        ensures taken { IfSome result (λ job. IsStarted self.old job self.new) }
+        ensures none { IsNone result → self.new ≡ self.old }
+        ensures recovered { IsRecovered self.new.ends self.new.rlv self.new.items }
+    {
+        if !self.is_ready(place) {
+            return None;
+        }
+        Some(self.start(place))
+    }
+
+    /// The record at this place, if it is ready. It stays so until it is started.
+    pub fn ready_at(&self, place: usize) -> Option<Job>
+        ensures { IfSome result (λ job. (job.place ≡ place) × (is_ready self.now.items self.now.rlv place ≡ true)) }
+    {
+        if !self.is_ready(place) {
+            return None;
+        }
+        let item = self.items.get(place)?;
+        Some(Job {
+            stream: item.stream,
+            index: item.index,
+            place,
+        })
+    }
+
+    /// Whether the record at this place is not started, and covered.
+    fn is_ready(&self, place: usize) -> bool
+        ensures same { result ≡ is_ready self.now.items self.now.rlv place }
+        ensures recovered { IsRecovered self.now.ends self.now.rlv self.now.items }
+    {
+        is_ready(&self.items, &self.rlv, place)
+    }
+
+    /// The place of the first record of a stream that is left, or of one behind the stream.
+    pub fn first_of(&self, stream: usize) -> Option<usize> {
+        self.nexts.get(stream).copied()
+    }
+
+    /// Whether each record is started.
+    fn all_started(&self) -> bool
+        ensures done { result ≡ true → IsDone self.now }
+        ensures recovered { IsRecovered self.now.ends self.now.rlv self.now.items }
+    {
+        self.waiting == 0
     }
 
     /// What is answered where no record is ready.
