@@ -73,3 +73,8 @@ agrees-push (x ∷ reads) r db agrees is = (agrees.0, agrees-push reads r db agr
 pub agrees-more : (reads : List (Key × Value)) (i : ℕ) (x : Key × Value) (db : Db) → i < length reads → x ≡ get_or reads i x → Agrees (take i reads) db → db x.0 ≡ x.1 → Agrees (take (i + 1) reads) db
 agrees-more reads i x db lt is agrees same =
     subst (λ rs. Agrees rs db) (ap (λ z. take i reads ++ z ∷ []) is ∙ sym (take_more reads i x lt)) (agrees-push (take i reads) x db agrees same)
+
+-- one more row is copied
+pub copied-more : (rows copies after : List (Key × Value)) (i : ℕ) (x : Key × Value) (v : Value) → i < length rows → x ≡ get_or rows i x → copies ≡ take i rows → v ≡ x.1 → after ≡ copies ++ (x.0, v) ∷ [] → after ≡ take (i + 1) rows
+copied-more rows copies after i x v lt is so_far same pushed =
+    pushed ∙ (λ k. so_far k ++ (x.0, same k) ∷ []) ∙ ap (λ z. take i rows ++ z ∷ []) is ∙ sym (take_more rows i x lt)

@@ -46,6 +46,14 @@ rest_set w old new x is v far = ap (λ hs. slice_get hs v) is ∙ get_set_other 
 pub rest_trans : (first many : ℕ) (a b c : List (Option Job)) → RestStays first many a b → RestStays first many b c → RestStays first many a c
 rest_trans first many a b c one two v far = two v far ∙ one v far
 
+-- one hand is among many
+pub rest_wide : (first many : ℕ) (old new : List (Option Job)) → 1 ≤ many → RestStays first 1 old new → RestStays first many old new
+rest_wide first many old new some rest v far = rest v (by_side far)
+  where
+    by_side : (v < first) ⊎ (first + many ≤ v) → (v < first) ⊎ (first + 1 ≤ v)
+    by_side (inl lt) = inl lt
+    by_side (inr le) = inr (omega (arith, le, some))
+
 -- one worker more
 pub rest_more : (first i : ℕ) (a b c : List (Option Job)) → RestStays first i a b → RestStays (first + i) 1 b c → RestStays first (i + 1) a c
 rest_more first i a b c one two v far = two v (by_side far).0 ∙ one v (by_side far).1

@@ -70,7 +70,13 @@ fn read_call(procs: &Procs, store: &SerialStore, call: &Call, ahead: &mut Vec<(K
 }
 
 /// Reads the rows that the call of a record reads.
-fn read_job(log: &Log, store: &SerialStore, job: Job, ahead: &mut Vec<(Key, Value)>) {
+fn read_job(
+    log: &Log,
+    store: &SerialStore,
+    job: Job,
+    place: &mut Call,
+    ahead: &mut Vec<(Key, Value)>,
+) {
     let Some(records) = log.streams.as_slice().get(usize::from(job.stream)) else {
         return;
     };
@@ -79,16 +85,23 @@ fn read_job(log: &Log, store: &SerialStore, job: Job, ahead: &mut Vec<(Key, Valu
     };
     match &placed.entry {
         Entry::Command { call, .. } => {
-            read_call(&log.declarations.procs, store, &call.call(), ahead)
+            call.put_into(place);
+            read_call(&log.declarations.procs, store, place, ahead)
         }
         _ => {}
     }
 }
 
-/// Reads the rows that a record will want.
-pub fn read_ahead(log: &Log, store: &SerialStore, job: Job, ahead: &mut Vec<(Key, Value)>) {
+/// Reads the rows that a record will want. A call is put into a place that is kept.
+pub fn read_ahead(
+    log: &Log,
+    store: &SerialStore,
+    job: Job,
+    place: &mut Call,
+    ahead: &mut Vec<(Key, Value)>,
+) {
     ahead.clear();
-    read_job(log, store, job, ahead);
+    read_job(log, store, job, place, ahead);
 }
 
 /// The value of a row among those that were read.

@@ -4,6 +4,7 @@
 mod ahead;
 mod alone;
 mod calls;
+mod claims;
 mod laws;
 mod lock;
 mod outcome;

@@ -1,8 +1,7 @@
 //! Records that were redone outside the lock.
-ghost use Rattle.std.specs.Prelude.{◌≡◌, ◌⊎◌, ℕ, List, true, false, None, Some, OnOk, OnErr, take};
+ghost use Rattle.std.specs.Prelude.{◌≡◌, ◌⊎◌, ◌↔◌, ℕ, List, true, false, None, Some, IsTrue, OnOk, OnErr, take};
 ghost use Rattle.std.specs.Option.{ForSome};
 ghost use Rattle.tau_proc.specs.Effect.{Agrees};
-ghost use Rattle.tau_proc.specs.Progress.{buffered};
 ghost use Rattle.tau_model.specs.Redo.{redone};
 ghost use Rattle.tau_model.specs.Store.{database};
 ghost use Rattle.tau_scan.specs.Taken.{Kept};
@@ -10,21 +9,25 @@ ghost use Rattle.tau_replay.specs.Going.{IsHeld, IsHeldBy};
 ghost use Rattle.tau_replay.specs.Result.{DoesJust};
 
 use crate::redo::redo;
+use arrayvec::ArrayVec;
 use std::alloc::Global;
 use std::snapshot::Snapshot;
-use tau_base::{Key, NoMemory, Value};
+use tau_base::{Call, Key, NoMemory, Value};
 use tau_model::SerialStore;
 use tau_pool::Job;
 use tau_proc::Machine;
 use tau_scan::Log;
 
-/// The machine of a worker's calls, and the rows that the last one wanted, each with the value that it was given.
+/// What a worker executes calls with: the machine, and the rows that the last call wanted, each with the value that it
+/// was given.
 #[derive(Drop)]
 pub struct Scratch {
     /// Each call is begun in the place of the one before.
     pub machine: Machine,
     /// In the order in which they were wanted.
     pub reads: Vec<(Key, Value)>,
+    /// The call whose rows were read ahead last.
+    pub call: Call,
 }
 
 impl Scratch {
@@ -33,6 +36,29 @@ impl Scratch {
         Scratch {
             machine: Machine::new(),
             reads: Vec::new(alloc),
+            call: Call {
+                proc: 0,
+                args: ArrayVec::new(),
+            },
+        }
+    }
+}
+
+/// What a call that was executed outside the lock read and wrote.
+#[derive(Drop)]
+pub struct Executed {
+    /// The rows that it wanted in turn, each with the value that it was given.
+    pub reads: Vec<(Key, Value)>,
+    /// What it writes on these values.
+    pub writes: Vec<(Key, Value)>,
+}
+
+impl Executed {
+    /// Of no call. It takes no memory.
+    pub fn new(alloc: Global) -> Executed {
+        Executed {
+            reads: Vec::new(alloc),
+            writes: Vec::new(alloc),
         }
     }
 }
@@ -46,8 +72,8 @@ pub struct Outcome<'a> {
     /// The record.
     pub job: Job,
     /// How its call was executed, if it was.
-    pub tried: Option<&'a Scratch>,
-    pub ghost kept: { ForSome tried (λ s. DoesJust log.value job s.now.reads.items (buffered s.now.machine)) },
+    pub tried: Option<&'a Executed>,
+    pub ghost kept: { ForSome tried (λ s. DoesJust log.value job s.now.reads.items s.now.writes.items) },
 }
 
 impl<'a> Outcome<'a> {
@@ -63,14 +89,14 @@ impl<'a> Outcome<'a> {
     }
 
     /// A record whose call was executed.
-    pub fn of(log: &Log, job: Job, scratch: &'a Scratch) -> Outcome<'a>
-        requires { DoesJust log.now job scratch.now.reads.items (buffered scratch.now.machine) }
+    pub fn of(log: &Log, job: Job, executed: &'a Executed) -> Outcome<'a>
+        requires { DoesJust log.now job executed.now.reads.items executed.now.writes.items }
         ensures { (result.log.value ≡ log.now) × (result.job ≡ job) }
     {
         Outcome {
             log: Snapshot::of(log),
             job,
-            tried: Some(scratch),
+            tried: Some(executed),
         }
     }
 }
@@ -85,7 +111,7 @@ pub fn apply(log: &Log, store: &mut SerialStore, outcome: &Outcome) -> Result<()
 {
     match outcome.tried {
         None => redo(log, store, outcome.job),
-        Some(scratch) => apply_tried(log, store, outcome.job, scratch),
+        Some(executed) => apply_tried(log, store, outcome.job, executed),
     }
 }
 
@@ -94,15 +120,15 @@ fn apply_tried(
     log: &Log,
     store: &mut SerialStore,
     job: Job,
-    scratch: &Scratch,
+    executed: &Executed,
 ) -> Result<(), NoMemory>
     requires held { IsHeldBy log.now job }
-    requires just { DoesJust log.now job scratch.now.reads.items (buffered scratch.now.machine) }
+    requires just { DoesJust log.now job executed.now.reads.items executed.now.writes.items }
     ensures ok { (r : Kept) → IsHeld log.now job r → OnOk result (database store.new ≡ redone log.now.declarations.procs r.content (database store.old)) }
     ensures err { OnErr result (database store.new ≡ database store.old) }
 {
-    if has_values(store, scratch.reads.as_slice()) {
-        store.write(scratch.machine.writes())
+    if has_values(store, executed.reads.as_slice()) {
+        store.write(executed.writes.as_slice())
     } else {
         redo(log, store, job)
     }
@@ -113,9 +139,19 @@ fn has_values(store: &SerialStore, reads: &[(Key, Value)]) -> bool
     ensures { result ≡ true → Agrees reads.now (database store.now) }
 {
     for (key, value) in reads {
-        if !store.value(*key).is_same(value) {
+        if !has_value(store, *key, value) {
             return false;
         }
     }
     true
+}
+
+/// Whether the database has this value in the row. The row is read where it stands.
+fn has_value(store: &SerialStore, key: Key, value: &Value) -> bool
+    ensures { IsTrue result ↔ (database store.now key ≡ value.now) }
+{
+    match store.value_ref(key) {
+        Some(row) => row.is_same(value),
+        None => matches!(value, Value::Absent),
+    }
 }

@@ -1,36 +1,36 @@
-//! What a hand of a worker has to do outside the lock.
-ghost use Rattle.std.specs.Prelude.{◌≡◌, [], Some, IfOk, replicate};
+//! What a worker does outside the lock.
+ghost use Rattle.std.specs.Prelude.{◌≡◌, [], true, Some, IfOk, replicate};
 ghost use Rattle.tau_replay.specs.Rule.{IsIdle};
 
 use crate::ahead::read_ahead;
 use crate::calls::try_job;
 use crate::lock::Lock;
-use crate::outcome::{Outcome, Scratch};
+use crate::outcome::{Executed, Outcome, Scratch};
 use crate::view::Seat;
 use std::alloc::Global;
 use std::marker::Model;
+use std::mem::swap;
 use std::snapshot::Snapshot;
 use std::sync::Wait;
-use tau_base::{Key, NoMemory, Value};
+use tau_base::{Call, Key, NoMemory, Value};
 use tau_model::SerialStore;
 use tau_pool::Job;
 use tau_scan::Log;
 
-/// The record that a hand has in flight, and how its call was executed outside the lock, if it was.
+/// A record that was given to a worker, and how its call was executed outside the lock, if it was.
 #[derive(Drop)]
 pub struct Task {
     log: Snapshot<Log>,
     job: Option<Job>,
     /// Whether the call of the record was executed.
     tried: bool,
-    scratch: Scratch,
-    /// The rows that were read as the record was started.
+    executed: Executed,
+    /// The rows that were read as the record was given.
     ahead: Vec<(Key, Value)>,
 }
 
 impl Model for Task {
     ghost use Rattle.std.specs.Prelude.{◌≡◌, true, Some};
-    ghost use Rattle.tau_proc.specs.Progress.{buffered};
     ghost use Rattle.tau_pool.specs.declared.item.Job.{Job};
     ghost use Rattle.tau_scan.specs.declared.log.Log.{Log};
     ghost use Rattle.tau_replay.specs.Result.{DoesJust};
@@ -39,11 +39,11 @@ impl Model for Task {
 
     ghost view = { λ t. t.log.value };
 
-    ghost invariant = { λ t. t.tried ≡ true → (job : Job) → t.job ≡ Some job → DoesJust t.log.value job t.scratch.reads.items (buffered t.scratch.machine) };
+    ghost invariant = { λ t. t.tried ≡ true → (job : Job) → t.job ≡ Some job → DoesJust t.log.value job t.executed.reads.items t.executed.writes.items };
 }
 
 impl Task {
-    /// Of a hand with nothing in flight. It takes no memory.
+    /// Of no record. It takes no memory.
     pub fn new(alloc: Global, log: &Log) -> Task
         ensures { result ≡ log.now }
     {
@@ -51,12 +51,17 @@ impl Task {
             log: Snapshot::of(log),
             job: None,
             tried: false,
-            scratch: Scratch::new(alloc),
+            executed: Executed::new(alloc),
             ahead: Vec::new(alloc),
         }
     }
 
-    /// The hand has finished its record.
+    /// The record, if there is one.
+    pub fn job(&self) -> Option<Job> {
+        self.job
+    }
+
+    /// The record is finished.
     pub fn rest(&mut self)
         ensures { self.new ≡ self.old }
     {
@@ -64,17 +69,24 @@ impl Task {
         self.job = None;
     }
 
-    /// The hand has started this record.
-    pub fn begin(&mut self, log: &Log, store: &SerialStore, job: Job)
+    /// This record is given. The rows that it will want are read.
+    pub fn begin(&mut self, log: &Log, store: &SerialStore, job: Job, place: &mut Call)
         ensures { self.new ≡ self.old }
     {
         self.tried = false;
         self.job = Some(job);
-        read_ahead(log, store, job, &mut self.ahead);
+        read_ahead(log, store, job, place, &mut self.ahead);
     }
 
-    /// Executes the record's call outside the lock, if it has one. Whether the hand has a record.
-    pub fn redo<R: Wait>(&mut self, rt: &R, lock: &Lock, seat: &mut Seat, log: &Log) -> bool
+    /// Executes the record's call outside the lock, if it has one. Whether there is a record.
+    pub fn redo<R: Wait>(
+        &mut self,
+        rt: &R,
+        lock: &Lock,
+        seat: &mut Seat,
+        log: &Log,
+        scratch: &mut Scratch,
+    ) -> bool
         requires of_log { self.old ≡ log.now }
         requires own { seat.old.table_id ≡ lock.now.table.shared.table_id }
         requires idle { IsIdle seat.old.me }
@@ -85,7 +97,12 @@ impl Task {
         let Some(job) = self.job else {
             return false;
         };
-        self.tried = try_job(rt, lock, seat, log, job, &self.ahead, &mut self.scratch);
+        self.tried = false;
+        if !try_job(rt, lock, seat, log, job, &self.ahead, scratch) {
+            return true;
+        }
+        swap(&mut self.executed.reads, &mut scratch.reads);
+        self.tried = copy_rows(scratch.machine.writes(), &mut self.executed.writes);
         true
     }
 
@@ -95,14 +112,28 @@ impl Task {
         ensures { (result.log.value ≡ log.now) × (result.job ≡ job) }
     {
         if self.tried && self.job == Some(job) {
-            Outcome::of(log, job, &self.scratch)
+            Outcome::of(log, job, &self.executed)
         } else {
             Outcome::anew(log, job)
         }
     }
 }
 
-/// So many hands with nothing in flight.
+/// Puts copies of these rows in the place of others. Whether there was memory.
+fn copy_rows(rows: &[(Key, Value)], copies: &mut Vec<(Key, Value)>) -> bool
+    ensures { result ≡ true → copies.new.items ≡ rows.now }
+{
+    copies.clear();
+    for (key, value) in rows {
+        match copies.push((*key, value.copied())) {
+            Ok(()) => {}
+            Err(_) => return false,
+        }
+    }
+    true
+}
+
+/// So many tasks of no record.
 pub fn tasks_of(alloc: Global, log: &Log, many: u8) -> Result<Vec<Task>, NoMemory>
     ensures { IfOk result (λ tasks. tasks.items ≡ replicate many log.now) }
 {

@@ -10,6 +10,7 @@ ghost use Rattle.tau_replay.specs.Sound.{IsSound};
 ghost use Rattle.tau_replay.specs.Working.{IsSpare};
 
 use crate::alone::run_alone;
+use crate::claims::Claims;
 use crate::lock::Lock;
 use crate::replay::{begin, end};
 use crate::turns::Replay;
@@ -160,8 +161,12 @@ fn run<R: Threads + Wait + Sync, G: Gate + Sync>(
     if workers == 1 {
         return run_alone(log, replay, gate);
     }
+    let Ok(claims) = Claims::new(alloc, &replay.pools) else {
+        return Err(NoMemory);
+    };
     let part = Part {
         replay,
+        claims,
         sleeping: 0,
         refused: false,
     };

@@ -1,5 +1,5 @@
 //! The turns of workers.
-ghost use Rattle.std.specs.Prelude.{◌≡◌, ◌<◌, ◌≤◌, ◌⊎◌, ◌++◌, ◌∷◌, [], ℕ, List, length, slice_get, slice_set, Some, None, OnOk, OnErr};
+ghost use Rattle.std.specs.Prelude.{◌≡◌, ◌<◌, ◌≤◌, ◌⊎◌, ◌++◌, ◌∷◌, [], ℕ, List, length, slice_get, slice_set, Some, None, IfSome, IsNone, OnOk, OnErr};
 ghost use Rattle.tau_model.specs.Store.{database};
 ghost use Rattle.tau_pool.specs.declared.item.Job.{Job};
 ghost use Rattle.tau_pool.specs.Pooled.{IsNotYet, IsDone, flying_in};
@@ -44,6 +44,26 @@ pub fn start(log: &Log, replay: &mut Replay, worker: usize) -> Next
         }
         Next::NotYet => next,
         Next::Done => next,
+    }
+}
+
+/// Gives an idle worker the record at a place, if it is ready.
+pub fn start_at(log: &Log, replay: &mut Replay, worker: usize, place: usize) -> Option<Job>
+    requires going { IsOnWay log.now replay.old }
+    requires idle { slice_get replay.old.hands.items worker ≡ Some None }
+    ensures going { IfSome result (λ job. IsOnWay log.now replay.new) }
+    ensures hand { IfSome result (λ job. replay.new.hands.items ≡ slice_set replay.old.hands.items worker (Some job)) }
+    ensures followed { IfSome result (λ job. (turns : List ℕ) → Followed log.now turns replay.old → Followed log.now (turns ++ worker ∷ []) replay.new) }
+    ensures none { IsNone result → (replay.new.pools ≡ replay.old.pools) × (replay.new.hands.items ≡ replay.old.hands.items) × (database replay.new.store ≡ database replay.old.store) }
+{
+    let _ = log;
+    match replay.pools.take_at(place) {
+        Some(job) => {
+            let taken = Some(job);
+            replay.hands[worker] = taken;
+            taken
+        }
+        None => None,
     }
 }
 

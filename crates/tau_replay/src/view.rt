@@ -1,4 +1,5 @@
 //! What is under the lock, what a seat knows, the rule, and what each step tells.
+use crate::claims::Claims;
 use crate::turns::Replay;
 use atomic_table::{Join, Play, Split, TableRule};
 use std::collections::LinkedList;
@@ -11,6 +12,8 @@ use tau_scan::Log;
 pub struct Part {
     /// The recovery.
     pub replay: Replay,
+    /// The records that workers execute.
+    pub claims: Claims,
     /// How many workers sleep until a record may be ready, at least.
     pub sleeping: u64,
     /// Whether memory was refused: then no record is started any more.

@@ -1,24 +1,26 @@
 //! What a worker does under the lock.
-ghost use Rattle.std.specs.Prelude.{◌≡◌, ◌+◌, ◌≤◌, ◌<◌, true, Some, None, slice_get, replicate};
+ghost use Rattle.std.specs.Prelude.{◌≡◌, ◌+◌, ◌≤◌, ◌<◌, true, Some, None, IfSome, IsNone, slice_get, replicate};
 ghost use Rattle.tau_replay.specs.Sound.{IsSound};
 ghost use Rattle.tau_replay.specs.Working.{IsFor, RestStays, Went};
 
+use crate::claims::Claims;
 use crate::lock::Lock;
 use crate::outcome::Outcome;
 use crate::task::Task;
-use crate::turns::{finish, start};
+use crate::turns::{finish, start_at};
 use crate::view::{Part, Seat};
 use std::sync::Wait;
 use std::sync::atomic::{AtomicU64, Ordering};
-use tau_pool::{Next, Pools};
+use tau_base::Call;
+use tau_pool::Job;
 use tau_scan::Log;
 
 /// What a worker does next.
 #[derive(Clone, Copy, Debug)]
 pub enum Order {
-    /// It redoes the records that its hands have started. It wakes one that sleeps, where somebody does.
+    /// It executes the records that it got. It wakes one that sleeps, where somebody does.
     Redo {
-        /// How many records were started.
+        /// How many they are.
         started: usize,
         /// Whether somebody sleeps.
         rings: bool,
@@ -41,9 +43,9 @@ fn rings(sleeping: &mut u64) -> bool {
     true
 }
 
-/// Nothing is ready: a worker sleeps while something is in flight.
-fn rest(pools: &Pools, sleeping: &mut u64, seen: u64) -> Order {
-    if pools.in_flight() == 0 {
+/// Nothing is ready: a worker sleeps while others have records.
+fn rest(claims: &Claims, sleeping: &mut u64, seen: u64) -> Order {
+    if claims.are_closed() {
         return Order::Stop;
     }
     *sleeping = sleeping.saturating_add(1);
@@ -69,8 +71,38 @@ fn finish_job(log: &Log, part: &mut Part, worker: usize, outcome: &Outcome) -> b
     }
 }
 
-/// A hand finishes what it has in flight.
-fn finish_one(log: &Log, part: &mut Part, worker: usize, task: &Task) -> bool
+/// An idle hand starts the record at a place, if it is ready.
+fn start_one(log: &Log, part: &mut Part, worker: usize, place: usize) -> Option<Job>
+    requires sound { IsSound log.now part.old.replay }
+    requires idle { slice_get part.old.replay.hands.items worker ≡ Some None }
+    ensures sound { IsSound log.now part.new.replay }
+    ensures rest { RestStays worker 1 part.old.replay.hands.items part.new.replay.hands.items }
+    ensures busy { IfSome result (λ job. slice_get part.new.replay.hands.items worker ≡ Some (Some job)) }
+    ensures idle { IsNone result → slice_get part.new.replay.hands.items worker ≡ Some None }
+{
+    match start_at(log, &mut part.replay, worker, place) {
+        Some(job) => Some(job),
+        None => None,
+    }
+}
+
+/// An idle hand starts the record of a task, if it is ready, and finishes it. Whether there was memory.
+fn redo_at(log: &Log, part: &mut Part, worker: usize, task: &Task, place: usize) -> bool
+    requires of_log { task.now ≡ log.now }
+    requires sound { IsSound log.now part.old.replay }
+    requires idle { slice_get part.old.replay.hands.items worker ≡ Some None }
+    ensures sound { IsSound log.now part.new.replay }
+    ensures rest { RestStays worker 1 part.old.replay.hands.items part.new.replay.hands.items }
+    ensures idle { result ≡ true → slice_get part.new.replay.hands.items worker ≡ Some None }
+{
+    match start_one(log, part, worker, place) {
+        Some(job) => finish_job(log, part, worker, &task.outcome(log, job)),
+        None => true,
+    }
+}
+
+/// The same of a hand that is idle unless memory was refused.
+fn redo_idle(log: &Log, part: &mut Part, worker: usize, task: &Task, place: usize) -> bool
     requires of_log { task.now ≡ log.now }
     requires worker { worker < 16 }
     requires sound { IsSound log.now part.old.replay }
@@ -79,31 +111,13 @@ fn finish_one(log: &Log, part: &mut Part, worker: usize, task: &Task) -> bool
     ensures idle { result ≡ true → slice_get part.new.replay.hands.items worker ≡ Some None }
 {
     match part.replay.hands[worker] {
-        Some(job) => finish_job(log, part, worker, &task.outcome(log, job)),
-        None => true,
+        Some(_) => false,
+        None => redo_at(log, part, worker, task, place),
     }
 }
 
-/// An idle hand starts a record that is ready. Whether there was one.
-fn start_one(log: &Log, part: &mut Part, worker: usize, task: &mut Task) -> bool
-    requires sound { IsSound log.now part.old.replay }
-    requires idle { slice_get part.old.replay.hands.items worker ≡ Some None }
-    ensures sound { IsSound log.now part.new.replay }
-    ensures rest { RestStays worker 1 part.old.replay.hands.items part.new.replay.hands.items }
-    ensures task { task.new ≡ task.old }
-{
-    match start(log, &mut part.replay, worker) {
-        Next::Taken(job) => {
-            task.begin(log, &part.replay.store, job);
-            true
-        }
-        Next::NotYet => false,
-        Next::Done => false,
-    }
-}
-
-/// A hand finishes what it has in flight, and starts a record if it may. Whether it started one.
-fn turn_one(log: &Log, part: &mut Part, worker: usize, task: &mut Task, may_start: bool) -> bool
+/// A hand starts and finishes the record of a task, if it has one. Whether there was memory.
+fn redo_one(log: &Log, part: &mut Part, worker: usize, task: &mut Task) -> bool
     requires of_log { task.old ≡ log.now }
     requires worker { worker < 16 }
     requires sound { IsSound log.now part.old.replay }
@@ -111,45 +125,68 @@ fn turn_one(log: &Log, part: &mut Part, worker: usize, task: &mut Task, may_star
     ensures rest { RestStays worker 1 part.old.replay.hands.items part.new.replay.hands.items }
     ensures task { task.new ≡ task.old }
 {
-    if !finish_one(log, part, worker, task) {
-        return false;
-    }
+    let Some(job) = task.job() else {
+        return true;
+    };
+    let done = redo_idle(log, part, worker, task, job.place);
     task.rest();
-    if part.refused {
-        return false;
-    }
-    if !may_start {
-        return false;
-    }
-    start_one(log, part, worker, task)
+    part.claims.close();
+    done
 }
 
-/// The same of so many hands, of which so many may start a record. How many did.
-fn turn_all(
-    log: &Log,
-    part: &mut Part,
-    first: u8,
-    many: u8,
-    tasks: &mut Vec<Task>,
-    room: usize,
-) -> usize
-    requires tasks { tasks.old.items ≡ replicate many log.now }
-    requires few { first + many ≤ 16 }
+/// The same of all tasks, until memory is refused.
+fn redo_all(log: &Log, part: &mut Part, worker: usize, tasks: &mut Vec<Task>, records: u8)
+    requires tasks { tasks.old.items ≡ replicate records log.now }
+    requires worker { worker < 16 }
     requires sound { IsSound log.now part.old.replay }
     ensures sound { IsSound log.now part.new.replay }
-    ensures rest { RestStays first many part.old.replay.hands.items part.new.replay.hands.items }
+    ensures rest { RestStays worker 1 part.old.replay.hands.items part.new.replay.hands.items }
     ensures tasks { tasks.new.items ≡ tasks.old.items }
 {
-    let mut started = 0usize;
-    for i in 0..many as usize {
-        let worker = first as usize + i;
-        let more = turn_one(log, part, worker, &mut tasks[i], started < room);
-        started = started.saturating_add(usize::from(more));
+    for i in 0..records as usize {
+        if !redo_one(log, part, worker, &mut tasks[i]) {
+            return;
+        }
     }
-    started
 }
 
-/// What a worker does next that has started so many records.
+/// A task gets a record that is ready. Whether there was one.
+fn claim_one(log: &Log, part: &mut Part, task: &mut Task, call: &mut Call) -> bool
+    ensures same { part.new.replay ≡ part.old.replay }
+    ensures task { task.new ≡ task.old }
+{
+    match part.claims.next(&part.replay.pools) {
+        Some(job) => {
+            task.begin(log, &part.replay.store, job, call);
+            true
+        }
+        None => false,
+    }
+}
+
+/// The first tasks get a record each, up to so many. How many did.
+fn claim_all(
+    log: &Log,
+    part: &mut Part,
+    tasks: &mut Vec<Task>,
+    records: u8,
+    room: u8,
+    call: &mut Call,
+) -> usize
+    requires tasks { tasks.old.items ≡ replicate records log.now }
+    requires room { room ≤ records }
+    ensures same { part.new.replay ≡ part.old.replay }
+    ensures tasks { tasks.new.items ≡ tasks.old.items }
+{
+    for i in 0..room as usize {
+        if !claim_one(log, part, &mut tasks[i], call) {
+            return i;
+        }
+    }
+    room as usize
+}
+
+/// What a worker does next that has got so many records.
 fn order_of(part: &mut Part, started: usize, seen: u64) -> Order
     ensures { part.new.replay ≡ part.old.replay }
 {
@@ -162,29 +199,34 @@ fn order_of(part: &mut Part, started: usize, seen: u64) -> Order
             rings: rings(&mut part.sleeping),
         };
     }
-    rest(&part.replay.pools, &mut part.sleeping, seen)
+    rest(&part.claims, &mut part.sleeping, seen)
 }
 
-/// A worker finishes what it has in flight, and starts what is ready: one record while somebody sleeps, so that others
-/// have some too.
+/// A worker finishes what it has executed, and gets what is ready: one record while somebody sleeps, so that others have
+/// some too.
 fn go_on(
     log: &Log,
     part: &mut Part,
     first: u8,
     many: u8,
     tasks: &mut Vec<Task>,
-    room: usize,
+    records: u8,
+    room: u8,
+    call: &mut Call,
     seen: u64,
 ) -> Order
-    requires tasks { tasks.old.items ≡ replicate many log.now }
-    requires few { first + many ≤ 16 }
+    requires tasks { tasks.old.items ≡ replicate records log.now }
+    requires few { (1 ≤ many) × (first + many ≤ 16) }
+    requires room { room ≤ records }
     requires sound { IsSound log.now part.old.replay }
     ensures sound { IsSound log.now part.new.replay }
     ensures rest { RestStays first many part.old.replay.hands.items part.new.replay.hands.items }
     ensures tasks { tasks.new.items ≡ tasks.old.items }
 {
-    let room = if part.sleeping > 0 { 1 } else { room };
-    let started = turn_all(log, part, first, many, tasks, room);
+    let _ = many;
+    redo_all(log, part, first as usize, tasks, records);
+    let room = if part.sleeping > 0 { room.min(1) } else { room };
+    let started = claim_all(log, part, tasks, records, room, call);
     order_of(part, started, seen)
 }
 
@@ -204,7 +246,7 @@ fn ring(bell: &AtomicU64, order: Order) {
     }
 }
 
-/// A worker takes the lock to finish what its hands have in flight, and for what it does next.
+/// A worker takes the lock to finish what it has executed, and for what it does next.
 pub fn step<R: Wait>(
     rt: &R,
     lock: &Lock,
@@ -213,12 +255,15 @@ pub fn step<R: Wait>(
     first: u8,
     many: u8,
     tasks: &mut Vec<Task>,
-    room: usize,
+    records: u8,
+    room: u8,
+    call: &mut Call,
 ) -> Order
     requires own { seat.old.table_id ≡ lock.now.table.shared.table_id }
     requires of_log { seat.old.me.0.log ≡ log.now }
-    requires tasks { tasks.old.items ≡ replicate many log.now }
+    requires tasks { tasks.old.items ≡ replicate records log.now }
     requires few { first + many ≤ 16 }
+    requires room { room ≤ records }
     requires stands { IsFor first many seat.old.me }
     ensures own { seat.new.table_id ≡ seat.old.table_id }
     ensures went { Went first many seat.old.me seat.new.me }
@@ -226,7 +271,9 @@ pub fn step<R: Wait>(
 {
     let mut part = lock.take(rt, seat);
     let seen = lock.bell.load(Ordering::SeqCst);
-    let order = go_on(log, &mut part, first, many, tasks, room, seen);
+    let order = go_on(
+        log, &mut part, first, many, tasks, records, room, call, seen,
+    );
     lock.give(seat, part);
     ring(&lock.bell, order);
     order

@@ -4,6 +4,7 @@ ghost use Rattle.tau_replay.specs.Rule.{IsIdle};
 ghost use Rattle.tau_replay.specs.Working.{IsSpare};
 
 use crate::lock::Lock;
+use crate::outcome::Scratch;
 use crate::task::{Task, tasks_of};
 use crate::view::Seat;
 use crate::visit::{Order, step};
@@ -12,7 +13,11 @@ use std::sync::Wait;
 use tau_disk::{Gate, Place};
 use tau_scan::Log;
 
-/// Redoes the record of a hand, if it has one, up to its finish.
+/// How many records a worker gets at a time, at most: so many that what it costs to take the lock, and to fetch what is
+/// under it from another processor, is little for each of them.
+const RECORDS: u8 = 16;
+
+/// Executes the record of a task, if it has one, up to its finish.
 fn redo_one<R: Wait, G: Gate>(
     rt: &R,
     lock: &Lock,
@@ -20,6 +25,7 @@ fn redo_one<R: Wait, G: Gate>(
     log: &Log,
     worker: u8,
     task: &mut Task,
+    scratch: &mut Scratch,
     gate: &G,
 )
     requires of_log { task.old ≡ log.now }
@@ -29,12 +35,12 @@ fn redo_one<R: Wait, G: Gate>(
     ensures own { seat.new.table_id ≡ seat.old.table_id }
     ensures seat { seat.new.me ≡ seat.old.me }
 {
-    if task.redo(rt, lock, seat, log) {
+    if task.redo(rt, lock, seat, log, scratch) {
         gate.at(Place::Replay { worker });
     }
 }
 
-/// The same of all hands of a worker.
+/// The same of all tasks of a worker.
 fn redo_all<R: Wait, G: Gate>(
     rt: &R,
     lock: &Lock,
@@ -43,6 +49,7 @@ fn redo_all<R: Wait, G: Gate>(
     worker: u8,
     tasks: &mut Vec<Task>,
     many: u8,
+    scratch: &mut Scratch,
     gate: &G,
 )
     requires tasks { tasks.old.items ≡ replicate many log.now }
@@ -53,17 +60,18 @@ fn redo_all<R: Wait, G: Gate>(
     ensures seat { seat.new.me ≡ seat.old.me }
 {
     for i in 0..many as usize {
-        redo_one(rt, lock, seat, log, worker, &mut tasks[i], gate);
+        redo_one(rt, lock, seat, log, worker, &mut tasks[i], scratch, gate);
     }
 }
 
-/// How many records the next visit may start: twice as many if all that it might start were ready, and else as many as
-/// were.
-fn next_room(room: usize, started: usize) -> usize {
-    if started < room {
-        started
+/// How many records the next visit may get: twice as many if it got all that it might, and else as many as it got.
+fn next_room(room: u8, started: usize) -> u8
+    ensures { result ≤ RECORDS }
+{
+    if started < room as usize {
+        (started as u8).min(RECORDS)
     } else {
-        room.saturating_mul(2).min(16)
+        room.saturating_mul(2).min(RECORDS)
     }
 }
 
@@ -88,15 +96,38 @@ pub fn work<R: Wait, G: Gate>(
     ensures idle { IsIdle result.me }
     ensures workers { length result.me.0.hands ≡ length seat.me.0.hands }
 {
-    let Ok(mut tasks) = tasks_of(alloc, log, many) else {
+    let records = RECORDS;
+    let Ok(mut tasks) = tasks_of(alloc, log, records) else {
         return seat;
     };
-    let mut room = 1usize;
+    let mut scratch = Scratch::new(alloc);
+    let mut room = 1u8;
     for _ in rt.forever() {
-        match step(rt, lock, &mut seat, log, first, many, &mut tasks, room) {
+        match step(
+            rt,
+            lock,
+            &mut seat,
+            log,
+            first,
+            many,
+            &mut tasks,
+            records,
+            room,
+            &mut scratch.call,
+        ) {
             Order::Redo { started, .. } => {
                 room = next_room(room, started);
-                redo_all(rt, lock, &mut seat, log, worker, &mut tasks, many, gate);
+                redo_all(
+                    rt,
+                    lock,
+                    &mut seat,
+                    log,
+                    worker,
+                    &mut tasks,
+                    records,
+                    &mut scratch,
+                    gate,
+                );
             }
             Order::Sleep { seen } => lock.bell.park(rt, (seen % 4_294_967_296) as u32),
             Order::Stop => return seat,

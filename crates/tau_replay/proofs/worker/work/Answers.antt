@@ -1,5 +1,5 @@
 -- The worker begins with nothing in flight, and steps for the same hands to the end.
-use Rattle.std.proofs.Common.{refl}
+use Rattle.std.proofs.Common.{refl, arith}
 use Rattle.tau_replay.proofs.Crews.{spare_for, went_length}
 use Rattle.tau_replay.proofs.worker.work.Goals as goal
 
@@ -9,6 +9,7 @@ loop-init g c = record {
   of_log = refl;
   stands = spare_for c.args.first c.args.many c.args.seat.me c.requires.spare;
   tasks = c.in-Ok.ensures;
+  room = omega arith;
 }
 
 pub returns-in-Stop-clause-workers : goal.returns-in-Stop-clause-workers
