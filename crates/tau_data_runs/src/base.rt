@@ -1,6 +1,6 @@
-use tau_base::{Call, Calls, KeptCall, Key, Listed, Lv, Name, Text64, Value, shard_of};
 use arrayvec::ArrayVec;
 use std::test::*;
+use tau_base::{Call, Calls, KeptCall, Key, Listed, Lv, Name, Text64, Value, shard_of};
 
 fn key(table: u16, row: i64) -> Key {
     Key { table, row }

@@ -1,7 +1,7 @@
-use tau_block::{ImageRefusal, append_tail, contents_of, header, open_gate};
 use std::alloc::Global;
 use std::test::*;
 use tau_base::MAX_BODY;
+use tau_block::{ImageRefusal, append_tail, contents_of, header, open_gate};
 
 // The log of a stream of one: the catalogue of `table a`, and the data record of `put a 1 5`. Its gates are at 16, 34
 // and 79.

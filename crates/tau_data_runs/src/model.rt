@@ -1,10 +1,10 @@
 //! The store and the reported history, against values worked out by hand.
-use tau_model::{Committed, SerialStore, Spot, are_within, reported};
 use arrayvec::ArrayVec;
 use std::alloc::Global;
 use std::process::Abort;
 use std::test::Fail;
 use tau_base::{Call, Key, Listed, Lv, MAX_LSN, MAX_STREAMS, Name, Value};
+use tau_model::{Committed, SerialStore, Spot, are_within, reported};
 use tau_proc::{Compare, FIRST_DECLARED, GET, Operand, PUT, Proc, Procs, Reply, Step};
 
 fn call_of(proc: u16, args: &[i64]) -> Call {

@@ -1,10 +1,12 @@
 //! What calls do, against values worked out by hand.
-use tau_proc::{ADD, Compare, DEL, FIRST_DECLARED, GET, Machine, Operand, PUT, Proc, Procs, Reply, Step, Want};
 use arrayvec::ArrayVec;
 use std::alloc::Global;
 use std::process::Abort;
 use std::test::Fail;
 use tau_base::{Call, Key, Listed, Name, Text64, Value};
+use tau_proc::{
+    ADD, Compare, DEL, FIRST_DECLARED, GET, Machine, Operand, PUT, Proc, Procs, Reply, Step, Want,
+};
 
 /// What a call did.
 #[derive(Debug, Drop)]

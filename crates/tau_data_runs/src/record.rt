@@ -1,11 +1,14 @@
 ghost use Rattle.std.specs.Prelude.{◌≤◌};
 
-use tau_record::{Entry, RecordCause, RecordFault, RecordRefusal, compress, decode, encode_anchor, encode_catalogue, encode_command, encode_written, raise};
 use arrayvec::ArrayVec;
 use std::alloc::Global;
 use std::process::Abort;
 use std::test::Fail;
 use tau_base::{Call, Key, Lv, Text64, Value};
+use tau_record::{
+    Entry, RecordCause, RecordFault, RecordRefusal, compress, decode, encode_anchor,
+    encode_catalogue, encode_command, encode_written, raise,
+};
 
 /// The bytes of hexadecimal digits, between which there may be spaces.
 fn bytes_of(alloc: Global, text: &str) -> Result<Vec<u8>, Fail> {

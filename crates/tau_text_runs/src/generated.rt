@@ -1,6 +1,6 @@
-use tau_gen::generate;
 use std::test::Fail;
 use tau_base::Value;
+use tau_gen::generate;
 
 #[test]
 fn calls_follow_the_formula(rt: HostRuntime) -> Result<(), Fail> {

@@ -1,6 +1,8 @@
-use tau_text::{TextRefusal, parse_declarations, parse_workload, print_declarations, print_workload};
 use std::alloc::Global;
 use std::test::Fail;
+use tau_text::{
+    TextRefusal, parse_declarations, parse_workload, print_declarations, print_workload,
+};
 
 static TRANSFERS: &str =
     "table acct\nproc move 3\nget r0 acct $1\nneed r0 >= $3\nsub r0 r0 $3\nget r1 acct $2\nadd r1 r1 $3\nput acct $1 r0\nput acct $2 r1\nreply r0\nend\nput acct 1 100\nput acct 2 50\ncall move 1 2 30\ncall move 1 2 80\nget acct 2\nturns\n";

@@ -1,8 +1,8 @@
-use tau_text::{TextRefusal, parse_declarations, parse_workload};
 use crate::rows::{CALLS, DECLARATIONS, LINES, STEPS};
 use std::alloc::{AllocError, Global};
 use std::process::Abort;
 use std::test::Fail;
+use tau_text::{TextRefusal, parse_declarations, parse_workload};
 
 // the line and the number of the cause; 0 and 0 of a good text
 fn outcome(alloc: Global, text: &[u8]) -> (u32, u8) {

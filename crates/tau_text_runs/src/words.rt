@@ -1,8 +1,8 @@
-use tau_words::{Command, Ending, WordsRefusal, read_words};
 use std::alloc::Global;
 use std::test::Fail;
 use tau_base::LogMode;
 use tau_disk::Tear;
+use tau_words::{Command, Ending, WordsRefusal, read_words};
 
 /// The words of a line, at each space.
 fn words_of(alloc: Global, line: &str) -> Result<Vec<String>, Fail> {
