@@ -117,7 +117,7 @@ impl Pending {
         }
     }
 
-    /// The same, where the call that is taken out is written into `taken`. It answers whether there was one.
+    /// The same, where the call that is taken out is written into `taken`. Returns whether there was one.
     pub fn take_covered_into(&mut self, plv: &Lv, taken: &mut Waiting) -> bool
         ensures first { result ≡ true → TakesFirst plv.now self.old.calls taken.new self.new.calls }
         ensures none { result ≡ false → NoneCovered plv.now self.old.calls }
@@ -135,7 +135,7 @@ impl Pending {
     }
 }
 
-/// Takes out the first call that the vector covers. It answers where that call still lies.
+/// Takes out the first call that the vector covers. Returns where that call still lies.
 fn next_covered(calls: &mut Vec<Waiting>, pass: &mut Pass, plv: &Lv) -> Option<usize>
     requires { IsPass pass.old.plv pass.old.passed pass.old.next calls.old.items }
     ensures pass { IsPass pass.new.plv pass.new.passed pass.new.next calls.new.items }
@@ -211,7 +211,7 @@ fn move_down(calls: &mut Vec<Waiting>, from: usize, to: usize)
     calls[to] = calls[from];
 }
 
-/// Goes on with a pass as far as the next covered call, which is gone from then on. It answers where that call still lies.
+/// Goes on with a pass as far as the next covered call, which is gone from then on. Returns where that call still lies.
 fn scan(calls: &mut Vec<Waiting>, pass: &mut Pass) -> Option<usize>
     requires { IsPass pass.old.plv pass.old.passed pass.old.next calls.old.items }
     ensures pass { IsPass pass.new.plv pass.new.passed pass.new.next calls.new.items }

@@ -51,7 +51,7 @@ bodies-shut gate (a ∷ b ∷ []) shut = grind (arith, nat_tests)
 bodies-shut gate (a ∷ b ∷ c ∷ []) shut = grind (arith, nat_tests)
 bodies-shut gate (a ∷ b ∷ c ∷ d ∷ rest) shut = grind (arith, nat_tests)
 
--- an open gate with fewer than four bytes behind it
+-- an open gate with fewer than four bytes after it
 pub no_length : (xs : List ℕ) → length xs < 4 → bodies 0 (1 ∷ xs) ≡ None
 no_length [] lt = refl
 no_length (a ∷ []) lt = refl
@@ -63,7 +63,7 @@ no_length (a ∷ b ∷ c ∷ d ∷ rest) lt = absurd (omega arith)
 abbrev pub size_in : List ℕ → ℕ
 size_in xs = from_be_bytes w32 (get_or xs 0 0 ∷ get_or xs 1 0 ∷ get_or xs 2 0 ∷ get_or xs 3 0 ∷ [])
 
--- with a length of 0, or no byte behind the body
+-- with a length of 0, or no byte after the body
 pub no_block : (xs : List ℕ) (n : ℕ) → 4 ≤ length xs → n ≡ size_in xs → (n ≡ 0) ⊎ (length xs ≤ 4 + n) → bodies 0 (1 ∷ xs) ≡ None
 no_block [] n long is why = absurd (omega arith)
 no_block (a ∷ []) n long is why = absurd (omega arith)
@@ -131,7 +131,7 @@ split_at xs p lt = sym (take-append-drop p xs) ∙ ap (λ (l : List ℕ). take p
 zero_one : (n : ℕ) → n ≡ 0 → n ≡ 1 → ⊥
 zero_one n is_zero is_one = omega arith
 
--- a front and a closed gate, with anything behind it
+-- a front and a closed gate, with anything after it
 pub log_of_front : (n j : ℕ) (front content rest : List ℕ) → IsFront n j front content → IsLog n j (front ++ 0 ∷ rest) (length front) content
 log_of_front n j front content rest is = record {
   within = omega (arith, length-append front (0 ∷ rest));

@@ -41,7 +41,7 @@ extended body None = None
 extended body (Some rest) = Some (body ++ rest)
 
 -- The bodies from a place on that has so many bytes of a body before the next gate, one after another as long as
--- gates read 1. None where an open gate has no whole block behind it: its length is 0 or missing, or the image ends
+-- gates read 1. None where an open gate has no whole block after it: its length is 0 or missing, or the image ends
 -- before the next gate.
 abbrev pub bodies : ℕ → List ℕ → Option (List ℕ)
 bodies zero [] = None
@@ -52,7 +52,7 @@ bodies zero (gate ∷ rest) = if gate == 1 then None else Some []
 bodies (suc k) [] = None
 bodies (suc k) (x ∷ rest) = extended (x ∷ []) (bodies k rest)
 
--- what stands behind a header, or a cause
+-- what stands after a header, or a cause
 abbrev pub with_count : ℕ → Option (List ℕ) → Result Reading ImageFault
 with_count n (Some bytes) = Ok (record { count = Some n; bytes = bytes })
 with_count n None = Err OpenGateWithoutBlock
@@ -85,7 +85,7 @@ content_of n j image = bytes_of n (image_of j image)
 abbrev pub HasContent : ℕ → ℕ → List ℕ → List ℕ → Type 0
 HasContent n j content image = content_of n j image ≡ Some content
 
--- a block with its open gate, and what of it stands behind the gate, with the next gate closed
+-- a block with its open gate, and what of it stands after the gate, with the next gate closed
 abbrev pub block_of : List ℕ → List ℕ
 block_of body = 1 ∷ (to_be_bytes w32 (length body) ++ body)
 
@@ -97,14 +97,14 @@ pub record IsBody (body : List ℕ) : Type 0 where
   pub some : 1 ≤ length body
   pub most : length body ≤ MAX_BODY
 
--- These bytes are a header and whole blocks of this content: whatever stands behind them, the image reads as the
+-- These bytes are a header and whole blocks of this content: whatever stands after them, the image reads as the
 -- content and then the rest.
 pub record IsFront (n j : ℕ) (front content : List ℕ) : Type 0 where
   pub long : 16 ≤ length front
   pub closed : (gate : ℕ) (rest : List ℕ) → gate ≢ 1 → content_of n j (front ++ gate ∷ rest) ≡ Some content
   pub more : (tail : List ℕ) → 2 ≤ length tail → content_of n j (front ++ tail) ≡ extended content (bodies 0 tail)
 
--- the image has a header and whole blocks of this content, and behind them a closed gate at this place
+-- the image has a header and whole blocks of this content, and after them a closed gate at this place
 pub record IsLog (n j : ℕ) (image : List ℕ) (gate_at : ℕ) (content : List ℕ) : Type 0 where
   pub within : gate_at < length image
   pub shut : slice_index image gate_at ≢ 1
@@ -116,7 +116,7 @@ pub record IsHeader (n j : ℕ) (head : List ℕ) : Type 0 where
   pub sound : header_fault j head ≡ None
   pub counts : count_in head ≡ n
 
--- the length of this body and the body stand at this place, and a byte behind them
+-- the length of this body and the body stand at this place, and a byte after them
 pub record IsBlockAt (image : List ℕ) (at : ℕ) (body : List ℕ) : Type 0 where
   pub some : 1 ≤ length body
   pub short : length body < 2 ^ 32

@@ -46,7 +46,7 @@ pub fn contents_of(alloc: Global, image: &[u8], j: u16) -> Result<Content, Image
     })
 }
 
-// The bodies of the blocks behind the header, and the place of the closed gate behind them.
+// The bodies of the blocks after the header, and the place of the closed gate after them.
 fn blocks_of(alloc: Global, image: &[u8]) -> Result<(Vec<u8>, usize), ImageRefusal>
     requires { 16 < length image.now }
     ensures walked { IfOk result (λ r. IsWalked image.now r.1 r.0.items) }
@@ -92,7 +92,7 @@ fn count_of_header(head: &[u8], j: u16) -> Result<u16, ImageFault>
     Ok(count)
 }
 
-// The body of the block whose length stands here. A byte for the next gate is behind it.
+// The body of the block whose length stands here. A byte for the next gate is after it.
 fn body_at(image: &[u8], at: usize) -> Result<&[u8], ImageFault>
     requires { at ≤ length image.now }
     ensures ok { IfOk result (λ body. IsBlockAt image.now at body.now) }

@@ -13,7 +13,7 @@ pub enum ImageFault {
     /// The index is not that of the stream, or not below the number of streams.
     #[error("bad index")]
     BadIndex,
-    /// An open gate has no whole block behind it.
+    /// An open gate has no whole block after it.
     #[error("open gate without a block")]
     OpenGateWithoutBlock,
 }

@@ -1,4 +1,4 @@
-//! Images of log streams: a header, blocks behind open gates, and a closed gate.
+//! Images of log streams: a header, blocks after open gates, and a closed gate.
 #![tactic(auto)]
 
 mod content;

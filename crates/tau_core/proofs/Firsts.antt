@@ -66,7 +66,7 @@ module _ (p p' : Plain) (w n : ℕ) (q : RoomMade w p p') where
       load_same : p'.load ≡ p.load
       load_same = ap (λ (x : Plain). x.load) q.after
 
--- the state behind the beginning is sound
+-- the state after the beginning is sound
 pub begun-sound : (p p' : Plain) (w n : ℕ) (g : Stood p) → BeginsNext w n p p' → IsRoomy w p → HasNext p w n → Rests p w → Sound p'
 begun-sound p p' w n g q roomy next rests = (begins-carried p p' g.0 g.1 w (begins-of p p' g.0 g.1 g.2 w n q roomy next rests) (carried p g.0 g.1 g.2)).sound
 

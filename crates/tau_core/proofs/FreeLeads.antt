@@ -70,7 +70,7 @@ join-none workers w = record {
 pub join-one : (workers w : ℕ) (c : Committed) → worker_of workers c.number ≡ w → JoinAt workers w (c ∷ [])
 join-one workers w c e = record { here = λ xs. by-self workers w xs c e; elsewhere = λ u ne xs. by-other workers w u xs c e ne }
 
--- a list and another order of it, with these behind both
+-- a list and another order of it, with these after both
 in-front : {A : Type 0} (xs ys zs : List A) → Reordered xs ys → Reordered (xs ++ zs) (ys ++ zs)
 in-front [] ys zs e = rw e (reordered-itself zs)
 in-front {A} (x ∷ xs) ys zs (front, back, e, r) = (

@@ -91,7 +91,7 @@ module _ (p : Plain) (g : Stood p) (j : ℕ) (there : j < p.load.streams) (going
       (less MAX_BODY (length q.stream.body) (slice_index p.ends j) (slice_index p.gathered j) (length (bytes_of q.moves.taken)) (length q.longer) (slice_index (slice_set p.gathered j past) j) q.stream.room q.spare
       (roomy q.stream q.is) (moved-long (slice_index p.gathered j) q.seat.outbox q.outbox q.stream.body q.longer q.moves) (get_or-set_same p.gathered j past 0 inside) q.spares))
 
-  -- behind a move from the manager's outbox it waits
+  -- after a move from the manager's outbox it waits
   pub own-waits : (m : Plain) → MovesOwn j p m → WaitsBelow j 0 m
   own-waits m q =
       let part : PlainStream = record q.stream { own = q.own; body = q.longer; room = q.spare } in
@@ -106,7 +106,7 @@ module _ (p : Plain) (g : Stood p) (j : ℕ) (there : j < p.load.streams) (going
       (subst (λ (n : ℕ). Stops n (length q.longer) q.own.pieces) (sym (get_or-set_same p.gathered j past 0 inside)) q.moves.stops)) in
       subst (WaitsBelow j 0) (sym q.after) (record { own = here; posted = λ w t lt whose e. absurd (omega arith) })
 
-  -- and behind one from a worker's outbox that moves nothing this one waits as well
+  -- and after one from a worker's outbox that moves nothing this one waits as well
   pub posted-waits : (w : ℕ) (m : Plain) → MovesPosted j w p m → slice_index m.gathered j ≡ slice_index p.gathered j → WaitsBelow j w p → WaitsBelow j (w + 1) m
   posted-waits w m q still below =
       let part : PlainStream = record q.stream { body = q.longer; room = q.spare } in

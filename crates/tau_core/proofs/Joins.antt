@@ -18,7 +18,7 @@ use Rattle.tau_core.specs.Stands.{is_open, open_calls}
 use Rattle.tau_core.specs.Frees.{JoinsBy}
 use Rattle.tau_core.proofs.Seats.{one_open, open-set}
 
--- what is kept of a call that frees its keys, put behind the others
+-- what is kept of a call that frees its keys, put after the others
 pub kept-into : (procs : List Proc) (t : PlainTxn) (hand : Hand) (act : Act Txn) (b : Bool) (old new : List Committed) → FreesBy procs b t.worker hand act →
     ((a : Act Txn) → act_of hand.phase ≡ Some a → new ≡ old ++ committed_of a ∷ []) → ((a : Act Txn) → Reads procs t.worker hand a → new ≡ old ++ committed_of a ∷ []) → new ≡ old ++ committed_of act ∷ []
 kept-into procs t hand act true old new q joined reading = joined act (ap act_of q)

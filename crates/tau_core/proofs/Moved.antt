@@ -18,7 +18,7 @@ set-itself (x ∷ xs) zero = refl
 set-itself (x ∷ xs) (suc i) = ap (λ l. x ∷ l) (set-itself xs i)
 
 module _ (set : Setting) (j : ℕ) (there : j < set.width) where
-  -- the state behind it
+  -- the state after it
   abbrev pub own_moved : Core → List Item → List Item → ℕ → Core
   own_moved s left moved past = record (with_stream s j (record (s.streams j) { posted = left; moved = moved })) { gathered = slice_set s.gathered j past }
 

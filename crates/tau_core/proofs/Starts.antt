@@ -67,7 +67,7 @@ from-next calls m n c low many got =
     cut : suc (n - 1) + (m - 1) ≡ (n + m) - 1
     cut = omega arith
 
--- the next call, and those behind it
+-- the next call, and those after it
 pub waiting-next : (l : Load) (w : ℕ) (s new : PlainSeat) (n : ℕ) (c : Call) → SoundSeat l w s → 1 ≤ l.workers → next_number (length l.calls) s ≡ Some n → call_of l.calls n ≡ Some c →
     new.next ≡ next_behind l.workers s.next s.again → new.again ≡ None → waiting_in l s ≡ record { number = n; call = c } ∷ waiting_in l new
 waiting-next l w s new n c o many e is next again = by_again s.again refl e next

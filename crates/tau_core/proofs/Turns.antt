@@ -55,7 +55,7 @@ none-zero : (x : ℕ) → (1 ≤ x → ⊥) → x ≡ 0
 none-zero zero f = refl
 none-zero (suc x) f = absurd (f (omega arith))
 
--- a number that stands at the first of them, or behind it
+-- a number that stands at the first of them, or after it
 found-here : (m k n x : ℕ) → 1 ≤ m → (n ≡ k) ⊎ (n ≡ k → ⊥) → (1 ≤ x → (i : ℕ) × (n ≡ up m i ((k + 1) + (m - 1)))) → 1 ≤ one n k + x → (i : ℕ) × (n ≡ up m i (k + zero))
 found-here m k n x low (inl is) later e = (0, is ∙ (omega arith))
 found-here m k n x low (inr ne) later e =

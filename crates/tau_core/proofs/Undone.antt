@@ -61,7 +61,7 @@ module _ (roomy begun : Plain) (w n : ℕ) (q : BeginsNext w n roomy begun) (res
             ∙ (λ k. record (q.after k) { seats = roomy.seats; shards = slice_set (shards k) s.i s.kept });
       }
 
--- what was begun and found to be elsewhere, or met want of memory, left nothing
+-- what was begun and found to be elsewhere, or met lack of memory, left nothing
 pub undone-unmoved : (p p' : Plain) (K : List (Act Txn)) (h : Hidden) (g : Stands p K h) (w n : ℕ) (a : (roomy : Plain) × RoomMade w p roomy × ((p' ≡ roomy) ⊎ StaysShort roomy p')) → Unmoved p p' K h
 undone-unmoved p p' K h g w n a =
     let made = room-unmoved p a.0 K h g w a.1 in

@@ -20,7 +20,7 @@ next_number calls s = number_by calls s.next s.again
 abbrev pub HasNext : Plain → ℕ → ℕ → Type 0
 HasNext p w n = (s : PlainSeat) → slice_get p.seats w ≡ Some s → next_number (length p.load.calls) s ≡ Some n
 
--- where the worker stands behind its next call
+-- where the worker stands after its next call
 abbrev pub again_behind : Option ℕ → Option ℕ
 again_behind a = None
 

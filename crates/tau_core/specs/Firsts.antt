@@ -18,7 +18,7 @@ pub record BegunAs (w n : ℕ) (p m : Plain) : Type 0 where
   pub enough : IsRoomy w roomy
   pub begins : BeginsNext w n roomy m
 
--- it is begun, and undone since the event is not its first action, or memory was wanting
+-- it is begun, and undone since the event is not its first action, or memory ran out
 pub record BegunUndone (inner : Plain → ℕ → Outcome → Plain → Type 0) (w n : ℕ) (p : Plain) (outcome : Outcome) (p' : Plain) : Type 0 where
   pub begun : Plain
   pub tried : Plain

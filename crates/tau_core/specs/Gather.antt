@@ -12,7 +12,7 @@ use Rattle.tau_core.specs.Plain.{PlainSeat, PlainStream}
 use Rattle.tau_core.specs.State.{Plain}
 use Rattle.tau_core.specs.Anchors.{Reserves}
 
--- the front pieces that continue the position `next` are moved behind the body, as long as it keeps within its limit
+-- the front pieces that continue the position `next` are moved after the body, as long as it keeps within its limit
 pub record Moves (next : ℕ) (before after : PlainOutbox) (body longer : List ℕ) : Type 0 where
   pub taken : List Piece
   pub front : before.pieces ≡ taken ++ after.pieces
@@ -78,7 +78,7 @@ pub record IsGathered (j : ℕ) (p : Plain) : Type 0 where
   pub own : (s : PlainStream) → slice_get p.streams j ≡ Some s → Waits j p s.own
   pub posted : (w : ℕ) (t : PlainSeat) → w % p.load.streams ≡ j → slice_get p.seats w ≡ Some t → Waits j p t.outbox
 
--- a Gather: want of memory, before anything is gathered, and a stop are its refusals
+-- a Gather: lack of memory, before anything is gathered, and a stop are its refusals
 abbrev pub Gathered : Plain → ℕ → Outcome → Plain → Type 0
 Gathered p j (outcome.Gathered upto) p' = (stop_in (slice_get p.streams j) ≡ None) × GathersOn j p p' × (upto ≡ slice_index p'.gathered j) × IsGathered j p'
 Gathered p j outcome.NoMemory p' = (stop_in (slice_get p.streams j) ≡ None) × Reserves j p p'

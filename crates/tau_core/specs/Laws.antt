@@ -69,8 +69,8 @@ CutsLaw = (p : Plain) (K : List (Act Txn)) (h : Hidden) → Stands p K h → (cu
     Closed (reported p.ends calls) chosen ×
     (exec (means p.load.procs) (filter chosen (calls_of (reported p.ends calls))) (base p) ≡ exec (means p.load.procs) (filter chosen (calls_of K)) (base p)))
 
--- the gathered bytes are the spelling of the stream: the items that were gathered, and behind them those that wait, touch end to start from the opening's end over the gathered end to the
--- placed end, and are the records of the stream's committed calls and its anchors; and the bytes that were handed out, and behind them those that are here, spell the gathered ones
+-- the gathered bytes are the spelling of the stream: the items that were gathered, and after them those that wait, touch end to start from the opening's end over the gathered end to the
+-- placed end, and are the records of the stream's committed calls and its anchors; and the bytes that were handed out, and after them those that are here, spell the gathered ones
 abbrev pub SpellingLaw : Type 0
 SpellingLaw = (p : Plain) (K : List (Act Txn)) (h : Hidden) → Stands p K h → (j : ℕ) (s : PlainStream) → slice_get p.streams j ≡ Some s →
     (waiting : List Item) × Chain (slice_index p.load.opening.ends j) (h.moved j) (slice_index p.gathered j) × Chain (slice_index p.gathered j) waiting (slice_index p.ends j) ×

@@ -26,7 +26,7 @@ IsElsewhere p w wanted phase = (s : PlainSeat) → slice_get p.seats w ≡ Some 
 abbrev pub IsAtPhase : Plain → ℕ → Phase → Type 0
 IsAtPhase p w phase = (s : PlainSeat) → slice_get p.seats w ≡ Some s → hand_phase p.load.procs (hand_in p.load.procs s.txn) ≡ phase
 
--- the call in hand takes its lock, or is refused it; nothing changes where it wants none or memory is wanting
+-- the call in hand takes its lock, or is refused it; nothing changes where it wants none or memory runs out
 abbrev pub LockedBy : Plain → ℕ → Outcome → Plain → Type 0
 LockedBy p w (Granted value) p' = Takes w value p p'
 LockedBy p w (Busy holder) p' = IsRefused w holder p p'

@@ -11,7 +11,7 @@ use Rattle.tau_outbox.specs.declared.Piece.{Piece}
 use Rattle.tau_outbox.specs.Pieces as outbox
 use Rattle.tau_core.specs.declared.state.Load.{Load}
 
--- the vector that an anchor's number names in this stream: 0 the zero vector, and behind those that the stream was opened with the anchors of this run
+-- the vector that an anchor's number names in this stream: 0 the zero vector, and after those that the stream was opened with the anchors of this run
 abbrev pub Names : Load → ℕ → List (List ℕ) → ℕ → List ℕ → Type 0
 Names l j anchors number base =
     ((number ≡ 0) × (base ≡ replicate l.streams 0)) ⊎ ((i : ℕ) × (number ≡ slice_index l.opening.anchors.items j + i + 1) × (slice_get anchors i ≡ Some base))

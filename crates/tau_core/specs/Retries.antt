@@ -44,7 +44,7 @@ RetriedBy p w Went p' = GivesWay w p p'
 RetriedBy p w (NotNow phase) p' = (p' ≡ p) × IsElsewhere p w Locking phase
 RetriedBy p w _ p' = ⊥
 
--- the call met Busy; or nothing changed, since its next action is no lock, or the worker rested and memory was wanting to begin its call
+-- the call met Busy; or nothing changed, since its next action is no lock, or the worker rested and memory ran out to begin its call
 module _ (p p' : Plain) (K : List (Act Txn)) (h : Hidden) where
   abbrev pub RetrySteps : ℕ → Outcome → Type 0
   RetrySteps w Went = Happened (machine.Busy w) p p' K h

@@ -186,7 +186,7 @@ IsThere p (event.Persist j upto) = j < p.load.streams
 IsThere p (event.Ack w) = w < p.load.workers
 IsThere p (event.Stop j position) = j < p.load.streams
 
--- the bytes of a stream that are here were handed out, and nothing else changed: behind those that were handed out before, they spell all that was gathered
+-- the bytes of a stream that are here were handed out, and nothing else changed: after those that were handed out before, they spell all that was gathered
 pub record HandsOut (p p' : Plain) (K : List (Act Txn)) (h : Hidden) (j : ℕ) (bytes : List ℕ) : Type 0 where
   pub hidden : Hidden
   pub same : core_of p' hidden ≡ core_of p h

@@ -63,7 +63,7 @@ abbrev pub all_numbered : List Call → List ℕ → List Numbered
 all_numbered calls [] = []
 all_numbered calls (n ∷ ns) = numbered calls n ++ all_numbered calls ns
 
--- every step-th of these calls, which are numbered from n on, behind the first skip ones
+-- every step-th of these calls, which are numbered from n on, after the first skip ones
 abbrev pub every : ℕ → ℕ → ℕ → List Call → List Numbered
 every step skip n [] = []
 every step zero n (c ∷ cs) = record { number = n; call = c } ∷ every step (step - 1) (n + 1) cs

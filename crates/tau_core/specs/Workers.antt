@@ -93,7 +93,7 @@ pub record IsRefused (w holder : ℕ) (p p' : Plain) : Type 0 where
   pub sound : SoundSeat p.load w new
   pub after : p' ≡ record p { seats = slice_set p.seats w new; shards = slice_set p.shards (shard_number key) kept }
 
--- memory was wanting
+-- memory ran out
 pub record StaysShort (p p' : Plain) : Type 0 where
   pub i : ℕ
   pub shard : PlainShard

@@ -70,7 +70,7 @@ pub enum Event {
     },
 }
 
-/// What a step answers.
+/// What a step returns.
 #[derive(Debug, Drop)]
 pub enum Outcome {
     /// The event happened.
@@ -106,7 +106,7 @@ pub enum Outcome {
         /// Where the actor stands.
         phase: Phase,
     },
-    /// Memory was wanting, and nothing changed.
+    /// Out of memory, and nothing changed.
     NoMemory,
 }
 

@@ -51,7 +51,7 @@ impl LeftOvers {
         }
     }
 
-    /// Puts one more behind the others.
+    /// Puts one more after the others.
     pub fn push(&mut self, number: u64)
         requires { 1 ≤ self.old.room }
         ensures { self.new.numbers ≡ self.old.numbers ++ number ∷ [] }
@@ -61,7 +61,7 @@ impl LeftOvers {
         self.ascends = ascends;
     }
 
-    /// Whether it is known that they ascend with this one behind them.
+    /// Whether it is known that they ascend with this one after them.
     fn ascends_with(&self, number: u64) -> bool
         ensures { result ≡ true → IsNonDecreasing (self.now.numbers ++ number ∷ []) }
     {

@@ -74,7 +74,7 @@ fn is_of(event: Event, workers: u8, streams: u8) -> bool
     }
 }
 
-/// What an event of the core answers; none of one that is not there.
+/// What an event of the core returns; none of one that is not there.
 fn acts(core: &mut Core, workers: u8, streams: u8, event: Event) -> Option<Said>
     requires workers { core.old.load.workers ≡ workers }
     requires streams { core.old.load.streams ≡ streams }
@@ -89,7 +89,7 @@ fn acts(core: &mut Core, workers: u8, streams: u8, event: Event) -> Option<Said>
     Some(plain_of(&outcome))
 }
 
-/// The place of the first of these events that answers otherwise.
+/// The place of the first of these events that returns otherwise.
 fn first_wrong(core: &mut Core, workers: u8, streams: u8, rows: &[(Event, Said)]) -> Option<usize>
     requires workers { core.old.load.workers ≡ workers }
     requires streams { core.old.load.streams ≡ streams }
@@ -373,7 +373,7 @@ fn a_busy_call_gives_its_keys_back(rt: HostRuntime) -> Result<(), Fail> {
     Ok(())
 }
 
-/// The events of a put that is persisted, whose entry is removed, and of a call of the other worker behind it that takes its lock once more where it has read.
+/// The events of a put that is persisted, whose entry is removed, and of a call of the other worker after it that takes its lock once more where it has read.
 fn removed(core: &mut Core) -> Option<usize>
     requires workers { core.old.load.workers ≡ 2 }
     requires streams { core.old.load.streams ≡ 2 }
@@ -533,7 +533,7 @@ fn opened(alloc: Global, text: &[u8]) -> Result<Core, Fail>
 }
 
 // A run goes on from an opening: its rows are there, its floor is in every vector, positions go on from its ends; a record names no anchor until one of this run
-// was placed, whose number comes behind the opening's.
+// was placed, whose number comes after the opening's.
 #[test]
 fn a_run_goes_on_from_an_opening(rt: HostRuntime) -> Result<(), Fail> {
     let mut core = opened(rt.alloc(), b"table a\nadd a 1 2\nput a 2 1\n")?;
@@ -581,7 +581,7 @@ fn a_run_goes_on_from_an_opening(rt: HostRuntime) -> Result<(), Fail> {
     Ok(())
 }
 
-/// Whether the event answers so, again and again.
+/// Whether the event returns so, again and again.
 fn answers_always(core: &mut Core, workers: u8, row: (Event, Said), times: u16) -> bool
     requires workers { core.old.load.workers ≡ workers }
     requires streams { core.old.load.streams ≡ 2 }

@@ -70,7 +70,7 @@ module _ {D : Type 0} {G : Ghosts D} (n j : ℕ) (base : List ℕ) (w0 : Writer 
         raised = g.raised ∙ d.raised ∙ sym same;
       }
 
-  -- or memory was wanting
+  -- or memory ran out
   pub driven-short : (seen_now : SeenNow G) (s s' : PlainManagerSeat) (b b' : List ℕ) (w w' : Writer D G) → IsDriven n j base w0 s w → GathersMore s s' b b' → disk_of w' ≡ disk_of w → durable_of w' ≡ durable_of w → has_failed w' ≡ has_failed w → IsDrivenShort n j base w0 s' w'
   driven-short seen_now s s' b b' w w' d g disk durable same = record {
     stream = g.stream ∙ d.stream;

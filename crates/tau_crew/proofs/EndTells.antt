@@ -128,7 +128,7 @@ ends-well first bases ws ws' h jobs telling core hears held held' sink_rose c q 
       apart = λ works. c.apart q.memory;
     }
 
--- Or, to tell it, memory was wanting. The clerk's job gave back what it has told.
+-- Or, to tell it, memory ran out. The clerk's job gave back what it has told.
 pub ends-ran : {D : Type 0} {G : Ghosts D} (first : Plain) (bases : ℕ → List ℕ) (ws ws' : List (Writer D G)) (h : PlainHead) (jobs : List (ManagerJob D G)) (telling : ClerkJob) (core : Plain) (hears : Type 0) (held held' : List ℕ) (sink_rose : Type 0) (c : ClosesDone first bases ws ws' h jobs telling core) →
     IsDone first h jobs telling → telling.told.missing ≡ None → telling.told.lines.items ≡ [] → (hears → IsToldSoFar held telling.told held') → (telling.told.sink_failed ≡ true → sink_rose) → (t : Told) → t ≡ telling.told → (failed : Option ℕ) → IsLowestFailed ws' failed →
     (result : Result RunEnd NoMemory) → IfOk result (λ end. end.report.acks ≡ t.acks) → IfOk result (λ end. (K : List (Act Txn)) (q : Hidden) → Stands core K q → end.report.fates ≡ fates_by (length core.load.calls) K t.acks) →

@@ -25,7 +25,7 @@ IsSoFar base acks lines true held = HeardFront base acks held
 abbrev pub IsToldSoFar : List ℕ → Told → List ℕ → Type 0
 IsToldSoFar base t held = IsSoFar base t.acks t.lines.items t.sink_failed held
 
--- all calls that were acknowledged, with one that is missing for want of memory
+-- all calls that were acknowledged, with one that is missing for lack of memory
 abbrev pub with_missing : List (ℕ × List ℕ) → Option (ℕ × List ℕ) → List (ℕ × List ℕ)
 with_missing acks None = acks
 with_missing acks (Some a) = acks ++ a ∷ []

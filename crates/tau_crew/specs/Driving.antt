@@ -29,7 +29,7 @@ module _ {D : Type 0} {G : Ghosts D} where
   abbrev pub IsFlushed : Writer D G → Type 0
   IsFlushed w = has_failed w ≡ false → left_of w ≡ []
 
-  -- where memory was wanting the view may have more than the writer has
+  -- where memory ran out the view may have more than the writer has
   pub record IsDrivenShort (n j : ℕ) (base : List ℕ) (w0 : Writer D G) (s : PlainManagerSeat) (w : Writer D G) : Type 0 where
     pub stream : s.stream ≡ j
     pub stored : slice_index s.seen j ≡ durable_of w
@@ -74,7 +74,7 @@ pub record IsApart (base durable last placed : ℕ) (s : PlainManagerSeat) : Typ
 abbrev pub IsBlock : ℕ → ℕ → Type 0
 IsBlock before durable = (before ≤ durable) × (durable ≤ before + MAX_BODY)
 
--- The manager of stream j of n, whose writer was w0 at the entry, at the head of a turn. Where memory was wanting it says less.
+-- The manager of stream j of n, whose writer was w0 at the entry, at the head of a turn. Where memory ran out it says less.
 pub record IsManagerAt {D : Type 0} {G : Ghosts D} (n j : ℕ) (base : List ℕ) (w0 : Writer D G) (s : PlainManagerSeat) (w : Writer D G) (last placed : ℕ) (short : Bool) : Type 0 where
   pub wrote : IsDrivenShort n j base w0 s w
   pub driven : short ≡ false → IsDriven n j base w0 s w

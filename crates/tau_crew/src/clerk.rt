@@ -132,7 +132,7 @@ pub struct ClerkJob {
 }
 
 impl ClerkJob {
-    /// One pass, if memory was there so far. Want of memory raises the stop. Returns whether it goes on.
+    /// One pass, if memory was there so far. Lack of memory raises the stop. Returns whether it goes on.
     fn pass<R: Wait, K: Sink, G: Gate>(
         &mut self,
         rt: &R,

@@ -16,7 +16,7 @@ use std::sync::Wait;
 use tau_desk::{Desk, Head};
 use tau_disk::{Disk, Gate, Sink};
 
-/// The manager of a stream goes on until nothing is left, or its disk fails, or memory is wanting.
+/// The manager of a stream goes on until nothing is left, or its disk fails, or memory runs out.
 fn flush_at<R: Wait, D: Disk, G: Gate>(
     rt: &R,
     desk: &Desk,

@@ -108,7 +108,7 @@ fn manager_turn<R: Wait, D: Disk, G: Gate>(
 }
 
 impl<D: Disk> ManagerJob<D> {
-    /// One turn, where memory was there so far. Returns whether a block was flushed. Want of memory raises the stop.
+    /// One turn, where memory was there so far. Returns whether a block was flushed. Lack of memory raises the stop.
     fn turn<R: Wait, G: Gate>(&mut self, rt: &R, desk: &Desk, gate: &G) -> bool
         requires own { self.old.seat.table_id ≡ desk.now.table.shared.table_id }
         requires opened { self.old.seat.me.0.opened ≡ Some desk.now.table.shared.key.value }
@@ -141,7 +141,7 @@ impl<D: Disk> ManagerJob<D> {
         }
     }
 
-    /// Whether it has nothing more to do: its disk has failed, or memory was wanting.
+    /// Whether it has nothing more to do: its disk has failed, or memory ran out.
     fn is_over(&self) -> bool
         ensures { result ≡ (self.now.short || has_failed self.now.writer) }
     {
@@ -149,7 +149,7 @@ impl<D: Disk> ManagerJob<D> {
     }
 
     /// The manager's loop: it flushes what is new and rests where nothing is, until the workers are through and nothing is
-    /// left, or its disk fails, or memory is wanting.
+    /// left, or its disk fails, or memory runs out.
     pub fn run<R: Wait, G: Gate>(&mut self, rt: &R, desk: &Desk, crew: &Crew, gate: &G)
         requires own { self.old.seat.table_id ≡ desk.now.table.shared.table_id }
         requires opened { self.old.seat.me.0.opened ≡ Some desk.now.table.shared.key.value }

@@ -1,4 +1,4 @@
-//! What the threads of a run share beside the desk. Nothing that a run answers depends on it: it tells when to stop waiting.
+//! What the threads of a run share beside the desk. Nothing that a run returns depends on it: it tells when to stop waiting.
 use std::sync::Wait;
 use std::sync::atomic::{AtomicU64, Ordering};
 use std::time::Duration;

@@ -15,7 +15,7 @@ use tau_step::write_all;
 pub struct Told {
     /// The acknowledged calls with their vectors, in the order in which they were taken.
     pub acks: Listed<(u64, Lv)>,
-    /// A call that was acknowledged and is not told, since memory was wanting.
+    /// A call that was acknowledged and is not told, since memory ran out.
     pub missing: Option<(u64, Lv)>,
     /// The last line.
     pub line: Vec<u8>,

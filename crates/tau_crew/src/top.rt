@@ -148,7 +148,7 @@ fn go<R: Threads + Wait + Sync, D: Disk + Send, K: Sink + Send, G: Gate + Sync>(
 }
 
 /// The seats leave the head, and workers, managers and the clerk run side by side. The head, and the clerk, come back, the
-/// managers in `jobs`. Returns also whether memory was wanting to a worker.
+/// managers in `jobs`. Returns also whether memory ran out for a worker.
 fn run_all<R: Threads + Wait + Sync, D: Disk + Send, K: Sink + Send, G: Gate + Sync>(
     rt: &R,
     alloc: Global,

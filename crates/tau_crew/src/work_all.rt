@@ -55,7 +55,7 @@ fn refuse(desk: &Desk, mut head: Head, crew: &Crew, first: u8, workers: u8) -> H
     head
 }
 
-/// A seat for the first of these workers leaves the head, or none where memory was wanting.
+/// A seat for the first of these workers leaves the head, or none where memory ran out.
 fn part(desk: &Desk, head: &mut Head, first: u8, others: u8) -> Option<WorkerSeat>
     requires own { head.old.table_id ≡ desk.now.table.shared.table_id }
     requires opened { head.old.me.0.opened ≡ Some desk.now.table.shared.key.value }
@@ -97,7 +97,7 @@ fn either(one: bool, other: bool) -> bool
 }
 
 /// The first worker and so many others after it, each in a thread of its own on a seat that leaves the head, which has their
-/// roles again then. Returns also whether memory was wanting.
+/// roles again then. Returns also whether memory ran out.
 pub(crate) fn work_all<R: Threads + Wait + Sync, G: Gate + Sync>(
     rt: &R,
     desk: &Desk,
@@ -138,7 +138,7 @@ pub(crate) fn work_all<R: Threads + Wait + Sync, G: Gate + Sync>(
 }
 
 /// All workers of the desk side by side, each on a seat that leaves the head, which has their roles again then. Returns also
-/// whether memory was wanting.
+/// whether memory ran out.
 pub(crate) fn work_side_by_side<R: Threads + Wait + Sync, G: Gate + Sync>(
     rt: &R,
     desk: &Desk,

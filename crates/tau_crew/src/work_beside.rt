@@ -17,7 +17,7 @@ use tau_desk::{Desk, Head};
 use tau_disk::{Disk, Gate, Sink};
 
 /// All workers of the head in this place beside the managers and the clerk. The head has the workers' roles again then. Returns
-/// whether memory was wanting to a worker. Where no thread can be made they run one after another, workers first and the clerk last.
+/// whether memory ran out for a worker. Where no thread can be made they run one after another, workers first and the clerk last.
 pub(crate) fn work_beside<R: Threads + Wait + Sync, D: Disk + Send, K: Sink + Send, G: Gate + Sync>(
     rt: &R,
     desk: &Desk,

@@ -21,7 +21,7 @@ use tau_desk::{Desk, Head};
 use tau_disk::{Disk, Gate, Sink};
 
 /// Workers, managers and the clerk side by side, from the beginning of a run: what comes back is as the ending wants it. Returns
-/// also whether memory was wanting to a worker.
+/// also whether memory ran out for a worker.
 pub(crate) fn run_phase<R: Threads + Wait + Sync, D: Disk + Send, K: Sink + Send, G: Gate + Sync>(
     rt: &R,
     desk: &Desk,

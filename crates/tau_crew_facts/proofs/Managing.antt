@@ -159,7 +159,7 @@ module _ {D : Type 0} {G : Ghosts D} (n j : ℕ) (base : List ℕ) where
           });
     }
 
-    -- want of memory after the give: the pieces are gathered, and the disk is as it was
+    -- lack of memory after the give: the pieces are gathered, and the disk is as it was
     pub gathers-short : (taken more : List Piece) (w w1 w2 : Writer D G) → IsManaging n j base taken w w1 → disk_of w2 ≡ disk_of w1 → durable_of w2 ≡ durable_of w1 → has_failed w2 ≡ has_failed w1 →
         HasWritten n j base (taken ++ more) (durable_of w2) w w2
     gathers-short taken more w w1 w2 g disk durable works =

@@ -187,7 +187,7 @@ fn del(row: Operand) -> Step {
     Step::Del { table: 0, row }
 }
 
-/// What register 0 holds behind a step, or the refusal.
+/// What register 0 holds after a step, or the refusal.
 fn outcome(rt: &impl Abort, alloc: Global, step: &Step) -> Result<Reply, Fail> {
     let steps = [step.copied(), Step::Reply(Operand::Register(0))];
     Ok(run_steps(rt, alloc, &steps, &[], &[])?.reply)

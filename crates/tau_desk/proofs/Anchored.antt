@@ -1,4 +1,4 @@
--- A manager places an anchor: what its seat knows then, and how its record stands behind those before.
+-- A manager places an anchor: what its seat knows then, and how its record stands after those before.
 use Rattle.std.proofs.Common.{◌≡◌, ℕ, false, ◌+◌, ◌-◌, ◌*◌, ◌%◌, ◌^◌, ◌<◌, ◌≤◌, inl, inr, List, [], ◌∷◌, ◌++◌, length, refl, sym, ap, ◌∙◌, subst, arith, length-append}
 use Rattle.std.specs.Prelude.{slice_index}
 use Rattle.std.specs.Int.{to_be_bytes, w32, w64}
@@ -85,7 +85,7 @@ one-behind l a p [] h = absurd h
 one-behind l a p (y ∷ []) h = (y, refl, h.0.start)
 one-behind l a p (y ∷ z ∷ rest) h = absurd h.1
 
--- the new record stands behind the others of the manager
+-- the new record stands after the others of the manager
 pub own-order : (key : Plain) (m : Sat) (j k : ℕ) (o : PlainStock) (h : At key m j o) (bytes : List ℕ) (start : ℕ) (p : Part) → Agrees key (told_anchored m.0 bytes start) k p → end_of 0 o.own.pieces ≤ start
 own-order key m j k o h bytes start p a =
     let u : ℕ = manager_role key.load j in

@@ -1,4 +1,4 @@
--- A list behind which something was put.
+-- A list after which something was put.
 use Rattle.std.proofs.Common.{◌≡◌, ◌≤◌, List, [], ◌∷◌, ◌++◌, length, sym, subst, arith}
 
 some-at : {A : Type 0} (before : List A) (kept : A) → 1 ≤ length (before ++ kept ∷ [])

@@ -33,7 +33,7 @@ word-put ws a b x e lt = ap (λ (n : ℕ). slice_index (slice_set ws (8 * a) x) 
 pub word-else : (ws : List ℕ) (a b x : ℕ) → (b ≡ a → ⊥) → slice_index (slice_set ws (8 * a) x) (8 * b) ≡ slice_index ws (8 * b)
 word-else ws a b x ne = get_or-set_other ws (8 * a) (8 * b) x 0 (λ e. ne (omega (arith, e)))
 
--- the elements behind others
+-- the elements after others
 pub get-behind : {A : Type 0} (xs ys : List A) (k : ℕ) → slice_get (xs ++ ys) (length xs + k) ≡ slice_get ys k
 get-behind [] ys k = ap (slice_get ys) (let e : 0 + k ≡ k = omega arith in e)
 get-behind (x ∷ xs) ys k = ap (slice_get (x ∷ (xs ++ ys))) (let e : suc (length xs) + k ≡ suc (length xs + k) = omega arith in e) ∙ get-behind xs ys k

@@ -6,7 +6,7 @@ use Rattle.tau_engine.specs.Outside.{ends_run}
 use Rattle.tau_engine.specs.Fault.{fault_text, is_refusal, TellsFault}
 use Rattle.tau_run.specs.Told.{WroteFront}
 
--- an answer other than want of memory is the refusal
+-- an answer other than lack of memory is the refusal
 pub answers_as : (wrote : List ℕ → Type 0) (rose : Type 0) (refusal answer s : Status) → TellsFault wrote rose refusal answer → answer ≡ s → (s ≡ status.NoMemory → ⊥) → refusal ≡ s
 answers_as wrote rose refusal answer s (inl told) e some = sym told.0 ∙ e
 answers_as wrote rose refusal answer s (inr none) e some = absurd (some (sym e ∙ none.0))

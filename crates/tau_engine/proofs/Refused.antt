@@ -62,7 +62,7 @@ module _ {D : Type 0} (G : Ghosts D) (only_now : OnlyNow G) (n m : ℕ) (mode : 
   untouched_each : EachUsed (OnlyRead G.tells G.seen G.may_leave G.moment G.may_leave_since) old old n
   untouched_each j d lt was = (d, was, untouched G d)
 
-  -- memory was wanting before the disks were asked
+  -- memory ran out before the disks were asked
   pub says_untouched : held' ≡ held → SaysRun G n m mode load old old hears held held' faults faults' status.NoMemory
   says_untouched same = record {
     facts = untouched_facts status.NoMemory refl (λ e t. same ∙ sym (append-nil held));

@@ -156,7 +156,7 @@ module _ {D : Type 0} (G : Ghosts D) where
     first_stopped j at lt stop below t =
         (let (d, e, was, is, h) = at_start j lt in ((d, e, was, is, stopped j at d e h stop t), clean_below j (omega (arith, lt)) below))
 
-    -- the call that failed came behind those that make a stream
+    -- the call that failed came after those that make a stream
     made_late : (d e f : D) → Went G calls_to_open d e → G.tells → IsStopped G.tells G.number G.fails G.short e f → (k : ℕ) × (calls_to_open < k) × (G.short f ≡ false → G.number f ≡ G.number d + k)
     made_late d e f went t stop = elim (stop t) [
       | inl memory ↦ (8, omega arith, λ no_memory. absurd (let g : true ≡ false = sym memory ∙ no_memory in cc g))

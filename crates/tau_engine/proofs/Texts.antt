@@ -28,7 +28,7 @@ module _ {A : Type 0} where
   take_long (suc k) [] le = refl
   take_long (suc k) (x ∷ xs) le = ap (λ (l : List A). x ∷ l) (take_long k xs (omega (arith, le)))
 
--- how much of the lines stands behind what was held
+-- how much of the lines stands after what was held
 abbrev grown : List ℕ → List ℕ → List ℕ → ℕ
 grown held held' lines = min (length held' - length held) (length lines)
 
@@ -76,7 +76,7 @@ module _ (hears : Type 0) (held mid held' : List ℕ) (tables : List (List ℕ))
   pub whole_text : (hears → Heard held r.acks false mid) → Wrote hears mid held' rest → Wrote hears held held' (report_text tables r failed)
   whole_text h more told = more told ∙ ap (λ (l : List ℕ). l ++ rest) (h told) ∙ append_assoc held lines rest
 
-  -- where the sink failed behind the acknowledgements
+  -- where the sink failed after the acknowledgements
   pub rest_cut : (k : ℕ) → k < length rest → (hears → Heard held r.acks false mid) → Wrote hears mid held' (take k rest) →
       (i : ℕ) × (i < length (report_text tables r failed)) × Wrote hears held held' (take i (report_text tables r failed))
   rest_cut k lt h more = (

@@ -146,7 +146,7 @@ not_worked n rose status.Usage kind worked = worked
 not_worked n rose status.ReadFault kind worked = worked
 not_worked n rose status.TooLong kind worked = worked
 
--- a refusal before a run: its answer, and that want of memory tells nothing
+-- a refusal before a run: its answer, and that lack of memory tells nothing
 pub ends_unread : (wrote : List ℕ → Type 0) (rose : Type 0) (refusal answer : Status) → ends_reading refusal ≡ true → TellsFault wrote rose refusal answer → (ends_reading answer ≡ true) × (answer ≡ status.NoMemory → wrote [])
 ends_unread wrote rose refusal answer kind (inr none) = (ap ends_reading none.0, λ e. none.1)
 ends_unread wrote rose refusal answer kind (inl told) = (ap ends_reading told.0 ∙ kind, λ e. nothing (subst (λ (s : Status). WroteFront wrote rose (fault_text s)) (sym told.0 ∙ e) told.1))

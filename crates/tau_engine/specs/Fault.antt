@@ -72,6 +72,6 @@ is_refusal (status.NotEmpty j long) = true
 is_refusal status.TooLong = true
 is_refusal _ = false
 
--- the refusal was told and is the answer, or memory was wanting and nothing was told
+-- the refusal was told and is the answer, or memory ran out and nothing was told
 abbrev pub TellsFault : (List ℕ → Type 0) → Type 0 → Status → Status → Type 0
 TellsFault wrote sink_rose refusal answer = ((answer ≡ refusal) × WroteFront wrote sink_rose (fault_text refusal)) ⊎ ((answer ≡ status.NoMemory) × wrote [])

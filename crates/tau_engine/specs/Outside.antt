@@ -20,7 +20,7 @@ HasFault text fault = (length text ≤ MAX_WORKLOAD) × (workload_of text ≡ Er
 abbrev pub HasNoWorkload : List ℕ → Type 0
 HasNoWorkload text = (load : Workload) → HasWorkload text load → ⊥
 
--- a sink that tells has this behind what it held
+-- a sink that tells has this after what it held
 abbrev pub Wrote : Type 0 → List ℕ → List ℕ → List ℕ → Type 0
 Wrote tells old new text = tells → new ≡ old ++ text
 

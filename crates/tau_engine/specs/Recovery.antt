@@ -43,14 +43,14 @@ RecoverTells images wrote status.WriteFault = (log : Log) × (log_of images ≡ 
 RecoverTells images wrote status.NoMemory = wrote []
 RecoverTells images wrote other = Unit {0}
 
--- the answer is this refusal, unless memory was wanting or a disk failed
+-- the answer is this refusal, unless memory ran out or a disk failed
 abbrev pub EndsAsBad : LogFault → Status → Type 0
 EndsAsBad fault status.NoMemory = Unit {0}
 EndsAsBad fault (status.DiskFault j) = Unit {0}
 EndsAsBad fault (status.BadLog other) = other ≡ fault
 EndsAsBad fault other = ⊥
 
--- the answer tells where recovery gets stuck, unless memory was wanting or a disk failed
+-- the answer tells where recovery gets stuck, unless memory ran out or a disk failed
 abbrev pub EndsTangled : Log → Status → Type 0
 EndsTangled log status.NoMemory = Unit {0}
 EndsTangled log (status.DiskFault j) = Unit {0}

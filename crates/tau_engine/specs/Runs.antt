@@ -29,7 +29,7 @@ status_in refusal.NoMemory = status.NoMemory
 status_in (refusal.Failed j) = status.DiskFault j
 status_in (refusal.NotEmpty j long) = status.NotEmpty j long
 
--- What was told behind the acknowledgements of a run that went to its end, by the answer: the rest of the report, a
+-- What was told after the acknowledgements of a run that went to its end, by the answer: the rest of the report, a
 -- first part of it where the sink failed, and nothing where it had failed before.
 abbrev pub TellsEnd : List (List ℕ) → RunEnd → Type 0 → List ℕ → List ℕ → Type 0 → Status → Type 0
 TellsEnd tables end hears held held' rose status.Ok = (end.sink_failed ≡ false) × (end.disk ≡ None) × Wrote hears held held' (rest_text tables end.report None)
@@ -39,16 +39,16 @@ TellsEnd tables end hears held held' rose status.WriteFault = ((end.sink_failed 
 TellsEnd tables end hears held held' rose status.NoMemory = (end.sink_failed ≡ false) × (held' ≡ held)
 TellsEnd tables end hears held held' rose other = ⊥
 
--- the same where memory was wanting before its end
+-- the same where memory ran out before its end
 abbrev pub TellsRun : List (List ℕ) → Result RunEnd NoMemory → Type 0 → List ℕ → List ℕ → Type 0 → Status → Type 0
 TellsRun tables (Ok end) hears held held' rose answer = TellsEnd tables end hears held held' rose answer
 TellsRun tables (Err e) hears held held' rose answer = (answer ≡ status.NoMemory) × (held' ≡ held)
 
--- The run on these writers: their disks stand in front of the others, and what it told is behind what the sink held.
+-- The run on these writers: their disks stand in front of the others, and what it told is after what the sink held.
 pub record RunsOn {D : Type 0} {G : Ghosts D} (m : ℕ) (mode : LogMode) (load : Workload) (ws : List (Writer D G)) (rest now : List D) (hears : Type 0) (held held' : List ℕ) (faults faults' : ℕ) (answer : Status) : Type 0 where
   pub after : List (Writer D G)
   pub back : now ≡ map disk_of after ++ rest
-  -- what the sink held behind the run, and how often it had failed
+  -- what the sink held after the run, and how often it had failed
   pub mid : List ℕ
   pub count : ℕ
   pub early : faults ≤ count

@@ -137,7 +137,7 @@ fn fault_line(alloc: Global, status: Status) -> Result<String, AllocError>
     }
 }
 
-/// Writes the line of a refusal, and answers with its status, or for want of memory with NoMemory and no line. A sink
+/// Writes the line of a refusal, and returns with its status, or for lack of memory with NoMemory and no line. A sink
 /// that fails changes nothing of the answer.
 pub fn refuse<K: Sink>(alloc: Global, sink: &mut K, status: Status) -> Status
     ensures { TellsFault (Wrote K.tells (K.held sink.old) (K.held sink.new)) (Rose (K.faults sink.old) (K.faults sink.new)) status result }

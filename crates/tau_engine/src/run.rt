@@ -24,7 +24,7 @@ use tau_step::{run_turns, write_all};
 use tau_stream::Writer;
 use tau_text::{Workload, print_declarations};
 
-/// Writes what a run tells behind its acknowledgements, and answers how it ended. Nothing is written to a sink that has
+/// Writes what a run tells after its acknowledgements, and returns how it ended. Nothing is written to a sink that has
 /// failed.
 fn tell_end<K: Sink>(alloc: Global, load: &Workload, end: &RunEnd, sink: &mut K) -> Status
     ensures told { TellsEnd load.now.declarations.tables end.now K.tells (K.held sink.old) (K.held sink.new) (Rose (K.faults sink.old) (K.faults sink.new)) result }

@@ -13,7 +13,7 @@ const CHUNK: usize = 65_536;
 /// Why a source gives no text.
 #[derive(Clone, Copy, Debug, PartialEq, Eq)]
 pub enum SourceRefusal {
-    /// Memory was wanting.
+    /// Out of memory.
     NoMemory,
     /// The source failed.
     Failed,

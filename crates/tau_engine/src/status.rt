@@ -10,7 +10,7 @@ use tau_text::TextCause;
 pub enum Status {
     /// It did its work, and its whole report was written.
     Ok,
-    /// Memory was wanting.
+    /// Out of memory.
     NoMemory,
     /// The words are no command.
     Usage,

@@ -41,7 +41,7 @@ use tau_base::MAX_WORKLOAD;
 use tau_disk::{Disk, Gate, MemDisk, Sink, Source};
 use tau_words::WordsRefusal;
 
-/// Does what the words say, and answers how it ended. The words are those behind the program's name. A run uses the
+/// Does what the words say, and returns how it ended. The words are those after the program's name. A run uses the
 /// first disks, which hold nothing before it; all disks stand in their places again, whatever the answer.
 pub fn taurus<R: Threads + Wait + Sync, S: Source, K: Sink + Send, D: Disk + Send, G: Gate + Sync>(
     rt: &R,

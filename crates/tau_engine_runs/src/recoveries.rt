@@ -6,7 +6,7 @@ use std::test::*;
 use std::thread::Threads;
 use tau_disk::MemDisk;
 
-// The image of stream `j` of `n`, with the catalogue of table a and these records behind it.
+// The image of stream `j` of `n`, with the catalogue of table a and these records after it.
 pub(crate) fn image_of(alloc: Global, n: u8, j: u8, records: &[u8]) -> Result<MemDisk, Fail> {
     let mut image = Vec::from_slice(alloc, b"TAURUS-LOG-1")?;
     image.extend_from_slice(&[0, n, 0, j])?;
@@ -45,7 +45,7 @@ static CALLED: &[u8] =
 // Call 1 with the explicit component 0, which is that of no anchor.
 static NOT_ABOVE: &[u8] =
     b"\x01\x00\x00\x00\x30\x00\x00\x00\x00\x00\x00\x00\x01\x00\x00\x00\x00\x00\x01\x00\x00\x00\x00\x00\x00\x00\x00\x00\x01\x00\x00\x00\x00\x00\x00\x00\x00\x00\x01\x01\x00\x00\x00\x00\x00\x00\x00\x05";
-// Call 1 puts 5 into row 1 and waits for stream 1 up to 53; behind it call 3 puts 7 into row 3.
+// Call 1 puts 5 into row 1 and waits for stream 1 up to 53; after it call 3 puts 7 into row 3.
 static WAITING: &[u8] =
     b"\x01\x00\x00\x00\x30\x00\x00\x00\x00\x00\x00\x00\x01\x00\x00\x00\x00\x00\x02\x00\x00\x00\x00\x00\x00\x00\x35\x00\x01\x00\x00\x00\x00\x00\x00\x00\x00\x00\x01\x01\x00\x00\x00\x00\x00\x00\x00\x05\x01\x00\x00\x00\x28\x00\x00\x00\x00\x00\x00\x00\x03\x00\x00\x00\x00\x00\x00\x00\x01\x00\x00\x00\x00\x00\x00\x00\x00\x00\x03\x01\x00\x00\x00\x00\x00\x00\x00\x07";
 // Stream 1 of two: the catalogue of `table b` alone.

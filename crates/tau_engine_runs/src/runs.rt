@@ -275,7 +275,7 @@ fn recoveries_of_runs(rt: HostRuntime) -> Result<(), Fail> {
             b"elv 53,61\ntaken 0 13 1\ntaken 1 13 2\nrow a 1 int 7\nend 0\n".as_slice()
         );
     }
-    // The anchor takes 29 bytes of stream 0, and the call behind it names it.
+    // The anchor takes 29 bytes of stream 0, and the call after it names it.
     let text = recovered(
         &rt,
         alloc,

@@ -95,7 +95,7 @@ fn two_failed_disks_name_the_lower(rt: HostRuntime) -> Result<(), Fail> {
     Ok(())
 }
 
-// The sink gets nothing behind the call that failed; the run goes on.
+// The sink gets nothing after the call that failed; the run goes on.
 #[test]
 fn a_failed_sink_ends_all_writing(rt: HostRuntime) -> Result<(), Fail> {
     let alloc = rt.alloc();

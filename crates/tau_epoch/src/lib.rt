@@ -21,7 +21,7 @@ use thiserror::Error;
 /// Why an epoch was not added.
 #[derive(Clone, Copy, Debug, PartialEq, Eq, Error)]
 pub enum EpochRefusal {
-    /// Memory was wanting.
+    /// Out of memory.
     #[error("out of memory")]
     NoMemory,
     /// The number is known with this vector, which is another one.

@@ -175,7 +175,7 @@ pub length_numbers : (count : ℕ) → length (numbers count) ≡ count
 length_numbers zero = refl
 length_numbers (suc count) = ap suc (length_numbers count)
 
--- nothing is added behind the last row
+-- nothing is added after the last row
 none_added : (start count row : ℕ) → 1000 ≤ row → added start count row ≡ 0
 unfolding added
 none_added start zero row high = refl

@@ -93,7 +93,7 @@ const NO_TABLE: [u8; 80] = [
     0, 0, 0, 0, 0, 0, 1, 0, 1, 0, 0, 0, 0, 0, 0, 0, 1, 1, 0, 0, 0, 0, 0, 0, 0, 5, 0,
 ];
 
-// A stream of one. A write of table 1, and behind it a record of kind 9.
+// A stream of one. A write of table 1, and after it a record of kind 9.
 const NO_TABLE_FIRST: [u8; 85] = [
     84, 65, 85, 82, 85, 83, 45, 76, 79, 71, 45, 49, 0, 1, 0, 0, 1, 0, 0, 0, 13, 4, 0, 0, 0, 13,
     116, 97, 98, 108, 101, 32, 97, 10, 1, 0, 0, 0, 45, 1, 0, 0, 0, 40, 0, 0, 0, 0, 0, 0, 0, 1, 0,

@@ -88,7 +88,7 @@ pub record Joins (procs : List Proc) (width : ℕ) (K : List (Act Txn)) (v : Sig
   pub past : updates t.effect ≡ true → t.call.place.past ≤ slice_index ends t.call.place.stream
   pub goes_on : updates t.effect ≡ true → t.call.place.start < t.call.place.past
   pub stream : updates t.effect ≡ true → t.call.place.stream < width
-  -- the hand behind it
+  -- the hand after it
   pub after : Hand
   pub now : hand' w ≡ Some after
   pub act : act_of after.phase ≡ Some t

@@ -42,7 +42,7 @@ anchors-append [] ys = refl
 anchors-append (Record t ∷ xs) ys = anchors-append xs ys
 anchors-append (Anchor a b v ∷ xs) ys = ap (λ l. v ∷ l) (anchors-append xs ys)
 
--- items behind others name theirs
+-- items after others name theirs
 pub named-append : (n : ℕ) (before : List (List ℕ)) (xs ys : List Item) → NameTheirs n before xs → NameTheirs n (before ++ anchors_in xs) ys → NameTheirs n before (xs ++ ys)
 named-append n before [] ys h k = subst (λ (l : List (List ℕ)). NameTheirs n l ys) (append-nil before) k
 named-append n before (Record t ∷ xs) ys h k = (h.0, named-append n before xs ys h.1 k)

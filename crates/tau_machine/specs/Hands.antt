@@ -42,7 +42,7 @@ spot_of false t = None
 abbrev pub committed_of : Act Txn → Committed
 committed_of t = record { number = t.call.call.number; reply = t.effect.reply; dep = t.call.place.dep; lv = lv_of t; spot = spot_of (updates t.effect) t.call }
 
--- how far a call in hand has come; behind its commit it is this act
+-- how far a call in hand has come; after its commit it is this act
 pub data Phase : Type 0 where
   Running : Phase
   Quitting : Phase

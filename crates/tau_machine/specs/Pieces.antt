@@ -58,7 +58,7 @@ module _ (set : Setting) where
   abbrev pub Flying : Core → ℕ → Item → Type 0
   Flying s j i = (w : ℕ) × (set.stream_of w ≡ j) × ((t : Act Txn) × (i ≡ Record t) × (placed_in (hand_of s w) ≡ Some t))
 
-  -- stream j: what was gathered, and behind it what waits, which is posted or in flight
+  -- stream j: what was gathered, and after it what waits, which is posted or in flight
   pub record StreamGood (K : List (Act Txn)) (s : Core) (j : ℕ) : Type 0 where
     pub waiting : List Item
     pub moved : Chain (slice_index set.opening j) (s.streams j).moved (slice_index s.gathered j)

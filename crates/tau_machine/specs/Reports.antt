@@ -34,7 +34,7 @@ content_of mode t = content mode (record { call = t.call.call; effect = t.effect
 abbrev pub Unheld : Core → Key → Type 0
 Unheld s x = (w : ℕ) (t : Act Txn) → act_in (hand_of s w) ≡ Some t → held_in (hand_of s w) x ≡ Some Write → ⊥
 
--- these lists, one behind another
+-- these lists, one after another
 abbrev pub in_turn : {A : Type 0} → ℕ → (ℕ → List A) → List A
 in_turn zero f = []
 in_turn (suc n) f = f 0 ++ in_turn n (λ j. f (suc j))

@@ -26,7 +26,7 @@ abbrev pub looked : Option Value → Key → Running → ℕ → (Running → St
 looked None key r into rest = Wants [] key
 looked (Some v) key r into rest = more key v (rest (set_register r into v))
 
--- what step n and those behind it have come to, where those behind it have come to what rest says
+-- what step n and those after it have come to, where those after it have come to what rest says
 abbrev pub goes : Action → Running → ℕ → List (Key × Value) → (Running → Stage) → Stage
 goes (Go next) r n seen rest = rest next
 goes (Ask key into) r n seen rest = looked (lookup (same_key key) seen) key r into rest

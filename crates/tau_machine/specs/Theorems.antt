@@ -81,7 +81,7 @@ CutsTheorem = (set : Setting) (K : List (Act Txn)) (s : Core) → Invariant set 
     Closed (reported s.ends calls) chosen ×
     (exec (means set.procs) (filter chosen (calls_of (reported s.ends calls))) set.base ≡ exec (means set.procs) (filter chosen (calls_of K)) set.base))
 
--- streams: what was gathered, and what waits behind it, are the records and anchors of the stream, from the opening's end over the gathered end to the placed end;
+-- streams: what was gathered, and what waits after it, are the records and anchors of the stream, from the opening's end over the gathered end to the placed end;
 -- and each record names no anchor, or one before it, which its dep covers
 abbrev pub StreamsTheorem : Type 0
 StreamsTheorem = (set : Setting) (K : List (Act Txn)) (s : Core) → Invariant set K s → (j : ℕ) → j < set.width →

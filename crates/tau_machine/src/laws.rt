@@ -48,7 +48,7 @@ pub fn cuts()
     ensures { CutsTheorem }
 {}
 
-/// What was gathered, and what waits behind it, are the records and anchors of the stream, from the opening's end on.
+/// What was gathered, and what waits after it, are the records and anchors of the stream, from the opening's end on.
 pub fn streams()
     ensures { StreamsTheorem }
 {}

@@ -57,7 +57,7 @@ module _ {C : Type 0} (place : C → Place) where
       subst (λ (y : Act C). slice_index (place y.call).dep (place u.call).stream ≤ (place u.call).start) w.0 (start-behind (place x.call).dep u xs w.1 h.0.1)
   orderly-before t u (x ∷ xs) (inr b) h = orderly-before t u xs b h.1
 
-  -- some of the records behind
+  -- some of the records after
   behind-filtered : (p : Act C → Bool) (v : List ℕ) (xs : List (Act C)) →
       ((x : Act C) → Member x xs → p x ≡ true → slice_index v (place x.call).stream ≤ (place x.call).start) →
       StartBehind v (map (λ (x : Act C). place x.call) (filter p xs))

@@ -64,7 +64,7 @@ module _ {C : Type 0} (meaning : C → Db → Effect) (sound : Sound meaning) wh
       let now : Agrees z.effect.reads (written e.writes db) = agrees-after z.effect.reads e.writes db (no_reader z.effect e apart) saw in
       sound.determined z.call db (written e.writes db) (subst (λ (f : Effect). Agrees f.reads (written e.writes db)) (sym is) now) ∙ is
 
-  -- an act that comes before acts with which it does not conflict may come behind them
+  -- an act that comes before acts with which it does not conflict may come after them
   pub moved : (x : Act C) (front back : List (Act C)) (db : Db) → ((z : Act C) → Member z front → Apart x.effect z.effect) →
       meaning x.call db ≡ x.effect → Consistent meaning (front ++ back) (written x.effect.writes db) →
       Consistent meaning (front ++ x ∷ back) db × (redo (front ++ x ∷ back) db ≡ redo (front ++ back) (written x.effect.writes db))
@@ -77,7 +77,7 @@ module _ {C : Type 0} (meaning : C → Db → Effect) (sound : Sound meaning) wh
       (subst (λ (d : Db). Consistent meaning (front ++ back) d) swap h.1) in
       ((unread x.effect z db far h.0, rest.0), rest.1 ∙ ap (λ (d : Db). redo (front ++ back) d) (sym swap))
 
-  -- an act with which none of those behind it conflicts may be left out
+  -- an act with which none of those after it conflicts may be left out
   pub left_out : (x : Act C) (zs : List (Act C)) (db : Db) → ((z : Act C) → Member z zs → Apart x.effect z.effect) →
       Consistent meaning zs (written x.effect.writes db) → Consistent meaning zs db
   left_out x [] db apart h = tt

@@ -9,7 +9,7 @@ pub reordered-itself : {A : Type 0} (xs : List A) → Reordered xs xs
 reordered-itself [] = refl
 reordered-itself (x ∷ xs) = ([], xs, refl, reordered-itself xs)
 
--- two ways to cut a list at an element: the element stands in front of the other cut, or behind it
+-- two ways to cut a list at an element: the element stands in front of the other cut, or after it
 pub two_cuts : {A : Type 0} (front back us vs : List A) (x : A) → front ++ back ≡ us ++ x ∷ vs →
     ((mid : List A) × (front ≡ us ++ x ∷ mid) × (vs ≡ mid ++ back)) ⊎ ((mid : List A) × (us ≡ front ++ mid) × (back ≡ mid ++ x ∷ vs))
 two_cuts [] back us vs x e = inr (us, refl, e)

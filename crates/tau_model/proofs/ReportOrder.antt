@@ -161,7 +161,7 @@ module _ {A : Type 0} (place : A → Place) (up : A → Bool) where
   emitted-at (s ∷ streams) (b ∷ ends) e (suc j) = emitted-at streams ends (omega arith) j
 
   module _ (ends : List ℕ) (acts : List A) (can : IsPlaced place up ends acts) (left : Left A) (is : IsLeft place up ends acts left) where
-    -- a record that is left starts at or behind what is emitted
+    -- a record that is left starts at or after what is emitted
     emitted-low : (u : A) → Member u acts → up u ≡ true → slice_index (emitted place left.streams ends) (place u).stream ≤ (place u).start
     emitted-low u m t = rw (emitted-at left.streams ends is.count (place u).stream)
         (at (slice_index_or left.streams (place u).stream []) refl)

@@ -66,7 +66,7 @@ pub record IsListed (ends : List ℕ) (streams left : List (List Entry)) (before
   pub emitted_is : after ≡ emitted entry_place left ends
   pub fewer : lengths left < lengths streams
 
--- the records with these numbers are listed from these streams one after another until none is covered, and this is emitted before each of them and behind the last
+-- the records with these numbers are listed from these streams one after another until none is covered, and this is emitted before each of them and after the last
 abbrev pub IsListing : List ℕ → List (List Entry) → List (List ℕ) → List ℕ → Type 0
 IsListing ends streams [] numbers = ⊥
 IsListing ends streams (v ∷ reached) [] = (v ≡ emitted entry_place streams ends) × (reached ≡ []) × (take_record (covered_by v) streams ≡ None)
@@ -86,7 +86,7 @@ slot_of (v ∷ reached) dep = cond (covers v dep) 0 (suc (slot_of reached dep))
 abbrev pub bucket : List (List ℕ) → List Entry → ℕ → List ℕ
 bucket reached readers k = map entry_number (filter (λ e. slot_of reached e.dep == k) readers)
 
--- each bucket, and behind each but the last the next record
+-- each bucket, and after each but the last the next record
 abbrev pub woven : List (List ℕ) → List ℕ → List ℕ
 woven [] numbers = []
 woven (b ∷ buckets) [] = b

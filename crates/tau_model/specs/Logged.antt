@@ -15,7 +15,7 @@ abbrev pub lv : Bool → Place → List ℕ
 lv true p = slice_set p.dep p.stream p.past
 lv false p = p.dep
 
--- each of these records starts at or behind the component of its stream
+-- each of these records starts at or after the component of its stream
 abbrev pub StartBehind : List ℕ → List Place → Type 0
 StartBehind v [] = Unit {0}
 StartBehind v (q ∷ qs) = (slice_index v q.stream ≤ q.start) × StartBehind v qs

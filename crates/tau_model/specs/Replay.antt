@@ -14,7 +14,7 @@ pub data Turn (A : Type 0) : Type 0 where
   Finish : A → Turn A
 
 module _ {A : Type 0} (place : A → Place) where
-  -- each record that is not finished starts at or behind its stream's component of the dep
+  -- each record that is not finished starts at or after its stream's component of the dep
   abbrev pub IsReady : Replaying A → A → Type 0
   IsReady s r = (q : A) → Member q s.todo ⊎ Member q s.flight → slice_index (place r).dep (place q).stream ≤ (place q).start
 

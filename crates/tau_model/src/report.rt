@@ -18,7 +18,7 @@ use tau_base::{Lv, NoMemory};
 #[derive(Drop)]
 struct Listing {
     numbers: Vec<u64>,
-    /// What is emitted before each of them, and behind the last.
+    /// What is emitted before each of them, and after the last.
     reached: Vec<Lv>,
 }
 
@@ -289,7 +289,7 @@ fn buckets_of(
     Ok(buckets)
 }
 
-/// Each bucket, and behind each but the last the next record.
+/// Each bucket, and after each but the last the next record.
 fn weave(alloc: Global, buckets: &[Vec<u64>], numbers: &[u64]) -> Result<Vec<u64>, NoMemory>
     requires { length buckets.now ≡ length numbers.now + 1 }
     ensures { IfOk result (λ out. out.items ≡ woven (map vec_items buckets.now) numbers.now) }

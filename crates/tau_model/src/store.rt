@@ -55,7 +55,7 @@ impl SerialStore {
         self.rows.tables(alloc)
     }
 
-    /// Executes a call: its reply, and the database after its writes. After want of memory the database is as before.
+    /// Executes a call: its reply, and the database after its writes. After lack of memory the database is as before.
     pub fn execute(&mut self, procs: &Procs, call: &Call) -> Result<Reply, NoMemory>
         requires { IsTrue (takes procs.now call.now) }
         ensures reply { IfOk result (λ reply. reply ≡ (meaning procs.now call.now (database self.old)).reply) }

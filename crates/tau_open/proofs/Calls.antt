@@ -54,7 +54,7 @@ module _ {D : Type 0} (G : Ghosts D) where
     ];
   }
 
-  -- behind the asking come the calls that make a stream
+  -- after the asking come the calls that make a stream
 
   both_same : (d e f : D) → (G.tells → (k : ℕ) → G.fails e k ≡ G.fails d k) → (G.tells → (k : ℕ) → G.fails f k ≡ G.fails e k) → G.tells → (k : ℕ) → G.fails f k ≡ G.fails d k
   both_same d e f first second t k = second t k ∙ first t k

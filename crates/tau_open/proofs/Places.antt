@@ -38,7 +38,7 @@ module _ {D : Type 0} where
   get_drop (suc n) [] k = refl
   get_drop (suc n) (x ∷ xs) k = let e : suc (n + k) ≡ suc n + k = omega arith in get_drop n xs k ∙ ap (λ (i : ℕ). slice_get (x ∷ xs) i) e
 
-  -- where the lists agree from a place on, they agree at each place behind it
+  -- where the lists agree from a place on, they agree at each place after it
   pub get_dropped : (xs ys : List D) (n i : ℕ) → drop n xs ≡ drop n ys → n ≤ i → slice_get xs i ≡ slice_get ys i
   get_dropped xs ys n i same le =
       let e : n + (i - n) ≡ i = omega (arith, le) in

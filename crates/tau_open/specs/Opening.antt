@@ -112,7 +112,7 @@ pub record AreOpened {D : Type 0} (G : Ghosts D) (n : ℕ) (content : List ℕ) 
   pub disks : EachIn (λ j. j < n) (IsOpened G n content) old (map disk_of writers)
   pub begun : (j : ℕ) (writer : Writer D G) → slice_get writers j ≡ Some writer → IsBegun n content j writer
 
--- where a disk has a length, the first such disk is named, unless memory was wanting or a disk failed
+-- where a disk has a length, the first such disk is named, unless memory ran out or a disk failed
 abbrev pub TellsLong : {T : Type 0} → ℕ → ℕ → Result T OpenRefusal → Type 0
 TellsLong j long (Ok x) = ⊥
 TellsLong j long (Err NoMemory) = Unit {0}

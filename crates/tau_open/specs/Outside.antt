@@ -1,7 +1,7 @@
 -- The device calls of a disk.
 use Rattle.std.specs.Prelude.{ℕ}
 
--- the calls of a disk that make its stream, behind the one that asks its length: three writes, each with a sync
+-- the calls of a disk that make its stream, after the one that asks its length: three writes, each with a sync
 abbrev pub calls_to_make : ℕ
 calls_to_make = 6
 

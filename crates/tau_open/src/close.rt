@@ -17,7 +17,7 @@ pub fn close_streams<D: Disk>(disks: &mut Vec<D>, writers: Vec<Writer<D>>)
     disks.reverse();
 }
 
-/// Puts the disks of the writers behind the others, the last one first.
+/// Puts the disks of the writers after the others, the last one first.
 pub fn put_back<D: Disk>(stack: &mut Vec<D>, writers: Vec<Writer<D>>)
     requires room { vec_len stack.old + vec_len writers ≤ vec_capacity stack.old }
     ensures items { reverse stack.new.items ≡ map disk_of writers.items ++ reverse stack.old.items }

@@ -4,7 +4,7 @@ use thiserror::Error;
 /// Why the streams of a run were not opened.
 #[derive(Clone, Copy, Debug, PartialEq, Eq, Error)]
 pub enum OpenRefusal {
-    /// Memory was wanting.
+    /// Out of memory.
     #[error("out of memory")]
     NoMemory,
     /// A call of a disk failed, and no other call was made after it.

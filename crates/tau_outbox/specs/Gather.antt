@@ -38,7 +38,7 @@ abbrev pub run : ℕ → ℕ → List Piece → List Piece
 run next used [] = []
 run next used (p ∷ ps) = if fits next used p then p ∷ run (next + length p.bytes) (used + length p.bytes) ps else []
 
--- the pieces behind it
+-- the pieces after it
 abbrev pub left : ℕ → ℕ → List Piece → List Piece
 left next used [] = []
 left next used (p ∷ ps) = if fits next used p then left (next + length p.bytes) (used + length p.bytes) ps else p ∷ ps

@@ -81,7 +81,7 @@ impl Outbox {
     }
 
     /// Moves front pieces to the body while each starts where the last one ended, the first at `next`, and the body
-    /// stays within 1,048,576 bytes. It answers where the last one ends. After NoMemory nothing has changed.
+    /// stays within 1,048,576 bytes. Returns where the last one ends. After NoMemory nothing has changed.
     pub fn gather_into(&mut self, next: u64, body: &mut Vec<u8>) -> Result<u64, NoMemory>
         ensures gathers { IfOk result (λ past. Gathers next self.old.pieces self.new.pieces body.old.items body.new.items past) }
         ensures same_pieces { OnErr result (self.new.pieces ≡ self.old.pieces) }

@@ -81,7 +81,7 @@ fn dep_of(entry: &Entry) -> Option<&Lv>
     }
 }
 
-/// Puts a record behind the others.
+/// Puts a record after the others.
 fn put_item(
     items: &mut Vec<Item>,
     stream: u8,
@@ -105,7 +105,7 @@ fn put_item(
     Ok(())
 }
 
-/// Puts a record behind the others, where it is taken.
+/// Puts a record after the others, where it is taken.
 fn put_record(
     items: &mut Vec<Item>,
     elv: &Lv,
@@ -126,7 +126,7 @@ fn put_record(
     }
 }
 
-/// Puts the taken records of a stream behind the others.
+/// Puts the taken records of a stream after the others.
 fn put_stream(
     items: &mut Vec<Item>,
     elv: &Lv,

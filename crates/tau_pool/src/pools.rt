@@ -35,7 +35,7 @@ pub struct Pools {
     rlv: Lv,
     /// By stream and place.
     items: Vec<Item>,
-    /// For each stream the place of its first record that is left, or of one behind it.
+    /// For each stream the place of its first record that is left, or of one after it.
     nexts: Vec<usize>,
     /// For each stream what waits for it, in the order of what is waited for.
     waits: Vec<Listed<Wait>>,
@@ -137,7 +137,7 @@ impl Pools {
         is_ready(&self.items, &self.rlv, place)
     }
 
-    /// The place of the first record of a stream that is left, or of one behind the stream.
+    /// The place of the first record of a stream that is left, or of one after the stream.
     pub fn first_of(&self, stream: usize) -> Option<usize> {
         self.nexts.get(stream).copied()
     }

@@ -52,7 +52,7 @@ keeps-put args steps done r key v k none no_steps = record {
   skips = k.skips;
 }
 
--- behind the last step
+-- after the last step
 pub stage-done : (args : List Value) (steps : List Step) (done : ℕ) (r : Running) → length steps ≤ done → (vs : List Value) →
     stage_of args (drop done steps) (done + 1) r vs ≡ Ends r.writes (Ok r.reply)
 unfolding stage_of
@@ -81,9 +81,9 @@ asks-register r (Go next) key into e b = cc
 asks-register r Refuse key into e b = cc
 asks-register r (Ask k i) key into e b = let same : i ≡ into = cc in subst (λ (j : ℕ). IsTrue (is_register j)) same b
 
--- one step s, number done + 1, behind which the call stands as new
+-- one step s, number done + 1, after which the call stands as new
 module _ (args : List Value) (steps : List Step) (done : ℕ) (r : Running) (s : Step) (new : Running) (lt : done < length steps) (is : s ≡ get_or steps done s) (stands : new ≡ after (action args r s) r) where
-  -- the next step stands in front of those behind it
+  -- the next step stands in front of those after it
   next-step : (vs : List Value) → stage_of args (drop done steps) (done + 1) r vs ≡ given (action args r s) r (done + 1) vs (λ next left. stage_of args (drop (done + 1) steps) ((done + 1) + 1) next left)
   unfolding stage_of
   next-step vs =

@@ -8,7 +8,7 @@ did_of (Go next) = did.Goes
 did_of (Ask key into) = did.Asks key into
 did_of Refuse = did.Refuses
 
--- how the call stands behind the action; one that asks or is refused stands as before
+-- how the call stands after the action; one that asks or is refused stands as before
 abbrev pub after : Action → Running → Running
 after (Go next) r = next
 after (Ask key into) r = r

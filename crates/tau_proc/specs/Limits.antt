@@ -43,13 +43,13 @@ abbrev pub closed_one : ℕ → Option ℕ
 closed_one zero = None
 closed_one (suc n) = Some n
 
--- how many `when` are open behind a step, where n were before it; None at a `done` without a `when`
+-- how many `when` are open after a step, where n were before it; None at a `done` without a `when`
 abbrev pub open_after : Step → ℕ → Option ℕ
 open_after (step.When left how right) n = Some (n + 1)
 open_after step.Done n = closed_one n
 open_after _ n = Some n
 
--- likewise behind all these steps
+-- likewise after all these steps
 abbrev pub open_whens : Option ℕ → List Step → Option ℕ
 open_whens None steps = None
 open_whens (Some n) [] = Some n

@@ -159,7 +159,7 @@ refused n = record { reads = []; writes = []; reply = reply.Refused n }
 abbrev pub reading : Key → Value → Effect → Effect
 reading key v e = record e { reads = (key, v) ∷ e.reads }
 
--- what step n and those behind it mean, where these mean what rest says
+-- what step n and those after it mean, where these mean what rest says
 abbrev pub follow : Action → Running → ℕ → Db → (Running → Effect) → Effect
 follow (Go next) r n db rest = rest next
 follow (Ask key into) r n db rest = reading key (db key) (rest (set_register r into (db key)))

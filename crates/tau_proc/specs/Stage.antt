@@ -15,7 +15,7 @@ pub data Stage : Type 0 where
   Wants : Key → Stage
   Ends : List (Key × Value) → Reply → Stage
 
--- where step n and those behind it stand after these values, where those behind it stand as rest says
+-- where step n and those after it stand after these values, where those after it stand as rest says
 abbrev pub given : Action → Running → ℕ → List Value → (Running → List Value → Stage) → Stage
 given (Go next) r n vs rest = rest next vs
 given (Ask key into) r n [] rest = Wants key

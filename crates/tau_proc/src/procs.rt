@@ -51,7 +51,7 @@ impl Procs {
         }
     }
 
-    /// Puts a procedure at the end. After want of memory the list is unchanged.
+    /// Puts a procedure at the end. After lack of memory the list is unchanged.
     pub fn add(&mut self, proc: Proc) -> Result<(), NoMemory>
         requires room { length self.old < MAX_PROCS }
         requires well_formed { IsWellFormed proc }

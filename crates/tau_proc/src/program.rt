@@ -77,7 +77,7 @@ fn same_in_front(kept: &[Step], steps: &[Step]) -> usize
     common
 }
 
-/// Puts the steps behind those that are there.
+/// Puts the steps after those that are there.
 fn copy_behind(all: &mut ArrayVec<Step, MAX_STEPS>, steps: &[Step])
     requires { length all.old.items + length steps.now ≤ MAX_STEPS }
     ensures { all.new.items ≡ all.old.items ++ steps.now }

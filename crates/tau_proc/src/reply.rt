@@ -3,7 +3,7 @@ ghost use Rattle.std.specs.Prelude.{◌≡◌};
 
 use tau_base::{Key, Value};
 
-/// What a call answers in the end.
+/// What a call returns in the end.
 #[derive(Clone, Debug, Drop, PartialEq, Eq)]
 pub enum Reply {
     /// The value that it replies.

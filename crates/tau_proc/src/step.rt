@@ -113,7 +113,7 @@ pub enum Step {
         how: Compare,
         right: Operand,
     },
-    /// Where the comparison is false, the call goes on behind the `Done` of this step.
+    /// Where the comparison is false, the call goes on after the `Done` of this step.
     When {
         left: Operand,
         how: Compare,

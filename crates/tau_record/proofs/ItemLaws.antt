@@ -130,7 +130,7 @@ write_again last w rest order k v =
     let regrouped : write w ++ rest ≡ key w.0 ++ (value w.1 ++ rest) = append_assoc (key w.0) (value w.1) rest in
     ap (write_at last) regrouped ∙ rw (key_again w.0 (value w.1 ++ rest) k, order, value_again w.1 rest v) refl
 
--- writes that fit, each behind the one before it
+-- writes that fit, each after the one before it
 abbrev pub AreWrites : Option Key → List (Key × Value) → Type 0
 AreWrites last [] = Unit {0}
 AreWrites last (w ∷ ws) = (follows last w.0 ≡ true) × FitsKey w.0 × FitsValue w.1 × AreWrites (Some w.0) ws
@@ -170,7 +170,7 @@ sorted_chain x (w ∷ ws) below sorted fit =
     let more = and_parts (below_all key_cmp w.0 ws) (is_sorted key_cmp ws) sorted in
     (parts.0, fit.0.0, fit.0.1, sorted_chain w.0 ws more.0 more.1 fit.1)
 
--- and sorted writes stand each behind the one before it
+-- and sorted writes stand each after the one before it
 pub are_writes : (ws : List (Key × Value)) → is_sorted key_cmp ws ≡ true → AllByRecursion FitsWrite ws → AreWrites None ws
 are_writes [] sorted fit = tt
 are_writes (w ∷ ws) sorted fit =

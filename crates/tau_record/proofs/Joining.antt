@@ -1,4 +1,4 @@
--- A record that is put behind those before it.
+-- A record that is put after those before it.
 use Rattle.std.proofs.Common.{◌≡◌, ℕ, ◌+◌, ◌-◌, ◌≤◌, Bool, true, false, cond, eqb, List, [], ◌∷◌, ◌++◌, length, Result, Ok, Err, refl, sym, ap, subst, arith}
 use Rattle.std.proofs.lemmas.List.{length-append}
 use Rattle.tau_record.specs.declared.entry.Entry.{Entry}

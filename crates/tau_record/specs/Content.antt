@@ -18,14 +18,14 @@ use Rattle.tau_record.specs.Record.{named, spelling, Fits, lv_at, record_at}
 abbrev pub placed : Entry → ℕ → ℕ → Placed
 placed e start past = record { entry = e; start = start; past = past }
 
--- the vectors that are named behind a record
+-- the vectors that are named after a record
 abbrev pub named_after : List (List ℕ) → Entry → List (List ℕ)
 named_after vectors (Written number anchor dep writes) = vectors
 named_after vectors (Command number anchor dep call) = vectors
 named_after vectors (Anchor lv) = vectors ++ lv ∷ []
 named_after vectors (Catalogue text) = vectors
 
--- the vectors that are named behind these records
+-- the vectors that are named after these records
 abbrev pub named_behind : List (List ℕ) → List Placed → List (List ℕ)
 named_behind vectors [] = vectors
 named_behind vectors (p ∷ ps) = named_behind (named_after vectors p.entry) ps
@@ -85,7 +85,7 @@ records_at f n (suc fuel) at vectors (b ∷ bytes) = found_at at (record_at f n 
 unfoldable pub content_at : Format → ℕ → List ℕ → Result (List Placed) RecordFault
 content_at f n content = records_at f n (length content) 0 (named n []) content
 
--- the records with one more behind them, whose fields take all of its bytes, and the vectors that are named then
+-- the records with one more after them, whose fields take all of its bytes, and the vectors that are named then
 abbrev pub put_at : List (List ℕ) → List Placed → ℕ → ℕ → Entry × List ℕ → Result (List Placed × List (List ℕ)) RecordCause
 put_at vectors before start past x = if length x.1 == 0 then Ok (before ++ placed x.0 start past ∷ [], named_after vectors x.0) else Err BadLength
 
@@ -96,7 +96,7 @@ puts read vectors before start past = read >>= put_at vectors before start past
 abbrev pub anchor_at : ℕ → List ℕ → Result (Entry × List ℕ) RecordCause
 anchor_at n bytes = lv_at n bytes >>= λ v. Ok (Anchor v.0, v.1)
 
--- the record at the front of the bytes stands behind those before it
+-- the record at the front of the bytes stands after those before it
 pub record Joined (f : Format) (n at : ℕ) (vectors names : List (List ℕ)) (bytes after : List ℕ) (before now : List Placed) : Type 0 where
   pub entry : Entry
   pub read : record_at f n vectors (at == 0) bytes ≡ Ok (entry, after)

@@ -59,7 +59,7 @@ key_at bytes = do
   row ← number_at w64 table.1
   Ok (record { table = table.0; row = cast_signed w64 row.0 }, row.1)
 
--- whether a key stands behind the last one, in the order of keys
+-- whether a key stands after the last one, in the order of keys
 abbrev pub follows : Option Key → Key → Bool
 follows None k = true
 follows (Some last) k = is_lt (key_cmp last k)

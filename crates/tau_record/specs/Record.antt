@@ -74,7 +74,7 @@ abbrev pub kind_fits : Bool → ℕ → Bool
 kind_fits true kind = kind == 4
 kind_fits false kind = if nat_le 1 kind then nat_le kind 3 else false
 
--- a record that may stand here, first in its stream or behind these anchors
+-- a record that may stand here, first in its stream or after these anchors
 pub record Fits (n : ℕ) (vectors : List (List ℕ)) (first : Bool) (e : Entry) : Type 0 where
   pub kind : kind_fits first (kind_of e) ≡ true
   pub fields : FitsBody n vectors e

@@ -15,7 +15,7 @@ use arrayvec::ArrayVec;
 use std::alloc::Global;
 use tau_base::{Call, KeptCall, Listed, Lv, MAX_CATALOGUE};
 
-/// Puts a data record behind those before it.
+/// Puts a data record after those before it.
 fn put_written(
     alloc: Global,
     vectors: &[Lv],
@@ -48,7 +48,7 @@ fn put_written(
     }
 }
 
-/// Puts a command record behind those before it.
+/// Puts a command record after those before it.
 fn put_command(
     alloc: Global,
     vectors: &[Lv],
@@ -89,7 +89,7 @@ fn put_command(
     }
 }
 
-/// Puts an anchor behind the records before it, and gives it the next number.
+/// Puts an anchor after the records before it, and gives it the next number.
 fn put_anchor(
     n: usize,
     fields: &[u8],
@@ -119,7 +119,7 @@ fn put_anchor(
     }
 }
 
-/// Puts a record of a kind behind those before it.
+/// Puts a record of a kind after those before it.
 #[tactic(auto, unfolding(crate::specs::Record::fields_at))]
 fn put_fields(
     alloc: Global,
@@ -158,7 +158,7 @@ fn put_fields(
     Ok(())
 }
 
-/// Puts the record at the front of the bytes behind those before it, and answers the bytes after it.
+/// Puts the record at the front of the bytes after those before it, and returns the bytes after it.
 #[tactic(auto, unfolding(crate::specs::Record::record_at))]
 fn put_record<'a>(
     alloc: Global,

@@ -85,7 +85,7 @@ pub fn encode_written(
     requires most { length writes.now ≤ MAX_WRITES }
     requires ascending { IsTrue (is_sorted key_cmp writes.now) }
     requires number { 1 ≤ number }
-    // The one spelling, behind any anchors of which the number names this one.
+    // The one spelling, after any anchors of which the number names this one.
     ensures { IfOk result (λ v. (vectors : List (List ℕ)) → base_of vectors anchor_number ≡ anchor.now →
         Spells One (length dep.now) vectors false (Written number anchor_number dep.now writes.now) v.items) }
 {
@@ -133,7 +133,7 @@ pub fn encode_command(
     requires covers { AtMost anchor.now dep.now }
     requires streams { length dep.now ≤ most_streams One }
     requires number { 1 ≤ number }
-    // The one spelling, behind any anchors of which the number names this one.
+    // The one spelling, after any anchors of which the number names this one.
     ensures { IfOk result (λ v. (vectors : List (List ℕ)) → base_of vectors anchor_number ≡ anchor.now →
         Spells One (length dep.now) vectors false (Command number anchor_number dep.now call.now) v.items) }
 {
@@ -153,7 +153,7 @@ fn anchor_bytes(alloc: Global, lv: &Lv) -> Result<Vec<u8>, AllocError>
 
 /// An anchor that holds the vector.
 pub fn encode_anchor(alloc: Global, lv: &Lv) -> Result<Vec<u8>, NoMemory>
-    // The one spelling, behind any anchors.
+    // The one spelling, after any anchors.
     ensures { IfOk result (λ v. (vectors : List (List ℕ)) → Spells One (length lv.now) vectors false (Anchor lv.now) v.items) }
 {
     match anchor_bytes(alloc, lv) {

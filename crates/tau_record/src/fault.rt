@@ -43,7 +43,7 @@ pub struct RecordFault {
 /// Why a content was not decoded.
 #[derive(Clone, Copy, Debug, PartialEq, Eq, Error)]
 pub enum RecordRefusal {
-    /// Memory was wanting.
+    /// Out of memory.
     #[error("out of memory")]
     NoMemory,
     /// It has no reading. This is its first bad record.
@@ -54,7 +54,7 @@ pub enum RecordRefusal {
 /// Why a field was not read.
 #[derive(Debug, Drop)]
 pub(crate) enum FieldError {
-    /// Memory was wanting.
+    /// Out of memory.
     Memory,
     /// It is bad.
     Bad(RecordCause),

@@ -40,7 +40,7 @@ pub fn first_record()
     ensures { (f : Format) (n : ℕ) (e : Entry) (bytes : List ℕ) → Spells f n (named n []) true e bytes → IsContent f n bytes (placed e 0 (length bytes) ∷ []) }
 {}
 
-/// A content that goes on by one more record is a content, and is read as the old one with that record behind it.
+/// A content that goes on by one more record is a content, and is read as the old one with that record after it.
 pub fn appended_record()
     ensures { (f : Format) (n : ℕ) (content : List ℕ) (ps : List Placed) (e : Entry) (bytes : List ℕ) → IsContent f n content ps → 1 ≤ length content →
         Spells f n (named n (anchors_of ps)) false e bytes → IsContent f n (content ++ bytes) (ps ++ placed e (length content) (length content + length bytes) ∷ []) }
@@ -52,13 +52,13 @@ pub fn appended_content()
         Reads f n (length content) (named n (anchors_of ps)) more qs → IsContent f n (content ++ more) (ps ++ qs) }
 {}
 
-/// Each record of a content stands in its place, behind the content of the records before it.
+/// Each record of a content stands in its place, after the content of the records before it.
 pub fn record_in_place()
     ensures { (f : Format) (n : ℕ) (content : List ℕ) (ps : List Placed) (q : Placed) (qs : List Placed) → IsContent f n content (ps ++ q ∷ qs) →
         IsContent f n (take q.start content) ps × Begins f n q.start (named n (anchors_of ps)) (drop q.start content) (drop q.past content) q × (q.past ≤ length content) }
 {}
 
-/// The vectors that are named behind records are the zero vector and their anchors'.
+/// The vectors that are named after records are the zero vector and their anchors'.
 pub fn named_anchors()
     ensures { (n : ℕ) (ps : List Placed) → named_behind (named n []) ps ≡ named n (anchors_of ps) }
 {}

@@ -111,7 +111,7 @@ pub(crate) fn lv_of(n: usize, bytes: &[u8]) -> Result<(Lv, &[u8]), FieldError>
     Ok((lv, rest))
 }
 
-/// Whether the fields of a record take all of its bytes: nothing is left behind them.
+/// Whether the fields of a record take all of its bytes: nothing is left after them.
 pub(crate) fn is_whole(rest: &[u8]) -> bool
     ensures { result ≡ (length rest.now == 0) }
 {

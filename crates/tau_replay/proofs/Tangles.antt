@@ -19,7 +19,7 @@ behind-each v [] q h m = absurd m
 behind-each v (x ∷ xs) q h (inl e) = subst (λ (z : Kept). slice_index v z.place.stream ≤ z.place.start) e h.0
 behind-each v (x ∷ xs) q h (inr m) = behind-each v xs q h.1 m
 
--- records that wait for one another stand in no orderly list that waits for nothing behind it
+-- records that wait for one another stand in no orderly list that waits for nothing after it
 apart : (done left rest : List Kept) → Orderly (map place_of done) → ((r : Kept) → Member r done → WaitsFor r left → ⊥) →
     ((r : Kept) → Member r rest → Member r done ⊎ Member r left) → ((r : Kept) → Member r rest → WaitsFor r rest) → (r : Kept) → Member r done → Member r rest → ⊥
 apart [] left rest orderly free among stuck r m n = m

@@ -67,7 +67,7 @@ set_here w old new o x at is = ap (λ hs. slice_get hs w) is ∙ get_set_same ol
 
 -- ---- of a seat
 
--- who is none of so many workers from one on is below or behind them
+-- who is none of so many workers from one on is below or after them
 outside : (w first many : ℕ) (xs : List Hand) → AreFrom first many xs → IsNoneOf w xs → (w < first) ⊎ (first + many ≤ w)
 outside w first many [] from none = elim (leb_tells first w) [ inl le ↦ inr (omega (arith, le, from)) | inr n ↦ inl (omega (arith, n)) ]
 outside w first many (x ∷ xs) from none = elim (outside w (suc first) (many - 1) xs from.2 none.1) [

@@ -40,7 +40,7 @@ left_in [] xs = []
 left_in (r ∷ rs) [] = []
 left_in (r ∷ rs) (x ∷ xs) = if is_left x.stage then r ∷ left_in rs xs else left_in rs xs
 
--- the records that are left start at or behind what the vector of this one asks
+-- the records that are left start at or after what the vector of this one asks
 abbrev pub IsAhead : Kept → List Kept → Type 0
 IsAhead r rest = (q : Kept) → Member q rest → slice_index r.place.dep q.place.stream ≤ q.place.start
 

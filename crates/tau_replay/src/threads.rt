@@ -92,7 +92,7 @@ fn join_seats(lock: &Lock, seat: &mut Seat, other: Seat)
     lock.join(seat, other)
 }
 
-/// A worker with the hands from one on that are its share, and so many others behind it, side by side.
+/// A worker with the hands from one on that are its share, and so many others after it, side by side.
 fn crew<R: Threads + Wait + Sync, G: Gate + Sync>(
     rt: &R,
     alloc: Global,

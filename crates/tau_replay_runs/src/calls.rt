@@ -50,7 +50,7 @@ fn command(
     Ok(record)
 }
 
-// The image of stream `j` of two, with the catalogue and these records behind it.
+// The image of stream `j` of two, with the catalogue and these records after it.
 fn image_of(alloc: Global, j: u8, records: &[u8]) -> Result<MemDisk, Fail> {
     let text = u32::try_from(CATALOGUE.len()).ok().ok_or("too long")?;
     let long = text.saturating_add(5).to_be_bytes();
@@ -119,7 +119,7 @@ fn all_of(first: &[u8], second: &[u8]) -> [u64; 2] {
     ]
 }
 
-// Puts the call of this number behind all before it: one of three rows gets what another one holds on top.
+// Puts the call of this number after all before it: one of three rows gets what another one holds on top.
 fn put_mix(alloc: Global, stream: &mut Vec<u8>, number: u64, dep: [u64; 2]) -> Result<(), Fail> {
     let rows = [arg(number % 3), arg((number % 3 + 1) % 3)];
     let record = command(alloc, number, dep, MIX, &rows)?;

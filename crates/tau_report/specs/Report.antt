@@ -1,4 +1,4 @@
--- The texts of reports: line behind line.
+-- The texts of reports: line after line.
 use Rattle.std.specs.Prelude.{ℕ, ◌+◌, List, [], ◌∷◌, ◌++◌, Option}
 use Rattle.std.specs.List.{flat_map}
 use Rattle.tau_base.specs.declared.value.Key.{Key}
@@ -21,7 +21,7 @@ order_lines order = flat_map order_line order
 abbrev pub row_lines : List (List ℕ) → List (Key × Value) → List ℕ
 row_lines tables rows = flat_map (row_line tables) rows
 
--- what a run tells behind its acknowledgements, with the stream whose disk failed
+-- what a run tells after its acknowledgements, with the stream whose disk failed
 abbrev pub rest_text : List (List ℕ) → RunReport → Option ℕ → List ℕ
 rest_text tables r failed = fate_lines 1 r.fates ++ order_lines r.order ++ row_lines tables r.tables ++ end_line failed
 

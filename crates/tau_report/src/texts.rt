@@ -23,7 +23,7 @@ fn put_report(
     put_end(out, disk)
 }
 
-/// What a run tells behind the lines of its acknowledgements: what became of each call, the history, the rows, and the
+/// What a run tells after the lines of its acknowledgements: what became of each call, the history, the rows, and the
 /// end, with the lowest stream whose disk failed. Rows of tables that are not declared have no name.
 pub fn report_text(
     alloc: Global,

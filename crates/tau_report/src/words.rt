@@ -26,7 +26,7 @@ fn put_number(out: &mut Vec<u8>, number: u64) -> Result<(), AllocError>
     out.extend_from_slice(buffer.format(number).as_bytes())
 }
 
-/// A word behind another.
+/// A word after another.
 pub fn next_word(out: &mut Vec<u8>, word: &[u8]) -> Result<(), AllocError>
     ensures { OnOk result (out.new.items ≡ out.old.items ++ 32 ∷ word.now) }
 {
@@ -34,7 +34,7 @@ pub fn next_word(out: &mut Vec<u8>, word: &[u8]) -> Result<(), AllocError>
     out.extend_from_slice(word)
 }
 
-/// A number from 0 up behind another word.
+/// A number from 0 up after another word.
 pub fn next_number(out: &mut Vec<u8>, number: u64) -> Result<(), AllocError>
     ensures { OnOk result (out.new.items ≡ out.old.items ++ 32 ∷ decimal number) }
 {
@@ -42,7 +42,7 @@ pub fn next_number(out: &mut Vec<u8>, number: u64) -> Result<(), AllocError>
     put_number(out, number)
 }
 
-/// A whole number behind another word.
+/// A whole number after another word.
 pub fn next_whole(out: &mut Vec<u8>, number: i64) -> Result<(), AllocError>
     ensures { OnOk result (out.new.items ≡ out.old.items ++ 32 ∷ signed_decimal number) }
 {
@@ -66,7 +66,7 @@ fn next_int(out: &mut Vec<u8>, number: i64) -> Result<(), AllocError>
     next_whole(out, number)
 }
 
-/// A value behind another word.
+/// A value after another word.
 pub fn next_value(out: &mut Vec<u8>, value: &Value) -> Result<(), AllocError>
     ensures { OnOk result (out.new.items ≡ out.old.items ++ 32 ∷ value_text value.now) }
 {
@@ -77,7 +77,7 @@ pub fn next_value(out: &mut Vec<u8>, value: &Value) -> Result<(), AllocError>
     }
 }
 
-/// A reply behind another word.
+/// A reply after another word.
 pub fn next_reply(out: &mut Vec<u8>, reply: &Reply) -> Result<(), AllocError>
     ensures { OnOk result (out.new.items ≡ out.old.items ++ 32 ∷ reply_text reply.now) }
 {
@@ -90,7 +90,7 @@ pub fn next_reply(out: &mut Vec<u8>, reply: &Reply) -> Result<(), AllocError>
     }
 }
 
-/// A vector behind another word.
+/// A vector after another word.
 pub fn next_vector(out: &mut Vec<u8>, lv: &Lv) -> Result<(), AllocError>
     ensures { OnOk result (out.new.items ≡ out.old.items ++ 32 ∷ vector_text lv.now) }
 {

@@ -64,7 +64,7 @@ names-of : (origin : Plain) (anchors : List (List ℕ)) (j number : ℕ) (base :
 names-of origin anchors j number base read (inl e) known = inl e
 names-of origin anchors j number base read (inr e) known = subst (λ (z : ℕ × List ℕ). Names origin.load j anchors z.0 z.1) (λ i. (sym e.0 i, sym e.1 i)) known
 
--- the words behind the turns
+-- the words after the turns
 pub word-alloc : (origin : Plain) (j : ℕ) (c : Now) → j < origin.load.streams → word_of origin.load j c ≡ slice_index c.core.ends j
 word-alloc origin j c low =
     let a : (j == origin.load.streams + origin.load.streams) ≡ false = ne_eqb j (origin.load.streams + origin.load.streams) (λ e. omega arith) in
@@ -101,7 +101,7 @@ module _ (origin : Plain) (w : ℕ) (m : Sat) (t : PlainTxn) (p : IsToPlace orig
   abbrev raised-hand : Hand
   raised-hand = record p.hand { dep = join p.hand.dep p.base }
 
-  -- the state behind the place
+  -- the state after the place
   abbrev pub then_placed : Now → Now
   then_placed c = record {
     core = record (with_worker c.core w (placed_worker origin.load p.worker t (slice_index c.core.ends j))) { ends = slice_set c.core.ends j (slice_index c.core.ends j + length (bytes_in t)) };

@@ -1,4 +1,4 @@
--- One stream of a run: its content, whole or cut behind any of its items, is read.
+-- One stream of a run: its content, whole or cut after any of its items, is read.
 use Rattle.std.proofs.Common.{ℕ, zero, suc, ◌+◌, ◌≤◌, Bool, true, ◌≡◌, ◌⊎◌, inl, inr, List, [], ◌∷◌, ◌++◌, map, length, take, drop, refl, sym, ap, subst, ◌∙◌, arith, slice_index}
 use Rattle.std.specs.Prelude.{Some, Ok, ◌&&◌, ◌==◌}
 use Rattle.std.specs.List.{filter, flat_map}
@@ -115,7 +115,7 @@ module _ (n : ℕ) (l : Load) (load : Workload) (K : List (Act Txn)) (s : Core) 
   front_member : (i : ℕ) (q : Taken (length (catalogue_of load)) (slice_index s.ends j) items i) (t : Act Txn) → Member t (records_in (take i items)) → Member t (records_in items)
   front_member i q t m = (member-filtered (ends_by q.end) t (records_in items) (subst (λ (ts : List (Act Txn)). Member t ts) q.records m)).0
 
-  -- cut behind any of its items
+  -- cut after any of its items
   front_is : (i : ℕ) (bytes : List ℕ) → Spelled l anchors (take i items) bytes → IsRead l load K n j (catalogue_of load ++ bytes) (first_placed load ∷ map (placed_in l.mode) (take i items))
   front_is i bytes spelled =
       let q = chain_take (length (catalogue_of load)) (slice_index s.ends j) items i chain in
@@ -158,7 +158,7 @@ module _ (n : ℕ) (l : Load) (load : Workload) (K : List (Act Txn)) (s : Core) 
         kept_items l.mode j items of ∙ ap (map (kept_of l.mode)) g.records,
       )
 
-  -- a content cut behind any item is a first part of it
+  -- a content cut after any item is a first part of it
   pub front_first : (i : ℕ) (bytes : List ℕ) → Spelled l anchors (take i items) bytes → (k : ℕ) × (catalogue_of load ++ bytes ≡ take k content)
   front_first i bytes spelled =
       let q = chain_take (length (catalogue_of load)) (slice_index s.ends j) items i chain in

@@ -67,7 +67,7 @@ distinct_of (t ∷ ts) apart = (
   distinct_of ts (λ u v b e. apart u v (inr b) e),
 )
 
--- items that touch stand one behind the other
+-- items that touch stand one after the other
 pub chain_stands : (low a b : ℕ) (items : List Item) → Chain a items b → low ≤ a → StandBetween low b (map told_of (records_in items))
 chain_stands low a b [] c h = omega (arith, c, h)
 chain_stands low a b (Record t ∷ items) c h = ((let e = c.0 in omega (arith, e, h)), (let e = c.0 in let f = c.1 in omega (arith, e, f)), chain_stands t.call.place.past t.call.place.past b items c.2 (omega arith))

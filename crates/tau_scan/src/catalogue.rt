@@ -70,7 +70,7 @@ fn other_text(with: u8, text: &[u8], stream: u8, records: &[Placed]) -> Option<L
     }
 }
 
-/// The one text of all streams behind stream `with`, or the first that has another.
+/// The one text of all streams after stream `with`, or the first that has another.
 fn same_text(with: usize, text: &[u8], streams: &[Listed<Placed>]) -> Result<(), LogFault>
     requires there { with < length streams.now }
     requires few { length streams.now ≤ MAX_STREAMS }

@@ -28,7 +28,7 @@ pub enum LogCause {
         /// The first byte at which the texts differ, or the length of the shorter one.
         at: u32,
     },
-    /// Records wait for one another. Reading never answers it.
+    /// Records wait for one another. Reading never returns it.
     #[error("tangled at {at}")]
     Tangled {
         /// Where the first record starts that can't be redone.
@@ -49,7 +49,7 @@ pub struct LogFault {
 /// Why no log was read.
 #[derive(Clone, Copy, Debug, PartialEq, Eq, Error)]
 pub enum ScanRefusal {
-    /// Memory was wanting.
+    /// Out of memory.
     #[error("out of memory")]
     NoMemory,
     /// The disk of this stream failed.
@@ -66,7 +66,7 @@ pub enum ScanRefusal {
 /// Why a log was not redone.
 #[derive(Clone, Copy, Debug, PartialEq, Eq, Error)]
 pub enum ReplayRefusal {
-    /// Memory was wanting.
+    /// Out of memory.
     #[error("out of memory")]
     NoMemory,
     /// No order of the taken records is orderly.
@@ -82,7 +82,7 @@ pub enum ReplayRefusal {
 /// Why the disks were not read.
 #[derive(Clone, Copy, Debug, PartialEq, Eq)]
 pub(crate) enum ReadRefusal {
-    /// Memory was wanting.
+    /// Out of memory.
     NoMemory,
     /// The disk of this stream failed.
     Failed {
@@ -94,7 +94,7 @@ pub(crate) enum ReadRefusal {
 /// Why the images gave no log.
 #[derive(Clone, Copy, Debug, PartialEq, Eq)]
 pub(crate) enum LogRefusal {
-    /// Memory was wanting.
+    /// Out of memory.
     NoMemory,
     /// The first cause.
     Bad(LogFault),

@@ -25,7 +25,7 @@ pub struct LockEntry {
 /// Why a lock is not given.
 #[derive(Clone, Copy, Debug, PartialEq, Eq, Error)]
 pub enum ShardRefusal {
-    /// Memory was wanting.
+    /// Out of memory.
     #[error("out of memory")]
     NoMemory,
     /// Others hold the key in a conflicting mode.

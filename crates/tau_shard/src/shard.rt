@@ -130,7 +130,7 @@ impl Shard {
         first_held(&self.floor, worker, mode)
     }
 
-    /// Locks the key for the worker, one of 32, joins the key's write vector into `dep`, for a write lock its read vector too, and answers the row's
+    /// Locks the key for the worker, one of 32, joins the key's write vector into `dep`, for a write lock its read vector too, and returns the row's
     /// value. After a write lock the row has its place, so that `free` takes no memory. After a refusal shard and `dep` are unchanged.
     pub fn lock(
         &mut self,
@@ -154,7 +154,7 @@ impl Shard {
         }
     }
 
-    /// Locks the key as `lock` does, and answers no value: `row` lends it.
+    /// Locks the key as `lock` does, and returns no value: `row` lends it.
     pub fn lock_key(
         &mut self,
         worker: u8,
@@ -269,7 +269,7 @@ impl Shard {
         }
     }
 
-    /// Removes each entry that nobody holds and whose vectors `plv` covers, joins them into the floor, and answers how many.
+    /// Removes each entry that nobody holds and whose vectors `plv` covers, joins them into the floor, and returns how many.
     pub fn drop_covered(&mut self, plv: &Lv) -> usize
         ensures dropped { Dropped plv.now (shard_of self.old) (shard_of self.new) }
         ensures wide { length (shard_of self.old).floor ≤ length (shard_of self.new).floor }
@@ -280,7 +280,7 @@ impl Shard {
         before - self.entries.len()
     }
 
-    /// Appends the present rows, each once. For want of memory the list is unchanged.
+    /// Appends the present rows, each once. For lack of memory the list is unchanged.
     pub fn present(&self, out: &mut Vec<(Key, Value)>) -> Result<(), NoMemory>
         ensures rows { OnOk result (out.new.items ≡ out.old.items ++ present_rows self.now.rows) }
         ensures database { db_of (λ x. lookup (same_key x) (present_rows self.now.rows)) ≡ (shard_of self.now).rows }

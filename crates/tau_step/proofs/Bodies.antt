@@ -43,7 +43,7 @@ module _ (l : Load) (anchors : ℕ → List (List ℕ)) where
       let sum : length bytes ≡ length first + length rest = ap (length {A = ℕ}) whole ∙ length-append first rest in
       omega arith
 
-  -- what stands behind whole records has none or a record
+  -- what stands after whole records has none or a record
   pub behind-whole : (is js : List Item) (b c : List ℕ) → Spelled l anchors is b → Spelled l anchors (is ++ js) (b ++ c) → (c ≡ []) ⊎ (5 ≤ length c)
   behind-whole [] [] b c p q = inl (subst (λ (x : List ℕ). x ++ c ≡ []) p q)
   behind-whole [] (k ∷ ks) b c p q =

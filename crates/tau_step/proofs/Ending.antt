@@ -204,7 +204,7 @@ module _ {D : Type 0} {G : Ghosts D} (seen_now : (d : D) → G.tells → G.may_l
       tables = subst (λ (l : Load). IsTablesOf (sight (setting_of l) (core_of new.core went.hidden)).row end.report.tables) went.load (tables went.order went.hidden went.stands);
     }
 
-    -- memory was wanting for what it tells
+    -- memory ran out for what it tells
     not-told : CutShort turns bases old.core ws ws' hears held held' (Rose faults faults')
     not-told = record {
       came = record {
@@ -237,7 +237,7 @@ module _ {D : Type 0} {G : Ghosts D} (seen_now : (d : D) → G.tells → G.may_l
     ran-by (Ok end) told fates order tables disk sink = ended end told fates order tables disk sink
     ran-by (Err e) told fates order tables disk sink = not-told
 
-  -- memory was wanting on the way
+  -- memory ran out on the way
   pub cut-short : Moves (ran_all turns) false old new ws ws' hears held held' faults faults' → CutShort turns bases old.core ws ws' hears held held' (Rose faults faults')
   cut-short x =
       let s = x.went bases [] nothing [] o.stands (begun-kept bases ws old.core o b) in

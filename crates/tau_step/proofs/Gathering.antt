@@ -253,7 +253,7 @@ manager-idle {D} {G} j catalogue w p told K h es g b =
     second false b e = refl
     second true b e = e
 
--- want of memory before anything was gathered
+-- lack of memory before anything was gathered
 pub manager-short : {D : Type 0} {G : Ghosts D} (j : ℕ) (catalogue : List ℕ) (w : Writer D G) (p p' : Plain) (told : List (ℕ × List ℕ)) (K : List (Act Txn)) (h : Hidden) (es : List machine.Event) → Stands p K h → j < p.load.streams →
     length catalogue ≡ slice_index p.load.opening.ends j → IsCurrent j catalogue w p h → Unmoved p p' K h → ManagerStops j catalogue w w p p' told K h es
 manager-short {D} {G} j catalogue w p p' told K h es g there size l u = record {

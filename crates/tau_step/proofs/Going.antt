@@ -63,7 +63,7 @@ module _ {D : Type 0} {G : Ghosts D} (seen_now : (d : D) → G.tells → G.may_l
   kept-by true j w p h k = k
   kept-by false j w p h k = kept-leaving seen_now j (bases j) w p h k
 
-  -- writers that are kept are so behind a step that was done
+  -- writers that are kept are so after a step that was done
   pub kept-after : (R : Bool → Load → Progress → Progress → Type 0) (p p' : Plain) (ws ws' : List (Writer D G)) (told told' : List (ℕ × List ℕ)) (K : List (Act Txn)) (h : Hidden) (es : List machine.Event) →
       AreKept bases ws p h → (x : Went bases R true p p' ws ws' told told' K h es) → AreKept bases ws' p' x.hidden
   kept-after R p p' ws ws' told told' K h es k x = record {
@@ -103,7 +103,7 @@ module _ {D : Type 0} {G : Ghosts D} (seen_now : (d : D) → G.tells → G.may_l
     since = x.since;
   }
 
-  -- one step behind another
+  -- one step after another
   pub went-on : (R S T : Bool → Load → Progress → Progress → Type 0) (whole : Bool) (p m p' : Plain) (ws ms ws' : List (Writer D G)) (told told' told'' : List (ℕ × List ℕ)) (K : List (Act Txn)) (h : Hidden) (es : List machine.Event) →
       ((l : Load) (P Q P' : Progress) → R true l P Q → S whole l Q P' → T whole l P P') →
       (x : Went bases R true p m ws ms told told' K h es) → Went bases S whole m p' ms ws' told' told'' x.order x.hidden x.events → Went bases T whole p p' ws ws' told told'' K h es

@@ -113,7 +113,7 @@ module _ {D : Type 0} {G : Ghosts D} (j : ℕ) (catalogue : List ℕ) (upto : �
         ready = λ tells. subst (λ (d : Load). IsReady d.streams j w' (catalogue ++ h.taken j)) (sym o.load) (ready p.load.streams j (catalogue ++ h.taken j) (l.ready tells));
       }
 
--- the turn behind its Gather, of which what was handed over is flushed
+-- the turn after its Gather, of which what was handed over is flushed
 module _ {D : Type 0} {G : Ghosts D} (j : ℕ) (catalogue : List ℕ) (upto : ℕ) (w m w' : Writer D G) (p q p' : Plain) (told : List (ℕ × List ℕ)) (K : List (Act Txn)) (h : Hidden) (es : List machine.Event)
     (x : Handed j catalogue upto m p q K h) (disk : disk_of m ≡ disk_of w) where
   same-progress : progress q x.hidden es K told ≡ progress p h es K told

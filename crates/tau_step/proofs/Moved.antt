@@ -1,4 +1,4 @@
--- What functions of a run do, one behind another.
+-- What functions of a run do, one after another.
 use Rattle.std.proofs.Common.{ℕ, ◌≤◌, ◌≡◌, inl, inr, Bool, true, false, List, [], length, take, refl, sym, ap, subst, ◌∙◌, Option, arith}
 use Rattle.std.specs.Prelude.{Some, None, is_ok, OnOk, ◌⊎◌, Result, Ok, Err}
 use Rattle.std.proofs.Math.Seq.{take-length}
@@ -43,7 +43,7 @@ rose-more a b c le r = omega (arith, le, r)
 pub noted-same : (f f' : Flushes) (P P' : Progress) → f' ≡ f → Silent P P' → IsNoted f P.events → IsNoted f' P'.events
 noted-same f f' P P' e silent was = λ noted. ap (λ (x : Flushes). x.streams) e ∙ was (sym (ap (λ (x : Flushes). x.noted) e) ∙ noted) ∙ sym silent
 
--- one behind the other
+-- one after the other
 pub noting-on : (R S T : Bool → Load → Progress → Progress → Type 0) (whole : Bool) (f f' f'' : Flushes) → ((l : Load) (P Q P' : Progress) → R true l P Q → S whole l Q P' → T whole l P P') →
     (l : Load) (P Q P' : Progress) → noting f f' R true l P Q → noting f' f'' S whole l Q P' → noting f f'' T whole l P P'
 noting-on R S T whole f f' f'' on l P Q P' p q = (on l P Q P' p.0 q.0, λ e was. q.1 e (p.1 refl was))
@@ -100,7 +100,7 @@ lowest-same n s s' same (Some j) q = (q.0, (q.1.0, same j ∙ q.1.1), λ i lt. s
 pub lowest-nothing : (p : Plain) (h : Hidden) (failed : Option ℕ) → IsLowestStopped p.load.streams (core_of p h) failed → IsLowestStopped p.load.streams (core_of p nothing) failed
 lowest-nothing p h failed q = lowest-same p.load.streams (core_of p h) (core_of p nothing) (λ j. refl) failed q
 
--- so it is behind what workers do
+-- so it is after what workers do
 pub works-lowest : (R : Bool → Load → Progress → Progress → Type 0) (whole : Bool) (old new : Run) → Stood old.core → ((l : Load) (P P' : Progress) → R whole l P P' → Quiet P.state P'.state) → Works R whole old new →
     IsLowestStopped old.core.load.streams (core_of old.core nothing) old.failed → IsLowestStopped new.core.load.streams (core_of new.core nothing) new.failed
 works-lowest R whole old new stood quiet x q =

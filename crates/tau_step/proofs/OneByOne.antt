@@ -9,7 +9,7 @@ module _ (set : Setting) (m n : ℕ) {A : Type 0} (step : Bool → A → Progres
   pub one-none : (P : Progress) → OneByOne set m n step true [] P P
   one-none P = refl
 
-  -- one more behind them
+  -- one more after them
   pub one-more : (xs : List A) (x : A) (P Q P' : Progress) → OneByOne set m n step true xs P Q → step true x Q P' → OneByOne set m n step true (xs ++ x ∷ []) P P'
   one-more [] x P Q P' e s = (P', subst (λ (q : Progress). step true x q P') e s, refl)
   one-more (y ∷ ys) x P Q P' (q, first, rest) s = (q, first, one-more ys x q Q P' rest s)
@@ -19,12 +19,12 @@ module _ (set : Setting) (m n : ℕ) {A : Type 0} (step : Bool → A → Progres
   one-cut [] x ys P Q P' e s = inl (subst (λ (q : Progress). step false x q P') e s)
   one-cut (y ∷ zs) x ys P Q P' (q, first, rest) s = inr (q, first, one-cut zs x ys q Q P' rest s)
 
-  -- some behind others
+  -- some after others
   pub one-both : (xs ys : List A) (P Q P' : Progress) → OneByOne set m n step true xs P Q → OneByOne set m n step true ys Q P' → OneByOne set m n step true (xs ++ ys) P P'
   one-both [] ys P Q P' e s = subst (λ (q : Progress). OneByOne set m n step true ys q P') e s
   one-both (x ∷ xs) ys P Q P' (q, first, rest) s = (q, first, one-both xs ys q Q P' rest s)
 
-  -- of some behind others the last are left undone in part
+  -- of some after others the last are left undone in part
   pub one-cut_behind : (xs ys : List A) (P Q P' : Progress) → OneByOne set m n step true xs P Q → OneByOne set m n step false ys Q P' → OneByOne set m n step false (xs ++ ys) P P'
   one-cut_behind [] ys P Q P' e s = subst (λ (q : Progress). OneByOne set m n step false ys q P') e s
   one-cut_behind (x ∷ xs) ys P Q P' (q, first, rest) s = inr (q, first, one-cut_behind xs ys q Q P' rest s)

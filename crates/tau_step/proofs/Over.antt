@@ -101,7 +101,7 @@ module _ (set : Setting) (m n : ℕ) where
   alone-streams w whole P P' (Alone.again {q = Q} b h more) = alone-streams w whole Q P' more ∙ worked-streams set m n P Q w true h
   alone-streams w whole P P' Alone.cut = refl
 
-  -- behind a call that ran alone all rest again
+  -- after a call that ran alone all rest again
   rests-again : (w : ℕ) → w < m → (P A B : Progress) → AtRest P.state → is_raised set m n P.state ≡ false → Goes set m n (Resume w) P A → Alone set m n w true A B → AtRest B.state
   rests-again w lt P A B rest going g a =
       let q = g.leads.0 in
@@ -303,7 +303,7 @@ module _ (set : Setting) (m n : ℕ) where
   idled-settled j lt whole P P' e going (Idled.again A B f h new k more) = idled-settled j lt whole B P' e going more
   idled-settled j lt whole P P' e going (Idled.cut h) = absurd (false-true false refl e)
 
-  -- behind all managers each stream is settled that is not stopped
+  -- after all managers each stream is settled that is not stopped
   all-settled : (j : ℕ) → j < n → (xs : List ℕ) (P P' : Progress) → Member j xs ⊎ Settled j P.state → (P'.state.streams j).stop ≡ None → OneByOne set m n (λ b i. Idled set m n i b) true xs P P' → Settled j P'.state
   all-settled j lt [] P P' how going h = elim how [ inl q ↦ absurd q | inr s ↦ subst (λ (X : Progress). Settled j X.state) (sym h) s ]
   all-settled j lt (x ∷ xs) P P' how going (R, first, rest) =

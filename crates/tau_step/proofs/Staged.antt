@@ -1,4 +1,4 @@
--- The parts of a run, one behind another.
+-- The parts of a run, one after another.
 use Rattle.std.proofs.Common.{ℕ, ◌≡◌, Bool, true, false, inl, inr, List, refl, sym, subst}
 use Rattle.std.specs.Prelude.{[]}
 use Rattle.tau_disk.specs.declared.disk.Disk.{Ghosts}

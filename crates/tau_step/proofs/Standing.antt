@@ -1,4 +1,4 @@
--- A core that stands does so behind each event, and what it stands on is the same.
+-- A core that stands does so after each event, and what it stands on is the same.
 use Rattle.std.proofs.Common.{◌≡◌, ◌++◌, inl, inr, List}
 use Rattle.std.specs.Prelude.{false}
 use Rattle.tau_model.specs.History.{Act}

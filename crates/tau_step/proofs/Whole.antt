@@ -48,7 +48,7 @@ module _ (l : Load) (turns : List Turn) (opening : Core) (P : Progress) where
   all-part (inr (A, t, inr (B, r, inr (C, o, inl i)))) = IsPartOfRun.in_managers t r o.turns i
   all-part (inr (A, t, inr (B, r, inr (C, o, inr (D, i, c))))) = IsPartOfRun.in_clerk D t r o.turns i c
 
-  -- where memory was wanting behind all of it
+  -- where memory ran out after all of it
   pub whole-part : 1 ≤ l.workers → ran_all turns true l (begun opening) P → IsPartOfRun (setting_of l) l.workers l.streams turns opening P
   whole-part low (A, t, (B, r, (C, o, (D, i, c)))) =
       IsPartOfRun.in_clerk D t r o.turns i (pass-of (setting_of l) l.workers l.streams (below l.workers) (some-below (setting_of l) l.workers l.streams low) D P c)

@@ -31,7 +31,7 @@ use Rattle.tau_step.specs.Progressed.{progress, Comes}
 use Rattle.tau_step.specs.Acting.{Tells, Acts, WorkerTurned, raised, has_work_in}
 use Rattle.tau_step.proofs.Deciding.{if-so, if-not, acts-held, not-elsewhere, waits, idle, works-held, works-waiting, rests-raised, rests-idle}
 
--- an event behind a step that changed nothing
+-- an event after a step that changed nothing
 pub unmoved-happened : (e : machine.Event) (p m p' : Plain) (K : List (Act Txn)) (h : Hidden) (u : Unmoved p m K h) → Happened e m p' K u.hidden → Happened e p p' K h
 unmoved-happened e p m p' K h u q = record {
   hidden = q.hidden;

@@ -29,7 +29,7 @@ module _ (n j : ℕ) (file : List ℕ) (gate_at : ℕ) (content : List ℕ) (s :
   length-front : length front ≡ gate_at
   length-front = length-take-le gate_at file (omega (arith, s.within))
 
-  -- what is written behind the closed gate changes nothing
+  -- what is written after the closed gate changes nothing
   pub torn_behind : (size : ℕ) (x : List ℕ) → Torn (gate_at + 1) size file x → HasContent n j content x
   torn_behind size x torn =
       let lt : gate_at < length x = omega (arith, s.within, torn.no_shorter) in

@@ -4,13 +4,13 @@ use thiserror::Error;
 /// Why a call of a writer did not go through.
 #[derive(Clone, Copy, Debug, PartialEq, Eq, Error)]
 pub enum Flush {
-    /// Memory was wanting. `Writer::flush` never answers it.
+    /// Out of memory. `Writer::flush` never returns it.
     #[error("out of memory")]
     NoMemory,
     /// A call of the disk failed.
     #[error("the disk failed")]
     Failed,
-    /// All up to there is durable already. `Writer::create` never answers it.
+    /// All up to there is durable already. `Writer::create` never returns it.
     #[error("nothing to flush")]
     Idle,
 }

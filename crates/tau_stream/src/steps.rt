@@ -8,7 +8,7 @@ ghost use Rattle.tau_stream.specs.Stream.{IsSettled, IsOldOrNew, MayHold};
 use tau_block::open_gate;
 use tau_disk::{Disk, Failed, Gate, Place, Quiet, write_durably};
 
-/// Writes a block behind the closed gate and syncs, then opens the gate and syncs. A gate place stands between the
+/// Writes a block after the closed gate and syncs, then opens the gate and syncs. A gate place stands between the
 /// two. The block is the length, the body and a closed gate.
 pub fn publish_gated<D: Disk, G: Gate>(
     disk: &mut D,
@@ -20,7 +20,7 @@ pub fn publish_gated<D: Disk, G: Gate>(
     requires within { D.tells → gate_at < length (D.seen disk.old) }
     requires end { gate_at + 1 + length block.now < 2 ^ 62 }
 
-    // After Ok the block is behind the content, in every image.
+    // After Ok the block is after the content, in every image.
     ensures done { OnOk result (D.tells → (n j : ℕ) (content body : List ℕ) →
         IsSettled n j (D.seen disk.old) (D.may_leave disk.old) gate_at content → IsBody body → block.now ≡ tail_of body →
         IsSettled n j (D.seen disk.new) (D.may_leave disk.new) (gate_at + length block.now) (content ++ body)) }
@@ -49,7 +49,7 @@ pub fn publish<D: Disk>(disk: &mut D, gate_at: u64, block: &[u8]) -> Result<(), 
     requires within { D.tells → gate_at < length (D.seen disk.old) }
     requires end { gate_at + 1 + length block.now < 2 ^ 62 }
 
-    // After Ok the block is behind the content, in every image.
+    // After Ok the block is after the content, in every image.
     ensures done { OnOk result (D.tells → (n j : ℕ) (content body : List ℕ) →
         IsSettled n j (D.seen disk.old) (D.may_leave disk.old) gate_at content → IsBody body → block.now ≡ tail_of body →
         IsSettled n j (D.seen disk.new) (D.may_leave disk.new) (gate_at + length block.now) (content ++ body)) }

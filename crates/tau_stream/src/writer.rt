@@ -270,7 +270,7 @@ fn first_block(alloc: Global, catalogue: &[u8]) -> Result<(Vec<u8>, usize), NoMe
     Ok((block, record.len()))
 }
 
-// Writes the header with a closed gate onto an empty disk, and the first block behind it.
+// Writes the header with a closed gate onto an empty disk, and the first block after it.
 fn begin<D: Disk>(disk: &mut D, n: u16, j: u16, block: &[u8]) -> Result<(), Failed>
     requires streams { n ≤ MAX_STREAMS }
     requires stream { j < n }

@@ -28,7 +28,7 @@ within limit n = if nat_le n limit then Ok tt else Err TooMany
 abbrev pub room : ℕ → ℕ → Result (Unit {0}) TextCause
 room limit n = if nat_lt n limit then Ok tt else Err TooMany
 
--- the bytes that a line takes in the canonical text: each word, with a space or byte 10 behind it
+-- the bytes that a line takes in the canonical text: each word, with a space or byte 10 after it
 abbrev pub line_size : List (List ℕ) → ℕ
 line_size [] = 0
 line_size (w ∷ ws) = length w + 1 + line_size ws
@@ -155,7 +155,7 @@ step_added tables p h ws = do
   fits ← room MAX_STEPS (length p.steps)
   Ok (with_step p x)
 
--- How many `when` are open behind the line. A `done` and an `end` are tested at their first word.
+-- How many `when` are open after the line. A `done` and an `end` are tested at their first word.
 unfoldable pub depth_at : ℕ → StepHead → Result ℕ TextCause
 depth_at depth inner.When = Ok (depth + 1)
 depth_at zero inner.Done = Err BadStep
@@ -251,7 +251,7 @@ proc_call procs ws = do
 
 -- ---- turns
 
--- the turn words of a line behind those before, at most a million
+-- the turn words of a line after those before, at most a million
 unfoldable pub turns_line : List Turn → List (List ℕ) → Result (List Turn) TextCause
 turns_line before [] = Ok before
 turns_line before (w ∷ ws) = do

@@ -53,7 +53,7 @@ unfoldable pub magnitude : ℕ → List ℕ → Option ℕ
 magnitude top [] = None
 magnitude top (b ∷ bs) = if b == 48 then None else option_and_then (at_most top) (digits_after 0 (b ∷ bs))
 
--- a number: 0, or digits that do not begin with 0, behind a minus or not, within 64 bits
+-- a number: 0, or digits that do not begin with 0, after a minus or not, within 64 bits
 unfoldable pub number : List ℕ → Option ℤ
 number [] = None
 number (b ∷ bs) =

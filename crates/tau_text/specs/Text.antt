@@ -90,7 +90,7 @@ unfoldable pub words_read : Reading → ℕ → List (List ℕ) → Result Readi
 words_read s n [] = Ok s
 words_read s n (w ∷ ws) = if begins_with 35 w then Ok s else statement_read s n s.begun w ws
 
--- line n, behind what s has read
+-- line n, after what s has read
 unfoldable pub line_read : Reading → ℕ → List ℕ → Result Reading TextCause
 line_read s n line = if is_utf8 line then words_read s n (words line) else Err NotUtf8
 

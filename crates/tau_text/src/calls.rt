@@ -18,7 +18,7 @@ use tau_proc::{ADD, DEL, FIRST_DECLARED, GET, PUT, Proc};
 
 pub type Args = ArrayVec<Value, 8>;
 
-/// A table and a row, and what is behind them.
+/// A table and a row, and what is after them.
 #[tactic(auto, unfolding(crate::specs::Forms::key_words))]
 fn key_words<'a>(tables: &[Name], rest: &'a [u8], args: &mut Args) -> Result<&'a [u8], LineRefusal>
     requires few { length tables.now ≤ MAX_TABLES }

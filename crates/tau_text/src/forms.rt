@@ -194,7 +194,7 @@ pub fn step_line(
     }
 }
 
-/// How many `when` are open behind a line.
+/// How many `when` are open after a line.
 #[tactic(auto, unfolding(crate::specs::Forms::depth_at))]
 pub fn depth_at(depth: u32, head: StepHead) -> Result<u32, LineRefusal>
     requires { depth < 2 ^ 16 }
@@ -351,7 +351,7 @@ pub fn step_added(
     Ok(proc)
 }
 
-/// The turn words of a line behind those before.
+/// The turn words of a line after those before.
 #[tactic(auto, unfolding(crate::specs::Forms::turns_line))]
 pub fn turns_line(before: Listed<Turn>, rest: &[u8]) -> Result<Listed<Turn>, LineRefusal>
     requires { length before ≤ MAX_TURNS }

@@ -20,7 +20,7 @@ pub fn place_of(bytes: &[u8], wanted: u8) -> usize
     bytes.len()
 }
 
-/// The first line of a text that has bytes left, without its byte 10, and the bytes behind it.
+/// The first line of a text that has bytes left, without its byte 10, and the bytes after it.
 pub fn first_line(text: &[u8]) -> (&[u8], &[u8])
     requires { 0 < length text.now }
     ensures cut { lines text.now ≡ take (length text.now - length result.1.now) text.now ∷ lines result.1.now }
@@ -34,7 +34,7 @@ pub fn first_line(text: &[u8]) -> (&[u8], &[u8])
     (&text[..n], &text[n + 1..])
 }
 
-/// The first line of a text that has bytes left, with its byte 10 where it has one, and the bytes behind it.
+/// The first line of a text that has bytes left, with its byte 10 where it has one, and the bytes after it.
 pub fn whole_line(text: &[u8]) -> (&[u8], &[u8])
     requires { 0 < length text.now }
     ensures cut { lines text.now ≡ result.0.now ∷ lines result.1.now }
@@ -47,7 +47,7 @@ pub fn whole_line(text: &[u8]) -> (&[u8], &[u8])
     (&text[..n + 1], &text[n + 1..])
 }
 
-/// The bytes behind the spaces at the front.
+/// The bytes after the spaces at the front.
 fn behind_spaces(bytes: &[u8]) -> &[u8]
     ensures same { words result.now ≡ words bytes.now }
     ensures begins { slice_index result.now 0 ≢ 32 }
@@ -89,7 +89,7 @@ fn word_len(line: &[u8]) -> usize
     n + place_of(&line[n..], 32)
 }
 
-/// The first word of a line, and what is behind it.
+/// The first word of a line, and what is after it.
 pub fn first_word(line: &[u8]) -> Result<(&[u8], &[u8]), LineRefusal>
     ensures { Gives (λ x. (x.0.now, words x.1.now)) result (first (words line.now)) }
 {
@@ -114,7 +114,7 @@ pub fn no_more(line: &[u8]) -> Result<(), LineRefusal>
     Err(LineRefusal::Cause(TextCause::TooMany))
 }
 
-/// The first word of a line and what is behind it, if a word is left.
+/// The first word of a line and what is after it, if a word is left.
 pub fn next_word(line: &[u8]) -> Option<(&[u8], &[u8])>
     ensures given { MatchOption result (words line.now ≡ []) (λ x. words line.now ≡ x.0.now ∷ words x.1.now) }
     ensures shorter { IfSome result (λ x. length x.0.now + length x.1.now ≤ length line.now) }

@@ -39,7 +39,7 @@ pub fn name_of_table<'a>(tables: &'a [Name], table: &Value) -> &'a [u8]
     }
 }
 
-/// A word behind another.
+/// A word after another.
 pub fn next_word(out: &mut Vec<u8>, word: &[u8]) -> Result<(), AllocError>
     ensures { OnOk result (out.new.items ≡ out.old.items ++ 32 ∷ word.now) }
 {
@@ -47,7 +47,7 @@ pub fn next_word(out: &mut Vec<u8>, word: &[u8]) -> Result<(), AllocError>
     out.extend_from_slice(word)
 }
 
-/// A count behind another word.
+/// A count after another word.
 pub fn next_count(out: &mut Vec<u8>, count: u8) -> Result<(), AllocError>
     ensures { OnOk result (out.new.items ≡ out.old.items ++ 32 ∷ decimal count) }
 {
@@ -101,7 +101,7 @@ fn put_operand(out: &mut Vec<u8>, operand: &Operand) -> Result<(), AllocError>
     }
 }
 
-/// A register behind another word.
+/// A register after another word.
 pub fn next_register(out: &mut Vec<u8>, register: u8) -> Result<(), AllocError>
     ensures { OnOk result (out.new.items ≡ out.old.items ++ 32 ∷ register_word register) }
 {
@@ -109,7 +109,7 @@ pub fn next_register(out: &mut Vec<u8>, register: u8) -> Result<(), AllocError>
     put_index(out, b'r', register)
 }
 
-/// An operand behind another word.
+/// An operand after another word.
 pub fn next_operand(out: &mut Vec<u8>, operand: &Operand) -> Result<(), AllocError>
     ensures { OnOk result (out.new.items ≡ out.old.items ++ 32 ∷ operand_word operand.now) }
 {
@@ -117,7 +117,7 @@ pub fn next_operand(out: &mut Vec<u8>, operand: &Operand) -> Result<(), AllocErr
     put_operand(out, operand)
 }
 
-/// A comparison behind another word.
+/// A comparison after another word.
 pub fn next_compare(out: &mut Vec<u8>, how: Compare) -> Result<(), AllocError>
     ensures { OnOk result (out.new.items ≡ out.old.items ++ 32 ∷ compare_word how) }
 {
@@ -131,7 +131,7 @@ pub fn next_compare(out: &mut Vec<u8>, how: Compare) -> Result<(), AllocError>
     }
 }
 
-/// A value behind another word.
+/// A value after another word.
 fn next_value(out: &mut Vec<u8>, value: &Value) -> Result<(), AllocError>
     ensures { OnOk result (out.new.items ≡ out.old.items ++ 32 ∷ value_word value.now) }
 {
@@ -139,7 +139,7 @@ fn next_value(out: &mut Vec<u8>, value: &Value) -> Result<(), AllocError>
     put_value(out, value)
 }
 
-/// Values behind another word.
+/// Values after another word.
 pub fn next_values(out: &mut Vec<u8>, values: &[Value]) -> Result<(), AllocError>
     ensures { OnOk result (out.new.items ≡ out.old.items ++ flat_map (λ v. 32 ∷ value_word v) values.now) }
 {
@@ -149,7 +149,7 @@ pub fn next_values(out: &mut Vec<u8>, values: &[Value]) -> Result<(), AllocError
     Ok(())
 }
 
-/// A turn behind another word.
+/// A turn after another word.
 fn next_turn(out: &mut Vec<u8>, turn: Turn) -> Result<(), AllocError>
     ensures { OnOk result (out.new.items ≡ out.old.items ++ 32 ∷ turn_word turn) }
 {
@@ -163,7 +163,7 @@ fn next_turn(out: &mut Vec<u8>, turn: Turn) -> Result<(), AllocError>
     }
 }
 
-/// Turns behind another word.
+/// Turns after another word.
 pub fn next_turns(out: &mut Vec<u8>, turns: &[Turn]) -> Result<(), AllocError>
     ensures { OnOk result (out.new.items ≡ out.old.items ++ flat_map (λ t. 32 ∷ turn_word t) turns.now) }
 {

@@ -1,4 +1,4 @@
--- What is known of that which was said before a line is known behind it.
+-- What is known of that which was said before a line is known after it.
 use Rattle.std.proofs.Common.{◌≡◌, ℕ, zero, suc, ◌+◌, ◌≤◌, ◌<◌, ◌==◌, Bool, true, false, cond, nat_le, List, [], ◌∷◌, ◌++◌, length, Option, Some, None, Result, Ok, Err, codes, decimal, refl, sym, ap, ◌∙◌, subst, length-append, arith}
 use Rattle.std.specs.Prelude.{nat_lt, is_none, unwrap_or, ◌&&◌}
 use Rattle.std.proofs.lemmas.Grind.{common_steps}

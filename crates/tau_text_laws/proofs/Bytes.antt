@@ -21,7 +21,7 @@ use Rattle.tau_text_laws.proofs.Unique.{is_plain, IsPlain, IsWord}
 use Rattle.tau_text_laws.proofs.Once.{AreWords}
 use Rattle.tau_text_laws.proofs.Runs.{run}
 
--- the words behind the first, each behind a space
+-- the words after the first, each after a space
 abbrev pub gaps : List (List ℕ) → List ℕ
 gaps [] = []
 gaps (w ∷ ws) = 32 ∷ w ++ gaps ws

@@ -21,7 +21,7 @@ use Rattle.tau_text_laws.proofs.MoreTables.{added_more, one_step}
 
 -- ---- tables
 
--- each table was declared behind those before it
+-- each table was declared after those before it
 abbrev pub TablesTold : List (List ℕ) → List (List ℕ) → Type 0
 TablesTold before [] = Unit {0}
 TablesTold before (t ∷ ts) = (table_line before (t ∷ []) ≡ Ok t) × TablesTold (before ++ t ∷ []) ts
@@ -32,7 +32,7 @@ tables_push before (u ∷ ts) t h e = (h.0, tables_push (before ++ u ∷ []) ts 
 
 -- ---- steps
 
--- a line that adds this step, with so many `when` open before it and behind it
+-- a line that adds this step, with so many `when` open before it and after it
 pub record StepTold (ts : List (List ℕ)) (p : Proc) (d : ℕ) (x : Step) (f : ℕ) : Type 0 where
   pub word : List ℕ
   pub words : List (List ℕ)

@@ -96,7 +96,7 @@ plain_letter b e =
     let h : b < 128 = grind (arith, common_steps) in
     plain_between b l h
 
--- a word behind one more byte
+-- a word after one more byte
 pub plain_cons : (b : ℕ) (w : List ℕ) → is_plain b ≡ true → list_all is_plain w ≡ true → IsPlain (b ∷ w)
 plain_cons b w e f = record { bytes = rw (e, f) refl; some = omega arith }
 

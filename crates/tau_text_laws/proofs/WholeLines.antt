@@ -150,7 +150,7 @@ step_once ts args inner.End w ws x i e = absurd cc
 
 -- ---- calls
 
--- a table and a row, and the words behind them
+-- a table and a row, and the words after them
 pub record KeyOnce (ts ws : List (List ℕ)) (x : List Value × List (List ℕ)) : Type 0 where
   pub table : ℕ
   pub row : ℤ
@@ -174,7 +174,7 @@ key_once ts ws x e =
       back = λ vs o. once_more (name_at ts b.0) _ ws a.0 a.1 t.same (inl t.word) (once_more (signed_decimal d.0) vs a.0.1 c.0 c.1 n.same (inl n.word) o);
     })
 
--- the words of a call of a built-in behind its first
+-- the words of a call of a built-in after its first
 abbrev pub keyed_words : List (List ℕ) → List Value → List (List ℕ)
 keyed_words ts [] = []
 keyed_words ts (t ∷ vs) = Rattle.tau_text.specs.Canonical.table_word ts t ∷ map value_word vs
@@ -230,7 +230,7 @@ literals_once (suc n) ws x e o =
 
 -- ---- turns
 
--- the turns of a line behind those before
+-- the turns of a line after those before
 pub record TurnsOnce (before ts : List Turn) (ws : List (List ℕ)) : Type 0 where
   pub more : List Turn
   pub all : before ++ more ≡ ts

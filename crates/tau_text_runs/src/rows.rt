@@ -213,7 +213,7 @@ pub static STEPS: [(u8, &str); 107] = [
     (2, "Get r0 a 1"),
 ];
 
-/// Lines behind the declarations: the table `a`, the procedures `p` of two arguments and `q` of none.
+/// Lines after the declarations: the table `a`, the procedures `p` of two arguments and `q` of none.
 pub static CALLS: [(u8, &str); 88] = [
     (0, "put a 1 5"),
     (0, "put a 0 0"),

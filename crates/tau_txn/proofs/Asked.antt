@@ -1,4 +1,4 @@
--- What stands behind the action that a call asks for.
+-- What stands after the action that a call asks for.
 use Rattle.std.proofs.Common.{ℕ, ◌≤◌, ◌≡◌, Bool, true, false, List, [], ◌∷◌, length, refl, sym, ap, subst, ◌∙◌, arith, inl, inr, eqb-true}
 use Rattle.std.specs.Prelude.{Option, Some, ◌==◌, ◌⊎◌, if◌then◌else◌}
 use Rattle.std.specs.Map.{lookup}

@@ -15,7 +15,7 @@ use Rattle.tau_proc.specs.Meaning.{Running, Action, Go, Ask, Refuse, action, set
 use Rattle.tau_proc.specs.Stage.{Stage, Wants, Ends, given, stage_of, stage_in, stage_by, built_stage, stage, values, Asked}
 use Rattle.tau_proc.proofs.Bounds.{Bounded, action-bounded}
 
--- so many reads, with the steps that are left behind them: each of these reads or writes at most one key more
+-- so many reads, with the steps that are left after them: each of these reads or writes at most one key more
 abbrev pub Within : ℕ → ℕ → Stage → Type 0
 Within reads most (Wants k) = reads < most
 Within reads most (Ends ws reply) = reads + length ws ≤ most

@@ -55,7 +55,7 @@ below-apart k (w ∷ ws) zero y below at =
     subst (λ (z : Key × Value). same_key z.0 k ≡ false) same (same_key-sym w.0 k ∙ apart k w.0 (and_parts (is_lt (key_cmp k w.0)) (below_all key_cmp k ws) below).0)
 below-apart k (w ∷ ws) (suc i) y below at = below-apart k ws i y (and_parts (is_lt (key_cmp k w.0)) (below_all key_cmp k ws) below).1 at
 
--- the first write that is not locked is the one behind those that are
+-- the first write that is not locked is the one after those that are
 unlocked-at : (held : List (Key × Mode)) (ws : List (Key × Value)) (g : ℕ) → is_sorted key_cmp ws ≡ true →
     ((i : ℕ) (y : Key × Value) → slice_get ws i ≡ Some y → held_writing (mode_of y.0 held) ≡ has_key y.0 (take g ws)) → unlocked ws held ≡ key_in (slice_get ws g)
 unlocked-at held [] g sorted locked = refl

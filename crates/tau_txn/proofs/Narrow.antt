@@ -173,7 +173,7 @@ left-next Placed h = refl
 left-next Freeing h = left-freeing (next_want h.machine) h
 left-next LeftOver h = refl
 
--- the action behind an answer
+-- the action after an answer
 
 lock-of : (a : Action) → IfSome (lock_at a) (λ l. a ≡ action.Lock l.0 l.1)
 lock-of (action.Lock x m) = refl

@@ -1,4 +1,4 @@
--- What a worker's call does next, and what stands behind it in the core.
+-- What a worker's call does next, and what stands after it in the core.
 use Rattle.std.proofs.Common.{ℕ, ◌%◌, ◌≤◌, ◌≡◌, true, List, [], ◌∷◌, length, refl, sym, ap, subst, ◌∙◌, arith, inl, inr}
 use Rattle.std.specs.Prelude.{Option, Some, None}
 use Rattle.std.specs.Map.{lookup}

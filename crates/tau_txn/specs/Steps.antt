@@ -1,4 +1,4 @@
--- The next lock of a call in hand, what it is behind a lock, and its record.
+-- The next lock of a call in hand, what it is after a lock, and its record.
 use Rattle.std.specs.Prelude.{ℕ, Option, Some, None, List, [], ◌∷◌, ◌++◌}
 use Rattle.tau_base.specs.declared.value.Key.{Key}
 use Rattle.tau_base.specs.declared.value.Value.{Value}
@@ -34,7 +34,7 @@ abbrev pub locked_with : theory.Hand → Key → Mode → Value → List ℕ →
 locked_with h x Read row dep = record h { dep = dep; held = hold x Read h.held; seen = h.seen ++ (x, row) ∷ [] }
 locked_with h x Write row dep = record h { dep = dep; held = hold x Write h.held }
 
--- the worker with this call in hand, or behind it where it is left over
+-- the worker with this call in hand, or after it where it is left over
 abbrev pub worker_by : List Proc → ℕ → Worker → Standing → PlainHand → Worker
 worker_by procs w wk LeftOver h = record wk { hand = None; left = wk.left ++ (record { number = h.number; call = h.call }) ∷ [] }
 worker_by procs w wk _ h = record wk { hand = Some (hand_of procs w h) }

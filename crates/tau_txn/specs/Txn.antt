@@ -37,7 +37,7 @@ abbrev pub worker_in : List Proc → ℕ → Worker → Option PlainHand → Wor
 worker_in procs w wk None = record wk { hand = None }
 worker_in procs w wk (Some h) = worker_with procs w wk h
 
--- the core's worker with this in hand, or behind the others that are left over
+-- the core's worker with this in hand, or after the others that are left over
 abbrev pub worker_of : List Proc → Worker → PlainTxn → Worker
 worker_of procs wk t = worker_in procs t.worker wk t.hand
 

@@ -169,7 +169,7 @@ fn act(rt: &impl Abort, txn: &mut Txn, procs: &Procs, shard: &mut Shard, worker:
     }
 }
 
-/// Gives the call's record its place, behind an anchor, and posts it: its bytes.
+/// Gives the call's record its place, after an anchor, and posts it: its bytes.
 fn place(
     rt: &impl Abort,
     txn: &mut Txn,
@@ -376,7 +376,7 @@ fn follows(rt: &impl Abort, seat: &mut Seat, shard: &mut Shard, wants: &[Went]) 
     }
 }
 
-/// The seat's call gets its place: the record behind this anchor has so many bytes.
+/// The seat's call gets its place: the record after this anchor has so many bytes.
 fn commits(
     rt: &impl Abort,
     seat: &mut Seat,
@@ -489,7 +489,7 @@ fn read_then_written_by_another(rt: HostRuntime) -> Result<(), Fail> {
     Ok(())
 }
 
-/// The later one of two writers meets Busy, begins again at once, and comes behind.
+/// The later one of two writers meets Busy, begins again at once, and comes after.
 #[test]
 fn busy_names_the_holder(rt: HostRuntime) -> Result<(), Fail> {
     let alloc = rt.alloc();

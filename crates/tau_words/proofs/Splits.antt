@@ -25,7 +25,7 @@ rules = (built words_app).top.rules
 pub simple : is_simple words_app ≡ true
 simple = refl
 
--- where the walk stands behind these words
+-- where the walk stands after these words
 abbrev behind : List Text → Walk
 behind [] = walk_from nothing_held
 behind (x ∷ xs) = record {

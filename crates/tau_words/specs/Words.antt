@@ -86,7 +86,7 @@ bench_of (a ∷ c ∷ n ∷ m ∷ []) =
     (count_of m)) (count_of n)) (number_in 0 200000 c)) (number_in 0 999 a)
 bench_of _ = None
 
--- the command of the words behind the program's name; none where they are none
+-- the command of the words after the program's name; none where they are none
 abbrev pub command_of : List Word → Option Command
 command_of [] = None
 command_of (name ∷ rest) =

@@ -68,7 +68,7 @@ pub enum Command {
 /// Why words were not read.
 #[derive(Clone, Copy, Debug, PartialEq, Eq, Error)]
 pub enum WordsRefusal {
-    /// Memory was wanting.
+    /// Out of memory.
     #[error("out of memory")]
     NoMemory,
     /// The words are no command.

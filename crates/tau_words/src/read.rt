@@ -164,7 +164,7 @@ fn command_of(words: &[&str]) -> Option<Command>
     }
 }
 
-/// The command of the words behind the program's name.
+/// The command of the words after the program's name.
 pub fn read_words(alloc: Global, words: &[String]) -> Result<Command, WordsRefusal>
     ensures ok { IfOk result (λ c. command_of (map string_bytes words.now) ≡ Some c) }
     // Only words that are no command are refused so.
