@@ -24,3 +24,4 @@ pub mod WorkStays
 pub mod WorkPhase
 pub mod Tops
 pub mod LeftOver
+pub mod EndCount

@@ -14,6 +14,7 @@ use crate::manager::ManagerJob;
 use tau_base::{Lv, MAX_LSN};
 use tau_desk::{Desk, Head};
 use tau_disk::Disk;
+use tau_report::Acks;
 
 /// Whether no manager was out of memory.
 fn none_short<D: Disk>(jobs: &Vec<ManagerJob<D>>) -> bool
@@ -89,22 +90,22 @@ pub(crate) fn are_flushed<D: Disk>(desk: &Desk, head: &mut Head, jobs: &Vec<Mana
     true
 }
 
-/// Whether an acknowledged call is a worker's, of so many.
-fn is_of(call: &(u64, Lv), worker: usize, workers: usize) -> bool
+/// Whether the acknowledged call with this number is a worker's, of so many.
+fn is_of(number: u64, worker: usize, workers: usize) -> bool
     requires some { 1 ≤ workers }
-    ensures { result ≡ (worker_of workers call.now.0 == worker) }
+    ensures { result ≡ (worker_of workers number == worker) }
 {
-    call.0.saturating_sub(1) % workers as u64 == worker as u64
+    number.saturating_sub(1) % workers as u64 == worker as u64
 }
 
 /// How many of these acknowledged calls are a worker's, of so many.
-fn count_of(acks: &[(u64, Lv)], worker: usize, workers: usize) -> usize
+fn count_of(acks: &Acks, worker: usize, workers: usize) -> usize
     requires some { 1 ≤ workers }
     ensures { result ≡ length (calls_of workers worker acks.now) }
 {
     let mut count = 0;
-    for call in acks {
-        if is_of(call, worker, workers) {
+    for i in 0..acks.len() {
+        if is_of(acks.number_at(i), worker, workers) {
             count += 1;
         }
     }
@@ -135,7 +136,7 @@ fn is_told(desk: &Desk, head: &Head, clerk: &ClerkJob, positions: &Lv, worker: u
     ensures { result ≡ true → (o : PlainWork) → slice_get head.now.workers worker ≡ Some (Some o) → covered_calls positions.now o.committed ≤ length (calls_of desk.now.load.workers worker clerk.now.told.acks) }
 {
     let covered = head.covered(worker as u8, positions);
-    covered <= count_of(clerk.told.acks.as_slice(), worker, desk.load.workers)
+    covered <= count_of(&clerk.told.acks, worker, desk.load.workers)
 }
 
 /// The same of all workers.

@@ -5,16 +5,16 @@ ghost use Rattle.tau_report.specs.Lines.{ack_line as ack_text};
 ghost use Rattle.tau_crew.specs.Clerking.{IsToldSoFar};
 
 use std::alloc::Global;
-use tau_base::{Listed, Lv, NoMemory};
+use tau_base::{Lv, NoMemory};
 use tau_disk::Sink;
-use tau_report::ack_line;
+use tau_report::{Acks, ack_line};
 use tau_step::write_all;
 
 /// What the clerk has told, and what it is to tell.
 #[derive(Drop)]
 pub struct Told {
     /// The acknowledged calls with their vectors, in the order in which they were taken.
-    pub acks: Listed<(u64, Lv)>,
+    pub acks: Acks,
     /// A call that was acknowledged and is not told, since memory ran out.
     pub missing: Option<(u64, Lv)>,
     /// The last line.
@@ -33,7 +33,7 @@ impl Told {
         ensures works { result.sink_failed ≡ false }
     {
         Told {
-            acks: Listed::new(alloc),
+            acks: Acks::new(alloc),
             missing: None,
             line: Vec::new(alloc),
             lines: Vec::new(alloc),
@@ -64,7 +64,7 @@ impl Told {
                 return Err(NoMemory);
             }
         }
-        match self.acks.push((number, lv)) {
+        match self.acks.push(number, &lv) {
             Ok(()) => Ok(()),
             Err(_) => {
                 self.lines.truncate(before);

@@ -5,7 +5,9 @@ use tau_base::{Key, Listed, Lv, Text64, Value};
 use tau_model::Tables;
 use tau_proc::Reply;
 use tau_record::{Entry, Placed};
-use tau_report::{Fate, RunEnd, RunReport, ack_line, recover_text, report_text, table_text};
+use tau_report::{
+    Acks, Fate, KeptFate, RunEnd, RunReport, ack_line, recover_text, report_text, table_text,
+};
 use tau_scan::Log;
 use tau_text::{Declarations, parse_declarations};
 
@@ -26,6 +28,22 @@ fn rows_of(alloc: Global, rows: &[(i64, i64)]) -> Result<Tables, Fail> {
     Ok(Tables::of(list))
 }
 
+fn kept_of(alloc: Global, fate: &Fate) -> Result<KeptFate, Fail> {
+    match fate {
+        Fate::Acked(reply) => Ok(KeptFate::of(alloc, true, reply)?),
+        Fate::Unsure(reply) => Ok(KeptFate::of(alloc, false, reply)?),
+        Fate::Unrun => Ok(KeptFate::unrun()),
+    }
+}
+
+fn fates_of(alloc: Global, fates: &[Fate]) -> Result<Listed<KeptFate>, Fail> {
+    let mut list = Vec::new(alloc);
+    for fate in fates {
+        list.push(kept_of(alloc, fate)?)?;
+    }
+    Ok(Listed::of(list))
+}
+
 fn report_of(
     alloc: Global,
     fates: Vec<Fate>,
@@ -33,8 +51,8 @@ fn report_of(
     tables: Tables,
 ) -> Result<RunReport, Fail> {
     Ok(RunReport {
-        acks: Listed::new(alloc),
-        fates: Listed::of(fates),
+        acks: Acks::new(alloc),
+        fates: fates_of(alloc, fates.as_slice())?,
         order: Listed::of(Vec::from_slice(alloc, order)?),
         tables,
     })

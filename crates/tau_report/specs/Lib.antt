@@ -1,3 +1,5 @@
 pub mod Lines
 pub mod Report
 pub mod Recovery
+pub mod KeptAcks
+pub mod KeptFate

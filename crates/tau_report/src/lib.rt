@@ -1,12 +1,16 @@
 //! The texts of reports: what a run tells, what recovery tells, and rows.
 #![tactic(auto)]
 
+mod acks;
+mod fate;
 mod lines;
 mod recovery;
 mod report;
 mod texts;
 mod words;
 
+pub use acks::Acks;
+pub use fate::KeptFate;
 pub use lines::ack_line;
 pub use recovery::recover_text;
 pub use report::{Fate, RunEnd, RunReport};

@@ -1,9 +1,12 @@
 //! The lines of a report. Each function puts lines at the end of a text, and on an error may have put some bytes.
 ghost use Rattle.std.specs.Prelude.{◌≡◌, ◌++◌, ◌∷◌, [], OnOk, OnErr, decimal};
 ghost use Rattle.tau_report.specs.Lines.{line, reply_text, ack_line, fate_line, order_line, row_line, end_line};
+ghost use Rattle.tau_base.specs.declared.value.Value.{Value};
+ghost use Rattle.tau_proc.specs.declared.reply.Reply.{Reply};
+ghost use Rattle.tau_report.specs.KeptFate.{fate_by};
 ghost use Rattle.tau_report.specs.Report.{fate_lines, order_lines, row_lines};
 
-use crate::report::Fate;
+use crate::fate::{Kept, KeptFate};
 use crate::words::{
     name_of, next_number, next_reply, next_value, next_vector, next_whole, next_word,
 };
@@ -58,18 +61,52 @@ fn put_number_line(out: &mut Vec<u8>, word: &[u8], number: u64) -> Result<(), Al
     Ok(())
 }
 
-fn put_fate(out: &mut Vec<u8>, number: u64, fate: &Fate) -> Result<(), AllocError>
+/// The line of a call that committed.
+fn put_committed(
+    out: &mut Vec<u8>,
+    number: u64,
+    acknowledged: bool,
+    reply: &Reply,
+) -> Result<(), AllocError>
+    ensures { OnOk result (out.new.items ≡ out.old.items ++ fate_line number (fate_by acknowledged reply.now)) }
+{
+    if acknowledged {
+        put_reply(out, b"reply", number, reply)
+    } else {
+        put_reply(out, b"unsure", number, reply)
+    }
+}
+
+/// The same of one that replied a whole number.
+fn put_int_reply(
+    out: &mut Vec<u8>,
+    number: u64,
+    acknowledged: bool,
+    reply: i64,
+) -> Result<(), AllocError>
+    ensures { OnOk result (out.new.items ≡ out.old.items ++ fate_line number (fate_by acknowledged (Reply.Ok (Value.Int reply)))) }
+{
+    put_committed(out, number, acknowledged, &Reply::Ok(Value::Int(reply)))
+}
+
+fn put_fate(out: &mut Vec<u8>, number: u64, fate: &KeptFate) -> Result<(), AllocError>
     ensures { OnOk result (out.new.items ≡ out.old.items ++ fate_line number fate.now) }
 {
-    match fate {
-        Fate::Acked(reply) => put_reply(out, b"reply", number, reply),
-        Fate::Unsure(reply) => put_reply(out, b"unsure", number, reply),
-        Fate::Unrun => put_number_line(out, b"unrun", number),
+    match &fate.kept {
+        Kept::Unrun => put_number_line(out, b"unrun", number),
+        Kept::Int {
+            acknowledged,
+            number: reply,
+        } => put_int_reply(out, number, *acknowledged, *reply),
+        Kept::Other {
+            acknowledged,
+            reply,
+        } => put_committed(out, number, *acknowledged, reply.as_ref()),
     }
 }
 
 /// A line for each call, from number 1 on.
-pub fn put_fates(out: &mut Vec<u8>, fates: &[Fate]) -> Result<(), AllocError>
+pub fn put_fates(out: &mut Vec<u8>, fates: &[KeptFate]) -> Result<(), AllocError>
     ensures { OnOk result (out.new.items ≡ out.old.items ++ fate_lines 1 fates.now) }
 {
     let mut number = 0u64;

@@ -1,5 +1,7 @@
 //! What a run tells.
-use tau_base::{Listed, Lv};
+use crate::acks::Acks;
+use crate::fate::KeptFate;
+use tau_base::Listed;
 use tau_model::Tables;
 use tau_proc::Reply;
 
@@ -18,9 +20,9 @@ pub enum Fate {
 #[derive(Debug, Drop)]
 pub struct RunReport {
     /// The acknowledged calls with their vectors, in the order of acknowledgement.
-    pub acks: Listed<(u64, Lv)>,
+    pub acks: Acks,
     /// What became of each call of the workload, in its order.
-    pub fates: Listed<Fate>,
+    pub fates: Listed<KeptFate>,
     /// The committed calls in the order of the history.
     pub order: Listed<u64>,
     /// The rows at the end.

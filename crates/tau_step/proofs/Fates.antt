@@ -1,12 +1,12 @@
 -- Marks and fates by number, and what a core that stands says of them.
-use Rattle.std.proofs.Common.{ℕ, zero, suc, ◌+◌, ◌-◌, ◌<◌, ◌≡◌, inl, inr, Bool, true, false, List, [], ◌∷◌, ◌++◌, length, map, get_or, refl, sym, ap, subst, ◌∙◌, ◌⊎◌, ⊎_elim, Option, arith, length-append}
+use Rattle.std.proofs.Common.{ℕ, zero, suc, ◌+◌, ◌-◌, ◌<◌, ◌≡◌, inl, inr, Bool, true, false, List, [], ◌∷◌, ◌++◌, length, map, take, get_or, refl, sym, ap, subst, ◌∙◌, ◌⊎◌, ⊎_elim, Option, arith, length-append}
 use Rattle.std.specs.Prelude.{Some, None, ◌==◌, ◌||◌, if◌then◌else◌, replicate, slice_get, slice_set, slice_index_or}
 use Rattle.std.specs.List.{All}
-use Rattle.std.proofs.lemmas.List.{map-append, get_or_append_left, set-append_left, replicate-append-replicate}
+use Rattle.std.proofs.lemmas.List.{map-append, take_more, get_or_append_left, set-append_left, replicate-append-replicate}
 use Rattle.std.proofs.lemmas.List.Folds.{list_any-append}
 use Rattle.std.proofs.Math.Seq.{get_or-append_seam, set-append_seam}
 use Rattle.std.proofs.lemmas.Bool.{cases_eq, eq-eqb, ne_eqb}
-use Rattle.std.proofs.lemmas.Option.{slice_get_within}
+use Rattle.std.proofs.lemmas.Option.{get_or_from_slice_get, slice_get_within}
 use Rattle.tau_base.specs.declared.value.Call.{Call}
 use Rattle.tau_proc.specs.declared.reply.Reply.{Reply}
 use Rattle.tau_model.specs.declared.committed.Committed.{Committed}
@@ -96,6 +96,15 @@ told-other told a k ne = list_any-append (λ (b : ℕ × List ℕ). b.0 == k) to
 
 pub marks-none : (calls : ℕ) → replicate calls false ≡ marks_in calls []
 marks-none calls = all-below false calls
+
+-- the call that a list has at an index has a number, and comes next
+pub told-number : (calls : ℕ) (acks : List (ℕ × List ℕ)) (i n : ℕ) (lv : List ℕ) → slice_get acks i ≡ Some (n, lv) → All (λ a. IsNumberOf calls a.0) acks → IsNumberOf calls n
+told-number calls acks i n lv is all =
+    subst (λ (a : ℕ × List ℕ). IsNumberOf calls a.0) (get_or_from_slice_get acks i (n, lv) (n, lv) is) (all i (n, lv) (slice_get_within acks i (n, lv) is))
+
+pub told-more : (acks : List (ℕ × List ℕ)) (i n : ℕ) (lv : List ℕ) → slice_get acks i ≡ Some (n, lv) → take (i + 1) acks ≡ take i acks ++ (n, lv) ∷ []
+told-more acks i n lv is =
+    take_more acks i (n, lv) (slice_get_within acks i (n, lv) is) ∙ ap (λ (a : ℕ × List ℕ). take i acks ++ a ∷ []) (get_or_from_slice_get acks i (n, lv) (n, lv) is)
 
 pub marks-more : (calls : ℕ) (told : List (ℕ × List ℕ)) (a : ℕ × List ℕ) → IsNumberOf calls a.0 → slice_set (marks_in calls told) (a.0 - 1) true ≡ marks_in calls (told ++ a ∷ [])
 marks-more calls told a (low, high) =

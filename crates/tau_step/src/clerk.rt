@@ -11,16 +11,16 @@ ghost use Rattle.tau_step.specs.Telling.{Heard, NextTold, Passed, waiting_of};
 
 use crate::sink::write_all;
 use std::alloc::Global;
-use tau_base::{Listed, Lv, NoMemory};
+use tau_base::{Lv, NoMemory};
 use tau_core::{Core, Event, Outcome};
 use tau_disk::Sink;
-use tau_report::ack_line;
+use tau_report::{Acks, ack_line};
 
 /// What the clerk has told.
 #[derive(Drop)]
 pub(crate) struct Clerk {
     /// The acknowledged calls with their vectors, in the order in which they were told.
-    pub(crate) acks: Listed<(u64, Lv)>,
+    pub(crate) acks: Acks,
     /// The last line.
     line: Vec<u8>,
     /// Whether the sink failed. Then nothing more is written to it.
@@ -34,7 +34,7 @@ impl Clerk {
         ensures works { result.sink_failed ≡ false }
     {
         Clerk {
-            acks: Listed::new(alloc),
+            acks: Acks::new(alloc),
             line: Vec::new(alloc),
             sink_failed: false,
         }
@@ -48,7 +48,7 @@ impl Clerk {
         ensures cause { self.new.sink_failed ≡ true → (self.old.sink_failed ≡ true) ⊎ Rose (K.faults sink.old) (K.faults sink.new) }
         ensures faults { K.faults sink.old ≤ K.faults sink.new }
     {
-        match self.acks.push((number, lv)) {
+        match self.acks.push(number, &lv) {
             Ok(()) => {}
             Err(_) => return Err(NoMemory),
         }

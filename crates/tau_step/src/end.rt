@@ -1,6 +1,7 @@
 //! The end of a run: what it tells.
 ghost use Rattle.std.specs.Prelude.{ℕ, ◌≡◌, List, Some, IfOk, length, map, replicate};
 ghost use Rattle.std.specs.List.{All};
+ghost use Rattle.tau_report.specs.declared.report.Fate.{Fate};
 ghost use Rattle.tau_model.specs.History.{Act};
 ghost use Rattle.tau_model.specs.Tables.{IsTablesOf};
 ghost use Rattle.tau_machine.specs.Hands.{Txn};
@@ -14,25 +15,21 @@ ghost use Rattle.tau_step.specs.RunTold.{fates_by};
 
 use crate::run::Run;
 use std::alloc::Global;
-use tau_base::{Listed, Lv, NoMemory};
+use tau_base::{Listed, NoMemory};
 use tau_core::Core;
 use tau_model::{Committed, reported};
 use tau_proc::Reply;
-use tau_report::{Fate, RunEnd, RunReport};
+use tau_report::{Acks, KeptFate, RunEnd, RunReport};
 
 /// The fate of a call with its reply.
-fn fate(acknowledged: bool, reply: &Reply) -> Fate
-    ensures { result ≡ fate (Some reply.now) acknowledged }
+fn fate(alloc: Global, acknowledged: bool, reply: &Reply) -> Result<KeptFate, NoMemory>
+    ensures { IfOk result (λ kept. kept ≡ fate (Some reply.now) acknowledged) }
 {
-    if acknowledged {
-        Fate::Acked(reply.copied())
-    } else {
-        Fate::Unsure(reply.copied())
-    }
+    KeptFate::of(alloc, acknowledged, reply)
 }
 
 /// So many calls that did not commit.
-fn unrun(alloc: Global, calls: usize) -> Result<Vec<Fate>, NoMemory>
+fn unrun(alloc: Global, calls: usize) -> Result<Vec<KeptFate>, NoMemory>
     ensures { IfOk result (λ fates. fates.items ≡ replicate calls Fate.Unrun) }
 {
     let mut fates = match Vec::with_capacity(alloc, calls) {
@@ -40,7 +37,7 @@ fn unrun(alloc: Global, calls: usize) -> Result<Vec<Fate>, NoMemory>
         Err(_) => return Err(NoMemory),
     };
     for _ in 0..calls {
-        match fates.push(Fate::Unrun) {
+        match fates.push(KeptFate::unrun()) {
             Ok(()) => {}
             Err(_) => return Err(NoMemory),
         }
@@ -49,7 +46,7 @@ fn unrun(alloc: Global, calls: usize) -> Result<Vec<Fate>, NoMemory>
 }
 
 /// Of each of so many calls, by number from 1, whether it is acknowledged.
-fn marks_of(alloc: Global, calls: usize, acks: &[(u64, Lv)]) -> Result<Vec<bool>, NoMemory>
+fn marks_of(alloc: Global, calls: usize, acks: &Acks) -> Result<Vec<bool>, NoMemory>
     requires { All (λ ack. IsNumberOf calls ack.0) acks.now }
     ensures { IfOk result (λ marks. marks.items ≡ marks_in calls acks.now) }
 {
@@ -57,8 +54,8 @@ fn marks_of(alloc: Global, calls: usize, acks: &[(u64, Lv)]) -> Result<Vec<bool>
         Ok(marks) => marks,
         Err(_) => return Err(NoMemory),
     };
-    for ack in acks {
-        let index = (ack.0 - 1) as usize;
+    for i in 0..acks.len() {
+        let index = (acks.number_at(i) - 1) as usize;
         marks[index] = true;
     }
     Ok(marks)
@@ -70,8 +67,8 @@ fn fates_of(
     alloc: Global,
     calls: usize,
     committed: &[Committed],
-    acks: &[(u64, Lv)],
-) -> Result<Vec<Fate>, NoMemory>
+    acks: &Acks,
+) -> Result<Vec<KeptFate>, NoMemory>
     requires committed { All (λ call. IsNumberOf calls call.number) committed.now }
     requires acks { All (λ ack. IsNumberOf calls ack.0) acks.now }
     ensures { IfOk result (λ fates. fates.items ≡ fates_in calls committed.now acks.now) }
@@ -81,7 +78,8 @@ fn fates_of(
     for i in (0..committed.len()).rev() {
         let call = &committed[i];
         let index = (call.number - 1) as usize;
-        fates[index] = fate(marks[index], &call.reply);
+        let kept = fate(alloc, marks[index], &call.reply)?;
+        fates[index] = kept;
     }
     Ok(fates)
 }
@@ -91,7 +89,7 @@ fn fates_of(
 pub fn tell_end(
     alloc: Global,
     core: &Core,
-    acks: Listed<(u64, Lv)>,
+    acks: Acks,
     calls: usize,
     failed: Option<u8>,
     sink_failed: bool,
@@ -106,7 +104,7 @@ pub fn tell_end(
     ensures disk { IfOk result (λ end. end.disk ≡ failed) }
     ensures sink { IfOk result (λ end. end.sink_failed ≡ sink_failed) }
 {
-    let fates = fates_of(alloc, calls, core.committed(), acks.as_slice())?;
+    let fates = fates_of(alloc, calls, core.committed(), &acks)?;
     let order = reported(alloc, &core.ends(), core.committed())?;
     let tables = core.tables(alloc)?;
     Ok(RunEnd {

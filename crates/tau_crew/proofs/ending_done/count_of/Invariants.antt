@@ -3,8 +3,8 @@ use Rattle.std.proofs.Common.{◌≡◌, ◌≤◌, length, take}
 use Rattle.tau_crew.specs.EndLeft.{calls_of}
 use Rattle.tau_crew.proofs.ending_done.count_of.Given as goal
 
-abbrev pub invariant-loop-call : goal.invariant-loop-call
-invariant-loop-call l = record {
-  count : l.count ≡ length (calls_of l.workers l.worker (take l.call-index l.acks));
-  low : l.count ≤ l.call-index;
+abbrev pub invariant-loop-i : goal.invariant-loop-i
+invariant-loop-i l = record {
+  count : l.count ≡ length (calls_of l.workers l.worker (take l.i l.acks));
+  low : l.count ≤ l.i;
 }

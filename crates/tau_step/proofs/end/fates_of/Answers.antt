@@ -15,6 +15,22 @@ loop-i-init c =
     let committed : List Committed = c.args.committed.now in
     c.in_ok-fates.ensures ∙ fates-none c.args.calls c.args.acks.now ∙ ap (λ (l : List Committed). fates_in c.args.calls l c.args.acks.now) (sym (drop_all (length committed) committed (omega arith)))
 
+pub loop-i-preserved-in_ok-kept : goal.loop-i-preserved-in_ok-kept
+loop-i-preserved-in_ok-kept c =
+    let calls : ℕ = c.args.calls in
+    let acks : List (ℕ × List ℕ) = c.args.acks.now in
+    let committed : List Committed = c.args.committed.now in
+    let i : ℕ = c.loop-i.i in
+    let call : Committed = c.index-committed-i.result in
+    let more : drop (i - 1) committed ≡ call ∷ drop i committed = drop-before committed i call (omega arith) (omega arith) c.index-committed-i.is in
+    let within : IsNumberOf calls call.number = subst (λ (x : Committed). IsNumberOf calls x.number) (sym c.index-committed-i.is) (c.requires.committed (i - 1) call (omega arith)) in
+    let mark : c.index.result.now ≡ is_told acks (call.number - 1 + 1) =
+    c.index.ensures ∙ ap (λ (l : List Bool). get_or l (call.number - 1) c.index.result.now) c.in_ok-marks.ensures
+    ∙ get-below (λ k. is_told acks (k + 1)) calls (call.number - 1) c.index.result.now (omega (arith, within.0, within.1)) in
+    ap (λ (l : List Fate). slice_set l (call.number - 1) c.in_ok-kept.kept) c.loop-i.invariant
+    ∙ fates-more calls call (drop i committed) acks c.in_ok-kept.kept within (c.in_ok-kept.ensures ∙ ap (λ (b : Bool). fate (Some call.reply) b) mark)
+    ∙ ap (λ (l : List Committed). fates_in calls l acks) (sym more)
+
 pub loop-i-preserved : goal.loop-i-preserved
 loop-i-preserved c =
     let calls : ℕ = c.args.calls in
@@ -27,6 +43,6 @@ loop-i-preserved c =
     let mark : c.index.result.now ≡ is_told acks (call.number - 1 + 1) =
     c.index.ensures ∙ ap (λ (l : List Bool). get_or l (call.number - 1) c.index.result.now) c.in_ok-marks.ensures
     ∙ get-below (λ k. is_told acks (k + 1)) calls (call.number - 1) c.index.result.now (omega (arith, within.0, within.1)) in
-    ap (λ (l : List Fate). slice_set l (call.number - 1) c.fate.result) c.loop-i.invariant
-    ∙ fates-more calls call (drop i committed) acks c.fate.result within (c.fate.ensures ∙ ap (λ (b : Bool). fate (Some call.reply) b) mark)
+    ap (λ (l : List Fate). slice_set l (call.number - 1) c.in_ok-kept.kept) c.loop-i.invariant
+    ∙ fates-more calls call (drop i committed) acks c.in_ok-kept.kept within (c.in_ok-kept.ensures ∙ ap (λ (b : Bool). fate (Some call.reply) b) mark)
     ∙ ap (λ (l : List Committed). fates_in calls l acks) (sym more)

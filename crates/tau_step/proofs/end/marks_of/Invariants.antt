@@ -2,5 +2,5 @@ use Rattle.std.proofs.Common.{◌≡◌, take}
 use Rattle.tau_step.specs.Fates.{marks_in}
 use Rattle.tau_step.proofs.end.marks_of.Given as goal
 
-abbrev pub invariant-loop-ack : goal.invariant-loop-ack
-invariant-loop-ack l = l.marks.items ≡ marks_in l.calls (take l.ack-index l.acks)
+abbrev pub invariant-loop-i : goal.invariant-loop-i
+invariant-loop-i l = l.marks.items ≡ marks_in l.calls (take l.i l.acks)

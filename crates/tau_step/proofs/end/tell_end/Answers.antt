@@ -22,8 +22,7 @@ pub returns-clause-fates : goal.returns-clause-fates
 returns-clause-fates c = λ K h g.
     let acks : List (ℕ × List ℕ) = c.args.acks in
     c.of.ensures ∙ c.in_ok-fates.ensures
-    ∙ ap (λ (l : List Committed). fates_in c.args.calls l c.as_slice.result.now) c.committed.ensures.same
-    ∙ ap (λ (a : List (ℕ × List ℕ)). fates_in c.args.calls c.args.core.now.committed a) c.as_slice.ensures
+    ∙ ap (λ (l : List Committed). fates_in c.args.calls l acks) c.committed.ensures.same
     ∙ ap (λ (n : ℕ). fates_in n c.args.core.now.committed acks) c.requires.calls
     ∙ fates-stand c.args.core.now K h g acks
 
