@@ -112,6 +112,17 @@ impl Lock {
         self.table.shared.swap::<Take>(seat, 0, 2) == 0
     }
 
+    /// Looks until the turn is free, or for some time. One that was woken looks before it asks for the turn again, since
+    /// asking in vain makes another wake it.
+    fn see_free(&self) {
+        for _ in 0..LOOKS {
+            if self.table.shared.peek(0) == 0 {
+                return;
+            }
+            spin_loop();
+        }
+    }
+
     /// Sleeps until the turn is free, and takes it.
     fn wait_for<R: Wait>(&self, rt: &R, seat: &mut Seat)
         requires own { seat.old.table_id ≡ self.now.table.shared.table_id }
@@ -124,6 +135,7 @@ impl Lock {
                 return;
             }
             self.table.shared.park(rt, 0, 2);
+            self.see_free();
         }
         unreachable!()
     }
