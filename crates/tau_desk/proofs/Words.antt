@@ -1,5 +1,5 @@
 -- What a seat is told by a look at a word: that of the stop, and those of persisted positions.
-use Rattle.std.proofs.Common.{◌≡◌, ℕ, zero, suc, ◌+◌, ◌-◌, ◌*◌, ◌<◌, ◌≤◌, inl, inr, true, false, Bool, List, Option, refl, sym, ap, ◌∙◌, subst, arith}
+use Rattle.std.proofs.Common.{◌≡◌, ℕ, zero, suc, ◌+◌, ◌-◌, ◌<◌, inl, inr, true, false, Bool, List, Option, refl, sym, ap, ◌∙◌, subst, arith}
 use Rattle.std.specs.Prelude.{Some, ◌==◌, ◌⊎◌, if◌then◌else◌, nat_le, slice_index}
 use Rattle.std.proofs.lemmas.Bool.{cases_eq, ne_eqb, lt-leb}
 use mathlib.Core.Option.{none}
@@ -7,7 +7,6 @@ use Rattle.atomic_table.specs.Table.{Allows, Step, step}
 use Rattle.tau_base.specs.Vectors.{AtMost}
 use Rattle.tau_base.proofs.Vectors.{at_most-trans}
 use Rattle.tau_core.specs.State.{Plain}
-use Rattle.tau_rule.specs.Role.{Role}
 use Rattle.tau_rule.specs.Knows.{Knows}
 use Rattle.tau_rule.specs.Positions.{plv_word}
 use Rattle.tau_rule.specs.Rule.{Now, Rule, has, is_raised, number_if, part_count, word_of}

@@ -1,4 +1,4 @@
-use Rattle.std.proofs.Common.{rules, ◌+◌, ◌*◌, ◌<◌, ◌∙◌, arith}
+use Rattle.std.proofs.Common.{rules, ◌+◌, ◌*◌, ◌∙◌, arith}
 use Rattle.tau_desk.proofs.Words.{sees-persisted_as}
 use Rattle.tau_desk.proofs.desk.Desk.persisted.Goals as goal
 

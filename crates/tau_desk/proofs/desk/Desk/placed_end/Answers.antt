@@ -1,4 +1,4 @@
-use Rattle.std.proofs.Common.{rules, ◌+◌, ◌*◌, ◌<◌, ℕ, ap, ◌∙◌, arith}
+use Rattle.std.proofs.Common.{rules, ◌+◌, ◌*◌, ℕ, ap, ◌∙◌, arith}
 use Rattle.tau_desk.proofs.Ends.{sees-end_as}
 use Rattle.tau_desk.proofs.desk.Desk.placed_end.Goals as goal
 

@@ -1,7 +1,6 @@
-use Rattle.std.proofs.Common.{◌≡◌, ◌+◌, ◌<◌, ◌⊎◌, inl, inr, true, false, Bool, List, ℕ, sym, ap, ◌∙◌}
+use Rattle.std.proofs.Common.{◌≡◌, ◌+◌, ◌<◌, ◌⊎◌, inl, inr, true, false, sym, ap, ◌∙◌}
 use Rattle.std.specs.Prelude.{slice_index}
 use Rattle.tau_core.specs.State.{Plain}
-use Rattle.tau_rule.specs.Steps.{Sat}
 use Rattle.tau_desk.specs.Looks.{LooksOver}
 use Rattle.tau_desk.specs.Seats.{PlainClerkSeat}
 use Rattle.tau_desk.proofs.Words.{looks-on, sees-again}
