@@ -3,20 +3,20 @@ use Rattle.std.proofs.Common.{ℕ, zero, suc, ◌≡◌, ◌≢◌, ◌+◌, ◌
 use Rattle.std.specs.Prelude.{Option, Some, None, slice_get, nat_lt, ◌==◌, if◌then◌else◌}
 use Rattle.std.proofs.lemmas.Bool.{cases_eq, cases_lt}
 use Rattle.std.proofs.lemmas.Bool.Decides.{nat_tests}
-use Rattle.tau_pool.specs.declared.item.Item.{Item}
+use Rattle.tau_pool.specs.Item.{Item}
 use Rattle.tau_pool.specs.Items.{is_left}
 use Rattle.tau_pool.specs.First.{first_from, reach_one}
 use Rattle.tau_pool.specs.Passing.{is_passed, Behind, Ordered}
 use Rattle.tau_pool.specs.Kept.{AreWithin, IsReached}
 use Rattle.tau_pool.specs.Pooled.{IsRecovered}
 use Rattle.tau_pool.proofs.Gets.{some_is, get_within, get_member, get_there}
-use Rattle.tau_pool.proofs.Passes.{not_above}
+use Rattle.tau_pool.proofs.Passes.{above, not_above}
 
 module _ (j : ℕ) where
-  step_first : (n : ℕ) (z : Item) (zs : List Item) → is_passed j z ≡ true → first_from j n (z ∷ zs) ≡ first_from j (suc n) zs
+  pub step_first : (n : ℕ) (z : Item) (zs : List Item) → is_passed j z ≡ true → first_from j n (z ∷ zs) ≡ first_from j (suc n) zs
   step_first n z zs is = rw is refl
 
-  stop_first : (n : ℕ) (z : Item) (zs : List Item) → is_passed j z ≡ false → first_from j n (z ∷ zs) ≡ n
+  pub stop_first : (n : ℕ) (z : Item) (zs : List Item) → is_passed j z ≡ false → first_from j n (z ∷ zs) ≡ n
   stop_first n z zs is = rw is refl
 
   two : (z : Item) → (is_passed j z ≡ true) ⊎ (is_passed j z ≡ false)
@@ -61,6 +61,20 @@ module _ (j : ℕ) where
   first_skip n (suc m) (z ∷ zs) le all =
       let next : suc n + m ≡ n + suc m = omega arith in
       step_first n z zs (all 0 z (omega arith) refl) ∙ first_skip (suc n) m zs (omega (arith, le)) (λ k q lt is. all (suc k) q (omega (arith, lt)) is) ∙ ap (λ (k : ℕ). first_from j k (drop m zs)) next
+
+  pub passed_more : (x : Item) → is_passed j x ≡ true → is_passed (j + 1) x ≡ true
+  passed_more x is = by_tests (nat_lt x.stream j) (x.stream == j) refl refl is
+    where
+      low : x.stream < j + 1 → nat_lt x.stream (j + 1) ≡ true
+      low lt = grind (arith, nat_tests)
+
+      done : x.stream < j + 1 → is_passed (j + 1) x ≡ true
+      done lt = rw (low lt) refl
+
+      by_tests : (b c : Bool) → nat_lt x.stream j ≡ b → (x.stream == j) ≡ c → (if b then true else (if c then (if is_left x.stage then false else true) else false)) ≡ true → is_passed (j + 1) x ≡ true
+      by_tests true c e f is = let lt = above x.stream j e in done (omega (arith, lt))
+      by_tests false true e f is = let same = eqb-true x.stream j f in done (omega (arith, same))
+      by_tests false false e f is = absurd cc
 
   pub left_open : (x : Item) → x.stream ≡ j → is_left x.stage ≡ true → is_passed j x ≡ false
   left_open x same left = by_tests (nat_lt x.stream j) (x.stream == j) (low x.stream same) (eq-eqb x.stream j same)
@@ -122,6 +136,13 @@ module _ (j : ℕ) where
 pub reach_is : (j e : ℕ) (z : Item) → z.stream ≡ j → reach_one j e (Some z) ≡ z.start
 reach_is j e z same = rw (eq-eqb z.stream j same) refl
 
+pub reach_other : (j e : ℕ) (z : Item) → z.stream ≢ j → reach_one j e (Some z) ≡ e
+reach_other j e z other = by_test (z.stream == j) refl
+  where
+    by_test : (b : Bool) → (z.stream == j) ≡ b → (if b then z.start else e) ≡ e
+    by_test true is = absurd (other (eqb-true z.stream j is))
+    by_test false is = refl
+
 abbrev Reaches : List ℕ → List ℕ → List Item → ℕ → Type 0
 Reaches ends rlv items j = ((slice_index rlv j ≡ slice_index ends j) × ((i : ℕ) (x : Item) → slice_get items i ≡ Some x → x.stream ≡ j → is_left x.stage ≡ true → ⊥))
     ⊎ ((i : ℕ) × (x : Item) × (slice_get items i ≡ Some x) × (x.stream ≡ j) × (is_left x.stage ≡ true) × (x.start ≡ slice_index rlv j))
@@ -150,10 +171,3 @@ recovered ends rlv items nexts wide ordered within r = record {
       where
         open_at : (j : ℕ) (z : Item) → slice_get items (first_from j 0 items) ≡ Some z → (j ≤ z.stream) × (z.stream ≡ j → is_left z.stage ≡ true)
         open_at j z here = open_left j z (at_first j 0 items (first_from j 0 items) z (omega arith) here)
-
-        reach_other : (j e : ℕ) (z : Item) → z.stream ≢ j → reach_one j e (Some z) ≡ e
-        reach_other j e z other = by_test (z.stream == j) refl
-          where
-            by_test : (b : Bool) → (z.stream == j) ≡ b → (if b then z.start else e) ≡ e
-            by_test true is = absurd (other (eqb-true z.stream j is))
-            by_test false is = refl

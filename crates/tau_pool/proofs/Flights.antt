@@ -1,7 +1,7 @@
 -- Records in flight.
 use Rattle.std.proofs.Common.{ℕ, ◌≡◌, ◌≢◌, true, List, refl, sym, subst, ◌∙◌}
 use Rattle.std.specs.Prelude.{Some, slice_get}
-use Rattle.tau_pool.specs.declared.item.Item.{Item}
+use Rattle.tau_pool.specs.Item.{Item}
 use Rattle.tau_pool.specs.declared.item.Job.{Job}
 use Rattle.tau_pool.specs.declared.item.Stage.TheVariants.{Flying, Finished}
 use Rattle.tau_pool.specs.Items.{is_flying}

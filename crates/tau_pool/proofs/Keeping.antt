@@ -5,7 +5,7 @@ use Rattle.std.proofs.Math.ListN.{set}
 use Rattle.std.proofs.lemmas.Bool.{cases_eq, cases_lt}
 use Rattle.std.proofs.lemmas.List.{length-set, get_or-set_same, get_or-set_other}
 use Rattle.tau_model.specs.History.{Member}
-use Rattle.tau_pool.specs.declared.item.Item.{Item}
+use Rattle.tau_pool.specs.Item.{Item}
 use Rattle.tau_pool.specs.declared.item.Stage.{Stage}
 use Rattle.tau_pool.specs.declared.item.Stage.TheVariants.{Waiting, Flying, Finished}
 use Rattle.tau_pool.specs.declared.waits.Wait.{Wait}
@@ -13,7 +13,7 @@ use Rattle.tau_pool.specs.Items.{is_left, is_waiting, is_flying}
 use Rattle.tau_pool.specs.First.{first_from, reach_one}
 use Rattle.tau_pool.specs.Passing.{is_passed, wait_of}
 use Rattle.tau_pool.specs.Pooled.{staged, IsRecovered}
-use Rattle.tau_pool.specs.Kept.{IsWithin, AreWithin, IsReached, IsKept, waits_in}
+use Rattle.tau_pool.specs.Kept.{IsWithin, AreWithin, IsReached, AreQueued, IsKept, waits_in}
 use Rattle.tau_pool.proofs.Gets.{get_within, member_split}
 use Rattle.tau_pool.proofs.Counts.{waiting-set, flying-set, one}
 use Rattle.tau_pool.proofs.Stages.{found_set, ordered_set, first_set, reach_set, same_passed, finished_passed, other_passed}
@@ -47,23 +47,14 @@ within_set ends items i x s there within k z is = elim (found_set items i (stage
 
 -- ---- a record is started
 
-module _ (ends rlv : List ℕ) (items : List Item) (waits : List (List Wait)) (nexts passed : List ℕ) (waiting flying i : ℕ) (x : Item) where
+module _ (ends rlv : List ℕ) (items : List Item) (waits : List (List Wait)) (nexts passed : List ℕ) (waiting flying i : ℕ) (x : Item) (on : Bool) where
   abbrev flies : List Item
   flies = set items i (staged Flying x)
 
-  pub start_kept : IsKept ends rlv items waits nexts passed waiting flying → slice_get items i ≡ Some x → is_waiting x.stage ≡ true → IsKept ends rlv flies waits nexts passed (waiting - 1) (flying + 1)
-  start_kept k there waits_is = record {
-    narrow = k.narrow;
-    wide = k.wide;
+  queued_flies : AreQueued ends rlv items waits passed → slice_get items i ≡ Some x → is_waiting x.stage ≡ true → AreQueued ends rlv flies waits passed
+  queued_flies k there waits_is = record {
     many = k.many;
-    cursors = k.cursors;
     counts = k.counts;
-    ordered = ordered_set Flying items i x there k.ordered;
-    within = within_set ends items i x Flying there k.within;
-    reached = record {
-      firsts = λ j lt. k.reached.firsts j lt ∙ sym (first_set j 0 items i x (staged Flying x) there (same_passed j x Flying (sym (waiting_left x.stage waits_is))));
-      reached = λ j lt. k.reached.reached j lt ∙ sym (reach_set Flying j (slice_index ends j) items i x (slice_index nexts j) there);
-    };
     listed = record {
       rising = k.listed.rising;
       listed = λ n p z lt is above. elim (found_set items i (staged Flying x) p z (get_within items i x there) is) [
@@ -80,6 +71,20 @@ module _ (ends rlv : List ℕ) (items : List Item) (waits : List (List Wait)) (n
         | inr b ↦ k.met.unmet p z b.1 w covered
       ];
     };
+  }
+
+  pub start_kept : IsKept ends rlv items waits nexts passed waiting flying on → slice_get items i ≡ Some x → is_waiting x.stage ≡ true → IsKept ends rlv flies waits nexts passed (waiting - 1) (flying + 1) on
+  start_kept k there waits_is = record {
+    narrow = k.narrow;
+    wide = k.wide;
+    cursors = k.cursors;
+    ordered = ordered_set Flying items i x there k.ordered;
+    within = within_set ends items i x Flying there k.within;
+    reached = record {
+      firsts = λ j lt. k.reached.firsts j lt ∙ sym (first_set j 0 items i x (staged Flying x) there (same_passed j x Flying (sym (waiting_left x.stage waits_is))));
+      reached = λ j lt. k.reached.reached j lt ∙ sym (reach_set Flying j (slice_index ends j) items i x (slice_index nexts j) there);
+    };
+    queued = λ e. queued_flies (k.queued e) there waits_is;
     unstarted = let c = waiting-set items i x (staged Flying x) there in let o : one (is_waiting x.stage) ≡ 1 = ap one waits_is in omega (arith, c, o, k.unstarted);
     started = let c = flying-set items i x (staged Flying x) there in let o : one (is_flying x.stage) ≡ 0 = ap one (waiting_flies x.stage waits_is) in omega (arith, c, o, k.started);
   }
@@ -89,7 +94,7 @@ module _ (ends rlv : List ℕ) (items : List Item) (waits : List (List Wait)) (n
   abbrev done : List Item
   done = set items i (staged Finished x)
 
-  module _ (k : IsKept ends rlv items waits nexts passed waiting flying) (there : slice_get items i ≡ Some x) (flies_is : is_flying x.stage ≡ true) where
+  module _ (k : IsKept ends rlv items waits nexts passed waiting flying on) (there : slice_get items i ≡ Some x) (flies_is : is_flying x.stage ≡ true) where
     lt_stream : x.stream < length ends
     lt_stream = (k.within i x there).stream
 
@@ -179,13 +184,13 @@ module _ (ends rlv : List ℕ) (items : List Item) (waits : List (List Wait)) (n
       ]
 
       -- an unstarted record is covered, or waits where it isn't
-      where_it_waits : (p : ℕ) (z : Item) → slice_get items p ≡ Some z → is_waiting z.stage ≡ true → (n : ℕ) → n ≤ length ends → ((j : ℕ) → n ≤ j → slice_index z.dep j ≤ slice_index rlv j) →
+      where_it_waits : AreQueued ends rlv items waits passed → (p : ℕ) (z : Item) → slice_get items p ≡ Some z → is_waiting z.stage ≡ true → (n : ℕ) → n ≤ length ends → ((j : ℕ) → n ≤ j → slice_index z.dep j ≤ slice_index rlv j) →
           (q : ℕ) × (q < length rlv) × Member (wait_of q p z) (drop (slice_index passed q) (waits_in waits q))
-      where_it_waits p z here w zero le all = k.met.unmet p z here w (λ j. all j (omega arith))
-      where_it_waits p z here w (suc n) le all = elim (cases_lt (slice_index rlv n) (slice_index z.dep n)) [
-        | inl above ↦ (n, omega (arith, le, k.wide), unpassed (k.listed.listed n p z (omega (arith, le)) here above) above)
-        | inr low ↦ where_it_waits p z here w n (omega (arith, le)) (λ j from. elim (cases_eq j n) [
-          | inl e ↦ subst (λ (q : ℕ). slice_index z.dep q ≤ slice_index rlv q) (sym e) low
+      where_it_waits q p z here w zero le all = q.met.unmet p z here w (λ j. all j (omega arith))
+      where_it_waits q p z here w (suc n) le all = elim (cases_lt (slice_index rlv n) (slice_index z.dep n)) [
+        | inl above ↦ (n, omega (arith, le, k.wide), unpassed (q.listed.listed n p z (omega (arith, le)) here above) above)
+        | inr low ↦ where_it_waits q p z here w n (omega (arith, le)) (λ j from. elim (cases_eq j n) [
+          | inl e ↦ subst (λ (m : ℕ). slice_index z.dep m ≤ slice_index rlv m) (sym e) low
           | inr other ↦ all j (omega (arith, from, past j n from other))
         ])
       ]
@@ -195,7 +200,7 @@ module _ (ends rlv : List ℕ) (items : List Item) (waits : List (List Wait)) (n
 
           unpassed : Member (wait_of n p z) (waits_in waits n) → slice_index rlv n < slice_index z.dep n → Member (wait_of n p z) (drop (slice_index passed n) (waits_in waits n))
           unpassed m above = elim (member_split (slice_index passed n) (waits_in waits n) (wait_of n p z) m) [
-            | inl a ↦ let low = k.met.met n (wait_of n p z) (omega (arith, le, k.wide)) a in absurd (omega (arith, low, above))
+            | inl a ↦ let low = q.met.met n (wait_of n p z) (omega (arith, le, k.wide)) a in absurd (omega (arith, low, above))
             | inr b ↦ b
           ]
 
@@ -207,32 +212,37 @@ module _ (ends rlv : List ℕ) (items : List Item) (waits : List (List Wait)) (n
           past_end (y ∷ xs) zero le = absurd (omega (arith, le))
           past_end (y ∷ xs) (suc j) le = past_end xs j (omega (arith, le))
 
-      pub finish_kept : IsKept ends rlv' done waits nexts' passed waiting (flying - 1)
-      finish_kept = record {
-        narrow = k.narrow;
-        wide = length-set rlv x.stream reach ∙ k.wide;
-        many = k.many;
-        cursors = length-set nexts x.stream next ∙ k.cursors;
-        counts = k.counts;
-        ordered = ordered_set Finished items i x there k.ordered;
-        within = within_set ends items i x Finished there k.within;
-        reached = now_reached;
+      queued_done : AreQueued ends rlv items waits passed → AreQueued ends rlv' done waits passed
+      queued_done q = record {
+        many = q.many;
+        counts = q.counts;
         listed = record {
-          rising = k.listed.rising;
+          rising = q.listed.rising;
           listed = λ n p z lt is above. let up = rises n in elim (found_set items i (staged Finished x) p z (get_within items i x there) is) [
-            | inl a ↦ subst (λ (q : Item). Member (wait_of n p q) (waits_in waits n)) a.1
-                (subst (λ (m : ℕ). Member (wait_of n m x) (waits_in waits n)) (sym a.0) (k.listed.listed n i x lt there (let high : slice_index rlv' n < slice_index x.dep n = subst (λ (q : Item). slice_index rlv' n < slice_index q.dep n) (sym a.1) above in omega (arith, high, up))))
-            | inr b ↦ k.listed.listed n p z lt b.1 (omega (arith, above, up))
+            | inl a ↦ subst (λ (y : Item). Member (wait_of n p y) (waits_in waits n)) a.1
+                (subst (λ (m : ℕ). Member (wait_of n m x) (waits_in waits n)) (sym a.0) (q.listed.listed n i x lt there (let high : slice_index rlv' n < slice_index x.dep n = subst (λ (y : Item). slice_index rlv' n < slice_index y.dep n) (sym a.1) above in omega (arith, high, up))))
+            | inr b ↦ q.listed.listed n p z lt b.1 (omega (arith, above, up))
           ];
         };
         met = record {
-          upto = λ n lt. k.met.upto n (omega (arith, lt, length-set rlv x.stream reach));
-          met = λ n w lt m. let low = k.met.met n w (omega (arith, lt, length-set rlv x.stream reach)) m in let up = rises n in omega (arith, low, up);
+          upto = λ n lt. q.met.upto n (omega (arith, lt, length-set rlv x.stream reach));
+          met = λ n w lt m. let low = q.met.met n w (omega (arith, lt, length-set rlv x.stream reach)) m in let up = rises n in omega (arith, low, up);
           unmet = λ p z is w covered. elim (found_set items i (staged Finished x) p z (get_within items i x there) is) [
-            | inl a ↦ let off : is_waiting z.stage ≡ false = ap (λ (q : Item). is_waiting q.stage) (sym a.1) in absurd cc
-            | inr b ↦ let (q, lt, m) = where_it_waits p z b.1 w (length ends) (omega arith) (λ j le. beyond_ends p z b.1 j le) in (q, omega (arith, lt, length-set rlv x.stream reach), m)
+            | inl a ↦ let off : is_waiting z.stage ≡ false = ap (λ (y : Item). is_waiting y.stage) (sym a.1) in absurd cc
+            | inr b ↦ let (n, lt, m) = where_it_waits q p z b.1 w (length ends) (omega arith) (λ j le. beyond_ends p z b.1 j le) in (n, omega (arith, lt, length-set rlv x.stream reach), m)
           ];
         };
+      }
+
+      pub finish_kept : IsKept ends rlv' done waits nexts' passed waiting (flying - 1) on
+      finish_kept = record {
+        narrow = k.narrow;
+        wide = length-set rlv x.stream reach ∙ k.wide;
+        cursors = length-set nexts x.stream next ∙ k.cursors;
+        ordered = ordered_set Finished items i x there k.ordered;
+        within = within_set ends items i x Finished there k.within;
+        reached = now_reached;
+        queued = λ e. queued_done (k.queued e);
         unstarted = let c = waiting-set items i x (staged Finished x) there in let o : one (is_waiting x.stage) ≡ 0 = ap one (flying_waits x.stage flies_is) in omega (arith, c, o, k.unstarted);
         started = let c = flying-set items i x (staged Finished x) there in let o : one (is_flying x.stage) ≡ 1 = ap one flies_is in omega (arith, c, o, k.started);
       }

@@ -1,8 +1,10 @@
 pub mod Gets
+pub mod Flat
 pub mod Passes
 pub mod Counts
 pub mod Stages
 pub mod Firsts
 pub mod Keeping
 pub mod Flights
+pub mod Waiting
 pub mod Opening

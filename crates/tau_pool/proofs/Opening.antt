@@ -17,13 +17,13 @@ use Rattle.tau_record.specs.Record.{named, spelling}
 use Rattle.tau_record.specs.Content.{named_after, Reads}
 use Rattle.tau_record.proofs.ContentLaws.{spelling_long}
 use Rattle.tau_scan.specs.Reading.{IsReading, IsLog}
-use Rattle.tau_pool.specs.declared.item.Item.{Item}
+use Rattle.tau_pool.specs.Item.{Item}
 use Rattle.tau_pool.specs.declared.item.Stage.TheVariants.{Waiting}
 use Rattle.tau_pool.specs.declared.waits.Wait.{Wait}
 use Rattle.tau_pool.specs.Items.{is_waiting, dep_of, item_as, item_of, with_item, items_in, items_from}
 use Rattle.tau_pool.specs.Passing.{wait_of, wait_at, waits_for, waits_at, Behind, Ordered, Rises}
 use Rattle.tau_pool.specs.Pooled.{waiting_in, flying_in}
-use Rattle.tau_pool.specs.Kept.{IsReached, IsKept, waits_in}
+use Rattle.tau_pool.specs.Kept.{AreWithin, IsReached, AreQueued, IsKept, waits_in}
 use Rattle.tau_pool.proofs.Keeping.{waiting_flies}
 use Rattle.tau_pool.proofs.Gets.{some_is, get_member, member_either}
 
@@ -176,18 +176,26 @@ waits_is (y ∷ ys) zero ws is = some y ws is
     some y ws is = cc
 waits_is (y ∷ ys) (suc k) ws is = waits_is ys k ws is
 
-pub opened : (elv rlv : List ℕ) (items : List Item) (waits : List (List Wait)) (nexts passed : List ℕ) (waiting : ℕ) → length elv ≤ 16 → length rlv ≡ length elv → length waits ≡ length rlv → length nexts ≡ length elv →
-    passed ≡ replicate (length elv) 0 → waiting ≡ length items → Ordered items → ((x : Item) → Member x items → OfLog elv 0 (length elv) x) → IsReached elv rlv items nexts →
-    ((k : ℕ) → k < length rlv → slice_get waits k ≡ Some (ascending wait_at (waits_at k (slice_index rlv k) 0 items))) → IsKept elv rlv items waits nexts passed waiting 0
-opened elv rlv items waits nexts passed waiting narrow wide many cursors none count ordered all reached each = record {
+pub opened : (elv rlv : List ℕ) (items : List Item) (waits : List (List Wait)) (nexts passed : List ℕ) (waiting : ℕ) → length elv ≤ 16 → length rlv ≡ length elv → length nexts ≡ length elv →
+    waiting ≡ length items → Ordered items → ((x : Item) → Member x items → OfLog elv 0 (length elv) x) → IsReached elv rlv items nexts → IsKept elv rlv items waits nexts passed waiting 0 false
+opened elv rlv items waits nexts passed waiting narrow wide cursors count ordered all reached = record {
   narrow = narrow;
   wide = wide;
-  many = omega (arith, many, wide);
   cursors = cursors;
-  counts = ap (λ (xs : List ℕ). length xs) none ∙ length-replicate {A = ℕ} (length elv) 0;
   ordered = ordered;
   within = λ i x is. let o = all x (get_member items i x is) in record { stream = o.below; start = o.start; taken = o.taken };
   reached = reached;
+  queued = λ e. absurd cc;
+  unstarted = count ∙ sym (all_wait items (λ x m. (all x m).waits)).0;
+  started = sym (all_wait items (λ x m. (all x m).waits)).1;
+}
+
+-- what waits is listed, and nothing is passed over
+pub queued : (ends rlv : List ℕ) (items : List Item) (waits : List (List Wait)) (passed : List ℕ) → length rlv ≡ length ends → length waits ≡ length rlv → passed ≡ replicate (length rlv) 0 → AreWithin ends items →
+    ((k : ℕ) → k < length rlv → slice_get waits k ≡ Some (ascending wait_at (waits_at k (slice_index rlv k) 0 items))) → AreQueued ends rlv items waits passed
+queued ends rlv items waits passed wide many none within each = record {
+  many = omega (arith, many, wide);
+  counts = ap (λ (xs : List ℕ). length xs) none ∙ length-replicate {A = ℕ} (length rlv) 0 ∙ wide;
   listed = record {
     rising = λ k lt. subst (λ (ws : List Wait). Rises ws) (sym (waits_is waits k _ (each k (omega (arith, lt, many))))) (rises (ascending wait_at (waits_at k (slice_index rlv k) 0 items)) (ascending-rising wait_at (waits_at k (slice_index rlv k) 0 items)));
     listed = λ k i x lt is above. there k i x (omega (arith, lt, wide)) is (waits_above k (slice_index rlv k) x above);
@@ -195,18 +203,16 @@ opened elv rlv items waits nexts passed waiting narrow wide many cursors none co
   met = record {
     upto = λ k lt. let at = zero_of k in omega (arith, at);
     met = λ k w lt m. absurd (subst (λ (n : ℕ). Member w (take n (waits_in waits k))) (zero_of k) m);
-    unmet = λ i x is w covered. let o = all x (get_member items i x is) in (
+    unmet = λ i x is w covered. let o = within i x is in (
       x.stream,
-      omega (arith, o.below, wide),
-      subst (λ (n : ℕ). Member (wait_of x.stream i x) (drop n (waits_in waits x.stream))) (sym (zero_of x.stream)) (there x.stream i x (omega (arith, o.below, wide)) is (waits_own (slice_index rlv x.stream) x)),
+      omega (arith, o.stream, wide),
+      subst (λ (n : ℕ). Member (wait_of x.stream i x) (drop n (waits_in waits x.stream))) (sym (zero_of x.stream)) (there x.stream i x (omega (arith, o.stream, wide)) is (waits_own (slice_index rlv x.stream) x)),
     );
   };
-  unstarted = count ∙ sym (all_wait items (λ x m. (all x m).waits)).0;
-  started = sym (all_wait items (λ x m. (all x m).waits)).1;
 }
   where
     zero_of : (k : ℕ) → slice_index passed k ≡ 0
-    zero_of k = ap (λ (xs : List ℕ). slice_index xs k) none ∙ zero_at (length elv) k
+    zero_of k = ap (λ (xs : List ℕ). slice_index xs k) none ∙ zero_at (length rlv) k
 
     there : (k i : ℕ) (x : Item) → k < length rlv → slice_get items i ≡ Some x → waits_for k (slice_index rlv k) x ≡ true → Member (wait_of k i x) (waits_in waits k)
     there k i x lt is w =

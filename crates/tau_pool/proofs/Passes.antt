@@ -9,7 +9,7 @@ use Rattle.std.proofs.lemmas.List.{length-drop, get_or-set_same, get_or-set_othe
 use Rattle.tau_base.specs.Vectors.{AtMost, covers}
 use Rattle.tau_base.proofs.Vectors.{at_most-covers, covers-at_most}
 use Rattle.tau_model.specs.History.{Member}
-use Rattle.tau_pool.specs.declared.item.Item.{Item}
+use Rattle.tau_pool.specs.Item.{Item}
 use Rattle.tau_pool.specs.declared.waits.Wait.{Wait}
 use Rattle.tau_pool.specs.declared.pass.Pass.{Pass}
 use Rattle.tau_pool.specs.Items.{is_waiting}

@@ -4,7 +4,7 @@ use Rattle.std.specs.Prelude.{Some, slice_get, nat_lt, ◌==◌, if◌then◌els
 use Rattle.std.proofs.Math.ListN.{set}
 use Rattle.std.proofs.lemmas.Bool.{cases_eq}
 use Rattle.tau_model.specs.History.{Member}
-use Rattle.tau_pool.specs.declared.item.Item.{Item}
+use Rattle.tau_pool.specs.Item.{Item}
 use Rattle.tau_pool.specs.declared.item.Stage.{Stage}
 use Rattle.tau_pool.specs.declared.item.Stage.TheVariants.{Finished}
 use Rattle.tau_pool.specs.Items.{is_left}

@@ -1,6 +1,6 @@
 -- The first record of a stream that is left.
 use Rattle.std.specs.Prelude.{ℕ, suc, ◌==◌, List, [], ◌∷◌, Option, Some, None, if◌then◌else◌}
-use Rattle.tau_pool.specs.declared.item.Item.{Item}
+use Rattle.tau_pool.specs.Item.{Item}
 use Rattle.tau_pool.specs.Passing.{is_passed}
 
 -- the place of the first, where these begin at place i, that is of a higher stream, or of stream j and left

@@ -4,7 +4,7 @@ use Rattle.tau_base.specs.Vectors.{covers}
 use Rattle.tau_record.specs.declared.entry.Entry.{Entry}
 use Rattle.tau_record.specs.declared.entry.Entry.TheVariants.{Written, Command, Anchor, Catalogue}
 use Rattle.tau_record.specs.declared.entry.Placed.{Placed}
-use Rattle.tau_pool.specs.declared.item.Item.{Item}
+use Rattle.tau_pool.specs.Item.{Item}
 use Rattle.tau_pool.specs.declared.item.Stage.{Stage}
 use Rattle.tau_pool.specs.declared.item.Stage.TheVariants.{Waiting, Flying, Finished}
 

@@ -1,8 +1,8 @@
 -- What holds of the pools between two calls.
-use Rattle.std.specs.Prelude.{ℕ, ◌≡◌, ◌≤◌, ◌<◌, true, List, [], length, take, drop, slice_get, slice_index, slice_index_or, Some}
+use Rattle.std.specs.Prelude.{ℕ, ◌≡◌, ◌≤◌, ◌<◌, Bool, true, List, [], length, take, drop, slice_get, slice_index, slice_index_or, Some}
 use Rattle.tau_base.specs.Vectors.{AtMost}
 use Rattle.tau_model.specs.History.{Member}
-use Rattle.tau_pool.specs.declared.item.Item.{Item}
+use Rattle.tau_pool.specs.Item.{Item}
 use Rattle.tau_pool.specs.declared.waits.Wait.{Wait}
 use Rattle.tau_pool.specs.Items.{is_waiting}
 use Rattle.tau_pool.specs.First.{first_from, reach_one}
@@ -41,16 +41,20 @@ pub record AreListed (ends rlv : List ℕ) (items : List Item) (waits : List (Li
   pub rising : AreRising waits
   pub listed : (k i : ℕ) (x : Item) → k < length ends → slice_get items i ≡ Some x → slice_index rlv k < slice_index x.dep k → Member (wait_of k i x) (waits_in waits k)
 
-pub record IsKept (ends rlv : List ℕ) (items : List Item) (waits : List (List Wait)) (nexts passed : List ℕ) (waiting flying : ℕ) : Type 0 where
+-- the lists of what waits, and how many of each are passed over
+pub record AreQueued (ends rlv : List ℕ) (items : List Item) (waits : List (List Wait)) (passed : List ℕ) : Type 0 where
+  pub many : length waits ≡ length ends
+  pub counts : length passed ≡ length ends
+  pub listed : AreListed ends rlv items waits
+  pub met : IsMet rlv items waits passed
+
+pub record IsKept (ends rlv : List ℕ) (items : List Item) (waits : List (List Wait)) (nexts passed : List ℕ) (waiting flying : ℕ) (listed : Bool) : Type 0 where
   pub narrow : length ends ≤ 16
   pub wide : length rlv ≡ length ends
-  pub many : length waits ≡ length ends
   pub cursors : length nexts ≡ length ends
-  pub counts : length passed ≡ length ends
   pub ordered : Ordered items
   pub within : AreWithin ends items
   pub reached : IsReached ends rlv items nexts
-  pub listed : AreListed ends rlv items waits
-  pub met : IsMet rlv items waits passed
+  pub queued : listed ≡ true → AreQueued ends rlv items waits passed
   pub unstarted : waiting ≡ waiting_in items
   pub started : flying ≡ flying_in items

@@ -2,7 +2,7 @@
 use Rattle.std.specs.Prelude.{ℕ, suc, ◌≡◌, ◌≤◌, ◌<◌, ◌⊎◌, Bool, true, false, ◌&&◌, nat_lt, ◌==◌, List, [], ◌∷◌, slice_get, slice_index, Option, Some, None, if◌then◌else◌}
 use Rattle.tau_base.specs.Vectors.{covers}
 use Rattle.tau_model.specs.History.{Member}
-use Rattle.tau_pool.specs.declared.item.Item.{Item}
+use Rattle.tau_pool.specs.Item.{Item}
 use Rattle.tau_pool.specs.declared.waits.Wait.{Wait}
 use Rattle.tau_pool.specs.declared.pass.Pass.{Pass}
 use Rattle.tau_pool.specs.Items.{is_left, is_waiting}

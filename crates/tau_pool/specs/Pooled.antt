@@ -1,7 +1,7 @@
 -- The pools as a value, and what their calls do.
 use Rattle.std.specs.Prelude.{ℕ, ◌≡◌, ◌≤◌, ◌<◌, ◌+◌, ◌⊎◌, true, List, [], ◌∷◌, length, slice_get, slice_set, slice_index, Some, if◌then◌else◌}
 use Rattle.tau_base.specs.Vectors.{AtMost}
-use Rattle.tau_pool.specs.declared.item.Item.{Item}
+use Rattle.tau_pool.specs.Item.{Item}
 use Rattle.tau_pool.specs.declared.item.Job.{Job}
 use Rattle.tau_pool.specs.declared.item.Stage.{Stage}
 use Rattle.tau_pool.specs.declared.item.Stage.TheVariants.{Flying, Finished}

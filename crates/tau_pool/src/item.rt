@@ -1,8 +1,9 @@
 //! What the pools keep of a taken record.
 ghost use Rattle.std.specs.Prelude.{◌≡◌, ◌≤◌, ◌++◌, ◌∷◌, [], Some, None, length, IfOk, IfSome, IsNone, OnOk};
 ghost use Rattle.tau_base.specs.declared.limits.TheConstants.{MAX_STREAMS};
-ghost use Rattle.tau_pool.specs.Items.{is_left, is_waiting, dep_of, unstarted, with_item, item_of, items_in, items_from};
+ghost use Rattle.tau_pool.specs.Items.{is_left, is_waiting, dep_of, with_item, item_of, items_in, items_from};
 
+use crate::items::Items;
 use std::alloc::Global;
 use tau_base::{Listed, Lv, NoMemory};
 use tau_record::{Entry, Placed};
@@ -42,21 +43,6 @@ impl Stage {
     }
 }
 
-/// A taken record among all of the log, by stream and place.
-#[derive(Clone, Copy, Debug, PartialEq, Eq)]
-pub struct Item {
-    /// Its stream.
-    pub stream: u8,
-    /// Its number among the records of its stream, from 0.
-    pub index: usize,
-    /// Where it starts.
-    pub start: u64,
-    /// Its vector.
-    pub dep: Lv,
-    /// Where it stands.
-    pub stage: Stage,
-}
-
 /// A record that was given to be redone.
 #[derive(Clone, Copy, Debug, PartialEq, Eq)]
 pub struct Job {
@@ -81,39 +67,15 @@ fn dep_of(entry: &Entry) -> Option<&Lv>
     }
 }
 
-/// Puts a record after the others.
-fn put_item(
-    items: &mut Vec<Item>,
-    stream: u8,
-    index: usize,
-    start: u64,
-    dep: &Lv,
-) -> Result<(), NoMemory>
-    ensures { OnOk result (items.new.items ≡ items.old.items ++ unstarted stream index start dep.now ∷ []) }
-{
-    match items.reserve(1) {
-        Ok(()) => {}
-        Err(_) => return Err(NoMemory),
-    }
-    items.push_reserved(Item {
-        stream,
-        index,
-        start,
-        dep: *dep,
-        stage: Stage::Waiting,
-    });
-    Ok(())
-}
-
 /// Puts a record after the others, where it is taken.
 fn put_record(
-    items: &mut Vec<Item>,
+    items: &mut Items,
     elv: &Lv,
     stream: u8,
     index: usize,
     placed: &Placed,
 ) -> Result<(), NoMemory>
-    ensures { OnOk result (items.new.items ≡ items.old.items ++ with_item (item_of elv.now stream index placed.now) []) }
+    ensures { OnOk result (items.new ≡ items.old ++ with_item (item_of elv.now stream index placed.now) []) }
 {
     match dep_of(&placed.entry) {
         None => Ok(()),
@@ -121,19 +83,19 @@ fn put_record(
             if !elv.covers(dep) {
                 return Ok(());
             }
-            put_item(items, stream, index, placed.start, dep)
+            items.put(stream, index, placed.start, dep)
         }
     }
 }
 
 /// Puts the taken records of a stream after the others.
 fn put_stream(
-    items: &mut Vec<Item>,
+    items: &mut Items,
     elv: &Lv,
     stream: u8,
     records: &[Placed],
 ) -> Result<(), NoMemory>
-    ensures { OnOk result (items.new.items ≡ items.old.items ++ items_in elv.now stream 0 records.now) }
+    ensures { OnOk result (items.new ≡ items.old ++ items_in elv.now stream 0 records.now) }
 {
     for (index, placed) in records.iter().enumerate() {
         match put_record(items, elv, stream, index, placed) {
@@ -144,16 +106,28 @@ fn put_stream(
     Ok(())
 }
 
+/// How many records the streams have.
+fn records_in(streams: &[Listed<Placed>]) -> usize {
+    let mut count = 0usize;
+    for records in streams {
+        count = count.saturating_add(records.as_slice().len());
+    }
+    count
+}
+
 /// The taken records of all streams, none of them started.
 pub(crate) fn items_of(
     alloc: Global,
     elv: &Lv,
     streams: &[Listed<Placed>],
-) -> Result<Vec<Item>, NoMemory>
+) -> Result<Items, NoMemory>
     requires { length streams.now ≤ MAX_STREAMS }
-    ensures { IfOk result (λ items. items.items ≡ items_from elv.now 0 streams.now) }
+    ensures { IfOk result (λ items. items ≡ items_from elv.now 0 streams.now) }
 {
-    let mut items = Vec::new(alloc);
+    let mut items = match Items::with_room(alloc, records_in(streams), elv.width()) {
+        Ok(items) => items,
+        Err(_) => return Err(NoMemory),
+    };
     for (j, records) in streams.iter().enumerate() {
         match put_stream(&mut items, elv, j as u8, records.as_slice()) {
             Ok(()) => {}

@@ -1,12 +1,12 @@
 //! Passing over what waits for a stream.
 ghost use Rattle.std.specs.Prelude.{◌≡◌, ◌≤◌, ℕ, true, length, drop, slice_get, Some, IsNone, IfSome};
 ghost use Rattle.tau_base.specs.Vectors.{AtMost};
-ghost use Rattle.tau_pool.specs.declared.item.Item.{Item};
+ghost use Rattle.tau_pool.specs.Item.{Item};
 ghost use Rattle.tau_pool.specs.Items.{is_waiting};
 ghost use Rattle.tau_pool.specs.Passing.{is_ready, pass_from};
 ghost use Rattle.tau_pool.specs.Kept.{IsMet, AreRising};
 
-use crate::item::Item;
+use crate::items::Items;
 use crate::waits::Wait;
 use tau_base::{Listed, Lv};
 
@@ -19,18 +19,8 @@ pub struct Pass {
     pub found: Option<usize>,
 }
 
-/// Whether the record at this place is not started, and covered.
-pub fn is_ready(items: &[Item], rlv: &Lv, place: usize) -> bool
-    ensures { result ≡ is_ready items.now rlv.now place }
-{
-    match items.get(place) {
-        None => false,
-        Some(item) => item.stage.is_waiting() && rlv.covers(&item.dep),
-    }
-}
-
 /// Passes over what waits for a stream of which so much is recovered, until a record is ready.
-pub fn pass_on(waits: &[Wait], passed: usize, items: &[Item], rlv: &Lv, reach: u64) -> Pass
+pub fn pass_on(waits: &[Wait], passed: usize, items: &Items, rlv: &Lv, reach: u64) -> Pass
     requires { passed ≤ length waits.now }
     ensures { result ≡ pass_from items.now rlv.now reach passed (drop passed waits.now) }
 {
@@ -42,7 +32,7 @@ pub fn pass_on(waits: &[Wait], passed: usize, items: &[Item], rlv: &Lv, reach: u
                 found: None,
             };
         }
-        if is_ready(items, rlv, wait.item) {
+        if items.is_ready(wait.item, rlv) {
             return Pass {
                 passed: p,
                 found: Some(wait.item),
@@ -57,7 +47,7 @@ pub fn pass_on(waits: &[Wait], passed: usize, items: &[Item], rlv: &Lv, reach: u
 
 /// The first ready record, in the order of the streams that it waited for last. What can't be ready is passed over.
 pub fn next_ready(
-    items: &[Item],
+    items: &Items,
     rlv: &Lv,
     waits: &[Listed<Wait>],
     passed: &mut Vec<usize>,
@@ -75,6 +65,19 @@ pub fn next_ready(
         let pass = pass_on(waits[k].as_slice(), passed[k], items, rlv, rlv.get(k));
         passed[k] = pass.passed;
         if let Some(place) = pass.found {
+            return Some(place);
+        }
+    }
+    None
+}
+
+/// The first ready record, by stream and place.
+pub fn first_ready(items: &Items, rlv: &Lv) -> Option<usize>
+    ensures found { IfSome result (λ i. is_ready items.now rlv.now i ≡ true) }
+    ensures none { IsNone result → (i : ℕ) (x : Item) → slice_get items.now i ≡ Some x → is_waiting x.stage ≡ true → AtMost x.dep rlv.now → ⊥ }
+{
+    for place in 0..items.len() {
+        if items.is_ready(place, rlv) {
             return Some(place);
         }
     }

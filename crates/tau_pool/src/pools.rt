@@ -1,16 +1,17 @@
 //! The pools of a recovery.
-ghost use Rattle.std.specs.Prelude.{◌≡◌, ◌≢◌, ◌≤◌, ℕ, true, length, replicate, slice_get, IfOk, IfSome, IsNone, Some};
+ghost use Rattle.std.specs.Prelude.{◌≡◌, ◌≢◌, ◌≤◌, ◌<◌, ◌+◌, ℕ, true, length, replicate, slice_get, IfOk, IfSome, IsNone, Some};
 ghost use Rattle.tau_scan.specs.Reading.{IsLog};
-ghost use Rattle.tau_pool.specs.declared.item.Item.{Item};
+ghost use Rattle.tau_pool.specs.Item.{Item};
 ghost use Rattle.tau_pool.specs.declared.item.Job.{Job};
 ghost use Rattle.tau_pool.specs.Items.{is_left, items_from};
-ghost use Rattle.tau_pool.specs.Passing.{is_ready};
+ghost use Rattle.tau_pool.specs.Passing.{is_passed, is_ready};
+ghost use Rattle.tau_pool.specs.First.{first_from};
 ghost use Rattle.tau_pool.specs.Kept.{AreWithin, IsReached};
 ghost use Rattle.tau_pool.specs.Pooled.{IsRecovered, IsStarted, IsFlying, IsFinished, IsNotYet, IsDone, NoneReady, IsFirstLeft, flying_in};
 
-use crate::first::{first_left, reach_of};
-use crate::item::{Item, Job, Stage, items_of};
-use crate::pass::{is_ready, next_ready};
+use crate::item::{Job, Stage, items_of};
+use crate::items::Items;
+use crate::pass::{first_ready, next_ready};
 use crate::waits::{Wait, waits_of};
 use std::alloc::Global;
 use std::marker::Model;
@@ -31,12 +32,15 @@ pub enum Next {
 /// The taken records of a log: which are started and finished, and how far each stream is recovered.
 #[derive(Debug, Drop)]
 pub struct Pools {
+    alloc: Global,
     ends: Lv,
     rlv: Lv,
-    /// By stream and place.
-    items: Vec<Item>,
+    items: Items,
     /// For each stream the place of its first record that is left, or of one after it.
     nexts: Vec<usize>,
+    /// Whether what waits for each stream is listed. It is when a ready record is first asked for: who names the places
+    /// of records needs no lists.
+    listed: bool,
     /// For each stream what waits for it, in the order of what is waited for.
     waits: Vec<Listed<Wait>>,
     /// How many of these are passed over.
@@ -51,9 +55,9 @@ impl Model for Pools {
 
     ghost Value = { Pooled };
 
-    ghost view = { λ p. record { ends = p.ends; rlv = p.rlv; items = p.items.items } };
+    ghost view = { λ p. record { ends = p.ends; rlv = p.rlv; items = p.items } };
 
-    ghost invariant = { λ p. IsKept p.ends p.rlv p.items.items p.waits.items p.nexts.items p.passed.items p.waiting p.flying };
+    ghost invariant = { λ p. IsKept p.ends p.rlv p.items p.waits.items p.nexts.items p.passed.items p.waiting p.flying p.listed };
 }
 
 impl Pools {
@@ -67,16 +71,16 @@ impl Pools {
         let n = log.elv.width();
         let items = items_of(alloc, &log.elv, log.streams.as_slice())?;
         let (rlv, nexts) = reached_of(alloc, &log.elv, &items)?;
-        let waits = waits_of(alloc, &items, &rlv)?;
-        let passed = zeros(alloc, n)?;
         let waiting = items.len();
         Ok(Pools {
+            alloc,
             ends: log.elv,
             rlv,
             items,
             nexts,
-            waits,
-            passed,
+            listed: false,
+            waits: Vec::new(alloc),
+            passed: Vec::new(alloc),
             waiting,
             flying: 0,
         })
@@ -121,12 +125,7 @@ impl Pools {
         if !self.is_ready(place) {
             return None;
         }
-        let item = self.items.get(place)?;
-        Some(Job {
-            stream: item.stream,
-            index: item.index,
-            place,
-        })
+        Some(self.items.job(place))
     }
 
     /// Whether the record at this place is not started, and covered.
@@ -134,12 +133,18 @@ impl Pools {
         ensures same { result ≡ is_ready self.now.items self.now.rlv place }
         ensures recovered { IsRecovered self.now.ends self.now.rlv self.now.items }
     {
-        is_ready(&self.items, &self.rlv, place)
+        self.items.is_ready(place, &self.rlv)
     }
 
     /// The place of the first record of a stream that is left, or of one after the stream.
-    pub fn first_of(&self, stream: usize) -> Option<usize> {
-        self.nexts.get(stream).copied()
+    pub fn first_of(&self, stream: usize) -> Option<usize>
+        ensures some { IfSome result (λ place. place ≡ first_from stream 0 self.now.items) }
+        ensures none { IsNone result → length self.now.ends ≤ stream }
+    {
+        if stream >= self.ends.width() {
+            return None;
+        }
+        Some(self.nexts[stream])
     }
 
     /// Whether each record is started.
@@ -170,6 +175,38 @@ impl Pools {
         ensures none { IsNone result → NoneReady self.old }
         ensures recovered { IsRecovered self.new.ends self.new.rlv self.new.items }
     {
+        self.list();
+        self.next_listed()
+    }
+
+    /// Lists what waits for each stream, where that is not listed yet. Out of memory it is not.
+    fn list(&mut self)
+        ensures { self.new ≡ self.old }
+    {
+        if self.listed {
+            return;
+        }
+        let Ok(waits) = waits_of(self.alloc, &self.items, &self.rlv) else {
+            return;
+        };
+        let Ok(passed) = zeros(self.alloc, self.rlv.width()) else {
+            return;
+        };
+        self.waits = waits;
+        self.passed = passed;
+        self.listed = true;
+    }
+
+    /// The place of a ready record, by the lists or else by looking at each record.
+    fn next_listed(&mut self) -> Option<usize>
+        ensures same { self.new ≡ self.old }
+        ensures found { IfSome result (λ i. is_ready self.old.items self.old.rlv i ≡ true) }
+        ensures none { IsNone result → NoneReady self.old }
+        ensures recovered { IsRecovered self.new.ends self.new.rlv self.new.items }
+    {
+        if !self.listed {
+            return first_ready(&self.items, &self.rlv);
+        }
         next_ready(&self.items, &self.rlv, &self.waits, &mut self.passed)
     }
 
@@ -179,13 +216,8 @@ impl Pools {
         ensures started { IsStarted self.old result self.new }
         ensures recovered { IsRecovered self.new.ends self.new.rlv self.new.items }
     {
-        let item = &mut self.items[place];
-        item.stage = Stage::Flying;
-        let job = Job {
-            stream: item.stream,
-            index: item.index,
-            place,
-        };
+        let job = self.items.job(place);
+        self.items.set_stage(place, Stage::Flying);
         self.waiting -= 1;
         self.flying += 1;
         job
@@ -198,14 +230,12 @@ impl Pools {
         ensures kept { (other : Job) → IsFlying self.old other → other.place ≢ job.place → IsFlying self.new other }
         ensures recovered { IsRecovered self.new.ends self.new.rlv self.new.items }
     {
-        let item = &mut self.items[job.place];
-        item.stage = Stage::Finished;
-        let stream = item.stream;
+        self.items.set_stage(job.place, Stage::Finished);
         self.flying -= 1;
-        let j = usize::from(stream);
-        let next = first_left(&self.items, stream, self.nexts[j]);
+        let j = usize::from(job.stream);
+        let next = self.items.first_left(job.stream, self.nexts[j]);
         self.nexts[j] = next;
-        let reach = reach_of(&self.items, stream, next, self.ends.get(j));
+        let reach = self.items.reach_of(job.stream, next, self.ends.get(j));
         self.rlv.set(j, reach);
     }
 
@@ -229,13 +259,9 @@ impl Pools {
         ensures some { IfSome result (λ job. IsFirstLeft self.now.items job) }
         ensures none { IsNone result → (i : ℕ) (x : Item) → slice_get self.now.items i ≡ Some x → is_left x.stage ≡ true → ⊥ }
     {
-        for (place, item) in self.items.iter().enumerate() {
-            if item.stage.is_left() {
-                return Some(Job {
-                    stream: item.stream,
-                    index: item.index,
-                    place,
-                });
+        for place in 0..self.items.len() {
+            if self.items.is_left(place) {
+                return Some(self.items.job(place));
             }
         }
         None
@@ -252,8 +278,20 @@ fn zeros(alloc: Global, n: usize) -> Result<Vec<usize>, NoMemory>
     }
 }
 
+/// The place of the first record that is of a higher stream than `j`, or of it and left, where nothing of stream `j` is
+/// left before a place.
+fn first_after(items: &Items, j: u8, from: usize) -> usize
+    requires from { from ≤ length items.now }
+    requires passed { (k : ℕ) (x : Item) → k < from → slice_get items.now k ≡ Some x → is_passed j x ≡ true }
+    ensures same { result ≡ first_from j 0 items.now }
+    ensures within { result ≤ length items.now }
+    ensures passed { (k : ℕ) (x : Item) → k < result → slice_get items.now k ≡ Some x → is_passed (j + 1) x ≡ true }
+{
+    items.first_left(j, from)
+}
+
 /// For each stream how far it is recovered, and the place of its first record that is left.
-fn reached_of(alloc: Global, ends: &Lv, items: &[Item]) -> Result<(Lv, Vec<usize>), NoMemory>
+fn reached_of(alloc: Global, ends: &Lv, items: &Items) -> Result<(Lv, Vec<usize>), NoMemory>
     requires narrow { length ends.now ≤ 16 }
     requires within { AreWithin ends.now items.now }
     ensures reached { IfOk result (λ r. IsReached ends.now r.0 items.now r.1.items) }
@@ -261,9 +299,10 @@ fn reached_of(alloc: Global, ends: &Lv, items: &[Item]) -> Result<(Lv, Vec<usize
 {
     let mut rlv = *ends;
     let mut nexts = Vec::new(alloc);
+    let mut next = 0usize;
     for j in 0..ends.width() {
-        let next = first_left(items, j as u8, 0);
-        let reach = reach_of(items, j as u8, next, ends.get(j));
+        next = first_after(items, j as u8, next);
+        let reach = items.reach_of(j as u8, next, ends.get(j));
         match nexts.push(next) {
             Ok(()) => {}
             Err(_) => return Err(NoMemory),

@@ -11,7 +11,7 @@ use Rattle.tau_model.proofs.Reorder.{reordered-itself, reordered-trans, reordere
 use Rattle.tau_model.proofs.Replays.{reordered-behind}
 use Rattle.tau_scan.specs.declared.log.Log.{Log}
 use Rattle.tau_scan.specs.Taken.{Kept}
-use Rattle.tau_pool.specs.declared.item.Item.{Item}
+use Rattle.tau_pool.specs.Item.{Item}
 use Rattle.tau_pool.specs.declared.item.Stage.{Stage}
 use Rattle.tau_pool.specs.declared.item.Stage.TheVariants.{Finished}
 use Rattle.tau_pool.specs.Items.{is_left}

@@ -11,7 +11,7 @@ use Rattle.tau_record.specs.declared.entry.Entry.TheVariants.{Written, Command, 
 use Rattle.tau_record.specs.declared.entry.Placed.{Placed}
 use Rattle.tau_scan.specs.declared.log.Log.{Log}
 use Rattle.tau_scan.specs.Taken.{Kept, kept_as, kept_in, kept_from, taken}
-use Rattle.tau_pool.specs.declared.item.Item.{Item}
+use Rattle.tau_pool.specs.Item.{Item}
 use Rattle.tau_pool.specs.declared.item.Stage.TheVariants.{Waiting, Flying, Finished}
 use Rattle.tau_pool.specs.declared.item.Stage.{Stage}
 use Rattle.tau_pool.specs.Items.{is_left, is_waiting, dep_of, item_as, with_item, items_in, items_from}

@@ -9,7 +9,7 @@ use Rattle.tau_model.specs.Tables.{IsTablesOf}
 use Rattle.tau_scan.specs.declared.log.Log.{Log}
 use Rattle.tau_scan.specs.Taken.{Kept}
 use Rattle.tau_pool.specs.declared.item.Job.{Job}
-use Rattle.tau_pool.specs.declared.item.Item.{Item}
+use Rattle.tau_pool.specs.Item.{Item}
 use Rattle.tau_pool.specs.Items.{is_left, items_from}
 use Rattle.tau_pool.specs.Pooled.{Pooled, IsRecovered, IsStarted, IsFinished, NoneReady}
 use Rattle.tau_replay.specs.declared.turns.Replay.{Replay}

@@ -7,7 +7,7 @@ use Rattle.tau_model.specs.Redo.{redo_contents}
 use Rattle.tau_scan.specs.declared.log.Log.{Log}
 use Rattle.tau_record.specs.declared.entry.Placed.{Placed}
 use Rattle.tau_scan.specs.Taken.{Kept, kept_as, taken}
-use Rattle.tau_pool.specs.declared.item.Item.{Item}
+use Rattle.tau_pool.specs.Item.{Item}
 use Rattle.tau_pool.specs.declared.item.Job.{Job}
 use Rattle.tau_pool.specs.Items.{is_left, is_flying}
 use Rattle.tau_pool.specs.Pooled.{Pooled, IsRecovered, IsFlying, waiting_in, flying_in}

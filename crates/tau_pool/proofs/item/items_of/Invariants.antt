@@ -4,4 +4,4 @@ use Rattle.tau_pool.specs.Items.{items_from}
 use Rattle.tau_pool.proofs.item.items_of.Given as goal
 
 abbrev pub invariant-loop-j : goal.invariant-loop-j
-invariant-loop-j l = l.items.items ++ items_from l.elv l.j (drop l.j l.streams) ≡ items_from l.elv 0 l.streams
+invariant-loop-j l = l.items ++ items_from l.elv l.j (drop l.j l.streams) ≡ items_from l.elv 0 l.streams

@@ -4,7 +4,7 @@ use Rattle.std.specs.Prelude.{None, true}
 use Rattle.tau_model.proofs.Reorder.{reordered-itself}
 use Rattle.tau_model.specs.History.{Member, Reordered}
 use Rattle.tau_scan.specs.Taken.{Kept, taken}
-use Rattle.tau_pool.specs.declared.item.Item.{Item}
+use Rattle.tau_pool.specs.Item.{Item}
 use Rattle.tau_pool.specs.Items.{is_waiting, items_from}
 use Rattle.tau_pool.specs.Pooled.{flying_in}
 use Rattle.tau_pool.proofs.Counts.{none-flying}

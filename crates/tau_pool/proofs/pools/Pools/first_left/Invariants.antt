@@ -1,7 +1,7 @@
 -- No record so far is left.
 use Rattle.std.proofs.Common.{ℕ, ◌≡◌, ◌<◌, true, Some}
 use Rattle.std.specs.Prelude.{slice_get}
-use Rattle.tau_pool.specs.declared.item.Item.{Item}
+use Rattle.tau_pool.specs.Item.{Item}
 use Rattle.tau_pool.specs.Items.{is_left}
 use Rattle.tau_pool.proofs.pools.Pools.first_left.Given as goal
 

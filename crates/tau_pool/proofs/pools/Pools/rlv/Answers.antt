@@ -8,4 +8,4 @@ pub returns-clause-recovered : goal.returns-clause-recovered
 returns-clause-recovered c =
     let k = c.self.invariant in
     subst (λ (p : Pooled). IsRecovered p.ends c.self.inside.rlv p.items) c.self.view_is
-    (recovered c.self.inside.ends c.self.inside.rlv c.self.inside.items.items c.self.inside.nexts.items k.wide k.ordered k.within k.reached)
+    (recovered c.self.inside.ends c.self.inside.rlv c.self.inside.items c.self.inside.nexts.items k.wide k.ordered k.within k.reached)
