@@ -25,7 +25,7 @@ use Rattle.tau_core.specs.View.{setting_of, Hidden, anchors_in, stop_in, core_of
 use Rattle.tau_core.specs.Stands.{Stands, anchors_at, SoundStream}
 use Rattle.tau_core.specs.Pieces.{IsPieceOf, Paired, Spelled}
 use Rattle.tau_core.proofs.Lists.{reads-changed, reads-same, each-got, each-else, got-same, got-other, got-first, member-snoc}
-use Rattle.tau_core.proofs.More.{Grows, piece-more, paired-more, spelled-more, end-low}
+use Rattle.tau_core.proofs.AnchorNames.{Grows, piece-more, paired-more, spelled-more, end-low}
 use Rattle.tau_core.proofs.Spellings.{paired-append}
 use Rattle.tau_core.proofs.Positions.{kept}
 

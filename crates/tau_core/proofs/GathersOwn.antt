@@ -23,7 +23,7 @@ use Rattle.tau_core.specs.Pieces.{IsPieceOf, Paired, Spelled}
 use Rattle.tau_core.specs.Gather.{Moves}
 use Rattle.tau_core.proofs.Lists.{reads-changed, reads-same, each-got, each-else, got-same}
 use Rattle.tau_core.proofs.Positions.{kept}
-use Rattle.tau_core.proofs.Moved.{own_moved, own-moved, own-none}
+use Rattle.tau_core.proofs.GatheredItems.{own_moved, own-moved, own-none}
 use Rattle.tau_core.proofs.Spellings.{moved-within, Split, paired-split, chain-of, spelled-pieces, spelled-append, chain-still}
 
 module _ (p : Plain) (K : List (Act Txn)) (h : Hidden) (g : Stands p K h) (j : ℕ) (there : j < p.load.streams) (going : stop_in (slice_get p.streams j) ≡ None) where

@@ -25,8 +25,8 @@ pub mod Lists
 pub mod Loads
 pub mod Lowest
 pub mod Merged
-pub mod More
-pub mod Moved
+pub mod AnchorNames
+pub mod GatheredItems
 pub mod NextLock
 pub mod Numbers
 pub mod Opens

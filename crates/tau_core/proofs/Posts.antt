@@ -13,7 +13,7 @@ use Rattle.tau_core.specs.Plain.{PlainSeat}
 use Rattle.tau_core.specs.State.{Plain}
 use Rattle.tau_core.specs.View.{Hidden, core_of}
 use Rattle.tau_core.specs.Stands.{Stands, anchors_at}
-use Rattle.tau_core.proofs.More.{end-low}
+use Rattle.tau_core.proofs.AnchorNames.{end-low}
 use Rattle.tau_core.proofs.Seats.{seat-worker}
 
 module _ (p : Plain) (K : List (Act Txn)) (h : Hidden) (g : Stands p K h) (w : ℕ) (s : PlainSeat) (t : Act Txn) (is : slice_get p.seats w ≡ Some s)

@@ -15,7 +15,7 @@ use Rattle.tau_core.specs.Workers.{StaysShort}
 use Rattle.tau_core.specs.Begins.{RoomMade, BeginsNext, Undone}
 use Rattle.tau_core.specs.Firsts.{Rests}
 use Rattle.tau_core.proofs.Lists.{got-same, set-got}
-use Rattle.tau_core.proofs.Moved.{set-set}
+use Rattle.tau_core.proofs.GatheredItems.{set-set}
 use Rattle.tau_core.proofs.Starts.{room-core, room-stands}
 use Rattle.tau_core.proofs.WorkerSteps.{short-unmoved}
 

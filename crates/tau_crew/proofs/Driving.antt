@@ -14,7 +14,7 @@ use Rattle.tau_rule.specs.Positions.{sees_to}
 use Rattle.tau_desk.specs.Manages.{told_raised}
 use Rattle.tau_desk.specs.Seats.{Manages, PlainManagerSeat}
 use Rattle.tau_crew_facts.specs.Writers.{CountsNow, HasWritten, IsCurrent, IsManaging, OnlyNow, SeenNow}
-use Rattle.tau_crew_facts.proofs.Managing.{broke, bytes-append, flushed, gathers, gathers-short}
+use Rattle.tau_crew_facts.proofs.ManagerWriter.{broke, bytes-append, flushed, gathers, gathers-short}
 use Rattle.tau_crew.specs.Gathering.{AreLong, GathersMore, raised_in, taken_in}
 use Rattle.tau_crew.specs.Driving.{IsDriven, IsDrivenShort, IsFlushed}
 use Rattle.tau_crew.proofs.Gathering.{long-back}

@@ -21,7 +21,7 @@ use Rattle.tau_step.proofs.Bodies.{five}
 use Rattle.tau_desk.specs.Manages.{GathersBox, GathersOwn, OnlyRoom, gone, managed_in, managed_in_share}
 use Rattle.tau_desk.specs.Seats.{Manages, PlainManagerSeat}
 use Rattle.tau_rule.specs.Steps.{first_role}
-use Rattle.tau_crew_facts.proofs.Managing.{bytes-append}
+use Rattle.tau_crew_facts.proofs.ManagerWriter.{bytes-append}
 use Rattle.tau_crew.specs.Gathering.{AreLong, GathersMore, raised_in, taken_in}
 
 pub long-append : (xs ys : List Piece) → AreLong xs → AreLong ys → AreLong (xs ++ ys)

@@ -12,7 +12,7 @@ use Rattle.tau_core.specs.Opens.{calls_of}
 use Rattle.tau_core.specs.State.{Plain}
 use Rattle.tau_core.specs.declared.state.Load.{Load}
 use Rattle.tau_core.proofs.Lists.{got-other, got-same}
-use Rattle.tau_core.proofs.Moved.{set-set}
+use Rattle.tau_core.proofs.GatheredItems.{set-set}
 use Rattle.tau_rule.specs.Heads.{left_by, resumed, role_or, split_as, without}
 use Rattle.tau_rule.specs.Knows.{Knows}
 use Rattle.tau_rule.specs.Role.{Role, Share, role_in}

@@ -16,7 +16,7 @@ use Rattle.tau_desk.specs.Seats.{Manages, PlainManagerSeat}
 use Rattle.tau_crew_facts.specs.Closing.{EndsBy, ManagerApart, ManagerDone, ManagerKnows}
 use Rattle.tau_crew_facts.specs.Spacing.{IsSpacing, newest}
 use Rattle.tau_crew_facts.specs.Writers.{HasWritten, IsManaging, SeenNow}
-use Rattle.tau_crew_facts.proofs.Managing.{begins}
+use Rattle.tau_crew_facts.proofs.ManagerWriter.{begins}
 use Rattle.tau_crew_facts.proofs.Spacing.{spacing-begins}
 use Rattle.tau_crew.specs.Gathering.{AreLong, raised_in, taken_in}
 use Rattle.tau_crew.specs.Driving.{IsDriven, IsManagerAt, own_of}

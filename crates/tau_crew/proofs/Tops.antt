@@ -12,7 +12,7 @@ use Rattle.tau_report.specs.declared.report.RunEnd.{RunEnd}
 use Rattle.tau_core.specs.declared.opening.Opening.{Opening}
 use Rattle.tau_core.specs.State.{Plain}
 use Rattle.tau_core.specs.Opens.{Opened, OpenedFresh, catalogue_size, load_of}
-use Rattle.tau_run.specs.Facts.{catalogue_of}
+use Rattle.tau_run.specs.RecoveredFacts.{catalogue_of}
 use Rattle.tau_step.proofs.Begun.{fresh-load}
 use Rattle.tau_core.proofs.Lists.{some-at}
 use Rattle.tau_rule.specs.Steps.{Sat}

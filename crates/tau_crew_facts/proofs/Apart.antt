@@ -8,9 +8,9 @@ use Rattle.tau_stream.specs.Writer.{has_failed}
 use Rattle.tau_machine.specs.State.{Core}
 use Rattle.tau_text.specs.declared.load.Workload.{Workload}
 use Rattle.tau_core.specs.State.{Plain}
-use Rattle.tau_run.specs.Facts.{catalogue_of}
+use Rattle.tau_run.specs.RecoveredFacts.{catalogue_of}
 use Rattle.tau_run.specs.Run.{Run}
-use Rattle.tau_run.specs.Course.{IsLoadOf, IsRunOf, IsSoundLoad}
+use Rattle.tau_run.specs.CoreRun.{IsLoadOf, IsRunOf, IsSoundLoad}
 use Rattle.tau_run.proofs.Logs.{some_within}
 use Rattle.tau_crew_facts.specs.Spacing.{AreSpaced}
 use Rattle.tau_crew_facts.specs.Ends.{IsThreadEnd, IsThreadDone, AreApart}

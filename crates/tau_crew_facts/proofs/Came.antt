@@ -22,10 +22,10 @@ use Rattle.tau_core.specs.Opens.{nothing}
 use Rattle.tau_core.specs.State.{Plain}
 use Rattle.tau_core.specs.View.{core_of, setting_of}
 use Rattle.tau_core.specs.Pieces.{IsPieceOf, Paired, Spelled}
-use Rattle.tau_run.specs.Facts.{catalogue_of}
+use Rattle.tau_run.specs.RecoveredFacts.{catalogue_of}
 use Rattle.tau_run.specs.Run.{Run}
-use Rattle.tau_run.specs.Course.{AreAcks, IsLoadOf, IsRunOf, IsCourse, IsSoundLoad}
-use Rattle.tau_run.specs.Left.{HasFront, IsLeft, IsOver}
+use Rattle.tau_run.specs.CoreRun.{AreAcks, IsLoadOf, IsRunOf, IsCourse, IsSoundLoad}
+use Rattle.tau_run.specs.StopsLeave.{HasFront, IsLeft, IsOver}
 use Rattle.tau_run.specs.Turns.{Progress}
 use Rattle.tau_run.proofs.Logs.{some_within, got_within}
 use Rattle.tau_run.proofs.Start.{started}
@@ -34,7 +34,7 @@ use Rattle.tau_step.specs.Came.{CameTo}
 use Rattle.tau_step.specs.RunTold.{EachOf, Left}
 use Rattle.tau_crew_facts.specs.Writers.{HasPieces, HasWritten}
 use Rattle.tau_crew_facts.specs.Ends.{IsClosed, ManagerEnds, IsThreadEnd, IsThreadDone}
-use Rattle.tau_crew_facts.proofs.There.{pieces-spelled, paired-front, loose-unplaced, acks-all, run-there}
+use Rattle.tau_crew_facts.proofs.RunExists.{pieces-spelled, paired-front, loose-unplaced, acks-all, run-there}
 use Rattle.tau_crew_facts.proofs.Stops.{stopped_at, stops_by, stop_events, none-above, none-works, some-failed, stops-led}
 
 -- whether the disk of this writer failed

@@ -23,7 +23,7 @@ use Rattle.tau_core.specs.declared.state.Load.{Load}
 use Rattle.tau_core.specs.View.{setting_of, worker_of}
 use Rattle.tau_run.proofs.Lists.{filter_append, filter_map}
 use Rattle.tau_crew_facts.specs.Closing.{EndsBy, covered_count}
-use Rattle.tau_crew_facts.proofs.There.{record_member}
+use Rattle.tau_crew_facts.proofs.RunExists.{record_member}
 
 member-mapped : {A B : Type 0} (f : A → B) (x : A) (xs : List A) → Member x xs → Member (f x) (map f xs)
 member-mapped f x [] m = absurd m

@@ -1,11 +1,11 @@
-pub mod Managing
+pub mod ManagerWriter
 pub mod Spacing
 pub mod Telling
 pub mod Keeping
 pub mod Stops
 pub mod Lost
 pub mod Anchors
-pub mod There
+pub mod RunExists
 pub mod Came
 pub mod Done
 pub mod Closing

@@ -11,9 +11,9 @@ use Rattle.tau_machine.specs.State.{Core, Setting, Ticket}
 use Rattle.tau_machine.specs.Worker.{Worker}
 use Rattle.tau_text.specs.declared.load.Workload.{Workload}
 use Rattle.tau_core.specs.State.{Plain}
-use Rattle.tau_run.specs.Course.{IsLoadOf, IsSoundLoad}
-use Rattle.tau_run.specs.Facts.{catalogue_of}
-use Rattle.tau_run.specs.Told.{in_any_order}
+use Rattle.tau_run.specs.CoreRun.{IsLoadOf, IsSoundLoad}
+use Rattle.tau_run.specs.RecoveredFacts.{catalogue_of}
+use Rattle.tau_run.specs.RunFacts.{in_any_order}
 use Rattle.tau_rule.specs.Knows.{Knows}
 use Rattle.tau_rule.specs.Role.{Managed}
 use Rattle.tau_rule.specs.Rule.{Now}

@@ -1,7 +1,7 @@
 ghost use Rattle.std.specs.Prelude.{ℕ, ◌≡◌, ◌≤◌, ◌<◌, [], ◌∷◌, length, vec_len, IfOk, OnOk};
 ghost use Rattle.tau_base.specs.declared.limits.TheConstants.{MAX_CATALOGUE, MAX_LSN};
 ghost use Rattle.tau_text.specs.Canonical.{declarations_text};
-ghost use Rattle.tau_run.specs.Facts.{catalogue_of};
+ghost use Rattle.tau_run.specs.RecoveredFacts.{catalogue_of};
 ghost use Rattle.tau_step.specs.RunTold.{AreNew};
 
 use arrayvec::ArrayVec;

@@ -16,7 +16,7 @@ use Rattle.tau_outbox.specs.Pieces.{end_of}
 use Rattle.tau_core.specs.Pieces.{IsPieceOf, Paired}
 use Rattle.tau_core.specs.State.{Plain}
 use Rattle.tau_core.proofs.Lists.{member-snoc}
-use Rattle.tau_core.proofs.More.{end-low}
+use Rattle.tau_core.proofs.AnchorNames.{end-low}
 use Rattle.tau_core.proofs.Spellings.{Split, paired-split}
 use Rattle.tau_rule.specs.Anchoring.{IsToAnchor, anchored, anchored_view}
 use Rattle.tau_rule.specs.Places.{got_place}

@@ -18,7 +18,7 @@ use Rattle.tau_outbox.specs.Pieces.{bytes_of}
 use Rattle.tau_core.specs.Pieces.{IsPieceOf, Names, Paired}
 use Rattle.tau_core.specs.State.{Plain}
 use Rattle.tau_core.specs.View.{setting_of}
-use Rattle.tau_core.proofs.Moved.{own_moved, own-moved}
+use Rattle.tau_core.proofs.GatheredItems.{own_moved, own-moved}
 use Rattle.tau_core.proofs.Spellings.{Split, chain-of, paired-append, paired-split}
 use Rattle.tau_shown.proofs.Steps.{gives_part}
 use Rattle.tau_rule.specs.Role.{Clerking, Managed, Managing, Role, Share, Working}

@@ -26,7 +26,7 @@ use Rattle.tau_scan.specs.Taken.{Kept}
 use Rattle.tau_replay.specs.Redone.{IsOrderOf}
 use Rattle.tau_replay.proofs.Ones.{tables_one}
 use Rattle.tau_run.specs.Run.{Committed, Run, acts, means, has_ack, last_db}
-use Rattle.tau_run.specs.Facts.{IsRecovered, takes}
+use Rattle.tau_run.specs.RecoveredFacts.{IsRecovered, takes}
 use Rattle.tau_run.proofs.Lists.{member_map, map_member}
 use Rattle.tau_gen.specs.Generated.{call_of, calls_of, generated}
 use Rattle.tau_gen.specs.Sums.{rows_of, numbers}

@@ -3,7 +3,7 @@ use Rattle.std.proofs.Common.{ℕ, ◌≡◌, List, ap}
 use Rattle.tau_base.specs.declared.value.Key.{Key}
 use Rattle.tau_base.specs.declared.value.Value.{Value}
 use Rattle.tau_scan.specs.Reading.{is_of_table}
-use Rattle.tau_run.specs.Course.{IsSoundLoad}
+use Rattle.tau_run.specs.CoreRun.{IsSoundLoad}
 use Rattle.tau_run.proofs.Sources.{sound_load}
 use Rattle.tau_gen.specs.Generated.{generated}
 use Rattle.tau_gen.proofs.BenchDeclared.{bare, bare_text, bare_read, call_at, taken}

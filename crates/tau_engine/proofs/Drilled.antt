@@ -21,9 +21,9 @@ use Rattle.tau_scan.specs.Reading.{log_of}
 use Rattle.tau_scan.specs.Taken.{Kept}
 use Rattle.tau_replay.specs.Redone.{IsOrderOf}
 use Rattle.tau_run.specs.Run.{Committed, acts, means, has_ack}
-use Rattle.tau_run.specs.Facts.{AreFrom, IsRecovered, takes}
+use Rattle.tau_run.specs.RecoveredFacts.{AreFrom, IsRecovered, takes}
 use Rattle.tau_engine.specs.Drill.{AreNewDisks, ArePlanned, IsDrill, IsFound, IsNew, IsRehearsed, StopsAt, images_by, is_of, stop_at, tear_in}
-use Rattle.tau_engine.specs.Facts.{Now}
+use Rattle.tau_engine.specs.DiskFacts.{Now}
 use Rattle.tau_engine.specs.Recovery.{IsRecoveryOf}
 
 -- ---- disks in memory

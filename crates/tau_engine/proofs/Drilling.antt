@@ -8,7 +8,7 @@ use Rattle.tau_text.specs.declared.load.Workload.{Workload}
 use Rattle.tau_words.specs.declared.command.Command.{Command}
 use Rattle.tau_words.specs.declared.command.Command.TheVariants.{Drill}
 use Rattle.tau_words.specs.declared.command.Ending.{Ending}
-use Rattle.tau_run.specs.Course.{IsSoundLoad}
+use Rattle.tau_run.specs.CoreRun.{IsSoundLoad}
 use Rattle.tau_engine.specs.Drill.{DrillTells, with_turns}
 use Rattle.tau_engine.specs.Fault.{is_refusal}
 use Rattle.tau_engine.specs.Outside.{ends_drill, ends_rehearsal}

@@ -16,16 +16,16 @@ use Rattle.tau_open.proofs.Closed.{rest_back, each_back}
 use Rattle.tau_text.specs.declared.load.Turn.{Turn}
 use Rattle.tau_text.specs.declared.load.Workload.{Workload}
 use Rattle.tau_report.specs.declared.report.RunEnd.{RunEnd}
-use Rattle.tau_run.specs.Facts.{catalogue_of}
-use Rattle.tau_run.specs.Course.{IsLoadOf, IsSoundLoad}
-use Rattle.tau_run.specs.Told.{WroteFront, RunFacts, turns_of, IsByTurns}
-use Rattle.tau_run.specs.Told as ending
+use Rattle.tau_run.specs.RecoveredFacts.{catalogue_of}
+use Rattle.tau_run.specs.CoreRun.{IsLoadOf, IsSoundLoad}
+use Rattle.tau_run.specs.RunFacts.{WroteFront, RunFacts, turns_of, IsByTurns}
+use Rattle.tau_run.specs.RunFacts as ending
 use Rattle.tau_run.proofs.Reading.{IsCatalogue}
 use Rattle.tau_step.specs.RunTold.{AreNew}
 use Rattle.tau_engine.specs.declared.status.Status.{Status}
 use Rattle.tau_engine.specs.declared.status.Status.TheVariants as status
 use Rattle.tau_engine.specs.Came.{Gave}
-use Rattle.tau_engine.specs.Facts.{HasSpaced, Past, Now, AreUnborn}
+use Rattle.tau_engine.specs.DiskFacts.{HasSpaced, Past, Now, AreUnborn}
 use Rattle.tau_engine.specs.Fault.{fault_text}
 use Rattle.tau_engine.specs.Outside.{Wrote}
 use Rattle.tau_engine.specs.Runs.{RanChosen, RunsOn, TellsRun}

@@ -6,7 +6,7 @@ use Rattle.tau_proc.specs.Takes.{takes}
 use Rattle.tau_text.specs.declared.load.Workload.{Workload}
 use Rattle.tau_text.specs.Kept.{IsRunnable}
 use Rattle.tau_text.specs.Text.{workload_of}
-use Rattle.tau_run.specs.Course.{IsSoundLoad}
+use Rattle.tau_run.specs.CoreRun.{IsSoundLoad}
 use Rattle.tau_run.proofs.Sources.{sound_load}
 
 pub sound_of : (text : List ℕ) (load : Workload) → workload_of text ≡ Ok load → IsRunnable load → IsSoundLoad load

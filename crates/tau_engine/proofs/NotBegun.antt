@@ -23,12 +23,12 @@ use Rattle.tau_core.specs.declared.state.Load.{Load}
 use Rattle.tau_core.specs.View.{setting_of, call_of, worker_of, from_on}
 use Rattle.tau_core.proofs.Turns.{call-there, once-there, whose-there}
 use Rattle.tau_run.specs.Run.{Run, told_of, below, IsHistory}
-use Rattle.tau_run.specs.Facts.{catalogue_of, IsEnded}
-use Rattle.tau_run.specs.Course.{IsLoadOf, IsStart, IsRunOf}
-use Rattle.tau_run.specs.Left.{IsLeft}
+use Rattle.tau_run.specs.RecoveredFacts.{catalogue_of, IsEnded}
+use Rattle.tau_run.specs.CoreRun.{IsLoadOf, IsStart, IsRunOf}
+use Rattle.tau_run.specs.StopsLeave.{IsLeft}
 use Rattle.tau_engine.proofs.Chosen.{chosen}
-use Rattle.tau_run.specs.Told.{Ending, chosen_by, IsCoreRun, IsCoreRunAt, RunTells, RunFacts, turns_of}
-use Rattle.tau_run.specs.Told as told
+use Rattle.tau_run.specs.RunFacts.{Ending, chosen_by, IsCoreRun, IsCoreRunAt, RunTells, RunFacts, turns_of}
+use Rattle.tau_run.specs.RunFacts as told
 use Rattle.tau_run.specs.Turns.{Progress, begun, Turned, TurnedAll, OneByOne, Cleared, IsPartOfRun}
 use Rattle.tau_run.proofs.Acked.{whole}
 use Rattle.tau_run.proofs.History.{is_history}

@@ -19,11 +19,11 @@ use Rattle.tau_core.specs.State.{Plain}
 use Rattle.tau_core.specs.View.{setting_of, core_of, stop_in}
 use Rattle.tau_core.specs.Opens.{Opened, nothing}
 use Rattle.tau_run.specs.Run.{Run, below, AllAcked}
-use Rattle.tau_run.specs.Facts.{catalogue_of}
-use Rattle.tau_run.specs.Course.{IsLoadOf, IsStart, AreAcks, IsRunOf, IsSoundLoad, IsCourse}
+use Rattle.tau_run.specs.RecoveredFacts.{catalogue_of}
+use Rattle.tau_run.specs.CoreRun.{IsLoadOf, IsStart, AreAcks, IsRunOf, IsSoundLoad, IsCourse}
 use Rattle.tau_run.specs.Laws.{KeepCalls, AllWait}
-use Rattle.tau_run.specs.Left.{IsOver}
-use Rattle.tau_run.specs.Told.{turns_of, IsByTurns, chosen_by}
+use Rattle.tau_run.specs.StopsLeave.{IsOver}
+use Rattle.tau_run.specs.RunFacts.{turns_of, IsByTurns, chosen_by}
 use Rattle.tau_run.specs.Turns.{Progress, Cleared, OneByOne, IsWholeRun, IsPartOfRun}
 use Rattle.tau_run.proofs.Acks.{turns_law}
 use Rattle.tau_run.proofs.Results.{run_law, lost_law}

@@ -21,18 +21,18 @@ use Rattle.tau_report.specs.Report.{ack_lines, rest_text, report_text}
 use Rattle.tau_core.specs.declared.state.Load.{Load}
 use Rattle.tau_core.specs.View.{setting_of}
 use Rattle.tau_run.specs.Run.{Run, AllAcked, IsReportOf}
-use Rattle.tau_run.specs.Facts.{catalogue_of, IsEnded}
-use Rattle.tau_run.specs.Course.{IsCourse}
-use Rattle.tau_run.specs.Left.{Leaves, IsOver}
-use Rattle.tau_run.specs.Told.{Ending, WroteFront, NamesLowest, turns_of, IsByTurns, chosen_by, IsCoreRun, IsCoreRunAt, RunTells, RunFacts}
-use Rattle.tau_run.specs.Told as ending
+use Rattle.tau_run.specs.RecoveredFacts.{catalogue_of, IsEnded}
+use Rattle.tau_run.specs.CoreRun.{IsCourse}
+use Rattle.tau_run.specs.StopsLeave.{Leaves, IsOver}
+use Rattle.tau_run.specs.RunFacts.{Ending, WroteFront, NamesLowest, turns_of, IsByTurns, chosen_by, IsCoreRun, IsCoreRunAt, RunTells, RunFacts}
+use Rattle.tau_run.specs.RunFacts as ending
 use Rattle.tau_run.specs.Turns.{Progress}
 use Rattle.tau_run.proofs.Imaged.{imaged, acknowledged, ended}
 use Rattle.tau_run.proofs.Results.{ends_law, history_law}
 use Rattle.tau_step.specs.Came.{CameTo, came_far}
 use Rattle.tau_step.specs.RunTold.{IsLowestStopped, fates_by}
 use Rattle.tau_step.specs.Telling.{Heard}
-use Rattle.tau_engine.specs.Facts.{HasSpaced, Past, Now, AreUnborn, NotEarlier, NextClean}
+use Rattle.tau_engine.specs.DiskFacts.{HasSpaced, Past, Now, AreUnborn, NotEarlier, NextClean}
 use Rattle.tau_engine.specs.declared.status.Status.{Status}
 use Rattle.tau_engine.specs.declared.status.Status.TheVariants as status
 use Rattle.tau_engine.specs.Fault.{fault_text}

@@ -4,7 +4,7 @@ use Rattle.tau_engine.specs.declared.status.Status.{Status}
 use Rattle.tau_engine.specs.declared.status.Status.TheVariants as status
 use Rattle.tau_engine.specs.Outside.{ends_run}
 use Rattle.tau_engine.specs.Fault.{fault_text, is_refusal, TellsFault}
-use Rattle.tau_run.specs.Told.{WroteFront}
+use Rattle.tau_run.specs.RunFacts.{WroteFront}
 
 -- an answer other than lack of memory is the refusal
 pub answers_as : (wrote : List ℕ → Type 0) (rose : Type 0) (refusal answer s : Status) → TellsFault wrote rose refusal answer → answer ≡ s → (s ≡ status.NoMemory → ⊥) → refusal ≡ s

@@ -14,13 +14,13 @@ use Rattle.tau_open.specs.declared.refusal.OpenRefusal.{OpenRefusal}
 use Rattle.tau_open.specs.declared.refusal.OpenRefusal.TheVariants as refusal
 use Rattle.tau_open.proofs.Calls.{untouched, all_calls}
 use Rattle.tau_text.specs.declared.load.Workload.{Workload}
-use Rattle.tau_run.specs.Facts.{catalogue_of}
-use Rattle.tau_run.specs.Told.{WroteFront}
-use Rattle.tau_run.specs.Told as ending
+use Rattle.tau_run.specs.RecoveredFacts.{catalogue_of}
+use Rattle.tau_run.specs.RunFacts.{WroteFront}
+use Rattle.tau_run.specs.RunFacts as ending
 use Rattle.tau_run.proofs.Reading.{IsCatalogue}
 use Rattle.tau_engine.specs.declared.status.Status.{Status}
 use Rattle.tau_engine.specs.declared.status.Status.TheVariants as status
-use Rattle.tau_engine.specs.Facts.{Past, Now, AreUnborn, NotEarlier}
+use Rattle.tau_engine.specs.DiskFacts.{Past, Now, AreUnborn, NotEarlier}
 use Rattle.tau_engine.specs.Fault.{fault_text, TellsFault}
 use Rattle.tau_engine.specs.Outside.{Wrote, OpensBad, ends_reading}
 use Rattle.tau_engine.specs.Runs.{status_in}

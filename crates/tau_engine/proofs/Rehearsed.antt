@@ -19,11 +19,11 @@ use Rattle.tau_report.specs.declared.report.RunEnd.{RunEnd}
 use Rattle.tau_report.specs.Report.{ack_lines, report_text}
 use Rattle.tau_core.specs.declared.state.Load.{Load}
 use Rattle.tau_run.specs.Run.{Run, IsReportOf, last_db}
-use Rattle.tau_run.specs.Facts.{catalogue_of, IsEnded}
-use Rattle.tau_run.specs.Course.{IsSoundLoad}
-use Rattle.tau_run.specs.Left.{IsLeft, IsOver}
-use Rattle.tau_run.specs.Told as ending
-use Rattle.tau_run.specs.Told.{turns_of, chosen_by, IsCoreRun, RunFacts}
+use Rattle.tau_run.specs.RecoveredFacts.{catalogue_of, IsEnded}
+use Rattle.tau_run.specs.CoreRun.{IsSoundLoad}
+use Rattle.tau_run.specs.StopsLeave.{IsLeft, IsOver}
+use Rattle.tau_run.specs.RunFacts as ending
+use Rattle.tau_run.specs.RunFacts.{turns_of, chosen_by, IsCoreRun, RunFacts}
 use Rattle.tau_run.proofs.Imaged.{imaged, acknowledged}
 use Rattle.tau_run.proofs.Results.{history_law}
 use Rattle.tau_step.specs.Came.{CameTo}
@@ -32,7 +32,7 @@ use Rattle.tau_step.specs.Telling.{Heard}
 use Rattle.tau_engine.specs.Bench.{IsMeasured, PlaysWell}
 use Rattle.tau_engine.specs.Came.{Concluded}
 use Rattle.tau_engine.specs.Drill.{IsRehearsed, PlaysOn}
-use Rattle.tau_engine.specs.Facts.{Past, Now, AreUnborn}
+use Rattle.tau_engine.specs.DiskFacts.{Past, Now, AreUnborn}
 use Rattle.tau_engine.specs.Outside.{Wrote}
 use Rattle.tau_engine.proofs.Ends.{begun_left, gave}
 use Rattle.tau_engine.proofs.NotBegun.{told_of_none}
@@ -59,7 +59,7 @@ module _ {D : Type 0} {G : Ghosts D} (only_now : OnlyNow G) (n m : ℕ) (load : 
   core : IsCoreRun (chosen_by load.turns n m load true) n m Values load (λ j. (s.streams j).stop) run
   core = to.core_run only_now n m Values load ws after h.acks t true h.whole
 
-  at_leaves : Rattle.tau_run.specs.Left.Leaves n (catalogue_of load) l s (λ j x. ⊥) (Now G.tells G.may_leave old new) (RoseAt G.faults old new)
+  at_leaves : Rattle.tau_run.specs.StopsLeave.Leaves n (catalogue_of load) l s (λ j x. ⊥) (Now G.tells G.may_leave old new) (RoseAt G.faults old new)
   at_leaves = to.at_leaves only_now n m Values load ws after h.acks t old mid new many streams back
 
   ended : IsEnded n load (Now G.tells G.may_leave old new) (RoseAt G.faults old new) run

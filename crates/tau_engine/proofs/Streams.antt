@@ -18,9 +18,9 @@ use Rattle.tau_scan.proofs.Plans.{goes_on, goes_stopped}
 use Rattle.tau_open.proofs.Closed.{rest_back}
 use Rattle.tau_machine.specs.State.{Core}
 use Rattle.tau_core.specs.declared.state.Load.{Load}
-use Rattle.tau_run.specs.Left.{HasFront, IsLeft, Leaves}
+use Rattle.tau_run.specs.StopsLeave.{HasFront, IsLeft, Leaves}
 use Rattle.tau_step.specs.RunTold.{EachOf, Left}
-use Rattle.tau_engine.specs.Facts.{Past, Now, AreUnborn, NotEarlier, NextClean}
+use Rattle.tau_engine.specs.DiskFacts.{Past, Now, AreUnborn, NotEarlier, NextClean}
 
 same_some : {A : Type 0} (x y : A) → Some x ≡ Some y → x ≡ y
 same_some x y e = cc

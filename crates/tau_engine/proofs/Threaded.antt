@@ -24,10 +24,10 @@ use Rattle.tau_core.specs.Opens.{nothing}
 use Rattle.tau_core.specs.State.{Plain}
 use Rattle.tau_core.specs.View.{core_of, setting_of}
 use Rattle.tau_run.specs.Run.{AllAcked}
-use Rattle.tau_run.specs.Facts.{catalogue_of}
-use Rattle.tau_run.specs.Course.{IsLoadOf, IsRunOf, IsSoundLoad}
-use Rattle.tau_run.specs.Left.{IsOver}
-use Rattle.tau_run.specs.Told.{chosen_by}
+use Rattle.tau_run.specs.RecoveredFacts.{catalogue_of}
+use Rattle.tau_run.specs.CoreRun.{IsLoadOf, IsRunOf, IsSoundLoad}
+use Rattle.tau_run.specs.StopsLeave.{IsOver}
+use Rattle.tau_run.specs.RunFacts.{chosen_by}
 use Rattle.tau_run.specs.Turns.{Progress}
 use Rattle.tau_run.proofs.Logs.{some_within, got_within}
 use Rattle.tau_step.specs.Came.{CameTo, came_far}
@@ -38,7 +38,7 @@ use Rattle.tau_crew_facts.proofs.Came as at
 use Rattle.tau_crew_facts.proofs.Apart as apart
 use Rattle.tau_crew_facts.proofs.Lost as lost
 use Rattle.tau_engine.specs.Came.{Concluded, CutOff, Gave}
-use Rattle.tau_engine.specs.Facts.{HasSpaced, Now}
+use Rattle.tau_engine.specs.DiskFacts.{HasSpaced, Now}
 use Rattle.tau_engine.proofs.RanTo as to
 use Rattle.tau_engine.proofs.Streams.{OnlyNow}
 

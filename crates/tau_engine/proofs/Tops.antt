@@ -12,13 +12,13 @@ use Rattle.tau_scan.specs.declared.fault.LogFault.{LogFault}
 use Rattle.tau_words.specs.declared.command.Command.{Command}
 use Rattle.tau_words.specs.declared.command.Command.TheVariants.{Run, Recover}
 use Rattle.tau_words.specs.Words.{command_of}
-use Rattle.tau_run.specs.Told.{WroteFront}
+use Rattle.tau_run.specs.RunFacts.{WroteFront}
 use Rattle.tau_engine.specs.declared.status.Status.{Status}
 use Rattle.tau_engine.specs.declared.status.Status.TheVariants as status
 use Rattle.tau_engine.specs.declared.served.Work.{Work}
 use Rattle.tau_engine.specs.declared.served.Work.TheVariants as work
 use Rattle.tau_engine.specs.Served.{command_in, is_served, if_served, served}
-use Rattle.tau_engine.specs.Facts.{DisksWorked}
+use Rattle.tau_engine.specs.DiskFacts.{DisksWorked}
 use Rattle.tau_engine.specs.Fault.{fault_text, TellsFault}
 use Rattle.tau_engine.specs.Outside.{HasWorkload, HasFault, is_before_disks, ends_run, ends_recovery, ends_reading}
 use Rattle.tau_engine.specs.Said.{SaysRun}

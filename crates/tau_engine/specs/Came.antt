@@ -12,9 +12,9 @@ use Rattle.tau_machine.specs.State.{sight}
 use Rattle.tau_text.specs.declared.load.Workload.{Workload}
 use Rattle.tau_report.specs.declared.report.RunEnd.{RunEnd}
 use Rattle.tau_core.specs.View.{setting_of}
-use Rattle.tau_run.specs.Left.{IsOver}
+use Rattle.tau_run.specs.StopsLeave.{IsOver}
 use Rattle.tau_run.specs.Run.{AllAcked}
-use Rattle.tau_run.specs.Told.{chosen_by}
+use Rattle.tau_run.specs.RunFacts.{chosen_by}
 use Rattle.tau_step.specs.Came.{CameTo, came_far}
 use Rattle.tau_step.specs.RunTold.{IsLowestStopped, fates_by}
 use Rattle.tau_step.specs.Telling.{Heard}

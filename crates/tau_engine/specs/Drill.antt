@@ -23,12 +23,12 @@ use Rattle.tau_report.specs.declared.report.RunEnd.{RunEnd}
 use Rattle.tau_report.specs.Lines.{line}
 use Rattle.tau_report.specs.Report.{ack_lines}
 use Rattle.tau_run.specs.Run.{Committed, acts, means, has_ack}
-use Rattle.tau_run.specs.Facts.{IsRecovered, takes}
-use Rattle.tau_run.specs.Told as ending
-use Rattle.tau_run.specs.Told.{RunFacts, chosen_by, turns_of}
+use Rattle.tau_run.specs.RecoveredFacts.{IsRecovered, takes}
+use Rattle.tau_run.specs.RunFacts as ending
+use Rattle.tau_run.specs.RunFacts.{RunFacts, chosen_by, turns_of}
 use Rattle.tau_step.specs.Device.{IsDeviceOrder}
 use Rattle.tau_step.specs.RunTold.{RanNew}
-use Rattle.tau_engine.specs.Facts.{Now}
+use Rattle.tau_engine.specs.DiskFacts.{Now}
 use Rattle.tau_engine.specs.Recovery.{IsRecoveryOf}
 use Rattle.tau_engine.specs.declared.status.Status.{Status}
 use Rattle.tau_engine.specs.declared.status.Status.TheVariants as status

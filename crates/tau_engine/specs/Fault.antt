@@ -11,7 +11,7 @@ use Rattle.tau_scan.specs.declared.fault.LogCause.{LogCause}
 use Rattle.tau_scan.specs.declared.fault.LogCause.TheVariants as log
 use Rattle.tau_report.specs.Lines.{line}
 use Rattle.tau_text.specs.Causes.{cause_number}
-use Rattle.tau_run.specs.Told.{WroteFront}
+use Rattle.tau_run.specs.RunFacts.{WroteFront}
 
 abbrev pub image_fault_number : ImageFault → ℕ
 image_fault_number image.BadMagic = 1

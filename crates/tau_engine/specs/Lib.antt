@@ -2,7 +2,7 @@ pub mod Served
 pub mod Source
 pub mod Outside
 pub mod Fault
-pub mod Facts
+pub mod DiskFacts
 pub mod Runs
 pub mod Came
 pub mod Said

@@ -6,10 +6,10 @@ use Rattle.tau_disk.specs.Disk.{Rose}
 use Rattle.tau_disk.specs.Used.{EachUsed, RoseAt, IsFirstLong, OnlyRead, AllCalls, IsClean, IsFirstStopped, Made}
 use Rattle.tau_open.specs.Outside.{calls_to_open}
 use Rattle.tau_text.specs.declared.load.Workload.{Workload}
-use Rattle.tau_run.specs.Told.{WroteFront, chosen_by, RunFacts}
+use Rattle.tau_run.specs.RunFacts.{WroteFront, chosen_by, RunFacts}
 use Rattle.tau_engine.specs.declared.status.Status.{Status}
 use Rattle.tau_engine.specs.declared.status.Status.TheVariants as status
-use Rattle.tau_engine.specs.Facts.{DisksWorked, HasSpaced, Past, Now, AreUnborn, NotEarlier, NextClean, IsRefused, ending_of}
+use Rattle.tau_engine.specs.DiskFacts.{DisksWorked, HasSpaced, Past, Now, AreUnborn, NotEarlier, NextClean, IsRefused, ending_of}
 use Rattle.tau_engine.specs.Fault.{fault_text}
 use Rattle.tau_engine.specs.Outside.{Wrote, FailsTold, ends_run}
 

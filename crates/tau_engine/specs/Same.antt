@@ -6,7 +6,7 @@ use Rattle.tau_scan.specs.declared.log.Log.{Log}
 use Rattle.tau_scan.specs.Reading.{log_of}
 use Rattle.tau_replay.specs.Laws.{OrdersAgree}
 use Rattle.tau_run.specs.Run.{Run}
-use Rattle.tau_run.specs.Facts.{IsRecovered}
+use Rattle.tau_run.specs.RecoveredFacts.{IsRecovered}
 use Rattle.tau_engine.specs.Recovery.{IsRecoveryOf}
 
 -- Where all orderly orders of the log of the images give one database, recovery has one text.

@@ -9,7 +9,7 @@ ghost use Rattle.tau_scan.specs.Outside.{calls_to_read};
 ghost use Rattle.tau_scan.specs.Taken.{Kept};
 ghost use Rattle.tau_replay.specs.Redone.{IsOrderOf};
 ghost use Rattle.tau_engine.specs.Fault.{fault_text, is_refusal};
-ghost use Rattle.tau_run.specs.Told.{WroteFront};
+ghost use Rattle.tau_run.specs.RunFacts.{WroteFront};
 ghost use Rattle.tau_disk.specs.Used.{EachUsed, OnlyRead, RoseAt, AllCalls, IsFirstStopped};
 ghost use Rattle.tau_engine.specs.Outside.{Wrote, ends_recovery, is_behind_reading};
 ghost use Rattle.tau_engine.specs.Recovery.{LogTells, IsTangle, IsBadLog, RecoverTells, EndsAsBad, EndsTangled, images_of};

@@ -18,11 +18,11 @@ ghost use Rattle.tau_engine.specs.Drill.{DrillTells, with_turns};
 ghost use Rattle.tau_words.specs.declared.command.Ending.{Ending};
 ghost use Rattle.tau_engine.specs.Served.{served, used_by, reads_source, writes_at_end};
 ghost use Rattle.tau_text.specs.declared.load.Workload.{Workload};
-ghost use Rattle.tau_run.specs.Told.{chosen_by, RunFacts};
+ghost use Rattle.tau_run.specs.RunFacts.{chosen_by, RunFacts};
 ghost use Rattle.tau_open.specs.Outside.{calls_to_open};
-ghost use Rattle.tau_engine.specs.Facts.{DisksWorked, HasSpaced, Past, Now, AreUnborn, NotEarlier, NextClean, ending_of};
+ghost use Rattle.tau_engine.specs.DiskFacts.{DisksWorked, HasSpaced, Past, Now, AreUnborn, NotEarlier, NextClean, ending_of};
 ghost use Rattle.tau_engine.specs.Fault.{fault_text, is_refusal};
-ghost use Rattle.tau_run.specs.Told.{WroteFront};
+ghost use Rattle.tau_run.specs.RunFacts.{WroteFront};
 ghost use Rattle.tau_disk.specs.Used.{RoseAt, EachUsed, AreEmpty, IsFirstLong, OnlyRead, AllCalls, IsClean, IsFirstStopped, Made};
 ghost use Rattle.tau_engine.specs.Outside.{HasWorkload, HasNoWorkload, HasFault, FailsTold, Wrote, is_behind_text, is_behind_end, is_behind_reading, is_before_disks};
 

@@ -4,5 +4,5 @@ pub mod Lengths
 pub mod Asking
 pub mod Making
 pub mod Joined
-pub mod Told
+pub mod RefusalTold
 pub mod Closed

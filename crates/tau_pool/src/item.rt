@@ -89,12 +89,7 @@ fn put_record(
 }
 
 /// Puts the taken records of a stream after the others.
-fn put_stream(
-    items: &mut Items,
-    elv: &Lv,
-    stream: u8,
-    records: &[Placed],
-) -> Result<(), NoMemory>
+fn put_stream(items: &mut Items, elv: &Lv, stream: u8, records: &[Placed]) -> Result<(), NoMemory>
     ensures { OnOk result (items.new ≡ items.old ++ items_in elv.now stream 0 records.now) }
 {
     for (index, placed) in records.iter().enumerate() {

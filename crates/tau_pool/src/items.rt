@@ -75,13 +75,7 @@ impl Items {
 
     /// Puts a record that is not started after the others. Out of memory nothing changes. A number past the 32 bits of
     /// its place counts as that.
-    pub fn put(
-        &mut self,
-        stream: u8,
-        index: usize,
-        start: u64,
-        dep: &Lv,
-    ) -> Result<(), NoMemory>
+    pub fn put(&mut self, stream: u8, index: usize, start: u64, dep: &Lv) -> Result<(), NoMemory>
         ensures { OnOk result (self.new ≡ self.old ++ unstarted stream index start dep.now ∷ []) }
     {
         if index > u32::MAX as usize {

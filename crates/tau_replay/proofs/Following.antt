@@ -14,7 +14,7 @@ use Rattle.tau_scan.specs.Taken.{Kept, taken}
 use Rattle.tau_pool.specs.declared.item.Job.{Job}
 use Rattle.tau_pool.specs.Pooled.{Pooled, IsRecovered, IsStarted, IsFinished, IsDone, NoneReady}
 use Rattle.tau_replay.specs.declared.turns.Replay.{Replay}
-use Rattle.tau_replay.specs.Going.{IsHeld}
+use Rattle.tau_replay.specs.Recovering.{IsHeld}
 use Rattle.tau_replay.specs.Way.{IsOver}
 use Rattle.tau_replay.specs.Followed.{Worked, TurnsBy, IsTurn, Follow, HasFollowed, Followed, IsRedoneBy, ascending, workers_from, rounds}
 use Rattle.tau_replay.proofs.Lists.{map-push, redo-push, of_get, left_put}

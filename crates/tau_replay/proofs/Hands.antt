@@ -22,7 +22,7 @@ use Rattle.tau_pool.proofs.Counts.{waiting-set, flying-set, one}
 use Rattle.tau_pool.proofs.Keeping.{waiting_flies}
 use Rattle.tau_pool.proofs.Flights.{flying_new, flying_fresh, flying_kept, flying_left}
 use Rattle.tau_replay.specs.declared.turns.Replay.{Replay}
-use Rattle.tau_replay.specs.Going.{AreHands, held_in, left_over}
+use Rattle.tau_replay.specs.Recovering.{AreHands, held_in, left_over}
 use Rattle.tau_replay.specs.Way.{IsOver}
 use Rattle.tau_replay.specs.Redone.{IsRedone}
 

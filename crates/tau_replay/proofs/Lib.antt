@@ -1,6 +1,6 @@
 pub mod Lists
 pub mod Starting
-pub mod Going
+pub mod RecoveryGoesOn
 pub mod Hands
 pub mod Following
 pub mod Tangles

@@ -17,7 +17,7 @@ use Rattle.tau_pool.specs.declared.item.Stage.TheVariants.{Finished}
 use Rattle.tau_pool.specs.Items.{is_left}
 use Rattle.tau_pool.specs.Pooled.{staged}
 use Rattle.tau_pool.proofs.Gets.{some_is}
-use Rattle.tau_replay.specs.Going.{IsOf, AreOf, left_in}
+use Rattle.tau_replay.specs.Recovering.{IsOf, AreOf, left_in}
 
 -- ---- orders
 

@@ -15,7 +15,7 @@ use Rattle.tau_pool.specs.Item.{Item}
 use Rattle.tau_pool.specs.declared.item.Stage.TheVariants.{Waiting, Flying, Finished}
 use Rattle.tau_pool.specs.declared.item.Stage.{Stage}
 use Rattle.tau_pool.specs.Items.{is_left, is_waiting, dep_of, item_as, with_item, items_in, items_from}
-use Rattle.tau_replay.specs.Going.{AreOf, left_in}
+use Rattle.tau_replay.specs.Recovering.{AreOf, left_in}
 
 abbrev is_kept : Log → Kept → Bool
 is_kept log r = covers log.elv r.place.dep

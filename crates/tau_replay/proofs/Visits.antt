@@ -11,7 +11,7 @@ use Rattle.tau_pool.specs.Pooled.{Pooled}
 use Rattle.tau_pool.proofs.Gets.{get_within, get_set_same, get_set_other}
 use Rattle.tau_replay.specs.declared.turns.Replay.{Replay}
 use Rattle.tau_replay.specs.Followed.{Followed, HasFollowed}
-use Rattle.tau_replay.specs.Going.{IsGoing, AreHands}
+use Rattle.tau_replay.specs.Recovering.{IsGoing, AreHands}
 use Rattle.tau_replay.specs.Way.{IsOnWay}
 use Rattle.tau_replay.specs.Rule.{Hand, Sat, Boxed, hands_of, holding, given, hands_now, IsNoneOf, OthersStay, MayGive, IsIdle}
 use Rattle.tau_replay.specs.Sound.{IsSound}

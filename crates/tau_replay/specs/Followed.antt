@@ -13,7 +13,7 @@ use Rattle.tau_pool.specs.Item.{Item}
 use Rattle.tau_pool.specs.Items.{is_left, items_from}
 use Rattle.tau_pool.specs.Pooled.{Pooled, IsRecovered, IsStarted, IsFinished, NoneReady}
 use Rattle.tau_replay.specs.declared.turns.Replay.{Replay}
-use Rattle.tau_replay.specs.Going.{IsHeld}
+use Rattle.tau_replay.specs.Recovering.{IsHeld}
 
 -- the taken records with how far each is, what each worker has in flight, and the finished records in their order
 pub record Worked : Type 0 where

@@ -1,5 +1,5 @@
 pub mod Redone
-pub mod Going
+pub mod Recovering
 pub mod Way
 pub mod Laws
 pub mod Followed

@@ -15,7 +15,7 @@ use Rattle.tau_model.specs.Redo.{redone}
 use Rattle.tau_scan.specs.declared.log.Log.{Log}
 use Rattle.tau_scan.specs.Taken.{Kept}
 use Rattle.tau_pool.specs.declared.item.Job.{Job}
-use Rattle.tau_replay.specs.Going.{IsHeld}
+use Rattle.tau_replay.specs.Recovering.{IsHeld}
 
 -- the machine is that of the call, which wanted these rows in turn and was given these values
 pub record IsTrying (procs : List Proc) (call : Call) (reads : List (Key × Value)) (m : Progress) : Type 0 where

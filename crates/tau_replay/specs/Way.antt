@@ -4,7 +4,7 @@ use Rattle.tau_model.specs.Store.{database}
 use Rattle.tau_scan.specs.declared.log.Log.{Log}
 use Rattle.tau_scan.specs.Taken.{Kept, taken}
 use Rattle.tau_replay.specs.declared.turns.Replay.{Replay}
-use Rattle.tau_replay.specs.Going.{IsGoing, AreHands, left_over, left_in}
+use Rattle.tau_replay.specs.Recovering.{IsGoing, AreHands, left_over, left_in}
 
 pub record IsOnWay (log : Log) (r : Replay) : Type 0 where
   pub order : List Kept

@@ -5,7 +5,7 @@ ghost use Rattle.tau_proc.specs.Effect.{Agrees};
 ghost use Rattle.tau_model.specs.Redo.{redone};
 ghost use Rattle.tau_model.specs.Store.{database};
 ghost use Rattle.tau_scan.specs.Taken.{Kept};
-ghost use Rattle.tau_replay.specs.Going.{IsHeld, IsHeldBy};
+ghost use Rattle.tau_replay.specs.Recovering.{IsHeld, IsHeldBy};
 ghost use Rattle.tau_replay.specs.Result.{DoesJust};
 
 use crate::redo::redo;

@@ -6,7 +6,7 @@ ghost use Rattle.tau_base.specs.declared.value.Value.{Value};
 ghost use Rattle.tau_model.specs.Redo.{redone, Written, Command};
 ghost use Rattle.tau_model.specs.Store.{database};
 ghost use Rattle.tau_scan.specs.Taken.{Kept};
-ghost use Rattle.tau_replay.specs.Going.{IsHeld, IsHeldBy};
+ghost use Rattle.tau_replay.specs.Recovering.{IsHeld, IsHeldBy};
 
 use tau_base::{Call, NoMemory};
 use tau_model::SerialStore;

@@ -4,7 +4,7 @@ ghost use Rattle.tau_scan.specs.Reading.{IsLog};
 ghost use Rattle.tau_scan.specs.Taken.{Kept};
 ghost use Rattle.tau_replay.specs.Redone.{IsOrderOf, IsRedone, IsTangledAt};
 ghost use Rattle.tau_pool.specs.Pooled.{IsNotYet, flying_in};
-ghost use Rattle.tau_replay.specs.Going.{IsHeld, IsHeldBy};
+ghost use Rattle.tau_replay.specs.Recovering.{IsHeld, IsHeldBy};
 ghost use Rattle.tau_replay.specs.Followed.{Followed, IsRedoneBy, rounds, workers_from};
 ghost use Rattle.tau_replay.specs.Way.{IsOnWay, IsOver, left_of};
 

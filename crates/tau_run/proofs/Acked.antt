@@ -25,9 +25,9 @@ use Rattle.tau_record.specs.declared.fault.RecordFault.{RecordFault}
 use Rattle.tau_scan.specs.Reading.{log_of}
 use Rattle.tau_scan.specs.Taken.{kept_in}
 use Rattle.tau_run.specs.Run.{Committed, Run, acts, records_in, has_ack}
-use Rattle.tau_run.specs.Facts.{catalogue_of, log_of_contents, takes}
-use Rattle.tau_run.specs.Course.{IsLoadOf, IsRunOf}
-use Rattle.tau_run.specs.Left.{HasFront}
+use Rattle.tau_run.specs.RecoveredFacts.{catalogue_of, log_of_contents, takes}
+use Rattle.tau_run.specs.CoreRun.{IsLoadOf, IsRunOf}
+use Rattle.tau_run.specs.StopsLeave.{HasFront}
 use Rattle.tau_run.proofs.Closed.{Behind, behind}
 use Rattle.tau_run.proofs.Each.{one_content}
 use Rattle.tau_run.proofs.History.{acts_are, ack_of}
@@ -37,7 +37,7 @@ use Rattle.tau_run.proofs.Order.{apart, history, once, there}
 use Rattle.tau_run.proofs.Recovered.{CutLog, cut_log, is_set, none_anchored, records_are}
 use Rattle.tau_run.proofs.Streams.{AreSound, IsRead, whole_read}
 use Rattle.tau_run.proofs.Taken.{takes_is}
-use Rattle.tau_run.proofs.Told.{act_of, number_of, one_of_number, apart_reordered}
+use Rattle.tau_run.proofs.CommittedTold.{act_of, number_of, one_of_number, apart_reordered}
 
 abbrev answered : {A : Type 0} → (E : Type 0) → A → Result A E
 answered E a = Ok a

@@ -5,7 +5,7 @@ use Rattle.tau_model.proofs.Logged.{member-first, member-second}
 use Rattle.tau_machine.specs.Hands.{Txn}
 use Rattle.tau_run.specs.Run.{Committed, told_of}
 use Rattle.tau_run.proofs.Lists.{before_map}
-use Rattle.tau_run.proofs.Told.{act_of, Apart, one_of_number}
+use Rattle.tau_run.proofs.CommittedTold.{act_of, Apart, one_of_number}
 
 pub record Behind (H : List (Act Txn)) (x u : Act Committed) : Type 0 where
   pub late : Act Txn

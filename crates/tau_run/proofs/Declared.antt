@@ -21,7 +21,7 @@ use Rattle.tau_proc.specs.Effect.{Effect}
 use Rattle.tau_proc.specs.Meaning.{Running, begun, value_of, Action, Go, Ask, Refuse, set_register, become, read_at, got, stored, needed, chosen, does_of, action, skipped, follow, run, puts, adds, gets, dels, built_effect, sum_with, added_writes, run_of, proc_of, meaning}
 use Rattle.tau_text.specs.declared.load.Declarations.{Declarations}
 use Rattle.tau_scan.specs.Reading.{has_table, has_row, names_table, is_of_table}
-use Rattle.tau_run.specs.Course.{step_named}
+use Rattle.tau_run.specs.CoreRun.{step_named}
 
 module _ (d : Declarations) where
   abbrev Named : List (Key × Value) → Type 0

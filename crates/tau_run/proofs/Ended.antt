@@ -30,9 +30,9 @@ use Rattle.tau_core.specs.declared.state.Load.{Load}
 use Rattle.tau_core.specs.View.{setting_of, worker_of}
 use Rattle.tau_core.specs.Pieces.{Spelled}
 use Rattle.tau_run.specs.Run.{Committed, Run, told_of, pair_of, vector_of, has_ack}
-use Rattle.tau_run.specs.Facts.{catalogue_of}
-use Rattle.tau_run.specs.Course.{IsLoadOf, IsRunOf}
-use Rattle.tau_run.specs.Left.{HasFront, IsOver}
+use Rattle.tau_run.specs.RecoveredFacts.{catalogue_of}
+use Rattle.tau_run.specs.CoreRun.{IsLoadOf, IsRunOf}
+use Rattle.tau_run.specs.StopsLeave.{HasFront, IsOver}
 use Rattle.tau_run.proofs.Acked.{acked_there}
 use Rattle.tau_run.proofs.Cuts.{take_within}
 use Rattle.tau_run.proofs.Lists.{member_map, map_member, any_true}
@@ -41,7 +41,7 @@ use Rattle.tau_run.proofs.Order.{apart, history, there}
 use Rattle.tau_run.proofs.Spelled.{spelled_long}
 use Rattle.tau_run.proofs.Streams.{AreSound, front_first}
 use Rattle.tau_run.proofs.Recovered.{none_anchored}
-use Rattle.tau_run.proofs.Told.{number_of, one_of_number}
+use Rattle.tau_run.proofs.CommittedTold.{number_of, one_of_number}
 
 split_member : {A : Type 0} (x : A) (xs ys : List A) → Member x (xs ++ ys) → Member x xs ⊎ Member x ys
 split_member x [] ys m = inr m

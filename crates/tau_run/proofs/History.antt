@@ -24,7 +24,7 @@ use Rattle.tau_machine.proofs.Lists.{member-of, before-of}
 use Rattle.tau_machine.proofs.Results.{reported_theorem, committed_theorem, acknowledged_theorem, streams_theorem}
 use Rattle.tau_run.specs.Run.{Committed, Run, told_of, pair_of, means, acts, Distinct, StandBetween, of_stream, ends, IsHistory}
 use Rattle.tau_run.proofs.Lists.{member_map, map_member, before_map}
-use Rattle.tau_run.proofs.Told.{act_of, number_of, trace_told, distinct_of, apart_reordered, chain_stands, stream_told}
+use Rattle.tau_run.proofs.CommittedTold.{act_of, number_of, trace_told, distinct_of, apart_reordered, chain_stands, stream_told}
 use Rattle.tau_run.proofs.Counts.{count, count_append, count_reordered, count_before, count_tickets, distinct_apart}
 use Rattle.tau_run.proofs.Order.{apart, history, once, there, in_order}
 

@@ -9,9 +9,9 @@ use Rattle.tau_machine.specs.State.{Core}
 use Rattle.tau_text.specs.declared.load.Workload.{Workload}
 use Rattle.tau_core.specs.declared.state.Load.{Load}
 use Rattle.tau_run.specs.Run.{Run, AllAcked}
-use Rattle.tau_run.specs.Facts.{catalogue_of, IsImaged, IsAcknowledged, IsEnded}
-use Rattle.tau_run.specs.Course.{IsRunOf, IsCourse}
-use Rattle.tau_run.specs.Left.{IsLeft, Leaves, IsOver}
+use Rattle.tau_run.specs.RecoveredFacts.{catalogue_of, IsImaged, IsAcknowledged, IsEnded}
+use Rattle.tau_run.specs.CoreRun.{IsRunOf, IsCourse}
+use Rattle.tau_run.specs.StopsLeave.{IsLeft, Leaves, IsOver}
 use Rattle.tau_run.proofs.Each.{one_content}
 use Rattle.tau_run.proofs.Logs.{got_within}
 use Rattle.tau_run.proofs.Results.{contents_law, images_law, acked_law, ends_law}

@@ -1,5 +1,5 @@
 pub mod Lists
-pub mod Told
+pub mod CommittedTold
 pub mod Again
 pub mod Closed
 pub mod Counts
@@ -17,7 +17,7 @@ pub mod Declared
 pub mod Sound
 pub mod Acked
 pub mod Ended
-pub mod There
+pub mod RunExists
 pub mod Complete
 pub mod Results
 pub mod Imaged

@@ -20,7 +20,7 @@ use Rattle.tau_scan.specs.declared.fault.LogFault.{LogFault}
 use Rattle.tau_scan.specs.Reading.{◌>>=◌, recorded, records_of, streams_of, catalogue_in, declared_in, declared_by, none_declared, or_none, catalogue_of as text_in}
 use Rattle.tau_scan.specs.Taken.{Kept, kept_in, kept_from, taken}
 use Rattle.tau_scan.proofs.Streams.{map-get}
-use Rattle.tau_run.specs.Facts.{log_of_contents}
+use Rattle.tau_run.specs.RecoveredFacts.{log_of_contents}
 use Rattle.tau_run.proofs.Cuts.{ends_by}
 use Rattle.tau_run.proofs.Each.{EachOk, each_ok, one_catalogue, some_is}
 use Rattle.tau_run.proofs.Reading.{kept_of}

@@ -19,7 +19,7 @@ use Rattle.tau_machine.specs.Reports.{reported}
 use Rattle.tau_machine.proofs.Mapped.{reported-map}
 use Rattle.tau_machine.proofs.Results.{reported_theorem, committed_theorem}
 use Rattle.tau_run.specs.Run.{Committed, told_of}
-use Rattle.tau_run.proofs.Told.{number_of, Apart, apart_reordered}
+use Rattle.tau_run.proofs.CommittedTold.{number_of, Apart, apart_reordered}
 use Rattle.tau_run.proofs.Again.{Rises, reported_again}
 
 abbrev kept_place : Act Txn → Place

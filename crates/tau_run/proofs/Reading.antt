@@ -28,8 +28,8 @@ use Rattle.tau_core.specs.Pieces.{Spelled}
 use Rattle.tau_scan.specs.Reading.{or_none, is_declared, first_undeclared, undeclared, unless, judged, records_of}
 use Rattle.tau_scan.specs.Taken.{Kept, kept_in}
 use Rattle.tau_run.specs.Run.{record_of}
-use Rattle.tau_run.specs.Facts.{catalogue_of}
-use Rattle.tau_run.proofs.Told.{act_of}
+use Rattle.tau_run.specs.RecoveredFacts.{catalogue_of}
+use Rattle.tau_run.proofs.CommittedTold.{act_of}
 use Rattle.tau_run.proofs.Spelled.{placed_in, AreOf, reads_items}
 
 -- the record of a call, as recovery keeps it

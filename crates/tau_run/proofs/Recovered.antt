@@ -30,9 +30,9 @@ use Rattle.tau_scan.specs.Reading.{◌>>=◌, none_declared, each_from, opened, 
 use Rattle.tau_scan.specs.Taken.{Kept, kept_in, taken}
 use Rattle.tau_replay.specs.Redone.{IsOrderOf}
 use Rattle.tau_run.specs.Run.{Committed, Run, means, records_in, record_of}
-use Rattle.tau_run.specs.Facts.{catalogue_of, log_of_contents, takes, IsRecovered}
-use Rattle.tau_run.specs.Course.{IsLoadOf, IsGiven, IsRunOf}
-use Rattle.tau_run.specs.Left.{IsLeft}
+use Rattle.tau_run.specs.RecoveredFacts.{catalogue_of, log_of_contents, takes, IsRecovered}
+use Rattle.tau_run.specs.CoreRun.{IsLoadOf, IsGiven, IsRunOf}
+use Rattle.tau_run.specs.StopsLeave.{IsLeft}
 use Rattle.tau_run.proofs.Cuts.{take_within}
 use Rattle.tau_run.proofs.Each.{EachOk, each_ok, image_opened}
 use Rattle.tau_run.proofs.History.{IsSet, acts_are}
@@ -42,7 +42,7 @@ use Rattle.tau_run.proofs.Order.{history}
 use Rattle.tau_run.proofs.Reading.{kept_of}
 use Rattle.tau_run.proofs.Streams.{AreSound, IsRead, front_read, none_read, front_first}
 use Rattle.tau_run.proofs.Taken.{in_some_order, is_closed, all_redo}
-use Rattle.tau_run.proofs.Told.{act_of}
+use Rattle.tau_run.proofs.CommittedTold.{act_of}
 
 -- ---- the setting
 

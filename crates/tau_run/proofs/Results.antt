@@ -3,14 +3,14 @@ use Rattle.std.proofs.Common.{ℕ, ◌≡◌, true, ap, subst, ◌∙◌}
 use Rattle.tau_base.specs.declared.value.LogMode.{LogMode}
 use Rattle.tau_core.specs.View.{setting_of}
 use Rattle.tau_run.specs.Run.{records_in, has_ack}
-use Rattle.tau_run.specs.Facts.{IsRecovered}
+use Rattle.tau_run.specs.RecoveredFacts.{IsRecovered}
 use Rattle.tau_run.specs.Laws.{RunIsThere, RunIsHistory, ContentsAreRecords, ImagesAreRecovered, AckedIsTaken, EndsWell, NothingIsLost}
 use Rattle.tau_run.proofs.Acked.{whole, acked_taken}
 use Rattle.tau_run.proofs.Ended.{acked_is, all_acked_of, uncovered_is, flushed_is, opened_is}
 use Rattle.tau_run.proofs.Complete.{committed_there}
 use Rattle.tau_run.proofs.Recovered.{recovered}
 use Rattle.tau_run.proofs.Sound.{sound, history_is}
-use Rattle.tau_run.proofs.There.{run_there}
+use Rattle.tau_run.proofs.RunExists.{run_there}
 
 pub run_law : RunIsThere
 run_law n m mode load p K h st at acks are = run_there n m mode load p K h st at acks are

@@ -25,8 +25,8 @@ use Rattle.tau_core.specs.declared.state.Load.{Load}
 use Rattle.tau_core.specs.View.{setting_of}
 use Rattle.tau_scan.specs.Reading.{has_row, is_declared}
 use Rattle.tau_run.specs.Run.{Run, ends, IsHistory}
-use Rattle.tau_run.specs.Facts.{catalogue_of}
-use Rattle.tau_run.specs.Course.{IsLoadOf, IsRunOf, IsSoundLoad}
+use Rattle.tau_run.specs.RecoveredFacts.{catalogue_of}
+use Rattle.tau_run.specs.CoreRun.{IsLoadOf, IsRunOf, IsSoundLoad}
 use Rattle.tau_run.proofs.Declared.{call_named}
 use Rattle.tau_run.proofs.History.{is_history}
 use Rattle.tau_run.proofs.Logs.{some_within, length_at}

@@ -27,11 +27,11 @@ use Rattle.tau_text.specs.Text.{workload_of}
 use Rattle.tau_text_laws.proofs.Binds.{bind_ok}
 use Rattle.tau_text_laws.proofs.Unique.{was_some}
 use Rattle.tau_text_laws.proofs.MoreTables.{one_step}
-use Rattle.tau_text_laws.proofs.Told.{StepsTold, last_step, ProcsTold, call_read, CallsTold}
+use Rattle.tau_text_laws.proofs.PartsTold.{StepsTold, last_step, ProcsTold, call_read, CallsTold}
 use Rattle.tau_text_laws.proofs.Law.{source, load_of, declarations_read, declarations_fit}
 use Rattle.tau_text_laws.proofs.Ranges.{declarations_bytes}
 use Rattle.tau_scan.specs.Reading.{has_table, names_table, is_of_table}
-use Rattle.tau_run.specs.Course.{step_named, IsSoundLoad}
+use Rattle.tau_run.specs.CoreRun.{step_named, IsSoundLoad}
 use Rattle.tau_run.proofs.Reading.{IsCatalogue}
 
 -- ---- a name that is known

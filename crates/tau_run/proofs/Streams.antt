@@ -22,8 +22,8 @@ use Rattle.tau_core.specs.declared.state.Load.{Load}
 use Rattle.tau_core.specs.Pieces.{Names, Spelled}
 use Rattle.tau_scan.specs.Reading.{is_declared, records_of, catalogue_of as text_in}
 use Rattle.tau_scan.specs.Taken.{kept_in}
-use Rattle.tau_run.specs.Facts.{catalogue_of}
-use Rattle.tau_run.specs.Course.{IsGiven}
+use Rattle.tau_run.specs.RecoveredFacts.{catalogue_of}
+use Rattle.tau_run.specs.CoreRun.{IsGiven}
 use Rattle.tau_run.proofs.Cuts.{ends_by, Taken, chain_none, chain_take}
 use Rattle.tau_run.proofs.Spelled.{entry_in, placed_in, AreOf, spelled_long, got_or}
 use Rattle.tau_run.proofs.Reading.{kept_of, AreDeclared, IsCatalogue, first_placed, kept_items, content_read, nothing_read}

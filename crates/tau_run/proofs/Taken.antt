@@ -33,9 +33,9 @@ use Rattle.tau_scan.specs.declared.log.Log.{Log}
 use Rattle.tau_scan.specs.Taken.{Kept, kept_in, kept_from, taken}
 use Rattle.tau_replay.specs.Redone.{IsOrderOf}
 use Rattle.tau_run.specs.Run.{Committed, Run, told_of, acts, means}
-use Rattle.tau_run.specs.Facts.{takes}
+use Rattle.tau_run.specs.RecoveredFacts.{takes}
 use Rattle.tau_run.proofs.Lists.{member_map, map_member, filter_map, filter_alike, filter_twice, filter_append, any_true, any_member, bool_same}
-use Rattle.tau_run.proofs.Told.{number_of, one_of_number, apart_reordered, exec_told}
+use Rattle.tau_run.proofs.CommittedTold.{number_of, one_of_number, apart_reordered, exec_told}
 use Rattle.tau_run.proofs.Closed.{closed_told}
 use Rattle.tau_run.proofs.Order.{apart, history, once, there}
 use Rattle.tau_run.proofs.History.{IsSet, acts_are}

@@ -19,15 +19,15 @@ use Rattle.tau_scan.specs.declared.log.Log.{Log}
 use Rattle.tau_scan.specs.Reading.{log_of}
 use Rattle.tau_scan.specs.Taken.{kept_in}
 use Rattle.tau_run.specs.Run.{Committed, Run, pair_of, IsHistory, acts, records_in, has_ack, vector_of, AllAcked}
-use Rattle.tau_run.specs.Facts.{catalogue_of, log_of_contents, takes, IsRecovered}
+use Rattle.tau_run.specs.RecoveredFacts.{catalogue_of, log_of_contents, takes, IsRecovered}
 use Rattle.tau_base.specs.declared.value.Call.{Call}
 use Rattle.tau_proc.specs.Takes.{takes as takes_call}
 use Rattle.tau_text.specs.Text.{workload_of}
-use Rattle.tau_run.specs.Course.{IsLoadOf, AreAcks, IsRunOf, IsSoundLoad, IsCourse}
+use Rattle.tau_run.specs.CoreRun.{IsLoadOf, AreAcks, IsRunOf, IsSoundLoad, IsCourse}
 use Rattle.tau_text.specs.declared.load.Turn.{Turn}
 use Rattle.tau_machine.specs.Runs.{IsOpening}
 use Rattle.tau_run.specs.Turns.{Progress, IsWholeRun, IsPartOfRun}
-use Rattle.tau_run.specs.Left.{HasFront, IsLeft, IsOver}
+use Rattle.tau_run.specs.StopsLeave.{HasFront, IsLeft, IsOver}
 
 -- a workload that a text means is sound, where its procedures take its calls
 abbrev pub TextsAreSound : Type 0

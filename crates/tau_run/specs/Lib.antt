@@ -1,7 +1,7 @@
 pub mod Run
-pub mod Facts
-pub mod Course
-pub mod Left
+pub mod RecoveredFacts
+pub mod CoreRun
+pub mod StopsLeave
 pub mod Turns
 pub mod Laws
-pub mod Told
+pub mod RunFacts

@@ -13,9 +13,9 @@ use Rattle.tau_core.specs.declared.opening.Opening.{Opening}
 use Rattle.tau_core.specs.declared.state.Load.{Load}
 use Rattle.tau_core.specs.State.{Plain}
 use Rattle.tau_core.specs.Opens.{Opened, OpenedFresh, catalogue_size, load_of}
-use Rattle.tau_run.specs.Facts.{catalogue_of}
-use Rattle.tau_run.specs.Course.{IsLoadOf}
-use Rattle.tau_run.specs.Told.{turns_of}
+use Rattle.tau_run.specs.RecoveredFacts.{catalogue_of}
+use Rattle.tau_run.specs.CoreRun.{IsLoadOf}
+use Rattle.tau_run.specs.RunFacts.{turns_of}
 use Rattle.tau_step.specs.RunTold.{AreNew, Began, Ran, RanFrom, RanNew}
 use Rattle.tau_step.specs.Whole.{IsBegun}
 

@@ -10,13 +10,13 @@ use Rattle.tau_run.specs.Run.{below}
 use Rattle.tau_run.specs.Turns.{Progress, OneByOne, Idled}
 use Rattle.tau_step.specs.declared.manager.Managing.TheVariants as did
 use Rattle.tau_step.specs.declared.run.Run.{Run}
-use Rattle.tau_step.specs.Moving.{IsOn, Manages, Moves}
+use Rattle.tau_step.specs.RunEffects.{IsOn, Manages, Moves}
 use Rattle.tau_step.specs.Progressed.{progress}
 use Rattle.tau_step.specs.Rounding.{managed_by, flushed_by, idled, idles_on, idled_below, all_idled, clerked, drained}
-use Rattle.tau_step.proofs.Going.{kept-after, went-on}
+use Rattle.tau_step.proofs.RunSteps.{kept-after, went-on}
 use Rattle.tau_step.specs.Device.{noting}
 use Rattle.tau_step.proofs.Silent.{false-not}
-use Rattle.tau_step.proofs.Moved.{manages-on, manages-as, manages-none, manages-moves, moves-on, moves-as}
+use Rattle.tau_step.proofs.EffectsInTurn.{manages-on, manages-as, manages-none, manages-moves, moves-on, moves-as}
 use Rattle.tau_step.proofs.OneByOne.{one-more, one-cut, below-split}
 
 abbrev pub idles_so : ℕ → Bool → Load → Progress → Progress → Type 0

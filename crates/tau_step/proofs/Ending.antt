@@ -29,14 +29,14 @@ use Rattle.tau_core.specs.Opens.{Opened, nothing}
 use Rattle.tau_core.specs.Stands.{Stands}
 use Rattle.tau_core.proofs.Promises.{acknowledged_law, committed_law}
 use Rattle.tau_run.specs.Run.{pair_of}
-use Rattle.tau_run.specs.Left.{HasFront, IsOver}
+use Rattle.tau_run.specs.StopsLeave.{HasFront, IsOver}
 use Rattle.tau_run.specs.Turns.{Progress, begun, IsWholeRun}
 use Rattle.tau_run.proofs.Acks.{turns_law}
 use Rattle.tau_step.specs.declared.run.Run.{Run}
 use Rattle.tau_step.specs.Along.{AreKept, IsAlong, IsLeaving, KeptBy, Since, Went}
 use Rattle.tau_step.specs.Device.{noting}
 use Rattle.tau_step.specs.Fates.{IsNumberOf}
-use Rattle.tau_step.specs.Moving.{Moves}
+use Rattle.tau_step.specs.RunEffects.{Moves}
 use Rattle.tau_step.specs.Progressed.{progress}
 use Rattle.tau_step.specs.RunTold.{AreNew, EachOf, Left, Ended, CutShort, Ran, IsLowestStopped, fates_by}
 use Rattle.tau_step.specs.Telling.{Heard}
@@ -44,8 +44,8 @@ use Rattle.tau_step.specs.Rounding.{ran_all}
 use Rattle.tau_step.specs.Whole.{IsBegun}
 use Rattle.tau_step.proofs.Fates.{at-member, number-is, of-map}
 use Rattle.tau_step.proofs.Kept.{kept-leaving}
-use Rattle.tau_step.proofs.Moved.{lowest-same}
-use Rattle.tau_step.proofs.Over.{IsBeyond, AreShort, whole-over}
+use Rattle.tau_step.proofs.EffectsInTurn.{lowest-same}
+use Rattle.tau_step.proofs.RunEnds.{IsBeyond, AreShort, whole-over}
 use Rattle.tau_step.proofs.Short.{are-short}
 use Rattle.tau_step.proofs.Whole.{all-whole, all-part, whole-part}
 

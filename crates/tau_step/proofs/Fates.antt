@@ -24,7 +24,7 @@ use Rattle.tau_core.proofs.Promises.{committed_law, numbers_law}
 use Rattle.tau_report.specs.declared.report.Fate.{Fate}
 use Rattle.tau_report.specs.declared.report.Fate.TheVariants.{Unrun}
 use Rattle.tau_run.specs.Run.{below, fate}
-use Rattle.tau_run.proofs.Told.{Apart, apart_reordered}
+use Rattle.tau_run.proofs.CommittedTold.{Apart, apart_reordered}
 use Rattle.tau_run.proofs.Order.{again_of}
 use Rattle.tau_step.specs.RunTold.{fates_by, is_told, reply_at}
 use Rattle.tau_step.specs.Fates.{IsNumberOf, fates_in, marks_in, reply_in}

@@ -26,7 +26,7 @@ use Rattle.tau_run.proofs.Lists.{any_true}
 use Rattle.tau_step.specs.Acting.{raised}
 use Rattle.tau_step.specs.RunTold.{IsLowestStopped}
 use Rattle.tau_step.proofs.Falling.{HasTries}
-use Rattle.tau_step.proofs.Over.{member-below}
+use Rattle.tau_step.proofs.RunEnds.{member-below}
 use Rattle.tau_step.proofs.Resting.{any-none}
 
 some-is : {A : Type 0} (a b : A) → Some a ≡ Some b → a ≡ b

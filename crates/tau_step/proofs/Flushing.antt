@@ -33,7 +33,7 @@ use Rattle.tau_core.specs.Stands.{Stands, anchors_at}
 use Rattle.tau_core.specs.Pieces.{Spelled}
 use Rattle.tau_core.specs.Managers.{Bars}
 use Rattle.tau_core.specs.Steps.{Steps, Happened}
-use Rattle.tau_run.specs.Left.{HasFront, IsLeft}
+use Rattle.tau_run.specs.StopsLeave.{HasFront, IsLeft}
 use Rattle.tau_run.specs.Turns.{Stays, Goes}
 use Rattle.tau_step.specs.declared.manager.Managing.TheVariants as did
 use Rattle.tau_step.specs.Progressed.{progress}

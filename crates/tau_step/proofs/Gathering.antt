@@ -33,7 +33,7 @@ use Rattle.tau_core.specs.declared.event.Outcome.TheVariants as outcome
 use Rattle.tau_core.specs.Steps.{Steps, Happened, Unmoved}
 use Rattle.tau_core.proofs.Lists.{some-at}
 use Rattle.tau_run.specs.Turns.{Progress, Stays, Waits, IsGathered, Gathers, Flushed, is_going}
-use Rattle.tau_run.specs.Left.{HasFront, IsLeft}
+use Rattle.tau_run.specs.StopsLeave.{HasFront, IsLeft}
 use Rattle.tau_step.specs.declared.manager.Managing.{Managing}
 use Rattle.tau_step.specs.declared.manager.Managing.TheVariants as did
 use Rattle.tau_step.specs.Progressed.{progress}

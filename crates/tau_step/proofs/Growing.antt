@@ -10,7 +10,7 @@ use Rattle.tau_machine.specs.State.{Setting, Item, Anchor, Stream, Core, past_of
 use Rattle.tau_machine.specs.Events.{Event, Lock, Busy, Quit, Commit, Post, Free, FirstFree, Done, DoneReading, Drop, Gather, PlaceAnchor, Persist, Ack, Stop, Resume, Leads, Gathered, stop, record_first, anchor_first, GathersRecord, GathersAnchor}
 use Rattle.tau_machine.proofs.At.{at-same, at-other}
 use Rattle.tau_core.proofs.Lists.{got-first}
-use Rattle.tau_core.proofs.More as more
+use Rattle.tau_core.proofs.AnchorNames as more
 use Rattle.tau_step.specs.Along.{Grows, SameAt, Spares}
 
 -- items and anchors of each stream are those of before and more

@@ -18,7 +18,7 @@ use Rattle.tau_disk.specs.Disk.{Passes, Rose}
 use Rattle.tau_disk.specs.Used.{GoesOn, IsStopped}
 use Rattle.tau_machine.specs.Events as machine
 use Rattle.tau_core.specs.View.{setting_of}
-use Rattle.tau_run.specs.Left.{IsLeft}
+use Rattle.tau_run.specs.StopsLeave.{IsLeft}
 use Rattle.tau_run.specs.Turns.{Progress, Flushed}
 use Rattle.tau_step.specs.declared.manager.Managing.{Managing}
 use Rattle.tau_step.specs.Progressed.{progress}

@@ -13,8 +13,8 @@ use Rattle.tau_core.specs.State.{Plain}
 use Rattle.tau_core.specs.Stands.{anchors_at}
 use Rattle.tau_core.specs.View.{Hidden, core_of}
 use Rattle.tau_core.specs.Pieces.{Spelled}
-use Rattle.tau_core.proofs.More.{spelled-more}
-use Rattle.tau_run.specs.Left.{HasFront, IsLeft}
+use Rattle.tau_core.proofs.AnchorNames.{spelled-more}
+use Rattle.tau_run.specs.StopsLeave.{HasFront, IsLeft}
 use Rattle.tau_step.specs.Along.{Grows, SameAt, IsLeaving}
 use Rattle.tau_step.specs.Keeping.{IsKept, IsCurrent, IsBroken}
 use Rattle.tau_step.proofs.Growing.{anchors-grow}

@@ -25,13 +25,13 @@ use Rattle.tau_run.specs.Turns.{Progress, Goes, has_work, is_busy, is_raised, is
 use Rattle.tau_step.specs.declared.run.Run.{Run}
 use Rattle.tau_step.specs.Acting.{IsSettling, Settles}
 use Rattle.tau_step.specs.Along.{Quiet}
-use Rattle.tau_step.specs.Moving.{Works, calls_over, rests_in}
+use Rattle.tau_step.specs.RunEffects.{Works, calls_over, rests_in}
 use Rattle.tau_step.specs.Progressed.{progress}
 use Rattle.tau_step.specs.Remains.{sum_below}
 use Rattle.tau_step.specs.Rounding.{worked_by, acted_alone, alone_on, ran_left_over, left_over_on, resumed_by}
 use Rattle.tau_step.specs.RunTold.{IsLowestStopped}
 use Rattle.tau_step.proofs.Fitting.{lowest-raised}
-use Rattle.tau_step.proofs.Moved.{works-on, works-none}
+use Rattle.tau_step.proofs.EffectsInTurn.{works-on, works-none}
 use Rattle.tau_step.proofs.Resting.{any-none, rest-hand, rest-waiting, busy-none, none-busy, resumed-later, resumed-quiet, alone-none, alone-more, alone-cut, left-more, left-cut, left-none, left-raised}
 use Rattle.tau_step.proofs.Rounding.{quiet-none}
 use Rattle.tau_step.proofs.Totals.{sum-same, sum-less}

@@ -5,7 +5,7 @@ mod Lines
 mod Clearing
 mod Joined
 mod OneByOne
-mod Managing
+mod AnchorsDropped
 pub mod Bodies
 mod Images
 pub mod Flushing
@@ -17,16 +17,16 @@ mod Growing
 mod Turning
 mod Kept
 mod Calls
-mod Going
+mod RunSteps
 mod Readings
 mod Falling
 mod Others
 mod Rounding
-mod Moved
+mod EffectsInTurn
 mod Totals
 mod Resting
 mod Idling
-mod Over
+mod RunEnds
 mod Managers
 mod Fitting
 mod Running

@@ -24,18 +24,18 @@ use Rattle.tau_step.specs.declared.manager.Managing.TheVariants as did
 use Rattle.tau_step.specs.declared.run.Run.{Run}
 use Rattle.tau_step.specs.Along.{AreKept, Went}
 use Rattle.tau_step.specs.Keeping.{IsKept, IsHeld, ManagerTurned}
-use Rattle.tau_step.specs.Moving.{IsOn, Manages, total_left, to_flush}
+use Rattle.tau_step.specs.RunEffects.{IsOn, Manages, total_left, to_flush}
 use Rattle.tau_step.specs.Progressed.{progress}
 use Rattle.tau_step.specs.Remains.{sum_below, worker_left}
 use Rattle.tau_step.specs.Rounding.{managed, managed_by, turned}
 use Rattle.tau_step.specs.RunTold.{IsLowestStopped}
-use Rattle.tau_step.proofs.Going.{went-as, kept-after}
+use Rattle.tau_step.proofs.RunSteps.{went-as, kept-after}
 use Rattle.tau_step.proofs.Idling.{managed-ends}
 use Rattle.tau_step.proofs.Kept.{kept-leaving}
 use Rattle.tau_step.proofs.Managers.{manager-went}
 use Rattle.tau_step.specs.Device.{NotesTurn, managed_flushing, noting}
 use Rattle.tau_step.proofs.Silent.{false-not}
-use Rattle.tau_step.proofs.Moved.{manages-as, manages-none, noted-same}
+use Rattle.tau_step.proofs.EffectsInTurn.{manages-as, manages-none, noted-same}
 use Rattle.tau_step.proofs.Others.{managed-workers}
 use Rattle.tau_step.proofs.Running.{absent-manager}
 use Rattle.tau_step.proofs.Turning.{managed-same}

@@ -20,7 +20,7 @@ use Rattle.tau_core.specs.State.{Plain}
 use Rattle.tau_core.specs.View.{Hidden, setting_of, core_of}
 use Rattle.tau_core.specs.Stands.{Stands}
 use Rattle.tau_core.proofs.Lists.{got-same, got-other}
-use Rattle.tau_run.specs.Left.{HasFront, IsLeft}
+use Rattle.tau_run.specs.StopsLeave.{HasFront, IsLeft}
 use Rattle.tau_run.specs.Turns.{Progress}
 use Rattle.tau_step.specs.declared.manager.Managing.{Managing}
 use Rattle.tau_step.specs.declared.manager.Managing.TheVariants as did
@@ -29,7 +29,7 @@ use Rattle.tau_step.specs.Keeping.{IsKept, ManagerTurns, ManagerStops, ManagerTu
 use Rattle.tau_step.specs.Progressed.{progress}
 use Rattle.tau_step.specs.Device.{managed_flushing}
 use Rattle.tau_step.proofs.Calls.{calls-none}
-use Rattle.tau_step.proofs.Going.{since-none}
+use Rattle.tau_step.proofs.RunSteps.{since-none}
 use Rattle.tau_step.proofs.Idling.{idle-idled, failed-idled, flushed-on, part-stop}
 use Rattle.tau_step.proofs.Noting.{idle-silent, failed-silent, flushed-noted}
 use Rattle.tau_step.proofs.Kept.{kept-same, kept-leaving, leaving-same}

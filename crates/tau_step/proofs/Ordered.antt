@@ -16,11 +16,11 @@ use Rattle.tau_core.specs.declared.state.Load.{Load}
 use Rattle.tau_core.specs.State.{Plain}
 use Rattle.tau_core.specs.View.{core_of, setting_of}
 use Rattle.tau_core.specs.Opens.{Opened, OpenedFresh, catalogue_size, nothing}
-use Rattle.tau_run.specs.Facts.{catalogue_of}
-use Rattle.tau_run.specs.Course.{IsLoadOf, IsStart, AreAcks, IsRunOf}
+use Rattle.tau_run.specs.RecoveredFacts.{catalogue_of}
+use Rattle.tau_run.specs.CoreRun.{IsLoadOf, IsStart, AreAcks, IsRunOf}
 use Rattle.tau_run.specs.Laws.{KeepCalls}
 use Rattle.tau_run.specs.Run as told
-use Rattle.tau_run.specs.Told.{turns_of, by_turns, IsCoreRun}
+use Rattle.tau_run.specs.RunFacts.{turns_of, by_turns, IsCoreRun}
 use Rattle.tau_run.specs.Turns.{Progress, IsWholeRun, begun}
 use Rattle.tau_run.proofs.Acks.{turns_law}
 use Rattle.tau_run.proofs.Results.{run_law}
@@ -29,13 +29,13 @@ use Rattle.tau_step.specs.declared.flushes.Flushes.{Flushes}
 use Rattle.tau_step.specs.declared.run.Run.{Run}
 use Rattle.tau_step.specs.Along.{IsAlong, Went}
 use Rattle.tau_step.specs.Device.{IsFlushOrder, IsOfRun, flushed_in, noting}
-use Rattle.tau_step.specs.Moving.{IsOn, Moves}
+use Rattle.tau_step.specs.RunEffects.{IsOn, Moves}
 use Rattle.tau_step.specs.Progressed.{progress}
 use Rattle.tau_step.specs.Rounding.{ran_all}
 use Rattle.tau_step.specs.RunTold.{AreNew, IsLowestStopped}
 use Rattle.tau_step.proofs.Begun.{fresh-begun, fresh-load, fresh-opened}
 use Rattle.tau_step.proofs.Ending.{begun-along, begun-kept}
-use Rattle.tau_step.proofs.Moved.{lowest-same}
+use Rattle.tau_step.proofs.EffectsInTurn.{lowest-same}
 use Rattle.tau_step.proofs.Whole.{all-whole}
 
 -- the writers of streams that were just opened

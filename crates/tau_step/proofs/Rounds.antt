@@ -20,14 +20,14 @@ use Rattle.tau_run.specs.Turns.{Progress, Turned, TurnedAll, Rounds, is_busy}
 use Rattle.tau_step.specs.declared.manager.Managing.{Managing}
 use Rattle.tau_step.specs.declared.run.Run.{Run}
 use Rattle.tau_step.specs.Along.{Quiet}
-use Rattle.tau_step.specs.Moving.{IsOn, Works, Manages, Moves, rests_in, total_left}
+use Rattle.tau_step.specs.RunEffects.{IsOn, Works, Manages, Moves, rests_in, total_left}
 use Rattle.tau_step.specs.Progressed.{progress, clerks}
 use Rattle.tau_step.specs.Telling.{Passed}
 use Rattle.tau_step.specs.Rounding.{managed, Rounded, worked_by, rounded_by, round_by, rounds_on, in_rounds, managed_by, managed_below, all_managed, clerked, rest_of_round}
-use Rattle.tau_step.proofs.Going.{kept-after, went-on}
+use Rattle.tau_step.proofs.RunSteps.{kept-after, went-on}
 use Rattle.tau_step.specs.Device.{noting}
 use Rattle.tau_step.proofs.Silent.{false-not, rounded-silent}
-use Rattle.tau_step.proofs.Moved.{works-on, works-none, works-manages, manages-on, manages-as, manages-none, manages-moves, moves-on, moves-as, moves-none}
+use Rattle.tau_step.proofs.EffectsInTurn.{works-on, works-none, works-manages, manages-on, manages-as, manages-none, manages-moves, moves-on, moves-as, moves-none}
 use Rattle.tau_step.proofs.ManagerRuns.{moved-by, total-same}
 use Rattle.tau_step.proofs.Others.{clerked-workers}
 use Rattle.tau_step.proofs.OneByOne.{one-more, one-cut, below-split}

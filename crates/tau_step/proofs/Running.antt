@@ -17,13 +17,13 @@ use Rattle.tau_run.specs.Turns.{Progress, Worked, Managed, has_work, is_going, i
 use Rattle.tau_step.specs.declared.run.Run.{Run}
 use Rattle.tau_step.specs.Acting.{WorkerTurned}
 use Rattle.tau_step.specs.Along.{Quiet}
-use Rattle.tau_step.specs.Moving.{Works, total_left}
+use Rattle.tau_step.specs.RunEffects.{Works, total_left}
 use Rattle.tau_step.specs.Progressed.{Comes, stays, anchors, drops}
 use Rattle.tau_step.specs.Remains.{sum_below, worker_left}
 use Rattle.tau_step.specs.Rounding.{turned, worked_by}
 use Rattle.tau_step.proofs.Deciding.{if-not}
 use Rattle.tau_step.proofs.Fitting.{stands-tries}
-use Rattle.tau_step.proofs.Moved.{works-as, works-none}
+use Rattle.tau_step.proofs.EffectsInTurn.{works-as, works-none}
 use Rattle.tau_step.proofs.Totals.{worked-total}
 use Rattle.tau_step.proofs.Turning.{worked-grows, worked-same, anchored-grows, anchored-same, removed-grows, removed-same}
 

@@ -28,7 +28,7 @@ use Rattle.tau_core.specs.View.{Hidden, core_of, setting_of, anchors_in}
 use Rattle.tau_core.specs.Pieces.{AreBytesOf, IsPieceOf, Names, Paired}
 use Rattle.tau_core.specs.Stands.{Stands, anchors_at}
 use Rattle.tau_core.proofs.Lists.{some-at}
-use Rattle.tau_step.proofs.Over.{AreShort}
+use Rattle.tau_step.proofs.RunEnds.{AreShort}
 
 -- ---- how long a record is
 

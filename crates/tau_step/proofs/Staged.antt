@@ -8,10 +8,10 @@ use Rattle.tau_core.specs.declared.state.Load.{Load}
 use Rattle.tau_run.specs.Turns.{Progress}
 use Rattle.tau_step.specs.declared.run.Run.{Run}
 use Rattle.tau_step.specs.Along.{Quiet}
-use Rattle.tau_step.specs.Moving.{IsOn, Works, Moves}
+use Rattle.tau_step.specs.RunEffects.{IsOn, Works, Moves}
 use Rattle.tau_step.specs.Rounding.{turned_all, in_rounds, ran_left_over, drained, ran_last, ran_behind, ran_all}
 use Rattle.tau_step.proofs.Silent.{left_over-silent}
-use Rattle.tau_step.proofs.Moved.{works-manages, manages-moves, moves-on, moves-as, moves-none}
+use Rattle.tau_step.proofs.EffectsInTurn.{works-manages, manages-moves, moves-on, moves-as, moves-none}
 
 left-quiet : (whole : Bool) (l : Load) (P P' : Progress) → ran_left_over whole l P P' → Quiet P.state P'.state
 left-quiet whole l P P' q = q.quiet

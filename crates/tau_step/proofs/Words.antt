@@ -10,10 +10,10 @@ use Rattle.tau_core.specs.View.{setting_of}
 use Rattle.tau_run.specs.Turns.{Progress, Turned, TurnedAll}
 use Rattle.tau_step.specs.declared.run.Run.{Run}
 use Rattle.tau_step.specs.Along.{Quiet}
-use Rattle.tau_step.specs.Moving.{IsOn, Works, Manages, Moves}
+use Rattle.tau_step.specs.RunEffects.{IsOn, Works, Manages, Moves}
 use Rattle.tau_step.specs.Rounding.{clerked, turned, turned_all}
 use Rattle.tau_step.proofs.Silent.{Silent}
-use Rattle.tau_step.proofs.Moved.{works-manages, manages-moves, moves-on, moves-as}
+use Rattle.tau_step.proofs.EffectsInTurn.{works-manages, manages-moves, moves-on, moves-as}
 use Rattle.tau_step.proofs.OneByOne.{one-more, one-cut}
 
 next-taken : {A : Type 0} (xs : List A) (i : ℕ) (x d : A) → i < length xs → x ≡ get_or xs i d → take (i + 1) xs ≡ take i xs ++ x ∷ []

@@ -14,7 +14,7 @@ use Rattle.tau_core.specs.declared.state.Load.{Load}
 use Rattle.tau_core.specs.State.{Plain}
 use Rattle.tau_core.specs.View.{Hidden, core_of}
 use Rattle.tau_core.specs.Stands.{Stands}
-use Rattle.tau_run.specs.Left.{HasFront, IsLeft}
+use Rattle.tau_run.specs.StopsLeave.{HasFront, IsLeft}
 use Rattle.tau_run.specs.Turns.{Progress}
 use Rattle.tau_step.specs.Keeping.{IsKept}
 use Rattle.tau_step.specs.Progressed.{progress}

@@ -12,8 +12,8 @@ use Rattle.tau_text.specs.declared.load.Workload.{Workload}
 use Rattle.tau_core.specs.declared.state.Load.{Load}
 use Rattle.tau_core.specs.View.{setting_of}
 use Rattle.tau_run.specs.Run.{Run}
-use Rattle.tau_run.specs.Facts.{catalogue_of}
-use Rattle.tau_run.specs.Course.{IsStart, IsRunOf, IsCourse}
+use Rattle.tau_run.specs.RecoveredFacts.{catalogue_of}
+use Rattle.tau_run.specs.CoreRun.{IsStart, IsRunOf, IsCourse}
 use Rattle.tau_run.specs.Turns.{Progress}
 use Rattle.tau_step.specs.RunTold.{EachOf, Left}
 

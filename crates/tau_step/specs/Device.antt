@@ -8,7 +8,7 @@ use Rattle.tau_text.specs.declared.load.Workload.{Workload}
 use Rattle.tau_core.specs.declared.state.Load.{Load}
 use Rattle.tau_open.specs.Outside.{calls_to_make}
 use Rattle.tau_run.specs.Run.{Run, below}
-use Rattle.tau_run.specs.Told.{by_turns, IsCoreRun}
+use Rattle.tau_run.specs.RunFacts.{by_turns, IsCoreRun}
 use Rattle.tau_run.specs.Turns.{Progress}
 use Rattle.tau_step.specs.declared.flushes.Flushes.{Flushes}
 use Rattle.tau_step.specs.declared.manager.Managing.{Managing}

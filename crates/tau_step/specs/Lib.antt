@@ -7,7 +7,7 @@ pub mod Along
 pub mod Device
 pub mod Remains
 pub mod Rounding
-pub mod Moving
+pub mod RunEffects
 pub mod Fates
 pub mod Whole
 pub mod Came

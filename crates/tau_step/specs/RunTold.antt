@@ -27,10 +27,10 @@ use Rattle.tau_core.specs.View.{Hidden, setting_of, core_of}
 use Rattle.tau_core.specs.Stands.{Stands}
 use Rattle.tau_core.specs.Opens.{Opened, load_of, nothing}
 use Rattle.tau_run.specs.Run.{below, fate}
-use Rattle.tau_run.specs.Facts.{catalogue_of}
-use Rattle.tau_run.specs.Course.{IsLoadOf}
-use Rattle.tau_run.specs.Left.{HasFront, IsLeft, IsOver}
-use Rattle.tau_run.specs.Told.{turns_of}
+use Rattle.tau_run.specs.RecoveredFacts.{catalogue_of}
+use Rattle.tau_run.specs.CoreRun.{IsLoadOf}
+use Rattle.tau_run.specs.StopsLeave.{HasFront, IsLeft, IsOver}
+use Rattle.tau_run.specs.RunFacts.{turns_of}
 use Rattle.tau_run.specs.Turns.{Progress, IsWholeRun, IsPartOfRun}
 use Rattle.tau_step.specs.Progressed.{progress}
 use Rattle.tau_step.specs.Telling.{Heard}

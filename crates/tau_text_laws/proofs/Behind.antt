@@ -28,7 +28,7 @@ use Rattle.tau_text_laws.proofs.Unique.{only_if}
 use Rattle.tau_text_laws.proofs.Once.{once_end, table_once, proc_once}
 use Rattle.tau_text_laws.proofs.WholeLines.{Is, step_head_is, head_is, once_front, step_once}
 use Rattle.tau_text_laws.proofs.MoreTables.{one_step}
-use Rattle.tau_text_laws.proofs.Told.{TablesTold, tables_push, StepTold, StepsTold, steps_push, ProcTold, ProcsTold, procs_push, procs_more, BegunTold, call_read, CallTold, CallsTold, calls_push, TurnsTold, tables_size, procs_size, begun_size, tables_size_push, steps_size_push, procs_size_push, procs_size_more}
+use Rattle.tau_text_laws.proofs.PartsTold.{TablesTold, tables_push, StepTold, StepsTold, steps_push, ProcTold, ProcsTold, procs_push, procs_more, BegunTold, call_read, CallTold, CallsTold, calls_push, TurnsTold, tables_size, procs_size, begun_size, tables_size_push, steps_size_push, procs_size_push, procs_size_more}
 
 abbrev pub MaybeBegun : List (List ℕ) → List Proc → List Call → Option Begun → Type 0
 MaybeBegun ts ps cs None = Unit {0}

@@ -21,7 +21,7 @@ use Rattle.tau_text.specs.Forms.{line_size, with_step}
 use Rattle.tau_text.specs.Text.{lines_read, nothing, closed, workload_of}
 use Rattle.tau_text.specs.Alone.{differs, declarations_of}
 use Rattle.tau_text_laws.proofs.Once.{table_once, proc_once}
-use Rattle.tau_text_laws.proofs.Told.{TablesTold, StepsTold, ProcTold, ProcsTold, CallsTold, TurnsTold, tables_size, steps_size, procs_size, told_once}
+use Rattle.tau_text_laws.proofs.PartsTold.{TablesTold, StepsTold, ProcTold, ProcsTold, CallsTold, TurnsTold, tables_size, steps_size, procs_size, told_once}
 use Rattle.tau_text_laws.proofs.Behind.{Told, told_lines, told_nothing}
 use Rattle.tau_text_laws.proofs.Runs.{run, run_more, declared, run_tables, proc_lines, run_procs}
 use Rattle.tau_text_laws.proofs.Whole.{calling, run_calls, told_call_once, turn_lines, turns_told, run_turns}

@@ -4,7 +4,7 @@ pub mod Values
 pub mod Once
 pub mod WholeLines
 pub mod MoreTables
-pub mod Told
+pub mod PartsTold
 pub mod Behind
 pub mod Runs
 pub mod Whole

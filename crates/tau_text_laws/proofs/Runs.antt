@@ -19,7 +19,7 @@ use Rattle.tau_text.specs.Forms.{room, grown, line_size, table_line, proc_line, 
 use Rattle.tau_text.specs.Text.{is_before, outer_read, inner_read, statement_read, words_read}
 use Rattle.tau_text_laws.proofs.Binds.{bind_ok, then_ok}
 use Rattle.tau_text_laws.proofs.WholeLines.{step_word, step_head_is}
-use Rattle.tau_text_laws.proofs.Told.{TablesTold, StepTold, StepsTold, with_steps, ProcTold, ProcsTold, tables_size, steps_size, proc_size, procs_size, told_once}
+use Rattle.tau_text_laws.proofs.PartsTold.{TablesTold, StepTold, StepsTold, with_steps, ProcTold, ProcsTold, tables_size, steps_size, proc_size, procs_size, told_once}
 
 -- the lines one after the other, each by its words
 unfoldable pub run : Reading → ℕ → List (List (List ℕ)) → Result Reading TextCause

@@ -21,7 +21,7 @@ use Rattle.tau_text_laws.proofs.Binds.{bind_ok, then_ok}
 use Rattle.tau_text_laws.proofs.Unique.{known_spells}
 use Rattle.tau_text_laws.proofs.Once.{AreWords, Once, once_end, once_more}
 use Rattle.tau_text_laws.proofs.WholeLines.{Is, keyed_words, head_word, head_is, once_front, put_call_once, add_call_once, key_call_once, literals_once, turns_once}
-use Rattle.tau_text_laws.proofs.Told.{call_read, CallTold, CallsTold, TurnsTold}
+use Rattle.tau_text_laws.proofs.PartsTold.{call_read, CallTold, CallsTold, TurnsTold}
 use Rattle.tau_text_laws.proofs.Runs.{run}
 
 -- ---- the words of a call

@@ -1,4 +1,4 @@
-use Rattle.tau_run.specs.Told.{in_any_order}
+use Rattle.tau_run.specs.RunFacts.{in_any_order}
 use Rattle.tau_crew_facts.proofs.Came.{came}
 use Rattle.tau_crew_facts.proofs.laws.ends_are_runs.Goals as goal
 

@@ -10,7 +10,7 @@ use Rattle.tau_scan.specs.Reading.{log_of}
 use Rattle.tau_scan.specs.Taken.{Kept}
 use Rattle.tau_replay.specs.Redone.{IsOrderOf}
 use Rattle.tau_report.specs.Report.{ack_lines}
-use Rattle.tau_run.specs.Course.{IsSoundLoad}
+use Rattle.tau_run.specs.CoreRun.{IsSoundLoad}
 use Rattle.tau_gen.specs.Generated.{generated}
 use Rattle.tau_gen.proofs.BenchDeclared.{are_calls}
 use Rattle.tau_engine.specs.Bench.{AreFound, lines_in}

@@ -3,7 +3,7 @@ use Rattle.std.specs.Prelude.{IfOk, Result, Ok, Err}
 use Rattle.tau_base.specs.declared.value.NoMemory.{NoMemory}
 use Rattle.tau_stream.specs.Stream.{catalogue_record}
 use Rattle.tau_open.specs.Opening.{AreOpened}
-use Rattle.tau_run.specs.Facts.{catalogue_of}
+use Rattle.tau_run.specs.RecoveredFacts.{catalogue_of}
 use Rattle.tau_engine.proofs.Ends.{are_new}
 use Rattle.tau_engine.proofs.Rehearsed.{measured_on}
 use Rattle.tau_engine.proofs.bench.play.Goals as goal

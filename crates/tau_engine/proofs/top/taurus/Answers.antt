@@ -9,7 +9,7 @@ use Rattle.tau_run.proofs.Sources.{catalogue_load}
 use Rattle.tau_engine.specs.declared.status.Status.TheVariants as status
 use Rattle.tau_engine.specs.Recovery.{RecoverTells, IsBadLog, images_of}
 use Rattle.tau_engine.specs.Served.{served, used_by, reads_source, writes_at_end}
-use Rattle.tau_engine.specs.Facts.{HasSpaced, Now}
+use Rattle.tau_engine.specs.DiskFacts.{HasSpaced, Now}
 use Rattle.tau_engine.specs.Said.{SaysRun}
 use Rattle.tau_disk.specs.Used.{EachUsed, OnlyRead, AllCalls, RoseAt, IsClean, IsFirstStopped}
 use Rattle.tau_engine.specs.Outside.{Wrote, is_behind_reading}

@@ -1,7 +1,7 @@
 use Rattle.std.proofs.Common.{ℕ, ◌≡◌, List}
 use Rattle.tau_stream.specs.Stream.{catalogue_record}
 use Rattle.tau_open.specs.Opening.{Refuses, AreOpened}
-use Rattle.tau_open.proofs.Told.{failed_first, failed_early, long_told, refusal_begins, rest_stands, refusal_is, on_refusal}
+use Rattle.tau_open.proofs.RefusalTold.{failed_first, failed_early, long_told, refusal_begins, rest_stands, refusal_is, on_refusal}
 use Rattle.tau_open.specs.declared.refusal.OpenRefusal.TheVariants.{Failed}
 use Rattle.tau_open.proofs.opening.open_streams.Goals as goal
 

@@ -9,7 +9,7 @@ use Rattle.tau_pool.specs.Items.{is_waiting, items_from}
 use Rattle.tau_pool.specs.Pooled.{flying_in}
 use Rattle.tau_pool.proofs.Counts.{none-flying}
 use Rattle.tau_pool.proofs.Opening.{of_log, all_wait}
-use Rattle.tau_replay.specs.Going.{AreOf, left_in}
+use Rattle.tau_replay.specs.Recovering.{AreOf, left_in}
 use Rattle.tau_replay.proofs.Starting.{of_taken, all_left}
 use Rattle.tau_replay.proofs.Hands.{empty_hands}
 use Rattle.tau_replay.proofs.replay.begin.Goals as goal

@@ -4,7 +4,7 @@ use Rattle.tau_scan.specs.declared.fault.ReplayRefusal.TheVariants.{Tangled}
 use Rattle.tau_model.specs.Store.{database}
 use Rattle.tau_scan.specs.declared.fault.ReplayRefusal.{ReplayRefusal}
 use Rattle.tau_pool.specs.Pooled.{Pooled, IsDone, flying_in}
-use Rattle.tau_replay.proofs.Going.{none_left}
+use Rattle.tau_replay.proofs.RecoveryGoesOn.{none_left}
 use Rattle.tau_replay.proofs.Hands.{no_hand}
 use Rattle.tau_replay.proofs.Following.{round_of_first}
 use Rattle.tau_replay.proofs.replay.next_round.Goals as goal

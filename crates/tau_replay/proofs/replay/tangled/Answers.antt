@@ -4,10 +4,10 @@ use Rattle.tau_model.specs.Store.{database}
 use Rattle.tau_scan.specs.declared.fault.ReplayRefusal.TheVariants.{Tangled}
 use Rattle.tau_scan.specs.Taken.{taken}
 use Rattle.tau_pool.specs.declared.item.Job.{Job}
-use Rattle.tau_replay.specs.Going.{Stands}
+use Rattle.tau_replay.specs.Recovering.{Stands}
 use Rattle.tau_replay.specs.Redone.{IsTangledAt}
 use Rattle.tau_replay.proofs.Lists.{of_get, left_put}
-use Rattle.tau_replay.proofs.Going.{tangled_at, no_order}
+use Rattle.tau_replay.proofs.RecoveryGoesOn.{tangled_at, no_order}
 use Rattle.tau_replay.proofs.replay.tangled.Goals as goal
 
 refused_is : (a b c d : ℕ) → Tangled a b ≡ Tangled c d → (a ≡ c) × (b ≡ d)

@@ -5,9 +5,9 @@ use Rattle.tau_model.specs.Store.{database}
 use Rattle.tau_scan.specs.Taken.{taken}
 use Rattle.tau_pool.specs.declared.item.Job.{Job}
 use Rattle.tau_pool.proofs.Gets.{get_within}
-use Rattle.tau_replay.specs.Going.{Stands}
+use Rattle.tau_replay.specs.Recovering.{Stands}
 use Rattle.tau_replay.proofs.Lists.{of_get}
-use Rattle.tau_replay.proofs.Going.{going_finish}
+use Rattle.tau_replay.proofs.RecoveryGoesOn.{going_finish}
 use Rattle.tau_replay.proofs.Hands.{hands_finish, less_finish}
 use Rattle.tau_replay.proofs.Following.{follow_finish}
 use Rattle.tau_replay.proofs.turns.finish.Goals as goal

@@ -4,7 +4,7 @@ use Rattle.tau_model.specs.Store.{database}
 use Rattle.tau_pool.specs.Pooled.{Pooled}
 use Rattle.tau_replay.specs.Followed.{HasFollowed}
 use Rattle.tau_replay.proofs.Following.{follow_start, follow_idle, none_ready}
-use Rattle.tau_replay.proofs.Going.{going_start}
+use Rattle.tau_replay.proofs.RecoveryGoesOn.{going_start}
 use Rattle.tau_replay.proofs.Hands.{hands_start, less_start}
 use Rattle.tau_replay.proofs.turns.start.Goals as goal
 

@@ -1,7 +1,7 @@
 -- The record at a place is started by an idle worker.
 use Rattle.tau_model.specs.Store.{database}
 use Rattle.tau_replay.proofs.Following.{follow_start}
-use Rattle.tau_replay.proofs.Going.{going_start}
+use Rattle.tau_replay.proofs.RecoveryGoesOn.{going_start}
 use Rattle.tau_replay.proofs.Hands.{hands_start}
 use Rattle.tau_replay.proofs.turns.start_at.Goals as goal
 

@@ -3,10 +3,10 @@ use Rattle.std.specs.Prelude.{is_ok, None, IfOk, Result, Ok, Err}
 use Rattle.tau_base.specs.declared.value.NoMemory.{NoMemory}
 use Rattle.tau_text.specs.Canonical.{declarations_text}
 use Rattle.tau_core.specs.Opens.{OpenedFresh, catalogue_size}
-use Rattle.tau_run.specs.Told.{turns_of}
+use Rattle.tau_run.specs.RunFacts.{turns_of}
 use Rattle.tau_step.specs.declared.run.Run.{Run}
 use Rattle.tau_step.specs.Device.{IsFlushOrder, IsOfRun}
-use Rattle.tau_step.specs.Moving.{Moves}
+use Rattle.tau_step.specs.RunEffects.{Moves}
 use Rattle.tau_step.specs.Rounding.{ran_all}
 use Rattle.tau_step.proofs.Ordered.{begun-on, flush-order}
 use Rattle.tau_step.proofs.device.flushes_of.Goals as goal

@@ -3,7 +3,7 @@ use Rattle.tau_core.specs.declared.event.Event.TheVariants as event
 use Rattle.tau_core.specs.declared.event.Outcome.{Outcome}
 use Rattle.tau_core.specs.Steps.{Steps}
 use Rattle.tau_step.proofs.Working.{stays}
-use Rattle.tau_step.proofs.Managing.{anchor-goes}
+use Rattle.tau_step.proofs.AnchorsDropped.{anchor-goes}
 use Rattle.tau_step.proofs.manager.anchor_turn.Goals as goal
 
 pub returns-then-is_short-clause-short : goal.returns-then-is_short-clause-short

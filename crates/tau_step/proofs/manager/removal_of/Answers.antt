@@ -1,4 +1,4 @@
-use Rattle.tau_step.proofs.Managing.{dropped}
+use Rattle.tau_step.proofs.AnchorsDropped.{dropped}
 use Rattle.tau_step.proofs.manager.removal_of.Goals as goal
 
 pub returns : goal.returns

@@ -2,10 +2,10 @@ use Rattle.std.proofs.Common.{ℕ, ◌≡◌, ◌∙◌, List, length, sym, ap, 
 use Rattle.std.specs.Prelude.{None, is_ok}
 use Rattle.std.specs.List.{All}
 use Rattle.tau_base.specs.declared.value.Call.{Call}
-use Rattle.tau_run.specs.Told.{turns_of}
+use Rattle.tau_run.specs.RunFacts.{turns_of}
 use Rattle.tau_step.specs.declared.run.Run.{Run}
 use Rattle.tau_step.specs.Fates.{IsNumberOf}
-use Rattle.tau_step.specs.Moving.{Moves}
+use Rattle.tau_step.specs.RunEffects.{Moves}
 use Rattle.tau_step.specs.Rounding.{ran_all}
 use Rattle.tau_step.proofs.Ending.{begun-along, count-is, calls-same, told-numbers, ran-by, cut-short, count-same}
 use Rattle.tau_step.proofs.top.go.Goals as goal

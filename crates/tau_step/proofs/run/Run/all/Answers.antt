@@ -1,6 +1,6 @@
 use Rattle.std.proofs.Common.{refl}
 use Rattle.std.specs.Prelude.{is_ok}
-use Rattle.tau_run.specs.Told.{turns_of}
+use Rattle.tau_run.specs.RunFacts.{turns_of}
 use Rattle.tau_step.proofs.Staged.{all-behind, all-short}
 use Rattle.tau_step.proofs.run.Run.all.Goals as goal
 

@@ -2,7 +2,7 @@ use Rattle.std.proofs.Common.{true, ap, arith, ◌∙◌}
 use Rattle.std.specs.Prelude.{Ok}
 use Rattle.tau_core.specs.declared.state.Load.{Load}
 use Rattle.tau_step.proofs.LeftOvers.{alone_so, alone-quiet, acts-none, acts-more, acts-end, acts-cut}
-use Rattle.tau_step.proofs.Moved.{works-lowest}
+use Rattle.tau_step.proofs.EffectsInTurn.{works-lowest}
 use Rattle.tau_step.proofs.Settling.{settles-none, settles-on}
 use Rattle.tau_step.proofs.run.Run.alone.Goals as goal
 

@@ -1,6 +1,6 @@
 use Rattle.std.proofs.Common.{true}
 use Rattle.tau_step.specs.Acting.{Settles}
-use Rattle.tau_step.specs.Moving.{Works, total_left}
+use Rattle.tau_step.specs.RunEffects.{Works, total_left}
 use Rattle.tau_step.proofs.LeftOvers.{alone_so}
 use Rattle.tau_step.proofs.run.Run.alone.Given as goal
 

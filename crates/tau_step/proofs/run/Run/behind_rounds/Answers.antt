@@ -1,5 +1,5 @@
 use Rattle.std.specs.Prelude.{is_ok}
-use Rattle.tau_step.proofs.Moved.{lowest-nothing}
+use Rattle.tau_step.proofs.EffectsInTurn.{lowest-nothing}
 use Rattle.tau_step.proofs.Staged.{left-on, last-drained, last-short}
 use Rattle.tau_step.proofs.run.Run.behind_rounds.Goals as goal
 

@@ -1,7 +1,7 @@
 use Rattle.std.proofs.Common.{refl}
 use Rattle.std.specs.Prelude.{is_ok}
 use Rattle.tau_step.proofs.Draining.{drain-whole, drain-managers}
-use Rattle.tau_step.proofs.Moved.{clerk-moves}
+use Rattle.tau_step.proofs.EffectsInTurn.{clerk-moves}
 use Rattle.tau_step.proofs.run.Run.drain.Goals as goal
 
 pub drain_streams-requires : goal.drain_streams-requires

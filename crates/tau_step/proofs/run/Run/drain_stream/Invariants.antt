@@ -1,5 +1,5 @@
 use Rattle.std.proofs.Common.{true}
-use Rattle.tau_step.specs.Moving.{Manages, to_flush}
+use Rattle.tau_step.specs.RunEffects.{Manages, to_flush}
 use Rattle.tau_step.proofs.Draining.{idles_so}
 use Rattle.tau_step.proofs.run.Run.drain_stream.Given as goal
 

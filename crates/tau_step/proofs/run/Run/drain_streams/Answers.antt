@@ -1,7 +1,7 @@
 use Rattle.std.proofs.Common.{refl, sym, subst, arith}
 use Rattle.std.specs.Prelude.{is_ok}
 use Rattle.std.proofs.lemmas.Result.{err_from_is_err_and}
-use Rattle.tau_step.specs.Moving.{Manages}
+use Rattle.tau_step.specs.RunEffects.{Manages}
 use Rattle.tau_step.specs.Rounding.{all_idled}
 use Rattle.tau_step.proofs.Draining.{drains-none, drains-more, drains-cut, drains-all}
 use Rattle.tau_step.proofs.run.Run.drain_streams.Goals as goal

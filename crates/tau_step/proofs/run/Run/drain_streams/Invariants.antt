@@ -1,5 +1,5 @@
 use Rattle.std.proofs.Common.{true}
-use Rattle.tau_step.specs.Moving.{Manages}
+use Rattle.tau_step.specs.RunEffects.{Manages}
 use Rattle.tau_step.specs.Rounding.{idled_below}
 use Rattle.tau_step.proofs.run.Run.drain_streams.Given as goal
 

@@ -1,7 +1,7 @@
 use Rattle.std.proofs.Common.{true, ap, sym, ◌∙◌}
 use Rattle.std.specs.Prelude.{Ok}
 use Rattle.tau_step.proofs.LeftOvers.{left_so, left_so-quiet, calls-none, calls-more, calls-end, calls-cut, none-run, is-none}
-use Rattle.tau_step.proofs.Moved.{works-lowest}
+use Rattle.tau_step.proofs.EffectsInTurn.{works-lowest}
 use Rattle.tau_step.proofs.run.Run.left_over.Goals as goal
 
 pub returns-then-is_some : goal.returns-then-is_some

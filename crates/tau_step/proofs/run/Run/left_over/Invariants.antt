@@ -1,5 +1,5 @@
 use Rattle.std.proofs.Common.{true}
-use Rattle.tau_step.specs.Moving.{Works, calls_over, rests_in}
+use Rattle.tau_step.specs.RunEffects.{Works, calls_over, rests_in}
 use Rattle.tau_step.proofs.LeftOvers.{left_so}
 use Rattle.tau_step.proofs.run.Run.left_over.Given as goal
 

@@ -1,7 +1,7 @@
 use Rattle.std.proofs.Common.{refl, sym, subst, arith, ◌∙◌}
 use Rattle.std.specs.Prelude.{is_ok}
 use Rattle.std.proofs.lemmas.Result.{err_from_is_err_and}
-use Rattle.tau_step.specs.Moving.{Manages}
+use Rattle.tau_step.specs.RunEffects.{Manages}
 use Rattle.tau_step.specs.Rounding.{all_managed}
 use Rattle.tau_step.proofs.Rounds.{managers-none, managers-more, managers-cut, managers-all}
 use Rattle.tau_step.proofs.run.Run.managers_round.Goals as goal

@@ -1,5 +1,5 @@
 use Rattle.std.proofs.Common.{true, ◌≡◌}
-use Rattle.tau_step.specs.Moving.{Manages, total_left}
+use Rattle.tau_step.specs.RunEffects.{Manages, total_left}
 use Rattle.tau_step.specs.Rounding.{managed_below}
 use Rattle.tau_step.proofs.run.Run.managers_round.Given as goal
 

@@ -1,6 +1,6 @@
 use Rattle.std.proofs.Common.{ap, []}
 use Rattle.std.specs.Prelude.{unwrap_or, Option}
-use Rattle.tau_run.specs.Told.{turns_of}
+use Rattle.tau_run.specs.RunFacts.{turns_of}
 use Rattle.tau_step.proofs.Staged.{named-none}
 use Rattle.tau_step.proofs.run.Run.named.Goals as goal
 

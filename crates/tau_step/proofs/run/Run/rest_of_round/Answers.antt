@@ -1,6 +1,6 @@
 use Rattle.std.proofs.Common.{refl, true, false, ◌≡◌, ◌∙◌}
 use Rattle.std.specs.Prelude.{Ok, Err}
-use Rattle.tau_step.proofs.Moved.{clerk-moves}
+use Rattle.tau_step.proofs.EffectsInTurn.{clerk-moves}
 use Rattle.tau_step.proofs.Rounds.{rest-whole, rest-clerk, rest-managers, clerk-total}
 use Rattle.tau_step.proofs.run.Run.rest_of_round.Goals as goal
 

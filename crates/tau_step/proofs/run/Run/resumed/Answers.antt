@@ -2,7 +2,7 @@ use Rattle.std.proofs.Common.{refl, true, false, ◌≡◌, ap, arith}
 use Rattle.std.specs.Prelude.{Ok, Err}
 use Rattle.tau_core.specs.declared.state.Load.{Load}
 use Rattle.tau_step.proofs.LeftOvers.{resume_so, resume-quiet, resume-there, resume-works, resume-hands, resume-settling, resumed-on, resumed-cut, resumed-fewer, resumed-rests, none-works, none-rests}
-use Rattle.tau_step.proofs.Moved.{works-lowest}
+use Rattle.tau_step.proofs.EffectsInTurn.{works-lowest}
 use Rattle.tau_step.proofs.run.Run.resumed.Goals as goal
 
 pub alone-requires-clause-stood : goal.alone-requires-clause-stood

@@ -1,8 +1,8 @@
 use Rattle.std.proofs.Common.{refl, true, false, ◌≡◌, ap, ◌∙◌}
 use Rattle.std.specs.Prelude.{Ok, Err}
-use Rattle.tau_step.specs.Moving.{total_left}
+use Rattle.tau_step.specs.RunEffects.{total_left}
 use Rattle.tau_step.specs.Rounding.{rounded_by}
-use Rattle.tau_step.proofs.Moved.{lowest-nothing, works-manages}
+use Rattle.tau_step.proofs.EffectsInTurn.{lowest-nothing, works-manages}
 use Rattle.tau_step.proofs.Silent.{rounded-silent}
 use Rattle.tau_step.proofs.Rounds.{round-rest, round-over, round-short, round-total, round-rests, rounded-quiet}
 use Rattle.tau_step.proofs.run.Run.round.Goals as goal

@@ -1,5 +1,5 @@
 use Rattle.std.proofs.Common.{true}
-use Rattle.tau_step.specs.Moving.{Moves, total_left}
+use Rattle.tau_step.specs.RunEffects.{Moves, total_left}
 use Rattle.tau_step.proofs.Rounds.{rounds_so}
 use Rattle.tau_step.proofs.run.Run.rounds.Given as goal
 

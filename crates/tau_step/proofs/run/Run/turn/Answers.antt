@@ -1,6 +1,6 @@
 use Rattle.std.specs.Prelude.{is_ok}
 use Rattle.tau_text.specs.declared.load.Turn.TheVariants as turn
-use Rattle.tau_step.proofs.Moved.{clerk-moves}
+use Rattle.tau_step.proofs.EffectsInTurn.{clerk-moves}
 use Rattle.tau_step.proofs.Running.{word-quiet, anchor-quiet, removal-quiet}
 use Rattle.tau_step.proofs.Silent.{word-silent, anchor-silent, removal-silent}
 use Rattle.tau_step.proofs.Words.{word-moves, manager-moves, clerk-word}

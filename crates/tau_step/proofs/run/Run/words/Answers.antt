@@ -1,8 +1,8 @@
 use Rattle.std.proofs.Common.{refl, sym, subst, []}
 use Rattle.std.specs.Prelude.{is_ok}
 use Rattle.std.proofs.lemmas.Result.{err_from_is_err_and}
-use Rattle.tau_step.specs.Moving.{Moves}
-use Rattle.tau_step.proofs.Moved.{moves-none}
+use Rattle.tau_step.specs.RunEffects.{Moves}
+use Rattle.tau_step.proofs.EffectsInTurn.{moves-none}
 use Rattle.tau_step.proofs.Words.{words-more, words-cut}
 use Rattle.tau_text.specs.declared.load.Turn.TheVariants as turn
 use Rattle.tau_step.specs.Rounding.{turned_all}

@@ -1,5 +1,5 @@
 use Rattle.std.proofs.Common.{true, take}
-use Rattle.tau_step.specs.Moving.{Moves}
+use Rattle.tau_step.specs.RunEffects.{Moves}
 use Rattle.tau_step.specs.Rounding.{turned_all}
 use Rattle.tau_step.proofs.run.Run.words.Given as goal
 

@@ -2,9 +2,9 @@ use Rattle.std.proofs.Common.{true, false, ◌≡◌, sym, ap, subst, arith, ◌
 use Rattle.std.specs.Prelude.{Ok, Err, is_ok}
 use Rattle.std.proofs.lemmas.Result.{err_from_is_err_and}
 use Rattle.tau_core.specs.declared.state.Load.{Load}
-use Rattle.tau_step.specs.Moving.{Works, total_left}
+use Rattle.tau_step.specs.RunEffects.{Works, total_left}
 use Rattle.tau_step.specs.Rounding.{rounded_by}
-use Rattle.tau_step.proofs.Moved.{works-lowest}
+use Rattle.tau_step.proofs.EffectsInTurn.{works-lowest}
 use Rattle.tau_step.proofs.Rounds.{rounded_below, below-quiet, workers-none, workers-more, workers-cut, workers-all, idle-total, totals-more}
 use Rattle.tau_step.proofs.run.Run.workers_round.Goals as goal
 

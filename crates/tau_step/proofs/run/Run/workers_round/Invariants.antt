@@ -1,5 +1,5 @@
 use Rattle.std.proofs.Common.{true, ◌≡◌, ◌≤◌, ◌<◌}
-use Rattle.tau_step.specs.Moving.{Works, total_left}
+use Rattle.tau_step.specs.RunEffects.{Works, total_left}
 use Rattle.tau_step.proofs.Rounds.{rounded_below}
 use Rattle.tau_step.proofs.run.Run.workers_round.Given as goal
 

@@ -15,7 +15,7 @@ use Rattle.tau_machine.specs.Events as machine
 use Rattle.tau_core.specs.declared.state.Load.{Load}
 use Rattle.tau_core.specs.State.{Plain}
 use Rattle.tau_core.specs.View.{Hidden, core_of}
-use Rattle.tau_run.specs.Left.{IsLeft}
+use Rattle.tau_run.specs.StopsLeave.{IsLeft}
 use Rattle.tau_run.specs.Turns.{Progress}
 use Rattle.tau_step.specs.Along.{Grows, Quiet, KeptBy, Since, AreKept, Went}
 use Rattle.tau_step.specs.Keeping.{IsKept}

@@ -24,7 +24,7 @@ use Rattle.tau_proc.specs.Takes.{takes}
 use Rattle.tau_text.specs.Alone.{declarations_of}
 use Rattle.tau_text.specs.Canonical.{declarations_text}
 use Rattle.tau_scan.specs.Reading.{has_table, is_of_table}
-use Rattle.tau_run.specs.Facts.{catalogue_of}
+use Rattle.tau_run.specs.RecoveredFacts.{catalogue_of}
 use Rattle.tau_run.specs.Run.{Run, told_of, pair_of}
 
 -- what the core stands on is this workload, by m workers, over n streams that have their catalogue alone

@@ -27,7 +27,7 @@ use Rattle.tau_pool.proofs.Gets.{some_is, get_within, get_member}
 use Rattle.tau_pool.proofs.Counts.{none-flying}
 use Rattle.tau_pool.proofs.Stages.{found_set}
 use Rattle.tau_pool.proofs.Opening.{of_log}
-use Rattle.tau_replay.specs.Going.{IsOf, AreOf, left_in, IsAhead, IsGoing}
+use Rattle.tau_replay.specs.Recovering.{IsOf, AreOf, left_in, IsAhead, IsGoing}
 use Rattle.tau_replay.specs.Redone.{IsOrderOf, IsTangledAt, WaitsFor}
 use Rattle.tau_replay.proofs.Lists.{orderly-push, map-push, member-map, pushed, moved, redo-push, of_get, of_set, left_same, left_get, left_put, left_out}
 use Rattle.tau_replay.proofs.Starting.{of_taken, taken_covered}

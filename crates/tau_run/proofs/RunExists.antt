@@ -22,8 +22,8 @@ use Rattle.tau_core.specs.View.{setting_of, Hidden, core_of, committed_by, worke
 use Rattle.tau_core.specs.Stands.{Stands, anchors_at}
 use Rattle.tau_core.specs.Pieces.{IsPieceOf, AreBytesOf, Paired, Spelled}
 use Rattle.tau_run.specs.Run.{Run, told_of}
-use Rattle.tau_run.specs.Facts.{catalogue_of}
-use Rattle.tau_run.specs.Course.{IsLoadOf, AreAcks, IsGiven, IsRunOf}
+use Rattle.tau_run.specs.RecoveredFacts.{catalogue_of}
+use Rattle.tau_run.specs.CoreRun.{IsLoadOf, AreAcks, IsGiven, IsRunOf}
 use Rattle.tau_run.proofs.Logs.{some_within}
 use Rattle.tau_run.proofs.Each.{some_is}
 

@@ -1,5 +1,5 @@
 use Rattle.std.proofs.Common.{◌≡◌, replicate}
-use Rattle.tau_core.proofs.fresh.no_anchors.Given as goal
+use Rattle.tau_core.proofs.new_opening.no_anchors.Given as goal
 
 abbrev pub invariant-loop-stream : goal.invariant-loop-stream
 invariant-loop-stream l = l.anchors.items ≡ replicate l._stream 0

@@ -1,7 +1,7 @@
 use Rattle.std.proofs.Common.{◌≡◌, [], length, ap, ◌∙◌, arith}
 use Rattle.tau_text.specs.Canonical.{declarations_text}
 use Rattle.tau_core.specs.Opens.{catalogue_size}
-use Rattle.tau_core.proofs.fresh.catalogue_size.Goals as goal
+use Rattle.tau_core.proofs.new_opening.catalogue_size.Goals as goal
 
 pub returns-clause-same : goal.returns-clause-same
 returns-clause-same c =

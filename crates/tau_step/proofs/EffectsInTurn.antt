@@ -21,12 +21,12 @@ use Rattle.tau_step.specs.declared.flushes.Flushes.{Flushes}
 use Rattle.tau_step.specs.declared.run.Run.{Run}
 use Rattle.tau_step.specs.Along.{Quiet, AreKept, IsAlong, Went}
 use Rattle.tau_step.specs.Device.{IsNoted, flushed_in, noting}
-use Rattle.tau_step.specs.Moving.{IsOn, Works, Manages, Moves, WentBy}
+use Rattle.tau_step.specs.RunEffects.{IsOn, Works, Manages, Moves, WentBy}
 use Rattle.tau_step.specs.Progressed.{progress, clerks}
 use Rattle.tau_step.specs.Rounding.{clerked}
 use Rattle.tau_step.specs.RunTold.{IsLowestStopped}
 use Rattle.tau_step.specs.Telling.{Heard, Passed}
-use Rattle.tau_step.proofs.Going.{kept-after, went-quiet, went-on, went-as, since-none}
+use Rattle.tau_step.proofs.RunSteps.{kept-after, went-quiet, went-on, went-as, since-none}
 use Rattle.tau_step.proofs.Growing.{grows-none}
 use Rattle.tau_step.proofs.Joined.{comes-as, comes-on}
 use Rattle.tau_step.proofs.Silent.{Silent, clerked-silent}

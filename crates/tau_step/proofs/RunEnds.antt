@@ -19,7 +19,7 @@ use Rattle.tau_machine.proofs.At.{at-same, at-other}
 use Rattle.tau_machine.proofs.Pieces.{chain-member, records-append}
 use Rattle.tau_machine.proofs.Results.{committed_theorem}
 use Rattle.tau_text.specs.declared.load.Turn.{Turn}
-use Rattle.tau_run.specs.Left.{IsOver}
+use Rattle.tau_run.specs.StopsLeave.{IsOver}
 use Rattle.tau_run.specs.Run.{below}
 use Rattle.tau_run.specs.Turns.{Progress, Stays, IfSo, Goes, Waits, IsGathered, Gathers, Flushed, ManagedPart, Cleared, OneByOne, Rounds, Alone, LeftOver, Idled, IsWholeRun, has_work, is_busy, is_raised, is_going, is_empty, any_left}
 use Rattle.tau_step.proofs.Idling.{gathered-stop, stopped-there}

@@ -3,9 +3,9 @@ use Rattle.std.specs.Prelude.{ℕ, Bool, false, ◌+◌, ◌<◌, ◌≤◌, ◌
 use Rattle.tau_block.specs.Image.{HasContent}
 use Rattle.tau_crew_facts.specs.Spacing.{AreSpaced}
 use Rattle.tau_disk.specs.Used.{OfDisk, EachUsed}
-use Rattle.tau_run.specs.Facts.{catalogue_of}
-use Rattle.tau_run.specs.Told.{Ending, WroteFront}
-use Rattle.tau_run.specs.Told as ending
+use Rattle.tau_run.specs.RecoveredFacts.{catalogue_of}
+use Rattle.tau_run.specs.RunFacts.{Ending, WroteFront}
+use Rattle.tau_run.specs.RunFacts as ending
 use Rattle.tau_text.specs.declared.load.Workload.{Workload}
 use Rattle.tau_engine.specs.declared.status.Status.{Status}
 use Rattle.tau_engine.specs.declared.status.Status.TheVariants as status

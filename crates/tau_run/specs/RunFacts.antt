@@ -10,8 +10,8 @@ use Rattle.tau_machine.specs.Runs as machine
 use Rattle.tau_core.specs.declared.state.Load.{Load}
 use Rattle.tau_core.specs.View.{setting_of}
 use Rattle.tau_run.specs.Run.{Run, IsHistory, IsReportOf, AllAcked}
-use Rattle.tau_run.specs.Facts.{catalogue_of, IsImaged, IsAcknowledged, IsEnded}
-use Rattle.tau_run.specs.Course.{IsLoadOf, IsStart, IsRunOf}
+use Rattle.tau_run.specs.RecoveredFacts.{catalogue_of, IsImaged, IsAcknowledged, IsEnded}
+use Rattle.tau_run.specs.CoreRun.{IsLoadOf, IsStart, IsRunOf}
 use Rattle.tau_run.specs.Turns.{Progress, IsWholeRun, IsPartOfRun}
 
 -- how a run ended: it went to its end, a disk failed, the sink failed, it ran out of memory, or it was not begun
