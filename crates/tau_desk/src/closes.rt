@@ -257,12 +257,27 @@ fn take_seats(
     seats
 }
 
-/// Puts calls after those that are there. It takes no memory.
+/// Whether no calls are there, and others have room for as many.
+fn may_take_over(committed: &Vec<Committed>, calls: &Vec<Committed>) -> bool
+    ensures { result ≡ true → (committed.now.items ≡ []) × (vec_capacity committed.now ≤ vec_capacity calls.now) }
+{
+    if committed.is_empty() {
+        return committed.capacity() <= calls.capacity();
+    }
+    false
+}
+
+/// Puts calls after those that are there. If there are none, and these have the room, they are taken over as they lie:
+/// the calls of a run with one worker stand in memory once. It takes no memory.
 fn add_calls(committed: &mut Vec<Committed>, mut calls: Vec<Committed>)
     requires { vec_len committed.old + vec_len calls ≤ vec_capacity committed.old }
     ensures items { committed.new.items ≡ committed.old.items ++ calls.items }
     ensures capacity { vec_capacity committed.old ≤ vec_capacity committed.new }
 {
+    if may_take_over(committed, &calls) {
+        *committed = calls;
+        return;
+    }
     let Ok(()) = committed.append(&mut calls) else {
         unreachable!()
     };
