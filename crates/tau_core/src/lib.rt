@@ -18,8 +18,8 @@ mod next;
 mod open;
 mod opening;
 mod parts;
+mod persist;
 mod phase;
-mod positions;
 mod post;
 mod quit;
 mod resume;
@@ -27,7 +27,7 @@ mod retry;
 mod state;
 mod sweep;
 mod tables;
-mod take_bytes;
+mod take_body;
 mod top;
 
 pub use apart::Parts;

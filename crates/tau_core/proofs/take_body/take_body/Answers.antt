@@ -4,7 +4,7 @@ use Rattle.std.proofs.lemmas.Option.{slice_get_read}
 use Rattle.tau_core.specs.declared.state.Stream.TheInside.{Inside}
 use Rattle.tau_core.specs.Plain.{PlainStream}
 use Rattle.tau_core.specs.State.{Plain, plain}
-use Rattle.tau_core.proofs.take_bytes.take_body.Goals as goal
+use Rattle.tau_core.proofs.take_body.take_body.Goals as goal
 
 abbrev part_in : Inside → PlainStream
 part_in s = record { own = s.own; anchors = s.anchors.items; stop = s.stop; body = s.body.items; room = vec_capacity s.body - vec_len s.body }
