@@ -1,18 +1,16 @@
 -- Taken records that are kept flat.
-use Rattle.std.proofs.Common.{ℕ, zero, suc, ◌+◌, ◌<◌, ◌≤◌, ◌≡◌, List, get_or, [], ◌∷◌, ◌++◌, length, take, drop, map, refl, sym, ap, subst, ◌∙◌, arith, length-append, length-drop}
+use Rattle.std.proofs.Common.{ℕ, zero, suc, ◌<◌, ◌≡◌, List, get_or, [], ◌∷◌, ◌++◌, length, take, drop, map, refl, sym, ap, subst, ◌∙◌, arith, length-append, length-drop}
 use Rattle.std.specs.Prelude.{Some, slice_get}
 use Rattle.std.specs.List.{All}
 use Rattle.std.proofs.Math.ListN.{set}
 use Rattle.std.proofs.lemmas.List.{drop-append-le, map-append, length-map, take_all, take-append-le}
-use Rattle.std.proofs.lemmas.List.Elements.{All-append, All-push, All-get_or}
+use Rattle.std.proofs.lemmas.List.Elements.{All-push}
 use Rattle.std.proofs.lemmas.Option.{slice_get_read}
 use Rattle.std.proofs.Math.Seq.{drop-append_seam}
 use Rattle.tau_pool.specs.Item.{Item}
-use Rattle.tau_pool.specs.declared.item.Stage.{Stage}
 use Rattle.tau_pool.specs.declared.items.Row.{Row}
 use Rattle.tau_pool.specs.Flat.{vector_of, item_at, IsRow}
-use Rattle.tau_pool.specs.Pooled.{staged}
-use Rattle.tau_pool.proofs.Gets.{some_is, drop_at}
+use Rattle.tau_pool.proofs.Gets.{some_is}
 
 -- a vector stays where more positions come after it
 vector-stays : (ps more : List ℕ) (r : Row) → IsRow ps r → vector_of (ps ++ more) r ≡ vector_of ps r

@@ -1,5 +1,5 @@
 //! The pools of a recovery.
-ghost use Rattle.std.specs.Prelude.{◌≡◌, ◌≢◌, ◌≤◌, ◌<◌, ◌+◌, ℕ, true, length, replicate, slice_get, IfOk, IfSome, IsNone, Some};
+ghost use Rattle.std.specs.Prelude.{◌≡◌, ◌≢◌, ◌≤◌, ◌<◌, ◌+◌, ℕ, true, false, length, replicate, slice_get, IfOk, IfSome, IsNone, Some};
 ghost use Rattle.tau_scan.specs.Reading.{IsLog};
 ghost use Rattle.tau_pool.specs.Item.{Item};
 ghost use Rattle.tau_pool.specs.declared.item.Job.{Job};
@@ -110,6 +110,7 @@ impl Pools {
     pub fn take_at(&mut self, place: usize) -> Option<Job>
         ensures taken { IfSome result (λ job. IsStarted self.old job self.new) }
         ensures none { IsNone result → self.new ≡ self.old }
+        ensures unready { IsNone result → is_ready self.old.items self.old.rlv place ≡ false }
         ensures recovered { IsRecovered self.new.ends self.new.rlv self.new.items }
     {
         if !self.is_ready(place) {
@@ -120,7 +121,8 @@ impl Pools {
 
     /// The record at this place, if it is ready. It stays so until it is started.
     pub fn ready_at(&self, place: usize) -> Option<Job>
-        ensures { IfSome result (λ job. (job.place ≡ place) × (is_ready self.now.items self.now.rlv place ≡ true)) }
+        ensures some { IfSome result (λ job. (job.place ≡ place) × (is_ready self.now.items self.now.rlv place ≡ true)) }
+        ensures none { IsNone result → is_ready self.now.items self.now.rlv place ≡ false }
     {
         if !self.is_ready(place) {
             return None;

@@ -1,5 +1,5 @@
 -- One record more is not ready.
-use Rattle.std.proofs.Common.{ℕ, ◌≡◌, ◌<◌, ◌∙◌, true, inl, inr, sym, ap, arith}
+use Rattle.std.proofs.Common.{◌≡◌, ◌∙◌, true, inl, inr, ap, arith}
 use Rattle.std.proofs.lemmas.Bool.{cases_lt}
 use Rattle.tau_pool.specs.Passing.{is_ready}
 use Rattle.tau_pool.proofs.Gets.{get_within}

@@ -1,5 +1,5 @@
 -- The record is passed over, or put at the end.
-use Rattle.std.proofs.Common.{ℕ, ◌≡◌, ◌+◌, ◌++◌, ◌∷◌, [], ◌∙◌, true, false, List, drop, ap, sym, rules}
+use Rattle.std.proofs.Common.{◌≡◌, ◌+◌, ◌++◌, ◌∷◌, [], ◌∙◌, true, false, List, drop, ap, sym, rules}
 use Rattle.tau_pool.specs.declared.waits.Wait.{Wait}
 use Rattle.tau_pool.specs.Passing.{waits_for, waits_at}
 use Rattle.tau_pool.proofs.Gets.{get_there}

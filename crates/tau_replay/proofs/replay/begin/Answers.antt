@@ -14,6 +14,11 @@ use Rattle.tau_replay.proofs.Starting.{of_taken, all_left}
 use Rattle.tau_replay.proofs.Hands.{empty_hands}
 use Rattle.tau_replay.proofs.replay.begin.Goals as goal
 
+pub returns-clause-idle : goal.returns-clause-idle
+returns-clause-idle c =
+    let sixteen : c.loop.counter ≡ 16 = omega (arith, c.loop-test.false, c.loop.auto.counter-end) in
+    c.loop.invariant ∙ ap (λ (n : ℕ). replicate n None) sixteen
+
 pub returns-clause-going : goal.returns-clause-going
 returns-clause-going c =
     let log = c.args.log.now in

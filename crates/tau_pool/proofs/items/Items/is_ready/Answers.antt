@@ -1,5 +1,5 @@
 -- The row is there, with its vector.
-use Rattle.std.proofs.Common.{ℕ, List, ◌≡◌, ◌<◌, ◌∙◌, length, ap, sym, subst, arith}
+use Rattle.std.proofs.Common.{ℕ, List, ◌<◌, ◌∙◌, length, ap, sym, subst, arith}
 use Rattle.std.specs.Prelude.{Some}
 use Rattle.std.proofs.lemmas.Option.{slice_get_past}
 use Rattle.tau_pool.specs.Passing.{is_ready_one}

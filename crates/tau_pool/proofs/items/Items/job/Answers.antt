@@ -10,7 +10,7 @@ use Rattle.tau_pool.proofs.items.Items.job.Goals as goal
 pub returns-clause-same : goal.returns-clause-same
 returns-clause-same c x there =
     let ps = c.self.inside.positions.items in
-    let s = stands c.args.self.now ps c.self.inside.rows.items c.args.place c.index.result.now c.self.view_is c.self.invariant c.requires c.index.ensures in
+    let s = stands c.args.self.now ps c.self.inside.rows.items c.args.place c.index-row.result.now c.self.view_is c.self.invariant c.requires c.index-row.ensures in
     ap (job_of c.args.place) (s.is x there)
 
 pub returns-clause-few : goal.returns-clause-few

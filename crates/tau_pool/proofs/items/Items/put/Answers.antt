@@ -1,7 +1,6 @@
 -- A record more, whose positions come after those of the others.
 use Rattle.std.proofs.Common.{◌≡◌, ◌∙◌, ◌++◌, ◌∷◌, [], List, ℕ, length, map, rules, sym, subst}
 use Rattle.std.specs.List.{All}
-use Rattle.tau_pool.specs.Item.{Item}
 use Rattle.tau_pool.specs.declared.items.Row.{Row}
 use Rattle.tau_pool.specs.declared.item.Stage.TheVariants.{Waiting}
 use Rattle.tau_pool.specs.Flat.{item_at, IsRow}

@@ -1,8 +1,8 @@
 -- One record stands elsewhere.
-use Rattle.std.proofs.Common.{◌≡◌, ◌∙◌, List, ℕ, sym, subst}
+use Rattle.std.proofs.Common.{◌∙◌}
 use Rattle.std.proofs.Math.ListN.{set}
 use Rattle.std.proofs.lemmas.List.Elements.{All-set}
-use Rattle.tau_pool.specs.Flat.{item_at, IsRow}
+use Rattle.tau_pool.specs.Flat.{IsRow}
 use Rattle.tau_pool.specs.Pooled.{staged}
 use Rattle.tau_pool.proofs.Flat.{stands, items-set}
 use Rattle.tau_pool.proofs.items.Items.set_stage.Goals as goal

@@ -1,11 +1,10 @@
 -- One record more is not left.
-use Rattle.std.proofs.Common.{ℕ, List, ◌≡◌, ◌<◌, ◌∙◌, true, inl, inr, length, refl, sym, ap, subst, arith}
+use Rattle.std.proofs.Common.{ℕ, List, ◌≡◌, ◌∙◌, true, inl, inr, length, refl, sym, ap, subst, arith}
 use Rattle.std.specs.Prelude.{Some, slice_get}
 use Rattle.std.proofs.lemmas.Bool.{cases_lt}
 use Rattle.tau_pool.specs.Item.{Item}
 use Rattle.tau_pool.specs.declared.item.Job.{Job}
-use Rattle.tau_pool.specs.Items.{is_left}
-use Rattle.tau_pool.specs.Pooled.{Pooled, IsFirstLeft, job_of}
+use Rattle.tau_pool.specs.Pooled.{Pooled, IsFirstLeft}
 use Rattle.tau_pool.proofs.Gets.{get_there, get_within}
 use Rattle.tau_pool.proofs.pools.Pools.first_left.Goals as goal
 

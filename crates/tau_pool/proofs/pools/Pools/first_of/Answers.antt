@@ -1,5 +1,5 @@
 -- What is kept of each stream.
-use Rattle.std.proofs.Common.{ℕ, ◌≡◌, ◌<◌, ◌≤◌, ◌∙◌, length, ap, arith, slice_index}
+use Rattle.std.proofs.Common.{◌≡◌, ◌<◌, ◌∙◌, length, ap, arith, slice_index}
 use Rattle.std.proofs.lemmas.List.{get_or_read}
 use Rattle.tau_pool.specs.First.{first_from}
 use Rattle.tau_pool.specs.Pooled.{Pooled}

@@ -1,5 +1,5 @@
 -- What waits is listed, and nothing is passed over.
-use Rattle.std.proofs.Common.{ℕ, ◌≡◌, ◌∙◌, ap, replicate}
+use Rattle.std.proofs.Common.{ℕ, ◌∙◌, ap, replicate}
 use Rattle.tau_pool.proofs.Opening.{queued}
 use Rattle.tau_pool.proofs.pools.Pools.list.Goals as goal
 
@@ -13,7 +13,7 @@ invariant_of-self c =
       ordered = k.ordered;
       within = k.within;
       reached = k.reached;
-      queued = λ e. queued c.self.inside.ends c.self.inside.rlv c.self.inside.items c.in-Ok.waits.items c.in-Ok-2.passed.items k.wide c.in-Ok.ensures.many (c.in-Ok-2.ensures ∙ ap (λ (n : ℕ). replicate n 0) c.width.ensures.same) k.within c.in-Ok.ensures.each;
+      queued = λ e. queued c.self.inside.ends c.self.inside.rlv c.self.inside.items c.in-Ok.waits.items c.in-Ok-zeros.passed.items k.wide c.in-Ok.ensures.many (c.in-Ok-zeros.ensures ∙ ap (λ (n : ℕ). replicate n 0) c.width.ensures.same) k.within c.in-Ok.ensures.each;
       unstarted = k.unstarted;
       started = k.started;
     }

@@ -1,5 +1,5 @@
 -- The taken records of a log, of which none is started.
-use Rattle.std.proofs.Common.{ℕ, List, ◌≡◌, length, sym, ap, subst, ◌∙◌, arith}
+use Rattle.std.proofs.Common.{List, ◌≡◌, length, sym, ap, subst, ◌∙◌, arith}
 use Rattle.std.specs.Prelude.{slice_get, Some}
 use Rattle.tau_record.specs.declared.entry.Placed.{Placed}
 use Rattle.tau_model.specs.History.{Member}

@@ -2,13 +2,15 @@
 use Rattle.std.proofs.Common.{List, length, ap, sym, subst, ◌∙◌}
 use Rattle.tau_pool.specs.declared.waits.Wait.{Wait}
 use Rattle.tau_pool.specs.Kept.{IsMet, AreRising}
+use Rattle.tau_pool.specs.Pooled.{Pooled, IsRecovered}
 use Rattle.tau_pool.proofs.Firsts.{recovered}
 use Rattle.tau_pool.proofs.pools.Pools.next_listed.Goals as goal
 
 pub returns-then-not-self-clause-recovered : goal.returns-then-not-self-clause-recovered
 returns-then-not-self-clause-recovered c =
     let k = c.self.invariant in
-    recovered c.self.inside.ends c.self.inside.rlv c.self.inside.items c.self.inside.nexts.items k.wide k.ordered k.within k.reached
+    subst (λ (p : Pooled). IsRecovered p.ends p.rlv p.items) c.self.view_is
+    (recovered c.self.inside.ends c.self.inside.rlv c.self.inside.items c.self.inside.nexts.items k.wide k.ordered k.within k.reached)
 
 pub next_ready-requires-clause-many : goal.next_ready-requires-clause-many
 next_ready-requires-clause-many c =

@@ -1,5 +1,5 @@
 -- A ready record is started.
-use Rattle.std.proofs.Common.{◌≡◌, ◌+◌, ◌-◌, ◌≤◌, List, ℕ, true, refl, sym, ap, subst, ◌∙◌, arith, length}
+use Rattle.std.proofs.Common.{◌≡◌, ◌+◌, ◌-◌, ◌≤◌, List, true, refl, sym, ap, subst, arith, length}
 use Rattle.std.proofs.Math.ListN.{set}
 use Rattle.tau_pool.specs.Item.{Item}
 use Rattle.tau_pool.specs.declared.item.Job.{Job}
