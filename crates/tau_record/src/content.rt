@@ -27,25 +27,21 @@ fn put_written(
     ensures { Gives (λ _. (placed.new.items, vectors.now)) result (puts (written_at One vectors.now fields.now) vectors.now placed.old.items start past) }
 {
     let mut dep = Lv::zero(1);
-    match written_of(alloc, vectors, fields, &mut dep) {
-        Err(e) => Err(e),
-        Ok((number, anchor, writes, rest)) => {
-            if !is_whole(rest) {
-                return Err(FieldError::Bad(RecordCause::BadLength));
-            }
-            placed.push(Placed {
-                entry: Entry::Written {
-                    number,
-                    anchor,
-                    dep,
-                    writes: Listed::of(writes),
-                },
-                start,
-                past,
-            })?;
-            Ok(())
-        }
+    let (number, anchor, writes, rest) = written_of(alloc, vectors, fields, &mut dep)?;
+    if !is_whole(rest) {
+        return Err(FieldError::Bad(RecordCause::BadLength));
     }
+    placed.push(Placed {
+        entry: Entry::Written {
+            number,
+            anchor,
+            dep,
+            writes: Listed::of(writes),
+        },
+        start,
+        past,
+    })?;
+    Ok(())
 }
 
 /// Puts a command record after those before it.
@@ -64,29 +60,25 @@ fn put_command(
         proc: 0,
         args: ArrayVec::new(),
     };
-    match command_of(vectors, fields, &mut dep, &mut call.args) {
-        Err(e) => Err(e),
-        Ok((number, anchor, proc, rest)) => {
-            if !is_whole(rest) {
-                return Err(FieldError::Bad(RecordCause::BadLength));
-            }
-            call.proc = proc;
-            let Ok(call) = KeptCall::of(alloc, &call) else {
-                return Err(FieldError::Memory);
-            };
-            placed.push(Placed {
-                entry: Entry::Command {
-                    number,
-                    anchor,
-                    dep,
-                    call,
-                },
-                start,
-                past,
-            })?;
-            Ok(())
-        }
+    let (number, anchor, proc, rest) = command_of(vectors, fields, &mut dep, &mut call.args)?;
+    if !is_whole(rest) {
+        return Err(FieldError::Bad(RecordCause::BadLength));
     }
+    call.proc = proc;
+    let Ok(call) = KeptCall::of(alloc, &call) else {
+        return Err(FieldError::Memory);
+    };
+    placed.push(Placed {
+        entry: Entry::Command {
+            number,
+            anchor,
+            dep,
+            call,
+        },
+        start,
+        past,
+    })?;
+    Ok(())
 }
 
 /// Puts an anchor after the records before it, and gives it the next number.
@@ -175,10 +167,8 @@ fn put_record<'a>(
 {
     let (kind, fields, after) = frame_of(at == 0, bytes)?;
     let past = at + (bytes.len() - after.len()) as u64;
-    match put_fields(alloc, n, kind, fields, at, past, vectors, placed) {
-        Ok(()) => Ok(after),
-        Err(e) => Err(e),
-    }
+    put_fields(alloc, n, kind, fields, at, past, vectors, placed)?;
+    Ok(after)
 }
 
 fn records(alloc: Global, n: usize, content: &[u8]) -> Result<Vec<Placed>, RecordRefusal>

@@ -91,10 +91,8 @@ fn write_of(last: Option<Key>, bytes: &[u8]) -> Result<((Key, Value), &[u8]), Fi
     if !is_behind(last, key) {
         return Err(FieldError::Bad(RecordCause::BadBody));
     }
-    match value_of(rest) {
-        Ok((value, rest)) => Ok(((key, value), rest)),
-        Err(e) => Err(e),
-    }
+    let (value, rest) = value_of(rest)?;
+    Ok(((key, value), rest))
 }
 
 pub(crate) fn writes_of(
@@ -108,15 +106,11 @@ pub(crate) fn writes_of(
     let mut rest = bytes;
     let mut last = None;
     for _ in 0..count {
-        match write_of(last, rest) {
-            Err(e) => return Err(e),
-            Ok((write, after)) => {
-                let key = write.0;
-                writes.push(write)?;
-                last = Some(key);
-                rest = after;
-            }
-        }
+        let (write, after) = write_of(last, rest)?;
+        let key = write.0;
+        writes.push(write)?;
+        last = Some(key);
+        rest = after;
     }
     Ok((writes, rest))
 }
@@ -133,13 +127,9 @@ pub(crate) fn args_of<'a>(
 {
     let mut rest = bytes;
     for _ in 0..count {
-        match value_of(rest) {
-            Err(e) => return Err(e),
-            Ok((value, after)) => {
-                args.push(value);
-                rest = after;
-            }
-        }
+        let (value, after) = value_of(rest)?;
+        args.push(value);
+        rest = after;
     }
     Ok(rest)
 }

@@ -31,10 +31,8 @@ fn origin_of<'a>(
     if vectors.len() <= anchor as usize {
         return Err(FieldError::Bad(RecordCause::BadAnchor));
     }
-    match vector_of(&vectors[anchor as usize], rest, dep) {
-        Ok(rest) => Ok((number, anchor, rest)),
-        Err(e) => Err(e),
-    }
+    let rest = vector_of(&vectors[anchor as usize], rest, dep)?;
+    Ok((number, anchor, rest))
 }
 
 /// The fields of a data record but its vector, which goes into `dep`.
@@ -47,22 +45,16 @@ pub(crate) fn written_of<'a>(
 ) -> Result<(u64, u32, Vec<(Key, Value)>, &'a [u8]), FieldError>
     ensures { Gives (λ x. (Written x.0 x.1 dep.new x.2.items, x.3.now)) result (written_at One vectors.now bytes.now) }
 {
-    match origin_of(vectors, bytes, dep) {
-        Err(e) => Err(e),
-        Ok((number, anchor, rest)) => {
-            let (count, rest) = u16_of(rest)?;
-            if count == 0 {
-                return Err(FieldError::Bad(RecordCause::BadBody));
-            }
-            if count as usize > MAX_WRITES {
-                return Err(FieldError::Bad(RecordCause::BadBody));
-            }
-            match writes_of(alloc, count, rest) {
-                Err(e) => Err(e),
-                Ok((writes, rest)) => Ok((number, anchor, writes, rest)),
-            }
-        }
+    let (number, anchor, rest) = origin_of(vectors, bytes, dep)?;
+    let (count, rest) = u16_of(rest)?;
+    if count == 0 {
+        return Err(FieldError::Bad(RecordCause::BadBody));
     }
+    if count as usize > MAX_WRITES {
+        return Err(FieldError::Bad(RecordCause::BadBody));
+    }
+    let (writes, rest) = writes_of(alloc, count, rest)?;
+    Ok((number, anchor, writes, rest))
 }
 
 /// The fields of a command record but its vector, which goes into `dep`, and its arguments, which go into `args`.
@@ -76,20 +68,14 @@ pub(crate) fn command_of<'a>(
     requires { args.old.items ≡ [] }
     ensures { Gives (λ x. (Command x.0 x.1 dep.new (record { proc = x.2; args = args.new }), x.3.now)) result (command_at One vectors.now bytes.now) }
 {
-    match origin_of(vectors, bytes, dep) {
-        Err(e) => Err(e),
-        Ok((number, anchor, rest)) => {
-            let (proc, rest) = u16_of(rest)?;
-            let (count, rest) = byte_of(rest)?;
-            if count as usize > MAX_ARGS {
-                return Err(FieldError::Bad(RecordCause::BadBody));
-            }
-            match args_of(count, rest, args) {
-                Err(e) => Err(e),
-                Ok(rest) => Ok((number, anchor, proc, rest)),
-            }
-        }
+    let (number, anchor, rest) = origin_of(vectors, bytes, dep)?;
+    let (proc, rest) = u16_of(rest)?;
+    let (count, rest) = byte_of(rest)?;
+    if count as usize > MAX_ARGS {
+        return Err(FieldError::Bad(RecordCause::BadBody));
     }
+    let rest = args_of(count, rest, args)?;
+    Ok((number, anchor, proc, rest))
 }
 
 /// The vector of an anchor.
