@@ -43,10 +43,7 @@ pub fn contents_in(alloc: Global, images: &[Listed<u8>]) -> Result<Listed<Listed
     let n = images.len() as u16;
     let mut contents = Listed::new(alloc);
     for (j, image) in images.iter().enumerate() {
-        let content = match content_in(alloc, image.as_slice(), n, j as u8) {
-            Ok(content) => content,
-            Err(refusal) => return Err(refusal),
-        };
+        let content = content_in(alloc, image.as_slice(), n, j as u8)?;
         match contents.push(content) {
             Ok(()) => {}
             Err(_) => return Err(LogRefusal::NoMemory),

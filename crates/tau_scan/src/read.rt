@@ -58,10 +58,7 @@ pub fn read_images<D: Disk>(
 {
     let mut images = Listed::new(alloc);
     for j in 0..disks.len() {
-        let image = match read_image(alloc, &mut disks[j], j as u8) {
-            Ok(image) => image,
-            Err(refusal) => return Err(refusal),
-        };
+        let image = read_image(alloc, &mut disks[j], j as u8)?;
         match images.push(Listed::of(image)) {
             Ok(()) => {}
             Err(_) => return Err(ReadRefusal::NoMemory),

@@ -51,10 +51,7 @@ fn streams_in(alloc: Global, contents: &[Listed<u8>]) -> Result<Listed<Listed<Pl
     let n = contents.len() as u16;
     let mut streams = Listed::new(alloc);
     for (j, content) in contents.iter().enumerate() {
-        let records = match stream_in(alloc, n, j as u8, content.as_slice()) {
-            Ok(records) => records,
-            Err(refusal) => return Err(refusal),
-        };
+        let records = stream_in(alloc, n, j as u8, content.as_slice())?;
         match streams.push(records) {
             Ok(()) => {}
             Err(_) => return Err(LogRefusal::NoMemory),
@@ -86,18 +83,9 @@ fn log_in(alloc: Global, images: &[Listed<u8>]) -> Result<Log, LogRefusal>
     ensures same { Found result (log_of images.now) }
     ensures sound { IfOk result (λ log. IsLog log) }
 {
-    let contents = match contents_in(alloc, images) {
-        Ok(contents) => contents,
-        Err(refusal) => return Err(refusal),
-    };
-    let streams = match streams_in(alloc, contents.as_slice()) {
-        Ok(streams) => streams,
-        Err(refusal) => return Err(refusal),
-    };
-    let declarations = match declarations_of(alloc, streams.as_slice()) {
-        Ok(declarations) => declarations,
-        Err(refusal) => return Err(refusal),
-    };
+    let contents = contents_in(alloc, images)?;
+    let streams = streams_in(alloc, contents.as_slice())?;
+    let declarations = declarations_of(alloc, streams.as_slice())?;
     match lengths_of(contents.as_slice()) {
         Some(elv) => Ok(Log {
             elv,
