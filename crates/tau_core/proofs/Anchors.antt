@@ -27,7 +27,7 @@ use Rattle.tau_core.specs.Pieces.{IsPieceOf, Paired, Spelled}
 use Rattle.tau_core.proofs.Lists.{reads-changed, reads-same, each-got, each-else, got-same, got-other, got-first, member-snoc}
 use Rattle.tau_core.proofs.AnchorNames.{Grows, piece-more, paired-more, spelled-more, end-low}
 use Rattle.tau_core.proofs.Spellings.{paired-append}
-use Rattle.tau_core.proofs.Positions.{kept}
+use Rattle.tau_core.proofs.PersistLeads.{kept}
 
 module _ (p : Plain) (K : List (Act Txn)) (h : Hidden) (g : Stands p K h) (j : ℕ) (there : j < p.load.streams) where
   -- what the manager has posted ends within the stream

@@ -25,7 +25,7 @@ use Rattle.tau_txn.specs.Txn.{hand_in, bytes_in}
 use Rattle.tau_core.specs.Clerk.{Pends}
 use Rattle.tau_core.proofs.Lists.{reads-got, each-got}
 use Rattle.tau_core.proofs.Seats.{seat-core, seat-outbox, same-worker, seat-sound, seat-inside}
-use Rattle.tau_core.proofs.Positions.{kept}
+use Rattle.tau_core.proofs.PersistLeads.{kept}
 
 module _ (p : Plain) (K : List (Act Txn)) (h : Hidden) (g : Stands p K h) where
   -- a shard drops free entries

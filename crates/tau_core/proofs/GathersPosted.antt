@@ -23,7 +23,7 @@ use Rattle.tau_core.specs.Pieces.{IsPieceOf, Paired, Spelled}
 use Rattle.tau_core.specs.Gather.{Moves}
 use Rattle.tau_core.proofs.Lists.{reads-changed, reads-same, each-got, each-else, got-same}
 use Rattle.tau_core.proofs.Seats.{seat-sound, seat-inside, seat-core, same-worker}
-use Rattle.tau_core.proofs.Positions.{kept}
+use Rattle.tau_core.proofs.PersistLeads.{kept}
 use Rattle.tau_core.proofs.GatheredItems.{posted_moved, posted-moved, posted-none}
 use Rattle.tau_core.proofs.Spellings.{moved-within, Split, paired-split, chain-of, spelled-pieces, spelled-append, chain-still}
 

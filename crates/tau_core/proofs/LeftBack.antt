@@ -31,7 +31,7 @@ use Rattle.tau_core.proofs.Hands.{hand-gone}
 use Rattle.tau_core.proofs.Firsts.{none-some}
 use Rattle.tau_core.proofs.Numbers.{next-is}
 use Rattle.tau_core.proofs.Starts.{waiting-next}
-use Rattle.tau_core.proofs.Positions.{kept}
+use Rattle.tau_core.proofs.PersistLeads.{kept}
 use Rattle.tau_core.proofs.Steps.{happened, unmoved}
 use Rattle.tau_core.proofs.FirstSteps.{waits-none}
 

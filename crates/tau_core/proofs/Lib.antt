@@ -31,7 +31,7 @@ pub mod NextLock
 pub mod Numbers
 pub mod Opens
 pub mod PhaseLaws
-pub mod Positions
+pub mod PersistLeads
 pub mod PostLeads
 pub mod Posts
 pub mod Promises

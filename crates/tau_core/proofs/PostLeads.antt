@@ -23,7 +23,7 @@ use Rattle.tau_core.proofs.Lists.{reads-got, reads-changed, each-else, each-got}
 use Rattle.tau_core.proofs.Seats.{seat-worker, seat-inside, seat-sound, one_open}
 use Rattle.tau_core.proofs.Spellings.{paired-append}
 use Rattle.tau_core.proofs.Joins.{one-none}
-use Rattle.tau_core.proofs.Positions.{kept}
+use Rattle.tau_core.proofs.PersistLeads.{kept}
 
 module _ (p p' : Plain) (K : List (Act Txn)) (h : Hidden) (g : Stands p K h) (w : ℕ) (q : PostsRecord w p p') where
   abbrev pub post_hidden : Hidden

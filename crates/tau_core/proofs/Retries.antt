@@ -31,7 +31,7 @@ use Rattle.tau_core.proofs.Seats.{seat-worker}
 use Rattle.tau_core.proofs.Joins.{one-one}
 use Rattle.tau_core.proofs.Begins.{ready-in-hand, carried, begun_state, refuses-lift}
 use Rattle.tau_core.proofs.Settled.{settled-core, settled-stands}
-use Rattle.tau_core.proofs.Positions.{kept}
+use Rattle.tau_core.proofs.PersistLeads.{kept}
 use Rattle.tau_core.proofs.Steps.{happened, unmoved}
 use Rattle.tau_core.proofs.Firsts.{none-some, room-rests}
 use Rattle.tau_core.proofs.WorkerSteps.{Began, began, elsewhere-by}

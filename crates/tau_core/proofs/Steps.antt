@@ -24,7 +24,7 @@ use Rattle.tau_core.specs.Gather.{Gathered}
 use Rattle.tau_core.specs.Anchors.{Anchored}
 use Rattle.tau_core.proofs.Lists.{some-at, got-same}
 use Rattle.std.proofs.lemmas.Option.{slice_get_within}
-use Rattle.tau_core.proofs.Positions.{persist-leads, persist-stands, stop-leads, stop-stands, stopped}
+use Rattle.tau_core.proofs.PersistLeads.{persist-leads, persist-stands, stop-leads, stop-stands, stopped}
 use Rattle.tau_core.proofs.Clerk.{swept, sweep-leads, sweep-stands, less, acked, ack-leads, ack-stands}
 use Rattle.tau_core.proofs.GathersOn.{gathers-on}
 use Rattle.tau_core.proofs.Anchors.{anchored, anchor_hidden, anchor-leads, anchor-stands, reserved-core, reserved-stands}

@@ -50,7 +50,7 @@ use Rattle.tau_core.proofs.CommitLeads.{commits, commit-stands}
 use Rattle.tau_core.specs.Phases.{hand_phase}
 use Rattle.tau_core.proofs.Lists.{some-at, each-got, reads-got, got-same}
 use Rattle.tau_core.proofs.Seats.{seat-worker, seat-core, seat-inside, seat-sound, same-worker, same-outbox}
-use Rattle.tau_core.proofs.Positions.{kept}
+use Rattle.tau_core.proofs.PersistLeads.{kept}
 use Rattle.tau_core.proofs.Steps.{happened, unmoved}
 use Rattle.tau_core.proofs.Begins.{ready-in-hand, carried, begins-core, begins-carried, begun_state, ready-again, locks-lift, refuses-lift}
 use Rattle.tau_core.proofs.Takes.{takes-is, takes-locks, takes-stands}
