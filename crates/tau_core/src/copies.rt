@@ -14,10 +14,7 @@ pub(crate) fn copied_procs(alloc: Global, procs: &Procs) -> Result<Procs, NoMemo
     let mut all = Procs::new(alloc);
     let list = procs.list();
     for proc in list {
-        match add_copy(&mut all, alloc, proc) {
-            Ok(()) => {}
-            Err(error) => return Err(error),
-        }
+        add_copy(&mut all, alloc, proc)?;
     }
     Ok(all)
 }
@@ -28,27 +25,20 @@ fn add_copy(procs: &mut Procs, alloc: Global, proc: &Proc) -> Result<(), NoMemor
     requires well_formed { IsWellFormed proc.now }
     ensures { OnOk result (procs.new ≡ procs.old ++ proc.now ∷ []) }
 {
-    match copied_proc(alloc, proc) {
-        Ok(copy) => match procs.add(copy) {
-            Ok(()) => Ok(()),
-            Err(error) => Err(error),
-        },
-        Err(error) => Err(error),
-    }
+    let copy = copied_proc(alloc, proc)?;
+    procs.add(copy)
 }
 
 /// The procedure again.
 fn copied_proc(alloc: Global, proc: &Proc) -> Result<Proc, NoMemory>
     ensures { IfOk result (λ copy. copy ≡ proc.now) }
 {
-    match copied_steps(alloc, proc.steps.as_slice()) {
-        Ok(steps) => Ok(Proc {
-            name: proc.name.copied(),
-            args: proc.args,
-            steps,
-        }),
-        Err(error) => Err(error),
-    }
+    let steps = copied_steps(alloc, proc.steps.as_slice())?;
+    Ok(Proc {
+        name: proc.name.copied(),
+        args: proc.args,
+        steps,
+    })
 }
 
 /// The steps again.
@@ -57,10 +47,7 @@ fn copied_steps(alloc: Global, steps: &[Step]) -> Result<Listed<Step>, NoMemory>
 {
     let mut all = Listed::new(alloc);
     for step in steps {
-        match all.push(step.copied()) {
-            Ok(()) => {}
-            Err(_) => return Err(NoMemory),
-        }
+        all.push(step.copied()).map_err(|_| NoMemory)?;
     }
     Ok(all)
 }

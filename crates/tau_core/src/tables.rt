@@ -22,15 +22,9 @@ pub(crate) fn tables(state: &State, alloc: Global) -> Result<Tables, NoMemory>
 {
     let mut store = SerialStore::new(alloc);
     for i in 0..SHARDS {
-        match put_shard(&mut store, alloc, &state.shards[i], i) {
-            Ok(()) => {}
-            Err(error) => return Err(error),
-        }
+        put_shard(&mut store, alloc, &state.shards[i], i)?;
     }
-    match store.tables(alloc) {
-        Ok(tables) => Ok(tables),
-        Err(error) => Err(error),
-    }
+    store.tables(alloc)
 }
 
 /// Puts the present rows of the shard of this number.
@@ -44,13 +38,8 @@ fn put_shard(
     ensures { OnOk result (database store.new ≡ with_shard_rows number part.now (database store.old)) }
 {
     let mut rows = Vec::new(alloc);
-    match part.present(&mut rows) {
-        Ok(()) => match put_own(store, rows.as_slice(), number) {
-            Ok(()) => Ok(()),
-            Err(error) => Err(error),
-        },
-        Err(error) => Err(error),
-    }
+    part.present(&mut rows)?;
+    put_own(store, rows.as_slice(), number)
 }
 
 /// Puts those of the rows whose keys belong to the shard of this number. Of two rows of one key the first counts.
@@ -58,10 +47,7 @@ fn put_own(store: &mut SerialStore, rows: &[(Key, Value)], number: usize) -> Res
     ensures { OnOk result (database store.new ≡ written (own_rows number rows.now) (database store.old)) }
 {
     for i in (0..rows.len()).rev() {
-        match put_if_own(store, rows, i, number) {
-            Ok(()) => {}
-            Err(error) => return Err(error),
-        }
+        put_if_own(store, rows, i, number)?;
     }
     Ok(())
 }
@@ -80,8 +66,5 @@ fn put_if_own(
     if usize::from(shard_of(*key)) != number {
         return Ok(());
     }
-    match store.write(&rows[i..i + 1]) {
-        Ok(()) => Ok(()),
-        Err(error) => Err(error),
-    }
+    store.write(&rows[i..i + 1])
 }

@@ -16,5 +16,5 @@ loop-i-preserved c =
     let found = some-at rows (c.loop-i.i - 1) (omega arith) in
     let row : Key × Value = found.0 in
     let more : drop (c.loop-i.i - 1) rows ≡ row ∷ drop c.loop-i.i rows = drop-before rows c.loop-i.i row (omega arith) (omega arith) (sym (get_or_from_slice_get rows (c.loop-i.i - 1) row row found.1)) in
-    c.in-Ok.ensures row found.1 ∙ ap (λ (d : Db). written (own_rows c.args.number (row ∷ [])) d) c.loop-i.invariant
+    c.in_ok-put_if_own.ensures row found.1 ∙ ap (λ (d : Db). written (own_rows c.args.number (row ∷ [])) d) c.loop-i.invariant
     ∙ sym (own-more c.args.number row (drop c.loop-i.i rows) (database c.args.store.now)) ∙ ap (λ (l : List (Key × Value)). written (own_rows c.args.number l) (database c.args.store.now)) (sym more)

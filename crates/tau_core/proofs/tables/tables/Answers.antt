@@ -1,4 +1,5 @@
 use Rattle.std.proofs.Common.{ℕ, ◌≡◌, ap, subst, ◌∙◌, arith}
+use Rattle.std.specs.Prelude.{IfOk}
 use Rattle.tau_base.specs.declared.limits.TheConstants.{SHARDS}
 use Rattle.tau_base.specs.Database.{Db}
 use Rattle.tau_model.specs.Tables.{IsTablesOf}
@@ -16,9 +17,9 @@ put_shard-requires c = λ x e. ap (λ (d : Db). d x) c.loop-i.invariant ∙ belo
 pub loop-i-preserved : goal.loop-i-preserved
 loop-i-preserved c =
     let got = found-shard c.args.state.now c.loop-i.i c.index.result.now c.requires c.loop-i-test.true c.index.ensures in
-    c.in-Ok.ensures ∙ ap (λ (d : Db). with_shard_rows c.loop-i.i c.index.result.now d) c.loop-i.invariant ∙ below-more c.loop-i.i c.args.state.now.shards.items c.index.result.now got
+    c.in_ok-put_shard.ensures ∙ ap (λ (d : Db). with_shard_rows c.loop-i.i c.index.result.now d) c.loop-i.invariant ∙ below-more c.loop-i.i c.args.state.now.shards.items c.index.result.now got
 
-pub returns-in-Ok-tables : goal.returns-in-Ok-tables
-returns-in-Ok-tables c =
+pub returns : goal.returns
+returns c =
     let all : c.loop-i.i ≡ SHARDS = omega arith in
-    subst (λ (d : Db). IsTablesOf d c.in-Ok-tables.tables) (c.loop-i.invariant ∙ ap (λ (n : ℕ). rows_below n c.args.state.now.shards.items) all ∙ below-all c.args.state.now.shards.items) c.in-Ok-tables.ensures
+    subst (λ (d : Db). IfOk c.tables.result (λ tables. IsTablesOf d tables)) (c.loop-i.invariant ∙ ap (λ (n : ℕ). rows_below n c.args.state.now.shards.items) all ∙ below-all c.args.state.now.shards.items) c.tables.ensures
