@@ -68,8 +68,5 @@ fn keep(anchors: &mut Vec<Lv>, lv: Lv) -> Result<(), NoMemory>
     ensures ok { OnOk result (anchors.new.items ≡ anchors.old.items ++ lv ∷ []) }
     ensures err { OnErr result (anchors.new.items ≡ anchors.old.items) }
 {
-    match anchors.push(lv) {
-        Ok(()) => Ok(()),
-        Err(_) => Err(NoMemory),
-    }
+    anchors.push(lv).map_err(|_| NoMemory)
 }

@@ -64,16 +64,9 @@ pub(crate) fn make_room(state: &mut State, worker: usize) -> Result<(), NoMemory
     ensures made { RoomMade worker (plain state.old) (plain state.new) }
     ensures roomy { OnOk result (IsRoomy worker (plain state.new)) }
 {
-    match committed_room(&mut state.committed) {
-        Err(error) => Err(error),
-        Ok(()) => {
-            let seat = &mut state.seats[worker];
-            match seat_room(seat) {
-                Ok(()) => Ok(()),
-                Err(error) => Err(error),
-            }
-        }
-    }
+    committed_room(&mut state.committed)?;
+    let seat = &mut state.seats[worker];
+    seat_room(seat)
 }
 
 /// Makes room for a call of each worker.
@@ -82,10 +75,7 @@ fn committed_room(committed: &mut Vec<Committed>) -> Result<(), NoMemory>
     ensures kept { vec_capacity committed.old - vec_len committed.old ≤ vec_capacity committed.new - vec_len committed.new }
     ensures roomy { OnOk result (MAX_WORKERS ≤ vec_capacity committed.new - vec_len committed.new) }
 {
-    match committed.try_reserve(MAX_WORKERS) {
-        Ok(()) => Ok(()),
-        Err(_) => Err(NoMemory),
-    }
+    committed.try_reserve(MAX_WORKERS).map_err(|_| NoMemory)
 }
 
 /// Makes the room in the worker's own part.

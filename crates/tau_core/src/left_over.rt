@@ -45,10 +45,7 @@ impl LeftOvers {
         ensures room { self.old.room ≤ self.new.room }
         ensures roomy { OnOk result (1 ≤ self.new.room) }
     {
-        match self.numbers.try_reserve(1) {
-            Ok(()) => Ok(()),
-            Err(_) => Err(NoMemory),
-        }
+        self.numbers.try_reserve(1).map_err(|_| NoMemory)
     }
 
     /// Puts one more after the others.

@@ -23,10 +23,8 @@ pub(crate) fn fresh(
     requires text { length (declarations_text declarations.now) ≤ MAX_CATALOGUE }
     ensures { IfOk result (λ opening. IsFresh n (catalogue_size (declarations_text declarations.now)) opening) }
 {
-    match catalogue_size(alloc, declarations) {
-        Ok(size) => Ok(fresh_at(alloc, n, size)),
-        Err(error) => Err(error),
-    }
+    let size = catalogue_size(alloc, declarations)?;
+    Ok(fresh_at(alloc, n, size))
 }
 
 /// How long the record of the catalogue is.

@@ -28,10 +28,8 @@ pub(crate) fn open(
     requires fits { Fits opening }
     ensures { IfOk result (λ state. Opens (load_of load.now.declarations.procs load.now.calls mode workers opening) (plain state)) }
 {
-    match load_of(alloc, load, opening, workers, mode) {
-        Ok(load) => state_of(alloc, load),
-        Err(error) => Err(error),
-    }
+    let load = load_of(alloc, load, opening, workers, mode)?;
+    state_of(alloc, load)
 }
 
 /// What the run stands on.
@@ -61,16 +59,10 @@ fn state_of(alloc: Global, load: Load) -> Result<State, NoMemory>
     requires { IsLoad load }
     ensures { IfOk result (λ state. Opens load (plain state)) }
 {
-    match shards_of(alloc, &load) {
-        Ok(shards) => match seats(alloc, load.workers, load.streams, load.mode) {
-            Ok(seats) => match streams(alloc, load.streams) {
-                Ok(streams) => Ok(assembled(alloc, load, shards, seats, streams)),
-                Err(error) => Err(error),
-            },
-            Err(error) => Err(error),
-        },
-        Err(error) => Err(error),
-    }
+    let shards = shards_of(alloc, &load)?;
+    let seats = seats(alloc, load.workers, load.streams, load.mode)?;
+    let streams = streams(alloc, load.streams)?;
+    Ok(assembled(alloc, load, shards, seats, streams))
 }
 
 /// The state of these parts.

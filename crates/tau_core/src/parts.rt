@@ -26,10 +26,7 @@ pub(crate) fn seats(
 {
     let mut all = Vec::new(alloc);
     for worker in 0..workers {
-        match all.push(seat(alloc, worker, streams, mode)) {
-            Ok(()) => {}
-            Err(_) => return Err(NoMemory),
-        }
+        all.push(seat(alloc, worker, streams, mode)).map_err(|_| NoMemory)?;
     }
     Ok(all)
 }
@@ -58,10 +55,7 @@ pub(crate) fn streams(alloc: Global, count: usize) -> Result<Vec<Stream>, NoMemo
 {
     let mut all = Vec::new(alloc);
     for _stream in 0..count {
-        match all.push(stream(alloc)) {
-            Ok(()) => {}
-            Err(_) => return Err(NoMemory),
-        }
+        all.push(stream(alloc)).map_err(|_| NoMemory)?;
     }
     Ok(all)
 }
@@ -86,13 +80,9 @@ pub(crate) fn shards(
 ) -> Result<Vec<Shard>, NoMemory>
     ensures { IfOk result (λ shards. AreShards floor rows.now shards.items) }
 {
-    match empty_shards(alloc, floor) {
-        Ok(mut all) => match put_rows(&mut all, floor, rows) {
-            Ok(()) => Ok(all),
-            Err(error) => Err(error),
-        },
-        Err(error) => Err(error),
-    }
+    let mut all = empty_shards(alloc, floor)?;
+    put_rows(&mut all, floor, rows)?;
+    Ok(all)
 }
 
 /// The shards without rows.
@@ -101,10 +91,7 @@ fn empty_shards(alloc: Global, floor: Lv) -> Result<Vec<Shard>, NoMemory>
 {
     let mut all = Vec::new(alloc);
     for _shard in 0..SHARDS {
-        match all.push(Shard::with_floor(alloc, floor)) {
-            Ok(()) => {}
-            Err(_) => return Err(NoMemory),
-        }
+        all.push(Shard::with_floor(alloc, floor)).map_err(|_| NoMemory)?;
     }
     Ok(all)
 }
@@ -117,10 +104,7 @@ fn put_rows(shards: &mut Vec<Shard>, floor: Lv, rows: &[(Key, Value)]) -> Result
     for i in (0..rows.len()).rev() {
         let (key, value) = &rows[i];
         let part = &mut shards[usize::from(shard_of(*key))];
-        match put_row(part, *key, value.copied(), &floor) {
-            Ok(()) => {}
-            Err(error) => return Err(error),
-        }
+        put_row(part, *key, value.copied(), &floor)?;
     }
     Ok(())
 }
@@ -131,12 +115,8 @@ fn put_row(part: &mut Shard, key: Key, value: Value, floor: &Lv) -> Result<(), N
     ensures { OnOk result (PutsRow floor.now key value part.old part.new) }
 {
     let mut dep = *floor;
-    match part.lock(0, key, Mode::Write, &mut dep) {
-        Ok(_) => {
-            part.free(0, key, floor, Some(value));
-            part.drop_covered(floor);
-            Ok(())
-        }
-        Err(_) => Err(NoMemory),
-    }
+    part.lock(0, key, Mode::Write, &mut dep).map_err(|_| NoMemory)?;
+    part.free(0, key, floor, Some(value));
+    part.drop_covered(floor);
+    Ok(())
 }

@@ -78,10 +78,8 @@ impl Core {
         requires fits { Fits opening }
         ensures { IfOk result (λ core. Opened (load_of load.now.declarations.procs load.now.calls mode m opening) core) }
     {
-        match open(alloc, load, opening, usize::from(m), mode) {
-            Ok(state) => Ok(Core { state }),
-            Err(error) => Err(error),
-        }
+        let state = open(alloc, load, opening, usize::from(m), mode)?;
+        Ok(Core { state })
     }
 
     /// The state in which nothing has happened, of a run of so many workers on `n` streams that hold the record of the catalogue alone.
@@ -100,10 +98,8 @@ impl Core {
         requires text { length (declarations_text load.now.declarations) ≤ MAX_CATALOGUE }
         ensures { IfOk result (λ core. OpenedFresh load.now.declarations.procs load.now.calls mode m n (catalogue_size (declarations_text load.now.declarations)) core) }
     {
-        match fresh(alloc, &load.declarations, usize::from(n)) {
-            Ok(opening) => Core::open(alloc, load, opening, m, mode),
-            Err(error) => Err(error),
-        }
+        let opening = fresh(alloc, &load.declarations, usize::from(n))?;
+        Core::open(alloc, load, opening, m, mode)
     }
 
     /// Takes the core apart.

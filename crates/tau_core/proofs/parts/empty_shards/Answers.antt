@@ -1,4 +1,4 @@
-use Rattle.std.proofs.Common.{ℕ, ◌≡◌, ◌+◌, List, [], length, sym, ap, subst, ◌∙◌}
+use Rattle.std.proofs.Common.{ℕ, ◌≡◌, ◌+◌, List, [], ◌∷◌, ◌++◌, length, sym, ap, subst, ◌∙◌, rules}
 use Rattle.std.specs.Prelude.{Some, slice_get}
 use Rattle.tau_shard.specs.Plain.{PlainShard}
 use Rattle.tau_core.specs.Opens.{IsShardAtRest}
@@ -10,8 +10,9 @@ pub loop-shard-preserved : goal.loop-shard-preserved
 loop-shard-preserved c =
     let xs : List PlainShard = c.loop-shard.all.items in
     let x : PlainShard = c.with_floor.result in
+    let more : c.push.new.self.items ≡ xs ++ x ∷ [] = search rules in
     record {
-      count = ap length c.in-Ok.ensures.items ∙ length-snoc xs x ∙ ap (λ (n : ℕ). n + 1) c.loop-shard.invariant.count;
-      each = subst (λ (l : List PlainShard). (i : ℕ) (s : PlainShard) → slice_get l i ≡ Some s → IsShardAtRest c.args.floor [] i s) (sym c.in-Ok.ensures.items)
+      count = ap length more ∙ length-snoc xs x ∙ ap (λ (n : ℕ). n + 1) c.loop-shard.invariant.count;
+      each = subst (λ (l : List PlainShard). (i : ℕ) (s : PlainShard) → slice_get l i ≡ Some s → IsShardAtRest c.args.floor [] i s) (sym more)
           (each-snoc (IsShardAtRest c.args.floor []) xs x c.loop-shard.invariant.each (shard-rests c.args.floor (length xs) x c.with_floor.ensures));
     }

@@ -1,8 +1,8 @@
 -- The key is held in write mode until it is freed, and the three steps put the row.
-use Rattle.std.proofs.Common.{◌≡◌, ap, ◌∙◌}
+use Rattle.std.proofs.Common.{◌≡◌, ap, ◌∙◌, rules}
 use Rattle.std.specs.Prelude.{Some, is_some}
 use Rattle.tau_base.specs.declared.value.Mode.TheVariants.{Write}
-use Rattle.tau_machine.specs.Shard.{Shard, entry_in}
+use Rattle.tau_machine.specs.Shard.{Shard, entry_in, shard_locked}
 use Rattle.tau_shard.specs.Read.{shard_of}
 use Rattle.tau_shard.proofs.Bridge.{locked-held}
 use Rattle.tau_core.proofs.RowPuts.{row-put}
@@ -10,11 +10,16 @@ use Rattle.tau_core.proofs.parts.put_row.Goals as goal
 
 pub free-requires-clause-held : goal.free-requires-clause-held
 free-requires-clause-held c =
-    let held : (entry_in (shard_of c.lock.new.self) c.args.key).holders 0 ≡ Some Write = ap (λ (s : Shard). (entry_in s c.args.key).holders 0) c.in-Ok.ensures.locked ∙ locked-held (shard_of c.args.part.now) 0 c.args.key Write in
+    let locked : shard_of c.lock.new.self ≡ shard_locked (shard_of c.args.part.now) 0 c.args.key Write = search rules in
+    let held : (entry_in (shard_of c.lock.new.self) c.args.key).holders 0 ≡ Some Write = ap (λ (s : Shard). (entry_in s c.args.key).holders 0) locked ∙ locked-held (shard_of c.args.part.now) 0 c.args.key Write in
     ap is_some held
 
 pub free-requires-clause-writes : goal.free-requires-clause-writes
-free-requires-clause-writes c = λ e. ap (λ (s : Shard). (entry_in s c.args.key).holders 0) c.in-Ok.ensures.locked ∙ locked-held (shard_of c.args.part.now) 0 c.args.key Write
+free-requires-clause-writes c =
+    let locked : shard_of c.lock.new.self ≡ shard_locked (shard_of c.args.part.now) 0 c.args.key Write = search rules in
+    λ e. ap (λ (s : Shard). (entry_in s c.args.key).holders 0) locked ∙ locked-held (shard_of c.args.part.now) 0 c.args.key Write
 
-pub returns-in-Ok : goal.returns-in-Ok
-returns-in-Ok c = row-put c.args.floor.now c.args.key c.args.value c.args.part.now c.lock.new.self c.free.new.self c.drop_covered.new.self c.requires c.in-Ok.ensures.locked c.free.ensures c.drop_covered.ensures.dropped
+pub returns : goal.returns
+returns c =
+    let locked : shard_of c.lock.new.self ≡ shard_locked (shard_of c.args.part.now) 0 c.args.key Write = search rules in
+    row-put c.args.floor.now c.args.key c.args.value c.args.part.now c.lock.new.self c.free.new.self c.drop_covered.new.self c.requires locked c.free.ensures c.drop_covered.ensures.dropped

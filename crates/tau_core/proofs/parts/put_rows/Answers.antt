@@ -20,6 +20,6 @@ loop-i-preserved c =
     let got = slice_get_read c.loop-i.shards.items (length c.loop-i.shards.items) c.from.result c.index_mut-part.result.now refl within c.index_mut-part.ensures.value in
     let row : Key × Value = c.index-rows-i.result in
     let more : drop (c.loop-i.i - 1) c.args.rows.now ≡ row ∷ drop c.loop-i.i c.args.rows.now = drop-before c.args.rows.now c.loop-i.i row (omega arith) (omega arith) c.index-rows-i.is in
-    let puts : PutsRow c.args.floor row.0 row.1 c.index_mut-part.result.now c.put_row.new.part = subst (λ (v : Value). PutsRow c.args.floor row.0 v c.index_mut-part.result.now c.put_row.new.part) c.copied.ensures c.in-Ok.ensures in
+    let puts : PutsRow c.args.floor row.0 row.1 c.index_mut-part.result.now c.put_row.new.part = subst (λ (v : Value). PutsRow c.args.floor row.0 v c.index_mut-part.result.now c.put_row.new.part) c.copied.ensures c.in_ok-put_row.ensures in
     subst (λ (l : List (Key × Value)). AreShards c.args.floor l (slice_set c.loop-i.shards.items c.from.result c.put_row.new.part)) (sym more)
     (rows-put c.args.floor row.0 row.1 (drop c.loop-i.i c.args.rows.now) c.loop-i.shards.items c.from.result c.index_mut-part.result.now c.put_row.new.part c.loop-i.invariant got (c.from.ensures ∙ c.shard_of.ensures.same) puts)
