@@ -14,8 +14,10 @@ use Rattle.std.proofs.lemmas.Option.{slice_get_within}
 use Rattle.tau_core.specs.Plain.{PlainSeat}
 use Rattle.tau_core.specs.State.{Plain}
 use Rattle.tau_core.specs.Stands.{Stood, Sound}
-use Rattle.tau_core.specs.Begins.{next_number, HasNext, RoomMade, IsRoomy, BeginsNext, seat_at}
-use Rattle.tau_core.specs.Firsts.{Rests}
+use Rattle.tau_core.specs.Begins.{next_number, HasNext, RoomMade, IsRoomy, BeginsNext, Undone, seat_at}
+use Rattle.tau_core.specs.Firsts.{BegunUndone, Rests}
+use Rattle.tau_core.specs.declared.begin.Mark.{Mark}
+use Rattle.tau_core.specs.declared.event.Outcome.{Outcome}
 use Rattle.tau_core.proofs.Lists.{got-same}
 use Rattle.tau_core.proofs.Begins.{carried, begins-carried}
 use Rattle.tau_core.proofs.Starts.{begins-of, room-stands}
@@ -67,18 +69,42 @@ module _ (p p' : Plain) (w n : ℕ) (q : RoomMade w p p') where
       load_same = ap (λ (x : Plain). x.load) q.after
 
 -- the state after the beginning is sound
-pub begun-sound : (p p' : Plain) (w n : ℕ) (g : Stood p) → BeginsNext w n p p' → IsRoomy w p → HasNext p w n → Rests p w → Sound p'
+begun-sound : (p p' : Plain) (w n : ℕ) (g : Stood p) → BeginsNext w n p p' → IsRoomy w p → HasNext p w n → Rests p w → Sound p'
 begun-sound p p' w n g q roomy next rests = (begins-carried p p' g.0 g.1 w (begins-of p p' g.0 g.1 g.2 w n q roomy next rests) (carried p g.0 g.1 g.2)).sound
 
 -- and its seat has just begun
-pub begun-seat : (p p' : Plain) (w n : ℕ) (g : Stood p) (q : BeginsNext w n p p') → (s : PlainSeat) → slice_get p'.seats w ≡ Some s → seat_at s
+begun-seat : (p p' : Plain) (w n : ℕ) (g : Stood p) (q : BeginsNext w n p p') → (s : PlainSeat) → slice_get p'.seats w ≡ Some s → seat_at s
 begun-seat p p' w n g q s e =
     let got : slice_get p'.seats w ≡ Some q.new = ap (λ (x : Plain). slice_get x.seats w) q.after ∙ got-same p.seats w q.new (slice_get_within p.seats w q.seat q.is) in
     let same : q.new ≡ s = (let f : Some q.new ≡ Some s = sym got ∙ e in cc) in
     subst (λ (x : PlainSeat). seat_at x) same (fresh-at p.load.procs q.new.txn (fresh q.seat.txn.width (record { number = n; call = q.call }) 0) q.begun refl refl)
 
-pub room-stood : (p p' : Plain) (w : ℕ) → Stood p → RoomMade w p p' → Stood p'
+room-stood : (p p' : Plain) (w : ℕ) → Stood p → RoomMade w p p' → Stood p'
 room-stood p p' w g q = (g.0, g.1, room-stands p p' g.0 g.1 g.2 w q)
+
+pub room-sound : (p p' : Plain) (w : ℕ) → Stood p → RoomMade w p p' → Sound p'
+room-sound p p' w g q = (room-stood p p' w g q).2.sound
+
+-- a call is begun in the room that was made for it: p before, r with the room, b with the call begun
+module _ (p r b : Plain) (w n : ℕ) (stood : Stood p) (made : RoomMade w p r) where
+  pub first-begun : BeginsNext w n r b → IsRoomy w r → HasNext p w n → Rests p w → Sound b
+  first-begun begins roomy next rests = begun-sound r b w n (room-stood p r w stood made) begins roomy (room-next p r w n made next) (room-rests p r w n made rests)
+
+  -- what was tried left the workers as they were
+  pub first-seat : (t : Plain) → BeginsNext w n r b → t.seats ≡ b.seats → (s : PlainSeat) → slice_get t.seats w ≡ Some s → seat_at s
+  first-seat t begins same s e = begun-seat r b w n (room-stood p r w stood made) begins s (ap (λ (l : List PlainSeat). slice_get l w) (sym same) ∙ e)
+
+-- it is begun, and undone by the mark
+pub first-undone : (inner : Plain → ℕ → Outcome → Plain → Type 0) (p r b t p' : Plain) (w n : ℕ) (o : Outcome) (mark : Mark) →
+    RoomMade w p r → IsRoomy w r → BeginsNext w n r b → ((s : PlainSeat) → slice_get r.seats w ≡ Some s → mark ≡ record { next = s.next; again = s.again }) →
+    inner b w o t → Undone w mark.next mark.again t p' → BegunUndone inner w n p o p'
+first-undone inner p r b t p' w n o mark made enough begins marks refused undone = record {
+  begun = b;
+  tried = t;
+  as_begun = record { roomy = r; made = made; enough = enough; begins = begins };
+  refused = refused;
+  undone = subst (λ (m : Mark). Undone w m.next m.again t p') (marks begins.seat begins.is) undone;
+}
 
 pub none-some : (o : Option PlainHand) → is_some o ≡ false → o ≡ None
 none-some None e = refl

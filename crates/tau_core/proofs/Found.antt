@@ -1,12 +1,15 @@
 -- The parts that code has in hand.
-use Rattle.std.proofs.Common.{ℕ, ◌<◌, ◌≡◌, length, refl, sym, ap, ◌∙◌, arith}
-use Rattle.std.specs.Prelude.{Some, slice_get, slice_index_or}
+use Rattle.std.proofs.Common.{ℕ, ◌<◌, ◌≡◌, ◌-◌, length, refl, sym, ap, subst, ◌∙◌, arith}
+use Rattle.std.specs.Prelude.{Some, slice_get, slice_index_or, vec_capacity, vec_len}
 use Rattle.std.proofs.lemmas.Option.{slice_get_read}
 use Rattle.tau_base.specs.declared.limits.TheConstants.{SHARDS}
+use Rattle.tau_base.specs.declared.value.Key.{Key}
+use Rattle.tau_base.specs.Shards.{shard_number}
 use Rattle.tau_shard.specs.Plain.{PlainShard}
 use Rattle.tau_core.specs.declared.state.Seat.TheInside as seat
+use Rattle.tau_core.specs.declared.state.Stream.TheInside as stream
 use Rattle.tau_core.specs.declared.state.State.{State}
-use Rattle.tau_core.specs.Plain.{PlainSeat}
+use Rattle.tau_core.specs.Plain.{PlainSeat, PlainStream}
 use Rattle.tau_core.specs.State.{plain}
 use Rattle.tau_core.specs.Stands.{Sound}
 
@@ -27,3 +30,17 @@ pub found-shard : (s : State) (i : ℕ) (now : PlainShard) → Sound (plain s) �
 found-shard s i now g lt is =
     let within : i < length s.shards.items = (let e = g.shards in omega arith) in
     slice_get_read s.shards.items (length s.shards.items) i now refl within is
+
+-- the shard of a key, whose number code has as a byte
+pub found-shard-of : (s : State) (key : Key) (byte i : ℕ) (now : PlainShard) → Sound (plain s) → i ≡ byte → byte ≡ shard_number key → byte < SHARDS → now ≡ slice_index_or s.shards.items i now →
+    slice_get s.shards.items (shard_number key) ≡ Some now
+found-shard-of s key byte i now g is_byte same small is = subst (λ (n : ℕ). slice_get s.shards.items n ≡ Some now) (is_byte ∙ same) (found-shard s i now g (omega arith) is)
+
+abbrev pub part_in : stream.Inside → PlainStream
+part_in s = record { own = s.own; anchors = s.anchors.items; stop = s.stop; body = s.body.items; room = vec_capacity s.body - vec_len s.body }
+
+pub part-within : (s : State) (j : ℕ) → Sound (plain s) → j < s.load.streams → j < length s.streams.items
+part-within s j g lt = let e = g.streams in omega arith
+
+pub found-part : (s : State) (j : ℕ) (now : PlainStream) (i : stream.Inside) → Sound (plain s) → j < s.load.streams → now ≡ slice_index_or s.streams.items j now → part_in i ≡ now → slice_get s.streams.items j ≡ Some (part_in i)
+found-part s j now i g lt is view = slice_get_read s.streams.items (length s.streams.items) j now refl (part-within s j g lt) is ∙ ap Some (sym view)

@@ -60,3 +60,11 @@ writes-held p K h g w s hand act key m true is hand_is frees held some =
 writes-held p K h g w s hand act key m false is hand_is frees held some =
     absurd (let e : act.effect.writes ≡ [] = ap (λ (a : Act Txn). a.effect.writes) frees.is ∙ frees.no_write in
     let bad = subst (λ (l : List (Key × Value)). IsSome (lookup (same_key key) l)) e some in cc)
+
+module _ (p : Plain) (K : List (Act Txn)) (h : Hidden) (g : Stands p K h) (w : ℕ) (s : PlainSeat) (hand : Hand) (shard : PlainShard) (key : Key) (m : Mode)
+    (is : slice_get p.seats w ≡ Some s) (hand_is : hand_in p.load.procs s.txn ≡ Some hand) (shard_is : slice_get p.shards (shard_number key) ≡ Some shard) (held : mode_of key hand.held ≡ Some m) where
+  pub is-held : IsSome ((entry_in (shard_of shard) key).holders w)
+  is-held = subst (λ (x : Option Mode). IsSome x) (sym (holds p K h g w s hand shard key m is hand_is shard_is held)) refl
+
+  pub is-written : (act : Act Txn) (b : Bool) → FreesBy p.load.procs b s.txn.worker hand act → IsSome (lookup (same_key key) act.effect.writes) → (entry_in (shard_of shard) key).holders w ≡ Some Write
+  is-written act b frees some = holds p K h g w s hand shard key m is hand_is shard_is held ∙ ap Some (writes-held p K h g w s hand act key m b is hand_is frees held some)

@@ -24,6 +24,7 @@ pub mod LetGo
 pub mod Lists
 pub mod Loads
 pub mod Lowest
+pub mod MadeRecords
 pub mod Merged
 pub mod AnchorNames
 pub mod GatheredItems

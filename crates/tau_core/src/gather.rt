@@ -72,10 +72,7 @@ fn reserve_body(state: &mut State, stream: usize) -> Result<(), NoMemory>
     let past = state.ends.get(stream);
     let part = &mut state.streams[stream];
     let most = most(part.body.len(), gathered, past);
-    match part.body.try_reserve(most) {
-        Ok(()) => Ok(()),
-        Err(_) => Err(NoMemory),
-    }
+    part.body.try_reserve(most).map_err(|_| NoMemory)
 }
 
 /// How many bytes more a body of `used` bytes takes of a stream that is gathered up to one position and ends at another.

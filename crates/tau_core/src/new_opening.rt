@@ -16,15 +16,15 @@ use tau_text::{Declarations, print_declarations};
 pub(crate) fn fresh(
     alloc: Global,
     declarations: &Declarations,
-    n: usize,
+    streams: usize,
 ) -> Result<Opening, NoMemory>
-    requires low { 1 ≤ n }
-    requires high { n ≤ MAX_STREAMS }
+    requires low { 1 ≤ streams }
+    requires high { streams ≤ MAX_STREAMS }
     requires text { length (declarations_text declarations.now) ≤ MAX_CATALOGUE }
-    ensures { IfOk result (λ opening. IsFresh n (catalogue_size (declarations_text declarations.now)) opening) }
+    ensures { IfOk result (λ opening. IsFresh streams (catalogue_size (declarations_text declarations.now)) opening) }
 {
     let size = catalogue_size(alloc, declarations)?;
-    Ok(fresh_at(alloc, n, size))
+    Ok(fresh_at(alloc, streams, size))
 }
 
 /// How long the record of the catalogue is.

@@ -69,37 +69,37 @@ impl Core {
         alloc: Global,
         load: &Workload,
         opening: Opening,
-        m: u8,
+        workers: u8,
         mode: LogMode,
     ) -> Result<Core, NoMemory>
-        requires low { 1 ≤ m }
-        requires high { m ≤ MAX_WORKERS }
+        requires low { 1 ≤ workers }
+        requires high { workers ≤ MAX_WORKERS }
         requires calls { AreCalls load.now.declarations.procs load.now.calls }
         requires fits { Fits opening }
-        ensures { IfOk result (λ core. Opened (load_of load.now.declarations.procs load.now.calls mode m opening) core) }
+        ensures { IfOk result (λ core. Opened (load_of load.now.declarations.procs load.now.calls mode workers opening) core) }
     {
-        let state = open(alloc, load, opening, usize::from(m), mode)?;
+        let state = open(alloc, load, opening, usize::from(workers), mode)?;
         Ok(Core { state })
     }
 
-    /// The state in which nothing has happened, of a run of so many workers on `n` streams that hold the record of the catalogue alone.
+    /// The state in which nothing has happened, of a run of so many workers on so many streams that hold the record of the catalogue alone.
     pub fn new(
         alloc: Global,
         load: &Workload,
-        n: u8,
-        m: u8,
+        streams: u8,
+        workers: u8,
         mode: LogMode,
     ) -> Result<Core, NoMemory>
-        requires n_low { 1 ≤ n }
-        requires n_high { n ≤ MAX_STREAMS }
-        requires low { 1 ≤ m }
-        requires high { m ≤ MAX_WORKERS }
+        requires n_low { 1 ≤ streams }
+        requires n_high { streams ≤ MAX_STREAMS }
+        requires low { 1 ≤ workers }
+        requires high { workers ≤ MAX_WORKERS }
         requires calls { AreCalls load.now.declarations.procs load.now.calls }
         requires text { length (declarations_text load.now.declarations) ≤ MAX_CATALOGUE }
-        ensures { IfOk result (λ core. OpenedFresh load.now.declarations.procs load.now.calls mode m n (catalogue_size (declarations_text load.now.declarations)) core) }
+        ensures { IfOk result (λ core. OpenedFresh load.now.declarations.procs load.now.calls mode workers streams (catalogue_size (declarations_text load.now.declarations)) core) }
     {
-        let opening = fresh(alloc, &load.declarations, usize::from(n))?;
-        Core::open(alloc, load, opening, m, mode)
+        let opening = fresh(alloc, &load.declarations, usize::from(streams))?;
+        Core::open(alloc, load, opening, workers, mode)
     }
 
     /// Takes the core apart.

@@ -1,15 +1,12 @@
-use Rattle.std.proofs.Common.{ℕ, ◌+◌, ◌-◌, ◌<◌, ◌≤◌, ◌≡◌, List, inr, [], ◌∷◌, length, refl, sym, ap, ◌∙◌, Option, arith}
-use Rattle.std.specs.Prelude.{Some, slice_get, slice_index, vec_capacity, vec_len}
+use Rattle.std.proofs.Common.{ℕ, ◌+◌, ◌-◌, ◌≤◌, ◌≡◌, List, inr, [], ◌∷◌, length, refl, sym, ap, ◌∙◌, Option, arith}
+use Rattle.std.specs.Prelude.{Some, slice_get, slice_index}
 use Rattle.std.proofs.lemmas.Option.{slice_get_read}
-use Rattle.tau_core.specs.declared.state.Stream.TheInside.{Inside}
 use Rattle.tau_core.specs.Plain.{PlainStream}
 use Rattle.tau_core.specs.View.{anchors_in}
 use Rattle.tau_core.specs.Pieces.{newest_of}
+use Rattle.tau_core.proofs.Found.{found-part, part_in}
 use Rattle.tau_core.proofs.Lists.{member-got}
 use Rattle.tau_core.proofs.commit.newest.Goals as goal
-
-abbrev part_in : Inside → PlainStream
-part_in s = record { own = s.own; anchors = s.anchors.items; stop = s.stop; body = s.body.items; room = vec_capacity s.body - vec_len s.body }
 
 newest-some : (before : ℕ) (list : List (List ℕ)) → 1 ≤ length list → newest_of before list ≡ before + length list
 newest-some before [] low = absurd (omega arith)
@@ -21,18 +18,14 @@ newest-none before (a ∷ rest) e = absurd (omega arith)
 
 pub returns-then-count-eq0-clause-newest : goal.returns-then-count-eq0-clause-newest
 returns-then-count-eq0-clause-newest c =
-    let within : c.args.stream < length c.args.state.now.streams.items = (let e = c.requires.sound.streams in let l = c.requires.there in omega arith) in
-    let is : slice_get c.args.state.now.streams.items c.args.stream ≡ Some (part_in c.part.inside) =
-    slice_get_read c.args.state.now.streams.items (length c.args.state.now.streams.items) c.args.stream c.index-part.result.now refl within c.index-part.ensures ∙ ap Some (sym c.part.view_is) in
+    let is = found-part c.args.state.now c.args.stream c.index-part.result.now c.part.inside c.requires.sound c.requires.there c.index-part.ensures c.part.view_is in
     let none : length c.part.inside.anchors.items ≡ 0 = (let e = c.len-count.ensures in let o = c.part.inside.anchors.ok in let z = c.if-count-eq0.true in omega arith) in
     sym (ap (λ (o : Option PlainStream). newest_of (slice_index c.args.state.now.load.opening.anchors.items c.args.stream) (anchors_in o)) is
     ∙ newest-none (slice_index c.args.state.now.load.opening.anchors.items c.args.stream) c.part.inside.anchors.items none)
 
 pub returns-clause-newest : goal.returns-clause-newest
 returns-clause-newest c =
-    let within : c.args.stream < length c.args.state.now.streams.items = (let e = c.requires.sound.streams in let l = c.requires.there in omega arith) in
-    let is : slice_get c.args.state.now.streams.items c.args.stream ≡ Some (part_in c.part.inside) =
-    slice_get_read c.args.state.now.streams.items (length c.args.state.now.streams.items) c.args.stream c.index-part.result.now refl within c.index-part.ensures ∙ ap Some (sym c.part.view_is) in
+    let is = found-part c.args.state.now c.args.stream c.index-part.result.now c.part.inside c.requires.sound c.requires.there c.index-part.ensures c.part.view_is in
     let count : c.len-count.result ≡ length c.part.inside.anchors.items = (let e = c.len-count.ensures in let o = c.part.inside.anchors.ok in omega arith) in
     let low : 1 ≤ length c.part.inside.anchors.items = (let n = c.if-count-eq0.false in omega arith) in
     let before : c.from.result ≡ slice_index c.args.state.now.load.opening.anchors.items c.args.stream = c.from.ensures ∙ ap (λ (l : List ℕ). slice_index l c.args.stream) c.as_slice.ensures.value in
@@ -44,9 +37,7 @@ returns-clause-newest c =
 
 pub returns-clause-names : goal.returns-clause-names
 returns-clause-names c =
-    let within : c.args.stream < length c.args.state.now.streams.items = (let e = c.requires.sound.streams in let l = c.requires.there in omega arith) in
-    let is : slice_get c.args.state.now.streams.items c.args.stream ≡ Some (part_in c.part.inside) =
-    slice_get_read c.args.state.now.streams.items (length c.args.state.now.streams.items) c.args.stream c.index-part.result.now refl within c.index-part.ensures ∙ ap Some (sym c.part.view_is) in
+    let is = found-part c.args.state.now c.args.stream c.index-part.result.now c.part.inside c.requires.sound c.requires.there c.index-part.ensures c.part.view_is in
     let anchors : anchors_in (slice_get c.args.state.now.streams.items c.args.stream) ≡ c.part.inside.anchors.items = ap anchors_in is in
     let count : c.len-count.result ≡ length c.part.inside.anchors.items = (let e = c.len-count.ensures in let o = c.part.inside.anchors.ok in omega arith) in
     let low : 1 ≤ c.len-count.result = (let n = c.if-count-eq0.false in omega arith) in
@@ -57,9 +48,7 @@ returns-clause-names c =
 
 pub returns-clause-wide : goal.returns-clause-wide
 returns-clause-wide c =
-    let within : c.args.stream < length c.args.state.now.streams.items = (let e = c.requires.sound.streams in let l = c.requires.there in omega arith) in
-    let is : slice_get c.args.state.now.streams.items c.args.stream ≡ Some (part_in c.part.inside) =
-    slice_get_read c.args.state.now.streams.items (length c.args.state.now.streams.items) c.args.stream c.index-part.result.now refl within c.index-part.ensures ∙ ap Some (sym c.part.view_is) in
+    let is = found-part c.args.state.now c.args.stream c.index-part.result.now c.part.inside c.requires.sound c.requires.there c.index-part.ensures c.part.view_is in
     let count : c.len-count.result ≡ length c.part.inside.anchors.items = (let e = c.len-count.ensures in let o = c.part.inside.anchors.ok in omega arith) in
     let low : 1 ≤ c.len-count.result = (let n = c.if-count-eq0.false in omega arith) in
     let got : slice_get c.part.inside.anchors.items (c.len-count.result - 1) ≡ Some c.index.result.now =

@@ -15,7 +15,6 @@ use Rattle.tau_core.proofs.done.finish_first.Goals as goal
 pub returns-in_default : goal.returns-in_default
 returns-in_default c =
     let is = found-seat c.args.state.now c.args.worker c.index_mut-seat.result.now c.seat.inside c.requires.sound c.requires.there c.index_mut-seat.ensures.value c.seat.view_is in
-    let o = c.requires.sound.seat c.args.worker (seat_in c.seat.inside) is in
     let at = c.requires.at (seat_in c.seat.inside) is in
     let m = at.3 in
     absurd (c.in_default.not-Some m.hand.call.number (c.number.ensures ∙ number-hand c.args.state.now.load.procs c.seat.inside.txn m.hand m.is))
@@ -47,17 +46,13 @@ put_from-requires c =
 pub went-requires-clause-rest : goal.went-requires-clause-rest
 went-requires-clause-rest c =
     let is = found-seat c.args.state.now c.args.worker c.index_mut-seat.result.now c.seat.inside c.requires.sound c.requires.there c.index_mut-seat.ensures.value c.seat.view_is in
-    let o = c.requires.sound.seat c.args.worker (seat_in c.seat.inside) is in
     let at = c.requires.at (seat_in c.seat.inside) is in
-    let m = at.3 in
     subst (λ (a : Action). IsForWent a) (sym at.2) tt
 
 pub went-requires-clause-run : goal.went-requires-clause-run
 went-requires-clause-run c =
     let is = found-seat c.args.state.now c.args.worker c.index_mut-seat.result.now c.seat.inside c.requires.sound c.requires.there c.index_mut-seat.ensures.value c.seat.view_is in
     let o = c.requires.sound.seat c.args.worker (seat_in c.seat.inside) is in
-    let at = c.requires.at (seat_in c.seat.inside) is in
-    let m = at.3 in
     o.runs
 
 pub returns : goal.returns

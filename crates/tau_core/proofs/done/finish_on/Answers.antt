@@ -16,7 +16,6 @@ use Rattle.tau_core.proofs.done.finish_on.Goals as goal
 pub returns-in_default : goal.returns-in_default
 returns-in_default c =
     let is = found-seat c.args.state.now c.args.worker c.index_mut-seat.result.now c.seat.inside c.requires.sound c.requires.there c.index_mut-seat.ensures.value c.seat.view_is in
-    let o = c.requires.sound.seat c.args.worker (seat_in c.seat.inside) is in
     let at = c.requires.at (seat_in c.seat.inside) is in
     let m = at.3 in
     absurd (c.in_default.not-Some m.act.call.call.number (c.number.ensures ∙ number-freed c.args.state.now.load.procs c.seat.inside.txn m.hand m.act m.is (freeing-on c.args.state.now.load.procs (has_joined c.seat.inside.txn) c.seat.inside.txn.worker m.hand m.act (c.requires.joined (seat_in c.seat.inside) is) m.act_is)))
@@ -38,17 +37,13 @@ put_from-requires c =
 pub went-requires-clause-rest : goal.went-requires-clause-rest
 went-requires-clause-rest c =
     let is = found-seat c.args.state.now c.args.worker c.index_mut-seat.result.now c.seat.inside c.requires.sound c.requires.there c.index_mut-seat.ensures.value c.seat.view_is in
-    let o = c.requires.sound.seat c.args.worker (seat_in c.seat.inside) is in
     let at = c.requires.at (seat_in c.seat.inside) is in
-    let m = at.3 in
     subst (λ (a : Action). IsForWent a) (sym at.2) tt
 
 pub went-requires-clause-run : goal.went-requires-clause-run
 went-requires-clause-run c =
     let is = found-seat c.args.state.now c.args.worker c.index_mut-seat.result.now c.seat.inside c.requires.sound c.requires.there c.index_mut-seat.ensures.value c.seat.view_is in
     let o = c.requires.sound.seat c.args.worker (seat_in c.seat.inside) is in
-    let at = c.requires.at (seat_in c.seat.inside) is in
-    let m = at.3 in
     o.runs
 
 pub returns : goal.returns

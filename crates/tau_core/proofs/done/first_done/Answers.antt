@@ -1,57 +1,25 @@
-use Rattle.std.proofs.Common.{refl, sym, ap, subst, ◌∙◌}
-use Rattle.std.specs.Prelude.{slice_get}
+use Rattle.std.proofs.Common.{refl, ap}
 use Rattle.tau_core.specs.State.{Plain, plain}
-use Rattle.tau_core.specs.Begins.{Undone}
-use Rattle.tau_core.proofs.Firsts.{room-stood, room-rests, room-next, begun-sound, begun-seat}
-use Rattle.tau_core.specs.declared.begin.Mark.{Mark}
+use Rattle.tau_core.specs.declared.event.Outcome.TheVariants as outcome
+use Rattle.tau_core.specs.Frees.{DoneBy}
+use Rattle.tau_core.proofs.Firsts.{room-sound, room-rests, room-next, first-begun, first-seat, first-undone}
 use Rattle.tau_core.proofs.done.first_done.Goals as goal
 
 pub begin_call-mark-requires-clause-sound : goal.begin_call-mark-requires-clause-sound
-begin_call-mark-requires-clause-sound c =
-    let roomy = room-stood (plain c.args.state.now) (plain c.make_room.new.state) c.args.worker c.requires.stood c.make_room.ensures.made in
-    let rests = room-rests (plain c.args.state.now) (plain c.make_room.new.state) c.args.worker c.args.number c.make_room.ensures.made c.requires.rests in
-    let next = room-next (plain c.args.state.now) (plain c.make_room.new.state) c.args.worker c.args.number c.make_room.ensures.made c.requires.next in
-    roomy.2.sound
+begin_call-mark-requires-clause-sound c = room-sound (plain c.args.state.now) (plain c.make_room.new.state) c.args.worker c.requires.stood c.make_room.ensures.made
 
 pub begin_call-mark-requires-clause-rests : goal.begin_call-mark-requires-clause-rests
-begin_call-mark-requires-clause-rests c =
-    let roomy = room-stood (plain c.args.state.now) (plain c.make_room.new.state) c.args.worker c.requires.stood c.make_room.ensures.made in
-    let rests = room-rests (plain c.args.state.now) (plain c.make_room.new.state) c.args.worker c.args.number c.make_room.ensures.made c.requires.rests in
-    let next = room-next (plain c.args.state.now) (plain c.make_room.new.state) c.args.worker c.args.number c.make_room.ensures.made c.requires.next in
-    rests
+begin_call-mark-requires-clause-rests c = room-rests (plain c.args.state.now) (plain c.make_room.new.state) c.args.worker c.args.number c.make_room.ensures.made c.requires.rests
 
 pub begin_call-mark-requires-clause-next : goal.begin_call-mark-requires-clause-next
-begin_call-mark-requires-clause-next c =
-    let roomy = room-stood (plain c.args.state.now) (plain c.make_room.new.state) c.args.worker c.requires.stood c.make_room.ensures.made in
-    let rests = room-rests (plain c.args.state.now) (plain c.make_room.new.state) c.args.worker c.args.number c.make_room.ensures.made c.requires.rests in
-    let next = room-next (plain c.args.state.now) (plain c.make_room.new.state) c.args.worker c.args.number c.make_room.ensures.made c.requires.next in
-    next
+begin_call-mark-requires-clause-next c = room-next (plain c.args.state.now) (plain c.make_room.new.state) c.args.worker c.args.number c.make_room.ensures.made c.requires.next
 
 pub done_next-requires-clause-sound : goal.done_next-requires-clause-sound
-done_next-requires-clause-sound c =
-    let roomy = room-stood (plain c.args.state.now) (plain c.make_room.new.state) c.args.worker c.requires.stood c.make_room.ensures.made in
-    let rests = room-rests (plain c.args.state.now) (plain c.make_room.new.state) c.args.worker c.args.number c.make_room.ensures.made c.requires.rests in
-    let next = room-next (plain c.args.state.now) (plain c.make_room.new.state) c.args.worker c.args.number c.make_room.ensures.made c.requires.next in
-    begun-sound (plain c.make_room.new.state) (plain c.begin_call-mark.new.state) c.args.worker c.args.number roomy c.begin_call-mark.ensures.begins c.in-Ok.ensures.roomy next rests
+done_next-requires-clause-sound c = first-begun (plain c.args.state.now) (plain c.make_room.new.state) (plain c.begin_call-mark.new.state) c.args.worker c.args.number c.requires.stood c.make_room.ensures.made c.begin_call-mark.ensures.begins c.in-Ok.ensures.roomy c.requires.next c.requires.rests
 
 pub undo-requires-clause-fresh : goal.undo-requires-clause-fresh
-undo-requires-clause-fresh c = λ s e.
-    let roomy = room-stood (plain c.args.state.now) (plain c.make_room.new.state) c.args.worker c.requires.stood c.make_room.ensures.made in
-    let rests = room-rests (plain c.args.state.now) (plain c.make_room.new.state) c.args.worker c.args.number c.make_room.ensures.made c.requires.rests in
-    let next = room-next (plain c.args.state.now) (plain c.make_room.new.state) c.args.worker c.args.number c.make_room.ensures.made c.requires.next in
-    begun-seat (plain c.make_room.new.state) (plain c.begin_call-mark.new.state) c.args.worker c.args.number roomy c.begin_call-mark.ensures.begins s (ap (λ (x : Plain). slice_get x.seats c.args.worker) (sym c.in-NotNow.ensures.0) ∙ e)
+undo-requires-clause-fresh c = first-seat (plain c.args.state.now) (plain c.make_room.new.state) (plain c.begin_call-mark.new.state) c.args.worker c.args.number c.requires.stood c.make_room.ensures.made (plain c.done_next.new.state) c.begin_call-mark.ensures.begins (ap (λ (x : Plain). x.seats) c.in-NotNow.ensures.0)
 
 pub returns-in-NotNow : goal.returns-in-NotNow
-returns-in-NotNow c = (
-  refl,
-  (
-    c.in-NotNow.phase,
-    record {
-      begun = plain c.begin_call-mark.new.state;
-      tried = plain c.done_next.new.state;
-      as_begun = record { roomy = plain c.make_room.new.state; made = c.make_room.ensures.made; enough = c.in-Ok.ensures.roomy; begins = c.begin_call-mark.ensures.begins };
-      refused = c.in-NotNow.ensures;
-      undone = subst (λ (m : Mark). Undone c.args.worker m.next m.again (plain c.done_next.new.state) (plain c.undo.new.state)) (c.begin_call-mark.ensures.mark c.begin_call-mark.ensures.begins.seat c.begin_call-mark.ensures.begins.is) c.undo.ensures;
-    },
-  ),
-)
+returns-in-NotNow c = (refl, (c.in-NotNow.phase, first-undone DoneBy (plain c.args.state.now) (plain c.make_room.new.state) (plain c.begin_call-mark.new.state) (plain c.done_next.new.state) (plain c.undo.new.state) c.args.worker c.args.number (outcome.NotNow c.in-NotNow.phase) c.begin_call-mark.result c.make_room.ensures.made c.in-Ok.ensures.roomy c.begin_call-mark.ensures.begins c.begin_call-mark.ensures.mark
+    c.in-NotNow.ensures c.undo.ensures))

@@ -1,9 +1,7 @@
-use Rattle.std.proofs.Common.{ℕ, ◌≡◌, ◌<◌, ◌-◌, List, [], ◌∷◌, refl, sym, ap, subst, ◌∙◌, Option, arith}
-use Rattle.std.specs.Prelude.{None, Some, IsSome, slice_get, slice_set, vec_capacity, vec_len}
+use Rattle.std.proofs.Common.{ℕ, ◌≡◌, ◌-◌, List, [], ◌∷◌, refl, sym, ap, subst, ◌∙◌, Option}
+use Rattle.std.specs.Prelude.{None, IsSome, slice_set, vec_capacity, vec_len}
 use Rattle.std.specs.Map.{lookup}
 use Rattle.tau_base.specs.Database.{same_key}
-use Rattle.tau_base.specs.declared.limits.TheConstants.{SHARDS}
-use Rattle.tau_base.specs.declared.value.Mode.{Mode}
 use Rattle.tau_base.specs.declared.value.Value.{Value}
 use Rattle.tau_base.specs.Shards.{shard_number}
 use Rattle.tau_model.specs.declared.committed.Committed.{Committed}
@@ -17,9 +15,9 @@ use Rattle.tau_machine.specs.Worker.{hand_freed, hand_joined}
 use Rattle.tau_shard.specs.Read.{shard_of}
 use Rattle.tau_core.specs.Plain.{PlainSeat}
 use Rattle.tau_core.specs.State.{Plain, plain}
-use Rattle.tau_core.proofs.Found.{seat_in, found-seat, found-shard}
+use Rattle.tau_core.proofs.Found.{seat_in, found-seat, found-shard-of}
 use Rattle.tau_core.proofs.Hands.{some-hand, sound-on}
-use Rattle.tau_core.proofs.Holders.{copied-some, holds, writes-held}
+use Rattle.tau_core.proofs.Holders.{copied-some, is-held, is-written}
 use Rattle.tau_core.proofs.Joins.{kept-into, joins-new, none-open, joined-none, reads-phase, rooms-new, room-new}
 use Rattle.tau_core.proofs.free.free_first.Goals as goal
 
@@ -45,37 +43,26 @@ pub free_by-requires-clause-held : goal.free_by-requires-clause-held
 free_by-requires-clause-held c =
     let g = c.requires.stood in
     let is = found-seat c.args.state.now c.args.worker c.index_mut-seat.result.now c.seat.inside g.2.sound c.requires.there c.index_mut-seat.ensures.value c.seat.view_is in
-    let o = g.2.sound.seat c.args.worker (seat_in c.seat.inside) is in
     let at = c.requires.at (seat_in c.seat.inside) is (seat_in c.seat.inside) is in
     let m = at.1 in
-    let below : c.from.result < SHARDS = (let e = c.from.ensures in let f = c.shard_of.ensures.small in omega arith) in
-    let shard = found-shard c.args.state.now c.from.result c.index_mut-part.result.now g.2.sound below c.index_mut-part.ensures.value in
-    let number : c.from.result ≡ shard_number c.args.key = c.from.ensures ∙ c.shard_of.ensures.same in
-    let shard_is = subst (λ (n : ℕ). slice_get c.args.state.now.shards.items n ≡ Some c.index_mut-part.result.now) number shard in
-    subst (λ (x : Option Mode). IsSome x) (sym (holds (plain c.args.state.now) g.0 g.1 g.2 c.args.worker (seat_in c.seat.inside) m.hand c.index_mut-part.result.now c.args.key m.mode is m.is shard_is m.held)) refl
+    let shard_is = found-shard-of c.args.state.now c.args.key c.shard_of.result c.from.result c.index_mut-part.result.now g.2.sound c.from.ensures c.shard_of.ensures.same c.shard_of.ensures.small c.index_mut-part.ensures.value in
+    is-held (plain c.args.state.now) g.0 g.1 g.2 c.args.worker (seat_in c.seat.inside) m.hand c.index_mut-part.result.now c.args.key m.mode is m.is shard_is m.held
 
 pub free_by-requires-clause-writes : goal.free_by-requires-clause-writes
 free_by-requires-clause-writes c =
     let g = c.requires.stood in
     let is = found-seat c.args.state.now c.args.worker c.index_mut-seat.result.now c.seat.inside g.2.sound c.requires.there c.index_mut-seat.ensures.value c.seat.view_is in
-    let o = g.2.sound.seat c.args.worker (seat_in c.seat.inside) is in
     let at = c.requires.at (seat_in c.seat.inside) is (seat_in c.seat.inside) is in
     let m = at.1 in
-    let below : c.from.result < SHARDS = (let e = c.from.ensures in let f = c.shard_of.ensures.small in omega arith) in
-    let shard = found-shard c.args.state.now c.from.result c.index_mut-part.result.now g.2.sound below c.index_mut-part.ensures.value in
-    let number : c.from.result ≡ shard_number c.args.key = c.from.ensures ∙ c.shard_of.ensures.same in
-    let shard_is = subst (λ (n : ℕ). slice_get c.args.state.now.shards.items n ≡ Some c.index_mut-part.result.now) number shard in
-    λ some. holds (plain c.args.state.now) g.0 g.1 g.2 c.args.worker (seat_in c.seat.inside) m.hand c.index_mut-part.result.now c.args.key m.mode is m.is shard_is m.held
-    ∙ ap Some (writes-held (plain c.args.state.now) g.0 g.1 g.2 c.args.worker (seat_in c.seat.inside) m.hand m.act c.args.key m.mode (has_joined c.seat.inside.txn) is m.is m.act_is m.held
-    (subst (λ (x : Option Value). IsSome x) (c.written_at.ensures ∙ m.write_is) (copied-some c.written_at.result some)))
+    let shard_is = found-shard-of c.args.state.now c.args.key c.shard_of.result c.from.result c.index_mut-part.result.now g.2.sound c.from.ensures c.shard_of.ensures.same c.shard_of.ensures.small c.index_mut-part.ensures.value in
+    λ some. is-written (plain c.args.state.now) g.0 g.1 g.2 c.args.worker (seat_in c.seat.inside) m.hand c.index_mut-part.result.now c.args.key m.mode is m.is shard_is m.held m.act (has_joined c.seat.inside.txn) m.act_is
+    (subst (λ (x : Option Value). IsSome x) (c.written_at.ensures ∙ m.write_is) (copied-some c.written_at.result some))
 
 pub went-requires-clause-rest : goal.went-requires-clause-rest
 went-requires-clause-rest c =
     let g = c.requires.stood in
     let is = found-seat c.args.state.now c.args.worker c.index_mut-seat.result.now c.seat.inside g.2.sound c.requires.there c.index_mut-seat.ensures.value c.seat.view_is in
-    let o = g.2.sound.seat c.args.worker (seat_in c.seat.inside) is in
     let at = c.requires.at (seat_in c.seat.inside) is (seat_in c.seat.inside) is in
-    let m = at.1 in
     subst (λ (a : Action). IsForWent a) (sym at.0) tt
 
 pub went-requires-clause-run : goal.went-requires-clause-run
@@ -83,8 +70,6 @@ went-requires-clause-run c =
     let g = c.requires.stood in
     let is = found-seat c.args.state.now c.args.worker c.index_mut-seat.result.now c.seat.inside g.2.sound c.requires.there c.index_mut-seat.ensures.value c.seat.view_is in
     let o = g.2.sound.seat c.args.worker (seat_in c.seat.inside) is in
-    let at = c.requires.at (seat_in c.seat.inside) is (seat_in c.seat.inside) is in
-    let m = at.1 in
     o.runs
 
 pub returns : goal.returns
@@ -94,10 +79,8 @@ returns c =
     let o = g.2.sound.seat c.args.worker (seat_in c.seat.inside) is in
     let at = c.requires.at (seat_in c.seat.inside) is (seat_in c.seat.inside) is in
     let m = at.1 in
-    let below : c.from.result < SHARDS = (let e = c.from.ensures in let f = c.shard_of.ensures.small in omega arith) in
-    let shard = found-shard c.args.state.now c.from.result c.index_mut-part.result.now g.2.sound below c.index_mut-part.ensures.value in
     let number : c.from.result ≡ shard_number c.args.key = c.from.ensures ∙ c.shard_of.ensures.same in
-    let shard_is = subst (λ (n : ℕ). slice_get c.args.state.now.shards.items n ≡ Some c.index_mut-part.result.now) number shard in
+    let shard_is = found-shard-of c.args.state.now c.args.key c.shard_of.result c.from.result c.index_mut-part.result.now g.2.sound c.from.ensures c.shard_of.ensures.same c.shard_of.ensures.small c.index_mut-part.ensures.value in
     let p : Plain = plain c.args.state.now in
     let new : PlainSeat = record (seat_in c.seat.inside) { txn = c.went.new.self } in
     let k : Hand = hand_freed (hand_joined m.hand (Freeing m.act) m.hand.dep) c.args.key in

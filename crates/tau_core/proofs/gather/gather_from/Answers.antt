@@ -1,34 +1,21 @@
-use Rattle.std.proofs.Common.{ℕ, ◌+◌, ◌≡◌, ◌<◌, ◌≤◌, ◌-◌, List, length, refl, sym, ap, subst, ◌∙◌, arith, length-append}
-use Rattle.std.specs.Prelude.{Some, slice_get, slice_index, slice_set, vec_capacity, vec_len}
-use Rattle.std.proofs.lemmas.Option.{slice_get_read}
+use Rattle.std.proofs.Common.{ℕ, ◌+◌, ◌≡◌, ◌≤◌, ◌-◌, List, length, sym, ap, subst, ◌∙◌, arith, length-append}
+use Rattle.std.specs.Prelude.{slice_index, slice_set, vec_capacity, vec_len}
 use Rattle.tau_outbox.specs.Pieces.{bytes_of}
 use Rattle.tau_outbox.specs.Gather.{run}
-use Rattle.tau_core.specs.declared.state.Stream.TheInside.{Inside}
-use Rattle.tau_core.specs.declared.state.Seat.TheInside as seat
-use Rattle.tau_core.specs.Plain.{PlainStream, PlainSeat}
 use Rattle.tau_core.specs.State.{Plain, plain}
+use Rattle.tau_core.proofs.Found.{found-part, found-seat, part_in, seat_in}
 use Rattle.tau_core.proofs.Spellings.{moves-of}
 use Rattle.tau_core.proofs.GathersPosted.{posted-bound}
 use Rattle.tau_core.proofs.GathersAll.{posted-fits, posted-roomy}
 use Rattle.tau_core.proofs.GathersOn.{next-posted}
 use Rattle.tau_core.proofs.gather.gather_from.Goals as goal
 
-abbrev seat_in : seat.Inside → PlainSeat
-seat_in s = record { next = s.next; again = s.again; txn = s.txn; start = s.start; left = s.left.numbers; room = s.left.room; outbox = s.outbox; pending = s.pending }
-
-abbrev part_in : Inside → PlainStream
-part_in s = record { own = s.own; anchors = s.anchors.items; stop = s.stop; body = s.body.items; room = vec_capacity s.body - vec_len s.body }
-
 pub gather_reserved-upto-requires : goal.gather_reserved-upto-requires
 gather_reserved-upto-requires c =
     let p : Plain = plain c.args.state.now in
     let g = c.requires.stood in
-    let inside : c.args.stream < length c.args.state.now.streams.items = (let e = g.2.sound.streams in let l = c.requires.there in omega arith) in
-    let is : slice_get c.args.state.now.streams.items c.args.stream ≡ Some (part_in c.part.inside) =
-    slice_get_read c.args.state.now.streams.items (length c.args.state.now.streams.items) c.args.stream c.index_mut-part.result.now refl inside c.index_mut-part.ensures.value ∙ ap Some (sym c.part.view_is) in
-    let seat_inside : c.args.worker < length c.args.state.now.seats.items = (let e = g.2.sound.seats in let l = c.requires.worker in omega arith) in
-    let seat_is : slice_get c.args.state.now.seats.items c.args.worker ≡ Some (seat_in c.seat.inside) =
-    slice_get_read c.args.state.now.seats.items (length c.args.state.now.seats.items) c.args.worker c.index_mut-seat.result.now refl seat_inside c.index_mut-seat.ensures.value ∙ ap Some (sym c.seat.view_is) in
+    let is = found-part c.args.state.now c.args.stream c.index_mut-part.result.now c.part.inside g.2.sound c.requires.there c.index_mut-part.ensures.value c.part.view_is in
+    let seat_is = found-seat c.args.state.now c.args.worker c.index_mut-seat.result.now c.seat.inside g.2.sound c.requires.worker c.index_mut-seat.ensures.value c.seat.view_is in
     let fits = posted-fits p g c.args.stream c.requires.there c.requires.going c.requires.roomy c.args.worker c.requires.whose (part_in c.part.inside) (seat_in c.seat.inside) is seat_is in
     let next = c.get-next.ensures.same in
     let used : vec_len c.part.inside.body ≡ length c.part.inside.body.items = c.part.inside.body.ok.0 in
@@ -41,12 +28,8 @@ pub set-requires-clause-small : goal.set-requires-clause-small
 set-requires-clause-small c =
     let p : Plain = plain c.args.state.now in
     let g = c.requires.stood in
-    let inside : c.args.stream < length c.args.state.now.streams.items = (let e = g.2.sound.streams in let l = c.requires.there in omega arith) in
-    let is : slice_get c.args.state.now.streams.items c.args.stream ≡ Some (part_in c.part.inside) =
-    slice_get_read c.args.state.now.streams.items (length c.args.state.now.streams.items) c.args.stream c.index_mut-part.result.now refl inside c.index_mut-part.ensures.value ∙ ap Some (sym c.part.view_is) in
-    let seat_inside : c.args.worker < length c.args.state.now.seats.items = (let e = g.2.sound.seats in let l = c.requires.worker in omega arith) in
-    let seat_is : slice_get c.args.state.now.seats.items c.args.worker ≡ Some (seat_in c.seat.inside) =
-    slice_get_read c.args.state.now.seats.items (length c.args.state.now.seats.items) c.args.worker c.index_mut-seat.result.now refl seat_inside c.index_mut-seat.ensures.value ∙ ap Some (sym c.seat.view_is) in
+    let is = found-part c.args.state.now c.args.stream c.index_mut-part.result.now c.part.inside g.2.sound c.requires.there c.index_mut-part.ensures.value c.part.view_is in
+    let seat_is = found-seat c.args.state.now c.args.worker c.index_mut-seat.result.now c.seat.inside g.2.sound c.requires.worker c.index_mut-seat.ensures.value c.seat.view_is in
     let q = c.gather_reserved-upto.ensures.gathers in
     let moves = moves-of (slice_index p.gathered c.args.stream) c.get-next.result c.seat.inside.outbox c.gather_reserved-upto.new.self c.part.inside.body.items c.gather_reserved-upto.new.body.items c.gather_reserved-upto.result c.get-next.ensures.same q c.gather_reserved-upto.ensures.room in
     let bound : slice_index p.gathered c.args.stream + length (bytes_of q.taken) ≤ slice_index p.ends c.args.stream =
@@ -61,12 +44,8 @@ pub returns-clause-moves : goal.returns-clause-moves
 returns-clause-moves c =
     let p : Plain = plain c.args.state.now in
     let g = c.requires.stood in
-    let inside : c.args.stream < length c.args.state.now.streams.items = (let e = g.2.sound.streams in let l = c.requires.there in omega arith) in
-    let is : slice_get c.args.state.now.streams.items c.args.stream ≡ Some (part_in c.part.inside) =
-    slice_get_read c.args.state.now.streams.items (length c.args.state.now.streams.items) c.args.stream c.index_mut-part.result.now refl inside c.index_mut-part.ensures.value ∙ ap Some (sym c.part.view_is) in
-    let seat_inside : c.args.worker < length c.args.state.now.seats.items = (let e = g.2.sound.seats in let l = c.requires.worker in omega arith) in
-    let seat_is : slice_get c.args.state.now.seats.items c.args.worker ≡ Some (seat_in c.seat.inside) =
-    slice_get_read c.args.state.now.seats.items (length c.args.state.now.seats.items) c.args.worker c.index_mut-seat.result.now refl seat_inside c.index_mut-seat.ensures.value ∙ ap Some (sym c.seat.view_is) in
+    let is = found-part c.args.state.now c.args.stream c.index_mut-part.result.now c.part.inside g.2.sound c.requires.there c.index_mut-part.ensures.value c.part.view_is in
+    let seat_is = found-seat c.args.state.now c.args.worker c.index_mut-seat.result.now c.seat.inside g.2.sound c.requires.worker c.index_mut-seat.ensures.value c.seat.view_is in
     let q = c.gather_reserved-upto.ensures.gathers in
     let moves = moves-of (slice_index p.gathered c.args.stream) c.get-next.result c.seat.inside.outbox c.gather_reserved-upto.new.self c.part.inside.body.items c.gather_reserved-upto.new.body.items c.gather_reserved-upto.result c.get-next.ensures.same q c.gather_reserved-upto.ensures.room in
     record {

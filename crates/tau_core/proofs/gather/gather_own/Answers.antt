@@ -1,27 +1,20 @@
-use Rattle.std.proofs.Common.{ℕ, ◌+◌, ◌≡◌, ◌<◌, ◌≤◌, ◌-◌, List, length, refl, sym, ap, subst, ◌∙◌, arith, length-append}
-use Rattle.std.specs.Prelude.{Some, slice_get, slice_index, slice_set, vec_capacity, vec_len}
-use Rattle.std.proofs.lemmas.Option.{slice_get_read}
+use Rattle.std.proofs.Common.{ℕ, ◌+◌, ◌≡◌, ◌≤◌, ◌-◌, List, length, sym, ap, subst, ◌∙◌, arith, length-append}
+use Rattle.std.specs.Prelude.{slice_index, slice_set, vec_capacity, vec_len}
 use Rattle.tau_outbox.specs.Pieces.{bytes_of}
 use Rattle.tau_outbox.specs.Gather.{run}
-use Rattle.tau_core.specs.declared.state.Stream.TheInside.{Inside}
-use Rattle.tau_core.specs.Plain.{PlainStream}
 use Rattle.tau_core.specs.State.{Plain, plain}
+use Rattle.tau_core.proofs.Found.{found-part, part_in}
 use Rattle.tau_core.proofs.Spellings.{moves-of}
 use Rattle.tau_core.proofs.GathersOwn.{own-bound}
 use Rattle.tau_core.proofs.GathersAll.{own-fits, own-roomy}
 use Rattle.tau_core.proofs.GathersOn.{next-own}
 use Rattle.tau_core.proofs.gather.gather_own.Goals as goal
 
-abbrev part_in : Inside → PlainStream
-part_in s = record { own = s.own; anchors = s.anchors.items; stop = s.stop; body = s.body.items; room = vec_capacity s.body - vec_len s.body }
-
 pub gather_reserved-upto-requires : goal.gather_reserved-upto-requires
 gather_reserved-upto-requires c =
     let p : Plain = plain c.args.state.now in
     let g = c.requires.stood in
-    let inside : c.args.stream < length c.args.state.now.streams.items = (let e = g.2.sound.streams in let l = c.requires.there in omega arith) in
-    let is : slice_get c.args.state.now.streams.items c.args.stream ≡ Some (part_in c.part.inside) =
-    slice_get_read c.args.state.now.streams.items (length c.args.state.now.streams.items) c.args.stream c.index_mut-part.result.now refl inside c.index_mut-part.ensures.value ∙ ap Some (sym c.part.view_is) in
+    let is = found-part c.args.state.now c.args.stream c.index_mut-part.result.now c.part.inside g.2.sound c.requires.there c.index_mut-part.ensures.value c.part.view_is in
     let fits = own-fits p g c.args.stream c.requires.there c.requires.going c.requires.roomy (part_in c.part.inside) is in
     let next = c.get-next.ensures.same in
     let used : vec_len c.part.inside.body ≡ length c.part.inside.body.items = c.part.inside.body.ok.0 in
@@ -34,9 +27,7 @@ pub set-requires-clause-small : goal.set-requires-clause-small
 set-requires-clause-small c =
     let p : Plain = plain c.args.state.now in
     let g = c.requires.stood in
-    let inside : c.args.stream < length c.args.state.now.streams.items = (let e = g.2.sound.streams in let l = c.requires.there in omega arith) in
-    let is : slice_get c.args.state.now.streams.items c.args.stream ≡ Some (part_in c.part.inside) =
-    slice_get_read c.args.state.now.streams.items (length c.args.state.now.streams.items) c.args.stream c.index_mut-part.result.now refl inside c.index_mut-part.ensures.value ∙ ap Some (sym c.part.view_is) in
+    let is = found-part c.args.state.now c.args.stream c.index_mut-part.result.now c.part.inside g.2.sound c.requires.there c.index_mut-part.ensures.value c.part.view_is in
     let q = c.gather_reserved-upto.ensures.gathers in
     let moves = moves-of (slice_index p.gathered c.args.stream) c.get-next.result c.part.inside.own c.gather_reserved-upto.new.self c.part.inside.body.items c.gather_reserved-upto.new.body.items c.gather_reserved-upto.result c.get-next.ensures.same q c.gather_reserved-upto.ensures.room in
     let bound : slice_index p.gathered c.args.stream + length (bytes_of q.taken) ≤ slice_index p.ends c.args.stream =
@@ -51,9 +42,7 @@ pub returns-clause-moves : goal.returns-clause-moves
 returns-clause-moves c =
     let p : Plain = plain c.args.state.now in
     let g = c.requires.stood in
-    let inside : c.args.stream < length c.args.state.now.streams.items = (let e = g.2.sound.streams in let l = c.requires.there in omega arith) in
-    let is : slice_get c.args.state.now.streams.items c.args.stream ≡ Some (part_in c.part.inside) =
-    slice_get_read c.args.state.now.streams.items (length c.args.state.now.streams.items) c.args.stream c.index_mut-part.result.now refl inside c.index_mut-part.ensures.value ∙ ap Some (sym c.part.view_is) in
+    let is = found-part c.args.state.now c.args.stream c.index_mut-part.result.now c.part.inside g.2.sound c.requires.there c.index_mut-part.ensures.value c.part.view_is in
     let q = c.gather_reserved-upto.ensures.gathers in
     let moves = moves-of (slice_index p.gathered c.args.stream) c.get-next.result c.part.inside.own c.gather_reserved-upto.new.self c.part.inside.body.items c.gather_reserved-upto.new.body.items c.gather_reserved-upto.result c.get-next.ensures.same q c.gather_reserved-upto.ensures.room in
     record {
