@@ -5,17 +5,13 @@ use Rattle.tau_base.specs.declared.value.Call.{Call}
 use Rattle.tau_base.specs.declared.value.Key.{Key}
 use Rattle.tau_base.specs.declared.value.Mode.{Mode}
 use Rattle.tau_base.specs.declared.value.Mode.TheVariants.{Read}
-use Rattle.tau_proc.specs.declared.proc.Proc.{Proc}
 use Rattle.tau_model.specs.History.{Act, updating}
 use Rattle.tau_machine.specs.Hands.{Txn, Hand}
 use Rattle.tau_machine.specs.Stage.{Stage, Wants, Ends, stage}
 use Rattle.tau_machine.specs.Worker.{Worker, begun_by, lock_of}
 use Rattle.tau_machine.specs.Events.{ready}
-use Rattle.tau_txn.specs.declared.standing.Standing.{Standing}
-use Rattle.tau_txn.specs.declared.standing.Standing.TheVariants as standing
 use Rattle.tau_txn.specs.Hand.{PlainHand}
-use Rattle.tau_txn.specs.Read.{hand_of}
-use Rattle.tau_txn.specs.Txn.{PlainTxn, shown, shown_of, hand_in, number_in, number_by}
+use Rattle.tau_txn.specs.Txn.{hand_in}
 use Rattle.tau_core.specs.declared.state.Load.{Load}
 use Rattle.tau_core.specs.declared.event.Phase.TheVariants.{Locking}
 use Rattle.tau_core.specs.Plain.{PlainSeat}

@@ -26,7 +26,8 @@ pub(crate) fn seats(
 {
     let mut all = Vec::new(alloc);
     for worker in 0..workers {
-        all.push(seat(alloc, worker, streams, mode)).map_err(|_| NoMemory)?;
+        all.push(seat(alloc, worker, streams, mode))
+            .map_err(|_| NoMemory)?;
     }
     Ok(all)
 }
@@ -91,7 +92,8 @@ fn empty_shards(alloc: Global, floor: Lv) -> Result<Vec<Shard>, NoMemory>
 {
     let mut all = Vec::new(alloc);
     for _shard in 0..SHARDS {
-        all.push(Shard::with_floor(alloc, floor)).map_err(|_| NoMemory)?;
+        all.push(Shard::with_floor(alloc, floor))
+            .map_err(|_| NoMemory)?;
     }
     Ok(all)
 }
@@ -115,7 +117,8 @@ fn put_row(part: &mut Shard, key: Key, value: Value, floor: &Lv) -> Result<(), N
     ensures { OnOk result (PutsRow floor.now key value part.old part.new) }
 {
     let mut dep = *floor;
-    part.lock(0, key, Mode::Write, &mut dep).map_err(|_| NoMemory)?;
+    part.lock(0, key, Mode::Write, &mut dep)
+        .map_err(|_| NoMemory)?;
     part.free(0, key, floor, Some(value));
     part.drop_covered(floor);
     Ok(())

@@ -23,8 +23,7 @@ use Rattle.tau_core.proofs.commit.place_above.Goals as goal
 
 pub returns-in-Err : goal.returns-in-Err
 returns-in-Err c =
-    let is = found-seat c.args.state.now c.args.worker c.index_mut-seat.result.now c.seat.inside c.requires.sound c.requires.there c.index_mut-seat.ensures.value c.seat.view_is in
-    (
+    let is = found-seat c.args.state.now c.args.worker c.index_mut-seat.result.now c.seat.inside c.requires.sound c.requires.there c.index_mut-seat.ensures.value c.seat.view_is in (
       record { seat = seat_in c.seat.inside; outbox = c.reserve.new.self; is = is; pieces = c.reserve.ensures.pieces; room = c.reserve.ensures.kept; after = refl },
       λ s e.
           let o = c.requires.sound.seat c.args.worker s e in
@@ -46,8 +45,7 @@ prepare-requires-clause-wide c =
 
 pub returns-in-Err-prepare : goal.returns-in-Err-prepare
 returns-in-Err-prepare c =
-    let is = found-seat c.args.state.now c.args.worker c.index_mut-seat.result.now c.seat.inside c.requires.sound c.requires.there c.index_mut-seat.ensures.value c.seat.view_is in
-    (
+    let is = found-seat c.args.state.now c.args.worker c.index_mut-seat.result.now c.seat.inside c.requires.sound c.requires.there c.index_mut-seat.ensures.value c.seat.view_is in (
       record {
         seat = seat_in c.seat.inside;
         outbox = c.reserve.new.self;
@@ -67,7 +65,7 @@ overflow_add-past c =
     let is = found-seat c.args.state.now c.args.worker c.index_mut-seat.result.now c.seat.inside c.requires.sound c.requires.there c.index_mut-seat.ensures.value c.seat.view_is in
     let at = c.requires.at (seat_in c.seat.inside) is in
     let made = is-made (plain c.args.state.now) c.args.worker c.args.start c.args.named.now.number c.args.named.now.lv (seat_in c.seat.inside) c.prepare.new.self at.0 at.2 c.requires.sound is c.requires.wide
-        c.in-Ok-prepare.ensures.same c.in-Ok-prepare.ensures.anchor c.in-Ok-prepare.ensures.raised c.in-Ok-prepare.ensures.runs c.in-Ok-prepare.ensures.bytes in
+    c.in-Ok-prepare.ensures.same c.in-Ok-prepare.ensures.anchor c.in-Ok-prepare.ensures.raised c.in-Ok-prepare.ensures.runs c.in-Ok-prepare.ensures.bytes in
     let low = c.requires.low in
     let size = c.record_size.ensures in
     let small : length (bytes_in c.prepare.new.self) < 2 ^ 32 = made.small in
@@ -78,7 +76,7 @@ placed-requires-clause-small c =
     let is = found-seat c.args.state.now c.args.worker c.index_mut-seat.result.now c.seat.inside c.requires.sound c.requires.there c.index_mut-seat.ensures.value c.seat.view_is in
     let at = c.requires.at (seat_in c.seat.inside) is in
     let made = is-made (plain c.args.state.now) c.args.worker c.args.start c.args.named.now.number c.args.named.now.lv (seat_in c.seat.inside) c.prepare.new.self at.0 at.2 c.requires.sound is c.requires.wide
-        c.in-Ok-prepare.ensures.same c.in-Ok-prepare.ensures.anchor c.in-Ok-prepare.ensures.raised c.in-Ok-prepare.ensures.runs c.in-Ok-prepare.ensures.bytes in
+    c.in-Ok-prepare.ensures.same c.in-Ok-prepare.ensures.anchor c.in-Ok-prepare.ensures.raised c.in-Ok-prepare.ensures.runs c.in-Ok-prepare.ensures.bytes in
     let low = c.requires.low in
     let small : length (bytes_in c.prepare.new.self) < 2 ^ 32 = made.small in
     omega arith
@@ -89,7 +87,7 @@ commit_into-requires c =
     let at = c.requires.at (seat_in c.seat.inside) is in
     let m = at.2 in
     let made = is-made (plain c.args.state.now) c.args.worker c.args.start c.args.named.now.number c.args.named.now.lv (seat_in c.seat.inside) c.prepare.new.self at.0 at.2 c.requires.sound is c.requires.wide
-        c.in-Ok-prepare.ensures.same c.in-Ok-prepare.ensures.anchor c.in-Ok-prepare.ensures.raised c.in-Ok-prepare.ensures.runs c.in-Ok-prepare.ensures.bytes in
+    c.in-Ok-prepare.ensures.same c.in-Ok-prepare.ensures.anchor c.in-Ok-prepare.ensures.raised c.in-Ok-prepare.ensures.runs c.in-Ok-prepare.ensures.bytes in
     let procs = c.args.state.now.load.procs in
     let base : List ℕ = c.args.named.now.lv in
     let act : Act Txn = act_of (plain c.args.state.now) c.args.worker c.args.start c.args.named.now.number base m.hand m.effect (bytes_in c.prepare.new.self) in
@@ -103,7 +101,7 @@ set-requires-clause-small c =
     let is = found-seat c.args.state.now c.args.worker c.index_mut-seat.result.now c.seat.inside c.requires.sound c.requires.there c.index_mut-seat.ensures.value c.seat.view_is in
     let at = c.requires.at (seat_in c.seat.inside) is in
     let made = is-made (plain c.args.state.now) c.args.worker c.args.start c.args.named.now.number c.args.named.now.lv (seat_in c.seat.inside) c.prepare.new.self at.0 at.2 c.requires.sound is c.requires.wide
-        c.in-Ok-prepare.ensures.same c.in-Ok-prepare.ensures.anchor c.in-Ok-prepare.ensures.raised c.in-Ok-prepare.ensures.runs c.in-Ok-prepare.ensures.bytes in
+    c.in-Ok-prepare.ensures.same c.in-Ok-prepare.ensures.anchor c.in-Ok-prepare.ensures.raised c.in-Ok-prepare.ensures.runs c.in-Ok-prepare.ensures.bytes in
     let low = c.requires.low in
     let size = c.record_size.ensures in
     let small : length (bytes_in c.prepare.new.self) < 2 ^ 32 = made.small in
@@ -116,7 +114,7 @@ returns-in-Ok-prepare c =
     let at = c.requires.at (seat_in c.seat.inside) is in
     let m = at.2 in
     let made = is-made (plain c.args.state.now) c.args.worker c.args.start c.args.named.now.number c.args.named.now.lv (seat_in c.seat.inside) c.prepare.new.self at.0 at.2 c.requires.sound is c.requires.wide
-        c.in-Ok-prepare.ensures.same c.in-Ok-prepare.ensures.anchor c.in-Ok-prepare.ensures.raised c.in-Ok-prepare.ensures.runs c.in-Ok-prepare.ensures.bytes in
+    c.in-Ok-prepare.ensures.same c.in-Ok-prepare.ensures.anchor c.in-Ok-prepare.ensures.raised c.in-Ok-prepare.ensures.runs c.in-Ok-prepare.ensures.bytes in
     let procs = c.args.state.now.load.procs in
     let base : List ℕ = c.args.named.now.lv in
     let act : Act Txn = act_of (plain c.args.state.now) c.args.worker c.args.start c.args.named.now.number base m.hand m.effect (bytes_in c.prepare.new.self) in

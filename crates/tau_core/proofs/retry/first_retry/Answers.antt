@@ -21,5 +21,11 @@ pub undo-requires-clause-fresh : goal.undo-requires-clause-fresh
 undo-requires-clause-fresh c = first-seat (plain c.args.state.now) (plain c.make_room.new.state) (plain c.begin_call-mark.new.state) c.args.worker c.args.number c.requires.stood c.make_room.ensures.made (plain c.retry_next.new.state) c.begin_call-mark.ensures.begins (ap (λ (x : Plain). x.seats) c.in-NotNow.ensures.0)
 
 pub returns-in-NotNow : goal.returns-in-NotNow
-returns-in-NotNow c = (refl, (c.in-NotNow.phase, first-undone RetriedBy (plain c.args.state.now) (plain c.make_room.new.state) (plain c.begin_call-mark.new.state) (plain c.retry_next.new.state) (plain c.undo.new.state) c.args.worker c.args.number (outcome.NotNow c.in-NotNow.phase) c.begin_call-mark.result c.make_room.ensures.made c.in-Ok.ensures.roomy c.begin_call-mark.ensures.begins c.begin_call-mark.ensures.mark
-    c.in-NotNow.ensures c.undo.ensures))
+returns-in-NotNow c = (
+  refl,
+  (
+    c.in-NotNow.phase,
+    first-undone RetriedBy (plain c.args.state.now) (plain c.make_room.new.state) (plain c.begin_call-mark.new.state) (plain c.retry_next.new.state) (plain c.undo.new.state) c.args.worker c.args.number (outcome.NotNow c.in-NotNow.phase) c.begin_call-mark.result c.make_room.ensures.made c.in-Ok.ensures.roomy c.begin_call-mark.ensures.begins c.begin_call-mark.ensures.mark
+        c.in-NotNow.ensures c.undo.ensures,
+  ),
+)
