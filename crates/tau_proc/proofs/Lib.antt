@@ -3,7 +3,6 @@ pub mod Blank
 pub mod Bounds
 pub mod Courses
 pub mod Kept
-pub mod Lookups
 pub mod Puts
 pub mod Refusals
 pub mod Same

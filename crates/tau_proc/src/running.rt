@@ -71,7 +71,7 @@ impl Running {
         ensures { self.new ≡ begun }
     {
         self.clear_registers();
-        self.writes.clear();
+        self.forget();
         self.reply = Value::Absent;
         self.skips = 0;
     }
