@@ -13,7 +13,6 @@ pub mod Ascending
 pub mod Reports
 pub mod Sorting
 pub mod Dependence
-pub mod Permutations
 pub mod Replays
 pub mod Theorems
 pub mod Wants
