@@ -40,12 +40,12 @@ impl Model for Shard {
 
 impl Shard {
     /// No rows and no entries, and the zero floor.
-    pub fn new(alloc: Global, n: usize) -> Shard
-        requires low { 1 ≤ n }
-        requires high { n ≤ MAX_STREAMS }
-        ensures { shard_of result ≡ empty (replicate n 0) }
+    pub fn new(alloc: Global, streams: usize) -> Shard
+        requires low { 1 ≤ streams }
+        requires high { streams ≤ MAX_STREAMS }
+        ensures { shard_of result ≡ empty (replicate streams 0) }
     {
-        Shard::with_floor(alloc, Lv::zero(n))
+        Shard::with_floor(alloc, Lv::zero(streams))
     }
 
     /// No rows and no entries, and this floor.
@@ -148,10 +148,8 @@ impl Shard {
         ensures unchanged { OnErr result (shard_of self.new ≡ shard_of self.old) }
         ensures dep_unchanged { OnErr result (dep.new ≡ dep.old) }
     {
-        match self.lock_key(worker, key, mode, dep) {
-            Ok(()) => Ok(self.value(key)),
-            Err(refusal) => Err(refusal),
-        }
+        self.lock_key(worker, key, mode, dep)?;
+        Ok(self.value(key))
     }
 
     /// Locks the key as `lock` does, and returns no value: `row` lends it.
