@@ -27,7 +27,7 @@ pub fn first_line(text: &[u8]) -> (&[u8], &[u8])
     ensures body { body (take (length text.now - length result.1.now) text.now) ≡ result.0.now }
     ensures shorter { length result.1.now < length text.now }
 {
-    let n = place_of(text, 10);
+    let n = place_of(text, b'\n');
     if n == text.len() {
         return (text, &[]);
     }
@@ -40,7 +40,7 @@ pub fn whole_line(text: &[u8]) -> (&[u8], &[u8])
     ensures cut { lines text.now ≡ result.0.now ∷ lines result.1.now }
     ensures shorter { length result.1.now < length text.now }
 {
-    let n = place_of(text, 10);
+    let n = place_of(text, b'\n');
     if n == text.len() {
         return (text, &[]);
     }
@@ -64,7 +64,7 @@ fn spaces_of(bytes: &[u8]) -> usize
     ensures begins { slice_index (drop result bytes.now) 0 ≢ 32 }
 {
     for (i, b) in bytes.iter().enumerate() {
-        if *b != 32 {
+        if *b != b' ' {
             return i;
         }
     }
@@ -79,14 +79,14 @@ fn word_len(line: &[u8]) -> usize
     ensures some { 0 < result }
     ensures cut { words line.now ≡ take result line.now ∷ words (drop result line.now) }
 {
-    if line[0] != 34 {
-        return place_of(line, 32);
+    if line[0] != b'"' {
+        return place_of(line, b' ');
     }
-    let n = place_of(&line[1..], 34) + 2;
+    let n = place_of(&line[1..], b'"') + 2;
     if n > line.len() {
         return line.len();
     }
-    n + place_of(&line[n..], 32)
+    n + place_of(&line[n..], b' ')
 }
 
 /// The first word of a line, and what is after it.

@@ -301,7 +301,7 @@ fn words_read(
     match next_word(line) {
         None => Ok(()),
         Some((word, rest)) => {
-            if begins_with(35, word) {
+            if begins_with(b'#', word) {
                 Ok(())
             } else {
                 statement_read(alloc, s, n, line, word, rest, call)

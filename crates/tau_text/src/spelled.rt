@@ -16,25 +16,25 @@ use tau_proc::{Compare, Operand, Proc};
 fn is_digit(b: u8) -> bool
     ensures { result ≡ is_digit b }
 {
-    b >= 48 && b <= 57
+    b >= b'0' && b <= b'9'
 }
 
 fn is_letter(b: u8) -> bool
     ensures { result ≡ is_letter b }
 {
-    b >= 97 && b <= 122
+    b >= b'a' && b <= b'z'
 }
 
 fn is_name_byte(b: u8) -> bool
     ensures { result ≡ is_name_byte b }
 {
-    is_letter(b) || is_digit(b) || b == 95
+    is_letter(b) || is_digit(b) || b == b'_'
 }
 
 fn is_text_byte(b: u8) -> bool
     ensures { result ≡ is_text_byte b }
 {
-    b >= 32 && b != 34 && b != 92 && b != 127
+    b >= b' ' && b != b'"' && b != b'\\' && b != 127
 }
 
 fn are_name_bytes(bytes: &[u8]) -> bool
@@ -79,7 +79,7 @@ fn digits_of(word: &[u8], top: u64) -> Option<u64>
         if !is_digit(*b) {
             return None;
         }
-        let more = u128::from(value) * 10 + u128::from(*b - 48);
+        let more = u128::from(value) * 10 + u128::from(*b - b'0');
         if more > u128::from(top) {
             return None;
         }
@@ -96,7 +96,7 @@ fn magnitude(top: u64, word: &[u8]) -> Option<u64>
 {
     match word {
         [] => None,
-        [48, ..] => None,
+        [b'0', ..] => None,
         [..] => digits_of(word, top),
     }
 }
@@ -107,11 +107,11 @@ fn number(word: &[u8]) -> Option<i64>
 {
     match word {
         [] => None,
-        [45, rest @ ..] => match magnitude(9_223_372_036_854_775_808, rest) {
+        [b'-', rest @ ..] => match magnitude(9_223_372_036_854_775_808, rest) {
             None => None,
             Some(n) => Some((0 - i128::from(n)) as i64),
         },
-        [48] => Some(0),
+        [b'0'] => Some(0),
         [..] => match magnitude(9_223_372_036_854_775_807, word) {
             None => None,
             Some(n) => Some(n as i64),
@@ -266,9 +266,9 @@ pub fn literal(word: &[u8]) -> Result<Value, LineRefusal>
     match word {
         [] => Err(LineRefusal::Cause(TextCause::BadStep)),
         [b, rest @ ..] => {
-            if is_digit(*b) || *b == 45 {
+            if is_digit(*b) || *b == b'-' {
                 Ok(Value::Int(whole(word)?))
-            } else if *b == 34 {
+            } else if *b == b'"' {
                 Ok(Value::Text(quoted(rest)?))
             } else if word == b"none".as_slice() {
                 Ok(Value::Absent)
@@ -285,7 +285,7 @@ pub fn register(word: &[u8]) -> Result<u8, LineRefusal>
     ensures fits { IfOk result (λ r. IsTrue (is_register r)) }
 {
     match word {
-        [114, rest @ ..] => match index(16, rest) {
+        [b'r', rest @ ..] => match index(16, rest) {
             Some(r) => Ok(r),
             None => Err(LineRefusal::Cause(TextCause::BadStep)),
         },
@@ -300,7 +300,7 @@ fn argument(count: u8, word: &[u8]) -> Result<u8, LineRefusal>
     ensures fits { IfOk result (λ r. (1 ≤ r) × (r ≤ count)) }
 {
     match word {
-        [36, rest @ ..] => match index(count + 1, rest) {
+        [b'$', rest @ ..] => match index(count + 1, rest) {
             Some(0) => Err(LineRefusal::Cause(TextCause::BadStep)),
             Some(k) => Ok(k),
             None => Err(LineRefusal::Cause(TextCause::BadStep)),
@@ -326,9 +326,9 @@ pub fn operand(count: u8, word: &[u8]) -> Result<Operand, LineRefusal>
     ensures given { Gives (λ o. o) result (operand count word.now) }
     ensures fits { IfOk result (λ o. IsTrue (operand_fits count o)) }
 {
-    if begins_with(114, word) {
+    if begins_with(b'r', word) {
         Ok(Operand::Register(register(word)?))
-    } else if begins_with(36, word) {
+    } else if begins_with(b'$', word) {
         Ok(Operand::Argument(argument(count, word)?))
     } else {
         Ok(constant(literal(word)?))
@@ -363,17 +363,17 @@ pub fn turn(word: &[u8]) -> Result<Turn, LineRefusal>
     match word {
         [] => Err(LineRefusal::Cause(TextCause::BadStep)),
         [b, rest @ ..] => {
-            if *b == 119 {
+            if *b == b'w' {
                 match index(16, rest) {
                     Some(i) => Ok(Turn::Worker(i)),
                     None => Err(LineRefusal::Cause(TextCause::BadStep)),
                 }
-            } else if *b == 109 {
+            } else if *b == b'm' {
                 match index(16, rest) {
                     Some(i) => Ok(Turn::Manager(i)),
                     None => Err(LineRefusal::Cause(TextCause::BadStep)),
                 }
-            } else if *b == 97 {
+            } else if *b == b'a' {
                 match index(16, rest) {
                     Some(i) => Ok(Turn::Anchor(i)),
                     None => Err(LineRefusal::Cause(TextCause::BadStep)),
