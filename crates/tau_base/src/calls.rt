@@ -163,13 +163,8 @@ impl Calls {
         ensures ok { OnOk result (self.new ≡ self.old ++ call.now ∷ []) }
         ensures err { OnErr result (self.new ≡ self.old) }
     {
-        match KeptCall::of(self.alloc, call) {
-            Ok(kept) => match self.kept.push(kept) {
-                Ok(()) => Ok(()),
-                Err(_) => Err(NoMemory),
-            },
-            Err(error) => Err(error),
-        }
+        let kept = KeptCall::of(self.alloc, call)?;
+        self.kept.push(kept).map_err(|_| NoMemory)
     }
 
     /// Puts the call at this index, from 0, into a place. It takes no memory.
@@ -192,18 +187,9 @@ impl Calls {
     pub fn copied(&self, alloc: Global) -> Result<Calls, NoMemory>
         ensures { IfOk result (λ copy. copy ≡ self.now) }
     {
-        let mut kept = match Vec::with_capacity(alloc, self.kept.len()) {
-            Ok(kept) => kept,
-            Err(_) => return Err(NoMemory),
-        };
+        let mut kept = Vec::with_capacity(alloc, self.kept.len()).map_err(|_| NoMemory)?;
         for call in &self.kept {
-            match call.copied(alloc) {
-                Ok(copy) => match kept.push(copy) {
-                    Ok(()) => {}
-                    Err(_) => return Err(NoMemory),
-                },
-                Err(error) => return Err(error),
-            }
+            kept.push(call.copied(alloc)?).map_err(|_| NoMemory)?;
         }
         Ok(Calls { alloc, kept })
     }
