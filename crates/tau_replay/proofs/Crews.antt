@@ -7,14 +7,15 @@ use Rattle.tau_scan.specs.declared.fault.ReplayRefusal.{ReplayRefusal}
 use Rattle.std.proofs.lemmas.List.{length-append}
 use Rattle.tau_scan.specs.declared.log.Log.{Log}
 use Rattle.tau_pool.specs.declared.item.Job.{Job}
-use Rattle.tau_replay.specs.Rule.{Hand, Sat, Boxed, hands_of, Names, view, rest_of, front_of, in_hand, idle_from, hands_now, first_alone, without_first, both, holding, given, MayGive, IsIdle}
-use Rattle.tau_replay.specs.Sound.{IsSound}
+use Rattle.tau_replay.specs.declared.view.TheConstants.{HANDS}
+use Rattle.tau_replay.specs.Rule.{Hand, Sat, Boxed, hands_of, Names, view, rest_of, front_of, in_hand, idle_from, all_idle, hands_now, first_alone, without_first, both, holding, given, MayGive, IsIdle}
+use Rattle.tau_replay.specs.Sound.{AreWorking}
 use Rattle.tau_replay.specs.Working.{AreFrom, IsFor, IsSpare}
 use Rattle.tau_replay.proofs.Visits.{from_length, for_idle}
 
 -- ---- a part that is given back as it was
 
-pub may_give_same : (m taken : Sat) (b : Boxed) → IsIdle m → taken ≡ (holding m.0 b, (0, None) ∷ []) → IsSound m.0.log b.value.replay → MayGive taken.0 b
+pub may_give_same : (m taken : Sat) (b : Boxed) → IsIdle m → taken ≡ (holding m.0 b, (0, None) ∷ []) → AreWorking m.0.log b.value.replay → MayGive taken.0 b
 may_give_same m taken b idle now sound = subst (λ v. MayGive v b) (sym (ap (λ (z : Sat). z.0) now)) (record {
   some = idle.2;
   old = hands_of b;
@@ -52,20 +53,21 @@ spare_for first many m s = record { none = s.none; free = s.free; some = s.some;
 pub spare_idle : (first many : ℕ) (m : Sat) → IsSpare first many m → IsIdle m
 spare_idle first many m s = for_idle first many m (spare_for first many m s)
 
-spare_length : (first many : ℕ) (m : Sat) → IsSpare first many m → length m.0.hands ≡ many
+pub spare_length : (first many : ℕ) (m : Sat) → IsSpare first many m → length m.0.hands ≡ many
 spare_length first many m s = ap length s.hands ∙ length_idle first many
 
 -- the hands of a seat that is split
-pub spare_parts : (first k : ℕ) (m mine left : Sat) → IsSpare first (16 - first) m → IsSpare first k mine → IsSpare (first + k) (16 - (first + k)) left → length left.0.hands + length mine.0.hands ≡ length m.0.hands
+pub spare_parts : (first k : ℕ) (m mine left : Sat) → IsSpare first (HANDS - first) m → IsSpare first k mine → IsSpare (first + k) (HANDS - (first + k)) left → length left.0.hands + length mine.0.hands ≡ length m.0.hands
 spare_parts first k m mine left all one other =
-    let a = spare_length first (16 - first) m all in
+    let a = spare_length first (HANDS - first) m all in
     let b = spare_length first k mine one in
-    let c = spare_length (first + k) (16 - (first + k)) left other in
+    let c = spare_length (first + k) (HANDS - (first + k)) left other in
     omega (arith, a, b, c, other.some)
 
--- the seat of all workers
-pub spare_all : (log : Log) (m : Sat) → m ≡ (view log (idle_from 0 16) None, []) → IsSpare 0 16 m
-spare_all log m now = subst (IsSpare 0 16) (sym now) (record { none = refl; free = refl; some = omega arith; hands = refl })
+-- the seat of all hands
+pub spare_all : (log : Log) (m : Sat) → m ≡ (view log all_idle None, []) → IsSpare 0 HANDS m
+unfolding all_idle
+spare_all log m now = subst (IsSpare 0 HANDS) (sym now) (record { none = refl; free = refl; some = omega arith; hands = refl })
 
 first_idle : (first many : ℕ) → 2 ≤ many → idle_from first many ≡ (first, None) ∷ idle_from (first + 1) (many - 1)
 first_idle first zero le = absurd (omega (arith, le))

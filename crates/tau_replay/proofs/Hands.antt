@@ -3,7 +3,6 @@ use Rattle.std.proofs.Common.{ℕ, zero, suc, ◌≡◌, ◌+◌, ◌<◌, ◌�
 use Rattle.std.specs.Prelude.{Option, Some, None, slice_get}
 use Rattle.std.proofs.Math.ListN.{set}
 use Rattle.std.proofs.lemmas.Bool.{cases_eq}
-use Rattle.std.proofs.lemmas.List.{length-set, length-replicate}
 use Rattle.tau_base.specs.declared.value.Key.{Key}
 use Rattle.tau_base.specs.declared.value.Value.{Value}
 use Rattle.tau_model.specs.History.{Reordered}
@@ -78,7 +77,6 @@ less_finish p job q j h =
 
 pub hands_start : (p : Pooled) (hands : List (Option Job)) (w : ℕ) (job : Job) (q : Pooled) → AreHands p hands → slice_get hands w ≡ Some None → IsStarted p job q → AreHands q (set hands w (Some job))
 hands_start p hands w job q h idle s = record {
-  sixteen = length-set hands w (Some job) ∙ h.sixteen;
   flying = λ v a at. elim (cases_eq v w) [
     | inl e ↦ subst (λ (b : Job). IsFlying q b) (job_is job a (sym here ∙ subst (λ (n : ℕ). slice_get (set hands w (Some job)) n ≡ Some (Some a)) e at)) (flying_new p job q s)
     | inr other ↦ flying_kept p job a q s (h.flying v a (sym (get_set_other hands w v (Some job) other) ∙ at))
@@ -107,7 +105,6 @@ hands_start p hands w job q h idle s = record {
 
 pub hands_finish : (p : Pooled) (hands : List (Option Job)) (w : ℕ) (job : Job) (q : Pooled) → AreHands p hands → slice_get hands w ≡ Some (Some job) → IsFinished p job q → AreHands q (set hands w None)
 hands_finish p hands w job q h busy done = record {
-  sixteen = length-set hands w None ∙ h.sixteen;
   flying = λ v a at. elim (cases_eq v w) [
     | inl e ↦ absurd (none_some a (sym here ∙ subst (λ (n : ℕ). slice_get (set hands w None) n ≡ Some (Some a)) e at))
     | inr other ↦ let was = sym (get_set_other hands w v None other) ∙ at in flying_left p job a q (h.flying w job busy) done (h.flying v a was) (h.apart v w a job other was busy)
@@ -145,13 +142,16 @@ none_held : (n : ℕ) → held_in (replicate n None) ≡ 0
 none_held zero = refl
 none_held (suc n) = none_held n
 
-pub empty_hands : (p : Pooled) (hands : List (Option Job)) → hands ≡ replicate 16 None → flying_in p.items ≡ 0 → AreHands p hands
-empty_hands p hands is idle = subst (λ (hs : List (Option Job)). AreHands p hs) (sym is) (record {
-  sixteen = length-replicate {A = Option Job} 16 None;
-  flying = λ w a at. absurd (none_at 16 w a at);
-  apart = λ v w a b other at there. absurd (none_at 16 v a at);
-  count = none_held 16 ∙ sym idle;
+pub empty_hands : (n : ℕ) (p : Pooled) (hands : List (Option Job)) → hands ≡ replicate n None → flying_in p.items ≡ 0 → AreHands p hands
+empty_hands n p hands is idle = subst (λ (hs : List (Option Job)). AreHands p hs) (sym is) (record {
+  flying = λ w a at. absurd (none_at n w a at);
+  apart = λ v w a b other at there. absurd (none_at n v a at);
+  count = none_held n ∙ sym idle;
 })
+
+-- of so many empty hands none holds anything
+pub none_of_idle : (n : ℕ) (p : Pooled) (hands : List (Option Job)) → hands ≡ replicate n None → AreHands p hands → flying_in p.items ≡ 0
+none_of_idle n p hands is h = sym h.count ∙ ap held_in is ∙ none_held n
 
 -- where nothing is left, the tables are those of the order in which the records were finished
 pub over_redone : (log : Log) (r : Replay) (rows : List (Key × Value)) → IsOver log r → IsTablesOf (database r.store) rows → IsRedone log rows

@@ -3,6 +3,7 @@ pub mod Starting
 pub mod RecoveryGoesOn
 pub mod Hands
 pub mod Following
+pub mod Settled
 pub mod Tangles
 pub mod Ones
 pub mod Histories

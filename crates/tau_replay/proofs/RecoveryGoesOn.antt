@@ -130,7 +130,7 @@ none_left log p db order g over idle = none_in (left_in (taken log) p.items) (λ
 
 -- ---- nothing is ready
 
-past_end : (xs : List ℕ) (j : ℕ) → length xs ≤ j → slice_index xs j ≡ 0
+pub past_end : (xs : List ℕ) (j : ℕ) → length xs ≤ j → slice_index xs j ≡ 0
 past_end [] j le = refl
 past_end (y ∷ xs) zero le = absurd (omega (arith, le))
 past_end (y ∷ xs) (suc j) le = past_end xs j (omega (arith, le))

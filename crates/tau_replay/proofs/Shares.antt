@@ -3,7 +3,8 @@ use Rattle.std.proofs.Common.{◌≡◌, ◌≢◌, ℕ, zero, suc, ◌+◌, ◌
 use Rattle.std.specs.Prelude.{slice_get, if◌then◌else◌}
 use Rattle.std.proofs.lemmas.Bool.Decides.{nat_tests}
 use Rattle.tau_pool.specs.declared.item.Job.{Job}
-use Rattle.tau_replay.specs.Rule.{Hand, weigh, idle_from, Names, rest_of, front_of, in_hand, hands_now, IsNoneOf, OthersStay}
+use Rattle.tau_replay.specs.declared.view.TheConstants.{HANDS}
+use Rattle.tau_replay.specs.Rule.{Hand, weigh, idle_from, all_idle, Names, rest_of, front_of, in_hand, hands_now, IsNoneOf, OthersStay}
 
 -- each worker counts for one
 abbrev pub one : ℕ → ℕ
@@ -30,13 +31,26 @@ none_above : (w k n : ℕ) → w < k → weigh (this w) (idle_from k n) ≡ 0
 none_above w k zero lt = refl
 none_above w k (suc n) lt = let r = none_above w (suc k) n (omega (arith, lt)) in let o = other_counts w k (λ e. omega (arith, e, lt)) in omega arith
 
-pub at_most_one : (w k n : ℕ) → weigh (this w) (idle_from k n) ≤ 1
+at_most_one : (w k n : ℕ) → weigh (this w) (idle_from k n) ≤ 1
 at_most_one w k zero = omega arith
 at_most_one w k (suc n) = by_test (at_most_one w (suc k) n) (k == w) refl
   where
     by_test : weigh (this w) (idle_from (suc k) n) ≤ 1 → (b : Bool) → (k == w) ≡ b → weigh (this w) (idle_from k (suc n)) ≤ 1
     by_test more true e = let same : k ≡ w = grind (arith, nat_tests) in let o = same_counts w k same in let r = none_above w (suc k) n (omega (arith, same)) in omega arith
     by_test more false e = let o : this w k ≡ 0 = grind (arith, nat_tests) in omega arith
+
+-- each hand is one of all once, and they are so many
+pub all_once : (w : ℕ) → weigh (this w) all_idle ≤ 1
+unfolding all_idle
+all_once w = at_most_one w 0 HANDS
+
+one_each : (k n : ℕ) → weigh one (idle_from k n) ≡ n
+one_each k zero = refl
+one_each k (suc n) = let r = one_each (suc k) n in omega (arith, r)
+
+pub all_many : weigh one all_idle ≡ HANDS
+unfolding all_idle
+all_many = one_each 0 HANDS
 
 -- a worker that does not count among these is none of them
 none_of : (w : ℕ) (xs : List Hand) → weigh (this w) xs ≡ 0 → IsNoneOf w xs
@@ -96,6 +110,10 @@ replicated zero w lt = absurd (omega (arith, lt))
 replicated (suc n) zero lt = refl
 replicated (suc n) (suc w) lt = replicated n w (omega (arith, lt))
 
-pub names_idle : (n k m : ℕ) → k + m ≤ n → Names (no_jobs n) (idle_from k m)
+names_idle : (n k m : ℕ) → k + m ≤ n → Names (no_jobs n) (idle_from k m)
 names_idle n k zero le = tt
 names_idle n k (suc m) le = (replicated n k (omega (arith, le)), names_idle n (suc k) m (omega (arith, le)))
+
+pub names_all : Names (no_jobs HANDS) all_idle
+unfolding all_idle
+names_all = names_idle HANDS 0 HANDS (omega arith)

@@ -1,8 +1,9 @@
--- Of a recovery that turns led to.
+-- Of workers in threads.
 use Rattle.std.proofs.Common.{◌≡◌, length}
 use Rattle.tau_scan.specs.declared.log.Log.{Log}
 use Rattle.tau_replay.specs.declared.turns.Replay.{Replay}
-use Rattle.tau_replay.specs.Sound.{IsSound}
+use Rattle.tau_replay.specs.declared.view.TheConstants.{HANDS}
+use Rattle.tau_replay.specs.Sound.{AreWorking}
 
-pub sound_sixteen : (log : Log) (r : Replay) → IsSound log r → length r.hands.items ≡ 16
-sound_sixteen log r s = s.way.hands.sixteen
+pub working_many : (log : Log) (r : Replay) → AreWorking log r → length r.hands.items ≡ HANDS
+working_many log r s = s.many

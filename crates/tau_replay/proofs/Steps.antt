@@ -12,11 +12,12 @@ use Rattle.atomic_table.specs.Table.{State, Act, step, keeps, takes, gives, open
 use Rattle.atomic_table.proofs.Lists.{set_again, set_else}
 use Rattle.tau_scan.specs.declared.log.Log.{Log}
 use Rattle.tau_replay.specs.declared.view.View.{View}
-use Rattle.tau_replay.specs.Sound.{IsSound}
-use Rattle.tau_replay.specs.Rule.{Boxed, Slot, hands_of, weigh, total, idle_from, Names, AtHome, Holder, IsOut, Fits, Kept, first_view, without_first, first_alone, both, spent, holding, given, OthersStay, MayGive, Sat, IsIdle, took, gave}
-use Rattle.tau_replay.proofs.Sounds.{sound_sixteen}
+use Rattle.tau_replay.specs.declared.view.TheConstants.{HANDS}
+use Rattle.tau_replay.specs.Sound.{AreWorking}
+use Rattle.tau_replay.specs.Rule.{Boxed, Slot, hands_of, weigh, total, all_idle, Names, AtHome, Holder, IsOut, Fits, Kept, first_view, without_first, first_alone, both, spent, holding, given, OthersStay, MayGive, Sat, IsIdle, took, gave}
+use Rattle.tau_replay.proofs.Sounds.{working_many}
 use Rattle.tau_replay.proofs.Totals.{weigh_append, total_set, total_snoc, total_two, each_set, each_snoc, each_end, inside, there}
-use Rattle.tau_replay.proofs.Shares.{one, this, weigh_one, at_most_one, names_stay, names_append, names_rest, names_front, names_now, names_idle, weigh_parts, weigh_now}
+use Rattle.tau_replay.proofs.Shares.{one, this, weigh_one, all_once, all_many, names_all, names_stay, names_append, names_rest, names_front, names_now, weigh_parts, weigh_now}
 
 abbrev St : Type 0
 St = State Slot View
@@ -30,7 +31,7 @@ AreFree vs = (j : ℕ) (v : View) → get_elem? vs j ≡ some v → v.held ≡ N
 abbrev workers : (ℕ → ℕ) → View → ℕ
 workers h v = weigh h v.hands
 
-pub starts : (log : Log) (b : Boxed) → IsSound log b.value.replay → hands_of b ≡ replicate 16 None → Kept log (opening (0 ∷ []) (Some b ∷ []) (first_view log))
+pub starts : (log : Log) (b : Boxed) → AreWorking log b.value.replay → hands_of b ≡ replicate HANDS None → Kept log (opening (0 ∷ []) (Some b ∷ []) (first_view log))
 starts log b sound idle = record {
   now = b;
   sound = sound;
@@ -47,7 +48,7 @@ starts log b sound idle = record {
     each zero v e = subst (Fits log (hands_of b)) (some-injective (first_view log) v e) (record {
       of_log = λ _. refl;
       spent = λ _. refl;
-      named = subst (λ hs. Names hs (idle_from 0 16)) (sym idle) (names_idle 16 0 16 (omega arith));
+      named = subst (λ hs. Names hs all_idle) (sym idle) names_all;
     })
     each (suc j) v e = absurd (some-ne-none v (sym e))
 
@@ -82,7 +83,7 @@ module _ (log : Log) (f : ℕ → ℕ) (up : (n : ℕ) → f n ≢ 0) (id : ℕ)
           each_once = λ h. (let t = total_set (workers h) s.views id v w at in let p = r.each_once h in omega arith);
           fits = each_set (λ j u. Fits log (hands_of r.now) u) s.views id w (λ j u n e. r.fits j u e) (record { of_log = mine.of_log; spent = λ z. absurd (omega (arith, z, some_worker)); named = mine.named });
         },
-        ((λ _. record { part = r.now; now = refl; sound = subst (λ l. IsSound l r.now.value.replay) (sym (mine.of_log some_worker)) r.sound; named = mine.named }), (λ n. absurd (n refl))),
+        ((λ _. record { part = r.now; now = refl; sound = subst (λ l. AreWorking l r.now.value.replay) (sym (mine.of_log some_worker)) r.sound; named = mine.named }), (λ n. absurd (n refl))),
       )
 
   waits : (s : St) (r : Kept log s) (k : ℕ) (out : IsOut r.now k s) → get_elem? s.views id ≡ some v → TakesAt (state (out.word ∷ []) (none ∷ []) s.views)
@@ -154,7 +155,7 @@ module _ (log : Log) (id : ℕ) (v : View) (b : Boxed) (may : MayGive v b) where
   -- no other view has a worker of this one
   alone : (s : St) (r : Kept log s) → get_elem? s.views id ≡ some v → (j : ℕ) (u : View) → j ≢ id → get_elem? s.views j ≡ some u → (w : ℕ) → 1 ≤ weigh (this w) u.hands → weigh (this w) v.hands ≡ 0
   alone s r at j u n e w some_of =
-      let most = at_most_one w 0 16 in
+      let most = all_once w in
       let all = r.each_once (this w) in
       let t = total_two (workers (this w)) s.views j id u v n e at in
       omega (arith, t, all, most, some_of)
@@ -167,9 +168,9 @@ module _ (log : Log) (id : ℕ) (v : View) (b : Boxed) (may : MayGive v b) where
       let old : hands_of r.now ≡ may.old = cc in
       let some_worker : 0 < length v.hands = may.some in
       let is_log : v.log ≡ log = mine.of_log some_worker in
-      let sound : IsSound log b.value.replay = subst (λ l. IsSound l b.value.replay) is_log may.sound in
+      let sound : AreWorking log b.value.replay = subst (λ l. AreWorking l b.value.replay) is_log may.sound in
       let others : OthersStay v.hands (hands_of r.now) (hands_of b) = subst (λ hs. OthersStay v.hands hs (hands_of b)) (sym old) may.others in
-      let long : length (hands_of r.now) ≡ length (hands_of b) = sound_sixteen log r.now.value.replay r.sound ∙ sym (sound_sixteen log b.value.replay sound) in
+      let long : length (hands_of r.now) ≡ length (hands_of b) = working_many log r.now.value.replay r.sound ∙ sym (working_many log b.value.replay sound) in
       let now : Names (hands_of b) (given v b).hands = names_now (hands_of r.now) (hands_of b) v.hands long mine.named in (
         w,
         gives,
@@ -262,18 +263,19 @@ joins_one log id v other x some_worker idle rests s r at apart there =
 
 -- the slot and what is known of the part, once the seat steps for all workers
 abbrev pub Closes : Log → List Slot → Type 0
-Closes log xs = (b : Boxed) × (get_elem? xs 0 ≡ some (Some b)) × IsSound log b.value.replay
+Closes log xs = (b : Boxed) × (get_elem? xs 0 ≡ some (Some b)) × AreWorking log b.value.replay
 
-pub closes_part : (log : Log) (id : ℕ) (v : View) (ws : List ℕ) (xs : List Slot) → length v.hands ≡ 16 → v.held ≡ None → Final (Seen (Kept log) id v) ws xs → Closes v.log xs
+pub closes_part : (log : Log) (id : ℕ) (v : View) (ws : List ℕ) (xs : List Slot) → length v.hands ≡ HANDS → v.held ≡ None → Final (Seen (Kept log) id v) ws xs → Closes v.log xs
 closes_part log id v ws xs whole idle (s, seen, words, len, slots) =
     let r = seen.0 in
     let at = seen.1 in
-    let all = r.each_once one in
+    let all : total (workers one) s.views ≡ 256 = r.each_once one ∙ all_many in
+    let many : length v.hands ≡ 256 = whole in
     let own = weigh_one v.hands in
-    let others : (j : ℕ) (u : View) → j ≢ id → get_elem? s.views j ≡ some u → length u.hands ≡ 0 = λ j u n e. (let t = total_two (workers one) s.views j id u v n e at in let q = weigh_one u.hands in omega (arith, t, q, own, all, whole)) in
+    let others : (j : ℕ) (u : View) → j ≢ id → get_elem? s.views j ≡ some u → length u.hands ≡ 0 = λ j u n e. (let t = total_two (workers one) s.views j id u v n e at in let q = weigh_one u.hands in omega (arith, t, q, own, all, many)) in
     let home : AtHome r.now s = ⊎_elim (λ (p : AtHome r.now s). p) (λ (p : (k : ℕ) × IsOut r.now k s).
     let u = there s.views p.0 p.1.within in
     let out = p.1.holder in
     dite (ℕ_discrete p.0 id) (λ same. absurd (let h = (out id v at).0 (sym same) in cc))
     (λ n. absurd (let h = (out p.0 u.0 u.1).0 refl in let g = (r.fits p.0 u.0 u.1).spent (others p.0 u.0 n u.1) in cc))) r.place in
-    (r.now, slots 0 (Some r.now) (ap (λ hs. get_elem? hs 0) home.homes), subst (λ l. IsSound l r.now.value.replay) (sym ((r.fits id v at).of_log (omega (arith, whole)))) r.sound)
+    (r.now, slots 0 (Some r.now) (ap (λ hs. get_elem? hs 0) home.homes), subst (λ l. AreWorking l r.now.value.replay) (sym ((r.fits id v at).of_log (omega (arith, many)))) r.sound)

@@ -14,24 +14,12 @@ use Rattle.tau_replay.specs.Followed.{Followed, HasFollowed}
 use Rattle.tau_replay.specs.Recovering.{IsGoing, AreHands}
 use Rattle.tau_replay.specs.Way.{IsOnWay}
 use Rattle.tau_replay.specs.Rule.{Hand, Sat, Boxed, hands_of, holding, given, hands_now, IsNoneOf, OthersStay, MayGive, IsIdle}
-use Rattle.tau_replay.specs.Sound.{IsSound}
+use Rattle.tau_replay.specs.Sound.{IsSound, AreWorking}
 use Rattle.tau_replay.specs.Working.{AreFrom, IsFor, Went, RestStays}
 
 -- one more turn
 pub sound_turn : (log : Log) (r s : Replay) (worker : ℕ) (k : IsSound log r) → IsOnWay log s → ((turns : List ℕ) → Followed log turns r → Followed log (turns ++ worker ∷ []) s) → IsSound log s
 sound_turn log r s worker k way step = record { way = way; turns = k.turns ++ worker ∷ []; followed = step k.turns k.followed }
-
--- a recovery with the same pools, hands and database
-pub sound_same : (log : Log) (r s : Replay) → s.pools ≡ r.pools → s.hands.items ≡ r.hands.items → database s.store ≡ database r.store → IsSound log r → IsSound log s
-sound_same log r s pools hands db k = record {
-  way = record {
-    order = k.way.order;
-    going = subst (λ (z : Pooled × Db). IsGoing log z.0 z.1 k.way.order) (λ i. (sym pools i, sym db i)) k.way.going;
-    hands = subst (λ (z : Pooled × List (Option Job)). AreHands z.0 z.1) (λ i. (sym pools i, sym hands i)) k.way.hands;
-  };
-  turns = k.turns;
-  followed = subst (λ (z : Pooled × (List (Option Job) × Db)). HasFollowed log k.turns z.0 z.1.0 z.1.1) (λ i. (sym pools i, (sym hands i, sym db i))) k.followed;
-}
 
 pub rest_same : (first many : ℕ) (old new : List (Option Job)) → new ≡ old → RestStays first many old new
 rest_same first many old new is v far = ap (λ hs. slice_get hs v) is
@@ -46,15 +34,15 @@ rest_set w old new x is v far = ap (λ hs. slice_get hs v) is ∙ get_set_other 
 pub rest_trans : (first many : ℕ) (a b c : List (Option Job)) → RestStays first many a b → RestStays first many b c → RestStays first many a c
 rest_trans first many a b c one two v far = two v far ∙ one v far
 
--- one hand is among many
-pub rest_wide : (first many : ℕ) (old new : List (Option Job)) → 1 ≤ many → RestStays first 1 old new → RestStays first many old new
-rest_wide first many old new some rest v far = rest v (by_side far)
+-- some hands are among many
+pub rest_wide : (first some many : ℕ) (old new : List (Option Job)) → some ≤ many → RestStays first some old new → RestStays first many old new
+rest_wide first some many old new few rest v far = rest v (by_side far)
   where
-    by_side : (v < first) ⊎ (first + many ≤ v) → (v < first) ⊎ (first + 1 ≤ v)
+    by_side : (v < first) ⊎ (first + many ≤ v) → (v < first) ⊎ (first + some ≤ v)
     by_side (inl lt) = inl lt
-    by_side (inr le) = inr (omega (arith, le, some))
+    by_side (inr le) = inr (omega (arith, le, few))
 
--- one worker more
+-- one hand more
 pub rest_more : (first i : ℕ) (a b c : List (Option Job)) → RestStays first i a b → RestStays (first + i) 1 b c → RestStays first (i + 1) a c
 rest_more first i a b c one two v far = two v (by_side far).0 ∙ one v (by_side far).1
   where
@@ -90,7 +78,7 @@ pub for_idle : (first many : ℕ) (m : Sat) → IsFor first many m → IsIdle m
 for_idle first many m f = (f.none, f.free, let l = from_length first many m.0.hands f.hands in omega (arith, l, f.some))
 
 -- the part may be given back
-pub may_give : (first many : ℕ) (m taken : Sat) (b c : Boxed) → IsFor first many m → taken ≡ (holding m.0 b, (0, None) ∷ []) → RestStays first many (hands_of b) (hands_of c) → IsSound m.0.log c.value.replay → MayGive taken.0 c
+pub may_give : (first many : ℕ) (m taken : Sat) (b c : Boxed) → IsFor first many m → taken ≡ (holding m.0 b, (0, None) ∷ []) → RestStays first many (hands_of b) (hands_of c) → AreWorking m.0.log c.value.replay → MayGive taken.0 c
 may_give first many m taken b c stands now rest sound = subst (λ v. MayGive v c) (sym (ap (λ (z : Sat). z.0) now)) (record {
   some = (for_idle first many m stands).2;
   old = hands_of b;

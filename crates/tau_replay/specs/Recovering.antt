@@ -1,5 +1,5 @@
 -- A recovery on its way.
-use Rattle.std.specs.Prelude.{ℕ, ◌≡◌, ◌≢◌, ◌≤◌, ◌+◌, ◌*◌, true, List, [], ◌∷◌, ◌++◌, length, map, Option, Some, None, slice_get, slice_index, if◌then◌else◌}
+use Rattle.std.specs.Prelude.{ℕ, ◌≡◌, ◌≢◌, ◌≤◌, ◌+◌, ◌*◌, true, List, [], ◌∷◌, ◌++◌, map, Option, Some, None, slice_get, slice_index, if◌then◌else◌}
 use Rattle.tau_base.specs.Database.{Db, empty_db}
 use Rattle.tau_model.specs.History.{Member, Reordered}
 use Rattle.tau_model.specs.Logged.{Orderly}
@@ -75,7 +75,6 @@ held_in (Some job ∷ hands) = 1 + held_in hands
 
 -- the hands hold what is in flight, each a job of its own
 pub record AreHands (p : Pooled) (hands : List (Option Job)) : Type 0 where
-  pub sixteen : length hands ≡ 16
   pub flying : (w : ℕ) (job : Job) → slice_get hands w ≡ Some (Some job) → IsFlying p job
   pub apart : (v w : ℕ) (a b : Job) → v ≢ w → slice_get hands v ≡ Some (Some a) → slice_get hands w ≡ Some (Some b) → a.place ≢ b.place
   pub count : held_in hands ≡ flying_in p.items

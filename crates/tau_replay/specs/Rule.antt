@@ -9,9 +9,10 @@ use Rattle.tau_pool.specs.declared.item.Job.{Job}
 use Rattle.tau_scan.specs.declared.log.Log.{Log}
 use Rattle.tau_replay.specs.declared.view.Part.{Part}
 use Rattle.tau_replay.specs.declared.view.View.{View}
-use Rattle.tau_replay.specs.Sound.{IsSound, no_log}
+use Rattle.tau_replay.specs.declared.view.TheConstants.{HANDS}
+use Rattle.tau_replay.specs.Sound.{AreWorking, no_log}
 
--- a worker's number, and what it has in flight
+-- the number of a hand, and what it has in flight
 abbrev pub Hand : Type 0
 Hand = ℕ × Option Job
 
@@ -21,11 +22,11 @@ Boxed = Box Part Global
 abbrev pub Slot : Type 0
 Slot = Option Boxed
 
--- what each worker has in flight
+-- what each hand has in flight
 abbrev pub hands_of : Boxed → List (Option Job)
 hands_of b = b.value.replay.hands.items
 
--- the weights of the workers, added up
+-- the weights of the hands, added up
 abbrev pub weigh : (ℕ → ℕ) → List Hand → ℕ
 weigh h [] = 0
 weigh h (x ∷ xs) = h x.0 + weigh h xs
@@ -35,12 +36,16 @@ abbrev pub total : (View → ℕ) → List View → ℕ
 total f [] = 0
 total f (v ∷ vs) = f v + total f vs
 
--- so many workers from this one on, which have nothing in flight
+-- so many hands from this one on, which have nothing in flight
 abbrev pub idle_from : ℕ → ℕ → List Hand
 idle_from w zero = []
 idle_from w (suc n) = (w, None) ∷ idle_from (suc w) n
 
--- what these workers have in flight is what is said here
+-- all hands, which have nothing in flight
+unfoldable pub all_idle : List Hand
+all_idle = idle_from 0 HANDS
+
+-- what these hands have in flight is what is said here
 abbrev pub Names : List (Option Job) → List Hand → Type 0
 Names hands [] = Unit {0}
 Names hands (x ∷ xs) = (slice_get hands x.0 ≡ Some x.1) × Names hands xs
@@ -64,26 +69,27 @@ pub record IsOut (b : Boxed) (k : ℕ) (s : State Slot View) : Type 0 where
   pub within : k < length s.views
   pub holder : (j : ℕ) (v : View) → get_elem? s.views j ≡ some v → Holder b k j v
 
--- a view with a worker names the log, and what its workers have in flight; one with none holds nothing
+-- a view with a hand names the log, and what its hands have in flight; one with none holds nothing
 pub record Fits (log : Log) (hands : List (Option Job)) (v : View) : Type 0 where
   pub of_log : 0 < length v.hands → v.log ≡ log
   pub spent : length v.hands ≡ 0 → v.held ≡ None
   pub named : Names hands v.hands
 
--- What is under the lock, or was as a seat took it, is a recovery of the log that some list of turns led to. Each of the
--- sixteen workers is in one view, which names what it has in flight.
+-- What is under the lock, or was as a seat took it, is a recovery of the log: each job in a hand is in flight, none is in
+-- two, and some list of turns led to what is finished. Each hand is in one view, which names what it has in flight. So
+-- each job that a view names is in flight, and no two views name the same one.
 pub record Kept (log : Log) (s : State Slot View) : Type 0 where
   pub now : Boxed
-  pub sound : IsSound log now.value.replay
+  pub sound : AreWorking log now.value.replay
   pub place : AtHome now s ⊎ ((k : ℕ) × IsOut now k s)
-  pub each_once : (h : ℕ → ℕ) → total (λ v. weigh h v.hands) s.views ≡ weigh h (idle_from 0 16)
+  pub each_once : (h : ℕ → ℕ) → total (λ v. weigh h v.hands) s.views ≡ weigh h all_idle
   pub fits : (j : ℕ) (v : View) → get_elem? s.views j ≡ some v → Fits log (hands_of now) v
 
 abbrev pub view : Log → List Hand → Option (List (Option Job)) → View
 view log hands held = record { log = log; hands = hands; held = held }
 
 abbrev pub first_view : Log → View
-first_view log = view log (idle_from 0 16) None
+first_view log = view log all_idle None
 
 abbrev pub rest_of : List Hand → List Hand
 rest_of [] = []
@@ -93,7 +99,7 @@ abbrev pub front_of : List Hand → List Hand
 front_of [] = []
 front_of (x ∷ xs) = x ∷ []
 
--- the first worker goes to a seat of its own
+-- the first hand goes to a seat of its own
 abbrev pub without_first : View → View
 without_first v = view v.log (rest_of v.hands) v.held
 
@@ -109,12 +115,12 @@ spent = view no_log [] None
 abbrev pub holding : View → Boxed → View
 holding v b = view v.log v.hands (Some (hands_of b))
 
--- what the worker has in flight, where it is one
+-- what the hand has in flight, where it is one
 abbrev pub in_hand : Option (Option Job) → Option Job
 in_hand None = None
 in_hand (Some o) = o
 
--- what each of these workers has in flight now
+-- what each of these hands has in flight now
 abbrev pub hands_now : List (Option Job) → List Hand → List Hand
 hands_now hands [] = []
 hands_now hands (x ∷ xs) = (x.0, in_hand (slice_get hands x.0)) ∷ hands_now hands xs
@@ -122,12 +128,12 @@ hands_now hands (x ∷ xs) = (x.0, in_hand (slice_get hands x.0)) ∷ hands_now 
 abbrev pub given : View → Boxed → View
 given v b = view v.log (hands_now (hands_of b) v.hands) None
 
--- the worker is none of these
+-- the hand is none of these
 abbrev pub IsNoneOf : ℕ → List Hand → Type 0
 IsNoneOf w [] = Unit {0}
 IsNoneOf w (x ∷ xs) = (x.0 ≢ w) × IsNoneOf w xs
 
--- of each worker but these what is in flight stays
+-- of each hand but these what is in flight stays
 abbrev pub OthersStay : List Hand → List (Option Job) → List (Option Job) → Type 0
 OthersStay xs old new = (w : ℕ) → IsNoneOf w xs → slice_get new w ≡ slice_get old w
 
@@ -137,23 +143,23 @@ pub record MayGive (v : View) (b : Boxed) : Type 0 where
   pub old : List (Option Job)
   pub held : v.held ≡ Some old
   pub others : OthersStay v.hands old (hands_of b)
-  pub sound : IsSound v.log b.value.replay
+  pub sound : AreWorking v.log b.value.replay
 
 abbrev pub Sat : Type 0
 Sat = Me Slot View
 
--- the seat has nothing, and a worker
+-- the seat has nothing, and a hand
 abbrev pub IsIdle : Sat → Type 0
 IsIdle m = (m.1 ≡ []) × (m.0.held ≡ None) × (0 < length m.0.hands)
 
 abbrev pub log_of : Snapshot Log → Log
 log_of k = k.value
 
--- the part that the seat has now is a recovery of the log, and of the seat's workers it has in flight what the view names
+-- the part that the seat has now is a recovery of the log, and of the seat's hands it has in flight what the view names
 pub record Took (m m' : Sat) : Type 0 where
   pub part : Boxed
   pub now : m' ≡ (holding m.0 part, (0, Some part) ∷ [])
-  pub sound : IsSound m.0.log part.value.replay
+  pub sound : AreWorking m.0.log part.value.replay
   pub named : Names (hands_of part) m.0.hands
 
 -- where the word was 0 the seat has the part, and else nothing changed

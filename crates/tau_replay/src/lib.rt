@@ -4,7 +4,7 @@
 mod ahead;
 mod alone;
 mod calls;
-mod claims;
+mod cursors;
 mod laws;
 mod lock;
 mod outcome;

@@ -1,9 +1,9 @@
 //! The lock and its four kinds of step: take the turn, give the turn, split a seat, join a seat.
 ghost use Rattle.std.specs.Prelude.{◌≡◌, ◌<◌, [], ◌∷◌, ℕ, length, replicate, slice_get, true, false, Some, None, IfOk};
-ghost use Rattle.tau_replay.specs.Sound.{IsSound};
+ghost use Rattle.tau_replay.specs.Sound.{AreWorking};
 ghost use Rattle.tau_replay.specs.Rule.{IsIdle, MayGive, Names, Took, Boxed, hands_of, first_view, holding, given, without_first, first_alone, both};
 
-use crate::view::{Give, OneRecovery, OneWorker, Part, Seat, Take, View};
+use crate::view::{Give, HANDS, OneHand, OneRecovery, Part, Seat, Take, View};
 use atomic_table::Table;
 use std::alloc::{AllocError, Global};
 use std::hint::spin_loop;
@@ -25,10 +25,10 @@ pub struct Lock {
 }
 
 impl Lock {
-    /// The lock with the seat that steps for all workers.
+    /// The lock with the seat that steps for all hands.
     pub fn new(alloc: Global, log: &Log, part: Part) -> Result<(Lock, Seat), AllocError>
-        requires sound { IsSound log.now part.replay }
-        requires idle { part.replay.hands.items ≡ replicate 16 None }
+        requires working { AreWorking log.now part.replay }
+        requires idle { part.replay.hands.items ≡ replicate HANDS None }
         ensures own { IfOk result (λ made. made.1.table_id ≡ made.0.table.shared.table_id) }
         ensures first { IfOk result (λ made. made.1.me ≡ (first_view log.now, [])) }
     {
@@ -162,14 +162,14 @@ impl Lock {
         requires idle { IsIdle seat.old.me }
         ensures own { (seat.new.table_id ≡ seat.old.table_id) × (seat.new.id ≡ seat.old.id) }
         ensures held { seat.new.me ≡ (holding seat.old.me.0 result, (0, None) ∷ []) }
-        ensures sound { IsSound seat.old.me.0.log result.value.replay }
+        ensures working { AreWorking seat.old.me.0.log result.value.replay }
         ensures named { Names (hands_of result) seat.old.me.0.hands }
     {
         self.take_turn(rt, seat);
         self.lift(seat)
     }
 
-    /// The part comes home. Only what the seat's workers have in flight may have changed.
+    /// The part comes home. Only what the seat's hands have in flight may have changed.
     pub fn give(&self, seat: &mut Seat, part: Box<Part>)
         requires own { seat.old.table_id ≡ self.now.table.shared.table_id }
         requires held { (seat.old.me.1 ≡ (0, None) ∷ []) × MayGive seat.old.me.0 part }
@@ -183,31 +183,31 @@ impl Lock {
         }
     }
 
-    /// The first worker of the seat goes to a seat of its own.
+    /// The first hand of the seat goes to a seat of its own.
     pub fn split(&self, seat: &mut Seat) -> Seat
         requires own { seat.old.table_id ≡ self.now.table.shared.table_id }
         requires idle { IsIdle seat.old.me }
         ensures own { (seat.new.table_id ≡ seat.old.table_id) × (result.table_id ≡ seat.old.table_id) }
         ensures views { (seat.new.me ≡ (without_first seat.old.me.0, [])) × (result.me ≡ (first_alone seat.old.me.0, [])) }
     {
-        self.table.shared.split_seat::<OneWorker>(seat)
+        self.table.shared.split_seat::<OneHand>(seat)
     }
 
-    /// The workers of another seat come to this one.
+    /// The hands of another seat come to this one.
     pub fn join(&self, seat: &mut Seat, other: Seat)
         requires own { (seat.old.table_id ≡ self.now.table.shared.table_id) × (other.table_id ≡ seat.old.table_id) }
         requires idle { IsIdle seat.old.me × IsIdle other.me }
         ensures own { seat.new.table_id ≡ seat.old.table_id }
         ensures views { seat.new.me ≡ (both seat.old.me.0 other.me.0, []) }
     {
-        self.table.shared.join_seat::<OneWorker>(seat, other)
+        self.table.shared.join_seat::<OneHand>(seat, other)
     }
 
-    /// What is under the lock, once one seat steps for all workers.
+    /// What is under the lock, once one seat steps for all hands.
     pub fn close(self, seat: Seat) -> Part
         requires own { seat.table_id ≡ self.table.shared.table_id }
-        requires whole { IsIdle seat.me × (length seat.me.0.hands ≡ 16) }
-        ensures sound { IsSound seat.me.0.log result.replay }
+        requires whole { IsIdle seat.me × (length seat.me.0.hands ≡ HANDS) }
+        ensures working { AreWorking seat.me.0.log result.replay }
     {
         let Lock { table, bell: _ } = self;
         let mut closed = table.close_with(seat);

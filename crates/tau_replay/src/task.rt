@@ -17,7 +17,7 @@ use tau_model::SerialStore;
 use tau_pool::Job;
 use tau_scan::Log;
 
-/// A record that was given to a worker, and how its call was executed outside the lock, if it was.
+/// The record that a hand of a worker has in flight, and how its call was executed outside the lock, if it was.
 #[derive(Drop)]
 pub struct Task {
     log: Snapshot<Log>,
@@ -25,7 +25,7 @@ pub struct Task {
     /// Whether the call of the record was executed.
     tried: bool,
     executed: Executed,
-    /// The rows that were read as the record was given.
+    /// The rows that were read as the record was started.
     ahead: Vec<(Key, Value)>,
 }
 
@@ -56,11 +56,6 @@ impl Task {
         }
     }
 
-    /// The record, if there is one.
-    pub fn job(&self) -> Option<Job> {
-        self.job
-    }
-
     /// The record is finished.
     pub fn rest(&mut self)
         ensures { self.new ≡ self.old }
@@ -69,7 +64,7 @@ impl Task {
         self.job = None;
     }
 
-    /// This record is given. The rows that it will want are read.
+    /// This record is started. The rows that it will want are read.
     pub fn begin(&mut self, log: &Log, store: &SerialStore, job: Job, place: &mut Call)
         ensures { self.new ≡ self.old }
     {
@@ -134,7 +129,7 @@ fn copy_rows(rows: &[(Key, Value)], copies: &mut Vec<(Key, Value)>) -> bool
 }
 
 /// So many tasks of no record.
-pub fn tasks_of(alloc: Global, log: &Log, many: u8) -> Result<Vec<Task>, NoMemory>
+pub fn tasks_of(alloc: Global, log: &Log, many: usize) -> Result<Vec<Task>, NoMemory>
     ensures { IfOk result (λ tasks. tasks.items ≡ replicate many log.now) }
 {
     let mut tasks = Vec::new(alloc);

@@ -1,20 +1,21 @@
 //! Redoing a log by workers in threads.
-ghost use Rattle.std.specs.Prelude.{◌≡◌, ◌+◌, ◌-◌, ◌<◌, ◌≤◌, ℕ, List, [], Err, None, IfOk, length, replicate};
+ghost use Rattle.std.specs.Prelude.{◌≡◌, ◌+◌, ◌-◌, ◌*◌, ◌<◌, ◌≤◌, ℕ, List, [], Err, None, IfOk, length, replicate};
 ghost use Rattle.std.specs.Thread.{IsSync};
 ghost use Rattle.tau_scan.specs.Reading.{IsLog};
 ghost use Rattle.tau_scan.specs.Taken.{Kept};
 ghost use Rattle.tau_replay.specs.Redone.{IsOrderOf, IsRedone, IsTangledAt};
 ghost use Rattle.tau_replay.specs.Followed.{IsRedoneBy};
 ghost use Rattle.tau_replay.specs.Rule.{IsIdle};
-ghost use Rattle.tau_replay.specs.Sound.{IsSound};
+ghost use Rattle.tau_replay.specs.Sound.{IsSound, AreWorking};
+ghost use Rattle.tau_pool.specs.Pooled.{flying_in};
 ghost use Rattle.tau_replay.specs.Working.{IsSpare};
 
 use crate::alone::run_alone;
-use crate::claims::Claims;
+use crate::cursors::Cursors;
 use crate::lock::Lock;
 use crate::replay::{begin, end};
 use crate::turns::Replay;
-use crate::view::{Part, Seat};
+use crate::view::{HANDS, Part, RECORDS, Seat};
 use crate::worker::work;
 use std::alloc::Global;
 use std::sync::Wait;
@@ -22,23 +23,14 @@ use std::thread::{Threads, join};
 use tau_base::NoMemory;
 use tau_disk::Gate;
 use tau_model::Tables;
+use tau_pool::Job;
 use tau_scan::{Log, ReplayRefusal};
 
-/// How many hands a worker gets, where those from this one on are left for it and for others.
-fn share(first: u8, others: u8) -> u8
-    requires { first + others < 16 }
-    ensures some { 1 ≤ result }
-    ensures left { first + result + others ≤ 16 }
-{
-    let left = 16 - first;
-    (left / (others + 1)).min(left - others).max(1)
-}
-
 /// Splits the seat of the first hand off.
-fn split_one(lock: &Lock, seat: &mut Seat, first: u8, many: u8) -> Seat
+fn split_one(lock: &Lock, seat: &mut Seat, first: usize, many: usize) -> Seat
     requires own { seat.old.table_id ≡ lock.now.table.shared.table_id }
     requires spare { IsSpare first many seat.old.me }
-    requires more { (2 ≤ many) × (first + many ≤ 16) }
+    requires more { (2 ≤ many) × (first + many ≤ HANDS) }
     ensures own { (seat.new.table_id ≡ seat.old.table_id) × (result.table_id ≡ seat.old.table_id) }
     ensures of_log { (seat.new.me.0.log ≡ seat.old.me.0.log) × (result.me.0.log ≡ seat.old.me.0.log) }
     ensures first { IsSpare first 1 result.me }
@@ -49,10 +41,10 @@ fn split_one(lock: &Lock, seat: &mut Seat, first: u8, many: u8) -> Seat
 }
 
 /// Puts the next hand to those of a seat.
-fn put_one(lock: &Lock, seat: &mut Seat, next: Seat, first: u8, many: u8)
+fn put_one(lock: &Lock, seat: &mut Seat, next: Seat, first: usize, many: usize)
     requires own { (seat.old.table_id ≡ lock.now.table.shared.table_id) × (next.table_id ≡ seat.old.table_id) }
     requires spare { IsSpare first many seat.old.me × IsSpare (first + many) 1 next.me }
-    requires few { first + many < 16 }
+    requires few { first + many < HANDS }
     ensures own { seat.new.table_id ≡ seat.old.table_id }
     ensures of_log { seat.new.me.0.log ≡ seat.old.me.0.log }
     ensures more { IsSpare first (many + 1) seat.new.me }
@@ -61,20 +53,20 @@ fn put_one(lock: &Lock, seat: &mut Seat, next: Seat, first: u8, many: u8)
     lock.join(seat, next)
 }
 
-/// Splits the seat of the first hands off.
-fn split_first(lock: &Lock, seat: &mut Seat, first: u8, many: u8) -> Seat
+/// Splits the seat of a worker's hands off.
+fn split_first(lock: &Lock, seat: &mut Seat, first: usize) -> Seat
     requires own { seat.old.table_id ≡ lock.now.table.shared.table_id }
-    requires spare { IsSpare first (16 - first) seat.old.me }
-    requires few { (1 ≤ many) × (first + many < 16) }
+    requires spare { IsSpare first (HANDS - first) seat.old.me }
+    requires few { first + RECORDS < HANDS }
     ensures own { (seat.new.table_id ≡ seat.old.table_id) × (result.table_id ≡ seat.old.table_id) }
     ensures of_log { (seat.new.me.0.log ≡ seat.old.me.0.log) × (result.me.0.log ≡ seat.old.me.0.log) }
-    ensures first { IsSpare first many result.me }
-    ensures left { IsSpare (first + many) (16 - (first + many)) seat.new.me }
+    ensures first { IsSpare first RECORDS result.me }
+    ensures left { IsSpare (first + RECORDS) (HANDS - (first + RECORDS)) seat.new.me }
     ensures workers { length seat.new.me.0.hands + length result.me.0.hands ≡ length seat.old.me.0.hands }
 {
-    let mut mine = split_one(lock, seat, first, 16 - first);
-    for k in 1..many {
-        let next = split_one(lock, seat, first + k, 16 - (first + k));
+    let mut mine = split_one(lock, seat, first, HANDS - first);
+    for k in 1..RECORDS {
+        let next = split_one(lock, seat, first + k, HANDS - (first + k));
         put_one(lock, &mut mine, next, first, k);
     }
     mine
@@ -92,7 +84,8 @@ fn join_seats(lock: &Lock, seat: &mut Seat, other: Seat)
     lock.join(seat, other)
 }
 
-/// A worker with the hands from one on that are its share, and so many others after it, side by side.
+/// A worker with its hands from one on, and so many others with those after them, side by side. The last one has the seat
+/// of all hands that are left, and uses as many as the others.
 fn crew<R: Threads + Wait + Sync, G: Gate + Sync>(
     rt: &R,
     alloc: Global,
@@ -100,31 +93,40 @@ fn crew<R: Threads + Wait + Sync, G: Gate + Sync>(
     mut seat: Seat,
     log: &Log,
     worker: u8,
-    first: u8,
+    first: usize,
     others: u8,
     gate: &G,
 ) -> Seat
     requires own { seat.table_id ≡ lock.now.table.shared.table_id }
     requires of_log { seat.me.0.log ≡ log.now }
-    requires spare { IsSpare first (16 - first) seat.me }
-    requires few { (worker + others < 16) × (first + others < 16) }
+    requires spare { IsSpare first (HANDS - first) seat.me }
+    requires few { (worker + others < 16) × (first + RECORDS * others + RECORDS ≤ HANDS) }
     ensures own { result.table_id ≡ seat.table_id }
     ensures of_log { result.me.0.log ≡ seat.me.0.log }
     ensures idle { IsIdle result.me × (length result.me.0.hands ≡ length seat.me.0.hands) }
 {
     if others == 0 {
-        return work(rt, alloc, lock, seat, log, worker, first, 16 - first, gate);
+        return work(
+            rt,
+            alloc,
+            lock,
+            seat,
+            log,
+            worker,
+            first,
+            HANDS - first,
+            gate,
+        );
     }
-    let many = share(first, others);
-    let mine = split_first(lock, &mut seat, first, many);
+    let mine = split_first(lock, &mut seat, first);
     let (mine, mut seat) = join(
         rt,
         move || -> Seat
-            requires { (mine.table_id ≡ lock.now.table.shared.table_id) × (mine.me.0.log ≡ log.now) × IsSpare first many mine.me × (first + many ≤ 16) }
+            requires { (mine.table_id ≡ lock.now.table.shared.table_id) × (mine.me.0.log ≡ log.now) × IsSpare first RECORDS mine.me × (first + RECORDS ≤ HANDS) }
             ensures { (result.table_id ≡ mine.table_id) × IsIdle result.me × (length result.me.0.hands ≡ length mine.me.0.hands) }
-        { work(rt, alloc, lock, mine, log, worker, first, many, gate) },
+        { work(rt, alloc, lock, mine, log, worker, first, RECORDS, gate) },
         move || -> Seat
-            requires { IsSync R.row × IsSync G.row × (seat.table_id ≡ lock.now.table.shared.table_id) × (seat.me.0.log ≡ log.now) × IsSpare (first + many) (16 - (first + many)) seat.me × (1 ≤ others) × (worker + others < 16) × (first + many + others ≤ 16) }
+            requires { IsSync R.row × IsSync G.row × (seat.table_id ≡ lock.now.table.shared.table_id) × (seat.me.0.log ≡ log.now) × IsSpare (first + RECORDS) (HANDS - (first + RECORDS)) seat.me × (1 ≤ others) × (worker + others < 16) × (first + RECORDS * others + RECORDS ≤ HANDS) }
             ensures { (result.table_id ≡ seat.table_id) × (result.me.0.log ≡ seat.me.0.log) × IsIdle result.me × (length result.me.0.hands ≡ length seat.me.0.hands) }
         {
             crew(
@@ -134,7 +136,7 @@ fn crew<R: Threads + Wait + Sync, G: Gate + Sync>(
                 seat,
                 log,
                 worker + 1,
-                first + many,
+                first + RECORDS,
                 others - 1,
                 gate,
             )
@@ -142,6 +144,55 @@ fn crew<R: Threads + Wait + Sync, G: Gate + Sync>(
     );
     join_seats(lock, &mut seat, mine);
     seat
+}
+
+/// So many hands with nothing in flight.
+fn idle_hands(alloc: Global, many: usize) -> Result<Vec<Option<Job>>, NoMemory>
+    ensures { IfOk result (λ hands. hands.items ≡ replicate many None) }
+{
+    match vec![in alloc; None; many] {
+        Ok(hands) => Ok(hands),
+        Err(_) => Err(NoMemory),
+    }
+}
+
+/// A recovery of which nothing is in flight, with the hands of workers in threads.
+fn spread(log: &Log, mut replay: Replay, hands: Vec<Option<Job>>) -> Replay
+    requires sound { IsSound log.now replay }
+    requires idle { replay.hands.items ≡ replicate 16 None }
+    requires hands { hands.items ≡ replicate HANDS None }
+    ensures working { AreWorking log.now result }
+    ensures idle { result.hands.items ≡ replicate HANDS None }
+{
+    let _ = log;
+    replay.hands = hands;
+    replay
+}
+
+/// The same with the hands of workers that take turns.
+fn gather(log: &Log, mut replay: Replay, hands: Vec<Option<Job>>) -> Replay
+    requires working { AreWorking log.now replay }
+    requires calm { flying_in replay.pools.items ≡ 0 }
+    requires hands { hands.items ≡ replicate 16 None }
+    ensures sound { IsSound log.now result }
+{
+    let _ = log;
+    replay.hands = hands;
+    replay
+}
+
+/// What the workers in threads left. They end with something in flight only where memory was refused.
+fn left_by(alloc: Global, log: &Log, replay: Replay) -> Result<Replay, NoMemory>
+    requires working { AreWorking log.now replay }
+    ensures sound { IfOk result (λ r. IsSound log.now r) }
+{
+    if replay.pools.in_flight() > 0 {
+        return Err(NoMemory);
+    }
+    match idle_hands(alloc, 16) {
+        Ok(hands) => Ok(gather(log, replay, hands)),
+        Err(_) => Err(NoMemory),
+    }
 }
 
 /// Runs a recovery by so many workers until their work is over. One worker needs no lock.
@@ -161,12 +212,15 @@ fn run<R: Threads + Wait + Sync, G: Gate + Sync>(
     if workers == 1 {
         return run_alone(log, replay, gate);
     }
-    let Ok(claims) = Claims::new(alloc, &replay.pools) else {
+    let Ok(cursors) = Cursors::new(alloc, &replay.pools) else {
+        return Err(NoMemory);
+    };
+    let Ok(hands) = idle_hands(alloc, HANDS) else {
         return Err(NoMemory);
     };
     let part = Part {
-        replay,
-        claims,
+        replay: spread(log, replay, hands),
+        cursors,
         sleeping: 0,
         refused: false,
     };
@@ -174,11 +228,7 @@ fn run<R: Threads + Wait + Sync, G: Gate + Sync>(
         return Err(NoMemory);
     };
     let seat = crew(rt, alloc, &lock, seat, log, 0, 0, workers - 1, gate);
-    let part = lock.close(seat);
-    if part.refused {
-        return Err(NoMemory);
-    }
-    Ok(part.replay)
+    left_by(alloc, log, lock.close(seat).replay)
 }
 
 /// Redoes the taken records of a log by 1 to 16 workers side by side, with what `replay_turns` gives of some list of turns.

@@ -2,8 +2,9 @@
 ghost use Rattle.std.specs.Prelude.{◌≡◌, ◌<◌, ◌≤◌, ◌⊎◌, ◌++◌, ◌∷◌, [], ℕ, List, length, slice_get, slice_set, Some, None, IfSome, IsNone, OnOk, OnErr};
 ghost use Rattle.tau_model.specs.Store.{database};
 ghost use Rattle.tau_pool.specs.declared.item.Job.{Job};
-ghost use Rattle.tau_pool.specs.Pooled.{IsNotYet, IsDone, flying_in};
+ghost use Rattle.tau_pool.specs.Pooled.{IsNotYet, IsDone, IsStarted, IsFinished};
 ghost use Rattle.tau_replay.specs.Followed.{Followed};
+ghost use Rattle.tau_replay.specs.Sound.{AreWorking};
 ghost use Rattle.tau_replay.specs.Way.{IsOnWay, left_of};
 
 use crate::outcome::{Outcome, apply};
@@ -12,14 +13,14 @@ use tau_model::SerialStore;
 use tau_pool::{Job, Next, Pools};
 use tau_scan::Log;
 
-/// Sixteen workers on their way through a log.
+/// Sixteen workers on their way through a log. In threads each has sixteen hands in the place of one.
 #[derive(Drop)]
 pub struct Replay {
     /// What is started and finished.
     pub pools: Pools,
     /// What the finished records did.
     pub store: SerialStore,
-    /// What each worker has in flight.
+    /// What each worker, or each hand, has in flight.
     pub hands: Vec<Option<Job>>,
 }
 
@@ -47,24 +48,48 @@ pub fn start(log: &Log, replay: &mut Replay, worker: usize) -> Next
     }
 }
 
-/// Gives an idle worker the record at a place, if it is ready.
-pub fn start_at(log: &Log, replay: &mut Replay, worker: usize, place: usize) -> Option<Job>
-    requires going { IsOnWay log.now replay.old }
-    requires idle { slice_get replay.old.hands.items worker ≡ Some None }
-    ensures going { IfSome result (λ job. IsOnWay log.now replay.new) }
-    ensures hand { IfSome result (λ job. replay.new.hands.items ≡ slice_set replay.old.hands.items worker (Some job)) }
-    ensures followed { IfSome result (λ job. (turns : List ℕ) → Followed log.now turns replay.old → Followed log.now (turns ++ worker ∷ []) replay.new) }
-    ensures none { IsNone result → (replay.new.pools ≡ replay.old.pools) × (replay.new.hands.items ≡ replay.old.hands.items) × (database replay.new.store ≡ database replay.old.store) }
+/// Gives an idle hand of a worker in a thread the record at a place, if it is ready.
+pub fn start_at(log: &Log, replay: &mut Replay, hand: usize, place: usize) -> Option<Job>
+    requires working { AreWorking log.now replay.old }
+    requires idle { slice_get replay.old.hands.items hand ≡ Some None }
+    ensures working { AreWorking log.now replay.new }
+    ensures started { IfSome result (λ job. IsStarted replay.old.pools job replay.new.pools) }
+    ensures hand { IfSome result (λ job. replay.new.hands.items ≡ slice_set replay.old.hands.items hand (Some job)) }
+    ensures none { IsNone result → replay.new.hands.items ≡ replay.old.hands.items }
 {
     let _ = log;
     match replay.pools.take_at(place) {
         Some(job) => {
             let taken = Some(job);
-            replay.hands[worker] = taken;
+            replay.hands[hand] = taken;
             taken
         }
         None => None,
     }
+}
+
+/// Finishes what a hand of a worker in a thread has in flight. If memory is refused nothing changes.
+pub fn finish_at(
+    log: &Log,
+    replay: &mut Replay,
+    hand: usize,
+    outcome: &Outcome,
+) -> Result<(), NoMemory>
+    requires of_log { outcome.now.log.value ≡ log.now }
+    requires working { AreWorking log.now replay.old }
+    requires busy { slice_get replay.old.hands.items hand ≡ Some (Some outcome.now.job) }
+    ensures working { AreWorking log.now replay.new }
+    ensures finished { OnOk result (IsFinished replay.old.pools outcome.now.job replay.new.pools) }
+    ensures hand { OnOk result (replay.new.hands.items ≡ slice_set replay.old.hands.items hand None) }
+    ensures err { OnErr result (replay.new.hands.items ≡ replay.old.hands.items) }
+{
+    match apply(log, &mut replay.store, outcome) {
+        Ok(()) => {}
+        Err(_) => return Err(NoMemory),
+    }
+    replay.pools.finish(outcome.job);
+    replay.hands[hand] = None;
+    Ok(())
 }
 
 /// Finishes what a worker has in flight. If memory is refused nothing changes.

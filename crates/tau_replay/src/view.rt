@@ -1,5 +1,5 @@
 //! What is under the lock, what a seat knows, the rule, and what each step tells.
-use crate::claims::Claims;
+use crate::cursors::Cursors;
 use crate::turns::Replay;
 use atomic_table::{Join, Play, Split, TableRule};
 use std::collections::LinkedList;
@@ -7,13 +7,20 @@ use std::snapshot::Snapshot;
 use tau_pool::Job;
 use tau_scan::Log;
 
+/// How many hands a worker has, and so how many records it gets at a time, at most: so many that what it costs to take the
+/// lock, and to fetch what is under it from another processor, is little for each of them.
+pub const RECORDS: usize = 16;
+
+/// The hands of all sixteen workers.
+pub const HANDS: usize = 256;
+
 /// What is under the lock.
 #[derive(Drop)]
 pub struct Part {
     /// The recovery.
     pub replay: Replay,
-    /// The records that workers execute.
-    pub claims: Claims,
+    /// How far the records of each stream are started.
+    pub cursors: Cursors,
     /// How many workers sleep until a record may be ready, at least.
     pub sleeping: u64,
     /// Whether memory was refused: then no record is started any more.
@@ -24,15 +31,15 @@ pub struct Part {
 pub struct View {
     /// The log that is redone.
     pub log: Log,
-    /// The workers that it steps for, each with what it has in flight.
+    /// The hands that it steps for, each with what it has in flight.
     pub hands: LinkedList<(u8, Option<Job>)>,
-    /// What all workers had in flight as the seat took the part.
+    /// What all hands had in flight as the seat took the part.
     pub held: Option<LinkedList<Option<Job>>>,
 }
 
 pub type Seat = atomic_table::Seat<Option<Box<Part>>, View>;
 
-/// One recovery is under the lock, and each worker is in one view.
+/// One recovery is under the lock, and each hand is in one view.
 pub struct OneRecovery;
 
 impl TableRule<Option<Box<Part>>, View, Snapshot<Log>> for OneRecovery {
@@ -59,9 +66,9 @@ impl Play<Option<Box<Part>>, View> for Give {
     ghost then = { gave };
 }
 
-pub(crate) struct OneWorker;
+pub(crate) struct OneHand;
 
-impl Split<View> for OneWorker {
+impl Split<View> for OneHand {
     ghost use Rattle.tau_replay.specs.Rule.{without_first, first_alone};
 
     ghost left = { without_first };
@@ -69,7 +76,7 @@ impl Split<View> for OneWorker {
     ghost right = { first_alone };
 }
 
-impl Join<View> for OneWorker {
+impl Join<View> for OneHand {
     ghost use Rattle.tau_replay.specs.Rule.{both, spent};
 
     ghost both = { both };

@@ -1,24 +1,23 @@
 //! What a worker does under the lock.
-ghost use Rattle.std.specs.Prelude.{◌≡◌, ◌+◌, ◌≤◌, ◌<◌, true, Some, None, IfSome, IsNone, slice_get, replicate};
-ghost use Rattle.tau_replay.specs.Sound.{IsSound};
+ghost use Rattle.std.specs.Prelude.{◌≡◌, ◌+◌, ◌≤◌, ◌<◌, true, Some, None, slice_get, replicate};
+ghost use Rattle.tau_replay.specs.Sound.{AreWorking};
 ghost use Rattle.tau_replay.specs.Working.{IsFor, RestStays, Went};
 
-use crate::claims::Claims;
 use crate::lock::Lock;
 use crate::outcome::Outcome;
 use crate::task::Task;
-use crate::turns::{finish, start_at};
-use crate::view::{Part, Seat};
+use crate::turns::{finish_at, start_at};
+use crate::view::{HANDS, Part, RECORDS, Seat};
 use std::sync::Wait;
 use std::sync::atomic::{AtomicU64, Ordering};
 use tau_base::Call;
-use tau_pool::Job;
+use tau_pool::{Job, Pools};
 use tau_scan::Log;
 
 /// What a worker does next.
 #[derive(Clone, Copy, Debug)]
 pub enum Order {
-    /// It executes the records that it got. It wakes one that sleeps, where somebody does.
+    /// It executes the records that its hands have started. It wakes one that sleeps, where somebody does.
     Redo {
         /// How many they are.
         started: usize,
@@ -43,9 +42,9 @@ fn rings(sleeping: &mut u64) -> bool {
     true
 }
 
-/// Nothing is ready: a worker sleeps while others have records.
-fn rest(claims: &Claims, sleeping: &mut u64, seen: u64) -> Order {
-    if claims.are_closed() {
+/// Nothing is ready: a worker sleeps while something is in flight.
+fn rest(pools: &Pools, sleeping: &mut u64, seen: u64) -> Order {
+    if pools.in_flight() == 0 {
         return Order::Stop;
     }
     *sleeping = sleeping.saturating_add(1);
@@ -54,15 +53,15 @@ fn rest(claims: &Claims, sleeping: &mut u64, seen: u64) -> Order {
 
 /// A hand finishes the record that it has in flight. If memory is refused, nobody starts a record. Whether there was
 /// memory.
-fn finish_job(log: &Log, part: &mut Part, worker: usize, outcome: &Outcome) -> bool
+fn finish_job(log: &Log, part: &mut Part, hand: usize, outcome: &Outcome) -> bool
     requires of_log { outcome.now.log.value ≡ log.now }
-    requires sound { IsSound log.now part.old.replay }
-    requires busy { slice_get part.old.replay.hands.items worker ≡ Some (Some outcome.now.job) }
-    ensures sound { IsSound log.now part.new.replay }
-    ensures rest { RestStays worker 1 part.old.replay.hands.items part.new.replay.hands.items }
-    ensures idle { result ≡ true → slice_get part.new.replay.hands.items worker ≡ Some None }
+    requires working { AreWorking log.now part.old.replay }
+    requires busy { slice_get part.old.replay.hands.items hand ≡ Some (Some outcome.now.job) }
+    ensures working { AreWorking log.now part.new.replay }
+    ensures rest { RestStays hand 1 part.old.replay.hands.items part.new.replay.hands.items }
+    ensures idle { result ≡ true → slice_get part.new.replay.hands.items hand ≡ Some None }
 {
-    match finish(log, &mut part.replay, worker, outcome) {
+    match finish_at(log, &mut part.replay, hand, outcome) {
         Ok(()) => true,
         Err(_) => {
             part.refused = true;
@@ -71,91 +70,105 @@ fn finish_job(log: &Log, part: &mut Part, worker: usize, outcome: &Outcome) -> b
     }
 }
 
-/// An idle hand starts the record at a place, if it is ready.
-fn start_one(log: &Log, part: &mut Part, worker: usize, place: usize) -> Option<Job>
-    requires sound { IsSound log.now part.old.replay }
-    requires idle { slice_get part.old.replay.hands.items worker ≡ Some None }
-    ensures sound { IsSound log.now part.new.replay }
-    ensures rest { RestStays worker 1 part.old.replay.hands.items part.new.replay.hands.items }
-    ensures busy { IfSome result (λ job. slice_get part.new.replay.hands.items worker ≡ Some (Some job)) }
-    ensures idle { IsNone result → slice_get part.new.replay.hands.items worker ≡ Some None }
-{
-    match start_at(log, &mut part.replay, worker, place) {
-        Some(job) => Some(job),
-        None => None,
-    }
-}
-
-/// An idle hand starts the record of a task, if it is ready, and finishes it. Whether there was memory.
-fn redo_at(log: &Log, part: &mut Part, worker: usize, task: &Task, place: usize) -> bool
+/// A hand finishes what it has in flight. Whether it has nothing then.
+fn finish_hand(log: &Log, part: &mut Part, hand: usize, task: &Task) -> bool
     requires of_log { task.now ≡ log.now }
-    requires sound { IsSound log.now part.old.replay }
-    requires idle { slice_get part.old.replay.hands.items worker ≡ Some None }
-    ensures sound { IsSound log.now part.new.replay }
-    ensures rest { RestStays worker 1 part.old.replay.hands.items part.new.replay.hands.items }
-    ensures idle { result ≡ true → slice_get part.new.replay.hands.items worker ≡ Some None }
+    requires hand { hand < HANDS }
+    requires working { AreWorking log.now part.old.replay }
+    ensures working { AreWorking log.now part.new.replay }
+    ensures rest { RestStays hand 1 part.old.replay.hands.items part.new.replay.hands.items }
+    ensures idle { result ≡ true → slice_get part.new.replay.hands.items hand ≡ Some None }
 {
-    match start_one(log, part, worker, place) {
-        Some(job) => finish_job(log, part, worker, &task.outcome(log, job)),
+    match part.replay.hands[hand] {
+        Some(job) => finish_job(log, part, hand, &task.outcome(log, job)),
         None => true,
     }
 }
 
-/// The same of a hand that is idle unless memory was refused.
-fn redo_idle(log: &Log, part: &mut Part, worker: usize, task: &Task, place: usize) -> bool
-    requires of_log { task.now ≡ log.now }
-    requires worker { worker < 16 }
-    requires sound { IsSound log.now part.old.replay }
-    ensures sound { IsSound log.now part.new.replay }
-    ensures rest { RestStays worker 1 part.old.replay.hands.items part.new.replay.hands.items }
-    ensures idle { result ≡ true → slice_get part.new.replay.hands.items worker ≡ Some None }
+/// The same, and its task has no record then.
+fn finish_one(log: &Log, part: &mut Part, hand: usize, task: &mut Task)
+    requires of_log { task.old ≡ log.now }
+    requires hand { hand < HANDS }
+    requires working { AreWorking log.now part.old.replay }
+    ensures working { AreWorking log.now part.new.replay }
+    ensures rest { RestStays hand 1 part.old.replay.hands.items part.new.replay.hands.items }
+    ensures task { task.new ≡ task.old }
 {
-    match part.replay.hands[worker] {
-        Some(_) => false,
-        None => redo_at(log, part, worker, task, place),
+    if finish_hand(log, part, hand, task) {
+        task.rest();
     }
 }
 
-/// A hand starts and finishes the record of a task, if it has one. Whether there was memory.
-fn redo_one(log: &Log, part: &mut Part, worker: usize, task: &mut Task) -> bool
-    requires of_log { task.old ≡ log.now }
-    requires worker { worker < 16 }
-    requires sound { IsSound log.now part.old.replay }
-    ensures sound { IsSound log.now part.new.replay }
-    ensures rest { RestStays worker 1 part.old.replay.hands.items part.new.replay.hands.items }
-    ensures task { task.new ≡ task.old }
-{
-    let Some(job) = task.job() else {
-        return true;
-    };
-    let done = redo_idle(log, part, worker, task, job.place);
-    task.rest();
-    part.claims.close();
-    done
-}
-
-/// The same of all tasks, until memory is refused.
-fn redo_all(log: &Log, part: &mut Part, worker: usize, tasks: &mut Vec<Task>, records: u8)
-    requires tasks { tasks.old.items ≡ replicate records log.now }
-    requires worker { worker < 16 }
-    requires sound { IsSound log.now part.old.replay }
-    ensures sound { IsSound log.now part.new.replay }
-    ensures rest { RestStays worker 1 part.old.replay.hands.items part.new.replay.hands.items }
+/// The hands of a worker finish what they have in flight.
+fn finish_all(log: &Log, part: &mut Part, first: usize, tasks: &mut Vec<Task>)
+    requires tasks { tasks.old.items ≡ replicate RECORDS log.now }
+    requires few { first + RECORDS ≤ HANDS }
+    requires working { AreWorking log.now part.old.replay }
+    ensures working { AreWorking log.now part.new.replay }
+    ensures rest { RestStays first RECORDS part.old.replay.hands.items part.new.replay.hands.items }
     ensures tasks { tasks.new.items ≡ tasks.old.items }
 {
-    for i in 0..records as usize {
-        if !redo_one(log, part, worker, &mut tasks[i]) {
-            return;
-        }
+    for i in 0..RECORDS {
+        finish_one(log, part, first + i, &mut tasks[i]);
     }
 }
 
-/// A task gets a record that is ready. Whether there was one.
-fn claim_one(log: &Log, part: &mut Part, task: &mut Task, call: &mut Call) -> bool
-    ensures same { part.new.replay ≡ part.old.replay }
+/// An idle hand starts a record that is ready, of whatever stream.
+fn start_other(log: &Log, part: &mut Part, hand: usize) -> Option<Job>
+    requires working { AreWorking log.now part.old.replay }
+    requires idle { slice_get part.old.replay.hands.items hand ≡ Some None }
+    ensures working { AreWorking log.now part.new.replay }
+    ensures rest { RestStays hand 1 part.old.replay.hands.items part.new.replay.hands.items }
+{
+    let place = part.cursors.seek(&part.replay.pools);
+    match start_at(log, &mut part.replay, hand, place) {
+        Some(job) => {
+            part.cursors.pass();
+            Some(job)
+        }
+        None => None,
+    }
+}
+
+/// An idle hand starts a record that is ready: of the stream that gave the last one, if it has one.
+fn start_next(log: &Log, part: &mut Part, hand: usize) -> Option<Job>
+    requires working { AreWorking log.now part.old.replay }
+    requires idle { slice_get part.old.replay.hands.items hand ≡ Some None }
+    ensures working { AreWorking log.now part.new.replay }
+    ensures rest { RestStays hand 1 part.old.replay.hands.items part.new.replay.hands.items }
+{
+    let place = part.cursors.place();
+    match start_at(log, &mut part.replay, hand, place) {
+        Some(job) => {
+            part.cursors.pass();
+            Some(job)
+        }
+        None => start_other(log, part, hand),
+    }
+}
+
+/// The same of a hand that is idle unless memory was refused.
+fn start_idle(log: &Log, part: &mut Part, hand: usize) -> Option<Job>
+    requires hand { hand < HANDS }
+    requires working { AreWorking log.now part.old.replay }
+    ensures working { AreWorking log.now part.new.replay }
+    ensures rest { RestStays hand 1 part.old.replay.hands.items part.new.replay.hands.items }
+{
+    match part.replay.hands[hand] {
+        Some(_) => None,
+        None => start_next(log, part, hand),
+    }
+}
+
+/// A hand starts a record that is ready, and its task gets it. Whether there was one.
+fn start_one(log: &Log, part: &mut Part, hand: usize, task: &mut Task, call: &mut Call) -> bool
+    requires hand { hand < HANDS }
+    requires working { AreWorking log.now part.old.replay }
+    ensures working { AreWorking log.now part.new.replay }
+    ensures rest { RestStays hand 1 part.old.replay.hands.items part.new.replay.hands.items }
     ensures task { task.new ≡ task.old }
 {
-    match part.claims.next(&part.replay.pools) {
+    match start_idle(log, part, hand) {
         Some(job) => {
             task.begin(log, &part.replay.store, job, call);
             true
@@ -164,29 +177,46 @@ fn claim_one(log: &Log, part: &mut Part, task: &mut Task, call: &mut Call) -> bo
     }
 }
 
-/// The first tasks get a record each, up to so many. How many did.
-fn claim_all(
+/// The first hands of a worker start a record each, up to so many. How many did.
+fn start_all(
     log: &Log,
     part: &mut Part,
+    first: usize,
     tasks: &mut Vec<Task>,
-    records: u8,
-    room: u8,
+    room: usize,
     call: &mut Call,
 ) -> usize
-    requires tasks { tasks.old.items ≡ replicate records log.now }
-    requires room { room ≤ records }
-    ensures same { part.new.replay ≡ part.old.replay }
+    requires tasks { tasks.old.items ≡ replicate RECORDS log.now }
+    requires few { first + RECORDS ≤ HANDS }
+    requires room { room ≤ RECORDS }
+    requires working { AreWorking log.now part.old.replay }
+    ensures working { AreWorking log.now part.new.replay }
+    ensures rest { RestStays first RECORDS part.old.replay.hands.items part.new.replay.hands.items }
     ensures tasks { tasks.new.items ≡ tasks.old.items }
 {
-    for i in 0..room as usize {
-        if !claim_one(log, part, &mut tasks[i], call) {
+    for i in 0..room {
+        if !start_one(log, part, first + i, &mut tasks[i], call) {
             return i;
         }
     }
-    room as usize
+    room
 }
 
-/// What a worker does next that has got so many records.
+/// How many records a worker may start: none if memory was refused, one while somebody sleeps, so that others have some
+/// too.
+fn room_now(part: &Part, room: usize) -> usize
+    ensures { result ≤ room }
+{
+    if part.refused {
+        0
+    } else if part.sleeping > 0 {
+        room.min(1)
+    } else {
+        room
+    }
+}
+
+/// What a worker does next that has started so many records.
 fn order_of(part: &mut Part, started: usize, seen: u64) -> Order
     ensures { part.new.replay ≡ part.old.replay }
 {
@@ -199,34 +229,30 @@ fn order_of(part: &mut Part, started: usize, seen: u64) -> Order
             rings: rings(&mut part.sleeping),
         };
     }
-    rest(&part.claims, &mut part.sleeping, seen)
+    rest(&part.replay.pools, &mut part.sleeping, seen)
 }
 
-/// A worker finishes what it has executed, and gets what is ready: one record while somebody sleeps, so that others have
-/// some too.
+/// A worker finishes what its hands have in flight, and starts what is ready.
 fn go_on(
     log: &Log,
     part: &mut Part,
-    first: u8,
-    many: u8,
+    first: usize,
     tasks: &mut Vec<Task>,
-    records: u8,
-    room: u8,
+    room: usize,
     call: &mut Call,
     seen: u64,
 ) -> Order
-    requires tasks { tasks.old.items ≡ replicate records log.now }
-    requires few { (1 ≤ many) × (first + many ≤ 16) }
-    requires room { room ≤ records }
-    requires sound { IsSound log.now part.old.replay }
-    ensures sound { IsSound log.now part.new.replay }
-    ensures rest { RestStays first many part.old.replay.hands.items part.new.replay.hands.items }
+    requires tasks { tasks.old.items ≡ replicate RECORDS log.now }
+    requires few { first + RECORDS ≤ HANDS }
+    requires room { room ≤ RECORDS }
+    requires working { AreWorking log.now part.old.replay }
+    ensures working { AreWorking log.now part.new.replay }
+    ensures rest { RestStays first RECORDS part.old.replay.hands.items part.new.replay.hands.items }
     ensures tasks { tasks.new.items ≡ tasks.old.items }
 {
-    let _ = many;
-    redo_all(log, part, first as usize, tasks, records);
-    let room = if part.sleeping > 0 { room.min(1) } else { room };
-    let started = claim_all(log, part, tasks, records, room, call);
+    finish_all(log, part, first, tasks);
+    let room = room_now(part, room);
+    let started = start_all(log, part, first, tasks, room, call);
     order_of(part, started, seen)
 }
 
@@ -246,34 +272,32 @@ fn ring(bell: &AtomicU64, order: Order) {
     }
 }
 
-/// A worker takes the lock to finish what it has executed, and for what it does next.
+/// A worker takes the lock to finish what its hands have in flight, and for what it does next.
 pub fn step<R: Wait>(
     rt: &R,
     lock: &Lock,
     seat: &mut Seat,
     log: &Log,
-    first: u8,
-    many: u8,
+    first: usize,
+    many: usize,
     tasks: &mut Vec<Task>,
-    records: u8,
-    room: u8,
+    room: usize,
     call: &mut Call,
 ) -> Order
     requires own { seat.old.table_id ≡ lock.now.table.shared.table_id }
     requires of_log { seat.old.me.0.log ≡ log.now }
-    requires tasks { tasks.old.items ≡ replicate records log.now }
-    requires few { first + many ≤ 16 }
-    requires room { room ≤ records }
+    requires tasks { tasks.old.items ≡ replicate RECORDS log.now }
+    requires few { (RECORDS ≤ many) × (first + many ≤ HANDS) }
+    requires room { room ≤ RECORDS }
     requires stands { IsFor first many seat.old.me }
     ensures own { seat.new.table_id ≡ seat.old.table_id }
     ensures went { Went first many seat.old.me seat.new.me }
     ensures tasks { tasks.new.items ≡ tasks.old.items }
 {
+    let _ = many;
     let mut part = lock.take(rt, seat);
     let seen = lock.bell.load(Ordering::SeqCst);
-    let order = go_on(
-        log, &mut part, first, many, tasks, records, room, call, seen,
-    );
+    let order = go_on(log, &mut part, first, tasks, room, call, seen);
     lock.give(seat, part);
     ring(&lock.bell, order);
     order

@@ -6,16 +6,12 @@ ghost use Rattle.tau_replay.specs.Working.{IsSpare};
 use crate::lock::Lock;
 use crate::outcome::Scratch;
 use crate::task::{Task, tasks_of};
-use crate::view::Seat;
+use crate::view::{HANDS, RECORDS, Seat};
 use crate::visit::{Order, step};
 use std::alloc::Global;
 use std::sync::Wait;
 use tau_disk::{Gate, Place};
 use tau_scan::Log;
-
-/// How many records a worker gets at a time, at most: so many that what it costs to take the lock, and to fetch what is
-/// under it from another processor, is little for each of them.
-const RECORDS: u8 = 16;
 
 /// Executes the record of a task, if it has one, up to its finish.
 fn redo_one<R: Wait, G: Gate>(
@@ -40,7 +36,7 @@ fn redo_one<R: Wait, G: Gate>(
     }
 }
 
-/// The same of all tasks of a worker.
+/// The same of all hands of a worker.
 fn redo_all<R: Wait, G: Gate>(
     rt: &R,
     lock: &Lock,
@@ -48,34 +44,35 @@ fn redo_all<R: Wait, G: Gate>(
     log: &Log,
     worker: u8,
     tasks: &mut Vec<Task>,
-    many: u8,
     scratch: &mut Scratch,
     gate: &G,
 )
-    requires tasks { tasks.old.items ≡ replicate many log.now }
+    requires tasks { tasks.old.items ≡ replicate RECORDS log.now }
     requires own { seat.old.table_id ≡ lock.now.table.shared.table_id }
     requires idle { IsIdle seat.old.me }
     ensures tasks { tasks.new.items ≡ tasks.old.items }
     ensures own { seat.new.table_id ≡ seat.old.table_id }
     ensures seat { seat.new.me ≡ seat.old.me }
 {
-    for i in 0..many as usize {
+    for i in 0..RECORDS {
         redo_one(rt, lock, seat, log, worker, &mut tasks[i], scratch, gate);
     }
 }
 
-/// How many records the next visit may get: twice as many if it got all that it might, and else as many as it got.
-fn next_room(room: u8, started: usize) -> u8
+/// How many records the next visit may start: twice as many if all that it might start were ready, and else as many as
+/// were.
+fn next_room(room: usize, started: usize) -> usize
     ensures { result ≤ RECORDS }
 {
-    if started < room as usize {
-        (started as u8).min(RECORDS)
+    if started < room {
+        started.min(RECORDS)
     } else {
         room.saturating_mul(2).min(RECORDS)
     }
 }
 
-/// What a worker with so many hands does until its work is over. If it has no memory for them, the others do the work.
+/// What a worker does until its work is over, with its first hands of so many. If it has no memory for them, the others do
+/// the work.
 pub fn work<R: Wait, G: Gate>(
     rt: &R,
     alloc: Global,
@@ -83,25 +80,24 @@ pub fn work<R: Wait, G: Gate>(
     mut seat: Seat,
     log: &Log,
     worker: u8,
-    first: u8,
-    many: u8,
+    first: usize,
+    many: usize,
     gate: &G,
 ) -> Seat
     requires own { seat.table_id ≡ lock.now.table.shared.table_id }
     requires of_log { seat.me.0.log ≡ log.now }
-    requires few { first + many ≤ 16 }
+    requires few { (RECORDS ≤ many) × (first + many ≤ HANDS) }
     requires spare { IsSpare first many seat.me }
     ensures own { result.table_id ≡ seat.table_id }
     ensures of_log { result.me.0.log ≡ seat.me.0.log }
     ensures idle { IsIdle result.me }
     ensures workers { length result.me.0.hands ≡ length seat.me.0.hands }
 {
-    let records = RECORDS;
-    let Ok(mut tasks) = tasks_of(alloc, log, records) else {
+    let Ok(mut tasks) = tasks_of(alloc, log, RECORDS) else {
         return seat;
     };
     let mut scratch = Scratch::new(alloc);
-    let mut room = 1u8;
+    let mut room = 1usize;
     for _ in rt.forever() {
         match step(
             rt,
@@ -111,7 +107,6 @@ pub fn work<R: Wait, G: Gate>(
             first,
             many,
             &mut tasks,
-            records,
             room,
             &mut scratch.call,
         ) {
@@ -124,7 +119,6 @@ pub fn work<R: Wait, G: Gate>(
                     log,
                     worker,
                     &mut tasks,
-                    records,
                     &mut scratch,
                     gate,
                 );

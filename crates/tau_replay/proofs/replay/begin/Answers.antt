@@ -1,10 +1,12 @@
 -- Nothing is started.
-use Rattle.std.proofs.Common.{ℕ, List, ◌≡◌, [], replicate, refl, sym, ap, subst, ◌∙◌, arith}
-use Rattle.std.specs.Prelude.{None, true}
+use Rattle.std.proofs.Common.{ℕ, List, ◌≡◌, [], length, replicate, refl, sym, ap, subst, ◌∙◌, arith}
+use Rattle.std.specs.Prelude.{Option, None, true}
+use Rattle.std.proofs.lemmas.List.{length-replicate}
 use Rattle.tau_model.proofs.Reorder.{reordered-itself}
 use Rattle.tau_model.specs.History.{Member, Reordered}
 use Rattle.tau_scan.specs.Taken.{Kept, taken}
 use Rattle.tau_pool.specs.Item.{Item}
+use Rattle.tau_pool.specs.declared.item.Job.{Job}
 use Rattle.tau_pool.specs.Items.{is_waiting, items_from}
 use Rattle.tau_pool.specs.Pooled.{flying_in}
 use Rattle.tau_pool.proofs.Counts.{none-flying}
@@ -13,11 +15,6 @@ use Rattle.tau_replay.specs.Recovering.{AreOf, left_in}
 use Rattle.tau_replay.proofs.Starting.{of_taken, all_left}
 use Rattle.tau_replay.proofs.Hands.{empty_hands}
 use Rattle.tau_replay.proofs.replay.begin.Goals as goal
-
-pub returns-clause-idle : goal.returns-clause-idle
-returns-clause-idle c =
-    let sixteen : c.loop.counter ≡ 16 = omega (arith, c.loop-test.false, c.loop.auto.counter-end) in
-    c.loop.invariant ∙ ap (λ (n : ℕ). replicate n None) sixteen
 
 pub returns-clause-going : goal.returns-clause-going
 returns-clause-going c =
@@ -40,7 +37,8 @@ returns-clause-going c =
         flying = λ i x r at held flies. absurd (none-flying c.in_ok-pools.pools.items idle i x at flies);
         database = c.new-2.ensures;
       };
-      hands = empty_hands c.in_ok-pools.pools c.loop.hands.items (c.loop.invariant ∙ ap (λ (n : ℕ). replicate n None) sixteen) idle;
+      hands = empty_hands 16 c.in_ok-pools.pools c.loop.hands.items (c.loop.invariant ∙ ap (λ (n : ℕ). replicate n None) sixteen) idle;
+      sixteen = ap length c.loop.invariant ∙ length-replicate {A = Option Job} c.loop.counter None ∙ sixteen;
     }
 
 pub returns-clause-followed : goal.returns-clause-followed
@@ -59,3 +57,8 @@ returns-clause-followed c =
       steps = refl;
       holds = c.new-2.ensures;
     }
+
+pub returns-clause-idle : goal.returns-clause-idle
+returns-clause-idle c =
+    let sixteen : c.loop.counter ≡ 16 = omega (arith, c.loop-test.false, c.loop.auto.counter-end) in
+    c.loop.invariant ∙ ap (λ (n : ℕ). replicate n None) sixteen

@@ -10,7 +10,7 @@ use Rattle.tau_replay.proofs.Following.{round_of_first}
 use Rattle.tau_replay.proofs.replay.next_round.Goals as goal
 
 pub start-requires-clause-idle : goal.start-requires-clause-idle
-start-requires-clause-idle c = no_hand c.args.replay.now.hands.items 0 (omega (arith, c.requires.going.hands.count, c.in_flight.ensures, c.if-in_flight-gt0.false)) (omega (arith, c.requires.going.hands.sixteen))
+start-requires-clause-idle c = no_hand c.args.replay.now.hands.items 0 (omega (arith, c.requires.going.hands.count, c.in_flight.ensures, c.if-in_flight-gt0.false)) (omega (arith, c.requires.going.sixteen))
 
 pub returns-in-Done-clause-over : goal.returns-in-Done-clause-over
 returns-in-Done-clause-over c e =

@@ -65,10 +65,9 @@ pub returns-clause-some : goal.returns-clause-some
 returns-clause-some c e flying = elim c.loop-worker.invariant.some [
   | inl less ↦ less
   | inr h ↦
-      let hands = c.requires.going.hands in
-      let (w, job, at) = some_hand c.args.replay.now.hands.items (omega (arith, flying, hands.count)) in
+      let (w, job, at) = some_hand c.args.replay.now.hands.items (omega (arith, flying, c.requires.going.hands.count)) in
       let lt = get_within c.args.replay.now.hands.items w (Some job) at in
-      absurd (h.1 w job (omega (arith, e)) (omega (arith, lt, hands.sixteen, c.loop-worker-test.false)) at)
+      absurd (h.1 w job (omega (arith, e)) (omega (arith, lt, c.requires.going.sixteen, c.loop-worker-test.false)) at)
 ]
 
 pub returns-clause-followed : goal.returns-clause-followed

@@ -1,6 +1,7 @@
 -- What a worker has in flight is finished.
-use Rattle.std.proofs.Common.{[], ◌∷◌, ◌++◌, sym, subst, arith}
-use Rattle.std.specs.Prelude.{Some}
+use Rattle.std.proofs.Common.{[], ◌∷◌, ◌++◌, sym, subst, ◌∙◌, arith}
+use Rattle.std.specs.Prelude.{Some, None}
+use Rattle.std.proofs.lemmas.List.{length-set}
 use Rattle.tau_model.specs.Store.{database}
 use Rattle.tau_scan.specs.Taken.{taken}
 use Rattle.tau_pool.specs.declared.item.Job.{Job}
@@ -35,6 +36,7 @@ returns-clause-going c =
       order = w.order ++ r ∷ [];
       going = going_finish c.args.log.now c.args.replay.now.pools (database c.args.replay.now.store) w.order c.args.outcome.now.job c.finish.new.self r (database c.apply.new.store) w.going f c.finish.ensures.finished c.finish.ensures.recovered held (c.in-Ok.ensures.ok r stands);
       hands = hands_finish c.args.replay.now.pools c.args.replay.now.hands.items c.args.worker c.args.outcome.now.job c.finish.new.self w.hands c.requires.busy c.finish.ensures.finished;
+      sixteen = length-set c.args.replay.now.hands.items c.args.worker None ∙ w.sixteen;
     }
 
 pub returns-clause-less : goal.returns-clause-less

@@ -1,5 +1,7 @@
 -- A record is started by an idle worker.
-use Rattle.std.proofs.Common.{[], ◌∷◌, ◌++◌, sym, subst}
+use Rattle.std.proofs.Common.{[], ◌∷◌, ◌++◌, sym, subst, ◌∙◌}
+use Rattle.std.specs.Prelude.{Some}
+use Rattle.std.proofs.lemmas.List.{length-set}
 use Rattle.tau_model.specs.Store.{database}
 use Rattle.tau_pool.specs.Pooled.{Pooled}
 use Rattle.tau_replay.specs.Followed.{HasFollowed}
@@ -16,6 +18,7 @@ returns-in-Taken-clause-going c =
       order = w.order;
       going = going_start c.args.log.now c.args.replay.now.pools (database c.args.replay.now.store) w.order c.in-Taken.job c.take-next.new.self w.going s c.take-next.ensures.recovered;
       hands = hands_start c.args.replay.now.pools c.args.replay.now.hands.items c.args.worker c.in-Taken.job c.take-next.new.self w.hands c.requires.idle s;
+      sixteen = length-set c.args.replay.now.hands.items c.args.worker (Some c.in-Taken.job) ∙ w.sixteen;
     }
 
 pub returns-in-Taken-clause-taken : goal.returns-in-Taken-clause-taken

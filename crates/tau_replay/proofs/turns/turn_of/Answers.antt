@@ -7,4 +7,4 @@ use Rattle.tau_replay.proofs.turns.turn_of.Goals as goal
 pub returns-else-worker-lt16-clause-followed : goal.returns-else-worker-lt16-clause-followed
 returns-else-worker-lt16-clause-followed c turns f =
     let hands = c.args.replay.now.hands.items in
-    follow_none c.args.log.now turns c.args.worker c.args.replay.now.pools hands (database c.args.replay.now.store) f (past_hands hands c.args.worker (omega (arith, c.requires.hands.sixteen, c.if-worker-lt16.false)))
+    follow_none c.args.log.now turns c.args.worker c.args.replay.now.pools hands (database c.args.replay.now.store) f (past_hands hands c.args.worker (omega (arith, c.requires.sixteen, c.if-worker-lt16.false)))

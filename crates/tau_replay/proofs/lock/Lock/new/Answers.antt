@@ -4,7 +4,7 @@ use Rattle.tau_scan.specs.declared.log.Log.{Log}
 use Rattle.atomic_table.specs.Table.{opening}
 use Rattle.tau_replay.specs.declared.view.Part.{Part}
 use Rattle.tau_replay.specs.Rule.{Slot, Kept, first_view}
-use Rattle.tau_replay.specs.Sound.{IsSound}
+use Rattle.tau_replay.specs.Sound.{AreWorking}
 use Rattle.tau_replay.proofs.Steps.{starts}
 use Rattle.tau_replay.proofs.lock.Lock.new.Goals as goal
 
@@ -14,4 +14,4 @@ new-requires-2 c =
     let same : c.of-about.result.value ≡ c.args.log.now = search rules in
     let boxed : c.args.part ≡ c.in_ok-new.field-0.value = search rules in
     subst (λ (z : List Slot × Log). Kept z.1 (opening (0 ∷ []) z.0 (first_view z.1))) (λ i. (sym items i, sym same i))
-    (starts c.args.log.now c.in_ok-new.field-0 (subst (λ (p : Part). IsSound c.args.log.now p.replay) boxed c.requires.sound) (ap (λ (p : Part). p.replay.hands.items) (sym boxed) ∙ c.requires.idle))
+    (starts c.args.log.now c.in_ok-new.field-0 (subst (λ (p : Part). AreWorking c.args.log.now p.replay) boxed c.requires.working) (ap (λ (p : Part). p.replay.hands.items) (sym boxed) ∙ c.requires.idle))
