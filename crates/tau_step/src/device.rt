@@ -143,10 +143,8 @@ fn flushes_of(
         failed: None,
         flushes: Flushes::new(alloc, true),
     };
-    match run.all(writers, &mut NoSink, load) {
-        Ok(()) => flushes_in(run),
-        Err(error) => Err(error),
-    }
+    run.all(writers, &mut NoSink, load)?;
+    flushes_in(run)
 }
 
 /// Each stream is asked its length.

@@ -71,10 +71,8 @@ fn flush_gathered<D: Disk>(
     if upto == writer.durable() {
         return Ok(Managing::Idle);
     }
-    match hand_over(core, writer, stream, upto) {
-        Ok(()) => Ok(flush_prepared(core, writer, stream, upto)),
-        Err(error) => Err(error),
-    }
+    hand_over(core, writer, stream, upto)?;
+    Ok(flush_prepared(core, writer, stream, upto))
 }
 
 /// Hands what was gathered over to the writer, which makes its block.

@@ -84,17 +84,16 @@ impl Run {
         ensures fewer { result ≡ Ok Managing.Flushed → to_flush self.new.core stream < to_flush self.old.core stream }
     {
         let at = usize::from(stream);
-        match manager_turn(&mut self.core, &mut writers[at], stream) {
-            Ok(Managing::Failed) => {
+        match manager_turn(&mut self.core, &mut writers[at], stream)? {
+            Managing::Failed => {
                 self.failed = lowest(self.failed, stream);
                 Ok(Managing::Failed)
             }
-            Ok(Managing::Flushed) => {
+            Managing::Flushed => {
                 self.flushes.note(stream);
                 Ok(Managing::Flushed)
             }
-            Ok(Managing::Idle) => Ok(Managing::Idle),
-            Err(error) => Err(error),
+            Managing::Idle => Ok(Managing::Idle),
         }
     }
 
@@ -127,10 +126,8 @@ impl Run {
         if worker >= self.workers {
             return Ok(());
         }
-        match self.work(worker) {
-            Ok(_) => Ok(()),
-            Err(error) => Err(error),
-        }
+        self.work(worker)?;
+        Ok(())
     }
 
     /// The turn word of a manager, which may not be there.
@@ -145,10 +142,8 @@ impl Run {
         if stream >= self.streams {
             return Ok(());
         }
-        match self.manage(writers, stream) {
-            Ok(_) => Ok(()),
-            Err(error) => Err(error),
-        }
+        self.manage(writers, stream)?;
+        Ok(())
     }
 
     /// The turn word of an anchor, whose stream may not be there.
@@ -248,13 +243,9 @@ impl Run {
         ensures left { OnOk result (total_left self.new.core ≡ total_left self.old.core) }
         ensures some { result ≡ Ok false → ⊥ }
     {
-        match self.managers_round(writers) {
-            Ok(()) => match self.clerk(sink) {
-                Ok(()) => Ok(true),
-                Err(error) => Err(error),
-            },
-            Err(error) => Err(error),
-        }
+        self.managers_round(writers)?;
+        self.clerk(sink)?;
+        Ok(true)
     }
 
     /// A round of all workers, all managers and the clerk, and whether any worker did anything. Where none did the others do not act.
@@ -268,10 +259,9 @@ impl Run {
         ensures moves { Moves (round_by result) (is_ok result) self.old self.new writers.old.items writers.new.items K.tells (K.held sink.old) (K.held sink.new) (K.faults sink.old) (K.faults sink.new) }
         ensures fewer { result ≡ Ok true → total_left self.new.core < total_left self.old.core }
     {
-        match self.workers_round() {
-            Ok(false) => Ok(false),
-            Ok(true) => self.rest_of_round(writers, sink),
-            Err(error) => Err(error),
+        match self.workers_round()? {
+            false => Ok(false),
+            true => self.rest_of_round(writers, sink),
         }
     }
 
@@ -285,13 +275,8 @@ impl Run {
         ensures moves { Moves in_rounds (is_ok result) self.old self.new writers.old.items writers.new.items K.tells (K.held sink.old) (K.held sink.new) (K.faults sink.old) (K.faults sink.new) }
         ensures rests { OnOk result (rests_in self.new.core) }
     {
-        'rounds: loop {
-            match self.round(writers, sink) {
-                Ok(true) => {}
-                Ok(false) => return Ok(()),
-                Err(error) => return Err(error),
-            }
-        }
+        'rounds: while self.round(writers, sink)? {}
+        Ok(())
     }
 
     /// A worker acts until it has nothing to do.
@@ -304,13 +289,8 @@ impl Run {
         ensures works { Works (acted_alone worker) (is_ok result) self.old self.new }
         ensures settles { Settles worker self.old.core self.new.core }
     {
-        'acts: loop {
-            match self.work(worker) {
-                Ok(true) => {}
-                Ok(false) => return Ok(()),
-                Err(error) => return Err(error),
-            }
-        }
+        'acts: while self.work(worker)? {}
+        Ok(())
     }
 
     /// The lowest call left over runs alone, if there is one.
@@ -342,13 +322,8 @@ impl Run {
         if self.failed.is_some() {
             return Ok(());
         }
-        'calls: loop {
-            match self.resumed() {
-                Ok(true) => {}
-                Ok(false) => return Ok(()),
-                Err(error) => return Err(error),
-            }
-        }
+        'calls: while self.resumed()? {}
+        Ok(())
     }
 
     /// A turn of a manager, and whether it flushed anything.
@@ -362,11 +337,10 @@ impl Run {
         ensures manages { Manages (flushed_by stream result) (is_ok result) self.old self.new writers.old.items writers.new.items }
         ensures fewer { result ≡ Ok true → to_flush self.new.core stream < to_flush self.old.core stream }
     {
-        match self.manage(writers, stream) {
-            Ok(Managing::Flushed) => Ok(true),
-            Ok(Managing::Idle) => Ok(false),
-            Ok(Managing::Failed) => Ok(false),
-            Err(error) => Err(error),
+        match self.manage(writers, stream)? {
+            Managing::Flushed => Ok(true),
+            Managing::Idle => Ok(false),
+            Managing::Failed => Ok(false),
         }
     }
 
@@ -380,13 +354,8 @@ impl Run {
         requires there { stream < self.old.streams }
         ensures manages { Manages (idled stream) (is_ok result) self.old self.new writers.old.items writers.new.items }
     {
-        'flushes: loop {
-            match self.flushed(writers, stream) {
-                Ok(true) => {}
-                Ok(false) => return Ok(()),
-                Err(error) => return Err(error),
-            }
-        }
+        'flushes: while self.flushed(writers, stream)? {}
+        Ok(())
     }
 
     /// All managers act until they have nothing to flush.
@@ -409,10 +378,8 @@ impl Run {
         requires on { IsOn writers.old.items self.old }
         ensures moves { Moves drained (is_ok result) self.old self.new writers.old.items writers.new.items K.tells (K.held sink.old) (K.held sink.new) (K.faults sink.old) (K.faults sink.new) }
     {
-        match self.drain_streams(writers) {
-            Ok(()) => self.clerk(sink),
-            Err(error) => Err(error),
-        }
+        self.drain_streams(writers)?;
+        self.clerk(sink)
     }
 
     /// The turn words, if there are any.
@@ -441,10 +408,8 @@ impl Run {
         requires on { IsOn writers.old.items self.old }
         ensures moves { Moves (ran_all (turns_of load.now)) (is_ok result) self.old self.new writers.old.items writers.new.items K.tells (K.held sink.old) (K.held sink.new) (K.faults sink.old) (K.faults sink.new) }
     {
-        match self.named(writers, sink, load) {
-            Ok(()) => self.behind_words(writers, sink),
-            Err(error) => Err(error),
-        }
+        self.named(writers, sink, load)?;
+        self.behind_words(writers, sink)
     }
 
     /// What comes after the turn words.
@@ -456,10 +421,8 @@ impl Run {
         requires on { IsOn writers.old.items self.old }
         ensures moves { Moves ran_behind (is_ok result) self.old self.new writers.old.items writers.new.items K.tells (K.held sink.old) (K.held sink.new) (K.faults sink.old) (K.faults sink.new) }
     {
-        match self.rounds(writers, sink) {
-            Ok(()) => self.behind_rounds(writers, sink),
-            Err(error) => Err(error),
-        }
+        self.rounds(writers, sink)?;
+        self.behind_rounds(writers, sink)
     }
 
     /// What comes after the rounds.
@@ -472,9 +435,7 @@ impl Run {
         requires rests { rests_in self.old.core }
         ensures moves { Moves ran_last (is_ok result) self.old self.new writers.old.items writers.new.items K.tells (K.held sink.old) (K.held sink.new) (K.faults sink.old) (K.faults sink.new) }
     {
-        match self.left_over() {
-            Ok(()) => self.drain(writers, sink),
-            Err(error) => Err(error),
-        }
+        self.left_over()?;
+        self.drain(writers, sink)
     }
 }

@@ -12,10 +12,8 @@ pub fn write_all<K: Sink>(sink: &mut K, bytes: &[u8]) -> Result<(), Failed>
 {
     let mut at = 0;
     while at < bytes.len() {
-        match sink.write(&bytes[at..]) {
-            Ok(count) => at += count,
-            Err(failed) => return Err(failed),
-        }
+        let count = sink.write(&bytes[at..])?;
+        at += count;
     }
     Ok(())
 }

@@ -104,8 +104,6 @@ fn go<D: Disk, K: Sink>(
         failed: None,
         flushes: Flushes::new(alloc, false),
     };
-    match run.all(writers, sink, load) {
-        Ok(()) => end_of(alloc, run, load.calls.len()),
-        Err(error) => Err(error),
-    }
+    run.all(writers, sink, load)?;
+    end_of(alloc, run, load.calls.len())
 }

@@ -71,13 +71,9 @@ fn begin_turn(core: &mut Core, worker: u8, stopped: bool) -> Result<bool, NoMemo
     if stopped {
         return Ok(false);
     }
-    match act(core, Event::Lock { worker }) {
-        Err(error) => Err(error),
-        Ok(did) => {
-            if did {
-                return Ok(true);
-            }
-            act(core, Event::Done { worker })
-        }
+    let did = act(core, Event::Lock { worker })?;
+    if did {
+        return Ok(true);
     }
+    act(core, Event::Done { worker })
 }

@@ -18,12 +18,12 @@ all-requires c =
     let fresh = subst (λ (k : ℕ). OpenedFresh c.args.load.now.declarations.procs c.args.load.now.calls c.args.mode c.args.m k (catalogue_size (declarations_text c.args.load.now.declarations)) c.args.core) (sym long) c.requires.opened in
     record { on = begun-on c.args.m c.args.mode c.args.load.now first c.args.writers.now.items fresh c.requires.new refl (sym long) refl }
 
-pub returns-in-Ok : goal.returns-in-Ok
-returns-in-Ok c =
+pub returns : goal.returns
+returns c =
     let first : Run = record { core = c.args.core; clerk = c.new.result; workers = c.args.m; streams = c.args.n; failed = None; flushes = c.new-2.result } in
     let long : length c.args.writers.now.items ≡ c.args.n = omega (arith, c.requires.count) in
     let fresh = subst (λ (k : ℕ). OpenedFresh c.args.load.now.declarations.procs c.args.load.now.calls c.args.mode c.args.m k (catalogue_size (declarations_text c.args.load.now.declarations)) c.args.core) (sym long) c.requires.opened in
-    let x = subst (λ b. Moves (ran_all (turns_of c.args.load.now)) b first c.all.new.self c.args.writers.now.items c.all.new.writers.items ⊥ [] [] 0 0) (ap is_ok c.in-Ok.is) c.all.ensures.moves in
+    let x = subst (λ b. Moves (ran_all (turns_of c.args.load.now)) b first c.all.new.self c.args.writers.now.items c.all.new.writers.items ⊥ [] [] 0 0) (ap is_ok c.in_ok-all.was) c.all.ensures.moves in
     by c.flushes_in.result
     (λ flushes of_run. subst (λ (k : ℕ). IsFlushOrder k c.args.m c.args.mode c.args.load.now flushes) long
     (flush-order c.args.m c.args.mode c.args.load.now first c.all.new.self c.args.writers.now.items c.all.new.writers.items ⊥ [] [] 0 0 fresh c.requires.new c.new.ensures.acks c.new-2.ensures.streams x flushes of_run))

@@ -11,7 +11,7 @@ more first before now bytes i n was is =
 
 pub loop-at-preserved : goal.loop-at-preserved
 loop-at-preserved g c = record {
-  within = omega (arith, c.in-Ok.ensures.bound, length-drop c.loop-at.at c.args.bytes.now, c.loop-at.invariant.within);
-  written = λ tells. more (g.K.Sink.held c.args.sink.now) (g.K.Sink.held c.loop-at.sink) (g.K.Sink.held c.write.new.self) c.args.bytes.now c.loop-at.at c.in-Ok.count (c.loop-at.invariant.written tells) (c.in-Ok.ensures.bytes tells);
-  later = omega (arith, c.loop-at.invariant.later, c.in-Ok.ensures.cause.later);
+  within = omega (arith, c.in_ok-count.ensures.bound, length-drop c.loop-at.at c.args.bytes.now, c.loop-at.invariant.within);
+  written = λ tells. more (g.K.Sink.held c.args.sink.now) (g.K.Sink.held c.loop-at.sink) (g.K.Sink.held c.write.new.self) c.args.bytes.now c.loop-at.at c.in_ok-count.count (c.loop-at.invariant.written tells) (c.in_ok-count.ensures.bytes tells);
+  later = omega (arith, c.loop-at.invariant.later, c.in_ok-count.ensures.cause.later);
 }

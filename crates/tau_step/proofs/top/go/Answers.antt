@@ -1,6 +1,7 @@
 use Rattle.std.proofs.Common.{ℕ, ◌≡◌, ◌∙◌, List, length, sym, ap, subst, arith}
 use Rattle.std.specs.Prelude.{None, is_ok}
 use Rattle.std.specs.List.{All}
+use Rattle.std.proofs.lemmas.Result.{err_from_is_err_and}
 use Rattle.tau_base.specs.declared.value.Call.{Call}
 use Rattle.tau_run.specs.RunFacts.{turns_of}
 use Rattle.tau_step.specs.declared.run.Run.{Run}
@@ -25,45 +26,45 @@ pub end_of-requires-clause-calls : goal.end_of-requires-clause-calls
 end_of-requires-clause-calls g c =
     let first : Run = record { core = c.args.core; clerk = c.new.result; workers = c.args.m; streams = c.len.result; failed = None; flushes = c.new-2.result } in
     let x = subst (λ b. Moves (ran_all (turns_of c.args.load.now)) b first c.all.new.self c.args.writers.now.items c.all.new.writers.items g.K.Sink.tells (g.K.Sink.held c.args.sink.now) (g.K.Sink.held c.all.new.sink) (g.K.Sink.faults c.args.sink.now) (g.K.Sink.faults c.all.new.sink))
-    (ap is_ok c.in-Ok.is) c.all.ensures.moves in
-    c.len-in-Ok.ensures ∙ ap (length {A = Call}) c.requires.calls ∙ sym (calls-same g.met.D.Disk.seen_now (turns_of c.args.load.now) c.requires.begun.0 first c.all.new.self c.args.writers.now.items c.all.new.writers.items g.K.Sink.tells (g.K.Sink.held c.args.sink.now) (g.K.Sink.held c.all.new.sink) (g.K.Sink.faults c.args.sink.now) (g.K.Sink.faults c.all.new.sink)
+    (ap is_ok c.in_ok-all.was) c.all.ensures.moves in
+    c.len-2.ensures ∙ ap (length {A = Call}) c.requires.calls ∙ sym (calls-same g.met.D.Disk.seen_now (turns_of c.args.load.now) c.requires.begun.0 first c.all.new.self c.args.writers.now.items c.all.new.writers.items g.K.Sink.tells (g.K.Sink.held c.args.sink.now) (g.K.Sink.held c.all.new.sink) (g.K.Sink.faults c.args.sink.now) (g.K.Sink.faults c.all.new.sink)
     c.requires.opened c.requires.begun.1 c.new.ensures.acks c.new.ensures.works x)
 
 pub end_of-requires-clause-told : goal.end_of-requires-clause-told
 end_of-requires-clause-told g c =
     let first : Run = record { core = c.args.core; clerk = c.new.result; workers = c.args.m; streams = c.len.result; failed = None; flushes = c.new-2.result } in
     let x = subst (λ b. Moves (ran_all (turns_of c.args.load.now)) b first c.all.new.self c.args.writers.now.items c.all.new.writers.items g.K.Sink.tells (g.K.Sink.held c.args.sink.now) (g.K.Sink.held c.all.new.sink) (g.K.Sink.faults c.args.sink.now) (g.K.Sink.faults c.all.new.sink))
-    (ap is_ok c.in-Ok.is) c.all.ensures.moves in
-    let same : c.len-in-Ok.result ≡ length c.all.new.self.core.load.calls = c.len-in-Ok.ensures ∙ ap (length {A = Call}) c.requires.calls ∙ sym (calls-same g.met.D.Disk.seen_now (turns_of c.args.load.now) c.requires.begun.0 first c.all.new.self c.args.writers.now.items c.all.new.writers.items g.K.Sink.tells (g.K.Sink.held c.args.sink.now) (g.K.Sink.held c.all.new.sink) (g.K.Sink.faults c.args.sink.now) (g.K.Sink.faults c.all.new.sink)
+    (ap is_ok c.in_ok-all.was) c.all.ensures.moves in
+    let same : c.len-2.result ≡ length c.all.new.self.core.load.calls = c.len-2.ensures ∙ ap (length {A = Call}) c.requires.calls ∙ sym (calls-same g.met.D.Disk.seen_now (turns_of c.args.load.now) c.requires.begun.0 first c.all.new.self c.args.writers.now.items c.all.new.writers.items g.K.Sink.tells (g.K.Sink.held c.args.sink.now) (g.K.Sink.held c.all.new.sink) (g.K.Sink.faults c.args.sink.now) (g.K.Sink.faults c.all.new.sink)
     c.requires.opened c.requires.begun.1 c.new.ensures.acks c.new.ensures.works x) in
     subst (λ (n : ℕ). All (λ (a : ℕ × List ℕ). IsNumberOf n a.0) c.all.new.self.clerk.acks) (sym same) (told-numbers g.met.D.Disk.seen_now (turns_of c.args.load.now) c.requires.begun.0 first c.all.new.self c.args.writers.now.items c.all.new.writers.items g.K.Sink.tells (g.K.Sink.held c.args.sink.now) (g.K.Sink.held c.all.new.sink) (g.K.Sink.faults c.args.sink.now) (g.K.Sink.faults c.all.new.sink)
     c.requires.opened c.requires.begun.1 c.new.ensures.acks c.new.ensures.works x)
 
-pub returns-in-Ok-clause-ran : goal.returns-in-Ok-clause-ran
-returns-in-Ok-clause-ran g c = λ bases begun.
+pub returns-clause-ran : goal.returns-clause-ran
+returns-clause-ran g c = λ bases begun.
     let first : Run = record { core = c.args.core; clerk = c.new.result; workers = c.args.m; streams = c.len.result; failed = None; flushes = c.new-2.result } in
     let x = subst (λ b. Moves (ran_all (turns_of c.args.load.now)) b first c.all.new.self c.args.writers.now.items c.all.new.writers.items g.K.Sink.tells (g.K.Sink.held c.args.sink.now) (g.K.Sink.held c.all.new.sink) (g.K.Sink.faults c.args.sink.now) (g.K.Sink.faults c.all.new.sink))
-    (ap is_ok c.in-Ok.is) c.all.ensures.moves in
+    (ap is_ok c.in_ok-all.was) c.all.ensures.moves in
     ran-by g.met.D.Disk.seen_now (turns_of c.args.load.now) bases first c.all.new.self c.args.writers.now.items c.all.new.writers.items g.K.Sink.tells (g.K.Sink.held c.args.sink.now) (g.K.Sink.held c.all.new.sink) (g.K.Sink.faults c.args.sink.now) (g.K.Sink.faults c.all.new.sink)
     c.requires.opened begun c.new.ensures.acks c.new.ensures.works x
     c.end_of.result c.end_of.ensures.acks c.end_of.ensures.fates c.end_of.ensures.order c.end_of.ensures.tables c.end_of.ensures.disk c.end_of.ensures.sink
 
-pub returns-in-Ok-clause-count : goal.returns-in-Ok-clause-count
-returns-in-Ok-clause-count g c =
+pub returns-clause-count : goal.returns-clause-count
+returns-clause-count g c =
     let first : Run = record { core = c.args.core; clerk = c.new.result; workers = c.args.m; streams = c.len.result; failed = None; flushes = c.new-2.result } in
     count-same g.met.D.Disk.seen_now (turns_of c.args.load.now) c.requires.begun.0 first c.all.new.self c.args.writers.now.items c.all.new.writers.items g.K.Sink.tells (g.K.Sink.held c.args.sink.now) (g.K.Sink.held c.all.new.sink) (g.K.Sink.faults c.args.sink.now) (g.K.Sink.faults c.all.new.sink)
     c.requires.opened c.requires.begun.1 c.new.ensures.acks c.new.ensures.works (is_ok c.all.result) c.all.ensures.moves
 
-pub returns-in-Err-clause-ran : goal.returns-in-Err-clause-ran
-returns-in-Err-clause-ran g c = λ bases begun.
+pub returns-in_err-all-clause-ran : goal.returns-in_err-all-clause-ran
+returns-in_err-all-clause-ran g c = λ bases begun.
     let first : Run = record { core = c.args.core; clerk = c.new.result; workers = c.args.m; streams = c.len.result; failed = None; flushes = c.new-2.result } in
     let x = subst (λ b. Moves (ran_all (turns_of c.args.load.now)) b first c.all.new.self c.args.writers.now.items c.all.new.writers.items g.K.Sink.tells (g.K.Sink.held c.args.sink.now) (g.K.Sink.held c.all.new.sink) (g.K.Sink.faults c.args.sink.now) (g.K.Sink.faults c.all.new.sink))
-    (ap is_ok c.in-Err.is) c.all.ensures.moves in
-    cut-short g.met.D.Disk.seen_now (turns_of c.args.load.now) bases first c.all.new.self c.args.writers.now.items c.all.new.writers.items g.K.Sink.tells (g.K.Sink.held c.args.sink.now) (g.K.Sink.held c.all.new.sink) (g.K.Sink.faults c.args.sink.now) (g.K.Sink.faults c.all.new.sink)
-    c.requires.opened begun c.new.ensures.acks c.new.ensures.works x
+    (ap is_ok c.in_err-all.was) c.all.ensures.moves in
+    rw (err_from_is_err_and c.from_residual.result c.from_residual.ensures.1).1 (cut-short g.met.D.Disk.seen_now (turns_of c.args.load.now) bases first c.all.new.self c.args.writers.now.items c.all.new.writers.items g.K.Sink.tells (g.K.Sink.held c.args.sink.now) (g.K.Sink.held c.all.new.sink) (g.K.Sink.faults c.args.sink.now) (g.K.Sink.faults c.all.new.sink)
+    c.requires.opened begun c.new.ensures.acks c.new.ensures.works x)
 
-pub returns-in-Err-clause-count : goal.returns-in-Err-clause-count
-returns-in-Err-clause-count g c =
+pub returns-in_err-all-clause-count : goal.returns-in_err-all-clause-count
+returns-in_err-all-clause-count g c =
     let first : Run = record { core = c.args.core; clerk = c.new.result; workers = c.args.m; streams = c.len.result; failed = None; flushes = c.new-2.result } in
     count-same g.met.D.Disk.seen_now (turns_of c.args.load.now) c.requires.begun.0 first c.all.new.self c.args.writers.now.items c.all.new.writers.items g.K.Sink.tells (g.K.Sink.held c.args.sink.now) (g.K.Sink.held c.all.new.sink) (g.K.Sink.faults c.args.sink.now) (g.K.Sink.faults c.all.new.sink)
     c.requires.opened c.requires.begun.1 c.new.ensures.acks c.new.ensures.works (is_ok c.all.result) c.all.ensures.moves

@@ -1,5 +1,6 @@
 use Rattle.std.proofs.Common.{refl}
 use Rattle.std.specs.Prelude.{is_ok}
+use Rattle.std.proofs.lemmas.Result.{err_from_is_err_and}
 use Rattle.tau_run.specs.RunFacts.{turns_of}
 use Rattle.tau_step.proofs.Staged.{all-behind, all-short}
 use Rattle.tau_step.proofs.run.Run.all.Goals as goal
@@ -8,13 +9,13 @@ pub named-requires : goal.named-requires
 named-requires g c = record { on = c.requires.on }
 
 pub behind_words-requires : goal.behind_words-requires
-behind_words-requires g c = record { on = c.in-Ok.ensures.moves.on refl }
+behind_words-requires g c = record { on = c.in_ok-named.ensures.moves.on refl }
 
-pub returns-in-Ok : goal.returns-in-Ok
-returns-in-Ok g c = record {
+pub returns : goal.returns
+returns g c = record {
   moves = all-behind g.met.D.Disk.seen_now g.K.Sink.tells (turns_of c.args.load.now) (is_ok c.behind_words.result) c.args.self.now c.named.new.self c.behind_words.new.self c.args.writers.now.items c.named.new.writers.items c.behind_words.new.writers.items
-      (g.K.Sink.held c.args.sink.now) (g.K.Sink.held c.named.new.sink) (g.K.Sink.held c.behind_words.new.sink) (g.K.Sink.faults c.args.sink.now) (g.K.Sink.faults c.named.new.sink) (g.K.Sink.faults c.behind_words.new.sink) c.in-Ok.ensures.moves c.behind_words.ensures.moves;
+      (g.K.Sink.held c.args.sink.now) (g.K.Sink.held c.named.new.sink) (g.K.Sink.held c.behind_words.new.sink) (g.K.Sink.faults c.args.sink.now) (g.K.Sink.faults c.named.new.sink) (g.K.Sink.faults c.behind_words.new.sink) c.in_ok-named.ensures.moves c.behind_words.ensures.moves;
 }
 
-pub returns-in-Err : goal.returns-in-Err
-returns-in-Err g c = record { moves = all-short g.met.D.Disk.seen_now g.K.Sink.tells (turns_of c.args.load.now) c.args.self.now c.named.new.self c.args.writers.now.items c.named.new.writers.items (g.K.Sink.held c.args.sink.now) (g.K.Sink.held c.named.new.sink) (g.K.Sink.faults c.args.sink.now) (g.K.Sink.faults c.named.new.sink) c.in-Err.ensures.moves }
+pub returns-in_err-named : goal.returns-in_err-named
+returns-in_err-named g c = record { moves = rw (err_from_is_err_and c.from_residual.result c.from_residual.ensures.1).1 (all-short g.met.D.Disk.seen_now g.K.Sink.tells (turns_of c.args.load.now) c.args.self.now c.named.new.self c.args.writers.now.items c.named.new.writers.items (g.K.Sink.held c.args.sink.now) (g.K.Sink.held c.named.new.sink) (g.K.Sink.faults c.args.sink.now) (g.K.Sink.faults c.named.new.sink) c.in_err-named.ensures.moves) }

@@ -1,5 +1,6 @@
 use Rattle.std.proofs.Common.{true, ap, arith, ◌∙◌}
 use Rattle.std.specs.Prelude.{Ok}
+use Rattle.std.proofs.lemmas.Result.{err_from_is_err_and}
 use Rattle.tau_core.specs.declared.state.Load.{Load}
 use Rattle.tau_step.proofs.LeftOvers.{alone_so, alone-quiet, acts-none, acts-more, acts-end, acts-cut}
 use Rattle.tau_step.proofs.EffectsInTurn.{works-lowest}
@@ -20,24 +21,24 @@ work-requires-clause-lowest c = works-lowest (alone_so c.args.worker) true c.arg
 
 pub acts-preserved : goal.acts-preserved
 acts-preserved c = record {
-  works = acts-more c.args.worker c.args.self.now c.acts.self c.work.new.self c.acts.invariant.works (rw c.in-Ok-true.field-0-test at c.in-Ok-true.ensures.works);
+  works = acts-more c.args.worker c.args.self.now c.acts.self c.work.new.self c.acts.invariant.works (rw c.if-branch.true at c.in_ok-work.ensures.works);
   settles = settles-on c.args.worker c.args.self.now.core c.acts.self.core c.work.new.self.core c.acts.invariant.settles
       (c.work.ensures.alone (λ u ne. c.acts.invariant.settles.others u ne ∙ c.requires.alone u ne) c.acts.invariant.settles.settling);
 }
 
 pub acts-smaller : goal.acts-smaller
-acts-smaller c = c.work.ensures.fewer (c.in-Ok-true.is ∙ ap Ok c.in-Ok-true.field-0-test)
+acts-smaller c = c.work.ensures.fewer (c.in_ok-work.was ∙ ap Ok c.if-branch.true)
 
-pub returns-in-Ok-false-clause-works : goal.returns-in-Ok-false-clause-works
-returns-in-Ok-false-clause-works c = acts-end c.args.worker c.args.self.now c.acts.self c.work.new.self c.acts.invariant.works (rw c.in-Ok-false.field-0-test at c.in-Ok-false.ensures.works)
+pub returns-clause-works : goal.returns-clause-works
+returns-clause-works c = acts-end c.args.worker c.args.self.now c.acts.self c.work.new.self c.acts.invariant.works (rw c.if-branch.false at c.in_ok-work.ensures.works)
 
-pub returns-in-Ok-false-clause-settles : goal.returns-in-Ok-false-clause-settles
-returns-in-Ok-false-clause-settles c = settles-on c.args.worker c.args.self.now.core c.acts.self.core c.work.new.self.core c.acts.invariant.settles
+pub returns-clause-settles : goal.returns-clause-settles
+returns-clause-settles c = settles-on c.args.worker c.args.self.now.core c.acts.self.core c.work.new.self.core c.acts.invariant.settles
     (c.work.ensures.alone (λ u ne. c.acts.invariant.settles.others u ne ∙ c.requires.alone u ne) c.acts.invariant.settles.settling)
 
-pub returns-in-Err-clause-works : goal.returns-in-Err-clause-works
-returns-in-Err-clause-works c = acts-cut c.args.worker c.args.self.now c.acts.self c.work.new.self c.acts.invariant.works c.in-Err.error c.in-Err.ensures.works
+pub returns-in_err-work-clause-works : goal.returns-in_err-work-clause-works
+returns-in_err-work-clause-works c = rw (err_from_is_err_and c.from_residual.result c.from_residual.ensures.1).1 (acts-cut c.args.worker c.args.self.now c.acts.self c.work.new.self c.acts.invariant.works _ c.in_err-work.ensures.works)
 
-pub returns-in-Err-clause-settles : goal.returns-in-Err-clause-settles
-returns-in-Err-clause-settles c = settles-on c.args.worker c.args.self.now.core c.acts.self.core c.work.new.self.core c.acts.invariant.settles
+pub returns-in_err-work-clause-settles : goal.returns-in_err-work-clause-settles
+returns-in_err-work-clause-settles c = settles-on c.args.worker c.args.self.now.core c.acts.self.core c.work.new.self.core c.acts.invariant.settles
     (c.work.ensures.alone (λ u ne. c.acts.invariant.settles.others u ne ∙ c.requires.alone u ne) c.acts.invariant.settles.settling)

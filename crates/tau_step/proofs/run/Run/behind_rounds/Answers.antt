@@ -1,4 +1,5 @@
 use Rattle.std.specs.Prelude.{is_ok}
+use Rattle.std.proofs.lemmas.Result.{err_from_is_err_and}
 use Rattle.tau_step.proofs.EffectsInTurn.{lowest-nothing}
 use Rattle.tau_step.proofs.Staged.{left-on, last-drained, last-short}
 use Rattle.tau_step.proofs.run.Run.behind_rounds.Goals as goal
@@ -13,13 +14,13 @@ pub left_over-requires-clause-rests : goal.left_over-requires-clause-rests
 left_over-requires-clause-rests g c = c.requires.rests
 
 pub drain-requires : goal.drain-requires
-drain-requires g c = record { on = left-on g.met.D.Disk.seen_now g.K.Sink.tells c.args.self.now c.left_over.new.self c.args.writers.now.items (g.K.Sink.held c.args.sink.now) (g.K.Sink.faults c.args.sink.now) c.requires.on c.in-Ok.ensures.works }
+drain-requires g c = record { on = left-on g.met.D.Disk.seen_now g.K.Sink.tells c.args.self.now c.left_over.new.self c.args.writers.now.items (g.K.Sink.held c.args.sink.now) (g.K.Sink.faults c.args.sink.now) c.requires.on c.in_ok-left_over.ensures.works }
 
-pub returns-in-Ok : goal.returns-in-Ok
-returns-in-Ok g c = record {
+pub returns : goal.returns
+returns g c = record {
   moves = last-drained g.met.D.Disk.seen_now g.K.Sink.tells (is_ok c.drain.result) c.args.self.now c.left_over.new.self c.drain.new.self c.args.writers.now.items c.drain.new.writers.items
-      (g.K.Sink.held c.args.sink.now) (g.K.Sink.held c.drain.new.sink) (g.K.Sink.faults c.args.sink.now) (g.K.Sink.faults c.drain.new.sink) c.requires.on c.in-Ok.ensures.works c.drain.ensures.moves;
+      (g.K.Sink.held c.args.sink.now) (g.K.Sink.held c.drain.new.sink) (g.K.Sink.faults c.args.sink.now) (g.K.Sink.faults c.drain.new.sink) c.requires.on c.in_ok-left_over.ensures.works c.drain.ensures.moves;
 }
 
-pub returns-in-Err : goal.returns-in-Err
-returns-in-Err g c = record { moves = last-short g.met.D.Disk.seen_now g.K.Sink.tells c.args.self.now c.left_over.new.self c.args.writers.now.items (g.K.Sink.held c.args.sink.now) (g.K.Sink.faults c.args.sink.now) c.requires.on c.in-Err.ensures.works }
+pub returns-in_err-left_over : goal.returns-in_err-left_over
+returns-in_err-left_over g c = record { moves = rw (err_from_is_err_and c.from_residual.result c.from_residual.ensures.1).1 (last-short g.met.D.Disk.seen_now g.K.Sink.tells c.args.self.now c.left_over.new.self c.args.writers.now.items (g.K.Sink.held c.args.sink.now) (g.K.Sink.faults c.args.sink.now) c.requires.on c.in_err-left_over.ensures.works) }

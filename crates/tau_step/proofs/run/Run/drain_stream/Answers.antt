@@ -1,5 +1,6 @@
 use Rattle.std.proofs.Common.{refl, ap, arith, ◌∙◌}
 use Rattle.std.specs.Prelude.{Ok}
+use Rattle.std.proofs.lemmas.Result.{err_from_is_err_and}
 use Rattle.tau_step.proofs.Draining.{idles-none, idles-more, idles-end, idles-cut}
 use Rattle.tau_step.proofs.run.Run.drain_stream.Goals as goal
 
@@ -10,13 +11,13 @@ pub flushed-requires : goal.flushed-requires
 flushed-requires g c = record { on = c.flushes.invariant.manages.on refl; there = omega (arith, c.requires.there, c.flushes.invariant.manages.streams) }
 
 pub flushes-preserved : goal.flushes-preserved
-flushes-preserved g c = record { manages = idles-more g.met.D.Disk.seen_now c.args.stream c.args.self.now c.flushes.self c.flushed.new.self c.args.writers.now.items c.flushes.writers.items c.flushed.new.writers.items c.flushes.invariant.manages (rw c.in-Ok-true.field-0-test at c.in-Ok-true.ensures.manages) }
+flushes-preserved g c = record { manages = idles-more g.met.D.Disk.seen_now c.args.stream c.args.self.now c.flushes.self c.flushed.new.self c.args.writers.now.items c.flushes.writers.items c.flushed.new.writers.items c.flushes.invariant.manages (rw c.if-branch.true at c.in_ok-flushed.ensures.manages) }
 
 pub flushes-smaller : goal.flushes-smaller
-flushes-smaller g c = c.flushed.ensures.fewer (c.in-Ok-true.is ∙ ap Ok c.in-Ok-true.field-0-test)
+flushes-smaller g c = c.flushed.ensures.fewer (c.in_ok-flushed.was ∙ ap Ok c.if-branch.true)
 
-pub returns-in-Ok-false : goal.returns-in-Ok-false
-returns-in-Ok-false g c = record { manages = idles-end g.met.D.Disk.seen_now c.args.stream c.args.self.now c.flushes.self c.flushed.new.self c.args.writers.now.items c.flushes.writers.items c.flushed.new.writers.items c.flushes.invariant.manages (rw c.in-Ok-false.field-0-test at c.in-Ok-false.ensures.manages) }
+pub returns : goal.returns
+returns g c = record { manages = idles-end g.met.D.Disk.seen_now c.args.stream c.args.self.now c.flushes.self c.flushed.new.self c.args.writers.now.items c.flushes.writers.items c.flushed.new.writers.items c.flushes.invariant.manages (rw c.if-branch.false at c.in_ok-flushed.ensures.manages) }
 
-pub returns-in-Err : goal.returns-in-Err
-returns-in-Err g c = record { manages = idles-cut g.met.D.Disk.seen_now c.args.stream c.args.self.now c.flushes.self c.flushed.new.self c.args.writers.now.items c.flushes.writers.items c.flushed.new.writers.items c.flushes.invariant.manages c.in-Err.error c.in-Err.ensures.manages }
+pub returns-in_err-flushed : goal.returns-in_err-flushed
+returns-in_err-flushed g c = record { manages = rw (err_from_is_err_and c.from_residual.result c.from_residual.ensures.1).1 (idles-cut g.met.D.Disk.seen_now c.args.stream c.args.self.now c.flushes.self c.flushed.new.self c.args.writers.now.items c.flushes.writers.items c.flushed.new.writers.items c.flushes.invariant.manages _ c.in_err-flushed.ensures.manages) }

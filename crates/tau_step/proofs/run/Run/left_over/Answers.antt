@@ -1,5 +1,6 @@
 use Rattle.std.proofs.Common.{true, ap, sym, ◌∙◌}
 use Rattle.std.specs.Prelude.{Ok}
+use Rattle.std.proofs.lemmas.Result.{err_from_is_err_and}
 use Rattle.tau_step.proofs.LeftOvers.{left_so, left_so-quiet, calls-none, calls-more, calls-end, calls-cut, none-run, is-none}
 use Rattle.tau_step.proofs.EffectsInTurn.{works-lowest}
 use Rattle.tau_step.proofs.run.Run.left_over.Goals as goal
@@ -24,15 +25,15 @@ resumed-requires-clause-rests c = c.calls.invariant.rests
 
 pub calls-preserved : goal.calls-preserved
 calls-preserved c = record {
-  works = calls-more c.args.self.now c.calls.self c.resumed.new.self c.calls.invariant.works (rw c.in-Ok-true.field-0-test at c.in-Ok-true.ensures.works);
-  rests = c.in-Ok-true.ensures.rests;
+  works = calls-more c.args.self.now c.calls.self c.resumed.new.self c.calls.invariant.works (rw c.if-branch.true at c.in_ok-resumed.ensures.works);
+  rests = c.in_ok-resumed.ensures.rests;
 }
 
 pub calls-smaller : goal.calls-smaller
-calls-smaller c = c.resumed.ensures.fewer (c.in-Ok-true.is ∙ ap Ok c.in-Ok-true.field-0-test)
+calls-smaller c = c.resumed.ensures.fewer (c.in_ok-resumed.was ∙ ap Ok c.if-branch.true)
 
-pub returns-in-Ok-false : goal.returns-in-Ok-false
-returns-in-Ok-false c = record { works = calls-end c.args.self.now c.calls.self c.resumed.new.self c.calls.invariant.works (rw c.in-Ok-false.field-0-test at c.in-Ok-false.ensures.works) }
+pub returns : goal.returns
+returns c = record { works = calls-end c.args.self.now c.calls.self c.resumed.new.self c.calls.invariant.works (rw c.if-branch.false at c.in_ok-resumed.ensures.works) }
 
-pub returns-in-Err : goal.returns-in-Err
-returns-in-Err c = record { works = calls-cut c.args.self.now c.calls.self c.resumed.new.self c.calls.invariant.works c.in-Err.error c.in-Err.ensures.works }
+pub returns-in_err-resumed : goal.returns-in_err-resumed
+returns-in_err-resumed c = record { works = rw (err_from_is_err_and c.from_residual.result c.from_residual.ensures.1).1 (calls-cut c.args.self.now c.calls.self c.resumed.new.self c.calls.invariant.works _ c.in_err-resumed.ensures.works) }

@@ -1,5 +1,6 @@
 use Rattle.std.proofs.Common.{refl, ap, ◌∙◌}
 use Rattle.std.specs.Prelude.{Ok}
+use Rattle.std.proofs.lemmas.Result.{err_from_is_err_and}
 use Rattle.tau_step.proofs.Rounds.{rounds-none, rounds-more, rounds-end, rounds-cut}
 use Rattle.tau_step.proofs.run.Run.rounds.Goals as goal
 
@@ -12,23 +13,23 @@ round-requires g c = record { on = c.rounds.invariant.moves.on refl }
 pub rounds-preserved : goal.rounds-preserved
 rounds-preserved g c = record {
   moves = rounds-more g.met.D.Disk.seen_now g.K.Sink.tells c.args.self.now c.rounds.self c.round.new.self c.args.writers.now.items c.rounds.writers.items c.round.new.writers.items
-      (g.K.Sink.held c.args.sink.now) (g.K.Sink.held c.rounds.sink) (g.K.Sink.held c.round.new.sink) (g.K.Sink.faults c.args.sink.now) (g.K.Sink.faults c.rounds.sink) (g.K.Sink.faults c.round.new.sink) c.rounds.invariant.moves (rw c.in-Ok-true.field-0-test at c.in-Ok-true.ensures.moves);
+      (g.K.Sink.held c.args.sink.now) (g.K.Sink.held c.rounds.sink) (g.K.Sink.held c.round.new.sink) (g.K.Sink.faults c.args.sink.now) (g.K.Sink.faults c.rounds.sink) (g.K.Sink.faults c.round.new.sink) c.rounds.invariant.moves (rw c.if-branch.true at c.in_ok-round.ensures.moves);
 }
 
 pub rounds-smaller : goal.rounds-smaller
-rounds-smaller g c = c.round.ensures.fewer (c.in-Ok-true.is ∙ ap Ok c.in-Ok-true.field-0-test)
+rounds-smaller g c = c.round.ensures.fewer (c.in_ok-round.was ∙ ap Ok c.if-branch.true)
 
-pub returns-in-Ok-false-clause-moves : goal.returns-in-Ok-false-clause-moves
-returns-in-Ok-false-clause-moves g c =
+pub returns-clause-moves : goal.returns-clause-moves
+returns-clause-moves g c =
     rounds-end g.met.D.Disk.seen_now g.K.Sink.tells c.args.self.now c.rounds.self c.round.new.self c.args.writers.now.items c.rounds.writers.items c.round.new.writers.items
-    (g.K.Sink.held c.args.sink.now) (g.K.Sink.held c.rounds.sink) (g.K.Sink.held c.round.new.sink) (g.K.Sink.faults c.args.sink.now) (g.K.Sink.faults c.rounds.sink) (g.K.Sink.faults c.round.new.sink) c.rounds.invariant.moves (rw c.in-Ok-false.field-0-test at c.in-Ok-false.ensures.moves)
+    (g.K.Sink.held c.args.sink.now) (g.K.Sink.held c.rounds.sink) (g.K.Sink.held c.round.new.sink) (g.K.Sink.faults c.args.sink.now) (g.K.Sink.faults c.rounds.sink) (g.K.Sink.faults c.round.new.sink) c.rounds.invariant.moves (rw c.if-branch.false at c.in_ok-round.ensures.moves)
 
-pub returns-in-Ok-false-clause-rests : goal.returns-in-Ok-false-clause-rests
-returns-in-Ok-false-clause-rests g c = c.round.ensures.rests (c.in-Ok-false.is ∙ ap Ok c.in-Ok-false.field-0-test)
+pub returns-clause-rests : goal.returns-clause-rests
+returns-clause-rests g c = c.round.ensures.rests (c.in_ok-round.was ∙ ap Ok c.if-branch.false)
 
-pub returns-in-Err : goal.returns-in-Err
-returns-in-Err g c = record {
-  moves = rounds-cut g.met.D.Disk.seen_now g.K.Sink.tells c.args.self.now c.rounds.self c.round.new.self c.args.writers.now.items c.rounds.writers.items c.round.new.writers.items
-      (g.K.Sink.held c.args.sink.now) (g.K.Sink.held c.rounds.sink) (g.K.Sink.held c.round.new.sink) (g.K.Sink.faults c.args.sink.now) (g.K.Sink.faults c.rounds.sink) (g.K.Sink.faults c.round.new.sink) c.rounds.invariant.moves c.in-Err.error c.in-Err.ensures.moves;
-  rests = tt;
+pub returns-in_err-round : goal.returns-in_err-round
+returns-in_err-round g c = record {
+  moves = rw (err_from_is_err_and c.from_residual.result c.from_residual.ensures.1).1 (rounds-cut g.met.D.Disk.seen_now g.K.Sink.tells c.args.self.now c.rounds.self c.round.new.self c.args.writers.now.items c.rounds.writers.items c.round.new.writers.items
+      (g.K.Sink.held c.args.sink.now) (g.K.Sink.held c.rounds.sink) (g.K.Sink.held c.round.new.sink) (g.K.Sink.faults c.args.sink.now) (g.K.Sink.faults c.rounds.sink) (g.K.Sink.faults c.round.new.sink) c.rounds.invariant.moves _ c.in_err-round.ensures.moves);
+  rests = rw (err_from_is_err_and c.from_residual.result c.from_residual.ensures.1).1 tt;
 }

@@ -1,5 +1,6 @@
 use Rattle.std.proofs.Common.{arith}
 use Rattle.std.specs.Prelude.{Ok, Err}
+use Rattle.std.proofs.lemmas.Result.{err_from_is_err_and}
 use Rattle.tau_step.proofs.Running.{no-worker, word-works}
 use Rattle.tau_step.proofs.run.Run.worker_word.Goals as goal
 
@@ -15,8 +16,8 @@ work-requires-clause-there c = omega (arith, c.if-worker-self.false, c.requires.
 pub work-requires-clause-lowest : goal.work-requires-clause-lowest
 work-requires-clause-lowest c = c.requires.lowest
 
-pub returns-in-Ok : goal.returns-in-Ok
-returns-in-Ok c = record { works = word-works c.args.worker c.args.self.now c.work.new.self (Ok c.in-Ok.field-0) c.in-Ok.ensures.works }
+pub returns-in_err-work : goal.returns-in_err-work
+returns-in_err-work c = record { works = rw (err_from_is_err_and c.from_residual.result c.from_residual.ensures.1).1 (word-works c.args.worker c.args.self.now c.work.new.self (Err _) c.in_err-work.ensures.works) }
 
-pub returns-in-Err : goal.returns-in-Err
-returns-in-Err c = record { works = word-works c.args.worker c.args.self.now c.work.new.self (Err c.in-Err.error) c.in-Err.ensures.works }
+pub returns : goal.returns
+returns c = record { works = word-works c.args.worker c.args.self.now c.work.new.self (Ok _) c.in_ok-work.ensures.works }
