@@ -46,13 +46,18 @@ impl KeptCall {
                     args,
                 },
             }),
-            None => match Box::new(alloc, call.copied()) {
-                Ok(call) => Ok(KeptCall {
-                    kept: Kept::Whole(call),
-                }),
-                Err(_) => Err(NoMemory),
-            },
+            None => KeptCall::boxed(alloc, call),
         }
+    }
+
+    /// The same call, in a box. It lays a place for a whole call, which short ones do without.
+    #[inline(never)]
+    fn boxed(alloc: Global, call: &Call) -> Result<KeptCall, NoMemory>
+        ensures { IfOk result (λ kept. kept ≡ call.now) }
+    {
+        Ok(KeptCall {
+            kept: Kept::Whole(Box::new(alloc, call.copied())?),
+        })
     }
 
     /// Puts the call into a place. It takes no memory.
@@ -164,7 +169,7 @@ impl Calls {
         ensures err { OnErr result (self.new ≡ self.old) }
     {
         let kept = KeptCall::of(self.alloc, call)?;
-        self.kept.push(kept).map_err(|_| NoMemory)
+        Ok(self.kept.push(kept)?)
     }
 
     /// Puts the call at this index, from 0, into a place. It takes no memory.
@@ -173,6 +178,14 @@ impl Calls {
         ensures { slice_get self.now index ≡ Some place.new }
     {
         self.kept[index].put_into(place);
+    }
+
+    /// The call at this index, from 0, as it is kept.
+    pub fn at(&self, index: usize) -> &KeptCall
+        requires { index < length self.now }
+        ensures { slice_get self.now index ≡ Some result.now }
+    {
+        &self.kept[index]
     }
 
     /// The call at this index, from 0. It takes no memory.
@@ -187,9 +200,9 @@ impl Calls {
     pub fn copied(&self, alloc: Global) -> Result<Calls, NoMemory>
         ensures { IfOk result (λ copy. copy ≡ self.now) }
     {
-        let mut kept = Vec::with_capacity(alloc, self.kept.len()).map_err(|_| NoMemory)?;
+        let mut kept = Vec::with_capacity(alloc, self.kept.len())?;
         for call in &self.kept {
-            kept.push(call.copied(alloc)?).map_err(|_| NoMemory)?;
+            kept.push(call.copied(alloc)?)?;
         }
         Ok(Calls { alloc, kept })
     }
