@@ -28,6 +28,45 @@ pub(crate) fn lent_of(value: &Value) -> Lent<'_>
     }
 }
 
+/// The value that is lent, again. It takes no memory.
+pub(crate) fn copied(lent: &Lent) -> Value
+    ensures { result ≡ value_of_lent lent.now }
+{
+    match lent {
+        Lent::Absent => Value::Absent,
+        Lent::Int(number) => Value::Int(*number),
+        Lent::Text(text) => Value::Text(text.copied()),
+    }
+}
+
+/// Puts a value that is lent in its place. A whole number in place of another is one word, and a text is put apart.
+pub(crate) fn put_lent(place: &mut Value, lent: &Lent)
+    ensures { place.new ≡ value_of_lent lent.now }
+{
+    match lent {
+        Lent::Absent => *place = Value::Absent,
+        Lent::Int(number) => put_number(place, *number),
+        Lent::Text(text) => put_text(place, text),
+    }
+}
+
+fn put_number(place: &mut Value, number: i64)
+    ensures { place.new ≡ Value.Int number }
+{
+    if let Value::Int(old) = place {
+        *old = number;
+        return;
+    }
+    *place = Value::Int(number);
+}
+
+#[inline(never)]
+fn put_text(place: &mut Value, text: &Text64)
+    ensures { place.new ≡ Value.Text text.now }
+{
+    *place = Value::Text(text.copied());
+}
+
 /// The value at a place, absent where there is none.
 fn lent_at(values: &[Value], at: usize) -> Lent<'_>
     ensures { value_of_lent result ≡ slice_index_or values.now at Value.Absent }

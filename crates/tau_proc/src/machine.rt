@@ -8,16 +8,17 @@ ghost use Rattle.tau_proc.specs.Takes.{is_table, takes_put, takes_add, takes_row
 ghost use Rattle.tau_proc.specs.Progress.{StopFits, KeepsCourse, at_stop, ahead, buffered, blank, IsAt, next_want, IsRead, IsWrite, wants_left, rows_at};
 ghost use Rattle.tau_proc.specs.Stage.{stage_of, built_stage};
 
+use crate::lent::{Lent, lent_of};
 use crate::proc::Proc;
 use crate::procs::{ADD, DEL, FIRST_DECLARED, GET, PUT, Procs};
 use crate::program::Program;
-use crate::reply::{Reply, Want};
+use crate::reply::{Reply, Want, put_finished};
 use crate::running::{Did, Running};
 use crate::step::Step;
 use crate::values::sum_with;
 use arrayvec::ArrayVec;
 use std::marker::Model;
-use tau_base::{Call, Key, MAX_ARGS, Value};
+use tau_base::{Call, Key, MAX_ARGS, Text64, Value};
 
 /// What becomes of the value of a row.
 #[derive(Clone, Copy, Debug)]
@@ -116,12 +117,12 @@ impl Machine {
     }
 
     /// A built-in that writes a row.
-    fn begin_write(&mut self, key: Key, value: Value)
-        ensures stands { (vs : List Value) → ahead self.new vs ≡ built_stage (Puts key value) vs }
+    fn begin_write(&mut self, key: Key, value: &Value)
+        ensures stands { (vs : List Value) → ahead self.new vs ≡ built_stage (Puts key value.now) vs }
         ensures granted { self.new.granted ≡ 0 }
     {
         self.clear();
-        self.running.put(key, value);
+        self.running.put(key, &lent_of(value));
     }
 
     /// A built-in that reads a row.
@@ -141,7 +142,7 @@ impl Machine {
     {
         match args {
             [Value::Int(table), Value::Int(row), value] => {
-                self.begin_write(key_of(*table, *row), value.copied())
+                self.begin_write(key_of(*table, *row), value)
             }
             _ => unreachable!(),
         }
@@ -180,7 +181,7 @@ impl Machine {
     {
         match args {
             [Value::Int(table), Value::Int(row)] => {
-                self.begin_write(key_of(*table, *row), Value::Absent)
+                self.begin_write(key_of(*table, *row), &Value::Absent)
             }
             _ => unreachable!(),
         }
@@ -196,11 +197,12 @@ impl Machine {
         self.clear();
         copy_values(&mut self.args, args);
         self.steps.take(proc.steps.as_slice());
-        self.stop = run_on(
+        run_on(
             self.steps.as_slice(),
             self.args.as_slice(),
             &mut self.done,
             &mut self.running,
+            &mut self.stop,
         );
     }
 
@@ -218,10 +220,33 @@ impl Machine {
         }
     }
 
+    /// Puts in a place what `next` returns. A key is not moved through a place as large as a reply.
+    pub fn put_next(&self, place: &mut Want)
+        ensures { place.new ≡ next_want self.now }
+    {
+        match &self.stop {
+            Stop::Row(key, _) => *place = Want::Read(*key),
+            Stop::End(reply) => match self.running.writes().get(self.granted) {
+                Some((key, _)) => *place = Want::Write(*key),
+                None => put_finished(place, reply),
+            },
+        }
+    }
+
     /// Gives the value of the row that is wanted.
     pub fn give(&mut self, value: Value)
         requires { IsRead (next_want self.old) }
         ensures stands { (vs : List Value) → ahead self.new vs ≡ ahead self.old (value ∷ vs) }
+        ensures granted { self.new.granted ≡ self.old.granted }
+        ensures fewer { wants_left self.new < wants_left self.old }
+    {
+        self.give_lent(&value);
+    }
+
+    /// The same of a value that is lent.
+    pub fn give_lent(&mut self, value: &Value)
+        requires { IsRead (next_want self.old) }
+        ensures stands { (vs : List Value) → ahead self.new vs ≡ ahead self.old (value.now ∷ vs) }
         ensures granted { self.new.granted ≡ self.old.granted }
         ensures fewer { wants_left self.new < wants_left self.old }
     {
@@ -230,24 +255,34 @@ impl Machine {
         };
         let (key, use_of) = (*key, *use_of);
         match use_of {
-            Use::Register(into) => {
-                self.running.set_register(into, value);
-                self.stop = run_on(
-                    self.steps.as_slice(),
-                    self.args.as_slice(),
-                    &mut self.done,
-                    &mut self.running,
-                );
-            }
-            Use::Reply => self.stop = Stop::End(Reply::Ok(value)),
-            Use::Add(number) => match sum_with(&value, number) {
+            Use::Register(into) => self.go_on(key, into, value),
+            Use::Reply => put_end(&mut self.stop, value),
+            Use::Add(number) => match sum_with(value, number) {
                 Some(sum) => {
-                    self.running.put(key, Value::Int(sum));
+                    self.running.put(key, &Lent::Int(sum));
                     self.stop = Stop::End(Reply::Ok(Value::Int(sum)));
                 }
                 None => self.stop = Stop::End(Reply::Refused(1)),
             },
         }
+    }
+
+    /// The row's value goes into a register, and the steps go on.
+    #[inline(never)]
+    fn go_on(&mut self, key: Key, into: u8, value: &Value)
+        requires { self.old.stop ≡ Stop.Row key (Use.Register into) }
+        ensures stands { (vs : List Value) → ahead self.new vs ≡ ahead self.old (value.now ∷ vs) }
+        ensures granted { self.new.granted ≡ self.old.granted }
+        ensures fewer { wants_left self.new < wants_left self.old }
+    {
+        self.running.set_register(into, &lent_of(value));
+        run_on(
+            self.steps.as_slice(),
+            self.args.as_slice(),
+            &mut self.done,
+            &mut self.running,
+            &mut self.stop,
+        );
     }
 
     /// Says that the key may be written that is wanted.
@@ -287,30 +322,72 @@ fn copy_values(all: &mut ArrayVec<Value, MAX_ARGS>, values: &[Value])
     ensures { all.new.items ≡ values.now }
 {
     for value in values {
-        all.push(value.copied());
+        push_value(all, value);
     }
 }
 
+/// Puts a value that is lent at the end. A whole number is not moved through a place of its own, a text apart.
+fn push_value(all: &mut ArrayVec<Value, MAX_ARGS>, value: &Value)
+    requires { length all.old.items < MAX_ARGS }
+    ensures { all.new.items ≡ all.old.items ++ value.now ∷ [] }
+{
+    match value {
+        Value::Absent => all.push(Value::Absent),
+        Value::Int(number) => all.push(Value::Int(*number)),
+        Value::Text(text) => push_text(all, text),
+    }
+}
+
+#[inline(never)]
+fn push_text(all: &mut ArrayVec<Value, MAX_ARGS>, text: &Text64)
+    requires { length all.old.items < MAX_ARGS }
+    ensures { all.new.items ≡ all.old.items ++ Value.Text text.now ∷ [] }
+{
+    all.push(Value::Text(text.copied()));
+}
+
 /// Runs the steps on, as far as a row is wanted or they end.
-fn run_on(steps: &[Step], args: &[Value], done: &mut usize, running: &mut Running) -> Stop
+fn run_on(steps: &[Step], args: &[Value], done: &mut usize, running: &mut Running, stop: &mut Stop)
     requires { KeepsCourse args.now steps.now done.old running.old }
     ensures keeps { KeepsCourse args.now steps.now done.new running.new }
-    ensures stands { (vs : List Value) → at_stop args.now steps.now done.new running.new result vs
+    ensures stands { (vs : List Value) → at_stop args.now steps.now done.new running.new stop.new vs
         ≡ stage_of args.now (drop done.old steps.now) (done.old + 1) running.old vs }
-    ensures fits { StopFits result steps.now running.new.writes }
-    ensures later { done.old + rows_at result ≤ done.new }
+    ensures fits { StopFits stop.new steps.now running.new.writes }
+    ensures later { done.old + rows_at stop.new ≤ done.new }
 {
     while *done < steps.len() {
         let did = running.step(args, &steps[*done]);
         *done += 1;
         match did {
             Did::Goes => {}
-            Did::Asks(key, into) => return Stop::Row(key, Use::Register(into)),
+            Did::Asks(key, into) => {
+                *stop = Stop::Row(key, Use::Register(into));
+                return;
+            }
             Did::Refuses => {
                 running.forget();
-                return Stop::End(Reply::Refused(*done as u16));
+                *stop = Stop::End(Reply::Refused(*done as u16));
+                return;
             }
         }
     }
-    Stop::End(Reply::Ok(running.reply()))
+    put_end(stop, running.reply());
+}
+
+/// The steps have ended with a reply: that of a whole number without the bytes of a text.
+fn put_end(stop: &mut Stop, value: &Value)
+    ensures { stop.new ≡ Stop.End (Reply.Ok value.now) }
+{
+    match value {
+        Value::Absent => *stop = Stop::End(Reply::Ok(Value::Absent)),
+        Value::Int(number) => *stop = Stop::End(Reply::Ok(Value::Int(*number))),
+        Value::Text(text) => put_end_text(stop, text),
+    }
+}
+
+#[inline(never)]
+fn put_end_text(stop: &mut Stop, text: &Text64)
+    ensures { stop.new ≡ Stop.End (Reply.Ok (Value.Text text.now)) }
+{
+    *stop = Stop::End(Reply::Ok(Value::Text(text.copied())));
 }

@@ -1,7 +1,7 @@
 //! What a call answers, and what it wants on the way.
 ghost use Rattle.std.specs.Prelude.{◌≡◌};
 
-use tau_base::{Key, Value};
+use tau_base::{Key, Text64, Value};
 
 /// What a call returns in the end.
 #[derive(Clone, Debug, Drop, PartialEq, Eq)]
@@ -33,4 +33,31 @@ pub enum Want {
     Write(Key),
     /// Nothing more: it has finished.
     Finished(Reply),
+}
+
+/// Puts a reply in its place: that of a whole number without the bytes of a text.
+pub(crate) fn put_finished(place: &mut Want, reply: &Reply)
+    ensures { place.new ≡ Want.Finished reply.now }
+{
+    match reply {
+        Reply::Ok(value) => put_value(place, value),
+        Reply::Refused(step) => *place = Want::Finished(Reply::Refused(*step)),
+    }
+}
+
+fn put_value(place: &mut Want, value: &Value)
+    ensures { place.new ≡ Want.Finished (Reply.Ok value.now) }
+{
+    match value {
+        Value::Absent => *place = Want::Finished(Reply::Ok(Value::Absent)),
+        Value::Int(number) => *place = Want::Finished(Reply::Ok(Value::Int(*number))),
+        Value::Text(text) => put_text(place, text),
+    }
+}
+
+#[inline(never)]
+fn put_text(place: &mut Want, text: &Text64)
+    ensures { place.new ≡ Want.Finished (Reply.Ok (Value.Text text.now)) }
+{
+    *place = Want::Finished(Reply::Ok(Value::Text(text.copied())));
 }

@@ -8,10 +8,10 @@ ghost use Rattle.tau_proc.specs.Meaning.{begun, value_of, set_register, become, 
 ghost use Rattle.tau_proc.specs.Did.{did_of, after};
 ghost use Rattle.tau_proc.specs.Lent.{value_of_lent, number_value};
 
-use crate::lent::{Lent, lend};
+use crate::lent::{Lent, lend, lent_of, put_lent};
 use crate::step::{Compare, Operand, Step};
-use crate::values::{difference, greater, holds, joined, product, smaller, sum, value_of};
-use crate::writes::{Writes, write, written_last};
+use crate::values::{difference, greater, holds, joined, product, smaller, sum};
+use crate::writes::{Writes, forget, write, written_last};
 use arrayvec::ArrayVec;
 use std::marker::Model;
 use tau_base::{Key, MAX_STEPS, MAX_WRITES, REGISTERS, Value};
@@ -96,41 +96,49 @@ impl Running {
     }
 
     /// The reply so far.
-    pub(crate) fn reply(&self) -> Value
-        ensures { result ≡ self.now.reply }
+    pub(crate) fn reply(&self) -> &Value
+        ensures { result.now ≡ self.now.reply }
     {
-        self.reply.copied()
+        &self.reply
     }
 
     /// Forgets all writes.
     pub(crate) fn forget(&mut self)
         ensures { self.new ≡ record self.old { writes = [] } }
     {
-        self.writes.clear();
+        forget(&mut self.writes);
     }
 
-    /// A register becomes a value.
-    pub(crate) fn set_register(&mut self, into: u8, value: Value)
+    /// A register becomes a value that is lent.
+    pub(crate) fn set_register(&mut self, into: u8, value: &Lent)
         requires { IsTrue (is_register into) }
-        ensures { self.new ≡ set_register self.old into value }
+        ensures { self.new ≡ set_register self.old into (value_of_lent value.now) }
     {
-        self.registers[usize::from(into)] = value;
+        put_lent(&mut self.registers[usize::from(into)], value);
         self.touched = true;
     }
 
-    /// A row becomes a value.
-    pub(crate) fn put(&mut self, key: Key, value: Value)
+    /// A row becomes a value that is lent.
+    pub(crate) fn put(&mut self, key: Key, value: &Lent)
         requires { length self.old.writes < MAX_WRITES }
-        ensures { self.new ≡ record self.old { writes = put key_cmp key value self.old.writes } }
+        ensures { self.new ≡ record self.old { writes = put key_cmp key (value_of_lent value.now) self.old.writes } }
     {
         write(&mut self.writes, key, value);
     }
 
-    /// The value of an operand.
-    fn value_of(&self, args: &[Value], operand: &Operand) -> Value
-        ensures { result ≡ value_of args.now self.now.registers operand.now }
+    /// A row becomes the value of an operand.
+    fn put_operand(&mut self, args: &[Value], key: Key, value: &Operand)
+        requires { length self.old.writes < MAX_WRITES }
+        ensures { self.new ≡ record self.old { writes = put key_cmp key (value_of args.now self.old.registers value.now) self.old.writes } }
     {
-        value_of(args, &self.registers, operand)
+        write(&mut self.writes, key, &lend(args, &self.registers, value));
+    }
+
+    /// The reply becomes the value of an operand.
+    fn set_reply(&mut self, args: &[Value], value: &Operand)
+        ensures { self.new ≡ record self.old { reply = value_of args.now self.old.registers value.now } }
+    {
+        put_lent(&mut self.reply, &lend(args, &self.registers, value));
     }
 
     /// The value of an operand, lent.
@@ -149,7 +157,7 @@ impl Running {
         let Some(text) = text else {
             return Did::Refuses;
         };
-        self.set_register(into, text);
+        self.set_register(into, &lent_of(&text));
         Did::Goes
     }
 
@@ -162,7 +170,7 @@ impl Running {
         let Some(number) = number else {
             return Did::Refuses;
         };
-        self.set_register(into, Value::Int(number));
+        self.set_register(into, &Lent::Int(number));
         Did::Goes
     }
 
@@ -172,9 +180,22 @@ impl Running {
         ensures did { result ≡ did_of (read_at self.old into key (lookup (same_key key) self.old.writes)) }
         ensures stands { self.new ≡ after (read_at self.old into key (lookup (same_key key) self.old.writes)) self.old }
     {
+        if self.writes.is_empty() {
+            return Did::Asks(key, into);
+        }
+        self.get_written(into, key)
+    }
+
+    /// The same of a call that wrote rows.
+    #[inline(never)]
+    fn get_written(&mut self, into: u8, key: Key) -> Did
+        requires { IsTrue (is_register into) }
+        ensures did { result ≡ did_of (read_at self.old into key (lookup (same_key key) self.old.writes)) }
+        ensures stands { self.new ≡ after (read_at self.old into key (lookup (same_key key) self.old.writes)) self.old }
+    {
         match written_last(key, self.writes.as_slice()) {
             Some(value) => {
-                self.set_register(into, value);
+                self.set_register(into, &lent_of(&value));
                 Did::Goes
             }
             None => Did::Asks(key, into),
@@ -194,15 +215,15 @@ impl Running {
         }
     }
 
-    /// Writes the row that an operand names.
-    fn store_at(&mut self, args: &[Value], table: u16, row: &Operand, value: Value) -> Did
+    /// Writes the value of an operand to the row that an operand names.
+    fn store_at(&mut self, args: &[Value], table: u16, row: &Operand, value: &Operand) -> Did
         requires { length self.old.writes < MAX_WRITES }
-        ensures did { result ≡ did_of (stored self.old table (value_of args.now self.old.registers row.now) value) }
-        ensures stands { self.new ≡ after (stored self.old table (value_of args.now self.old.registers row.now) value) self.old }
+        ensures did { result ≡ did_of (stored self.old table (value_of args.now self.old.registers row.now) (value_of args.now self.old.registers value.now)) }
+        ensures stands { self.new ≡ after (stored self.old table (value_of args.now self.old.registers row.now) (value_of args.now self.old.registers value.now)) self.old }
     {
         match self.lend(args, row) {
             Lent::Int(row) => {
-                self.put(Key { table, row }, value);
+                self.put_operand(args, Key { table, row }, value);
                 Did::Goes
             }
             Lent::Absent => Did::Refuses,
@@ -261,6 +282,7 @@ impl Running {
     }
 
     /// A register becomes two texts joined.
+    #[inline(never)]
     fn join(&mut self, args: &[Value], into: u8, left: &Operand, right: &Operand) -> Did
         requires { IsTrue (is_register into) }
         ensures did { result ≡ did_of (become self.old into (joined (value_of args.now self.old.registers left.now) (value_of args.now self.old.registers right.now))) }
@@ -323,11 +345,8 @@ impl Running {
     {
         match step {
             Step::Get { into, table, row } => self.get_at(args, *into, *table, row),
-            Step::Put { table, row, value } => {
-                let value = self.value_of(args, value);
-                self.store_at(args, *table, row, value)
-            }
-            Step::Del { table, row } => self.store_at(args, *table, row, Value::Absent),
+            Step::Put { table, row, value } => self.store_at(args, *table, row, value),
+            Step::Del { table, row } => self.store_at(args, *table, row, &Operand::Absent),
             Step::Add { into, left, right } => self.add(args, *into, left, right),
             Step::Sub { into, left, right } => self.subtract(args, *into, left, right),
             Step::Mul { into, left, right } => self.multiply(args, *into, left, right),
@@ -341,7 +360,7 @@ impl Running {
             }
             Step::Done => Did::Goes,
             Step::Reply(value) => {
-                self.reply = self.value_of(args, value);
+                self.set_reply(args, value);
                 Did::Goes
             }
         }

@@ -1,31 +1,12 @@
 //! What steps make of values.
 ghost use Rattle.std.specs.Prelude.{◌≡◌, ◌+ℤ◌, ◌-ℤ◌, ◌*ℤ◌, ◌++◌, nat_le, length, Some, None, if◌then◌else◌};
 ghost use Rattle.tau_proc.specs.Lent.{value_of_lent, number_value};
-ghost use Rattle.tau_proc.specs.Meaning.{value_of, same_value, holds, computed, in_range, smaller, greater, joined, sum_with};
+ghost use Rattle.tau_proc.specs.Meaning.{same_value, holds, computed, in_range, smaller, greater, joined, sum_with};
 
 use crate::lent::Lent;
-use crate::step::{Compare, Operand};
+use crate::step::Compare;
 use arrayvec::ArrayString;
 use tau_base::{MAX_TEXT, Text64, Value};
-
-/// The value of an operand.
-pub(crate) fn value_of(args: &[Value], registers: &[Value], operand: &Operand) -> Value
-    ensures { result ≡ value_of args.now registers.now operand.now }
-{
-    match operand {
-        Operand::Register(number) => match registers.get(usize::from(*number)) {
-            Some(value) => value.copied(),
-            None => Value::Absent,
-        },
-        Operand::Argument(number) => match args.get(usize::from(*number).saturating_sub(1)) {
-            Some(value) => value.copied(),
-            None => Value::Absent,
-        },
-        Operand::Int(number) => Value::Int(*number),
-        Operand::Text(text) => Value::Text(text.copied()),
-        Operand::Absent => Value::Absent,
-    }
-}
 
 /// Whether both are of one kind with equal content.
 fn is_same(left: &Lent, right: &Lent) -> bool

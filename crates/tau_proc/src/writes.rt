@@ -1,13 +1,15 @@
 //! The buffered writes of a call, in the order of their keys.
-ghost use Rattle.std.specs.Prelude.{◌≡◌, ◌<◌, ◌≤◌, length, insert, slice_set, IfOk, IfErr};
+ghost use Rattle.std.specs.Prelude.{◌≡◌, ◌<◌, ◌≤◌, [], length, insert, slice_set, IfOk, IfErr};
 ghost use Rattle.std.specs.Map.{lookup};
 ghost use Rattle.std.specs.FinMap.{put};
 ghost use Rattle.arrayvec.specs.ArrayVec.{array_vec_len};
 ghost use Rattle.tau_base.specs.Database.{key_cmp, same_key};
+ghost use Rattle.tau_proc.specs.Lent.{value_of_lent};
 
+use crate::lent::{Lent, copied};
 use arrayvec::ArrayVec;
 use std::cmp::Ordering;
-use tau_base::{Key, MAX_WRITES, Value};
+use tau_base::{Key, MAX_WRITES, Text64, Value};
 
 /// The writes of a call.
 pub(crate) type Writes = ArrayVec<(Key, Value), MAX_WRITES>;
@@ -42,13 +44,55 @@ fn place_of(writes: &[(Key, Value)], key: Key) -> Result<usize, usize>
     Err(at)
 }
 
-/// Puts a value in its key's place, or in place of an earlier value of the key.
-pub(crate) fn write(writes: &mut Writes, key: Key, value: Value)
+/// Puts a value that is lent in its key's place, or in place of an earlier value of the key.
+pub(crate) fn write(writes: &mut Writes, key: Key, value: &Lent)
     requires { array_vec_len writes.old < MAX_WRITES }
-    ensures { writes.new.items ≡ put key_cmp key value writes.old.items }
+    ensures { writes.new.items ≡ put key_cmp key (value_of_lent value.now) writes.old.items }
 {
     match place_of(writes.as_slice(), key) {
-        Ok(at) => writes.as_mut_slice()[at] = (key, value),
-        Err(at) => writes.insert(at, (key, value)),
+        Ok(at) => overwrite(writes, at, key, value),
+        Err(at) => insert(writes, at, key, value),
     }
+}
+
+/// Puts a value in place of an earlier one, which few calls do.
+#[inline(never)]
+fn overwrite(writes: &mut Writes, at: usize, key: Key, value: &Lent)
+    requires { at < length writes.old.items }
+    ensures { writes.new.items ≡ slice_set writes.old.items at (key, value_of_lent value.now) }
+{
+    writes.as_mut_slice()[at] = (key, copied(value));
+}
+
+/// Puts a value before the one at a place. A whole number is not moved through a place of its own, a text apart.
+fn insert(writes: &mut Writes, at: usize, key: Key, value: &Lent)
+    requires there { at ≤ length writes.old.items }
+    requires room { array_vec_len writes.old < MAX_WRITES }
+    ensures { writes.new.items ≡ insert writes.old.items at (key, value_of_lent value.now) }
+{
+    match value {
+        Lent::Absent => writes.insert(at, (key, Value::Absent)),
+        Lent::Int(number) => writes.insert(at, (key, Value::Int(*number))),
+        Lent::Text(text) => insert_text(writes, at, key, text),
+    }
+}
+
+#[inline(never)]
+fn insert_text(writes: &mut Writes, at: usize, key: Key, text: &Text64)
+    requires there { at ≤ length writes.old.items }
+    requires room { array_vec_len writes.old < MAX_WRITES }
+    ensures { writes.new.items ≡ insert writes.old.items at (key, Value.Text text.now) }
+{
+    writes.insert(at, (key, Value::Text(text.copied())));
+}
+
+/// Forgets all writes. A single one is taken out in place.
+pub(crate) fn forget(writes: &mut Writes)
+    ensures { writes.new.items ≡ [] }
+{
+    if writes.len() == 1 {
+        let _only = writes.pop();
+        return;
+    }
+    writes.clear();
 }

@@ -28,4 +28,4 @@ pub returns-in-Refuses-clause-stands : goal.returns-in-Refuses-clause-stands
 returns-in-Refuses-clause-stands c = λ vs. rw c.forget.ensures (step-refuses c.args.args.now c.args.steps.now c.loop-done.done c.loop-done.running c.index-steps-done.result c.step-did.new.self c.loop-done-test.true c.index-steps-done.is c.step-did.ensures.stands (sym c.step-did.ensures.did ∙ c.in-Refuses.is) vs ∙ c.loop-done.invariant.stands vs)
 
 pub returns-clause-stands : goal.returns-clause-stands
-returns-clause-stands c = λ vs. rw c.reply.ensures (sym (stage-done c.args.args.now c.args.steps.now c.loop-done.done c.loop-done.running c.loop-done-test.false vs) ∙ c.loop-done.invariant.stands vs)
+returns-clause-stands c = λ vs. rw (c.put_end.ensures, c.reply.ensures) (sym (stage-done c.args.args.now c.args.steps.now c.loop-done.done c.loop-done.running c.loop-done-test.false vs) ∙ c.loop-done.invariant.stands vs)
