@@ -6,6 +6,7 @@ pub mod Assembling
 pub mod Calls
 pub mod Places
 pub mod Reorder
+pub mod KeptCalls
 pub mod Listings
 pub mod Logged
 pub mod ReportOrder

@@ -1,5 +1,5 @@
 -- Committed calls, as the reported history sees them.
-use Rattle.std.specs.Prelude.{ℕ, ◌≤◌, ◌<◌, Bool, List, Option, Some, None, length, map, is_some, slice_index}
+use Rattle.std.specs.Prelude.{ℕ, ◌≤◌, ◌<◌, Bool, List, Option, Some, None, length, map, is_some, slice_index, slice_set}
 use Rattle.std.specs.Option.{ForSome}
 use Rattle.tau_model.specs.declared.committed.Committed.{Committed}
 use Rattle.tau_model.specs.declared.committed.Spot.{Spot}
@@ -14,6 +14,11 @@ place_at dep (Some s) = record { stream = s.stream; start = s.start; past = s.pa
 abbrev pub place_of : Committed → Place
 place_of c = place_at c.dep c.spot
 
+-- its vector: its dep, with the component of its stream at the end of its record where it has one
+abbrev pub lv_at : List ℕ → Option Spot → List ℕ
+lv_at dep None = dep
+lv_at dep (Some s) = slice_set dep s.stream s.past
+
 abbrev pub has_record : Committed → Bool
 has_record c = is_some c.spot
 
@@ -25,5 +30,8 @@ abbrev pub reported_numbers : List ℕ → List Committed → List ℕ
 reported_numbers ends calls = map number_of (reported_of place_of has_record number_of ends calls)
 
 -- the record of the call, where it has one, is in a stream with one of these ends, and starts at or before it
+abbrev pub IsSpotWithin : List ℕ → Option Spot → Type 0
+IsSpotWithin ends spot = ForSome spot (λ s. (s.stream < length ends) × (s.start ≤ slice_index ends s.stream))
+
 abbrev pub IsWithin : List ℕ → Committed → Type 0
-IsWithin ends c = ForSome c.spot (λ s. (s.stream < length ends) × (s.start ≤ slice_index ends s.stream))
+IsWithin ends c = IsSpotWithin ends c.spot

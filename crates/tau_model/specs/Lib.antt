@@ -1,5 +1,7 @@
 pub mod Committed
+pub mod CommittedList
 pub mod History
+pub mod KeptCommitted
 pub mod Light
 pub mod Listing
 pub mod Logged

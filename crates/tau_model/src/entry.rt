@@ -1,16 +1,16 @@
 //! What the listing keeps of a call.
 ghost use Rattle.std.specs.Prelude.{◌≡◌};
 
-use crate::committed::Committed;
+use crate::committed_list::LentCall;
 use std::marker::Model;
-use tau_base::Lv;
 
 /// A call with the start of its record.
 #[derive(Drop)]
 pub(crate) struct Entry<'a> {
     /// Where its record starts; 0 for a read-only call.
     start: u64,
-    call: &'a Committed,
+    number: u64,
+    dep: &'a [u64],
 }
 
 impl<'a> Model for Entry<'a> {
@@ -18,15 +18,19 @@ impl<'a> Model for Entry<'a> {
 
     ghost Value = { Listed };
 
-    ghost view = { λ e. record { start = e.start; number = e.call.now.number; dep = e.call.now.dep } };
+    ghost view = { λ e. record { start = e.start; number = e.number; dep = e.dep.now } };
 }
 
 impl<'a> Entry<'a> {
     /// A call whose record starts here.
-    pub(crate) fn of(call: &'a Committed, start: u64) -> Entry<'a>
+    pub(crate) fn of(call: &LentCall<'a>, start: u64) -> Entry<'a>
         ensures { result ≡ record { start = start; number = call.now.number; dep = call.now.dep } }
     {
-        Entry { start, call }
+        Entry {
+            start,
+            number: call.number(),
+            dep: call.dep(),
+        }
     }
 
     /// Where its record starts.
@@ -40,13 +44,13 @@ impl<'a> Entry<'a> {
     pub(crate) fn number(&self) -> u64
         ensures { result ≡ self.now.number }
     {
-        self.call.number
+        self.number
     }
 
-    /// The call's vector.
-    pub(crate) fn dep(&self) -> &Lv
+    /// The positions of the call's vector.
+    pub(crate) fn dep(&self) -> &[u64]
         ensures { result.now ≡ self.now.dep }
     {
-        &self.call.dep
+        self.dep
     }
 }

@@ -3,6 +3,7 @@
 #![tactic(auto)]
 
 mod committed;
+mod committed_list;
 mod entry;
 mod laws;
 mod report;
@@ -11,6 +12,7 @@ mod store;
 mod tables;
 
 pub use committed::{Committed, Spot};
+pub use committed_list::{CommittedList, LentCall};
 pub use laws::{
     closed_part, covered_held, cut_closed, cut_reported, orderly_redo, reported_history,
     same_conflicts,

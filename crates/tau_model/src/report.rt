@@ -5,10 +5,11 @@ ghost use Rattle.std.specs.Vec.{vec_items};
 ghost use Rattle.std.specs.VecDeque.{deque_items};
 ghost use Rattle.tau_base.specs.Vectors.{AtMost};
 ghost use Rattle.tau_model.specs.Reported.{ascending, each, emitted, in_stream, next_start, take_record};
-ghost use Rattle.tau_model.specs.Committed.{IsWithin, has_record, place_of, reported_numbers};
+ghost use Rattle.tau_model.specs.Committed.{IsSpotWithin, IsWithin, has_record, place_of, reported_numbers};
 ghost use Rattle.tau_model.specs.Listing.{AreListed, AreQueues, IsListing, bucket, AreRising, IsListed, IsNext, covered_by, entry_number, entry_of, entry_place, entry_start, first_passes, slot_of, woven};
 
-use crate::committed::Committed;
+use crate::committed::Spot;
+use crate::committed_list::CommittedList;
 use crate::entry::Entry;
 use std::alloc::Global;
 use std::collections::VecDeque;
@@ -23,9 +24,9 @@ struct Listing {
 }
 
 /// The numbers of committed calls, given in any order, in the order of their reported history. `ends` has the ends of the streams.
-pub fn reported(alloc: Global, ends: &Lv, list: &[Committed]) -> Result<Vec<u64>, NoMemory>
-    requires { All (IsWithin ends.now) list.now }
-    ensures { IfOk result (λ numbers. numbers.items ≡ reported_numbers ends.now list.now) }
+pub fn reported(alloc: Global, ends: &Lv, list: &CommittedList) -> Result<Vec<u64>, NoMemory>
+    requires { All (IsWithin ends.now) list.now.items }
+    ensures { IfOk result (λ numbers. numbers.items ≡ reported_numbers ends.now list.now.items) }
 {
     let readers = readers_of(alloc, list)?;
     let mut streams = streams_of(alloc, ends.width(), list)?;
@@ -38,22 +39,23 @@ pub fn reported(alloc: Global, ends: &Lv, list: &[Committed]) -> Result<Vec<u64>
 }
 
 /// Whether the record of each of these calls is in a stream with one of these ends, and starts at or before it.
-pub fn are_within(ends: &Lv, list: &[Committed]) -> bool
-    ensures { IsTrue result ↔ All (IsWithin ends.now) list.now }
+pub fn are_within(ends: &Lv, list: &CommittedList) -> bool
+    ensures { IsTrue result ↔ All (IsWithin ends.now) list.now.items }
 {
-    for call in list {
-        if !is_within(ends, call) {
+    for i in 0..list.len() {
+        let call = list.at(i);
+        if !is_within(ends, call.spot()) {
             return false;
         }
     }
     true
 }
 
-/// The same of one call.
-fn is_within(ends: &Lv, call: &Committed) -> bool
-    ensures { IsTrue result ↔ IsWithin ends.now call.now }
+/// The same of the place of one record.
+fn is_within(ends: &Lv, spot: Option<Spot>) -> bool
+    ensures { IsTrue result ↔ IsSpotWithin ends.now spot }
 {
-    match call.spot {
+    match spot {
         Some(spot) => {
             let stream = usize::from(spot.stream);
             stream < ends.width() && spot.start <= ends.get(stream)
@@ -83,13 +85,14 @@ fn sort_by_start(entries: &mut Vec<Entry<'_>>) -> Result<(), NoMemory>
 }
 
 /// The read-only calls in ascending order of their numbers.
-fn readers_of<'a>(alloc: Global, list: &'a [Committed]) -> Result<Vec<Entry<'a>>, NoMemory>
-    ensures { IfOk result (λ readers. readers.items ≡ ascending entry_number (map entry_of (filter (λ c. not (has_record c)) list.now))) }
+fn readers_of<'a>(alloc: Global, list: &'a CommittedList) -> Result<Vec<Entry<'a>>, NoMemory>
+    ensures { IfOk result (λ readers. readers.items ≡ ascending entry_number (map entry_of (filter (λ c. not (has_record c)) list.now.items))) }
 {
     let mut readers = Vec::new(alloc);
-    for call in list {
-        if call.spot.is_none() {
-            readers.push(Entry::of(call, 0)).map_err(|_| NoMemory)?;
+    for i in 0..list.len() {
+        let call = list.at(i);
+        if call.spot().is_none() {
+            readers.push(Entry::of(&call, 0)).map_err(|_| NoMemory)?;
         }
     }
     sort_by_number(&mut readers)?;
@@ -100,16 +103,17 @@ fn readers_of<'a>(alloc: Global, list: &'a [Committed]) -> Result<Vec<Entry<'a>>
 fn records_of<'a>(
     alloc: Global,
     stream: usize,
-    list: &'a [Committed],
+    list: &'a CommittedList,
 ) -> Result<Vec<Entry<'a>>, NoMemory>
-    ensures { IfOk result (λ records. records.items ≡ ascending entry_start (map entry_of (filter (in_stream place_of has_record stream) list.now))) }
+    ensures { IfOk result (λ records. records.items ≡ ascending entry_start (map entry_of (filter (in_stream place_of has_record stream) list.now.items))) }
 {
     let mut records = Vec::new(alloc);
-    for call in list {
-        if let Some(spot) = call.spot
+    for i in 0..list.len() {
+        let call = list.at(i);
+        if let Some(spot) = call.spot()
             && usize::from(spot.stream) == stream
         {
-            let entry = Entry::of(call, spot.start);
+            let entry = Entry::of(&call, spot.start);
             records.push(entry).map_err(|_| NoMemory)?;
         }
     }
@@ -121,9 +125,9 @@ fn records_of<'a>(
 fn streams_of<'a>(
     alloc: Global,
     count: usize,
-    list: &'a [Committed],
+    list: &'a CommittedList,
 ) -> Result<Vec<VecDeque<Entry<'a>>>, NoMemory>
-    ensures { IfOk result (λ streams. map deque_items streams.items ≡ each count (λ j. ascending entry_start (map entry_of (filter (in_stream place_of has_record j) list.now)))) }
+    ensures { IfOk result (λ streams. map deque_items streams.items ≡ each count (λ j. ascending entry_start (map entry_of (filter (in_stream place_of has_record j) list.now.items)))) }
 {
     let mut streams = Vec::new(alloc);
     for j in 0..count {
@@ -160,7 +164,7 @@ fn is_next_covered(stream: &VecDeque<Entry<'_>>, reach: &Lv) -> bool
     ensures { result ≡ first_passes (covered_by reach.now) stream.now.items }
 {
     match stream.front() {
-        Some(entry) => reach.covers(entry.dep()),
+        Some(entry) => reach.covers_all(entry.dep()),
         None => false,
     }
 }
@@ -231,7 +235,7 @@ fn listing_of(
 }
 
 /// The first of these vectors that covers the dep, or their count.
-fn slot_of(reached: &[Lv], dep: &Lv) -> usize
+fn slot_of(reached: &[Lv], dep: &[u64]) -> usize
     requires { AreRising reached.now }
     ensures { result ≡ slot_of reached.now dep.now }
 {
@@ -239,7 +243,7 @@ fn slot_of(reached: &[Lv], dep: &Lv) -> usize
     let mut high = reached.len();
     while low < high {
         let middle = low + (high - low) / 2;
-        if reached[middle].covers(dep) {
+        if reached[middle].covers_all(dep) {
             high = middle;
         } else {
             low = middle + 1;

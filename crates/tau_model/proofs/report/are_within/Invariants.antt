@@ -4,5 +4,5 @@ use Rattle.std.specs.List.{All}
 use Rattle.tau_model.specs.Committed.{IsWithin}
 use Rattle.tau_model.proofs.report.are_within.Given as goal
 
-abbrev pub invariant-loop-call : goal.invariant-loop-call
-invariant-loop-call l = All (IsWithin l.ends) (take l.call-index l.list)
+abbrev pub invariant-loop-i : goal.invariant-loop-i
+invariant-loop-i l = All (IsWithin l.ends) (take l.i l.list.items)

@@ -6,5 +6,5 @@ use Rattle.tau_model.specs.Committed.{has_record}
 use Rattle.tau_model.specs.Listing.{entry_of}
 use Rattle.tau_model.proofs.report.readers_of.Given as goal
 
-abbrev pub invariant-loop-call : goal.invariant-loop-call
-invariant-loop-call l = l.readers.items ≡ map entry_of (filter (λ c. not (has_record c)) (take l.call-index l.list))
+abbrev pub invariant-loop-i : goal.invariant-loop-i
+invariant-loop-i l = l.readers.items ≡ map entry_of (filter (λ c. not (has_record c)) (take l.i l.list.items))

@@ -6,5 +6,5 @@ use Rattle.tau_model.specs.Committed.{has_record, place_of}
 use Rattle.tau_model.specs.Listing.{entry_of}
 use Rattle.tau_model.proofs.report.records_of.Given as goal
 
-abbrev pub invariant-loop-call : goal.invariant-loop-call
-invariant-loop-call l = l.records.items ≡ map entry_of (filter (in_stream place_of has_record l.stream) (take l.call-index l.list))
+abbrev pub invariant-loop-i : goal.invariant-loop-i
+invariant-loop-i l = l.records.items ≡ map entry_of (filter (in_stream place_of has_record l.stream) (take l.i l.list.items))

@@ -8,4 +8,4 @@ use Rattle.tau_model.specs.Listing.{entry_of, entry_start}
 use Rattle.tau_model.proofs.report.streams_of.Given as goal
 
 abbrev pub invariant-loop-j : goal.invariant-loop-j
-invariant-loop-j l = map deque_items l.streams.items ≡ each l.j (λ j. ascending entry_start (map entry_of (filter (in_stream place_of has_record j) l.list)))
+invariant-loop-j l = map deque_items l.streams.items ≡ each l.j (λ j. ascending entry_start (map entry_of (filter (in_stream place_of has_record j) l.list.items)))
