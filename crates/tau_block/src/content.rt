@@ -34,10 +34,7 @@ pub fn contents_of(alloc: Global, image: &[u8], j: u16) -> Result<Content, Image
             gate_at: HEADER as u64,
         });
     }
-    let count = match count_of_header(&image[..HEADER], j) {
-        Ok(count) => count,
-        Err(fault) => return Err(ImageRefusal::Bad(fault)),
-    };
+    let count = count_of_header(&image[..HEADER], j)?;
     let (bytes, gate_at) = blocks_of(alloc, image)?;
     Ok(Content {
         count: Some(count),
@@ -54,19 +51,11 @@ fn blocks_of(alloc: Global, image: &[u8]) -> Result<(Vec<u8>, usize), ImageRefus
     ensures bad { IfErr result (λ r. (f : _) → r ≡ ImageRefusal.Bad f → (f ≡ ImageFault.OpenGateWithoutBlock) × (bodies 0 (drop 16 image.now) ≡ None)) }
 {
     let mut bytes = Vec::new(alloc);
-    if bytes.reserve(image.len()).is_err() {
-        return Err(ImageRefusal::NoMemory);
-    }
+    bytes.reserve(image.len())?;
     let mut gate_at = HEADER;
     while image[gate_at] == 1 {
-        let body = match body_at(image, gate_at + 1) {
-            Ok(body) => body,
-            Err(fault) => return Err(ImageRefusal::Bad(fault)),
-        };
-        match bytes.extend_from_slice(body) {
-            Ok(()) => {}
-            Err(_) => return Err(ImageRefusal::NoMemory),
-        }
+        let body = body_at(image, gate_at + 1)?;
+        bytes.extend_from_slice(body)?;
         gate_at += 5 + body.len();
     }
     Ok((bytes, gate_at))

@@ -1,4 +1,8 @@
 // Why an image has no content.
+ghost use Rattle.std.specs.Prelude.{◌≡◌};
+ghost use Rattle.tau_block.specs.declared.fault.ImageRefusal.TheVariants.{Bad, NoMemory};
+
+use std::alloc::AllocError;
 use thiserror::Error;
 
 /// Why an image holds no log. The numbers are those of reports.
@@ -25,4 +29,20 @@ pub enum ImageRefusal {
     NoMemory,
     #[error(transparent)]
     Bad(ImageFault),
+}
+
+impl From<AllocError> for ImageRefusal {
+    ghost from_gives = { λ _ refusal. refusal ≡ NoMemory };
+
+    fn from(_e: AllocError) -> ImageRefusal {
+        ImageRefusal::NoMemory
+    }
+}
+
+impl From<ImageFault> for ImageRefusal {
+    ghost from_gives = { λ fault refusal. refusal ≡ Bad fault };
+
+    fn from(fault: ImageFault) -> ImageRefusal {
+        ImageRefusal::Bad(fault)
+    }
 }

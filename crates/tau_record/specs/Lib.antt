@@ -4,3 +4,5 @@ pub mod Format
 pub mod Item
 pub mod Record
 pub mod Vector
+pub mod KeptWrites
+pub mod KeptLv

@@ -8,12 +8,14 @@ ghost use Rattle.tau_record.specs.declared.entry.Placed.{Placed};
 ghost use Rattle.tau_record.specs.declared.fault.RecordFault.{RecordFault};
 ghost use Rattle.tau_record.specs.declared.fault.RecordRefusal.TheVariants.{Bad};
 
+use crate::dep::KeptLv;
 use crate::entry::{Entry, Placed};
 use crate::fault::{FieldError, RecordCause, RecordRefusal, refusal_at};
 use crate::record::{command_of, frame_of, is_whole, lv_of, written_of};
+use crate::writes::KeptWrites;
 use arrayvec::ArrayVec;
 use std::alloc::Global;
-use tau_base::{Call, KeptCall, Listed, Lv, MAX_CATALOGUE};
+use tau_base::{Call, KeptCall, Key, Listed, Lv, MAX_CATALOGUE, Value};
 
 /// Puts a data record after those before it.
 fn put_written(
@@ -23,20 +25,23 @@ fn put_written(
     start: u64,
     past: u64,
     placed: &mut Vec<Placed>,
+    writes: &mut Vec<(Key, Value)>,
 ) -> Result<(), FieldError>
     ensures { Gives (λ _. (placed.new.items, vectors.now)) result (puts (written_at One vectors.now fields.now) vectors.now placed.old.items start past) }
 {
     let mut dep = Lv::zero(1);
-    let (number, anchor, writes, rest) = written_of(alloc, vectors, fields, &mut dep)?;
+    let (number, anchor, rest) = written_of(vectors, fields, &mut dep, writes)?;
     if !is_whole(rest) {
         return Err(FieldError::Bad(RecordCause::BadLength));
     }
+    let dep = KeptLv::of(alloc, &dep)?;
+    let writes = KeptWrites::of(alloc, writes.as_slice())?;
     placed.push(Placed {
         entry: Entry::Written {
             number,
             anchor,
             dep,
-            writes: Listed::of(writes),
+            writes,
         },
         start,
         past,
@@ -65,9 +70,8 @@ fn put_command(
         return Err(FieldError::Bad(RecordCause::BadLength));
     }
     call.proc = proc;
-    let Ok(call) = KeptCall::of(alloc, &call) else {
-        return Err(FieldError::Memory);
-    };
+    let dep = KeptLv::of(alloc, &dep)?;
+    let call = KeptCall::of(alloc, &call)?;
     placed.push(Placed {
         entry: Entry::Command {
             number,
@@ -83,6 +87,7 @@ fn put_command(
 
 /// Puts an anchor after the records before it, and gives it the next number.
 fn put_anchor(
+    alloc: Global,
     n: usize,
     fields: &[u8],
     start: u64,
@@ -100,9 +105,10 @@ fn put_anchor(
             if !is_whole(rest) {
                 return Err(FieldError::Bad(RecordCause::BadLength));
             }
+            let kept = KeptLv::of(alloc, &lv)?;
             vectors.push(lv)?;
             placed.push(Placed {
-                entry: Entry::Anchor { lv },
+                entry: Entry::Anchor { lv: kept },
                 start,
                 past,
             })?;
@@ -122,19 +128,28 @@ fn put_fields(
     past: u64,
     vectors: &mut Vec<Lv>,
     placed: &mut Vec<Placed>,
+    writes: &mut Vec<(Key, Value)>,
 ) -> Result<(), FieldError>
     requires low { 1 ≤ n }
     requires high { n ≤ most_streams One }
     ensures { Gives (λ _. (placed.new.items, vectors.new.items)) result (puts (fields_at One n vectors.old.items kind fields.now) vectors.old.items placed.old.items start past) }
 {
     if kind == 1 {
-        return put_written(alloc, vectors.as_slice(), fields, start, past, placed);
+        return put_written(
+            alloc,
+            vectors.as_slice(),
+            fields,
+            start,
+            past,
+            placed,
+            writes,
+        );
     }
     if kind == 2 {
         return put_command(alloc, vectors.as_slice(), fields, start, past, placed);
     }
     if kind == 3 {
-        return put_anchor(n, fields, start, past, vectors, placed);
+        return put_anchor(alloc, n, fields, start, past, vectors, placed);
     }
     if fields.len() > MAX_CATALOGUE {
         return Err(FieldError::Bad(RecordCause::BadBody));
@@ -159,6 +174,7 @@ fn put_record<'a>(
     bytes: &'a [u8],
     vectors: &mut Vec<Lv>,
     placed: &mut Vec<Placed>,
+    writes: &mut Vec<(Key, Value)>,
 ) -> Result<&'a [u8], FieldError>
     requires low { 1 ≤ n }
     requires high { n ≤ most_streams One }
@@ -167,7 +183,7 @@ fn put_record<'a>(
 {
     let (kind, fields, after) = frame_of(at == 0, bytes)?;
     let past = at + (bytes.len() - after.len()) as u64;
-    put_fields(alloc, n, kind, fields, at, past, vectors, placed)?;
+    put_fields(alloc, n, kind, fields, at, past, vectors, placed, writes)?;
     Ok(after)
 }
 
@@ -179,13 +195,14 @@ fn records(alloc: Global, n: usize, content: &[u8]) -> Result<Vec<Placed>, Recor
     let mut vectors = Vec::new(alloc);
     vectors.push(Lv::zero(n))?;
     let mut placed = Vec::new(alloc);
+    let mut writes = Vec::new(alloc);
     let mut at: u64 = 0;
     let mut rest = content;
     for _ in 0..content.len() {
         if rest.is_empty() {
             return Ok(placed);
         }
-        match put_record(alloc, n, at, rest, &mut vectors, &mut placed) {
+        match put_record(alloc, n, at, rest, &mut vectors, &mut placed, &mut writes) {
             Err(e) => return Err(refusal_at(at, e)),
             Ok(after) => {
                 let past = at + (rest.len() - after.len()) as u64;

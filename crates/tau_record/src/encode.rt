@@ -89,10 +89,7 @@ pub fn encode_written(
     ensures { IfOk result (λ v. (vectors : List (List ℕ)) → base_of vectors anchor_number ≡ anchor.now →
         Spells One (length dep.now) vectors false (Written number anchor_number dep.now writes.now) v.items) }
 {
-    match written_bytes(alloc, number, anchor_number, dep, anchor, writes) {
-        Ok(bytes) => Ok(bytes),
-        Err(_) => Err(NoMemory),
-    }
+    Ok(written_bytes(alloc, number, anchor_number, dep, anchor, writes)?)
 }
 
 fn command_bytes(
@@ -137,10 +134,7 @@ pub fn encode_command(
     ensures { IfOk result (λ v. (vectors : List (List ℕ)) → base_of vectors anchor_number ≡ anchor.now →
         Spells One (length dep.now) vectors false (Command number anchor_number dep.now call.now) v.items) }
 {
-    match command_bytes(alloc, number, anchor_number, dep, anchor, call) {
-        Ok(bytes) => Ok(bytes),
-        Err(_) => Err(NoMemory),
-    }
+    Ok(command_bytes(alloc, number, anchor_number, dep, anchor, call)?)
 }
 
 fn anchor_bytes(alloc: Global, lv: &Lv) -> Result<Vec<u8>, AllocError>
@@ -156,10 +150,7 @@ pub fn encode_anchor(alloc: Global, lv: &Lv) -> Result<Vec<u8>, NoMemory>
     // The one spelling, after any anchors.
     ensures { IfOk result (λ v. (vectors : List (List ℕ)) → Spells One (length lv.now) vectors false (Anchor lv.now) v.items) }
 {
-    match anchor_bytes(alloc, lv) {
-        Ok(bytes) => Ok(bytes),
-        Err(_) => Err(NoMemory),
-    }
+    Ok(anchor_bytes(alloc, lv)?)
 }
 
 fn catalogue_bytes(alloc: Global, text: &[u8]) -> Result<Vec<u8>, AllocError>
@@ -177,8 +168,5 @@ pub fn encode_catalogue(alloc: Global, text: &[u8]) -> Result<Vec<u8>, NoMemory>
     // The one spelling, of the first record.
     ensures { IfOk result (λ v. (n : ℕ) (vectors : List (List ℕ)) → Spells One n vectors true (Catalogue text.now) v.items) }
 {
-    match catalogue_bytes(alloc, text) {
-        Ok(bytes) => Ok(bytes),
-        Err(_) => Err(NoMemory),
-    }
+    Ok(catalogue_bytes(alloc, text)?)
 }

@@ -1,5 +1,7 @@
 //! Records as values.
-use tau_base::{KeptCall, Key, Listed, Lv, Value};
+use crate::dep::KeptLv;
+use crate::writes::KeptWrites;
+use tau_base::{KeptCall, Listed};
 
 /// A record of a log stream.
 #[derive(Debug, Drop)]
@@ -11,9 +13,9 @@ pub enum Entry {
         /// Which anchor of the stream its vector is written above: from 1, or 0 for the zero vector.
         anchor: u32,
         /// The call's dependence vector, without its own record.
-        dep: Lv,
+        dep: KeptLv,
         /// 1 to 64 writes, whose keys strictly rise.
-        writes: Listed<(Key, Value)>,
+        writes: KeptWrites,
     },
     /// A call, to be executed again.
     Command {
@@ -22,14 +24,14 @@ pub enum Entry {
         /// Which anchor of the stream its vector is written above: from 1, or 0 for the zero vector.
         anchor: u32,
         /// The call's dependence vector, without its own record.
-        dep: Lv,
+        dep: KeptLv,
         /// The call.
         call: KeptCall,
     },
     /// A vector that later records of the stream may be written above.
     Anchor {
         /// The vector.
-        lv: Lv,
+        lv: KeptLv,
     },
     /// The declarations: the first record of a stream, and no other.
     Catalogue {

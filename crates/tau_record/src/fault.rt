@@ -5,6 +5,7 @@ ghost use Rattle.tau_record.specs.declared.fault.FieldError.TheVariants.{Memory}
 ghost use Rattle.tau_record.specs.declared.fault.RecordRefusal.TheVariants.{NoMemory};
 
 use std::alloc::{AllocError, AllocFailed};
+use tau_base::NoMemory;
 use thiserror::Error;
 
 /// What is wrong with a record: the first fault in the order of its fields. The numbers are those of reports.
@@ -72,6 +73,14 @@ impl<T: Drop> From<AllocFailed<T>> for FieldError {
     ghost from_gives = { λ _ e. e ≡ Memory };
 
     fn from(_e: AllocFailed<T>) -> FieldError {
+        FieldError::Memory
+    }
+}
+
+impl From<NoMemory> for FieldError {
+    ghost from_gives = { λ _ e. e ≡ Memory };
+
+    fn from(_e: NoMemory) -> FieldError {
         FieldError::Memory
     }
 }

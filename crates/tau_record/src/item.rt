@@ -8,7 +8,7 @@ ghost use Rattle.tau_record.specs.Item.{value, FitsValue, key, FitsKey, write, F
 use crate::fault::{FieldError, RecordCause};
 use crate::field::{u16_of, u64_of};
 use arrayvec::ArrayVec;
-use std::alloc::{AllocError, Global};
+use std::alloc::AllocError;
 use std::str;
 use tau_base::{Key, MAX_ARGS, MAX_TEXT, Text64, Value};
 
@@ -95,14 +95,15 @@ fn write_of(last: Option<Key>, bytes: &[u8]) -> Result<((Key, Value), &[u8]), Fi
     Ok(((key, value), rest))
 }
 
-pub(crate) fn writes_of(
-    alloc: Global,
+/// Reads so many writes into an empty list.
+pub(crate) fn writes_of<'a>(
     count: u16,
-    bytes: &[u8],
-) -> Result<(Vec<(Key, Value)>, &[u8]), FieldError>
-    ensures { Gives (λ x. (x.0.items, x.1.now)) result (writes_at count None bytes.now) }
+    bytes: &'a [u8],
+    writes: &mut Vec<(Key, Value)>,
+) -> Result<&'a [u8], FieldError>
+    requires { writes.old.items ≡ [] }
+    ensures { Gives (λ x. (writes.new.items, x.now)) result (writes_at count None bytes.now) }
 {
-    let mut writes = Vec::with_capacity(alloc, count as usize)?;
     let mut rest = bytes;
     let mut last = None;
     for _ in 0..count {
@@ -112,7 +113,7 @@ pub(crate) fn writes_of(
         last = Some(key);
         rest = after;
     }
-    Ok((writes, rest))
+    Ok(rest)
 }
 
 /// Reads the arguments of a call into `args`.

@@ -2,6 +2,7 @@
 #![tactic(auto)]
 
 mod content;
+mod dep;
 mod encode;
 mod entry;
 mod fault;
@@ -10,8 +11,10 @@ mod item;
 mod laws;
 mod record;
 mod vector;
+mod writes;
 
 pub use content::decode;
+pub use dep::KeptLv;
 pub use encode::{encode_anchor, encode_catalogue, encode_command, encode_written};
 pub use entry::{Entry, Placed};
 pub use fault::{RecordCause, RecordFault, RecordRefusal};
@@ -21,3 +24,4 @@ pub use laws::{
     record_in_place,
 };
 pub use vector::{compress, raise};
+pub use writes::{KeptWrites, LentWrites};

@@ -11,7 +11,6 @@ use crate::field::{byte_of, u16_of, u32_of, u64_of};
 use crate::item::{args_of, writes_of};
 use crate::vector::vector_of;
 use arrayvec::ArrayVec;
-use std::alloc::Global;
 use tau_base::{Key, Lv, MAX_ARGS, MAX_LSN, MAX_WRITES, Value};
 
 /// The number of a record's call and that of its anchor. Its vector goes into `dep`.
@@ -35,15 +34,15 @@ fn origin_of<'a>(
     Ok((number, anchor, rest))
 }
 
-/// The fields of a data record but its vector, which goes into `dep`.
+/// The fields of a data record but its vector, which goes into `dep`, and its writes, which go into `writes`.
 #[tactic(auto, unfolding(crate::specs::Record::written_at))]
 pub(crate) fn written_of<'a>(
-    alloc: Global,
     vectors: &[Lv],
     bytes: &'a [u8],
     dep: &mut Lv,
-) -> Result<(u64, u32, Vec<(Key, Value)>, &'a [u8]), FieldError>
-    ensures { Gives (λ x. (Written x.0 x.1 dep.new x.2.items, x.3.now)) result (written_at One vectors.now bytes.now) }
+    writes: &mut Vec<(Key, Value)>,
+) -> Result<(u64, u32, &'a [u8]), FieldError>
+    ensures { Gives (λ x. (Written x.0 x.1 dep.new writes.new.items, x.2.now)) result (written_at One vectors.now bytes.now) }
 {
     let (number, anchor, rest) = origin_of(vectors, bytes, dep)?;
     let (count, rest) = u16_of(rest)?;
@@ -53,8 +52,9 @@ pub(crate) fn written_of<'a>(
     if count as usize > MAX_WRITES {
         return Err(FieldError::Bad(RecordCause::BadBody));
     }
-    let (writes, rest) = writes_of(alloc, count, rest)?;
-    Ok((number, anchor, writes, rest))
+    writes.clear();
+    let rest = writes_of(count, rest, writes)?;
+    Ok((number, anchor, rest))
 }
 
 /// The fields of a command record but its vector, which goes into `dep`, and its arguments, which go into `args`.

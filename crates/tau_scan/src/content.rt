@@ -44,10 +44,7 @@ pub fn contents_in(alloc: Global, images: &[Listed<u8>]) -> Result<Listed<Listed
     let mut contents = Listed::new(alloc);
     for (j, image) in images.iter().enumerate() {
         let content = content_in(alloc, image.as_slice(), n, j as u8)?;
-        match contents.push(content) {
-            Ok(()) => {}
-            Err(_) => return Err(LogRefusal::NoMemory),
-        }
+        contents.push(content)?;
     }
     Ok(contents)
 }

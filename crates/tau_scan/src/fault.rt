@@ -1,4 +1,10 @@
 //! Why there is no log, or none that can be redone.
+ghost use Rattle.std.specs.Prelude.{◌≡◌};
+ghost use Rattle.tau_scan.specs.declared.fault.LogRefusal.TheVariants as log;
+ghost use Rattle.tau_scan.specs.declared.fault.ReadRefusal.TheVariants as disks;
+
+use std::alloc::AllocFailed;
+use tau_base::NoMemory;
 use tau_block::ImageFault;
 use tau_record::RecordFault;
 use thiserror::Error;
@@ -98,4 +104,44 @@ pub(crate) enum LogRefusal {
     NoMemory,
     /// The first cause.
     Bad(LogFault),
+}
+
+impl From<NoMemory> for ReadRefusal {
+    ghost from_gives = { λ _ e. e ≡ disks.NoMemory };
+
+    fn from(_e: NoMemory) -> ReadRefusal {
+        ReadRefusal::NoMemory
+    }
+}
+
+impl<T: Drop> From<AllocFailed<T>> for ReadRefusal {
+    ghost from_gives = { λ _ e. e ≡ disks.NoMemory };
+
+    fn from(_e: AllocFailed<T>) -> ReadRefusal {
+        ReadRefusal::NoMemory
+    }
+}
+
+impl From<NoMemory> for LogRefusal {
+    ghost from_gives = { λ _ e. e ≡ log.NoMemory };
+
+    fn from(_e: NoMemory) -> LogRefusal {
+        LogRefusal::NoMemory
+    }
+}
+
+impl<T: Drop> From<AllocFailed<T>> for LogRefusal {
+    ghost from_gives = { λ _ e. e ≡ log.NoMemory };
+
+    fn from(_e: AllocFailed<T>) -> LogRefusal {
+        LogRefusal::NoMemory
+    }
+}
+
+impl From<LogFault> for LogRefusal {
+    ghost from_gives = { λ fault e. e ≡ log.Bad fault };
+
+    fn from(fault: LogFault) -> LogRefusal {
+        LogRefusal::Bad(fault)
+    }
 }

@@ -38,8 +38,8 @@ fn is_taken(elv: &Lv, entry: &Entry) -> bool
     ensures { result ≡ is_taken_by elv.now entry.now }
 {
     match entry {
-        Entry::Written { dep, .. } => elv.covers(dep),
-        Entry::Command { dep, .. } => elv.covers(dep),
+        Entry::Written { dep, .. } => elv.covers_all(dep.as_slice()),
+        Entry::Command { dep, .. } => elv.covers_all(dep.as_slice()),
         Entry::Anchor { .. } => false,
         Entry::Catalogue { .. } => false,
     }

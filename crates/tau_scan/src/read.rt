@@ -23,10 +23,7 @@ fn read_image<D: Disk>(alloc: Global, disk: &mut D, stream: u8) -> Result<Vec<u8
         Ok(length) => length,
         Err(_) => return Err(ReadRefusal::Failed { stream }),
     };
-    let mut image = match zeros(alloc, length as usize) {
-        Ok(image) => image,
-        Err(_) => return Err(ReadRefusal::NoMemory),
-    };
+    let mut image = zeros(alloc, length as usize)?;
     match disk.read_at(0, &mut image) {
         Ok(()) => Ok(image),
         Err(_) => Err(ReadRefusal::Failed { stream }),
@@ -37,10 +34,7 @@ fn read_image<D: Disk>(alloc: Global, disk: &mut D, stream: u8) -> Result<Vec<u8
 fn zeros(alloc: Global, n: usize) -> Result<Vec<u8>, NoMemory>
     ensures { IfOk result (λ v. length v.items ≡ n) }
 {
-    match vec![in alloc; 0u8; n] {
-        Ok(bytes) => Ok(bytes),
-        Err(_) => Err(NoMemory),
-    }
+    Ok(vec![in alloc; 0u8; n]?)
 }
 
 /// The images of all streams. The lowest disk that fails ends the reading.
@@ -59,10 +53,7 @@ pub fn read_images<D: Disk>(
     let mut images = Listed::new(alloc);
     for j in 0..disks.len() {
         let image = read_image(alloc, &mut disks[j], j as u8)?;
-        match images.push(Listed::of(image)) {
-            Ok(()) => {}
-            Err(_) => return Err(ReadRefusal::NoMemory),
-        }
+        images.push(Listed::of(image))?;
     }
     Ok(images)
 }

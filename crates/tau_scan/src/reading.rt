@@ -52,10 +52,7 @@ fn streams_in(alloc: Global, contents: &[Listed<u8>]) -> Result<Listed<Listed<Pl
     let mut streams = Listed::new(alloc);
     for (j, content) in contents.iter().enumerate() {
         let records = stream_in(alloc, n, j as u8, content.as_slice())?;
-        match streams.push(records) {
-            Ok(()) => {}
-            Err(_) => return Err(LogRefusal::NoMemory),
-        }
+        streams.push(records)?;
     }
     Ok(streams)
 }
@@ -66,13 +63,9 @@ fn declarations_of(alloc: Global, streams: &[Listed<Placed>]) -> Result<Declarat
     requires short { All (λ ps. IsShort (catalogue_of ps)) streams.now }
     ensures { Found result (declared_in streams.now) }
 {
-    match one_catalogue(streams) {
-        Err(fault) => Err(LogRefusal::Bad(fault)),
-        Ok(None) => Ok(none_declared(alloc)),
-        Ok(Some(text)) => match declarations_in(alloc, text) {
-            Ok(declarations) => Ok(declarations),
-            Err(_) => Err(LogRefusal::NoMemory),
-        },
+    match one_catalogue(streams)? {
+        None => Ok(none_declared(alloc)),
+        Some(text) => Ok(declarations_in(alloc, text)?),
     }
 }
 

@@ -1,5 +1,6 @@
 //! The records of a stream, judged by its declarations.
-ghost use Rattle.std.specs.Prelude.{◌≡◌, ◌≤◌, List, length, Err, None, Some, IsNone, is_ok, IfOk, IfSome};
+ghost use Rattle.std.specs.Prelude.{◌≡◌, ◌≤◌, ◌&&◌, List, length, Err, None, Some, IsNone, is_ok, IfOk, IfSome};
+ghost use Rattle.tau_proc.specs.Takes.{takes};
 ghost use Rattle.std.specs.List.{list_all};
 ghost use Rattle.tau_record.specs.Content.{FirstBad, content_at};
 ghost use Rattle.tau_record.specs.declared.entry.Placed.{Placed};
@@ -9,7 +10,7 @@ ghost use Rattle.tau_scan.specs.Reading.{text_of, catalogue_of, declared_by, or_
 ghost use Rattle.tau_scan.specs.Found.{Judged, IsShort};
 
 use std::alloc::Global;
-use tau_base::{Call, Key, Listed, NoMemory, Value};
+use tau_base::{Call, KeptCall, Key, Listed, NoMemory, Value};
 use tau_proc::{FIRST_DECLARED, Procs};
 use tau_record::{Entry, Placed, RecordCause, RecordFault, RecordRefusal, decode};
 use tau_text::{Declarations, TextRefusal, parse_declarations};
@@ -111,16 +112,22 @@ fn have_tables(declarations: &Declarations, writes: &[(Key, Value)]) -> bool
         .all(|(key, _)| usize::from(key.table) < tables)
 }
 
+/// Whether what a call names is declared. It lays a place for a whole call, which data records do without.
+#[inline(never)]
+fn is_declared_call(declarations: &Declarations, kept: &KeptCall) -> bool
+    ensures { result ≡ (takes declarations.now.procs kept.now && is_of_table declarations.now kept.now) }
+{
+    let call = kept.call();
+    declarations.procs.takes(&call) && is_of_table(declarations, &call)
+}
+
 /// Whether what the record names is declared.
 fn is_declared(alloc: Global, declarations: &Declarations, entry: &Entry) -> Result<bool, NoMemory>
     ensures { IfOk result (λ b. b ≡ is_declared declarations.now entry.now) }
 {
     match entry {
-        Entry::Written { writes, .. } => Ok(have_tables(declarations, writes.as_slice())),
-        Entry::Command { call, .. } => {
-            let call = call.call();
-            Ok(declarations.procs.takes(&call) && is_of_table(declarations, &call))
-        }
+        Entry::Written { writes, .. } => { Ok(have_tables(declarations, writes.lent().as_slice())) }
+        Entry::Command { call, .. } => Ok(is_declared_call(declarations, call)),
         Entry::Anchor { .. } => Ok(true),
         Entry::Catalogue { text } => is_canonical(alloc, text.as_slice()),
     }

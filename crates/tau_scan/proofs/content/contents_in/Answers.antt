@@ -18,7 +18,7 @@ returns-in_err-content-clause-same c =
     (read_as c.args.images.now c.loop-j.j c.index-images-j.result c.as_slice.result.now c.loop-j-test.true c.index-images-j.is c.as_slice.ensures) c.in_err-content.ensures)
 
 pub loop-j-preserved : goal.loop-j-preserved
-loop-j-preserved c = subst (λ (done : List (List ℕ)). IsGoing (opens (length c.args.images.now)) c.args.images.now (c.loop-j.j + 1) done) (sym c.in-Ok.ensures.ok)
+loop-j-preserved c = subst (λ (done : List (List ℕ)). IsGoing (opens (length c.args.images.now)) c.args.images.now (c.loop-j.j + 1) done) (sym c.in_ok-push.ensures.ok)
     (going_on (opens (length c.args.images.now)) c.args.images.now c.loop-j.j c.loop-j.contents c.as_slice.result.now c.in_ok-content.content c.loop-j.invariant
     (read_as c.args.images.now c.loop-j.j c.index-images-j.result c.as_slice.result.now c.loop-j-test.true c.index-images-j.is c.as_slice.ensures) c.in_ok-content.ensures)
 

@@ -21,13 +21,13 @@ returns-in_err-records-clause-same c =
 
 pub loop-j-preserved : goal.loop-j-preserved
 loop-j-preserved c = record {
-  going = subst (λ (done : List (List Placed)). IsGoing (reads (length c.args.contents.now)) c.args.contents.now (c.loop-j.j + 1) done) (sym c.in-Ok.ensures.ok)
+  going = subst (λ (done : List (List Placed)). IsGoing (reads (length c.args.contents.now)) c.args.contents.now (c.loop-j.j + 1) done) (sym c.in_ok-push.ensures.ok)
       (going_on (reads (length c.args.contents.now)) c.args.contents.now c.loop-j.j c.loop-j.streams c.as_slice.result.now c.in_ok-records.records c.loop-j.invariant.going
       (read_as c.args.contents.now c.loop-j.j c.index-contents-j.result c.as_slice.result.now c.loop-j-test.true c.index-contents-j.is c.as_slice.ensures) c.in_ok-records.ensures.same);
-  read = subst (λ (done : List (List Placed)). AllZip (IsReading (length c.args.contents.now)) (take (c.loop-j.j + 1) c.args.contents.now) done) (sym c.in-Ok.ensures.ok)
+  read = subst (λ (done : List (List Placed)). AllZip (IsReading (length c.args.contents.now)) (take (c.loop-j.j + 1) c.args.contents.now) done) (sym c.in_ok-push.ensures.ok)
       (zip_on (IsReading (length c.args.contents.now)) c.args.contents.now c.loop-j.j c.loop-j.streams c.as_slice.result.now c.in_ok-records.records c.loop-j.invariant.read
       (read_as c.args.contents.now c.loop-j.j c.index-contents-j.result c.as_slice.result.now c.loop-j-test.true c.index-contents-j.is c.as_slice.ensures) c.in_ok-records.ensures.read);
-  short = subst (λ (done : List (List Placed)). All (λ ps. IsShort (catalogue_of ps)) done) (sym c.in-Ok.ensures.ok)
+  short = subst (λ (done : List (List Placed)). All (λ ps. IsShort (catalogue_of ps)) done) (sym c.in_ok-push.ensures.ok)
       (all_push (λ (ps : List Placed). IsShort (catalogue_of ps)) c.loop-j.streams c.in_ok-records.records c.loop-j.invariant.short c.in_ok-records.ensures.short);
 }
 
