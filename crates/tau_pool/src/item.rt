@@ -55,13 +55,14 @@ pub struct Job {
 }
 
 /// The vector of a data or command record.
-fn dep_of(entry: &Entry) -> Option<&Lv>
+fn dep_of(entry: &Entry) -> Option<&[u64]>
     ensures some { IfSome result (λ dep. dep_of entry.now ≡ Some dep.now) }
+    ensures few { IfSome result (λ dep. length dep.now ≤ MAX_STREAMS) }
     ensures none { IsNone result → dep_of entry.now ≡ None }
 {
     match entry {
-        Entry::Written { dep, .. } => Some(dep),
-        Entry::Command { dep, .. } => Some(dep),
+        Entry::Written { dep, .. } => Some(dep.as_slice()),
+        Entry::Command { dep, .. } => Some(dep.as_slice()),
         Entry::Anchor { .. } => None,
         Entry::Catalogue { .. } => None,
     }
@@ -80,7 +81,7 @@ fn put_record(
     match dep_of(&placed.entry) {
         None => Ok(()),
         Some(dep) => {
-            if !elv.covers(dep) {
+            if !elv.covers_all(dep) {
                 return Ok(());
             }
             items.put(stream, index, placed.start, dep)
@@ -93,10 +94,7 @@ fn put_stream(items: &mut Items, elv: &Lv, stream: u8, records: &[Placed]) -> Re
     ensures { OnOk result (items.new ≡ items.old ++ items_in elv.now stream 0 records.now) }
 {
     for (index, placed) in records.iter().enumerate() {
-        match put_record(items, elv, stream, index, placed) {
-            Ok(()) => {}
-            Err(_) => return Err(NoMemory),
-        }
+        put_record(items, elv, stream, index, placed)?;
     }
     Ok(())
 }
@@ -119,15 +117,9 @@ pub(crate) fn items_of(
     requires { length streams.now ≤ MAX_STREAMS }
     ensures { IfOk result (λ items. items ≡ items_from elv.now 0 streams.now) }
 {
-    let mut items = match Items::with_room(alloc, records_in(streams), elv.width()) {
-        Ok(items) => items,
-        Err(_) => return Err(NoMemory),
-    };
+    let mut items = Items::with_room(alloc, records_in(streams), elv.width())?;
     for (j, records) in streams.iter().enumerate() {
-        match put_stream(&mut items, elv, j as u8, records.as_slice()) {
-            Ok(()) => {}
-            Err(_) => return Err(NoMemory),
-        }
+        put_stream(&mut items, elv, j as u8, records.as_slice())?;
     }
     Ok(items)
 }

@@ -1,6 +1,7 @@
 //! Taken records that are kept flat.
 ghost use Rattle.std.specs.Prelude.{◌≡◌, ◌≤◌, ◌<◌, ◌+◌, ◌^◌, ◌++◌, ◌∷◌, [], ℕ, true, false, length, drop, slice_get, slice_set, slice_index, Some, IfOk, OnOk, OnErr};
 ghost use Rattle.tau_base.specs.Vectors.{covers};
+ghost use Rattle.tau_base.specs.declared.limits.TheConstants.{MAX_STREAMS};
 ghost use Rattle.tau_pool.specs.Item.{Item};
 ghost use Rattle.tau_pool.specs.Items.{is_left, unstarted};
 ghost use Rattle.tau_pool.specs.Passing.{is_passed, is_ready_one, is_ready};
@@ -56,14 +57,9 @@ impl Items {
     pub fn with_room(alloc: Global, records: usize, width: usize) -> Result<Items, NoMemory>
         ensures { IfOk result (λ items. items ≡ []) }
     {
-        let positions = match Vec::with_capacity(alloc, records.saturating_mul(width)) {
-            Ok(positions) => positions,
-            Err(_) => return Err(NoMemory),
-        };
-        match Vec::with_capacity(alloc, records) {
-            Ok(rows) => Ok(Items { positions, rows }),
-            Err(_) => Err(NoMemory),
-        }
+        let positions = Vec::with_capacity(alloc, records.saturating_mul(width))?;
+        let rows = Vec::with_capacity(alloc, records)?;
+        Ok(Items { positions, rows })
     }
 
     /// How many records they are.
@@ -75,22 +71,20 @@ impl Items {
 
     /// Puts a record that is not started after the others. Out of memory nothing changes. A number past the 32 bits of
     /// its place counts as that.
-    pub fn put(&mut self, stream: u8, index: usize, start: u64, dep: &Lv) -> Result<(), NoMemory>
+    pub fn put(&mut self, stream: u8, index: usize, start: u64, dep: &[u64]) -> Result<(), NoMemory>
+        requires few { length dep.now ≤ MAX_STREAMS }
         ensures { OnOk result (self.new ≡ self.old ++ unstarted stream index start dep.now ∷ []) }
     {
         if index > u32::MAX as usize {
             return Err(NoMemory);
         }
-        match self.rows.reserve(1) {
-            Ok(()) => {}
-            Err(_) => return Err(NoMemory),
-        }
+        self.rows.reserve(1)?;
         let row = Row {
             start,
             at: self.positions.len(),
             index: index as u32,
             stream,
-            width: dep.width() as u8,
+            width: dep.len() as u8,
             stage: Stage::Waiting,
         };
         match put_vector(&mut self.positions, dep) {
@@ -216,16 +210,13 @@ impl Row {
 }
 
 /// Puts a vector after the others. Out of memory nothing changes.
-fn put_vector(positions: &mut Vec<u64>, dep: &Lv) -> Result<(), NoMemory>
+fn put_vector(positions: &mut Vec<u64>, dep: &[u64]) -> Result<(), NoMemory>
     ensures ok { OnOk result (positions.new.items ≡ positions.old.items ++ dep.now) }
     ensures err { OnErr result (positions.new.items ≡ positions.old.items) }
 {
-    match positions.reserve(dep.width()) {
-        Ok(()) => {}
-        Err(_) => return Err(NoMemory),
-    }
-    for j in 0..dep.width() {
-        positions.push_reserved(dep.get(j));
+    positions.reserve(dep.len())?;
+    for j in 0..dep.len() {
+        positions.push_reserved(dep[j]);
     }
     Ok(())
 }

@@ -109,6 +109,7 @@ impl Pools {
     /// Starts the record at this place, if it is ready.
     pub fn take_at(&mut self, place: usize) -> Option<Job>
         ensures taken { IfSome result (λ job. IsStarted self.old job self.new) }
+        ensures place { IfSome result (λ job. job.place ≡ place) }
         ensures none { IsNone result → self.new ≡ self.old }
         ensures unready { IsNone result → is_ready self.old.items self.old.rlv place ≡ false }
         ensures recovered { IsRecovered self.new.ends self.new.rlv self.new.items }
@@ -216,6 +217,7 @@ impl Pools {
     fn start(&mut self, place: usize) -> Job
         requires { is_ready self.old.items self.old.rlv place ≡ true }
         ensures started { IsStarted self.old result self.new }
+        ensures place { result.place ≡ place }
         ensures recovered { IsRecovered self.new.ends self.new.rlv self.new.items }
     {
         let job = self.items.job(place);
@@ -274,10 +276,7 @@ impl Pools {
 fn zeros(alloc: Global, n: usize) -> Result<Vec<usize>, NoMemory>
     ensures { IfOk result (λ v. v.items ≡ replicate n 0) }
 {
-    match vec![in alloc; 0usize; n] {
-        Ok(zeros) => Ok(zeros),
-        Err(_) => Err(NoMemory),
-    }
+    Ok(vec![in alloc; 0usize; n]?)
 }
 
 /// The place of the first record that is of a higher stream than `j`, or of it and left, where nothing of stream `j` is
@@ -305,10 +304,7 @@ fn reached_of(alloc: Global, ends: &Lv, items: &Items) -> Result<(Lv, Vec<usize>
     for j in 0..ends.width() {
         next = first_after(items, j as u8, next);
         let reach = items.reach_of(j as u8, next, ends.get(j));
-        match nexts.push(next) {
-            Ok(()) => {}
-            Err(_) => return Err(NoMemory),
-        }
+        nexts.push(next)?;
         rlv.set(j, reach);
     }
     Ok((rlv, nexts))

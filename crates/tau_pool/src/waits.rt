@@ -47,25 +47,16 @@ fn put_wait(
         at: items.position(item, k),
         item,
     };
-    match waits.push(wait) {
-        Ok(()) => Ok(()),
-        Err(_) => Err(NoMemory),
-    }
+    Ok(waits.push(wait)?)
 }
 
 /// The records that wait for stream `k`, in the order of what they wait for.
 fn waits_at(alloc: Global, items: &Items, k: usize, reach: u64) -> Result<Listed<Wait>, NoMemory>
     ensures { IfOk result (λ waits. waits ≡ ascending wait_at (waits_at k reach 0 items.now)) }
 {
-    let mut waits = match Vec::with_capacity(alloc, items.len()) {
-        Ok(waits) => waits,
-        Err(_) => return Err(NoMemory),
-    };
+    let mut waits = Vec::with_capacity(alloc, items.len())?;
     for item in 0..items.len() {
-        match put_wait(&mut waits, items, item, k, reach) {
-            Ok(()) => {}
-            Err(_) => return Err(NoMemory),
-        }
+        put_wait(&mut waits, items, item, k, reach)?;
     }
     waits.shrink_to_fit();
     sort_waits(&mut waits)?;
@@ -76,10 +67,7 @@ fn waits_at(alloc: Global, items: &Items, k: usize, reach: u64) -> Result<Listed
 fn sort_waits(waits: &mut Vec<Wait>) -> Result<(), NoMemory>
     ensures { OnOk result (waits.new.items ≡ ascending wait_at waits.old.items) }
 {
-    match waits.sort_by_key(|wait| wait.at) {
-        Ok(()) => Ok(()),
-        Err(_) => Err(NoMemory),
-    }
+    Ok(waits.sort_by_key(|wait| wait.at)?)
 }
 
 /// For each stream the records that wait for it.
@@ -90,10 +78,7 @@ pub fn waits_of(alloc: Global, items: &Items, rlv: &Lv) -> Result<Vec<Listed<Wai
     let mut waits = Vec::new(alloc);
     for k in 0..rlv.width() {
         let list = waits_at(alloc, items, k, rlv.get(k))?;
-        match waits.push(list) {
-            Ok(()) => {}
-            Err(_) => return Err(NoMemory),
-        }
+        waits.push(list)?;
     }
     Ok(waits)
 }

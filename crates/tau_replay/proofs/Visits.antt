@@ -3,15 +3,11 @@ use Rattle.std.proofs.Common.{ℕ, suc, ◌≡◌, ◌≢◌, ◌+◌, ◌-◌, 
 use Rattle.std.proofs.lemmas.Bool.Decides.{leb_tells}
 use Rattle.std.specs.Prelude.{Option, Some, None, slice_get}
 use Rattle.std.proofs.Math.ListN.{set}
-use Rattle.tau_base.specs.Database.{Db}
-use Rattle.tau_model.specs.Store.{database}
 use Rattle.tau_scan.specs.declared.log.Log.{Log}
 use Rattle.tau_pool.specs.declared.item.Job.{Job}
-use Rattle.tau_pool.specs.Pooled.{Pooled}
 use Rattle.tau_pool.proofs.Gets.{get_within, get_set_same, get_set_other}
 use Rattle.tau_replay.specs.declared.turns.Replay.{Replay}
-use Rattle.tau_replay.specs.Followed.{Followed, HasFollowed}
-use Rattle.tau_replay.specs.Recovering.{IsGoing, AreHands}
+use Rattle.tau_replay.specs.Followed.{Followed}
 use Rattle.tau_replay.specs.Way.{IsOnWay}
 use Rattle.tau_replay.specs.Rule.{Hand, Sat, Boxed, hands_of, holding, given, hands_now, IsNoneOf, OthersStay, MayGive, IsIdle}
 use Rattle.tau_replay.specs.Sound.{IsSound, AreWorking}

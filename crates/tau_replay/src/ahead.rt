@@ -1,15 +1,15 @@
 //! Rows that a worker reads as it starts a record, in the same visit to the lock. They are a guess: what the call then
 //! wants and is not among them is read in a visit of its own.
+use std::alloc::Global;
 use tau_base::{Call, Key, Value};
 use tau_model::SerialStore;
-use tau_pool::Job;
 use tau_proc::{ADD, FIRST_DECLARED, Operand, Procs, Step};
 use tau_record::Entry;
 use tau_scan::Log;
 
-/// Reads a row. If memory is refused, it is not among those that are read.
-fn read_row(store: &SerialStore, key: Key, ahead: &mut Vec<(Key, Value)>) {
-    let _ = ahead.push((key, store.value(key)));
+/// Puts a row after the others. If memory is refused, it is not among them.
+fn put_key(key: Key, keys: &mut Vec<Key>) {
+    let _ = keys.push(key);
 }
 
 /// The row with the number that is this argument, from 1.
@@ -32,76 +32,98 @@ fn row_of(step: &Step, args: &[Value]) -> Option<Key> {
     }
 }
 
-/// Reads the rows that these steps read.
-fn read_steps(store: &SerialStore, steps: &[Step], args: &[Value], ahead: &mut Vec<(Key, Value)>) {
+/// Puts the rows that these steps read.
+fn put_steps(steps: &[Step], args: &[Value], keys: &mut Vec<Key>) {
     for step in steps {
         match row_of(step, args) {
-            Some(key) => read_row(store, key, ahead),
+            Some(key) => put_key(key, keys),
             None => {}
         }
     }
 }
 
-/// Reads the row to which a call adds.
-fn read_add(store: &SerialStore, args: &[Value], ahead: &mut Vec<(Key, Value)>) {
+/// Puts the row to which a call adds.
+fn put_add(args: &[Value], keys: &mut Vec<Key>) {
     match args {
         [Value::Int(table), Value::Int(row), ..] => {
             let Ok(table) = u16::try_from(*table) else {
                 return;
             };
-            read_row(store, Key { table, row: *row }, ahead);
+            put_key(Key { table, row: *row }, keys);
         }
         _ => {}
     }
 }
 
-/// Reads the rows that a call reads.
-fn read_call(procs: &Procs, store: &SerialStore, call: &Call, ahead: &mut Vec<(Key, Value)>) {
+/// Puts the rows that a call reads.
+fn put_call(procs: &Procs, call: &Call, keys: &mut Vec<Key>) {
     if call.proc == ADD {
-        return read_add(store, call.args.as_slice(), ahead);
+        return put_add(call.args.as_slice(), keys);
     }
     match procs
         .list()
         .get(usize::from(call.proc.wrapping_sub(FIRST_DECLARED)))
     {
-        Some(proc) => read_steps(store, proc.steps.as_slice(), call.args.as_slice(), ahead),
+        Some(proc) => put_steps(proc.steps.as_slice(), call.args.as_slice(), keys),
         None => {}
     }
 }
 
-/// Reads the rows that the call of a record reads.
-fn read_job(
-    log: &Log,
-    store: &SerialStore,
-    job: Job,
-    place: &mut Call,
-    ahead: &mut Vec<(Key, Value)>,
-) {
-    let Some(records) = log.streams.as_slice().get(usize::from(job.stream)) else {
+/// Puts the rows that the call of a record reads.
+fn put_record(log: &Log, stream: u8, index: usize, place: &mut Call, keys: &mut Vec<Key>) {
+    let Some(records) = log.streams.as_slice().get(usize::from(stream)) else {
         return;
     };
-    let Some(placed) = records.as_slice().get(job.index) else {
+    let Some(placed) = records.as_slice().get(index) else {
         return;
     };
     match &placed.entry {
         Entry::Command { call, .. } => {
             call.put_into(place);
-            read_call(&log.declarations.procs, store, place, ahead)
+            put_call(&log.declarations.procs, place, keys)
         }
         _ => {}
     }
 }
 
-/// Reads the rows that a record will want. A call is put into a place that is kept.
-pub fn read_ahead(
-    log: &Log,
-    store: &SerialStore,
-    job: Job,
-    place: &mut Call,
-    ahead: &mut Vec<(Key, Value)>,
-) {
-    ahead.clear();
-    read_job(log, store, job, place, ahead);
+/// The rows that the call of a record reads by its arguments.
+#[derive(Drop)]
+pub struct Foreseen {
+    /// The stream of the record.
+    stream: u8,
+    /// Its number among the records of its stream.
+    index: usize,
+    keys: Vec<Key>,
+}
+
+impl Foreseen {
+    /// Those of no record. It takes no memory.
+    pub fn new(alloc: Global) -> Foreseen {
+        Foreseen {
+            stream: 0,
+            index: usize::MAX,
+            keys: Vec::new(alloc),
+        }
+    }
+
+    /// Those of this record, if they are not those already. A call is put into a place that is kept.
+    pub fn see(&mut self, log: &Log, stream: u8, index: usize, place: &mut Call) {
+        if self.stream == stream && self.index == index {
+            return;
+        }
+        self.stream = stream;
+        self.index = index;
+        self.keys.clear();
+        put_record(log, stream, index, place, &mut self.keys);
+    }
+
+    /// Reads these rows. If memory is refused, not all of them are read.
+    pub fn read(&self, store: &SerialStore, ahead: &mut Vec<(Key, Value)>) {
+        ahead.clear();
+        for key in self.keys.as_slice() {
+            let _ = ahead.push((*key, store.value(*key)));
+        }
+    }
 }
 
 /// The value of a row among those that were read.

@@ -1,6 +1,6 @@
 //! Which record a worker in a thread starts next.
 use std::alloc::Global;
-use tau_base::NoMemory;
+use tau_base::{MAX_STREAMS, NoMemory};
 use tau_pool::Pools;
 
 /// Places of records of one stream.
@@ -16,25 +16,24 @@ struct Span {
 #[derive(Drop)]
 pub struct Cursors {
     spans: Vec<Span>,
-    /// The stream that gave the last one.
-    stream: usize,
+    /// For each worker the stream that gave its last one.
+    streams: Vec<usize>,
 }
 
 impl Cursors {
-    /// Nothing is started yet.
+    /// Nothing is started yet, and each worker begins with another stream.
     pub fn new(alloc: Global, pools: &Pools) -> Result<Cursors, NoMemory> {
         let mut spans = Vec::new(alloc);
-        for stream in 0..16usize {
+        let mut streams = Vec::new(alloc);
+        for stream in 0..MAX_STREAMS {
             let span = Span {
                 next: pools.first_of(stream).unwrap_or(usize::MAX),
                 end: pools.first_of(stream + 1).unwrap_or(usize::MAX),
             };
-            match spans.push(span) {
-                Ok(()) => {}
-                Err(_) => return Err(NoMemory),
-            }
+            spans.push(span)?;
+            streams.push(stream)?;
         }
-        Ok(Cursors { spans, stream: 0 })
+        Ok(Cursors { spans, streams })
     }
 
     /// The place of the next record of a stream, or one where no record is.
@@ -51,26 +50,41 @@ impl Cursors {
         }
     }
 
-    /// The same of the stream that gave the last one.
-    pub fn place(&self) -> usize {
-        self.place_of(self.stream)
+    /// The stream that gave a worker its last one.
+    fn stream_of(&self, worker: usize) -> usize {
+        match self.streams.get(worker) {
+            Some(stream) => *stream,
+            None => 0,
+        }
     }
 
-    /// The place of the first stream's next record that is ready, or one where no record is.
-    pub fn seek(&mut self, pools: &Pools) -> usize {
-        for stream in 0..16usize {
+    /// The place of the next record of the stream that gave a worker its last one.
+    pub fn place(&self, worker: usize) -> usize {
+        self.place_of(self.stream_of(worker))
+    }
+
+    /// The place of the next record that is ready, of the first stream after the one that gave a worker its last one, or
+    /// a place where no record is. The worker goes on with that stream.
+    pub fn seek(&mut self, pools: &Pools, worker: usize) -> usize {
+        let last = self.stream_of(worker);
+        for k in 1..MAX_STREAMS {
+            let stream = last.wrapping_add(k) % MAX_STREAMS;
             let place = self.place_of(stream);
             if pools.ready_at(place).is_some() {
-                self.stream = stream;
+                match self.streams.get_mut(worker) {
+                    Some(own) => *own = stream,
+                    None => {}
+                }
                 return place;
             }
         }
         usize::MAX
     }
 
-    /// The record that was named last is started.
-    pub fn pass(&mut self) {
-        match self.spans.get_mut(self.stream) {
+    /// The record that was named last for a worker is started.
+    pub fn pass(&mut self, worker: usize) {
+        let stream = self.stream_of(worker);
+        match self.spans.get_mut(stream) {
             Some(span) => span.next = span.next.wrapping_add(1),
             None => {}
         }

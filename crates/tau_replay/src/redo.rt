@@ -8,7 +8,7 @@ ghost use Rattle.tau_model.specs.Store.{database};
 ghost use Rattle.tau_scan.specs.Taken.{Kept};
 ghost use Rattle.tau_replay.specs.Recovering.{IsHeld, IsHeldBy};
 
-use tau_base::{Call, NoMemory};
+use tau_base::{KeptCall, NoMemory};
 use tau_model::SerialStore;
 use tau_pool::Job;
 use tau_record::Entry;
@@ -31,22 +31,25 @@ fn redo_entry(log: &Log, store: &mut SerialStore, entry: &Entry) -> Result<(), N
     ensures err { OnErr result (database store.new ≡ database store.old) }
 {
     match entry {
-        Entry::Written { writes, .. } => store.write(writes.as_slice()),
-        Entry::Command { call, .. } => redo_call(log, store, &call.call()),
+        Entry::Written { writes, .. } => store.write(writes.lent().as_slice()),
+        Entry::Command { call, .. } => redo_call(log, store, call),
         Entry::Anchor { .. } => Ok(()),
         Entry::Catalogue { .. } => Ok(()),
     }
 }
 
-/// Executes a call. Each call of a log is one that its procedures take.
-fn redo_call(log: &Log, store: &mut SerialStore, call: &Call) -> Result<(), NoMemory>
-    ensures ok { OnOk result (database store.new ≡ redone log.now.declarations.procs (Command call.now) (database store.old)) }
+/// Executes a call. Each call of a log is one that its procedures take. It lays a place for a whole call, which data
+/// records do without.
+#[inline(never)]
+fn redo_call(log: &Log, store: &mut SerialStore, kept: &KeptCall) -> Result<(), NoMemory>
+    ensures ok { OnOk result (database store.new ≡ redone log.now.declarations.procs (Command kept.now) (database store.old)) }
     ensures err { OnErr result (database store.new ≡ database store.old) }
 {
-    if !log.declarations.procs.takes(call) {
+    let call = kept.call();
+    if !log.declarations.procs.takes(&call) {
         return Err(NoMemory);
     }
-    match store.execute(&log.declarations.procs, call) {
+    match store.execute(&log.declarations.procs, &call) {
         Ok(_) => Ok(()),
         Err(refusal) => Err(refusal),
     }

@@ -25,10 +25,7 @@ pub fn begin(alloc: Global, log: &Log) -> Result<Replay, NoMemory>
     let pools = Pools::new(alloc, log)?;
     let mut hands = Vec::new(alloc);
     for _ in 0..16u64 {
-        match hands.push(None) {
-            Ok(()) => {}
-            Err(_) => return Err(NoMemory),
-        }
+        hands.push(None)?;
     }
     Ok(Replay {
         pools,

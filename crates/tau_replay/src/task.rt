@@ -2,7 +2,7 @@
 ghost use Rattle.std.specs.Prelude.{◌≡◌, [], true, Some, IfOk, replicate};
 ghost use Rattle.tau_replay.specs.Rule.{IsIdle};
 
-use crate::ahead::read_ahead;
+use crate::ahead::Foreseen;
 use crate::calls::try_job;
 use crate::lock::Lock;
 use crate::outcome::{Executed, Outcome, Scratch};
@@ -25,6 +25,8 @@ pub struct Task {
     /// Whether the call of the record was executed.
     tried: bool,
     executed: Executed,
+    /// The rows that its call reads, found before it is started if it is the one that was expected.
+    foreseen: Foreseen,
     /// The rows that were read as the record was started.
     ahead: Vec<(Key, Value)>,
 }
@@ -52,6 +54,7 @@ impl Task {
             job: None,
             tried: false,
             executed: Executed::new(alloc),
+            foreseen: Foreseen::new(alloc),
             ahead: Vec::new(alloc),
         }
     }
@@ -70,7 +73,20 @@ impl Task {
     {
         self.tried = false;
         self.job = Some(job);
-        read_ahead(log, store, job, place, &mut self.ahead);
+        self.foreseen.see(log, job.stream, job.index, place);
+        self.foreseen.read(store, &mut self.ahead);
+    }
+
+    /// The record that it has, if it has one.
+    pub fn job(&self) -> Option<Job> {
+        self.job
+    }
+
+    /// A record is expected to be started next: the rows that it will want are found outside the lock.
+    pub fn foresee(&mut self, log: &Log, stream: u8, index: usize, place: &mut Call)
+        ensures { self.new ≡ self.old }
+    {
+        self.foreseen.see(log, stream, index, place);
     }
 
     /// Executes the record's call outside the lock, if it has one. Whether there is a record.
@@ -134,10 +150,7 @@ pub fn tasks_of(alloc: Global, log: &Log, many: usize) -> Result<Vec<Task>, NoMe
 {
     let mut tasks = Vec::new(alloc);
     for _ in 0..many {
-        match tasks.push(Task::new(alloc, log)) {
-            Ok(()) => {}
-            Err(_) => return Err(NoMemory),
-        }
+        tasks.push(Task::new(alloc, log))?;
     }
     Ok(tasks)
 }

@@ -150,10 +150,7 @@ fn crew<R: Threads + Wait + Sync, G: Gate + Sync>(
 fn idle_hands(alloc: Global, many: usize) -> Result<Vec<Option<Job>>, NoMemory>
     ensures { IfOk result (λ hands. hands.items ≡ replicate many None) }
 {
-    match vec![in alloc; None; many] {
-        Ok(hands) => Ok(hands),
-        Err(_) => Err(NoMemory),
-    }
+    Ok(vec![in alloc; None; many]?)
 }
 
 /// A recovery of which nothing is in flight, with the hands of workers in threads.
@@ -189,10 +186,8 @@ fn left_by(alloc: Global, log: &Log, replay: Replay) -> Result<Replay, NoMemory>
     if replay.pools.in_flight() > 0 {
         return Err(NoMemory);
     }
-    match idle_hands(alloc, 16) {
-        Ok(hands) => Ok(gather(log, replay, hands)),
-        Err(_) => Err(NoMemory),
-    }
+    let hands = idle_hands(alloc, 16)?;
+    Ok(gather(log, replay, hands))
 }
 
 /// Runs a recovery by so many workers until their work is over. One worker needs no lock.
@@ -212,12 +207,8 @@ fn run<R: Threads + Wait + Sync, G: Gate + Sync>(
     if workers == 1 {
         return run_alone(log, replay, gate);
     }
-    let Ok(cursors) = Cursors::new(alloc, &replay.pools) else {
-        return Err(NoMemory);
-    };
-    let Ok(hands) = idle_hands(alloc, HANDS) else {
-        return Err(NoMemory);
-    };
+    let cursors = Cursors::new(alloc, &replay.pools)?;
+    let hands = idle_hands(alloc, HANDS)?;
     let part = Part {
         replay: spread(log, replay, hands),
         cursors,

@@ -120,27 +120,27 @@ fn start_other(log: &Log, part: &mut Part, hand: usize) -> Option<Job>
     ensures working { AreWorking log.now part.new.replay }
     ensures rest { RestStays hand 1 part.old.replay.hands.items part.new.replay.hands.items }
 {
-    let place = part.cursors.seek(&part.replay.pools);
+    let place = part.cursors.seek(&part.replay.pools, hand / RECORDS);
     match start_at(log, &mut part.replay, hand, place) {
         Some(job) => {
-            part.cursors.pass();
+            part.cursors.pass(hand / RECORDS);
             Some(job)
         }
         None => None,
     }
 }
 
-/// An idle hand starts a record that is ready: of the stream that gave the last one, if it has one.
+/// An idle hand starts a record that is ready: of the stream that gave its worker the last one, if it has one.
 fn start_next(log: &Log, part: &mut Part, hand: usize) -> Option<Job>
     requires working { AreWorking log.now part.old.replay }
     requires idle { slice_get part.old.replay.hands.items hand ≡ Some None }
     ensures working { AreWorking log.now part.new.replay }
     ensures rest { RestStays hand 1 part.old.replay.hands.items part.new.replay.hands.items }
 {
-    let place = part.cursors.place();
+    let place = part.cursors.place(hand / RECORDS);
     match start_at(log, &mut part.replay, hand, place) {
         Some(job) => {
-            part.cursors.pass();
+            part.cursors.pass(hand / RECORDS);
             Some(job)
         }
         None => start_other(log, part, hand),

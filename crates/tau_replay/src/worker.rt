@@ -10,7 +10,9 @@ use crate::view::{HANDS, RECORDS, Seat};
 use crate::visit::{Order, step};
 use std::alloc::Global;
 use std::sync::Wait;
+use tau_base::Call;
 use tau_disk::{Gate, Place};
+use tau_pool::Job;
 use tau_scan::Log;
 
 /// Executes the record of a task, if it has one, up to its finish.
@@ -56,6 +58,38 @@ fn redo_all<R: Wait, G: Gate>(
 {
     for i in 0..RECORDS {
         redo_one(rt, lock, seat, log, worker, &mut tasks[i], scratch, gate);
+    }
+}
+
+/// The record that was started last, of so many.
+fn last_of(tasks: &Vec<Task>, started: usize) -> Option<Job> {
+    match tasks.get(started.wrapping_sub(1)) {
+        Some(task) => task.job(),
+        None => None,
+    }
+}
+
+/// Each hand expects one of the records after this one.
+fn foresee_after(log: &Log, job: Job, tasks: &mut Vec<Task>, room: usize, call: &mut Call)
+    requires tasks { tasks.old.items ≡ replicate RECORDS log.now }
+    requires room { room ≤ RECORDS }
+    ensures tasks { tasks.new.items ≡ tasks.old.items }
+{
+    for i in 0..room {
+        let index = job.index.wrapping_add(i).wrapping_add(1);
+        tasks[i].foresee(log, job.stream, index, call);
+    }
+}
+
+/// The hands expect the records after those that were started.
+fn foresee_all(log: &Log, tasks: &mut Vec<Task>, started: usize, room: usize, call: &mut Call)
+    requires tasks { tasks.old.items ≡ replicate RECORDS log.now }
+    requires room { room ≤ RECORDS }
+    ensures tasks { tasks.new.items ≡ tasks.old.items }
+{
+    match last_of(tasks, started) {
+        Some(job) => foresee_after(log, job, tasks, room, call),
+        None => {}
     }
 }
 
@@ -122,6 +156,7 @@ pub fn work<R: Wait, G: Gate>(
                     &mut scratch,
                     gate,
                 );
+                foresee_all(log, &mut tasks, started, room, &mut scratch.call);
             }
             Order::Sleep { seen } => lock.bell.park(rt, (seen % 4_294_967_296) as u32),
             Order::Stop => return seat,

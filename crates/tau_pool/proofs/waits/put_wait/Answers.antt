@@ -12,8 +12,8 @@ returns-then-not-waits_for c =
     let is : waits_for c.args.k c.args.reach x ≡ false = sym (c.waits_for.ensures x there) ∙ c.if-not-waits_for.true in
     ap (λ (ws : List Wait). c.args.waits.now.items ++ ws) (sym (wait_passed c.args.k c.args.reach c.args.items.now c.args.item x there is))
 
-pub returns-in-Ok : goal.returns-in-Ok
-returns-in-Ok c =
+pub returns : goal.returns
+returns c =
     let (x, there) = get_there c.args.items.now c.args.item c.requires in
     let is : waits_for c.args.k c.args.reach x ≡ true = sym (c.waits_for.ensures x there) ∙ c.if-not-waits_for.false in
     let w : Wait = record { at = c.position.result; item = c.args.item } in

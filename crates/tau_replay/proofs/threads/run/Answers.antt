@@ -5,10 +5,10 @@ use Rattle.tau_replay.proofs.Crews.{spare_all, spare_length}
 use Rattle.tau_replay.proofs.threads.run.Goals as goal
 
 pub crew-seat-requires-clause-spare : goal.crew-seat-requires-clause-spare
-crew-seat-requires-clause-spare g c κs within = spare_all c.args.log.now c.in-Ok-new.seat.me c.in-Ok-new.ensures.first
+crew-seat-requires-clause-spare g c κs within = spare_all c.args.log.now c.in-Ok.seat.me c.in-Ok.ensures.first
 
 pub close-requires-clause-whole : goal.close-requires-clause-whole
 close-requires-clause-whole g c = (
   c.crew-seat.ensures.idle.0,
-  c.crew-seat.ensures.idle.1 ∙ spare_length 0 HANDS c.in-Ok-new.seat.me (spare_all c.args.log.now c.in-Ok-new.seat.me c.in-Ok-new.ensures.first),
+  c.crew-seat.ensures.idle.1 ∙ spare_length 0 HANDS c.in-Ok.seat.me (spare_all c.args.log.now c.in-Ok.seat.me c.in-Ok.ensures.first),
 )

@@ -1,5 +1,5 @@
 -- The record at a place is started by an idle hand.
-use Rattle.std.proofs.Common.{ℕ, List, refl, sym, subst, ◌∙◌, replicate}
+use Rattle.std.proofs.Common.{refl, sym, subst, ◌∙◌, replicate}
 use Rattle.std.specs.Prelude.{Some, None}
 use Rattle.std.proofs.lemmas.List.{length-set}
 use Rattle.tau_model.specs.Store.{database}

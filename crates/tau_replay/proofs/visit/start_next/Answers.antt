@@ -1,6 +1,6 @@
 -- A record is started, or another one may be.
-use Rattle.std.proofs.Common.{◌≡◌, refl, ap, ◌∙◌}
-use Rattle.std.specs.Prelude.{Some, None, slice_get}
+use Rattle.std.proofs.Common.{refl, ap, ◌∙◌}
+use Rattle.std.specs.Prelude.{Some, slice_get}
 use Rattle.tau_replay.proofs.Visits.{rest_set, rest_same, rest_trans}
 use Rattle.tau_replay.proofs.visit.start_next.Goals as goal
 

@@ -1,6 +1,6 @@
 -- A record is started, or nothing changes.
 use Rattle.std.proofs.Common.{refl}
-use Rattle.std.specs.Prelude.{Some, None}
+use Rattle.std.specs.Prelude.{Some}
 use Rattle.tau_replay.proofs.Visits.{rest_set, rest_same}
 use Rattle.tau_replay.proofs.visit.start_other.Goals as goal
 
