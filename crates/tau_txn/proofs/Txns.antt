@@ -19,6 +19,7 @@ use Rattle.tau_base.specs.declared.value.LogMode.TheVariants.{Values, Commands}
 use Rattle.tau_record.specs.declared.entry.Entry.TheVariants.{Written, Command}
 use Rattle.tau_model.specs.declared.committed.Spot.{Spot}
 use Rattle.tau_model.specs.History.{Act, updating}
+use Rattle.tau_model.specs.Committed.{lv_at}
 use Rattle.tau_model.specs.Logged.{lv}
 use Rattle.tau_machine.specs.Stage.{Stage, Ends, stage}
 use Rattle.tau_machine.specs.Hands as theory
@@ -34,6 +35,7 @@ use Rattle.tau_txn.specs.Actions.{action_of}
 use Rattle.tau_txn.specs.Kept.{KeepsHand, is_leaving}
 use Rattle.tau_txn.specs.Next.{next_by, Means, Reads, FreesBy, Locks, Quits, Commits, Posts, Frees, Finishes, act_at}
 use Rattle.tau_txn.specs.Progress.{IsRunBy, IsFinished, HasCommitted}
+use Rattle.tau_txn.specs.Narrow.{listed}
 use Rattle.tau_txn.specs.Record.{entry_of, spot_by, kept_joined, kept_reading, kept_by}
 use Rattle.tau_txn.specs.Steps.{locked_with, lock_in, lock_by, record_of}
 use Rattle.tau_txn.specs.Txn.{PlainTxn, shown, hand_in, joined_by, lv_by}
@@ -378,3 +380,25 @@ freed-lv procs w h hand act run is frees = at h.standing refl frees
         ∙ ap (λ (ws : List (Key × Value)). lv (updating ws) (record { stream = h.stream; start = h.start; past = h.past; dep = h.dep })) (sym (effected procs h run (run.finished joined)).writes)
         ∙ ap lv_of same
     at LeftOver e f = absurd (s.there e)
+
+-- the vector of a call that has joined the committed ones is that of its place
+pub lv-kept : (procs : List Proc) (h : PlainHand) → IsRunBy procs h → HasCommitted h.standing → h.lv ≡ lv_at h.dep (spot_by (buffered h.machine) h)
+lv-kept procs h run joined = run.vector joined ∙ at (buffered h.machine)
+  where
+    at : (ws : List (Key × Value)) → lv (updating ws) (record { stream = h.stream; start = h.start; past = h.past; dep = h.dep }) ≡ lv_at h.dep (spot_by ws h)
+    at [] = refl
+    at (w ∷ ws) = refl
+
+-- what is put of a call that has joined the committed ones
+pub joined-put : (h : PlainHand) (said : Reply) (spot : Option Spot) → next_want h.machine ≡ Finished said → spot ≡ spot_by (buffered h.machine) h
+    → h.lv ≡ lv_at h.dep (spot_by (buffered h.machine) h)
+    → record { number = h.number; reply = said; dep = h.dep; lv = lv_at h.dep spot; spot = spot } ∷ [] ≡ listed (kept_joined (next_want h.machine) h)
+joined-put h said spot want is vector =
+    (λ i. record { number = h.number; reply = said; dep = h.dep; lv = lv_at h.dep (is i); spot = is i } ∷ [])
+    ∙ (λ i. record { number = h.number; reply = said; dep = h.dep; lv = sym vector i; spot = spot_by (buffered h.machine) h } ∷ [])
+    ∙ ap (λ (w : Want). listed (kept_joined w h)) (sym want)
+
+-- what is put of a call that has finished and writes nothing
+pub reading-put : (h : PlainHand) (said : Reply) → next_want h.machine ≡ Finished said → buffered h.machine ≡ []
+    → record { number = h.number; reply = said; dep = h.dep; lv = h.dep; spot = None } ∷ [] ≡ listed (kept_reading (next_want h.machine) (buffered h.machine) h)
+reading-put h said want none = λ i. listed (kept_reading (sym want i) (sym none i) h)

@@ -2,7 +2,7 @@
 use Rattle.std.specs.Prelude.{ℕ, ◌≤◌, ◌≡◌, Bool, true, false, Option, Some, None, [], length}
 use Rattle.std.specs.FinMap.{is_sorted}
 use Rattle.tau_base.specs.Database.{key_cmp}
-use Rattle.tau_base.specs.declared.limits.TheConstants.{MAX_TRIES}
+use Rattle.tau_base.specs.declared.limits.TheConstants.{MAX_STREAMS, MAX_TRIES}
 use Rattle.tau_txn.specs.declared.standing.Standing.{Standing}
 use Rattle.tau_txn.specs.declared.standing.Standing.TheVariants.{Running, Quitting, LeftOver}
 use Rattle.tau_txn.specs.Hand.{PlainHand}
@@ -34,10 +34,10 @@ abbrev pub keeps_in : ℕ → Option PlainHand → Type 0
 keeps_in width None = Unit {0}
 keeps_in width (Some h) = KeepsHand width h
 
--- a worker of 1 to 16 streams
+-- a worker of 1 to as many streams as there may be
 pub record Keeps (t : PlainTxn) : Type 0 where
   pub low : 1 ≤ t.width
-  pub high : t.width ≤ 16
+  pub high : t.width ≤ MAX_STREAMS
   pub hand : keeps_in t.width t.hand
 
 -- the call in hand, where it stays there

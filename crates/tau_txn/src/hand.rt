@@ -1,7 +1,8 @@
 //! A call in hand.
-ghost use Rattle.std.specs.Prelude.{◌≡◌, ◌==◌, ◌<◌, ◌≤◌, ◌+◌, ◌-◌, ◌++◌, ◌||◌, [], ◌∷◌, List, ℕ, Option, Some, length, not, replicate, IsTrue, IsSome, IfOk, true, false, OnOk, OnErr, slice_set, vec_capacity, vec_len};
+ghost use Rattle.std.specs.Prelude.{◌≡◌, ◌==◌, ◌<◌, ◌≤◌, ◌+◌, ◌-◌, ◌++◌, ◌||◌, [], ◌∷◌, List, ℕ, Option, Some, length, not, replicate, IsTrue, IsSome, IfOk, true, false, OnOk, OnErr, slice_set};
 ghost use Rattle.std.specs.Option.{option_copied, unwrap_or};
 ghost use Rattle.std.specs.Map.{lookup};
+ghost use Rattle.arrayvec.specs.ArrayVec.{array_vec_len};
 ghost use Rattle.std.specs.FinMap.{is_sorted};
 ghost use Rattle.tau_base.specs.Database.{same_key, key_cmp};
 ghost use Rattle.tau_base.specs.Vectors.{AtMost, join};
@@ -18,6 +19,7 @@ ghost use Rattle.tau_proc.specs.Takes.{takes};
 ghost use Rattle.tau_record.specs.Format.{One};
 ghost use Rattle.tau_record.specs.Record.{base_of, Spells};
 ghost use Rattle.tau_model.specs.History.{Act};
+ghost use Rattle.tau_model.specs.Committed.{lv_at};
 ghost use Rattle.tau_machine.specs.Hands.{Txn, Placed, Freeing, hold};
 ghost use Rattle.tau_machine.specs.Worker.{Worker, fresh, settled, hand_busy, hand_quit, hand_joined, hand_freed};
 ghost use Rattle.tau_txn.specs.Actions.{quits, frees};
@@ -38,8 +40,10 @@ use arrayvec::ArrayVec;
 use std::alloc::Global;
 use std::marker::Model;
 use std::mem;
-use tau_base::{Call, Key, LogMode, Lv, MAX_TRIES, Mode, NoMemory, Value};
-use tau_model::{Committed, Spot};
+use tau_base::{
+    Call, KeptCall, Key, LogMode, Lv, MAX_STEPS, MAX_TRIES, Mode, NoMemory, Text64, Value,
+};
+use tau_model::{Committed, CommittedList, Spot};
 use tau_proc::{Procs, Reply, Want};
 use tau_record::{encode_command, encode_written, raise};
 
@@ -55,8 +59,8 @@ pub struct Hand {
     given_up: bool,
     standing: Standing,
     dep: Lv,
-    held: ArrayVec<(Key, Mode), 64>,
-    seen: ArrayVec<(Key, Value), 64>,
+    held: ArrayVec<(Key, Mode), MAX_STEPS>,
+    seen: ArrayVec<(Key, Value), MAX_STEPS>,
     anchor: u32,
     stream: u8,
     start: u64,
@@ -75,10 +79,10 @@ impl Model for Hand {
 
 impl Hand {
     /// With no call yet.
-    pub fn new(alloc: Global, n: usize) -> Hand
-        requires low { 1 ≤ n }
-        requires high { n ≤ 16 }
-        ensures { result.dep ≡ replicate n 0 }
+    pub fn new(alloc: Global, streams: usize) -> Hand
+        requires low { 1 ≤ streams }
+        requires high { streams ≤ MAX_STREAMS }
+        ensures { result.dep ≡ replicate streams 0 }
     {
         Hand {
             alloc,
@@ -92,37 +96,37 @@ impl Hand {
             leaves: false,
             given_up: false,
             standing: Standing::LeftOver,
-            dep: Lv::zero(n),
+            dep: Lv::zero(streams),
             held: ArrayVec::new(),
             seen: ArrayVec::new(),
             anchor: 0,
             stream: 0,
             start: 0,
             past: 0,
-            lv: Lv::zero(n),
+            lv: Lv::zero(streams),
             bytes: Vec::new(alloc),
         }
     }
 
     /// A call that begins in the place of the one before. It takes no memory.
-    pub fn begin(&mut self, procs: &Procs, number: u64, call: &Call, n: usize)
-        requires low { 1 ≤ n }
-        requires high { n ≤ 16 }
+    pub fn begin(&mut self, procs: &Procs, number: u64, call: &KeptCall, streams: usize)
+        requires low { 1 ≤ streams }
+        requires high { streams ≤ MAX_STREAMS }
         requires takes { IsTrue (takes procs.now call.now) }
         requires number { 1 ≤ number }
-        ensures begun { (w : ℕ) → hand_of procs.now w self.new ≡ fresh n (record { number = number; call = call.now }) 0 }
+        ensures begun { (w : ℕ) → hand_of procs.now w self.new ≡ fresh streams (record { number = number; call = call.now }) 0 }
         ensures standing { self.new.standing ≡ Standing.Running }
         ensures stays { self.new.leaves ≡ false }
         ensures bytes { self.new.bytes ≡ [] }
         ensures runs { IsRunBy procs.now self.new }
-        ensures keeps { KeepsHand n self.new }
+        ensures keeps { KeepsHand streams self.new }
     {
         self.number = number;
-        copy_call(&mut self.call, call);
+        call.put_into(&mut self.call);
         self.tries = 0;
         self.leaves = false;
         self.given_up = false;
-        self.dep = Lv::zero(n);
+        self.dep = Lv::zero(streams);
         self.held.clear();
         self.bytes.clear();
         self.restart(procs);
@@ -217,10 +221,11 @@ impl Hand {
     }
 
     /// Appends what is kept of it, as `committed` answers it.
-    pub fn commit_into(&self, out: &mut Vec<Committed>)
-        requires { 1 ≤ vec_capacity out.old - vec_len out.old }
+    pub fn commit_into(&self, out: &mut CommittedList)
+        requires room { 1 ≤ out.old.room }
+        requires vector { HasCommitted self.now.standing → self.now.lv ≡ lv_at self.now.dep (spot_by (buffered self.now.machine) self.now) }
         ensures items { out.new.items ≡ out.old.items ++ listed (kept_by self.now.standing self.now) }
-        ensures room { vec_capacity out.old - vec_len out.old ≤ (vec_capacity out.new - vec_len out.new) + 1 }
+        ensures room { out.old.room ≤ out.new.room + 1 }
         ensures ascend { IsTrue (is_sorted key_cmp (buffered self.now.machine)) }
     {
         let _ascending = self.machine.writes();
@@ -233,10 +238,10 @@ impl Hand {
         }
     }
 
-    fn put_reading(&self, out: &mut Vec<Committed>)
-        requires { 1 ≤ vec_capacity out.old - vec_len out.old }
+    fn put_reading(&self, out: &mut CommittedList)
+        requires { 1 ≤ out.old.room }
         ensures items { out.new.items ≡ out.old.items ++ listed (kept_reading (next_want self.now.machine) (buffered self.now.machine) self.now) }
-        ensures room { vec_capacity out.old - vec_len out.old ≤ (vec_capacity out.new - vec_len out.new) + 1 }
+        ensures room { out.old.room ≤ out.new.room + 1 }
     {
         let Want::Finished(reply) = self.machine.want() else {
             return;
@@ -244,30 +249,19 @@ impl Hand {
         if !self.machine.writes().is_empty() {
             return;
         }
-        out.push_reserved(Committed {
-            number: self.number,
-            reply: reply.copied(),
-            dep: self.dep,
-            lv: self.dep,
-            spot: None,
-        });
+        out.push_reserved(self.number, reply, &self.dep, None);
     }
 
-    fn put_joined(&self, out: &mut Vec<Committed>)
-        requires { 1 ≤ vec_capacity out.old - vec_len out.old }
+    fn put_joined(&self, out: &mut CommittedList)
+        requires room { 1 ≤ out.old.room }
+        requires vector { self.now.lv ≡ lv_at self.now.dep (spot_by (buffered self.now.machine) self.now) }
         ensures items { out.new.items ≡ out.old.items ++ listed (kept_joined (next_want self.now.machine) self.now) }
-        ensures room { vec_capacity out.old - vec_len out.old ≤ (vec_capacity out.new - vec_len out.new) + 1 }
+        ensures room { out.old.room ≤ out.new.room + 1 }
     {
         let Want::Finished(reply) = self.machine.want() else {
             return;
         };
-        out.push_reserved(Committed {
-            number: self.number,
-            reply: reply.copied(),
-            dep: self.dep,
-            lv: self.lv,
-            spot: self.spot(),
-        });
+        out.push_reserved(self.number, reply, &self.dep, self.spot());
     }
 
     /// The place of its record.
@@ -558,9 +552,8 @@ impl Hand {
         ensures runs { (procs : List Proc) → IsRunBy procs self.old → IsRunBy procs self.new }
     {
         take(&mut self.held, key, Mode::Read);
-        let seen = value_of(row);
-        self.seen.push((key, seen));
-        self.machine.give(value_of(row));
+        push_seen(&mut self.seen, key, row);
+        self.machine.give_row(row);
         catch_up(&mut self.machine, self.seen.as_slice());
         self.dep = *dep;
     }
@@ -877,7 +870,7 @@ impl Hand {
     {
         let _limits = procs.list();
         self.machine.restart(procs, &self.call);
-        self.seen.clear();
+        clear_seen(&mut self.seen);
         self.dep = Lv::zero(self.dep.width());
         self.standing = Standing::Running;
     }
@@ -904,14 +897,46 @@ fn lowest(held: &[(Key, Mode)]) -> Option<Key>
     }
 }
 
-/// The value of a row that is lent, Absent where there is none.
-fn value_of(row: Option<&Value>) -> Value
-    ensures { result ≡ unwrap_or (option_copied row.entry) Value.Absent }
+/// Forgets what was seen. A single value is taken out in place.
+fn clear_seen(seen: &mut ArrayVec<(Key, Value), MAX_STEPS>)
+    ensures { seen.new.items ≡ [] }
+{
+    if seen.len() == 1 {
+        let _only = seen.pop();
+        return;
+    }
+    seen.clear();
+}
+
+/// Puts a key at the end with the value of its row, Absent where there is none.
+fn push_seen(seen: &mut ArrayVec<(Key, Value), MAX_STEPS>, key: Key, row: Option<&Value>)
+    requires { array_vec_len seen.old < MAX_STEPS }
+    ensures { seen.new.items ≡ seen.old.items ++ (key, unwrap_or (option_copied row.entry) Value.Absent) ∷ [] }
 {
     match row {
-        Some(value) => value.copied(),
-        None => Value::Absent,
+        Some(value) => push_value(seen, key, value),
+        None => seen.push((key, Value::Absent)),
     }
+}
+
+/// Puts a key at the end with a value that is lent. A whole number is not moved through a place of its own, a text apart.
+fn push_value(seen: &mut ArrayVec<(Key, Value), MAX_STEPS>, key: Key, value: &Value)
+    requires { array_vec_len seen.old < MAX_STEPS }
+    ensures { seen.new.items ≡ seen.old.items ++ (key, value.now) ∷ [] }
+{
+    match value {
+        Value::Absent => seen.push((key, Value::Absent)),
+        Value::Int(number) => seen.push((key, Value::Int(*number))),
+        Value::Text(text) => push_text(seen, key, text),
+    }
+}
+
+#[inline(never)]
+fn push_text(seen: &mut ArrayVec<(Key, Value), MAX_STEPS>, key: Key, text: &Text64)
+    requires { array_vec_len seen.old < MAX_STEPS }
+    ensures { seen.new.items ≡ seen.old.items ++ (key, Value.Text text.now) ∷ [] }
+{
+    seen.push((key, Value::Text(text.copied())));
 }
 
 /// The vector with the end of the record in its stream.
@@ -970,17 +995,6 @@ fn frees(held: &[(Key, Mode)], writes: &[(Key, Value)], reply: &Reply, lv: &Lv) 
     }
 }
 
-/// Puts the call in the place of the one before.
-fn copy_call(place: &mut Call, call: &Call)
-    ensures { place.new ≡ call.now }
-{
-    place.proc = call.proc;
-    place.args.clear();
-    for arg in call.args.as_slice() {
-        place.args.push(arg.copied());
-    }
-}
-
 /// Gives the machine each value that it wants again.
 fn catch_up(machine: &mut Course, seen: &[(Key, Value)])
     ensures follows { (procs : List Proc) (c : Call) → Follows procs c seen.now machine.old → Follows procs c seen.now machine.new }
@@ -989,7 +1003,7 @@ fn catch_up(machine: &mut Course, seen: &[(Key, Value)])
 {
     while let Want::Read(key) = machine.want() {
         let key = *key;
-        match value_at(key, seen) {
+        match lent_at(key, seen) {
             Some(value) => machine.give(value),
             None => return,
         }

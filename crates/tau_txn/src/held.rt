@@ -10,7 +10,7 @@ ghost use Rattle.tau_txn.specs.Steps.{without_first};
 
 use arrayvec::ArrayVec;
 use std::cmp::Ordering;
-use tau_base::{Key, Mode, Value};
+use tau_base::{Key, MAX_STEPS, Mode, Value};
 
 /// The place of the key, or the place where it would go.
 fn place(held: &[(Key, Mode)], key: Key) -> Result<usize, usize>
@@ -27,8 +27,8 @@ fn place(held: &[(Key, Mode)], key: Key) -> Result<usize, usize>
 }
 
 /// Holds the key in this mode.
-pub(crate) fn take(held: &mut ArrayVec<(Key, Mode), 64>, key: Key, mode: Mode)
-    requires { array_vec_len held.old < 64 }
+pub(crate) fn take(held: &mut ArrayVec<(Key, Mode), MAX_STEPS>, key: Key, mode: Mode)
+    requires { array_vec_len held.old < MAX_STEPS }
     ensures { held.new.items ≡ hold key mode held.old.items }
 {
     match place(held.as_slice(), key) {
@@ -62,7 +62,18 @@ pub(crate) fn lent_at(key: Key, entries: &[(Key, Value)]) -> Option<&Value>
 }
 
 /// Holds the lowest key no more.
-pub(crate) fn leave_first(held: &mut ArrayVec<(Key, Mode), 64>)
+pub(crate) fn leave_first(held: &mut ArrayVec<(Key, Mode), MAX_STEPS>)
+    ensures { held.new.items ≡ without_first held.old.items }
+{
+    if held.len() == 1 {
+        let _only = held.pop();
+        return;
+    }
+    leave_lowest(held);
+}
+
+/// The same of any number of keys.
+fn leave_lowest(held: &mut ArrayVec<(Key, Mode), MAX_STEPS>)
     ensures { held.new.items ≡ without_first held.old.items }
 {
     if let Some((key, _)) = held.first() {
@@ -72,7 +83,7 @@ pub(crate) fn leave_first(held: &mut ArrayVec<(Key, Mode), 64>)
 }
 
 /// Holds the key no more.
-fn leave(held: &mut ArrayVec<(Key, Mode), 64>, key: Key)
+fn leave(held: &mut ArrayVec<(Key, Mode), MAX_STEPS>, key: Key)
     ensures { held.new.items ≡ without key held.old.items }
 {
     held.retain(

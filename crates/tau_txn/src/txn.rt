@@ -1,5 +1,5 @@
 //! A worker's calls, one at a time.
-ghost use Rattle.std.specs.Prelude.{◌≡◌, ◌<◌, ◌≤◌, ◌+◌, ◌-◌, ◌++◌, ◌∷◌, [], List, ℕ, Option, Some, None, false, true, length, is_some, IsTrue, IsSome, IfSome, IfNone, OnOk, OnErr, vec_capacity, vec_len};
+ghost use Rattle.std.specs.Prelude.{◌≡◌, ◌<◌, ◌≤◌, ◌+◌, ◌-◌, ◌++◌, ◌∷◌, [], List, ℕ, Option, Some, None, false, true, length, is_some, IsTrue, IsSome, IfSome, IfNone, OnOk, OnErr};
 ghost use Rattle.std.specs.Option.{option_copied, unwrap_or};
 ghost use Rattle.tau_base.specs.Vectors.{join};
 ghost use Rattle.tau_base.specs.declared.limits.TheConstants.{MAX_LSN, MAX_STREAMS};
@@ -28,8 +28,8 @@ use crate::course::first_want;
 use crate::hand::Hand;
 use std::alloc::Global;
 use std::marker::Model;
-use tau_base::{Call, Key, LogMode, Lv, Mode, NoMemory, Value};
-use tau_model::Committed;
+use tau_base::{Call, KeptCall, Key, LogMode, Lv, Mode, NoMemory, Value, stream_of};
+use tau_model::{Committed, CommittedList};
 use tau_proc::{Procs, Want};
 
 /// A worker with the call in its hand. It runs its calls one at a time.
@@ -37,7 +37,7 @@ use tau_proc::{Procs, Want};
 pub struct Txn {
     alloc: Global,
     worker: u8,
-    n: usize,
+    streams: usize,
     mode: LogMode,
     hand: Hand,
     in_hand: bool,
@@ -49,30 +49,30 @@ impl Model for Txn {
 
     ghost Value = { PlainTxn };
 
-    ghost view = { λ t. record { worker = t.worker; width = t.n; mode = t.mode; hand = kept t.in_hand t.hand } };
+    ghost view = { λ t. record { worker = t.worker; width = t.streams; mode = t.mode; hand = kept t.in_hand t.hand } };
 
-    ghost invariant = { λ t. Keeps (record { worker = t.worker; width = t.n; mode = t.mode; hand = kept t.in_hand t.hand }) };
+    ghost invariant = { λ t. Keeps (record { worker = t.worker; width = t.streams; mode = t.mode; hand = kept t.in_hand t.hand }) };
 }
 
 impl Txn {
-    /// A worker of a run with `n` streams, with no call in hand.
-    pub fn new(alloc: Global, worker: u8, n: usize, mode: LogMode) -> Txn
-        requires low { 1 ≤ n }
-        requires high { n ≤ MAX_STREAMS }
-        ensures { result ≡ record { worker = worker; width = n; mode = mode; hand = None } }
+    /// A worker of a run with so many streams, with no call in hand.
+    pub fn new(alloc: Global, worker: u8, streams: usize, mode: LogMode) -> Txn
+        requires low { 1 ≤ streams }
+        requires high { streams ≤ MAX_STREAMS }
+        ensures { result ≡ record { worker = worker; width = streams; mode = mode; hand = None } }
     {
         Txn {
             alloc,
             worker,
-            n,
+            streams,
             mode,
-            hand: Hand::new(alloc, n),
+            hand: Hand::new(alloc, streams),
             in_hand: false,
         }
     }
 
     /// Takes a call into its hand. It takes no memory.
-    pub fn begin(&mut self, procs: &Procs, number: u64, call: &Call)
+    pub fn begin(&mut self, procs: &Procs, number: u64, call: &KeptCall)
         requires resting { self.old.hand ≡ None }
         requires takes { IsTrue (takes procs.now call.now) }
         requires number { 1 ≤ number }
@@ -82,7 +82,7 @@ impl Txn {
         ensures bytes { bytes_in self.new ≡ [] }
         ensures same { self.new ≡ record self.old { hand = self.new.hand } }
     {
-        self.hand.begin(procs, number, call, self.n);
+        self.hand.begin(procs, number, call, self.streams);
         self.in_hand = true;
     }
 
@@ -268,7 +268,7 @@ impl Txn {
         ensures stays { leaves_in self.old ≡ false → leaves_in self.new ≡ false }
         ensures same { self.new ≡ record self.old { hand = self.new.hand } }
     {
-        let stream = usize::from(self.worker) % self.n;
+        let stream = stream_of(usize::from(self.worker), self.streams);
         if !self.in_hand {
             return;
         }
@@ -363,7 +363,7 @@ impl Txn {
         ensures wide { length result ≡ self.now.width }
     {
         if !self.in_hand {
-            return Lv::zero(self.n);
+            return Lv::zero(self.streams);
         }
         *self.hand.dep()
     }
@@ -384,7 +384,7 @@ impl Txn {
         ensures frees { (procs : List Proc) (hand : theory.Hand) (act : Act theory.Txn) → RunsBy procs self.now → hand_in procs self.now ≡ Some hand → FreesBy procs (has_joined self.now) self.now.worker hand act → result ≡ lv_of act }
     {
         if !self.in_hand {
-            return Lv::zero(self.n);
+            return Lv::zero(self.streams);
         }
         *self.hand.lv()
     }
@@ -421,12 +421,12 @@ impl Txn {
     }
 
     /// Appends what is kept of the call in hand, as `committed` answers it; nothing where that is nothing. It takes no memory.
-    pub fn commit_into(&self, out: &mut Vec<Committed>)
-        requires room { 1 ≤ vec_capacity out.old - vec_len out.old }
+    pub fn commit_into(&self, out: &mut CommittedList)
+        requires room { 1 ≤ out.old.room }
         ensures kept { out.new.items ≡ out.old.items ++ listed (kept_of self.now.hand) }
         ensures joined { (procs : List Proc) (hand : theory.Hand) (act : Act theory.Txn) → RunsBy procs self.now → hand_in procs self.now ≡ Some hand → act_of hand.phase ≡ Some act → out.new.items ≡ out.old.items ++ committed_of act ∷ [] }
         ensures reading { (procs : List Proc) (hand : theory.Hand) (act : Act theory.Txn) → RunsBy procs self.now → hand_in procs self.now ≡ Some hand → Reads procs self.now.worker hand act → out.new.items ≡ out.old.items ++ committed_of act ∷ [] }
-        ensures room { vec_capacity out.old - vec_len out.old ≤ (vec_capacity out.new - vec_len out.new) + 1 }
+        ensures room { out.old.room ≤ out.new.room + 1 }
     {
         if !self.in_hand {
             return;

@@ -1,4 +1,4 @@
-use Rattle.std.proofs.Common.{◌≡◌, ◌<◌, ◌∷◌, ◌++◌, [], List, sym, ap, subst, ◌∙◌, length, lit<}
+use Rattle.std.proofs.Common.{◌≡◌, ◌<◌, ◌∷◌, ◌++◌, [], List, sym, ap, subst, ◌∙◌, length}
 use Rattle.std.specs.Prelude.{None}
 use Rattle.std.specs.Map.{lookup}
 use Rattle.std.specs.Option.{option_copied, unwrap_or}
@@ -20,9 +20,9 @@ take-requires c =
     let is = c.requires.run.is in
     subst (λ (h : PlainHand). length h.held < 64) (sym c.self.view_is) (held-room-read c.requires.run.procs c.args.self.now c.args.key is (is.holds c.requires.running) c.requires.wanted)
 
-pub push-requires : goal.push-requires
-push-requires c =
-    (lit< tt, subst (λ (h : PlainHand). length h.seen < 64) (sym c.self.view_is) (seen-room c.requires.run.procs c.args.self.now c.args.key c.requires.run.is c.requires.wanted))
+pub push_seen-requires : goal.push_seen-requires
+push_seen-requires c =
+    (subst (λ (h : PlainHand). length h.seen < 64) (sym c.self.view_is) (seen-room c.requires.run.procs c.args.self.now c.args.key c.requires.run.is c.requires.wanted))
 
 pub returns-clause-runs : goal.returns-clause-runs
 returns-clause-runs c = λ procs is.
@@ -31,12 +31,12 @@ returns-clause-runs c = λ procs is.
     let wants : next_want c.self.inside.machine ≡ Read c.args.key = ap (λ (h : PlainHand). next_want h.machine) c.self.view_is ∙ c.requires.wanted in
     let stands = read-wants c.self.inside.machine c.args.key wants in
     let more : List (Key × Value) = c.self.inside.seen.items ++ (c.args.key, (unwrap_or (option_copied c.args.row) Absent)) ∷ [] in
-    let saw : c.as_slice.result.now ≡ more = c.as_slice.ensures.value ∙ c.push.ensures.items ∙ ap (λ (v : Value). c.self.inside.seen.items ++ (c.args.key, v) ∷ []) c.value_of-seen.ensures in
+    let saw : c.as_slice.result.now ≡ more = c.as_slice.ensures.value ∙ c.push_seen.ensures in
     let none : lookup (same_key c.args.key) c.self.inside.seen.items ≡ None = subst (WantsUnseen c.self.inside.seen.items) stands run.unseen in
-    let gives = subst (λ (v : Value). (vs : List Value) → ahead c.give.new.self vs ≡ ahead c.self.inside.machine (v ∷ vs)) c.value_of.ensures c.give.ensures.stands in
-    let once = follows-read procs c.self.inside.call c.self.inside.seen.items c.self.inside.machine c.args.key (unwrap_or (option_copied c.args.row) Absent) c.give.new.self stands gives c.give.ensures.granted run.follows none in
-    let again = c.catch_up.ensures.follows procs c.self.inside.call (subst (λ (l : List (Key × Value)). Follows procs c.self.inside.call l c.give.new.self) (sym saw) once) in
+    let gives = c.give_row.ensures.stands in
+    let once = follows-read procs c.self.inside.call c.self.inside.seen.items c.self.inside.machine c.args.key (unwrap_or (option_copied c.args.row) Absent) c.give_row.new.self stands gives c.give_row.ensures.granted run.follows none in
+    let again = c.catch_up.ensures.follows procs c.self.inside.call (subst (λ (l : List (Key × Value)). Follows procs c.self.inside.call l c.give_row.new.self) (sym saw) once) in
     let follows = subst (λ (l : List (Key × Value)). Follows procs c.self.inside.call l c.catch_up.new.machine) saw again in
     let unseen = subst (λ (l : List (Key × Value)). WantsUnseen l (ahead c.catch_up.new.machine [])) saw c.catch_up.ensures.unseen in
-    rw (c.take.ensures, c.push.ensures.items, c.value_of-seen.ensures)
-    (run-read procs _ c.args.key (unwrap_or (option_copied c.args.row) Absent) c.catch_up.new.machine c.args.dep.now run running wants follows unseen (c.catch_up.ensures.granted ∙ c.give.ensures.granted))
+    rw (c.take.ensures, c.push_seen.ensures)
+    (run-read procs _ c.args.key (unwrap_or (option_copied c.args.row) Absent) c.catch_up.new.machine c.args.dep.now run running wants follows unseen (c.catch_up.ensures.granted ∙ c.give_row.ensures.granted))

@@ -13,11 +13,11 @@ use Rattle.tau_txn.proofs.txn.Txn.committed.Goals as goal
 pub returns-clause-joined : goal.returns-clause-joined
 returns-clause-joined c =
     subst (λ (t : PlainTxn). (procs : List Proc) (hand : theory.Hand) (act : Act theory.Txn) → RunsBy procs t → hand_in procs t ≡ Some hand → act_of hand.phase ≡ Some act → c.committed.result ≡ Some (committed_of act))
-    (ap (λ (b : Bool). record { worker = c.self.inside.worker; width = c.self.inside.n; mode = c.self.inside.mode; hand = kept b c.self.inside.hand }) (sym c.if-not-self.false) ∙ c.self.view_is)
+    (ap (λ (b : Bool). record { worker = c.self.inside.worker; width = c.self.inside.streams; mode = c.self.inside.mode; hand = kept b c.self.inside.hand }) (sym c.if-not-self.false) ∙ c.self.view_is)
     (λ procs hand act run is acts. c.committed.ensures.kept ∙ kept-joined procs c.self.inside.worker c.self.inside.hand hand act run is acts)
 
 pub returns-clause-reading : goal.returns-clause-reading
 returns-clause-reading c =
     subst (λ (t : PlainTxn). (procs : List Proc) (hand : theory.Hand) (act : Act theory.Txn) → RunsBy procs t → hand_in procs t ≡ Some hand → Reads procs t.worker hand act → c.committed.result ≡ Some (committed_of act))
-    (ap (λ (b : Bool). record { worker = c.self.inside.worker; width = c.self.inside.n; mode = c.self.inside.mode; hand = kept b c.self.inside.hand }) (sym c.if-not-self.false) ∙ c.self.view_is)
+    (ap (λ (b : Bool). record { worker = c.self.inside.worker; width = c.self.inside.streams; mode = c.self.inside.mode; hand = kept b c.self.inside.hand }) (sym c.if-not-self.false) ∙ c.self.view_is)
     (λ procs hand act run is reads. c.committed.ensures.kept ∙ kept-reading procs c.self.inside.worker c.self.inside.hand hand act run c.committed.ensures.ascend is reads)

@@ -18,7 +18,7 @@ pub returns-clause-locked : goal.returns-clause-locked
 returns-clause-locked c =
     subst (λ (t : PlainTxn). (procs : List Proc) (hand : theory.Hand) (x : Key) (m : Mode) → RunsBy procs t → next_action t ≡ action.Lock x m → hand_in procs t ≡ Some hand →
     shown_of procs c.self.inside.worker (kept c.self.inside.in_hand c.granted.new.self) ≡ Some (locked_with hand x m (unwrap_or (option_copied c.args.row) Absent) c.args.dep.now))
-    (ap (λ (b : Bool). record { worker = c.self.inside.worker; width = c.self.inside.n; mode = c.self.inside.mode; hand = kept b c.self.inside.hand }) (sym c.if-not-self.false) ∙ c.self.view_is)
+    (ap (λ (b : Bool). record { worker = c.self.inside.worker; width = c.self.inside.streams; mode = c.self.inside.mode; hand = kept b c.self.inside.hand }) (sym c.if-not-self.false) ∙ c.self.view_is)
     (λ procs hand x m run asked is.
     ap (λ (b : Bool). shown_of procs c.self.inside.worker (kept b c.granted.new.self)) c.if-not-self.false
     ∙ locked-in c.self.inside.worker c.self.inside.hand c.granted.new.self (unwrap_or (option_copied c.args.row) Absent) c.args.dep.now c.granted.ensures.locked c.granted.ensures.standing procs hand x m asked is)

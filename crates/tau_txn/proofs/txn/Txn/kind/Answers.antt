@@ -10,7 +10,7 @@ use Rattle.tau_txn.proofs.txn.Txn.kind.Goals as goal
 pub returns-clause-means : goal.returns-clause-means
 returns-clause-means c =
     subst (λ (t : PlainTxn). (procs : List Proc) → RunsBy procs t → Means procs t (next_action t))
-    (ap (λ (b : Bool). record { worker = c.self.inside.worker; width = c.self.inside.n; mode = c.self.inside.mode; hand = kept b c.self.inside.hand }) (sym c.if-not-self.false) ∙ c.self.view_is)
+    (ap (λ (b : Bool). record { worker = c.self.inside.worker; width = c.self.inside.streams; mode = c.self.inside.mode; hand = kept b c.self.inside.hand }) (sym c.if-not-self.false) ∙ c.self.view_is)
     (λ procs run.
-    let keeps = subst (λ (b : Bool). keeps_in c.self.inside.n (kept b c.self.inside.hand)) c.if-not-self.false c.self.invariant.hand in
-    means-of procs c.self.inside.worker c.self.inside.n c.self.inside.mode c.self.inside.hand run keeps c.kind.ensures.ascend)
+    let keeps = subst (λ (b : Bool). keeps_in c.self.inside.streams (kept b c.self.inside.hand)) c.if-not-self.false c.self.invariant.hand in
+    means-of procs c.self.inside.worker c.self.inside.streams c.self.inside.mode c.self.inside.hand run keeps c.kind.ensures.ascend)

@@ -14,8 +14,8 @@ pub returns-clause-placed : goal.returns-clause-placed
 returns-clause-placed c =
     subst (λ (t : PlainTxn). (procs : List Proc) (hand : theory.Hand) → RunsBy procs t → hand_in procs t ≡ Some hand →
     shown_of procs c.self.inside.worker (kept c.self.inside.in_hand c.placed.new.self) ≡ Some (hand_joined hand (theory.Placed (act_at procs t c.args.start hand)) hand.dep))
-    (ap (λ (b : Bool). record { worker = c.self.inside.worker; width = c.self.inside.n; mode = c.self.inside.mode; hand = kept b c.self.inside.hand }) (sym c.if-not-self.false) ∙ c.self.view_is)
+    (ap (λ (b : Bool). record { worker = c.self.inside.worker; width = c.self.inside.streams; mode = c.self.inside.mode; hand = kept b c.self.inside.hand }) (sym c.if-not-self.false) ∙ c.self.view_is)
     (λ procs hand run is.
     ap (λ (b : Bool). shown_of procs c.self.inside.worker (kept b c.placed.new.self)) c.if-not-self.false
-    ∙ placed-in procs c.self.inside.worker c.self.inside.n c.self.inside.mode (c.from.result % c.self.inside.n) c.args.start c.self.inside.hand c.placed.new.self
-    (ap (λ (k : ℕ). k % c.self.inside.n) c.from.ensures) (ap (λ (h : PlainHand). h.standing) c.placed.ensures.same) c.placed.ensures.placed hand is)
+    ∙ placed-in procs c.self.inside.worker c.self.inside.streams c.self.inside.mode c.stream_of-stream.result c.args.start c.self.inside.hand c.placed.new.self
+    (c.stream_of-stream.ensures.same ∙ ap (λ (k : ℕ). k % c.self.inside.streams) c.from.ensures) (ap (λ (h : PlainHand). h.standing) c.placed.ensures.same) c.placed.ensures.placed hand is)

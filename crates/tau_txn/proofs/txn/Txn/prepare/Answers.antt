@@ -16,24 +16,24 @@ use Rattle.tau_txn.proofs.txn.Txn.prepare.Goals as goal
 pub returns-clause-sized : goal.returns-clause-sized
 returns-clause-sized c =
     subst (λ (b : Bool). OnOk c.prepare.result (1 ≤ length (bytes_by (kept b c.prepare.new.self)))) (sym c.if-not-self.false)
-    (prepared-sized c.self.inside.worker c.self.inside.n c.self.inside.mode c.self.inside.hand c.prepare.new.self c.args.anchor_number c.args.anchor.now c.prepare.result c.prepare.ensures.bytes)
+    (prepared-sized c.self.inside.worker c.self.inside.streams c.self.inside.mode c.self.inside.hand c.prepare.new.self c.args.anchor_number c.args.anchor.now c.prepare.result c.prepare.ensures.bytes)
 
 pub returns-clause-bytes : goal.returns-clause-bytes
 returns-clause-bytes c =
-    let at : ◌≡◌ {A = PlainTxn} (record { worker = c.self.inside.worker; width = c.self.inside.n; mode = c.self.inside.mode; hand = Some c.self.inside.hand }) c.args.self.now =
-    ap (λ (b : Bool). record { worker = c.self.inside.worker; width = c.self.inside.n; mode = c.self.inside.mode; hand = kept b c.self.inside.hand }) (sym c.if-not-self.false) ∙ c.self.view_is in
-    let keeps : KeepsHand c.self.inside.n c.self.inside.hand = subst (λ (b : Bool). keeps_in c.self.inside.n (kept b c.self.inside.hand)) c.if-not-self.false c.self.invariant.hand in
+    let at : ◌≡◌ {A = PlainTxn} (record { worker = c.self.inside.worker; width = c.self.inside.streams; mode = c.self.inside.mode; hand = Some c.self.inside.hand }) c.args.self.now =
+    ap (λ (b : Bool). record { worker = c.self.inside.worker; width = c.self.inside.streams; mode = c.self.inside.mode; hand = kept b c.self.inside.hand }) (sym c.if-not-self.false) ∙ c.self.view_is in
+    let keeps : KeepsHand c.self.inside.streams c.self.inside.hand = subst (λ (b : Bool). keeps_in c.self.inside.streams (kept b c.self.inside.hand)) c.if-not-self.false c.self.invariant.hand in
     let asked = commit-of c.self.inside.hand (subst (λ (t : PlainTxn). IsCommit (next_action t)) (sym at) c.requires.commit) in
     let finished = subst IsFinished (sym asked.1.finished) tt in
     subst (λ (b : Bool). OnOk c.prepare.result ((procs : List Proc) (hand : theory.Hand) (start : ℕ) (vectors : List (List ℕ)) → RunsBy procs c.args.self.now →
     shown_of procs c.self.inside.worker (kept b c.prepare.new.self) ≡ Some hand → base_of vectors c.args.anchor_number ≡ c.args.anchor.now →
     Spells One c.args.self.now.width vectors false
-    (entry_of c.args.self.now.mode (act_at procs (record { worker = c.self.inside.worker; width = c.self.inside.n; mode = c.self.inside.mode; hand = kept b c.prepare.new.self }) start hand)) (bytes_by (kept b c.prepare.new.self))))
+    (entry_of c.args.self.now.mode (act_at procs (record { worker = c.self.inside.worker; width = c.self.inside.streams; mode = c.self.inside.mode; hand = kept b c.prepare.new.self }) start hand)) (bytes_by (kept b c.prepare.new.self))))
     (sym c.if-not-self.false)
     (subst (λ (t : PlainTxn). OnOk c.prepare.result ((procs : List Proc) (hand : theory.Hand) (start : ℕ) (vectors : List (List ℕ)) → RunsBy procs t →
     shown procs c.self.inside.worker c.prepare.new.self.standing c.prepare.new.self ≡ Some hand → base_of vectors c.args.anchor_number ≡ c.args.anchor.now →
     Spells One t.width vectors false
-    (entry_of t.mode (act_at procs (record { worker = c.self.inside.worker; width = c.self.inside.n; mode = c.self.inside.mode; hand = Some c.prepare.new.self }) start hand)) c.prepare.new.self.bytes))
+    (entry_of t.mode (act_at procs (record { worker = c.self.inside.worker; width = c.self.inside.streams; mode = c.self.inside.mode; hand = Some c.prepare.new.self }) start hand)) c.prepare.new.self.bytes))
     at
-    (prepared-bytes c.self.inside.worker c.self.inside.n c.self.inside.mode c.self.inside.hand c.prepare.new.self c.args.anchor_number c.args.anchor.now c.prepare.result
+    (prepared-bytes c.self.inside.worker c.self.inside.streams c.self.inside.mode c.self.inside.hand c.prepare.new.self c.args.anchor_number c.args.anchor.now c.prepare.result
     c.prepare.ensures.raised c.prepare.ensures.bytes keeps.shaped.wide finished c.prepare.ensures.runs))

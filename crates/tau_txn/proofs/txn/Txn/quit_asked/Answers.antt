@@ -14,33 +14,33 @@ use Rattle.tau_txn.proofs.txn.Txn.quit_asked.Goals as goal
 pub returns-clause-asked : goal.returns-clause-asked
 returns-clause-asked c =
     subst (λ (t : PlainTxn). c.quit_asked.result ≡ quit_at (next_action t))
-    (ap (λ (b : Bool). record { worker = c.self.inside.worker; width = c.self.inside.n; mode = c.self.inside.mode; hand = kept b c.self.inside.hand }) (sym c.if-not-self.false) ∙ c.self.view_is)
+    (ap (λ (b : Bool). record { worker = c.self.inside.worker; width = c.self.inside.streams; mode = c.self.inside.mode; hand = kept b c.self.inside.hand }) (sym c.if-not-self.false) ∙ c.self.view_is)
     (c.quit_asked.ensures.asked ∙ sym (quit-next c.self.inside.hand.standing c.self.inside.hand))
 
 pub returns-clause-next : goal.returns-clause-next
 returns-clause-next c =
     subst (λ (t : PlainTxn). IfSome c.quit_asked.result (λ x. next_action t ≡ action.Quit x))
-    (ap (λ (b : Bool). record { worker = c.self.inside.worker; width = c.self.inside.n; mode = c.self.inside.mode; hand = kept b c.self.inside.hand }) (sym c.if-not-self.false) ∙ c.self.view_is)
-    (quit-is (record { worker = c.self.inside.worker; width = c.self.inside.n; mode = c.self.inside.mode; hand = Some c.self.inside.hand }) c.quit_asked.result (c.quit_asked.ensures.asked ∙ sym (quit-next c.self.inside.hand.standing c.self.inside.hand)))
+    (ap (λ (b : Bool). record { worker = c.self.inside.worker; width = c.self.inside.streams; mode = c.self.inside.mode; hand = kept b c.self.inside.hand }) (sym c.if-not-self.false) ∙ c.self.view_is)
+    (quit-is (record { worker = c.self.inside.worker; width = c.self.inside.streams; mode = c.self.inside.mode; hand = Some c.self.inside.hand }) c.quit_asked.result (c.quit_asked.ensures.asked ∙ sym (quit-next c.self.inside.hand.standing c.self.inside.hand)))
 
 pub returns-clause-means : goal.returns-clause-means
 returns-clause-means c =
     subst (λ (t : PlainTxn). (procs : List Proc) → RunsBy procs t → IfSome c.quit_asked.result (λ x. Quits procs t x))
-    (ap (λ (b : Bool). record { worker = c.self.inside.worker; width = c.self.inside.n; mode = c.self.inside.mode; hand = kept b c.self.inside.hand }) (sym c.if-not-self.false) ∙ c.self.view_is)
+    (ap (λ (b : Bool). record { worker = c.self.inside.worker; width = c.self.inside.streams; mode = c.self.inside.mode; hand = kept b c.self.inside.hand }) (sym c.if-not-self.false) ∙ c.self.view_is)
     (λ procs run.
-    let keeps = subst (λ (b : Bool). keeps_in c.self.inside.n (kept b c.self.inside.hand)) c.if-not-self.false c.self.invariant.hand in
-    quit-means (record { worker = c.self.inside.worker; width = c.self.inside.n; mode = c.self.inside.mode; hand = Some c.self.inside.hand }) procs c.quit_asked.result
+    let keeps = subst (λ (b : Bool). keeps_in c.self.inside.streams (kept b c.self.inside.hand)) c.if-not-self.false c.self.invariant.hand in
+    quit-means (record { worker = c.self.inside.worker; width = c.self.inside.streams; mode = c.self.inside.mode; hand = Some c.self.inside.hand }) procs c.quit_asked.result
     (c.quit_asked.ensures.asked ∙ sym (quit-next c.self.inside.hand.standing c.self.inside.hand))
-    (means-of procs c.self.inside.worker c.self.inside.n c.self.inside.mode c.self.inside.hand run keeps c.quit_asked.ensures.ascend))
+    (means-of procs c.self.inside.worker c.self.inside.streams c.self.inside.mode c.self.inside.hand run keeps c.quit_asked.ensures.ascend))
 
 pub returns-clause-other : goal.returns-clause-other
 returns-clause-other c =
     subst (λ (t : PlainTxn). IfNone c.quit_asked.result ((x : Key) → next_action t ≡ action.Quit x → ⊥))
-    (ap (λ (b : Bool). record { worker = c.self.inside.worker; width = c.self.inside.n; mode = c.self.inside.mode; hand = kept b c.self.inside.hand }) (sym c.if-not-self.false) ∙ c.self.view_is)
-    (quit-other (record { worker = c.self.inside.worker; width = c.self.inside.n; mode = c.self.inside.mode; hand = Some c.self.inside.hand }) c.quit_asked.result (c.quit_asked.ensures.asked ∙ sym (quit-next c.self.inside.hand.standing c.self.inside.hand)))
+    (ap (λ (b : Bool). record { worker = c.self.inside.worker; width = c.self.inside.streams; mode = c.self.inside.mode; hand = kept b c.self.inside.hand }) (sym c.if-not-self.false) ∙ c.self.view_is)
+    (quit-other (record { worker = c.self.inside.worker; width = c.self.inside.streams; mode = c.self.inside.mode; hand = Some c.self.inside.hand }) c.quit_asked.result (c.quit_asked.ensures.asked ∙ sym (quit-next c.self.inside.hand.standing c.self.inside.hand)))
 
 pub returns-clause-hand : goal.returns-clause-hand
 returns-clause-hand c = λ some.
     subst (λ (t : PlainTxn). is_some t.hand ≡ true)
-    (ap (λ (b : Bool). record { worker = c.self.inside.worker; width = c.self.inside.n; mode = c.self.inside.mode; hand = kept b c.self.inside.hand }) (sym c.if-not-self.false) ∙ c.self.view_is)
+    (ap (λ (b : Bool). record { worker = c.self.inside.worker; width = c.self.inside.streams; mode = c.self.inside.mode; hand = kept b c.self.inside.hand }) (sym c.if-not-self.false) ∙ c.self.view_is)
     refl
