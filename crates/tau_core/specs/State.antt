@@ -1,5 +1,5 @@
 -- The state of the core as plain data.
-use Rattle.std.specs.Prelude.{ℕ, ◌-◌, List, vec_len, vec_capacity}
+use Rattle.std.specs.Prelude.{ℕ, List}
 use Rattle.tau_model.specs.declared.committed.Committed.{Committed}
 use Rattle.tau_shard.specs.Plain.{PlainShard}
 use Rattle.tau_core.specs.declared.state.Load.{Load}
@@ -25,7 +25,7 @@ plain s = record {
   seats = s.seats.items;
   streams = s.streams.items;
   committed = s.committed.items;
-  room = vec_capacity s.committed - vec_len s.committed;
+  room = s.committed.room;
   ends = s.ends;
   gathered = s.gathered;
   plv = s.plv;

@@ -68,5 +68,5 @@ fn keep(anchors: &mut Vec<Lv>, lv: Lv) -> Result<(), NoMemory>
     ensures ok { OnOk result (anchors.new.items ≡ anchors.old.items ++ lv ∷ []) }
     ensures err { OnErr result (anchors.new.items ≡ anchors.old.items) }
 {
-    anchors.push(lv).map_err(|_| NoMemory)
+    Ok(anchors.push(lv)?)
 }

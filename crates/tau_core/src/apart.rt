@@ -9,7 +9,7 @@ use crate::state::{Load, Seat, State, Stream};
 use std::alloc::Global;
 use std::marker::Model;
 use tau_base::Lv;
-use tau_model::Committed;
+use tau_model::CommittedList;
 use tau_shard::Shard;
 
 /// What a core is made of.
@@ -22,7 +22,7 @@ pub struct Parts {
     pub seats: Vec<Seat>,
     pub streams: Vec<Stream>,
     /// The calls that have committed, of each worker in the order in which they did.
-    pub committed: Vec<Committed>,
+    pub committed: CommittedList,
     /// Of each stream where the last place ends, where what is gathered ends, and how far it is persisted.
     pub ends: Lv,
     pub gathered: Lv,
@@ -30,12 +30,11 @@ pub struct Parts {
 }
 
 impl Model for Parts {
-    ghost use Rattle.std.specs.Prelude.{◌-◌, vec_len, vec_capacity};
     ghost use Rattle.tau_core.specs.State.{Plain};
 
     ghost Value = { Plain };
 
-    ghost view = { λ q. record { load = q.load; shards = q.shards.items; seats = q.seats.items; streams = q.streams.items; committed = q.committed.items; room = vec_capacity q.committed - vec_len q.committed; ends = q.ends; gathered = q.gathered; plv = q.plv } };
+    ghost view = { λ q. record { load = q.load; shards = q.shards.items; seats = q.seats.items; streams = q.streams.items; committed = q.committed.items; room = q.committed.room; ends = q.ends; gathered = q.gathered; plv = q.plv } };
 }
 
 /// Takes a state apart.

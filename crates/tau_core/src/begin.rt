@@ -1,5 +1,5 @@
 //! A worker that rests begins its next call.
-ghost use Rattle.std.specs.Prelude.{◌≡◌, ◌<◌, ◌≤◌, ◌+◌, ◌-◌, ◌++◌, ◌∷◌, [], None, Some, OnOk, OnErr, length, slice_get, is_some, vec_capacity, vec_len, IsTrue, false};
+ghost use Rattle.std.specs.Prelude.{◌≡◌, ◌<◌, ◌≤◌, ◌+◌, ◌-◌, ◌++◌, ◌∷◌, [], None, Some, OnOk, OnErr, length, slice_get, is_some, IsTrue, false};
 ghost use Rattle.tau_core.specs.State.{plain};
 ghost use Rattle.tau_core.specs.Stands.{Sound};
 ghost use Rattle.tau_core.specs.Plain.{PlainSeat};
@@ -10,8 +10,8 @@ ghost use Rattle.tau_txn.specs.Txn.{hand_in, RunsBy, leaves_in};
 ghost use Rattle.tau_core.specs.Begins.{next_number, HasNext, RoomMade, IsRoomy, BeginsNext, Undone, next_behind, seat_at};
 
 use crate::state::{Seat, State};
-use tau_base::{Call, MAX_WORKERS, NoMemory};
-use tau_model::Committed;
+use tau_base::{KeptCall, MAX_WORKERS, NoMemory};
+use tau_model::CommittedList;
 use tau_proc::Procs;
 
 /// Where a worker stood among its calls.
@@ -70,12 +70,12 @@ pub(crate) fn make_room(state: &mut State, worker: usize) -> Result<(), NoMemory
 }
 
 /// Makes room for a call of each worker.
-fn committed_room(committed: &mut Vec<Committed>) -> Result<(), NoMemory>
+fn committed_room(committed: &mut CommittedList) -> Result<(), NoMemory>
     ensures items { committed.new.items ≡ committed.old.items }
-    ensures kept { vec_capacity committed.old - vec_len committed.old ≤ vec_capacity committed.new - vec_len committed.new }
-    ensures roomy { OnOk result (MAX_WORKERS ≤ vec_capacity committed.new - vec_len committed.new) }
+    ensures kept { committed.old.room ≤ committed.new.room }
+    ensures roomy { OnOk result (MAX_WORKERS ≤ committed.new.room) }
 {
-    committed.try_reserve(MAX_WORKERS).map_err(|_| NoMemory)
+    committed.reserve(MAX_WORKERS)
 }
 
 /// Makes the room in the worker's own part.
@@ -102,8 +102,8 @@ pub(crate) fn begin_call(state: &mut State, worker: usize, number: u64) -> Mark
 {
     let seat = &mut state.seats[worker];
     let mark = mark_of(seat);
-    let call = state.load.calls.call_at((number - 1) as usize);
-    start(seat, &state.load.procs, number, &call, state.load.workers);
+    let call = state.load.calls.at((number - 1) as usize);
+    start(seat, &state.load.procs, number, call, state.load.workers);
     mark
 }
 
@@ -118,7 +118,7 @@ fn mark_of(seat: &Seat) -> Mark
 }
 
 /// Takes the call into its hand, and goes on by one among its calls.
-fn start(seat: &mut Seat, procs: &Procs, number: u64, call: &Call, workers: usize)
+fn start(seat: &mut Seat, procs: &Procs, number: u64, call: &KeptCall, workers: usize)
     requires rests { seat.old.txn.hand ≡ None }
     requires takes { IsTrue (takes procs.now call.now) }
     requires low { 1 ≤ number }

@@ -9,7 +9,7 @@ ghost use Rattle.tau_core.specs.Commits.{IsAtCommit, CommitBy, stream_of};
 use crate::event::Outcome;
 use crate::phase::phase_of_kind;
 use crate::state::State;
-use tau_base::{Lv, MAX_LSN};
+use tau_base::{Lv, MAX_LSN, stream_of};
 use tau_txn::ActionKind;
 
 /// More bytes than any record has.
@@ -37,7 +37,7 @@ fn place(state: &mut State, worker: usize) -> Outcome
     requires at { IsAtCommit (plain state.old) worker }
     ensures { CommitBy (plain state.old) worker result (plain state.new) }
 {
-    let stream = worker % state.load.streams;
+    let stream = stream_of(worker, state.load.streams);
     let start = state.ends.get(stream);
     if start >= MAX_LSN - LONGEST {
         return Outcome::NoMemory;
@@ -70,7 +70,7 @@ fn place_above(state: &mut State, worker: usize, start: u64, named: &Named) -> O
                 seat.txn.placed(start);
                 seat.start = start;
                 seat.txn.commit_into(&mut state.committed);
-                state.ends.set(worker % state.load.streams, past);
+                state.ends.set(stream_of(worker, state.load.streams), past);
                 Outcome::Placed { start }
             }
         },

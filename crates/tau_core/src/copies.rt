@@ -47,7 +47,7 @@ fn copied_steps(alloc: Global, steps: &[Step]) -> Result<Listed<Step>, NoMemory>
 {
     let mut all = Listed::new(alloc);
     for step in steps {
-        all.push(step.copied()).map_err(|_| NoMemory)?;
+        all.push(step.copied())?;
     }
     Ok(all)
 }

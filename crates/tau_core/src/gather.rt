@@ -9,7 +9,7 @@ ghost use Rattle.tau_core.specs.Ends.{IsNext};
 
 use crate::event::{Outcome, Phase};
 use crate::state::State;
-use tau_base::{MAX_BODY, NoMemory};
+use tau_base::{MAX_BODY, NoMemory, stream_of};
 
 /// Gathers the posted pieces that continue the stream.
 pub(crate) fn gather(state: &mut State, stream: usize) -> Outcome
@@ -104,7 +104,7 @@ fn gather_round(state: &mut State, stream: usize)
     gather_own(state, stream);
     let streams = state.load.streams;
     for worker in 0..state.load.workers {
-        if worker % streams == stream {
+        if stream_of(worker, streams) == stream {
             gather_from(state, stream, worker);
         }
     }

@@ -45,7 +45,7 @@ impl LeftOvers {
         ensures room { self.old.room ≤ self.new.room }
         ensures roomy { OnOk result (1 ≤ self.new.room) }
     {
-        self.numbers.try_reserve(1).map_err(|_| NoMemory)
+        Ok(self.numbers.try_reserve(1)?)
     }
 
     /// Puts one more after the others.

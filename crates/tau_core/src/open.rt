@@ -11,6 +11,7 @@ use crate::parts::{seats, shards, streams};
 use crate::state::{Load, Seat, State, Stream};
 use std::alloc::Global;
 use tau_base::{LogMode, Lv, NoMemory};
+use tau_model::CommittedList;
 use tau_shard::Shard;
 use tau_text::Workload;
 
@@ -86,7 +87,7 @@ fn assembled(
         shards,
         seats,
         streams,
-        committed: Vec::new(alloc),
+        committed: CommittedList::new(alloc),
         ends,
         gathered: ends,
         plv: ends,

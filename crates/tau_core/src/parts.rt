@@ -26,8 +26,7 @@ pub(crate) fn seats(
 {
     let mut all = Vec::new(alloc);
     for worker in 0..workers {
-        all.push(seat(alloc, worker, streams, mode))
-            .map_err(|_| NoMemory)?;
+        all.push(seat(alloc, worker, streams, mode))?;
     }
     Ok(all)
 }
@@ -56,7 +55,7 @@ pub(crate) fn streams(alloc: Global, count: usize) -> Result<Vec<Stream>, NoMemo
 {
     let mut all = Vec::new(alloc);
     for _stream in 0..count {
-        all.push(stream(alloc)).map_err(|_| NoMemory)?;
+        all.push(stream(alloc))?;
     }
     Ok(all)
 }
@@ -92,8 +91,7 @@ fn empty_shards(alloc: Global, floor: Lv) -> Result<Vec<Shard>, NoMemory>
 {
     let mut all = Vec::new(alloc);
     for _shard in 0..SHARDS {
-        all.push(Shard::with_floor(alloc, floor))
-            .map_err(|_| NoMemory)?;
+        all.push(Shard::with_floor(alloc, floor))?;
     }
     Ok(all)
 }

@@ -7,6 +7,7 @@ ghost use Rattle.tau_core.specs.Frees.{IsAtPost, PostBy, PostsRecord};
 use crate::event::Outcome;
 use crate::phase::phase_of_kind;
 use crate::state::State;
+use tau_base::stream_of;
 use tau_txn::ActionKind;
 
 /// The record that has its place is posted.
@@ -34,7 +35,7 @@ fn post_record(state: &mut State, worker: usize)
     requires at { IsAtPost (plain state.old) worker }
     ensures { PostsRecord worker (plain state.old) (plain state.new) }
 {
-    let limit = state.ends.get(worker % state.load.streams);
+    let limit = state.ends.get(stream_of(worker, state.load.streams));
     let seat = &mut state.seats[worker];
     let bytes = seat.txn.take_bytes();
     seat.outbox.post(seat.start, bytes);

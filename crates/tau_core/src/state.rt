@@ -5,7 +5,7 @@ use std::alloc::Global;
 use std::marker::Model;
 use tau_ack::Pending;
 use tau_base::{Calls, LogMode, Lv};
-use tau_model::Committed;
+use tau_model::CommittedList;
 use tau_outbox::Outbox;
 use tau_proc::Procs;
 use tau_shard::Shard;
@@ -74,7 +74,7 @@ pub(crate) struct State {
     pub(crate) seats: Vec<Seat>,
     pub(crate) streams: Vec<Stream>,
     /// The calls that have committed, of each worker in the order in which they did.
-    pub(crate) committed: Vec<Committed>,
+    pub(crate) committed: CommittedList,
     /// Of each stream where the last place ends, where what is gathered ends, and how far it is persisted.
     pub(crate) ends: Lv,
     pub(crate) gathered: Lv,

@@ -43,7 +43,7 @@ use crate::take_body::take_body;
 use std::alloc::Global;
 use std::marker::Model;
 use tau_base::{Key, LogMode, Lv, Mode, NoMemory, SHARDS, Value, shard_of};
-use tau_model::{Committed, Tables};
+use tau_model::{CommittedList, Tables};
 use tau_text::Workload;
 
 /// The core of the engine.
@@ -212,11 +212,11 @@ impl Core {
     }
 
     /// The committed calls, each worker's in the order in which they committed.
-    pub fn committed(&self) -> &[Committed]
-        ensures same { result.now ≡ self.now.committed }
-        ensures order { (K : List (Act Txn)) (h : Hidden) → Stands self.now K h → Reordered (map committed_of K) result.now }
+    pub fn committed(&self) -> &CommittedList
+        ensures same { result.now.items ≡ self.now.committed }
+        ensures order { (K : List (Act Txn)) (h : Hidden) → Stands self.now K h → Reordered (map committed_of K) result.now.items }
     {
-        self.state.committed.as_slice()
+        &self.state.committed
     }
 
     /// The bytes of the stream that were gathered since the last such call.

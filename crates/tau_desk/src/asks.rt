@@ -9,7 +9,7 @@ ghost use Rattle.tau_desk.specs.Shares.{PlainStock, PlainWork};
 use crate::desk::Desk;
 use crate::seat::{Head, ManagerSeat, Stock, Work};
 use tau_base::Lv;
-use tau_model::Committed;
+use tau_model::CommittedList;
 
 impl ManagerSeat {
     /// Where what the manager has gathered ends.
@@ -102,18 +102,18 @@ fn covered_of(work: &Option<Work>, positions: &Lv) -> usize
     ensures { (o : PlainWork) → work.now ≡ Some o → result ≡ covered_calls positions.now o.committed }
 {
     match work {
-        Some(work) => covered_in(work.committed.as_slice(), positions),
+        Some(work) => covered_in(&work.committed, positions),
         None => unreachable!(),
     }
 }
 
 /// How many of these calls the positions cover.
-fn covered_in(calls: &[Committed], positions: &Lv) -> usize
-    ensures { result ≡ covered_calls positions.now calls.now }
+fn covered_in(calls: &CommittedList, positions: &Lv) -> usize
+    ensures { result ≡ covered_calls positions.now calls.now.items }
 {
     let mut count = 0;
-    for call in calls {
-        if positions.covers(&call.lv) {
+    for i in 0..calls.len() {
+        if calls.at(i).is_covered(positions) {
             count += 1;
         }
     }

@@ -25,7 +25,7 @@ use std::alloc::Global;
 use tau_ack::Pending;
 use tau_base::{Lv, SHARDS};
 use tau_core::{Core, Load, Parts, Stream};
-use tau_model::Committed;
+use tau_model::CommittedList;
 use tau_outbox::Outbox;
 use tau_rule::Part;
 use tau_shard::Shard;
@@ -71,7 +71,7 @@ fn put_together(
     requires full { IsFull closed.words × IsFull closed.slots }
     requires sized { (slots_len closed.words ≡ 8 * (parts + (load.streams + load.streams + 1))) × (slots_len closed.slots ≡ parts) × (parts ≡ part_count load) × (parts < 2 ^ 16) }
     requires limits { (1 ≤ load.streams) × (load.streams ≤ MAX_STREAMS) × (load.workers ≤ MAX_WORKERS) }
-    requires room { HasRoom load (vec_len kept.shards, vec_capacity kept.shards) (vec_len kept.seats, vec_capacity kept.seats) (vec_len kept.streams, vec_capacity kept.streams) (vec_len kept.committed, vec_capacity kept.committed) }
+    requires room { HasRoom load (vec_len kept.shards, vec_capacity kept.shards) (vec_len kept.seats, vec_capacity kept.seats) (vec_len kept.streams, vec_capacity kept.streams) (length kept.committed.items, kept.committed.room) }
     requires can { CanBeCore load parts (slots_items closed.slots) (slots_items closed.words) works.items stocks.items }
     ensures { IsMadeOf load parts (slots_items closed.slots) (slots_items closed.words) works.items stocks.items result }
 {
@@ -229,7 +229,7 @@ fn take_seats(
     works: &mut Vec<Option<Work>>,
     count: usize,
     mut seats: Vec<tau_core::Seat>,
-    committed: &mut Vec<Committed>,
+    committed: &mut CommittedList,
 ) -> Vec<tau_core::Seat>
     requires few { count < 2 ^ 16 }
     requires room { (vec_len seats ≡ 0) × (count ≤ vec_capacity seats) }
@@ -238,7 +238,7 @@ fn take_seats(
     requires boxes { (w : ℕ) → w < count → (p : PartOf) × (x : PlainSeat) × (get_elem? (slots_items closed.old.slots) (SHARDS + w) ≡ some (Some p)) × IsBoxOf p x }
     requires works { (w : ℕ) → w < count → (o : PlainWork) × (slice_get works.old.items w ≡ Some (Some o)) × (held_in o.txn ≡ []) × (has_joined o.txn ≡ false) }
     requires none { committed.old.items ≡ [] }
-    requires calls { length (in_turn count (calls_at works.old.items)) ≤ vec_capacity committed.old }
+    requires calls { length (in_turn count (calls_at works.old.items)) ≤ committed.old.room }
     ensures same { (slots_items closed.new.slots ≡ slots_items closed.old.slots) × (slots_len closed.new.slots ≡ slots_len closed.old.slots) }
     ensures taken { IsTakenTo (SHARDS + count) (slots_filled closed.new.slots) (slots_len closed.new.slots) }
     ensures count { length result.items ≡ count }
@@ -250,41 +250,15 @@ fn take_seats(
         let slot = closed.take(SHARDS + worker);
         let work = settle(take_work(works, worker));
         let (seat, calls) = seat_of(slot, work);
-        add_calls(committed, calls);
+        committed.append(calls);
         seats.push_reserved(seat);
         worker += 1;
     }
     seats
 }
 
-/// Whether no calls are there, and others have room for as many.
-fn may_take_over(committed: &Vec<Committed>, calls: &Vec<Committed>) -> bool
-    ensures { result ≡ true → (committed.now.items ≡ []) × (vec_capacity committed.now ≤ vec_capacity calls.now) }
-{
-    if committed.is_empty() {
-        return committed.capacity() <= calls.capacity();
-    }
-    false
-}
-
-/// Puts calls after those that are there. If there are none, and these have the room, they are taken over as they lie:
-/// the calls of a run with one worker stand in memory once. It takes no memory.
-fn add_calls(committed: &mut Vec<Committed>, mut calls: Vec<Committed>)
-    requires { vec_len committed.old + vec_len calls ≤ vec_capacity committed.old }
-    ensures items { committed.new.items ≡ committed.old.items ++ calls.items }
-    ensures capacity { vec_capacity committed.old ≤ vec_capacity committed.new }
-{
-    if may_take_over(committed, &calls) {
-        *committed = calls;
-        return;
-    }
-    let Ok(()) = committed.append(&mut calls) else {
-        unreachable!()
-    };
-}
-
 /// A worker, of the slot that has its outbox and of what it has, and its committed calls.
-fn seat_of(slot: Option<Part>, work: Work) -> (tau_core::Seat, Vec<Committed>)
+fn seat_of(slot: Option<Part>, work: Work) -> (tau_core::Seat, CommittedList)
     requires { (p : PartOf) × (x : PlainSeat) × (slot ≡ Some p) × IsBoxOf p x }
     ensures box_is { (p : PartOf) → slot ≡ Some p → IsBoxOf p result.0 }
     ensures work_is { IsSeatFrom work result.0 }

@@ -56,7 +56,7 @@ pub struct Desk {
     pub kept: Kept,
     ghost same_load: { load ≡ table.shared.key.value.load },
     ghost few: { table.shared.key.value.load.workers ≤ MAX_WORKERS },
-    ghost roomy: { HasRoom table.shared.key.value.load (vec_len kept.shards, vec_capacity kept.shards) (vec_len kept.seats, vec_capacity kept.seats) (vec_len kept.streams, vec_capacity kept.streams) (vec_len kept.committed, vec_capacity kept.committed) },
+    ghost roomy: { HasRoom table.shared.key.value.load (vec_len kept.shards, vec_capacity kept.shards) (vec_len kept.seats, vec_capacity kept.seats) (vec_len kept.streams, vec_capacity kept.streams) (length kept.committed.items, kept.committed.room) },
     ghost sized: { (table.shared.table_id.words ≡ 8 * (parts + (table.shared.key.value.load.streams + table.shared.key.value.load.streams + 1))) × (table.shared.table_id.slots ≡ parts) × (parts ≡ part_count table.shared.key.value.load) × (parts < 2 ^ 16) },
     ghost streams_are: { (streams ≡ table.shared.key.value.load.streams) × (1 ≤ streams) × (streams ≤ MAX_STREAMS) },
 }

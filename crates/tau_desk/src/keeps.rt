@@ -14,7 +14,7 @@ use crate::room::Room;
 use crate::work::{more_calls, more_records, number_of, take_outbox, take_shard};
 use std::sync::Wait;
 use tau_base::{Lv, NoMemory, shard_of};
-use tau_model::Committed;
+use tau_model::{CommittedList, LentCall};
 use tau_proc::Procs;
 use tau_rule::Seat;
 use tau_txn::{ActionKind, Txn};
@@ -27,7 +27,7 @@ pub(crate) fn commit(
     number: u32,
     anchor: &Lv,
     txn: &mut Txn,
-    committed: &mut Vec<Committed>,
+    committed: &mut CommittedList,
 ) -> Result<u64, NoMemory>
     requires own { seat.old.table_id ≡ desk.now.table.shared.table_id }
     requires ready { IsReady desk.now.table.shared.key.value worker seat.old.me txn.old }
@@ -35,11 +35,11 @@ pub(crate) fn commit(
     requires read { seat.old.me.0.read ≡ (number, anchor.now) }
     requires wide { length anchor.now ≡ desk.now.table.shared.key.value.load.streams }
     requires next { kind_of (next_action txn.old) ≡ ActionKind.Commit }
-    requires list { 1 ≤ vec_capacity committed.old - vec_len committed.old }
+    requires list { 1 ≤ committed.old.room }
     ensures own { (seat.new.table_id ≡ seat.old.table_id) × (seat.new.id ≡ seat.old.id) }
     ensures step { IfOk result (λ start. (kept : CommittedOf) × CommittedBy desk.now.table.shared.key.value seat.old.me txn.old seat.new.me txn.new (number, anchor.now) (Ok (start, kept)) × (committed.new.items ≡ committed.old.items ++ kept ∷ [])) }
     ensures same { OnErr result ((seat.new.me ≡ seat.old.me) × (txn.new ≡ txn.old) × (committed.new ≡ committed.old)) }
-    ensures list { OnOk result (vec_capacity committed.old - vec_len committed.old ≤ (vec_capacity committed.new - vec_len committed.new) + 1) }
+    ensures list { OnOk result (committed.old.room ≤ committed.new.room + 1) }
 {
     let ActionKind::Commit = txn.kind() else {
         unreachable!()
@@ -56,18 +56,18 @@ fn place(
     seat: &mut Seat,
     worker: u8,
     txn: &mut Txn,
-    committed: &mut Vec<Committed>,
+    committed: &mut CommittedList,
 ) -> u64
     requires own { seat.old.table_id ≡ desk.now.table.shared.table_id }
     requires call { IsToPlace desk.now.table.shared.key.value worker seat.old.me txn.old }
     requires runs { RunsBy desk.now.table.shared.key.value.load.procs txn.old }
     requires next { IsCommit (next_action txn.old) }
-    requires list { 1 ≤ vec_capacity committed.old - vec_len committed.old }
+    requires list { 1 ≤ committed.old.room }
     ensures own { (seat.new.table_id ≡ seat.old.table_id) × (seat.new.id ≡ seat.old.id) }
     ensures step { seat.new.me ≡ (placed desk.now.table.shared.key.value.load seat.old.me.0 txn.old result, seat.old.me.1) }
     ensures small { result + length (bytes_in txn.old) < MAX_LSN }
     ensures call { (kept : CommittedOf) × IsPlaced desk.now.table.shared.key.value.load.procs txn.old txn.new result kept × (committed.new.items ≡ committed.old.items ++ kept ∷ []) }
-    ensures list { vec_capacity committed.old - vec_len committed.old ≤ (vec_capacity committed.new - vec_len committed.new) + 1 }
+    ensures list { committed.old.room ≤ committed.new.room + 1 }
 {
     let start = desk.place(seat, worker, txn);
     txn.placed(start);
@@ -84,7 +84,7 @@ pub(crate) fn done_reading<R: Wait>(
     procs: &Procs,
     txn: &mut Txn,
     room: &mut Room,
-    committed: &mut Vec<Committed>,
+    committed: &mut CommittedList,
 )
     requires own { seat.old.table_id ≡ desk.now.table.shared.table_id }
     requires procs { procs.now ≡ desk.now.table.shared.key.value.load.procs }
@@ -92,7 +92,7 @@ pub(crate) fn done_reading<R: Wait>(
     requires ready { IsReady desk.now.table.shared.key.value worker seat.old.me txn.old }
     requires next { kind_of (next_action txn.old) ≡ ActionKind.Done }
     requires room { ((first_role seat.old.me.0.roles).1.spare ≡ (room.old.records, room.old.calls)) × (1 ≤ room.old.calls) }
-    requires list { 1 ≤ vec_capacity committed.old - vec_len committed.old }
+    requires list { 1 ≤ committed.old.room }
     ensures own { (seat.new.table_id ≡ seat.old.table_id) × (seat.new.id ≡ seat.old.id) }
     ensures step { (kept : CommittedOf) × EndedReadingBy desk.now.table.shared.key.value seat.old.me txn.old seat.new.me txn.new kept (room.new.records, room.new.calls) × (committed.new.items ≡ committed.old.items ++ kept ∷ []) }
     ensures room { (room.old.records ≤ room.new.records) × (room.old.calls ≤ room.new.calls + 1) }
@@ -108,7 +108,7 @@ pub(crate) fn done_reading<R: Wait>(
     let calls = room.calls - 1;
     room.calls = more_calls(&mut pending, calls);
     let kept = last_of(committed);
-    desk.give_read_only(seat, worker, outbox, pending, txn, kept, *room);
+    desk.give_read_only(seat, worker, outbox, pending, txn, &kept, *room);
 }
 
 /// The worker, whose call only read and has not joined the committed ones, frees its lowest key; the call joins them by that, and what is kept of it stands last. Returns whether there was a key to free.
@@ -119,14 +119,14 @@ pub(crate) fn first_free<R: Wait>(
     worker: u8,
     procs: &Procs,
     txn: &mut Txn,
-    committed: &mut Vec<Committed>,
+    committed: &mut CommittedList,
 ) -> bool
     requires own { seat.old.table_id ≡ desk.now.table.shared.table_id }
     requires procs { procs.now ≡ desk.now.table.shared.key.value.load.procs }
     requires small { worker < 32 }
     requires unjoined { has_joined txn.old ≡ false }
     requires ready { IsReady desk.now.table.shared.key.value worker seat.old.me txn.old }
-    requires list { 1 ≤ vec_capacity committed.old - vec_len committed.old }
+    requires list { 1 ≤ committed.old.room }
     ensures own { (seat.new.table_id ≡ seat.old.table_id) × (seat.new.id ≡ seat.old.id) }
     ensures step { result ≡ true → (kept : CommittedOf) × FirstFreedBy desk.now.table.shared.key.value seat.old.me txn.old seat.new.me txn.new (Some kept) × (committed.new.items ≡ committed.old.items ++ kept ∷ []) }
     ensures same { result ≡ false → (seat.new.me ≡ seat.old.me) × (txn.new ≡ txn.old) × (committed.new ≡ committed.old) }
@@ -141,14 +141,14 @@ pub(crate) fn first_free<R: Wait>(
     shard.free_by(worker, key, txn.lv_ref(), None);
     txn.commit_into(committed);
     txn.went(procs);
-    desk.give_first(seat, number, shard, txn, last_of(committed));
+    desk.give_first(seat, number, shard, txn, &last_of(committed));
     true
 }
 
 /// The last of the list.
-fn last_of(committed: &Vec<Committed>) -> &Committed
-    requires some { 1 ≤ vec_len committed.now }
-    ensures last { (before : List CommittedOf) (kept : CommittedOf) → committed.now.items ≡ before ++ kept ∷ [] → result.now ≡ kept }
+fn last_of(committed: &CommittedList) -> LentCall<'_>
+    requires some { 1 ≤ length committed.now.items }
+    ensures last { (before : List CommittedOf) (kept : CommittedOf) → committed.now.items ≡ before ++ kept ∷ [] → result ≡ kept }
 {
-    &committed[committed.len() - 1]
+    committed.at(committed.len() - 1)
 }

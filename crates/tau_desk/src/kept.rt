@@ -1,7 +1,7 @@
 //! The room for the core that the desk makes when it closes.
 use std::alloc::Global;
 use tau_core::Stream;
-use tau_model::Committed;
+use tau_model::CommittedList;
 use tau_shard::Shard;
 
 /// Empty vectors with room for what the core is made of.
@@ -12,5 +12,5 @@ pub struct Kept {
     pub seats: Vec<tau_core::Seat>,
     pub streams: Vec<Stream>,
     /// With room for every call of the run.
-    pub committed: Vec<Committed>,
+    pub committed: CommittedList,
 }

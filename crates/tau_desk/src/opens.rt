@@ -21,6 +21,7 @@ use std::alloc::Global;
 use std::snapshot::Snapshot;
 use tau_base::{LogMode, Lv, NoMemory, SHARDS};
 use tau_core::{Core, Load, Opening, Parts, Stream};
+use tau_model::CommittedList;
 use tau_rule::Part;
 use tau_shard::Shard;
 use tau_text::Workload;
@@ -115,7 +116,7 @@ fn desk_of(alloc: Global, core: Core) -> Result<(Desk, Head), NoMemory>
 
 /// The room for the core that the desk makes when it closes.
 fn kept_of(alloc: Global, load: &Load) -> Result<Kept, NoMemory>
-    ensures { IfOk result (λ kept. HasRoom load.now (vec_len kept.shards, vec_capacity kept.shards) (vec_len kept.seats, vec_capacity kept.seats) (vec_len kept.streams, vec_capacity kept.streams) (vec_len kept.committed, vec_capacity kept.committed)) }
+    ensures { IfOk result (λ kept. HasRoom load.now (vec_len kept.shards, vec_capacity kept.shards) (vec_len kept.seats, vec_capacity kept.seats) (vec_len kept.streams, vec_capacity kept.streams) (length kept.committed.items, kept.committed.room)) }
 {
     let Ok(shards) = Vec::with_capacity(alloc, SHARDS) else {
         return Err(NoMemory);
@@ -126,9 +127,8 @@ fn kept_of(alloc: Global, load: &Load) -> Result<Kept, NoMemory>
     let Ok(streams) = Vec::with_capacity(alloc, load.streams) else {
         return Err(NoMemory);
     };
-    let Ok(committed) = Vec::with_capacity(alloc, load.calls.len()) else {
-        return Err(NoMemory);
-    };
+    let mut committed = CommittedList::new(alloc);
+    committed.reserve(load.calls.len())?;
     Ok(Kept {
         alloc,
         shards,
@@ -214,7 +214,7 @@ fn lay_seat(alloc: Global, seat: tau_core::Seat) -> Result<(Part, Work), NoMemor
         txn,
         start,
         left,
-        committed: Vec::new(alloc),
+        committed: CommittedList::new(alloc),
         room,
         mark: None,
     };

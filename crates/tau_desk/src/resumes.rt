@@ -44,7 +44,7 @@ impl Desk {
         ensures refused { IfErr result (λ _. head.new ≡ head.old) }
     {
         let mut work = take_work(&mut head.workers, left.worker);
-        if work.committed.try_reserve(1).is_err() {
+        if work.committed.reserve(1).is_err() {
             put_work(&mut head.workers, left.worker, work);
             return Err(NoMemory);
         }

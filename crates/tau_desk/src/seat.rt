@@ -5,7 +5,7 @@ use crate::room::Room;
 use std::marker::Model;
 use tau_base::Lv;
 use tau_core::LeftOvers;
-use tau_model::Committed;
+use tau_model::CommittedList;
 use tau_rule::Seat;
 use tau_txn::Txn;
 
@@ -20,7 +20,7 @@ pub struct Work {
     /// Where the record of the call in hand starts, from its place to its post.
     pub start: u64,
     pub left: LeftOvers,
-    pub committed: Vec<Committed>,
+    pub committed: CommittedList,
     /// How much room its outbox has at least.
     pub room: Room,
     /// Where it stood among its calls before the call in hand, until that has made an event.
@@ -28,12 +28,11 @@ pub struct Work {
 }
 
 impl Model for Work {
-    ghost use Rattle.std.specs.Prelude.{◌-◌, vec_len, vec_capacity};
     ghost use Rattle.tau_desk.specs.Shares.{PlainWork};
 
     ghost Value = { PlainWork };
 
-    ghost view = { λ o. record { next = o.next; again = o.again; txn = o.txn; start = o.start; left = o.left.numbers; left_room = o.left.room; committed = o.committed.items; committed_room = vec_capacity o.committed - vec_len o.committed; spare = (o.room.records, o.room.calls); mark = o.mark } };
+    ghost view = { λ o. record { next = o.next; again = o.again; txn = o.txn; start = o.start; left = o.left.numbers; left_room = o.left.room; committed = o.committed.items; committed_room = o.committed.room; spare = (o.room.records, o.room.calls); mark = o.mark } };
 }
 
 /// What the manager of a stream has of its own.

@@ -1,5 +1,5 @@
 //! Roles leave the head.
-ghost use Rattle.std.specs.Prelude.{ℕ, ◌≡◌, ◌+◌, ◌/◌, ◌<◌, [], Some, None, true, IfOk, IfErr, length, slice_get, slice_set};
+ghost use Rattle.std.specs.Prelude.{ℕ, ◌≡◌, ◌+◌, ◌/◌, ◌<◌, ◌≤◌, [], Some, None, true, IfOk, IfErr, OnErr, OnOk, length, slice_get, slice_set};
 ghost use Rattle.tau_rule.specs.Heads.{left_by, split_off};
 ghost use Rattle.tau_rule.specs.Role.{Role as RoleOf};
 ghost use Rattle.tau_rule.specs.Rule.{clerk_role, has, manager_role};
@@ -10,6 +10,7 @@ use crate::desk::Desk;
 use crate::seat::{ClerkSeat, Head, ManagerSeat, Stock, Work, WorkerSeat};
 use std::marker::Brand;
 use tau_base::{Lv, NoMemory};
+use tau_model::CommittedList;
 use tau_rule::{Seat, SplitOff, Told};
 
 impl Desk {
@@ -23,8 +24,8 @@ impl Desk {
     {
         let at = worker as usize;
         let mut work = take_work(&mut head.workers, at);
-        let calls = self.load.calls.len() / self.load.workers + 1;
-        if work.committed.try_reserve(calls).is_err() {
+        let calls = self.load.calls.len() / self.load.workers;
+        if reserve_more(&mut work.committed, calls).is_err() {
             put_work(&mut head.workers, at, work);
             return Err(NoMemory);
         }
@@ -94,6 +95,19 @@ impl Desk {
         let _ = role;
         self.table.shared.split_seat::<SplitOff<N>>(seat)
     }
+}
+
+/// Makes room for one call more than so many. Out of memory nothing has changed.
+fn reserve_more(committed: &mut CommittedList, calls: usize) -> Result<(), NoMemory>
+    ensures items { committed.new.items ≡ committed.old.items }
+    ensures kept { committed.old.room ≤ committed.new.room }
+    ensures roomy { OnOk result (calls + 1 ≤ committed.new.room) }
+    ensures err { OnErr result (committed.new ≡ committed.old) }
+{
+    let Some(count) = calls.checked_add(1) else {
+        return Err(NoMemory);
+    };
+    committed.reserve(count)
 }
 
 /// What the worker has of its own leaves its place.

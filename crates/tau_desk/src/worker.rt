@@ -17,8 +17,8 @@ use crate::seat::{Work, WorkerSeat};
 use crate::work::Acted;
 use crate::{keeps, work};
 use std::sync::Wait;
-use tau_base::{Call, NoMemory};
-use tau_model::Committed;
+use tau_base::{KeptCall, NoMemory};
+use tau_model::CommittedList;
 use tau_proc::Procs;
 use tau_txn::{Action, ActionKind, Txn};
 
@@ -269,10 +269,10 @@ impl WorkerSeat {
     }
 
     /// What is kept of its calls that have joined the committed ones, in their order.
-    pub fn committed(&self) -> &[Committed]
-        ensures { result.now ≡ self.now.work.committed }
+    pub fn committed(&self) -> &CommittedList
+        ensures { result.now.items ≡ self.now.work.committed }
     {
-        self.work.committed.as_slice()
+        &self.work.committed
     }
 
     /// Whether a call is in hand.
@@ -336,8 +336,8 @@ fn begin_next(work: &mut Work, desk: &Desk) -> Result<bool, NoMemory>
     match reserve(work) {
         Err(error) => Err(error),
         Ok(()) => {
-            let call = desk.load.calls.call_at((number - 1) as usize);
-            start(work, &desk.load.procs, number, &call, desk.load.workers);
+            let call = desk.load.calls.at((number - 1) as usize);
+            start(work, &desk.load.procs, number, call, desk.load.workers);
             Ok(true)
         }
     }
@@ -364,14 +364,14 @@ fn reserve(work: &mut Work) -> Result<(), NoMemory>
     ensures made { RoomMade work.old work.new }
     ensures roomy { OnOk result ((1 ≤ work.new.left_room) × (1 ≤ work.new.committed_room)) }
 {
-    match work.committed.try_reserve(1) {
+    match work.committed.reserve(1) {
         Err(_) => Err(NoMemory),
         Ok(()) => work.left.reserve(),
     }
 }
 
 /// Takes the call into the hand, and goes on by one among the calls.
-fn start(work: &mut Work, procs: &Procs, number: u64, call: &Call, workers: usize)
+fn start(work: &mut Work, procs: &Procs, number: u64, call: &KeptCall, workers: usize)
     requires rests { work.old.txn.hand ≡ None }
     requires takes { IsTrue (takes procs.now call.now) }
     requires low { 1 ≤ number }

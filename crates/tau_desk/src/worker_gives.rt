@@ -9,7 +9,7 @@ use crate::room::Room;
 use std::marker::Brand;
 use tau_ack::Pending;
 use tau_base::{Lv, SHARDS};
-use tau_model::Committed;
+use tau_model::LentCall;
 use tau_outbox::Outbox;
 use tau_rule::{Part, Seat, Told};
 use tau_shard::Shard;
@@ -23,7 +23,7 @@ impl Desk {
         number: usize,
         shard: Box<Shard>,
         txn: &Txn,
-        kept: &Committed,
+        kept: &LentCall<'_>,
     )
         requires own { seat.old.table_id ≡ self.now.table.shared.table_id }
         requires opened { seat.old.me.0.opened ≡ Some self.now.table.shared.key.value }
@@ -41,7 +41,7 @@ impl Desk {
         number: usize,
         shard: Box<Shard>,
         txn: &Txn,
-        kept: &Committed,
+        kept: &LentCall<'_>,
     )
         requires own { seat.old.table_id ≡ self.now.table.shared.table_id }
         requires opened { seat.old.me.0.opened ≡ Some self.now.table.shared.key.value }
@@ -64,7 +64,7 @@ impl Desk {
         outbox: Box<Outbox>,
         pending: Box<Pending>,
         txn: &Txn,
-        kept: &Committed,
+        kept: &LentCall<'_>,
         room: Room,
     )
         requires own { seat.old.table_id ≡ self.now.table.shared.table_id }
@@ -83,7 +83,7 @@ impl Desk {
         outbox: Box<Outbox>,
         pending: Box<Pending>,
         txn: &Txn,
-        kept: &Committed,
+        kept: &LentCall<'_>,
         room: Room,
     )
         requires own { seat.old.table_id ≡ self.now.table.shared.table_id }

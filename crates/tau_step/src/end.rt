@@ -17,7 +17,7 @@ use crate::run::Run;
 use std::alloc::Global;
 use tau_base::{Listed, NoMemory};
 use tau_core::Core;
-use tau_model::{Committed, reported};
+use tau_model::{CommittedList, reported};
 use tau_proc::Reply;
 use tau_report::{Acks, KeptFate, RunEnd, RunReport};
 
@@ -66,19 +66,19 @@ fn marks_of(alloc: Global, calls: usize, acks: &Acks) -> Result<Vec<bool>, NoMem
 fn fates_of(
     alloc: Global,
     calls: usize,
-    committed: &[Committed],
+    committed: &CommittedList,
     acks: &Acks,
 ) -> Result<Vec<KeptFate>, NoMemory>
-    requires committed { All (λ call. IsNumberOf calls call.number) committed.now }
+    requires committed { All (λ call. IsNumberOf calls call.number) committed.now.items }
     requires acks { All (λ ack. IsNumberOf calls ack.0) acks.now }
-    ensures { IfOk result (λ fates. fates.items ≡ fates_in calls committed.now acks.now) }
+    ensures { IfOk result (λ fates. fates.items ≡ fates_in calls committed.now.items acks.now) }
 {
     let marks = marks_of(alloc, calls, acks)?;
     let mut fates = unrun(alloc, calls)?;
     for i in (0..committed.len()).rev() {
-        let call = &committed[i];
-        let index = (call.number - 1) as usize;
-        let kept = fate(alloc, marks[index], &call.reply)?;
+        let call = committed.at(i);
+        let index = (call.number() - 1) as usize;
+        let kept = fate(alloc, marks[index], &call.reply())?;
         fates[index] = kept;
     }
     Ok(fates)

@@ -14,8 +14,8 @@ overflow_sub-number c =
     let n = next-is c.args.state.now.load c.args.worker c.index_mut-seat.result.now c.args.number o (c.requires.next c.index_mut-seat.result.now is) in
     n.low
 
-pub call_at-call-requires : goal.call_at-call-requires
-call_at-call-requires c =
+pub at-call-requires : goal.at-call-requires
+at-call-requires c =
     let is = found-whole c.args.state.now c.args.worker c.index_mut-seat.result.now c.requires.sound c.requires.there c.index_mut-seat.ensures.value in
     let o = c.requires.sound.seat c.args.worker c.index_mut-seat.result.now is in
     let n = next-is c.args.state.now.load c.args.worker c.index_mut-seat.result.now c.args.number o (c.requires.next c.index_mut-seat.result.now is) in
@@ -52,8 +52,8 @@ start-requires-clause-takes c =
     let is = found-whole c.args.state.now c.args.worker c.index_mut-seat.result.now c.requires.sound c.requires.there c.index_mut-seat.ensures.value in
     let o = c.requires.sound.seat c.args.worker c.index_mut-seat.result.now is in
     let n = next-is c.args.state.now.load c.args.worker c.index_mut-seat.result.now c.args.number o (c.requires.next c.index_mut-seat.result.now is) in
-    let same : n.call ≡ c.call_at-call.result =
-    (let f : Some n.call ≡ Some c.call_at-call.result = sym n.got ∙ c.call_at-call.ensures in cc) in
+    let same : n.call ≡ c.at-call.result.now =
+    (let f : Some n.call ≡ Some c.at-call.result.now = sym n.got ∙ c.at-call.ensures in cc) in
     subst (λ (x : Call). IsTrue (takes c.args.state.now.load.procs x)) same (c.requires.sound.takes c.args.number n.call n.is)
 
 pub returns-clause-begins : goal.returns-clause-begins
@@ -61,12 +61,12 @@ returns-clause-begins c =
     let is = found-whole c.args.state.now c.args.worker c.index_mut-seat.result.now c.requires.sound c.requires.there c.index_mut-seat.ensures.value in
     let o = c.requires.sound.seat c.args.worker c.index_mut-seat.result.now is in
     let n = next-is c.args.state.now.load c.args.worker c.index_mut-seat.result.now c.args.number o (c.requires.next c.index_mut-seat.result.now is) in
-    let same : n.call ≡ c.call_at-call.result =
-    (let f : Some n.call ≡ Some c.call_at-call.result = sym n.got ∙ c.call_at-call.ensures in cc) in
+    let same : n.call ≡ c.at-call.result.now =
+    (let f : Some n.call ≡ Some c.at-call.result.now = sym n.got ∙ c.at-call.ensures in cc) in
     record {
       seat = c.index_mut-seat.result.now;
       new = c.start.new.seat;
-      call = c.call_at-call.result;
+      call = c.at-call.result.now;
       is = is;
       call_is = n.is ∙ ap Some same;
       begun = c.start.ensures.begun;

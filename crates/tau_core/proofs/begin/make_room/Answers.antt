@@ -1,5 +1,5 @@
 use Rattle.std.proofs.Common.{ℕ, ◌<◌, ◌≤◌, ◌-◌, ◌≡◌, List, length, refl, sym, ap, subst, ◌∙◌, arith}
-use Rattle.std.specs.Prelude.{Some, Ok, Err, OnOk, Result, slice_set, vec_capacity, vec_len}
+use Rattle.std.specs.Prelude.{Some, Ok, Err, OnOk, Result, slice_set}
 use Rattle.tau_base.specs.declared.value.NoMemory.{NoMemory}
 use Rattle.tau_model.specs.declared.committed.Committed.{Committed}
 use Rattle.tau_core.specs.Plain.{PlainSeat}
@@ -17,7 +17,7 @@ returns-in_err-committed_room-clause-made c =
     let p : Plain = plain c.args.state.now in
     let within : c.args.worker < length c.args.state.now.seats.items = (let e = c.requires.sound.seats in let l = c.requires.there in omega arith) in
     let found = some-at c.args.state.now.seats.items c.args.worker within in
-    let room : ℕ = vec_capacity c.committed_room.new.committed - vec_len c.committed_room.new.committed in
+    let room : ℕ = c.committed_room.new.committed.room in
     record {
       seat = found.0;
       pending = found.0.pending;
@@ -35,7 +35,7 @@ pub returns-clause-made : goal.returns-clause-made
 returns-clause-made c =
     let p : Plain = plain c.args.state.now in
     let is = found-whole c.args.state.now c.args.worker c.index_mut-seat.result.now c.requires.sound c.requires.there c.index_mut-seat.ensures.value in
-    let room : ℕ = vec_capacity c.committed_room.new.committed - vec_len c.committed_room.new.committed in
+    let room : ℕ = c.committed_room.new.committed.room in
     record {
       seat = c.index_mut-seat.result.now;
       pending = c.seat_room.new.seat.pending;

@@ -1,6 +1,8 @@
-use Rattle.std.proofs.Common.{ℕ, ◌<◌, List, length, refl, sym, ap, arith}
+use Rattle.std.proofs.Common.{ℕ, ◌<◌, List, length, refl, sym, ap, subst, arith}
 use Rattle.tau_core.specs.Plain.{PlainSeat}
 use Rattle.tau_core.specs.State.{Plain, plain}
+use Rattle.tau_core.specs.Stands.{anchors_at}
+use Rattle.tau_core.specs.Pieces.{Names}
 use Rattle.tau_core.specs.Commits.{MakesRoom}
 use Rattle.tau_core.proofs.Lists.{some-at, set-got}
 use Rattle.tau_txn.specs.declared.action.Action.TheVariants as action
@@ -29,3 +31,7 @@ returns-in-None c = (
       let at = c.requires.at s e in
       means-phase c.args.state.now.load.procs s.txn (action.Commit at.0) at.2 o.leaving o.stays,
 )
+
+pub place_above-requires-clause-names : goal.place_above-requires-clause-names
+place_above-requires-clause-names c =
+    subst (λ (j : ℕ). Names c.args.state.now.load j (anchors_at (plain c.args.state.now) j) c.in-Some.named.number c.in-Some.named.lv) c.stream_of-stream.ensures.same c.in-Some.ensures.names

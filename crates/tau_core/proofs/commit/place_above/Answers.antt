@@ -1,5 +1,5 @@
 use Rattle.std.proofs.Common.{ℕ, ◌+◌, ◌%◌, ◌≡◌, ◌<◌, ◌≤◌, ◌-◌, ◌^◌, List, length, refl, sym, ap, subst, ◌∙◌, arith}
-use Rattle.std.specs.Prelude.{Some, slice_set, vec_capacity, vec_len}
+use Rattle.std.specs.Prelude.{Some, slice_set}
 use Rattle.tau_base.specs.Vectors.{join}
 use Rattle.tau_model.specs.History.{Act}
 use Rattle.tau_model.specs.declared.committed.Committed.{Committed}
@@ -126,7 +126,7 @@ returns-in-Ok-prepare c =
     let p : Plain = plain c.args.state.now in
     let bytes_is : bytes_in c.placed.new.self ≡ bytes_in c.prepare.new.self = c.placed.ensures.bytes in
     let same : c.placed.new.self ≡ record c.seat.inside.txn { hand = c.placed.new.self.hand } = c.placed.ensures.same ∙ ap (λ (t : PlainTxn). record t { hand = c.placed.new.self.hand }) c.in-Ok-prepare.ensures.same in
-    let left : ℕ = vec_capacity c.commit_into.new.out - vec_len c.commit_into.new.out in
+    let left : ℕ = c.commit_into.new.out.room in
     record {
       seat = seat_in c.seat.inside;
       hand = m.hand;
@@ -157,5 +157,5 @@ returns-in-Ok-prepare c =
           (c.placed.ensures.stays (c.in-Ok-prepare.ensures.stays o.leaving)) c.in-Ok.ensures.room;
       rooms = rooms-new (plain c.args.state.now) c.args.worker (seat_in c.seat.inside) new m.hand act is m.is (one-none c.args.state.now.load new (hand_joined m.hand (Placed act) (join m.hand.dep base)) act placed refl) left m.phase c.requires.sound.room c.commit_into.ensures.room;
       after = ap (λ (x : List Committed × List ℕ). record p { seats = slice_set p.seats c.args.worker new; committed = x.0; room = left; ends = x.1 })
-          (λ i. (kept i, (c.set.ensures ∙ ap (λ (n : ℕ). slice_set p.ends (c.args.worker % p.load.streams) (c.args.start + n)) (c.record_size.ensures ∙ ap (length {A = ℕ}) (sym bytes_is))) i));
+          (λ i. (kept i, (c.set.ensures ∙ ap (λ (j : ℕ). slice_set p.ends j (c.args.start + c.record_size.result)) c.stream_of.ensures.same ∙ ap (λ (n : ℕ). slice_set p.ends (c.args.worker % p.load.streams) (c.args.start + n)) (c.record_size.ensures ∙ ap (length {A = ℕ}) (sym bytes_is))) i));
     }

@@ -1,5 +1,5 @@
 use Rattle.std.proofs.Common.{◌≡◌, ◌-◌, List, [], ◌∷◌, ◌++◌, refl, sym, ap, subst, ◌∙◌}
-use Rattle.std.specs.Prelude.{None, Some, slice_set, vec_capacity, vec_len}
+use Rattle.std.specs.Prelude.{None, Some, slice_set}
 use Rattle.tau_model.specs.declared.committed.Committed.{Committed}
 use Rattle.tau_txn.specs.declared.action.Action.{Action}
 use Rattle.tau_txn.specs.Txn.{has_joined}
@@ -78,7 +78,7 @@ returns c =
       act = m.act;
       new = new;
       joined = committed_of m.act ∷ [];
-      room = vec_capacity c.commit_into.new.out - vec_len c.commit_into.new.out;
+      room = c.commit_into.new.out.room;
       is = is;
       hand_is = m.is;
       joins = joins-new c.args.state.now.load c.args.worker m.hand m.act (has_joined c.seat.inside.txn) c.seat.inside.txn o.worker (c.requires.joined (seat_in c.seat.inside) is) m.act_is;
@@ -87,6 +87,6 @@ returns c =
       waits = c.put_from.ensures.calls ∙ (λ i. c.seat.inside.pending.calls ++ record { number = number i; lv = vector i } ∷ []);
       others = refl;
       sound = sound;
-      rooms = rooms-new p c.args.worker (seat_in c.seat.inside) new m.hand m.act is m.is (none-open c.args.state.now.load new gone) (vec_capacity c.commit_into.new.out - vec_len c.commit_into.new.out) (reads-phase c.args.state.now.load.procs (has_joined c.seat.inside.txn) c.seat.inside.txn.worker m.hand m.act (c.requires.joined (seat_in c.seat.inside) is) m.act_is) c.requires.sound.room c.commit_into.ensures.room;
-      after = ap (λ (x : List Committed). record p { seats = slice_set p.seats c.args.worker new; committed = x; room = vec_capacity c.commit_into.new.out - vec_len c.commit_into.new.out }) kept;
+      rooms = rooms-new p c.args.worker (seat_in c.seat.inside) new m.hand m.act is m.is (none-open c.args.state.now.load new gone) c.commit_into.new.out.room (reads-phase c.args.state.now.load.procs (has_joined c.seat.inside.txn) c.seat.inside.txn.worker m.hand m.act (c.requires.joined (seat_in c.seat.inside) is) m.act_is) c.requires.sound.room c.commit_into.ensures.room;
+      after = ap (λ (x : List Committed). record p { seats = slice_set p.seats c.args.worker new; committed = x; room = c.commit_into.new.out.room }) kept;
     }

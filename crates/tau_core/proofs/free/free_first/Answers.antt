@@ -1,5 +1,5 @@
 use Rattle.std.proofs.Common.{ℕ, ◌≡◌, ◌-◌, List, [], ◌∷◌, refl, sym, ap, subst, ◌∙◌, Option}
-use Rattle.std.specs.Prelude.{None, IsSome, slice_set, vec_capacity, vec_len}
+use Rattle.std.specs.Prelude.{None, IsSome, slice_set}
 use Rattle.std.specs.Map.{lookup}
 use Rattle.tau_base.specs.Database.{same_key}
 use Rattle.tau_base.specs.declared.value.Value.{Value}
@@ -102,7 +102,7 @@ returns c =
       new = new;
       freed = c.free_by.new.self;
       joined = committed_of m.act ∷ [];
-      room = vec_capacity c.commit_into.new.out - vec_len c.commit_into.new.out;
+      room = c.commit_into.new.out.room;
       is = is;
       shard_is = shard_is;
       hand_is = m.is;
@@ -113,6 +113,6 @@ returns c =
       left = left;
       others = refl;
       sound = sound;
-      rooms = rooms-new p c.args.worker (seat_in c.seat.inside) new m.hand m.act is m.is (joined-none c.args.state.now.load new k m.act left refl) (vec_capacity c.commit_into.new.out - vec_len c.commit_into.new.out) (reads-phase c.args.state.now.load.procs (has_joined c.seat.inside.txn) c.seat.inside.txn.worker m.hand m.act (c.requires.joined (seat_in c.seat.inside) is) m.act_is) g.2.sound.room c.commit_into.ensures.room;
-      after = ap (λ (x : ℕ × List Committed). record p { seats = slice_set p.seats c.args.worker new; shards = slice_set p.shards x.0 c.free_by.new.self; committed = x.1; room = vec_capacity c.commit_into.new.out - vec_len c.commit_into.new.out }) (λ i. (number i, kept i));
+      rooms = rooms-new p c.args.worker (seat_in c.seat.inside) new m.hand m.act is m.is (joined-none c.args.state.now.load new k m.act left refl) c.commit_into.new.out.room (reads-phase c.args.state.now.load.procs (has_joined c.seat.inside.txn) c.seat.inside.txn.worker m.hand m.act (c.requires.joined (seat_in c.seat.inside) is) m.act_is) g.2.sound.room c.commit_into.ensures.room;
+      after = ap (λ (x : ℕ × List Committed). record p { seats = slice_set p.seats c.args.worker new; shards = slice_set p.shards x.0 c.free_by.new.self; committed = x.1; room = c.commit_into.new.out.room }) (λ i. (number i, kept i));
     }

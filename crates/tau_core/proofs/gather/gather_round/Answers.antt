@@ -8,7 +8,7 @@ use Rattle.tau_core.specs.declared.state.State.{State}
 use Rattle.tau_core.proofs.GathersOn.{next-on, on-own, on-posted}
 use Rattle.tau_core.proofs.GathersAll.{own-waits, posted-waits, passed-waits, all-wait}
 use Rattle.tau_core.proofs.gather.gather_round.Goals as goal
-use Rattle.tau_core.proofs.gather.gather_round.Goals.{then-worker-streams, else-worker-streams}
+use Rattle.tau_core.proofs.gather.gather_round.Goals.{then-stream_of-stream, else-stream_of-stream}
 
 pub loop-worker-init : goal.loop-worker-init
 loop-worker-init c = record {
@@ -27,17 +27,17 @@ gather_from-requires c =
       stood = n.stood;
       there = n.there;
       worker = (let lt = c.loop-worker-test.true in let e : c.loop-worker.state.load.workers ≡ c.gather_own.new.state.load.workers = ap (λ (l : Load). l.workers) (n.same ∙ sym same) in omega arith);
-      whose = ap (λ (m : ℕ). c.loop-worker.worker % m) (sym s) ∙ c.if-worker-streams.true;
+      whose = ap (λ (m : ℕ). c.loop-worker.worker % m) (sym s) ∙ sym c.stream_of.ensures.same ∙ c.if-stream_of-stream.true;
       going = n.going;
       roomy = n.roomy;
     }
 
 pub loop-worker-preserved : goal.loop-worker-preserved
-loop-worker-preserved c = elim c.if-worker-streams.branch [
-  | then-worker-streams w ↦
+loop-worker-preserved c = elim c.if-stream_of-stream.branch [
+  | then-stream_of-stream w ↦
       let before = c.loop-worker.invariant.next in
       let after = w.gather_from.ensures.next in
-      let whose = ap (λ (m : ℕ). c.loop-worker.worker % m) (sym c.loop-worker.invariant.streams) ∙ w.if-worker-streams.true in
+      let whose = ap (λ (m : ℕ). c.loop-worker.worker % m) (sym c.loop-worker.invariant.streams) ∙ sym c.stream_of.ensures.same ∙ w.if-stream_of-stream.true in
       record {
         gathers = subst (λ (s : State). GathersOn c.args.stream (plain c.args.state.now) (plain s)) (sym w.state-is)
             (on-posted c.args.stream (plain c.args.state.now) (plain c.loop-worker.state) (plain w.gather_from.new.state) c.loop-worker.worker whose c.loop-worker.invariant.gathers w.gather_from.ensures.moves);
@@ -51,9 +51,9 @@ loop-worker-preserved c = elim c.if-worker-streams.branch [
             let then : slice_index w.gather_from.new.state.gathered c.args.stream ≡ slice_index c.loop-worker.state.gathered c.args.stream = omega arith in
             posted-waits (plain c.loop-worker.state) before.stood c.args.stream before.there before.going before.roomy c.loop-worker.worker (plain w.gather_from.new.state) w.gather_from.ensures.moves then (c.loop-worker.invariant.waits first));
       }
-  | else-worker-streams w ↦
+  | else-stream_of-stream w ↦
       let other : c.loop-worker.worker % c.loop-worker.state.load.streams ≡ c.args.stream → ⊥ =
-      λ e. w.if-worker-streams.false (ap (λ (m : ℕ). c.loop-worker.worker % m) c.loop-worker.invariant.streams ∙ e) in
+      λ e. w.if-stream_of-stream.false (c.stream_of.ensures.same ∙ ap (λ (m : ℕ). c.loop-worker.worker % m) c.loop-worker.invariant.streams ∙ e) in
       record {
         gathers = subst (λ (s : State). GathersOn c.args.stream (plain c.args.state.now) (plain s)) (sym w.state-is) c.loop-worker.invariant.gathers;
         next = subst (λ (s : State). IsNext c.args.stream (plain c.args.state.now) (plain s)) (sym w.state-is) c.loop-worker.invariant.next;

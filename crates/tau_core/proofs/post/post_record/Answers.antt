@@ -1,4 +1,5 @@
 use Rattle.std.proofs.Common.{ℕ, List, [], ◌∷◌, ◌++◌, length, refl, ap, ◌∙◌, arith}
+use Rattle.std.specs.Prelude.{slice_index}
 use Rattle.tau_machine.specs.Hands.{Freeing}
 use Rattle.tau_machine.specs.Pieces.{placed_in, placed_of}
 use Rattle.tau_core.specs.Plain.{PlainSeat}
@@ -34,7 +35,7 @@ post-requires-clause-small c =
     let at = c.requires.at (seat_in c.seat.inside) is in
     let m = at.1 in
     let up = posts-small (plain c.args.state.now) g.0 g.1 g.2 c.args.worker (seat_in c.seat.inside) m.act is (ap placed_in m.is ∙ ap placed_of m.phase) in
-    let limit = c.get-limit.ensures.same in
+    let limit = c.get-limit.ensures.same ∙ ap (slice_index c.args.state.now.ends) c.stream_of.ensures.same in
     let small = c.get-limit.ensures.small in
     let bytes = ap length c.take_bytes-bytes.ensures.bytes in
     let ok = c.take_bytes-bytes.result.ok in

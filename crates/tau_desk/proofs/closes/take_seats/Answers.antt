@@ -1,4 +1,4 @@
-use Rattle.std.proofs.Common.{ℕ, false, [], ◌+◌, ◌++◌, ◌≡◌, List, Option, sym, ap, subst, ◌∙◌, add-one, length, arith}
+use Rattle.std.proofs.Common.{ℕ, false, [], ◌+◌, ◌++◌, ◌≡◌, List, Option, sym, ap, subst, ◌∙◌, add-one, length, length-append, ◌<◌, ◌≤◌, arith}
 use Rattle.std.specs.Prelude.{Some, None, slice_get}
 use Rattle.std.specs.Slots.{slots_filled, slots_items, slots_len}
 use mathlib.Core.Option.{some-injective}
@@ -47,19 +47,24 @@ seat_of-seat-requires c =
 calls-of : (had : List (Option PlainWork)) (j : ℕ) (o : PlainWork) (calls : List Committed) → slice_get had j ≡ Some (Some o) → calls ≡ (settled o o.mark).committed → calls ≡ calls_at had j
 calls-of had j o calls e is = is ∙ settled-calls o o.mark ∙ sym (ap calls_had e)
 
-pub add_calls-requires : goal.add_calls-requires
-add_calls-requires c =
+-- there is room for a worker's calls after those of the workers before it
+fits-in : (count j : ℕ) (had : List (Option PlainWork)) (room : ℕ) (before calls : List Committed) → j < count → before ≡ in_turn j (calls_at had) → calls ≡ calls_at had j →
+    length (in_turn count (calls_at had)) ≤ room + length before → length calls ≤ room
+fits-in count j had room before calls low old new space =
+    let n = ap (λ (l : List Committed). length l) new in
+    let o = ap (λ (l : List Committed). length l) old in
+    let fits = in-turn-room count j (calls_at had) low in
+    omega (arith, n, o, fits, space)
+
+pub append-requires : goal.append-requires
+append-requires c =
     let j = c.loop-worker.worker in
     let i = c.loop-worker.invariant in
     let init = c.args.works.now.items in
     let work = c.take_work.result in
     let there : slice_get init j ≡ Some (Some work) = sym (i.rest j (omega arith)) ∙ c.take_work.ensures.taken in
     let is : c.seat_of-seat.result.1.items ≡ calls_at init j = calls-of init j work c.seat_of-seat.result.1.items there (c.seat_of-seat.ensures.calls ∙ ap (λ (o : PlainWork). o.committed) c.settle-work.ensures) in
-    let new : length c.seat_of-seat.result.1.items ≡ length (calls_at init j) = ap (λ (l : List Committed). length l) is in
-    let old : length c.loop-worker.committed.items ≡ length (in_turn j (calls_at init)) = ap (λ (l : List Committed). length l) i.calls in
-    let fits = in-turn-room c.args.count j (calls_at init) c.loop-worker-test.true in
-    let space = i.space in
-    omega (arith, new, old, fits, space)
+    fits-in c.args.count j init c.loop-worker.committed.room c.loop-worker.committed.items c.seat_of-seat.result.1.items c.loop-worker-test.true i.calls is i.space
 
 pub loop-worker-preserved : goal.loop-worker-preserved
 loop-worker-preserved c =
@@ -93,8 +98,8 @@ loop-worker-preserved c =
       rest = λ k lt. ap (λ l. slice_get l k) c.take_work.ensures.left ∙ got-other c.loop-worker.works.items j k None (λ e. omega (arith, e, lt)) ∙ i.rest k (omega (arith, lt));
       many = ap (λ l. length l) c.push_reserved.ensures.items ∙ length-snoc c.loop-worker.seats.items c.seat_of-seat.result.0 ∙ ap (λ (n : ℕ). n + 1) i.many;
       room = (let r = i.room in let e = c.push_reserved.ensures.capacity in omega (arith, r, e));
-      calls = c.add_calls.ensures.items ∙ (λ k. i.calls k ++ calls k) ∙ sym (in-turn-snoc j (calls_at init)) ∙ ap (λ (n : ℕ). in_turn n (calls_at init)) (sym (add-one j));
-      space = (let s = i.space in let g = c.add_calls.ensures.capacity in omega (arith, s, g));
+      calls = c.append.ensures.items ∙ (λ k. i.calls k ++ calls k) ∙ sym (in-turn-snoc j (calls_at init)) ∙ ap (λ (n : ℕ). in_turn n (calls_at init)) (sym (add-one j));
+      space = (let s = i.space in let g = c.append.ensures.room in let m = ap (λ (l : List Committed). length l) c.append.ensures.items ∙ length-append c.loop-worker.committed.items c.seat_of-seat.result.1.items in let need = fits-in c.args.count j init c.loop-worker.committed.room c.loop-worker.committed.items c.seat_of-seat.result.1.items c.loop-worker-test.true i.calls calls s in omega (arith, s, g, m, need));
       each = λ n x e. each-snoc (λ m y. IsSeatAt xs init m y) c.loop-worker.seats.items c.seat_of-seat.result.0 i.each (subst (λ (m : ℕ). IsSeatAt xs init m c.seat_of-seat.result.0) (sym i.many) new) n x
           (ap (λ l. slice_get l n) (sym c.push_reserved.ensures.items) ∙ e);
     }

@@ -17,7 +17,7 @@ invariant-loop-worker l = record {
   many : length l.seats.items ≡ l.worker;
   room : l.count ≤ vec_capacity l.seats;
   calls : l.committed.items ≡ in_turn l.worker (calls_at l.initial.works.items);
-  space : length (in_turn l.count (calls_at l.initial.works.items)) ≤ vec_capacity l.committed;
+  space : length (in_turn l.count (calls_at l.initial.works.items)) ≤ l.committed.room + length l.committed.items;
   each : (w : ℕ) (x : PlainSeat) → slice_get l.seats.items w ≡ Some x → IsSeatAt (slots_items l.initial.closed.slots) l.initial.works.items w x;
 }
 

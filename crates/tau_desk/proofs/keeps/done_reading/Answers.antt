@@ -67,7 +67,7 @@ last_of-kept-requires g c =
     let next = done-is (next_action c.args.txn.now) c.requires.next in
     let means : Finishes origin.load.procs c.args.txn.now next.0 next.1 = subst (λ (a : Action). Means origin.load.procs c.args.txn.now a) next.2 (c.kind.ensures.means origin.load.procs r.runs) in
     let reads : Reads origin.load.procs c.args.txn.now.worker means.hand means.act = subst (λ (j : Bool). FreesBy origin.load.procs j c.args.txn.now.worker means.hand means.act) c.requires.unjoined means.act_is in
-    record { some = subst (λ (n : ℕ). 1 ≤ n) (sym c.commit_into.new.out.ok.0) (some-last c.commit_into.new.out.items c.args.committed.now.items (committed_of means.act) (c.commit_into.ensures.reading origin.load.procs means.hand means.act r.runs means.is reads)) }
+    record { some = some-last c.commit_into.new.out.items c.args.committed.now.items (committed_of means.act) (c.commit_into.ensures.reading origin.load.procs means.hand means.act r.runs means.is reads) }
 
 pub give_read_only-requires-clause-event : goal.give_read_only-requires-clause-event
 give_read_only-requires-clause-event g c =
@@ -79,7 +79,7 @@ give_read_only-requires-clause-event g c =
     let empty : c.went.new.self.hand ≡ None = c.went.ensures.done next.0 next.1 next.2 in
     let reads : Reads origin.load.procs c.args.txn.now.worker means.hand means.act = subst (λ (j : Bool). FreesBy origin.load.procs j c.args.txn.now.worker means.hand means.act) c.requires.unjoined means.act_is in
     let items : c.commit_into.new.out.items ≡ c.args.committed.now.items ++ committed_of means.act ∷ [] = c.commit_into.ensures.reading origin.load.procs means.hand means.act r.runs means.is reads in
-    let kept : c.last_of-kept.result.now ≡ committed_of means.act = c.last_of-kept.ensures.last c.args.committed.now.items (committed_of means.act) items in
+    let kept : c.last_of-kept.result ≡ committed_of means.act = c.last_of-kept.ensures.last c.args.committed.now.items (committed_of means.act) items in
     let b : BoxOf = (c.take_outbox-outbox.result.0.value, c.take_outbox-outbox.result.1.value) in
     let b' : BoxOf = (c.more_records-room.new.outbox, c.more_calls-room.new.pending) in
     let number : c.number_of.result ≡ means.act.call.call.number =
@@ -119,11 +119,11 @@ returns-clause-step g c =
     let empty : c.went.new.self.hand ≡ None = c.went.ensures.done next.0 next.1 next.2 in
     let reads : Reads origin.load.procs c.args.txn.now.worker means.hand means.act = subst (λ (j : Bool). FreesBy origin.load.procs j c.args.txn.now.worker means.hand means.act) c.requires.unjoined means.act_is in
     let items : c.commit_into.new.out.items ≡ c.args.committed.now.items ++ committed_of means.act ∷ [] = c.commit_into.ensures.reading origin.load.procs means.hand means.act r.runs means.is reads in
-    let kept : c.last_of-kept.result.now ≡ committed_of means.act = c.last_of-kept.ensures.last c.args.committed.now.items (committed_of means.act) items in
+    let kept : c.last_of-kept.result ≡ committed_of means.act = c.last_of-kept.ensures.last c.args.committed.now.items (committed_of means.act) items in
     let spare : ℕ × ℕ = (c.more_records-room.result, c.more_calls-room.result) in (
-      c.last_of-kept.result.now,
+      c.last_of-kept.result,
       (
-        c.give_read_only.ensures.given ∙ ap (λ m. (told_read_only origin.load m.0 c.went.new.self c.last_of-kept.result.now spare, [])) held.1,
+        c.give_read_only.ensures.given ∙ ap (λ m. (told_read_only origin.load m.0 c.went.new.self c.last_of-kept.result spare, [])) held.1,
         record {
           reply = next.0;
           lv = next.1;

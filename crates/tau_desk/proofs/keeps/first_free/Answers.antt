@@ -57,7 +57,7 @@ last_of-requires g c =
     let key : Key = c.in-Some.key in
     let means : Frees origin.load.procs c.args.txn.now key (written_in c.args.txn.now key) = c.in-Some.ensures.means origin.load.procs r.runs in
     let reads : Reads origin.load.procs c.args.txn.now.worker means.hand means.act = subst (λ (b : Bool). FreesBy origin.load.procs b c.args.txn.now.worker means.hand means.act) c.requires.unjoined means.act_is in
-    record { some = subst (λ (n : ℕ). 1 ≤ n) (sym c.commit_into.new.out.ok.0) (some-last c.commit_into.new.out.items c.args.committed.now.items (committed_of means.act) (c.commit_into.ensures.reading origin.load.procs means.hand means.act r.runs means.is reads)) }
+    record { some = some-last c.commit_into.new.out.items c.args.committed.now.items (committed_of means.act) (c.commit_into.ensures.reading origin.load.procs means.hand means.act r.runs means.is reads) }
 
 pub give_first-requires-clause-event : goal.give_first-requires-clause-event
 give_first-requires-clause-event g c =
@@ -75,7 +75,7 @@ give_first-requires-clause-event g c =
     let begun = was-holding origin.load.streams r.worker means.hand key means.mode (r.agrees ∙ means.is) means.held in
     let reads : Reads origin.load.procs c.args.txn.now.worker means.hand means.act = subst (λ (b : Bool). FreesBy origin.load.procs b c.args.txn.now.worker means.hand means.act) c.requires.unjoined means.act_is in
     let items : c.commit_into.new.out.items ≡ c.args.committed.now.items ++ committed_of means.act ∷ [] = c.commit_into.ensures.reading origin.load.procs means.hand means.act r.runs means.is reads in
-    let kept : c.last_of.result.now ≡ committed_of means.act = c.last_of.ensures.last c.args.committed.now.items (committed_of means.act) items in
+    let kept : c.last_of.result ≡ committed_of means.act = c.last_of.ensures.last c.args.committed.now.items (committed_of means.act) items in
     let shown : hand_in origin.load.procs c.went.new.self ≡ Some (hand_freed (hand_joined means.hand (Freeing means.act) means.hand.dep) key) =
     subst (λ (p : List Proc). hand_in p c.args.txn.now ≡ Some means.hand → FreesBy p (has_joined c.args.txn.now) c.args.txn.now.worker means.hand means.act → hand_in p c.went.new.self ≡ Some (hand_freed (hand_joined means.hand (Freeing means.act) means.hand.dep) key)) c.requires.procs
     (λ is frees. c.went.ensures.freed means.hand means.act key (written_in c.args.txn.now key) next is frees) means.is means.act_is in
@@ -114,13 +114,13 @@ returns-clause-step g c = λ e.
     let begun = was-holding origin.load.streams r.worker means.hand key means.mode (r.agrees ∙ means.is) means.held in
     let reads : Reads origin.load.procs c.args.txn.now.worker means.hand means.act = subst (λ (b : Bool). FreesBy origin.load.procs b c.args.txn.now.worker means.hand means.act) c.requires.unjoined means.act_is in
     let items : c.commit_into.new.out.items ≡ c.args.committed.now.items ++ committed_of means.act ∷ [] = c.commit_into.ensures.reading origin.load.procs means.hand means.act r.runs means.is reads in
-    let kept : c.last_of.result.now ≡ committed_of means.act = c.last_of.ensures.last c.args.committed.now.items (committed_of means.act) items in
+    let kept : c.last_of.result ≡ committed_of means.act = c.last_of.ensures.last c.args.committed.now.items (committed_of means.act) items in
     let shown : hand_in origin.load.procs c.went.new.self ≡ Some (hand_freed (hand_joined means.hand (Freeing means.act) means.hand.dep) key) =
     subst (λ (p : List Proc). hand_in p c.args.txn.now ≡ Some means.hand → FreesBy p (has_joined c.args.txn.now) c.args.txn.now.worker means.hand means.act → hand_in p c.went.new.self ≡ Some (hand_freed (hand_joined means.hand (Freeing means.act) means.hand.dep) key)) c.requires.procs
     (λ is frees. c.went.ensures.freed means.hand means.act key (written_in c.args.txn.now key) next is frees) means.is means.act_is in (
-      c.last_of.result.now,
+      c.last_of.result,
       (
-        c.give_first.ensures.given ∙ ap (λ m. (told_joined origin.load m.0 c.went.new.self c.last_of.result.now, [])) held.1,
+        c.give_first.ensures.given ∙ ap (λ m. (told_joined origin.load m.0 c.went.new.self c.last_of.result, [])) held.1,
         record {
           key = key;
           write = (written_in c.args.txn.now key);

@@ -17,9 +17,9 @@ start-requires-clause-takes c =
     let number : ℕ = c.in-Some.number in
     let next : number_by (length l.calls) c.args.work.now.next c.args.work.now.again ≡ Some number = ap (λ (k : Load). number_by (length k.calls) c.args.work.now.next c.args.work.now.again) (sym same) ∙ ap (λ (k : ℕ). number_by k c.args.work.now.next c.args.work.now.again) (sym c.len.ensures) ∙ sym c.number_in.ensures ∙ c.in-Some.is in
     let n = next-is l c.requires.fits.0 c.args.work.now number c.requires.fits.1 next in
-    let call : n.call ≡ c.call_at-call.result =
-    (let f : Some n.call ≡ Some c.call_at-call.result = sym n.got ∙ ap (λ (k : Load). slice_get k.calls (number - 1)) (sym same) ∙ c.call_at-call.ensures in cc) in
-    subst (λ (k : Load). IsTrue (takes k.procs c.call_at-call.result)) (sym same)
+    let call : n.call ≡ c.at-call.result.now =
+    (let f : Some n.call ≡ Some c.at-call.result.now = sym n.got ∙ ap (λ (k : Load). slice_get k.calls (number - 1)) (sym same) ∙ c.at-call.ensures in cc) in
+    subst (λ (k : Load). IsTrue (takes k.procs c.at-call.result.now)) (sym same)
     (subst (λ (x : Call). IsTrue (takes l.procs x)) call (c.requires.run.stands.sound.takes number n.call n.is))
 
 pub returns-in-Ok-clause-begins : goal.returns-in-Ok-clause-begins
@@ -29,8 +29,8 @@ returns-in-Ok-clause-begins c =
     let number : ℕ = c.in-Some.number in
     let next : number_by (length l.calls) c.args.work.now.next c.args.work.now.again ≡ Some number = ap (λ (k : Load). number_by (length k.calls) c.args.work.now.next c.args.work.now.again) (sym same) ∙ ap (λ (k : ℕ). number_by k c.args.work.now.next c.args.work.now.again) (sym c.len.ensures) ∙ sym c.number_in.ensures ∙ c.in-Some.is in
     let n = next-is l c.requires.fits.0 c.args.work.now number c.requires.fits.1 next in
-    let call : n.call ≡ c.call_at-call.result =
-    (let f : Some n.call ≡ Some c.call_at-call.result = sym n.got ∙ ap (λ (k : Load). slice_get k.calls (number - 1)) (sym same) ∙ c.call_at-call.ensures in cc) in
+    let call : n.call ≡ c.at-call.result.now =
+    (let f : Some n.call ≡ Some c.at-call.result.now = sym n.got ∙ ap (λ (k : Load). slice_get k.calls (number - 1)) (sym same) ∙ c.at-call.ensures in cc) in
     let made = c.in-Ok.ensures.made in
     let roomy : PlainWork = c.reserve.new.work in
     let next_is : roomy.next ≡ c.args.work.now.next = ap (λ (y : PlainWork). y.next) made.others in
@@ -40,10 +40,10 @@ returns-in-Ok-clause-begins c =
       roomy = roomy;
       made = made;
       number = number;
-      call = c.call_at-call.result;
+      call = c.at-call.result.now;
       next = next;
       is = n.is ∙ ap Some call;
-      begun = ap (λ (k : Load). hand_in k.procs c.start.new.work.txn) (sym same) ∙ c.start.ensures.begun ∙ ap (λ (t : PlainTxn). Some (fresh t.width (record { number = number; call = c.call_at-call.result }) 0)) txn_is;
+      begun = ap (λ (k : Load). hand_in k.procs c.start.new.work.txn) (sym same) ∙ c.start.ensures.begun ∙ ap (λ (t : PlainTxn). Some (fresh t.width (record { number = number; call = c.at-call.result.now }) 0)) txn_is;
       stays = c.start.ensures.stays;
       same = c.start.ensures.same ∙ ap {A = PlainTxn} (λ (t : PlainTxn). record t { hand = c.start.new.work.txn.hand }) txn_is;
       others = c.start.ensures.others ∙ (λ i. record roomy { txn = c.start.new.work.txn; next = next_behind (same i).workers (next_is i) (again_is i); again = None; mark = Some (record { next = next_is i; again = again_is i }) });

@@ -29,6 +29,6 @@ returns-clause-fates c = λ K h g.
 pub returns-clause-order : goal.returns-clause-order
 returns-clause-order c = λ K h g.
     c.of-2.ensures ∙ c.in_ok-order.ensures
-    ∙ ap (λ (e : List ℕ). reported_numbers e c.committed-2.result.now) c.ends.ensures
+    ∙ ap (λ (e : List ℕ). reported_numbers e c.committed-2.result.now.items) c.ends.ensures
     ∙ ap (reported_numbers c.args.core.now.ends) c.committed-2.ensures.same
     ∙ order-stands c.args.core.now K h g

@@ -2,6 +2,7 @@ use Rattle.std.proofs.Common.{rules, ℕ, ◌-◌, ◌<◌, ◌≡◌, List, [],
 use Rattle.std.specs.Prelude.{Some, None, replicate, slice_get, slice_set}
 use Rattle.std.specs.List.{remove}
 use Rattle.std.proofs.lemmas.Option.{slice_get_within}
+use Rattle.tau_model.specs.CommittedList.{PlainCommittedList}
 use Rattle.tau_core.specs.State.{Plain}
 use Rattle.tau_rule.specs.Heads.{left_by}
 use Rattle.tau_rule.specs.Steps.{Sat}
@@ -49,9 +50,9 @@ invariant_of-head c =
     let o = c.take_work-work.result in
     let there : slice_get head.workers l.worker ≡ Some (Some o) = c.take_work-work.ensures.taken in
     let q = lefts-as key head g l can o there in
-    let cap : vec_capacity c.try_reserve.new.self ≡ vec_capacity c.work.inside.committed = search rules in
-    let room : vec_capacity c.try_reserve.new.self - vec_len c.try_reserve.new.self ≡ o.committed_room = (λ k. cap k - c.try_reserve.ensures.len k) ∙ ap (λ (x : PlainWork). x.committed_room) c.work.view_is in
-    let kept = c.try_reserve.ensures.items ∙ ap (λ (x : PlainWork). x.committed) c.work.view_is in
+    let same_list : c.reserve.new.self ≡ c.work.inside.committed = search rules in
+    let room : c.reserve.new.self.room ≡ o.committed_room = ap (λ (q : PlainCommittedList). q.room) same_list ∙ ap (λ (x : PlainWork). x.committed_room) c.work.view_is in
+    let kept = c.reserve.ensures.items ∙ ap (λ (x : PlainWork). x.committed) c.work.view_is in
     let items : c.put_work.new.workers.items ≡ head.workers =
     c.put_work.ensures ∙ (λ k. slice_set (c.take_work-work.ensures.left k) l.worker (Some (record (c.work.view_is k) { committed = kept k; committed_room = room k }))) ∙ put-back head.workers l.worker o o there refl in
     subst (λ (xs : List (Option PlainWork)). IsHead i.seat.me xs i.managers.items i.clerk i.seen) (sym items) c.head.invariant
@@ -70,9 +71,9 @@ returns-then-is_err-clause-refused c =
     let o = c.take_work-work.result in
     let there : slice_get head.workers l.worker ≡ Some (Some o) = c.take_work-work.ensures.taken in
     let q = lefts-as key head g l can o there in
-    let cap : vec_capacity c.try_reserve.new.self ≡ vec_capacity c.work.inside.committed = search rules in
-    let room : vec_capacity c.try_reserve.new.self - vec_len c.try_reserve.new.self ≡ o.committed_room = (λ k. cap k - c.try_reserve.ensures.len k) ∙ ap (λ (x : PlainWork). x.committed_room) c.work.view_is in
-    let kept = c.try_reserve.ensures.items ∙ ap (λ (x : PlainWork). x.committed) c.work.view_is in
+    let same_list : c.reserve.new.self ≡ c.work.inside.committed = search rules in
+    let room : c.reserve.new.self.room ≡ o.committed_room = ap (λ (q : PlainCommittedList). q.room) same_list ∙ ap (λ (x : PlainWork). x.committed_room) c.work.view_is in
+    let kept = c.reserve.ensures.items ∙ ap (λ (x : PlainWork). x.committed) c.work.view_is in
     let items : c.put_work.new.workers.items ≡ head.workers =
     c.put_work.ensures ∙ (λ k. slice_set (c.take_work-work.ensures.left k) l.worker (Some (record (c.work.view_is k) { committed = kept k; committed_room = room k }))) ∙ put-back head.workers l.worker o o there refl in
     (λ k. record head { workers = items k }) ∙ v
@@ -147,10 +148,10 @@ invariant_of-result c =
     let h = c.head.invariant in
     let same : h.origin ≡ key = one-origin head.me.0.opened h.origin key h.opened opened in
     let zeros : c.zero.result ≡ replicate key.load.streams 0 = c.zero.ensures ∙ ap (λ (n : ℕ). replicate n 0) desk.streams_are.0 in
-    let kept = c.try_reserve.ensures.items ∙ ap (λ (x : PlainWork). x.committed) c.work.view_is in
+    let kept = c.reserve.ensures.items ∙ ap (λ (x : PlainWork). x.committed) c.work.view_is in
     let left : c.remove.new.self.numbers ≡ remove o.left l.at = c.remove.ensures.numbers ∙ ap (λ (x : PlainWork). remove x.left l.at) c.work.view_is in
     let left_room : ℕ = c.remove.new.self.room in
-    let room : ℕ = vec_capacity c.try_reserve.new.self - vec_len c.try_reserve.new.self in
+    let room : ℕ = c.reserve.new.self.room in
     let new : PlainWork = record o { again = Some l.number; left = remove o.left l.at; left_room = left_room; committed_room = room } in
     let seat = resumed-seat key head g l can o there q.0 q.1 i.seen left_room room new opened (h.read ∙ ap (λ (p : Plain). (0, replicate p.load.streams 0)) same) h.seen_is (h.seen_wide ∙ ap (λ (p : Plain). p.load.streams) same) refl in
     subst (λ (z : Sat × PlainWork × List ℕ). IsWorkerSeat z.0 l.worker z.1 (0, z.2) i.seen)

@@ -1,5 +1,7 @@
-use Rattle.std.proofs.Common.{rules, ℕ, ◌+◌, ◌-◌, ◌/◌, ◌≤◌, ◌≡◌, List, [], length, refl, sym, ap, subst, ◌∙◌, Option, arith, vec_len, vec_capacity}
+use Rattle.std.proofs.Common.{rules, ℕ, ◌+◌, ◌-◌, ◌/◌, ◌≤◌, ◌≡◌, List, [], length, length-set, refl, sym, ap, subst, ◌∙◌, Option, arith, vec_len, vec_capacity}
 use Rattle.std.specs.Prelude.{Some, None, replicate, slice_get, slice_set}
+use Rattle.std.proofs.lemmas.Option.{slice_get_within}
+use Rattle.tau_model.specs.CommittedList.{PlainCommittedList}
 use Rattle.tau_core.specs.State.{Plain}
 use Rattle.tau_rule.specs.Heads.{left_by, split_off}
 use Rattle.tau_rule.specs.Steps.{Sat}
@@ -24,6 +26,13 @@ part_off-seat-requires-clause-there c =
     let e : slice_get head.workers.items w ≡ Some (Some o) = c.take_work-work.ensures.taken in
     let g = h.worker w o e in
     (g.role, g.is)
+
+pub put_work-requires : goal.put_work-requires
+put_work-requires c =
+    let w : ℕ = c.args.worker in
+    let lt = slice_get_within c.head.inside.workers.items w (Some c.take_work-work.result) c.take_work-work.ensures.taken in
+    let e = ap (λ (x : List (Option PlainWork)). length x) c.take_work-work.ensures.left ∙ length-set c.head.inside.workers.items w None in
+    omega (arith, lt, e)
 
 pub invariant_of-head-2 : goal.invariant_of-head-2
 invariant_of-head-2 c =
@@ -56,11 +65,11 @@ invariant_of-result c =
     let w : ℕ = c.args.worker in
     let o = c.take_work-work.result in
     let e : slice_get head.workers.items w ≡ Some (Some o) = c.take_work-work.ensures.taken in
-    let room : ℕ = vec_capacity c.try_reserve.new.self - vec_len c.try_reserve.new.self in
-    let old : vec_capacity c.work.inside.committed - vec_len c.work.inside.committed ≡ o.committed_room = ap (λ (x : PlainWork). x.committed_room) c.work.view_is in
-    let more : o.committed_room ≤ room = (let p = c.try_reserve.ensures.capacity in let q = c.try_reserve.ensures.len in omega (arith, old, p, q)) in
+    let room : ℕ = c.reserve_more.new.committed.room in
+    let old : c.work.inside.committed.room ≡ o.committed_room = ap (λ (x : PlainWork). x.committed_room) c.work.view_is in
+    let more : o.committed_room ≤ room = (let p = c.reserve_more.ensures.kept in omega (arith, old, p)) in
     let zeros : c.zero.result ≡ replicate h.origin.load.streams 0 = c.zero.ensures ∙ ap (λ (n : ℕ). replicate n 0) (s ∙ ap (λ (p : Plain). p.load.streams) (sym a)) in
-    let kept = c.try_reserve.ensures.items ∙ ap (λ (x : PlainWork). x.committed) c.work.view_is in
+    let kept = c.reserve_more.ensures.items ∙ ap (λ (x : PlainWork). x.committed) c.work.view_is in
     subst (λ (z : Sat × PlainWork × List ℕ). IsWorkerSeat z.0 w z.1 (0, z.2) head.seen)
     (λ i. (sym c.part_off-seat.ensures.parted.1 i, sym (λ k. record (c.work.view_is k) { committed = kept k; committed_room = room }) i, sym zeros i))
     (worker-off head.seat.me head.workers.items head.managers.items head.clerk head.seen h w room o e more)
@@ -78,9 +87,9 @@ invariant_of-head c =
     let w : ℕ = c.args.worker in
     let o = c.take_work-work.result in
     let e : slice_get head.workers.items w ≡ Some (Some o) = c.take_work-work.ensures.taken in
-    let cap : vec_capacity c.try_reserve.new.self ≡ vec_capacity c.work.inside.committed = search rules in
-    let room : vec_capacity c.try_reserve.new.self - vec_len c.try_reserve.new.self ≡ o.committed_room = (λ i. cap i - c.try_reserve.ensures.len i) ∙ ap (λ (x : PlainWork). x.committed_room) c.work.view_is in
-    let kept = c.try_reserve.ensures.items ∙ ap (λ (x : PlainWork). x.committed) c.work.view_is in
+    let same_list : c.reserve_more.new.committed ≡ c.work.inside.committed = search rules in
+    let room : c.reserve_more.new.committed.room ≡ o.committed_room = ap (λ (q : PlainCommittedList). q.room) same_list ∙ ap (λ (x : PlainWork). x.committed_room) c.work.view_is in
+    let kept = c.reserve_more.ensures.items ∙ ap (λ (x : PlainWork). x.committed) c.work.view_is in
     let items : c.put_work.new.workers.items ≡ head.workers.items = c.put_work.ensures ∙ (λ i. slice_set (c.take_work-work.ensures.left i) w (Some (record (c.work.view_is i) { committed = kept i; committed_room = room i }))) ∙ put-back head.workers.items w o o e refl in
     subst (λ (xs : List (Option PlainWork)). IsHead head.seat.me xs head.managers.items head.clerk head.seen) (sym items) h
 
@@ -97,9 +106,9 @@ returns-then-is_err-clause-refused c =
     let w : ℕ = c.args.worker in
     let o = c.take_work-work.result in
     let e : slice_get head.workers.items w ≡ Some (Some o) = c.take_work-work.ensures.taken in
-    let cap : vec_capacity c.try_reserve.new.self ≡ vec_capacity c.work.inside.committed = search rules in
-    let room : vec_capacity c.try_reserve.new.self - vec_len c.try_reserve.new.self ≡ o.committed_room = (λ i. cap i - c.try_reserve.ensures.len i) ∙ ap (λ (x : PlainWork). x.committed_room) c.work.view_is in
-    let kept = c.try_reserve.ensures.items ∙ ap (λ (x : PlainWork). x.committed) c.work.view_is in
+    let same_list : c.reserve_more.new.committed ≡ c.work.inside.committed = search rules in
+    let room : c.reserve_more.new.committed.room ≡ o.committed_room = ap (λ (q : PlainCommittedList). q.room) same_list ∙ ap (λ (x : PlainWork). x.committed_room) c.work.view_is in
+    let kept = c.reserve_more.ensures.items ∙ ap (λ (x : PlainWork). x.committed) c.work.view_is in
     let items : c.put_work.new.workers.items ≡ head.workers.items = c.put_work.ensures ∙ (λ i. slice_set (c.take_work-work.ensures.left i) w (Some (record (c.work.view_is i) { committed = kept i; committed_room = room i }))) ∙ put-back head.workers.items w o o e refl in
     (λ i. record { table_id = head.seat.table_id; id = head.seat.id; me = head.seat.me; workers = items i; managers = head.managers.items; clerk = head.clerk; seen = head.seen }) ∙ v
 
@@ -118,8 +127,8 @@ returns c =
     let e : slice_get head.workers.items w ≡ Some (Some o) = c.take_work-work.ensures.taken in
     let own = c.part_off-seat.ensures.own in
     let parted = c.part_off-seat.ensures.parted in
-    let kept = c.try_reserve.ensures.items ∙ ap (λ (x : PlainWork). x.committed) c.work.view_is in
-    let ok : vec_len c.try_reserve.new.self + (c.len.result / desk.load.workers + 1) ≤ vec_capacity c.try_reserve.new.self = search rules in
+    let kept = c.reserve_more.ensures.items ∙ ap (λ (x : PlainWork). x.committed) c.work.view_is in
+    let ok : c.len.result / desk.load.workers + 1 ≤ c.reserve_more.new.committed.room = search rules in
     let count : c.len.result / desk.load.workers + 1 ≡ calls_each key.load = ap (λ (n : ℕ). n / desk.load.workers + 1) c.len.ensures ∙ ap calls_each l in
     let width : desk.streams ≡ length c.args.head.now.seen = s ∙ ap (λ (p : Plain). p.load.streams) (sym a) ∙ sym h.seen_wide ∙ ap (λ (p : PlainHead). length p.seen) v in
     record {

@@ -19,7 +19,7 @@ invariant_of-self c =
     let origin : Plain = c.args.desk.now.table.shared.key.value in
     let opened = ap (λ x. x.seat.me.0.opened) c.self-inside.view_is ∙ ap (λ v. v.me.0.opened) c.self.view_is ∙ c.requires.opened in
     let s = subst (λ x. IsWorkerSeat x.seat.me x.worker x.work (x.anchor, x.anchor_lv) x.seen) (sym c.self-inside.view_is) c.self.invariant in
-    let room : ℕ = vec_capacity c.commit.new.committed - vec_len c.commit.new.committed in
+    let room : ℕ = c.commit.new.committed.room in
     let some = c.if-self-eq0.false in
     let step = c.in-Ok.ensures.step in
     seat-committed origin _ c.commit.new.seat.me _ _ c.commit.new.txn c.in-Ok.start step.0 c.commit.new.committed.items room _ _ opened s step.1.0 step.2 (omega (arith, some)) step.1.1

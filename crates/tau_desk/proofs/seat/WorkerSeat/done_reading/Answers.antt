@@ -21,6 +21,6 @@ invariant_of-self g c =
     let origin : Plain = c.args.desk.now.table.shared.key.value in
     let opened = ap (λ x. x.seat.me.0.opened) c.self-inside.view_is ∙ ap (λ v. v.me.0.opened) c.self.view_is ∙ c.requires.opened in
     let s = subst (λ x. IsWorkerSeat x.seat.me x.worker x.work (x.anchor, x.anchor_lv) x.seen) (sym c.self-inside.view_is) c.self.invariant in
-    let room : ℕ = vec_capacity c.done_reading.new.committed - vec_len c.done_reading.new.committed in
+    let room : ℕ = c.done_reading.new.committed.room in
     let step = c.done_reading.ensures.step in
     seat-read origin _ c.done_reading.new.seat.me _ _ c.done_reading.new.txn step.0 c.done_reading.new.committed.items (c.done_reading.new.room.records, c.done_reading.new.room.calls) room _ _ opened s step.1.0 step.2 step.1.1

@@ -19,6 +19,6 @@ invariant_of-self-2 g c =
     let origin : Plain = c.args.desk.now.table.shared.key.value in
     let opened = ap (λ x. x.seat.me.0.opened) c.self-inside.view_is ∙ ap (λ v. v.me.0.opened) c.self.view_is ∙ c.requires.opened in
     let s = subst (λ x. IsWorkerSeat x.seat.me x.worker x.work (x.anchor, x.anchor_lv) x.seen) (sym c.self-inside.view_is) c.self.invariant in
-    let room : ℕ = vec_capacity c.first_free.new.committed - vec_len c.first_free.new.committed in
+    let room : ℕ = c.first_free.new.committed.room in
     let step = c.first_free.ensures.step c.if-not-first_free.false in
     seat-first origin _ c.first_free.new.seat.me _ _ c.first_free.new.txn step.0 c.first_free.new.committed.items room _ _ opened s step.1.0 step.2 step.1.1
