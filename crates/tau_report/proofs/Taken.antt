@@ -1,11 +1,11 @@
 -- The lines of taken records, one record or stream more at a time.
-use Rattle.std.proofs.Common.{ℕ, suc, ◌≡◌, ◌+◌, ◌<◌, List, [], ◌∷◌, ◌++◌, drop, length, refl, sym, ap, ◌∙◌, append_assoc, arith, add-one, drop-cons, get_or, map}
+use Rattle.std.proofs.Common.{ℕ, suc, ◌≡◌, ◌+◌, ◌<◌, List, ◌++◌, drop, length, sym, ap, ◌∙◌, append_assoc, add-one, drop-cons, get_or}
 use Rattle.std.specs.Prelude.{Bool}
-use Rattle.std.specs.List.{filter, flat_map}
+use Rattle.std.specs.List.{filter}
 use Rattle.std.proofs.lemmas.List.Elements.{filter-append}
 use Rattle.std.proofs.lemmas.Grind.{flat_map-append}
 use Rattle.tau_record.specs.declared.entry.Placed.{Placed}
-use Rattle.tau_scan.specs.Taken.{Kept, kept_as, kept_in, kept_from}
+use Rattle.tau_scan.specs.Taken.{Kept, kept_in, kept_from}
 use Rattle.tau_report.specs.Recovery.{taken_line, taken_lines}
 
 lines_of_both : (P : Kept → Bool) (xs ys : List Kept) → taken_lines (filter P (xs ++ ys)) ≡ taken_lines (filter P xs) ++ taken_lines (filter P ys)

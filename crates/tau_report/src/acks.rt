@@ -67,15 +67,9 @@ impl Acks {
         ensures ok { OnOk result (self.new ≡ self.old ++ (number, lv.now) ∷ []) }
         ensures err { OnErr result (self.new ≡ self.old) }
     {
-        match self.heads.reserve(1) {
-            Ok(()) => {}
-            Err(_) => return Err(NoMemory),
-        }
+        self.heads.reserve(1)?;
         let width = lv.width();
-        match self.parts.reserve(width) {
-            Ok(()) => {}
-            Err(_) => return Err(NoMemory),
-        }
+        self.parts.reserve(width)?;
         put_parts(&mut self.parts, lv);
         self.heads.push_reserved((number, width as u8));
         Ok(())

@@ -58,15 +58,12 @@ impl KeptFate {
                     number: *number,
                 },
             }),
-            _ => match Box::new(alloc, reply.copied()) {
-                Ok(reply) => Ok(KeptFate {
-                    kept: Kept::Other {
-                        acknowledged,
-                        reply,
-                    },
-                }),
-                Err(_) => Err(NoMemory),
-            },
+            _ => Ok(KeptFate {
+                kept: Kept::Other {
+                    acknowledged,
+                    reply: Box::new(alloc, reply.copied())?,
+                },
+            }),
         }
     }
 }

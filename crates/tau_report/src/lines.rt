@@ -1,6 +1,6 @@
 //! The lines of a report. Each function puts lines at the end of a text, and on an error may have put some bytes.
 ghost use Rattle.std.specs.Prelude.{◌≡◌, ◌++◌, ◌∷◌, [], OnOk, OnErr, decimal};
-ghost use Rattle.tau_report.specs.Lines.{line, reply_text, ack_line, fate_line, order_line, row_line, end_line};
+ghost use Rattle.tau_report.specs.Lines.{line, value_text, reply_text, ack_line, fate_line, order_line, row_line, end_line};
 ghost use Rattle.tau_base.specs.declared.value.Value.{Value};
 ghost use Rattle.tau_proc.specs.declared.reply.Reply.{Reply};
 ghost use Rattle.tau_report.specs.KeptFate.{fate_by};
@@ -8,7 +8,8 @@ ghost use Rattle.tau_report.specs.Report.{fate_lines, order_lines, row_lines};
 
 use crate::fate::{Kept, KeptFate};
 use crate::words::{
-    name_of, next_number, next_reply, next_value, next_vector, next_whole, next_word,
+    name_of, next_int, next_number, next_reply, next_value, next_vector, next_whole, next_word,
+    put_number,
 };
 use std::alloc::AllocError;
 use tau_base::{Key, Lv, Name, NoMemory, Value};
@@ -17,8 +18,8 @@ use tau_proc::Reply;
 fn put_ack(out: &mut Vec<u8>, number: u64, lv: &Lv) -> Result<(), AllocError>
     ensures { OnOk result (out.new.items ≡ out.old.items ++ ack_line (number, lv.now)) }
 {
-    out.extend_from_slice(b"ack")?;
-    next_number(out, number)?;
+    out.extend_from_slice(b"ack ")?;
+    put_number(out, number)?;
     next_vector(out, lv)?;
     out.push(b'\n')?;
     Ok(())
@@ -51,12 +52,25 @@ fn put_reply(out: &mut Vec<u8>, word: &[u8], number: u64, reply: &Reply) -> Resu
     Ok(())
 }
 
-/// The line of a call of which nothing but its number is said.
-fn put_number_line(out: &mut Vec<u8>, word: &[u8], number: u64) -> Result<(), AllocError>
-    ensures { OnOk result (out.new.items ≡ out.old.items ++ line (word.now ∷ decimal number ∷ [])) }
+/// The same of one that replied a whole number, as most do. The word comes with the space after it.
+#[inline(always)]
+fn put_int_line(out: &mut Vec<u8>, word: &[u8], number: u64, reply: i64) -> Result<(), AllocError>
+    ensures { OnOk result (out.new.items ≡ out.old.items ++ word.now ++ line (decimal number ∷ value_text (Value.Int reply) ∷ [])) }
 {
     out.extend_from_slice(word)?;
-    next_number(out, number)?;
+    put_number(out, number)?;
+    next_int(out, reply)?;
+    out.push(b'\n')?;
+    Ok(())
+}
+
+/// The line of a call of which nothing but its number is said. The word comes with the space after it.
+#[inline(always)]
+fn put_number_line(out: &mut Vec<u8>, word: &[u8], number: u64) -> Result<(), AllocError>
+    ensures { OnOk result (out.new.items ≡ out.old.items ++ word.now ++ line (decimal number ∷ [])) }
+{
+    out.extend_from_slice(word)?;
+    put_number(out, number)?;
     out.push(b'\n')?;
     Ok(())
 }
@@ -86,14 +100,18 @@ fn put_int_reply(
 ) -> Result<(), AllocError>
     ensures { OnOk result (out.new.items ≡ out.old.items ++ fate_line number (fate_by acknowledged (Reply.Ok (Value.Int reply)))) }
 {
-    put_committed(out, number, acknowledged, &Reply::Ok(Value::Int(reply)))
+    if acknowledged {
+        put_int_line(out, b"reply ", number, reply)
+    } else {
+        put_int_line(out, b"unsure ", number, reply)
+    }
 }
 
 fn put_fate(out: &mut Vec<u8>, number: u64, fate: &KeptFate) -> Result<(), AllocError>
     ensures { OnOk result (out.new.items ≡ out.old.items ++ fate_line number fate.now) }
 {
     match &fate.kept {
-        Kept::Unrun => put_number_line(out, b"unrun", number),
+        Kept::Unrun => put_number_line(out, b"unrun ", number),
         Kept::Int {
             acknowledged,
             number: reply,
@@ -122,7 +140,7 @@ pub fn put_order(out: &mut Vec<u8>, order: &[u64]) -> Result<(), AllocError>
     ensures { OnOk result (out.new.items ≡ out.old.items ++ order_lines order.now) }
 {
     for number in order {
-        put_number_line(out, b"order", *number)?;
+        put_number_line(out, b"order ", *number)?;
     }
     Ok(())
 }
@@ -154,6 +172,6 @@ pub fn put_end(out: &mut Vec<u8>, disk: Option<u8>) -> Result<(), AllocError>
 {
     match disk {
         None => out.extend_from_slice(b"end 0\n"),
-        Some(stream) => put_number_line(out, b"end 6", u64::from(stream)),
+        Some(stream) => put_number_line(out, b"end 6 ", u64::from(stream)),
     }
 }

@@ -7,7 +7,7 @@ ghost use Rattle.tau_report.specs.Lines.{line};
 ghost use Rattle.tau_report.specs.Recovery.{elv_line, taken_lines, recover_text};
 
 use crate::lines::{put_end, put_rows};
-use crate::words::{next_number, next_vector};
+use crate::words::{next_number, next_vector, put_number};
 use std::alloc::{AllocError, Global};
 use tau_base::{Listed, Lv, NoMemory};
 use tau_model::Tables;
@@ -36,8 +36,8 @@ fn put_taken(
     if !taken {
         return Ok(());
     }
-    out.extend_from_slice(b"taken")?;
-    next_number(out, stream)?;
+    out.extend_from_slice(b"taken ")?;
+    put_number(out, stream)?;
     next_number(out, start)?;
     next_number(out, number)?;
     out.push(b'\n')?;
@@ -50,10 +50,22 @@ fn put_record(out: &mut Vec<u8>, elv: &Lv, stream: u64, placed: &Placed) -> Resu
 {
     match &placed.entry {
         Entry::Written { number, dep, .. } => {
-            put_taken(out, elv.covers(dep), stream, placed.start, *number)
+            put_taken(
+                out,
+                elv.covers_all(dep.as_slice()),
+                stream,
+                placed.start,
+                *number,
+            )
         }
         Entry::Command { number, dep, .. } => {
-            put_taken(out, elv.covers(dep), stream, placed.start, *number)
+            put_taken(
+                out,
+                elv.covers_all(dep.as_slice()),
+                stream,
+                placed.start,
+                *number,
+            )
         }
         Entry::Anchor { .. } => Ok(()),
         Entry::Catalogue { .. } => Ok(()),
@@ -102,8 +114,6 @@ pub fn recover_text(alloc: Global, log: &Log, tables: &Tables) -> Result<Vec<u8>
     ensures { IfOk result (λ text. text.items ≡ recover_text log.now tables.now) }
 {
     let mut text = Vec::new(alloc);
-    match put_recovery(&mut text, log, tables) {
-        Ok(()) => Ok(text),
-        Err(_) => Err(NoMemory),
-    }
+    put_recovery(&mut text, log, tables)?;
+    Ok(text)
 }

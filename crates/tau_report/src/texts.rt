@@ -34,10 +34,8 @@ pub fn report_text(
     ensures { IfOk result (λ text. text.items ≡ rest_text d.now.tables report.now disk) }
 {
     let mut text = Vec::new(alloc);
-    match put_report(&mut text, d, report, disk) {
-        Ok(()) => Ok(text),
-        Err(_) => Err(NoMemory),
-    }
+    put_report(&mut text, d, report, disk)?;
+    Ok(text)
 }
 
 /// A line for each row of the tables, in ascending order of keys.
@@ -45,8 +43,6 @@ pub fn table_text(alloc: Global, d: &Declarations, tables: &Tables) -> Result<Ve
     ensures { IfOk result (λ text. text.items ≡ row_lines d.now.tables tables.now) }
 {
     let mut text = Vec::new(alloc);
-    match put_rows(&mut text, d.tables.as_slice(), tables.rows()) {
-        Ok(()) => Ok(text),
-        Err(_) => Err(NoMemory),
-    }
+    put_rows(&mut text, d.tables.as_slice(), tables.rows())?;
+    Ok(text)
 }

@@ -19,8 +19,18 @@ pub fn name_of(tables: &[Name], table: u16) -> &[u8]
     }
 }
 
-fn put_number(out: &mut Vec<u8>, number: u64) -> Result<(), AllocError>
+/// A number from 0 up.
+#[inline(always)]
+pub fn put_number(out: &mut Vec<u8>, number: u64) -> Result<(), AllocError>
     ensures { OnOk result (out.new.items ≡ out.old.items ++ decimal number) }
+{
+    let mut buffer = Buffer::new();
+    out.extend_from_slice(buffer.format(number).as_bytes())
+}
+
+#[inline(always)]
+fn put_whole(out: &mut Vec<u8>, number: i64) -> Result<(), AllocError>
+    ensures { OnOk result (out.new.items ≡ out.old.items ++ signed_decimal number) }
 {
     let mut buffer = Buffer::new();
     out.extend_from_slice(buffer.format(number).as_bytes())
@@ -35,6 +45,7 @@ pub fn next_word(out: &mut Vec<u8>, word: &[u8]) -> Result<(), AllocError>
 }
 
 /// A number from 0 up after another word.
+#[inline(always)]
 pub fn next_number(out: &mut Vec<u8>, number: u64) -> Result<(), AllocError>
     ensures { OnOk result (out.new.items ≡ out.old.items ++ 32 ∷ decimal number) }
 {
@@ -46,10 +57,11 @@ pub fn next_number(out: &mut Vec<u8>, number: u64) -> Result<(), AllocError>
 pub fn next_whole(out: &mut Vec<u8>, number: i64) -> Result<(), AllocError>
     ensures { OnOk result (out.new.items ≡ out.old.items ++ 32 ∷ signed_decimal number) }
 {
-    let mut buffer = Buffer::new();
-    next_word(out, buffer.format(number).as_bytes())
+    out.push(b' ')?;
+    put_whole(out, number)
 }
 
+#[inline(never)]
 fn next_text(out: &mut Vec<u8>, text: &str) -> Result<(), AllocError>
     ensures { OnOk result (out.new.items ≡ out.old.items ++ 32 ∷ value_text (Value.Text text.now)) }
 {
@@ -59,11 +71,13 @@ fn next_text(out: &mut Vec<u8>, text: &str) -> Result<(), AllocError>
     Ok(())
 }
 
-fn next_int(out: &mut Vec<u8>, number: i64) -> Result<(), AllocError>
+/// A whole number as a value after another word.
+#[inline(always)]
+pub fn next_int(out: &mut Vec<u8>, number: i64) -> Result<(), AllocError>
     ensures { OnOk result (out.new.items ≡ out.old.items ++ 32 ∷ value_text (Value.Int number)) }
 {
-    out.extend_from_slice(b" int")?;
-    next_whole(out, number)
+    out.extend_from_slice(b" int ")?;
+    put_whole(out, number)
 }
 
 /// A value after another word.

@@ -8,3 +8,4 @@ pub mod Binds
 pub mod Begins
 pub mod Chains
 pub mod Differences
+pub mod Places

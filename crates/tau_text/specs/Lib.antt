@@ -9,3 +9,5 @@ pub mod Alone
 pub mod Kept
 pub mod Shapes
 pub mod Causes
+pub mod Puts
+pub mod Places

@@ -2,6 +2,8 @@
 ghost use Rattle.std.specs.Prelude.{◌≡◌, ◌≤◌, ◌<◌, ◌+◌, Ok, [], List, length, map, slice_get, IfOk, OnOk, IfSome, IsTrue, All};
 ghost use Rattle.tau_text.specs.Lines.{words};
 ghost use Rattle.tau_text.specs.Given.{Gives};
+ghost use Rattle.tau_text.specs.Puts.{Puts};
+ghost use Rattle.tau_text.specs.Spelled.{literal};
 ghost use Rattle.tau_text.specs.Forms.{key_words, put_call, add_call, key_call, call_of, number_value, literals, proc_call, args_at};
 ghost use Rattle.tau_text.specs.Called.{called, numbered};
 ghost use Rattle.tau_proc.specs.declared.proc.Proc.{Proc};
@@ -11,7 +13,7 @@ ghost use Rattle.tau_proc.specs.Takes.{takes, takes_put, takes_add, takes_row};
 use crate::fault::{LineRefusal, TextCause};
 use crate::heads::Head;
 use crate::lines::{first_word, no_more};
-use crate::spelled::{known_proc, known_table, literal, whole};
+use crate::spelled::{is_digit, known_proc, known_table, literal, whole};
 use arrayvec::ArrayVec;
 use tau_base::{MAX_ARGS, MAX_TABLES, Name, Value};
 use tau_proc::{ADD, DEL, FIRST_DECLARED, GET, PUT, Proc};
@@ -19,6 +21,7 @@ use tau_proc::{ADD, DEL, FIRST_DECLARED, GET, PUT, Proc};
 pub type Args = ArrayVec<Value, 8>;
 
 /// A table and a row, and what is after them.
+#[inline(always)]
 #[tactic(auto, unfolding(crate::specs::Forms::key_words))]
 fn key_words<'a>(tables: &[Name], rest: &'a [u8], args: &mut Args) -> Result<&'a [u8], LineRefusal>
     requires few { length tables.now ≤ MAX_TABLES }
@@ -36,6 +39,37 @@ fn key_words<'a>(tables: &[Name], rest: &'a [u8], args: &mut Args) -> Result<&'a
     Ok(rest)
 }
 
+/// Puts the value of a literal at the end.
+#[inline(never)]
+fn push_other(word: &[u8], args: &mut Args) -> Result<(), LineRefusal>
+    requires room { length args.old.items < 8 }
+    ensures { Puts args.old.items args.new.items result (literal word.now) }
+{
+    let value = literal(word)?;
+    args.push(value);
+    Ok(())
+}
+
+/// The same. A whole number, as most literals are, is put with no value between, since values are large.
+#[tactic(auto, unfolding(crate::specs::Spelled::literal))]
+fn push_literal(word: &[u8], args: &mut Args) -> Result<(), LineRefusal>
+    requires room { length args.old.items < 8 }
+    ensures { Puts args.old.items args.new.items result (literal word.now) }
+{
+    match word {
+        [] => Err(LineRefusal::Cause(TextCause::BadStep)),
+        [b, ..] => {
+            if is_digit(*b) || *b == b'-' {
+                let z = whole(word)?;
+                args.push(Value::Int(z));
+                Ok(())
+            } else {
+                push_other(word, args)
+            }
+        }
+    }
+}
+
 /// The arguments of a `put`.
 #[tactic(auto, unfolding(crate::specs::Forms::put_call), using(crate::proofs::Taken::put_taken))]
 fn put_args(tables: &[Name], rest: &[u8], args: &mut Args) -> Result<(), LineRefusal>
@@ -46,9 +80,8 @@ fn put_args(tables: &[Name], rest: &[u8], args: &mut Args) -> Result<(), LineRef
 {
     let rest = key_words(tables, rest, args)?;
     let (word, rest) = first_word(rest)?;
-    let value = literal(word)?;
+    push_literal(word, args)?;
     no_more(rest)?;
-    args.push(value);
     Ok(())
 }
 
@@ -131,8 +164,7 @@ fn literals<'a>(n: u8, rest: &'a [u8], args: &mut Args) -> Result<&'a [u8], Line
     let mut rest = rest;
     for _ in 0..n {
         let (word, after) = first_word(rest)?;
-        let value = literal(word)?;
-        args.push(value);
+        push_literal(word, args)?;
         rest = after;
     }
     Ok(rest)
@@ -166,6 +198,7 @@ fn args_of(procs: &[Proc], i: usize) -> u8
 }
 
 /// The number of the procedure that a line calls, by its first word.
+#[inline(always)]
 #[tactic(auto, unfolding(crate::specs::Called::called))]
 pub fn call_line(
     tables: &[Name],

@@ -4,6 +4,7 @@ ghost use Rattle.tau_text.specs.Causes.{cause_number};
 ghost use Rattle.tau_text.specs.declared.fault.LineRefusal.TheVariants.{Memory};
 
 use std::alloc::{AllocError, AllocFailed};
+use tau_base::NoMemory;
 use thiserror::Error;
 
 /// What is wrong with the first bad line of a text. The causes are numbered from 1 in this order.
@@ -83,6 +84,14 @@ pub enum TextRefusal {
 pub enum LineRefusal {
     Memory,
     Cause(TextCause),
+}
+
+impl From<NoMemory> for LineRefusal {
+    ghost from_gives = { λ _ e. e ≡ Memory };
+
+    fn from(_e: NoMemory) -> LineRefusal {
+        LineRefusal::Memory
+    }
 }
 
 impl From<AllocError> for LineRefusal {

@@ -1,5 +1,5 @@
 //! What a text means. A line changes in place what was read, and on an error may have changed a part of it.
-ghost use Rattle.std.specs.Prelude.{true, ◌≡◌, ◌≤◌, ◌<◌, ◌+◌, ◌^◌, Ok, Result, None, Some, length, IfOk, OnOk, IfSome, IsTrue, unwrap_or, is_none, [], ◌∷◌};
+ghost use Rattle.std.specs.Prelude.{true, false, ◌≡◌, ◌≤◌, ◌<◌, ◌+◌, ◌^◌, Ok, Result, None, Some, length, IfOk, OnOk, IfSome, IsTrue, unwrap_or, is_none, [], ◌∷◌};
 ghost use Rattle.tau_proc.specs.Takes.{takes};
 ghost use Rattle.tau_text.specs.Lines.{words, lines};
 ghost use Rattle.tau_text.specs.Given.{Gives};
@@ -24,6 +24,7 @@ use tau_base::{Call, Calls, Listed, MAX_CALLS, MAX_TURNS, MAX_WORKLOAD};
 use tau_proc::{Proc, Procs};
 
 /// A line of a call. The call is built in a place that serves for all lines, since it is large, and the list keeps it short.
+#[inline(always)]
 fn call_read(s: &mut Reading, h: Head, rest: &[u8], call: &mut Call) -> Result<(), LineRefusal>
     requires within { IsWithin s.old }
     requires outside { s.old.begun ≡ None }
@@ -36,13 +37,11 @@ fn call_read(s: &mut Reading, h: Head, rest: &[u8], call: &mut Call) -> Result<(
     if s.calls.len() >= MAX_CALLS {
         return Err(LineRefusal::Cause(TextCause::TooMany));
     }
-    match s.calls.push(call) {
-        Ok(()) => Ok(()),
-        Err(_) => Err(LineRefusal::Memory),
-    }
+    Ok(s.calls.push(call)?)
 }
 
 /// A line of a table.
+#[inline(never)]
 #[tactic(auto, unfolding(crate::specs::Text::outer_read))]
 fn table_read(s: &mut Reading, n: u32, line: &[u8], rest: &[u8]) -> Result<(), LineRefusal>
     requires within { IsWithin s.old }
@@ -59,6 +58,7 @@ fn table_read(s: &mut Reading, n: u32, line: &[u8], rest: &[u8]) -> Result<(), L
 }
 
 /// A line that begins a procedure.
+#[inline(never)]
 #[tactic(auto, unfolding(crate::specs::Text::outer_read))]
 fn proc_read(
     alloc: Global,
@@ -96,6 +96,7 @@ fn turns_before(alloc: Global, turns: Option<Listed<Turn>>) -> Listed<Turn>
 }
 
 /// A line of turns.
+#[inline(never)]
 #[tactic(auto, unfolding(crate::specs::Text::outer_read))]
 fn turns_read(
     alloc: Global,
@@ -197,10 +198,7 @@ fn end_read(s: &mut Reading, b: Begun, line: &[u8], rest: &[u8]) -> Result<(), L
     depth_at(b.depth, StepHead::End)?;
     no_more(rest)?;
     s.size = grown(s.size, line)?;
-    match s.procs.add(b.proc) {
-        Ok(()) => Ok(()),
-        Err(_) => Err(LineRefusal::Memory),
-    }
+    Ok(s.procs.add(b.proc)?)
 }
 
 /// A line inside a procedure, by its first word.
@@ -259,8 +257,32 @@ fn outside_read(
     outer_read(alloc, s, n, h, line, rest, call)
 }
 
-/// A line with a word at its front.
+/// A line with a word at its front, inside a procedure. It is a function of its own, since a line of a call pays for no
+/// place for a procedure.
+#[inline(never)]
 #[tactic(auto, unfolding(crate::specs::Text::statement_read))]
+fn inside_read(
+    s: &mut Reading,
+    n: u32,
+    line: &[u8],
+    word: &[u8],
+    rest: &[u8],
+) -> Result<(), LineRefusal>
+    requires within { IsWithin s.old }
+    requires inside { is_none s.old.begun ≡ false }
+    requires cut { words line.now ≡ word.now ∷ words rest.now }
+    ensures given { Gives (λ _. s.new) result (statement_read s.old n s.old.begun word.now (words rest.now)) }
+    ensures within { OnOk result (IsWithin s.new) }
+{
+    let _ = n;
+    let Some(b) = s.begun.take() else {
+        unreachable!();
+    };
+    let h = step_head(word)?;
+    inner_read(s, b, h, line, rest)
+}
+
+/// A line with a word at its front.
 fn statement_read(
     alloc: Global,
     s: &mut Reading,
@@ -276,13 +298,10 @@ fn statement_read(
     ensures within { OnOk result (IsWithin s.new) }
 {
     if is_outside(s) {
-        return outside_read(alloc, s, n, line, word, rest, call);
+        outside_read(alloc, s, n, line, word, rest, call)
+    } else {
+        inside_read(s, n, line, word, rest)
     }
-    let Some(b) = s.begun.take() else {
-        unreachable!();
-    };
-    let h = step_head(word)?;
-    inner_read(s, b, h, line, rest)
 }
 
 /// The words of a line.

@@ -306,10 +306,8 @@ pub fn print_workload(alloc: Global, load: &Workload) -> Result<Vec<u8>, NoMemor
     ensures { IfOk result (λ text. text.items ≡ workload_text load.now) }
 {
     let mut out = Vec::new(alloc);
-    match put_workload(&mut out, load) {
-        Ok(()) => Ok(out),
-        Err(_) => Err(NoMemory),
-    }
+    put_workload(&mut out, load)?;
+    Ok(out)
 }
 
 /// The canonical text of declarations. A table that is not there has a name of no bytes.
@@ -317,8 +315,6 @@ pub fn print_declarations(alloc: Global, d: &Declarations) -> Result<Vec<u8>, No
     ensures { IfOk result (λ text. text.items ≡ declarations_text d.now) }
 {
     let mut out = Vec::new(alloc);
-    match put_declarations(&mut out, d) {
-        Ok(()) => Ok(out),
-        Err(_) => Err(NoMemory),
-    }
+    put_declarations(&mut out, d)?;
+    Ok(out)
 }

@@ -10,10 +10,12 @@ ghost use Rattle.tau_text.specs.Spelled.{is_digit, is_letter, is_name_byte, is_t
 use crate::fault::{LineRefusal, TextCause};
 use crate::load::Turn;
 use std::str;
-use tau_base::{MAX_ARGS, MAX_NAME, MAX_TABLES, Name, Text64, Value};
+use tau_base::{
+    MAX_ARGS, MAX_NAME, MAX_STREAMS, MAX_TABLES, MAX_WORKERS, Name, REGISTERS, Text64, Value,
+};
 use tau_proc::{Compare, Operand, Proc};
 
-fn is_digit(b: u8) -> bool
+pub fn is_digit(b: u8) -> bool
     ensures { result ≡ is_digit b }
 {
     b >= b'0' && b <= b'9'
@@ -67,9 +69,28 @@ pub fn begins_with(c: u8, word: &[u8]) -> bool
     }
 }
 
-/// The number that digits spell, up to 2^63.
+/// The number that digits spell, of so few that it fits.
+#[inline(always)]
 #[tactic(auto, unfolding(crate::specs::Spelled::digits_after))]
-fn digits_of(word: &[u8], top: u64) -> Option<u64>
+fn few_digits(word: &[u8]) -> Option<u64>
+    requires { length word.now ≤ 18 }
+    ensures value { result ≡ digits_after 0 word.now }
+    ensures small { IfSome result (λ n. n < 10 ^ 18) }
+{
+    let mut value: u64 = 0;
+    for b in word {
+        if !is_digit(*b) {
+            return None;
+        }
+        value = value * 10 + u64::from(*b - b'0');
+    }
+    Some(value)
+}
+
+/// The number that digits spell, up to 2^63.
+#[inline(never)]
+#[tactic(auto, unfolding(crate::specs::Spelled::digits_after))]
+fn many_digits(word: &[u8], top: u64) -> Option<u64>
     requires { top ≤ 2 ^ 63 }
     ensures value { result ≡ option_and_then (at_most top) (digits_after 0 word.now) }
     ensures small { IfSome result (λ n. n ≤ top) }
@@ -86,6 +107,21 @@ fn digits_of(word: &[u8], top: u64) -> Option<u64>
         value = more as u64;
     }
     Some(value)
+}
+
+/// The same. Digits as few as most numbers have need no test for each whether their number fits.
+fn digits_of(word: &[u8], top: u64) -> Option<u64>
+    requires { top ≤ 2 ^ 63 }
+    ensures value { result ≡ option_and_then (at_most top) (digits_after 0 word.now) }
+    ensures small { IfSome result (λ n. n ≤ top) }
+{
+    if word.len() > 18 {
+        return many_digits(word, top);
+    }
+    match few_digits(word) {
+        None => None,
+        Some(n) => { if n > top { None } else { Some(n) } }
+    }
 }
 
 #[tactic(auto, unfolding(crate::specs::Spelled::magnitude))]
@@ -206,6 +242,7 @@ fn place_of_name(names: &[Name], word: &[u8]) -> Option<usize>
 }
 
 /// The number of a declared table.
+#[inline(always)]
 #[tactic(auto, unfolding(crate::specs::Spelled::known))]
 pub fn known_table(tables: &[Name], word: &[u8]) -> Result<u16, LineRefusal>
     requires { length tables.now ≤ MAX_TABLES }
@@ -285,7 +322,7 @@ pub fn register(word: &[u8]) -> Result<u8, LineRefusal>
     ensures fits { IfOk result (λ r. IsTrue (is_register r)) }
 {
     match word {
-        [b'r', rest @ ..] => match index(16, rest) {
+        [b'r', rest @ ..] => match index(REGISTERS as u8, rest) {
             Some(r) => Ok(r),
             None => Err(LineRefusal::Cause(TextCause::BadStep)),
         },
@@ -364,17 +401,17 @@ pub fn turn(word: &[u8]) -> Result<Turn, LineRefusal>
         [] => Err(LineRefusal::Cause(TextCause::BadStep)),
         [b, rest @ ..] => {
             if *b == b'w' {
-                match index(16, rest) {
+                match index(MAX_WORKERS as u8, rest) {
                     Some(i) => Ok(Turn::Worker(i)),
                     None => Err(LineRefusal::Cause(TextCause::BadStep)),
                 }
             } else if *b == b'm' {
-                match index(16, rest) {
+                match index(MAX_STREAMS as u8, rest) {
                     Some(i) => Ok(Turn::Manager(i)),
                     None => Err(LineRefusal::Cause(TextCause::BadStep)),
                 }
             } else if *b == b'a' {
-                match index(16, rest) {
+                match index(MAX_STREAMS as u8, rest) {
                     Some(i) => Ok(Turn::Anchor(i)),
                     None => Err(LineRefusal::Cause(TextCause::BadStep)),
                 }

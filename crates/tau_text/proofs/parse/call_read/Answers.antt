@@ -7,8 +7,8 @@ use Rattle.tau_text.specs.Forms.{call_of}
 use Rattle.tau_text.proofs.Begins.{one_more_call}
 use Rattle.tau_text.proofs.parse.call_read.Goals as goal
 
-pub returns-in-Ok-clause-within : goal.returns-in-Ok-clause-within
-returns-in-Ok-clause-within c =
+pub returns-clause-within : goal.returns-clause-within
+returns-clause-within c =
     let s = c.args.s.now in
     let w = c.requires.within in
     let call : Call = call_of c.in_ok-proc.proc c.call_line.new.args.items in

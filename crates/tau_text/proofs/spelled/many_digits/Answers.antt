@@ -2,7 +2,7 @@ use Rattle.std.proofs.Common.{◌≡◌, ◌+◌, ◌-◌, ◌*◌, ◌<◌, tru
 use Rattle.std.proofs.lemmas.Grind.{common_steps}
 use Rattle.tau_text.specs.Spelled.{is_digit, at_most}
 use Rattle.tau_text.proofs.Numbers.{digits_step, digits_grow}
-use Rattle.tau_text.proofs.spelled.digits_of.Goals as goal
+use Rattle.tau_text.proofs.spelled.many_digits.Goals as goal
 
 pub returns-then-more-from-clause-value : goal.returns-then-more-from-clause-value
 returns-then-more-from-clause-value c =
