@@ -3,7 +3,7 @@ ghost use Rattle.std.specs.Prelude.{◌≡◌, ◌+◌, ◌^◌, ◌<◌, ◌≤
 ghost use Rattle.tau_crew.specs.Driving.{IsApart, IsBlock, KeepsSeat};
 
 use std::sync::Wait;
-use tau_base::{NoMemory, SHARDS};
+use tau_base::{NoMemory, SHARDS, stream_of};
 use tau_desk::{Desk, ManagerSeat};
 
 /// How many content bytes are persisted at least from one anchor to the next.
@@ -56,7 +56,7 @@ fn sweep_shard<R: Wait>(rt: &R, desk: &Desk, seat: &mut ManagerSeat, stream: u8,
     requires there { number < SHARDS }
     ensures { seat.new ≡ seat.old }
 {
-    if number % desk.streams != stream as usize {
+    if stream_of(number, desk.streams) != stream as usize {
         return;
     }
     seat.drop_covered(rt, desk, number as u8);
@@ -95,17 +95,10 @@ fn anchor<R: Wait>(
     if u64::from(before) + u64::from(placed) >= LAST_ANCHOR {
         return Err(NoMemory);
     }
-    match seat.reserve() {
-        Ok(()) => {}
-        Err(_) => return Err(NoMemory),
-    }
-    match seat.place_anchor(rt, desk) {
-        Ok(()) => {
-            seat.publish(rt, desk);
-            Ok(())
-        }
-        Err(_) => Err(NoMemory),
-    }
+    seat.reserve()?;
+    seat.place_anchor(rt, desk)?;
+    seat.publish(rt, desk);
+    Ok(())
 }
 
 /// What follows a flush, up to which the stream is persisted: entries that are covered go, and an anchor is placed if one is due.
@@ -132,12 +125,8 @@ pub(crate) fn follow<R: Wait>(
     if durable - marks.last < ANCHOR_BYTES {
         return Ok(());
     }
-    match anchor(rt, desk, seat, stream, marks.placed) {
-        Ok(()) => {
-            marks.last = durable;
-            marks.placed += 1;
-            Ok(())
-        }
-        Err(_) => Err(NoMemory),
-    }
+    anchor(rt, desk, seat, stream, marks.placed)?;
+    marks.last = durable;
+    marks.placed += 1;
+    Ok(())
 }

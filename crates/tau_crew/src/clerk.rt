@@ -32,10 +32,8 @@ fn ack_one<R: Wait, G: Gate>(
     match seat.ack(rt, desk, worker as u8) {
         Some(call) => {
             gate.at(Place::Ack);
-            match told.put(call.number, call.lv) {
-                Ok(()) => Ok(true),
-                Err(_) => Err(NoMemory),
-            }
+            told.put(call.number, call.lv)?;
+            Ok(true)
         }
         None => Ok(false),
     }
@@ -58,10 +56,8 @@ fn ack_worker<R: Wait, G: Gate>(
     ensures none { OnOk result (told.new.missing ≡ None) }
 {
     for _call in 0..desk.load.calls.len() {
-        match ack_one(rt, desk, seat, told, worker, gate) {
-            Ok(true) => {}
-            Ok(false) => return Ok(()),
-            Err(error) => return Err(error),
+        if !ack_one(rt, desk, seat, told, worker, gate)? {
+            return Ok(());
         }
     }
     Ok(())

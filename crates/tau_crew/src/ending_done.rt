@@ -11,7 +11,7 @@ ghost use Rattle.tau_crew.specs.EndLeft.{AreTold, HasGatheredAll, HaveGathered, 
 
 use crate::clerk::ClerkJob;
 use crate::manager::ManagerJob;
-use tau_base::{Lv, MAX_LSN};
+use tau_base::{Lv, MAX_LSN, worker_of};
 use tau_desk::{Desk, Head};
 use tau_disk::Disk;
 use tau_report::Acks;
@@ -95,7 +95,7 @@ fn is_of(number: u64, worker: usize, workers: usize) -> bool
     requires some { 1 ≤ workers }
     ensures { result ≡ (worker_of workers number == worker) }
 {
-    number.saturating_sub(1) % workers as u64 == worker as u64
+    worker_of(number, workers) == worker
 }
 
 /// How many of these acknowledged calls are a worker's, of so many.

@@ -29,15 +29,10 @@ pub(crate) fn hand_over<D: Disk>(writer: &mut Writer<D>, body: &[u8]) -> Result<
     if writer.durable() > END_OF_POSITIONS - MAX_BODY as u64 {
         return Err(NoMemory);
     }
-    match writer.add(body) {
-        Ok(()) => {}
-        Err(_) => return Err(NoMemory),
-    }
+    writer.add(body)?;
     let upto = writer.gathered();
-    match writer.prepare(upto) {
-        Ok(()) => Ok(upto),
-        Err(_) => Err(NoMemory),
-    }
+    writer.prepare(upto)?;
+    Ok(upto)
 }
 
 /// What the turn of a manager did.

@@ -3,7 +3,7 @@ ghost use Rattle.std.specs.Prelude.{◌≡◌, ◌<◌, ◌%◌, Some};
 ghost use Rattle.tau_crew.specs.Gathering.{GathersMore};
 
 use std::sync::Wait;
-use tau_base::NoMemory;
+use tau_base::{NoMemory, stream_of};
 use tau_desk::{Desk, ManagerSeat};
 
 /// How often a manager goes through its outboxes at most before it flushes.
@@ -25,7 +25,7 @@ fn gather_worker<R: Wait>(
     requires there { worker < desk.now.load.workers }
     ensures { GathersMore seat.old seat.new body.old.items body.new.items }
 {
-    if worker % desk.streams != stream as usize {
+    if stream_of(worker, desk.streams) != stream as usize {
         return Ok(());
     }
     seat.gather(rt, desk, worker as u8, body)
@@ -78,10 +78,8 @@ fn gather_round<R: Wait>(
     requires stream { seat.old.stream ≡ stream }
     ensures { GathersMore seat.old seat.new body.old.items body.new.items }
 {
-    match gather_workers(rt, desk, seat, stream, body) {
-        Ok(()) => gather_anchors(rt, desk, seat, body),
-        Err(error) => Err(error),
-    }
+    gather_workers(rt, desk, seat, stream, body)?;
+    gather_anchors(rt, desk, seat, body)
 }
 
 /// Whether records were placed that the manager has not gathered.

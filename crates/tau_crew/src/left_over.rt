@@ -67,10 +67,8 @@ fn run_lowest<R: Wait, G: Gate>(
         Ok(None) => Ok(false),
         Ok(Some(seat)) => {
             let worker = first_out(head);
-            match run_alone(rt, desk, head, seat, worker, gate) {
-                Err(error) => Err(error),
-                Ok(()) => Ok(true),
-            }
+            run_alone(rt, desk, head, seat, worker, gate)?;
+            Ok(true)
         }
     }
 }
@@ -113,10 +111,8 @@ pub(crate) fn run_left<R: Wait, G: Gate>(
     ensures beside { KeepsBeside head.old head.new }
 {
     for _ in rt.forever() {
-        match run_next(rt, desk, head, gate) {
-            Ok(true) => {}
-            Ok(false) => return Ok(()),
-            Err(error) => return Err(error),
+        if !run_next(rt, desk, head, gate)? {
+            return Ok(());
         }
     }
     unreachable!()

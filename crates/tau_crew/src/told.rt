@@ -49,27 +49,32 @@ impl Told {
         ensures same { OnErr result (self.new.lines.items ≡ self.old.lines.items) }
         ensures sink { self.new.sink_failed ≡ self.old.sink_failed }
     {
-        match self.line_of(number, lv) {
-            Ok(()) => {}
-            Err(_) => {
+        match self.add(number, lv) {
+            Ok(()) => Ok(()),
+            Err(error) => {
                 self.missing = Some((number, lv));
-                return Err(NoMemory);
+                Err(error)
             }
         }
+    }
+
+    // The call, and its line after the others of the pass.
+    fn add(&mut self, number: u64, lv: Lv) -> Result<(), NoMemory>
+        ensures acks { OnOk result (self.new.acks ≡ self.old.acks ++ (number, lv) ∷ []) }
+        ensures lines { OnOk result (self.new.lines.items ≡ self.old.lines.items ++ ack_text (number, lv)) }
+        ensures none { OnErr result ((self.new.acks ≡ self.old.acks) × (self.new.lines.items ≡ self.old.lines.items)) }
+        ensures rest { (self.new.missing ≡ self.old.missing) × (self.new.sink_failed ≡ self.old.sink_failed) }
+    {
+        self.line_of(number, lv)?;
         let before = self.lines.len();
-        match self.lines.extend_from_slice(&self.line) {
-            Ok(()) => {}
-            Err(_) => {
-                self.missing = Some((number, lv));
-                return Err(NoMemory);
-            }
-        }
+        self.lines
+            .extend_from_slice(&self.line)
+            .map_err(|_| NoMemory)?;
         match self.acks.push(number, &lv) {
             Ok(()) => Ok(()),
-            Err(_) => {
+            Err(error) => {
                 self.lines.truncate(before);
-                self.missing = Some((number, lv));
-                Err(NoMemory)
+                Err(error)
             }
         }
     }

@@ -42,7 +42,7 @@ pub fn run_threads<R: Threads + Wait + Sync, D: Disk + Send, K: Sink + Send, G: 
     rt: &R,
     alloc: Global,
     load: &Workload,
-    m: u8,
+    workers: u8,
     mode: LogMode,
     writers: &mut Vec<Writer<D>>,
     sink: &mut K,
@@ -50,22 +50,17 @@ pub fn run_threads<R: Threads + Wait + Sync, D: Disk + Send, K: Sink + Send, G: 
 ) -> Result<RunEnd, NoMemory>
     requires streams_low { 1 ≤ length writers.old.items }
     requires streams_high { length writers.old.items ≤ MAX_STREAMS }
-    requires low { 1 ≤ m }
-    requires high { m ≤ MAX_WORKERS }
+    requires low { 1 ≤ workers }
+    requires high { workers ≤ MAX_WORKERS }
     requires calls { AreCalls load.now.declarations.procs load.now.calls }
     requires text { length (declarations_text load.now.declarations) ≤ MAX_CATALOGUE }
     requires fresh { AreNew (λ j. catalogue_of load.now) writers.old.items }
-    ensures ran { RanInThreads m mode load.now writers.old.items writers.new.items K.tells (K.held sink.old) (K.held sink.new) (Rose (K.faults sink.old) (K.faults sink.new)) result }
+    ensures ran { RanInThreads workers mode load.now writers.old.items writers.new.items K.tells (K.held sink.old) (K.held sink.new) (Rose (K.faults sink.old) (K.faults sink.new)) result }
     ensures faults { K.faults sink.old ≤ K.faults sink.new }
     ensures count { length writers.new.items ≡ length writers.old.items }
 {
-    match Desk::new(alloc, load, writers.len() as u8, m, mode) {
-        Ok(opened) => {
-            let (desk, head) = opened;
-            go(rt, alloc, desk, head, writers, sink, gate)
-        }
-        Err(error) => Err(error),
-    }
+    let (desk, head) = Desk::new(alloc, load, writers.len() as u8, workers, mode)?;
+    go(rt, alloc, desk, head, writers, sink, gate)
 }
 
 /// The same from a given state, on streams that end where it says.
@@ -74,32 +69,27 @@ pub fn run_threads_from<R: Threads + Wait + Sync, D: Disk + Send, K: Sink + Send
     alloc: Global,
     load: &Workload,
     opening: Opening,
-    m: u8,
+    workers: u8,
     mode: LogMode,
     writers: &mut Vec<Writer<D>>,
     sink: &mut K,
     gate: &G,
 ) -> Result<RunEnd, NoMemory>
-    requires low { 1 ≤ m }
-    requires high { m ≤ MAX_WORKERS }
+    requires low { 1 ≤ workers }
+    requires high { workers ≤ MAX_WORKERS }
     requires calls { AreCalls load.now.declarations.procs load.now.calls }
     requires fits { Fits opening }
     requires begun { (bases : ℕ → List ℕ) × IsBegun bases writers.old.items opening }
     ensures ran { (bases : ℕ → List ℕ) → IsBegun bases writers.old.items opening →
-        RanInThreadsFrom m mode load.now writers.old.items writers.new.items K.tells (K.held sink.old) (K.held sink.new) (Rose (K.faults sink.old) (K.faults sink.new)) opening bases result }
+        RanInThreadsFrom workers mode load.now writers.old.items writers.new.items K.tells (K.held sink.old) (K.held sink.new) (Rose (K.faults sink.old) (K.faults sink.new)) opening bases result }
     ensures faults { K.faults sink.old ≤ K.faults sink.new }
     ensures count { length writers.new.items ≡ length writers.old.items }
 {
     if is_long(&opening) {
         return Err(NoMemory);
     }
-    match Desk::open(alloc, load, opening, m, mode) {
-        Ok(opened) => {
-            let (desk, head) = opened;
-            go(rt, alloc, desk, head, writers, sink, gate)
-        }
-        Err(error) => Err(error),
-    }
+    let (desk, head) = Desk::open(alloc, load, opening, workers, mode)?;
+    go(rt, alloc, desk, head, writers, sink, gate)
 }
 
 /// Whether a stream ends later than a desk can open with.

@@ -8,7 +8,7 @@ ghost use Rattle.tau_crew.specs.Working.{HasNone, IsUnjoined, WorkerEnds, WorksO
 
 use crate::anchor::ANCHOR_BYTES;
 use std::sync::Wait;
-use tau_base::NoMemory;
+use tau_base::{NoMemory, stream_of};
 use tau_desk::{Acted, Desk, WorkerSeat};
 use tau_disk::{Gate, Place};
 use tau_txn::ActionKind;
@@ -108,10 +108,8 @@ fn run_calls<R: Wait, G: Gate>(
         if seat.stopped(desk) {
             return Ok(());
         }
-        match run_next(rt, desk, seat, worker, gate) {
-            Ok(true) => {}
-            Ok(false) => return Ok(()),
-            Err(error) => return Err(error),
+        if !run_next(rt, desk, seat, worker, gate)? {
+            return Ok(());
         }
     }
     unreachable!()
@@ -135,17 +133,12 @@ fn run_next<R: Wait, G: Gate>(
     ensures none { IfOk result (λ b. b ≡ false → HasNone desk.now.table.shared.key.value.load seat.new) }
     ensures short { OnErr result (IsUnjoined seat.new.work.txn) }
 {
-    match begin_next(rt, desk, seat) {
-        Err(error) => Err(error),
-        Ok(false) => Ok(false),
-        Ok(true) => {
-            gate.at(Place::Call { worker });
-            match run_call(rt, desk, seat, worker, gate) {
-                Err(error) => Err(error),
-                Ok(()) => Ok(true),
-            }
-        }
+    if !begin_next(rt, desk, seat)? {
+        return Ok(false);
     }
+    gate.at(Place::Call { worker });
+    run_call(rt, desk, seat, worker, gate)?;
+    Ok(true)
 }
 
 /// The next call of the worker comes into the hand, and has done nothing. Returns whether there is one.
@@ -159,13 +152,9 @@ fn begin_next<R: Wait>(rt: &R, desk: &Desk, seat: &mut WorkerSeat) -> Result<boo
     ensures none { IfOk result (λ b. b ≡ false → HasNone desk.now.table.shared.key.value.load seat.new) }
     ensures short { OnErr result (IsUnjoined seat.new.work.txn) }
 {
-    match make_ready(rt, desk, seat) {
-        Err(error) => Err(error),
-        Ok(()) => {
-            seat.agrees();
-            seat.begin(desk)
-        }
-    }
+    make_ready(rt, desk, seat)?;
+    seat.agrees();
+    seat.begin(desk)
 }
 
 /// Makes room in the outbox for the next call, where it is missing.
@@ -203,10 +192,7 @@ fn run_call<R: Wait, G: Gate>(
         if !seat.in_hand() {
             return Ok(());
         }
-        match act(rt, desk, seat, worker, gate) {
-            Err(error) => return Err(error),
-            Ok(()) => {}
-        }
+        act(rt, desk, seat, worker, gate)?;
     }
     unreachable!()
 }
@@ -299,7 +285,7 @@ fn commit<R: Wait>(rt: &R, desk: &Desk, seat: &mut WorkerSeat, worker: u8) -> Re
     ensures works { WorksOn seat.old seat.new }
     ensures short { OnErr result (IsUnjoined seat.new.work.txn) }
 {
-    let stream = worker as usize % desk.streams;
+    let stream = stream_of(worker as usize, desk.streams);
     read_newer(rt, desk, seat, stream as u8);
     seat.agrees();
     match seat.commit(desk) {
@@ -319,7 +305,7 @@ fn post<R: Wait, G: Gate>(rt: &R, desk: &Desk, seat: &mut WorkerSeat, worker: u8
 {
     seat.agrees();
     seat.post(rt, desk);
-    let stream = worker as usize % desk.streams;
+    let stream = stream_of(worker as usize, desk.streams);
     gate.at(Place::Commit {
         stream: stream as u8,
     });

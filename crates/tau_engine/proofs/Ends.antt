@@ -18,7 +18,6 @@ use Rattle.tau_text.specs.declared.load.Workload.{Workload}
 use Rattle.tau_report.specs.declared.report.RunEnd.{RunEnd}
 use Rattle.tau_run.specs.RecoveredFacts.{catalogue_of}
 use Rattle.tau_run.specs.CoreRun.{IsLoadOf, IsSoundLoad}
-use Rattle.tau_run.specs.RunFacts.{WroteFront, RunFacts, turns_of, IsByTurns}
 use Rattle.tau_run.specs.RunFacts as ending
 use Rattle.tau_run.proofs.Reading.{IsCatalogue}
 use Rattle.tau_step.specs.RunTold.{AreNew}

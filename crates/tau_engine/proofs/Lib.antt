@@ -22,3 +22,4 @@ mod BenchLines
 mod BenchSound
 mod BenchFound
 mod BenchTops
+mod Oks

@@ -24,7 +24,7 @@ use Rattle.tau_run.specs.Run.{Run, AllAcked, IsReportOf}
 use Rattle.tau_run.specs.RecoveredFacts.{catalogue_of, IsEnded}
 use Rattle.tau_run.specs.CoreRun.{IsCourse}
 use Rattle.tau_run.specs.StopsLeave.{Leaves, IsOver}
-use Rattle.tau_run.specs.RunFacts.{Ending, WroteFront, NamesLowest, turns_of, IsByTurns, chosen_by, IsCoreRun, IsCoreRunAt, RunTells, RunFacts}
+use Rattle.tau_run.specs.RunFacts.{Ending, WroteFront, NamesLowest, chosen_by, IsCoreRun, IsCoreRunAt, RunTells, RunFacts}
 use Rattle.tau_run.specs.RunFacts as ending
 use Rattle.tau_run.specs.Turns.{Progress}
 use Rattle.tau_run.proofs.Imaged.{imaged, acknowledged, ended}

@@ -21,9 +21,9 @@ use Rattle.tau_core.specs.declared.state.Load.{Load}
 use Rattle.tau_run.specs.Run.{Run, IsReportOf, last_db}
 use Rattle.tau_run.specs.RecoveredFacts.{catalogue_of, IsEnded}
 use Rattle.tau_run.specs.CoreRun.{IsSoundLoad}
-use Rattle.tau_run.specs.StopsLeave.{IsLeft, IsOver}
+use Rattle.tau_run.specs.StopsLeave.{IsLeft}
 use Rattle.tau_run.specs.RunFacts as ending
-use Rattle.tau_run.specs.RunFacts.{turns_of, chosen_by, IsCoreRun, RunFacts}
+use Rattle.tau_run.specs.RunFacts.{chosen_by, IsCoreRun}
 use Rattle.tau_run.proofs.Imaged.{imaged, acknowledged}
 use Rattle.tau_run.proofs.Results.{history_law}
 use Rattle.tau_step.specs.Came.{CameTo}

@@ -11,7 +11,7 @@ use Rattle.tau_model.specs.History.{Act, Member, Reordered, exec}
 use Rattle.tau_model.specs.Tables.{IsTablesOf}
 use Rattle.tau_model.proofs.Reorder.{reordered-itself, reordered-sym}
 use Rattle.tau_model.proofs.Orders.{member-reordered}
-use Rattle.tau_machine.specs.Hands.{Txn, Hand, act_in, held_in}
+use Rattle.tau_machine.specs.Hands.{Txn, act_in}
 use Rattle.tau_machine.specs.Hands as hands
 use Rattle.tau_machine.specs.State.{Core, sight}
 use Rattle.tau_machine.specs.Reports.{reported, calls_of, Unheld}

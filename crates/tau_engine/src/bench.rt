@@ -1,6 +1,6 @@
 //! The measured job: the generated calls, run on new disks in memory and recovered from them.
 ghost use Rattle.std.specs.Prelude.{ℕ, ◌≡◌, ◌≤◌, ◌+◌, ◌++◌, ◌∷◌, List, [], false, true, length, map, string_bytes, vec_len, vec_capacity, codes, Ok, Some, None, IfOk, OnOk};
-ghost use Rattle.tau_base.specs.declared.limits.TheConstants.{MAX_CALLS, MAX_CATALOGUE, MAX_STREAMS, MAX_WORKERS};
+ghost use Rattle.tau_base.specs.declared.limits.TheConstants.{MAX_CALLS, MAX_CATALOGUE, MAX_RECOVERY_WORKERS, MAX_STREAMS, MAX_WORKERS};
 ghost use Rattle.tau_disk.specs.Disk.{Rose};
 ghost use Rattle.tau_disk.specs.Memory.{seen_by};
 ghost use Rattle.tau_disk.specs.Used.{AreEmpty};
@@ -64,7 +64,7 @@ fn play_on<R: Threads + Wait + Sync, D: Disk + Send, K: Sink + Send, G: Gate + S
     rt: &R,
     alloc: Global,
     load: &Workload,
-    m: u8,
+    workers: u8,
     sink: &mut K,
     disks: &mut Vec<D>,
     writers: Vec<Writer<D>>,
@@ -72,13 +72,13 @@ fn play_on<R: Threads + Wait + Sync, D: Disk + Send, K: Sink + Send, G: Gate + S
 ) -> Result<Tables, NoMemory>
     requires streams_low { 1 ≤ vec_len writers }
     requires streams_high { vec_len writers ≤ MAX_STREAMS }
-    requires low { 1 ≤ m }
-    requires high { m ≤ MAX_WORKERS }
+    requires low { 1 ≤ workers }
+    requires high { workers ≤ MAX_WORKERS }
     requires calls { AreCalls load.now.declarations.procs load.now.calls }
     requires text { length (declarations_text load.now.declarations) ≤ MAX_CATALOGUE }
     requires fresh { AreNew (λ j. catalogue_of load.now) writers.items }
     requires room { vec_len disks.old + vec_len writers ≤ vec_capacity disks.old }
-    ensures ran { IfOk result (λ rows. PlaysWell m load.now writers.items disks.old.items disks.new.items K.tells (K.held sink.old) (K.held sink.new) (Rose (K.faults sink.old) (K.faults sink.new)) rows) }
+    ensures ran { IfOk result (λ rows. PlaysWell workers load.now writers.items disks.old.items disks.new.items K.tells (K.held sink.old) (K.held sink.new) (Rose (K.faults sink.old) (K.faults sink.new)) rows) }
     ensures len { vec_len disks.new ≡ vec_len writers + vec_len disks.old }
 {
     let mut writers = writers;
@@ -86,17 +86,14 @@ fn play_on<R: Threads + Wait + Sync, D: Disk + Send, K: Sink + Send, G: Gate + S
         rt,
         alloc,
         load,
-        m,
+        workers,
         LogMode::Values,
         &mut writers,
         sink,
         gate,
     );
     close_streams(disks, writers);
-    match end {
-        Ok(end) => rows_of(end),
-        Err(error) => Err(error),
-    }
+    rows_of(end?)
 }
 
 /// Runs the calls of a workload on empty disks. The lines of acknowledgements go to the sink. Out of memory also if a
@@ -105,47 +102,41 @@ fn play<R: Threads + Wait + Sync, D: Disk + Send, K: Sink + Send, G: Gate + Sync
     rt: &R,
     alloc: Global,
     load: &Workload,
-    n: u8,
-    m: u8,
+    streams: u8,
+    workers: u8,
     sink: &mut K,
     disks: &mut Vec<D>,
     gate: &G,
 ) -> Result<Tables, NoMemory>
-    requires streams_low { 1 ≤ n }
-    requires streams_high { n ≤ MAX_STREAMS }
-    requires low { 1 ≤ m }
-    requires high { m ≤ MAX_WORKERS }
+    requires streams_low { 1 ≤ streams }
+    requires streams_high { streams ≤ MAX_STREAMS }
+    requires low { 1 ≤ workers }
+    requires high { workers ≤ MAX_WORKERS }
     requires sound { IsSoundLoad load.now }
     requires calls { AreCalls load.now.declarations.procs load.now.calls }
-    requires count { vec_len disks.old ≡ n }
+    requires count { vec_len disks.old ≡ streams }
     requires tells { D.tells }
-    requires empty { AreEmpty D.tells D.seen disks.old.items n }
-    requires unborn { AreUnborn D.tells D.may_leave disks.old.items n }
-    ensures told { IfOk result (λ rows. IsMeasured ⟦<D as Disk>⟧ n m load.now disks.old.items disks.new.items (Wrote K.tells (K.held sink.old) (K.held sink.new)) rows) }
-    ensures count { OnOk result (vec_len disks.new ≡ n) }
+    requires empty { AreEmpty D.tells D.seen disks.old.items streams }
+    requires unborn { AreUnborn D.tells D.may_leave disks.old.items streams }
+    ensures told { IfOk result (λ rows. IsMeasured ⟦<D as Disk>⟧ streams workers load.now disks.old.items disks.new.items (Wrote K.tells (K.held sink.old) (K.held sink.new)) rows) }
+    ensures count { OnOk result (vec_len disks.new ≡ streams) }
 {
-    let catalogue = match print_declarations(alloc, &load.declarations) {
-        Ok(catalogue) => catalogue,
-        Err(error) => return Err(error),
-    };
-    match open_streams(alloc, disks, n, &catalogue) {
-        Ok(writers) => play_on(rt, alloc, load, m, sink, disks, writers, gate),
+    let catalogue = print_declarations(alloc, &load.declarations)?;
+    match open_streams(alloc, disks, streams, &catalogue) {
+        Ok(writers) => play_on(rt, alloc, load, workers, sink, disks, writers, gate),
         Err(_) => Err(NoMemory),
     }
 }
 
 /// So many new disks.
-fn new_disks(alloc: Global, n: u8) -> Result<Vec<MemDisk>, NoMemory>
-    ensures count { IfOk result (λ disks. vec_len disks ≡ n) }
+fn new_disks(alloc: Global, streams: u8) -> Result<Vec<MemDisk>, NoMemory>
+    ensures count { IfOk result (λ disks. vec_len disks ≡ streams) }
     ensures new { IfOk result (λ disks. AreNewDisks (λ j d. Unit {0}) disks.items) }
 {
     let mut disks = Vec::new(alloc);
-    for _j in 0..n {
+    for _j in 0..streams {
         let disk = MemDisk::new(alloc, &[])?;
-        match disks.push(disk) {
-            Ok(()) => {}
-            Err(_) => return Err(NoMemory),
-        }
+        disks.push(disk)?;
     }
     Ok(disks)
 }
@@ -160,7 +151,7 @@ fn recovered<R: Threads + Wait + Sync, G: Gate + Sync>(
 ) -> Result<Tables, NoMemory>
     requires low { 1 ≤ length disks.old }
     requires high { length disks.old ≤ MAX_STREAMS }
-    requires workers { (1 ≤ workers) × (workers ≤ 16) }
+    requires workers { (1 ≤ workers) × (workers ≤ MAX_RECOVERY_WORKERS) }
     requires ordered { (log : Log) × (log_of (map seen_by disks.old) ≡ Ok log) × (order : List Kept) × IsOrderOf log order }
     ensures { IfOk result (λ rows. AreFound disks.old rows) }
 {
@@ -278,14 +269,9 @@ fn measured_text(
     let after = digest_of(alloc, declarations, recovered)?;
     let count = rows.rows().len() as u64;
     let mut text = String::new(alloc);
-    match put_counts(&mut text, u64::from(calls), acked as u64, count, sum) {
-        Ok(()) => {}
-        Err(_) => return Err(NoMemory),
-    }
-    match put_digests(&mut text, &before, &after) {
-        Ok(()) => Ok(text),
-        Err(_) => Err(NoMemory),
-    }
+    put_counts(&mut text, u64::from(calls), acked as u64, count, sum)?;
+    put_digests(&mut text, &before, &after)?;
+    Ok(text)
 }
 
 /// Runs the generated calls, recovers them, and says what came of both.
@@ -294,52 +280,54 @@ fn measure<R: Threads + Wait + Sync, G: Gate + Sync>(
     alloc: Global,
     start: u16,
     calls: u32,
-    n: u8,
-    m: u8,
+    streams: u8,
+    workers: u8,
     gate: &G,
 ) -> Result<String, NoMemory>
     requires start { start ≤ 999 }
     requires calls { calls ≤ MAX_CALLS }
-    requires streams_low { 1 ≤ n }
-    requires streams_high { n ≤ MAX_STREAMS }
-    requires low { 1 ≤ m }
-    requires high { m ≤ MAX_WORKERS }
+    requires streams_low { 1 ≤ streams }
+    requires streams_high { streams ≤ MAX_STREAMS }
+    requires low { 1 ≤ workers }
+    requires high { workers ≤ MAX_WORKERS }
     ensures { IfOk result (λ text. string_bytes text ≡ bench_text start calls) }
 {
     let load = generate(alloc, start, calls)?;
-    let mut disks = new_disks(alloc, n)?;
+    let mut disks = new_disks(alloc, streams)?;
     let mut out = MemSink::new(alloc, &[])?;
-    let rows = play(rt, alloc, &load, n, m, &mut out, &mut disks, gate)?;
+    let rows = play(
+        rt, alloc, &load, streams, workers, &mut out, &mut disks, gate,
+    )?;
     let acked = lines_in(out.bytes());
-    let again = recovered(rt, alloc, m, disks.as_mut_slice(), gate)?;
+    let again = recovered(rt, alloc, workers, disks.as_mut_slice(), gate)?;
     measured_text(alloc, &load.declarations, calls, acked, &rows, &again)
 }
 
-/// The measured job: runs the generated calls, of which the first one's row begins at `start`, by `m` workers on `n` new
-/// disks in memory, recovers from these by `m` workers, and writes what came of both. The time and the memory that it
+/// The measured job: runs the generated calls, of which the first one's row begins at `start`, by so many workers on so many new
+/// disks in memory, recovers from these by as many workers, and writes what came of both. The time and the memory that it
 /// takes grow with the number of calls.
 pub fn bench<R: Threads + Wait + Sync, K: Sink, G: Gate + Sync>(
     rt: &R,
     alloc: Global,
     start: u16,
     calls: u32,
-    n: u8,
-    m: u8,
+    streams: u8,
+    workers: u8,
     sink: &mut K,
     gate: &G,
 ) -> Status
     requires start { start ≤ 999 }
     requires calls { calls ≤ MAX_CALLS }
-    requires streams_low { 1 ≤ n }
-    requires streams_high { n ≤ MAX_STREAMS }
-    requires low { 1 ≤ m }
-    requires high { m ≤ MAX_WORKERS }
+    requires streams_low { 1 ≤ streams }
+    requires streams_high { streams ≤ MAX_STREAMS }
+    requires low { 1 ≤ workers }
+    requires high { workers ≤ MAX_WORKERS }
     // The text is a function of the first row and of how many calls there are.
     ensures told { BenchTells start calls (Wrote K.tells (K.held sink.old) (K.held sink.new)) result }
     ensures kind { ends_rehearsal result ≡ true }
     ensures write_fault { result ≡ Status.WriteFault → Rose (K.faults sink.old) (K.faults sink.new) }
 {
-    let Ok(text) = measure(rt, alloc, start, calls, n, m, gate) else {
+    let Ok(text) = measure(rt, alloc, start, calls, streams, workers, gate) else {
         return Status::NoMemory;
     };
     match write_all(sink, text.as_bytes()) {

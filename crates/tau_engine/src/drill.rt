@@ -46,64 +46,56 @@ use tau_words::Ending;
 fn play_on<D: Disk, K: Sink>(
     alloc: Global,
     load: &Workload,
-    m: u8,
+    workers: u8,
     sink: &mut K,
     disks: &mut Vec<D>,
     writers: Vec<Writer<D>>,
 ) -> Result<(), NoMemory>
     requires streams_low { 1 ≤ vec_len writers }
     requires streams_high { vec_len writers ≤ MAX_STREAMS }
-    requires low { 1 ≤ m }
-    requires high { m ≤ MAX_WORKERS }
+    requires low { 1 ≤ workers }
+    requires high { workers ≤ MAX_WORKERS }
     requires calls { AreCalls load.now.declarations.procs load.now.calls }
     requires text { length (declarations_text load.now.declarations) ≤ MAX_CATALOGUE }
     requires fresh { AreNew (λ j. catalogue_of load.now) writers.items }
     requires room { vec_len disks.old + vec_len writers ≤ vec_capacity disks.old }
-    ensures ran { OnOk result (PlaysOn m load.now writers.items disks.old.items disks.new.items K.tells (K.held sink.old) (K.held sink.new) (Rose (K.faults sink.old) (K.faults sink.new))) }
+    ensures ran { OnOk result (PlaysOn workers load.now writers.items disks.old.items disks.new.items K.tells (K.held sink.old) (K.held sink.new) (Rose (K.faults sink.old) (K.faults sink.new))) }
     ensures len { vec_len disks.new ≡ vec_len writers + vec_len disks.old }
 {
     let mut writers = writers;
-    let end = run_turns(alloc, load, m, LogMode::Values, &mut writers, sink);
+    let end = run_turns(alloc, load, workers, LogMode::Values, &mut writers, sink);
     close_streams(disks, writers);
-    match end {
-        Ok(end) => {
-            if end.sink_failed {
-                return Err(NoMemory);
-            }
-            Ok(())
-        }
-        Err(error) => Err(error),
+    if end?.sink_failed {
+        return Err(NoMemory);
     }
+    Ok(())
 }
 
 /// Runs a workload by turns on empty disks. The lines of acknowledgements go to the sink.
 fn rehearse<D: Disk, K: Sink>(
     alloc: Global,
     load: &Workload,
-    n: u8,
-    m: u8,
+    streams: u8,
+    workers: u8,
     sink: &mut K,
     disks: &mut Vec<D>,
 ) -> Result<(), NoMemory>
-    requires streams_low { 1 ≤ n }
-    requires streams_high { n ≤ MAX_STREAMS }
-    requires low { 1 ≤ m }
-    requires high { m ≤ MAX_WORKERS }
+    requires streams_low { 1 ≤ streams }
+    requires streams_high { streams ≤ MAX_STREAMS }
+    requires low { 1 ≤ workers }
+    requires high { workers ≤ MAX_WORKERS }
     requires sound { IsSoundLoad load.now }
     requires calls { AreCalls load.now.declarations.procs load.now.calls }
-    requires count { vec_len disks.old ≡ n }
+    requires count { vec_len disks.old ≡ streams }
     requires tells { D.tells }
-    requires empty { AreEmpty D.tells D.seen disks.old.items n }
-    requires unborn { AreUnborn D.tells D.may_leave disks.old.items n }
-    ensures told { OnOk result (IsRehearsed ⟦<D as Disk>⟧ n m load.now disks.old.items disks.new.items (Wrote K.tells (K.held sink.old) (K.held sink.new))) }
-    ensures count { vec_len disks.new ≡ n }
+    requires empty { AreEmpty D.tells D.seen disks.old.items streams }
+    requires unborn { AreUnborn D.tells D.may_leave disks.old.items streams }
+    ensures told { OnOk result (IsRehearsed ⟦<D as Disk>⟧ streams workers load.now disks.old.items disks.new.items (Wrote K.tells (K.held sink.old) (K.held sink.new))) }
+    ensures count { vec_len disks.new ≡ streams }
 {
-    let catalogue = match print_declarations(alloc, &load.declarations) {
-        Ok(catalogue) => catalogue,
-        Err(error) => return Err(error),
-    };
-    match open_streams(alloc, disks, n, &catalogue) {
-        Ok(writers) => play_on(alloc, load, m, sink, disks, writers),
+    let catalogue = print_declarations(alloc, &load.declarations)?;
+    match open_streams(alloc, disks, streams, &catalogue) {
+        Ok(writers) => play_on(alloc, load, workers, sink, disks, writers),
         Err(OpenRefusal::NoMemory) => Err(NoMemory),
         Err(OpenRefusal::Failed { stream: _ }) => Ok(()),
         Err(
@@ -148,22 +140,24 @@ fn is_call_of(order: &[u8], at: usize, stream: u8) -> bool
 }
 
 /// New disks, of which all stop at that call of this order.
-fn stopping_disks(alloc: Global, n: u8, order: &[u8], after: u32) -> Result<Vec<MemDisk>, NoMemory>
+fn stopping_disks(
+    alloc: Global,
+    streams: u8,
+    order: &[u8],
+    after: u32,
+) -> Result<Vec<MemDisk>, NoMemory>
     requires low { 1 ≤ after }
     requires high { after ≤ 1000000 }
-    ensures count { IfOk result (λ disks. vec_len disks ≡ n) }
+    ensures count { IfOk result (λ disks. vec_len disks ≡ streams) }
     ensures new { IfOk result (λ disks. AreNewDisks (λ j d. StopsAt order.now after j d) disks.items) }
 {
     let before = (after - 1) as usize;
     let first = first_calls(order, before);
     let mut disks = Vec::new(alloc);
-    for stream in 0..n {
+    for stream in 0..streams {
         let from = 1 + calls_among(first, stream);
         let disk = MemDisk::stopping(alloc, from, is_call_of(order, before, stream))?;
-        match disks.push(disk) {
-            Ok(()) => {}
-            Err(_) => return Err(NoMemory),
-        }
+        disks.push(disk)?;
     }
     Ok(disks)
 }
@@ -180,17 +174,19 @@ fn failing_disk(alloc: Global, stream: u8, failing: u8, call: u32) -> Result<Mem
 }
 
 /// New disks, of which one call of one disk fails.
-fn failing_disks(alloc: Global, n: u8, stream: u8, call: u32) -> Result<Vec<MemDisk>, NoMemory>
-    ensures count { IfOk result (λ disks. vec_len disks ≡ n) }
+fn failing_disks(
+    alloc: Global,
+    streams: u8,
+    stream: u8,
+    call: u32,
+) -> Result<Vec<MemDisk>, NoMemory>
+    ensures count { IfOk result (λ disks. vec_len disks ≡ streams) }
     ensures new { IfOk result (λ disks. AreNewDisks (λ j d. FailsOnce stream call j d) disks.items) }
 {
     let mut disks = Vec::new(alloc);
-    for j in 0..n {
+    for j in 0..streams {
         let disk = failing_disk(alloc, j, stream, call)?;
-        match disks.push(disk) {
-            Ok(()) => {}
-            Err(_) => return Err(NoMemory),
-        }
+        disks.push(disk)?;
     }
     Ok(disks)
 }
@@ -248,27 +244,24 @@ fn stopped_line(alloc: Global, calls: u64) -> Result<String, AllocError>
 fn play(
     alloc: Global,
     load: &Workload,
-    n: u8,
-    m: u8,
+    streams: u8,
+    workers: u8,
     out: &mut MemSink,
     disks: &mut Vec<MemDisk>,
 ) -> Result<(), NoMemory>
-    requires streams_low { 1 ≤ n }
-    requires streams_high { n ≤ MAX_STREAMS }
-    requires low { 1 ≤ m }
-    requires high { m ≤ MAX_WORKERS }
+    requires streams_low { 1 ≤ streams }
+    requires streams_high { streams ≤ MAX_STREAMS }
+    requires low { 1 ≤ workers }
+    requires high { workers ≤ MAX_WORKERS }
     requires sound { IsSoundLoad load.now }
     requires calls { AreCalls load.now.declarations.procs load.now.calls }
-    requires count { vec_len disks.old ≡ n }
+    requires count { vec_len disks.old ≡ streams }
     requires new { AreNewDisks (λ j d. Unit {0}) disks.old.items }
-    ensures told { OnOk result (IsRehearsed ⟦<MemDisk as Disk>⟧ n m load.now disks.old.items disks.new.items (λ lines. held_by out.new ≡ held_by out.old ++ lines)) }
+    ensures told { OnOk result (IsRehearsed ⟦<MemDisk as Disk>⟧ streams workers load.now disks.old.items disks.new.items (λ lines. held_by out.new ≡ held_by out.old ++ lines)) }
     ensures has_room { OnOk result (list_any is_short_by disks.new.items ≡ false) }
-    ensures count { vec_len disks.new ≡ n }
+    ensures count { vec_len disks.new ≡ streams }
 {
-    match rehearse(alloc, load, n, m, out, disks) {
-        Ok(()) => {}
-        Err(error) => return Err(error),
-    }
+    rehearse(alloc, load, streams, workers, out, disks)?;
     if any_short(disks) {
         return Err(NoMemory);
     }
@@ -279,16 +272,16 @@ fn play(
 fn tell<R: Threads + Wait + Sync, G: Gate + Sync>(
     rt: &R,
     alloc: Global,
-    n: u8,
+    streams: u8,
     calls: u64,
     tear: Tear,
     disks: &[MemDisk],
     out: &mut MemSink,
     gate: &G,
 ) -> Result<(), NoMemory>
-    requires low { 1 ≤ n }
-    requires high { n ≤ MAX_STREAMS }
-    requires count { length disks.now ≡ n }
+    requires low { 1 ≤ streams }
+    requires high { streams ≤ MAX_STREAMS }
+    requires count { length disks.now ≡ streams }
     requires ordered { (log : Log) × (log_of (images_by tear disks.now) ≡ Ok log) × (order : List Kept) × IsOrderOf log order }
     ensures { OnOk result (IsFound (images_by tear disks.now) calls (λ text. held_by out.new ≡ held_by out.old ++ text)) }
 {
@@ -296,7 +289,7 @@ fn tell<R: Threads + Wait + Sync, G: Gate + Sync>(
     let line = stopped_line(alloc, calls).map_err(|_| NoMemory)?;
     write_all(out, line.as_bytes()).map_err(|_| NoMemory)?;
     // One worker: the drill starts no thread.
-    match recover(rt, alloc, usize::from(n), 1, out, &mut images, gate) {
+    match recover(rt, alloc, usize::from(streams), 1, out, &mut images, gate) {
         Status::Ok => Ok(()),
         Status::BadLog(_) => unreachable!(),
         _ => Err(NoMemory),
@@ -308,29 +301,29 @@ fn drill_stop<R: Threads + Wait + Sync, G: Gate + Sync>(
     rt: &R,
     alloc: Global,
     load: &Workload,
-    n: u8,
-    m: u8,
+    streams: u8,
+    workers: u8,
     after: u32,
     tear: Tear,
     out: &mut MemSink,
     gate: &G,
 ) -> Result<(), NoMemory>
-    requires streams_low { 1 ≤ n }
-    requires streams_high { n ≤ MAX_STREAMS }
-    requires low { 1 ≤ m }
-    requires high { m ≤ MAX_WORKERS }
+    requires streams_low { 1 ≤ streams }
+    requires streams_high { streams ≤ MAX_STREAMS }
+    requires low { 1 ≤ workers }
+    requires high { workers ≤ MAX_WORKERS }
     requires sound { IsSoundLoad load.now }
     requires calls { AreCalls load.now.declarations.procs load.now.calls }
     requires after_low { 1 ≤ after }
     requires after_high { after ≤ 1000000 }
     requires empty { held_by out.old ≡ [] }
-    ensures { OnOk result (IsDrill ⟦<MemDisk as Disk>⟧ n m (Ending.Stop after tear) load.now (held_by out.new)) }
+    ensures { OnOk result (IsDrill ⟦<MemDisk as Disk>⟧ streams workers (Ending.Stop after tear) load.now (held_by out.new)) }
 {
-    let order = device_order(alloc, load, n, m, LogMode::Values)?;
-    let mut disks = stopping_disks(alloc, n, order.as_slice(), after)?;
-    play(alloc, load, n, m, out, &mut disks)?;
+    let order = device_order(alloc, load, streams, workers, LogMode::Values)?;
+    let mut disks = stopping_disks(alloc, streams, order.as_slice(), after)?;
+    play(alloc, load, streams, workers, out, &mut disks)?;
     let calls = u64::from(after).min(order.len() as u64);
-    tell(rt, alloc, n, calls, tear, disks.as_slice(), out, gate)
+    tell(rt, alloc, streams, calls, tear, disks.as_slice(), out, gate)
 }
 
 /// The drill of a call of one disk that fails.
@@ -338,26 +331,35 @@ fn drill_failure<R: Threads + Wait + Sync, G: Gate + Sync>(
     rt: &R,
     alloc: Global,
     load: &Workload,
-    n: u8,
-    m: u8,
+    streams: u8,
+    workers: u8,
     stream: u8,
     call: u32,
     out: &mut MemSink,
     gate: &G,
 ) -> Result<(), NoMemory>
-    requires streams_low { 1 ≤ n }
-    requires streams_high { n ≤ MAX_STREAMS }
-    requires low { 1 ≤ m }
-    requires high { m ≤ MAX_WORKERS }
+    requires streams_low { 1 ≤ streams }
+    requires streams_high { streams ≤ MAX_STREAMS }
+    requires low { 1 ≤ workers }
+    requires high { workers ≤ MAX_WORKERS }
     requires sound { IsSoundLoad load.now }
     requires calls { AreCalls load.now.declarations.procs load.now.calls }
     requires empty { held_by out.old ≡ [] }
-    ensures { OnOk result (IsDrill ⟦<MemDisk as Disk>⟧ n m (Ending.Fail stream call) load.now (held_by out.new)) }
+    ensures { OnOk result (IsDrill ⟦<MemDisk as Disk>⟧ streams workers (Ending.Fail stream call) load.now (held_by out.new)) }
 {
-    let mut disks = failing_disks(alloc, n, stream, call)?;
-    play(alloc, load, n, m, out, &mut disks)?;
+    let mut disks = failing_disks(alloc, streams, stream, call)?;
+    play(alloc, load, streams, workers, out, &mut disks)?;
     let calls = calls_of(disks.as_slice())?;
-    tell(rt, alloc, n, calls, Tear::New, disks.as_slice(), out, gate)
+    tell(
+        rt,
+        alloc,
+        streams,
+        calls,
+        Tear::New,
+        disks.as_slice(),
+        out,
+        gate,
+    )
 }
 
 /// The drill, by how it is to end.
@@ -365,26 +367,28 @@ fn drill_by<R: Threads + Wait + Sync, G: Gate + Sync>(
     rt: &R,
     alloc: Global,
     load: &Workload,
-    n: u8,
-    m: u8,
+    streams: u8,
+    workers: u8,
     ending: Ending,
     out: &mut MemSink,
     gate: &G,
 ) -> Result<(), NoMemory>
-    requires streams_low { 1 ≤ n }
-    requires streams_high { n ≤ MAX_STREAMS }
-    requires low { 1 ≤ m }
-    requires high { m ≤ MAX_WORKERS }
+    requires streams_low { 1 ≤ streams }
+    requires streams_high { streams ≤ MAX_STREAMS }
+    requires low { 1 ≤ workers }
+    requires high { workers ≤ MAX_WORKERS }
     requires sound { IsSoundLoad load.now }
     requires calls { AreCalls load.now.declarations.procs load.now.calls }
-    requires ending { is_ending n ending ≡ true }
+    requires ending { is_ending streams ending ≡ true }
     requires empty { held_by out.old ≡ [] }
-    ensures { OnOk result (IsDrill ⟦<MemDisk as Disk>⟧ n m ending load.now (held_by out.new)) }
+    ensures { OnOk result (IsDrill ⟦<MemDisk as Disk>⟧ streams workers ending load.now (held_by out.new)) }
 {
     match ending {
-        Ending::Stop { after, tear } => drill_stop(rt, alloc, load, n, m, after, tear, out, gate),
+        Ending::Stop { after, tear } => drill_stop(
+            rt, alloc, load, streams, workers, after, tear, out, gate,
+        ),
         Ending::Fail { stream, call } => drill_failure(
-            rt, alloc, load, n, m, stream, call, out, gate,
+            rt, alloc, load, streams, workers, stream, call, out, gate,
         ),
     }
 }
@@ -418,20 +422,20 @@ fn drill<R: Threads + Wait + Sync, K: Sink, G: Gate + Sync>(
     rt: &R,
     alloc: Global,
     load: Workload,
-    n: u8,
-    m: u8,
+    streams: u8,
+    workers: u8,
     ending: Ending,
     sink: &mut K,
     gate: &G,
 ) -> Status
-    requires streams_low { 1 ≤ n }
-    requires streams_high { n ≤ MAX_STREAMS }
-    requires low { 1 ≤ m }
-    requires high { m ≤ MAX_WORKERS }
-    requires ending { is_ending n ending ≡ true }
+    requires streams_low { 1 ≤ streams }
+    requires streams_high { streams ≤ MAX_STREAMS }
+    requires low { 1 ≤ workers }
+    requires high { workers ≤ MAX_WORKERS }
+    requires ending { is_ending streams ending ≡ true }
     requires runnable { IsRunnable load }
     requires meant { (text : List ℕ) × (workload_of text ≡ Ok load) }
-    ensures told { DrillTells ⟦<MemDisk as Disk>⟧ n m ending (with_turns load) (Wrote K.tells (K.held sink.old) (K.held sink.new)) result }
+    ensures told { DrillTells ⟦<MemDisk as Disk>⟧ streams workers ending (with_turns load) (Wrote K.tells (K.held sink.old) (K.held sink.new)) result }
     ensures kind { ends_rehearsal result ≡ true }
     ensures write_fault { result ≡ Status.WriteFault → Rose (K.faults sink.old) (K.faults sink.new) }
 {
@@ -439,7 +443,7 @@ fn drill<R: Threads + Wait + Sync, K: Sink, G: Gate + Sync>(
     let Ok(mut out) = MemSink::new(alloc, &[]) else {
         return Status::NoMemory;
     };
-    match drill_by(rt, alloc, &load, n, m, ending, &mut out, gate) {
+    match drill_by(rt, alloc, &load, streams, workers, ending, &mut out, gate) {
         Ok(()) => {}
         Err(_) => return Status::NoMemory,
     }
@@ -453,21 +457,21 @@ fn drill<R: Threads + Wait + Sync, K: Sink, G: Gate + Sync>(
 pub fn drill_source<R: Threads + Wait + Sync, S: Source, K: Sink, G: Gate + Sync>(
     rt: &R,
     alloc: Global,
-    n: u8,
-    m: u8,
+    streams: u8,
+    workers: u8,
     ending: Ending,
     source: &mut S,
     sink: &mut K,
     gate: &G,
 ) -> Status
-    requires streams_low { 1 ≤ n }
-    requires streams_high { n ≤ MAX_STREAMS }
-    requires low { 1 ≤ m }
-    requires high { m ≤ MAX_WORKERS }
-    requires ending { is_ending n ending ≡ true }
+    requires streams_low { 1 ≤ streams }
+    requires streams_high { streams ≤ MAX_STREAMS }
+    requires low { 1 ≤ workers }
+    requires high { workers ≤ MAX_WORKERS }
+    requires ending { is_ending streams ending ≡ true }
 
     // What it does with a workload.
-    ensures told { S.tells → (load : Workload) → HasWorkload (S.left source.old) load → DrillTells ⟦<MemDisk as Disk>⟧ n m ending (with_turns load) (Wrote K.tells (K.held sink.old) (K.held sink.new)) result }
+    ensures told { S.tells → (load : Workload) → HasWorkload (S.left source.old) load → DrillTells ⟦<MemDisk as Disk>⟧ streams workers ending (with_turns load) (Wrote K.tells (K.held sink.old) (K.held sink.new)) result }
     ensures done { S.tells → (load : Workload) → HasWorkload (S.left source.old) load → (Rose (S.faults source.old) (S.faults source.new) → ⊥) → (Rose (K.faults sink.old) (K.faults sink.new) → ⊥) → Member result (Status.Ok ∷ Status.NoMemory ∷ []) }
 
     // Each status has its cause.
@@ -488,6 +492,6 @@ pub fn drill_source<R: Threads + Wait + Sync, S: Source, K: Sink, G: Gate + Sync
 {
     match read_source(alloc, source) {
         Err(refusal) => refuse(alloc, sink, refusal),
-        Ok(load) => drill(rt, alloc, load, n, m, ending, sink, gate),
+        Ok(load) => drill(rt, alloc, load, streams, workers, ending, sink, gate),
     }
 }

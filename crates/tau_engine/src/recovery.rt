@@ -1,5 +1,6 @@
 //! Recovery.
 ghost use Rattle.std.specs.Prelude.{◌≡◌, ◌≤◌, ◌<◌, ◌⊎◌, ℕ, List, [], true, false, length, take, drop, map, IfOk, OnOk, Ok, Err};
+ghost use Rattle.tau_base.specs.declared.limits.TheConstants.{MAX_RECOVERY_WORKERS, MAX_STREAMS};
 ghost use Rattle.tau_disk.specs.Disk.{Rose};
 ghost use Rattle.tau_scan.specs.declared.fault.LogFault.{LogFault};
 ghost use Rattle.tau_scan.specs.declared.log.Log.{Log};
@@ -26,20 +27,20 @@ use tau_scan::{Log, LogCause, LogFault, ReplayRefusal, ScanRefusal, scan};
 use tau_step::write_all;
 
 /// The log of the first disks.
-fn scan_first<D: Disk>(alloc: Global, n: usize, disks: &mut [D]) -> Result<Log, ScanRefusal>
-    requires low { 1 ≤ n }
-    requires high { n ≤ 16 }
-    requires there { n ≤ length disks.old }
-    ensures read { HasRead D.tells D.seen (take n disks.old) result }
+fn scan_first<D: Disk>(alloc: Global, streams: usize, disks: &mut [D]) -> Result<Log, ScanRefusal>
+    requires low { 1 ≤ streams }
+    requires high { streams ≤ MAX_STREAMS }
+    requires there { streams ≤ length disks.old }
+    ensures read { HasRead D.tells D.seen (take streams disks.old) result }
     ensures sound { IfOk result (λ log. IsLog log) }
-    ensures failed { (j : ℕ) → result ≡ Err (ScanRefusal.Failed j) → (j < n) × RoseAt D.faults disks.old disks.new j }
-    ensures only_read { EachUsed (OnlyRead D.tells D.seen D.may_leave D.moment D.may_leave_since) disks.old disks.new n }
-    ensures calls { OnOk result (EachUsed (AllCalls D.tells D.number D.fails D.short calls_to_read) disks.old disks.new n) }
-    ensures calls_bad { (fault : LogFault) → result ≡ Err (ScanRefusal.Bad fault) → EachUsed (AllCalls D.tells D.number D.fails D.short calls_to_read) disks.old disks.new n }
+    ensures failed { (j : ℕ) → result ≡ Err (ScanRefusal.Failed j) → (j < streams) × RoseAt D.faults disks.old disks.new j }
+    ensures only_read { EachUsed (OnlyRead D.tells D.seen D.may_leave D.moment D.may_leave_since) disks.old disks.new streams }
+    ensures calls { OnOk result (EachUsed (AllCalls D.tells D.number D.fails D.short calls_to_read) disks.old disks.new streams) }
+    ensures calls_bad { (fault : LogFault) → result ≡ Err (ScanRefusal.Bad fault) → EachUsed (AllCalls D.tells D.number D.fails D.short calls_to_read) disks.old disks.new streams }
     ensures stopped { (j : ℕ) → result ≡ Err (ScanRefusal.Failed j) → D.tells → IsFirstStopped D.tells D.number D.fails D.short disks.old disks.new j }
-    ensures untouched { drop n disks.new ≡ drop n disks.old }
+    ensures untouched { drop streams disks.new ≡ drop streams disks.old }
 {
-    scan(alloc, &mut disks[..n])
+    scan(alloc, &mut disks[..streams])
 }
 
 /// Redoes a log by so many workers, and writes what recovery finds in it.
@@ -52,7 +53,7 @@ fn tell_log<R: Threads + Wait + Sync, K: Sink, G: Gate + Sync>(
     gate: &G,
 ) -> Status
     requires log { IsLog log.now }
-    requires workers { (1 ≤ workers) × (workers ≤ 16) }
+    requires workers { (1 ≤ workers) × (workers ≤ MAX_RECOVERY_WORKERS) }
     ensures told { LogTells log.now (Wrote K.tells (K.held sink.old) (K.held sink.new)) result }
     ensures refusal { is_refusal result ≡ true → WroteFront (Wrote K.tells (K.held sink.old) (K.held sink.new)) (Rose (K.faults sink.old) (K.faults sink.new)) (fault_text result) }
     ensures tangled { (fault : LogFault) → result ≡ Status.BadLog fault → IsTangle log.now fault × ((order : List Kept) → IsOrderOf log.now order → ⊥) }
@@ -77,38 +78,38 @@ fn tell_log<R: Threads + Wait + Sync, K: Sink, G: Gate + Sync>(
     }
 }
 
-/// Recovers from the first `n` disks by so many workers, and writes what it finds.
+/// Recovers from the first `streams` disks by so many workers, and writes what it finds.
 pub fn recover<R: Threads + Wait + Sync, D: Disk, K: Sink, G: Gate + Sync>(
     rt: &R,
     alloc: Global,
-    n: usize,
+    streams: usize,
     workers: u8,
     sink: &mut K,
     disks: &mut [D],
     gate: &G,
 ) -> Status
-    requires workers { (1 ≤ workers) × (workers ≤ 16) }
-    requires low { 1 ≤ n }
-    requires high { n ≤ 16 }
-    requires there { n ≤ length disks.old }
+    requires workers { (1 ≤ workers) × (workers ≤ MAX_RECOVERY_WORKERS) }
+    requires low { 1 ≤ streams }
+    requires high { streams ≤ MAX_STREAMS }
+    requires there { streams ≤ length disks.old }
 
-    ensures told { D.tells → RecoverTells (images_of D.seen disks.old n) (Wrote K.tells (K.held sink.old) (K.held sink.new)) result }
+    ensures told { D.tells → RecoverTells (images_of D.seen disks.old streams) (Wrote K.tells (K.held sink.old) (K.held sink.new)) result }
     ensures silent { result ≡ Status.NoMemory → Wrote K.tells (K.held sink.old) (K.held sink.new) [] }
     ensures refusal { is_refusal result ≡ true → WroteFront (Wrote K.tells (K.held sink.old) (K.held sink.new)) (Rose (K.faults sink.old) (K.faults sink.new)) (fault_text result) }
     ensures fault_line { (j : ℕ) → result ≡ Status.DiskFault j → WroteFront (Wrote K.tells (K.held sink.old) (K.held sink.new)) (Rose (K.faults sink.old) (K.faults sink.new)) (fault_text result) }
-    ensures bad_log { (fault : LogFault) → result ≡ Status.BadLog fault → D.tells → IsBadLog (images_of D.seen disks.old n) fault }
-    ensures bad_log_told { (fault : LogFault) → D.tells → log_of (images_of D.seen disks.old n) ≡ Err fault → EndsAsBad fault result }
-    ensures tangled_told { (log : Log) → D.tells → log_of (images_of D.seen disks.old n) ≡ Ok log → ((order : List Kept) → IsOrderOf log order → ⊥) → EndsTangled log result }
-    ensures ordered { (log : Log) (order : List Kept) (fault : LogFault) → D.tells → log_of (images_of D.seen disks.old n) ≡ Ok log → IsOrderOf log order → result ≡ Status.BadLog fault → ⊥ }
-    ensures disk_fault { (j : ℕ) → result ≡ Status.DiskFault j → (j < n) × RoseAt D.faults disks.old disks.new j }
-    ensures calls { is_behind_reading result ≡ true → EachUsed (AllCalls D.tells D.number D.fails D.short calls_to_read) disks.old disks.new n }
+    ensures bad_log { (fault : LogFault) → result ≡ Status.BadLog fault → D.tells → IsBadLog (images_of D.seen disks.old streams) fault }
+    ensures bad_log_told { (fault : LogFault) → D.tells → log_of (images_of D.seen disks.old streams) ≡ Err fault → EndsAsBad fault result }
+    ensures tangled_told { (log : Log) → D.tells → log_of (images_of D.seen disks.old streams) ≡ Ok log → ((order : List Kept) → IsOrderOf log order → ⊥) → EndsTangled log result }
+    ensures ordered { (log : Log) (order : List Kept) (fault : LogFault) → D.tells → log_of (images_of D.seen disks.old streams) ≡ Ok log → IsOrderOf log order → result ≡ Status.BadLog fault → ⊥ }
+    ensures disk_fault { (j : ℕ) → result ≡ Status.DiskFault j → (j < streams) × RoseAt D.faults disks.old disks.new j }
+    ensures calls { is_behind_reading result ≡ true → EachUsed (AllCalls D.tells D.number D.fails D.short calls_to_read) disks.old disks.new streams }
     ensures stopped { (j : ℕ) → result ≡ Status.DiskFault j → D.tells → IsFirstStopped D.tells D.number D.fails D.short disks.old disks.new j }
     ensures write_fault { result ≡ Status.WriteFault → Rose (K.faults sink.old) (K.faults sink.new) }
     ensures kind { ends_recovery result ≡ true }
-    ensures read { EachUsed (OnlyRead D.tells D.seen D.may_leave D.moment D.may_leave_since) disks.old disks.new n }
-    ensures untouched { drop n disks.new ≡ drop n disks.old }
+    ensures read { EachUsed (OnlyRead D.tells D.seen D.may_leave D.moment D.may_leave_since) disks.old disks.new streams }
+    ensures untouched { drop streams disks.new ≡ drop streams disks.old }
 {
-    match scan_first(alloc, n, disks) {
+    match scan_first(alloc, streams, disks) {
         Ok(log) => tell_log(rt, alloc, &log, workers, sink, gate),
         Err(ScanRefusal::NoMemory) => Status::NoMemory,
         Err(ScanRefusal::Failed { stream }) => refuse(alloc, sink, Status::DiskFault { stream }),

@@ -61,7 +61,7 @@ pub(crate) fn run_writers<R: Threads + Wait + Sync, D: Disk + Send, K: Sink + Se
     rt: &R,
     alloc: Global,
     load: &Workload,
-    m: u8,
+    workers: u8,
     mode: LogMode,
     writers: &mut Vec<Writer<D>>,
     sink: &mut K,
@@ -69,18 +69,18 @@ pub(crate) fn run_writers<R: Threads + Wait + Sync, D: Disk + Send, K: Sink + Se
 ) -> Result<RunEnd, NoMemory>
     requires streams_low { 1 ≤ length writers.old.items }
     requires streams_high { length writers.old.items ≤ MAX_STREAMS }
-    requires low { 1 ≤ m }
-    requires high { m ≤ MAX_WORKERS }
+    requires low { 1 ≤ workers }
+    requires high { workers ≤ MAX_WORKERS }
     requires calls { AreCalls load.now.declarations.procs load.now.calls }
     requires text { length (declarations_text load.now.declarations) ≤ MAX_CATALOGUE }
     requires fresh { AreNew (λ j. catalogue_of load.now) writers.old.items }
-    ensures ran { RanChosen load.now.turns m mode load.now writers.old.items writers.new.items K.tells (K.held sink.old) (K.held sink.new) (Rose (K.faults sink.old) (K.faults sink.new)) result }
+    ensures ran { RanChosen load.now.turns workers mode load.now writers.old.items writers.new.items K.tells (K.held sink.old) (K.held sink.new) (Rose (K.faults sink.old) (K.faults sink.new)) result }
     ensures faults { K.faults sink.old ≤ K.faults sink.new }
     ensures count { length writers.new.items ≡ length writers.old.items }
 {
     match load.turns {
-        Some(_) => run_turns(alloc, load, m, mode, writers, sink),
-        None => run_threads(rt, alloc, load, m, mode, writers, sink, gate),
+        Some(_) => run_turns(alloc, load, workers, mode, writers, sink),
+        None => run_threads(rt, alloc, load, workers, mode, writers, sink, gate),
     }
 }
 
@@ -89,7 +89,7 @@ fn run_on<R: Threads + Wait + Sync, D: Disk + Send, K: Sink + Send, G: Gate + Sy
     rt: &R,
     alloc: Global,
     load: &Workload,
-    m: u8,
+    workers: u8,
     mode: LogMode,
     sink: &mut K,
     disks: &mut Vec<D>,
@@ -98,17 +98,17 @@ fn run_on<R: Threads + Wait + Sync, D: Disk + Send, K: Sink + Send, G: Gate + Sy
 ) -> Status
     requires streams_low { 1 ≤ vec_len writers }
     requires streams_high { vec_len writers ≤ MAX_STREAMS }
-    requires low { 1 ≤ m }
-    requires high { m ≤ MAX_WORKERS }
+    requires low { 1 ≤ workers }
+    requires high { workers ≤ MAX_WORKERS }
     requires runnable { IsRunnable load.now }
     requires text { length (declarations_text load.now.declarations) ≤ MAX_CATALOGUE }
     requires fresh { AreNew (λ j. catalogue_of load.now) writers.items }
     requires room { vec_len disks.old + vec_len writers ≤ vec_capacity disks.old }
-    ensures ran { RunsOn m mode load.now writers.items disks.old.items disks.new.items K.tells (K.held sink.old) (K.held sink.new) (K.faults sink.old) (K.faults sink.new) result }
+    ensures ran { RunsOn workers mode load.now writers.items disks.old.items disks.new.items K.tells (K.held sink.old) (K.held sink.new) (K.faults sink.old) (K.faults sink.new) result }
     ensures len { vec_len disks.new ≡ vec_len writers + vec_len disks.old }
 {
     let mut writers = writers;
-    let end = run_writers(rt, alloc, load, m, mode, &mut writers, sink, gate);
+    let end = run_writers(rt, alloc, load, workers, mode, &mut writers, sink, gate);
     close_streams(disks, writers);
     match end {
         Ok(end) => tell_end(alloc, load, &end, sink),
@@ -116,34 +116,34 @@ fn run_on<R: Threads + Wait + Sync, D: Disk + Send, K: Sink + Send, G: Gate + Sy
     }
 }
 
-/// Runs a workload on the first `n` disks, which are to hold nothing, and puts them back in their places.
+/// Runs a workload on the first `streams` disks, which are to hold nothing, and puts them back in their places.
 pub fn run<R: Threads + Wait + Sync, D: Disk + Send, K: Sink + Send, G: Gate + Sync>(
     rt: &R,
     alloc: Global,
     load: &Workload,
-    n: u8,
-    m: u8,
+    streams: u8,
+    workers: u8,
     mode: LogMode,
     sink: &mut K,
     disks: &mut Vec<D>,
     gate: &G,
 ) -> Status
-    requires disks { vec_len disks.old ≡ 16 }
-    requires streams_low { 1 ≤ n }
-    requires streams_high { n ≤ MAX_STREAMS }
-    requires low { 1 ≤ m }
-    requires high { m ≤ MAX_WORKERS }
+    requires disks { vec_len disks.old ≡ MAX_STREAMS }
+    requires streams_low { 1 ≤ streams }
+    requires streams_high { streams ≤ MAX_STREAMS }
+    requires low { 1 ≤ workers }
+    requires high { workers ≤ MAX_WORKERS }
     requires runnable { IsRunnable load.now }
     requires meant { (text : List ℕ) × (workload_of text ≡ Ok load.now) }
 
-    ensures count { vec_len disks.new ≡ 16 }
-    ensures says { SaysRun ⟦<D as Disk>⟧ n m mode load.now disks.old.items disks.new.items K.tells (K.held sink.old) (K.held sink.new) (K.faults sink.old) (K.faults sink.new) result }
+    ensures count { vec_len disks.new ≡ MAX_STREAMS }
+    ensures says { SaysRun ⟦<D as Disk>⟧ streams workers mode load.now disks.old.items disks.new.items K.tells (K.held sink.old) (K.held sink.new) (K.faults sink.old) (K.faults sink.new) result }
 {
     let Ok(catalogue) = print_declarations(alloc, &load.declarations) else {
         return Status::NoMemory;
     };
-    match open_streams(alloc, disks, n, &catalogue) {
+    match open_streams(alloc, disks, streams, &catalogue) {
         Err(refusal) => refuse(alloc, sink, status_of(refusal)),
-        Ok(writers) => run_on(rt, alloc, load, m, mode, sink, disks, writers, gate),
+        Ok(writers) => run_on(rt, alloc, load, workers, mode, sink, disks, writers, gate),
     }
 }

@@ -1,6 +1,6 @@
 //! The commands that are there by now.
 ghost use Rattle.std.specs.Prelude.{◌≡◌, ◌≤◌, ◌&&◌, nat_le, ℕ, true, false, Err, IfOk, IfSome, IfNone, Some, None, map, string_bytes};
-ghost use Rattle.tau_base.specs.declared.limits.TheConstants.{MAX_CALLS};
+ghost use Rattle.tau_base.specs.declared.limits.TheConstants.{MAX_CALLS, MAX_RECOVERY_WORKERS, MAX_STREAMS, MAX_WORKERS};
 ghost use Rattle.tau_base.specs.declared.value.LogMode.{LogMode};
 ghost use Rattle.tau_engine.specs.Served.{command_in, is_ending, is_job, is_served, served};
 ghost use Rattle.tau_words.specs.declared.command.Ending.{Ending};
@@ -61,8 +61,8 @@ pub enum Work {
 
 // Whether so many streams may be used.
 fn is_count(n: u8) -> bool
-    ensures value { result ≡ (nat_le 1 n && nat_le n 16) }
-    ensures within { result ≡ true → (1 ≤ n) × (n ≤ 16) }
+    ensures value { result ≡ (nat_le 1 n && nat_le n MAX_STREAMS) }
+    ensures within { result ≡ true → (1 ≤ n) × (n ≤ MAX_STREAMS) }
 {
     1 <= n && usize::from(n) <= MAX_STREAMS
 }
@@ -89,10 +89,10 @@ fn is_job(start: u16, calls: u32) -> bool
 fn work_of(command: Command) -> Option<Work>
     ensures some { IfSome result (λ w. command ≡ command_in w) }
     ensures there { IfSome result (λ w. is_served command ≡ true) }
-    ensures within { IfSome result (λ w. (n p : ℕ) → w ≡ Work.Recover n p → ((1 ≤ n) × (n ≤ 16)) × (1 ≤ p) × (p ≤ 16)) }
-    ensures within_run { IfSome result (λ w. (n m : ℕ) (mode : LogMode) → w ≡ Work.Run n m mode → ((1 ≤ n) × (n ≤ 16)) × (1 ≤ m) × (m ≤ 16)) }
-    ensures within_drill { IfSome result (λ w. (n m p : ℕ) (ending : Ending) → w ≡ Work.Drill n m p ending → ((1 ≤ n) × (n ≤ 16)) × ((1 ≤ m) × (m ≤ 16)) × (is_ending n ending ≡ true)) }
-    ensures within_bench { IfSome result (λ w. (start calls n m : ℕ) → w ≡ Work.Bench start calls n m → ((start ≤ 999) × (calls ≤ MAX_CALLS)) × ((1 ≤ n) × (n ≤ 16)) × (1 ≤ m) × (m ≤ 16)) }
+    ensures within { IfSome result (λ w. (n p : ℕ) → w ≡ Work.Recover n p → ((1 ≤ n) × (n ≤ MAX_STREAMS)) × (1 ≤ p) × (p ≤ MAX_RECOVERY_WORKERS)) }
+    ensures within_run { IfSome result (λ w. (n m : ℕ) (mode : LogMode) → w ≡ Work.Run n m mode → ((1 ≤ n) × (n ≤ MAX_STREAMS)) × (1 ≤ m) × (m ≤ MAX_WORKERS)) }
+    ensures within_drill { IfSome result (λ w. (n m p : ℕ) (ending : Ending) → w ≡ Work.Drill n m p ending → ((1 ≤ n) × (n ≤ MAX_STREAMS)) × ((1 ≤ m) × (m ≤ MAX_WORKERS)) × (is_ending n ending ≡ true)) }
+    ensures within_bench { IfSome result (λ w. (start calls n m : ℕ) → w ≡ Work.Bench start calls n m → ((start ≤ 999) × (calls ≤ MAX_CALLS)) × ((1 ≤ n) × (n ≤ MAX_STREAMS)) × (1 ≤ m) × (m ≤ MAX_WORKERS)) }
     ensures none { IfNone result (is_served command ≡ false) }
 {
     match command {
@@ -111,10 +111,10 @@ fn work_of(command: Command) -> Option<Work>
 /// What these words ask for, where they are those of a command that is there by now. Usage exactly where they are not.
 pub fn read_served(alloc: Global, words: &[String]) -> Result<Work, WordsRefusal>
     ensures ok { IfOk result (λ w. served (map string_bytes words.now) ≡ Some (command_in w)) }
-    ensures within { IfOk result (λ w. (n p : ℕ) → w ≡ Work.Recover n p → ((1 ≤ n) × (n ≤ 16)) × (1 ≤ p) × (p ≤ 16)) }
-    ensures within_run { IfOk result (λ w. (n m : ℕ) (mode : LogMode) → w ≡ Work.Run n m mode → ((1 ≤ n) × (n ≤ 16)) × (1 ≤ m) × (m ≤ 16)) }
-    ensures within_drill { IfOk result (λ w. (n m p : ℕ) (ending : Ending) → w ≡ Work.Drill n m p ending → ((1 ≤ n) × (n ≤ 16)) × ((1 ≤ m) × (m ≤ 16)) × (is_ending n ending ≡ true)) }
-    ensures within_bench { IfOk result (λ w. (start calls n m : ℕ) → w ≡ Work.Bench start calls n m → ((start ≤ 999) × (calls ≤ MAX_CALLS)) × ((1 ≤ n) × (n ≤ 16)) × (1 ≤ m) × (m ≤ 16)) }
+    ensures within { IfOk result (λ w. (n p : ℕ) → w ≡ Work.Recover n p → ((1 ≤ n) × (n ≤ MAX_STREAMS)) × (1 ≤ p) × (p ≤ MAX_RECOVERY_WORKERS)) }
+    ensures within_run { IfOk result (λ w. (n m : ℕ) (mode : LogMode) → w ≡ Work.Run n m mode → ((1 ≤ n) × (n ≤ MAX_STREAMS)) × (1 ≤ m) × (m ≤ MAX_WORKERS)) }
+    ensures within_drill { IfOk result (λ w. (n m p : ℕ) (ending : Ending) → w ≡ Work.Drill n m p ending → ((1 ≤ n) × (n ≤ MAX_STREAMS)) × ((1 ≤ m) × (m ≤ MAX_WORKERS)) × (is_ending n ending ≡ true)) }
+    ensures within_bench { IfOk result (λ w. (start calls n m : ℕ) → w ≡ Work.Bench start calls n m → ((start ≤ 999) × (calls ≤ MAX_CALLS)) × ((1 ≤ n) × (n ≤ MAX_STREAMS)) × (1 ≤ m) × (m ≤ MAX_WORKERS)) }
     ensures usage { result ≡ Err Usage → served (map string_bytes words.now) ≡ None }
 {
     match work_of(read_words(alloc, words)?) {

@@ -31,19 +31,15 @@ pub fn read_text<S: Source>(alloc: Global, source: &mut S) -> Result<Vec<u8>, So
     ensures later { S.faults source.old ≤ S.faults source.new }
 {
     let mut text = Vec::new(alloc);
-    let mut chunk = match room(alloc) {
-        Ok(chunk) => chunk,
-        Err(_) => return Err(SourceRefusal::NoMemory),
-    };
+    let mut chunk = room(alloc).map_err(|_| SourceRefusal::NoMemory)?;
     while text.len() <= MAX_WORKLOAD {
         let wanted = CHUNK.min(MAX_WORKLOAD + 1 - text.len());
         let buf = &mut chunk[..wanted];
         match source.read(buf) {
             Ok(0) => return Ok(text),
-            Ok(count) => match text.extend_from_slice(&buf[..count]) {
-                Ok(()) => {}
-                Err(_) => return Err(SourceRefusal::NoMemory),
-            },
+            Ok(count) => text
+                .extend_from_slice(&buf[..count])
+                .map_err(|_| SourceRefusal::NoMemory)?,
             Err(_) => return Err(SourceRefusal::Failed),
         }
     }

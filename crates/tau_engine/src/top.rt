@@ -1,5 +1,6 @@
 //! The top call.
 ghost use Rattle.std.specs.Prelude.{◌≡◌, ◌<◌, ◌≤◌, ◌⊎◌, ◌++◌, ◌+◌, List, ℕ, [], ◌∷◌, length, drop, map, true, false, Some, None, Ok, Err, vec_len, string_bytes};
+ghost use Rattle.tau_base.specs.declared.limits.TheConstants.{MAX_STREAMS};
 ghost use Rattle.tau_base.specs.declared.value.LogMode.{LogMode};
 ghost use Rattle.tau_disk.specs.Disk.{Rose};
 ghost use Rattle.tau_model.specs.History.{Member};
@@ -52,10 +53,10 @@ pub fn taurus<R: Threads + Wait + Sync, S: Source, K: Sink + Send, D: Disk + Sen
     disks: &mut Vec<D>,
     gate: &G,
 ) -> Status
-    requires { vec_len disks.old ≡ 16 }
+    requires { vec_len disks.old ≡ MAX_STREAMS }
 
     // The disks stand in their places again.
-    ensures count { vec_len disks.new ≡ 16 }
+    ensures count { vec_len disks.new ≡ MAX_STREAMS }
 
     // Each status has its cause, and none comes where an earlier one applies.
     ensures usage { result ≡ Status.Usage → served (map string_bytes words.now) ≡ None }

@@ -14,14 +14,14 @@ ack_one-requires-clause-opened g c = c.loop-call.invariant.0.same.opened ∙ c.r
 pub ack_one-requires-clause-none : goal.ack_one-requires-clause-none
 ack_one-requires-clause-none g c = c.loop-call.invariant.1
 
-pub returns-in-Ok-false-clause-goes : goal.returns-in-Ok-false-clause-goes
-returns-in-Ok-false-clause-goes g c = acknowledges-on c.args.desk.now.load c.args.seat.now c.loop-call.seat c.ack_one.new.seat c.args.told.now c.loop-call.told c.ack_one.new.told c.loop-call.invariant.0 c.ack_one.ensures.goes
+pub returns-then-not-branch-clause-goes : goal.returns-then-not-branch-clause-goes
+returns-then-not-branch-clause-goes g c = acknowledges-on c.args.desk.now.load c.args.seat.now c.loop-call.seat c.ack_one.new.seat c.args.told.now c.loop-call.told c.ack_one.new.told c.loop-call.invariant.0 c.ack_one.ensures.goes
 
-pub returns-in-Err-clause-goes : goal.returns-in-Err-clause-goes
-returns-in-Err-clause-goes g c = acknowledges-on c.args.desk.now.load c.args.seat.now c.loop-call.seat c.ack_one.new.seat c.args.told.now c.loop-call.told c.ack_one.new.told c.loop-call.invariant.0 c.ack_one.ensures.goes
+pub returns-in_err-ack_one-clause-goes : goal.returns-in_err-ack_one-clause-goes
+returns-in_err-ack_one-clause-goes g c = acknowledges-on c.args.desk.now.load c.args.seat.now c.loop-call.seat c.ack_one.new.seat c.args.told.now c.loop-call.told c.ack_one.new.told c.loop-call.invariant.0 c.ack_one.ensures.goes
 
 pub loop-call-preserved : goal.loop-call-preserved
 loop-call-preserved g c = (
   acknowledges-on c.args.desk.now.load c.args.seat.now c.loop-call.seat c.ack_one.new.seat c.args.told.now c.loop-call.told c.ack_one.new.told c.loop-call.invariant.0 c.ack_one.ensures.goes,
-  c.in-Ok-true.ensures.none,
+  c.in_ok-ack_one.ensures.none,
 )

@@ -1,9 +1,11 @@
 use Rattle.std.proofs.Common.{◌≡◌, Option, ap, subst, sym, ◌∙◌, arith, length}
 use Rattle.std.specs.Prelude.{None}
+use Rattle.std.proofs.lemmas.Result.{err_from_is_err_and}
 use Rattle.tau_rule.specs.Rule.{has}
 use Rattle.tau_desk.specs.Ends.{told_head_raised}
 use Rattle.tau_desk.specs.Resumes.{CanGoOn, IsResumed, ResumedBy}
 use Rattle.tau_desk.specs.Seats.{PlainHead}
+use Rattle.tau_crew.specs.LeftOver.{LeftWent}
 use Rattle.tau_crew.proofs.LeftOver.{few-out, its, left-out, resumed-rests, went-none, went-on, went-refused, went-short}
 use Rattle.tau_crew.proofs.left_over.run_lowest.Goals as goal
 
@@ -48,14 +50,16 @@ run_alone-requires-clause-rests g c =
     let q : IsResumed l c.args.head.now c.split_resumed.new.head c.in-Ok-Some.seat = subst (λ (o : Option _). ResumedBy l c.args.head.now c.split_resumed.new.head o) c.in-Ok-Some.field-0-is c.in-Ok-Some.ensures.split in
     resumed-rests _ c.args.desk.now.table.shared.table_id c.args.head.now c.split_resumed.new.head c.in-Ok-Some.seat c.requires.head c.agrees.ensures q
 
-pub returns-in-Err-run_alone : goal.returns-in-Err-run_alone
-returns-in-Err-run_alone g c =
+pub returns-in_err-run_alone-in-Ok-Some : goal.returns-in_err-run_alone-in-Ok-Some
+returns-in_err-run_alone-in-Ok-Some g c =
     let l = c.args.desk.now.table.shared.key.value.load in
     let q : IsResumed l c.args.head.now c.split_resumed.new.head c.in-Ok-Some.seat = subst (λ (o : Option _). ResumedBy l c.args.head.now c.split_resumed.new.head o) c.in-Ok-Some.field-0-is c.in-Ok-Some.ensures.split in
-    went-short _ _ c.args.head.now c.split_resumed.new.head c.in-Ok-Some.seat c.requires.head c.agrees.ensures q c.run_alone.new.head c.in-Err-run_alone.error c.in-Err-run_alone.ensures
+    let p = err_from_is_err_and c.from_residual.result c.from_residual.ensures.1 in
+    subst (λ r. LeftWent c.args.desk.now.table.shared.key.value c.args.desk.now.table.shared.table_id c.args.head.now c.run_alone.new.head r) (sym p.1)
+    (went-short _ _ c.args.head.now c.split_resumed.new.head c.in-Ok-Some.seat c.requires.head c.agrees.ensures q c.run_alone.new.head _ c.in_err-run_alone-in-Ok-Some.ensures)
 
-pub returns-in-Ok : goal.returns-in-Ok
-returns-in-Ok g c =
+pub returns-in_ok-run_alone-in-Ok-Some : goal.returns-in_ok-run_alone-in-Ok-Some
+returns-in_ok-run_alone-in-Ok-Some g c =
     let l = c.args.desk.now.table.shared.key.value.load in
     let q : IsResumed l c.args.head.now c.split_resumed.new.head c.in-Ok-Some.seat = subst (λ (o : Option _). ResumedBy l c.args.head.now c.split_resumed.new.head o) c.in-Ok-Some.field-0-is c.in-Ok-Some.ensures.split in
-    went-on _ _ c.args.head.now c.split_resumed.new.head c.in-Ok-Some.seat c.requires.head c.agrees.ensures q c.run_alone.new.head c.requires.ran c.in-Ok.ensures
+    went-on _ _ c.args.head.now c.split_resumed.new.head c.in-Ok-Some.seat c.requires.head c.agrees.ensures q c.run_alone.new.head c.requires.ran c.in_ok-run_alone-in-Ok-Some.ensures

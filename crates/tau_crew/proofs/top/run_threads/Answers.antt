@@ -10,11 +10,11 @@ use Rattle.tau_crew.proofs.top.run_threads.Goals as goal
 pub go-requires-clause-begun : goal.go-requires-clause-begun
 go-requires-clause-begun g c κs within =
     let long : c.len.result ≡ length c.args.writers.now.items = omega (arith, c.len.ensures) in
-    let opened = subst (λ (n : ℕ). OpenedFresh c.args.load.now.declarations.procs c.args.load.now.calls c.args.mode c.args.m n (catalogue_size (declarations_text c.args.load.now.declarations)) c.in-Ok.opened.0.table.shared.key.value) long c.in-Ok.ensures.0 in
-    (λ j. catalogue_of c.args.load.now, (fresh-begun c.args.m c.args.mode c.args.load.now c.args.writers.now.items c.args.writers.now.items g.K.Sink.tells (g.K.Sink.held c.args.sink.now) (g.K.Sink.held c.args.sink.now) (Rose (g.K.Sink.faults c.args.sink.now) (g.K.Sink.faults c.args.sink.now)) c.in-Ok.opened.0.table.shared.key.value opened c.requires.fresh))
+    let opened = subst (λ (n : ℕ). OpenedFresh c.args.load.now.declarations.procs c.args.load.now.calls c.args.mode c.args.workers n (catalogue_size (declarations_text c.args.load.now.declarations)) c.in_ok-desk.desk.table.shared.key.value) long c.in_ok-desk.ensures.0 in
+    (λ j. catalogue_of c.args.load.now, (fresh-begun c.args.workers c.args.mode c.args.load.now c.args.writers.now.items c.args.writers.now.items g.K.Sink.tells (g.K.Sink.held c.args.sink.now) (g.K.Sink.held c.args.sink.now) (Rose (g.K.Sink.faults c.args.sink.now) (g.K.Sink.faults c.args.sink.now)) c.in_ok-desk.desk.table.shared.key.value opened c.requires.fresh))
 
-pub returns-in-Ok-clause-ran : goal.returns-in-Ok-clause-ran
-returns-in-Ok-clause-ran g c =
+pub returns-clause-ran : goal.returns-clause-ran
+returns-clause-ran g c =
     let long : c.len.result ≡ length c.args.writers.now.items = omega (arith, c.len.ensures) in
-    let opened = subst (λ (n : ℕ). OpenedFresh c.args.load.now.declarations.procs c.args.load.now.calls c.args.mode c.args.m n (catalogue_size (declarations_text c.args.load.now.declarations)) c.in-Ok.opened.0.table.shared.key.value) long c.in-Ok.ensures.0 in
-    went-new c.args.m c.args.mode c.args.load.now c.args.writers.now.items c.go.new.writers.items g.K.Sink.tells (g.K.Sink.held c.args.sink.now) (g.K.Sink.held c.go.new.sink) (Rose (g.K.Sink.faults c.args.sink.now) (g.K.Sink.faults c.go.new.sink)) c.in-Ok.opened.0.table.shared.key.value opened c.go.result (c.go.ensures.ran (λ j. catalogue_of c.args.load.now) (fresh-begun c.args.m c.args.mode c.args.load.now c.args.writers.now.items c.args.writers.now.items g.K.Sink.tells (g.K.Sink.held c.args.sink.now) (g.K.Sink.held c.args.sink.now) (Rose (g.K.Sink.faults c.args.sink.now) (g.K.Sink.faults c.args.sink.now)) c.in-Ok.opened.0.table.shared.key.value opened c.requires.fresh))
+    let opened = subst (λ (n : ℕ). OpenedFresh c.args.load.now.declarations.procs c.args.load.now.calls c.args.mode c.args.workers n (catalogue_size (declarations_text c.args.load.now.declarations)) c.in_ok-desk.desk.table.shared.key.value) long c.in_ok-desk.ensures.0 in
+    went-new c.args.workers c.args.mode c.args.load.now c.args.writers.now.items c.go.new.writers.items g.K.Sink.tells (g.K.Sink.held c.args.sink.now) (g.K.Sink.held c.go.new.sink) (Rose (g.K.Sink.faults c.args.sink.now) (g.K.Sink.faults c.go.new.sink)) c.in_ok-desk.desk.table.shared.key.value opened c.go.result (c.go.ensures.ran (λ j. catalogue_of c.args.load.now) (fresh-begun c.args.workers c.args.mode c.args.load.now c.args.writers.now.items c.args.writers.now.items g.K.Sink.tells (g.K.Sink.held c.args.sink.now) (g.K.Sink.held c.args.sink.now) (Rose (g.K.Sink.faults c.args.sink.now) (g.K.Sink.faults c.args.sink.now)) c.in_ok-desk.desk.table.shared.key.value opened c.requires.fresh))

@@ -1,11 +1,10 @@
 use Rattle.std.proofs.Common.{ap, ◌∙◌}
-use Rattle.std.proofs.Math.Nat.{mod-lt}
 use Rattle.tau_desk.specs.Seats.{PlainWorkerSeat}
 use Rattle.tau_crew.proofs.WorkSteps.{is_before, unjoined-before, unjoined-same, works-committed, works-then}
 use Rattle.tau_crew.proofs.worker.commit.Goals as goal
 
 pub read_newer-requires-clause-there : goal.read_newer-requires-clause-there
-read_newer-requires-clause-there g c = mod-lt c.args.worker {m = c.args.desk.now.streams} c.args.desk.now.streams_are.1
+read_newer-requires-clause-there g c = c.stream_of-stream.ensures.there
 
 pub commit-requires-clause-own : goal.commit-requires-clause-own
 commit-requires-clause-own g c = c.read_newer.ensures.works.seat.0 ∙ c.requires.own

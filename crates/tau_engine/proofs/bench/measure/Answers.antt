@@ -1,6 +1,5 @@
 use Rattle.std.proofs.Common.{ℕ, ◌≡◌, ◌∙◌, List, ◌++◌, map, length, sym, ap, subst, arith}
-use Rattle.std.specs.Prelude.{string_bytes, IfOk, Result, Ok, Err}
-use Rattle.tau_base.specs.declared.value.NoMemory.{NoMemory}
+use Rattle.std.specs.Prelude.{Ok}
 use Rattle.tau_disk.specs.declared.memory.MemDisk.{MemDisk}
 use Rattle.tau_disk.specs.Memory.{seen_by}
 use Rattle.tau_text.specs.declared.load.Workload.{Workload}
@@ -14,6 +13,7 @@ use Rattle.tau_run.specs.CoreRun.{IsSoundLoad}
 use Rattle.tau_gen.specs.Generated.{generated}
 use Rattle.tau_gen.proofs.BenchDeclared.{are_calls}
 use Rattle.tau_engine.specs.Bench.{AreFound, lines_in}
+use Rattle.tau_engine.proofs.Oks.{if_ok}
 use Rattle.tau_engine.proofs.BenchFound.{acks_are, rows_are, found_are, can_recover}
 use Rattle.tau_engine.proofs.BenchLines.{in_acks}
 use Rattle.tau_engine.proofs.BenchSound.{sound_generated, text_is}
@@ -28,24 +28,21 @@ play-requires-clause-calls g c κs within = subst (λ (l : Workload). AreCalls l
 
 pub recovered-requires-clause-ordered : goal.recovered-requires-clause-ordered
 recovered-requires-clause-ordered g c κs within =
-    let old_count : length c.in_ok-disks.disks.items ≡ c.args.n = (let e = c.in_ok-disks.ensures.count in omega (arith, e)) in
-    let new_count : length c.play.new.disks.items ≡ c.args.n = (let e = c.in_ok-rows.ensures.count in omega (arith, e)) in
+    let old_count : length c.in_ok-disks.disks.items ≡ c.args.streams = (let e = c.in_ok-disks.ensures.count in omega (arith, e)) in
+    let new_count : length c.play.new.disks.items ≡ c.args.streams = (let e = c.in_ok-rows.ensures.count in omega (arith, e)) in
     subst (λ (ds : List MemDisk). (log : Log) × (log_of (map seen_by ds) ≡ Ok log) × (order : List Kept) × IsOrderOf log order) (sym c.as_mut_slice.ensures.value)
-    (can_recover tt image_left c.args.n c.args.m c.args.start c.args.calls c.requires.calls c.in_ok-load.load c.in_ok-load.ensures c.in_ok-disks.disks.items c.play.new.disks.items old_count new_count _ c.in_ok-rows.rows c.in_ok-rows.ensures.told)
+    (can_recover tt image_left c.args.streams c.args.workers c.args.start c.args.calls c.requires.calls c.in_ok-load.load c.in_ok-load.ensures c.in_ok-disks.disks.items c.play.new.disks.items old_count new_count _ c.in_ok-rows.rows c.in_ok-rows.ensures.told)
 
 pub returns : goal.returns
 returns g c =
-    let old_count : length c.in_ok-disks.disks.items ≡ c.args.n = (let e = c.in_ok-disks.ensures.count in omega (arith, e)) in
-    let new_count : length c.play.new.disks.items ≡ c.args.n = (let e = c.in_ok-rows.ensures.count in omega (arith, e)) in
-    let rows = rows_are tt image_left c.args.n c.args.m c.args.start c.args.calls c.requires.calls c.in_ok-load.load c.in_ok-load.ensures c.in_ok-disks.disks.items c.play.new.disks.items old_count new_count _ c.in_ok-rows.rows c.in_ok-rows.ensures.told in
-    let acks = acks_are tt image_left c.args.n c.args.m c.args.start c.args.calls c.requires.calls c.in_ok-load.load c.in_ok-load.ensures c.in_ok-disks.disks.items c.play.new.disks.items old_count new_count _ c.in_ok-rows.rows c.in_ok-rows.ensures.told in
-    let again = found_are tt image_left c.args.n c.args.m c.args.start c.args.calls c.requires.calls c.in_ok-load.load c.in_ok-load.ensures c.in_ok-disks.disks.items c.play.new.disks.items old_count new_count _ c.in_ok-rows.rows c.in_ok-rows.ensures.told
+    let old_count : length c.in_ok-disks.disks.items ≡ c.args.streams = (let e = c.in_ok-disks.ensures.count in omega (arith, e)) in
+    let new_count : length c.play.new.disks.items ≡ c.args.streams = (let e = c.in_ok-rows.ensures.count in omega (arith, e)) in
+    let rows = rows_are tt image_left c.args.streams c.args.workers c.args.start c.args.calls c.requires.calls c.in_ok-load.load c.in_ok-load.ensures c.in_ok-disks.disks.items c.play.new.disks.items old_count new_count _ c.in_ok-rows.rows c.in_ok-rows.ensures.told in
+    let acks = acks_are tt image_left c.args.streams c.args.workers c.args.start c.args.calls c.requires.calls c.in_ok-load.load c.in_ok-load.ensures c.in_ok-disks.disks.items c.play.new.disks.items old_count new_count _ c.in_ok-rows.rows c.in_ok-rows.ensures.told in
+    let again = found_are tt image_left c.args.streams c.args.workers c.args.start c.args.calls c.requires.calls c.in_ok-load.load c.in_ok-load.ensures c.in_ok-disks.disks.items c.play.new.disks.items old_count new_count _ c.in_ok-rows.rows c.in_ok-rows.ensures.told
     c.in_ok-again.again (subst (λ (ds : List MemDisk). AreFound ds c.in_ok-again.again) c.as_mut_slice.ensures.value c.in_ok-again.ensures) in
     let told = c.in_ok-rows.ensures.told.rehearsed.acked tt ∙ ap (λ (h : List ℕ). h ++ ack_lines c.in_ok-rows.ensures.told.rehearsed.facts.run.acks) c.in_ok-out.ensures.empty in
     let acked : c.lines_in-acked.result ≡ c.args.calls = c.lines_in-acked.ensures ∙ ap lines_in (c.bytes.ensures ∙ told) ∙ in_acks c.in_ok-rows.ensures.told.rehearsed.facts.run.acks ∙ acks in
-    if_ok string_bytes c.measured_text.result c.measured_text.ensures
-    (text_is c.in_ok-load.load.declarations.tables (generated c.args.start c.args.calls).declarations.tables c.args.calls c.lines_in-acked.result c.in_ok-rows.rows c.in_ok-again.again _ (ap (λ (l : Workload). l.declarations.tables) c.in_ok-load.ensures) acked rows again)
-  where
-    if_ok : {A : Type 0} (f : A → List ℕ) {x y : List ℕ} (r : Result A NoMemory) → IfOk r (λ text. f text ≡ x) → x ≡ y → IfOk r (λ text. f text ≡ y)
-    if_ok f (Ok text) e same = e ∙ same
-    if_ok f (Err e) h same = h
+    if_ok c.measured_text.result
+    (λ text e. e ∙ text_is c.in_ok-load.load.declarations.tables (generated c.args.start c.args.calls).declarations.tables c.args.calls c.lines_in-acked.result c.in_ok-rows.rows c.in_ok-again.again _ (ap (λ (l : Workload). l.declarations.tables) c.in_ok-load.ensures) acked rows again)
+    c.measured_text.ensures

@@ -10,7 +10,7 @@ use Rattle.tau_engine.proofs.drill.drill_source.Goals as goal
 
 pub returns-in-Ok-clause-told : goal.returns-in-Ok-clause-told
 returns-in-Ok-clause-told g c tells load has =
-    subst (λ (l : Workload). DrillTells ghosts c.args.n c.args.m c.args.ending (with_turns l) (Wrote g.K.Sink.tells (g.K.Sink.held c.args.sink.now) (g.K.Sink.held c.drill.new.sink)) c.drill.result)
+    subst (λ (l : Workload). DrillTells ghosts c.args.streams c.args.workers c.args.ending (with_turns l) (Wrote g.K.Sink.tells (g.K.Sink.held c.args.sink.now) (g.K.Sink.held c.drill.new.sink)) c.drill.result)
     (same_load (g.S.Source.left c.args.source.now) c.in-Ok.load load (c.in-Ok.ensures.load tells) has) c.drill.ensures.told
 
 pub returns-in-Ok-clause-done : goal.returns-in-Ok-clause-done

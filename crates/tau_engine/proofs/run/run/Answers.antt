@@ -13,7 +13,7 @@ use Rattle.tau_engine.proofs.run.run.Goals as goal
 
 pub returns-in_default-clause-says : goal.returns-in_default-clause-says
 returns-in_default-clause-says g c =
-    says_untouched g.D.Disk (g.met.D.Disk g.world.𝓛 g.world.𝓜 g.world.𝓡 ((λ s x. x), (λ x. x), (λ x. x), λ x. x)).only_now c.args.n c.args.m c.args.mode c.args.load.now c.requires.streams_low c.requires.streams_high c.requires.low (catalogue_load c.requires.meant.0 c.args.load.now c.requires.meant.1) c.args.disks.now.items
+    says_untouched g.D.Disk (g.met.D.Disk g.world.𝓛 g.world.𝓜 g.world.𝓡 ((λ s x. x), (λ x. x), (λ x. x), λ x. x)).only_now c.args.streams c.args.workers c.args.mode c.args.load.now c.requires.streams_low c.requires.streams_high c.requires.low (catalogue_load c.requires.meant.0 c.args.load.now c.requires.meant.1) c.args.disks.now.items
     g.K.Sink.tells (g.K.Sink.held c.args.sink.now) (g.K.Sink.held c.args.sink.now) (g.K.Sink.faults c.args.sink.now) (g.K.Sink.faults c.args.sink.now) refl
 
 pub open_streams-requires-clause-text : goal.open_streams-requires-clause-text
@@ -25,10 +25,10 @@ open_streams-requires-clause-text g c =
 pub returns-in-Err-clause-says : goal.returns-in-Err-clause-says
 returns-in-Err-clause-says g c =
     let is : catalogue_record c.deref.result.now ≡ catalogue_of c.args.load.now = ap catalogue_record (c.deref.ensures.value ∙ c.in-Ok.ensures) in
-    says_refused g.D.Disk (g.met.D.Disk g.world.𝓛 g.world.𝓜 g.world.𝓡 ((λ s x. x), (λ x. x), (λ x. x), λ x. x)).only_now c.args.n c.args.m c.args.mode c.args.load.now c.requires.streams_low c.requires.streams_high c.requires.low (catalogue_load c.requires.meant.0 c.args.load.now c.requires.meant.1) c.args.disks.now.items
+    says_refused g.D.Disk (g.met.D.Disk g.world.𝓛 g.world.𝓜 g.world.𝓡 ((λ s x. x), (λ x. x), (λ x. x), λ x. x)).only_now c.args.streams c.args.workers c.args.mode c.args.load.now c.requires.streams_low c.requires.streams_high c.requires.low (catalogue_load c.requires.meant.0 c.args.load.now c.requires.meant.1) c.args.disks.now.items
     g.K.Sink.tells (g.K.Sink.held c.args.sink.now) (g.K.Sink.held c.refuse.new.sink) (g.K.Sink.faults c.args.sink.now) (g.K.Sink.faults c.refuse.new.sink) c.open_streams.new.disks.items c.in-Err.refusal
     (record {
-      begins = subst (λ (text : List ℕ). EachIn (λ j. j < c.args.n) (Begins g.D.Disk c.args.n text) c.args.disks.now.items c.open_streams.new.disks.items) is c.in-Err.ensures.begins;
+      begins = subst (λ (text : List ℕ). EachIn (λ j. j < c.args.streams) (Begins g.D.Disk c.args.streams text) c.args.disks.now.items c.open_streams.new.disks.items) is c.in-Err.ensures.begins;
       rest = c.in-Err.ensures.rest;
       failed = λ j e. c.in-Err.ensures.failed j (ap Err e);
       first = λ j e t. c.in-Err.ensures.failed_first j (ap Err e) t;
@@ -46,15 +46,15 @@ run_on-requires-clause-text g c κs within = (catalogue_load c.requires.meant.0 
 pub run_on-requires-clause-fresh : goal.run_on-requires-clause-fresh
 run_on-requires-clause-fresh g c κs within =
     let is : catalogue_record c.deref.result.now ≡ catalogue_of c.args.load.now = ap catalogue_record (c.deref.ensures.value ∙ c.in-Ok.ensures) in
-    are_new {D = g.row.D.Denot} {G = g.D.Disk} c.args.n c.args.load.now c.args.disks.now.items c.open_streams.new.disks.items c.in-Ok-open_streams.writers.items
-    (subst (λ (text : List ℕ). AreOpened g.D.Disk c.args.n text c.args.disks.now.items c.open_streams.new.disks.items c.in-Ok-open_streams.writers.items) is c.in-Ok-open_streams.ensures.opened)
+    are_new {D = g.row.D.Denot} {G = g.D.Disk} c.args.streams c.args.load.now c.args.disks.now.items c.open_streams.new.disks.items c.in-Ok-open_streams.writers.items
+    (subst (λ (text : List ℕ). AreOpened g.D.Disk c.args.streams text c.args.disks.now.items c.open_streams.new.disks.items c.in-Ok-open_streams.writers.items) is c.in-Ok-open_streams.ensures.opened)
 
 pub returns-clause-says : goal.returns-clause-says
 returns-clause-says g c =
     let is : catalogue_record c.deref.result.now ≡ catalogue_of c.args.load.now = ap catalogue_record (c.deref.ensures.value ∙ c.in-Ok.ensures) in
     let disks = c.requires.disks in
     let few = c.requires.streams_high in
-    says_run {D = g.row.D.Denot} {G = g.D.Disk} (g.met.D.Disk g.world.𝓛 g.world.𝓜 g.world.𝓡 ((λ s x. x), (λ x. x), (λ x. x), λ x. x)).only_now c.args.n c.args.m c.args.mode c.args.load.now c.requires.streams_low c.requires.streams_high c.requires.low (sound_of c.requires.meant.0 c.args.load.now c.requires.meant.1 c.requires.runnable)
+    says_run {D = g.row.D.Denot} {G = g.D.Disk} (g.met.D.Disk g.world.𝓛 g.world.𝓜 g.world.𝓡 ((λ s x. x), (λ x. x), (λ x. x), λ x. x)).only_now c.args.streams c.args.workers c.args.mode c.args.load.now c.requires.streams_low c.requires.streams_high c.requires.low (sound_of c.requires.meant.0 c.args.load.now c.requires.meant.1 c.requires.runnable)
     c.args.disks.now.items c.open_streams.new.disks.items c.run_on.new.disks.items (search rules) c.in-Ok-open_streams.writers.items
-    (subst (λ (text : List ℕ). AreOpened g.D.Disk c.args.n text c.args.disks.now.items c.open_streams.new.disks.items c.in-Ok-open_streams.writers.items) is c.in-Ok-open_streams.ensures.opened)
+    (subst (λ (text : List ℕ). AreOpened g.D.Disk c.args.streams text c.args.disks.now.items c.open_streams.new.disks.items c.in-Ok-open_streams.writers.items) is c.in-Ok-open_streams.ensures.opened)
     g.K.Sink.tells (g.K.Sink.held c.args.sink.now) (g.K.Sink.faults c.args.sink.now) (g.K.Sink.held c.run_on.new.sink) (g.K.Sink.faults c.run_on.new.sink) c.run_on.result c.run_on.ensures.ran

@@ -1,4 +1,4 @@
-use Rattle.std.proofs.Common.{◌≡◌, ◌++◌, ◌+◌, ℕ, List, length, drop, arith, append_assoc, sym, ◌∙◌, ap, length-append}
+use Rattle.std.proofs.Common.{◌≡◌, ◌++◌, ◌+◌, ℕ, List, length, drop, take, rules, vec_len, arith, append_assoc, sym, ◌∙◌, ap, length-append}
 use Rattle.std.proofs.lemmas.List.{length-take}
 use Rattle.std.proofs.Math.Seq.{drop-append_seam}
 use Rattle.tau_engine.proofs.source.read_text.Goals as goal
@@ -12,16 +12,19 @@ past old text part now n is size =
     sym (ap (λ (xs : List ℕ). drop (length text + n) xs) is ∙ ap (λ (k : ℕ). drop k ((text ++ part) ++ now)) (sym count) ∙ drop-append_seam (text ++ part) now)
 
 pub loop-text-preserved : goal.loop-text-preserved
-loop-text-preserved g c = record {
-  within = omega (arith, c.in-Ok-read.ensures.bound, c.in-Ok-extend_from_slice.ensures.len, length-take c.min-wanted.result c.deref_mut.result.now, length-take c.in-Ok-read.count c.read.new.buf);
-  room = omega arith;
-  read = λ tells. rw c.in-Ok-extend_from_slice.ensures.items (more _ _ _ _ _ (c.loop-text.invariant.read tells) (c.in-Ok-read.ensures.bytes tells).split);
-  later = omega (arith, c.in-Ok-read.ensures.cause.later);
-}
+loop-text-preserved g c =
+    let added : c.extend_from_slice.new.self.items ≡ c.loop-text.text.items ++ take c.in-Ok.count c.read.new.buf = search rules in
+    let longer : vec_len c.extend_from_slice.new.self ≡ vec_len c.loop-text.text + length (take c.in-Ok.count c.read.new.buf) = search rules in
+    record {
+      within = omega (arith, c.in-Ok.ensures.bound, longer, length-take c.min-wanted.result c.deref_mut.result.now, length-take c.in-Ok.count c.read.new.buf);
+      room = omega arith;
+      read = λ tells. rw added (more _ _ _ _ _ (c.loop-text.invariant.read tells) (c.in-Ok.ensures.bytes tells).split);
+      later = omega (arith, c.in-Ok.ensures.cause.later);
+    }
 
-pub returns-in-Err-extend_from_slice-clause-reads : goal.returns-in-Err-extend_from_slice-clause-reads
-returns-in-Err-extend_from_slice-clause-reads g c tells = (
-  length c.loop-text.text.items + c.in-Ok-read.count,
-  omega (arith, c.in-Ok-read.ensures.bound, length-take c.min-wanted.result c.deref_mut.result.now),
-  past _ _ _ _ _ (more _ _ _ _ _ (c.loop-text.invariant.read tells) (c.in-Ok-read.ensures.bytes tells).split) (c.in-Ok-read.ensures.bytes tells).count,
+pub returns-in_err-map_err-in-Ok-clause-reads : goal.returns-in_err-map_err-in-Ok-clause-reads
+returns-in_err-map_err-in-Ok-clause-reads g c tells = (
+  length c.loop-text.text.items + c.in-Ok.count,
+  omega (arith, c.in-Ok.ensures.bound, length-take c.min-wanted.result c.deref_mut.result.now),
+  past _ _ _ _ _ (more _ _ _ _ _ (c.loop-text.invariant.read tells) (c.in-Ok.ensures.bytes tells).split) (c.in-Ok.ensures.bytes tells).count,
 )
