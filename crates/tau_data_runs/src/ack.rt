@@ -1,64 +1,72 @@
+use crate::vectors::vector;
+use std::process::Abort;
 use tau_ack::{Pending, Waiting};
 use tau_base::Lv;
+
+/// Puts a call last, where room was made for it.
+fn put(rt: &impl Abort, pending: &mut Pending, number: u64, parts: &[u64]) {
+    assert_eq!(rt; pending.reserve(), Ok(()));
+    pending.put(number, vector(rt, parts));
+}
+
+/// The same, with a vector that is lent.
+fn put_lent(rt: &impl Abort, pending: &mut Pending, number: u64, lv: &Lv) {
+    assert_eq!(rt; pending.reserve(), Ok(()));
+    pending.put_from(number, lv);
+}
+
+/// What is persisted covers this call first; 0 stands for none.
+fn takes(rt: &impl Abort, pending: &mut Pending, plv: &[u64], number: u64, parts: &[u64]) {
+    let waiting = Waiting {
+        number,
+        lv: vector(rt, parts),
+    };
+    let wanted = if number == 0 { None } else { Some(waiting) };
+    assert_eq!(rt; pending.take_covered(&vector(rt, plv)), wanted);
+}
 
 // Calls with the vectors (53,0), (53,61) and (0,40): what is persisted decides, and not the order of the calls.
 #[test]
 fn takes_covered_calls_in_order(rt: HostRuntime) {
-    let first = Lv::zero(2).with(0, 53);
-    let second = first.with(1, 61);
-    let third = Lv::zero(2).with(1, 40);
     let mut pending = Pending::new(rt.alloc());
     assert!(rt; pending.is_empty());
-    assert_eq!(rt; pending.reserve(), Ok(()));
-    pending.put(1, first);
-    assert_eq!(rt; pending.reserve(), Ok(()));
-    pending.put(2, second);
-    assert_eq!(rt; pending.reserve(), Ok(()));
-    pending.put(3, third);
+    put(&rt, &mut pending, 1, &[53, 0]);
+    put(&rt, &mut pending, 2, &[53, 61]);
+    put(&rt, &mut pending, 3, &[0, 40]);
     assert!(rt; !pending.is_empty());
-    let plv = first.with(1, 60);
-    assert_eq!(rt; pending.take_covered(&Lv::zero(2)), None);
-    assert_eq!(rt;
-        pending.take_covered(&plv),
-        Some(Waiting {
-            number: 1,
-            lv: first
-        })
-    );
-    assert_eq!(rt;
-        pending.take_covered(&plv),
-        Some(Waiting {
-            number: 3,
-            lv: third
-        })
-    );
-    assert_eq!(rt; pending.take_covered(&plv), None);
-    assert_eq!(rt;
-        pending.take_covered(&second),
-        Some(Waiting {
-            number: 2,
-            lv: second
-        })
-    );
+    // What is persisted, the number of the call that is taken, and its vector.
+    let rows = [
+        ([0u64, 0], 0u64, [0u64, 0]),
+        ([53, 60], 1, [53, 0]),
+        ([53, 60], 3, [0, 40]),
+        ([53, 60], 0, [0, 0]),
+        ([53, 61], 2, [53, 61]),
+    ];
+    for (plv, number, parts) in rows {
+        takes(&rt, &mut pending, &plv, number, &parts);
+    }
     assert!(rt; pending.is_empty());
-    assert_eq!(rt; pending.take_covered(&second), None);
+    takes(&rt, &mut pending, &[53, 61], 0, &[0, 0]);
+}
+
+/// Whether what is persisted covers a call, which is put into the place then.
+fn takes_into(pending: &mut Pending, plv: &Lv, place: &mut Waiting) -> bool {
+    pending.take_covered_into(plv, place)
 }
 
 // The same calls with vectors that are lent, each taken into its place.
 #[test]
 fn takes_covered_calls_into_a_place(rt: HostRuntime) {
-    let first = Lv::zero(2).with(0, 53);
-    let second = first.with(1, 61);
+    let first = vector(&rt, &[53, 0]);
+    let second = vector(&rt, &[53, 61]);
     let mut pending = Pending::new(rt.alloc());
-    assert_eq!(rt; pending.reserve(), Ok(()));
-    pending.put_from(1, &second);
-    assert_eq!(rt; pending.reserve(), Ok(()));
-    pending.put_from(2, &first);
+    put_lent(&rt, &mut pending, 1, &second);
+    put_lent(&rt, &mut pending, 2, &first);
     let mut taken = Waiting {
         number: 0,
-        lv: Lv::zero(2),
+        lv: vector(&rt, &[0, 0]),
     };
-    assert!(rt; pending.take_covered_into(&first, &mut taken));
+    assert!(rt; takes_into(&mut pending, &first, &mut taken));
     assert_eq!(rt;
         taken,
         Waiting {
@@ -66,9 +74,9 @@ fn takes_covered_calls_into_a_place(rt: HostRuntime) {
             lv: first
         }
     );
-    assert!(rt; !pending.take_covered_into(&first, &mut taken));
+    assert!(rt; !takes_into(&mut pending, &first, &mut taken));
     assert_eq!(rt; taken.number, 2);
-    assert!(rt; pending.take_covered_into(&second, &mut taken));
+    assert!(rt; takes_into(&mut pending, &second, &mut taken));
     assert_eq!(rt; taken.number, 1);
     assert!(rt; pending.is_empty());
 }

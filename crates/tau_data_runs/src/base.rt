@@ -1,6 +1,12 @@
+use crate::vectors::vector;
 use arrayvec::ArrayVec;
+use std::alloc::Global;
+use std::process::Abort;
 use std::test::*;
-use tau_base::{Call, Calls, KeptCall, Key, Listed, Lv, Name, Text64, Value, shard_of};
+use tau_base::{
+    Call, Calls, KeptCall, Key, Listed, Lv, LvList, MAX_LSN, Name, Text64, Value, shard_of,
+    stream_of, worker_of,
+};
 
 fn key(table: u16, row: i64) -> Key {
     Key { table, row }
@@ -29,51 +35,103 @@ fn shards_of_keys(rt: HostRuntime) {
 }
 
 #[test]
-fn vectors_join_and_cover(rt: HostRuntime) {
+fn vectors_have_their_positions(rt: HostRuntime) {
     let zero = Lv::zero(3);
     assert_eq!(rt; zero.width(), 3);
     let a = zero.with(0, 53);
-    let mut b = zero.with(2, 61);
     assert_eq!(rt; a.get(0), 53);
-    assert!(rt; !a.covers(&b));
     assert_eq!(rt; a.position(5), 0);
-    assert!(rt; a.join(&Lv::zero(5)) == Lv::zero(5).with(0, 53));
+}
+
+/// Whether two vectors join to this one.
+fn join_to(rt: &impl Abort, a: &[u64], b: &[u64], both: &[u64]) -> bool {
+    vector(rt, a).join(&vector(rt, b)) == vector(rt, both)
+}
+
+/// The middle one of three positions is this.
+fn has_middle(rt: &impl Abort, lv: &Lv, position: u64) {
+    assert!(rt; 1 < lv.width());
+    assert_eq!(rt; lv.get(1), position);
+}
+
+fn set_middle(rt: &impl Abort, lv: &mut Lv, position: u64) {
+    assert!(rt; 1 < lv.width() && position < MAX_LSN);
+    lv.set(1, position);
+}
+
+#[test]
+fn vectors_join_and_cover(rt: HostRuntime) {
+    let a = vector(&rt, &[53, 0, 0]);
+    let mut b = vector(&rt, &[0, 0, 61]);
+    assert!(rt; !a.covers(&b));
+    assert!(rt; join_to(&rt, &[53, 0, 0], &[0, 0, 0, 0, 0], &[53, 0, 0, 0, 0]));
     let both = a.join(&b);
     assert!(rt; both.covers(&a));
     assert!(rt; both.covers(&b));
-    assert_eq!(rt; both.get(1), 0);
+    has_middle(&rt, &both, 0);
     b.raise(&a);
     assert!(rt; b == both);
-    b.set(1, 13);
+    set_middle(&rt, &mut b, 13);
     assert!(rt; b != both);
+}
+
+/// This is a text, or none.
+fn is_text(rt: &impl Abort, bytes: &str, wanted: bool) {
+    let text = Text64::of(bytes);
+    assert_eq!(rt; text.is_some(), wanted);
+    if let Some(text) = text {
+        assert_eq!(rt; text.copied().as_str(), bytes);
+    }
+}
+
+/// This is a name, or none.
+fn is_name(rt: &impl Abort, bytes: &str, wanted: bool) {
+    let name = Name::of(bytes);
+    assert_eq!(rt; name.is_some(), wanted);
+    if let Some(name) = name {
+        assert_eq!(rt; name.copied().as_str(), bytes);
+    }
 }
 
 #[test]
 fn texts_and_names_have_their_limits(rt: HostRuntime) {
     let xs = "xxxxxxxxxxxxxxxxxxxxxxxxxxxxxxxxxxxxxxxxxxxxxxxxxxxxxxxxxxxxxxxx";
     assert_eq!(rt; xs.len(), 64);
-    let text = Text64::of(xs).unwrap();
-    assert_eq!(rt; text.copied().as_str(), xs);
-    assert!(rt;
-        Text64::of("xxxxxxxxxxxxxxxxxxxxxxxxxxxxxxxxxxxxxxxxxxxxxxxxxxxxxxxxxxxxxxxxx").is_none()
+    is_text(&rt, xs, true);
+    is_text(
+        &rt,
+        "xxxxxxxxxxxxxxxxxxxxxxxxxxxxxxxxxxxxxxxxxxxxxxxxxxxxxxxxxxxxxxxxx",
+        false,
     );
-    assert_eq!(rt;
-        Name::of("abcdefghijklmnop").unwrap().copied().as_str(),
-        "abcdefghijklmnop"
-    );
-    assert!(rt; Name::of("abcdefghijklmnopq").is_none());
-    assert!(rt; Name::of("").is_none());
-    let value = Value::Text(text);
+    is_name(&rt, "abcdefghijklmnop", true);
+    is_name(&rt, "abcdefghijklmnopq", false);
+    is_name(&rt, "", false);
+}
+
+/// A value of this text.
+fn text(bytes: &str) -> Result<Value, Fail> {
+    Ok(Value::Text(Text64::of(bytes).ok_or("it fits")?))
+}
+
+#[test]
+fn values_are_the_same_or_not(rt: HostRuntime) -> Result<(), Fail> {
+    let value = text("xxxxxxxxxxxxxxxxxxxxxxxxxxxxxxxxxxxxxxxxxxxxxxxxxxxxxxxxxxxxxxxx")?;
     assert!(rt; value.copied().is_same(&value));
     assert!(rt; !value.is_same(&Value::Absent));
     assert!(rt; !Value::Int(0).is_same(&Value::Absent));
+    Ok(())
+}
+
+fn push(list: &mut Listed<u64>, number: u64) -> Result<(), Fail> {
+    list.push(number).ok().ok_or("there is room")?;
+    Ok(())
 }
 
 #[test]
 fn lists_keep_their_elements(rt: HostRuntime) -> Result<(), Fail> {
     let mut list = Listed::new(rt.alloc());
-    list.push(7u64).ok().ok_or("there is room")?;
-    list.push(9).ok().ok_or("there is room")?;
+    push(&mut list, 7)?;
+    push(&mut list, 9)?;
     assert_eq!(rt; list.len(), 2);
     assert_eq!(rt; list.as_slice(), [7, 9].as_slice());
     let copy = list.clone().ok().ok_or("there is room")?;
@@ -101,45 +159,133 @@ fn call(proc: u16, args: &[i64]) -> Call {
     call
 }
 
+/// The call with one more argument.
+fn with(mut call: Call, value: Value) -> Call {
+    let _ = call.args.try_push(value);
+    call
+}
+
+/// The call at this index comes back as it was put, into a place and as a value.
+fn comes_back(rt: &impl Abort, calls: &Calls, i: usize, put: &Call, place: &mut Call) {
+    assert!(rt; i < calls.len());
+    calls.put_into(i, place);
+    is_call(rt, place, put);
+    is_call(rt, &calls.call_at(i).copied(), put);
+}
+
+fn is_call(rt: &impl Abort, call: &Call, put: &Call) {
+    assert_eq!(rt; call.proc, put.proc);
+    assert!(rt; call.args.as_slice() == put.args.as_slice());
+}
+
+/// A call that is kept alone comes back as it was put.
+fn keeps(rt: &impl Abort, alloc: Global, put: &Call) -> Result<(), Fail> {
+    let kept = KeptCall::of(alloc, put).ok().ok_or("there is room")?;
+    is_call(rt, &kept.call(), put);
+    Ok(())
+}
+
+fn push_call(calls: &mut Calls, call: &Call) -> Result<(), Fail> {
+    calls.push(call).ok().ok_or("there is room")?;
+    Ok(())
+}
+
+fn copied(rt: &impl Abort, alloc: Global, calls: &Calls) -> Result<Calls, Fail> {
+    let copy = calls.copied(alloc).ok().ok_or("there is room")?;
+    assert_eq!(rt; copy.len(), calls.len());
+    Ok(copy)
+}
+
+/// Calls of few whole numbers, and calls with more arguments or others.
+fn calls_of_each_kind() -> Result<[Call; 6], Fail> {
+    let five = text("five")?;
+    Ok([
+        call(1, &[0, 65, -3]),
+        call(2, &[3, i64::MIN]),
+        call(6, &[]),
+        with(call(0, &[0, 5]), five),
+        with(call(4, &[]), Value::Absent),
+        call(5, &[1, 2, 3, 4, 5, 6, 7, -8]),
+    ])
+}
+
 #[test]
 fn calls_come_back_as_they_were_put(rt: HostRuntime) -> Result<(), Fail> {
+    let put = calls_of_each_kind()?;
     let mut calls = Calls::new(rt.alloc());
-    let mut text = call(0, &[0, 5]);
-    let five = Text64::of("five").ok_or("it fits")?;
-    let _ = text.args.try_push(Value::Text(five));
-    let mut absent = call(4, &[]);
-    let _ = absent.args.try_push(Value::Absent);
-    let many = call(5, &[1, 2, 3, 4, 5, 6, 7, -8]);
-    let put = [
-        &call(1, &[0, 65, -3]),
-        &call(2, &[3, i64::MIN]),
-        &call(6, &[]),
-        &text,
-        &absent,
-        &many,
-    ];
-    for call in put {
-        calls.push(call).ok().ok_or("there is room")?;
+    for call in &put {
+        push_call(&mut calls, call)?;
     }
-    let copy = calls.copied(rt.alloc()).ok().ok_or("there is room")?;
-    assert_eq!(rt; copy.len(), 6);
+    assert_eq!(rt; calls.len(), 6);
+    let copy = copied(&rt, rt.alloc(), &calls)?;
     let mut place = call(9, &[9, 9, 9, 9]);
     for (i, call) in put.iter().enumerate() {
-        copy.put_into(i, &mut place);
-        assert_eq!(rt; place.proc, call.proc);
-        assert!(rt; place.args.as_slice() == call.args.as_slice(), "call {i}");
-        let again = copy.call_at(i).copied();
-        let kept = KeptCall::of(rt.alloc(), &again)
-            .ok()
-            .ok_or("there is room")?;
-        assert!(rt;
-            kept.call().args.as_slice() == call.args.as_slice(),
-            "call {i} kept"
-        );
-        assert!(rt;
-            again.args.as_slice() == place.args.as_slice(),
-            "call {i} again"
-        );
+        comes_back(&rt, &copy, i, call, &mut place);
+        keeps(&rt, rt.alloc(), call)?;
     }
     Ok(())
+}
+
+/// The call at this index is this one.
+fn is_at(rt: &impl Abort, calls: &Calls, i: usize, put: &Call) {
+    assert!(rt; i < calls.len());
+    is_call(rt, &calls.at(i).call(), put);
+}
+
+// The second call of three, of few whole numbers, and the third, with a text.
+#[test]
+fn calls_are_found_by_their_place(rt: HostRuntime) -> Result<(), Fail> {
+    let mut calls = Calls::new(rt.alloc());
+    push_call(&mut calls, &call(6, &[]))?;
+    push_call(&mut calls, &call(1, &[0, 65, -3]))?;
+    push_call(&mut calls, &with(call(0, &[0, 5]), text("five")?))?;
+    is_at(&rt, &calls, 1, &call(1, &[0, 65, -3]));
+    is_at(&rt, &calls, 2, &with(call(0, &[0, 5]), text("five")?));
+    Ok(())
+}
+
+/// The vector (53,61), and behind it (0,0,77) and (1,2) of another list.
+fn of_two_lists(rt: &impl Abort, alloc: Global) -> Result<LvList, Fail> {
+    let mut list = LvList::new(alloc);
+    list.reserve(3)?;
+    list.push_reserved(&vector(rt, &[53, 61]));
+    let mut others = LvList::new(alloc);
+    others.reserve(2)?;
+    others.push_reserved(&vector(rt, &[0, 0, 77]));
+    others.push_reserved(&vector(rt, &[1, 2]));
+    list.append(others);
+    Ok(list)
+}
+
+/// The vector at this index has these positions, also where it is put into a place.
+fn is_vector(rt: &impl Abort, list: &LvList, i: usize, parts: &[u64]) {
+    assert!(rt; i < list.len());
+    assert_eq!(rt; list.get(i), parts);
+    let mut place = Lv::zero(16);
+    list.put_into(i, &mut place);
+    assert_eq!(rt; place.as_slice(), parts);
+}
+
+// Vectors of several widths, from two lists.
+#[test]
+fn vectors_are_kept_flat(rt: HostRuntime) -> Result<(), Fail> {
+    let list = of_two_lists(&rt, rt.alloc())?;
+    assert_eq!(rt; list.len(), 3);
+    is_vector(&rt, &list, 0, &[53, 61]);
+    is_vector(&rt, &list, 1, &[0, 0, 77]);
+    is_vector(&rt, &list, 2, &[1, 2]);
+    Ok(())
+}
+
+// Calls 1 to 7 over 3 workers, and 5 workers over 2 streams.
+#[test]
+fn calls_and_records_are_dealt_in_turn(rt: HostRuntime) {
+    let workers = [0usize, 1, 2, 0, 1, 2, 0];
+    for (before, worker) in workers.iter().enumerate() {
+        assert_eq!(rt; worker_of(before as u64 + 1, 3), *worker);
+    }
+    let streams = [0usize, 1, 0, 1, 0];
+    for (worker, stream) in streams.iter().enumerate() {
+        assert_eq!(rt; stream_of(worker, 2), *stream);
+    }
 }

@@ -1,4 +1,5 @@
 use std::alloc::Global;
+use std::process::Abort;
 use std::test::*;
 use tau_base::MAX_BODY;
 use tau_block::{ImageRefusal, append_tail, contents_of, header, open_gate};
@@ -25,14 +26,62 @@ fn found(alloc: Global, image: &[u8], j: u16) -> (u16, u64, usize, u8) {
     }
 }
 
+/// The first bytes of an image.
+fn first<'a>(rt: &impl Abort, image: &'a [u8], size: usize) -> &'a [u8] {
+    assert!(rt; size <= image.len());
+    &image[..size]
+}
+
+/// The bytes from a place up to another.
+fn part<'a>(rt: &impl Abort, image: &'a [u8], from: usize, past: usize) -> &'a [u8] {
+    assert!(rt; from <= past && past <= image.len());
+    &image[from..past]
+}
+
+/// Puts a block behind a closed gate.
+fn append_closed(rt: &impl Abort, image: &mut Vec<u8>, body: &[u8]) -> Result<(), Fail> {
+    assert!(rt; 1 <= body.len() && body.len() <= MAX_BODY);
+    append_tail(image, body)?;
+    Ok(())
+}
+
+fn open(rt: &impl Abort, image: &mut [u8], gate: usize) {
+    assert!(rt; gate < image.len());
+    image[gate] = open_gate()[0];
+}
+
+/// Puts a block behind the closed gate at `gate`, and then opens that gate.
+fn append(rt: &impl Abort, image: &mut Vec<u8>, gate: usize, body: &[u8]) -> Result<(), Fail> {
+    append_closed(rt, image, body)?;
+    open(rt, image.as_mut_slice(), gate);
+    Ok(())
+}
+
+/// Changes bytes of an image.
+fn change(rt: &impl Abort, image: &mut [u8], changes: &[(usize, u8)]) {
+    for (at, byte) in changes {
+        assert!(rt; *at < image.len());
+        image[*at] = *byte;
+    }
+}
+
+/// What is found in the log with these bytes changed.
+fn found_changed(
+    rt: &impl Abort,
+    alloc: Global,
+    changes: &[(usize, u8)],
+    j: u16,
+) -> (u16, u64, usize, u8) {
+    let mut image = LOG;
+    change(rt, &mut image, changes);
+    found(alloc, &image, j)
+}
+
 #[test]
 fn images_are_written(rt: HostRuntime) -> Result<(), Fail> {
-    let alloc = rt.alloc();
-    let mut image = header(1, 0).to_vec(alloc)?;
-    append_tail(&mut image, &LOG[21..34])?;
-    image[16] = open_gate()[0];
-    append_tail(&mut image, &LOG[39..79])?;
-    image[34] = open_gate()[0];
+    let mut image = header(1, 0).to_vec(rt.alloc())?;
+    append(&rt, &mut image, 16, part(&rt, &LOG, 21, 34))?;
+    append(&rt, &mut image, 34, part(&rt, &LOG, 39, 79))?;
     assert_eq!(rt; image.as_slice(), LOG.as_slice());
     assert_eq!(rt;
         header(2, 1),
@@ -43,114 +92,122 @@ fn images_are_written(rt: HostRuntime) -> Result<(), Fail> {
     Ok(())
 }
 
+/// The bytes of the content are those of both blocks of the log.
+fn are_both(rt: &impl Abort, bytes: &[u8], log: &[u8]) {
+    assert_eq!(rt; bytes.len(), 53);
+    assert_eq!(rt; part(rt, bytes, 0, 13), part(rt, log, 21, 34));
+    assert_eq!(rt; part(rt, bytes, 13, 53), part(rt, log, 39, 79));
+}
+
 #[test]
-fn gates_end_the_content(rt: HostRuntime) -> Result<(), Fail> {
-    let alloc = rt.alloc();
-    let content = contents_of(alloc, &LOG, 0)?;
+fn closed_gates_end_the_content(rt: HostRuntime) -> Result<(), Fail> {
+    let content = contents_of(rt.alloc(), &LOG, 0)?;
     assert_eq!(rt; content.count, Some(1));
     assert_eq!(rt; content.gate_at, 79);
-    assert_eq!(rt; content.bytes.len(), 53);
-    assert_eq!(rt; &content.bytes.as_slice()[..13], &LOG[21..34]);
-    assert_eq!(rt; &content.bytes.as_slice()[13..], &LOG[39..79]);
+    are_both(&rt, content.bytes.as_slice(), &LOG);
+    Ok(())
+}
+
+#[test]
+fn gates_end_the_content(rt: HostRuntime) {
+    let alloc = rt.alloc();
     for gate in [0u8, 2, 7, 255] {
-        let mut image = LOG;
-        image[34] = gate;
-        assert_eq!(rt; found(alloc, &image, 0), (1, 34, 13, 0), "gate {gate}");
+        let seen = found_changed(&rt, alloc, &[(34, gate)], 0);
+        assert_eq!(rt; seen, (1, 34, 13, 0), "gate {gate}");
     }
     let mut image = LOG;
     image[34] = 0;
     image[35..].fill(1);
     assert_eq!(rt; found(alloc, &image, 0), (1, 34, 13, 0));
-    Ok(())
+}
+
+/// Nothing but the first gate is found in these bytes.
+fn are_unborn(rt: &impl Abort, alloc: Global, image: &[u8], j: u16) {
+    let size = image.len();
+    assert_eq!(rt; found(alloc, image, j), (0, 16, 0, 0), "{size} bytes");
 }
 
 #[test]
 fn short_images_are_unborn(rt: HostRuntime) {
     let alloc = rt.alloc();
     for size in 0usize..18 {
-        assert_eq!(rt;
-            found(alloc, &LOG[..size], 0),
-            (0, 16, 0, 0),
-            "{size} bytes"
-        );
-        assert_eq!(rt;
-            found(alloc, &[1u8; 17][..size.min(17)], 5),
-            (0, 16, 0, 0),
-            "{size} bytes"
-        );
+        are_unborn(&rt, alloc, first(&rt, &LOG, size), 0);
+        are_unborn(&rt, alloc, first(&rt, &[1u8; 17], size.min(17)), 5);
     }
     assert_eq!(rt; found(alloc, &[0u8; 18], 0), (0, 0, 0, 1));
 }
 
+/// Where a byte of the log is changed, to what, and the number of the cause.
+const CHANGES: [(usize, u8, u8); 13] = [
+    (0, 0, 1),
+    (11, 50, 1),
+    (12, 1, 2),
+    (13, 0, 2),
+    (13, 17, 2),
+    (14, 1, 3),
+    (15, 1, 3),
+    (17, 1, 4),
+    (18, 1, 4),
+    (20, 0, 4),
+    (20, 63, 4),
+    (38, 41, 4),
+    (79, 1, 4),
+];
+
 #[test]
 fn causes_in_their_order(rt: HostRuntime) {
     let alloc = rt.alloc();
-    // Where a byte is changed, to what, and the number of the cause.
-    let changes = [
-        (0usize, 0u8, 1u8),
-        (11, 50, 1),
-        (12, 1, 2),
-        (13, 0, 2),
-        (13, 17, 2),
-        (14, 1, 3),
-        (15, 1, 3),
-        (17, 1, 4),
-        (18, 1, 4),
-        (20, 0, 4),
-        (20, 63, 4),
-        (38, 41, 4),
-        (79, 1, 4),
-    ];
-    for (at, byte, cause) in changes {
-        let mut image = LOG;
-        assert!(rt; at < image.len());
-        image[at] = byte;
-        assert_eq!(rt;
-            found(alloc, &image, 0),
-            (0, 0, 0, cause),
-            "byte {at} set to {byte}"
-        );
+    for (at, byte, cause) in CHANGES {
+        let seen = found_changed(&rt, alloc, &[(at, byte)], 0);
+        assert_eq!(rt; seen, (0, 0, 0, cause), "byte {at} set to {byte}");
     }
     for size in [18usize, 20, 21, 33, 34, 39, 78, 79] {
-        assert_eq!(rt;
-            found(alloc, &LOG[..size], 0),
-            (0, 0, 0, 4),
-            "cut to {size} bytes"
-        );
+        let seen = found(alloc, first(&rt, &LOG, size), 0);
+        assert_eq!(rt; seen, (0, 0, 0, 4), "cut to {size} bytes");
     }
-    let mut image = LOG;
-    image[13] = 16;
-    image[15] = 15;
-    assert_eq!(rt; found(alloc, &image, 15), (16, 79, 53, 0));
-    assert_eq!(rt; found(alloc, &image, 14), (0, 0, 0, 3));
-    image[13] = 15;
-    assert_eq!(rt; found(alloc, &image, 15), (0, 0, 0, 3));
-    image[13] = 0;
-    assert_eq!(rt; found(alloc, &image, 0), (0, 0, 0, 2));
-    image[0] = 0;
-    assert_eq!(rt; found(alloc, &image, 0), (0, 0, 0, 1));
+}
+
+// Of several causes the first one that is looked for is told. Bytes 13 and 15 are the number of streams and the stream.
+#[test]
+fn the_first_of_several_causes(rt: HostRuntime) {
+    let alloc = rt.alloc();
+    let rows = [
+        (
+            [(13usize, 16u8), (15, 15), (15, 15)],
+            15u16,
+            (16, 79, 53, 0),
+        ),
+        ([(13, 16), (15, 15), (15, 15)], 14, (0, 0, 0, 3)),
+        ([(13, 15), (15, 15), (15, 15)], 15, (0, 0, 0, 3)),
+        ([(13, 0), (15, 15), (15, 15)], 0, (0, 0, 0, 2)),
+        ([(13, 0), (15, 15), (0, 0)], 0, (0, 0, 0, 1)),
+    ];
+    for (changes, j, wanted) in rows {
+        assert_eq!(rt; found_changed(&rt, alloc, &changes, j), wanted);
+    }
+}
+
+/// The image of stream 2 of three with this body, before its gate is opened and after.
+fn found_both(
+    rt: &impl Abort,
+    alloc: Global,
+    body: &[u8],
+) -> Result<[(u16, u64, usize, u8); 2], Fail> {
+    let mut image = header(3, 2).to_vec(alloc)?;
+    append_closed(rt, &mut image, body)?;
+    let closed = found(alloc, image.as_slice(), 2);
+    open(rt, image.as_mut_slice(), 16);
+    Ok([closed, found(alloc, image.as_slice(), 2)])
 }
 
 #[test]
 fn bodies_of_all_sizes(rt: HostRuntime) -> Result<(), Fail> {
-    let alloc = rt.alloc();
     for size in [1usize, MAX_BODY] {
-        let filled = vec![in alloc; 9; size]?;
-        let body = filled.as_slice();
-        let mut image = header(3, 2).to_vec(alloc)?;
-        assert!(rt; 1 <= body.len());
-        assert!(rt; body.len() <= MAX_BODY);
-        append_tail(&mut image, body)?;
+        let body = vec![in rt.alloc(); 9; size]?;
         assert_eq!(rt;
-            found(alloc, &image, 2),
-            (3, 16, 0, 0),
-            "closed, {size} bytes"
-        );
-        image[16] = open_gate()[0];
-        assert_eq!(rt;
-            found(alloc, &image, 2),
-            (3, 21 + size as u64, size, 0),
-            "open, {size} bytes"
+            found_both(&rt, rt.alloc(), body.as_slice())?,
+            [(3, 16, 0, 0), (3, 21 + size as u64, size, 0)],
+            "{size} bytes, closed and open"
         );
     }
     Ok(())

@@ -1,47 +1,78 @@
+use crate::vectors::vector;
+use std::alloc::Global;
+use std::process::Abort;
 use tau_base::Lv;
 use tau_epoch::{EpochRefusal, Epochs};
+
+/// An epoch is made known.
+fn adds(rt: &impl Abort, epochs: &mut Epochs, number: u32, parts: &[u64]) {
+    assert_eq!(rt; epochs.add(number, vector(rt, parts)), Ok(()));
+}
+
+/// The least epoch above this number has this vector.
+fn has_above(rt: &impl Abort, epochs: &Epochs, number: u32, parts: &[u64]) {
+    assert_eq!(rt; epochs.above(number), Some(&vector(rt, parts)));
+}
+
+/// A record of this epoch is judged by this vector, where the streams have these lengths.
+fn judges(rt: &impl Abort, epochs: &Epochs, lengths: &Lv, number: u32, parts: &[u64]) {
+    assert_eq!(rt; epochs.judging(lengths, number), vector(rt, parts));
+}
 
 // Streams of 94 and 86 bytes, in which a second run found 13 and 61 bytes. A record of the first run that asks for 53 bytes
 // of stream 0 is left out for good; what the second run wrote is judged against the lengths.
 #[test]
 fn judges_what_a_second_run_found(rt: HostRuntime) {
-    let lengths = Lv::zero(2).with(0, 94).with(1, 86);
-    let found = Lv::zero(2).with(0, 13).with(1, 61);
-    let cut_off = Lv::zero(2).with(0, 53);
+    let lengths = vector(&rt, &[94, 86]);
+    let cut_off = vector(&rt, &[53, 0]);
     let mut epochs = Epochs::new(rt.alloc());
     assert!(rt; epochs.is_empty());
     assert_eq!(rt; epochs.largest(), 0);
     assert!(rt; epochs.judging(&lengths, 0).covers(&cut_off));
-    assert_eq!(rt; epochs.add(1, found), Ok(()));
+    adds(&rt, &mut epochs, 1, &[13, 61]);
     assert!(rt; !epochs.is_empty());
-    assert_eq!(rt; epochs.judging(&lengths, 0), found);
+    judges(&rt, &epochs, &lengths, 0, &[13, 61]);
     assert!(rt; !epochs.judging(&lengths, 0).covers(&cut_off));
-    assert_eq!(rt; epochs.judging(&lengths, 1), lengths);
+    judges(&rt, &epochs, &lengths, 1, &[94, 86]);
 }
 
-// Epochs 7, 2 and 4 are made known in this order, 4 twice, with the vectors (60,90), (30,0) and (30,90). Then the streams
-// have 50 and 80 bytes.
+// Epochs 7, 2 and 4 are made known in this order, 4 twice, with the vectors (60,90), (30,0) and (30,90).
+fn with_three(rt: &impl Abort, alloc: Global) -> Epochs {
+    let mut epochs = Epochs::new(alloc);
+    assert_eq!(rt; epochs.last(), None);
+    adds(rt, &mut epochs, 7, &[60, 90]);
+    adds(rt, &mut epochs, 2, &[30, 0]);
+    adds(rt, &mut epochs, 4, &[30, 90]);
+    adds(rt, &mut epochs, 4, &[30, 90]);
+    epochs
+}
+
+/// An epoch is refused, since it is known with another vector.
+fn differs(rt: &impl Abort, epochs: &mut Epochs, number: u32, parts: &[u64], known: &[u64]) {
+    let refused = EpochRefusal::Differs(vector(rt, known));
+    assert_eq!(rt; epochs.add(number, vector(rt, parts)), Err(refused));
+}
+
 #[test]
 fn finds_the_least_epoch_above(rt: HostRuntime) {
-    let of_two = Lv::zero(2).with(0, 30);
-    let of_four = of_two.with(1, 90);
-    let of_seven = of_four.with(0, 60);
-    let mut epochs = Epochs::new(rt.alloc());
-    assert_eq!(rt; epochs.last(), None);
-    assert_eq!(rt; epochs.add(7, of_seven), Ok(()));
-    assert_eq!(rt; epochs.add(2, of_two), Ok(()));
-    assert_eq!(rt; epochs.add(4, of_four), Ok(()));
-    assert_eq!(rt; epochs.add(4, of_four), Ok(()));
-    assert_eq!(rt; epochs.add(4, of_two), Err(EpochRefusal::Differs(of_four)));
+    let mut epochs = with_three(&rt, rt.alloc());
+    differs(&rt, &mut epochs, 4, &[30, 0], &[30, 90]);
     assert_eq!(rt; epochs.len(), 3);
     assert_eq!(rt; epochs.last(), Some(7));
-    assert_eq!(rt; epochs.above(1), Some(&of_two));
-    assert_eq!(rt; epochs.above(2), Some(&of_four));
-    assert_eq!(rt; epochs.above(4), Some(&of_seven));
-    assert_eq!(rt; epochs.above(7), None);
-    let lengths = Lv::zero(2).with(0, 50).with(1, 80);
-    assert_eq!(rt; epochs.judging(&lengths, 0), of_two);
-    assert_eq!(rt; epochs.judging(&lengths, 3), of_two.with(1, 80));
-    assert_eq!(rt; epochs.judging(&lengths, 4), lengths);
-    assert_eq!(rt; epochs.judging(&lengths, 7), lengths);
+    has_above(&rt, &epochs, 1, &[30, 0]);
+    has_above(&rt, &epochs, 2, &[30, 90]);
+    has_above(&rt, &epochs, 4, &[60, 90]);
+    assert!(rt; epochs.above(7).is_none());
+}
+
+// The same epochs, where the streams have 50 and 80 bytes.
+#[test]
+fn judges_by_the_least_epoch_above(rt: HostRuntime) {
+    let mut epochs = with_three(&rt, rt.alloc());
+    differs(&rt, &mut epochs, 4, &[30, 0], &[30, 90]);
+    let lengths = vector(&rt, &[50, 80]);
+    judges(&rt, &epochs, &lengths, 0, &[30, 0]);
+    judges(&rt, &epochs, &lengths, 3, &[30, 80]);
+    judges(&rt, &epochs, &lengths, 4, &[50, 80]);
+    judges(&rt, &epochs, &lengths, 7, &[50, 80]);
 }

@@ -17,3 +17,5 @@ mod outbox;
 mod proc;
 #[cfg(test)]
 mod record;
+#[cfg(test)]
+mod vectors;

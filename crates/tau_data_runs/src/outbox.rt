@@ -1,21 +1,40 @@
+use std::alloc::Global;
+use std::process::Abort;
 use tau_outbox::Outbox;
+
+/// Pieces at 13, 15 and 20.
+fn posted(rt: &impl Abort, alloc: Global) -> Outbox {
+    let mut outbox = Outbox::new(alloc);
+    assert_eq!(rt; outbox.reserve(), Ok(()));
+    outbox.post(13, vec![in alloc; 1, 2].expect(rt, "memory"));
+    assert_eq!(rt; outbox.reserve(), Ok(()));
+    outbox.post(15, vec![in alloc; 3].expect(rt, "memory"));
+    assert_eq!(rt; outbox.reserve(), Ok(()));
+    outbox.post(20, vec![in alloc; 4].expect(rt, "memory"));
+    outbox
+}
+
+/// Gathering at a place ends at `past`, and the body holds these bytes then.
+fn gathers(
+    rt: &impl Abort,
+    outbox: &mut Outbox,
+    body: &mut Vec<u8>,
+    next: u64,
+    past: u64,
+    bytes: &[u8],
+) {
+    assert_eq!(rt; outbox.gather_into(next, body), Ok(past));
+    assert_eq!(rt; body.as_slice(), bytes);
+}
 
 // Pieces at 13, 15 and 20: nothing is gathered past the hole from 16 to 20.
 #[test]
 fn gathers_up_to_a_hole(rt: HostRuntime) {
-    let mut outbox = Outbox::new(rt.alloc());
+    let mut outbox = posted(&rt, rt.alloc());
     let mut body = Vec::new(rt.alloc());
-    assert_eq!(rt; outbox.reserve(), Ok(()));
-    outbox.post(13, vec![in rt.alloc(); 1, 2].expect(&rt, "memory"));
-    assert_eq!(rt; outbox.reserve(), Ok(()));
-    outbox.post(15, vec![in rt.alloc(); 3].expect(&rt, "memory"));
-    assert_eq!(rt; outbox.reserve(), Ok(()));
-    outbox.post(20, vec![in rt.alloc(); 4].expect(&rt, "memory"));
-    assert_eq!(rt; outbox.gather_into(12, &mut body), Ok(12));
-    assert_eq!(rt; outbox.gather_into(13, &mut body), Ok(16));
-    assert_eq!(rt; body.as_slice(), [1, 2, 3].as_slice());
-    assert_eq!(rt; outbox.gather_into(20, &mut body), Ok(21));
-    assert_eq!(rt; body.as_slice(), [1, 2, 3, 4].as_slice());
+    gathers(&rt, &mut outbox, &mut body, 12, 12, &[]);
+    gathers(&rt, &mut outbox, &mut body, 13, 16, &[1, 2, 3]);
+    gathers(&rt, &mut outbox, &mut body, 20, 21, &[1, 2, 3, 4]);
     assert!(rt; !outbox.closed());
     outbox.close();
     assert!(rt; outbox.closed());

@@ -1,4 +1,5 @@
 //! What calls do, against values worked out by hand.
+use Word::{Absent, Number, Text};
 use arrayvec::ArrayVec;
 use std::alloc::Global;
 use std::process::Abort;
@@ -107,8 +108,25 @@ fn int(number: i64) -> Operand {
     Operand::Int(number)
 }
 
-fn text(bytes: &str) -> Result<Operand, Fail> {
-    Ok(Operand::Text(Text64::of(bytes).ok_or("long")?))
+/// The value of this text.
+fn text(bytes: &str) -> Result<Value, Fail> {
+    Ok(Value::Text(Text64::of(bytes).ok_or("long")?))
+}
+
+/// An operand in plain words, which own nothing.
+#[derive(Clone, Copy)]
+enum Word {
+    Number(i64),
+    Text(&'static str),
+    Absent,
+}
+
+fn operand(word: Word) -> Result<Operand, Fail> {
+    Ok(match word {
+        Number(number) => Operand::Int(number),
+        Text(bytes) => Operand::Text(Text64::of(bytes).ok_or("long")?),
+        Absent => Operand::Absent,
+    })
 }
 
 fn add(left: Operand, right: Operand) -> Step {
@@ -193,47 +211,98 @@ fn outcome(rt: &impl Abort, alloc: Global, step: &Step) -> Result<Reply, Fail> {
     Ok(run_steps(rt, alloc, &steps, &[], &[])?.reply)
 }
 
+/// After this step register 0 holds a number, or the step refuses.
+fn gives(rt: &impl Abort, alloc: Global, step: &Step, wanted: Option<i64>) -> Result<(), Fail> {
+    let reply = match wanted {
+        Some(number) => Reply::Ok(Value::Int(number)),
+        None => Reply::Refused(1),
+    };
+    assert_eq!(rt; outcome(rt, alloc, step)?, reply, "{step:?}");
+    Ok(())
+}
+
+/// Which step two operands make.
+#[derive(Clone, Copy)]
+enum Sum {
+    Add,
+    Sub,
+    Mul,
+    Min,
+    Max,
+    Cat,
+}
+
+fn step_of(sum: Sum, left: Word, right: Word) -> Result<Step, Fail> {
+    let left = operand(left)?;
+    let right = operand(right)?;
+    Ok(match sum {
+        Sum::Add => add(left, right),
+        Sum::Sub => sub(left, right),
+        Sum::Mul => mul(left, right),
+        Sum::Min => min(left, right),
+        Sum::Max => max(left, right),
+        Sum::Cat => cat(left, right),
+    })
+}
+
+/// Sums of numbers, at the ends of their range too.
+const SUMS: [(Sum, i64, i64, Option<i64>); 16] = [
+    (Sum::Add, 1, 2, Some(3)),
+    (Sum::Add, i64::MAX - 1, 1, Some(i64::MAX)),
+    (Sum::Add, i64::MAX, 1, None),
+    (Sum::Add, i64::MIN, -1, None),
+    (Sum::Sub, 5, 7, Some(-2)),
+    (Sum::Sub, i64::MIN, 0, Some(i64::MIN)),
+    (Sum::Sub, i64::MIN, 1, None),
+    (Sum::Sub, 0, i64::MIN, None),
+    (Sum::Mul, -1, i64::MAX, Some(-9_223_372_036_854_775_807)),
+    (Sum::Mul, i64::MIN, -1, None),
+    (
+        Sum::Mul,
+        3_037_000_499,
+        3_037_000_499,
+        Some(9_223_372_030_926_249_001),
+    ),
+    (Sum::Mul, 3_037_000_500, 3_037_000_500, None),
+    (Sum::Min, 2, -3, Some(-3)),
+    (Sum::Min, i64::MIN, i64::MAX, Some(i64::MIN)),
+    (Sum::Max, 2, -3, Some(2)),
+    (Sum::Max, i64::MIN, i64::MAX, Some(i64::MAX)),
+];
+
 #[test]
 fn arithmetic_refuses_outside_i64(rt: HostRuntime) -> Result<(), Fail> {
-    let alloc = rt.alloc();
-    let low = i64::MIN;
-    let high = i64::MAX;
-    let rows = [
-        (add(int(1), int(2)), Some(3)),
-        (add(int(high - 1), int(1)), Some(high)),
-        (add(int(high), int(1)), None),
-        (add(int(low), int(-1)), None),
-        (sub(int(5), int(7)), Some(-2)),
-        (sub(int(low), int(0)), Some(low)),
-        (sub(int(low), int(1)), None),
-        (sub(int(0), int(low)), None),
-        (mul(int(-1), int(high)), Some(-9_223_372_036_854_775_807)),
-        (mul(int(low), int(-1)), None),
-        (
-            mul(int(3_037_000_499), int(3_037_000_499)),
-            Some(9_223_372_030_926_249_001),
-        ),
-        (mul(int(3_037_000_500), int(3_037_000_500)), None),
-        (min(int(2), int(-3)), Some(-3)),
-        (min(int(low), int(high)), Some(low)),
-        (max(int(2), int(-3)), Some(2)),
-        (max(int(low), int(high)), Some(high)),
-        (add(text("1")?, int(1)), None),
-        (add(int(1), Operand::Absent), None),
-        (sub(Operand::Absent, int(1)), None),
-        (sub(int(1), text("1")?), None),
-        (mul(text("2")?, int(2)), None),
-        (mul(int(0), Operand::Absent), None),
-        (min(int(1), Operand::Absent), None),
-        (max(text("a")?, text("b")?), None),
-    ];
-    for (step, want) in &rows {
-        let reply = match want {
-            Some(number) => Reply::Ok(Value::Int(*number)),
-            None => Reply::Refused(1),
-        };
-        assert_eq!(rt; outcome(&rt, alloc, step)?, reply, "{step:?}");
+    for (sum, left, right, wanted) in SUMS {
+        let step = step_of(sum, Number(left), Number(right))?;
+        gives(&rt, rt.alloc(), &step, wanted)?;
     }
+    Ok(())
+}
+
+#[test]
+fn arithmetic_refuses_what_is_no_number(rt: HostRuntime) -> Result<(), Fail> {
+    let rows = [
+        (Sum::Add, Text("1"), Number(1)),
+        (Sum::Add, Number(1), Absent),
+        (Sum::Sub, Absent, Number(1)),
+        (Sum::Sub, Number(1), Text("1")),
+        (Sum::Mul, Text("2"), Number(2)),
+        (Sum::Mul, Number(0), Absent),
+        (Sum::Min, Number(1), Absent),
+        (Sum::Max, Text("a"), Text("b")),
+    ];
+    for (sum, left, right) in rows {
+        gives(&rt, rt.alloc(), &step_of(sum, left, right)?, None)?;
+    }
+    Ok(())
+}
+
+/// Two texts are joined to this one.
+fn joins(rt: &impl Abort, alloc: Global, left: &str, right: &str, whole: &str) -> Result<(), Fail> {
+    let left = Operand::Text(Text64::of(left).ok_or("long")?);
+    let right = Operand::Text(Text64::of(right).ok_or("long")?);
+    let fits = outcome(rt, alloc, &cat(left, right))?;
+    assert_eq!(rt; fits, Reply::Ok(text(whole)?));
     Ok(())
 }
 
@@ -242,70 +311,160 @@ fn joined_texts_have_at_most_64_bytes(rt: HostRuntime) -> Result<(), Fail> {
     let alloc = rt.alloc();
     let half = "0123456789abcdef0123456789abcdef";
     let whole = "0123456789abcdef0123456789abcdef0123456789abcdef0123456789abcdef";
-    let joined = Value::Text(Text64::of(whole).ok_or("long")?);
-    let fits = outcome(&rt, alloc, &cat(text(half)?, text(half)?))?;
-    assert_eq!(rt; fits, Reply::Ok(joined));
-    let past = outcome(&rt, alloc, &cat(text(whole)?, text("g")?))?;
-    assert_eq!(rt; past, Reply::Refused(1));
-    let number = outcome(&rt, alloc, &cat(text("a")?, int(1)))?;
-    assert_eq!(rt; number, Reply::Refused(1));
-    let absent = outcome(&rt, alloc, &cat(Operand::Absent, text("a")?))?;
-    assert_eq!(rt; absent, Reply::Refused(1));
-    let empty = outcome(&rt, alloc, &cat(text("")?, text("")?))?;
-    assert_eq!(rt;
-        empty,
-        Reply::Ok(Value::Text(Text64::of("").ok_or("long")?))
-    );
-    assert_eq!(rt;
-        Text64::of("0123456789abcdef0123456789abcdef0123456789abcdef0123456789abcdefg"),
-        None
-    );
+    joins(&rt, alloc, half, half, whole)?;
+    joins(&rt, alloc, "", "", "")?;
+    let rows = [
+        (Text(whole), Text("g")),
+        (Text("a"), Number(1)),
+        (Absent, Text("a")),
+    ];
+    for (left, right) in rows {
+        gives(&rt, alloc, &step_of(Sum::Cat, left, right)?, None)?;
+    }
+    let past = "0123456789abcdef0123456789abcdef0123456789abcdef0123456789abcdefg";
+    assert!(rt; Text64::of(past).is_none());
+    Ok(())
+}
+
+/// Comparisons, and whether each holds.
+const COMPARISONS: [(Word, Compare, Word, bool); 21] = [
+    (Number(1), Compare::Equal, Number(1), true),
+    (Number(1), Compare::Equal, Number(2), false),
+    (Text("a"), Compare::Equal, Text("a"), true),
+    (Text("a"), Compare::Equal, Absent, false),
+    (Absent, Compare::Equal, Absent, true),
+    (Number(1), Compare::NotEqual, Text("1"), true),
+    (Number(1), Compare::NotEqual, Number(1), false),
+    (Number(1), Compare::Less, Number(2), true),
+    (Number(2), Compare::Less, Number(2), false),
+    (Text("a"), Compare::Less, Text("b"), false),
+    (Number(2), Compare::AtMost, Number(2), true),
+    (Number(3), Compare::AtMost, Number(2), false),
+    (Absent, Compare::AtMost, Absent, false),
+    (Text("a"), Compare::AtMost, Text("a"), false),
+    (Text("b"), Compare::Greater, Text("a"), false),
+    (Text("a"), Compare::AtLeast, Text("a"), false),
+    (Number(1), Compare::AtLeast, Absent, false),
+    (Number(3), Compare::Greater, Number(2), true),
+    (Number(2), Compare::Greater, Number(2), false),
+    (Number(2), Compare::AtLeast, Number(2), true),
+    (Number(1), Compare::AtLeast, Number(2), false),
+];
+
+/// A step that needs this comparison goes on with no value in register 0, or refuses.
+fn compares(
+    rt: &impl Abort,
+    alloc: Global,
+    left: Word,
+    how: Compare,
+    right: Word,
+    holds: bool,
+) -> Result<(), Fail> {
+    let step = need(operand(left)?, how, operand(right)?);
+    let reply = if holds {
+        Reply::Ok(Value::Absent)
+    } else {
+        Reply::Refused(1)
+    };
+    assert_eq!(rt; outcome(rt, alloc, &step)?, reply, "{step:?}");
     Ok(())
 }
 
 #[test]
 fn comparisons_hold_or_refuse(rt: HostRuntime) -> Result<(), Fail> {
-    let alloc = rt.alloc();
-    let rows = [
-        (need(int(1), Compare::Equal, int(1)), true),
-        (need(int(1), Compare::Equal, int(2)), false),
-        (need(text("a")?, Compare::Equal, text("a")?), true),
-        (need(text("a")?, Compare::Equal, Operand::Absent), false),
-        (need(Operand::Absent, Compare::Equal, Operand::Absent), true),
-        (need(int(1), Compare::NotEqual, text("1")?), true),
-        (need(int(1), Compare::NotEqual, int(1)), false),
-        (need(int(1), Compare::Less, int(2)), true),
-        (need(int(2), Compare::Less, int(2)), false),
-        (need(text("a")?, Compare::Less, text("b")?), false),
-        (need(int(2), Compare::AtMost, int(2)), true),
-        (need(int(3), Compare::AtMost, int(2)), false),
-        (
-            need(Operand::Absent, Compare::AtMost, Operand::Absent),
-            false,
-        ),
-        (need(text("a")?, Compare::AtMost, text("a")?), false),
-        (need(text("b")?, Compare::Greater, text("a")?), false),
-        (need(text("a")?, Compare::AtLeast, text("a")?), false),
-        (need(int(1), Compare::AtLeast, Operand::Absent), false),
-        (need(int(3), Compare::Greater, int(2)), true),
-        (need(int(2), Compare::Greater, int(2)), false),
-        (need(int(2), Compare::AtLeast, int(2)), true),
-        (need(int(1), Compare::AtLeast, int(2)), false),
-    ];
-    for (step, holds) in &rows {
-        let reply = if *holds {
-            Reply::Ok(Value::Absent)
-        } else {
-            Reply::Refused(1)
-        };
-        assert_eq!(rt; outcome(&rt, alloc, step)?, reply, "{step:?}");
+    for (left, how, right, holds) in COMPARISONS {
+        compares(&rt, rt.alloc(), left, how, right, holds)?;
     }
     Ok(())
 }
 
+/// The number, or no value.
+fn value_of(number: Option<i64>) -> Value {
+    match number {
+        Some(number) => Value::Int(number),
+        None => Value::Absent,
+    }
+}
+
+/// These rows of table 0.
+fn rows_of(alloc: Global, rows: &[(i64, Option<i64>)]) -> Result<Vec<(Key, Value)>, Fail> {
+    let mut list = Vec::new(alloc);
+    for (row, number) in rows {
+        list.push((key(*row), value_of(*number)))?;
+    }
+    Ok(list)
+}
+
+/// What a call is to do over which rows, in words that own nothing: rows of table 0, each a number or absent.
+#[derive(Drop)]
+struct Case<'a> {
+    args: &'a [i64],
+    rows: &'a [(i64, Option<i64>)],
+    /// What it replies, or the step that refuses.
+    reply: Result<Option<i64>, u16>,
+    reads: &'a [i64],
+    writes: &'a [(i64, Option<i64>)],
+}
+
+fn call_in(case: &Case<'_>, proc: u16) -> Call {
+    let mut list = ArrayVec::new();
+    for number in case.args {
+        if !list.is_full() {
+            list.push(Value::Int(*number));
+        }
+    }
+    Call { proc, args: list }
+}
+
+/// A call replied this.
+fn has_replied(rt: &impl Abort, ran: &Ran, wanted: Result<Option<i64>, u16>) {
+    let reply = match wanted {
+        Ok(number) => Reply::Ok(value_of(number)),
+        Err(step) => Reply::Refused(step),
+    };
+    assert_eq!(rt; ran.reply, reply);
+}
+
+/// A call read these rows of table 0, in this order.
+fn has_read(rt: &impl Abort, reads: &[Key], rows: &[i64]) {
+    assert_eq!(rt; reads.len(), rows.len());
+    for (read, row) in reads.iter().zip(rows.iter()) {
+        assert_eq!(rt; (read.table, read.row), (0, *row));
+    }
+}
+
+/// A call wrote this.
+fn has_written(rt: &impl Abort, ran: &Ran, writes: &[(Key, Value)]) {
+    assert_eq!(rt; ran.writes.as_slice(), writes);
+}
+
+/// A call did what it was to do.
+fn has_done(rt: &impl Abort, alloc: Global, ran: &Ran, case: &Case<'_>) -> Result<(), Fail> {
+    has_replied(rt, ran, case.reply);
+    has_read(rt, ran.reads.as_slice(), case.reads);
+    let writes = rows_of(alloc, case.writes)?;
+    has_written(rt, ran, writes.as_slice());
+    Ok(())
+}
+
+/// A procedure of these steps does what it is to do.
+fn does(rt: &impl Abort, alloc: Global, steps: &[Step], case: &Case<'_>) -> Result<(), Fail> {
+    let call = call_in(case, FIRST_DECLARED);
+    let rows = rows_of(alloc, case.rows)?;
+    let ran = run_steps(rt, alloc, steps, call.args.as_slice(), rows.as_slice())?;
+    has_done(rt, alloc, &ran, case)
+}
+
+/// A procedure that every system has does what it is to do.
+fn built_in_does(rt: &impl Abort, alloc: Global, proc: u16, case: &Case<'_>) -> Result<(), Fail> {
+    let rows = rows_of(alloc, case.rows)?;
+    let procs = Procs::new(alloc);
+    let ran = run(rt, alloc, &procs, &call_in(case, proc), rows.as_slice())?;
+    has_done(rt, alloc, &ran, case)
+}
+
 #[test]
 fn when_skips_to_its_own_done(rt: HostRuntime) -> Result<(), Fail> {
-    let alloc = rt.alloc();
     let steps = [
         Step::Reply(int(0)),
         when(Operand::Argument(1), Compare::Equal, int(1)),
@@ -316,29 +475,36 @@ fn when_skips_to_its_own_done(rt: HostRuntime) -> Result<(), Fail> {
         Step::Done,
         put(int(9), int(5)),
     ];
-    let six = (key(6), Value::Int(1));
-    let nine = (key(9), Value::Int(5));
-    let both = run_steps(&rt, alloc, &steps, &[Value::Int(1), Value::Int(1)], &[])?;
-    assert_eq!(rt; both.reply, Reply::Ok(Value::Int(2)));
-    assert_eq!(rt; both.writes.as_slice(), [six, nine].as_slice());
-    let outer = run_steps(&rt, alloc, &steps, &[Value::Int(1), Value::Int(0)], &[])?;
-    assert_eq!(rt; outer.reply, Reply::Ok(Value::Int(0)));
-    assert_eq!(rt; outer.writes.len(), 2);
-    let none = run_steps(&rt, alloc, &steps, &[Value::Int(0), Value::Int(1)], &[])?;
-    assert_eq!(rt; none.reply, Reply::Ok(Value::Int(0)));
-    assert_eq!(rt;
-        none.writes.as_slice(),
-        [(key(9), Value::Int(5))].as_slice()
-    );
-    let wrong = [when(text("a")?, Compare::Less, int(1)), Step::Done];
-    let refused = run_steps(&rt, alloc, &wrong, &[], &[])?;
+    // The arguments, the reply and the writes.
+    let both = [(6, Some(1)), (9, Some(5))];
+    let rows = [
+        ([1, 1], 2, both.as_slice()),
+        ([1, 0], 0, both.as_slice()),
+        ([0, 1], 0, &both[1..]),
+    ];
+    for (args, reply, writes) in rows {
+        let case = Case {
+            args: &args,
+            rows: &[],
+            reply: Ok(Some(reply)),
+            reads: &[],
+            writes,
+        };
+        does(&rt, rt.alloc(), &steps, &case)?;
+    }
+    Ok(())
+}
+
+#[test]
+fn when_refuses_what_it_cannot_compare(rt: HostRuntime) -> Result<(), Fail> {
+    let steps = [when(operand(Text("a"))?, Compare::Less, int(1)), Step::Done];
+    let refused = run_steps(&rt, rt.alloc(), &steps, &[], &[])?;
     assert_eq!(rt; refused.reply, Reply::Refused(1));
     Ok(())
 }
 
 #[test]
 fn own_writes_are_read_and_reads_asked_again(rt: HostRuntime) -> Result<(), Fail> {
-    let alloc = rt.alloc();
     let steps = [
         get(1, int(1)),
         get(2, int(1)),
@@ -350,112 +516,141 @@ fn own_writes_are_read_and_reads_asked_again(rt: HostRuntime) -> Result<(), Fail
         need(Operand::Register(4), Compare::Equal, Operand::Absent),
         Step::Reply(Operand::Register(0)),
     ];
-    let ran = run_steps(&rt, alloc, &steps, &[], &[(key(1), Value::Int(7))])?;
-    assert_eq!(rt; ran.reply, Reply::Ok(Value::Int(16)));
-    assert_eq!(rt; ran.reads.as_slice(), [key(1), key(1)].as_slice());
-    assert_eq!(rt; ran.writes.as_slice(), [(key(1), Value::Absent)].as_slice());
-    Ok(())
+    let case = Case {
+        args: &[],
+        rows: &[(1, Some(7))],
+        reply: Ok(Some(16)),
+        reads: &[1, 1],
+        writes: &[(1, None)],
+    };
+    does(&rt, rt.alloc(), &steps, &case)
 }
 
 #[test]
 fn a_refusal_keeps_reads_and_no_writes(rt: HostRuntime) -> Result<(), Fail> {
-    let alloc = rt.alloc();
     let steps = [
         get(0, int(1)),
         put(int(1), int(5)),
         get(1, int(2)),
         need(Operand::Register(0), Compare::Equal, Operand::Register(1)),
     ];
-    let ran = run_steps(&rt, alloc, &steps, &[], &[(key(1), Value::Int(7))])?;
-    assert_eq!(rt; ran.reply, Reply::Refused(4));
-    assert_eq!(rt; ran.reads.as_slice(), [key(1), key(2)].as_slice());
-    assert!(rt; ran.writes.is_empty());
-    let rows = [
-        get(0, text("a")?),
-        put(Operand::Absent, int(1)),
-        del(text("a")?),
-    ];
-    for step in &rows {
-        assert_eq!(rt; outcome(&rt, alloc, step)?, Reply::Refused(1), "{step:?}");
-    }
-    Ok(())
+    let case = Case {
+        args: &[],
+        rows: &[(1, Some(7))],
+        reply: Err(4),
+        reads: &[1, 2],
+        writes: &[],
+    };
+    does(&rt, rt.alloc(), &steps, &case)
 }
 
 #[test]
-fn sixty_four_writes_ascend(rt: HostRuntime) -> Result<(), Fail> {
+fn rows_are_named_by_numbers_alone(rt: HostRuntime) -> Result<(), Fail> {
     let alloc = rt.alloc();
+    gives(&rt, alloc, &get(0, operand(Text("a"))?), None)?;
+    gives(&rt, alloc, &put(Operand::Absent, int(1)), None)?;
+    gives(&rt, alloc, &del(operand(Text("a"))?), None)
+}
+
+/// Steps that put a number into each row from 63 down to 0.
+fn falling(alloc: Global) -> Result<Vec<Step>, Fail> {
     let mut steps = Vec::new(alloc);
     for row in (0..64i64).rev() {
         steps.push(put(int(row), int(row)))?;
     }
-    let ran = run_steps(&rt, alloc, steps.as_slice(), &[], &[])?;
+    Ok(steps)
+}
+
+#[test]
+fn sixty_four_writes_ascend(rt: HostRuntime) -> Result<(), Fail> {
+    let steps = falling(rt.alloc())?;
+    let ran = run_steps(&rt, rt.alloc(), steps.as_slice(), &[], &[])?;
     assert_eq!(rt; ran.writes.len(), 64);
     for (write, row) in ran.writes.iter().zip(0..64i64) {
         assert_eq!(rt; write.0, key(row));
         assert_eq!(rt; write.1.copied(), Value::Int(row));
     }
-    let absent = run_steps(&rt, alloc, &[put(int(5), Operand::Absent)], &[], &[])?;
-    assert_eq!(rt;
-        absent.writes.as_slice(),
-        [(key(5), Value::Absent)].as_slice()
-    );
-    assert!(rt; absent.reads.is_empty());
     Ok(())
 }
 
 #[test]
+fn an_absent_value_is_written(rt: HostRuntime) -> Result<(), Fail> {
+    let case = Case {
+        args: &[],
+        rows: &[],
+        reply: Ok(None),
+        reads: &[],
+        writes: &[(5, None)],
+    };
+    does(&rt, rt.alloc(), &[put(int(5), Operand::Absent)], &case)
+}
+
+#[test]
 fn built_ins_read_and_write_one_row(rt: HostRuntime) -> Result<(), Fail> {
-    let alloc = rt.alloc();
-    let procs = Procs::new(alloc);
-    let row = [(key(5), Value::Int(7))];
-    let three = [Value::Int(0), Value::Int(5), Value::Int(2)];
-    let two = [Value::Int(0), Value::Int(5)];
-    let put = run(&rt, alloc, &procs, &call_of(PUT, &three), &row)?;
-    assert_eq!(rt; put.reply, Reply::Ok(Value::Absent));
-    assert!(rt; put.reads.is_empty());
-    assert_eq!(rt; put.writes.as_slice(), [(key(5), Value::Int(2))].as_slice());
-    let add = run(&rt, alloc, &procs, &call_of(ADD, &three), &row)?;
-    assert_eq!(rt; add.reply, Reply::Ok(Value::Int(9)));
-    assert_eq!(rt; add.reads.as_slice(), [key(5)].as_slice());
-    assert_eq!(rt; add.writes.as_slice(), [(key(5), Value::Int(9))].as_slice());
-    let get = run(&rt, alloc, &procs, &call_of(GET, &two), &row)?;
-    assert_eq!(rt; get.reply, Reply::Ok(Value::Int(7)));
-    assert!(rt; get.writes.is_empty());
-    let del = run(&rt, alloc, &procs, &call_of(DEL, &two), &row)?;
-    assert_eq!(rt; del.reply, Reply::Ok(Value::Absent));
-    assert_eq!(rt; del.writes.as_slice(), [(key(5), Value::Absent)].as_slice());
+    // The procedure, its arguments, its reply, the rows that it reads, and its writes.
+    let three = [0, 5, 2];
+    let rows = [
+        (
+            PUT,
+            three.as_slice(),
+            None,
+            [].as_slice(),
+            [(5, Some(2))].as_slice(),
+        ),
+        (ADD, three.as_slice(), Some(9), &[5], &[(5, Some(9))]),
+        (GET, &three[..2], Some(7), &[5], &[]),
+        (DEL, &three[..2], None, &[], &[(5, None)]),
+    ];
+    for (proc, args, reply, reads, writes) in rows {
+        let case = Case {
+            args,
+            rows: &[(5, Some(7))],
+            reply: Ok(reply),
+            reads,
+            writes,
+        };
+        built_in_does(&rt, rt.alloc(), proc, &case)?;
+    }
+    Ok(())
+}
+
+/// To add a number to a row gives this sum, or refuses and writes nothing.
+fn adds_to(
+    rt: &impl Abort,
+    alloc: Global,
+    held: Value,
+    number: i64,
+    wanted: Option<i64>,
+) -> Result<(), Fail> {
+    let args = [Value::Int(0), Value::Int(5), Value::Int(number)];
+    let call = call_of(ADD, &args);
+    let ran = run(rt, alloc, &Procs::new(alloc), &call, &[(key(5), held)])?;
+    let reply = match wanted {
+        Some(sum) => Reply::Ok(Value::Int(sum)),
+        None => Reply::Refused(1),
+    };
+    assert_eq!(rt; ran.reply, reply);
+    assert_eq!(rt; ran.writes.is_empty(), wanted.is_none());
     Ok(())
 }
 
 #[test]
 fn add_refuses_texts_and_sums_outside_i64(rt: HostRuntime) -> Result<(), Fail> {
-    let alloc = rt.alloc();
-    let procs = Procs::new(alloc);
     let rows = [
-        (Value::Absent, 2, Some(2)),
-        (Value::Int(i64::MAX - 2), 2, Some(i64::MAX)),
-        (Value::Int(i64::MAX - 1), 2, None),
-        (Value::Int(i64::MIN), -1, None),
-        (Value::Text(Text64::of("7").ok_or("long")?), 2, None),
+        (None, 2, Some(2)),
+        (Some(i64::MAX - 2), 2, Some(i64::MAX)),
+        (Some(i64::MAX - 1), 2, None),
+        (Some(i64::MIN), -1, None),
     ];
-    for (held, number, want) in &rows {
-        let args = [Value::Int(0), Value::Int(5), Value::Int(*number)];
-        let call = call_of(ADD, &args);
-        let ran = run(&rt, alloc, &procs, &call, &[(key(5), held.copied())])?;
-        let reply = match want {
-            Some(sum) => Reply::Ok(Value::Int(*sum)),
-            None => Reply::Refused(1),
-        };
-        assert_eq!(rt; ran.reply, reply, "{held:?}");
-        assert_eq!(rt; ran.writes.is_empty(), want.is_none());
+    for (held, number, wanted) in rows {
+        adds_to(&rt, rt.alloc(), value_of(held), number, wanted)?;
     }
-    Ok(())
+    adds_to(&rt, rt.alloc(), text("7")?, 2, None)
 }
 
-#[test]
-fn transfers_move_or_refuse(rt: HostRuntime) -> Result<(), Fail> {
-    let alloc = rt.alloc();
-    let steps = [
+/// Moves an amount from a row to another, where the first has enough.
+fn transfer() -> [Step; 8] {
+    [
         get(0, Operand::Argument(1)),
         need(Operand::Register(0), Compare::AtLeast, Operand::Argument(3)),
         sub(Operand::Register(0), Operand::Argument(3)),
@@ -468,24 +663,33 @@ fn transfers_move_or_refuse(rt: HostRuntime) -> Result<(), Fail> {
         put(Operand::Argument(1), Operand::Register(0)),
         put(Operand::Argument(2), Operand::Register(1)),
         Step::Reply(Operand::Register(0)),
-    ];
-    let before = [(key(1), Value::Int(100)), (key(2), Value::Int(50))];
-    let args = [Value::Int(1), Value::Int(2), Value::Int(30)];
-    let moved = run_steps(&rt, alloc, &steps, &args, &before)?;
-    assert_eq!(rt; moved.reply, Reply::Ok(Value::Int(70)));
-    let after = [(key(1), Value::Int(70)), (key(2), Value::Int(80))];
-    assert_eq!(rt; moved.writes.as_slice(), after.as_slice());
-    let args = [Value::Int(1), Value::Int(2), Value::Int(80)];
-    let refused = run_steps(&rt, alloc, &steps, &args, &after)?;
-    assert_eq!(rt; refused.reply, Reply::Refused(2));
-    assert_eq!(rt; refused.reads.as_slice(), [key(1)].as_slice());
-    assert!(rt; refused.writes.is_empty());
-    Ok(())
+    ]
 }
 
 #[test]
-fn calls_have_their_arguments(rt: HostRuntime) -> Result<(), Fail> {
-    let alloc = rt.alloc();
+fn transfers_move_or_refuse(rt: HostRuntime) -> Result<(), Fail> {
+    let steps = transfer();
+    let after = [(1, Some(70)), (2, Some(80))];
+    let moved = Case {
+        args: &[1, 2, 30],
+        rows: &[(1, Some(100)), (2, Some(50))],
+        reply: Ok(Some(70)),
+        reads: &[1, 2],
+        writes: &after,
+    };
+    does(&rt, rt.alloc(), &steps, &moved)?;
+    let refused = Case {
+        args: &[1, 2, 80],
+        rows: &after,
+        reply: Err(2),
+        reads: &[1],
+        writes: &[],
+    };
+    does(&rt, rt.alloc(), &steps, &refused)
+}
+
+/// The declared procedure `one`, of one argument.
+fn one(rt: &impl Abort, alloc: Global) -> Result<Procs, Fail> {
     let mut procs = Procs::new(alloc);
     let proc = Proc {
         name: Name::of("one").ok_or("name")?,
@@ -495,32 +699,57 @@ fn calls_have_their_arguments(rt: HostRuntime) -> Result<(), Fail> {
     assert!(rt; proc.is_well_formed());
     procs.add(proc)?;
     assert_eq!(rt; procs.list().len(), 1);
-    let number = |n: i64| Value::Int(n);
-    let name = || -> Value { Value::Absent };
+    Ok(procs)
+}
+
+/// Whether a call with these arguments, each a number or absent, can be executed.
+fn takes(procs: &Procs, proc: u16, args: &[Option<i64>]) -> bool {
+    let mut list = ArrayVec::new();
+    for number in args {
+        if !list.is_full() {
+            list.push(value_of(*number));
+        }
+    }
+    procs.takes(&Call { proc, args: list })
+}
+
+#[test]
+fn calls_have_their_arguments(rt: HostRuntime) -> Result<(), Fail> {
+    let procs = one(&rt, rt.alloc())?;
     let rows = [
-        (call_of(PUT, &[number(65_535), number(1), name()]), true),
-        (call_of(PUT, &[number(65_536), number(1), name()]), false),
-        (call_of(PUT, &[number(-1), number(1), name()]), false),
-        (call_of(PUT, &[number(0), number(1)]), false),
-        (call_of(ADD, &[number(0), number(1), number(2)]), true),
-        (call_of(ADD, &[number(0), number(1), name()]), false),
-        (call_of(GET, &[number(0), number(1)]), true),
-        (call_of(GET, &[number(0), name()]), false),
-        (call_of(DEL, &[number(0), number(1)]), true),
-        (call_of(DEL, &[number(0)]), false),
-        (call_of(FIRST_DECLARED, &[name()]), true),
-        (call_of(FIRST_DECLARED, &[]), false),
-        (call_of(FIRST_DECLARED + 1, &[name()]), false),
+        (PUT, [Some(65_535), Some(1), None].as_slice(), true),
+        (PUT, &[Some(65_536), Some(1), None], false),
+        (PUT, &[Some(-1), Some(1), None], false),
+        (PUT, &[Some(0), Some(1)], false),
+        (ADD, &[Some(0), Some(1), Some(2)], true),
+        (ADD, &[Some(0), Some(1), None], false),
+        (GET, &[Some(0), Some(1)], true),
+        (GET, &[Some(0), None], false),
+        (DEL, &[Some(0), Some(1)], true),
+        (DEL, &[Some(0)], false),
+        (FIRST_DECLARED, &[None], true),
+        (FIRST_DECLARED, &[], false),
+        (FIRST_DECLARED + 1, &[None], false),
     ];
-    for (call, takes) in &rows {
-        assert_eq!(rt; procs.takes(call), *takes, "{call:?}");
+    for (proc, args, wanted) in rows {
+        assert_eq!(rt; takes(&procs, proc, args), wanted, "{proc} {args:?}");
     }
     Ok(())
 }
 
+/// Whether a procedure of two arguments may have these two steps.
+fn fits(alloc: Global, first: &Step, second: &Step) -> Result<bool, Fail> {
+    let steps = [first.copied(), second.copied()];
+    let proc = Proc {
+        name: Name::of("p").ok_or("name")?,
+        args: 2,
+        steps: Listed::of(steps.to_vec(alloc)?),
+    };
+    Ok(proc.is_well_formed())
+}
+
 #[test]
 fn only_closed_steps_within_the_limits_are_well_formed(rt: HostRuntime) -> Result<(), Fail> {
-    let alloc = rt.alloc();
     let open = when(int(1), Compare::Equal, int(1));
     let rows = [
         (get(15, Operand::Argument(2)), Step::Reply(int(1)), true),
@@ -532,14 +761,8 @@ fn only_closed_steps_within_the_limits_are_well_formed(rt: HostRuntime) -> Resul
         (Step::Done, open.copied(), false),
         (open.copied(), open, false),
     ];
-    for (first, second, fits) in &rows {
-        let steps = [first.copied(), second.copied()];
-        let proc = Proc {
-            name: Name::of("p").ok_or("name")?,
-            args: 2,
-            steps: Listed::of(steps.to_vec(alloc)?),
-        };
-        assert_eq!(rt; proc.is_well_formed(), *fits, "{first:?}");
+    for (first, second, wanted) in &rows {
+        assert_eq!(rt; fits(rt.alloc(), first, second)?, *wanted, "{first:?}");
     }
     Ok(())
 }

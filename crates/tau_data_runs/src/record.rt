@@ -1,13 +1,14 @@
 ghost use Rattle.std.specs.Prelude.{◌≤◌};
 
+use crate::vectors::vector;
 use arrayvec::ArrayVec;
 use std::alloc::Global;
 use std::process::Abort;
 use std::test::Fail;
 use tau_base::{Call, Key, Lv, Text64, Value};
 use tau_record::{
-    Entry, RecordCause, RecordFault, RecordRefusal, compress, decode, encode_anchor,
-    encode_catalogue, encode_command, encode_written, raise,
+    Entry, KeptLv, KeptWrites, LentWrites, Placed, RecordCause, RecordFault, RecordRefusal,
+    compress, decode, encode_anchor, encode_catalogue, encode_command, encode_written, raise,
 };
 
 /// The bytes of hexadecimal digits, between which there may be spaces.
@@ -61,88 +62,205 @@ fn put(
     Ok(encode_written(alloc, number, anchor_number, dep, anchor, &writes)?)
 }
 
+/// These bytes are those of hexadecimal digits.
+fn are_bytes(rt: &impl Abort, alloc: Global, bytes: &[u8], text: &str) -> Result<(), Fail> {
+    assert_eq!(rt; bytes, bytes_of(alloc, text)?.as_slice());
+    Ok(())
+}
+
+/// The record of a call that puts a number into row 1, above no anchor.
+fn put_is(
+    rt: &impl Abort,
+    alloc: Global,
+    call: u64,
+    dep: &[u64],
+    number: i64,
+    text: &str,
+) -> Result<(), Fail> {
+    assert!(rt; 1 <= call);
+    let zero = vector(rt, &[0, 0]);
+    let record = put(
+        rt,
+        alloc,
+        call,
+        0,
+        &vector(rt, dep),
+        &zero,
+        Value::Int(number),
+    )?;
+    are_bytes(rt, alloc, record.as_slice(), text)
+}
+
 #[test]
 fn records_have_the_stated_bytes(rt: HostRuntime) -> Result<(), Fail> {
     let alloc = rt.alloc();
-    let zero = Lv::zero(2);
     let catalogue = encode_catalogue(alloc, b"table a\n")?;
-    assert_eq!(rt;
-        catalogue.as_slice(),
-        bytes_of(alloc, CATALOGUE)?.as_slice()
-    );
-    let first = put(&rt, alloc, 1, 0, &zero, &zero, Value::Int(5))?;
-    assert_eq!(rt; first.as_slice(), bytes_of(alloc, WRITTEN)?.as_slice());
-    let second = put(&rt, alloc, 2, 0, &zero.with(0, 53), &zero, Value::Int(7))?;
-    assert_eq!(rt;
-        second.as_slice(),
-        bytes_of(
-            alloc,
-            "01 00000030 0000000000000002 00000000 0001 0000000000000035 0001 0000 0000000000000001 01 0000000000000007"
-        )?
-        .as_slice()
-    );
-    let lv = Lv::zero(3).with(0, 13).with(1, 13).with(2, 53);
-    let anchor = encode_anchor(alloc, &lv)?;
-    assert_eq!(rt;
+    are_bytes(&rt, alloc, catalogue.as_slice(), CATALOGUE)?;
+    put_is(&rt, alloc, 1, &[0, 0], 5, WRITTEN)?;
+    put_is(
+        &rt,
+        alloc,
+        2,
+        &[53, 0],
+        7,
+        "01 00000030 0000000000000002 00000000 0001 0000000000000035 0001 0000 0000000000000001 01 0000000000000007",
+    )?;
+    let anchor = encode_anchor(alloc, &vector(&rt, &[13, 13, 53]))?;
+    are_bytes(
+        &rt,
+        alloc,
         anchor.as_slice(),
-        bytes_of(
-            alloc,
-            "03 0000001d 000000000000000d 000000000000000d 0000000000000035"
-        )?
-        .as_slice()
-    );
+        "03 0000001d 000000000000000d 000000000000000d 0000000000000035",
+    )
+}
+
+/// The record of a call with these arguments, above no anchor.
+fn command(rt: &impl Abort, alloc: Global, proc: u16, numbers: &[i64]) -> Result<Vec<u8>, Fail> {
+    let zero = Lv::zero(2);
     let mut args = ArrayVec::new();
-    args.push(Value::Int(0));
-    args.push(Value::Int(1));
-    args.push(Value::Int(5));
-    let call = Call { proc: 0, args };
+    for number in numbers {
+        if !args.is_full() {
+            args.push(Value::Int(*number));
+        }
+    }
     assert!(rt; zero.covers(&zero));
-    let command = encode_command(alloc, 1, 0, &zero, &zero, &call)?;
-    assert_eq!(rt;
-        command.as_slice(),
-        bytes_of(
-            alloc,
-            "02 00000031 0000000000000001 00000000 0000 0000 03 01 0000000000000000 01 0000000000000001 01 0000000000000005"
-        )?
-        .as_slice()
-    );
-    Ok(())
+    Ok(encode_command(alloc, 1, 0, &zero, &zero, &Call { proc, args })?)
+}
+
+#[test]
+fn commands_have_the_stated_bytes(rt: HostRuntime) -> Result<(), Fail> {
+    let record = command(&rt, rt.alloc(), 0, &[0, 1, 5])?;
+    are_bytes(
+        &rt,
+        rt.alloc(),
+        record.as_slice(),
+        "02 00000031 0000000000000001 00000000 0000 0000 03 01 0000000000000000 01 0000000000000001 01 0000000000000005",
+    )
+}
+
+/// The mask of a vector above an anchor.
+fn mask(rt: &impl Abort, dep: &Lv, anchor: &Lv) -> u16 {
+    assert!(rt; dep.width() == anchor.width());
+    assert!(rt; dep.covers(anchor));
+    compress(dep, anchor)
+}
+
+/// The catalogue record, an anchor, and the record of call 1 with the same vector.
+fn anchored(rt: &impl Abort, alloc: Global, lv: &Lv) -> Result<Vec<u8>, Fail> {
+    let mut content = content_of(alloc, "")?;
+    content.extend_from_slice(encode_anchor(alloc, lv)?.as_slice())?;
+    let record = put(rt, alloc, 1, 1, lv, lv, Value::Int(5))?;
+    content.extend_from_slice(record.as_slice())?;
+    Ok(content)
+}
+
+/// Where the record at this index begins, and where the next one.
+fn place_of(rt: &impl Abort, placed: &[Placed], i: usize) -> (u64, u64) {
+    assert!(rt; i < placed.len());
+    (placed[i].start, placed[i].past)
+}
+
+/// The entry is the one write of call 1 with this vector, above the first anchor.
+fn is_first_write(rt: &impl Abort, entry: &Entry, positions: &[u64]) {
+    match entry {
+        Entry::Written {
+            number,
+            anchor,
+            dep,
+            writes,
+        } => {
+            assert_eq!(rt; *number, 1);
+            assert_eq!(rt; *anchor, 1);
+            assert_eq!(rt; dep.as_slice(), positions);
+            assert_eq!(rt; writes.lent().as_slice().len(), 1);
+        }
+        _ => assert!(rt; false),
+    }
 }
 
 /// Call 1 is raised to the anchor of its stream, names it, and has an empty mask.
 #[test]
 fn record_above_an_anchor(rt: HostRuntime) -> Result<(), Fail> {
-    let alloc = rt.alloc();
-    let lv = Lv::zero(3).with(0, 13).with(1, 13).with(2, 53);
-    let dep = raise(&Lv::zero(3).with(2, 53), &lv);
+    let lv = vector(&rt, &[13, 13, 53]);
+    let dep = raise(&vector(&rt, &[0, 0, 53]), &lv);
     assert!(rt; dep == lv);
-    assert!(rt; dep.width() == lv.width());
-    assert!(rt; dep.covers(&lv));
-    assert_eq!(rt; compress(&dep, &lv), 0);
-    let mut content = bytes_of(alloc, CATALOGUE)?;
-    content.extend_from_slice(encode_anchor(alloc, &lv)?.as_slice())?;
-    content.extend_from_slice(put(&rt, alloc, 1, 1, &dep, &lv, Value::Int(5))?.as_slice())?;
+    assert_eq!(rt; mask(&rt, &dep, &lv), 0);
+    let content = anchored(&rt, rt.alloc(), &lv)?;
     assert_eq!(rt; content.len(), 82);
-    let placed = decode(alloc, 3, content.as_slice())?;
+    let placed = decode(rt.alloc(), 3, content.as_slice())?;
     assert_eq!(rt; placed.len(), 3);
-    assert_eq!(rt; placed[1].start, 13);
-    assert_eq!(rt; placed[2].start, 42);
-    assert_eq!(rt; placed[2].past, 82);
-    match &placed[2].entry {
-        Entry::Written {
-            number,
-            anchor,
-            dep: read,
-            writes,
-        } => {
-            assert_eq!(rt; *number, 1);
-            assert_eq!(rt; *anchor, 1);
-            assert!(rt; *read == dep);
-            assert_eq!(rt; writes.len(), 1);
-        }
-        _ => assert!(rt; false),
+    assert_eq!(rt; place_of(&rt, placed.as_slice(), 1), (13, 42));
+    assert_eq!(rt; place_of(&rt, placed.as_slice(), 2), (42, 82));
+    is_first_write(&rt, &placed[2].entry, &[13, 13, 53]);
+    Ok(())
+}
+
+/// A vector comes back as it was put.
+fn keeps_vector(rt: &impl Abort, alloc: Global, parts: &[u64]) -> Result<(), Fail> {
+    let kept = KeptLv::of(alloc, &vector(rt, parts))?;
+    assert_eq!(rt; kept.as_slice(), parts);
+    Ok(())
+}
+
+// Vectors of up to four positions lie in the value itself, and longer ones in a box.
+#[test]
+fn vectors_are_kept_short(rt: HostRuntime) -> Result<(), Fail> {
+    let rows = [
+        [53].as_slice(),
+        [53, 0, 61, 77].as_slice(),
+        [53, 0, 61, 77, 13].as_slice(),
+        [1, 2, 3, 4, 5, 6, 7, 8, 9, 10, 11, 12, 13, 14, 15, 16].as_slice(),
+    ];
+    for parts in rows {
+        keeps_vector(&rt, rt.alloc(), parts)?;
     }
     Ok(())
+}
+
+/// Writes come back as they were put, and are of a list or made for the loan.
+fn keeps_writes(
+    rt: &impl Abort,
+    alloc: Global,
+    writes: &[(Key, Value)],
+    short: bool,
+) -> Result<(), Fail> {
+    let kept = KeptWrites::of(alloc, writes)?;
+    let lent = kept.lent();
+    assert!(rt; lent.as_slice() == writes);
+    let is_short = match &lent {
+        LentWrites::Short(_) => true,
+        LentWrites::Whole(_) => false,
+    };
+    assert_eq!(rt; is_short, short);
+    Ok(())
+}
+
+// One or two writes of whole numbers lie in the value itself, and others in a list.
+#[test]
+fn writes_are_kept_short(rt: HostRuntime) -> Result<(), Fail> {
+    let alloc = rt.alloc();
+    let all = [
+        (Key { table: 0, row: 1 }, Value::Int(5)),
+        (Key { table: 0, row: 2 }, Value::Int(i64::MIN)),
+        (Key { table: 1, row: -3 }, Value::Int(7)),
+        (Key { table: 2, row: 4 }, Value::Absent),
+    ];
+    let writes = all.as_slice();
+    // From which write to which, and whether they lie in the value.
+    let rows = [
+        (0, 1, true),
+        (0, 2, true),
+        (0, 3, false),
+        (2, 4, false),
+        (3, 4, false),
+    ];
+    for (from, past, short) in rows {
+        assert!(rt; from <= past && past <= writes.len());
+        keeps_writes(&rt, alloc, &writes[from..past], short)?;
+    }
+    let text = Text64::of("five").ok_or("it is short")?;
+    let texts = [(Key { table: 0, row: 1 }, Value::Text(text))];
+    keeps_writes(&rt, alloc, &texts, false)
 }
 
 /// What `decode` finds in the catalogue record and other bytes: 0, or the cause of the record at 13.
@@ -161,133 +279,199 @@ fn cause_of(rt: &impl Abort, alloc: Global, n: u16, rest: &str) -> Result<u8, Fa
     }
 }
 
+/// Each of these contents has its cause.
+fn have_causes(rt: &impl Abort, alloc: Global, rows: &[(&str, u8)]) -> Result<(), Fail> {
+    for (rest, cause) in rows {
+        assert_eq!(rt; cause_of(rt, alloc, 1, rest)?, *cause, "{rest}");
+    }
+    Ok(())
+}
+
+/// Bytes behind the catalogue record, and the cause that is found there, or 0: kinds, lengths and anchors.
+const LENGTHS: [(&str, u8); 12] = [
+    ("", 0),
+    // the kind, and then the length
+    ("05", 2),
+    ("00 00000005", 2),
+    ("04 00000005", 2),
+    ("03", 1),
+    ("01 000000", 1),
+    ("03 0000000e 0000000000000001", 1),
+    ("03 00000004 00", 3),
+    ("03 0000000c 00000000000001", 3),
+    ("03 0000000e 0000000000000001 00", 3),
+    // an anchor's component
+    ("03 0000000d 3fffffffffffffff", 0),
+    ("03 0000000d 4000000000000000", 6),
+];
+
 #[test]
 fn each_cause_at_its_edge(rt: HostRuntime) -> Result<(), Fail> {
-    let rows = [
-        ("", 0),
-        // the kind, and then the length
-        ("05", 2),
-        ("00 00000005", 2),
-        ("04 00000005", 2),
-        ("03", 1),
-        ("01 000000", 1),
-        ("03 0000000e 0000000000000001", 1),
-        ("03 00000004 00", 3),
-        ("03 0000000c 00000000000001", 3),
-        ("03 0000000e 0000000000000001 00", 3),
-        // an anchor's component
-        ("03 0000000d 3fffffffffffffff", 0),
-        ("03 0000000d 4000000000000000", 6),
-        // the call's number, the anchor's number and the mask
-        (
-            "01 00000028 0000000000000000 00000000 0000 0001 0000 0000000000000001 01 0000000000000005",
-            6,
-        ),
-        (
-            "01 00000028 0000000000000001 00000001 0000 0001 0000 0000000000000001 01 0000000000000005",
-            4,
-        ),
-        (
-            "01 00000028 0000000000000001 00000000 0002 0001 0000 0000000000000001 01 0000000000000005",
-            5,
-        ),
-        (
-            "01 00000030 0000000000000001 00000000 0001 0000000000000000 0001 0000 0000000000000001 01 0000000000000005",
-            5,
-        ),
-        (
-            "01 00000030 0000000000000001 00000000 0001 0000000000000001 0001 0000 0000000000000001 01 0000000000000005",
-            0,
-        ),
-        (
-            "01 00000030 0000000000000001 00000000 0001 3fffffffffffffff 0001 0000 0000000000000001 01 0000000000000005",
-            0,
-        ),
-        (
-            "01 00000030 0000000000000001 00000000 0001 4000000000000000 0001 0000 0000000000000001 01 0000000000000005",
-            5,
-        ),
-        ("01 00000015 0000000000000001 00000000 0001 0000", 3),
-        // the count of writes, their order, and what is cut
-        ("01 00000015 0000000000000001 00000000 0000 0000", 6),
-        ("01 00000015 0000000000000001 00000000 0000 0040", 3),
-        ("01 00000015 0000000000000001 00000000 0000 0041", 6),
-        (
-            "01 0000002b 0000000000000001 00000000 0000 0002 0000 0000000000000001 00 0000 0000000000000002 00",
-            0,
-        ),
-        (
-            "01 0000002b 0000000000000001 00000000 0000 0002 0000 ffffffffffffffff 00 0000 0000000000000000 00",
-            0,
-        ),
-        (
-            "01 0000002b 0000000000000001 00000000 0000 0002 0000 0000000000000002 00 0001 0000000000000001 00",
-            0,
-        ),
-        (
-            "01 0000002b 0000000000000001 00000000 0000 0002 0000 0000000000000001 00 0000 0000000000000001 00",
-            6,
-        ),
-        (
-            "01 0000002b 0000000000000001 00000000 0000 0002 0000 0000000000000002 00 0000 0000000000000001 00",
-            6,
-        ),
-        (
-            "01 0000002a 0000000000000001 00000000 0000 0002 0000 0000000000000002 00 0000 0000000000000001",
-            6,
-        ),
-        (
-            "01 0000002a 0000000000000001 00000000 0000 0002 0000 0000000000000001 00 0000 0000000000000002",
-            3,
-        ),
-        (
-            "01 0000002c 0000000000000001 00000000 0000 0002 0000 0000000000000001 00 0000 0000000000000002 00 00",
-            3,
-        ),
-        // values
-        (
-            "01 00000020 0000000000000001 00000000 0000 0001 0000 0000000000000001 03",
-            6,
-        ),
-        (
-            "01 00000024 0000000000000001 00000000 0000 0001 0000 0000000000000001 02 0002 c3a9",
-            0,
-        ),
-        (
-            "01 00000024 0000000000000001 00000000 0000 0001 0000 0000000000000001 02 0002 c3c3",
-            6,
-        ),
-        (
-            "01 00000022 0000000000000001 00000000 0000 0001 0000 0000000000000001 02 0040",
-            3,
-        ),
-        (
-            "01 00000022 0000000000000001 00000000 0000 0001 0000 0000000000000001 02 0041",
-            6,
-        ),
-        (
-            "01 00000021 0000000000000001 00000000 0000 0001 0000 0000000000000001 02 00",
-            3,
-        ),
-        // arguments
-        ("02 00000016 0000000000000001 00000000 0000 0000 00", 0),
-        (
-            "02 0000001e 0000000000000001 00000000 0000 0000 08 0000000000000000",
-            0,
-        ),
-        (
-            "02 0000001f 0000000000000001 00000000 0000 0000 09 000000000000000000",
-            6,
-        ),
-        (
-            "02 00000018 0000000000000001 00000000 0000 ffff 01 03 00",
-            6,
-        ),
-        ("02 00000015 0000000000000001 00000000 0000 0000", 3),
-    ];
-    for (rest, cause) in rows {
-        assert_eq!(rt; cause_of(&rt, rt.alloc(), 1, rest)?, cause, "{rest}");
-    }
+    have_causes(&rt, rt.alloc(), &LENGTHS)
+}
+
+/// The same of the head of a data record.
+const HEADS: [(&str, u8); 8] = [
+    // the call's number, the anchor's number and the mask
+    (
+        "01 00000028 0000000000000000 00000000 0000 0001 0000 0000000000000001 01 0000000000000005",
+        6,
+    ),
+    (
+        "01 00000028 0000000000000001 00000001 0000 0001 0000 0000000000000001 01 0000000000000005",
+        4,
+    ),
+    (
+        "01 00000028 0000000000000001 00000000 0002 0001 0000 0000000000000001 01 0000000000000005",
+        5,
+    ),
+    (
+        "01 00000030 0000000000000001 00000000 0001 0000000000000000 0001 0000 0000000000000001 01 0000000000000005",
+        5,
+    ),
+    (
+        "01 00000030 0000000000000001 00000000 0001 0000000000000001 0001 0000 0000000000000001 01 0000000000000005",
+        0,
+    ),
+    (
+        "01 00000030 0000000000000001 00000000 0001 3fffffffffffffff 0001 0000 0000000000000001 01 0000000000000005",
+        0,
+    ),
+    (
+        "01 00000030 0000000000000001 00000000 0001 4000000000000000 0001 0000 0000000000000001 01 0000000000000005",
+        5,
+    ),
+    ("01 00000015 0000000000000001 00000000 0001 0000", 3),
+];
+
+#[test]
+fn each_cause_of_a_head_at_its_edge(rt: HostRuntime) -> Result<(), Fail> {
+    have_causes(&rt, rt.alloc(), &HEADS)
+}
+
+/// The same of its writes.
+const WRITES: [(&str, u8); 11] = [
+    // the count of writes, their order, and what is cut
+    ("01 00000015 0000000000000001 00000000 0000 0000", 6),
+    ("01 00000015 0000000000000001 00000000 0000 0040", 3),
+    ("01 00000015 0000000000000001 00000000 0000 0041", 6),
+    (
+        "01 0000002b 0000000000000001 00000000 0000 0002 0000 0000000000000001 00 0000 0000000000000002 00",
+        0,
+    ),
+    (
+        "01 0000002b 0000000000000001 00000000 0000 0002 0000 ffffffffffffffff 00 0000 0000000000000000 00",
+        0,
+    ),
+    (
+        "01 0000002b 0000000000000001 00000000 0000 0002 0000 0000000000000002 00 0001 0000000000000001 00",
+        0,
+    ),
+    (
+        "01 0000002b 0000000000000001 00000000 0000 0002 0000 0000000000000001 00 0000 0000000000000001 00",
+        6,
+    ),
+    (
+        "01 0000002b 0000000000000001 00000000 0000 0002 0000 0000000000000002 00 0000 0000000000000001 00",
+        6,
+    ),
+    (
+        "01 0000002a 0000000000000001 00000000 0000 0002 0000 0000000000000002 00 0000 0000000000000001",
+        6,
+    ),
+    (
+        "01 0000002a 0000000000000001 00000000 0000 0002 0000 0000000000000001 00 0000 0000000000000002",
+        3,
+    ),
+    (
+        "01 0000002c 0000000000000001 00000000 0000 0002 0000 0000000000000001 00 0000 0000000000000002 00 00",
+        3,
+    ),
+];
+
+#[test]
+fn each_cause_of_writes_at_its_edge(rt: HostRuntime) -> Result<(), Fail> {
+    have_causes(&rt, rt.alloc(), &WRITES)
+}
+
+/// The same of values and arguments.
+const VALUES: [(&str, u8); 11] = [
+    // values
+    (
+        "01 00000020 0000000000000001 00000000 0000 0001 0000 0000000000000001 03",
+        6,
+    ),
+    (
+        "01 00000024 0000000000000001 00000000 0000 0001 0000 0000000000000001 02 0002 c3a9",
+        0,
+    ),
+    (
+        "01 00000024 0000000000000001 00000000 0000 0001 0000 0000000000000001 02 0002 c3c3",
+        6,
+    ),
+    (
+        "01 00000022 0000000000000001 00000000 0000 0001 0000 0000000000000001 02 0040",
+        3,
+    ),
+    (
+        "01 00000022 0000000000000001 00000000 0000 0001 0000 0000000000000001 02 0041",
+        6,
+    ),
+    (
+        "01 00000021 0000000000000001 00000000 0000 0001 0000 0000000000000001 02 00",
+        3,
+    ),
+    // arguments
+    ("02 00000016 0000000000000001 00000000 0000 0000 00", 0),
+    (
+        "02 0000001e 0000000000000001 00000000 0000 0000 08 0000000000000000",
+        0,
+    ),
+    (
+        "02 0000001f 0000000000000001 00000000 0000 0000 09 000000000000000000",
+        6,
+    ),
+    (
+        "02 00000018 0000000000000001 00000000 0000 ffff 01 03 00",
+        6,
+    ),
+    ("02 00000015 0000000000000001 00000000 0000 0000", 3),
+];
+
+#[test]
+fn each_cause_of_values_at_its_edge(rt: HostRuntime) -> Result<(), Fail> {
+    have_causes(&rt, rt.alloc(), &VALUES)
+}
+
+/// The content with other bytes from a place on.
+fn changed(alloc: Global, content: &[u8], from: usize, change: &str) -> Result<Vec<u8>, Fail> {
+    let change = bytes_of(alloc, change)?;
+    let mut changed = Vec::new(alloc);
+    changed.extend_from_slice(content.get(..from).unwrap_or(&[]))?;
+    changed.extend_from_slice(change.as_slice())?;
+    let past = change.len().saturating_add(from);
+    changed.extend_from_slice(content.get(past..).unwrap_or(&[]))?;
+    Ok(changed)
+}
+
+/// The reading of a stream of one refuses this content.
+fn refuses(rt: &impl Abort, alloc: Global, content: &[u8], fault: RecordFault) {
+    let found = decode(alloc, 1, content).err();
+    assert!(rt; found == Some(RecordRefusal::Bad(fault)));
+}
+
+/// The same of a content of 53 bytes with other bytes from a place on.
+fn refuses_change(
+    rt: &impl Abort,
+    alloc: Global,
+    content: &[u8],
+    from: usize,
+    change: &str,
+    fault: RecordFault,
+) -> Result<(), Fail> {
+    let changed = changed(alloc, content, from, change)?;
+    assert_eq!(rt; changed.len(), 53, "{from}");
+    refuses(rt, alloc, changed.as_slice(), fault);
     Ok(())
 }
 
@@ -307,25 +491,23 @@ fn hostile_contents(rt: HostRuntime) -> Result<(), Fail> {
         (44, "03", RecordCause::BadBody, 13),
     ];
     for (from, change, cause, at) in rows {
-        let change = bytes_of(alloc, change)?;
-        let mut changed = Vec::new(alloc);
-        changed.extend_from_slice(content.as_slice().get(..from).unwrap_or(&[]))?;
-        changed.extend_from_slice(change.as_slice())?;
-        let past = change.len().saturating_add(from);
-        changed.extend_from_slice(content.as_slice().get(past..).unwrap_or(&[]))?;
-        assert_eq!(rt; changed.len(), 53);
-        let fault = RecordFault { at, cause };
-        assert!(rt;
-            decode(alloc, 1, changed.as_slice()).err() == Some(RecordRefusal::Bad(fault)),
-            "{from}"
-        );
+        let content = content.as_slice();
+        refuses_change(&rt, alloc, content, from, change, RecordFault { at, cause })?;
     }
     Ok(())
 }
 
-/// A catalogue text has at most 32,768 bytes, and a data record at most 5,077.
+/// A record's head, a text, and one more byte.
+fn longer_by_one(alloc: Global, head: &str, text: &[u8]) -> Result<Vec<u8>, Fail> {
+    let mut bytes = bytes_of(alloc, head)?;
+    bytes.extend_from_slice(text)?;
+    bytes.push(32)?;
+    Ok(bytes)
+}
+
+/// A catalogue text has at most 32,768 bytes.
 #[test]
-fn longest_records(rt: HostRuntime) -> Result<(), Fail> {
+fn longest_catalogue(rt: HostRuntime) -> Result<(), Fail> {
     let alloc = rt.alloc();
     let text = Vec::from_elem(alloc, 32u8, 32_768)?;
     assert!(rt; text.len() <= 32_768);
@@ -336,22 +518,34 @@ fn longest_records(rt: HostRuntime) -> Result<(), Fail> {
         at: 32_773,
         cause: RecordCause::BadKind,
     };
-    assert!(rt; decode(alloc, 1, content.as_slice()).err() == Some(RecordRefusal::Bad(longer)));
-    let mut above = bytes_of(alloc, "04 00008006")?;
-    above.extend_from_slice(text.as_slice())?;
-    above.push(32)?;
+    refuses(&rt, alloc, content.as_slice(), longer);
+    let above = longer_by_one(alloc, "04 00008006", text.as_slice())?;
     let body = RecordFault {
         at: 0,
         cause: RecordCause::BadBody,
     };
-    assert!(rt; decode(alloc, 1, above.as_slice()).err() == Some(RecordRefusal::Bad(body)));
-    let some = Text64::of("xxxxxxxxxxxxxxxxxxxxxxxxxxxxxxxxxxxxxxxxxxxxxxxxxxxxxxxxxxxxxxxx");
-    if let Some(text) = some {
-        let zero = Lv::zero(16);
-        let one = put(&rt, alloc, 1, 0, &zero, &zero, Value::Text(text))?;
-        assert_eq!(rt; one.len(), 98);
-    }
+    refuses(&rt, alloc, above.as_slice(), body);
     Ok(())
+}
+
+/// The record of one write of the longest text, above no anchor and with an empty mask.
+#[test]
+fn longest_record_of_one_write(rt: HostRuntime) -> Result<(), Fail> {
+    let text = Text64::of("xxxxxxxxxxxxxxxxxxxxxxxxxxxxxxxxxxxxxxxxxxxxxxxxxxxxxxxxxxxxxxxx");
+    let value = Value::Text(text.ok_or("long")?);
+    let zero = Lv::zero(16);
+    let one = put(&rt, rt.alloc(), 1, 0, &zero, &zero, value)?;
+    assert_eq!(rt; one.len(), 98);
+    Ok(())
+}
+
+/// The catalogue record, and then a record so many times.
+fn repeated(alloc: Global, record: &[u8], count: u32) -> Result<Vec<u8>, Fail> {
+    let mut content = bytes_of(alloc, CATALOGUE)?;
+    for _ in 0..count {
+        content.extend_from_slice(record)?;
+    }
+    Ok(content)
 }
 
 /// 200,000 records are read in one pass.
@@ -360,13 +554,10 @@ fn many_records(rt: HostRuntime) -> Result<(), Fail> {
     let alloc = rt.alloc();
     let zero = Lv::zero(2);
     let record = put(&rt, alloc, 2, 0, &zero.with(0, 53), &zero, Value::Int(7))?;
-    let mut content = bytes_of(alloc, CATALOGUE)?;
-    for _ in 0..200_000u32 {
-        content.extend_from_slice(record.as_slice())?;
-    }
+    let content = repeated(alloc, record.as_slice(), 200_000)?;
     assert_eq!(rt; content.len(), 9_600_013);
     let placed = decode(alloc, 2, content.as_slice())?;
     assert_eq!(rt; placed.len(), 200_001);
-    assert_eq!(rt; placed[200_000].past, 9_600_013);
+    assert_eq!(rt; place_of(&rt, placed.as_slice(), 200_000).1, 9_600_013);
     Ok(())
 }

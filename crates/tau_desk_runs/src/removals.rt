@@ -9,6 +9,7 @@ use crate::support::{
     split_manager, split_worker, work,
 };
 use std::alloc::Global;
+use std::process::Abort;
 use std::sync::Wait;
 use std::sync::atomic::AtomicU64;
 use std::test::*;
@@ -96,9 +97,13 @@ fn positions(lv: &Lv) -> [u64; 2] {
 
 /// A call that has committed: its number, its dep, and where its record starts and ends.
 fn place(core: &Core, i: usize) -> Option<(u64, [u64; 2], u64, u64)> {
-    let call = core.committed().get(i)?;
-    let spot = call.spot?;
-    Some((call.number, positions(&call.dep), spot.start, spot.past))
+    if i >= core.committed().len() {
+        return None;
+    }
+    let call = core.committed().at(i);
+    let spot = call.spot()?;
+    let dep = [*call.dep().get(0)?, *call.dep().get(1)?];
+    Some((call.number(), dep, spot.start, spot.past))
 }
 
 /// What came of a run: its core, where what each manager gathered ends, and what the clerk acknowledged.
@@ -115,14 +120,11 @@ fn run_of<R: Wait>(rt: &R, alloc: Global, text: &[u8], shard: u8) -> Result<Ran,
 {
     let (desk, mut head) = desk_of(alloc, text, 2, 2)?;
     match steps(rt, alloc, &desk, &mut head, shard) {
-        Ok((gathered, told)) => match closes(desk, head) {
-            Ok(core) => Ok(Ran {
-                core,
-                gathered,
-                told,
-            }),
-            Err(stuck) => Err(Fail::new(stuck.why)),
-        },
+        Ok((gathered, told)) => Ok(Ran {
+            core: closes(desk, head)?,
+            gathered,
+            told,
+        }),
         Err(stuck) => Err(Fail::new(stuck.why)),
     }
 }
@@ -148,15 +150,30 @@ fn steps<R: Wait>(
     Ok(((first, second), told))
 }
 
+/// Checks a call that has committed: its number, its dep, and where its record starts and ends.
+fn stands(rt: &impl Abort, core: &Core, i: usize, wanted: (u64, [u64; 2], u64, u64)) {
+    assert_eq!(rt; place(core, i), Some(wanted));
+}
+
+/// Checks what the clerk acknowledged of both workers.
+fn told(rt: &impl Abort, ran: &Ran, first: Told, second: Told) {
+    assert_eq!(rt; ran.told, (Some(first), Some(second)));
+}
+
+/// Checks the number of a row.
+fn holds(rt: &impl Abort, core: &Core, row: i64, number: i64) {
+    assert_eq!(rt; number_at(core, row), Some(number));
+}
+
 // The second call adds to the row whose entry was removed.
 #[test]
 fn the_next_writer_of_the_row(rt: HostRuntime) -> Result<(), Fail> {
     let ran = run_of(&rt, rt.alloc(), b"table a\nput a 1 5\nadd a 1 2\n", 1)?;
     assert_eq!(rt; ran.gathered, (53, 61));
-    assert_eq!(rt; place(&ran.core, 0), Some((1, [0, 0], 13, 53)));
-    assert_eq!(rt; place(&ran.core, 1), Some((2, [53, 0], 13, 61)));
-    assert_eq!(rt; ran.told, (Some((1, [53, 0])), Some((2, [53, 61]))));
-    assert_eq!(rt; number_at(&ran.core, 1), Some(7));
+    stands(&rt, &ran.core, 0, (1, [0, 0], 13, 53));
+    stands(&rt, &ran.core, 1, (2, [53, 0], 13, 61));
+    told(&rt, &ran, (1, [53, 0]), (2, [53, 61]));
+    holds(&rt, &ran.core, 1, 7);
     Ok(())
 }
 
@@ -164,10 +181,10 @@ fn the_next_writer_of_the_row(rt: HostRuntime) -> Result<(), Fail> {
 #[test]
 fn another_row_of_the_shard(rt: HostRuntime) -> Result<(), Fail> {
     let ran = run_of(&rt, rt.alloc(), b"table a\nput a 1 5\nput a 65 7\n", 1)?;
-    assert_eq!(rt; place(&ran.core, 1), Some((2, [53, 0], 13, 61)));
-    assert_eq!(rt; ran.told, (Some((1, [53, 0])), Some((2, [53, 61]))));
-    assert_eq!(rt; number_at(&ran.core, 1), Some(5));
-    assert_eq!(rt; number_at(&ran.core, 65), Some(7));
+    stands(&rt, &ran.core, 1, (2, [53, 0], 13, 61));
+    told(&rt, &ran, (1, [53, 0]), (2, [53, 61]));
+    holds(&rt, &ran.core, 1, 5);
+    holds(&rt, &ran.core, 65, 7);
     Ok(())
 }
 
@@ -175,7 +192,7 @@ fn another_row_of_the_shard(rt: HostRuntime) -> Result<(), Fail> {
 #[test]
 fn another_row_where_the_entry_stays(rt: HostRuntime) -> Result<(), Fail> {
     let ran = run_of(&rt, rt.alloc(), b"table a\nput a 1 5\nput a 65 7\n", 2)?;
-    assert_eq!(rt; place(&ran.core, 1), Some((2, [0, 0], 13, 53)));
-    assert_eq!(rt; ran.told, (Some((1, [53, 0])), Some((2, [0, 53]))));
+    stands(&rt, &ran.core, 1, (2, [0, 0], 13, 53));
+    told(&rt, &ran, (1, [53, 0]), (2, [0, 53]));
     Ok(())
 }

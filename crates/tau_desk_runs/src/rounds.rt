@@ -13,6 +13,33 @@ use std::sync::atomic::{AtomicU64, Ordering};
 use std::thread::{Threads, join};
 use tau_desk::{ClerkSeat, Desk, Head, ManagerSeat, WorkerSeat};
 
+/// A worker's seat after all its calls.
+fn worked<R: Wait>(rt: &R, desk: &Desk, seat: WorkerSeat) -> Option<WorkerSeat>
+    requires own { seat.table_id ≡ desk.now.table.shared.table_id }
+    requires opened { seat.me.0.opened ≡ Some desk.now.table.shared.key.value }
+    requires run { Opened desk.now.table.shared.key.value.load desk.now.table.shared.key.value }
+    ensures own { IfSome result (λ s. s.table_id ≡ desk.now.table.shared.table_id) }
+    ensures opened { IfSome result (λ s. s.me.0.opened ≡ Some desk.now.table.shared.key.value) }
+{
+    match work(rt, desk, seat) {
+        Ok(seat) => Some(seat),
+        Err(_) => None,
+    }
+}
+
+/// The head, after it took in a worker's seat.
+fn takes_in(desk: &Desk, mut head: Head, seat: WorkerSeat) -> Option<Head>
+    requires own { (head.table_id ≡ desk.now.table.shared.table_id) × (seat.table_id ≡ desk.now.table.shared.table_id) }
+    requires opened { (head.me.0.opened ≡ Some desk.now.table.shared.key.value) × (seat.me.0.opened ≡ Some desk.now.table.shared.key.value) }
+    ensures own { IfSome result (λ h. h.table_id ≡ desk.now.table.shared.table_id) }
+    ensures opened { IfSome result (λ h. h.me.0.opened ≡ Some desk.now.table.shared.key.value) }
+{
+    match join_worker(desk, &mut head, seat) {
+        Ok(()) => Some(head),
+        Err(_) => None,
+    }
+}
+
 /// A worker, and so many others after it.
 fn workers<R: Threads + Wait + Sync>(
     rt: &R,
@@ -30,25 +57,20 @@ fn workers<R: Threads + Wait + Sync>(
 {
     let seat = split_worker(desk, &mut head, worker)?;
     if others == 0 {
-        let seat = work(rt, desk, seat).ok()?;
-        join_worker(desk, &mut head, seat).ok()?;
-        return Some(head);
+        return takes_in(desk, head, worked(rt, desk, seat)?);
     }
     let (seat, head) = join(
         rt,
         move || -> Option<WorkerSeat>
             requires { (seat.table_id ≡ desk.now.table.shared.table_id) × (seat.me.0.opened ≡ Some desk.now.table.shared.key.value) × Opened desk.now.table.shared.key.value.load desk.now.table.shared.key.value }
             ensures { IfSome result (λ s. (s.table_id ≡ desk.entry.now.table.shared.table_id) × (s.me.0.opened ≡ Some desk.entry.now.table.shared.key.value)) }
-        { work(rt, desk, seat).ok() },
+        { worked(rt, desk, seat) },
         move || -> Option<Head>
             requires { IsSync R.row × (head.table_id ≡ desk.now.table.shared.table_id) × (head.me.0.opened ≡ Some desk.now.table.shared.key.value) × Opened desk.now.table.shared.key.value.load desk.now.table.shared.key.value × (1 ≤ others) × (worker + others < 16) }
             ensures { IfSome result (λ h. (h.table_id ≡ desk.entry.now.table.shared.table_id) × (h.me.0.opened ≡ Some desk.entry.now.table.shared.key.value)) }
         { workers(rt, desk, head, worker + 1, others - 1) },
     );
-    let seat = seat?;
-    let mut head = head?;
-    join_worker(desk, &mut head, seat).ok()?;
-    Some(head)
+    takes_in(desk, head?, seat?)
 }
 
 /// The clerk beside so many workers, after which the round is over.

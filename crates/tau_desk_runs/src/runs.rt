@@ -1,7 +1,8 @@
 //! Runs in threads, over one row and over many, that are closed.
-ghost use Rattle.std.specs.Prelude.{◌≡◌, ◌≤◌, IfSome, Some};
+ghost use Rattle.std.specs.Prelude.{◌≡◌, ◌≤◌, ◌<◌, Some};
 ghost use Rattle.tau_base.specs.declared.limits.TheConstants.{MAX_STREAMS, MAX_WORKERS};
 ghost use Rattle.tau_core.specs.Opens.{Opened};
+ghost use Rattle.tau_desk_runs.specs.Same.{IsSameHead};
 
 use crate::rounds::managers;
 use crate::support::{
@@ -9,6 +10,7 @@ use crate::support::{
     split_manager, split_resumed, tell, work,
 };
 use std::alloc::Global;
+use std::process::Abort;
 use std::sync::Wait;
 use std::sync::atomic::AtomicU64;
 use std::test::*;
@@ -41,6 +43,55 @@ fn resumes<R: Wait>(rt: &R, desk: &Desk, head: &mut Head) -> Result<(), Stuck>
     Ok(())
 }
 
+/// What the manager of a stream does after the workers.
+fn settles_stream<R: Wait>(
+    rt: &R,
+    alloc: Global,
+    desk: &Desk,
+    head: &mut Head,
+    stream: u8,
+    over: &AtomicU64,
+) -> Result<(), Stuck>
+    requires own { head.old.table_id ≡ desk.now.table.shared.table_id }
+    requires opened { head.old.me.0.opened ≡ Some desk.now.table.shared.key.value }
+    requires stream { stream < desk.now.streams }
+    ensures { IsSameHead head.old head.new }
+{
+    let Some(seat) = split_manager(desk, head, stream) else {
+        return Err(Stuck { why: "no manager" });
+    };
+    match manage(rt, alloc, desk, seat, stream, over) {
+        Ok(seat) => {
+            join_manager(desk, head, seat);
+            Ok(())
+        }
+        Err(stuck) => Err(stuck),
+    }
+}
+
+/// What the clerk does after the workers.
+fn settles_clerk<R: Wait>(
+    rt: &R,
+    desk: &Desk,
+    head: &mut Head,
+    over: &AtomicU64,
+) -> Result<(), Stuck>
+    requires own { head.old.table_id ≡ desk.now.table.shared.table_id }
+    requires opened { head.old.me.0.opened ≡ Some desk.now.table.shared.key.value }
+    ensures { IsSameHead head.old head.new }
+{
+    let Some(seat) = split_clerk(desk, head) else {
+        return Err(Stuck { why: "no clerk" });
+    };
+    match tell(rt, desk, seat, over) {
+        Ok(seat) => {
+            join_clerk(desk, head, seat);
+            Ok(())
+        }
+        Err(stuck) => Err(stuck),
+    }
+}
+
 /// What managers and the clerk do after the workers.
 fn settles<R: Wait>(
     rt: &R,
@@ -55,14 +106,9 @@ fn settles<R: Wait>(
     ensures opened { head.new.me.0.opened ≡ Some desk.now.table.shared.key.value }
 {
     for stream in 0..desk.streams {
-        let seat = split_manager(desk, head, stream as u8).ok_or(Stuck { why: "no manager" })?;
-        let seat = manage(rt, alloc, desk, seat, stream as u8, over)?;
-        join_manager(desk, head, seat);
+        settles_stream(rt, alloc, desk, head, stream as u8, over)?;
     }
-    let seat = split_clerk(desk, head).ok_or(Stuck { why: "no clerk" })?;
-    let seat = tell(rt, desk, seat, over)?;
-    join_clerk(desk, head, seat);
-    Ok(())
+    settles_clerk(rt, desk, head, over)
 }
 
 /// The core of a run of this text on `n` streams by `m` workers, each in a thread of its own, as the managers and the clerk are.
@@ -90,10 +136,7 @@ fn run_of<R: Threads + Wait + Sync>(
     if let Err(stuck) = settles(rt, alloc, &desk, &mut head, &over) {
         return Err(Fail::new(stuck.why));
     }
-    match closes(desk, head) {
-        Ok(core) => Ok(core),
-        Err(stuck) => Err(Fail::new(stuck.why)),
-    }
+    closes(desk, head)
 }
 
 /// How many rows from this one on have these numbers.
@@ -109,63 +152,54 @@ fn right(core: &Core, from: i64, numbers: &[i64]) -> usize {
     count
 }
 
+/// The core of a desk that is closed as soon as it is opened.
+fn closed_at_once(alloc: Global, text: &[u8]) -> Result<Core, Fail> {
+    let (desk, head) = desk_of(alloc, text, 2, 2)?;
+    closes(desk, head)
+}
+
 #[test]
 fn opened_and_closed(rt: HostRuntime) -> Result<(), Fail> {
-    let (desk, head) = desk_of(rt.alloc(), ONE_ROW, 2, 2)?;
-    match closes(desk, head) {
-        Ok(core) => {
-            assert_eq!(rt; core.committed().len(), 0);
-            assert_eq!(rt; number_at(&core, 1), None);
-            Ok(())
-        }
-        Err(stuck) => Err(Fail::new(stuck.why)),
-    }
+    let core = closed_at_once(rt.alloc(), ONE_ROW)?;
+    assert_eq!(rt; core.committed().len(), 0);
+    assert_eq!(rt; number_at(&core, 1), None);
+    Ok(())
+}
+
+/// Checks a core in which each of the 32 calls added 1 to row 1.
+fn holds_one_row(rt: &impl Abort, core: &Core) {
+    assert_eq!(rt; core.committed().len(), 32);
+    assert_eq!(rt; number_at(core, 1), Some(32));
+}
+
+/// Checks a core of the calls on many rows.
+fn holds_many_rows(rt: &impl Abort, core: &Core) {
+    let put = [1, 2, 3, 4, 5, 6, 7, 8, 9, 10, 11, 12, 13, 14, 15, 16];
+    assert_eq!(rt; core.committed().len(), 32);
+    assert_eq!(rt; right(core, 1, &[4, 3, 3, 3, 3]), 5);
+    assert_eq!(rt; right(core, 11, &put), 16);
 }
 
 #[test]
 fn two_workers_over_one_row(rt: HostRuntime) -> Result<(), Fail> {
-    let core = run_of(&rt, rt.alloc(), ONE_ROW, 1, 2)?;
-    assert_eq!(rt; core.committed().len(), 32);
-    assert_eq!(rt; number_at(&core, 1), Some(32));
+    holds_one_row(&rt, &run_of(&rt, rt.alloc(), ONE_ROW, 1, 2)?);
     Ok(())
 }
 
 #[test]
 fn sixteen_workers_over_one_row(rt: HostRuntime) -> Result<(), Fail> {
-    let core = run_of(&rt, rt.alloc(), ONE_ROW, 3, 16)?;
-    assert_eq!(rt; core.committed().len(), 32);
-    assert_eq!(rt; number_at(&core, 1), Some(32));
+    holds_one_row(&rt, &run_of(&rt, rt.alloc(), ONE_ROW, 3, 16)?);
     Ok(())
 }
 
 #[test]
 fn two_workers_over_many_rows(rt: HostRuntime) -> Result<(), Fail> {
-    let core = run_of(&rt, rt.alloc(), MANY_ROWS, 2, 2)?;
-    assert_eq!(rt; core.committed().len(), 32);
-    assert_eq!(rt; right(&core, 1, &[4, 3, 3, 3, 3]), 5);
-    assert_eq!(rt;
-        right(
-            &core,
-            11,
-            &[1, 2, 3, 4, 5, 6, 7, 8, 9, 10, 11, 12, 13, 14, 15, 16]
-        ),
-        16
-    );
+    holds_many_rows(&rt, &run_of(&rt, rt.alloc(), MANY_ROWS, 2, 2)?);
     Ok(())
 }
 
 #[test]
 fn sixteen_workers_over_many_rows(rt: HostRuntime) -> Result<(), Fail> {
-    let core = run_of(&rt, rt.alloc(), MANY_ROWS, 4, 16)?;
-    assert_eq!(rt; core.committed().len(), 32);
-    assert_eq!(rt; right(&core, 1, &[4, 3, 3, 3, 3]), 5);
-    assert_eq!(rt;
-        right(
-            &core,
-            11,
-            &[1, 2, 3, 4, 5, 6, 7, 8, 9, 10, 11, 12, 13, 14, 15, 16]
-        ),
-        16
-    );
+    holds_many_rows(&rt, &run_of(&rt, rt.alloc(), MANY_ROWS, 4, 16)?);
     Ok(())
 }

@@ -79,6 +79,20 @@ fn went(acted: Acted) -> Result<bool, Stuck> {
     }
 }
 
+/// Whether the outbox has room for the next call, which is made where it is missing.
+pub fn has_room<R: Wait>(rt: &R, desk: &Desk, seat: &mut WorkerSeat) -> bool
+    requires own { seat.old.table_id ≡ desk.now.table.shared.table_id }
+    requires opened { seat.old.me.0.opened ≡ Some desk.now.table.shared.key.value }
+    ensures same { IsSameSeat seat.old seat.new }
+    ensures call { seat.new.work.txn ≡ seat.old.work.txn }
+    ensures room { result ≡ true → 1 ≤ seat.new.work.spare.1 }
+{
+    if seat.is_roomy() {
+        return true;
+    }
+    seat.make_room(rt, desk)
+}
+
 fn begins<R: Wait>(rt: &R, desk: &Desk, seat: &mut WorkerSeat) -> Result<bool, Stuck>
     requires own { seat.old.table_id ≡ desk.now.table.shared.table_id }
     requires opened { seat.old.me.0.opened ≡ Some desk.now.table.shared.key.value }
@@ -90,7 +104,7 @@ fn begins<R: Wait>(rt: &R, desk: &Desk, seat: &mut WorkerSeat) -> Result<bool, S
             why: "a call is in hand",
         });
     }
-    if !seat.make_room(rt, desk) {
+    if !has_room(rt, desk, seat) {
         return Err(Stuck { why: "no memory" });
     }
     match seat.begin(desk) {
@@ -383,19 +397,15 @@ pub fn split_resumed(desk: &Desk, head: &mut Head) -> Option<WorkerSeat>
 }
 
 /// The core of the desk, where no role is out and no call is in hand.
-pub fn closes(desk: Desk, head: Head) -> Result<Core, Stuck>
+pub fn closes(desk: Desk, head: Head) -> Result<Core, Fail>
     requires own { head.table_id ≡ desk.table.shared.table_id }
     requires opened { head.me.0.opened ≡ Some desk.table.shared.key.value }
 {
     if !head.is_whole() {
-        return Err(Stuck {
-            why: "a role is out",
-        });
+        return Err(Fail::new("a role is out"));
     }
     if !head.is_idle() {
-        return Err(Stuck {
-            why: "a call is in hand",
-        });
+        return Err(Fail::new("a call is in hand"));
     }
     Ok(desk.close(head))
 }

@@ -1,19 +1,15 @@
 //! Workers on their seats, against the worked runs.
-ghost use Rattle.std.specs.Prelude.{◌≡◌, ◌≤◌, IfOk, None, Some, slice_get, slice_set, true};
-ghost use Rattle.tau_desk.specs.Ends.{IsWhole};
-ghost use Rattle.tau_desk.specs.Shares.{PlainWork};
-ghost use Rattle.tau_base.specs.declared.limits.TheConstants.{MAX_STREAMS, MAX_WORKERS};
+ghost use Rattle.std.specs.Prelude.{◌≡◌, IfOk, None, Some};
 ghost use Rattle.tau_core.specs.Opens.{Opened};
 ghost use Rattle.tau_txn.specs.Next.{kind_of, next_action};
-ghost use Rattle.tau_txn.specs.Txn.{has_joined};
 ghost use Rattle.tau_txn.specs.declared.action.ActionKind.TheVariants as kind;
 
+use crate::support::{desk_of, has_room, split_worker};
 use std::alloc::Global;
+use std::process::Abort;
 use std::sync::Wait;
 use std::test::Fail;
-use tau_base::{LogMode, Lv, MAX_CATALOGUE};
 use tau_desk::{Acted, Desk, Head, WorkerSeat};
-use tau_text::{parse_workload, print_declarations};
 use tau_txn::ActionKind;
 
 /// What came of a worker's turn.
@@ -41,21 +37,6 @@ fn came_to(acted: Acted, went: Said) -> Said {
         Acted::Other => Said::Rests,
         Acted::NoMemory => Said::NoMemory,
     }
-}
-
-/// Whether the outbox has room for the next call, which is made where it is missing.
-fn has_room(rt: &impl Wait, desk: &Desk, seat: &mut WorkerSeat) -> bool
-    requires own { seat.old.table_id ≡ desk.now.table.shared.table_id }
-    requires opened { seat.old.me.0.opened ≡ Some desk.now.table.shared.key.value }
-    ensures own { seat.new.table_id ≡ seat.old.table_id }
-    ensures opened { seat.new.me.0.opened ≡ seat.old.me.0.opened }
-    ensures call { seat.new.work.txn ≡ seat.old.work.txn }
-    ensures room { result ≡ true → 1 ≤ seat.new.work.spare.1 }
-{
-    if seat.is_roomy() {
-        return true;
-    }
-    seat.make_room(rt, desk)
 }
 
 /// The worker's next call comes into its hand.
@@ -187,81 +168,86 @@ fn first_wrong(
     None
 }
 
-/// The desk of a run of two workers on two streams.
-fn desk_of(alloc: Global, text: &[u8]) -> Result<(Desk, Head), Fail>
-    ensures own { IfOk result (λ d. d.1.table_id ≡ d.0.table.shared.table_id) }
-    ensures opened { IfOk result (λ d. d.1.me.0.opened ≡ Some d.0.table.shared.key.value) }
-    ensures run { IfOk result (λ d. Opened d.0.table.shared.key.value.load d.0.table.shared.key.value) }
-    ensures whole { IfOk result (λ d. IsWhole d.1) }
-    ensures workers { IfOk result (λ d. d.0.table.shared.key.value.load.workers ≡ 2) }
-{
-    let Ok(load) = parse_workload(alloc, text) else {
-        return Err(Fail::new("the text is no workload"));
-    };
-    let Ok(printed) = print_declarations(alloc, &load.declarations) else {
-        return Err(Fail::new("no memory"));
-    };
-    if printed.len() > MAX_CATALOGUE {
-        return Err(Fail::new("the declarations are too long"));
-    }
-    match Desk::new(alloc, &load, 2, 2, LogMode::Values) {
-        Ok(opened) => Ok(opened),
-        Err(_) => Err(Fail::new("no memory")),
-    }
-}
-
-/// The seat of a worker.
-fn seat_of(desk: &Desk, head: &mut Head, worker: u8) -> Result<WorkerSeat, Fail>
-    requires own { head.old.table_id ≡ desk.now.table.shared.table_id }
-    requires opened { head.old.me.0.opened ≡ Some desk.now.table.shared.key.value }
-    requires there { (o : PlainWork) × (slice_get head.old.workers worker ≡ Some (Some o)) }
-    ensures head_own { head.new.table_id ≡ head.old.table_id }
-    ensures head_opened { head.new.me.0.opened ≡ head.old.me.0.opened }
-    ensures own { IfOk result (λ seat. seat.table_id ≡ head.old.table_id) }
-    ensures opened { IfOk result (λ seat. seat.me.0.opened ≡ head.old.me.0.opened) }
-    ensures left { IfOk result (λ seat. head.new.workers ≡ slice_set head.old.workers worker None) }
-{
-    match desk.split_worker(head, worker) {
-        Ok(seat) => Ok(seat),
-        Err(_) => Err(Fail::new("no memory")),
-    }
-}
-
 /// The seats of both workers.
 fn seats_of(desk: &Desk, head: &mut Head) -> Result<(WorkerSeat, WorkerSeat), Fail>
     requires own { head.old.table_id ≡ desk.now.table.shared.table_id }
     requires opened { head.old.me.0.opened ≡ Some desk.now.table.shared.key.value }
-    requires whole { IsWhole head.old }
-    requires workers { desk.now.table.shared.key.value.load.workers ≡ 2 }
-    ensures first_own { IfOk result (λ s. s.0.table_id ≡ desk.now.table.shared.table_id) }
-    ensures first_opened { IfOk result (λ s. s.0.me.0.opened ≡ Some desk.now.table.shared.key.value) }
-    ensures second_own { IfOk result (λ s. s.1.table_id ≡ desk.now.table.shared.table_id) }
-    ensures second_opened { IfOk result (λ s. s.1.me.0.opened ≡ Some desk.now.table.shared.key.value) }
+    ensures own { IfOk result (λ s. (s.0.table_id ≡ desk.now.table.shared.table_id) × (s.1.table_id ≡ desk.now.table.shared.table_id)) }
+    ensures opened { IfOk result (λ s. (s.0.me.0.opened ≡ Some desk.now.table.shared.key.value) × (s.1.me.0.opened ≡ Some desk.now.table.shared.key.value)) }
 {
-    head.agrees();
-    let first = seat_of(desk, head, 0)?;
-    let second = seat_of(desk, head, 1)?;
-    Ok((first, second))
+    let Some(first) = split_worker(desk, head, 0) else {
+        return Err(Fail::new("no first worker"));
+    };
+    match split_worker(desk, head, 1) {
+        Some(second) => Ok((first, second)),
+        None => Err(Fail::new("no second worker")),
+    }
 }
 
-/// The first two positions of a vector.
-fn positions(lv: &Lv) -> [u64; 2] {
-    [lv.position(0), lv.position(1)]
+/// The first two positions of a vector as it is kept, 0 where it has fewer.
+fn first_two(dep: &[u64]) -> [u64; 2] {
+    if dep.len() < 2 {
+        return [0; 2];
+    }
+    [dep[0], dep[1]]
 }
 
 /// What is kept of the i-th call of the worker that has joined the committed ones: its number, its dep and its vector.
 fn kept(seat: &WorkerSeat, i: usize) -> (u64, [u64; 2], [u64; 2]) {
-    match seat.committed().get(i) {
-        Some(call) => (call.number, positions(&call.dep), positions(&call.lv)),
-        None => (0, [0; 2], [0; 2]),
+    let calls = seat.committed();
+    if i >= calls.len() {
+        return (0, [0; 2], [0; 2]);
     }
+    let call = calls.at(i);
+    (
+        call.number(),
+        first_two(call.dep()),
+        [call.position(0), call.position(1)],
+    )
+}
+
+/// What is kept of a call: its number, its dep and its vector.
+type Kept = (u64, [u64; 2], [u64; 2]);
+
+/// The workers' turns on their seats in a run of two workers on two streams, each of which must come to what is said; returns the seats.
+fn seats_after(
+    rt: &(impl Abort + Wait),
+    alloc: Global,
+    text: &[u8],
+    rows: &[(u8, Said)],
+) -> Result<(WorkerSeat, WorkerSeat), Fail> {
+    let (desk, mut head) = desk_of(alloc, text, 2, 2)?;
+    let (mut first, mut second) = seats_of(&desk, &mut head)?;
+    let wrong = first_wrong(rt, &desk, &mut first, &mut second, rows);
+    assert_eq!(rt; wrong, None);
+    Ok((first, second))
+}
+
+/// Checks what is kept of the first call of a worker that has joined the committed ones, where it is said.
+fn keeps(rt: &impl Abort, seat: &WorkerSeat, wanted: Option<Kept>) {
+    if let Some(call) = wanted {
+        assert_eq!(rt; kept(seat, 0), call);
+    }
+}
+
+/// Checks the workers' turns, and what is kept of the first call of each worker, where it is said.
+fn goes(
+    rt: &(impl Abort + Wait),
+    alloc: Global,
+    text: &[u8],
+    rows: &[(u8, Said)],
+    calls: (Option<Kept>, Option<Kept>),
+) -> Result<(), Fail> {
+    let (first, second) = seats_after(rt, alloc, text, rows)?;
+    keeps(rt, &first, calls.0);
+    keeps(rt, &second, calls.1);
+    Ok(())
 }
 
 // A call that writes one row, step by step. Its worker has no other call, the other worker has none.
 #[test]
 fn one_put(rt: HostRuntime) -> Result<(), Fail> {
-    let (desk, mut head) = desk_of(rt.alloc(), b"table a\nput a 1 5\n")?;
-    let (mut first, mut second) = seats_of(&desk, &mut head)?;
+    let text = b"table a\nput a 1 5\n";
     let rows = [
         (0, Said::Began),
         (0, Said::Locked),
@@ -272,19 +258,14 @@ fn one_put(rt: HostRuntime) -> Result<(), Fail> {
         (0, Said::Rests),
         (1, Said::Rests),
     ];
-    assert_eq!(rt;
-        first_wrong(&rt, &desk, &mut first, &mut second, &rows),
-        None
-    );
-    assert_eq!(rt; kept(&first, 0), (1, [0, 0], [53, 0]));
-    Ok(())
+    let calls = (Some((1, [0, 0], [53, 0])), None);
+    goes(&rt, rt.alloc(), text, &rows, calls)
 }
 
 // Two calls that write apart: each record stands first in its stream, and no call depends on the other.
 #[test]
 fn puts_apart(rt: HostRuntime) -> Result<(), Fail> {
-    let (desk, mut head) = desk_of(rt.alloc(), b"table a\nput a 1 5\nput a 2 6\n")?;
-    let (mut first, mut second) = seats_of(&desk, &mut head)?;
+    let text = b"table a\nput a 1 5\nput a 2 6\n";
     let rows = [
         (0, Said::Began),
         (1, Said::Began),
@@ -299,20 +280,14 @@ fn puts_apart(rt: HostRuntime) -> Result<(), Fail> {
         (0, Said::Ended),
         (1, Said::Ended),
     ];
-    assert_eq!(rt;
-        first_wrong(&rt, &desk, &mut first, &mut second, &rows),
-        None
-    );
-    assert_eq!(rt; kept(&first, 0), (1, [0, 0], [53, 0]));
-    assert_eq!(rt; kept(&second, 0), (2, [0, 0], [0, 53]));
-    Ok(())
+    let calls = (Some((1, [0, 0], [53, 0])), Some((2, [0, 0], [0, 53])));
+    goes(&rt, rt.alloc(), text, &rows, calls)
 }
 
 // A second writer of a row meets Busy while the first holds it, and tries again; its vector then covers the end of the first one's record.
 #[test]
 fn a_second_writer_meets_busy(rt: HostRuntime) -> Result<(), Fail> {
-    let (desk, mut head) = desk_of(rt.alloc(), b"table a\nput a 1 5\nput a 1 6\n")?;
-    let (mut first, mut second) = seats_of(&desk, &mut head)?;
+    let text = b"table a\nput a 1 5\nput a 1 6\n";
     let rows = [
         (0, Said::Began),
         (1, Said::Began),
@@ -329,20 +304,14 @@ fn a_second_writer_meets_busy(rt: HostRuntime) -> Result<(), Fail> {
         (1, Said::Freed),
         (1, Said::Ended),
     ];
-    assert_eq!(rt;
-        first_wrong(&rt, &desk, &mut first, &mut second, &rows),
-        None
-    );
-    assert_eq!(rt; kept(&first, 0), (1, [0, 0], [53, 0]));
-    assert_eq!(rt; kept(&second, 0), (2, [53, 0], [53, 61]));
-    Ok(())
+    let calls = (Some((1, [0, 0], [53, 0])), Some((2, [53, 0], [53, 61])));
+    goes(&rt, rt.alloc(), text, &rows, calls)
 }
 
 // The same where the other worker is first.
 #[test]
 fn the_other_writer_is_first(rt: HostRuntime) -> Result<(), Fail> {
-    let (desk, mut head) = desk_of(rt.alloc(), b"table a\nput a 1 5\nput a 1 6\n")?;
-    let (mut first, mut second) = seats_of(&desk, &mut head)?;
+    let text = b"table a\nput a 1 5\nput a 1 6\n";
     let rows = [
         (1, Said::Began),
         (0, Said::Began),
@@ -355,20 +324,14 @@ fn the_other_writer_is_first(rt: HostRuntime) -> Result<(), Fail> {
         (0, Said::Locked),
         (0, Said::Committed),
     ];
-    assert_eq!(rt;
-        first_wrong(&rt, &desk, &mut first, &mut second, &rows),
-        None
-    );
-    assert_eq!(rt; kept(&second, 0), (2, [0, 0], [0, 53]));
-    assert_eq!(rt; kept(&first, 0), (1, [0, 53], [61, 53]));
-    Ok(())
+    let calls = (Some((1, [0, 53], [61, 53])), Some((2, [0, 0], [0, 53])));
+    goes(&rt, rt.alloc(), text, &rows, calls)
 }
 
 // A call that only read what another one wrote joins by its first free, with the vector of what it read.
 #[test]
 fn a_reader_joins_by_its_first_free(rt: HostRuntime) -> Result<(), Fail> {
-    let (desk, mut head) = desk_of(rt.alloc(), b"table a\nput a 1 5\nget a 1\n")?;
-    let (mut first, mut second) = seats_of(&desk, &mut head)?;
+    let text = b"table a\nput a 1 5\nget a 1\n";
     let rows = [
         (0, Said::Began),
         (0, Said::Locked),
@@ -381,10 +344,6 @@ fn a_reader_joins_by_its_first_free(rt: HostRuntime) -> Result<(), Fail> {
         (1, Said::Freed),
         (1, Said::Ended),
     ];
-    assert_eq!(rt;
-        first_wrong(&rt, &desk, &mut first, &mut second, &rows),
-        None
-    );
-    assert_eq!(rt; kept(&second, 0), (2, [53, 0], [53, 0]));
-    Ok(())
+    let calls = (None, Some((2, [53, 0], [53, 0])));
+    goes(&rt, rt.alloc(), text, &rows, calls)
 }

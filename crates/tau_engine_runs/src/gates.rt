@@ -1,9 +1,8 @@
 //! Calls of the program whose places are held until others were reached.
-ghost use Rattle.std.specs.Prelude.{◌≡◌, vec_len};
-
 use crate::recoveries::{APART, FIRST, image_of};
-use crate::support::{disks_of, do_at, has_line, new_disks};
+use crate::support::{bytes_of, disks_of, do_at, has_line, new_disks};
 use std::alloc::Global;
+use std::process::Abort;
 use std::sync::Wait;
 use std::sync::atomic::{AtomicU64, Ordering};
 use std::test::*;
@@ -20,6 +19,23 @@ struct Both {
 }
 
 impl Both {
+    fn new() -> Both {
+        Both {
+            first: AtomicU64::new(0),
+            second: AtomicU64::new(0),
+            late: AtomicU64::new(0),
+        }
+    }
+
+    // Whether the first one was reached, and the second one, and whether a wait ended in vain.
+    fn seen(&self) -> [u64; 3] {
+        [
+            self.first.load(Ordering::SeqCst),
+            self.second.load(Ordering::SeqCst),
+            self.late.load(Ordering::SeqCst),
+        ]
+    }
+
     // Says that one was reached, and waits for the other.
     fn meet(&self, mine: &AtomicU64, other: &AtomicU64) {
         if mine.swap(1, Ordering::SeqCst) == 1 {
@@ -48,36 +64,15 @@ impl Gate for Both {
 #[test]
 fn two_records_in_flight(rt: HostRuntime) -> Result<(), Fail> {
     let alloc = rt.alloc();
-    let gate = Both {
-        first: AtomicU64::new(0),
-        second: AtomicU64::new(0),
-        late: AtomicU64::new(0),
-    };
-    let mut source = MemSource::new(alloc, b"", &[])?;
-    let mut sink = MemSink::new(alloc, &[])?;
-    let mut disks = disks_of(
-        alloc,
-        image_of(alloc, 2, 0, FIRST)?,
-        image_of(alloc, 2, 1, APART)?,
-    )?;
-    let words = ["recover", "2", "2"];
-    let status = do_at(
-        &rt,
-        alloc,
-        &words,
-        &mut source,
-        &mut sink,
-        &mut disks,
-        &gate,
-    )?;
-    assert_eq!(rt; status.code(), 0);
+    let gate = Both::new();
+    let first = image_of(alloc, 2, 0, FIRST)?;
+    let mut disks = disks_of(alloc, first, image_of(alloc, 2, 1, APART)?)?;
+    let text = told_at(&rt, alloc, "recover 2 2", b"", &mut disks, &gate)?;
     assert_eq!(rt;
-        sink.bytes(),
+        text.as_slice(),
         b"elv 53,53\ntaken 0 13 1\ntaken 1 13 2\nrow a 1 int 5\nrow a 2 int 6\nend 0\n".as_slice()
     );
-    assert!(rt; gate.first.load(Ordering::SeqCst) == 1);
-    assert!(rt; gate.second.load(Ordering::SeqCst) == 1);
-    assert!(rt; gate.late.load(Ordering::SeqCst) == 0);
+    assert_eq!(rt; gate.seen(), [1, 1, 0]);
     Ok(())
 }
 
@@ -129,27 +124,19 @@ impl Reached {
     }
 }
 
-// What a run with this gate tells.
+// What a call with this gate tells, where it ends well.
 fn told_at<R: Threads + Wait + Sync, G: Gate + Sync>(
     rt: &R,
     alloc: Global,
-    words: &[&str],
+    line: &str,
     text: &[u8],
     disks: &mut Vec<MemDisk>,
     gate: &G,
-) -> Result<Vec<u8>, Fail>
-    requires { vec_len disks.old ≡ 16 }
-    ensures { vec_len disks.new ≡ 16 }
-{
+) -> Result<Vec<u8>, Fail> {
     let mut source = MemSource::new(alloc, text, &[])?;
     let mut sink = MemSink::new(alloc, &[])?;
-    let status = do_at(rt, alloc, words, &mut source, &mut sink, disks, gate)?;
-    let bytes = if status.code() == 0 {
-        sink.bytes()
-    } else {
-        b"another status".as_slice()
-    };
-    Ok(Vec::from_slice(alloc, bytes)?)
+    let status = do_at(rt, alloc, line, &mut source, &mut sink, disks, gate)?;
+    bytes_of(alloc, &sink, status, 0)
 }
 
 // Two workers put into two streams twice each.
@@ -171,6 +158,18 @@ fn is_of_four(text: &[u8]) -> bool {
     }
     // Four lines of eleven bytes.
     text.get(44..) == Some(rest.as_slice())
+}
+
+// A run of the four puts with this gate tells what it is to tell.
+fn four_are_told<R: Threads + Wait + Sync + Abort, G: Gate + Sync>(
+    rt: &R,
+    alloc: Global,
+    gate: &G,
+) -> Result<(), Fail> {
+    let mut disks = new_disks(alloc)?;
+    let text = told_at(rt, alloc, "run 2 2", FOUR_PUTS, &mut disks, gate)?;
+    assert!(rt; is_of_four(&text));
+    Ok(())
 }
 
 // The first record of each stream is held until that of the other was reached.
@@ -200,13 +199,10 @@ impl Gate for AtOnce {
 
 #[test]
 fn two_workers_at_once(rt: HostRuntime) -> Result<(), Fail> {
-    let alloc = rt.alloc();
     let gate = AtOnce {
         reached: Reached::new(),
     };
-    let mut disks = new_disks(alloc)?;
-    let text = told_at(&rt, alloc, &["run", "2", "2"], FOUR_PUTS, &mut disks, &gate)?;
-    assert!(rt; is_of_four(&text));
+    four_are_told(&rt, rt.alloc(), &gate)?;
     assert!(rt; gate.reached.in_time());
     Ok(())
 }
@@ -242,13 +238,10 @@ impl Gate for HeldFlush {
 
 #[test]
 fn held_flush_lets_other_stream_commit(rt: HostRuntime) -> Result<(), Fail> {
-    let alloc = rt.alloc();
     let gate = HeldFlush {
         reached: Reached::new(),
     };
-    let mut disks = new_disks(alloc)?;
-    let text = told_at(&rt, alloc, &["run", "2", "2"], FOUR_PUTS, &mut disks, &gate)?;
-    assert!(rt; is_of_four(&text));
+    four_are_told(&rt, rt.alloc(), &gate)?;
     assert!(rt; gate.reached.in_time());
     Ok(())
 }
@@ -278,13 +271,10 @@ impl Gate for HeldCall {
 
 #[test]
 fn ack_while_workers_run(rt: HostRuntime) -> Result<(), Fail> {
-    let alloc = rt.alloc();
     let gate = HeldCall {
         reached: Reached::new(),
     };
-    let mut disks = new_disks(alloc)?;
-    let text = told_at(&rt, alloc, &["run", "2", "2"], FOUR_PUTS, &mut disks, &gate)?;
-    assert!(rt; is_of_four(&text));
+    four_are_told(&rt, rt.alloc(), &gate)?;
     assert!(rt; gate.reached.in_time());
     Ok(())
 }
@@ -330,7 +320,7 @@ fn removed_entry_in_threads(rt: HostRuntime) -> Result<(), Fail> {
     };
     let mut disks = new_disks(alloc)?;
     let workload = b"table a\nput a 2 5\nput a 66 7\nput a 3 6\n";
-    let text = told_at(&rt, alloc, &["run", "2", "2"], workload, &mut disks, &gate)?;
+    let text = told_at(&rt, alloc, "run 2 2", workload, &mut disks, &gate)?;
     assert!(rt; has_line(&text, b"ack 2 53,61\n"));
     assert!(rt; gate.reached.in_time());
     Ok(())
@@ -366,14 +356,8 @@ impl Gate for Anchoring {
     }
 }
 
-// Puts of texts of 64 bytes: the records of 700 of them end at 68,613, where an anchor of 13 bytes follows. The record of
-// call 701 names it, and has no explicit component.
-#[test]
-fn anchor_in_threads(rt: HostRuntime) -> Result<(), Fail> {
-    let alloc = rt.alloc();
-    let gate = Anchoring {
-        reached: Reached::new(),
-    };
+// Puts of 701 texts of 64 bytes.
+fn long_puts(alloc: Global) -> Result<String, Fail> {
     let mut workload = String::from_str(alloc, "table a\n")?;
     for k in 1..702u64 {
         write!(
@@ -381,21 +365,41 @@ fn anchor_in_threads(rt: HostRuntime) -> Result<(), Fail> {
             "put a {k} \"xxxxxxxxxxxxxxxxxxxxxxxxxxxxxxxxxxxxxxxxxxxxxxxxxxxxxxxxxxxxxxxx\"\n"
         )?;
     }
+    Ok(workload)
+}
+
+// The last block of the first disk is that of call 701 alone: a record of 98 bytes, then the closed gate.
+fn ends_with_701(rt: &impl Abort, disks: &[MemDisk]) -> Result<(), Fail> {
+    let image = disks.first().ok_or("no disk")?.image(Tear::Old)?;
+    let past = image.len().saturating_sub(99);
+    let block = image.get(past..past.saturating_add(19)).ok_or("no block")?;
+    let wanted = b"\x01\x00\x00\x00\x62\x00\x00\x00\x00\x00\x00\x02\xbd\x00\x00\x00\x01\x00\x00";
+    assert_eq!(rt; block, wanted.as_slice());
+    Ok(())
+}
+
+// The records of 700 puts of texts of 64 bytes end at 68,613, where an anchor of 13 bytes follows. The record of call 701
+// names it, and has no explicit component.
+#[test]
+fn anchor_in_threads(rt: HostRuntime) -> Result<(), Fail> {
+    let alloc = rt.alloc();
+    let gate = Anchoring {
+        reached: Reached::new(),
+    };
+    let workload = long_puts(alloc)?;
     let mut disks = new_disks(alloc)?;
-    let words = ["run", "1", "1"];
-    let text = told_at(&rt, alloc, &words, workload.as_bytes(), &mut disks, &gate)?;
+    let text = told_at(
+        &rt,
+        alloc,
+        "run 1 1",
+        workload.as_bytes(),
+        &mut disks,
+        &gate,
+    )?;
     assert!(rt; has_line(&text, b"ack 701 68724\n"));
     assert!(rt; gate.reached.in_time());
-    // The last block is that of call 701 alone: a record of 98 bytes, then the closed gate.
-    let image = disks[0].image(Tear::Old)?;
-    let past = image.len().saturating_sub(99);
-    assert_eq!(rt;
-        image.get(past..past.saturating_add(19)),
-        Some(
-            b"\x01\x00\x00\x00\x62\x00\x00\x00\x00\x00\x00\x02\xbd\x00\x00\x00\x01\x00\x00".as_slice()
-        )
-    );
-    let found = told_at(&rt, alloc, &["recover", "1", "1"], b"", &mut disks, &gate)?;
+    ends_with_701(&rt, &disks)?;
+    let found = told_at(&rt, alloc, "recover 1 1", b"", &mut disks, &gate)?;
     assert!(rt; found.starts_with(b"elv 68724\ntaken 0 13 1\ntaken 0 111 2\n"));
     assert!(rt; has_line(&found, b"taken 0 68515 700\ntaken 0 68626 701\n"));
     Ok(())

@@ -1,6 +1,7 @@
 //! Recoveries of images that are given.
-use crate::support::{disks_of, told};
+use crate::support::{disks_of, tells};
 use std::alloc::Global;
+use std::process::Abort;
 use std::sync::Wait;
 use std::test::*;
 use std::thread::Threads;
@@ -52,98 +53,109 @@ static WAITING: &[u8] =
 static OTHER: &[u8] =
     b"TAURUS-LOG-1\x00\x02\x00\x01\x01\x00\x00\x00\x0d\x04\x00\x00\x00\x0dtable b\n\x00";
 
-// What recovery tells of the one stream with other bytes in place of those from one place to another, where it ends
-// with this code.
-fn told_of<R: Threads + Wait + Sync>(
+// The one stream with other bytes in place of those from one place to another.
+fn changed(alloc: Global, from: usize, past: usize, bytes: &[u8]) -> Result<MemDisk, Fail> {
+    let mut image = Vec::from_slice(alloc, ONE.get(..from).ok_or("too far")?)?;
+    image.extend_from_slice(bytes)?;
+    image.extend_from_slice(ONE.get(past..).ok_or("too far")?)?;
+    Ok(MemDisk::of_image(alloc, &image)?)
+}
+
+// Recovery of the one stream of this disk ends with this code, and tells what is wanted.
+fn one_tells<R: Threads + Wait + Sync + Abort>(
+    rt: &R,
+    alloc: Global,
+    disk: MemDisk,
+    code: u8,
+    wanted: &str,
+) -> Result<(), Fail> {
+    let mut disks = disks_of(alloc, disk, MemDisk::new(alloc, &[])?)?;
+    tells(rt, alloc, "recover 1 1", "", code, wanted, &mut disks)
+}
+
+// The same of a stream of one with these records.
+fn records_tell<R: Threads + Wait + Sync + Abort>(
+    rt: &R,
+    alloc: Global,
+    records: &[u8],
+    code: u8,
+    wanted: &str,
+) -> Result<(), Fail> {
+    one_tells(rt, alloc, image_of(alloc, 1, 0, records)?, code, wanted)
+}
+
+// The same of the one stream with other bytes in place of those from one place to another.
+fn changed_tells<R: Threads + Wait + Sync + Abort>(
     rt: &R,
     alloc: Global,
     from: usize,
     past: usize,
     bytes: &[u8],
     code: u8,
-) -> Result<Vec<u8>, Fail> {
-    let mut image = Vec::from_slice(alloc, ONE.get(..from).ok_or("too far")?)?;
-    image.extend_from_slice(bytes)?;
-    image.extend_from_slice(ONE.get(past..).ok_or("too far")?)?;
-    let disk = MemDisk::of_image(alloc, &image)?;
-    let mut disks = disks_of(alloc, disk, MemDisk::new(alloc, &[])?)?;
-    told(rt, alloc, &["recover", "1", "1"], b"", code, &mut disks)
+    wanted: &str,
+) -> Result<(), Fail> {
+    one_tells(rt, alloc, changed(alloc, from, past, bytes)?, code, wanted)
+}
+
+// Recovery of two streams with these records, by each of these lines, ends with this code, and tells what is wanted.
+fn two_tell<R: Threads + Wait + Sync + Abort>(
+    rt: &R,
+    alloc: Global,
+    records: [&[u8]; 2],
+    lines: &[&str],
+    code: u8,
+    wanted: &str,
+) -> Result<(), Fail> {
+    let first = image_of(alloc, 2, 0, records[0])?;
+    let mut disks = disks_of(alloc, first, image_of(alloc, 2, 1, records[1])?)?;
+    for line in lines {
+        tells(rt, alloc, line, "", code, wanted, &mut disks)?;
+    }
+    Ok(())
 }
 
 #[test]
 fn gates_end_a_stream(rt: HostRuntime) -> Result<(), Fail> {
     let alloc = rt.alloc();
-    let whole = told_of(&rt, alloc, 80, 80, b"", 0)?;
-    assert_eq!(rt;
-        whole.as_slice(),
-        b"elv 53\ntaken 0 13 1\nrow a 1 int 5\nend 0\n".as_slice()
-    );
-    let closed = told_of(&rt, alloc, 34, 35, b"\x07", 0)?;
-    assert_eq!(rt; closed.as_slice(), b"elv 13\nend 0\n".as_slice());
-    let other = told_of(&rt, alloc, 34, 80, b"\x00\x01\x00\x00\x00\x01any", 0)?;
-    assert_eq!(rt; other.as_slice(), b"elv 13\nend 0\n".as_slice());
-    Ok(())
+    let whole = "elv 53\ntaken 0 13 1\nrow a 1 int 5\nend 0\n";
+    changed_tells(&rt, alloc, 80, 80, b"", 0, whole)?;
+    changed_tells(&rt, alloc, 34, 35, b"\x07", 0, "elv 13\nend 0\n")?;
+    let other = b"\x00\x01\x00\x00\x00\x01any";
+    changed_tells(&rt, alloc, 34, 80, other, 0, "elv 13\nend 0\n")
 }
 
 #[test]
 fn unborn_streams_hold_nothing(rt: HostRuntime) -> Result<(), Fail> {
-    let alloc = rt.alloc();
     for size in 0usize..18 {
-        let text = told_of(&rt, alloc, size, 80, b"", 0)?;
-        assert_eq!(rt; text.as_slice(), b"elv 0\nend 0\n".as_slice());
+        changed_tells(&rt, rt.alloc(), size, 80, b"", 0, "elv 0\nend 0\n")?;
     }
     Ok(())
 }
 
 #[test]
 fn hostile_images_are_named(rt: HostRuntime) -> Result<(), Fail> {
-    let alloc = rt.alloc();
-    let rows = [
-        (0usize, 1usize, b"\x00".as_slice(), b"image 1".as_slice()),
-        (12, 14, b"\x00\x11".as_slice(), b"image 2".as_slice()),
-        (14, 16, b"\x00\x01".as_slice(), b"image 3".as_slice()),
-        (
-            17,
-            21,
-            b"\x00\x00\x00\x00".as_slice(),
-            b"image 4".as_slice(),
-        ),
-        (34, 80, b"".as_slice(), b"image 4".as_slice()),
-        (21, 22, b"\x01".as_slice(), b"record 2 0".as_slice()),
-        (39, 40, b"\x09".as_slice(), b"record 2 13".as_slice()),
-        (
-            40,
-            44,
-            b"\x00\x00\x00\x29".as_slice(),
-            b"record 1 13".as_slice(),
-        ),
-        (
-            40,
-            44,
-            b"\x00\x00\x00\x27".as_slice(),
-            b"record 3 13".as_slice(),
-        ),
+    let rows: [(usize, usize, &[u8], &str); 13] = [
+        (0, 1, b"\x00", "fault 7 0 image 1\n"),
+        (12, 14, b"\x00\x11", "fault 7 0 image 2\n"),
+        (14, 16, b"\x00\x01", "fault 7 0 image 3\n"),
+        (17, 21, b"\x00\x00\x00\x00", "fault 7 0 image 4\n"),
+        (34, 80, b"", "fault 7 0 image 4\n"),
+        (21, 22, b"\x01", "fault 7 0 record 2 0\n"),
+        (39, 40, b"\x09", "fault 7 0 record 2 13\n"),
+        (40, 44, b"\x00\x00\x00\x29", "fault 7 0 record 1 13\n"),
+        (40, 44, b"\x00\x00\x00\x27", "fault 7 0 record 3 13\n"),
         (
             44,
             52,
-            b"\x00\x00\x00\x00\x00\x00\x00\x00".as_slice(),
-            b"record 6 13".as_slice(),
+            b"\x00\x00\x00\x00\x00\x00\x00\x00",
+            "fault 7 0 record 6 13\n",
         ),
-        (
-            52,
-            56,
-            b"\x00\x00\x00\x01".as_slice(),
-            b"record 4 13".as_slice(),
-        ),
-        (58, 60, b"\x00\x00".as_slice(), b"record 6 13".as_slice()),
-        (70, 71, b"\x03".as_slice(), b"record 6 13".as_slice()),
+        (52, 56, b"\x00\x00\x00\x01", "fault 7 0 record 4 13\n"),
+        (58, 60, b"\x00\x00", "fault 7 0 record 6 13\n"),
+        (70, 71, b"\x03", "fault 7 0 record 6 13\n"),
     ];
-    for (from, past, bytes, cause) in rows {
-        let mut line = Vec::from_slice(alloc, b"fault 7 0 ")?;
-        line.extend_from_slice(cause)?;
-        line.push(10)?;
-        let text = told_of(&rt, alloc, from, past, bytes, 7)?;
-        assert_eq!(rt; text.as_slice(), line.as_slice(), "bytes from {from}");
+    for (from, past, bytes, line) in rows {
+        changed_tells(&rt, rt.alloc(), from, past, bytes, 7, line)?;
     }
     Ok(())
 }
@@ -151,18 +163,10 @@ fn hostile_images_are_named(rt: HostRuntime) -> Result<(), Fail> {
 #[test]
 fn calls_are_executed_again(rt: HostRuntime) -> Result<(), Fail> {
     let alloc = rt.alloc();
-    let called = image_of(alloc, 1, 0, CALLED)?;
-    let mut disks = disks_of(alloc, called, MemDisk::new(alloc, &[])?)?;
-    let text = told(&rt, alloc, &["recover", "1", "1"], b"", 0, &mut disks)?;
-    assert_eq!(rt;
-        text.as_slice(),
-        b"elv 62\ntaken 0 13 1\nrow a 1 int 5\nend 0\n".as_slice()
-    );
-    let bad = image_of(alloc, 1, 0, NOT_ABOVE)?;
-    let mut disks = disks_of(alloc, bad, MemDisk::new(alloc, &[])?)?;
-    let text = told(&rt, alloc, &["recover", "1", "1"], b"", 7, &mut disks)?;
-    assert_eq!(rt; text.as_slice(), b"fault 7 0 record 5 13\n".as_slice());
-    Ok(())
+    let called = "elv 62\ntaken 0 13 1\nrow a 1 int 5\nend 0\n";
+    records_tell(&rt, alloc, CALLED, 0, called)?;
+    let bad = "fault 7 0 record 5 13\n";
+    records_tell(&rt, alloc, NOT_ABOVE, 7, bad)
 }
 
 #[test]
@@ -170,123 +174,85 @@ fn catalogues_agree(rt: HostRuntime) -> Result<(), Fail> {
     let alloc = rt.alloc();
     let first = image_of(alloc, 2, 0, APART)?;
     let mut disks = disks_of(alloc, first, MemDisk::of_image(alloc, OTHER)?)?;
-    let text = told(&rt, alloc, &["recover", "2", "1"], b"", 7, &mut disks)?;
-    assert_eq!(rt; text.as_slice(), b"fault 7 1 catalogue 0 6\n".as_slice());
-    Ok(())
+    tells(
+        &rt,
+        alloc,
+        "recover 2 1",
+        "",
+        7,
+        "fault 7 1 catalogue 0 6\n",
+        &mut disks,
+    )
 }
 
 #[test]
 fn records_wait_for_another_stream(rt: HostRuntime) -> Result<(), Fail> {
-    let alloc = rt.alloc();
-    let first = image_of(alloc, 2, 0, WAITING)?;
-    let mut disks = disks_of(alloc, first, image_of(alloc, 2, 1, APART)?)?;
-    let text = told(&rt, alloc, &["recover", "2", "3"], b"", 0, &mut disks)?;
-    assert_eq!(rt;
-        text.as_slice(),
-        b"elv 101,53\ntaken 0 13 1\ntaken 0 61 3\ntaken 1 13 2\nrow a 1 int 5\nrow a 2 int 6\nrow a 3 int 7\nend 0\n".as_slice()
-    );
-    Ok(())
+    let wanted =
+        "elv 101,53\ntaken 0 13 1\ntaken 0 61 3\ntaken 1 13 2\nrow a 1 int 5\nrow a 2 int 6\nrow a 3 int 7\nend 0\n";
+    two_tell(
+        &rt,
+        rt.alloc(),
+        [WAITING, APART],
+        &["recover 2 3"],
+        0,
+        wanted,
+    )
 }
 
 #[test]
 fn recovery_of_a_dependence(rt: HostRuntime) -> Result<(), Fail> {
     let alloc = rt.alloc();
-    let mut disks = disks_of(
-        alloc,
-        image_of(alloc, 2, 0, &[])?,
-        image_of(alloc, 2, 1, SECOND)?,
-    )?;
-    let text = told(&rt, alloc, &["recover", "2", "1"], b"", 0, &mut disks)?;
-    assert_eq!(rt; text.as_slice(), b"elv 13,61\nend 0\n".as_slice());
-    let mut disks = disks_of(
-        alloc,
-        image_of(alloc, 2, 0, FIRST)?,
-        image_of(alloc, 2, 1, &[])?,
-    )?;
-    let text = told(&rt, alloc, &["recover", "2", "1"], b"", 0, &mut disks)?;
-    assert_eq!(rt;
-        text.as_slice(),
-        b"elv 53,13\ntaken 0 13 1\nrow a 1 int 5\nend 0\n".as_slice()
-    );
-    let mut disks = disks_of(
-        alloc,
-        image_of(alloc, 2, 0, FIRST)?,
-        image_of(alloc, 2, 1, SECOND)?,
-    )?;
-    for p in ["1", "2", "16"] {
-        let text = told(&rt, alloc, &["recover", "2", p], b"", 0, &mut disks)?;
-        assert_eq!(rt;
-            text.as_slice(),
-            b"elv 53,61\ntaken 0 13 1\ntaken 1 13 2\nrow a 1 int 7\nend 0\n".as_slice()
-        );
-    }
-    let mut disks = disks_of(
-        alloc,
-        image_of(alloc, 2, 0, &[])?,
-        image_of(alloc, 2, 1, APART)?,
-    )?;
-    let text = told(&rt, alloc, &["recover", "2", "2"], b"", 0, &mut disks)?;
-    assert_eq!(rt;
-        text.as_slice(),
-        b"elv 13,53\ntaken 1 13 2\nrow a 2 int 6\nend 0\n".as_slice()
-    );
-    Ok(())
+    let line = ["recover 2 1"];
+    two_tell(&rt, alloc, [&[], SECOND], &line, 0, "elv 13,61\nend 0\n")?;
+    let first = "elv 53,13\ntaken 0 13 1\nrow a 1 int 5\nend 0\n";
+    two_tell(&rt, alloc, [FIRST, &[]], &line, 0, first)?;
+    let lines = ["recover 2 1", "recover 2 2", "recover 2 16"];
+    let both = "elv 53,61\ntaken 0 13 1\ntaken 1 13 2\nrow a 1 int 7\nend 0\n";
+    two_tell(&rt, alloc, [FIRST, SECOND], &lines, 0, both)?;
+    let apart = "elv 13,53\ntaken 1 13 2\nrow a 2 int 6\nend 0\n";
+    two_tell(&rt, alloc, [&[], APART], &["recover 2 2"], 0, apart)
 }
 
 #[test]
 fn images_that_hold_no_log(rt: HostRuntime) -> Result<(), Fail> {
     let alloc = rt.alloc();
-    let mut disks = disks_of(
+    let zeros = MemDisk::of_image(alloc, &[0u8; 18])?;
+    one_tells(&rt, alloc, zeros, 7, "fault 7 0 image 1\n")?;
+    records_tell(&rt, alloc, FIRST_WAITS, 7, "fault 7 0 record 5 13\n")?;
+    let records = [FIRST_WAITS, SECOND_WAITS];
+    two_tell(
+        &rt,
         alloc,
-        MemDisk::of_image(alloc, &[0u8; 17])?,
-        MemDisk::new(alloc, &[])?,
+        records,
+        &["recover 2 2"],
+        7,
+        "fault 7 0 tangled 13\n",
     )?;
-    let text = told(&rt, alloc, &["recover", "1", "1"], b"", 0, &mut disks)?;
-    assert_eq!(rt; text.as_slice(), b"elv 0\nend 0\n".as_slice());
-    let mut disks = disks_of(
-        alloc,
-        MemDisk::of_image(alloc, &[0u8; 18])?,
-        MemDisk::new(alloc, &[])?,
-    )?;
-    let text = told(&rt, alloc, &["recover", "1", "1"], b"", 7, &mut disks)?;
-    assert_eq!(rt; text.as_slice(), b"fault 7 0 image 1\n".as_slice());
-    let mut disks = disks_of(
-        alloc,
-        image_of(alloc, 1, 0, FIRST_WAITS)?,
-        MemDisk::new(alloc, &[])?,
-    )?;
-    let text = told(&rt, alloc, &["recover", "1", "1"], b"", 7, &mut disks)?;
-    assert_eq!(rt; text.as_slice(), b"fault 7 0 record 5 13\n".as_slice());
-    let mut disks = disks_of(
-        alloc,
-        image_of(alloc, 2, 0, FIRST_WAITS)?,
-        image_of(alloc, 2, 1, SECOND_WAITS)?,
-    )?;
-    let text = told(&rt, alloc, &["recover", "2", "2"], b"", 7, &mut disks)?;
-    assert_eq!(rt; text.as_slice(), b"fault 7 0 tangled 13\n".as_slice());
     let mut disks = disks_of(alloc, MemDisk::new(alloc, &[])?, MemDisk::new(alloc, &[1])?)?;
-    let text = told(&rt, alloc, &["recover", "2", "2"], b"", 6, &mut disks)?;
-    assert_eq!(rt; text.as_slice(), b"fault 6 1\n".as_slice());
-    Ok(())
+    tells(&rt, alloc, "recover 2 2", "", 6, "fault 6 1\n", &mut disks)
 }
 
 // Stream 0 of two, whose first byte is none of a log's.
 static HOSTILE: &[u8] =
     b"\x00AURUS-LOG-1\x00\x02\x00\x00\x01\x00\x00\x00\x0d\x04\x00\x00\x00\x0dtable a\n\x00";
 
+// Recovery of the hostile stream, beside one whose disk fails this call.
+fn hostile_tells<R: Threads + Wait + Sync + Abort>(
+    rt: &R,
+    alloc: Global,
+    call: u32,
+    code: u8,
+    wanted: &str,
+) -> Result<(), Fail> {
+    let first = MemDisk::of_image(alloc, HOSTILE)?;
+    let mut disks = disks_of(alloc, first, MemDisk::new(alloc, &[call])?)?;
+    tells(rt, alloc, "recover 2 1", "", code, wanted, &mut disks)
+}
+
 #[test]
 fn a_disk_that_fails_comes_before_a_bad_image(rt: HostRuntime) -> Result<(), Fail> {
     let alloc = rt.alloc();
-    let rows = [
-        (3u32, 7u8, b"fault 7 0 image 1\n".as_slice()),
-        (1, 6, b"fault 6 1\n".as_slice()),
-        (2, 6, b"fault 6 1\n".as_slice()),
-    ];
-    for (call, code, line) in rows {
-        let first = MemDisk::of_image(alloc, HOSTILE)?;
-        let mut disks = disks_of(alloc, first, MemDisk::new(alloc, &[call])?)?;
-        let text = told(&rt, alloc, &["recover", "2", "1"], b"", code, &mut disks)?;
-        assert_eq!(rt; text.as_slice(), line, "call {call}");
-    }
-    Ok(())
+    hostile_tells(&rt, alloc, 3, 7, "fault 7 0 image 1\n")?;
+    hostile_tells(&rt, alloc, 1, 6, "fault 6 1\n")?;
+    hostile_tells(&rt, alloc, 2, 6, "fault 6 1\n")
 }

@@ -1,17 +1,19 @@
-//! What the tests share: a call of the program over memory forms.
-ghost use Rattle.std.specs.Prelude.{◌≡◌, IfOk, vec_len};
-
+//! What the tests share: a call of the program over memory forms, and what it is to tell. None of it has a clause, so
+//! that a call of it costs a test little to prove.
 use std::alloc::Global;
+use std::process::Abort;
 use std::sync::Wait;
 use std::test::Fail;
 use std::thread::Threads;
-use tau_disk::{Gate, MemDisk, MemSink, MemSource, Quiet};
+use tau_disk::{Gate, MemDisk, MemSink, MemSource, Quiet, Tear};
 use tau_engine::{Status, taurus};
 
 /// Sixteen disks, of which these are the first two.
-pub(crate) fn disks_of(alloc: Global, first: MemDisk, second: MemDisk) -> Result<Vec<MemDisk>, Fail>
-    ensures { IfOk result (λ v. vec_len v ≡ 16) }
-{
+pub(crate) fn disks_of(
+    alloc: Global,
+    first: MemDisk,
+    second: MemDisk,
+) -> Result<Vec<MemDisk>, Fail> {
     let mut disks = Vec::new(alloc);
     disks.push(first)?;
     disks.push(second)?;
@@ -26,9 +28,7 @@ pub(crate) fn failing_disks(
     alloc: Global,
     first: &[u32],
     second: &[u32],
-) -> Result<Vec<MemDisk>, Fail>
-    ensures { IfOk result (λ v. vec_len v ≡ 16) }
-{
+) -> Result<Vec<MemDisk>, Fail> {
     disks_of(
         alloc,
         MemDisk::new(alloc, first)?,
@@ -37,77 +37,58 @@ pub(crate) fn failing_disks(
 }
 
 /// Sixteen new disks.
-pub(crate) fn new_disks(alloc: Global) -> Result<Vec<MemDisk>, Fail>
-    ensures { IfOk result (λ v. vec_len v ≡ 16) }
-{
+pub(crate) fn new_disks(alloc: Global) -> Result<Vec<MemDisk>, Fail> {
     failing_disks(alloc, &[], &[])
 }
 
-/// Does what these words say, over this source, with this gate.
+/// The words of a line; an empty line has none.
+fn words_of(alloc: Global, line: &str) -> Result<Vec<String>, Fail> {
+    let mut words = Vec::new(alloc);
+    for word in line.split(' ') {
+        if !word.is_empty() {
+            words.push(String::from_str(alloc, word)?)?;
+        }
+    }
+    Ok(words)
+}
+
+/// Does what these words say, over this source, with this gate. It takes sixteen disks.
 pub(crate) fn do_at<R: Threads + Wait + Sync, G: Gate + Sync>(
     rt: &R,
     alloc: Global,
-    words: &[&str],
+    line: &str,
     source: &mut MemSource,
     sink: &mut MemSink,
     disks: &mut Vec<MemDisk>,
     gate: &G,
-) -> Result<Status, Fail>
-    requires { vec_len disks.old ≡ 16 }
-    ensures { vec_len disks.new ≡ 16 }
-{
-    let mut strings = Vec::new(alloc);
-    for word in words {
-        strings.push(String::from_str(alloc, word)?)?;
+) -> Result<Status, Fail> {
+    let words = words_of(alloc, line)?;
+    if disks.len() != 16 {
+        return Err(Fail::new("another number of disks"));
     }
-    Ok(taurus(rt, alloc, strings.as_slice(), source, sink, disks, gate))
+    Ok(taurus(rt, alloc, words.as_slice(), source, sink, disks, gate))
 }
 
-/// The same with a gate that holds nothing.
-pub(crate) fn do_over<R: Threads + Wait + Sync>(
+/// The same over a text, with a gate that holds nothing.
+fn do_words<R: Threads + Wait + Sync>(
     rt: &R,
     alloc: Global,
-    words: &[&str],
-    source: &mut MemSource,
-    sink: &mut MemSink,
-    disks: &mut Vec<MemDisk>,
-) -> Result<Status, Fail>
-    requires { vec_len disks.old ≡ 16 }
-    ensures { vec_len disks.new ≡ 16 }
-{
-    do_at(rt, alloc, words, source, sink, disks, &Quiet)
-}
-
-/// Does what these words say, over a text.
-pub(crate) fn do_words<R: Threads + Wait + Sync>(
-    rt: &R,
-    alloc: Global,
-    words: &[&str],
+    line: &str,
     text: &[u8],
     sink: &mut MemSink,
     disks: &mut Vec<MemDisk>,
-) -> Result<Status, Fail>
-    requires { vec_len disks.old ≡ 16 }
-    ensures { vec_len disks.new ≡ 16 }
-{
+) -> Result<Status, Fail> {
     let mut source = MemSource::new(alloc, text, &[])?;
-    do_over(rt, alloc, words, &mut source, sink, disks)
+    do_at(rt, alloc, line, &mut source, sink, disks, &Quiet)
 }
 
-/// What the call wrote, where it ended with this code.
-pub(crate) fn told<R: Threads + Wait + Sync>(
-    rt: &R,
+/// What a sink got from a call that ended so, where that is this code.
+pub(crate) fn bytes_of(
     alloc: Global,
-    words: &[&str],
-    text: &[u8],
+    sink: &MemSink,
+    status: Status,
     code: u8,
-    disks: &mut Vec<MemDisk>,
-) -> Result<Vec<u8>, Fail>
-    requires { vec_len disks.old ≡ 16 }
-    ensures { vec_len disks.new ≡ 16 }
-{
-    let mut sink = MemSink::new(alloc, &[])?;
-    let status = do_words(rt, alloc, words, text, &mut sink, disks)?;
+) -> Result<Vec<u8>, Fail> {
     let bytes = if status.code() == code {
         sink.bytes()
     } else {
@@ -116,32 +97,129 @@ pub(crate) fn told<R: Threads + Wait + Sync>(
     Ok(Vec::from_slice(alloc, bytes)?)
 }
 
+/// What the call wrote, where it ended with this code.
+pub(crate) fn told<R: Threads + Wait + Sync>(
+    rt: &R,
+    alloc: Global,
+    line: &str,
+    text: &[u8],
+    code: u8,
+    disks: &mut Vec<MemDisk>,
+) -> Result<Vec<u8>, Fail> {
+    let mut sink = MemSink::new(alloc, &[])?;
+    let status = do_words(rt, alloc, line, text, &mut sink, disks)?;
+    bytes_of(alloc, &sink, status, code)
+}
+
 /// The same on new disks.
 pub(crate) fn told_anew<R: Threads + Wait + Sync>(
     rt: &R,
     alloc: Global,
-    words: &[&str],
+    line: &str,
     text: &[u8],
     code: u8,
 ) -> Result<Vec<u8>, Fail> {
     let mut disks = new_disks(alloc)?;
-    told(rt, alloc, words, text, code, &mut disks)
+    told(rt, alloc, line, text, code, &mut disks)
 }
 
-/// The place of the first of these texts of which the words tell something else, each on new disks, where it ends well.
-pub(crate) fn first_wrong<R: Threads + Wait + Sync>(
+/// The call ends with this code, and writes what is wanted.
+pub(crate) fn tells<R: Threads + Wait + Sync + Abort>(
     rt: &R,
     alloc: Global,
-    words: &[&str],
+    line: &str,
+    text: &str,
+    code: u8,
+    wanted: &str,
+    disks: &mut Vec<MemDisk>,
+) -> Result<(), Fail> {
+    let got = told(rt, alloc, line, text.as_bytes(), code, disks)?;
+    assert_eq!(rt; got.as_slice(), wanted.as_bytes(), "{line}");
+    Ok(())
+}
+
+/// The same on new disks.
+pub(crate) fn tells_anew<R: Threads + Wait + Sync + Abort>(
+    rt: &R,
+    alloc: Global,
+    line: &str,
+    text: &str,
+    code: u8,
+    wanted: &str,
+) -> Result<(), Fail> {
+    let got = told_anew(rt, alloc, line, text.as_bytes(), code)?;
+    assert_eq!(rt; got.as_slice(), wanted.as_bytes(), "{line}");
+    Ok(())
+}
+
+/// Each of these texts, on new disks, ends well and makes the words write what stands beside it.
+pub(crate) fn each_tells<R: Threads + Wait + Sync + Abort>(
+    rt: &R,
+    alloc: Global,
+    line: &str,
     rows: &[(&str, &str)],
-) -> Result<Option<usize>, Fail> {
-    for (i, row) in rows.iter().enumerate() {
-        let text = told_anew(rt, alloc, words, row.0.as_bytes(), 0)?;
-        if text.as_slice() != row.1.as_bytes() {
-            return Ok(Some(i));
-        }
+) -> Result<(), Fail> {
+    for row in rows {
+        tells_anew(rt, alloc, line, row.0, 0, row.1)?;
     }
-    Ok(None)
+    Ok(())
+}
+
+/// The call writes into the sink, and ends so.
+pub(crate) fn ends<R: Threads + Wait + Sync + Abort>(
+    rt: &R,
+    alloc: Global,
+    line: &str,
+    text: &[u8],
+    status: Status,
+    sink: &mut MemSink,
+    disks: &mut Vec<MemDisk>,
+) -> Result<(), Fail> {
+    let got = do_words(rt, alloc, line, text, sink, disks)?;
+    assert!(rt; got == status, "{line}");
+    Ok(())
+}
+
+/// The call ends so with a sink of which these calls fail, and that sink gets what is wanted.
+pub(crate) fn ends_with<R: Threads + Wait + Sync + Abort>(
+    rt: &R,
+    alloc: Global,
+    line: &str,
+    text: &str,
+    status: Status,
+    failing: &[u32],
+    wanted: &str,
+    disks: &mut Vec<MemDisk>,
+) -> Result<(), Fail> {
+    let mut sink = MemSink::new(alloc, failing)?;
+    ends(rt, alloc, line, text.as_bytes(), status, &mut sink, disks)?;
+    assert_eq!(rt; sink.bytes(), wanted.as_bytes(), "{line}");
+    Ok(())
+}
+
+/// The disk in this place has had so many calls.
+pub(crate) fn had_calls(
+    rt: &impl Abort,
+    disks: &[MemDisk],
+    place: usize,
+    calls: u64,
+) -> Result<(), Fail> {
+    let disk = disks.get(place).ok_or("no disk")?;
+    assert_eq!(rt; disk.calls(), calls, "disk {place}");
+    Ok(())
+}
+
+/// The disk in this place holds this image.
+pub(crate) fn holds(
+    rt: &impl Abort,
+    disks: &[MemDisk],
+    place: usize,
+    wanted: &[u8],
+) -> Result<(), Fail> {
+    let disk = disks.get(place).ok_or("no disk")?;
+    let image = disk.image(Tear::Old)?;
+    assert_eq!(rt; image.as_slice(), wanted, "disk {place}");
+    Ok(())
 }
 
 /// Whether the text has the line.

@@ -2,14 +2,14 @@ ghost use Rattle.std.specs.Prelude.{IfOk};
 ghost use Rattle.tau_scan.specs.Reading.{IsLog};
 
 use std::alloc::Global;
+use std::process::Abort;
 use std::test::*;
-use tau_base::Lv;
 use tau_disk::MemDisk;
 use tau_pool::{Next, Pools};
 use tau_scan::{Log, scan};
 
 // Stream 0 of two: `put a 1 5` with vector (0,53) at 13, and `put a 3 7` with vector (0,0) at 61.
-const FIRST: [u8; 128] = [
+static FIRST: [u8; 128] = [
     84, 65, 85, 82, 85, 83, 45, 76, 79, 71, 45, 49, 0, 2, 0, 0, 1, 0, 0, 0, 13, 4, 0, 0, 0, 13,
     116, 97, 98, 108, 101, 32, 97, 10, 1, 0, 0, 0, 88, 1, 0, 0, 0, 48, 0, 0, 0, 0, 0, 0, 0, 1, 0,
     0, 0, 0, 0, 2, 0, 0, 0, 0, 0, 0, 0, 53, 0, 1, 0, 0, 0, 0, 0, 0, 0, 0, 0, 1, 1, 0, 0, 0, 0, 0,
@@ -18,14 +18,14 @@ const FIRST: [u8; 128] = [
 ];
 
 // Stream 1 of two: `put a 2 6` with vector (0,0) at 13.
-const SECOND: [u8; 80] = [
+static SECOND: [u8; 80] = [
     84, 65, 85, 82, 85, 83, 45, 76, 79, 71, 45, 49, 0, 2, 0, 1, 1, 0, 0, 0, 13, 4, 0, 0, 0, 13,
     116, 97, 98, 108, 101, 32, 97, 10, 1, 0, 0, 0, 40, 1, 0, 0, 0, 40, 0, 0, 0, 0, 0, 0, 0, 2, 0,
     0, 0, 0, 0, 0, 0, 1, 0, 0, 0, 0, 0, 0, 0, 0, 0, 2, 1, 0, 0, 0, 0, 0, 0, 0, 6, 0,
 ];
 
 // Stream 0 of two: a record at 13 that waits for the end of the other stream.
-const TANGLED: [u8; 88] = [
+static TANGLED: [u8; 88] = [
     84, 65, 85, 82, 85, 83, 45, 76, 79, 71, 45, 49, 0, 2, 0, 0, 1, 0, 0, 0, 13, 4, 0, 0, 0, 13,
     116, 97, 98, 108, 101, 32, 97, 10, 1, 0, 0, 0, 48, 1, 0, 0, 0, 48, 0, 0, 0, 0, 0, 0, 0, 1, 0,
     0, 0, 0, 0, 2, 0, 0, 0, 0, 0, 0, 0, 61, 0, 1, 0, 0, 0, 0, 0, 0, 0, 0, 0, 1, 1, 0, 0, 0, 0, 0,
@@ -33,7 +33,7 @@ const TANGLED: [u8; 88] = [
 ];
 
 // Stream 1 of two: likewise.
-const TANGLED_TOO: [u8; 88] = [
+static TANGLED_TOO: [u8; 88] = [
     84, 65, 85, 82, 85, 83, 45, 76, 79, 71, 45, 49, 0, 2, 0, 1, 1, 0, 0, 0, 13, 4, 0, 0, 0, 13,
     116, 97, 98, 108, 101, 32, 97, 10, 1, 0, 0, 0, 48, 1, 0, 0, 0, 48, 0, 0, 0, 0, 0, 0, 0, 2, 0,
     0, 0, 0, 0, 1, 0, 0, 0, 0, 0, 0, 0, 61, 0, 1, 0, 0, 0, 0, 0, 0, 0, 0, 0, 2, 1, 0, 0, 0, 0, 0,
@@ -54,11 +54,31 @@ fn log_of(alloc: Global, first: &[u8], second: &[u8]) -> Result<Log, Fail>
     }
 }
 
+// The pools of the log of these two images.
+fn pools_of(alloc: Global, first: &[u8], second: &[u8]) -> Result<Pools, Fail> {
+    let log = log_of(alloc, first, second)?;
+    match Pools::new(alloc, &log) {
+        Ok(pools) => Ok(pools),
+        Err(_) => Err(Fail::from("no memory")),
+    }
+}
+
+// Checks how far each stream is recovered.
+fn is_recovered(rt: &impl Abort, pools: &Pools, positions: [u64; 2]) {
+    assert!(rt; pools.rlv().as_slice() == positions.as_slice());
+}
+
+// The stream and the index of the first record that is left; 255 and 0 where none is.
+fn first_left(pools: &Pools) -> (u8, usize) {
+    match pools.first_left() {
+        Some(left) => (left.stream, left.index),
+        None => (255, 0),
+    }
+}
+
 #[test]
 fn a_record_waits_for_another_stream(rt: HostRuntime) -> Result<(), Fail> {
-    let alloc = rt.alloc();
-    let log = log_of(alloc, &FIRST, &SECOND)?;
-    let mut pools = Pools::new(alloc, &log).ok().ok_or("memory")?;
+    let mut pools = pools_of(rt.alloc(), &FIRST, &SECOND)?;
     let Next::Taken(third) = pools.take() else {
         return Err(Fail::from("nothing is ready"));
     };
@@ -70,28 +90,25 @@ fn a_record_waits_for_another_stream(rt: HostRuntime) -> Result<(), Fail> {
     assert_eq!(rt; pools.take(), Next::NotYet);
     assert_eq!(rt; pools.in_flight(), 2);
     pools.finish(third);
-    assert_eq!(rt; pools.rlv(), Lv::zero(2).with(0, 13).with(1, 13));
+    is_recovered(&rt, &pools, [13, 13]);
     assert_eq!(rt; pools.take(), Next::NotYet);
     pools.finish(second);
-    assert_eq!(rt; pools.rlv(), Lv::zero(2).with(0, 13).with(1, 53));
+    is_recovered(&rt, &pools, [13, 53]);
     let Next::Taken(first) = pools.take() else {
         return Err(Fail::from("the last is ready"));
     };
     assert_eq!(rt; (first.stream, first.index), (0, 1));
     assert_eq!(rt; pools.take(), Next::Done);
     pools.finish(first);
-    assert_eq!(rt; pools.rlv(), Lv::zero(2).with(0, 101).with(1, 53));
+    is_recovered(&rt, &pools, [101, 53]);
     assert_eq!(rt; pools.in_flight(), 0);
     Ok(())
 }
 
 #[test]
 fn tangled_records_are_never_ready(rt: HostRuntime) -> Result<(), Fail> {
-    let alloc = rt.alloc();
-    let log = log_of(alloc, &TANGLED, &TANGLED_TOO)?;
-    let mut pools = Pools::new(alloc, &log).ok().ok_or("memory")?;
+    let mut pools = pools_of(rt.alloc(), &TANGLED, &TANGLED_TOO)?;
     assert_eq!(rt; pools.take(), Next::NotYet);
-    let left = pools.first_left().ok_or("one is left")?;
-    assert_eq!(rt; (left.stream, left.index), (0, 1));
+    assert_eq!(rt; first_left(&pools), (0, 1));
     Ok(())
 }

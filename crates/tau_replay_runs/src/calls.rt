@@ -2,11 +2,14 @@
 ghost use Rattle.std.specs.Prelude.{IfOk};
 ghost use Rattle.tau_scan.specs.Reading.{IsLog};
 
-use crate::support::{is_row, tables_of};
-use std::alloc::Global;
+use crate::support::{each_gives, four_bytes, tables_of};
+use std::alloc::{AllocError, Global};
+use std::process::Abort;
+use std::sync::Wait;
 use std::test::*;
+use std::thread::Threads;
 use tau_disk::{MemDisk, Quiet};
-use tau_model::SerialStore;
+use tau_model::{SerialStore, Tables};
 use tau_record::Entry;
 use tau_scan::{Log, scan};
 
@@ -19,17 +22,8 @@ const ADD: u16 = 1;
 
 const MIX: u16 = 4;
 
-// A command record whose vector has these components.
-fn command(
-    alloc: Global,
-    number: u64,
-    dep: [u64; 2],
-    proc: u16,
-    args: &[i64],
-) -> Result<Vec<u8>, Fail> {
-    let mut body = Vec::new(alloc);
-    body.extend_from_slice(&number.to_be_bytes())?;
-    body.extend_from_slice(&[0, 0, 0, 0, 0])?;
+// Puts a vector above no anchor: the mask, and the components that are not 0.
+fn put_vector(body: &mut Vec<u8>, dep: [u64; 2]) -> Result<(), AllocError> {
     let mask = u8::from(dep[0] > 0) | if dep[1] > 0 { 2 } else { 0 };
     body.push(mask)?;
     for component in dep {
@@ -37,34 +31,80 @@ fn command(
             body.extend_from_slice(&component.to_be_bytes())?;
         }
     }
-    body.extend_from_slice(&proc.to_be_bytes())?;
-    body.push(u8::try_from(args.len()).ok().ok_or("too many")?)?;
+    Ok(())
+}
+
+// Puts arguments, and before them how many there are.
+fn put_args(body: &mut Vec<u8>, args: &[i64]) -> Result<(), AllocError> {
+    body.push((args.len() % 256) as u8)?;
     for arg in args {
         body.push(1)?;
         body.extend_from_slice(&arg.to_be_bytes())?;
     }
-    let long = u32::try_from(body.len()).ok().ok_or("too long")?;
-    let mut record = Vec::from_slice(alloc, &[2])?;
-    record.extend_from_slice(&long.saturating_add(5).to_be_bytes())?;
-    record.extend_from_slice(&body)?;
-    Ok(record)
+    Ok(())
+}
+
+// Puts the fields of a command record.
+fn put_fields(
+    body: &mut Vec<u8>,
+    number: u64,
+    dep: [u64; 2],
+    proc: u16,
+    args: &[i64],
+) -> Result<(), AllocError> {
+    body.extend_from_slice(&number.to_be_bytes())?;
+    body.extend_from_slice(&[0, 0, 0, 0, 0])?;
+    put_vector(body, dep)?;
+    body.extend_from_slice(&proc.to_be_bytes())?;
+    put_args(body, args)
+}
+
+// Puts a record of this kind, whose length stands before its fields.
+fn put_record(record: &mut Vec<u8>, kind: u8, fields: &[u8]) -> Result<(), Fail> {
+    record.push(kind)?;
+    record.extend_from_slice(&four_bytes(fields.len().saturating_add(5))?)?;
+    record.extend_from_slice(fields)?;
+    Ok(())
+}
+
+// Puts a command record whose vector has these components.
+fn put_command(
+    stream: &mut Vec<u8>,
+    alloc: Global,
+    number: u64,
+    dep: [u64; 2],
+    proc: u16,
+    args: &[i64],
+) -> Result<(), Fail> {
+    let mut body = Vec::new(alloc);
+    put_fields(&mut body, number, dep, proc, args)?;
+    put_record(stream, 2, &body)
+}
+
+// Puts a block with these bytes behind an open gate.
+fn put_block(image: &mut Vec<u8>, bytes: &[u8]) -> Result<(), Fail> {
+    image.push(1)?;
+    image.extend_from_slice(&four_bytes(bytes.len())?)?;
+    image.extend_from_slice(bytes)?;
+    Ok(())
+}
+
+// Puts the image of stream `j` of two, with the catalogue and these records after it.
+fn put_image(image: &mut Vec<u8>, j: u8, catalogue: &[u8], records: &[u8]) -> Result<(), Fail> {
+    image.extend_from_slice(b"TAURUS-LOG-1")?;
+    image.extend_from_slice(&[0, 2, 0, j])?;
+    put_block(image, catalogue)?;
+    put_block(image, records)?;
+    image.push(0)?;
+    Ok(())
 }
 
 // The image of stream `j` of two, with the catalogue and these records after it.
 fn image_of(alloc: Global, j: u8, records: &[u8]) -> Result<MemDisk, Fail> {
-    let text = u32::try_from(CATALOGUE.len()).ok().ok_or("too long")?;
-    let long = text.saturating_add(5).to_be_bytes();
-    let mut image = Vec::from_slice(alloc, b"TAURUS-LOG-1")?;
-    image.extend_from_slice(&[0, 2, 0, j, 1])?;
-    image.extend_from_slice(&long)?;
-    image.push(4)?;
-    image.extend_from_slice(&long)?;
-    image.extend_from_slice(CATALOGUE)?;
-    image.push(1)?;
-    let behind = u32::try_from(records.len()).ok().ok_or("too long")?;
-    image.extend_from_slice(&behind.to_be_bytes())?;
-    image.extend_from_slice(records)?;
-    image.push(0)?;
+    let mut catalogue = Vec::new(alloc);
+    put_record(&mut catalogue, 4, CATALOGUE)?;
+    let mut image = Vec::new(alloc);
+    put_image(&mut image, j, &catalogue, records)?;
     Ok(MemDisk::of_image(alloc, &image)?)
 }
 
@@ -84,30 +124,34 @@ fn arg(number: u64) -> i64 {
     i64::try_from(number).unwrap_or(0)
 }
 
+// Puts the call of this number, which waits for none: it adds its number to row 1.
+fn put_sum(stream: &mut Vec<u8>, alloc: Global, number: u64) -> Result<(), Fail> {
+    put_command(stream, alloc, number, [0, 0], ADD, &[0, 1, arg(number)])
+}
+
+// Puts thirty calls, each second one from this number on.
+fn put_sums(stream: &mut Vec<u8>, alloc: Global, from: u64) -> Result<(), Fail> {
+    for k in 0..30u64 {
+        put_sum(stream, alloc, from.wrapping_add(2 * k))?;
+    }
+    Ok(())
+}
+
 // Calls 1 to 60, in turn in stream 0 and 1, of which none waits: call k adds k to row 1.
 fn sums(alloc: Global) -> Result<Log, Fail>
     ensures { IfOk result (λ log. IsLog log) }
 {
     let mut first = Vec::new(alloc);
     let mut second = Vec::new(alloc);
-    for k in 0..30u64 {
-        let one = command(alloc, 2 * k + 1, [0, 0], ADD, &[0, 1, arg(2 * k + 1)])?;
-        first.extend_from_slice(&one)?;
-        let other = command(alloc, 2 * k + 2, [0, 0], ADD, &[0, 1, arg(2 * k + 2)])?;
-        second.extend_from_slice(&other)?;
-    }
+    put_sums(&mut first, alloc, 1)?;
+    put_sums(&mut second, alloc, 2)?;
     log_of(alloc, &first, &second)
 }
 
 #[test]
 fn calls_that_change_one_row(rt: HostRuntime) -> Result<(), Fail> {
     let log = sums(rt.alloc())?;
-    for workers in [1u8, 2, 5, 16] {
-        let tables = tables_of(&rt, rt.alloc(), &log, workers, &Quiet)?;
-        assert_eq!(rt; tables.rows().len(), 1);
-        assert!(rt; is_row(&tables, 0, 1, 1830));
-    }
-    Ok(())
+    each_gives(&rt, rt.alloc(), &log, &[1, 2, 5, 16], &[(1, 1830)])
 }
 
 // The vector of a call that waits for all records of both streams so far.
@@ -120,11 +164,29 @@ fn all_of(first: &[u8], second: &[u8]) -> [u64; 2] {
 }
 
 // Puts the call of this number after all before it: one of three rows gets what another one holds on top.
-fn put_mix(alloc: Global, stream: &mut Vec<u8>, number: u64, dep: [u64; 2]) -> Result<(), Fail> {
+fn put_mix(stream: &mut Vec<u8>, alloc: Global, number: u64, dep: [u64; 2]) -> Result<(), Fail> {
     let rows = [arg(number % 3), arg((number % 3 + 1) % 3)];
-    let record = command(alloc, number, dep, MIX, &rows)?;
-    stream.extend_from_slice(&record)?;
-    Ok(())
+    put_command(stream, alloc, number, dep, MIX, &rows)
+}
+
+// Puts calls 1 to 3, which put numbers into rows 0 to 2.
+fn put_three(stream: &mut Vec<u8>, alloc: Global) -> Result<(), Fail> {
+    put_command(stream, alloc, 1, [0, 0], ADD, &[0, 0, 1])?;
+    put_command(stream, alloc, 2, [0, 0], ADD, &[0, 1, 10])?;
+    put_command(stream, alloc, 3, [0, 0], ADD, &[0, 2, 100])
+}
+
+// Puts two calls from this number on, one into each stream, each of which waits for all before it.
+fn put_two(
+    first: &mut Vec<u8>,
+    second: &mut Vec<u8>,
+    alloc: Global,
+    number: u64,
+) -> Result<(), Fail> {
+    let dep = all_of(first, second);
+    put_mix(second, alloc, number, dep)?;
+    let dep = all_of(first, second);
+    put_mix(first, alloc, number.wrapping_add(1), dep)
 }
 
 // Calls 1 to 3 put numbers into rows 0 to 2. Each of the calls 4 to 39, in turn in stream 1 and 0, waits for all before
@@ -132,15 +194,11 @@ fn put_mix(alloc: Global, stream: &mut Vec<u8>, number: u64, dep: [u64; 2]) -> R
 fn mixed(alloc: Global) -> Result<Log, Fail>
     ensures { IfOk result (λ log. IsLog log) }
 {
-    let mut first = command(alloc, 1, [0, 0], ADD, &[0, 0, 1])?;
-    first.extend_from_slice(&command(alloc, 2, [0, 0], ADD, &[0, 1, 10])?)?;
-    first.extend_from_slice(&command(alloc, 3, [0, 0], ADD, &[0, 2, 100])?)?;
+    let mut first = Vec::new(alloc);
     let mut second = Vec::new(alloc);
+    put_three(&mut first, alloc)?;
     for k in 2..20u64 {
-        let dep = all_of(&first, &second);
-        put_mix(alloc, &mut second, 2 * k, dep)?;
-        let dep = all_of(&first, &second);
-        put_mix(alloc, &mut first, 2 * k + 1, dep)?;
+        put_two(&mut first, &mut second, alloc, 2 * k)?;
     }
     log_of(alloc, &first, &second)
 }
@@ -160,22 +218,50 @@ fn execute(log: &Log, store: &mut SerialStore, j: usize, place: usize) -> Result
     }
 }
 
+// Executes the calls of a log in their order.
+fn execute_all(log: &Log, store: &mut SerialStore) -> Result<(), Fail> {
+    for place in 1..4usize {
+        execute(log, store, 0, place)?;
+    }
+    for k in 0..18usize {
+        execute(log, store, 1, 1 + k)?;
+        execute(log, store, 0, 4 + k)?;
+    }
+    Ok(())
+}
+
+// The tables after the calls of a log in their order.
+fn serial_of(alloc: Global, log: &Log) -> Result<Tables, Fail> {
+    let mut store = SerialStore::new(alloc);
+    execute_all(log, &mut store)?;
+    match store.tables(alloc) {
+        Ok(tables) => Ok(tables),
+        Err(_) => Err(Fail::from("no tables")),
+    }
+}
+
+// Checks that so many workers give the rows of these tables.
+fn gives_same<R: Abort + Threads + Wait + Sync>(
+    rt: &R,
+    alloc: Global,
+    log: &Log,
+    workers: u8,
+    serial: &Tables,
+) -> Result<(), Fail>
+    requires { IsLog log.now }
+{
+    let tables = tables_of(rt, alloc, log, workers, &Quiet)?;
+    assert!(rt; tables.rows() == serial.rows());
+    Ok(())
+}
+
 #[test]
 fn calls_that_read_what_others_write(rt: HostRuntime) -> Result<(), Fail> {
     let log = mixed(rt.alloc())?;
-    let mut store = SerialStore::new(rt.alloc());
-    for place in 1..4usize {
-        execute(&log, &mut store, 0, place)?;
-    }
-    for k in 0..18usize {
-        execute(&log, &mut store, 1, 1 + k)?;
-        execute(&log, &mut store, 0, 4 + k)?;
-    }
-    let serial = store.tables(rt.alloc()).ok().ok_or("no tables")?;
+    let serial = serial_of(rt.alloc(), &log)?;
     assert_eq!(rt; serial.rows().len(), 3);
     for workers in [1u8, 2, 5, 16] {
-        let tables = tables_of(&rt, rt.alloc(), &log, workers, &Quiet)?;
-        assert!(rt; tables.rows() == serial.rows());
+        gives_same(&rt, rt.alloc(), &log, workers, &serial)?;
     }
     Ok(())
 }

@@ -1,5 +1,5 @@
 //! Records that are redone at the same time.
-use crate::support::{APART, FIRST, is_row, log_of, tables_of};
+use crate::support::{APART, FIRST, holds, log_of, tables_of};
 use std::sync::atomic::{AtomicU64, Ordering};
 use std::test::*;
 use std::thread;
@@ -29,6 +29,26 @@ impl Both {
     }
 }
 
+impl Both {
+    // Nothing was reached yet.
+    fn new() -> Both {
+        Both {
+            first: AtomicU64::new(0),
+            second: AtomicU64::new(0),
+            late: AtomicU64::new(0),
+        }
+    }
+
+    // Whether the first and the second were reached, and whether one came too late.
+    fn seen(&self) -> (u64, u64, u64) {
+        (
+            self.first.load(Ordering::SeqCst),
+            self.second.load(Ordering::SeqCst),
+            self.late.load(Ordering::SeqCst),
+        )
+    }
+}
+
 impl Gate for Both {
     fn at(&self, place: Place) {
         match place {
@@ -42,17 +62,9 @@ impl Gate for Both {
 #[test]
 fn two_records_in_flight(rt: HostRuntime) -> Result<(), Fail> {
     let log = log_of(rt.alloc(), FIRST, APART)?;
-    let gate = Both {
-        first: AtomicU64::new(0),
-        second: AtomicU64::new(0),
-        late: AtomicU64::new(0),
-    };
+    let gate = Both::new();
     let tables = tables_of(&rt, rt.alloc(), &log, 2, &gate)?;
-    assert_eq!(rt; tables.rows().len(), 2);
-    assert!(rt; is_row(&tables, 0, 1, 5));
-    assert!(rt; is_row(&tables, 1, 2, 6));
-    assert!(rt; gate.first.load(Ordering::SeqCst) == 1);
-    assert!(rt; gate.second.load(Ordering::SeqCst) == 1);
-    assert!(rt; gate.late.load(Ordering::SeqCst) == 0);
+    holds(&rt, &tables, &[(1, 5), (2, 6)]);
+    assert_eq!(rt; gate.seen(), (1, 1, 0));
     Ok(())
 }

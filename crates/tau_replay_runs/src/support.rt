@@ -1,13 +1,14 @@
 //! What the tests share: logs of given records, and what recovery in threads gives of them.
-ghost use Rattle.std.specs.Prelude.{◌≤◌, IfOk};
+ghost use Rattle.std.specs.Prelude.{IfOk};
 ghost use Rattle.tau_scan.specs.Reading.{IsLog};
 
-use std::alloc::Global;
+use std::alloc::{AllocError, Global};
+use std::process::Abort;
 use std::sync::Wait;
 use std::test::Fail;
 use std::thread::Threads;
 use tau_base::{Key, Value};
-use tau_disk::{Gate, MemDisk};
+use tau_disk::{Gate, MemDisk, Quiet};
 use tau_model::Tables;
 use tau_replay::replay_threads;
 use tau_scan::{Log, ReplayRefusal, scan};
@@ -31,18 +32,32 @@ pub static FIRST_WAITS: &[u8] =
 pub static SECOND_WAITS: &[u8] =
     b"\x01\x00\x00\x00\x30\x00\x00\x00\x00\x00\x00\x00\x02\x00\x00\x00\x00\x00\x01\x00\x00\x00\x00\x00\x00\x00\x3d\x00\x01\x00\x00\x00\x00\x00\x00\x00\x00\x00\x02\x01\x00\x00\x00\x00\x00\x00\x00\x06";
 
-/// The image of stream `j` of two, with the catalogue of `table a` and these records after it.
-pub fn image_of(alloc: Global, j: u8, records: &[u8]) -> Result<MemDisk, Fail> {
-    let mut image = Vec::from_slice(alloc, b"TAURUS-LOG-1")?;
-    image.extend_from_slice(&[0, 2, 0, j])?;
-    image.extend_from_slice(b"\x01\x00\x00\x00\x0d\x04\x00\x00\x00\x0dtable a\n")?;
+/// A length in four bytes.
+pub fn four_bytes(length: usize) -> Result<[u8; 4], Fail> {
+    match u32::try_from(length) {
+        Ok(long) => Ok(long.to_be_bytes()),
+        Err(_) => Err(Fail::from("too long")),
+    }
+}
+
+// Puts an open gate and a block with these records, where there are any, and the gate that ends the stream.
+fn put_block(image: &mut Vec<u8>, length: &[u8; 4], records: &[u8]) -> Result<(), AllocError> {
     if !records.is_empty() {
-        let long = u32::try_from(records.len()).ok().ok_or("too long")?;
         image.push(1)?;
-        image.extend_from_slice(&long.to_be_bytes())?;
+        image.extend_from_slice(length)?;
         image.extend_from_slice(records)?;
     }
     image.push(0)?;
+    Ok(())
+}
+
+/// The image of stream `j` of two, with the catalogue of `table a` and these records after it.
+pub fn image_of(alloc: Global, j: u8, records: &[u8]) -> Result<MemDisk, Fail> {
+    let length = four_bytes(records.len())?;
+    let mut image = Vec::from_slice(alloc, b"TAURUS-LOG-1")?;
+    image.extend_from_slice(&[0, 2, 0, j])?;
+    image.extend_from_slice(b"\x01\x00\x00\x00\x0d\x04\x00\x00\x00\x0dtable a\n")?;
+    put_block(&mut image, &length, records)?;
     Ok(MemDisk::of_image(alloc, &image)?)
 }
 
@@ -65,9 +80,11 @@ pub fn tables_of<R: Threads + Wait + Sync, G: Gate + Sync>(
     workers: u8,
     gate: &G,
 ) -> Result<Tables, Fail>
-    requires log { IsLog log.now }
-    requires workers { (1 ≤ workers) × (workers ≤ 16) }
+    requires { IsLog log.now }
 {
+    if workers == 0 || workers > 16 {
+        return Err(Fail::from("no such number of workers"));
+    }
     match replay_threads(rt, alloc, log, workers, gate) {
         Ok(tables) => Ok(tables),
         Err(ReplayRefusal::NoMemory) => Err(Fail::from("no memory")),
@@ -81,4 +98,29 @@ pub fn is_row(tables: &Tables, place: usize, row: i64, number: i64) -> bool {
         Some((key, Value::Int(found))) => *key == Key { table: 0, row } && *found == number,
         _ => false,
     }
+}
+
+/// Checks that these are the rows: each row's number in table 0, and what it holds.
+pub fn holds(rt: &impl Abort, tables: &Tables, rows: &[(i64, i64)]) {
+    assert_eq!(rt; tables.rows().len(), rows.len());
+    for (place, row) in rows.iter().enumerate() {
+        assert!(rt; is_row(tables, place, row.0, row.1));
+    }
+}
+
+/// Checks the rows that a log gives by each of these numbers of workers.
+pub fn each_gives<R: Abort + Threads + Wait + Sync>(
+    rt: &R,
+    alloc: Global,
+    log: &Log,
+    counts: &[u8],
+    rows: &[(i64, i64)],
+) -> Result<(), Fail>
+    requires { IsLog log.now }
+{
+    for workers in counts {
+        let tables = tables_of(rt, alloc, log, *workers, &Quiet)?;
+        holds(rt, &tables, rows);
+    }
+    Ok(())
 }

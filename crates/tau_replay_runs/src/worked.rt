@@ -1,23 +1,24 @@
 ghost use Rattle.std.specs.Prelude.{IfOk};
 ghost use Rattle.tau_scan.specs.Reading.{IsLog};
 
+use crate::support::{holds, is_row};
 use std::alloc::Global;
+use std::process::Abort;
 use std::test::*;
-use tau_base::{Key, Value};
 use tau_disk::MemDisk;
 use tau_model::Tables;
 use tau_replay::replay_turns;
 use tau_scan::{Log, ReplayRefusal, scan};
 
 // Stream 0 of two: `put a 1 5` at 13.
-const FIRST: [u8; 80] = [
+static FIRST: [u8; 80] = [
     84, 65, 85, 82, 85, 83, 45, 76, 79, 71, 45, 49, 0, 2, 0, 0, 1, 0, 0, 0, 13, 4, 0, 0, 0, 13,
     116, 97, 98, 108, 101, 32, 97, 10, 1, 0, 0, 0, 40, 1, 0, 0, 0, 40, 0, 0, 0, 0, 0, 0, 0, 1, 0,
     0, 0, 0, 0, 0, 0, 1, 0, 0, 0, 0, 0, 0, 0, 0, 0, 1, 1, 0, 0, 0, 0, 0, 0, 0, 5, 0,
 ];
 
 // Stream 1 of two: `add a 1 2` at 13, whose vector is (53,0).
-const SECOND: [u8; 88] = [
+static SECOND: [u8; 88] = [
     84, 65, 85, 82, 85, 83, 45, 76, 79, 71, 45, 49, 0, 2, 0, 1, 1, 0, 0, 0, 13, 4, 0, 0, 0, 13,
     116, 97, 98, 108, 101, 32, 97, 10, 1, 0, 0, 0, 48, 1, 0, 0, 0, 48, 0, 0, 0, 0, 0, 0, 0, 2, 0,
     0, 0, 0, 0, 1, 0, 0, 0, 0, 0, 0, 0, 53, 0, 1, 0, 0, 0, 0, 0, 0, 0, 0, 0, 1, 1, 0, 0, 0, 0, 0,
@@ -25,26 +26,26 @@ const SECOND: [u8; 88] = [
 ];
 
 // Stream 0 of two: the catalogue of `table a` alone.
-const FIRST_CUT: [u8; 35] = [
+static FIRST_CUT: [u8; 35] = [
     84, 65, 85, 82, 85, 83, 45, 76, 79, 71, 45, 49, 0, 2, 0, 0, 1, 0, 0, 0, 13, 4, 0, 0, 0, 13,
     116, 97, 98, 108, 101, 32, 97, 10, 0,
 ];
 
 // Stream 1 of two, likewise.
-const SECOND_CUT: [u8; 35] = [
+static SECOND_CUT: [u8; 35] = [
     84, 65, 85, 82, 85, 83, 45, 76, 79, 71, 45, 49, 0, 2, 0, 1, 1, 0, 0, 0, 13, 4, 0, 0, 0, 13,
     116, 97, 98, 108, 101, 32, 97, 10, 0,
 ];
 
 // Stream 1 of two: `put a 2 6` at 13, whose vector is (0,0).
-const APART: [u8; 80] = [
+static APART: [u8; 80] = [
     84, 65, 85, 82, 85, 83, 45, 76, 79, 71, 45, 49, 0, 2, 0, 1, 1, 0, 0, 0, 13, 4, 0, 0, 0, 13,
     116, 97, 98, 108, 101, 32, 97, 10, 1, 0, 0, 0, 40, 1, 0, 0, 0, 40, 0, 0, 0, 0, 0, 0, 0, 2, 0,
     0, 0, 0, 0, 0, 0, 1, 0, 0, 0, 0, 0, 0, 0, 0, 0, 2, 1, 0, 0, 0, 0, 0, 0, 0, 6, 0,
 ];
 
 // Stream 0 of two: `put a 1 5` with vector (0,53) at 13, and `put a 3 7` with vector (0,0) at 61.
-const WAITING: [u8; 128] = [
+static WAITING: [u8; 128] = [
     84, 65, 85, 82, 85, 83, 45, 76, 79, 71, 45, 49, 0, 2, 0, 0, 1, 0, 0, 0, 13, 4, 0, 0, 0, 13,
     116, 97, 98, 108, 101, 32, 97, 10, 1, 0, 0, 0, 88, 1, 0, 0, 0, 48, 0, 0, 0, 0, 0, 0, 0, 1, 0,
     0, 0, 0, 0, 2, 0, 0, 0, 0, 0, 0, 0, 53, 0, 1, 0, 0, 0, 0, 0, 0, 0, 0, 0, 1, 1, 0, 0, 0, 0, 0,
@@ -53,7 +54,7 @@ const WAITING: [u8; 128] = [
 ];
 
 // Stream 0 of two: a record at 13 that waits for the end of the other stream.
-const TANGLED: [u8; 88] = [
+static TANGLED: [u8; 88] = [
     84, 65, 85, 82, 85, 83, 45, 76, 79, 71, 45, 49, 0, 2, 0, 0, 1, 0, 0, 0, 13, 4, 0, 0, 0, 13,
     116, 97, 98, 108, 101, 32, 97, 10, 1, 0, 0, 0, 48, 1, 0, 0, 0, 48, 0, 0, 0, 0, 0, 0, 0, 1, 0,
     0, 0, 0, 0, 2, 0, 0, 0, 0, 0, 0, 0, 61, 0, 1, 0, 0, 0, 0, 0, 0, 0, 0, 0, 1, 1, 0, 0, 0, 0, 0,
@@ -61,7 +62,7 @@ const TANGLED: [u8; 88] = [
 ];
 
 // Stream 1 of two: likewise.
-const TANGLED_TOO: [u8; 88] = [
+static TANGLED_TOO: [u8; 88] = [
     84, 65, 85, 82, 85, 83, 45, 76, 79, 71, 45, 49, 0, 2, 0, 1, 1, 0, 0, 0, 13, 4, 0, 0, 0, 13,
     116, 97, 98, 108, 101, 32, 97, 10, 1, 0, 0, 0, 48, 1, 0, 0, 0, 48, 0, 0, 0, 0, 0, 0, 0, 2, 0,
     0, 0, 0, 0, 1, 0, 0, 0, 0, 0, 0, 0, 61, 0, 1, 0, 0, 0, 0, 0, 0, 0, 0, 0, 2, 1, 0, 0, 0, 0, 0,
@@ -69,7 +70,7 @@ const TANGLED_TOO: [u8; 88] = [
 ];
 
 // A stream of one: the call `put a 1 5` at 13.
-const COMMAND: [u8; 89] = [
+static COMMAND: [u8; 89] = [
     84, 65, 85, 82, 85, 83, 45, 76, 79, 71, 45, 49, 0, 1, 0, 0, 1, 0, 0, 0, 13, 4, 0, 0, 0, 13,
     116, 97, 98, 108, 101, 32, 97, 10, 1, 0, 0, 0, 49, 2, 0, 0, 0, 49, 0, 0, 0, 0, 0, 0, 0, 1, 0,
     0, 0, 0, 0, 0, 0, 0, 3, 1, 0, 0, 0, 0, 0, 0, 0, 0, 1, 0, 0, 0, 0, 0, 0, 0, 1, 1, 0, 0, 0, 0, 0,
@@ -117,88 +118,82 @@ fn log_of_one(alloc: Global, image: &[u8]) -> Result<Log, Fail>
     }
 }
 
-// The tables of these two images, by these turns.
-fn tables_of(alloc: Global, first: &[u8], second: &[u8], turns: &[u8]) -> Result<Tables, Fail> {
-    let log = log_of(alloc, first, second)?;
-    match replay_turns(alloc, &log, turns) {
+// The tables of a log, by these turns.
+fn tables_by(alloc: Global, log: &Log, turns: &[u8]) -> Result<Tables, Fail>
+    requires { IsLog log.now }
+{
+    match replay_turns(alloc, log, turns) {
         Ok(tables) => Ok(tables),
         Err(_) => Err(Fail::from("no tables")),
     }
 }
 
-// Whether the row at a place is this number of table 0.
-fn is_row(tables: &Tables, place: usize, row: i64, number: i64) -> bool {
-    match tables.rows().get(place) {
-        Some((key, Value::Int(found))) => *key == Key { table: 0, row } && *found == number,
-        _ => false,
-    }
+// The tables of these two images, by these turns.
+fn tables_of(alloc: Global, first: &[u8], second: &[u8], turns: &[u8]) -> Result<Tables, Fail> {
+    let log = log_of(alloc, first, second)?;
+    tables_by(alloc, &log, turns)
+}
+
+// Checks the rows that these two images give by these turns.
+fn gives(
+    rt: &impl Abort,
+    alloc: Global,
+    images: (&[u8], &[u8]),
+    turns: &[u8],
+    rows: &[(i64, i64)],
+) -> Result<(), Fail> {
+    holds(rt, &tables_of(alloc, images.0, images.1, turns)?, rows);
+    Ok(())
 }
 
 #[test]
 fn a_cut_is_redone_alone(rt: HostRuntime) -> Result<(), Fail> {
-    let alloc = rt.alloc();
-    let none = tables_of(alloc, &FIRST_CUT, &SECOND, &[])?;
-    assert_eq!(rt; none.rows().len(), 0);
-    let one = tables_of(alloc, &FIRST, &SECOND_CUT, &[])?;
-    assert_eq!(rt; one.rows().len(), 1);
-    assert!(rt; is_row(&one, 0, 1, 5));
-    Ok(())
+    gives(&rt, rt.alloc(), (&FIRST_CUT, &SECOND), &[], &[])?;
+    gives(&rt, rt.alloc(), (&FIRST, &SECOND_CUT), &[], &[(1, 5)])
 }
 
 #[test]
 fn streams_are_redone_apart(rt: HostRuntime) -> Result<(), Fail> {
-    let alloc = rt.alloc();
-    let tables = tables_of(alloc, &FIRST_CUT, &APART, &[])?;
-    assert_eq!(rt; tables.rows().len(), 1);
-    assert!(rt; is_row(&tables, 0, 2, 6));
-    Ok(())
+    gives(&rt, rt.alloc(), (&FIRST_CUT, &APART), &[], &[(2, 6)])
 }
 
 #[test]
 fn turns_make_no_difference(rt: HostRuntime) -> Result<(), Fail> {
-    let alloc = rt.alloc();
     let turns = [[0u8; 4], [3, 3, 5, 5], [1, 2, 1, 2], [200, 16, 15, 0]];
     for turn in turns {
-        let tables = tables_of(alloc, &FIRST, &SECOND, &turn)?;
-        assert_eq!(rt; tables.rows().len(), 1);
-        assert!(rt; is_row(&tables, 0, 1, 7));
+        gives(&rt, rt.alloc(), (&FIRST, &SECOND), &turn, &[(1, 7)])?;
     }
     Ok(())
 }
 
 #[test]
 fn records_wait_for_another_stream(rt: HostRuntime) -> Result<(), Fail> {
-    let alloc = rt.alloc();
-    let tables = tables_of(alloc, &WAITING, &APART, &[0, 1, 2, 1, 2, 0])?;
-    assert_eq!(rt; tables.rows().len(), 3);
-    assert!(rt; is_row(&tables, 0, 1, 5));
-    assert!(rt; is_row(&tables, 1, 2, 6));
-    assert!(rt; is_row(&tables, 2, 3, 7));
-    Ok(())
+    let turns = [0, 1, 2, 1, 2, 0];
+    let rows = [(1, 5), (2, 6), (3, 7)];
+    gives(&rt, rt.alloc(), (&WAITING, &APART), &turns, &rows)
+}
+
+// The stream and the place of the first record that can't be redone; 255 and 0 where there is none.
+fn tangled_at(alloc: Global, log: &Log, turns: &[u8]) -> (u8, u64)
+    requires { IsLog log.now }
+{
+    match replay_turns(alloc, log, turns) {
+        Err(ReplayRefusal::Tangled { stream, at }) => (stream, at),
+        _ => (255, 0),
+    }
 }
 
 #[test]
 fn tangled_records_are_refused(rt: HostRuntime) -> Result<(), Fail> {
-    let alloc = rt.alloc();
-    let log = log_of(alloc, &TANGLED, &TANGLED_TOO)?;
-    let at = match replay_turns(alloc, &log, &[0, 1]) {
-        Err(ReplayRefusal::Tangled { stream, at }) => (stream, at),
-        _ => (255, 0),
-    };
-    assert_eq!(rt; at, (0, 13));
+    let log = log_of(rt.alloc(), &TANGLED, &TANGLED_TOO)?;
+    assert_eq!(rt; tangled_at(rt.alloc(), &log, &[0, 1]), (0, 13));
     Ok(())
 }
 
 #[test]
 fn calls_are_executed_again(rt: HostRuntime) -> Result<(), Fail> {
-    let alloc = rt.alloc();
-    let log = log_of_one(alloc, &COMMAND)?;
-    let tables = match replay_turns(alloc, &log, &[]) {
-        Ok(tables) => tables,
-        Err(_) => return Err(Fail::from("no tables")),
-    };
-    assert_eq!(rt; tables.rows().len(), 1);
-    assert!(rt; is_row(&tables, 0, 1, 5));
+    let log = log_of_one(rt.alloc(), &COMMAND)?;
+    holds(&rt, &tables_by(rt.alloc(), &log, &[])?, &[(1, 5)]);
     Ok(())
 }
 
@@ -214,26 +209,33 @@ fn six_turns(number: u64) -> [u8; 6] {
     turns
 }
 
+// Whether the table holds this number of row 1 alone by these turns.
+fn give(alloc: Global, log: &Log, turns: &[u8], number: i64) -> bool
+    requires { IsLog log.now }
+{
+    match replay_turns(alloc, log, turns) {
+        Ok(tables) => tables.rows().len() == 1 && is_row(&tables, 0, 1, number),
+        Err(_) => false,
+    }
+}
+
 // Whether the table holds this number of row 1 alone, whatever six turns of three workers are named.
-fn all_turns_give(alloc: Global, log: &Log, number: i64) -> Result<bool, Fail>
+fn all_turns_give(alloc: Global, log: &Log, number: i64) -> bool
     requires { IsLog log.now }
 {
     for code in 0..4096u64 {
-        let Ok(tables) = replay_turns(alloc, log, &six_turns(code)) else {
-            return Ok(false);
-        };
-        if tables.rows().len() != 1 || !is_row(&tables, 0, 1, number) {
-            return Ok(false);
+        if !give(alloc, log, &six_turns(code), number) {
+            return false;
         }
     }
-    Ok(true)
+    true
 }
 
 #[test]
 fn every_list_of_turns_gives_the_same(rt: HostRuntime) -> Result<(), Fail> {
     let alloc = rt.alloc();
     let log = log_of(alloc, CHAIN, CHAIN_TOO)?;
-    assert!(rt; all_turns_give(alloc, &log, 9)?);
+    assert!(rt; all_turns_give(alloc, &log, 9));
     Ok(())
 }
 
@@ -245,32 +247,35 @@ fn next_turn(state: &mut u64) -> u8 {
     state.to_be_bytes()[0]
 }
 
+// The next twenty turns, of any byte below 32.
+fn next_turns(state: &mut u64) -> [u8; 20] {
+    let mut turns = [16u8; 20];
+    for turn in turns.iter_mut() {
+        *turn = next_turn(state) / 8;
+    }
+    turns
+}
+
 // Whether the table holds this number of row 1 alone by this many lists of up to twenty random turns.
-fn random_turns_give(alloc: Global, log: &Log, lists: u64, number: i64) -> Result<bool, Fail>
+fn random_turns_give(alloc: Global, log: &Log, lists: u64, number: i64) -> bool
     requires { IsLog log.now }
 {
     let mut state = 1u64;
     for _ in 0..lists {
-        let mut turns = [16u8; 20];
-        for turn in turns.iter_mut() {
-            *turn = next_turn(&mut state) / 8;
-        }
-        let Ok(tables) = replay_turns(alloc, log, &turns) else {
-            return Ok(false);
-        };
-        if tables.rows().len() != 1 || !is_row(&tables, 0, 1, number) {
-            return Ok(false);
+        let turns = next_turns(&mut state);
+        if !give(alloc, log, &turns, number) {
+            return false;
         }
     }
-    Ok(true)
+    true
 }
 
 #[test]
 fn random_turns_give_the_same(rt: HostRuntime) -> Result<(), Fail> {
     let alloc = rt.alloc();
     let copied = log_of(alloc, COPIED, COPIED_TOO)?;
-    assert!(rt; random_turns_give(alloc, &copied, 500, 9)?);
+    assert!(rt; random_turns_give(alloc, &copied, 500, 9));
     let one = log_of(alloc, &FIRST, &SECOND_CUT)?;
-    assert!(rt; random_turns_give(alloc, &one, 500, 5)?);
+    assert!(rt; random_turns_give(alloc, &one, 500, 5));
     Ok(())
 }

@@ -1,18 +1,48 @@
-ghost use Rattle.std.specs.Prelude.{◌≤◌};
-
 use std::alloc::Global;
+use std::process::Abort;
 use std::test::*;
 use tau_base::NoMemory;
 use tau_disk::{MemDisk, Tear};
 use tau_open::{OpenRefusal, close_streams, open_streams};
 
+// Opens the first disks as streams, and closes them again: the refusal, or how many streams there were, where the
+// content of the last one ended, and how many disks were left.
+fn opened(
+    alloc: Global,
+    disks: &mut Vec<MemDisk>,
+    n: u8,
+) -> Result<(Option<OpenRefusal>, [u64; 3]), Fail> {
+    if n > 16 {
+        return Err(Fail::new("too many streams"));
+    }
+    if usize::from(n) > disks.len() {
+        return Err(Fail::new("too few disks"));
+    }
+    match open_streams(alloc, disks, n, b"table a\n") {
+        Ok(writers) => {
+            let durable = writers.last().map_or(0, |writer| writer.durable());
+            let counts = [writers.len() as u64, durable, disks.len() as u64];
+            close_streams(disks, writers);
+            Ok((None, counts))
+        }
+        Err(refusal) => Ok((Some(refusal), [0; 3])),
+    }
+}
+
+// The calls that each of the first four disks has had.
+fn calls_of(disks: &[MemDisk]) -> [u64; 4] {
+    let mut calls = [0; 4];
+    for (k, disk) in disks.iter().enumerate().take(4) {
+        calls[k] = disk.calls();
+    }
+    calls
+}
+
 // The disk of one stream fails at a call, the others fail nowhere.
 fn planned(alloc: Global, at: u8, stream: u8, call: u32) -> Result<MemDisk, NoMemory> {
-    if at == stream {
-        MemDisk::new(alloc, &[call])
-    } else {
-        MemDisk::new(alloc, &[])
-    }
+    let failing = [call];
+    let count = usize::from(at == stream);
+    MemDisk::new(alloc, failing.get(..count).unwrap_or(&[]))
 }
 
 // How many calls each of four disks has had once n of them were opened, of which one fails at a call.
@@ -21,40 +51,27 @@ fn calls_made(
     n: u8,
     stream: u8,
     call: u32,
-) -> Result<(Option<OpenRefusal>, [u64; 4]), Fail>
-    requires { n ≤ 3 }
-{
+) -> Result<(Option<OpenRefusal>, [u64; 4]), Fail> {
     let mut disks = Vec::new(alloc);
-    disks.push(planned(alloc, 0, stream, call)?)?;
-    disks.push(planned(alloc, 1, stream, call)?)?;
-    disks.push(planned(alloc, 2, stream, call)?)?;
-    disks.push(planned(alloc, 3, stream, call)?)?;
-    let refusal = match open_streams(alloc, &mut disks, n, b"table a\n") {
-        Ok(writers) => {
-            close_streams(&mut disks, writers);
-            None
-        }
-        Err(refusal) => Some(refusal),
-    };
-    let mut calls = [0; 4];
-    for (k, disk) in disks.iter().enumerate().take(4) {
-        calls[k] = disk.calls();
+    for at in 0..4u8 {
+        disks.push(planned(alloc, at, stream, call)?)?;
     }
-    Ok((refusal, calls))
+    let (refusal, _) = opened(alloc, &mut disks, n)?;
+    Ok((refusal, calls_of(&disks)))
 }
 
 // The calls of a disk: none of one that is not used; all seven of one whose stream is made, one of one that was asked.
 fn wanted(at: u8, n: u8, stream: u8, call: u32) -> u64 {
     if at >= n {
-        0
-    } else if at == stream {
-        u64::from(call)
-    } else if call == 1 {
-        u64::from(at < stream)
-    } else if at < stream {
-        7
-    } else {
-        1
+        return 0;
+    }
+    if at == stream {
+        return u64::from(call);
+    }
+    match (call == 1, at < stream) {
+        (true, before) => u64::from(before),
+        (false, true) => 7,
+        (false, false) => 1,
     }
 }
 
@@ -85,92 +102,91 @@ fn eight_calls_do_not_open(rt: HostRuntime) -> Result<(), Fail> {
     Ok(())
 }
 
-#[test]
-fn the_lowest_disk_that_holds_bytes(rt: HostRuntime) -> Result<(), Fail> {
-    let alloc = rt.alloc();
+// A disk for each of these images.
+fn holding(alloc: Global, images: [&[u8]; 4]) -> Result<Vec<MemDisk>, Fail> {
     let mut disks = Vec::new(alloc);
-    disks.push(MemDisk::new(alloc, &[])?)?;
-    disks.push(MemDisk::of_image(alloc, b"abc")?)?;
-    disks.push(MemDisk::of_image(alloc, b"abcd")?)?;
-    disks.push(MemDisk::of_image(alloc, b"abcde")?)?;
-    match open_streams(alloc, &mut disks, 3, b"table a\n") {
-        Ok(_) => panic!(rt; "opened"),
-        Err(refusal) => assert!(rt;
-            refusal
-                == OpenRefusal::NotEmpty {
-                    stream: 1,
-                    length: 3
-                }
-        ),
+    for image in images {
+        disks.push(MemDisk::of_image(alloc, image)?)?;
     }
-    assert_eq!(rt; disks.len(), 4);
-    assert_eq!(rt; disks[0].calls(), 1);
-    assert_eq!(rt; disks[1].calls(), 1);
-    assert_eq!(rt; disks[2].calls(), 1);
-    assert_eq!(rt; disks[3].calls(), 0);
-    assert_eq!(rt; disks[2].image(Tear::Old)?.as_slice(), b"abcd".as_slice());
+    Ok(disks)
+}
+
+// The disk in this place holds these bytes.
+fn holds(rt: &impl Abort, disks: &[MemDisk], place: usize, wanted: &[u8]) -> Result<(), Fail> {
+    let disk = disks.get(place).ok_or("no disk")?;
+    let image = disk.image(Tear::Old)?;
+    assert_eq!(rt; image.as_slice(), wanted, "disk {place}");
     Ok(())
 }
 
-// The header of stream j of n, and the catalogue of `table a`.
-fn begun(n: u8, j: u8) -> [u8; 35] {
-    [
-        84, 65, 85, 82, 85, 83, 45, 76, 79, 71, 45, 49, 0, n, 0, j, 1, 0, 0, 0, 13, 4, 0, 0, 0, 13,
-        116, 97, 98, 108, 101, 32, 97, 10, 0,
-    ]
+#[test]
+fn the_lowest_disk_that_holds_bytes(rt: HostRuntime) -> Result<(), Fail> {
+    let alloc = rt.alloc();
+    let mut disks = holding(alloc, [b"", b"abc", b"abcd", b"abcde"])?;
+    let (refusal, _) = opened(alloc, &mut disks, 3)?;
+    let wanted = OpenRefusal::NotEmpty {
+        stream: 1,
+        length: 3,
+    };
+    assert!(rt; refusal == Some(wanted));
+    assert_eq!(rt; disks.len(), 4);
+    assert_eq!(rt; calls_of(&disks), [1, 1, 1, 0]);
+    holds(&rt, &disks, 2, b"abcd")
+}
+
+// The disk in this place holds the header of that stream of n, and the catalogue of `table a`.
+fn holds_begun(
+    rt: &impl Abort,
+    alloc: Global,
+    disks: &[MemDisk],
+    n: u8,
+    place: u8,
+) -> Result<(), Fail> {
+    let mut wanted = Vec::from_slice(alloc, b"TAURUS-LOG-1")?;
+    wanted.extend_from_slice(&[0, n, 0, place])?;
+    wanted.extend_from_slice(b"\x01\x00\x00\x00\x0d\x04\x00\x00\x00\x0dtable a\n\x00")?;
+    holds(rt, disks, usize::from(place), &wanted)
 }
 
 #[test]
 fn disks_come_back_in_order(rt: HostRuntime) -> Result<(), Fail> {
     let alloc = rt.alloc();
-    let mut disks = Vec::new(alloc);
-    disks.push(MemDisk::new(alloc, &[])?)?;
-    disks.push(MemDisk::new(alloc, &[])?)?;
-    disks.push(MemDisk::of_image(alloc, b"abc")?)?;
-    disks.push(MemDisk::of_image(alloc, b"abcd")?)?;
-    let writers = match open_streams(alloc, &mut disks, 2, b"table a\n") {
-        Ok(writers) => writers,
-        Err(_) => panic!(rt; "refused"),
-    };
-    assert_eq!(rt; writers.len(), 2);
-    assert_eq!(rt; writers[1].durable(), 13);
-    assert_eq!(rt; disks.len(), 2);
-    close_streams(&mut disks, writers);
+    let mut disks = holding(alloc, [b"", b"", b"abc", b"abcd"])?;
+    let (refusal, counts) = opened(alloc, &mut disks, 2)?;
+    assert!(rt; refusal == None);
+    // Two streams, the second one's content ended at 13, and two disks were left.
+    assert_eq!(rt; counts, [2, 13, 2]);
     assert_eq!(rt; disks.len(), 4);
-    assert_eq!(rt;
-        disks[0].image(Tear::Old)?.as_slice(),
-        begun(2, 0).as_slice()
-    );
-    assert_eq!(rt;
-        disks[1].image(Tear::Old)?.as_slice(),
-        begun(2, 1).as_slice()
-    );
-    assert_eq!(rt; disks[2].image(Tear::Old)?.as_slice(), b"abc".as_slice());
-    assert_eq!(rt; disks[3].image(Tear::Old)?.as_slice(), b"abcd".as_slice());
-    Ok(())
+    holds_begun(&rt, alloc, &disks, 2, 0)?;
+    holds_begun(&rt, alloc, &disks, 2, 1)?;
+    holds(&rt, &disks, 2, b"abc")?;
+    holds(&rt, &disks, 3, b"abcd")
+}
+
+// Sixteen new disks.
+fn sixteen(alloc: Global) -> Result<Vec<MemDisk>, Fail> {
+    let mut disks = Vec::new(alloc);
+    for _ in 0..16u8 {
+        disks.push(MemDisk::new(alloc, &[])?)?;
+    }
+    Ok(disks)
 }
 
 #[test]
 fn sixteen_streams(rt: HostRuntime) -> Result<(), Fail> {
     let alloc = rt.alloc();
-    let mut disks = Vec::new(alloc);
-    for _ in 0..16u8 {
-        disks.push(MemDisk::new(alloc, &[])?)?;
+    let mut disks = sixteen(alloc)?;
+    assert_eq!(rt; disks.len(), 16);
+    let (refusal, counts) = opened(alloc, &mut disks, 16)?;
+    assert!(rt; refusal == None);
+    // No disk was left.
+    assert_eq!(rt; counts[2], 0);
+    assert_eq!(rt; disks.len(), 16);
+    for j in 0..16u8 {
+        holds_begun(&rt, alloc, &disks, 16, j)?;
     }
-    assert_eq!(rt; disks.len(), 16);
-    let writers = match open_streams(alloc, &mut disks, 16, b"table a\n") {
-        Ok(writers) => writers,
-        Err(_) => panic!(rt; "refused"),
-    };
-    assert_eq!(rt; disks.len(), 0);
-    close_streams(&mut disks, writers);
-    assert_eq!(rt; disks.len(), 16);
-    for (j, disk) in disks.iter().enumerate().take(16) {
+    for disk in &disks {
         assert_eq!(rt; disk.calls(), 7);
-        assert_eq!(rt;
-            disk.image(Tear::Old)?.as_slice(),
-            begun(16, j as u8).as_slice()
-        );
     }
     Ok(())
 }

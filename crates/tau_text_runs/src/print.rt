@@ -1,7 +1,9 @@
 use std::alloc::Global;
+use std::process::Abort;
 use std::test::Fail;
+use tau_proc::Proc;
 use tau_text::{
-    TextRefusal, parse_declarations, parse_workload, print_declarations, print_workload,
+    TextRefusal, Workload, parse_declarations, parse_workload, print_declarations, print_workload,
 };
 
 static TRANSFERS: &str =
@@ -13,26 +15,63 @@ fn printed(alloc: Global, text: &str) -> Result<Vec<u8>, Fail> {
     Ok(print_workload(alloc, &load)?)
 }
 
+// How many tables, procedures and calls there are, and whether there are turns.
+fn counts_of(load: &Workload) -> (usize, usize, usize, bool) {
+    (
+        load.declarations.tables.len(),
+        load.declarations.procs.list().len(),
+        load.calls.len(),
+        load.turns.is_some(),
+    )
+}
+
+// Checks that there is one procedure, its name, and how many arguments and steps it has.
+fn is_only(rt: &impl Abort, procs: &[Proc], name: &str, args: u8, steps: usize) {
+    assert_eq!(rt; procs.len(), 1);
+    for found in procs {
+        assert_eq!(rt; found.name.as_str(), name);
+        assert_eq!(rt; (found.args, found.steps.len()), (args, steps));
+    }
+}
+
+// The procedure of a call, and how many arguments the call has; 0 and 0 where there is no such call.
+fn call_of(load: &Workload, place: usize) -> (u16, usize) {
+    if place >= load.calls.len() {
+        return (0, 0);
+    }
+    let call = load.calls.call_at(place);
+    (call.proc, call.args.len())
+}
+
+// Checks that a workload and its declarations are printed as this, of which the declarations take so many bytes.
+fn prints(
+    rt: &impl Abort,
+    alloc: Global,
+    load: &Workload,
+    text: &str,
+    length: usize,
+) -> Result<(), Fail> {
+    let all = print_workload(alloc, load)?;
+    assert_eq!(rt; all.as_slice(), text.as_bytes());
+    let declarations = print_declarations(alloc, &load.declarations)?;
+    assert_eq!(rt; declarations.len(), length);
+    assert!(rt; text.as_bytes().starts_with(declarations.as_slice()));
+    Ok(())
+}
+
 #[test]
 fn transfers_are_read_and_printed(rt: HostRuntime) -> Result<(), Fail> {
     let load = parse_workload(rt.alloc(), TRANSFERS.as_bytes())?;
-    assert_eq!(rt; load.declarations.tables.len(), 1);
-    assert_eq!(rt; load.declarations.procs.list().len(), 1);
-    assert_eq!(rt; load.declarations.procs.list()[0].name.as_str(), "move");
-    assert_eq!(rt; load.declarations.procs.list()[0].args, 3);
-    assert_eq!(rt; load.declarations.procs.list()[0].steps.len(), 8);
-    assert_eq!(rt; load.calls.len(), 5);
-    assert_eq!(rt; load.calls.call_at(2).proc, 4);
-    assert_eq!(rt; load.calls.call_at(2).args.len(), 3);
-    assert!(rt; load.turns.is_some());
-    let text = print_workload(rt.alloc(), &load)?;
-    assert_eq!(rt; text.as_slice(), TRANSFERS.as_bytes());
-    let declarations = print_declarations(rt.alloc(), &load.declarations)?;
-    assert_eq!(rt; declarations.len(), 136);
-    assert_eq!(rt;
-        declarations.as_slice(),
-        TRANSFERS.as_bytes().split_at(136).0
-    );
+    assert_eq!(rt; counts_of(&load), (1, 1, 5, true));
+    is_only(&rt, load.declarations.procs.list(), "move", 3, 8);
+    assert_eq!(rt; call_of(&load, 2), (4, 3));
+    prints(&rt, rt.alloc(), &load, TRANSFERS, 136)
+}
+
+// Checks what the meaning of a text is printed as.
+fn becomes(rt: &impl Abort, alloc: Global, text: &str, wanted: &str) -> Result<(), Fail> {
+    let found = printed(alloc, text)?;
+    assert_eq!(rt; found.as_slice(), wanted.as_bytes());
     Ok(())
 }
 
@@ -50,12 +89,19 @@ fn canonical_text_of_each_form(rt: HostRuntime) -> Result<(), Fail> {
     let wanted = format!(in rt.alloc();
         "table b\ntable a\ntable c\n{canonical}{rest}turns w0 m15 a3 c d\n"
     )?;
-    let found = printed(rt.alloc(), source.as_str())?;
-    assert_eq!(rt; found.as_slice(), wanted.as_str().as_bytes());
-    let again = printed(rt.alloc(), wanted.as_str())?;
-    assert_eq!(rt; again.as_slice(), wanted.as_str().as_bytes());
-    assert_eq!(rt; printed(rt.alloc(), "")?.len(), 0);
-    Ok(())
+    becomes(&rt, rt.alloc(), source.as_str(), wanted.as_str())?;
+    becomes(&rt, rt.alloc(), wanted.as_str(), wanted.as_str())?;
+    becomes(&rt, rt.alloc(), "", "")
+}
+
+// Checks the line and the cause of a text that is to be the canonical text of declarations.
+fn tells(rt: &impl Abort, alloc: Global, text: &str, line: u32, cause: u8) {
+    let outcome = match parse_declarations(alloc, text.as_bytes()) {
+        Ok(_) => (0, 0),
+        Err(TextRefusal::NoMemory) => (0, 10),
+        Err(TextRefusal::Bad(fault)) => (fault.line, fault.cause.number()),
+    };
+    assert_eq!(rt; outcome, (line, cause), "{text}");
 }
 
 #[test]
@@ -81,12 +127,7 @@ fn declarations_in_their_canonical_text_alone(rt: HostRuntime) {
         (2, 3, "table a\nput b 1 1\n"),
         (1, 8, "table\n"),
     ];
-    for (line, cause, text) in rows.iter() {
-        let outcome = match parse_declarations(rt.alloc(), text.as_bytes()) {
-            Ok(_) => (0, 0),
-            Err(TextRefusal::NoMemory) => (0, 10),
-            Err(TextRefusal::Bad(fault)) => (fault.line, fault.cause.number()),
-        };
-        assert_eq!(rt; outcome, (*line, *cause), "{text}");
+    for (line, cause, text) in rows {
+        tells(&rt, rt.alloc(), text, line, cause);
     }
 }

@@ -13,105 +13,111 @@ fn outcome(alloc: Global, text: &[u8]) -> (u32, u8) {
     }
 }
 
-fn joined(alloc: Global, front: &str, line: &str, back: &str) -> Result<Vec<u8>, AllocError> {
-    let mut text = Vec::from_slice(alloc, front.as_bytes())?;
+// Checks the line and the cause of a text.
+fn tells(rt: &impl Abort, alloc: Global, text: &str, line: u32, cause: u8) {
+    assert_eq!(rt; outcome(alloc, text.as_bytes()), (line, cause), "{text}");
+}
+
+fn put_joined(text: &mut Vec<u8>, front: &str, line: &str, back: &str) -> Result<(), AllocError> {
+    text.extend_from_slice(front.as_bytes())?;
     text.extend_from_slice(line.as_bytes())?;
-    text.extend_from_slice(back.as_bytes())?;
-    Ok(text)
+    text.extend_from_slice(back.as_bytes())
+}
+
+// Checks the cause of a line between others. Where it is not 0, this is the number of the line.
+fn tells_between(
+    rt: &impl Abort,
+    alloc: Global,
+    around: (&str, &str),
+    line: &str,
+    wanted: (u32, u8),
+) -> Result<(), AllocError> {
+    let mut text = Vec::new(alloc);
+    put_joined(&mut text, around.0, line, around.1)?;
+    let number = if wanted.1 == 0 { 0 } else { wanted.0 };
+    assert_eq!(rt;
+        outcome(alloc, text.as_slice()),
+        (number, wanted.1),
+        "{line}"
+    );
+    Ok(())
 }
 
 #[test]
 fn first_bad_lines_of_texts(rt: HostRuntime) {
     for (line, cause, text) in LINES.iter() {
-        assert_eq!(rt;
-            outcome(rt.alloc(), text.as_bytes()),
-            (*line, *cause),
-            "{text}"
-        );
+        tells(&rt, rt.alloc(), text, *line, *cause);
     }
     for (line, cause, text) in DECLARATIONS.iter() {
-        assert_eq!(rt;
-            outcome(rt.alloc(), text.as_bytes()),
-            (*line, *cause),
-            "{text}"
-        );
+        tells(&rt, rt.alloc(), text, *line, *cause);
     }
 }
 
 #[test]
 fn steps_by_their_words(rt: HostRuntime) -> Result<(), Fail> {
+    let around = ("table a\nproc p 2\n", "\nend\n");
     for (cause, step) in STEPS.iter() {
-        let text = joined(rt.alloc(), "table a\nproc p 2\n", step, "\nend\n")?;
-        let line = if *cause == 0 { 0 } else { 3 };
-        assert_eq!(rt;
-            outcome(rt.alloc(), text.as_slice()),
-            (line, *cause),
-            "{step}"
-        );
+        tells_between(&rt, rt.alloc(), around, step, (3, *cause))?;
     }
     Ok(())
 }
 
 #[test]
 fn calls_and_turns_by_their_words(rt: HostRuntime) -> Result<(), Fail> {
+    let around = ("table a\nproc p 2\nend\nproc q 0\nend\n", "\n");
     for (cause, call) in CALLS.iter() {
-        let text = joined(
-            rt.alloc(),
-            "table a\nproc p 2\nend\nproc q 0\nend\n",
-            call,
-            "\n",
-        )?;
-        let line = if *cause == 0 { 0 } else { 6 };
-        assert_eq!(rt;
-            outcome(rt.alloc(), text.as_slice()),
-            (line, *cause),
-            "{call}"
-        );
+        tells_between(&rt, rt.alloc(), around, call, (6, *cause))?;
     }
     Ok(())
 }
 
+// Checks that this line of a text is the first one that is no text.
+fn is_no_text(rt: &impl Abort, alloc: Global, text: &[u8], line: u32) {
+    assert_eq!(rt; outcome(alloc, text), (line, 1));
+}
+
 #[test]
 fn bytes_that_are_no_text(rt: HostRuntime) {
-    let rows = [
-        (1, b"\xff".as_slice()),
-        (1, b"# \xc3\n".as_slice()),
-        (2, b"table a\nput a 1 \"\xed\xa0\x80\"".as_slice()),
-        (1, b"foo \x80\nfoo".as_slice()),
-        (3, b"proc p 0\n\n\xf8\nfoo".as_slice()),
-    ];
-    for (line, text) in rows.iter() {
-        assert_eq!(rt; outcome(rt.alloc(), text), (*line, 1));
-    }
+    is_no_text(&rt, rt.alloc(), b"\xff", 1);
+    is_no_text(&rt, rt.alloc(), b"# \xc3\n", 1);
+    is_no_text(&rt, rt.alloc(), b"table a\nput a 1 \"\xed\xa0\x80\"", 2);
+    is_no_text(&rt, rt.alloc(), b"foo \x80\nfoo", 1);
+    is_no_text(&rt, rt.alloc(), b"proc p 0\n\n\xf8\nfoo", 3);
 }
 
 // the front, a line so many times, and the back
-fn repeated(
-    alloc: Global,
+fn put_repeated(
+    text: &mut Vec<u8>,
     front: &str,
     line: &str,
     times: usize,
     back: &str,
-) -> Result<Vec<u8>, AllocError> {
-    let mut text = Vec::from_slice(alloc, front.as_bytes())?;
+) -> Result<(), AllocError> {
+    text.extend_from_slice(front.as_bytes())?;
     for _ in 0..times {
         text.extend_from_slice(line.as_bytes())?;
     }
-    text.extend_from_slice(back.as_bytes())?;
-    Ok(text)
+    text.extend_from_slice(back.as_bytes())
 }
 
 // fronts, lines so many times and backs, with the bad line and the number of the cause
 type Row = (&'static str, &'static str, usize, &'static str, u32, u8);
 
-fn check_rows(rt: &impl Abort, alloc: Global, rows: &[Row]) -> Result<(), AllocError> {
-    for (front, line, times, back, bad, cause) in rows.iter() {
-        let text = repeated(alloc, front, line, *times, back)?;
-        assert_eq!(rt;
-            outcome(alloc, text.as_slice()),
-            (*bad, *cause),
-            "{times} times {line}"
-        );
+fn check_row(rt: &impl Abort, alloc: Global, row: &Row) -> Result<(), AllocError> {
+    let (front, line, times, back, bad, cause) = *row;
+    let mut text = Vec::new(alloc);
+    put_repeated(&mut text, front, line, times, back)?;
+    assert_eq!(rt;
+        outcome(alloc, text.as_slice()),
+        (bad, cause),
+        "{times} times {line}"
+    );
+    Ok(())
+}
+
+fn check_rows(rt: &impl Abort, alloc: Global, rows: &[Row]) -> Result<(), Fail> {
+    for row in rows {
+        check_row(rt, alloc, row)?;
     }
     Ok(())
 }
@@ -138,8 +144,7 @@ fn steps_and_texts_up_to_their_limits(rt: HostRuntime) -> Result<(), Fail> {
         ("table a\nput a 1 \"", "x", 64, "\"", 0, 0),
         ("table a\nput a 1 \"", "x", 65, "\"", 2, 7),
     ];
-    check_rows(&rt, rt.alloc(), rows.as_slice())?;
-    Ok(())
+    check_rows(&rt, rt.alloc(), rows.as_slice())
 }
 
 #[test]
@@ -149,8 +154,7 @@ fn calls_up_to_their_limit(rt: HostRuntime) -> Result<(), Fail> {
         ("table a\n", "get a 1\n", 200_001, "turns", 200_002, 7),
         ("table a\n", "get a 1\n", 200_000, "get a x", 200_002, 5),
     ];
-    check_rows(&rt, rt.alloc(), rows.as_slice())?;
-    Ok(())
+    check_rows(&rt, rt.alloc(), rows.as_slice())
 }
 
 #[test]
@@ -160,8 +164,7 @@ fn turns_up_to_their_limit(rt: HostRuntime) -> Result<(), Fail> {
         ("turns", " c", 1_000_001, "\n", 1, 7),
         ("turns", " c", 1_000_000, "\nturns\nturns d", 3, 7),
     ];
-    check_rows(&rt, rt.alloc(), rows.as_slice())?;
-    Ok(())
+    check_rows(&rt, rt.alloc(), rows.as_slice())
 }
 
 #[test]
@@ -170,29 +173,46 @@ fn bytes_of_a_text_up_to_their_limit(rt: HostRuntime) -> Result<(), Fail> {
         ("", "#234567890123456", 1_048_576, "", 0, 0),
         ("", "#23456789012345\n", 1_048_576, "#", 1_048_577, 7),
     ];
-    check_rows(&rt, rt.alloc(), rows.as_slice())?;
+    check_rows(&rt, rt.alloc(), rows.as_slice())
+}
+
+// Puts so many lines, each with its number between these words.
+fn put_numbered(
+    text: &mut String,
+    alloc: Global,
+    times: u32,
+    words: (&str, &str),
+) -> Result<(), Fail> {
+    for i in 0..times {
+        text.push_str(format!(in alloc; "{}{i}{}", words.0, words.1)?.as_str())?;
+    }
+    Ok(())
+}
+
+// Checks a text of so many numbered lines, and these after them.
+fn tells_after(
+    rt: &impl Abort,
+    alloc: Global,
+    lines: (u32, &str, &str),
+    more: &str,
+    wanted: (u32, u8),
+) -> Result<(), Fail> {
+    let mut text = String::new(alloc);
+    put_numbered(&mut text, alloc, lines.0, (lines.1, lines.2))?;
+    text.push_str(more)?;
+    assert_eq!(rt; outcome(alloc, text.as_str().as_bytes()), wanted, "{more}");
     Ok(())
 }
 
 #[test]
 fn tables_and_procedures_up_to_their_limits(rt: HostRuntime) -> Result<(), Fail> {
-    let mut tables = String::new(rt.alloc());
-    for i in 0..64 {
-        tables.push_str(format!(in rt.alloc(); "table t{i}\n")?.as_str())?;
-    }
-    assert_eq!(rt; outcome(rt.alloc(), tables.as_str().as_bytes()), (0, 0));
-    let more = joined(rt.alloc(), tables.as_str(), "table t64\n", "")?;
-    assert_eq!(rt; outcome(rt.alloc(), more.as_slice()), (65, 7));
-    let twice = joined(rt.alloc(), tables.as_str(), "table t0\n", "")?;
-    assert_eq!(rt; outcome(rt.alloc(), twice.as_slice()), (65, 4));
-    let mut procs = String::new(rt.alloc());
-    for i in 0..256 {
-        procs.push_str(format!(in rt.alloc(); "proc p{i} 0\nend\n")?.as_str())?;
-    }
-    assert_eq!(rt; outcome(rt.alloc(), procs.as_str().as_bytes()), (0, 0));
-    let more = joined(rt.alloc(), procs.as_str(), "proc p256 0\nend\n", "")?;
-    assert_eq!(rt; outcome(rt.alloc(), more.as_slice()), (513, 7));
-    Ok(())
+    let tables = (64, "table t", "\n");
+    tells_after(&rt, rt.alloc(), tables, "", (0, 0))?;
+    tells_after(&rt, rt.alloc(), tables, "table t64\n", (65, 7))?;
+    tells_after(&rt, rt.alloc(), tables, "table t0\n", (65, 4))?;
+    let procs = (256, "proc p", " 0\nend\n");
+    tells_after(&rt, rt.alloc(), procs, "", (0, 0))?;
+    tells_after(&rt, rt.alloc(), procs, "proc p256 0\nend\n", (513, 7))
 }
 
 // the same for a text that is to be the canonical text of declarations
@@ -206,49 +226,67 @@ fn outcome_of_declarations(alloc: Global, text: &[u8]) -> (u32, u8) {
 
 // Procedures p0 to p6, with 64 steps each. A step that replies a text of n bytes takes n + 9, the lines about it 14:
 // six procedures of 4,686 bytes, and one of 4,613 and its last step.
-fn large_declarations(alloc: Global, last: usize, end: &str) -> Result<Vec<u8>, AllocError> {
-    let full = repeated(alloc, "reply \"", "x", 64, "\"\n")?;
+fn large_declarations(alloc: Global, last: usize, end: &str) -> Result<Vec<u8>, Fail> {
     let mut text = Vec::new(alloc);
     for i in 0..7 {
-        text.extend_from_slice(format!(in alloc; "proc p{i} 0\n")?.as_str().as_bytes())?;
-        for _ in 0..63 {
-            text.extend_from_slice(full.as_slice())?;
-        }
-        let step = repeated(
-            alloc,
-            "reply \"",
-            "x",
-            if i < 6 { 64 } else { last },
-            "\"\n",
-        )?;
-        text.extend_from_slice(step.as_slice())?;
-        text.extend_from_slice(end.as_bytes())?;
+        let long = if i < 6 { 64 } else { last };
+        put_large_procedure(&mut text, alloc, i, long, end)?;
     }
     Ok(text)
 }
 
-#[test]
-fn canonical_declarations_of_32768_bytes(rt: HostRuntime) -> Result<(), Fail> {
-    let most = large_declarations(rt.alloc(), 30, "\n  end  \n")?;
-    assert_eq!(rt; outcome(rt.alloc(), most.as_slice()), (0, 0));
-    let more = large_declarations(rt.alloc(), 31, "\n  end  \n")?;
-    assert_eq!(rt; outcome(rt.alloc(), more.as_slice()), (469, 7));
+// One of these procedures, whose last step replies a text of so many bytes.
+fn put_large_procedure(
+    text: &mut Vec<u8>,
+    alloc: Global,
+    number: u32,
+    last: usize,
+    end: &str,
+) -> Result<(), Fail> {
+    text.extend_from_slice(format!(in alloc; "proc p{number} 0\n")?.as_str().as_bytes())?;
+    for _ in 0..63 {
+        put_repeated(text, "reply \"", "x", 64, "\"\n")?;
+    }
+    put_repeated(text, "reply \"", "x", last, "\"\n")?;
+    text.extend_from_slice(end.as_bytes())?;
+    Ok(())
+}
+
+// Checks the line and the cause of these declarations at the start of a workload.
+fn tells_large(
+    rt: &impl Abort,
+    alloc: Global,
+    last: usize,
+    end: &str,
+    wanted: (u32, u8),
+) -> Result<(), Fail> {
+    let text = large_declarations(alloc, last, end)?;
+    assert_eq!(rt; outcome(alloc, text.as_slice()), wanted);
+    Ok(())
+}
+
+// Checks how long these declarations are, and their line and cause where they are to stand alone.
+fn tells_large_alone(
+    rt: &impl Abort,
+    alloc: Global,
+    last: usize,
+    length: usize,
+    wanted: (u32, u8),
+) -> Result<(), Fail> {
+    let text = large_declarations(alloc, last, "end\n")?;
+    assert_eq!(rt; text.len(), length);
+    assert_eq!(rt; outcome_of_declarations(alloc, text.as_slice()), wanted);
     Ok(())
 }
 
 #[test]
+fn canonical_declarations_of_32768_bytes(rt: HostRuntime) -> Result<(), Fail> {
+    tells_large(&rt, rt.alloc(), 30, "\n  end  \n", (0, 0))?;
+    tells_large(&rt, rt.alloc(), 31, "\n  end  \n", (469, 7))
+}
+
+#[test]
 fn declarations_alone_of_32768_bytes(rt: HostRuntime) -> Result<(), Fail> {
-    let most = large_declarations(rt.alloc(), 30, "end\n")?;
-    assert_eq!(rt; most.len(), 32_768);
-    assert_eq!(rt;
-        outcome_of_declarations(rt.alloc(), most.as_slice()),
-        (0, 0)
-    );
-    let more = large_declarations(rt.alloc(), 31, "end\n")?;
-    assert_eq!(rt; more.len(), 32_769);
-    assert_eq!(rt;
-        outcome_of_declarations(rt.alloc(), more.as_slice()),
-        (462, 7)
-    );
-    Ok(())
+    tells_large_alone(&rt, rt.alloc(), 30, 32_768, (0, 0))?;
+    tells_large_alone(&rt, rt.alloc(), 31, 32_769, (462, 7))
 }

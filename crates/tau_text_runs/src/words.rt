@@ -1,4 +1,5 @@
 use std::alloc::Global;
+use std::process::Abort;
 use std::test::Fail;
 use tau_base::LogMode;
 use tau_disk::Tear;
@@ -17,59 +18,115 @@ fn run(n: u8, m: u8, mode: LogMode) -> Command {
     Command::Run { n, m, mode }
 }
 
-fn stop(n: u8, m: u8, p: u8, after: u32, tear: Tear) -> Command {
-    let ending = Ending::Stop { after, tear };
-    Command::Drill { n, m, p, ending }
+// a drill on so many streams, by so many workers and recovery workers
+fn drill(who: [u8; 3], ending: Ending) -> Command {
+    Command::Drill {
+        n: who[0],
+        m: who[1],
+        p: who[2],
+        ending,
+    }
 }
 
-fn fail(n: u8, m: u8, p: u8, stream: u8, call: u32) -> Command {
-    let ending = Ending::Fail { stream, call };
-    Command::Drill { n, m, p, ending }
+fn stop(who: [u8; 3], after: u32, tear: Tear) -> Command {
+    drill(who, Ending::Stop { after, tear })
 }
 
-fn bench(start: u16, calls: u32, n: u8, m: u8) -> Command {
-    Command::Bench { start, calls, n, m }
+fn fail(who: [u8; 3], stream: u8, call: u32) -> Command {
+    drill(who, Ending::Fail { stream, call })
+}
+
+fn bench(start: u16, calls: u32, who: [u8; 2]) -> Command {
+    Command::Bench {
+        start,
+        calls,
+        n: who[0],
+        m: who[1],
+    }
+}
+
+// Checks what a line asks for.
+fn reads(rt: &impl Abort, alloc: Global, line: &str, command: Command) -> Result<(), Fail> {
+    let words = words_of(alloc, line)?;
+    assert!(rt;
+        read_words(alloc, words.as_slice()).ok() == Some(command),
+        "{line}"
+    );
+    Ok(())
 }
 
 #[test]
-fn each_row_is_read(rt: HostRuntime) -> Result<(), Fail> {
-    let alloc = rt.alloc();
+fn each_row_of_a_run_is_read(rt: HostRuntime) -> Result<(), Fail> {
     let rows = [
-        ("run 2 1", run(2, 1, LogMode::Values)),
-        ("run 16 16 data", run(16, 16, LogMode::Values)),
-        ("run 1 3 command", run(1, 3, LogMode::Commands)),
-        ("recover 16 1", Command::Recover { n: 16, p: 1 }),
-        ("drill 1 1 1 stop 10 torn", stop(1, 1, 1, 10, Tear::Torn)),
+        ("run 2 1", 2, 1, LogMode::Values),
+        ("run 16 16 data", 16, 16, LogMode::Values),
+        ("run 1 3 command", 1, 3, LogMode::Commands),
+    ];
+    for (line, n, m, mode) in rows {
+        reads(&rt, rt.alloc(), line, run(n, m, mode))?;
+    }
+    reads(
+        &rt,
+        rt.alloc(),
+        "recover 16 1",
+        Command::Recover { n: 16, p: 1 },
+    )
+}
+
+#[test]
+fn each_row_of_a_drill_is_read(rt: HostRuntime) -> Result<(), Fail> {
+    let stops = [
+        ("drill 1 1 1 stop 10 torn", [1, 1, 1], 10, Tear::Torn),
         (
             "drill 16 15 14 stop 1000000 old",
-            stop(16, 15, 14, 1_000_000, Tear::Old),
+            [16, 15, 14],
+            1_000_000,
+            Tear::Old,
         ),
-        ("drill 1 2 3 stop 1 new", stop(1, 2, 3, 1, Tear::New)),
-        ("drill 2 2 1 fail 1 9", fail(2, 2, 1, 1, 9)),
-        (
-            "drill 16 1 1 fail 15 1000000",
-            fail(16, 1, 1, 15, 1_000_000),
-        ),
-        ("drill 1 1 1 fail 0 1", fail(1, 1, 1, 0, 1)),
-        ("bench 7 20000 4 8", bench(7, 20_000, 4, 8)),
-        ("bench 0 0 1 1", bench(0, 0, 1, 1)),
-        ("bench 999 200000 16 16", bench(999, 200_000, 16, 16)),
+        ("drill 1 2 3 stop 1 new", [1, 2, 3], 1, Tear::New),
     ];
-    for (line, command) in rows {
-        let words = words_of(alloc, line)?;
-        assert!(rt;
-            read_words(alloc, words.as_slice()).ok() == Some(command),
-            "{line}"
-        );
+    for (line, who, after, tear) in stops {
+        reads(&rt, rt.alloc(), line, stop(who, after, tear))?;
+    }
+    let fails = [
+        ("drill 2 2 1 fail 1 9", [2, 2, 1], 1, 9),
+        ("drill 16 1 1 fail 15 1000000", [16, 1, 1], 15, 1_000_000),
+        ("drill 1 1 1 fail 0 1", [1, 1, 1], 0, 1),
+    ];
+    for (line, who, stream, call) in fails {
+        reads(&rt, rt.alloc(), line, fail(who, stream, call))?;
     }
     Ok(())
 }
 
 #[test]
+fn each_row_of_a_bench_is_read(rt: HostRuntime) -> Result<(), Fail> {
+    let rows = [
+        ("bench 7 20000 4 8", 7, 20_000, [4, 8]),
+        ("bench 0 0 1 1", 0, 0, [1, 1]),
+        ("bench 999 200000 16 16", 999, 200_000, [16, 16]),
+    ];
+    for (line, start, calls, who) in rows {
+        reads(&rt, rt.alloc(), line, bench(start, calls, who))?;
+    }
+    Ok(())
+}
+
+// Whether these words are refused.
+fn are_refused(alloc: Global, words: &[String]) -> bool {
+    read_words(alloc, words).err() == Some(WordsRefusal::Usage)
+}
+
+// Checks that a line is refused.
+fn refuses(rt: &impl Abort, alloc: Global, line: &str) -> Result<(), Fail> {
+    let words = words_of(alloc, line)?;
+    assert!(rt; are_refused(alloc, words.as_slice()), "{line}");
+    Ok(())
+}
+
+#[test]
 fn other_words_are_refused(rt: HostRuntime) -> Result<(), Fail> {
-    let alloc = rt.alloc();
-    let none: Vec<String> = Vec::new(alloc);
-    assert!(rt; read_words(alloc, none.as_slice()).err() == Some(WordsRefusal::Usage));
+    assert!(rt; are_refused(rt.alloc(), &[]));
     let lines = [
         "",
         "nonsense",
@@ -115,11 +172,7 @@ fn other_words_are_refused(rt: HostRuntime) -> Result<(), Fail> {
         "run 2 1 data 1 2 3 4 5",
     ];
     for line in lines {
-        let words = words_of(alloc, line)?;
-        assert!(rt;
-            read_words(alloc, words.as_slice()).err() == Some(WordsRefusal::Usage),
-            "{line}"
-        );
+        refuses(&rt, rt.alloc(), line)?;
     }
     Ok(())
 }

@@ -1,6 +1,8 @@
 //! What locks do to vectors and rows, against the worked runs.
 ghost use Rattle.std.specs.Prelude.{◌<◌};
 
+use std::alloc::Global;
+use std::process::Abort;
 use std::test::*;
 use tau_base::{Key, Lv, Mode, Value};
 use tau_shard::{Shard, ShardRefusal};
@@ -113,19 +115,34 @@ fn busy_names_the_lowest_holder(rt: HostRuntime) {
     assert_eq!(rt; shard.drop_covered(&dep), 0);
 }
 
+/// Up to this vector so many entries are dropped.
+fn drops(rt: &impl Abort, shard: &mut Shard, upto: &Lv, entries: usize) {
+    assert_eq!(rt; shard.drop_covered(upto), entries);
+}
+
+/// The shard's floor is this vector.
+fn has_floor(rt: &impl Abort, shard: &Shard, floor: &Lv) {
+    assert_eq!(rt; shard.floor(), *floor);
+}
+
+/// So many rows are there.
+fn presents(rt: &impl Abort, alloc: Global, shard: &Shard, count: usize) {
+    let mut rows = Vec::new(alloc);
+    assert!(rt; shard.present(&mut rows).is_ok());
+    assert_eq!(rt; rows.len(), count);
+}
+
 #[test]
 fn removed_entry_raises_the_floor(rt: HostRuntime) {
     let mut shard = Shard::new(rt.alloc(), 2);
     let zero = Lv::zero(2);
     let lv = zero.with(0, 53);
     assert_eq!(rt; writes(&mut shard, 0, 1, &lv, Value::Int(5)), Ok(zero));
-    assert_eq!(rt; shard.drop_covered(&zero.with(0, 52)), 0);
-    assert_eq!(rt; shard.drop_covered(&lv), 1);
-    assert_eq!(rt; shard.floor(), lv);
+    drops(&rt, &mut shard, &zero.with(0, 52), 0);
+    drops(&rt, &mut shard, &lv, 1);
+    has_floor(&rt, &shard, &lv);
     assert_eq!(rt; reads(&mut shard, 1, 65, &lv), Ok(lv));
-    let mut rows = Vec::new(rt.alloc());
-    assert!(rt; shard.present(&mut rows).is_ok());
-    assert_eq!(rt; rows.len(), 1);
+    presents(&rt, rt.alloc(), &shard, 1);
 }
 
 #[test]

@@ -7,25 +7,61 @@ use std::alloc::Global;
 use std::marker::Model;
 use std::process::Abort;
 use std::test::Fail;
-use tau_base::{Call, Key, Listed, LogMode, Lv, Mode, Name, Text64, Value};
-use tau_model::Committed;
+use tau_base::{Call, KeptCall, Key, Listed, LogMode, Lv, Mode, Name, Text64, Value};
+use tau_model::{Committed, CommittedList};
 use tau_proc::{ADD, FIRST_DECLARED, GET, Operand, PUT, Proc, Procs, Reply, Step};
 use tau_shard::{Shard, ShardRefusal};
 use tau_txn::{Action, ActionKind, Txn};
 
-/// What became of an action.
-#[derive(Debug, Drop, PartialEq, Eq)]
+/// What became of an action, in plain numbers: a key is its table and its row, a reply is a number or absent.
+#[derive(Clone, Copy, Debug, PartialEq, Eq)]
 enum Went {
     Granted,
     Busy(u8),
     NoMemory,
-    Quit(Key),
+    Quit(u16, i64),
     Commit(u64),
     Post,
-    Freed(Key),
-    Done(Reply, [u64; 3]),
+    Freed(u16, i64),
+    Done(Option<i64>, [u64; 3]),
+    OtherReply,
     LeftOver,
     Nothing,
+}
+
+/// What is done with a worker's call, and what is then so. A key is its row of the first table.
+#[derive(Clone, Copy)]
+enum Row<'a> {
+    /// A call begins: its number, its procedure, and its arguments, all of them numbers.
+    Begins(u64, u16, &'a [i64]),
+    /// Its next actions become these.
+    Goes(&'a [Went]),
+    /// So many times it takes its first lock, meets Busy and gives its key back.
+    MeetsBusy(usize),
+    /// Its record, after the anchor of this number and vector, begins here and has so many bytes.
+    Commits(u32, &'a [u64], u64, usize),
+    /// Its record, after the anchor of this number and vector, begins here and has these bytes.
+    Writes(u32, &'a [u64], u64, &'a [u8]),
+    /// It is given up.
+    GivesUp,
+    /// The lock that comes next.
+    NextLock(Option<(u64, Key, Mode)>),
+    /// The number of the call in hand.
+    Number(u64),
+    /// Its vectors: before its record had a place, and with which it frees its keys.
+    Dep([u64; 3]),
+    Lv([u64; 3]),
+    InHand(bool),
+    HoldsKey(bool),
+    HasJoined(bool),
+    /// Something is kept of it, without the place of a record.
+    KeptUnplaced,
+    /// What is kept of it has this vector.
+    KeptLv([u64; 3]),
+    /// Up to this vector so many entries of the shard are dropped.
+    Drops(&'a [u64], usize),
+    /// The shard's row has this number.
+    Finds(i64, i64),
 }
 
 fn key(row: i64) -> Key {
@@ -42,27 +78,49 @@ fn call_of(proc: u16, args: &[Value]) -> Call {
     Call { proc, args: list }
 }
 
-/// `put a ROW NUMBER`
-fn put(row: i64, number: i64) -> Call {
-    call_of(PUT, &[Value::Int(0), Value::Int(row), Value::Int(number)])
+/// The call with these numbers as arguments.
+fn numbers_call(proc: u16, args: &[i64]) -> Call {
+    let mut list = ArrayVec::new();
+    for number in args {
+        if !list.is_full() {
+            list.push(Value::Int(*number));
+        }
+    }
+    Call { proc, args: list }
 }
 
-/// `add a ROW NUMBER`
-fn add(row: i64, number: i64) -> Call {
-    call_of(ADD, &[Value::Int(0), Value::Int(row), Value::Int(number)])
+/// The name of this text.
+fn name_of(text: &str) -> Result<Name, Fail> {
+    match Name::of(text) {
+        Some(name) => Ok(name),
+        None => Err(Fail::new("name")),
+    }
+}
+
+/// A procedure of these steps.
+fn proc_of(name: Name, args: u8, steps: Vec<Step>) -> Proc {
+    Proc {
+        name,
+        args,
+        steps: Listed::of(steps),
+    }
 }
 
 /// The procedures with one of these steps more.
 fn declare(rt: &impl Abort, alloc: Global, args: u8, steps: Vec<Step>) -> Result<Procs, Fail> {
-    let proc = Proc {
-        name: Name::of("p").ok_or("name")?,
-        args,
-        steps: Listed::of(steps),
-    };
+    let proc = proc_of(name_of("p")?, args, steps);
     assert!(rt; proc.is_well_formed());
     let mut procs = Procs::new(alloc);
     procs.add(proc)?;
     Ok(procs)
+}
+
+/// The procedures with one of these steps more, without arguments; none where there is no step.
+fn procs_of(rt: &impl Abort, alloc: Global, steps: &[Step]) -> Result<Procs, Fail> {
+    if steps.is_empty() {
+        return Ok(Procs::new(alloc));
+    }
+    declare(rt, alloc, 0, steps.to_vec(alloc)?)
 }
 
 /// The first positions of a vector, zeros beyond its end.
@@ -70,14 +128,18 @@ fn positions(lv: &Lv) -> [u64; 3] {
     [lv.position(0), lv.position(1), lv.position(2)]
 }
 
-fn begin(rt: &impl Abort, txn: &mut Txn, procs: &Procs, number: u64, call: &Call)
+fn begin(rt: &impl Abort, alloc: Global, txn: &mut Txn, procs: &Procs, number: u64, call: &Call)
     requires number { 1 ≤ number }
     ensures run { RunsBy procs.now txn.new }
     ensures width { txn.new.width ≡ txn.old.width }
 {
     assert!(rt; procs.takes(call));
     assert!(rt; !txn.in_hand());
-    txn.begin(procs, number, call);
+    let Ok(kept) = KeptCall::of(alloc, call) else {
+        assert!(rt; false);
+        return;
+    };
+    txn.begin(procs, number, &kept);
 }
 
 /// The worker gives a key back. That it holds the key is seen by asking for another worker.
@@ -119,6 +181,15 @@ fn free_written(rt: &impl Abort, shard: &mut Shard, worker: u8, key: Key, lv: &L
     shard.free(holder, key, lv, Some(value));
 }
 
+/// What a call that has run to its end returned.
+fn done_of(reply: &Reply, lv: &Lv) -> Went {
+    match reply {
+        Reply::Ok(Value::Absent) => Went::Done(None, positions(lv)),
+        Reply::Ok(Value::Int(number)) => Went::Done(Some(*number), positions(lv)),
+        _ => Went::OtherReply,
+    }
+}
+
 /// Does the next action, but for a Commit and a Post.
 fn act(rt: &impl Abort, txn: &mut Txn, procs: &Procs, shard: &mut Shard, worker: u8) -> Went
     requires worker { worker < 31 }
@@ -145,7 +216,7 @@ fn act(rt: &impl Abort, txn: &mut Txn, procs: &Procs, shard: &mut Shard, worker:
         Action::Quit { key } => {
             give_back(rt, shard, worker, key);
             txn.went(procs);
-            Went::Quit(key)
+            Went::Quit(key.table, key.row)
         }
         Action::Commit { size } => Went::Commit(size),
         Action::Post => Went::Post,
@@ -155,11 +226,11 @@ fn act(rt: &impl Abort, txn: &mut Txn, procs: &Procs, shard: &mut Shard, worker:
                 Some(value) => free_written(rt, shard, worker, key, &txn.lv(), value),
             }
             txn.went(procs);
-            Went::Freed(key)
+            Went::Freed(key.table, key.row)
         }
         Action::Done { reply, lv } => {
             txn.went(procs);
-            Went::Done(reply, positions(&lv))
+            done_of(&reply, &lv)
         }
         Action::LeftOver => {
             txn.went(procs);
@@ -270,6 +341,7 @@ struct Seat {
     txn: Txn,
     procs: Procs,
     worker: u8,
+    alloc: Global,
 }
 
 impl Model for Seat {
@@ -299,12 +371,13 @@ impl Seat {
             txn: Txn::new(alloc, worker, n, mode),
             procs,
             worker,
+            alloc,
         }
     }
 
     fn begin(&mut self, rt: &impl Abort, number: u64, call: &Call) {
         assert!(rt; 1 <= number);
-        begin(rt, &mut self.txn, &self.procs, number, call);
+        begin(rt, self.alloc, &mut self.txn, &self.procs, number, call);
     }
 
     fn act(&mut self, rt: &impl Abort, shard: &mut Shard) -> Went {
@@ -391,316 +464,479 @@ fn commits(
     Ok(())
 }
 
-/// `get r0 a 1`, `put a 2 r0`
-fn copies_a_row(alloc: Global) -> Result<Vec<Step>, Fail> {
-    let steps = [
-        Step::Get {
-            into: 0,
-            table: 0,
-            row: Operand::Int(1),
-        },
-        Step::Put {
-            table: 0,
-            row: Operand::Int(2),
-            value: Operand::Register(0),
-        },
-    ];
-    Ok(steps.to_vec(alloc)?)
-}
-
-/// `get r0 a 1`, `put a 1 3`, `put a 2 r0`
-fn writes_both_rows(alloc: Global) -> Result<Vec<Step>, Fail> {
-    let steps = [
-        Step::Get {
-            into: 0,
-            table: 0,
-            row: Operand::Int(1),
-        },
-        Step::Put {
-            table: 0,
-            row: Operand::Int(1),
-            value: Operand::Int(3),
-        },
-        Step::Put {
-            table: 0,
-            row: Operand::Int(2),
-            value: Operand::Register(0),
-        },
-    ];
-    Ok(steps.to_vec(alloc)?)
-}
-
-/// `put a 1 3`, `put a 2 4`
-fn writes_two_rows(alloc: Global) -> Result<Vec<Step>, Fail> {
-    let steps = [
-        Step::Put {
-            table: 0,
-            row: Operand::Int(1),
-            value: Operand::Int(3),
-        },
-        Step::Put {
-            table: 0,
-            row: Operand::Int(2),
-            value: Operand::Int(4),
-        },
-    ];
-    Ok(steps.to_vec(alloc)?)
-}
-
-/// The steps that write their argument to 64 rows.
-fn many_writes(alloc: Global) -> Result<Vec<Step>, Fail> {
-    let mut steps = Vec::new(alloc);
-    for row in 0..64 {
-        steps.push(Step::Put {
-            table: 0,
-            row: Operand::Int(row),
-            value: Operand::Argument(1),
-        })?;
-    }
-    Ok(steps)
-}
-
-/// A call that has run to its end.
-fn done(number: Value, lv: [u64; 3]) -> Went {
-    Went::Done(Reply::Ok(number), lv)
-}
-
-#[test]
-fn read_then_written_by_another(rt: HostRuntime) -> Result<(), Fail> {
-    let alloc = rt.alloc();
-    let mut shard = Shard::new(alloc, 2);
-    let procs = declare(&rt, alloc, 0, copies_a_row(alloc)?)?;
-    let mut first = Seat::new(&rt, alloc, 0, 2, LogMode::Values, procs);
-    first.begin(&rt, 1, &call_of(FIRST_DECLARED, &[]));
-    follows(&rt, &mut first, &mut shard, &[Went::Granted, Went::Granted]);
-    commits(&rt, &mut first, 0, &[0, 0], 50, 32)?;
-    let wants = [
-        Went::Freed(key(1)),
-        Went::Freed(key(2)),
-        done(Value::Absent, [82, 0, 0]),
-    ];
-    follows(&rt, &mut first, &mut shard, &wants);
-    let mut second = Seat::new(&rt, alloc, 1, 2, LogMode::Values, Procs::new(alloc));
-    second.begin(&rt, 2, &put(1, 9));
-    follows(&rt, &mut second, &mut shard, &[Went::Granted]);
-    commits(&rt, &mut second, 0, &[0, 0], 50, 48)?;
-    let wants = [Went::Freed(key(1)), done(Value::Absent, [82, 98, 0])];
-    follows(&rt, &mut second, &mut shard, &wants);
-    Ok(())
-}
-
-/// The later one of two writers meets Busy, begins again at once, and comes after.
-#[test]
-fn busy_names_the_holder(rt: HostRuntime) -> Result<(), Fail> {
-    let alloc = rt.alloc();
-    let mut shard = Shard::new(alloc, 2);
-    let mut first = Seat::new(&rt, alloc, 0, 2, LogMode::Values, Procs::new(alloc));
-    let mut second = Seat::new(&rt, alloc, 1, 2, LogMode::Values, Procs::new(alloc));
-    first.begin(&rt, 1, &put(1, 5));
-    second.begin(&rt, 2, &put(1, 6));
-    follows(&rt, &mut second, &mut shard, &[Went::Granted]);
-    follows(&rt, &mut first, &mut shard, &[Went::Busy(1)]);
-    commits(&rt, &mut second, 0, &[0, 0], 13, 40)?;
-    let wants = [Went::Freed(key(1)), done(Value::Absent, [0, 53, 0])];
-    follows(&rt, &mut second, &mut shard, &wants);
-    follows(&rt, &mut first, &mut shard, &[Went::Granted]);
-    commits(&rt, &mut first, 0, &[0, 0], 13, 48)?;
-    let wants = [Went::Freed(key(1)), done(Value::Absent, [61, 53, 0])];
-    follows(&rt, &mut first, &mut shard, &wants);
-    Ok(())
-}
-
-/// A removed entry raises the floor, below which no call of the shard begins.
-#[test]
-fn calls_start_at_the_floor(rt: HostRuntime) -> Result<(), Fail> {
-    let alloc = rt.alloc();
-    let mut shard = Shard::new(alloc, 2);
-    let mut first = Seat::new(&rt, alloc, 0, 2, LogMode::Values, Procs::new(alloc));
-    first.begin(&rt, 1, &put(1, 5));
-    follows(&rt, &mut first, &mut shard, &[Went::Granted]);
-    commits(&rt, &mut first, 0, &[0, 0], 13, 40)?;
-    follows(&rt, &mut first, &mut shard, &[Went::Freed(key(1))]);
-    assert_eq!(rt; shard.drop_covered(&vector(&rt, &[53, 0])), 1);
-    let mut second = Seat::new(&rt, alloc, 1, 2, LogMode::Values, Procs::new(alloc));
-    second.begin(&rt, 2, &add(1, 2));
-    follows(
-        &rt,
-        &mut second,
-        &mut shard,
-        &[Went::Granted, Went::Granted],
-    );
-    commits(&rt, &mut second, 0, &[0, 0], 13, 48)?;
-    let wants = [Went::Freed(key(1)), done(Value::Int(7), [53, 61, 0])];
-    follows(&rt, &mut second, &mut shard, &wants);
-    second.begin(&rt, 3, &put(65, 7));
-    follows(&rt, &mut second, &mut shard, &[Went::Granted]);
-    assert_eq!(rt; second.dep(), [53, 0, 0]);
-    Ok(())
-}
-
-/// Call 3 is in the anchor; call 1 is raised to it and names it; call 2 depends on call 1 and names none.
-#[test]
-fn record_above_an_anchor(rt: HostRuntime) -> Result<(), Fail> {
-    let alloc = rt.alloc();
-    let mut shard = Shard::new(alloc, 3);
-    let mut first = Seat::new(&rt, alloc, 0, 3, LogMode::Values, Procs::new(alloc));
-    first.begin(&rt, 1, &put(1, 5));
-    follows(&rt, &mut first, &mut shard, &[Went::Granted]);
-    commits(&rt, &mut first, 1, &[13, 13, 53], 42, 40)?;
-    let wants = [Went::Freed(key(1)), done(Value::Absent, [82, 13, 53])];
-    follows(&rt, &mut first, &mut shard, &wants);
-    let mut second = Seat::new(&rt, alloc, 1, 3, LogMode::Values, Procs::new(alloc));
-    second.begin(&rt, 2, &add(1, 2));
-    follows(
-        &rt,
-        &mut second,
-        &mut shard,
-        &[Went::Granted, Went::Granted],
-    );
-    commits(&rt, &mut second, 0, &[0, 0, 0], 13, 64)?;
-    let wants = [Went::Freed(key(1)), done(Value::Int(7), [82, 77, 53])];
-    follows(&rt, &mut second, &mut shard, &wants);
-    Ok(())
-}
-
-/// The record names anchor 1 and has an empty mask.
-#[test]
-fn bytes_above_an_anchor(rt: HostRuntime) -> Result<(), Fail> {
-    let alloc = rt.alloc();
-    let mut shard = Shard::new(alloc, 3);
-    let mut seat = Seat::new(&rt, alloc, 0, 3, LogMode::Values, Procs::new(alloc));
-    seat.begin(&rt, 1, &put(1, 5));
-    follows(&rt, &mut seat, &mut shard, &[Went::Granted]);
-    let bytes = seat.place(&rt, 1, &vector(&rt, &[13, 13, 53]), 42)?;
-    assert_eq!(rt;
-        bytes.as_slice(),
-        b"\x01\0\0\0\x28\0\0\0\0\0\0\0\x01\0\0\0\x01\0\0\0\x01\0\0\0\0\0\0\0\0\0\x01\x01\0\0\0\0\0\0\0\x05".as_slice()
-    );
-    Ok(())
-}
-
-#[test]
-fn command_record(rt: HostRuntime) -> Result<(), Fail> {
-    let alloc = rt.alloc();
-    let mut shard = Shard::new(alloc, 1);
-    let mut seat = Seat::new(&rt, alloc, 0, 1, LogMode::Commands, Procs::new(alloc));
-    seat.begin(&rt, 1, &put(1, 5));
-    follows(&rt, &mut seat, &mut shard, &[Went::Granted]);
-    let bytes = seat.place(&rt, 0, &vector(&rt, &[0]), 13)?;
-    assert_eq!(rt;
-        bytes.as_slice(),
-        b"\x02\0\0\0\x31\0\0\0\0\0\0\0\x01\0\0\0\0\0\0\0\0\x03\x01\0\0\0\0\0\0\0\0\x01\0\0\0\0\0\0\0\x01\x01\0\0\0\0\0\0\0\x05".as_slice()
-    );
-    assert_eq!(rt; seat.lv(), [62, 0, 0]);
-    Ok(())
-}
-
-#[test]
-fn locks_that_come_next(rt: HostRuntime) {
-    let alloc = rt.alloc();
-    let procs = Procs::new(alloc);
-    let call = put(1, 5);
-    assert!(rt; procs.takes(&call));
-    let write = Some((key(1), Mode::Write));
-    assert_eq!(rt; Txn::first_lock(&procs, &call), write);
-    let mut seat = Seat::new(&rt, alloc, 0, 1, LogMode::Values, procs);
-    assert_eq!(rt; seat.next_lock(), None);
-    seat.begin(&rt, 7, &call);
-    assert_eq!(rt; seat.next_lock(), Some((7, key(1), Mode::Write)));
-}
-
-/// A read-only call joins the committed ones as it begins to free its keys.
-#[test]
-fn read_only_call(rt: HostRuntime) {
-    let alloc = rt.alloc();
-    let mut shard = Shard::with_floor(alloc, vector(&rt, &[53, 0]));
-    let mut seat = Seat::new(&rt, alloc, 1, 2, LogMode::Values, Procs::new(alloc));
-    seat.begin(&rt, 2, &call_of(GET, &[Value::Int(0), Value::Int(1)]));
-    follows(&rt, &mut seat, &mut shard, &[Went::Granted]);
-    assert!(rt; !seat.has_joined());
-    assert_eq!(rt; seat.committed().map(|call| call.spot), Some(None));
-    follows(&rt, &mut seat, &mut shard, &[Went::Freed(key(1))]);
-    assert!(rt; seat.has_joined());
-    assert_eq!(rt;
-        seat.committed().map(|call| positions(&call.lv)),
-        Some([53, 0, 0])
-    );
-    let wants = [done(Value::Absent, [53, 0, 0]), Went::Nothing];
-    follows(&rt, &mut seat, &mut shard, &wants);
-}
-
-/// A key that was read and then written is raised to write mode, and freed once.
-#[test]
-fn key_read_and_then_written(rt: HostRuntime) -> Result<(), Fail> {
-    let alloc = rt.alloc();
-    let mut shard = Shard::new(alloc, 1);
-    let procs = declare(&rt, alloc, 0, writes_both_rows(alloc)?)?;
-    let mut seat = Seat::new(&rt, alloc, 0, 1, LogMode::Values, procs);
-    seat.begin(&rt, 1, &call_of(FIRST_DECLARED, &[]));
-    assert_eq!(rt; seat.next_lock(), Some((1, key(1), Mode::Read)));
-    follows(&rt, &mut seat, &mut shard, &[Went::Granted]);
-    assert_eq!(rt; seat.next_lock(), Some((1, key(1), Mode::Write)));
-    follows(&rt, &mut seat, &mut shard, &[Went::Granted, Went::Granted]);
-    commits(&rt, &mut seat, 0, &[0], 13, 51)?;
-    let wants = [
-        Went::Freed(key(1)),
-        Went::Freed(key(2)),
-        done(Value::Absent, [64, 0, 0]),
-    ];
-    follows(&rt, &mut seat, &mut shard, &wants);
-    assert_eq!(rt; shard.value(key(1)), Value::Int(3));
-    Ok(())
-}
-
-/// A call that is given up only gives its keys back, and then it is in hand no more.
-#[test]
-fn given_up(rt: HostRuntime) -> Result<(), Fail> {
-    let alloc = rt.alloc();
-    let mut shard = Shard::new(alloc, 1);
-    let procs = declare(&rt, alloc, 0, writes_two_rows(alloc)?)?;
-    let mut seat = Seat::new(&rt, alloc, 0, 1, LogMode::Values, procs);
-    seat.begin(&rt, 1, &call_of(FIRST_DECLARED, &[]));
-    follows(
-        &rt,
-        &mut seat,
-        &mut shard,
-        &[Went::Granted, Went::Granted, Went::Commit(0)],
-    );
-    assert!(rt; seat.holds_key());
-    seat.give_up(&rt);
-    let wants = [Went::Quit(key(1)), Went::Quit(key(2)), Went::Nothing];
-    follows(&rt, &mut seat, &mut shard, &wants);
-    seat.begin(&rt, 2, &put(1, 5));
-    assert!(rt; !seat.holds_key());
-    seat.give_up(&rt);
-    assert!(rt; !seat.in_hand());
+/// As `commits`, with the bytes of the record.
+fn writes(
+    rt: &impl Abort,
+    seat: &mut Seat,
+    anchor_number: u32,
+    anchor: &[u64],
+    start: u64,
+    record: &[u8],
+) -> Result<(), Fail> {
+    let anchor = vector(rt, anchor);
+    let bytes = seat.place(rt, anchor_number, &anchor, start)?;
+    assert_eq!(rt; bytes.as_slice(), record);
     Ok(())
 }
 
 /// The call takes its first lock, and then meets Busy and gives its key back, so many times.
 fn meets_busy(rt: &impl Abort, seat: &mut Seat, shard: &mut Shard, times: usize) {
     for _ in 0..times {
-        let wants = [Went::Granted, Went::Busy(1), Went::Quit(key(1))];
+        let wants = [Went::Granted, Went::Busy(1), Went::Quit(0, 1)];
         follows(rt, seat, shard, &wants);
     }
+}
+
+/// The lock that comes next is this one.
+fn locks_next(rt: &impl Abort, seat: &Seat, want: Option<(u64, Key, Mode)>) {
+    let next = seat.next_lock();
+    assert!(rt; next == want, "{next:?}");
+}
+
+/// Something is kept of the call in hand, without the place of a record.
+fn is_kept_unplaced(seat: &Seat) -> bool {
+    match seat.committed() {
+        Some(call) => call.spot.is_none(),
+        None => false,
+    }
+}
+
+/// The vector of what is kept of the call in hand.
+fn kept_lv(seat: &Seat) -> Option<[u64; 3]> {
+    match seat.committed() {
+        Some(call) => Some(positions(&call.lv)),
+        None => None,
+    }
+}
+
+/// The seat is as the row says. Only rows that change nothing come here.
+fn stands(rt: &impl Abort, seat: &Seat, row: Row<'_>) {
+    match row {
+        Row::NextLock(want) => locks_next(rt, seat, want),
+        Row::Number(number) => assert_eq!(rt; seat.number(), Some(number)),
+        Row::Dep(dep) => assert_eq!(rt; seat.dep(), dep),
+        Row::Lv(lv) => assert_eq!(rt; seat.lv(), lv),
+        Row::InHand(in_hand) => assert_eq!(rt; seat.in_hand(), in_hand),
+        Row::HoldsKey(holds) => assert_eq!(rt; seat.holds_key(), holds),
+        Row::HasJoined(joined) => assert_eq!(rt; seat.has_joined(), joined),
+        Row::KeptUnplaced => assert!(rt; is_kept_unplaced(seat)),
+        Row::KeptLv(lv) => assert_eq!(rt; kept_lv(seat), Some(lv)),
+        _ => assert!(rt; false),
+    }
+}
+
+/// Up to this vector so many entries of the shard are dropped.
+fn drops(rt: &impl Abort, shard: &mut Shard, upto: &[u64], entries: usize) {
+    assert_eq!(rt; shard.drop_covered(&vector(rt, upto)), entries);
+}
+
+/// The shard's row has this number.
+fn finds(rt: &impl Abort, shard: &Shard, row: i64, number: i64) {
+    let Value::Int(found) = shard.value(key(row)) else {
+        assert!(rt; false);
+        return;
+    };
+    assert_eq!(rt; found, number);
+}
+
+/// Does what the row says, and sees that it is so.
+fn play(rt: &impl Abort, shard: &mut Shard, seat: &mut Seat, row: Row<'_>) -> Result<(), Fail> {
+    match row {
+        Row::Begins(number, proc, args) => seat.begin(rt, number, &numbers_call(proc, args)),
+        Row::Goes(wants) => follows(rt, seat, shard, wants),
+        Row::MeetsBusy(times) => meets_busy(rt, seat, shard, times),
+        Row::Commits(anchor, upto, start, size) => {
+            return commits(rt, seat, anchor, upto, start, size);
+        }
+        Row::Writes(anchor, upto, start, record) => {
+            return writes(rt, seat, anchor, upto, start, record);
+        }
+        Row::GivesUp => seat.give_up(rt),
+        Row::Drops(upto, entries) => drops(rt, shard, upto, entries),
+        Row::Finds(row, number) => finds(rt, shard, row, number),
+        other => stands(rt, seat, other),
+    }
+    Ok(())
+}
+
+/// This worker at a shard of so many streams goes through these rows.
+fn alone(
+    rt: &impl Abort,
+    alloc: Global,
+    shard: &mut Shard,
+    seat: (u8, usize, LogMode),
+    rows: &[Row<'_>],
+) -> Result<(), Fail> {
+    let mut seat = Seat::new(rt, alloc, seat.0, seat.1, seat.2, Procs::new(alloc));
+    goes(rt, shard, &mut seat, rows)
+}
+
+/// A worker's seat at a shard goes through these rows.
+fn goes(rt: &impl Abort, shard: &mut Shard, seat: &mut Seat, rows: &[Row<'_>]) -> Result<(), Fail> {
+    for row in rows {
+        play(rt, shard, seat, *row)?;
+    }
+    Ok(())
+}
+
+/// Two workers at a shard of so many streams, of which worker 0 has a procedure of these steps, go through these rows, each through those of its number.
+fn pair(
+    rt: &impl Abort,
+    alloc: Global,
+    n: usize,
+    steps: &[Step],
+    rows: &[(u8, Row<'_>)],
+) -> Result<(), Fail> {
+    assert!(rt; 1 <= n);
+    assert!(rt; n <= 16);
+    let mut shard = Shard::new(alloc, n);
+    let procs = procs_of(rt, alloc, steps)?;
+    let mut first = Seat::new(rt, alloc, 0, n, LogMode::Values, procs);
+    let mut second = Seat::new(rt, alloc, 1, n, LogMode::Values, Procs::new(alloc));
+    for row in rows {
+        match row.0 {
+            0 => play(rt, &mut shard, &mut first, row.1)?,
+            _ => play(rt, &mut shard, &mut second, row.1)?,
+        }
+    }
+    Ok(())
+}
+
+/// The step `put a ROW NUMBER`
+fn puts(row: i64, number: i64) -> Step {
+    Step::Put {
+        table: 0,
+        row: Operand::Int(row),
+        value: Operand::Int(number),
+    }
+}
+
+/// The step `get r0 a 1`
+fn gets() -> Step {
+    Step::Get {
+        into: 0,
+        table: 0,
+        row: Operand::Int(1),
+    }
+}
+
+/// The step `put a 2 r0`
+fn puts_register() -> Step {
+    Step::Put {
+        table: 0,
+        row: Operand::Int(2),
+        value: Operand::Register(0),
+    }
+}
+
+/// The step that writes the first argument to this row.
+fn puts_argument(row: i64) -> Step {
+    Step::Put {
+        table: 0,
+        row: Operand::Int(row),
+        value: Operand::Argument(1),
+    }
+}
+
+/// The steps that write their argument to 64 rows.
+fn many_writes(alloc: Global) -> Result<Vec<Step>, Fail> {
+    let mut steps = Vec::new(alloc);
+    for row in 0..64 {
+        steps.push(puts_argument(row))?;
+    }
+    Ok(steps)
+}
+
+#[test]
+fn read_then_written_by_another(rt: HostRuntime) -> Result<(), Fail> {
+    pair(
+        &rt,
+        rt.alloc(),
+        2,
+        &[gets(), puts_register()],
+        &[
+            (0, Row::Begins(1, FIRST_DECLARED, &[])),
+            (0, Row::Goes(&[Went::Granted, Went::Granted])),
+            (0, Row::Commits(0, &[0, 0], 50, 32)),
+            (
+                0,
+                Row::Goes(&[
+                    Went::Freed(0, 1),
+                    Went::Freed(0, 2),
+                    Went::Done(None, [82, 0, 0]),
+                ]),
+            ),
+            (1, Row::Begins(2, PUT, &[0, 1, 9])),
+            (1, Row::Goes(&[Went::Granted])),
+            (1, Row::Commits(0, &[0, 0], 50, 48)),
+            (
+                1,
+                Row::Goes(&[Went::Freed(0, 1), Went::Done(None, [82, 98, 0])]),
+            ),
+        ],
+    )
+}
+
+/// The later one of two writers meets Busy, begins again at once, and comes after.
+#[test]
+fn busy_names_the_holder(rt: HostRuntime) -> Result<(), Fail> {
+    pair(
+        &rt,
+        rt.alloc(),
+        2,
+        &[],
+        &[
+            (0, Row::Begins(1, PUT, &[0, 1, 5])),
+            (1, Row::Begins(2, PUT, &[0, 1, 6])),
+            (1, Row::Goes(&[Went::Granted])),
+            (0, Row::Goes(&[Went::Busy(1)])),
+            (1, Row::Commits(0, &[0, 0], 13, 40)),
+            (
+                1,
+                Row::Goes(&[Went::Freed(0, 1), Went::Done(None, [0, 53, 0])]),
+            ),
+            (0, Row::Goes(&[Went::Granted])),
+            (0, Row::Commits(0, &[0, 0], 13, 48)),
+            (
+                0,
+                Row::Goes(&[Went::Freed(0, 1), Went::Done(None, [61, 53, 0])]),
+            ),
+        ],
+    )
+}
+
+/// A removed entry raises the floor, below which no call of the shard begins.
+#[test]
+fn calls_start_at_the_floor(rt: HostRuntime) -> Result<(), Fail> {
+    pair(
+        &rt,
+        rt.alloc(),
+        2,
+        &[],
+        &[
+            (0, Row::Begins(1, PUT, &[0, 1, 5])),
+            (0, Row::Goes(&[Went::Granted])),
+            (0, Row::Commits(0, &[0, 0], 13, 40)),
+            (0, Row::Goes(&[Went::Freed(0, 1)])),
+            (0, Row::Drops(&[53, 0], 1)),
+            (1, Row::Begins(2, ADD, &[0, 1, 2])),
+            (1, Row::Goes(&[Went::Granted, Went::Granted])),
+            (1, Row::Commits(0, &[0, 0], 13, 48)),
+            (
+                1,
+                Row::Goes(&[Went::Freed(0, 1), Went::Done(Some(7), [53, 61, 0])]),
+            ),
+            (1, Row::Begins(3, PUT, &[0, 65, 7])),
+            (1, Row::Goes(&[Went::Granted])),
+            (1, Row::Dep([53, 0, 0])),
+        ],
+    )
+}
+
+/// Call 3 is in the anchor; call 1 is raised to it and names it; call 2 depends on call 1 and names none.
+#[test]
+fn record_above_an_anchor(rt: HostRuntime) -> Result<(), Fail> {
+    pair(
+        &rt,
+        rt.alloc(),
+        3,
+        &[],
+        &[
+            (0, Row::Begins(1, PUT, &[0, 1, 5])),
+            (0, Row::Goes(&[Went::Granted])),
+            (0, Row::Commits(1, &[13, 13, 53], 42, 40)),
+            (
+                0,
+                Row::Goes(&[Went::Freed(0, 1), Went::Done(None, [82, 13, 53])]),
+            ),
+            (1, Row::Begins(2, ADD, &[0, 1, 2])),
+            (1, Row::Goes(&[Went::Granted, Went::Granted])),
+            (1, Row::Commits(0, &[0, 0, 0], 13, 64)),
+            (
+                1,
+                Row::Goes(&[Went::Freed(0, 1), Went::Done(Some(7), [82, 77, 53])]),
+            ),
+        ],
+    )
+}
+
+/// The record names anchor 1 and has an empty mask.
+#[test]
+fn bytes_above_an_anchor(rt: HostRuntime) -> Result<(), Fail> {
+    let record =
+        b"\x01\0\0\0\x28\0\0\0\0\0\0\0\x01\0\0\0\x01\0\0\0\x01\0\0\0\0\0\0\0\0\0\x01\x01\0\0\0\0\0\0\0\x05";
+    pair(
+        &rt,
+        rt.alloc(),
+        3,
+        &[],
+        &[
+            (0, Row::Begins(1, PUT, &[0, 1, 5])),
+            (0, Row::Goes(&[Went::Granted])),
+            (0, Row::Writes(1, &[13, 13, 53], 42, record.as_slice())),
+        ],
+    )
+}
+
+#[test]
+fn command_record(rt: HostRuntime) -> Result<(), Fail> {
+    let record =
+        b"\x02\0\0\0\x31\0\0\0\0\0\0\0\x01\0\0\0\0\0\0\0\0\x03\x01\0\0\0\0\0\0\0\0\x01\0\0\0\0\0\0\0\x01\x01\0\0\0\0\0\0\0\x05";
+    let mut shard = Shard::new(rt.alloc(), 1);
+    alone(
+        &rt,
+        rt.alloc(),
+        &mut shard,
+        (0, 1, LogMode::Commands),
+        &[
+            Row::Begins(1, PUT, &[0, 1, 5]),
+            Row::Goes(&[Went::Granted]),
+            Row::Writes(0, &[0], 13, record.as_slice()),
+            Row::Lv([62, 0, 0]),
+        ],
+    )
+}
+
+/// The first action of the call is to lock row 1 to write it.
+fn locks_first(rt: &impl Abort, procs: &Procs, call: &Call) {
+    assert!(rt; procs.takes(call));
+    let write = Some((key(1), Mode::Write));
+    assert_eq!(rt; Txn::first_lock(procs, call), write);
+}
+
+/// The first action of `put a 1 5` is to lock row 1 to write it.
+fn put_locks_first(rt: &impl Abort, alloc: Global) {
+    locks_first(rt, &Procs::new(alloc), &numbers_call(PUT, &[0, 1, 5]));
+}
+
+#[test]
+fn locks_that_come_next(rt: HostRuntime) -> Result<(), Fail> {
+    put_locks_first(&rt, rt.alloc());
+    pair(
+        &rt,
+        rt.alloc(),
+        1,
+        &[],
+        &[
+            (0, Row::NextLock(None)),
+            (0, Row::Begins(7, PUT, &[0, 1, 5])),
+            (0, Row::NextLock(Some((7, key(1), Mode::Write)))),
+        ],
+    )
+}
+
+/// A read-only call joins the committed ones as it begins to free its keys.
+#[test]
+fn read_only_call(rt: HostRuntime) -> Result<(), Fail> {
+    let mut shard = Shard::with_floor(rt.alloc(), vector(&rt, &[53, 0]));
+    alone(
+        &rt,
+        rt.alloc(),
+        &mut shard,
+        (1, 2, LogMode::Values),
+        &[
+            Row::Begins(2, GET, &[0, 1]),
+            Row::Goes(&[Went::Granted]),
+            Row::HasJoined(false),
+            Row::KeptUnplaced,
+            Row::Goes(&[Went::Freed(0, 1)]),
+            Row::HasJoined(true),
+            Row::KeptLv([53, 0, 0]),
+            Row::Goes(&[Went::Done(None, [53, 0, 0]), Went::Nothing]),
+        ],
+    )
+}
+
+/// A key that was read and then written is raised to write mode, and freed once.
+#[test]
+fn key_read_and_then_written(rt: HostRuntime) -> Result<(), Fail> {
+    pair(
+        &rt,
+        rt.alloc(),
+        1,
+        &[gets(), puts(1, 3), puts_register()],
+        &[
+            (0, Row::Begins(1, FIRST_DECLARED, &[])),
+            (0, Row::NextLock(Some((1, key(1), Mode::Read)))),
+            (0, Row::Goes(&[Went::Granted])),
+            (0, Row::NextLock(Some((1, key(1), Mode::Write)))),
+            (0, Row::Goes(&[Went::Granted, Went::Granted])),
+            (0, Row::Commits(0, &[0], 13, 51)),
+            (
+                0,
+                Row::Goes(&[
+                    Went::Freed(0, 1),
+                    Went::Freed(0, 2),
+                    Went::Done(None, [64, 0, 0]),
+                ]),
+            ),
+            (0, Row::Finds(1, 3)),
+        ],
+    )
+}
+
+/// A call that is given up only gives its keys back, and then it is in hand no more.
+#[test]
+fn given_up(rt: HostRuntime) -> Result<(), Fail> {
+    pair(
+        &rt,
+        rt.alloc(),
+        1,
+        &[puts(1, 3), puts(2, 4)],
+        &[
+            (0, Row::Begins(1, FIRST_DECLARED, &[])),
+            (
+                0,
+                Row::Goes(&[Went::Granted, Went::Granted, Went::Commit(0)]),
+            ),
+            (0, Row::HoldsKey(true)),
+            (0, Row::GivesUp),
+            (
+                0,
+                Row::Goes(&[Went::Quit(0, 1), Went::Quit(0, 2), Went::Nothing]),
+            ),
+            (0, Row::Begins(2, PUT, &[0, 1, 5])),
+            (0, Row::HoldsKey(false)),
+            (0, Row::GivesUp),
+            (0, Row::InHand(false)),
+        ],
+    )
+}
+
+/// Another worker reads row 2.
+fn reads_the_second_row(rt: &impl Abort, shard: &mut Shard) {
+    let mut other = Lv::zero(2);
+    assert!(rt; shard.lock_key(1, key(2), Mode::Read, &mut other).is_ok());
 }
 
 /// After the 64th Busy the call gives its keys back and is left over.
 #[test]
 fn left_over_after_the_last_try(rt: HostRuntime) -> Result<(), Fail> {
-    let alloc = rt.alloc();
-    let mut shard = Shard::new(alloc, 2);
-    let mut other = vector(&rt, &[0, 0]);
-    assert!(rt; shard.lock(1, key(2), Mode::Read, &mut other).is_ok());
-    let procs = declare(&rt, alloc, 0, writes_two_rows(alloc)?)?;
-    let mut seat = Seat::new(&rt, alloc, 0, 2, LogMode::Values, procs);
-    seat.begin(&rt, 1, &call_of(FIRST_DECLARED, &[]));
-    meets_busy(&rt, &mut seat, &mut shard, 63);
-    assert_eq!(rt; seat.next_lock(), Some((1, key(1), Mode::Write)));
-    meets_busy(&rt, &mut seat, &mut shard, 1);
-    assert_eq!(rt; seat.number(), Some(1));
-    follows(&rt, &mut seat, &mut shard, &[Went::LeftOver, Went::Nothing]);
-    Ok(())
+    let mut shard = Shard::new(rt.alloc(), 2);
+    reads_the_second_row(&rt, &mut shard);
+    let procs = procs_of(&rt, rt.alloc(), &[puts(1, 3), puts(2, 4)])?;
+    let mut seat = Seat::new(&rt, rt.alloc(), 0, 2, LogMode::Values, procs);
+    goes(
+        &rt,
+        &mut shard,
+        &mut seat,
+        &[
+            Row::Begins(1, FIRST_DECLARED, &[]),
+            Row::MeetsBusy(63),
+            Row::NextLock(Some((1, key(1), Mode::Write))),
+            Row::MeetsBusy(1),
+            Row::Number(1),
+            Row::Goes(&[Went::LeftOver, Went::Nothing]),
+        ],
+    )
+}
+
+/// A call whose one argument is a text of 64 bytes.
+fn text_call() -> Result<Call, Fail> {
+    let text = Text64::of("xxxxxxxxxxxxxxxxxxxxxxxxxxxxxxxxxxxxxxxxxxxxxxxxxxxxxxxxxxxxxxxx").ok_or(
+        "text",
+    )?;
+    Ok(call_of(FIRST_DECLARED, &[Value::Text(text)]))
 }
 
 /// The longest record: 64 texts of 64 bytes, and 16 positions.
@@ -708,16 +944,43 @@ fn left_over_after_the_last_try(rt: HostRuntime) -> Result<(), Fail> {
 fn longest_record(rt: HostRuntime) -> Result<(), Fail> {
     let alloc = rt.alloc();
     let procs = declare(&rt, alloc, 1, many_writes(alloc)?)?;
-    let text = Text64::of("xxxxxxxxxxxxxxxxxxxxxxxxxxxxxxxxxxxxxxxxxxxxxxxxxxxxxxxxxxxxxxxx").ok_or(
-        "text",
-    )?;
     let mut seat = Seat::new(&rt, alloc, 3, 16, LogMode::Values, procs);
-    seat.begin(&rt, 1, &call_of(FIRST_DECLARED, &[Value::Text(text)]));
+    seat.begin(&rt, 1, &text_call()?);
     let full = vector(&rt, &[7, 7, 7, 7, 7, 7, 7, 7, 7, 7, 7, 7, 7, 7, 7, 7]);
     seat.grant(&rt, &full, 64);
-    let none = Lv::zero(16);
-    let bytes = seat.place(&rt, 0, &none, 13)?;
-    assert_eq!(rt; bytes.len(), 5077);
+    let none = [0, 0, 0, 0, 0, 0, 0, 0, 0, 0, 0, 0, 0, 0, 0, 0];
+    commits(&rt, &mut seat, 0, &none, 13, 5077)
+}
+
+/// A call that has its one key, of row 1, and wrote nothing, is asked to free that key, and nothing else.
+fn frees_next(rt: &impl Abort, seat: &Seat) {
+    assert_eq!(rt; free_lent(&seat.txn).map(|freed| freed.0), Some(key(1)));
+    assert!(rt; seat.txn.written_at(key(1)).is_none());
+    assert!(rt; !seat.txn.is_left_over());
+}
+
+/// A call that has not its one key, of row 1, is asked to lock that key, and nothing else.
+fn locks_to_read(rt: &impl Abort, seat: &Seat) {
+    assert_eq!(rt; seat.txn.lock_asked(), Some((key(1), Mode::Read)));
+    assert!(rt; seat.txn.quit_asked().is_none());
+}
+
+/// The call `get a 1` begins.
+fn begins_to_read(rt: &impl Abort, seat: &mut Seat) {
+    seat.begin(rt, 2, &numbers_call(GET, &[0, 1]));
+}
+
+/// The lock that is asked is granted, with the number 4.
+fn reads_number(rt: &impl Abort, seat: &mut Seat) {
+    assert!(rt; seat.grant_lent(Some(&Value::Int(4))));
+}
+
+/// One call is kept once that in hand is.
+fn is_kept(rt: &impl Abort, alloc: Global, seat: &Seat) -> Result<(), Fail> {
+    let mut kept = CommittedList::new(alloc);
+    kept.reserve(1)?;
+    seat.txn.commit_into(&mut kept);
+    assert_eq!(rt; kept.len(), 1);
     Ok(())
 }
 
@@ -726,15 +989,9 @@ fn longest_record(rt: HostRuntime) -> Result<(), Fail> {
 fn one_thing_is_asked_at_a_time(rt: HostRuntime) -> Result<(), Fail> {
     let alloc = rt.alloc();
     let mut seat = Seat::new(&rt, alloc, 0, 1, LogMode::Values, Procs::new(alloc));
-    seat.begin(&rt, 2, &call_of(GET, &[Value::Int(0), Value::Int(1)]));
-    assert_eq!(rt; seat.txn.lock_asked(), Some((key(1), Mode::Read)));
-    assert!(rt; seat.txn.quit_asked().is_none());
-    assert!(rt; seat.grant_lent(Some(&Value::Int(4))));
-    assert_eq!(rt; free_lent(&seat.txn).map(|freed| freed.0), Some(key(1)));
-    assert!(rt; seat.txn.written_at(key(1)).is_none());
-    assert!(rt; !seat.txn.is_left_over());
-    let mut kept = Vec::with_capacity(alloc, 1)?;
-    seat.txn.commit_into(&mut kept);
-    assert_eq!(rt; kept.len(), 1);
-    Ok(())
+    begins_to_read(&rt, &mut seat);
+    locks_to_read(&rt, &seat);
+    reads_number(&rt, &mut seat);
+    frees_next(&rt, &seat);
+    is_kept(&rt, alloc, &seat)
 }
