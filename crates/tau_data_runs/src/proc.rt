@@ -737,6 +737,25 @@ fn calls_have_their_arguments(rt: HostRuntime) -> Result<(), Fail> {
     Ok(())
 }
 
+/// A call of a built-in procedure wants to read this row first, which is put where something else stood.
+fn wants_row(rt: &impl Abort, alloc: Global, call: &Call, row: Key) {
+    let procs = Procs::new(alloc);
+    assert!(rt; procs.takes(call));
+    let machine = Machine::start(&procs, call);
+    let mut want = Want::Finished(Reply::Refused(1));
+    machine.put_next(&mut want);
+    match want {
+        Want::Read(key) => assert_eq!(rt; key, row),
+        _ => assert!(rt; false),
+    }
+}
+
+#[test]
+fn what_is_wanted_is_put_in_its_place(rt: HostRuntime) {
+    let call = call_of(GET, &[Value::Int(0), Value::Int(3)]);
+    wants_row(&rt, rt.alloc(), &call, key(3));
+}
+
 /// Whether a procedure of two arguments may have these two steps.
 fn fits(alloc: Global, first: &Step, second: &Step) -> Result<bool, Fail> {
     let steps = [first.copied(), second.copied()];
