@@ -69,8 +69,8 @@ impl Items {
         self.rows.len()
     }
 
-    /// Puts a record that is not started after the others. Out of memory nothing changes. A number past the 32 bits of
-    /// its place counts as that.
+    /// Puts a record that is not started after the others. A number past the 32 bits of its place is refused as out of
+    /// memory.
     pub fn put(&mut self, stream: u8, index: usize, start: u64, dep: &[u64]) -> Result<(), NoMemory>
         requires few { length dep.now ≤ MAX_STREAMS }
         ensures { OnOk result (self.new ≡ self.old ++ unstarted stream index start dep.now ∷ []) }
