@@ -8,17 +8,20 @@ ghost use Rattle.tau_crew.specs.ClerkJobs.{ClerkGoes, IsClerkJob};
 use crate::shared::Crew;
 use crate::told::Told;
 use std::sync::Wait;
-use tau_base::NoMemory;
+use tau_ack::Waiting;
+use tau_base::{Lv, NoMemory};
 use tau_desk::{ClerkSeat, Desk};
 use tau_disk::{Gate, Place, Sink};
 
-/// Acknowledges the first pending call of a worker that the positions cover which the clerk has seen, and returns whether there was one.
+/// Acknowledges the first pending call of a worker that the positions cover which the clerk has seen, and returns whether there was one. The
+/// call is written where the last one was.
 fn ack_one<R: Wait, G: Gate>(
     rt: &R,
     desk: &Desk,
     seat: &mut ClerkSeat,
     told: &mut Told,
     worker: usize,
+    call: &mut Waiting,
     gate: &G,
 ) -> Result<bool, NoMemory>
     requires own { seat.old.table_id ≡ desk.now.table.shared.table_id }
@@ -29,14 +32,12 @@ fn ack_one<R: Wait, G: Gate>(
     ensures none { OnOk result (told.new.missing ≡ None) }
 {
     seat.agrees();
-    match seat.ack(rt, desk, worker as u8) {
-        Some(call) => {
-            gate.at(Place::Ack);
-            told.put(call.number, call.lv)?;
-            Ok(true)
-        }
-        None => Ok(false),
+    if !seat.ack(rt, desk, worker as u8, call) {
+        return Ok(false);
     }
+    gate.at(Place::Ack);
+    told.put(call.number, &call.lv)?;
+    Ok(true)
 }
 
 /// The same until there is none, or as often as the run has calls.
@@ -46,6 +47,7 @@ fn ack_worker<R: Wait, G: Gate>(
     seat: &mut ClerkSeat,
     told: &mut Told,
     worker: usize,
+    call: &mut Waiting,
     gate: &G,
 ) -> Result<(), NoMemory>
     requires own { seat.old.table_id ≡ desk.now.table.shared.table_id }
@@ -56,7 +58,7 @@ fn ack_worker<R: Wait, G: Gate>(
     ensures none { OnOk result (told.new.missing ≡ None) }
 {
     for _call in 0..desk.load.calls.len() {
-        if !ack_one(rt, desk, seat, told, worker, gate)? {
+        if !ack_one(rt, desk, seat, told, worker, call, gate)? {
             return Ok(());
         }
     }
@@ -77,8 +79,12 @@ fn ack_all<R: Wait, G: Gate>(
     ensures goes { Acknowledges desk.now.load seat.old seat.new told.old told.new }
     ensures none { OnOk result (told.new.missing ≡ None) }
 {
+    let mut call = Waiting {
+        number: 0,
+        lv: Lv::zero(1),
+    };
     for worker in 0..desk.load.workers {
-        ack_worker(rt, desk, seat, told, worker, gate)?;
+        ack_worker(rt, desk, seat, told, worker, &mut call, gate)?;
     }
     Ok(())
 }

@@ -42,26 +42,26 @@ impl Told {
     }
 
     /// The line of a call comes after the others of the pass. Out of memory the call is kept as missing.
-    pub(crate) fn put(&mut self, number: u64, lv: Lv) -> Result<(), NoMemory>
-        ensures acks { OnOk result ((self.new.acks ≡ self.old.acks ++ (number, lv) ∷ []) × (self.new.missing ≡ self.old.missing)) }
-        ensures lines { OnOk result (self.new.lines.items ≡ self.old.lines.items ++ ack_text (number, lv)) }
-        ensures missing { OnErr result ((self.new.acks ≡ self.old.acks) × (self.new.missing ≡ Some (number, lv))) }
+    pub(crate) fn put(&mut self, number: u64, lv: &Lv) -> Result<(), NoMemory>
+        ensures acks { OnOk result ((self.new.acks ≡ self.old.acks ++ (number, lv.now) ∷ []) × (self.new.missing ≡ self.old.missing)) }
+        ensures lines { OnOk result (self.new.lines.items ≡ self.old.lines.items ++ ack_text (number, lv.now)) }
+        ensures missing { OnErr result ((self.new.acks ≡ self.old.acks) × (self.new.missing ≡ Some (number, lv.now))) }
         ensures same { OnErr result (self.new.lines.items ≡ self.old.lines.items) }
         ensures sink { self.new.sink_failed ≡ self.old.sink_failed }
     {
         match self.add(number, lv) {
             Ok(()) => Ok(()),
             Err(error) => {
-                self.missing = Some((number, lv));
+                self.missing = Some((number, *lv));
                 Err(error)
             }
         }
     }
 
     // The call, and its line after the others of the pass.
-    fn add(&mut self, number: u64, lv: Lv) -> Result<(), NoMemory>
-        ensures acks { OnOk result (self.new.acks ≡ self.old.acks ++ (number, lv) ∷ []) }
-        ensures lines { OnOk result (self.new.lines.items ≡ self.old.lines.items ++ ack_text (number, lv)) }
+    fn add(&mut self, number: u64, lv: &Lv) -> Result<(), NoMemory>
+        ensures acks { OnOk result (self.new.acks ≡ self.old.acks ++ (number, lv.now) ∷ []) }
+        ensures lines { OnOk result (self.new.lines.items ≡ self.old.lines.items ++ ack_text (number, lv.now)) }
         ensures none { OnErr result ((self.new.acks ≡ self.old.acks) × (self.new.lines.items ≡ self.old.lines.items)) }
         ensures rest { (self.new.missing ≡ self.old.missing) × (self.new.sink_failed ≡ self.old.sink_failed) }
     {
@@ -70,7 +70,7 @@ impl Told {
         self.lines
             .extend_from_slice(&self.line)
             .map_err(|_| NoMemory)?;
-        match self.acks.push(number, &lv) {
+        match self.acks.push(number, lv) {
             Ok(()) => Ok(()),
             Err(error) => {
                 self.lines.truncate(before);
@@ -80,11 +80,11 @@ impl Told {
     }
 
     // Makes the line of a call.
-    fn line_of(&mut self, number: u64, lv: Lv) -> Result<(), NoMemory>
-        ensures line { OnOk result (self.new.line.items ≡ ack_text (number, lv)) }
+    fn line_of(&mut self, number: u64, lv: &Lv) -> Result<(), NoMemory>
+        ensures line { OnOk result (self.new.line.items ≡ ack_text (number, lv.now)) }
         ensures rest { (self.new.acks ≡ self.old.acks) × (self.new.missing ≡ self.old.missing) × (self.new.lines ≡ self.old.lines) × (self.new.sink_failed ≡ self.old.sink_failed) }
     {
-        ack_line(&mut self.line, number, &lv)
+        ack_line(&mut self.line, number, lv)
     }
 
     /// Writes the lines of the pass, in one write.

@@ -1,5 +1,5 @@
 //! The clerk on its seat.
-ghost use Rattle.std.specs.Prelude.{◌≡◌, ◌<◌, ◌≤◌, IfNone, IfSome, Some, ℕ, false, true, length, slice_index, slice_set};
+ghost use Rattle.std.specs.Prelude.{◌≡◌, ◌<◌, ◌≤◌, Some, ℕ, false, true, length, slice_index, slice_set};
 ghost use Rattle.tau_ack.specs.Pending.{NoneCovered, TakesFirst};
 ghost use Rattle.tau_rule.specs.Positions.{sees_to};
 ghost use Rattle.tau_desk.specs.Looks.{LooksOver, PersistedAt};
@@ -28,26 +28,23 @@ impl ClerkSeat {
         upto
     }
 
-    /// Acknowledges the first pending call of the worker whose vector is covered by the positions that the clerk has seen persisted.
-    pub fn ack<R: Wait>(&mut self, rt: &R, desk: &Desk, worker: u8) -> Option<Waiting>
+    /// Acknowledges the first pending call of the worker whose vector is covered by the positions that the clerk has seen persisted, and
+    /// writes it into `call`. Returns whether there was one.
+    pub fn ack<R: Wait>(&mut self, rt: &R, desk: &Desk, worker: u8, call: &mut Waiting) -> bool
         requires own { self.old.table_id ≡ desk.now.table.shared.table_id }
         requires opened { self.old.me.0.opened ≡ Some desk.now.table.shared.key.value }
         requires there { worker < desk.now.table.shared.key.value.load.workers }
-        ensures acked { IfSome result (λ call. AcksFirst desk.now.table.shared.key.value self.old worker call self.new) }
-        ensures none { IfNone result (AcksNone desk.now.table.shared.key.value self.old worker self.new) }
+        ensures acked { result ≡ true → AcksFirst desk.now.table.shared.key.value self.old worker call.new self.new }
+        ensures none { result ≡ false → AcksNone desk.now.table.shared.key.value self.old worker self.new }
     {
         let (outbox, mut pending) = take_box(rt, desk, &mut self.seat, worker);
-        let mut call = Waiting {
-            number: 0,
-            lv: Lv::zero(1),
-        };
-        if !take_first(&mut pending, &self.seen, &mut call) {
+        if !take_first(&mut pending, &self.seen, call) {
             let part = Part::Outbox(outbox, pending);
             desk.give_back(&mut self.seat, SHARDS + usize::from(worker), part);
-            return None;
+            return false;
         }
-        desk.give_acked(&mut self.seat, worker, outbox, pending, &call);
-        Some(call)
+        desk.give_acked(&mut self.seat, worker, outbox, pending, call);
+        true
     }
 
     // How far it has seen a stream persisted.

@@ -5,8 +5,8 @@ ghost use Rattle.tau_core.specs.Opens.{Opened};
 ghost use Rattle.tau_desk_runs.specs.Same.{IsSameClerk, IsSameHead};
 
 use crate::support::{
-    Stuck, closes, desk_of, join_clerk, join_manager, join_worker, manage, number_at, split_clerk,
-    split_manager, split_worker, work,
+    Stuck, closes, desk_of, join_clerk, join_manager, join_worker, manage, no_call, number_at,
+    split_clerk, split_manager, split_worker, work,
 };
 use std::alloc::Global;
 use std::process::Abort;
@@ -66,10 +66,11 @@ fn tells<R: Wait>(rt: &R, desk: &Desk, seat: &mut ClerkSeat, worker: u8) -> Opti
     if worker as usize >= desk.load.workers {
         return None;
     }
-    match seat.ack(rt, desk, worker) {
-        Some(call) => Some((call.number, positions(&call.lv))),
-        None => None,
+    let mut call = no_call();
+    if !seat.ack(rt, desk, worker, &mut call) {
+        return None;
     }
+    Some((call.number, positions(&call.lv)))
 }
 
 /// What the clerk acknowledges of both workers.

@@ -9,7 +9,8 @@ use std::alloc::Global;
 use std::sync::Wait;
 use std::sync::atomic::{AtomicU64, Ordering};
 use std::test::Fail;
-use tau_base::{Key, LogMode, MAX_CATALOGUE, Value};
+use tau_ack::Waiting;
+use tau_base::{Key, LogMode, Lv, MAX_CATALOGUE, Value};
 use tau_core::Core;
 use tau_desk::{Acted, ClerkSeat, Desk, Head, ManagerSeat, WorkerSeat};
 use tau_text::{parse_workload, print_declarations};
@@ -281,16 +282,21 @@ fn acknowledge_of<R: Wait>(rt: &R, desk: &Desk, seat: &mut ClerkSeat, worker: u8
     }
 }
 
+/// Where a call is put that is acknowledged.
+pub fn no_call() -> Waiting {
+    Waiting {
+        number: 0,
+        lv: Lv::zero(1),
+    }
+}
+
 fn acknowledge_one<R: Wait>(rt: &R, desk: &Desk, seat: &mut ClerkSeat, worker: u8) -> bool
     requires own { seat.old.table_id ≡ desk.now.table.shared.table_id }
     requires opened { seat.old.me.0.opened ≡ Some desk.now.table.shared.key.value }
     requires there { worker < desk.now.table.shared.key.value.load.workers }
     ensures { IsSameClerk seat.old seat.new }
 {
-    match seat.ack(rt, desk, worker) {
-        Some(_) => true,
-        None => false,
-    }
+    seat.ack(rt, desk, worker, &mut no_call())
 }
 
 /// What the clerk does until the workers are over.

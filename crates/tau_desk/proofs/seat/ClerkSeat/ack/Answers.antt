@@ -50,7 +50,7 @@ give_back-requires-clause-same g c =
     (c.take_first.ensures.unchanged c.if-not-take_first.true ∙ ap (λ (p : PlainPending). p.calls) before) (omega arith) (let e = ap (λ (p : PlainPending). p.room) before in let d = c.take_first.ensures.room in omega (arith, e, d))
 
 pub returns-clause-acked : goal.returns-clause-acked
-returns-clause-acked g c =
+returns-clause-acked g c = λ told.
     let key : Plain = c.args.desk.now.table.shared.key.value in
     let held = c.take_box-outbox.ensures.held in
     let own = c.give_acked.ensures.own in
