@@ -11,6 +11,7 @@ use crate::desk::Desk;
 use crate::manager::take_anchor;
 use crate::seat::WorkerSeat;
 use std::sync::Wait;
+use tau_base::stream_of;
 
 impl WorkerSeat {
     /// Looks how far a stream is persisted.
@@ -34,7 +35,7 @@ impl WorkerSeat {
         requires posted { next_action self.old.work.txn ≡ action.Post → ⊥ }
         ensures { ReadsAnchor desk.now.table.shared.key.value self.old self.new }
     {
-        let stream = self.worker as usize % desk.streams;
+        let stream = stream_of(usize::from(self.worker), desk.streams);
         let part = desk.anchor_number(stream as u8);
         let (number, lv) = take_anchor(rt, desk, &mut self.seat, part);
         let read = *lv;
@@ -48,7 +49,7 @@ impl WorkerSeat {
         ensures same { result ≡ slice_index self.now.read.1 (self.now.worker % length self.now.read.1) }
         ensures small { result < MAX_LSN }
     {
-        let stream = self.worker as usize % self.anchor_lv.width();
+        let stream = stream_of(usize::from(self.worker), self.anchor_lv.width());
         self.anchor_lv.get(stream)
     }
 }

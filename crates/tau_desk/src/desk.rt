@@ -22,7 +22,7 @@ use std::marker::Brand;
 use std::snapshot::Snapshot;
 use std::sync::Wait;
 use tau_ack::Pending;
-use tau_base::SHARDS;
+use tau_base::{SHARDS, stream_of};
 use tau_core::{Core, Load};
 use tau_outbox::Outbox;
 use tau_rule::{Give, OneCore, Part, Place, Seat, Store, Take, Told, View};
@@ -247,7 +247,7 @@ impl Desk {
         ensures placed { seat.new.me ≡ (placed self.now.table.shared.key.value.load seat.old.me.0 txn.now result, seat.old.me.1) }
         ensures small { result + length (bytes_in txn.now) < 2 ^ 62 }
     {
-        let stream = usize::from(worker) % self.streams;
+        let stream = stream_of(usize::from(worker), self.streams);
         let word = 8 * (self.parts + stream);
         let size = size_of(txn);
         self.table.shared.fetch_add::<Place<N>>(seat, word, size)
