@@ -44,10 +44,8 @@ pub(crate) fn commit(
     let ActionKind::Commit = txn.kind() else {
         unreachable!()
     };
-    match txn.prepare(number, anchor) {
-        Err(_) => Err(NoMemory),
-        Ok(()) => Ok(place(desk, seat, worker, txn, committed)),
-    }
+    txn.prepare(number, anchor)?;
+    Ok(place(desk, seat, worker, txn, committed))
 }
 
 /// The call, whose record is made, gets its place: where the record starts. What is kept of the call stands last.

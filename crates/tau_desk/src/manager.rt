@@ -67,13 +67,8 @@ impl Stock {
         ensures rest { (self.new.anchors ≡ self.old.anchors) × (self.new.room ≡ self.old.room) × (self.old.own.room ≤ self.new.own.room) }
         ensures same { OnErr result ((self.new.own.pieces ≡ self.old.own.pieces) × (self.new.gathered ≡ self.old.gathered) × (body.new.items ≡ body.old.items)) }
     {
-        match self.own.gather_into(self.gathered, body) {
-            Ok(past) => {
-                self.gathered = past;
-                Ok(())
-            }
-            Err(_) => Err(NoMemory),
-        }
+        self.gathered = self.own.gather_into(self.gathered, body)?;
+        Ok(())
     }
 
     // The number of the newest anchor, where the stream was opened with so many, and where it is newer than this.
@@ -107,13 +102,9 @@ impl Stock {
         ensures room { OnOk result ((1 ≤ self.new.room) × (1 ≤ self.new.own.room)) }
         ensures kept { OnlyRoom self.old self.new }
     {
-        if self.own.reserve().is_err() {
-            return Err(NoMemory);
-        }
-        match self.anchors.try_reserve(1) {
-            Ok(()) => Ok(()),
-            Err(_) => Err(NoMemory),
-        }
+        self.own.reserve()?;
+        self.anchors.try_reserve(1)?;
+        Ok(())
     }
 
     // One anchor more. It takes no memory.
@@ -258,15 +249,11 @@ impl ManagerSeat {
         ensures gathers { OnOk result (GathersOwn self.old body.old.items self.new body.new.items) }
         ensures same { OnErr result (OnlyRoom self.old.stock self.new.stock × (self.new ≡ record self.old { stock = self.new.stock }) × (body.new.items ≡ body.old.items)) }
     {
-        match self.stock.gather_own(body) {
-            Ok(()) => {
-                let number = desk.anchor_number(self.stream);
-                let part = desk.take(rt, &mut self.seat, number);
-                desk.give_own(&mut self.seat, self.stream, part, &self.stock);
-                Ok(())
-            }
-            Err(_) => Err(NoMemory),
-        }
+        self.stock.gather_own(body)?;
+        let number = desk.anchor_number(self.stream);
+        let part = desk.take(rt, &mut self.seat, number);
+        desk.give_own(&mut self.seat, self.stream, part, &self.stock);
+        Ok(())
     }
 
     /// Up to where the stream is placed: nothing is posted where that is the gathered end.
@@ -288,17 +275,13 @@ impl ManagerSeat {
         ensures placed { OnOk result (PlacesAnchor desk.now.table.shared.key.value.load self.old self.new) }
         ensures same { OnErr result (self.new ≡ self.old) }
     {
-        match encode_anchor(desk.kept.alloc, &self.seen) {
-            Ok(bytes) => {
-                let start = desk.place_anchor(&mut self.seat, self.stream, &bytes);
-                let number = desk.anchor_number(self.stream);
-                let part = desk.take(rt, &mut self.seat, number);
-                self.stock.put(&self.seen, start, bytes);
-                desk.give_back(&mut self.seat, number, part);
-                Ok(())
-            }
-            Err(_) => Err(NoMemory),
-        }
+        let bytes = encode_anchor(desk.kept.alloc, &self.seen)?;
+        let start = desk.place_anchor(&mut self.seat, self.stream, &bytes);
+        let number = desk.anchor_number(self.stream);
+        let part = desk.take(rt, &mut self.seat, number);
+        self.stock.put(&self.seen, start, bytes);
+        desk.give_back(&mut self.seat, number, part);
+        Ok(())
     }
 
     /// Publishes the newest anchor that the manager placed, where it is newer than the one published before.

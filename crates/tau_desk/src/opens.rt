@@ -145,10 +145,7 @@ fn lay_shards(alloc: Global, shards: Vec<Shard>) -> Result<Vec<Option<Part>>, No
     let mut slots = Vec::new(alloc);
     for shard in shards {
         let part = shard_part(alloc, shard)?;
-        match slots.push(Some(part)) {
-            Ok(()) => {}
-            Err(_) => return Err(NoMemory),
-        }
+        slots.push(Some(part))?;
     }
     Ok(slots)
 }
@@ -156,10 +153,7 @@ fn lay_shards(alloc: Global, shards: Vec<Shard>) -> Result<Vec<Option<Part>>, No
 fn shard_part(alloc: Global, shard: Shard) -> Result<Part, NoMemory>
     ensures { IfOk result (λ part. IsShardOf part shard) }
 {
-    match Box::new(alloc, shard) {
-        Ok(shard) => Ok(Part::Shard(shard)),
-        Err(_) => Err(NoMemory),
-    }
+    Ok(Part::Shard(Box::new(alloc, shard)?))
 }
 
 /// What each worker shares in a slot, and what it has of its own.
@@ -173,14 +167,8 @@ fn lay_seats(
     let mut works = Vec::new(alloc);
     for seat in seats {
         let (part, work) = lay_seat(alloc, seat)?;
-        match slots.push(Some(part)) {
-            Ok(()) => {}
-            Err(_) => return Err(NoMemory),
-        }
-        match works.push(Some(work)) {
-            Ok(()) => {}
-            Err(_) => return Err(NoMemory),
-        }
+        slots.push(Some(part))?;
+        works.push(Some(work))?;
     }
     Ok((slots, works))
 }
@@ -198,12 +186,8 @@ fn lay_seat(alloc: Global, seat: tau_core::Seat) -> Result<(Part, Work), NoMemor
         outbox,
         pending,
     } = seat;
-    let Ok(outbox) = Box::new(alloc, outbox) else {
-        return Err(NoMemory);
-    };
-    let Ok(pending) = Box::new(alloc, pending) else {
-        return Err(NoMemory);
-    };
+    let outbox = Box::new(alloc, outbox)?;
+    let pending = Box::new(alloc, pending)?;
     let room = Room {
         records: 0,
         calls: 0,
@@ -235,14 +219,8 @@ fn lay_streams(
     for stream in streams {
         let end = ends.position(stocks.len());
         let part = first_anchor(alloc, ends.width())?;
-        match slots.push(Some(part)) {
-            Ok(()) => {}
-            Err(_) => return Err(NoMemory),
-        }
-        match stocks.push(Some(stock_of(stream, end))) {
-            Ok(()) => {}
-            Err(_) => return Err(NoMemory),
-        }
+        slots.push(Some(part))?;
+        stocks.push(Some(stock_of(stream, end)))?;
     }
     Ok((slots, stocks))
 }
@@ -252,10 +230,7 @@ fn first_anchor(alloc: Global, streams: usize) -> Result<Part, NoMemory>
     requires high { streams ≤ MAX_STREAMS }
     ensures { IfOk result (λ part. IsFirstAnchor streams part) }
 {
-    match Box::new(alloc, Lv::zero(streams)) {
-        Ok(lv) => Ok(Part::Anchor(0, lv)),
-        Err(_) => Err(NoMemory),
-    }
+    Ok(Part::Anchor(0, Box::new(alloc, Lv::zero(streams))?))
 }
 
 fn stock_of(stream: Stream, gathered: u64) -> Stock

@@ -79,12 +79,8 @@ impl OwnRecords {
         ensures room { self.old.room ≤ self.new.room }
     {
         let before = body.len();
-        match self.outbox.gather_into(next, body) {
-            Ok(past) => {
-                self.bytes -= body.len() - before;
-                Ok(past)
-            }
-            Err(_) => Err(NoMemory),
-        }
+        let past = self.outbox.gather_into(next, body)?;
+        self.bytes -= body.len() - before;
+        Ok(past)
     }
 }

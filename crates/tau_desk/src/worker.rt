@@ -333,14 +333,10 @@ fn begin_next(work: &mut Work, desk: &Desk) -> Result<bool, NoMemory>
     let Some(number) = number_in(work, desk.load.calls.len()) else {
         return Ok(false);
     };
-    match reserve(work) {
-        Err(error) => Err(error),
-        Ok(()) => {
-            let call = desk.load.calls.at((number - 1) as usize);
-            start(work, &desk.load.procs, number, call, desk.load.workers);
-            Ok(true)
-        }
-    }
+    reserve(work)?;
+    let call = desk.load.calls.at((number - 1) as usize);
+    start(work, &desk.load.procs, number, call, desk.load.workers);
+    Ok(true)
 }
 
 /// The number of the next call, where there are so many calls.
@@ -364,10 +360,8 @@ fn reserve(work: &mut Work) -> Result<(), NoMemory>
     ensures made { RoomMade work.old work.new }
     ensures roomy { OnOk result ((1 ≤ work.new.left_room) × (1 ≤ work.new.committed_room)) }
 {
-    match work.committed.reserve(1) {
-        Err(_) => Err(NoMemory),
-        Ok(()) => work.left.reserve(),
-    }
+    work.committed.reserve(1)?;
+    work.left.reserve()
 }
 
 /// Takes the call into the hand, and goes on by one among the calls.

@@ -19,34 +19,34 @@ place-requires-clause-call c =
     let r = c.requires.ready in
     let next = commit-kind (next_action c.args.txn.now) c.requires.next in
     let q : Commits procs c.args.txn.now next.0 = subst (λ (a : Action). Means procs c.args.txn.now a) next.1 (c.kind.ensures.means procs r.runs) in
-    let raised = c.in-Ok.ensures.raised procs q.hand q.is in
+    let raised = c.in_ok-prepare.ensures.raised procs q.hand q.is in
     let streams = c.args.desk.now.streams_are in
-    to-place origin c.args.worker c.args.seat.now.me c.args.txn.now c.prepare.new.self next.0 c.args.number c.args.anchor.now r q c.requires.read c.requires.wide (let a = streams.0 in let b = streams.2 in omega (arith, a, b)) c.in-Ok.ensures.same raised
-    c.in-Ok.ensures.anchor c.in-Ok.ensures.sized (λ vectors e. c.in-Ok.ensures.bytes procs (raised_by q.hand c.args.anchor.now) 0 vectors r.runs raised e)
+    to-place origin c.args.worker c.args.seat.now.me c.args.txn.now c.prepare.new.self next.0 c.args.number c.args.anchor.now r q c.requires.read c.requires.wide (let a = streams.0 in let b = streams.2 in omega (arith, a, b)) c.in_ok-prepare.ensures.same raised
+    c.in_ok-prepare.ensures.anchor c.in_ok-prepare.ensures.sized (λ vectors e. c.in_ok-prepare.ensures.bytes procs (raised_by q.hand c.args.anchor.now) 0 vectors r.runs raised e)
 
 pub place-requires-clause-runs : goal.place-requires-clause-runs
 place-requires-clause-runs c = c.prepare.ensures.runs c.args.desk.now.table.shared.key.value.load.procs c.requires.ready.runs
 
-pub returns-in-Ok-clause-step : goal.returns-in-Ok-clause-step
-returns-in-Ok-clause-step c =
+pub returns-clause-step : goal.returns-clause-step
+returns-clause-step c =
     let origin : Plain = c.args.desk.now.table.shared.key.value in
     let procs : List Proc = origin.load.procs in
     let r = c.requires.ready in
     let next = commit-kind (next_action c.args.txn.now) c.requires.next in
     let q : Commits procs c.args.txn.now next.0 = subst (λ (a : Action). Means procs c.args.txn.now a) next.1 (c.kind.ensures.means procs r.runs) in
-    let raised = c.in-Ok.ensures.raised procs q.hand q.is in
+    let raised = c.in_ok-prepare.ensures.raised procs q.hand q.is in
     let streams = c.args.desk.now.streams_are in
     let spelled : (start : ℕ) (vectors : List (List ℕ)) → base_of vectors c.args.number ≡ c.args.anchor.now →
     Spells One c.args.txn.now.width vectors false (entry_of c.args.txn.now.mode (act_at procs c.prepare.new.self start (raised_by q.hand c.args.anchor.now))) (bytes_in c.prepare.new.self) =
-    (λ start vectors e. c.in-Ok.ensures.bytes procs (raised_by q.hand c.args.anchor.now) start vectors r.runs raised e) in
+    (λ start vectors e. c.in_ok-prepare.ensures.bytes procs (raised_by q.hand c.args.anchor.now) start vectors r.runs raised e) in
     let to : IsToPlace origin c.args.worker c.args.seat.now.me c.prepare.new.self =
-    to-place origin c.args.worker c.args.seat.now.me c.args.txn.now c.prepare.new.self next.0 c.args.number c.args.anchor.now r q c.requires.read c.requires.wide (let a = streams.0 in let b = streams.2 in omega (arith, a, b)) c.in-Ok.ensures.same raised
-    c.in-Ok.ensures.anchor c.in-Ok.ensures.sized (spelled 0) in
+    to-place origin c.args.worker c.args.seat.now.me c.args.txn.now c.prepare.new.self next.0 c.args.number c.args.anchor.now r q c.requires.read c.requires.wide (let a = streams.0 in let b = streams.2 in omega (arith, a, b)) c.in_ok-prepare.ensures.same raised
+    c.in_ok-prepare.ensures.anchor c.in_ok-prepare.ensures.sized (spelled 0) in
     let kept = c.place.ensures.call in (
       kept.0,
       (
         c.place.ensures.step ∙ placed-joined origin c.args.worker c.args.seat.now.me c.prepare.new.self c.place.new.txn c.place.result kept.0 to kept.1,
-        has-committed procs c.args.txn.now c.prepare.new.self c.place.new.txn next.0 c.args.number c.args.anchor.now c.place.result kept.0 q c.in-Ok.ensures.same c.prepare.ensures.stays raised c.in-Ok.ensures.anchor c.place.ensures.small (spelled c.place.result) kept.1,
+        has-committed procs c.args.txn.now c.prepare.new.self c.place.new.txn next.0 c.args.number c.args.anchor.now c.place.result kept.0 q c.in_ok-prepare.ensures.same c.prepare.ensures.stays raised c.in_ok-prepare.ensures.anchor c.place.ensures.small (spelled c.place.result) kept.1,
       ),
       kept.2,
     )

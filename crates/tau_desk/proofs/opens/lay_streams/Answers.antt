@@ -25,10 +25,10 @@ loop-stream-preserved c =
     let at : c.len.result ≡ length c.loop-stream.stocks.items = search rules in
     let end : c.position-end.result ≡ slice_index ends (length c.loop-stream.yielded) = c.position-end.ensures.same ∙ ap (slice_index ends) (at ∙ i.stocks.count) in
     record {
-      slots = subst (λ (ys : List (Option Part)). EachOf (HasAnchor (length ends)) (c.loop-stream.yielded ++ c.in-Some.stream ∷ []) ys) (sym c.in-Ok.ensures.items)
+      slots = subst (λ (ys : List (Option Part)). EachOf (HasAnchor (length ends)) (c.loop-stream.yielded ++ c.in-Some.stream ∷ []) ys) (sym c.in_ok-push.ensures.items)
           (each-more (HasAnchor (length ends)) c.loop-stream.yielded c.loop-stream.slots.items c.in-Some.stream (Some c.in_ok-part.part) i.slots
           (c.in_ok-part.part, refl, subst (λ (n : ℕ). IsFirstAnchor n c.in_ok-part.part) c.width.ensures.same c.in_ok-part.ensures));
-      stocks = subst (λ (ys : List (Option PlainStock)). EachOf (IsItsStock ends) (c.loop-stream.yielded ++ c.in-Some.stream ∷ []) ys) (sym c.in-Ok-push.ensures.items)
+      stocks = subst (λ (ys : List (Option PlainStock)). EachOf (IsItsStock ends) (c.loop-stream.yielded ++ c.in-Some.stream ∷ []) ys) (sym c.in_ok-push-2.ensures.items)
           (each-more (IsItsStock ends) c.loop-stream.yielded c.loop-stream.stocks.items c.in-Some.stream (Some c.stock_of.result) i.stocks
           (c.stock_of.ensures.0, ap (λ (o : PlainStock). Some o) c.stock_of.ensures.1 ∙ ap (λ (n : ℕ). Some (stock_at c.in-Some.stream n c.stock_of.ensures.0)) end));
     }

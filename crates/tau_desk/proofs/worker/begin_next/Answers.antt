@@ -22,8 +22,8 @@ start-requires-clause-takes c =
     subst (λ (k : Load). IsTrue (takes k.procs c.at-call.result.now)) (sym same)
     (subst (λ (x : Call). IsTrue (takes l.procs x)) call (c.requires.run.stands.sound.takes number n.call n.is))
 
-pub returns-in-Ok-clause-begins : goal.returns-in-Ok-clause-begins
-returns-in-Ok-clause-begins c =
+pub returns-clause-begins : goal.returns-clause-begins
+returns-clause-begins c =
     let l : Load = c.args.desk.now.table.shared.key.value.load in
     let same : c.args.desk.now.load ≡ l = c.args.desk.now.same_load in
     let number : ℕ = c.in-Some.number in
@@ -31,7 +31,7 @@ returns-in-Ok-clause-begins c =
     let n = next-is l c.requires.fits.0 c.args.work.now number c.requires.fits.1 next in
     let call : n.call ≡ c.at-call.result.now =
     (let f : Some n.call ≡ Some c.at-call.result.now = sym n.got ∙ ap (λ (k : Load). slice_get k.calls (number - 1)) (sym same) ∙ c.at-call.ensures in cc) in
-    let made = c.in-Ok.ensures.made in
+    let made = c.in_ok-reserve.ensures.made in
     let roomy : PlainWork = c.reserve.new.work in
     let next_is : roomy.next ≡ c.args.work.now.next = ap (λ (y : PlainWork). y.next) made.others in
     let again_is : roomy.again ≡ c.args.work.now.again = ap (λ (y : PlainWork). y.again) made.others in

@@ -20,14 +20,14 @@ give_own-requires-clause-event g c =
     let given =
     own-gives key c.self.inside.seat.me c.take-part.new.seat.me c.self.inside.stream c.anchor_number-number.result c.self.inside.stock
     (at-key c.self.inside.seat.me c.self.inside.stream c.self.inside.stock c.self.inside.seen key c.self.invariant (ap (λ s. s.me.0.opened) c.self.view_is ∙ c.requires.opened)) c.take-part.result c.gather_own.new.self.own.pieces
-    c.args.body.now.items c.gather_own.new.body.items c.gather_own.new.self.gathered c.anchor_number-number.ensures c.take-part.ensures.held c.in-Ok.ensures.moved in
-    (c.in-Ok.ensures.moved.taken, given.0, given.1)
+    c.args.body.now.items c.gather_own.new.body.items c.gather_own.new.self.gathered c.anchor_number-number.ensures c.take-part.ensures.held c.in_ok-gather_own.ensures.moved in
+    (c.in_ok-gather_own.ensures.moved.taken, given.0, given.1)
 
-pub invariant_of-self : goal.invariant_of-self
-invariant_of-self g c =
+pub invariant_of-self-2 : goal.invariant_of-self-2
+invariant_of-self-2 g c =
     let knows : c.give_own.new.seat.me ≡ (told_own c.self.inside.seat.me.0 c.gather_own.new.self.own.pieces, []) = c.give_own.ensures.given ∙ ap (λ (m : Sat). (told_own m.0 c.gather_own.new.self.own.pieces, [])) c.take-part.ensures.held in
     subst (λ (m : Sat). IsManagerSeat m c.self.inside.stream c.gather_own.new.self c.self.inside.seen) (sym knows)
-    (seat-own c.self.inside.seat.me c.self.inside.stream c.self.inside.stock c.gather_own.new.self c.self.inside.seen c.args.body.now.items c.gather_own.new.body.items c.self.invariant c.in-Ok.ensures.moved c.in-Ok.ensures.rest.0
+    (seat-own c.self.inside.seat.me c.self.inside.stream c.self.inside.stock c.gather_own.new.self c.self.inside.seen c.args.body.now.items c.gather_own.new.body.items c.self.invariant c.in_ok-gather_own.ensures.moved c.in_ok-gather_own.ensures.rest.0
     (own-small c.args.desk.now.table.shared.key.value c.self.inside.seat.me c.self.inside.stream c.anchor_number-number.result c.self.inside.stock
     (at-key c.self.inside.seat.me c.self.inside.stream c.self.inside.stock c.self.inside.seen c.args.desk.now.table.shared.key.value c.self.invariant (ap (λ s. s.me.0.opened) c.self.view_is ∙ c.requires.opened)) c.take-part.result c.gather_own.new.self.own.pieces
-    c.args.body.now.items c.gather_own.new.body.items c.gather_own.new.self.gathered c.take-part.ensures.agrees c.in-Ok.ensures.moved))
+    c.args.body.now.items c.gather_own.new.body.items c.gather_own.new.self.gathered c.take-part.ensures.agrees c.in_ok-gather_own.ensures.moved))
