@@ -172,7 +172,7 @@ fn is_first_write(rt: &impl Abort, entry: &Entry, positions: &[u64]) {
             assert_eq!(rt; *number, 1);
             assert_eq!(rt; *anchor, 1);
             assert_eq!(rt; dep.as_slice(), positions);
-            assert_eq!(rt; writes.lent().as_slice().len(), 1);
+            assert_eq!(rt; count_of(writes), 1);
         }
         _ => assert!(rt; false),
     }
@@ -217,7 +217,22 @@ fn vectors_are_kept_short(rt: HostRuntime) -> Result<(), Fail> {
     Ok(())
 }
 
-/// Writes come back as they were put, and are of a list or made for the loan.
+/// How many writes there are.
+fn count_of(writes: &KeptWrites) -> usize {
+    match writes.lent() {
+        LentWrites::Numbers(numbers) => numbers.len(),
+        LentWrites::Whole(rows) => rows.len(),
+    }
+}
+
+/// Whether these are whole numbers, and just those writes.
+fn are_numbers(numbers: &[(Key, i64)], writes: &[(Key, Value)]) -> bool {
+    numbers.len() == writes.len()
+        && numbers.iter().zip(writes.iter()).all(|(number, write)| number.0 == write.0
+            && write.1 == Value::Int(number.1))
+}
+
+/// Writes come back as they were put, and lie in the value itself or in a list.
 fn keeps_writes(
     rt: &impl Abort,
     alloc: Global,
@@ -225,13 +240,16 @@ fn keeps_writes(
     short: bool,
 ) -> Result<(), Fail> {
     let kept = KeptWrites::of(alloc, writes)?;
-    let lent = kept.lent();
-    assert!(rt; lent.as_slice() == writes);
-    let is_short = match &lent {
-        LentWrites::Short(_) => true,
-        LentWrites::Whole(_) => false,
-    };
-    assert_eq!(rt; is_short, short);
+    match kept.lent() {
+        LentWrites::Numbers(numbers) => {
+            assert!(rt; short);
+            assert!(rt; are_numbers(numbers, writes));
+        }
+        LentWrites::Whole(rows) => {
+            assert!(rt; !short);
+            assert!(rt; rows == writes);
+        }
+    }
     Ok(())
 }
 

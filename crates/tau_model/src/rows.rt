@@ -1,12 +1,12 @@
 //! The rows of a database.
-ghost use Rattle.std.specs.Prelude.{◌≡◌, ◌<◌, ◌≤◌, ◌+◌, ◌∷◌, [], length, IfOk, OnOk, OnErr};
+ghost use Rattle.std.specs.Prelude.{◌≡◌, ◌<◌, ◌≤◌, ◌+◌, ◌∷◌, [], length, map, IfOk, OnOk, OnErr};
 ghost use Rattle.std.specs.List.{IsDistinct, filter};
 ghost use Rattle.std.specs.List.Sorted.{IsPermutation, IsSortedByKey};
 ghost use Rattle.std.specs.Map.{keys_of};
 ghost use Rattle.std.specs.Option.{option_copied, unwrap_or};
 ghost use Rattle.indexmap.specs.IndexMap.{spare};
 ghost use Rattle.tau_base.specs.Database.{empty_db, key_cmp, written};
-ghost use Rattle.tau_base.specs.declared.value.Value.TheVariants.{Absent};
+ghost use Rattle.tau_base.specs.declared.value.Value.TheVariants.{Absent, Int};
 ghost use Rattle.tau_model.specs.Tables.{IsTablesOf, is_present, is_value, row_key};
 
 use crate::tables::Tables;
@@ -95,6 +95,38 @@ impl Rows {
             let (key, value) = &writes[i];
             self.set_row(*key, value);
         }
+    }
+
+    /// Writes whole numbers to these rows, or to none of them.
+    pub(crate) fn write_numbers(&mut self, writes: &[(Key, i64)]) -> Result<(), NoMemory>
+        ensures ok { OnOk result (rows_of self.new ≡ written (map (λ r. (r.0, Int r.1)) writes.now) (rows_of self.old)) }
+        ensures err { OnErr result (rows_of self.new ≡ rows_of self.old) }
+    {
+        let Ok(()) = self.rows.reserve(writes.len()) else {
+            return Err(NoMemory);
+        };
+        self.set_numbers(writes);
+        Ok(())
+    }
+
+    /// Sets rows to whole numbers for which there is room. Of two numbers for one row the first counts.
+    fn set_numbers(&mut self, writes: &[(Key, i64)])
+        requires { length writes.now ≤ spare self.old.rows }
+        ensures { rows_of self.new ≡ written (map (λ r. (r.0, Int r.1)) writes.now) (rows_of self.old) }
+    {
+        for place in (0..writes.len()).rev() {
+            let write = &writes[place];
+            self.set_number(write);
+        }
+    }
+
+    /// Sets a row to a whole number.
+    fn set_number(&mut self, write: &(Key, i64))
+        requires { 0 < spare self.old.rows }
+        ensures set { rows_of self.new ≡ written ((write.now.0, Int write.now.1) ∷ []) (rows_of self.old) }
+        ensures room { spare self.old.rows ≤ spare self.new.rows + 1 }
+    {
+        self.put_row(write.0, &Value::Int(write.1));
     }
 
     /// Sets a row, or takes its place if it becomes absent.

@@ -1,8 +1,8 @@
 //! A store that executes one call after another.
-ghost use Rattle.std.specs.Prelude.{◌≡◌, [], IfOk, OnOk, OnErr, IsTrue};
+ghost use Rattle.std.specs.Prelude.{◌≡◌, [], map, IfOk, OnOk, OnErr, IsTrue};
 ghost use Rattle.std.specs.Option.{option_copied, unwrap_or};
 ghost use Rattle.tau_base.specs.Database.{empty_db, written};
-ghost use Rattle.tau_base.specs.declared.value.Value.TheVariants.{Absent};
+ghost use Rattle.tau_base.specs.declared.value.Value.TheVariants.{Absent, Int};
 ghost use Rattle.tau_proc.specs.Meaning.{meaning};
 ghost use Rattle.tau_proc.specs.Takes.{takes};
 ghost use Rattle.tau_model.specs.Tables.{IsTablesOf};
@@ -81,5 +81,13 @@ impl SerialStore {
         ensures err { OnErr result (database self.new ≡ database self.old) }
     {
         self.rows.write(writes)
+    }
+
+    /// Writes whole numbers to these rows, or to none of them.
+    pub fn write_numbers(&mut self, writes: &[(Key, i64)]) -> Result<(), NoMemory>
+        ensures ok { OnOk result (database self.new ≡ written (map (λ r. (r.0, Int r.1)) writes.now) (database self.old)) }
+        ensures err { OnErr result (database self.new ≡ database self.old) }
+    {
+        self.rows.write_numbers(writes)
     }
 }

@@ -15,5 +15,5 @@ rows_of (kept.Whole rows) = rows
 
 -- the writes that are lent so
 abbrev pub shown : LentWrites → List (Key × Value)
-shown (lent.Short rows) = rows.items
+shown (lent.Numbers rows) = map (λ r. (r.0, Int r.1)) rows.now
 shown (lent.Whole rows) = rows.now

@@ -1,5 +1,6 @@
 //! The writes of a record as they are kept.
-ghost use Rattle.std.specs.Prelude.{◌≡◌, map, IfOk, IfSome, length, ◌≤◌};
+ghost use Rattle.std.specs.Prelude.{◌≡◌, map, IfOk, IfSome, nat_lt};
+ghost use Rattle.std.specs.List.{list_all};
 ghost use Rattle.tau_base.specs.declared.value.Value.TheVariants.{Int};
 ghost use Rattle.tau_record.specs.KeptWrites.{shown};
 
@@ -64,36 +65,48 @@ impl KeptWrites {
         })
     }
 
-    /// The writes, lent.
+    /// The writes, lent as they lie.
     pub fn lent(&self) -> LentWrites<'_>
         ensures { shown result ≡ self.now }
     {
         match &self.rows {
-            Rows::Short(short) => LentWrites::Short(whole_of(short.as_slice())),
+            Rows::Short(short) => LentWrites::Numbers(short.as_slice()),
             Rows::Whole(rows) => LentWrites::Whole(rows.as_slice()),
+        }
+    }
+
+    /// Whether each row is of one of the first so many tables.
+    pub fn are_of(&self, tables: usize) -> bool
+        ensures { result ≡ list_all (λ w. nat_lt w.0.table tables) self.now }
+    {
+        match self.lent() {
+            LentWrites::Numbers(rows) => numbers_are_of(rows, tables),
+            LentWrites::Whole(rows) => rows_are_of(rows, tables),
         }
     }
 }
 
 /// Writes that are lent.
-#[derive(Drop)]
+#[derive(Clone, Copy)]
 pub enum LentWrites<'a> {
-    /// A few, made for the loan.
-    Short(ArrayVec<(Key, Value), SHORT_WRITES>),
+    /// A few, of whole numbers.
+    Numbers(&'a [(Key, i64)]),
     /// Those of a list.
     Whole(&'a [(Key, Value)]),
 }
 
-impl<'a> LentWrites<'a> {
-    /// The writes in order.
-    pub fn as_slice(&self) -> &[(Key, Value)]
-        ensures { result.now ≡ shown self.now }
-    {
-        match self {
-            LentWrites::Short(rows) => rows.as_slice(),
-            LentWrites::Whole(rows) => rows,
-        }
-    }
+/// Whether each of these rows is of one of the first so many tables.
+fn numbers_are_of(rows: &[(Key, i64)], tables: usize) -> bool
+    ensures { result ≡ list_all (λ r. nat_lt r.0.table tables) rows.now }
+{
+    rows.iter().all(|(key, _)| usize::from(key.table) < tables)
+}
+
+/// The same of rows with any values.
+fn rows_are_of(rows: &[(Key, Value)], tables: usize) -> bool
+    ensures { result ≡ list_all (λ r. nat_lt r.0.table tables) rows.now }
+{
+    rows.iter().all(|(key, _)| usize::from(key.table) < tables)
 }
 
 /// The writes, if they are few and of whole numbers.
@@ -111,16 +124,4 @@ fn short_of(writes: &[(Key, Value)]) -> Option<Short>
         short.push((write.0, *number));
     }
     Some(short)
-}
-
-/// Writes of whole numbers as writes.
-fn whole_of(short: &[(Key, i64)]) -> ArrayVec<(Key, Value), SHORT_WRITES>
-    requires { length short.now ≤ SHORT_WRITES }
-    ensures { result.items ≡ map (λ r. (r.0, Int r.1)) short.now }
-{
-    let mut rows = ArrayVec::new();
-    for write in short {
-        rows.push((write.0, Value::Int(write.1)));
-    }
-    rows
 }

@@ -3,6 +3,7 @@ ghost use Rattle.std.specs.Prelude.{◌≡◌, ℕ, List, OnOk, OnErr};
 ghost use Rattle.tau_base.specs.declared.value.Call.{Call};
 ghost use Rattle.tau_base.specs.declared.value.Key.{Key};
 ghost use Rattle.tau_base.specs.declared.value.Value.{Value};
+ghost use Rattle.tau_base.specs.Database.{written};
 ghost use Rattle.tau_model.specs.Redo.{redone, Written, Command};
 ghost use Rattle.tau_model.specs.Store.{database};
 ghost use Rattle.tau_scan.specs.Taken.{Kept};
@@ -11,7 +12,7 @@ ghost use Rattle.tau_replay.specs.Recovering.{IsHeld, IsHeldBy};
 use tau_base::{KeptCall, NoMemory};
 use tau_model::SerialStore;
 use tau_pool::Job;
-use tau_record::Entry;
+use tau_record::{Entry, KeptWrites, LentWrites};
 use tau_scan::Log;
 
 /// Redoes a record on the database as it is: a data record sets its writes, a command record what its call writes.
@@ -31,10 +32,21 @@ fn redo_entry(log: &Log, store: &mut SerialStore, entry: &Entry) -> Result<(), N
     ensures err { OnErr result (database store.new ≡ database store.old) }
 {
     match entry {
-        Entry::Written { writes, .. } => store.write(writes.lent().as_slice()),
+        Entry::Written { writes, .. } => write(store, writes),
         Entry::Command { call, .. } => redo_call(log, store, call),
         Entry::Anchor { .. } => Ok(()),
         Entry::Catalogue { .. } => Ok(()),
+    }
+}
+
+/// Sets the writes of a record as they lie.
+fn write(store: &mut SerialStore, writes: &KeptWrites) -> Result<(), NoMemory>
+    ensures ok { OnOk result (database store.new ≡ written writes.now (database store.old)) }
+    ensures err { OnErr result (database store.new ≡ database store.old) }
+{
+    match writes.lent() {
+        LentWrites::Numbers(numbers) => store.write_numbers(numbers),
+        LentWrites::Whole(rows) => store.write(rows),
     }
 }
 

@@ -1,16 +1,15 @@
 //! The records of a stream, judged by its declarations.
 ghost use Rattle.std.specs.Prelude.{◌≡◌, ◌≤◌, ◌&&◌, List, length, Err, None, Some, IsNone, is_ok, IfOk, IfSome};
 ghost use Rattle.tau_proc.specs.Takes.{takes};
-ghost use Rattle.std.specs.List.{list_all};
 ghost use Rattle.tau_record.specs.Content.{FirstBad, content_at};
 ghost use Rattle.tau_record.specs.declared.entry.Placed.{Placed};
 ghost use Rattle.tau_record.specs.Format.{One, most_streams};
 ghost use Rattle.tau_text.specs.Alone.{declarations_of};
-ghost use Rattle.tau_scan.specs.Reading.{text_of, catalogue_of, declared_by, or_none, has_row, names_table, is_of_table, is_declared, first_undeclared, undeclared, records_of, judged, or_no_records, unless, IsReading};
+ghost use Rattle.tau_scan.specs.Reading.{text_of, catalogue_of, declared_by, or_none, names_table, is_of_table, is_declared, first_undeclared, undeclared, records_of, judged, or_no_records, unless, IsReading};
 ghost use Rattle.tau_scan.specs.Found.{Judged, IsShort};
 
 use std::alloc::Global;
-use tau_base::{Call, KeptCall, Key, Listed, NoMemory, Value};
+use tau_base::{Call, KeptCall, Listed, NoMemory, Value};
 use tau_proc::{FIRST_DECLARED, Procs};
 use tau_record::{Entry, Placed, RecordCause, RecordFault, RecordRefusal, decode};
 use tau_text::{Declarations, TextRefusal, parse_declarations};
@@ -102,16 +101,6 @@ fn is_of_table(declarations: &Declarations, call: &Call) -> bool
     }
 }
 
-/// Whether all these rows are of declared tables.
-fn have_tables(declarations: &Declarations, writes: &[(Key, Value)]) -> bool
-    ensures { result ≡ list_all (has_row declarations.now) writes.now }
-{
-    let tables = declarations.tables.len();
-    writes
-        .iter()
-        .all(|(key, _)| usize::from(key.table) < tables)
-}
-
 /// Whether what a call names is declared. It lays a place for a whole call, which data records do without.
 #[inline(never)]
 fn is_declared_call(declarations: &Declarations, kept: &KeptCall) -> bool
@@ -126,7 +115,7 @@ fn is_declared(alloc: Global, declarations: &Declarations, entry: &Entry) -> Res
     ensures { IfOk result (λ b. b ≡ is_declared declarations.now entry.now) }
 {
     match entry {
-        Entry::Written { writes, .. } => { Ok(have_tables(declarations, writes.lent().as_slice())) }
+        Entry::Written { writes, .. } => Ok(writes.are_of(declarations.tables.len())),
         Entry::Command { call, .. } => Ok(is_declared_call(declarations, call)),
         Entry::Anchor { .. } => Ok(true),
         Entry::Catalogue { text } => is_canonical(alloc, text.as_slice()),
