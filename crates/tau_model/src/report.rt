@@ -68,20 +68,16 @@ fn is_within(ends: &Lv, spot: Option<Spot>) -> bool
 fn sort_by_number(entries: &mut Vec<Entry<'_>>) -> Result<(), NoMemory>
     ensures { OnOk result (entries.new.items ≡ ascending entry_number entries.old.items) }
 {
-    match entries.sort_by_key(|entry| entry.number()) {
-        Ok(()) => Ok(()),
-        Err(_) => Err(NoMemory),
-    }
+    entries.sort_by_key(|entry| entry.number())?;
+    Ok(())
 }
 
 /// Puts the entries in ascending order of their starts; those with one start keep their order.
 fn sort_by_start(entries: &mut Vec<Entry<'_>>) -> Result<(), NoMemory>
     ensures { OnOk result (entries.new.items ≡ ascending entry_start entries.old.items) }
 {
-    match entries.sort_by_key(|entry| entry.start()) {
-        Ok(()) => Ok(()),
-        Err(_) => Err(NoMemory),
-    }
+    entries.sort_by_key(|entry| entry.start())?;
+    Ok(())
 }
 
 /// The read-only calls in ascending order of their numbers.
@@ -92,7 +88,7 @@ fn readers_of<'a>(alloc: Global, list: &'a CommittedList) -> Result<Vec<Entry<'a
     for i in 0..list.len() {
         let call = list.at(i);
         if call.spot().is_none() {
-            readers.push(Entry::of(&call, 0)).map_err(|_| NoMemory)?;
+            readers.push(Entry::of(&call, 0))?;
         }
     }
     sort_by_number(&mut readers)?;
@@ -114,7 +110,7 @@ fn records_of<'a>(
             && usize::from(spot.stream) == stream
         {
             let entry = Entry::of(&call, spot.start);
-            records.push(entry).map_err(|_| NoMemory)?;
+            records.push(entry)?;
         }
     }
     sort_by_start(&mut records)?;
@@ -132,7 +128,7 @@ fn streams_of<'a>(
     let mut streams = Vec::new(alloc);
     for j in 0..count {
         let records = VecDeque::from(records_of(alloc, j, list)?);
-        streams.push(records).map_err(|_| NoMemory)?;
+        streams.push(records)?;
     }
     Ok(streams)
 }
@@ -209,7 +205,7 @@ fn numbers_of(
     let mut numbers = Vec::new(alloc);
     let mut reach = emitted_first(ends, streams);
     while let Some(number) = list_next(ends, streams, &mut reach) {
-        numbers.push(number).map_err(|_| NoMemory)?;
+        numbers.push(number)?;
     }
     Ok(numbers)
 }
@@ -226,10 +222,10 @@ fn listing_of(
     let mut numbers = Vec::new(alloc);
     let mut reached = Vec::new(alloc);
     let mut reach = emitted_first(ends, streams);
-    reached.push(reach).map_err(|_| NoMemory)?;
+    reached.push(reach)?;
     while let Some(number) = list_next(ends, streams, &mut reach) {
-        numbers.push(number).map_err(|_| NoMemory)?;
-        reached.push(reach).map_err(|_| NoMemory)?;
+        numbers.push(number)?;
+        reached.push(reach)?;
     }
     Ok(Listing { numbers, reached })
 }
@@ -258,7 +254,7 @@ fn empty_buckets(alloc: Global, count: usize) -> Result<Vec<Vec<u64>>, NoMemory>
 {
     let mut buckets = Vec::new(alloc);
     for _ in 0..count {
-        buckets.push(Vec::new(alloc)).map_err(|_| NoMemory)?;
+        buckets.push(Vec::new(alloc))?;
     }
     Ok(buckets)
 }
@@ -271,10 +267,8 @@ fn put(buckets: &mut Vec<Vec<u64>>, slot: usize, number: u64) -> Result<(), NoMe
         return Ok(());
     }
     let bucket = &mut buckets[slot];
-    match bucket.push(number) {
-        Ok(()) => Ok(()),
-        Err(_) => Err(NoMemory),
-    }
+    bucket.push(number)?;
+    Ok(())
 }
 
 /// For each vector the numbers of the read-only calls that it covers first.
@@ -300,10 +294,9 @@ fn weave(alloc: Global, buckets: &[Vec<u64>], numbers: &[u64]) -> Result<Vec<u64
 {
     let mut out = Vec::new(alloc);
     for (k, number) in numbers.iter().enumerate() {
-        out.extend_from_slice(&buckets[k]).map_err(|_| NoMemory)?;
-        out.push(*number).map_err(|_| NoMemory)?;
+        out.extend_from_slice(&buckets[k])?;
+        out.push(*number)?;
     }
-    out.extend_from_slice(&buckets[numbers.len()])
-        .map_err(|_| NoMemory)?;
+    out.extend_from_slice(&buckets[numbers.len()])?;
     Ok(out)
 }

@@ -63,10 +63,10 @@ impl Rows {
         ensures rows { IfOk result (λ rows. rows.items ≡ filter is_present self.now.rows.entries) }
         ensures once { OnOk result (IsDistinct is_key (keys_of self.now.rows.entries)) }
     {
-        let mut rows = Vec::with_capacity(alloc, self.rows.len()).map_err(|_| NoMemory)?;
+        let mut rows = Vec::with_capacity(alloc, self.rows.len())?;
         for (key, value) in &self.rows {
             if is_value(value) {
-                rows.push((*key, value.copied())).map_err(|_| NoMemory)?;
+                rows.push((*key, value.copied()))?;
             }
         }
         Ok(rows)
