@@ -6,15 +6,13 @@ ghost use Rattle.tau_base.specs.Database.{key_cmp};
 ghost use Rattle.tau_base.specs.declared.value.Value.{Value};
 ghost use Rattle.tau_machine.specs.Stage.{stage};
 ghost use Rattle.tau_machine.specs.Worker.{lock_of};
-ghost use Rattle.tau_proc.specs.declared.reply.Reply.{Reply};
-ghost use Rattle.tau_proc.specs.declared.reply.Want.{Want};
 ghost use Rattle.tau_proc.specs.Takes.{takes};
 ghost use Rattle.tau_proc.specs.Progress.{ahead, blank, buffered, IsAt, next_want, IsRead, IsWrite, wants_left};
 ghost use Rattle.tau_txn.specs.Steps.{lock_by};
 
 use std::marker::Model;
-use tau_base::{Call, Key, Text64, Value};
-use tau_proc::{Machine, Procs, Reply, Want};
+use tau_base::{Call, Key, Value};
+use tau_proc::{Machine, Procs, Want};
 
 /// A machine beside what it wants next.
 #[derive(Drop)]
@@ -60,7 +58,7 @@ impl Course {
         ensures { IsAt procs.now call.now [] 0 self.new }
     {
         self.machine.restart(procs, call);
-        put_next(&mut self.want, &mut self.machine);
+        self.machine.put_next(&mut self.want);
     }
 
     /// What it wants next.
@@ -77,8 +75,8 @@ impl Course {
         ensures granted { self.new.granted ≡ self.old.granted }
         ensures fewer { wants_left self.new < wants_left self.old }
     {
-        give_to(&mut self.machine, value);
-        put_next(&mut self.want, &mut self.machine);
+        self.machine.give_lent(value);
+        self.machine.put_next(&mut self.want);
     }
 
     /// Gives the value of the row that is wanted, Absent where there is none.
@@ -112,7 +110,7 @@ impl Course {
         ensures fewer { wants_left self.new < wants_left self.old }
     {
         self.machine.granted();
-        put_next(&mut self.want, &mut self.machine);
+        self.machine.put_next(&mut self.want);
     }
 
     /// The writes so far, ascending, each key once.
@@ -122,63 +120,6 @@ impl Course {
     {
         self.machine.writes()
     }
-}
-
-/// Gives a machine a value that is lent. A whole number is not moved through a place of its own, a text apart.
-fn give_to(machine: &mut Machine, value: &Value)
-    requires { IsRead (next_want machine.old) }
-    ensures stands { (vs : List Value) → ahead machine.new vs ≡ ahead machine.old (value.now ∷ vs) }
-    ensures granted { machine.new.granted ≡ machine.old.granted }
-    ensures fewer { wants_left machine.new < wants_left machine.old }
-{
-    match value {
-        Value::Absent => machine.give(Value::Absent),
-        Value::Int(number) => machine.give(Value::Int(*number)),
-        Value::Text(text) => give_text(machine, text),
-    }
-}
-
-#[inline(never)]
-fn give_text(machine: &mut Machine, text: &Text64)
-    requires { IsRead (next_want machine.old) }
-    ensures stands { (vs : List Value) → ahead machine.new vs ≡ ahead machine.old (Value.Text text.now ∷ vs) }
-    ensures granted { machine.new.granted ≡ machine.old.granted }
-    ensures fewer { wants_left machine.new < wants_left machine.old }
-{
-    machine.give(Value::Text(text.copied()));
-}
-
-/// Puts what the machine wants next in its place. A key is not moved through a place as large as a reply.
-fn put_next(place: &mut Want, machine: &mut Machine)
-    ensures want { place.new ≡ next_want machine.old }
-    ensures same { machine.new ≡ machine.old }
-{
-    match machine.next() {
-        Want::Read(key) => *place = Want::Read(key),
-        Want::Write(key) => *place = Want::Write(key),
-        Want::Finished(reply) => put_reply(place, reply),
-    }
-}
-
-/// Puts a reply in its place: a whole number's without the bytes of a text.
-fn put_reply(place: &mut Want, reply: Reply)
-    ensures { place.new ≡ Want.Finished reply }
-{
-    match reply {
-        Reply::Ok(value) => match value {
-            Value::Absent => *place = Want::Finished(Reply::Ok(Value::Absent)),
-            Value::Int(number) => *place = Want::Finished(Reply::Ok(Value::Int(number))),
-            Value::Text(text) => put_text(place, text),
-        },
-        Reply::Refused(step) => *place = Want::Finished(Reply::Refused(step)),
-    }
-}
-
-#[inline(never)]
-fn put_text(place: &mut Want, text: Text64)
-    ensures { place.new ≡ Want.Finished (Reply.Ok (Value.Text text)) }
-{
-    *place = Want::Finished(Reply::Ok(Value::Text(text)));
 }
 
 /// What a call wants first.
