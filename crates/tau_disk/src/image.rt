@@ -12,7 +12,7 @@ pub fn old_image(alloc: Global, first: &[u8], calls: &[DiskCall]) -> Result<Vec<
     ensures { IfOk result (λ v. v.items ≡ (replayed (opened first.now) calls.now).synced) }
 {
     let last = last_sync(calls);
-    let mut image = first.to_vec(alloc).map_err(|_| NoMemory)?;
+    let mut image = first.to_vec(alloc)?;
     write_again(&mut image, &calls[..last])?;
     Ok(image)
 }
@@ -22,7 +22,7 @@ pub fn torn_image(alloc: Global, first: &[u8], calls: &[DiskCall]) -> Result<Vec
     ensures { IfOk result (λ v. v.items ≡ (replayed (opened first.now) calls.now).torn) }
 {
     let last = last_sync(calls);
-    let mut image = first.to_vec(alloc).map_err(|_| NoMemory)?;
+    let mut image = first.to_vec(alloc)?;
     write_again(&mut image, &calls[..last])?;
     write_sevens(alloc, &mut image, &calls[last..])?;
     Ok(image)
@@ -87,7 +87,7 @@ fn write_one_sevens(alloc: Global, image: &mut Vec<u8>, call: &DiskCall) -> Resu
 {
     match call {
         DiskCall::Wrote(at, bytes) => {
-            let sevens = vec![in alloc; 7; bytes.len()].map_err(|_| NoMemory)?;
+            let sevens = vec![in alloc; 7; bytes.len()]?;
             overwrite(image, *at, &sevens)
         }
         DiskCall::Lost(_, _) => Ok(()),
@@ -102,11 +102,7 @@ pub fn overwrite(file: &mut Vec<u8>, at: usize, bytes: &[u8]) -> Result<(), NoMe
 {
     let at = at.min(file.len());
     let within = bytes.len().min(file.len() - at);
-    match file.extend_from_slice(&bytes[within..]) {
-        Ok(()) => {
-            file[at..at + within].copy_from_slice(&bytes[..within]);
-            Ok(())
-        }
-        Err(_) => Err(NoMemory),
-    }
+    file.extend_from_slice(&bytes[within..])?;
+    file[at..at + within].copy_from_slice(&bytes[..within]);
+    Ok(())
 }

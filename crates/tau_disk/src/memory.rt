@@ -42,7 +42,7 @@ impl MemDisk {
         ensures plan { IfOk result (λ d. (k : ℕ) → fails_at d k ≡ list_any (λ n. n == k) failing.now) }
         ensures last { IfOk result (λ d. (k : ℕ) → keeps_at d k ≡ false) }
     {
-        let failing = failing.to_vec(alloc).map_err(|_| NoMemory)?;
+        let failing = failing.to_vec(alloc)?;
         Ok(MemDisk {
             alloc,
             failing,
@@ -92,8 +92,8 @@ impl MemDisk {
         ensures plan { IfOk result (λ d. (k : ℕ) → fails_at d k ≡ false) }
         ensures last { IfOk result (λ d. (k : ℕ) → keeps_at d k ≡ false) }
     {
-        let first = bytes.to_vec(alloc).map_err(|_| NoMemory)?;
-        let seen = bytes.to_vec(alloc).map_err(|_| NoMemory)?;
+        let first = bytes.to_vec(alloc)?;
+        let seen = bytes.to_vec(alloc)?;
         Ok(MemDisk {
             alloc,
             failing: Vec::new(alloc),
@@ -123,7 +123,7 @@ impl MemDisk {
     {
         match tear {
             Tear::Old => old_image(self.alloc, &self.first, &self.calls),
-            Tear::New => self.seen.to_vec(self.alloc).map_err(|_| NoMemory),
+            Tear::New => Ok(self.seen.to_vec(self.alloc)?),
             Tear::Torn => torn_image(self.alloc, &self.first, &self.calls),
         }
     }
@@ -339,7 +339,7 @@ fn put(
     ensures err { OnErr result (seen.new.items ≡ seen.old.items) }
     ensures err_calls { OnErr result (calls.new.items ≡ calls.old.items) }
 {
-    let copy = bytes.to_vec(alloc).map_err(|_| NoMemory)?;
+    let copy = bytes.to_vec(alloc)?;
     note(calls, DiskCall::Wrote(at, copy))?;
     match overwrite(seen, at, bytes) {
         Ok(()) => Ok(()),
@@ -355,10 +355,8 @@ fn note(calls: &mut Vec<DiskCall>, call: DiskCall) -> Result<(), NoMemory>
     ensures ok { OnOk result (calls.new.items ≡ calls.old.items ++ call ∷ []) }
     ensures err { OnErr result (calls.new.items ≡ calls.old.items) }
 {
-    match calls.push(call) {
-        Ok(()) => Ok(()),
-        Err(_) => Err(NoMemory),
-    }
+    calls.push(call)?;
+    Ok(())
 }
 
 // Whether the number is in the list.

@@ -31,9 +31,9 @@ impl MemSource {
         ensures plan { IfOk result (λ s. (k : ℕ) → fails_reading s k ≡ is_in failing.now k) }
     {
         Ok(MemSource {
-            bytes: bytes.to_vec(alloc).map_err(|_| NoMemory)?,
+            bytes: bytes.to_vec(alloc)?,
             at: 0,
-            failing: failing.to_vec(alloc).map_err(|_| NoMemory)?,
+            failing: failing.to_vec(alloc)?,
             number: 0,
             faults: 0,
         })
@@ -92,7 +92,7 @@ impl MemSink {
     {
         Ok(MemSink {
             bytes: Vec::new(alloc),
-            failing: failing.to_vec(alloc).map_err(|_| NoMemory)?,
+            failing: failing.to_vec(alloc)?,
             number: 0,
             faults: 0,
             is_short: false,
