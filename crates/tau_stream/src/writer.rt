@@ -146,13 +146,9 @@ impl<D: Disk> Writer<D> {
         ensures err { OnErr result (left_of self.new ≡ left_of self.old) }
         ensures err_added { OnErr result (added_of self.new ≡ added_of self.old) }
     {
-        match self.body.extend_from_slice(body) {
-            Ok(()) => {
-                self.added += body.len() as u64;
-                Ok(())
-            }
-            Err(_) => Err(NoMemory),
-        }
+        self.body.extend_from_slice(body)?;
+        self.added += body.len() as u64;
+        Ok(())
     }
 
     /// Makes the block of the content up to there.
@@ -171,10 +167,7 @@ impl<D: Disk> Writer<D> {
         if count == 0 {
             return Ok(());
         }
-        match make_room(self.alloc, &mut self.block, count + 5) {
-            Ok(()) => {}
-            Err(_) => return Err(NoMemory),
-        }
+        make_room(self.alloc, &mut self.block, count + 5)?;
         self.block.clear();
         match append_tail(&mut self.block, &self.body[..count]) {
             Ok(()) => Ok(()),
@@ -297,13 +290,8 @@ fn make_room(alloc: Global, block: &mut Vec<u8>, size: usize) -> Result<(), NoMe
     if size <= block.capacity() {
         return Ok(());
     }
-    match Vec::with_capacity(alloc, size) {
-        Ok(larger) => {
-            *block = larger;
-            Ok(())
-        }
-        Err(_) => Err(NoMemory),
-    }
+    *block = Vec::with_capacity(alloc, size)?;
+    Ok(())
 }
 
 // Removes the first bytes.
