@@ -74,24 +74,23 @@ impl<D: Disk> Writer<D> {
         ensures faults_err { IfErr result (λ refusal. D.faults disk ≤ D.faults refusal.0) }
     {
         let mut disk = disk;
-        let (block, size) = match first_block(alloc, catalogue) {
-            Ok(first) => first,
-            Err(_) => return Err((disk, Flush::NoMemory)),
+        let Ok((block, size)) = first_block(alloc, catalogue) else {
+            return Err((disk, Flush::NoMemory));
         };
-        match begin(&mut disk, n, j, &block) {
-            Ok(()) => Ok(Writer {
-                disk,
-                alloc,
-                stream: j as u8,
-                gate_at: 16 + block.len() as u64,
-                durable: size as u64,
-                added: 0,
-                body: Vec::new(alloc),
-                block,
-                failed: false,
-            }),
-            Err(_) => Err((disk, Flush::Failed)),
-        }
+        let Ok(()) = begin(&mut disk, n, j, &block) else {
+            return Err((disk, Flush::Failed));
+        };
+        Ok(Writer {
+            disk,
+            alloc,
+            stream: j as u8,
+            gate_at: 16 + block.len() as u64,
+            durable: size as u64,
+            added: 0,
+            body: Vec::new(alloc),
+            block,
+            failed: false,
+        })
     }
 
     /// So many bytes of the content stand in every image.

@@ -6,7 +6,7 @@ use Rattle.tau_stream.proofs.writer.Writer.create.Goals as goal
 pub invariant_of-result : goal.invariant_of-result
 invariant_of-result g c =
     let text = c.args.catalogue.now in
-    let block = c.in-Ok.first.0 in
+    let block = c.in-Ok.block in
     let size : length block.items ≡ 10 + length text = length-block text block.items c.in-Ok.ensures.block in
     let long : c.len.result ≡ length block.items = omega (arith, c.len.ensures) in
     record {
@@ -17,8 +17,8 @@ invariant_of-result g c =
       limit = omega arith;
     }
 
-pub returns-in-Ok-begin-clause-ready : goal.returns-in-Ok-begin-clause-ready
-returns-in-Ok-begin-clause-ready g c = λ tells.
+pub returns-clause-ready : goal.returns-clause-ready
+returns-clause-ready g c = λ tells.
     let text = c.args.catalogue.now in
     let size : length c.deref.result.now ≡ c.len.result = omega (arith, c.len.ensures, ap length c.deref.ensures.value) in
     record {
@@ -27,12 +27,12 @@ returns-in-Ok-begin-clause-ready g c = λ tells.
       counts = c.in-Ok.ensures.size;
     }
 
-pub returns-in-Ok-begin-clause-moments : goal.returns-in-Ok-begin-clause-moments
-returns-in-Ok-begin-clause-moments g c = λ tells unborn.
+pub returns-clause-moments : goal.returns-clause-moments
+returns-clause-moments g c = λ tells unborn.
     let text = c.args.catalogue.now in
     c.begin.ensures.moments tells (catalogue_record text) (catalogue_is text c.requires.text) (c.deref.ensures.value ∙ c.in-Ok.ensures.block) unborn
 
-pub returns-in-Err-begin-clause-moments_err : goal.returns-in-Err-begin-clause-moments_err
-returns-in-Err-begin-clause-moments_err g c = λ tells unborn.
+pub returns-in_default-begin-clause-moments_err : goal.returns-in_default-begin-clause-moments_err
+returns-in_default-begin-clause-moments_err g c = λ tells unborn.
     let text = c.args.catalogue.now in
     c.begin.ensures.moments tells (catalogue_record text) (catalogue_is text c.requires.text) (c.deref.ensures.value ∙ c.in-Ok.ensures.block) unborn
