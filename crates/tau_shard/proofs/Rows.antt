@@ -1,7 +1,6 @@
 -- The present rows of a map.
 use Rattle.std.proofs.Common.{ℕ, ◌+◌, Bool, true, false, ◌≡◌, List, ◌∷◌, ◌++◌, length, take, drop, refl, sym, ap, subst, ◌∙◌, slice_get, Option, arith, length-take}
-use Rattle.std.specs.Prelude.{Some, None, Result, Ok, Err, is_ok, if◌then◌else◌}
-use Rattle.std.specs.Result.{is_err}
+use Rattle.std.specs.Prelude.{Some, None}
 use Rattle.std.specs.List.{IsDistinct}
 use Rattle.std.specs.Map.{lookup, keys_of}
 use Rattle.std.specs.Option.{unwrap_or}
@@ -54,8 +53,3 @@ take-more old xs ys h =
     let l = length-take (length old) xs in
     let e : length (take (length old) xs) ≡ length old = ap length h in
     take-append-le (length old) xs ys (omega (arith, l, e)) ∙ h
-
--- a list after a push that was not refused
-pub pushed : {T E : Type 0} {xs ys : List T} (zs : List T) (r : Result (Unit {0}) E) (b : Bool) → b ≡ is_err r → b ≡ false → xs ≡ (if is_ok r then ys else zs) → xs ≡ ys
-pushed zs (Ok u) b e f is = is
-pushed zs (Err x) b e f is = absurd (let bad : true ≡ false = sym e ∙ f in cc)

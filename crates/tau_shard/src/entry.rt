@@ -4,9 +4,10 @@ ghost use Rattle.tau_base.specs.Vectors.{join};
 ghost use Rattle.tau_machine.specs.Shard.{entry_or, held_as};
 ghost use Rattle.tau_shard.specs.Read.{bits, entry_of};
 ghost use Rattle.tau_shard.specs.Blocks.{against, blocks, IsLowest, covered, dep_locked};
+ghost use Rattle.tau_shard.specs.declared.entry.ShardRefusal.TheVariants.{NoMemory};
 
 use crate::mask;
-use tau_base::{Lv, Mode};
+use tau_base::{Lv, Mode, NoMemory};
 use thiserror::Error;
 
 /// Who holds a key, and its two vectors.
@@ -34,6 +35,14 @@ pub enum ShardRefusal {
         /// The lowest of them.
         holder: u8,
     },
+}
+
+impl From<NoMemory> for ShardRefusal {
+    ghost from_gives = { λ _ refusal. refusal ≡ NoMemory };
+
+    fn from(_e: NoMemory) -> ShardRefusal {
+        ShardRefusal::NoMemory
+    }
 }
 
 /// A new entry at the floor, whose key the worker holds.

@@ -90,10 +90,8 @@ impl Shard {
         ensures err { OnErr result (shard_of self.new ≡ shard_of self.old) }
         ensures rows { self.new.rows ≡ self.old.rows }
     {
-        match self.entries.insert(key, entry) {
-            Ok(_) => Ok(()),
-            Err(_) => Err(NoMemory),
-        }
+        self.entries.insert(key, entry)?;
+        Ok(())
     }
 
     /// Writes a row that has its place. It takes no memory.
@@ -191,16 +189,10 @@ impl Shard {
         ensures unchanged { OnErr result (shard_of self.new ≡ shard_of self.old) }
         ensures dep_unchanged { OnErr result (dep.new ≡ dep.old) }
     {
-        match self.prepare_row(key, mode) {
-            Ok(()) => match self.put(key, self.first_entry(worker, mode)) {
-                Ok(()) => {
-                    self.raise_by_floor(dep, mode);
-                    Ok(())
-                }
-                Err(_) => Err(ShardRefusal::NoMemory),
-            },
-            Err(_) => Err(ShardRefusal::NoMemory),
-        }
+        self.prepare_row(key, mode)?;
+        self.put(key, self.first_entry(worker, mode))?;
+        self.raise_by_floor(dep, mode);
+        Ok(())
     }
 
     /// Frees a key of a call with this vector: what the call wrote becomes the row, and the vector is joined into the key's write vector; where the
@@ -303,8 +295,8 @@ fn append_present(rows: &IndexMap<Key, Value>, out: &mut Vec<(Key, Value)>) -> R
 {
     for i in 0..rows.len() {
         if let Some((key, value)) = rows.get_index(i) {
-            if is_present(value) && out.push((*key, value.copied())).is_err() {
-                return Err(NoMemory);
+            if is_present(value) {
+                out.push((*key, value.copied()))?;
             }
         }
     }
@@ -392,17 +384,13 @@ fn lock_old(
     ensures kept { (x : Key) → IsSome (lookup (is_key x) rows.old.entries) → IsSome (lookup (is_key x) rows.new.entries) }
     ensures there { OnOk result (mode ≡ Mode.Write → IsSome (lookup (is_key key) rows.new.entries)) }
 {
-    match blocker(entry, worker, mode) {
-        Some(holder) => Err(ShardRefusal::Busy { holder }),
-        None => match place_row(rows, key, mode) {
-            Ok(()) => {
-                raise_by(dep, mode, entry);
-                hold(entry, worker, mode);
-                Ok(())
-            }
-            Err(_) => Err(ShardRefusal::NoMemory),
-        },
+    if let Some(holder) = blocker(entry, worker, mode) {
+        return Err(ShardRefusal::Busy { holder });
     }
+    place_row(rows, key, mode)?;
+    raise_by(dep, mode, entry);
+    hold(entry, worker, mode);
+    Ok(())
 }
 
 /// A row that is to be written gets its place.
@@ -436,8 +424,6 @@ fn place_absent(rows: &mut IndexMap<Key, Value>, key: Key) -> Result<(), NoMemor
     ensures kept { (x : Key) → IsSome (lookup (is_key x) rows.old.entries) → IsSome (lookup (is_key x) rows.new.entries) }
     ensures there { OnOk result (IsSome (lookup (is_key key) rows.new.entries)) }
 {
-    match rows.insert(key, Value::Absent) {
-        Ok(_) => Ok(()),
-        Err(_) => Err(NoMemory),
-    }
+    rows.insert(key, Value::Absent)?;
+    Ok(())
 }
