@@ -1,10 +1,14 @@
 -- What a writer stands for.
-use Rattle.std.specs.Prelude.{◌≡◌, ◌⊎◌, ℕ, ◌+◌, ◌-◌, ◌<◌, ◌≤◌, Bool, List, take, length}
+use Rattle.std.specs.Prelude.{◌≡◌, ◌⊎◌, ◌↔◌, ℕ, ◌+◌, ◌-◌, ◌<◌, ◌≤◌, ◌++◌, Bool, true, false, List, take, drop, length, Result, Err}
 use Rattle.tau_base.specs.declared.limits.TheConstants.{MAX_BODY}
 use Rattle.tau_block.specs.Image.{tail_of}
 use Rattle.tau_disk.specs.declared.disk.Disk.{Ghosts}
+use Rattle.tau_disk.specs.Disk.{Passes, Rose}
+use Rattle.tau_disk.specs.Plan.{HasMade}
+use Rattle.tau_stream.specs.declared.flush.Flush.{Flush}
+use Rattle.tau_stream.specs.declared.flush.Flush.TheVariants.{NoMemory, Failed, Idle}
 use Rattle.tau_stream.specs.declared.writer.Writer.{Writer}
-use Rattle.tau_stream.specs.Stream.{IsSettled}
+use Rattle.tau_stream.specs.Stream.{IsOldOrNew, IsSettled, MayHold}
 
 module _ {D : Type 0} {G : Ghosts D} where
   abbrev pub disk_of : Writer D G → D
@@ -51,3 +55,29 @@ module _ {D : Type 0} {G : Ghosts D} where
   pub record IsReady (n j : ℕ) (writer : Writer D G) (content : List ℕ) : Type 0 where
     pub settled : IsSettled n j (G.seen writer.disk) (G.may_leave writer.disk) writer.gate_at content
     pub counts : writer.durable ≡ length content
+
+  -- the content up to there is durable now
+  pub record Flushed (upto : ℕ) (old new : Writer D G) : Type 0 where
+    pub durable : durable_of new ≡ upto
+    pub left : left_of new ≡ drop (upto - durable_of old) (left_of old)
+    pub works : has_failed new ≡ false
+    pub done : G.tells → (n j : ℕ) (content : List ℕ) → IsReady n j old content → IsReady n j new (content ++ part_upto old upto)
+
+  -- nothing more is durable, nothing was taken off, and some image has the old content
+  pub record StaysUnflushed (old new : Writer D G) : Type 0 where
+    pub durable : durable_of new ≡ durable_of old
+    pub left : left_of new ≡ left_of old
+    pub reached : G.tells → (n j : ℕ) (content : List ℕ) → IsReady n j old content → MayHold n j content (G.may_leave (disk_of new))
+
+  -- What is said of a flush up to there, however it ends. At each moment every image has the old content or the new one. It
+  -- makes four calls of the disk, or is idle and makes none.
+  pub record Flushes {T : Type 0} (upto : ℕ) (old new : Writer D G) (result : Result T Flush) : Type 0 where
+    pub moments : G.tells → (n j : ℕ) (content : List ℕ) → IsReady n j old content →
+        Passes G.moment G.may_leave_since (disk_of old) (disk_of new) (IsOldOrNew n j content (part_upto old upto))
+    pub plan : G.tells → (upto ≡ durable_of old → ⊥) → HasMade 4 (G.number (disk_of old)) (G.number (disk_of new)) (G.fails (disk_of old)) (G.fails (disk_of new)) (G.short (disk_of old)) (G.short (disk_of new)) result
+    pub idle : (result ≡ Err Idle) ↔ (upto ≡ durable_of old)
+    pub idle_same : result ≡ Err Idle → new ≡ old
+    pub failed : result ≡ Err Failed → (Rose (G.faults (disk_of old)) (G.faults (disk_of new))) × (has_failed new ≡ true)
+    pub memory : result ≡ Err NoMemory → ⊥
+    pub added : added_of new ≡ added_of old
+    pub faults : G.faults (disk_of old) ≤ G.faults (disk_of new)

@@ -1,10 +1,10 @@
 // The writer of one log stream.
-ghost use Rattle.std.specs.Prelude.{◌≡◌, ◌⊎◌, ◌+◌, ◌-◌, ◌*◌, ◌<◌, ◌≤◌, ◌^◌, ◌++◌, ◌↔◌, [], ◌∷◌, List, ℕ, Bool, true, false, length, take, drop, vec_len, vec_capacity, OnOk, OnErr, IfOk, IfErr, Err};
-ghost use Rattle.tau_base.specs.declared.limits.TheConstants.{MAX_BODY, MAX_CATALOGUE, MAX_STREAMS};
-ghost use Rattle.tau_block.specs.Image.{IsBody, header_of, tail_of};
+ghost use Rattle.std.specs.Prelude.{◌≡◌, ◌+◌, ◌*◌, ◌<◌, ◌≤◌, ◌^◌, ◌++◌, [], List, ℕ, false, length, drop, vec_len, vec_capacity, OnOk, OnErr, IfOk, IfErr};
+ghost use Rattle.tau_base.specs.declared.limits.TheConstants.{MAX_CATALOGUE, MAX_STREAMS};
+ghost use Rattle.tau_block.specs.Image.{IsBody, tail_of};
 ghost use Rattle.tau_disk.specs.Disk.{Passes, Rose, HasCause};
 ghost use Rattle.tau_disk.specs.Plan.{HasMade, MadeAll, MadeSome};
-ghost use Rattle.tau_stream.specs.Stream.{IsOldOrNew, IsSettled, IsUnborn, MayHold, catalogue_record};
+ghost use Rattle.tau_stream.specs.Stream.{IsOldOrNew, IsSettled, IsUnborn, catalogue_record};
 
 use crate::{Flush, publish, publish_gated};
 use std::alloc::Global;
@@ -33,7 +33,7 @@ pub struct Writer<D: Disk> {
 }
 
 impl<D: Disk> Writer<D> {
-    ghost use Rattle.tau_stream.specs.Writer.{disk_of, durable_of, gathered_of, left_of, added_of, has_failed, part_upto, MayReach, IsPrepared, IsReady};
+    ghost use Rattle.tau_stream.specs.Writer.{disk_of, durable_of, gathered_of, left_of, added_of, has_failed, Flushed, Flushes, MayReach, IsPrepared, IsReady, StaysUnflushed};
 
     /// Creates stream `j` of `n` on an empty disk: the header, and one block with the catalogue's record. It makes six
     /// calls of the disk. A refusal hands the disk back; it is never Idle.
@@ -179,27 +179,9 @@ impl<D: Disk> Writer<D> {
         requires prepared { IsPrepared self.old upto }
         requires works { has_failed self.old ≡ false }
 
-        ensures durable { OnOk result (durable_of self.new ≡ upto) }
-        ensures left { OnOk result (left_of self.new ≡ drop (upto - durable_of self.old) (left_of self.old)) }
-        ensures works { OnOk result (has_failed self.new ≡ false) }
-        ensures done { OnOk result (D.tells → (n j : ℕ) (content : List ℕ) → IsReady n j self.old content →
-            IsReady n j self.new (content ++ part_upto self.old upto)) }
-
-        // At each moment every image has the old content or the new one.
-        ensures moments { D.tells → (n j : ℕ) (content : List ℕ) → IsReady n j self.old content →
-            Passes D.moment D.may_leave_since (disk_of self.old) (disk_of self.new) (IsOldOrNew n j content (part_upto self.old upto)) }
-
-        // After a failure some image has the old content.
-        ensures reached { OnErr result (D.tells → (n j : ℕ) (content : List ℕ) → IsReady n j self.old content → MayHold n j content (D.may_leave (disk_of self.new))) }
-        ensures plan { D.tells → (upto ≡ durable_of self.old → ⊥) → HasMade 4 (D.number (disk_of self.old)) (D.number (disk_of self.new)) (D.fails (disk_of self.old)) (D.fails (disk_of self.new)) (D.short (disk_of self.old)) (D.short (disk_of self.new)) result }
-        ensures idle { (result ≡ Err Flush.Idle) ↔ (upto ≡ durable_of self.old) }
-        ensures idle_same { result ≡ Err Flush.Idle → self.new ≡ self.old }
-        ensures failed { result ≡ Err Flush.Failed → (Rose (D.faults (disk_of self.old)) (D.faults (disk_of self.new))) × (has_failed self.new ≡ true) }
-        ensures memory { result ≡ Err Flush.NoMemory → ⊥ }
-        ensures stays { OnErr result (durable_of self.new ≡ durable_of self.old) }
-        ensures stays_left { OnErr result (left_of self.new ≡ left_of self.old) }
-        ensures added { added_of self.new ≡ added_of self.old }
-        ensures faults { D.faults (disk_of self.old) ≤ D.faults (disk_of self.new) }
+        ensures flushed { OnOk result (Flushed upto self.old self.new) }
+        ensures stays { OnErr result (StaysUnflushed self.old self.new) }
+        ensures flushes { Flushes upto self.old self.new result }
     {
         self.flush_gated(upto, &Quiet)
     }
@@ -209,27 +191,9 @@ impl<D: Disk> Writer<D> {
         requires prepared { IsPrepared self.old upto }
         requires works { has_failed self.old ≡ false }
 
-        ensures durable { OnOk result (durable_of self.new ≡ upto) }
-        ensures left { OnOk result (left_of self.new ≡ drop (upto - durable_of self.old) (left_of self.old)) }
-        ensures works { OnOk result (has_failed self.new ≡ false) }
-        ensures done { OnOk result (D.tells → (n j : ℕ) (content : List ℕ) → IsReady n j self.old content →
-            IsReady n j self.new (content ++ part_upto self.old upto)) }
-
-        // At each moment every image has the old content or the new one.
-        ensures moments { D.tells → (n j : ℕ) (content : List ℕ) → IsReady n j self.old content →
-            Passes D.moment D.may_leave_since (disk_of self.old) (disk_of self.new) (IsOldOrNew n j content (part_upto self.old upto)) }
-
-        // After a failure some image has the old content.
-        ensures reached { OnErr result (D.tells → (n j : ℕ) (content : List ℕ) → IsReady n j self.old content → MayHold n j content (D.may_leave (disk_of self.new))) }
-        ensures plan { D.tells → (upto ≡ durable_of self.old → ⊥) → HasMade 4 (D.number (disk_of self.old)) (D.number (disk_of self.new)) (D.fails (disk_of self.old)) (D.fails (disk_of self.new)) (D.short (disk_of self.old)) (D.short (disk_of self.new)) result }
-        ensures idle { (result ≡ Err Flush.Idle) ↔ (upto ≡ durable_of self.old) }
-        ensures idle_same { result ≡ Err Flush.Idle → self.new ≡ self.old }
-        ensures failed { result ≡ Err Flush.Failed → (Rose (D.faults (disk_of self.old)) (D.faults (disk_of self.new))) × (has_failed self.new ≡ true) }
-        ensures memory { result ≡ Err Flush.NoMemory → ⊥ }
-        ensures stays { OnErr result (durable_of self.new ≡ durable_of self.old) }
-        ensures stays_left { OnErr result (left_of self.new ≡ left_of self.old) }
-        ensures added { added_of self.new ≡ added_of self.old }
-        ensures faults { D.faults (disk_of self.old) ≤ D.faults (disk_of self.new) }
+        ensures flushed { OnOk result (Flushed upto self.old self.new) }
+        ensures stays { OnErr result (StaysUnflushed self.old self.new) }
+        ensures flushes { Flushes upto self.old self.new result }
     {
         if upto == self.durable {
             return Err(Flush::Idle);

@@ -12,14 +12,14 @@ persist-requires-clause-high g c =
 
 pub returns-in-Ok-clause-keeps : goal.returns-in-Ok-clause-keeps
 returns-in-Ok-clause-keeps g c = λ n j base w0 d.
-    (driven-flushed n j base w0 g.met.D.Disk.seen_now g.met.D.Disk.counts_now g.met.D.Disk.only_now c.args.seat.now c.persist.new.self c.args.writer.now c.flush_gated.new.self d c.requires.works c.args.upto c.requires.all c.flush_gated.ensures.moments c.flush_gated.ensures.faults
-    c.agrees.ensures c.persist.ensures.knows c.in-Ok.ensures.durable c.in-Ok.ensures.left c.in-Ok.ensures.works c.in-Ok.ensures.done
-    (λ tells. made-goes g.D.Disk c.args.writer.now.disk c.flush_gated.new.self.disk c.in-Ok.field-0 c.flush_gated.result c.in-Ok.is (c.flush_gated.ensures.plan tells (λ e. let bad = sym c.in-Ok.is ∙ c.flush_gated.ensures.idle.1 e in cc)))).0
+    (driven-flushed n j base w0 g.met.D.Disk.seen_now g.met.D.Disk.counts_now g.met.D.Disk.only_now c.args.seat.now c.persist.new.self c.args.writer.now c.flush_gated.new.self d c.requires.works c.args.upto c.requires.all c.flush_gated.ensures.flushes.moments c.flush_gated.ensures.flushes.faults
+    c.agrees.ensures c.persist.ensures.knows c.in-Ok.ensures.flushed.durable c.in-Ok.ensures.flushed.left c.in-Ok.ensures.flushed.works c.in-Ok.ensures.flushed.done
+    (λ tells. made-goes g.D.Disk c.args.writer.now.disk c.flush_gated.new.self.disk c.in-Ok.field-0 c.flush_gated.result c.in-Ok.is (c.flush_gated.ensures.flushes.plan tells (λ e. let bad = sym c.in-Ok.is ∙ c.flush_gated.ensures.flushes.idle.1 e in cc)))).0
 
 pub returns-in-Err-Failed-clause-keeps : goal.returns-in-Err-Failed-clause-keeps
 returns-in-Err-Failed-clause-keeps g c = λ n j base w0 d.
     let err = rw c.in-Err-Failed.field-0-is at c.in-Err-Failed.is in
-    let failed = c.flush_gated.ensures.failed err in
-    (driven-broke n j base w0 g.met.D.Disk.seen_now g.met.D.Disk.counts_now g.met.D.Disk.only_now c.args.seat.now c.stop.new.self c.args.writer.now c.flush_gated.new.self d c.requires.works c.args.upto c.requires.all c.flush_gated.ensures.moments c.flush_gated.ensures.faults
-    c.stop.ensures.knows c.in-Err-Failed.ensures.stays failed.1 failed.0 c.in-Err-Failed.ensures.reached
-    (λ tells. made-stops g.D.Disk c.args.writer.now.disk c.flush_gated.new.self.disk flush.Failed c.flush_gated.result err (c.flush_gated.ensures.plan tells (λ e. let bad = sym err ∙ c.flush_gated.ensures.idle.1 e in cc)))).0
+    let failed = c.flush_gated.ensures.flushes.failed err in
+    (driven-broke n j base w0 g.met.D.Disk.seen_now g.met.D.Disk.counts_now g.met.D.Disk.only_now c.args.seat.now c.stop.new.self c.args.writer.now c.flush_gated.new.self d c.requires.works c.args.upto c.requires.all c.flush_gated.ensures.flushes.moments c.flush_gated.ensures.flushes.faults
+    c.stop.ensures.knows c.in-Err-Failed.ensures.stays.durable failed.1 failed.0 c.in-Err-Failed.ensures.stays.reached
+    (λ tells. made-stops g.D.Disk c.args.writer.now.disk c.flush_gated.new.self.disk flush.Failed c.flush_gated.result err (c.flush_gated.ensures.flushes.plan tells (λ e. let bad = sym err ∙ c.flush_gated.ensures.flushes.idle.1 e in cc)))).0

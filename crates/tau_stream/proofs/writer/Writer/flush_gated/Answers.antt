@@ -1,4 +1,4 @@
-use Rattle.std.proofs.Common.{◌≡◌, ℕ, ◌+◌, ◌-◌, ◌<◌, ◌≤◌, ◌∙◌, ◌++◌, subst, length, ap, arith, length-append, length-drop}
+use Rattle.std.proofs.Common.{◌≡◌, ℕ, ◌+◌, ◌-◌, ◌<◌, ◌≤◌, ◌∙◌, ◌++◌, subst, length, ap, arith, rules, length-append, length-drop}
 use Rattle.tau_stream.specs.Stream.{IsSettled}
 use Rattle.tau_stream.specs.Writer.{part_upto}
 use Rattle.tau_stream.proofs.Tears.{content_now}
@@ -23,36 +23,81 @@ invariant_of-self g c =
       limit = w.limit;
     }
 
-pub returns-in-Ok-clause-done : goal.returns-in-Ok-clause-done
-returns-in-Ok-clause-done g c = λ tells n j content ready.
+pub returns-in-Ok-clause-flushed : goal.returns-in-Ok-clause-flushed
+returns-in-Ok-clause-flushed g c =
     let w = c.args.self.now in
     let reach = c.requires.prepared.reach in
     let some : w.durable < c.args.upto = omega (arith, reach.not_before, c.if-upto-self.false) in
-    let settled = c.in-Ok.ensures.done tells n j content (part_upto w c.args.upto) ready.settled (part_is w c.args.upto reach some) (c.deref.ensures.value ∙ c.requires.prepared.block some) in
     let size : length c.deref.result.now ≡ c.len.result = omega (arith, c.len.ensures, ap length c.deref.ensures.value) in
     record {
-      settled = subst (λ (long : ℕ). IsSettled n j (g.D.Disk.seen c.publish_gated.new.disk) (g.D.Disk.may_leave c.publish_gated.new.disk) (w.gate_at + long) (content ++ part_upto w c.args.upto)) size settled;
-      counts = omega (arith, ready.counts, length-append content (part_upto w c.args.upto), length-part w c.args.upto reach some, reach.not_before);
+      durable = search rules;
+      left = search rules;
+      works = search rules;
+      done = λ tells n j content ready. record {
+        settled = subst (λ (long : ℕ). IsSettled n j (g.D.Disk.seen c.publish_gated.new.disk) (g.D.Disk.may_leave c.publish_gated.new.disk) (w.gate_at + long) (content ++ part_upto w c.args.upto)) size
+            (c.in-Ok.ensures.done tells n j content (part_upto w c.args.upto) ready.settled (part_is w c.args.upto reach some) (c.deref.ensures.value ∙ c.requires.prepared.block some));
+        counts = omega (arith, ready.counts, length-append content (part_upto w c.args.upto), length-part w c.args.upto reach some, reach.not_before);
+      };
     }
 
-pub returns-in-Ok-clause-moments : goal.returns-in-Ok-clause-moments
-returns-in-Ok-clause-moments g c = λ tells n j content ready.
+pub returns-in-Ok-clause-flushes : goal.returns-in-Ok-clause-flushes
+returns-in-Ok-clause-flushes g c =
     let w = c.args.self.now in
     let reach = c.requires.prepared.reach in
     let some : w.durable < c.args.upto = omega (arith, reach.not_before, c.if-upto-self.false) in
-    c.publish_gated.ensures.moments tells n j content (part_upto w c.args.upto) ready.settled (part_is w c.args.upto reach some) (c.deref.ensures.value ∙ c.requires.prepared.block some)
+    record {
+      moments = λ tells n j content ready.
+          c.publish_gated.ensures.moments tells n j content (part_upto w c.args.upto) ready.settled (part_is w c.args.upto reach some) (c.deref.ensures.value ∙ c.requires.prepared.block some);
+      plan = search rules;
+      idle = search rules;
+      idle_same = search rules;
+      failed = search rules;
+      memory = search rules;
+      added = search rules;
+      faults = search rules;
+    }
 
-pub returns-in-Err-clause-moments : goal.returns-in-Err-clause-moments
-returns-in-Err-clause-moments g c = λ tells n j content ready.
+pub returns-in-Err-clause-stays : goal.returns-in-Err-clause-stays
+returns-in-Err-clause-stays g c = record {
+  durable = search rules;
+  left = search rules;
+  reached = λ tells n j content ready. c.in-Err.ensures.reached tells n j content ready.settled;
+}
+
+pub returns-in-Err-clause-flushes : goal.returns-in-Err-clause-flushes
+returns-in-Err-clause-flushes g c =
     let w = c.args.self.now in
     let reach = c.requires.prepared.reach in
     let some : w.durable < c.args.upto = omega (arith, reach.not_before, c.if-upto-self.false) in
-    c.publish_gated.ensures.moments tells n j content (part_upto w c.args.upto) ready.settled (part_is w c.args.upto reach some) (c.deref.ensures.value ∙ c.requires.prepared.block some)
+    record {
+      moments = λ tells n j content ready.
+          c.publish_gated.ensures.moments tells n j content (part_upto w c.args.upto) ready.settled (part_is w c.args.upto reach some) (c.deref.ensures.value ∙ c.requires.prepared.block some);
+      plan = search rules;
+      idle = search rules;
+      idle_same = search rules;
+      failed = search rules;
+      memory = search rules;
+      added = search rules;
+      faults = search rules;
+    }
 
-pub returns-in-Err-clause-reached : goal.returns-in-Err-clause-reached
-returns-in-Err-clause-reached g c = λ tells n j content ready. c.in-Err.ensures.reached tells n j content ready.settled
-
-pub returns-then-upto-self-clause-reached : goal.returns-then-upto-self-clause-reached
-returns-then-upto-self-clause-reached g c = λ tells n j content ready.
+pub returns-then-upto-self-clause-stays : goal.returns-then-upto-self-clause-stays
+returns-then-upto-self-clause-stays g c =
     let w = c.args.self.now in
-    (g.D.Disk.seen w.disk, g.met.D.Disk.seen_now w.disk tells, content_now n j (g.D.Disk.seen w.disk) w.gate_at content ready.settled.log)
+    record {
+      durable = search rules;
+      left = search rules;
+      reached = λ tells n j content ready. (g.D.Disk.seen w.disk, g.met.D.Disk.seen_now w.disk tells, content_now n j (g.D.Disk.seen w.disk) w.gate_at content ready.settled.log);
+    }
+
+pub returns-then-upto-self-clause-flushes : goal.returns-then-upto-self-clause-flushes
+returns-then-upto-self-clause-flushes g c = record {
+  moments = search rules;
+  plan = search rules;
+  idle = search rules;
+  idle_same = search rules;
+  failed = search rules;
+  memory = search rules;
+  added = search rules;
+  faults = search rules;
+}
