@@ -1,14 +1,13 @@
 -- What the calls of an opening make of a disk.
-use Rattle.std.proofs.Common.{ℕ, zero, suc, ◌≡◌, ◌+◌, ◌-◌, ◌<◌, ◌≤◌, ◌⊎◌, List, [], refl, sym, ap, ◌∙◌, subst, inl, inr, true, false, length, arith}
-use Rattle.std.specs.Prelude.{Bool, nat_lt}
+use Rattle.std.proofs.Common.{ℕ, ◌≡◌, ◌+◌, ◌-◌, ◌<◌, ◌≤◌, ◌⊎◌, List, refl, sym, ◌∙◌, subst, inl, inr, true, false, arith}
+use Rattle.std.specs.Prelude.{nat_lt}
 use Rattle.std.proofs.lemmas.Bool.{cases_Bool}
 use Rattle.std.proofs.lemmas.Bool.Decides.{nat_tests}
 use Rattle.tau_disk.specs.declared.disk.Disk.{Ghosts}
-use Rattle.tau_disk.specs.Disk.{Rose, Elapses, Passes, WasToFail, WasRefused}
-use Rattle.tau_disk.specs.Plan.{MadeAll, MadeSome}
+use Rattle.tau_disk.specs.Disk.{Rose, Elapses, WasToFail, WasRefused}
+use Rattle.tau_disk.specs.Plan.{MadeSome}
 use Rattle.tau_disk.specs.Used.{OnlyRead, IsClean, IsStopped, AllCalls, GoesOn}
-use Rattle.tau_open.specs.Outside.{calls_to_make, calls_to_open}
-use Rattle.tau_open.specs.Opening.{Went, Broke, Begins, Asked, FailsAsked, IsCreated, FailsCreated, IsOpened, FailsOpened}
+use Rattle.tau_open.specs.Opening.{Went, Broke}
 
 module _ {D : Type 0} (G : Ghosts D) where
   -- one call that read

@@ -1,5 +1,5 @@
 -- What the asking and the making come to together.
-use Rattle.std.proofs.Common.{ℕ, ◌≡◌, ◌+◌, ◌<◌, ◌≤◌, List, [], ◌++◌, refl, sym, ap, ◌∙◌, subst, inl, inr, true, false, length, map, take, drop, reverse, get_or, arith}
+use Rattle.std.proofs.Common.{ℕ, ◌≡◌, ◌+◌, ◌<◌, ◌≤◌, List, [], ◌++◌, refl, sym, ap, ◌∙◌, subst, inl, inr, true, length, map, take, drop, reverse, get_or, arith}
 use Rattle.std.specs.Prelude.{Some, slice_get, nat_le, Result, Err}
 use Rattle.std.proofs.lemmas.Bool.{cases_eq}
 use Rattle.std.proofs.lemmas.Bool.Decides.{nat_tests}
@@ -13,10 +13,10 @@ use Rattle.tau_stream.specs.Stream.{IsOldOrNew, IsUnborn}
 use Rattle.tau_stream.specs.Writer.{disk_of}
 use Rattle.tau_open.specs.declared.refusal.OpenRefusal.{OpenRefusal}
 use Rattle.tau_open.specs.declared.refusal.OpenRefusal.TheVariants.{NoMemory, Failed, NotEmpty}
-use Rattle.tau_disk.specs.Used.{EachIn, EachUsed, OfDisk, AreEmpty, IsFirstLong, OnlyRead}
-use Rattle.tau_open.specs.Opening.{Went, Broke, Begins, Asked, FailsAsked, IsCreated, FailsCreated, IsOpened, FailsOpened, AreAsked, FailsAsking, FailsMaking, GivesUp, Refuses, AreOpened}
+use Rattle.tau_disk.specs.Used.{EachIn, OfDisk, AreEmpty, IsFirstLong, OnlyRead}
+use Rattle.tau_open.specs.Opening.{Begins, Asked, IsCreated, FailsCreated, IsOpened, FailsOpened, AreAsked, FailsAsking, FailsMaking, GivesUp, Refuses, AreOpened}
 use Rattle.tau_open.specs.Creating.{Creating, StopsCreating, Stops}
-use Rattle.tau_open.proofs.Places.{some_is, get_dropped, dropped_more, each_then, each_weaker}
+use Rattle.tau_open.proofs.Places.{some_is, get_dropped, dropped_more, each_then}
 use Rattle.tau_open.proofs.Calls.{went_on, went_broke}
 
 -- an unborn image has no content

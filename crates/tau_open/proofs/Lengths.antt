@@ -1,7 +1,7 @@
 -- The first disk with a length, among those that were asked.
-use Rattle.std.proofs.Common.{ℕ, ◌≡◌, ◌+◌, ◌<◌, ◌≤◌, List, [], ◌∷◌, refl, sym, ap, ◌∙◌, subst, inl, inr, true, false, length, arith}
+use Rattle.std.proofs.Common.{ℕ, ◌≡◌, ◌+◌, ◌<◌, List, [], ◌∷◌, refl, sym, ◌∙◌, subst, inl, inr, true, false, length, arith}
 use Rattle.std.specs.Prelude.{Option, Some, None, slice_get, Bool, ◌==◌, cond}
-use Rattle.std.proofs.lemmas.Bool.{cases_eq, cases_Bool}
+use Rattle.std.proofs.lemmas.Bool.{cases_eq}
 use Rattle.std.proofs.lemmas.Bool.Decides.{nat_tests}
 use Rattle.tau_disk.specs.Used.{AreEmpty, IsFirstLong}
 use Rattle.tau_open.specs.Opening.{lower_of}

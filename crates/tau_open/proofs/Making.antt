@@ -1,5 +1,5 @@
 -- One more stream is made, or is not.
-use Rattle.std.proofs.Common.{ℕ, suc, ◌≡◌, ◌+◌, ◌-◌, ◌<◌, ◌≤◌, List, [], ◌∷◌, ◌++◌, refl, sym, ap, ◌∙◌, subst, inl, inr, length, map, drop, arith}
+use Rattle.std.proofs.Common.{ℕ, suc, ◌≡◌, ◌+◌, ◌<◌, List, [], ◌∷◌, ◌++◌, refl, sym, ap, ◌∙◌, subst, inl, inr, length, map, drop, arith}
 use Rattle.std.specs.Prelude.{Some, slice_get}
 use Rattle.std.proofs.lemmas.Bool.{cases_eq}
 use Rattle.std.proofs.lemmas.List.{length-append, length-map, length-drop, map-append, drop-drop}
@@ -12,7 +12,7 @@ use Rattle.tau_open.specs.declared.refusal.OpenRefusal.TheVariants.{NoMemory, Fa
 use Rattle.tau_disk.specs.Used.{EachIn, AreEmpty, OfDisk}
 use Rattle.tau_open.specs.Opening.{IsCreated, FailsCreated, IsBegun}
 use Rattle.tau_open.specs.Creating.{CreatesNext, KeepsPlace, Creating, StopsCreating, Stops, Fails}
-use Rattle.tau_open.proofs.Places.{some_is, get_append, get_seam, get_drop, get_dropped, dropped_more, each_moved}
+use Rattle.tau_open.proofs.Places.{some_is, get_append, get_seam, get_drop, each_moved}
 
 module _ {D : Type 0} (G : Ghosts D) (n : ℕ) (content : List ℕ) where
   -- the first disk that is left is the j-th

@@ -20,9 +20,8 @@ pub fn ask_lengths<D: Disk>(disks: &mut [D], n: u8) -> Result<(), OpenRefusal>
 {
     let mut first = None;
     for j in 0..n {
-        let length = match disks[j as usize].len() {
-            Ok(length) => length,
-            Err(_) => return Err(OpenRefusal::Failed { stream: j }),
+        let Ok(length) = disks[j as usize].len() else {
+            return Err(OpenRefusal::Failed { stream: j });
         };
         first = lower(first, j, length);
     }

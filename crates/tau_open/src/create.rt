@@ -33,10 +33,7 @@ pub fn create_streams<D: Disk>(
     ensures capacity { vec_capacity stack.new ≡ vec_capacity stack.old }
 {
     for j in 0..n {
-        match create_next(alloc, stack, writers, n, j, catalogue) {
-            Ok(()) => {}
-            Err(refusal) => return Err(refusal),
-        }
+        create_next(alloc, stack, writers, n, j, catalogue)?;
     }
     Ok(())
 }

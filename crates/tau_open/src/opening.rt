@@ -52,10 +52,8 @@ pub fn open_streams<D: Disk>(
     ensures capacity { vec_capacity disks.new ≡ vec_capacity disks.old }
     ensures room { IfOk result (λ writers. vec_len disks.new + vec_len writers ≤ vec_capacity disks.new) }
 {
-    match Vec::with_capacity(alloc, usize::from(n)) {
-        Ok(room) => open_into(alloc, disks, room, n, catalogue),
-        Err(_) => Err(OpenRefusal::NoMemory),
-    }
+    let room = Vec::with_capacity(alloc, usize::from(n))?;
+    open_into(alloc, disks, room, n, catalogue)
 }
 
 // Opens the streams into a list that has room for their writers.

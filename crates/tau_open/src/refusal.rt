@@ -1,4 +1,8 @@
 //! Why the streams were not opened.
+ghost use Rattle.std.specs.Prelude.{◌≡◌};
+ghost use Rattle.tau_open.specs.declared.refusal.OpenRefusal.TheVariants.{NoMemory};
+
+use std::alloc::AllocError;
 use thiserror::Error;
 
 /// Why the streams of a run were not opened.
@@ -21,4 +25,12 @@ pub enum OpenRefusal {
         /// The disk's length in bytes.
         length: u64,
     },
+}
+
+impl From<AllocError> for OpenRefusal {
+    ghost from_gives = { λ _ refusal. refusal ≡ NoMemory };
+
+    fn from(_e: AllocError) -> OpenRefusal {
+        OpenRefusal::NoMemory
+    }
 }

@@ -1,4 +1,4 @@
-use Rattle.std.proofs.Common.{ℕ, ◌≡◌, ◌+◌, ◌<◌, ◌≤◌, List, get_or, length, sym, ◌∙◌, subst, arith}
+use Rattle.std.proofs.Common.{ℕ, ◌≡◌, ◌+◌, ◌<◌, get_or, length, sym, ◌∙◌, subst, arith}
 use Rattle.std.specs.Prelude.{Option, Some, slice_get}
 use Rattle.std.proofs.Math.ListN.{set}
 use Rattle.std.proofs.lemmas.Option.{slice_get-get_or}
@@ -8,14 +8,14 @@ use Rattle.tau_open.proofs.Lengths.{Found, found_more}
 use Rattle.tau_open.proofs.Asking.{asked_more, asking_fails}
 use Rattle.tau_open.proofs.ask.ask_lengths.Goals as goal
 
-pub returns-in-Err-clause-failed : goal.returns-in-Err-clause-failed
-returns-in-Err-clause-failed g c j e =
+pub returns-in_default-clause-failed : goal.returns-in_default-clause-failed
+returns-in_default-clause-failed g c j e =
     let is : c.loop-j.j ≡ j = cc in
     let lt : c.loop-j.j < length c.loop-j.disks = omega (arith, c.loop-j-test.true, c.loop-j.invariant.0.many) in
     let here : slice_get c.loop-j.disks c.loop-j.j ≡ Some (get_or c.loop-j.disks c.loop-j.j c.index-disks-j.result) = slice_get-get_or c.loop-j.disks c.loop-j.j c.index-disks-j.result lt in
     let fails : FailsAsking g.D.Disk c.loop-j.j c.args.disks.now (set c.loop-j.disks c.loop-j.j c.len.new.self) =
     asking_fails g.D.Disk c.args.disks.now c.loop-j.disks c.loop-j.j (get_or c.loop-j.disks c.loop-j.j c.index-disks-j.result) c.len.new.self c.loop-j.invariant.0 lt here
-    c.len.ensures.seen c.len.ensures.crash c.len.ensures.keeps c.len.ensures.time c.len.ensures.cause.later (λ t. (c.in-Err.ensures.plan t).same) c.in-Err.ensures.cause.failed (λ t. (c.in-Err.ensures.plan t).failed) in
+    c.len.ensures.seen c.len.ensures.crash c.len.ensures.keeps c.len.ensures.time c.len.ensures.cause.later (λ t. (c.in_default.ensures.plan t).same) c.in_default.ensures.cause.failed (λ t. (c.in_default.ensures.plan t).failed) in
     (omega (arith, is, c.loop-j-test.true), subst (λ (i : ℕ). FailsAsking g.D.Disk i c.args.disks.now (set c.loop-j.disks c.loop-j.j c.len.new.self)) is fails)
 
 pub loop-j-preserved : goal.loop-j-preserved

@@ -1,4 +1,4 @@
-use Rattle.std.proofs.Common.{◌≡◌, ◌++◌, [], ◌∷◌, List, reverse, ap, ◌∙◌}
+use Rattle.std.proofs.Common.{[], ◌∷◌, List, reverse, ap, ◌∙◌}
 use Rattle.std.proofs.lemmas.List.{reverse-append}
 use Rattle.tau_open.proofs.create.create_next.Goals as goal
 

@@ -1,4 +1,4 @@
-use Rattle.std.proofs.Common.{ℕ, ◌≡◌, ◌++◌, List, map, drop, take, reverse, length, sym, ap, ◌∙◌, subst, arith}
+use Rattle.std.proofs.Common.{◌≡◌, ◌++◌, List, map, reverse, length, sym, ◌∙◌, subst, arith}
 use Rattle.tau_stream.specs.Stream.{catalogue_record}
 use Rattle.tau_stream.specs.Writer.{disk_of}
 use Rattle.tau_disk.specs.Used.{AreEmpty}
