@@ -1,17 +1,18 @@
 -- Reading one thing after the other, as a loop does.
-use Rattle.std.proofs.Common.{◌≡◌, ℕ, suc, ◌+◌, ◌-◌, ◌/◌, ◌%◌, ◌≤◌, ◌<◌, List, [], ◌∷◌, ◌++◌, length, get_or, set, take, drop, Result, Ok, Err, refl, sym, ap, subst, ◌∙◌, append_assoc, arith}
+use Rattle.std.proofs.Common.{◌≡◌, ℕ, suc, ◌+◌, ◌-◌, ◌/◌, ◌%◌, ◌≤◌, ◌<◌, List, [], ◌∷◌, ◌++◌, length, get_or, set, take, drop, map, Result, Ok, Err, refl, sym, ap, subst, ◌∙◌, append_assoc, arith}
 use Rattle.std.proofs.Math.Seq.{drop-cons, take-suc-set}
 use Rattle.std.specs.List.{flat_map, AllByRecursion}
-use Rattle.std.proofs.lemmas.List.{append-nil, drop_all, take_all, take_more}
+use Rattle.std.proofs.lemmas.List.{append-nil, drop_all, map-append, take_all, take_more}
 use Rattle.std.proofs.lemmas.List.Concat.{flat_map-cons}
 use Rattle.std.proofs.lemmas.Grind.{flat_map-append}
 use Rattle.tau_record.specs.declared.fault.RecordCause.{RecordCause}
 use Rattle.tau_record.specs.declared.fault.FieldError.{FieldError}
 use Rattle.tau_record.specs.declared.fault.FieldError.TheVariants as errors
 use Rattle.tau_record.specs.Field.{◌>>=◌, Fails}
-use Rattle.std.proofs.Common.{Option, Some}
+use Rattle.std.proofs.Common.{Option, Some, ℤ}
 use Rattle.tau_base.specs.declared.value.Key.{Key}
 use Rattle.tau_base.specs.declared.value.Value.{Value}
+use Rattle.tau_base.specs.declared.value.Value.TheVariants.{Int}
 use Rattle.tau_record.specs.Vector.{part_at, parts_at}
 use Rattle.tau_record.specs.Item.{write_at, writes_at, value_at, args_at}
 use Rattle.tau_record.specs.Record.{lv_at}
@@ -77,6 +78,15 @@ writes_done front count i last bytes total le so_far =
     let k : count - i ≡ 0 = omega arith in
     let one : with_front front (writes_at (count - i) last bytes) ≡ Ok (front, bytes) = rw k (ap (λ (ws : List (Key × Value)). Ok (ws, bytes)) (append-nil front)) in
     sym so_far ∙ one
+
+-- ---- writes of whole numbers
+
+abbrev pub whole : Key × ℤ → Key × Value
+whole r = (r.0, Int r.1)
+
+pub numbers_go_on : (front : List (Key × ℤ)) (count i : ℕ) (last : Option Key) (bytes : List ℕ) (n : Key × ℤ) (after : List ℕ) (total : Result (List (Key × Value) × List ℕ) RecordCause) → i < count → write_at last bytes ≡ Ok (whole n, after)
+    → with_front (map whole front) (writes_at (count - i) last bytes) ≡ total → with_front (map whole (front ++ n ∷ [])) (writes_at (count - (i + 1)) (Some n.0) after) ≡ total
+numbers_go_on front count i last bytes n after total lt h so_far = rw (map-append whole front (n ∷ [])) (writes_go_on (map whole front) count i last bytes (whole n) after total lt h so_far)
 
 -- ---- writing one thing after the other
 

@@ -182,3 +182,14 @@ mask_bits (low ∷ base) (part ∷ dep) (suc j) len lt =
     let bit = bit_of-lt low part in
     let half : (bit_of low part + 2 * mask_of base dep) / 2 ≡ mask_of base dep = omega (arith, bit) in
     bit_at-suc (bit_of low part + 2 * mask_of base dep) j ∙ ap (λ (m : ℕ). bit_at m j) half ∙ mask_bits base dep j (omega (arith, len)) (omega arith)
+
+-- ---- a mask with no bits
+
+parts_none : (base bytes : List ℕ) → parts_at base 0 bytes ≡ Ok (base, bytes)
+unfolding parts_at part_at
+parts_none [] bytes = refl
+parts_none (low ∷ base) bytes = rw (parts_none base bytes) refl
+
+pub vector_none : (f : Format) (base bytes : List ℕ) (mask : ℕ) (rest : List ℕ) → number_at (mask_width f) bytes ≡ Ok (mask, rest) → mask ≡ 0 → vector_at f base bytes ≡ Ok (base, rest)
+unfolding vector_at
+vector_none f base bytes mask rest h none = rw (h, none, leb-lt (2 ^ length base) 0 (pow_pos (length base))) (parts_none base rest)

@@ -1,5 +1,5 @@
 -- Fields of a record, read from left to right, with the first fault that is met.
-use Rattle.std.specs.Prelude.{◌≡◌, ℕ, List, length, take, drop, Result, Ok, Err, nat_lt, if◌then◌else◌}
+use Rattle.std.specs.Prelude.{◌≡◌, ℕ, List, [], ◌∷◌, ◌++◌, length, take, drop, Result, Ok, Err, nat_lt, if◌then◌else◌}
 use Rattle.std.specs.Int.{Width, byte_len, from_be_bytes}
 use Rattle.tau_record.specs.declared.fault.RecordCause.{RecordCause}
 use Rattle.tau_record.specs.declared.fault.RecordCause.TheVariants.{BadLength}
@@ -19,6 +19,11 @@ Fails (errors.Bad f) read = read ≡ Err f
 abbrev pub Gives : {X Y : Type 0} → (X → Y) → Result X FieldError → Result Y RecordCause → Type 0
 Gives view (Ok x) read = read ≡ Ok (view x)
 Gives view (Err e) read = Fails e read
+
+-- What a function returned that put a value, which it read, after those before it, seen by view as the bytes after the value.
+abbrev pub Adds : {X V : Type 0} → (X → List ℕ) → Result X FieldError → Result (V × List ℕ) RecordCause → List V → List V → Type 0
+Adds {X} {V} view (Ok x) read before now = (v : V) × (read ≡ Ok (v, view x)) × (now ≡ before ++ v ∷ [])
+Adds view (Err e) read before now = Fails e read
 
 -- A field is a value and the bytes after it.
 abbrev pub number_at : Width → List ℕ → Result (ℕ × List ℕ) RecordCause

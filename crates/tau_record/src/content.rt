@@ -12,30 +12,54 @@ use crate::dep::KeptLv;
 use crate::entry::{Entry, Placed};
 use crate::fault::{FieldError, RecordCause, RecordRefusal, refusal_at};
 use crate::record::{command_of, frame_of, is_whole, lv_of, written_of};
-use crate::writes::KeptWrites;
 use arrayvec::ArrayVec;
 use std::alloc::Global;
 use tau_base::{Call, KeptCall, Key, Listed, Lv, MAX_CATALOGUE, Value};
 
+/// Where the parts of a record are read that are too long to be kept in the record itself: one place for all records.
+#[derive(Drop)]
+struct Reading {
+    alloc: Global,
+    dep: Lv,
+    writes: Vec<(Key, Value)>,
+    call: Call,
+}
+
+impl Reading {
+    fn new(alloc: Global) -> Reading {
+        Reading {
+            alloc,
+            dep: Lv::zero(1),
+            writes: Vec::new(alloc),
+            call: Call {
+                proc: 0,
+                args: ArrayVec::new(),
+            },
+        }
+    }
+}
+
 /// Puts a data record after those before it.
 fn put_written(
-    alloc: Global,
     vectors: &[Lv],
     fields: &[u8],
     start: u64,
     past: u64,
     placed: &mut Vec<Placed>,
-    writes: &mut Vec<(Key, Value)>,
+    reading: &mut Reading,
 ) -> Result<(), FieldError>
     ensures { Gives (λ _. (placed.new.items, vectors.now)) result (puts (written_at One vectors.now fields.now) vectors.now placed.old.items start past) }
 {
-    let mut dep = Lv::zero(1);
-    let (number, anchor, rest) = written_of(vectors, fields, &mut dep, writes)?;
+    let (number, anchor, dep, writes, rest) = written_of(
+        reading.alloc,
+        vectors,
+        fields,
+        &mut reading.dep,
+        &mut reading.writes,
+    )?;
     if !is_whole(rest) {
         return Err(FieldError::Bad(RecordCause::BadLength));
     }
-    let dep = KeptLv::of(alloc, &dep)?;
-    let writes = KeptWrites::of(alloc, writes.as_slice())?;
     placed.push(Placed {
         entry: Entry::Written {
             number,
@@ -51,27 +75,26 @@ fn put_written(
 
 /// Puts a command record after those before it.
 fn put_command(
-    alloc: Global,
     vectors: &[Lv],
     fields: &[u8],
     start: u64,
     past: u64,
     placed: &mut Vec<Placed>,
+    reading: &mut Reading,
 ) -> Result<(), FieldError>
     ensures { Gives (λ _. (placed.new.items, vectors.now)) result (puts (command_at One vectors.now fields.now) vectors.now placed.old.items start past) }
 {
-    let mut dep = Lv::zero(1);
-    let mut call = Call {
-        proc: 0,
-        args: ArrayVec::new(),
-    };
-    let (number, anchor, proc, rest) = command_of(vectors, fields, &mut dep, &mut call.args)?;
+    let (number, anchor, dep, rest) = command_of(
+        reading.alloc,
+        vectors,
+        fields,
+        &mut reading.dep,
+        &mut reading.call,
+    )?;
     if !is_whole(rest) {
         return Err(FieldError::Bad(RecordCause::BadLength));
     }
-    call.proc = proc;
-    let dep = KeptLv::of(alloc, &dep)?;
-    let call = KeptCall::of(alloc, &call)?;
+    let call = KeptCall::of(reading.alloc, &reading.call)?;
     placed.push(Placed {
         entry: Entry::Command {
             number,
@@ -120,7 +143,6 @@ fn put_anchor(
 /// Puts a record of a kind after those before it.
 #[tactic(auto, unfolding(crate::specs::Record::fields_at))]
 fn put_fields(
-    alloc: Global,
     n: usize,
     kind: u8,
     fields: &[u8],
@@ -128,33 +150,25 @@ fn put_fields(
     past: u64,
     vectors: &mut Vec<Lv>,
     placed: &mut Vec<Placed>,
-    writes: &mut Vec<(Key, Value)>,
+    reading: &mut Reading,
 ) -> Result<(), FieldError>
     requires low { 1 ≤ n }
     requires high { n ≤ most_streams One }
     ensures { Gives (λ _. (placed.new.items, vectors.new.items)) result (puts (fields_at One n vectors.old.items kind fields.now) vectors.old.items placed.old.items start past) }
 {
     if kind == 1 {
-        return put_written(
-            alloc,
-            vectors.as_slice(),
-            fields,
-            start,
-            past,
-            placed,
-            writes,
-        );
+        return put_written(vectors.as_slice(), fields, start, past, placed, reading);
     }
     if kind == 2 {
-        return put_command(alloc, vectors.as_slice(), fields, start, past, placed);
+        return put_command(vectors.as_slice(), fields, start, past, placed, reading);
     }
     if kind == 3 {
-        return put_anchor(alloc, n, fields, start, past, vectors, placed);
+        return put_anchor(reading.alloc, n, fields, start, past, vectors, placed);
     }
     if fields.len() > MAX_CATALOGUE {
         return Err(FieldError::Bad(RecordCause::BadBody));
     }
-    let text = Vec::from_slice(alloc, fields)?;
+    let text = Vec::from_slice(reading.alloc, fields)?;
     placed.push(Placed {
         entry: Entry::Catalogue {
             text: Listed::of(text),
@@ -168,13 +182,12 @@ fn put_fields(
 /// Puts the record at the front of the bytes after those before it, and returns the bytes after it.
 #[tactic(auto, unfolding(crate::specs::Record::record_at))]
 fn put_record<'a>(
-    alloc: Global,
     n: usize,
     at: u64,
     bytes: &'a [u8],
     vectors: &mut Vec<Lv>,
     placed: &mut Vec<Placed>,
-    writes: &mut Vec<(Key, Value)>,
+    reading: &mut Reading,
 ) -> Result<&'a [u8], FieldError>
     requires low { 1 ≤ n }
     requires high { n ≤ most_streams One }
@@ -183,7 +196,7 @@ fn put_record<'a>(
 {
     let (kind, fields, after) = frame_of(at == 0, bytes)?;
     let past = at + (bytes.len() - after.len()) as u64;
-    put_fields(alloc, n, kind, fields, at, past, vectors, placed, writes)?;
+    put_fields(n, kind, fields, at, past, vectors, placed, reading)?;
     Ok(after)
 }
 
@@ -195,14 +208,14 @@ fn records(alloc: Global, n: usize, content: &[u8]) -> Result<Vec<Placed>, Recor
     let mut vectors = Vec::new(alloc);
     vectors.push(Lv::zero(n))?;
     let mut placed = Vec::new(alloc);
-    let mut writes = Vec::new(alloc);
+    let mut reading = Reading::new(alloc);
     let mut at: u64 = 0;
     let mut rest = content;
     for _ in 0..content.len() {
         if rest.is_empty() {
             return Ok(placed);
         }
-        match put_record(alloc, n, at, rest, &mut vectors, &mut placed, &mut writes) {
+        match put_record(n, at, rest, &mut vectors, &mut placed, &mut reading) {
             Err(e) => return Err(refusal_at(at, e)),
             Ok(after) => {
                 let past = at + (rest.len() - after.len()) as u64;

@@ -1,14 +1,17 @@
 //! Values, keys and writes.
-ghost use Rattle.std.specs.Prelude.{◌≡◌, ◌<◌, ◌≤◌, ◌+◌, ◌*◌, ◌++◌, [], length, OnOk, Some, None, if◌then◌else◌};
+ghost use Rattle.std.specs.Prelude.{◌≡◌, ◌<◌, ◌≤◌, ◌+◌, ◌*◌, ◌++◌, [], length, map, Ok, OnOk, IfSome, Some, None, if◌then◌else◌};
 ghost use Rattle.std.specs.Str.{is_utf8};
 ghost use Rattle.std.specs.List.{flat_map, AllByRecursion};
-ghost use Rattle.tau_record.specs.Field.{Gives};
+ghost use Rattle.tau_base.specs.declared.limits.TheConstants.{MAX_ARGS};
+ghost use Rattle.tau_base.specs.declared.value.Value.TheVariants.{Int};
+ghost use Rattle.tau_record.specs.Field.{Gives, Adds};
 ghost use Rattle.tau_record.specs.Item.{value, FitsValue, key, FitsKey, write, FitsWrite, follows, text_at, value_at, key_at, write_at, writes_at, args_at};
 
 use crate::fault::{FieldError, RecordCause};
 use crate::field::{u16_of, u64_of};
+use crate::writes::{KeptWrites, SHORT_WRITES, Short};
 use arrayvec::ArrayVec;
-use std::alloc::AllocError;
+use std::alloc::{AllocError, Global};
 use std::str;
 use tau_base::{Key, MAX_ARGS, MAX_TEXT, Text64, Value};
 
@@ -95,8 +98,64 @@ fn write_of(last: Option<Key>, bytes: &[u8]) -> Result<((Key, Value), &[u8]), Fi
     Ok(((key, value), rest))
 }
 
+/// The write of a whole number at the front of the bytes, if there is one.
+#[tactic(auto, unfolding(crate::specs::Item::write_at, crate::specs::Item::value_at))]
+fn number_of(last: Option<Key>, bytes: &[u8]) -> Option<((Key, i64), &[u8])>
+    ensures { IfSome result (λ x. write_at last bytes.now ≡ Ok ((x.0.0, Int x.0.1), x.1.now)) }
+{
+    let Ok((key, rest)) = key_of(bytes) else {
+        return None;
+    };
+    if !is_behind(last, key) {
+        return None;
+    }
+    let [1, rest @ ..] = rest else {
+        return None;
+    };
+    let Ok((number, rest)) = u64_of(rest) else {
+        return None;
+    };
+    Some(((key, number.cast_signed()), rest))
+}
+
+/// Reads so many writes, if they are few and of whole numbers.
+fn numbers_of(count: u16, bytes: &[u8]) -> Option<(Short, &[u8])>
+    ensures { IfSome result (λ x. writes_at count None bytes.now ≡ Ok (map (λ r. (r.0, Int r.1)) x.0.items, x.1.now)) }
+{
+    if count as usize > SHORT_WRITES {
+        return None;
+    }
+    let mut numbers = ArrayVec::new();
+    let mut rest = bytes;
+    let mut last = None;
+    for _ in 0..count {
+        let (number, after) = number_of(last, rest)?;
+        last = Some(number.0);
+        numbers.push(number);
+        rest = after;
+    }
+    Some((numbers, rest))
+}
+
+/// Reads so many writes, by way of a list if they are not few numbers.
+pub(crate) fn kept_writes_of<'a>(
+    alloc: Global,
+    count: u16,
+    bytes: &'a [u8],
+    writes: &mut Vec<(Key, Value)>,
+) -> Result<(KeptWrites, &'a [u8]), FieldError>
+    ensures { Gives (λ x. (x.0, x.1.now)) result (writes_at count None bytes.now) }
+{
+    if let Some((numbers, rest)) = numbers_of(count, bytes) {
+        return Ok((KeptWrites::short(numbers), rest));
+    }
+    writes.clear();
+    let rest = writes_of(count, bytes, writes)?;
+    Ok((KeptWrites::of(alloc, writes.as_slice())?, rest))
+}
+
 /// Reads so many writes into an empty list.
-pub(crate) fn writes_of<'a>(
+fn writes_of<'a>(
     count: u16,
     bytes: &'a [u8],
     writes: &mut Vec<(Key, Value)>,
@@ -116,6 +175,29 @@ pub(crate) fn writes_of<'a>(
     Ok(rest)
 }
 
+/// Reads an argument, and puts it after those before it.
+#[tactic(auto, unfolding(crate::specs::Item::value_at))]
+fn put_arg<'a>(
+    bytes: &'a [u8],
+    args: &mut ArrayVec<Value, MAX_ARGS>,
+) -> Result<&'a [u8], FieldError>
+    requires { length args.old.items < MAX_ARGS }
+    ensures { Adds (λ x. x.now) result (value_at bytes.now) args.old.items args.new.items }
+{
+    match bytes {
+        [1, rest @ ..] => {
+            let (number, rest) = u64_of(rest)?;
+            args.push(Value::Int(number.cast_signed()));
+            Ok(rest)
+        }
+        _ => {
+            let (value, rest) = value_of(bytes)?;
+            args.push(value);
+            Ok(rest)
+        }
+    }
+}
+
 /// Reads the arguments of a call into `args`.
 pub(crate) fn args_of<'a>(
     count: u8,
@@ -128,9 +210,7 @@ pub(crate) fn args_of<'a>(
 {
     let mut rest = bytes;
     for _ in 0..count {
-        let (value, after) = value_of(rest)?;
-        args.push(value);
-        rest = after;
+        rest = put_arg(rest, args)?;
     }
     Ok(rest)
 }

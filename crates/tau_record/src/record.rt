@@ -1,26 +1,29 @@
-//! Reading the parts of records. A record is large, so its parts are read one by one, vectors into a place that the
-//! caller gives, and put together once, where it is kept.
-ghost use Rattle.std.specs.Prelude.{◌≡◌, ◌≤◌, ◌==◌, [], length};
+//! Reading the parts of records. They are read one by one, long ones by way of a place that the caller lends, and kept as
+//! soon as they are read.
+ghost use Rattle.std.specs.Prelude.{◌≡◌, ◌≤◌, ◌==◌, length};
 ghost use Rattle.tau_record.specs.Field.{Gives};
 ghost use Rattle.tau_record.specs.Format.{One, most_streams};
 ghost use Rattle.tau_record.specs.Record.{origin_at, written_at, command_at, lv_at, kind_fits, frame_at};
 ghost use Rattle.tau_record.specs.declared.entry.Entry.TheVariants.{Written, Command};
 
+use crate::dep::KeptLv;
 use crate::fault::{FieldError, RecordCause};
 use crate::field::{byte_of, u16_of, u32_of, u64_of};
-use crate::item::{args_of, writes_of};
+use crate::item::{args_of, kept_writes_of};
 use crate::vector::vector_of;
-use arrayvec::ArrayVec;
-use tau_base::{Key, Lv, MAX_ARGS, MAX_LSN, MAX_WRITES, Value};
+use crate::writes::KeptWrites;
+use std::alloc::Global;
+use tau_base::{Call, Key, Lv, MAX_ARGS, MAX_LSN, MAX_WRITES, Value};
 
-/// The number of a record's call and that of its anchor. Its vector goes into `dep`.
+/// The number of a record's call, that of its anchor, and its vector, which may be read by way of `dep`.
 #[tactic(auto, unfolding(crate::specs::Record::origin_at))]
 fn origin_of<'a>(
+    alloc: Global,
     vectors: &[Lv],
     bytes: &'a [u8],
     dep: &mut Lv,
-) -> Result<(u64, u32, &'a [u8]), FieldError>
-    ensures { Gives (λ x. (record { number = x.0; anchor = x.1; dep = dep.new }, x.2.now)) result (origin_at One vectors.now bytes.now) }
+) -> Result<(u64, u32, KeptLv, &'a [u8]), FieldError>
+    ensures { Gives (λ x. (record { number = x.0; anchor = x.1; dep = x.2 }, x.3.now)) result (origin_at One vectors.now bytes.now) }
 {
     let (number, rest) = u64_of(bytes)?;
     if number == 0 {
@@ -30,21 +33,22 @@ fn origin_of<'a>(
     if vectors.len() <= anchor as usize {
         return Err(FieldError::Bad(RecordCause::BadAnchor));
     }
-    let rest = vector_of(&vectors[anchor as usize], rest, dep)?;
-    Ok((number, anchor, rest))
+    let (dep, rest) = vector_of(alloc, &vectors[anchor as usize], rest, dep)?;
+    Ok((number, anchor, dep, rest))
 }
 
-/// The fields of a data record but its vector, which goes into `dep`, and its writes, which go into `writes`.
+/// The fields of a data record. Its vector may be read by way of `dep`, and its writes by way of `writes`.
 #[tactic(auto, unfolding(crate::specs::Record::written_at))]
 pub(crate) fn written_of<'a>(
+    alloc: Global,
     vectors: &[Lv],
     bytes: &'a [u8],
     dep: &mut Lv,
     writes: &mut Vec<(Key, Value)>,
-) -> Result<(u64, u32, &'a [u8]), FieldError>
-    ensures { Gives (λ x. (Written x.0 x.1 dep.new writes.new.items, x.2.now)) result (written_at One vectors.now bytes.now) }
+) -> Result<(u64, u32, KeptLv, KeptWrites, &'a [u8]), FieldError>
+    ensures { Gives (λ x. (Written x.0 x.1 x.2 x.3, x.4.now)) result (written_at One vectors.now bytes.now) }
 {
-    let (number, anchor, rest) = origin_of(vectors, bytes, dep)?;
+    let (number, anchor, dep, rest) = origin_of(alloc, vectors, bytes, dep)?;
     let (count, rest) = u16_of(rest)?;
     if count == 0 {
         return Err(FieldError::Bad(RecordCause::BadBody));
@@ -52,30 +56,31 @@ pub(crate) fn written_of<'a>(
     if count as usize > MAX_WRITES {
         return Err(FieldError::Bad(RecordCause::BadBody));
     }
-    writes.clear();
-    let rest = writes_of(count, rest, writes)?;
-    Ok((number, anchor, rest))
+    let (writes, rest) = kept_writes_of(alloc, count, rest, writes)?;
+    Ok((number, anchor, dep, writes, rest))
 }
 
-/// The fields of a command record but its vector, which goes into `dep`, and its arguments, which go into `args`.
+/// The fields of a command record but its call, which goes into `call`. Its vector may be read by way of `dep`.
 #[tactic(auto, unfolding(crate::specs::Record::command_at))]
 pub(crate) fn command_of<'a>(
+    alloc: Global,
     vectors: &[Lv],
     bytes: &'a [u8],
     dep: &mut Lv,
-    args: &mut ArrayVec<Value, MAX_ARGS>,
-) -> Result<(u64, u32, u16, &'a [u8]), FieldError>
-    requires { args.old.items ≡ [] }
-    ensures { Gives (λ x. (Command x.0 x.1 dep.new (record { proc = x.2; args = args.new }), x.3.now)) result (command_at One vectors.now bytes.now) }
+    call: &mut Call,
+) -> Result<(u64, u32, KeptLv, &'a [u8]), FieldError>
+    ensures { Gives (λ x. (Command x.0 x.1 x.2 call.new, x.3.now)) result (command_at One vectors.now bytes.now) }
 {
-    let (number, anchor, rest) = origin_of(vectors, bytes, dep)?;
+    let (number, anchor, dep, rest) = origin_of(alloc, vectors, bytes, dep)?;
     let (proc, rest) = u16_of(rest)?;
     let (count, rest) = byte_of(rest)?;
     if count as usize > MAX_ARGS {
         return Err(FieldError::Bad(RecordCause::BadBody));
     }
-    let rest = args_of(count, rest, args)?;
-    Ok((number, anchor, proc, rest))
+    call.proc = proc;
+    call.args.clear();
+    let rest = args_of(count, rest, &mut call.args)?;
+    Ok((number, anchor, dep, rest))
 }
 
 /// The vector of an anchor.

@@ -7,9 +7,10 @@ ghost use Rattle.tau_record.specs.Field.{Gives};
 ghost use Rattle.tau_record.specs.Format.{One, most_streams};
 ghost use Rattle.tau_record.specs.Vector.{ArePlaces, mask_of, above, vector, part_at, parts_at, vector_at};
 
+use crate::dep::KeptLv;
 use crate::fault::{FieldError, RecordCause};
 use crate::field::{u16_of, u64_of};
-use std::alloc::AllocError;
+use std::alloc::{AllocError, Global};
 use tau_base::{Lv, MAX_LSN};
 
 // ---- reading
@@ -48,20 +49,25 @@ fn parts_of<'a>(base: &Lv, mask: u16, bytes: &'a [u8], dep: &mut Lv) -> Result<&
     Ok(rest)
 }
 
-/// Reads a vector above a base into `dep`.
+/// Reads a vector above a base, by way of `dep` unless it is the base's.
 #[tactic(auto, unfolding(crate::specs::Vector::vector_at, crate::specs::Format::mask_width))]
 pub(crate) fn vector_of<'a>(
+    alloc: Global,
     base: &Lv,
     bytes: &'a [u8],
     dep: &mut Lv,
-) -> Result<&'a [u8], FieldError>
-    ensures { Gives (λ x. (dep.new, x.now)) result (vector_at One base.now bytes.now) }
+) -> Result<(KeptLv, &'a [u8]), FieldError>
+    ensures { Gives (λ x. (x.0, x.1.now)) result (vector_at One base.now bytes.now) }
 {
     let (mask, rest) = u16_of(bytes)?;
+    if mask == 0 {
+        return Ok((KeptLv::of(alloc, base)?, rest));
+    }
     if u64::from(mask) >= 1 << base.width() {
         return Err(FieldError::Bad(RecordCause::BadMask));
     }
-    parts_of(base, mask, rest, dep)
+    let rest = parts_of(base, mask, rest, dep)?;
+    Ok((KeptLv::of(alloc, dep)?, rest))
 }
 
 // ---- writing

@@ -10,10 +10,10 @@ use std::marker::Model;
 use tau_base::{Key, Listed, NoMemory, Value};
 
 /// So many writes of whole numbers lie in the value itself.
-const SHORT_WRITES: usize = 2;
+pub(crate) const SHORT_WRITES: usize = 2;
 
-/// A write of a whole number.
-type Short = ArrayVec<(Key, i64), SHORT_WRITES>;
+/// A few writes of whole numbers.
+pub(crate) type Short = ArrayVec<(Key, i64), SHORT_WRITES>;
 
 #[derive(Debug, Drop)]
 enum Rows {
@@ -48,6 +48,15 @@ impl KeptWrites {
                 rows: Rows::Short(short),
             }),
             None => KeptWrites::whole(alloc, writes),
+        }
+    }
+
+    /// These writes of whole numbers, kept.
+    pub(crate) fn short(numbers: Short) -> KeptWrites
+        ensures { result ≡ map (λ r. (r.0, Int r.1)) numbers.items }
+    {
+        KeptWrites {
+            rows: Rows::Short(numbers),
         }
     }
 
