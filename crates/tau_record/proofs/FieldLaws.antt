@@ -6,7 +6,7 @@ use Rattle.std.proofs.lemmas.List.{take_at, drop_at, take-append-drop, length-ap
 use Rattle.std.proofs.lemmas.Nat.{be_bytes_2, be_bytes_4, be_bytes_8, from_be_bytes-to_be_bytes_2, from_be_bytes-to_be_bytes_4, from_be_bytes-to_be_bytes_8}
 use Rattle.tau_record.specs.declared.fault.RecordCause.{RecordCause}
 use Rattle.tau_record.specs.declared.fault.RecordCause.TheVariants.{BadLength}
-use Rattle.tau_record.specs.Format.{Format, One, mask_width, most_streams}
+use Rattle.tau_record.specs.Format.{Format, One, Two, mask_width, most_streams}
 use Rattle.tau_record.specs.Field.{◌>>=◌, number_at}
 
 abbrev pub IsBytes : List ℕ → Type 0
@@ -88,6 +88,7 @@ wide64 = record {
 pub wide_mask : (f : Format) → IsWide (mask_width f) (2 ^ most_streams f)
 unfolding mask_width
 wide_mask One = wide16
+wide_mask Two = wide32
 
 pub number_takes : (w : Width) (limit : ℕ) (wide : IsWide w limit) (bytes : List ℕ) (x : ℕ × List ℕ) → IsBytes bytes → number_at w bytes ≡ Ok x → Takes bytes (to_be_bytes w x.0) x.1 × (x.0 < limit)
 number_takes w limit wide bytes x fits e =

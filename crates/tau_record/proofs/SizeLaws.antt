@@ -7,7 +7,7 @@ use Rattle.std.proofs.lemmas.List.Concat.{flat_map-cons}
 use Rattle.tau_base.specs.declared.value.Key.{Key}
 use Rattle.tau_base.specs.declared.value.Value.{Value}
 use Rattle.tau_base.specs.declared.value.Value.TheVariants.{Absent, Int, Text}
-use Rattle.tau_record.specs.Format.{Format, One, mask_width, most_streams}
+use Rattle.tau_record.specs.Format.{Format, One, Two, mask_width, most_streams}
 use Rattle.tau_record.specs.Vector.{mask_of}
 use Rattle.tau_record.specs.Item.{value, FitsValue, write, FitsWrite}
 use Rattle.tau_record.specs.Record.{origin, base_of, body, AreVectors, FitsBody}
@@ -27,9 +27,11 @@ explicit_len (low ∷ base) (part ∷ dep) =
 mask_len : (f : Format) (m : ℕ) → length (to_be_bytes (mask_width f) m) ≤ 4
 unfolding mask_width
 mask_len One m = omega arith
+mask_len Two m = omega arith
 
 streams_most : (f : Format) → most_streams f ≤ 32
 streams_most One = omega arith
+streams_most Two = omega arith
 
 origin_len : (f : Format) (base : List ℕ) (number anchor : ℕ) (dep : List ℕ) → length base ≤ 32 → length (origin f base number anchor dep) ≤ 272
 origin_len f base number anchor dep le =

@@ -1,5 +1,6 @@
 //! Reading contents.
 ghost use Rattle.std.specs.Prelude.{◌≡◌, ◌<◌, ◌≤◌, ◌+◌, ◌^◌, List, Err, IfOk, length};
+ghost use Rattle.tau_base.specs.declared.limits.TheConstants.{MAX_STREAMS};
 ghost use Rattle.tau_record.specs.Field.{Gives};
 ghost use Rattle.tau_record.specs.Format.{One, most_streams};
 ghost use Rattle.tau_record.specs.Content.{puts, anchor_at, Joins, IsContent, IsAnswer, FirstBad, content_at, GivesAll};
@@ -11,6 +12,7 @@ ghost use Rattle.tau_record.specs.declared.fault.RecordRefusal.TheVariants.{Bad}
 use crate::dep::KeptLv;
 use crate::entry::{Entry, Placed};
 use crate::fault::{FieldError, RecordCause, RecordRefusal, refusal_at};
+use crate::format::Format;
 use crate::record::{command_of, frame_of, is_whole, lv_of, written_of};
 use arrayvec::ArrayVec;
 use std::alloc::Global;
@@ -41,6 +43,7 @@ impl Reading {
 
 /// Puts a data record after those before it.
 fn put_written(
+    format: Format,
     vectors: &[Lv],
     fields: &[u8],
     start: u64,
@@ -48,10 +51,11 @@ fn put_written(
     placed: &mut Vec<Placed>,
     reading: &mut Reading,
 ) -> Result<(), FieldError>
-    ensures { Gives (λ _. (placed.new.items, vectors.now)) result (puts (written_at One vectors.now fields.now) vectors.now placed.old.items start past) }
+    ensures { Gives (λ _. (placed.new.items, vectors.now)) result (puts (written_at format vectors.now fields.now) vectors.now placed.old.items start past) }
 {
     let (number, anchor, dep, writes, rest) = written_of(
         reading.alloc,
+        format,
         vectors,
         fields,
         &mut reading.dep,
@@ -75,6 +79,7 @@ fn put_written(
 
 /// Puts a command record after those before it.
 fn put_command(
+    format: Format,
     vectors: &[Lv],
     fields: &[u8],
     start: u64,
@@ -82,10 +87,11 @@ fn put_command(
     placed: &mut Vec<Placed>,
     reading: &mut Reading,
 ) -> Result<(), FieldError>
-    ensures { Gives (λ _. (placed.new.items, vectors.now)) result (puts (command_at One vectors.now fields.now) vectors.now placed.old.items start past) }
+    ensures { Gives (λ _. (placed.new.items, vectors.now)) result (puts (command_at format vectors.now fields.now) vectors.now placed.old.items start past) }
 {
     let (number, anchor, dep, rest) = command_of(
         reading.alloc,
+        format,
         vectors,
         fields,
         &mut reading.dep,
@@ -119,7 +125,7 @@ fn put_anchor(
     placed: &mut Vec<Placed>,
 ) -> Result<(), FieldError>
     requires low { 1 ≤ n }
-    requires high { n ≤ most_streams One }
+    requires high { n ≤ MAX_STREAMS }
     ensures { Gives (λ _. (placed.new.items, vectors.new.items)) result (puts (anchor_at n fields.now) vectors.old.items placed.old.items start past) }
 {
     match lv_of(n, fields) {
@@ -143,6 +149,7 @@ fn put_anchor(
 /// Puts a record of a kind after those before it.
 #[tactic(auto, unfolding(crate::specs::Record::fields_at))]
 fn put_fields(
+    format: Format,
     n: usize,
     kind: u8,
     fields: &[u8],
@@ -153,14 +160,30 @@ fn put_fields(
     reading: &mut Reading,
 ) -> Result<(), FieldError>
     requires low { 1 ≤ n }
-    requires high { n ≤ most_streams One }
-    ensures { Gives (λ _. (placed.new.items, vectors.new.items)) result (puts (fields_at One n vectors.old.items kind fields.now) vectors.old.items placed.old.items start past) }
+    requires high { n ≤ MAX_STREAMS }
+    ensures { Gives (λ _. (placed.new.items, vectors.new.items)) result (puts (fields_at format n vectors.old.items kind fields.now) vectors.old.items placed.old.items start past) }
 {
     if kind == 1 {
-        return put_written(vectors.as_slice(), fields, start, past, placed, reading);
+        return put_written(
+            format,
+            vectors.as_slice(),
+            fields,
+            start,
+            past,
+            placed,
+            reading,
+        );
     }
     if kind == 2 {
-        return put_command(vectors.as_slice(), fields, start, past, placed, reading);
+        return put_command(
+            format,
+            vectors.as_slice(),
+            fields,
+            start,
+            past,
+            placed,
+            reading,
+        );
     }
     if kind == 3 {
         return put_anchor(reading.alloc, n, fields, start, past, vectors, placed);
@@ -182,6 +205,7 @@ fn put_fields(
 /// Puts the record at the front of the bytes after those before it, and returns the bytes after it.
 #[tactic(auto, unfolding(crate::specs::Record::record_at))]
 fn put_record<'a>(
+    format: Format,
     n: usize,
     at: u64,
     bytes: &'a [u8],
@@ -190,20 +214,25 @@ fn put_record<'a>(
     reading: &mut Reading,
 ) -> Result<&'a [u8], FieldError>
     requires low { 1 ≤ n }
-    requires high { n ≤ most_streams One }
+    requires high { n ≤ MAX_STREAMS }
     requires fits { at + length bytes.now < 2 ^ 64 }
-    ensures { Joins (λ x. x.now) One n at vectors.old.items vectors.new.items bytes.now placed.old.items placed.new.items result }
+    ensures { Joins (λ x. x.now) format n at vectors.old.items vectors.new.items bytes.now placed.old.items placed.new.items result }
 {
     let (kind, fields, after) = frame_of(at == 0, bytes)?;
     let past = at + (bytes.len() - after.len()) as u64;
-    put_fields(n, kind, fields, at, past, vectors, placed, reading)?;
+    put_fields(format, n, kind, fields, at, past, vectors, placed, reading)?;
     Ok(after)
 }
 
-fn records(alloc: Global, n: usize, content: &[u8]) -> Result<Vec<Placed>, RecordRefusal>
+fn records(
+    alloc: Global,
+    format: Format,
+    n: usize,
+    content: &[u8],
+) -> Result<Vec<Placed>, RecordRefusal>
     requires low { 1 ≤ n }
-    requires high { n ≤ most_streams One }
-    ensures { GivesAll result (content_at One n content.now) }
+    requires high { n ≤ MAX_STREAMS }
+    ensures { GivesAll result (content_at format n content.now) }
 {
     let mut vectors = Vec::new(alloc);
     vectors.push(Lv::zero(n))?;
@@ -215,7 +244,7 @@ fn records(alloc: Global, n: usize, content: &[u8]) -> Result<Vec<Placed>, Recor
         if rest.is_empty() {
             return Ok(placed);
         }
-        match put_record(n, at, rest, &mut vectors, &mut placed, &mut reading) {
+        match put_record(format, n, at, rest, &mut vectors, &mut placed, &mut reading) {
             Err(e) => return Err(refusal_at(at, e)),
             Ok(after) => {
                 let past = at + (rest.len() - after.len()) as u64;
@@ -227,7 +256,28 @@ fn records(alloc: Global, n: usize, content: &[u8]) -> Result<Vec<Placed>, Recor
     Ok(placed)
 }
 
-/// The records of the content of a stream, one of `n`, by its bytes alone: that the catalogue is the text of
+/// The records of the content of a stream, one of `n`, in a format, by its bytes alone: that the catalogue is the text of
+/// declarations, and that what the records name is declared, is not looked at.
+pub fn decode_as(
+    alloc: Global,
+    format: Format,
+    n: u16,
+    content: &[u8],
+) -> Result<Vec<Placed>, RecordRefusal>
+    requires low { 1 ≤ n }
+    requires high { n ≤ most_streams format }
+    requires streams { n ≤ MAX_STREAMS }
+    // What is read is spelled so.
+    ensures found { IfOk result (λ v. IsContent format n content.now v.items) }
+    // What is spelled so is read.
+    ensures only { (ps : List Placed) → IsContent format n content.now ps → IsAnswer ps result }
+    // A refusal names the first bad record, with its cause.
+    ensures bad { (fault : RecordFault) → result ≡ Err (Bad fault) → FirstBad format n content.now fault }
+{
+    records(alloc, format, n as usize, content)
+}
+
+/// The records of the content of a stream, one of `n`, in format 1, by its bytes alone: that the catalogue is the text of
 /// declarations, and that what the records name is declared, is not looked at.
 pub fn decode(alloc: Global, n: u16, content: &[u8]) -> Result<Vec<Placed>, RecordRefusal>
     requires low { 1 ≤ n }
@@ -239,5 +289,5 @@ pub fn decode(alloc: Global, n: u16, content: &[u8]) -> Result<Vec<Placed>, Reco
     // A refusal names the first bad record, with its cause.
     ensures bad { (fault : RecordFault) → result ≡ Err (Bad fault) → FirstBad One n content.now fault }
 {
-    records(alloc, n as usize, content)
+    decode_as(alloc, Format::One, n, content)
 }

@@ -4,13 +4,14 @@ ghost use Rattle.std.specs.FinMap.{is_sorted};
 ghost use Rattle.std.specs.Int.{w32, to_be_bytes};
 ghost use Rattle.tau_base.specs.Database.{key_cmp};
 ghost use Rattle.tau_base.specs.Vectors.{AtMost};
-ghost use Rattle.tau_record.specs.Format.{One, most_streams};
+ghost use Rattle.tau_record.specs.Format.{One, Two, most_streams};
 ghost use Rattle.tau_record.specs.Record.{origin, base_of, Spells};
 ghost use Rattle.tau_record.specs.Vector.{ArePlaces};
 ghost use Rattle.tau_record.specs.declared.entry.Entry.TheVariants.{Written, Command, Anchor, Catalogue};
 
+use crate::format::Format;
 use crate::item::{args_size, put_args, put_writes, writes_size};
-use crate::vector::{parts_size, put_lv, put_vector};
+use crate::vector::{mask_size, parts_size, put_lv, put_vector};
 use std::alloc::{AllocError, Global};
 use tau_base::{Call, Key, Lv, MAX_CATALOGUE, MAX_WRITES, NoMemory, Value};
 
@@ -27,24 +28,26 @@ fn begin(alloc: Global, kind: u8, size: usize) -> Result<Vec<u8>, AllocError>
 
 fn put_origin(
     out: &mut Vec<u8>,
+    format: Format,
     number: u64,
     anchor_number: u32,
     dep: &Lv,
     anchor: &Lv,
 ) -> Result<(), AllocError>
     requires width { length anchor.now ≡ length dep.now }
-    requires fits { length anchor.now ≤ most_streams One }
-    ensures bytes { OnOk result (out.new.items ≡ out.old.items ++ origin One anchor.now number anchor_number dep.now) }
+    requires fits { length anchor.now ≤ most_streams format }
+    ensures bytes { OnOk result (out.new.items ≡ out.old.items ++ origin format anchor.now number anchor_number dep.now) }
     ensures places { OnOk result (ArePlaces dep.now) }
 {
     out.extend_from_slice(&number.to_be_bytes())?;
     out.extend_from_slice(&anchor_number.to_be_bytes())?;
-    put_vector(out, anchor, dep)?;
+    put_vector(out, format, anchor, dep)?;
     Ok(())
 }
 
 fn written_bytes(
     alloc: Global,
+    format: Format,
     number: u64,
     anchor_number: u32,
     dep: &Lv,
@@ -53,17 +56,17 @@ fn written_bytes(
 ) -> Result<Vec<u8>, AllocError>
     requires width { length dep.now ≡ length anchor.now }
     requires covers { AtMost anchor.now dep.now }
-    requires streams { length dep.now ≤ most_streams One }
+    requires streams { length dep.now ≤ most_streams format }
     requires some { 1 ≤ length writes.now }
     requires most { length writes.now ≤ MAX_WRITES }
     requires ascending { IsTrue (is_sorted key_cmp writes.now) }
     requires number { 1 ≤ number }
     ensures { IfOk result (λ v. (vectors : List (List ℕ)) → base_of vectors anchor_number ≡ anchor.now →
-        Spells One (length dep.now) vectors false (Written number anchor_number dep.now writes.now) v.items) }
+        Spells format (length dep.now) vectors false (Written number anchor_number dep.now writes.now) v.items) }
 {
-    let size = 16 + parts_size(anchor, dep) + writes_size(writes);
+    let size = 14 + mask_size(format) + parts_size(anchor, dep) + writes_size(writes);
     let mut out = begin(alloc, 1, size)?;
-    put_origin(&mut out, number, anchor_number, dep, anchor)?;
+    put_origin(&mut out, format, number, anchor_number, dep, anchor)?;
     out.extend_from_slice(&(writes.len() as u16).to_be_bytes())?;
     put_writes(&mut out, writes)?;
     Ok(out)
@@ -89,11 +92,51 @@ pub fn encode_written(
     ensures { IfOk result (λ v. (vectors : List (List ℕ)) → base_of vectors anchor_number ≡ anchor.now →
         Spells One (length dep.now) vectors false (Written number anchor_number dep.now writes.now) v.items) }
 {
-    Ok(written_bytes(alloc, number, anchor_number, dep, anchor, writes)?)
+    Ok(written_bytes(
+        alloc,
+        Format::One,
+        number,
+        anchor_number,
+        dep,
+        anchor,
+        writes,
+    )?)
+}
+
+/// A data record of format 2. `anchor` is the vector of the stream's anchor with the number given, or zero where that is 0.
+pub fn encode_written_wide(
+    alloc: Global,
+    number: u64,
+    anchor_number: u32,
+    dep: &Lv,
+    anchor: &Lv,
+    writes: &[(Key, Value)],
+) -> Result<Vec<u8>, NoMemory>
+    requires width { length dep.now ≡ length anchor.now }
+    requires covers { AtMost anchor.now dep.now }
+    requires streams { length dep.now ≤ most_streams Two }
+    requires some { 1 ≤ length writes.now }
+    requires most { length writes.now ≤ MAX_WRITES }
+    requires ascending { IsTrue (is_sorted key_cmp writes.now) }
+    requires number { 1 ≤ number }
+    // The one spelling, after any anchors of which the number names this one.
+    ensures { IfOk result (λ v. (vectors : List (List ℕ)) → base_of vectors anchor_number ≡ anchor.now →
+        Spells Two (length dep.now) vectors false (Written number anchor_number dep.now writes.now) v.items) }
+{
+    Ok(written_bytes(
+        alloc,
+        Format::Two,
+        number,
+        anchor_number,
+        dep,
+        anchor,
+        writes,
+    )?)
 }
 
 fn command_bytes(
     alloc: Global,
+    format: Format,
     number: u64,
     anchor_number: u32,
     dep: &Lv,
@@ -102,15 +145,15 @@ fn command_bytes(
 ) -> Result<Vec<u8>, AllocError>
     requires width { length dep.now ≡ length anchor.now }
     requires covers { AtMost anchor.now dep.now }
-    requires streams { length dep.now ≤ most_streams One }
+    requires streams { length dep.now ≤ most_streams format }
     requires number { 1 ≤ number }
     ensures { IfOk result (λ v. (vectors : List (List ℕ)) → base_of vectors anchor_number ≡ anchor.now →
-        Spells One (length dep.now) vectors false (Command number anchor_number dep.now call.now) v.items) }
+        Spells format (length dep.now) vectors false (Command number anchor_number dep.now call.now) v.items) }
 {
     let args = call.args.as_slice();
-    let size = 17 + parts_size(anchor, dep) + args_size(args);
+    let size = 15 + mask_size(format) + parts_size(anchor, dep) + args_size(args);
     let mut out = begin(alloc, 2, size)?;
-    put_origin(&mut out, number, anchor_number, dep, anchor)?;
+    put_origin(&mut out, format, number, anchor_number, dep, anchor)?;
     out.extend_from_slice(&call.proc.to_be_bytes())?;
     out.push(args.len() as u8)?;
     put_args(&mut out, args)?;
@@ -134,7 +177,27 @@ pub fn encode_command(
     ensures { IfOk result (λ v. (vectors : List (List ℕ)) → base_of vectors anchor_number ≡ anchor.now →
         Spells One (length dep.now) vectors false (Command number anchor_number dep.now call.now) v.items) }
 {
-    Ok(command_bytes(alloc, number, anchor_number, dep, anchor, call)?)
+    Ok(command_bytes(alloc, Format::One, number, anchor_number, dep, anchor, call)?)
+}
+
+/// A command record of format 2. `anchor` is the vector of the stream's anchor with the number given, or zero where that is 0.
+pub fn encode_command_wide(
+    alloc: Global,
+    number: u64,
+    anchor_number: u32,
+    dep: &Lv,
+    anchor: &Lv,
+    call: &Call,
+) -> Result<Vec<u8>, NoMemory>
+    requires width { length dep.now ≡ length anchor.now }
+    requires covers { AtMost anchor.now dep.now }
+    requires streams { length dep.now ≤ most_streams Two }
+    requires number { 1 ≤ number }
+    // The one spelling, after any anchors of which the number names this one.
+    ensures { IfOk result (λ v. (vectors : List (List ℕ)) → base_of vectors anchor_number ≡ anchor.now →
+        Spells Two (length dep.now) vectors false (Command number anchor_number dep.now call.now) v.items) }
+{
+    Ok(command_bytes(alloc, Format::Two, number, anchor_number, dep, anchor, call)?)
 }
 
 fn anchor_bytes(alloc: Global, lv: &Lv) -> Result<Vec<u8>, AllocError>

@@ -1,14 +1,15 @@
 //! Reading the parts of records. They are read one by one, long ones by way of a place that the caller lends, and kept as
 //! soon as they are read.
 ghost use Rattle.std.specs.Prelude.{◌≡◌, ◌≤◌, ◌==◌, length};
+ghost use Rattle.tau_base.specs.declared.limits.TheConstants.{MAX_STREAMS};
 ghost use Rattle.tau_record.specs.Field.{Gives};
-ghost use Rattle.tau_record.specs.Format.{One, most_streams};
 ghost use Rattle.tau_record.specs.Record.{origin_at, written_at, command_at, lv_at, kind_fits, frame_at};
 ghost use Rattle.tau_record.specs.declared.entry.Entry.TheVariants.{Written, Command};
 
 use crate::dep::KeptLv;
 use crate::fault::{FieldError, RecordCause};
 use crate::field::{byte_of, u16_of, u32_of, u64_of};
+use crate::format::Format;
 use crate::item::{args_of, kept_writes_of};
 use crate::vector::vector_of;
 use crate::writes::KeptWrites;
@@ -19,11 +20,12 @@ use tau_base::{Call, Key, Lv, MAX_ARGS, MAX_LSN, MAX_WRITES, Value};
 #[tactic(auto, unfolding(crate::specs::Record::origin_at))]
 fn origin_of<'a>(
     alloc: Global,
+    format: Format,
     vectors: &[Lv],
     bytes: &'a [u8],
     dep: &mut Lv,
 ) -> Result<(u64, u32, KeptLv, &'a [u8]), FieldError>
-    ensures { Gives (λ x. (record { number = x.0; anchor = x.1; dep = x.2 }, x.3.now)) result (origin_at One vectors.now bytes.now) }
+    ensures { Gives (λ x. (record { number = x.0; anchor = x.1; dep = x.2 }, x.3.now)) result (origin_at format vectors.now bytes.now) }
 {
     let (number, rest) = u64_of(bytes)?;
     if number == 0 {
@@ -33,7 +35,7 @@ fn origin_of<'a>(
     if vectors.len() <= anchor as usize {
         return Err(FieldError::Bad(RecordCause::BadAnchor));
     }
-    let (dep, rest) = vector_of(alloc, &vectors[anchor as usize], rest, dep)?;
+    let (dep, rest) = vector_of(alloc, format, &vectors[anchor as usize], rest, dep)?;
     Ok((number, anchor, dep, rest))
 }
 
@@ -41,14 +43,15 @@ fn origin_of<'a>(
 #[tactic(auto, unfolding(crate::specs::Record::written_at))]
 pub(crate) fn written_of<'a>(
     alloc: Global,
+    format: Format,
     vectors: &[Lv],
     bytes: &'a [u8],
     dep: &mut Lv,
     writes: &mut Vec<(Key, Value)>,
 ) -> Result<(u64, u32, KeptLv, KeptWrites, &'a [u8]), FieldError>
-    ensures { Gives (λ x. (Written x.0 x.1 x.2 x.3, x.4.now)) result (written_at One vectors.now bytes.now) }
+    ensures { Gives (λ x. (Written x.0 x.1 x.2 x.3, x.4.now)) result (written_at format vectors.now bytes.now) }
 {
-    let (number, anchor, dep, rest) = origin_of(alloc, vectors, bytes, dep)?;
+    let (number, anchor, dep, rest) = origin_of(alloc, format, vectors, bytes, dep)?;
     let (count, rest) = u16_of(rest)?;
     if count == 0 {
         return Err(FieldError::Bad(RecordCause::BadBody));
@@ -64,14 +67,15 @@ pub(crate) fn written_of<'a>(
 #[tactic(auto, unfolding(crate::specs::Record::command_at))]
 pub(crate) fn command_of<'a>(
     alloc: Global,
+    format: Format,
     vectors: &[Lv],
     bytes: &'a [u8],
     dep: &mut Lv,
     call: &mut Call,
 ) -> Result<(u64, u32, KeptLv, &'a [u8]), FieldError>
-    ensures { Gives (λ x. (Command x.0 x.1 x.2 call.new, x.3.now)) result (command_at One vectors.now bytes.now) }
+    ensures { Gives (λ x. (Command x.0 x.1 x.2 call.new, x.3.now)) result (command_at format vectors.now bytes.now) }
 {
-    let (number, anchor, dep, rest) = origin_of(alloc, vectors, bytes, dep)?;
+    let (number, anchor, dep, rest) = origin_of(alloc, format, vectors, bytes, dep)?;
     let (proc, rest) = u16_of(rest)?;
     let (count, rest) = byte_of(rest)?;
     if count as usize > MAX_ARGS {
@@ -86,7 +90,7 @@ pub(crate) fn command_of<'a>(
 /// The vector of an anchor.
 pub(crate) fn lv_of(n: usize, bytes: &[u8]) -> Result<(Lv, &[u8]), FieldError>
     requires low { 1 ≤ n }
-    requires high { n ≤ most_streams One }
+    requires high { n ≤ MAX_STREAMS }
     ensures { Gives (λ x. (x.0, x.1.now)) result (lv_at n bytes.now) }
 {
     let mut lv = Lv::zero(n);

@@ -1,22 +1,23 @@
 //! The vector of a record.
 ghost use Rattle.std.specs.Prelude.{◌≡◌, ◌<◌, ◌≤◌, ◌*◌, ◌^◌, ◌++◌, ℕ, length, slice_index, IfOk, OnOk, nat_lt, if◌then◌else◌};
-ghost use Rattle.std.specs.Int.{w64, bit_at, to_be_bytes};
+ghost use Rattle.std.specs.Int.{w64, bit_at, byte_len, to_be_bytes};
 ghost use Rattle.std.specs.List.{flat_map};
 ghost use Rattle.tau_base.specs.Vectors.{AtMost, join};
-ghost use Rattle.tau_record.specs.Field.{Gives};
-ghost use Rattle.tau_record.specs.Format.{One, most_streams};
+ghost use Rattle.tau_record.specs.Field.{Gives, number_at};
+ghost use Rattle.tau_record.specs.Format.{One, Two, mask_width, most_streams};
 ghost use Rattle.tau_record.specs.Vector.{ArePlaces, mask_of, above, vector, part_at, parts_at, vector_at};
 
 use crate::dep::KeptLv;
 use crate::fault::{FieldError, RecordCause};
-use crate::field::{u16_of, u64_of};
+use crate::field::{u16_of, u32_of, u64_of};
+use crate::format::Format;
 use std::alloc::{AllocError, Global};
 use tau_base::{Lv, MAX_LSN};
 
 // ---- reading
 
 #[tactic(auto, unfolding(crate::specs::Vector::part_at))]
-fn part_of(low: u64, bit: u16, bytes: &[u8]) -> Result<(u64, &[u8]), FieldError>
+fn part_of(low: u64, bit: u32, bytes: &[u8]) -> Result<(u64, &[u8]), FieldError>
     requires { low < MAX_LSN }
     ensures exact { Gives (λ x. (x.0, x.1.now)) result (part_at low bit bytes.now) }
     ensures small { IfOk result (λ x. x.0 < MAX_LSN) }
@@ -34,7 +35,7 @@ fn part_of(low: u64, bit: u16, bytes: &[u8]) -> Result<(u64, &[u8]), FieldError>
     Ok((part, rest))
 }
 
-fn parts_of<'a>(base: &Lv, mask: u16, bytes: &'a [u8], dep: &mut Lv) -> Result<&'a [u8], FieldError>
+fn parts_of<'a>(base: &Lv, mask: u32, bytes: &'a [u8], dep: &mut Lv) -> Result<&'a [u8], FieldError>
     ensures { Gives (λ x. (dep.new, x.now)) result (parts_at base.now mask bytes.now) }
 {
     *dep = *base;
@@ -49,17 +50,32 @@ fn parts_of<'a>(base: &Lv, mask: u16, bytes: &'a [u8], dep: &mut Lv) -> Result<&
     Ok(rest)
 }
 
+/// Reads a mask, in the width of the format.
+#[tactic(auto, unfolding(crate::specs::Format::mask_width))]
+fn read_mask(format: Format, bytes: &[u8]) -> Result<(u32, &[u8]), FieldError>
+    ensures { Gives (λ x. (x.0, x.1.now)) result (number_at (mask_width format) bytes.now) }
+{
+    match format {
+        Format::One => {
+            let (mask, rest) = u16_of(bytes)?;
+            Ok((mask as u32, rest))
+        }
+        Format::Two => u32_of(bytes),
+    }
+}
+
 /// Reads a vector above a base, by way of `dep` unless it is the base's.
-#[tactic(auto, unfolding(crate::specs::Vector::vector_at, crate::specs::Format::mask_width))]
+#[tactic(auto, unfolding(crate::specs::Vector::vector_at))]
 pub(crate) fn vector_of<'a>(
     alloc: Global,
+    format: Format,
     base: &Lv,
     bytes: &'a [u8],
     dep: &mut Lv,
 ) -> Result<(KeptLv, &'a [u8]), FieldError>
-    ensures { Gives (λ x. (x.0, x.1.now)) result (vector_at One base.now bytes.now) }
+    ensures { Gives (λ x. (x.0, x.1.now)) result (vector_at format base.now bytes.now) }
 {
-    let (mask, rest) = u16_of(bytes)?;
+    let (mask, rest) = read_mask(format, bytes)?;
     if mask == 0 {
         return Ok((KeptLv::of(alloc, base)?, rest));
     }
@@ -72,25 +88,24 @@ pub(crate) fn vector_of<'a>(
 
 // ---- writing
 
-fn bit_above(low: u64, part: u64) -> u32
+fn bit_above(low: u64, part: u64) -> u64
     ensures { result ≡ (if nat_lt low part then 1 else 0) }
 {
     if low < part { 1 } else { 0 }
 }
 
-fn mask_above(base: &Lv, dep: &Lv) -> u16
-    requires width { length base.now ≡ length dep.now }
-    requires fits { length base.now ≤ most_streams One }
+fn mask_above(base: &Lv, dep: &Lv) -> u32
+    requires { length base.now ≡ length dep.now }
     ensures { result ≡ mask_of base.now dep.now }
 {
     let n = base.width();
-    let mut mask: u32 = 0;
+    let mut mask: u64 = 0;
     for k in 0..n {
         let j = n - 1 - k;
         let bit = bit_above(base.get(j), dep.get(j));
         mask = 2 * mask + bit;
     }
-    mask as u16
+    mask as u32
 }
 
 /// How many bytes the components above those of the base take.
@@ -123,15 +138,43 @@ fn put_parts(out: &mut Vec<u8>, base: &Lv, dep: &Lv) -> Result<(), AllocError>
     Ok(())
 }
 
+/// How many bytes a mask takes.
 #[tactic(auto, unfolding(crate::specs::Format::mask_width))]
-pub(crate) fn put_vector(out: &mut Vec<u8>, base: &Lv, dep: &Lv) -> Result<(), AllocError>
+pub(crate) fn mask_size(format: Format) -> usize
+    ensures exact { result ≡ byte_len (mask_width format) }
+    ensures small { result ≤ 4 }
+{
+    match format {
+        Format::One => 2,
+        Format::Two => 4,
+    }
+}
+
+/// Writes a mask, in the width of the format.
+#[tactic(auto, unfolding(crate::specs::Format::mask_width))]
+fn put_mask(out: &mut Vec<u8>, format: Format, mask: u32) -> Result<(), AllocError>
+    requires { mask < 2 ^ most_streams format }
+    ensures { OnOk result (out.new.items ≡ out.old.items ++ to_be_bytes (mask_width format) mask) }
+{
+    match format {
+        Format::One => out.extend_from_slice(&(mask as u16).to_be_bytes()),
+        Format::Two => out.extend_from_slice(&mask.to_be_bytes()),
+    }
+}
+
+/// Writes the mask, and the components above those of the base.
+pub(crate) fn put_vector(
+    out: &mut Vec<u8>,
+    format: Format,
+    base: &Lv,
+    dep: &Lv,
+) -> Result<(), AllocError>
     requires width { length base.now ≡ length dep.now }
-    requires fits { length base.now ≤ most_streams One }
-    ensures bytes { OnOk result (out.new.items ≡ out.old.items ++ vector One base.now dep.now) }
+    requires fits { length base.now ≤ most_streams format }
+    ensures bytes { OnOk result (out.new.items ≡ out.old.items ++ vector format base.now dep.now) }
     ensures places { OnOk result (ArePlaces dep.now) }
 {
-    let mask = mask_above(base, dep);
-    out.extend_from_slice(&mask.to_be_bytes())?;
+    put_mask(out, format, mask_above(base, dep))?;
     put_parts(out, base, dep)
 }
 
@@ -162,6 +205,20 @@ pub fn compress(dep: &Lv, anchor: &Lv) -> u16
     requires width { length dep.now ≡ length anchor.now }
     requires covers { AtMost anchor.now dep.now }
     requires streams { length dep.now ≤ most_streams One }
+    ensures exact { result ≡ mask_of anchor.now dep.now }
+    // A bit is set exactly where the component is above the anchor's.
+    ensures bits { (j : ℕ) → j < length dep.now → bit_at result j ≡ (if nat_lt (slice_index anchor.now j) (slice_index dep.now j) then 1 else 0) }
+    // There are no other bits.
+    ensures small { result < 2 ^ length dep.now }
+{
+    mask_above(anchor, dep) as u16
+}
+
+/// The mask of a vector above an anchor's in format 2: bit `j` is stream `j`.
+pub fn compress_wide(dep: &Lv, anchor: &Lv) -> u32
+    requires width { length dep.now ≡ length anchor.now }
+    requires covers { AtMost anchor.now dep.now }
+    requires streams { length dep.now ≤ most_streams Two }
     ensures exact { result ≡ mask_of anchor.now dep.now }
     // A bit is set exactly where the component is above the anchor's.
     ensures bits { (j : ℕ) → j < length dep.now → bit_at result j ≡ (if nat_lt (slice_index anchor.now j) (slice_index dep.now j) then 1 else 0) }

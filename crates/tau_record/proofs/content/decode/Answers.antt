@@ -1,13 +1,10 @@
-use Rattle.std.proofs.Common.{arith}
-use Rattle.tau_record.specs.Format.{One}
-use Rattle.tau_record.proofs.Walk.{is_found, is_only, is_bad}
 use Rattle.tau_record.proofs.content.decode.Goals as goal
 
 pub returns-clause-found : goal.returns-clause-found
-returns-clause-found c = is_found One c.args.n c.args.content.now c.records.result (λ i. omega (arith, c.type_inv.content i)) c.records.ensures
+returns-clause-found c = c.decode_as.ensures.found
 
 pub returns-clause-only : goal.returns-clause-only
-returns-clause-only c = λ ps h. is_only One c.args.n c.args.content.now c.records.result ps c.requires.high c.records.ensures h
+returns-clause-only c = c.decode_as.ensures.only
 
 pub returns-clause-bad : goal.returns-clause-bad
-returns-clause-bad c = λ fault e. is_bad One c.args.n c.args.content.now c.records.result fault (λ i. omega (arith, c.type_inv.content i)) c.records.ensures e
+returns-clause-bad c = c.decode_as.ensures.bad

@@ -1,5 +1,4 @@
 use Rattle.std.proofs.Common.{◌≡◌, ◌+◌, ◌-◌, ◌≤◌, length}
-use Rattle.tau_record.specs.Format.{One}
 use Rattle.tau_record.specs.Content.{records_at, content_at}
 use Rattle.tau_record.proofs.FieldLaws.{IsBytes}
 use Rattle.tau_record.specs.Record.{AreVectors}
@@ -12,5 +11,5 @@ invariant-loop l = record {
   fuel : length l.rest + l.counter ≤ length l.content;
   are : AreVectors l.n l.vectors.items;
   bytes : IsBytes l.rest;
-  reads : in_fronts l.placed.items (records_at One l.n (length l.content - l.counter) l.at l.vectors.items l.rest) ≡ content_at One l.n l.content;
+  reads : in_fronts l.placed.items (records_at l.format l.n (length l.content - l.counter) l.at l.vectors.items l.rest) ≡ content_at l.format l.n l.content;
 }
