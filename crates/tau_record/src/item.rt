@@ -175,6 +175,21 @@ fn writes_of<'a>(
     Ok(rest)
 }
 
+/// Reads an argument of any kind, and puts it after those before it. It lays a place for a whole value, which numbers do
+/// without.
+#[inline(never)]
+fn put_any<'a>(
+    bytes: &'a [u8],
+    args: &mut ArrayVec<Value, MAX_ARGS>,
+) -> Result<&'a [u8], FieldError>
+    requires { length args.old.items < MAX_ARGS }
+    ensures { Adds (λ x. x.now) result (value_at bytes.now) args.old.items args.new.items }
+{
+    let (value, rest) = value_of(bytes)?;
+    args.push(value);
+    Ok(rest)
+}
+
 /// Reads an argument, and puts it after those before it.
 #[tactic(auto, unfolding(crate::specs::Item::value_at))]
 fn put_arg<'a>(
@@ -190,11 +205,7 @@ fn put_arg<'a>(
             args.push(Value::Int(number.cast_signed()));
             Ok(rest)
         }
-        _ => {
-            let (value, rest) = value_of(bytes)?;
-            args.push(value);
-            Ok(rest)
-        }
+        _ => put_any(bytes, args),
     }
 }
 

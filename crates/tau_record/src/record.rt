@@ -17,6 +17,7 @@ use std::alloc::Global;
 use tau_base::{Call, Key, Lv, MAX_ARGS, MAX_LSN, MAX_WRITES, Value};
 
 /// The number of a record's call, that of its anchor, and its vector, which may be read by way of `dep`.
+#[inline(always)]
 #[tactic(auto, unfolding(crate::specs::Record::origin_at))]
 fn origin_of<'a>(
     alloc: Global,
