@@ -7,8 +7,9 @@ use std::process::Abort;
 use std::test::Fail;
 use tau_base::{Call, Key, Lv, Text64, Value};
 use tau_record::{
-    Entry, KeptLv, KeptWrites, LentWrites, Placed, RecordCause, RecordFault, RecordRefusal,
-    compress, decode, encode_anchor, encode_catalogue, encode_command, encode_written, raise,
+    Entry, Format, KeptLv, KeptWrites, LentWrites, Placed, RecordCause, RecordFault, RecordRefusal,
+    compress, compress_wide, decode, decode_as, encode_anchor, encode_catalogue, encode_command,
+    encode_command_wide, encode_written, encode_written_wide, raise,
 };
 
 /// The bytes of hexadecimal digits, between which there may be spaces.
@@ -36,6 +37,14 @@ const CATALOGUE: &str = "04 0000000d 7461626c6520610a";
 /// The record of call 1, which puts 5 into row 1.
 const WRITTEN: &str =
     "01 00000028 0000000000000001 00000000 0000 0001 0000 0000000000000001 01 0000000000000005";
+
+/// The same record in format 2.
+const WIDE_WRITTEN: &str =
+    "01 0000002a 0000000000000001 00000000 00000000 0001 0000 0000000000000001 01 0000000000000005";
+
+/// The same call as a command record in format 2.
+const WIDE_COMMAND: &str =
+    "02 00000033 0000000000000001 00000000 00000000 0000 03 01 0000000000000000 01 0000000000000001 01 0000000000000005";
 
 /// The catalogue record, and then other bytes.
 fn content_of(alloc: Global, rest: &str) -> Result<Vec<u8>, Fail> {
@@ -138,11 +147,81 @@ fn commands_have_the_stated_bytes(rt: HostRuntime) -> Result<(), Fail> {
     )
 }
 
+/// The bytes of the record, in format 2, of a call that puts a number into row 1, above no anchor.
+fn wide_put(
+    rt: &impl Abort,
+    alloc: Global,
+    call: u64,
+    dep: &[u64],
+    number: i64,
+) -> Result<Vec<u8>, Fail> {
+    assert!(rt; 1 <= call);
+    let zero = vector(rt, &[0, 0]);
+    let dep = vector(rt, dep);
+    assert!(rt; dep.width() == zero.width());
+    assert!(rt; dep.covers(&zero));
+    let writes = [(Key { table: 0, row: 1 }, Value::Int(number))];
+    Ok(encode_written_wide(alloc, call, 0, &dep, &zero, &writes)?)
+}
+
+/// The bytes of the command record, in format 2, of call 1 with these arguments, above no anchor.
+fn wide_command(rt: &impl Abort, alloc: Global, numbers: &[i64]) -> Result<Vec<u8>, Fail> {
+    let zero = Lv::zero(2);
+    let mut args = ArrayVec::new();
+    for number in numbers {
+        if !args.is_full() {
+            args.push(Value::Int(*number));
+        }
+    }
+    assert!(rt; zero.covers(&zero));
+    Ok(encode_command_wide(alloc, 1, 0, &zero, &zero, &Call { proc: 0, args })?)
+}
+
+#[test]
+fn wide_records_have_the_stated_bytes(rt: HostRuntime) -> Result<(), Fail> {
+    let alloc = rt.alloc();
+    let first = wide_put(&rt, alloc, 1, &[0, 0], 5)?;
+    are_bytes(&rt, alloc, first.as_slice(), WIDE_WRITTEN)?;
+    let second = wide_put(&rt, alloc, 2, &[55, 0], 7)?;
+    are_bytes(
+        &rt,
+        alloc,
+        second.as_slice(),
+        "01 00000032 0000000000000002 00000000 00000001 0000000000000037 0001 0000 0000000000000001 01 0000000000000007",
+    )?;
+    let command = wide_command(&rt, alloc, &[0, 1, 5])?;
+    are_bytes(&rt, alloc, command.as_slice(), WIDE_COMMAND)
+}
+
 /// The mask of a vector above an anchor.
 fn mask(rt: &impl Abort, dep: &Lv, anchor: &Lv) -> u16 {
     assert!(rt; dep.width() == anchor.width());
     assert!(rt; dep.covers(anchor));
     compress(dep, anchor)
+}
+
+/// The mask of a vector above an anchor in format 2.
+fn wide_mask(rt: &impl Abort, dep: &Lv, anchor: &Lv) -> u32 {
+    assert!(rt; dep.width() == anchor.width());
+    assert!(rt; dep.covers(anchor));
+    compress_wide(dep, anchor)
+}
+
+/// Bit `j` is stream `j` in both formats.
+#[test]
+fn masks_of_both_formats(rt: HostRuntime) -> Result<(), Fail> {
+    let zero = Lv::zero(16);
+    let low = zero.with(0, 53);
+    let both = low.with(15, 61);
+    for (dep, anchor, bits) in [
+        (&low, &zero, 1),
+        (&both, &zero, 0x8001),
+        (&both, &low, 0x8000),
+    ] {
+        assert_eq!(rt; mask(&rt, dep, anchor), bits);
+        assert_eq!(rt; wide_mask(&rt, dep, anchor), u32::from(bits));
+    }
+    Ok(())
 }
 
 /// The catalogue record, an anchor, and the record of call 1 with the same vector.
@@ -160,8 +239,8 @@ fn place_of(rt: &impl Abort, placed: &[Placed], i: usize) -> (u64, u64) {
     (placed[i].start, placed[i].past)
 }
 
-/// The entry is the one write of call 1 with this vector, above the first anchor.
-fn is_first_write(rt: &impl Abort, entry: &Entry, positions: &[u64]) {
+/// The entry is the one write of call 1 with this vector, above the anchor with this number.
+fn is_first_write(rt: &impl Abort, entry: &Entry, named: u32, positions: &[u64]) {
     match entry {
         Entry::Written {
             number,
@@ -170,7 +249,7 @@ fn is_first_write(rt: &impl Abort, entry: &Entry, positions: &[u64]) {
             writes,
         } => {
             assert_eq!(rt; *number, 1);
-            assert_eq!(rt; *anchor, 1);
+            assert_eq!(rt; *anchor, named);
             assert_eq!(rt; dep.as_slice(), positions);
             assert_eq!(rt; count_of(writes), 1);
         }
@@ -191,7 +270,45 @@ fn record_above_an_anchor(rt: HostRuntime) -> Result<(), Fail> {
     assert_eq!(rt; placed.len(), 3);
     assert_eq!(rt; place_of(&rt, placed.as_slice(), 1), (13, 42));
     assert_eq!(rt; place_of(&rt, placed.as_slice(), 2), (42, 82));
-    is_first_write(&rt, &placed[2].entry, &[13, 13, 53]);
+    is_first_write(&rt, &placed[2].entry, 1, &[13, 13, 53]);
+    Ok(())
+}
+
+/// The entry is call 1, above no anchor, with these arguments.
+fn is_first_call(rt: &impl Abort, entry: &Entry, args: &[Value]) {
+    match entry {
+        Entry::Command {
+            number,
+            anchor,
+            dep,
+            call,
+        } => {
+            assert_eq!(rt; *number, 1);
+            assert_eq!(rt; *anchor, 0);
+            assert_eq!(rt; dep.as_slice(), [0, 0].as_slice());
+            let call = call.call();
+            assert_eq!(rt; call.proc, 0);
+            assert!(rt; call.args.as_slice() == args);
+        }
+        _ => assert!(rt; false),
+    }
+}
+
+/// Records of format 2 are read again, each in its place.
+#[test]
+fn wide_contents_are_read(rt: HostRuntime) -> Result<(), Fail> {
+    let alloc = rt.alloc();
+    let content = content_of(alloc, WIDE_WRITTEN)?;
+    let placed = decode_as(alloc, Format::Two, 2, content.as_slice())?;
+    assert_eq!(rt; placed.len(), 2);
+    assert_eq!(rt; place_of(&rt, placed.as_slice(), 1), (13, 55));
+    is_first_write(&rt, &placed[1].entry, 0, &[0, 0]);
+    let content = content_of(alloc, WIDE_COMMAND)?;
+    let placed = decode_as(alloc, Format::Two, 2, content.as_slice())?;
+    assert_eq!(rt; placed.len(), 2);
+    assert_eq!(rt; place_of(&rt, placed.as_slice(), 1), (13, 64));
+    let args = [Value::Int(0), Value::Int(1), Value::Int(5)];
+    is_first_call(&rt, &placed[1].entry, &args);
     Ok(())
 }
 
@@ -365,6 +482,51 @@ const HEADS: [(&str, u8); 8] = [
 #[test]
 fn each_cause_of_a_head_at_its_edge(rt: HostRuntime) -> Result<(), Fail> {
     have_causes(&rt, rt.alloc(), &HEADS)
+}
+
+/// What `decode_as` finds in the catalogue record and other bytes of format 2: 0, or the cause of the record at 13.
+fn wide_cause_of(rt: &impl Abort, alloc: Global, rest: &str) -> Result<u8, Fail> {
+    let content = content_of(alloc, rest)?;
+    match decode_as(alloc, Format::Two, 1, content.as_slice()) {
+        Ok(_) => Ok(0),
+        Err(RecordRefusal::NoMemory) => Ok(100),
+        Err(RecordRefusal::Bad(fault)) => {
+            assert_eq!(rt; fault.at, 13);
+            Ok(fault.cause as u8)
+        }
+    }
+}
+
+/// Records of format 2 and of the other format, and the cause that is found there in format 2, or 0.
+const WIDE: [(&str, u8); 6] = [
+    (WIDE_WRITTEN, 0),
+    // the mask
+    (
+        "01 00000032 0000000000000001 00000000 00000001 0000000000000001 0001 0000 0000000000000001 01 0000000000000005",
+        0,
+    ),
+    (
+        "01 0000002a 0000000000000001 00000000 00000002 0001 0000 0000000000000001 01 0000000000000005",
+        5,
+    ),
+    (
+        "01 0000002a 0000000000000001 00000000 00010000 0001 0000 0000000000000001 01 0000000000000005",
+        5,
+    ),
+    ("01 00000014 0000000000000001 00000000 000000", 3),
+    // mask and count together are the mask, whose component is then 0
+    (WRITTEN, 5),
+];
+
+#[test]
+fn each_cause_of_a_wide_head(rt: HostRuntime) -> Result<(), Fail> {
+    let alloc = rt.alloc();
+    for (rest, cause) in WIDE {
+        assert_eq!(rt; wide_cause_of(&rt, alloc, rest)?, cause, "{rest}");
+    }
+    // In format 1 the count is the second half of the mask.
+    assert_eq!(rt; cause_of(&rt, alloc, 1, WIDE_WRITTEN)?, 6);
+    Ok(())
 }
 
 /// The same of its writes.
