@@ -7,7 +7,8 @@ use Rattle.std.proofs.lemmas.List.Concat.{flat_map-cons}
 use Rattle.tau_base.specs.declared.value.Key.{Key}
 use Rattle.tau_base.specs.declared.value.Value.{Value}
 use Rattle.tau_base.specs.declared.value.Value.TheVariants.{Absent, Int, Text}
-use Rattle.tau_record.specs.Format.{Format, One, Two, mask_width, most_streams}
+use Rattle.tau_record.specs.Format.{Format, mask_width, most_streams}
+use Rattle.tau_record.specs.declared.format.Format.TheVariants.{One, Two}
 use Rattle.tau_record.specs.Vector.{mask_of}
 use Rattle.tau_record.specs.Item.{value, FitsValue, write, FitsWrite}
 use Rattle.tau_record.specs.Record.{origin, base_of, body, AreVectors, FitsBody}

@@ -1,14 +1,23 @@
 -- The formats of a log. They differ in the width of a mask.
 use Rattle.std.specs.Prelude.{ℕ}
 use Rattle.std.specs.Int.{Width, w16, w32}
-pub use Rattle.tau_record.specs.declared.format.Format.{Format}
-pub use Rattle.tau_record.specs.declared.format.Format.TheVariants.{One, Two}
+use Rattle.tau_record.specs.declared.format.Format as declared
+use Rattle.tau_record.specs.declared.format.Format.TheVariants as formats
+
+abbrev pub Format : Type 0
+Format = declared.Format
+
+abbrev pub One : Format
+One = formats.One
+
+abbrev pub Two : Format
+Two = formats.Two
 
 unfoldable pub mask_width : Format → Width
-mask_width One = w16
-mask_width Two = w32
+mask_width formats.One = w16
+mask_width formats.Two = w32
 
 -- the most streams of a format, which are the bits of a mask
 abbrev pub most_streams : Format → ℕ
-most_streams One = 16
-most_streams Two = 32
+most_streams formats.One = 16
+most_streams formats.Two = 32
