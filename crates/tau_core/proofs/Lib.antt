@@ -49,6 +49,7 @@ pub mod Spellings
 pub mod Starts
 pub mod Steps
 pub mod Takes
+pub mod Told
 pub mod Turns
 pub mod Undone
 pub mod Waits

@@ -139,3 +139,7 @@ there-at p now e e' same is there = subst (λ (x : Plain × Event). IsThere x.0 
 
 pub steps-at : (p now p' : Plain) (e e' : Event) (o : Outcome) → p ≡ now → e ≡ e' → ((K : List (Act Txn)) (h : Hidden) → Stands p K h → Steps p p' K h e' o) → (K : List (Act Txn)) (h : Hidden) → Stands now K h → Steps now p' K h e o
 steps-at p now p' e e' o same is f = subst (λ (x : Plain × Event). (K : List (Act Txn)) (h : Hidden) → Stands x.0 K h → Steps x.0 p' K h x.1 o) (λ i. (same i, sym is i)) f
+
+-- an event with its outcome, told by another call
+pub told-at : (p p' : Plain) (K : List (Act Txn)) (h : Hidden) (e e' : Event) (o o' : Outcome) → e ≡ e' → o ≡ o' → Steps p p' K h e' o' → Steps p p' K h e o
+told-at p p' K h e e' o o' is same q = subst (λ (x : Event × Outcome). Steps p p' K h x.0 x.1) (λ i. (sym is i, sym same i)) q

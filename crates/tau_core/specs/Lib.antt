@@ -1,4 +1,5 @@
 pub mod Anchors
+pub mod Answered
 pub mod Begins
 pub mod Body
 pub mod Carried

@@ -1,13 +1,13 @@
 //! A worker's call gets the place of its record.
-ghost use Rattle.std.specs.Prelude.{◌≡◌, ◌<◌, ◌+◌, IfSome, length, slice_index};
+ghost use Rattle.std.specs.Prelude.{◌≡◌, ◌<◌, ◌+◌, length, replicate, slice_index, true};
 ghost use Rattle.tau_base.specs.declared.limits.TheConstants.{MAX_LSN};
 ghost use Rattle.tau_core.specs.State.{plain};
 ghost use Rattle.tau_core.specs.Stands.{Sound, anchors_at};
 ghost use Rattle.tau_core.specs.Pieces.{Names, newest_of};
 ghost use Rattle.tau_core.specs.Commits.{IsAtCommit, CommitBy, stream_of};
+ghost use Rattle.tau_core.specs.Answered.{placed_by};
 
-use crate::event::Outcome;
-use crate::phase::phase_of_kind;
+use crate::event::Acted;
 use crate::state::State;
 use tau_base::{Lv, MAX_LSN, stream_of};
 use tau_txn::ActionKind;
@@ -16,40 +16,42 @@ use tau_txn::ActionKind;
 const LONGEST: u64 = 4_294_967_296;
 
 /// The updating call that holds all its keys gets its place.
-pub(crate) fn commit(state: &mut State, worker: usize) -> Outcome
+pub(crate) fn commit(state: &mut State, worker: usize) -> Acted
     requires sound { Sound (plain state.old) }
     requires there { worker < state.old.load.workers }
-    ensures { CommitBy (plain state.old) worker result (plain state.new) }
+    ensures { CommitBy (plain state.old) worker (placed_by (slice_index state.old.ends (stream_of (plain state.old) worker)) result) (plain state.new) }
 {
     let seat = &state.seats[worker];
     match seat.txn.kind() {
         ActionKind::Commit => place(state, worker),
-        kind => Outcome::NotNow {
-            phase: phase_of_kind(kind),
-        },
+        kind => Acted::Other { kind },
     }
 }
 
 /// It names the newest anchor of its stream, if there is one, and gets its place.
-fn place(state: &mut State, worker: usize) -> Outcome
+fn place(state: &mut State, worker: usize) -> Acted
     requires sound { Sound (plain state.old) }
     requires there { worker < state.old.load.workers }
     requires at { IsAtCommit (plain state.old) worker }
-    ensures { CommitBy (plain state.old) worker result (plain state.new) }
+    ensures { CommitBy (plain state.old) worker (placed_by (slice_index state.old.ends (stream_of (plain state.old) worker)) result) (plain state.new) }
 {
     let stream = stream_of(worker, state.load.streams);
     let start = state.ends.get(stream);
     if start >= MAX_LSN - LONGEST {
-        return Outcome::NoMemory;
+        return Acted::NoMemory;
     }
-    match newest(state, stream) {
-        None => Outcome::NoMemory,
-        Some(named) => place_above(state, worker, start, &named),
+    let mut named = Named {
+        number: 0,
+        lv: Lv::zero(state.load.streams),
+    };
+    if !newest(state, stream, &mut named) {
+        return Acted::NoMemory;
     }
+    place_above(state, worker, start, &named)
 }
 
 /// Its record is made above this anchor, and gets its place.
-fn place_above(state: &mut State, worker: usize, start: u64, named: &Named) -> Outcome
+fn place_above(state: &mut State, worker: usize, start: u64, named: &Named) -> Acted
     requires sound { Sound (plain state.old) }
     requires there { worker < state.old.load.workers }
     requires at { IsAtCommit (plain state.old) worker }
@@ -58,20 +60,20 @@ fn place_above(state: &mut State, worker: usize, start: u64, named: &Named) -> O
     requires names { Names state.old.load (stream_of (plain state.old) worker) (anchors_at (plain state.old) (stream_of (plain state.old) worker)) named.now.number named.now.lv }
     requires newest { named.now.number ≡ newest_of (slice_index state.old.load.opening.anchors.items (stream_of (plain state.old) worker)) (anchors_at (plain state.old) (stream_of (plain state.old) worker)) }
     requires wide { length named.now.lv ≡ state.old.load.streams }
-    ensures { CommitBy (plain state.old) worker result (plain state.new) }
+    ensures { CommitBy (plain state.old) worker (placed_by (slice_index state.old.ends (stream_of (plain state.old) worker)) result) (plain state.new) }
 {
     let seat = &mut state.seats[worker];
     match seat.outbox.reserve() {
-        Err(_) => Outcome::NoMemory,
+        Err(_) => Acted::NoMemory,
         Ok(()) => match seat.txn.prepare(named.number, &named.lv) {
-            Err(_) => Outcome::NoMemory,
+            Err(_) => Acted::NoMemory,
             Ok(()) => {
                 let past = start + seat.txn.record_size();
                 seat.txn.placed(start);
                 seat.start = start;
                 seat.txn.commit_into(&mut state.committed);
                 state.ends.set(stream_of(worker, state.load.streams), past);
-                Outcome::Placed { start }
+                Acted::Went
             }
         },
     }
@@ -84,29 +86,28 @@ struct Named {
     lv: Lv,
 }
 
-/// The newest anchor of the stream; where there is none, the zero vector with the number 0.
-fn newest(state: &State, stream: usize) -> Option<Named>
+/// Puts the newest anchor of the stream in place of the zero vector with the number 0, which stays where there is none. False where its
+/// number would be too great.
+fn newest(state: &State, stream: usize, named: &mut Named) -> bool
     requires sound { Sound (plain state.now) }
     requires there { stream < state.now.load.streams }
-    ensures names { IfSome result (λ r. Names state.now.load stream (anchors_at (plain state.now) stream) r.number r.lv) }
-    ensures newest { IfSome result (λ r. r.number ≡ newest_of (slice_index state.now.load.opening.anchors.items stream) (anchors_at (plain state.now) stream)) }
-    ensures wide { IfSome result (λ r. length r.lv ≡ state.now.load.streams) }
+    requires number { named.old.number ≡ 0 }
+    requires zero { named.old.lv ≡ replicate state.now.load.streams 0 }
+    ensures names { result ≡ true → Names state.now.load stream (anchors_at (plain state.now) stream) named.new.number named.new.lv }
+    ensures newest { result ≡ true → named.new.number ≡ newest_of (slice_index state.now.load.opening.anchors.items stream) (anchors_at (plain state.now) stream) }
+    ensures wide { result ≡ true → length named.new.lv ≡ state.now.load.streams }
 {
     let part = &state.streams[stream];
     let count = part.anchors.len();
     if count == 0 {
-        return Some(Named {
-            number: 0,
-            lv: Lv::zero(state.load.streams),
-        });
+        return true;
     }
     let before = state.load.opening.anchors.as_slice()[stream];
     let number = u64::from(before) + count as u64;
     if number >= LONGEST {
-        return None;
+        return false;
     }
-    Some(Named {
-        number: number as u32,
-        lv: part.anchors[count - 1],
-    })
+    named.number = number as u32;
+    named.lv = part.anchors[count - 1];
+    true
 }

@@ -5,70 +5,68 @@ ghost use Rattle.tau_core.specs.Stands.{Sound, Stood};
 ghost use Rattle.tau_core.specs.Begins.{HasNext};
 ghost use Rattle.tau_core.specs.Firsts.{ActsBy, BeginsBy, Rests};
 ghost use Rattle.tau_core.specs.Frees.{IsAtDone, DoneBy, EndsCall, HasJoined};
+ghost use Rattle.tau_core.specs.Answered.{went_by};
 
 use crate::begin::{begin_call, in_hand, make_room, next_number, undo};
-use crate::event::{Outcome, Phase};
-use crate::phase::phase_of_kind;
+use crate::event::Acted;
 use crate::state::State;
 use tau_txn::ActionKind;
 
 /// The worker's call waits for its acknowledgement; a worker that rests begins its next call.
-pub(crate) fn done(state: &mut State, worker: usize) -> Outcome
+pub(crate) fn done(state: &mut State, worker: usize) -> Acted
     requires stood { Stood (plain state.old) }
     requires there { worker < state.old.load.workers }
-    ensures { ActsBy DoneBy (plain state.old) worker result (plain state.new) }
+    ensures { ActsBy DoneBy (plain state.old) worker (went_by result) (plain state.new) }
 {
     if in_hand(state, worker) {
         return done_next(state, worker);
     }
     match next_number(state, worker) {
-        None => Outcome::NotNow {
-            phase: Phase::Resting,
+        None => Acted::Other {
+            kind: ActionKind::Nothing,
         },
         Some(number) => first_done(state, worker, number),
     }
 }
 
 /// It begins the call of this number, which has finished at once.
-fn first_done(state: &mut State, worker: usize, number: u64) -> Outcome
+fn first_done(state: &mut State, worker: usize, number: u64) -> Acted
     requires stood { Stood (plain state.old) }
     requires there { worker < state.old.load.workers }
     requires rests { Rests (plain state.old) worker }
     requires next { HasNext (plain state.old) worker number }
-    ensures { BeginsBy DoneBy worker number (plain state.old) result (plain state.new) }
+    ensures { BeginsBy DoneBy worker number (plain state.old) (went_by result) (plain state.new) }
 {
     match make_room(state, worker) {
-        Err(_) => Outcome::NoMemory,
+        Err(_) => Acted::NoMemory,
         Ok(()) => {
             let mark = begin_call(state, worker, number);
             match done_next(state, worker) {
-                Outcome::NotNow { .. } => {
+                Acted::Other { .. } => {
                     undo(state, worker, mark);
-                    Outcome::NotNow {
-                        phase: Phase::Resting,
+                    Acted::Other {
+                        kind: ActionKind::Nothing,
                     }
                 }
-                outcome => outcome,
+                acted => acted,
             }
         }
     }
 }
 
 /// The call that has finished and holds no key waits for its acknowledgement.
-pub(crate) fn done_next(state: &mut State, worker: usize) -> Outcome
+pub(crate) fn done_next(state: &mut State, worker: usize) -> Acted
     requires sound { Sound (plain state.old) }
     requires there { worker < state.old.load.workers }
-    ensures { DoneBy (plain state.old) worker result (plain state.new) }
+    ensures { DoneBy (plain state.old) worker (went_by result) (plain state.new) }
 {
     let seat = &state.seats[worker];
     match seat.txn.kind() {
         ActionKind::Done => {
             finish(state, worker);
-            Outcome::Went
+            Acted::Went
         }
-        kind => Outcome::NotNow {
-            phase: phase_of_kind(kind),
-        },
+        kind => Acted::Other { kind },
     }
 }
 

@@ -1,5 +1,6 @@
 //! Events, and what they answer.
 use tau_base::{Lv, Value};
+use tau_txn::ActionKind;
 
 /// An event of the core. Each touches one part and one actor.
 #[derive(Clone, Copy, Debug, PartialEq, Eq)]
@@ -105,6 +106,42 @@ pub enum Outcome {
     NotNow {
         /// Where the actor stands.
         phase: Phase,
+    },
+    /// Out of memory, and nothing changed.
+    NoMemory,
+}
+
+/// What came of an event of a worker. It hands nothing out that is large.
+#[derive(Clone, Copy, Debug, PartialEq, Eq)]
+pub enum Acted {
+    /// It happened.
+    Went,
+    /// Others hold the key in a conflicting mode; the call is to quit.
+    Busy {
+        /// The lowest of them.
+        holder: u8,
+    },
+    /// The call does another thing next, and nothing changed.
+    Other {
+        /// What it does next.
+        kind: ActionKind,
+    },
+    /// Out of memory, and nothing changed.
+    NoMemory,
+}
+
+/// What came of a Gather.
+#[derive(Clone, Copy, Debug, PartialEq, Eq)]
+pub enum Gathering {
+    /// The stream is gathered up to here.
+    Upto {
+        /// The position.
+        upto: u64,
+    },
+    /// The stream was stopped here, and nothing changed.
+    Stopped {
+        /// The position.
+        at: u64,
     },
     /// Out of memory, and nothing changed.
     NoMemory,

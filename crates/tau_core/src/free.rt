@@ -4,27 +4,27 @@ ghost use Rattle.tau_core.specs.State.{plain};
 ghost use Rattle.tau_core.specs.Plain.{PlainSeat};
 ghost use Rattle.tau_core.specs.Stands.{Stood};
 ghost use Rattle.tau_core.specs.Frees.{IsAtFree, FreeBy, FreesKey, HasJoined};
+ghost use Rattle.tau_core.specs.Answered.{went_by};
 ghost use Rattle.tau_txn.specs.Narrow.{written_in};
 
-use crate::event::Outcome;
-use crate::phase::phase_of_kind;
+use crate::event::Acted;
 use crate::state::State;
 use tau_base::{Key, shard_of};
 
 /// The call that is posted, or read-only and has finished, frees its lowest key.
-pub(crate) fn free(state: &mut State, worker: usize) -> Outcome
+pub(crate) fn free(state: &mut State, worker: usize) -> Acted
     requires stood { Stood (plain state.old) }
     requires there { worker < state.old.load.workers }
-    ensures { FreeBy (plain state.old) worker result (plain state.new) }
+    ensures { FreeBy (plain state.old) worker (went_by result) (plain state.new) }
 {
     let seat = &state.seats[worker];
     match seat.txn.free_asked() {
         Some(key) => {
             free_key(state, worker, key);
-            Outcome::Went
+            Acted::Went
         }
-        None => Outcome::NotNow {
-            phase: phase_of_kind(seat.txn.kind()),
+        None => Acted::Other {
+            kind: seat.txn.kind(),
         },
     }
 }

@@ -6,57 +6,56 @@ ghost use Rattle.tau_core.specs.View.{stop_in};
 ghost use Rattle.tau_core.specs.Anchors.{Reserves};
 ghost use Rattle.tau_core.specs.Gather.{MovesOwn, MovesPosted, GathersOn, Gathered, Roomy, IsGathered};
 ghost use Rattle.tau_core.specs.Ends.{IsNext};
+ghost use Rattle.tau_core.specs.Answered.{gathered_by};
 
-use crate::event::{Outcome, Phase};
+use crate::event::Gathering;
 use crate::state::State;
 use tau_base::{MAX_BODY, NoMemory, stream_of};
 
 /// Gathers the posted pieces that continue the stream.
-pub(crate) fn gather(state: &mut State, stream: usize) -> Outcome
+pub(crate) fn gather(state: &mut State, stream: usize) -> Gathering
     requires stood { Stood (plain state.old) }
     requires there { stream < state.old.load.streams }
-    ensures { Gathered (plain state.old) stream result (plain state.new) }
+    ensures { Gathered (plain state.old) stream (gathered_by result) (plain state.new) }
 {
     let part = &state.streams[stream];
     if let Some(at) = part.stop {
-        return Outcome::NotNow {
-            phase: Phase::Stopped { at },
-        };
+        return Gathering::Stopped { at };
     }
     gather_going(state, stream)
 }
 
 /// Where all that was placed is gathered nothing continues the stream.
-fn gather_going(state: &mut State, stream: usize) -> Outcome
+fn gather_going(state: &mut State, stream: usize) -> Gathering
     requires stood { Stood (plain state.old) }
     requires there { stream < state.old.load.streams }
     requires going { stop_in (slice_get state.old.streams.items stream) ≡ None }
-    ensures { Gathered (plain state.old) stream result (plain state.new) }
+    ensures { Gathered (plain state.old) stream (gathered_by result) (plain state.new) }
 {
     let upto = state.gathered.get(stream);
     let past = state.ends.get(stream);
     if upto == past {
-        return Outcome::Gathered { upto };
+        return Gathering::Upto { upto };
     }
     gather_all(state, stream)
 }
 
 /// Makes room for all that may come, so that nothing stops it once it has begun, and gathers round after round until nothing continues the stream.
-fn gather_all(state: &mut State, stream: usize) -> Outcome
+fn gather_all(state: &mut State, stream: usize) -> Gathering
     requires stood { Stood (plain state.old) }
     requires there { stream < state.old.load.streams }
     requires going { stop_in (slice_get state.old.streams.items stream) ≡ None }
-    ensures { Gathered (plain state.old) stream result (plain state.new) }
+    ensures { Gathered (plain state.old) stream (gathered_by result) (plain state.new) }
 {
     if reserve_body(state, stream).is_err() {
-        return Outcome::NoMemory;
+        return Gathering::NoMemory;
     }
     loop {
         let before = state.gathered.get(stream);
         gather_round(state, stream);
         let upto = state.gathered.get(stream);
         if upto == before {
-            return Outcome::Gathered { upto };
+            return Gathering::Upto { upto };
         }
     }
 }

@@ -31,7 +31,7 @@ mod take_body;
 mod top;
 
 pub use apart::Parts;
-pub use event::{Event, Outcome, Phase};
+pub use event::{Acted, Event, Gathering, Outcome, Phase};
 pub use laws::{
     acknowledged_calls_survive, committed_calls_are_of_the_run, cuts_are_closed,
     dependence_is_covered, gathered_bytes_spell_the_stream, numbers_are_of_the_reported_history,

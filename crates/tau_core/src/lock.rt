@@ -1,88 +1,89 @@
 //! A worker locks the key that its call wants.
 ghost use Rattle.std.specs.Prelude.{◌≡◌, ◌<◌, ◌≤◌, is_some, true};
-ghost use Rattle.std.specs.Option.{option_copied, unwrap_or};
 ghost use Rattle.tau_core.specs.State.{plain};
 ghost use Rattle.tau_core.specs.Stands.{Sound, Stood};
 ghost use Rattle.tau_core.specs.Begins.{HasNext};
 ghost use Rattle.tau_core.specs.Firsts.{ActsBy, BeginsBy, Rests};
 ghost use Rattle.tau_core.specs.Locks.{LockedBy, IsAtLock, Leaves};
+ghost use Rattle.tau_core.specs.Answered.{WithValue};
 ghost use Rattle.tau_txn.specs.Txn.{RunsBy};
 
 use crate::begin::{begin_call, in_hand, make_room, next_number, undo};
-use crate::event::{Outcome, Phase};
-use crate::phase::phase_of_kind;
+use crate::event::Acted;
 use crate::state::{Seat, State};
-use tau_base::{Key, Mode, Value, shard_of};
+use tau_base::{Key, Mode, shard_of};
 use tau_proc::Procs;
 use tau_shard::ShardRefusal;
+use tau_txn::ActionKind;
 
 /// The worker locks the key that it wants; one that rests begins its next call.
-pub(crate) fn lock(state: &mut State, worker: usize) -> Outcome
+pub(crate) fn lock(state: &mut State, worker: usize) -> Acted
     requires stood { Stood (plain state.old) }
     requires there { worker < state.old.load.workers }
-    ensures { ActsBy LockedBy (plain state.old) worker result (plain state.new) }
+    ensures { WithValue (λ outcome. ActsBy LockedBy (plain state.old) worker outcome (plain state.new)) result }
 {
     if in_hand(state, worker) {
         return lock_next(state, worker);
     }
     match next_number(state, worker) {
-        None => Outcome::NotNow {
-            phase: Phase::Resting,
+        None => Acted::Other {
+            kind: ActionKind::Nothing,
         },
         Some(number) => first_lock(state, worker, number),
     }
 }
 
 /// It begins the call of this number with its lock.
-fn first_lock(state: &mut State, worker: usize, number: u64) -> Outcome
+fn first_lock(state: &mut State, worker: usize, number: u64) -> Acted
     requires stood { Stood (plain state.old) }
     requires there { worker < state.old.load.workers }
     requires rests { Rests (plain state.old) worker }
     requires next { HasNext (plain state.old) worker number }
-    ensures { BeginsBy LockedBy worker number (plain state.old) result (plain state.new) }
+    ensures { WithValue (λ outcome. BeginsBy LockedBy worker number (plain state.old) outcome (plain state.new)) result }
 {
     match make_room(state, worker) {
-        Err(_) => Outcome::NoMemory,
+        Err(_) => Acted::NoMemory,
         Ok(()) => {
             let mark = begin_call(state, worker, number);
             match lock_next(state, worker) {
-                Outcome::NotNow { .. } => {
+                Acted::Went => Acted::Went,
+                Acted::Busy { holder } => Acted::Busy { holder },
+                Acted::Other { .. } => {
                     undo(state, worker, mark);
-                    Outcome::NotNow {
-                        phase: Phase::Resting,
+                    Acted::Other {
+                        kind: ActionKind::Nothing,
                     }
                 }
-                Outcome::NoMemory => {
+                Acted::NoMemory => {
                     undo(state, worker, mark);
-                    Outcome::NoMemory
+                    Acted::NoMemory
                 }
-                outcome => outcome,
             }
         }
     }
 }
 
 /// The call in hand takes its lock.
-pub(crate) fn lock_next(state: &mut State, worker: usize) -> Outcome
+pub(crate) fn lock_next(state: &mut State, worker: usize) -> Acted
     requires sound { Sound (plain state.old) }
     requires there { worker < state.old.load.workers }
-    ensures { LockedBy (plain state.old) worker result (plain state.new) }
+    ensures { WithValue (λ outcome. LockedBy (plain state.old) worker outcome (plain state.new)) result }
 {
     let seat = &state.seats[worker];
     match seat.txn.lock_asked() {
         Some((key, mode)) => take_lock(state, worker, key, mode),
-        None => Outcome::NotNow {
-            phase: phase_of_kind(seat.txn.kind()),
+        None => Acted::Other {
+            kind: seat.txn.kind(),
         },
     }
 }
 
 /// It takes the lock of this key.
-fn take_lock(state: &mut State, worker: usize, key: Key, mode: Mode) -> Outcome
+fn take_lock(state: &mut State, worker: usize, key: Key, mode: Mode) -> Acted
     requires sound { Sound (plain state.old) }
     requires there { worker < state.old.load.workers }
     requires wants { IsAtLock (plain state.old) worker key mode }
-    ensures { LockedBy (plain state.old) worker result (plain state.new) }
+    ensures { WithValue (λ outcome. LockedBy (plain state.old) worker outcome (plain state.new)) result }
 {
     let part = &mut state.shards[usize::from(shard_of(key))];
     let seat = &mut state.seats[worker];
@@ -91,24 +92,14 @@ fn take_lock(state: &mut State, worker: usize, key: Key, mode: Mode) -> Outcome
         Ok(()) => {
             let row = part.row(key);
             seat.txn.granted_by(row, &dep);
-            Outcome::Granted(value_of(row))
+            Acted::Went
         }
         Err(ShardRefusal::Busy { holder }) => {
             seat.txn.busy(&state.load.procs, holder);
             leave(seat, &state.load.procs);
-            Outcome::Busy { holder }
+            Acted::Busy { holder }
         }
-        Err(ShardRefusal::NoMemory) => Outcome::NoMemory,
-    }
-}
-
-/// The value of a row, Absent where there is none.
-fn value_of(row: Option<&Value>) -> Value
-    ensures { result ≡ unwrap_or (option_copied row.entry) Value.Absent }
-{
-    match row {
-        Some(value) => value.copied(),
-        None => Value::Absent,
+        Err(ShardRefusal::NoMemory) => Acted::NoMemory,
     }
 }
 

@@ -4,37 +4,38 @@ ghost use Rattle.tau_base.specs.declared.limits.TheConstants.{MAX_LSN};
 ghost use Rattle.tau_core.specs.State.{plain};
 ghost use Rattle.tau_core.specs.Stands.{Sound};
 ghost use Rattle.tau_core.specs.Managers.{Reaches, Bars, Persisted, StoppedBy};
+ghost use Rattle.tau_core.specs.Answered.{reached_by};
 
-use crate::event::{Outcome, Phase};
+use crate::event::Phase;
 use crate::state::State;
 
 /// Persists what is gathered of the stream up to a position.
-pub(crate) fn persist(state: &mut State, stream: usize, upto: u64) -> Outcome
+pub(crate) fn persist(state: &mut State, stream: usize, upto: u64) -> Result<(), Phase>
     requires sound { Sound (plain state.old) }
     requires there { stream < state.old.load.streams }
-    ensures { Persisted (plain state.old) stream upto result (plain state.new) }
+    ensures { Persisted (plain state.old) stream upto (reached_by result) (plain state.new) }
 {
     match bar(state, stream, upto) {
-        Some(phase) => Outcome::NotNow { phase },
+        Some(phase) => Err(phase),
         None => {
             state.plv.set(stream, upto);
-            Outcome::Went
+            Ok(())
         }
     }
 }
 
 /// Cuts the stream at a position.
-pub(crate) fn stop(state: &mut State, stream: usize, at: u64) -> Outcome
+pub(crate) fn stop(state: &mut State, stream: usize, at: u64) -> Result<(), Phase>
     requires sound { Sound (plain state.old) }
     requires there { stream < state.old.load.streams }
-    ensures { StoppedBy (plain state.old) stream at result (plain state.new) }
+    ensures { StoppedBy (plain state.old) stream at (reached_by result) (plain state.new) }
 {
     match bar(state, stream, at) {
-        Some(phase) => Outcome::NotNow { phase },
+        Some(phase) => Err(phase),
         None => {
             let part = &mut state.streams[stream];
             part.stop = Some(at);
-            Outcome::Went
+            Ok(())
         }
     }
 }

@@ -3,28 +3,26 @@ ghost use Rattle.std.specs.Prelude.{◌≡◌, ◌<◌};
 ghost use Rattle.tau_core.specs.State.{plain};
 ghost use Rattle.tau_core.specs.Stands.{Stood};
 ghost use Rattle.tau_core.specs.Frees.{IsAtPost, PostBy, PostsRecord};
+ghost use Rattle.tau_core.specs.Answered.{went_by};
 
-use crate::event::Outcome;
-use crate::phase::phase_of_kind;
+use crate::event::Acted;
 use crate::state::State;
 use tau_base::stream_of;
 use tau_txn::ActionKind;
 
 /// The record that has its place is posted.
-pub(crate) fn post(state: &mut State, worker: usize) -> Outcome
+pub(crate) fn post(state: &mut State, worker: usize) -> Acted
     requires stood { Stood (plain state.old) }
     requires there { worker < state.old.load.workers }
-    ensures { PostBy (plain state.old) worker result (plain state.new) }
+    ensures { PostBy (plain state.old) worker (went_by result) (plain state.new) }
 {
     let seat = &state.seats[worker];
     match seat.txn.kind() {
         ActionKind::Post => {
             post_record(state, worker);
-            Outcome::Went
+            Acted::Went
         }
-        kind => Outcome::NotNow {
-            phase: phase_of_kind(kind),
-        },
+        kind => Acted::Other { kind },
     }
 }
 

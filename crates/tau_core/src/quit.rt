@@ -4,27 +4,27 @@ ghost use Rattle.tau_core.specs.State.{plain};
 ghost use Rattle.tau_core.specs.Stands.{Stood};
 ghost use Rattle.tau_core.specs.Locks.{IsAtQuit, QuitBy};
 ghost use Rattle.tau_core.specs.Workers.{GivesBack};
+ghost use Rattle.tau_core.specs.Answered.{went_by};
 
-use crate::event::Outcome;
+use crate::event::Acted;
 use crate::lock::leave;
-use crate::phase::phase_of_kind;
 use crate::state::State;
 use tau_base::{Key, shard_of};
 
 /// The call in hand, which is to quit, gives its lowest key back.
-pub(crate) fn quit(state: &mut State, worker: usize) -> Outcome
+pub(crate) fn quit(state: &mut State, worker: usize) -> Acted
     requires stood { Stood (plain state.old) }
     requires there { worker < state.old.load.workers }
-    ensures { QuitBy (plain state.old) worker result (plain state.new) }
+    ensures { QuitBy (plain state.old) worker (went_by result) (plain state.new) }
 {
     let seat = &state.seats[worker];
     match seat.txn.quit_asked() {
         Some(key) => {
             give_back(state, worker, key);
-            Outcome::Went
+            Acted::Went
         }
-        None => Outcome::NotNow {
-            phase: phase_of_kind(seat.txn.kind()),
+        None => Acted::Other {
+            kind: seat.txn.kind(),
         },
     }
 }

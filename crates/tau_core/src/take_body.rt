@@ -17,3 +17,14 @@ pub(crate) fn take_body(state: &mut State, stream: usize) -> Vec<u8>
     let part = &mut state.streams[stream];
     mem::replace(&mut part.body, empty)
 }
+
+/// They are put in the place of what `bytes` had, into whose memory the stream is gathered from then on.
+pub(crate) fn swap_body(state: &mut State, stream: usize, bytes: &mut Vec<u8>)
+    requires sound { Sound (plain state.old) }
+    requires there { stream < state.old.load.streams }
+    ensures { Gives (plain state.old) stream bytes.new.items (plain state.new) }
+{
+    bytes.clear();
+    let part = &mut state.streams[stream];
+    mem::swap(&mut part.body, bytes);
+}

@@ -1,5 +1,5 @@
 //! The core.
-ghost use Rattle.std.specs.Prelude.{◌≡◌, ◌<◌, ◌≤◌, ◌↔◌, IfOk, IsTrue, List, length, map, slice_get, slice_index};
+ghost use Rattle.std.specs.Prelude.{ℕ, ◌≡◌, ◌<◌, ◌≤◌, ◌%◌, ◌↔◌, IfOk, IsTrue, List, Some, length, map, slice_get, slice_index};
 ghost use Rattle.tau_base.specs.Shards.{shard_number};
 ghost use Rattle.tau_base.specs.declared.limits.TheConstants.{MAX_CATALOGUE, MAX_STREAMS, MAX_WORKERS};
 ghost use Rattle.tau_text.specs.Canonical.{declarations_text};
@@ -11,7 +11,8 @@ ghost use Rattle.tau_machine.specs.State.{hand_of, sight};
 ghost use Rattle.tau_core.specs.View.{Hidden, core_of, pending_in, setting_of};
 ghost use Rattle.tau_core.specs.Stands.{Stands};
 ghost use Rattle.tau_core.specs.Phases.{hand_phase};
-ghost use Rattle.tau_core.specs.Steps.{HandsOut, IsThere, Steps};
+ghost use Rattle.tau_core.specs.Steps.{AckSteps, CommitSteps, DoneSteps, FreeSteps, GatherSteps, HandsOut, IsThere, LockSteps, PersistSteps, PostSteps, QuitSteps, Steps, StopSteps};
+ghost use Rattle.tau_core.specs.Answered.{WithValue, acked_by, gathered_by, outcome_by, placed_by, reached_by, went_by};
 ghost use Rattle.tau_core.specs.Opens.{Fits, Opened, OpenedFresh, catalogue_size, load_of};
 ghost use Rattle.tau_core.specs.LeftOvers.{ResumeSteps};
 ghost use Rattle.tau_core.specs.Parts.{AreShown, AtRest, IsOfParts, Shows};
@@ -22,7 +23,7 @@ use crate::anchor::anchor;
 use crate::apart::{Parts, parts_of, state_of};
 use crate::commit::commit;
 use crate::done::done;
-use crate::event::{Event, Outcome, Phase};
+use crate::event::{Acted, Event, Gathering, Outcome, Phase};
 use crate::free::free;
 use crate::gather::gather;
 use crate::lock::lock;
@@ -39,10 +40,11 @@ use crate::retry::retry;
 use crate::state::State;
 use crate::sweep::{ack, sweep};
 use crate::tables::tables;
-use crate::take_body::take_body;
+use crate::take_body::{swap_body, take_body};
 use std::alloc::Global;
 use std::marker::Model;
-use tau_base::{Key, LogMode, Lv, Mode, NoMemory, SHARDS, Value, shard_of};
+use tau_ack::Waiting;
+use tau_base::{Key, LogMode, Lv, Mode, NoMemory, SHARDS, Value, shard_of, stream_of};
 use tau_model::{CommittedList, Tables};
 use tau_text::Workload;
 
@@ -127,22 +129,160 @@ impl Core {
         ensures { (K : List (Act Txn)) (h : Hidden) → Stands self.old K h → Steps self.old self.new K h event result }
     {
         match event {
-            Event::Lock { worker } => lock(&mut self.state, worker as usize),
-            Event::Quit { worker } => quit(&mut self.state, worker as usize),
-            Event::Commit { worker } => commit(&mut self.state, worker as usize),
-            Event::Post { worker } => post(&mut self.state, worker as usize),
-            Event::Free { worker } => free(&mut self.state, worker as usize),
-            Event::Done { worker } => done(&mut self.state, worker as usize),
+            Event::Lock { worker } => self.lock_with_value(worker),
+            Event::Quit { worker } => outcome_by(Outcome::Went, self.quit(worker)),
+            Event::Commit { worker } => self.commit_with_start(worker),
+            Event::Post { worker } => outcome_by(Outcome::Went, self.post(worker)),
+            Event::Free { worker } => outcome_by(Outcome::Went, self.free(worker)),
+            Event::Done { worker } => outcome_by(Outcome::Went, self.done(worker)),
             Event::Drop { shard } => {
                 sweep(&mut self.state, shard as usize);
                 Outcome::Went
             }
-            Event::Gather { stream } => gather(&mut self.state, stream as usize),
+            Event::Gather { stream } => gathered_by(self.gather(stream)),
             Event::Anchor { stream } => anchor(&mut self.state, stream as usize),
-            Event::Persist { stream, upto } => persist(&mut self.state, stream as usize, upto),
-            Event::Ack { worker } => ack(&mut self.state, worker as usize),
-            Event::Stop { stream, at } => stop(&mut self.state, stream as usize, at),
+            Event::Persist { stream, upto } => reached_by(self.persist(stream, upto)),
+            Event::Ack { worker } => self.ack_with_call(worker),
+            Event::Stop { stream, at } => reached_by(self.stop(stream, at)),
         }
+    }
+
+    /// The worker locks the key that it wants; one that rests begins its next call. As `step` of a Lock, but the value of the row is not told.
+    pub fn lock(&mut self, worker: u8) -> Acted
+        requires there { worker < self.old.load.workers }
+        ensures { WithValue (λ outcome. (K : List (Act Txn)) (h : Hidden) → Stands self.old K h → LockSteps self.old self.new K h worker outcome) result }
+    {
+        lock(&mut self.state, worker as usize)
+    }
+
+    /// The call in hand, which is to quit, gives its lowest key back.
+    pub fn quit(&mut self, worker: u8) -> Acted
+        requires there { worker < self.old.load.workers }
+        ensures { (K : List (Act Txn)) (h : Hidden) → Stands self.old K h → QuitSteps self.old self.new K h worker (went_by result) }
+    {
+        quit(&mut self.state, worker as usize)
+    }
+
+    /// The updating call that holds all its keys gets the place of its record, at the end of its stream.
+    pub fn commit(&mut self, worker: u8) -> Acted
+        requires there { worker < self.old.load.workers }
+        ensures { (K : List (Act Txn)) (h : Hidden) → Stands self.old K h → CommitSteps self.old self.new K h worker (placed_by (slice_index self.old.ends (worker % self.old.load.streams)) result) }
+    {
+        commit(&mut self.state, worker as usize)
+    }
+
+    /// The record that has its place is posted.
+    pub fn post(&mut self, worker: u8) -> Acted
+        requires there { worker < self.old.load.workers }
+        ensures { (K : List (Act Txn)) (h : Hidden) → Stands self.old K h → PostSteps self.old self.new K h worker (went_by result) }
+    {
+        post(&mut self.state, worker as usize)
+    }
+
+    /// The call that is posted, or read-only and has finished, frees its lowest key.
+    pub fn free(&mut self, worker: u8) -> Acted
+        requires there { worker < self.old.load.workers }
+        ensures { (K : List (Act Txn)) (h : Hidden) → Stands self.old K h → FreeSteps self.old self.new K h worker (went_by result) }
+    {
+        free(&mut self.state, worker as usize)
+    }
+
+    /// The worker's call waits for its acknowledgement; a worker that rests begins its next call.
+    pub fn done(&mut self, worker: u8) -> Acted
+        requires there { worker < self.old.load.workers }
+        ensures { (K : List (Act Txn)) (h : Hidden) → Stands self.old K h → DoneSteps self.old self.new K h worker (went_by result) }
+    {
+        done(&mut self.state, worker as usize)
+    }
+
+    /// Gathers the posted pieces that continue the stream.
+    pub fn gather(&mut self, stream: u8) -> Gathering
+        requires there { stream < self.old.load.streams }
+        ensures { (K : List (Act Txn)) (h : Hidden) → Stands self.old K h → GatherSteps self.old self.new K h stream (gathered_by result) }
+    {
+        gather(&mut self.state, stream as usize)
+    }
+
+    /// Persists what is gathered of the stream up to a position. Where that may not be, it tells why, and nothing changes.
+    pub fn persist(&mut self, stream: u8, upto: u64) -> Result<(), Phase>
+        requires there { stream < self.old.load.streams }
+        ensures { (K : List (Act Txn)) (h : Hidden) → Stands self.old K h → PersistSteps self.old self.new K h stream upto (reached_by result) }
+    {
+        persist(&mut self.state, stream as usize, upto)
+    }
+
+    /// Cuts the stream at a position. Where that may not be, it tells why, and nothing changes.
+    pub fn stop(&mut self, stream: u8, at: u64) -> Result<(), Phase>
+        requires there { stream < self.old.load.streams }
+        ensures { (K : List (Act Txn)) (h : Hidden) → Stands self.old K h → StopSteps self.old self.new K h stream at (reached_by result) }
+    {
+        stop(&mut self.state, stream as usize, at)
+    }
+
+    /// The first pending call of the worker that is persisted is acknowledged, and written into `call`. Returns whether there was one.
+    pub fn ack(&mut self, worker: u8, call: &mut Waiting) -> bool
+        requires there { worker < self.old.load.workers }
+        ensures { (K : List (Act Txn)) (h : Hidden) → Stands self.old K h → AckSteps self.old self.new K h worker (acked_by result call.new) }
+    {
+        ack(&mut self.state, worker as usize, call)
+    }
+
+    // The lock with the value of the row.
+    fn lock_with_value(&mut self, worker: u8) -> Outcome
+        requires there { worker < self.old.load.workers }
+        ensures { (K : List (Act Txn)) (h : Hidden) → Stands self.old K h → LockSteps self.old self.new K h worker result }
+    {
+        let value = self.value_wanted(worker);
+        let acted = self.lock(worker);
+        outcome_by(Outcome::Granted(value), acted)
+    }
+
+    // The value of the row that the worker's lock is of, if its next action is a lock.
+    fn value_wanted(&self, worker: u8) -> Value
+        requires there { worker < self.now.load.workers }
+        ensures { (K : List (Act Txn)) (h : Hidden) → Stands self.now K h → (lock : ℕ × Key × Mode) → TellsLock self.now h worker (Some lock) → result ≡ ((core_of self.now h).shards (shard_number lock.1)).rows lock.1 }
+    {
+        match self.next_lock(worker) {
+            Some((_, key, _)) => self.value(key),
+            None => Value::Absent,
+        }
+    }
+
+    // The commit with the start of the record.
+    fn commit_with_start(&mut self, worker: u8) -> Outcome
+        requires there { worker < self.old.load.workers }
+        ensures { (K : List (Act Txn)) (h : Hidden) → Stands self.old K h → CommitSteps self.old self.new K h worker result }
+    {
+        let start = self.start_next(worker);
+        let acted = self.commit(worker);
+        outcome_by(Outcome::Placed { start }, acted)
+    }
+
+    // Where the next record of the worker would start.
+    fn start_next(&self, worker: u8) -> u64
+        requires there { worker < self.now.load.workers }
+        ensures { result ≡ slice_index self.now.ends (worker % self.now.load.streams) }
+    {
+        let stream = stream_of(worker as usize, self.state.load.streams);
+        self.state.ends.get(stream)
+    }
+
+    // The acknowledgement with its call.
+    fn ack_with_call(&mut self, worker: u8) -> Outcome
+        requires there { worker < self.old.load.workers }
+        ensures { (K : List (Act Txn)) (h : Hidden) → Stands self.old K h → AckSteps self.old self.new K h worker result }
+    {
+        let mut call = Waiting {
+            number: 0,
+            lv: Lv::zero(1),
+        };
+        if self.ack(worker, &mut call) {
+            return Outcome::Acked {
+                number: call.number,
+                lv: call.lv,
+            };
+        }
+        Outcome::NothingCovered
     }
 
     /// What the worker's call does next; of a worker without one, that it rests.
@@ -227,6 +367,14 @@ impl Core {
         take_body(&mut self.state, stream as usize)
     }
 
+    /// The same, put in the place of what `bytes` had, into whose memory the stream is gathered from then on. It takes no memory.
+    pub fn swap_body(&mut self, stream: u8, bytes: &mut Vec<u8>)
+        requires there { stream < self.old.load.streams }
+        ensures { (K : List (Act Txn)) (h : Hidden) → Stands self.old K h → HandsOut self.old self.new K h stream bytes.new.items }
+    {
+        swap_body(&mut self.state, stream as usize, bytes);
+    }
+
     /// The present rows.
     pub fn tables(&self, alloc: Global) -> Result<Tables, NoMemory>
         ensures { (K : List (Act Txn)) (h : Hidden) → Stands self.now K h → IfOk result (λ tables. IsTablesOf (sight (setting_of self.now.load) (core_of self.now h)).row tables) }
@@ -258,5 +406,42 @@ impl Core {
         ensures { (K : List (Act Txn)) (h : Hidden) → Stands self.old K h → RetrySteps self.old self.new K h worker result }
     {
         retry(&mut self.state, worker as usize)
+    }
+}
+
+/// The outcome that the answer of a worker's event stands for, where it is this one if the event happened.
+fn outcome_by(went: Outcome, acted: Acted) -> Outcome
+    ensures { result ≡ outcome_by went acted }
+{
+    match acted {
+        Acted::Went => went,
+        Acted::Busy { holder } => Outcome::Busy { holder },
+        Acted::Other { kind } => Outcome::NotNow {
+            phase: phase_of_kind(kind),
+        },
+        Acted::NoMemory => Outcome::NoMemory,
+    }
+}
+
+/// The outcome of a Gather.
+fn gathered_by(gathering: Gathering) -> Outcome
+    ensures { result ≡ gathered_by gathering }
+{
+    match gathering {
+        Gathering::Upto { upto } => Outcome::Gathered { upto },
+        Gathering::Stopped { at } => Outcome::NotNow {
+            phase: Phase::Stopped { at },
+        },
+        Gathering::NoMemory => Outcome::NoMemory,
+    }
+}
+
+/// The outcome of a Persist or a Stop.
+fn reached_by(reached: Result<(), Phase>) -> Outcome
+    ensures { result ≡ reached_by reached }
+{
+    match reached {
+        Ok(()) => Outcome::Went,
+        Err(phase) => Outcome::NotNow { phase },
     }
 }

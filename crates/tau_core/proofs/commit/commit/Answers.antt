@@ -29,7 +29,7 @@ returns-in_default c = (
       let o = c.requires.sound.seat c.args.worker (seat_in c.seat.inside) is in
       let next : Action = next_action c.seat.inside.txn in
       let phase = means-phase c.args.state.now.load.procs c.seat.inside.txn next (c.kind.ensures.means c.args.state.now.load.procs o.runs) o.leaving o.stays in (
-        c.phase_of_kind.ensures ∙ ap phase_of_kind c.kind.ensures.kind ∙ sym (phase-kind next) ∙ sym phase ∙ ap (λ (x : PlainSeat). hand_phase c.args.state.now.load.procs (hand_in c.args.state.now.load.procs x.txn)) same,
-        λ f. elsewhere-commit c.kind.result c.in_default.not-Commit (sym c.phase_of_kind.ensures ∙ f),
+        ap phase_of_kind c.kind.ensures.kind ∙ sym (phase-kind next) ∙ sym phase ∙ ap (λ (x : PlainSeat). hand_phase c.args.state.now.load.procs (hand_in c.args.state.now.load.procs x.txn)) same,
+        λ f. elsewhere-commit c.kind.result c.in_default.not-Commit f,
       ),
 )

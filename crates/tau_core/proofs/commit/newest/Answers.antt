@@ -1,5 +1,6 @@
-use Rattle.std.proofs.Common.{ℕ, ◌+◌, ◌-◌, ◌≤◌, ◌≡◌, List, inr, [], ◌∷◌, length, refl, sym, ap, ◌∙◌, Option, arith}
+use Rattle.std.proofs.Common.{ℕ, ◌+◌, ◌-◌, ◌≤◌, ◌≡◌, List, inl, inr, [], ◌∷◌, length, refl, sym, ap, ◌∙◌, Option, arith}
 use Rattle.std.specs.Prelude.{Some, slice_get, slice_index}
+use Rattle.std.proofs.lemmas.List.{length-replicate}
 use Rattle.std.proofs.lemmas.Option.{slice_get_read}
 use Rattle.tau_core.specs.Plain.{PlainStream}
 use Rattle.tau_core.specs.View.{anchors_in}
@@ -17,14 +18,20 @@ newest-none before [] e = refl
 newest-none before (a ∷ rest) e = absurd (omega arith)
 
 pub returns-then-count-eq0-clause-newest : goal.returns-then-count-eq0-clause-newest
-returns-then-count-eq0-clause-newest c =
+returns-then-count-eq0-clause-newest c = λ so.
     let is = found-part c.args.state.now c.args.stream c.index-part.result.now c.part.inside c.requires.sound c.requires.there c.index-part.ensures c.part.view_is in
     let none : length c.part.inside.anchors.items ≡ 0 = (let e = c.len-count.ensures in let o = c.part.inside.anchors.ok in let z = c.if-count-eq0.true in omega arith) in
-    sym (ap (λ (o : Option PlainStream). newest_of (slice_index c.args.state.now.load.opening.anchors.items c.args.stream) (anchors_in o)) is
+    c.requires.number ∙ sym (ap (λ (o : Option PlainStream). newest_of (slice_index c.args.state.now.load.opening.anchors.items c.args.stream) (anchors_in o)) is
     ∙ newest-none (slice_index c.args.state.now.load.opening.anchors.items c.args.stream) c.part.inside.anchors.items none)
 
+pub returns-then-count-eq0-clause-names : goal.returns-then-count-eq0-clause-names
+returns-then-count-eq0-clause-names c = λ so. inl (c.requires.number, c.requires.zero)
+
+pub returns-then-count-eq0-clause-wide : goal.returns-then-count-eq0-clause-wide
+returns-then-count-eq0-clause-wide c = λ so. ap (length {A = ℕ}) c.requires.zero ∙ length-replicate c.args.state.now.load.streams 0
+
 pub returns-clause-newest : goal.returns-clause-newest
-returns-clause-newest c =
+returns-clause-newest c = λ so.
     let is = found-part c.args.state.now c.args.stream c.index-part.result.now c.part.inside c.requires.sound c.requires.there c.index-part.ensures c.part.view_is in
     let count : c.len-count.result ≡ length c.part.inside.anchors.items = (let e = c.len-count.ensures in let o = c.part.inside.anchors.ok in omega arith) in
     let low : 1 ≤ length c.part.inside.anchors.items = (let n = c.if-count-eq0.false in omega arith) in
@@ -36,7 +43,7 @@ returns-clause-newest c =
     (let sum : c.from.result + c.len-count.result ≡ slice_index c.args.state.now.load.opening.anchors.items c.args.stream + length c.part.inside.anchors.items = omega arith in sum ∙ sym whole)
 
 pub returns-clause-names : goal.returns-clause-names
-returns-clause-names c =
+returns-clause-names c = λ so.
     let is = found-part c.args.state.now c.args.stream c.index-part.result.now c.part.inside c.requires.sound c.requires.there c.index-part.ensures c.part.view_is in
     let anchors : anchors_in (slice_get c.args.state.now.streams.items c.args.stream) ≡ c.part.inside.anchors.items = ap anchors_in is in
     let count : c.len-count.result ≡ length c.part.inside.anchors.items = (let e = c.len-count.ensures in let o = c.part.inside.anchors.ok in omega arith) in
@@ -47,7 +54,7 @@ returns-clause-names c =
     inr (c.len-count.result - 1, (omega arith), ap (λ (l : List (List ℕ)). slice_get l (c.len-count.result - 1)) anchors ∙ got)
 
 pub returns-clause-wide : goal.returns-clause-wide
-returns-clause-wide c =
+returns-clause-wide c = λ so.
     let is = found-part c.args.state.now c.args.stream c.index-part.result.now c.part.inside c.requires.sound c.requires.there c.index-part.ensures c.part.view_is in
     let count : c.len-count.result ≡ length c.part.inside.anchors.items = (let e = c.len-count.ensures in let o = c.part.inside.anchors.ok in omega arith) in
     let low : 1 ≤ c.len-count.result = (let n = c.if-count-eq0.false in omega arith) in

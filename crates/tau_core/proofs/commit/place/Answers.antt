@@ -23,8 +23,8 @@ returns-then-start c = (
       means-phase c.args.state.now.load.procs s.txn (action.Commit at.0) at.2 o.leaving o.stays,
 )
 
-pub returns-in-None : goal.returns-in-None
-returns-in-None c = (
+pub returns-then-not-newest : goal.returns-then-not-newest
+returns-then-not-newest c = (
   no-room (plain c.args.state.now) c.args.worker (let e = c.requires.sound.seats in let l = c.requires.there in omega arith),
   λ s e.
       let o = c.requires.sound.seat c.args.worker s e in
@@ -34,4 +34,4 @@ returns-in-None c = (
 
 pub place_above-requires-clause-names : goal.place_above-requires-clause-names
 place_above-requires-clause-names c =
-    subst (λ (j : ℕ). Names c.args.state.now.load j (anchors_at (plain c.args.state.now) j) c.in-Some.named.number c.in-Some.named.lv) c.stream_of-stream.ensures.same c.in-Some.ensures.names
+    subst (λ (j : ℕ). Names c.args.state.now.load j (anchors_at (plain c.args.state.now) j) c.newest.new.named.number c.newest.new.named.lv) c.stream_of-stream.ensures.same (c.newest.ensures.names c.if-not-newest.false)

@@ -1,4 +1,4 @@
-use Rattle.std.proofs.Common.{ℕ, ◌+◌, ◌%◌, ◌≡◌, ◌<◌, ◌≤◌, ◌-◌, ◌^◌, List, length, refl, sym, ap, subst, ◌∙◌, arith}
+use Rattle.std.proofs.Common.{ℕ, ◌+◌, ◌%◌, ◌≡◌, ◌<◌, ◌≤◌, ◌^◌, List, length, refl, sym, ap, subst, ◌∙◌, arith}
 use Rattle.std.specs.Prelude.{Some, slice_set}
 use Rattle.tau_base.specs.Vectors.{join}
 use Rattle.tau_model.specs.History.{Act}
@@ -13,6 +13,7 @@ use Rattle.tau_core.specs.Plain.{PlainSeat}
 use Rattle.tau_core.specs.State.{Plain, plain}
 use Rattle.tau_machine.specs.State.{Record}
 use Rattle.tau_core.specs.Pieces.{IsPieceOf}
+use Rattle.tau_core.specs.Commits.{Commits}
 use Rattle.tau_core.specs.Stands.{anchors_at}
 use Rattle.tau_core.proofs.Found.{seat_in, found-seat}
 use Rattle.tau_core.proofs.MadeRecords.{raised, act_of, is-made}
@@ -20,6 +21,9 @@ use Rattle.tau_core.proofs.PhaseLaws.{means-phase}
 use Rattle.tau_core.proofs.Hands.{sound-placed}
 use Rattle.tau_core.proofs.Joins.{one-none, room-new, rooms-new}
 use Rattle.tau_core.proofs.commit.place_above.Goals as goal
+
+starts-at : (w start other : ℕ) (p p' : Plain) → start ≡ other → Commits w start p p' → Commits w other p p'
+starts-at w start other p p' e q = subst (λ (n : ℕ). Commits w n p p') e q
 
 pub returns-in-Err : goal.returns-in-Err
 returns-in-Err c =
@@ -127,7 +131,7 @@ returns-in-Ok-prepare c =
     let bytes_is : bytes_in c.placed.new.self ≡ bytes_in c.prepare.new.self = c.placed.ensures.bytes in
     let same : c.placed.new.self ≡ record c.seat.inside.txn { hand = c.placed.new.self.hand } = c.placed.ensures.same ∙ ap (λ (t : PlainTxn). record t { hand = c.placed.new.self.hand }) c.in-Ok-prepare.ensures.same in
     let left : ℕ = c.commit_into.new.out.room in
-    record {
+    starts-at c.args.worker c.args.start _ p _ c.requires.start (record {
       seat = seat_in c.seat.inside;
       hand = m.hand;
       effect = m.effect;
@@ -158,4 +162,4 @@ returns-in-Ok-prepare c =
       rooms = rooms-new (plain c.args.state.now) c.args.worker (seat_in c.seat.inside) new m.hand act is m.is (one-none c.args.state.now.load new (hand_joined m.hand (Placed act) (join m.hand.dep base)) act placed refl) left m.phase c.requires.sound.room c.commit_into.ensures.room;
       after = ap (λ (x : List Committed × List ℕ). record p { seats = slice_set p.seats c.args.worker new; committed = x.0; room = left; ends = x.1 })
           (λ i. (kept i, (c.set.ensures ∙ ap (λ (j : ℕ). slice_set p.ends j (c.args.start + c.record_size.result)) c.stream_of.ensures.same ∙ ap (λ (n : ℕ). slice_set p.ends (c.args.worker % p.load.streams) (c.args.start + n)) (c.record_size.ensures ∙ ap (length {A = ℕ}) (sym bytes_is))) i));
-    }
+    })

@@ -1,6 +1,7 @@
 use Rattle.std.proofs.Common.{refl, ap}
 use Rattle.tau_core.specs.State.{Plain, plain}
 use Rattle.tau_core.specs.declared.event.Outcome.TheVariants as outcome
+use Rattle.tau_core.specs.Phases.{phase_of_kind}
 use Rattle.tau_core.specs.Frees.{DoneBy}
 use Rattle.tau_core.proofs.Firsts.{room-sound, room-rests, room-next, first-begun, first-seat, first-undone}
 use Rattle.tau_core.proofs.done.first_done.Goals as goal
@@ -18,14 +19,14 @@ pub done_next-requires-clause-sound : goal.done_next-requires-clause-sound
 done_next-requires-clause-sound c = first-begun (plain c.args.state.now) (plain c.make_room.new.state) (plain c.begin_call-mark.new.state) c.args.worker c.args.number c.requires.stood c.make_room.ensures.made c.begin_call-mark.ensures.begins c.in-Ok.ensures.roomy c.requires.next c.requires.rests
 
 pub undo-requires-clause-fresh : goal.undo-requires-clause-fresh
-undo-requires-clause-fresh c = first-seat (plain c.args.state.now) (plain c.make_room.new.state) (plain c.begin_call-mark.new.state) c.args.worker c.args.number c.requires.stood c.make_room.ensures.made (plain c.done_next.new.state) c.begin_call-mark.ensures.begins (ap (λ (x : Plain). x.seats) c.in-NotNow.ensures.0)
+undo-requires-clause-fresh c = first-seat (plain c.args.state.now) (plain c.make_room.new.state) (plain c.begin_call-mark.new.state) c.args.worker c.args.number c.requires.stood c.make_room.ensures.made (plain c.done_next.new.state) c.begin_call-mark.ensures.begins (ap (λ (x : Plain). x.seats) c.in-Other.ensures.0)
 
-pub returns-in-NotNow : goal.returns-in-NotNow
-returns-in-NotNow c = (
+pub returns-in-Other : goal.returns-in-Other
+returns-in-Other c = (
   refl,
   (
-    c.in-NotNow.phase,
-    first-undone DoneBy (plain c.args.state.now) (plain c.make_room.new.state) (plain c.begin_call-mark.new.state) (plain c.done_next.new.state) (plain c.undo.new.state) c.args.worker c.args.number (outcome.NotNow c.in-NotNow.phase) c.begin_call-mark.result c.make_room.ensures.made c.in-Ok.ensures.roomy c.begin_call-mark.ensures.begins c.begin_call-mark.ensures.mark
-        c.in-NotNow.ensures c.undo.ensures,
+    phase_of_kind c.in-Other.kind,
+    first-undone DoneBy (plain c.args.state.now) (plain c.make_room.new.state) (plain c.begin_call-mark.new.state) (plain c.done_next.new.state) (plain c.undo.new.state) c.args.worker c.args.number (outcome.NotNow (phase_of_kind c.in-Other.kind)) c.begin_call-mark.result c.make_room.ensures.made c.in-Ok.ensures.roomy c.begin_call-mark.ensures.begins c.begin_call-mark.ensures.mark
+        c.in-Other.ensures c.undo.ensures,
   ),
 )

@@ -1,4 +1,4 @@
-use Rattle.std.proofs.Common.{ℕ, ◌≡◌, ◌-◌, List, [], ◌∷◌, refl, sym, ap, subst, ◌∙◌, Option}
+use Rattle.std.proofs.Common.{ℕ, ◌≡◌, List, [], ◌∷◌, refl, sym, ap, subst, ◌∙◌, Option}
 use Rattle.std.specs.Prelude.{None, IsSome, slice_set}
 use Rattle.std.specs.Map.{lookup}
 use Rattle.tau_base.specs.Database.{same_key}

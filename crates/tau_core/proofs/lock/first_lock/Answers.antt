@@ -1,6 +1,8 @@
-use Rattle.std.proofs.Common.{inr, refl, ap}
+use Rattle.std.proofs.Common.{inl, inr, refl, ap}
 use Rattle.tau_core.specs.State.{Plain, plain}
+use Rattle.tau_base.specs.declared.value.Value.TheVariants.{Absent}
 use Rattle.tau_core.specs.declared.event.Outcome.TheVariants as outcome
+use Rattle.tau_core.specs.Phases.{phase_of_kind}
 use Rattle.tau_core.specs.Locks.{LockedBy}
 use Rattle.tau_core.proofs.Firsts.{room-sound, room-rests, room-next, first-begun, first-seat, first-undone}
 use Rattle.tau_core.proofs.lock.first_lock.Goals as goal
@@ -17,22 +19,51 @@ begin_call-mark-requires-clause-next c = room-next (plain c.args.state.now) (pla
 pub lock_next-requires-clause-sound : goal.lock_next-requires-clause-sound
 lock_next-requires-clause-sound c = first-begun (plain c.args.state.now) (plain c.make_room.new.state) (plain c.begin_call-mark.new.state) c.args.worker c.args.number c.requires.stood c.make_room.ensures.made c.begin_call-mark.ensures.begins c.in-Ok.ensures.roomy c.requires.next c.requires.rests
 
+pub returns-in-Err : goal.returns-in-Err
+returns-in-Err c = record { value = Absent; is = inl c.make_room.ensures.made }
+
+pub returns-in-Went : goal.returns-in-Went
+returns-in-Went c = record {
+  value = c.in-Went.ensures.value;
+  is = (
+    plain c.begin_call-mark.new.state,
+    record { roomy = plain c.make_room.new.state; made = c.make_room.ensures.made; enough = c.in-Ok.ensures.roomy; begins = c.begin_call-mark.ensures.begins },
+    c.in-Went.ensures.is,
+  );
+}
+
+pub returns-in-Busy : goal.returns-in-Busy
+returns-in-Busy c = record {
+  value = c.in-Busy.ensures.value;
+  is = (
+    plain c.begin_call-mark.new.state,
+    record { roomy = plain c.make_room.new.state; made = c.make_room.ensures.made; enough = c.in-Ok.ensures.roomy; begins = c.begin_call-mark.ensures.begins },
+    c.in-Busy.ensures.is,
+  );
+}
+
 pub undo-requires-clause-fresh : goal.undo-requires-clause-fresh
-undo-requires-clause-fresh c = first-seat (plain c.args.state.now) (plain c.make_room.new.state) (plain c.begin_call-mark.new.state) c.args.worker c.args.number c.requires.stood c.make_room.ensures.made (plain c.lock_next.new.state) c.begin_call-mark.ensures.begins (ap (λ (x : Plain). x.seats) c.in-NotNow.ensures.0)
+undo-requires-clause-fresh c = first-seat (plain c.args.state.now) (plain c.make_room.new.state) (plain c.begin_call-mark.new.state) c.args.worker c.args.number c.requires.stood c.make_room.ensures.made (plain c.lock_next.new.state) c.begin_call-mark.ensures.begins (ap (λ (x : Plain). x.seats) c.in-Other.ensures.is.0)
 
 pub undo-requires-in-NoMemory-clause-fresh : goal.undo-requires-in-NoMemory-clause-fresh
-undo-requires-in-NoMemory-clause-fresh c = first-seat (plain c.args.state.now) (plain c.make_room.new.state) (plain c.begin_call-mark.new.state) c.args.worker c.args.number c.requires.stood c.make_room.ensures.made (plain c.lock_next.new.state) c.begin_call-mark.ensures.begins (ap (λ (x : Plain). x.seats) c.in-NoMemory.ensures.0.after)
+undo-requires-in-NoMemory-clause-fresh c = first-seat (plain c.args.state.now) (plain c.make_room.new.state) (plain c.begin_call-mark.new.state) c.args.worker c.args.number c.requires.stood c.make_room.ensures.made (plain c.lock_next.new.state) c.begin_call-mark.ensures.begins (ap (λ (x : Plain). x.seats) c.in-NoMemory.ensures.is.0.after)
 
-pub returns-in-NotNow : goal.returns-in-NotNow
-returns-in-NotNow c = (
-  refl,
-  (
-    c.in-NotNow.phase,
-    first-undone LockedBy (plain c.args.state.now) (plain c.make_room.new.state) (plain c.begin_call-mark.new.state) (plain c.lock_next.new.state) (plain c.undo.new.state) c.args.worker c.args.number (outcome.NotNow c.in-NotNow.phase) c.begin_call-mark.result c.make_room.ensures.made c.in-Ok.ensures.roomy c.begin_call-mark.ensures.begins c.begin_call-mark.ensures.mark
-        c.in-NotNow.ensures c.undo.ensures,
-  ),
-)
+pub returns-in-Other : goal.returns-in-Other
+returns-in-Other c = record {
+  value = Absent;
+  is = (
+    refl,
+    (
+      phase_of_kind c.in-Other.kind,
+      first-undone LockedBy (plain c.args.state.now) (plain c.make_room.new.state) (plain c.begin_call-mark.new.state) (plain c.lock_next.new.state) (plain c.undo.new.state) c.args.worker c.args.number (outcome.NotNow (phase_of_kind c.in-Other.kind)) c.begin_call-mark.result c.make_room.ensures.made c.in-Ok.ensures.roomy c.begin_call-mark.ensures.begins c.begin_call-mark.ensures.mark
+          c.in-Other.ensures.is c.undo.ensures,
+    ),
+  );
+}
 
 pub returns-in-NoMemory : goal.returns-in-NoMemory
-returns-in-NoMemory c = inr (first-undone LockedBy (plain c.args.state.now) (plain c.make_room.new.state) (plain c.begin_call-mark.new.state) (plain c.lock_next.new.state) (plain c.undo-in-NoMemory.new.state) c.args.worker c.args.number outcome.NoMemory c.begin_call-mark.result c.make_room.ensures.made c.in-Ok.ensures.roomy c.begin_call-mark.ensures.begins c.begin_call-mark.ensures.mark
-    c.in-NoMemory.ensures c.undo-in-NoMemory.ensures)
+returns-in-NoMemory c = record {
+  value = Absent;
+  is = inr (first-undone LockedBy (plain c.args.state.now) (plain c.make_room.new.state) (plain c.begin_call-mark.new.state) (plain c.lock_next.new.state) (plain c.undo-in-NoMemory.new.state) c.args.worker c.args.number outcome.NoMemory c.begin_call-mark.result c.make_room.ensures.made c.in-Ok.ensures.roomy c.begin_call-mark.ensures.begins c.begin_call-mark.ensures.mark
+      c.in-NoMemory.ensures.is c.undo-in-NoMemory.ensures);
+}

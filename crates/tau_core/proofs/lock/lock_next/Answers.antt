@@ -1,5 +1,6 @@
 use Rattle.std.proofs.Common.{◌≡◌, refl, sym, ap, subst, ◌∙◌}
 use Rattle.std.specs.Prelude.{Some}
+use Rattle.tau_base.specs.declared.value.Value.TheVariants.{Absent}
 use Rattle.tau_txn.specs.declared.action.Action.{Action}
 use Rattle.tau_txn.specs.declared.action.Action.TheVariants as action
 use Rattle.tau_txn.specs.Next.{next_action, Locks}
@@ -21,14 +22,17 @@ take_lock-requires-clause-wants c = λ s e.
     (c.in-Some.ensures.next, c.in-Some.ensures.means c.args.state.now.load.procs o.runs)
 
 pub returns-in-None : goal.returns-in-None
-returns-in-None c = (
-  refl,
-  λ s e.
-      let is = found-seat c.args.state.now c.args.worker c.index-seat.result.now c.seat.inside c.requires.sound c.requires.there c.index-seat.ensures c.seat.view_is in
-      let same : seat_in c.seat.inside ≡ s = (let f : Some (seat_in c.seat.inside) ≡ Some s = sym is ∙ e in cc) in
-      let o = c.requires.sound.seat c.args.worker (seat_in c.seat.inside) is in
-      let next : Action = next_action c.seat.inside.txn in
-      let phase = means-phase c.args.state.now.load.procs c.seat.inside.txn next (c.kind.ensures.means c.args.state.now.load.procs o.runs) o.leaving o.stays in
-      let told = c.phase_of_kind.ensures ∙ ap phase_of_kind c.kind.ensures.kind ∙ sym (phase-kind next) in
-      (told ∙ sym phase ∙ ap (λ (x : PlainSeat). hand_phase c.args.state.now.load.procs (hand_in c.args.state.now.load.procs x.txn)) same, λ f. elsewhere-lock next c.in-None.ensures.other (sym told ∙ f)),
-)
+returns-in-None c = record {
+  value = Absent;
+  is = (
+    refl,
+    λ s e.
+        let is = found-seat c.args.state.now c.args.worker c.index-seat.result.now c.seat.inside c.requires.sound c.requires.there c.index-seat.ensures c.seat.view_is in
+        let same : seat_in c.seat.inside ≡ s = (let f : Some (seat_in c.seat.inside) ≡ Some s = sym is ∙ e in cc) in
+        let o = c.requires.sound.seat c.args.worker (seat_in c.seat.inside) is in
+        let next : Action = next_action c.seat.inside.txn in
+        let phase = means-phase c.args.state.now.load.procs c.seat.inside.txn next (c.kind.ensures.means c.args.state.now.load.procs o.runs) o.leaving o.stays in
+        let told = ap phase_of_kind c.kind.ensures.kind ∙ sym (phase-kind next) in
+        (told ∙ sym phase ∙ ap (λ (x : PlainSeat). hand_phase c.args.state.now.load.procs (hand_in c.args.state.now.load.procs x.txn)) same, λ f. elsewhere-lock next c.in-None.ensures.other (sym told ∙ f)),
+  );
+}

@@ -1,6 +1,7 @@
 use Rattle.std.proofs.Common.{ℕ, ◌≡◌, ◌<◌, List, length, refl, sym, ap, subst, ◌∙◌, arith}
 use Rattle.std.specs.Prelude.{Some, slice_get, slice_set}
 use Rattle.tau_base.specs.declared.value.Value.{Value}
+use Rattle.tau_base.specs.declared.value.Value.TheVariants.{Absent}
 use Rattle.tau_base.specs.declared.limits.TheConstants.{SHARDS}
 use Rattle.tau_base.specs.Shards.{shard_number}
 use Rattle.tau_txn.specs.declared.action.Action.{Action}
@@ -97,25 +98,28 @@ returns-in-Ok c =
     let granted = c.granted_by.ensures.locked c.args.state.now.load.procs m.hand c.args.key c.args.mode o.runs wants.0 m.is
     ∙ ap Some (ap (λ (v : Value). locked_with m.hand c.args.key c.args.mode v c.lock_key.new.dep) lent ∙ locked-alike m.hand c.args.key c.args.mode row c.lock_key.new.dep entry dep) in
     record {
-      seat = seat_in c.seat.inside;
-      shard = c.index_mut-part.result.now;
-      hand = m.hand;
-      key = c.args.key;
-      mode = c.args.mode;
-      new = new;
-      locked = c.lock_key.new.self;
-      is = is;
-      shard_is = shard_is;
-      wants = record { is = m.is; phase = m.phase; next = m.next };
-      free = c.in-Ok.ensures.free;
-      value_is = c.value_of.ensures ∙ lent;
-      locks = c.in-Ok.ensures.locked;
-      granted = granted;
-      others = refl;
-      sound = sound-on c.args.state.now.load c.args.worker (seat_in c.seat.inside) new m.hand (hand_locked m.hand c.args.key c.args.mode row entry.write_lv entry.read_lv) o m.is refl c.granted_by.ensures.same granted
-          (locked-call m.hand c.args.key c.args.mode row entry.write_lv entry.read_lv) (c.granted_by.ensures.runs c.args.state.now.load.procs o.runs) (c.granted_by.ensures.stays o.leaving)
-          (ap placed_of (locked-phase m.hand c.args.key c.args.mode row entry.write_lv entry.read_lv ∙ m.phase));
-      after = ap (λ (n : ℕ). record p { seats = slice_set p.seats c.args.worker new; shards = slice_set p.shards n c.lock_key.new.self }) number;
+      value = row;
+      is = record {
+        seat = seat_in c.seat.inside;
+        shard = c.index_mut-part.result.now;
+        hand = m.hand;
+        key = c.args.key;
+        mode = c.args.mode;
+        new = new;
+        locked = c.lock_key.new.self;
+        is = is;
+        shard_is = shard_is;
+        wants = record { is = m.is; phase = m.phase; next = m.next };
+        free = c.in-Ok.ensures.free;
+        value_is = refl;
+        locks = c.in-Ok.ensures.locked;
+        granted = granted;
+        others = refl;
+        sound = sound-on c.args.state.now.load c.args.worker (seat_in c.seat.inside) new m.hand (hand_locked m.hand c.args.key c.args.mode row entry.write_lv entry.read_lv) o m.is refl c.granted_by.ensures.same granted
+            (locked-call m.hand c.args.key c.args.mode row entry.write_lv entry.read_lv) (c.granted_by.ensures.runs c.args.state.now.load.procs o.runs) (c.granted_by.ensures.stays o.leaving)
+            (ap placed_of (locked-phase m.hand c.args.key c.args.mode row entry.write_lv entry.read_lv ∙ m.phase));
+        after = ap (λ (n : ℕ). record p { seats = slice_set p.seats c.args.worker new; shards = slice_set p.shards n c.lock_key.new.self }) number;
+      };
     }
 
 pub returns-in-Err-Busy : goal.returns-in-Err-Busy
@@ -134,22 +138,25 @@ returns-in-Err-Busy c =
     (λ wk. c.busy.ensures.busy wk m.hand m.is ∙ ap (λ (n : ℕ). settled n wk (hand_busy m.hand)) o.width) c.busy.ensures.runs (c.busy.ensures.stays o.leaving) c.leave.ensures in
     let refused = c.in-Err-Busy.ensures.refused in
     record {
-      seat = seat_in c.seat.inside;
-      shard = c.index_mut-part.result.now;
-      hand = m.hand;
-      key = c.args.key;
-      mode = c.args.mode;
-      new = c.leave.new.seat;
-      kept = c.lock_key.new.self;
-      is = is;
-      shard_is = shard_is;
-      kept_is = c.in-Err-Busy.ensures.unchanged;
-      wants = record { is = m.is; phase = m.phase; next = m.next };
-      lowest = subst (λ (n : ℕ). IsLowest entry c.args.worker c.args.mode n) (sym c.in-Err-Busy.holder-is) (subst (λ (r : ShardRefusal). RefusedBy entry c.args.worker c.args.mode r) c.in-Err-Busy.field-0-is refused);
-      settles = settles.worker;
-      keeps = settles.keeps;
-      sound = settles.sound;
-      after = ap (λ (n : ℕ). record p { seats = slice_set p.seats c.args.worker c.leave.new.seat; shards = slice_set p.shards n c.lock_key.new.self }) number;
+      value = Absent;
+      is = record {
+        seat = seat_in c.seat.inside;
+        shard = c.index_mut-part.result.now;
+        hand = m.hand;
+        key = c.args.key;
+        mode = c.args.mode;
+        new = c.leave.new.seat;
+        kept = c.lock_key.new.self;
+        is = is;
+        shard_is = shard_is;
+        kept_is = c.in-Err-Busy.ensures.unchanged;
+        wants = record { is = m.is; phase = m.phase; next = m.next };
+        lowest = subst (λ (n : ℕ). IsLowest entry c.args.worker c.args.mode n) (sym c.in-Err-Busy.holder-is) (subst (λ (r : ShardRefusal). RefusedBy entry c.args.worker c.args.mode r) c.in-Err-Busy.field-0-is refused);
+        settles = settles.worker;
+        keeps = settles.keeps;
+        sound = settles.sound;
+        after = ap (λ (n : ℕ). record p { seats = slice_set p.seats c.args.worker c.leave.new.seat; shards = slice_set p.shards n c.lock_key.new.self }) number;
+      };
     }
 
 pub returns-in-Err-NoMemory : goal.returns-in-Err-NoMemory
@@ -160,16 +167,20 @@ returns-in-Err-NoMemory c =
     let shard = found-shard c.args.state.now c.from.result c.index_mut-part.result.now c.requires.sound below c.index_mut-part.ensures.value in
     let number : c.from.result ≡ shard_number c.args.key = c.from.ensures ∙ c.shard_of.ensures.same in
     let shard_is = subst (λ (n : ℕ). slice_get c.args.state.now.shards.items n ≡ Some c.index_mut-part.result.now) number shard in
-    let entry : Entry = entry_in (shard_of c.index_mut-part.result.now) c.args.key in (
-      record {
-        i = c.from.result;
-        shard = c.index_mut-part.result.now;
-        kept = c.lock_key.new.self;
-        is = shard;
-        kept_is = c.in-Err-NoMemory.ensures.unchanged;
-        after = ap (λ (l : List PlainSeat). record p { seats = l; shards = slice_set p.shards c.from.result c.lock_key.new.self }) (set-got c.args.state.now.seats.items c.args.worker c.index_mut-seat.result.now is);
-      },
-      λ s e.
-          let o = c.requires.sound.seat c.args.worker s e in
-          means-phase c.args.state.now.load.procs s.txn (action.Lock c.args.key c.args.mode) (c.requires.wants s e).1 o.leaving o.stays,
-    )
+    let entry : Entry = entry_in (shard_of c.index_mut-part.result.now) c.args.key in
+    record {
+      value = Absent;
+      is = (
+        record {
+          i = c.from.result;
+          shard = c.index_mut-part.result.now;
+          kept = c.lock_key.new.self;
+          is = shard;
+          kept_is = c.in-Err-NoMemory.ensures.unchanged;
+          after = ap (λ (l : List PlainSeat). record p { seats = l; shards = slice_set p.shards c.from.result c.lock_key.new.self }) (set-got c.args.state.now.seats.items c.args.worker c.index_mut-seat.result.now is);
+        },
+        λ s e.
+            let o = c.requires.sound.seat c.args.worker s e in
+            means-phase c.args.state.now.load.procs s.txn (action.Lock c.args.key c.args.mode) (c.requires.wants s e).1 o.leaving o.stays,
+      );
+    }

@@ -29,6 +29,6 @@ returns-in-None c = (
       let o = c.requires.stood.2.sound.seat c.args.worker (seat_in c.seat.inside) is in
       let next : Action = next_action c.seat.inside.txn in
       let phase = means-phase c.args.state.now.load.procs c.seat.inside.txn next (c.kind.ensures.means c.args.state.now.load.procs o.runs) o.leaving o.stays in
-      let told = c.phase_of_kind.ensures ∙ ap phase_of_kind c.kind.ensures.kind ∙ sym (phase-kind next) in
+      let told = ap phase_of_kind c.kind.ensures.kind ∙ sym (phase-kind next) in
       (told ∙ sym phase ∙ ap (λ (x : PlainSeat). hand_phase c.args.state.now.load.procs (hand_in c.args.state.now.load.procs x.txn)) same, λ f. elsewhere-quit next c.in-None.ensures.other (sym told ∙ f)),
 )

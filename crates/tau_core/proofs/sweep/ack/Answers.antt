@@ -1,23 +1,20 @@
-use Rattle.std.proofs.Common.{◌≡◌, ◌<◌, length, refl, sym, ap, ◌∙◌, arith}
-use Rattle.std.specs.Prelude.{Some, slice_get}
-use Rattle.std.proofs.lemmas.Option.{slice_get_read}
-use Rattle.tau_core.specs.Plain.{PlainSeat}
-use Rattle.tau_core.specs.declared.state.Seat.TheInside.{Inside}
+use Rattle.std.proofs.Common.{ℕ, Bool, true, false, ◌≡◌, refl}
+use Rattle.tau_ack.specs.declared.Waiting.{Waiting}
+use Rattle.tau_ack.specs.Pending.{NoneCovered, TakesFirst}
+use Rattle.tau_core.specs.State.{Plain, plain}
+use Rattle.tau_core.specs.Clerk.{Pends, AckedBy}
+use Rattle.tau_core.specs.Answered.{acked_by}
+use Rattle.tau_core.proofs.Found.{seat_in, found-seat}
 use Rattle.tau_core.proofs.sweep.ack.Goals as goal
 
-abbrev seat_in : Inside → PlainSeat
-seat_in s = record { next = s.next; again = s.again; txn = s.txn; start = s.start; left = s.left.numbers; room = s.left.room; outbox = s.outbox; pending = s.pending }
+module _ (p p' : Plain) (w : ℕ) (q : Pends p w p') (call : Waiting) where
+  acked : (found : Bool) → (found ≡ true → TakesFirst p.plv q.seat.pending.calls call q.pending.calls) → (found ≡ false → NoneCovered p.plv q.seat.pending.calls) → (found ≡ false → q.pending.calls ≡ q.seat.pending.calls) →
+      AckedBy p w (acked_by found call) p'
+  acked true first none same = (q, first refl)
+  acked false first none same = (q, none refl, same refl)
 
-pub returns-in-Some : goal.returns-in-Some
-returns-in-Some c =
-    let there : c.args.worker < length c.args.state.now.seats.items = (let e = c.requires.sound.seats in let l = c.requires.there in omega arith) in
-    let is : slice_get c.args.state.now.seats.items c.args.worker ≡ Some (seat_in c.seat.inside) =
-    slice_get_read c.args.state.now.seats.items (length c.args.state.now.seats.items) c.args.worker c.index_mut-seat.result.now refl there c.index_mut-seat.ensures.value ∙ ap Some (sym c.seat.view_is) in
-    (record { seat = seat_in c.seat.inside; pending = c.take_covered.new.self; is = is; room = c.take_covered.ensures.room; after = refl }, c.in-Some.ensures.first)
-
-pub returns-in-None : goal.returns-in-None
-returns-in-None c =
-    let there : c.args.worker < length c.args.state.now.seats.items = (let e = c.requires.sound.seats in let l = c.requires.there in omega arith) in
-    let is : slice_get c.args.state.now.seats.items c.args.worker ≡ Some (seat_in c.seat.inside) =
-    slice_get_read c.args.state.now.seats.items (length c.args.state.now.seats.items) c.args.worker c.index_mut-seat.result.now refl there c.index_mut-seat.ensures.value ∙ ap Some (sym c.seat.view_is) in
-    (record { seat = seat_in c.seat.inside; pending = c.take_covered.new.self; is = is; room = c.take_covered.ensures.room; after = refl }, c.in-None.ensures.none, c.in-None.ensures.unchanged)
+pub returns : goal.returns
+returns c =
+    let is = found-seat c.args.state.now c.args.worker c.index_mut-seat.result.now c.seat.inside c.requires.sound c.requires.there c.index_mut-seat.ensures.value c.seat.view_is in
+    acked (plain c.args.state.now) _ c.args.worker (record { seat = seat_in c.seat.inside; pending = c.take_covered_into.new.self; is = is; room = c.take_covered_into.ensures.room; after = refl }) c.take_covered_into.new.taken c.take_covered_into.result
+    c.take_covered_into.ensures.first c.take_covered_into.ensures.none c.take_covered_into.ensures.unchanged
