@@ -20,7 +20,7 @@ use Rattle.tau_step.specs.declared.clerk.Clerk.{Clerk}
 use Rattle.tau_step.specs.declared.flushes.Flushes.{Flushes}
 use Rattle.tau_step.specs.declared.run.Run.{Run}
 use Rattle.tau_step.specs.Along.{Quiet, AreKept, IsAlong, Went}
-use Rattle.tau_step.specs.Device.{IsNoted, flushed_in, noting}
+use Rattle.tau_step.specs.Device.{IsNoted, noting}
 use Rattle.tau_step.specs.RunEffects.{IsOn, Works, Manages, Moves, WentBy}
 use Rattle.tau_step.specs.Progressed.{progress, clerks}
 use Rattle.tau_step.specs.Rounding.{clerked}

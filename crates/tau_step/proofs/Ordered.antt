@@ -1,34 +1,30 @@
 -- The flushes of a whole run in which no stream stops.
-use Rattle.std.proofs.Common.{ℕ, ◌<◌, ◌≡◌, inl, Bool, true, List, [], ◌∷◌, length, refl, sym, ap, subst, ◌∙◌, Option}
+use Rattle.std.proofs.Common.{ℕ, ◌<◌, ◌≡◌, inl, true, List, [], length, refl, sym, subst, ◌∙◌, Option}
 use Rattle.std.specs.Prelude.{None}
 use Rattle.tau_base.specs.declared.value.LogMode.{LogMode}
 use Rattle.tau_disk.specs.declared.disk.Disk.{Ghosts}
 use Rattle.tau_stream.specs.declared.writer.Writer.{Writer}
 use Rattle.tau_stream.specs.Writer.{IsReady}
 use Rattle.tau_open.specs.Opening.{AreOpened}
-use Rattle.tau_model.specs.History.{Act}
-use Rattle.tau_machine.specs.Hands.{Txn}
 use Rattle.tau_machine.specs.State.{Core}
 use Rattle.tau_machine.specs.Runs as machine
 use Rattle.tau_text.specs.declared.load.Workload.{Workload}
 use Rattle.tau_text.specs.Canonical.{declarations_text}
 use Rattle.tau_core.specs.declared.state.Load.{Load}
-use Rattle.tau_core.specs.State.{Plain}
 use Rattle.tau_core.specs.View.{core_of, setting_of}
 use Rattle.tau_core.specs.Opens.{Opened, OpenedFresh, catalogue_size, nothing}
 use Rattle.tau_run.specs.RecoveredFacts.{catalogue_of}
 use Rattle.tau_run.specs.CoreRun.{IsLoadOf, IsStart, AreAcks, IsRunOf}
 use Rattle.tau_run.specs.Laws.{KeepCalls}
 use Rattle.tau_run.specs.Run as told
-use Rattle.tau_run.specs.RunFacts.{turns_of, by_turns, IsCoreRun}
+use Rattle.tau_run.specs.RunFacts.{turns_of}
 use Rattle.tau_run.specs.Turns.{Progress, IsWholeRun, begun}
 use Rattle.tau_run.proofs.Acks.{turns_law}
 use Rattle.tau_run.proofs.Results.{run_law}
 use Rattle.tau_run.proofs.Start.{started}
-use Rattle.tau_step.specs.declared.flushes.Flushes.{Flushes}
 use Rattle.tau_step.specs.declared.run.Run.{Run}
 use Rattle.tau_step.specs.Along.{IsAlong, Went}
-use Rattle.tau_step.specs.Device.{IsFlushOrder, IsOfRun, flushed_in, noting}
+use Rattle.tau_step.specs.Device.{IsFlushOrder, IsOfRun, noting}
 use Rattle.tau_step.specs.RunEffects.{IsOn, Moves}
 use Rattle.tau_step.specs.Progressed.{progress}
 use Rattle.tau_step.specs.Rounding.{ran_all}

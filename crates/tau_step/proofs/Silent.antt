@@ -1,5 +1,5 @@
 -- Turns in which nothing is flushed.
-use Rattle.std.proofs.Common.{ℕ, ◌≡◌, ◌&&◌, Bool, true, false, List, [], ◌∷◌, ◌++◌, map, length, refl, sym, ap, ◌∙◌, ◌+◌, ◌-◌, ◌^◌}
+use Rattle.std.proofs.Common.{ℕ, ◌≡◌, ◌&&◌, Bool, true, false, List, [], ◌∷◌, ◌++◌, map, length, refl, ap, ◌∙◌, ◌+◌, ◌-◌, ◌^◌}
 use Rattle.std.specs.Prelude.{nat_lt, Ok}
 use Rattle.std.proofs.lemmas.List.{append-nil}
 use Rattle.std.proofs.lemmas.List.Concat.{flat_map-append}
@@ -10,7 +10,7 @@ use Rattle.tau_text.specs.declared.load.Turn.TheVariants as turn
 use Rattle.tau_core.specs.declared.state.Load.{Load}
 use Rattle.tau_core.specs.View.{setting_of}
 use Rattle.tau_run.specs.Run.{below}
-use Rattle.tau_run.specs.Turns.{Progress, Stays, IsOwn, Goes, has_work, is_going, Worked, Cleared, OneByOne, Turned, Clerked, DropOf, AnchoredPart, Alone, LeftOver}
+use Rattle.tau_run.specs.Turns.{Progress, Stays, IsOwn, Goes, has_work, is_going, Worked, Cleared, OneByOne, Turned, DropOf, AnchoredPart, Alone, LeftOver}
 use Rattle.tau_step.specs.Device.{flushed_by_event, flushed_in}
 use Rattle.tau_step.specs.Rounding.{turned, clerked, rounded_by, ran_left_over}
 use Rattle.tau_step.proofs.Turning.{if-either}

@@ -10,7 +10,7 @@ use Rattle.tau_core.specs.declared.event.Outcome.{Outcome}
 use Rattle.tau_core.specs.declared.event.Outcome.TheVariants as outcome
 use Rattle.tau_core.specs.State.{Plain}
 use Rattle.tau_core.specs.View.{Hidden}
-use Rattle.tau_core.specs.Stands.{Stood}
+use Rattle.tau_core.specs.Stands.{Stands, Stood}
 use Rattle.tau_core.specs.Steps.{Steps, Happened, Unmoved}
 
 module _ (p p' : Plain) (K : List (Act Txn)) (h : Hidden) where
@@ -132,3 +132,6 @@ module _ (p p' : Plain) (K : List (Act Txn)) (h : Hidden) where
   steps-stand (event.Stop j at) outcome.NothingCovered t = absurd t
   steps-stand (event.Stop j at) (outcome.NotNow phase) t = unmoved t.0
   steps-stand (event.Stop j at) outcome.NoMemory t = absurd t
+
+pub all-stand : (p p' : Plain) → Stood p → (e : Event) (o : Outcome) → ((K : List (Act Txn)) (h : Hidden) → Stands p K h → Steps p p' K h e o) → (p'.load ≡ p.load) × Stood p'
+all-stand p p' s e o f = steps-stand p p' s.0 s.1 e o (f s.0 s.1 s.2)

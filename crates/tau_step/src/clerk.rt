@@ -11,8 +11,9 @@ ghost use Rattle.tau_step.specs.Telling.{Heard, NextTold, Passed, waiting_of};
 
 use crate::sink::write_all;
 use std::alloc::Global;
+use tau_ack::Waiting;
 use tau_base::{Lv, NoMemory};
-use tau_core::{Core, Event, Outcome};
+use tau_core::Core;
 use tau_disk::Sink;
 use tau_report::{Acks, ack_line};
 
@@ -21,7 +22,8 @@ use tau_report::{Acks, ack_line};
 pub(crate) struct Clerk {
     /// The acknowledged calls with their vectors, in the order in which they were told.
     pub(crate) acks: Acks,
-    /// The last line.
+    /// The last call that was acknowledged, and its line.
+    call: Waiting,
     line: Vec<u8>,
     /// Whether the sink failed. Then nothing more is written to it.
     pub(crate) sink_failed: bool,
@@ -35,27 +37,31 @@ impl Clerk {
     {
         Clerk {
             acks: Acks::new(alloc),
+            call: Waiting {
+                number: 0,
+                lv: Lv::zero(1),
+            },
             line: Vec::new(alloc),
             sink_failed: false,
         }
     }
 
-    /// The call with this number is acknowledged.
-    fn tell<K: Sink>(&mut self, sink: &mut K, number: u64, lv: Lv) -> Result<(), NoMemory>
-        ensures acks { OnOk result (self.new.acks ≡ self.old.acks ++ (number, lv) ∷ []) }
+    /// Tells the last call that was acknowledged.
+    fn tell<K: Sink>(&mut self, sink: &mut K) -> Result<(), NoMemory>
+        ensures acks { OnOk result (self.new.acks ≡ self.old.acks ++ (self.old.call.number, self.old.call.lv) ∷ []) }
         ensures heard { OnOk result (K.tells → (base : List ℕ) → Heard base self.old.acks self.old.sink_failed (K.held sink.old) → Heard base self.new.acks self.new.sink_failed (K.held sink.new)) }
         ensures short { OnErr result ((sink.new ≡ sink.old) × (self.new.sink_failed ≡ self.old.sink_failed)) }
         ensures cause { self.new.sink_failed ≡ true → (self.old.sink_failed ≡ true) ⊎ Rose (K.faults sink.old) (K.faults sink.new) }
         ensures faults { K.faults sink.old ≤ K.faults sink.new }
     {
-        match self.acks.push(number, &lv) {
+        match self.acks.push(self.call.number, &self.call.lv) {
             Ok(()) => {}
             Err(_) => return Err(NoMemory),
         }
         if self.sink_failed {
             return Ok(());
         }
-        ack_line(&mut self.line, number, &lv)?;
+        ack_line(&mut self.line, self.call.number, &self.call.lv)?;
         match write_all(sink, &self.line) {
             Ok(()) => Ok(()),
             Err(_) => {
@@ -78,12 +84,15 @@ impl Clerk {
         ensures stood { Stood core.new }
         ensures less { result ≡ Ok true → waiting_of core.new worker < waiting_of core.old worker }
     {
-        match core.step(Event::Ack { worker }) {
-            Outcome::Acked { number, lv } => match self.tell(sink, number, lv) {
-                Ok(()) => Ok(true),
-                Err(error) => Err(error),
-            },
-            _ => Ok(false),
+        if !core.waits(worker) {
+            return Ok(false);
+        }
+        if !core.ack(worker, &mut self.call) {
+            return Ok(false);
+        }
+        match self.tell(sink) {
+            Ok(()) => Ok(true),
+            Err(error) => Err(error),
         }
     }
 
@@ -104,9 +113,6 @@ impl Clerk {
         ensures cause { self.new.sink_failed ≡ true → (self.old.sink_failed ≡ true) ⊎ Rose (K.faults sink.old) (K.faults sink.new) }
         ensures faults { K.faults sink.old ≤ K.faults sink.new }
     {
-        if !core.waits(worker) {
-            return Ok(());
-        }
         while self.next(core, sink, worker)? {}
         Ok(())
     }

@@ -110,6 +110,7 @@ fn flushes_in(run: Run) -> Result<Listed<u8>, NoMemory>
         streams: _,
         failed,
         flushes,
+        body: _,
     } = run;
     if failed.is_some() {
         return Err(NoMemory);
@@ -142,6 +143,7 @@ fn flushes_of(
         streams: n,
         failed: None,
         flushes: Flushes::new(alloc, true),
+        body: Vec::new(alloc),
     };
     run.all(writers, &mut NoSink, load)?;
     flushes_in(run)

@@ -138,6 +138,7 @@ pub(crate) fn end_of(alloc: Global, run: Run, calls: usize) -> Result<RunEnd, No
         streams: _,
         failed,
         flushes: _,
+        body: _,
     } = run;
     let sink_failed = clerk.sink_failed;
     tell_end(alloc, &core, clerk.acks, calls, failed, sink_failed)

@@ -10,7 +10,7 @@ ghost use Rattle.tau_step.specs.Keeping.{CanFlush, FlushTurns, GatheredTurned, H
 ghost use Rattle.tau_step.specs.Progressed.{Comes, stays, anchors, drops, drops_one};
 
 use tau_base::{NoMemory, SHARDS};
-use tau_core::{Core, Event, Outcome};
+use tau_core::{Core, Event, Gathering, Outcome};
 use tau_disk::Disk;
 use tau_stream::{Flush, Writer};
 
@@ -29,11 +29,12 @@ pub(crate) enum Managing {
 }
 
 /// The manager gathers, flushes one block if anything is new, and raises the persisted position. A disk that has failed is used
-/// no more.
+/// no more. The bytes go by way of `body`, whose memory is used again.
 pub(crate) fn manager_turn<D: Disk>(
     core: &mut Core,
     writer: &mut Writer<D>,
     stream: u8,
+    body: &mut Vec<u8>,
 ) -> Result<Managing, NoMemory>
     requires there { stream < core.old.load.streams }
     requires held { IsHeld stream writer.old core.old }
@@ -49,10 +50,10 @@ pub(crate) fn manager_turn<D: Disk>(
         return Ok(Managing::Idle);
     }
     // The stream is not stopped, since its disk has not failed.
-    let Outcome::Gathered { upto } = core.step(Event::Gather { stream }) else {
+    let Gathering::Upto { upto } = core.gather(stream) else {
         return Err(NoMemory);
     };
-    flush_gathered(core, writer, stream, upto)
+    flush_gathered(core, writer, stream, upto, body)
 }
 
 /// Flushes what was gathered up to there. Where all of it is durable nothing is handed over.
@@ -61,6 +62,7 @@ fn flush_gathered<D: Disk>(
     writer: &mut Writer<D>,
     stream: u8,
     upto: u64,
+    body: &mut Vec<u8>,
 ) -> Result<Managing, NoMemory>
     requires there { stream < core.old.load.streams }
     requires filled { CanFlush stream writer.old core.old upto }
@@ -71,16 +73,17 @@ fn flush_gathered<D: Disk>(
     if upto == writer.durable() {
         return Ok(Managing::Idle);
     }
-    hand_over(core, writer, stream, upto)?;
+    hand_over(core, writer, stream, upto, body)?;
     Ok(flush_prepared(core, writer, stream, upto))
 }
 
-/// Hands what was gathered over to the writer, which makes its block.
+/// Hands what was gathered over to the writer, which makes its block. The bytes go by way of `body`.
 fn hand_over<D: Disk>(
     core: &mut Core,
     writer: &mut Writer<D>,
     stream: u8,
     upto: u64,
+    body: &mut Vec<u8>,
 ) -> Result<(), NoMemory>
     requires there { stream < core.old.load.streams }
     requires filled { CanFlush stream writer.old core.old upto }
@@ -92,11 +95,11 @@ fn hand_over<D: Disk>(
         length catalogue ≡ slice_index core.old.load.opening.ends stream → IsFilled stream catalogue upto writer.old core.old h →
         HandedOver stream catalogue upto writer.new core.old core.new K h result }
 {
-    let body = core.take_body(stream);
+    core.swap_body(stream, body);
     if upto >= END_OF_POSITIONS {
         return Err(NoMemory);
     }
-    let Ok(()) = writer.add(&body) else {
+    let Ok(()) = writer.add(body) else {
         return Err(NoMemory);
     };
     let Ok(()) = writer.prepare(upto) else {
@@ -124,12 +127,12 @@ fn flush_prepared<D: Disk>(
 {
     match writer.flush(upto) {
         Ok(()) => {
-            core.step(Event::Persist { stream, upto });
+            let _ = core.persist(stream, upto);
             Managing::Flushed
         }
         Err(Flush::Failed) => {
             let at = writer.durable();
-            core.step(Event::Stop { stream, at });
+            let _ = core.stop(stream, at);
             Managing::Failed
         }
         Err(Flush::Idle) => Managing::Idle,

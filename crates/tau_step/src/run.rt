@@ -38,6 +38,8 @@ pub(crate) struct Run {
     pub(crate) failed: Option<u8>,
     /// What it has flushed, if that is noted.
     pub(crate) flushes: Flushes,
+    /// What was flushed last, whose memory is used again.
+    pub(crate) body: Vec<u8>,
 }
 
 /// The lower of two streams, of which the first may be none.
@@ -84,7 +86,7 @@ impl Run {
         ensures fewer { result ≡ Ok Managing.Flushed → to_flush self.new.core stream < to_flush self.old.core stream }
     {
         let at = usize::from(stream);
-        match manager_turn(&mut self.core, &mut writers[at], stream)? {
+        match manager_turn(&mut self.core, &mut writers[at], stream, &mut self.body)? {
             Managing::Failed => {
                 self.failed = lowest(self.failed, stream);
                 Ok(Managing::Failed)

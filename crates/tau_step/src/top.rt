@@ -103,6 +103,7 @@ fn go<D: Disk, K: Sink>(
         streams: writers.len() as u8,
         failed: None,
         flushes: Flushes::new(alloc, false),
+        body: Vec::new(alloc),
     };
     run.all(writers, sink, load)?;
     end_of(alloc, run, load.calls.len())

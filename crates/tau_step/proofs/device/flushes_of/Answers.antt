@@ -5,7 +5,7 @@ use Rattle.tau_text.specs.Canonical.{declarations_text}
 use Rattle.tau_core.specs.Opens.{OpenedFresh, catalogue_size}
 use Rattle.tau_run.specs.RunFacts.{turns_of}
 use Rattle.tau_step.specs.declared.run.Run.{Run}
-use Rattle.tau_step.specs.Device.{IsFlushOrder, IsOfRun}
+use Rattle.tau_step.specs.Device.{IsFlushOrder}
 use Rattle.tau_step.specs.RunEffects.{Moves}
 use Rattle.tau_step.specs.Rounding.{ran_all}
 use Rattle.tau_step.proofs.Ordered.{begun-on, flush-order}
@@ -13,14 +13,14 @@ use Rattle.tau_step.proofs.device.flushes_of.Goals as goal
 
 pub all-requires : goal.all-requires
 all-requires c =
-    let first : Run = record { core = c.args.core; clerk = c.new.result; workers = c.args.m; streams = c.args.n; failed = None; flushes = c.new-2.result } in
+    let first : Run = record { core = c.args.core; clerk = c.new.result; workers = c.args.m; streams = c.args.n; failed = None; flushes = c.new-2.result; body = c.new-3.result } in
     let long : length c.args.writers.now.items ≡ c.args.n = omega (arith, c.requires.count) in
     let fresh = subst (λ (k : ℕ). OpenedFresh c.args.load.now.declarations.procs c.args.load.now.calls c.args.mode c.args.m k (catalogue_size (declarations_text c.args.load.now.declarations)) c.args.core) (sym long) c.requires.opened in
     record { on = begun-on c.args.m c.args.mode c.args.load.now first c.args.writers.now.items fresh c.requires.new refl (sym long) refl }
 
 pub returns : goal.returns
 returns c =
-    let first : Run = record { core = c.args.core; clerk = c.new.result; workers = c.args.m; streams = c.args.n; failed = None; flushes = c.new-2.result } in
+    let first : Run = record { core = c.args.core; clerk = c.new.result; workers = c.args.m; streams = c.args.n; failed = None; flushes = c.new-2.result; body = c.new-3.result } in
     let long : length c.args.writers.now.items ≡ c.args.n = omega (arith, c.requires.count) in
     let fresh = subst (λ (k : ℕ). OpenedFresh c.args.load.now.declarations.procs c.args.load.now.calls c.args.mode c.args.m k (catalogue_size (declarations_text c.args.load.now.declarations)) c.args.core) (sym long) c.requires.opened in
     let x = subst (λ b. Moves (ran_all (turns_of c.args.load.now)) b first c.all.new.self c.args.writers.now.items c.all.new.writers.items ⊥ [] [] 0 0) (ap is_ok c.in_ok-all.was) c.all.ensures.moves in

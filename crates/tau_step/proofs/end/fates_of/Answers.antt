@@ -1,4 +1,4 @@
-use Rattle.std.proofs.Common.{ℕ, ◌+◌, ◌-◌, ◌≡◌, ◌∙◌, ◌∷◌, Bool, List, length, drop, get_or, sym, ap, subst, arith}
+use Rattle.std.proofs.Common.{ℕ, ◌+◌, ◌-◌, ◌≡◌, ◌∙◌, ◌∷◌, Bool, List, drop, get_or, sym, ap, subst, arith}
 use Rattle.std.specs.Prelude.{Some, slice_set}
 use Rattle.std.proofs.lemmas.List.{drop_all}
 use Rattle.tau_proc.specs.declared.reply.Reply.{Reply}

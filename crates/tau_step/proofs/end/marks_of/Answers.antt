@@ -1,4 +1,4 @@
-use Rattle.std.proofs.Common.{ℕ, ◌+◌, ◌-◌, ◌≡◌, ◌∙◌, ◌++◌, ◌∷◌, [], Bool, true, List, length, take, sym, ap, arith}
+use Rattle.std.proofs.Common.{ℕ, ◌-◌, ◌∙◌, Bool, true, List, take, sym, ap}
 use Rattle.std.specs.Prelude.{slice_set}
 use Rattle.tau_step.specs.Fates.{IsNumberOf, marks_in}
 use Rattle.tau_step.proofs.Fates.{marks-none, marks-more, told-more, told-number}

@@ -1,29 +1,30 @@
 use Rattle.std.proofs.Common.{sym, subst, ◌∙◌}
 use Rattle.tau_stream.specs.declared.flush.Flush.TheVariants as flush
 use Rattle.tau_step.specs.declared.manager.Managing.TheVariants as did
+use Rattle.tau_core.specs.Answered.{reached_by}
 use Rattle.tau_step.specs.Keeping.{FlushTurns}
 use Rattle.tau_step.proofs.Flushing.{made-goes, made-stops, flush-done, flush-failed, flush-idle}
 use Rattle.tau_step.proofs.manager.flush_prepared.Goals as goal
 
 pub returns-in-Ok : goal.returns-in-Ok
 returns-in-Ok g c = λ catalogue K h es told stands size l.
-    flush-done c.args.stream catalogue c.args.upto c.args.writer.now c.flush.new.self c.args.core.now c.step.new.self told K h es stands c.requires.there size l
+    flush-done c.args.stream catalogue c.args.upto c.args.writer.now c.flush.new.self c.args.core.now c.persist.new.self told K h es stands c.requires.there size l
     (λ e. let bad = sym c.in-Ok.is ∙ c.flush.ensures.flushes.idle.1 e in cc)
     c.in-Ok.ensures.flushed.durable c.in-Ok.ensures.flushed.left c.in-Ok.ensures.flushed.works c.in-Ok.ensures.flushed.done c.flush.ensures.flushes.moments
     (λ tells. made-goes g.D.Disk c.args.writer.now.disk c.flush.new.self.disk c.in-Ok.field-0 c.flush.result c.in-Ok.is (c.flush.ensures.flushes.plan tells (λ e. let bad = sym c.in-Ok.is ∙ c.flush.ensures.flushes.idle.1 e in cc)))
     c.flush.ensures.flushes.faults
-    c.step.result (c.step.ensures K h stands)
+    (reached_by c.persist.result) (c.persist.ensures K h stands)
 
 pub returns-in-Err-Failed : goal.returns-in-Err-Failed
 returns-in-Err-Failed g c = λ catalogue K h es told stands size l.
     let err = rw c.in-Err-Failed.field-0-is at c.in-Err-Failed.is in
     let failed = c.flush.ensures.flushes.failed err in
-    flush-failed c.args.stream catalogue c.args.upto c.args.writer.now c.flush.new.self c.args.core.now c.step-in-Err-Failed.new.self told K h es stands c.requires.there size l g.met.D.Disk.counts_now g.met.D.Disk.only_now
+    flush-failed c.args.stream catalogue c.args.upto c.args.writer.now c.flush.new.self c.args.core.now c.stop.new.self told K h es stands c.requires.there size l g.met.D.Disk.counts_now g.met.D.Disk.only_now
     (λ e. let bad = sym err ∙ c.flush.ensures.flushes.idle.1 e in cc)
     c.in-Err-Failed.ensures.stays.durable failed.1 failed.0 c.flush.ensures.flushes.moments c.in-Err-Failed.ensures.stays.reached
     (λ tells. made-stops g.D.Disk c.args.writer.now.disk c.flush.new.self.disk flush.Failed c.flush.result err (c.flush.ensures.flushes.plan tells (λ e. let bad = sym err ∙ c.flush.ensures.flushes.idle.1 e in cc)))
     c.flush.ensures.flushes.faults
-    c.durable-at.result (c.durable-at.ensures ∙ c.in-Err-Failed.ensures.stays.durable ∙ l.durable) c.step-in-Err-Failed.result (c.step-in-Err-Failed.ensures K h stands)
+    c.durable-at.result (c.durable-at.ensures ∙ c.in-Err-Failed.ensures.stays.durable ∙ l.durable) (reached_by c.stop.result) (c.stop.ensures K h stands)
 
 pub returns-in-Err-Idle : goal.returns-in-Err-Idle
 returns-in-Err-Idle g c = λ catalogue K h es told stands size l.

@@ -1,10 +1,10 @@
 use Rattle.std.proofs.Common.{◌<◌, ◌++◌, [], ◌∷◌, sym, ap, subst, ◌∙◌}
 use Rattle.std.specs.Prelude.{slice_index}
 use Rattle.tau_core.specs.declared.state.Load.{Load}
-use Rattle.tau_core.specs.declared.event.Outcome.{Outcome}
-use Rattle.tau_core.specs.declared.event.Event.TheVariants as event
+use Rattle.tau_core.specs.declared.event.Gathering.{Gathering}
 use Rattle.tau_machine.specs.Events as machine
-use Rattle.tau_core.specs.Steps.{Steps}
+use Rattle.tau_core.specs.Steps.{GatherSteps}
+use Rattle.tau_core.specs.Answered.{gathered_by}
 use Rattle.tau_step.proofs.Gathering.{filled, manager-turned, manager-idle, is-current, is-broken, gather-short}
 use Rattle.tau_step.proofs.NothingNew.{manager-rests}
 use Rattle.tau_step.proofs.manager.manager_turn.Goals as goal
@@ -22,7 +22,7 @@ pub flush_gathered-requires : goal.flush_gathered-requires
 flush_gathered-requires g c =
     let (catalogue, K, h, stands, size, kept) = c.requires.held in
     let l = is-current c.args.stream catalogue c.args.writer.now c.args.core.now h (sym c.failed.ensures ∙ c.if-failed.false) kept in
-    let t = subst (λ (o : Outcome). Steps c.args.core.now c.step.new.self K h (event.Gather c.args.stream) o) c.in-Gathered.is (c.step.ensures K h stands) in
+    let t = subst (λ (a : Gathering). GatherSteps c.args.core.now c.gather.new.self K h c.args.stream (gathered_by a)) c.in-Upto.is (c.gather.ensures K h stands) in
     record {
       there = subst (λ (d : Load). c.args.stream < d.streams) (sym t.0.load) c.requires.there;
       filled = (
@@ -31,19 +31,19 @@ flush_gathered-requires g c =
         t.0.hidden,
         t.0.stands,
         size ∙ ap (λ (d : Load). slice_index d.opening.ends c.args.stream) (sym t.0.load),
-        filled c.args.stream catalogue c.args.writer.now c.args.core.now c.step.new.self [] K h [] stands c.requires.there size l t.0 c.in-Gathered.upto t.1,
+        filled c.args.stream catalogue c.args.writer.now c.args.core.now c.gather.new.self [] K h [] stands c.requires.there size l t.0 c.in-Upto.upto t.1,
       );
     }
 
 pub returns : goal.returns
 returns g c = λ catalogue K h es told stands size kept.
     let l = is-current c.args.stream catalogue c.args.writer.now c.args.core.now h (sym c.failed.ensures ∙ c.if-failed.false) kept in
-    let t = subst (λ (o : Outcome). Steps c.args.core.now c.step.new.self K h (event.Gather c.args.stream) o) c.in-Gathered.is (c.step.ensures K h stands) in
-    manager-turned c.args.stream catalogue c.args.writer.now c.args.core.now c.step.new.self told K h es stands c.requires.there size l t.0 c.flush_gathered.new.core c.flush_gathered.new.writer t.2 c.flush_gathered.result
+    let t = subst (λ (a : Gathering). GatherSteps c.args.core.now c.gather.new.self K h c.args.stream (gathered_by a)) c.in-Upto.is (c.gather.ensures K h stands) in
+    manager-turned c.args.stream catalogue c.args.writer.now c.args.core.now c.gather.new.self told K h es stands c.requires.there size l t.0 c.flush_gathered.new.core c.flush_gathered.new.writer t.2 c.flush_gathered.result
     (c.flush_gathered.ensures catalogue (K ++ t.0.joined) t.0.hidden (es ++ machine.Gather c.args.stream ∷ []) told t.0.stands (size ∙ ap (λ (d : Load). slice_index d.opening.ends c.args.stream) (sym t.0.load))
-    (filled c.args.stream catalogue c.args.writer.now c.args.core.now c.step.new.self told K h es stands c.requires.there size l t.0 c.in-Gathered.upto t.1))
+    (filled c.args.stream catalogue c.args.writer.now c.args.core.now c.gather.new.self told K h es stands c.requires.there size l t.0 c.in-Upto.upto t.1))
 
 pub returns-in_default : goal.returns-in_default
 returns-in_default g c = λ catalogue K h es told stands size kept.
     let l = is-current c.args.stream catalogue c.args.writer.now c.args.core.now h (sym c.failed.ensures ∙ c.if-failed.false) kept in
-    gather-short c.args.stream catalogue c.args.writer.now c.args.core.now c.step.new.self told K h es stands c.requires.there size l c.step.result (c.step.ensures K h stands)
+    gather-short c.args.stream catalogue c.args.writer.now c.args.core.now c.gather.new.self told K h es stands c.requires.there size l (gathered_by c.gather.result) (c.gather.ensures K h stands)

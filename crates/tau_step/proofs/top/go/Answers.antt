@@ -24,7 +24,7 @@ all-requires g c =
 
 pub end_of-requires-clause-calls : goal.end_of-requires-clause-calls
 end_of-requires-clause-calls g c =
-    let first : Run = record { core = c.args.core; clerk = c.new.result; workers = c.args.m; streams = c.len.result; failed = None; flushes = c.new-2.result } in
+    let first : Run = record { core = c.args.core; clerk = c.new.result; workers = c.args.m; streams = c.len.result; failed = None; flushes = c.new-2.result; body = c.new-3.result } in
     let x = subst (λ b. Moves (ran_all (turns_of c.args.load.now)) b first c.all.new.self c.args.writers.now.items c.all.new.writers.items g.K.Sink.tells (g.K.Sink.held c.args.sink.now) (g.K.Sink.held c.all.new.sink) (g.K.Sink.faults c.args.sink.now) (g.K.Sink.faults c.all.new.sink))
     (ap is_ok c.in_ok-all.was) c.all.ensures.moves in
     c.len-2.ensures ∙ ap (length {A = Call}) c.requires.calls ∙ sym (calls-same g.met.D.Disk.seen_now (turns_of c.args.load.now) c.requires.begun.0 first c.all.new.self c.args.writers.now.items c.all.new.writers.items g.K.Sink.tells (g.K.Sink.held c.args.sink.now) (g.K.Sink.held c.all.new.sink) (g.K.Sink.faults c.args.sink.now) (g.K.Sink.faults c.all.new.sink)
@@ -32,7 +32,7 @@ end_of-requires-clause-calls g c =
 
 pub end_of-requires-clause-told : goal.end_of-requires-clause-told
 end_of-requires-clause-told g c =
-    let first : Run = record { core = c.args.core; clerk = c.new.result; workers = c.args.m; streams = c.len.result; failed = None; flushes = c.new-2.result } in
+    let first : Run = record { core = c.args.core; clerk = c.new.result; workers = c.args.m; streams = c.len.result; failed = None; flushes = c.new-2.result; body = c.new-3.result } in
     let x = subst (λ b. Moves (ran_all (turns_of c.args.load.now)) b first c.all.new.self c.args.writers.now.items c.all.new.writers.items g.K.Sink.tells (g.K.Sink.held c.args.sink.now) (g.K.Sink.held c.all.new.sink) (g.K.Sink.faults c.args.sink.now) (g.K.Sink.faults c.all.new.sink))
     (ap is_ok c.in_ok-all.was) c.all.ensures.moves in
     let same : c.len-2.result ≡ length c.all.new.self.core.load.calls = c.len-2.ensures ∙ ap (length {A = Call}) c.requires.calls ∙ sym (calls-same g.met.D.Disk.seen_now (turns_of c.args.load.now) c.requires.begun.0 first c.all.new.self c.args.writers.now.items c.all.new.writers.items g.K.Sink.tells (g.K.Sink.held c.args.sink.now) (g.K.Sink.held c.all.new.sink) (g.K.Sink.faults c.args.sink.now) (g.K.Sink.faults c.all.new.sink)
@@ -42,7 +42,7 @@ end_of-requires-clause-told g c =
 
 pub returns-clause-ran : goal.returns-clause-ran
 returns-clause-ran g c = λ bases begun.
-    let first : Run = record { core = c.args.core; clerk = c.new.result; workers = c.args.m; streams = c.len.result; failed = None; flushes = c.new-2.result } in
+    let first : Run = record { core = c.args.core; clerk = c.new.result; workers = c.args.m; streams = c.len.result; failed = None; flushes = c.new-2.result; body = c.new-3.result } in
     let x = subst (λ b. Moves (ran_all (turns_of c.args.load.now)) b first c.all.new.self c.args.writers.now.items c.all.new.writers.items g.K.Sink.tells (g.K.Sink.held c.args.sink.now) (g.K.Sink.held c.all.new.sink) (g.K.Sink.faults c.args.sink.now) (g.K.Sink.faults c.all.new.sink))
     (ap is_ok c.in_ok-all.was) c.all.ensures.moves in
     ran-by g.met.D.Disk.seen_now (turns_of c.args.load.now) bases first c.all.new.self c.args.writers.now.items c.all.new.writers.items g.K.Sink.tells (g.K.Sink.held c.args.sink.now) (g.K.Sink.held c.all.new.sink) (g.K.Sink.faults c.args.sink.now) (g.K.Sink.faults c.all.new.sink)
@@ -51,13 +51,13 @@ returns-clause-ran g c = λ bases begun.
 
 pub returns-clause-count : goal.returns-clause-count
 returns-clause-count g c =
-    let first : Run = record { core = c.args.core; clerk = c.new.result; workers = c.args.m; streams = c.len.result; failed = None; flushes = c.new-2.result } in
+    let first : Run = record { core = c.args.core; clerk = c.new.result; workers = c.args.m; streams = c.len.result; failed = None; flushes = c.new-2.result; body = c.new-3.result } in
     count-same g.met.D.Disk.seen_now (turns_of c.args.load.now) c.requires.begun.0 first c.all.new.self c.args.writers.now.items c.all.new.writers.items g.K.Sink.tells (g.K.Sink.held c.args.sink.now) (g.K.Sink.held c.all.new.sink) (g.K.Sink.faults c.args.sink.now) (g.K.Sink.faults c.all.new.sink)
     c.requires.opened c.requires.begun.1 c.new.ensures.acks c.new.ensures.works (is_ok c.all.result) c.all.ensures.moves
 
 pub returns-in_err-all-clause-ran : goal.returns-in_err-all-clause-ran
 returns-in_err-all-clause-ran g c = λ bases begun.
-    let first : Run = record { core = c.args.core; clerk = c.new.result; workers = c.args.m; streams = c.len.result; failed = None; flushes = c.new-2.result } in
+    let first : Run = record { core = c.args.core; clerk = c.new.result; workers = c.args.m; streams = c.len.result; failed = None; flushes = c.new-2.result; body = c.new-3.result } in
     let x = subst (λ b. Moves (ran_all (turns_of c.args.load.now)) b first c.all.new.self c.args.writers.now.items c.all.new.writers.items g.K.Sink.tells (g.K.Sink.held c.args.sink.now) (g.K.Sink.held c.all.new.sink) (g.K.Sink.faults c.args.sink.now) (g.K.Sink.faults c.all.new.sink))
     (ap is_ok c.in_err-all.was) c.all.ensures.moves in
     rw (err_from_is_err_and c.from_residual.result c.from_residual.ensures.1).1 (cut-short g.met.D.Disk.seen_now (turns_of c.args.load.now) bases first c.all.new.self c.args.writers.now.items c.all.new.writers.items g.K.Sink.tells (g.K.Sink.held c.args.sink.now) (g.K.Sink.held c.all.new.sink) (g.K.Sink.faults c.args.sink.now) (g.K.Sink.faults c.all.new.sink)
@@ -65,6 +65,6 @@ returns-in_err-all-clause-ran g c = λ bases begun.
 
 pub returns-in_err-all-clause-count : goal.returns-in_err-all-clause-count
 returns-in_err-all-clause-count g c =
-    let first : Run = record { core = c.args.core; clerk = c.new.result; workers = c.args.m; streams = c.len.result; failed = None; flushes = c.new-2.result } in
+    let first : Run = record { core = c.args.core; clerk = c.new.result; workers = c.args.m; streams = c.len.result; failed = None; flushes = c.new-2.result; body = c.new-3.result } in
     count-same g.met.D.Disk.seen_now (turns_of c.args.load.now) c.requires.begun.0 first c.all.new.self c.args.writers.now.items c.all.new.writers.items g.K.Sink.tells (g.K.Sink.held c.args.sink.now) (g.K.Sink.held c.all.new.sink) (g.K.Sink.faults c.args.sink.now) (g.K.Sink.faults c.all.new.sink)
     c.requires.opened c.requires.begun.1 c.new.ensures.acks c.new.ensures.works (is_ok c.all.result) c.all.ensures.moves

@@ -4,12 +4,8 @@ use Rattle.std.proofs.lemmas.Result.{err_from_is_err_and}
 use Rattle.tau_step.specs.Telling.{NextTold, Passed}
 use Rattle.tau_step.specs.Progressed.{clears}
 use Rattle.tau_step.proofs.Passing.{clears-none, clears-one, clears-end}
-use Rattle.tau_step.proofs.Clearing.{none-waits}
 use Rattle.tau_step.proofs.Lines.{cause-on}
 use Rattle.tau_step.proofs.clerk.Clerk.pass_worker.Goals as goal
-
-pub returns-then-not-waits-clause-passed : goal.returns-then-not-waits-clause-passed
-returns-then-not-waits-clause-passed g c = λ order h es s. none-waits c.args.core.now order h es c.args.self.now.acks c.args.worker c.waits.result c.if-not-waits.true c.waits.ensures.1 s
 
 pub loop-init : goal.loop-init
 loop-init g c = record {
