@@ -1,5 +1,5 @@
 //! Runs of the core, event by event, against the worked runs.
-ghost use Rattle.std.specs.Prelude.{◌≡◌, ◌≤◌, IfOk, IsTrue};
+ghost use Rattle.std.specs.Prelude.{◌≡◌, ◌<◌, ◌≤◌, IfOk, IsTrue};
 ghost use Rattle.tau_base.specs.declared.limits.TheConstants.{MAX_STREAMS, MAX_WORKERS};
 ghost use Rattle.tau_core.specs.State.{Plain};
 ghost use Rattle.tau_core.specs.Stands.{Stood};
@@ -10,10 +10,12 @@ use std::alloc::Global;
 use std::marker::Model;
 use std::process::Abort;
 use std::test::Fail;
+use tau_ack::Waiting;
 use tau_base::{Key, LogMode, Lv, MAX_CATALOGUE, SHARDS, Value};
-use tau_core::{Core, Event, Opening, Outcome, Phase};
+use tau_core::{Acted, Core, Event, Gathering, Opening, Outcome, Phase};
 use tau_model::{Spot, Tables};
 use tau_text::{parse_workload, print_declarations};
+use tau_txn::ActionKind;
 
 /// What an event answered, in plain numbers: a row is a number or absent, a vector has zeros beyond its end.
 #[derive(Clone, Copy, Debug, PartialEq, Eq)]
@@ -27,6 +29,16 @@ enum Said {
     NothingCovered,
     NotNow(Phase),
     NoMemory,
+}
+
+/// What the call of one event told, in plain numbers.
+#[derive(Clone, Copy, Debug, PartialEq, Eq)]
+enum Told {
+    Acted(Acted),
+    Gathered(Gathering),
+    Reached(Option<Phase>),
+    Acked(u64, [u64; 3]),
+    NothingCovered,
 }
 
 /// The first positions of a vector.
@@ -91,6 +103,58 @@ fn acts(core: &mut Core, workers: u8, streams: u8, event: Event) -> Option<Said>
     Some(plain_of(&outcome))
 }
 
+/// Why a position was not reached, if it was not.
+fn reached(said: Result<(), Phase>) -> Told {
+    match said {
+        Ok(()) => Told::Reached(None),
+        Err(phase) => Told::Reached(Some(phase)),
+    }
+}
+
+/// The call that is acknowledged, if one is.
+fn acked(core: &mut Core, worker: u8) -> Told
+    requires there { worker < core.old.load.workers }
+    requires stood { Stood core.old }
+    ensures load { core.new.load ≡ core.old.load }
+    ensures stood { Stood core.new }
+{
+    let mut call = Waiting {
+        number: 0,
+        lv: Lv::zero(1),
+    };
+    if core.ack(worker, &mut call) {
+        return Told::Acked(call.number, positions(&call.lv));
+    }
+    Told::NothingCovered
+}
+
+/// What the call of one event tells; none of an event that is not there, or that has no call of its own.
+fn tells(core: &mut Core, workers: u8, streams: u8, event: Event) -> Option<Told>
+    requires workers { core.old.load.workers ≡ workers }
+    requires streams { core.old.load.streams ≡ streams }
+    requires stood { Stood core.old }
+    ensures load { core.new.load ≡ core.old.load }
+    ensures stood { Stood core.new }
+{
+    if !is_of(event, workers, streams) {
+        return None;
+    }
+    match event {
+        Event::Lock { worker } => Some(Told::Acted(core.lock(worker))),
+        Event::Quit { worker } => Some(Told::Acted(core.quit(worker))),
+        Event::Commit { worker } => Some(Told::Acted(core.commit(worker))),
+        Event::Post { worker } => Some(Told::Acted(core.post(worker))),
+        Event::Free { worker } => Some(Told::Acted(core.free(worker))),
+        Event::Done { worker } => Some(Told::Acted(core.done(worker))),
+        Event::Gather { stream } => Some(Told::Gathered(core.gather(stream))),
+        Event::Persist { stream, upto } => Some(reached(core.persist(stream, upto))),
+        Event::Ack { worker } => Some(acked(core, worker)),
+        Event::Stop { stream, at } => Some(reached(core.stop(stream, at))),
+        Event::Drop { .. } => None,
+        Event::Anchor { .. } => None,
+    }
+}
+
 /// The core of a run of this text, in which nothing has happened.
 fn core_of(alloc: Global, text: &[u8], n: u8, m: u8) -> Result<Core, Fail>
     requires n_low { 1 ≤ n }
@@ -124,6 +188,18 @@ fn body_of(core: &mut Core) -> Vec<u8>
     ensures stood { Stood core.new }
 {
     core.take_body(0)
+}
+
+/// The bytes of stream 0, of two, put in the place of those of stream 1.
+fn body_instead(core: &mut Core) -> Vec<u8>
+    requires streams { core.old.load.streams ≡ 2 }
+    requires stood { Stood core.old }
+    ensures load { core.new.load ≡ core.old.load }
+    ensures stood { Stood core.new }
+{
+    let mut bytes = core.take_body(1);
+    core.swap_body(0, &mut bytes);
+    bytes
 }
 
 /// The worker to which a call that was left over went back.
@@ -210,6 +286,11 @@ impl Run {
         acts(&mut self.core, self.workers, self.streams, event)
     }
 
+    /// What the call of one event tells.
+    fn tells(&mut self, event: Event) -> Option<Told> {
+        tells(&mut self.core, self.workers, self.streams, event)
+    }
+
     /// The worker to which a call that was left over went back.
     fn resumed(&mut self) -> Option<u8> {
         resumed(&mut self.core)
@@ -220,6 +301,12 @@ impl Run {
         assert!(rt; self.streams == 2);
         body_of(&mut self.core)
     }
+
+    /// The same, in the place of those of stream 1.
+    fn body_instead(&mut self, rt: &impl Abort) -> Vec<u8> {
+        assert!(rt; self.streams == 2);
+        body_instead(&mut self.core)
+    }
 }
 
 /// What is done with a run, and what is then so.
@@ -227,6 +314,8 @@ impl Run {
 enum Row<'a> {
     /// These events return so.
     Does(&'a [(Event, Said)]),
+    /// The calls of these events tell so.
+    Tells(&'a [(Event, Told)]),
     /// The event returns so, so many times.
     DoesAlways(u16, Event, Said),
     /// A put of worker 0 is persisted, and its entry is removed.
@@ -255,6 +344,8 @@ enum Row<'a> {
     Ends([u64; 3]),
     /// The bytes that are handed out of stream 0.
     Hands(&'a [u8]),
+    /// The same, in the place of those of stream 1.
+    HandsInstead(&'a [u8]),
 }
 
 /// A text of so many calls that write one row.
@@ -309,6 +400,14 @@ fn does(rt: &impl Abort, run: &mut Run, rows: &[(Event, Said)]) {
     for row in rows {
         let said = run.acts(row.0);
         assert!(rt; said == Some(row.1), "{said:?}");
+    }
+}
+
+/// The calls of these events tell so.
+fn all_tell(rt: &impl Abort, run: &mut Run, rows: &[(Event, Told)]) {
+    for row in rows {
+        let told = run.tells(row.0);
+        assert!(rt; told == Some(row.1), "{told:?}");
     }
 }
 
@@ -382,6 +481,11 @@ fn hands(rt: &impl Abort, run: &mut Run, bytes: &[u8]) {
     assert_eq!(rt; run.body_of(rt).as_slice(), bytes);
 }
 
+/// The same, in the place of those of stream 1.
+fn hands_instead(rt: &impl Abort, run: &mut Run, bytes: &[u8]) {
+    assert_eq!(rt; run.body_instead(rt).as_slice(), bytes);
+}
+
 /// The shard's floor.
 fn floor(rt: &impl Abort, core: &Core, shard: u8) -> [u64; 3] {
     assert!(rt; shard < 64);
@@ -406,6 +510,7 @@ fn stands(rt: &impl Abort, core: &Core, look: Row<'_>) {
 fn play(rt: &impl Abort, run: &mut Run, row: Row<'_>) {
     match row {
         Row::Does(rows) => does(rt, run, rows),
+        Row::Tells(rows) => all_tell(rt, run, rows),
         Row::DoesAlways(times, event, said) => does_always(rt, run, times, event, said),
         Row::Removes => removes(rt, run),
         Row::Resumes(worker) => resumes(rt, run, worker),
@@ -413,6 +518,7 @@ fn play(rt: &impl Abort, run: &mut Run, row: Row<'_>) {
         Row::Runs(worker, calls) => all_run(rt, run, worker, calls),
         Row::GoBack(times) => all_go_back(rt, run, times),
         Row::Hands(bytes) => hands(rt, run, bytes),
+        Row::HandsInstead(bytes) => hands_instead(rt, run, bytes),
         other => stands(rt, &run.core, other),
     }
 }
@@ -561,6 +667,35 @@ fn gathered_bytes_are_handed_out_once(rt: HostRuntime) -> Result<(), Fail> {
                 (Event::Gather { stream: 0 }, Said::Gathered(53)),
             ]),
             Row::Hands(&[
+                1, 0, 0, 0, 40, 0, 0, 0, 0, 0, 0, 0, 1, 0, 0, 0, 0, 0, 0, 0, 1, 0, 0, 0, 0, 0, 0,
+                0, 0, 0, 1, 1, 0, 0, 0, 0, 0, 0, 0, 5,
+            ]),
+            Row::Hands(&[]),
+        ],
+    )
+}
+
+// They may be put in the place of other bytes, which are gone.
+#[test]
+fn gathered_bytes_take_the_place_of_others(rt: HostRuntime) -> Result<(), Fail> {
+    goes(
+        &rt,
+        rt.alloc(),
+        b"table a\nput a 1 5\nput a 2 5\n",
+        2,
+        2,
+        &[
+            Row::Does(&[
+                (Event::Lock { worker: 1 }, Said::Granted(None)),
+                (Event::Commit { worker: 1 }, Said::Placed(13)),
+                (Event::Post { worker: 1 }, Said::Went),
+                (Event::Gather { stream: 1 }, Said::Gathered(53)),
+                (Event::Lock { worker: 0 }, Said::Granted(None)),
+                (Event::Commit { worker: 0 }, Said::Placed(13)),
+                (Event::Post { worker: 0 }, Said::Went),
+                (Event::Gather { stream: 0 }, Said::Gathered(53)),
+            ]),
+            Row::HandsInstead(&[
                 1, 0, 0, 0, 40, 0, 0, 0, 0, 0, 0, 0, 1, 0, 0, 0, 0, 0, 0, 0, 1, 0, 0, 0, 0, 0, 0,
                 0, 0, 0, 1, 1, 0, 0, 0, 0, 0, 0, 0, 5,
             ]),
@@ -922,6 +1057,77 @@ fn calls_left_over_go_back_in_order(rt: HostRuntime) -> Result<(), Fail> {
             Row::Numbers(101, 3),
             Row::Numbers(102, 5),
             Row::Numbers(299, 300),
+        ],
+    )
+}
+
+// The calls of single events tell what their events return: the second writer is barred by worker 0, and its record is placed after that of its
+// stream's catalogue.
+#[test]
+fn single_calls_tell_what_events_return(rt: HostRuntime) -> Result<(), Fail> {
+    goes(
+        &rt,
+        rt.alloc(),
+        b"table a\nput a 1 5\nput a 1 6\n",
+        2,
+        2,
+        &[
+            Row::Tells(&[
+                (
+                    Event::Post { worker: 0 },
+                    Told::Acted(Acted::Other {
+                        kind: ActionKind::Nothing,
+                    }),
+                ),
+                (Event::Lock { worker: 0 }, Told::Acted(Acted::Went)),
+                (
+                    Event::Lock { worker: 1 },
+                    Told::Acted(Acted::Busy { holder: 0 }),
+                ),
+                (
+                    Event::Quit { worker: 0 },
+                    Told::Acted(Acted::Other {
+                        kind: ActionKind::Commit,
+                    }),
+                ),
+                (Event::Commit { worker: 0 }, Told::Acted(Acted::Went)),
+                (
+                    Event::Gather { stream: 0 },
+                    Told::Gathered(Gathering::Upto { upto: 13 }),
+                ),
+                (Event::Post { worker: 0 }, Told::Acted(Acted::Went)),
+                (Event::Free { worker: 0 }, Told::Acted(Acted::Went)),
+                (Event::Done { worker: 0 }, Told::Acted(Acted::Went)),
+                (Event::Ack { worker: 0 }, Told::NothingCovered),
+                (
+                    Event::Gather { stream: 0 },
+                    Told::Gathered(Gathering::Upto { upto: 53 }),
+                ),
+            ]),
+            Row::Tells(&[
+                (
+                    Event::Persist {
+                        stream: 0,
+                        upto: 54,
+                    },
+                    Told::Reached(Some(Phase::Short { gathered: 53 })),
+                ),
+                (
+                    Event::Persist {
+                        stream: 0,
+                        upto: 53,
+                    },
+                    Told::Reached(None),
+                ),
+                (Event::Ack { worker: 0 }, Told::Acked(1, [53, 0, 0])),
+                (Event::Lock { worker: 1 }, Told::Acted(Acted::Went)),
+                (Event::Stop { stream: 0, at: 53 }, Told::Reached(None)),
+                (
+                    Event::Gather { stream: 0 },
+                    Told::Gathered(Gathering::Stopped { at: 53 }),
+                ),
+            ]),
+            Row::Finds(1, Some(5)),
         ],
     )
 }
