@@ -86,7 +86,7 @@ struct Named {
     lv: Lv,
 }
 
-/// Puts the newest anchor of the stream in place of the zero vector with the number 0, which stays where there is none. False where its
+/// Puts the newest anchor of the stream in place of the zero vector with the number 0, which stays if there is none. False if its
 /// number would be too great.
 fn newest(state: &State, stream: usize, named: &mut Named) -> bool
     requires sound { Sound (plain state.now) }

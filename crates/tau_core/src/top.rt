@@ -203,7 +203,7 @@ impl Core {
         gather(&mut self.state, stream as usize)
     }
 
-    /// Persists what is gathered of the stream up to a position. Where that may not be, it tells why, and nothing changes.
+    /// Persists what is gathered of the stream up to a position. If that may not be, it tells why, and nothing changes.
     pub fn persist(&mut self, stream: u8, upto: u64) -> Result<(), Phase>
         requires there { stream < self.old.load.streams }
         ensures { (K : List (Act Txn)) (h : Hidden) → Stands self.old K h → PersistSteps self.old self.new K h stream upto (reached_by result) }
@@ -211,7 +211,7 @@ impl Core {
         persist(&mut self.state, stream as usize, upto)
     }
 
-    /// Cuts the stream at a position. Where that may not be, it tells why, and nothing changes.
+    /// Cuts the stream at a position. If that may not be, it tells why, and nothing changes.
     pub fn stop(&mut self, stream: u8, at: u64) -> Result<(), Phase>
         requires there { stream < self.old.load.streams }
         ensures { (K : List (Act Txn)) (h : Hidden) → Stands self.old K h → StopSteps self.old self.new K h stream at (reached_by result) }
@@ -409,7 +409,7 @@ impl Core {
     }
 }
 
-/// The outcome that the answer of a worker's event stands for, where it is this one if the event happened.
+/// The outcome that the answer of a worker's event stands for, which is this one if the event happened.
 fn outcome_by(went: Outcome, acted: Acted) -> Outcome
     ensures { result ≡ outcome_by went acted }
 {
