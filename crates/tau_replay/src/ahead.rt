@@ -3,7 +3,7 @@
 use std::alloc::Global;
 use tau_base::{Call, Key, Value};
 use tau_model::SerialStore;
-use tau_proc::{ADD, FIRST_DECLARED, Operand, Procs, Step};
+use tau_proc::{FIRST_DECLARED, Operand, Procs, Step};
 use tau_record::Entry;
 use tau_scan::Log;
 
@@ -42,57 +42,53 @@ fn put_steps(steps: &[Step], args: &[Value], keys: &mut Vec<Key>) {
     }
 }
 
-/// Puts the row to which a call adds.
-fn put_add(args: &[Value], keys: &mut Vec<Key>) {
-    match args {
-        [Value::Int(table), Value::Int(row), ..] => {
-            let Ok(table) = u16::try_from(*table) else {
-                return;
-            };
-            put_key(Key { table, row: *row }, keys);
-        }
-        _ => {}
-    }
-}
-
-/// Puts the rows that a call reads.
-fn put_call(procs: &Procs, call: &Call, keys: &mut Vec<Key>) {
-    if call.proc == ADD {
-        return put_add(call.args.as_slice(), keys);
+/// Puts the rows that a call reads, if it is to be executed outside the lock. Whether it is. A call of a built-in
+/// procedure is not: it reads one row at most, and what it costs is no more than to read that ahead and compare it at the
+/// finish.
+fn put_call(procs: &Procs, call: &Call, keys: &mut Vec<Key>) -> bool {
+    if call.proc < FIRST_DECLARED {
+        return false;
     }
     match procs
         .list()
         .get(usize::from(call.proc.wrapping_sub(FIRST_DECLARED)))
     {
-        Some(proc) => put_steps(proc.steps.as_slice(), call.args.as_slice(), keys),
-        None => {}
+        Some(proc) => {
+            put_steps(proc.steps.as_slice(), call.args.as_slice(), keys);
+            true
+        }
+        None => false,
     }
 }
 
-/// Puts the rows that the call of a record reads.
-fn put_record(log: &Log, stream: u8, index: usize, place: &mut Call, keys: &mut Vec<Key>) {
+/// The same of a record, which has a call if it is a command record.
+fn put_record(log: &Log, stream: u8, index: usize, place: &mut Call, keys: &mut Vec<Key>) -> bool {
+    if log.declarations.procs.list().is_empty() {
+        return false;
+    }
     let Some(records) = log.streams.as_slice().get(usize::from(stream)) else {
-        return;
+        return false;
     };
     let Some(placed) = records.as_slice().get(index) else {
-        return;
+        return false;
     };
     match &placed.entry {
         Entry::Command { call, .. } => {
             call.put_into(place);
             put_call(&log.declarations.procs, place, keys)
         }
-        _ => {}
+        _ => false,
     }
 }
 
-/// The rows that the call of a record reads by its arguments.
+/// Whether a record has a call that is to be executed outside the lock, and the rows that it reads by its arguments.
 #[derive(Drop)]
 pub struct Foreseen {
     /// The stream of the record.
     stream: u8,
     /// Its number among the records of its stream.
     index: usize,
+    is_call: bool,
     keys: Vec<Key>,
 }
 
@@ -102,8 +98,14 @@ impl Foreseen {
         Foreseen {
             stream: 0,
             index: usize::MAX,
+            is_call: false,
             keys: Vec::new(alloc),
         }
+    }
+
+    /// Whether the record has such a call.
+    pub fn is_call(&self) -> bool {
+        self.is_call
     }
 
     /// Those of this record, if they are not those already. A call is put into a place that is kept.
@@ -114,11 +116,14 @@ impl Foreseen {
         self.stream = stream;
         self.index = index;
         self.keys.clear();
-        put_record(log, stream, index, place, &mut self.keys);
+        self.is_call = put_record(log, stream, index, place, &mut self.keys);
     }
 
     /// Reads these rows. If memory is refused, not all of them are read.
     pub fn read(&self, store: &SerialStore, ahead: &mut Vec<(Key, Value)>) {
+        if !self.is_call {
+            return;
+        }
         ahead.clear();
         for key in self.keys.as_slice() {
             let _ = ahead.push((*key, store.value(*key)));

@@ -1,7 +1,9 @@
 //! Calls that are executed outside the lock.
-ghost use Rattle.std.specs.Prelude.{◌≡◌, [], true};
-ghost use Rattle.tau_proc.specs.Progress.{buffered};
-ghost use Rattle.tau_replay.specs.Result.{DoesJust, Executes, IsExecuted};
+ghost use Rattle.std.specs.Prelude.{◌≡◌, ◌<◌, List, [], true};
+ghost use Rattle.tau_base.specs.declared.value.Call.{Call as Called};
+ghost use Rattle.tau_proc.specs.declared.proc.Proc.{Proc};
+ghost use Rattle.tau_proc.specs.Progress.{buffered, next_want, wants_left};
+ghost use Rattle.tau_replay.specs.Result.{DoesJust, Executes, IsExecuted, IsTrying};
 ghost use Rattle.tau_replay.specs.Rule.{IsIdle};
 
 use crate::ahead::found;
@@ -9,7 +11,7 @@ use crate::lock::Lock;
 use crate::outcome::Scratch;
 use crate::view::Seat;
 use std::sync::Wait;
-use tau_base::{Call, Key, Value};
+use tau_base::{Key, Value};
 use tau_pool::Job;
 use tau_proc::{Procs, Want};
 use tau_record::Entry;
@@ -28,32 +30,36 @@ fn row<R: Wait>(rt: &R, lock: &Lock, seat: &mut Seat, key: Key) -> Value
     value
 }
 
-/// The value of a row as it was read ahead, else read now.
-fn value_of<R: Wait>(
+/// Gives the row that is wanted its value as it was read ahead, else as it is read now. Whether there was memory.
+fn give_row<R: Wait>(
     rt: &R,
     lock: &Lock,
     seat: &mut Seat,
     key: Key,
     ahead: &[(Key, Value)],
-) -> Value
+    scratch: &mut Scratch,
+) -> bool
     requires own { seat.old.table_id ≡ lock.now.table.shared.table_id }
     requires idle { IsIdle seat.old.me }
+    requires wants { next_want scratch.old.machine ≡ Want.Read key }
     ensures own { seat.new.table_id ≡ seat.old.table_id }
     ensures same { seat.new.me ≡ seat.old.me }
+    ensures call { scratch.new.call ≡ scratch.old.call }
+    ensures trying { (procs : List Proc) (call : Called) → IsTrying procs call scratch.old.reads.items scratch.old.machine → result ≡ true → IsTrying procs call scratch.new.reads.items scratch.new.machine }
+    ensures fewer { result ≡ true → wants_left scratch.new.machine < wants_left scratch.old.machine }
 {
     match found(ahead, key) {
-        Some(value) => value.copied(),
-        None => row(rt, lock, seat, key),
+        Some(value) => scratch.give(key, value),
+        None => scratch.give(key, &row(rt, lock, seat, key)),
     }
 }
 
-/// Executes a call outside the lock, on values that are each read under it. Whether it came to its end.
+/// Executes the call of the scratch outside the lock, on values that are each read under it. Whether it came to its end.
 fn try_call<R: Wait>(
     rt: &R,
     lock: &Lock,
     seat: &mut Seat,
     procs: &Procs,
-    call: &Call,
     ahead: &[(Key, Value)],
     scratch: &mut Scratch,
 ) -> bool
@@ -61,20 +67,18 @@ fn try_call<R: Wait>(
     requires idle { IsIdle seat.old.me }
     ensures own { seat.new.table_id ≡ seat.old.table_id }
     ensures same { seat.new.me ≡ seat.old.me }
-    ensures executed { result ≡ true → Executes procs.now call.now scratch.new.reads.items (buffered scratch.new.machine) }
+    ensures executed { result ≡ true → Executes procs.now scratch.old.call scratch.new.reads.items (buffered scratch.new.machine) }
 {
-    if !procs.takes(call) {
+    if !procs.takes(&scratch.call) {
         return false;
     }
-    scratch.machine.restart(procs, call);
+    scratch.machine.restart(procs, &scratch.call);
     scratch.reads.clear();
     'wants: loop {
         match scratch.machine.next() {
             Want::Read(key) => {
-                let value = value_of(rt, lock, seat, key, ahead);
-                match scratch.reads.push((key, value.copied())) {
-                    Ok(()) => scratch.machine.give(value),
-                    Err(_) => return false,
+                if !give_row(rt, lock, seat, key, ahead, scratch) {
+                    return false;
                 }
             }
             Want::Write(_) => return true,
@@ -101,7 +105,8 @@ fn try_entry<R: Wait>(
 {
     match entry {
         Entry::Command { call, .. } => {
-            try_call(rt, lock, seat, procs, &call.call(), ahead, scratch)
+            call.put_into(&mut scratch.call);
+            try_call(rt, lock, seat, procs, ahead, scratch)
         }
         Entry::Written { .. } => false,
         Entry::Anchor { .. } => false,

@@ -1,12 +1,15 @@
 //! Records that were redone outside the lock.
-ghost use Rattle.std.specs.Prelude.{◌≡◌, ◌⊎◌, ◌↔◌, ℕ, List, true, false, None, Some, IsTrue, OnOk, OnErr, take};
+ghost use Rattle.std.specs.Prelude.{◌≡◌, ◌<◌, ◌⊎◌, ◌↔◌, ℕ, List, true, false, None, Some, IsTrue, OnOk, OnErr, take};
 ghost use Rattle.std.specs.Option.{ForSome};
+ghost use Rattle.tau_base.specs.declared.value.Call.{Call as Called};
+ghost use Rattle.tau_proc.specs.declared.proc.Proc.{Proc};
 ghost use Rattle.tau_proc.specs.Effect.{Agrees};
+ghost use Rattle.tau_proc.specs.Progress.{next_want, wants_left};
 ghost use Rattle.tau_model.specs.Redo.{redone};
 ghost use Rattle.tau_model.specs.Store.{database};
 ghost use Rattle.tau_scan.specs.Taken.{Kept};
 ghost use Rattle.tau_replay.specs.Recovering.{IsHeld, IsHeldBy};
-ghost use Rattle.tau_replay.specs.Result.{DoesJust};
+ghost use Rattle.tau_replay.specs.Result.{DoesJust, IsTrying};
 
 use crate::redo::redo;
 use arrayvec::ArrayVec;
@@ -15,7 +18,7 @@ use std::snapshot::Snapshot;
 use tau_base::{Call, Key, NoMemory, Value};
 use tau_model::SerialStore;
 use tau_pool::Job;
-use tau_proc::Machine;
+use tau_proc::{Machine, Want};
 use tau_scan::Log;
 
 /// What a worker executes calls with: the machine, and the rows that the last call wanted, each with the value that it
@@ -26,7 +29,7 @@ pub struct Scratch {
     pub machine: Machine,
     /// In the order in which they were wanted.
     pub reads: Vec<(Key, Value)>,
-    /// The call whose rows were read ahead last.
+    /// The call that runs, or that was looked at last.
     pub call: Call,
 }
 
@@ -40,6 +43,22 @@ impl Scratch {
                 proc: 0,
                 args: ArrayVec::new(),
             },
+        }
+    }
+
+    /// Gives the row that is wanted this value, and notes it. Whether there was memory.
+    pub fn give(&mut self, key: Key, value: &Value) -> bool
+        requires wants { next_want self.old.machine ≡ Want.Read key }
+        ensures call { self.new.call ≡ self.old.call }
+        ensures trying { (procs : List Proc) (call : Called) → IsTrying procs call self.old.reads.items self.old.machine → result ≡ true → IsTrying procs call self.new.reads.items self.new.machine }
+        ensures fewer { result ≡ true → wants_left self.new.machine < wants_left self.old.machine }
+    {
+        match self.reads.push((key, value.copied())) {
+            Ok(()) => {
+                self.machine.give_lent(value);
+                true
+            }
+            Err(_) => false,
         }
     }
 }
@@ -103,15 +122,20 @@ impl<'a> Outcome<'a> {
 
 /// Does what a record does on the database as it is: the writes that were found outside the lock if the values read are
 /// the same, else all anew.
-pub fn apply(log: &Log, store: &mut SerialStore, outcome: &Outcome) -> Result<(), NoMemory>
+pub fn apply(
+    log: &Log,
+    store: &mut SerialStore,
+    outcome: &Outcome,
+    scratch: &mut Scratch,
+) -> Result<(), NoMemory>
     requires of_log { outcome.now.log.value ≡ log.now }
     requires held { IsHeldBy log.now outcome.now.job }
     ensures ok { (r : Kept) → IsHeld log.now outcome.now.job r → OnOk result (database store.new ≡ redone log.now.declarations.procs r.content (database store.old)) }
     ensures err { OnErr result (database store.new ≡ database store.old) }
 {
     match outcome.tried {
-        None => redo(log, store, outcome.job),
-        Some(executed) => apply_tried(log, store, outcome.job, executed),
+        None => redo(log, store, outcome.job, scratch),
+        Some(executed) => apply_tried(log, store, outcome.job, executed, scratch),
     }
 }
 
@@ -121,6 +145,7 @@ fn apply_tried(
     store: &mut SerialStore,
     job: Job,
     executed: &Executed,
+    scratch: &mut Scratch,
 ) -> Result<(), NoMemory>
     requires held { IsHeldBy log.now job }
     requires just { DoesJust log.now job executed.now.reads.items executed.now.writes.items }
@@ -130,7 +155,7 @@ fn apply_tried(
     if has_values(store, executed.reads.as_slice()) {
         store.write(executed.writes.as_slice())
     } else {
-        redo(log, store, job)
+        redo(log, store, job, scratch)
     }
 }
 

@@ -8,6 +8,7 @@ ghost use Rattle.tau_replay.specs.Recovering.{IsHeld, IsHeldBy};
 ghost use Rattle.tau_replay.specs.Followed.{Followed, IsRedoneBy, rounds, workers_from};
 ghost use Rattle.tau_replay.specs.Way.{IsOnWay, IsOver, left_of};
 
+use crate::outcome::Scratch;
 use crate::turns::{Replay, start, turn, turn_of};
 use std::alloc::Global;
 use tau_base::NoMemory;
@@ -31,6 +32,7 @@ pub fn begin(alloc: Global, log: &Log) -> Result<Replay, NoMemory>
         pools,
         store: SerialStore::new(alloc),
         hands,
+        scratch: Scratch::new(alloc),
     })
 }
 

@@ -89,7 +89,7 @@ impl Task {
         self.foreseen.see(log, stream, index, place);
     }
 
-    /// Executes the record's call outside the lock, if it has one. Whether there is a record.
+    /// Executes the record's call outside the lock, if it is to be executed there. Whether there is a record.
     pub fn redo<R: Wait>(
         &mut self,
         rt: &R,
@@ -108,6 +108,9 @@ impl Task {
         let Some(job) = self.job else {
             return false;
         };
+        if !self.foreseen.is_call() {
+            return true;
+        }
         self.tried = false;
         if !try_job(rt, lock, seat, log, job, &self.ahead, scratch) {
             return true;

@@ -7,7 +7,7 @@ ghost use Rattle.tau_replay.specs.Followed.{Followed};
 ghost use Rattle.tau_replay.specs.Sound.{AreWorking};
 ghost use Rattle.tau_replay.specs.Way.{IsOnWay, left_of};
 
-use crate::outcome::{Outcome, apply};
+use crate::outcome::{Outcome, Scratch, apply};
 use tau_base::NoMemory;
 use tau_model::SerialStore;
 use tau_pool::{Job, Next, Pools};
@@ -22,6 +22,8 @@ pub struct Replay {
     pub store: SerialStore,
     /// What each worker, or each hand, has in flight.
     pub hands: Vec<Option<Job>>,
+    /// What calls are executed with under the lock.
+    pub scratch: Scratch,
 }
 
 /// Gives an idle worker a record that is ready.
@@ -83,7 +85,7 @@ pub fn finish_at(
     ensures hand { OnOk result (replay.new.hands.items ≡ slice_set replay.old.hands.items hand None) }
     ensures err { OnErr result (replay.new.hands.items ≡ replay.old.hands.items) }
 {
-    match apply(log, &mut replay.store, outcome) {
+    match apply(log, &mut replay.store, outcome, &mut replay.scratch) {
         Ok(()) => {}
         Err(_) => return Err(NoMemory),
     }
@@ -108,7 +110,7 @@ pub fn finish(
     ensures followed { (turns : List ℕ) → Followed log.now turns replay.old → OnOk result (Followed log.now (turns ++ worker ∷ []) replay.new) }
     ensures err { OnErr result ((replay.new.pools ≡ replay.old.pools) × (replay.new.hands.items ≡ replay.old.hands.items) × (database replay.new.store ≡ database replay.old.store)) }
 {
-    match apply(log, &mut replay.store, outcome) {
+    match apply(log, &mut replay.store, outcome, &mut replay.scratch) {
         Ok(()) => {}
         Err(_) => return Err(NoMemory),
     }

@@ -99,16 +99,17 @@ fn finish_one(log: &Log, part: &mut Part, hand: usize, task: &mut Task)
     }
 }
 
-/// The hands of a worker finish what they have in flight.
-fn finish_all(log: &Log, part: &mut Part, first: usize, tasks: &mut Vec<Task>)
+/// The first hands of a worker, so many, finish what they have in flight.
+fn finish_all(log: &Log, part: &mut Part, first: usize, tasks: &mut Vec<Task>, busy: usize)
     requires tasks { tasks.old.items ≡ replicate RECORDS log.now }
+    requires busy { busy ≤ RECORDS }
     requires few { first + RECORDS ≤ HANDS }
     requires working { AreWorking log.now part.old.replay }
     ensures working { AreWorking log.now part.new.replay }
     ensures rest { RestStays first RECORDS part.old.replay.hands.items part.new.replay.hands.items }
     ensures tasks { tasks.new.items ≡ tasks.old.items }
 {
-    for i in 0..RECORDS {
+    for i in 0..busy {
         finish_one(log, part, first + i, &mut tasks[i]);
     }
 }
@@ -232,17 +233,19 @@ fn order_of(part: &mut Part, started: usize, seen: u64) -> Order
     rest(&part.replay.pools, &mut part.sleeping, seen)
 }
 
-/// A worker finishes what its hands have in flight, and starts what is ready.
+/// A worker finishes what its first hands have in flight, and starts what is ready.
 fn go_on(
     log: &Log,
     part: &mut Part,
     first: usize,
     tasks: &mut Vec<Task>,
+    busy: usize,
     room: usize,
     call: &mut Call,
     seen: u64,
 ) -> Order
     requires tasks { tasks.old.items ≡ replicate RECORDS log.now }
+    requires busy { busy ≤ RECORDS }
     requires few { first + RECORDS ≤ HANDS }
     requires room { room ≤ RECORDS }
     requires working { AreWorking log.now part.old.replay }
@@ -250,7 +253,7 @@ fn go_on(
     ensures rest { RestStays first RECORDS part.old.replay.hands.items part.new.replay.hands.items }
     ensures tasks { tasks.new.items ≡ tasks.old.items }
 {
-    finish_all(log, part, first, tasks);
+    finish_all(log, part, first, tasks, busy);
     let room = room_now(part, room);
     let started = start_all(log, part, first, tasks, room, call);
     order_of(part, started, seen)
@@ -272,7 +275,7 @@ fn ring(bell: &AtomicU64, order: Order) {
     }
 }
 
-/// A worker takes the lock to finish what its hands have in flight, and for what it does next.
+/// A worker takes the lock to finish what its first hands, so many, have in flight, and for what it does next.
 pub fn step<R: Wait>(
     rt: &R,
     lock: &Lock,
@@ -281,6 +284,7 @@ pub fn step<R: Wait>(
     first: usize,
     many: usize,
     tasks: &mut Vec<Task>,
+    busy: usize,
     room: usize,
     call: &mut Call,
 ) -> Order
@@ -288,6 +292,7 @@ pub fn step<R: Wait>(
     requires of_log { seat.old.me.0.log ≡ log.now }
     requires tasks { tasks.old.items ≡ replicate RECORDS log.now }
     requires few { (RECORDS ≤ many) × (first + many ≤ HANDS) }
+    requires busy { busy ≤ RECORDS }
     requires room { room ≤ RECORDS }
     requires stands { IsFor first many seat.old.me }
     ensures own { seat.new.table_id ≡ seat.old.table_id }
@@ -297,7 +302,7 @@ pub fn step<R: Wait>(
     let _ = many;
     let mut part = lock.take(rt, seat);
     let seen = lock.bell.load(Ordering::SeqCst);
-    let order = go_on(log, &mut part, first, tasks, room, call, seen);
+    let order = go_on(log, &mut part, first, tasks, busy, room, call, seen);
     lock.give(seat, part);
     ring(&lock.bell, order);
     order

@@ -38,7 +38,7 @@ fn redo_one<R: Wait, G: Gate>(
     }
 }
 
-/// The same of all hands of a worker.
+/// The same of the first hands of a worker, so many.
 fn redo_all<R: Wait, G: Gate>(
     rt: &R,
     lock: &Lock,
@@ -46,17 +46,19 @@ fn redo_all<R: Wait, G: Gate>(
     log: &Log,
     worker: u8,
     tasks: &mut Vec<Task>,
+    busy: usize,
     scratch: &mut Scratch,
     gate: &G,
 )
     requires tasks { tasks.old.items ≡ replicate RECORDS log.now }
+    requires busy { busy ≤ RECORDS }
     requires own { seat.old.table_id ≡ lock.now.table.shared.table_id }
     requires idle { IsIdle seat.old.me }
     ensures tasks { tasks.new.items ≡ tasks.old.items }
     ensures own { seat.new.table_id ≡ seat.old.table_id }
     ensures seat { seat.new.me ≡ seat.old.me }
 {
-    for i in 0..RECORDS {
+    for i in 0..busy {
         redo_one(rt, lock, seat, log, worker, &mut tasks[i], scratch, gate);
     }
 }
@@ -132,6 +134,7 @@ pub fn work<R: Wait, G: Gate>(
     };
     let mut scratch = Scratch::new(alloc);
     let mut room = 1usize;
+    let mut busy = 0usize;
     for _ in rt.forever() {
         match step(
             rt,
@@ -141,11 +144,13 @@ pub fn work<R: Wait, G: Gate>(
             first,
             many,
             &mut tasks,
+            busy,
             room,
             &mut scratch.call,
         ) {
             Order::Redo { started, .. } => {
                 room = next_room(room, started);
+                busy = started.min(RECORDS);
                 redo_all(
                     rt,
                     lock,
@@ -153,12 +158,16 @@ pub fn work<R: Wait, G: Gate>(
                     log,
                     worker,
                     &mut tasks,
+                    busy,
                     &mut scratch,
                     gate,
                 );
                 foresee_all(log, &mut tasks, started, room, &mut scratch.call);
             }
-            Order::Sleep { seen } => lock.bell.park(rt, (seen % 4_294_967_296) as u32),
+            Order::Sleep { seen } => {
+                busy = 0;
+                lock.bell.park(rt, (seen % 4_294_967_296) as u32)
+            }
             Order::Stop => return seat,
         }
     }

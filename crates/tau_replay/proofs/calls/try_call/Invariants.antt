@@ -8,7 +8,7 @@ abbrev pub invariant-wants : goal.invariant-wants
 invariant-wants g l = record {
   own : l.seat.table_id ≡ l.initial.seat.table_id;
   same : l.seat.me ≡ l.initial.seat.me;
-  trying : IsTrying l.procs l.call l.scratch.reads.items l.scratch.machine;
+  trying : IsTrying l.procs l.initial.scratch.call l.scratch.reads.items l.scratch.machine;
 }
 
 abbrev pub decreases-wants : goal.decreases-wants

@@ -9,6 +9,7 @@ loop-init g c = record {
   of_log = refl;
   stands = spare_for c.args.first c.args.many c.args.seat.me c.requires.spare;
   tasks = c.in-Ok.ensures;
+  busy = omega arith;
   room = omega arith;
 }
 

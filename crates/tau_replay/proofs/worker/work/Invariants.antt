@@ -10,5 +10,6 @@ invariant-loop g l = record {
   of_log : l.seat.me.0.log ≡ l.fn.seat.me.0.log;
   stands : IsFor l.first l.many l.seat.me;
   tasks : l.tasks.items ≡ replicate RECORDS l.log;
+  busy : l.busy ≤ RECORDS;
   room : l.room ≤ RECORDS;
 }
