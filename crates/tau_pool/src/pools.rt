@@ -38,8 +38,8 @@ pub struct Pools {
     items: Items,
     /// For each stream the place of its first record that is left, or of one after it.
     nexts: Vec<usize>,
-    /// Whether what waits for each stream is listed. It is when a ready record is first asked for: who names the places
-    /// of records needs no lists.
+    /// Whether what waits for each stream is listed. It is when a ready record is first asked for and the next one is not:
+    /// who names the places of records needs no lists.
     listed: bool,
     /// For each stream what waits for it, in the order of what is waited for.
     waits: Vec<Listed<Wait>>,
@@ -47,6 +47,8 @@ pub struct Pools {
     passed: Vec<usize>,
     waiting: usize,
     flying: usize,
+    /// The place after that of the record that was started last, which mostly is ready too.
+    after: usize,
 }
 
 impl Model for Pools {
@@ -83,6 +85,7 @@ impl Pools {
             passed: Vec::new(alloc),
             waiting,
             flying: 0,
+            after: 0,
         })
     }
 
@@ -171,13 +174,16 @@ impl Pools {
         Next::NotYet
     }
 
-    /// The place of a ready record.
+    /// The place of a ready record: of the next one, if it is ready.
     fn next_ready(&mut self) -> Option<usize>
         ensures same { self.new ≡ self.old }
         ensures found { IfSome result (λ i. is_ready self.old.items self.old.rlv i ≡ true) }
         ensures none { IsNone result → NoneReady self.old }
         ensures recovered { IsRecovered self.new.ends self.new.rlv self.new.items }
     {
+        if self.is_ready(self.after) {
+            return Some(self.after);
+        }
         self.list();
         self.next_listed()
     }
@@ -224,6 +230,7 @@ impl Pools {
         self.items.set_stage(place, Stage::Flying);
         self.waiting -= 1;
         self.flying += 1;
+        self.after = place.wrapping_add(1);
         job
     }
 
