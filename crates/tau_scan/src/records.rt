@@ -8,6 +8,7 @@ ghost use Rattle.tau_text.specs.Alone.{declarations_of};
 ghost use Rattle.tau_scan.specs.Reading.{text_of, catalogue_of, declared_by, or_none, names_table, is_of_table, is_declared, first_undeclared, undeclared, records_of, judged, or_no_records, unless, IsReading};
 ghost use Rattle.tau_scan.specs.Found.{Judged, IsShort};
 
+use arrayvec::ArrayVec;
 use std::alloc::Global;
 use tau_base::{Call, KeptCall, Listed, NoMemory, Value};
 use tau_proc::{FIRST_DECLARED, Procs};
@@ -101,22 +102,26 @@ fn is_of_table(declarations: &Declarations, call: &Call) -> bool
     }
 }
 
-/// Whether what a call names is declared. It lays a place for a whole call, which data records do without.
-#[inline(never)]
-fn is_declared_call(declarations: &Declarations, kept: &KeptCall) -> bool
+/// Whether what a call names is declared. The call is put into a place that is kept.
+fn is_declared_call(declarations: &Declarations, kept: &KeptCall, place: &mut Call) -> bool
     ensures { result ≡ (takes declarations.now.procs kept.now && is_of_table declarations.now kept.now) }
 {
-    let call = kept.call();
-    declarations.procs.takes(&call) && is_of_table(declarations, &call)
+    kept.put_into(place);
+    declarations.procs.takes(place) && is_of_table(declarations, place)
 }
 
 /// Whether what the record names is declared.
-fn is_declared(alloc: Global, declarations: &Declarations, entry: &Entry) -> Result<bool, NoMemory>
+fn is_declared(
+    alloc: Global,
+    declarations: &Declarations,
+    entry: &Entry,
+    place: &mut Call,
+) -> Result<bool, NoMemory>
     ensures { IfOk result (λ b. b ≡ is_declared declarations.now entry.now) }
 {
     match entry {
         Entry::Written { writes, .. } => Ok(writes.are_of(declarations.tables.len())),
-        Entry::Command { call, .. } => Ok(is_declared_call(declarations, call)),
+        Entry::Command { call, .. } => Ok(is_declared_call(declarations, call, place)),
         Entry::Anchor { .. } => Ok(true),
         Entry::Catalogue { text } => is_canonical(alloc, text.as_slice()),
     }
@@ -130,8 +135,12 @@ fn first_undeclared(
 ) -> Result<Option<RecordFault>, NoMemory>
     ensures { IfOk result (λ fault. fault ≡ first_undeclared declarations.now records.now) }
 {
+    let mut place = Call {
+        proc: 0,
+        args: ArrayVec::new(),
+    };
     for placed in records {
-        if !is_declared(alloc, declarations, &placed.entry)? {
+        if !is_declared(alloc, declarations, &placed.entry, &mut place)? {
             return Ok(Some(RecordFault {
                 at: placed.start,
                 cause: RecordCause::BadBody,
