@@ -1,7 +1,7 @@
 -- Each want is answered by a value that is noted.
-use Rattle.std.proofs.Common.{◌≡◌, sym, subst, ◌∙◌}
+use Rattle.std.proofs.Common.{sym, subst, ◌∙◌}
 use Rattle.tau_proc.specs.Progress.{Progress, IsRead, buffered}
-use Rattle.tau_replay.specs.Result.{IsTrying, Executes}
+use Rattle.tau_replay.specs.Result.{Executes}
 use Rattle.tau_replay.proofs.Tries.{trying-ends}
 use Rattle.tau_replay.proofs.calls.try_call.Goals as goal
 

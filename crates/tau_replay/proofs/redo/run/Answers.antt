@@ -1,6 +1,5 @@
 -- Each want is answered by the value that the database has.
 use Rattle.std.proofs.Common.{◌++◌, ◌∷◌, [], refl, sym, ap, subst, ◌∙◌}
-use Rattle.tau_base.specs.declared.value.Value.{Value}
 use Rattle.tau_proc.specs.Progress.{Progress, IsRead, ahead, buffered}
 use Rattle.tau_model.specs.Store.{database}
 use Rattle.tau_replay.proofs.Tries.{trying-begins, trying-read, trying-ends, agrees-push}
