@@ -278,7 +278,7 @@ fn seat_of(slot: Option<Part>, work: Work) -> (tau_core::Seat, CommittedList)
     let seat = tau_core::Seat {
         next,
         again,
-        txn,
+        txn: Box::into_inner(txn),
         start,
         left,
         outbox,

@@ -144,6 +144,7 @@ impl Desk {
     }
 
     /// Waits for the turn of a part, and takes it.
+    #[inline(always)]
     pub fn take<R: Wait>(&self, rt: &R, seat: &mut Seat, number: usize) -> Part
         requires own { seat.old.table_id ≡ self.now.table.shared.table_id }
         requires role { (w : ℕ) × (x : RoleOf) × (has w seat.old.me.0 ≡ Some x) }
@@ -156,6 +157,20 @@ impl Desk {
         if self.try_take(seat, number) {
             return self.lift(seat, number);
         }
+        self.take_later(rt, seat, number)
+    }
+
+    // The same, of a part that was out when its turn was first asked for.
+    #[inline(never)]
+    fn take_later<R: Wait>(&self, rt: &R, seat: &mut Seat, number: usize) -> Part
+        requires own { seat.old.table_id ≡ self.now.table.shared.table_id }
+        requires role { (w : ℕ) × (x : RoleOf) × (has w seat.old.me.0 ≡ Some x) }
+        requires opened { seat.old.me.0.opened ≡ Some self.now.table.shared.key.value }
+        requires idle { (seat.old.me.1 ≡ []) × (seat.old.me.0.hand ≡ None) × (number < self.now.parts) }
+        ensures own { (seat.new.table_id ≡ seat.old.table_id) × (seat.new.id ≡ seat.old.id) }
+        ensures held { seat.new.me ≡ (holding number seat.old.me.0 result, (number, None) ∷ []) }
+        ensures agrees { Agrees self.now.table.shared.key.value seat.old.me.0 number result }
+    {
         if self.look_for(seat, number) {
             return self.lift(seat, number);
         }
@@ -164,6 +179,7 @@ impl Desk {
     }
 
     /// The part that the seat has in hand comes home, and who waits for its turn is woken.
+    #[inline(always)]
     pub(crate) fn come_home<N: Told>(&self, seat: &mut Seat, number: usize, part: Part)
         requires own { seat.old.table_id ≡ self.now.table.shared.table_id }
         requires part { number < self.now.parts }

@@ -188,6 +188,7 @@ fn lay_seat(alloc: Global, seat: tau_core::Seat) -> Result<(Part, Work), NoMemor
     } = seat;
     let outbox = Box::new(alloc, outbox)?;
     let pending = Box::new(alloc, pending)?;
+    let txn = Box::new(alloc, txn)?;
     let room = Room {
         records: 0,
         calls: 0,

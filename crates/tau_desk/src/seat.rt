@@ -16,7 +16,8 @@ pub struct Work {
     pub next: usize,
     /// A call left over that comes before.
     pub again: Option<u64>,
-    pub txn: Txn,
+    /// The call in hand, in a box, since it is large and a seat is moved.
+    pub txn: Box<Txn>,
     /// Where the record of the call in hand starts, from its place to its post.
     pub start: u64,
     pub left: LeftOvers,
@@ -32,7 +33,7 @@ impl Model for Work {
 
     ghost Value = { PlainWork };
 
-    ghost view = { λ o. record { next = o.next; again = o.again; txn = o.txn; start = o.start; left = o.left.numbers; left_room = o.left.room; committed = o.committed.items; committed_room = o.committed.room; spare = (o.room.records, o.room.calls); mark = o.mark } };
+    ghost view = { λ o. record { next = o.next; again = o.again; txn = o.txn.value; start = o.start; left = o.left.numbers; left_room = o.left.room; committed = o.committed.items; committed_room = o.committed.room; spare = (o.room.records, o.room.calls); mark = o.mark } };
 }
 
 /// What the manager of a stream has of its own.

@@ -36,6 +36,7 @@ pub enum Acted {
 }
 
 /// Takes a shard.
+#[inline(always)]
 pub fn take_shard<R: Wait>(rt: &R, desk: &Desk, seat: &mut Seat, number: usize) -> Box<Shard>
     requires own { seat.old.table_id ≡ desk.now.table.shared.table_id }
     requires role { (w : ℕ) × (t : PlainTxn) × IsReady desk.now.table.shared.key.value w seat.old.me t }
@@ -150,6 +151,7 @@ pub fn quit<R: Wait>(
 }
 
 /// Takes the worker's outbox.
+#[inline(always)]
 pub fn take_outbox<R: Wait>(
     rt: &R,
     desk: &Desk,

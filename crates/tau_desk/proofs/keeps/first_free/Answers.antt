@@ -1,4 +1,4 @@
-use Rattle.std.proofs.Common.{◌≡◌, ◌≤◌, ◌++◌, ◌∷◌, ℕ, Bool, [], None, Some, List, Option, subst, sym, ap, ◌∙◌, refl}
+use Rattle.std.proofs.Common.{◌≡◌, ◌++◌, ◌∷◌, ℕ, Bool, [], None, Some, List, Option, subst, sym, ap, ◌∙◌, refl}
 use Rattle.std.specs.Option.{IsSome}
 use Rattle.std.specs.Map.{lookup}
 use Rattle.tau_base.specs.Database.{same_key}

@@ -1,4 +1,4 @@
-use Rattle.std.proofs.Common.{rules, ℕ, ◌+◌, ◌-◌, ◌/◌, ◌≤◌, ◌≡◌, List, [], length, length-set, refl, sym, ap, subst, ◌∙◌, Option, arith, vec_len, vec_capacity}
+use Rattle.std.proofs.Common.{rules, ℕ, ◌+◌, ◌/◌, ◌≤◌, ◌≡◌, List, [], length, length-set, refl, sym, ap, subst, ◌∙◌, Option, arith}
 use Rattle.std.specs.Prelude.{Some, None, replicate, slice_get, slice_set}
 use Rattle.std.proofs.lemmas.Option.{slice_get_within}
 use Rattle.tau_model.specs.CommittedList.{PlainCommittedList}

@@ -3,6 +3,3 @@ use Rattle.tau_desk.proofs.desk.Desk.take.Goals as goal
 
 pub lift-requires-clause-has : goal.lift-requires-clause-has
 lift-requires-clause-has g c = took-has c.args.self.now.table.shared.key.value c.args.number c.args.seat.now.me c.try_take.new.seat.me (c.try_take.ensures.took c.if-try_take.true)
-
-pub lift-requires-2-clause-has : goal.lift-requires-2-clause-has
-lift-requires-2-clause-has g c = took-has c.args.self.now.table.shared.key.value c.args.number c.look_for.new.seat.me c.wait_for.new.seat.me c.wait_for.ensures.took

@@ -1,9 +1,9 @@
-use Rattle.std.proofs.Common.{◌-◌, ℕ, ap, subst, sym, ◌∙◌}
-use Rattle.std.specs.Prelude.{vec_capacity, vec_len}
+use Rattle.std.proofs.Common.{ℕ, ap, subst, sym, ◌∙◌}
 use Rattle.tau_core.specs.State.{Plain}
 use Rattle.tau_desk.specs.Seats.{IsWorkerSeat}
 use Rattle.tau_txn.specs.Next.{kind_of, next_action}
-use Rattle.tau_txn.specs.Txn.{has_joined}
+use Rattle.tau_txn.specs.Txn.{PlainTxn, has_joined}
+use Rattle.tau_desk.specs.Acts.{HasEndedReading}
 use Rattle.tau_desk.proofs.GoingOn.{work-at}
 use Rattle.tau_desk.proofs.WorkerReading.{ended-room, seat-read}
 use Rattle.tau_desk.proofs.seat.WorkerSeat.done_reading.Goals as goal
@@ -23,4 +23,5 @@ invariant_of-self g c =
     let s = subst (λ x. IsWorkerSeat x.seat.me x.worker x.work (x.anchor, x.anchor_lv) x.seen) (sym c.self-inside.view_is) c.self.invariant in
     let room : ℕ = c.done_reading.new.committed.room in
     let step = c.done_reading.ensures.step in
-    seat-read origin _ c.done_reading.new.seat.me _ _ c.done_reading.new.txn step.0 c.done_reading.new.committed.items (c.done_reading.new.room.records, c.done_reading.new.room.calls) room _ _ opened s step.1.0 step.2 step.1.1
+    seat-read origin _ c.done_reading.new.seat.me _ _ c.done_reading.new.txn step.0 c.done_reading.new.committed.items (c.done_reading.new.room.records, c.done_reading.new.room.calls) room _ _ opened s step.1.0 step.2
+    (subst (λ (t : PlainTxn). HasEndedReading origin.load.procs t c.done_reading.new.txn step.0) c.deref_mut.ensures.value step.1.1)
