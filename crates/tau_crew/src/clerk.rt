@@ -13,6 +13,23 @@ use tau_base::{Lv, NoMemory};
 use tau_desk::{ClerkSeat, Desk};
 use tau_disk::{Gate, Place, Sink};
 
+/// How often in a row the clerk looks in vain before it passes over the workers all the same: a call may have ended after its
+/// record was persisted.
+const LOOKS: u8 = 16;
+
+/// Whether a pass is due: a stream is persisted further, the managers are through, or so many looks in a row were in vain.
+fn is_due(rose: bool, over: bool, looks: u8) -> bool {
+    rose || over || looks >= LOOKS
+}
+
+/// How many looks in a row were in vain, after one more, where a pass is due or not.
+fn looks_after(due: bool, looks: u8) -> u8 {
+    if due {
+        return 0;
+    }
+    looks.saturating_add(1)
+}
+
 /// Acknowledges the first pending call of a worker that the positions cover which the clerk has seen, and returns whether there was one. The
 /// call is written where the last one was.
 fn ack_one<R: Wait, G: Gate>(
@@ -177,8 +194,32 @@ impl ClerkJob {
         self.seat.look_all(desk)
     }
 
-    /// The clerk's loop: it looks how far the streams are persisted and passes over the workers, and rests if no stream is persisted
-    /// further, until the managers are through and a last pass is made, or it is out of memory.
+    /// One pass, if it is due. Returns whether the clerk goes on.
+    fn pass_if<R: Wait, K: Sink, G: Gate>(
+        &mut self,
+        due: bool,
+        rt: &R,
+        desk: &Desk,
+        sink: &mut K,
+        gate: &G,
+    ) -> bool
+        requires own { self.old.seat.table_id ≡ desk.now.table.shared.table_id }
+        requires opened { self.old.seat.me.0.opened ≡ Some desk.now.table.shared.key.value }
+        requires clerk { IsClerkJob self.old }
+        ensures goes { ClerkGoes desk.now.load self.old self.new }
+        ensures clerk { IsClerkJob self.new }
+        ensures heard { K.tells → (base : List ℕ) → IsToldSoFar base self.old.told (K.held sink.old) → IsToldSoFar base self.new.told (K.held sink.new) }
+        ensures cause { self.new.told.sink_failed ≡ true → (self.old.told.sink_failed ≡ true) ⊎ Rose (K.faults sink.old) (K.faults sink.new) }
+        ensures faults { K.faults sink.old ≤ K.faults sink.new }
+    {
+        if !due {
+            return true;
+        }
+        self.pass(rt, desk, sink, gate)
+    }
+
+    /// The clerk's loop: it looks how far the streams are persisted, passes over the workers if one is further or it has looked in
+    /// vain for a while, and rests if none is, until the managers are through and a last pass is made, or it is out of memory.
     pub fn run<R: Wait, K: Sink, G: Gate>(
         &mut self,
         rt: &R,
@@ -196,11 +237,14 @@ impl ClerkJob {
         ensures cause { self.new.told.sink_failed ≡ true → (self.old.told.sink_failed ≡ true) ⊎ Rose (K.faults sink.old) (K.faults sink.new) }
         ensures faults { K.faults sink.old ≤ K.faults sink.new }
     {
+        let mut looks = 0;
         for _ in rt.forever() {
             // Read before the look, so that a pass after the last manager has left tells all that was persisted.
             let over = crew.are_flushed();
             let rose = self.look(desk);
-            if !self.pass(rt, desk, sink, gate) || over {
+            let due = is_due(rose, over, looks);
+            looks = looks_after(due, looks);
+            if !self.pass_if(due, rt, desk, sink, gate) || over {
                 return;
             }
             if !rose {

@@ -50,7 +50,7 @@ fn gather_workers<R: Wait>(
     Ok(())
 }
 
-/// Moves front records of the manager's own anchors to the body, as far as they continue the stream and fit.
+/// Moves front records of the manager's own anchors, if it has any, to the body, as far as they continue the stream and fit.
 fn gather_anchors<R: Wait>(
     rt: &R,
     desk: &Desk,
@@ -62,6 +62,9 @@ fn gather_anchors<R: Wait>(
     ensures { GathersMore seat.old seat.new body.old.items body.new.items }
 {
     seat.agrees();
+    if !seat.has_own() {
+        return Ok(());
+    }
     seat.gather_own(rt, desk, body)
 }
 

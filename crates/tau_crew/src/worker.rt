@@ -213,7 +213,7 @@ fn act<R: Wait, G: Gate>(
     match seat.next() {
         ActionKind::Lock => lock(rt, desk, seat),
         ActionKind::Quit => Ok(quit(rt, desk, seat)),
-        ActionKind::Commit => commit(rt, desk, seat, worker),
+        ActionKind::Commit => commit(rt, desk, seat, worker, gate),
         ActionKind::Post => Ok(post(rt, desk, seat, worker, gate)),
         ActionKind::Free => Ok(free(rt, desk, seat)),
         ActionKind::Done => Ok(done(rt, desk, seat)),
@@ -277,8 +277,15 @@ fn read_newer<R: Wait>(rt: &R, desk: &Desk, seat: &mut WorkerSeat, stream: u8)
     seat.read_anchor(rt, desk);
 }
 
-/// The record of the call, which has all its keys, is made above the newest published anchor of the stream, and gets its place.
-fn commit<R: Wait>(rt: &R, desk: &Desk, seat: &mut WorkerSeat, worker: u8) -> Result<(), NoMemory>
+/// The record of the call, which has all its keys, is made above the newest published anchor of the stream, gets its place, and is
+/// posted.
+fn commit<R: Wait, G: Gate>(
+    rt: &R,
+    desk: &Desk,
+    seat: &mut WorkerSeat,
+    worker: u8,
+    gate: &G,
+) -> Result<(), NoMemory>
     requires own { seat.old.table_id ≡ desk.now.table.shared.table_id }
     requires opened { seat.old.me.0.opened ≡ Some desk.now.table.shared.key.value }
     requires next { kind_of (next_action seat.old.work.txn) ≡ ActionKind.Commit }
@@ -289,7 +296,7 @@ fn commit<R: Wait>(rt: &R, desk: &Desk, seat: &mut WorkerSeat, worker: u8) -> Re
     read_newer(rt, desk, seat, stream as u8);
     seat.agrees();
     match seat.commit(desk) {
-        Acted::Went => Ok(()),
+        Acted::Went => Ok(post(rt, desk, seat, worker, gate)),
         Acted::Busy => Ok(()),
         Acted::Other => Ok(()),
         Acted::NoMemory => Err(NoMemory),
