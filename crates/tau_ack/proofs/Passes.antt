@@ -3,7 +3,7 @@ use Rattle.std.proofs.Common.{ℕ, ◌+◌, ◌≤◌, ◌<◌, Bool, true, fals
 use Rattle.std.proofs.lemmas.List.{take_more_set}
 use Rattle.std.proofs.lemmas.Grind.{common_steps}
 use Rattle.tau_base.specs.Vectors.{AtMost, covers}
-use Rattle.tau_base.proofs.Vectors.{covers-at_most, at_most-covers, at_most-trans}
+use Rattle.tau_base.proofs.Vectors.{covers_at_most, at_most_covers, at_most_trans}
 use Rattle.tau_ack.specs.declared.Waiting.{Waiting}
 use Rattle.tau_ack.specs.Pending.{NoneCovered, IsPass, in_pass}
 
@@ -17,7 +17,7 @@ none_below v w [] low h = tt
 none_below v w (x ∷ xs) low h = (below (covers v x.lv) refl, none_below v w xs low h.1)
   where
     below : (b : Bool) → covers v x.lv ≡ b → covers v x.lv ≡ false
-    below true e = let up = at_most-covers w x.lv (at_most-trans x.lv v w (covers-at_most v x.lv e) low) in let bad = h.0 in (cc)
+    below true e = let up = at_most_covers w x.lv (at_most_trans x.lv v w (covers_at_most v x.lv e) low) in let bad = h.0 in (cc)
     below false e = e
 
 pub moved_down : (plv : List ℕ) (xs : List Waiting) (p n : ℕ) (w : Waiting) → p ≤ n → n < length xs → NoneCovered plv (take p xs) → covers plv w.lv ≡ false →

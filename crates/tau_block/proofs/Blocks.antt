@@ -12,44 +12,45 @@ use Rattle.tau_base.specs.declared.limits.TheConstants.{MAX_BODY, MAX_STREAMS}
 use Rattle.tau_block.specs.declared.fault.ImageFault.{ImageFault}
 use Rattle.tau_block.specs.declared.fault.ImageFault.TheVariants.{BadMagic, BadCount, BadIndex, OpenGateWithoutBlock}
 use Rattle.tau_block.specs.Image.{Reading, magic, header_of, count_in, index_in, header_fault, extended, bodies, with_count, behind_header, image_of, is_of, bytes_of, content_of, HasContent, block_of, tail_of, IsBody, IsFront, IsLog, IsHeader, IsBlockAt}
+use Rattle.tau_base.proofs.Lists.{split_at}
 
-pub extended-extended : (a b : List ℕ) (o : Option (List ℕ)) → extended a (extended b o) ≡ extended (a ++ b) o
-extended-extended a b None = refl
-extended-extended a b (Some c) = ap Some (sym (append_assoc a b c))
+pub extended_extended : (a b : List ℕ) (o : Option (List ℕ)) → extended a (extended b o) ≡ extended (a ++ b) o
+extended_extended a b None = refl
+extended_extended a b (Some c) = ap Some (sym (append_assoc a b c))
 
-pub extended-nil : (o : Option (List ℕ)) → extended [] o ≡ o
-extended-nil None = refl
-extended-nil (Some c) = refl
+pub extended_nil : (o : Option (List ℕ)) → extended [] o ≡ o
+extended_nil None = refl
+extended_nil (Some c) = refl
 
 -- a body is read
-bodies-append : (body tail : List ℕ) → bodies (length body) (body ++ tail) ≡ extended body (bodies 0 tail)
-bodies-append [] tail = sym (extended-nil (bodies 0 tail))
-bodies-append (x ∷ body) tail = ap (λ (o : Option (List ℕ)). extended (x ∷ []) o) (bodies-append body tail) ∙ extended-extended (x ∷ []) body (bodies 0 tail)
+bodies_append : (body tail : List ℕ) → bodies (length body) (body ++ tail) ≡ extended body (bodies 0 tail)
+bodies_append [] tail = sym (extended_nil (bodies 0 tail))
+bodies_append (x ∷ body) tail = ap (λ (o : Option (List ℕ)). extended (x ∷ []) o) (bodies_append body tail) ∙ extended_extended (x ∷ []) body (bodies 0 tail)
 
 -- where no byte is left for the next gate there is none
-pub bodies-short : (k : ℕ) (xs : List ℕ) → length xs ≤ k → bodies k xs ≡ None
-bodies-short zero [] le = refl
-bodies-short zero (x ∷ xs) le = absurd (omega arith)
-bodies-short (suc k) [] le = refl
-bodies-short (suc k) (x ∷ xs) le = ap (λ (o : Option (List ℕ)). extended (x ∷ []) o) (bodies-short k xs (omega arith))
+pub bodies_short : (k : ℕ) (xs : List ℕ) → length xs ≤ k → bodies k xs ≡ None
+bodies_short zero [] le = refl
+bodies_short zero (x ∷ xs) le = absurd (omega arith)
+bodies_short (suc k) [] le = refl
+bodies_short (suc k) (x ∷ xs) le = ap (λ (o : Option (List ℕ)). extended (x ∷ []) o) (bodies_short k xs (omega arith))
 
 -- four bytes that stand for a number above 0 are followed by a body
-pub bodies-open : (a b c d n : ℕ) (rest : List ℕ) → from_be_bytes w32 (a ∷ b ∷ c ∷ d ∷ []) ≡ n → 1 ≤ n → bodies 0 (1 ∷ a ∷ b ∷ c ∷ d ∷ rest) ≡ bodies n rest
-bodies-open a b c d n rest is some = grind (arith, nat_tests)
+pub bodies_open : (a b c d n : ℕ) (rest : List ℕ) → from_be_bytes w32 (a ∷ b ∷ c ∷ d ∷ []) ≡ n → 1 ≤ n → bodies 0 (1 ∷ a ∷ b ∷ c ∷ d ∷ rest) ≡ bodies n rest
+bodies_open a b c d n rest is some = grind (arith, nat_tests)
 
-bodies-zero : (a b c d : ℕ) (rest : List ℕ) → from_be_bytes w32 (a ∷ b ∷ c ∷ d ∷ []) ≡ 0 → bodies 0 (1 ∷ a ∷ b ∷ c ∷ d ∷ rest) ≡ None
-bodies-zero a b c d rest is = grind (arith, nat_tests)
+bodies_zero : (a b c d : ℕ) (rest : List ℕ) → from_be_bytes w32 (a ∷ b ∷ c ∷ d ∷ []) ≡ 0 → bodies 0 (1 ∷ a ∷ b ∷ c ∷ d ∷ rest) ≡ None
+bodies_zero a b c d rest is = grind (arith, nat_tests)
 
 -- so is a block
-pub bodies-block : (body tail : List ℕ) → 1 ≤ length body → length body < 2 ^ 32 → bodies 0 (block_of body ++ tail) ≡ extended body (bodies 0 tail)
-bodies-block body tail some short = bodies-open _ _ _ _ (length body) (body ++ tail) (from_be_bytes-to_be_bytes_4 (length body) short) some ∙ bodies-append body tail
+pub bodies_block : (body tail : List ℕ) → 1 ≤ length body → length body < 2 ^ 32 → bodies 0 (block_of body ++ tail) ≡ extended body (bodies 0 tail)
+bodies_block body tail some short = bodies_open _ _ _ _ (length body) (body ++ tail) (from_be_bytes-to_be_bytes_4 (length body) short) some ∙ bodies_append body tail
 
-pub bodies-shut : (gate : ℕ) (rest : List ℕ) → gate ≢ 1 → bodies 0 (gate ∷ rest) ≡ Some []
-bodies-shut gate [] shut = grind (arith, nat_tests)
-bodies-shut gate (a ∷ []) shut = grind (arith, nat_tests)
-bodies-shut gate (a ∷ b ∷ []) shut = grind (arith, nat_tests)
-bodies-shut gate (a ∷ b ∷ c ∷ []) shut = grind (arith, nat_tests)
-bodies-shut gate (a ∷ b ∷ c ∷ d ∷ rest) shut = grind (arith, nat_tests)
+pub bodies_shut : (gate : ℕ) (rest : List ℕ) → gate ≢ 1 → bodies 0 (gate ∷ rest) ≡ Some []
+bodies_shut gate [] shut = grind (arith, nat_tests)
+bodies_shut gate (a ∷ []) shut = grind (arith, nat_tests)
+bodies_shut gate (a ∷ b ∷ []) shut = grind (arith, nat_tests)
+bodies_shut gate (a ∷ b ∷ c ∷ []) shut = grind (arith, nat_tests)
+bodies_shut gate (a ∷ b ∷ c ∷ d ∷ rest) shut = grind (arith, nat_tests)
 
 -- an open gate with fewer than four bytes after it
 pub no_length : (xs : List ℕ) → length xs < 4 → bodies 0 (1 ∷ xs) ≡ None
@@ -69,17 +70,17 @@ no_block [] n long is why = absurd (omega arith)
 no_block (a ∷ []) n long is why = absurd (omega arith)
 no_block (a ∷ b ∷ []) n long is why = absurd (omega arith)
 no_block (a ∷ b ∷ c ∷ []) n long is why = absurd (omega arith)
-no_block (a ∷ b ∷ c ∷ d ∷ rest) n long is (inl none) = bodies-zero a b c d rest (sym is ∙ none)
+no_block (a ∷ b ∷ c ∷ d ∷ rest) n long is (inl none) = bodies_zero a b c d rest (sym is ∙ none)
 no_block (a ∷ b ∷ c ∷ d ∷ rest) n long is (inr short) = elim (cases_eq n 0) [
-  | inl none ↦ bodies-zero a b c d rest (sym is ∙ none)
-  | inr some ↦ bodies-open a b c d n rest (sym is) (omega arith) ∙ bodies-short n rest (omega arith)
+  | inl none ↦ bodies_zero a b c d rest (sym is ∙ none)
+  | inr some ↦ bodies_open a b c d n rest (sym is) (omega arith) ∙ bodies_short n rest (omega arith)
 ]
 
 -- a block makes the front longer
 pub front_block : (n j : ℕ) (front content body : List ℕ) → IsFront n j front content → 1 ≤ length body → length body < 2 ^ 32 → IsFront n j (front ++ block_of body) (content ++ body)
 front_block n j front content body is some short = record {
   long = omega (arith, is.long, length-append front (block_of body));
-  closed = λ gate rest shut. reads (gate ∷ rest) ∙ ap (λ (o : Option (List ℕ)). extended (content ++ body) o) (bodies-shut gate rest shut) ∙ ap Some (append-nil (content ++ body));
+  closed = λ gate rest shut. reads (gate ∷ rest) ∙ ap (λ (o : Option (List ℕ)). extended (content ++ body) o) (bodies_shut gate rest shut) ∙ ap Some (append-nil (content ++ body));
   more = λ tail long. reads tail;
 }
   where
@@ -87,8 +88,8 @@ front_block n j front content body is some short = record {
     reads tail =
         ap (content_of n j) (append_assoc front (block_of body) tail)
         ∙ is.more (block_of body ++ tail) (omega arith)
-        ∙ ap (λ (o : Option (List ℕ)). extended content o) (bodies-block body tail some short)
-        ∙ extended-extended content body (bodies 0 tail)
+        ∙ ap (λ (o : Option (List ℕ)). extended content o) (bodies_block body tail some short)
+        ∙ extended_extended content body (bodies 0 tail)
 
 -- of a header alone
 
@@ -116,17 +117,14 @@ module _ (n j : ℕ) (head : List ℕ) (header : IsHeader n j head) where
 
   closed_head : (gate : ℕ) (rest : List ℕ) → gate ≢ 1 → content_of n j (head ++ gate ∷ rest) ≡ Some []
   closed_head gate [] shut = short_content n j (head ++ gate ∷ []) (omega (arith, header.size, length-append head (gate ∷ [])))
-  closed_head gate (x ∷ rest) shut = behind_head (gate ∷ x ∷ rest) (omega arith) ∙ bodies-shut gate (x ∷ rest) shut
+  closed_head gate (x ∷ rest) shut = behind_head (gate ∷ x ∷ rest) (omega arith) ∙ bodies_shut gate (x ∷ rest) shut
 
   pub front_head : IsFront n j head []
   front_head = record {
     long = omega (arith, header.size);
     closed = closed_head;
-    more = λ tail long. behind_head tail long ∙ sym (extended-nil (bodies 0 tail));
+    more = λ tail long. behind_head tail long ∙ sym (extended_nil (bodies 0 tail));
   }
-
-split_at : (xs : List ℕ) (p : ℕ) → p < length xs → xs ≡ take p xs ++ get_or xs p 0 ∷ drop (p + 1) xs
-split_at xs p lt = sym (take-append-drop p xs) ∙ ap (λ (l : List ℕ). take p xs ++ l) (drop_more xs p 0 lt)
 
 zero_one : (n : ℕ) → n ≡ 0 → n ≡ 1 → ⊥
 zero_one n is_zero is_one = omega arith
@@ -160,9 +158,9 @@ module _ (j : ℕ) (head : List ℕ) where
     no_fault own below = grind (arith, nat_tests)
 
 -- the header that is written is one
-pub header_of-is : (n j : ℕ) → 1 ≤ n → n ≤ MAX_STREAMS → j < n → IsHeader n j (header_of n j)
+pub header_of_is : (n j : ℕ) → 1 ≤ n → n ≤ MAX_STREAMS → j < n → IsHeader n j (header_of n j)
 unfolding count_in index_in
-header_of-is n j some most below =
+header_of_is n j some most below =
     let counts : count_in (header_of n j) ≡ n = from_be_bytes-to_be_bytes_2 n (omega arith) in
     let indexes : index_in (header_of n j) ≡ j = from_be_bytes-to_be_bytes_2 j (omega arith) in
     record {
@@ -172,7 +170,7 @@ header_of-is n j some most below =
     }
 
 pub log_of_header : (n j : ℕ) → 1 ≤ n → n ≤ MAX_STREAMS → j < n → IsLog n j (header_of n j ++ 0 ∷ []) 16 []
-log_of_header n j some most below = log_of_front n j (header_of n j) [] [] (front_head n j (header_of n j) (header_of-is n j some most below))
+log_of_header n j some most below = log_of_front n j (header_of n j) [] [] (front_head n j (header_of n j) (header_of_is n j some most below))
 
 -- an image that ends with its closed gate
 

@@ -3,13 +3,13 @@ use Rattle.std.proofs.Common.{◌≡◌, ◌≢◌, ℕ, ◌+◌, ◌-◌, ◌<�
 use Rattle.std.specs.Int.{w32, to_be_bytes}
 use Rattle.std.proofs.lemmas.List.{take_at, drop_more, drop-drop, length-take-le, append-nil}
 use Rattle.tau_block.specs.Image.{extended, bodies, block_of, IsFront, IsLog, IsHeader, IsBlockAt, IsWalked, header_fault, count_in, image_of, with_count}
-use Rattle.tau_block.proofs.Blocks.{extended-extended, extended-nil, bodies-block, bodies-shut, front_block, front_head, headed}
+use Rattle.tau_block.proofs.Blocks.{extended_extended, extended_nil, bodies_block, bodies_shut, front_block, front_head, headed}
 
 -- at the first gate
 pub walked_none : (image : List ℕ) → 16 < length image → IsWalked image 16 []
 walked_none image long = record {
   within = long;
-  reads = sym (extended-nil (bodies 0 (drop 16 image)));
+  reads = sym (extended_nil (bodies 0 (drop 16 image)));
   front = λ n j header. front_head n j (take 16 image) header;
 }
 
@@ -21,7 +21,7 @@ module _ (image : List ℕ) (gate_at : ℕ) (content : List ℕ) (is : IsWalked 
   pub walked_shut : get_or image gate_at 0 ≢ 1 → bodies 0 (drop 16 image) ≡ Some content
   walked_shut shut =
       is.reads
-      ∙ ap (λ (o : Option (List ℕ)). extended content o) (ap (λ (l : List ℕ). bodies 0 l) (gate (get_or image gate_at 0) refl) ∙ bodies-shut (get_or image gate_at 0) (drop (gate_at + 1) image) shut)
+      ∙ ap (λ (o : Option (List ℕ)). extended content o) (ap (λ (l : List ℕ). bodies 0 l) (gate (get_or image gate_at 0) refl) ∙ bodies_shut (get_or image gate_at 0) (drop (gate_at + 1) image) shut)
       ∙ ap Some (append-nil content)
 
   pub walked_log : (n j : ℕ) → IsHeader n j (take 16 image) → get_or image gate_at 0 ≢ 1 → IsLog n j image gate_at content
@@ -32,7 +32,7 @@ module _ (image : List ℕ) (gate_at : ℕ) (content : List ℕ) (is : IsWalked 
     pub walked_bad : bodies 0 (1 ∷ drop (gate_at + 1) image) ≡ None → bodies 0 (drop 16 image) ≡ None
     walked_bad none = is.reads ∙ ap (λ (o : Option (List ℕ)). extended content o) (ap (λ (l : List ℕ). bodies 0 l) (gate 1 opens) ∙ none)
 
-    module _ (body : List ℕ) (at : ℕ) (at-is : at ≡ gate_at + 1) (block : IsBlockAt image at body) (next : ℕ) (next-is : next ≡ gate_at + (5 + length body)) where
+    module _ (body : List ℕ) (at : ℕ) (at-is : at ≡ gate_at + 1) (block : IsBlockAt image at body) (next : ℕ) (next_is_that : next ≡ gate_at + (5 + length body)) where
       behind : drop gate_at image ≡ block_of body ++ drop next image
       behind =
           let four : ℕ = 4 + length body in
@@ -47,19 +47,19 @@ module _ (image : List ℕ) (gate_at : ℕ) (content : List ℕ) (is : IsWalked 
 
       front : take next image ≡ take gate_at image ++ block_of body
       front = ap (λ (l : List ℕ). take next l) whole ∙ take_at (take gate_at image ++ block_of body) (drop next image) next
-          (omega (arith, next-is, length-take-le gate_at image (omega (arith, is.within)), length-append (take gate_at image) (block_of body)))
+          (omega (arith, next_is_that, length-take-le gate_at image (omega (arith, is.within)), length-append (take gate_at image) (block_of body)))
 
       -- over a block
       pub walked_on : IsWalked image next (content ++ body)
       walked_on = record {
-        within = omega (arith, next-is, at-is, block.within);
+        within = omega (arith, next_is_that, at-is, block.within);
         reads = is.reads
-            ∙ ap (λ (o : Option (List ℕ)). extended content o) (ap (λ (l : List ℕ). bodies 0 l) behind ∙ bodies-block body (drop next image) block.some block.short)
-            ∙ extended-extended content body (bodies 0 (drop next image));
+            ∙ ap (λ (o : Option (List ℕ)). extended content o) (ap (λ (l : List ℕ). bodies 0 l) behind ∙ bodies_block body (drop next image) block.some block.short)
+            ∙ extended_extended content body (bodies 0 (drop next image));
         front = λ n j header. subst (λ (l : List ℕ). IsFront n j l (content ++ body)) (sym front) (front_block n j (take gate_at image) content body (is.front n j header) block.some block.short);
       }
 
-module _ (j count : ℕ) (image head content : List ℕ) (gate_at : ℕ) (head-is : head ≡ take 16 image) (sound : header_fault j head ≡ None) (counts : count ≡ count_in head) (is : IsWalked image gate_at content) (shut : get_or image gate_at 0 ≢ 1) where
+module _ (j count : ℕ) (image head content : List ℕ) (gate_at : ℕ) (head_is : head ≡ take 16 image) (sound : header_fault j head ≡ None) (counts : count ≡ count_in head) (is : IsWalked image gate_at content) (shut : get_or image gate_at 0 ≢ 1) where
   -- all of an image is read
   pub opened_log : 17 < length image → IsLog count j image gate_at content
   opened_log long = walked_log image gate_at content is count j header shut
@@ -67,12 +67,12 @@ module _ (j count : ℕ) (image head content : List ℕ) (gate_at : ℕ) (head-i
       header : IsHeader count j (take 16 image)
       header = record {
         size = length-take-le 16 image (omega arith);
-        sound = subst (λ (l : List ℕ). header_fault j l ≡ None) head-is sound;
-        counts = sym (counts ∙ ap count_in head-is);
+        sound = subst (λ (l : List ℕ). header_fault j l ≡ None) head_is sound;
+        counts = sym (counts ∙ ap count_in head_is);
       }
 
   pub opened_image : 17 < length image → image_of j image ≡ Ok (record { count = Some count; bytes = content })
   opened_image long =
-      headed j image long (subst (λ (l : List ℕ). header_fault j l ≡ None) head-is sound)
-      ∙ ap (λ (n : ℕ). with_count n (bodies 0 (drop 16 image))) (sym (counts ∙ ap count_in head-is))
+      headed j image long (subst (λ (l : List ℕ). header_fault j l ≡ None) head_is sound)
+      ∙ ap (λ (n : ℕ). with_count n (bodies 0 (drop 16 image))) (sym (counts ∙ ap count_in head_is))
       ∙ ap (λ (o : Option (List ℕ)). with_count count o) (walked_shut image gate_at content is shut)

@@ -11,84 +11,84 @@ use Rattle.tau_txn.specs.Next.{kind_of}
 use Rattle.tau_core.specs.declared.event.Phase.TheVariants.{Ready, Placed, Ended}
 use Rattle.tau_core.specs.Phases.{phase_of, phase_of_kind}
 
-pub phase-kind : (a : Action) → phase_of a ≡ phase_of_kind (kind_of a)
-phase-kind (action.Lock x m) = refl
-phase-kind (action.Quit x) = refl
-phase-kind (action.Commit size) = refl
-phase-kind action.Post = refl
-phase-kind (action.Free x write) = refl
-phase-kind (action.Done reply lv) = refl
-phase-kind action.LeftOver = refl
-phase-kind action.Nothing = refl
+pub phase_kind : (a : Action) → phase_of a ≡ phase_of_kind (kind_of a)
+phase_kind (action.Lock x m) = refl
+phase_kind (action.Quit x) = refl
+phase_kind (action.Commit size) = refl
+phase_kind action.Post = refl
+phase_kind (action.Free x write) = refl
+phase_kind (action.Done reply lv) = refl
+phase_kind action.LeftOver = refl
+phase_kind action.Nothing = refl
 
-pub lock-kind : (a : Action) → kind_of a ≡ kind.Lock → (x : Key) × (m : Mode) × (a ≡ action.Lock x m)
-lock-kind (action.Lock x m) e = (x, m, refl)
-lock-kind (action.Quit x) e = cc
-lock-kind (action.Commit size) e = cc
-lock-kind action.Post e = cc
-lock-kind (action.Free x write) e = cc
-lock-kind (action.Done reply lv) e = cc
-lock-kind action.LeftOver e = cc
-lock-kind action.Nothing e = cc
+pub lock_kind : (a : Action) → kind_of a ≡ kind.Lock → (x : Key) × (m : Mode) × (a ≡ action.Lock x m)
+lock_kind (action.Lock x m) e = (x, m, refl)
+lock_kind (action.Quit x) e = cc
+lock_kind (action.Commit size) e = cc
+lock_kind action.Post e = cc
+lock_kind (action.Free x write) e = cc
+lock_kind (action.Done reply lv) e = cc
+lock_kind action.LeftOver e = cc
+lock_kind action.Nothing e = cc
 
-pub commit-kind : (a : Action) → kind_of a ≡ kind.Commit → (size : ℕ) × (a ≡ action.Commit size)
-commit-kind (action.Lock x m) e = cc
-commit-kind (action.Quit x) e = cc
-commit-kind (action.Commit size) e = (size, refl)
-commit-kind action.Post e = cc
-commit-kind (action.Free x write) e = cc
-commit-kind (action.Done reply lv) e = cc
-commit-kind action.LeftOver e = cc
-commit-kind action.Nothing e = cc
+pub commit_kind : (a : Action) → kind_of a ≡ kind.Commit → (size : ℕ) × (a ≡ action.Commit size)
+commit_kind (action.Lock x m) e = cc
+commit_kind (action.Quit x) e = cc
+commit_kind (action.Commit size) e = (size, refl)
+commit_kind action.Post e = cc
+commit_kind (action.Free x write) e = cc
+commit_kind (action.Done reply lv) e = cc
+commit_kind action.LeftOver e = cc
+commit_kind action.Nothing e = cc
 
-pub post-kind : (a : Action) → kind_of a ≡ kind.Post → a ≡ action.Post
-post-kind (action.Lock x m) e = cc
-post-kind (action.Quit x) e = cc
-post-kind (action.Commit size) e = cc
-post-kind action.Post e = refl
-post-kind (action.Free x write) e = cc
-post-kind (action.Done reply lv) e = cc
-post-kind action.LeftOver e = cc
-post-kind action.Nothing e = cc
+pub post_kind : (a : Action) → kind_of a ≡ kind.Post → a ≡ action.Post
+post_kind (action.Lock x m) e = cc
+post_kind (action.Quit x) e = cc
+post_kind (action.Commit size) e = cc
+post_kind action.Post e = refl
+post_kind (action.Free x write) e = cc
+post_kind (action.Done reply lv) e = cc
+post_kind action.LeftOver e = cc
+post_kind action.Nothing e = cc
 
-pub done-kind : (a : Action) → kind_of a ≡ kind.Done → (reply : Reply) × (lv : List ℕ) × (a ≡ action.Done reply lv)
-done-kind (action.Lock x m) e = cc
-done-kind (action.Quit x) e = cc
-done-kind (action.Commit size) e = cc
-done-kind action.Post e = cc
-done-kind (action.Free x write) e = cc
-done-kind (action.Done reply lv) e = (reply, lv, refl)
-done-kind action.LeftOver e = cc
-done-kind action.Nothing e = cc
+pub done_kind : (a : Action) → kind_of a ≡ kind.Done → (reply : Reply) × (lv : List ℕ) × (a ≡ action.Done reply lv)
+done_kind (action.Lock x m) e = cc
+done_kind (action.Quit x) e = cc
+done_kind (action.Commit size) e = cc
+done_kind action.Post e = cc
+done_kind (action.Free x write) e = cc
+done_kind (action.Done reply lv) e = (reply, lv, refl)
+done_kind action.LeftOver e = cc
+done_kind action.Nothing e = cc
 
 -- a kind that is another one comes in another phase
 
-pub elsewhere-commit : (k : ActionKind) → (k ≡ kind.Commit → ⊥) → phase_of_kind k ≡ Ready → ⊥
-elsewhere-commit kind.Lock n e = cc
-elsewhere-commit kind.Quit n e = cc
-elsewhere-commit kind.Commit n e = n refl
-elsewhere-commit kind.Post n e = cc
-elsewhere-commit kind.Free n e = cc
-elsewhere-commit kind.Done n e = cc
-elsewhere-commit kind.LeftOver n e = cc
-elsewhere-commit kind.Nothing n e = cc
+pub elsewhere_commit : (k : ActionKind) → (k ≡ kind.Commit → ⊥) → phase_of_kind k ≡ Ready → ⊥
+elsewhere_commit kind.Lock n e = cc
+elsewhere_commit kind.Quit n e = cc
+elsewhere_commit kind.Commit n e = n refl
+elsewhere_commit kind.Post n e = cc
+elsewhere_commit kind.Free n e = cc
+elsewhere_commit kind.Done n e = cc
+elsewhere_commit kind.LeftOver n e = cc
+elsewhere_commit kind.Nothing n e = cc
 
-pub elsewhere-post : (k : ActionKind) → (k ≡ kind.Post → ⊥) → phase_of_kind k ≡ Placed → ⊥
-elsewhere-post kind.Lock n e = cc
-elsewhere-post kind.Quit n e = cc
-elsewhere-post kind.Commit n e = cc
-elsewhere-post kind.Post n e = n refl
-elsewhere-post kind.Free n e = cc
-elsewhere-post kind.Done n e = cc
-elsewhere-post kind.LeftOver n e = cc
-elsewhere-post kind.Nothing n e = cc
+pub elsewhere_post : (k : ActionKind) → (k ≡ kind.Post → ⊥) → phase_of_kind k ≡ Placed → ⊥
+elsewhere_post kind.Lock n e = cc
+elsewhere_post kind.Quit n e = cc
+elsewhere_post kind.Commit n e = cc
+elsewhere_post kind.Post n e = n refl
+elsewhere_post kind.Free n e = cc
+elsewhere_post kind.Done n e = cc
+elsewhere_post kind.LeftOver n e = cc
+elsewhere_post kind.Nothing n e = cc
 
-pub elsewhere-done : (k : ActionKind) → (k ≡ kind.Done → ⊥) → phase_of_kind k ≡ Ended → ⊥
-elsewhere-done kind.Lock n e = cc
-elsewhere-done kind.Quit n e = cc
-elsewhere-done kind.Commit n e = cc
-elsewhere-done kind.Post n e = cc
-elsewhere-done kind.Free n e = cc
-elsewhere-done kind.Done n e = n refl
-elsewhere-done kind.LeftOver n e = cc
-elsewhere-done kind.Nothing n e = cc
+pub elsewhere_done : (k : ActionKind) → (k ≡ kind.Done → ⊥) → phase_of_kind k ≡ Ended → ⊥
+elsewhere_done kind.Lock n e = cc
+elsewhere_done kind.Quit n e = cc
+elsewhere_done kind.Commit n e = cc
+elsewhere_done kind.Post n e = cc
+elsewhere_done kind.Free n e = cc
+elsewhere_done kind.Done n e = n refl
+elsewhere_done kind.LeftOver n e = cc
+elsewhere_done kind.Nothing n e = cc

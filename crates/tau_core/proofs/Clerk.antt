@@ -9,8 +9,7 @@ use Rattle.tau_machine.specs.State.{Ticket, Core, Outbox, Record}
 use Rattle.tau_machine.specs.Shapes.{ShardShape}
 use Rattle.tau_machine.specs.Worker.{Worker}
 use Rattle.tau_machine.specs.Events.{with_shard, with_outbox, Leads, Drop, Ack}
-use Rattle.tau_machine.proofs.Accounts.{map-append}
-use Rattle.tau_base.proofs.Vectors.{at_most-itself}
+use Rattle.tau_base.proofs.Vectors.{at_most_itself}
 use Rattle.tau_ack.specs.Pending.{TakesFirst}
 use Rattle.tau_ack.specs.declared.Waiting.{Waiting}
 use Rattle.tau_shard.specs.Plain.{PlainShard}
@@ -23,9 +22,10 @@ use Rattle.tau_core.specs.Pieces.{IsPieceOf, Paired}
 use Rattle.tau_machine.specs.Pieces.{placed_in}
 use Rattle.tau_txn.specs.Txn.{hand_in, bytes_in}
 use Rattle.tau_core.specs.Clerk.{Pends}
-use Rattle.tau_core.proofs.Lists.{reads-got, each-got}
-use Rattle.tau_core.proofs.Seats.{seat-core, seat-outbox, same-worker, seat-sound, seat-inside}
+use Rattle.tau_core.proofs.Lists.{reads_got, each_got}
+use Rattle.tau_core.proofs.Seats.{seat_core, outbox_of_seat, same_worker, seat_sound, seat_inside}
 use Rattle.tau_core.proofs.PersistLeads.{kept}
+use Rattle.tau_base.proofs.Lists.{map_append}
 
 module _ (p : Plain) (K : List (Act Txn)) (h : Hidden) (g : Stands p K h) where
   -- a shard drops free entries
@@ -33,26 +33,26 @@ module _ (p : Plain) (K : List (Act Txn)) (h : Hidden) (g : Stands p K h) where
     abbrev pub swept : Plain
     swept = record p { shards = slice_set p.shards i left }
 
-    swept-inside : i < length p.shards
-    swept-inside = slice_get_within p.shards i shard is
+    swept_inside : i < length p.shards
+    swept_inside = slice_get_within p.shards i shard is
 
-    swept-core : core_of swept h ≡ with_shard (core_of p h) i (shard_of left)
-    swept-core = ap (λ (l : ℕ → Shard). record (core_of p h) { shards = l }) (reads-got (λ k (o : Option PlainShard). shard_in o) p.shards i left swept-inside)
+    swept_core : core_of swept h ≡ with_shard (core_of p h) i (shard_of left)
+    swept_core = ap (λ (l : ℕ → Shard). record (core_of p h) { shards = l }) (reads_got (λ k (o : Option PlainShard). shard_in o) p.shards i left swept_inside)
 
-    pub sweep-leads : Leads (setting_of p.load) (Drop i p.plv) (core_of p h) (core_of swept h) []
-    sweep-leads = (
+    pub sweep_leads : Leads (setting_of p.load) (Drop i p.plv) (core_of p h) (core_of swept h) []
+    sweep_leads = (
       record {
-        covered = at_most-itself p.plv;
+        covered = at_most_itself p.plv;
         shard = shard_of left;
         dropped = subst (λ (x : Shard). Dropped p.plv x (shard_of left)) (sym (ap shard_in is)) dropped;
-        after = swept-core;
+        after = swept_core;
       },
       refl,
     )
 
-    pub sweep-stands : Stands swept K h
-    sweep-stands =
-        let inv = kept (setting_of p.load) K (Drop i p.plv) (core_of p h) (core_of swept h) g.inv sweep-leads in
+    pub sweep_stands : Stands swept K h
+    sweep_stands =
+        let inv = kept (setting_of p.load) K (Drop i p.plv) (core_of p h) (core_of swept h) g.inv sweep_leads in
         let o = g.sound in
         record {
           sound = record {
@@ -97,37 +97,37 @@ module _ (p : Plain) (K : List (Act Txn)) (h : Hidden) (g : Stands p K h) where
     acked = record h { acked = at w (h.acked w ++ acked_ticket ∷ []) h.acked }
 
     before : ((core_of p h).outboxes w).pending ≡ tickets t.front ++ acked_ticket ∷ tickets t.back
-    before = ap (λ (o : Outbox). o.pending) (seat-outbox p h w q.seat waits q.is) ∙ ap tickets t.is
-        ∙ map-append (λ (c : Waiting). record { number = c.number; lv = c.lv }) t.front (taken ∷ t.back)
+    before = ap (λ (o : Outbox). o.pending) (outbox_of_seat p h w q.seat waits q.is) ∙ ap tickets t.is
+        ∙ map_append (λ (c : Waiting). record { number = c.number; lv = c.lv }) t.front (taken ∷ t.back)
 
     behind : tickets q.pending.calls ≡ tickets t.front ++ tickets t.back
-    behind = ap tickets t.left ∙ map-append (λ (c : Waiting). record { number = c.number; lv = c.lv }) t.front t.back
+    behind = ap tickets t.left ∙ map_append (λ (c : Waiting). record { number = c.number; lv = c.lv }) t.front t.back
 
-    ack-core : core_of less acked ≡ record (with_outbox (core_of p h) w (record ((core_of p h).outboxes w) { pending = tickets t.front ++ tickets t.back })) { acked = at w (h.acked w ++ acked_ticket ∷ []) h.acked }
-    ack-core =
-        ap (λ (c : Core). record c { acked = at w (h.acked w ++ acked_ticket ∷ []) h.acked }) (seat-core p h w q.seat waits q.is)
+    ack_core : core_of less acked ≡ record (with_outbox (core_of p h) w (record ((core_of p h).outboxes w) { pending = tickets t.front ++ tickets t.back })) { acked = at w (h.acked w ++ acked_ticket ∷ []) h.acked }
+    ack_core =
+        ap (λ (c : Core). record c { acked = at w (h.acked w ++ acked_ticket ∷ []) h.acked }) (seat_core p h w q.seat waits q.is)
         ∙ ap (λ (x : (ℕ → Worker) × List Ticket). record (core_of p h) { workers = x.0; outboxes = at w (record { posted = h.posted w; pending = x.1 }) (core_of p h).outboxes; acked = at w (h.acked w ++ acked_ticket ∷ []) h.acked })
-        (λ i. (same-worker p h w q.seat waits q.is refl i, behind i))
+        (λ i. (same_worker p h w q.seat waits q.is refl i, behind i))
 
-    pub ack-leads : Leads (setting_of p.load) (Ack w p.plv) (core_of p h) (core_of less acked) []
-    ack-leads = (
+    pub ack_leads : Leads (setting_of p.load) (Ack w p.plv) (core_of p h) (core_of less acked) []
+    ack_leads = (
       record {
-        licensed = at_most-itself p.plv;
+        licensed = at_most_itself p.plv;
         front = tickets t.front;
         ticket = acked_ticket;
         back = tickets t.back;
         is = before;
         covered = t.covered;
-        after = ack-core;
+        after = ack_core;
       },
       refl,
     )
 
-    pub ack-stands : Stands less K acked
-    ack-stands =
+    pub ack_stands : Stands less K acked
+    ack_stands =
         let o : SoundSeat p.load w q.seat = g.sound.seat w q.seat q.is in
         record {
-          sound = seat-sound p h w q.seat waits q.is g.sound (record {
+          sound = seat_sound p h w q.seat waits q.is g.sound (record {
             worker = o.worker;
             width = o.width;
             mode = o.mode;
@@ -144,11 +144,11 @@ module _ (p : Plain) (K : List (Act Txn)) (h : Hidden) (g : Stands p K h) where
             again = o.again;
             left = o.left;
           }) (omega arith);
-          inv = kept (setting_of p.load) K (Ack w p.plv) (core_of p h) (core_of less acked) g.inv ack-leads;
+          inv = kept (setting_of p.load) K (Ack w p.plv) (core_of p h) (core_of less acked) g.inv ack_leads;
           order = g.order;
-          posted = each-got (λ k (x : PlainSeat). Paired (IsPieceOf p.load (anchors_at p)) x.outbox.pieces (h.posted k)) p.seats w waits (seat-inside p h w q.seat waits q.is) (g.posted w q.seat q.is) g.posted;
+          posted = each_got (λ k (x : PlainSeat). Paired (IsPieceOf p.load (anchors_at p)) x.outbox.pieces (h.posted k)) p.seats w waits (seat_inside p h w q.seat waits q.is) (g.posted w q.seat q.is) g.posted;
           own = g.own;
-          placed = λ k x a e f. (each-got (λ l (y : PlainSeat). (b : Act Txn) → placed_in (hand_in p.load.procs y.txn) ≡ Some b → IsPieceOf p.load (anchors_at p) (record { start = y.start; bytes = bytes_in y.txn }) (Record b))
-              p.seats w waits (seat-inside p h w q.seat waits q.is) (λ b d. g.placed w q.seat b q.is d) (λ l y d b c. g.placed l y b d c)) k x e a f;
+          placed = λ k x a e f. (each_got (λ l (y : PlainSeat). (b : Act Txn) → placed_in (hand_in p.load.procs y.txn) ≡ Some b → IsPieceOf p.load (anchors_at p) (record { start = y.start; bytes = bytes_in y.txn }) (Record b))
+              p.seats w waits (seat_inside p h w q.seat waits q.is) (λ b d. g.placed w q.seat b q.is d) (λ l y d b c. g.placed l y b d c)) k x e a f;
           gathered = g.gathered;
         }

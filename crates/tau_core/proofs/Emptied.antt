@@ -9,22 +9,22 @@ emptied zero xs = xs
 emptied (suc n) [] = []
 emptied (suc n) (x ∷ xs) = without_hand x ∷ emptied n xs
 
-pub emptied-at : (n : ℕ) (xs : List PlainSeat) → slice_get (emptied n xs) n ≡ slice_get xs n
-emptied-at zero xs = refl
-emptied-at (suc n) [] = refl
-emptied-at (suc n) (x ∷ xs) = emptied-at n xs
+pub emptied_at : (n : ℕ) (xs : List PlainSeat) → slice_get (emptied n xs) n ≡ slice_get xs n
+emptied_at zero xs = refl
+emptied_at (suc n) [] = refl
+emptied_at (suc n) (x ∷ xs) = emptied_at n xs
 
-pub emptied-next : (n : ℕ) (xs : List PlainSeat) (x : PlainSeat) → slice_get (emptied n xs) n ≡ Some x → slice_set (emptied n xs) n (without_hand x) ≡ emptied (suc n) xs
-emptied-next zero [] x e = absurd (let bad : None ≡ Some x = e in cc)
-emptied-next zero (y ∷ xs) x e = (let same : x ≡ y = cc in ap (λ (z : PlainSeat). without_hand z ∷ xs) same)
-emptied-next (suc n) [] x e = absurd (let bad : None ≡ Some x = e in cc)
-emptied-next (suc n) (y ∷ xs) x e = ap (λ (l : List PlainSeat). without_hand y ∷ l) (emptied-next n xs x e)
+pub emptied_next : (n : ℕ) (xs : List PlainSeat) (x : PlainSeat) → slice_get (emptied n xs) n ≡ Some x → slice_set (emptied n xs) n (without_hand x) ≡ emptied (suc n) xs
+emptied_next zero [] x e = absurd (let bad : None ≡ Some x = e in cc)
+emptied_next zero (y ∷ xs) x e = (let same : x ≡ y = cc in ap (λ (z : PlainSeat). without_hand z ∷ xs) same)
+emptied_next (suc n) [] x e = absurd (let bad : None ≡ Some x = e in cc)
+emptied_next (suc n) (y ∷ xs) x e = ap (λ (l : List PlainSeat). without_hand y ∷ l) (emptied_next n xs x e)
 
-pub emptied-all : (xs : List PlainSeat) → emptied (length xs) xs ≡ map without_hand xs
-emptied-all [] = refl
-emptied-all (x ∷ xs) = ap (λ (l : List PlainSeat). without_hand x ∷ l) (emptied-all xs)
+pub emptied_all : (xs : List PlainSeat) → emptied (length xs) xs ≡ map without_hand xs
+emptied_all [] = refl
+emptied_all (x ∷ xs) = ap (λ (l : List PlainSeat). without_hand x ∷ l) (emptied_all xs)
 
-pub emptied-count : (n : ℕ) (xs : List PlainSeat) → length (emptied n xs) ≡ length xs
-emptied-count zero xs = refl
-emptied-count (suc n) [] = refl
-emptied-count (suc n) (x ∷ xs) = ap (λ (k : ℕ). suc k) (emptied-count n xs)
+pub emptied_count : (n : ℕ) (xs : List PlainSeat) → length (emptied n xs) ≡ length xs
+emptied_count zero xs = refl
+emptied_count (suc n) [] = refl
+emptied_count (suc n) (x ∷ xs) = ap (λ (k : ℕ). suc k) (emptied_count n xs)

@@ -18,19 +18,19 @@ use Rattle.tau_core.specs.Begins.{next_number, HasNext, RoomMade, IsRoomy, Begin
 use Rattle.tau_core.specs.Firsts.{BegunUndone, Rests}
 use Rattle.tau_core.specs.declared.begin.Mark.{Mark}
 use Rattle.tau_core.specs.declared.event.Outcome.{Outcome}
-use Rattle.tau_core.proofs.Lists.{got-same}
-use Rattle.tau_core.proofs.Begins.{carried, begins-carried}
-use Rattle.tau_core.proofs.Starts.{begins-of, room-stands}
+use Rattle.tau_core.proofs.Lists.{got_same}
+use Rattle.tau_core.proofs.Begins.{carried, begins_carried}
+use Rattle.tau_core.proofs.Starts.{begins_of, room_stands}
 
-apart-placed : (a : Act Txn) → Placed a ≡ Running → ⊥
-apart-placed a e = cc
+apart_placed : (a : Act Txn) → Placed a ≡ Running → ⊥
+apart_placed a e = cc
 
-apart-freeing : (a : Act Txn) → Freeing a ≡ Running → ⊥
-apart-freeing a e = cc
+apart_freeing : (a : Act Txn) → Freeing a ≡ Running → ⊥
+apart_freeing a e = cc
 
 -- a call that has just begun has not joined, and holds no key
-pub fresh-at : (procs : List Proc) (t : PlainTxn) (h : Hand) → hand_in procs t ≡ Some h → h.phase ≡ Running → h.held ≡ [] → (has_joined t ≡ false) × (held_in t ≡ [])
-fresh-at procs t h e phase held = by_case t.hand e
+pub fresh_at : (procs : List Proc) (t : PlainTxn) (h : Hand) → hand_in procs t ≡ Some h → h.phase ≡ Running → h.held ≡ [] → (has_joined t ≡ false) × (held_in t ≡ [])
+fresh_at procs t h e phase held = by_case t.hand e
   where
     at : (st : Standing) (x : PlainHand) → x.standing ≡ st → shown procs t.worker st x ≡ Some h → (joined_by st ≡ false) × (x.held ≡ [])
     at standing.Running x s f = (let g : hand_of procs t.worker x ≡ h = cc in (refl, ap (λ (y : Hand). y.held) g ∙ held))
@@ -38,11 +38,11 @@ fresh-at procs t h e phase held = by_case t.hand e
     at standing.Placed x s f =
         (let g : hand_of procs t.worker x ≡ h = cc in
         let bad : phase_in procs t.worker standing.Placed x ≡ Running = ap (λ (st : Standing). phase_in procs t.worker st x) (sym s) ∙ ap (λ (y : Hand). y.phase) g ∙ phase in
-        absurd (apart-placed (act_in procs t.worker x) bad))
+        absurd (apart_placed (act_in procs t.worker x) bad))
     at standing.Freeing x s f =
         (let g : hand_of procs t.worker x ≡ h = cc in
         let bad : phase_in procs t.worker standing.Freeing x ≡ Running = ap (λ (st : Standing). phase_in procs t.worker st x) (sym s) ∙ ap (λ (y : Hand). y.phase) g ∙ phase in
-        absurd (apart-freeing (act_in procs t.worker x) bad))
+        absurd (apart_freeing (act_in procs t.worker x) bad))
     at standing.LeftOver x s f = cc
 
     by_case : (o : Option PlainHand) → shown_of procs t.worker o ≡ Some h → (joined_of o ≡ false) × (held_by o ≡ [])
@@ -50,55 +50,55 @@ fresh-at procs t h e phase held = by_case t.hand e
     by_case (Some x) f = at x.standing x refl f
 
 module _ (p p' : Plain) (w n : ℕ) (q : RoomMade w p p') where
-  room-seat : (s : PlainSeat) → slice_get p'.seats w ≡ Some s → (s.txn ≡ q.seat.txn) × (s.next ≡ q.seat.next) × (s.again ≡ q.seat.again)
-  room-seat s e =
+  room_seat : (s : PlainSeat) → slice_get p'.seats w ≡ Some s → (s.txn ≡ q.seat.txn) × (s.next ≡ q.seat.next) × (s.again ≡ q.seat.again)
+  room_seat s e =
       let roomier : PlainSeat = record q.seat { pending = q.pending; room = q.left } in
-      let got : slice_get p'.seats w ≡ Some roomier = ap (λ (x : Plain). slice_get x.seats w) q.after ∙ got-same p.seats w roomier (slice_get_within p.seats w q.seat q.is) in
+      let got : slice_get p'.seats w ≡ Some roomier = ap (λ (x : Plain). slice_get x.seats w) q.after ∙ got_same p.seats w roomier (slice_get_within p.seats w q.seat q.is) in
       let same : roomier ≡ s = (let f : Some roomier ≡ Some s = sym got ∙ e in cc) in
       (ap (λ (x : PlainSeat). x.txn) (sym same), ap (λ (x : PlainSeat). x.next) (sym same), ap (λ (x : PlainSeat). x.again) (sym same))
 
-  pub room-rests : Rests p w → Rests p' w
-  room-rests r s e = ap (λ (t : PlainTxn). t.hand) (room-seat s e).0 ∙ r q.seat q.is
+  pub room_rests : Rests p w → Rests p' w
+  room_rests r s e = ap (λ (t : PlainTxn). t.hand) (room_seat s e).0 ∙ r q.seat q.is
 
-  pub room-next : HasNext p w n → HasNext p' w n
-  room-next r s e =
-      let m = room-seat s e in
+  pub room_next : HasNext p w n → HasNext p' w n
+  room_next r s e =
+      let m = room_seat s e in
       (λ i. next_number (length (load_same i).calls) (record s { next = m.1 i; again = m.2 i })) ∙ r q.seat q.is
     where
       load_same : p'.load ≡ p.load
       load_same = ap (λ (x : Plain). x.load) q.after
 
 -- the state after the beginning is sound
-begun-sound : (p p' : Plain) (w n : ℕ) (g : Stood p) → BeginsNext w n p p' → IsRoomy w p → HasNext p w n → Rests p w → Sound p'
-begun-sound p p' w n g q roomy next rests = (begins-carried p p' g.0 g.1 w (begins-of p p' g.0 g.1 g.2 w n q roomy next rests) (carried p g.0 g.1 g.2)).sound
+begun_sound : (p p' : Plain) (w n : ℕ) (g : Stood p) → BeginsNext w n p p' → IsRoomy w p → HasNext p w n → Rests p w → Sound p'
+begun_sound p p' w n g q roomy next rests = (begins_carried p p' g.0 g.1 w (begins_of p p' g.0 g.1 g.2 w n q roomy next rests) (carried p g.0 g.1 g.2)).sound
 
 -- and its seat has just begun
-begun-seat : (p p' : Plain) (w n : ℕ) (g : Stood p) (q : BeginsNext w n p p') → (s : PlainSeat) → slice_get p'.seats w ≡ Some s → seat_at s
-begun-seat p p' w n g q s e =
-    let got : slice_get p'.seats w ≡ Some q.new = ap (λ (x : Plain). slice_get x.seats w) q.after ∙ got-same p.seats w q.new (slice_get_within p.seats w q.seat q.is) in
+begun_seat : (p p' : Plain) (w n : ℕ) (g : Stood p) (q : BeginsNext w n p p') → (s : PlainSeat) → slice_get p'.seats w ≡ Some s → seat_at s
+begun_seat p p' w n g q s e =
+    let got : slice_get p'.seats w ≡ Some q.new = ap (λ (x : Plain). slice_get x.seats w) q.after ∙ got_same p.seats w q.new (slice_get_within p.seats w q.seat q.is) in
     let same : q.new ≡ s = (let f : Some q.new ≡ Some s = sym got ∙ e in cc) in
-    subst (λ (x : PlainSeat). seat_at x) same (fresh-at p.load.procs q.new.txn (fresh q.seat.txn.width (record { number = n; call = q.call }) 0) q.begun refl refl)
+    subst (λ (x : PlainSeat). seat_at x) same (fresh_at p.load.procs q.new.txn (fresh q.seat.txn.width (record { number = n; call = q.call }) 0) q.begun refl refl)
 
-room-stood : (p p' : Plain) (w : ℕ) → Stood p → RoomMade w p p' → Stood p'
-room-stood p p' w g q = (g.0, g.1, room-stands p p' g.0 g.1 g.2 w q)
+room_stood : (p p' : Plain) (w : ℕ) → Stood p → RoomMade w p p' → Stood p'
+room_stood p p' w g q = (g.0, g.1, room_stands p p' g.0 g.1 g.2 w q)
 
-pub room-sound : (p p' : Plain) (w : ℕ) → Stood p → RoomMade w p p' → Sound p'
-room-sound p p' w g q = (room-stood p p' w g q).2.sound
+pub room_sound : (p p' : Plain) (w : ℕ) → Stood p → RoomMade w p p' → Sound p'
+room_sound p p' w g q = (room_stood p p' w g q).2.sound
 
 -- a call is begun in the room that was made for it: p before, r with the room, b with the call begun
 module _ (p r b : Plain) (w n : ℕ) (stood : Stood p) (made : RoomMade w p r) where
-  pub first-begun : BeginsNext w n r b → IsRoomy w r → HasNext p w n → Rests p w → Sound b
-  first-begun begins roomy next rests = begun-sound r b w n (room-stood p r w stood made) begins roomy (room-next p r w n made next) (room-rests p r w n made rests)
+  pub first_begun : BeginsNext w n r b → IsRoomy w r → HasNext p w n → Rests p w → Sound b
+  first_begun begins roomy next rests = begun_sound r b w n (room_stood p r w stood made) begins roomy (room_next p r w n made next) (room_rests p r w n made rests)
 
   -- what was tried left the workers as they were
-  pub first-seat : (t : Plain) → BeginsNext w n r b → t.seats ≡ b.seats → (s : PlainSeat) → slice_get t.seats w ≡ Some s → seat_at s
-  first-seat t begins same s e = begun-seat r b w n (room-stood p r w stood made) begins s (ap (λ (l : List PlainSeat). slice_get l w) (sym same) ∙ e)
+  pub first_seat : (t : Plain) → BeginsNext w n r b → t.seats ≡ b.seats → (s : PlainSeat) → slice_get t.seats w ≡ Some s → seat_at s
+  first_seat t begins same s e = begun_seat r b w n (room_stood p r w stood made) begins s (ap (λ (l : List PlainSeat). slice_get l w) (sym same) ∙ e)
 
 -- it is begun, and undone by the mark
-pub first-undone : (inner : Plain → ℕ → Outcome → Plain → Type 0) (p r b t p' : Plain) (w n : ℕ) (o : Outcome) (mark : Mark) →
+pub first_undone : (inner : Plain → ℕ → Outcome → Plain → Type 0) (p r b t p' : Plain) (w n : ℕ) (o : Outcome) (mark : Mark) →
     RoomMade w p r → IsRoomy w r → BeginsNext w n r b → ((s : PlainSeat) → slice_get r.seats w ≡ Some s → mark ≡ record { next = s.next; again = s.again }) →
     inner b w o t → Undone w mark.next mark.again t p' → BegunUndone inner w n p o p'
-first-undone inner p r b t p' w n o mark made enough begins marks refused undone = record {
+first_undone inner p r b t p' w n o mark made enough begins marks refused undone = record {
   begun = b;
   tried = t;
   as_begun = record { roomy = r; made = made; enough = enough; begins = begins };
@@ -106,10 +106,10 @@ first-undone inner p r b t p' w n o mark made enough begins marks refused undone
   undone = subst (λ (m : Mark). Undone w m.next m.again t p') (marks begins.seat begins.is) undone;
 }
 
-pub none-some : (o : Option PlainHand) → is_some o ≡ false → o ≡ None
-none-some None e = refl
-none-some (Some h) e = cc
+pub none_some : (o : Option PlainHand) → is_some o ≡ false → o ≡ None
+none_some None e = refl
+none_some (Some h) e = cc
 
-pub some-none : (o : Option PlainHand) → is_some o ≡ true → o ≡ None → ⊥
-some-none None e f = cc
-some-none (Some h) e f = cc
+pub some_none : (o : Option PlainHand) → is_some o ≡ true → o ≡ None → ⊥
+some_none None e f = cc
+some_none (Some h) e f = cc

@@ -13,90 +13,90 @@ use Rattle.tau_core.specs.State.{Plain}
 use Rattle.tau_core.specs.View.{stop_in}
 use Rattle.tau_core.specs.Stands.{Stood}
 use Rattle.tau_core.specs.Gather.{Moves, MovesOwn, MovesPosted, Roomy, Waits, WaitsBelow, IsGathered}
-use Rattle.tau_core.proofs.Lists.{got-same, got-other}
-use Rattle.tau_core.proofs.Spellings.{moves-of}
-use Rattle.tau_core.proofs.GathersOwn.{own-bound}
-use Rattle.tau_core.proofs.GathersPosted.{posted-bound}
+use Rattle.tau_core.proofs.Lists.{got_same, got_other}
+use Rattle.tau_core.proofs.Spellings.{moves_of}
+use Rattle.tau_core.proofs.GathersOwn.{own_bound}
+use Rattle.tau_core.proofs.GathersPosted.{posted_bound}
 
 -- what is moved keeps within the limit of the body
-moved-small : (next : ℕ) (before after : PlainOutbox) (body longer : List ℕ) (m : Moves next before after body longer) → length (bytes_of m.taken) ≤ MAX_BODY - length body
-moved-small next before after body longer m = elim m.fits [
+moved_small : (next : ℕ) (before after : PlainOutbox) (body longer : List ℕ) (m : Moves next before after body longer) → length (bytes_of m.taken) ≤ MAX_BODY - length body
+moved_small next before after body longer m = elim m.fits [
   | inl none ↦ (let e : length (bytes_of m.taken) ≡ 0 = ap (λ l. length (bytes_of l)) none in omega arith)
   | inr small ↦ (let e = ap (length {A = ℕ}) m.bytes ∙ length-append body (bytes_of m.taken) in omega arith)
 ]
 
-moved-long : (next : ℕ) (before after : PlainOutbox) (body longer : List ℕ) (m : Moves next before after body longer) → length longer ≡ length body + length (bytes_of m.taken)
-moved-long next before after body longer m = ap (length {A = ℕ}) m.bytes ∙ length-append body (bytes_of m.taken)
+moved_long : (next : ℕ) (before after : PlainOutbox) (body longer : List ℕ) (m : Moves next before after body longer) → length longer ≡ length body + length (bytes_of m.taken)
+moved_long next before after body longer m = ap (length {A = ℕ}) m.bytes ∙ length-append body (bytes_of m.taken)
 
 least : (a b n room : ℕ) → min a b ≤ room → n ≤ a → n ≤ b → n ≤ room
 least a b n room le small low = omega arith
 
-front-small : (next a b room : ℕ) → next + a ≡ next + b → b ≤ room → a ≤ room
-front-small next a b room e le = omega arith
+front_small : (next a b room : ℕ) → next + a ≡ next + b → b ≤ room → a ≤ room
+front_small next a b room e le = omega arith
 
 less : (most used ends gathered n longer past room spare : ℕ) → min (most - used) (ends - gathered) ≤ room → longer ≡ used + n → past ≡ gathered + n → room ≤ spare + n → min (most - longer) (ends - past) ≤ spare
 less most used ends gathered n longer past room spare le e f kept = omega arith
 
 module _ (p : Plain) (g : Stood p) (j : ℕ) (there : j < p.load.streams) (going : stop_in (slice_get p.streams j) ≡ None) (roomy : Roomy j p) where
   -- the room suffices for the front of the manager's outbox
-  pub own-fits : (stream : PlainStream) → slice_get p.streams j ≡ Some stream → length (bytes_of (run (slice_index p.gathered j) (length stream.body) stream.own.pieces)) ≤ stream.room
-  own-fits stream is =
+  pub own_fits : (stream : PlainStream) → slice_get p.streams j ≡ Some stream → length (bytes_of (run (slice_index p.gathered j) (length stream.body) stream.own.pieces)) ≤ stream.room
+  own_fits stream is =
       let next : ℕ = slice_index p.gathered j in
       let front : List Piece = run next (length stream.body) stream.own.pieces in
       let behind : PlainOutbox = record stream.own { pieces = left next (length stream.body) stream.own.pieces } in
       let longer : List ℕ = stream.body ++ bytes_of front in
       let q = gathered next stream.own.pieces stream.body in
-      let m : Moves next stream.own behind stream.body longer = moves-of next next stream.own behind stream.body longer (next + length (bytes_of front)) refl q (omega arith) in
-      let bound = own-bound p g.0 g.1 g.2 j there going stream behind longer stream.room is m in
-      let small = moved-small next stream.own behind stream.body longer m in
+      let m : Moves next stream.own behind stream.body longer = moves_of next next stream.own behind stream.body longer (next + length (bytes_of front)) refl q (omega arith) in
+      let bound = own_bound p g.0 g.1 g.2 j there going stream behind longer stream.room is m in
+      let small = moved_small next stream.own behind stream.body longer m in
       let low = least (MAX_BODY - length stream.body) (slice_index p.ends j - next) (length (bytes_of m.taken)) stream.room (roomy stream is) small (omega arith) in
-      front-small next (length (bytes_of front)) (length (bytes_of m.taken)) stream.room q.past low
+      front_small next (length (bytes_of front)) (length (bytes_of m.taken)) stream.room q.past low
 
   -- and for that of a worker
-  pub posted-fits : (w : ℕ) → w % p.load.streams ≡ j → (stream : PlainStream) (seat : PlainSeat) → slice_get p.streams j ≡ Some stream → slice_get p.seats w ≡ Some seat →
+  pub posted_fits : (w : ℕ) → w % p.load.streams ≡ j → (stream : PlainStream) (seat : PlainSeat) → slice_get p.streams j ≡ Some stream → slice_get p.seats w ≡ Some seat →
       length (bytes_of (run (slice_index p.gathered j) (length stream.body) seat.outbox.pieces)) ≤ stream.room
-  posted-fits w whose stream seat is seat_is =
+  posted_fits w whose stream seat is seat_is =
       let next : ℕ = slice_index p.gathered j in
       let front : List Piece = run next (length stream.body) seat.outbox.pieces in
       let behind : PlainOutbox = record seat.outbox { pieces = left next (length stream.body) seat.outbox.pieces } in
       let longer : List ℕ = stream.body ++ bytes_of front in
       let q = gathered next seat.outbox.pieces stream.body in
-      let m : Moves next seat.outbox behind stream.body longer = moves-of next next seat.outbox behind stream.body longer (next + length (bytes_of front)) refl q (omega arith) in
-      let bound = posted-bound p g.0 g.1 g.2 j there going w whose stream seat behind longer stream.room is seat_is m in
-      let small = moved-small next seat.outbox behind stream.body longer m in
+      let m : Moves next seat.outbox behind stream.body longer = moves_of next next seat.outbox behind stream.body longer (next + length (bytes_of front)) refl q (omega arith) in
+      let bound = posted_bound p g.0 g.1 g.2 j there going w whose stream seat behind longer stream.room is seat_is m in
+      let small = moved_small next seat.outbox behind stream.body longer m in
       let low = least (MAX_BODY - length stream.body) (slice_index p.ends j - next) (length (bytes_of m.taken)) stream.room (roomy stream is) small (omega arith) in
-      front-small next (length (bytes_of front)) (length (bytes_of m.taken)) stream.room q.past low
+      front_small next (length (bytes_of front)) (length (bytes_of m.taken)) stream.room q.past low
 
   inside : j < length p.gathered
   inside = (let o = g.2.sound.gathered in omega arith)
 
   -- what is moved leaves enough of it
-  pub own-roomy : (m : Plain) → MovesOwn j p m → Roomy j m
-  own-roomy m q =
+  pub own_roomy : (m : Plain) → MovesOwn j p m → Roomy j m
+  own_roomy m q =
       let part : PlainStream = record q.stream { own = q.own; body = q.longer; room = q.spare } in
       let past : ℕ = slice_index p.gathered j + length (bytes_of q.moves.taken) in
       subst (Roomy j) (sym q.after) (λ s e.
-      let same : part ≡ s = (let f : Some part ≡ Some s = sym (got-same p.streams j part (slice_get_within p.streams j q.stream q.is)) ∙ e in cc) in
+      let same : part ≡ s = (let f : Some part ≡ Some s = sym (got_same p.streams j part (slice_get_within p.streams j q.stream q.is)) ∙ e in cc) in
       subst (λ (x : PlainStream). min (MAX_BODY - length x.body) (slice_index p.ends j - slice_index (slice_set p.gathered j past) j) ≤ x.room) same
       (less MAX_BODY (length q.stream.body) (slice_index p.ends j) (slice_index p.gathered j) (length (bytes_of q.moves.taken)) (length q.longer) (slice_index (slice_set p.gathered j past) j) q.stream.room q.spare
-      (roomy q.stream q.is) (moved-long (slice_index p.gathered j) q.stream.own q.own q.stream.body q.longer q.moves) (get_or-set_same p.gathered j past 0 inside) q.spares))
+      (roomy q.stream q.is) (moved_long (slice_index p.gathered j) q.stream.own q.own q.stream.body q.longer q.moves) (get_or-set_same p.gathered j past 0 inside) q.spares))
 
-  pub posted-roomy : (w : ℕ) (m : Plain) → MovesPosted j w p m → Roomy j m
-  posted-roomy w m q =
+  pub posted_roomy : (w : ℕ) (m : Plain) → MovesPosted j w p m → Roomy j m
+  posted_roomy w m q =
       let part : PlainStream = record q.stream { body = q.longer; room = q.spare } in
       let past : ℕ = slice_index p.gathered j + length (bytes_of q.moves.taken) in
       subst (Roomy j) (sym q.after) (λ s e.
-      let same : part ≡ s = (let f : Some part ≡ Some s = sym (got-same p.streams j part (slice_get_within p.streams j q.stream q.is)) ∙ e in cc) in
+      let same : part ≡ s = (let f : Some part ≡ Some s = sym (got_same p.streams j part (slice_get_within p.streams j q.stream q.is)) ∙ e in cc) in
       subst (λ (x : PlainStream). min (MAX_BODY - length x.body) (slice_index p.ends j - slice_index (slice_set p.gathered j past) j) ≤ x.room) same
       (less MAX_BODY (length q.stream.body) (slice_index p.ends j) (slice_index p.gathered j) (length (bytes_of q.moves.taken)) (length q.longer) (slice_index (slice_set p.gathered j past) j) q.stream.room q.spare
-      (roomy q.stream q.is) (moved-long (slice_index p.gathered j) q.seat.outbox q.outbox q.stream.body q.longer q.moves) (get_or-set_same p.gathered j past 0 inside) q.spares))
+      (roomy q.stream q.is) (moved_long (slice_index p.gathered j) q.seat.outbox q.outbox q.stream.body q.longer q.moves) (get_or-set_same p.gathered j past 0 inside) q.spares))
 
   -- after a move from the manager's outbox it waits
-  pub own-waits : (m : Plain) → MovesOwn j p m → WaitsBelow j 0 m
-  own-waits m q =
+  pub own_waits : (m : Plain) → MovesOwn j p m → WaitsBelow j 0 m
+  own_waits m q =
       let part : PlainStream = record q.stream { own = q.own; body = q.longer; room = q.spare } in
       let past : ℕ = slice_index p.gathered j + length (bytes_of q.moves.taken) in
-      let got = got-same p.streams j part (slice_get_within p.streams j q.stream q.is) in
+      let got = got_same p.streams j part (slice_get_within p.streams j q.stream q.is) in
       let here : (s : PlainStream) → slice_get (slice_set p.streams j part) j ≡ Some s → (t : PlainStream) → slice_get (slice_set p.streams j part) j ≡ Some t → Stops (slice_index (slice_set p.gathered j past) j) (length t.body) s.own.pieces =
       λ s e t f.
       let same : part ≡ s = (let k : Some part ≡ Some s = sym got ∙ e in cc) in
@@ -107,16 +107,16 @@ module _ (p : Plain) (g : Stood p) (j : ℕ) (there : j < p.load.streams) (going
       subst (WaitsBelow j 0) (sym q.after) (record { own = here; posted = λ w t lt whose e. absurd (omega arith) })
 
   -- and after one from a worker's outbox that moves nothing this one waits as well
-  pub posted-waits : (w : ℕ) (m : Plain) → MovesPosted j w p m → slice_index m.gathered j ≡ slice_index p.gathered j → WaitsBelow j w p → WaitsBelow j (w + 1) m
-  posted-waits w m q still below =
+  pub posted_waits : (w : ℕ) (m : Plain) → MovesPosted j w p m → slice_index m.gathered j ≡ slice_index p.gathered j → WaitsBelow j w p → WaitsBelow j (w + 1) m
+  posted_waits w m q still below =
       let part : PlainStream = record q.stream { body = q.longer; room = q.spare } in
       let box : PlainSeat = record q.seat { outbox = q.outbox } in
       let past : ℕ = slice_index p.gathered j + length (bytes_of q.moves.taken) in
-      let got = got-same p.streams j part (slice_get_within p.streams j q.stream q.is) in
-      let box_got = got-same p.seats w box (slice_get_within p.seats w q.seat q.seat_is) in
+      let got = got_same p.streams j part (slice_get_within p.streams j q.stream q.is) in
+      let box_got = got_same p.seats w box (slice_get_within p.seats w q.seat q.seat_is) in
       let there_again : slice_index (slice_set p.gathered j past) j ≡ past = get_or-set_same p.gathered j past 0 inside in
       let moved_on : slice_index (slice_set p.gathered j past) j ≡ slice_index p.gathered j = ap (λ (x : Plain). slice_index x.gathered j) (sym q.after) ∙ still in
-      let long : length q.longer ≡ length q.stream.body = (let e = moved-long (slice_index p.gathered j) q.seat.outbox q.outbox q.stream.body q.longer q.moves in omega arith) in
+      let long : length q.longer ≡ length q.stream.body = (let e = moved_long (slice_index p.gathered j) q.seat.outbox q.outbox q.stream.body q.longer q.moves in omega arith) in
       let others : (o : PlainOutbox) → Waits j p o → (t : PlainStream) → slice_get (slice_set p.streams j part) j ≡ Some t → Stops (slice_index (slice_set p.gathered j past) j) (length t.body) o.pieces =
       λ o waits t f.
       let too : part ≡ t = (let k : Some part ≡ Some t = sym got ∙ f in cc) in
@@ -137,13 +137,13 @@ module _ (p : Plain) (g : Stood p) (j : ℕ) (there : j < p.load.streams) (going
           | inl is ↦
               let same : box ≡ t = (let k : Some box ≡ Some t = sym box_got ∙ ap (slice_get (slice_set p.seats w box)) (sym is) ∙ e in cc) in
               subst (λ (x : PlainSeat). (s : PlainStream) → slice_get (slice_set p.streams j part) j ≡ Some s → Stops (slice_index (slice_set p.gathered j past) j) (length s.body) x.outbox.pieces) same here
-          | inr ne ↦ others t.outbox (below.posted u t (omega arith) whose (sym (got-other p.seats w u box ne) ∙ e))
+          | inr ne ↦ others t.outbox (below.posted u t (omega arith) whose (sym (got_other p.seats w u box ne) ∙ e))
         ];
       })
 
 -- a worker of another stream is passed over
-pub passed-waits : (j w : ℕ) (p : Plain) → (w % p.load.streams ≡ j → ⊥) → WaitsBelow j w p → WaitsBelow j (w + 1) p
-passed-waits j w p other below = record {
+pub passed_waits : (j w : ℕ) (p : Plain) → (w % p.load.streams ≡ j → ⊥) → WaitsBelow j w p → WaitsBelow j (w + 1) p
+passed_waits j w p other below = record {
   own = below.own;
   posted = λ u t lt whose e. elim (cases_eq u w) [
     | inl is ↦ absurd (other (ap (λ (n : ℕ). n % p.load.streams) (sym is) ∙ whose))
@@ -151,8 +151,8 @@ passed-waits j w p other below = record {
   ];
 }
 
-pub all-wait : (j n : ℕ) (p : Plain) → length p.seats ≤ n → WaitsBelow j n p → IsGathered j p
-all-wait j n p all below = record {
+pub all_wait : (j n : ℕ) (p : Plain) → length p.seats ≤ n → WaitsBelow j n p → IsGathered j p
+all_wait j n p all below = record {
   own = below.own;
   posted = λ u t whose e. below.posted u t (let lt = slice_get_within p.seats u t e in omega arith) whose e;
 }

@@ -13,20 +13,20 @@ use Rattle.tau_core.specs.Stands.{Stands, Stood}
 use Rattle.tau_core.specs.Anchors.{Reserves}
 use Rattle.tau_core.specs.Gather.{MovesOwn, MovesPosted, GathersOn, end_on, room_next, own_next, posted_next, Roomy}
 use Rattle.tau_core.specs.Ends.{GatherEnds, IsNext}
-use Rattle.tau_core.proofs.Anchors.{reserved-core, reserved-stands, reserved-going}
-use Rattle.tau_core.proofs.GathersOwn.{own_hidden, own-leads, own-stands, own-still, own-going}
-use Rattle.tau_core.proofs.GathersPosted.{posted_hidden, posted-leads, posted-stands, posted-still, posted-going}
+use Rattle.tau_core.proofs.Anchors.{reserved_core, reserved_stands, reserved_going}
+use Rattle.tau_core.proofs.GathersOwn.{own_hidden, own_leads, own_stands, own_still, own_going}
+use Rattle.tau_core.proofs.GathersPosted.{posted_hidden, posted_leads, posted_stands, posted_still, posted_going}
 
-pub gathered-on : (set : Setting) (j : ℕ) (a b c : Core) → Gathered set j a b → Gathered set j b c → Gathered set j a c
-gathered-on set j a b c stop q = q
-gathered-on set j a b c (record_first {s} {m} w first rest) q = record_first w first (gathered-on set j m b c rest q)
-gathered-on set j a b c (anchor_first {s} {m} first rest) q = anchor_first first (gathered-on set j m b c rest q)
+pub gathered_on : (set : Setting) (j : ℕ) (a b c : Core) → Gathered set j a b → Gathered set j b c → Gathered set j a c
+gathered_on set j a b c stop q = q
+gathered_on set j a b c (record_first {s} {m} w first rest) q = record_first w first (gathered_on set j m b c rest q)
+gathered_on set j a b c (anchor_first {s} {m} first rest) q = anchor_first first (gathered_on set j m b c rest q)
 
 module _ (j : ℕ) where
-  ends-on : (p m p' : Plain) (K : List (Act Txn)) (h : Hidden) (a : GatherEnds j p m K h) → GatherEnds j m p' K a.hidden → GatherEnds j p p' K h
-  ends-on p m p' K h a b = record {
+  ends_on : (p m p' : Plain) (K : List (Act Txn)) (h : Hidden) (a : GatherEnds j p m K h) → GatherEnds j m p' K a.hidden → GatherEnds j p p' K h
+  ends_on p m p' K h a b = record {
     hidden = b.hidden;
-    leads = gathered-on (setting_of p.load) j (core_of p h) (core_of m a.hidden) (core_of p' b.hidden) a.leads
+    leads = gathered_on (setting_of p.load) j (core_of p h) (core_of m a.hidden) (core_of p' b.hidden) a.leads
         (subst (λ (s : Setting). Gathered s j (core_of m a.hidden) (core_of p' b.hidden)) (ap setting_of a.load) b.leads);
     stands = b.stands;
     load = b.load ∙ a.load;
@@ -40,78 +40,78 @@ module _ (j : ℕ) where
         b.still then ∙ a.still first;
   }
 
-  ends-none : (p : Plain) (K : List (Act Txn)) (h : Hidden) → Stands p K h → stop_in (slice_get p.streams j) ≡ None → GatherEnds j p p K h
-  ends-none p K h g going = record { hidden = h; leads = stop; stands = g; load = refl; taken = refl; going = going; up = (omega arith); still = λ e. refl }
+  ends_none : (p : Plain) (K : List (Act Txn)) (h : Hidden) → Stands p K h → stop_in (slice_get p.streams j) ≡ None → GatherEnds j p p K h
+  ends_none p K h g going = record { hidden = h; leads = stop; stands = g; load = refl; taken = refl; going = going; up = (omega arith); still = λ e. refl }
 
-  ends-own : (p m : Plain) (K : List (Act Txn)) (h : Hidden) → Stands p K h → j < p.load.streams → stop_in (slice_get p.streams j) ≡ None → MovesOwn j p m → GatherEnds j p m K h
-  ends-own p m K h g there going q =
+  ends_own : (p m : Plain) (K : List (Act Txn)) (h : Hidden) → Stands p K h → j < p.load.streams → stop_in (slice_get p.streams j) ≡ None → MovesOwn j p m → GatherEnds j p m K h
+  ends_own p m K h g there going q =
       let set_at = get_or-set_same p.gathered j (slice_index p.gathered j + length (bytes_of q.moves.taken)) 0 (let o = g.sound.gathered in omega arith) in
       subst (λ (x : Plain). GatherEnds j p x K h) (sym q.after) (record {
         hidden = own_hidden p K h g j there going q.stream q.own q.longer q.spare q.is q.moves;
-        leads = (own-leads p K h g j there going q.stream q.own q.longer q.spare q.is q.moves).0;
-        stands = own-stands p K h g j there going q.stream q.own q.longer q.spare q.is q.moves;
+        leads = (own_leads p K h g j there going q.stream q.own q.longer q.spare q.is q.moves).0;
+        stands = own_stands p K h g j there going q.stream q.own q.longer q.spare q.is q.moves;
         load = refl;
         taken = refl;
-        going = own-going p K h g j there going q.stream q.own q.longer q.spare q.is q.moves;
+        going = own_going p K h g j there going q.stream q.own q.longer q.spare q.is q.moves;
         up = (omega arith);
-        still = λ e. own-still p K h g j there going q.stream q.own q.longer q.spare q.is q.moves (sym set_at ∙ e);
+        still = λ e. own_still p K h g j there going q.stream q.own q.longer q.spare q.is q.moves (sym set_at ∙ e);
       })
 
-  ends-posted : (p m : Plain) (K : List (Act Txn)) (h : Hidden) (w : ℕ) → Stands p K h → j < p.load.streams → w % p.load.streams ≡ j → stop_in (slice_get p.streams j) ≡ None → MovesPosted j w p m → GatherEnds j p m K h
-  ends-posted p m K h w g there whose going q =
+  ends_posted : (p m : Plain) (K : List (Act Txn)) (h : Hidden) (w : ℕ) → Stands p K h → j < p.load.streams → w % p.load.streams ≡ j → stop_in (slice_get p.streams j) ≡ None → MovesPosted j w p m → GatherEnds j p m K h
+  ends_posted p m K h w g there whose going q =
       let set_at = get_or-set_same p.gathered j (slice_index p.gathered j + length (bytes_of q.moves.taken)) 0 (let o = g.sound.gathered in omega arith) in
       subst (λ (x : Plain). GatherEnds j p x K h) (sym q.after) (record {
         hidden = posted_hidden p K h g j there going w whose q.stream q.seat q.outbox q.longer q.spare q.is q.seat_is q.moves;
-        leads = (posted-leads p K h g j there going w whose q.stream q.seat q.outbox q.longer q.spare q.is q.seat_is q.moves).0;
-        stands = posted-stands p K h g j there going w whose q.stream q.seat q.outbox q.longer q.spare q.is q.seat_is q.moves;
+        leads = (posted_leads p K h g j there going w whose q.stream q.seat q.outbox q.longer q.spare q.is q.seat_is q.moves).0;
+        stands = posted_stands p K h g j there going w whose q.stream q.seat q.outbox q.longer q.spare q.is q.seat_is q.moves;
         load = refl;
         taken = refl;
-        going = posted-going p K h g j there going w whose q.stream q.seat q.outbox q.longer q.spare q.is q.seat_is q.moves;
+        going = posted_going p K h g j there going w whose q.stream q.seat q.outbox q.longer q.spare q.is q.seat_is q.moves;
         up = (omega arith);
-        still = λ e. posted-still p K h g j there going w whose q.stream q.seat q.outbox q.longer q.spare q.is q.seat_is q.moves (sym set_at ∙ e);
+        still = λ e. posted_still p K h g j there going w whose q.stream q.seat q.outbox q.longer q.spare q.is q.seat_is q.moves (sym set_at ∙ e);
       })
 
-  ends-room : (p m : Plain) (K : List (Act Txn)) (h : Hidden) → Stands p K h → j < p.load.streams → stop_in (slice_get p.streams j) ≡ None → Reserves j p m → GatherEnds j p m K h
-  ends-room p m K h g there going q =
-      let core = reserved-core p K h g j there q.stream q.own q.room q.is q.pieces in
+  ends_room : (p m : Plain) (K : List (Act Txn)) (h : Hidden) → Stands p K h → j < p.load.streams → stop_in (slice_get p.streams j) ≡ None → Reserves j p m → GatherEnds j p m K h
+  ends_room p m K h g there going q =
+      let core = reserved_core p K h g j there q.stream q.own q.room q.is q.pieces in
       subst (λ (x : Plain). GatherEnds j p x K h) (sym q.after) (record {
         hidden = h;
         leads = subst (λ (c : Core). Gathered (setting_of p.load) j (core_of p h) c) (sym core) stop;
-        stands = reserved-stands p K h g j there q.stream q.own q.room q.is q.pieces;
+        stands = reserved_stands p K h g j there q.stream q.own q.room q.is q.pieces;
         load = refl;
         taken = refl;
-        going = reserved-going p K h g j there q.stream q.own q.room q.is q.pieces going;
+        going = reserved_going p K h g j there q.stream q.own q.room q.is q.pieces going;
         up = (omega arith);
         still = λ e. core;
       })
 
-  pub gathers-on : (p p' : Plain) → GathersOn j p p' → (K : List (Act Txn)) (h : Hidden) → Stands p K h → j < p.load.streams → stop_in (slice_get p.streams j) ≡ None → GatherEnds j p p' K h
-  gathers-on p p' end_on K h g there going = ends-none p K h g going
-  gathers-on p p' (room_next {m} q rest) K h g there going =
-      let one = ends-room p m K h g there going q in
-      ends-on p m p' K h one (gathers-on m p' rest K one.hidden one.stands (let e = one.load in subst (λ (l : Load). j < l.streams) (sym e) there) one.going)
-  gathers-on p p' (own_next {m} q rest) K h g there going =
-      let one = ends-own p m K h g there going q in
-      ends-on p m p' K h one (gathers-on m p' rest K one.hidden one.stands (let e = one.load in subst (λ (l : Load). j < l.streams) (sym e) there) one.going)
-  gathers-on p p' (posted_next {m} w whose q rest) K h g there going =
-      let one = ends-posted p m K h w g there whose going q in
-      ends-on p m p' K h one (gathers-on m p' rest K one.hidden one.stands (let e = one.load in subst (λ (l : Load). j < l.streams) (sym e) there) one.going)
+  pub gathers_on : (p p' : Plain) → GathersOn j p p' → (K : List (Act Txn)) (h : Hidden) → Stands p K h → j < p.load.streams → stop_in (slice_get p.streams j) ≡ None → GatherEnds j p p' K h
+  gathers_on p p' end_on K h g there going = ends_none p K h g going
+  gathers_on p p' (room_next {m} q rest) K h g there going =
+      let one = ends_room p m K h g there going q in
+      ends_on p m p' K h one (gathers_on m p' rest K one.hidden one.stands (let e = one.load in subst (λ (l : Load). j < l.streams) (sym e) there) one.going)
+  gathers_on p p' (own_next {m} q rest) K h g there going =
+      let one = ends_own p m K h g there going q in
+      ends_on p m p' K h one (gathers_on m p' rest K one.hidden one.stands (let e = one.load in subst (λ (l : Load). j < l.streams) (sym e) there) one.going)
+  gathers_on p p' (posted_next {m} w whose q rest) K h g there going =
+      let one = ends_posted p m K h w g there whose going q in
+      ends_on p m p' K h one (gathers_on m p' rest K one.hidden one.stands (let e = one.load in subst (λ (l : Load). j < l.streams) (sym e) there) one.going)
 
   -- one more step at the end
-  pub on-own : (p m p' : Plain) → GathersOn j p m → MovesOwn j m p' → GathersOn j p p'
-  on-own p m p' end_on q = own_next q end_on
-  on-own p m p' (room_next {m = n} r rest) q = room_next r (on-own n m p' rest q)
-  on-own p m p' (own_next {m = n} r rest) q = own_next r (on-own n m p' rest q)
-  on-own p m p' (posted_next {m = n} w whose r rest) q = posted_next w whose r (on-own n m p' rest q)
+  pub on_own : (p m p' : Plain) → GathersOn j p m → MovesOwn j m p' → GathersOn j p p'
+  on_own p m p' end_on q = own_next q end_on
+  on_own p m p' (room_next {m = n} r rest) q = room_next r (on_own n m p' rest q)
+  on_own p m p' (own_next {m = n} r rest) q = own_next r (on_own n m p' rest q)
+  on_own p m p' (posted_next {m = n} w whose r rest) q = posted_next w whose r (on_own n m p' rest q)
 
-  pub on-posted : (p m p' : Plain) (w : ℕ) → w % m.load.streams ≡ j → GathersOn j p m → MovesPosted j w m p' → GathersOn j p p'
-  on-posted p m p' w whose end_on q = posted_next w whose q end_on
-  on-posted p m p' w whose (room_next {m = n} r rest) q = room_next r (on-posted n m p' w whose rest q)
-  on-posted p m p' w whose (own_next {m = n} r rest) q = own_next r (on-posted n m p' w whose rest q)
-  on-posted p m p' w whose (posted_next {m = n} u other r rest) q = posted_next u other r (on-posted n m p' w whose rest q)
+  pub on_posted : (p m p' : Plain) (w : ℕ) → w % m.load.streams ≡ j → GathersOn j p m → MovesPosted j w m p' → GathersOn j p p'
+  on_posted p m p' w whose end_on q = posted_next w whose q end_on
+  on_posted p m p' w whose (room_next {m = n} r rest) q = room_next r (on_posted n m p' w whose rest q)
+  on_posted p m p' w whose (own_next {m = n} r rest) q = own_next r (on_posted n m p' w whose rest q)
+  on_posted p m p' w whose (posted_next {m = n} u other r rest) q = posted_next u other r (on_posted n m p' w whose rest q)
 
-  next-of : (p m : Plain) (K : List (Act Txn)) (h : Hidden) → j < p.load.streams → GatherEnds j p m K h → Roomy j m → IsNext j p m
-  next-of p m K h there e roomy = record {
+  next_of : (p m : Plain) (K : List (Act Txn)) (h : Hidden) → j < p.load.streams → GatherEnds j p m K h → Roomy j m → IsNext j p m
+  next_of p m K h there e roomy = record {
     stood = (K, e.hidden, e.stands);
     there = subst (λ (l : Load). j < l.streams) (sym e.load) there;
     same = e.load;
@@ -120,20 +120,20 @@ module _ (j : ℕ) where
     roomy = roomy;
   }
 
-  pub next-own : (p m : Plain) → Stood p → j < p.load.streams → stop_in (slice_get p.streams j) ≡ None → MovesOwn j p m → Roomy j m → IsNext j p m
-  next-own p m g there going q = next-of p m g.0 g.1 there (ends-own p m g.0 g.1 g.2 there going q)
+  pub next_own : (p m : Plain) → Stood p → j < p.load.streams → stop_in (slice_get p.streams j) ≡ None → MovesOwn j p m → Roomy j m → IsNext j p m
+  next_own p m g there going q = next_of p m g.0 g.1 there (ends_own p m g.0 g.1 g.2 there going q)
 
-  pub next-posted : (p m : Plain) (w : ℕ) → Stood p → j < p.load.streams → w % p.load.streams ≡ j → stop_in (slice_get p.streams j) ≡ None → MovesPosted j w p m → Roomy j m → IsNext j p m
-  next-posted p m w g there whose going q = next-of p m g.0 g.1 there (ends-posted p m g.0 g.1 w g.2 there whose going q)
+  pub next_posted : (p m : Plain) (w : ℕ) → Stood p → j < p.load.streams → w % p.load.streams ≡ j → stop_in (slice_get p.streams j) ≡ None → MovesPosted j w p m → Roomy j m → IsNext j p m
+  next_posted p m w g there whose going q = next_of p m g.0 g.1 there (ends_posted p m g.0 g.1 w g.2 there whose going q)
 
-  pub next-room : (p m : Plain) → Stood p → j < p.load.streams → stop_in (slice_get p.streams j) ≡ None → Reserves j p m → Roomy j m → IsNext j p m
-  next-room p m g there going q = next-of p m g.0 g.1 there (ends-room p m g.0 g.1 g.2 there going q)
+  pub next_room : (p m : Plain) → Stood p → j < p.load.streams → stop_in (slice_get p.streams j) ≡ None → Reserves j p m → Roomy j m → IsNext j p m
+  next_room p m g there going q = next_of p m g.0 g.1 there (ends_room p m g.0 g.1 g.2 there going q)
 
-  pub next-on : (p m p' : Plain) → IsNext j p m → IsNext j m p' → IsNext j p p'
-  next-on p m p' a b = record { stood = b.stood; there = b.there; same = b.same ∙ a.same; going = b.going; up = (let u = a.up in let v = b.up in omega arith); roomy = b.roomy }
+  pub next_on : (p m p' : Plain) → IsNext j p m → IsNext j m p' → IsNext j p p'
+  next_on p m p' a b = record { stood = b.stood; there = b.there; same = b.same ∙ a.same; going = b.going; up = (let u = a.up in let v = b.up in omega arith); roomy = b.roomy }
 
-  pub on-on : (p m p' : Plain) → GathersOn j p m → GathersOn j m p' → GathersOn j p p'
-  on-on p m p' end_on q = q
-  on-on p m p' (room_next {m = n} r rest) q = room_next r (on-on n m p' rest q)
-  on-on p m p' (own_next {m = n} r rest) q = own_next r (on-on n m p' rest q)
-  on-on p m p' (posted_next {m = n} w whose r rest) q = posted_next w whose r (on-on n m p' rest q)
+  pub on_on : (p m p' : Plain) → GathersOn j p m → GathersOn j m p' → GathersOn j p p'
+  on_on p m p' end_on q = q
+  on_on p m p' (room_next {m = n} r rest) q = room_next r (on_on n m p' rest q)
+  on_on p m p' (own_next {m = n} r rest) q = own_next r (on_on n m p' rest q)
+  on_on p m p' (posted_next {m = n} w whose r rest) q = posted_next w whose r (on_on n m p' rest q)

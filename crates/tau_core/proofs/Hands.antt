@@ -6,7 +6,7 @@ use Rattle.tau_base.specs.declared.value.Key.{Key}
 use Rattle.tau_base.specs.declared.value.Value.{Value}
 use Rattle.tau_base.specs.declared.value.Mode.{Mode}
 use Rattle.tau_base.specs.declared.value.Mode.TheVariants.{Read, Write}
-use Rattle.tau_base.proofs.Vectors.{join-wider}
+use Rattle.tau_base.proofs.Vectors.{join_wider}
 use Rattle.tau_proc.specs.declared.proc.Proc.{Proc}
 use Rattle.tau_model.specs.History.{Numbered}
 use Rattle.tau_machine.specs.Hands.{Hand}
@@ -28,19 +28,19 @@ use Rattle.tau_core.specs.Plain.{PlainSeat}
 use Rattle.tau_core.specs.View.{call_of, worker_of, setting_of}
 use Rattle.tau_core.specs.Stands.{SoundSeat}
 
-pub some-hand : (procs : List Proc) (t : PlainTxn) (h : Hand) → hand_in procs t ≡ Some h → is_some t.hand ≡ true
-some-hand procs t h e = by_case t.hand e
+pub some_hand : (procs : List Proc) (t : PlainTxn) (h : Hand) → hand_in procs t ≡ Some h → is_some t.hand ≡ true
+some_hand procs t h e = by_case t.hand e
   where
     by_case : (o : Option PlainHand) → shown_of procs t.worker o ≡ Some h → is_some o ≡ true
     by_case None f = cc
     by_case (Some x) f = refl
 
-pub both-some : (procs : List Proc) (t : PlainTxn) (h : Hand) → hand_in procs t ≡ Some h → is_some t.hand ≡ is_some (hand_in procs t)
-both-some procs t h e = some-hand procs t h e ∙ sym (ap is_some e)
+pub both_some : (procs : List Proc) (t : PlainTxn) (h : Hand) → hand_in procs t ≡ Some h → is_some t.hand ≡ is_some (hand_in procs t)
+both_some procs t h e = some_hand procs t h e ∙ sym (ap is_some e)
 
 -- the vector that is shown is that of the core's hand
-pub shown-dep : (procs : List Proc) (t : PlainTxn) (h : Hand) → hand_in procs t ≡ Some h → dep_in t ≡ h.dep
-shown-dep procs t h e = by_case t.hand e
+pub shown_dep : (procs : List Proc) (t : PlainTxn) (h : Hand) → hand_in procs t ≡ Some h → dep_in t ≡ h.dep
+shown_dep procs t h e = by_case t.hand e
   where
     at : (st : Standing) (x : PlainHand) → shown procs t.worker st x ≡ Some h → x.dep ≡ h.dep
     at standing.Running x f = (let g : hand_of procs t.worker x ≡ h = cc in ap (λ (y : Hand). y.dep) g)
@@ -54,32 +54,28 @@ shown-dep procs t h e = by_case t.hand e
     by_case (Some x) f = at x.standing x f
 
 -- a lock as the shard gives it is that of the core
-pub locked-alike : (h : Hand) (x : Key) (m : Mode) (row : Value) (dep : List ℕ) (e : Entry) → dep ≡ dep_locked m h.dep e → locked_with h x m row dep ≡ hand_locked h x m row e.write_lv e.read_lv
-locked-alike h x Read row dep e is = ap (λ (d : List ℕ). locked_with h x Read row d) is
-locked-alike h x Write row dep e is = ap (λ (d : List ℕ). locked_with h x Write row d) is
+pub locked_alike : (h : Hand) (x : Key) (m : Mode) (row : Value) (dep : List ℕ) (e : Entry) → dep ≡ dep_locked m h.dep e → locked_with h x m row dep ≡ hand_locked h x m row e.write_lv e.read_lv
+locked_alike h x Read row dep e is = ap (λ (d : List ℕ). locked_with h x Read row d) is
+locked_alike h x Write row dep e is = ap (λ (d : List ℕ). locked_with h x Write row d) is
 
-pub locked-wide : (m : Mode) (width : ℕ) (dep : List ℕ) (e : Entry) → length dep ≡ width → length e.write_lv ≤ width → length e.read_lv ≤ width → length (dep_locked m dep e) ≡ width
-locked-wide Read width dep e d a b = let l = (join-wider dep e.write_lv).0 in let u = (join-wider dep e.write_lv).2 in omega arith
-locked-wide Write width dep e d a b =
-    let l = (join-wider dep e.write_lv).0 in let u = (join-wider dep e.write_lv).2 in
-    let n = (join-wider (join dep e.write_lv) e.read_lv).0 in let o = (join-wider (join dep e.write_lv) e.read_lv).2 in
+pub locked_wide : (m : Mode) (width : ℕ) (dep : List ℕ) (e : Entry) → length dep ≡ width → length e.write_lv ≤ width → length e.read_lv ≤ width → length (dep_locked m dep e) ≡ width
+locked_wide Read width dep e d a b = let l = (join_wider dep e.write_lv).0 in let u = (join_wider dep e.write_lv).2 in omega arith
+locked_wide Write width dep e d a b =
+    let l = (join_wider dep e.write_lv).0 in let u = (join_wider dep e.write_lv).2 in
+    let n = (join_wider (join dep e.write_lv) e.read_lv).0 in let o = (join_wider (join dep e.write_lv) e.read_lv).2 in
     omega arith
 
-pub locked-call : (h : Hand) (x : Key) (m : Mode) (row : Value) (a b : List ℕ) → (hand_locked h x m row a b).call ≡ h.call
-locked-call h x Read row a b = refl
-locked-call h x Write row a b = refl
-
 -- a worker's part with another call in hand, or its call further on
-pub sound-on : (l : Load) (w : ℕ) (s new : PlainSeat) (h k : Hand) → SoundSeat l w s → hand_in l.procs s.txn ≡ Some h → new ≡ record s { txn = new.txn } → new.txn ≡ record s.txn { hand = new.txn.hand } →
+pub sound_on : (l : Load) (w : ℕ) (s new : PlainSeat) (h k : Hand) → SoundSeat l w s → hand_in l.procs s.txn ≡ Some h → new ≡ record s { txn = new.txn } → new.txn ≡ record s.txn { hand = new.txn.hand } →
     hand_in l.procs new.txn ≡ Some k → k.call ≡ h.call → RunsBy l.procs new.txn → leaves_in new.txn ≡ false → placed_of k.phase ≡ None → SoundSeat l w new
-sound-on l w s new h k o is others same now call runs leaving unplaced =
-    let had = some-hand l.procs s.txn h is in
+sound_on l w s new h k o is others same now call runs leaving unplaced =
+    let had = some_hand l.procs s.txn h is in
     subst (λ (x : PlainSeat). SoundSeat l w x) (sym others) (record {
       worker = ap (λ (t : PlainTxn). t.worker) same ∙ o.worker;
       width = ap (λ (t : PlainTxn). t.width) same ∙ o.width;
       mode = ap (λ (t : PlainTxn). t.mode) same ∙ o.mode;
       runs = runs;
-      stays = both-some l.procs new.txn k now;
+      stays = both_some l.procs new.txn k now;
       leaving = leaving;
       call = λ x e.
           let e' : k ≡ x = (let f : Some k ≡ Some x = sym now ∙ e in cc) in
@@ -98,15 +94,15 @@ sound-on l w s new h k o is others same now call runs leaving unplaced =
       left = o.left;
     })
 
-pub entry-narrow : (l : Load) (sh : Shard) (x : Key) → ShardShape (setting_of l) sh → (length (entry_in sh x).write_lv ≤ l.streams) × (length (entry_in sh x).read_lv ≤ l.streams)
-entry-narrow l sh x q = by_case (sh.entries x) refl
+pub entry_narrow : (l : Load) (sh : Shard) (x : Key) → ShardShape (setting_of l) sh → (length (entry_in sh x).write_lv ≤ l.streams) × (length (entry_in sh x).read_lv ≤ l.streams)
+entry_narrow l sh x q = by_case (sh.entries x) refl
   where
     by_case : (e : Option Entry) → sh.entries x ≡ e → (length (entry_or sh.floor e).write_lv ≤ l.streams) × (length (entry_or sh.floor e).read_lv ≤ l.streams)
     by_case None is = (q.floor, q.floor)
     by_case (Some e) is = q.entries x e is
 
-pub sound-outbox : (l : Load) (w : ℕ) (s : PlainSeat) (outbox : PlainOutbox) → SoundSeat l w s → placed_in (hand_in l.procs s.txn) ≡ None → SoundSeat l w (record s { outbox = outbox })
-sound-outbox l w s outbox o none = record {
+pub sound_outbox : (l : Load) (w : ℕ) (s : PlainSeat) (outbox : PlainOutbox) → SoundSeat l w s → placed_in (hand_in l.procs s.txn) ≡ None → SoundSeat l w (record s { outbox = outbox })
+sound_outbox l w s outbox o none = record {
   worker = o.worker;
   width = o.width;
   mode = o.mode;
@@ -124,12 +120,12 @@ sound-outbox l w s outbox o none = record {
   left = o.left;
 }
 
-pub hand-gone : (procs : List Proc) (t : PlainTxn) → t.hand ≡ None → hand_in procs t ≡ None
-hand-gone procs t e = ap (shown_of procs t.worker) e
+pub hand_gone : (procs : List Proc) (t : PlainTxn) → t.hand ≡ None → hand_in procs t ≡ None
+hand_gone procs t e = ap (shown_of procs t.worker) e
 
-pub sound-gone : (l : Load) (w : ℕ) (s : PlainSeat) (t : PlainTxn) (pending : PlainPending) → SoundSeat l w s → t ≡ record s.txn { hand = t.hand } → t.hand ≡ None → SoundSeat l w (record s { txn = t; pending = pending })
-sound-gone l w s t pending o same none =
-    let gone = hand-gone l.procs t none in
+pub sound_gone : (l : Load) (w : ℕ) (s : PlainSeat) (t : PlainTxn) (pending : PlainPending) → SoundSeat l w s → t ≡ record s.txn { hand = t.hand } → t.hand ≡ None → SoundSeat l w (record s { txn = t; pending = pending })
+sound_gone l w s t pending o same none =
+    let gone = hand_gone l.procs t none in
     record {
       worker = ap (λ (x : PlainTxn). x.worker) same ∙ o.worker;
       width = ap (λ (x : PlainTxn). x.width) same ∙ o.width;
@@ -149,16 +145,16 @@ sound-gone l w s t pending o same none =
     }
 
 -- a call that has its place
-pub sound-placed : (l : Load) (w : ℕ) (s new : PlainSeat) (h k : Hand) → SoundSeat l w s → hand_in l.procs s.txn ≡ Some h → new ≡ record s { txn = new.txn; start = new.start; outbox = new.outbox } →
+pub sound_placed : (l : Load) (w : ℕ) (s new : PlainSeat) (h k : Hand) → SoundSeat l w s → hand_in l.procs s.txn ≡ Some h → new ≡ record s { txn = new.txn; start = new.start; outbox = new.outbox } →
     new.txn ≡ record s.txn { hand = new.txn.hand } → hand_in l.procs new.txn ≡ Some k → k.call ≡ h.call → RunsBy l.procs new.txn → leaves_in new.txn ≡ false → 1 ≤ new.outbox.room → SoundSeat l w new
-sound-placed l w s new h k o is others same now call runs leaving room =
-    let had = some-hand l.procs s.txn h is in
+sound_placed l w s new h k o is others same now call runs leaving room =
+    let had = some_hand l.procs s.txn h is in
     subst (λ (x : PlainSeat). SoundSeat l w x) (sym others) (record {
       worker = ap (λ (t : PlainTxn). t.worker) same ∙ o.worker;
       width = ap (λ (t : PlainTxn). t.width) same ∙ o.width;
       mode = ap (λ (t : PlainTxn). t.mode) same ∙ o.mode;
       runs = runs;
-      stays = both-some l.procs new.txn k now;
+      stays = both_some l.procs new.txn k now;
       leaving = leaving;
       call = λ x e.
           let e' : k ≡ x = (let f : Some k ≡ Some x = sym now ∙ e in cc) in

@@ -16,60 +16,60 @@ use Rattle.tau_core.specs.Plain.{PlainSeat}
 use Rattle.tau_core.specs.State.{Plain}
 use Rattle.tau_core.specs.Stands.{is_open, open_calls}
 use Rattle.tau_core.specs.Frees.{JoinsBy}
-use Rattle.tau_core.proofs.Seats.{one_open, open-set}
+use Rattle.tau_core.proofs.Seats.{one_open, open_set}
 
 -- what is kept of a call that frees its keys, put after the others
-pub kept-into : (procs : List Proc) (t : PlainTxn) (hand : Hand) (act : Act Txn) (b : Bool) (old new : List Committed) → FreesBy procs b t.worker hand act →
+pub kept_into : (procs : List Proc) (t : PlainTxn) (hand : Hand) (act : Act Txn) (b : Bool) (old new : List Committed) → FreesBy procs b t.worker hand act →
     ((a : Act Txn) → act_of hand.phase ≡ Some a → new ≡ old ++ committed_of a ∷ []) → ((a : Act Txn) → Reads procs t.worker hand a → new ≡ old ++ committed_of a ∷ []) → new ≡ old ++ committed_of act ∷ []
-kept-into procs t hand act true old new q joined reading = joined act (ap act_of q)
-kept-into procs t hand act false old new q joined reading = reading act q
+kept_into procs t hand act true old new q joined reading = joined act (ap act_of q)
+kept_into procs t hand act false old new q joined reading = reading act q
 
-pub joins-on : (l : Load) (w : ℕ) (hand : Hand) (act : Act Txn) (b : Bool) (t : PlainTxn) → t.worker ≡ w → b ≡ true → FreesBy l.procs b t.worker hand act → JoinsBy l w hand act []
-joins-on l w hand act true t e f q = inl (q, refl)
-joins-on l w hand act false t e f q = absurd (let bad : false ≡ true = f in cc)
+pub joins_on : (l : Load) (w : ℕ) (hand : Hand) (act : Act Txn) (b : Bool) (t : PlainTxn) → t.worker ≡ w → b ≡ true → FreesBy l.procs b t.worker hand act → JoinsBy l w hand act []
+joins_on l w hand act true t e f q = inl (q, refl)
+joins_on l w hand act false t e f q = absurd (let bad : false ≡ true = f in cc)
 
-pub joins-new : (l : Load) (w : ℕ) (hand : Hand) (act : Act Txn) (b : Bool) (t : PlainTxn) → t.worker ≡ w → b ≡ false → FreesBy l.procs b t.worker hand act → JoinsBy l w hand act (committed_of act ∷ [])
-joins-new l w hand act true t e f q = absurd (let bad : true ≡ false = f in cc)
-joins-new l w hand act false t e f q = inr (subst (λ (n : ℕ). Reads l.procs n hand act) e q, refl)
+pub joins_new : (l : Load) (w : ℕ) (hand : Hand) (act : Act Txn) (b : Bool) (t : PlainTxn) → t.worker ≡ w → b ≡ false → FreesBy l.procs b t.worker hand act → JoinsBy l w hand act (committed_of act ∷ [])
+joins_new l w hand act true t e f q = absurd (let bad : true ≡ false = f in cc)
+joins_new l w hand act false t e f q = inr (subst (λ (n : ℕ). Reads l.procs n hand act) e q, refl)
 
-pub one-none : (l : Load) (s : PlainSeat) (h : Hand) (t : Act Txn) → hand_in l.procs s.txn ≡ Some h → act_of h.phase ≡ Some t → one_open l s ≡ 0
-one-none l s h t is joined =
+pub one_none : (l : Load) (s : PlainSeat) (h : Hand) (t : Act Txn) → hand_in l.procs s.txn ≡ Some h → act_of h.phase ≡ Some t → one_open l s ≡ 0
+one_none l s h t is joined =
     let e : is_open (hand_in l.procs s.txn) ≡ false = ap is_open is ∙ ap (λ (o : Option (Act Txn)). if is_some o then false else true) joined in
     rw e refl
 
-pub one-one : (l : Load) (s : PlainSeat) (h : Hand) → hand_in l.procs s.txn ≡ Some h → h.phase ≡ Running → one_open l s ≡ 1
-one-one l s h is runs =
+pub one_one : (l : Load) (s : PlainSeat) (h : Hand) → hand_in l.procs s.txn ≡ Some h → h.phase ≡ Running → one_open l s ≡ 1
+one_one l s h is runs =
     let e : is_open (hand_in l.procs s.txn) ≡ true = ap is_open is ∙ ap (λ p. is_open (Some (record h { phase = p }))) runs in
     rw e refl
 
 module _ (p : Plain) (w : ℕ) (seat new : PlainSeat) (hand : Hand) (act : Act Txn) (is : slice_get p.seats w ≡ Some seat) (hand_is : hand_in p.load.procs seat.txn ≡ Some hand)
     (none : one_open p.load new ≡ 0) where
   -- nothing joins, and nobody needs more room
-  pub rooms-on : open_calls p.load p.seats ≤ p.room → open_calls p.load (slice_set p.seats w new) ≤ p.room
-  rooms-on room = let o = open-set p.load p.seats w seat new is in omega arith
+  pub rooms_on : open_calls p.load p.seats ≤ p.room → open_calls p.load (slice_set p.seats w new) ≤ p.room
+  rooms_on room = let o = open_set p.load p.seats w seat new is in omega arith
 
   -- where the call joins by this there is room for it, and enough is left
-  pub room-new : hand.phase ≡ Running → open_calls p.load p.seats ≤ p.room → 1 ≤ p.room
-  room-new runs room = let o = open-set p.load p.seats w seat new is in let e = one-one p.load seat hand hand_is runs in omega arith
+  pub room_new : hand.phase ≡ Running → open_calls p.load p.seats ≤ p.room → 1 ≤ p.room
+  room_new runs room = let o = open_set p.load p.seats w seat new is in let e = one_one p.load seat hand hand_is runs in omega arith
 
-  pub rooms-new : (left : ℕ) → hand.phase ≡ Running → open_calls p.load p.seats ≤ p.room → p.room ≤ left + 1 → open_calls p.load (slice_set p.seats w new) ≤ left
-  rooms-new left runs room more = let o = open-set p.load p.seats w seat new is in let e = one-one p.load seat hand hand_is runs in omega arith
+  pub rooms_new : (left : ℕ) → hand.phase ≡ Running → open_calls p.load p.seats ≤ p.room → p.room ≤ left + 1 → open_calls p.load (slice_set p.seats w new) ≤ left
+  rooms_new left runs room more = let o = open_set p.load p.seats w seat new is in let e = one_one p.load seat hand hand_is runs in omega arith
 
-pub joined-none : (l : Load) (s : PlainSeat) (h : Hand) (t : Act Txn) → hand_in l.procs s.txn ≡ Some h → h.phase ≡ Freeing t → one_open l s ≡ 0
-joined-none l s h t is e = one-none l s h t is (ap act_of e)
+pub joined_none : (l : Load) (s : PlainSeat) (h : Hand) (t : Act Txn) → hand_in l.procs s.txn ≡ Some h → h.phase ≡ Freeing t → one_open l s ≡ 0
+joined_none l s h t is e = one_none l s h t is (ap act_of e)
 
-pub reads-phase : (procs : List Proc) (b : Bool) (w : ℕ) (hand : Hand) (act : Act Txn) → b ≡ false → FreesBy procs b w hand act → hand.phase ≡ Running
-reads-phase procs true w hand act f q = absurd (let bad : true ≡ false = f in cc)
-reads-phase procs false w hand act f q = q.phase
+pub reads_phase : (procs : List Proc) (b : Bool) (w : ℕ) (hand : Hand) (act : Act Txn) → b ≡ false → FreesBy procs b w hand act → hand.phase ≡ Running
+reads_phase procs true w hand act f q = absurd (let bad : true ≡ false = f in cc)
+reads_phase procs false w hand act f q = q.phase
 
 -- a call that has joined the committed ones and frees its keys
-pub freeing-on : (procs : List Proc) (b : Bool) (w : ℕ) (hand : Hand) (act : Act Txn) → b ≡ true → FreesBy procs b w hand act → hand.phase ≡ Freeing act
-freeing-on procs true w hand act f q = q
-freeing-on procs false w hand act f q = absurd (let bad : false ≡ true = f in cc)
+pub freeing_on : (procs : List Proc) (b : Bool) (w : ℕ) (hand : Hand) (act : Act Txn) → b ≡ true → FreesBy procs b w hand act → hand.phase ≡ Freeing act
+freeing_on procs true w hand act f q = q
+freeing_on procs false w hand act f q = absurd (let bad : false ≡ true = f in cc)
 
 -- has the number of its act
-pub number-freed : (procs : List Proc) (t : PlainTxn) (hand : Hand) (act : Act Txn) → hand_in procs t ≡ Some hand → hand.phase ≡ Freeing act → number_in t ≡ Some act.call.call.number
-number-freed procs t hand act is freeing = by_hand t.hand is
+pub number_freed : (procs : List Proc) (t : PlainTxn) (hand : Hand) (act : Act Txn) → hand_in procs t ≡ Some hand → hand.phase ≡ Freeing act → number_in t ≡ Some act.call.call.number
+number_freed procs t hand act is freeing = by_hand t.hand is
   where
     by_phase : (st : Standing) (x : PlainHand) → phase_in procs t.worker st x ≡ Freeing act → x.number ≡ act.call.call.number
     by_phase standing.Running x e = absurd (let bad : ◌≡◌ {A = Phase} Running (Freeing act) = e in cc)
@@ -90,8 +90,8 @@ number-freed procs t hand act is freeing = by_hand t.hand is
     by_hand (Some x) e = ap Some (by_phase x.standing x (ap (λ (y : Hand). y.phase) (by_standing x.standing x e) ∙ freeing))
 
 -- a call in hand has its number
-pub number-hand : (procs : List Proc) (t : PlainTxn) (hand : Hand) → hand_in procs t ≡ Some hand → number_in t ≡ Some hand.call.number
-number-hand procs t hand is = by_hand t.hand is
+pub number_hand : (procs : List Proc) (t : PlainTxn) (hand : Hand) → hand_in procs t ≡ Some hand → number_in t ≡ Some hand.call.number
+number_hand procs t hand is = by_hand t.hand is
   where
     by_standing : (st : Standing) (x : PlainHand) → shown procs t.worker st x ≡ Some hand → x.number ≡ hand.call.number
     by_standing standing.Running x e = (let f : hand_of procs t.worker x ≡ hand = cc in ap (λ (y : Hand). y.call.number) f)
@@ -105,9 +105,9 @@ number-hand procs t hand is = by_hand t.hand is
     by_hand (Some x) e = ap Some (by_standing x.standing x e)
 
 -- that of a read-only call which joins by this is that of its act
-pub number-reads : (procs : List Proc) (b : Bool) (w : ℕ) (hand : Hand) (act : Act Txn) → b ≡ false → FreesBy procs b w hand act → hand.call.number ≡ act.call.call.number
-number-reads procs true w hand act f q = absurd (let bad : true ≡ false = f in cc)
-number-reads procs false w hand act f q = ap (λ (y : Act Txn). y.call.call.number) (sym q.is)
+pub number_reads : (procs : List Proc) (b : Bool) (w : ℕ) (hand : Hand) (act : Act Txn) → b ≡ false → FreesBy procs b w hand act → hand.call.number ≡ act.call.call.number
+number_reads procs true w hand act f q = absurd (let bad : true ≡ false = f in cc)
+number_reads procs false w hand act f q = ap (λ (y : Act Txn). y.call.call.number) (sym q.is)
 
-pub none-open : (l : Load) (s : PlainSeat) → hand_in l.procs s.txn ≡ None → one_open l s ≡ 0
-none-open l s gone = let e : is_open (hand_in l.procs s.txn) ≡ false = ap is_open gone in rw e refl
+pub none_open : (l : Load) (s : PlainSeat) → hand_in l.procs s.txn ≡ None → one_open l s ≡ 0
+none_open l s gone = let e : is_open (hand_in l.procs s.txn) ≡ false = ap is_open gone in rw e refl

@@ -25,15 +25,15 @@ use Rattle.tau_core.specs.Workers.{waiting_in}
 use Rattle.tau_core.specs.Begins.{next_number, next_behind}
 use Rattle.tau_core.specs.Steps.{Happened}
 use Rattle.tau_core.specs.LeftOvers.{AllRest, IsLowestOf, TakesBack, ResumedBy, ResumeSteps}
-use Rattle.tau_core.proofs.Lists.{each-got}
-use Rattle.tau_core.proofs.Seats.{seat-worker, seat-core, seat-inside, seat-sound, same-outbox}
-use Rattle.tau_core.proofs.Hands.{hand-gone}
-use Rattle.tau_core.proofs.Firsts.{none-some}
-use Rattle.tau_core.proofs.Numbers.{next-is}
-use Rattle.tau_core.proofs.Starts.{waiting-next}
+use Rattle.tau_core.proofs.Lists.{each_got}
+use Rattle.tau_core.proofs.Seats.{worker_of_seat, seat_core, seat_inside, seat_sound, same_outbox}
+use Rattle.tau_core.proofs.Hands.{hand_gone}
+use Rattle.tau_core.proofs.Firsts.{none_some}
+use Rattle.tau_core.proofs.Numbers.{next_is_that}
+use Rattle.tau_core.proofs.Starts.{waiting_next}
 use Rattle.tau_core.proofs.PersistLeads.{kept}
 use Rattle.tau_core.proofs.Steps.{happened, unmoved}
-use Rattle.tau_core.proofs.FirstSteps.{waits-none}
+use Rattle.tau_core.proofs.FirstSteps.{waits_none}
 
 -- one of the numbers, among their calls
 pub record Splits (calls : List Call) (left : List ℕ) (i n : ℕ) : Type 0 where
@@ -75,43 +75,43 @@ splits l (m ∷ ms) (suc i) n a e =
     }
 
 -- a call among those of these numbers has one of them
-numbered-first : (m : ℕ) (ms : List ℕ) (rest : List Numbered) (c : Numbered) → (Member c rest → (i : ℕ) × (slice_get ms i ≡ Some c.number)) → (o : Option Call) → Member c (numbered_by m o ++ rest) →
+pub numbered_first : (m : ℕ) (ms : List ℕ) (rest : List Numbered) (c : Numbered) → (Member c rest → (i : ℕ) × (slice_get ms i ≡ Some c.number)) → (o : Option Call) → Member c (numbered_by m o ++ rest) →
     (i : ℕ) × (slice_get (m ∷ ms) i ≡ Some c.number)
-numbered-first m ms rest c later None f = (let r = later f in (suc r.0, r.1))
-numbered-first m ms rest c later (Some x) (inl is) = (0, ap (λ (y : Numbered). Some y.number) is)
-numbered-first m ms rest c later (Some x) (inr f) = (let r = later f in (suc r.0, r.1))
+numbered_first m ms rest c later None f = (let r = later f in (suc r.0, r.1))
+numbered_first m ms rest c later (Some x) (inl is) = (0, ap (λ (y : Numbered). Some y.number) is)
+numbered_first m ms rest c later (Some x) (inr f) = (let r = later f in (suc r.0, r.1))
 
-numbered-at : (calls : List Call) (ns : List ℕ) (c : Numbered) → Member c (all_numbered calls ns) → (i : ℕ) × (slice_get ns i ≡ Some c.number)
-numbered-at calls [] c e = absurd e
-numbered-at calls (m ∷ ms) c e = numbered-first m ms (all_numbered calls ms) c (λ f. numbered-at calls ms c f) (call_of calls m) e
+pub numbered_at : (calls : List Call) (ns : List ℕ) (c : Numbered) → Member c (all_numbered calls ns) → (i : ℕ) × (slice_get ns i ≡ Some c.number)
+numbered_at calls [] c e = absurd e
+numbered_at calls (m ∷ ms) c e = numbered_first m ms (all_numbered calls ms) c (λ f. numbered_at calls ms c f) (call_of calls m) e
 
 -- the numbers that are left
-numbers-less : (l : Load) (left : List ℕ) (i : ℕ) → AreNumbers l left → AreNumbers l (remove left i)
-numbers-less l [] i a = none i
+numbers_less : (l : Load) (left : List ℕ) (i : ℕ) → AreNumbers l left → AreNumbers l (remove left i)
+numbers_less l [] i a = none i
   where
     none : (k : ℕ) → AreNumbers l (remove [] k)
     none zero = tt
     none (suc k) = tt
-numbers-less l (m ∷ ms) zero a = a.1
-numbers-less l (m ∷ ms) (suc i) a = (a.0, numbers-less l ms i a.1)
+numbers_less l (m ∷ ms) zero a = a.1
+numbers_less l (m ∷ ms) (suc i) a = (a.0, numbers_less l ms i a.1)
 
-number-got : (l : Load) (left : List ℕ) (i n : ℕ) → AreNumbers l left → slice_get left i ≡ Some n → IsNumber l n
-number-got l [] i n a e = absurd (let bad : None ≡ Some n = e in cc)
-number-got l (m ∷ ms) zero n a e = (let same : m ≡ n = cc in subst (λ (k : ℕ). IsNumber l k) same a.0)
-number-got l (m ∷ ms) (suc i) n a e = number-got l ms i n a.1 e
+pub number_got : (l : Load) (left : List ℕ) (i n : ℕ) → AreNumbers l left → slice_get left i ≡ Some n → IsNumber l n
+number_got l [] i n a e = absurd (let bad : None ≡ Some n = e in cc)
+number_got l (m ∷ ms) zero n a e = (let same : m ≡ n = cc in subst (λ (k : ℕ). IsNumber l k) same a.0)
+number_got l (m ∷ ms) (suc i) n a e = number_got l ms i n a.1 e
 
 -- every worker rests, and none has a call left
-rests-all : (p : Plain) (h : Hidden) → AllRest p → (u : ℕ) → (((core_of p h).workers u).hand ≡ None) × (((core_of p h).workers u).waiting ≡ [])
-rests-all p h r u = by_case (slice_get p.seats u) refl
+rests_all : (p : Plain) (h : Hidden) → AllRest p → (u : ℕ) → (((core_of p h).workers u).hand ≡ None) × (((core_of p h).workers u).waiting ≡ [])
+rests_all p h r u = by_case (slice_get p.seats u) refl
   where
     by_case : (o : Option PlainSeat) → slice_get p.seats u ≡ o → (((core_of p h).workers u).hand ≡ None) × (((core_of p h).workers u).waiting ≡ [])
     by_case None e =
         let is : (core_of p h).workers u ≡ worker_in p.load None (committed_by p.load.workers u p.committed) = ap (λ (o : Option PlainSeat). worker_in p.load o (committed_by p.load.workers u p.committed)) e in
         (ap (λ (x : Worker). x.hand) is, ap (λ (x : Worker). x.waiting) is)
     by_case (Some s) e =
-        let is = seat-worker p h u s s e in
+        let is = worker_of_seat p h u s s e in
         let q = r u s e in
-        (ap (λ (x : Worker). x.hand) is ∙ hand-gone p.load.procs s.txn q.0, ap (λ (x : Worker). x.waiting) is ∙ waits-none p.load s q.1)
+        (ap (λ (x : Worker). x.hand) is ∙ hand_gone p.load.procs s.txn q.0, ap (λ (x : Worker). x.waiting) is ∙ waits_none p.load s q.1)
 
 module _ (p p' : Plain) (K : List (Act Txn)) (h : Hidden) (g : Stands p K h) (l : LeftOver) (r : AllRest p) (low : IsLowestOf p.seats (Some l)) (q : TakesBack l p p') where
   abbrev new_seat : PlainSeat
@@ -126,35 +126,35 @@ module _ (p p' : Plain) (K : List (Act Txn)) (h : Hidden) (g : Stands p K h) (l 
   abbrev committed_there : List Committed
   committed_there = committed_by p.load.workers l.worker p.committed
 
-  none-waits : waiting_in p.load q.seat ≡ []
-  none-waits = waits-none p.load q.seat (r l.worker q.seat q.is).1
+  none_waits : waiting_in p.load q.seat ≡ []
+  none_waits = waits_none p.load q.seat (r l.worker q.seat q.is).1
 
-  none-behind : from_on p.load.calls p.load.workers q.seat.next ≡ []
-  none-behind = second (again_in p.load.calls q.seat.again) (from_on p.load.calls p.load.workers q.seat.next) none-waits
+  none_behind : from_on p.load.calls p.load.workers q.seat.next ≡ []
+  none_behind = second (again_in p.load.calls q.seat.again) (from_on p.load.calls p.load.workers q.seat.next) none_waits
     where
       second : (xs ys : List Numbered) → xs ++ ys ≡ [] → ys ≡ []
       second [] ys e = e
       second (x ∷ xs) ys e = absurd (let bad : x ∷ (xs ++ ys) ≡ [] = e in cc)
 
-  resumed-worker : seat_worker p.load new_seat committed_there ≡ record (seat_worker p.load q.seat committed_there) { waiting = split.call ∷ []; left = split.front ++ split.back }
-  resumed-worker = λ i. record {
-    waiting = split.alone i ++ none-behind i;
+  resumed_worker : seat_worker p.load new_seat committed_there ≡ record (seat_worker p.load q.seat committed_there) { waiting = split.call ∷ []; left = split.front ++ split.back }
+  resumed_worker = λ i. record {
+    waiting = split.alone i ++ none_behind i;
     hand = hand_in p.load.procs q.seat.txn;
     left = split.rest i;
     committed = committed_there;
   }
 
-  resumed-core : core_of p' h ≡ with_worker (core_of p h) l.worker (record ((core_of p h).workers l.worker) { waiting = split.call ∷ []; left = split.front ++ split.back })
-  resumed-core =
-      ap (λ (x : Plain). core_of x h) q.after ∙ seat-core p h l.worker q.seat new_seat q.is
+  resumed_core : core_of p' h ≡ with_worker (core_of p h) l.worker (record ((core_of p h).workers l.worker) { waiting = split.call ∷ []; left = split.front ++ split.back })
+  resumed_core =
+      ap (λ (x : Plain). core_of x h) q.after ∙ seat_core p h l.worker q.seat new_seat q.is
       ∙ ap (λ (x : Worker × (ℕ → Outbox)). record (core_of p h) { workers = at l.worker x.0 (core_of p h).workers; outboxes = x.1 })
       (λ i. (
-        (resumed-worker ∙ ap (λ (x : Worker). record x { waiting = split.call ∷ []; left = split.front ++ split.back }) (sym (seat-worker p h l.worker q.seat q.seat q.is))) i,
-        same-outbox p h l.worker q.seat new_seat q.is refl i,
+        (resumed_worker ∙ ap (λ (x : Worker). record x { waiting = split.call ∷ []; left = split.front ++ split.back }) (sym (worker_of_seat p h l.worker q.seat q.seat q.is))) i,
+        same_outbox p h l.worker q.seat new_seat q.is refl i,
       ))
 
-  lowest-left : (u : ℕ) (c : Numbered) → Member c ((core_of p h).workers u).left → split.call.number ≤ c.number
-  lowest-left u c m = by_case (slice_get p.seats u) refl
+  lowest_left : (u : ℕ) (c : Numbered) → Member c ((core_of p h).workers u).left → split.call.number ≤ c.number
+  lowest_left u c m = by_case (slice_get p.seats u) refl
     where
       by_case : (o : Option PlainSeat) → slice_get p.seats u ≡ o → split.call.number ≤ c.number
       by_case None e =
@@ -162,26 +162,26 @@ module _ (p p' : Plain) (K : List (Act Txn)) (h : Hidden) (g : Stands p K h) (l 
           let none : Member c [] = subst (λ (x : Worker). Member c x.left) is m in
           absurd none
       by_case (Some s) e =
-          let is = seat-worker p h u s s e in
+          let is = worker_of_seat p h u s s e in
           let there : Member c (all_numbered p.load.calls s.left) = subst (λ (x : Worker). Member c x.left) is m in
-          let found = numbered-at p.load.calls s.left c there in
+          let found = numbered_at p.load.calls s.left c there in
           let le = low.1 u s found.0 c.number e found.1 in
           let number = split.number in
           omega arith
 
   resumes : Resumes (setting_of p.load) l.worker (core_of p h) (core_of p' h)
   resumes = record {
-    resting = rests-all p h r;
+    resting = rests_all p h r;
     front = split.front;
     call = split.call;
     back = split.back;
-    is = ap (λ (x : Worker). x.left) (seat-worker p h l.worker q.seat q.seat q.is) ∙ split.whole;
-    lowest = lowest-left;
-    after = resumed-core;
+    is = ap (λ (x : Worker). x.left) (worker_of_seat p h l.worker q.seat q.seat q.is) ∙ split.whole;
+    lowest = lowest_left;
+    after = resumed_core;
   }
 
-  resumed-seat : SoundSeat p.load l.worker new_seat
-  resumed-seat =
+  resumed_seat : SoundSeat p.load l.worker new_seat
+  resumed_seat =
       let o = sound_seat in
       record {
         worker = o.worker;
@@ -197,20 +197,20 @@ module _ (p p' : Plain) (K : List (Act Txn)) (h : Hidden) (g : Stands p K h) (l 
         posts = o.posts;
         low = o.low;
         high = o.high;
-        again = λ n e. (let same : l.number ≡ n = cc in subst (λ (k : ℕ). IsNumber p.load k) same (number-got p.load q.seat.left l.at l.number o.left q.number));
-        left = numbers-less p.load q.seat.left l.at o.left;
+        again = λ n e. (let same : l.number ≡ n = cc in subst (λ (k : ℕ). IsNumber p.load k) same (number_got p.load q.seat.left l.at l.number o.left q.number));
+        left = numbers_less p.load q.seat.left l.at o.left;
       }
 
-  resumed-stands : Invariant (setting_of p.load) K (core_of p' h) → Stands p' K h
-  resumed-stands inv =
-      let within = seat-inside p h l.worker q.seat new_seat q.is in
+  resumed_stands : Invariant (setting_of p.load) K (core_of p' h) → Stands p' K h
+  resumed_stands inv =
+      let within = seat_inside p h l.worker q.seat new_seat q.is in
       subst (λ (x : Plain). Stands x K h) (sym q.after) (record {
-        sound = seat-sound p h l.worker q.seat new_seat q.is g.sound resumed-seat (omega arith);
+        sound = seat_sound p h l.worker q.seat new_seat q.is g.sound resumed_seat (omega arith);
         inv = subst (λ (x : Plain). Invariant (setting_of p.load) K (core_of x h)) q.after inv;
         order = g.order;
-        posted = each-got (λ k (t : PlainSeat). Paired (IsPieceOf p.load (anchors_at p)) t.outbox.pieces (h.posted k)) p.seats l.worker new_seat within (g.posted l.worker q.seat q.is) g.posted;
+        posted = each_got (λ k (t : PlainSeat). Paired (IsPieceOf p.load (anchors_at p)) t.outbox.pieces (h.posted k)) p.seats l.worker new_seat within (g.posted l.worker q.seat q.is) g.posted;
         own = g.own;
-        placed = λ k x a e f. (each-got (λ j (y : PlainSeat). (b : Act Txn) → placed_in (hand_in p.load.procs y.txn) ≡ Some b → IsPieceOf p.load (anchors_at p) (record { start = y.start; bytes = bytes_in y.txn }) (Record b))
+        placed = λ k x a e f. (each_got (λ j (y : PlainSeat). (b : Act Txn) → placed_in (hand_in p.load.procs y.txn) ≡ Some b → IsPieceOf p.load (anchors_at p) (record { start = y.start; bytes = bytes_in y.txn }) (Record b))
             p.seats l.worker new_seat within (λ b d. g.placed l.worker q.seat b q.is d) (λ j y d b c. g.placed j y b d c)) k x e a f;
         gathered = g.gathered;
       })
@@ -219,50 +219,50 @@ module _ (p p' : Plain) (K : List (Act Txn)) (h : Hidden) (g : Stands p K h) (l 
   resumed =
       let leads : Leads (setting_of p.load) (machine.Resume l.worker) (core_of p h) (core_of p' h) [] = (resumes, refl) in
       let inv = kept (setting_of p.load) K (machine.Resume l.worker) (core_of p h) (core_of p' h) g.inv leads in
-      happened (machine.Resume l.worker) p p' K h h leads (resumed-stands inv) (ap (λ (x : Plain). x.load) q.after) refl
+      happened (machine.Resume l.worker) p p' K h h leads (resumed_stands inv) (ap (λ (x : Plain). x.load) q.after) refl
 
 -- a worker with a next call has one that waits
-some-waits : (l : Load) (w : ℕ) (s : PlainSeat) (n : ℕ) → 1 ≤ l.workers → SoundSeat l w s → next_number (length l.calls) s ≡ Some n → waiting_in l s ≡ [] → ⊥
-some-waits l w s n low o next none =
-    let number = next-is l w s n o next in
+some_waits : (l : Load) (w : ℕ) (s : PlainSeat) (n : ℕ) → 1 ≤ l.workers → SoundSeat l w s → next_number (length l.calls) s ≡ Some n → waiting_in l s ≡ [] → ⊥
+some_waits l w s n low o next none =
+    let number = next_is_that l w s n o next in
     let new : PlainSeat = record s { next = next_behind l.workers s.next s.again; again = None } in
-    let waits = waiting-next l w s new n number.call o low next number.is refl refl in
+    let waits = waiting_next l w s new n number.call o low next number.is refl refl in
     let bad : [] ≡ record { number = n; call = number.call } ∷ waiting_in l new = sym none ∙ waits in
     cc
 
 -- where a machine resumes, every seat rests, and a call is left over
-resting-seats : (p : Plain) (K : List (Act Txn)) (h : Hidden) (g : Stands p K h) (w : ℕ) (s' : Core) → Resumes (setting_of p.load) w (core_of p h) s' → AllRest p
-resting-seats p K h g w s' q u s e =
-    let is = seat-worker p h u s s e in
+resting_seats : (p : Plain) (K : List (Act Txn)) (h : Hidden) (g : Stands p K h) (w : ℕ) (s' : Core) → Resumes (setting_of p.load) w (core_of p h) s' → AllRest p
+resting_seats p K h g w s' q u s e =
+    let is = worker_of_seat p h u s s e in
     let rest = q.resting u in
     let o = g.sound.seat u s e in
     let none : hand_in p.load.procs s.txn ≡ None = ap (λ (x : Worker). x.hand) (sym is) ∙ rest.0 in
     let waits : waiting_in p.load s ≡ [] = ap (λ (x : Worker). x.waiting) (sym is) ∙ rest.1 in
-    (none-some s.txn.hand (o.stays ∙ ap is_some none), by_next (next_number (length p.load.calls) s) refl waits o)
+    (none_some s.txn.hand (o.stays ∙ ap is_some none), by_next (next_number (length p.load.calls) s) refl waits o)
   where
     by_next : (n : Option ℕ) → next_number (length p.load.calls) s ≡ n → waiting_in p.load s ≡ [] → SoundSeat p.load u s → next_number (length p.load.calls) s ≡ None
     by_next None f waits o = f
-    by_next (Some n) f waits o = absurd (some-waits p.load u s n g.sound.workers_low o f waits)
+    by_next (Some n) f waits o = absurd (some_waits p.load u s n g.sound.workers_low o f waits)
 
-nothing-left : (p : Plain) (h : Hidden) → IsLowestOf p.seats None → (w : ℕ) → ((core_of p h).workers w).left ≡ []
-nothing-left p h none w = by_case (slice_get p.seats w) refl
+nothing_left : (p : Plain) (h : Hidden) → IsLowestOf p.seats None → (w : ℕ) → ((core_of p h).workers w).left ≡ []
+nothing_left p h none w = by_case (slice_get p.seats w) refl
   where
     by_case : (o : Option PlainSeat) → slice_get p.seats w ≡ o → ((core_of p h).workers w).left ≡ []
     by_case None e = ap (λ (o : Option PlainSeat). (worker_in p.load o (committed_by p.load.workers w p.committed)).left) e
-    by_case (Some s) e = ap (λ (x : Worker). x.left) (seat-worker p h w s s e) ∙ ap (all_numbered p.load.calls) (none w s e)
+    by_case (Some s) e = ap (λ (x : Worker). x.left) (worker_of_seat p h w s s e) ∙ ap (all_numbered p.load.calls) (none w s e)
 
-pub resume-steps : (p p' : Plain) (K : List (Act Txn)) (h : Hidden) → Stands p K h → (o : Option ℕ) → ResumedBy p o p' → ResumeSteps p p' K h o
-resume-steps p p' K h g None q = (unmoved p p' K h g q.0, λ w s' a. by_cause w s' a q.1)
+pub resume_steps : (p p' : Plain) (K : List (Act Txn)) (h : Hidden) → Stands p K h → (o : Option ℕ) → ResumedBy p o p' → ResumeSteps p p' K h o
+resume_steps p p' K h g None q = (unmoved p p' K h g q.0, λ w s' a. by_cause w s' a q.1)
   where
     by_cause : (w : ℕ) (s' : Core) → Resumes (setting_of p.load) w (core_of p h) s' → (AllRest p → ⊥) ⊎ IsLowestOf p.seats None → ⊥
-    by_cause w s' a (inl n) = n (resting-seats p K h g w s' a)
-    by_cause w s' a (inr none) = no-call a.front a.call a.back (sym (nothing-left p h none w) ∙ a.is)
+    by_cause w s' a (inl n) = n (resting_seats p K h g w s' a)
+    by_cause w s' a (inr none) = no_call a.front a.call a.back (sym (nothing_left p h none w) ∙ a.is)
       where
-        no-call : (front : List Numbered) (call : Numbered) (back : List Numbered) → [] ≡ front ++ call ∷ back → ⊥
-        no-call [] call back f = cc
-        no-call (x ∷ xs) call back f = (let bad : [] ≡ x ∷ (xs ++ call ∷ back) = f in cc)
-resume-steps p p' K h g (Some w) q = subst (λ (n : ℕ). Happened (machine.Resume n) p p' K h) (sym q.1) (resumed p p' K h g q.0 q.2 q.3 q.4)
+        no_call : (front : List Numbered) (call : Numbered) (back : List Numbered) → [] ≡ front ++ call ∷ back → ⊥
+        no_call [] call back f = cc
+        no_call (x ∷ xs) call back f = (let bad : [] ≡ x ∷ (xs ++ call ∷ back) = f in cc)
+resume_steps p p' K h g (Some w) q = subst (λ (n : ℕ). Happened (machine.Resume n) p p' K h) (sym q.1) (resumed p p' K h g q.0 q.2 q.3 q.4)
 
-pub resume-stood : (p p' : Plain) (K : List (Act Txn)) (h : Hidden) (o : Option ℕ) → ResumeSteps p p' K h o → Stood p'
-resume-stood p p' K h None q = (K, q.0.hidden, q.0.stands)
-resume-stood p p' K h (Some w) q = (K ++ q.joined, q.hidden, q.stands)
+pub resume_stood : (p p' : Plain) (K : List (Act Txn)) (h : Hidden) (o : Option ℕ) → ResumeSteps p p' K h o → Stood p'
+resume_stood p p' K h None q = (K, q.0.hidden, q.0.stands)
+resume_stood p p' K h (Some w) q = (K ++ q.joined, q.hidden, q.stands)

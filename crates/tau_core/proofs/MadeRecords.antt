@@ -16,7 +16,7 @@ use Rattle.tau_machine.specs.Hands.{Txn, Hand}
 use Rattle.tau_core.specs.Plain.{PlainSeat}
 use Rattle.tau_core.specs.State.{Plain}
 use Rattle.tau_core.specs.Stands.{Sound}
-use Rattle.tau_core.proofs.Sizes.{size-small}
+use Rattle.tau_core.proofs.Sizes.{size_small}
 
 -- the call with its vector raised by the anchor's
 abbrev pub raised : Hand → List ℕ → Hand
@@ -37,7 +37,7 @@ pub record IsMade (p : Plain) (w start number : ℕ) (base : List ℕ) (h : Hand
   pub spelled : (vectors : List (List ℕ)) → base_of vectors number ≡ base → Spells One p.load.streams vectors false (entry_of p.load.mode (act_of p w start number base h effect (bytes_in t))) (bytes_in t)
   pub small : length (bytes_in t) < 2 ^ 32
 
-pub is-made : (p : Plain) (w start number : ℕ) (base : List ℕ) (s : PlainSeat) (t : PlainTxn) (size : ℕ) (m : Commits p.load.procs s.txn size) →
+pub is_made : (p : Plain) (w start number : ℕ) (base : List ℕ) (s : PlainSeat) (t : PlainTxn) (size : ℕ) (m : Commits p.load.procs s.txn size) →
     Sound p → slice_get p.seats w ≡ Some s → length base ≡ p.load.streams →
     t ≡ record s.txn { hand = t.hand } → anchor_in t ≡ number →
     ((procs : List Proc) (hand : Hand) → hand_in procs s.txn ≡ Some hand → hand_in procs t ≡ Some (raised hand base)) →
@@ -45,7 +45,7 @@ pub is-made : (p : Plain) (w start number : ℕ) (base : List ℕ) (s : PlainSea
     ((procs : List Proc) (hand : Hand) (from : ℕ) (vectors : List (List ℕ)) → RunsBy procs s.txn → hand_in procs t ≡ Some hand → base_of vectors number ≡ base →
     Spells One s.txn.width vectors false (entry_of s.txn.mode (act_at procs t from hand)) (bytes_in t)) →
     IsMade p w start number base m.hand m.effect t
-is-made p w start number base s t size m sound is wide same anchor raises runs bytes =
+is_made p w start number base s t size m sound is wide same anchor raises runs bytes =
     let o = sound.seat w s is in
     let procs = p.load.procs in
     let hand_is : hand_in procs t ≡ Some (raised m.hand base) = raises procs m.hand m.is in
@@ -65,5 +65,5 @@ is-made p w start number base s t size m sound is wide same anchor raises runs b
       runs = runs procs o.runs;
       act_is = act_is;
       spelled = spelled;
-      small = size-small p.load.streams base p.load.mode act (bytes_in t) sound.streams_high wide spelled;
+      small = size_small p.load.streams base p.load.mode act (bytes_in t) sound.streams_high wide spelled;
     }

@@ -5,34 +5,34 @@ use Rattle.tau_base.specs.declared.value.LogMode.{LogMode}
 use Rattle.tau_core.specs.Plain.{PlainSeat, PlainStream}
 use Rattle.tau_core.specs.Opens.{IsSeatAtRest, IsStreamAtRest, AreSeats, AreStreams}
 
-pub length-snoc : {A : Type 0} (xs : List A) (x : A) → length (xs ++ x ∷ []) ≡ length xs + 1
-length-snoc [] x = refl
-length-snoc (y ∷ ys) x = (let e = length-snoc ys x in omega arith)
+pub length_snoc : {A : Type 0} (xs : List A) (x : A) → length (xs ++ x ∷ []) ≡ length xs + 1
+length_snoc [] x = refl
+length_snoc (y ∷ ys) x = (let e = length_snoc ys x in omega arith)
 
-pub each-snoc : {A : Type 0} (P : ℕ → A → Type 0) (xs : List A) (x : A) → ((i : ℕ) (a : A) → slice_get xs i ≡ Some a → P i a) → P (length xs) x →
+pub each_snoc : {A : Type 0} (P : ℕ → A → Type 0) (xs : List A) (x : A) → ((i : ℕ) (a : A) → slice_get xs i ≡ Some a → P i a) → P (length xs) x →
     (i : ℕ) (a : A) → slice_get (xs ++ x ∷ []) i ≡ Some a → P i a
-each-snoc P [] x all q zero a e = (let same : x ≡ a = cc in subst (P 0) same q)
-each-snoc P [] x all q (suc i) a e = absurd (let bad : None ≡ Some a = e in cc)
-each-snoc P (y ∷ ys) x all q zero a e = all zero a e
-each-snoc P (y ∷ ys) x all q (suc i) a e = each-snoc (λ k b. P (suc k) b) ys x (λ k b f. all (suc k) b f) q i a e
+each_snoc P [] x all q zero a e = (let same : x ≡ a = cc in subst (P 0) same q)
+each_snoc P [] x all q (suc i) a e = absurd (let bad : None ≡ Some a = e in cc)
+each_snoc P (y ∷ ys) x all q zero a e = all zero a e
+each_snoc P (y ∷ ys) x all q (suc i) a e = each_snoc (λ k b. P (suc k) b) ys x (λ k b f. all (suc k) b f) q i a e
 
-pub no-element : {A : Type 0} (P : ℕ → A → Type 0) (i : ℕ) (a : A) → slice_get [] i ≡ Some a → P i a
-no-element P i a e = absurd (let bad : None ≡ Some a = e in cc)
+pub no_element : {A : Type 0} (P : ℕ → A → Type 0) (i : ℕ) (a : A) → slice_get [] i ≡ Some a → P i a
+no_element P i a e = absurd (let bad : None ≡ Some a = e in cc)
 
-pub seats-none : (streams : ℕ) (mode : LogMode) → AreSeats 0 streams mode []
-seats-none streams mode = record { count = refl; each = no-element (IsSeatAtRest streams mode) }
+pub seats_none : (streams : ℕ) (mode : LogMode) → AreSeats 0 streams mode []
+seats_none streams mode = record { count = refl; each = no_element (IsSeatAtRest streams mode) }
 
-pub seats-more : (w streams : ℕ) (mode : LogMode) (xs : List PlainSeat) (x : PlainSeat) → AreSeats w streams mode xs → IsSeatAtRest streams mode w x → AreSeats (w + 1) streams mode (xs ++ x ∷ [])
-seats-more w streams mode xs x a r = record {
-  count = length-snoc xs x ∙ ap (λ (n : ℕ). n + 1) a.count;
-  each = each-snoc (IsSeatAtRest streams mode) xs x a.each (subst (λ (n : ℕ). IsSeatAtRest streams mode n x) (sym a.count) r);
+pub seats_more : (w streams : ℕ) (mode : LogMode) (xs : List PlainSeat) (x : PlainSeat) → AreSeats w streams mode xs → IsSeatAtRest streams mode w x → AreSeats (w + 1) streams mode (xs ++ x ∷ [])
+seats_more w streams mode xs x a r = record {
+  count = length_snoc xs x ∙ ap (λ (n : ℕ). n + 1) a.count;
+  each = each_snoc (IsSeatAtRest streams mode) xs x a.each (subst (λ (n : ℕ). IsSeatAtRest streams mode n x) (sym a.count) r);
 }
 
-pub streams-none : AreStreams 0 []
-streams-none = record { count_is = refl; each = no-element (λ j s. IsStreamAtRest s) }
+pub streams_none : AreStreams 0 []
+streams_none = record { count_is = refl; each = no_element (λ j s. IsStreamAtRest s) }
 
-pub streams-more : (j : ℕ) (xs : List PlainStream) (x : PlainStream) → AreStreams j xs → IsStreamAtRest x → AreStreams (j + 1) (xs ++ x ∷ [])
-streams-more j xs x a r = record {
-  count_is = length-snoc xs x ∙ ap (λ (n : ℕ). n + 1) a.count_is;
-  each = each-snoc (λ k s. IsStreamAtRest s) xs x a.each r;
+pub streams_more : (j : ℕ) (xs : List PlainStream) (x : PlainStream) → AreStreams j xs → IsStreamAtRest x → AreStreams (j + 1) (xs ++ x ∷ [])
+streams_more j xs x a r = record {
+  count_is = length_snoc xs x ∙ ap (λ (n : ℕ). n + 1) a.count_is;
+  each = each_snoc (λ k s. IsStreamAtRest s) xs x a.each r;
 }

@@ -5,25 +5,25 @@ use Rattle.std.proofs.lemmas.Option.{slice_get_within}
 use Rattle.tau_machine.specs.Shard.{at}
 use Rattle.tau_machine.specs.Worker.{Worker}
 use Rattle.tau_machine.specs.State.{Outbox}
-use Rattle.tau_machine.proofs.At.{at-itself}
+use Rattle.tau_machine.proofs.At.{at_itself}
 use Rattle.tau_txn.specs.Txn.{hand_in}
 use Rattle.tau_core.specs.declared.state.Load.{Load}
 use Rattle.tau_core.specs.Plain.{PlainSeat}
 use Rattle.tau_core.specs.State.{Plain}
 use Rattle.tau_core.specs.View.{Hidden, committed_by, seat_worker, worker_in, tickets, pending_in, core_of}
 use Rattle.tau_core.specs.Stands.{is_open, open_calls, Sound, SoundSeat}
-use Rattle.tau_core.proofs.Lists.{reads-got, each-got}
+use Rattle.tau_core.proofs.Lists.{reads_got, each_got}
 
 abbrev pub one_open : Load → PlainSeat → ℕ
 one_open l s = if is_open (hand_in l.procs s.txn) then 1 else 0
 
-pub open-set : (l : Load) (xs : List PlainSeat) (i : ℕ) (s s' : PlainSeat) → slice_get xs i ≡ Some s → open_calls l (slice_set xs i s') + one_open l s ≡ open_calls l xs + one_open l s'
-open-set l [] i s s' is = absurd (let bad : None ≡ Some s = is in cc)
-open-set l (x ∷ xs) zero s s' is =
+pub open_set : (l : Load) (xs : List PlainSeat) (i : ℕ) (s s' : PlainSeat) → slice_get xs i ≡ Some s → open_calls l (slice_set xs i s') + one_open l s ≡ open_calls l xs + one_open l s'
+open_set l [] i s s' is = absurd (let bad : None ≡ Some s = is in cc)
+open_set l (x ∷ xs) zero s s' is =
     let same : x ≡ s = cc in
     let e : one_open l x ≡ one_open l s = ap (one_open l) same in
     omega arith
-open-set l (x ∷ xs) (suc i) s s' is = let e = open-set l xs i s s' is in omega arith
+open_set l (x ∷ xs) (suc i) s s' is = let e = open_set l xs i s s' is in omega arith
 
 -- the worker and its outbox
 abbrev pub seat_outbox : Hidden → ℕ → PlainSeat → Outbox
@@ -33,36 +33,36 @@ module _ (p : Plain) (h : Hidden) (w : ℕ) (s s' : PlainSeat) (is : slice_get p
   abbrev pub reseated : Plain
   reseated = record p { seats = slice_set p.seats w s' }
 
-  pub seat-inside : w < length p.seats
-  seat-inside = slice_get_within p.seats w s is
+  pub seat_inside : w < length p.seats
+  seat_inside = slice_get_within p.seats w s is
 
-  pub seat-worker : (core_of p h).workers w ≡ seat_worker p.load s (committed_by p.load.workers w p.committed)
-  seat-worker = ap (λ (o : Option PlainSeat). worker_in p.load o (committed_by p.load.workers w p.committed)) is
+  pub worker_of_seat : (core_of p h).workers w ≡ seat_worker p.load s (committed_by p.load.workers w p.committed)
+  worker_of_seat = ap (λ (o : Option PlainSeat). worker_in p.load o (committed_by p.load.workers w p.committed)) is
 
-  pub seat-outbox : (core_of p h).outboxes w ≡ seat_outbox h w s
-  seat-outbox = ap (λ (o : Option PlainSeat). record { posted = h.posted w; pending = pending_in o }) is
+  pub outbox_of_seat : (core_of p h).outboxes w ≡ seat_outbox h w s
+  outbox_of_seat = ap (λ (o : Option PlainSeat). record { posted = h.posted w; pending = pending_in o }) is
 
-  pub seat-core : core_of reseated h ≡ record (core_of p h) {
+  pub seat_core : core_of reseated h ≡ record (core_of p h) {
     workers = at w (seat_worker p.load s' (committed_by p.load.workers w p.committed)) (core_of p h).workers;
     outboxes = at w (seat_outbox h w s') (core_of p h).outboxes;
   }
-  seat-core =
+  seat_core =
       let f : ℕ → Option PlainSeat → Worker = λ k o. worker_in p.load o (committed_by p.load.workers k p.committed) in
       let b : ℕ → Option PlainSeat → Outbox = λ k o. record { posted = h.posted k; pending = pending_in o } in
       ap (λ (x : (ℕ → Worker) × (ℕ → Outbox)). record (core_of p h) { workers = x.0; outboxes = x.1 })
-      (λ i. (reads-got f p.seats w s' seat-inside i, reads-got b p.seats w s' seat-inside i))
+      (λ i. (reads_got f p.seats w s' seat_inside i, reads_got b p.seats w s' seat_inside i))
 
   -- where the worker is the same
-  pub same-worker : seat_worker p.load s' (committed_by p.load.workers w p.committed) ≡ seat_worker p.load s (committed_by p.load.workers w p.committed) →
+  pub same_worker : seat_worker p.load s' (committed_by p.load.workers w p.committed) ≡ seat_worker p.load s (committed_by p.load.workers w p.committed) →
       at w (seat_worker p.load s' (committed_by p.load.workers w p.committed)) (core_of p h).workers ≡ (core_of p h).workers
-  same-worker e = ap (λ (x : Worker). at w x (core_of p h).workers) (e ∙ sym seat-worker) ∙ at-itself w (core_of p h).workers
+  same_worker e = ap (λ (x : Worker). at w x (core_of p h).workers) (e ∙ sym worker_of_seat) ∙ at_itself w (core_of p h).workers
 
-  pub same-outbox : tickets s'.pending.calls ≡ tickets s.pending.calls → at w (seat_outbox h w s') (core_of p h).outboxes ≡ (core_of p h).outboxes
-  same-outbox e = ap (λ (x : Outbox). at w x (core_of p h).outboxes) (ap (λ l. record { posted = h.posted w; pending = l }) e ∙ sym seat-outbox) ∙ at-itself w (core_of p h).outboxes
+  pub same_outbox : tickets s'.pending.calls ≡ tickets s.pending.calls → at w (seat_outbox h w s') (core_of p h).outboxes ≡ (core_of p h).outboxes
+  same_outbox e = ap (λ (x : Outbox). at w x (core_of p h).outboxes) (ap (λ l. record { posted = h.posted w; pending = l }) e ∙ sym outbox_of_seat) ∙ at_itself w (core_of p h).outboxes
 
   -- the other parts stay sound
-  pub seat-sound : Sound p → SoundSeat p.load w s' → one_open p.load s' ≤ one_open p.load s → Sound reseated
-  seat-sound g new e = record {
+  pub seat_sound : Sound p → SoundSeat p.load w s' → one_open p.load s' ≤ one_open p.load s → Sound reseated
+  seat_sound g new e = record {
     workers_low = g.workers_low;
     workers_high = g.workers_high;
     streams_low = g.streams_low;
@@ -76,8 +76,8 @@ module _ (p : Plain) (h : Hidden) (w : ℕ) (s s' : PlainSeat) (is : slice_get p
     ends = g.ends;
     gathered = g.gathered;
     plv = g.plv;
-    seat = each-got (SoundSeat p.load) p.seats w s' seat-inside new g.seat;
+    seat = each_got (SoundSeat p.load) p.seats w s' seat_inside new g.seat;
     wide = g.wide;
     narrow = g.narrow;
-    room = (let o = open-set p.load p.seats w s s' is in let r = g.room in omega arith);
+    room = (let o = open_set p.load p.seats w s s' is in let r = g.room in omega arith);
   }

@@ -13,7 +13,7 @@ use Rattle.tau_machine.specs.Pieces.{placed_in}
 use Rattle.tau_machine.specs.Shapes.{ShardShape}
 use Rattle.tau_machine.specs.State.{Record}
 use Rattle.tau_machine.specs.Events.{with_worker, with_shard, ready, Refuses, Quits}
-use Rattle.tau_machine.proofs.At.{at-itself}
+use Rattle.tau_machine.proofs.At.{at_itself}
 use Rattle.tau_ack.specs.Pending.{PlainPending}
 use Rattle.tau_outbox.specs.Pieces.{PlainOutbox}
 use Rattle.tau_shard.specs.Plain.{PlainShard}
@@ -26,14 +26,14 @@ use Rattle.tau_core.specs.Stands.{is_open, Stands, Sound, SoundSeat, anchors_at}
 use Rattle.tau_core.specs.Pieces.{IsPieceOf, Paired}
 use Rattle.tau_core.specs.Carried.{Carried}
 use Rattle.tau_core.specs.Workers.{IsRefused, GivesBack, Keeps}
-use Rattle.tau_core.proofs.Lists.{reads-got, each-got}
-use Rattle.tau_core.proofs.Seats.{seat-core, seat-worker, same-outbox, seat-inside, seat-sound, one_open}
-use Rattle.tau_core.proofs.Begins.{ready-in-hand}
-use Rattle.tau_core.proofs.Leaving.{settled-hand}
+use Rattle.tau_core.proofs.Lists.{reads_got, each_got}
+use Rattle.tau_core.proofs.Seats.{seat_core, worker_of_seat, same_outbox, seat_inside, seat_sound, one_open}
+use Rattle.tau_core.proofs.Begins.{ready_in_hand}
+use Rattle.tau_core.proofs.Leaving.{settled_hand}
 
-one-most : (b : Bool) → (if b then 1 else 0) ≤ 1
-one-most true = omega arith
-one-most false = omega arith
+one_most : (b : Bool) → (if b then 1 else 0) ≤ 1
+one_most true = omega arith
+one_most false = omega arith
 
 -- both change one part of a worker and one shard, and nothing else that is carried
 module _ (p : Plain) (K : List (Act Txn)) (h : Hidden) (w i : ℕ) (seat new : PlainSeat) (shard other : PlainShard) (hand k : Hand)
@@ -43,30 +43,30 @@ module _ (p : Plain) (K : List (Act Txn)) (h : Hidden) (w i : ℕ) (seat new : P
   abbrev pub settled_plain : Plain
   settled_plain = record p { seats = slice_set p.seats w new; shards = slice_set p.shards i other }
 
-  pub settled-core : (sh : Shard) → shard_of other ≡ sh →
+  pub settled_core : (sh : Shard) → shard_of other ≡ sh →
       core_of settled_plain h ≡ with_shard (with_worker (core_of p h) w (settled p.load.streams ((core_of p h).workers w) k)) i sh
-  settled-core sh other_is =
+  settled_core sh other_is =
       let c : List Committed = committed_by p.load.workers w p.committed in
       let shards : Plain = record p { shards = slice_set p.shards i other } in
-      seat-core shards h w seat new is
+      seat_core shards h w seat new is
       ∙ (λ l. record (core_of p h) {
-        workers = at w ((settles c ∙ ap (λ (x : Worker). settled p.load.streams x k) (sym (seat-worker p h w seat new is))) l) (core_of p h).workers;
-        outboxes = same-outbox p h w seat new is (ap (λ (x : PlainPending). tickets x.calls) keeps.pending) l;
-        shards = (reads-got (λ j (o : Option PlainShard). shard_in o) p.shards i other (slice_get_within p.shards i shard shard_is) ∙ ap (λ (x : Shard). at i x (core_of p h).shards) other_is) l;
+        workers = at w ((settles c ∙ ap (λ (x : Worker). settled p.load.streams x k) (sym (worker_of_seat p h w seat new is))) l) (core_of p h).workers;
+        outboxes = same_outbox p h w seat new is (ap (λ (x : PlainPending). tickets x.calls) keeps.pending) l;
+        shards = (reads_got (λ j (o : Option PlainShard). shard_in o) p.shards i other (slice_get_within p.shards i shard shard_is) ∙ ap (λ (x : Shard). at i x (core_of p h).shards) other_is) l;
       })
 
-  none-placed : placed_in (hand_in p.load.procs new.txn) ≡ None
-  none-placed = by_case (hand_in p.load.procs new.txn) refl
+  none_placed : placed_in (hand_in p.load.procs new.txn) ≡ None
+  none_placed = by_case (hand_in p.load.procs new.txn) refl
     where
       by_case : (o : Option Hand) → hand_in p.load.procs new.txn ≡ o → placed_in o ≡ None
       by_case None e = refl
-      by_case (Some x) e = (settled-hand p.load.streams (seat_worker p.load seat []) k x quitting (ap (λ (y : Worker). y.hand) (sym (settles [])) ∙ e)).1
+      by_case (Some x) e = (settled_hand p.load.streams (seat_worker p.load seat []) k x quitting (ap (λ (y : Worker). y.hand) (sym (settles [])) ∙ e)).1
 
-  pub settled-stands : Carried p K h → Invariant (setting_of p.load) K (core_of settled_plain h) → Stands settled_plain K h
-  settled-stands g inv =
-      let opens : one_open p.load new ≤ one_open p.load seat = (let a = one-most (is_open (hand_in p.load.procs new.txn)) in let b = open_is in omega arith) in
-      let r : Sound (record p { seats = slice_set p.seats w new }) = seat-sound p h w seat new is g.sound sound opens in
-      let within = seat-inside p h w seat new is in
+  pub settled_stands : Carried p K h → Invariant (setting_of p.load) K (core_of settled_plain h) → Stands settled_plain K h
+  settled_stands g inv =
+      let opens : one_open p.load new ≤ one_open p.load seat = (let a = one_most (is_open (hand_in p.load.procs new.txn)) in let b = open_is in omega arith) in
+      let r : Sound (record p { seats = slice_set p.seats w new }) = seat_sound p h w seat new is g.sound sound opens in
+      let within = seat_inside p h w seat new is in
       record {
         sound = record {
           workers_low = r.workers_low;
@@ -89,66 +89,66 @@ module _ (p : Plain) (K : List (Act Txn)) (h : Hidden) (w i : ℕ) (seat new : P
         };
         inv = inv;
         order = g.order;
-        posted = each-got (λ j (t : PlainSeat). Paired (IsPieceOf p.load (anchors_at p)) t.outbox.pieces (h.posted j)) p.seats w new within
+        posted = each_got (λ j (t : PlainSeat). Paired (IsPieceOf p.load (anchors_at p)) t.outbox.pieces (h.posted j)) p.seats w new within
             (subst (λ (x : PlainOutbox). Paired (IsPieceOf p.load (anchors_at p)) x.pieces (h.posted w)) (sym keeps.outbox) (g.posted w seat is)) g.posted;
         own = g.own;
-        placed = λ j x a e f. (each-got (λ l (y : PlainSeat). (b : Act Txn) → placed_in (hand_in p.load.procs y.txn) ≡ Some b → IsPieceOf p.load (anchors_at p) (record { start = y.start; bytes = bytes_in y.txn }) (Record b))
-            p.seats w new within (λ b d. absurd (let bad : None ≡ Some b = sym none-placed ∙ d in cc)) (λ l y d b c. g.placed l y b d c)) j x e a f;
+        placed = λ j x a e f. (each_got (λ l (y : PlainSeat). (b : Act Txn) → placed_in (hand_in p.load.procs y.txn) ≡ Some b → IsPieceOf p.load (anchors_at p) (record { start = y.start; bytes = bytes_in y.txn }) (Record b))
+            p.seats w new within (λ b d. absurd (let bad : None ≡ Some b = sym none_placed ∙ d in cc)) (λ l y d b c. g.placed l y b d c)) j x e a f;
         gathered = g.gathered;
       }
 
-open-quitting : (p : Plain) (s : PlainSeat) (h : Hand) → hand_in p.load.procs s.txn ≡ Some h → (h.phase ≡ Quitting) ⊎ (h.phase ≡ Running) → one_open p.load s ≡ 1
-open-quitting p s h is (inl e) = let f : is_open (hand_in p.load.procs s.txn) ≡ true = ap is_open is ∙ ap (λ x. is_open (Some (record h { phase = x }))) e in rw f refl
-open-quitting p s h is (inr e) = let f : is_open (hand_in p.load.procs s.txn) ≡ true = ap is_open is ∙ ap (λ x. is_open (Some (record h { phase = x }))) e in rw f refl
+open_quitting : (p : Plain) (s : PlainSeat) (h : Hand) → hand_in p.load.procs s.txn ≡ Some h → (h.phase ≡ Quitting) ⊎ (h.phase ≡ Running) → one_open p.load s ≡ 1
+open_quitting p s h is (inl e) = let f : is_open (hand_in p.load.procs s.txn) ≡ true = ap is_open is ∙ ap (λ x. is_open (Some (record h { phase = x }))) e in rw f refl
+open_quitting p s h is (inr e) = let f : is_open (hand_in p.load.procs s.txn) ≡ true = ap is_open is ∙ ap (λ x. is_open (Some (record h { phase = x }))) e in rw f refl
 
 module _ (p p' : Plain) (h : Hidden) (w holder : ℕ) (q : IsRefused w holder p p') where
-  refused-hand : ((core_of p h).workers w).hand ≡ Some q.hand
-  refused-hand = ap (λ (x : Worker). x.hand) (seat-worker p h w q.seat q.new q.is) ∙ q.wants.is
+  refused_hand : ((core_of p h).workers w).hand ≡ Some q.hand
+  refused_hand = ap (λ (x : Worker). x.hand) (worker_of_seat p h w q.seat q.new q.is) ∙ q.wants.is
 
-  refused-ready : ready (setting_of p.load) (core_of p h) w ≡ (core_of p h).workers w
-  refused-ready = ready-in-hand p.load.streams ((core_of p h).workers w) q.hand refused-hand
+  refused_ready : ready (setting_of p.load) (core_of p h) w ≡ (core_of p h).workers w
+  refused_ready = ready_in_hand p.load.streams ((core_of p h).workers w) q.hand refused_hand
 
-  pub refused-is : (ready (setting_of p.load) (core_of p h) w).hand ≡ Some q.hand
-  refused-is = ap (λ (x : Worker). x.hand) refused-ready ∙ refused-hand
+  pub refused_is : (ready (setting_of p.load) (core_of p h) w).hand ≡ Some q.hand
+  refused_is = ap (λ (x : Worker). x.hand) refused_ready ∙ refused_hand
 
-  pub refused-refuses : Refuses (setting_of p.load) w (core_of p h) (core_of p' h)
-  refused-refuses = record {
+  pub refused_refuses : Refuses (setting_of p.load) w (core_of p h) (core_of p' h)
+  refused_refuses = record {
     hand = q.hand;
     key = q.key;
     mode = q.mode;
-    is = ap (λ (x : Worker). x.hand) refused-ready ∙ refused-hand;
+    is = ap (λ (x : Worker). x.hand) refused_ready ∙ refused_hand;
     phase = q.wants.phase;
     next = q.wants.next;
     after = ap (λ (x : Plain). core_of x h) q.after
-        ∙ settled-core p [] h w (shard_number q.key) q.seat q.new q.shard q.kept q.hand (hand_busy q.hand) q.is q.shard_is q.wants.is (open-quitting p q.seat q.hand q.wants.is (inr q.wants.phase)) refl q.keeps q.settles q.sound
+        ∙ settled_core p [] h w (shard_number q.key) q.seat q.new q.shard q.kept q.hand (hand_busy q.hand) q.is q.shard_is q.wants.is (open_quitting p q.seat q.hand q.wants.is (inr q.wants.phase)) refl q.keeps q.settles q.sound
         ((core_of p h).shards (shard_number q.key)) (q.kept_is ∙ sym (ap shard_in q.shard_is))
         ∙ ap (λ (x : (ℕ → Shard) × Worker). record (core_of p h) { shards = x.0; workers = at w (settled p.load.streams x.1 (hand_busy q.hand)) (core_of p h).workers })
-        (λ l. (at-itself (shard_number q.key) (core_of p h).shards l, sym refused-ready l));
+        (λ l. (at_itself (shard_number q.key) (core_of p h).shards l, sym refused_ready l));
   }
 
-  pub refused-stands : (K : List (Act Txn)) → Carried p K h → Invariant (setting_of p.load) K (core_of p' h) → Stands p' K h
-  refused-stands K g inv = subst (λ (x : Plain). Stands x K h) (sym q.after)
-      (settled-stands p K h w (shard_number q.key) q.seat q.new q.shard q.kept q.hand (hand_busy q.hand) q.is q.shard_is q.wants.is (open-quitting p q.seat q.hand q.wants.is (inr q.wants.phase)) refl q.keeps q.settles q.sound
+  pub refused_stands : (K : List (Act Txn)) → Carried p K h → Invariant (setting_of p.load) K (core_of p' h) → Stands p' K h
+  refused_stands K g inv = subst (λ (x : Plain). Stands x K h) (sym q.after)
+      (settled_stands p K h w (shard_number q.key) q.seat q.new q.shard q.kept q.hand (hand_busy q.hand) q.is q.shard_is q.wants.is (open_quitting p q.seat q.hand q.wants.is (inr q.wants.phase)) refl q.keeps q.settles q.sound
       g (subst (λ (x : Plain). Invariant (setting_of p.load) K (core_of x h)) q.after inv))
 
 module _ (p p' : Plain) (h : Hidden) (w : ℕ) (q : GivesBack w p p') where
-  gives-hand : ((core_of p h).workers w).hand ≡ Some q.hand
-  gives-hand = ap (λ (x : Worker). x.hand) (seat-worker p h w q.seat q.new q.is) ∙ q.hand_is
+  gives_hand : ((core_of p h).workers w).hand ≡ Some q.hand
+  gives_hand = ap (λ (x : Worker). x.hand) (worker_of_seat p h w q.seat q.new q.is) ∙ q.hand_is
 
-  pub gives-quits : Quits (setting_of p.load) w false (core_of p h) (core_of p' h)
-  gives-quits = record {
+  pub gives_quits : Quits (setting_of p.load) w false (core_of p h) (core_of p' h)
+  gives_quits = record {
     hand = q.hand;
     key = q.key;
     mode = q.mode;
-    is = gives-hand;
+    is = gives_hand;
     phase = inl q.phase;
     held = q.held;
     after = ap (λ (x : Plain). core_of x h) q.after
-        ∙ settled-core p [] h w (shard_number q.key) q.seat q.new q.shard q.quit q.hand (hand_quit q.hand q.key false) q.is q.shard_is q.hand_is (open-quitting p q.seat q.hand q.hand_is (inl q.phase)) refl q.keeps q.settles q.sound
+        ∙ settled_core p [] h w (shard_number q.key) q.seat q.new q.shard q.quit q.hand (hand_quit q.hand q.key false) q.is q.shard_is q.hand_is (open_quitting p q.seat q.hand q.hand_is (inl q.phase)) refl q.keeps q.settles q.sound
         (shard_quit ((core_of p h).shards (shard_number q.key)) w q.key) (q.quits ∙ ap (λ (x : Shard). shard_quit x w q.key) (sym (ap shard_in q.shard_is)));
   }
 
-  pub gives-stands : (K : List (Act Txn)) → Carried p K h → Invariant (setting_of p.load) K (core_of p' h) → Stands p' K h
-  gives-stands K g inv = subst (λ (x : Plain). Stands x K h) (sym q.after)
-      (settled-stands p K h w (shard_number q.key) q.seat q.new q.shard q.quit q.hand (hand_quit q.hand q.key false) q.is q.shard_is q.hand_is (open-quitting p q.seat q.hand q.hand_is (inl q.phase)) refl q.keeps q.settles q.sound
+  pub gives_stands : (K : List (Act Txn)) → Carried p K h → Invariant (setting_of p.load) K (core_of p' h) → Stands p' K h
+  gives_stands K g inv = subst (λ (x : Plain). Stands x K h) (sym q.after)
+      (settled_stands p K h w (shard_number q.key) q.seat q.new q.shard q.quit q.hand (hand_quit q.hand q.key false) q.is q.shard_is q.hand_is (open_quitting p q.seat q.hand q.hand_is (inl q.phase)) refl q.keeps q.settles q.sound
       g (subst (λ (x : Plain). Invariant (setting_of p.load) K (core_of x h)) q.after inv))

@@ -6,9 +6,9 @@ use Rattle.tau_base.specs.declared.limits.TheConstants.{SHARDS}
 use Rattle.tau_base.specs.declared.value.Key.{Key}
 use Rattle.tau_base.specs.Shards.{shard_number}
 
-remainder-small : (z : ℤ) → nat_abs (int_rem_euclid z (pos 64)) < 64
-remainder-small (pos a) = omega arith
-remainder-small (negsuc a) = omega arith
+remainder_small : (z : ℤ) → nat_abs (int_rem_euclid z (pos 64)) < 64
+remainder_small (pos a) = omega arith
+remainder_small (negsuc a) = omega arith
 
-pub shard-small : (x : Key) → shard_number x < SHARDS
-shard-small x = remainder-small (pos 31 *ℤ pos x.table +ℤ x.row)
+pub shard_small : (x : Key) → shard_number x < SHARDS
+shard_small x = remainder_small (pos 31 *ℤ pos x.table +ℤ x.row)

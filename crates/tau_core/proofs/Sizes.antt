@@ -13,35 +13,35 @@ use Rattle.tau_record.specs.Record.{base_of, AreVectors, FitsOrigin, FitsBody, b
 use Rattle.tau_record.proofs.SizeLaws.{size_fits}
 use Rattle.tau_txn.specs.Record.{entry_of}
 
-places-below : (base dep : List ℕ) → length base ≡ length dep → AtMost base dep → ArePlaces dep → ArePlaces base
-places-below [] dep e low q = tt
-places-below (b ∷ base) [] e low q = absurd (omega arith)
-places-below (b ∷ base) (d ∷ dep) e low q = ((let l = low 0 in let h = q.0 in omega arith), places-below base dep (omega arith) (λ j. low (suc j)) q.1)
+places_below : (base dep : List ℕ) → length base ≡ length dep → AtMost base dep → ArePlaces dep → ArePlaces base
+places_below [] dep e low q = tt
+places_below (b ∷ base) [] e low q = absurd (omega arith)
+places_below (b ∷ base) (d ∷ dep) e low q = ((let l = low 0 in let h = q.0 in omega arith), places_below base dep (omega arith) (λ j. low (suc j)) q.1)
 
-named-copies : (m k : ℕ) (base : List ℕ) → k < m → base_of (replicate m base) k ≡ base
-named-copies zero k base lt = absurd (omega arith)
-named-copies (suc m) zero base lt = refl
-named-copies (suc m) (suc k) base lt = named-copies m k base (omega arith)
+pub named_copies : (m k : ℕ) (base : List ℕ) → k < m → base_of (replicate m base) k ≡ base
+named_copies zero k base lt = absurd (omega arith)
+named_copies (suc m) zero base lt = refl
+named_copies (suc m) (suc k) base lt = named_copies m k base (omega arith)
 
-copies-long : (m : ℕ) (base : List ℕ) → length (replicate m base) ≡ m
-copies-long zero base = refl
-copies-long (suc m) base = ap suc (copies-long m base)
+copies_long : (m : ℕ) (base : List ℕ) → length (replicate m base) ≡ m
+copies_long zero base = refl
+copies_long (suc m) base = ap suc (copies_long m base)
 
-origin-in : (n : ℕ) (vectors : List (List ℕ)) (mode : LogMode) (t : Act Txn) → FitsBody n vectors (entry_of mode t) → FitsOrigin vectors t.call.call.number t.call.anchor t.call.place.dep
-origin-in n vectors Values t q = q.0
-origin-in n vectors Commands t q = q.0
+origin_in : (n : ℕ) (vectors : List (List ℕ)) (mode : LogMode) (t : Act Txn) → FitsBody n vectors (entry_of mode t) → FitsOrigin vectors t.call.call.number t.call.anchor t.call.place.dep
+origin_in n vectors Values t q = q.0
+origin_in n vectors Commands t q = q.0
 
-pub size-small : (n : ℕ) (base : List ℕ) (mode : LogMode) (t : Act Txn) (bytes : List ℕ) → n ≤ 16 → length base ≡ n →
+pub size_small : (n : ℕ) (base : List ℕ) (mode : LogMode) (t : Act Txn) (bytes : List ℕ) → n ≤ 16 → length base ≡ n →
     ((vectors : List (List ℕ)) → base_of vectors t.call.anchor ≡ base → Spells One n vectors false (entry_of mode t) bytes) → length bytes < 2 ^ 32
-size-small n base mode t bytes few wide spelled =
+size_small n base mode t bytes few wide spelled =
     let vectors : List (List ℕ) = replicate (suc t.call.anchor) base in
-    let named : base_of vectors t.call.anchor ≡ base = named-copies (suc t.call.anchor) t.call.anchor base (omega arith) in
+    let named : base_of vectors t.call.anchor ≡ base = named_copies (suc t.call.anchor) t.call.anchor base (omega arith) in
     let s = spelled vectors named in
-    let o = origin-in n vectors mode t s.fits.fields in
+    let o = origin_in n vectors mode t s.fits.fields in
     let width : length base ≡ length t.call.place.dep = sym (o.width ∙ ap (length {A = ℕ}) named) in
-    let places : ArePlaces base = places-below base t.call.place.dep width (subst (λ (b : List ℕ). AtMost b t.call.place.dep) named o.covers) o.places in
+    let places : ArePlaces base = places_below base t.call.place.dep width (subst (λ (b : List ℕ). AtMost b t.call.place.dep) named o.covers) o.places in
     let are : AreVectors n vectors = (λ (k : ℕ) (lt : k < length vectors).
-    let is : base_of vectors k ≡ base = named-copies (suc t.call.anchor) k base (let l = copies-long (suc t.call.anchor) base in omega arith) in
+    let is : base_of vectors k ≡ base = named_copies (suc t.call.anchor) k base (let l = copies_long (suc t.call.anchor) base in omega arith) in
     (subst (λ (b : List ℕ). ArePlaces b) (sym is) places, ap (length {A = ℕ}) is ∙ wide)) in
     let small = size_fits One n vectors (entry_of mode t) few are s.fits.fields in
     let size = ap (length {A = ℕ}) s.text in

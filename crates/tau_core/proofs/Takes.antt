@@ -29,90 +29,71 @@ use Rattle.tau_core.specs.Stands.{is_open, Stands, Sound, anchors_at}
 use Rattle.tau_core.specs.Pieces.{IsPieceOf, Paired}
 use Rattle.tau_core.specs.Carried.{Carried}
 use Rattle.tau_core.specs.Workers.{Takes}
-use Rattle.tau_core.proofs.Lists.{reads-got, each-got}
-use Rattle.tau_core.proofs.Seats.{seat-core, seat-worker, same-outbox, seat-inside, seat-sound, one_open}
-use Rattle.tau_core.proofs.Begins.{ready-in-hand}
+use Rattle.tau_core.proofs.Lists.{reads_got, each_got}
+use Rattle.tau_core.proofs.Seats.{seat_core, worker_of_seat, same_outbox, seat_inside, seat_sound, one_open}
+use Rattle.tau_core.proofs.Begins.{ready_in_hand}
+use Rattle.tau_shard.proofs.Bridge.{no_conflict}
+use Rattle.tau_machine.proofs.Leads.{locked_phase}
 
--- nobody that blocks is nobody that conflicts
-pub none-conflicts : (set : Setting) (sh : Shard) (w : ℕ) (x : Key) (m : Mode) → ((u : ℕ) → blocks (entry_in sh x) w m u ≡ false) → Conflicts set sh w x m → ⊥
-none-conflicts set sh w x m free c = at_mode m c.1 c.4 (sym (ap (against m) c.3) ∙ clear)
-  where
-    apart : (c.0 == w) ≡ false
-    apart = ne_eqb c.0 w c.2
+pub open_running : (o : Option Hand) (h : Hand) → o ≡ Some h → h.phase ≡ Running → is_open o ≡ true
+open_running o h e f = ap is_open e ∙ ap (λ p. is_open (Some (record h { phase = p }))) f
 
-    clear : against m ((entry_in sh x).holders c.0) ≡ false
-    clear = (let f = free c.0 in rw apart at f)
-
-    at_mode : (m n : Mode) → (m ≡ Write) ⊎ (n ≡ Write) → against m (Some n) ≡ false → ⊥
-    at_mode Read Read (inl e) f = cc
-    at_mode Read Read (inr e) f = cc
-    at_mode Read Write o f = cc
-    at_mode Write Read o f = cc
-    at_mode Write Write o f = cc
-
-pub open-running : (o : Option Hand) (h : Hand) → o ≡ Some h → h.phase ≡ Running → is_open o ≡ true
-open-running o h e f = ap is_open e ∙ ap (λ p. is_open (Some (record h { phase = p }))) f
-
-pub unplaced-running : (o : Option Hand) (h : Hand) → o ≡ Some h → h.phase ≡ Running → placed_in o ≡ None
-unplaced-running o h e f = ap placed_in e ∙ ap placed_of f
-
-pub locked-phase : (h : Hand) (x : Key) (m : Mode) (row : Value) (a b : List ℕ) → (hand_locked h x m row a b).phase ≡ h.phase
-locked-phase h x Read row a b = refl
-locked-phase h x Write row a b = refl
+pub unplaced_running : (o : Option Hand) (h : Hand) → o ≡ Some h → h.phase ≡ Running → placed_in o ≡ None
+unplaced_running o h e f = ap placed_in e ∙ ap placed_of f
 
 module _ (p p' : Plain) (h : Hidden) (w : ℕ) (value : Value) (q : Takes w value p p') where
   abbrev i : ℕ
   i = shard_number q.key
 
-  worker-hand : ((core_of p h).workers w).hand ≡ Some q.hand
-  worker-hand = ap (λ (x : Worker). x.hand) (seat-worker p h w q.seat q.new q.is) ∙ q.wants.is
+  worker_hand : ((core_of p h).workers w).hand ≡ Some q.hand
+  worker_hand = ap (λ (x : Worker). x.hand) (worker_of_seat p h w q.seat q.new q.is) ∙ q.wants.is
 
-  is-ready : ready (setting_of p.load) (core_of p h) w ≡ (core_of p h).workers w
-  is-ready = ready-in-hand p.load.streams ((core_of p h).workers w) q.hand worker-hand
+  is_ready : ready (setting_of p.load) (core_of p h) w ≡ (core_of p h).workers w
+  is_ready = ready_in_hand p.load.streams ((core_of p h).workers w) q.hand worker_hand
 
-  shard-is : (core_of p h).shards i ≡ shard_of q.shard
-  shard-is = ap shard_in q.shard_is
+  shard_is_that : (core_of p h).shards i ≡ shard_of q.shard
+  shard_is_that = ap shard_in q.shard_is
 
-  locks-after : core_of p' h ≡ with_shard (with_worker (core_of p h) w (record (ready (setting_of p.load) (core_of p h) w) {
+  locks_after : core_of p' h ≡ with_shard (with_worker (core_of p h) w (record (ready (setting_of p.load) (core_of p h) w) {
     hand = Some (hand_locked q.hand q.key q.mode (((core_of p h).shards i).rows q.key) (entry_in ((core_of p h).shards i) q.key).write_lv (entry_in ((core_of p h).shards i) q.key).read_lv);
   })) i (shard_locked ((core_of p h).shards i) w q.key q.mode)
-  locks-after =
+  locks_after =
       let c : List Committed = committed_by p.load.workers w p.committed in
       let shards : Plain = record p { shards = slice_set p.shards i q.locked } in
       let new : seat_worker p.load q.new c ≡ record (seat_worker p.load q.seat c) { hand = hand_in p.load.procs q.new.txn } = ap (λ (x : PlainSeat). seat_worker p.load x c) q.others in
-      ap (λ (x : Plain). core_of x h) q.after ∙ seat-core shards h w q.seat q.new q.is
+      ap (λ (x : Plain). core_of x h) q.after ∙ seat_core shards h w q.seat q.new q.is
       ∙ (λ k. record (core_of p h) {
-        workers = at w ((new ∙ (λ l. record (sym (seat-worker p h w q.seat q.new q.is) l) { hand = q.granted l })
-            ∙ (λ l. record (sym is-ready l) { hand = Some (hand_locked q.hand q.key q.mode ((sym shard-is l).rows q.key) (entry_in (sym shard-is l) q.key).write_lv (entry_in (sym shard-is l) q.key).read_lv) })) k) (core_of p h).workers;
-        outboxes = same-outbox p h w q.seat q.new q.is (ap (λ (x : PlainSeat). tickets x.pending.calls) q.others) k;
-        shards = (reads-got (λ j (o : Option PlainShard). shard_in o) p.shards i q.locked (slice_get_within p.shards i q.shard q.shard_is)
-            ∙ ap (λ (x : Shard). at i x (core_of p h).shards) (q.locks ∙ ap (λ (x : Shard). shard_locked x w q.key q.mode) (sym shard-is))) k;
+        workers = at w ((new ∙ (λ l. record (sym (worker_of_seat p h w q.seat q.new q.is) l) { hand = q.granted l })
+            ∙ (λ l. record (sym is_ready l) { hand = Some (hand_locked q.hand q.key q.mode ((sym shard_is_that l).rows q.key) (entry_in (sym shard_is_that l) q.key).write_lv (entry_in (sym shard_is_that l) q.key).read_lv) })) k) (core_of p h).workers;
+        outboxes = same_outbox p h w q.seat q.new q.is (ap (λ (x : PlainSeat). tickets x.pending.calls) q.others) k;
+        shards = (reads_got (λ j (o : Option PlainShard). shard_in o) p.shards i q.locked (slice_get_within p.shards i q.shard q.shard_is)
+            ∙ ap (λ (x : Shard). at i x (core_of p h).shards) (q.locks ∙ ap (λ (x : Shard). shard_locked x w q.key q.mode) (sym shard_is_that))) k;
       })
 
-  pub takes-is : (ready (setting_of p.load) (core_of p h) w).hand ≡ Some q.hand
-  takes-is = ap (λ (x : Worker). x.hand) is-ready ∙ worker-hand
+  pub takes_is : (ready (setting_of p.load) (core_of p h) w).hand ≡ Some q.hand
+  takes_is = ap (λ (x : Worker). x.hand) is_ready ∙ worker_hand
 
-  pub takes-locks : Locks (setting_of p.load) w (core_of p h) (core_of p' h)
-  takes-locks = record {
+  pub takes_locks : Locks (setting_of p.load) w (core_of p h) (core_of p' h)
+  takes_locks = record {
     hand = q.hand;
     key = q.key;
     mode = q.mode;
-    is = ap (λ (x : Worker). x.hand) is-ready ∙ worker-hand;
+    is = ap (λ (x : Worker). x.hand) is_ready ∙ worker_hand;
     phase = q.wants.phase;
     next = q.wants.next;
-    free = λ c. none-conflicts (setting_of p.load) ((core_of p h).shards i) w q.key q.mode (subst (λ (x : Shard). (u : ℕ) → blocks (entry_in x q.key) w q.mode u ≡ false) (sym shard-is) q.free) c;
-    after = locks-after;
+    free = λ c. no_conflict (setting_of p.load) ((core_of p h).shards i) w q.key q.mode (subst (λ (x : Shard). (u : ℕ) → blocks (entry_in x q.key) w q.mode u ≡ false) (sym shard_is_that) q.free) c;
+    after = locks_after;
   }
 
-  pub takes-stands : (K : List (Act Txn)) → Carried p K h → Invariant (setting_of p.load) K (core_of p' h) → Stands p' K h
-  takes-stands K g inv =
-      let hand_phase = locked-phase q.hand q.key q.mode ((shard_of q.shard).rows q.key) (entry_in (shard_of q.shard) q.key).write_lv (entry_in (shard_of q.shard) q.key).read_lv ∙ q.wants.phase in
+  pub takes_stands : (K : List (Act Txn)) → Carried p K h → Invariant (setting_of p.load) K (core_of p' h) → Stands p' K h
+  takes_stands K g inv =
+      let hand_phase = locked_phase q.hand q.key q.mode ((shard_of q.shard).rows q.key) (entry_in (shard_of q.shard) q.key).write_lv (entry_in (shard_of q.shard) q.key).read_lv ∙ q.wants.phase in
       let opens : one_open p.load q.new ≤ one_open p.load q.seat =
-      (let a = open-running (hand_in p.load.procs q.new.txn) _ q.granted hand_phase in
-      let b = open-running (hand_in p.load.procs q.seat.txn) q.hand q.wants.is q.wants.phase in
+      (let a = open_running (hand_in p.load.procs q.new.txn) _ q.granted hand_phase in
+      let b = open_running (hand_in p.load.procs q.seat.txn) q.hand q.wants.is q.wants.phase in
       rw (a, b) (omega arith)) in
-      let r : Sound (record p { seats = slice_set p.seats w q.new }) = seat-sound p h w q.seat q.new q.is g.sound q.sound opens in
-      let within = seat-inside p h w q.seat q.new q.is in
+      let r : Sound (record p { seats = slice_set p.seats w q.new }) = seat_sound p h w q.seat q.new q.is g.sound q.sound opens in
+      let within = seat_inside p h w q.seat q.new q.is in
       let inv' : Invariant (setting_of p.load) K (core_of (record p { seats = slice_set p.seats w q.new; shards = slice_set p.shards i q.locked }) h) =
       subst (λ (x : Plain). Invariant (setting_of p.load) K (core_of x h)) q.after inv in
       subst (λ (x : Plain). Stands x K h) (sym q.after) (record {
@@ -137,10 +118,10 @@ module _ (p p' : Plain) (h : Hidden) (w : ℕ) (value : Value) (q : Takes w valu
         };
         inv = inv';
         order = g.order;
-        posted = each-got (λ k (t : PlainSeat). Paired (IsPieceOf p.load (anchors_at p)) t.outbox.pieces (h.posted k)) p.seats w q.new within
+        posted = each_got (λ k (t : PlainSeat). Paired (IsPieceOf p.load (anchors_at p)) t.outbox.pieces (h.posted k)) p.seats w q.new within
             (subst (λ (x : PlainSeat). Paired (IsPieceOf p.load (anchors_at p)) x.outbox.pieces (h.posted w)) (sym q.others) (g.posted w q.seat q.is)) g.posted;
         own = g.own;
-        placed = λ k x a e f. (each-got (λ l (y : PlainSeat). (b : Act Txn) → placed_in (hand_in p.load.procs y.txn) ≡ Some b → IsPieceOf p.load (anchors_at p) (record { start = y.start; bytes = bytes_in y.txn }) (Record b))
-            p.seats w q.new within (λ b d. absurd (let bad : None ≡ Some b = sym (unplaced-running (hand_in p.load.procs q.new.txn) _ q.granted hand_phase) ∙ d in cc)) (λ l y d b c. g.placed l y b d c)) k x e a f;
+        placed = λ k x a e f. (each_got (λ l (y : PlainSeat). (b : Act Txn) → placed_in (hand_in p.load.procs y.txn) ≡ Some b → IsPieceOf p.load (anchors_at p) (record { start = y.start; bytes = bytes_in y.txn }) (Record b))
+            p.seats w q.new within (λ b d. absurd (let bad : None ≡ Some b = sym (unplaced_running (hand_in p.load.procs q.new.txn) _ q.granted hand_phase) ∙ d in cc)) (λ l y d b c. g.placed l y b d c)) k x e a f;
         gathered = g.gathered;
       })

@@ -29,23 +29,23 @@ key_or k None = k
 key_or k (Some l) = l.0
 
 -- there is one lock that the worker is at
-pub same-key : (procs : List Proc) (o : Option Hand) (r r' : ℕ × Key × Mode) → IsAt procs o r → IsAt procs o r' → r.1 ≡ r'.1
-same-key procs o r r' t u =
+pub same_key : (procs : List Proc) (o : Option Hand) (r r' : ℕ × Key × Mode) → IsAt procs o r → IsAt procs o r' → r.1 ≡ r'.1
+same_key procs o r r' t u =
     let same : t.hand ≡ u.hand = ap (hand_or t.hand) (sym t.is ∙ u.is) in
     ap (key_or r.1) (sym t.next ∙ ap (λ (x : Hand). lock_of (stage procs x.call.call x.seen) x.held) same ∙ u.next)
 
-pub at-locking : (procs : List Proc) (o : Option Hand) (r : ℕ × Key × Mode) → IsAt procs o r → hand_phase procs o ≡ Locking
-at-locking procs o r t =
+pub at_locking : (procs : List Proc) (o : Option Hand) (r : ℕ × Key × Mode) → IsAt procs o r → hand_phase procs o ≡ Locking
+at_locking procs o r t =
     ap (hand_phase procs) t.is ∙ ap (phase_by procs t.hand) t.phase
     ∙ ap (λ (l : Option (Key × Mode)). running_phase l (stage procs t.hand.call.call t.hand.seen) t.hand.held) t.next
 
 module _ (p p' : Plain) (K : List (Act Txn)) (h : Hidden) (w : ℕ) (some value : Value) where
-  pub lock-told : (a : Acted) → ((r : ℕ × Key × Mode) → TellsLock p h w (Some r) → value ≡ ((core_of p h).shards (shard_number r.1)).rows r.1) → LockSteps p p' K h w (granted_by some a) → LockSteps p p' K h w (granted_by value a)
-  lock-told acted.Went is q =
+  pub lock_told : (a : Acted) → ((r : ℕ × Key × Mode) → TellsLock p h w (Some r) → value ≡ ((core_of p h).shards (shard_number r.1)).rows r.1) → LockSteps p p' K h w (granted_by some a) → LockSteps p p' K h w (granted_by value a)
+  lock_told acted.Went is q =
       let l = q.0.leads.0 in (
         q.0,
         (l.key, l.mode, record { hand = l.hand; is = l.is; next = l.next }, is (l.hand.call.number, l.key, l.mode) (record { hand = l.hand; is = l.is; phase = l.phase; number = refl; next = l.next })),
       )
-  lock-told (acted.Busy holder) is q = q
-  lock-told (acted.Other kind) is q = q
-  lock-told acted.NoMemory is q = q
+  lock_told (acted.Busy holder) is q = q
+  lock_told (acted.Other kind) is q = q
+  lock_told acted.NoMemory is q = q

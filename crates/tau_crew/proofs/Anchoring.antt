@@ -13,29 +13,29 @@ use Rattle.tau_desk.specs.Manages.{OnlyRoom, PlacesAnchor, told_raised}
 use Rattle.tau_desk.specs.Seats.{PlainManagerSeat}
 use Rattle.tau_crew_facts.specs.Spacing.{IsSpacing, newest}
 use Rattle.tau_crew_facts.specs.Writers.{HasWritten}
-use Rattle.tau_crew_facts.proofs.Spacing.{newest-more, spacing-places, spacing-stays}
+use Rattle.tau_crew_facts.proofs.Spacing.{newest_more, spacing_places, spacing_stays}
 use Rattle.tau_crew.specs.Gathering.{AreLong, raised_in, taken_in}
 use Rattle.tau_disk.specs.declared.disk.Disk.{Ghosts}
 use Rattle.tau_stream.specs.declared.writer.Writer.{Writer}
 use Rattle.tau_crew.specs.Driving.{IsApart, IsBlock, IsDriven, IsDrivenShort, KeepsSeat, own_of}
-use Rattle.tau_crew.proofs.Driving.{driven-same}
-use Rattle.tau_crew.proofs.Gathering.{long-append}
+use Rattle.tau_crew.proofs.Driving.{driven_same}
+use Rattle.tau_crew.proofs.Gathering.{long_append}
 
-set-elsewhere : (xs : List ℕ) (i j x : ℕ) → (i ≡ j → ⊥) → slice_index (slice_set xs i x) j ≡ slice_index xs j
-set-elsewhere [] i j x ne = refl
-set-elsewhere (y ∷ xs) zero zero x ne = absurd (ne refl)
-set-elsewhere (y ∷ xs) zero (suc j) x ne = refl
-set-elsewhere (y ∷ xs) (suc i) zero x ne = refl
-set-elsewhere (y ∷ xs) (suc i) (suc j) x ne = set-elsewhere xs i j x (λ e. ne (ap suc e))
+set_elsewhere : (xs : List ℕ) (i j x : ℕ) → (i ≡ j → ⊥) → slice_index (slice_set xs i x) j ≡ slice_index xs j
+set_elsewhere [] i j x ne = refl
+set_elsewhere (y ∷ xs) zero zero x ne = absurd (ne refl)
+set_elsewhere (y ∷ xs) zero (suc j) x ne = refl
+set_elsewhere (y ∷ xs) (suc i) zero x ne = refl
+set_elsewhere (y ∷ xs) (suc i) (suc j) x ne = set_elsewhere xs i j x (λ e. ne (ap suc e))
 
-pub keeps-itself : (s : PlainManagerSeat) → KeepsSeat s s
-keeps-itself s = record { table = refl; stream = refl; opened = refl; raised = refl; taken = refl; gathered = refl; stored = refl; long = λ a. a }
+pub keeps_itself : (s : PlainManagerSeat) → KeepsSeat s s
+keeps_itself s = record { table = refl; stream = refl; opened = refl; raised = refl; taken = refl; gathered = refl; stored = refl; long = λ a. a }
 
-pub keeps-same : (s s' : PlainManagerSeat) → s' ≡ s → KeepsSeat s s'
-keeps-same s s' e = subst (λ (x : PlainManagerSeat). KeepsSeat s x) (sym e) (keeps-itself s)
+pub keeps_same : (s s' : PlainManagerSeat) → s' ≡ s → KeepsSeat s s'
+keeps_same s s' e = subst (λ (x : PlainManagerSeat). KeepsSeat s x) (sym e) (keeps_itself s)
 
-pub keeps-on : (s1 s2 s3 : PlainManagerSeat) → KeepsSeat s1 s2 → KeepsSeat s2 s3 → KeepsSeat s1 s3
-keeps-on s1 s2 s3 p q = record {
+pub keeps_on : (s1 s2 s3 : PlainManagerSeat) → KeepsSeat s1 s2 → KeepsSeat s2 s3 → KeepsSeat s1 s3
+keeps_on s1 s2 s3 p q = record {
   table = q.table ∙ p.table;
   stream = q.stream ∙ p.stream;
   opened = q.opened ∙ p.opened;
@@ -47,21 +47,21 @@ keeps-on s1 s2 s3 p q = record {
 }
 
 -- another stream was looked at
-pub keeps-looked : (s s' : PlainManagerSeat) (other found : ℕ) → (other ≡ s.stream → ⊥) → s' ≡ record s { me = (sees_to other found s.me.0, s.me.1); seen = slice_set s.seen other found } → KeepsSeat s s'
-keeps-looked s s' other found ne e = record {
+pub keeps_looked : (s s' : PlainManagerSeat) (other found : ℕ) → (other ≡ s.stream → ⊥) → s' ≡ record s { me = (sees_to other found s.me.0, s.me.1); seen = slice_set s.seen other found } → KeepsSeat s s'
+keeps_looked s s' other found ne e = record {
   table = ap (λ (x : PlainManagerSeat). x.table_id) e;
   stream = ap (λ (x : PlainManagerSeat). x.stream) e;
   opened = ap (λ (x : PlainManagerSeat). x.me.0.opened) e;
   raised = ap (λ (x : PlainManagerSeat). raised_in x.me.0) e;
   taken = ap taken_in e;
   gathered = ap (λ (x : PlainManagerSeat). x.stock.gathered) e;
-  stored = ap (λ (x : PlainManagerSeat). slice_index x.seen s.stream) e ∙ set-elsewhere s.seen other s.stream found ne;
+  stored = ap (λ (x : PlainManagerSeat). slice_index x.seen s.stream) e ∙ set_elsewhere s.seen other s.stream found ne;
   long = λ a. subst (λ (x : PlainManagerSeat). AreLong x.stock.own.pieces) (sym e) a;
 }
 
 -- only room was made
-pub keeps-room : (s s' : PlainManagerSeat) → OnlyRoom s.stock s'.stock × (s' ≡ record s { stock = s'.stock }) → KeepsSeat s s'
-keeps-room s s' (o, e) = record {
+pub keeps_room : (s s' : PlainManagerSeat) → OnlyRoom s.stock s'.stock × (s' ≡ record s { stock = s'.stock }) → KeepsSeat s s'
+keeps_room s s' (o, e) = record {
   table = ap (λ (x : PlainManagerSeat). x.table_id) e;
   stream = ap (λ (x : PlainManagerSeat). x.stream) e;
   opened = ap (λ (x : PlainManagerSeat). x.me.0.opened) e;
@@ -73,8 +73,8 @@ keeps-room s s' (o, e) = record {
 }
 
 -- an anchor was placed
-pub keeps-placed : (l : Load) (s s' : PlainManagerSeat) → PlacesAnchor l s s' → KeepsSeat s s'
-keeps-placed l s s' p =
+pub keeps_placed : (l : Load) (s s' : PlainManagerSeat) → PlacesAnchor l s s' → KeepsSeat s s'
+keeps_placed l s s' p =
     let five : 5 ≤ length p.bytes = (let t = p.spelled [] in subst (λ (b : List ℕ). 5 ≤ length b) (sym t.text) (spelling_long One [] (entry.Anchor s.seen))) in
     record {
       table = ap (λ (x : PlainManagerSeat). x.table_id) p.after;
@@ -84,44 +84,44 @@ keeps-placed l s s' p =
       taken = ap taken_in p.after;
       gathered = p.puts.gathered;
       stored = ap (λ (x : PlainManagerSeat). slice_index x.seen s.stream) p.after;
-      long = λ a. subst AreLong (sym p.puts.pieces) (long-append s.stock.own.pieces (record { start = p.start; bytes = p.bytes } ∷ []) a (five, tt));
+      long = λ a. subst AreLong (sym p.puts.pieces) (long_append s.stock.own.pieces (record { start = p.start; bytes = p.bytes } ∷ []) a (five, tt));
     }
 
-pub keeps-anchored : (l : Load) (s1 s2 s3 : PlainManagerSeat) (r : Result Unit NoMemory) → KeepsSeat s1 s2 → OnOk r (PlacesAnchor l s2 s3) → OnErr r (s3 ≡ s2) → KeepsSeat s1 s3
-keeps-anchored l s1 s2 s3 (Ok u) k ok err = keeps-on s1 s2 s3 k (keeps-placed l s2 s3 ok)
-keeps-anchored l s1 s2 s3 (Err e) k ok err = keeps-on s1 s2 s3 k (keeps-same s2 s3 err)
+pub keeps_anchored : (l : Load) (s1 s2 s3 : PlainManagerSeat) (r : Result Unit NoMemory) → KeepsSeat s1 s2 → OnOk r (PlacesAnchor l s2 s3) → OnErr r (s3 ≡ s2) → KeepsSeat s1 s3
+keeps_anchored l s1 s2 s3 (Ok u) k ok err = keeps_on s1 s2 s3 k (keeps_placed l s2 s3 ok)
+keeps_anchored l s1 s2 s3 (Err e) k ok err = keeps_on s1 s2 s3 k (keeps_same s2 s3 err)
 
 -- no anchor is due
-pub apart-stays : (base before durable last placed : ℕ) (s s' : PlainManagerSeat) → IsApart base before last placed s → IsBlock before durable → durable < last + 65536 → s'.stream ≡ s.stream → s'.stock.anchors ≡ s.stock.anchors → IsApart base durable last placed s'
-apart-stays base before durable last placed s s' a block near stream anchors =
+pub apart_stays : (base before durable last placed : ℕ) (s s' : PlainManagerSeat) → IsApart base before last placed s → IsBlock before durable → durable < last + 65536 → s'.stream ≡ s.stream → s'.stock.anchors ≡ s.stock.anchors → IsApart base durable last placed s'
+apart_stays base before durable last placed s s' a block near stream anchors =
     let same : own_of s'.stream s'.stock.anchors ≡ own_of s.stream s.stock.anchors = ap (λ (j : ℕ). own_of j s'.stock.anchors) stream ∙ ap (own_of s.stream) anchors in
     record {
-      spacing = subst (λ (xs : List ℕ). IsSpacing base durable xs) (sym same) (spacing-stays base before durable (own_of s.stream s.stock.anchors) a.spacing block.0 (let e = a.last_is in omega (arith, near, e)));
+      spacing = subst (λ (xs : List ℕ). IsSpacing base durable xs) (sym same) (spacing_stays base before durable (own_of s.stream s.stock.anchors) a.spacing block.0 (let e = a.last_is in omega (arith, near, e)));
       last_is = a.last_is ∙ ap (newest base) (sym same);
       placed_is = a.placed_is ∙ ap (length {A = List ℕ}) (sym anchors);
     }
 
 -- one is placed, whose own component is what is durable now
-pub apart-places : (base before durable last placed : ℕ) (s s' : PlainManagerSeat) (v : List ℕ) → IsApart base before last placed s → IsBlock before durable → last + 65536 ≤ durable → s'.stream ≡ s.stream → s'.stock.anchors ≡ s.stock.anchors ++ v ∷ [] → slice_index v s.stream ≡ durable →
+pub apart_places : (base before durable last placed : ℕ) (s s' : PlainManagerSeat) (v : List ℕ) → IsApart base before last placed s → IsBlock before durable → last + 65536 ≤ durable → s'.stream ≡ s.stream → s'.stock.anchors ≡ s.stock.anchors ++ v ∷ [] → slice_index v s.stream ≡ durable →
     IsApart base durable durable (placed + 1) s'
-apart-places base before durable last placed s s' v a block due stream anchors own =
+apart_places base before durable last placed s s' v a block due stream anchors own =
     let xs : List ℕ = own_of s.stream s.stock.anchors in
     let all : own_of s'.stream s'.stock.anchors ≡ xs ++ durable ∷ [] =
     ap (λ (j : ℕ). own_of j s'.stock.anchors) stream ∙ ap (own_of s.stream) anchors ∙ map-append (λ (p : List ℕ). slice_index p s.stream) s.stock.anchors (v ∷ []) ∙ ap (λ (k : ℕ). own_of s.stream s.stock.anchors ++ k ∷ []) own in
     record {
-      spacing = subst (λ (ys : List ℕ). IsSpacing base durable ys) (sym all) (spacing-places base before durable xs a.spacing block.1 (let e = a.last_is in omega (arith, due, e)));
-      last_is = sym (ap (newest base) all ∙ newest-more base durable xs);
+      spacing = subst (λ (ys : List ℕ). IsSpacing base durable ys) (sym all) (spacing_places base before durable xs a.spacing block.1 (let e = a.last_is in omega (arith, due, e)));
+      last_is = sym (ap (newest base) all ∙ newest_more base durable xs);
       placed_is = (let e = ap (length {A = List ℕ}) anchors in let f = length-append s.stock.anchors (v ∷ []) in let d = a.placed_is in omega (arith, e, f, d));
     }
 
 -- such a step leaves what the loop keeps
-pub driven-keeps : {D : Type 0} {G : Ghosts D} (n j : ℕ) (base : List ℕ) (w0 : Writer D G) (s s' : PlainManagerSeat) (w : Writer D G) → IsDriven n j base w0 s w → KeepsSeat s s' → IsDriven n j base w0 s' w
-driven-keeps n j base w0 s s' w d k =
-    driven-same n j base w0 s s' w d k.stream k.taken (subst (λ (i : ℕ). slice_index s'.seen i ≡ slice_index s.seen i) d.stream k.stored) k.gathered (k.long d.long) k.raised
+pub driven_keeps : {D : Type 0} {G : Ghosts D} (n j : ℕ) (base : List ℕ) (w0 : Writer D G) (s s' : PlainManagerSeat) (w : Writer D G) → IsDriven n j base w0 s w → KeepsSeat s s' → IsDriven n j base w0 s' w
+driven_keeps n j base w0 s s' w d k =
+    driven_same n j base w0 s s' w d k.stream k.taken (subst (λ (i : ℕ). slice_index s'.seen i ≡ slice_index s.seen i) d.stream k.stored) k.gathered (k.long d.long) k.raised
 
 -- a step that places no anchor and stores nothing
-pub apart-same : (base durable last placed : ℕ) (s s' : PlainManagerSeat) → IsApart base durable last placed s → s'.stream ≡ s.stream → s'.stock.anchors ≡ s.stock.anchors → IsApart base durable last placed s'
-apart-same base durable last placed s s' a stream anchors =
+pub apart_same : (base durable last placed : ℕ) (s s' : PlainManagerSeat) → IsApart base durable last placed s → s'.stream ≡ s.stream → s'.stock.anchors ≡ s.stock.anchors → IsApart base durable last placed s'
+apart_same base durable last placed s s' a stream anchors =
     let same : own_of s'.stream s'.stock.anchors ≡ own_of s.stream s.stock.anchors = ap (λ (j : ℕ). own_of j s'.stock.anchors) stream ∙ ap (own_of s.stream) anchors in
     record {
       spacing = subst (λ (xs : List ℕ). IsSpacing base durable xs) (sym same) a.spacing;
@@ -130,8 +130,8 @@ apart-same base durable last placed s s' a stream anchors =
     }
 
 -- the stop was raised
-pub short-stopped : {D : Type 0} {G : Ghosts D} (n j : ℕ) (base : List ℕ) (w0 : Writer D G) (s s' : PlainManagerSeat) (w : Writer D G) → IsDrivenShort n j base w0 s w → s' ≡ record s { me = (told_raised s.me.0, s.me.1) } → IsDrivenShort n j base w0 s' w
-short-stopped n j base w0 s s' w d e = record {
+pub short_stopped : {D : Type 0} {G : Ghosts D} (n j : ℕ) (base : List ℕ) (w0 : Writer D G) (s s' : PlainManagerSeat) (w : Writer D G) → IsDrivenShort n j base w0 s w → s' ≡ record s { me = (told_raised s.me.0, s.me.1) } → IsDrivenShort n j base w0 s' w
+short_stopped n j base w0 s s' w d e = record {
   stream = ap (λ (x : PlainManagerSeat). x.stream) e ∙ d.stream;
   stored = ap (λ (x : PlainManagerSeat). slice_index x.seen j) e ∙ d.stored;
   written =

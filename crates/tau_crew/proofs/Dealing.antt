@@ -7,7 +7,7 @@ use Rattle.std.proofs.lemmas.Bool.Decides.{leb_tells}
 use Rattle.atomic_table.specs.Seated.{TableId}
 use Rattle.tau_disk.specs.declared.disk.Disk.{Ghosts}
 use Rattle.tau_stream.specs.declared.writer.Writer.{Writer}
-use Rattle.tau_core.proofs.Lists.{got-other}
+use Rattle.tau_core.proofs.Lists.{got_other}
 use Rattle.tau_core.specs.State.{Plain}
 use Rattle.tau_rule.specs.First.{clerk_share, first_view, manager_share, outer_share, role_at, roles_below, share_at, worker_share}
 use Rattle.tau_rule.specs.Heads.{left_by, role_or, split_off, without}
@@ -19,9 +19,8 @@ use Rattle.tau_step.specs.RunTold.{IsNew}
 use Rattle.tau_desk.specs.Ends.{IsClerkSplit, IsFirst, IsManagerSplit, IsWhole}
 use Rattle.tau_desk.specs.Shares.{PlainStock}
 use Rattle.tau_machine.specs.State.{Ticket}
-use Rattle.tau_run.proofs.Logs.{some_within}
 use Rattle.tau_crew_facts.specs.Telling.{IsTelling}
-use Rattle.tau_crew_facts.proofs.Telling.{telling-begins}
+use Rattle.tau_crew_facts.proofs.Telling.{telling_begins}
 use Rattle.tau_desk.specs.Manages.{acked_in, acked_in_share, managed_in, managed_in_share}
 use Rattle.tau_desk.specs.Seats.{Heads, Manages, PlainClerkSeat, PlainHead, PlainManagerSeat}
 use Rattle.tau_crew_facts.specs.Writers.{SeenNow}
@@ -30,24 +29,16 @@ use Rattle.tau_crew.specs.Dealing.{AreDealt, DealsOne, IsDealing, IsDealt}
 use Rattle.tau_step.specs.Whole.{IsBegun}
 use Rattle.tau_crew.specs.Driving.{IsManagerAt}
 use Rattle.tau_crew.specs.Gathering.{raised_in}
-use Rattle.tau_crew.proofs.Gathering.{managed-anchors, managed-gathered, managed-own}
-use Rattle.tau_crew.proofs.ManagerEnds.{manager-begins}
-
--- another role stays
-role-stays : (r u : ℕ) (rs : List (ℕ × Role)) → (u ≡ r → ⊥) → role_in u (without r rs) ≡ role_in u rs
-role-stays r u [] ne = refl
-role-stays r u (x ∷ xs) ne = elim (cases_eq x.0 r) [
-  | inl is ↦
-      ap (λ (b : Bool). role_in u (cond b (without r xs) (x ∷ without r xs))) (eq-eqb x.0 r is) ∙ role-stays r u xs ne
-      ∙ sym (ap (λ (b : Bool). cond b (Some x.1) (role_in u xs)) (ne_eqb x.0 u (λ e. ne (sym e ∙ is))))
-  | inr off ↦
-      ap (λ (b : Bool). role_in u (cond b (without r xs) (x ∷ without r xs))) (ne_eqb x.0 r off)
-      ∙ ap (λ (o : Option Role). cond (x.0 == u) (Some x.1) o) (role-stays r u xs ne)
-]
+use Rattle.tau_crew.proofs.Gathering.{managed_anchors, managed_gathered, managed_own}
+use Rattle.tau_crew.proofs.ManagerEnds.{manager_begins}
+use Rattle.tau_base.proofs.Lists.{some_at, got_more}
+use Rattle.tau_desk.proofs.SplittingOff.{role_stays}
+use Rattle.tau_base.proofs.Logic.{some_is}
+use Rattle.tau_desk.proofs.Beginning.{role_below}
 
 -- a manager's share in the opening
-share-is : (first : Plain) (j : ℕ) → j < first.load.streams → share_at first (manager_role first.load j) ≡ manager_share first (manager_role first.load j)
-share-is first j lt = elim (leb_tells (manager_role first.load j + 1) first.load.workers) [
+share_is : (first : Plain) (j : ℕ) → j < first.load.streams → share_at first (manager_role first.load j) ≡ manager_share first (manager_role first.load j)
+share_is first j lt = elim (leb_tells (manager_role first.load j + 1) first.load.workers) [
   | inl a ↦ absurd (let low = a.1 in omega (arith, low))
   | inr a ↦
       ap (λ (b : Bool). if b then worker_share first (manager_role first.load j) else outer_share first (manager_role first.load j)) a.0
@@ -57,18 +48,9 @@ share-is first j lt = elim (leb_tells (manager_role first.load j + 1) first.load
       ]
 ]
 
-got-last : {A : Type 0} (xs : List A) (y z : A) (j : ℕ) → slice_get (xs ++ y ∷ []) j ≡ Some z → (slice_get xs j ≡ Some z) ⊎ ((j ≡ length xs) × (y ≡ z))
-got-last [] y z zero e = inr (refl, (let f : y ≡ z = cc e in f))
-got-last [] y z (suc j) e = inl e
-got-last (x ∷ xs) y z zero e = inl e
-got-last (x ∷ xs) y z (suc j) e = elim (got-last xs y z j e) [ inl f ↦ inl f | inr f ↦ inr (ap suc f.0, f.1) ]
-
-same-some : {A : Type 0} (x y : A) → Some x ≡ Some y → x ≡ y
-same-some x y e = cc e
-
 -- one more has left
-pub dealing-more : (first : Plain) (table : TableId) (k : ℕ) (h h' : PlainHead) (s : PlainManagerSeat) → IsDealing first table k h → k < first.load.streams → IsManagerSplit first.load k h h' s → IsDealing first table (k + 1) h'
-dealing-more first table k h h' s d lt split =
+pub dealing_more : (first : Plain) (table : TableId) (k : ℕ) (h h' : PlainHead) (s : PlainManagerSeat) → IsDealing first table k h → k < first.load.streams → IsManagerSplit first.load k h h' s → IsDealing first table (k + 1) h'
+dealing_more first table k h h' s d lt split =
     let me : h'.me.0 ≡ left_by (manager_role first.load k) h.me.0 = ap (λ (m : Sat). m.0) split.split.head_is in
     record {
       own = ap (λ (x : PlainHead). x.table_id) split.left ∙ d.own;
@@ -78,12 +60,12 @@ dealing-more first table k h h' s d lt split =
           (let f = d.there j (omega (arith, le)) low in
           let ne : j ≡ k → ⊥ = (λ e. omega (arith, e, le)) in (
             f.0,
-            ap (λ (x : PlainHead). slice_get x.managers j) split.left ∙ got-other h.managers k j None ne ∙ f.1,
-            ap (has (manager_role first.load j)) me ∙ role-stays (manager_role first.load k) (manager_role first.load j) h.me.0.roles (λ e. ne (omega (arith, e))) ∙ f.2,
+            ap (λ (x : PlainHead). slice_get x.managers j) split.left ∙ got_other h.managers k j None ne ∙ f.1,
+            ap (has (manager_role first.load j)) me ∙ role_stays (manager_role first.load k) (manager_role first.load j) h.me.0.roles (λ e. ne (omega (arith, e))) ∙ f.2,
           ));
       clerk = (
         ap (λ (x : PlainHead). x.clerk) split.left ∙ d.clerk.0,
-        ap (has (clerk_role first.load)) me ∙ role-stays (manager_role first.load k) (clerk_role first.load) h.me.0.roles (λ e. omega (arith, e, lt)) ∙ d.clerk.1,
+        ap (has (clerk_role first.load)) me ∙ role_stays (manager_role first.load k) (clerk_role first.load) h.me.0.roles (λ e. omega (arith, e, lt)) ∙ d.clerk.1,
       );
     }
 
@@ -96,12 +78,12 @@ dealt {D} {G} seen_now first table bases k h h' w job d lt split manages new lon
     let me : s.me.0 ≡ split_off r h.me.0 = ap (λ (m : Sat). m.0) split.split.new_is in
     let role : role_or (role_in r h.me.0.roles) ≡ role_at first r = ap role_or (d.there k (omega arith) lt).2 in
     let managed : managed_in s.me.0 ≡ managed_in_share (manager_share first r) =
-    ap managed_in me ∙ ap (λ (x : Role). managed_in_share x.share) role ∙ ap managed_in_share (share-is first k lt) in
+    ap managed_in me ∙ ap (λ (x : Role). managed_in_share x.share) role ∙ ap managed_in_share (share_is first k lt) in
     let offset : r - first.load.workers ≡ k = omega arith in
     let base_is : slice_index first.load.opening.ends (r - first.load.workers) ≡ length (bases k) = ap (slice_index first.load.opening.ends) offset ∙ sym long in
     let begun : IsManagerAt first.load.streams k (bases k) w s w (length (bases k)) 0 false =
-    manager-begins seen_now first.load.streams k (bases k) s w new split.stream (ap (λ (g : Managed). g.taken) managed) (ap (λ (v : List ℕ). slice_index v k) (split.seen ∙ d.seen) ∙ sym long)
-    (sym (managed-gathered s manages) ∙ ap (λ (g : Managed). g.gathered) managed ∙ base_is) (sym (managed-anchors s manages) ∙ ap (λ (g : Managed). g.anchors) managed) (sym (managed-own s manages) ∙ ap (λ (g : Managed). g.own) managed)
+    manager_begins seen_now first.load.streams k (bases k) s w new split.stream (ap (λ (g : Managed). g.taken) managed) (ap (λ (v : List ℕ). slice_index v k) (split.seen ∙ d.seen) ∙ sym long)
+    (sym (managed_gathered s manages) ∙ ap (λ (g : Managed). g.gathered) managed ∙ base_is) (sym (managed_anchors s manages) ∙ ap (λ (g : Managed). g.anchors) managed) (sym (managed_own s manages) ∙ ap (λ (g : Managed). g.own) managed)
     (ap raised_in me ∙ ap (λ (x : Role). x.raised) role) in
     record {
       own = split.table ∙ d.own;
@@ -116,100 +98,93 @@ dealt {D} {G} seen_now first table bases k h h' w job d lt split manages new lon
     }
 
 -- the jobs with it
-pub dealt-more : {D : Type 0} {G : Ghosts D} (first : Plain) (table : TableId) (bases : ℕ → List ℕ) (ws : List (Writer D G)) (k : ℕ) (w : Writer D G) (jobs : List (ManagerJob D G)) (job : ManagerJob D G) → AreDealt first table bases ws k jobs → slice_get ws k ≡ Some w → IsDealt first table bases k w job →
+pub dealt_more : {D : Type 0} {G : Ghosts D} (first : Plain) (table : TableId) (bases : ℕ → List ℕ) (ws : List (Writer D G)) (k : ℕ) (w : Writer D G) (jobs : List (ManagerJob D G)) (job : ManagerJob D G) → AreDealt first table bases ws k jobs → slice_get ws k ≡ Some w → IsDealt first table bases k w job →
     AreDealt first table bases ws (k + 1) (jobs ++ job ∷ [])
-dealt-more {D} {G} first table bases ws k w jobs job a is d = record {
-  count = (let e = a.count in let f = length-more jobs job in omega (arith, e, f));
-  each = λ j x y there got. elim (got-last jobs job y j got) [
+dealt_more {D} {G} first table bases ws k w jobs job a is d = record {
+  count = (let e = a.count in let f = length_more jobs job in omega (arith, e, f));
+  each = λ j x y there got. elim (got_more jobs job y j got) [
     | inl old ↦ a.each j x y there old
     | inr (at, same) ↦
         let here : j ≡ k = at ∙ a.count in
-        let writer : w ≡ x = same-some w x (sym is ∙ ap (slice_get ws) (sym here) ∙ there) in
+        let writer : w ≡ x = some_is w x (sym is ∙ ap (slice_get ws) (sym here) ∙ there) in
         subst (λ (z : ManagerJob D G). IsDealt first table bases j x z) same (subst (λ (i : ℕ). IsDealt first table bases i x job) (sym here) (subst (λ (v : Writer D G). IsDealt first table bases k v job) writer d))
   ];
 }
   where
-    length-more : {A : Type 0} (xs : List A) (y : A) → length (xs ++ y ∷ []) ≡ length xs + 1
-    length-more [] y = refl
-    length-more (x ∷ xs) y = let e = length-more xs y in omega (arith, e)
+    length_more : {A : Type 0} (xs : List A) (y : A) → length (xs ++ y ∷ []) ≡ length xs + 1
+    length_more [] y = refl
+    length_more (x ∷ xs) y = let e = length_more xs y in omega (arith, e)
 
-pub first-got : {A : Type 0} (xs : List A) (y : A) → 0 < length xs → y ≡ slice_index_or xs 0 y → slice_get xs 0 ≡ Some y
-first-got [] y lt e = absurd (omega (arith, lt))
-first-got (x ∷ xs) y lt e = ap Some (sym e)
+pub first_got : {A : Type 0} (xs : List A) (y : A) → 0 < length xs → y ≡ slice_index_or xs 0 y → slice_get xs 0 ≡ Some y
+first_got [] y lt e = absurd (omega (arith, lt))
+first_got (x ∷ xs) y lt e = ap Some (sym e)
 
-pub first-removed : {A : Type 0} (xs : List A) → remove xs 0 ≡ drop 1 xs
-first-removed [] = refl
-first-removed (x ∷ xs) = refl
+pub first_removed : {A : Type 0} (xs : List A) → remove xs 0 ≡ drop 1 xs
+first_removed [] = refl
+first_removed (x ∷ xs) = refl
 
-drop-none : {A : Type 0} (xs : List A) (n : ℕ) → xs ≡ [] → drop n xs ≡ []
-drop-none xs zero e = e
-drop-none [] (suc n) e = refl
-drop-none (x ∷ xs) (suc n) e = absurd (cc e)
+drop_none : {A : Type 0} (xs : List A) (n : ℕ) → xs ≡ [] → drop n xs ≡ []
+drop_none xs zero e = e
+drop_none [] (suc n) e = refl
+drop_none (x ∷ xs) (suc n) e = absurd (cc e)
 
-pub drop-more : {A : Type 0} (xs : List A) (k : ℕ) → drop 1 (drop k xs) ≡ drop (k + 1) xs
-drop-more [] zero = refl
-drop-more {A} [] (suc k) = (let none : List A = [] in sym (drop-none none (suc k + 1) refl))
-drop-more (x ∷ xs) zero = refl
-drop-more (x ∷ xs) (suc k) = drop-more xs k ∙ ap (λ (i : ℕ). drop i (x ∷ xs)) (let e : suc (k + 1) ≡ suc k + 1 = omega arith in e)
+pub drop_more : {A : Type 0} (xs : List A) (k : ℕ) → drop 1 (drop k xs) ≡ drop (k + 1) xs
+drop_more [] zero = refl
+drop_more {A} [] (suc k) = (let none : List A = [] in sym (drop_none none (suc k + 1) refl))
+drop_more (x ∷ xs) zero = refl
+drop_more (x ∷ xs) (suc k) = drop_more xs k ∙ ap (λ (i : ℕ). drop i (x ∷ xs)) (let e : suc (k + 1) ≡ suc k + 1 = omega arith in e)
 
-pub got-dropped : {A : Type 0} (xs : List A) (k : ℕ) → slice_get (drop k xs) 0 ≡ slice_get xs k
-got-dropped [] zero = refl
-got-dropped [] (suc k) = refl
-got-dropped (x ∷ xs) zero = refl
-got-dropped (x ∷ xs) (suc k) = got-dropped xs k
+pub got_dropped : {A : Type 0} (xs : List A) (k : ℕ) → slice_get (drop k xs) 0 ≡ slice_get xs k
+got_dropped [] zero = refl
+got_dropped [] (suc k) = refl
+got_dropped (x ∷ xs) zero = refl
+got_dropped (x ∷ xs) (suc k) = got_dropped xs k
 
-pub one-longer : {A : Type 0} (xs ys : List A) (y : A) (k : ℕ) → ys ≡ xs ++ y ∷ [] → length xs ≡ k → length ys ≡ k + 1
-one-longer {A} xs ys y k e l = (let a = ap (length {A = A}) e in let b = longer xs in omega (arith, a, b, l))
+pub one_longer : {A : Type 0} (xs ys : List A) (y : A) (k : ℕ) → ys ≡ xs ++ y ∷ [] → length xs ≡ k → length ys ≡ k + 1
+one_longer {A} xs ys y k e l = (let a = ap (length {A = A}) e in let b = longer xs in omega (arith, a, b, l))
   where
     longer : (zs : List A) → length (zs ++ y ∷ []) ≡ length zs + 1
     longer [] = refl
     longer (z ∷ zs) = let e = longer zs in omega (arith, e)
 
 -- one more manager was dealt
-pub deals-more : {D : Type 0} {G : Ghosts D} (first : Plain) (table : TableId) (bases : ℕ → List ℕ) (ws left left' : List (Writer D G)) (k : ℕ) (jobs jobs' : List (ManagerJob D G)) → IsBegun bases ws first.load.opening → length ws ≡ first.load.streams → k < first.load.streams → left ≡ drop k ws →
+pub deals_more : {D : Type 0} {G : Ghosts D} (first : Plain) (table : TableId) (bases : ℕ → List ℕ) (ws left left' : List (Writer D G)) (k : ℕ) (jobs jobs' : List (ManagerJob D G)) → IsBegun bases ws first.load.opening → length ws ≡ first.load.streams → k < first.load.streams → left ≡ drop k ws →
     AreDealt first table bases ws k jobs → DealsOne first table k left left' jobs jobs' → AreDealt first table bases ws (k + 1) jobs'
-deals-more {D} {G} first table bases ws left left' k jobs jobs' b count lt left_is a d =
-    let there : slice_get ws k ≡ Some d.writer = sym (got-dropped ws k) ∙ ap (λ (xs : List (Writer D G)). slice_get xs 0) (sym left_is) ∙ d.is in
+deals_more {D} {G} first table bases ws left left' k jobs jobs' b count lt left_is a d =
+    let there : slice_get ws k ≡ Some d.writer = sym (got_dropped ws k) ∙ ap (λ (xs : List (Writer D G)). slice_get xs 0) (sym left_is) ∙ d.is in
     let new : IsNew first.load.streams k (bases k) d.writer = subst (λ (n : ℕ). IsNew n k (bases k) d.writer) count (b.new k d.writer there) in
     let long = b.long k (let e = b.count in omega (arith, e, count, lt)) in
-    subst (λ (xs : List (ManagerJob D G)). AreDealt first table bases ws (k + 1) xs) (sym d.jobs_are) (dealt-more first table bases ws k d.writer jobs d.job a there (d.dealt bases new long))
+    subst (λ (xs : List (ManagerJob D G)). AreDealt first table bases ws (k + 1) xs) (sym d.jobs_are) (dealt_more first table bases ws k d.writer jobs d.job a there (d.dealt bases new long))
 
 -- ---- at first
 
-role-below : (first : Plain) (n u : ℕ) → u < n → role_in u (roles_below first n) ≡ Some (role_at first u)
-role-below first zero u lt = absurd (omega (arith, lt))
-role-below first (suc n) u lt = elim (cases_eq n u) [
-  | inl is ↦ ap (λ (b : Bool). cond b (Some (role_at first n)) (role_in u (roles_below first n))) (eq-eqb n u is) ∙ ap (λ (k : ℕ). Some (role_at first k)) is
-  | inr ne ↦ ap (λ (b : Bool). cond b (Some (role_at first n)) (role_in u (roles_below first n))) (ne_eqb n u ne) ∙ role-below first n u (omega (arith, lt, ne))
-]
-
 -- nothing has left the head of a desk that has just opened
-pub dealing-begins : (first : Plain) (table : TableId) (h : PlainHead) → IsFirst first h.me → IsWhole h → Heads h → h.table_id ≡ table → IsDealing first table 0 h
-dealing-begins first table h f whole heads own =
+pub dealing_begins : (first : Plain) (table : TableId) (h : PlainHead) → IsFirst first h.me → IsWhole h → Heads h → h.table_id ≡ table → IsDealing first table 0 h
+dealing_begins first table h f whole heads own =
     let me : h.me.0 ≡ first_view first = ap (λ (m : Sat). m.0) f.knows in
     let opened : h.me.0.opened ≡ Some first = ap (λ (v : Knows). v.opened) me in
-    let same : heads.origin ≡ first = same-some heads.origin first (sym heads.opened ∙ opened) in
+    let same : heads.origin ≡ first = some_is heads.origin first (sym heads.opened ∙ opened) in
     let count : length h.managers ≡ first.load.streams = heads.manager_count ∙ ap (λ (p : Plain). p.load.streams) same in
-    let role : (u : ℕ) → u < first.load.workers + first.load.streams + 1 → has u h.me.0 ≡ Some (role_at first u) = (λ u lt. ap (has u) me ∙ role-below first (first.load.workers + first.load.streams + 1) u lt) in
+    let role : (u : ℕ) → u < first.load.workers + first.load.streams + 1 → has u h.me.0 ≡ Some (role_at first u) = (λ u lt. ap (has u) me ∙ role_below first (first.load.workers + first.load.streams + 1) u lt) in
     record {
       own = own;
       opened = opened;
       seen = sym heads.seen_is ∙ ap (λ (v : Knows). v.seen) me;
       there = λ j le lt.
-          (let got = some_within h.managers j (omega (arith, count, lt)) in
-          let o = stock-there got.0 (λ e. whole.managers j (got.1 ∙ ap Some e)) in
+          (let got = some_at h.managers j (omega (arith, count, lt)) in
+          let o = stock_there got.0 (λ e. whole.managers j (got.1 ∙ ap Some e)) in
           (o.0, got.1 ∙ ap Some o.1, role (manager_role first.load j) (omega (arith, lt))));
       clerk = (whole.clerk, role (clerk_role first.load) (omega arith));
     }
   where
-    stock-there : (x : Option PlainStock) → (x ≡ None → ⊥) → (o : PlainStock) × (x ≡ Some o)
-    stock-there None no_stock = absurd (no_stock refl)
-    stock-there (Some o) no_stock = (o, refl)
+    stock_there : (x : Option PlainStock) → (x ≡ None → ⊥) → (o : PlainStock) × (x ≡ Some o)
+    stock_there None no_stock = absurd (no_stock refl)
+    stock_there (Some o) no_stock = (o, refl)
 
 -- ---- the clerk
 
-clerk-share-is : (first : Plain) → share_at first (clerk_role first.load) ≡ clerk_share first
-clerk-share-is first = elim (leb_tells (clerk_role first.load + 1) first.load.workers) [
+clerk_share_is : (first : Plain) → share_at first (clerk_role first.load) ≡ clerk_share first
+clerk_share_is first = elim (leb_tells (clerk_role first.load + 1) first.load.workers) [
   | inl a ↦ absurd (let low = a.1 in omega (arith, low))
   | inr a ↦
       ap (λ (b : Bool). if b then worker_share first (clerk_role first.load) else outer_share first (clerk_role first.load)) a.0
@@ -219,8 +194,8 @@ clerk-share-is first = elim (leb_tells (clerk_role first.load + 1) first.load.wo
       ]
 ]
 
-none-acked : (n w : ℕ) (acked : List (List Ticket)) → acked ≡ replicate n [] → slice_index_or acked w [] ≡ []
-none-acked n w acked e = ap (λ (xs : List (List Ticket)). slice_index_or xs w []) e ∙ at n w
+none_acked : (n w : ℕ) (acked : List (List Ticket)) → acked ≡ replicate n [] → slice_index_or acked w [] ≡ []
+none_acked n w acked e = ap (λ (xs : List (List Ticket)). slice_index_or xs w []) e ∙ at n w
   where
     no_tickets : List Ticket
     no_tickets = []
@@ -231,13 +206,13 @@ none-acked n w acked e = ap (λ (xs : List (List Ticket)). slice_index_or xs w [
     at (suc n) (suc w) = at n w
 
 -- the clerk's seat has told nothing
-pub clerk-begins : (first : Plain) (table : TableId) (k : ℕ) (h h' : PlainHead) (s : PlainClerkSeat) → IsDealing first table k h → IsClerkSplit first.load h h' s → (s.table_id ≡ table) × (s.me.0.opened ≡ Some first) × IsTelling first.load (acked_in s.me.0) s.seen []
-clerk-begins first table k h h' s d split =
+pub clerk_begins : (first : Plain) (table : TableId) (k : ℕ) (h h' : PlainHead) (s : PlainClerkSeat) → IsDealing first table k h → IsClerkSplit first.load h h' s → (s.table_id ≡ table) × (s.me.0.opened ≡ Some first) × IsTelling first.load (acked_in s.me.0) s.seen []
+clerk_begins first table k h h' s d split =
     let r : ℕ = clerk_role first.load in
     let me : s.me.0 ≡ split_off r h.me.0 = ap (λ (m : Sat). m.0) split.split.new_is in
     let role : role_or (role_in r h.me.0.roles) ≡ role_at first r = ap role_or d.clerk.1 in
-    let acked : acked_in s.me.0 ≡ replicate first.load.workers [] = ap acked_in me ∙ ap (λ (x : Role). acked_in_share x.share) role ∙ ap acked_in_share (clerk-share-is first) in (
+    let acked : acked_in s.me.0 ≡ replicate first.load.workers [] = ap acked_in me ∙ ap (λ (x : Role). acked_in_share x.share) role ∙ ap acked_in_share (clerk_share_is first) in (
       split.table ∙ d.own,
       ap (λ (v : Knows). v.opened) me ∙ d.opened,
-      telling-begins first.load (acked_in s.me.0) s.seen (λ w lt. none-acked first.load.workers w (acked_in s.me.0) acked),
+      telling_begins first.load (acked_in s.me.0) s.seen (λ w lt. none_acked first.load.workers w (acked_in s.me.0) acked),
     )

@@ -14,46 +14,46 @@ use Rattle.tau_rule.specs.Positions.{sees_to}
 use Rattle.tau_desk.specs.Manages.{told_raised}
 use Rattle.tau_desk.specs.Seats.{Manages, PlainManagerSeat}
 use Rattle.tau_crew_facts.specs.Writers.{CountsNow, HasWritten, IsCurrent, IsManaging, OnlyNow, SeenNow}
-use Rattle.tau_crew_facts.proofs.ManagerWriter.{broke, bytes-append, flushed, gathers, gathers-short}
+use Rattle.tau_crew_facts.proofs.ManagerWriter.{broke, bytes_append, flushed, gathers, gathers_short}
 use Rattle.tau_crew.specs.Gathering.{AreLong, GathersMore, raised_in, taken_in}
 use Rattle.tau_crew.specs.Driving.{IsDriven, IsDrivenShort, IsFlushed}
-use Rattle.tau_crew.proofs.Gathering.{long-back}
+use Rattle.tau_crew.proofs.Gathering.{long_back}
 
-none-long : (xs : List ℕ) → length xs ≡ 0 → xs ≡ []
-none-long [] e = refl
-none-long (x ∷ xs) e = absurd (omega (arith, e))
+none_long : (xs : List ℕ) → length xs ≡ 0 → xs ≡ []
+none_long [] e = refl
+none_long (x ∷ xs) e = absurd (omega (arith, e))
 
-drop-long : (xs : List ℕ) (k : ℕ) → k ≡ length xs → drop k xs ≡ []
-drop-long xs k e = subst (λ (i : ℕ). drop i xs ≡ []) (sym e) (all xs)
+drop_long : (xs : List ℕ) (k : ℕ) → k ≡ length xs → drop k xs ≡ []
+drop_long xs k e = subst (λ (i : ℕ). drop i xs ≡ []) (sym e) (all xs)
   where
     all : (ys : List ℕ) → drop (length ys) ys ≡ []
     all [] = refl
     all (y ∷ ys) = all ys
 
-pub set-there : (xs : List ℕ) (j x : ℕ) → j < length xs → slice_index (slice_set xs j x) j ≡ x
-set-there [] j x lt = absurd (omega (arith, lt))
-set-there (y ∷ xs) zero x lt = refl
-set-there (y ∷ xs) (suc j) x lt = set-there xs j x (omega (arith, lt))
+pub set_there : (xs : List ℕ) (j x : ℕ) → j < length xs → slice_index (slice_set xs j x) j ≡ x
+set_there [] j x lt = absurd (omega (arith, lt))
+set_there (y ∷ xs) zero x lt = refl
+set_there (y ∷ xs) (suc j) x lt = set_there xs j x (omega (arith, lt))
 
 -- the stream of a manager's seat is there
-pub stream-there : (s : PlainManagerSeat) → Manages s → s.stream < length s.seen
-stream-there s m = let a = m.stock.there in let b = m.seen_wide in omega (arith, a, b)
+pub stream_there : (s : PlainManagerSeat) → Manages s → s.stream < length s.seen
+stream_there s m = let a = m.stock.there in let b = m.seen_wide in omega (arith, a, b)
 
 module _ {D : Type 0} {G : Ghosts D} (n j : ℕ) (base : List ℕ) (w0 : Writer D G) where
   -- how many bytes the writer has that are not durable
-  pub left-long : (s : PlainManagerSeat) (w : Writer D G) → IsDriven n j base w0 s w → has_failed w ≡ false → s.stock.gathered ≡ durable_of w + length (left_of w)
-  left-long s w d works =
+  pub left_long : (s : PlainManagerSeat) (w : Writer D G) → IsDriven n j base w0 s w → has_failed w ≡ false → s.stock.gathered ≡ durable_of w + length (left_of w)
+  left_long s w d works =
       let c : IsCurrent n j base (taken_in s) w = d.managing.current works in
       let a = d.counted in
       let b = c.durable in
       let left = ap (length {A = ℕ}) c.left in
-      let whole : length (bytes_of (taken_in s)) ≡ length (bytes_of c.front) + length (bytes_of c.rest) = ap (λ (ps : List Piece). length (bytes_of ps)) c.is ∙ ap (length {A = ℕ}) (bytes-append c.front c.rest) ∙ length-append (bytes_of c.front) (bytes_of c.rest) in
+      let whole : length (bytes_of (taken_in s)) ≡ length (bytes_of c.front) + length (bytes_of c.rest) = ap (λ (ps : List Piece). length (bytes_of ps)) c.is ∙ ap (length {A = ℕ}) (bytes_append c.front c.rest) ∙ length-append (bytes_of c.front) (bytes_of c.rest) in
       omega (arith, a, b, left, whole)
 
   -- what was gathered is handed to the writer
-  pub driven-loaded : (seen_now : SeenNow G) (s s' : PlainManagerSeat) (body : List ℕ) (w w' : Writer D G) → IsDriven n j base w0 s w → IsFlushed w → has_failed w ≡ false → GathersMore s s' [] body → left_of w' ≡ body → disk_of w' ≡ disk_of w → durable_of w' ≡ durable_of w → has_failed w' ≡ has_failed w →
+  pub driven_loaded : (seen_now : SeenNow G) (s s' : PlainManagerSeat) (body : List ℕ) (w w' : Writer D G) → IsDriven n j base w0 s w → IsFlushed w → has_failed w ≡ false → GathersMore s s' [] body → left_of w' ≡ body → disk_of w' ≡ disk_of w → durable_of w' ≡ durable_of w → has_failed w' ≡ has_failed w →
       ((n j : ℕ) (content : List ℕ) → IsReady n j w content → IsReady n j w' content) → IsDriven n j base w0 s' w'
-  driven-loaded seen_now s s' body w w' d all works g left disk durable same ready =
+  driven_loaded seen_now s s' body w w' d all works g left disk durable same ready =
       let more : left_of w' ≡ left_of w ++ bytes_of g.pieces = left ∙ g.bytes ∙ ap (λ (b : List ℕ). b ++ bytes_of g.pieces) (sym (all works)) in
       record {
         stream = g.stream ∙ d.stream;
@@ -63,27 +63,27 @@ module _ {D : Type 0} {G : Ghosts D} (n j : ℕ) (base : List ℕ) (w0 : Writer 
             (let a = g.gathered in
             let b = d.counted in
             let c = ap (λ (ps : List Piece). length (bytes_of ps)) g.taken in
-            let e = ap (length {A = ℕ}) (bytes-append (taken_in s) g.pieces) in
+            let e = ap (length {A = ℕ}) (bytes_append (taken_in s) g.pieces) in
             let f = length-append (bytes_of (taken_in s)) (bytes_of g.pieces) in
             omega (arith, a, b, c, e, f));
-        long = long-back g.gone s'.stock.own.pieces (subst AreLong g.own d.long);
+        long = long_back g.gone s'.stock.own.pieces (subst AreLong g.own d.long);
         raised = g.raised ∙ d.raised ∙ sym same;
       }
 
   -- or memory ran out
-  pub driven-short : (seen_now : SeenNow G) (s s' : PlainManagerSeat) (b b' : List ℕ) (w w' : Writer D G) → IsDriven n j base w0 s w → GathersMore s s' b b' → disk_of w' ≡ disk_of w → durable_of w' ≡ durable_of w → has_failed w' ≡ has_failed w → IsDrivenShort n j base w0 s' w'
-  driven-short seen_now s s' b b' w w' d g disk durable same = record {
+  pub driven_short : (seen_now : SeenNow G) (s s' : PlainManagerSeat) (b b' : List ℕ) (w w' : Writer D G) → IsDriven n j base w0 s w → GathersMore s s' b b' → disk_of w' ≡ disk_of w → durable_of w' ≡ durable_of w → has_failed w' ≡ has_failed w → IsDrivenShort n j base w0 s' w'
+  driven_short seen_now s s' b b' w w' d g disk durable same = record {
     stream = g.stream ∙ d.stream;
     stored = ap (λ (v : List ℕ). slice_index v j) g.seen ∙ d.stored ∙ sym durable;
     written =
         subst (λ (k : ℕ). HasWritten n j base (taken_in s') k w0 w') (sym (ap (λ (v : List ℕ). slice_index v j) g.seen ∙ d.stored ∙ sym durable))
-        (subst (λ (ps : List Piece). HasWritten n j base ps (durable_of w') w0 w') (sym g.taken) (gathers-short n j base seen_now (taken_in s) g.pieces w0 w w' d.managing disk durable same));
+        (subst (λ (ps : List Piece). HasWritten n j base ps (durable_of w') w0 w') (sym g.taken) (gathers_short n j base seen_now (taken_in s) g.pieces w0 w w' d.managing disk durable same));
   }
 
   -- a step that leaves the writer, and of the seat what the loop speaks of
-  pub driven-same : (s s' : PlainManagerSeat) (w : Writer D G) → IsDriven n j base w0 s w → s'.stream ≡ s.stream → taken_in s' ≡ taken_in s → slice_index s'.seen j ≡ slice_index s.seen j → s'.stock.gathered ≡ s.stock.gathered → AreLong s'.stock.own.pieces → raised_in s'.me.0 ≡ raised_in s.me.0 →
+  pub driven_same : (s s' : PlainManagerSeat) (w : Writer D G) → IsDriven n j base w0 s w → s'.stream ≡ s.stream → taken_in s' ≡ taken_in s → slice_index s'.seen j ≡ slice_index s.seen j → s'.stock.gathered ≡ s.stock.gathered → AreLong s'.stock.own.pieces → raised_in s'.me.0 ≡ raised_in s.me.0 →
       IsDriven n j base w0 s' w
-  driven-same s s' w d stream taken seen gathered long raised = record {
+  driven_same s s' w d stream taken seen gathered long raised = record {
     stream = stream ∙ d.stream;
     managing = subst (λ (ps : List Piece). IsManaging n j base ps w0 w) (sym taken) d.managing;
     stored = seen ∙ d.stored;
@@ -93,8 +93,8 @@ module _ {D : Type 0} {G : Ghosts D} (n j : ℕ) (base : List ℕ) (w0 : Writer 
   }
 
   -- what is driven has written so much
-  pub short-of : (s : PlainManagerSeat) (w : Writer D G) → IsDriven n j base w0 s w → IsDrivenShort n j base w0 s w
-  short-of s w d = record { stream = d.stream; stored = d.stored; written = subst (λ (k : ℕ). HasWritten n j base (taken_in s) k w0 w) (sym d.stored) d.managing.managed }
+  pub short_of : (s : PlainManagerSeat) (w : Writer D G) → IsDriven n j base w0 s w → IsDrivenShort n j base w0 s w
+  short_of s w d = record { stream = d.stream; stored = d.stored; written = subst (λ (k : ℕ). HasWritten n j base (taken_in s) k w0 w) (sym d.stored) d.managing.managed }
 
   module _ (seen_now : SeenNow G) (counts_now : CountsNow G) (only_now : OnlyNow G) (s s' : PlainManagerSeat) (w w' : Writer D G) (d : IsDriven n j base w0 s w) (works : has_failed w ≡ false) (upto : ℕ) (all : upto ≡ durable_of w + length (left_of w))
       (moments : G.tells → (n j : ℕ) (content : List ℕ) → IsReady n j w content → Passes G.moment G.may_leave_since (disk_of w) (disk_of w') (IsOldOrNew n j content (part_upto w upto))) (faults : G.faults (disk_of w) ≤ G.faults (disk_of w')) where
@@ -107,35 +107,35 @@ module _ {D : Type 0} {G : Ghosts D} (n j : ℕ) (base : List ℕ) (w0 : Writer 
     whole : rest ≡ rest ++ []
     whole = sym (append-nil rest)
 
-    upto-is : upto ≡ durable_of w + length (bytes_of rest)
-    upto-is = all ∙ ap (λ (b : List ℕ). durable_of w + length b) current.left
+    upto_is : upto ≡ durable_of w + length (bytes_of rest)
+    upto_is = all ∙ ap (λ (b : List ℕ). durable_of w + length b) current.left
 
     -- a flush of all, and its end was stored
-    pub driven-flushed : Manages s → s' ≡ record s { me = (sees_to s.stream upto s.me.0, s.me.1); seen = slice_set s.seen s.stream upto } → durable_of w' ≡ upto → left_of w' ≡ drop (upto - durable_of w) (left_of w) → has_failed w' ≡ false →
+    pub driven_flushed : Manages s → s' ≡ record s { me = (sees_to s.stream upto s.me.0, s.me.1); seen = slice_set s.seen s.stream upto } → durable_of w' ≡ upto → left_of w' ≡ drop (upto - durable_of w) (left_of w) → has_failed w' ≡ false →
         (G.tells → (n j : ℕ) (content : List ℕ) → IsReady n j w content → IsReady n j w' (content ++ part_upto w upto)) → (G.tells → GoesOn G.number G.fails (disk_of w) (disk_of w')) → IsDriven n j base w0 s' w' × IsFlushed w'
-    driven-flushed m knows durable left fine done goes = (
+    driven_flushed m knows durable left fine done goes = (
       record {
         stream = ap (λ (x : PlainManagerSeat). x.stream) knows ∙ d.stream;
         managing = subst (λ (ps : List Piece). IsManaging n j base ps w0 w') (sym (ap taken_in knows))
-            (flushed n j base seen_now counts_now only_now (taken_in s) upto w0 w w' d.managing works rest [] whole upto-is moments faults durable left fine done goes);
+            (flushed n j base seen_now counts_now only_now (taken_in s) upto w0 w w' d.managing works rest [] whole upto_is moments faults durable left fine done goes);
         stored =
-            (let here : slice_index (slice_set s.seen s.stream upto) s.stream ≡ upto = set-there s.seen s.stream upto (stream-there s m) in
+            (let here : slice_index (slice_set s.seen s.stream upto) s.stream ≡ upto = set_there s.seen s.stream upto (stream_there s m) in
             ap (λ (x : PlainManagerSeat). slice_index x.seen j) knows ∙ subst (λ (i : ℕ). slice_index (slice_set s.seen s.stream upto) i ≡ upto) d.stream here ∙ sym durable);
         counted = ap (λ (x : PlainManagerSeat). x.stock.gathered) knows ∙ d.counted ∙ ap (λ (ps : List Piece). length base + length (bytes_of ps)) (sym (ap taken_in knows));
         long = subst (λ (x : PlainManagerSeat). AreLong x.stock.own.pieces) (sym knows) d.long;
         raised = ap (λ (x : PlainManagerSeat). raised_in x.me.0) knows ∙ d.raised ∙ works ∙ sym fine;
       },
-      λ f. left ∙ drop-long (left_of w) (upto - durable_of w) (let e = all in omega (arith, e)),
+      λ f. left ∙ drop_long (left_of w) (upto - durable_of w) (let e = all in omega (arith, e)),
     )
 
     -- the disk failed, and the stop was raised
-    pub driven-broke : s' ≡ record s { me = (told_raised s.me.0, s.me.1) } → durable_of w' ≡ durable_of w → has_failed w' ≡ true → Rose (G.faults (disk_of w)) (G.faults (disk_of w')) →
+    pub driven_broke : s' ≡ record s { me = (told_raised s.me.0, s.me.1) } → durable_of w' ≡ durable_of w → has_failed w' ≡ true → Rose (G.faults (disk_of w)) (G.faults (disk_of w')) →
         (G.tells → (n j : ℕ) (content : List ℕ) → IsReady n j w content → MayHold n j content (G.may_leave (disk_of w'))) → IsStopped G.tells G.number G.fails G.short (disk_of w) (disk_of w') → IsDriven n j base w0 s' w' × IsFlushed w'
-    driven-broke knows durable fails rose reached stops = (
+    driven_broke knows durable fails rose reached stops = (
       record {
         stream = ap (λ (x : PlainManagerSeat). x.stream) knows ∙ d.stream;
         managing = subst (λ (ps : List Piece). IsManaging n j base ps w0 w') (sym (ap taken_in knows))
-            (broke n j base seen_now counts_now only_now (taken_in s) upto w0 w w' d.managing works rest [] whole upto-is moments faults durable fails rose reached stops);
+            (broke n j base seen_now counts_now only_now (taken_in s) upto w0 w w' d.managing works rest [] whole upto_is moments faults durable fails rose reached stops);
         stored = ap (λ (x : PlainManagerSeat). slice_index x.seen j) knows ∙ d.stored ∙ sym durable;
         counted = ap (λ (x : PlainManagerSeat). x.stock.gathered) knows ∙ d.counted ∙ ap (λ (ps : List Piece). length base + length (bytes_of ps)) (sym (ap taken_in knows));
         long = subst (λ (x : PlainManagerSeat). AreLong x.stock.own.pieces) (sym knows) d.long;

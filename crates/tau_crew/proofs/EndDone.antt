@@ -24,7 +24,7 @@ use Rattle.tau_desk.specs.Seats.{HasStock, Heads, PlainHead}
 use Rattle.tau_crew_facts.specs.Closing.{ClerkDone, EndsBy, ManagerApart, ManagerDone}
 use Rattle.tau_crew_facts.specs.Ends.{AreApart, IsThreadDone}
 use Rattle.tau_crew_facts.specs.Spacing.{IsSpacing}
-use Rattle.tau_crew_facts.proofs.Closing.{thread-apart, thread-done}
+use Rattle.tau_crew_facts.proofs.Closing.{thread_apart, thread_done}
 use Rattle.tau_crew.specs.declared.clerk.ClerkJob.{ClerkJob}
 use Rattle.tau_crew.specs.declared.manager.ManagerJob.{ManagerJob}
 use Rattle.tau_crew.specs.Clerking.{all_told}
@@ -33,101 +33,91 @@ use Rattle.tau_crew.specs.Ending.{role_back, worker_back}
 use Rattle.tau_crew.specs.EndCloses.{IsAllBack, acked_back, managed_back}
 use Rattle.tau_crew.specs.EndDone.{ClosesDone, IsDone, NoneShort, durable_in, durables}
 use Rattle.tau_crew.specs.EndJoins.{KeepsHead, writer_in}
-use Rattle.tau_crew.proofs.EndBack.{keeps-ran, worker-same}
-use Rattle.tau_crew.proofs.EndCloses.{acked-is, as-first, closes-run, closes-state, closing, job-at, knows, managed-is, telling-back}
-use Rattle.tau_crew.proofs.EndNone.{nothing-left}
-use Rattle.tau_crew.proofs.EndSettles.{got-low}
-use Rattle.tau_core.proofs.Lists.{some-at}
+use Rattle.tau_crew.proofs.EndBack.{keeps_ran, worker_same}
+use Rattle.tau_crew.proofs.EndCloses.{acked_is, as_first, closes_run, closes_state, closing, job_at, knows, managed_is, telling_back}
+use Rattle.tau_crew.proofs.EndNone.{nothing_left}
+use Rattle.tau_base.proofs.Lists.{some_at, same_list, got_within}
 
-pub same-entries : (xs ys : List ℕ) → length xs ≡ length ys → ((j : ℕ) → j < length xs → slice_index xs j ≡ slice_index ys j) → xs ≡ ys
-same-entries [] [] e f = refl
-same-entries [] (y ∷ ys) e f = absurd (omega (arith, e))
-same-entries (x ∷ xs) [] e f = absurd (omega (arith, e))
-same-entries (x ∷ xs) (y ∷ ys) e f =
-    let first : x ≡ y = f 0 (omega arith) in
-    let rest : xs ≡ ys = same-entries xs ys (omega (arith, e)) (λ j lt. f (suc j) (omega (arith, lt))) in
-    ap (λ (z : ℕ). z ∷ xs) first ∙ ap (λ (zs : List ℕ). y ∷ zs) rest
-
-pub index-map : {A : Type 0} (f : A → ℕ) (xs : List A) (j : ℕ) (x : A) → slice_get xs j ≡ Some x → slice_index (map f xs) j ≡ f x
-index-map {A} f [] j x is = absurd (let bad : ◌≡◌ {A = Option A} None (Some x) = is in cc bad)
-index-map f (y ∷ ys) zero x is = (let e : Some y ≡ Some x = is in let same : y ≡ x = cc e in ap f same)
-index-map f (y ∷ ys) (suc j) x is = index-map f ys j x is
+pub index_map : {A : Type 0} (f : A → ℕ) (xs : List A) (j : ℕ) (x : A) → slice_get xs j ≡ Some x → slice_index (map f xs) j ≡ f x
+index_map {A} f [] j x is = absurd (let bad : ◌≡◌ {A = Option A} None (Some x) = is in cc bad)
+index_map f (y ∷ ys) zero x is = (let e : Some y ≡ Some x = is in let same : y ≡ x = cc e in ap f same)
+index_map f (y ∷ ys) (suc j) x is = index_map f ys j x is
 
 module _ {D : Type 0} {G : Ghosts D} (first : Plain) (table : TableId) (bases : ℕ → List ℕ) (ws : List (Writer D G)) (h : PlainHead) (jobs : List (ManagerJob D G)) (telling : ClerkJob) (b : IsAllBack first table bases ws h jobs telling) (d : Heads h) where
-  seen-at : (j : ℕ) (job : ManagerJob D G) → slice_get jobs j ≡ Some job → slice_index h.me.0.seen j ≡ durable_of job.writer
-  seen-at j job at = ap (λ (v : List ℕ). slice_index v j) d.seen_is ∙ b.sees j job.writer (slice_get-map writer_in jobs j ∙ ap (option_map writer_in) at)
+  seen_at : (j : ℕ) (job : ManagerJob D G) → slice_get jobs j ≡ Some job → slice_index h.me.0.seen j ≡ durable_of job.writer
+  seen_at j job at = ap (λ (v : List ℕ). slice_index v j) d.seen_is ∙ b.sees j job.writer (slice_get-map writer_in jobs j ∙ ap (option_map writer_in) at)
 
-  seen-durables : h.me.0.seen ≡ durables jobs
-  seen-durables =
-      let wide : length h.me.0.seen ≡ first.load.streams = ap (length {A = ℕ}) d.seen_is ∙ d.seen_wide ∙ ap (λ (o : Plain). o.load.streams) (as-first first table bases ws h jobs telling b d) in
-      same-entries h.me.0.seen (durables jobs) (wide ∙ sym (length-map jobs durable_in ∙ b.managers.count))
-      (λ j lt. (let (job, at) = job-at first table bases ws h jobs telling b d j (omega (arith, lt, wide)) in seen-at j job at ∙ sym (index-map durable_in jobs j job at)))
+  seen_durables : h.me.0.seen ≡ durables jobs
+  seen_durables =
+      let wide : length h.me.0.seen ≡ first.load.streams = ap (length {A = ℕ}) d.seen_is ∙ d.seen_wide ∙ ap (λ (o : Plain). o.load.streams) (as_first first table bases ws h jobs telling b d) in
+      same_list h.me.0.seen (durables jobs) (wide ∙ sym (length-map jobs durable_in ∙ b.managers.count))
+      (λ j lt. (let (job, at) = job_at first table bases ws h jobs telling b d j (omega (arith, lt, wide)) in seen_at j job at ∙ sym (index_map durable_in jobs j job at)))
 
-  job-of : (j : ℕ) (w' : Writer D G) → slice_get (map writer_in jobs) j ≡ Some w' → (job : ManagerJob D G) × (slice_get jobs j ≡ Some job) × (job.writer ≡ w')
-  job-of j w' is =
-      let low : j < length jobs = (let a = got-low (map writer_in jobs) j w' is in let n = length-map jobs writer_in in omega (arith, a, n)) in
-      let (job, at) = some-at jobs j low in
+  job_of : (j : ℕ) (w' : Writer D G) → slice_get (map writer_in jobs) j ≡ Some w' → (job : ManagerJob D G) × (slice_get jobs j ≡ Some job) × (job.writer ≡ w')
+  job_of j w' is =
+      let low : j < length jobs = (let a = got_within (map writer_in jobs) j w' is in let n = length-map jobs writer_in in omega (arith, a, n)) in
+      let (job, at) = some_at jobs j low in
       (job, at, (let e : Some job.writer ≡ Some w' = sym (slice_get-map writer_in jobs j ∙ ap (option_map writer_in) at) ∙ is in cc e))
 
-  writer-at : (j : ℕ) → j < first.load.streams → (w : Writer D G) × (slice_get ws j ≡ Some w)
-  writer-at j lt = some-at ws j (let n = b.managers.writers in omega (arith, lt, n))
+  writer_at : (j : ℕ) → j < first.load.streams → (w : Writer D G) × (slice_get ws j ≡ Some w)
+  writer_at j lt = some_at ws j (let n = b.managers.writers in omega (arith, lt, n))
 
-  stored-at : (j : ℕ) (job : ManagerJob D G) → slice_get jobs j ≡ Some job → slice_index job.seat.seen j ≡ durable_of job.writer
-  stored-at j job at =
-      let low : j < first.load.streams = (let a = got-low jobs j job at in let n = b.managers.count in omega (arith, a, n)) in
-      let (w, is) = writer-at j low in
+  stored_at : (j : ℕ) (job : ManagerJob D G) → slice_get jobs j ≡ Some job → slice_index job.seat.seen j ≡ durable_of job.writer
+  stored_at j job at =
+      let low : j < first.load.streams = (let a = got_within jobs j job at in let n = b.managers.count in omega (arith, a, n)) in
+      let (w, is) = writer_at j low in
       (b.managers.each j w job is at).manager.wrote.stored
 
   -- what each manager knows at its end
-  done-manager : IsDone first h jobs telling → (j : ℕ) (w' : Writer D G) → slice_get (map writer_in jobs) j ≡ Some w' → has_failed w' ≡ false → ManagerDone first.load h.me.0.seen (worker_back h) j (managed_back first h j)
-  done-manager q j w' is works =
-      let (job, at, same) = job-of j w' is in
+  done_manager : IsDone first h jobs telling → (j : ℕ) (w' : Writer D G) → slice_get (map writer_in jobs) j ≡ Some w' → has_failed w' ≡ false → ManagerDone first.load h.me.0.seen (worker_back h) j (managed_back first h j)
+  done_manager q j w' is works =
+      let (job, at, same) = job_of j w' is in
       let m = q.managers j job at (ap has_failed same ∙ works) in
-      let g = managed-is first table bases ws h jobs telling b d j job at in
+      let g = managed_is first table bases ws h jobs telling b d j job at in
       record {
-        durable = seen-at j job at ∙ sym (stored-at j job at) ∙ m.durable ∙ ap (λ (x : Managed). x.gathered) (sym g);
+        durable = seen_at j job at ∙ sym (stored_at j job at) ∙ m.durable ∙ ap (λ (x : Managed). x.gathered) (sym g);
         own = ap (λ (x : Managed). x.own) g ∙ m.own;
         placed = λ w call lt st c. subst (λ (x : Managed). EndsBy x.gathered call.spot) (sym g) (m.placed w call lt st c);
       }
 
-  done-clerk : IsDone first h jobs telling → (w : ℕ) → w < first.load.workers → ClerkDone h.me.0.seen (worker_back h w) (slice_index_or (acked_back first h) w [])
-  done-clerk q w lt =
-      subst (λ (a : List (List Ticket)). ClerkDone h.me.0.seen (worker_back h w) (slice_index_or a w [])) (sym (acked-is first table bases ws h jobs telling b d))
-      (subst (λ (v : List ℕ). ClerkDone v (worker_back h w) (slice_index_or (acked_in telling.seat.me.0) w [])) (sym seen-durables) (q.clerk w lt))
+  done_clerk : IsDone first h jobs telling → (w : ℕ) → w < first.load.workers → ClerkDone h.me.0.seen (worker_back h w) (slice_index_or (acked_back first h) w [])
+  done_clerk q w lt =
+      subst (λ (a : List (List Ticket)). ClerkDone h.me.0.seen (worker_back h w) (slice_index_or a w [])) (sym (acked_is first table bases ws h jobs telling b d))
+      (subst (λ (v : List ℕ). ClerkDone v (worker_back h w) (slice_index_or (acked_in telling.seat.me.0) w [])) (sym seen_durables) (q.clerk w lt))
 
-  apart-at : NoneShort jobs → (j : ℕ) → j < first.load.streams → ManagerApart h.me.0.seen j (bases j) (managed_back first h j)
-  apart-at memory j lt =
-      let (job, at) = job-at first table bases ws h jobs telling b d j lt in
-      let (w, is) = writer-at j lt in
+  apart_at : NoneShort jobs → (j : ℕ) → j < first.load.streams → ManagerApart h.me.0.seen j (bases j) (managed_back first h j)
+  apart_at memory j lt =
+      let (job, at) = job_at first table bases ws h jobs telling b d j lt in
+      let (w, is) = writer_at j lt in
       let back = b.managers.each j w job is at in
       let apart = back.manager.apart (memory j job at) in
       let there : slice_get h.managers j ≡ Some (Some job.seat.stock) = subst (λ (i : ℕ). slice_get h.managers i ≡ Some (Some job.seat.stock)) (let e : 0 + j ≡ j = omega arith in e) (b.has j job at).stock in
-      let has_stock : HasStock first h.me.0 j job.seat.stock = subst (λ (o : Plain). HasStock o h.me.0 j job.seat.stock) (as-first first table bases ws h jobs telling b d) (d.manager j job.seat.stock there) in
+      let has_stock : HasStock first h.me.0 j job.seat.stock = subst (λ (o : Plain). HasStock o h.me.0 j job.seat.stock) (as_first first table bases ws h jobs telling b d) (d.manager j job.seat.stock there) in
       let role : role_back h (manager_role first.load j) ≡ has_stock.role = ap role_or has_stock.is in
       let managed : managed_back first h j ≡ has_stock.stock.managed = ap (λ (r : Role). managed_in_share r.share) role ∙ ap managed_in_share has_stock.stock.share in
       let anchors : (managed_back first h j).anchors ≡ job.seat.stock.anchors = ap (λ (x : Managed). x.anchors) managed ∙ has_stock.stock.anchors in
       subst (λ (vs : List (List ℕ)). IsSpacing (length (bases j)) (slice_index h.me.0.seen j) (own_of j vs)) (sym anchors)
-      (subst (λ (n : ℕ). IsSpacing (length (bases j)) n (own_of j job.seat.stock.anchors)) (sym (seen-at j job at))
+      (subst (λ (n : ℕ). IsSpacing (length (bases j)) n (own_of j job.seat.stock.anchors)) (sym (seen_at j job at))
       (subst (λ (i : ℕ). IsSpacing (length (bases j)) (durable_of job.writer) (own_of i job.seat.stock.anchors)) back.at apart.spacing))
 
-  pub closes-done : (result : Plain) → desk.IsClosing first h.me.0 result → ClosesDone first bases ws (map writer_in jobs) h jobs telling result
-  closes-done result k = record {
-    run = closes-run first table bases ws h jobs telling b d result k;
-    done = λ q. subst (λ (s : Core). IsThreadDone first.load s (map writer_in jobs)) (sym (closes-state first table bases ws h jobs telling b d result k))
-        (thread-done first h.me.0 (worker_back h) (managed_back first h) (acked_back first h) k.state (closing first table bases ws h jobs telling b d result k) bases ws (map writer_in jobs) (all_told telling.told) b.managers.writers (λ w lt. (b.head.workers w lt).loose)
-        (knows first table bases ws h jobs telling b d) (telling-back first table bases ws h jobs telling b d) (λ w lt. record { rests = (q.workers w lt).rests; kept = (q.workers w lt).kept }) (done-manager q) (done-clerk q) (λ works. nothing-left first table bases ws h jobs telling b d result k q.memory q.workers (b.clerk.clerk.raised q.telling_memory) works q.left));
-    apart = λ memory. subst (λ (s : Core). AreApart bases first.load.streams s) (sym (closes-state first table bases ws h jobs telling b d result k))
-        (thread-apart first h.me.0 (worker_back h) (managed_back first h) (acked_back first h) k.state (closing first table bases ws h jobs telling b d result k) bases ws (map writer_in jobs) (all_told telling.told) b.managers.writers (λ w lt. (b.head.workers w lt).loose)
-        (knows first table bases ws h jobs telling b d) (telling-back first table bases ws h jobs telling b d) (apart-at memory));
+  pub closes_done : (result : Plain) → desk.IsClosing first h.me.0 result → ClosesDone first bases ws (map writer_in jobs) h jobs telling result
+  closes_done result k = record {
+    run = closes_run first table bases ws h jobs telling b d result k;
+    done = λ q. subst (λ (s : Core). IsThreadDone first.load s (map writer_in jobs)) (sym (closes_state first table bases ws h jobs telling b d result k))
+        (thread_done first h.me.0 (worker_back h) (managed_back first h) (acked_back first h) k.state (closing first table bases ws h jobs telling b d result k) bases ws (map writer_in jobs) (all_told telling.told) b.managers.writers (λ w lt. (b.head.workers w lt).loose)
+        (knows first table bases ws h jobs telling b d) (telling_back first table bases ws h jobs telling b d) (λ w lt. record { rests = (q.workers w lt).rests; kept = (q.workers w lt).kept }) (done_manager q) (done_clerk q) (λ works. nothing_left first table bases ws h jobs telling b d result k q.memory q.workers (b.clerk.clerk.raised q.telling_memory) works q.left));
+    apart = λ memory. subst (λ (s : Core). AreApart bases first.load.streams s) (sym (closes_state first table bases ws h jobs telling b d result k))
+        (thread_apart first h.me.0 (worker_back h) (managed_back first h) (acked_back first h) k.state (closing first table bases ws h jobs telling b d result k) bases ws (map writer_in jobs) (all_told telling.told) b.managers.writers (λ w lt. (b.head.workers w lt).loose)
+        (knows first table bases ws h jobs telling b d) (telling_back first table bases ws h jobs telling b d) (apart_at memory));
   }
 
 -- a step by which the head takes in nothing of the workers keeps it
-pub done-keeps : {D : Type 0} {G : Ghosts D} (first : Plain) (h h' : PlainHead) (jobs : List (ManagerJob D G)) (telling : ClerkJob) → KeepsHead first h h' → IsDone first h jobs telling → IsDone first h' jobs telling
-done-keeps first h h' jobs telling k q =
-    let same : (w : ℕ) → w < first.load.workers → worker_back h' w ≡ worker_back h w = λ w lt. ap (λ (r : Role). worker_in_share r.share) (worker-same first h h' w lt k) in
+pub done_keeps : {D : Type 0} {G : Ghosts D} (first : Plain) (h h' : PlainHead) (jobs : List (ManagerJob D G)) (telling : ClerkJob) → KeepsHead first h h' → IsDone first h jobs telling → IsDone first h' jobs telling
+done_keeps first h h' jobs telling k q =
+    let same : (w : ℕ) → w < first.load.workers → worker_back h' w ≡ worker_back h w = λ w lt. ap (λ (r : Role). worker_in_share r.share) (worker_same first h h' w lt k) in
     record {
       memory = q.memory;
-      workers = λ w lt. keeps-ran first h h' w lt k (q.workers w lt);
+      workers = λ w lt. keeps_ran first h h' w lt k (q.workers w lt);
       managers = λ j job at works.
           (let m = q.managers j job at works in
           record { durable = m.durable; own = m.own; placed = λ w call lt st c. m.placed w call lt st (subst (λ (x : Worker). Member call x.committed) (same w lt) c) });

@@ -4,7 +4,7 @@ use Rattle.std.specs.Prelude.{Some, slice_get, slice_index, slice_set}
 use Rattle.std.proofs.lemmas.List.{reverse-append}
 use Rattle.atomic_table.specs.Seated.{TableId}
 use Rattle.tau_core.specs.State.{Plain}
-use Rattle.tau_core.proofs.Lists.{got-other, got-same}
+use Rattle.tau_core.proofs.Lists.{got_other, got_same}
 use Rattle.tau_disk.specs.declared.disk.Disk.{Ghosts}
 use Rattle.tau_stream.specs.declared.writer.Writer.{Writer}
 use Rattle.tau_rule.specs.Heads.{both_at}
@@ -14,22 +14,23 @@ use Rattle.tau_rule.specs.Steps.{first_role}
 use Rattle.tau_desk.specs.Seats.{Heads, Manages, PlainHead, PlainManagerSeat}
 use Rattle.tau_crew.specs.declared.manager.ManagerJob.{ManagerJob}
 use Rattle.tau_crew.specs.EndJoins.{AreSeats, HasManager, HasManagers, IsSeatAt, KeepsHead, TakesManager, writer_in}
+use Rattle.tau_base.proofs.Lists.{get_behind}
 
-pub role-here : (rs qs : List (ℕ × Role)) (k : ℕ) (r : Role) → rs ≡ (k, r) ∷ [] → role_in k (rs ++ qs) ≡ Some r
-role-here rs qs k r e = ap (λ (xs : List (ℕ × Role)). role_in k (xs ++ qs)) e ∙ ap (λ b. cond b (Some r) (role_in k qs)) (eq-eqb k k refl)
+pub role_here : (rs qs : List (ℕ × Role)) (k : ℕ) (r : Role) → rs ≡ (k, r) ∷ [] → role_in k (rs ++ qs) ≡ Some r
+role_here rs qs k r e = ap (λ (xs : List (ℕ × Role)). role_in k (xs ++ qs)) e ∙ ap (λ b. cond b (Some r) (role_in k qs)) (eq-eqb k k refl)
 
-pub role-other : (rs qs : List (ℕ × Role)) (k : ℕ) (r : Role) (u : ℕ) → rs ≡ (k, r) ∷ [] → (u ≡ k → ⊥) → role_in u (rs ++ qs) ≡ role_in u qs
-role-other rs qs k r u e ne = ap (λ (xs : List (ℕ × Role)). role_in u (xs ++ qs)) e ∙ ap (λ b. cond b (Some r) (role_in u qs)) (ne_eqb k u (λ i. ne (sym i)))
+pub role_other : (rs qs : List (ℕ × Role)) (k : ℕ) (r : Role) (u : ℕ) → rs ≡ (k, r) ∷ [] → (u ≡ k → ⊥) → role_in u (rs ++ qs) ≡ role_in u qs
+role_other rs qs k r u e ne = ap (λ (xs : List (ℕ × Role)). role_in u (xs ++ qs)) e ∙ ap (λ b. cond b (Some r) (role_in u qs)) (ne_eqb k u (λ i. ne (sym i)))
 
-pub same-origin : {a b : Plain} (o : Option Plain) → o ≡ Some a → o ≡ Some b → a ≡ b
-same-origin {a} {b} o e f = let g : Some a ≡ Some b = sym e ∙ f in cc g
+pub same_origin : {a b : Plain} (o : Option Plain) → o ≡ Some a → o ≡ Some b → a ≡ b
+same_origin {a} {b} o e f = let g : Some a ≡ Some b = sym e ∙ f in cc g
 
 -- the head has one manager's role more
-pub manager-joined : (first : Plain) (h h' : PlainHead) (s : PlainManagerSeat) → Heads h → Manages s → h.me.0.opened ≡ Some first → s.me.0.opened ≡ Some first →
+pub manager_joined : (first : Plain) (h h' : PlainHead) (s : PlainManagerSeat) → Heads h → Manages s → h.me.0.opened ≡ Some first → s.me.0.opened ≡ Some first →
     h' ≡ record h { me = (both_at s.stream h.me.0 s.me.0, []); managers = slice_set h.managers s.stream (Some s.stock); seen = slice_set h.seen s.stream (slice_index s.seen s.stream) } → TakesManager first h h' s
-manager-joined first h h' s d m opened mine e =
-    let as_head : d.origin ≡ first = same-origin h.me.0.opened d.opened opened in
-    let as_seat : m.origin ≡ first = same-origin s.me.0.opened m.opened mine in
+manager_joined first h h' s d m opened mine e =
+    let as_head : d.origin ≡ first = same_origin h.me.0.opened d.opened opened in
+    let as_seat : m.origin ≡ first = same_origin s.me.0.opened m.opened mine in
     let roles : s.me.0.roles ≡ (manager_role first.load s.stream, m.role) ∷ [] = m.roles ∙ ap (λ (o : Plain). (manager_role o.load s.stream, m.role) ∷ []) as_seat in
     let there : s.stream < first.load.streams = subst (λ (o : Plain). s.stream < o.load.streams) as_seat m.stock.there in
     let count : length h.managers ≡ first.load.streams = d.manager_count ∙ ap (λ (o : Plain). o.load.streams) as_head in
@@ -42,55 +43,50 @@ manager-joined first h h' s d m opened mine e =
         opened = ap (λ (x : PlainHead). x.me.0.opened) e;
         found = λ yes. ap (λ (x : PlainHead). x.me.0.found) e ∙ ap (λ (b : Bool). b || s.me.0.found) yes;
         workers = ap (λ (x : PlainHead). x.workers) e;
-        roles = λ u lt. ap (λ (x : PlainHead). has u x.me.0) e ∙ role-other s.me.0.roles h.me.0.roles k m.role u roles (λ i. omega (arith, i, lt));
+        roles = λ u lt. ap (λ (x : PlainHead). has u x.me.0) e ∙ role_other s.me.0.roles h.me.0.roles k m.role u roles (λ i. omega (arith, i, lt));
       };
       here = record {
-        role = ap (λ (x : PlainHead). has k x.me.0) e ∙ role-here s.me.0.roles h.me.0.roles k m.role roles ∙ ap (λ (r : Role). Some r) (sym role_is);
-        stock = ap (λ (x : PlainHead). slice_get x.managers s.stream) e ∙ got-same h.managers s.stream (Some s.stock) low;
+        role = ap (λ (x : PlainHead). has k x.me.0) e ∙ role_here s.me.0.roles h.me.0.roles k m.role roles ∙ ap (λ (r : Role). Some r) (sym role_is);
+        stock = ap (λ (x : PlainHead). slice_get x.managers s.stream) e ∙ got_same h.managers s.stream (Some s.stock) low;
       };
       others = λ j t ne had. record {
-        role = ap (λ (x : PlainHead). has (manager_role first.load j) x.me.0) e ∙ role-other s.me.0.roles h.me.0.roles k m.role (manager_role first.load j) roles (λ i. ne (omega (arith, i))) ∙ had.role;
-        stock = ap (λ (x : PlainHead). slice_get x.managers j) e ∙ got-other h.managers s.stream j (Some s.stock) ne ∙ had.stock;
+        role = ap (λ (x : PlainHead). has (manager_role first.load j) x.me.0) e ∙ role_other s.me.0.roles h.me.0.roles k m.role (manager_role first.load j) roles (λ i. ne (omega (arith, i))) ∙ had.role;
+        stock = ap (λ (x : PlainHead). slice_get x.managers j) e ∙ got_other h.managers s.stream j (Some s.stock) ne ∙ had.stock;
       };
     }
 
--- what stands after so many
-pub after-front : {A : Type 0} (xs ys : List A) (i : ℕ) → slice_get (xs ++ ys) (length xs + i) ≡ slice_get ys i
-after-front {A} [] ys i = ap (slice_get ys) (let e : length {A = A} [] + i ≡ i = omega arith in e)
-after-front (x ∷ xs) ys i = ap (slice_get (x ∷ (xs ++ ys))) (let e : suc (length xs) + i ≡ suc (length xs + i) = omega arith in e) ∙ after-front xs ys i
-
 module _ {D : Type 0} {G : Ghosts D} where
   -- the last of the jobs that are left was taken in
-  pub managers-more : (first : Plain) (h h' : PlainHead) (left done : List (ManagerJob D G)) (job : ManagerJob D G) → HasManagers first h (length left + 1) done → job.seat.stream ≡ length left → TakesManager first h h' job.seat → HasManagers first h' (length left) (job ∷ done)
-  managers-more first h h' left done job had at t zero x is =
+  pub managers_more : (first : Plain) (h h' : PlainHead) (left done : List (ManagerJob D G)) (job : ManagerJob D G) → HasManagers first h (length left + 1) done → job.seat.stream ≡ length left → TakesManager first h h' job.seat → HasManagers first h' (length left) (job ∷ done)
+  managers_more first h h' left done job had at t zero x is =
       let same : job ≡ x = (let e : Some job ≡ Some x = is in cc e) in
       subst (λ (y : ManagerJob D G). HasManager first h' (length left + 0) y.seat) same (subst (λ (j : ℕ). HasManager first h' j job.seat) (let a : job.seat.stream ≡ length left + 0 = omega (arith, at) in a) t.here)
-  managers-more first h h' left done job had at t (suc i) x is =
+  managers_more first h h' left done job had at t (suc i) x is =
       t.others (length left + suc i) x.seat (λ e. omega (arith, e, at)) (subst (λ (j : ℕ). HasManager first h j x.seat) (let a : length left + 1 + i ≡ length left + suc i = omega arith in a) (had i x is))
 
-  front-join : (xs : List (ManagerJob D G)) (y : ManagerJob D G) (zs : List (ManagerJob D G)) → (xs ++ y ∷ []) ++ zs ≡ xs ++ y ∷ zs
-  front-join [] y zs = refl
-  front-join (x ∷ xs) y zs = ap (λ (r : List (ManagerJob D G)). x ∷ r) (front-join xs y zs)
+  front_join : (xs : List (ManagerJob D G)) (y : ManagerJob D G) (zs : List (ManagerJob D G)) → (xs ++ y ∷ []) ++ zs ≡ xs ++ y ∷ zs
+  front_join [] y zs = refl
+  front_join (x ∷ xs) y zs = ap (λ (r : List (ManagerJob D G)). x ∷ r) (front_join xs y zs)
 
   -- the last one that is left is that of the last stream that is left
-  pub last-is : (jobs left new done : List (ManagerJob D G)) (job : ManagerJob D G) → jobs ≡ left ++ done → left ≡ new ++ job ∷ [] → jobs ≡ new ++ job ∷ done
-  last-is jobs left new done job all pop = all ∙ ap (λ (xs : List (ManagerJob D G)). xs ++ done) pop ∙ front-join new job done
+  pub last_is : (jobs left new done : List (ManagerJob D G)) (job : ManagerJob D G) → jobs ≡ left ++ done → left ≡ new ++ job ∷ [] → jobs ≡ new ++ job ∷ done
+  last_is jobs left new done job all pop = all ∙ ap (λ (xs : List (ManagerJob D G)). xs ++ done) pop ∙ front_join new job done
 
-  pub last-seat : (first : Plain) (table : TableId) (jobs left new done : List (ManagerJob D G)) (job : ManagerJob D G) → AreSeats first table jobs → jobs ≡ left ++ done → left ≡ new ++ job ∷ [] → IsSeatAt first table (length new) job
-  last-seat first table jobs left new done job seats all pop =
+  pub last_seat : (first : Plain) (table : TableId) (jobs left new done : List (ManagerJob D G)) (job : ManagerJob D G) → AreSeats first table jobs → jobs ≡ left ++ done → left ≡ new ++ job ∷ [] → IsSeatAt first table (length new) job
+  last_seat first table jobs left new done job seats all pop =
       seats (length new) job
-      (ap (λ (xs : List (ManagerJob D G)). slice_get xs (length new)) (last-is jobs left new done job all pop)
+      (ap (λ (xs : List (ManagerJob D G)). slice_get xs (length new)) (last_is jobs left new done job all pop)
       ∙ ap (slice_get (new ++ job ∷ done)) (let e : length new ≡ length new + 0 = omega arith in e)
-      ∙ after-front new (job ∷ done) 0)
+      ∙ get_behind new (job ∷ done) 0)
 
-  pub managers-step : (first : Plain) (table : TableId) (jobs left new done : List (ManagerJob D G)) (job : ManagerJob D G) (h h' : PlainHead) → AreSeats first table jobs → jobs ≡ left ++ done → left ≡ new ++ job ∷ [] → HasManagers first h (length left) done → TakesManager first h h' job.seat →
+  pub managers_step : (first : Plain) (table : TableId) (jobs left new done : List (ManagerJob D G)) (job : ManagerJob D G) (h h' : PlainHead) → AreSeats first table jobs → jobs ≡ left ++ done → left ≡ new ++ job ∷ [] → HasManagers first h (length left) done → TakesManager first h h' job.seat →
       HasManagers first h' (length new) (job ∷ done)
-  managers-step first table jobs left new done job h h' seats all pop had t =
+  managers_step first table jobs left new done job h h' seats all pop had t =
       let long : length left ≡ length new + 1 = ap (length {A = ManagerJob D G}) pop ∙ length-append new (job ∷ []) in
-      managers-more first h h' new done job (subst (λ (k : ℕ). HasManagers first h k done) long had) (last-seat first table jobs left new done job seats all pop).at t
+      managers_more first h h' new done job (subst (λ (k : ℕ). HasManagers first h k done) long had) (last_seat first table jobs left new done job seats all pop).at t
 
-pub keeps-head : (first : Plain) (h h' h'' : PlainHead) → KeepsHead first h h' → KeepsHead first h' h'' → KeepsHead first h h''
-keeps-head first h h' h'' a b = record {
+pub keeps_head : (first : Plain) (h h' h'' : PlainHead) → KeepsHead first h h' → KeepsHead first h' h'' → KeepsHead first h h''
+keeps_head first h h' h'' a b = record {
   table = b.table ∙ a.table;
   opened = b.opened ∙ a.opened;
   found = λ yes. b.found (a.found yes);
@@ -99,16 +95,16 @@ keeps-head first h h' h'' a b = record {
 }
 
 -- none is left
-pub managers-all : {D : Type 0} {G : Ghosts D} (first : Plain) (h : PlainHead) (jobs left done : List (ManagerJob D G)) → jobs ≡ left ++ done → left ≡ [] → HasManagers first h (length left) done → HasManagers first h 0 jobs
-managers-all first h jobs left done all none had =
+pub managers_all : {D : Type 0} {G : Ghosts D} (first : Plain) (h : PlainHead) (jobs left done : List (ManagerJob D G)) → jobs ≡ left ++ done → left ≡ [] → HasManagers first h (length left) done → HasManagers first h 0 jobs
+managers_all first h jobs left done all none had =
     subst (λ (xs : List _). HasManagers first h 0 xs) (sym (all ∙ ap (λ (xs : List _). xs ++ done) none)) (subst (λ (xs : List _). HasManagers first h (length xs) done) none had)
 
 module _ {D : Type 0} {G : Ghosts D} where
-  map-last : (new : List (ManagerJob D G)) (job : ManagerJob D G) (zs : List (Writer D G)) → map writer_in (new ++ job ∷ []) ++ zs ≡ map writer_in new ++ job.writer ∷ zs
-  map-last [] job zs = refl
-  map-last (x ∷ xs) job zs = ap (λ (r : List (Writer D G)). x.writer ∷ r) (map-last xs job zs)
+  map_last : (new : List (ManagerJob D G)) (job : ManagerJob D G) (zs : List (Writer D G)) → map writer_in (new ++ job ∷ []) ++ zs ≡ map writer_in new ++ job.writer ∷ zs
+  map_last [] job zs = refl
+  map_last (x ∷ xs) job zs = ap (λ (r : List (Writer D G)). x.writer ∷ r) (map_last xs job zs)
 
   -- the writer of the last one comes back after the others
-  pub writers-step : (left new : List (ManagerJob D G)) (job : ManagerJob D G) (ws ws' : List (Writer D G)) (w : Writer D G) → left ≡ new ++ job ∷ [] → ws' ≡ ws ++ w ∷ [] → w ≡ job.writer → map writer_in new ++ reverse ws' ≡ map writer_in left ++ reverse ws
-  writers-step left new job ws ws' w pop push same =
-      ap (λ (r : List (Writer D G)). map writer_in new ++ r) (ap (reverse {A = Writer D G}) push ∙ reverse-append ws (w ∷ []) ∙ ap (λ (x : Writer D G). x ∷ reverse ws) same) ∙ sym (map-last new job (reverse ws)) ∙ ap (λ (xs : List (ManagerJob D G)). map writer_in xs ++ reverse ws) (sym pop)
+  pub writers_step : (left new : List (ManagerJob D G)) (job : ManagerJob D G) (ws ws' : List (Writer D G)) (w : Writer D G) → left ≡ new ++ job ∷ [] → ws' ≡ ws ++ w ∷ [] → w ≡ job.writer → map writer_in new ++ reverse ws' ≡ map writer_in left ++ reverse ws
+  writers_step left new job ws ws' w pop push same =
+      ap (λ (r : List (Writer D G)). map writer_in new ++ r) (ap (reverse {A = Writer D G}) push ∙ reverse-append ws (w ∷ []) ∙ ap (λ (x : Writer D G). x ∷ reverse ws) same) ∙ sym (map_last new job (reverse ws)) ∙ ap (λ (xs : List (ManagerJob D G)). map writer_in xs ++ reverse ws) (sym pop)

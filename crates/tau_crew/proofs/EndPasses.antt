@@ -8,46 +8,46 @@ use Rattle.tau_stream.specs.declared.writer.Writer.{Writer}
 use Rattle.tau_core.specs.State.{Plain}
 use Rattle.tau_core.specs.Opens.{Opened}
 use Rattle.tau_core.specs.declared.state.Load.{Load}
-use Rattle.tau_core.proofs.Lists.{got-other, got-same, some-at}
+use Rattle.tau_core.proofs.Lists.{got_other, got_same}
 use Rattle.tau_crew.specs.declared.clerk.ClerkJob.{ClerkJob}
 use Rattle.tau_crew.specs.declared.manager.ManagerJob.{ManagerJob}
 use Rattle.tau_crew.specs.ClerkJobs.{ClerkGoes, IsClerkJob}
 use Rattle.tau_crew.specs.Ending.{AreManagersBack, IsClerkBack, IsManagerBack}
 use Rattle.tau_crew.specs.Jobs.{CanManage, IsSameManager, KeepsManager}
-use Rattle.tau_crew.proofs.EndSettles.{got-low}
+use Rattle.tau_base.proofs.Lists.{some_at, got_within}
 
-length-set : {A : Type 0} (xs : List A) (j : ℕ) (x : A) → length (slice_set xs j x) ≡ length xs
-length-set [] j x = refl
-length-set (y ∷ xs) zero x = refl
-length-set (y ∷ xs) (suc j) x = ap suc (length-set xs j x)
+length_set : {A : Type 0} (xs : List A) (j : ℕ) (x : A) → length (slice_set xs j x) ≡ length xs
+length_set [] j x = refl
+length_set (y ∷ xs) zero x = refl
+length_set (y ∷ xs) (suc j) x = ap suc (length_set xs j x)
 
 module _ {D : Type 0} {G : Ghosts D} (first : Plain) (table : TableId) (bases : ℕ → List ℕ) (ws : List (Writer D G)) (jobs : List (ManagerJob D G)) (m : AreManagersBack first table bases ws jobs) (j : ℕ) (job : ManagerJob D G) (at : slice_get jobs j ≡ Some job) where
-  low-at : j < first.load.streams
-  low-at = let low = got-low jobs j job at in let n = m.count in omega (arith, low, n)
+  low_at : j < first.load.streams
+  low_at = let low = got_within jobs j job at in let n = m.count in omega (arith, low, n)
 
-  pub writer-of : (w : Writer D G) × (slice_get ws j ≡ Some w)
-  writer-of = some-at ws j (let low = low-at in let n = m.writers in omega (arith, low, n))
+  pub writer_of : (w : Writer D G) × (slice_get ws j ≡ Some w)
+  writer_of = some_at ws j (let low = low_at in let n = m.writers in omega (arith, low, n))
 
-  pub back-at : IsManagerBack first table bases j writer-of.0 job
-  back-at = m.each j writer-of.0 job writer-of.1 at
+  pub back_at : IsManagerBack first table bases j writer_of.0 job
+  back_at = m.each j writer_of.0 job writer_of.1 at
 
-  pub stream-at : job.seat.stream ≡ job.stream
-  stream-at = back-at.at ∙ sym back-at.stream
+  pub stream_at : job.seat.stream ≡ job.stream
+  stream_at = back_at.at ∙ sym back_at.stream
 
-  pub there-at : (l : Load) → l ≡ first.load → Opened first.load first → job.stream < length l.opening.anchors.items
-  there-at l same o = subst (λ (x : Load). job.stream < length x.opening.anchors.items) (sym same) (let low = low-at in let s = back-at.stream in let n = o.stands.sound.opened in omega (arith, low, s, n))
+  pub there_at : (l : Load) → l ≡ first.load → Opened first.load first → job.stream < length l.opening.anchors.items
+  there_at l same o = subst (λ (x : Load). job.stream < length x.opening.anchors.items) (sym same) (let low = low_at in let s = back_at.stream in let n = o.stands.sound.opened in omega (arith, low, s, n))
 
-  pub manage-at : CanManage job
-  manage-at = (first.load.streams, j, bases j, writer-of.0, back-at.manager)
+  pub manage_at : CanManage job
+  manage_at = (first.load.streams, j, bases j, writer_of.0, back_at.manager)
 
   -- the manager went on
-  pub managers-set : (job' : ManagerJob D G) → KeepsManager job job' → IsSameManager job job' → AreManagersBack first table bases ws (slice_set jobs j job')
-  managers-set job' keeps same = record {
-    count = length-set jobs j job' ∙ m.count;
+  pub managers_set : (job' : ManagerJob D G) → KeepsManager job job' → IsSameManager job job' → AreManagersBack first table bases ws (slice_set jobs j job')
+  managers_set job' keeps same = record {
+    count = length_set jobs j job' ∙ m.count;
     writers = m.writers;
     each = λ i w x is there. elim (cases_eq i j) [
       | inl e ↦
-          (let here : Some job' ≡ Some x = sym (got-same jobs j job' (got-low jobs j job at)) ∙ ap (slice_get (slice_set jobs j job')) (sym e) ∙ there in
+          (let here : Some job' ≡ Some x = sym (got_same jobs j job' (got_within jobs j job at)) ∙ ap (slice_get (slice_set jobs j job')) (sym e) ∙ there in
           let it : job' ≡ x = cc here in
           let b = m.each j w job (ap (slice_get ws) (sym e) ∙ is) at in
           subst (λ (k : ℕ). IsManagerBack first table bases k w x) (sym e)
@@ -60,13 +60,13 @@ module _ {D : Type 0} {G : Ghosts D} (first : Plain) (table : TableId) (bases : 
             ready = b.ready;
             manager = keeps first.load.streams j (bases j) w b.manager;
           })))
-      | inr ne ↦ m.each i w x is (sym (got-other jobs j i job' ne) ∙ there)
+      | inr ne ↦ m.each i w x is (sym (got_other jobs j i job' ne) ∙ there)
     ];
   }
 
 -- the clerk went on
-pub clerk-on : (first : Plain) (table : TableId) (l : Load) (job job' : ClerkJob) → l ≡ first.load → IsClerkBack first table job → ClerkGoes l job job' → IsClerkJob job' → IsClerkBack first table job'
-clerk-on first table l job job' same b goes keeps = record {
+pub clerk_on : (first : Plain) (table : TableId) (l : Load) (job job' : ClerkJob) → l ≡ first.load → IsClerkBack first table job → ClerkGoes l job job' → IsClerkJob job' → IsClerkBack first table job'
+clerk_on first table l job job' same b goes keeps = record {
   own = goes.same.table ∙ b.own;
   opened = goes.same.opened ∙ b.opened;
   clerk = keeps;

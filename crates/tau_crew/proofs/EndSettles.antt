@@ -3,33 +3,33 @@ use Rattle.std.proofs.Common.{ℕ, zero, suc, ◌+◌, ◌<◌, ◌≤◌, ◌�
 use Rattle.std.specs.Prelude.{Some, None, slice_get, slice_set}
 use Rattle.std.proofs.lemmas.Bool.{cases_eq}
 use Rattle.tau_base.specs.Vectors.{join}
-use Rattle.tau_base.proofs.Vectors.{join-at}
+use Rattle.tau_base.proofs.Vectors.{join_at}
 use Rattle.tau_core.specs.State.{Plain}
 use Rattle.tau_rule.specs.Heads.{both, role_or, without}
 use Rattle.tau_rule.specs.Role.{Role, role_in}
 use Rattle.tau_rule.specs.Rule.{clerk_role, has}
 use Rattle.tau_desk.specs.Ends.{IsClerkSplit}
 use Rattle.tau_desk.specs.Seats.{Heads, PlainClerkSeat, PlainHead}
-use Rattle.tau_desk.proofs.SplittingOff.{role-stays}
+use Rattle.tau_desk.proofs.SplittingOff.{role_stays}
 use Rattle.tau_disk.specs.declared.disk.Disk.{Ghosts}
 use Rattle.tau_stream.specs.declared.writer.Writer.{Writer}
 use Rattle.tau_stream.specs.Writer.{durable_of}
 use Rattle.tau_rule.specs.Positions.{sees_to}
 use Rattle.tau_desk.specs.Seats.{Clerks}
 use Rattle.tau_crew.specs.EndSettles.{IsSameHead, KeepsSight, SightDurable}
-use Rattle.tau_crew.proofs.Driving.{set-there}
-use Rattle.tau_crew.proofs.EndJoins.{role-here, role-other, same-origin}
+use Rattle.tau_crew.proofs.Driving.{set_there}
+use Rattle.tau_crew.proofs.EndJoins.{role_here, role_other, same_origin}
 
-same-or : (b : Bool) → (b || b) ≡ b
-same-or true = refl
-same-or false = refl
+same_or : (b : Bool) → (b || b) ≡ b
+same_or true = refl
+same_or false = refl
 
 -- the clerk's role went out and came back
-pub same-head : (first : Plain) (h m h' : PlainHead) (s s' : PlainClerkSeat) → Heads h → h.me.0.opened ≡ Some first → h.clerk ≡ true → IsClerkSplit first.load h m s → KeepsSight s s' →
+pub same_head : (first : Plain) (h m h' : PlainHead) (s s' : PlainClerkSeat) → Heads h → h.me.0.opened ≡ Some first → h.clerk ≡ true → IsClerkSplit first.load h m s → KeepsSight s s' →
     h' ≡ record m { me = (both m.me.0 s'.me.0, []); clerk = true; seen = join m.seen s'.seen } → IsSameHead h h'
-same-head first h m h' s s' d opened there split keeps e =
+same_head first h m h' s s' d opened there split keeps e =
     let k = clerk_role first.load in
-    let as_first : d.origin ≡ first = same-origin h.me.0.opened d.opened opened in
+    let as_first : d.origin ≡ first = same_origin h.me.0.opened d.opened opened in
     let mine = d.clerk_is there in
     let is : has k h.me.0 ≡ Some mine.role = subst (λ (o : Plain). has (clerk_role o.load) h.me.0 ≡ Some mine.role) as_first mine.is in
     let seat_roles : s'.me.0.roles ≡ (k, role_or (role_in k h.me.0.roles)) ∷ [] = ap (λ (x : _). x.0.roles) keeps.me ∙ ap (λ (x : _). x.0.roles) split.split.new_is in
@@ -40,85 +40,80 @@ same-head first h m h' s s' d opened there split keeps e =
       found = ap (λ (x : PlainHead). x.me.0.found) e
           ∙ ap (λ (b : Bool). b || s'.me.0.found) (ap (λ (x : _). x.0.found) split.split.head_is)
           ∙ ap (λ (b : Bool). h.me.0.found || b) (ap (λ (x : _). x.0.found) keeps.me ∙ ap (λ (x : _). x.0.found) split.split.new_is)
-          ∙ same-or h.me.0.found;
+          ∙ same_or h.me.0.found;
       workers = ap (λ (x : PlainHead). x.workers) e ∙ ap (λ (x : PlainHead). x.workers) split.left;
       managers = ap (λ (x : PlainHead). x.managers) e ∙ ap (λ (x : PlainHead). x.managers) split.left;
       clerk = ap (λ (x : PlainHead). x.clerk) e ∙ sym there;
       up = λ j.
           (let a : slice_index h'.seen j ≡ slice_index (join m.seen s'.seen) j = ap (λ (x : PlainHead). slice_index x.seen j) e in
-          let b = join-at m.seen s'.seen j in
+          let b = join_at m.seen s'.seen j in
           let same : slice_index m.seen j ≡ slice_index h.seen j = ap (λ (x : PlainHead). slice_index x.seen j) split.left in
           omega (arith, a, b, same));
       roles = λ u. elim (cases_eq u k) [
-        | inl at ↦ ap (λ (x : PlainHead). has u x.me.0) e ∙ ap (λ (i : ℕ). role_in i (s'.me.0.roles ++ m.me.0.roles)) at ∙ role-here s'.me.0.roles m.me.0.roles k (role_or (role_in k h.me.0.roles)) seat_roles ∙ ap (λ (o : Option Role). Some (role_or o)) is ∙ sym is ∙ ap (λ (i : ℕ). has i h.me.0) (sym at)
-        | inr ne ↦ ap (λ (x : PlainHead). has u x.me.0) e ∙ role-other s'.me.0.roles m.me.0.roles k (role_or (role_in k h.me.0.roles)) u seat_roles ne ∙ ap (role_in u) left_roles ∙ role-stays k u h.me.0.roles ne
+        | inl at ↦ ap (λ (x : PlainHead). has u x.me.0) e ∙ ap (λ (i : ℕ). role_in i (s'.me.0.roles ++ m.me.0.roles)) at ∙ role_here s'.me.0.roles m.me.0.roles k (role_or (role_in k h.me.0.roles)) seat_roles ∙ ap (λ (o : Option Role). Some (role_or o)) is ∙ sym is ∙ ap (λ (i : ℕ). has i h.me.0) (sym at)
+        | inr ne ↦ ap (λ (x : PlainHead). has u x.me.0) e ∙ role_other s'.me.0.roles m.me.0.roles k (role_or (role_in k h.me.0.roles)) u seat_roles ne ∙ ap (role_in u) left_roles ∙ role_stays k u h.me.0.roles ne
       ];
     }
 
 -- what the seat has seen then, the head has seen
-pub seen-joined : (first : Plain) (h m h' : PlainHead) (s s' : PlainClerkSeat) (j : ℕ) → IsClerkSplit first.load h m s → KeepsSight s s' →
+pub seen_joined : (first : Plain) (h m h' : PlainHead) (s s' : PlainClerkSeat) (j : ℕ) → IsClerkSplit first.load h m s → KeepsSight s s' →
     h' ≡ record m { me = (both m.me.0 s'.me.0, []); clerk = true; seen = join m.seen s'.seen } → slice_index h'.seen j ≡ slice_index s'.seen j
-seen-joined first h m h' s s' j split keeps e =
+seen_joined first h m h' s s' j split keeps e =
     let a : slice_index h'.seen j ≡ slice_index (join m.seen s'.seen) j = ap (λ (x : PlainHead). slice_index x.seen j) e in
-    let b = join-at m.seen s'.seen j in
+    let b = join_at m.seen s'.seen j in
     let low = keeps.up j in
     let same : slice_index s.seen j ≡ slice_index m.seen j = ap (λ (v : List ℕ). slice_index v j) split.seen ∙ ap (λ (x : PlainHead). slice_index x.seen j) (sym split.left) in
     omega (arith, a, b, low, same)
 
-pub sight-same : (s : PlainClerkSeat) → KeepsSight s s
-sight-same s = record { table = refl; me = refl; up = λ j. omega arith }
+pub sight_same : (s : PlainClerkSeat) → KeepsSight s s
+sight_same s = record { table = refl; me = refl; up = λ j. omega arith }
 
-pub keeps-sight : (s s' s'' : PlainClerkSeat) → KeepsSight s s' → KeepsSight s' s'' → KeepsSight s s''
-keeps-sight s s' s'' a b = record {
+pub keeps_sight : (s s' s'' : PlainClerkSeat) → KeepsSight s s' → KeepsSight s' s'' → KeepsSight s s''
+keeps_sight s s' s'' a b = record {
   table = b.table ∙ a.table;
   me = b.me ∙ ap (λ (m : _). (record m.0 { seen = s''.me.0.seen }, m.1)) a.me;
   up = λ j. (let x = a.up j in let y = b.up j in omega (arith, x, y));
 }
 
-set-up : (xs : List ℕ) (j x : ℕ) → slice_index xs j ≤ x → (i : ℕ) → slice_index xs i ≤ slice_index (slice_set xs j x) i
-set-up [] j x le i = omega arith
-set-up (y ∷ xs) zero x le zero = le
-set-up (y ∷ xs) zero x le (suc i) = omega arith
-set-up (y ∷ xs) (suc j) x le zero = omega arith
-set-up (y ∷ xs) (suc j) x le (suc i) = set-up xs j x le i
+set_up : (xs : List ℕ) (j x : ℕ) → slice_index xs j ≤ x → (i : ℕ) → slice_index xs i ≤ slice_index (slice_set xs j x) i
+set_up [] j x le i = omega arith
+set_up (y ∷ xs) zero x le zero = le
+set_up (y ∷ xs) zero x le (suc i) = omega arith
+set_up (y ∷ xs) (suc j) x le zero = omega arith
+set_up (y ∷ xs) (suc j) x le (suc i) = set_up xs j x le i
 
-pub set-other : (xs : List ℕ) (j x i : ℕ) → (i ≡ j → ⊥) → slice_index (slice_set xs j x) i ≡ slice_index xs i
-set-other [] j x i ne = refl
-set-other (y ∷ xs) zero x zero ne = absurd (ne refl)
-set-other (y ∷ xs) zero x (suc i) ne = refl
-set-other (y ∷ xs) (suc j) x zero ne = refl
-set-other (y ∷ xs) (suc j) x (suc i) ne = set-other xs j x i (λ e. ne (ap suc e))
+pub set_other : (xs : List ℕ) (j x i : ℕ) → (i ≡ j → ⊥) → slice_index (slice_set xs j x) i ≡ slice_index xs i
+set_other [] j x i ne = refl
+set_other (y ∷ xs) zero x zero ne = absurd (ne refl)
+set_other (y ∷ xs) zero x (suc i) ne = refl
+set_other (y ∷ xs) (suc j) x zero ne = refl
+set_other (y ∷ xs) (suc j) x (suc i) ne = set_other xs j x i (λ e. ne (ap suc e))
 
 -- a look at one stream
-pub look-keeps : (s s' : PlainClerkSeat) (j x : ℕ) → slice_index s.seen j ≤ x → s' ≡ record s { me = (sees_to j x s.me.0, s.me.1); seen = slice_set s.seen j x } → KeepsSight s s'
-look-keeps s s' j x le e = record {
+pub look_keeps : (s s' : PlainClerkSeat) (j x : ℕ) → slice_index s.seen j ≤ x → s' ≡ record s { me = (sees_to j x s.me.0, s.me.1); seen = slice_set s.seen j x } → KeepsSight s s'
+look_keeps s s' j x le e = record {
   table = ap (λ (t : PlainClerkSeat). t.table_id) e;
   me = ap (λ (t : PlainClerkSeat). t.me) e ∙ ap (λ (v : List ℕ). (record s.me.0 { seen = v }, s.me.1)) (sym (ap (λ (t : PlainClerkSeat). t.me.0.seen) e));
-  up = λ i. subst (λ (v : List ℕ). slice_index s.seen i ≤ slice_index v i) (sym (ap (λ (t : PlainClerkSeat). t.seen) e)) (set-up s.seen j x le i);
+  up = λ i. subst (λ (v : List ℕ). slice_index s.seen i ≤ slice_index v i) (sym (ap (λ (t : PlainClerkSeat). t.seen) e)) (set_up s.seen j x le i);
 }
 
-pub look-here : (first : Plain) (s s' : PlainClerkSeat) (j x : ℕ) → Clerks s → s.me.0.opened ≡ Some first → j < first.load.streams → s' ≡ record s { me = (sees_to j x s.me.0, s.me.1); seen = slice_set s.seen j x } → slice_index s'.seen j ≡ x
-look-here first s s' j x c opened lt e =
-    let as_first : c.origin ≡ first = same-origin s.me.0.opened c.opened opened in
+pub look_here : (first : Plain) (s s' : PlainClerkSeat) (j x : ℕ) → Clerks s → s.me.0.opened ≡ Some first → j < first.load.streams → s' ≡ record s { me = (sees_to j x s.me.0, s.me.1); seen = slice_set s.seen j x } → slice_index s'.seen j ≡ x
+look_here first s s' j x c opened lt e =
+    let as_first : c.origin ≡ first = same_origin s.me.0.opened c.opened opened in
     let wide : length s.seen ≡ first.load.streams = c.seen_wide ∙ ap (λ (o : Plain). o.load.streams) as_first in
-    ap (λ (t : PlainClerkSeat). slice_index t.seen j) e ∙ set-there s.seen j x (omega (arith, lt, wide))
+    ap (λ (t : PlainClerkSeat). slice_index t.seen j) e ∙ set_there s.seen j x (omega (arith, lt, wide))
 
-pub look-others : (s s' : PlainClerkSeat) (j x i : ℕ) → s' ≡ record s { me = (sees_to j x s.me.0, s.me.1); seen = slice_set s.seen j x } → (i ≡ j → ⊥) → slice_index s'.seen i ≡ slice_index s.seen i
-look-others s s' j x i e ne = ap (λ (t : PlainClerkSeat). slice_index t.seen i) e ∙ set-other s.seen j x i ne
+pub look_others : (s s' : PlainClerkSeat) (j x i : ℕ) → s' ≡ record s { me = (sees_to j x s.me.0, s.me.1); seen = slice_set s.seen j x } → (i ≡ j → ⊥) → slice_index s'.seen i ≡ slice_index s.seen i
+look_others s s' j x i e ne = ap (λ (t : PlainClerkSeat). slice_index t.seen i) e ∙ set_other s.seen j x i ne
 
-pub sight-more : {D : Type 0} {G : Ghosts D} (seen seen' : List ℕ) (ws : List (Writer D G)) (j : ℕ) → SightDurable seen ws j → ((w : Writer D G) → slice_get ws j ≡ Some w → slice_index seen' j ≡ durable_of w) → ((i : ℕ) → (i ≡ j → ⊥) → slice_index seen' i ≡ slice_index seen i) → SightDurable seen' ws (j + 1)
-sight-more seen seen' ws j had here others i w lt is = elim (cases_eq i j) [
+pub sight_more : {D : Type 0} {G : Ghosts D} (seen seen' : List ℕ) (ws : List (Writer D G)) (j : ℕ) → SightDurable seen ws j → ((w : Writer D G) → slice_get ws j ≡ Some w → slice_index seen' j ≡ durable_of w) → ((i : ℕ) → (i ≡ j → ⊥) → slice_index seen' i ≡ slice_index seen i) → SightDurable seen' ws (j + 1)
+sight_more seen seen' ws j had here others i w lt is = elim (cases_eq i j) [
   | inl at ↦ ap (slice_index seen') at ∙ here w (ap (slice_get ws) (sym at) ∙ is)
   | inr ne ↦ others i ne ∙ had i w (omega (arith, lt, ne)) is
 ]
 
-pub got-low : {A : Type 0} (xs : List A) (j : ℕ) (x : A) → slice_get xs j ≡ Some x → j < length xs
-got-low {A} [] j x is = absurd (let bad : ◌≡◌ {A = Option A} None (Some x) = is in cc bad)
-got-low (y ∷ ys) zero x is = omega arith
-got-low (y ∷ ys) (suc j) x is = let h = got-low ys j x is in omega (arith, h)
-
-pub same-head-on : (h h' h'' : PlainHead) → IsSameHead h h' → IsSameHead h' h'' → IsSameHead h h''
-same-head-on h h' h'' a b = record {
+pub same_head_on : (h h' h'' : PlainHead) → IsSameHead h h' → IsSameHead h' h'' → IsSameHead h h''
+same_head_on h h' h'' a b = record {
   table = b.table ∙ a.table;
   opened = b.opened ∙ a.opened;
   found = b.found ∙ a.found;

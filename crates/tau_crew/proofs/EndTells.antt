@@ -33,81 +33,60 @@ use Rattle.tau_crew.specs.declared.told.Told.{Told}
 use Rattle.tau_crew.specs.Clerking.{IsSoFar, IsToldSoFar, all_told, with_missing}
 use Rattle.tau_crew.specs.EndCloses.{ClosesRun}
 use Rattle.tau_crew.specs.EndDone.{ClosesDone, IsDone}
-use Rattle.tau_crew.proofs.EndTold.{all-heard, ends-short}
+use Rattle.tau_crew.proofs.EndTold.{all_heard, ends_short}
+use Rattle.tau_base.proofs.Logic.{if_true, if_false}
+use Rattle.tau_replay.proofs.Lists.{member_map}
+use Rattle.tau_machine.proofs.Lists.{member_of}
 
-if-yes : {A : Type 0} (b : Bool) (x y : A) → b ≡ true → (if b then x else y) ≡ x
-if-yes b x y e = ap (λ (c : Bool). if c then x else y) e
-
-if-no : {A : Type 0} (b : Bool) (x y : A) → b ≡ false → (if b then x else y) ≡ y
-if-no b x y e = ap (λ (c : Bool). if c then x else y) e
-
-at-member : {A : Type 0} (xs : List A) (k : ℕ) (d : A) → k < length xs → Member (slice_index_or xs k d) xs
-at-member [] k d lt = absurd (omega (arith, lt))
-at-member (x ∷ xs) zero d lt = inl refl
-at-member (x ∷ xs) (suc k) d lt = inr (at-member xs k d (omega (arith, lt)))
-
-of-map : {A B : Type 0} (f : A → B) (xs : List A) (y : B) → Member y (map f xs) → (x : A) × Member x xs × (f x ≡ y)
-of-map f [] y m = absurd m
-of-map f (x ∷ xs) y (inl e) = (x, inl refl, e)
-of-map f (x ∷ xs) y (inr m) = let (z, n, e) = of-map f xs y m in (z, inr n, e)
-
-if-member : {A : Type 0} (b : Bool) (x a : A) (ys : List A) → b ≡ true → x ≡ a → Member a (if b then x ∷ ys else ys)
-if-member true x a ys t e = inl e
-if-member false x a ys t e = absurd (let bad : false ≡ true = t in cc)
-
-if-after : {A : Type 0} (b : Bool) (x a : A) (ys : List A) → Member a ys → Member a (if b then x ∷ ys else ys)
-if-after true x a ys m = inr m
-if-after false x a ys m = m
-
-filtered-member : {A : Type 0} (f : A → Bool) (a : A) (xs : List A) → Member a xs → f a ≡ true → Member a (filter f xs)
-filtered-member f a [] m t = absurd m
-filtered-member f a (x ∷ xs) (inl e) t = if-member (f x) x a (filter f xs) (ap f e ∙ t) e
-filtered-member f a (x ∷ xs) (inr m) t = if-after (f x) x a (filter f xs) (filtered-member f a xs m t)
+at_member : {A : Type 0} (xs : List A) (k : ℕ) (d : A) → k < length xs → Member (slice_index_or xs k d) xs
+at_member [] k d lt = absurd (omega (arith, lt))
+at_member (x ∷ xs) zero d lt = inl refl
+at_member (x ∷ xs) (suc k) d lt = inr (at_member xs k d (omega (arith, lt)))
 
 -- a call that there is has a number
-number-is : (calls : List Call) (n : ℕ) (c : Call) → call_of calls n ≡ Some c → IsNumberOf (length calls) n
-number-is calls n c e = elim (cases_eq n 0) [
-  | inl z ↦ absurd (let bad : None ≡ Some c = sym (if-yes (n == 0) None (slice_get calls (n - 1)) (eq-eqb n 0 z)) ∙ e in cc)
-  | inr nz ↦ (let lt = slice_get_within calls (n - 1) c (sym (if-no (n == 0) None (slice_get calls (n - 1)) (ne_eqb n 0 nz)) ∙ e) in (omega (arith, nz), omega (arith, lt, nz)))
+number_is : (calls : List Call) (n : ℕ) (c : Call) → call_of calls n ≡ Some c → IsNumberOf (length calls) n
+number_is calls n c e = elim (cases_eq n 0) [
+  | inl z ↦ absurd (let bad : None ≡ Some c = sym (if_true (n == 0) None (slice_get calls (n - 1)) (eq-eqb n 0 z)) ∙ e in cc)
+  | inr nz ↦ (let lt = slice_get_within calls (n - 1) c (sym (if_false (n == 0) None (slice_get calls (n - 1)) (ne_eqb n 0 nz)) ∙ e) in (omega (arith, nz), omega (arith, lt, nz)))
 ]
 
 module _ (p : Plain) (K : List (Act Txn)) (h : Hidden) (g : Stands p K h) (told : List (ℕ × List ℕ)) (acks : (w : ℕ) → w < p.load.workers → filter (λ (a : ℕ × List ℕ). worker_of p.load.workers a.0 == w) told ≡ map pair_of (h.acked w)) where
-  told-one : (a : ℕ × List ℕ) → Member a told → IsNumberOf (length p.load.calls) a.0
-  told-one a m =
+  told_one : (a : ℕ × List ℕ) → Member a told → IsNumberOf (length p.load.calls) a.0
+  told_one a m =
       let w : ℕ = worker_of p.load.workers a.0 in
       let low : worker_of p.load.workers a.0 < p.load.workers = mod-lt (a.0 - 1) {m = p.load.workers} (let some = g.sound.workers_low in omega (arith, some)) in
-      let n = filtered-member (λ (b : ℕ × List ℕ). worker_of p.load.workers b.0 == w) a told m (eq-eqb (worker_of p.load.workers a.0) w refl) in
-      let (k, mk, e) = of-map pair_of (h.acked w) a (subst (λ (l : List (ℕ × List ℕ)). Member a l) (acks w low) n) in
+      let n = member_of (λ (b : ℕ × List ℕ). worker_of p.load.workers b.0 == w) a told m (eq-eqb (worker_of p.load.workers a.0) w refl) in
+      let (k, mk, e) = member_map pair_of (h.acked w) a (subst (λ (l : List (ℕ × List ℕ)). Member a l) (acks w low) n) in
       let law = acknowledged_law p K h g w k mk in
       let t = law.0 in
       subst (λ (number : ℕ). IsNumberOf (length p.load.calls) number) (ap (λ (x : Ticket). x.number) law.2 ∙ ap (λ (x : ℕ × List ℕ). x.0) e)
-      (number-is p.load.calls t.call.call.number t.call.call.call ((committed_law p K h g).0 t law.1).0)
+      (number_is p.load.calls t.call.call.number t.call.call.call ((committed_law p K h g).0 t law.1).0)
 
   -- the calls that were told are calls of the run
-  told-all : All (λ (a : ℕ × List ℕ). IsNumberOf (length p.load.calls) a.0) told
-  told-all k d lt = told-one (slice_index_or told k d) (at-member told k d lt)
+  told_all : All (λ (a : ℕ × List ℕ). IsNumberOf (length p.load.calls) a.0) told
+  told_all k d lt = told_one (slice_index_or told k d) (at_member told k d lt)
 
 module _ {D : Type 0} {G : Ghosts D} (first : Plain) (bases : ℕ → List ℕ) (ws ws' : List (Writer D G)) (telling : ClerkJob) (core : Plain) (c : ClosesRun first bases ws ws' telling core) (none : telling.told.missing ≡ None) where
-  told-is : all_told telling.told ≡ telling.told.acks
-  told-is = ap (with_missing telling.told.acks) none
+  told_is : all_told telling.told ≡ telling.told.acks
+  told_is = ap (with_missing telling.told.acks) none
 
-  acked-same : (w : ℕ) → c.hidden.acked w ≡ c.state.acked w
-  acked-same w = ap (λ (s : Core). s.acked w) c.core
+  acked_same : (w : ℕ) → c.hidden.acked w ≡ c.state.acked w
+  acked_same w = ap (λ (s : Core). s.acked w) c.core
 
-  pub told-numbers : (calls : ℕ) → calls ≡ length first.load.calls → All (λ (a : ℕ × List ℕ). IsNumberOf calls a.0) telling.told.acks
-  told-numbers calls count =
+  pub told_numbers : (calls : ℕ) → calls ≡ length first.load.calls → All (λ (a : ℕ × List ℕ). IsNumberOf calls a.0) telling.told.acks
+  told_numbers calls count =
       subst (λ (n : ℕ). All (λ (a : ℕ × List ℕ). IsNumberOf n a.0) telling.told.acks) (ap (λ (l : Load). length l.calls) c.load ∙ sym count)
-      (told-all core c.came.closed.joined c.hidden c.stands telling.told.acks
+      (told_all core c.came.closed.joined c.hidden c.stands telling.told.acks
       (subst (λ (l : Load). (w : ℕ) → w < l.workers → filter (λ (a : ℕ × List ℕ). worker_of l.workers a.0 == w) telling.told.acks ≡ map pair_of (c.hidden.acked w)) (sym c.load)
-      (λ w lt. subst (λ (acks : List (ℕ × List ℕ)). filter (λ (a : ℕ × List ℕ). worker_of first.load.workers a.0 == w) acks ≡ map pair_of (c.hidden.acked w)) told-is (c.came.clerk.told w lt ∙ ap (map pair_of) (sym (acked-same w))))))
+      (λ w lt. subst (λ (acks : List (ℕ × List ℕ)). filter (λ (a : ℕ × List ℕ). worker_of first.load.workers a.0 == w) acks ≡ map pair_of (c.hidden.acked w)) told_is (c.came.clerk.told w lt ∙ ap (map pair_of) (sym (acked_same w))))))
 
 -- to its end
-pub ends-well : {D : Type 0} {G : Ghosts D} (first : Plain) (bases : ℕ → List ℕ) (ws ws' : List (Writer D G)) (h : PlainHead) (jobs : List (ManagerJob D G)) (telling : ClerkJob) (core : Plain) (hears : Type 0) (held held' : List ℕ) (sink_rose : Type 0) (c : ClosesDone first bases ws ws' h jobs telling core) →
+pub ends_well : {D : Type 0} {G : Ghosts D} (first : Plain) (bases : ℕ → List ℕ) (ws ws' : List (Writer D G)) (h : PlainHead) (jobs : List (ManagerJob D G)) (telling : ClerkJob) (core : Plain) (hears : Type 0) (held held' : List ℕ) (sink_rose : Type 0) (c : ClosesDone first bases ws ws' h jobs telling core) →
     IsDone first h jobs telling → telling.told.missing ≡ None → telling.told.lines.items ≡ [] → (hears → IsToldSoFar held telling.told held') → (telling.told.sink_failed ≡ true → sink_rose) → (end : RunEnd) → end.report.acks ≡ telling.told.acks →
     ((K : List (Act Txn)) (q : Hidden) → Stands core K q → end.report.fates ≡ fates_by (length core.load.calls) K telling.told.acks) →
     ((K : List (Act Txn)) (q : Hidden) → Stands core K q → end.report.order ≡ map (λ (t : Act Txn). t.call.call.number) (reported core.ends K)) →
     ((K : List (Act Txn)) (q : Hidden) → Stands core K q → IsTablesOf (sight (setting_of core.load) (core_of core q)).row end.report.tables) → IsLowestFailed ws' end.disk → end.sink_failed ≡ telling.told.sink_failed → ThreadsEnded bases first ws ws' hears held held' sink_rose end
-ends-well first bases ws ws' h jobs telling core hears held held' sink_rose c q none written heard sink end acks fates order tables disk failed =
+ends_well first bases ws ws' h jobs telling core hears held held' sink_rose c q none written heard sink end acks fates order tables disk failed =
     let all : all_told telling.told ≡ telling.told.acks = ap (with_missing telling.told.acks) none in
     let K = c.run.came.closed.joined in
     record {
@@ -118,7 +97,7 @@ ends-well first bases ws ws' h jobs telling core hears held held' sink_rose c q 
       heard = λ x.
           subst (λ (f : Bool). Heard held (all_told telling.told) f held') (sym failed)
           (subst (λ (a : List (ℕ × List ℕ)). Heard held a telling.told.sink_failed held') (sym all)
-          (all-heard held telling.told.acks telling.told.sink_failed held' (subst (λ (ls : List ℕ). IsSoFar held telling.told.acks ls telling.told.sink_failed held') written (heard x))));
+          (all_heard held telling.told.acks telling.told.sink_failed held' (subst (λ (ls : List ℕ). IsSoFar held telling.told.acks ls telling.told.sink_failed held') written (heard x))));
       sink = λ e. sink (sym failed ∙ e);
       disk = disk;
       told = acks ∙ sym all;
@@ -129,20 +108,20 @@ ends-well first bases ws ws' h jobs telling core hears held held' sink_rose c q 
     }
 
 -- Or, to tell it, memory ran out. The clerk's job gave back what it has told.
-pub ends-ran : {D : Type 0} {G : Ghosts D} (first : Plain) (bases : ℕ → List ℕ) (ws ws' : List (Writer D G)) (h : PlainHead) (jobs : List (ManagerJob D G)) (telling : ClerkJob) (core : Plain) (hears : Type 0) (held held' : List ℕ) (sink_rose : Type 0) (c : ClosesDone first bases ws ws' h jobs telling core) →
+pub ends_ran : {D : Type 0} {G : Ghosts D} (first : Plain) (bases : ℕ → List ℕ) (ws ws' : List (Writer D G)) (h : PlainHead) (jobs : List (ManagerJob D G)) (telling : ClerkJob) (core : Plain) (hears : Type 0) (held held' : List ℕ) (sink_rose : Type 0) (c : ClosesDone first bases ws ws' h jobs telling core) →
     IsDone first h jobs telling → telling.told.missing ≡ None → telling.told.lines.items ≡ [] → (hears → IsToldSoFar held telling.told held') → (telling.told.sink_failed ≡ true → sink_rose) → (t : Told) → t ≡ telling.told → (failed : Option ℕ) → IsLowestFailed ws' failed →
     (result : Result RunEnd NoMemory) → IfOk result (λ end. end.report.acks ≡ t.acks) → IfOk result (λ end. (K : List (Act Txn)) (q : Hidden) → Stands core K q → end.report.fates ≡ fates_by (length core.load.calls) K t.acks) →
     IfOk result (λ end. (K : List (Act Txn)) (q : Hidden) → Stands core K q → end.report.order ≡ map (λ (a : Act Txn). a.call.call.number) (reported core.ends K)) →
     IfOk result (λ end. (K : List (Act Txn)) (q : Hidden) → Stands core K q → IsTablesOf (sight (setting_of core.load) (core_of core q)).row end.report.tables) → IfOk result (λ end. end.disk ≡ failed) → IfOk result (λ end. end.sink_failed ≡ t.sink_failed) →
     ThreadsRan bases first ws ws' hears held held' sink_rose result
-ends-ran first bases ws ws' h jobs telling core hears held held' sink_rose c q none written heard sink t same failed lowest (Ok end) acks fates order tables disk sank =
-    ends-well first bases ws ws' h jobs telling core hears held held' sink_rose c q none written heard sink end (acks ∙ ap (λ (x : Told). x.acks) same) (λ K y g. fates K y g ∙ ap (λ (x : Told). fates_by (length core.load.calls) K x.acks) same) order tables
+ends_ran first bases ws ws' h jobs telling core hears held held' sink_rose c q none written heard sink t same failed lowest (Ok end) acks fates order tables disk sank =
+    ends_well first bases ws ws' h jobs telling core hears held held' sink_rose c q none written heard sink end (acks ∙ ap (λ (x : Told). x.acks) same) (λ K y g. fates K y g ∙ ap (λ (x : Told). fates_by (length core.load.calls) K x.acks) same) order tables
     (subst (λ (f : Option ℕ). IsLowestFailed ws' f) (sym disk) lowest) (sank ∙ ap (λ (x : Told). x.sink_failed) same)
-ends-ran first bases ws ws' h jobs telling core hears held held' sink_rose c q none written heard sink t same failed lowest (Err e) acks fates order tables disk sank =
-    ends-short first bases ws ws' telling core hears held held' sink_rose c.run written heard sink
+ends_ran first bases ws ws' h jobs telling core hears held held' sink_rose c q none written heard sink t same failed lowest (Err e) acks fates order tables disk sank =
+    ends_short first bases ws ws' telling core hears held held' sink_rose c.run written heard sink
 
-pub none-more : {D : Type 0} {G : Ghosts D} (ws : List (Writer D G)) (j : ℕ) → ((i : ℕ) (w : Writer D G) → i < j → slice_get ws i ≡ Some w → has_failed w ≡ false) → (x : Writer D G) → slice_get ws j ≡ Some x → has_failed x ≡ false → (i : ℕ) (w : Writer D G) → i < j + 1 → slice_get ws i ≡ Some w → has_failed w ≡ false
-none-more ws j had x at works i w lt is = elim (cases_eq i j) [
+pub none_more : {D : Type 0} {G : Ghosts D} (ws : List (Writer D G)) (j : ℕ) → ((i : ℕ) (w : Writer D G) → i < j → slice_get ws i ≡ Some w → has_failed w ≡ false) → (x : Writer D G) → slice_get ws j ≡ Some x → has_failed x ≡ false → (i : ℕ) (w : Writer D G) → i < j + 1 → slice_get ws i ≡ Some w → has_failed w ≡ false
+none_more ws j had x at works i w lt is = elim (cases_eq i j) [
   | inl e ↦ (let same : Some x ≡ Some w = sym at ∙ ap (slice_get ws) (sym e) ∙ is in let it : x ≡ w = cc same in ap has_failed (sym it) ∙ works)
   | inr ne ↦ had i w (omega (arith, lt, ne)) is
 ]

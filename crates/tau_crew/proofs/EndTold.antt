@@ -14,36 +14,33 @@ use Rattle.tau_crew.specs.declared.clerk.ClerkJob.{ClerkJob}
 use Rattle.tau_crew.specs.declared.told.Told.{Told}
 use Rattle.tau_crew.specs.Clerking.{IsSoFar, IsToldSoFar, all_told, with_missing}
 use Rattle.tau_crew.specs.EndCloses.{ClosesRun}
-
-lines-append : (xs ys : List (ℕ × List ℕ)) → ack_lines (xs ++ ys) ≡ ack_lines xs ++ ack_lines ys
-lines-append [] ys = refl
-lines-append (x ∷ xs) ys = ap (λ (l : List ℕ). ack_line x ++ l) (lines-append xs ys) ∙ sym (append_assoc (ack_line x) (ack_lines xs) (ack_lines ys))
+use Rattle.tau_crew.proofs.Clerking.{lines_append}
 
 -- where no line waits all were written, or the sink has failed
-pub all-heard : (base : List ℕ) (acks : List (ℕ × List ℕ)) (failed : Bool) (held : List ℕ) → IsSoFar base acks [] failed held → Heard base acks failed held
-all-heard base acks false held w =
-    w.held_is ∙ ap (λ (l : List ℕ). base ++ l) (sym (append-nil (ack_lines w.told)) ∙ ap (λ (l : List ℕ). ack_lines w.told ++ l) w.lines_are ∙ sym (lines-append w.told w.more) ∙ ap ack_lines (sym w.is))
-all-heard base acks true held w = w
+pub all_heard : (base : List ℕ) (acks : List (ℕ × List ℕ)) (failed : Bool) (held : List ℕ) → IsSoFar base acks [] failed held → Heard base acks failed held
+all_heard base acks false held w =
+    w.held_is ∙ ap (λ (l : List ℕ). base ++ l) (sym (append-nil (ack_lines w.told)) ∙ ap (λ (l : List ℕ). ack_lines w.told ++ l) w.lines_are ∙ sym (lines_append w.told w.more) ∙ ap ack_lines (sym w.is))
+all_heard base acks true held w = w
 
 -- those that were told are the first ones, without one that is missing
-pub first-told : (acks : List (ℕ × List ℕ)) (missing : Option (ℕ × List ℕ)) → take (length acks) (with_missing acks missing) ≡ acks
-first-told acks None = take_all (length acks) acks (omega arith)
-first-told acks (Some a) = take-append_seam acks (a ∷ [])
+pub first_told : (acks : List (ℕ × List ℕ)) (missing : Option (ℕ × List ℕ)) → take (length acks) (with_missing acks missing) ≡ acks
+first_told acks None = take_all (length acks) acks (omega arith)
+first_told acks (Some a) = take-append_seam acks (a ∷ [])
 
-pub short-heard : (base : List ℕ) (t : Told) (held : List ℕ) → t.lines.items ≡ [] → IsToldSoFar base t held → Heard base (take (length t.acks) (all_told t)) t.sink_failed held
-short-heard base t held none so =
-    subst (λ (acks : List (ℕ × List ℕ)). Heard base acks t.sink_failed held) (sym (first-told t.acks t.missing))
-    (all-heard base t.acks t.sink_failed held (subst (λ (ls : List ℕ). IsSoFar base t.acks ls t.sink_failed held) none so))
+pub short_heard : (base : List ℕ) (t : Told) (held : List ℕ) → t.lines.items ≡ [] → IsToldSoFar base t held → Heard base (take (length t.acks) (all_told t)) t.sink_failed held
+short_heard base t held none so =
+    subst (λ (acks : List (ℕ × List ℕ)). Heard base acks t.sink_failed held) (sym (first_told t.acks t.missing))
+    (all_heard base t.acks t.sink_failed held (subst (λ (ls : List ℕ). IsSoFar base t.acks ls t.sink_failed held) none so))
 
 -- out of memory
-pub ends-short : {D : Type 0} {G : Ghosts D} (first : Plain) (bases : ℕ → List ℕ) (ws ws' : List (Writer D G)) (telling : ClerkJob) (result : Plain) (hears : Type 0) (held held' : List ℕ) (sink_rose : Type 0) → ClosesRun first bases ws ws' telling result → telling.told.lines.items ≡ [] →
+pub ends_short : {D : Type 0} {G : Ghosts D} (first : Plain) (bases : ℕ → List ℕ) (ws ws' : List (Writer D G)) (telling : ClerkJob) (result : Plain) (hears : Type 0) (held held' : List ℕ) (sink_rose : Type 0) → ClosesRun first bases ws ws' telling result → telling.told.lines.items ≡ [] →
     (hears → IsToldSoFar held telling.told held') → (telling.told.sink_failed ≡ true → sink_rose) → ThreadsShort bases first ws ws' hears held held' sink_rose
-ends-short first bases ws ws' telling result hears held held' sink_rose c none heard sink = record {
+ends_short first bases ws ws' telling result hears held held' sink_rose c none heard sink = record {
   state = c.state;
   acks = all_told telling.told;
   came = c.came;
   count = length telling.told.acks;
   sink_failed = telling.told.sink_failed;
-  heard = λ h. short-heard held telling.told held' none (heard h);
+  heard = λ h. short_heard held telling.told held' none (heard h);
   sink = sink;
 }

@@ -17,16 +17,16 @@ use Rattle.tau_crew_facts.specs.Closing.{EndsBy, ManagerApart, ManagerDone, Mana
 use Rattle.tau_crew_facts.specs.Spacing.{IsSpacing, newest}
 use Rattle.tau_crew_facts.specs.Writers.{HasWritten, IsManaging, SeenNow}
 use Rattle.tau_crew_facts.proofs.ManagerWriter.{begins}
-use Rattle.tau_crew_facts.proofs.Spacing.{spacing-begins}
+use Rattle.tau_crew_facts.proofs.Spacing.{spacing_begins}
 use Rattle.tau_crew.specs.Gathering.{AreLong, raised_in, taken_in}
 use Rattle.tau_crew.specs.Driving.{IsDriven, IsManagerAt, own_of}
-use Rattle.tau_crew.proofs.Driving.{left-long, short-of}
-use Rattle.tau_crew.proofs.Gathering.{managed-anchors, managed-gathered, managed-own}
+use Rattle.tau_crew.proofs.Driving.{left_long, short_of}
+use Rattle.tau_crew.proofs.Gathering.{managed_anchors, managed_gathered, managed_own}
 
 -- a manager that has done nothing, with a writer that was just opened
-pub manager-begins : {D : Type 0} {G : Ghosts D} → SeenNow G → (n j : ℕ) (base : List ℕ) (s : PlainManagerSeat) (w : Writer D G) → IsNew n j base w → s.stream ≡ j → taken_in s ≡ [] → slice_index s.seen j ≡ length base → s.stock.gathered ≡ length base → s.stock.anchors ≡ [] → s.stock.own.pieces ≡ [] →
+pub manager_begins : {D : Type 0} {G : Ghosts D} → SeenNow G → (n j : ℕ) (base : List ℕ) (s : PlainManagerSeat) (w : Writer D G) → IsNew n j base w → s.stream ≡ j → taken_in s ≡ [] → slice_index s.seen j ≡ length base → s.stock.gathered ≡ length base → s.stock.anchors ≡ [] → s.stock.own.pieces ≡ [] →
     raised_in s.me.0 ≡ false → IsManagerAt n j base w s w (length base) 0 false
-manager-begins seen_now n j base s w new stream taken seen gathered anchors own raised =
+manager_begins seen_now n j base s w new stream taken seen gathered anchors own raised =
     let driven : IsDriven n j base w s w = record {
       stream = stream;
       managing = subst (λ (ps : List Piece). IsManaging n j base ps w w) (sym taken) (begins n j base seen_now w (record { works = new.works; durable = new.durable; none = new.left; ready = new.ready }));
@@ -37,11 +37,11 @@ manager-begins seen_now n j base s w new stream taken seen gathered anchors own 
     } in
     let none : own_of s.stream s.stock.anchors ≡ [] = ap (own_of s.stream) anchors in
     record {
-      wrote = short-of n j base w s w driven;
+      wrote = short_of n j base w s w driven;
       driven = λ e. driven;
       flushed = λ e f. new.left;
       apart = λ e. record {
-        spacing = subst (λ (xs : List ℕ). IsSpacing (length base) (durable_of w) xs) (sym none) (subst (λ (d : ℕ). IsSpacing (length base) d []) (sym new.durable) (spacing-begins (length base)));
+        spacing = subst (λ (xs : List ℕ). IsSpacing (length base) (durable_of w) xs) (sym none) (subst (λ (d : ℕ). IsSpacing (length base) d []) (sym new.durable) (spacing_begins (length base)));
         last_is = sym (ap (newest (length base)) none);
         placed_is = sym (ap (length {A = List ℕ}) anchors);
       };
@@ -49,27 +49,27 @@ manager-begins seen_now n j base s w new stream taken seen gathered anchors own 
 
 module _ {D : Type 0} {G : Ghosts D} (l : Load) (v : List ℕ) (j : ℕ) (base : List ℕ) (s : PlainManagerSeat) (w0 w : Writer D G) (last placed : ℕ) (short : Bool) (m : IsManagerAt l.streams j base w0 s w last placed short) (manages : Manages s) (now : slice_index v j ≡ slice_index s.seen j) where
   -- at whatever end
-  pub manager-knows : (G.tells → IsReady l.streams j w0 base) → ManagerKnows l v j base (managed_in s.me.0) w0 w
-  manager-knows ready = record { ready = ready; written = subst (λ (d : ℕ). HasWritten l.streams j base (taken_in s) d w0 w) (sym now) m.wrote.written }
+  pub manager_knows : (G.tells → IsReady l.streams j w0 base) → ManagerKnows l v j base (managed_in s.me.0) w0 w
+  manager_knows ready = record { ready = ready; written = subst (λ (d : ℕ). HasWritten l.streams j base (taken_in s) d w0 w) (sym now) m.wrote.written }
 
   -- where memory was there
   module _ (enough : short ≡ false) where
-    pub manager-apart : ManagerApart v j base (managed_in s.me.0)
-    manager-apart =
+    pub manager_apart : ManagerApart v j base (managed_in s.me.0)
+    manager_apart =
         let a = m.apart enough in
         let stored : slice_index v j ≡ durable_of w = now ∙ (m.driven enough).stored in
-        let anchors : own_of s.stream s.stock.anchors ≡ own_of j (managed_in s.me.0).anchors = ap (λ (i : ℕ). own_of i s.stock.anchors) m.wrote.stream ∙ ap (own_of j) (sym (managed-anchors s manages)) in
+        let anchors : own_of s.stream s.stock.anchors ≡ own_of j (managed_in s.me.0).anchors = ap (λ (i : ℕ). own_of i s.stock.anchors) m.wrote.stream ∙ ap (own_of j) (sym (managed_anchors s manages)) in
         subst (λ (d : ℕ). IsSpacing (length base) d (own_of j (managed_in s.me.0).anchors)) (sym stored) (subst (λ (xs : List ℕ). IsSpacing (length base) (durable_of w) xs) anchors a.spacing)
 
     -- and where its disk works, it has no anchor that waits, and the records of the workers end within what it gathered
-    pub manager-done : has_failed w ≡ false → s.stock.own.pieces ≡ [] → (workers : ℕ → Worker) → ((u : ℕ) (call : Committed) → u < l.workers → u % l.streams ≡ j → Member call (workers u).committed → EndsBy s.stock.gathered call.spot) → ManagerDone l v workers j (managed_in s.me.0)
-    manager-done works own workers placed_by =
+    pub manager_done : has_failed w ≡ false → s.stock.own.pieces ≡ [] → (workers : ℕ → Worker) → ((u : ℕ) (call : Committed) → u < l.workers → u % l.streams ≡ j → Member call (workers u).committed → EndsBy s.stock.gathered call.spot) → ManagerDone l v workers j (managed_in s.me.0)
+    manager_done works own workers placed_by =
         let d = m.driven enough in
-        let gathered : (managed_in s.me.0).gathered ≡ s.stock.gathered = managed-gathered s manages in
+        let gathered : (managed_in s.me.0).gathered ≡ s.stock.gathered = managed_gathered s manages in
         let all : s.stock.gathered ≡ durable_of w =
-        (let long = left-long l.streams j base w0 s w d works in let none = ap (length {A = ℕ}) (m.flushed enough works) in omega (arith, long, none)) in
+        (let long = left_long l.streams j base w0 s w d works in let none = ap (length {A = ℕ}) (m.flushed enough works) in omega (arith, long, none)) in
         record {
           durable = now ∙ d.stored ∙ sym all ∙ sym gathered;
-          own = managed-own s manages ∙ own;
+          own = managed_own s manages ∙ own;
           placed = λ u call lt stream q. subst (λ (upto : ℕ). EndsBy upto call.spot) (sym gathered) (placed_by u call lt stream q);
         }

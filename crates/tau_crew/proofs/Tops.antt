@@ -13,10 +13,9 @@ use Rattle.tau_core.specs.declared.opening.Opening.{Opening}
 use Rattle.tau_core.specs.State.{Plain}
 use Rattle.tau_core.specs.Opens.{Opened, OpenedFresh, catalogue_size, load_of}
 use Rattle.tau_run.specs.RecoveredFacts.{catalogue_of}
-use Rattle.tau_step.proofs.Begun.{fresh-load}
-use Rattle.tau_core.proofs.Lists.{some-at}
+use Rattle.tau_step.proofs.Begun.{fresh_load}
 use Rattle.tau_rule.specs.Steps.{Sat}
-use Rattle.tau_rule.proofs.Gives.{one-origin}
+use Rattle.tau_rule.proofs.Gives.{one_origin}
 use Rattle.tau_desk.specs.declared.desk.Desk.{Desk}
 use Rattle.tau_desk.specs.Ends.{IsClerkSplit, IsFirst, IsWhole}
 use Rattle.tau_desk.specs.Laid.{AreUnbegun}
@@ -25,62 +24,58 @@ use Rattle.tau_crew.specs.declared.manager.ManagerJob.{ManagerJob}
 use Rattle.tau_crew.specs.Dealing.{AreDealt, IsDealing, IsDealt, KeepsWorkers}
 use Rattle.tau_crew.specs.Together.{IsManagerReady}
 use Rattle.tau_crew.specs.WorkersBack.{IsAtStart, IsHeadReady}
-use Rattle.tau_crew.proofs.WorkReturn.{all-ready, at-start, ready-stays, start-stays}
-use Rattle.tau_crew.proofs.WorkStays.{workers-stay-clerk, workers-then}
+use Rattle.tau_crew.proofs.WorkReturn.{all_ready, at_start, ready_stays, start_stays}
+use Rattle.tau_crew.proofs.WorkStays.{workers_stay_clerk, workers_then}
 use Rattle.tau_crew_facts.specs.Threads.{RanInThreads, RanInThreadsFrom, ThreadsRan}
 use Rattle.tau_crew.specs.Tops.{ThreadsWent}
+use Rattle.tau_base.proofs.Lists.{some_at, got_or}
 
 module _ {D : Type 0} {G : Ghosts D} (m : ℕ) (mode : LogMode) (load : Workload) (ws ws' : List (Writer D G)) (hears : Type 0) (held held' : List ℕ) (sink_rose : Type 0) where
   -- on new streams
-  pub went-new : (p : Plain) → OpenedFresh load.declarations.procs load.calls mode m (length ws) (catalogue_size (declarations_text load.declarations)) p → (r : Result RunEnd NoMemory) →
+  pub went_new : (p : Plain) → OpenedFresh load.declarations.procs load.calls mode m (length ws) (catalogue_size (declarations_text load.declarations)) p → (r : Result RunEnd NoMemory) →
       ThreadsWent (λ j. catalogue_of load) p ws ws' hears held held' sink_rose r → RanInThreads m mode load ws ws' hears held held' sink_rose r
-  went-new p q (Ok end) ran = record { first = p; load_is = fresh-load m mode load ws ws' hears held held' sink_rose p q; ran = ran }
-  went-new p q (Err e) ran = elim ran [
-    | inl short ↦ inl (record { first = p; load_is = fresh-load m mode load ws ws' hears held held' sink_rose p q; ran = short })
+  went_new p q (Ok end) ran = record { first = p; load_is = fresh_load m mode load ws ws' hears held held' sink_rose p q; ran = ran }
+  went_new p q (Err e) ran = elim ran [
+    | inl short ↦ inl (record { first = p; load_is = fresh_load m mode load ws ws' hears held held' sink_rose p q; ran = short })
     | inr same ↦ inr same
   ]
 
   -- from a given state
-  pub went-from : (o : Opening) (p : Plain) → Opened (load_of load.declarations.procs load.calls mode m o) p → (bases : ℕ → List ℕ) (r : Result RunEnd NoMemory) → ThreadsWent bases p ws ws' hears held held' sink_rose r →
+  pub went_from : (o : Opening) (p : Plain) → Opened (load_of load.declarations.procs load.calls mode m o) p → (bases : ℕ → List ℕ) (r : Result RunEnd NoMemory) → ThreadsWent bases p ws ws' hears held held' sink_rose r →
       RanInThreadsFrom m mode load ws ws' hears held held' sink_rose o bases r
-  went-from o p q bases (Ok end) ran = record { first = p; load_is = q.load; ran = ran }
-  went-from o p q bases (Err e) ran = elim ran [
+  went_from o p q bases (Ok end) ran = record { first = p; load_is = q.load; ran = ran }
+  went_from o p q bases (Err e) ran = elim ran [
     | inl short ↦ inl (record { first = p; load_is = q.load; ran = short })
     | inr same ↦ inr same
   ]
 
 -- ---- the beginning
 
-got-or : {A : Type 0} (xs : List A) (i : ℕ) (x d : A) → slice_get xs i ≡ Some x → slice_index_or xs i d ≡ x
-got-or [] i x d e = absurd (let bad : None ≡ Some x = e in cc)
-got-or (y ∷ ys) zero x d e = cc e
-got-or (y ∷ ys) (suc i) x d e = got-or ys i x d e
-
 -- a list that was lent as a slice
-pub lent-back : {A : Type 0} (len : ℕ) (new old : List A) → length new ≡ len → length old ≡ len → take len (new ++ drop (length new) old) ≡ new
-lent-back {A} len new old e f =
-    let none : drop (length new) old ≡ [] = drop-all (length new) old (omega (arith, e, f)) in
-    ap (λ (xs : List A). take len (new ++ xs)) none ∙ ap (take len) (append-nil new) ∙ ap (λ (k : ℕ). take k new) (sym e) ∙ take-all new
+pub lent_back : {A : Type 0} (len : ℕ) (new old : List A) → length new ≡ len → length old ≡ len → take len (new ++ drop (length new) old) ≡ new
+lent_back {A} len new old e f =
+    let none : drop (length new) old ≡ [] = drop_all (length new) old (omega (arith, e, f)) in
+    ap (λ (xs : List A). take len (new ++ xs)) none ∙ ap (take len) (append-nil new) ∙ ap (λ (k : ℕ). take k new) (sym e) ∙ take_all new
   where
-    drop-all : (n : ℕ) (xs : List A) → length xs ≤ n → drop n xs ≡ []
-    drop-all zero [] h = refl
-    drop-all zero (x ∷ xs) h = absurd (omega arith)
-    drop-all (suc n) [] h = refl
-    drop-all (suc n) (x ∷ xs) h = drop-all n xs (omega (arith, h))
+    drop_all : (n : ℕ) (xs : List A) → length xs ≤ n → drop n xs ≡ []
+    drop_all zero [] h = refl
+    drop_all zero (x ∷ xs) h = absurd (omega arith)
+    drop_all (suc n) [] h = refl
+    drop_all (suc n) (x ∷ xs) h = drop_all n xs (omega (arith, h))
 
-    take-all : (xs : List A) → take (length xs) xs ≡ xs
-    take-all [] = refl
-    take-all (x ∷ xs) = ap (λ (ys : List A). x ∷ ys) (take-all xs)
+    take_all : (xs : List A) → take (length xs) xs ≡ xs
+    take_all [] = refl
+    take_all (x ∷ xs) = ap (λ (ys : List A). x ∷ ys) (take_all xs)
 
 -- all managers are ready whose seats have just left
 module _ {D : Type 0} {G : Ghosts D} (desk : Desk) (bases : ℕ → List ℕ) (ws : List (Writer D G)) (jobs : List (ManagerJob D G)) (streams : ℕ) (wide : length ws ≡ streams) (is : desk.table.shared.key.value.load.streams ≡ streams) (anchors : length desk.load.opening.anchors.items ≡ streams)
     (dealt : AreDealt desk.table.shared.key.value desk.table.shared.table_id bases ws streams jobs) where
-  pub managers-ready : (k : ℕ) (d : ManagerJob D G) → k < length jobs → IsManagerReady desk (slice_index_or jobs k d)
-  managers-ready k d low =
-      let job = some-at jobs k low in
-      let w = some-at ws k (let c = dealt.count in omega (arith, c, low, wide)) in
+  pub managers_ready : (k : ℕ) (d : ManagerJob D G) → k < length jobs → IsManagerReady desk (slice_index_or jobs k d)
+  managers_ready k d low =
+      let job = some_at jobs k low in
+      let w = some_at ws k (let c = dealt.count in omega (arith, c, low, wide)) in
       let one : IsDealt desk.table.shared.key.value desk.table.shared.table_id bases k w.0 job.0 = dealt.each k w.0 job.0 w.1 job.1 in
-      subst (IsManagerReady desk) (sym (got-or jobs k job.0 d job.1)) (record {
+      subst (IsManagerReady desk) (sym (got_or jobs k job.0 d job.1)) (record {
         own = one.own;
         opened = one.opened;
         stream = one.at ∙ sym one.stream;
@@ -89,27 +84,27 @@ module _ {D : Type 0} {G : Ghosts D} (desk : Desk) (bases : ℕ → List ℕ) (w
       })
 
 -- the head after all other seats have left
-pub head-ready : (desk : Desk) (h h1 h2 : PlainHead) (clerk : PlainClerkSeat) → Opened desk.table.shared.key.value.load desk.table.shared.key.value → IsFirst desk.table.shared.key.value h.me → IsWhole h → Heads h → AreUnbegun h.workers →
+pub head_ready : (desk : Desk) (h h1 h2 : PlainHead) (clerk : PlainClerkSeat) → Opened desk.table.shared.key.value.load desk.table.shared.key.value → IsFirst desk.table.shared.key.value h.me → IsWhole h → Heads h → AreUnbegun h.workers →
     IsDealing desk.table.shared.key.value desk.table.shared.table_id desk.table.shared.key.value.load.streams h1 → KeepsWorkers desk.table.shared.key.value.load h h1 → IsClerkSplit desk.table.shared.key.value.load h1 h2 clerk → IsHeadReady desk h2
-head-ready desk h h1 h2 clerk opened first whole heads unbegun dealing keeps split =
+head_ready desk h h1 h2 clerk opened first whole heads unbegun dealing keeps split =
     let key : Plain = desk.table.shared.key.value in
-    let stays = workers-then key.load h h1 h2 keeps (workers-stay-clerk key.load h1 h2 clerk split) in
-    let same : heads.origin ≡ key = one-origin heads.origin key (sym heads.opened ∙ ap (λ (m : Sat). m.0.opened) first.knows) in
+    let stays = workers_then key.load h h1 h2 keeps (workers_stay_clerk key.load h1 h2 clerk split) in
+    let same : heads.origin ≡ key = one_origin heads.origin key (sym heads.opened ∙ ap (λ (m : Sat). m.0.opened) first.knows) in
     record {
       own = ap (λ (x : PlainHead). x.table_id) split.left ∙ dealing.own;
       opened = ap (λ (m : Sat). m.0.opened) split.split.head_is ∙ dealing.opened;
-      ready = ready-stays h h2 0 key.load.workers stays.works (all-ready key h opened first.knows unbegun heads whole.workers (heads.worker_count ∙ ap (λ (p : Plain). p.load.workers) same));
+      ready = ready_stays h h2 0 key.load.workers stays.works (all_ready key h opened first.knows unbegun heads whole.workers (heads.worker_count ∙ ap (λ (p : Plain). p.load.workers) same));
     }
 
-pub all-start : (desk : Desk) (h h1 h2 : PlainHead) (clerk : PlainClerkSeat) → Opened desk.table.shared.key.value.load desk.table.shared.key.value → IsFirst desk.table.shared.key.value h.me → AreUnbegun h.workers →
+pub all_start : (desk : Desk) (h h1 h2 : PlainHead) (clerk : PlainClerkSeat) → Opened desk.table.shared.key.value.load desk.table.shared.key.value → IsFirst desk.table.shared.key.value h.me → AreUnbegun h.workers →
     KeepsWorkers desk.table.shared.key.value.load h h1 → IsClerkSplit desk.table.shared.key.value.load h1 h2 clerk → (w : ℕ) → w < desk.table.shared.key.value.load.workers → IsAtStart desk.table.shared.key.value.load h2 w
-all-start desk h h1 h2 clerk opened first unbegun keeps split w low =
+all_start desk h h1 h2 clerk opened first unbegun keeps split w low =
     let key : Plain = desk.table.shared.key.value in
-    let stays = workers-then key.load h h1 h2 keeps (workers-stay-clerk key.load h1 h2 clerk split) in
-    start-stays key.load h h2 w (stays.roles w low) stays.works (at-start key h opened first.knows unbegun w low)
+    let stays = workers_then key.load h h1 h2 keeps (workers_stay_clerk key.load h1 h2 clerk split) in
+    start_stays key.load h h2 w (stays.roles w low) stays.works (at_start key h opened first.knows unbegun w low)
 
 module _ {D : Type 0} {G : Ghosts D} (bases : ℕ → List ℕ) (first : Plain) (ws ws' : List (Writer D G)) (hears : Type 0) (held held' : List ℕ) (sink_rose : Type 0) where
   -- a run that has begun
-  pub went-ran : (r : Result RunEnd NoMemory) → ThreadsRan bases first ws ws' hears held held' sink_rose r → ThreadsWent bases first ws ws' hears held held' sink_rose r
-  went-ran (Ok end) q = q
-  went-ran (Err e) q = inl q
+  pub went_ran : (r : Result RunEnd NoMemory) → ThreadsRan bases first ws ws' hears held held' sink_rose r → ThreadsWent bases first ws ws' hears held held' sink_rose r
+  went_ran (Ok end) q = q
+  went_ran (Err e) q = inl q

@@ -16,17 +16,17 @@ use Rattle.tau_desk.specs.Works.{BeginsIn, GivesUpOn, IsSameSeat, undone}
 use Rattle.tau_desk.specs.declared.mark.Mark.{Mark}
 use Rattle.tau_crew_facts.specs.Closing.{WorkerDone}
 use Rattle.tau_crew.specs.Working.{HasNone, HasRun, IsBare, IsSteady, IsUnjoined, WorkerEnds, WorksOn, has_raised, worker_at}
-use Rattle.tau_crew.proofs.WorkSteps.{loose-hand, none-waits, rests-hand, unjoined-none}
+use Rattle.tau_crew.proofs.WorkSteps.{loose_hand, none_waits, rests_hand, unjoined_none}
 
-pub same-then : (a b c : PlainWorkerSeat) → IsSameSeat a b → IsSameSeat b c → IsSameSeat a c
-same-then a b c p q = (q.0 ∙ p.0, q.1 ∙ p.1, q.2 ∙ p.2, q.3 ∙ p.3)
+pub same_then : (a b c : PlainWorkerSeat) → IsSameSeat a b → IsSameSeat b c → IsSameSeat a c
+same_then a b c p q = (q.0 ∙ p.0, q.1 ∙ p.1, q.2 ∙ p.2, q.3 ∙ p.3)
 
 -- a worker that has no call to begin
-pub has-none : (origin : Plain) (s : PlainWorkerSeat) → Works s → s.me.0.opened ≡ Some origin → s.work.txn.hand ≡ None → number_by (length origin.load.calls) s.work.next s.work.again ≡ None → HasNone origin.load s
-has-none origin s a opened hand none = (none-waits origin s a opened hand none, none)
+pub has_none : (origin : Plain) (s : PlainWorkerSeat) → Works s → s.me.0.opened ≡ Some origin → s.work.txn.hand ≡ None → number_by (length origin.load.calls) s.work.next s.work.again ≡ None → HasNone origin.load s
+has_none origin s a opened hand none = (none_waits origin s a opened hand none, none)
 
-rests-work : (l : Load) (s : PlainWorkerSeat) → s.work.txn.hand ≡ None → IsBare s → number_by (length l.calls) s.work.next s.work.again ≡ None → RestsWork (length l.calls) s.work
-rests-work l s hand bare none = by_again s.work.again refl none
+rests_work : (l : Load) (s : PlainWorkerSeat) → s.work.txn.hand ≡ None → IsBare s → number_by (length l.calls) s.work.next s.work.again ≡ None → RestsWork (length l.calls) s.work
+rests_work l s hand bare none = by_again s.work.again refl none
   where
     by_again : (x : Option ℕ) → s.work.again ≡ x → number_by (length l.calls) s.work.next x ≡ None → RestsWork (length l.calls) s.work
     by_again (Some k) is f = absurd (let bad : Some k ≡ None = f in cc)
@@ -37,57 +37,57 @@ rests-work l s hand bare none = by_again s.work.again refl none
 
 -- what comes of the beginning of the next call
 module _ (origin : Plain) (s s' : PlainWorkerSeat) (a : Works s) (opened : s.me.0.opened ≡ Some origin) (hand : s.work.txn.hand ≡ None) (others : s' ≡ record s { work = s'.work }) where
-  pub begun-rests : (r : Result Bool NoMemory) → BeginsIn origin.load s.work s'.work r → IfOk r (λ b. b ≡ false → s'.work.txn.hand ≡ None)
-  begun-rests (Err e) q = tt
-  begun-rests (Ok true) q = λ e. absurd (let bad : true ≡ false = e in cc)
-  begun-rests (Ok false) q = λ _. ap (λ (o : PlainWork). o.txn.hand) q.0 ∙ hand
+  pub begun_rests : (r : Result Bool NoMemory) → BeginsIn origin.load s.work s'.work r → IfOk r (λ b. b ≡ false → s'.work.txn.hand ≡ None)
+  begun_rests (Err e) q = tt
+  begun_rests (Ok true) q = λ e. absurd (let bad : true ≡ false = e in cc)
+  begun_rests (Ok false) q = λ _. ap (λ (o : PlainWork). o.txn.hand) q.0 ∙ hand
 
-  unbegun-same : s'.work ≡ s.work → s' ≡ s
-  unbegun-same e = others ∙ ap (λ (o : PlainWork). record s { work = o }) e
+  unbegun_same : s'.work ≡ s.work → s' ≡ s
+  unbegun_same e = others ∙ ap (λ (o : PlainWork). record s { work = o }) e
 
-  pub begun-none : (r : Result Bool NoMemory) → BeginsIn origin.load s.work s'.work r → IfOk r (λ b. b ≡ false → HasNone origin.load s')
-  begun-none (Err e) q = tt
-  begun-none (Ok true) q = λ e. absurd (let bad : true ≡ false = e in cc)
-  begun-none (Ok false) q = λ _. subst (HasNone origin.load) (sym (unbegun-same q.0)) (has-none origin s a opened hand q.1)
+  pub begun_none : (r : Result Bool NoMemory) → BeginsIn origin.load s.work s'.work r → IfOk r (λ b. b ≡ false → HasNone origin.load s')
+  begun_none (Err e) q = tt
+  begun_none (Ok true) q = λ e. absurd (let bad : true ≡ false = e in cc)
+  begun_none (Ok false) q = λ _. subst (HasNone origin.load) (sym (unbegun_same q.0)) (has_none origin s a opened hand q.1)
 
-  pub begun-short : (r : Result Bool NoMemory) → BeginsIn origin.load s.work s'.work r → OnErr r (IsUnjoined s'.work.txn)
-  begun-short (Err e) q = unjoined-none s'.work.txn (ap (λ (o : PlainWork). o.txn.hand) q.others ∙ hand)
-  begun-short (Ok b) q = tt
+  pub begun_short : (r : Result Bool NoMemory) → BeginsIn origin.load s.work s'.work r → OnErr r (IsUnjoined s'.work.txn)
+  begun_short (Err e) q = unjoined_none s'.work.txn (ap (λ (o : PlainWork). o.txn.hand) q.others ∙ hand)
+  begun_short (Ok b) q = tt
 
 -- without a call in hand none is given up
-rests-steady : (origin : Plain) (s : PlainWorkerSeat) → Works s → s.me.0.opened ≡ Some origin → s.work.txn.hand ≡ None → IsSteady s
-rests-steady origin s a opened hand = ((λ h e. absurd (let bad : None ≡ Some h = sym (rests-hand origin s a opened hand) ∙ e in cc)), ap leaves_by hand)
+rests_steady : (origin : Plain) (s : PlainWorkerSeat) → Works s → s.me.0.opened ≡ Some origin → s.work.txn.hand ≡ None → IsSteady s
+rests_steady origin s a opened hand = ((λ h e. absurd (let bad : None ≡ Some h = sym (rests_hand origin s a opened hand) ∙ e in cc)), ap leaves_by hand)
 
-has-run : (origin : Plain) (s s' : PlainWorkerSeat) → Works s → Works s' → s.me.0.opened ≡ Some origin → s.work.txn.hand ≡ None → WorksOn s s' → s'.work.txn.hand ≡ None → (s'.me.0.found ≡ true) ⊎ HasNone origin.load s' → HasRun origin.load s s'
-has-run origin s s' a a' opened rested w hand ended = record {
+has_run : (origin : Plain) (s s' : PlainWorkerSeat) → Works s → Works s' → s.me.0.opened ≡ Some origin → s.work.txn.hand ≡ None → WorksOn s s' → s'.work.txn.hand ≡ None → (s'.me.0.found ≡ true) ⊎ HasNone origin.load s' → HasRun origin.load s s'
+has_run origin s s' a a' opened rested w hand ended = record {
   hand = hand;
-  rests = rests-hand origin s' a' (w.seat.3 ∙ opened) hand;
-  keeps = w.keeps (rests-steady origin s a opened rested);
+  rests = rests_hand origin s' a' (w.seat.3 ∙ opened) hand;
+  keeps = w.keeps (rests_steady origin s a opened rested);
   raised = w.raised;
   bare = w.bare;
   ended = elim ended [ inl found ↦ inl found | inr none ↦ inr none.0 ];
-  resting = λ bare. elim ended [ inl found ↦ inl found | inr none ↦ inr (rests-work origin.load s' hand (w.bare bare) none.1) ];
+  resting = λ bare. elim ended [ inl found ↦ inl found | inr none ↦ inr (rests_work origin.load s' hand (w.bare bare) none.1) ];
 }
 
 -- it ran to its end
-pub ends-run : (origin : Plain) (s s' : PlainWorkerSeat) → Works s → Works s' → s.me.0.opened ≡ Some origin → s.work.txn.hand ≡ None → WorksOn s s' → s'.work.txn.hand ≡ None → (s'.me.0.found ≡ true) ⊎ HasNone origin.load s' → (u : Unit {0}) → WorkerEnds origin.load s s' (Ok u)
-ends-run origin s s' a a' opened rested w hand ended u =
-    let free = unjoined-none s'.work.txn hand in
+pub ends_run : (origin : Plain) (s s' : PlainWorkerSeat) → Works s → Works s' → s.me.0.opened ≡ Some origin → s.work.txn.hand ≡ None → WorksOn s s' → s'.work.txn.hand ≡ None → (s'.me.0.found ≡ true) ⊎ HasNone origin.load s' → (u : Unit {0}) → WorkerEnds origin.load s s' (Ok u)
+ends_run origin s s' a a' opened rested w hand ended u =
+    let free = unjoined_none s'.work.txn hand in
     let held : held_in s'.work.txn ≡ [] = ap held_by hand in
     record {
       seat = w.seat;
-      loose = loose-hand s' a' held free.joined;
+      loose = loose_hand s' a' held free.joined;
       held = held;
       unjoined = free;
-      done = has-run origin s s' a a' opened rested w hand ended;
+      done = has_run origin s s' a a' opened rested w hand ended;
       short = tt;
     }
 
 -- its call was given up, and it raised the stop
-pub ends-short : (l : Load) (s s' : PlainWorkerSeat) → Works s' → IsSameSeat s s' → held_in s'.work.txn ≡ [] → IsUnjoined s'.work.txn → has_raised s' ≡ true → (e : NoMemory) → WorkerEnds l s s' (Err e)
-ends-short l s s' a same held free raised e = record {
+pub ends_short : (l : Load) (s s' : PlainWorkerSeat) → Works s' → IsSameSeat s s' → held_in s'.work.txn ≡ [] → IsUnjoined s'.work.txn → has_raised s' ≡ true → (e : NoMemory) → WorkerEnds l s s' (Err e)
+ends_short l s s' a same held free raised e = record {
   seat = same;
-  loose = loose-hand s' a held free.joined;
+  loose = loose_hand s' a held free.joined;
   held = held;
   unjoined = free;
   done = tt;
@@ -100,8 +100,8 @@ pub record GaveUp (s s' : PlainWorkerSeat) : Type 0 where
   pub held : held_in s'.work.txn ≡ []
   pub unjoined : IsUnjoined s'.work.txn
 
-pub gave-none : (s s' : PlainWorkerSeat) → IsUnjoined s.work.txn → GivesUpOn s s' false → GaveUp s s'
-gave-none s s' free q = record {
+pub gave_none : (s s' : PlainWorkerSeat) → IsUnjoined s.work.txn → GivesUpOn s s' false → GaveUp s s'
+gave_none s s' free q = record {
   seat = (ap (λ (x : PlainWorkerSeat). x.table_id) q.1, ap (λ (x : PlainWorkerSeat). x.id) q.1, ap (λ (x : PlainWorkerSeat). x.worker) q.1, ap (λ (x : PlainWorkerSeat). x.me.0.opened) q.1);
   held = ap (λ (x : PlainWorkerSeat). held_in x.work.txn) q.1 ∙ held_by_mark s.work.mark;
   unjoined = subst (λ (x : PlainWorkerSeat). IsUnjoined x.work.txn) (sym q.1) (free_by_mark s.work.mark);
@@ -113,10 +113,10 @@ gave-none s s' free q = record {
 
     free_by_mark : (m : Option Mark) → IsUnjoined (undone s.work m).txn
     free_by_mark None = free
-    free_by_mark (Some k) = unjoined-none (unbegun s.work k).txn refl
+    free_by_mark (Some k) = unjoined_none (unbegun s.work k).txn refl
 
 -- ---- what the end of a run in threads wants of a worker
 
 -- none of its calls was lost
-pub worker-done : (l : Load) (s s' : PlainWorkerSeat) (w : ℕ) → ((k : ℕ) → in_calls k (calls_of l w) ≤ in_worker k (worker_at s)) → HasRun l s s' → WorkerDone l w (worker_at s')
-worker-done l s s' w was r = record { rests = r.rests; kept = λ k. (let a = was k in let b = r.keeps.all k in omega (arith, a, b)) }
+pub worker_done : (l : Load) (s s' : PlainWorkerSeat) (w : ℕ) → ((k : ℕ) → in_calls k (calls_of l w) ≤ in_worker k (worker_at s)) → HasRun l s s' → WorkerDone l w (worker_at s')
+worker_done l s s' w was r = record { rests = r.rests; kept = λ k. (let a = was k in let b = r.keeps.all k in omega (arith, a, b)) }

@@ -7,7 +7,6 @@ use Rattle.tau_disk.specs.declared.disk.Disk.{Ghosts}
 use Rattle.tau_stream.specs.declared.writer.Writer.{Writer}
 use Rattle.tau_stream.specs.Writer.{IsReady}
 use Rattle.tau_core.specs.State.{Plain}
-use Rattle.tau_core.proofs.Lists.{some-at}
 use Rattle.tau_step.specs.Whole.{IsBegun}
 use Rattle.tau_desk.specs.Seats.{PlainHead}
 use Rattle.tau_crew.specs.declared.clerk.ClerkJob.{ClerkJob}
@@ -17,30 +16,21 @@ use Rattle.tau_crew.specs.Dealing.{AreDealt, IsDealt}
 use Rattle.tau_crew.specs.Ending.{AreManagersBack, IsBack}
 use Rattle.tau_crew.specs.Together.{ClerkWent, ManagerWent, ManagersWent}
 use Rattle.tau_crew.specs.WorkersBack.{AllAreBack, IsAtStart}
+use Rattle.tau_base.proofs.Lists.{some_at, got_within, got_or}
 
-pub one-head : (x y : PlainHead) → Some x ≡ Some y → x ≡ y
-one-head x y e = cc e
-
-got-or : {A : Type 0} (xs : List A) (i : ℕ) (x d : A) → slice_get xs i ≡ Some x → slice_index_or xs i d ≡ x
-got-or [] i x d e = absurd (let bad : None ≡ Some x = e in cc)
-got-or (y ∷ ys) zero x d e = cc e
-got-or (y ∷ ys) (suc i) x d e = got-or ys i x d e
-
-within : {A : Type 0} (xs : List A) (i : ℕ) (x : A) → slice_get xs i ≡ Some x → i < length xs
-within [] i x e = absurd (let bad : None ≡ Some x = e in cc)
-within (y ∷ ys) zero x e = omega arith
-within (y ∷ ys) (suc i) x e = (let q = within ys i x e in omega (arith, q))
+pub one_head : (x y : PlainHead) → Some x ≡ Some y → x ≡ y
+one_head x y e = cc e
 
 module _ {D : Type 0} {G : Ghosts D} (first : Plain) (table : TableId) (bases : ℕ → List ℕ) (ws : List (Writer D G)) (wide : length first.load.opening.ends ≡ first.load.streams) (begun : IsBegun bases ws first.load.opening) where
-  managers-back : (jobs jobs' : List (ManagerJob D G)) → AreDealt first table bases ws first.load.streams jobs → ManagersWent jobs jobs' → length jobs' ≡ length jobs → AreManagersBack first table bases ws jobs'
-  managers-back jobs jobs' dealt went long = record {
+  managers_back : (jobs jobs' : List (ManagerJob D G)) → AreDealt first table bases ws first.load.streams jobs → ManagersWent jobs jobs' → length jobs' ≡ length jobs → AreManagersBack first table bases ws jobs'
+  managers_back jobs jobs' dealt went long = record {
     count = long ∙ dealt.count;
     writers = begun.count ∙ wide;
     each = λ j w job' at_w at_job.
-        (let low : j < length jobs = (let q = within jobs' j job' at_job in omega (arith, q, long)) in
-        let old = some-at jobs j low in
+        (let low : j < length jobs = (let q = got_within jobs' j job' at_job in omega (arith, q, long)) in
+        let old = some_at jobs j low in
         let one : ManagerWent old.0 job' =
-        subst (λ (z : ManagerJob D G × ManagerJob D G). ManagerWent z.0 z.1) (λ i. (got-or jobs j old.0 job' old.1 i, got-or jobs' j job' job' at_job i)) (went.each j job' low) in
+        subst (λ (z : ManagerJob D G × ManagerJob D G). ManagerWent z.0 z.1) (λ i. (got_or jobs j old.0 job' old.1 i, got_or jobs' j job' job' at_job i)) (went.each j job' low) in
         let d : IsDealt first table bases j w old.0 = dealt.each j w old.0 at_w old.1 in
         record {
           own = one.own.table ∙ d.own;
@@ -52,13 +42,13 @@ module _ {D : Type 0} {G : Ghosts D} (first : Plain) (table : TableId) (bases : 
         });
   }
 
-  pub phase-back : (hears : Type 0) (held now now' : List ℕ) (faults faults' : ℕ) (h h' : PlainHead) (jobs jobs' : List (ManagerJob D G)) (clerk clerk' : ClerkJob) (short : Bool) → h.table_id ≡ table → h.me.0.opened ≡ Some first → AllAreBack first.load h h' short →
+  pub phase_back : (hears : Type 0) (held now now' : List ℕ) (faults faults' : ℕ) (h h' : PlainHead) (jobs jobs' : List (ManagerJob D G)) (clerk clerk' : ClerkJob) (short : Bool) → h.table_id ≡ table → h.me.0.opened ≡ Some first → AllAreBack first.load h h' short →
       ((w : ℕ) → w < first.load.workers → IsAtStart first.load h w) → AreDealt first table bases ws first.load.streams jobs → ManagersWent jobs jobs' → length jobs' ≡ length jobs →
       clerk.seat.table_id ≡ table → clerk.seat.me.0.opened ≡ Some first → Tells first.load clerk.seat clerk.told → ClerkWent first.load hears now now' faults faults' clerk clerk' → (hears → IsToldSoFar held clerk.told now) → clerk.told.sink_failed ≡ false →
       IsBack first table bases ws hears held now' (Rose faults faults') h' jobs' clerk' short
-  phase-back hears held now now' faults faults' h h' jobs jobs' clerk clerk' short own opened back start dealt went long clerk_own clerk_opened tells told heard works = record {
+  phase_back hears held now now' faults faults' h h' jobs jobs' clerk clerk' short own opened back start dealt went long clerk_own clerk_opened tells told heard works = record {
     head = record { own = back.all.table ∙ own; opened = back.all.opened ∙ opened; workers = back.back };
-    managers = managers-back jobs jobs' dealt went long;
+    managers = managers_back jobs jobs' dealt went long;
     clerk = record { own = told.goes.same.table ∙ clerk_own; opened = told.goes.same.opened ∙ clerk_opened; clerk = told.clerk; tells = told.goes.tells tells };
     heard = λ t. told.heard t held (heard t);
     sink = λ e. elim (told.cause e) [ inl before ↦ absurd (let bad : false ≡ true = sym works ∙ before in cc) | inr rose ↦ rose ];

@@ -12,7 +12,7 @@ use Rattle.tau_rule.specs.Heads.{role_or}
 use Rattle.tau_rule.specs.Role.{Role, role_in}
 use Rattle.tau_rule.specs.Rule.{has}
 use Rattle.tau_rule.specs.Steps.{Sat, worker_in_share}
-use Rattle.tau_desk.proofs.Beginning.{role-below}
+use Rattle.tau_desk.proofs.Beginning.{role_below}
 use Rattle.tau_desk.specs.Laid.{AreUnbegun}
 use Rattle.tau_desk.specs.Resumes.{RestsWork}
 use Rattle.tau_desk.specs.Seats.{Heads, PlainHead}
@@ -22,55 +22,55 @@ use Rattle.tau_crew.specs.Ending.{HasRunBack, IsWorkerBack, role_back}
 use Rattle.tau_crew.specs.WorkersBack.{AreReady, IsAtStart, WorkerIsBack, WorkersBack, worker_of}
 
 module _ (l : Load) (w : ℕ) (h h' : PlainHead) (short : Bool) (b : WorkerIsBack l w h h' short) where
-  role-is : role_back h' w ≡ b.role'
-  role-is = ap role_or b.is
+  role_is : role_back h' w ≡ b.role'
+  role_is = ap role_or b.is
 
-  pub worker-back : IsWorkerBack h' w
-  worker-back = record {
+  pub worker_is_back : IsWorkerBack h' w
+  worker_is_back = record {
     work = b.work';
     there = b.there;
-    loose = subst (λ (r : Role). IsLoose (worker_of r).hand) (sym role-is) b.loose;
+    loose = subst (λ (r : Role). IsLoose (worker_of r).hand) (sym role_is) b.loose;
     held = b.held;
     unjoined = b.unjoined.joined;
   }
 
-  pub worker-run : IsAtStart l h w → short ≡ false → HasRunBack l h' w
-  worker-run s e =
+  pub worker_run : IsAtStart l h w → short ≡ false → HasRunBack l h' w
+  worker_run s e =
       let r = b.ran e in
-      let same : s.role ≡ b.role = one-role s.role b.role (sym s.is ∙ b.was) in
+      let same : s.role ≡ b.role = one_role s.role b.role (sym s.is ∙ b.was) in
       record {
-        rests = ap (λ (x : Role). (worker_of x).hand) role-is ∙ r.rests;
+        rests = ap (λ (x : Role). (worker_of x).hand) role_is ∙ r.rests;
         kept = λ k.
             (let a = s.calls k in
             let c = ap (λ (x : Role). in_worker k (worker_of x)) same in
             let d = r.keeps.all k in
-            let f = ap (λ (x : Role). in_worker k (worker_of x)) role-is in
+            let f = ap (λ (x : Role). in_worker k (worker_of x)) role_is in
             omega (arith, a, c, d, f));
-        raised = ap (λ (x : Role). x.raised) role-is ∙ r.raised ∙ ap (λ (x : Role). x.raised) (sym same) ∙ s.raised;
-        ended = elim r.ended [ inl found ↦ inl found | inr none ↦ inr (ap (λ (x : Role). (worker_of x).waiting) role-is ∙ none) ];
-        resting = λ work is. subst (λ (o : PlainWork). (h'.me.0.found ≡ true) ⊎ RestsWork (length l.calls) o) (one-work b.work' work (sym b.there ∙ is)) (r.resting (s.unmarked b.work b.had));
+        raised = ap (λ (x : Role). x.raised) role_is ∙ r.raised ∙ ap (λ (x : Role). x.raised) (sym same) ∙ s.raised;
+        ended = elim r.ended [ inl found ↦ inl found | inr none ↦ inr (ap (λ (x : Role). (worker_of x).waiting) role_is ∙ none) ];
+        resting = λ work is. subst (λ (o : PlainWork). (h'.me.0.found ≡ true) ⊎ RestsWork (length l.calls) o) (one_work b.work' work (sym b.there ∙ is)) (r.resting (s.unmarked b.work b.had));
       }
     where
-      one-role : (x y : Role) → Some x ≡ Some y → x ≡ y
-      one-role x y f = cc f
+      one_role : (x y : Role) → Some x ≡ Some y → x ≡ y
+      one_role x y f = cc f
 
-      one-work : (x y : PlainWork) → Some (Some x) ≡ Some (Some y) → x ≡ y
-      one-work x y f = cc f
+      one_work : (x y : PlainWork) → Some (Some x) ≡ Some (Some y) → x ≡ y
+      one_work x y f = cc f
 
 -- ---- all of them
 
 module _ (l : Load) (h h' : PlainHead) (short : Bool) (all : WorkersBack l 0 l.workers h h' short) where
-  pub all-back : (w : ℕ) → w < l.workers → IsWorkerBack h' w
-  all-back w low = worker-back l w h h' short (all.each w (omega arith) low)
+  pub all_back : (w : ℕ) → w < l.workers → IsWorkerBack h' w
+  all_back w low = worker_is_back l w h h' short (all.each w (omega arith) low)
 
-  pub all-ran : short ≡ false → (w : ℕ) → w < l.workers → IsAtStart l h w → HasRunBack l h' w
-  all-ran e w low s = worker-run l w h h' short (all.each w (omega arith) low) s e
+  pub all_ran : short ≡ false → (w : ℕ) → w < l.workers → IsAtStart l h w → HasRunBack l h' w
+  all_ran e w low s = worker_run l w h h' short (all.each w (omega arith) low) s e
 
 -- ---- at the beginning
 
 -- other actors leave the head
-pub start-stays : (l : Load) (h h' : PlainHead) (w : ℕ) → has w h'.me.0 ≡ has w h.me.0 → h'.workers ≡ h.workers → IsAtStart l h w → IsAtStart l h' w
-start-stays l h h' w role works s = record {
+pub start_stays : (l : Load) (h h' : PlainHead) (w : ℕ) → has w h'.me.0 ≡ has w h.me.0 → h'.workers ≡ h.workers → IsAtStart l h w → IsAtStart l h' w
+start_stays l h h' w role works s = record {
   role = s.role;
   is = role ∙ s.is;
   calls = s.calls;
@@ -78,26 +78,26 @@ start-stays l h h' w role works s = record {
   unmarked = λ work is. s.unmarked work (ap (λ (xs : List (Option PlainWork)). slice_get xs w) (sym works) ∙ is);
 }
 
-pub ready-stays : (h h' : PlainHead) (from to : ℕ) → h'.workers ≡ h.workers → AreReady h from to → AreReady h' from to
-ready-stays h h' from to works ready w low high = (let o = ready w low high in (o.0, ap (λ (xs : List (Option PlainWork)). slice_get xs w) works ∙ o.1, o.2))
+pub ready_stays : (h h' : PlainHead) (from to : ℕ) → h'.workers ≡ h.workers → AreReady h from to → AreReady h' from to
+ready_stays h h' from to works ready w low high = (let o = ready w low high in (o.0, ap (λ (xs : List (Option PlainWork)). slice_get xs w) works ∙ o.1, o.2))
 
 module _ (origin : Plain) (h : PlainHead) (q : Opened origin.load origin) (view : h.me ≡ (first_view origin, [])) (unbegun : AreUnbegun h.workers) where
-  role-first : (w : ℕ) → w < origin.load.workers → has w h.me.0 ≡ Some (role_at origin w)
-  role-first w low = ap (λ (m : Sat). role_in w m.0.roles) view ∙ role-below origin (origin.load.workers + origin.load.streams + 1) w (omega (arith, low))
+  role_first : (w : ℕ) → w < origin.load.workers → has w h.me.0 ≡ Some (role_at origin w)
+  role_first w low = ap (λ (m : Sat). role_in w m.0.roles) view ∙ role_below origin (origin.load.workers + origin.load.streams + 1) w (omega (arith, low))
 
-  share-first : (w : ℕ) → w < origin.load.workers → (role_at origin w).share ≡ worker_share origin w
-  share-first w low = elim (leb_tells (w + 1) origin.load.workers) [
+  share_first : (w : ℕ) → w < origin.load.workers → (role_at origin w).share ≡ worker_share origin w
+  share_first w low = elim (leb_tells (w + 1) origin.load.workers) [
     | inl a ↦ ap (λ (b : Bool). if b then worker_share origin w else outer_share origin w) a.0
     | inr b ↦ absurd (let e = b.1 in omega (arith, e, low))
   ]
 
-  pub at-start : (w : ℕ) → w < origin.load.workers → IsAtStart origin.load h w
-  at-start w low = record {
+  pub at_start : (w : ℕ) → w < origin.load.workers → IsAtStart origin.load h w
+  at_start w low = record {
     role = role_at origin w;
-    is = role-first w low;
+    is = role_first w low;
     calls = λ k.
         (let a : in_calls k (worker_at origin w).waiting ≡ in_calls k (calls_of origin.load w) = ap (in_calls k) (q.waiting w low) in
-        let b : worker_of (role_at origin w) ≡ worker_at origin w = ap worker_in_share (share-first w low) in
+        let b : worker_of (role_at origin w) ≡ worker_at origin w = ap worker_in_share (share_first w low) in
         let c = ap (in_worker k) b in
         omega (arith, a, c));
     raised = refl;
@@ -105,8 +105,8 @@ module _ (origin : Plain) (h : PlainHead) (q : Opened origin.load origin) (view 
   }
 
   -- each worker is ready that has its place in the head
-  pub all-ready : Heads h → ((w : ℕ) → slice_get h.workers w ≡ Some None → ⊥) → length h.workers ≡ origin.load.workers → AreReady h 0 origin.load.workers
-  all-ready g whole count w low high = by_case (slice_get h.workers w) refl
+  pub all_ready : Heads h → ((w : ℕ) → slice_get h.workers w ≡ Some None → ⊥) → length h.workers ≡ origin.load.workers → AreReady h 0 origin.load.workers
+  all_ready g whole count w low high = by_case (slice_get h.workers w) refl
     where
       there : (xs : List (Option PlainWork)) (i : ℕ) → i < length xs → slice_get xs i ≡ None → ⊥
       there [] i lt e = omega (arith, lt)

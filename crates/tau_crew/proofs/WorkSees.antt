@@ -4,8 +4,8 @@ use Rattle.std.specs.Prelude.{slice_set}
 use Rattle.tau_rule.specs.Positions.{sees_to}
 use Rattle.tau_desk.specs.Seats.{PlainWorkerSeat}
 use Rattle.tau_crew.specs.Working.{WorksOn}
-use Rattle.tau_crew.proofs.WorkSteps.{works-known}
+use Rattle.tau_crew.proofs.WorkSteps.{works_known}
 
-pub works-seen : (s s' : PlainWorkerSeat) (stream upto : ℕ) → s' ≡ record s { me = (sees_to stream upto s.me.0, s.me.1); seen = slice_set s.seen stream upto } → WorksOn s s'
-works-seen s s' stream upto e =
-    subst (λ (x : PlainWorkerSeat). WorksOn s x) (sym e) (works-known s (record s { me = (sees_to stream upto s.me.0, s.me.1); seen = slice_set s.seen stream upto }) (refl, refl, refl, refl) refl (λ x. x) (λ x. x))
+pub works_seen : (s s' : PlainWorkerSeat) (stream upto : ℕ) → s' ≡ record s { me = (sees_to stream upto s.me.0, s.me.1); seen = slice_set s.seen stream upto } → WorksOn s s'
+works_seen s s' stream upto e =
+    subst (λ (x : PlainWorkerSeat). WorksOn s x) (sym e) (works_known s (record s { me = (sees_to stream upto s.me.0, s.me.1); seen = slice_set s.seen stream upto }) (refl, refl, refl, refl) refl (λ x. x) (λ x. x))

@@ -11,20 +11,20 @@ use Rattle.tau_core.specs.State.{Plain}
 use Rattle.tau_run.specs.RecoveredFacts.{catalogue_of}
 use Rattle.tau_run.specs.Run.{Run}
 use Rattle.tau_run.specs.CoreRun.{IsLoadOf, IsRunOf, IsSoundLoad}
-use Rattle.tau_run.proofs.Logs.{some_within}
 use Rattle.tau_crew_facts.specs.Spacing.{AreSpaced}
 use Rattle.tau_crew_facts.specs.Ends.{IsThreadEnd, IsThreadDone, AreApart}
 use Rattle.tau_crew_facts.proofs.Came.{course, end}
-use Rattle.tau_crew_facts.proofs.Anchors.{anchors-spaced}
+use Rattle.tau_crew_facts.proofs.Anchors.{anchors_spaced}
+use Rattle.tau_base.proofs.Lists.{some_at}
 
 module _ {D : Type 0} {G : Ghosts D} (n m : ℕ) (mode : LogMode) (load : Workload) (first : Plain) (load_is : IsLoadOf n m mode load first.load) (sound : IsSoundLoad load) (c : Core) (ws ws' : List (Writer D G)) (acks : List (ℕ × List ℕ))
     (e : IsThreadEnd (λ j. catalogue_of load) first c ws ws' acks) (d : IsThreadDone first.load c ws') (works : (j : ℕ) (w' : Writer D G) → slice_get ws' j ≡ Some w' → has_failed w' ≡ false) (apart : AreApart (λ j. catalogue_of load) n c) where
   flushed : (j : ℕ) → j < n → slice_index c.plv j ≡ slice_index c.ends j
   flushed j lt =
-      let w = some_within ws' j (let a = e.managers.count in let b = e.count in let k = load_is.streams in omega (arith, a, b, lt, k)) in
+      let w = some_at ws' j (let a = e.managers.count in let b = e.count in let k = load_is.streams in omega (arith, a, b, lt, k)) in
       d.flushed j w.0 w.1 (works j w.0 w.1)
 
   -- no disk failed: the anchors that are read of each stream stand in their distance
-  pub thread-spaced : (run : Run) → IsRunOf n first.load e.closed.joined (end n m mode load first load_is sound c ws ws' acks e) (catalogue_of load) run → (j : ℕ) (content : List ℕ) → j < n → slice_get run.contents j ≡ Some content → AreSpaced n j (length (catalogue_of load)) content
-  thread-spaced run is j content lt there =
-      anchors-spaced n m mode load first.load e.closed.joined (end n m mode load first load_is sound c ws ws' acks e) (course n m mode load first load_is sound c ws ws' acks e) run is j lt content there (flushed j lt) (apart j lt)
+  pub thread_spaced : (run : Run) → IsRunOf n first.load e.closed.joined (end n m mode load first load_is sound c ws ws' acks e) (catalogue_of load) run → (j : ℕ) (content : List ℕ) → j < n → slice_get run.contents j ≡ Some content → AreSpaced n j (length (catalogue_of load)) content
+  thread_spaced run is j content lt there =
+      anchors_spaced n m mode load first.load e.closed.joined (end n m mode load first load_is sound c ws ws' acks e) (course n m mode load first load_is sound c ws ws' acks e) run is j lt content there (flushed j lt) (apart j lt)

@@ -4,10 +4,9 @@ use Rattle.std.specs.Prelude.{Option, Some, None, slice_get, slice_index_or, ◌
 use Rattle.std.specs.List.{filter}
 use Rattle.std.proofs.Math.Nat.{mod-lt}
 use Rattle.std.proofs.lemmas.Bool.{eq-eqb}
-use Rattle.tau_model.proofs.ReportOrder.{member-filter-in}
-use Rattle.tau_run.proofs.Lists.{member_map}
+use Rattle.tau_model.proofs.ReportOrder.{member_filter_in}
 use Rattle.tau_base.specs.Vectors.{AtMost, covers}
-use Rattle.tau_base.proofs.Vectors.{at_most-itself}
+use Rattle.tau_base.proofs.Vectors.{at_most_itself}
 use Rattle.tau_disk.specs.declared.disk.Disk.{Ghosts}
 use Rattle.tau_stream.specs.declared.writer.Writer.{Writer}
 use Rattle.tau_stream.specs.Writer.{has_failed}
@@ -26,7 +25,6 @@ use Rattle.tau_core.specs.State.{Plain}
 use Rattle.tau_core.specs.View.{core_of, setting_of, worker_of}
 use Rattle.tau_core.specs.declared.state.Load.{Load}
 use Rattle.tau_run.specs.Run.{pair_of}
-use Rattle.tau_run.proofs.Logs.{got_within}
 use Rattle.tau_rule.specs.Knows.{Knows}
 use Rattle.tau_rule.specs.Role.{Managed, Share}
 use Rattle.tau_rule.specs.Rule.{IsManaged, IsShare, Now, anchors_at, clerk_role, manager_role}
@@ -36,28 +34,15 @@ use Rattle.tau_crew_facts.specs.Telling.{IsTelling}
 use Rattle.tau_crew_facts.specs.Spacing.{IsSpacing}
 use Rattle.tau_crew_facts.specs.Ends.{IsLoose, IsClosed, IsThreadEnd, IsThreadDone, AreApart}
 use Rattle.tau_crew_facts.specs.Closing.{IsClosing, ManagerApart, ManagerKnows, WorkerDone, ManagerDone, ClerkDone, EndsBy, covered_count}
-use Rattle.tau_crew_facts.proofs.Telling.{pending-own}
-use Rattle.tau_crew_facts.proofs.Done.{gathered-by-views, told-by-views}
+use Rattle.tau_crew_facts.proofs.Telling.{pending_own}
+use Rattle.tau_crew_facts.proofs.Done.{gathered_by_views, told_by_views}
+use Rattle.tau_base.proofs.Logic.{below_or_not}
+use Rattle.tau_base.proofs.Lists.{same_list, got_within}
+use Rattle.tau_crew_facts.proofs.RunExists.{no_members}
+use Rattle.tau_model.proofs.Assembling.{member_mapped}
 
-split : (x y : ℕ) → (x < y) ⊎ (y ≤ x)
-split x y = grind arith
-
--- two lists with the same entries
-same-list : (xs ys : List ℕ) → length xs ≡ length ys → ((j : ℕ) → j < length xs → slice_index xs j ≡ slice_index ys j) → xs ≡ ys
-same-list [] [] e f = refl
-same-list [] (y ∷ ys) e f = absurd (omega (arith, e))
-same-list (x ∷ xs) [] e f = absurd (omega (arith, e))
-same-list (x ∷ xs) (y ∷ ys) e f =
-    let first : x ≡ y = f 0 (omega arith) in
-    let rest : xs ≡ ys = same-list xs ys (omega (arith, e)) (λ j lt. f (suc j) (omega (arith, lt))) in
-    ap (λ (z : ℕ). z ∷ xs) first ∙ ap (λ (zs : List ℕ). y ∷ zs) rest
-
-no-members : {A : Type 0} (xs : List A) → ((x : A) → Member x xs → ⊥) → xs ≡ []
-no-members [] none = refl
-no-members (x ∷ xs) none = absurd (none x (inl refl))
-
-rest-unplaced : (o : Option Hand) → o ≡ None → placed_in o ≡ None
-rest-unplaced o e = ap placed_in e
+rest_unplaced : (o : Option Hand) → o ≡ None → placed_in o ≡ None
+rest_unplaced o e = ap placed_in e
 
 -- a worker that is not there
 abbrev rest_of : Worker
@@ -82,49 +67,49 @@ module _ (first : Plain) (v : Knows) (workers : ℕ → Worker) (managers : ℕ 
   some : 1 ≤ l.workers
   some = k.meets.opened.stands.sound.workers_low
 
-  worker-is : (w : ℕ) → w < l.workers → s.workers w ≡ workers w
-  worker-is w lt =
+  worker_is : (w : ℕ) → w < l.workers → s.workers w ≡ workers w
+  worker_is w lt =
       let r = k.worker w lt in
       (subst (λ (x : Share). IsShare l w x s) r.2 (k.roles w r.0 r.1).0).1
 
-  manager-is : (j : ℕ) → j < l.streams → IsManaged l j (managers j) s
-  manager-is j lt =
+  manager_is : (j : ℕ) → j < l.streams → IsManaged l j (managers j) s
+  manager_is j lt =
       let r = k.manager j lt in
       let (i, e, there, m) = subst (λ (x : Share). IsShare l (manager_role l j) x s) r.2 (k.roles (manager_role l j) r.0 r.1).0 in
       subst (λ (x : ℕ). IsManaged l x (managers j) s) (let same : i ≡ j = omega (arith, e) in same) m
 
-  clerk-is : (w : ℕ) → w < l.workers → s.acked w ≡ slice_index_or acked w []
-  clerk-is w lt =
+  clerk_is_there : (w : ℕ) → w < l.workers → s.acked w ≡ slice_index_or acked w []
+  clerk_is_there w lt =
       let r = k.clerk in
       (subst (λ (x : Share). IsShare l (clerk_role l) x s) r.2 (k.roles (clerk_role l) r.0 r.1).0).1 w lt
 
-  seen-is : seen ≡ s.plv
-  seen-is =
+  seen_is_that : seen ≡ s.plv
+  seen_is_that =
       let r = k.clerk in
       let wide : length seen ≡ l.streams = k.sees.wide (clerk_role l) r.0 r.1 in
-      same-list seen s.plv (wide ∙ sym inv.agrees.good.count_plv)
+      same_list seen s.plv (wide ∙ sym inv.agrees.good.count_plv)
       (λ j lt. (let there : j < l.streams = omega (arith, lt, wide) in let m = k.manager j there in k.sees.own j m.0 there m.1))
 
-  stored-is : (j : ℕ) → slice_index seen j ≡ slice_index s.plv j
-  stored-is j = ap (λ (p : List ℕ). slice_index p j) seen-is
+  stored_is : (j : ℕ) → slice_index seen j ≡ slice_index s.plv j
+  stored_is j = ap (λ (p : List ℕ). slice_index p j) seen_is_that
 
-  loose-at : ((w : ℕ) → w < l.workers → IsLoose (workers w).hand) → (w : ℕ) → IsLoose (s.workers w).hand
-  loose-at loose w = elim (split w l.workers) [
-    | inl lt ↦ subst (λ (worker : Worker). IsLoose worker.hand) (sym (worker-is w lt)) (loose w lt)
+  loose_at : ((w : ℕ) → w < l.workers → IsLoose (workers w).hand) → (w : ℕ) → IsLoose (s.workers w).hand
+  loose_at loose w = elim (below_or_not w l.workers) [
+    | inl lt ↦ subst (λ (worker : Worker). IsLoose worker.hand) (sym (worker_is w lt)) (loose w lt)
     | inr le ↦ subst (λ (worker : Worker). IsLoose worker.hand) (sym (k.meets.beyond w le)) tt
   ]
 
   -- what the clerk has told is persisted, whatever it had seen
-  pub telling-now : (other : List ℕ) (acks : List (ℕ × List ℕ)) → IsTelling l acked other acks → IsTelling l acked seen acks
-  telling-now other acks t = record {
+  pub telling_now : (other : List ℕ) (acks : List (ℕ × List ℕ)) → IsTelling l acked other acks → IsTelling l acked seen acks
+  telling_now other acks t = record {
     each = t.each;
     licensed = λ a m.
         (let u : ℕ = worker_of l.workers a.0 in
         let lt : u < l.workers = mod-lt (a.0 - 1) {m = l.workers} (omega (arith, some)) in
-        let mine : Member a (filter (λ (b : ℕ × List ℕ). worker_of l.workers b.0 == u) acks) = member-filter-in (λ (b : ℕ × List ℕ). worker_of l.workers b.0 == u) acks a m (eq-eqb u u refl) in
-        let told : Member a (map pair_of (s.acked u)) = subst (λ (xs : List (ℕ × List ℕ)). Member a xs) (t.each u lt ∙ ap (map pair_of) (sym (clerk-is u lt))) mine in
-        let k = member_map pair_of a (s.acked u) told in
-        subst (λ (v : List ℕ). AtMost a.1 v) (sym seen-is) (subst (λ (b : ℕ × List ℕ). AtMost b.1 s.plv) k.2 (inv.agrees.good.acked u k.0 k.1).0));
+        let mine : Member a (filter (λ (b : ℕ × List ℕ). worker_of l.workers b.0 == u) acks) = member_filter_in (λ (b : ℕ × List ℕ). worker_of l.workers b.0 == u) acks a m (eq-eqb u u refl) in
+        let told : Member a (map pair_of (s.acked u)) = subst (λ (xs : List (ℕ × List ℕ)). Member a xs) (t.each u lt ∙ ap (map pair_of) (sym (clerk_is_there u lt))) mine in
+        let k = member_mapped pair_of a (s.acked u) told in
+        subst (λ (v : List ℕ). AtMost a.1 v) (sym seen_is_that) (subst (λ (b : ℕ × List ℕ). AtMost b.1 s.plv) k.2 (inv.agrees.good.acked u k.0 k.1).0));
   }
 
   module _ {D : Type 0} {G : Ghosts D} (bases : ℕ → List ℕ) (ws ws' : List (Writer D G)) (acks : List (ℕ × List ℕ)) (count : length ws ≡ l.streams) (loose : (w : ℕ) → w < l.workers → IsLoose (workers w).hand)
@@ -136,7 +121,7 @@ module _ (first : Plain) (v : Knows) (workers : ℕ → Worker) (managers : ℕ 
       joined = K;
       run = k.meets.reached.run;
       going = k.meets.going;
-      loose = loose-at loose;
+      loose = loose_at loose;
       boxes = λ w lt. (let b = k.box w lt in (b.0.pieces, b.2.posted));
     }
 
@@ -144,15 +129,15 @@ module _ (first : Plain) (v : Knows) (workers : ℕ → Worker) (managers : ℕ 
     low j w is = let lt = got_within ws j w is in omega (arith, lt, count)
 
     -- at whatever end
-    pub thread-end : IsThreadEnd bases first s ws ws' acks
-    thread-end = record {
+    pub thread_end : IsThreadEnd bases first s ws ws' acks
+    thread_end = record {
       closed = closed;
       count = count;
       managers = record {
         count = managed.count;
         each = λ j w is.
             (let x = managed.each j w is in
-            let g = manager-is j (low j w is) in (
+            let g = manager_is j (low j w is) in (
               x.0,
               x.1,
               record {
@@ -161,23 +146,23 @@ module _ (first : Plain) (v : Knows) (workers : ℕ → Worker) (managers : ℕ 
                 moved = g.moved;
                 posted = g.own;
                 ready = x.2.ready;
-                written = subst (λ (d : ℕ). HasWritten l.streams j (bases j) (managers j).taken d w x.0) (stored-is j) x.2.written;
+                written = subst (λ (d : ℕ). HasWritten l.streams j (bases j) (managers j).taken d w x.0) (stored_is j) x.2.written;
               },
             ));
       };
       clerk = record {
-        told = λ w lt. telling.each w lt ∙ ap (map pair_of) (sym (clerk-is w lt));
+        told = λ w lt. telling.each w lt ∙ ap (map pair_of) (sym (clerk_is_there w lt));
         seen = seen;
-        low = subst (λ (p : List ℕ). AtMost seen p) seen-is (at_most-itself seen);
+        low = subst (λ (p : List ℕ). AtMost seen p) seen_is_that (at_most_itself seen);
         licensed = telling.licensed;
       };
     }
 
     -- the managers have kept their distance
-    pub thread-apart : ((j : ℕ) → j < l.streams → ManagerApart seen j (bases j) (managers j)) → AreApart bases l.streams s
-    thread-apart apart j lt =
-        subst (λ (vs : List (List ℕ)). IsSpacing (length (bases j)) (slice_index s.plv j) (map (λ (p : List ℕ). slice_index p j) vs)) (sym (manager-is j lt).anchors)
-        (subst (λ (d : ℕ). IsSpacing (length (bases j)) d (map (λ (p : List ℕ). slice_index p j) (managers j).anchors)) (stored-is j) (apart j lt))
+    pub thread_apart : ((j : ℕ) → j < l.streams → ManagerApart seen j (bases j) (managers j)) → AreApart bases l.streams s
+    thread_apart apart j lt =
+        subst (λ (vs : List (List ℕ)). IsSpacing (length (bases j)) (slice_index s.plv j) (map (λ (p : List ℕ). slice_index p j) vs)) (sym (manager_is j lt).anchors)
+        (subst (λ (d : ℕ). IsSpacing (length (bases j)) d (map (λ (p : List ℕ). slice_index p j) (managers j).anchors)) (stored_is j) (apart j lt))
 
     -- where it went to its end
     module _ (done : (w : ℕ) → w < l.workers → WorkerDone l w (workers w)) (flushed : (j : ℕ) (w' : Writer D G) → slice_get ws' j ≡ Some w' → has_failed w' ≡ false → ManagerDone l seen workers j (managers j))
@@ -187,35 +172,35 @@ module _ (first : Plain) (v : Knows) (workers : ℕ → Worker) (managers : ℕ 
       low_after j w' is = let lt = got_within ws' j w' is in let b = managed.count in omega (arith, lt, b, count)
 
       rests : (w : ℕ) → (s.workers w).hand ≡ None
-      rests w = elim (split w l.workers) [
-        | inl lt ↦ ap (λ (worker : Worker). worker.hand) (worker-is w lt) ∙ (done w lt).rests
+      rests w = elim (below_or_not w l.workers) [
+        | inl lt ↦ ap (λ (worker : Worker). worker.hand) (worker_is w lt) ∙ (done w lt).rests
         | inr le ↦ ap (λ (worker : Worker). worker.hand) (k.meets.beyond w le)
       ]
 
-      pending-beyond : (w : ℕ) → l.workers ≤ w → (s.outboxes w).pending ≡ []
-      pending-beyond w le = no-members (s.outboxes w).pending (λ t q.
-          (let own = pending-own l K s inv w t q in
+      pending_beyond : (w : ℕ) → l.workers ≤ w → (s.outboxes w).pending ≡ []
+      pending_beyond w le = no_members (s.outboxes w).pending (λ t q.
+          (let own = pending_own l K s inv w t q in
           let lt : worker_of l.workers t.number < l.workers = mod-lt (t.number - 1) {m = l.workers} (omega (arith, some)) in
           absurd (omega (arith, own, lt, le))))
 
       -- each number waits at the opening, and each worker still accounts for its own
-      kept-at : (i : ℕ) → 1 ≤ i → i ≤ length l.calls → (w : ℕ) × (1 ≤ in_worker i (s.workers w))
-      kept-at i lo hi =
+      kept_at : (i : ℕ) → 1 ≤ i → i ≤ length l.calls → (w : ℕ) × (1 ≤ in_worker i (s.workers w))
+      kept_at i lo hi =
           let (w, waits) = k.meets.opened.waits i lo hi in
-          elim (split w l.workers) [
+          elim (below_or_not w l.workers) [
             | inl lt ↦
-                let at_first : 1 ≤ in_calls i (calls_of l w) = at-opening w i lt waits in
+                let at_first : 1 ≤ in_calls i (calls_of l w) = at_opening w i lt waits in
                 let all = (done w lt).kept i in
-                let same = ap (in_worker i) (worker-is w lt) in
+                let same = ap (in_worker i) (worker_is w lt) in
                 (w, omega (arith, all, same, at_first))
-            | inr le ↦ absurd (not-beyond w i le waits)
+            | inr le ↦ absurd (not_beyond w i le waits)
           ]
         where
           start : Core
           start = core_of first nothing
 
-          at-opening : (w i : ℕ) → w < l.workers → 1 ≤ in_worker i (start.workers w) → 1 ≤ in_calls i (calls_of l w)
-          at-opening w i lt h =
+          at_opening : (w i : ℕ) → w < l.workers → 1 ≤ in_worker i (start.workers w) → 1 ≤ in_calls i (calls_of l w)
+          at_opening w i lt h =
               let a = ap (in_hand i) (k.meets.opened.opening.hands w) in
               let b = ap (in_calls i) (k.meets.opened.opening.left w) in
               let d = ap (in_committed i) (k.meets.opened.opening.committed w) in
@@ -223,44 +208,44 @@ module _ (first : Plain) (v : Knows) (workers : ℕ → Worker) (managers : ℕ 
               let all : in_calls i (start.workers w).waiting + in_hand i (start.workers w).hand + in_calls i (start.workers w).left + in_committed i (start.workers w).committed ≡ in_worker i (start.workers w) = refl in
               omega (arith, a, b, d, e, all, h)
 
-          not-beyond : (w i : ℕ) → l.workers ≤ w → 1 ≤ in_worker i (start.workers w) → ⊥
-          not-beyond w i le h =
+          not_beyond : (w i : ℕ) → l.workers ≤ w → 1 ≤ in_worker i (start.workers w) → ⊥
+          not_beyond w i le h =
               let own : worker_of l.workers i ≡ w = k.meets.opened.opening.whose w i h in
               let lt : worker_of l.workers i < l.workers = mod-lt (i - 1) {m = l.workers} (omega (arith, some)) in
               omega (arith, own, lt, le)
 
-      pub thread-done : IsThreadDone l s ws'
-      thread-done = record {
+      pub thread_done : IsThreadDone l s ws'
+      thread_done = record {
         rests = rests;
-        kept = kept-at;
+        kept = kept_at;
         flushed = λ j w' is works.
             (let d = flushed j w' is works in
             let lt = low_after j w' is in
-            let g = manager-is j lt in
-            sym (stored-is j) ∙ d.durable ∙ sym g.gathered
-            ∙ gathered-by-views l K s inv some j lt (λ w. rest-unplaced (s.workers w).hand (rests w)) (own-none j lt d.own)
-            (λ w call there stream m. subst (λ (upto : ℕ). EndsBy upto call.spot) (sym g.gathered) (d.placed w call there stream (subst (λ (worker : Worker). Member call worker.committed) (worker-is w there) m))));
-        told = λ w. elim (split w l.workers) [
-          | inl lt ↦ told-by-views l K s inv w (rests w) (enough w lt)
-          | inr le ↦ ap (filter (λ (t : Ticket). covers s.plv t.lv)) (pending-beyond w le)
+            let g = manager_is j lt in
+            sym (stored_is j) ∙ d.durable ∙ sym g.gathered
+            ∙ gathered_by_views l K s inv some j lt (λ w. rest_unplaced (s.workers w).hand (rests w)) (own_none j lt d.own)
+            (λ w call there stream m. subst (λ (upto : ℕ). EndsBy upto call.spot) (sym g.gathered) (d.placed w call there stream (subst (λ (worker : Worker). Member call worker.committed) (worker_is w there) m))));
+        told = λ w. elim (below_or_not w l.workers) [
+          | inl lt ↦ told_by_views l K s inv w (rests w) (enough w lt)
+          | inr le ↦ ap (filter (λ (t : Ticket). covers s.plv t.lv)) (pending_beyond w le)
         ];
-        done = λ works w. elim (split w l.workers) [
-          | inl lt ↦ (let h = nothing_left works w lt in (ap (λ (worker : Worker). worker.waiting) (worker-is w lt) ∙ h.0, ap (λ (worker : Worker). worker.left) (worker-is w lt) ∙ h.1))
+        done = λ works w. elim (below_or_not w l.workers) [
+          | inl lt ↦ (let h = nothing_left works w lt in (ap (λ (worker : Worker). worker.waiting) (worker_is w lt) ∙ h.0, ap (λ (worker : Worker). worker.left) (worker_is w lt) ∙ h.1))
           | inr le ↦ (ap (λ (worker : Worker). worker.waiting) (k.meets.beyond w le), ap (λ (worker : Worker). worker.left) (k.meets.beyond w le))
         ];
       }
         where
-          own-none : (j : ℕ) → j < l.streams → (managers j).own ≡ [] → (s.streams j).posted ≡ []
-          own-none j lt e = paired-none (s.streams j).posted (subst (λ (ps : List Piece). Paired (IsPieceOf l (anchors_at s)) ps (s.streams j).posted) e (manager-is j lt).own)
+          own_none : (j : ℕ) → j < l.streams → (managers j).own ≡ [] → (s.streams j).posted ≡ []
+          own_none j lt e = paired_none (s.streams j).posted (subst (λ (ps : List Piece). Paired (IsPieceOf l (anchors_at s)) ps (s.streams j).posted) e (manager_is j lt).own)
             where
-              paired-none : (ys : List Item) → Paired (IsPieceOf l (anchors_at s)) [] ys → ys ≡ []
-              paired-none [] h = refl
-              paired-none (y ∷ ys) h = absurd h
+              paired_none : (ys : List Item) → Paired (IsPieceOf l (anchors_at s)) [] ys → ys ≡ []
+              paired_none [] h = refl
+              paired_none (y ∷ ys) h = absurd h
 
           enough : (w : ℕ) → w < l.workers → covered_count s.plv (s.workers w).committed ≤ length (s.acked w)
           enough w lt =
               let a = told w lt in
-              let b = ap (λ (p : List ℕ). covered_count p (workers w).committed) seen-is in
-              let d = ap (λ (worker : Worker). covered_count s.plv worker.committed) (worker-is w lt) in
-              let e = ap (length {A = Ticket}) (clerk-is w lt) in
+              let b = ap (λ (p : List ℕ). covered_count p (workers w).committed) seen_is_that in
+              let d = ap (λ (worker : Worker). covered_count s.plv worker.committed) (worker_is w lt) in
+              let e = ap (length {A = Ticket}) (clerk_is_there w lt) in
               omega (arith, a, b, d, e)

@@ -15,8 +15,8 @@ use Rattle.tau_machine.specs.State.{Setting, Core}
 use Rattle.tau_machine.specs.Worker.{Worker, fresh, begun_by, begun, settled_by, settled, hand_locked, hand_busy, hand_quit, hand_joined, hand_freed}
 use Rattle.tau_machine.specs.Accounts.{one, in_calls, in_committed, in_phase, in_hand}
 use Rattle.tau_machine.specs.Events.{Event, Lock, Busy, Quit, Commit, Post, Free, FirstFree, Done, DoneReading, Drop, Gather, PlaceAnchor, Persist, Ack, Stop, Resume, Leads, ready, Gathered, stop, record_first, anchor_first, Reads, Frees, Finishes}
-use Rattle.tau_machine.proofs.At.{at-same, at-other}
-use Rattle.tau_machine.proofs.Accounts.{calls-append, committed-append}
+use Rattle.tau_machine.proofs.At.{at_same, at_other}
+use Rattle.tau_machine.proofs.Accounts.{calls_append, committed_append}
 use Rattle.tau_crew_facts.specs.Keeping.{Keeps, KeepsOf, Steady}
 
 pub keeps_on : (a b c : Worker) → Keeps a b → Keeps b c → Keeps a c
@@ -77,7 +77,7 @@ settled_keeps width wk h h' e none quits call up = by_held h'.held h'.given_up (
     }
     by_held [] true last g = absurd (cc g)
     by_held [] false true g = record {
-      all = λ n. (let x = was n in let y = calls-append n wk.left (h'.call ∷ []) in omega (arith, x, y));
+      all = λ n. (let x = was n in let y = calls_append n wk.left (h'.call ∷ []) in omega (arith, x, y));
       steady = λ i f. absurd (cc f);
     }
     by_held [] false false g = record {
@@ -94,7 +94,7 @@ joins_keeps width wk h p dep c e runs number steady =
           (let x = b.all n in
           let y : in_hand n (begun width wk).hand ≡ one n h.call.number = ap (in_hand n) e ∙ ap (in_phase n h.call.number) runs in
           let z = ap (in_committed n) (begun_committed width wk) in
-          let v = committed-append n wk.committed (c ∷ []) in
+          let v = committed_append n wk.committed (c ∷ []) in
           let u : one n c.number ≡ one n h.call.number = ap (one n) number in
           omega (arith, x, y, z, v, u));
       steady = λ i f. ap (λ (x : Hand). x.given_up) (sym (some_hand (hand_joined h p dep) i f)) ∙ b.steady h e;
@@ -110,8 +110,8 @@ module _ (u : ℕ) where
 
   one_worker : (s s' : Core) (w : ℕ) (wk : Worker) → Steady (s.workers u) → s'.workers ≡ at w wk s.workers → (u ≡ w → Steady (s.workers w) → Keeps (s.workers w) wk) → Keeps (s.workers u) (s'.workers u)
   one_worker s s' w wk steady e k = subst (Keeps (s.workers u)) (ap (λ (f : ℕ → Worker). f u) (sym e)) (elim (cases_eq u w) [
-    | inl same ↦ subst (λ (v : ℕ). Keeps (s.workers v) (at w wk s.workers v)) (sym same) (subst (Keeps (s.workers w)) (sym (at-same w wk s.workers)) (k same (subst (λ (v : ℕ). Steady (s.workers v)) same steady)))
-    | inr other ↦ subst (Keeps (s.workers u)) (sym (at-other w wk s.workers u other)) (itself (s.workers u) steady)
+    | inl same ↦ subst (λ (v : ℕ). Keeps (s.workers v) (at w wk s.workers v)) (sym same) (subst (Keeps (s.workers w)) (sym (at_same w wk s.workers)) (k same (subst (λ (v : ℕ). Steady (s.workers v)) same steady)))
+    | inr other ↦ subst (Keeps (s.workers u)) (sym (at_other w wk s.workers u other)) (itself (s.workers u) steady)
   ])
 
   module _ (set : Setting) where
@@ -144,8 +144,8 @@ module _ (u : ℕ) where
     or_false false b e f = f
 
     -- what each step of a worker's loop keeps; and a step of anyone else
-    pub own-keeps : (e : Event) (s s' : Core) (new : List (Act Txn)) → Steady (s.workers u) → KeepsOf u e → Leads set e s s' new → Keeps (s.workers u) (s'.workers u)
-    own-keeps (Lock w) s s' new steady k r =
+    pub own_keeps : (e : Event) (s s' : Core) (new : List (Act Txn)) → Steady (s.workers u) → KeepsOf u e → Leads set e s s' new → Keeps (s.workers u) (s'.workers u)
+    own_keeps (Lock w) s s' new steady k r =
         let q = r.0 in
         let row = (s.shards (set.shard_of q.key)).rows q.key in
         let l = locked_same q.hand q.key q.mode row (entry_in (s.shards (set.shard_of q.key)) q.key).write_lv (entry_in (s.shards (set.shard_of q.key)) q.key).read_lv in
@@ -153,48 +153,48 @@ module _ (u : ℕ) where
         one_worker s s' w (record (ready set s w) { hand = Some h' }) steady (ap (λ (x : Core). x.workers) q.after)
         (λ is own. (let b = begun_keeps set.width (s.workers w) own in
         keeps_on (s.workers w) (ready set s w) (record (ready set s w) { hand = Some h' }) b (hand_keeps (ready set s w) q.hand h' q.is b.steady l.0 l.1)))
-    own-keeps (Busy w) s s' new steady k r =
+    own_keeps (Busy w) s s' new steady k r =
         let q = r.0 in
         one_worker s s' w (settled set.width (ready set s w) (hand_busy q.hand)) steady (ap (λ (x : Core). x.workers) q.after)
         (λ is own. (let b = begun_keeps set.width (s.workers w) own in
         keeps_on (s.workers w) (ready set s w) (settled set.width (ready set s w) (hand_busy q.hand)) b
         (settled_keeps set.width (ready set s w) q.hand (hand_busy q.hand) q.is (ap act_of q.phase) refl refl (b.steady q.hand q.is))))
-    own-keeps (Quit w up) s s' new steady k r =
+    own_keeps (Quit w up) s s' new steady k r =
         let q = r.0 in
         let none : act_of q.hand.phase ≡ None = elim q.phase [ inl e ↦ ap act_of e | inr e ↦ ap act_of e.0 ] in
         one_worker s s' w (settled set.width (s.workers w) (hand_quit q.hand q.key up)) steady (ap (λ (x : Core). x.workers) q.after)
         (λ is own. settled_keeps set.width (s.workers w) q.hand (hand_quit q.hand q.key up) q.is none refl refl (or_false q.hand.given_up up (own q.hand q.is) (k is)))
-    own-keeps (Commit w) s s' new steady k r =
+    own_keeps (Commit w) s s' new steady k r =
         let t : Act Txn = r.0 in
         let q = r.1 in
         let number : (committed_of t).number ≡ q.hand.call.number = ap (λ (x : Act Txn). x.call.call.number) q.act in
         one_worker s s' w (record (ready set s w) { hand = Some (hand_joined q.hand (Placed t) t.call.place.dep); committed = (s.workers w).committed ++ committed_of t ∷ [] }) steady (ap (λ (x : Core). x.workers) q.after)
         (λ is own. joins_keeps set.width (s.workers w) q.hand (Placed t) t.call.place.dep (committed_of t) q.is q.phase number own)
-    own-keeps (Post w) s s' new steady k r =
+    own_keeps (Post w) s s' new steady k r =
         let q = r.0 in
         one_worker s s' w (record (s.workers w) { hand = Some (record q.hand { phase = Freeing q.act }) }) steady (ap (λ (x : Core). x.workers) q.after)
         (λ is own. hand_keeps (s.workers w) q.hand (record q.hand { phase = Freeing q.act }) q.is own (λ n. (let x : in_phase n q.hand.call.number q.hand.phase ≡ 0 = ap (in_phase n q.hand.call.number) q.phase in omega (arith, x))) refl)
-    own-keeps (Free w) s s' new steady k r = frees_keeps w s s' steady r.0
-    own-keeps (FirstFree w) s s' new steady k r =
+    own_keeps (Free w) s s' new steady k r = frees_keeps w s s' steady r.0
+    own_keeps (FirstFree w) s s' new steady k r =
         let a = reads_keeps w s r.0 r.1 steady r.2 in keeps_on (s.workers u) (r.0.workers u) (s'.workers u) a (frees_keeps w r.0 s' a.steady r.3)
-    own-keeps (Done w) s s' new steady k r = finishes_keeps w s s' steady r.0
-    own-keeps (DoneReading w) s s' new steady k r =
+    own_keeps (Done w) s s' new steady k r = finishes_keeps w s s' steady r.0
+    own_keeps (DoneReading w) s s' new steady k r =
         let a = reads_keeps w s r.0 r.1 steady r.2 in keeps_on (s.workers u) (r.0.workers u) (s'.workers u) a (finishes_keeps w r.0 s' a.steady r.3)
-    own-keeps (Drop i v) s s' new steady k r = same_workers s s' steady (ap (λ (x : Core). x.workers) r.0.after)
-    own-keeps (Gather j) s s' new steady k r = same_workers s s' steady (gathered_same j s s' r.0)
-    own-keeps (PlaceAnchor j v) s s' new steady k r = same_workers s s' steady (ap (λ (x : Core). x.workers) r.0.after)
-    own-keeps (Persist j upto) s s' new steady k r = same_workers s s' steady (ap (λ (x : Core). x.workers) r.0.after)
-    own-keeps (Ack w v) s s' new steady k r = same_workers s s' steady (ap (λ (x : Core). x.workers) r.0.after)
-    own-keeps (Stop j upto) s s' new steady k r = same_workers s s' steady (ap (λ (x : Core). x.workers) r.0.after)
-    own-keeps (Resume w) s s' new steady k r =
+    own_keeps (Drop i v) s s' new steady k r = same_workers s s' steady (ap (λ (x : Core). x.workers) r.0.after)
+    own_keeps (Gather j) s s' new steady k r = same_workers s s' steady (gathered_same j s s' r.0)
+    own_keeps (PlaceAnchor j v) s s' new steady k r = same_workers s s' steady (ap (λ (x : Core). x.workers) r.0.after)
+    own_keeps (Persist j upto) s s' new steady k r = same_workers s s' steady (ap (λ (x : Core). x.workers) r.0.after)
+    own_keeps (Ack w v) s s' new steady k r = same_workers s s' steady (ap (λ (x : Core). x.workers) r.0.after)
+    own_keeps (Stop j upto) s s' new steady k r = same_workers s s' steady (ap (λ (x : Core). x.workers) r.0.after)
+    own_keeps (Resume w) s s' new steady k r =
         let q = r.0 in
         one_worker s s' w (record (s.workers w) { waiting = q.call ∷ []; left = q.front ++ q.back }) steady (ap (λ (x : Core). x.workers) q.after)
         (λ is own. record {
           all = λ n.
               (let a = ap (in_calls n) (q.resting w).1 in
               let b = ap (in_calls n) q.is in
-              let c = calls-append n q.front (q.call ∷ q.back) in
-              let d = calls-append n q.front q.back in
+              let c = calls_append n q.front (q.call ∷ q.back) in
+              let d = calls_append n q.front q.back in
               omega (arith, a, b, c, d));
           steady = own;
         })

@@ -17,51 +17,51 @@ use Rattle.tau_crew_facts.specs.Writers.{HasPieces, HasLong, AreStored, SeenNow,
 
 -- ---- bytes of pieces
 
-pub bytes-append : (xs ys : List Piece) → bytes_of (xs ++ ys) ≡ bytes_of xs ++ bytes_of ys
-bytes-append [] ys = refl
-bytes-append (p ∷ xs) ys = ap (λ (b : List ℕ). p.bytes ++ b) (bytes-append xs ys) ∙ sym (append_assoc p.bytes (bytes_of xs) (bytes_of ys))
+pub bytes_append : (xs ys : List Piece) → bytes_of (xs ++ ys) ≡ bytes_of xs ++ bytes_of ys
+bytes_append [] ys = refl
+bytes_append (p ∷ xs) ys = ap (λ (b : List ℕ). p.bytes ++ b) (bytes_append xs ys) ∙ sym (append_assoc p.bytes (bytes_of xs) (bytes_of ys))
 
 -- ---- a settled log is read as its content
 
-log-has : (n j : ℕ) (image : List ℕ) (gate_at : ℕ) (content : List ℕ) → IsLog n j image gate_at content → HasContent n j content image
-log-has n j image gate_at content log =
+log_has : (n j : ℕ) (image : List ℕ) (gate_at : ℕ) (content : List ℕ) → IsLog n j image gate_at content → HasContent n j content image
+log_has n j image gate_at content log =
     let lt : gate_at < length image = log.within in
     let split : take gate_at image ++ slice_index image gate_at ∷ drop (suc gate_at) image ≡ image =
     ap (λ (xs : List ℕ). take gate_at image ++ xs) (sym (drop-cons image gate_at 0 lt)) ∙ take-append-drop gate_at image in
     subst (λ (xs : List ℕ). content_of n j xs ≡ Some content) split (log.front.closed (slice_index image gate_at) (drop (suc gate_at) image) log.shut)
 
-settled-has : (n j : ℕ) (file : List ℕ) (may_leave : List ℕ → Type 0) (gate_at : ℕ) (content : List ℕ) → IsSettled n j file may_leave gate_at content →
+settled_has : (n j : ℕ) (file : List ℕ) (may_leave : List ℕ → Type 0) (gate_at : ℕ) (content : List ℕ) → IsSettled n j file may_leave gate_at content →
     (x : List ℕ) → may_leave x → HasContent n j content x
-settled-has n j file may_leave gate_at content settled x left =
-    subst (λ (y : List ℕ). HasContent n j content y) (sym (settled.only x left)) (log-has n j file gate_at content settled.log)
+settled_has n j file may_leave gate_at content settled x left =
+    subst (λ (y : List ℕ). HasContent n j content y) (sym (settled.only x left)) (log_has n j file gate_at content settled.log)
 
-pub ready-has : {D : Type 0} {G : Ghosts D} (n j : ℕ) (w : Writer D G) (content : List ℕ) → IsReady n j w content → (x : List ℕ) → G.may_leave (disk_of w) x → HasContent n j content x
-ready-has {D} {G} n j w content r x left = settled-has n j (G.seen (disk_of w)) (G.may_leave (disk_of w)) w.gate_at content r.settled x left
+pub ready_has : {D : Type 0} {G : Ghosts D} (n j : ℕ) (w : Writer D G) (content : List ℕ) → IsReady n j w content → (x : List ℕ) → G.may_leave (disk_of w) x → HasContent n j content x
+ready_has {D} {G} n j w content r x left = settled_has n j (G.seen (disk_of w)) (G.may_leave (disk_of w)) w.gate_at content r.settled x left
 
 -- ---- disks in a row
 
-true-false : (b : Bool) → b ≡ true → b ≡ false → ⊥
-true-false b e f = let bad : true ≡ false = sym e ∙ f in cc
+true_false : (b : Bool) → b ≡ true → b ≡ false → ⊥
+true_false b e f = let bad : true ≡ false = sym e ∙ f in cc
 
-goes-none : {D : Type 0} (number : D → ℕ) (fails : D → ℕ → Bool) (d : D) → GoesOn number fails d d
-goes-none number fails d = record { same = λ k. refl; later = omega arith; clean = λ k low high. absurd (omega (arith, low, high)) }
+goes_none : {D : Type 0} (number : D → ℕ) (fails : D → ℕ → Bool) (d : D) → GoesOn number fails d d
+goes_none number fails d = record { same = λ k. refl; later = omega arith; clean = λ k low high. absurd (omega (arith, low, high)) }
 
-goes-on : {D : Type 0} (number : D → ℕ) (fails : D → ℕ → Bool) (d e f : D) → GoesOn number fails d e → GoesOn number fails e f → GoesOn number fails d f
-goes-on number fails d e f a b = record {
+goes_on : {D : Type 0} (number : D → ℕ) (fails : D → ℕ → Bool) (d e f : D) → GoesOn number fails d e → GoesOn number fails e f → GoesOn number fails d f
+goes_on number fails d e f a b = record {
   same = λ k. b.same k ∙ a.same k;
   later = (let x = a.later in let y = b.later in omega (arith, x, y));
-  clean = λ k low high. by-side k low high (split k (number e));
+  clean = λ k low high. by_side k low high (split k (number e));
 }
   where
     split : (x y : ℕ) → (x ≤ y) ⊎ (y < x)
     split x y = grind arith
 
-    by-side : (k : ℕ) → number d < k → k ≤ number f → (k ≤ number e) ⊎ (number e < k) → fails d k ≡ false
-    by-side k low high (inl under) = a.clean k low under
-    by-side k low high (inr over) = sym (a.same k) ∙ b.clean k over high
+    by_side : (k : ℕ) → number d < k → k ≤ number f → (k ≤ number e) ⊎ (number e < k) → fails d k ≡ false
+    by_side k low high (inl under) = a.clean k low under
+    by_side k low high (inr over) = sym (a.same k) ∙ b.clean k over high
 
-stops-on : {D : Type 0} (tells : Type 0) (number : D → ℕ) (fails : D → ℕ → Bool) (short : D → Bool) (d e f : D) → (tells → GoesOn number fails d e) → IsStopped tells number fails short e f → IsStopped tells number fails short d f
-stops-on tells number fails short d e f goes stopped t = after (goes t) (stopped t)
+stops_on : {D : Type 0} (tells : Type 0) (number : D → ℕ) (fails : D → ℕ → Bool) (short : D → Bool) (d e f : D) → (tells → GoesOn number fails d e) → IsStopped tells number fails short e f → IsStopped tells number fails short d f
+stops_on tells number fails short d e f goes stopped t = after (goes t) (stopped t)
   where
     split : (x y : ℕ) → (x ≤ y) ⊎ (y < x)
     split x y = grind arith
@@ -72,18 +72,18 @@ stops-on tells number fails short d e f goes stopped t = after (goes t) (stopped
     after first (inr rest) = inr (
       (let x = first.later in let y = rest.0 in omega (arith, x, y)),
       sym (first.same (number f)) ∙ rest.1,
-      λ k low high. by-side k low high (split k (number e)),
+      λ k low high. by_side k low high (split k (number e)),
     )
       where
-        by-side : (k : ℕ) → number d < k → k < number f → (k ≤ number e) ⊎ (number e < k) → fails d k ≡ false
-        by-side k low high (inl under) = first.clean k low under
-        by-side k low high (inr over) = sym (first.same k) ∙ rest.2 k over high
+        by_side : (k : ℕ) → number d < k → k < number f → (k ≤ number e) ⊎ (number e < k) → fails d k ≡ false
+        by_side k low high (inl under) = first.clean k low under
+        by_side k low high (inr over) = sym (first.same k) ∙ rest.2 k over high
 
 -- ---- the images, where more was gathered
 
 module _ (n j : ℕ) (base : List ℕ) where
-  pub pieces-grow : (taken more : List Piece) (x : List ℕ) → HasPieces n j base taken x → HasPieces n j base (taken ++ more) x
-  pieces-grow taken more x p = record {
+  pub pieces_grow : (taken more : List Piece) (x : List ℕ) → HasPieces n j base taken x → HasPieces n j base (taken ++ more) x
+  pieces_grow taken more x p = record {
     front = p.front;
     rest = p.rest ++ more;
     is = ap (λ (ps : List Piece). ps ++ more) p.is ∙ append_assoc p.front p.rest more;
@@ -91,11 +91,11 @@ module _ (n j : ℕ) (base : List ℕ) where
   }
 
 module _ {D : Type 0} {G : Ghosts D} (n j : ℕ) (base : List ℕ) where
-  pub managed-grows : (taken more : List Piece) (stored : ℕ) (w w' : Writer D G) → HasWritten n j base taken stored w w' → HasWritten n j base (taken ++ more) stored w w'
-  unfolding pieces-grow
-  managed-grows taken more stored w w' g = record {
-    before = λ t. passes_weaker G.moment G.may_leave_since (disk_of w) (disk_of w') (HasPieces n j base taken) (HasPieces n j base (taken ++ more)) (g.before t) (λ x p. pieces-grow n j base taken more x p);
-    present = λ t x left. (let p = g.present t x left in (pieces-grow n j base taken more x p.0, p.1));
+  pub managed_grows : (taken more : List Piece) (stored : ℕ) (w w' : Writer D G) → HasWritten n j base taken stored w w' → HasWritten n j base (taken ++ more) stored w w'
+  unfolding pieces_grow
+  managed_grows taken more stored w w' g = record {
+    before = λ t. passes_weaker G.moment G.may_leave_since (disk_of w) (disk_of w') (HasPieces n j base taken) (HasPieces n j base (taken ++ more)) (g.before t) (λ x p. pieces_grow n j base taken more x p);
+    present = λ t x left. (let p = g.present t x left in (pieces_grow n j base taken more x p.0, p.1));
     reached = g.reached;
     goes = g.goes;
     stops = g.stops;
@@ -103,8 +103,8 @@ module _ {D : Type 0} {G : Ghosts D} (n j : ℕ) (base : List ℕ) where
   }
 
   -- the same disk in another writer
-  pub managed-same : (taken : List Piece) (stored : ℕ) (w w1 w2 : Writer D G) → disk_of w2 ≡ disk_of w1 → has_failed w2 ≡ has_failed w1 → HasWritten n j base taken stored w w1 → HasWritten n j base taken stored w w2
-  managed-same taken stored w w1 w2 disk works g = record {
+  pub managed_same : (taken : List Piece) (stored : ℕ) (w w1 w2 : Writer D G) → disk_of w2 ≡ disk_of w1 → has_failed w2 ≡ has_failed w1 → HasWritten n j base taken stored w w1 → HasWritten n j base taken stored w w2
+  managed_same taken stored w w1 w2 disk works g = record {
     before = λ t. subst (λ (d : D). Passes G.moment G.may_leave_since (disk_of w) d (HasPieces n j base taken)) (sym disk) (g.before t);
     present = λ t x left. g.present t x (subst (λ (d : D). G.may_leave d x) disk left);
     reached = λ t. (let r = g.reached t in (r.0, r.1, subst (λ (d : D). G.may_leave d r.0) (sym disk) r.2, r.3, r.4));
@@ -115,20 +115,20 @@ module _ {D : Type 0} {G : Ghosts D} (n j : ℕ) (base : List ℕ) where
 
   module _ (seen_now : SeenNow G) where
     -- a writer that works, with these pieces durable
-    ready-managed : (taken front rest : List Piece) (w w' : Writer D G) → taken ≡ front ++ rest → (G.tells → Passes G.moment G.may_leave_since (disk_of w) (disk_of w') (HasPieces n j base taken)) →
+    ready_managed : (taken front rest : List Piece) (w w' : Writer D G) → taken ≡ front ++ rest → (G.tells → Passes G.moment G.may_leave_since (disk_of w) (disk_of w') (HasPieces n j base taken)) →
         (G.tells → IsReady n j w' (base ++ bytes_of front)) → has_failed w' ≡ false → durable_of w' ≡ length base + length (bytes_of front) →
         (G.tells → GoesOn G.number G.fails (disk_of w) (disk_of w')) → G.faults (disk_of w) ≤ G.faults (disk_of w') → HasWritten n j base taken (durable_of w') w w'
-    ready-managed taken front rest w w' is before ready works durable goes faults = record {
+    ready_managed taken front rest w w' is before ready works durable goes faults = record {
       before = before;
       present = λ t x left. (
-        record { front = front; rest = rest; is = is; has = ready-has n j w' (base ++ bytes_of front) (ready t) x left },
+        record { front = front; rest = rest; is = is; has = ready_has n j w' (base ++ bytes_of front) (ready t) x left },
         omega (arith, durable),
       );
       reached = λ t.
           (let now = seen_now (disk_of w') t in
-          (G.seen (disk_of w'), base ++ bytes_of front, now, ready-has n j w' (base ++ bytes_of front) (ready t) (G.seen (disk_of w')) now, sym (ready t).counts));
+          (G.seen (disk_of w'), base ++ bytes_of front, now, ready_has n j w' (base ++ bytes_of front) (ready t) (G.seen (disk_of w')) now, sym (ready t).counts));
       goes = λ e. goes;
-      stops = λ e. absurd (true-false (has_failed w') e works);
+      stops = λ e. absurd (true_false (has_failed w') e works);
       faults = faults;
     }
 
@@ -138,7 +138,7 @@ module _ {D : Type 0} {G : Ghosts D} (n j : ℕ) (base : List ℕ) where
         let ready : G.tells → IsReady n j w (base ++ []) = λ t. subst (λ (c : List ℕ). IsReady n j w c) (sym (append-nil base)) (f.ready t) in
         let size : durable_of w ≡ length base + length (bytes_of []) = (let e = f.durable in omega (arith, e)) in
         record {
-          managed = ready-managed [] [] [] w w refl (λ t. passes_none G.moment G.may_leave_since (disk_of w) (HasPieces n j base [])) ready f.works size (λ t. goes-none G.number G.fails (disk_of w)) (omega arith);
+          managed = ready_managed [] [] [] w w refl (λ t. passes_none G.moment G.may_leave_since (disk_of w) (HasPieces n j base [])) ready f.works size (λ t. goes_none G.number G.fails (disk_of w)) (omega arith);
           current = λ e. record { front = []; rest = []; is = refl; left = f.none; durable = size; ready = ready };
         }
 
@@ -146,24 +146,24 @@ module _ {D : Type 0} {G : Ghosts D} (n j : ℕ) (base : List ℕ) where
     pub gathers : (taken more : List Piece) (w w1 w2 : Writer D G) → IsManaging n j base taken w w1 → left_of w2 ≡ left_of w1 ++ bytes_of more → disk_of w2 ≡ disk_of w1 → durable_of w2 ≡ durable_of w1 → has_failed w2 ≡ has_failed w1 →
         ((n j : ℕ) (content : List ℕ) → IsReady n j w1 content → IsReady n j w2 content) → IsManaging n j base (taken ++ more) w w2
     gathers taken more w w1 w2 g left disk durable works ready = record {
-      managed = subst (λ (k : ℕ). HasWritten n j base (taken ++ more) k w w2) (sym durable) (managed-grows taken more (durable_of w1) w w2 (managed-same taken (durable_of w1) w w1 w2 disk works g.managed));
+      managed = subst (λ (k : ℕ). HasWritten n j base (taken ++ more) k w w2) (sym durable) (managed_grows taken more (durable_of w1) w w2 (managed_same taken (durable_of w1) w w1 w2 disk works g.managed));
       current = λ e.
           (let c = g.current (sym works ∙ e) in
           record {
             front = c.front;
             rest = c.rest ++ more;
             is = ap (λ (ps : List Piece). ps ++ more) c.is ∙ append_assoc c.front c.rest more;
-            left = left ∙ ap (λ (b : List ℕ). b ++ bytes_of more) c.left ∙ sym (bytes-append c.rest more);
+            left = left ∙ ap (λ (b : List ℕ). b ++ bytes_of more) c.left ∙ sym (bytes_append c.rest more);
             durable = durable ∙ c.durable;
             ready = λ t. ready n j (base ++ bytes_of c.front) (c.ready t);
           });
     }
 
     -- lack of memory after the give: the pieces are gathered, and the disk is as it was
-    pub gathers-short : (taken more : List Piece) (w w1 w2 : Writer D G) → IsManaging n j base taken w w1 → disk_of w2 ≡ disk_of w1 → durable_of w2 ≡ durable_of w1 → has_failed w2 ≡ has_failed w1 →
+    pub gathers_short : (taken more : List Piece) (w w1 w2 : Writer D G) → IsManaging n j base taken w w1 → disk_of w2 ≡ disk_of w1 → durable_of w2 ≡ durable_of w1 → has_failed w2 ≡ has_failed w1 →
         HasWritten n j base (taken ++ more) (durable_of w2) w w2
-    gathers-short taken more w w1 w2 g disk durable works =
-        subst (λ (k : ℕ). HasWritten n j base (taken ++ more) k w w2) (sym durable) (managed-grows taken more (durable_of w1) w w2 (managed-same taken (durable_of w1) w w1 w2 disk works g.managed))
+    gathers_short taken more w w1 w2 g disk durable works =
+        subst (λ (k : ℕ). HasWritten n j base (taken ++ more) k w w2) (sym durable) (managed_grows taken more (durable_of w1) w w2 (managed_same taken (durable_of w1) w w1 w2 disk works g.managed))
 
     -- a flush of the first pieces that are left, by the clauses of `Writer::flush_gated`
     module _ (counts_now : CountsNow G) (only_now : OnlyNow G) (taken : List Piece) (upto : ℕ) (w w1 w2 : Writer D G) (g : IsManaging n j base taken w w1) (worked : has_failed w1 ≡ false)
@@ -173,27 +173,27 @@ module _ {D : Type 0} {G : Ghosts D} (n j : ℕ) (base : List ℕ) where
       abbrev c : IsCurrent n j base taken w1
       c = g.current worked
 
-      left-is : left_of w1 ≡ bytes_of now ++ bytes_of later
-      left-is = c.left ∙ ap bytes_of part ∙ bytes-append now later
+      left_is : left_of w1 ≡ bytes_of now ++ bytes_of later
+      left_is = c.left ∙ ap bytes_of part ∙ bytes_append now later
 
-      size-is : upto - durable_of w1 ≡ length (bytes_of now)
-      size-is = omega (arith, all)
+      size_is : upto - durable_of w1 ≡ length (bytes_of now)
+      size_is = omega (arith, all)
 
-      part-is : part_upto w1 upto ≡ bytes_of now
-      part-is = ap (λ (k : ℕ). take k (left_of w1)) size-is ∙ ap (take (length (bytes_of now))) left-is ∙ take-append_seam (bytes_of now) (bytes_of later)
+      part_is : part_upto w1 upto ≡ bytes_of now
+      part_is = ap (λ (k : ℕ). take k (left_of w1)) size_is ∙ ap (take (length (bytes_of now))) left_is ∙ take-append_seam (bytes_of now) (bytes_of later)
 
-      whole-is : (base ++ bytes_of c.front) ++ part_upto w1 upto ≡ base ++ bytes_of (c.front ++ now)
-      whole-is = ap (λ (b : List ℕ). (base ++ bytes_of c.front) ++ b) part-is ∙ append_assoc base (bytes_of c.front) (bytes_of now) ∙ ap (λ (b : List ℕ). base ++ b) (sym (bytes-append c.front now))
+      whole_is : (base ++ bytes_of c.front) ++ part_upto w1 upto ≡ base ++ bytes_of (c.front ++ now)
+      whole_is = ap (λ (b : List ℕ). (base ++ bytes_of c.front) ++ b) part_is ∙ append_assoc base (bytes_of c.front) (bytes_of now) ∙ ap (λ (b : List ℕ). base ++ b) (sym (bytes_append c.front now))
 
-      split-is : taken ≡ (c.front ++ now) ++ later
-      split-is = c.is ∙ ap (λ (ps : List Piece). c.front ++ ps) part ∙ sym (append_assoc c.front now later)
+      split_is : taken ≡ (c.front ++ now) ++ later
+      split_is = c.is ∙ ap (λ (ps : List Piece). c.front ++ ps) part ∙ sym (append_assoc c.front now later)
 
-      long-is : length (bytes_of (c.front ++ now)) ≡ length (bytes_of c.front) + length (bytes_of now)
-      long-is = ap (length {A = ℕ}) (bytes-append c.front now) ∙ length-append (bytes_of c.front) (bytes_of now)
+      long_is : length (bytes_of (c.front ++ now)) ≡ length (bytes_of c.front) + length (bytes_of now)
+      long_is = ap (length {A = ℕ}) (bytes_append c.front now) ∙ length-append (bytes_of c.front) (bytes_of now)
 
       either : (x : List ℕ) → IsOldOrNew n j (base ++ bytes_of c.front) (part_upto w1 upto) x → HasPieces n j base taken x
       either x (inl has) = record { front = c.front; rest = c.rest; is = c.is; has = has }
-      either x (inr has) = record { front = c.front ++ now; rest = later; is = split-is; has = subst (λ (b : List ℕ). HasContent n j b x) whole-is has }
+      either x (inr has) = record { front = c.front ++ now; rest = later; is = split_is; has = subst (λ (b : List ℕ). HasContent n j b x) whole_is has }
 
       passed : G.tells → Passes G.moment G.may_leave_since (disk_of w) (disk_of w2) (HasPieces n j base taken)
       passed t = passes_on G.moment G.may_leave_since (disk_of w) (disk_of w1) (disk_of w2) (HasPieces n j base taken) (IsOldOrNew n j (base ++ bytes_of c.front) (part_upto w1 upto)) (HasPieces n j base taken)
@@ -203,17 +203,17 @@ module _ {D : Type 0} {G : Ghosts D} (n j : ℕ) (base : List ℕ) where
       pub flushed : durable_of w2 ≡ upto → left_of w2 ≡ drop (upto - durable_of w1) (left_of w1) → has_failed w2 ≡ false →
           (G.tells → (n j : ℕ) (content : List ℕ) → IsReady n j w1 content → IsReady n j w2 (content ++ part_upto w1 upto)) → (G.tells → GoesOn G.number G.fails (disk_of w1) (disk_of w2)) → IsManaging n j base taken w w2
       flushed durable left works done goes =
-          let ready : G.tells → IsReady n j w2 (base ++ bytes_of (c.front ++ now)) = λ t. subst (λ (b : List ℕ). IsReady n j w2 b) whole-is (done t n j (base ++ bytes_of c.front) (c.ready t)) in
+          let ready : G.tells → IsReady n j w2 (base ++ bytes_of (c.front ++ now)) = λ t. subst (λ (b : List ℕ). IsReady n j w2 b) whole_is (done t n j (base ++ bytes_of c.front) (c.ready t)) in
           let was = c.durable in
-          let long = long-is in
+          let long = long_is in
           let size : durable_of w2 ≡ length base + length (bytes_of (c.front ++ now)) = omega (arith, durable, all, was, long) in
           record {
-            managed = ready-managed taken (c.front ++ now) later w w2 split-is passed ready works size (λ t. goes-on G.number G.fails (disk_of w) (disk_of w1) (disk_of w2) (g.managed.goes worked t) (goes t)) (let x = g.managed.faults in omega (arith, x, faults));
+            managed = ready_managed taken (c.front ++ now) later w w2 split_is passed ready works size (λ t. goes_on G.number G.fails (disk_of w) (disk_of w1) (disk_of w2) (g.managed.goes worked t) (goes t)) (let x = g.managed.faults in omega (arith, x, faults));
             current = λ e. record {
               front = c.front ++ now;
               rest = later;
-              is = split-is;
-              left = left ∙ ap (λ (k : ℕ). drop k (left_of w1)) size-is ∙ ap (drop (length (bytes_of now))) left-is ∙ drop-append_seam (bytes_of now) (bytes_of later);
+              is = split_is;
+              left = left ∙ ap (λ (k : ℕ). drop k (left_of w1)) size_is ∙ ap (drop (length (bytes_of now))) left_is ∙ drop-append_seam (bytes_of now) (bytes_of later);
               durable = size;
               ready = ready;
             };
@@ -225,44 +225,44 @@ module _ {D : Type 0} {G : Ghosts D} (n j : ℕ) (base : List ℕ) where
       broke durable fails rose reached stops = record {
         managed = record {
           before = passed;
-          present = λ t x left. by-image x (left_by G.moment G.may_leave_since G.may_leave counts_now only_now (disk_of w1) (disk_of w2) (IsOldOrNew n j (base ++ bytes_of c.front) (part_upto w1 upto))
+          present = λ t x left. by_image x (left_by G.moment G.may_leave_since G.may_leave counts_now only_now (disk_of w1) (disk_of w2) (IsOldOrNew n j (base ++ bytes_of c.front) (part_upto w1 upto))
               (moments t n j (base ++ bytes_of c.front) (c.ready t)) x left) t;
           reached = λ t.
               (let some = reached t n j (base ++ bytes_of c.front) (c.ready t) in
               (some.0, base ++ bytes_of c.front, some.1, some.2, (let d = c.durable in let e = length-append base (bytes_of c.front) in omega (arith, d, e, durable))));
-          goes = λ e. absurd (true-false (has_failed w2) fails e);
-          stops = λ e. ((let x = g.managed.faults in rose-on (G.faults (disk_of w)) (G.faults (disk_of w1)) (G.faults (disk_of w2)) x rose), stops-on G.tells G.number G.fails G.short (disk_of w) (disk_of w1) (disk_of w2) (g.managed.goes worked) stops);
+          goes = λ e. absurd (true_false (has_failed w2) fails e);
+          stops = λ e. ((let x = g.managed.faults in rose_on (G.faults (disk_of w)) (G.faults (disk_of w1)) (G.faults (disk_of w2)) x rose), stops_on G.tells G.number G.fails G.short (disk_of w) (disk_of w1) (disk_of w2) (g.managed.goes worked) stops);
           faults = (let x = g.managed.faults in omega (arith, x, faults));
         };
-        current = λ e. absurd (true-false (has_failed w2) fails e);
+        current = λ e. absurd (true_false (has_failed w2) fails e);
       }
         where
-          rose-on : (a b c : ℕ) → a ≤ b → Rose b c → Rose a c
-          rose-on a b c le r = omega (arith, le, r)
+          rose_on : (a b c : ℕ) → a ≤ b → Rose b c → Rose a c
+          rose_on a b c le r = omega (arith, le, r)
 
-          by-image : (x : List ℕ) → G.may_leave (disk_of w1) x ⊎ IsOldOrNew n j (base ++ bytes_of c.front) (part_upto w1 upto) x → G.tells →
+          by_image : (x : List ℕ) → G.may_leave (disk_of w1) x ⊎ IsOldOrNew n j (base ++ bytes_of c.front) (part_upto w1 upto) x → G.tells →
               (p : HasPieces n j base taken x) × (durable_of w2 ≤ length base + length (bytes_of p.front))
-          by-image x (inl was) t = (
-            record { front = c.front; rest = c.rest; is = c.is; has = ready-has n j w1 (base ++ bytes_of c.front) (c.ready t) x was },
+          by_image x (inl was) t = (
+            record { front = c.front; rest = c.rest; is = c.is; has = ready_has n j w1 (base ++ bytes_of c.front) (c.ready t) x was },
             (let d = c.durable in omega (arith, d, durable)),
           )
-          by-image x (inr (inl has)) t = (record { front = c.front; rest = c.rest; is = c.is; has = has }, (let d = c.durable in omega (arith, d, durable)))
-          by-image x (inr (inr has)) t = (
-            record { front = c.front ++ now; rest = later; is = split-is; has = subst (λ (b : List ℕ). HasContent n j b x) whole-is has },
-            (let d = c.durable in let long = long-is in omega (arith, d, durable, long)),
+          by_image x (inr (inl has)) t = (record { front = c.front; rest = c.rest; is = c.is; has = has }, (let d = c.durable in omega (arith, d, durable)))
+          by_image x (inr (inr has)) t = (
+            record { front = c.front ++ now; rest = later; is = split_is; has = subst (λ (b : List ℕ). HasContent n j b x) whole_is has },
+            (let d = c.durable in let long = long_is in omega (arith, d, durable, long)),
           )
 
       -- ---- what was stored before stays stored: each image since a flush has at least what it made durable
 
-      content-long : length (base ++ bytes_of c.front) ≡ durable_of w1
-      content-long = let d = c.durable in let e = length-append base (bytes_of c.front) in omega (arith, d, e)
+      content_long : length (base ++ bytes_of c.front) ≡ durable_of w1
+      content_long = let d = c.durable in let e = length-append base (bytes_of c.front) in omega (arith, d, e)
 
-      has-long : (d : ℕ) → d ≤ durable_of w1 → (x : List ℕ) → IsOldOrNew n j (base ++ bytes_of c.front) (part_upto w1 upto) x → HasLong n j d x
-      has-long d le x (inl has) = (base ++ bytes_of c.front, has, (let e = content-long in omega (arith, e, le)))
-      has-long d le x (inr has) = ((base ++ bytes_of c.front) ++ part_upto w1 upto, has, (let e = content-long in let f = length-append (base ++ bytes_of c.front) (part_upto w1 upto) in omega (arith, e, f, le)))
+      has_long : (d : ℕ) → d ≤ durable_of w1 → (x : List ℕ) → IsOldOrNew n j (base ++ bytes_of c.front) (part_upto w1 upto) x → HasLong n j d x
+      has_long d le x (inl has) = (base ++ bytes_of c.front, has, (let e = content_long in omega (arith, e, le)))
+      has_long d le x (inr has) = ((base ++ bytes_of c.front) ++ part_upto w1 upto, has, (let e = content_long in let f = length-append (base ++ bytes_of c.front) (part_upto w1 upto) in omega (arith, e, f, le)))
 
-      pub still-stored : (marks : List (ℕ × ℕ)) → durable_of w1 ≤ durable_of w2 → AreStored n j marks w1 → AreStored n j marks w2
-      still-stored marks up s t a m =
+      pub still_stored : (marks : List (ℕ × ℕ)) → durable_of w1 ≤ durable_of w2 → AreStored n j marks w1 → AreStored n j marks w2
+      still_stored marks up s t a m =
           let h = s t a m in
           let p = moments t n j (base ++ bytes_of c.front) (c.ready t) in
           let later_on = p.later in
@@ -270,13 +270,13 @@ module _ {D : Type 0} {G : Ghosts D} (n j : ℕ) (base : List ℕ) where
           let low = h.1 in (
             omega (arith, early, later_on),
             omega (arith, low, up),
-            λ x since. elim (p.new_ones a.0 x early since) [ inl old ↦ h.2 x old | inr new ↦ has-long a.1 low x new ],
+            λ x since. elim (p.new_ones a.0 x early since) [ inl old ↦ h.2 x old | inr new ↦ has_long a.1 low x new ],
           )
 
     -- after a flush that made all durable a mark of this moment is set
-    pub mark-now : (only_now : OnlyNow G) (taken : List Piece) (marks : List (ℕ × ℕ)) (w w' : Writer D G) → IsManaging n j base taken w w' → AreStored n j marks w' → AreStored n j ((G.moment (disk_of w'), durable_of w') ∷ marks) w'
-    mark-now only_now taken marks w w' g s t a (inr m) = s t a m
-    mark-now only_now taken marks w w' g s t a (inl is) =
+    pub mark_now : (only_now : OnlyNow G) (taken : List Piece) (marks : List (ℕ × ℕ)) (w w' : Writer D G) → IsManaging n j base taken w w' → AreStored n j marks w' → AreStored n j ((G.moment (disk_of w'), durable_of w') ∷ marks) w'
+    mark_now only_now taken marks w w' g s t a (inr m) = s t a m
+    mark_now only_now taken marks w w' g s t a (inl is) =
         subst (λ (b : ℕ × ℕ). (b.0 ≤ G.moment (disk_of w')) × (b.1 ≤ durable_of w') × ((x : List ℕ) → G.may_leave_since (disk_of w') b.0 x → HasLong n j b.1 x)) is (
           omega arith,
           omega arith,
@@ -287,8 +287,8 @@ module _ {D : Type 0} {G : Ghosts D} (n j : ℕ) (base : List ℕ) where
         )
 
     -- other calls of the writer leave the disk
-    pub stored-same : (marks : List (ℕ × ℕ)) (w1 w2 : Writer D G) → disk_of w2 ≡ disk_of w1 → durable_of w2 ≡ durable_of w1 → AreStored n j marks w1 → AreStored n j marks w2
-    stored-same marks w1 w2 disk durable s t a m =
+    pub stored_same : (marks : List (ℕ × ℕ)) (w1 w2 : Writer D G) → disk_of w2 ≡ disk_of w1 → durable_of w2 ≡ durable_of w1 → AreStored n j marks w1 → AreStored n j marks w2
+    stored_same marks w1 w2 disk durable s t a m =
         let h = s t a m in (
           subst (λ (d : D). a.0 ≤ G.moment d) (sym disk) h.0,
           (let low = h.1 in omega (arith, low, durable)),

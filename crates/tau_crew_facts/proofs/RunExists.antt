@@ -6,15 +6,15 @@ use Rattle.std.proofs.Math.Nat.{mod-lt}
 use Rattle.std.proofs.lemmas.Bool.{ne_eqb}
 use Rattle.tau_base.specs.declared.value.LogMode.{LogMode}
 use Rattle.tau_model.specs.History.{Act, Member, updates}
-use Rattle.tau_model.proofs.Logged.{member-filtered}
-use Rattle.tau_model.proofs.Orders.{member-back, member-reordered}
+use Rattle.tau_model.proofs.Logged.{member_filtered}
+use Rattle.tau_model.proofs.Orders.{member_back, member_reordered}
 use Rattle.tau_machine.specs.Hands.{Txn, Hand, Phase, Running, Quitting, Placed, Freeing, act_in, act_of}
 use Rattle.tau_machine.specs.Accounts.{in_committed, in_worker, in_calls, in_hand, joined_list}
 use Rattle.tau_machine.specs.State.{Core, Item, Record, Anchor, Ticket, ticket_of, start_of, past_of, hand_of}
 use Rattle.tau_machine.specs.Pieces.{Chain, NameTheirs, records_in, placed_in, placed_of, StreamGood}
 use Rattle.tau_machine.specs.Reports.{reported}
 use Rattle.tau_machine.specs.Invariant.{Invariant}
-use Rattle.tau_machine.proofs.Accounts.{committed-append}
+use Rattle.tau_machine.proofs.Accounts.{committed_append}
 use Rattle.tau_machine.proofs.Results.{committed_theorem}
 use Rattle.tau_text.specs.declared.load.Workload.{Workload}
 use Rattle.tau_outbox.specs.declared.Piece.{Piece}
@@ -26,50 +26,18 @@ use Rattle.tau_run.specs.Run.{Run, told_of, pair_of}
 use Rattle.tau_run.specs.RecoveredFacts.{catalogue_of}
 use Rattle.tau_run.specs.CoreRun.{IsLoadOf, AreAcks, IsGiven, IsRunOf}
 use Rattle.tau_run.proofs.Counts.{count_member, count_tickets}
-use Rattle.tau_run.proofs.Each.{some_is}
 use Rattle.tau_rule.specs.Rule.{anchors_at}
 use Rattle.tau_crew_facts.specs.Ends.{IsLoose}
+use Rattle.tau_base.proofs.Logic.{some_is, replicated}
+use Rattle.tau_run.proofs.RunExists.{spelled_of, paired_bytes, record_member}
 
 -- ---- items with their bytes
 
 abbrev HasBytes : Load → (ℕ → List (List ℕ)) → Item → Type 0
 HasBytes l anchors i = (bytes : List ℕ) × (start_of i + length bytes ≡ past_of i) × AreBytesOf l anchors i bytes
 
-spelled_of : (l : Load) (anchors : ℕ → List (List ℕ)) (items : List Item) → ((i : Item) → Member i items → HasBytes l anchors i) → (bytes : List ℕ) × Spelled l anchors items bytes
-spelled_of l anchors [] h = ([], refl)
-spelled_of l anchors (i ∷ items) h =
-    let first = h i (inl refl) in
-    let rest = spelled_of l anchors items (λ k m. h k (inr m)) in
-    (first.0 ++ rest.0, (first.0, rest.0, refl, first.1, first.2, rest.1))
-
 piece_bytes : (l : Load) (anchors : ℕ → List (List ℕ)) (p : Piece) (i : Item) → IsPieceOf l anchors p i → HasBytes l anchors i
 piece_bytes l anchors p i is = (p.bytes, ap (λ k. k + length p.bytes) (sym is.start) ∙ is.past, is.bytes)
-
-paired_bytes : (l : Load) (anchors : ℕ → List (List ℕ)) (pieces : List Piece) (items : List Item) → Paired (IsPieceOf l anchors) pieces items → (i : Item) → Member i items → HasBytes l anchors i
-paired_bytes l anchors [] [] pair i m = absurd m
-paired_bytes l anchors [] (x ∷ items) pair i m = absurd pair
-paired_bytes l anchors (p ∷ pieces) [] pair i m = absurd pair
-paired_bytes l anchors (p ∷ pieces) (x ∷ items) pair i (inl e) = subst (HasBytes l anchors) e (piece_bytes l anchors p x pair.0)
-paired_bytes l anchors (p ∷ pieces) (x ∷ items) pair i (inr m) = paired_bytes l anchors pieces items pair.1 i m
-
-pub record_member : (items : List Item) (t : Act Txn) → Member (Record t) items → Member t (records_in items)
-record_member [] t m = absurd m
-record_member (Record u ∷ items) t (inl e) = inl (record_is e)
-  where
-    record_in : Item → Act Txn
-    record_in (Record x) = x
-    record_in (Anchor a b v) = u
-
-    record_is : Record u ≡ Record t → u ≡ t
-    record_is e = ap record_in e
-record_member (Anchor a b v ∷ items) t (inl e) = absurd (cc e)
-record_member (Record u ∷ items) t (inr m) = inr (record_member items t m)
-record_member (Anchor a b v ∷ items) t (inr m) = record_member items t m
-
-replicated : (n k j : ℕ) → j < n → slice_index (replicate n k) j ≡ k
-replicated zero k j lt = absurd (omega (arith, lt))
-replicated (suc n) k zero lt = refl
-replicated (suc n) k (suc j) lt = replicated n k j (omega (arith, lt))
 
 spelled_more : (l : Load) (anchors : ℕ → List (List ℕ)) (xs ys : List Item) (b c : List ℕ) → Spelled l anchors xs b → Spelled l anchors ys c → Spelled l anchors (xs ++ ys) (b ++ c)
 spelled_more l anchors [] ys b c h k = subst (λ (z : List ℕ). Spelled l anchors ys (z ++ c)) (sym h) k
@@ -90,20 +58,20 @@ listed_from {A} P (suc k) f =
 -- ---- pieces that were gathered
 
 -- the bytes of pieces are those of their items
-pub pieces-spelled : (l : Load) (anchors : ℕ → List (List ℕ)) (pieces : List Piece) (items : List Item) → Paired (IsPieceOf l anchors) pieces items → Spelled l anchors items (bytes_of pieces)
+pub pieces_spelled : (l : Load) (anchors : ℕ → List (List ℕ)) (pieces : List Piece) (items : List Item) → Paired (IsPieceOf l anchors) pieces items → Spelled l anchors items (bytes_of pieces)
 unfolding piece_bytes
-pieces-spelled l anchors [] [] pair = refl
-pieces-spelled l anchors [] (x ∷ items) pair = absurd pair
-pieces-spelled l anchors (p ∷ pieces) [] pair = absurd pair
-pieces-spelled l anchors (p ∷ pieces) (x ∷ items) pair =
+pieces_spelled l anchors [] [] pair = refl
+pieces_spelled l anchors [] (x ∷ items) pair = absurd pair
+pieces_spelled l anchors (p ∷ pieces) [] pair = absurd pair
+pieces_spelled l anchors (p ∷ pieces) (x ∷ items) pair =
     let first = piece_bytes l anchors p x pair.0 in
-    (p.bytes, bytes_of pieces, refl, first.1, pair.0.bytes, pieces-spelled l anchors pieces items pair.1)
+    (p.bytes, bytes_of pieces, refl, first.1, pair.0.bytes, pieces_spelled l anchors pieces items pair.1)
 
 -- the first pieces belong to the first items
-pub paired-front : {A B : Type 0} (R : A → B → Type 0) (front rest : List A) (items : List B) → Paired R (front ++ rest) items → Paired R front (take (length front) items)
-paired-front R [] rest items pair = tt
-paired-front R (p ∷ front) rest [] pair = absurd pair
-paired-front R (p ∷ front) rest (x ∷ items) pair = (pair.0, paired-front R front rest items pair.1)
+pub paired_front : {A B : Type 0} (R : A → B → Type 0) (front rest : List A) (items : List B) → Paired R (front ++ rest) items → Paired R front (take (length front) items)
+paired_front R [] rest items pair = tt
+paired_front R (p ∷ front) rest [] pair = absurd pair
+paired_front R (p ∷ front) rest (x ∷ items) pair = (pair.0, paired_front R front rest items pair.1)
 
 -- ---- a call that has not committed has no place
 
@@ -113,36 +81,36 @@ unplaced Quitting e = refl
 unplaced (Placed t) e = absurd (cc e)
 unplaced (Freeing t) e = refl
 
-pub loose-unplaced : (o : Option Hand) → IsLoose o → placed_in o ≡ None
-loose-unplaced None e = refl
-loose-unplaced (Some h) e = unplaced h.phase e.0
+pub loose_unplaced : (o : Option Hand) → IsLoose o → placed_in o ≡ None
+loose_unplaced None e = refl
+loose_unplaced (Some h) e = unplaced h.phase e.0
 
 -- ---- the acknowledgements of workers that are not there
 
 -- an acknowledged call is of its worker
-pub acked-own : (l : Load) (K : List (Act Txn)) (s : Core) → Invariant (setting_of l) K s → (w : ℕ) (k : Ticket) → Member k (s.acked w) → worker_of l.workers k.number ≡ w
-acked-own l K s g w k q =
+pub acked_own : (l : Load) (K : List (Act Txn)) (s : Core) → Invariant (setting_of l) K s → (w : ℕ) (k : Ticket) → Member k (s.acked w) → worker_of l.workers k.number ≡ w
+acked_own l K s g w k q =
     let acc = g.agrees.accounts w in
-    let there : Member k (map ticket_of acc.ended) = member-reordered (map ticket_of acc.ended) ((s.outboxes w).pending ++ s.acked w) acc.tickets k (member-back k (s.outboxes w).pending (s.acked w) q) in
+    let there : Member k (map ticket_of acc.ended) = member_reordered (map ticket_of acc.ended) ((s.outboxes w).pending ++ s.acked w) acc.tickets k (member_back k (s.outboxes w).pending (s.acked w) q) in
     let one = count_member (λ (x : Ticket). x.number) k.number k (map ticket_of acc.ended) there refl in
     let a = count_tickets k.number acc.ended in
     let b = ap (in_committed k.number) acc.committed in
-    let c = committed-append k.number acc.ended (joined_list (act_in (s.workers w).hand)) in
+    let c = committed_append k.number acc.ended (joined_list (act_in (s.workers w).hand)) in
     let f : in_calls k.number (s.workers w).waiting + in_hand k.number (s.workers w).hand + in_calls k.number (s.workers w).left + in_committed k.number (s.workers w).committed ≡ in_worker k.number (s.workers w) = refl in
     acc.whose k.number (omega (arith, one, a, b, c, f))
 
-no-members : {A : Type 0} (xs : List A) → ((x : A) → Member x xs → ⊥) → xs ≡ []
-no-members [] none = refl
-no-members (x ∷ xs) none = absurd (none x (inl refl))
+pub no_members : {A : Type 0} (xs : List A) → ((x : A) → Member x xs → ⊥) → xs ≡ []
+no_members [] none = refl
+no_members (x ∷ xs) none = absurd (none x (inl refl))
 
-none-filtered : {A : Type 0} (f : A → Bool) (xs : List A) → ((x : A) → f x ≡ false) → filter f xs ≡ []
-none-filtered f [] none = refl
-none-filtered f (x ∷ xs) none = rw (none x) (none-filtered f xs none)
+none_filtered : {A : Type 0} (f : A → Bool) (xs : List A) → ((x : A) → f x ≡ false) → filter f xs ≡ []
+none_filtered f [] none = refl
+none_filtered f (x ∷ xs) none = rw (none x) (none_filtered f xs none)
 
 -- the acknowledgements of the workers that are there are all
-pub acks-all : (l : Load) (K : List (Act Txn)) (s : Core) → Invariant (setting_of l) K s → 1 ≤ l.workers → (acks : List (ℕ × List ℕ)) →
+pub acks_all : (l : Load) (K : List (Act Txn)) (s : Core) → Invariant (setting_of l) K s → 1 ≤ l.workers → (acks : List (ℕ × List ℕ)) →
     ((w : ℕ) → w < l.workers → filter (λ (a : ℕ × List ℕ). worker_of l.workers a.0 == w) acks ≡ map pair_of (s.acked w)) → AreAcks l s acks
-acks-all l K s g some acks told w = by-side (split w l.workers)
+acks_all l K s g some acks told w = by_side (split w l.workers)
   where
     split : (x y : ℕ) → (x < y) ⊎ (y ≤ x)
     split x y = grind arith
@@ -150,21 +118,21 @@ acks-all l K s g some acks told w = by-side (split w l.workers)
     low : (k : ℕ) → worker_of l.workers k < l.workers
     low k = mod-lt (k - 1) {m = l.workers} (omega (arith, some))
 
-    by-side : (w < l.workers) ⊎ (l.workers ≤ w) → filter (λ (a : ℕ × List ℕ). worker_of l.workers a.0 == w) acks ≡ map pair_of (s.acked w)
-    by-side (inl lt) = told w lt
-    by-side (inr le) =
-        let none : s.acked w ≡ [] = no-members (s.acked w) (λ k m. let own = acked-own l K s g w k m in let lt = low k.number in absurd (omega (arith, own, lt, le))) in
-        none-filtered (λ (a : ℕ × List ℕ). worker_of l.workers a.0 == w) acks (λ a. ne_eqb (worker_of l.workers a.0) w (λ e. let lt = low a.0 in omega (arith, e, lt, le)))
+    by_side : (w < l.workers) ⊎ (l.workers ≤ w) → filter (λ (a : ℕ × List ℕ). worker_of l.workers a.0 == w) acks ≡ map pair_of (s.acked w)
+    by_side (inl lt) = told w lt
+    by_side (inr le) =
+        let none : s.acked w ≡ [] = no_members (s.acked w) (λ k m. let own = acked_own l K s g w k m in let lt = low k.number in absurd (omega (arith, own, lt, le))) in
+        none_filtered (λ (a : ℕ × List ℕ). worker_of l.workers a.0 == w) acks (λ a. ne_eqb (worker_of l.workers a.0) w (λ e. let lt = low a.0 in omega (arith, e, lt, le)))
         ∙ ap (map pair_of) (sym none)
 
 -- a worker whose outbox has a piece is there
-pub posted-low : (l : Load) (K : List (Act Txn)) (s : Core) → Invariant (setting_of l) K s → 1 ≤ l.workers → (j w : ℕ) (i : Item) → j < l.streams → w % l.streams ≡ j → Member i (s.outboxes w).posted → w < l.workers
-posted-low l K s inv some j w i lt is q =
+pub posted_low : (l : Load) (K : List (Act Txn)) (s : Core) → Invariant (setting_of l) K s → 1 ≤ l.workers → (j w : ℕ) (i : Item) → j < l.streams → w % l.streams ≡ j → Member i (s.outboxes w).posted → w < l.workers
+posted_low l K s inv some j w i lt is q =
     let good : StreamGood (setting_of l) K s j = inv.agrees.pieces.stream j lt in
     let t = inv.agrees.pieces.whose w i q in
     let waits : Member (Record t.0) good.waiting = subst (λ (x : Item). Member x good.waiting) t.1 (good.posted i (inl (w, is, q))) in
-    let all : Member t.0 (records_in ((s.streams j).moved ++ good.waiting)) = record_member ((s.streams j).moved ++ good.waiting) t.0 (member-back (Record t.0) (s.streams j).moved good.waiting waits) in
-    let there : Member t.0 K = (member-filtered (λ (x : Act Txn). updates x.effect && x.call.place.stream == j) t.0 K (subst (λ (ts : List (Act Txn)). Member t.0 ts) good.records all)).0 in
+    let all : Member t.0 (records_in ((s.streams j).moved ++ good.waiting)) = record_member ((s.streams j).moved ++ good.waiting) t.0 (member_back (Record t.0) (s.streams j).moved good.waiting waits) in
+    let there : Member t.0 K = (member_filtered (λ (x : Act Txn). updates x.effect && x.call.place.stream == j) t.0 K (subst (λ (ts : List (Act Txn)). Member t.0 ts) good.records all)).0 in
     let own : worker_of l.workers t.0.call.call.number ≡ t.0.call.worker = ((committed_theorem (setting_of l) K s inv).0 t.0 there).1 in
     let low : worker_of l.workers t.0.call.call.number < l.workers = mod-lt (t.0.call.call.number - 1) {m = l.workers} (omega (arith, some)) in
     let mine = t.2 in
@@ -196,8 +164,8 @@ module _ (n m : ℕ) (mode : LogMode) (load : Workload) (l : Load) (K : List (Ac
 
     in_order : (t : Act Txn) → Member (Record t) good.waiting → Member t K
     in_order t q =
-        let all : Member t (records_in ((s.streams j).moved ++ good.waiting)) = record_member ((s.streams j).moved ++ good.waiting) t (member-back (Record t) (s.streams j).moved good.waiting q) in
-        (member-filtered (λ (x : Act Txn). updates x.effect && x.call.place.stream == j) t K (subst (λ (ts : List (Act Txn)). Member t ts) good.records all)).0
+        let all : Member t (records_in ((s.streams j).moved ++ good.waiting)) = record_member ((s.streams j).moved ++ good.waiting) t (member_back (Record t) (s.streams j).moved good.waiting q) in
+        (member_filtered (λ (x : Act Txn). updates x.effect && x.call.place.stream == j) t K (subst (λ (ts : List (Act Txn)). Member t ts) good.records all)).0
 
     waiting_bytes : (i : Item) → Member i good.waiting → HasBytes l anchors i
     waiting_bytes i q = elim (good.there i q) [
@@ -235,8 +203,8 @@ module _ (n m : ℕ) (mode : LogMode) (load : Workload) (l : Load) (K : List (Ac
         )
 
   -- the run of this state, with these acknowledgements
-  pub run-there : (acks : List (ℕ × List ℕ)) → AreAcks l s acks → (run : Run) × IsRunOf n l K s (catalogue_of load) run × (run.acks ≡ acks)
-  run-there acks are =
+  pub run_there : (acks : List (ℕ × List ℕ)) → AreAcks l s acks → (run : Run) × IsRunOf n l K s (catalogue_of load) run × (run.acks ≡ acks)
+  run_there acks are =
       let all = listed_from (λ j content. IsGiven l K s j (catalogue_of load) content) n (λ j lt. given j lt) in (
         record { calls = map told_of (reported s.ends K); contents = all.0; acks = acks },
         record { calls = refl; streams = all.1; given = λ j content e. all.2 j content e; acks = are },

@@ -7,51 +7,51 @@ use Rattle.tau_crew_facts.specs.Spacing.{Spaced, newest, IsSpacing, Flushes, pla
 
 -- ---- the loop of a manager, step by step
 
-pub spaced-more : (base x : ℕ) (xs : List ℕ) → Spaced base xs → newest base xs + 65536 ≤ x → x ≤ newest base xs + 1114111 → Spaced base (xs ++ x ∷ [])
-spaced-more base x [] s low high = (low, high, tt)
-spaced-more base x (y ∷ xs) s low high = (s.0, s.1, spaced-more y x xs s.2 low high)
+pub spaced_more : (base x : ℕ) (xs : List ℕ) → Spaced base xs → newest base xs + 65536 ≤ x → x ≤ newest base xs + 1114111 → Spaced base (xs ++ x ∷ [])
+spaced_more base x [] s low high = (low, high, tt)
+spaced_more base x (y ∷ xs) s low high = (s.0, s.1, spaced_more y x xs s.2 low high)
 
-pub newest-more : (base x : ℕ) (xs : List ℕ) → newest base (xs ++ x ∷ []) ≡ x
-newest-more base x [] = refl
-newest-more base x (y ∷ xs) = newest-more y x xs
+pub newest_more : (base x : ℕ) (xs : List ℕ) → newest base (xs ++ x ∷ []) ≡ x
+newest_more base x [] = refl
+newest_more base x (y ∷ xs) = newest_more y x xs
 
 -- at first
-pub spacing-begins : (base : ℕ) → IsSpacing base base []
-spacing-begins base = record { spaced = tt; low = omega arith; near = omega arith }
+pub spacing_begins : (base : ℕ) → IsSpacing base base []
+spacing_begins base = record { spaced = tt; low = omega arith; near = omega arith }
 
 -- a flush after which no anchor is due
-pub spacing-stays : (base durable upto : ℕ) (xs : List ℕ) → IsSpacing base durable xs → durable ≤ upto → upto < newest base xs + 65536 → IsSpacing base upto xs
-spacing-stays base durable upto xs s le lt = record { spaced = s.spaced; low = (let a = s.low in omega (arith, a, le)); near = lt }
+pub spacing_stays : (base durable upto : ℕ) (xs : List ℕ) → IsSpacing base durable xs → durable ≤ upto → upto < newest base xs + 65536 → IsSpacing base upto xs
+spacing_stays base durable upto xs s le lt = record { spaced = s.spaced; low = (let a = s.low in omega (arith, a, le)); near = lt }
 
 -- a flush after which one is placed, whose own component is what is durable now
-pub spacing-places : (base durable upto : ℕ) (xs : List ℕ) → IsSpacing base durable xs → upto ≤ durable + 1048576 → newest base xs + 65536 ≤ upto → IsSpacing base upto (xs ++ upto ∷ [])
-spacing-places base durable upto xs s block due =
+pub spacing_places : (base durable upto : ℕ) (xs : List ℕ) → IsSpacing base durable xs → upto ≤ durable + 1048576 → newest base xs + 65536 ≤ upto → IsSpacing base upto (xs ++ upto ∷ [])
+spacing_places base durable upto xs s block due =
     let near = s.near in
-    let last : newest base (xs ++ upto ∷ []) ≡ upto = newest-more base upto xs in
+    let last : newest base (xs ++ upto ∷ []) ≡ upto = newest_more base upto xs in
     record {
-      spaced = spaced-more base upto xs s.spaced due (omega (arith, near, block));
+      spaced = spaced_more base upto xs s.spaced due (omega (arith, near, block));
       low = omega (arith, last);
       near = omega (arith, last);
     }
 
 -- ---- the whole loop, as a function of where its flushes end
 
-pub spacing-loop : (base durable : ℕ) (xs ds : List ℕ) → IsSpacing base durable xs → Flushes durable ds → IsSpacing base (newest durable ds) (xs ++ placed_after (newest base xs) ds)
-spacing-loop base durable xs [] s f = subst (λ (ys : List ℕ). IsSpacing base durable ys) (sym (nil xs)) s
+pub spacing_loop : (base durable : ℕ) (xs ds : List ℕ) → IsSpacing base durable xs → Flushes durable ds → IsSpacing base (newest durable ds) (xs ++ placed_after (newest base xs) ds)
+spacing_loop base durable xs [] s f = subst (λ (ys : List ℕ). IsSpacing base durable ys) (sym (nil xs)) s
   where
     nil : (ys : List ℕ) → ys ++ [] ≡ ys
     nil [] = refl
     nil (y ∷ ys) = ap (λ (zs : List ℕ). y ∷ zs) (nil ys)
-spacing-loop base durable xs (d ∷ ds) s f = elim (cases_Bool (nat_le (newest base xs + 65536) d)) [
+spacing_loop base durable xs (d ∷ ds) s f = elim (cases_Bool (nat_le (newest base xs + 65536) d)) [
   | inl due ↦
       let le : newest base xs + 65536 ≤ d = grind (arith, nat_tests, due) in
-      let rest = spacing-loop base d (xs ++ d ∷ []) ds (spacing-places base durable d xs s f.1 le) f.2 in
-      let last : newest base (xs ++ d ∷ []) ≡ d = newest-more base d xs in
+      let rest = spacing_loop base d (xs ++ d ∷ []) ds (spacing_places base durable d xs s f.1 le) f.2 in
+      let last : newest base (xs ++ d ∷ []) ≡ d = newest_more base d xs in
       let here : placed_after (newest base xs) (d ∷ ds) ≡ d ∷ placed_after d ds = ap (λ (b : Bool). if b then d ∷ placed_after d ds else placed_after (newest base xs) ds) due in
       subst (λ (ys : List ℕ). IsSpacing base (newest d ds) ys) (ap (λ (k : ℕ). (xs ++ d ∷ []) ++ placed_after k ds) last ∙ assoc xs d (placed_after d ds) ∙ ap (λ (ys : List ℕ). xs ++ ys) (sym here)) rest
   | inr not_due ↦
       let lt : d < newest base xs + 65536 = grind (arith, nat_tests, not_due) in
-      let rest = spacing-loop base d xs ds (spacing-stays base durable d xs s f.0 lt) f.2 in
+      let rest = spacing_loop base d xs ds (spacing_stays base durable d xs s f.0 lt) f.2 in
       let here : placed_after (newest base xs) (d ∷ ds) ≡ placed_after (newest base xs) ds = ap (λ (b : Bool). if b then d ∷ placed_after d ds else placed_after (newest base xs) ds) not_due in
       subst (λ (ys : List ℕ). IsSpacing base (newest d ds) ys) (ap (λ (ys : List ℕ). xs ++ ys) (sym here)) rest
 ]

@@ -11,7 +11,7 @@ use Rattle.tau_machine.specs.State.{Setting, Stream, Core}
 use Rattle.tau_machine.specs.Events.{Event, Stop, Stops, with_stream}
 use Rattle.tau_machine.specs.Invariant.{Invariant}
 use Rattle.tau_machine.specs.Runs.{Run}
-use Rattle.tau_machine.proofs.At.{at-same, at-other}
+use Rattle.tau_machine.proofs.At.{at_same, at_other}
 use Rattle.tau_machine.proofs.Results.{run_theorem, goes_on_theorem}
 
 -- the state with its streams stopped where the function tells
@@ -29,29 +29,29 @@ stop_events f plv (suc k) = stop_events f plv k ++ (if f k then Stop k (slice_in
 
 -- ---- what the function tells
 
-pub none-above : (f : ℕ → Bool) (plv : List ℕ) (k j : ℕ) → k ≤ j → stops_by f plv k j ≡ None
-none-above f plv zero j le = refl
-none-above f plv (suc k) j le = elim (cases_Bool (f k)) [
-  | inl failed ↦ rw failed (at-other k (Some (slice_index plv k)) (stops_by f plv k) j (λ e. omega (arith, e, le)) ∙ none-above f plv k j (omega (arith, le)))
-  | inr works ↦ rw works (none-above f plv k j (omega (arith, le)))
+pub none_above : (f : ℕ → Bool) (plv : List ℕ) (k j : ℕ) → k ≤ j → stops_by f plv k j ≡ None
+none_above f plv zero j le = refl
+none_above f plv (suc k) j le = elim (cases_Bool (f k)) [
+  | inl failed ↦ rw failed (at_other k (Some (slice_index plv k)) (stops_by f plv k) j (λ e. omega (arith, e, le)) ∙ none_above f plv k j (omega (arith, le)))
+  | inr works ↦ rw works (none_above f plv k j (omega (arith, le)))
 ]
 
-pub none-works : (f : ℕ → Bool) (plv : List ℕ) (k j : ℕ) → f j ≡ false → stops_by f plv k j ≡ None
-none-works f plv zero j e = refl
-none-works f plv (suc k) j e = elim (cases_Bool (f k)) [
-  | inl failed ↦ rw failed (at-other k (Some (slice_index plv k)) (stops_by f plv k) j (λ is. (let bad : true ≡ false = sym failed ∙ ap f (sym is) ∙ e in cc bad)) ∙ none-works f plv k j e)
-  | inr works ↦ rw works (none-works f plv k j e)
+pub none_works : (f : ℕ → Bool) (plv : List ℕ) (k j : ℕ) → f j ≡ false → stops_by f plv k j ≡ None
+none_works f plv zero j e = refl
+none_works f plv (suc k) j e = elim (cases_Bool (f k)) [
+  | inl failed ↦ rw failed (at_other k (Some (slice_index plv k)) (stops_by f plv k) j (λ is. (let bad : true ≡ false = sym failed ∙ ap f (sym is) ∙ e in cc bad)) ∙ none_works f plv k j e)
+  | inr works ↦ rw works (none_works f plv k j e)
 ]
 
-pub some-failed : (f : ℕ → Bool) (plv : List ℕ) (k j : ℕ) → j < k → f j ≡ true → stops_by f plv k j ≡ Some (slice_index plv j)
-some-failed f plv zero j lt e = absurd (omega (arith, lt))
-some-failed f plv (suc k) j lt e = elim (cases_eq j k) [
+pub some_failed : (f : ℕ → Bool) (plv : List ℕ) (k j : ℕ) → j < k → f j ≡ true → stops_by f plv k j ≡ Some (slice_index plv j)
+some_failed f plv zero j lt e = absurd (omega (arith, lt))
+some_failed f plv (suc k) j lt e = elim (cases_eq j k) [
   | inl is ↦
       let here : f k ≡ true = ap f (sym is) ∙ e in
-      rw here (subst (λ (i : ℕ). at k (Some (slice_index plv k)) (stops_by f plv k) i ≡ Some (slice_index plv i)) (sym is) (at-same k (Some (slice_index plv k)) (stops_by f plv k)))
+      rw here (subst (λ (i : ℕ). at k (Some (slice_index plv k)) (stops_by f plv k) i ≡ Some (slice_index plv i)) (sym is) (at_same k (Some (slice_index plv k)) (stops_by f plv k)))
   | inr other ↦ elim (cases_Bool (f k)) [
-    | inl failed ↦ rw failed (at-other k (Some (slice_index plv k)) (stops_by f plv k) j other ∙ some-failed f plv k j (omega (arith, lt, other)) e)
-    | inr works ↦ rw works (some-failed f plv k j (omega (arith, lt, other)) e)
+    | inl failed ↦ rw failed (at_other k (Some (slice_index plv k)) (stops_by f plv k) j other ∙ some_failed f plv k j (omega (arith, lt, other)) e)
+    | inr works ↦ rw works (some_failed f plv k j (omega (arith, lt, other)) e)
   ]
 ]
 
@@ -64,22 +64,22 @@ module _ (set : Setting) (opening : Core) (events : List Event) (K : List (Act T
   pub inv : Invariant set K c
   inv = run_theorem set opening events K c run
 
-  none-yet : stopped_at (λ j. None) c ≡ c
-  none-yet = ap (λ (g : ℕ → Stream). record c { streams = g }) (fun_ext (λ j. ap (λ (o : Option ℕ). record (c.streams j) { stop = o }) (sym (going j))))
+  none_yet : stopped_at (λ j. None) c ≡ c
+  none_yet = ap (λ (g : ℕ → Stream). record c { streams = g }) (fun_ext (λ j. ap (λ (o : Option ℕ). record (c.streams j) { stop = o }) (sym (going j))))
 
   -- one stream more
-  one-more : (k : ℕ) → with_stream (after k) k (record ((after k).streams k) { stop = Some (slice_index c.plv k) }) ≡ stopped_at (at k (Some (slice_index c.plv k)) (stops_by f c.plv k)) c
-  one-more k = ap (λ (g : ℕ → Stream). record c { streams = g }) (fun_ext (λ j. elim (cases_eq j k) [
+  one_more : (k : ℕ) → with_stream (after k) k (record ((after k).streams k) { stop = Some (slice_index c.plv k) }) ≡ stopped_at (at k (Some (slice_index c.plv k)) (stops_by f c.plv k)) c
+  one_more k = ap (λ (g : ℕ → Stream). record c { streams = g }) (fun_ext (λ j. elim (cases_eq j k) [
     | inl is ↦ subst (λ (i : ℕ). at k (record ((after k).streams k) { stop = Some (slice_index c.plv k) }) (after k).streams i ≡ record (c.streams i) { stop = at k (Some (slice_index c.plv k)) (stops_by f c.plv k) i }) (sym is)
-        (at-same k (record ((after k).streams k) { stop = Some (slice_index c.plv k) }) (after k).streams ∙ ap (λ (o : Option ℕ). record (c.streams k) { stop = o }) (sym (at-same k (Some (slice_index c.plv k)) (stops_by f c.plv k))))
+        (at_same k (record ((after k).streams k) { stop = Some (slice_index c.plv k) }) (after k).streams ∙ ap (λ (o : Option ℕ). record (c.streams k) { stop = o }) (sym (at_same k (Some (slice_index c.plv k)) (stops_by f c.plv k))))
     | inr other ↦
-        at-other k (record ((after k).streams k) { stop = Some (slice_index c.plv k) }) (after k).streams j other ∙ ap (λ (o : Option ℕ). record (c.streams j) { stop = o }) (sym (at-other k (Some (slice_index c.plv k)) (stops_by f c.plv k) j other))
+        at_other k (record ((after k).streams k) { stop = Some (slice_index c.plv k) }) (after k).streams j other ∙ ap (λ (o : Option ℕ). record (c.streams j) { stop = o }) (sym (at_other k (Some (slice_index c.plv k)) (stops_by f c.plv k) j other))
   ]))
 
-  pub stops-led : (k : ℕ) → k ≤ set.width → Run set opening (events ++ stop_events f c.plv k) K (after k)
-  stops-led zero le = subst (λ (es : List Event). Run set opening es K (after 0)) (sym (append-nil events)) (subst (λ (s : Core). Run set opening events K s) (sym none-yet) run)
-  stops-led (suc k) le =
-      let before = stops-led k (omega (arith, le)) in elim (cases_Bool (f k)) [
+  pub stops_led : (k : ℕ) → k ≤ set.width → Run set opening (events ++ stop_events f c.plv k) K (after k)
+  stops_led zero le = subst (λ (es : List Event). Run set opening es K (after 0)) (sym (append-nil events)) (subst (λ (s : Core). Run set opening events K s) (sym none_yet) run)
+  stops_led (suc k) le =
+      let before = stops_led k (omega (arith, le)) in elim (cases_Bool (f k)) [
         | inr works ↦
             let same : after (suc k) ≡ after k = ap (λ (b : Bool). stopped_at (if b then at k (Some (slice_index c.plv k)) (stops_by f c.plv k) else stops_by f c.plv k) c) works in
             let no_more : events ++ stop_events f c.plv (suc k) ≡ events ++ stop_events f c.plv k =
@@ -88,14 +88,14 @@ module _ (set : Setting) (opening : Core) (events : List Event) (K : List (Act T
         | inl failed ↦
             let stop : Stops set k (slice_index c.plv k) (after k) (with_stream (after k) k (record ((after k).streams k) { stop = Some (slice_index c.plv k) })) = record {
               there = omega (arith, le);
-              going = none-above f c.plv k k (omega arith);
+              going = none_above f c.plv k k (omega arith);
               low = omega arith;
               high = inv.agrees.good.persisted k;
               after = refl;
             } in
             let gone = (goes_on_theorem set opening).1 (events ++ stop_events f c.plv k) K (after k) (with_stream (after k) k (record ((after k).streams k) { stop = Some (slice_index c.plv k) })) (Stop k (slice_index c.plv k)) [] before (stop, refl) in
             let state : with_stream (after k) k (record ((after k).streams k) { stop = Some (slice_index c.plv k) }) ≡ after (suc k) =
-            one-more k ∙ ap (λ (b : Bool). stopped_at (if b then at k (Some (slice_index c.plv k)) (stops_by f c.plv k) else stops_by f c.plv k) c) (sym failed) in
+            one_more k ∙ ap (λ (b : Bool). stopped_at (if b then at k (Some (slice_index c.plv k)) (stops_by f c.plv k) else stops_by f c.plv k) c) (sym failed) in
             let all : (events ++ stop_events f c.plv k) ++ Stop k (slice_index c.plv k) ∷ [] ≡ events ++ stop_events f c.plv (suc k) =
             append_assoc events (stop_events f c.plv k) (Stop k (slice_index c.plv k) ∷ []) ∙ ap (λ (b : Bool). events ++ (stop_events f c.plv k ++ (if b then Stop k (slice_index c.plv k) ∷ [] else []))) (sym failed) in
             subst (λ (es : List Event). Run set opening es K (after (suc k))) all

@@ -15,21 +15,21 @@ use Rattle.tau_core.specs.declared.state.Load.{Load}
 use Rattle.tau_core.specs.State.{Plain}
 use Rattle.tau_core.specs.Begins.{next_behind, number_by}
 use Rattle.tau_core.specs.View.{again_in, call_of, from_on, numbered, numbered_by}
-use Rattle.tau_core.proofs.Hands.{some-hand}
-use Rattle.tau_core.proofs.Lists.{some-at}
-use Rattle.tau_core.proofs.Numbers.{Numbers, numbers}
-use Rattle.tau_core.proofs.Starts.{from-next}
+use Rattle.tau_core.proofs.Hands.{some_hand}
+use Rattle.tau_core.proofs.Numbers.{Numbers, numbers, called}
+use Rattle.tau_core.proofs.Starts.{from_next}
 use Rattle.tau_rule.specs.Steps.{Sat}
 use Rattle.tau_desk.specs.declared.mark.Mark.{Mark}
 use Rattle.tau_desk.specs.Seats.{IsWorkerSeat}
 use Rattle.tau_desk.specs.Shares.{FitsWork, IsMark, IsWork, PlainWork, ShowsWorker, own_worker, unbegun}
 use Rattle.tau_desk.specs.Works.{BeginsIn, BeginsNext, RoomMade}
-use Rattle.tau_desk.proofs.GoingOn.{posts-placed, seat-origin, work-at}
+use Rattle.tau_desk.proofs.GoingOn.{posts_placed, seat_origin, work_at}
+use Rattle.tau_base.proofs.Lists.{some_at}
 
 -- the calls that wait, after the next has begun
-waiting-next : (l : Load) (o o' : PlainWork) (n : ℕ) (c : Call) → 1 ≤ l.workers → number_by (length l.calls) o.next o.again ≡ Some n → call_of l.calls n ≡ Some c →
+waiting_next : (l : Load) (o o' : PlainWork) (n : ℕ) (c : Call) → 1 ≤ l.workers → number_by (length l.calls) o.next o.again ≡ Some n → call_of l.calls n ≡ Some c →
     o'.next ≡ next_behind l.workers o.next o.again → o'.again ≡ None → (own_worker l o).waiting ≡ record { number = n; call = c } ∷ (own_worker l o').waiting
-waiting-next l o o' n c many e is next again = by_again o.again refl e next
+waiting_next l o o' n c many e is next again = by_again o.again refl e next
   where
     by_again : (a : Option ℕ) → o.again ≡ a → number_by (length l.calls) o.next a ≡ Some n → o'.next ≡ next_behind l.workers o.next a → (own_worker l o).waiting ≡ record { number = n; call = c } ∷ (own_worker l o').waiting
     by_again (Some k) a_is f next_is =
@@ -43,14 +43,14 @@ waiting-next l o o' n c many e is next again = by_again o.again refl e next
           let same : o.next ≡ n = (let h = rw le.0 at f in cc) in
           let number = numbers l n c is in
           (λ i. again_in l.calls (a_is i) ++ from_on l.calls l.workers (same i))
-          ∙ from-next l.calls l.workers n c number.low many (number.got ∙ (let g : Some number.call ≡ Some c = sym number.is ∙ is in g))
+          ∙ from_next l.calls l.workers n c number.low many (number.got ∙ (let g : Some number.call ≡ Some c = sym number.is ∙ is in g))
           ∙ (λ i. record { number = n; call = c } ∷ again_in l.calls (sym again i) ++ from_on l.calls l.workers ((ap (λ k. k + l.workers) (sym same) ∙ sym next_is) i))
       | inr gt ↦ absurd (let h = rw gt.0 at f in cc)
     ]
 
 -- a worker with no call in hand is what it shows
-pub rests-own : (l : Load) (wk : Worker) (o : PlainWork) → hand_in l.procs o.txn ≡ None → ShowsWorker l wk o o.mark → wk ≡ own_worker l o
-rests-own l wk o e s = by_mark o.mark s
+pub rests_own : (l : Load) (wk : Worker) (o : PlainWork) → hand_in l.procs o.txn ≡ None → ShowsWorker l wk o o.mark → wk ≡ own_worker l o
+rests_own l wk o e s = by_mark o.mark s
   where
     by_case : (h : Option Hand) (cs : List Numbered) → wk.hand ≡ h → wk.waiting ≡ cs → begun l.streams wk ≡ own_worker l o → wk ≡ own_worker l o
     by_case (Some x) cs a b f = sym (ap (λ (y : Option Hand). begun_by l.streams wk y wk.waiting) a) ∙ f
@@ -62,13 +62,13 @@ rests-own l wk o e s = by_mark o.mark s
     by_mark None is = is
     by_mark (Some k) is = by_case wk.hand wk.waiting refl refl is.1
 
-next-low : (workers next : ℕ) (a : Option ℕ) → 1 ≤ next → 1 ≤ next_behind workers next a
-next-low workers next (Some k) low = low
-next-low workers next None low = omega arith
+next_low : (workers next : ℕ) (a : Option ℕ) → 1 ≤ next → 1 ≤ next_behind workers next a
+next_low workers next (Some k) low = low
+next_low workers next None low = omega arith
 
-next-high : (workers calls next n : ℕ) (a : Option ℕ) → number_by calls next a ≡ Some n → next ≤ calls + workers → next_behind workers next a ≤ calls + workers
-next-high workers calls next n (Some k) e high = high
-next-high workers calls next n None e high = elim (leb_tells next calls) [
+next_high : (workers calls next n : ℕ) (a : Option ℕ) → number_by calls next a ≡ Some n → next ≤ calls + workers → next_behind workers next a ≤ calls + workers
+next_high workers calls next n (Some k) e high = high
+next_high workers calls next n None e high = elim (leb_tells next calls) [
   | inl le ↦ (let u = le.1 in omega (arith, u))
   | inr gt ↦ absurd (let f = rw gt.0 at e in cc)
 ]
@@ -90,17 +90,17 @@ module _ (origin : Plain) (m : Sat) (w : ℕ) (o : PlainWork) (read : ℕ × Lis
   first = fresh o.txn.width (record { number = n; call = c }) 0
 
   work : IsWork l w s.role o
-  work = work-at origin m w o read seen opened s
+  work = work_at origin m w o read seen opened s
 
   gone : hand_in l.procs o.txn ≡ None
   gone = ap (shown_of l.procs o.txn.worker) rests
 
   was : work.worker ≡ own_worker l o
-  was = rests-own l work.worker o gone work.shows
+  was = rests_own l work.worker o gone work.shows
 
   unplaced : next_action t ≡ action.Post → ⊥
   unplaced e =
-      let p = posts-placed l.procs t first begins e in
+      let p = posts_placed l.procs t first begins e in
       let bad : theory.Running ≡ Placed p.0 = p.1 in cc
 
   before : own_worker l o ≡ own_worker l (unbegun new mark_of)
@@ -108,7 +108,7 @@ module _ (origin : Plain) (m : Sat) (w : ℕ) (o : PlainWork) (read : ℕ × Lis
 
   now : begun l.streams (own_worker l o) ≡ own_worker l new
   now =
-      (λ i. begun_by l.streams (own_worker l o) (gone i) (waiting-next l o new n c many next is refl refl i))
+      (λ i. begun_by l.streams (own_worker l o) (gone i) (waiting_next l o new n c many next is refl refl i))
       ∙ (λ i. record (own_worker l new) { hand = (ap (λ (k : ℕ). Some (fresh k (record { number = n; call = c }) 0)) (sym work.fits.width) ∙ sym begins) i })
 
   fits : FitsWork l w new
@@ -117,12 +117,12 @@ module _ (origin : Plain) (m : Sat) (w : ℕ) (o : PlainWork) (read : ℕ × Lis
     width = ap (λ (x : PlainTxn). x.width) same ∙ work.fits.width;
     mode = ap (λ (x : PlainTxn). x.mode) same ∙ work.fits.mode;
     runs = runs;
-    stays = some-hand l.procs t first begins ∙ sym (ap is_some begins);
+    stays = some_hand l.procs t first begins ∙ sym (ap is_some begins);
     call = λ x e.
         let it : first ≡ x = (let f : Some first ≡ Some x = sym begins ∙ e in cc) in
         subst (λ (y : Hand). call_of l.calls y.call.number ≡ Some y.call.call) it is;
-    low = next-low l.workers o.next o.again work.fits.low;
-    high = next-high l.workers (length l.calls) o.next n o.again next work.fits.high;
+    low = next_low l.workers o.next o.again work.fits.low;
+    high = next_high l.workers (length l.calls) o.next n o.again next work.fits.high;
     again = λ k e. absurd (let bad : None ≡ Some k = e in cc);
     mark = λ k e. (let it : mark_of ≡ k = cc in subst (IsMark l) it (record { low = work.fits.low; high = work.fits.high; again = work.fits.again }));
     left = work.fits.left;
@@ -132,9 +132,9 @@ module _ (origin : Plain) (m : Sat) (w : ℕ) (o : PlainWork) (read : ℕ × Lis
     commits = λ e f. committed_low;
   }
 
-  pub begun-seat : IsWorkerSeat m w new read seen
-  begun-seat =
-      let origin_is = seat-origin origin m w o read seen opened s in
+  pub begun_seat : IsWorkerSeat m w new read seen
+  begun_seat =
+      let origin_is = seat_origin origin m w o read seen opened s in
       record {
         origin = origin;
         role = s.role;
@@ -154,9 +154,9 @@ module _ (origin : Plain) (m : Sat) (w : ℕ) (o : PlainWork) (read : ℕ × Lis
         posts = λ e. absurd (unplaced e);
       }
 
-pub seat-begun : (origin : Plain) (m : Sat) (w : ℕ) (o o' : PlainWork) (read : ℕ × List ℕ) (seen : List ℕ) → m.0.opened ≡ Some origin → IsWorkerSeat m w o read seen → 1 ≤ origin.load.workers → o.txn.hand ≡ None → 1 ≤ o.spare.1 → BeginsNext origin.load o o' →
+pub seat_begun : (origin : Plain) (m : Sat) (w : ℕ) (o o' : PlainWork) (read : ℕ × List ℕ) (seen : List ℕ) → m.0.opened ≡ Some origin → IsWorkerSeat m w o read seen → 1 ≤ origin.load.workers → o.txn.hand ≡ None → 1 ≤ o.spare.1 → BeginsNext origin.load o o' →
     RunsBy origin.load.procs o'.txn → (1 ≤ o'.left_room) × (1 ≤ o'.committed_room) → IsWorkerSeat m w o' read seen
-seat-begun origin m w o o' read seen opened s many rests low b runs rooms =
+seat_begun origin m w o o' read seen opened s many rests low b runs rooms =
     let k : Mark = record { next = o.next; again = o.again } in
     let t : PlainTxn = o'.txn in
     let next : ℕ = next_behind origin.load.workers o.next o.again in
@@ -165,11 +165,11 @@ seat-begun origin m w o o' read seen opened s many rests low b runs rooms =
     let left = subst (λ (y : PlainWork). 1 ≤ y.left_room) same rooms.0 in
     let committed = subst (λ (y : PlainWork). 1 ≤ y.committed_room) same rooms.1 in
     subst (λ (y : PlainWork). IsWorkerSeat m w y read seen) (sym same)
-    (begun-seat origin m w o read seen opened s many rests low b.number b.call b.next b.is t b.begun b.same runs b.roomy.left_room b.roomy.committed_room left committed)
+    (begun_seat origin m w o read seen opened s many rests low b.number b.call b.next b.is t b.begun b.same runs b.roomy.left_room b.roomy.committed_room left committed)
 
 -- only room was made
-pub seat-roomy : (m : Sat) (w : ℕ) (o o' : PlainWork) (read : ℕ × List ℕ) (seen : List ℕ) → IsWorkerSeat m w o read seen → RoomMade o o' → o.txn.hand ≡ None → IsWorkerSeat m w o' read seen
-seat-roomy m w o o' read seen s r rests =
+pub seat_roomy : (m : Sat) (w : ℕ) (o o' : PlainWork) (read : ℕ × List ℕ) (seen : List ℕ) → IsWorkerSeat m w o read seen → RoomMade o o' → o.txn.hand ≡ None → IsWorkerSeat m w o' read seen
+seat_roomy m w o o' read seen s r rests =
     let f = s.work.fits in
     let none : is_some o.txn.hand ≡ false = ap is_some rests in
     let not : is_some o.txn.hand ≡ true → ⊥ = (λ (e : is_some o.txn.hand ≡ true). let bad : false ≡ true = sym none ∙ e in cc) in
@@ -212,20 +212,16 @@ seat-roomy m w o o' read seen s r rests =
     by_mark None h = h
     by_mark (Some k) h = h
 
-called : (calls : List Call) (n : ℕ) (c : Call) → 1 ≤ n → slice_get calls (n - 1) ≡ Some c → call_of calls n ≡ Some c
-called calls zero c low e = absurd (omega arith)
-called calls (suc n) c low e = (let some : (suc n == 0) ≡ false = ne_eqb (suc n) 0 (λ f. absurd (omega arith)) in rw some e)
-
 -- the next call is one of the run
-pub next-is : (l : Load) (w : ℕ) (o : PlainWork) (n : ℕ) → FitsWork l w o → number_by (length l.calls) o.next o.again ≡ Some n → Numbers l n
-next-is l w o n f e = by_again o.again refl e
+pub next_is_that : (l : Load) (w : ℕ) (o : PlainWork) (n : ℕ) → FitsWork l w o → number_by (length l.calls) o.next o.again ≡ Some n → Numbers l n
+next_is_that l w o n f e = by_again o.again refl e
   where
     by_again : (a : Option ℕ) → o.again ≡ a → number_by (length l.calls) o.next a ≡ Some n → Numbers l n
     by_again (Some k) is g = (let k_is : k ≡ n = cc in let q = f.again n (is ∙ ap Some k_is) in numbers l n q.0 q.1)
     by_again None is g = elim (leb_tells o.next (length l.calls)) [
       | inl le ↦
           let low = f.low in
-          let found = some-at l.calls (o.next - 1) (let u = le.1 in omega arith) in
+          let found = some_at l.calls (o.next - 1) (let u = le.1 in omega arith) in
           let same : o.next ≡ n = (let h = rw le.0 at g in cc) in
           let is_call : call_of l.calls o.next ≡ Some found.0 = called l.calls o.next found.0 low found.1 in
           subst (λ (k : ℕ). Numbers l k) same (numbers l o.next found.0 is_call)
@@ -233,8 +229,8 @@ next-is l w o n f e = by_again o.again refl e
     ]
 
 -- whatever came of it
-pub seat-begins : (origin : Plain) (m : Sat) (w : ℕ) (o o' : PlainWork) (read : ℕ × List ℕ) (seen : List ℕ) (r : Result Bool NoMemory) → m.0.opened ≡ Some origin → IsWorkerSeat m w o read seen → 1 ≤ origin.load.workers → o.txn.hand ≡ None → 1 ≤ o.spare.1 → BeginsIn origin.load o o' r →
+pub seat_begins : (origin : Plain) (m : Sat) (w : ℕ) (o o' : PlainWork) (read : ℕ × List ℕ) (seen : List ℕ) (r : Result Bool NoMemory) → m.0.opened ≡ Some origin → IsWorkerSeat m w o read seen → 1 ≤ origin.load.workers → o.txn.hand ≡ None → 1 ≤ o.spare.1 → BeginsIn origin.load o o' r →
     IfOk r (λ b. b ≡ true → (1 ≤ o'.left_room) × (1 ≤ o'.committed_room)) → IfOk r (λ b. b ≡ true → RunsBy origin.load.procs o'.txn) → IsWorkerSeat m w o' read seen
-seat-begins origin m w o o' read seen (Ok true) opened s many rests low b rooms runs = seat-begun origin m w o o' read seen opened s many rests low b (runs refl) (rooms refl)
-seat-begins origin m w o o' read seen (Ok false) opened s many rests low b rooms runs = subst (λ (y : PlainWork). IsWorkerSeat m w y read seen) (sym b.0) s
-seat-begins origin m w o o' read seen (Err e) opened s many rests low b rooms runs = seat-roomy m w o o' read seen s b rests
+seat_begins origin m w o o' read seen (Ok true) opened s many rests low b rooms runs = seat_begun origin m w o o' read seen opened s many rests low b (runs refl) (rooms refl)
+seat_begins origin m w o o' read seen (Ok false) opened s many rests low b rooms runs = subst (λ (y : PlainWork). IsWorkerSeat m w y read seen) (sym b.0) s
+seat_begins origin m w o o' read seen (Err e) opened s many rests low b rooms runs = seat_roomy m w o o' read seen s b rests

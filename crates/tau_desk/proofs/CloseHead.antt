@@ -3,12 +3,12 @@ use Rattle.std.proofs.Common.{ℕ, ◌+◌, ◌-◌, ◌<◌, ◌≡◌, inl, in
 use Rattle.std.specs.Prelude.{Some, None, slice_get}
 use Rattle.std.proofs.lemmas.Bool.Decides.{leb_tells}
 use Rattle.tau_core.specs.State.{Plain}
-use Rattle.tau_core.proofs.Lists.{some-at}
 use Rattle.tau_rule.specs.Rule.{clerk_role, has, manager_role}
 use Rattle.tau_desk.specs.Ends.{HasAll, IsWhole}
 use Rattle.tau_desk.specs.Seats.{HasClerk, HasStock, HasWork, Heads, PlainHead}
 use Rattle.tau_desk.specs.Shares.{PlainStock, PlainWork}
-use Rattle.tau_desk.proofs.SplittingOff.{one-origin}
+use Rattle.tau_base.proofs.Lists.{some_at}
+use Rattle.tau_desk.proofs.JoiningIn.{same_origin}
 
 -- the head of the desk that was opened with this core
 pub record HeadAt (origin : Plain) (h : PlainHead) : Type 0 where
@@ -19,8 +19,8 @@ pub record HeadAt (origin : Plain) (h : PlainHead) : Type 0 where
   pub manager : (j : ℕ) (o : PlainStock) → slice_get h.managers j ≡ Some (Some o) → HasStock origin h.me.0 j o
   pub clerk_is : h.clerk ≡ true → HasClerk origin h.me.0
 
-pub head-at : (h : PlainHead) (g : Heads h) (key : Plain) → h.me.0.opened ≡ Some key → HeadAt key h
-head-at h g key opened = subst (λ (p : Plain). HeadAt p h) (one-origin h.me.0.opened g.origin key g.opened opened) (record {
+pub head_at : (h : PlainHead) (g : Heads h) (key : Plain) → h.me.0.opened ≡ Some key → HeadAt key h
+head_at h g key opened = subst (λ (p : Plain). HeadAt p h) (same_origin h.me.0.opened g.origin key g.opened opened) (record {
   idle = g.idle;
   worker_count = g.worker_count;
   manager_count = g.manager_count;
@@ -30,24 +30,24 @@ head-at h g key opened = subst (λ (p : Plain). HeadAt p h) (one-origin h.me.0.o
 })
 
 -- where nothing is out, each is there
-there-at : {A : Type 0} (xs : List (Option A)) (i : ℕ) → i < length xs → (slice_get xs i ≡ Some None → ⊥) → (o : A) × (slice_get xs i ≡ Some (Some o))
-there-at {A} xs i low whole = (let x = some-at xs i low in by_case x.0 x.1)
+there_at : {A : Type 0} (xs : List (Option A)) (i : ℕ) → i < length xs → (slice_get xs i ≡ Some None → ⊥) → (o : A) × (slice_get xs i ≡ Some (Some o))
+there_at {A} xs i low whole = (let x = some_at xs i low in by_case x.0 x.1)
   where
     by_case : (o : Option A) → slice_get xs i ≡ Some o → (a : A) × (slice_get xs i ≡ Some (Some a))
     by_case None e = absurd (whole e)
     by_case (Some a) e = (a, e)
 
 module _ (origin : Plain) (h : PlainHead) (g : HeadAt origin h) (whole : IsWhole h) where
-  pub work-there : (w : ℕ) → w < origin.load.workers → (o : PlainWork) × (slice_get h.workers w ≡ Some (Some o))
-  work-there w low = there-at h.workers w (let n = g.worker_count in omega (arith, n, low)) (whole.workers w)
+  pub work_there : (w : ℕ) → w < origin.load.workers → (o : PlainWork) × (slice_get h.workers w ≡ Some (Some o))
+  work_there w low = there_at h.workers w (let n = g.worker_count in omega (arith, n, low)) (whole.workers w)
 
-  pub stock-there : (j : ℕ) → j < origin.load.streams → (o : PlainStock) × (slice_get h.managers j ≡ Some (Some o))
-  stock-there j low = there-at h.managers j (let n = g.manager_count in omega (arith, n, low)) (whole.managers j)
+  pub stock_there : (j : ℕ) → j < origin.load.streams → (o : PlainStock) × (slice_get h.managers j ≡ Some (Some o))
+  stock_there j low = there_at h.managers j (let n = g.manager_count in omega (arith, n, low)) (whole.managers j)
 
-  pub has-all : HasAll origin h.me.0
-  has-all u lt = elim (leb_tells (u + 1) origin.load.workers) [
+  pub has_all : HasAll origin h.me.0
+  has_all u lt = elim (leb_tells (u + 1) origin.load.workers) [
     | inl a ↦
-        let o = work-there u (let b = a.1 in omega (arith, b)) in
+        let o = work_there u (let b = a.1 in omega (arith, b)) in
         let k = g.worker u o.0 o.1 in
         (k.role, k.is)
     | inr a ↦ elim (leb_tells (u + 1) (origin.load.workers + origin.load.streams)) [
@@ -55,7 +55,7 @@ module _ (origin : Plain) (h : PlainHead) (g : HeadAt origin h) (whole : IsWhole
           let j : ℕ = u - origin.load.workers in
           let low : j < origin.load.streams = (let c = a.1 in let d = b.1 in omega (arith, c, d)) in
           let back : manager_role origin.load j ≡ u = (let c = a.1 in omega (arith, c)) in
-          let o = stock-there j low in
+          let o = stock_there j low in
           let k = g.manager j o.0 o.1 in
           (k.role, ap (λ (n : ℕ). has n h.me.0) (sym back) ∙ k.is)
       | inr b ↦

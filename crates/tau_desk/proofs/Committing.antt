@@ -12,7 +12,7 @@ use Rattle.tau_model.specs.History.{Act, Numbered}
 use Rattle.tau_machine.specs.Hands as theory
 use Rattle.tau_machine.specs.Hands.{Hand, Phase, Placed, committed_of}
 use Rattle.tau_machine.specs.Worker.{Worker, begun, hand_joined}
-use Rattle.tau_machine.proofs.Commits.{begun-committed}
+use Rattle.tau_machine.proofs.Commits.{begun_committed}
 use Rattle.tau_txn.specs.declared.action.Action.{Action}
 use Rattle.tau_txn.specs.declared.action.Action.TheVariants as action
 use Rattle.tau_txn.specs.declared.action.ActionKind.TheVariants as kind
@@ -27,24 +27,22 @@ use Rattle.tau_txn.specs.Txn.{PlainTxn, anchor_in, bytes_in, hand_in, has_joined
 use Rattle.tau_core.specs.declared.state.Load.{Load}
 use Rattle.tau_core.specs.State.{Plain}
 use Rattle.tau_core.specs.View.{call_of}
-use Rattle.tau_core.proofs.ActionKinds.{commit-kind}
-use Rattle.tau_core.proofs.Hands.{some-hand}
-use Rattle.tau_core.proofs.Sizes.{size-small}
+use Rattle.tau_core.proofs.ActionKinds.{commit_kind}
+use Rattle.tau_core.proofs.Hands.{some_hand}
+use Rattle.tau_core.proofs.Sizes.{size_small}
 use Rattle.tau_rule.specs.Knows.{Knows}
 use Rattle.tau_rule.specs.Boxes.{IsToPost}
 use Rattle.tau_rule.specs.Places.{IsToPlace, placed, placed_by, placed_worker}
 use Rattle.tau_rule.specs.Steps.{IsReady, Sat, handed, next_worker, working}
-use Rattle.tau_rule.proofs.Placing.{placed-is}
-use Rattle.tau_rule.proofs.Workers.{worker-shown}
+use Rattle.tau_rule.proofs.Placing.{placed_is}
+use Rattle.tau_rule.proofs.Workers.{worker_shown}
 use Rattle.tau_desk.specs.Acts.{HasCommitted, IsPlaced, SameWorker}
 use Rattle.tau_desk.specs.Seats.{IsWorkerSeat}
 use Rattle.tau_desk.specs.Shares.{FitsWork, PlainWork, own_worker}
 use Rattle.tau_desk.specs.Works.{joined_worker, told_joined}
-use Rattle.tau_desk.proofs.GoingOn.{begun-own, joined-is, joined_at, seat-origin, work-at}
-use Rattle.tau_desk.proofs.Reading.{told_joined-is}
-
-not-both : (b : Bool) → b ≡ false → b ≡ true → ⊥
-not-both b e f = (let bad : false ≡ true = sym e ∙ f in cc)
+use Rattle.tau_desk.proofs.GoingOn.{begun_own, joined_is, joined_at, seat_origin, work_at}
+use Rattle.tau_desk.proofs.Reading.{told_joined_is}
+use Rattle.tau_base.proofs.Logic.{not_both}
 
 -- a call whose record has its place posts next
 abbrev is_placed : Phase → Bool
@@ -57,21 +55,21 @@ abbrev placed_there : Option Hand → Bool
 placed_there None = false
 placed_there (Some h) = is_placed h.phase
 
-pub posts-next : (procs : List Proc) (t : PlainTxn) (h : Hand) (act : Act theory.Txn) → hand_in procs t ≡ Some h → h.phase ≡ Placed act → next_action t ≡ action.Post
-posts-next procs t h act e p = by_hand t.hand e
+pub posts_next : (procs : List Proc) (t : PlainTxn) (h : Hand) (act : Act theory.Txn) → hand_in procs t ≡ Some h → h.phase ≡ Placed act → next_action t ≡ action.Post
+posts_next procs t h act e p = by_hand t.hand e
   where
     here : placed_there (Some h) ≡ true
     here = ap is_placed p
 
     by_standing : (st : Standing) (x : PlainHand) → shown procs t.worker st (record x { standing = st }) ≡ Some h → next_by st x ≡ action.Post
-    by_standing standing.Running x f = absurd (not-both false refl (ap placed_there f ∙ here))
-    by_standing standing.Quitting x f = absurd (not-both false refl (ap placed_there f ∙ here))
+    by_standing standing.Running x f = absurd (not_both false refl (ap placed_there f ∙ here))
+    by_standing standing.Quitting x f = absurd (not_both false refl (ap placed_there f ∙ here))
     by_standing standing.Placed x f = refl
-    by_standing standing.Freeing x f = absurd (not-both false refl (ap placed_there f ∙ here))
-    by_standing standing.LeftOver x f = absurd (not-both false refl (ap placed_there f ∙ here))
+    by_standing standing.Freeing x f = absurd (not_both false refl (ap placed_there f ∙ here))
+    by_standing standing.LeftOver x f = absurd (not_both false refl (ap placed_there f ∙ here))
 
     by_hand : (o : Option PlainHand) → shown_of procs t.worker o ≡ Some h → next_of o ≡ action.Post
-    by_hand None f = absurd (not-both false refl (ap placed_there f ∙ here))
+    by_hand None f = absurd (not_both false refl (ap placed_there f ∙ here))
     by_hand (Some x) f = by_standing x.standing x f
 
 -- the hand with its vector raised by that of the anchor
@@ -79,13 +77,13 @@ abbrev pub raised_by : Hand → List ℕ → Hand
 raised_by h anchor = record h { dep = join h.dep anchor }
 
 -- what its place owes, from the record that was made
-pub to-place : (origin : Plain) (w : ℕ) (m : Sat) (t p : PlainTxn) (size number : ℕ) (anchor : List ℕ) → IsReady origin w m t → (q : txn.Commits origin.load.procs t size) → m.0.read ≡ (number, anchor) → length anchor ≡ origin.load.streams → origin.load.streams ≤ 16 →
+pub to_place : (origin : Plain) (w : ℕ) (m : Sat) (t p : PlainTxn) (size number : ℕ) (anchor : List ℕ) → IsReady origin w m t → (q : txn.Commits origin.load.procs t size) → m.0.read ≡ (number, anchor) → length anchor ≡ origin.load.streams → origin.load.streams ≤ 16 →
     p ≡ record t { hand = p.hand } → hand_in origin.load.procs p ≡ Some (raised_by q.hand anchor) → anchor_in p ≡ number → 1 ≤ length (bytes_in p) →
     ((vectors : List (List ℕ)) → base_of vectors number ≡ anchor → Spells One t.width vectors false (entry_of t.mode (act_at origin.load.procs p 0 (raised_by q.hand anchor))) (bytes_in p)) → IsToPlace origin w m p
-to-place origin w m t p size number anchor r q read wide few same raised named sized spelled =
+to_place origin w m t p size number anchor r q read wide few same raised named sized spelled =
     let a : Act theory.Txn = act_at origin.load.procs p 0 (raised_by q.hand anchor) in
     let small : length (bytes_in p) < 2 ^ 32 =
-    size-small origin.load.streams anchor t.mode a (bytes_in p) few wide
+    size_small origin.load.streams anchor t.mode a (bytes_in p) few wide
     (λ vectors e. subst (λ (n : ℕ). Spells One n vectors false (entry_of t.mode a) (bytes_in p)) r.width (spelled vectors (ap (base_of vectors) (sym named) ∙ e))) in
     record {
       role = r.role;
@@ -110,16 +108,16 @@ to-place origin w m t p size number anchor r q read wide few same raised named s
     }
 
 -- for a call that commits there is room among those that have
-pub commit-room : (l : Load) (w : ℕ) (o : PlainWork) → FitsWork l w o → txn.Means l.procs o.txn (next_action o.txn) → kind_of (next_action o.txn) ≡ kind.Commit → 1 ≤ o.committed_room
-commit-room l w o f m e =
-    let next = commit-kind (next_action o.txn) e in
+pub commit_room : (l : Load) (w : ℕ) (o : PlainWork) → FitsWork l w o → txn.Means l.procs o.txn (next_action o.txn) → kind_of (next_action o.txn) ≡ kind.Commit → 1 ≤ o.committed_room
+commit_room l w o f m e =
+    let next = commit_kind (next_action o.txn) e in
     let q : txn.Commits l.procs o.txn next.0 = subst (λ (a : Action). txn.Means l.procs o.txn a) next.1 m in
-    f.commits (some-hand l.procs o.txn q.hand q.is) (joined-is l.procs o.txn q.hand q.is ∙ ap joined_at q.phase)
+    f.commits (some_hand l.procs o.txn q.hand q.is) (joined_is l.procs o.txn q.hand q.is ∙ ap joined_at q.phase)
 
 -- what the call is then
-pub has-committed : (procs : List Proc) (t p t' : PlainTxn) (size number : ℕ) (anchor : List ℕ) (start : ℕ) (kept : Committed) (q : txn.Commits procs t size) → p ≡ record t { hand = p.hand } → (leaves_in t ≡ false → leaves_in p ≡ false) → hand_in procs p ≡ Some (raised_by q.hand anchor) → anchor_in p ≡ number →
+pub has_committed : (procs : List Proc) (t p t' : PlainTxn) (size number : ℕ) (anchor : List ℕ) (start : ℕ) (kept : Committed) (q : txn.Commits procs t size) → p ≡ record t { hand = p.hand } → (leaves_in t ≡ false → leaves_in p ≡ false) → hand_in procs p ≡ Some (raised_by q.hand anchor) → anchor_in p ≡ number →
     start + length (bytes_in p) < MAX_LSN → ((vectors : List (List ℕ)) → base_of vectors number ≡ anchor → Spells One t.width vectors false (entry_of t.mode (act_at procs p start (raised_by q.hand anchor))) (bytes_in p)) → IsPlaced procs p t' start kept → HasCommitted procs t t' number anchor start kept
-has-committed procs t p t' size number anchor start kept q same stays raised named small spelled s =
+has_committed procs t p t' size number anchor start kept q same stays raised named small spelled s =
     let h : Hand = raised_by q.hand anchor in
     let a : Act theory.Txn = act_at procs p start h in
     let now = s.is h raised in
@@ -134,7 +132,7 @@ has-committed procs t p t' size number anchor start kept q same stays raised nam
         effect = effect_in (q.ended i);
       };
       is = now.0;
-      next = posts-next procs t' (hand_joined q.hand (Placed a) (join q.hand.dep anchor)) a now.0 refl;
+      next = posts_next procs t' (hand_joined q.hand (Placed a) (join q.hand.dep anchor)) a now.0 refl;
       small = subst (λ (b : List ℕ). start + length b < MAX_LSN) (sym s.bytes) small;
       spelled = λ vectors e. subst (λ (b : List ℕ). Spells One t.width vectors false (entry_of t.mode a) b) (sym s.bytes) (spelled vectors e);
       kept_is = now.1;
@@ -142,8 +140,8 @@ has-committed procs t p t' size number anchor start kept q same stays raised nam
     }
 
 -- what the seat was told of the place is that its call has joined the committed ones
-pub placed-joined : (origin : Plain) (w : ℕ) (m : Sat) (p t' : PlainTxn) (start : ℕ) (kept : Committed) (q : IsToPlace origin w m p) → IsPlaced origin.load.procs p t' start kept → ◌≡◌ {A = Sat} (placed origin.load m.0 p start, m.1) (told_joined origin.load m.0 t' kept, [])
-placed-joined origin w m p t' start kept q s =
+pub placed_joined : (origin : Plain) (w : ℕ) (m : Sat) (p t' : PlainTxn) (start : ℕ) (kept : Committed) (q : IsToPlace origin w m p) → IsPlaced origin.load.procs p t' start kept → ◌≡◌ {A = Sat} (placed origin.load m.0 p start, m.1) (told_joined origin.load m.0 t' kept, [])
+placed_joined origin w m p t' start kept q s =
     let l : Load = origin.load in
     let h : Hand = raised_by q.hand q.base in
     let a : Act theory.Txn = act_at l.procs p start h in
@@ -152,15 +150,15 @@ placed-joined origin w m p t' start kept q s =
     let hj : Hand = hand_joined h (Placed a) h.dep in
     let worker : placed_worker l q.worker p start ≡ joined_worker l q.worker t' kept =
     ap (placed_by l b p start) q.shown
-    ∙ (λ i. record b { hand = Some hj; committed = begun-committed l.streams q.worker i ++ sym now.1 i ∷ [] })
-    ∙ ap (λ (y : Worker). record y { committed = q.worker.committed ++ kept ∷ [] }) (sym (worker-shown l.procs b t' hj now.0)) in
-    ap (λ (v : Knows). (v, m.1)) (placed-is origin w m p q start)
+    ∙ (λ i. record b { hand = Some hj; committed = begun_committed l.streams q.worker i ++ sym now.1 i ∷ [] })
+    ∙ ap (λ (y : Worker). record y { committed = q.worker.committed ++ kept ∷ [] }) (sym (worker_shown l.procs b t' hj now.0)) in
+    ap (λ (v : Knows). (v, m.1)) (placed_is origin w m p q start)
     ∙ (λ i. (record m.0 { roles = (w, working q.role (worker i)) ∷ []; hand = q.seat.idle i }, q.seat.none i))
-    ∙ ap (λ (v : Knows). (v, [])) (sym (told_joined-is l m.0 t' kept w q.role q.worker q.seat.roles q.share))
+    ∙ ap (λ (v : Knows). (v, [])) (sym (told_joined_is l m.0 t' kept w q.role q.worker q.seat.roles q.share))
 
 -- its record may be posted
-pub to-post : (origin : Plain) (m : Sat) (t t' : PlainTxn) (number : ℕ) (anchor : List ℕ) (start : ℕ) (kept : Committed) → m.0.read ≡ (number, anchor) → t.width ≡ origin.load.streams → t.mode ≡ origin.load.mode → HasCommitted origin.load.procs t t' number anchor start kept → IsToPost origin m t' start
-to-post origin m t t' number anchor start kept read width mode c =
+pub to_post : (origin : Plain) (m : Sat) (t t' : PlainTxn) (number : ℕ) (anchor : List ℕ) (start : ℕ) (kept : Committed) → m.0.read ≡ (number, anchor) → t.width ≡ origin.load.streams → t.mode ≡ origin.load.mode → HasCommitted origin.load.procs t t' number anchor start kept → IsToPost origin m t' start
+to_post origin m t t' number anchor start kept read width mode c =
     let worker_is : t'.worker ≡ t.worker = ap (λ (x : PlainTxn). x.worker) c.worker.same in
     let number_is : c.act.call.anchor ≡ number = ap (λ (x : Act theory.Txn). x.call.anchor) c.act_is in
     record {
@@ -179,27 +177,27 @@ to-post origin m t t' number anchor start kept read width mode c =
     }
 
 -- a seat whose call in hand has joined the committed ones
-pub seat-joined : (origin : Plain) (m m' : Sat) (w : ℕ) (o : PlainWork) (t : PlainTxn) (start : ℕ) (kept : Committed) (cs : List Committed) (room : ℕ) (read : ℕ × List ℕ) (seen : List ℕ) → m.0.opened ≡ Some origin → (s : IsWorkerSeat m w o read seen) → m' ≡ (told_joined origin.load m.0 t kept, []) → cs ≡ o.committed ++ kept ∷ [] →
+pub seat_joined : (origin : Plain) (m m' : Sat) (w : ℕ) (o : PlainWork) (t : PlainTxn) (start : ℕ) (kept : Committed) (cs : List Committed) (room : ℕ) (read : ℕ × List ℕ) (seen : List ℕ) → m.0.opened ≡ Some origin → (s : IsWorkerSeat m w o read seen) → m' ≡ (told_joined origin.load m.0 t kept, []) → cs ≡ o.committed ++ kept ∷ [] →
     (h x : Hand) → hand_in origin.load.procs o.txn ≡ Some h → hand_in origin.load.procs t ≡ Some x → x.call ≡ h.call → joined_at x.phase ≡ true → SameWorker origin.load.procs o.txn t → (next_action t ≡ action.Post → (1 ≤ o.spare.0) × IsToPost origin m' t start) →
     IsWorkerSeat m' w (record o { txn = t; start = start; committed = cs; committed_room = room; mark = None }) read seen
-seat-joined origin m m' w o t start kept cs room read seen opened s knows is_more h x is shows call joined q posts =
+seat_joined origin m m' w o t start kept cs room read seen opened s knows is_more h x is shows call joined q posts =
     let l : Load = origin.load in
-    let same = seat-origin origin m w o read seen opened s in
-    let work = work-at origin m w o read seen opened s in
+    let same = seat_origin origin m w o read seen opened s in
+    let work = work_at origin m w o read seen opened s in
     let f = work.fits in
     let wk : Worker = joined_worker l work.worker t kept in
     let o' : PlainWork = record o { txn = t; start = start; committed = cs; committed_room = room; mark = None } in
-    let had : is_some o.txn.hand ≡ true = some-hand l.procs o.txn h is in
-    let begun_is : begun l.streams work.worker ≡ own_worker l o = begun-own l work.worker o h is work.shows in
-    let committed_is : work.worker.committed ≡ o.committed = sym (begun-committed l.streams work.worker) ∙ ap (λ (y : Worker). y.committed) begun_is in
-    let next_is : next_worker l work.worker t ≡ record (own_worker l o) { hand = Some x } = ap (λ (y : Worker). worker_of l.procs y t) begun_is ∙ worker-shown l.procs (own_worker l o) t x shows in
-    let me : m' ≡ (handed m.0 w (working s.role wk), []) = knows ∙ ap (λ (v : Knows). (v, [])) (told_joined-is l m.0 t kept w s.role work.worker s.seat.roles work.share) in
+    let had : is_some o.txn.hand ≡ true = some_hand l.procs o.txn h is in
+    let begun_is : begun l.streams work.worker ≡ own_worker l o = begun_own l work.worker o h is work.shows in
+    let committed_is : work.worker.committed ≡ o.committed = sym (begun_committed l.streams work.worker) ∙ ap (λ (y : Worker). y.committed) begun_is in
+    let next_is : next_worker l work.worker t ≡ record (own_worker l o) { hand = Some x } = ap (λ (y : Worker). worker_of l.procs y t) begun_is ∙ worker_shown l.procs (own_worker l o) t x shows in
+    let me : m' ≡ (handed m.0 w (working s.role wk), []) = knows ∙ ap (λ (v : Knows). (v, [])) (told_joined_is l m.0 t kept w s.role work.worker s.seat.roles work.share) in
     let fits : FitsWork l w o' = record {
       worker = ap (λ (y : PlainTxn). y.worker) q.same ∙ f.worker;
       width = ap (λ (y : PlainTxn). y.width) q.same ∙ f.width;
       mode = ap (λ (y : PlainTxn). y.mode) q.same ∙ f.mode;
       runs = q.runs;
-      stays = some-hand l.procs t x shows ∙ sym (ap is_some shows);
+      stays = some_hand l.procs t x shows ∙ sym (ap is_some shows);
       call = λ y g.
           let it : x ≡ y = (let e : Some x ≡ Some y = sym shows ∙ g in cc) in
           subst (λ (n : Numbered). call_of l.calls n.number ≡ Some n.call) (sym (ap (λ (z : Hand). z.call) (sym it) ∙ call)) (f.call h is);
@@ -211,7 +209,7 @@ seat-joined origin m m' w o t start kept cs room read seen opened s knows is_mor
       leaves = λ e. f.leaves had;
       ends = λ e. f.ends had;
       posts = λ e. (posts e).0;
-      commits = λ e g. absurd (not-both (has_joined t) g (joined-is l.procs t x shows ∙ joined));
+      commits = λ e g. absurd (not_both (has_joined t) g (joined_is l.procs t x shows ∙ joined));
     } in
     subst (λ (z : Sat). IsWorkerSeat z w o' read seen) (sym me) (record {
       origin = origin;
@@ -233,10 +231,10 @@ seat-joined origin m m' w o t start kept cs room read seen opened s knows is_mor
     })
 
 -- after a commit
-pub seat-committed : (origin : Plain) (m m' : Sat) (w : ℕ) (o : PlainWork) (t : PlainTxn) (start : ℕ) (kept : Committed) (cs : List Committed) (room : ℕ) (read : ℕ × List ℕ) (seen : List ℕ) → m.0.opened ≡ Some origin → IsWorkerSeat m w o read seen → m' ≡ (told_joined origin.load m.0 t kept, []) → cs ≡ o.committed ++ kept ∷ [] → 1 ≤ o.spare.0 →
+pub seat_committed : (origin : Plain) (m m' : Sat) (w : ℕ) (o : PlainWork) (t : PlainTxn) (start : ℕ) (kept : Committed) (cs : List Committed) (room : ℕ) (read : ℕ × List ℕ) (seen : List ℕ) → m.0.opened ≡ Some origin → IsWorkerSeat m w o read seen → m' ≡ (told_joined origin.load m.0 t kept, []) → cs ≡ o.committed ++ kept ∷ [] → 1 ≤ o.spare.0 →
     HasCommitted origin.load.procs o.txn t read.0 read.1 start kept → IsWorkerSeat m' w (record o { txn = t; start = start; committed = cs; committed_room = room; mark = None }) read seen
-seat-committed origin m m' w o t start kept cs room read seen opened s knows is_more low c =
-    let f = (work-at origin m w o read seen opened s).fits in
+seat_committed origin m m' w o t start kept cs room read seen opened s knows is_more low c =
+    let f = (work_at origin m w o read seen opened s).fits in
     let read_is : m'.0.read ≡ read = ap (λ (z : Sat). z.0.read) knows ∙ s.read_is in
-    seat-joined origin m m' w o t start kept cs room read seen opened s knows is_more c.commits.hand (hand_joined c.commits.hand (Placed c.act) (join c.commits.hand.dep read.1)) c.commits.is c.is refl refl c.worker
-    (λ e. (low, to-post origin m' o.txn t read.0 read.1 start kept read_is f.width f.mode c))
+    seat_joined origin m m' w o t start kept cs room read seen opened s knows is_more c.commits.hand (hand_joined c.commits.hand (Placed c.act) (join c.commits.hand.dep read.1)) c.commits.is c.is refl refl c.worker
+    (λ e. (low, to_post origin m' o.txn t read.0 read.1 start kept read_is f.width f.mode c))

@@ -7,7 +7,6 @@ use Rattle.tau_machine.specs.Hands.{Txn, Hand, Freeing}
 use Rattle.tau_machine.specs.State.{ticket}
 use Rattle.tau_machine.specs.Worker.{Worker, begun}
 use Rattle.tau_machine.specs.Events.{Done, with_outbox, with_worker}
-use Rattle.tau_machine.proofs.Accounts.{map-append}
 use Rattle.tau_txn.specs.declared.action.Action.{Action}
 use Rattle.tau_txn.specs.declared.action.Action.TheVariants as action
 use Rattle.tau_txn.specs.declared.action.ActionKind.TheVariants as kind
@@ -24,27 +23,17 @@ use Rattle.tau_rule.specs.Rule.{anchors_at, outbox_part}
 use Rattle.tau_rule.specs.Steps.{Agrees, IsReady, IsWorker, Sat, first_role, next_worker}
 use Rattle.tau_rule.specs.Boxes.{BoxOf, StepsBox, box_in}
 use Rattle.tau_rule.specs.declared.part.Part.{Part}
-use Rattle.tau_rule.proofs.Boxes.{part-rooms}
-use Rattle.tau_rule.proofs.Turns.{one-role}
+use Rattle.tau_rule.proofs.Boxes.{part_rooms}
+use Rattle.tau_rule.proofs.Turns.{one_role}
+use Rattle.tau_base.proofs.Lists.{map_append}
 
 -- a call that is done is in hand
-pub done-hand : (t : PlainTxn) → kind_of (next_action t) ≡ kind.Done → is_some t.hand ≡ true
-done-hand t e = by_hand t.hand e
+pub done_hand : (t : PlainTxn) → kind_of (next_action t) ≡ kind.Done → is_some t.hand ≡ true
+done_hand t e = by_hand t.hand e
   where
     by_hand : (o : Option PlainHand) → kind_of (next_of o) ≡ kind.Done → is_some o ≡ true
     by_hand None f = cc
     by_hand (Some x) f = refl
-
--- what a call that is done replies, with its vector
-pub done-is : (a : Action) → kind_of a ≡ kind.Done → (reply : Reply) × (lv : List ℕ) × (a ≡ action.Done reply lv)
-done-is (action.Done reply lv) e = (reply, lv, refl)
-done-is (action.Lock x m) e = cc
-done-is (action.Quit x) e = cc
-done-is (action.Commit n) e = cc
-done-is action.Post e = cc
-done-is (action.Free x v) e = cc
-done-is action.LeftOver e = cc
-done-is action.Nothing e = cc
 
 pub dones : (origin : Plain) (v : Knows) (w : ℕ) (wk : Worker) (t' : PlainTxn) (hand : Hand) (act : Act Txn) (b b' : BoxOf) (number : ℕ) (lv : List ℕ) → wk.hand ≡ Some hand → begun origin.load.streams wk ≡ wk → hand.phase ≡ Freeing act → hand.held ≡ [] → t'.hand ≡ None →
     b'.0.pieces ≡ b.0.pieces → b'.1.calls ≡ b.1.calls ++ record { number = number; lv = lv } ∷ [] → record { number = number; lv = lv } ≡ ticket act → StepsBox origin (Done w) v w wk (next_worker origin.load wk t') b b'
@@ -66,21 +55,21 @@ dones origin v w wk t' hand act b b' number lv is same phase held gone pieces ca
       ),
       record {
         posted = subst (λ ps. Paired (IsPieceOf origin.load (anchors_at c.core)) ps (c.core.outboxes w).posted) (sym pieces) box.posted;
-        pending = (λ i. box.pending i ++ sym waits i ∷ []) ∙ sym (ap tickets calls ∙ map-append (λ (x : Waiting). record { number = x.number; lv = x.lv }) b.1.calls (record { number = number; lv = lv } ∷ []));
+        pending = (λ i. box.pending i ++ sym waits i ∷ []) ∙ sym (ap tickets calls ∙ map_append (λ (x : Waiting). record { number = x.number; lv = x.lv }) b.1.calls (record { number = number; lv = lv } ∷ []));
       },
     )
 
 -- the outbox that was taken has the room that its worker counts on
-pub box-rooms : (origin : Plain) (w : ℕ) (m : Sat) (t : PlainTxn) → (r : IsReady origin w m t) → (p : Part) (b : BoxOf) (records calls : ℕ) → Agrees origin m.0 (outbox_part w) p → box_in p ≡ Some b → (first_role m.0.roles).1.spare ≡ (records, calls) → (records ≤ b.0.room) × (calls ≤ b.1.room)
-box-rooms origin w m t r p b records calls a is spare =
-    let here = part-rooms origin a.state w p b is a.part in
-    let mine = a.roles w r.role (one-role m.0 w r.role r.seat.roles) in
+pub box_rooms : (origin : Plain) (w : ℕ) (m : Sat) (t : PlainTxn) → (r : IsReady origin w m t) → (p : Part) (b : BoxOf) (records calls : ℕ) → Agrees origin m.0 (outbox_part w) p → box_in p ≡ Some b → (first_role m.0.roles).1.spare ≡ (records, calls) → (records ≤ b.0.room) × (calls ≤ b.1.room)
+box_rooms origin w m t r p b records calls a is spare =
+    let here = part_rooms origin a.state w p b is a.part in
+    let mine = a.roles w r.role (one_role m.0 w r.role r.seat.roles) in
     let same : a.state.spare w ≡ (records, calls) = mine.2 ∙ sym (ap (λ (rs : List (ℕ × Role)). (first_role rs).1.spare) r.seat.roles) ∙ spare in
     subst (λ (z : ℕ × ℕ). (z.0 ≤ b.0.room) × (z.1 ≤ b.1.room)) same here
 
 -- the same of a seat whose worker may rest
-pub own-rooms : (origin : Plain) (w : ℕ) (m : Sat) (x : Role) → IsWorker origin m w x → (p : Part) (b : BoxOf) → Agrees origin m.0 (outbox_part w) p → box_in p ≡ Some b → (x.spare.0 ≤ b.0.room) × (x.spare.1 ≤ b.1.room)
-own-rooms origin w m x s p b a is =
-    let here = part-rooms origin a.state w p b is a.part in
-    let mine = a.roles w x (one-role m.0 w x s.roles) in
+pub own_rooms : (origin : Plain) (w : ℕ) (m : Sat) (x : Role) → IsWorker origin m w x → (p : Part) (b : BoxOf) → Agrees origin m.0 (outbox_part w) p → box_in p ≡ Some b → (x.spare.0 ≤ b.0.room) × (x.spare.1 ≤ b.1.room)
+own_rooms origin w m x s p b a is =
+    let here = part_rooms origin a.state w p b is a.part in
+    let mine = a.roles w x (one_role m.0 w x s.roles) in
     subst (λ (z : ℕ × ℕ). (z.0 ≤ b.0.room) × (z.1 ≤ b.1.room)) mine.2 here

@@ -31,22 +31,23 @@ use Rattle.tau_core.specs.declared.state.Load.{Load}
 use Rattle.tau_core.specs.State.{Plain}
 use Rattle.tau_core.specs.View.{all_numbered, call_of, numbered, numbered_by}
 use Rattle.tau_core.specs.Stands.{AreNumbers, IsNumber}
-use Rattle.tau_core.proofs.Begins.{ready-in-hand}
-use Rattle.tau_core.proofs.Hands.{some-hand}
-use Rattle.tau_core.proofs.Leaving.{settled-hand, settled-left}
+use Rattle.tau_core.proofs.Begins.{ready_in_hand}
+use Rattle.tau_core.proofs.Hands.{some_hand}
+use Rattle.tau_core.proofs.Leaving.{settled_hand, settled_left, numbered_append, numbered_is}
 use Rattle.tau_rule.specs.Knows.{Knows}
 use Rattle.tau_rule.specs.Role.{Role, Working}
 use Rattle.tau_rule.specs.Steps.{IsReady, IsWorker, Sat, handed, next_worker, told, working}
 use Rattle.tau_rule.specs.Boxes.{told_box, with_box}
-use Rattle.tau_rule.proofs.Boxes.{told_box-is}
-use Rattle.tau_rule.proofs.Gives.{one-origin, told-is}
-use Rattle.tau_rule.proofs.Workers.{worker-shown}
+use Rattle.tau_rule.proofs.Boxes.{told_box_is}
+use Rattle.tau_rule.proofs.Gives.{one_origin, told_is}
+use Rattle.tau_rule.proofs.Workers.{worker_shown}
 use Rattle.tau_desk.specs.Acts.{HasEnded, HasFreed, HasLocked, HasMetBusy, HasPosted, HasQuit, SameWorker}
 use Rattle.tau_desk.specs.declared.mark.Mark.{Mark}
 use Rattle.tau_desk.specs.Shares.{FitsWork, IsWork, PlainWork, ShowsWorker, own_worker}
 use Rattle.tau_desk.specs.Seats.{IsWorkerSeat}
 use Rattle.tau_desk.specs.Works.{Leaves, LeavesBy, leaves_of, told_room}
-use Rattle.tau_desk.proofs.Reading.{told_room-is}
+use Rattle.tau_desk.proofs.Reading.{told_room_is}
+use Rattle.tau_base.proofs.Logic.{not_both}
 
 -- which calls post next
 
@@ -60,43 +61,40 @@ is_post (action.Done r lv) = false
 is_post action.LeftOver = false
 is_post action.Nothing = false
 
-quits-on : (ks : List (Key × Mode)) → is_post (quits ks) ≡ false
-quits-on [] = refl
-quits-on (k ∷ ks) = refl
+quits_on : (ks : List (Key × Mode)) → is_post (quits ks) ≡ false
+quits_on [] = refl
+quits_on (k ∷ ks) = refl
 
-frees-on : (r : Reply) (lv : List ℕ) (ws : List (Key × Value)) (ks : List (Key × Mode)) → is_post (frees r lv ws ks) ≡ false
-frees-on r lv ws [] = refl
-frees-on r lv ws (k ∷ ks) = refl
+frees_on_there : (r : Reply) (lv : List ℕ) (ws : List (Key × Value)) (ks : List (Key × Mode)) → is_post (frees r lv ws ks) ≡ false
+frees_on_there r lv ws [] = refl
+frees_on_there r lv ws (k ∷ ks) = refl
 
-ends-on : (b : Bool) (r : Reply) (h : PlainHand) → is_post (ends_with b r h) ≡ false
-ends-on true r h = frees-on r h.dep [] h.held
-ends-on false r h = refl
+ends_on : (b : Bool) (r : Reply) (h : PlainHand) → is_post (ends_with b r h) ≡ false
+ends_on true r h = frees_on_there r h.dep [] h.held
+ends_on false r h = refl
 
-asks-on : (w : Want) (h : PlainHand) → is_post (asks w h) ≡ false
-asks-on (want.Read x) h = refl
-asks-on (want.Write x) h = refl
-asks-on (want.Finished r) h = ends-on _ r h
+asks_on : (w : Want) (h : PlainHand) → is_post (asks w h) ≡ false
+asks_on (want.Read x) h = refl
+asks_on (want.Write x) h = refl
+asks_on (want.Finished r) h = ends_on _ r h
 
-freed-on : (w : Want) (h : PlainHand) → is_post (frees_on w h) ≡ false
-freed-on (want.Read x) h = refl
-freed-on (want.Write x) h = refl
-freed-on (want.Finished r) h = frees-on r _ _ h.held
+freed_on : (w : Want) (h : PlainHand) → is_post (frees_on w h) ≡ false
+freed_on (want.Read x) h = refl
+freed_on (want.Write x) h = refl
+freed_on (want.Finished r) h = frees_on_there r _ _ h.held
 
-runs-on : (b : Bool) (h : PlainHand) (w : Want) → is_post (Rattle.std.specs.Prelude.if◌then◌else◌ b (quits h.held) (asks w h)) ≡ false
-runs-on true h w = quits-on h.held
-runs-on false h w = asks-on w h
+runs_on : (b : Bool) (h : PlainHand) (w : Want) → is_post (Rattle.std.specs.Prelude.if◌then◌else◌ b (quits h.held) (asks w h)) ≡ false
+runs_on true h w = quits_on h.held
+runs_on false h w = asks_on w h
 
-not-both : (b : Bool) → b ≡ false → b ≡ true → ⊥
-not-both b e f = (let bad : false ≡ true = sym e ∙ f in cc)
-
-pub posts-placed : (procs : List Proc) (t : PlainTxn) (h : Hand) → hand_in procs t ≡ Some h → next_action t ≡ action.Post → (act : Act theory.Txn) × (h.phase ≡ Placed act)
-posts-placed procs t h e next = by_hand t.hand e next
+pub posts_placed : (procs : List Proc) (t : PlainTxn) (h : Hand) → hand_in procs t ≡ Some h → next_action t ≡ action.Post → (act : Act theory.Txn) × (h.phase ≡ Placed act)
+posts_placed procs t h e next = by_hand t.hand e next
   where
     by_standing : (st : Standing) (x : PlainHand) → shown procs t.worker st (record x { standing = st }) ≡ Some h → next_by st x ≡ action.Post → (act : Act theory.Txn) × (h.phase ≡ Placed act)
-    by_standing standing.Running x f g = absurd (not-both (is_post (next_by standing.Running x)) (runs-on x.leaves x _) (ap is_post g))
-    by_standing standing.Quitting x f g = absurd (not-both (is_post (next_by standing.Quitting x)) (quits-on x.held) (ap is_post g))
+    by_standing standing.Running x f g = absurd (not_both (is_post (next_by standing.Running x)) (runs_on x.leaves x _) (ap is_post g))
+    by_standing standing.Quitting x f g = absurd (not_both (is_post (next_by standing.Quitting x)) (quits_on x.held) (ap is_post g))
     by_standing standing.Placed x f g = (let same : hand_of procs t.worker (record x { standing = standing.Placed }) ≡ h = cc in (_, ap (λ (y : Hand). y.phase) (sym same)))
-    by_standing standing.Freeing x f g = absurd (not-both (is_post (next_by standing.Freeing x)) (freed-on _ x) (ap is_post g))
+    by_standing standing.Freeing x f g = absurd (not_both (is_post (next_by standing.Freeing x)) (freed_on _ x) (ap is_post g))
     by_standing standing.LeftOver x f g = cc
 
     by_hand : (o : Option PlainHand) → shown_of procs t.worker o ≡ Some h → next_of o ≡ action.Post → (act : Act theory.Txn) × (h.phase ≡ Placed act)
@@ -110,8 +108,8 @@ joined_at theory.Quitting = false
 joined_at (theory.Placed act) = true
 joined_at (theory.Freeing act) = true
 
-pub joined-is : (procs : List Proc) (t : PlainTxn) (h : Hand) → hand_in procs t ≡ Some h → has_joined t ≡ joined_at h.phase
-joined-is procs t h e = by_hand t.hand e
+pub joined_is : (procs : List Proc) (t : PlainTxn) (h : Hand) → hand_in procs t ≡ Some h → has_joined t ≡ joined_at h.phase
+joined_is procs t h e = by_hand t.hand e
   where
     by_standing : (st : Standing) (x : PlainHand) → shown procs t.worker st (record x { standing = st }) ≡ Some h → joined_by st ≡ joined_at h.phase
     by_standing standing.Running x f = ap (λ (y : Option Hand). joined_at (phase_or y)) f
@@ -130,32 +128,25 @@ joined-is procs t h e = by_hand t.hand e
 
 -- numbers of calls that are left over
 
-numbered-append : (calls : List Call) (xs : List ℕ) (n : ℕ) → all_numbered calls (xs ++ n ∷ []) ≡ all_numbered calls xs ++ numbered calls n
-numbered-append calls [] n = append-nil (numbered calls n)
-numbered-append calls (x ∷ xs) n = ap (λ l. numbered calls x ++ l) (numbered-append calls xs n) ∙ sym (append_assoc (numbered calls x) (all_numbered calls xs) (numbered calls n))
-
-numbers-append : (l : Load) (xs : List ℕ) (n : ℕ) → AreNumbers l xs → IsNumber l n → AreNumbers l (xs ++ n ∷ [])
-numbers-append l [] n q is = (is, tt)
-numbers-append l (x ∷ xs) n q is = (q.0, numbers-append l xs n q.1 is)
-
-numbered-is : (calls : List Call) (n : ℕ) (c : Call) → call_of calls n ≡ Some c → numbered calls n ≡ record { number = n; call = c } ∷ []
-numbered-is calls n c e = ap (numbered_by n) e
+numbers_append : (l : Load) (xs : List ℕ) (n : ℕ) → AreNumbers l xs → IsNumber l n → AreNumbers l (xs ++ n ∷ [])
+numbers_append l [] n q is = (is, tt)
+numbers_append l (x ∷ xs) n q is = (q.0, numbers_append l xs n q.1 is)
 
 -- what is shown of a seat's own part
 
-none-or-some : (o : Option Hand) → is_some o ≡ true → (h : Hand) × (o ≡ Some h)
-none-or-some None e = absurd (let bad : false ≡ true = e in cc)
-none-or-some (Some h) e = (h, refl)
+none_or_some : (o : Option Hand) → is_some o ≡ true → (h : Hand) × (o ≡ Some h)
+none_or_some None e = absurd (let bad : false ≡ true = e in cc)
+none_or_some (Some h) e = (h, refl)
 
 -- the call that is in hand there
-pub hand-there : (l : Load) (w : ℕ) (o : PlainWork) → FitsWork l w o → is_some o.txn.hand ≡ true → (h : Hand) × (hand_in l.procs o.txn ≡ Some h)
-hand-there l w o f e = none-or-some (hand_in l.procs o.txn) (sym f.stays ∙ e)
+pub hand_there : (l : Load) (w : ℕ) (o : PlainWork) → FitsWork l w o → is_some o.txn.hand ≡ true → (h : Hand) × (hand_in l.procs o.txn ≡ Some h)
+hand_there l w o f e = none_or_some (hand_in l.procs o.txn) (sym f.stays ∙ e)
 
-pub begun-own : (l : Load) (wk : Worker) (o : PlainWork) (h : Hand) → hand_in l.procs o.txn ≡ Some h → ShowsWorker l wk o o.mark → begun l.streams wk ≡ own_worker l o
-begun-own l wk o h e s = by_mark o.mark s
+pub begun_own : (l : Load) (wk : Worker) (o : PlainWork) (h : Hand) → hand_in l.procs o.txn ≡ Some h → ShowsWorker l wk o o.mark → begun l.streams wk ≡ own_worker l o
+begun_own l wk o h e s = by_mark o.mark s
   where
     by_mark : (k : Option Mark) → ShowsWorker l wk o k → begun l.streams wk ≡ own_worker l o
-    by_mark None is = ready-in-hand l.streams wk h (ap (λ (x : Worker). x.hand) is ∙ e) ∙ is
+    by_mark None is = ready_in_hand l.streams wk h (ap (λ (x : Worker). x.hand) is ∙ e) ∙ is
     by_mark (Some k) is = is.1
 
 -- what a seat's own part is after a step of the call in hand, by which it shows t
@@ -168,13 +159,13 @@ pub record Stepped (l : Load) (w : ℕ) (o : PlainWork) (t : PlainTxn) (o' : Pla
 
 module _ (l : Load) (w : ℕ) (o : PlainWork) (f : FitsWork l w o) (h : Hand) (is : hand_in l.procs o.txn ≡ Some h) (t : PlainTxn) (q : SameWorker l.procs o.txn t) where
   had : is_some o.txn.hand ≡ true
-  had = some-hand l.procs o.txn h is
+  had = some_hand l.procs o.txn h is
 
   abbrev pub next : PlainWork
   next = record o { txn = t; mark = None }
 
-  fits-next : ((x : Hand) → hand_in l.procs t ≡ Some x → x.call ≡ h.call) → is_some t.hand ≡ is_some (hand_in l.procs t) → (next_action t ≡ action.Post → ⊥) → (has_joined t ≡ false → has_joined o.txn ≡ false) → FitsWork l w next
-  fits-next calls stays no-post joined = record {
+  fits_next : ((x : Hand) → hand_in l.procs t ≡ Some x → x.call ≡ h.call) → is_some t.hand ≡ is_some (hand_in l.procs t) → (next_action t ≡ action.Post → ⊥) → (has_joined t ≡ false → has_joined o.txn ≡ false) → FitsWork l w next
+  fits_next calls stays no_post joined = record {
     worker = ap (λ (x : PlainTxn). x.worker) q.same ∙ f.worker;
     width = ap (λ (x : PlainTxn). x.width) q.same ∙ f.width;
     mode = ap (λ (x : PlainTxn). x.mode) q.same ∙ f.mode;
@@ -188,80 +179,80 @@ module _ (l : Load) (w : ℕ) (o : PlainWork) (f : FitsWork l w o) (h : Hand) (i
     left = f.left;
     leaves = λ e. f.leaves had;
     ends = λ e. f.ends had;
-    posts = λ e. absurd (no-post e);
+    posts = λ e. absurd (no_post e);
     commits = λ e g. f.commits had (joined g);
   }
 
   -- the call stays in hand
-  pub stays-in : (x : Hand) → hand_in l.procs t ≡ Some x → x.call ≡ h.call → ((act : Act theory.Txn) → x.phase ≡ Placed act → ⊥) → (joined_at x.phase ≡ false → joined_at h.phase ≡ false) → Stepped l w o t next
-  stays-in x e call unplaced joined =
-      let no-post : next_action t ≡ action.Post → ⊥ = (λ n. let p = posts-placed l.procs t x e n in unplaced p.0 p.1) in
+  pub stays_in : (x : Hand) → hand_in l.procs t ≡ Some x → x.call ≡ h.call → ((act : Act theory.Txn) → x.phase ≡ Placed act → ⊥) → (joined_at x.phase ≡ false → joined_at h.phase ≡ false) → Stepped l w o t next
+  stays_in x e call unplaced joined =
+      let no_post : next_action t ≡ action.Post → ⊥ = (λ n. let p = posts_placed l.procs t x e n in unplaced p.0 p.1) in
       record {
-        own = λ wk b. ap (λ (y : Worker). worker_of l.procs y t) b ∙ worker-shown l.procs (own_worker l o) t x e ∙ ap (λ (y : Option Hand). record (own_worker l o) { hand = y }) (sym e);
-        fits = fits-next (λ y g. (let same : x ≡ y = cc in ap (λ (z : Hand). z.call) (sym same) ∙ call))
-            (some-hand l.procs t x e ∙ sym (ap is_some e)) no-post (λ g. joined-is l.procs o.txn h is ∙ joined (sym (joined-is l.procs t x e) ∙ g));
-        posts = no-post;
+        own = λ wk b. ap (λ (y : Worker). worker_of l.procs y t) b ∙ worker_shown l.procs (own_worker l o) t x e ∙ ap (λ (y : Option Hand). record (own_worker l o) { hand = y }) (sym e);
+        fits = fits_next (λ y g. (let same : x ≡ y = cc in ap (λ (z : Hand). z.call) (sym same) ∙ call))
+            (some_hand l.procs t x e ∙ sym (ap is_some e)) no_post (λ g. joined_is l.procs o.txn h is ∙ joined (sym (joined_is l.procs t x e) ∙ g));
+        posts = no_post;
         bare = refl;
         spare = refl;
       }
 
   module _ (k : Hand) (call : k.call ≡ h.call) (phase : k.phase ≡ Quitting) (unjoined : joined_at h.phase ≡ false) (settles : (wk : Worker) → worker_of l.procs wk t ≡ settled l.streams wk k) where
-    number-is : call_of l.calls k.call.number ≡ Some k.call.call
-    number-is = subst (λ (n : Numbered). call_of l.calls n.number ≡ Some n.call) (sym call) (f.call h is)
+    number_is : call_of l.calls k.call.number ≡ Some k.call.call
+    number_is = subst (λ (n : Numbered). call_of l.calls n.number ≡ Some n.call) (sym call) (f.call h is)
 
-    not-joined : has_joined o.txn ≡ false
-    not-joined = joined-is l.procs o.txn h is ∙ unjoined
+    not_joined : has_joined o.txn ≡ false
+    not_joined = joined_is l.procs o.txn h is ∙ unjoined
 
-    settled-in : ((wk : Worker) → worker_of l.procs wk t ≡ record wk { hand = hand_in l.procs t }) → (x : Hand) → hand_in l.procs t ≡ Some x → (x.call ≡ k.call) × (placed_of x.phase ≡ None)
-    settled-in shape x e = settled-hand l.streams (own_worker l o) k x phase (ap (λ (y : Worker). y.hand) (sym (settles (own_worker l o)) ∙ shape (own_worker l o)) ∙ e)
+    settled_in : ((wk : Worker) → worker_of l.procs wk t ≡ record wk { hand = hand_in l.procs t }) → (x : Hand) → hand_in l.procs t ≡ Some x → (x.call ≡ k.call) × (placed_of x.phase ≡ None)
+    settled_in shape x e = settled_hand l.streams (own_worker l o) k x phase (ap (λ (y : Worker). y.hand) (sym (settles (own_worker l o)) ∙ shape (own_worker l o)) ∙ e)
 
     -- the call stays in hand, or is let go
-    settled-stays : ((wk : Worker) → worker_of l.procs wk t ≡ record wk { hand = hand_in l.procs t }) → is_some t.hand ≡ is_some (hand_in l.procs t) → Stepped l w o t next
-    settled-stays shape some =
-        let no-post : next_action t ≡ action.Post → ⊥ = (λ n. by_hand (hand_in l.procs t) refl n) in
+    settled_stays : ((wk : Worker) → worker_of l.procs wk t ≡ record wk { hand = hand_in l.procs t }) → is_some t.hand ≡ is_some (hand_in l.procs t) → Stepped l w o t next
+    settled_stays shape some =
+        let no_post : next_action t ≡ action.Post → ⊥ = (λ n. by_hand (hand_in l.procs t) refl n) in
         record {
           own = λ wk b. ap (λ (y : Worker). worker_of l.procs y t) b ∙ shape (own_worker l o);
-          fits = fits-next (λ x e. (settled-in shape x e).0 ∙ call) some no-post (λ g. not-joined);
-          posts = no-post;
+          fits = fits_next (λ x e. (settled_in shape x e).0 ∙ call) some no_post (λ g. not_joined);
+          posts = no_post;
           bare = refl;
           spare = refl;
         }
       where
-        none-some : (o : Option PlainHand) → is_some o ≡ false → next_of o ≡ action.Post → ⊥
-        none-some None e n = not-both false refl (ap is_post n)
-        none-some (Some x) e n = (let bad : true ≡ false = e in cc)
+        none_some : (o : Option PlainHand) → is_some o ≡ false → next_of o ≡ action.Post → ⊥
+        none_some None e n = not_both false refl (ap is_post n)
+        none_some (Some x) e n = (let bad : true ≡ false = e in cc)
 
         by_hand : (x : Option Hand) → hand_in l.procs t ≡ x → next_action t ≡ action.Post → ⊥
-        by_hand None e n = none-some t.hand (some ∙ ap is_some e) n
+        by_hand None e n = none_some t.hand (some ∙ ap is_some e) n
         by_hand (Some x) e n =
-            let p = posts-placed l.procs t x e n in
-            let bad : None ≡ Some p.0 = sym (settled-in shape x e).1 ∙ ap placed_of p.1 in cc
+            let p = posts_placed l.procs t x e n in
+            let bad : None ≡ Some p.0 = sym (settled_in shape x e).1 ∙ ap placed_of p.1 in cc
 
-    shape-of : (x : PlainHand) (st : Standing) → t.hand ≡ Some x → x.standing ≡ st → ((wk : Worker) → worker_by l.procs t.worker wk st x ≡ record wk { hand = shown l.procs t.worker st x }) → (wk : Worker) →
+    shape_of : (x : PlainHand) (st : Standing) → t.hand ≡ Some x → x.standing ≡ st → ((wk : Worker) → worker_by l.procs t.worker wk st x ≡ record wk { hand = shown l.procs t.worker st x }) → (wk : Worker) →
         worker_of l.procs wk t ≡ record wk { hand = hand_in l.procs t }
-    shape-of x st e s by wk =
+    shape_of x st e s by wk =
         ap (λ (y : Option PlainHand). worker_in l.procs t.worker wk y) e ∙ ap (λ (z : Standing). worker_by l.procs t.worker wk z x) s ∙ by wk
         ∙ ap (λ (y : Option Hand). record wk { hand = y }) (sym (ap (shown_of l.procs t.worker) e ∙ ap (λ (z : Standing). shown l.procs t.worker z x) s))
 
-    some-of : (x : PlainHand) (st : Standing) (y : Hand) → t.hand ≡ Some x → x.standing ≡ st → shown l.procs t.worker st x ≡ Some y → is_some t.hand ≡ is_some (hand_in l.procs t)
-    some-of x st y e s g = ap is_some e ∙ sym (ap is_some (ap (shown_of l.procs t.worker) e ∙ ap (λ (z : Standing). shown l.procs t.worker z x) s ∙ g))
+    some_of : (x : PlainHand) (st : Standing) (y : Hand) → t.hand ≡ Some x → x.standing ≡ st → shown l.procs t.worker st x ≡ Some y → is_some t.hand ≡ is_some (hand_in l.procs t)
+    some_of x st y e s g = ap is_some e ∙ sym (ap is_some (ap (shown_of l.procs t.worker) e ∙ ap (λ (z : Standing). shown l.procs t.worker z x) s ∙ g))
 
     -- the call is left over
-    settled-goes : (o' : PlainWork) (x : PlainHand) → t.hand ≡ Some x → x.standing ≡ standing.LeftOver → LeavesBy standing.LeftOver x next o' → Stepped l w o t o'
-    settled-goes o' x e s r =
+    settled_goes : (o' : PlainWork) (x : PlainHand) → t.hand ≡ Some x → x.standing ≡ standing.LeftOver → LeavesBy standing.LeftOver x next o' → Stepped l w o t o'
+    settled_goes o' x e s r =
         let this : Numbered = record { number = x.number; call = x.call } in
         let shape : (wk : Worker) → worker_of l.procs wk t ≡ record wk { hand = None; left = wk.left ++ this ∷ [] } =
         (λ (wk : Worker). ap (λ (y : Option PlainHand). worker_in l.procs t.worker wk y) e ∙ ap (λ (z : Standing). worker_by l.procs t.worker wk z x) s) in
         let empty : Worker = record { waiting = []; hand = None; left = []; committed = [] } in
-        let this_is : this ≡ k.call = settled-left l.streams empty k this (ap (λ (y : Worker). y.left) (sym (settles empty) ∙ shape empty)) refl in
-        let has : call_of l.calls x.number ≡ Some x.call = subst (λ (n : Numbered). call_of l.calls n.number ≡ Some n.call) (sym this_is) number-is in
+        let this_is : this ≡ k.call = settled_left l.streams empty k this (ap (λ (y : Worker). y.left) (sym (settles empty) ∙ shape empty)) refl in
+        let has : call_of l.calls x.number ≡ Some x.call = subst (λ (n : Numbered). call_of l.calls n.number ≡ Some n.call) (sym this_is) number_is in
         let gone : hand_in l.procs o'.txn ≡ None = ap (hand_in l.procs) r.0 in
         let empty_hand : is_some o'.txn.hand ≡ false = ap (λ (y : PlainTxn). is_some y.hand) r.0 in
         record {
           own = λ wk b.
               ap (λ (y : Worker). worker_of l.procs y t) b ∙ shape (own_worker l o)
               ∙ sym (ap (own_worker l) r.2
-              ∙ (λ i. record (own_worker l o) { hand = gone i; left = (ap (all_numbered l.calls) r.1 ∙ numbered-append l.calls o.left x.number ∙ ap (λ (z : List Numbered). all_numbered l.calls o.left ++ z) (numbered-is l.calls x.number x.call has)) i }));
+              ∙ (λ i. record (own_worker l o) { hand = gone i; left = (ap (all_numbered l.calls) r.1 ∙ numbered_append l.calls o.left x.number ∙ ap (λ (z : List Numbered). all_numbered l.calls o.left ++ z) (numbered_is l.calls x.number x.call has)) i }));
           fits = subst (λ (y : PlainWork). FitsWork l w y) (sym r.2) (record {
             worker = ap (λ (y : PlainTxn). y.worker) r.0 ∙ ap (λ (y : PlainTxn). y.worker) q.same ∙ f.worker;
             width = ap (λ (y : PlainTxn). y.width) r.0 ∙ ap (λ (y : PlainTxn). y.width) q.same ∙ f.width;
@@ -273,46 +264,46 @@ module _ (l : Load) (w : ℕ) (o : PlainWork) (f : FitsWork l w o) (h : Hand) (i
             high = f.high;
             again = f.again;
             mark = λ k e. absurd (let bad : None ≡ Some k = e in cc);
-            left = subst (λ (z : List ℕ). AreNumbers l z) (sym r.1) (numbers-append l o.left x.number f.left (x.call, has));
-            leaves = λ g. absurd (not-both (is_some o'.txn.hand) empty_hand g);
-            ends = λ g. absurd (not-both (is_some o'.txn.hand) empty_hand g);
-            posts = λ g. absurd (not-both false refl (ap is_post (sym (ap next_action r.0) ∙ g)));
-            commits = λ g j. absurd (not-both (is_some o'.txn.hand) empty_hand g);
+            left = subst (λ (z : List ℕ). AreNumbers l z) (sym r.1) (numbers_append l o.left x.number f.left (x.call, has));
+            leaves = λ g. absurd (not_both (is_some o'.txn.hand) empty_hand g);
+            ends = λ g. absurd (not_both (is_some o'.txn.hand) empty_hand g);
+            posts = λ g. absurd (not_both false refl (ap is_post (sym (ap next_action r.0) ∙ g)));
+            commits = λ g j. absurd (not_both (is_some o'.txn.hand) empty_hand g);
           });
-          posts = λ g. not-both false refl (ap is_post (sym (ap next_action r.0) ∙ g));
+          posts = λ g. not_both false refl (ap is_post (sym (ap next_action r.0) ∙ g));
           bare = ap (λ (y : PlainWork). y.mark) r.2;
           spare = ap (λ (y : PlainWork). y.spare) r.2;
         }
 
-    pub settles-to : (o' : PlainWork) → Leaves next o' → Stepped l w o t o'
-    settles-to o' r = by_hand t.hand refl r
+    pub settles_to : (o' : PlainWork) → Leaves next o' → Stepped l w o t o'
+    settles_to o' r = by_hand t.hand refl r
       where
         moved : o' ≡ next → Stepped l w o t next → Stepped l w o t o'
         moved e s = subst (λ (y : PlainWork). Stepped l w o t y) (sym e) s
 
         by_standing : (st : Standing) (x : PlainHand) → t.hand ≡ Some x → x.standing ≡ st → LeavesBy st x next o' → Stepped l w o t o'
-        by_standing standing.LeftOver x e s g = settled-goes o' x e s g
-        by_standing standing.Running x e s g = moved g (settled-stays (shape-of x standing.Running e s (λ wk. refl)) (some-of x standing.Running (hand_of l.procs t.worker x) e s refl))
-        by_standing standing.Quitting x e s g = moved g (settled-stays (shape-of x standing.Quitting e s (λ wk. refl)) (some-of x standing.Quitting (hand_of l.procs t.worker x) e s refl))
-        by_standing standing.Placed x e s g = moved g (settled-stays (shape-of x standing.Placed e s (λ wk. refl)) (some-of x standing.Placed (hand_of l.procs t.worker x) e s refl))
-        by_standing standing.Freeing x e s g = moved g (settled-stays (shape-of x standing.Freeing e s (λ wk. refl)) (some-of x standing.Freeing (hand_of l.procs t.worker x) e s refl))
+        by_standing standing.LeftOver x e s g = settled_goes o' x e s g
+        by_standing standing.Running x e s g = moved g (settled_stays (shape_of x standing.Running e s (λ wk. refl)) (some_of x standing.Running (hand_of l.procs t.worker x) e s refl))
+        by_standing standing.Quitting x e s g = moved g (settled_stays (shape_of x standing.Quitting e s (λ wk. refl)) (some_of x standing.Quitting (hand_of l.procs t.worker x) e s refl))
+        by_standing standing.Placed x e s g = moved g (settled_stays (shape_of x standing.Placed e s (λ wk. refl)) (some_of x standing.Placed (hand_of l.procs t.worker x) e s refl))
+        by_standing standing.Freeing x e s g = moved g (settled_stays (shape_of x standing.Freeing e s (λ wk. refl)) (some_of x standing.Freeing (hand_of l.procs t.worker x) e s refl))
 
         by_hand : (y : Option PlainHand) → t.hand ≡ y → leaves_of y next o' → Stepped l w o t o'
-        by_hand None e g = moved g (settled-stays
+        by_hand None e g = moved g (settled_stays
             (λ wk. ap (λ (y : Option PlainHand). worker_in l.procs t.worker wk y) e ∙ ap (λ (y : Option Hand). record wk { hand = y }) (sym (ap (shown_of l.procs t.worker) e)))
             (ap is_some e ∙ sym (ap is_some (ap (shown_of l.procs t.worker) e))))
         by_hand (Some x) e g = by_standing x.standing x e refl g
 
 -- the seat of a run that is known
 
-pub seat-origin : (origin : Plain) (m : Sat) (w : ℕ) (o : PlainWork) (read : ℕ × List ℕ) (seen : List ℕ) → m.0.opened ≡ Some origin → (s : IsWorkerSeat m w o read seen) → s.origin ≡ origin
-seat-origin origin m w o read seen opened s = one-origin s.origin origin (sym s.seat.opened ∙ opened)
+pub seat_origin : (origin : Plain) (m : Sat) (w : ℕ) (o : PlainWork) (read : ℕ × List ℕ) (seen : List ℕ) → m.0.opened ≡ Some origin → (s : IsWorkerSeat m w o read seen) → s.origin ≡ origin
+seat_origin origin m w o read seen opened s = one_origin s.origin origin (sym s.seat.opened ∙ opened)
 
 -- it may take a part
-pub seat-ready : (origin : Plain) (m : Sat) (w : ℕ) (o : PlainWork) (read : ℕ × List ℕ) (seen : List ℕ) → m.0.opened ≡ Some origin → IsWorkerSeat m w o read seen → is_some o.txn.hand ≡ true → IsReady origin w m o.txn
-seat-ready origin m w o read seen opened s has =
-    let there = hand-there s.origin.load w o s.work.fits has in
-    subst (λ (p : Plain). IsReady p w m o.txn) (seat-origin origin m w o read seen opened s) (record {
+pub seat_ready : (origin : Plain) (m : Sat) (w : ℕ) (o : PlainWork) (read : ℕ × List ℕ) (seen : List ℕ) → m.0.opened ≡ Some origin → IsWorkerSeat m w o read seen → is_some o.txn.hand ≡ true → IsReady origin w m o.txn
+seat_ready origin m w o read seen opened s has =
+    let there = hand_there s.origin.load w o s.work.fits has in
+    subst (λ (p : Plain). IsReady p w m o.txn) (seat_origin origin m w o read seen opened s) (record {
       role = s.role;
       worker = s.work.worker;
       seat = s.seat;
@@ -321,20 +312,20 @@ seat-ready origin m w o read seen opened s has =
       number = s.work.fits.worker;
       width = s.work.fits.width;
       runs = s.work.fits.runs;
-      agrees = ap (λ (x : Worker). x.hand) (begun-own s.origin.load s.work.worker o there.0 there.1 s.work.shows);
+      agrees = ap (λ (x : Worker). x.hand) (begun_own s.origin.load s.work.worker o there.0 there.1 s.work.shows);
     })
 
 -- and goes on
-pub seat-on : (origin : Plain) (m m' : Sat) (w : ℕ) (o o' : PlainWork) (t : PlainTxn) (read : ℕ × List ℕ) (seen : List ℕ) → m.0.opened ≡ Some origin → IsWorkerSeat m w o read seen → is_some o.txn.hand ≡ true → m' ≡ (told origin.load m.0 t, []) → Stepped origin.load w o t o' → IsWorkerSeat m' w o' read seen
-seat-on origin m m' w o o' t read seen opened s has knows step =
-    let same = seat-origin origin m w o read seen opened s in
+pub seat_on : (origin : Plain) (m m' : Sat) (w : ℕ) (o o' : PlainWork) (t : PlainTxn) (read : ℕ × List ℕ) (seen : List ℕ) → m.0.opened ≡ Some origin → IsWorkerSeat m w o read seen → is_some o.txn.hand ≡ true → m' ≡ (told origin.load m.0 t, []) → Stepped origin.load w o t o' → IsWorkerSeat m' w o' read seen
+seat_on origin m m' w o o' t read seen opened s has knows step =
+    let same = seat_origin origin m w o read seen opened s in
     let l : Load = s.origin.load in
     let step' : Stepped l w o t o' = subst (λ (p : Plain). Stepped p.load w o t o') (sym same) step in
-    let there = hand-there l w o s.work.fits has in
+    let there = hand_there l w o s.work.fits has in
     let wk : Worker = next_worker l s.work.worker t in
     let me : m' ≡ (Rattle.tau_rule.specs.Steps.handed m.0 w (working s.role wk), []) =
-    knows ∙ ap (λ (p : Plain). (told p.load m.0 t, [])) (sym same) ∙ ap (λ (v : Knows). (v, [])) (told-is s.origin m.0 t w s.role s.work.worker s.seat.roles s.work.share) in
-    let shows : wk ≡ own_worker l o' = step'.own s.work.worker (begun-own l s.work.worker o there.0 there.1 s.work.shows) in
+    knows ∙ ap (λ (p : Plain). (told p.load m.0 t, [])) (sym same) ∙ ap (λ (v : Knows). (v, [])) (told_is s.origin m.0 t w s.role s.work.worker s.seat.roles s.work.share) in
+    let shows : wk ≡ own_worker l o' = step'.own s.work.worker (begun_own l s.work.worker o there.0 there.1 s.work.shows) in
     subst (λ (x : Sat). IsWorkerSeat x w o' read seen) (sym me) (record {
       origin = s.origin;
       role = working s.role wk;
@@ -356,68 +347,68 @@ seat-on origin m m' w o o' t read seen opened s has knows step =
 
 -- the actions on shards
 
-locked-like : (h : Hand) (x : Key) (m : Mode) (v : Value) (d : List ℕ) → ((locked_with h x m v d).call ≡ h.call) × ((locked_with h x m v d).phase ≡ h.phase)
-locked-like h x Read v d = (refl, refl)
-locked-like h x Write v d = (refl, refl)
+locked_like : (h : Hand) (x : Key) (m : Mode) (v : Value) (d : List ℕ) → ((locked_with h x m v d).call ≡ h.call) × ((locked_with h x m v d).phase ≡ h.phase)
+locked_like h x Read v d = (refl, refl)
+locked_like h x Write v d = (refl, refl)
 
-running-not : (p : Phase) (act : Act theory.Txn) → p ≡ theory.Running → p ≡ Placed act → ⊥
-running-not p act e f = (let bad : theory.Running ≡ Placed act = sym e ∙ f in cc)
+running_not : (p : Phase) (act : Act theory.Txn) → p ≡ theory.Running → p ≡ Placed act → ⊥
+running_not p act e f = (let bad : theory.Running ≡ Placed act = sym e ∙ f in cc)
 
-freeing-not : (p : Phase) (a act : Act theory.Txn) → p ≡ theory.Freeing a → p ≡ Placed act → ⊥
-freeing-not p a act e f = (let bad : theory.Freeing a ≡ Placed act = sym e ∙ f in cc)
+freeing_not : (p : Phase) (a act : Act theory.Txn) → p ≡ theory.Freeing a → p ≡ Placed act → ⊥
+freeing_not p a act e f = (let bad : theory.Freeing a ≡ Placed act = sym e ∙ f in cc)
 
 module _ (l : Load) (w : ℕ) (o : PlainWork) (f : FitsWork l w o) (t : PlainTxn) where
-  pub locked-on : HasLocked l.procs o.txn t → Stepped l w o t (record o { txn = t; mark = None })
-  locked-on q =
+  pub locked_on : HasLocked l.procs o.txn t → Stepped l w o t (record o { txn = t; mark = None })
+  locked_on q =
       let h : Hand = q.wanted.hand in
       let x : Hand = locked_with h q.key q.mode q.row q.dep in
-      let like = locked-like h q.key q.mode q.row q.dep in
-      stays-in l w o f h q.wanted.is t q.worker x q.is like.0 (λ act e. running-not x.phase act (like.1 ∙ q.wanted.phase) e) (λ _. ap joined_at q.wanted.phase)
+      let like = locked_like h q.key q.mode q.row q.dep in
+      stays_in l w o f h q.wanted.is t q.worker x q.is like.0 (λ act e. running_not x.phase act (like.1 ∙ q.wanted.phase) e) (λ _. ap joined_at q.wanted.phase)
 
-  pub busy-on : HasMetBusy l.procs o.txn t → (o' : PlainWork) → Leaves (record o { txn = t; mark = None }) o' → Stepped l w o t o'
-  busy-on q o' r =
-      settles-to l w o f q.wanted.hand q.wanted.is t q.worker (hand_busy q.wanted.hand) refl refl (ap joined_at q.wanted.phase)
+  pub busy_on : HasMetBusy l.procs o.txn t → (o' : PlainWork) → Leaves (record o { txn = t; mark = None }) o' → Stepped l w o t o'
+  busy_on q o' r =
+      settles_to l w o f q.wanted.hand q.wanted.is t q.worker (hand_busy q.wanted.hand) refl refl (ap joined_at q.wanted.phase)
       (λ wk. q.settles wk ∙ ap (λ (n : ℕ). settled n wk (hand_busy q.wanted.hand)) f.width) o' r
 
-  pub quit-on : HasQuit l.procs o.txn t → (o' : PlainWork) → Leaves (record o { txn = t; mark = None }) o' → Stepped l w o t o'
-  quit-on q o' r =
+  pub quit_on : HasQuit l.procs o.txn t → (o' : PlainWork) → Leaves (record o { txn = t; mark = None }) o' → Stepped l w o t o'
+  quit_on q o' r =
       let k : Hand = hand_quit q.quits.hand q.key (Rattle.tau_txn.specs.Txn.leaves_in o.txn) in
       let unjoined : joined_at q.quits.hand.phase ≡ false = elim q.quits.phase [
         | inl a ↦ ap joined_at a
         | inr b ↦ ap joined_at b.0
       ] in
-      settles-to l w o f q.quits.hand q.quits.is t q.worker k refl refl unjoined
+      settles_to l w o f q.quits.hand q.quits.is t q.worker k refl refl unjoined
       (λ wk. q.settles wk ∙ ap (λ (n : ℕ). settled n wk k) f.width) o' r
 
-  pub freed-on-key : has_joined o.txn ≡ true → HasFreed l.procs o.txn t → Stepped l w o t (record o { txn = t; mark = None })
-  freed-on-key joined q =
+  pub freed_on_key : has_joined o.txn ≡ true → HasFreed l.procs o.txn t → Stepped l w o t (record o { txn = t; mark = None })
+  freed_on_key joined q =
       let h : Hand = q.frees.hand in
-      stays-in l w o f h q.frees.is t q.worker _ q.is refl (λ act e. freeing-not (theory.Freeing q.frees.act) q.frees.act act refl e) (λ e. absurd (not-both false refl (sym e)))
+      stays_in l w o f h q.frees.is t q.worker _ q.is refl (λ act e. freeing_not (theory.Freeing q.frees.act) q.frees.act act refl e) (λ e. absurd (not_both false refl (sym e)))
 
 -- and the seat
 
 module _ (origin : Plain) (m m' : Sat) (w : ℕ) (o : PlainWork) (t : PlainTxn) (read : ℕ × List ℕ) (seen : List ℕ) (opened : m.0.opened ≡ Some origin) (s : IsWorkerSeat m w o read seen) (knows : m' ≡ (told origin.load m.0 t, [])) where
-  fits-at : FitsWork origin.load w o
-  fits-at = subst (λ (p : Plain). FitsWork p.load w o) (seat-origin origin m w o read seen opened s) s.work.fits
+  fits_at : FitsWork origin.load w o
+  fits_at = subst (λ (p : Plain). FitsWork p.load w o) (seat_origin origin m w o read seen opened s) s.work.fits
 
-  pub seat-locked : HasLocked origin.load.procs o.txn t → IsWorkerSeat m' w (record o { txn = t; mark = None }) read seen
-  seat-locked q = seat-on origin m m' w o (record o { txn = t; mark = None }) t read seen opened s (some-hand origin.load.procs o.txn q.wanted.hand q.wanted.is) knows (locked-on origin.load w o fits-at t q)
+  pub seat_locked : HasLocked origin.load.procs o.txn t → IsWorkerSeat m' w (record o { txn = t; mark = None }) read seen
+  seat_locked q = seat_on origin m m' w o (record o { txn = t; mark = None }) t read seen opened s (some_hand origin.load.procs o.txn q.wanted.hand q.wanted.is) knows (locked_on origin.load w o fits_at t q)
 
-  pub seat-busy : (o' : PlainWork) → HasMetBusy origin.load.procs o.txn t → Leaves (record o { txn = t; mark = None }) o' → IsWorkerSeat m' w o' read seen
-  seat-busy o' q r = seat-on origin m m' w o o' t read seen opened s (some-hand origin.load.procs o.txn q.wanted.hand q.wanted.is) knows (busy-on origin.load w o fits-at t q o' r)
+  pub seat_busy : (o' : PlainWork) → HasMetBusy origin.load.procs o.txn t → Leaves (record o { txn = t; mark = None }) o' → IsWorkerSeat m' w o' read seen
+  seat_busy o' q r = seat_on origin m m' w o o' t read seen opened s (some_hand origin.load.procs o.txn q.wanted.hand q.wanted.is) knows (busy_on origin.load w o fits_at t q o' r)
 
-  pub seat-quit : (o' : PlainWork) → HasQuit origin.load.procs o.txn t → Leaves (record o { txn = t; mark = None }) o' → IsWorkerSeat m' w o' read seen
-  seat-quit o' q r = seat-on origin m m' w o o' t read seen opened s (some-hand origin.load.procs o.txn q.quits.hand q.quits.is) knows (quit-on origin.load w o fits-at t q o' r)
+  pub seat_quit : (o' : PlainWork) → HasQuit origin.load.procs o.txn t → Leaves (record o { txn = t; mark = None }) o' → IsWorkerSeat m' w o' read seen
+  seat_quit o' q r = seat_on origin m m' w o o' t read seen opened s (some_hand origin.load.procs o.txn q.quits.hand q.quits.is) knows (quit_on origin.load w o fits_at t q o' r)
 
-  pub seat-freed : has_joined o.txn ≡ true → HasFreed origin.load.procs o.txn t → IsWorkerSeat m' w (record o { txn = t; mark = None }) read seen
-  seat-freed joined q = seat-on origin m m' w o (record o { txn = t; mark = None }) t read seen opened s (some-hand origin.load.procs o.txn q.frees.hand q.frees.is) knows (freed-on-key origin.load w o fits-at t joined q)
+  pub seat_freed : has_joined o.txn ≡ true → HasFreed origin.load.procs o.txn t → IsWorkerSeat m' w (record o { txn = t; mark = None }) read seen
+  seat_freed joined q = seat_on origin m m' w o (record o { txn = t; mark = None }) t read seen opened s (some_hand origin.load.procs o.txn q.frees.hand q.frees.is) knows (freed_on_key origin.load w o fits_at t joined q)
 
 -- a seat whose worker is this after a step
 
-pub seat-shown : (origin : Plain) (m m' : Sat) (w : ℕ) (o o' : PlainWork) (read : ℕ × List ℕ) (seen : List ℕ) → m.0.opened ≡ Some origin → (s : IsWorkerSeat m w o read seen) → (role : Role) (wk : Worker) → role.share ≡ Working wk → m' ≡ (handed m.0 w role, []) →
+pub seat_shown : (origin : Plain) (m m' : Sat) (w : ℕ) (o o' : PlainWork) (read : ℕ × List ℕ) (seen : List ℕ) → m.0.opened ≡ Some origin → (s : IsWorkerSeat m w o read seen) → (role : Role) (wk : Worker) → role.share ≡ Working wk → m' ≡ (handed m.0 w role, []) →
     wk ≡ own_worker origin.load o' → o'.mark ≡ None → FitsWork origin.load w o' → role.spare ≡ o'.spare → (next_action o'.txn ≡ action.Post → ⊥) → IsWorkerSeat m' w o' read seen
-seat-shown origin m m' w o o' read seen opened s role wk share me shows bare fits spare no-post =
-    let same = seat-origin origin m w o read seen opened s in
+seat_shown origin m m' w o o' read seen opened s role wk share me shows bare fits spare no_post =
+    let same = seat_origin origin m w o read seen opened s in
     subst (λ (x : Sat). IsWorkerSeat x w o' read seen) (sym me) (record {
       origin = origin;
       role = role;
@@ -434,15 +425,15 @@ seat-shown origin m m' w o o' read seen opened s role wk share me shows bare fit
       read_wide = subst (λ (p : Plain). length read.1 ≡ p.load.streams) same s.read_wide;
       seen_is = s.seen_is;
       seen_wide = subst (λ (p : Plain). length seen ≡ p.load.streams) same s.seen_wide;
-      posts = λ e. absurd (no-post e);
+      posts = λ e. absurd (no_post e);
     })
 
 -- what the seat has of the run
-pub work-at : (origin : Plain) (m : Sat) (w : ℕ) (o : PlainWork) (read : ℕ × List ℕ) (seen : List ℕ) → m.0.opened ≡ Some origin → (s : IsWorkerSeat m w o read seen) → IsWork origin.load w s.role o
-work-at origin m w o read seen opened s = subst (λ (p : Plain). IsWork p.load w s.role o) (seat-origin origin m w o read seen opened s) s.work
+pub work_at : (origin : Plain) (m : Sat) (w : ℕ) (o : PlainWork) (read : ℕ × List ℕ) (seen : List ℕ) → m.0.opened ≡ Some origin → (s : IsWorkerSeat m w o read seen) → IsWork origin.load w s.role o
+work_at origin m w o read seen opened s = subst (λ (p : Plain). IsWork p.load w s.role o) (seat_origin origin m w o read seen opened s) s.work
 
-spare-made : (l : Load) (w : ℕ) (o : PlainWork) (spare : ℕ × ℕ) → FitsWork l w o → (next_action o.txn ≡ action.Post → ⊥) → (is_some o.txn.hand ≡ true → 1 ≤ spare.1) → FitsWork l w (record o { spare = spare })
-spare-made l w o spare f no-post low = record {
+spare_made : (l : Load) (w : ℕ) (o : PlainWork) (spare : ℕ × ℕ) → FitsWork l w o → (next_action o.txn ≡ action.Post → ⊥) → (is_some o.txn.hand ≡ true → 1 ≤ spare.1) → FitsWork l w (record o { spare = spare })
+spare_made l w o spare f no_post low = record {
   worker = f.worker;
   width = f.width;
   mode = f.mode;
@@ -456,39 +447,39 @@ spare-made l w o spare f no-post low = record {
   left = f.left;
   leaves = f.leaves;
   ends = low;
-  posts = λ e. absurd (no-post e);
+  posts = λ e. absurd (no_post e);
   commits = f.commits;
 }
 
-pub seat-posted : (origin : Plain) (m m' : Sat) (w : ℕ) (o : PlainWork) (t : PlainTxn) (spare : ℕ × ℕ) (read : ℕ × List ℕ) (seen : List ℕ) → m.0.opened ≡ Some origin → IsWorkerSeat m w o read seen → m' ≡ (told_box origin.load m.0 t spare, []) → spare.1 ≡ o.spare.1 → HasPosted origin.load.procs o.txn t →
+pub seat_posted : (origin : Plain) (m m' : Sat) (w : ℕ) (o : PlainWork) (t : PlainTxn) (spare : ℕ × ℕ) (read : ℕ × List ℕ) (seen : List ℕ) → m.0.opened ≡ Some origin → IsWorkerSeat m w o read seen → m' ≡ (told_box origin.load m.0 t spare, []) → spare.1 ≡ o.spare.1 → HasPosted origin.load.procs o.txn t →
     IsWorkerSeat m' w (record o { txn = t; spare = spare; mark = None }) read seen
-seat-posted origin m m' w o t spare read seen opened s knows calls q =
+seat_posted origin m m' w o t spare read seen opened s knows calls q =
     let l : Load = origin.load in
-    let work = work-at origin m w o read seen opened s in
+    let work = work_at origin m w o read seen opened s in
     let f = work.fits in
     let h : Hand = q.posts.hand in
     let x : Hand = record h { phase = theory.Freeing q.posts.act } in
     let step : Stepped l w o t (record o { txn = t; mark = None }) =
-    stays-in l w o f h q.posts.is t q.worker x q.is refl (λ act e. freeing-not (theory.Freeing q.posts.act) q.posts.act act refl e) (λ e. absurd (not-both false refl (sym e))) in
+    stays_in l w o f h q.posts.is t q.worker x q.is refl (λ act e. freeing_not (theory.Freeing q.posts.act) q.posts.act act refl e) (λ e. absurd (not_both false refl (sym e))) in
     let wk : Worker = next_worker l work.worker t in
-    seat-shown origin m m' w o (record o { txn = t; spare = spare; mark = None }) read seen opened s (with_box s.role wk spare) wk refl
-    (knows ∙ ap (λ (v : Knows). (v, [])) (told_box-is origin m.0 t spare w s.role work.worker s.seat.roles work.share))
-    (step.own work.worker (begun-own l work.worker o h q.posts.is work.shows)) refl
-    (spare-made l w (record o { txn = t; mark = None }) spare step.fits step.posts (λ e. subst (λ (n : ℕ). 1 ≤ n) (sym calls) (f.ends (some-hand l.procs o.txn h q.posts.is)))) refl step.posts
+    seat_shown origin m m' w o (record o { txn = t; spare = spare; mark = None }) read seen opened s (with_box s.role wk spare) wk refl
+    (knows ∙ ap (λ (v : Knows). (v, [])) (told_box_is origin m.0 t spare w s.role work.worker s.seat.roles work.share))
+    (step.own work.worker (begun_own l work.worker o h q.posts.is work.shows)) refl
+    (spare_made l w (record o { txn = t; mark = None }) spare step.fits step.posts (λ e. subst (λ (n : ℕ). 1 ≤ n) (sym calls) (f.ends (some_hand l.procs o.txn h q.posts.is)))) refl step.posts
 
-pub seat-ended : (origin : Plain) (m m' : Sat) (w : ℕ) (o : PlainWork) (t : PlainTxn) (spare : ℕ × ℕ) (read : ℕ × List ℕ) (seen : List ℕ) → m.0.opened ≡ Some origin → IsWorkerSeat m w o read seen → m' ≡ (told_box origin.load m.0 t spare, []) → HasEnded origin.load.procs o.txn t →
+pub seat_ended : (origin : Plain) (m m' : Sat) (w : ℕ) (o : PlainWork) (t : PlainTxn) (spare : ℕ × ℕ) (read : ℕ × List ℕ) (seen : List ℕ) → m.0.opened ≡ Some origin → IsWorkerSeat m w o read seen → m' ≡ (told_box origin.load m.0 t spare, []) → HasEnded origin.load.procs o.txn t →
     IsWorkerSeat m' w (record o { txn = t; spare = spare; mark = None }) read seen
-seat-ended origin m m' w o t spare read seen opened s knows q =
+seat_ended origin m m' w o t spare read seen opened s knows q =
     let l : Load = origin.load in
-    let work = work-at origin m w o read seen opened s in
+    let work = work_at origin m w o read seen opened s in
     let f = work.fits in
     let wk : Worker = next_worker l work.worker t in
     let gone : hand_in l.procs t ≡ None = ap (shown_of l.procs t.worker) q.gone in
     let none : is_some t.hand ≡ false = ap is_some q.gone in
-    let no-post : next_action t ≡ action.Post → ⊥ = (λ e. not-both false refl (ap is_post (sym (ap next_of q.gone) ∙ e))) in
-    seat-shown origin m m' w o (record o { txn = t; spare = spare; mark = None }) read seen opened s (with_box s.role wk spare) wk refl
-    (knows ∙ ap (λ (v : Knows). (v, [])) (told_box-is origin m.0 t spare w s.role work.worker s.seat.roles work.share))
-    (ap (λ (y : Worker). worker_of l.procs y t) (begun-own l work.worker o q.ends.hand q.ends.is work.shows) ∙ ap (worker_in l.procs t.worker (own_worker l o)) q.gone ∙ ap (λ (y : Option Hand). record (own_worker l o) { hand = y }) (sym gone))
+    let no_post : next_action t ≡ action.Post → ⊥ = (λ e. not_both false refl (ap is_post (sym (ap next_of q.gone) ∙ e))) in
+    seat_shown origin m m' w o (record o { txn = t; spare = spare; mark = None }) read seen opened s (with_box s.role wk spare) wk refl
+    (knows ∙ ap (λ (v : Knows). (v, [])) (told_box_is origin m.0 t spare w s.role work.worker s.seat.roles work.share))
+    (ap (λ (y : Worker). worker_of l.procs y t) (begun_own l work.worker o q.ends.hand q.ends.is work.shows) ∙ ap (worker_in l.procs t.worker (own_worker l o)) q.gone ∙ ap (λ (y : Option Hand). record (own_worker l o) { hand = y }) (sym gone))
     refl
     (record {
       worker = ap (λ (y : PlainTxn). y.worker) q.worker.same ∙ f.worker;
@@ -502,19 +493,19 @@ seat-ended origin m m' w o t spare read seen opened s knows q =
       again = f.again;
       mark = λ k e. absurd (let bad : None ≡ Some k = e in cc);
       left = f.left;
-      leaves = λ g. absurd (not-both (is_some t.hand) none g);
-      ends = λ g. absurd (not-both (is_some t.hand) none g);
-      posts = λ g. absurd (no-post g);
-      commits = λ g j. absurd (not-both (is_some t.hand) none g);
+      leaves = λ g. absurd (not_both (is_some t.hand) none g);
+      ends = λ g. absurd (not_both (is_some t.hand) none g);
+      posts = λ g. absurd (no_post g);
+      commits = λ g j. absurd (not_both (is_some t.hand) none g);
     })
-    refl no-post
+    refl no_post
 
 -- room was made in its outbox
-pub seat-room : (origin : Plain) (m m' : Sat) (w : ℕ) (o : PlainWork) (spare : ℕ × ℕ) (read : ℕ × List ℕ) (seen : List ℕ) → m.0.opened ≡ Some origin → IsWorkerSeat m w o read seen → m' ≡ (told_room m.0 spare, []) → o.spare.0 ≤ spare.0 → o.spare.1 ≤ spare.1 →
+pub seat_room : (origin : Plain) (m m' : Sat) (w : ℕ) (o : PlainWork) (spare : ℕ × ℕ) (read : ℕ × List ℕ) (seen : List ℕ) → m.0.opened ≡ Some origin → IsWorkerSeat m w o read seen → m' ≡ (told_room m.0 spare, []) → o.spare.0 ≤ spare.0 → o.spare.1 ≤ spare.1 →
     IsWorkerSeat m' w (record o { spare = spare }) read seen
-seat-room origin m m' w o spare read seen opened s knows records calls =
+seat_room origin m m' w o spare read seen opened s knows records calls =
     let f = s.work.fits in
-    subst (λ (x : Sat). IsWorkerSeat x w (record o { spare = spare }) read seen) (sym (knows ∙ ap (λ (v : Knows). (v, [])) (told_room-is m.0 spare w s.role s.seat.roles))) (record {
+    subst (λ (x : Sat). IsWorkerSeat x w (record o { spare = spare }) read seen) (sym (knows ∙ ap (λ (v : Knows). (v, [])) (told_room_is m.0 spare w s.role s.seat.roles))) (record {
       origin = s.origin;
       role = record s.role { spare = spare };
       seat = record { opened = s.seat.opened; roles = refl; idle = refl; none = refl };

@@ -12,19 +12,19 @@ use Rattle.tau_rule.specs.Rule.{Rule, part_count, clerk_role, manager_role}
 use Rattle.tau_rule.specs.Boxes.{IsToPost}
 use Rattle.tau_rule.specs.Steps.{Sat, first_role, knew}
 use Rattle.tau_rule.specs.Stopping.{stop_word, raising}
-use Rattle.tau_rule.proofs.Gives.{one-origin}
+use Rattle.tau_rule.proofs.Gives.{one_origin}
 use Rattle.tau_rule.proofs.Stopping.{stops, looks_stop}
 use Rattle.tau_desk.specs.Shares.{IsWork, PlainStock, PlainWork}
 use Rattle.tau_desk.specs.Seats.{IsClerkSeat, IsHead, IsManagerSeat, IsWorkerSeat}
 use Rattle.tau_desk.specs.Manages.{told_found, told_raised}
 
-raised-is : (u : ℕ) (x : Role) (v : Knows) → v.roles ≡ (u, x) ∷ [] → raising u x v ≡ told_raised v
-raised-is u x v is = λ i. record v { roles = ((first_role (sym is i)).0, record (first_role (sym is i)).1 { raised = true }) ∷ [] }
+raised_is : (u : ℕ) (x : Role) (v : Knows) → v.roles ≡ (u, x) ∷ [] → raising u x v ≡ told_raised v
+raised_is u x v is = λ i. record v { roles = ((first_role (sym is i)).0, record (first_role (sym is i)).1 { raised = true }) ∷ [] }
 
 pub raises_as : (origin : Plain) (slots id u word : ℕ) (m : Sat) (x : Role) (knows : ℕ → Knows) → slots ≡ part_count origin.load → m.0.opened ≡ Some origin → m.0.roles ≡ (u, x) ∷ [] → u < origin.load.workers + origin.load.streams + 1 → word ≡ stop_word origin.load → knows ≡ (λ _. told_raised m.0)
     → Allows (Rule origin) slots id m word (λ _. 1) (λ _. knew knows (step slots word 1 0 none) m 1)
 raises_as origin slots id u word m x knows es opened roles low is told =
-    let same : (λ (n : ℕ). raising u x m.0) ≡ knows = ap (λ (v : Knows). λ (n : ℕ). v) (raised-is u x m.0 roles) ∙ sym told in
+    let same : (λ (n : ℕ). raising u x m.0) ≡ knows = ap (λ (v : Knows). λ (n : ℕ). v) (raised_is u x m.0 roles) ∙ sym told in
     subst (λ (z : (ℕ × ℕ) × (ℕ → Knows)). Allows (Rule origin) z.0.0 id m z.0.1 (λ _. 1) (λ _. knew z.1 (step z.0.0 z.0.1 1 0 none) m 1)) (λ i. ((sym es i, sym is i), same i))
     (stops origin id u m x (step (part_count origin.load) (stop_word origin.load) 1 0 none) opened roles low)
 
@@ -35,23 +35,23 @@ finds_as origin slots id word m knows es is told =
 
 -- the seats that raise it, or have looked, are those of their actors as before
 
-pub manager-role : (m : Sat) (j : ℕ) (o : PlainStock) (seen : List ℕ) (key : Plain) → IsManagerSeat m j o seen → m.0.opened ≡ Some key → (u : ℕ) × (x : Role) × (m.0.roles ≡ (u, x) ∷ []) × (u < key.load.workers + key.load.streams + 1)
-manager-role m j o seen key h opened =
-    let same = one-origin h.origin key (sym h.opened ∙ opened) in
+pub role_of_manager : (m : Sat) (j : ℕ) (o : PlainStock) (seen : List ℕ) (key : Plain) → IsManagerSeat m j o seen → m.0.opened ≡ Some key → (u : ℕ) × (x : Role) × (m.0.roles ≡ (u, x) ∷ []) × (u < key.load.workers + key.load.streams + 1)
+role_of_manager m j o seen key h opened =
+    let same = one_origin h.origin key (sym h.opened ∙ opened) in
     (manager_role h.origin.load j, h.role, h.roles, subst (λ (p : Plain). manager_role h.origin.load j < p.load.workers + p.load.streams + 1) same (let a = h.stock.there in omega (arith, a)))
 
-pub clerk-role : (m : Sat) (seen : List ℕ) (key : Plain) → IsClerkSeat m seen → m.0.opened ≡ Some key → (u : ℕ) × (x : Role) × (m.0.roles ≡ (u, x) ∷ []) × (u < key.load.workers + key.load.streams + 1)
-clerk-role m seen key h opened =
-    let same = one-origin h.origin key (sym h.opened ∙ opened) in
+pub role_of_clerk : (m : Sat) (seen : List ℕ) (key : Plain) → IsClerkSeat m seen → m.0.opened ≡ Some key → (u : ℕ) × (x : Role) × (m.0.roles ≡ (u, x) ∷ []) × (u < key.load.workers + key.load.streams + 1)
+role_of_clerk m seen key h opened =
+    let same = one_origin h.origin key (sym h.opened ∙ opened) in
     (clerk_role h.origin.load, h.role, h.roles, subst (λ (p : Plain). clerk_role h.origin.load < p.load.workers + p.load.streams + 1) same (omega arith))
 
-pub worker-role : (m : Sat) (w : ℕ) (o : PlainWork) (read : ℕ × List ℕ) (seen : List ℕ) (key : Plain) → IsWorkerSeat m w o read seen → m.0.opened ≡ Some key → (u : ℕ) × (x : Role) × (m.0.roles ≡ (u, x) ∷ []) × (u < key.load.workers + key.load.streams + 1)
-worker-role m w o read seen key h opened =
-    let same = one-origin h.origin key (sym h.seat.opened ∙ opened) in
+pub worker_role : (m : Sat) (w : ℕ) (o : PlainWork) (read : ℕ × List ℕ) (seen : List ℕ) (key : Plain) → IsWorkerSeat m w o read seen → m.0.opened ≡ Some key → (u : ℕ) × (x : Role) × (m.0.roles ≡ (u, x) ∷ []) × (u < key.load.workers + key.load.streams + 1)
+worker_role m w o read seen key h opened =
+    let same = one_origin h.origin key (sym h.seat.opened ∙ opened) in
     (w, h.role, h.seat.roles, subst (λ (p : Plain). w < p.load.workers + p.load.streams + 1) same (let a = h.work.there in omega (arith, a)))
 
-pub manager-raised : (m : Sat) (j : ℕ) (o : PlainStock) (seen : List ℕ) → IsManagerSeat m j o seen → IsManagerSeat (told_raised m.0, m.1) j o seen
-manager-raised m j o seen h = record {
+pub manager_raised : (m : Sat) (j : ℕ) (o : PlainStock) (seen : List ℕ) → IsManagerSeat m j o seen → IsManagerSeat (told_raised m.0, m.1) j o seen
+manager_raised m j o seen h = record {
   origin = h.origin;
   role = record h.role { raised = true };
   opened = h.opened;
@@ -63,11 +63,11 @@ manager-raised m j o seen h = record {
   seen_wide = h.seen_wide;
 }
 
-pub manager-found : (m : Sat) (j : ℕ) (o : PlainStock) (seen : List ℕ) (n : ℕ) → IsManagerSeat m j o seen → IsManagerSeat (told_found m.0 n, m.1) j o seen
-manager-found m j o seen n h = record { origin = h.origin; role = h.role; opened = h.opened; roles = h.roles; idle = h.idle; none = h.none; stock = h.stock; seen_is = h.seen_is; seen_wide = h.seen_wide }
+pub manager_found : (m : Sat) (j : ℕ) (o : PlainStock) (seen : List ℕ) (n : ℕ) → IsManagerSeat m j o seen → IsManagerSeat (told_found m.0 n, m.1) j o seen
+manager_found m j o seen n h = record { origin = h.origin; role = h.role; opened = h.opened; roles = h.roles; idle = h.idle; none = h.none; stock = h.stock; seen_is = h.seen_is; seen_wide = h.seen_wide }
 
-pub clerk-raised : (m : Sat) (seen : List ℕ) → IsClerkSeat m seen → IsClerkSeat (told_raised m.0, m.1) seen
-clerk-raised m seen h = record {
+pub clerk_raised : (m : Sat) (seen : List ℕ) → IsClerkSeat m seen → IsClerkSeat (told_raised m.0, m.1) seen
+clerk_raised m seen h = record {
   origin = h.origin;
   role = record h.role { raised = true };
   acked = h.acked;
@@ -81,11 +81,11 @@ clerk-raised m seen h = record {
   seen_wide = h.seen_wide;
 }
 
-pub clerk-found : (m : Sat) (seen : List ℕ) (n : ℕ) → IsClerkSeat m seen → IsClerkSeat (told_found m.0 n, m.1) seen
-clerk-found m seen n h = record { origin = h.origin; role = h.role; acked = h.acked; opened = h.opened; roles = h.roles; idle = h.idle; none = h.none; share = h.share; wide = h.wide; seen_is = h.seen_is; seen_wide = h.seen_wide }
+pub clerk_found : (m : Sat) (seen : List ℕ) (n : ℕ) → IsClerkSeat m seen → IsClerkSeat (told_found m.0 n, m.1) seen
+clerk_found m seen n h = record { origin = h.origin; role = h.role; acked = h.acked; opened = h.opened; roles = h.roles; idle = h.idle; none = h.none; share = h.share; wide = h.wide; seen_is = h.seen_is; seen_wide = h.seen_wide }
 
-post-on : (origin : Plain) (m m' : Sat) (t : PlainTxn) (start : ℕ) → m'.0.read ≡ m.0.read → IsToPost origin m t start → IsToPost origin m' t start
-post-on origin m m' t start same q = record {
+post_on : (origin : Plain) (m m' : Sat) (t : PlainTxn) (start : ℕ) → m'.0.read ≡ m.0.read → IsToPost origin m t start → IsToPost origin m' t start
+post_on origin m m' t start same q = record {
   hand = q.hand;
   act = q.act;
   base = q.base;
@@ -100,24 +100,24 @@ post-on origin m m' t start same q = record {
   spelled = q.spelled;
 }
 
-work-raised : (l : Load) (w : ℕ) (role : Role) (o : PlainWork) → IsWork l w role o → IsWork l w (record role { raised = true }) o
-work-raised l w role o h = record { worker = h.worker; share = h.share; there = h.there; shows = h.shows; fits = h.fits; spare = h.spare }
+work_raised : (l : Load) (w : ℕ) (role : Role) (o : PlainWork) → IsWork l w role o → IsWork l w (record role { raised = true }) o
+work_raised l w role o h = record { worker = h.worker; share = h.share; there = h.there; shows = h.shows; fits = h.fits; spare = h.spare }
 
-pub worker-raised : (m : Sat) (w : ℕ) (o : PlainWork) (read : ℕ × List ℕ) (seen : List ℕ) → IsWorkerSeat m w o read seen → IsWorkerSeat (told_raised m.0, m.1) w o read seen
-worker-raised m w o read seen h = record {
+pub worker_raised : (m : Sat) (w : ℕ) (o : PlainWork) (read : ℕ × List ℕ) (seen : List ℕ) → IsWorkerSeat m w o read seen → IsWorkerSeat (told_raised m.0, m.1) w o read seen
+worker_raised m w o read seen h = record {
   origin = h.origin;
   role = record h.role { raised = true };
   seat = record { opened = h.seat.opened; roles = λ i. ((first_role (h.seat.roles i)).0, record (first_role (h.seat.roles i)).1 { raised = true }) ∷ []; idle = h.seat.idle; none = h.seat.none };
-  work = work-raised h.origin.load w h.role o h.work;
+  work = work_raised h.origin.load w h.role o h.work;
   read_is = h.read_is;
   read_wide = h.read_wide;
   seen_is = h.seen_is;
   seen_wide = h.seen_wide;
-  posts = λ e. post-on h.origin m (told_raised m.0, m.1) o.txn o.start refl (h.posts e);
+  posts = λ e. post_on h.origin m (told_raised m.0, m.1) o.txn o.start refl (h.posts e);
 }
 
-pub worker-found : (m : Sat) (w : ℕ) (o : PlainWork) (read : ℕ × List ℕ) (seen : List ℕ) (n : ℕ) → IsWorkerSeat m w o read seen → IsWorkerSeat (told_found m.0 n, m.1) w o read seen
-worker-found m w o read seen n h = record {
+pub worker_found : (m : Sat) (w : ℕ) (o : PlainWork) (read : ℕ × List ℕ) (seen : List ℕ) (n : ℕ) → IsWorkerSeat m w o read seen → IsWorkerSeat (told_found m.0 n, m.1) w o read seen
+worker_found m w o read seen n h = record {
   origin = h.origin;
   role = h.role;
   seat = record { opened = h.seat.opened; roles = h.seat.roles; idle = h.seat.idle; none = h.seat.none };
@@ -126,11 +126,11 @@ worker-found m w o read seen n h = record {
   read_wide = h.read_wide;
   seen_is = h.seen_is;
   seen_wide = h.seen_wide;
-  posts = λ e. post-on h.origin m (told_found m.0 n, m.1) o.txn o.start refl (h.posts e);
+  posts = λ e. post_on h.origin m (told_found m.0 n, m.1) o.txn o.start refl (h.posts e);
 }
 
-pub head-found : (m : Sat) (workers : List (Option PlainWork)) (managers : List (Option PlainStock)) (clerk : Bool) (seen : List ℕ) (n : ℕ) → IsHead m workers managers clerk seen → IsHead (told_found m.0 n, m.1) workers managers clerk seen
-head-found m workers managers clerk seen n h = record {
+pub head_found : (m : Sat) (workers : List (Option PlainWork)) (managers : List (Option PlainStock)) (clerk : Bool) (seen : List ℕ) (n : ℕ) → IsHead m workers managers clerk seen → IsHead (told_found m.0 n, m.1) workers managers clerk seen
+head_found m workers managers clerk seen n h = record {
   origin = h.origin;
   opened = h.opened;
   idle = h.idle;

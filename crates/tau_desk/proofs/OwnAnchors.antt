@@ -5,21 +5,21 @@ use Rattle.std.proofs.Math.Path.{fun_ext}
 use Rattle.std.proofs.lemmas.Bool.{cases_eq}
 use Rattle.tau_base.specs.declared.limits.TheConstants.{MAX_LSN}
 use Rattle.tau_model.specs.History.{Member}
-use Rattle.tau_model.proofs.Orders.{member-front}
+use Rattle.tau_model.proofs.Orders.{member_front}
 use Rattle.tau_machine.specs.Shard.{at}
 use Rattle.tau_machine.specs.Pieces.{Chain}
 use Rattle.tau_machine.specs.State.{Item, Stream, past_of, start_of}
 use Rattle.tau_machine.specs.Events.{Gather, Leads}
-use Rattle.tau_machine.proofs.At.{at-same, at-other}
-use Rattle.tau_machine.proofs.Pieces.{chain-member}
+use Rattle.tau_machine.proofs.At.{at_same, at_other}
+use Rattle.tau_machine.proofs.Pieces.{chain_member}
 use Rattle.tau_outbox.specs.declared.Piece.{Piece}
 use Rattle.tau_outbox.specs.Gather.{Continues, Gathers}
 use Rattle.tau_outbox.specs.Pieces.{bytes_of}
 use Rattle.tau_core.specs.Pieces.{IsPieceOf, Names, Paired}
 use Rattle.tau_core.specs.State.{Plain}
 use Rattle.tau_core.specs.View.{setting_of}
-use Rattle.tau_core.proofs.GatheredItems.{own_moved, own-moved}
-use Rattle.tau_core.proofs.Spellings.{Split, chain-of, paired-append, paired-split}
+use Rattle.tau_core.proofs.GatheredItems.{own_moved, own_is_moved}
+use Rattle.tau_core.proofs.Spellings.{Split, chain_of, paired_append, paired_split}
 use Rattle.tau_shown.proofs.Steps.{gives_part}
 use Rattle.tau_rule.specs.Role.{Clerking, Managed, Managing, Role, Share, Working}
 use Rattle.tau_rule.specs.Knows.{Knows}
@@ -27,17 +27,18 @@ use Rattle.tau_rule.specs.Rule.{IsManaged, IsOutbox, IsPart, IsRole, IsShare, MA
 use Rattle.tau_rule.specs.Steps.{Agrees, ComesHome, Sat, handed, holding}
 use Rattle.tau_rule.specs.declared.part.Part.{Part}
 use Rattle.tau_rule.specs.declared.part.Part.TheVariants as part
-use Rattle.tau_rule.proofs.Turns.{Turn, alone, more, one-role, reached-invariant, reached-on, role-alone}
-use Rattle.tau_rule.proofs.Persisting.{small-gathered}
+use Rattle.tau_rule.proofs.Turns.{Turn, alone, more, one_role, reached_invariant, reached_on, role_alone}
+use Rattle.tau_rule.proofs.Persisting.{small_gathered}
 use Rattle.tau_desk.specs.Shares.{PlainStock}
 use Rattle.tau_desk.specs.Seats.{IsManagerSeat}
 use Rattle.tau_desk.specs.Manages.{GivesOwn, OnlyRoom, gone, managing, own_gathered, told_own}
-use Rattle.tau_desk.proofs.Taking.{At, gone-is, managed-is, managing-is}
+use Rattle.tau_desk.proofs.Taking.{At, gone_is, managed_is, managing_is}
+use Rattle.tau_rule.proofs.Gathering.{managing_sees}
 
 -- the state after a Gather of these of its own anchors' records by the manager of stream j
 module _ (origin : Plain) (c : Now) (j : ℕ) (taken left : List Piece) (g : Managed) (old : Role) (there : j < origin.load.streams) (front : g.own ≡ taken ++ left) (continues : Continues g.gathered taken) (meets : Meets origin c) (mine : IsManaged origin.load j g c.core) where
   split : Split (IsPieceOf origin.load (anchors_at c.core)) taken left (c.core.streams j).posted
-  split = paired-split (IsPieceOf origin.load (anchors_at c.core)) taken left (c.core.streams j).posted (subst (λ (z : List Piece). Paired (IsPieceOf origin.load (anchors_at c.core)) z (c.core.streams j).posted) front mine.own)
+  split = paired_split (IsPieceOf origin.load (anchors_at c.core)) taken left (c.core.streams j).posted (subst (λ (z : List Piece). Paired (IsPieceOf origin.load (anchors_at c.core)) z (c.core.streams j).posted) front mine.own)
 
   abbrev past : ℕ
   past = g.gathered + length (bytes_of taken)
@@ -52,49 +53,49 @@ module _ (origin : Plain) (c : Now) (j : ℕ) (taken left : List Piece) (g : Man
   managed_then = record { taken = g.taken ++ taken; gathered = past; anchors = g.anchors; own = left }
 
   here : own_now.core.streams j ≡ str_then
-  here = at-same j str_then c.core.streams
+  here = at_same j str_then c.core.streams
 
   same : anchors_at own_now.core ≡ anchors_at c.core
   same = fun_ext (λ i. elim (cases_eq i j) [
     | inl is ↦ subst (λ (k : ℕ). (at j str_then c.core.streams k).anchors ≡ (c.core.streams k).anchors) (sym is) (ap (λ (x : Stream). x.anchors) here)
-    | inr ne ↦ ap (λ (x : Stream). x.anchors) (at-other j str_then c.core.streams i ne)
+    | inr ne ↦ ap (λ (x : Stream). x.anchors) (at_other j str_then c.core.streams i ne)
   ])
 
   wide : j < length c.core.gathered
-  wide = (let count = (reached-invariant origin c.core meets.reached).agrees.good.count_gathered in omega (arith, count, there))
+  wide = (let count = (reached_invariant origin c.core meets.reached).agrees.good.count_gathered in omega (arith, count, there))
 
   rises : (i : Item) → Member i split.front → start_of i < past_of i
   rises i m =
-      let o = (reached-invariant origin c.core meets.reached).agrees.pieces.stream j there in
-      let among : Member i (c.core.streams j).posted = subst (λ (x : List Item). Member i x) (sym split.is) (member-front i split.front split.back m) in
-      (chain-member (slice_index c.core.gathered j) (slice_index c.core.ends j) o.waiting i o.rest (o.posted i (inr among))).1
+      let o = (reached_invariant origin c.core meets.reached).agrees.pieces.stream j there in
+      let among : Member i (c.core.streams j).posted = subst (λ (x : List Item). Member i x) (sym split.is) (member_front i split.front split.back m) in
+      (chain_member (slice_index c.core.gathered j) (slice_index c.core.ends j) o.waiting i o.rest (o.posted i (inr among))).1
 
-  own-leads : Leads (setting_of origin.load) (Gather j) c.core own_now.core []
-  own-leads = (
-    own-moved (setting_of origin.load) j there split.front split.back c.core past wide (meets.going j) split.is
-        (subst (λ (n : ℕ). Chain n split.front past) (sym mine.gathered) (chain-of origin.load (anchors_at c.core) g.gathered taken split.front continues split.fronts rises)),
+  own_leads : Leads (setting_of origin.load) (Gather j) c.core own_now.core []
+  own_leads = (
+    own_is_moved (setting_of origin.load) j there split.front split.back c.core past wide (meets.going j) split.is
+        (subst (λ (n : ℕ). Chain n split.front past) (sym mine.gathered) (chain_of origin.load (anchors_at c.core) g.gathered taken split.front continues split.fronts rises)),
     refl,
   )
 
-  own-managed : IsManaged origin.load j managed_then own_now.core
-  own-managed = record {
+  own_managed : IsManaged origin.load j managed_then own_now.core
+  own_managed = record {
     moved = subst (λ (z : (ℕ → List (List ℕ)) × List Item). Paired (IsPieceOf origin.load z.0) (g.taken ++ taken) z.1) (λ i. (sym same i, ap (λ (x : Stream). x.moved) (sym here) i))
-        (paired-append (IsPieceOf origin.load (anchors_at c.core)) g.taken taken (c.core.streams j).moved split.front mine.moved split.fronts);
+        (paired_append (IsPieceOf origin.load (anchors_at c.core)) g.taken taken (c.core.streams j).moved split.front mine.moved split.fronts);
     gathered = get_or-set_same c.core.gathered j past 0 wide;
     anchors = ap (λ (x : Stream). x.anchors) here ∙ mine.anchors;
     own = subst (λ (z : (ℕ → List (List ℕ)) × List Item). Paired (IsPieceOf origin.load z.0) left z.1) (λ i. (sym same i, ap (λ (x : Stream). x.posted) (sym here) i)) split.backs;
   }
 
-  parts-stay : (k : ℕ) (q : Part) → IsPart origin.load k q c → IsPart origin.load k q own_now
-  parts-stay k (part.Shard b) h = h
-  parts-stay k (part.Outbox a b) h = (h.0, h.1, h.2, subst (λ (z : ℕ → List (List ℕ)). IsOutbox origin.load a.value b.value z (c.core.outboxes h.0)) (sym same) h.3, h.4, h.5)
-  parts-stay k (part.Anchor number lv) h = (h.0, h.1, h.2, subst (λ (z : ℕ → List (List ℕ)). Names origin.load h.0 (z h.0) number lv.value) (sym same) h.3, h.4)
+  parts_stay : (k : ℕ) (q : Part) → IsPart origin.load k q c → IsPart origin.load k q own_now
+  parts_stay k (part.Shard b) h = h
+  parts_stay k (part.Outbox a b) h = (h.0, h.1, h.2, subst (λ (z : ℕ → List (List ℕ)). IsOutbox origin.load a.value b.value z (c.core.outboxes h.0)) (sym same) h.3, h.4, h.5)
+  parts_stay k (part.Anchor number lv) h = (h.0, h.1, h.2, subst (λ (z : ℕ → List (List ℕ)). Names origin.load h.0 (z h.0) number lv.value) (sym same) h.3, h.4)
 
-  shares-stay : (u : ℕ) (x : Share) → (u ≡ manager_role origin.load j → ⊥) → IsShare origin.load u x c.core → IsShare origin.load u x own_now.core
-  shares-stay u (Working x) apart h = h
-  shares-stay u (Managing m) apart h =
+  shares_stay : (u : ℕ) (x : Share) → (u ≡ manager_role origin.load j → ⊥) → IsShare origin.load u x c.core → IsShare origin.load u x own_now.core
+  shares_stay u (Working x) apart h = h
+  shares_stay u (Managing m) apart h =
       let other : h.0 ≡ j → ⊥ = (λ e. apart (h.1 ∙ ap (manager_role origin.load) e)) in
-      let at' = at-other j str_then c.core.streams h.0 other in (
+      let at' = at_other j str_then c.core.streams h.0 other in (
         h.0,
         h.1,
         h.2,
@@ -105,10 +106,10 @@ module _ (origin : Plain) (c : Now) (j : ℕ) (taken left : List Piece) (g : Man
           own = subst (λ (z : (ℕ → List (List ℕ)) × List Item). Paired (IsPieceOf origin.load z.0) m.own z.1) (λ i. (sym same i, ap (λ (x : Stream). x.posted) (sym at') i)) h.3.own;
         },
       )
-  shares-stay u (Clerking acked) apart h = h
+  shares_stay u (Clerking acked) apart h = h
 
-  own-sees : (v : Knows) → Sees origin c v → Sees origin own_now v
-  own-sees v h = record {
+  own_sees : (v : Knows) → Sees origin c v → Sees origin own_now v
+  own_sees v h = record {
     opened = h.opened;
     wide = h.wide;
     low = h.low;
@@ -117,21 +118,21 @@ module _ (origin : Plain) (c : Now) (j : ℕ) (taken left : List Piece) (g : Man
     found = h.found;
   }
 
-  no-stop : (i : ℕ) → (own_now.core.streams i).stop ≡ None
-  no-stop i = elim (cases_eq i j) [
+  no_stop : (i : ℕ) → (own_now.core.streams i).stop ≡ None
+  no_stop i = elim (cases_eq i j) [
     | inl e ↦ subst (λ (k : ℕ). (at j str_then c.core.streams k).stop ≡ None) (sym e) (ap (λ (x : Stream). x.stop) here ∙ meets.going j)
-    | inr ne ↦ ap (λ (x : Stream). x.stop) (at-other j str_then c.core.streams i ne) ∙ meets.going i
+    | inr ne ↦ ap (λ (x : Stream). x.stop) (at_other j str_then c.core.streams i ne) ∙ meets.going i
   ]
 
-  fits-on : (i : ℕ) → i < origin.load.streams → slice_index c.core.ends i ≤ slice_index origin.load.opening.ends i + LONGEST * length (meets.reached.joined ++ []) + MAX_ANCHOR * length (anchors_at own_now.core i)
-  fits-on i lt = subst (λ (z : ℕ → List (List ℕ)). slice_index c.core.ends i ≤ slice_index origin.load.opening.ends i + LONGEST * length (meets.reached.joined ++ []) + MAX_ANCHOR * length (z i)) (sym same)
+  fits_on : (i : ℕ) → i < origin.load.streams → slice_index c.core.ends i ≤ slice_index origin.load.opening.ends i + LONGEST * length (meets.reached.joined ++ []) + MAX_ANCHOR * length (anchors_at own_now.core i)
+  fits_on i lt = subst (λ (z : ℕ → List (List ℕ)). slice_index c.core.ends i ≤ slice_index origin.load.opening.ends i + LONGEST * length (meets.reached.joined ++ []) + MAX_ANCHOR * length (z i)) (sym same)
       (more _ _ (length meets.reached.joined) (length (meets.reached.joined ++ [])) _ (meets.fits i lt) (let a = length-append meets.reached.joined [] in omega arith))
 
-  own-kept : Meets origin own_now
-  own-kept = record {
-    reached = reached-on origin (Gather j) c.core own_now.core [] meets.reached own-leads;
-    going = no-stop;
-    fits = fits-on;
+  own_kept : Meets origin own_now
+  own_kept = record {
+    reached = reached_on origin (Gather j) c.core own_now.core [] meets.reached own_leads;
+    going = no_stop;
+    fits = fits_on;
     anchors = subst (λ (z : ℕ → List (List ℕ)). (i : ℕ) → i < origin.load.streams → length (z i) < 2 ^ 32) (sym same) meets.anchors;
     opened = meets.opened;
     limited = meets.limited;
@@ -141,34 +142,23 @@ module _ (origin : Plain) (c : Now) (j : ℕ) (taken left : List Piece) (g : Man
   }
 
   -- the gathered end does not wrap
-  own-past-small : past < 2 ^ 62
-  own-past-small =
-      let h = small-gathered origin own_now own-kept j there in
-      let is = own-managed.gathered in
+  own_past_small : past < 2 ^ 62
+  own_past_small =
+      let h = small_gathered origin own_now own_kept j there in
+      let is = own_managed.gathered in
       omega (arith, h, is)
 
-  own-turn : (k : ℕ) → c.raised (manager_role origin.load j) ≡ old.raised → c.spare (manager_role origin.load j) ≡ old.spare → Turn origin c own_now k (manager_role origin.load j) (record old { share = Managing managed_then })
-  own-turn k raised spare = record {
-    parts = λ i q lt apart h. parts-stay i q h;
-    mine = ((j, refl, there, own-managed), raised, spare);
-    others = λ u x apart h. (shares-stay u x.share apart h.0, h.1, h.2);
-    sight = λ v lacks h. own-sees v h;
-    kept = own-kept;
+  own_turn : (k : ℕ) → c.raised (manager_role origin.load j) ≡ old.raised → c.spare (manager_role origin.load j) ≡ old.spare → Turn origin c own_now k (manager_role origin.load j) (record old { share = Managing managed_then })
+  own_turn k raised spare = record {
+    parts = λ i q lt apart h. parts_stay i q h;
+    mine = ((j, refl, there, own_managed), raised, spare);
+    others = λ u x apart h. (shares_stay u x.share apart h.0, h.1, h.2);
+    sight = λ v lacks h. own_sees v h;
+    kept = own_kept;
   }
 
--- a manager's seat, with another share of its own
-pub managing-sees : (origin : Plain) (c : Now) (v : Knows) (j : ℕ) (x y : Role) → j < origin.load.streams → has (manager_role origin.load j) v ≡ Some x → Sees origin c v → Sees origin c (handed v (manager_role origin.load j) y)
-managing-sees origin c v j x y there is h = record {
-  opened = λ u r e. h.opened (manager_role origin.load j) x is;
-  wide = λ u r e. h.wide (manager_role origin.load j) x is;
-  low = h.low;
-  own = λ i r lt e. let same = alone (manager_role origin.load j) y (manager_role origin.load i) r e in h.own i x lt (ap (λ (n : ℕ). has n v) same ∙ is);
-  read = λ w r lt e. absurd (let a = alone (manager_role origin.load j) y w r e in omega (arith, a, lt));
-  found = h.found;
-}
-
-pub share-managed : (origin : Plain) (j : ℕ) (x : Share) (g : Managed) (c : Now) → x ≡ Managing g → IsShare origin.load (manager_role origin.load j) x c.core → IsManaged origin.load j g c.core
-share-managed origin j x g c is h =
+pub share_managed : (origin : Plain) (j : ℕ) (x : Share) (g : Managed) (c : Now) → x ≡ Managing g → IsShare origin.load (manager_role origin.load j) x c.core → IsManaged origin.load j g c.core
+share_managed origin j x g c is h =
     let it = subst (λ (y : Share). IsShare origin.load (manager_role origin.load j) y c.core) is h in
     subst (λ (i : ℕ). IsManaged origin.load i g c.core) (let e = it.1 in omega (arith, e)) it.3
 
@@ -179,35 +169,35 @@ gives_own origin id m j taken left g =
     let v : Knows = m.0 in
     let u : ℕ = manager_role origin.load j in
     let y : Role = record g.role { share = Managing (record { taken = g.managed.taken ++ taken; gathered = g.managed.gathered + length (bytes_of taken); anchors = g.managed.anchors; own = left }) } in
-    gives_part (IsPart origin.load) (IsRole origin.load) (word_of origin.load) hand_of has (Sees origin) (Meets origin) (part_count origin.load) (origin.load.streams + origin.load.streams + 1) id (anchor_part origin.load j) v (handed v u y) g.part_taken g.part_taken u g.role y g.held (one-role v u g.role g.roles) refl
-    (role-alone u y) (λ a z h. alone u y a z h)
+    gives_part (IsPart origin.load) (IsRole origin.load) (word_of origin.load) hand_of has (Sees origin) (Meets origin) (part_count origin.load) (origin.load.streams + origin.load.streams + 1) id (anchor_part origin.load j) v (handed v u y) g.part_taken g.part_taken u g.role y g.held (one_role v u g.role g.roles) refl
+    (role_alone u y) (λ a z h. alone u y a z h)
     (λ c meets part mine seen.
-    let mine' = share-managed origin j g.role.share g.managed c g.share mine.0 in
+    let mine' = share_managed origin j g.role.share g.managed c g.share mine.0 in
     let c' : Now = own_now origin c j taken left g.managed g.role g.there g.front g.continues meets mine' in (
       c',
-      own-turn origin c j taken left g.managed g.role g.there g.front g.continues meets mine' (anchor_part origin.load j) mine.1 mine.2,
-      parts-stay origin c j taken left g.managed g.role g.there g.front g.continues meets mine' (anchor_part origin.load j) g.part_taken part,
-      managing-sees origin c' v j g.role y g.there (one-role v u g.role g.roles) (own-sees origin c j taken left g.managed g.role g.there g.front g.continues meets mine' v seen),
+      own_turn origin c j taken left g.managed g.role g.there g.front g.continues meets mine' (anchor_part origin.load j) mine.1 mine.2,
+      parts_stay origin c j taken left g.managed g.role g.there g.front g.continues meets mine' (anchor_part origin.load j) g.part_taken part,
+      managing_sees origin c' v j g.role y g.there (one_role v u g.role g.roles) (own_sees origin c j taken left g.managed g.role g.there g.front g.continues meets mine' v seen),
       (λ i low. refl),
     ))
     (λ found z. z ≡ (handed v u y, []))
     (λ z. refl)
 
-pub own-is : (g : Managed) (taken left : List Piece) → g.own ≡ taken ++ left → own_gathered g left ≡ record { taken = g.taken ++ taken; gathered = g.gathered + length (bytes_of taken); anchors = g.anchors; own = left }
-own-is g taken left front =
-    let is : gone g.own left ≡ taken = ap (λ (ps : List Piece). gone ps left) front ∙ gone-is taken left in
+pub own_is : (g : Managed) (taken left : List Piece) → g.own ≡ taken ++ left → own_gathered g left ≡ record { taken = g.taken ++ taken; gathered = g.gathered + length (bytes_of taken); anchors = g.anchors; own = left }
+own_is g taken left front =
+    let is : gone g.own left ≡ taken = ap (λ (ps : List Piece). gone ps left) front ∙ gone_is taken left in
     λ i. record { taken = g.taken ++ is i; gathered = g.gathered + length (bytes_of (is i)); anchors = g.anchors; own = left }
 
-pub told_own-is : (origin : Plain) (m : Sat) (j : ℕ) (taken left : List Piece) (g : GivesOwn origin m j taken left) →
+pub told_own_is : (origin : Plain) (m : Sat) (j : ℕ) (taken left : List Piece) (g : GivesOwn origin m j taken left) →
     told_own m.0 left ≡ handed m.0 (manager_role origin.load j) (record g.role { share = Managing (record { taken = g.managed.taken ++ taken; gathered = g.managed.gathered + length (bytes_of taken); anchors = g.managed.anchors; own = left }) })
-told_own-is origin m j taken left g =
-    ap (managing m.0) (ap (λ (x : Managed). own_gathered x left) (managed-is m.0 (manager_role origin.load j) g.role g.managed g.roles g.share) ∙ own-is g.managed taken left g.front)
-    ∙ managing-is m.0 (manager_role origin.load j) g.role _ g.roles
+told_own_is origin m j taken left g =
+    ap (managing m.0) (ap (λ (x : Managed). own_gathered x left) (managed_is m.0 (manager_role origin.load j) g.role g.managed g.roles g.share) ∙ own_is g.managed taken left g.front)
+    ∙ managing_is m.0 (manager_role origin.load j) g.role _ g.roles
 
 -- what the manager gives home after a Gather of its own anchors' records
-pub own-gives : (key : Plain) (m m' : Sat) (j k : ℕ) (o : PlainStock) (h : At key m j o) (p : Part) (left : List Piece) (body longer : List ℕ) (past : ℕ) → k ≡ anchor_part key.load j → m' ≡ (holding k m.0 p, (k, None) ∷ []) → (g : Gathers o.gathered o.own.pieces left body longer past) →
+pub own_gives : (key : Plain) (m m' : Sat) (j k : ℕ) (o : PlainStock) (h : At key m j o) (p : Part) (left : List Piece) (body longer : List ℕ) (past : ℕ) → k ≡ anchor_part key.load j → m' ≡ (holding k m.0 p, (k, None) ∷ []) → (g : Gathers o.gathered o.own.pieces left body longer past) →
     (e : GivesOwn key m' j g.taken left) × (e.part_taken ≡ p)
-own-gives key m m' j k o h p left body longer upto number is g =
+own_gives key m m' j k o h p left body longer upto number is g =
     let s = h.stock in (
       record {
         part_taken = p;
@@ -226,26 +216,26 @@ own-gives key m m' j k o h p left body longer upto number is g =
     )
 
 -- the gathered end does not wrap
-pub own-small : (key : Plain) (m : Sat) (j k : ℕ) (o : PlainStock) (h : At key m j o) (p : Part) (left : List Piece) (body longer : List ℕ) (past : ℕ) → Agrees key m.0 k p → Gathers o.gathered o.own.pieces left body longer past → past < MAX_LSN
-own-small key m j k o h p left body longer upto a g =
+pub own_small : (key : Plain) (m : Sat) (j k : ℕ) (o : PlainStock) (h : At key m j o) (p : Part) (left : List Piece) (body longer : List ℕ) (past : ℕ) → Agrees key m.0 k p → Gathers o.gathered o.own.pieces left body longer past → past < MAX_LSN
+own_small key m j k o h p left body longer upto a g =
     let s = h.stock in
     let u : ℕ = manager_role key.load j in
-    let mine = a.roles u h.role (one-role m.0 u h.role h.roles) in
-    let managed = share-managed key j h.role.share s.managed a.state s.share mine.0 in
-    let low = own-past-small key a.state j g.taken left s.managed h.role s.there (s.own ∙ g.front) (subst (λ (n : ℕ). Continues n g.taken) (sym s.gathered) g.continues) a.meets managed in
+    let mine = a.roles u h.role (one_role m.0 u h.role h.roles) in
+    let managed = share_managed key j h.role.share s.managed a.state s.share mine.0 in
+    let low = own_past_small key a.state j g.taken left s.managed h.role s.there (s.own ∙ g.front) (subst (λ (n : ℕ). Continues n g.taken) (sym s.gathered) g.continues) a.meets managed in
     let is = s.gathered in
     let end = g.past in
     omega (arith, low, is, end)
 
-pub seat-own : (m : Sat) (j : ℕ) (o o' : PlainStock) (seen body longer : List ℕ) → IsManagerSeat m j o seen → Gathers o.gathered o.own.pieces o'.own.pieces body longer o'.gathered → o'.anchors ≡ o.anchors → o'.gathered < MAX_LSN → IsManagerSeat (told_own m.0 o'.own.pieces, []) j o' seen
-seat-own m j o o' seen body longer h g anchors small =
+pub seat_own : (m : Sat) (j : ℕ) (o o' : PlainStock) (seen body longer : List ℕ) → IsManagerSeat m j o seen → Gathers o.gathered o.own.pieces o'.own.pieces body longer o'.gathered → o'.anchors ≡ o.anchors → o'.gathered < MAX_LSN → IsManagerSeat (told_own m.0 o'.own.pieces, []) j o' seen
+seat_own m j o o' seen body longer h g anchors small =
     let s = h.stock in
     let u : ℕ = manager_role h.origin.load j in
     let then : Managed = record { taken = s.managed.taken ++ g.taken; gathered = s.managed.gathered + length (bytes_of g.taken); anchors = s.managed.anchors; own = o'.own.pieces } in
     let y : Role = record h.role { share = Managing then } in
     let knows : told_own m.0 o'.own.pieces ≡ handed m.0 u y =
-    ap (managing m.0) (ap (λ (x : Managed). own_gathered x o'.own.pieces) (managed-is m.0 u h.role s.managed h.roles s.share) ∙ own-is s.managed g.taken o'.own.pieces (s.own ∙ g.front))
-    ∙ managing-is m.0 u h.role then h.roles in
+    ap (managing m.0) (ap (λ (x : Managed). own_gathered x o'.own.pieces) (managed_is m.0 u h.role s.managed h.roles s.share) ∙ own_is s.managed g.taken o'.own.pieces (s.own ∙ g.front))
+    ∙ managing_is m.0 u h.role then h.roles in
     subst (λ (v : Knows). IsManagerSeat (v, []) j o' seen) (sym knows) (record {
       origin = h.origin;
       role = y;
@@ -268,8 +258,8 @@ seat-own m j o o' seen body longer h g anchors small =
     })
 
 -- more room is no change
-pub seat-roomier : (m : Sat) (j : ℕ) (o o' : PlainStock) (seen : List ℕ) → IsManagerSeat m j o seen → OnlyRoom o o' → IsManagerSeat m j o' seen
-seat-roomier m j o o' seen h r = record {
+pub seat_roomier : (m : Sat) (j : ℕ) (o o' : PlainStock) (seen : List ℕ) → IsManagerSeat m j o seen → OnlyRoom o o' → IsManagerSeat m j o' seen
+seat_roomier m j o o' seen h r = record {
   origin = h.origin;
   role = h.role;
   opened = h.opened;

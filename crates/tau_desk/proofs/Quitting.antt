@@ -18,44 +18,41 @@ use Rattle.tau_txn.specs.declared.action.Action.TheVariants as action
 use Rattle.tau_txn.specs.declared.action.ActionKind.TheVariants as kind
 use Rattle.tau_txn.specs.Narrow.{quit_at}
 use Rattle.tau_txn.specs.Next.{kind_of}
+use Rattle.tau_base.proofs.Logic.{or_true}
 
 -- an action that asks for no such thing is not a key to give back
-pub no-quit : (a : Action) (o : Option Key) → o ≡ quit_at a → ((l : Key) → o ≡ Some l → ⊥) → kind_of a ≡ kind.Quit → ⊥
-no-quit (action.Lock x m) o asked none e = cc
-no-quit (action.Quit x) o asked none e = none x asked
-no-quit (action.Commit size) o asked none e = cc
-no-quit action.Post o asked none e = cc
-no-quit (action.Free x write) o asked none e = cc
-no-quit (action.Done reply lv) o asked none e = cc
-no-quit action.LeftOver o asked none e = cc
-no-quit action.Nothing o asked none e = cc
+pub no_quit : (a : Action) (o : Option Key) → o ≡ quit_at a → ((l : Key) → o ≡ Some l → ⊥) → kind_of a ≡ kind.Quit → ⊥
+no_quit (action.Lock x m) o asked none e = cc
+no_quit (action.Quit x) o asked none e = none x asked
+no_quit (action.Commit size) o asked none e = cc
+no_quit action.Post o asked none e = cc
+no_quit (action.Free x write) o asked none e = cc
+no_quit (action.Done reply lv) o asked none e = cc
+no_quit action.LeftOver o asked none e = cc
+no_quit action.Nothing o asked none e = cc
 
 -- a call that holds a key is in hand already
-pub was-holding : (n : ℕ) (wk : Worker) (h : Hand) (x : Key) (mode : Mode) → (begun n wk).hand ≡ Some h → mode_of x h.held ≡ Some mode → (wk.hand ≡ Some h) × (begun n wk ≡ wk)
-was-holding n wk h x mode e holds = by_case wk.hand wk.waiting refl refl
+pub was_holding : (n : ℕ) (wk : Worker) (h : Hand) (x : Key) (mode : Mode) → (begun n wk).hand ≡ Some h → mode_of x h.held ≡ Some mode → (wk.hand ≡ Some h) × (begun n wk ≡ wk)
+was_holding n wk h x mode e holds = by_case wk.hand wk.waiting refl refl
   where
-    not-fresh : (c : Numbered) → Some (fresh n c 0) ≡ Some h → ⊥
-    not-fresh c f = (let g : fresh n c 0 ≡ h = cc in let bad : None ≡ Some mode = ap (λ (y : Hand). mode_of x y.held) g ∙ holds in cc)
+    not_fresh : (c : Numbered) → Some (fresh n c 0) ≡ Some h → ⊥
+    not_fresh c f = (let g : fresh n c 0 ≡ h = cc in let bad : None ≡ Some mode = ap (λ (y : Hand). mode_of x y.held) g ∙ holds in cc)
 
     by_case : (o : Option Hand) (cs : List Numbered) → wk.hand ≡ o → wk.waiting ≡ cs → (wk.hand ≡ Some h) × (begun n wk ≡ wk)
     by_case (Some y) cs a b = (let same : begun n wk ≡ wk = ap (λ (o : Option Hand). begun_by n wk o wk.waiting) a in (ap (λ (z : Worker). z.hand) (sym same) ∙ e, same))
     by_case None [] a b = (let same : begun n wk ≡ wk = (λ i. begun_by n wk (a i) (b i)) in (ap (λ (z : Worker). z.hand) (sym same) ∙ e, same))
-    by_case None (c ∷ cs) a b = absurd (not-fresh c (sym (λ i. (begun_by n wk (a i) (b i)).hand) ∙ e))
+    by_case None (c ∷ cs) a b = absurd (not_fresh c (sym (λ i. (begun_by n wk (a i) (b i)).hand) ∙ e))
 
-or-true : (a b : Bool) → b ≡ true → (a || b) ≡ true
-or-true true b e = refl
-or-true false b e = e
-
-pub quit-steps : (origin : Plain) (w k : ℕ) (wk : Worker) (sh sh' : Shard) (t t' : PlainTxn) (key : Key) (q : txn.Quits origin.load.procs t key) → wk.hand ≡ Some q.hand → begun origin.load.streams wk ≡ wk → k ≡ shard_number key → t.width ≡ origin.load.streams →
+pub quit_steps : (origin : Plain) (w k : ℕ) (wk : Worker) (sh sh' : Shard) (t t' : PlainTxn) (key : Key) (q : txn.Quits origin.load.procs t key) → wk.hand ≡ Some q.hand → begun origin.load.streams wk ≡ wk → k ≡ shard_number key → t.width ≡ origin.load.streams →
     sh' ≡ shard_quit sh w key → ((x : Worker) → worker_of origin.load.procs x t' ≡ settled t.width x (hand_quit q.hand key (leaves_in t))) → StepsShard origin (Quit w (leaves_in t)) w wk (next_worker origin.load wk t') k sh sh'
-quit-steps origin w k wk sh sh' t t' key q is same number width shard settles s r at_worker at_shard =
+quit_steps origin w k wk sh sh' t t' key q is same number width shard settles s r at_worker at_shard =
     let up : Bool = leaves_in t in
     let here : sh ≡ s.shards (shard_number key) = sym at_shard ∙ ap s.shards number in
     let worker : next_worker origin.load wk t' ≡ settled origin.load.streams wk (hand_quit q.hand key up) =
     ap (λ (x : Worker). worker_of origin.load.procs x t') same ∙ settles wk ∙ ap (λ (n : ℕ). settled n wk (hand_quit q.hand key up)) width in
     let phase : (q.hand.phase ≡ Quitting) ⊎ ((q.hand.phase ≡ Running) × ((q.hand.given_up || up) ≡ true)) = elim q.phase [
       | inl a ↦ inl a
-      | inr b ↦ inr (b.0, or-true q.hand.given_up up b.1)
+      | inr b ↦ inr (b.0, or_true q.hand.given_up up b.1)
     ] in (
       [],
       (

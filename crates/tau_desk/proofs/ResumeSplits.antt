@@ -12,7 +12,6 @@ use Rattle.tau_core.specs.declared.state.Load.{Load}
 use Rattle.tau_core.specs.State.{Plain}
 use Rattle.tau_core.specs.View.{again_in, all_numbered, call_of, every, from_on, numbered, numbered_by}
 use Rattle.tau_core.specs.Stands.{AreNumbers, IsNumber}
-use Rattle.tau_core.proofs.Lists.{some-at}
 use Rattle.tau_rule.specs.Heads.{resumed, role_or, split_as}
 use Rattle.tau_rule.specs.Role.{Role, Share, Working}
 use Rattle.tau_rule.specs.Steps.{worker_in_share}
@@ -21,8 +20,10 @@ use Rattle.tau_desk.specs.declared.resumes.LeftOver.{LeftOver}
 use Rattle.tau_desk.specs.Resumes.{CanGoOn, Rests, RestsWork, ResumesAt, left_in, resumed_at, told_resumed}
 use Rattle.tau_desk.specs.Seats.{HasWork, IsWorkerSeat, PlainHead}
 use Rattle.tau_desk.specs.Shares.{PlainWork, ShowsWorker, own_worker}
-use Rattle.tau_desk.proofs.Assembling.{same-inside}
+use Rattle.tau_desk.proofs.Assembling.{same_inside}
 use Rattle.tau_desk.proofs.CloseHead.{HeadAt}
+use Rattle.tau_core.proofs.LeftBack.{numbered_first, numbered_at, number_got}
+use Rattle.tau_base.proofs.Lists.{some_at}
 
 -- one of the numbers, among their calls
 record SplitsAt (calls : List Call) (left : List ℕ) (i n : ℕ) : Type 0 where
@@ -35,9 +36,9 @@ record SplitsAt (calls : List Call) (left : List ℕ) (i n : ℕ) : Type 0 where
   whole : all_numbered calls left ≡ front ++ call ∷ back
   rest : all_numbered calls (remove left i) ≡ front ++ back
 
-splits-at : (l : Load) (left : List ℕ) (i n : ℕ) → AreNumbers l left → slice_get left i ≡ Some n → SplitsAt l.calls left i n
-splits-at l [] i n a e = absurd (let bad : None ≡ Some n = e in cc)
-splits-at l (m ∷ ms) zero n a e =
+splits_at : (l : Load) (left : List ℕ) (i n : ℕ) → AreNumbers l left → slice_get left i ≡ Some n → SplitsAt l.calls left i n
+splits_at l [] i n a e = absurd (let bad : None ≡ Some n = e in cc)
+splits_at l (m ∷ ms) zero n a e =
     let same : m ≡ n = cc in
     let call : Numbered = record { number = m; call = a.0.0 } in
     let one : numbered l.calls m ≡ call ∷ [] = ap (numbered_by m) a.0.1 in
@@ -51,8 +52,8 @@ splits-at l (m ∷ ms) zero n a e =
       whole = ap (λ (c : List Numbered). c ++ all_numbered l.calls ms) one;
       rest = refl;
     }
-splits-at l (m ∷ ms) (suc i) n a e =
-    let r = splits-at l ms i n a.1 e in
+splits_at l (m ∷ ms) (suc i) n a e =
+    let r = splits_at l ms i n a.1 e in
     let call : Numbered = record { number = m; call = a.0.0 } in
     let one : numbered l.calls m ≡ call ∷ [] = ap (numbered_by m) a.0.1 in
     record {
@@ -66,72 +67,56 @@ splits-at l (m ∷ ms) (suc i) n a e =
       rest = ap (λ (x : List Numbered × List Numbered). x.0 ++ x.1) (λ j. (one j, r.rest j));
     }
 
--- a call among those of these numbers has one of them
-numbered-first : (m : ℕ) (ms : List ℕ) (rest : List Numbered) (c : Numbered) → (Member c rest → (i : ℕ) × (slice_get ms i ≡ Some c.number)) → (o : Option Call) → Member c (numbered_by m o ++ rest) →
-    (i : ℕ) × (slice_get (m ∷ ms) i ≡ Some c.number)
-numbered-first m ms rest c later None f = (let r = later f in (suc r.0, r.1))
-numbered-first m ms rest c later (Some x) (inl is) = (0, ap (λ (y : Numbered). Some y.number) is)
-numbered-first m ms rest c later (Some x) (inr f) = (let r = later f in (suc r.0, r.1))
-
-numbered-at : (calls : List Call) (ns : List ℕ) (c : Numbered) → Member c (all_numbered calls ns) → (i : ℕ) × (slice_get ns i ≡ Some c.number)
-numbered-at calls [] c e = absurd e
-numbered-at calls (m ∷ ms) c e = numbered-first m ms (all_numbered calls ms) c (λ f. numbered-at calls ms c f) (call_of calls m) e
-
 -- the numbers that are left
-numbers-less : (l : Load) (left : List ℕ) (i : ℕ) → AreNumbers l left → AreNumbers l (remove left i)
-numbers-less l [] i a = none i
+numbers_less : (l : Load) (left : List ℕ) (i : ℕ) → AreNumbers l left → AreNumbers l (remove left i)
+numbers_less l [] i a = none i
   where
     none : (k : ℕ) → AreNumbers l (remove [] k)
     none zero = tt
     none (suc k) = tt
-numbers-less l (m ∷ ms) zero a = a.1
-numbers-less l (m ∷ ms) (suc i) a = (a.0, numbers-less l ms i a.1)
-
-number-got : (l : Load) (left : List ℕ) (i n : ℕ) → AreNumbers l left → slice_get left i ≡ Some n → IsNumber l n
-number-got l [] i n a e = absurd (let bad : None ≡ Some n = e in cc)
-number-got l (m ∷ ms) zero n a e = (let same : m ≡ n = cc in subst (λ (k : ℕ). IsNumber l k) same a.0)
-number-got l (m ∷ ms) (suc i) n a e = number-got l ms i n a.1 e
+numbers_less l (m ∷ ms) zero a = a.1
+numbers_less l (m ∷ ms) (suc i) a = (a.0, numbers_less l ms i a.1)
 
 -- the element at a place, and the others
 middle : {A : Type 0} (front back : List A) (x : A) → take 1 (drop (length front) (front ++ x ∷ back)) ≡ x ∷ []
 middle [] back x = refl
 middle (y ∷ front) back x = middle front back x
 
-without-middle : {A : Type 0} (front back : List A) (x : A) → remove (front ++ x ∷ back) (length front) ≡ front ++ back
-without-middle [] back x = refl
-without-middle (y ∷ front) back x = ap (λ l. y ∷ l) (without-middle front back x)
+without_middle : {A : Type 0} (front back : List A) (x : A) → remove (front ++ x ∷ back) (length front) ≡ front ++ back
+without_middle [] back x = refl
+without_middle (y ∷ front) back x = ap (λ l. y ∷ l) (without_middle front back x)
 
-drop-past : {A : Type 0} (xs : List A) (k : ℕ) → length xs ≤ k → drop k xs ≡ []
-drop-past [] zero le = refl
-drop-past [] (suc k) le = refl
-drop-past {A} (x ∷ xs) zero le = absurd (omega (arith, le))
-drop-past (x ∷ xs) (suc k) le = drop-past xs k (omega (arith, le))
+drop_past : {A : Type 0} (xs : List A) (k : ℕ) → length xs ≤ k → drop k xs ≡ []
+drop_past [] zero le = refl
+drop_past [] (suc k) le = refl
+drop_past {A} (x ∷ xs) zero le = absurd (omega (arith, le))
+drop_past (x ∷ xs) (suc k) le = drop_past xs k (omega (arith, le))
 
 -- there are no calls after the last one
-none-on : (l : Load) (n : ℕ) → length l.calls < n → from_on l.calls l.workers n ≡ []
-none-on l n past = ap (every l.workers 0 n) (drop-past l.calls (n - 1) (omega (arith, past)))
+none_on : (l : Load) (n : ℕ) → length l.calls < n → from_on l.calls l.workers n ≡ []
+none_on l n past = ap (every l.workers 0 n) (drop_past l.calls (n - 1) (omega (arith, past)))
 
 -- what a worker is that rests
-rest-is : (l : Load) (wk : Worker) (o : PlainWork) → ShowsWorker l wk o o.mark → RestsWork (length l.calls) o → wk ≡ own_worker l o
-rest-is l wk o shows rest = subst (λ (m : Option Mark). ShowsWorker l wk o m) rest.begun shows
+rest_is : (l : Load) (wk : Worker) (o : PlainWork) → ShowsWorker l wk o o.mark → RestsWork (length l.calls) o → wk ≡ own_worker l o
+rest_is l wk o shows rest = subst (λ (m : Option Mark). ShowsWorker l wk o m) rest.begun shows
 
-rest-hand : (l : Load) (wk : Worker) (o : PlainWork) → wk ≡ own_worker l o → RestsWork (length l.calls) o → wk.hand ≡ None
-rest-hand l wk o is rest = ap (λ (k : Worker). k.hand) is ∙ ap (shown_of l.procs o.txn.worker) rest.hand
+rest_hand : (l : Load) (wk : Worker) (o : PlainWork) → wk ≡ own_worker l o → RestsWork (length l.calls) o → wk.hand ≡ None
+rest_hand l wk o is rest = ap (λ (k : Worker). k.hand) is ∙ ap (shown_of l.procs o.txn.worker) rest.hand
 
-rest-waits : (l : Load) (wk : Worker) (o : PlainWork) → wk ≡ own_worker l o → RestsWork (length l.calls) o → wk.waiting ≡ []
-rest-waits l wk o is rest = ap (λ (k : Worker). k.waiting) is ∙ (λ i. again_in l.calls (rest.again i) ++ none-on l o.next rest.next i)
+rest_waits : (l : Load) (wk : Worker) (o : PlainWork) → wk ≡ own_worker l o → RestsWork (length l.calls) o → wk.waiting ≡ []
+rest_waits l wk o is rest = ap (λ (k : Worker). k.waiting) is ∙ (λ i. again_in l.calls (rest.again i) ++ none_on l o.next rest.next i)
 
-resumed-is : (i : ℕ) (x : Role) (wk : Worker) (call : Numbered) (front back : List Numbered) → x.share ≡ Working wk → wk.left ≡ front ++ call ∷ back → length front ≡ i → resumed_at i x ≡ resumed x wk call front back
-resumed-is i x wk call front back share left place =
+resumed_is : (i : ℕ) (x : Role) (wk : Worker) (call : Numbered) (front back : List Numbered) → x.share ≡ Working wk → wk.left ≡ front ++ call ∷ back → length front ≡ i → resumed_at i x ≡ resumed x wk call front back
+resumed_is i x wk call front back share left place =
     let one : take 1 (drop i wk.left) ≡ call ∷ [] = (λ k. take 1 (drop (sym place k) (left k))) ∙ middle front back call in
-    let rest : remove wk.left i ≡ front ++ back = (λ k. remove (left k) (sym place k)) ∙ without-middle front back call in
+    let rest : remove wk.left i ≡ front ++ back = (λ k. remove (left k) (sym place k)) ∙ without_middle front back call in
     ap (λ (s : Share). record x { share = Working (record (worker_in_share s) { waiting = take 1 (drop i (worker_in_share s).left); left = remove (worker_in_share s).left i }) }) share
     ∙ (λ k. record x { share = Working (record wk { waiting = one k; left = rest k }) })
 
 module _ (origin : Plain) (h : PlainHead) (g : HeadAt origin h) (l : LeftOver) (can : CanGoOn (length origin.load.calls) h.workers (Some l)) where
   -- each worker is here, and rests
   pub resting : (w : ℕ) → w < origin.load.workers → (o : PlainWork) × (slice_get h.workers w ≡ Some (Some o)) × RestsWork (length origin.load.calls) o
-  resting w low = (let x = some-at h.workers w (let n = g.worker_count in omega (arith, n, low)) in by_case x.0 x.1 (can.0 w x.0 x.1))
+  resting w low = (let x = some_at h.workers w (let n = g.worker_count in omega (arith, n, low)) in by_case x.0 x.1 (can.0 w x.0 x.1))
     where
       by_case : (o : Option PlainWork) → slice_get h.workers w ≡ Some o → Rests (length origin.load.calls) o → (a : PlainWork) × (slice_get h.workers w ≡ Some (Some a)) × RestsWork (length origin.load.calls) a
       by_case None e r = absurd r
@@ -146,9 +131,9 @@ module _ (origin : Plain) (h : PlainHead) (g : HeadAt origin h) (l : LeftOver) (
       by_case None e f r = absurd r
       by_case (Some a) e f r = (a, e, f, r)
 
-  pub lefts-as : (o : PlainWork) → slice_get h.workers l.worker ≡ Some (Some o) → (slice_get o.left l.at ≡ Some l.number) × RestsWork (length origin.load.calls) o
-  lefts-as o there =
-      let same : lefts.0 ≡ o = same-inside lefts.0 o (slice_get h.workers l.worker) lefts.1 there in
+  pub lefts_as : (o : PlainWork) → slice_get h.workers l.worker ≡ Some (Some o) → (slice_get o.left l.at ≡ Some l.number) × RestsWork (length origin.load.calls) o
+  lefts_as o there =
+      let same : lefts.0 ≡ o = same_inside lefts.0 o (slice_get h.workers l.worker) lefts.1 there in
       subst (λ (a : PlainWork). (slice_get a.left l.at ≡ Some l.number) × RestsWork (length origin.load.calls) a) same (lefts.2, lefts.3)
 
   module _ (o : PlainWork) (there : slice_get h.workers l.worker ≡ Some (Some o)) (number : slice_get o.left l.at ≡ Some l.number) (rest : RestsWork (length origin.load.calls) o) where
@@ -159,19 +144,19 @@ module _ (origin : Plain) (h : PlainHead) (g : HeadAt origin h) (l : LeftOver) (
     wk = has_work.work.worker
 
     shows : wk ≡ own_worker origin.load o
-    shows = rest-is origin.load wk o has_work.work.shows rest
+    shows = rest_is origin.load wk o has_work.work.shows rest
 
     split : SplitsAt origin.load.calls o.left l.at l.number
-    split = splits-at origin.load o.left l.at l.number has_work.work.fits.left number
+    split = splits_at origin.load o.left l.at l.number has_work.work.fits.left number
 
     whole : wk.left ≡ split.front ++ split.call ∷ split.back
     whole = ap (λ (k : Worker). k.left) shows ∙ split.whole
 
-    role-is : resumed_at l.at has_work.role ≡ resumed has_work.role wk split.call split.front split.back
-    role-is = resumed-is l.at has_work.role wk split.call split.front split.back has_work.work.share whole split.place
+    role_is : resumed_at l.at has_work.role ≡ resumed has_work.role wk split.call split.front split.back
+    role_is = resumed_is l.at has_work.role wk split.call split.front split.back has_work.work.share whole split.place
 
-    pub resumes-at : ResumesAt origin.load h.me.0 l.worker l.at
-    resumes-at = record {
+    pub resumes_at : ResumesAt origin.load h.me.0 l.worker l.at
+    resumes_at = record {
       call = split.call;
       front = split.front;
       back = split.back;
@@ -185,34 +170,34 @@ module _ (origin : Plain) (h : PlainHead) (g : HeadAt origin h) (l : LeftOver) (
         all = λ u low.
             let q = resting u low in
             let f = g.worker u q.0 q.1 in
-            let is = rest-is origin.load f.work.worker q.0 f.work.shows q.2 in (
+            let is = rest_is origin.load f.work.worker q.0 f.work.shows q.2 in (
               f.role,
               f.work.worker,
               f.is,
               f.work.share,
-              rest-hand origin.load f.work.worker q.0 is q.2,
-              rest-waits origin.load f.work.worker q.0 is q.2,
+              rest_hand origin.load f.work.worker q.0 is q.2,
+              rest_waits origin.load f.work.worker q.0 is q.2,
               (λ c m.
-                  let i = numbered-at origin.load.calls q.0.left c (subst (λ (k : Worker). Member c k.left) is m) in
+                  let i = numbered_at origin.load.calls q.0.left c (subst (λ (k : Worker). Member c k.left) is m) in
                   let le = can.1.1 u (Some q.0) i.0 c.number q.1 i.1 in
                   let n = split.number in
                   omega (arith, le, n)),
             );
       };
-      told = ap (λ (x : Role). split_as l.worker (resumed_at l.at x) h.me.0) (ap role_or has_work.is) ∙ ap (λ (y : Role). split_as l.worker y h.me.0) role-is;
+      told = ap (λ (x : Role). split_as l.worker (resumed_at l.at x) h.me.0) (ap role_or has_work.is) ∙ ap (λ (y : Role). split_as l.worker y h.me.0) role_is;
     }
 
     -- the new seat is the worker's
-    pub resumed-seat : (seen : List ℕ) (left_room room : ℕ) (o' : PlainWork) → h.me.0.opened ≡ Some origin → h.me.0.read ≡ (0, replicate origin.load.streams 0) → h.me.0.seen ≡ seen → length seen ≡ origin.load.streams →
+    pub resumed_seat : (seen : List ℕ) (left_room room : ℕ) (o' : PlainWork) → h.me.0.opened ≡ Some origin → h.me.0.read ≡ (0, replicate origin.load.streams 0) → h.me.0.seen ≡ seen → length seen ≡ origin.load.streams →
         o' ≡ record o { again = Some l.number; left = remove o.left l.at; left_room = left_room; committed_room = room } → IsWorkerSeat (told_resumed l.worker l.at h.me.0, []) l.worker o' (0, replicate origin.load.streams 0) seen
-    resumed-seat seen left_room room o' opened read seen_is seen_wide same =
+    resumed_seat seen left_room room o' opened read seen_is seen_wide same =
         let f = has_work.work.fits in
         let new : PlainWork = record o { again = Some l.number; left = remove o.left l.at; left_room = left_room; committed_room = room } in
         let next : Worker = record wk { waiting = split.call ∷ []; left = split.front ++ split.back } in
         let y : Role = resumed_at l.at has_work.role in
-        let nothing : is_some o.txn.hand ≡ true → ⊥ = λ e. not-some o.txn.hand rest.hand e in
+        let nothing : is_some o.txn.hand ≡ true → ⊥ = λ e. not_some o.txn.hand rest.hand e in
         let shown : next ≡ own_worker origin.load new = (λ i. record {
-          waiting = sym split.alone i ++ sym (none-on origin.load o.next rest.next) i;
+          waiting = sym split.alone i ++ sym (none_on origin.load o.next rest.next) i;
           hand = (shows i).hand;
           left = sym split.rest i;
           committed = (shows i).committed;
@@ -223,7 +208,7 @@ module _ (origin : Plain) (h : PlainHead) (g : HeadAt origin h) (l : LeftOver) (
           seat = record { opened = opened; roles = ap (λ (x : Option Role). (l.worker, resumed_at l.at (role_or x)) ∷ []) has_work.is; idle = refl; none = refl };
           work = record {
             worker = next;
-            share = ap (λ (x : Role). x.share) role-is;
+            share = ap (λ (x : Role). x.share) role_is;
             there = has_work.work.there;
             shows = subst (λ (m : Option Mark). ShowsWorker origin.load next new m) (sym rest.begun) shown;
             fits = record {
@@ -235,9 +220,9 @@ module _ (origin : Plain) (h : PlainHead) (g : HeadAt origin h) (l : LeftOver) (
               call = f.call;
               low = f.low;
               high = f.high;
-              again = λ n e. (let it : l.number ≡ n = cc in subst (λ (k : ℕ). IsNumber origin.load k) it (number-got origin.load o.left l.at l.number f.left number));
+              again = λ n e. (let it : l.number ≡ n = cc in subst (λ (k : ℕ). IsNumber origin.load k) it (number_got origin.load o.left l.at l.number f.left number));
               mark = f.mark;
-              left = numbers-less origin.load o.left l.at f.left;
+              left = numbers_less origin.load o.left l.at f.left;
               leaves = λ e. absurd (nothing e);
               ends = λ e. absurd (nothing e);
               posts = f.posts;
@@ -246,14 +231,14 @@ module _ (origin : Plain) (h : PlainHead) (g : HeadAt origin h) (l : LeftOver) (
             spare = has_work.work.spare;
           };
           read_is = read;
-          read_wide = length-replicate origin.load.streams zero-word;
+          read_wide = length-replicate origin.load.streams zero_word;
           seen_is = seen_is;
           seen_wide = seen_wide;
           posts = λ p. absurd (has_work.rests p);
         })
       where
-        zero-word : ℕ
-        zero-word = 0
+        zero_word : ℕ
+        zero_word = 0
 
-        not-some : (x : Option PlainHand) → x ≡ None → is_some x ≡ true → ⊥
-        not-some x e t = (let bad : false ≡ true = sym (ap is_some e) ∙ t in cc)
+        not_some : (x : Option PlainHand) → x ≡ None → is_some x ≡ true → ⊥
+        not_some x e t = (let bad : false ≡ true = sym (ap is_some e) ∙ t in cc)

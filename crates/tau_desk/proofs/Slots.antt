@@ -3,57 +3,44 @@ use Rattle.std.proofs.Common.{ℕ, zero, suc, ◌+◌, ◌*◌, ◌<◌, ◌≡�
 use Rattle.std.specs.Prelude.{Some, None, replicate, slice_get, slice_index, slice_set}
 use mathlib.Core.Option.{some}
 use lib.ListN.{get_elem?, length-replicate}
-use Rattle.tau_core.proofs.Pushes.{length-snoc, each-snoc, no-element}
+use Rattle.tau_core.proofs.Pushes.{length_snoc, each_snoc, no_element}
 use Rattle.tau_desk.specs.Laid.{AreFirstWords, AreWords, EachOf}
+use Rattle.tau_base.proofs.Lists.{got_front, got_last}
 
-pub get-longer : {A : Type 0} (xs ys : List A) (k : ℕ) (a : A) → slice_get xs k ≡ Some a → slice_get (xs ++ ys) k ≡ Some a
-get-longer [] ys k a e = absurd (let bad : None ≡ Some a = e in cc)
-get-longer (x ∷ xs) ys zero a e = e
-get-longer (x ∷ xs) ys (suc k) a e = get-longer xs ys k a e
+pub each_none : {A B : Type 0} (R : ℕ → A → B → Type 0) → EachOf R [] []
+each_none {A} {B} R = record { count = refl; each = no_element (λ k y. (x : A) × (slice_get [] k ≡ Some x) × R k x y) }
 
-pub get-last : {A : Type 0} (xs : List A) (x : A) → slice_get (xs ++ x ∷ []) (length xs) ≡ Some x
-get-last [] x = refl
-get-last (y ∷ xs) x = get-last xs x
-
-pub each-none : {A B : Type 0} (R : ℕ → A → B → Type 0) → EachOf R [] []
-each-none {A} {B} R = record { count = refl; each = no-element (λ k y. (x : A) × (slice_get [] k ≡ Some x) × R k x y) }
-
-pub each-more : {A B : Type 0} (R : ℕ → A → B → Type 0) (xs : List A) (ys : List B) (x : A) (y : B) → EachOf R xs ys → R (length xs) x y → EachOf R (xs ++ x ∷ []) (ys ++ y ∷ [])
-each-more {A} {B} R xs ys x y g r = record {
-  count = (let e = length-snoc xs x in let f = length-snoc ys y in let h = g.count in omega arith);
-  each = each-snoc (λ k z. (a : A) × (slice_get (xs ++ x ∷ []) k ≡ Some a) × R k a z) ys y
-      (λ k z e. let o = g.each k z e in (o.0, get-longer xs (x ∷ []) k o.0 o.1, o.2))
-      (x, ap (slice_get (xs ++ x ∷ [])) g.count ∙ get-last xs x, subst (λ (n : ℕ). R n x y) (sym g.count) r);
+pub each_more : {A B : Type 0} (R : ℕ → A → B → Type 0) (xs : List A) (ys : List B) (x : A) (y : B) → EachOf R xs ys → R (length xs) x y → EachOf R (xs ++ x ∷ []) (ys ++ y ∷ [])
+each_more {A} {B} R xs ys x y g r = record {
+  count = (let e = length_snoc xs x in let f = length_snoc ys y in let h = g.count in omega arith);
+  each = each_snoc (λ k z. (a : A) × (slice_get (xs ++ x ∷ []) k ≡ Some a) × R k a z) ys y
+      (λ k z e. let o = g.each k z e in (o.0, got_front xs (x ∷ []) k o.0 o.1, o.2))
+      (x, ap (slice_get (xs ++ x ∷ [])) g.count ∙ got_last xs x, subst (λ (n : ℕ). R n x y) (sym g.count) r);
 }
 
 -- a word is put, and no other one changes
-pub word-put : (ws : List ℕ) (a b x : ℕ) → b ≡ a → 8 * a < length ws → slice_index (slice_set ws (8 * a) x) (8 * b) ≡ x
-word-put ws a b x e lt = ap (λ (n : ℕ). slice_index (slice_set ws (8 * a) x) (8 * n)) e ∙ get_or-set_same ws (8 * a) x 0 lt
+pub word_put : (ws : List ℕ) (a b x : ℕ) → b ≡ a → 8 * a < length ws → slice_index (slice_set ws (8 * a) x) (8 * b) ≡ x
+word_put ws a b x e lt = ap (λ (n : ℕ). slice_index (slice_set ws (8 * a) x) (8 * n)) e ∙ get_or-set_same ws (8 * a) x 0 lt
 
-pub word-else : (ws : List ℕ) (a b x : ℕ) → (b ≡ a → ⊥) → slice_index (slice_set ws (8 * a) x) (8 * b) ≡ slice_index ws (8 * b)
-word-else ws a b x ne = get_or-set_other ws (8 * a) (8 * b) x 0 (λ e. ne (omega (arith, e)))
+pub word_else : (ws : List ℕ) (a b x : ℕ) → (b ≡ a → ⊥) → slice_index (slice_set ws (8 * a) x) (8 * b) ≡ slice_index ws (8 * b)
+word_else ws a b x ne = get_or-set_other ws (8 * a) (8 * b) x 0 (λ e. ne (omega (arith, e)))
 
--- the elements after others
-pub get-behind : {A : Type 0} (xs ys : List A) (k : ℕ) → slice_get (xs ++ ys) (length xs + k) ≡ slice_get ys k
-get-behind [] ys k = ap (slice_get ys) (let e : 0 + k ≡ k = omega arith in e)
-get-behind (x ∷ xs) ys k = ap (slice_get (x ∷ (xs ++ ys))) (let e : suc (length xs) + k ≡ suc (length xs + k) = omega arith in e) ∙ get-behind xs ys k
+pub got_elem : {A : Type 0} (xs : List A) (k : ℕ) (x : A) → slice_get xs k ≡ Some x → get_elem? xs k ≡ some x
+got_elem [] k x e = absurd (let bad : None ≡ Some x = e in cc)
+got_elem (y ∷ xs) zero x e = (let same : y ≡ x = cc in ap some same)
+got_elem (y ∷ xs) (suc k) x e = got_elem xs k x e
 
-pub got-elem : {A : Type 0} (xs : List A) (k : ℕ) (x : A) → slice_get xs k ≡ Some x → get_elem? xs k ≡ some x
-got-elem [] k x e = absurd (let bad : None ≡ Some x = e in cc)
-got-elem (y ∷ xs) zero x e = (let same : y ≡ x = cc in ap some same)
-got-elem (y ∷ xs) (suc k) x e = got-elem xs k x e
-
-zeros-at : (n i : ℕ) → slice_index (replicate n 0) i ≡ 0
-zeros-at zero i = refl
-zeros-at (suc n) zero = refl
-zeros-at (suc n) (suc i) = zeros-at n i
+zeros_at : (n i : ℕ) → slice_index (replicate n 0) i ≡ 0
+zeros_at zero i = refl
+zeros_at (suc n) zero = refl
+zeros_at (suc n) (suc i) = zeros_at n i
 
 -- the words at the beginning: zeros, into which two vectors were put
-pub are-first : (parts n : ℕ) (ends plv before middle after : List ℕ) → n ≡ length ends → length plv ≡ length ends → before ≡ replicate (8 * (parts + (n + n + 1))) 0 → length middle ≡ length before → AreWords middle parts ends →
+pub are_first : (parts n : ℕ) (ends plv before middle after : List ℕ) → n ≡ length ends → length plv ≡ length ends → before ≡ replicate (8 * (parts + (n + n + 1))) 0 → length middle ≡ length before → AreWords middle parts ends →
     ((k : ℕ) → ((j : ℕ) → j < length ends → k ≡ parts + j → ⊥) → slice_index middle (8 * k) ≡ slice_index before (8 * k)) → length after ≡ length middle → AreWords after (parts + n) plv →
     ((k : ℕ) → ((j : ℕ) → j < length plv → k ≡ parts + n + j → ⊥) → slice_index after (8 * k) ≡ slice_index middle (8 * k)) → AreFirstWords parts ends plv after
-are-first parts n ends plv before middle after same wide zeros long put others long_2 put_2 others_2 =
-    let none : (k : ℕ) → slice_index before k ≡ 0 = λ k. ap (λ (l : List ℕ). slice_index l k) zeros ∙ zeros-at (8 * (parts + (n + n + 1))) k in
+are_first parts n ends plv before middle after same wide zeros long put others long_2 put_2 others_2 =
+    let none : (k : ℕ) → slice_index before k ≡ 0 = λ k. ap (λ (l : List ℕ). slice_index l k) zeros ∙ zeros_at (8 * (parts + (n + n + 1))) k in
     record {
       count = (let z : ℕ = 0 in let e : length before ≡ 8 * (parts + (n + n + 1)) = ap (λ (l : List ℕ). length l) zeros ∙ length-replicate (8 * (parts + (n + n + 1))) z in omega (arith, e, long, long_2, same));
       free = λ k lt. others_2 k (λ j l e. omega (arith, lt, e)) ∙ others k (λ j l e. omega (arith, lt, e)) ∙ none (8 * k);

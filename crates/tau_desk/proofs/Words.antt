@@ -5,7 +5,7 @@ use Rattle.std.proofs.lemmas.Bool.{cases_eq, ne_eqb, lt-leb}
 use mathlib.Core.Option.{none}
 use Rattle.atomic_table.specs.Table.{Allows, Step, step}
 use Rattle.tau_base.specs.Vectors.{AtMost}
-use Rattle.tau_base.proofs.Vectors.{at_most-trans}
+use Rattle.tau_base.proofs.Vectors.{at_most_trans}
 use Rattle.tau_core.specs.State.{Plain}
 use Rattle.tau_rule.specs.Knows.{Knows}
 use Rattle.tau_rule.specs.Positions.{plv_word}
@@ -13,78 +13,69 @@ use Rattle.tau_rule.specs.Rule.{Now, Rule, has, is_raised, number_if, part_count
 use Rattle.tau_rule.specs.Steps.{Sat}
 use Rattle.tau_rule.specs.Stopping.{stop_word}
 use Rattle.tau_rule.specs.declared.part.Part.{Part}
-use Rattle.tau_rule.proofs.Gives.{one-origin}
-use Rattle.tau_rule.proofs.Persisting.{loads_plv}
+use Rattle.tau_rule.proofs.Gives.{one_origin}
+use Rattle.tau_rule.proofs.Persisting.{loads_plv, word_plv}
 use Rattle.tau_rule.proofs.Stopping.{looks_stop}
 use Rattle.tau_desk.specs.Looks.{HasRaised, LooksOver, PersistedAt, StopStands, saw_persisted, saw_stop}
 use Rattle.tau_desk.specs.Manages.{SeesOn}
-use Rattle.tau_desk.proofs.Closing.{in-range}
-use Rattle.tau_desk.proofs.EndStops.{bound, stop_at, word-stop}
+use Rattle.tau_desk.proofs.Closing.{in_range}
+use Rattle.tau_desk.proofs.EndStops.{bound, stop_at, word_stop}
 
-is-one : (b : Bool) → (number_if b == 1) ≡ b
-is-one true = refl
-is-one false = refl
+is_one : (b : Bool) → (number_if b == 1) ≡ b
+is_one true = refl
+is_one false = refl
 
-pub sees-stop : (origin : Plain) (id : ℕ) (m : Sat) (st : Step (Option Part)) → m.0.opened ≡ Some origin → Allows (Rule origin) (part_count origin.load) id m (stop_word origin.load) (λ n. n) (saw_stop st m)
-sees-stop origin id m st opened s rule len at small =
+pub sees_stop : (origin : Plain) (id : ℕ) (m : Sat) (st : Step (Option Part)) → m.0.opened ≡ Some origin → Allows (Rule origin) (part_count origin.load) id m (stop_word origin.load) (λ n. n) (saw_stop st m)
+sees_stop origin id m st opened s rule len at small =
     let went = looks_stop origin id m st s rule len at small in
     let mine = rule.each_view id m.0 at in
     let n : ℕ = slice_index s.words (stop_word origin.load) in
-    let word : n ≡ number_if (is_raised (bound origin) rule.core.raised) = rule.numbers (stop_at origin) (omega arith) ∙ word-stop origin rule.core in (
+    let word : n ≡ number_if (is_raised (bound origin) rule.core.raised) = rule.numbers (stop_at origin) (omega arith) ∙ word_stop origin rule.core in (
       went.0,
       went.1,
       went.2,
       went.3,
       (
         went.4,
-        λ o its is. subst (λ (p : Plain). StopStands p m.0 (n == 1)) (one-origin origin o (sym opened ∙ its)) (record {
+        λ o its is. subst (λ (p : Plain). StopStands p m.0 (n == 1)) (one_origin origin o (sym opened ∙ its)) (record {
           state = rule.core;
           meets = rule.kept;
           sees = mine.seen;
           roles = λ u r h. (mine.roles u r h).0;
-          is = sym (is-one (is_raised (bound origin) rule.core.raised)) ∙ ap (λ (k : ℕ). k == 1) (sym word);
+          is = sym (is_one (is_raised (bound origin) rule.core.raised)) ∙ ap (λ (k : ℕ). k == 1) (sym word);
         }),
       ),
     )
 
-pub sees-stop_as : (origin : Plain) (slots id word : ℕ) (m : Sat) → slots ≡ part_count origin.load → m.0.opened ≡ Some origin → word ≡ stop_word origin.load → Allows (Rule origin) slots id m word (λ n. n) (saw_stop (step slots word 0 0 none) m)
-sees-stop_as origin slots id word m es opened is =
+pub sees_stop_as : (origin : Plain) (slots id word : ℕ) (m : Sat) → slots ≡ part_count origin.load → m.0.opened ≡ Some origin → word ≡ stop_word origin.load → Allows (Rule origin) slots id m word (λ n. n) (saw_stop (step slots word 0 0 none) m)
+sees_stop_as origin slots id word m es opened is =
     subst (λ (z : ℕ × ℕ). Allows (Rule origin) z.0 id m z.1 (λ n. n) (saw_stop (step z.0 z.1 0 0 none) m)) (λ i. (sym es i, sym is i))
-    (sees-stop origin id m (step (part_count origin.load) (stop_word origin.load) 0 0 none) opened)
+    (sees_stop origin id m (step (part_count origin.load) (stop_word origin.load) 0 0 none) opened)
 
 -- one of the first so many actors has raised it
-one-raises : (n u : ℕ) (f : ℕ → Bool) → u < n → f u ≡ true → is_raised n f ≡ true
-one-raises zero u f low up = absurd (omega arith)
-one-raises (suc n) u f low up = elim (cases_eq n u) [
+one_raises : (n u : ℕ) (f : ℕ → Bool) → u < n → f u ≡ true → is_raised n f ≡ true
+one_raises zero u f low up = absurd (omega arith)
+one_raises (suc n) u f low up = elim (cases_eq n u) [
   | inl is ↦ ap (λ (b : Bool). if b then true else is_raised n f) (ap f is ∙ up)
-  | inr ne ↦ ap (λ (b : Bool). if f n then true else b) (one-raises n u f (omega arith) up) ∙ either-way (f n)
+  | inr ne ↦ ap (λ (b : Bool). if f n then true else b) (one_raises n u f (omega arith) up) ∙ either_way (f n)
 ]
   where
-    either-way : (b : Bool) → (if b then true else true) ≡ true
-    either-way true = refl
-    either-way false = refl
+    either_way : (b : Bool) → (if b then true else true) ≡ true
+    either_way true = refl
+    either_way false = refl
 
 -- who has raised the stop, or found it raised, finds it raised
-pub has-raised : (origin : Plain) (v : Knows) (stands : Bool) → StopStands origin v stands → HasRaised v → stands ≡ true
-has-raised origin v stands s (inl (u, r, is, up)) =
+pub has_raised : (origin : Plain) (v : Knows) (stands : Bool) → StopStands origin v stands → HasRaised v → stands ≡ true
+has_raised origin v stands s (inl (u, r, is, up)) =
     let mine = s.roles u r is in
-    sym s.is ∙ one-raises (bound origin) u s.state.raised (in-range origin s.state u r.share mine.0) (mine.1 ∙ up)
-has-raised origin v stands s (inr found) = sym s.is ∙ s.sees.found found
+    sym s.is ∙ one_raises (bound origin) u s.state.raised (in_range origin s.state u r.share mine.0) (mine.1 ∙ up)
+has_raised origin v stands s (inr found) = sym s.is ∙ s.sees.found found
 
-word-plv : (origin : Plain) (j : ℕ) (c : Now) → j < origin.load.streams → word_of origin.load (origin.load.streams + j) c ≡ slice_index c.core.plv j
-word-plv origin j c low =
-    let a : (origin.load.streams + j == origin.load.streams + origin.load.streams) ≡ false = ne_eqb (origin.load.streams + j) (origin.load.streams + origin.load.streams) (λ e. omega arith) in
-    let b : nat_le (origin.load.streams + j + 1) origin.load.streams ≡ false = lt-leb (origin.load.streams + j + 1) origin.load.streams (omega arith) in
-    let d : origin.load.streams + j - origin.load.streams ≡ j = omega arith in
-    ap (λ (z : Bool). if z then number_if (is_raised (origin.load.workers + origin.load.streams + 1) c.raised) else (if nat_le (origin.load.streams + j + 1) origin.load.streams then slice_index c.core.ends (origin.load.streams + j) else slice_index c.core.plv (origin.load.streams + j - origin.load.streams))) a
-    ∙ ap (λ (z : Bool). if z then slice_index c.core.ends (origin.load.streams + j) else slice_index c.core.plv (origin.load.streams + j - origin.load.streams)) b
-    ∙ ap (slice_index c.core.plv) d
-
-pub sees-persisted : (origin : Plain) (id j : ℕ) (m : Sat) (st : Step (Option Part)) → m.0.opened ≡ Some origin → j < origin.load.streams → st.word ≡ plv_word origin.load j → Allows (Rule origin) (part_count origin.load) id m (plv_word origin.load j) (λ n. n) (saw_persisted st m)
-sees-persisted origin id j m st opened there word s rule len at small =
+pub sees_persisted : (origin : Plain) (id j : ℕ) (m : Sat) (st : Step (Option Part)) → m.0.opened ≡ Some origin → j < origin.load.streams → st.word ≡ plv_word origin.load j → Allows (Rule origin) (part_count origin.load) id m (plv_word origin.load j) (λ n. n) (saw_persisted st m)
+sees_persisted origin id j m st opened there word s rule len at small =
     let went = loads_plv origin id j m st opened there word s rule len at small in
     let mine = rule.each_view id m.0 at in
-    let end = sym (word-plv origin j rule.core there) ∙ sym (rule.numbers (origin.load.streams + j) (omega (arith, there))) in (
+    let end = sym (word_plv origin j rule.core there) ∙ sym (rule.numbers (origin.load.streams + j) (omega (arith, there))) in (
       went.0,
       went.1,
       went.2,
@@ -92,7 +83,7 @@ sees-persisted origin id j m st opened there word s rule len at small =
       (
         went.4,
         λ o its i low is.
-            subst (λ (z : Plain × ℕ). PersistedAt z.0 m.0 m.0.seen z.1 (slice_index s.words (plv_word origin.load j))) (λ k. (one-origin origin o (sym opened ∙ its) k, same o i its is k)) (record {
+            subst (λ (z : Plain × ℕ). PersistedAt z.0 m.0 m.0.seen z.1 (slice_index s.words (plv_word origin.load j))) (λ k. (one_origin origin o (sym opened ∙ its) k, same o i its is k)) (record {
               state = rule.core;
               meets = rule.kept;
               roles = λ u r h. (mine.roles u r h).0;
@@ -104,39 +95,39 @@ sees-persisted origin id j m st opened there word s rule len at small =
   where
     same : (o : Plain) (i : ℕ) → m.0.opened ≡ Some o → st.word ≡ plv_word o.load i → j ≡ i
     same o i its is =
-        let e : plv_word origin.load j ≡ plv_word origin.load i = sym word ∙ is ∙ ap (λ (q : Plain). plv_word q.load i) (sym (one-origin origin o (sym opened ∙ its))) in
+        let e : plv_word origin.load j ≡ plv_word origin.load i = sym word ∙ is ∙ ap (λ (q : Plain). plv_word q.load i) (sym (one_origin origin o (sym opened ∙ its))) in
         omega (arith, e)
 
-pub sees-persisted_as : (origin : Plain) (slots id j word : ℕ) (m : Sat) → slots ≡ part_count origin.load → m.0.opened ≡ Some origin → j < origin.load.streams → word ≡ plv_word origin.load j
+pub sees_persisted_as : (origin : Plain) (slots id j word : ℕ) (m : Sat) → slots ≡ part_count origin.load → m.0.opened ≡ Some origin → j < origin.load.streams → word ≡ plv_word origin.load j
     → Allows (Rule origin) slots id m word (λ n. n) (saw_persisted (step slots word 0 0 none) m)
-sees-persisted_as origin slots id j word m es opened low is =
+sees_persisted_as origin slots id j word m es opened low is =
     subst (λ (z : ℕ × ℕ). Allows (Rule origin) z.0 id m z.1 (λ n. n) (saw_persisted (step z.0 z.1 0 0 none) m)) (λ i. (sym es i, sym is i))
-    (sees-persisted origin id j m (step (part_count origin.load) (plv_word origin.load j) 0 0 none) opened low refl)
+    (sees_persisted origin id j m (step (part_count origin.load) (plv_word origin.load j) 0 0 none) opened low refl)
 
 -- what a seat is told that had seen more by then
-pub persisted-before : (origin : Plain) (m m' : Sat) (seen seen' : List ℕ) (j upto : ℕ) → SeesOn m m' seen seen' → PersistedAt origin m'.0 seen' j upto → PersistedAt origin m.0 seen j upto
-persisted-before origin m m' seen seen' j upto s p = record {
+pub persisted_before : (origin : Plain) (m m' : Sat) (seen seen' : List ℕ) (j upto : ℕ) → SeesOn m m' seen seen' → PersistedAt origin m'.0 seen' j upto → PersistedAt origin m.0 seen j upto
+persisted_before origin m m' seen seen' j upto s p = record {
   state = p.state;
   meets = p.meets;
   roles = λ u r h. p.roles u r (ap (λ (x : Sat). has u x.0) s.knows ∙ h);
-  low = at_most-trans seen seen' p.state.core.plv s.up p.low;
+  low = at_most_trans seen seen' p.state.core.plv s.up p.low;
   is = p.is;
 }
 
 -- seeing more, and more again
-pub sees-again : (m m' m'' : Sat) (seen seen' seen'' : List ℕ) → SeesOn m m' seen seen' → SeesOn m' m'' seen' seen'' → SeesOn m m'' seen seen''
-sees-again m m' m'' seen seen' seen'' p q = record {
-  up = at_most-trans seen seen' seen'' p.up q.up;
+pub sees_again : (m m' m'' : Sat) (seen seen' seen'' : List ℕ) → SeesOn m m' seen seen' → SeesOn m' m'' seen' seen'' → SeesOn m m'' seen seen''
+sees_again m m' m'' seen seen' seen'' p q = record {
+  up = at_most_trans seen seen' seen'' p.up q.up;
   wide = q.wide ∙ p.wide;
   knows = q.knows ∙ ap (λ (x : Sat). (record x.0 { seen = m''.0.seen }, x.1)) p.knows;
 }
 
 -- one stream more
-pub looks-on : (origin : Plain) (m m' : Sat) (count : ℕ) (seen seen' seen'' : List ℕ) (rose rose' : Bool) → LooksOver origin m.0 count seen seen' rose → SeesOn m m' seen seen' → AtMost seen' seen''
+pub looks_on : (origin : Plain) (m m' : Sat) (count : ℕ) (seen seen' seen'' : List ℕ) (rose rose' : Bool) → LooksOver origin m.0 count seen seen' rose → SeesOn m m' seen seen' → AtMost seen' seen''
     → ((j : ℕ) → (j ≡ count → ⊥) → slice_index seen'' j ≡ slice_index seen' j) → PersistedAt origin m'.0 seen' count (slice_index seen'' count) → (rose' ≡ true → (rose ≡ true) ⊎ (slice_index seen' count < slice_index seen'' count)) → LooksOver origin m.0 (count + 1) seen seen'' rose'
-looks-on origin m m' count seen seen' seen'' rose rose' o s up others here more = record {
+looks_on origin m m' count seen seen' seen'' rose rose' o s up others here more = record {
   each = λ j low. elim (cases_eq j count) [
-    | inl is ↦ subst (λ (n : ℕ). PersistedAt origin m.0 seen n (slice_index seen'' n)) (sym is) (persisted-before origin m m' seen seen' count (slice_index seen'' count) s here)
+    | inl is ↦ subst (λ (n : ℕ). PersistedAt origin m.0 seen n (slice_index seen'' n)) (sym is) (persisted_before origin m m' seen seen' count (slice_index seen'' count) s here)
     | inr ne ↦ subst (λ (n : ℕ). PersistedAt origin m.0 seen j n) (sym (others j ne)) (o.each j (omega arith))
   ];
   rose = λ yes. elim (more yes) [

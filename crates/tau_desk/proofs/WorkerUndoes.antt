@@ -12,18 +12,18 @@ use Rattle.tau_txn.specs.Hand.{PlainHand}
 use Rattle.tau_txn.specs.Read.{hand_of}
 use Rattle.tau_txn.specs.Txn.{PlainTxn, hand_in, has_joined, held_by, held_in, joined_of, shown, shown_of}
 use Rattle.tau_core.specs.declared.state.Load.{Load}
-use Rattle.tau_core.proofs.Hands.{some-hand}
+use Rattle.tau_core.proofs.Hands.{some_hand}
 use Rattle.tau_txn.specs.Next.{next_action}
 use Rattle.tau_rule.specs.Steps.{Sat}
 use Rattle.tau_desk.specs.declared.mark.Mark.{Mark}
 use Rattle.tau_desk.specs.Seats.{IsWorkerSeat}
 use Rattle.tau_desk.specs.Shares.{FitsWork, PlainWork, ShowsWorker, own_worker}
 use Rattle.tau_desk.specs.Works.{GivesUp, undone}
-use Rattle.tau_desk.proofs.GoingOn.{hand-there, joined-is, joined_at, posts-placed}
+use Rattle.tau_desk.proofs.GoingOn.{hand_there, joined_is, joined_at, posts_placed}
 
 -- the keys that are shown are those of the core's hand
-pub shown-held : (procs : List Proc) (t : PlainTxn) (h : Hand) → hand_in procs t ≡ Some h → held_in t ≡ h.held
-shown-held procs t h e = by_case t.hand e
+pub shown_held : (procs : List Proc) (t : PlainTxn) (h : Hand) → hand_in procs t ≡ Some h → held_in t ≡ h.held
+shown_held procs t h e = by_case t.hand e
   where
     at : (st : Standing) (x : PlainHand) → shown procs t.worker st x ≡ Some h → x.held ≡ h.held
     at standing.Running x f = (let g : hand_of procs t.worker x ≡ h = cc in ap (λ (y : Hand). y.held) g)
@@ -56,10 +56,10 @@ marked l w wk o k f s = by_case wk.waiting refl
         none o.txn.hand (f.stays ∙ sym (ap is_some gone))
     by_case (c ∷ cs) e =
         let there : hand_in l.procs o.txn ≡ Some (fresh l.streams c 0) = sym shows ∙ (λ i. (begun_by l.streams wk (rests i) (e i)).hand) in
-        (shown-held l.procs o.txn (fresh l.streams c 0) there, joined-is l.procs o.txn (fresh l.streams c 0) there)
+        (shown_held l.procs o.txn (fresh l.streams c 0) there, joined_is l.procs o.txn (fresh l.streams c 0) there)
 
-pub seat-undone : (m : Sat) (w : ℕ) (o : PlainWork) (read : ℕ × List ℕ) (seen : List ℕ) → IsWorkerSeat m w o read seen → IsWorkerSeat m w (undone o o.mark) read seen
-seat-undone m w o read seen s = by_mark o.mark refl s.work.shows
+pub seat_undone : (m : Sat) (w : ℕ) (o : PlainWork) (read : ℕ × List ℕ) (seen : List ℕ) → IsWorkerSeat m w o read seen → IsWorkerSeat m w (undone o o.mark) read seen
+seat_undone m w o read seen s = by_mark o.mark refl s.work.shows
   where
     f : FitsWork s.origin.load w o
     f = s.work.fits
@@ -104,8 +104,8 @@ seat-undone m w o read seen s = by_mark o.mark refl s.work.shows
         }
 
 -- the call in hand only gives its keys back
-pub seat-given-up : (m : Sat) (w : ℕ) (o : PlainWork) (t : PlainTxn) (read : ℕ × List ℕ) (seen : List ℕ) → IsWorkerSeat m w o read seen → has_joined o.txn ≡ false → GivesUp o.txn t → IsWorkerSeat m w (record o { txn = t }) read seen
-seat-given-up m w o t read seen s unjoined q = by_mark o.mark refl s.work.shows
+pub seat_given_up : (m : Sat) (w : ℕ) (o : PlainWork) (t : PlainTxn) (read : ℕ × List ℕ) (seen : List ℕ) → IsWorkerSeat m w o read seen → has_joined o.txn ≡ false → GivesUp o.txn t → IsWorkerSeat m w (record o { txn = t }) read seen
+seat_given_up m w o t read seen s unjoined q = by_mark o.mark refl s.work.shows
   where
     l : Load
     l = s.origin.load
@@ -113,23 +113,23 @@ seat-given-up m w o t read seen s unjoined q = by_mark o.mark refl s.work.shows
     f : FitsWork l w o
     f = s.work.fits
 
-    held-some : (h : Option PlainHand) → 1 ≤ length (held_by h) → is_some h ≡ true
-    held-some None e = absurd (omega (arith, e))
-    held-some (Some x) e = refl
+    held_some : (h : Option PlainHand) → 1 ≤ length (held_by h) → is_some h ≡ true
+    held_some None e = absurd (omega (arith, e))
+    held_some (Some x) e = refl
 
     had : is_some o.txn.hand ≡ true
-    had = held-some o.txn.hand q.held
+    had = held_some o.txn.hand q.held
 
     there : (h : Hand) × (hand_in l.procs o.txn ≡ Some h)
-    there = hand-there l w o f had
+    there = hand_there l w o f had
 
     shown_is : hand_in l.procs t ≡ hand_in l.procs o.txn
     shown_is = q.shown l.procs
 
-    no-post : next_action t ≡ action.Post → ⊥
-    no-post e =
-        let p = posts-placed l.procs t there.0 (shown_is ∙ there.1) e in
-        let bad : false ≡ true = sym unjoined ∙ joined-is l.procs o.txn there.0 there.1 ∙ ap joined_at p.1 in cc
+    no_post : next_action t ≡ action.Post → ⊥
+    no_post e =
+        let p = posts_placed l.procs t there.0 (shown_is ∙ there.1) e in
+        let bad : false ≡ true = sym unjoined ∙ joined_is l.procs o.txn there.0 there.1 ∙ ap joined_at p.1 in cc
 
     fits : FitsWork l w (record o { txn = t })
     fits = record {
@@ -137,7 +137,7 @@ seat-given-up m w o t read seen s unjoined q = by_mark o.mark refl s.work.shows
       width = ap (λ (y : PlainTxn). y.width) q.same ∙ f.width;
       mode = ap (λ (y : PlainTxn). y.mode) q.same ∙ f.mode;
       runs = q.runs l.procs f.runs;
-      stays = some-hand l.procs t there.0 (shown_is ∙ there.1) ∙ sym (ap is_some (shown_is ∙ there.1));
+      stays = some_hand l.procs t there.0 (shown_is ∙ there.1) ∙ sym (ap is_some (shown_is ∙ there.1));
       call = λ h e. f.call h (sym shown_is ∙ e);
       low = f.low;
       high = f.high;
@@ -146,12 +146,12 @@ seat-given-up m w o t read seen s unjoined q = by_mark o.mark refl s.work.shows
       left = f.left;
       leaves = λ e. f.leaves had;
       ends = λ e. f.ends had;
-      posts = λ e. absurd (no-post e);
+      posts = λ e. absurd (no_post e);
       commits = λ e g. f.commits had unjoined;
     }
 
-    seat-with : ShowsWorker l s.work.worker (record o { txn = t }) o.mark → IsWorkerSeat m w (record o { txn = t }) read seen
-    seat-with shows = record {
+    seat_with : ShowsWorker l s.work.worker (record o { txn = t }) o.mark → IsWorkerSeat m w (record o { txn = t }) read seen
+    seat_with shows = record {
       origin = s.origin;
       role = s.role;
       seat = s.seat;
@@ -160,12 +160,12 @@ seat-given-up m w o t read seen s unjoined q = by_mark o.mark refl s.work.shows
       read_wide = s.read_wide;
       seen_is = s.seen_is;
       seen_wide = s.seen_wide;
-      posts = λ e. absurd (no-post e);
+      posts = λ e. absurd (no_post e);
     }
 
     own : own_worker l o ≡ own_worker l (record o { txn = t })
     own = λ i. record (own_worker l o) { hand = sym shown_is i }
 
     by_mark : (k : Option Mark) → o.mark ≡ k → ShowsWorker l s.work.worker o k → IsWorkerSeat m w (record o { txn = t }) read seen
-    by_mark None e shows = seat-with (subst (λ (k : Option Mark). ShowsWorker l s.work.worker (record o { txn = t }) k) (sym e) (shows ∙ own))
-    by_mark (Some k) e shows = seat-with (subst (λ (n : Option Mark). ShowsWorker l s.work.worker (record o { txn = t }) n) (sym e) (shows.0, shows.1 ∙ own))
+    by_mark None e shows = seat_with (subst (λ (k : Option Mark). ShowsWorker l s.work.worker (record o { txn = t }) k) (sym e) (shows ∙ own))
+    by_mark (Some k) e shows = seat_with (subst (λ (n : Option Mark). ShowsWorker l s.work.worker (record o { txn = t }) n) (sym e) (shows.0, shows.1 ∙ own))

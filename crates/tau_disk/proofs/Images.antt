@@ -7,6 +7,7 @@ use Rattle.tau_disk.specs.Replay.{DiskState, over, sevens, after_call, replayed,
 use Rattle.tau_disk.specs.declared.call.DiskCall.{DiskCall}
 use Rattle.tau_disk.specs.declared.call.DiskCall.TheVariants.{Wrote, Lost, Synced}
 use Rattle.tau_disk.proofs.Tears.{torn_same}
+use Rattle.tau_base.proofs.Logic.{up_to_or_above}
 
 -- y with the bytes of s in a range, where s has them
 patched : ℕ → ℕ → List ℕ → List ℕ → List ℕ
@@ -16,31 +17,31 @@ patched zero zero (b ∷ s) (y ∷ ys) = y ∷ ys
 patched zero (suc n) (b ∷ s) (y ∷ ys) = b ∷ patched zero n s ys
 patched (suc at) n (b ∷ s) (y ∷ ys) = y ∷ patched at n s ys
 
-length-patched : (at n : ℕ) (s ys : List ℕ) → length (patched at n s ys) ≡ length ys
+length_patched : (at n : ℕ) (s ys : List ℕ) → length (patched at n s ys) ≡ length ys
 unfolding patched
-length-patched at n s [] = refl
-length-patched at n [] (y ∷ ys) = refl
-length-patched zero zero (b ∷ s) (y ∷ ys) = refl
-length-patched zero (suc n) (b ∷ s) (y ∷ ys) = ap suc (length-patched zero n s ys)
-length-patched (suc at) n (b ∷ s) (y ∷ ys) = ap suc (length-patched at n s ys)
+length_patched at n s [] = refl
+length_patched at n [] (y ∷ ys) = refl
+length_patched zero zero (b ∷ s) (y ∷ ys) = refl
+length_patched zero (suc n) (b ∷ s) (y ∷ ys) = ap suc (length_patched zero n s ys)
+length_patched (suc at) n (b ∷ s) (y ∷ ys) = ap suc (length_patched at n s ys)
 
-take-patched : (at n : ℕ) (s ys : List ℕ) → take at (patched at n s ys) ≡ take at ys
+take_patched : (at n : ℕ) (s ys : List ℕ) → take at (patched at n s ys) ≡ take at ys
 unfolding patched
-take-patched at n s [] = refl
-take-patched at n [] (y ∷ ys) = refl
-take-patched zero zero (b ∷ s) (y ∷ ys) = refl
-take-patched zero (suc n) (b ∷ s) (y ∷ ys) = refl
-take-patched (suc at) n (b ∷ s) (y ∷ ys) = ap (λ (l : List ℕ). y ∷ l) (take-patched at n s ys)
+take_patched at n s [] = refl
+take_patched at n [] (y ∷ ys) = refl
+take_patched zero zero (b ∷ s) (y ∷ ys) = refl
+take_patched zero (suc n) (b ∷ s) (y ∷ ys) = refl
+take_patched (suc at) n (b ∷ s) (y ∷ ys) = ap (λ (l : List ℕ). y ∷ l) (take_patched at n s ys)
 
-drop-patched : (at n : ℕ) (s ys : List ℕ) (m : ℕ) → m ≡ at + n → drop m (patched at n s ys) ≡ drop m ys
+drop_patched : (at n : ℕ) (s ys : List ℕ) (m : ℕ) → m ≡ at + n → drop m (patched at n s ys) ≡ drop m ys
 unfolding patched
-drop-patched at n s [] m is = refl
-drop-patched at n [] (y ∷ ys) m is = refl
-drop-patched zero zero (b ∷ s) (y ∷ ys) m is = refl
-drop-patched zero (suc n) (b ∷ s) (y ∷ ys) zero is = absurd (omega arith)
-drop-patched zero (suc n) (b ∷ s) (y ∷ ys) (suc m) is = drop-patched zero n s ys m (omega arith)
-drop-patched (suc at) n (b ∷ s) (y ∷ ys) zero is = absurd (omega arith)
-drop-patched (suc at) n (b ∷ s) (y ∷ ys) (suc m) is = drop-patched at n s ys m (omega arith)
+drop_patched at n s [] m is = refl
+drop_patched at n [] (y ∷ ys) m is = refl
+drop_patched zero zero (b ∷ s) (y ∷ ys) m is = refl
+drop_patched zero (suc n) (b ∷ s) (y ∷ ys) zero is = absurd (omega arith)
+drop_patched zero (suc n) (b ∷ s) (y ∷ ys) (suc m) is = drop_patched zero n s ys m (omega arith)
+drop_patched (suc at) n (b ∷ s) (y ∷ ys) zero is = absurd (omega arith)
+drop_patched (suc at) n (b ∷ s) (y ∷ ys) (suc m) is = drop_patched at n s ys m (omega arith)
 
 patched_in : (at n : ℕ) (s ys : List ℕ) (k : ℕ) → at ≤ k → k < at + n → k < length s → k < length ys → get_or (patched at n s ys) k 0 ≡ get_or s k 0
 unfolding patched
@@ -57,22 +58,19 @@ byte_at i l = get_or l i 0
 
 patched_out : (at n : ℕ) (s ys : List ℕ) (k : ℕ) → (k < at) ⊎ (at + n ≤ k) → get_or (patched at n s ys) k 0 ≡ get_or ys k 0
 patched_out at n s ys k (inl below) =
-    sym (get_or-take at (patched at n s ys) k 0 below) ∙ ap (λ (l : List ℕ). get_or l k 0) (take-patched at n s ys) ∙ get_or-take at ys k 0 below
+    sym (get_or-take at (patched at n s ys) k 0 below) ∙ ap (λ (l : List ℕ). get_or l k 0) (take_patched at n s ys) ∙ get_or-take at ys k 0 below
 patched_out at n s ys k (inr above) =
     let split : k ≡ at + n + (k - (at + n)) = omega arith in
     ap (λ (i : ℕ). get_or (patched at n s ys) i 0) split ∙ sym (get_or-drop (at + n) (patched at n s ys) (k - (at + n)) 0)
-    ∙ ap (λ (l : List ℕ). get_or l (k - (at + n)) 0) (drop-patched at n s ys (at + n) refl)
+    ∙ ap (λ (l : List ℕ). get_or l (k - (at + n)) 0) (drop_patched at n s ys (at + n) refl)
     ∙ get_or-drop (at + n) ys (k - (at + n)) 0 ∙ ap (λ (i : ℕ). get_or ys i 0) (sym split)
 
-reach_least : (len : ℕ) (tears : List (ℕ × ℕ)) → len ≤ reach len tears
+pub reach_least : (len : ℕ) (tears : List (ℕ × ℕ)) → len ≤ reach len tears
 reach_least len [] = omega arith
 reach_least len (tear ∷ tears) = omega (arith, reach_least len tears)
 
-at_most : (a b : ℕ) → (a ≤ b) ⊎ (b < a)
-at_most a b = ⊎_elim (λ lt. inr lt) (λ ge. inl ge) (cases_lt b a)
-
 outside_range : (k at n : ℕ) → ((k < at) ⊎ (at + n ≤ k)) ⊎ ((at ≤ k) × (k < at + n))
-outside_range k at n = ⊎_elim (λ low. ⊎_elim (λ high. inl (inr high)) (λ below. inr (low, below)) (at_most (at + n) k)) (λ below. inl (inl below)) (at_most at k)
+outside_range k at n = ⊎_elim (λ low. ⊎_elim (λ high. inl (inr high)) (λ below. inr (low, below)) (up_to_or_above (at + n) k)) (λ below. inl (inl below)) (up_to_or_above at k)
 
 -- an image that is torn once more
 pub image_torn : (synced : List ℕ) (tears : List (ℕ × ℕ)) (at n : ℕ) (d x : List ℕ) → IsImage synced tears d → Torn at n d x → IsImage synced ((at, n) ∷ tears) x
@@ -99,8 +97,8 @@ module _ (synced : List ℕ) (tears : List (ℕ × ℕ)) (at n : ℕ) (x : List 
   abbrev d : List ℕ
   d = patched at n synced y
 
-  length-y : length y ≡ min end (length x)
-  length-y = length-take end x
+  length_y : length y ≡ min end (length x)
+  length_y = length-take end x
 
   same_y : (k : ℕ) → k < length synced → get_or y k 0 ≡ get_or x k 0
   same_y k within = get_or-take end x k 0 (omega (arith, within, reach_least (length synced) tears))
@@ -108,28 +106,28 @@ module _ (synced : List ℕ) (tears : List (ℕ × ℕ)) (at n : ℕ) (x : List 
   same : (k : ℕ) → k < length synced → IsOutside k tears → get_or d k 0 ≡ get_or synced k 0
   same k within outside = ⊎_elim
       (λ out. patched_out at n synced y k out ∙ same_y k within ∙ is.same k within (out, outside))
-      (λ range. patched_in at n synced y k range.0 range.1 within (omega (arith, length-y, within, is.no_shorter, reach_least (length synced) tears)))
+      (λ range. patched_in at n synced y k range.0 range.1 within (omega (arith, length_y, within, is.no_shorter, reach_least (length synced) tears)))
       (outside_range k at n)
 
   is_image : IsImage synced tears d
   is_image = record {
     same = same;
-    no_shorter = omega (arith, length-patched at n synced y, length-y, is.no_shorter, reach_least (length synced) tears);
-    no_longer = omega (arith, length-patched at n synced y, length-y);
+    no_shorter = omega (arith, length_patched at n synced y, length_y, is.no_shorter, reach_least (length synced) tears);
+    no_longer = omega (arith, length_patched at n synced y, length_y);
   }
 
   behind : drop (at + n) x ≡ drop (at + n) y
   behind = ⊎_elim
       (λ short. sym (ap (λ (l : List ℕ). drop (at + n) l) (take_all end x short)))
-      (λ longer. drop_all (at + n) x (omega (arith, longer, is.no_longer)) ∙ sym (drop_all (at + n) y (omega (arith, length-y, longer, is.no_longer))))
-      (at_most (length x) end)
+      (λ longer. drop_all (at + n) x (omega (arith, longer, is.no_longer)) ∙ sym (drop_all (at + n) y (omega (arith, length_y, longer, is.no_longer))))
+      (up_to_or_above (length x) end)
 
   torn : Torn at n d x
   torn = record {
-    before = sym (take-patched at n synced y ∙ take-take at end x le);
-    after = behind ∙ sym (drop-patched at n synced y (at + n) refl);
-    no_shorter = omega (arith, length-patched at n synced y, length-y);
-    no_longer = omega (arith, length-patched at n synced y, length-y, is.no_longer);
+    before = sym (take_patched at n synced y ∙ take-take at end x le);
+    after = behind ∙ sym (drop_patched at n synced y (at + n) refl);
+    no_shorter = omega (arith, length_patched at n synced y, length_y);
+    no_longer = omega (arith, length_patched at n synced y, length_y, is.no_longer);
   }
 
   -- each image with one range more is an old image, torn
@@ -262,8 +260,8 @@ reach_old s = record { same = λ k within outside. refl; no_shorter = omega arit
 pub old_left : (s : DiskState) → leaves s s.synced
 old_left s = reach_old s
 
-length-over : (at : ℕ) (bytes file : List ℕ) → at ≤ length file → length (over at bytes file) ≡ at + (length bytes + (length file - (at + length bytes)))
-length-over at bytes file le = omega (arith, length-take-le at file le, length-append (take at file ++ bytes) (drop (at + length bytes) file), length-append (take at file) bytes, length-drop (at + length bytes) file)
+length_over : (at : ℕ) (bytes file : List ℕ) → at ≤ length file → length (over at bytes file) ≡ at + (length bytes + (length file - (at + length bytes)))
+length_over at bytes file le = omega (arith, length-take-le at file le, length-append (take at file ++ bytes) (drop (at + length bytes) file), length-append (take at file) bytes, length-drop (at + length bytes) file)
 
 -- the torn image is one too, and as long as what a read gives
 module _ (s : DiskState) (old new : List DiskCall) (seen : List ℕ) (sound : leaves (replayed s old) (replayed s old).torn) (long : length (replayed s old).torn ≡ length seen) where
@@ -295,8 +293,8 @@ module _ (s : DiskState) (old new : List DiskCall) (seen : List ℕ) (sound : le
     wrote_long seen' holds =
         let size : length (sevens (length bytes.items)) ≡ length bytes.items = length-replicate (length bytes.items) 7 in
         long_new (Wrote at bytes) is (length seen')
-        (length-over at (sevens (length bytes.items)) was.torn (omega (arith, le, long))
-        ∙ omega (arith, long, size, ap length holds, length-over at bytes.items seen le))
+        (length_over at (sevens (length bytes.items)) was.torn (omega (arith, le, long))
+        ∙ omega (arith, long, size, ap length holds, length_over at bytes.items seen le))
 
   module _ (reads : seen ≡ was.seen) (is : new ≡ old ++ Synced ∷ []) where
     pub synced_torn : leaves (replayed s new) (replayed s new).torn

@@ -23,6 +23,3 @@ both a b c first is second = λ i. first i && (sym is ∙ second) i
 
 pub second_not : (a b c : Bool) → a ≡ true → c ≡ b → c ≡ false → (a && b) ≡ false
 second_not a b c first is second = λ i. first i && (sym is ∙ second) i
-
-pub first_not : (a b : Bool) → a ≡ false → (a && b) ≡ false
-first_not a b first = ap (λ (x : Bool). x && b) first

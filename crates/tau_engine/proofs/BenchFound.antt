@@ -18,7 +18,7 @@ use Rattle.tau_disk.specs.Tear.{image_by}
 use Rattle.tau_base.specs.declared.value.LogMode.TheVariants.{Values}
 use Rattle.tau_model.specs.History.{Act, Member, Reordered, exec}
 use Rattle.tau_model.specs.Tables.{IsTablesOf}
-use Rattle.tau_model.proofs.Orders.{calls-trace}
+use Rattle.tau_model.proofs.Orders.{calls_trace}
 use Rattle.tau_text.specs.declared.load.Workload.{Workload}
 use Rattle.tau_scan.specs.declared.log.Log.{Log}
 use Rattle.tau_scan.specs.Reading.{log_of}
@@ -27,16 +27,19 @@ use Rattle.tau_replay.specs.Redone.{IsOrderOf}
 use Rattle.tau_replay.proofs.Ones.{tables_one}
 use Rattle.tau_run.specs.Run.{Committed, Run, acts, means, has_ack, last_db}
 use Rattle.tau_run.specs.RecoveredFacts.{IsRecovered, takes}
-use Rattle.tau_run.proofs.Lists.{member_map, map_member}
+use Rattle.tau_run.proofs.Lists.{map_member, any_member}
 use Rattle.tau_gen.specs.Generated.{call_of, calls_of, generated}
 use Rattle.tau_gen.specs.Sums.{rows_of, numbers}
 use Rattle.tau_gen.proofs.BenchDeclared.{call_at, length_calls}
 use Rattle.tau_gen.proofs.BenchSums.{leaves_rows, all_write, length_numbers}
-use Rattle.tau_model.proofs.Reorder.{reordered-length}
+use Rattle.tau_model.proofs.Reorder.{reordered_length}
 use Rattle.tau_engine.specs.Bench.{AreFound, IsMeasured}
 use Rattle.tau_engine.specs.Drill.{images_by}
-use Rattle.tau_engine.proofs.BenchNumbers.{all_numbers, some_pass, all_pass}
+use Rattle.tau_engine.proofs.BenchNumbers.{all_numbers}
 use Rattle.tau_engine.proofs.Drilled.{recovered, taken, ordered}
+use Rattle.tau_crew_facts.proofs.Done.{filter_all}
+use Rattle.tau_base.proofs.Lists.{length_mapped}
+use Rattle.tau_model.proofs.Assembling.{member_mapped}
 
 abbrev Rows : Type 0
 Rows = List (Key × Value)
@@ -45,10 +48,6 @@ Rows = List (Key × Value)
 pub as_seen : (disks : List MemDisk) → images_by New disks ≡ map seen_by disks
 as_seen [] = refl
 as_seen (d ∷ disks) = λ i. sym d.reads i ∷ as_seen disks i
-
-length_mapped : {A B : Type 0} (f : A → B) (xs : List A) → length (map f xs) ≡ length xs
-length_mapped f [] = refl
-length_mapped f (x ∷ xs) = ap suc (length_mapped f xs)
 
 module _ {G : Ghosts MemDisk} (tells : G.tells) (left : (d : MemDisk) (tear : Tear) → G.may_leave d (image_by (state_of d) tear)) (n m start count : ℕ) (few : count ≤ MAX_CALLS) (load : Workload) (is : load ≡ generated start count)
     (old new : List MemDisk) (old_count : length old ≡ n) (new_count : length new ≡ n) (wrote : List ℕ → Type 0) (rows : Rows) (r : IsMeasured G n m load old new wrote rows) where
@@ -73,7 +72,7 @@ module _ {G : Ghosts MemDisk} (tells : G.tells) (left : (d : MemDisk) (tear : Te
 
   acked : (k : ℕ) → 1 ≤ k → k ≤ count → (a : ℕ × List ℕ) × Member a run.acks × (a.0 ≡ k)
   acked k low high =
-      let w = some_pass (λ (a : ℕ × List ℕ). a.0 == k) run.acks (r.all k low (omega (arith, high, long))) in
+      let w = any_member (λ (a : ℕ × List ℕ). a.0 == k) run.acks (r.all k low (omega (arith, high, long))) in
       (w.0, w.1, eqb-true w.0.0 k w.2)
 
   number_of : Committed → ℕ
@@ -82,7 +81,7 @@ module _ {G : Ghosts MemDisk} (tells : G.tells) (left : (d : MemDisk) (tear : Te
   once : Reordered (numbers count) (map (λ (c : Committed). c.number) run.calls)
   once =
       all_numbers count (map (λ (c : Committed). c.number) run.calls) r.rehearsed.facts.history.once
-      (λ k m. (let w = member_map (λ (c : Committed). c.number) k run.calls m in let f = formula w.0 w.1 in subst (λ (j : ℕ). (1 ≤ j) × (j ≤ count)) w.2 (f.0, f.1)))
+      (λ k m. (let w = member_mapped (λ (c : Committed). c.number) k run.calls m in let f = formula w.0 w.1 in subst (λ (j : ℕ). (1 ≤ j) × (j ≤ count)) w.2 (f.0, f.1)))
       (λ k low high.
       (let a = acked k low high in
       let c = r.rehearsed.facts.history.acked a.0 a.1 in
@@ -92,10 +91,10 @@ module _ {G : Ghosts MemDisk} (tells : G.tells) (left : (d : MemDisk) (tear : Te
   pub acks_are : length run.acks ≡ count
   acks_are =
       sym (length_mapped (λ (a : ℕ × List ℕ). a.0) run.acks)
-      ∙ sym (reordered-length (numbers count) (map (λ (a : ℕ × List ℕ). a.0) run.acks)
+      ∙ sym (reordered_length (numbers count) (map (λ (a : ℕ × List ℕ). a.0) run.acks)
       (all_numbers count (map (λ (a : ℕ × List ℕ). a.0) run.acks) r.rehearsed.facts.history.acked_once
       (λ k m.
-      (let a = member_map (λ (a : ℕ × List ℕ). a.0) k run.acks m in
+      (let a = member_mapped (λ (a : ℕ × List ℕ). a.0) k run.acks m in
       let c = r.rehearsed.facts.history.acked a.0 a.1 in
       let f = formula c.0 c.1 in
       subst (λ (j : ℕ). (1 ≤ j) × (j ≤ count)) (c.2 ∙ a.2) (f.0, f.1)))
@@ -115,8 +114,8 @@ module _ {G : Ghosts MemDisk} (tells : G.tells) (left : (d : MemDisk) (tear : Te
   -- recovery takes every call
   takes_all : (c : Committed) → Member c run.calls → takes recovers.log c ≡ true
   takes_all c member =
-      let back : Member c (map (λ (x : Act Committed). x.call) (acts load.declarations.procs run)) = subst (λ (cs : List Committed). Member c cs) (sym (calls-trace (means load.declarations.procs) run.calls empty_db)) member in
-      let x = member_map (λ (x : Act Committed). x.call) c (acts load.declarations.procs run) back in
+      let back : Member c (map (λ (x : Act Committed). x.call) (acts load.declarations.procs run)) = subst (λ (cs : List Committed). Member c cs) (sym (calls_trace (means load.declarations.procs) run.calls empty_db)) member in
+      let x = member_mapped (λ (x : Act Committed). x.call) c (acts load.declarations.procs run) back in
       let f = formula c member in
       let has : has_ack run c.number ≡ true = r.all c.number f.0 (let high = f.1 in omega (arith, high, long)) in
       let up = all_write load.declarations.procs start count (λ (d : Committed). d.number) (λ d. d.call) run.calls few (λ d m. (formula d m).2) once x.0 x.1 in
@@ -124,7 +123,7 @@ module _ {G : Ghosts MemDisk} (tells : G.tells) (left : (d : MemDisk) (tear : Te
       (taken tells left n m load old new old_count new_count wrote r.rehearsed New x.0 x.1 (subst (λ (d : Committed). has_ack run d.number ≡ true) (sym x.2) has) up)
 
   whole : filter (takes recovers.log) run.calls ≡ run.calls
-  whole = all_pass (takes recovers.log) run.calls takes_all
+  whole = filter_all (takes recovers.log) run.calls takes_all
 
   -- so what recovery finds is the formula's too
   pub found_are : (found : Rows) → AreFound new found → found ≡ rows_of start count

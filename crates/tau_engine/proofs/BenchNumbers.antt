@@ -3,7 +3,7 @@ use Rattle.std.proofs.Common.{ℕ, zero, suc, ◌≤◌, ◌≡◌, ◌⊎◌, i
 use Rattle.std.specs.List.{filter, list_any}
 use Rattle.std.proofs.lemmas.Bool.{cases_Bool}
 use Rattle.tau_model.specs.History.{Member, Reordered}
-use Rattle.tau_model.proofs.Orders.{member-put, member-back}
+use Rattle.tau_model.proofs.Orders.{member_put, member_back}
 use Rattle.tau_run.specs.Run.{Distinct}
 use Rattle.tau_gen.specs.Sums.{numbers}
 
@@ -22,10 +22,10 @@ taken_out : (x : ℕ) (front back : List ℕ) → Distinct (front ++ x ∷ back)
 taken_out x [] back d = (d.1, d.0)
 taken_out x (y ∷ front) back d =
     let rest = taken_out x front back d.1 in
-    ((λ m. d.0 (member-put x y front back m), rest.0), not_there rest.1)
+    ((λ m. d.0 (member_put x y front back m), rest.0), not_there rest.1)
   where
     not_there : (Member x (front ++ back) → ⊥) → Member x (y ∷ (front ++ back)) → ⊥
-    not_there none (inl e) = d.0 (member-back y front (x ∷ back) (inl (sym e)))
+    not_there none (inl e) = d.0 (member_back y front (x ∷ back) (inl (sym e)))
     not_there none (inr m) = none m
 
 pub all_numbers : (count : ℕ) (ns : List ℕ) → Distinct ns → ((n : ℕ) → Member n ns → (1 ≤ n) × (n ≤ count)) → ((n : ℕ) → 1 ≤ n → n ≤ count → Member n ns) → Reordered (numbers count) ns
@@ -34,7 +34,7 @@ all_numbers zero (n ∷ ns) once within cover = absurd (let w = within n (inl re
 all_numbers (suc count) ns once within cover =
     let (front, back, e) = split (suc count) ns (cover (suc count) (omega arith) (omega arith)) in
     let out = taken_out (suc count) front back (subst (λ (xs : List ℕ). Distinct xs) e once) in
-    let inside : (n : ℕ) → Member n (front ++ back) → Member n ns = λ n m. subst (λ (xs : List ℕ). Member n xs) (sym e) (member-put (suc count) n front back m) in (
+    let inside : (n : ℕ) → Member n (front ++ back) → Member n ns = λ n m. subst (λ (xs : List ℕ). Member n xs) (sym e) (member_put (suc count) n front back m) in (
       front,
       back,
       e,
@@ -48,15 +48,3 @@ all_numbers (suc count) ns once within cover =
   where
     below : (n : ℕ) → n ≤ suc count → (n ≡ suc count → ⊥) → n ≤ count
     below n high ne = omega (arith, high, ne)
-
--- an element that passes the test
-pub some_pass : {A : Type 0} (p : A → Bool) (xs : List A) → list_any p xs ≡ true → (x : A) × Member x xs × (p x ≡ true)
-some_pass p [] e = absurd (cc)
-some_pass p (x ∷ xs) e = elim (cases_Bool (p x)) [
-  | inl is ↦ (x, inl refl, is)
-  | inr no' ↦ (let w = some_pass p xs (rw no' at e) in (w.0, inr w.1, w.2))
-]
-
-pub all_pass : {A : Type 0} (p : A → Bool) (xs : List A) → ((x : A) → Member x xs → p x ≡ true) → filter p xs ≡ xs
-all_pass p [] h = refl
-all_pass {A} p (x ∷ xs) h = let is = h x (inl refl) in rw is (ap (λ (l : List A). x ∷ l) (all_pass p xs (λ y m. h y (inr m))))

@@ -25,16 +25,14 @@ use Rattle.tau_run.specs.RecoveredFacts.{AreFrom, IsRecovered, takes}
 use Rattle.tau_engine.specs.Drill.{AreNewDisks, ArePlanned, IsDrill, IsFound, IsNew, IsRehearsed, StopsAt, images_by, is_of, stop_at, tear_in}
 use Rattle.tau_engine.specs.DiskFacts.{Now}
 use Rattle.tau_engine.specs.Recovery.{IsRecoveryOf}
+use Rattle.tau_base.proofs.Lists.{some_at, got_more, got_within, length_mapped, got_mapped}
+use Rattle.tau_disk.proofs.Images.{reach_least}
 
 -- ---- disks in memory
 
-reach_least : (len : ℕ) (tears : List (ℕ × ℕ)) → len ≤ reach len tears
-reach_least len [] = omega arith
-reach_least len (tear ∷ tears) = omega (arith, reach_least len tears)
-
 -- each of the three images is one that a stop now may leave
 pub image_left : (d : MemDisk) (tear : Tear) → leaves (state_of d) (image_by (state_of d) tear)
-image_left d Old = record { same = λ k within outside. refl; no_shorter = omega arith; no_longer = reach_least (length (state_of d).synced) (state_of d).tears }
+image_left d Old = record { same = λ k got_within outside. refl; no_shorter = omega arith; no_longer = reach_least (length (state_of d).synced) (state_of d).tears }
 image_left d New = subst (λ (x : List ℕ). leaves (state_of d) x) d.reads d.sound
 image_left d Torn = d.torn_sound
 
@@ -47,25 +45,6 @@ new_is_unborn d new x left =
     let none = image.no_longer in
     omega (arith, none)
 
-got_mapped : {A B : Type 0} (f : A → B) (xs : List A) (j : ℕ) (y : B) → slice_get (map f xs) j ≡ Some y → (x : A) × (slice_get xs j ≡ Some x) × (f x ≡ y)
-got_mapped f [] j y e = absurd (cc)
-got_mapped f (x ∷ xs) zero y e = (x, refl, cc)
-got_mapped f (x ∷ xs) (suc j) y e = got_mapped f xs j y e
-
-length_mapped : {A B : Type 0} (f : A → B) (xs : List A) → length (map f xs) ≡ length xs
-length_mapped f [] = refl
-length_mapped f (x ∷ xs) = ap suc (length_mapped f xs)
-
-some_low : {A : Type 0} (xs : List A) (j : ℕ) → j < length xs → (x : A) × (slice_get xs j ≡ Some x)
-some_low [] j lt = absurd (omega (arith, lt))
-some_low (x ∷ xs) zero lt = (x, refl)
-some_low (x ∷ xs) (suc j) lt = some_low xs j (omega (arith, lt))
-
-within : {A : Type 0} (xs : List A) (j : ℕ) (x : A) → slice_get xs j ≡ Some x → j < length xs
-within [] j x e = absurd (cc)
-within (y ∷ xs) zero x e = omega arith
-within (y ∷ xs) (suc j) x e = let lt = within xs j x e in omega (arith, lt)
-
 -- ---- what recovery finds
 
 module _ {G : Ghosts MemDisk} (tells : G.tells) (left : (d : MemDisk) (tear : Tear) → G.may_leave d (image_by (state_of d) tear)) (n m : ℕ) (load : Workload) (old new : List MemDisk) (count : length old ≡ n) (same_count : length new ≡ n) (wrote : List ℕ → Type 0)
@@ -75,8 +54,8 @@ module _ {G : Ghosts MemDisk} (tells : G.tells) (left : (d : MemDisk) (tear : Te
     length_mapped (λ (d : MemDisk). image_by (state_of d) tear) new ∙ same_count,
     λ j image got.
         (let e = got_mapped (λ (d : MemDisk). image_by (state_of d) tear) new j image got in
-        let lt = within new j e.0 e.1 in
-        let d = some_low old j (omega (arith, lt, count, same_count)) in
+        let lt = got_within new j e.0 e.1 in
+        let d = some_at old j (omega (arith, lt, count, same_count)) in
         (d.0, e.0, d.1, e.1, (tells, subst (λ (x : List ℕ). G.may_leave e.0 x) e.2 (left e.0 tear)))),
   )
 
@@ -127,12 +106,6 @@ module _ {G : Ghosts MemDisk} (tells : G.tells) (left : (d : MemDisk) (tear : Te
   }
 
 -- ---- one disk more
-
-pub got_more : {A : Type 0} (xs : List A) (y x : A) (j : ℕ) → slice_get (xs ++ y ∷ []) j ≡ Some x → (slice_get xs j ≡ Some x) ⊎ ((j ≡ length xs) × (y ≡ x))
-got_more [] y x zero e = inr (refl, cc)
-got_more [] y x (suc j) e = absurd (cc)
-got_more (z ∷ xs) y x zero e = inl e
-got_more (z ∷ xs) y x (suc j) e = elim (got_more xs y x j e) [ inl got ↦ inl got | inr q ↦ inr (ap suc q.0, q.1) ]
 
 pub one_new : (planned : ℕ → MemDisk → Type 0) (disks more : List MemDisk) (d : MemDisk) (i : ℕ) → length disks ≡ i → more ≡ disks ++ d ∷ [] → AreNewDisks planned disks → IsNew d → planned i d → AreNewDisks planned more
 one_new planned disks more d i count is all new plan j x got = elim (got_more disks d x j (subst (λ (ds : List MemDisk). slice_get ds j ≡ Some x) is got)) [

@@ -5,23 +5,17 @@ use Rattle.std.proofs.lemmas.Bool.Decides.{nat_tests}
 use Rattle.std.proofs.lemmas.Bool.{cases_Bool}
 use Rattle.tau_model.specs.History.{Member}
 use Rattle.tau_disk.specs.Used.{AreEmpty, IsFirstLong}
-use Rattle.tau_open.proofs.Places.{some_is}
 use Rattle.tau_engine.specs.declared.status.Status.{Status}
 use Rattle.tau_engine.specs.declared.status.Status.TheVariants as status
 use Rattle.tau_engine.specs.Outside.{OpensBad}
-
-is_below : (j k : ℕ) → nat_lt j k ≡ true → j < k
-is_below j k e = grind (arith, nat_tests)
-
-is_not_below : (j k : ℕ) → nat_lt j k ≡ false → k ≤ j
-is_not_below j k e = grind (arith, nat_tests)
+use Rattle.tau_base.proofs.Logic.{some_is, below_of_true, at_most_of_false}
 
 three : (j k : ℕ) → (j < k) ⊎ ((k < j) ⊎ (j ≡ k))
 three j k = elim (cases_Bool (nat_lt j k)) [
-  | inl e ↦ inl (is_below j k e)
+  | inl e ↦ inl (below_of_true j k e)
   | inr e ↦ elim (cases_Bool (nat_lt k j)) [
-    | inl f ↦ inr (inl (is_below k j f))
-    | inr f ↦ (let a : k ≤ j = is_not_below j k e in let b : j ≤ k = is_not_below k j f in inr (inr (omega (arith, a, b))))
+    | inl f ↦ inr (inl (below_of_true k j f))
+    | inr f ↦ (let a : k ≤ j = at_most_of_false j k e in let b : j ≤ k = at_most_of_false k j f in inr (inr (omega (arith, a, b))))
   ]
 ]
 

@@ -15,13 +15,13 @@ use Rattle.tau_machine.specs.State.{Setting, Core}
 use Rattle.tau_machine.specs.Invariant.{Invariant}
 use Rattle.tau_machine.specs.Reports.{reported}
 use Rattle.tau_machine.specs.Runs.{IsOpening, Run as MachineRun}
-use Rattle.tau_machine.proofs.Runs.{run-invariant}
+use Rattle.tau_machine.proofs.Runs.{run_invariant}
 use Rattle.tau_text.specs.declared.load.Turn.{Turn}
 use Rattle.tau_text.specs.declared.load.Turn.TheVariants as turn
 use Rattle.tau_text.specs.declared.load.Workload.{Workload}
 use Rattle.tau_core.specs.declared.state.Load.{Load}
 use Rattle.tau_core.specs.View.{setting_of, call_of, worker_of, from_on}
-use Rattle.tau_core.proofs.Turns.{call-there, once-there, whose-there}
+use Rattle.tau_core.proofs.Turns.{call_there, once_there, whose_there}
 use Rattle.tau_run.specs.Run.{Run, told_of, below, IsHistory}
 use Rattle.tau_run.specs.RecoveredFacts.{catalogue_of, IsEnded}
 use Rattle.tau_run.specs.CoreRun.{IsLoadOf, IsStart, IsRunOf}
@@ -32,11 +32,12 @@ use Rattle.tau_run.specs.RunFacts as told
 use Rattle.tau_run.specs.Turns.{Progress, begun, Turned, TurnedAll, OneByOne, Cleared, IsPartOfRun}
 use Rattle.tau_run.proofs.Acked.{whole}
 use Rattle.tau_run.proofs.History.{is_history}
-use Rattle.tau_run.proofs.Logs.{got_within}
 use Rattle.tau_run.proofs.Order.{once}
 use Rattle.tau_run.proofs.Reading.{IsCatalogue}
 use Rattle.tau_run.proofs.Recovered.{is_set, recovered}
 use Rattle.tau_run.proofs.Streams.{AreSound}
+use Rattle.tau_base.proofs.Lists.{got_within}
+use Rattle.tau_base.proofs.Logic.{replicated}
 
 -- ---- nothing happens in a part of a run
 
@@ -59,11 +60,6 @@ never_stopped : (k : ℕ) → None ≡ Some k → ⊥
 never_stopped k e = cc
 
 -- ---- lists of one value
-
-same_at : (n x j : ℕ) → j < n → slice_index (replicate n x) j ≡ x
-same_at zero x j lt = absurd (omega (arith, lt))
-same_at (suc n) x zero lt = refl
-same_at (suc n) x (suc j) lt = same_at n x j (omega (arith, lt))
 
 got_same : (n : ℕ) (x y : List ℕ) (j : ℕ) → slice_get (replicate n x) j ≡ Some y → x ≡ y
 got_same zero x y j e = absurd (cc)
@@ -146,9 +142,9 @@ module _ (n m : ℕ) (mode : LogMode) (load : Workload) (some : 1 ≤ n) (room :
     anchors = λ j. refl;
     acked = λ w. refl;
     stops = λ j. refl;
-    calls = by_worker (λ w wk. (c : Numbered) → Member c wk.waiting → call_of load.calls c.number ≡ Some c.call) (λ w lt c q. call-there load.calls m w c q) (λ w c q. absurd q);
-    once = by_worker (λ w wk. (k : ℕ) → in_worker k wk ≤ 1) (λ w lt k. (let e = once-there load.calls m w k workers in omega (arith, e))) (λ w k. omega arith);
-    whose = by_worker (λ w wk. (k : ℕ) → 1 ≤ in_worker k wk → worker_of m k ≡ w) (λ w lt k e. whose-there load.calls m w k workers lt (omega (arith, e))) (λ w k e. absurd (omega (arith, e)));
+    calls = by_worker (λ w wk. (c : Numbered) → Member c wk.waiting → call_of load.calls c.number ≡ Some c.call) (λ w lt c q. call_there load.calls m w c q) (λ w c q. absurd q);
+    once = by_worker (λ w wk. (k : ℕ) → in_worker k wk ≤ 1) (λ w lt k. (let e = once_there load.calls m w k workers in omega (arith, e))) (λ w k. omega arith);
+    whose = by_worker (λ w wk. (k : ℕ) → 1 ≤ in_worker k wk → worker_of m k ≡ w) (λ w lt k e. whose_there load.calls m w k workers lt (omega (arith, e))) (λ w k e. absurd (omega (arith, e)));
   }
 
   starts : IsStart l first
@@ -162,7 +158,7 @@ module _ (n m : ℕ) (mode : LogMode) (load : Workload) (some : 1 ≤ n) (room :
   led = record { opens = opens; leads = (refl, refl) }
 
   inv : Invariant (setting_of l) [] first
-  inv = run-invariant (setting_of l) first [] [] first led
+  inv = run_invariant (setting_of l) first [] [] first led
 
   are_sound : AreSound l load []
   are_sound = record { catalogue = sound; declared = λ t q up. absurd q }
@@ -183,7 +179,7 @@ module _ (n m : ℕ) (mode : LogMode) (load : Workload) (some : 1 ≤ n) (room :
         let is = got_same n catalogue content j e in
         record {
           waiting = [];
-          moved = sym (same_at n (length catalogue) j lt);
+          moved = sym (replicated n (length catalogue) j lt);
           rest = refl;
           records = refl;
           anchors = refl;

@@ -9,8 +9,8 @@ use Rattle.tau_proc.specs.declared.proc.Proc.{Proc}
 use Rattle.tau_proc.specs.declared.reply.Reply.{Reply}
 use Rattle.tau_model.specs.History.{Act, Member, Reordered, exec}
 use Rattle.tau_model.specs.Tables.{IsTablesOf}
-use Rattle.tau_model.proofs.Reorder.{reordered-itself, reordered-sym}
-use Rattle.tau_model.proofs.Orders.{member-reordered}
+use Rattle.tau_model.proofs.Reorder.{reordered_itself, reordered_sym}
+use Rattle.tau_model.proofs.Orders.{member_reordered}
 use Rattle.tau_machine.specs.Hands.{Txn, act_in}
 use Rattle.tau_machine.specs.Hands as hands
 use Rattle.tau_machine.specs.State.{Core, sight}
@@ -63,12 +63,12 @@ reply_same : (k : ℕ) (K H : List (Act Txn)) → Apart K → Reordered K H → 
 reply_same k K H one r = elim (found k K) [
   | inl none ↦ elim (found k H) [
     | inl also ↦ none.0 ∙ sym also.0
-    | inr some ↦ absurd (none.1 some.0 (member-reordered K H r some.0 some.1) some.2)
+    | inr some ↦ absurd (none.1 some.0 (member_reordered K H r some.0 some.1) some.2)
   ]
   | inr some ↦ elim (found k H) [
-    | inl none ↦ absurd (none.1 some.0 (member-reordered H K (reordered-sym K H r) some.0 some.1) some.2)
+    | inl none ↦ absurd (none.1 some.0 (member_reordered H K (reordered_sym K H r) some.0 some.1) some.2)
     | inr also ↦
-        let same : some.0 ≡ also.0 = one_of_number K one some.0 also.0 some.1 (member-reordered K H r also.0 also.1) (some.2 ∙ sym also.2) in
+        let same : some.0 ≡ also.0 = one_of_number K one some.0 also.0 some.1 (member_reordered K H r also.0 also.1) (some.2 ∙ sym also.2) in
         some.3 ∙ ap (λ (t : Act Txn). Some t.effect.reply) same ∙ sym also.3
   ]
 ]
@@ -98,7 +98,7 @@ module _ (n m : ℕ) (mode : LogMode) (load : Workload) (l : Load) (K : List (Ac
   pub last_is : ((w : ℕ) → (s.workers w).hand ≡ None) → (sight (setting_of l) s).row ≡ last_db load run
   last_is rests =
       let set = is_set n m mode load l c.load_is in
-      let law = reported_theorem (setting_of l) K s c.inv K (reordered-itself K) in
+      let law = reported_theorem (setting_of l) K s c.inv K (reordered_itself K) in
       let told : exec (means l.procs) (map told_of (reported s.ends K)) empty_db ≡ exec (hands.means l.procs) (calls_of (reported s.ends K)) empty_db = exec_told l.procs (reported s.ends K) empty_db in
       let rows : exec (hands.means l.procs) (calls_of (reported s.ends K)) (setting_of l).base ≡ (sight (setting_of l) s).row = λ i x. (law.5 x (unheld rests x)) i in
       sym rows

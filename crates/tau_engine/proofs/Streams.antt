@@ -21,24 +21,13 @@ use Rattle.tau_core.specs.declared.state.Load.{Load}
 use Rattle.tau_run.specs.StopsLeave.{HasFront, IsLeft, Leaves}
 use Rattle.tau_step.specs.RunTold.{EachOf, Left}
 use Rattle.tau_engine.specs.DiskFacts.{Past, Now, AreUnborn, NotEarlier, NextClean}
-
-same_some : {A : Type 0} (x y : A) → Some x ≡ Some y → x ≡ y
-same_some x y e = cc
-
-got_mapped : {A B : Type 0} (f : A → B) (xs : List A) (j : ℕ) (y : B) → slice_get (map f xs) j ≡ Some y → (x : A) × (slice_get xs j ≡ Some x) × (f x ≡ y)
-got_mapped f [] j y e = absurd (cc)
-got_mapped f (x ∷ xs) zero y e = (x, refl, cc)
-got_mapped f (x ∷ xs) (suc j) y e = got_mapped f xs j y e
+use Rattle.tau_base.proofs.Lists.{some_at, got_mapped}
+use Rattle.tau_base.proofs.Logic.{some_is}
 
 mapped_got : {A B : Type 0} (f : A → B) (xs rest : List A) (more : List B) (j : ℕ) (x : A) → slice_get xs j ≡ Some x → slice_get (map f xs ++ more) j ≡ Some (f x)
 mapped_got f [] rest more j x e = absurd (cc)
-mapped_got {B = B} f (y ∷ xs) rest more zero x e = (let same = same_some y x e in ap (λ z. Some (f z)) same)
+mapped_got {B = B} f (y ∷ xs) rest more zero x e = (let same = some_is y x e in ap (λ z. Some (f z)) same)
 mapped_got f (y ∷ xs) rest more (suc j) x e = mapped_got f xs rest more j x e
-
-some_low : {A : Type 0} (xs : List A) (j : ℕ) → j < length xs → (x : A) × (slice_get xs j ≡ Some x)
-some_low [] j lt = absurd (omega (arith, lt))
-some_low (x ∷ xs) zero lt = (x, refl)
-some_low (x ∷ xs) (suc j) lt = some_low xs j (omega (arith, lt))
 
 -- since this moment there is no other
 abbrev pub OnlyNow : {D : Type 0} → Ghosts D → Type 0
@@ -73,11 +62,11 @@ module _ {D : Type 0} (G : Ghosts D) where
     at_end : (j : ℕ) → j < n → (d e : D) → slice_get old j ≡ Some d → slice_get new j ≡ Some e → Joined n catalogue l s j d e
     at_end j lt d e was is =
         let h = all j d lt was in
-        subst (λ (x : D). Joined n catalogue l s j d x) (same_some h.0 e (sym h.1 ∙ is)) h.2
+        subst (λ (x : D). Joined n catalogue l s j d x) (some_is h.0 e (sym h.1 ∙ is)) h.2
 
     at_start : (j : ℕ) → j < n → (d : D) × (e : D) × (slice_get old j ≡ Some d) × (slice_get new j ≡ Some e) × Joined n catalogue l s j d e
     at_start j lt =
-        let d = some_low old j (omega (arith, lt, many)) in
+        let d = some_at old j (omega (arith, lt, many)) in
         let h = all j d.0 lt d.1 in
         (d.0, h.0, d.1, h.1, h.2)
 

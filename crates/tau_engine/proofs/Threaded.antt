@@ -29,7 +29,6 @@ use Rattle.tau_run.specs.CoreRun.{IsLoadOf, IsRunOf, IsSoundLoad}
 use Rattle.tau_run.specs.StopsLeave.{IsOver}
 use Rattle.tau_run.specs.RunFacts.{chosen_by}
 use Rattle.tau_run.specs.Turns.{Progress}
-use Rattle.tau_run.proofs.Logs.{some_within, got_within}
 use Rattle.tau_step.specs.Came.{CameTo, came_far}
 use Rattle.tau_step.specs.RunTold.{IsLowestStopped, fates_by}
 use Rattle.tau_crew_facts.specs.Ends.{AreApart, IsThreadEnd, IsThreadDone}
@@ -41,9 +40,8 @@ use Rattle.tau_engine.specs.Came.{Concluded, CutOff, Gave}
 use Rattle.tau_engine.specs.DiskFacts.{HasSpaced, Now}
 use Rattle.tau_engine.proofs.RanTo as to
 use Rattle.tau_engine.proofs.Streams.{OnlyNow}
-
-same_some : {A : Type 0} (x y : A) → Some x ≡ Some y → x ≡ y
-same_some x y e = cc
+use Rattle.tau_base.proofs.Lists.{some_at, got_within}
+use Rattle.tau_base.proofs.Logic.{some_is}
 
 -- nothing is asked of the events of a run in threads
 pub any_order : (turns : Option (List Turn)) (n m : ℕ) (load : Workload) → turns ≡ None → (whole : Bool) (l : Load) (opening : Core) (p : Progress) → chosen_by turns n m load whole l opening p
@@ -63,13 +61,13 @@ module _ {D : Type 0} {G : Ghosts D} (n m : ℕ) (mode : LogMode) (load : Worklo
   came_to = at.came n m mode load first load_is sound c ws ws' acks e by any
 
   pub load_at : came_to.stands_on ≡ first.load
-  load_at = at.load-is n m mode load first load_is sound c ws ws' acks e by any
+  load_at = at.load_is_that n m mode load first load_is sound c ws ws' acks e by any
 
   pub state_at : came_to.state ≡ at.end n m mode load first load_is sound c ws ws' acks e
-  state_at = at.state-is n m mode load first load_is sound c ws ws' acks e by any
+  state_at = at.state_is n m mode load first load_is sound c ws ws' acks e by any
 
   pub joined_at : came_to.joined ≡ e.closed.joined
-  joined_at = at.joined-is n m mode load first load_is sound c ws ws' acks e by any
+  joined_at = at.joined_is n m mode load first load_is sound c ws ws' acks e by any
 
   many : length ws ≡ n
   many = e.count ∙ load_is.streams
@@ -77,17 +75,17 @@ module _ {D : Type 0} {G : Ghosts D} (n m : ℕ) (mode : LogMode) (load : Worklo
   -- the lowest failed disk is that of the lowest stopped stream
   pub lowest : (o : Option ℕ) → IsLowestFailed ws' o → IsLowestStopped n came_to.state o
   lowest None all = λ j lt.
-      (let w = some_within ws j (let b = many in omega (arith, lt, b)) in
+      (let w = some_at ws j (let b = many in omega (arith, lt, b)) in
       let x = came_to.writers.each j w.0 w.1 in
       (x.2.goes (all j x.0 x.1)).0)
   lowest (Some j) (f, below) =
       let lt : j < n = (let a = got_within ws' j f.0 f.1 in let b = e.managers.count in let d = many in omega (arith, a, b, d)) in
-      let v = some_within ws j (let b = many in omega (arith, lt, b)) in
+      let v = some_at ws j (let b = many in omega (arith, lt, b)) in
       let x = came_to.writers.each j v.0 v.1 in (
         lt,
-        (x.2.stops (subst (λ (y : Writer D G). has_failed y ≡ true) (same_some f.0 x.0 (sym f.1 ∙ x.1)) f.2)).0,
+        (x.2.stops (subst (λ (y : Writer D G). has_failed y ≡ true) (some_is f.0 x.0 (sym f.1 ∙ x.1)) f.2)).0,
         λ i less.
-            (let w = some_within ws i (let b = many in omega (arith, lt, less, b)) in
+            (let w = some_at ws i (let b = many in omega (arith, lt, less, b)) in
             let y = came_to.writers.each i w.0 w.1 in
             (y.2.goes (below i y.0 less y.1)).0),
       )
@@ -102,14 +100,14 @@ module _ {D : Type 0} {G : Ghosts D} (n m : ℕ) (mode : LogMode) (load : Worklo
       by_flag : (b : Bool) → has_failed w ≡ b → has_failed w ≡ false
       by_flag false f = f
       by_flag true f =
-          let v = some_within ws j (let b = many in let low = lt in omega (arith, low, b)) in
+          let v = some_at ws j (let b = many in let low = lt in omega (arith, low, b)) in
           let x = came_to.writers.each j v.0 v.1 in
-          let at = (x.2.stops (subst (λ (y : Writer D G). has_failed y ≡ true) (same_some w x.0 (sym is ∙ x.1)) f)).0 in
+          let at = (x.2.stops (subst (λ (y : Writer D G). has_failed y ≡ true) (some_is w x.0 (sym is ∙ x.1)) f)).0 in
           absurd (let bad : None ≡ Some at.0 = sym (going j lt) ∙ at.1 in cc bad)
 
   module _ (d : IsThreadDone first.load c ws') where
     pub over : IsOver n came_to.state
-    over = at.over-at n m mode load first load_is sound c ws ws' acks e by any d
+    over = at.over_at n m mode load first load_is sound c ws ws' acks e by any d
 
     kept : (k : ℕ) → 1 ≤ k → k ≤ length load.calls → (w : ℕ) × (1 ≤ in_worker k (came_to.state.workers w))
     kept k low high =
@@ -117,7 +115,7 @@ module _ {D : Type 0} {G : Ghosts D} (n m : ℕ) (mode : LogMode) (load : Worklo
         subst (λ (x : Core). (w : ℕ) × (1 ≤ in_worker k (x.workers w))) (sym state_at) (d.kept k low (omega (arith, high, calls)))
 
     pub complete : ((j : ℕ) → j < n → (came_to.state.streams j).stop ≡ None) → AllAcked load came_to.run
-    complete going = lost.kept-acked n m mode load came_to.stands_on came_to.joined came_to.state came_to.course came_to.run came_to.is over kept going
+    complete going = lost.kept_acked n m mode load came_to.stands_on came_to.joined came_to.state came_to.course came_to.run came_to.is over kept going
 
 module _ {D : Type 0} {G : Ghosts D} (n m : ℕ) (mode : LogMode) (load : Workload) (threads : load.turns ≡ None) (sound : IsSoundLoad load) (first : Plain) (load_is : IsLoadOf n m mode load first.load)
     (ws ws' : List (Writer D G)) (hears : Type 0) (held held' : List ℕ) (sink_rose : Type 0) where
@@ -184,10 +182,10 @@ module _ {D : Type 0} {G : Ghosts D} (only_now : OnlyNow G) (n m : ℕ) (mode : 
   pub spaced : (j : ℕ) (x : List ℕ) → j < n → Now G.tells G.may_leave old new j x → HasSpaced n j load x
   spaced j x lt now =
       let whole = to.whole_now only_now n m mode load ws ws' r.acks t old mid new many streams back (over n m mode load threads sound first load_is ws ws' r.state r.acks r.came r.done) going j x lt now in
-      let content = some_within t.run.contents j (let a = t.is.streams in omega (arith, lt, a)) in
+      let content = some_at t.run.contents j (let a = t.is.streams in omega (arith, lt, a)) in
       let same : slice_index_or t.run.contents j [] ≡ content.0 = get_or_from_slice_get t.run.contents j content.0 [] content.1 in
       let working = works n m mode load threads sound first load_is ws ws' r.state r.acks r.came going in (
         content.0,
         subst (λ (b : List ℕ). HasContent n j b x) same whole,
-        apart.thread-spaced n m mode load first load_is sound r.state ws ws' r.acks r.came r.done working (subst (λ (k : ℕ). AreApart (λ j. catalogue_of load) k r.state) load_is.streams (r.apart working)) t.run is j content.0 lt content.1,
+        apart.thread_spaced n m mode load first load_is sound r.state ws ws' r.acks r.came r.done working (subst (λ (k : ℕ). AreApart (λ j. catalogue_of load) k r.state) load_is.streams (r.apart working)) t.run is j content.0 lt content.1,
       )

@@ -73,20 +73,20 @@ found k (m ∷ ms) = elim (cases_Bool (nat_lt k m.number)) [
 some_is : (a b : Mark) → Some a ≡ Some b → a ≡ b
 some_is a b e = cc e
 
-pub least-some : (k : ℕ) (known : List Mark) (m : Mark) → least_above k known ≡ Some m → IsLeast k known m
-least-some k known m e = elim (found k known) [
+pub least_some : (k : ℕ) (known : List Mark) (m : Mark) → least_above k known ≡ Some m → IsLeast k known m
+least_some k known m e = elim (found k known) [
   | inl w ↦ subst (IsLeast k known) (some_is w.0 m (sym w.1 ∙ e)) w.2
   | inr none ↦ absurd (let f : None ≡ Some m = sym none.0 ∙ e in cc f)
 ]
 
-pub least-none : (k : ℕ) (known : List Mark) → least_above k known ≡ None → NoneAbove k known
-least-none k known e = elim (found k known) [
+pub least_none : (k : ℕ) (known : List Mark) → least_above k known ≡ None → NoneAbove k known
+least_none k known e = elim (found k known) [
   | inl w ↦ absurd (let f : None ≡ Some w.0 = sym e ∙ w.1 in cc f)
   | inr none ↦ none.1
 ]
 
-pub none-least : (k : ℕ) (known : List Mark) → NoneAbove k known → least_above k known ≡ None
-none-least k known all = elim (found k known) [
+pub none_least : (k : ℕ) (known : List Mark) → NoneAbove k known → least_above k known ≡ None
+none_least k known all = elim (found k known) [
   | inl w ↦ absurd (let l = all w.0 w.2.there in let high = w.2.above in omega (arith, l, high))
   | inr none ↦ none.0
 ]

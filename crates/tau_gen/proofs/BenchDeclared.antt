@@ -13,6 +13,7 @@ use Rattle.tau_text.specs.Spelled.{new_name, name, place_from}
 use Rattle.tau_text.specs.Text.{workload_of, lines_read, line_read, words_read, statement_read, is_before, outer_read}
 use Rattle.tau_text.specs.Kept.{AreCalls}
 use Rattle.tau_gen.specs.Generated.{call_of, calls_of}
+use Rattle.tau_base.proofs.Lists.{length_mapped}
 
 -- the workload that declares the table alone, and its text
 abbrev pub bare : Workload
@@ -51,10 +52,6 @@ taken start count k c e = ap (takes []) (call_at start count k c e).0
 long_range : (a n : ℕ) → length (range_with_len a n) ≡ n
 long_range a zero = refl
 long_range a (suc n) = ap suc (long_range (a + 1) n)
-
-length_mapped : {A B : Type 0} (f : A → B) (xs : List A) → length (map f xs) ≡ length xs
-length_mapped f [] = refl
-length_mapped f (x ∷ xs) = ap suc (length_mapped f xs)
 
 pub length_calls : (start count : ℕ) → length (calls_of start count) ≡ count
 length_calls start count = length_mapped (call_of start) (range_with_len 1 count) ∙ long_range 1 count

@@ -13,7 +13,7 @@ use Rattle.tau_base.specs.declared.value.Key.{Key}
 use Rattle.tau_base.specs.declared.value.Value.{Value}
 use Rattle.tau_base.specs.declared.value.Value.TheVariants.{Absent, Int}
 use Rattle.tau_base.specs.Database.{Db, key_cmp, same_key}
-use Rattle.tau_base.proofs.Keys.{same_key-is, same_key-itself}
+use Rattle.tau_base.proofs.Keys.{same_key_is, same_key_itself}
 use Rattle.tau_model.specs.Tables.{IsTablesOf}
 use Rattle.tau_gen.specs.Sums.{row_with}
 
@@ -89,7 +89,7 @@ passed k row (suc n) rows apart = rw apart refl
 -- and one that is asked for is found, unless it has no row
 found : (row n : ℕ) (rows : Rows) → value_of (key_at row) rows ≡ Absent → value_of (key_at row) (row_with row n ++ rows) ≡ shown n
 found row zero rows none = none
-found row (suc n) rows none = rw (same_key-itself (key_at row)) refl
+found row (suc n) rows none = rw (same_key_itself (key_at row)) refl
 
 -- a key that is none of these rows
 nowhere : (sums : ℕ → ℕ) (k : Key) (a n : ℕ) → ((row : ℕ) → a ≤ row → row < a + n → k ≡ key_at row → ⊥) → value_of k (rows_from sums a n) ≡ Absent
@@ -97,7 +97,7 @@ nowhere sums k a zero none = refl
 nowhere sums k a (suc n) none =
     let rest = nowhere sums k (a + 1) n (λ row low high is. none row (omega (arith, low)) (omega (arith, high)) is) in
     elim (cases_Bool (same_key k (key_at a))) [
-      | inl same ↦ absurd (none a (omega arith) (omega arith) (same_key-is k (key_at a) same))
+      | inl same ↦ absurd (none a (omega arith) (omega arith) (same_key_is k (key_at a) same))
       | inr apart ↦ passed k a (sums a) (rows_from sums (a + 1) n) apart ∙ rest
     ]
 
@@ -115,7 +115,7 @@ somewhere sums row a (suc n) low high = elim (cases_eq a row) [
       (found a (sums a) (rows_from sums (a + 1) n) (nowhere sums (key_at a) (a + 1) n (λ r below high e. (let f = key_is a r e in omega (arith, below, f)))))
   | inr ne ↦
       let apart : same_key (key_at row) (key_at a) ≡ false = elim (cases_Bool (same_key (key_at row) (key_at a))) [
-        | inl same ↦ absurd (ne (sym (key_is row a (same_key-is (key_at row) (key_at a) same))))
+        | inl same ↦ absurd (ne (sym (key_is row a (same_key_is (key_at row) (key_at a) same))))
         | inr is ↦ is
       ] in
       let later : a + 1 ≤ row = omega (arith, low, ne) in

@@ -10,16 +10,17 @@ use Rattle.tau_base.specs.declared.value.Key.{Key}
 use Rattle.tau_base.specs.declared.value.Value.{Value}
 use Rattle.tau_base.specs.declared.value.Value.TheVariants.{Absent, Int}
 use Rattle.tau_base.specs.Database.{Db, empty_db, same_key, written}
-use Rattle.tau_base.proofs.Keys.{same_key-is, same_key-itself}
+use Rattle.tau_base.proofs.Keys.{same_key_is, same_key_itself}
 use Rattle.tau_proc.specs.declared.proc.Proc.{Proc}
 use Rattle.tau_proc.specs.Effect.{Effect}
 use Rattle.tau_proc.specs.Meaning.{meaning, sum_with, in_range}
 use Rattle.tau_model.specs.History.{Numbered, Act, Member, Reordered, exec, trace, updates, updating}
 use Rattle.tau_model.specs.Tables.{IsTablesOf}
-use Rattle.tau_model.proofs.Reorder.{reordered-length}
+use Rattle.tau_model.proofs.Reorder.{reordered_length}
 use Rattle.tau_gen.specs.Generated.{row_of, amount_of, call_of}
 use Rattle.tau_gen.specs.Sums.{adds_to, added, rows_of, numbers, AnyOrder}
 use Rattle.tau_gen.proofs.BenchRows.{shown, at_row, in_table, db_with, key_at, tables_with}
+use Rattle.tau_base.proofs.Lists.{length_mapped}
 
 -- ---- one call
 
@@ -76,8 +77,8 @@ after_one start k sums = fun_ext (λ x. by_key x)
 
     by_key : (x : Key) → written ((key_of start k, Int (pos (sum_of start k sums))) ∷ []) (db_with sums) x ≡ db_with (more start k sums) x
     by_key x = elim (cases_Bool (same_key x (key_of start k))) [
-      | inl same ↦ rw same (here start k sums ∙ sym (ap (db_with (more start k sums)) (same_key-is x (key_of start k) same)))
-      | inr apart ↦ rw apart (by_row x x.row x.table refl refl (λ is. (let e : true ≡ false = sym (same_key-itself x) ∙ ap (λ (y : Key). same_key x y) is ∙ apart in cc)))
+      | inl same ↦ rw same (here start k sums ∙ sym (ap (db_with (more start k sums)) (same_key_is x (key_of start k) same)))
+      | inr apart ↦ rw apart (by_row x x.row x.table refl refl (λ is. (let e : true ≡ false = sym (same_key_itself x) ∙ ap (λ (y : Key). same_key x y) is ∙ apart in cc)))
     ]
 
 -- ---- calls one after another
@@ -167,10 +168,6 @@ nothing = fun_ext (λ k. by k.row k.table)
     by (pos row) zero = refl
     by (negsuc row) zero = refl
 
-length_mapped : {A B : Type 0} (f : A → B) (xs : List A) → length (map f xs) ≡ length xs
-length_mapped f [] = refl
-length_mapped f (x ∷ xs) = ap suc (length_mapped f xs)
-
 pub length_numbers : (count : ℕ) → length (numbers count) ≡ count
 length_numbers zero = refl
 length_numbers (suc count) = ap suc (length_numbers count)
@@ -187,7 +184,7 @@ none_added start (suc count) row high =
 
 module _ (procs : List Proc) (start count : ℕ) {C : Type 0} (number : C → ℕ) (call : C → Call) (cs : List C) (few : count ≤ MAX_CALLS) (adds : (c : C) → Member c cs → call c ≡ call_of start (number c)) (once : Reordered (numbers count) (map number cs)) where
   long : length cs ≡ count
-  long = sym (length_mapped number cs) ∙ sym (reordered-length (numbers count) (map number cs) once) ∙ length_numbers count
+  long = sym (length_mapped number cs) ∙ sym (reordered_length (numbers count) (map number cs) once) ∙ length_numbers count
 
   low : (row : ℕ) → 0 + 10 * length cs < 2 ^ 63
   low row = omega (arith, long, few)
@@ -205,8 +202,8 @@ module _ (procs : List Proc) (start count : ℕ) {C : Type 0} (number : C → �
   pub all_write : (x : Act C) → Member x (trace (λ c db. meaning procs (call c) db) cs empty_db) → updates x.effect ≡ true
   all_write x m = each_writes procs start number call cs (λ row. 0) adds low x (subst (λ (db : Db). Member x (trace (λ c d. meaning procs (call c) d) cs db)) nothing m)
 
-pub any-order : AnyOrder
-any-order start count procs calls few g = (
+pub any_order : AnyOrder
+any_order start count procs calls few g = (
   leaves_rows procs start count (λ (c : Numbered). c.number) (λ c. c.call) calls few g.each g.once,
   all_write procs start count (λ (c : Numbered). c.number) (λ c. c.call) calls few g.each g.once,
 )

@@ -4,15 +4,15 @@ use Rattle.std.specs.Prelude.{slice_index}
 use Rattle.std.proofs.lemmas.List.{append-nil}
 use Rattle.std.proofs.lemmas.Bool.{cases_eq}
 use Rattle.tau_model.specs.History.{Act, Member}
-use Rattle.tau_model.proofs.Orders.{member-front}
+use Rattle.tau_model.proofs.Orders.{member_front}
 use Rattle.tau_machine.specs.Hands.{Txn}
 use Rattle.tau_machine.specs.State.{Setting, Item, Record, Anchor, start_of, past_of, Outbox, Core, hand_of}
 use Rattle.tau_machine.specs.Pieces.{NameTheirs, Chain, Ascending, records_in, anchors_in, placed_in, PostedAt, Flying, StreamGood, Pieces}
-use Rattle.tau_machine.proofs.Snoc.{member-snoc, member-last}
-use Rattle.tau_machine.proofs.Pieces.{named-append, chain-append, chain-member, chain-first, records-append, anchors-append, ascending-last, Same, stream-kept}
+use Rattle.tau_machine.proofs.Snoc.{member_snoc, member_last}
+use Rattle.tau_machine.proofs.Pieces.{named_append, chain_append, chain_member, chain_first, records_append, anchors_append, ascending_last, Same, stream_kept}
 
-anchor-record : (a b : ℕ) (v : List ℕ) (t : Act Txn) → ◌≡◌ {A = Item} (Anchor a b v) (Record t) → ⊥
-anchor-record a b v t e = cc
+pub anchor_record : (a b : ℕ) (v : List ℕ) (t : Act Txn) → ◌≡◌ {A = Item} (Anchor a b v) (Record t) → ⊥
+anchor_record a b v t e = cc
 
 module _ (set : Setting) (K : List (Act Txn)) (s s' : Core) (g : Pieces set K s) where
   -- the piece i of stream j is gathered
@@ -41,20 +41,20 @@ module _ (set : Setting) (K : List (Act Txn)) (s s' : Core) (g : Pieces set K s)
     o = g.stream j q.there
 
     front : (rest : List Item) × (o.waiting ≡ i ∷ rest) × (slice_index s.gathered j < past_of i) × Chain (past_of i) rest (slice_index s.ends j)
-    front = chain-first (slice_index s.gathered j) (slice_index s.ends j) o.waiting i o.rest (o.posted i q.is) q.start
+    front = chain_first (slice_index s.gathered j) (slice_index s.ends j) o.waiting i o.rest (o.posted i q.is) q.start
 
     back : (k : Item) → PostedAt set s' j k → PostedAt set s j k
     back k (inl (u, is, m)) = inl (u, is, q.less u k m)
     back k (inr m) = inr (q.less_own j k m)
 
     -- a piece that is posted is not in flight
-    landed-once : Flying set s j i → ⊥
-    landed-once f = at' q.is
+    landed_once : Flying set s j i → ⊥
+    landed_once f = at' q.is
       where
         at' : PostedAt set s j i → ⊥
         at' (inr m) =
             let w = g.own j i m in
-            anchor-record w.0 w.1 w.2 f.2.0 (sym w.3 ∙ f.2.1)
+            anchor_record w.0 w.1 w.2 f.2.0 (sym w.3 ∙ f.2.1)
         at' (inl (u, is, m)) =
             let (t, e, by) = g.whose u i m in
             let same : t ≡ f.2.0 = (let p : ◌≡◌ {A = Item} (Record t) (Record f.2.0) = sym e ∙ f.2.1 in cc) in
@@ -65,13 +65,13 @@ module _ (set : Setting) (K : List (Act Txn)) (s s' : Core) (g : Pieces set K s)
             let goes = front.2 in
             absurd (omega arith)
 
-    gathered-stream : StreamGood set K s' j
-    gathered-stream =
+    gathered_stream : StreamGood set K s' j
+    gathered_stream =
         let (rest, is, goes, chain) = front in
         record {
           waiting = rest;
           moved = subst (λ (l : List Item). Chain (slice_index set.opening j) l (slice_index s'.gathered j)) (sym q.moved)
-              (chain-append (slice_index set.opening j) (slice_index s.gathered j) (slice_index s'.gathered j) (s.streams j).moved (i ∷ []) o.moved (q.start, goes, sym q.gathered));
+              (chain_append (slice_index set.opening j) (slice_index s.gathered j) (slice_index s'.gathered j) (s.streams j).moved (i ∷ []) o.moved (q.start, goes, sym q.gathered));
           rest = subst (λ (k : ℕ). Chain k rest (slice_index s'.ends j)) (sym q.gathered) (subst (λ (v : List ℕ). Chain (past_of i) rest (slice_index v j)) (sym q.ends) chain);
           records = ap (λ (l : List Item). records_in (l ++ rest)) q.moved ∙ ap records_in (append_assoc (s.streams j).moved (i ∷ []) rest)
               ∙ ap (λ (l : List Item). records_in ((s.streams j).moved ++ l)) (sym is) ∙ o.records;
@@ -81,7 +81,7 @@ module _ (set : Setting) (K : List (Act Txn)) (s s' : Core) (g : Pieces set K s)
               (ap (λ (l : List Item). (s.streams j).moved ++ l) is ∙ sym (append_assoc (s.streams j).moved (i ∷ []) rest) ∙ ap (λ (l : List Item). l ++ rest) (sym q.moved)) o.named;
           there = λ k m. elim (o.there k (subst (λ (l : List Item). Member k l) (sym is) (inr m))) [
             | inl p ↦ elim (q.still k p) [
-              | inl same ↦ absurd (let c = chain-member (past_of i) (slice_index s.ends j) rest k chain m in
+              | inl same ↦ absurd (let c = chain_member (past_of i) (slice_index s.ends j) rest k chain m in
                   let low = c.0 in let e : start_of i ≡ start_of k = ap start_of same in let st = q.start in omega arith)
               | inr p' ↦ inl p'
             ]
@@ -94,13 +94,13 @@ module _ (set : Setting) (K : List (Act Txn)) (s s' : Core) (g : Pieces set K s)
           flying = λ k f.
               let f' : Flying set s j k = (f.0, f.1, (f.2.0, f.2.1, sym (q.placed f.0) ∙ f.2.2)) in
               elim (subst (λ (l : List Item). Member k l) is (o.flying k f')) [
-                | inl same ↦ absurd (landed-once (subst (λ (x : Item). Flying set s j x) (sym same) f'))
+                | inl same ↦ absurd (landed_once (subst (λ (x : Item). Flying set s j x) (sym same) f'))
                 | inr m ↦ m
               ];
         }
 
-    gathered-other : (k : ℕ) → (k ≡ j → ⊥) → Same set K K s s' k
-    gathered-other k ne = record {
+    other_gathered : (k : ℕ) → (k ≡ j → ⊥) → Same set K K s s' k
+    other_gathered k ne = record {
       moved = q.moved_other k ne;
       own = q.own_other k ne;
       anchors = q.anchors k;
@@ -111,11 +111,11 @@ module _ (set : Setting) (K : List (Act Txn)) (s s' : Core) (g : Pieces set K s)
       placed = λ u is. q.placed u;
     }
 
-    pub gathers-good : Pieces set K s'
-    gathers-good = record {
+    pub gathers_good : Pieces set K s'
+    gathers_good = record {
       stream = λ k lt. elim (cases_eq k j) [
-        | inl is ↦ subst (λ (x : ℕ). StreamGood set K s' x) (sym is) gathered-stream
-        | inr ne ↦ stream-kept set K K s s' k (gathered-other k ne) (g.stream k lt)
+        | inl is ↦ subst (λ (x : ℕ). StreamGood set K s' x) (sym is) gathered_stream
+        | inr ne ↦ stream_kept set K K s s' k (other_gathered k ne) (g.stream k lt)
       ];
       whose = λ u k m. g.whose u k (q.less u k m);
       own = λ l k m. g.own l k (q.less_own l k m);
@@ -126,8 +126,8 @@ module _ (set : Setting) (K : List (Act Txn)) (s s' : Core) (g : Pieces set K s)
     }
 
     -- the piece ends within its stream
-    pub gathers-within : (slice_index s.gathered j < past_of i) × (past_of i ≤ slice_index s.ends j)
-    gathers-within = (front.2, (chain-member (slice_index s.gathered j) (slice_index s.ends j) o.waiting i o.rest (o.posted i q.is)).2)
+    pub gathers_within : (slice_index s.gathered j < past_of i) × (past_of i ≤ slice_index s.ends j)
+    gathers_within = (front.2, (chain_member (slice_index s.gathered j) (slice_index s.ends j) o.waiting i o.rest (o.posted i q.is)).2)
 
   -- an anchor is placed and posted
   pub record Anchored (j past : ℕ) (v : List ℕ) : Type 0 where
@@ -151,42 +151,42 @@ module _ (set : Setting) (K : List (Act Txn)) (s s' : Core) (g : Pieces set K s)
     p : StreamGood set K s j
     p = g.stream j q.there
 
-    anchored-stream : StreamGood set K s' j
-    anchored-stream = record {
+    anchored_stream : StreamGood set K s' j
+    anchored_stream = record {
       waiting = p.waiting ++ new ∷ [];
       moved = subst (λ (l : List Item). Chain (slice_index set.opening j) l (slice_index s'.gathered j)) (sym (q.moved j))
           (subst (λ (a : List ℕ). Chain (slice_index set.opening j) (s.streams j).moved (slice_index a j)) (sym q.gathered) p.moved);
       rest = subst (λ (a : List ℕ). Chain (slice_index a j) (p.waiting ++ new ∷ []) (slice_index s'.ends j)) (sym q.gathered)
-          (chain-append (slice_index s.gathered j) (slice_index s.ends j) (slice_index s'.ends j) p.waiting (new ∷ []) p.rest (refl, q.goes, sym q.ends));
+          (chain_append (slice_index s.gathered j) (slice_index s.ends j) (slice_index s'.ends j) p.waiting (new ∷ []) p.rest (refl, q.goes, sym q.ends));
       records = ap (λ (l : List Item). records_in (l ++ (p.waiting ++ new ∷ []))) (q.moved j) ∙ ap records_in (sym (append_assoc (s.streams j).moved p.waiting (new ∷ [])))
-          ∙ records-append ((s.streams j).moved ++ p.waiting) (new ∷ []) ∙ append-nil (records_in ((s.streams j).moved ++ p.waiting)) ∙ p.records;
+          ∙ records_append ((s.streams j).moved ++ p.waiting) (new ∷ []) ∙ append-nil (records_in ((s.streams j).moved ++ p.waiting)) ∙ p.records;
       anchors = ap (λ (l : List Item). anchors_in (l ++ (p.waiting ++ new ∷ []))) (q.moved j) ∙ ap anchors_in (sym (append_assoc (s.streams j).moved p.waiting (new ∷ [])))
-          ∙ anchors-append ((s.streams j).moved ++ p.waiting) (new ∷ []) ∙ ap (λ (l : List (List ℕ)). l ++ v ∷ []) p.anchors ∙ sym q.anchors;
+          ∙ anchors_append ((s.streams j).moved ++ p.waiting) (new ∷ []) ∙ ap (λ (l : List (List ℕ)). l ++ v ∷ []) p.anchors ∙ sym q.anchors;
       named = subst (λ (l : List Item). NameTheirs (set.anchored j) [] l)
           (append_assoc (s.streams j).moved p.waiting (new ∷ []) ∙ ap (λ (l : List Item). l ++ (p.waiting ++ new ∷ [])) (sym (q.moved j)))
-          (named-append (set.anchored j) [] ((s.streams j).moved ++ p.waiting) (new ∷ []) p.named tt);
-      there = λ i m. elim (member-snoc p.waiting new i m) [
+          (named_append (set.anchored j) [] ((s.streams j).moved ++ p.waiting) (new ∷ []) p.named tt);
+      there = λ i m. elim (member_snoc p.waiting new i m) [
         | inl old ↦ elim (p.there i old) [
           | inl b ↦ inl (elim b [
             | inl c ↦ inl (c.0, c.1, subst (λ (f : ℕ → Outbox). Member i (f c.0).posted) (sym q.outboxes) c.2)
-            | inr c ↦ inr (subst (λ (l : List Item). Member i l) (sym q.posted) (member-front i (s.streams j).posted (new ∷ []) c))
+            | inr c ↦ inr (subst (λ (l : List Item). Member i l) (sym q.posted) (member_front i (s.streams j).posted (new ∷ []) c))
           ])
           | inr f ↦ inr (f.0, f.1, (f.2.0, f.2.1, q.placed f.0 ∙ f.2.2))
         ]
-        | inr e ↦ inl (inr (subst (λ (l : List Item). Member i l) (sym q.posted) (subst (λ (k : Item). Member k ((s.streams j).posted ++ new ∷ [])) e (member-last (s.streams j).posted new))))
+        | inr e ↦ inl (inr (subst (λ (l : List Item). Member i l) (sym q.posted) (subst (λ (k : Item). Member k ((s.streams j).posted ++ new ∷ [])) e (member_last (s.streams j).posted new))))
       ];
       posted = λ i b. elim b [
-        | inl c ↦ member-front i p.waiting (new ∷ []) (p.posted i (inl (c.0, c.1, subst (λ (f : ℕ → Outbox). Member i (f c.0).posted) q.outboxes c.2)))
-        | inr c ↦ elim (member-snoc (s.streams j).posted new i (subst (λ (l : List Item). Member i l) q.posted c)) [
-          | inl old ↦ member-front i p.waiting (new ∷ []) (p.posted i (inr old))
-          | inr e ↦ subst (λ (k : Item). Member k (p.waiting ++ new ∷ [])) e (member-last p.waiting new)
+        | inl c ↦ member_front i p.waiting (new ∷ []) (p.posted i (inl (c.0, c.1, subst (λ (f : ℕ → Outbox). Member i (f c.0).posted) q.outboxes c.2)))
+        | inr c ↦ elim (member_snoc (s.streams j).posted new i (subst (λ (l : List Item). Member i l) q.posted c)) [
+          | inl old ↦ member_front i p.waiting (new ∷ []) (p.posted i (inr old))
+          | inr e ↦ subst (λ (k : Item). Member k (p.waiting ++ new ∷ [])) e (member_last p.waiting new)
         ]
       ];
-      flying = λ i f. member-front i p.waiting (new ∷ []) (p.flying i (f.0, f.1, (f.2.0, f.2.1, sym (q.placed f.0) ∙ f.2.2)));
+      flying = λ i f. member_front i p.waiting (new ∷ []) (p.flying i (f.0, f.1, (f.2.0, f.2.1, sym (q.placed f.0) ∙ f.2.2)));
     }
 
-    anchored-other : (k : ℕ) → (k ≡ j → ⊥) → Same set K K s s' k
-    anchored-other k ne = record {
+    anchored_other : (k : ℕ) → (k ≡ j → ⊥) → Same set K K s s' k
+    anchored_other k ne = record {
       moved = q.moved k;
       own = q.posted_other k ne;
       anchors = q.anchors_other k ne;
@@ -197,15 +197,15 @@ module _ (set : Setting) (K : List (Act Txn)) (s s' : Core) (g : Pieces set K s)
       placed = λ u is. q.placed u;
     }
 
-    pub anchored-good : Pieces set K s'
-    anchored-good = record {
+    pub anchored_good : Pieces set K s'
+    anchored_good = record {
       stream = λ k lt. elim (cases_eq k j) [
-        | inl is ↦ subst (λ (x : ℕ). StreamGood set K s' x) (sym is) anchored-stream
-        | inr ne ↦ stream-kept set K K s s' k (anchored-other k ne) (g.stream k lt)
+        | inl is ↦ subst (λ (x : ℕ). StreamGood set K s' x) (sym is) anchored_stream
+        | inr ne ↦ stream_kept set K K s s' k (anchored_other k ne) (g.stream k lt)
       ];
       whose = λ u i m. g.whose u i (subst (λ (f : ℕ → Outbox). Member i (f u).posted) q.outboxes m);
       own = λ k i m. elim (cases_eq k j) [
-        | inl is ↦ elim (member-snoc (s.streams j).posted new i (subst (λ (l : List Item). Member i l) q.posted (subst (λ (x : ℕ). Member i (s'.streams x).posted) is m))) [
+        | inl is ↦ elim (member_snoc (s.streams j).posted new i (subst (λ (l : List Item). Member i l) q.posted (subst (λ (x : ℕ). Member i (s'.streams x).posted) is m))) [
           | inl old ↦ g.own j i old
           | inr e ↦ (slice_index s.ends j, past, v, sym e)
         ]
@@ -214,8 +214,8 @@ module _ (set : Setting) (K : List (Act Txn)) (s s' : Core) (g : Pieces set K s)
       ascending = λ u. subst (λ (f : ℕ → Outbox). Ascending (f u).posted) (sym q.outboxes) (g.ascending u);
       ascending_own = λ k. elim (cases_eq k j) [
         | inl is ↦ subst (λ (x : ℕ). Ascending (s'.streams x).posted) (sym is) (subst Ascending (sym q.posted)
-            (ascending-last (s.streams j).posted new (g.ascending_own j)
-            (λ i m. (chain-member (slice_index s.gathered j) (slice_index s.ends j) p.waiting i p.rest (p.posted i (inr m))).2)))
+            (ascending_last (s.streams j).posted new (g.ascending_own j)
+            (λ i m. (chain_member (slice_index s.gathered j) (slice_index s.ends j) p.waiting i p.rest (p.posted i (inr m))).2)))
         | inr ne ↦ subst Ascending (sym (q.posted_other k ne)) (g.ascending_own k)
       ];
       last = λ u t i e m. g.last u t i (sym (q.placed u) ∙ e) (subst (λ (f : ℕ → Outbox). Member i (f u).posted) q.outboxes m);

@@ -19,28 +19,28 @@ use Rattle.tau_machine.specs.Pieces.{NamesOne, placed_of, placed_in, records_of_
 use Rattle.tau_machine.specs.Accounts.{Account, Accounts, in_hand, in_phase}
 use Rattle.tau_machine.specs.Events as event
 use Rattle.tau_machine.specs.Events.{with_worker, with_shard, with_outbox, with_stream, ready, act_placed, act_reading, Event, Lock, Busy, Quit, Commit, Post, Free, FirstFree, Done, DoneReading, Drop, Gather, PlaceAnchor, Persist, Ack, Stop, Resume, Leads}
-use Rattle.tau_base.proofs.Vectors.{join-right}
-use Rattle.tau_machine.proofs.At.{at-same, at-other}
-use Rattle.tau_machine.proofs.States.{hands-at, hand-at, again, outbox-moved}
-use Rattle.tau_machine.proofs.Turns.{begun-good, locks-good, refuses-good, quits-good, let_go-good}
-use Rattle.tau_machine.proofs.Commits.{begun-committed, commit-good, reading-good, post-good, finish-good}
-use Rattle.tau_machine.proofs.Frees.{freed-good}
-use Rattle.tau_machine.proofs.Snoc.{member-snoc}
-use Rattle.tau_machine.proofs.Pieces.{Still, pieces-kept}
-use Rattle.tau_machine.proofs.PieceMoves.{records-out, in-idle, landed, posted-good}
-use Rattle.tau_machine.proofs.Accounts.{account-begun, account-settled, account-joined, account-ended, account-less}
+use Rattle.tau_base.proofs.Vectors.{join_right}
+use Rattle.tau_machine.proofs.At.{at_same, at_other}
+use Rattle.tau_machine.proofs.States.{hands_at, hand_at, again, outbox_moved}
+use Rattle.tau_machine.proofs.Turns.{begun_good, locks_good, refuses_good, quits_good, let_go_good}
+use Rattle.tau_machine.proofs.Commits.{begun_committed, commit_good, reading_good, post_good, finish_good}
+use Rattle.tau_machine.proofs.Frees.{freed_good}
+use Rattle.tau_machine.proofs.Snoc.{member_snoc}
+use Rattle.tau_machine.proofs.Pieces.{Still, pieces_kept}
+use Rattle.tau_machine.proofs.PieceMoves.{records_out, in_idle, landed, posted_good}
+use Rattle.tau_machine.proofs.Accounts.{account_begun, account_settled, account_joined, account_ended, account_less}
 
 -- hands and their places
-begun-placed : (width : ℕ) (wk : Worker) → placed_in (begun width wk).hand ≡ placed_in wk.hand
-begun-placed width wk = at' wk.hand wk.waiting refl
+begun_placed : (width : ℕ) (wk : Worker) → placed_in (begun width wk).hand ≡ placed_in wk.hand
+begun_placed width wk = at' wk.hand wk.waiting refl
   where
     at' : (o : Option Hand) (cs : List Numbered) → wk.hand ≡ o → placed_in (begun_by width wk o cs).hand ≡ placed_in wk.hand
     at' (Some h) cs e = refl
     at' None [] e = refl
     at' None (c ∷ cs) e = sym (ap placed_in e)
 
-settled-placed : (width : ℕ) (wk : Worker) (i : Hand) → i.phase ≡ Quitting → placed_in (settled width wk i).hand ≡ None
-settled-placed width wk i e = at' i.held i.given_up (i.tries == MAX_TRIES)
+settled_placed : (width : ℕ) (wk : Worker) (i : Hand) → i.phase ≡ Quitting → placed_in (settled width wk i).hand ≡ None
+settled_placed width wk i e = at' i.held i.given_up (i.tries == MAX_TRIES)
   where
     at' : (l : List (Key × Mode)) (up last : Bool) → placed_in (settled_by width wk i l up last).hand ≡ None
     at' (k ∷ ks) up last = ap placed_of e
@@ -49,10 +49,10 @@ settled-placed width wk i e = at' i.held i.given_up (i.tries == MAX_TRIES)
     at' [] false false = refl
 
 -- one worker changes, and no record gets a place or is posted by that
-pub still-worker : (set : Setting) (K K' : List (Act Txn)) (s s' : Core) (w : ℕ) (wk : Worker) → s'.workers ≡ at w wk s.workers → placed_in wk.hand ≡ placed_in (hand_of s w) →
+pub still_worker : (set : Setting) (K K' : List (Act Txn)) (s s' : Core) (w : ℕ) (wk : Worker) → s'.workers ≡ at w wk s.workers → placed_in wk.hand ≡ placed_in (hand_of s w) →
     ((u : ℕ) → (s'.outboxes u).posted ≡ (s.outboxes u).posted) → s'.streams ≡ s.streams → s'.gathered ≡ s.gathered → s'.ends ≡ s.ends →
     ((j : ℕ) → records_of_stream j K' ≡ records_of_stream j K) → Still set K K' s s'
-still-worker set K K' s s' w wk workers placed posted streams gathered ends records = record {
+still_worker set K K' s s' w wk workers placed posted streams gathered ends records = record {
   same = λ j lt. record {
     moved = ap (λ (f : ℕ → Stream). (f j).moved) streams;
     own = ap (λ (f : ℕ → Stream). (f j).posted) streams;
@@ -70,26 +70,26 @@ still-worker set K K' s s' w wk workers placed posted streams gathered ends reco
   where
     same : (u : ℕ) → placed_in (hand_of s' u) ≡ placed_in (hand_of s u)
     same u = ap (λ (f : ℕ → Worker). placed_in (f u).hand) workers ∙ elim (cases_eq u w) [
-      | inl is ↦ subst (λ (k : ℕ). placed_in (at w wk s.workers k).hand ≡ placed_in (hand_of s k)) (sym is) (ap placed_in (hand-at s.workers w wk) ∙ placed)
-      | inr ne ↦ ap placed_in (hands-at s.workers w wk u ne)
+      | inl is ↦ subst (λ (k : ℕ). placed_in (at w wk s.workers k).hand ≡ placed_in (hand_of s k)) (sym is) (ap placed_in (hand_at s.workers w wk) ∙ placed)
+      | inr ne ↦ ap placed_in (hands_at s.workers w wk u ne)
     ]
 
 -- the accounts of one worker change
-pub accounts-moved : (set : Setting) (s s' : Core) (w : ℕ) → ((u : ℕ) → (u ≡ w → ⊥) → s'.workers u ≡ s.workers u) → ((u : ℕ) → (u ≡ w → ⊥) → (s'.outboxes u).pending ≡ (s.outboxes u).pending) →
+pub accounts_moved : (set : Setting) (s s' : Core) (w : ℕ) → ((u : ℕ) → (u ≡ w → ⊥) → s'.workers u ≡ s.workers u) → ((u : ℕ) → (u ≡ w → ⊥) → (s'.outboxes u).pending ≡ (s.outboxes u).pending) →
     ((u : ℕ) → (u ≡ w → ⊥) → s'.acked u ≡ s.acked u) → Account set w (s'.workers w) (s'.outboxes w).pending (s'.acked w) → Accounts set s → Accounts set s'
-accounts-moved set s s' w workers pending acked here a u = elim (cases_eq u w) [
+accounts_moved set s s' w workers pending acked here a u = elim (cases_eq u w) [
   | inl is ↦ subst (λ (k : ℕ). Account set k (s'.workers k) (s'.outboxes k).pending (s'.acked k)) (sym is) here
   | inr ne ↦ subst (λ (x : Worker). Account set u x (s'.outboxes u).pending (s'.acked u)) (sym (workers u ne))
       (subst (λ (l : List Ticket). Account set u (s.workers u) l (s'.acked u)) (sym (pending u ne))
       (subst (λ (l : List Ticket). Account set u (s.workers u) (s.outboxes u).pending l) (sym (acked u ne)) (a u)))
 ]
 
-pub accounts-worker : (set : Setting) (s s' : Core) (w : ℕ) (wk : Worker) → s'.workers ≡ at w wk s.workers → s'.outboxes ≡ s.outboxes → s'.acked ≡ s.acked →
+pub accounts_worker : (set : Setting) (s s' : Core) (w : ℕ) (wk : Worker) → s'.workers ≡ at w wk s.workers → s'.outboxes ≡ s.outboxes → s'.acked ≡ s.acked →
     Account set w wk (s.outboxes w).pending (s.acked w) → Accounts set s → Accounts set s'
-accounts-worker set s s' w wk workers outboxes acked here a =
-    accounts-moved set s s' w (λ u ne. ap (λ (f : ℕ → Worker). f u) workers ∙ at-other w wk s.workers u ne) (λ u ne. ap (λ (f : ℕ → Outbox). (f u).pending) outboxes)
+accounts_worker set s s' w wk workers outboxes acked here a =
+    accounts_moved set s s' w (λ u ne. ap (λ (f : ℕ → Worker). f u) workers ∙ at_other w wk s.workers u ne) (λ u ne. ap (λ (f : ℕ → Outbox). (f u).pending) outboxes)
     (λ u ne. ap (λ (f : ℕ → List Ticket). f u) acked)
-    (subst (λ (x : Worker). Account set w x (s'.outboxes w).pending (s'.acked w)) (sym (ap (λ (f : ℕ → Worker). f w) workers ∙ at-same w wk s.workers))
+    (subst (λ (x : Worker). Account set w x (s'.outboxes w).pending (s'.acked w)) (sym (ap (λ (f : ℕ → Worker). f w) workers ∙ at_same w wk s.workers))
     (subst (λ (f : ℕ → Outbox). Account set w wk (f w).pending (s'.acked w)) (sym outboxes) (subst (λ (f : ℕ → List Ticket). Account set w wk (s.outboxes w).pending (f w)) (sym acked) here))) a
 
 found : {A : Type 0} (xs : List A) (i : ℕ) (a : A) → slice_get xs i ≡ Some a → Member a xs
@@ -98,109 +98,109 @@ found (x ∷ xs) zero a e = let same : x ≡ a = cc in inl same
 found (x ∷ xs) (suc i) a e = inr (found xs i a e)
 
 -- a hand with the same call in the same phase
-account-hand : (set : Setting) (w : ℕ) (wk : Worker) (h h' : Hand) (pending acked : List Ticket) → wk.hand ≡ Some h → h'.call ≡ h.call → h'.phase ≡ h.phase →
+account_hand : (set : Setting) (w : ℕ) (wk : Worker) (h h' : Hand) (pending acked : List Ticket) → wk.hand ≡ Some h → h'.call ≡ h.call → h'.phase ≡ h.phase →
     Account set w wk pending acked → Account set w (record wk { hand = Some h' }) pending acked
-account-hand set w wk h h' pending acked is call phase = account-less set w wk (record wk { hand = Some h' }) pending acked
+account_hand set w wk h h' pending acked is call phase = account_less set w wk (record wk { hand = Some h' }) pending acked
     (λ n.
     let p : in_hand n wk.hand ≡ in_phase n h.call.number h.phase = ap (in_hand n) is in
     let q : in_phase n h'.call.number h'.phase ≡ in_phase n h.call.number h.phase = ap (λ (c : Numbered). in_phase n c.number h'.phase) call ∙ ap (in_phase n h.call.number) phase in
     omega arith) refl (ap act_of phase ∙ sym (ap act_in is))
 
-locked-phase : (h : Hand) (x : Key) (m : Mode) (row : Value) (a b : List ℕ) → (hand_locked h x m row a b).phase ≡ h.phase
-locked-phase h x Read row a b = refl
-locked-phase h x Write row a b = refl
+pub locked_phase : (h : Hand) (x : Key) (m : Mode) (row : Value) (a b : List ℕ) → (hand_locked h x m row a b).phase ≡ h.phase
+locked_phase h x Read row a b = refl
+locked_phase h x Write row a b = refl
 
-locked-call : (h : Hand) (x : Key) (m : Mode) (row : Value) (a b : List ℕ) → (hand_locked h x m row a b).call ≡ h.call
-locked-call h x Read row a b = refl
-locked-call h x Write row a b = refl
+pub locked_call : (h : Hand) (x : Key) (m : Mode) (row : Value) (a b : List ℕ) → (hand_locked h x m row a b).call ≡ h.call
+locked_call h x Read row a b = refl
+locked_call h x Write row a b = refl
 
 module _ (set : Setting) (K : List (Act Txn)) (s s' : Core) (g : Agreement set K s) where
-  ready-account : (w : ℕ) → Account set w (ready set s w) (s.outboxes w).pending (s.acked w)
-  ready-account w = account-begun set w set.width (s.workers w) (s.outboxes w).pending (s.acked w) (g.accounts w)
+  ready_account : (w : ℕ) → Account set w (ready set s w) (s.outboxes w).pending (s.acked w)
+  ready_account w = account_begun set w set.width (s.workers w) (s.outboxes w).pending (s.acked w) (g.accounts w)
 
-  ready-placed : (w : ℕ) (h : Hand) → (ready set s w).hand ≡ Some h → h.phase ≡ Running → placed_in (hand_of s w) ≡ None
-  ready-placed w h is phase = sym (begun-placed set.width (s.workers w)) ∙ ap placed_in is ∙ ap placed_of phase
+  ready_placed : (w : ℕ) (h : Hand) → (ready set s w).hand ≡ Some h → h.phase ≡ Running → placed_in (hand_of s w) ≡ None
+  ready_placed w h is phase = sym (begun_placed set.width (s.workers w)) ∙ ap placed_in is ∙ ap placed_of phase
 
-  pub lock-kept : (w : ℕ) → event.Locks set w s s' → Agreement set K s'
-  lock-kept w q =
+  pub lock_kept : (w : ℕ) → event.Locks set w s s' → Agreement set K s'
+  lock_kept w q =
       let sh : Shard = s.shards (set.shard_of q.key) in
       let h' : Hand = hand_locked q.hand q.key q.mode (sh.rows q.key) (entry_in sh q.key).write_lv (entry_in sh q.key).read_lv in
-      let phase : h'.phase ≡ q.hand.phase = locked-phase q.hand q.key q.mode (sh.rows q.key) (entry_in sh q.key).write_lv (entry_in sh q.key).read_lv in
-      let call : h'.call ≡ q.hand.call = locked-call q.hand q.key q.mode (sh.rows q.key) (entry_in sh q.key).write_lv (entry_in sh q.key).read_lv in
+      let phase : h'.phase ≡ q.hand.phase = locked_phase q.hand q.key q.mode (sh.rows q.key) (entry_in sh q.key).write_lv (entry_in sh q.key).read_lv in
+      let call : h'.call ≡ q.hand.call = locked_call q.hand q.key q.mode (sh.rows q.key) (entry_in sh q.key).write_lv (entry_in sh q.key).read_lv in
       let wk : Worker = record (ready set s w) { hand = Some h' } in
       record {
-        good = locks-good set K s s' w g.good q;
-        pieces = pieces-kept set K K s s' (still-worker set K K s s' w wk (ap (λ (c : Core). c.workers) q.after) (ap placed_of (phase ∙ q.phase) ∙ sym (ready-placed w q.hand q.is q.phase))
+        good = locks_good set K s s' w g.good q;
+        pieces = pieces_kept set K K s s' (still_worker set K K s s' w wk (ap (λ (c : Core). c.workers) q.after) (ap placed_of (phase ∙ q.phase) ∙ sym (ready_placed w q.hand q.is q.phase))
             (λ u. ap (λ (c : Core). (c.outboxes u).posted) q.after) (ap (λ (c : Core). c.streams) q.after) (ap (λ (c : Core). c.gathered) q.after) (ap (λ (c : Core). c.ends) q.after) (λ j. refl)) g.pieces;
         stops = subst (λ (c : Core). Stops c) (sym q.after) g.stops;
-        accounts = accounts-worker set s s' w wk (ap (λ (c : Core). c.workers) q.after) (ap (λ (c : Core). c.outboxes) q.after) (ap (λ (c : Core). c.acked) q.after)
-            (account-hand set w (ready set s w) q.hand h' (s.outboxes w).pending (s.acked w) q.is call phase (ready-account w)) g.accounts;
+        accounts = accounts_worker set s s' w wk (ap (λ (c : Core). c.workers) q.after) (ap (λ (c : Core). c.outboxes) q.after) (ap (λ (c : Core). c.acked) q.after)
+            (account_hand set w (ready set s w) q.hand h' (s.outboxes w).pending (s.acked w) q.is call phase (ready_account w)) g.accounts;
       }
 
-  pub busy-kept : (w : ℕ) → event.Refuses set w s s' → Agreement set K s'
-  busy-kept w q =
+  pub busy_kept : (w : ℕ) → event.Refuses set w s s' → Agreement set K s'
+  busy_kept w q =
       let wk : Worker = settled set.width (ready set s w) (hand_busy q.hand) in
       record {
-        good = refuses-good set K s s' w g.good q;
-        pieces = pieces-kept set K K s s' (still-worker set K K s s' w wk (ap (λ (c : Core). c.workers) q.after) (settled-placed set.width (ready set s w) (hand_busy q.hand) refl ∙ sym (ready-placed w q.hand q.is q.phase))
+        good = refuses_good set K s s' w g.good q;
+        pieces = pieces_kept set K K s s' (still_worker set K K s s' w wk (ap (λ (c : Core). c.workers) q.after) (settled_placed set.width (ready set s w) (hand_busy q.hand) refl ∙ sym (ready_placed w q.hand q.is q.phase))
             (λ u. ap (λ (c : Core). (c.outboxes u).posted) q.after) (ap (λ (c : Core). c.streams) q.after) (ap (λ (c : Core). c.gathered) q.after) (ap (λ (c : Core). c.ends) q.after) (λ j. refl)) g.pieces;
         stops = subst (λ (c : Core). Stops c) (sym q.after) g.stops;
-        accounts = accounts-worker set s s' w wk (ap (λ (c : Core). c.workers) q.after) (ap (λ (c : Core). c.outboxes) q.after) (ap (λ (c : Core). c.acked) q.after)
-            (account-settled set w set.width (ready set s w) q.hand (hand_busy q.hand) (s.outboxes w).pending (s.acked w) q.is (ap act_of q.phase) refl refl (ready-account w)) g.accounts;
+        accounts = accounts_worker set s s' w wk (ap (λ (c : Core). c.workers) q.after) (ap (λ (c : Core). c.outboxes) q.after) (ap (λ (c : Core). c.acked) q.after)
+            (account_settled set w set.width (ready set s w) q.hand (hand_busy q.hand) (s.outboxes w).pending (s.acked w) q.is (ap act_of q.phase) refl refl (ready_account w)) g.accounts;
       }
 
-  pub quit-kept : (w : ℕ) (up : Bool) → event.Quits set w up s s' → Agreement set K s'
-  quit-kept w up q =
+  pub quit_kept : (w : ℕ) (up : Bool) → event.Quits set w up s s' → Agreement set K s'
+  quit_kept w up q =
       let wk : Worker = settled set.width (s.workers w) (hand_quit q.hand q.key up) in
       let idle : act_of q.hand.phase ≡ None = elim q.phase [ inl e ↦ ap act_of e | inr e ↦ ap act_of e.0 ] in
       let none : placed_of q.hand.phase ≡ None = elim q.phase [ inl e ↦ ap placed_of e | inr e ↦ ap placed_of e.0 ] in
       record {
-        good = quits-good set K s s' w up g.good q;
-        pieces = pieces-kept set K K s s' (still-worker set K K s s' w wk (ap (λ (c : Core). c.workers) q.after)
-            (settled-placed set.width (s.workers w) (hand_quit q.hand q.key up) refl ∙ sym (ap placed_in q.is ∙ none))
+        good = quits_good set K s s' w up g.good q;
+        pieces = pieces_kept set K K s s' (still_worker set K K s s' w wk (ap (λ (c : Core). c.workers) q.after)
+            (settled_placed set.width (s.workers w) (hand_quit q.hand q.key up) refl ∙ sym (ap placed_in q.is ∙ none))
             (λ u. ap (λ (c : Core). (c.outboxes u).posted) q.after) (ap (λ (c : Core). c.streams) q.after) (ap (λ (c : Core). c.gathered) q.after) (ap (λ (c : Core). c.ends) q.after) (λ j. refl)) g.pieces;
         stops = subst (λ (c : Core). Stops c) (sym q.after) g.stops;
-        accounts = accounts-worker set s s' w wk (ap (λ (c : Core). c.workers) q.after) (ap (λ (c : Core). c.outboxes) q.after) (ap (λ (c : Core). c.acked) q.after)
-            (account-settled set w set.width (s.workers w) q.hand (hand_quit q.hand q.key up) (s.outboxes w).pending (s.acked w) q.is idle refl refl (g.accounts w)) g.accounts;
+        accounts = accounts_worker set s s' w wk (ap (λ (c : Core). c.workers) q.after) (ap (λ (c : Core). c.outboxes) q.after) (ap (λ (c : Core). c.acked) q.after)
+            (account_settled set w set.width (s.workers w) q.hand (hand_quit q.hand q.key up) (s.outboxes w).pending (s.acked w) q.is idle refl refl (g.accounts w)) g.accounts;
       }
 
   -- a call without keys is let go
-  pub let_go-kept : (w : ℕ) → event.LetsGo set w s s' → Agreement set K s'
-  let_go-kept w q =
+  pub let_go_kept : (w : ℕ) → event.LetsGo set w s s' → Agreement set K s'
+  let_go_kept w q =
       let wk : Worker = record (s.workers w) { hand = None } in
       let i : Hand = record q.hand { phase = Quitting; given_up = true } in
       let empty = ap (λ (l : List (Key × Mode)). settled_by set.width (s.workers w) i l true (i.tries == MAX_TRIES)) q.held in
       record {
-        good = subst (λ (c : Core). CoreGood set K c) (sym q.after) (let_go-good set K s g.good w (s.workers w) q.hand refl q.is q.phase q.held);
-        pieces = pieces-kept set K K s s' (still-worker set K K s s' w wk (ap (λ (c : Core). c.workers) q.after) (sym (ap placed_in q.is ∙ not-placed q.hand.phase q.phase))
+        good = subst (λ (c : Core). CoreGood set K c) (sym q.after) (let_go_good set K s g.good w (s.workers w) q.hand refl q.is q.phase q.held);
+        pieces = pieces_kept set K K s s' (still_worker set K K s s' w wk (ap (λ (c : Core). c.workers) q.after) (sym (ap placed_in q.is ∙ not_placed q.hand.phase q.phase))
             (λ u. ap (λ (c : Core). (c.outboxes u).posted) q.after) (ap (λ (c : Core). c.streams) q.after) (ap (λ (c : Core). c.gathered) q.after) (ap (λ (c : Core). c.ends) q.after) (λ j. refl)) g.pieces;
         stops = subst (λ (c : Core). Stops c) (sym q.after) g.stops;
-        accounts = accounts-worker set s s' w wk (ap (λ (c : Core). c.workers) q.after) (ap (λ (c : Core). c.outboxes) q.after) (ap (λ (c : Core). c.acked) q.after)
+        accounts = accounts_worker set s s' w wk (ap (λ (c : Core). c.workers) q.after) (ap (λ (c : Core). c.outboxes) q.after) (ap (λ (c : Core). c.acked) q.after)
             (subst (λ (k : Worker). Account set w k (s.outboxes w).pending (s.acked w)) empty
-            (account-settled set w set.width (s.workers w) q.hand i (s.outboxes w).pending (s.acked w) q.is q.phase refl refl (g.accounts w))) g.accounts;
+            (account_settled set w set.width (s.workers w) q.hand i (s.outboxes w).pending (s.acked w) q.is q.phase refl refl (g.accounts w))) g.accounts;
       }
     where
-      not-placed : (p : Phase) → act_of p ≡ None → placed_of p ≡ None
-      not-placed Running e = refl
-      not-placed Quitting e = refl
-      not-placed (Placed t) e = cc
-      not-placed (Freeing t) e = refl
+      not_placed : (p : Phase) → act_of p ≡ None → placed_of p ≡ None
+      not_placed Running e = refl
+      not_placed Quitting e = refl
+      not_placed (Placed t) e = cc
+      not_placed (Freeing t) e = refl
 
-  anchor-low : (w : ℕ) (t : Act Txn) (q : event.Commits set w s s' t) → AtMost q.anchor s.plv
-  anchor-low w t q = elim q.named [
+  anchor_low : (w : ℕ) (t : Act Txn) (q : event.Commits set w s s' t) → AtMost q.anchor s.plv
+  anchor_low w t q = elim q.named [
     | inl none ↦ subst (λ (a : List ℕ). AtMost a s.plv) (sym none.1) (λ j. omega arith)
     | inr m ↦ g.good.anchors (set.stream_of w) q.anchor (found (s.streams (set.stream_of w)).anchors m.0 q.anchor m.2)
   ]
 
-  pub commit-kept : (w : ℕ) (t : Act Txn) → event.Commits set w s s' t → Agreement set (K ++ t ∷ []) s'
-  commit-kept w t q =
+  pub commit_kept : (w : ℕ) (t : Act Txn) → event.Commits set w s s' t → Agreement set (K ++ t ∷ []) s'
+  commit_kept w t q =
       let j : ℕ = set.stream_of w in
       let T : Act Txn = act_placed set w q.hand q.effect q.number q.anchor (slice_index s.ends j) q.past in
       let wk0 : Worker = ready set s w in
       let wk : Worker = record wk0 { hand = Some (hand_joined q.hand (Placed t) t.call.place.dep); committed = (s.workers w).committed ++ committed_of t ∷ [] } in
       let small : j < length s.ends = (let a = g.good.good.order.count in let b = g.good.small w in omega arith) in
-      let same : wk0.committed ≡ (s.workers w).committed = begun-committed set.width (s.workers w) in
-      let base = commit-good set K (with_worker s w wk0) (begun-good set K s g.good w) w wk0 q.hand (at-same w wk0 s.workers) q.is q.effect q.number q.anchor q.past q.phase q.ended q.locked q.updates (anchor-low w t q) q.past_start in
+      let same : wk0.committed ≡ (s.workers w).committed = begun_committed set.width (s.workers w) in
+      let base = commit_good set K (with_worker s w wk0) (begun_good set K s g.good w) w wk0 q.hand (at_same w wk0 s.workers) q.is q.effect q.number q.anchor q.past q.phase q.ended q.locked q.updates (anchor_low w t q) q.past_start in
       let wk_at : (c : List Committed) (x : Act Txn) → Worker = λ c x. record wk0 { hand = Some (hand_joined q.hand (Placed x) x.call.place.dep); committed = c ++ committed_of x ∷ [] } in
       let one = subst (λ (c : Core). CoreGood set (K ++ T ∷ []) (record c { ends = slice_set s.ends j q.past })) (again s w (wk_at wk0.committed T) wk0) base in
       let two = subst (λ (c : List Committed). CoreGood set (K ++ T ∷ []) (record (with_worker s w (wk_at c T)) { ends = slice_set s.ends j q.past })) same one in
@@ -209,9 +209,9 @@ module _ (set : Setting) (K : List (Act Txn)) (s s' : Core) (g : Agreement set K
         good = subst (λ (c : Core). CoreGood set (K ++ t ∷ []) c) (sym q.after) three;
         pieces = landed set K s s' g.pieces w t (record {
           small = g.good.small w;
-          before = ready-placed w q.hand q.is q.phase;
-          after = ap (λ (c : Core). placed_in (hand_of c w)) q.after ∙ ap placed_in (hand-at s.workers w wk);
-          other = λ u ne. ap (λ (c : Core). placed_in (hand_of c u)) q.after ∙ ap placed_in (hands-at s.workers w wk u ne);
+          before = ready_placed w q.hand q.is q.phase;
+          after = ap (λ (c : Core). placed_in (hand_of c w)) q.after ∙ ap placed_in (hand_at s.workers w wk);
+          other = λ u ne. ap (λ (c : Core). placed_in (hand_of c u)) q.after ∙ ap placed_in (hands_at s.workers w wk u ne);
           up = ap (λ (x : Act Txn). updates x.effect) q.act ∙ q.updates;
           stream = ap (λ (x : Act Txn). x.call.place.stream) q.act;
           start = ap (λ (x : Act Txn). x.call.place.start) q.act;
@@ -219,7 +219,7 @@ module _ (set : Setting) (K : List (Act Txn)) (s s' : Core) (g : Agreement set K
           worker = ap (λ (x : Act Txn). x.call.worker) q.act;
           named = subst (λ (x : Act Txn). NamesOne (set.anchored j) (s.streams j).anchors x.call) (sym q.act) (elim q.named [
             | inl none ↦ inl none.0
-            | inr m ↦ inr (m.0, q.anchor, m.1, m.2, join-right q.hand.dep q.anchor)
+            | inr m ↦ inr (m.0, q.anchor, m.1, m.2, join_right q.hand.dep q.anchor)
           ]);
           streams = ap (λ (c : Core). c.streams) q.after;
           outboxes = ap (λ (c : Core). c.outboxes) q.after;
@@ -228,18 +228,18 @@ module _ (set : Setting) (K : List (Act Txn)) (s s' : Core) (g : Agreement set K
           ends_other = λ k ne. ap (λ (c : Core). slice_index c.ends k) q.after ∙ get_or-set_other s.ends j k q.past 0 ne;
         });
         stops = subst (λ (c : Core). Stops c) (sym q.after) g.stops;
-        accounts = accounts-worker set s s' w wk (ap (λ (c : Core). c.workers) q.after) (ap (λ (c : Core). c.outboxes) q.after) (ap (λ (c : Core). c.acked) q.after)
-            (account-joined set w wk0 wk q.hand (hand_joined q.hand (Placed t) t.call.place.dep) t (s.outboxes w).pending (s.acked w) q.is q.phase refl refl
-            (ap (λ (x : Act Txn). x.call.call) q.act) refl refl (ap (λ (l : List Committed). l ++ committed_of t ∷ []) (sym same)) (ready-account w)) g.accounts;
+        accounts = accounts_worker set s s' w wk (ap (λ (c : Core). c.workers) q.after) (ap (λ (c : Core). c.outboxes) q.after) (ap (λ (c : Core). c.acked) q.after)
+            (account_joined set w wk0 wk q.hand (hand_joined q.hand (Placed t) t.call.place.dep) t (s.outboxes w).pending (s.acked w) q.is q.phase refl refl
+            (ap (λ (x : Act Txn). x.call.call) q.act) refl refl (ap (λ (l : List Committed). l ++ committed_of t ∷ []) (sym same)) (ready_account w)) g.accounts;
       }
 
-  pub reads-kept : (w : ℕ) (t : Act Txn) → event.Reads set w s s' t → Agreement set (K ++ t ∷ []) s'
-  reads-kept w t q =
+  pub reads_kept : (w : ℕ) (t : Act Txn) → event.Reads set w s s' t → Agreement set (K ++ t ∷ []) s'
+  reads_kept w t q =
       let T : Act Txn = act_reading set w q.hand q.effect in
       let wk0 : Worker = ready set s w in
       let wk : Worker = record wk0 { hand = Some (hand_joined q.hand (Freeing t) q.hand.dep); committed = (s.workers w).committed ++ committed_of t ∷ [] } in
-      let same : wk0.committed ≡ (s.workers w).committed = begun-committed set.width (s.workers w) in
-      let base = reading-good set K (with_worker s w wk0) (begun-good set K s g.good w) w wk0 q.hand (at-same w wk0 s.workers) q.is q.effect q.phase q.ended q.no_write in
+      let same : wk0.committed ≡ (s.workers w).committed = begun_committed set.width (s.workers w) in
+      let base = reading_good set K (with_worker s w wk0) (begun_good set K s g.good w) w wk0 q.hand (at_same w wk0 s.workers) q.is q.effect q.phase q.ended q.no_write in
       let wk_at : (c : List Committed) (x : Act Txn) → Worker = λ c x. record wk0 { hand = Some (hand_joined q.hand (Freeing x) q.hand.dep); committed = c ++ committed_of x ∷ [] } in
       let one = subst (λ (c : Core). CoreGood set (K ++ T ∷ []) c) (again s w (wk_at wk0.committed T) wk0) base in
       let two = subst (λ (c : List Committed). CoreGood set (K ++ T ∷ []) (with_worker s w (wk_at c T))) same one in
@@ -247,78 +247,78 @@ module _ (set : Setting) (K : List (Act Txn)) (s s' : Core) (g : Agreement set K
       let idle : updates t.effect ≡ false = ap (λ (x : Act Txn). updates x.effect) q.act ∙ ap updating q.no_write in
       record {
         good = subst (λ (c : Core). CoreGood set (K ++ t ∷ []) c) (sym q.after) three;
-        pieces = pieces-kept set K (K ++ t ∷ []) s s' (still-worker set K (K ++ t ∷ []) s s' w wk (ap (λ (c : Core). c.workers) q.after) (sym (ready-placed w q.hand q.is q.phase))
+        pieces = pieces_kept set K (K ++ t ∷ []) s s' (still_worker set K (K ++ t ∷ []) s s' w wk (ap (λ (c : Core). c.workers) q.after) (sym (ready_placed w q.hand q.is q.phase))
             (λ u. ap (λ (c : Core). (c.outboxes u).posted) q.after) (ap (λ (c : Core). c.streams) q.after) (ap (λ (c : Core). c.gathered) q.after) (ap (λ (c : Core). c.ends) q.after)
-            (λ j. records-out K t j (in-idle t j idle))) g.pieces;
+            (λ j. records_out K t j (in_idle t j idle))) g.pieces;
         stops = subst (λ (c : Core). Stops c) (sym q.after) g.stops;
-        accounts = accounts-worker set s s' w wk (ap (λ (c : Core). c.workers) q.after) (ap (λ (c : Core). c.outboxes) q.after) (ap (λ (c : Core). c.acked) q.after)
-            (account-joined set w wk0 wk q.hand (hand_joined q.hand (Freeing t) q.hand.dep) t (s.outboxes w).pending (s.acked w) q.is q.phase refl refl
-            (ap (λ (x : Act Txn). x.call.call) q.act) refl refl (ap (λ (l : List Committed). l ++ committed_of t ∷ []) (sym same)) (ready-account w)) g.accounts;
+        accounts = accounts_worker set s s' w wk (ap (λ (c : Core). c.workers) q.after) (ap (λ (c : Core). c.outboxes) q.after) (ap (λ (c : Core). c.acked) q.after)
+            (account_joined set w wk0 wk q.hand (hand_joined q.hand (Freeing t) q.hand.dep) t (s.outboxes w).pending (s.acked w) q.is q.phase refl refl
+            (ap (λ (x : Act Txn). x.call.call) q.act) refl refl (ap (λ (l : List Committed). l ++ committed_of t ∷ []) (sym same)) (ready_account w)) g.accounts;
       }
 
-  pub post-kept : (w : ℕ) → event.Posts set w s s' → Agreement set K s'
-  post-kept w q =
+  pub post_kept : (w : ℕ) → event.Posts set w s s' → Agreement set K s'
+  post_kept w q =
       let h' : Hand = record q.hand { phase = Freeing q.act } in
       let wk : Worker = record (s.workers w) { hand = Some h' } in
       let o : Outbox = record (s.outboxes w) { posted = (s.outboxes w).posted ++ Record q.act ∷ [] } in
-      let base = post-good set K s g.good w (s.workers w) q.hand refl q.is q.act q.phase in
+      let base = post_good set K s g.good w (s.workers w) q.hand refl q.is q.act q.phase in
       record {
-        good = subst (λ (c : Core). CoreGood set K c) (sym q.after) (outbox-moved set K (with_worker s w wk) base w o (λ k m. g.good.pending w k m));
-        pieces = posted-good set K s s' g.pieces w q.act (record {
+        good = subst (λ (c : Core). CoreGood set K c) (sym q.after) (outbox_moved set K (with_worker s w wk) base w o (λ k m. g.good.pending w k m));
+        pieces = posted_good set K s s' g.pieces w q.act (record {
           before = ap placed_in q.is ∙ ap placed_of q.phase;
-          after = ap (λ (c : Core). placed_in (hand_of c w)) q.after ∙ ap placed_in (hand-at s.workers w wk);
-          other = λ u ne. ap (λ (c : Core). placed_in (hand_of c u)) q.after ∙ ap placed_in (hands-at s.workers w wk u ne);
+          after = ap (λ (c : Core). placed_in (hand_of c w)) q.after ∙ ap placed_in (hand_at s.workers w wk);
+          other = λ u ne. ap (λ (c : Core). placed_in (hand_of c u)) q.after ∙ ap placed_in (hands_at s.workers w wk u ne);
           streams = ap (λ (c : Core). c.streams) q.after;
-          posted = ap (λ (c : Core). (c.outboxes w).posted) q.after ∙ ap (λ (b : Outbox). b.posted) (at-same w o s.outboxes);
-          posted_other = λ u ne. ap (λ (c : Core). (c.outboxes u).posted) q.after ∙ ap (λ (b : Outbox). b.posted) (at-other w o s.outboxes u ne);
+          posted = ap (λ (c : Core). (c.outboxes w).posted) q.after ∙ ap (λ (b : Outbox). b.posted) (at_same w o s.outboxes);
+          posted_other = λ u ne. ap (λ (c : Core). (c.outboxes u).posted) q.after ∙ ap (λ (b : Outbox). b.posted) (at_other w o s.outboxes u ne);
           gathered = ap (λ (c : Core). c.gathered) q.after;
           ends = ap (λ (c : Core). c.ends) q.after;
         });
         stops = subst (λ (c : Core). Stops c) (sym q.after) g.stops;
-        accounts = accounts-moved set s s' w (λ u ne. ap (λ (c : Core). c.workers u) q.after ∙ at-other w wk s.workers u ne)
-            (λ u ne. ap (λ (c : Core). (c.outboxes u).pending) q.after ∙ ap (λ (b : Outbox). b.pending) (at-other w o s.outboxes u ne)) (λ u ne. ap (λ (c : Core). c.acked u) q.after)
+        accounts = accounts_moved set s s' w (λ u ne. ap (λ (c : Core). c.workers u) q.after ∙ at_other w wk s.workers u ne)
+            (λ u ne. ap (λ (c : Core). (c.outboxes u).pending) q.after ∙ ap (λ (b : Outbox). b.pending) (at_other w o s.outboxes u ne)) (λ u ne. ap (λ (c : Core). c.acked u) q.after)
             (subst (λ (c : Core). Account set w (c.workers w) (c.outboxes w).pending (c.acked w)) (sym q.after)
-            (subst (λ (x : Worker). Account set w x (at w o s.outboxes w).pending (s.acked w)) (sym (at-same w wk s.workers))
-            (subst (λ (b : Outbox). Account set w wk b.pending (s.acked w)) (sym (at-same w o s.outboxes))
-            (account-less set w (s.workers w) wk (s.outboxes w).pending (s.acked w)
+            (subst (λ (x : Worker). Account set w x (at w o s.outboxes w).pending (s.acked w)) (sym (at_same w wk s.workers))
+            (subst (λ (b : Outbox). Account set w wk b.pending (s.acked w)) (sym (at_same w o s.outboxes))
+            (account_less set w (s.workers w) wk (s.outboxes w).pending (s.acked w)
             (λ n. omega arith) refl (sym (ap act_in q.is ∙ ap act_of q.phase)) (g.accounts w))))) g.accounts;
       }
 
-  pub free-kept : (w : ℕ) → event.Frees set w s s' → Agreement set K s'
-  free-kept w q =
+  pub free_kept : (w : ℕ) → event.Frees set w s s' → Agreement set K s'
+  free_kept w q =
       let h' : Hand = hand_freed q.hand q.key in
       let wk : Worker = record (s.workers w) { hand = Some h' } in
       record {
-        good = subst (λ (c : Core). CoreGood set K c) (sym q.after) (freed-good set K s g.good w q.hand q.act q.key q.mode q.is q.phase q.held);
-        pieces = pieces-kept set K K s s' (still-worker set K K s s' w wk (ap (λ (c : Core). c.workers) q.after) (sym (ap placed_in q.is))
+        good = subst (λ (c : Core). CoreGood set K c) (sym q.after) (freed_good set K s g.good w q.hand q.act q.key q.mode q.is q.phase q.held);
+        pieces = pieces_kept set K K s s' (still_worker set K K s s' w wk (ap (λ (c : Core). c.workers) q.after) (sym (ap placed_in q.is))
             (λ u. ap (λ (c : Core). (c.outboxes u).posted) q.after) (ap (λ (c : Core). c.streams) q.after) (ap (λ (c : Core). c.gathered) q.after) (ap (λ (c : Core). c.ends) q.after) (λ j. refl)) g.pieces;
         stops = subst (λ (c : Core). Stops c) (sym q.after) g.stops;
-        accounts = accounts-worker set s s' w wk (ap (λ (c : Core). c.workers) q.after) (ap (λ (c : Core). c.outboxes) q.after) (ap (λ (c : Core). c.acked) q.after)
-            (account-hand set w (s.workers w) q.hand h' (s.outboxes w).pending (s.acked w) q.is refl refl (g.accounts w)) g.accounts;
+        accounts = accounts_worker set s s' w wk (ap (λ (c : Core). c.workers) q.after) (ap (λ (c : Core). c.outboxes) q.after) (ap (λ (c : Core). c.acked) q.after)
+            (account_hand set w (s.workers w) q.hand h' (s.outboxes w).pending (s.acked w) q.is refl refl (g.accounts w)) g.accounts;
       }
 
-  pub finish-kept : (w : ℕ) → event.Finishes set w s s' → Agreement set K s'
-  finish-kept w q =
+  pub finish_kept : (w : ℕ) → event.Finishes set w s s' → Agreement set K s'
+  finish_kept w q =
       let wk : Worker = record (s.workers w) { hand = None } in
       let o : Outbox = record (s.outboxes w) { pending = (s.outboxes w).pending ++ ticket q.act ∷ [] } in
-      let (base, there) = finish-good set K s g.good w (s.workers w) q.hand refl q.is q.act q.phase q.held in
+      let (base, there) = finish_good set K s g.good w (s.workers w) q.hand refl q.is q.act q.phase q.held in
       record {
-        good = subst (λ (c : Core). CoreGood set K c) (sym q.after) (outbox-moved set K (with_worker s w wk) base w o
-            (λ k m. elim (member-snoc (s.outboxes w).pending (ticket q.act) k m) [ inl old ↦ g.good.pending w k old | inr e ↦ (q.act, there, e) ]));
-        pieces = pieces-kept set K K s s' (still-worker set K K s s' w wk (ap (λ (c : Core). c.workers) q.after) (sym (ap placed_in q.is ∙ ap placed_of q.phase))
-            (λ u. ap (λ (c : Core). (c.outboxes u).posted) q.after ∙ same-posted w o refl u)
+        good = subst (λ (c : Core). CoreGood set K c) (sym q.after) (outbox_moved set K (with_worker s w wk) base w o
+            (λ k m. elim (member_snoc (s.outboxes w).pending (ticket q.act) k m) [ inl old ↦ g.good.pending w k old | inr e ↦ (q.act, there, e) ]));
+        pieces = pieces_kept set K K s s' (still_worker set K K s s' w wk (ap (λ (c : Core). c.workers) q.after) (sym (ap placed_in q.is ∙ ap placed_of q.phase))
+            (λ u. ap (λ (c : Core). (c.outboxes u).posted) q.after ∙ same_posted w o refl u)
             (ap (λ (c : Core). c.streams) q.after) (ap (λ (c : Core). c.gathered) q.after) (ap (λ (c : Core). c.ends) q.after) (λ j. refl)) g.pieces;
         stops = subst (λ (c : Core). Stops c) (sym q.after) g.stops;
-        accounts = accounts-moved set s s' w (λ u ne. ap (λ (c : Core). c.workers u) q.after ∙ at-other w wk s.workers u ne)
-            (λ u ne. ap (λ (c : Core). (c.outboxes u).pending) q.after ∙ ap (λ (b : Outbox). b.pending) (at-other w o s.outboxes u ne)) (λ u ne. ap (λ (c : Core). c.acked u) q.after)
+        accounts = accounts_moved set s s' w (λ u ne. ap (λ (c : Core). c.workers u) q.after ∙ at_other w wk s.workers u ne)
+            (λ u ne. ap (λ (c : Core). (c.outboxes u).pending) q.after ∙ ap (λ (b : Outbox). b.pending) (at_other w o s.outboxes u ne)) (λ u ne. ap (λ (c : Core). c.acked u) q.after)
             (subst (λ (c : Core). Account set w (c.workers w) (c.outboxes w).pending (c.acked w)) (sym q.after)
-            (subst (λ (x : Worker). Account set w x (at w o s.outboxes w).pending (s.acked w)) (sym (at-same w wk s.workers))
-            (subst (λ (b : Outbox). Account set w wk b.pending (s.acked w)) (sym (at-same w o s.outboxes))
-            (account-ended set w (s.workers w) wk q.act (s.outboxes w).pending (s.acked w) (ap act_in q.is ∙ ap act_of q.phase) refl refl refl refl (g.accounts w))))) g.accounts;
+            (subst (λ (x : Worker). Account set w x (at w o s.outboxes w).pending (s.acked w)) (sym (at_same w wk s.workers))
+            (subst (λ (b : Outbox). Account set w wk b.pending (s.acked w)) (sym (at_same w o s.outboxes))
+            (account_ended set w (s.workers w) wk q.act (s.outboxes w).pending (s.acked w) (ap act_in q.is ∙ ap act_of q.phase) refl refl refl refl (g.accounts w))))) g.accounts;
       }
     where
-      same-posted : (w : ℕ) (o : Outbox) → o.posted ≡ (s.outboxes w).posted → (u : ℕ) → (at w o s.outboxes u).posted ≡ (s.outboxes u).posted
-      same-posted w o e u = elim (cases_eq u w) [
-        | inl is ↦ subst (λ (k : ℕ). (at w o s.outboxes k).posted ≡ (s.outboxes k).posted) (sym is) (ap (λ (b : Outbox). b.posted) (at-same w o s.outboxes) ∙ e)
-        | inr ne ↦ ap (λ (b : Outbox). b.posted) (at-other w o s.outboxes u ne)
+      same_posted : (w : ℕ) (o : Outbox) → o.posted ≡ (s.outboxes w).posted → (u : ℕ) → (at w o s.outboxes u).posted ≡ (s.outboxes u).posted
+      same_posted w o e u = elim (cases_eq u w) [
+        | inl is ↦ subst (λ (k : ℕ). (at w o s.outboxes k).posted ≡ (s.outboxes k).posted) (sym is) (ap (λ (b : Outbox). b.posted) (at_same w o s.outboxes) ∙ e)
+        | inr ne ↦ ap (λ (b : Outbox). b.posted) (at_other w o s.outboxes u ne)
       ]

@@ -12,37 +12,37 @@ use Rattle.tau_model.specs.History.{Numbered, Act, touches}
 use Rattle.tau_base.specs.Database.{Db, same_key}
 use Rattle.tau_proc.specs.Effect.{Effect, has_key, Agrees}
 use Rattle.tau_base.specs.Vectors.{AtMost, join}
-use Rattle.tau_model.proofs.Dbs.{or_left, or_right}
-use Rattle.tau_base.proofs.Keys.{same_key-itself, same_key-is}
+use Rattle.tau_base.proofs.Keys.{same_key_itself, same_key_is}
 use Rattle.tau_machine.specs.Stage.{Stage, Wants, Ends, stage, writes_of}
 use Rattle.tau_machine.specs.Hands.{Txn, Phase, Running, Hand, mode_of, hold, held_in}
 use Rattle.tau_machine.specs.Sight.{Sight}
 use Rattle.tau_machine.specs.Good.{HandCause, Runs, Used, InPhase, Good, Meets}
-use Rattle.tau_base.proofs.Vectors.{join-at, join-wide, join-left, join-right, join-below, at_most-trans}
-use Rattle.tau_machine.proofs.Stages.{wanted-read, reads-grow}
-use Rattle.tau_machine.proofs.Modes.{cases_key, hold-same, hold-other}
-use Rattle.tau_machine.proofs.Own.{alone-before, uncommitted}
+use Rattle.tau_base.proofs.Vectors.{join_at, join_wide, join_left, join_right, join_below, at_most_trans}
+use Rattle.tau_machine.proofs.Stages.{wanted_read, reads_grow}
+use Rattle.tau_machine.proofs.Modes.{cases_key, hold_same, hold_other}
+use Rattle.tau_machine.proofs.Own.{alone_before, uncommitted}
+use Rattle.tau_base.proofs.Logic.{or_true, or_left, zeros}
 
-pub agrees-last : (seen : List (Key × Value)) (db : Db) (x : Key) → Agrees seen db → Agrees (seen ++ (x, db x) ∷ []) db
-agrees-last [] db x h = (refl, tt)
-agrees-last (r ∷ rs) db x h = (h.0, agrees-last rs db x h.1)
+pub agrees_last : (seen : List (Key × Value)) (db : Db) (x : Key) → Agrees seen db → Agrees (seen ++ (x, db x) ∷ []) db
+agrees_last [] db x h = (refl, tt)
+agrees_last (r ∷ rs) db x h = (h.0, agrees_last rs db x h.1)
 
-pub has_key-append : (k : Key) (xs ys : List (Key × Value)) → has_key k (xs ++ ys) ≡ true → (has_key k xs ≡ true) ⊎ (has_key k ys ≡ true)
-has_key-append k [] ys e = inr e
-has_key-append k (x ∷ xs) ys e = elim (or_cases (same_key k x.0) (has_key k (xs ++ ys)) e) [
+pub has_key_append : (k : Key) (xs ys : List (Key × Value)) → has_key k (xs ++ ys) ≡ true → (has_key k xs ≡ true) ⊎ (has_key k ys ≡ true)
+has_key_append k [] ys e = inr e
+has_key_append k (x ∷ xs) ys e = elim (or_cases (same_key k x.0) (has_key k (xs ++ ys)) e) [
   | inl is ↦ inl (or_left (same_key k x.0) (has_key k xs) is)
-  | inr later ↦ elim (has_key-append k xs ys later) [
-    | inl a ↦ inl (or_right (same_key k x.0) (has_key k xs) a)
+  | inr later ↦ elim (has_key_append k xs ys later) [
+    | inl a ↦ inl (or_true (same_key k x.0) (has_key k xs) a)
     | inr b ↦ inr b
   ]
 ]
 
-has_key-one : (k x : Key) (v : Value) → has_key k ((x, v) ∷ []) ≡ true → k ≡ x
-has_key-one k x v e = elim (or_cases (same_key k x) false e) [ inl is ↦ same_key-is k x is | inr bad ↦ absurd (both_ways false refl bad) ]
+has_key_one : (k x : Key) (v : Value) → has_key k ((x, v) ∷ []) ≡ true → k ≡ x
+has_key_one k x v e = elim (or_cases (same_key k x) false e) [ inl is ↦ same_key_is k x is | inr bad ↦ absurd (both_ways false refl bad) ]
 
 -- one of two vectors has the component of their join
-pub join-cause : (v w : List ℕ) (j : ℕ) → (slice_index (join v w) j ≡ slice_index v j) ⊎ (slice_index (join v w) j ≡ slice_index w j)
-join-cause v w j = let e = join-at v w j in elim (cases_lt (slice_index v j) (slice_index w j)) [ inl a ↦ inr (omega arith) | inr b ↦ inl (omega arith) ]
+pub join_cause : (v w : List ℕ) (j : ℕ) → (slice_index (join v w) j ≡ slice_index v j) ⊎ (slice_index (join v w) j ≡ slice_index w j)
+join_cause v w j = let e = join_at v w j in elim (cases_lt (slice_index v j) (slice_index w j)) [ inl a ↦ inr (omega arith) | inr b ↦ inl (omega arith) ]
 
 cases_mode : (m : Mode) → (m ≡ Read) ⊎ (m ≡ Write)
 cases_mode Read = inl refl
@@ -50,8 +50,8 @@ cases_mode Write = inr refl
 
 module _ (procs : List Proc) (width : ℕ) (base : Db) (K : List (Act Txn)) (v : Sight) (hand : ℕ → Option Hand) where
   -- what the call holds in another mode than the new key's it held before
-  held-before : (h : Hand) (x y : Key) (m n : Mode) → same_key y x ≡ false → mode_of y (hold x m h.held) ≡ Some n → mode_of y h.held ≡ Some n
-  held-before h x y m n ne e = sym (hold-other y x m h.held ne) ∙ e
+  held_before : (h : Hand) (x y : Key) (m n : Mode) → same_key y x ≡ false → mode_of y (hold x m h.held) ≡ Some n → mode_of y h.held ≡ Some n
+  held_before h x y m n ne e = sym (hold_other y x m h.held ne) ∙ e
 
   abbrev pub read_locked : Hand → Key → Hand
   read_locked h x = record h { dep = join h.dep (v.write_lv x); held = hold x Read h.held; seen = h.seen ++ (x, v.row x) ∷ [] }
@@ -63,35 +63,35 @@ module _ (procs : List Proc) (width : ℕ) (base : Db) (K : List (Act Txn)) (v :
   write_locked h x = record h { dep = with_both h x; held = hold x Write h.held }
 
   module _ (g : Good procs width base K hand v) (h : Hand) (x : Key) where
-    pub runs-read : Runs procs width K v h → (rs : List (Key × Value)) → stage procs h.call.call h.seen ≡ Wants rs x → Runs procs width K v (read_locked h x)
-    runs-read r rs wants = record {
-      wide = let a = join-wide h.dep (v.write_lv x) in let b = r.wide in omega arith;
-      below = join-below h.dep (v.write_lv x) v.ends r.below (g.keys x).below_write_lv;
-      agrees = agrees-last h.seen v.row x r.agrees;
+    pub runs_read : Runs procs width K v h → (rs : List (Key × Value)) → stage procs h.call.call h.seen ≡ Wants rs x → Runs procs width K v (read_locked h x)
+    runs_read r rs wants = record {
+      wide = let a = join_wide h.dep (v.write_lv x) in let b = r.wide in omega arith;
+      below = join_below h.dep (v.write_lv x) v.ends r.below (g.keys x).below_write_lv;
+      agrees = agrees_last h.seen v.row x r.agrees;
       kept = λ y e. elim (cases_key y x) [
-        | inl is ↦ (Read, subst (λ (k : Key). mode_of k (hold x Read h.held) ≡ Some Read) (sym is) (hold-same x Read h.held))
-        | inr ne ↦ elim (has_key-append y h.seen ((x, v.row x) ∷ []) e) [
-          | inl old ↦ let (m, p) = r.kept y old in (m, hold-other y x Read h.held ne ∙ p)
-          | inr new ↦ absurd (both_ways (same_key y x) ne (subst (λ (k : Key). same_key y k ≡ true) (has_key-one y x (v.row x) new) (same_key-itself y)))
+        | inl is ↦ (Read, subst (λ (k : Key). mode_of k (hold x Read h.held) ≡ Some Read) (sym is) (hold_same x Read h.held))
+        | inr ne ↦ elim (has_key_append y h.seen ((x, v.row x) ∷ []) e) [
+          | inl old ↦ let (m, p) = r.kept y old in (m, hold_other y x Read h.held ne ∙ p)
+          | inr new ↦ absurd (both_ways (same_key y x) ne (subst (λ (k : Key). same_key y k ≡ true) (has_key_one y x (v.row x) new) (same_key_itself y)))
         ]
       ];
       write_lv = λ y m e. elim (cases_key y x) [
-        | inl is ↦ subst (λ (k : Key). AtMost (v.write_lv k) (join h.dep (v.write_lv x))) (sym is) (join-right h.dep (v.write_lv x))
-        | inr ne ↦ at_most-trans (v.write_lv y) h.dep (join h.dep (v.write_lv x)) (r.write_lv y m (held-before h x y Read m ne e)) (join-left h.dep (v.write_lv x))
+        | inl is ↦ subst (λ (k : Key). AtMost (v.write_lv k) (join h.dep (v.write_lv x))) (sym is) (join_right h.dep (v.write_lv x))
+        | inr ne ↦ at_most_trans (v.write_lv y) h.dep (join h.dep (v.write_lv x)) (r.write_lv y m (held_before h x y Read m ne e)) (join_left h.dep (v.write_lv x))
       ];
       read_lv = λ y e. elim (cases_key y x) [
         | inl is ↦
             let now : mode_of x (hold x Read h.held) ≡ Some Write = subst (λ (k : Key). mode_of k (hold x Read h.held) ≡ Some Write) is e in
-            let bad : Some Read ≡ Some Write = sym (hold-same x Read h.held) ∙ now in cc
-        | inr ne ↦ at_most-trans (v.read_lv y) h.dep (join h.dep (v.write_lv x)) (r.read_lv y (held-before h x y Read Write ne e)) (join-left h.dep (v.write_lv x))
+            let bad : Some Read ≡ Some Write = sym (hold_same x Read h.held) ∙ now in cc
+        | inr ne ↦ at_most_trans (v.read_lv y) h.dep (join h.dep (v.write_lv x)) (r.read_lv y (held_before h x y Read Write ne e)) (join_left h.dep (v.write_lv x))
       ];
       used = λ y m e. elim (cases_key y x) [
         | inl is ↦
             let now : mode_of x (hold x Read h.held) ≡ Some m = subst (λ (k : Key). mode_of k (hold x Read h.held) ≡ Some m) is e in
-            let mode : Read ≡ m = (let q : Some Read ≡ Some m = sym (hold-same x Read h.held) ∙ now in cc) in
+            let mode : Read ≡ m = (let q : Some Read ≡ Some m = sym (hold_same x Read h.held) ∙ now in cc) in
             subst (λ (n : Mode). Used procs width n y (read_locked h x)) mode
-            (subst (λ (k : Key). Used procs width Read k (read_locked h x)) (sym is) (wanted-read procs h.call.call h.seen x (v.row x) rs wants))
-        | inr ne ↦ more y m (r.used y m (held-before h x y Read m ne e))
+            (subst (λ (k : Key). Used procs width Read k (read_locked h x)) (sym is) (wanted_read procs h.call.call h.seen x (v.row x) rs wants))
+        | inr ne ↦ more y m (r.used y m (held_before h x y Read m ne e))
       ];
       light = light';
     }
@@ -100,66 +100,66 @@ module _ (procs : List Proc) (width : ℕ) (base : Db) (K : List (Act Txn)) (v :
         no_write y u = both_ways false refl (subst (λ (s : Stage). has_key y (writes_of s) ≡ true) wants u)
 
         more : (y : Key) (m : Mode) → Used procs width m y h → Used procs width m y (read_locked h x)
-        more y Read u = reads-grow procs h.call.call h.seen ((x, v.row x) ∷ []) y u
+        more y Read u = reads_grow procs h.call.call h.seen ((x, v.row x) ∷ []) y u
         more y Write u = absurd (no_write y u)
 
         still : (y : Key) (m : Mode) → mode_of y h.held ≡ Some m → mode_of y (hold x Read h.held) ≡ Some m
         still y m e = elim (cases_key y x) [
           | inl is ↦ elim (cases_mode m) [
-            | inl read ↦ subst (λ (k : Key). mode_of k (hold x Read h.held) ≡ Some m) (sym is) (hold-same x Read h.held ∙ ap (λ (n : Mode). Some n) (sym read))
+            | inl read ↦ subst (λ (k : Key). mode_of k (hold x Read h.held) ≡ Some m) (sym is) (hold_same x Read h.held ∙ ap (λ (n : Mode). Some n) (sym read))
             | inr write ↦ absurd (no_write y (subst (λ (n : Mode). Used procs width n y h) write (r.used y m e)))
           ]
-          | inr ne ↦ hold-other y x Read h.held ne ∙ e
+          | inr ne ↦ hold_other y x Read h.held ne ∙ e
         ]
 
         light' : (j : ℕ) → slice_index v.plv j < slice_index (join h.dep (v.write_lv x)) j → HandCause K j (slice_index (join h.dep (v.write_lv x)) j) (read_locked h x)
-        light' j lt = elim (join-cause h.dep (v.write_lv x) j) [
+        light' j lt = elim (join_cause h.dep (v.write_lv x) j) [
           | inl e ↦
               let c = r.light j (rw e at lt) in
               rw e (record { key = c.key; mode = c.mode; held = still c.key c.mode c.held; cause = c.cause })
           | inr e ↦
               let c = (g.keys x).light_write_lv j (rw e at lt) in
-              rw e (record { key = x; mode = Read; held = hold-same x Read h.held; cause = c })
+              rw e (record { key = x; mode = Read; held = hold_same x Read h.held; cause = c })
         ]
 
-    pub runs-write : Runs procs width K v h → (e : Effect) → stage procs h.call.call h.seen ≡ Ends e → has_key x e.writes ≡ true → Runs procs width K v (write_locked h x)
-    runs-write r f ends' writes = record {
-      wide = let a = join-wide h.dep (v.write_lv x) in let b = join-wide (join h.dep (v.write_lv x)) (v.read_lv x) in let c = r.wide in omega arith;
-      below = join-below (join h.dep (v.write_lv x)) (v.read_lv x) v.ends (join-below h.dep (v.write_lv x) v.ends r.below (g.keys x).below_write_lv) (g.keys x).below_read_lv;
+    pub runs_write : Runs procs width K v h → (e : Effect) → stage procs h.call.call h.seen ≡ Ends e → has_key x e.writes ≡ true → Runs procs width K v (write_locked h x)
+    runs_write r f ends' writes = record {
+      wide = let a = join_wide h.dep (v.write_lv x) in let b = join_wide (join h.dep (v.write_lv x)) (v.read_lv x) in let c = r.wide in omega arith;
+      below = join_below (join h.dep (v.write_lv x)) (v.read_lv x) v.ends (join_below h.dep (v.write_lv x) v.ends r.below (g.keys x).below_write_lv) (g.keys x).below_read_lv;
       agrees = r.agrees;
       kept = λ y e. elim (cases_key y x) [
-        | inl is ↦ (Write, subst (λ (k : Key). mode_of k (hold x Write h.held) ≡ Some Write) (sym is) (hold-same x Write h.held))
-        | inr ne ↦ let (m, p) = r.kept y e in (m, hold-other y x Write h.held ne ∙ p)
+        | inl is ↦ (Write, subst (λ (k : Key). mode_of k (hold x Write h.held) ≡ Some Write) (sym is) (hold_same x Write h.held))
+        | inr ne ↦ let (m, p) = r.kept y e in (m, hold_other y x Write h.held ne ∙ p)
       ];
       write_lv = λ y m e. elim (cases_key y x) [
         | inl is ↦ subst (λ (k : Key). AtMost (v.write_lv k) (with_both h x)) (sym is)
-            (at_most-trans (v.write_lv x) (join h.dep (v.write_lv x)) (with_both h x) (join-right h.dep (v.write_lv x)) (join-left (join h.dep (v.write_lv x)) (v.read_lv x)))
-        | inr ne ↦ at_most-trans (v.write_lv y) h.dep (with_both h x) (r.write_lv y m (held-before h x y Write m ne e)) (up-both)
+            (at_most_trans (v.write_lv x) (join h.dep (v.write_lv x)) (with_both h x) (join_right h.dep (v.write_lv x)) (join_left (join h.dep (v.write_lv x)) (v.read_lv x)))
+        | inr ne ↦ at_most_trans (v.write_lv y) h.dep (with_both h x) (r.write_lv y m (held_before h x y Write m ne e)) (up_both)
       ];
       read_lv = λ y e. elim (cases_key y x) [
-        | inl is ↦ subst (λ (k : Key). AtMost (v.read_lv k) (with_both h x)) (sym is) (join-right (join h.dep (v.write_lv x)) (v.read_lv x))
-        | inr ne ↦ at_most-trans (v.read_lv y) h.dep (with_both h x) (r.read_lv y (held-before h x y Write Write ne e)) (up-both)
+        | inl is ↦ subst (λ (k : Key). AtMost (v.read_lv k) (with_both h x)) (sym is) (join_right (join h.dep (v.write_lv x)) (v.read_lv x))
+        | inr ne ↦ at_most_trans (v.read_lv y) h.dep (with_both h x) (r.read_lv y (held_before h x y Write Write ne e)) (up_both)
       ];
       used = λ y m e. elim (cases_key y x) [
         | inl is ↦
             let now : mode_of x (hold x Write h.held) ≡ Some m = subst (λ (k : Key). mode_of k (hold x Write h.held) ≡ Some m) is e in
-            let mode : Write ≡ m = (let q : Some Write ≡ Some m = sym (hold-same x Write h.held) ∙ now in cc) in
+            let mode : Write ≡ m = (let q : Some Write ≡ Some m = sym (hold_same x Write h.held) ∙ now in cc) in
             subst (λ (n : Mode). Used procs width n y (write_locked h x)) mode
             (subst (λ (k : Key). Used procs width Write k (write_locked h x)) (sym is) (subst (λ (s : Stage). has_key x (writes_of s) ≡ true) (sym ends') writes))
-        | inr ne ↦ same y m (r.used y m (held-before h x y Write m ne e))
+        | inr ne ↦ same y m (r.used y m (held_before h x y Write m ne e))
       ];
       light = light';
     }
       where
-        up-both : AtMost h.dep (with_both h x)
-        up-both = at_most-trans h.dep (join h.dep (v.write_lv x)) (with_both h x) (join-left h.dep (v.write_lv x)) (join-left (join h.dep (v.write_lv x)) (v.read_lv x))
+        up_both : AtMost h.dep (with_both h x)
+        up_both = at_most_trans h.dep (join h.dep (v.write_lv x)) (with_both h x) (join_left h.dep (v.write_lv x)) (join_left (join h.dep (v.write_lv x)) (v.read_lv x))
 
         same : (y : Key) (m : Mode) → Used procs width m y h → Used procs width m y (write_locked h x)
         same y Read u = u
         same y Write u = u
 
         stronger : (m : Mode) (y : Key) (e : Effect) → Meets m y e → touches y e ≡ true
-        stronger Read y e q = or_right (has_key y e.reads) (has_key y e.writes) q
+        stronger Read y e q = or_true (has_key y e.reads) (has_key y e.writes) q
         stronger Write y e q = q
 
         light_old : (j position : ℕ) → HandCause K j position h → HandCause K j position (write_locked h x)
@@ -167,7 +167,7 @@ module _ (procs : List Proc) (width : ℕ) (base : Db) (K : List (Act Txn)) (v :
           | inl is ↦ record {
             key = x;
             mode = Write;
-            held = hold-same x Write h.held;
+            held = hold_same x Write h.held;
             cause = record {
               by = c.cause.by;
               there = c.cause.there;
@@ -175,12 +175,12 @@ module _ (procs : List Proc) (width : ℕ) (base : Db) (K : List (Act Txn)) (v :
               reaches = c.cause.reaches;
             };
           }
-          | inr ne ↦ record { key = c.key; mode = c.mode; held = hold-other c.key x Write h.held ne ∙ c.held; cause = c.cause }
+          | inr ne ↦ record { key = c.key; mode = c.mode; held = hold_other c.key x Write h.held ne ∙ c.held; cause = c.cause }
         ]
 
         light' : (j : ℕ) → slice_index v.plv j < slice_index (with_both h x) j → HandCause K j (slice_index (with_both h x) j) (write_locked h x)
-        light' j lt = elim (join-cause (join h.dep (v.write_lv x)) (v.read_lv x) j) [
-          | inl e ↦ elim (join-cause h.dep (v.write_lv x) j) [
+        light' j lt = elim (join_cause (join h.dep (v.write_lv x)) (v.read_lv x) j) [
+          | inl e ↦ elim (join_cause h.dep (v.write_lv x) j) [
             | inl f ↦
                 let p : slice_index (with_both h x) j ≡ slice_index h.dep j = e ∙ f in
                 rw p (light_old j (slice_index h.dep j) (r.light j (rw p at lt)))
@@ -190,32 +190,27 @@ module _ (procs : List Proc) (width : ℕ) (base : Db) (K : List (Act Txn)) (v :
                 rw p (record {
                   key = x;
                   mode = Write;
-                  held = hold-same x Write h.held;
+                  held = hold_same x Write h.held;
                   cause = record {
                     by = c.by;
                     there = c.there;
-                    because = or_right (has_key x c.by.effect.reads) (has_key x c.by.effect.writes) c.because;
+                    because = or_true (has_key x c.by.effect.reads) (has_key x c.by.effect.writes) c.because;
                     reaches = c.reaches;
                   };
                 })
           ]
           | inr e ↦
               let c = (g.keys x).light_read_lv j (rw e at lt) in
-              rw e (record { key = x; mode = Write; held = hold-same x Write h.held; cause = c })
+              rw e (record { key = x; mode = Write; held = hold_same x Write h.held; cause = c })
         ]
 
-zeros : (n j : ℕ) → slice_index (replicate n 0) j ≡ 0
-zeros zero j = omega arith
-zeros (suc n) zero = refl
-zeros (suc n) (suc j) = zeros n j
-
-read_write : Read ≡ Write → ⊥
+pub read_write : Read ≡ Write → ⊥
 read_write e = cc
 
 -- a call that begins
-pub runs-begun : (procs : List Proc) (width : ℕ) (K : List (Act Txn)) (v : Sight) (c : Numbered) (tries : ℕ) (up : Bool) →
+pub runs_begun : (procs : List Proc) (width : ℕ) (K : List (Act Txn)) (v : Sight) (c : Numbered) (tries : ℕ) (up : Bool) →
     Runs procs width K v (record { call = c; tries = tries; given_up = up; phase = Running; dep = replicate width 0; held = []; seen = [] })
-runs-begun procs width K v c tries up = record {
+runs_begun procs width K v c tries up = record {
   wide = omega (arith, length-replicate {A = ℕ} width 0);
   below = λ j. let e = zeros width j in omega arith;
   agrees = tt;
@@ -236,12 +231,12 @@ module _ (procs : List Proc) (width : ℕ) (base : Db) (K : List (Act Txn)) (v :
         | inl same ↦
             let at : mode_of y h'.held ≡ Some p = rw now at a in
             let mode : mode_of x (hold x m h.held) ≡ Some p = subst (λ (k : Key). mode_of k (hold x m h.held) ≡ Some p) same (subst (λ (l : List (Key × Mode)). mode_of y l ≡ Some p) held at) in
-            let p_is : p ≡ m = (let q : Some m ≡ Some p = sym (hold-same x m h.held) ∙ mode in cc) in
+            let p_is : p ≡ m = (let q : Some m ≡ Some p = sym (hold_same x m h.held) ∙ mode in cc) in
             free u n ne (subst (λ (k : Key). held_in (hand u) k ≡ Some n) same b) (subst (λ (k : Mode). (k ≡ Write) ⊎ (n ≡ Write)) p_is c)
         | inr apart ↦
             let at : mode_of y h'.held ≡ Some p = rw now at a in
-            let old : mode_of y h.held ≡ Some p = sym (hold-other y x m h.held apart) ∙ subst (λ (l : List (Key × Mode)). mode_of y l ≡ Some p) held at in
-            alone-before hand w g.apart u y p n ne (rw is old) b c
+            let old : mode_of y h.held ≡ Some p = sym (hold_other y x m h.held apart) ∙ subst (λ (l : List (Key × Mode)). mode_of y l ≡ Some p) held at in
+            alone_before hand w g.apart u y p n ne (rw is old) b c
       ])
       (λ i e. let same : h' ≡ i = (let q : Some h' ≡ Some i = sym now ∙ e in cc) in
       subst (λ (j : Hand). InPhase procs width K v w j j.phase) same (subst (λ (p : Phase). InPhase procs width K v w h' p) (sym phase') runs))
@@ -253,7 +248,7 @@ module _ (procs : List Proc) (width : ℕ) (base : Db) (K : List (Act Txn)) (v :
       let r : Runs procs width K v h = subst (λ (p : Phase). InPhase procs width K v w h p) phase (g.hands w h is) in
       took Read (record h { dep = join h.dep (v.write_lv x); held = hold x Read h.held; seen = h.seen ++ (x, v.row x) ∷ [] }) is phase phase now refl
       (λ u n ne a c. elim c [ inl bad ↦ absurd (read_write bad) | inr write ↦ free u ne (subst (λ (k : Mode). held_in (hand u) x ≡ Some k) write a) ])
-      (runs-read procs width base K v hand g h x r rs wants)
+      (runs_read procs width base K v hand g h x r rs wants)
 
   pub lock_write : hand w ≡ Some h → h.phase ≡ Running → (e : Effect) → stage procs h.call.call h.seen ≡ Ends e → has_key x e.writes ≡ true →
       ((u : ℕ) (n : Mode) → (u ≡ w → ⊥) → held_in (hand u) x ≡ Some n → ⊥) →
@@ -262,20 +257,20 @@ module _ (procs : List Proc) (width : ℕ) (base : Db) (K : List (Act Txn)) (v :
       let r : Runs procs width K v h = subst (λ (p : Phase). InPhase procs width K v w h p) phase (g.hands w h is) in
       took Write (record h { dep = join (join h.dep (v.write_lv x)) (v.read_lv x); held = hold x Write h.held }) is phase phase now refl
       (λ u n ne a c. free u n ne a)
-      (runs-write procs width base K v hand g h x r e ends writes)
+      (runs_write procs width base K v hand g h x r e ends writes)
 
 -- the dep may be joined with a vector that the persisted positions cover, ahead of the commit
-pub runs-raised : (procs : List Proc) (width : ℕ) (base : Db) (K : List (Act Txn)) (v : Sight) (hand : ℕ → Option Hand) → Good procs width base K hand v → (h : Hand) (a : List ℕ) →
+pub runs_raised : (procs : List Proc) (width : ℕ) (base : Db) (K : List (Act Txn)) (v : Sight) (hand : ℕ → Option Hand) → Good procs width base K hand v → (h : Hand) (a : List ℕ) →
     AtMost a v.plv → Runs procs width K v h → Runs procs width K v (record h { dep = join h.dep a })
-runs-raised procs width base K v hand g h a low r = record {
-  wide = let p = join-wide h.dep a in let q = r.wide in omega arith;
-  below = join-below h.dep a v.ends r.below (at_most-trans a v.plv v.ends low g.order.behind);
+runs_raised procs width base K v hand g h a low r = record {
+  wide = let p = join_wide h.dep a in let q = r.wide in omega arith;
+  below = join_below h.dep a v.ends r.below (at_most_trans a v.plv v.ends low g.order.behind);
   agrees = r.agrees;
   kept = r.kept;
-  write_lv = λ x m e. at_most-trans (v.write_lv x) h.dep (join h.dep a) (r.write_lv x m e) (join-left h.dep a);
-  read_lv = λ x e. at_most-trans (v.read_lv x) h.dep (join h.dep a) (r.read_lv x e) (join-left h.dep a);
+  write_lv = λ x m e. at_most_trans (v.write_lv x) h.dep (join h.dep a) (r.write_lv x m e) (join_left h.dep a);
+  read_lv = λ x e. at_most_trans (v.read_lv x) h.dep (join h.dep a) (r.read_lv x e) (join_left h.dep a);
   used = λ x m e. by_mode x m (r.used x m e);
-  light = λ j lt. elim (join-cause h.dep a j) [
+  light = λ j lt. elim (join_cause h.dep a j) [
     | inl e ↦ let c = r.light j (rw e at lt) in rw e (record { key = c.key; mode = c.mode; held = c.held; cause = c.cause })
     | inr e ↦ absurd (let b = low j in omega arith)
   ];

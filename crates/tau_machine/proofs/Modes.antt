@@ -9,49 +9,49 @@ use Rattle.std.specs.Ordering.{is_eq}
 use Rattle.std.specs.declared.cmp.Ordering.{Ordering}
 use Rattle.std.specs.declared.cmp.Ordering.TheVariants.{Less, Equal, Greater}
 use Rattle.tau_base.specs.Database.{same_key, key_cmp}
-use Rattle.tau_base.proofs.Keys.{same_key-itself, same_key-is}
+use Rattle.tau_base.proofs.Keys.{same_key_itself, same_key_is}
 use Rattle.tau_machine.specs.Hands.{mode_of, without, hold}
 
 -- a key is another one or not
 pub cases_key : (y x : Key) → (y ≡ x) ⊎ (same_key y x ≡ false)
-cases_key y x = elim (cases_Bool (same_key y x)) [ inl e ↦ inl (same_key-is y x e) | inr e ↦ inr e ]
+cases_key y x = elim (cases_Bool (same_key y x)) [ inl e ↦ inl (same_key_is y x e) | inr e ↦ inr e ]
 
-pub without-same : (x : Key) (held : List (Key × Mode)) → mode_of x (without x held) ≡ None
-without-same x [] = refl
-without-same x (e ∷ es) = elim (cases_Bool (same_key x e.0)) [
-  | inl is ↦ rw is (without-same x es)
-  | inr no' ↦ rw no' (rw no' (without-same x es))
+pub without_same : (x : Key) (held : List (Key × Mode)) → mode_of x (without x held) ≡ None
+without_same x [] = refl
+without_same x (e ∷ es) = elim (cases_Bool (same_key x e.0)) [
+  | inl is ↦ rw is (without_same x es)
+  | inr no' ↦ rw no' (rw no' (without_same x es))
 ]
 
-pub without-other : (y x : Key) (held : List (Key × Mode)) → same_key y x ≡ false → mode_of y (without x held) ≡ mode_of y held
-without-other y x [] ne = refl
-without-other y x (e ∷ es) ne = elim (cases_Bool (same_key x e.0)) [
-  | inl is ↦ let apart : same_key y e.0 ≡ false = subst (λ (k : Key). same_key y k ≡ false) (same_key-is x e.0 is) ne in
-      rw is (rw apart (without-other y x es ne))
+pub without_other : (y x : Key) (held : List (Key × Mode)) → same_key y x ≡ false → mode_of y (without x held) ≡ mode_of y held
+without_other y x [] ne = refl
+without_other y x (e ∷ es) ne = elim (cases_Bool (same_key x e.0)) [
+  | inl is ↦ let apart : same_key y e.0 ≡ false = subst (λ (k : Key). same_key y k ≡ false) (same_key_is x e.0 is) ne in
+      rw is (rw apart (without_other y x es ne))
   | inr no' ↦ rw no' (elim (cases_Bool (same_key y e.0)) [
     | inl same ↦ rw same refl
-    | inr apart ↦ rw apart (without-other y x es ne)
+    | inr apart ↦ rw apart (without_other y x es ne)
   ])
 ]
 
 ties : (x y : Key) → key_cmp x y ≡ Equal → x ≡ y
-ties x y e = same_key-is x y (ap is_eq e)
+ties x y e = same_key_is x y (ap is_eq e)
 
 differs : (x y : Key) (o : Ordering) → key_cmp x y ≡ o → is_eq o ≡ false → same_key x y ≡ false
 differs x y o e n = ap is_eq e ∙ n
 
-pub hold-same : (x : Key) (m : Mode) (held : List (Key × Mode)) → mode_of x (hold x m held) ≡ Some m
-hold-same x m [] = rw (same_key-itself x) refl
-hold-same x m (e ∷ es) = at' (key_cmp x e.0) refl (hold-same x m es)
+pub hold_same : (x : Key) (m : Mode) (held : List (Key × Mode)) → mode_of x (hold x m held) ≡ Some m
+hold_same x m [] = rw (same_key_itself x) refl
+hold_same x m (e ∷ es) = at' (key_cmp x e.0) refl (hold_same x m es)
   where
     at' : (o : Ordering) → key_cmp x e.0 ≡ o → mode_of x (hold x m es) ≡ Some m → mode_of x (by_order o ((x, m) ∷ e ∷ es) ((e.0, m) ∷ es) (e ∷ hold x m es)) ≡ Some m
-    at' Less p rest = rw (same_key-itself x) refl
-    at' Equal p rest = let is : same_key x e.0 ≡ true = subst (λ (k : Key). same_key x k ≡ true) (ties x e.0 p) (same_key-itself x) in rw is refl
+    at' Less p rest = rw (same_key_itself x) refl
+    at' Equal p rest = let is : same_key x e.0 ≡ true = subst (λ (k : Key). same_key x k ≡ true) (ties x e.0 p) (same_key_itself x) in rw is refl
     at' Greater p rest = rw (differs x e.0 Greater p refl) rest
 
-pub hold-other : (y x : Key) (m : Mode) (held : List (Key × Mode)) → same_key y x ≡ false → mode_of y (hold x m held) ≡ mode_of y held
-hold-other y x m [] ne = rw ne refl
-hold-other y x m (e ∷ es) ne = at' (key_cmp x e.0) refl (hold-other y x m es ne)
+pub hold_other : (y x : Key) (m : Mode) (held : List (Key × Mode)) → same_key y x ≡ false → mode_of y (hold x m held) ≡ mode_of y held
+hold_other y x m [] ne = rw ne refl
+hold_other y x m (e ∷ es) ne = at' (key_cmp x e.0) refl (hold_other y x m es ne)
   where
     at' : (o : Ordering) → key_cmp x e.0 ≡ o → mode_of y (hold x m es) ≡ mode_of y es → mode_of y (by_order o ((x, m) ∷ e ∷ es) ((e.0, m) ∷ es) (e ∷ hold x m es)) ≡ mode_of y (e ∷ es)
     at' Less p rest = rw ne refl

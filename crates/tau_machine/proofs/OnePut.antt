@@ -12,7 +12,7 @@ use Rattle.tau_model.specs.History.{Numbered, Act, Member}
 use Rattle.tau_proc.specs.declared.reply.Reply.TheVariants as reply
 use Rattle.tau_proc.specs.Effect.{Effect}
 use Rattle.tau_base.specs.Database.{same_key, key_cmp}
-use Rattle.tau_base.proofs.Keys.{same_key-is}
+use Rattle.tau_base.proofs.Keys.{same_key_is}
 use Rattle.tau_base.specs.Database.{empty_db}
 use Rattle.tau_base.specs.Shards.{shard_number}
 use Rattle.tau_proc.specs.declared.procs.TheConstants.{PUT}
@@ -26,7 +26,7 @@ use Rattle.tau_machine.specs.Events as event
 use Rattle.tau_machine.specs.Events.{with_worker, with_shard, with_outbox, with_stream, ready, act_placed, Leads, Lock, Commit, Post, Free, Done, Gather, Persist, Ack}
 use Rattle.tau_machine.specs.Runs.{IsOpening}
 use Rattle.tau_machine.specs.Theorems.{ExampleTheorem}
-use Rattle.tau_base.proofs.Vectors.{at_most-itself}
+use Rattle.tau_base.proofs.Vectors.{at_most_itself}
 
 abbrev x : Key
 x = record { table = 0; row = pos 1 }
@@ -56,8 +56,8 @@ s0 = record {
   plv = 13 ∷ [];
 }
 
-is-opening : IsOpening set s0
-is-opening = record {
+is_opening : IsOpening set s0
+is_opening = record {
   count = refl;
   small = λ w. omega arith;
   ends = refl;
@@ -113,8 +113,8 @@ h0 = fresh 1 put_one 0
 abbrev e1 : Effect
 e1 = record { reads = []; writes = (x, value.Int (pos 5)) ∷ []; reply = reply.Ok value.Absent }
 
-ends-at : stage procs put_one.call [] ≡ Ends e1
-ends-at = refl
+ends_at : stage procs put_one.call [] ≡ Ends e1
+ends_at = refl
 
 abbrev h1 : Hand
 h1 = hand_locked h0 x Write value.Absent (0 ∷ []) (0 ∷ [])
@@ -130,7 +130,7 @@ locks = (
     mode = Write;
     is = refl;
     phase = refl;
-    next = ap (λ s. lock_of s []) ends-at;
+    next = ap (λ s. lock_of s []) ends_at;
     free = λ c. (let bad = c.3 in cc);
     after = refl;
   },
@@ -154,8 +154,8 @@ commits = (
     past = 53;
     is = refl;
     phase = refl;
-    ended = ends-at;
-    locked = ap (λ s. lock_of s h1.held) ends-at;
+    ended = ends_at;
+    locked = ap (λ s. lock_of s h1.held) ends_at;
     updates = refl;
     named = inl (refl, refl);
     past_start = omega arith;
@@ -182,7 +182,7 @@ s4 = with_shard (with_worker s3 0 (record (s3.workers 0) { hand = Some (hand_fre
 
 lowest : (k : Key) (m : Mode) → mode_of k h3.held ≡ Some m → is_le (key_cmp x k) ≡ true
 lowest k m e = elim (cases_Bool (same_key k x)) [
-  | inl is ↦ subst (λ (y : Key). is_le (key_cmp x y) ≡ true) (sym (same_key-is k x is)) refl
+  | inl is ↦ subst (λ (y : Key). is_le (key_cmp x y) ≡ true) (sym (same_key_is k x is)) refl
   | inr ne ↦ let bad : None ≡ Some m = rw ne at e in cc
 ]
 
@@ -214,7 +214,7 @@ abbrev s8 : Core
 s8 = record (with_outbox s7 0 (record (s7.outboxes 0) { pending = [] })) { acked = at 0 (ticket t1 ∷ []) s7.acked }
 
 acks : Leads set (Ack 0 (53 ∷ [])) s7 s8 []
-acks = (record { licensed = at_most-itself (53 ∷ []); front = []; ticket = ticket t1; back = []; is = refl; covered = at_most-itself (53 ∷ []); after = refl }, refl)
+acks = (record { licensed = at_most_itself (53 ∷ []); front = []; ticket = ticket t1; back = []; is = refl; covered = at_most_itself (53 ∷ []); after = refl }, refl)
 
 pub example_theorem : ExampleTheorem
 example_theorem = (
@@ -224,7 +224,7 @@ example_theorem = (
   Lock 0 ∷ Commit 0 ∷ Post 0 ∷ Free 0 ∷ Done 0 ∷ Gather 0 ∷ Persist 0 53 ∷ Ack 0 (53 ∷ []) ∷ [],
   t1 ∷ [],
   record {
-    opens = is-opening;
+    opens = is_opening;
     leads = (s1, [], t1 ∷ [], locks, (s2, t1 ∷ [], [], commits, (s3, [], [], posts, (s4, [], [], frees, (s5, [], [], done, (s6, [], [], gathers, (s7, [], [], persists, (s8, [], [], acks, (refl, refl), refl), refl), refl), refl), refl), refl), refl), refl);
   },
   refl,

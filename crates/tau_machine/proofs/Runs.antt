@@ -16,8 +16,8 @@ use Rattle.tau_machine.specs.Invariant.{Agreement, Invariant}
 use Rattle.tau_machine.specs.Shapes.{Shapes}
 use Rattle.tau_machine.specs.Events.{Event, Leads}
 use Rattle.tau_machine.specs.Runs.{IsOpening, LeadOn, Run}
-use Rattle.tau_base.proofs.Vectors.{at_most-itself}
-use Rattle.tau_machine.proofs.Shapes.{invariant-kept}
+use Rattle.tau_base.proofs.Vectors.{at_most_itself}
+use Rattle.tau_machine.proofs.Shapes.{invariant_kept}
 
 module _ (set : Setting) (s : Core) (o : IsOpening set s) where
   no_hand : (w : ℕ) (h : Hand) → hand_of s w ≡ Some h → ⊥
@@ -38,23 +38,23 @@ module _ (set : Setting) (s : Core) (o : IsOpening set s) where
   none_of : {A : Type 0} (xs : List A) (a : A) → xs ≡ [] → Member a xs → ⊥
   none_of {A} xs a e m = subst (λ (l : List A). Member a l) e m
 
-  entry-is : (x : Key) → entry_in (shard_at set s x) x ≡ entry_or (shard_at set s x).floor None
-  entry-is x = ap (entry_or (shard_at set s x).floor) (o.entries (set.shard_of x) x)
+  entry_is : (x : Key) → entry_in (shard_at set s x) x ≡ entry_or (shard_at set s x).floor None
+  entry_is x = ap (entry_or (shard_at set s x).floor) (o.entries (set.shard_of x) x)
 
-  write_lv-is : (x : Key) → (sight set s).write_lv x ≡ (shard_at set s x).floor
-  write_lv-is x = ap (λ (e : Entry). e.write_lv) (entry-is x)
+  write_lv_is : (x : Key) → (sight set s).write_lv x ≡ (shard_at set s x).floor
+  write_lv_is x = ap (λ (e : Entry). e.write_lv) (entry_is x)
 
-  read_lv-is : (x : Key) → (sight set s).read_lv x ≡ (shard_at set s x).floor
-  read_lv-is x = ap (λ (e : Entry). e.read_lv) (entry-is x)
+  read_lv_is : (x : Key) → (sight set s).read_lv x ≡ (shard_at set s x).floor
+  read_lv_is x = ap (λ (e : Entry). e.read_lv) (entry_is x)
 
   low : (x : Key) → AtMost (shard_at set s x).floor s.ends
   low x = subst (λ (v : List ℕ). AtMost (shard_at set s x).floor v) (sym o.ends) (o.floors (set.shard_of x))
 
-  not-above : (x : Key) (j : ℕ) → slice_index s.plv j < slice_index (shard_at set s x).floor j → ⊥
-  not-above x j lt = absurd (let e = ap (λ (v : List ℕ). slice_index v j) o.plv in let b = o.floors (set.shard_of x) j in omega arith)
+  not_above : (x : Key) (j : ℕ) → slice_index s.plv j < slice_index (shard_at set s x).floor j → ⊥
+  not_above x j lt = absurd (let e = ap (λ (v : List ℕ). slice_index v j) o.plv in let b = o.floors (set.shard_of x) j in omega arith)
 
-  opening-good : Good set.procs set.width set.base [] (hand_of s) (sight set s)
-  opening-good = record {
+  opening_good : Good set.procs set.width set.base [] (hand_of s) (sight set s)
+  opening_good = record {
     order = record {
       effects = refl;
       logged = record {
@@ -69,34 +69,34 @@ module _ (set : Setting) (s : Core) (o : IsOpening set s) where
       };
       pasts = λ t m. absurd m;
       light = λ t m. absurd m;
-      behind = subst (λ (v : List ℕ). AtMost s.plv v) (sym o.ends) (subst (λ (v : List ℕ). AtMost v set.opening) (sym o.plv) (at_most-itself set.opening));
+      behind = subst (λ (v : List ℕ). AtMost s.plv v) (sym o.ends) (subst (λ (v : List ℕ). AtMost v set.opening) (sym o.plv) (at_most_itself set.opening));
       count = ap length o.ends ∙ o.count;
     };
     hands = λ w h e. absurd (no_hand w h e);
     apart = λ w u x m e. absurd (no_hold w x _ e);
     keys = λ x. record {
-      below_write_lv = subst (λ (v : List ℕ). AtMost v s.ends) (sym (write_lv-is x)) (low x);
-      below_read_lv = subst (λ (v : List ℕ). AtMost v s.ends) (sym (read_lv-is x)) (low x);
+      below_write_lv = subst (λ (v : List ℕ). AtMost v s.ends) (sym (write_lv_is x)) (low x);
+      below_read_lv = subst (λ (v : List ℕ). AtMost v s.ends) (sym (read_lv_is x)) (low x);
       wrote = λ t m. absurd m;
       read = λ t m. absurd m;
       freed = λ none. sym (o.rows x);
       unfreed = λ t h. absurd (no_act h.worker t h.act);
       last = λ t h. absurd (no_act h.worker t h.act);
       row_of = λ t m. absurd m;
-      light_write_lv = λ j lt. absurd (not-above x j (subst (λ (v : List ℕ). slice_index s.plv j < slice_index v j) (write_lv-is x) lt));
-      light_read_lv = λ j lt. absurd (not-above x j (subst (λ (v : List ℕ). slice_index s.plv j < slice_index v j) (read_lv-is x) lt));
+      light_write_lv = λ j lt. absurd (not_above x j (subst (λ (v : List ℕ). slice_index s.plv j < slice_index v j) (write_lv_is x) lt));
+      light_read_lv = λ j lt. absurd (not_above x j (subst (λ (v : List ℕ). slice_index s.plv j < slice_index v j) (read_lv_is x) lt));
     };
   }
 
-  pub opening-invariant : Agreement set [] s
-  opening-invariant = record {
+  pub opening_invariant : Agreement set [] s
+  opening_invariant = record {
     good = record {
-      good = opening-good;
-      locks = λ w x. ap (λ (e : Entry). e.holders w) (entry-is x) ∙ sym (ap (λ (i : Option Hand). held_in i x) (o.hands w));
+      good = opening_good;
+      locks = λ w x. ap (λ (e : Entry). e.holders w) (entry_is x) ∙ sym (ap (λ (i : Option Hand). held_in i x) (o.hands w));
       small = o.small;
       floors = λ i. subst (λ (v : List ℕ). AtMost (s.shards i).floor v) (sym o.plv) (o.floors i);
-      persisted = subst (λ (v : List ℕ). AtMost s.plv v) (sym o.gathered) (subst (λ (v : List ℕ). AtMost v set.opening) (sym o.plv) (at_most-itself set.opening));
-      gathered = subst (λ (v : List ℕ). AtMost s.gathered v) (sym o.ends) (subst (λ (v : List ℕ). AtMost v set.opening) (sym o.gathered) (at_most-itself set.opening));
+      persisted = subst (λ (v : List ℕ). AtMost s.plv v) (sym o.gathered) (subst (λ (v : List ℕ). AtMost v set.opening) (sym o.plv) (at_most_itself set.opening));
+      gathered = subst (λ (v : List ℕ). AtMost s.gathered v) (sym o.ends) (subst (λ (v : List ℕ). AtMost v set.opening) (sym o.gathered) (at_most_itself set.opening));
       count_gathered = ap length o.gathered ∙ o.count;
       count_plv = ap length o.plv ∙ o.count;
       members = λ w. o.committed w;
@@ -135,8 +135,8 @@ module _ (set : Setting) (s : Core) (o : IsOpening set s) where
     };
   }
 
-opening-shapes : (set : Setting) (s : Core) → IsOpening set s → Shapes set [] s
-opening-shapes set s o = record {
+opening_shapes : (set : Setting) (s : Core) → IsOpening set s → Shapes set [] s
+opening_shapes set s o = record {
   shards = λ i. record { floor = o.narrow i; entries = λ x e is. absurd (let bad : None ≡ Some e = sym (o.entries i x) ∙ is in cc) };
   workers = λ w. record {
     waiting = o.calls w;
@@ -147,19 +147,19 @@ opening-shapes set s o = record {
   anchors = λ j a m. absurd (none_of set s o (s.streams j).anchors a (o.anchors j) m);
 }
 
-lead_on-invariant : (set : Setting) (es : List Event) (K new : List (Act Txn)) (s s' : Core) → Invariant set K s → LeadOn set es s s' new → Invariant set (K ++ new) s'
-lead_on-invariant set [] K new s s' g (same, none) =
+lead_on_invariant : (set : Setting) (es : List Event) (K new : List (Act Txn)) (s s' : Core) → Invariant set K s → LeadOn set es s s' new → Invariant set (K ++ new) s'
+lead_on_invariant set [] K new s s' g (same, none) =
     subst (λ (c : Core). Invariant set (K ++ new) c) (sym same) (subst (λ (l : List (Act Txn)). Invariant set l s) (sym (ap (λ (l : List (Act Txn)). K ++ l) none ∙ append-nil K)) g)
-lead_on-invariant set (e ∷ es) K new s s' g (m, first, rest, leads, on, is) =
+lead_on_invariant set (e ∷ es) K new s s' g (m, first, rest, leads, on, is) =
     subst (λ (l : List (Act Txn)). Invariant set l s') (append_assoc K first rest ∙ ap (λ (l : List (Act Txn)). K ++ l) (sym is))
-    (lead_on-invariant set es (K ++ first) rest m s' (invariant-kept set K e s m first g leads) on)
+    (lead_on_invariant set es (K ++ first) rest m s' (invariant_kept set K e s m first g leads) on)
 
-pub run-invariant : (set : Setting) (opening : Core) (events : List Event) (K : List (Act Txn)) (s : Core) → Run set opening events K s → Invariant set K s
-run-invariant set opening events K s r = lead_on-invariant set events [] K opening s (record { agrees = opening-invariant set opening r.opens; shapes = opening-shapes set opening r.opens }) r.leads
+pub run_invariant : (set : Setting) (opening : Core) (events : List Event) (K : List (Act Txn)) (s : Core) → Run set opening events K s → Invariant set K s
+run_invariant set opening events K s r = lead_on_invariant set events [] K opening s (record { agrees = opening_invariant set opening r.opens; shapes = opening_shapes set opening r.opens }) r.leads
 
-pub lead_on-more : (set : Setting) (es : List Event) (K : List (Act Txn)) (s m s' : Core) (e : Event) (new : List (Act Txn)) →
+pub lead_on_more : (set : Setting) (es : List Event) (K : List (Act Txn)) (s m s' : Core) (e : Event) (new : List (Act Txn)) →
     LeadOn set es s m K → Leads set e m s' new → LeadOn set (es ++ e ∷ []) s s' (K ++ new)
-lead_on-more set [] K s m s' e new (same, none) leads =
+lead_on_more set [] K s m s' e new (same, none) leads =
     (s', new, [], subst (λ (c : Core). Leads set e c s' new) same leads, (refl, refl), ap (λ (l : List (Act Txn)). l ++ new) none ∙ sym (append-nil new))
-lead_on-more set (f ∷ es) K s m s' e new (c, first, rest, leads, on, is) next =
-    (c, first, rest ++ new, leads, lead_on-more set es rest c m s' e new on next, ap (λ (l : List (Act Txn)). l ++ new) is ∙ append_assoc first rest new)
+lead_on_more set (f ∷ es) K s m s' e new (c, first, rest, leads, on, is) next =
+    (c, first, rest ++ new, leads, lead_on_more set es rest c m s' e new on next, ap (λ (l : List (Act Txn)). l ++ new) is ∙ append_assoc first rest new)

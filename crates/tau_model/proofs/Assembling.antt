@@ -6,22 +6,23 @@ use Rattle.std.specs.Option.{ForSome}
 use Rattle.std.proofs.lemmas.Bool.{cases_Bool, cases_eq, eq-eqb, ne_eqb, both_ways, and_from, and_parts, cases_lt, eqb-true}
 use Rattle.std.proofs.lemmas.List.{length-map}
 use Rattle.tau_base.specs.Vectors.{AtMost, covers}
-use Rattle.tau_base.proofs.Vectors.{at_most-trans, at_most-itself}
+use Rattle.tau_base.proofs.Vectors.{at_most_trans, at_most_itself}
 use Rattle.tau_model.specs.declared.committed.Committed.{Committed}
 use Rattle.tau_model.specs.declared.committed.Spot.{Spot}
 use Rattle.tau_model.specs.History.{Member}
 use Rattle.tau_model.specs.Committed.{IsWithin, has_record, number_of, place_at, place_of, reported_numbers}
 use Rattle.tau_model.specs.Reported.{take_first, take_record, Left, next_start, emitted, picked, listed, ascending, each, in_stream, left_of, reported_within}
 use Rattle.tau_model.specs.Listing.{Entry, entry_number, entry_of, entry_place, entry_start, covered_by, IsQueue, AreQueues, IsListing, AreListed, AreRising, lengths, slot_of, bucket, woven}
-use Rattle.tau_model.proofs.ReportOrder.{emitted-at, FirstTaken, take_first-is, RecordTaken, take_record-is}
-use Rattle.tau_model.proofs.Listings.{emitted-set, length-emitted, lengths-set, queues-set}
-use Rattle.tau_model.proofs.Naturality.{left_map, reported-map, ascending-map, map-each}
-use Rattle.tau_model.proofs.Reorder.{reordered-length}
-use Rattle.tau_model.proofs.Ascending.{ascending-reordered, each-at, each-past, length-each}
-use Rattle.tau_model.proofs.Orders.{member-reordered}
-use Rattle.tau_model.proofs.Logged.{member-filtered}
-use Rattle.tau_model.proofs.Sorting.{Rising, ascending-rising, at_some_place, filter-same}
-use Rattle.tau_model.proofs.Weaving.{each-same, woven-none}
+use Rattle.tau_model.proofs.ReportOrder.{emitted_at, FirstTaken, take_first_is, RecordTaken, take_record_is}
+use Rattle.tau_model.proofs.Listings.{emitted_set, length_emitted, lengths_set, queues_set}
+use Rattle.tau_model.proofs.Naturality.{left_map, reported_map, ascending_map, map_each}
+use Rattle.tau_model.proofs.Reorder.{reordered_length}
+use Rattle.tau_model.proofs.Ascending.{ascending_reordered, each_at, each_past, length_each}
+use Rattle.tau_model.proofs.Orders.{member_reordered}
+use Rattle.tau_model.proofs.Logged.{member_filtered}
+use Rattle.tau_model.proofs.Sorting.{Rising, ascending_rising, at_some_place, filter_same}
+use Rattle.tau_model.proofs.Weaving.{each_same, woven_none}
+use Rattle.tau_base.proofs.Lists.{map_map}
 
 -- what does not pass
 abbrev pub without : {A : Type 0} → (A → Bool) → List A → List A
@@ -32,11 +33,11 @@ abbrev pub TakenFirst : {A : Type 0} → (A → Bool) → List A → List A → 
 TakenFirst {A} p xs [] = (take_first p xs ≡ None) × (without p xs ≡ xs)
 TakenFirst {A} p xs (x ∷ passing) = (others : List A) × (take_first p xs ≡ Some (x, others)) × (filter p others ≡ passing) × (without p others ≡ without p xs)
 
-pub taken-first : {A : Type 0} (p : A → Bool) (xs : List A) → TakenFirst p xs (filter p xs)
-taken-first p [] = (refl, refl)
-taken-first {A} p (x ∷ xs) = elim (cases_Bool (p x)) [
+pub taken_first : {A : Type 0} (p : A → Bool) (xs : List A) → TakenFirst p xs (filter p xs)
+taken_first p [] = (refl, refl)
+taken_first {A} p (x ∷ xs) = elim (cases_Bool (p x)) [
   | inl is ↦ rw is (xs, rw is refl, refl, rw is refl)
-  | inr no' ↦ rw no' (behind no' (filter p xs) (taken-first p xs))
+  | inr no' ↦ rw no' (behind no' (filter p xs) (taken_first p xs))
 ]
   where
     behind : p x ≡ false → (ys : List A) → TakenFirst p xs ys → TakenFirst p (x ∷ xs) ys
@@ -44,9 +45,9 @@ taken-first {A} p (x ∷ xs) = elim (cases_Bool (p x)) [
     behind no' (y ∷ ys) (others, taken, passing, rest) = (x ∷ others, rw (no', taken) refl, rw no' passing, rw no' (ap (λ l. x ∷ l) rest))
 
 module _ (ends : List ℕ) where
-  taken-record : (v : List ℕ) (streams : List (List Entry)) (e : Entry) (rest : List (List Entry)) → take_record (covered_by v) streams ≡ Some (e, rest) →
+  taken_record : (v : List ℕ) (streams : List (List Entry)) (e : Entry) (rest : List (List Entry)) → take_record (covered_by v) streams ≡ Some (e, rest) →
       RecordTaken (covered_by v) streams (Some (e, rest))
-  taken-record v streams e rest is = subst (λ o. RecordTaken (covered_by v) streams o) is (take_record-is (covered_by v) streams)
+  taken_record v streams e rest is = subst (λ o. RecordTaken (covered_by v) streams o) is (take_record_is (covered_by v) streams)
 
   -- what is listed makes what is emitted rise, and leaves fewer records
   record Goes (streams rest : List (List Entry)) : Type 0 where
@@ -56,17 +57,17 @@ module _ (ends : List ℕ) where
 
   goes : (v : List ℕ) (streams : List (List Entry)) (e : Entry) (rest : List (List Entry)) → AreQueues ends streams → take_record (covered_by v) streams ≡ Some (e, rest) → Goes streams rest
   goes v streams e rest are is =
-      let (j, rs, lt, front, set, passes) = taken-record v streams e rest is in
+      let (j, rs, lt, front, set, passes) = taken_record v streams e rest is in
       let queue : IsQueue (slice_index ends j) (e ∷ rs) = subst (λ (l : List Entry). IsQueue (slice_index ends j) l) front (are.each j) in
-      let count = lengths-set streams j rs lt in
+      let count = lengths_set streams j rs lt in
       let here : length (slice_index_or streams j []) ≡ suc (length rs) = ap (λ (l : List Entry). length l) front in
       let was : slice_index (emitted entry_place streams ends) j ≡ e.start =
-      emitted-at entry_place (λ x. true) streams ends are.count j ∙ ap (λ (l : List Entry). next_start entry_place l (slice_index ends j)) front in
+      emitted_at entry_place (λ x. true) streams ends are.count j ∙ ap (λ (l : List Entry). next_start entry_place l (slice_index ends j)) front in
       let now : emitted entry_place (slice_set streams j rs) ends ≡ slice_set (emitted entry_place streams ends) j (next_start entry_place rs (slice_index ends j)) =
-      emitted-set entry_place streams ends j rs are.count lt in
-      let wide : j < length (emitted entry_place streams ends) = omega (arith, length-emitted entry_place streams ends are.count, are.count) in
+      emitted_set entry_place streams ends j rs are.count lt in
+      let wide : j < length (emitted entry_place streams ends) = omega (arith, length_emitted entry_place streams ends are.count, are.count) in
       rw set (record {
-        queues = queues-set ends streams j e rs are lt front;
+        queues = queues_set ends streams j e rs are lt front;
         rises = λ k. rw now (elim (cases_eq k j) [
           | inl same ↦ rw (same, get_or-set_same (emitted entry_place streams ends) j (next_start entry_place rs (slice_index ends j)) 0 wide, was) queue.0
           | inr other ↦ rw (get_or-set_other (emitted entry_place streams ends) j k (next_start entry_place rs (slice_index ends j)) 0 other) (omega arith)
@@ -74,33 +75,33 @@ module _ (ends : List ℕ) where
         fewer = omega arith;
       })
 
-  listing-head : (streams : List (List Entry)) (reached : List (List ℕ)) (numbers : List ℕ) → IsListing ends streams reached numbers → slice_index_or reached 0 [] ≡ emitted entry_place streams ends
-  listing-head streams [] numbers h = absurd h
-  listing-head streams (v ∷ reached) [] h = h.0
-  listing-head streams (v ∷ reached) (n ∷ numbers) h = h.0
+  listing_head : (streams : List (List Entry)) (reached : List (List ℕ)) (numbers : List ℕ) → IsListing ends streams reached numbers → slice_index_or reached 0 [] ≡ emitted entry_place streams ends
+  listing_head streams [] numbers h = absurd h
+  listing_head streams (v ∷ reached) [] h = h.0
+  listing_head streams (v ∷ reached) (n ∷ numbers) h = h.0
 
-  pub listing-length : (streams : List (List Entry)) (reached : List (List ℕ)) (numbers : List ℕ) → IsListing ends streams reached numbers → length reached ≡ length numbers + 1
-  listing-length streams [] numbers h = absurd h
-  listing-length streams (v ∷ reached) [] h = rw h.1 refl
-  listing-length streams (v ∷ reached) (n ∷ numbers) (is, (e, rest, taken, number, h)) = let k = listing-length rest reached numbers h in omega arith
+  pub listing_length : (streams : List (List Entry)) (reached : List (List ℕ)) (numbers : List ℕ) → IsListing ends streams reached numbers → length reached ≡ length numbers + 1
+  listing_length streams [] numbers h = absurd h
+  listing_length streams (v ∷ reached) [] h = rw h.1 refl
+  listing_length streams (v ∷ reached) (n ∷ numbers) (is, (e, rest, taken, number, h)) = let k = listing_length rest reached numbers h in omega arith
 
-  pub listing-rising : (streams : List (List Entry)) (reached : List (List ℕ)) (numbers : List ℕ) → AreQueues ends streams → IsListing ends streams reached numbers → AreRising reached
-  listing-rising streams [] numbers are h = absurd h
-  listing-rising streams (v ∷ reached) [] are h = alone
+  pub listing_rising : (streams : List (List Entry)) (reached : List (List ℕ)) (numbers : List ℕ) → AreQueues ends streams → IsListing ends streams reached numbers → AreRising reached
+  listing_rising streams [] numbers are h = absurd h
+  listing_rising streams (v ∷ reached) [] are h = alone
     where
       alone : AreRising (v ∷ reached)
-      alone zero zero le lt = at_most-itself v
+      alone zero zero le lt = at_most_itself v
       alone (suc i) zero le lt = absurd (omega arith)
       alone i (suc j) le lt = absurd (let k : length reached ≡ 0 = rw h.1 refl in omega arith)
-  listing-rising streams (v ∷ reached) (n ∷ numbers) are (is, (e, rest, taken, number, h)) =
+  listing_rising streams (v ∷ reached) (n ∷ numbers) are (is, (e, rest, taken, number, h)) =
       let g = goes v streams e rest are taken in
-      let up : AtMost v (slice_index_or reached 0 []) = rw (is, listing-head rest reached numbers h) g.rises in
-      before up (listing-rising rest reached numbers g.queues h)
+      let up : AtMost v (slice_index_or reached 0 []) = rw (is, listing_head rest reached numbers h) g.rises in
+      before up (listing_rising rest reached numbers g.queues h)
     where
       before : AtMost v (slice_index_or reached 0 []) → AreRising reached → AreRising (v ∷ reached)
-      before up rising zero zero le lt = at_most-itself v
+      before up rising zero zero le lt = at_most_itself v
       before up rising (suc i) zero le lt = absurd (omega arith)
-      before up rising zero (suc j) le lt = at_most-trans v (slice_index_or reached 0 []) (slice_index_or reached j []) up (rising 0 j (omega arith) (omega arith))
+      before up rising zero (suc j) le lt = at_most_trans v (slice_index_or reached 0 []) (slice_index_or reached j []) up (rising 0 j (omega arith) (omega arith))
       before up rising (suc i) (suc j) le lt = rising i j (omega arith) (omega arith)
 
 -- the readers that each vector covers first, and the records
@@ -112,15 +113,15 @@ interwoven (v ∷ reached) readers (n ∷ numbers) = map entry_number (filter (c
 module _ (ends : List ℕ) where
   no_records : (v : List ℕ) (streams : List (List Entry)) (e : Entry) (rest : List (List Entry)) → lengths streams ≤ 0 → take_record (covered_by v) streams ≡ Some (e, rest) → ⊥
   no_records v streams e rest few is =
-      let (j, rs, lt, front, set, passes) = taken-record ends v streams e rest is in
-      let count = lengths-set streams j rs lt in
+      let (j, rs, lt, front, set, passes) = taken_record ends v streams e rest is in
+      let count = lengths_set streams j rs lt in
       let here : length (slice_index_or streams j []) ≡ suc (length rs) = ap (λ (l : List Entry). length l) front in
       omega arith
 
   fewer : (v : List ℕ) (streams : List (List Entry)) (e : Entry) (rest : List (List Entry)) → take_record (covered_by v) streams ≡ Some (e, rest) → lengths rest < lengths streams
   fewer v streams e rest is =
-      let (j, rs, lt, front, set, passes) = taken-record ends v streams e rest is in
-      let count = lengths-set streams j rs lt in
+      let (j, rs, lt, front, set, passes) = taken_record ends v streams e rest is in
+      let count = lengths_set streams j rs lt in
       let here : length (slice_index_or streams j []) ≡ suc (length rs) = ap (λ (l : List Entry). length l) front in
       rw set (omega arith)
 
@@ -138,15 +139,15 @@ module _ (ends : List ℕ) where
   listing_at streams w reached [] h = h.0
   listing_at streams w reached (n ∷ numbers) h = h.0
 
-  take_first-length : (p : Entry → Bool) (xs : List Entry) (x : Entry) (others : List Entry) → take_first p xs ≡ Some (x, others) → length xs ≡ suc (length others)
-  take_first-length p xs x others is =
-      let (front, back, whole, rest, passes) = subst (λ o. FirstTaken p xs o) is (take_first-is p xs) in
+  take_first_length : (p : Entry → Bool) (xs : List Entry) (x : Entry) (others : List Entry) → take_first p xs ≡ Some (x, others) → length xs ≡ suc (length others)
+  take_first_length p xs x others is =
+      let (front, back, whole, rest, passes) = subst (λ o. FirstTaken p xs o) is (take_first_is p xs) in
       omega (arith, ap (λ (l : List Entry). length l) whole, ap (λ (l : List Entry). length l) rest, length-append front (x ∷ back), length-append front back)
 
-  interwoven-first : (v : List ℕ) (reached : List (List ℕ)) (readers others : List Entry) (x : Entry) (numbers : List ℕ) → filter (covered_by v) readers ≡ x ∷ filter (covered_by v) others →
+  interwoven_first : (v : List ℕ) (reached : List (List ℕ)) (readers others : List Entry) (x : Entry) (numbers : List ℕ) → filter (covered_by v) readers ≡ x ∷ filter (covered_by v) others →
       without (covered_by v) others ≡ without (covered_by v) readers → interwoven (v ∷ reached) readers numbers ≡ x.number ∷ interwoven (v ∷ reached) others numbers
-  interwoven-first v reached readers others x [] e left = rw e refl
-  interwoven-first v reached readers others x (n ∷ numbers) e left = rw (e, left) refl
+  interwoven_first v reached readers others x [] e left = rw e refl
+  interwoven_first v reached readers others x (n ∷ numbers) e left = rw (e, left) refl
 
   -- one step of the reported history, where the rest is woven
   step : (n : ℕ) → ((readers : List Entry) (streams : List (List Entry)) (reached : List (List ℕ)) (numbers : List ℕ) → length readers + lengths streams ≤ n → IsListing ends streams reached numbers →
@@ -168,64 +169,64 @@ module _ (ends : List ℕ) where
       rw (none, next, same, e, all) (ap (λ l. h.1.0.number ∷ l) others ∙ ap (λ m. m ∷ interwoven reached readers numbers) first)
   step n rest readers streams (w ∷ reached) numbers few h v is (x ∷ passing) e (others, taken, those, left) =
       let same : w ≡ v = listing_at streams w reached numbers h ∙ sym is in
-      let size = take_first-length (covered_by v) readers x others taken in
+      let size = take_first_length (covered_by v) readers x others taken in
       let later = rest others streams (w ∷ reached) numbers (omega arith) h in
-      rw taken (ap (λ l. x.number ∷ l) later ∙ rw same (sym (interwoven-first v reached readers others x numbers (e ∙ ap (λ l. x ∷ l) (sym those)) left)))
+      rw taken (ap (λ l. x.number ∷ l) later ∙ rw same (sym (interwoven_first v reached readers others x numbers (e ∙ ap (λ l. x ∷ l) (sym those)) left)))
 
-  pub report-interwoven : (n : ℕ) (readers : List Entry) (streams : List (List Entry)) (reached : List (List ℕ)) (numbers : List ℕ) → length readers + lengths streams ≤ n →
+  pub report_interwoven : (n : ℕ) (readers : List Entry) (streams : List (List Entry)) (reached : List (List ℕ)) (numbers : List ℕ) → length readers + lengths streams ≤ n →
       IsListing ends streams reached numbers →
       map entry_number (reported_within entry_place n ends (record { readers = readers; streams = streams })) ≡ interwoven reached readers numbers
   unfolding reported_within
-  report-interwoven zero readers streams reached numbers few h =
+  report_interwoven zero readers streams reached numbers few h =
       rw (no_length readers (omega arith)) (sym (nothing streams reached numbers (omega arith) h))
-  report-interwoven (suc n) readers streams reached numbers few h =
-      step n (report-interwoven n) readers streams reached numbers few h (emitted entry_place streams ends) refl
-      (filter (covered_by (emitted entry_place streams ends)) readers) refl (taken-first (covered_by (emitted entry_place streams ends)) readers)
+  report_interwoven (suc n) readers streams reached numbers few h =
+      step n (report_interwoven n) readers streams reached numbers few h (emitted entry_place streams ends) refl
+      (filter (covered_by (emitted entry_place streams ends)) readers) refl (taken_first (covered_by (emitted entry_place streams ends)) readers)
 
-eqb-suc : (m k : ℕ) → (suc m == suc k) ≡ (m == k)
-eqb-suc m k = elim (cases_eq m k) [
+eqb_suc : (m k : ℕ) → (suc m == suc k) ≡ (m == k)
+eqb_suc m k = elim (cases_eq m k) [
   | inl is ↦ eq-eqb (suc m) (suc k) (ap suc is) ∙ sym (eq-eqb m k is)
   | inr ne ↦ ne_eqb (suc m) (suc k) (λ e. ne (omega arith)) ∙ sym (ne_eqb m k ne)
 ]
 
 -- the slot of a call that the first vector covers
-slot-first : (v : List ℕ) (reached : List (List ℕ)) (e : Entry) → (slot_of (v ∷ reached) e.dep == 0) ≡ covered_by v e
-slot-first v reached e = elim (cases_Bool (covers v e.dep)) [
+slot_first : (v : List ℕ) (reached : List (List ℕ)) (e : Entry) → (slot_of (v ∷ reached) e.dep == 0) ≡ covered_by v e
+slot_first v reached e = elim (cases_Bool (covers v e.dep)) [
   | inl is ↦ rw is refl
   | inr no' ↦ rw no' (ne_eqb (suc (slot_of reached e.dep)) 0 (λ q. omega arith))
 ]
 
-slot-later : (v : List ℕ) (reached : List (List ℕ)) (k : ℕ) (readers : List Entry) →
+slot_later : (v : List ℕ) (reached : List (List ℕ)) (k : ℕ) (readers : List Entry) →
     filter (λ e. slot_of (v ∷ reached) e.dep == suc k) readers ≡ filter (λ e. slot_of reached e.dep == k) (without (covered_by v) readers)
-slot-later v reached k [] = refl
-slot-later v reached k (e ∷ readers) = elim (cases_Bool (covers v e.dep)) [
+slot_later v reached k [] = refl
+slot_later v reached k (e ∷ readers) = elim (cases_Bool (covers v e.dep)) [
   | inl is ↦
       let out : (slot_of (v ∷ reached) e.dep == suc k) ≡ false = rw is (ne_eqb 0 (suc k) (λ q. omega arith)) in
-      rw (out, is) (slot-later v reached k readers)
+      rw (out, is) (slot_later v reached k readers)
   | inr no' ↦
-      let same : (slot_of (v ∷ reached) e.dep == suc k) ≡ (slot_of reached e.dep == k) = rw no' (eqb-suc (slot_of reached e.dep) k) in
+      let same : (slot_of (v ∷ reached) e.dep == suc k) ≡ (slot_of reached e.dep == k) = rw no' (eqb_suc (slot_of reached e.dep) k) in
       rw (same, no') (elim (cases_Bool (slot_of reached e.dep == k)) [
-        | inl at ↦ rw at (ap (λ l. e ∷ l) (slot-later v reached k readers))
-        | inr apart ↦ rw apart (slot-later v reached k readers)
+        | inl at ↦ rw at (ap (λ l. e ∷ l) (slot_later v reached k readers))
+        | inr apart ↦ rw apart (slot_later v reached k readers)
       ])
 ]
 
-pub interwoven-woven : (reached : List (List ℕ)) (readers : List Entry) (numbers : List ℕ) → length reached ≡ length numbers + 1 →
+pub interwoven_woven : (reached : List (List ℕ)) (readers : List Entry) (numbers : List ℕ) → length reached ≡ length numbers + 1 →
     interwoven reached readers numbers ≡ woven (each (length reached) (bucket reached readers)) numbers
-interwoven-woven [] readers numbers e = refl
-interwoven-woven (v ∷ reached) readers [] e =
+interwoven_woven [] readers numbers e = refl
+interwoven_woven (v ∷ reached) readers [] e =
     let none : reached ≡ [] = no_vectors reached (omega arith) in
-    rw none (ap (map entry_number) (sym (filter-same (λ (x : Entry). slot_of (v ∷ []) x.dep == 0) (covered_by v) readers (slot-first v []))))
+    rw none (ap (map entry_number) (sym (filter_same (λ (x : Entry). slot_of (v ∷ []) x.dep == 0) (covered_by v) readers (slot_first v []))))
   where
     no_vectors : (xs : List (List ℕ)) → length xs ≤ 0 → xs ≡ []
     no_vectors [] h = refl
     no_vectors (x ∷ xs) h = absurd (omega arith)
-interwoven-woven (v ∷ reached) readers (n ∷ numbers) e =
+interwoven_woven (v ∷ reached) readers (n ∷ numbers) e =
     let first : map entry_number (filter (covered_by v) readers) ≡ bucket (v ∷ reached) readers 0 =
-    ap (map entry_number) (sym (filter-same (λ (x : Entry). slot_of (v ∷ reached) x.dep == 0) (covered_by v) readers (slot-first v reached))) in
-    let rest = interwoven-woven reached (without (covered_by v) readers) numbers (omega arith) in
+    ap (map entry_number) (sym (filter_same (λ (x : Entry). slot_of (v ∷ reached) x.dep == 0) (covered_by v) readers (slot_first v reached))) in
+    let rest = interwoven_woven reached (without (covered_by v) readers) numbers (omega arith) in
     let later : each (length reached) (bucket reached (without (covered_by v) readers)) ≡ each (length reached) (λ k. bucket (v ∷ reached) readers (suc k)) =
-    each-same (length reached) (bucket reached (without (covered_by v) readers)) (λ k. bucket (v ∷ reached) readers (suc k)) (λ k. ap (map entry_number) (sym (slot-later v reached k readers))) in
+    each_same (length reached) (bucket reached (without (covered_by v) readers)) (λ k. bucket (v ∷ reached) readers (suc k)) (λ k. ap (map entry_number) (sym (slot_later v reached k readers))) in
     rw (first, rest, later) refl
 
 apart_filters : {A : Type 0} (p q r : A → Bool) → ((x : A) → p x ≡ true → r x ≡ true) → ((x : A) → q x ≡ true → r x ≡ true) → ((x : A) → p x ≡ true → q x ≡ true → ⊥) →
@@ -248,11 +249,11 @@ apart_filters p q r pr qr apart (x ∷ xs) =
     ]
 
 -- no element is in two of the lists, so together they are no more than those that may be in one
-each-count : {A : Type 0} (n : ℕ) (q : ℕ → A → Bool) (r : A → Bool) → ((j : ℕ) (x : A) → q j x ≡ true → r x ≡ true) → ((i j : ℕ) (x : A) → q i x ≡ true → q j x ≡ true → i ≡ j) →
+each_count : {A : Type 0} (n : ℕ) (q : ℕ → A → Bool) (r : A → Bool) → ((j : ℕ) (x : A) → q j x ≡ true → r x ≡ true) → ((i j : ℕ) (x : A) → q i x ≡ true → q j x ≡ true → i ≡ j) →
     (xs : List A) → lengths (each n (λ j. filter (q j) xs)) ≤ length (filter r xs)
-each-count zero q r within once xs = omega arith
-each-count {A} (suc n) q r within once xs =
-    let rest = each-count n (λ j. q (suc j)) (λ x. r x && not (q 0 x))
+each_count zero q r within once xs = omega arith
+each_count {A} (suc n) q r within once xs =
+    let rest = each_count n (λ j. q (suc j)) (λ x. r x && not (q 0 x))
     (λ j x is. and_from (r x) (not (q 0 x)) (within (suc j) x is) (not_first j x is)) (λ i j x a b. let e = once (suc i) (suc j) x a b in omega arith) xs in
     let both = apart_filters (q 0) (λ x. r x && not (q 0 x)) r (within 0) (λ x is. (and_parts (r x) (not (q 0 x)) is).0)
     (λ x is also. both_ways (not (q 0 x)) (rw is refl) (and_parts (r x) (not (q 0 x)) also).1) xs in
@@ -264,9 +265,9 @@ each-count {A} (suc n) q r within once xs =
       | inr no' ↦ rw no' refl
     ]
 
-lengths-same : {A B : Type 0} (n : ℕ) (f : ℕ → List A) (g : ℕ → List B) → ((j : ℕ) → length (f j) ≡ length (g j)) → lengths (each n f) ≡ lengths (each n g)
-lengths-same zero f g h = refl
-lengths-same (suc n) f g h = let first = h 0 in let rest = lengths-same n (λ j. f (suc j)) (λ j. g (suc j)) (λ j. h (suc j)) in omega arith
+lengths_same : {A B : Type 0} (n : ℕ) (f : ℕ → List A) (g : ℕ → List B) → ((j : ℕ) → length (f j) ≡ length (g j)) → lengths (each n f) ≡ lengths (each n g)
+lengths_same zero f g h = refl
+lengths_same (suc n) f g h = let first = h 0 in let rest = lengths_same n (λ j. f (suc j)) (λ j. g (suc j)) (λ j. h (suc j)) in omega arith
 
 abbrev reads : Committed → Bool
 reads c = not (has_record c)
@@ -287,11 +288,11 @@ enough : (n : ℕ) (list : List Committed) →
     length (ascending number_of (filter reads list)) + lengths (each n (λ j. ascending (λ c. (place_of c).start) (filter (in_stream place_of has_record j) list))) ≤ length list
 enough n list =
     let readers : length (filter reads list) ≡ length (ascending number_of (filter reads list)) =
-    reordered-length (filter reads list) (ascending number_of (filter reads list)) (ascending-reordered number_of (filter reads list)) in
-    let same = lengths-same n (λ j. ascending (λ c. (place_of c).start) (filter (in_stream place_of has_record j) list)) (λ j. filter (in_stream place_of has_record j) list)
-    (λ j. sym (reordered-length (filter (in_stream place_of has_record j) list) (ascending (λ c. (place_of c).start) (filter (in_stream place_of has_record j) list))
-    (ascending-reordered (λ c. (place_of c).start) (filter (in_stream place_of has_record j) list)))) in
-    let count = each-count n (λ j. in_stream place_of has_record j) has_record (λ j c is. (and_parts (has_record c) ((place_of c).stream == j) is).0) one_stream list in
+    reordered_length (filter reads list) (ascending number_of (filter reads list)) (ascending_reordered number_of (filter reads list)) in
+    let same = lengths_same n (λ j. ascending (λ c. (place_of c).start) (filter (in_stream place_of has_record j) list)) (λ j. filter (in_stream place_of has_record j) list)
+    (λ j. sym (reordered_length (filter (in_stream place_of has_record j) list) (ascending (λ c. (place_of c).start) (filter (in_stream place_of has_record j) list))
+    (ascending_reordered (λ c. (place_of c).start) (filter (in_stream place_of has_record j) list)))) in
+    let count = each_count n (λ j. in_stream place_of has_record j) has_record (λ j c is. (and_parts (has_record c) ((place_of c).stream == j) is).0) one_stream list in
     let both = apart_filters reads has_record (λ c. true) (λ c is. refl) (λ c is. refl) (λ c is also. both_ways (has_record c) (not_true (has_record c) is) also) list in
     let all = all_passes {A = Committed} (λ c. true) list in
     omega arith
@@ -301,66 +302,62 @@ enough n list =
     not_true false e = refl
 
 -- what is left to list, as the listing keeps it
-abbrev pub entries-left : (n : ℕ) (list : List Committed) → Left Entry
-entries-left n list = record {
+abbrev pub entries_left : (n : ℕ) (list : List Committed) → Left Entry
+entries_left n list = record {
   readers = ascending entry_number (map entry_of (filter (λ c. not (has_record c)) list));
   streams = each n (λ j. ascending entry_start (map entry_of (filter (in_stream place_of has_record j) list)));
 }
 
-entries-are : (n : ℕ) (list : List Committed) → entries-left n list ≡ left_map entry_of (left_of place_of has_record number_of n list)
-entries-are n list =
-    let first = ascending-map entry_of entry_number number_of (λ c. refl) (filter (λ c. not (has_record c)) list) in
-    let second = each-same n (λ j. ascending entry_start (map entry_of (filter (in_stream place_of has_record j) list)))
+entries_are : (n : ℕ) (list : List Committed) → entries_left n list ≡ left_map entry_of (left_of place_of has_record number_of n list)
+entries_are n list =
+    let first = ascending_map entry_of entry_number number_of (λ c. refl) (filter (λ c. not (has_record c)) list) in
+    let second = each_same n (λ j. ascending entry_start (map entry_of (filter (in_stream place_of has_record j) list)))
     (λ j. map entry_of (ascending (λ c. (place_of c).start) (filter (in_stream place_of has_record j) list)))
-    (λ j. ascending-map entry_of entry_start (λ c. (place_of c).start) (λ c. refl) (filter (in_stream place_of has_record j) list)) ∙
-    sym (map-each (map entry_of) n (λ j. ascending (λ c. (place_of c).start) (filter (in_stream place_of has_record j) list))) in
+    (λ j. ascending_map entry_of entry_start (λ c. (place_of c).start) (λ c. refl) (filter (in_stream place_of has_record j) list)) ∙
+    sym (map_each (map entry_of) n (λ j. ascending (λ c. (place_of c).start) (filter (in_stream place_of has_record j) list))) in
     λ i. record { readers = first i; streams = second i }
 
-map-map : {A B C : Type 0} (g : B → C) (f : A → B) (xs : List A) → map g (map f xs) ≡ map (λ x. g (f x)) xs
-map-map g f [] = refl
-map-map g f (x ∷ xs) = ap (λ l. g (f x) ∷ l) (map-map g f xs)
-
-lengths-map : {A B : Type 0} (f : A → B) (streams : List (List A)) → lengths (map (map f) streams) ≡ lengths streams
-lengths-map f [] = refl
-lengths-map f (s ∷ streams) = let rest = lengths-map f streams in omega (arith, rest, length-map s f)
+lengths_map : {A B : Type 0} (f : A → B) (streams : List (List A)) → lengths (map (map f) streams) ≡ lengths streams
+lengths_map f [] = refl
+lengths_map f (s ∷ streams) = let rest = lengths_map f streams in omega (arith, rest, length-map s f)
 
 -- the listing of the entries of the calls gives their reported history
-pub woven-reported : (ends : List ℕ) (list : List Committed) (reached : List (List ℕ)) (numbers : List ℕ) → IsListing ends (entries-left (length ends) list).streams reached numbers →
-    woven (each (length reached) (bucket reached (entries-left (length ends) list).readers)) numbers ≡ reported_numbers ends list
-woven-reported ends list reached numbers h =
+pub woven_reported : (ends : List ℕ) (list : List Committed) (reached : List (List ℕ)) (numbers : List ℕ) → IsListing ends (entries_left (length ends) list).streams reached numbers →
+    woven (each (length reached) (bucket reached (entries_left (length ends) list).readers)) numbers ≡ reported_numbers ends list
+woven_reported ends list reached numbers h =
     let left : Left Committed = left_of place_of has_record number_of (length ends) list in
-    let size : length (entries-left (length ends) list).readers + lengths (entries-left (length ends) list).streams ≤ length list =
-    subst (λ (l : Left Entry). length l.readers + lengths l.streams ≤ length list) (sym (entries-are (length ends) list))
-    (omega (arith, enough (length ends) list, length-map left.readers entry_of, lengths-map entry_of left.streams)) in
-    let weave = sym (interwoven-woven reached (entries-left (length ends) list).readers numbers (listing-length ends (entries-left (length ends) list).streams reached numbers h)) in
-    let report = sym (report-interwoven ends (length list) (entries-left (length ends) list).readers (entries-left (length ends) list).streams reached numbers size h) in
-    let image = ap (λ (l : Left Entry). map entry_number (reported_within entry_place (length list) ends l)) (entries-are (length ends) list) ∙
-    ap (map entry_number) (reported-map entry_of place_of entry_place (λ c. refl) (λ c. refl) (length list) ends left) in
-    weave ∙ report ∙ image ∙ map-map entry_number entry_of (reported_within place_of (length list) ends left)
+    let size : length (entries_left (length ends) list).readers + lengths (entries_left (length ends) list).streams ≤ length list =
+    subst (λ (l : Left Entry). length l.readers + lengths l.streams ≤ length list) (sym (entries_are (length ends) list))
+    (omega (arith, enough (length ends) list, length-map left.readers entry_of, lengths_map entry_of left.streams)) in
+    let weave = sym (interwoven_woven reached (entries_left (length ends) list).readers numbers (listing_length ends (entries_left (length ends) list).streams reached numbers h)) in
+    let report = sym (report_interwoven ends (length list) (entries_left (length ends) list).readers (entries_left (length ends) list).streams reached numbers size h) in
+    let image = ap (λ (l : Left Entry). map entry_number (reported_within entry_place (length list) ends l)) (entries_are (length ends) list) ∙
+    ap (map entry_number) (reported_map entry_of place_of entry_place (λ c. refl) (λ c. refl) (length list) ends left) in
+    weave ∙ report ∙ image ∙ map_map entry_number entry_of (reported_within place_of (length list) ends left)
 
-pub nothing-there : {A : Type 0} (xs : List A) (n : ℕ) (b : Bool) → n ≡ length xs → b ≡ (n == 0) → b ≡ true → xs ≡ []
-nothing-there [] n b long e f = refl
-nothing-there (x ∷ xs) n b long e f = absurd (let none : n ≡ 0 = eqb-true n 0 (sym e ∙ f) in omega arith)
+pub nothing_there : {A : Type 0} (xs : List A) (n : ℕ) (b : Bool) → n ≡ length xs → b ≡ (n == 0) → b ≡ true → xs ≡ []
+nothing_there [] n b long e f = refl
+nothing_there (x ∷ xs) n b long e f = absurd (let none : n ≡ 0 = eqb-true n 0 (sym e ∙ f) in omega arith)
 
 -- and where no call only reads, the records that are listed are all
-pub numbers-reported : (ends : List ℕ) (list : List Committed) (numbers : List ℕ) → (entries-left (length ends) list).readers ≡ [] →
-    AreListed ends (entries-left (length ends) list).streams numbers → numbers ≡ reported_numbers ends list
-numbers-reported ends list numbers none (reached, h) =
-    let long = listing-length ends (entries-left (length ends) list).streams reached numbers h in
-    sym (ap (λ (readers : List Entry). woven (each (length reached) (bucket reached readers)) numbers) none ∙ woven-none numbers (length reached) long) ∙ woven-reported ends list reached numbers h
+pub numbers_reported : (ends : List ℕ) (list : List Committed) (numbers : List ℕ) → (entries_left (length ends) list).readers ≡ [] →
+    AreListed ends (entries_left (length ends) list).streams numbers → numbers ≡ reported_numbers ends list
+numbers_reported ends list numbers none (reached, h) =
+    let long = listing_length ends (entries_left (length ends) list).streams reached numbers h in
+    sym (ap (λ (readers : List Entry). woven (each (length reached) (bucket reached readers)) numbers) none ∙ woven_none numbers (length reached) long) ∙ woven_reported ends list reached numbers h
 
-queue-from : (end : ℕ) (es : List Entry) → Rising entry_start es → ((e : Entry) → Member e es → e.start ≤ end) → IsQueue end es
-queue-from end [] up low = tt
-queue-from end (e ∷ []) up low = (low e (inl refl), tt)
-queue-from end (e ∷ f ∷ es) up low = (up.0 f (inl refl), queue-from end (f ∷ es) up.1 (λ x m. low x (inr m)))
+queue_from : (end : ℕ) (es : List Entry) → Rising entry_start es → ((e : Entry) → Member e es → e.start ≤ end) → IsQueue end es
+queue_from end [] up low = tt
+queue_from end (e ∷ []) up low = (low e (inl refl), tt)
+queue_from end (e ∷ f ∷ es) up low = (up.0 f (inl refl), queue_from end (f ∷ es) up.1 (λ x m. low x (inr m)))
 
-member-mapped : {A B : Type 0} (f : A → B) (b : B) (xs : List A) → Member b (map f xs) → (a : A) × Member a xs × (f a ≡ b)
-member-mapped f b [] m = absurd m
-member-mapped f b (x ∷ xs) (inl e) = (x, inl refl, e)
-member-mapped f b (x ∷ xs) (inr m) = let (a, n, e) = member-mapped f b xs m in (a, inr n, e)
+pub member_mapped : {A B : Type 0} (f : A → B) (b : B) (xs : List A) → Member b (map f xs) → (a : A) × Member a xs × (f a ≡ b)
+member_mapped f b [] m = absurd m
+member_mapped f b (x ∷ xs) (inl e) = (x, inl refl, e)
+member_mapped f b (x ∷ xs) (inr m) = let (a, n, e) = member_mapped f b xs m in (a, inr n, e)
 
-start-within : (end : List ℕ) (j : ℕ) (c : Committed) → IsWithin end c → in_stream place_of has_record j c ≡ true → (place_of c).start ≤ slice_index end j
-start-within ends j c within is = by_spot c.spot refl within is
+start_within : (end : List ℕ) (j : ℕ) (c : Committed) → IsWithin end c → in_stream place_of has_record j c ≡ true → (place_of c).start ≤ slice_index end j
+start_within ends j c within is = by_spot c.spot refl within is
   where
     by_spot : (o : Option Spot) → c.spot ≡ o → ForSome o (λ s. (s.stream < length ends) × (s.start ≤ slice_index ends s.stream)) →
         (is_some o && (place_at c.dep o).stream == j) ≡ true → (place_at c.dep o).start ≤ slice_index ends j
@@ -370,13 +367,13 @@ start-within ends j c within is = by_spot c.spot refl within is
         subst (λ k. s.start ≤ slice_index ends k) here (within s refl).1
 
 -- the records of each stream are a queue
-pub entries-queues : (ends : List ℕ) (list : List Committed) → All (IsWithin ends) list → AreQueues ends (entries-left (length ends) list).streams
-entries-queues ends list within = record {
-  count = length-each (length ends) records;
+pub entries_queues : (ends : List ℕ) (list : List Committed) → All (IsWithin ends) list → AreQueues ends (entries_left (length ends) list).streams
+entries_queues ends list within = record {
+  count = length_each (length ends) records;
   each = λ j. elim (cases_lt j (length ends)) [
-    | inl lt ↦ subst (λ (l : List Entry). IsQueue (slice_index ends j) l) (sym (each-at (length ends) records j lt)) (queue-from (slice_index ends j) (records j)
-        (ascending-rising entry_start (map entry_of (filter (in_stream place_of has_record j) list))) (low j))
-    | inr le ↦ subst (λ (l : List Entry). IsQueue (slice_index ends j) l) (sym (each-past (length ends) records j le)) tt
+    | inl lt ↦ subst (λ (l : List Entry). IsQueue (slice_index ends j) l) (sym (each_at (length ends) records j lt)) (queue_from (slice_index ends j) (records j)
+        (ascending_rising entry_start (map entry_of (filter (in_stream place_of has_record j) list))) (low j))
+    | inr le ↦ subst (λ (l : List Entry). IsQueue (slice_index ends j) l) (sym (each_past (length ends) records j le)) tt
   ];
 }
   where
@@ -385,9 +382,9 @@ entries-queues ends list within = record {
 
     low : (j : ℕ) (e : Entry) → Member e (records j) → e.start ≤ slice_index ends j
     low j e m =
-        let there = member-reordered (map entry_of (filter (in_stream place_of has_record j) list)) (records j) (ascending-reordered entry_start (map entry_of (filter (in_stream place_of has_record j) list))) e m in
-        let (c, n, is) = member-mapped entry_of e (filter (in_stream place_of has_record j) list) there in
-        let (at, passes) = member-filtered (in_stream place_of has_record j) c list n in
+        let there = member_reordered (map entry_of (filter (in_stream place_of has_record j) list)) (records j) (ascending_reordered entry_start (map entry_of (filter (in_stream place_of has_record j) list))) e m in
+        let (c, n, is) = member_mapped entry_of e (filter (in_stream place_of has_record j) list) there in
+        let (at, passes) = member_filtered (in_stream place_of has_record j) c list n in
         let (k, lt, same) = at_some_place number_of c list at in
         let fits : IsWithin ends c = subst (λ (d : Committed). IsWithin ends d) (same c) (within k c lt) in
-        subst (λ (x : Entry). x.start ≤ slice_index ends j) is (start-within ends j c fits passes)
+        subst (λ (x : Entry). x.start ≤ slice_index ends j) is (start_within ends j c fits passes)

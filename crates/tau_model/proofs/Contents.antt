@@ -23,7 +23,7 @@ use Rattle.tau_base.specs.declared.value.Key.{Key}
 use Rattle.tau_base.specs.declared.value.Value.{Value}
 use Rattle.tau_base.specs.declared.value.Value.TheVariants.{Absent, Int, Text}
 use Rattle.tau_base.specs.Database.{Db, key_cmp, same_key, db_of}
-use Rattle.tau_base.proofs.Keys.{same_key-is, same_key-sym}
+use Rattle.tau_base.proofs.Keys.{same_key_is, same_key_sym}
 use Rattle.tau_model.specs.Store.{is_key}
 use Rattle.tau_model.specs.Tables.{is_present, is_value, row_key, db_of_rows, IsTablesOf}
 use Rattle.tau_model.proofs.Places.{same_test}
@@ -35,19 +35,19 @@ key_laws : IsEquivalence same_key
 key_laws = eq_by_cmp_equiv key_total
 
 -- what is not above and not the same is below
-below-by : (o : Ordering) → is_lt (ordering_reverse o) ≡ false → is_eq o ≡ false → o ≡ Less
-below-by Less p q = refl
-below-by Equal p q = absurd (both_ways true q refl)
-below-by Greater p q = absurd (both_ways true p refl)
+below_by : (o : Ordering) → is_lt (ordering_reverse o) ≡ false → is_eq o ≡ false → o ≡ Less
+below_by Less p q = refl
+below_by Equal p q = absurd (both_ways true q refl)
+below_by Greater p q = absurd (both_ways true p refl)
 
 below : (a b : Key) → is_lt (key_cmp b a) ≡ false → same_key a b ≡ false → key_cmp a b ≡ Less
-below a b p q = below-by (key_cmp a b) (ap is_lt (sym (key_total.antisymm b a)) ∙ p) q
+below a b p q = below_by (key_cmp a b) (ap is_lt (sym (key_total.antisymm b a)) ∙ p) q
 
 -- rows that are sorted and each there once ascend
-ascending-sorted : (rows : List (Key × Value)) → IsSortedByKey row_key key_cmp rows → IsDistinct same_key (keys_of rows) → IsStrictlySortedBy key_cmp (keys_of rows)
+ascending_sorted : (rows : List (Key × Value)) → IsSortedByKey row_key key_cmp rows → IsDistinct same_key (keys_of rows) → IsStrictlySortedBy key_cmp (keys_of rows)
 unfolding IsStrictlySortedBy
-ascending-sorted [] sorted once = tt
-ascending-sorted (r ∷ rs) sorted once =
+ascending_sorted [] sorted once = tt
+ascending_sorted (r ∷ rs) sorted once =
     sorted_from_all_adjacent key_total (keys_of (r ∷ rs)) r.0 (λ k lt.
     let long : length (keys_of (r ∷ rs)) ≡ length (r ∷ rs) = length-map (r ∷ rs) row_key in
     let here : get_or (keys_of (r ∷ rs)) k r.0 ≡ (get_or (r ∷ rs) k r).0 = get_or-map row_key (r ∷ rs) k r r.0 (omega arith) in
@@ -59,33 +59,33 @@ ascending-sorted (r ∷ rs) sorted once =
     below (get_or (keys_of (r ∷ rs)) k r.0) (get_or (keys_of (r ∷ rs)) (k + 1) r.0)
     (subst (λ (x : Key). is_lt (key_cmp x (get_or (keys_of (r ∷ rs)) k r.0)) ≡ false) (sym next) turned) apart)
 
-present-is : (v : Value) (k : Key) → is_present (k, v) ≡ true → v ≢ Absent
-present-is Absent k e = absurd (both_ways false refl e)
-present-is (Int n) k e = λ p. cc
-present-is (Text t) k e = λ p. cc
+present_is : (v : Value) (k : Key) → is_present (k, v) ≡ true → v ≢ Absent
+present_is Absent k e = absurd (both_ways false refl e)
+present_is (Int n) k e = λ p. cc
+present_is (Text t) k e = λ p. cc
 
-all-present : (rows : List (Key × Value)) → AllByRecursion (λ (r : Key × Value). r.1 ≢ Absent) (filter is_present rows)
-all-present [] = tt
-all-present (r ∷ rows) = elim (cases_Bool (is_present r)) [
-  | inl is ↦ rw is (present-is r.1 r.0 is, all-present rows)
-  | inr no' ↦ rw no' (all-present rows)
+all_present : (rows : List (Key × Value)) → AllByRecursion (λ (r : Key × Value). r.1 ≢ Absent) (filter is_present rows)
+all_present [] = tt
+all_present (r ∷ rows) = elim (cases_Bool (is_present r)) [
+  | inl is ↦ rw is (present_is r.1 r.0 is, all_present rows)
+  | inr no' ↦ rw no' (all_present rows)
 ]
 
 -- rows in another order have what they had
-lookup-moved : (xs ys : List (Key × Value)) → IsDistinct same_key (keys_of ys) → IsPermutation xs ys → (q : Key) (v : Value) → lookup (same_key q) xs ≡ Some v → lookup (same_key q) ys ≡ Some v
-lookup-moved xs ys once moved q v at =
+lookup_moved : (xs ys : List (Key × Value)) → IsDistinct same_key (keys_of ys) → IsPermutation xs ys → (q : Key) (v : Value) → lookup (same_key q) xs ≡ Some v → lookup (same_key q) ys ≡ Some v
+lookup_moved xs ys once moved q v at =
     let (i, k, here, is) = place_from_lookup (same_key q) xs v at in
     let (j, lt, there) = Contains-permutation xs ys (k, v) moved (i, slice_get_within xs i (k, v) here, get_or_from_slice_get xs i (k, v) (k, v) here) in
     let place : slice_get ys j ≡ Some (k, v) = slice_get-get_or ys j (k, v) lt ∙ ap (λ (r : Key × Value). Some r) there in
-    subst (λ (x : Key). lookup (same_key x) ys ≡ Some v) (sym (same_key-is q k is)) (lookup_from_place key_laws ys j k v once place)
+    subst (λ (x : Key). lookup (same_key x) ys ≡ Some v) (sym (same_key_is q k is)) (lookup_from_place key_laws ys j k v once place)
 
-lookup-same : (xs ys : List (Key × Value)) → IsDistinct same_key (keys_of xs) → IsDistinct same_key (keys_of ys) → IsPermutation xs ys → (q : Key) →
+lookup_same : (xs ys : List (Key × Value)) → IsDistinct same_key (keys_of xs) → IsDistinct same_key (keys_of ys) → IsPermutation xs ys → (q : Key) →
     lookup (same_key q) ys ≡ lookup (same_key q) xs
-lookup-same xs ys once also moved q = by (lookup (same_key q) xs) (lookup (same_key q) ys) refl refl
+lookup_same xs ys once also moved q = by (lookup (same_key q) xs) (lookup (same_key q) ys) refl refl
   where
     by : (o p : Option Value) → lookup (same_key q) xs ≡ o → lookup (same_key q) ys ≡ p → lookup (same_key q) ys ≡ lookup (same_key q) xs
-    by (Some v) p e f = lookup-moved xs ys also moved q v e ∙ sym e
-    by None (Some v) e f = f ∙ sym (lookup-moved ys xs once (IsPermutation-sym xs ys moved) q v f)
+    by (Some v) p e f = lookup_moved xs ys also moved q v e ∙ sym e
+    by None (Some v) e f = f ∙ sym (lookup_moved ys xs once (IsPermutation-sym xs ys moved) q v f)
     by None None e f = f ∙ sym e
 
 kept : (o : Option Value) → unwrap_or (option_filter is_value o) Absent ≡ unwrap_or o Absent
@@ -95,27 +95,27 @@ kept (Some (Int n)) = refl
 kept (Some (Text t)) = refl
 
 module _ (entries rows : List (Key × Value)) (once : IsDistinct is_key (keys_of entries)) (moved : IsPermutation (filter is_present entries) rows) where
-  once-all : IsDistinct same_key (keys_of entries)
-  once-all = subst (λ (t : Key → Key → Bool). IsDistinct t (keys_of entries)) same_test once
+  once_all : IsDistinct same_key (keys_of entries)
+  once_all = subst (λ (t : Key → Key → Bool). IsDistinct t (keys_of entries)) same_test once
 
-  once-present : IsDistinct same_key (keys_of (filter is_present entries))
-  once-present = IsDistinct-keys_filter same_key is_present entries once-all
+  once_present : IsDistinct same_key (keys_of (filter is_present entries))
+  once_present = IsDistinct-keys_filter same_key is_present entries once_all
 
-  once-moved : IsDistinct same_key (keys_of rows)
-  once-moved = IsDistinct-IsPermutation same_key same_key-sym (keys_of (filter is_present entries)) (keys_of rows)
-      (IsPermutation-map row_key (filter is_present entries) rows moved) once-present
+  once_moved : IsDistinct same_key (keys_of rows)
+  once_moved = IsDistinct-IsPermutation same_key same_key_sym (keys_of (filter is_present entries)) (keys_of rows)
+      (IsPermutation-map row_key (filter is_present entries) rows moved) once_present
 
-  values-moved : db_of_rows rows ≡ db_of (λ k. lookup (is_key k) entries)
-  values-moved =
+  values_moved : db_of_rows rows ≡ db_of (λ k. lookup (is_key k) entries)
+  values_moved =
       subst (λ (t : Key → Key → Bool). ◌≡◌ {A = Db} (db_of_rows rows) (db_of (λ k. lookup (t k) entries))) (sym same_test)
-      (fun_ext (λ k. ap (λ (o : Option Value). unwrap_or o Absent) (lookup-same (filter is_present entries) rows once-present once-moved moved k ∙ lookup-filter-values key_laws is_value k entries once-all)
+      (fun_ext (λ k. ap (λ (o : Option Value). unwrap_or o Absent) (lookup_same (filter is_present entries) rows once_present once_moved moved k ∙ lookup-filter-values key_laws is_value k entries once_all)
       ∙ kept (lookup (same_key k) entries)))
 
   -- the present rows of a map, once they are sorted, are the tables of the database that it holds
-  pub tables-sorted : IsSortedByKey row_key key_cmp rows → IsTablesOf (db_of (λ k. lookup (is_key k) entries)) rows
-  tables-sorted sorted = record {
-    ascending = ascending-sorted rows sorted once-moved;
+  pub tables_sorted : IsSortedByKey row_key key_cmp rows → IsTablesOf (db_of (λ k. lookup (is_key k) entries)) rows
+  tables_sorted sorted = record {
+    ascending = ascending_sorted rows sorted once_moved;
     present = All-permutation (λ (r : Key × Value). r.1 ≢ Absent) (filter is_present entries) rows moved
-        (All-from_recursion (λ (r : Key × Value). r.1 ≢ Absent) (filter is_present entries) (all-present entries));
-    values = values-moved;
+        (All-from_recursion (λ (r : Key × Value). r.1 ≢ Absent) (filter is_present entries) (all_present entries));
+    values = values_moved;
   }

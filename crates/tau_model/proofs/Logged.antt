@@ -10,72 +10,72 @@ use Rattle.tau_proc.specs.Effect.{Sound}
 use Rattle.tau_model.specs.History.{Act, trace, exec, redo, Member, Before, Reordered, updates, KeepsOrder, Closed, Depends, at_once, through}
 use Rattle.tau_base.specs.Vectors.{AtMost}
 use Rattle.tau_model.specs.Logged.{Place, lv, StartBehind, Orderly, IsLogged, IsCutAt}
-use Rattle.tau_model.proofs.Orders.{Consistent, trace-consistent, redo-trace, same_acts}
+use Rattle.tau_model.proofs.Orders.{Consistent, trace_consistent, redo_trace, same_acts}
 use Rattle.tau_model.proofs.Calls.{closed_part}
 
-pub member-first : {A : Type 0} (u t : A) (xs : List A) → Before u t xs → Member u xs
-member-first u t [] b = b
-member-first u t (x ∷ xs) (inl p) = inl p.0
-member-first u t (x ∷ xs) (inr b) = inr (member-first u t xs b)
+pub member_first : {A : Type 0} (u t : A) (xs : List A) → Before u t xs → Member u xs
+member_first u t [] b = b
+member_first u t (x ∷ xs) (inl p) = inl p.0
+member_first u t (x ∷ xs) (inr b) = inr (member_first u t xs b)
 
-pub member-second : {A : Type 0} (u t : A) (xs : List A) → Before u t xs → Member t xs
-member-second u t [] b = b
-member-second u t (x ∷ xs) (inl p) = inr p.1
-member-second u t (x ∷ xs) (inr b) = inr (member-second u t xs b)
+pub member_second : {A : Type 0} (u t : A) (xs : List A) → Before u t xs → Member t xs
+member_second u t [] b = b
+member_second u t (x ∷ xs) (inl p) = inr p.1
+member_second u t (x ∷ xs) (inr b) = inr (member_second u t xs b)
 
-pub member-filtered : {A : Type 0} (p : A → Bool) (a : A) (xs : List A) → Member a (filter p xs) → Member a xs × (p a ≡ true)
-member-filtered p a [] m = absurd m
-member-filtered {A} p a (x ∷ xs) m = elim (cases_Bool (p x)) [
+pub member_filtered : {A : Type 0} (p : A → Bool) (a : A) (xs : List A) → Member a (filter p xs) → Member a xs × (p a ≡ true)
+member_filtered p a [] m = absurd m
+member_filtered {A} p a (x ∷ xs) m = elim (cases_Bool (p x)) [
   | inl yes' ↦ elim (rw yes' at m) [
     | inl e ↦ (inl e, subst (λ (y : A). p y ≡ true) e yes')
-    | inr n ↦ let w = member-filtered p a xs n in (inr w.0, w.1)
+    | inr n ↦ let w = member_filtered p a xs n in (inr w.0, w.1)
   ]
-  | inr no' ↦ let w = member-filtered p a xs (rw no' at m) in (inr w.0, w.1)
+  | inr no' ↦ let w = member_filtered p a xs (rw no' at m) in (inr w.0, w.1)
 ]
 
-pub before-filtered : {A : Type 0} (p : A → Bool) (u t : A) (xs : List A) → Before u t (filter p xs) → Before u t xs
-before-filtered p u t [] b = b
-before-filtered p u t (x ∷ xs) b = elim (cases_Bool (p x)) [
+pub before_filtered : {A : Type 0} (p : A → Bool) (u t : A) (xs : List A) → Before u t (filter p xs) → Before u t xs
+before_filtered p u t [] b = b
+before_filtered p u t (x ∷ xs) b = elim (cases_Bool (p x)) [
   | inl yes' ↦ elim (rw yes' at b) [
-    | inl w ↦ inl (w.0, (member-filtered p t xs w.1).0)
-    | inr c ↦ inr (before-filtered p u t xs c)
+    | inl w ↦ inl (w.0, (member_filtered p t xs w.1).0)
+    | inr c ↦ inr (before_filtered p u t xs c)
   ]
-  | inr no' ↦ inr (before-filtered p u t xs (rw no' at b))
+  | inr no' ↦ inr (before_filtered p u t xs (rw no' at b))
 ]
 
 module _ {C : Type 0} (place : C → Place) where
-  start-behind : (v : List ℕ) (u : Act C) (xs : List (Act C)) → Member u xs → StartBehind v (map (λ (x : Act C). place x.call) xs) →
+  start_behind : (v : List ℕ) (u : Act C) (xs : List (Act C)) → Member u xs → StartBehind v (map (λ (x : Act C). place x.call) xs) →
       slice_index v (place u.call).stream ≤ (place u.call).start
-  start-behind v u [] m h = absurd m
-  start-behind v u (x ∷ xs) (inl e) h = subst (λ (y : Act C). slice_index v (place y.call).stream ≤ (place y.call).start) e h.0
-  start-behind v u (x ∷ xs) (inr m) h = start-behind v u xs m h.1
+  start_behind v u [] m h = absurd m
+  start_behind v u (x ∷ xs) (inl e) h = subst (λ (y : Act C). slice_index v (place y.call).stream ≤ (place y.call).start) e h.0
+  start_behind v u (x ∷ xs) (inr m) h = start_behind v u xs m h.1
 
-  orderly-before : (t u : Act C) (xs : List (Act C)) → Before t u xs → Orderly (map (λ (x : Act C). place x.call) xs) →
+  orderly_before : (t u : Act C) (xs : List (Act C)) → Before t u xs → Orderly (map (λ (x : Act C). place x.call) xs) →
       slice_index (place t.call).dep (place u.call).stream ≤ (place u.call).start
-  orderly-before t u [] b h = absurd b
-  orderly-before t u (x ∷ xs) (inl w) h =
-      subst (λ (y : Act C). slice_index (place y.call).dep (place u.call).stream ≤ (place u.call).start) w.0 (start-behind (place x.call).dep u xs w.1 h.0.1)
-  orderly-before t u (x ∷ xs) (inr b) h = orderly-before t u xs b h.1
+  orderly_before t u [] b h = absurd b
+  orderly_before t u (x ∷ xs) (inl w) h =
+      subst (λ (y : Act C). slice_index (place y.call).dep (place u.call).stream ≤ (place u.call).start) w.0 (start_behind (place x.call).dep u xs w.1 h.0.1)
+  orderly_before t u (x ∷ xs) (inr b) h = orderly_before t u xs b h.1
 
   -- some of the records after
-  behind-filtered : (p : Act C → Bool) (v : List ℕ) (xs : List (Act C)) →
+  behind_filtered : (p : Act C → Bool) (v : List ℕ) (xs : List (Act C)) →
       ((x : Act C) → Member x xs → p x ≡ true → slice_index v (place x.call).stream ≤ (place x.call).start) →
       StartBehind v (map (λ (x : Act C). place x.call) (filter p xs))
-  behind-filtered p v [] h = tt
-  behind-filtered p v (x ∷ xs) h = elim (cases_Bool (p x)) [
-    | inl yes' ↦ rw yes' (h x (inl refl) yes', behind-filtered p v xs (λ y m. h y (inr m)))
-    | inr no' ↦ rw no' (behind-filtered p v xs (λ y m. h y (inr m)))
+  behind_filtered p v [] h = tt
+  behind_filtered p v (x ∷ xs) h = elim (cases_Bool (p x)) [
+    | inl yes' ↦ rw yes' (h x (inl refl) yes', behind_filtered p v xs (λ y m. h y (inr m)))
+    | inr no' ↦ rw no' (behind_filtered p v xs (λ y m. h y (inr m)))
   ]
 
-  pub orderly-filtered : (p : Act C → Bool) (xs : List (Act C)) →
+  pub orderly_filtered : (p : Act C → Bool) (xs : List (Act C)) →
       ((r : Act C) → Member r xs → p r ≡ true → slice_index (place r.call).dep (place r.call).stream ≤ (place r.call).start) →
       ((t r : Act C) → Before t r xs → p r ≡ true → slice_index (place t.call).dep (place r.call).stream ≤ (place r.call).start) →
       Orderly (map (λ (x : Act C). place x.call) (filter p xs))
-  orderly-filtered p [] own later = tt
-  orderly-filtered p (x ∷ xs) own later =
-      let rest = orderly-filtered p xs (λ r m. own r (inr m)) (λ t r b. later t r (inr b)) in
+  orderly_filtered p [] own later = tt
+  orderly_filtered p (x ∷ xs) own later =
+      let rest = orderly_filtered p xs (λ r m. own r (inr m)) (λ t r b. later t r (inr b)) in
       elim (cases_Bool (p x)) [
-        | inl yes' ↦ rw yes' ((own x (inl refl) yes', behind-filtered p (place x.call).dep xs (λ r m. later x r (inl (refl, m)))), rest)
+        | inl yes' ↦ rw yes' ((own x (inl refl) yes', behind_filtered p (place x.call).dep xs (λ r m. later x r (inl (refl, m)))), rest)
         | inr no' ↦ rw no' rest
       ]
 
@@ -102,7 +102,7 @@ module _ {C : Type 0} (place : C → Place) where
 
     -- what a call depends on has a vector that the call's dep covers
     pub depends_covers : (t u : Act C) → Depends acts t u → Member t acts × Member u acts × AtMost (lv (updates u.effect) (place u.call)) (place t.call).dep
-    depends_covers t u (at_once b c) = (member-second u t acts b, member-first u t acts b, logged.ordered u t b c)
+    depends_covers t u (at_once b c) = (member_second u t acts b, member_first u t acts b, logged.ordered u t b c)
     depends_covers t u (through {v = v} d e) =
         let (mt, mv, h) = depends_covers t v d in let (mv', mu, k) = depends_covers v u e in
         let r = raised v mv in
@@ -121,12 +121,12 @@ module _ {C : Type 0} (place : C → Place) where
 
 module _ {C : Type 0} (meaning : C → Db → Effect) (sound : Sound meaning) (place : C → Place) (ends : List ℕ) (h : List C) (db : Db) (logged : IsLogged place ends (trace meaning h db)) where
   -- an orderly order has no conflicting pair the other way round
-  pub orderly-keeps : (xs ys : List (Act C)) → ((u t : Act C) → Before u t xs → Before u t (trace meaning h db)) → ((x : Act C) → Member x xs → updates x.effect ≡ true) →
+  pub orderly_keeps : (xs ys : List (Act C)) → ((u t : Act C) → Before u t xs → Before u t (trace meaning h db)) → ((x : Act C) → Member x xs → updates x.effect ≡ true) →
       Orderly (map (λ (x : Act C). place x.call) ys) → KeepsOrder xs ys
-  orderly-keeps xs ys sub all ord u t b c v =
-      let m : Member u (trace meaning h db) = member-first u t (trace meaning h db) (sub u t b) in
-      let up : updates u.effect ≡ true = all u (member-first u t xs b) in
-      let low : slice_index (place t.call).dep (place u.call).stream ≤ (place u.call).start = orderly-before place t u ys v ord in
+  orderly_keeps xs ys sub all ord u t b c v =
+      let m : Member u (trace meaning h db) = member_first u t (trace meaning h db) (sub u t b) in
+      let up : updates u.effect ≡ true = all u (member_first u t xs b) in
+      let low : slice_index (place t.call).dep (place u.call).stream ≤ (place u.call).start = orderly_before place t u ys v ord in
       let high = logged.ordered u t (sub u t b) c (place u.call).stream in
       let ends = own_end place (place u.call) (logged.places.placed u m up).1 in
       let goes : (place u.call).start < (place u.call).past = (logged.places.placed u m up).2 in
@@ -142,11 +142,11 @@ module _ {C : Type 0} (meaning : C → Db → Effect) (sound : Sound meaning) (p
       let keep : Act C → Bool = λ x. chosen x.call in
       let acts : List (Act C) = trace meaning h db in
       let alone : trace meaning (filter chosen h) db ≡ filter keep acts = closed_part meaning sound h chosen db closed in
-      let part : Consistent meaning (filter keep acts) db = subst (λ (zs : List (Act C)). Consistent meaning zs db) alone (trace-consistent meaning (filter chosen h) db) in
-      let keeps : KeepsOrder (filter keep acts) ys = orderly-keeps (filter keep acts) ys (λ u t b. before-filtered keep u t acts b)
-      (λ x m. let w = member-filtered keep x acts m in all x w.0 w.1) ord in
+      let part : Consistent meaning (filter keep acts) db = subst (λ (zs : List (Act C)). Consistent meaning zs db) alone (trace_consistent meaning (filter chosen h) db) in
+      let keeps : KeepsOrder (filter keep acts) ys = orderly_keeps (filter keep acts) ys (λ u t b. before_filtered keep u t acts b)
+      (λ x m. let w = member_filtered keep x acts m in all x w.0 w.1) ord in
       let same = same_acts meaning sound (filter keep acts) ys db part r keeps in
-      let whole : redo (filter keep acts) db ≡ exec meaning (filter chosen h) db = ap (λ (zs : List (Act C)). redo zs db) (sym alone) ∙ redo-trace meaning (filter chosen h) db in
+      let whole : redo (filter keep acts) db ≡ exec meaning (filter chosen h) db = ap (λ (zs : List (Act C)). redo zs db) (sym alone) ∙ redo_trace meaning (filter chosen h) db in
       (same.0, same.1 ∙ whole)
 
 -- what a covered call stands on is taken

@@ -8,7 +8,8 @@ use Rattle.tau_base.specs.Database.{Db, written}
 use Rattle.tau_proc.specs.Effect.{Effect, has_key, Agrees}
 use Rattle.tau_proc.specs.Effect.{Sound}
 use Rattle.tau_model.specs.History.{Act, trace, exec, redo, Member, Before, Reordered, updating, updates, Conflict, KeepsOrder}
-use Rattle.tau_model.proofs.Dbs.{or_left, or_right, written-swap, agrees-before, agrees-after}
+use Rattle.tau_model.proofs.Dbs.{written_swap, agrees_before, agrees_after}
+use Rattle.tau_base.proofs.Logic.{or_true, or_left}
 
 -- each act is what its call means at its place
 abbrev pub Consistent : {C : Type 0} → (C → Db → Effect) → List (Act C) → Db → Type 0
@@ -16,37 +17,37 @@ Consistent meaning [] db = Unit {0}
 Consistent meaning (x ∷ xs) db = (meaning x.call db ≡ x.effect) × Consistent meaning xs (written x.effect.writes db)
 
 module _ {C : Type 0} (meaning : C → Db → Effect) where
-  pub trace-consistent : (cs : List C) (db : Db) → Consistent meaning (trace meaning cs db) db
-  trace-consistent [] db = tt
-  trace-consistent (c ∷ cs) db = (refl, trace-consistent cs (written (meaning c db).writes db))
+  pub trace_consistent : (cs : List C) (db : Db) → Consistent meaning (trace meaning cs db) db
+  trace_consistent [] db = tt
+  trace_consistent (c ∷ cs) db = (refl, trace_consistent cs (written (meaning c db).writes db))
 
-  pub redo-trace : (cs : List C) (db : Db) → redo (trace meaning cs db) db ≡ exec meaning cs db
-  redo-trace [] db = refl
-  redo-trace (c ∷ cs) db = redo-trace cs (written (meaning c db).writes db)
+  pub redo_trace : (cs : List C) (db : Db) → redo (trace meaning cs db) db ≡ exec meaning cs db
+  redo_trace [] db = refl
+  redo_trace (c ∷ cs) db = redo_trace cs (written (meaning c db).writes db)
 
   -- acts that are consistent are the trace of their calls
-  pub trace-calls : (xs : List (Act C)) (db : Db) → Consistent meaning xs db → trace meaning (map (λ x. x.call) xs) db ≡ xs
-  trace-calls [] db h = refl
-  trace-calls (x ∷ xs) db h =
-      let rest : trace meaning (map (λ y. y.call) xs) (written x.effect.writes db) ≡ xs = trace-calls xs (written x.effect.writes db) h.1 in
+  pub trace_calls : (xs : List (Act C)) (db : Db) → Consistent meaning xs db → trace meaning (map (λ x. x.call) xs) db ≡ xs
+  trace_calls [] db h = refl
+  trace_calls (x ∷ xs) db h =
+      let rest : trace meaning (map (λ y. y.call) xs) (written x.effect.writes db) ≡ xs = trace_calls xs (written x.effect.writes db) h.1 in
       rw h.0 (ap (λ ys. x ∷ ys) rest)
 
-  pub calls-trace : (cs : List C) (db : Db) → map (λ x. x.call) (trace meaning cs db) ≡ cs
-  calls-trace [] db = refl
-  calls-trace (c ∷ cs) db = ap (λ ds. c ∷ ds) (calls-trace cs (written (meaning c db).writes db))
+  pub calls_trace : (cs : List C) (db : Db) → map (λ x. x.call) (trace meaning cs db) ≡ cs
+  calls_trace [] db = refl
+  calls_trace (c ∷ cs) db = ap (λ ds. c ∷ ds) (calls_trace cs (written (meaning c db).writes db))
 
 -- two effects of which none writes what the other touches
 abbrev pub Apart : Effect → Effect → Type 0
 Apart e f = Conflict e f → ⊥
 
 no_read : (e f : Effect) → Apart e f → (k : Key) → has_key k f.reads ≡ true → has_key k e.writes ≡ true → ⊥
-no_read e f apart k r w = apart (k, or_right (has_key k e.reads) (has_key k e.writes) w, or_left (has_key k f.reads) (has_key k f.writes) r, or_left (has_key k e.writes) (has_key k f.writes) w)
+no_read e f apart k r w = apart (k, or_true (has_key k e.reads) (has_key k e.writes) w, or_left (has_key k f.reads) (has_key k f.writes) r, or_left (has_key k e.writes) (has_key k f.writes) w)
 
 no_reader : (e f : Effect) → Apart e f → (k : Key) → has_key k e.reads ≡ true → has_key k f.writes ≡ true → ⊥
-no_reader e f apart k r w = apart (k, or_left (has_key k e.reads) (has_key k e.writes) r, or_right (has_key k f.reads) (has_key k f.writes) w, or_right (has_key k e.writes) (has_key k f.writes) w)
+no_reader e f apart k r w = apart (k, or_left (has_key k e.reads) (has_key k e.writes) r, or_true (has_key k f.reads) (has_key k f.writes) w, or_true (has_key k e.writes) (has_key k f.writes) w)
 
 no_writer : (e f : Effect) → Apart e f → (k : Key) → has_key k e.writes ≡ true → has_key k f.writes ≡ true → ⊥
-no_writer e f apart k r w = apart (k, or_right (has_key k e.reads) (has_key k e.writes) r, or_right (has_key k f.reads) (has_key k f.writes) w, or_left (has_key k e.writes) (has_key k f.writes) r)
+no_writer e f apart k r w = apart (k, or_true (has_key k e.reads) (has_key k e.writes) r, or_true (has_key k f.reads) (has_key k f.writes) w, or_left (has_key k e.writes) (has_key k f.writes) r)
 
 module _ {C : Type 0} (meaning : C → Db → Effect) (sound : Sound meaning) where
   -- a call that conflicts with none of the writes means the same before them
@@ -54,14 +55,14 @@ module _ {C : Type 0} (meaning : C → Db → Effect) (sound : Sound meaning) wh
   unread e z db apart is =
       let see : Agrees (meaning z.call (written e.writes db)).reads (written e.writes db) = sound.seen z.call (written e.writes db) in
       let saw : Agrees z.effect.reads (written e.writes db) = rw is at see in
-      let now : Agrees z.effect.reads db = agrees-before z.effect.reads e.writes db (no_read e z.effect apart) saw in
+      let now : Agrees z.effect.reads db = agrees_before z.effect.reads e.writes db (no_read e z.effect apart) saw in
       sound.determined z.call (written e.writes db) db (subst (λ (f : Effect). Agrees f.reads db) (sym is) now) ∙ is
 
   -- and after them
   kept : (e : Effect) (z : Act C) (db : Db) → Apart z.effect e → meaning z.call db ≡ z.effect → meaning z.call (written e.writes db) ≡ z.effect
   kept e z db apart is =
       let saw : Agrees z.effect.reads db = subst (λ (f : Effect). Agrees f.reads db) is (sound.seen z.call db) in
-      let now : Agrees z.effect.reads (written e.writes db) = agrees-after z.effect.reads e.writes db (no_reader z.effect e apart) saw in
+      let now : Agrees z.effect.reads (written e.writes db) = agrees_after z.effect.reads e.writes db (no_reader z.effect e apart) saw in
       sound.determined z.call db (written e.writes db) (subst (λ (f : Effect). Agrees f.reads (written e.writes db)) (sym is) now) ∙ is
 
   -- an act that comes before acts with which it does not conflict may come after them
@@ -72,7 +73,7 @@ module _ {C : Type 0} (meaning : C → Db → Effect) (sound : Sound meaning) wh
   moved x (z ∷ front) back db apart is h =
       let far : Apart x.effect z.effect = apart z (inl refl) in
       let swap : written z.effect.writes (written x.effect.writes db) ≡ written x.effect.writes (written z.effect.writes db) =
-      sym (written-swap x.effect.writes z.effect.writes db (no_writer x.effect z.effect far)) in
+      sym (written_swap x.effect.writes z.effect.writes db (no_writer x.effect z.effect far)) in
       let rest = moved x front back (written z.effect.writes db) (λ y m. apart y (inr m)) (kept z.effect x db far is)
       (subst (λ (d : Db). Consistent meaning (front ++ back) d) swap h.1) in
       ((unread x.effect z db far h.0, rest.0), rest.1 ∙ ap (λ (d : Db). redo (front ++ back) d) (sym swap))
@@ -84,46 +85,46 @@ module _ {C : Type 0} (meaning : C → Db → Effect) (sound : Sound meaning) wh
   left_out x (z ∷ zs) db apart h =
       let far : Apart x.effect z.effect = apart z (inl refl) in
       let swap : written z.effect.writes (written x.effect.writes db) ≡ written x.effect.writes (written z.effect.writes db) =
-      sym (written-swap x.effect.writes z.effect.writes db (no_writer x.effect z.effect far)) in
+      sym (written_swap x.effect.writes z.effect.writes db (no_writer x.effect z.effect far)) in
       (unread x.effect z db far h.0, left_out x zs (written z.effect.writes db) (λ y m. apart y (inr m)) (subst (λ (d : Db). Consistent meaning zs d) swap h.1))
 
 -- where one element is put between others, what was there before is still there
-pub member-put : {A : Type 0} (x a : A) (front back : List A) → Member a (front ++ back) → Member a (front ++ x ∷ back)
-member-put x a [] back m = inr m
-member-put x a (y ∷ front) back (inl e) = inl e
-member-put x a (y ∷ front) back (inr m) = inr (member-put x a front back m)
+pub member_put : {A : Type 0} (x a : A) (front back : List A) → Member a (front ++ back) → Member a (front ++ x ∷ back)
+member_put x a [] back m = inr m
+member_put x a (y ∷ front) back (inl e) = inl e
+member_put x a (y ∷ front) back (inr m) = inr (member_put x a front back m)
 
-pub member-front : {A : Type 0} (a : A) (front back : List A) → Member a front → Member a (front ++ back)
-member-front a [] back m = absurd m
-member-front a (y ∷ front) back (inl e) = inl e
-member-front a (y ∷ front) back (inr m) = inr (member-front a front back m)
+pub member_front : {A : Type 0} (a : A) (front back : List A) → Member a front → Member a (front ++ back)
+member_front a [] back m = absurd m
+member_front a (y ∷ front) back (inl e) = inl e
+member_front a (y ∷ front) back (inr m) = inr (member_front a front back m)
 
-pub member-back : {A : Type 0} (a : A) (front back : List A) → Member a back → Member a (front ++ back)
-member-back a [] back m = m
-member-back a (y ∷ front) back m = inr (member-back a front back m)
+pub member_back : {A : Type 0} (a : A) (front back : List A) → Member a back → Member a (front ++ back)
+member_back a [] back m = m
+member_back a (y ∷ front) back m = inr (member_back a front back m)
 
-pub before-put : {A : Type 0} (x u t : A) (front back : List A) → Before u t (front ++ back) → Before u t (front ++ x ∷ back)
-before-put x u t [] back b = inr b
-before-put x u t (y ∷ front) back (inl p) = inl (p.0, member-put x t front back p.1)
-before-put x u t (y ∷ front) back (inr b) = inr (before-put x u t front back b)
+pub before_put : {A : Type 0} (x u t : A) (front back : List A) → Before u t (front ++ back) → Before u t (front ++ x ∷ back)
+before_put x u t [] back b = inr b
+before_put x u t (y ∷ front) back (inl p) = inl (p.0, member_put x t front back p.1)
+before_put x u t (y ∷ front) back (inr b) = inr (before_put x u t front back b)
 
 -- what stands in front of x is before x
-before-at : {A : Type 0} (x u : A) (front back : List A) → Member u front → Before u x (front ++ x ∷ back)
-before-at x u [] back m = absurd m
-before-at x u (y ∷ front) back (inl e) = inl (e, member-back x front (x ∷ back) (inl refl))
-before-at x u (y ∷ front) back (inr m) = inr (before-at x u front back m)
+before_at : {A : Type 0} (x u : A) (front back : List A) → Member u front → Before u x (front ++ x ∷ back)
+before_at x u [] back m = absurd m
+before_at x u (y ∷ front) back (inl e) = inl (e, member_back x front (x ∷ back) (inl refl))
+before_at x u (y ∷ front) back (inr m) = inr (before_at x u front back m)
 
-member-cases : {A : Type 0} (a x : A) (front back : List A) → Member a (front ++ x ∷ back) → (x ≡ a) ⊎ Member a (front ++ back)
-member-cases a x [] back m = m
-member-cases a x (y ∷ front) back (inl e) = inr (inl e)
-member-cases a x (y ∷ front) back (inr m) = elim (member-cases a x front back m) [ inl e ↦ inl e | inr n ↦ inr (inr n) ]
+member_cases : {A : Type 0} (a x : A) (front back : List A) → Member a (front ++ x ∷ back) → (x ≡ a) ⊎ Member a (front ++ back)
+member_cases a x [] back m = m
+member_cases a x (y ∷ front) back (inl e) = inr (inl e)
+member_cases a x (y ∷ front) back (inr m) = elim (member_cases a x front back m) [ inl e ↦ inl e | inr n ↦ inr (inr n) ]
 
-pub member-reordered : {A : Type 0} (xs ys : List A) → Reordered xs ys → (a : A) → Member a ys → Member a xs
-member-reordered {A} [] ys e a m = subst (λ (zs : List A). Member a zs) e m
-member-reordered {A} (x ∷ xs) ys (front, back, e, r) a m =
-    elim (member-cases a x front back (subst (λ (zs : List A). Member a zs) e m)) [
+pub member_reordered : {A : Type 0} (xs ys : List A) → Reordered xs ys → (a : A) → Member a ys → Member a xs
+member_reordered {A} [] ys e a m = subst (λ (zs : List A). Member a zs) e m
+member_reordered {A} (x ∷ xs) ys (front, back, e, r) a m =
+    elim (member_cases a x front back (subst (λ (zs : List A). Member a zs) e m)) [
       | inl is ↦ inl is
-      | inr n ↦ inr (member-reordered xs (front ++ back) r a n)
+      | inr n ↦ inr (member_reordered xs (front ++ back) r a n)
     ]
 
 module _ {C : Type 0} (meaning : C → Db → Effect) (sound : Sound meaning) where
@@ -134,20 +135,20 @@ module _ {C : Type 0} (meaning : C → Db → Effect) (sound : Sound meaning) wh
   same_acts (x ∷ xs) ys db h (front, back, e, r) keeps =
       let order : (u t : Act C) → Before u t (x ∷ xs) → Conflict u.effect t.effect → Before t u (front ++ x ∷ back) → ⊥ =
       λ u t b c v. keeps u t b c (subst (λ (zs : List (Act C)). Before t u zs) (sym e) v) in
-      let rest = same_acts xs (front ++ back) (written x.effect.writes db) h.1 r (λ u t b c v. order u t (inr b) c (before-put x t u front back v)) in
+      let rest = same_acts xs (front ++ back) (written x.effect.writes db) h.1 r (λ u t b c v. order u t (inr b) c (before_put x t u front back v)) in
       let back_in = moved meaning sound x front back db
-      (λ z m c. order x z (inl (refl, member-reordered xs (front ++ back) r z (member-front z front back m))) c (before-at x z front back m)) h.0 rest.0 in
+      (λ z m c. order x z (inl (refl, member_reordered xs (front ++ back) r z (member_front z front back m))) c (before_at x z front back m)) h.0 rest.0 in
       rw e (back_in.0, back_in.1 ∙ rest.1)
 
-  member-filter : (p : Act C → Bool) (xs : List (Act C)) (t : Act C) → Member t (filter p xs) → Member t xs × (p t ≡ true)
-  member-filter p [] t m = absurd m
-  member-filter p (x ∷ xs) t m =
+  member_filter : (p : Act C → Bool) (xs : List (Act C)) (t : Act C) → Member t (filter p xs) → Member t xs × (p t ≡ true)
+  member_filter p [] t m = absurd m
+  member_filter p (x ∷ xs) t m =
       elim (cases_Bool (p x)) [
         | inl in' ↦ elim (rw in' at m) [
           | inl e ↦ (inl e, subst (λ (y : Act C). p y ≡ true) e in')
-          | inr n ↦ let w = member-filter p xs t n in (inr w.0, w.1)
+          | inr n ↦ let w = member_filter p xs t n in (inr w.0, w.1)
         ]
-        | inr out ↦ let w = member-filter p xs t (rw out at m) in (inr w.0, w.1)
+        | inr out ↦ let w = member_filter p xs t (rw out at m) in (inr w.0, w.1)
       ]
 
   unwritten : (ws : List (Key × Value)) (db : Db) → updating ws ≡ false → written ws db ≡ db
@@ -165,7 +166,7 @@ module _ {C : Type 0} (meaning : C → Db → Effect) (sound : Sound meaning) wh
         | inl in' ↦ rw in' (h.0, rest)
         | inr out ↦ rw out (elim (cases_Bool (updates x.effect)) [
           | inl u ↦ left_out meaning sound x (filter chosen xs) db
-              (λ z m c. let w = member-filter chosen xs z m in both_ways (chosen x) out (closed x z (inl (refl, w.0)) c w.1 u)) rest
+              (λ z m c. let w = member_filter chosen xs z m in both_ways (chosen x) out (closed x z (inl (refl, w.0)) c w.1 u)) rest
           | inr no_update ↦ subst (λ (d : Db). Consistent meaning (filter chosen xs) d) (unwritten x.effect.writes db no_update) rest
         ])
       ]

@@ -7,13 +7,9 @@ use Rattle.tau_base.specs.declared.value.Key.{Key}
 use Rattle.tau_base.specs.declared.value.Value.{Value}
 use Rattle.tau_base.specs.declared.value.Value.TheVariants.{Absent, Int, Text}
 use Rattle.tau_base.specs.Database.{same_key, written, db_of}
-use Rattle.tau_base.proofs.Keys.{same_key-equal, db_of-set, db_of-removed}
+use Rattle.tau_base.proofs.Keys.{same_key_equal, db_of_set, db_of_removed}
 use Rattle.tau_model.specs.Store.{is_key}
 use Rattle.tau_model.specs.Tables.{is_value}
-
-pub on_err : {X E P : Type 0} (r : Result X E) → P → OnErr r P
-on_err (Ok x) p = tt
-on_err (Err e) p = p
 
 pub when_ok : {X E P : Type 0} (r : Result X E) → OnOk r P → IsOk r → P
 when_ok (Ok x) p is = p
@@ -24,17 +20,17 @@ when_ok {X} (Err e) p is = absurd (no_ok e is)
 
 -- maps find keys as the order of keys does
 pub same_test : is_key ≡ same_key
-same_test = fun_ext (λ a. fun_ext (λ b. sym (same_key-equal a b)))
+same_test = fun_ext (λ a. fun_ext (λ b. sym (same_key_equal a b)))
 
 -- a row that is set in a map is a write
-pub rows-set : (old new : Key → Option Value) (key : Key) (v : Value) → ((q : Key) → new q ≡ cond (is_key key q) (Some v) (old q)) → db_of new ≡ written ((key, v) ∷ []) (db_of old)
-rows-set old new key v h = db_of-set old new key v (λ q. h q ∙ ap (λ (b : Bool). cond b (Some v) (old q)) (sym (same_key-equal key q)))
+pub rows_set : (old new : Key → Option Value) (key : Key) (v : Value) → ((q : Key) → new q ≡ cond (is_key key q) (Some v) (old q)) → db_of new ≡ written ((key, v) ∷ []) (db_of old)
+rows_set old new key v h = db_of_set old new key v (λ q. h q ∙ ap (λ (b : Bool). cond b (Some v) (old q)) (sym (same_key_equal key q)))
 
 -- and one that is taken out is the write of nothing
-pub rows-removed : (old new : Key → Option Value) (key : Key) (v : Value) → is_value v ≡ false → ((q : Key) → new q ≡ cond (is_key key q) None (old q)) →
+pub rows_removed : (old new : Key → Option Value) (key : Key) (v : Value) → is_value v ≡ false → ((q : Key) → new q ≡ cond (is_key key q) None (old q)) →
     db_of new ≡ written ((key, v) ∷ []) (db_of old)
-rows-removed old new key v none h =
-    db_of-removed old new key (λ q. h q ∙ ap (λ (b : Bool). cond b None (old q)) (sym (same_key-equal key q)))
+rows_removed old new key v none h =
+    db_of_removed old new key (λ q. h q ∙ ap (λ (b : Bool). cond b None (old q)) (sym (same_key_equal key q)))
     ∙ ap (λ (w : Value). written ((key, w) ∷ []) (db_of old)) (sym (absent_of v none))
   where
     absent_of : (w : Value) → is_value w ≡ false → w ≡ Absent
@@ -43,7 +39,7 @@ rows-removed old new key v none h =
     absent_of (Text t) e = absurd (both_ways true e refl)
 
 -- one more at the front of what is left
-pub drop-before : {A : Type 0} (xs : List A) (i : ℕ) (x : A) → 0 < i → i ≤ length xs → x ≡ slice_index_or xs (i - 1) x → drop (i - 1) xs ≡ x ∷ drop i xs
-drop-before {A} xs i x pos le is =
+pub drop_before : {A : Type 0} (xs : List A) (i : ℕ) (x : A) → 0 < i → i ≤ length xs → x ≡ slice_index_or xs (i - 1) x → drop (i - 1) xs ≡ x ∷ drop i xs
+drop_before {A} xs i x pos le is =
     let e : i ≡ suc (i - 1) = omega arith in
     drop-cons xs (i - 1) x (omega arith) ∙ ap (λ (y : A). y ∷ drop (suc (i - 1)) xs) (sym is) ∙ ap (λ (k : ℕ). x ∷ drop k xs) (sym e)

@@ -5,9 +5,9 @@ use Rattle.std.proofs.lemmas.List.Elements.{filter-append}
 use Rattle.std.proofs.lemmas.Bool.{cases_Bool}
 use Rattle.tau_model.specs.History.{Reordered}
 
-pub reordered-itself : {A : Type 0} (xs : List A) → Reordered xs xs
-reordered-itself [] = refl
-reordered-itself (x ∷ xs) = ([], xs, refl, reordered-itself xs)
+pub reordered_itself : {A : Type 0} (xs : List A) → Reordered xs xs
+reordered_itself [] = refl
+reordered_itself (x ∷ xs) = ([], xs, refl, reordered_itself xs)
 
 -- two ways to cut a list at an element: the element stands in front of the other cut, or after it
 pub two_cuts : {A : Type 0} (front back us vs : List A) (x : A) → front ++ back ≡ us ++ x ∷ vs →
@@ -39,34 +39,34 @@ pulled {A} x (y ∷ front) back zs (g, h, e, r) =
           (g ++ y ∷ w.0, vs, first, (g, w.0 ++ vs, append_assoc g (y ∷ w.0) vs, subst (λ (l : List A). Reordered (front ++ back) l) others rest))
     ]
 
-pub reordered-trans : {A : Type 0} (xs ys zs : List A) → Reordered xs ys → Reordered ys zs → Reordered xs zs
-reordered-trans {A} [] ys zs e s = subst (λ (l : List A). Reordered l zs) e s
-reordered-trans {A} (x ∷ xs) ys zs (front, back, e, r) s =
+pub reordered_trans : {A : Type 0} (xs ys zs : List A) → Reordered xs ys → Reordered ys zs → Reordered xs zs
+reordered_trans {A} [] ys zs e s = subst (λ (l : List A). Reordered l zs) e s
+reordered_trans {A} (x ∷ xs) ys zs (front, back, e, r) s =
     let (us, vs, is, rest) = pulled x front back zs (subst (λ (l : List A). Reordered l zs) e s) in
-    (us, vs, is, reordered-trans xs (front ++ back) (us ++ vs) r rest)
+    (us, vs, is, reordered_trans xs (front ++ back) (us ++ vs) r rest)
 
 -- an element may be put anywhere into the first list
-pub reordered-put : {A : Type 0} (x : A) (front back zs : List A) → Reordered (front ++ back) zs → Reordered (front ++ x ∷ back) (x ∷ zs)
-reordered-put x [] back zs r = ([], zs, refl, r)
-reordered-put x (y ∷ front) back zs (g, h, e, r) = (x ∷ g, h, ap (λ l. x ∷ l) e, reordered-put x front back (g ++ h) r)
+pub reordered_put : {A : Type 0} (x : A) (front back zs : List A) → Reordered (front ++ back) zs → Reordered (front ++ x ∷ back) (x ∷ zs)
+reordered_put x [] back zs r = ([], zs, refl, r)
+reordered_put x (y ∷ front) back zs (g, h, e, r) = (x ∷ g, h, ap (λ l. x ∷ l) e, reordered_put x front back (g ++ h) r)
 
-pub reordered-sym : {A : Type 0} (xs ys : List A) → Reordered xs ys → Reordered ys xs
-reordered-sym {A} [] ys e = subst (λ (l : List A). Reordered l []) (sym e) refl
-reordered-sym {A} (x ∷ xs) ys (front, back, e, r) =
-    subst (λ (l : List A). Reordered l (x ∷ xs)) (sym e) (reordered-put x front back xs (reordered-sym xs (front ++ back) r))
+pub reordered_sym : {A : Type 0} (xs ys : List A) → Reordered xs ys → Reordered ys xs
+reordered_sym {A} [] ys e = subst (λ (l : List A). Reordered l []) (sym e) refl
+reordered_sym {A} (x ∷ xs) ys (front, back, e, r) =
+    subst (λ (l : List A). Reordered l (x ∷ xs)) (sym e) (reordered_put x front back xs (reordered_sym xs (front ++ back) r))
 
-pub reordered-filter : {A : Type 0} (p : A → Bool) (xs ys : List A) → Reordered xs ys → Reordered (filter p xs) (filter p ys)
-reordered-filter {A} p [] ys e = subst (λ (l : List A). filter p l ≡ []) (sym e) refl
-reordered-filter {A} p (x ∷ xs) ys (front, back, e, r) =
-    let rest : Reordered (filter p xs) (filter p front ++ filter p back) = subst (λ (l : List A). Reordered (filter p xs) l) (filter-append p front back) (reordered-filter p xs (front ++ back) r) in
+pub reordered_filter : {A : Type 0} (p : A → Bool) (xs ys : List A) → Reordered xs ys → Reordered (filter p xs) (filter p ys)
+reordered_filter {A} p [] ys e = subst (λ (l : List A). filter p l ≡ []) (sym e) refl
+reordered_filter {A} p (x ∷ xs) ys (front, back, e, r) =
+    let rest : Reordered (filter p xs) (filter p front ++ filter p back) = subst (λ (l : List A). Reordered (filter p xs) l) (filter-append p front back) (reordered_filter p xs (front ++ back) r) in
     subst (λ (l : List A). Reordered (filter p (x ∷ xs)) (filter p l)) (sym e) (elim (cases_Bool (p x)) [
       | inl t ↦ rw t (filter p front, filter p back, filter-append p front (x ∷ back) ∙ rw t refl, rest)
       | inr t ↦ rw t (subst (λ (l : List A). Reordered (filter p xs) l) (sym (filter-append p front (x ∷ back) ∙ rw t refl)) rest)
     ])
 
-pub reordered-length : {A : Type 0} (xs ys : List A) → Reordered xs ys → length xs ≡ length ys
-reordered-length [] ys e = rw e refl
-reordered-length {A} (x ∷ xs) ys (front, back, e, r) =
-    let rest : length xs ≡ length (front ++ back) = reordered-length xs (front ++ back) r in
+pub reordered_length : {A : Type 0} (xs ys : List A) → Reordered xs ys → length xs ≡ length ys
+reordered_length [] ys e = rw e refl
+reordered_length {A} (x ∷ xs) ys (front, back, e, r) =
+    let rest : length xs ≡ length (front ++ back) = reordered_length xs (front ++ back) r in
     let whole : length ys ≡ length (front ++ x ∷ back) = ap (λ (l : List A). length l) e in
     omega (arith, length-append front (x ∷ back), length-append front back)

@@ -9,18 +9,18 @@ use Rattle.std.proofs.lemmas.Bool.Decides.{nat_tests}
 use Rattle.std.proofs.lemmas.List.Sorted.{IsNonDecreasingBy-from_sort}
 use Rattle.tau_model.specs.History.{Member}
 use Rattle.tau_model.specs.Reported.{put_in, ascending}
-use Rattle.tau_model.proofs.Orders.{member-reordered}
-use Rattle.tau_model.proofs.Logged.{member-filtered}
-use Rattle.tau_model.proofs.Ascending.{put_in-reordered}
+use Rattle.tau_model.proofs.Orders.{member_reordered}
+use Rattle.tau_model.proofs.Logged.{member_filtered}
+use Rattle.tau_model.proofs.Ascending.{put_in_reordered}
 
-pub filter-same : {A : Type 0} (p q : A → Bool) (xs : List A) → ((x : A) → p x ≡ q x) → filter p xs ≡ filter q xs
-filter-same p q [] h = refl
-filter-same p q (x ∷ xs) h = rw (h x, filter-same p q xs h) refl
+pub filter_same : {A : Type 0} (p q : A → Bool) (xs : List A) → ((x : A) → p x ≡ q x) → filter p xs ≡ filter q xs
+filter_same p q [] h = refl
+filter_same p q (x ∷ xs) h = rw (h x, filter_same p q xs h) refl
 
 -- two filters after one another, in either order
-pub filter-filter : {A : Type 0} (p q : A → Bool) (xs : List A) → filter p (filter q xs) ≡ filter q (filter p xs)
-filter-filter p q [] = refl
-filter-filter p q (x ∷ xs) = by_case (p x) (q x) refl refl (filter-filter p q xs)
+pub filter_filter : {A : Type 0} (p q : A → Bool) (xs : List A) → filter p (filter q xs) ≡ filter q (filter p xs)
+filter_filter p q [] = refl
+filter_filter p q (x ∷ xs) = by_case (p x) (q x) refl refl (filter_filter p q xs)
   where
     by_case : (a b : Bool) → p x ≡ a → q x ≡ b → filter p (filter q xs) ≡ filter q (filter p xs) → filter p (filter q (x ∷ xs)) ≡ filter q (filter p (x ∷ xs))
     by_case true true e f rest = simp (e, f) (ap (λ l. x ∷ l) rest)
@@ -29,8 +29,8 @@ filter-filter p q (x ∷ xs) = by_case (p x) (q x) refl refl (filter-filter p q 
     by_case false false e f rest = simp (e, f) rest
 
 -- whether two numbers tie in the order of numbers
-ties-is : (a b : ℕ) → (not (is_lt (nat_cmp a b)) && not (is_lt (nat_cmp b a))) ≡ (b == a)
-ties-is a b = grind (arith, nat_tests)
+ties_is : (a b : ℕ) → (not (is_lt (nat_cmp a b)) && not (is_lt (nat_cmp b a))) ≡ (b == a)
+ties_is a b = grind (arith, nat_tests)
 
 module _ {A : Type 0} (key : A → ℕ) where
   -- the numbers do not fall
@@ -41,9 +41,9 @@ module _ {A : Type 0} (key : A → ℕ) where
   abbrev pub has_number : ℕ → A → Bool
   has_number v x = key x == v
 
-  put_in-rising : (x : A) (ys : List A) → Rising ys → Rising (put_in key x ys)
-  put_in-rising x [] h = ((λ y m. absurd m), tt)
-  put_in-rising x (y ∷ ys) h = elim (cases_Bool (nat_le (key x) (key y))) [
+  put_in_rising : (x : A) (ys : List A) → Rising ys → Rising (put_in key x ys)
+  put_in_rising x [] h = ((λ y m. absurd m), tt)
+  put_in_rising x (y ∷ ys) h = elim (cases_Bool (nat_le (key x) (key y))) [
     | inl le ↦ rw le (
       (λ z m. let first : key x ≤ key y = leb-true (key x) (key y) le in elim m [
         | inl e ↦ subst (λ (w : A). key x ≤ key w) e first
@@ -52,33 +52,33 @@ module _ {A : Type 0} (key : A → ℕ) where
       h,
     )
     | inr gt ↦ rw gt (
-      (λ z m. elim (member-reordered (x ∷ ys) (put_in key x ys) (put_in-reordered key x ys) z m) [
+      (λ z m. elim (member_reordered (x ∷ ys) (put_in key x ys) (put_in_reordered key x ys) z m) [
         | inl e ↦ subst (λ (w : A). key y ≤ key w) e (above gt)
         | inr n ↦ h.0 z n
       ]),
-      put_in-rising x ys h.1,
+      put_in_rising x ys h.1,
     )
   ]
     where
       above : nat_le (key x) (key y) ≡ false → key y ≤ key x
       above e = grind (arith, nat_tests)
 
-  pub ascending-rising : (xs : List A) → Rising (ascending key xs)
-  ascending-rising [] = tt
-  ascending-rising (x ∷ xs) = put_in-rising x (ascending key xs) (ascending-rising xs)
+  pub ascending_rising : (xs : List A) → Rising (ascending key xs)
+  ascending_rising [] = tt
+  ascending_rising (x ∷ xs) = put_in_rising x (ascending key xs) (ascending_rising xs)
 
-  pub filter-rising : (p : A → Bool) (xs : List A) → Rising xs → Rising (filter p xs)
-  filter-rising p [] h = tt
-  filter-rising p (x ∷ xs) h = elim (cases_Bool (p x)) [
-    | inl is ↦ rw is ((λ y m. h.0 y (member-filtered p y xs m).0), filter-rising p xs h.1)
-    | inr no' ↦ rw no' (filter-rising p xs h.1)
+  pub filter_rising : (p : A → Bool) (xs : List A) → Rising xs → Rising (filter p xs)
+  filter_rising p [] h = tt
+  filter_rising p (x ∷ xs) h = elim (cases_Bool (p x)) [
+    | inl is ↦ rw is ((λ y m. h.0 y (member_filtered p y xs m).0), filter_rising p xs h.1)
+    | inr no' ↦ rw no' (filter_rising p xs h.1)
   ]
 
-  put_in-filtered : (v : ℕ) (x : A) (ys : List A) → filter (has_number v) (put_in key x ys) ≡ filter (has_number v) (x ∷ ys)
-  put_in-filtered v x [] = refl
-  put_in-filtered v x (y ∷ ys) = elim (cases_Bool (nat_le (key x) (key y))) [
+  put_in_filtered : (v : ℕ) (x : A) (ys : List A) → filter (has_number v) (put_in key x ys) ≡ filter (has_number v) (x ∷ ys)
+  put_in_filtered v x [] = refl
+  put_in_filtered v x (y ∷ ys) = elim (cases_Bool (nat_le (key x) (key y))) [
     | inl le ↦ rw le refl
-    | inr gt ↦ rw gt (apart (has_number v x) (has_number v y) gt refl refl (put_in-filtered v x ys))
+    | inr gt ↦ rw gt (apart (has_number v x) (has_number v y) gt refl refl (put_in_filtered v x ys))
   ]
     where
       apart : (a b : Bool) → nat_le (key x) (key y) ≡ false → has_number v x ≡ a → has_number v y ≡ b → filter (has_number v) (put_in key x ys) ≡ filter (has_number v) (x ∷ ys) →
@@ -91,27 +91,27 @@ module _ {A : Type 0} (key : A → ℕ) where
       apart false false gt e f rest = simp (e, f) (rest ∙ simp e)
 
   -- those with one number keep their order
-  pub ascending-filtered : (v : ℕ) (xs : List A) → filter (has_number v) (ascending key xs) ≡ filter (has_number v) xs
-  ascending-filtered v [] = refl
-  ascending-filtered v (x ∷ xs) = put_in-filtered v x (ascending key xs) ∙ first (has_number v x) refl (ascending-filtered v xs)
+  pub ascending_filtered : (v : ℕ) (xs : List A) → filter (has_number v) (ascending key xs) ≡ filter (has_number v) xs
+  ascending_filtered v [] = refl
+  ascending_filtered v (x ∷ xs) = put_in_filtered v x (ascending key xs) ∙ first (has_number v x) refl (ascending_filtered v xs)
     where
       first : (b : Bool) → has_number v x ≡ b → filter (has_number v) (ascending key xs) ≡ filter (has_number v) xs →
           filter (has_number v) (x ∷ ascending key xs) ≡ filter (has_number v) (x ∷ xs)
       first true e rest = rw e (ap (λ l. x ∷ l) rest)
       first false e rest = rw e rest
 
-  pub number-is : (v : ℕ) (x : A) → has_number v x ≡ true → key x ≡ v
-  number-is v x e = eqb-true (key x) v e
+  pub number_is : (v : ℕ) (x : A) → has_number v x ≡ true → key x ≡ v
+  number_is v x e = eqb-true (key x) v e
 
-  number-itself : (x : A) → has_number (key x) x ≡ true
-  number-itself x = eq-eqb (key x) (key x) refl
+  number_itself : (x : A) → has_number (key x) x ≡ true
+  number_itself x = eq-eqb (key x) (key x) refl
 
   -- an element with the number of the first of the others is not below it
   below : (x y : A) (xs ys : List A) → Rising (y ∷ ys) → filter (has_number (key x)) (x ∷ xs) ≡ filter (has_number (key x)) (y ∷ ys) → key y ≤ key x
   below x y xs ys h same =
       let there : Member x (filter (has_number (key x)) (y ∷ ys)) =
-      subst (λ (l : List A). Member x l) same (rw (number-itself x) (inl refl)) in
-      elim (member-filtered (has_number (key x)) x (y ∷ ys) there).0 [
+      subst (λ (l : List A). Member x l) same (rw (number_itself x) (inl refl)) in
+      elim (member_filtered (has_number (key x)) x (y ∷ ys) there).0 [
         | inl e ↦ (let p : key y ≡ key x = ap key e in omega arith)
         | inr m ↦ h.0 x m
       ]
@@ -119,14 +119,14 @@ module _ {A : Type 0} (key : A → ℕ) where
   -- two lists that rise and have the same elements with each number, in the same order
   pub same_order : (xs ys : List A) → Rising xs → Rising ys → ((v : ℕ) → filter (has_number v) xs ≡ filter (has_number v) ys) → xs ≡ ys
   same_order [] [] h k same = refl
-  same_order [] (y ∷ ys) h k same = let e = same (key y) in let f = rw (number-itself y) at e in cc
-  same_order (x ∷ xs) [] h k same = let e = same (key x) in let f = rw (number-itself x) at e in cc
+  same_order [] (y ∷ ys) h k same = let e = same (key y) in let f = rw (number_itself y) at e in cc
+  same_order (x ∷ xs) [] h k same = let e = same (key x) in let f = rw (number_itself x) at e in cc
   same_order (x ∷ xs) (y ∷ ys) h k same =
       let low : key y ≤ key x = below x y xs ys k (same (key x)) in
       let high : key x ≤ key y = below y x ys xs h (sym (same (key y))) in
       let tie : key y ≡ key x = omega arith in
-      let also : has_number (key x) y ≡ true = subst (λ (n : ℕ). has_number n y ≡ true) tie (number-itself y) in
-      let all : x ∷ filter (has_number (key x)) xs ≡ y ∷ filter (has_number (key x)) ys = rw (number-itself x, also) at (same (key x)) in
+      let also : has_number (key x) y ≡ true = subst (λ (n : ℕ). has_number n y ≡ true) tie (number_itself y) in
+      let all : x ∷ filter (has_number (key x)) xs ≡ y ∷ filter (has_number (key x)) ys = rw (number_itself x, also) at (same (key x)) in
       let first : x ≡ y = cc in
       let rest : xs ≡ ys = same_order xs ys h.1 k.1 (λ v. elim (cases_eq (key x) v) [
         | inl is ↦ subst (λ (n : ℕ). filter (has_number n) xs ≡ filter (has_number n) ys) is (let e : filter (has_number (key x)) xs ≡ filter (has_number (key x)) ys = cc in e)
@@ -141,38 +141,38 @@ module _ {A : Type 0} (key : A → ℕ) where
       none v z ne = ne_eqb (key z) v ne
 
   -- a filter of the ascending order is the ascending order of the filter
-  pub ascending-filter : (p : A → Bool) (xs : List A) → filter p (ascending key xs) ≡ ascending key (filter p xs)
-  ascending-filter p xs = same_order (filter p (ascending key xs)) (ascending key (filter p xs)) (filter-rising p (ascending key xs) (ascending-rising xs)) (ascending-rising (filter p xs))
-      (λ v. filter-filter (has_number v) p (ascending key xs) ∙ ap (filter p) (ascending-filtered v xs) ∙ filter-filter p (has_number v) xs ∙ sym (ascending-filtered v (filter p xs)))
+  pub ascending_filter : (p : A → Bool) (xs : List A) → filter p (ascending key xs) ≡ ascending key (filter p xs)
+  ascending_filter p xs = same_order (filter p (ascending key xs)) (ascending key (filter p xs)) (filter_rising p (ascending key xs) (ascending_rising xs)) (ascending_rising (filter p xs))
+      (λ v. filter_filter (has_number v) p (ascending key xs) ∙ ap (filter p) (ascending_filtered v xs) ∙ filter_filter p (has_number v) xs ∙ sym (ascending_filtered v (filter p xs)))
 
   pub at_some_place : (y : A) (xs : List A) → Member y xs → (k : ℕ) × (k < length xs) × ((d : A) → get_or xs k d ≡ y)
   at_some_place y [] m = absurd m
   at_some_place y (x ∷ xs) (inl e) = (0, omega arith, λ d. e)
   at_some_place y (x ∷ xs) (inr m) = let (k, lt, is) = at_some_place y xs m in (suc k, omega arith, is)
 
-  rising-from : (xs : List A) → IsNonDecreasingBy key xs → Rising xs
-  rising-from [] h = tt
-  rising-from (x ∷ xs) h = (
+  rising_from : (xs : List A) → IsNonDecreasingBy key xs → Rising xs
+  rising_from [] h = tt
+  rising_from (x ∷ xs) h = (
     λ y m. let (k, lt, is) = at_some_place y xs m in
         let up : key x ≤ key (get_or xs k x) = h 0 (suc k) x (omega arith) (omega arith) in
         subst (λ (z : A). key x ≤ key z) (is x) up,
-    rising-from xs (λ i j d le lt. h (suc i) (suc j) d (omega arith) (omega arith)),
+    rising_from xs (λ i j d le lt. h (suc i) (suc j) d (omega arith) (omega arith)),
   )
 
-  ties-number : (x : A) (xs : List A) → filter (ties (λ y z. is_lt (nat_cmp (key y) (key z))) x) xs ≡ filter (has_number (key x)) xs
-  ties-number x xs = filter-same (ties (λ y z. is_lt (nat_cmp (key y) (key z))) x) (λ y. key y == key x) xs (λ y. ties-is (key x) (key y))
+  ties_number : (x : A) (xs : List A) → filter (ties (λ y z. is_lt (nat_cmp (key y) (key z))) x) xs ≡ filter (has_number (key x)) xs
+  ties_number x xs = filter_same (ties (λ y z. is_lt (nat_cmp (key y) (key z))) x) (λ y. key y == key x) xs (λ y. ties_is (key x) (key y))
 
   -- what a stable sort ensures
-  pub sorted-ascending : (xs ys : List A) → IsSortedByKey key nat_cmp ys → IsStableByKey key nat_cmp xs ys → ys ≡ ascending key xs
-  sorted-ascending xs ys sorted stable =
-      same_order ys (ascending key xs) (rising-from ys (IsNonDecreasingBy-from_sort key ys sorted)) (ascending-rising xs)
-      (λ v. at v (filter (has_number v) xs) (filter (has_number v) ys) refl refl ∙ sym (ascending-filtered v xs))
+  pub sorted_ascending : (xs ys : List A) → IsSortedByKey key nat_cmp ys → IsStableByKey key nat_cmp xs ys → ys ≡ ascending key xs
+  sorted_ascending xs ys sorted stable =
+      same_order ys (ascending key xs) (rising_from ys (IsNonDecreasingBy-from_sort key ys sorted)) (ascending_rising xs)
+      (λ v. at v (filter (has_number v) xs) (filter (has_number v) ys) refl refl ∙ sym (ascending_filtered v xs))
     where
       tied : (x : A) → filter (has_number (key x)) ys ≡ filter (has_number (key x)) xs
-      tied x = sym (ties-number x ys) ∙ stable x ∙ ties-number x xs
+      tied x = sym (ties_number x ys) ∙ stable x ∙ ties_number x xs
 
       is_first : (v : ℕ) (zs : List A) (z : A) (rest : List A) → filter (has_number v) zs ≡ z ∷ rest → key z ≡ v
-      is_first v zs z rest e = number-is v z (member-filtered (has_number v) z zs (rw e (inl refl))).1
+      is_first v zs z rest e = number_is v z (member_filtered (has_number v) z zs (rw e (inl refl))).1
 
       at : (v : ℕ) (us vs : List A) → filter (has_number v) xs ≡ us → filter (has_number v) ys ≡ vs → filter (has_number v) ys ≡ filter (has_number v) xs
       at v [] [] e f = f ∙ sym e

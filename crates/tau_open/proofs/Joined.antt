@@ -16,8 +16,9 @@ use Rattle.tau_open.specs.declared.refusal.OpenRefusal.TheVariants.{NoMemory, Fa
 use Rattle.tau_disk.specs.Used.{EachIn, OfDisk, AreEmpty, IsFirstLong, OnlyRead}
 use Rattle.tau_open.specs.Opening.{Begins, Asked, IsCreated, FailsCreated, IsOpened, FailsOpened, AreAsked, FailsAsking, FailsMaking, GivesUp, Refuses, AreOpened}
 use Rattle.tau_open.specs.Creating.{Creating, StopsCreating, Stops}
-use Rattle.tau_open.proofs.Places.{some_is, get_dropped, dropped_more, each_then}
+use Rattle.tau_open.proofs.Places.{get_dropped, dropped_more, each_then, each_weaker}
 use Rattle.tau_open.proofs.Calls.{went_on, went_broke}
+use Rattle.tau_base.proofs.Logic.{some_is}
 
 -- an unborn image has no content
 pub unborn_content : (n j : ℕ) (x : List ℕ) → length x ≤ 17 → HasContent n j [] x

@@ -5,7 +5,7 @@ use Rattle.std.proofs.lemmas.Bool.{cases_eq}
 use Rattle.std.proofs.lemmas.Bool.Decides.{nat_tests}
 use Rattle.tau_disk.specs.Used.{AreEmpty, IsFirstLong}
 use Rattle.tau_open.specs.Opening.{lower_of}
-use Rattle.tau_open.proofs.Places.{some_is}
+use Rattle.tau_base.proofs.Logic.{some_is}
 
 module _ {D : Type 0} (tells : Type 0) (seen : D → List ℕ) (old : List D) where
   -- what is known of the first j disks by the first long one among them

@@ -4,10 +4,8 @@ use Rattle.std.specs.Prelude.{Some, slice_get}
 use Rattle.std.proofs.Math.ListN.{set}
 use Rattle.std.proofs.lemmas.Bool.{cases_eq}
 use Rattle.std.proofs.lemmas.List.{drop-drop, drop-set-lt}
-use Rattle.tau_disk.specs.Used.{EachIn, OfDisk}
-
-pub some_is : {D : Type 0} (d e : D) → Some d ≡ Some e → d ≡ e
-some_is d e is = cc
+use Rattle.tau_disk.specs.Used.{EachIn, EachUsed, OfDisk}
+use Rattle.tau_base.proofs.Logic.{some_is}
 
 module _ {D : Type 0} where
   pub get_set_same : (xs : List D) (i : ℕ) (v : D) → i < length xs → slice_get (set xs i v) i ≡ Some v

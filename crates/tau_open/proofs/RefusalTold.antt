@@ -8,15 +8,13 @@ use Rattle.tau_open.specs.declared.refusal.OpenRefusal.TheVariants.{NoMemory, Fa
 use Rattle.tau_disk.specs.Used.{EachIn, EachUsed, OfDisk, RoseAt, AreEmpty, IsFirstLong, OnlyRead, IsClean, IsStopped, IsFirstStopped, Made}
 use Rattle.tau_open.specs.Outside.{calls_to_open}
 use Rattle.tau_open.specs.Opening.{Begins, Asked, FailsAsked, IsOpened, FailsOpened, AreAsked, FailsAsking, FailsMaking, GivesUp, Refuses, TellsLong}
-use Rattle.tau_open.proofs.Places.{some_is, get_dropped, dropped_more, each_weaker, each_same}
+use Rattle.tau_open.proofs.Places.{get_dropped, dropped_more, each_weaker, each_same}
 use Rattle.tau_open.proofs.Calls.{untouched, went_clean, broke_stopped, broke_early}
 use Rattle.tau_open.proofs.Joined.{read_begins, still_begins}
+use Rattle.tau_base.proofs.Logic.{below_or_not, some_is}
 
 cases_lt : (i j : ℕ) → (i ≡ j → ⊥) → (i < j) ⊎ (j < i)
 cases_lt i j other = grind arith
-
-cases_le : (i j : ℕ) → (i < j) ⊎ (j ≤ i)
-cases_le i j = grind arith
 
 module _ {D : Type 0} (G : Ghosts D) (n : ℕ) (content : List ℕ) (old new : List D) where
   of_weaker : (R S : D → D → Type 0) (j : ℕ) → OfDisk R old new j → ((d e : D) → R d e → S d e) → OfDisk S old new j
@@ -113,7 +111,7 @@ module _ {D : Type 0} (G : Ghosts D) (n : ℕ) (content : List ℕ) (old new : L
   given_begins j given i d low was = ⊎_elim
       (λ below. let (e, is, r) = given.below i d below was in (e, is, r.begins))
       (λ above. let (e, is, r) = given.above i d (above, low) was in (e, is, read_begins G n content i d e r.read))
-      (cases_le i j)
+      (below_or_not i j)
 
   making_begins : (j : ℕ) → FailsMaking G n content j old new → EachIn (λ i. i < n) (Begins G n content) old new
   making_begins j making i d low was = elim (cases_eq i j) [

@@ -20,26 +20,26 @@ past_small low [] i p h at = cc
 past_small low (q ∷ ps) zero p h at = let e : q ≡ p = cc in rw (← e) h.1
 past_small low (q ∷ ps) (suc i) p h at = past_small (past_of q) ps i p h.2 at
 
-pub order-others : (to used low : ℕ) (ps : List Piece) → InOrder low ps → InOrder 0 (others to used ps)
-order-others to used low [] h = tt
-order-others to used low (p ∷ ps) h = elim (cases_Bool (fits to used p)) [
+pub order_others : (to used low : ℕ) (ps : List Piece) → InOrder low ps → InOrder 0 (others to used ps)
+order_others to used low [] h = tt
+order_others to used low (p ∷ ps) h = elim (cases_Bool (fits to used p)) [
   | inl is ↦ rw is (lower (past_of p) ps h.2)
   | inr no' ↦ rw no' (lower low (p ∷ ps) h)
 ]
 
-pub order-left : (to used low : ℕ) (ps : List Piece) → InOrder low ps → InOrder 0 (left to used ps)
-order-left to used low [] h = tt
-order-left to used low (p ∷ ps) h = elim (cases_Bool (fits to used p)) [
-  | inl is ↦ rw is (order-left (to + length p.bytes) (used + length p.bytes) (past_of p) ps h.2)
+pub order_left : (to used low : ℕ) (ps : List Piece) → InOrder low ps → InOrder 0 (left to used ps)
+order_left to used low [] h = tt
+order_left to used low (p ∷ ps) h = elim (cases_Bool (fits to used p)) [
+  | inl is ↦ rw is (order_left (to + length p.bytes) (used + length p.bytes) (past_of p) ps h.2)
   | inr no' ↦ rw no' (lower low (p ∷ ps) h)
 ]
 
 -- one piece of a run
-pub run-step : (to used : ℕ) (ps : List Piece) (p : Piece) → Some p ≡ front_piece to used ps →
+pub run_step : (to used : ℕ) (ps : List Piece) (p : Piece) → Some p ≡ front_piece to used ps →
     (left to used ps ≡ left (to + length p.bytes) (used + length p.bytes) (others to used ps))
     × (run to used ps ≡ p ∷ run (to + length p.bytes) (used + length p.bytes) (others to used ps))
-run-step to used [] p at = cc
-run-step to used (q ∷ ps) p at = elim (cases_Bool (fits to used q)) [
+run_step to used [] p at = cc
+run_step to used (q ∷ ps) p at = elim (cases_Bool (fits to used q)) [
   | inl is ↦
       let e : q ≡ p = (let here : Some p ≡ Some q = rw is at at in cc) in
       subst (λ (y : Piece). (left to used (q ∷ ps) ≡ left (to + length y.bytes) (used + length y.bytes) (others to used (q ∷ ps)))
@@ -48,41 +48,41 @@ run-step to used (q ∷ ps) p at = elim (cases_Bool (fits to used q)) [
 ]
 
 -- the whole run, as what is gathered
-continues-run : (next used : ℕ) (ps : List Piece) → Continues next (run next used ps)
-continues-run next used [] = tt
-continues-run next used (p ∷ ps) = elim (cases_Bool (fits next used p)) [
-  | inl is ↦ rw is (eqb-true p.start next (and_parts (p.start == next) (nat_le (used + length p.bytes) MAX_BODY) is).0, continues-run (next + length p.bytes) (used + length p.bytes) ps)
+continues_run : (next used : ℕ) (ps : List Piece) → Continues next (run next used ps)
+continues_run next used [] = tt
+continues_run next used (p ∷ ps) = elim (cases_Bool (fits next used p)) [
+  | inl is ↦ rw is (eqb-true p.start next (and_parts (p.start == next) (nat_le (used + length p.bytes) MAX_BODY) is).0, continues_run (next + length p.bytes) (used + length p.bytes) ps)
   | inr no' ↦ rw no' tt
 ]
 
-run-left : (next used : ℕ) (ps : List Piece) → ps ≡ run next used ps ++ left next used ps
-run-left next used [] = refl
-run-left next used (p ∷ ps) = elim (cases_Bool (fits next used p)) [
-  | inl is ↦ rw is (ap (λ (l : List Piece). p ∷ l) (run-left (next + length p.bytes) (used + length p.bytes) ps))
+run_left : (next used : ℕ) (ps : List Piece) → ps ≡ run next used ps ++ left next used ps
+run_left next used [] = refl
+run_left next used (p ∷ ps) = elim (cases_Bool (fits next used p)) [
+  | inl is ↦ rw is (ap (λ (l : List Piece). p ∷ l) (run_left (next + length p.bytes) (used + length p.bytes) ps))
   | inr no' ↦ rw no' refl
 ]
 
-run-fits : (next used : ℕ) (ps : List Piece) → (run next used ps ≡ []) ⊎ (used + length (bytes_of (run next used ps)) ≤ MAX_BODY)
-run-fits next used [] = inl refl
-run-fits next used (p ∷ ps) = elim (cases_Bool (fits next used p)) [
+run_fits : (next used : ℕ) (ps : List Piece) → (run next used ps ≡ []) ⊎ (used + length (bytes_of (run next used ps)) ≤ MAX_BODY)
+run_fits next used [] = inl refl
+run_fits next used (p ∷ ps) = elim (cases_Bool (fits next used p)) [
   | inl is ↦
       let small = leb-true (used + length p.bytes) MAX_BODY (and_parts (p.start == next) (nat_le (used + length p.bytes) MAX_BODY) is).1 in
-      rw is (inr (elim (run-fits (next + length p.bytes) (used + length p.bytes) ps) [
+      rw is (inr (elim (run_fits (next + length p.bytes) (used + length p.bytes) ps) [
         | inl none ↦ rw none (let n = length-append p.bytes [] in omega (arith, n, small))
         | inr more ↦ let n = length-append p.bytes (bytes_of (run (next + length p.bytes) (used + length p.bytes) ps)) in omega (arith, n, more)
       ]))
   | inr no' ↦ rw no' (inl refl)
 ]
 
-run-stops : (next used : ℕ) (ps : List Piece) → Stops (next + length (bytes_of (run next used ps))) (used + length (bytes_of (run next used ps))) (left next used ps)
-run-stops next used [] = tt
-run-stops next used (p ∷ ps) = elim (cases_Bool (fits next used p)) [
+run_stops : (next used : ℕ) (ps : List Piece) → Stops (next + length (bytes_of (run next used ps))) (used + length (bytes_of (run next used ps))) (left next used ps)
+run_stops next used [] = tt
+run_stops next used (p ∷ ps) = elim (cases_Bool (fits next used p)) [
   | inl is ↦
       let more = bytes_of (run (next + length p.bytes) (used + length p.bytes) ps) in
       let n = length-append p.bytes more in
       let a : next + length (p.bytes ++ more) ≡ next + length p.bytes + length more = omega (arith, n) in
       let b : used + length (p.bytes ++ more) ≡ used + length p.bytes + length more = omega (arith, n) in
-      rw (is, a, b) (run-stops (next + length p.bytes) (used + length p.bytes) ps)
+      rw (is, a, b) (run_stops (next + length p.bytes) (used + length p.bytes) ps)
   | inr no' ↦ rw no' (λ at small.
       let there : (p.start == next) ≡ true = eq-eqb p.start next (let z : next + 0 ≡ next = omega arith in at ∙ z) in
       let fit : nat_le (used + length p.bytes) MAX_BODY ≡ true = le-leb (used + length p.bytes) MAX_BODY (omega (arith, small)) in
@@ -95,10 +95,10 @@ gathered next ps body =
     let n = length-append body (bytes_of (run next (length body) ps)) in
     record {
       taken = run next (length body) ps;
-      front = run-left next (length body) ps;
-      continues = continues-run next (length body) ps;
+      front = run_left next (length body) ps;
+      continues = continues_run next (length body) ps;
       bytes = refl;
       past = refl;
-      fits = rw n (run-fits next (length body) ps);
-      stops = rw n (run-stops next (length body) ps);
+      fits = rw n (run_fits next (length body) ps);
+      stops = rw n (run_stops next (length body) ps);
     }

@@ -9,8 +9,9 @@ use Rattle.tau_pool.specs.First.{first_from, reach_one}
 use Rattle.tau_pool.specs.Passing.{is_passed, Behind, Ordered}
 use Rattle.tau_pool.specs.Kept.{AreWithin, IsReached}
 use Rattle.tau_pool.specs.Pooled.{IsRecovered}
-use Rattle.tau_pool.proofs.Gets.{some_is, get_within, get_member, get_there}
-use Rattle.tau_pool.proofs.Passes.{above, not_above}
+use Rattle.tau_pool.proofs.Gets.{get_member}
+use Rattle.tau_base.proofs.Lists.{some_at, got_within}
+use Rattle.tau_base.proofs.Logic.{some_is, below_of_true, at_most_of_false}
 
 module _ (j : ℕ) where
   pub step_first : (n : ℕ) (z : Item) (zs : List Item) → is_passed j z ≡ true → first_from j n (z ∷ zs) ≡ first_from j (suc n) zs
@@ -72,7 +73,7 @@ module _ (j : ℕ) where
       done lt = rw (low lt) refl
 
       by_tests : (b c : Bool) → nat_lt x.stream j ≡ b → (x.stream == j) ≡ c → (if b then true else (if c then (if is_left x.stage then false else true) else false)) ≡ true → is_passed (j + 1) x ≡ true
-      by_tests true c e f is = let lt = above x.stream j e in done (omega (arith, lt))
+      by_tests true c e f is = let lt = below_of_true x.stream j e in done (omega (arith, lt))
       by_tests false true e f is = let same = eqb-true x.stream j f in done (omega (arith, same))
       by_tests false false e f is = absurd cc
 
@@ -91,7 +92,7 @@ module _ (j : ℕ) where
     where
       low : (b : Bool) → nat_lt x.stream j ≡ b → (if b then true else (if x.stream == j then (if is_left x.stage then false else true) else false)) ≡ false → j ≤ x.stream
       low true e is = absurd cc
-      low false e is = not_above x.stream j e
+      low false e is = at_most_of_false x.stream j e
 
       left : (b c d : Bool) → c ≡ true → (if b then true else (if c then (if d then false else true) else false)) ≡ false → d ≡ true
       left true c d e is = absurd cc
@@ -108,7 +109,7 @@ module _ (j : ℕ) where
         | inl lt ↦ absurd (absurd_passed (before_first 0 items i x (omega (arith, lt)) there))
         | inr le ↦ le
       ] in
-      let (z, here) = get_there items m (omega (arith, low, get_within items i x there)) in
+      let (z, here) = some_at items m (omega (arith, low, got_within items i x there)) in
       let here_open = open_left z (at_first 0 items m z (omega arith) here) in
       elim (cases_eq m i) [
         | inl e ↦

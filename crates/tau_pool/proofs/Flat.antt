@@ -10,31 +10,31 @@ use Rattle.std.proofs.Math.Seq.{drop-append_seam}
 use Rattle.tau_pool.specs.Item.{Item}
 use Rattle.tau_pool.specs.declared.items.Row.{Row}
 use Rattle.tau_pool.specs.Flat.{vector_of, item_at, IsRow}
-use Rattle.tau_pool.proofs.Gets.{some_is}
+use Rattle.tau_base.proofs.Logic.{some_is}
 
 -- a vector stays where more positions come after it
-vector-stays : (ps more : List ℕ) (r : Row) → IsRow ps r → vector_of (ps ++ more) r ≡ vector_of ps r
-vector-stays ps more r is =
+vector_stays : (ps more : List ℕ) (r : Row) → IsRow ps r → vector_of (ps ++ more) r ≡ vector_of ps r
+vector_stays ps more r is =
     let long = length-drop r.at ps in
     ap (take r.width) (drop-append-le r.at ps more (omega (arith, is.within)))
     ∙ take-append-le r.width (drop r.at ps) more (omega (arith, is.within, long))
 
-item-stays : (ps more : List ℕ) (r : Row) → IsRow ps r → item_at (ps ++ more) r ≡ item_at ps r
-item-stays ps more r is = let e = vector-stays ps more r is in λ i. record { stream = r.stream; index = r.index; start = r.start; dep = e i; stage = r.stage }
+item_stays : (ps more : List ℕ) (r : Row) → IsRow ps r → item_at (ps ++ more) r ≡ item_at ps r
+item_stays ps more r is = let e = vector_stays ps more r is in λ i. record { stream = r.stream; index = r.index; start = r.start; dep = e i; stage = r.stage }
 
-items-stay : (ps more : List ℕ) (rs : List Row) → All (IsRow ps) rs → map (item_at (ps ++ more)) rs ≡ map (item_at ps) rs
-items-stay ps more [] all = refl
-items-stay ps more (r ∷ rs) all =
-    let here = item-stays ps more r (all 0 r (omega arith)) in
-    let rest = items-stay ps more rs (λ k d lt. all (suc k) d (omega (arith, lt))) in
+items_stay : (ps more : List ℕ) (rs : List Row) → All (IsRow ps) rs → map (item_at (ps ++ more)) rs ≡ map (item_at ps) rs
+items_stay ps more [] all = refl
+items_stay ps more (r ∷ rs) all =
+    let here = item_stays ps more r (all 0 r (omega arith)) in
+    let rest = items_stay ps more rs (λ k d lt. all (suc k) d (omega (arith, lt))) in
     λ i. here i ∷ rest i
 
-row-stays : (ps more : List ℕ) (r : Row) → IsRow ps r → IsRow (ps ++ more) r
-row-stays ps more r is = record { within = let h = is.within in let e = length-append ps more in omega (arith, h, e) }
+row_stays : (ps more : List ℕ) (r : Row) → IsRow ps r → IsRow (ps ++ more) r
+row_stays ps more r is = record { within = let h = is.within in let e = length-append ps more in omega (arith, h, e) }
 
 -- the vector whose positions were put at the end
-vector-put : (ps vs : List ℕ) (r : Row) → r.at ≡ length ps → r.width ≡ length vs → vector_of (ps ++ vs) r ≡ vs
-vector-put ps vs r at wide =
+vector_put : (ps vs : List ℕ) (r : Row) → r.at ≡ length ps → r.width ≡ length vs → vector_of (ps ++ vs) r ≡ vs
+vector_put ps vs r at wide =
     ap (λ (k : ℕ). take r.width (drop k (ps ++ vs))) at
     ∙ ap (take r.width) (drop-append_seam ps vs)
     ∙ take_all r.width vs (omega (arith, wide))
@@ -43,23 +43,23 @@ vector-put ps vs r at wide =
 abbrev pub with_vector : List ℕ → Row → Item
 with_vector vs r = record { stream = r.stream; index = r.index; start = r.start; dep = vs; stage = r.stage }
 
-pub items-put : (ps vs : List ℕ) (rs : List Row) (r : Row) → All (IsRow ps) rs → r.at ≡ length ps → r.width ≡ length vs
+pub items_put : (ps vs : List ℕ) (rs : List Row) (r : Row) → All (IsRow ps) rs → r.at ≡ length ps → r.width ≡ length vs
     → map (item_at (ps ++ vs)) (rs ++ r ∷ []) ≡ map (item_at ps) rs ++ with_vector vs r ∷ []
-items-put ps vs rs r all at wide =
-    let e = vector-put ps vs r at wide in
+items_put ps vs rs r all at wide =
+    let e = vector_put ps vs r at wide in
     map-append (item_at (ps ++ vs)) rs (r ∷ [])
-    ∙ (λ i. items-stay ps vs rs all i ++ with_vector (e i) r ∷ [])
+    ∙ (λ i. items_stay ps vs rs all i ++ with_vector (e i) r ∷ [])
 
-pub rows-put : (ps vs : List ℕ) (rs : List Row) (r : Row) → All (IsRow ps) rs → r.at ≡ length ps → r.width ≡ length vs → All (IsRow (ps ++ vs)) (rs ++ r ∷ [])
-rows-put ps vs rs r all at wide = All-push (IsRow (ps ++ vs)) rs r (λ k d lt. row-stays ps vs _ (all k d lt))
+pub rows_put : (ps vs : List ℕ) (rs : List Row) (r : Row) → All (IsRow ps) rs → r.at ≡ length ps → r.width ≡ length vs → All (IsRow (ps ++ vs)) (rs ++ r ∷ [])
+rows_put ps vs rs r all at wide = All-push (IsRow (ps ++ vs)) rs r (λ k d lt. row_stays ps vs _ (all k d lt))
     (record { within = let e = length-append ps vs in omega (arith, e, at, wide) })
 
 -- ---- the record of a row
 
-pub item-there : (ps : List ℕ) (rs : List Row) (i : ℕ) (r : Row) → slice_get rs i ≡ Some r → slice_get (map (item_at ps) rs) i ≡ Some (item_at ps r)
-item-there ps [] i r is = absurd cc
-item-there ps (q ∷ rs) zero r is = ap (λ (z : Row). Some (item_at ps z)) (some_is q r is)
-item-there ps (q ∷ rs) (suc i) r is = item-there ps rs i r is
+pub item_there : (ps : List ℕ) (rs : List Row) (i : ℕ) (r : Row) → slice_get rs i ≡ Some r → slice_get (map (item_at ps) rs) i ≡ Some (item_at ps r)
+item_there ps [] i r is = absurd cc
+item_there ps (q ∷ rs) zero r is = ap (λ (z : Row). Some (item_at ps z)) (some_is q r is)
+item_there ps (q ∷ rs) (suc i) r is = item_there ps rs i r is
 
 -- where the list is that of the rows, the record at the place of a row is that of the row
 pub record Stands (xs : List Item) (ps : List ℕ) (i : ℕ) (r : Row) : Type 0 where
@@ -73,7 +73,7 @@ stands xs ps rs i r view all lt at =
     let long : length xs ≡ length rs = ap (λ (ys : List Item). length ys) (sym view) ∙ length-map rs (item_at ps) in
     let low : i < length rs = omega (arith, lt, long) in
     let here : slice_get rs i ≡ Some r = slice_get_read rs (length rs) i r refl low at in
-    let there : slice_get xs i ≡ Some (item_at ps r) = subst (λ (ys : List Item). slice_get ys i ≡ Some (item_at ps r)) view (item-there ps rs i r here) in
+    let there : slice_get xs i ≡ Some (item_at ps r) = subst (λ (ys : List Item). slice_get ys i ≡ Some (item_at ps r)) view (item_there ps rs i r here) in
     record {
       there = there;
       is = λ x is. some_is (item_at ps r) x (sym there ∙ is);
@@ -81,7 +81,7 @@ stands xs ps rs i r view all lt at =
       low = lt;
     }
 
-pub items-set : (ps : List ℕ) (rs : List Row) (i : ℕ) (r : Row) → map (item_at ps) (set rs i r) ≡ set (map (item_at ps) rs) i (item_at ps r)
-items-set ps [] i r = refl
-items-set ps (q ∷ rs) zero r = refl
-items-set ps (q ∷ rs) (suc i) r = ap (λ (ys : List Item). item_at ps q ∷ ys) (items-set ps rs i r)
+pub items_set : (ps : List ℕ) (rs : List Row) (i : ℕ) (r : Row) → map (item_at ps) (set rs i r) ≡ set (map (item_at ps) rs) i (item_at ps r)
+items_set ps [] i r = refl
+items_set ps (q ∷ rs) zero r = refl
+items_set ps (q ∷ rs) (suc i) r = ap (λ (ys : List Item). item_at ps q ∷ ys) (items_set ps rs i r)

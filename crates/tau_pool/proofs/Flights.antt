@@ -6,13 +6,14 @@ use Rattle.tau_pool.specs.declared.item.Job.{Job}
 use Rattle.tau_pool.specs.declared.item.Stage.TheVariants.{Flying, Finished}
 use Rattle.tau_pool.specs.Items.{is_flying}
 use Rattle.tau_pool.specs.Pooled.{Pooled, IsStarted, IsFlying, IsFinished, staged}
-use Rattle.tau_pool.proofs.Gets.{some_is, get_within, get_set_same, get_set_other}
 use Rattle.tau_pool.proofs.Keeping.{waiting_flies}
+use Rattle.tau_base.proofs.Logic.{some_is}
+use Rattle.tau_base.proofs.Lists.{got_within, get_set_same, get_set_other}
 
 pub flying_new : (p : Pooled) (job : Job) (q : Pooled) → IsStarted p job q → IsFlying q job
 flying_new p job q s = subst (λ (z : Pooled). IsFlying z job) (sym s.new) (record {
   item = staged Flying s.item;
-  there = get_set_same p.items job.place (staged Flying s.item) (get_within p.items job.place s.item s.there);
+  there = get_set_same p.items job.place (staged Flying s.item) (got_within p.items job.place s.item s.there);
   started = refl;
   named = s.named;
 })

@@ -14,17 +14,18 @@ use Rattle.tau_pool.specs.First.{first_from, reach_one}
 use Rattle.tau_pool.specs.Passing.{is_passed, wait_of}
 use Rattle.tau_pool.specs.Pooled.{staged, IsRecovered}
 use Rattle.tau_pool.specs.Kept.{IsWithin, AreWithin, IsReached, AreQueued, IsKept, waits_in}
-use Rattle.tau_pool.proofs.Gets.{get_within, member_split}
-use Rattle.tau_pool.proofs.Counts.{waiting-set, flying-set, one}
+use Rattle.tau_pool.proofs.Gets.{member_split}
+use Rattle.tau_pool.proofs.Counts.{waiting_set, flying_set, one}
 use Rattle.tau_pool.proofs.Stages.{found_set, ordered_set, first_set, reach_set, same_passed, finished_passed, other_passed}
 use Rattle.tau_pool.proofs.Firsts.{recovered, before_first, first_bounds, first_skip, at_first, open_left}
+use Rattle.tau_base.proofs.Lists.{got_within}
 
-waiting_left : (s : Stage) → is_waiting s ≡ true → is_left s ≡ true
+pub waiting_left : (s : Stage) → is_waiting s ≡ true → is_left s ≡ true
 waiting_left Waiting is = refl
 waiting_left Flying is = absurd cc
 waiting_left Finished is = absurd cc
 
-flying_left : (s : Stage) → is_flying s ≡ true → is_left s ≡ true
+pub flying_left : (s : Stage) → is_flying s ≡ true → is_left s ≡ true
 flying_left Waiting is = absurd cc
 flying_left Flying is = refl
 flying_left Finished is = absurd cc
@@ -40,7 +41,7 @@ flying_waits Flying is = refl
 flying_waits Finished is = absurd cc
 
 pub within_set : (ends : List ℕ) (items : List Item) (i : ℕ) (x : Item) (s : Stage) → slice_get items i ≡ Some x → AreWithin ends items → AreWithin ends (set items i (staged s x))
-within_set ends items i x s there within k z is = elim (found_set items i (staged s x) k z (get_within items i x there) is) [
+within_set ends items i x s there within k z is = elim (found_set items i (staged s x) k z (got_within items i x there) is) [
   | inl a ↦ let w = within i x there in subst (λ (q : Item). IsWithin ends q) a.1 (record { stream = w.stream; start = w.start; taken = w.taken })
   | inr b ↦ within k z b.1
 ]
@@ -57,7 +58,7 @@ module _ (ends rlv : List ℕ) (items : List Item) (waits : List (List Wait)) (n
     counts = k.counts;
     listed = record {
       rising = k.listed.rising;
-      listed = λ n p z lt is above. elim (found_set items i (staged Flying x) p z (get_within items i x there) is) [
+      listed = λ n p z lt is above. elim (found_set items i (staged Flying x) p z (got_within items i x there) is) [
         | inl a ↦ subst (λ (q : Item). Member (wait_of n p q) (waits_in waits n)) a.1
             (subst (λ (m : ℕ). Member (wait_of n m x) (waits_in waits n)) (sym a.0) (k.listed.listed n i x lt there (subst (λ (q : Item). slice_index rlv n < slice_index q.dep n) (sym a.1) above)))
         | inr b ↦ k.listed.listed n p z lt b.1 above
@@ -66,7 +67,7 @@ module _ (ends rlv : List ℕ) (items : List Item) (waits : List (List Wait)) (n
     met = record {
       upto = k.met.upto;
       met = k.met.met;
-      unmet = λ p z is w covered. elim (found_set items i (staged Flying x) p z (get_within items i x there) is) [
+      unmet = λ p z is w covered. elim (found_set items i (staged Flying x) p z (got_within items i x there) is) [
         | inl a ↦ let other : is_waiting z.stage ≡ false = ap (λ (q : Item). is_waiting q.stage) (sym a.1) in absurd cc
         | inr b ↦ k.met.unmet p z b.1 w covered
       ];
@@ -85,8 +86,8 @@ module _ (ends rlv : List ℕ) (items : List Item) (waits : List (List Wait)) (n
       reached = λ j lt. k.reached.reached j lt ∙ sym (reach_set Flying j (slice_index ends j) items i x (slice_index nexts j) there);
     };
     queued = λ e. queued_flies (k.queued e) there waits_is;
-    unstarted = let c = waiting-set items i x (staged Flying x) there in let o : one (is_waiting x.stage) ≡ 1 = ap one waits_is in omega (arith, c, o, k.unstarted);
-    started = let c = flying-set items i x (staged Flying x) there in let o : one (is_flying x.stage) ≡ 0 = ap one (waiting_flies x.stage waits_is) in omega (arith, c, o, k.started);
+    unstarted = let c = waiting_set items i x (staged Flying x) there in let o : one (is_waiting x.stage) ≡ 1 = ap one waits_is in omega (arith, c, o, k.unstarted);
+    started = let c = flying_set items i x (staged Flying x) there in let o : one (is_flying x.stage) ≡ 0 = ap one (waiting_flies x.stage waits_is) in omega (arith, c, o, k.started);
   }
 
   -- ---- a record is finished
@@ -104,7 +105,7 @@ module _ (ends rlv : List ℕ) (items : List Item) (waits : List (List Wait)) (n
         let m : ℕ = slice_index nexts j in
         let is = k.reached.firsts j lt in
         let high = (first_bounds j 0 items).1 in
-        first_skip j 0 m done (omega (arith, is, high, length-set items i (staged Finished x))) (λ p z low here. elim (found_set items i (staged Finished x) p z (get_within items i x there) here) [
+        first_skip j 0 m done (omega (arith, is, high, length-set items i (staged Finished x))) (λ p z low here. elim (found_set items i (staged Finished x) p z (got_within items i x there) here) [
           | inl a ↦ subst (λ (q : Item). is_passed j q ≡ true) a.1 (finished_passed j x (before_first j 0 items i x (omega (arith, low, is, a.0)) there))
           | inr b ↦ before_first j 0 items p z (omega (arith, low, is)) b.1
         ]) ∙ ap (λ (n : ℕ). first_from j n (drop m done)) (omega arith)
@@ -172,7 +173,7 @@ module _ (ends rlv : List ℕ) (items : List Item) (waits : List (List Wait)) (n
                   let is_same : z.stream ≡ x.stream = eqb-true z.stream x.stream same in
                   let first : first_from x.stream 0 done ≡ 0 + next = still_first x.stream lt_stream ∙ sym next_is ∙ omega arith in
                   let still = open_left x.stream z (at_first x.stream 0 done next z first here) in
-                  elim (found_set items i (staged Finished x) next z (get_within items i x there) here) [
+                  elim (found_set items i (staged Finished x) next z (got_within items i x there) here) [
                     | inl a ↦ let off : is_left z.stage ≡ false = ap (λ (q : Item). is_left q.stage) (sym a.1) in let on = still.1 is_same in absurd cc
                     | inr b ↦ let low = before.below next z b.1 (still.1 is_same) in let at : slice_index rlv z.stream ≡ slice_index rlv x.stream = ap (λ (n : ℕ). slice_index rlv n) is_same in omega (arith, low, at, e)
                   ]
@@ -218,7 +219,7 @@ module _ (ends rlv : List ℕ) (items : List Item) (waits : List (List Wait)) (n
         counts = q.counts;
         listed = record {
           rising = q.listed.rising;
-          listed = λ n p z lt is above. let up = rises n in elim (found_set items i (staged Finished x) p z (get_within items i x there) is) [
+          listed = λ n p z lt is above. let up = rises n in elim (found_set items i (staged Finished x) p z (got_within items i x there) is) [
             | inl a ↦ subst (λ (y : Item). Member (wait_of n p y) (waits_in waits n)) a.1
                 (subst (λ (m : ℕ). Member (wait_of n m x) (waits_in waits n)) (sym a.0) (q.listed.listed n i x lt there (let high : slice_index rlv' n < slice_index x.dep n = subst (λ (y : Item). slice_index rlv' n < slice_index y.dep n) (sym a.1) above in omega (arith, high, up))))
             | inr b ↦ q.listed.listed n p z lt b.1 (omega (arith, above, up))
@@ -227,7 +228,7 @@ module _ (ends rlv : List ℕ) (items : List Item) (waits : List (List Wait)) (n
         met = record {
           upto = λ n lt. q.met.upto n (omega (arith, lt, length-set rlv x.stream reach));
           met = λ n w lt m. let low = q.met.met n w (omega (arith, lt, length-set rlv x.stream reach)) m in let up = rises n in omega (arith, low, up);
-          unmet = λ p z is w covered. elim (found_set items i (staged Finished x) p z (get_within items i x there) is) [
+          unmet = λ p z is w covered. elim (found_set items i (staged Finished x) p z (got_within items i x there) is) [
             | inl a ↦ let off : is_waiting z.stage ≡ false = ap (λ (y : Item). is_waiting y.stage) (sym a.1) in absurd cc
             | inr b ↦ let (n, lt, m) = where_it_waits q p z b.1 w (length ends) (omega arith) (λ j le. beyond_ends p z b.1 j le) in (n, omega (arith, lt, length-set rlv x.stream reach), m)
           ];
@@ -243,6 +244,6 @@ module _ (ends rlv : List ℕ) (items : List Item) (waits : List (List Wait)) (n
         within = within_set ends items i x Finished there k.within;
         reached = now_reached;
         queued = λ e. queued_done (k.queued e);
-        unstarted = let c = waiting-set items i x (staged Finished x) there in let o : one (is_waiting x.stage) ≡ 0 = ap one (flying_waits x.stage flies_is) in omega (arith, c, o, k.unstarted);
-        started = let c = flying-set items i x (staged Finished x) there in let o : one (is_flying x.stage) ≡ 1 = ap one flies_is in omega (arith, c, o, k.started);
+        unstarted = let c = waiting_set items i x (staged Finished x) there in let o : one (is_waiting x.stage) ≡ 0 = ap one (flying_waits x.stage flies_is) in omega (arith, c, o, k.unstarted);
+        started = let c = flying_set items i x (staged Finished x) there in let o : one (is_flying x.stage) ≡ 1 = ap one flies_is in omega (arith, c, o, k.started);
       }

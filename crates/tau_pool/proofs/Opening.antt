@@ -7,10 +7,10 @@ use Rattle.std.proofs.lemmas.Slice.Zip.{AllZip-long}
 use Rattle.tau_scan.specs.declared.log.Log.{Log}
 use Rattle.std.proofs.lemmas.Bool.Decides.{nat_tests}
 use Rattle.tau_base.specs.Vectors.{AtMost, covers}
-use Rattle.tau_base.proofs.Vectors.{covers-at_most}
+use Rattle.tau_base.proofs.Vectors.{covers_at_most}
 use Rattle.tau_model.specs.History.{Member}
 use Rattle.tau_model.specs.Reported.{put_in, ascending}
-use Rattle.tau_model.proofs.Sorting.{Rising, ascending-rising}
+use Rattle.tau_model.proofs.Sorting.{Rising, ascending_rising}
 use Rattle.tau_record.specs.declared.entry.Placed.{Placed}
 use Rattle.tau_record.specs.Format.{One}
 use Rattle.tau_record.specs.Record.{named, spelling}
@@ -25,7 +25,8 @@ use Rattle.tau_pool.specs.Passing.{wait_of, wait_at, waits_for, waits_at, Behind
 use Rattle.tau_pool.specs.Pooled.{waiting_in, flying_in}
 use Rattle.tau_pool.specs.Kept.{AreWithin, IsReached, AreQueued, IsKept, waits_in}
 use Rattle.tau_pool.proofs.Keeping.{waiting_flies}
-use Rattle.tau_pool.proofs.Gets.{some_is, get_member, member_either}
+use Rattle.tau_pool.proofs.Gets.{get_member, member_either}
+use Rattle.tau_base.proofs.Logic.{some_is, zeros}
 
 pub record OfStream (elv : List ℕ) (j low high : ℕ) (x : Item) : Type 0 where
   pub stream : x.stream ≡ j
@@ -41,7 +42,7 @@ item_is elv j i start (Some dep) x is = by_test (covers elv dep) refl is
     by_test : (b : Bool) → covers elv dep ≡ b → (if b then Some (record { stream = j; index = i; start = start; dep = dep; stage = Waiting }) else None) ≡ Some x →
         (x.stream ≡ j) × (x.start ≡ start) × AtMost x.dep elv × (is_waiting x.stage ≡ true)
     by_test true c e = subst (λ (q : Item). (q.stream ≡ j) × (q.start ≡ start) × AtMost q.dep elv × (is_waiting q.stage ≡ true)) (some_is (record { stream = j; index = i; start = start; dep = dep; stage = Waiting }) x e)
-        (refl, refl, covers-at_most elv dep c, refl)
+        (refl, refl, covers_at_most elv dep c, refl)
     by_test false c e = absurd cc
 
 abbrev Streamed : List ℕ → ℕ → ℕ → ℕ → List Item → Type 0
@@ -163,11 +164,6 @@ waits_own reach x = by_test (nat_lt reach (slice_index x.dep x.stream)) (eq-eqb 
     by_test true e = refl
     by_test false e = e
 
-zero_at : (n k : ℕ) → slice_index (replicate n 0) k ≡ 0
-zero_at zero k = refl
-zero_at (suc n) zero = refl
-zero_at (suc n) (suc k) = zero_at n k
-
 waits_is : (waits : List (List Wait)) (k : ℕ) (ws : List Wait) → slice_get waits k ≡ Some ws → waits_in waits k ≡ ws
 waits_is [] k ws is = absurd cc
 waits_is (y ∷ ys) zero ws is = some y ws is
@@ -197,7 +193,7 @@ queued ends rlv items waits passed wide many none within each = record {
   many = omega (arith, many, wide);
   counts = ap (λ (xs : List ℕ). length xs) none ∙ length-replicate {A = ℕ} (length rlv) 0 ∙ wide;
   listed = record {
-    rising = λ k lt. subst (λ (ws : List Wait). Rises ws) (sym (waits_is waits k _ (each k (omega (arith, lt, many))))) (rises (ascending wait_at (waits_at k (slice_index rlv k) 0 items)) (ascending-rising wait_at (waits_at k (slice_index rlv k) 0 items)));
+    rising = λ k lt. subst (λ (ws : List Wait). Rises ws) (sym (waits_is waits k _ (each k (omega (arith, lt, many))))) (rises (ascending wait_at (waits_at k (slice_index rlv k) 0 items)) (ascending_rising wait_at (waits_at k (slice_index rlv k) 0 items)));
     listed = λ k i x lt is above. there k i x (omega (arith, lt, wide)) is (waits_above k (slice_index rlv k) x above);
   };
   met = record {
@@ -212,7 +208,7 @@ queued ends rlv items waits passed wide many none within each = record {
 }
   where
     zero_of : (k : ℕ) → slice_index passed k ≡ 0
-    zero_of k = ap (λ (xs : List ℕ). slice_index xs k) none ∙ zero_at (length rlv) k
+    zero_of k = ap (λ (xs : List ℕ). slice_index xs k) none ∙ zeros (length rlv) k
 
     there : (k i : ℕ) (x : Item) → k < length rlv → slice_get items i ≡ Some x → waits_for k (slice_index rlv k) x ≡ true → Member (wait_of k i x) (waits_in waits k)
     there k i x lt is w =

@@ -7,7 +7,7 @@ use Rattle.std.proofs.lemmas.Bool.{cases_eq, cases_lt, and_from, and_parts}
 use Rattle.std.proofs.lemmas.Bool.Decides.{nat_tests}
 use Rattle.std.proofs.lemmas.List.{length-drop, get_or-set_same, get_or-set_other}
 use Rattle.tau_base.specs.Vectors.{AtMost, covers}
-use Rattle.tau_base.proofs.Vectors.{at_most-covers, covers-at_most}
+use Rattle.tau_base.proofs.Vectors.{at_most_covers, covers_at_most}
 use Rattle.tau_model.specs.History.{Member}
 use Rattle.tau_pool.specs.Item.{Item}
 use Rattle.tau_pool.specs.declared.waits.Wait.{Wait}
@@ -15,16 +15,11 @@ use Rattle.tau_pool.specs.declared.pass.Pass.{Pass}
 use Rattle.tau_pool.specs.Items.{is_waiting}
 use Rattle.tau_pool.specs.Passing.{is_ready_one, is_ready, pass_from, wait_of, Rises}
 use Rattle.tau_pool.specs.Kept.{IsMet, AreRising, waits_in}
-use Rattle.tau_pool.proofs.Gets.{some_is, member_split, member_either, drop_more}
-
-pub above : (a b : ℕ) → nat_lt a b ≡ true → a < b
-above a b e = grind (arith, nat_tests)
-
-pub not_above : (a b : ℕ) → nat_lt a b ≡ false → b ≤ a
-not_above a b e = grind (arith, nat_tests)
+use Rattle.tau_pool.proofs.Gets.{member_split, member_either, drop_more}
+use Rattle.tau_base.proofs.Logic.{some_is, below_of_true, at_most_of_false}
 
 pub ready_is : (items : List Item) (rlv : List ℕ) (i : ℕ) (x : Item) → slice_get items i ≡ Some x → is_waiting x.stage ≡ true → AtMost x.dep rlv → is_ready items rlv i ≡ true
-ready_is items rlv i x there waiting covered = rw there (and_from (is_waiting x.stage) (covers rlv x.dep) waiting (at_most-covers rlv x.dep covered))
+ready_is items rlv i x there waiting covered = rw there (and_from (is_waiting x.stage) (covers rlv x.dep) waiting (at_most_covers rlv x.dep covered))
 
 pub record Passed (items : List Item) (rlv : List ℕ) (reach p : ℕ) (ws : List Wait) (r : Pass) : Type 0 where
   pub by : ℕ
@@ -74,12 +69,12 @@ module _ (items : List Item) (rlv : List ℕ) (reach : ℕ) where
     where
       by_tests : Passed items rlv reach (suc p) ws (pass_from items rlv reach (suc p) ws) → (b c : Bool) → nat_lt reach w.at ≡ b → is_ready items rlv w.item ≡ c →
           Passed items rlv reach p (w ∷ ws) (if b then record { passed = p; found = None } else (if c then record { passed = p; found = Some w.item } else pass_from items rlv reach (suc p) ws))
-      by_tests more true c far is = stopped p (w ∷ ws) (λ v rises m. let here = above reach w.at far in elim m [
+      by_tests more true c far is = stopped p (w ∷ ws) (λ v rises m. let here = below_of_true reach w.at far in elim m [
         | inl e ↦ subst (λ (u : Wait). reach < u.at) e here
         | inr n ↦ let next = rises.0 v n in omega (arith, here, next)
       ])
       by_tests more false true far is = ready_here p w ws is
-      by_tests more false false far is = one_more p w ws (pass_from items rlv reach (suc p) ws) (not_above reach w.at far) is more
+      by_tests more false false far is = one_more p w ws (pass_from items rlv reach (suc p) ws) (at_most_of_false reach w.at far) is more
 
 -- ---- a cursor moves on
 
@@ -162,7 +157,7 @@ pass_is items rlv waits passed k reach p ws r is reach_is p_is ws_is =
     subst (λ (q : Pass). Passed items rlv (slice_index rlv k) (slice_index passed k) (drop (slice_index passed k) (waits_in waits k)) q) (sym (is ∙ all))
     (passes items rlv (slice_index rlv k) (drop (slice_index passed k) (waits_in waits k)) (slice_index passed k))
 
--- what is still to be met is above what is recovered, so nothing is ready
+-- what is still to be met is below_of_true what is recovered, so nothing is ready
 pub none_ready : (rlv : List ℕ) (items : List Item) (waits : List (List Wait)) (passed : List ℕ) (n : ℕ) → length rlv ≤ n → IsMet rlv items waits passed →
     ((k : ℕ) (w : Wait) → k < n → Member w (drop (slice_index passed k) (waits_in waits k)) → slice_index rlv k < w.at) →
     (i : ℕ) (x : Item) → slice_get items i ≡ Some x → is_waiting x.stage ≡ true → AtMost x.dep rlv → ⊥
@@ -177,4 +172,4 @@ ready_inv items rlv i is = by_get (slice_get items i) refl is
   where
     by_get : (o : Option Item) → slice_get items i ≡ o → is_ready_one rlv o ≡ true → (x : Item) × (slice_get items i ≡ Some x) × (is_waiting x.stage ≡ true) × AtMost x.dep rlv
     by_get None there is = absurd cc
-    by_get (Some x) there is = let both = and_parts (is_waiting x.stage) (covers rlv x.dep) is in (x, there, both.0, covers-at_most rlv x.dep both.1)
+    by_get (Some x) there is = let both = and_parts (is_waiting x.stage) (covers rlv x.dep) is in (x, there, both.0, covers_at_most rlv x.dep both.1)

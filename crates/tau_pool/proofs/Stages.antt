@@ -11,7 +11,9 @@ use Rattle.tau_pool.specs.Items.{is_left}
 use Rattle.tau_pool.specs.First.{first_from, reach_one}
 use Rattle.tau_pool.specs.Passing.{is_passed, Behind, Ordered}
 use Rattle.tau_pool.specs.Pooled.{staged}
-use Rattle.tau_pool.proofs.Gets.{some_is, get_within, get_member, get_set_same, get_set_other}
+use Rattle.tau_pool.proofs.Gets.{get_member}
+use Rattle.tau_base.proofs.Logic.{some_is}
+use Rattle.tau_base.proofs.Lists.{got_within, get_set_same, get_set_other}
 
 -- what is found in the list with the record at another stage
 pub found_set : (items : List Item) (i : ℕ) (y : Item) (k : ℕ) (z : Item) → i < length items → slice_get (set items i y) k ≡ Some z → ((k ≡ i) × (y ≡ z)) ⊎ ((k ≢ i) × (slice_get items k ≡ Some z))
@@ -45,7 +47,7 @@ first_set j n (z ∷ zs) (suc i) x y is same = ap (λ (m : ℕ). if is_passed j 
 
 pub reach_set : (s : Stage) (j e : ℕ) (items : List Item) (i : ℕ) (x : Item) (m : ℕ) → slice_get items i ≡ Some x → reach_one j e (slice_get (set items i (staged s x)) m) ≡ reach_one j e (slice_get items m)
 reach_set s j e items i x m is = elim (cases_eq m i) [
-  | inl same ↦ rw (same, get_set_same items i (staged s x) (get_within items i x is), is) refl
+  | inl same ↦ rw (same, get_set_same items i (staged s x) (got_within items i x is), is) refl
   | inr other ↦ rw (get_set_other items i m (staged s x) other) refl
 ]
 

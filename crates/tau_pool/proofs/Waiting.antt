@@ -4,7 +4,7 @@ use Rattle.std.specs.Prelude.{Some, slice_get}
 use Rattle.tau_pool.specs.Item.{Item}
 use Rattle.tau_pool.specs.declared.waits.Wait.{Wait}
 use Rattle.tau_pool.specs.Passing.{wait_of, waits_for, waits_at}
-use Rattle.tau_pool.proofs.Gets.{drop_at}
+use Rattle.tau_base.proofs.Lists.{drop_at}
 
 module _ (k reach : ℕ) (items : List Item) (i : ℕ) (x : Item) (there : slice_get items i ≡ Some x) where
   next : suc i ≡ i + 1

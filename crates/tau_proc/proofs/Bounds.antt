@@ -16,12 +16,12 @@ use Rattle.tau_proc.specs.declared.step.Step.TheVariants as step
 use Rattle.tau_proc.specs.Limits.{is_register, operand_fits, step_fits}
 use Rattle.tau_proc.specs.Meaning.{Running, value_of, holds, smaller, greater, in_range, Action, Go, Ask, Refuse, become, computed, joined, read_at, got, stored, needed, chosen, does_of, does, skipped, action}
 
-pub length-put : (k : Key) (v : Value) (xs : List (Key × Value)) → length (put key_cmp k v xs) ≤ length xs + 1
-length-put k v [] = omega arith
-length-put k v (x ∷ xs) = elim (key_cmp k x.0) as (λ o. length (by_order o ((k, v) ∷ x ∷ xs) ((x.0, v) ∷ xs) (x ∷ put key_cmp k v xs)) ≤ suc (length xs) + 1) [
+pub length_put : (k : Key) (v : Value) (xs : List (Key × Value)) → length (put key_cmp k v xs) ≤ length xs + 1
+length_put k v [] = omega arith
+length_put k v (x ∷ xs) = elim (key_cmp k x.0) as (λ o. length (by_order o ((k, v) ∷ x ∷ xs) ((x.0, v) ∷ xs) (x ∷ put key_cmp k v xs)) ≤ suc (length xs) + 1) [
   | Less ↦ omega arith
   | Equal ↦ omega arith
-  | Greater ↦ omega (arith, length-put k v xs)
+  | Greater ↦ omega (arith, length_put k v xs)
 ]
 
 abbrev pub Bounded : Running → Action → Type 0
@@ -32,56 +32,56 @@ Bounded r Refuse = Unit {0}
 stays : (r : Running) → (length r.writes ≤ length r.writes + 1) × (r.skips ≤ r.skips + 1)
 stays r = (omega arith, omega arith)
 
-become-bounded : (r : Running) (into : ℕ) (o : Option Value) → Bounded r (become r into o)
-become-bounded r into (Some v) = stays r
-become-bounded r into None = tt
+become_bounded : (r : Running) (into : ℕ) (o : Option Value) → Bounded r (become r into o)
+become_bounded r into (Some v) = stays r
+become_bounded r into None = tt
 
-read-bounded : (r : Running) (into : ℕ) (key : Key) (o : Option Value) → IsTrue (is_register into) → Bounded r (read_at r into key o)
-read-bounded r into key (Some v) h = stays r
-read-bounded r into key None h = h
+read_bounded : (r : Running) (into : ℕ) (key : Key) (o : Option Value) → IsTrue (is_register into) → Bounded r (read_at r into key o)
+read_bounded r into key (Some v) h = stays r
+read_bounded r into key None h = h
 
-got-bounded : (r : Running) (into table : ℕ) (v : Value) → IsTrue (is_register into) → Bounded r (got r into table v)
-got-bounded r into table (Int row) h = let key : Key = record { table = table; row = row } in read-bounded r into key (lookup (same_key key) r.writes) h
-got-bounded r into table Absent h = tt
-got-bounded r into table (Text t) h = tt
+got_bounded : (r : Running) (into table : ℕ) (v : Value) → IsTrue (is_register into) → Bounded r (got r into table v)
+got_bounded r into table (Int row) h = let key : Key = record { table = table; row = row } in read_bounded r into key (lookup (same_key key) r.writes) h
+got_bounded r into table Absent h = tt
+got_bounded r into table (Text t) h = tt
 
-stored-bounded : (r : Running) (table : ℕ) (row v : Value) → Bounded r (stored r table row v)
-stored-bounded r table (Int row) v = (length-put (record { table = table; row = row }) v r.writes, omega arith)
-stored-bounded r table Absent v = tt
-stored-bounded r table (Text t) v = tt
+stored_bounded : (r : Running) (table : ℕ) (row v : Value) → Bounded r (stored r table row v)
+stored_bounded r table (Int row) v = (length_put (record { table = table; row = row }) v r.writes, omega arith)
+stored_bounded r table Absent v = tt
+stored_bounded r table (Text t) v = tt
 
-needed-bounded : (r : Running) (o : Option Bool) → Bounded r (needed r o)
-needed-bounded r (Some true) = stays r
-needed-bounded r (Some false) = tt
-needed-bounded r None = tt
+needed_bounded : (r : Running) (o : Option Bool) → Bounded r (needed r o)
+needed_bounded r (Some true) = stays r
+needed_bounded r (Some false) = tt
+needed_bounded r None = tt
 
-chosen-bounded : (r : Running) (o : Option Bool) → Bounded r (chosen r o)
-chosen-bounded r (Some true) = stays r
-chosen-bounded r (Some false) = (omega arith, omega arith)
-chosen-bounded r None = tt
+chosen_bounded : (r : Running) (o : Option Bool) → Bounded r (chosen r o)
+chosen_bounded r (Some true) = stays r
+chosen_bounded r (Some false) = (omega arith, omega arith)
+chosen_bounded r None = tt
 
-does-bounded : (n : ℕ) (of : Operand → Value) (r : Running) (s : Step) → IsTrue (step_fits n s) → Bounded r (does_of of r s)
-does-bounded n of r (step.Get into table row) h = got-bounded r into table (of row) (and_parts (is_register into) (operand_fits n row) h).0
-does-bounded n of r (step.Put table row value) h = stored-bounded r table (of row) (of value)
-does-bounded n of r (step.Del table row) h = stored-bounded r table (of row) Absent
-does-bounded n of r (step.Add into left right) h = become-bounded r into (computed (λ a b. in_range (a +ℤ b)) (of left) (of right))
-does-bounded n of r (step.Sub into left right) h = become-bounded r into (computed (λ a b. in_range (a -ℤ b)) (of left) (of right))
-does-bounded n of r (step.Mul into left right) h = become-bounded r into (computed (λ a b. in_range (a *ℤ b)) (of left) (of right))
-does-bounded n of r (step.Min into left right) h = become-bounded r into (computed (λ a b. Some (Int (smaller a b))) (of left) (of right))
-does-bounded n of r (step.Max into left right) h = become-bounded r into (computed (λ a b. Some (Int (greater a b))) (of left) (of right))
-does-bounded n of r (step.Cat into left right) h = become-bounded r into (joined (of left) (of right))
-does-bounded n of r (step.Need left how right) h = needed-bounded r (holds how (of left) (of right))
-does-bounded n of r (step.When left how right) h = chosen-bounded r (holds how (of left) (of right))
-does-bounded n of r step.Done h = stays r
-does-bounded n of r (step.Reply value) h = stays r
+does_bounded : (n : ℕ) (of : Operand → Value) (r : Running) (s : Step) → IsTrue (step_fits n s) → Bounded r (does_of of r s)
+does_bounded n of r (step.Get into table row) h = got_bounded r into table (of row) (and_parts (is_register into) (operand_fits n row) h).0
+does_bounded n of r (step.Put table row value) h = stored_bounded r table (of row) (of value)
+does_bounded n of r (step.Del table row) h = stored_bounded r table (of row) Absent
+does_bounded n of r (step.Add into left right) h = become_bounded r into (computed (λ a b. in_range (a +ℤ b)) (of left) (of right))
+does_bounded n of r (step.Sub into left right) h = become_bounded r into (computed (λ a b. in_range (a -ℤ b)) (of left) (of right))
+does_bounded n of r (step.Mul into left right) h = become_bounded r into (computed (λ a b. in_range (a *ℤ b)) (of left) (of right))
+does_bounded n of r (step.Min into left right) h = become_bounded r into (computed (λ a b. Some (Int (smaller a b))) (of left) (of right))
+does_bounded n of r (step.Max into left right) h = become_bounded r into (computed (λ a b. Some (Int (greater a b))) (of left) (of right))
+does_bounded n of r (step.Cat into left right) h = become_bounded r into (joined (of left) (of right))
+does_bounded n of r (step.Need left how right) h = needed_bounded r (holds how (of left) (of right))
+does_bounded n of r (step.When left how right) h = chosen_bounded r (holds how (of left) (of right))
+does_bounded n of r step.Done h = stays r
+does_bounded n of r (step.Reply value) h = stays r
 
-skipped-bounded : (k : ℕ) (s : Step) → skipped k s ≤ k + 1
-skipped-bounded k (step.When left how right) = omega arith
-skipped-bounded k step.Done = omega arith
-skipped-bounded k _ = omega arith
+skipped_bounded : (k : ℕ) (s : Step) → skipped k s ≤ k + 1
+skipped_bounded k (step.When left how right) = omega arith
+skipped_bounded k step.Done = omega arith
+skipped_bounded k _ = omega arith
 
-pub action-bounded : (n : ℕ) (args : List Value) (r : Running) (s : Step) → IsTrue (step_fits n s) → Bounded r (action args r s)
-action-bounded n args r s h = elim (nat_eq r.skips 0) as (λ t. Bounded r (cond t (does args r s) (Go (record r { skips = skipped r.skips s })))) [
-  | true ↦ does-bounded n (value_of args r.registers) r s h
-  | false ↦ (omega arith, skipped-bounded r.skips s)
+pub action_bounded : (n : ℕ) (args : List Value) (r : Running) (s : Step) → IsTrue (step_fits n s) → Bounded r (action args r s)
+action_bounded n args r s h = elim (nat_eq r.skips 0) as (λ t. Bounded r (cond t (does args r s) (Go (record r { skips = skipped r.skips s })))) [
+  | true ↦ does_bounded n (value_of args r.registers) r s h
+  | false ↦ (omega arith, skipped_bounded r.skips s)
 ]

@@ -8,8 +8,8 @@ use Rattle.tau_proc.specs.Limits.{IsWellFormed, KeepsLimits}
 one : (p : Proc) → IsWellFormed p → All IsWellFormed (p ∷ [])
 one p well = All-cons IsWellFormed p [] well (All-nil IsWellFormed)
 
-pub keeps-push : (procs : List Proc) (p : Proc) → KeepsLimits procs → length procs < MAX_PROCS → IsWellFormed p → KeepsLimits (procs ++ p ∷ [])
-keeps-push procs p keeps room well = record {
+pub keeps_push : (procs : List Proc) (p : Proc) → KeepsLimits procs → length procs < MAX_PROCS → IsWellFormed p → KeepsLimits (procs ++ p ∷ [])
+keeps_push procs p keeps room well = record {
   count = omega (arith, length-append procs (p ∷ []), room);
   each = All-append IsWellFormed procs (p ∷ []) keeps.each (one p well);
 }

@@ -7,8 +7,8 @@ use Rattle.std.specs.declared.cmp.Ordering.TheVariants.{Equal}
 
 module _ {K X : Type 0} (R : K → K → Ordering) (k : K) (v : X) where
   -- over the entry whose key ties
-  pub put-over : (xs : List (K × X)) (i : ℕ) (d : K × X) → i < length xs → R k (get_or xs i d).0 ≡ Equal →
+  pub put_over : (xs : List (K × X)) (i : ℕ) (d : K × X) → i < length xs → R k (get_or xs i d).0 ≡ Equal →
       take i xs ++ put R k v (drop i xs) ≡ slice_set xs i ((get_or xs i d).0, v)
-  put-over [] i d fits tied = absurd (omega (arith, fits))
-  put-over (x ∷ xs) zero d fits tied = rw tied refl
-  put-over (x ∷ xs) (suc i) d fits tied = ap (λ (l : List (K × X)). x ∷ l) (put-over xs i d (omega (arith, fits)) tied)
+  put_over [] i d fits tied = absurd (omega (arith, fits))
+  put_over (x ∷ xs) zero d fits tied = rw tied refl
+  put_over (x ∷ xs) (suc i) d fits tied = ap (λ (l : List (K × X)). x ∷ l) (put_over xs i d (omega (arith, fits)) tied)

@@ -13,15 +13,15 @@ use Rattle.tau_proc.specs.Theorems.{RefusedWritesNothing}
 abbrev Nothing : Effect → Type 0
 Nothing e = (n : ℕ) → e.reply ≡ Refused n → e.writes ≡ []
 
-follow-nothing : (a : Action) (r : Running) (n : ℕ) (db : Db) (rest : Running → Effect) → ((next : Running) → Nothing (rest next)) → Nothing (follow a r n db rest)
-follow-nothing (Go next) r n db rest h = h next
-follow-nothing (Ask key into) r n db rest h = h (set_register r into (db key))
-follow-nothing Refuse r n db rest h = λ k e. refl
+follow_nothing : (a : Action) (r : Running) (n : ℕ) (db : Db) (rest : Running → Effect) → ((next : Running) → Nothing (rest next)) → Nothing (follow a r n db rest)
+follow_nothing (Go next) r n db rest h = h next
+follow_nothing (Ask key into) r n db rest h = h (set_register r into (db key))
+follow_nothing Refuse r n db rest h = λ k e. refl
 
-run-nothing : (args : List Value) (ss : List Step) (n : ℕ) (r : Running) (db : Db) → Nothing (run args ss n r db)
+run_nothing : (args : List Value) (ss : List Step) (n : ℕ) (r : Running) (db : Db) → Nothing (run args ss n r db)
 unfolding run
-run-nothing args [] n r db = λ k e. cc
-run-nothing args (s ∷ ss) n r db = follow-nothing (action args r s) r n db (λ next. run args ss (n + 1) next db) (λ next. run-nothing args ss (n + 1) next db)
+run_nothing args [] n r db = λ k e. cc
+run_nothing args (s ∷ ss) n r db = follow_nothing (action args r s) r n db (λ next. run args ss (n + 1) next db) (λ next. run_nothing args ss (n + 1) next db)
 
 pub refused_writes_nothing : RefusedWritesNothing
 refused_writes_nothing procs c db = at (built_in c) (proc_of procs c)
@@ -36,4 +36,4 @@ refused_writes_nothing procs c db = at (built_in c) (proc_of procs c)
     at (Some (Gets key)) p = λ k e. refl
     at (Some Wrong) p = λ k e. refl
     at None None = λ k e. refl
-    at None (Some p) = run-nothing c.args.items p.steps 1 begun db
+    at None (Some p) = run_nothing c.args.items p.steps 1 begun db

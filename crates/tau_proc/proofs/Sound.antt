@@ -9,37 +9,37 @@ use Rattle.tau_base.specs.Database.{Db}
 use Rattle.tau_proc.specs.Effect.{Effect, Agrees, Sound}
 use Rattle.tau_proc.specs.Meaning.{Running, Action, Go, Ask, Refuse, action, set_register, reading, follow, run, begun, meaning, Built, Puts, Adds, Gets, Wrong, built_in, proc_of, effect_by}
 
-follow-seen : (a : Action) (r : Running) (n : ℕ) (db : Db) (rest : Running → Effect) → ((next : Running) → Agrees (rest next).reads db) →
+follow_seen : (a : Action) (r : Running) (n : ℕ) (db : Db) (rest : Running → Effect) → ((next : Running) → Agrees (rest next).reads db) →
     Agrees (follow a r n db rest).reads db
-follow-seen (Go next) r n db rest h = h next
-follow-seen (Ask key into) r n db rest h = (refl, h (set_register r into (db key)))
-follow-seen Refuse r n db rest h = tt
+follow_seen (Go next) r n db rest h = h next
+follow_seen (Ask key into) r n db rest h = (refl, h (set_register r into (db key)))
+follow_seen Refuse r n db rest h = tt
 
-follow-determined : (a : Action) (r : Running) (n : ℕ) (db other : Db) (rest there : Running → Effect) →
+follow_determined : (a : Action) (r : Running) (n : ℕ) (db other : Db) (rest there : Running → Effect) →
     ((next : Running) → Agrees (rest next).reads other → there next ≡ rest next) →
     Agrees (follow a r n db rest).reads other → follow a r n other there ≡ follow a r n db rest
-follow-determined (Go next) r n db other rest there h seen = h next seen
-follow-determined (Ask key into) r n db other rest there h seen =
+follow_determined (Go next) r n db other rest there h seen = h next seen
+follow_determined (Ask key into) r n db other rest there h seen =
     rw seen.0 (ap (reading key (db key)) (h (set_register r into (db key)) seen.1))
-follow-determined Refuse r n db other rest there h seen = refl
+follow_determined Refuse r n db other rest there h seen = refl
 
 -- what was read is what the database has
-run-seen : (args : List Value) (ss : List Step) (n : ℕ) (r : Running) (db : Db) → Agrees (run args ss n r db).reads db
+run_seen : (args : List Value) (ss : List Step) (n : ℕ) (r : Running) (db : Db) → Agrees (run args ss n r db).reads db
 unfolding run
-run-seen args [] n r db = tt
-run-seen args (s ∷ ss) n r db = follow-seen (action args r s) r n db (λ next. run args ss (n + 1) next db) (λ next. run-seen args ss (n + 1) next db)
+run_seen args [] n r db = tt
+run_seen args (s ∷ ss) n r db = follow_seen (action args r s) r n db (λ next. run args ss (n + 1) next db) (λ next. run_seen args ss (n + 1) next db)
 
 -- a database that has what was read gives the same
-run-determined : (args : List Value) (ss : List Step) (n : ℕ) (r : Running) (db other : Db) → Agrees (run args ss n r db).reads other →
+run_determined : (args : List Value) (ss : List Step) (n : ℕ) (r : Running) (db other : Db) → Agrees (run args ss n r db).reads other →
     run args ss n r other ≡ run args ss n r db
 unfolding run
-run-determined args [] n r db other h = refl
-run-determined args (s ∷ ss) n r db other h =
-    follow-determined (action args r s) r n db other (λ next. run args ss (n + 1) next db) (λ next. run args ss (n + 1) next other)
-    (λ next seen. run-determined args ss (n + 1) next db other seen) h
+run_determined args [] n r db other h = refl
+run_determined args (s ∷ ss) n r db other h =
+    follow_determined (action args r s) r n db other (λ next. run args ss (n + 1) next db) (λ next. run args ss (n + 1) next other)
+    (λ next seen. run_determined args ss (n + 1) next db other seen) h
 
-pub meaning-sound : (procs : List Proc) → Sound (meaning procs)
-meaning-sound procs = record {
+pub meaning_sound : (procs : List Proc) → Sound (meaning procs)
+meaning_sound procs = record {
   seen = λ c db. seen c db (built_in c) (proc_of procs c);
   determined = λ c db other. determined c db other (built_in c) (proc_of procs c);
 }
@@ -50,7 +50,7 @@ meaning-sound procs = record {
     seen c db (Some (Gets key)) p = (refl, tt)
     seen c db (Some Wrong) p = tt
     seen c db None None = tt
-    seen c db None (Some p) = run-seen c.args.items p.steps 1 begun db
+    seen c db None (Some p) = run_seen c.args.items p.steps 1 begun db
 
     determined : (c : Call) (db other : Db) (b : Option Built) (p : Option Proc) → Agrees (effect_by b p c db).reads other → effect_by b p c other ≡ effect_by b p c db
     determined c db other (Some (Puts key v)) p h = refl
@@ -58,4 +58,4 @@ meaning-sound procs = record {
     determined c db other (Some (Gets key)) p h = rw h.0
     determined c db other (Some Wrong) p h = refl
     determined c db other None None h = refl
-    determined c db other None (Some p) h = run-determined c.args.items p.steps 1 begun db other h
+    determined c db other None (Some p) h = run_determined c.args.items p.steps 1 begun db other h

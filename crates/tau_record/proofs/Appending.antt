@@ -9,7 +9,7 @@ use Rattle.tau_record.specs.Record.{named, spelling, AreVectors, Fits, Spells}
 use Rattle.tau_record.specs.Format.{Format}
 use Rattle.tau_record.specs.Content.{named_after, named_behind, anchors_of, Begins, Reads, IsContent, placed}
 use Rattle.tau_record.proofs.ContentLaws.{named_are, named_keep}
-use Rattle.tau_record.proofs.RecordLaws.{eqb-apart}
+use Rattle.tau_record.proofs.RecordLaws.{eqb_apart}
 
 -- ---- the anchors
 
@@ -70,7 +70,7 @@ first_record f n e bytes s = one_record f n 0 (length bytes) (named n []) e byte
 pub appended_record : (f : Format) (n : ℕ) (content : List ℕ) (ps : List Placed) (e : Entry) (bytes : List ℕ) → IsContent f n content ps → 1 ≤ length content → Spells f n (named n (anchors_of ps)) false e bytes
     → IsContent f n (content ++ bytes) (ps ++ placed e (length content) (length content + length bytes) ∷ [])
 appended_record f n content ps e bytes h some s =
-    let behind : eqb (length content) 0 ≡ false = eqb-apart (length content) 0 (λ z. omega (arith, z, some)) in
+    let behind : eqb (length content) 0 ≡ false = eqb_apart (length content) 0 (λ z. omega (arith, z, some)) in
     let spells = subst (λ (first : Bool). Spells f n (named n (anchors_of ps)) first e bytes) (sym behind) s in
     appended_content f n content bytes ps (placed e (length content) (length content + length bytes) ∷ []) h
     (one_record f n (length content) (length content + length bytes) (named n (anchors_of ps)) e bytes refl spells)

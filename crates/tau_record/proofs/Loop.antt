@@ -140,11 +140,11 @@ args_done front count i bytes total le so_far =
 
 -- ---- the components of an anchor
 
-leb-is : (a b : ℕ) → a ≤ b → leb a b ≡ true
-leb-is a b le = elim (leb a b) as (λ v. leb a b ≡ v → v ≡ true) [ true ↦ λ _. refl | false ↦ λ e. absurd (omega (arith, leb-false a b e)) ] refl
+leb_is : (a b : ℕ) → a ≤ b → leb a b ≡ true
+leb_is a b le = elim (leb a b) as (λ v. leb a b ≡ v → v ≡ true) [ true ↦ λ _. refl | false ↦ λ e. absurd (omega (arith, leb-false a b e)) ] refl
 
-leb-not : (a b : ℕ) → b < a → leb a b ≡ false
-leb-not a b lt = elim (leb a b) as (λ v. leb a b ≡ v → v ≡ false) [ true ↦ λ e. absurd (omega (arith, leb-true a b e)) | false ↦ λ _. refl ] refl
+pub leb_not : (a b : ℕ) → b < a → leb a b ≡ false
+leb_not a b lt = elim (leb a b) as (λ v. leb a b ≡ v → v ≡ false) [ true ↦ λ e. absurd (omega (arith, leb-true a b e)) | false ↦ λ _. refl ] refl
 
 pub lv_go_on : (lv : List ℕ) (n j part : ℕ) (bytes after : List ℕ) (total : Result (List ℕ × List ℕ) RecordCause) → j < n → length lv ≡ n → number_at w64 bytes ≡ Ok (part, after) → part < 2 ^ 62
     → with_front (take j lv) (lv_at (n - j) bytes) ≡ total → with_front (take (j + 1) (set lv j part)) (lv_at (n - (j + 1)) after) ≡ total
@@ -152,7 +152,7 @@ unfolding lv_at
 lv_go_on lv n j part bytes after total lt len h small so_far =
     let k : n - j ≡ suc (n - (j + 1)) = omega arith in
     let s : j + 1 ≡ suc j = omega arith in
-    let one : with_front (take j lv) (lv_at (n - j) bytes) ≡ with_front (take j lv ++ part ∷ []) (lv_at (n - (j + 1)) after) = rw (k, h, leb-not (2 ^ 62) part small) (regroup (take j lv) part (lv_at (n - (j + 1)) after)) in
+    let one : with_front (take j lv) (lv_at (n - j) bytes) ≡ with_front (take j lv ++ part ∷ []) (lv_at (n - (j + 1)) after) = rw (k, h, leb_not (2 ^ 62) part small) (regroup (take j lv) part (lv_at (n - (j + 1)) after)) in
     let end : take (j + 1) (set lv j part) ≡ take j lv ++ part ∷ [] = rw s (take-suc-set lv j part (omega (arith, lt, len))) in
     ap (λ (front : List ℕ). with_front front (lv_at (n - (j + 1)) after)) end ∙ sym one ∙ so_far
 
@@ -170,7 +170,7 @@ pub lv_bad : (front : List ℕ) (n j part : ℕ) (bytes after : List ℕ) (total
 unfolding lv_at
 lv_bad front n j part bytes after total lt h big so_far =
     let k : n - j ≡ suc (n - (j + 1)) = omega arith in
-    let one : with_front front (lv_at (n - j) bytes) ≡ Err BadBody = rw (k, h, leb-is (2 ^ 62) part big) refl in
+    let one : with_front front (lv_at (n - j) bytes) ≡ Err BadBody = rw (k, h, leb_is (2 ^ 62) part big) refl in
     sym so_far ∙ one
 
 pub lv_done : (lv : List ℕ) (n j : ℕ) (bytes : List ℕ) (total : Result (List ℕ × List ℕ) RecordCause) → n ≤ j → length lv ≡ n → with_front (take j lv) (lv_at (n - j) bytes) ≡ total → total ≡ Ok (lv, bytes)

@@ -18,11 +18,12 @@ use Rattle.tau_record.specs.Item.{value, write, writes_at, args_at, byte_at}
 use Rattle.tau_record.specs.Record.{AreVectors, Fits, base_of, origin, kind_of, body, framed, spelling, FitsOrigin, FitsBody, kind_fits, Origin, origin_at, written_at, command_at, lv_at, fields_at, body_at, sized_at, total_at, frame_at, record_at}
 use Rattle.tau_record.proofs.FieldLaws.{IsBytes, IsBytes-rest, IsBytes-drop, IsBytes-take, Takes, Takes-none, Takes-then, bind_ok, guard_ok, ok_is, IsWide, wide16, wide32, wide64, number_takes, number_again}
 use Rattle.tau_record.proofs.SizeLaws.{size_fits}
-use Rattle.tau_record.proofs.VectorLaws.{leb-lt, raises, raises_width, raises_covers, raises_places, vector_takes, vector_again}
+use Rattle.tau_record.proofs.VectorLaws.{raises, raises_width, raises_covers, raises_places, vector_takes, vector_again}
 use Rattle.tau_record.proofs.ItemLaws.{guard_held, are_writes, writes_sorted, writes_fit, writes_take, writes_again, byte_takes, byte_again, args_take, args_again}
+use Rattle.tau_record.proofs.Loop.{leb_not}
 
-pub eqb-apart : (a b : ℕ) → (a ≡ b → ⊥) → eqb a b ≡ false
-eqb-apart a b h = elim (eqb a b) as (λ v. eqb a b ≡ v → v ≡ false) [ true ↦ λ e. absurd (h (eqb-true a b e)) | false ↦ λ _. refl ] refl
+pub eqb_apart : (a b : ℕ) → (a ≡ b → ⊥) → eqb a b ≡ false
+eqb_apart a b h = elim (eqb a b) as (λ v. eqb a b ≡ v → v ≡ false) [ true ↦ λ e. absurd (h (eqb-true a b e)) | false ↦ λ _. refl ] refl
 
 -- ---- the number, the anchor and the vector
 
@@ -58,9 +59,9 @@ origin_again format n vectors o rest room are fits =
     let base = base_of vectors o.anchor in
     let tail = vector format base o.dep ++ rest in
     let regrouped : origin_text format vectors o ++ rest ≡ to_be_bytes w64 o.number ++ (to_be_bytes w32 o.anchor ++ tail) = append_assoc (to_be_bytes w64 o.number) (to_be_bytes w32 o.anchor ++ vector format base o.dep) rest ∙ ap (λ (x : List ℕ). to_be_bytes w64 o.number ++ x) (append_assoc (to_be_bytes w32 o.anchor) (vector format base o.dep) rest) in
-    let some : eqb o.number 0 ≡ false = eqb-apart o.number 0 (λ z. omega (arith, z, fits.low)) in
+    let some : eqb o.number 0 ≡ false = eqb_apart o.number 0 (λ z. omega (arith, z, fits.low)) in
     let wide_enough : length base ≤ most_streams format = rw ((are o.anchor fits.known).1) room in
-    ap (origin_at format vectors) regrouped ∙ rw (number_again w64 (2 ^ 64) wide64 o.number (to_be_bytes w32 o.anchor ++ tail) fits.number_fits, some, number_again w32 (2 ^ 32) wide32 o.anchor tail fits.anchor_fits, leb-lt (length vectors) o.anchor fits.known, vector_again format base o.dep rest wide_enough (raises base o.dep fits.width fits.covers fits.places)) refl
+    ap (origin_at format vectors) regrouped ∙ rw (number_again w64 (2 ^ 64) wide64 o.number (to_be_bytes w32 o.anchor ++ tail) fits.number_fits, some, number_again w32 (2 ^ 32) wide32 o.anchor tail fits.anchor_fits, leb_not (length vectors) o.anchor fits.known, vector_again format base o.dep rest wide_enough (raises base o.dep fits.width fits.covers fits.places)) refl
 
 -- ---- the frame
 
@@ -144,7 +145,7 @@ written_again format n vectors number anchor dep writes rest room are fits =
     let count = to_be_bytes w16 (length writes) in
     let tail = flat_map write writes ++ rest in
     let regrouped : body format vectors (Written number anchor dep writes) ++ rest ≡ origin_text format vectors o ++ (count ++ tail) = append_assoc (origin_text format vectors o) (count ++ flat_map write writes) rest ∙ ap (λ (x : List ℕ). origin_text format vectors o ++ x) (append_assoc count (flat_map write writes) rest) in
-    let some : eqb (length writes) 0 ≡ false = eqb-apart (length writes) 0 (λ z. omega (arith, z, fits.1)) in
+    let some : eqb (length writes) 0 ≡ false = eqb_apart (length writes) 0 (λ z. omega (arith, z, fits.1)) in
     let most : ltb 64 (length writes) ≡ false = le-ltb _ _ fits.2 in
     ap (written_at format vectors) regrouped ∙ rw (origin_again format n vectors o (count ++ tail) room are fits.0, number_again w16 (2 ^ 16) wide16 (length writes) tail (omega (arith, fits.2)), some, most, writes_again None writes rest (are_writes writes fits.3 fits.4)) refl
 
@@ -165,7 +166,7 @@ lv_again : (lv rest : List ℕ) → ArePlaces lv → lv_at (length lv) (flat_map
 unfolding lv_at
 lv_again [] rest h = refl
 lv_again (part ∷ lv) rest h =
-    rw (number_again w64 (2 ^ 64) wide64 part (flat_map (to_be_bytes w64) lv ++ rest) (omega (arith, h.0)), leb-lt (2 ^ 62) part h.0, lv_again lv rest h.1) refl
+    rw (number_again w64 (2 ^ 64) wide64 part (flat_map (to_be_bytes w64) lv ++ rest) (omega (arith, h.0)), leb_not (2 ^ 62) part h.0, lv_again lv rest h.1) refl
 
 -- ---- all kinds
 

@@ -12,17 +12,17 @@ use Rattle.tau_record.specs.declared.format.Format.TheVariants.{One, Two}
 use Rattle.tau_record.specs.Vector.{mask_of}
 use Rattle.tau_record.specs.Item.{value, FitsValue, write, FitsWrite}
 use Rattle.tau_record.specs.Record.{origin, base_of, body, AreVectors, FitsBody}
-use Rattle.tau_record.proofs.VectorLaws.{explicit, explicit-cons, piece}
+use Rattle.tau_record.proofs.VectorLaws.{explicit, explicit_cons, piece}
 use Rattle.tau_record.specs.declared.entry.Entry.{Entry}
 use Rattle.tau_record.specs.declared.entry.Entry.TheVariants.{Written, Command, Anchor, Catalogue}
 
-explicit_len : (base dep : List ℕ) → length (explicit base dep) ≤ 8 * length base
+pub explicit_len : (base dep : List ℕ) → length (explicit base dep) ≤ 8 * length base
 explicit_len [] dep = omega arith
 explicit_len (low ∷ base) [] = omega arith
 explicit_len (low ∷ base) (part ∷ dep) =
     let more = explicit_len base dep in
     let one : length (piece low part) ≤ 8 = elim (ltb low part) as (λ v. length (cond v (to_be_bytes w64 part) []) ≤ 8) [ true ↦ omega arith | false ↦ omega arith ] in
-    subst (λ (t : List ℕ). length t ≤ 8 * suc (length base)) (sym (explicit-cons low part base dep)) (omega (arith, length-append (piece low part) (explicit base dep), one, more))
+    subst (λ (t : List ℕ). length t ≤ 8 * suc (length base)) (sym (explicit_cons low part base dep)) (omega (arith, length-append (piece low part) (explicit base dep), one, more))
 
 -- a mask has at most 4 bytes in any format
 mask_len : (f : Format) (m : ℕ) → length (to_be_bytes (mask_width f) m) ≤ 4
@@ -38,15 +38,15 @@ origin_len : (f : Format) (base : List ℕ) (number anchor : ℕ) (dep : List �
 origin_len f base number anchor dep le =
     omega (arith, length-append (to_be_bytes (mask_width f) (mask_of base dep)) (explicit base dep), mask_len f (mask_of base dep), explicit_len base dep, le)
 
-value_len : (v : Value) → FitsValue v → length (value v) ≤ 67
+pub value_len : (v : Value) → FitsValue v → length (value v) ≤ 67
 value_len Absent h = omega arith
 value_len (Int z) h = omega arith
 value_len (Text t) h = omega (arith, h.0)
 
-plus_le : (xs ys : List ℕ) (m : ℕ) → length xs ≤ 77 → length ys ≤ 77 * m → length (xs ++ ys) ≤ 77 * suc m
+pub plus_le : (xs ys : List ℕ) (m : ℕ) → length xs ≤ 77 → length ys ≤ 77 * m → length (xs ++ ys) ≤ 77 * suc m
 plus_le xs ys m a b = omega (arith, length-append xs ys, a, b)
 
-writes_len : (ws : List (Key × Value)) → AllByRecursion FitsWrite ws → length (flat_map write ws) ≤ 77 * length ws
+pub writes_len : (ws : List (Key × Value)) → AllByRecursion FitsWrite ws → length (flat_map write ws) ≤ 77 * length ws
 writes_len [] h = omega arith
 writes_len (w ∷ ws) h =
     let more = writes_len ws h.1 in
@@ -54,11 +54,11 @@ writes_len (w ∷ ws) h =
     let short : length (write w) ≤ 77 = omega (arith, one) in
     subst (λ (t : List ℕ). length t ≤ 77 * suc (length ws)) (sym (flat_map-cons write w ws)) (plus_le (write w) (flat_map write ws) (length ws) short more)
 
-lv_len : (lv : List ℕ) → length (flat_map (to_be_bytes w64) lv) ≤ 8 * length lv
+pub lv_len : (lv : List ℕ) → length (flat_map (to_be_bytes w64) lv) ≤ 8 * length lv
 lv_len [] = omega arith
 lv_len (part ∷ lv) = let more = lv_len lv in omega (arith, more)
 
-args_len : (vs : List Value) → AllByRecursion FitsValue vs → length (flat_map value vs) ≤ 77 * length vs
+pub args_len : (vs : List Value) → AllByRecursion FitsValue vs → length (flat_map value vs) ≤ 77 * length vs
 args_len [] h = omega arith
 args_len (v ∷ vs) h =
     let more = args_len vs h.1 in

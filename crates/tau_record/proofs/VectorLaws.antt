@@ -15,6 +15,7 @@ use Rattle.tau_base.specs.Vectors.{AtMost}
 use Rattle.tau_record.specs.Format.{Format, mask_width, most_streams}
 use Rattle.tau_record.specs.Vector.{ArePlaces, mask_of, above, vector, decoded, part_at, parts_at, vector_at}
 use Rattle.tau_record.proofs.FieldLaws.{wide_mask, IsBytes, Takes, Takes-none, Takes-then, bind_ok, guard_ok, ok_is, wide64, number_takes, number_again}
+use Rattle.tau_record.proofs.Loop.{leb_not}
 
 -- The vector covers the base, and each component is a place: component by component.
 abbrev pub Raises : List ℕ → List ℕ → Type 0
@@ -58,13 +59,10 @@ bit_of low part = cond (ltb low part) 1 0
 abbrev pub piece : ℕ → ℕ → List ℕ
 piece low part = cond (ltb low part) (to_be_bytes w64 part) []
 
-pub explicit-cons : (low part : ℕ) (base dep : List ℕ) → explicit (low ∷ base) (part ∷ dep) ≡ piece low part ++ explicit base dep
-explicit-cons low part base dep =
+pub explicit_cons : (low part : ℕ) (base dep : List ℕ) → explicit (low ∷ base) (part ∷ dep) ≡ piece low part ++ explicit base dep
+explicit_cons low part base dep =
     elim (ltb low part) as (λ v. flat_map (to_be_bytes w64) (cond v (part ∷ above base dep) (above base dep)) ≡ cond v (to_be_bytes w64 part) [] ++ explicit base dep)
     [ true ↦ flat_map-cons (to_be_bytes w64) part (above base dep) | false ↦ refl ]
-
-pub leb-lt : (a b : ℕ) → b < a → leb a b ≡ false
-leb-lt a b lt = elim (leb a b) as (λ v. leb a b ≡ v → v ≡ false) [ true ↦ λ e. absurd (omega (arith, leb-true a b e)) | false ↦ λ _. refl ] refl
 
 part_takes : (low bit : ℕ) (bytes : List ℕ) (x : ℕ × List ℕ) → IsBytes bytes → low < 2 ^ 62 → bit < 2 → part_at low bit bytes ≡ Ok x → Takes bytes (piece low x.0) x.1 × (bit ≡ bit_of low x.0) × (low ≤ x.0) × (x.0 < 2 ^ 62)
 unfolding part_at
@@ -87,22 +85,22 @@ part_again : (low part : ℕ) (rest : List ℕ) → low ≤ part → part < 2 ^ 
 unfolding part_at
 part_again low part rest le small =
     elim (ltb low part) as (λ v. ltb low part ≡ v → part_at low (cond v 1 0) (cond v (to_be_bytes w64 part) [] ++ rest) ≡ Ok (part, rest)) [
-      | true ↦ λ e. rw (number_again w64 (2 ^ 64) wide64 part rest (omega arith), leb-lt part low (ltb-true low part e), leb-lt (2 ^ 62) part small) refl
+      | true ↦ λ e. rw (number_again w64 (2 ^ 64) wide64 part rest (omega arith), leb_not part low (ltb-true low part e), leb_not (2 ^ 62) part small) refl
       | false ↦ λ e. ap (λ (k : ℕ). Ok (k, rest)) (omega (arith, ltb-false low part e))
     ] refl
 
 -- ---- all components
 
-pub mask_of-lt : (base dep : List ℕ) → mask_of base dep < 2 ^ length base
-mask_of-lt [] dep = omega arith
-mask_of-lt (low ∷ base) [] = pow_pos (suc (length base))
-mask_of-lt (low ∷ base) (part ∷ dep) =
-    let more = mask_of-lt base dep in
+pub mask_of_lt : (base dep : List ℕ) → mask_of base dep < 2 ^ length base
+mask_of_lt [] dep = omega arith
+mask_of_lt (low ∷ base) [] = pow_pos (suc (length base))
+mask_of_lt (low ∷ base) (part ∷ dep) =
+    let more = mask_of_lt base dep in
     let p = pow-succ' 2 (length base) in
     elim (ltb low part) as (λ v. cond v 1 0 + 2 * mask_of base dep < 2 ^ suc (length base)) [ true ↦ omega (arith, more, p) | false ↦ omega (arith, more, p) ]
 
-bit_of-lt : (low part : ℕ) → bit_of low part < 2
-bit_of-lt low part = elim (ltb low part) as (λ v. cond v 1 0 < 2) [ true ↦ omega arith | false ↦ omega arith ]
+bit_of_lt : (low part : ℕ) → bit_of low part < 2
+bit_of_lt low part = elim (ltb low part) as (λ v. cond v 1 0 < 2) [ true ↦ omega arith | false ↦ omega arith ]
 
 pub parts_take : (base : List ℕ) (mask : ℕ) (bytes : List ℕ) (x : List ℕ × List ℕ) → IsBytes bytes → ArePlaces base → mask < 2 ^ length base → parts_at base mask bytes ≡ Ok x → Takes bytes (explicit base x.0) x.1 × (mask ≡ mask_of base x.0) × Raises base x.0
 unfolding parts_at
@@ -116,7 +114,7 @@ parts_take (low ∷ base) mask bytes x fits small bound e =
     let second = parts_take base (mask / 2) a.0.1 b.0 first.0.rest_fits small.1 half b.1 in
     let both = Takes-then bytes (piece low a.0.0) a.0.1 (explicit base b.0.0) b.0.1 first.0 second.0 in
     let whole : mask ≡ bit_of low a.0.0 + 2 * mask_of base b.0.0 = omega (arith, first.1, second.1) in
-    let text : Takes bytes (explicit (low ∷ base) (a.0.0 ∷ b.0.0)) b.0.1 = subst (λ (t : List ℕ). Takes bytes t b.0.1) (sym (explicit-cons low a.0.0 base b.0.0)) both in
+    let text : Takes bytes (explicit (low ∷ base) (a.0.0 ∷ b.0.0)) b.0.1 = subst (λ (t : List ℕ). Takes bytes t b.0.1) (sym (explicit_cons low a.0.0 base b.0.0)) both in
     subst (λ (y : List ℕ × List ℕ). Takes bytes (explicit (low ∷ base) y.0) y.1 × (mask ≡ mask_of (low ∷ base) y.0) × Raises (low ∷ base) y.0) (ok_is (a.0.0 ∷ b.0.0, b.0.1) x b.2)
     (text, whole, (first.2, first.3, second.2))
 
@@ -126,10 +124,10 @@ parts_again [] [] rest h = refl
 parts_again [] (part ∷ dep) rest h = absurd h
 parts_again (low ∷ base) [] rest h = absurd h
 parts_again (low ∷ base) (part ∷ dep) rest h =
-    let bit = bit_of-lt low part in
+    let bit = bit_of_lt low part in
     let odd : (bit_of low part + 2 * mask_of base dep) % 2 ≡ bit_of low part = omega (arith, bit) in
     let even : (bit_of low part + 2 * mask_of base dep) / 2 ≡ mask_of base dep = omega (arith, bit) in
-    let regrouped : explicit (low ∷ base) (part ∷ dep) ++ rest ≡ piece low part ++ (explicit base dep ++ rest) = ap (λ (t : List ℕ). t ++ rest) (explicit-cons low part base dep) ∙ append_assoc (piece low part) (explicit base dep) rest in
+    let regrouped : explicit (low ∷ base) (part ∷ dep) ++ rest ≡ piece low part ++ (explicit base dep ++ rest) = ap (λ (t : List ℕ). t ++ rest) (explicit_cons low part base dep) ∙ append_assoc (piece low part) (explicit base dep) rest in
     ap (parts_at (low ∷ base) (mask_of (low ∷ base) (part ∷ dep))) regrouped ∙ rw (odd, even, part_again low part (explicit base dep ++ rest) h.0 h.1, parts_again base dep rest h.2) refl
 
 pub vector_takes : (format : Format) (base bytes : List ℕ) (x : List ℕ × List ℕ) → IsBytes bytes → ArePlaces base → vector_at format base bytes ≡ Ok x → Takes bytes (vector format base x.0) x.1 × Raises base x.0
@@ -147,10 +145,10 @@ pub vector_again : (format : Format) (base dep rest : List ℕ) → length base 
 unfolding vector_at
 vector_again format base dep rest room h =
     let w = mask_width format in
-    let below = mask_of-lt base dep in
+    let below = mask_of_lt base dep in
     let enough : 2 ^ length base ≤ 2 ^ most_streams format = pow_mono room in
     let regrouped : vector format base dep ++ rest ≡ to_be_bytes w (mask_of base dep) ++ (explicit base dep ++ rest) = append_assoc (to_be_bytes w (mask_of base dep)) (explicit base dep) rest in
-    ap (vector_at format base) regrouped ∙ rw (number_again w (2 ^ most_streams format) (wide_mask format) (mask_of base dep) (explicit base dep ++ rest) (omega (arith, below, enough)), leb-lt (2 ^ length base) (mask_of base dep) below, parts_again base dep rest h) refl
+    ap (vector_at format base) regrouped ∙ rw (number_again w (2 ^ most_streams format) (wide_mask format) (mask_of base dep) (explicit base dep ++ rest) (omega (arith, below, enough)), leb_not (2 ^ length base) (mask_of base dep) below, parts_again base dep rest h) refl
 
 -- the mask and the written components decode to the vector
 pub decoded_again : (base dep : List ℕ) → length dep ≡ length base → AtMost base dep → decoded base (mask_of base dep) (above base dep) ≡ dep
@@ -170,16 +168,16 @@ decoded_again (low ∷ base) (part ∷ dep) len le =
 pub mask_room : (format : Format) (base dep : List ℕ) (j : ℕ) → length base ≤ most_streams format → mask_of (drop j base) dep < 2 ^ most_streams format
 mask_room format base dep j le =
     let short : length (drop j base) ≤ most_streams format = omega (arith, length-drop j base, le) in
-    omega (arith, mask_of-lt (drop j base) dep, pow_mono short)
+    omega (arith, mask_of_lt (drop j base) dep, pow_mono short)
 
 -- bit j of the mask
 pub mask_bits : (base dep : List ℕ) (j : ℕ) → length dep ≡ length base → j < length dep → bit_at (mask_of base dep) j ≡ cond (ltb (get_or base j 0) (get_or dep j 0)) 1 0
 mask_bits [] [] j len lt = absurd (omega arith)
 mask_bits [] (part ∷ dep) j len lt = absurd (omega (arith, len))
 mask_bits (low ∷ base) [] j len lt = absurd (omega arith)
-mask_bits (low ∷ base) (part ∷ dep) zero len lt = let bit = bit_of-lt low part in bit_at_lowest (bit_of low part + 2 * mask_of base dep) ∙ omega (arith, bit)
+mask_bits (low ∷ base) (part ∷ dep) zero len lt = let bit = bit_of_lt low part in bit_at_lowest (bit_of low part + 2 * mask_of base dep) ∙ omega (arith, bit)
 mask_bits (low ∷ base) (part ∷ dep) (suc j) len lt =
-    let bit = bit_of-lt low part in
+    let bit = bit_of_lt low part in
     let half : (bit_of low part + 2 * mask_of base dep) / 2 ≡ mask_of base dep = omega (arith, bit) in
     bit_at-suc (bit_of low part + 2 * mask_of base dep) j ∙ ap (λ (m : ℕ). bit_at m j) half ∙ mask_bits base dep j (omega (arith, len)) (omega arith)
 
@@ -192,4 +190,4 @@ parts_none (low ∷ base) bytes = rw (parts_none base bytes) refl
 
 pub vector_none : (f : Format) (base bytes : List ℕ) (mask : ℕ) (rest : List ℕ) → number_at (mask_width f) bytes ≡ Ok (mask, rest) → mask ≡ 0 → vector_at f base bytes ≡ Ok (base, rest)
 unfolding vector_at
-vector_none f base bytes mask rest h none = rw (h, none, leb-lt (2 ^ length base) 0 (pow_pos (length base))) (parts_none base rest)
+vector_none f base bytes mask rest h none = rw (h, none, leb_not (2 ^ length base) 0 (pow_pos (length base))) (parts_none base rest)

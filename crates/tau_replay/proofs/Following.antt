@@ -17,11 +17,11 @@ use Rattle.tau_replay.specs.declared.turns.Replay.{Replay}
 use Rattle.tau_replay.specs.Recovering.{IsHeld}
 use Rattle.tau_replay.specs.Way.{IsOver}
 use Rattle.tau_replay.specs.Followed.{Worked, TurnsBy, IsTurn, Follow, HasFollowed, Followed, IsRedoneBy, ascending, workers_from, rounds}
-use Rattle.tau_replay.proofs.Lists.{map-push, redo-push, of_get, left_put}
+use Rattle.tau_replay.proofs.Lists.{map_push, redo_push, of_get, left_put}
 
-follow-push : (log : Log) (turns : List ℕ) (worker : ℕ) (s m t : Worked) → Follow log turns s m → IsTurn log m worker t → Follow log (turns ++ worker ∷ []) s t
-follow-push log [] worker s m t is step = (t, subst (λ (z : Worked). IsTurn log z worker t) is step, refl)
-follow-push log (w ∷ ws) worker s m t (n, one, more) step = (n, one, follow-push log ws worker n m t more step)
+follow_push : (log : Log) (turns : List ℕ) (worker : ℕ) (s m t : Worked) → Follow log turns s m → IsTurn log m worker t → Follow log (turns ++ worker ∷ []) s t
+follow_push log [] worker s m t is step = (t, subst (λ (z : Worked). IsTurn log z worker t) is step, refl)
+follow_push log (w ∷ ws) worker s m t (n, one, more) step = (n, one, follow_push log ws worker n m t more step)
 
 abbrev at_turn : Pooled → List (Option Job) → List Kept → Worked
 at_turn p hands order = record { pools = p; hands = hands; order = order }
@@ -32,7 +32,7 @@ module _ (log : Log) (turns : List ℕ) (worker : ℕ) where
     begun = f.begun;
     unstarted = f.unstarted;
     order = f.order;
-    steps = follow-push log turns worker f.begun (at_turn p hands f.order) (at_turn q (set hands worker (Some job)) f.order) f.steps
+    steps = follow_push log turns worker f.begun (at_turn p hands f.order) (at_turn q (set hands worker (Some job)) f.order) f.steps
         (subst (λ (o : Option (Option Job)). TurnsBy log (at_turn p hands f.order) worker (at_turn q (set hands worker (Some job)) f.order) o) (sym idle) (inl (record { job = job; started = s; hands = refl; order = refl })));
     holds = f.holds;
   }
@@ -42,7 +42,7 @@ module _ (log : Log) (turns : List ℕ) (worker : ℕ) where
     begun = f.begun;
     unstarted = f.unstarted;
     order = f.order;
-    steps = follow-push log turns worker f.begun (at_turn p hands f.order) (at_turn p hands f.order) f.steps
+    steps = follow_push log turns worker f.begun (at_turn p hands f.order) (at_turn p hands f.order) f.steps
         (subst (λ (o : Option (Option Job)). TurnsBy log (at_turn p hands f.order) worker (at_turn p hands f.order) o) (sym idle) (inr (none, refl)));
     holds = f.holds;
   }
@@ -53,11 +53,11 @@ module _ (log : Log) (turns : List ℕ) (worker : ℕ) where
     begun = f.begun;
     unstarted = f.unstarted;
     order = f.order ++ r ∷ [];
-    steps = follow-push log turns worker f.begun (at_turn p hands f.order) (at_turn q (set hands worker None) (f.order ++ r ∷ [])) f.steps
+    steps = follow_push log turns worker f.begun (at_turn p hands f.order) (at_turn q (set hands worker None) (f.order ++ r ∷ [])) f.steps
         (subst (λ (o : Option (Option Job)). TurnsBy log (at_turn p hands f.order) worker (at_turn q (set hands worker None) (f.order ++ r ∷ [])) o) (sym busy)
         (record { kept = r; held = held; finished = fin; recovered = rec; hands = refl; order = refl }));
     holds = is ∙ ap (redone log.declarations.procs r.content) f.holds
-        ∙ sym (ap (λ (cs : List Content). redo_contents log.declarations.procs cs empty_db) (map-push content_of f.order r) ∙ redo-push log.declarations.procs (map content_of f.order) r.content empty_db);
+        ∙ sym (ap (λ (cs : List Content). redo_contents log.declarations.procs cs empty_db) (map_push content_of f.order r) ∙ redo_push log.declarations.procs (map content_of f.order) r.content empty_db);
   }
     where
       content_of : Kept → Content
@@ -68,7 +68,7 @@ module _ (log : Log) (turns : List ℕ) (worker : ℕ) where
     begun = f.begun;
     unstarted = f.unstarted;
     order = f.order;
-    steps = follow-push log turns worker f.begun (at_turn p hands f.order) (at_turn p hands f.order) f.steps
+    steps = follow_push log turns worker f.begun (at_turn p hands f.order) (at_turn p hands f.order) f.steps
         (subst (λ (o : Option (Option Job)). TurnsBy log (at_turn p hands f.order) worker (at_turn p hands f.order) o) (sym none) refl);
     holds = f.holds;
   }

@@ -16,14 +16,14 @@ use Rattle.tau_pool.specs.declared.item.Stage.{Stage}
 use Rattle.tau_pool.specs.declared.item.Stage.TheVariants.{Waiting, Flying, Finished}
 use Rattle.tau_pool.specs.Items.{is_waiting, is_flying}
 use Rattle.tau_pool.specs.Pooled.{Pooled, IsStarted, IsFlying, IsFinished, staged, waiting_in, flying_in}
-use Rattle.tau_pool.proofs.Gets.{get_within, get_set_same, get_set_other}
-use Rattle.tau_pool.proofs.Counts.{waiting-set, flying-set, one}
+use Rattle.tau_pool.proofs.Counts.{waiting_set, flying_set, one}
 use Rattle.tau_pool.proofs.Keeping.{waiting_flies}
 use Rattle.tau_pool.proofs.Flights.{flying_new, flying_fresh, flying_kept, flying_left}
 use Rattle.tau_replay.specs.declared.turns.Replay.{Replay}
 use Rattle.tau_replay.specs.Recovering.{AreHands, held_in, left_over}
 use Rattle.tau_replay.specs.Way.{IsOver}
 use Rattle.tau_replay.specs.Redone.{IsRedone}
+use Rattle.tau_base.proofs.Lists.{got_within, get_set_same, get_set_other}
 
 job_is : (a b : Job) → Some (Some a) ≡ Some (Some b) → a ≡ b
 job_is a b e = cc
@@ -56,8 +56,8 @@ flying_waits p job f = by f.item.stage f.started
 pub less_start : (p : Pooled) (job : Job) (q : Pooled) → IsStarted p job q → (left_over q.items < left_over p.items) × (flying_in q.items ≡ flying_in p.items + 1)
 less_start p job q s =
     let items : q.items ≡ set p.items job.place (staged Flying s.item) = ap (λ (z : Pooled). z.items) s.new in
-    let w = waiting-set p.items job.place s.item (staged Flying s.item) s.there in
-    let f = flying-set p.items job.place s.item (staged Flying s.item) s.there in
+    let w = waiting_set p.items job.place s.item (staged Flying s.item) s.there in
+    let f = flying_set p.items job.place s.item (staged Flying s.item) s.there in
     let a : one (is_waiting s.item.stage) ≡ 1 = ap one s.unstarted in
     let b : one (is_flying s.item.stage) ≡ 0 = ap one (waiting_flies s.item.stage s.unstarted) in
     let wq : waiting_in q.items ≡ waiting_in (set p.items job.place (staged Flying s.item)) = ap waiting_in items in
@@ -67,8 +67,8 @@ less_start p job q s =
 pub less_finish : (p : Pooled) (job : Job) (q : Pooled) → IsFlying p job → IsFinished p job q → (left_over q.items < left_over p.items) × (flying_in q.items + 1 ≡ flying_in p.items)
 less_finish p job q j h =
     let items : q.items ≡ set p.items job.place (staged Finished j.item) = h.items j.item j.there in
-    let w = waiting-set p.items job.place j.item (staged Finished j.item) j.there in
-    let f = flying-set p.items job.place j.item (staged Finished j.item) j.there in
+    let w = waiting_set p.items job.place j.item (staged Finished j.item) j.there in
+    let f = flying_set p.items job.place j.item (staged Finished j.item) j.there in
     let a : one (is_waiting j.item.stage) ≡ 0 = ap one (flying_waits p job j) in
     let b : one (is_flying j.item.stage) ≡ 1 = ap one j.started in
     let wq : waiting_in q.items ≡ waiting_in (set p.items job.place (staged Finished j.item)) = ap waiting_in items in
@@ -101,7 +101,7 @@ hands_start p hands w job q h idle s = record {
 }
   where
     here : slice_get (set hands w (Some job)) w ≡ Some (Some job)
-    here = get_set_same hands w (Some job) (get_within hands w None idle)
+    here = get_set_same hands w (Some job) (got_within hands w None idle)
 
 pub hands_finish : (p : Pooled) (hands : List (Option Job)) (w : ℕ) (job : Job) (q : Pooled) → AreHands p hands → slice_get hands w ≡ Some (Some job) → IsFinished p job q → AreHands q (set hands w None)
 hands_finish p hands w job q h busy done = record {
@@ -120,7 +120,7 @@ hands_finish p hands w job q h busy done = record {
 }
   where
     here : slice_get (set hands w None) w ≡ Some None
-    here = get_set_same hands w None (get_within hands w (Some job) busy)
+    here = get_set_same hands w None (got_within hands w (Some job) busy)
 
 pub some_hand : (hands : List (Option Job)) → 1 ≤ held_in hands → (w : ℕ) × (job : Job) × (slice_get hands w ≡ Some (Some job))
 some_hand [] le = absurd (omega (arith, le))

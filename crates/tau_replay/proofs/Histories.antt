@@ -8,20 +8,21 @@ use Rattle.tau_base.specs.declared.value.LogMode.{LogMode}
 use Rattle.tau_model.specs.Logged.{Place, IsLogged, IsCutAt, Orderly}
 use Rattle.tau_model.specs.Redo.{Content, content, redo_contents}
 use Rattle.tau_model.specs.Tables.{IsTablesOf}
-use Rattle.tau_model.proofs.Reorder.{reordered-trans, reordered-sym}
-use Rattle.tau_model.proofs.Replays.{finished, ready_exists, turns-keep, started}
+use Rattle.tau_model.proofs.Reorder.{reordered_trans, reordered_sym}
+use Rattle.tau_model.proofs.Replays.{finished, ready_exists, turns_keep, started}
 use Rattle.tau_model.proofs.Theorems.{orderly_redo_law}
 use Rattle.tau_scan.specs.Taken.{Kept, taken}
 use Rattle.tau_scan.specs.declared.log.Log.{Log}
 use Rattle.tau_replay.specs.Redone.{IsOrderOf}
 use Rattle.tau_replay.specs.Laws.{OrderlyTurns, SomeReady, RunsAgree, OneRecovery, RunsOrdersAgree, place_of, waiting, kept_of}
 use Rattle.tau_replay.proofs.Ones.{tables_one}
+use Rattle.tau_base.proofs.Lists.{map_append, map_map}
 
-pub orderly-turns : OrderlyTurns
-orderly-turns records order turns is = finished place_of records turns order is
+pub orderly_turns : OrderlyTurns
+orderly_turns records order turns is = finished place_of records turns order is
 
-pub some-ready : SomeReady
-some-ready records order turns s is idle same orderly = ready_exists place_of records order s (turns-keep place_of records (waiting records) turns s (started place_of records) is) idle same orderly
+pub some_ready : SomeReady
+some_ready records order turns s is idle same orderly = ready_exists place_of records order s (turns_keep place_of records (waiting records) turns s (started place_of records) is) idle same orderly
 
 split_map : {A B : Type 0} (f : A → B) (front back : List B) (ys : List A) → front ++ back ≡ map f ys → (u v : List A) × (ys ≡ u ++ v) × (map f u ≡ front) × (map f v ≡ back)
 split_map f [] back ys e = ([], ys, refl, refl, sym e)
@@ -32,21 +33,13 @@ split_map {A} {B} f (b ∷ front) back (y ∷ ys) e =
     let (u, v, is, a, c) = split_map f front back ys tail in
     (y ∷ u, v, ap (λ (zs : List A). y ∷ zs) is, (λ i. sym head i ∷ a i), c)
 
-map-append : {A B : Type 0} (f : A → B) (xs ys : List A) → map f (xs ++ ys) ≡ map f xs ++ map f ys
-map-append f [] ys = refl
-map-append {A} {B} f (x ∷ xs) ys = ap (λ (zs : List B). f x ∷ zs) (map-append f xs ys)
-
 lift : {A B : Type 0} (f : A → B) (xs : List A) (zs : List B) → Reordered (map f xs) zs → (ys : List A) × (zs ≡ map f ys) × Reordered xs ys
 lift f [] zs r = ([], r, refl)
 lift {A} {B} f (x ∷ xs) zs (front, back, e, r) =
     let (ys, is, more) = lift f xs (front ++ back) r in
     let (u, v, cut, a, c) = split_map f front back ys is in
-    let all : map f (u ++ x ∷ v) ≡ front ++ f x ∷ back = map-append f u (x ∷ v) ∙ ap (λ (ws : List B). ws ++ f x ∷ map f v) a ∙ ap (λ (ws : List B). front ++ f x ∷ ws) c in
+    let all : map f (u ++ x ∷ v) ≡ front ++ f x ∷ back = map_append f u (x ∷ v) ∙ ap (λ (ws : List B). ws ++ f x ∷ map f v) a ∙ ap (λ (ws : List B). front ++ f x ∷ ws) c in
     (u ++ x ∷ v, e ∙ sym all, (u, v, refl, subst (λ (ws : List A). Reordered xs ws) cut more))
-
-map-map : {A B C : Type 0} (g : B → C) (f : A → B) (xs : List A) → map g (map f xs) ≡ map (λ x. g (f x)) xs
-map-map g f [] = refl
-map-map {A} {B} {C} g f (x ∷ xs) = ap (λ (zs : List C). g (f x) ∷ zs) (map-map g f xs)
 
 abbrev content_of : Kept → Content
 content_of r = r.content
@@ -59,27 +52,27 @@ cut_redone : (procs : List Proc) (h : List Numbered) (place : Numbered → Place
 cut_redone procs h place ends logged cut chosen is_cut mode log same_procs same order o =
     let held : List (Act Numbered) = filter (λ x. chosen x.call) (trace (means procs) h empty_db) in
     let redo = orderly_redo_law procs h empty_db place ends logged cut chosen is_cut in
-    let (ys, is, more) = lift (kept_of place mode) held order (reordered-trans (map (kept_of place mode) held) (taken log) order same o.each_once) in
-    let orderly : Orderly (map (λ (x : Act Numbered). place x.call) ys) = subst (λ (ps : List Place). Orderly ps) (ap (λ (os : List Kept). map place_of os) is ∙ map-map place_of (kept_of place mode) ys) o.orderly in
+    let (ys, is, more) = lift (kept_of place mode) held order (reordered_trans (map (kept_of place mode) held) (taken log) order same o.each_once) in
+    let orderly : Orderly (map (λ (x : Act Numbered). place x.call) ys) = subst (λ (ps : List Place). Orderly ps) (ap (λ (os : List Kept). map place_of os) is ∙ map_map place_of (kept_of place mode) ys) o.orderly in
     let done : redo_contents procs (map (λ (x : Act Numbered). content (mode x) x) ys) empty_db ≡ exec (means procs) (filter chosen h) empty_db = redo.1 ys mode more orderly in
-    let contents : map content_of order ≡ map (λ (x : Act Numbered). content (mode x) x) ys = ap (λ (os : List Kept). map content_of os) is ∙ map-map content_of (kept_of place mode) ys in
+    let contents : map content_of order ≡ map (λ (x : Act Numbered). content (mode x) x) ys = ap (λ (os : List Kept). map content_of os) is ∙ map_map content_of (kept_of place mode) ys in
     ap (λ (ps : List Proc). redo_contents ps (map content_of order) empty_db) same_procs ∙ ap (λ (cs : List Content). redo_contents procs cs empty_db) contents ∙ done
 
-pub runs-agree : RunsAgree
-runs-agree procs h place ends logged cut chosen is_cut mode log same_procs same =
+pub runs_agree : RunsAgree
+runs_agree procs h place ends logged cut chosen is_cut mode log same_procs same =
     let held : List (Act Numbered) = filter (λ x. chosen x.call) (trace (means procs) h empty_db) in
     let redo = orderly_redo_law procs h empty_db place ends logged cut chosen is_cut in (
       (
         map (kept_of place mode) held,
-        record { each_once = reordered-sym (map (kept_of place mode) held) (taken log) same; orderly = subst (λ (ps : List Place). Orderly ps) (sym (map-map place_of (kept_of place mode) held)) redo.0 },
+        record { each_once = reordered_sym (map (kept_of place mode) held) (taken log) same; orderly = subst (λ (ps : List Place). Orderly ps) (sym (map_map place_of (kept_of place mode) held)) redo.0 },
       ),
       λ rows r. subst (λ (db : Db). IsTablesOf db rows) (cut_redone procs h place ends logged cut chosen is_cut mode log same_procs same r.order r.is_order) r.tables,
     )
 
-pub runs-orders_agree : RunsOrdersAgree
-runs-orders_agree procs h place ends logged cut chosen is_cut mode log same_procs same one other a b =
+pub runs_orders_agree : RunsOrdersAgree
+runs_orders_agree procs h place ends logged cut chosen is_cut mode log same_procs same one other a b =
     cut_redone procs h place ends logged cut chosen is_cut mode log same_procs same one a ∙ sym (cut_redone procs h place ends logged cut chosen is_cut mode log same_procs same other b)
 
-pub one-recovery : OneRecovery
-one-recovery log rows other agree a b =
+pub one_recovery : OneRecovery
+one_recovery log rows other agree a b =
     tables_one (redo_contents log.declarations.procs (map content_of b.order) empty_db) rows other (subst (λ (db : Db). IsTablesOf db rows) (agree a.order b.order a.is_order b.is_order) a.tables) b.tables

@@ -7,8 +7,8 @@ use Rattle.tau_proc.specs.declared.proc.Proc.{Proc}
 use Rattle.tau_model.specs.History.{Member, Reordered}
 use Rattle.tau_model.specs.Logged.{Place, StartBehind, Orderly}
 use Rattle.tau_model.specs.Redo.{Content, redone, redo_contents}
-use Rattle.tau_model.proofs.Reorder.{reordered-itself, reordered-trans, reordered-put}
-use Rattle.tau_model.proofs.Replays.{reordered-behind}
+use Rattle.tau_model.proofs.Reorder.{reordered_itself, reordered_trans, reordered_put}
+use Rattle.tau_model.proofs.Replays.{reordered_behind}
 use Rattle.tau_scan.specs.declared.log.Log.{Log}
 use Rattle.tau_scan.specs.Taken.{Kept}
 use Rattle.tau_pool.specs.Item.{Item}
@@ -16,27 +16,27 @@ use Rattle.tau_pool.specs.declared.item.Stage.{Stage}
 use Rattle.tau_pool.specs.declared.item.Stage.TheVariants.{Finished}
 use Rattle.tau_pool.specs.Items.{is_left}
 use Rattle.tau_pool.specs.Pooled.{staged}
-use Rattle.tau_pool.proofs.Gets.{some_is}
 use Rattle.tau_replay.specs.Recovering.{IsOf, AreOf, left_in}
+use Rattle.tau_base.proofs.Logic.{some_is}
 
 -- ---- orders
 
-start-push : (v : List ℕ) (xs : List Place) (p : Place) → StartBehind v xs → slice_index v p.stream ≤ p.start → StartBehind v (xs ++ p ∷ [])
-start-push v [] p h e = (e, tt)
-start-push v (x ∷ xs) p h e = (h.0, start-push v xs p h.1 e)
+start_push : (v : List ℕ) (xs : List Place) (p : Place) → StartBehind v xs → slice_index v p.stream ≤ p.start → StartBehind v (xs ++ p ∷ [])
+start_push v [] p h e = (e, tt)
+start_push v (x ∷ xs) p h e = (h.0, start_push v xs p h.1 e)
 
-pub orderly-push : (xs : List Place) (p : Place) → Orderly xs → ((x : Place) → Member x xs → slice_index x.dep p.stream ≤ p.start) → slice_index p.dep p.stream ≤ p.start → Orderly (xs ++ p ∷ [])
-orderly-push [] p h all own = ((own, tt), tt)
-orderly-push (x ∷ xs) p h all own = ((h.0.0, start-push x.dep xs p h.0.1 (all x (inl refl))), orderly-push xs p h.1 (λ y m. all y (inr m)) own)
+pub orderly_push : (xs : List Place) (p : Place) → Orderly xs → ((x : Place) → Member x xs → slice_index x.dep p.stream ≤ p.start) → slice_index p.dep p.stream ≤ p.start → Orderly (xs ++ p ∷ [])
+orderly_push [] p h all own = ((own, tt), tt)
+orderly_push (x ∷ xs) p h all own = ((h.0.0, start_push x.dep xs p h.0.1 (all x (inl refl))), orderly_push xs p h.1 (λ y m. all y (inr m)) own)
 
-pub map-push : {A B : Type 0} (f : A → B) (xs : List A) (x : A) → map f (xs ++ x ∷ []) ≡ map f xs ++ f x ∷ []
-map-push f [] x = refl
-map-push f (y ∷ ys) x = ap (λ zs. f y ∷ zs) (map-push f ys x)
+pub map_push : {A B : Type 0} (f : A → B) (xs : List A) (x : A) → map f (xs ++ x ∷ []) ≡ map f xs ++ f x ∷ []
+map_push f [] x = refl
+map_push f (y ∷ ys) x = ap (λ zs. f y ∷ zs) (map_push f ys x)
 
-pub member-map : {A B : Type 0} (f : A → B) (xs : List A) (b : B) → Member b (map f xs) → (a : A) × Member a xs × (f a ≡ b)
-member-map f [] b m = absurd m
-member-map f (x ∷ xs) b (inl e) = (x, inl refl, e)
-member-map f (x ∷ xs) b (inr m) = let (a, n, e) = member-map f xs b m in (a, inr n, e)
+pub member_map : {A B : Type 0} (f : A → B) (xs : List A) (b : B) → Member b (map f xs) → (a : A) × Member a xs × (f a ≡ b)
+member_map f [] b m = absurd m
+member_map f (x ∷ xs) b (inl e) = (x, inl refl, e)
+member_map f (x ∷ xs) b (inr m) = let (a, n, e) = member_map f xs b m in (a, inr n, e)
 
 pub pushed : {A : Type 0} (xs : List A) (r p : A) → Member p (xs ++ r ∷ []) → Member p xs ⊎ (r ≡ p)
 pushed [] r p (inl e) = inr e
@@ -46,12 +46,12 @@ pushed (x ∷ xs) r p (inr m) = elim (pushed xs r p m) [ inl a ↦ inl (inr a) |
 
 -- a record that was left stands at the end of the order instead
 pub moved : {A : Type 0} (taken order front back : List A) (r : A) → Reordered taken (order ++ (front ++ r ∷ back)) → Reordered taken ((order ++ r ∷ []) ++ (front ++ back))
-moved taken order front back r h = reordered-trans taken (order ++ (front ++ r ∷ back)) ((order ++ r ∷ []) ++ (front ++ back)) h
-    (rw (append_assoc order (r ∷ []) (front ++ back)) (reordered-behind order (front ++ r ∷ back) (r ∷ (front ++ back)) (reordered-put r front back (front ++ back) (reordered-itself (front ++ back)))))
+moved taken order front back r h = reordered_trans taken (order ++ (front ++ r ∷ back)) ((order ++ r ∷ []) ++ (front ++ back)) h
+    (rw (append_assoc order (r ∷ []) (front ++ back)) (reordered_behind order (front ++ r ∷ back) (r ∷ (front ++ back)) (reordered_put r front back (front ++ back) (reordered_itself (front ++ back)))))
 
-pub redo-push : (procs : List Proc) (xs : List Content) (x : Content) (db : Db) → redo_contents procs (xs ++ x ∷ []) db ≡ redone procs x (redo_contents procs xs db)
-redo-push procs [] x db = refl
-redo-push procs (y ∷ ys) x db = redo-push procs ys x (redone procs y db)
+pub redo_push : (procs : List Proc) (xs : List Content) (x : Content) (db : Db) → redo_contents procs (xs ++ x ∷ []) db ≡ redone procs x (redo_contents procs xs db)
+redo_push procs [] x db = refl
+redo_push procs (y ∷ ys) x db = redo_push procs ys x (redone procs y db)
 
 -- ---- records and their items
 

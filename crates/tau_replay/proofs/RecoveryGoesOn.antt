@@ -6,12 +6,12 @@ use Rattle.std.proofs.lemmas.Bool.{cases_eq, cases_lt}
 use Rattle.std.proofs.lemmas.Bool.Decides.{nat_tests}
 use Rattle.tau_base.specs.Database.{Db, empty_db}
 use Rattle.tau_base.specs.Vectors.{covers}
-use Rattle.tau_base.proofs.Vectors.{covers-at_most}
+use Rattle.tau_base.proofs.Vectors.{covers_at_most, beyond}
 use Rattle.tau_model.specs.History.{Member, Reordered}
 use Rattle.tau_model.specs.Logged.{Place, Orderly}
 use Rattle.tau_model.specs.Redo.{Content, redone, redo_contents}
 use Rattle.tau_model.specs.Replay.{Replaying}
-use Rattle.tau_model.proofs.Orders.{member-put}
+use Rattle.tau_model.proofs.Orders.{member_put}
 use Rattle.tau_model.proofs.Replays.{Going, ready_exists}
 use Rattle.tau_scan.specs.declared.log.Log.{Log}
 use Rattle.tau_scan.specs.Reading.{IsLog}
@@ -23,30 +23,23 @@ use Rattle.tau_pool.specs.declared.item.Stage.TheVariants.{Waiting, Flying, Fini
 use Rattle.tau_pool.specs.Items.{is_left, is_waiting, is_flying, items_from}
 use Rattle.tau_pool.specs.Passing.{Behind, Ordered}
 use Rattle.tau_pool.specs.Pooled.{Pooled, IsRecovered, IsStarted, IsFlying, IsFinished, IsDone, NoneReady, IsFirstLeft, staged, flying_in}
-use Rattle.tau_pool.proofs.Gets.{some_is, get_within, get_member}
-use Rattle.tau_pool.proofs.Counts.{none-flying}
+use Rattle.tau_pool.proofs.Gets.{get_member}
+use Rattle.tau_pool.proofs.Counts.{none_flying}
 use Rattle.tau_pool.proofs.Stages.{found_set}
 use Rattle.tau_pool.proofs.Opening.{of_log}
 use Rattle.tau_replay.specs.Recovering.{IsOf, AreOf, left_in, IsAhead, IsGoing}
 use Rattle.tau_replay.specs.Redone.{IsOrderOf, IsTangledAt, WaitsFor}
-use Rattle.tau_replay.proofs.Lists.{orderly-push, map-push, member-map, pushed, moved, redo-push, of_get, of_set, left_same, left_get, left_put, left_out}
+use Rattle.tau_replay.proofs.Lists.{orderly_push, map_push, member_map, pushed, moved, redo_push, of_get, of_set, left_same, left_get, left_put, left_out}
 use Rattle.tau_replay.proofs.Starting.{of_taken, taken_covered}
+use Rattle.tau_base.proofs.Logic.{some_is}
+use Rattle.tau_base.proofs.Lists.{got_within}
+use Rattle.tau_pool.proofs.Keeping.{waiting_left, flying_left}
 
 abbrev place_of : Kept → Place
 place_of r = r.place
 
 abbrev content_of : Kept → Content
 content_of r = r.content
-
-waits_left : (s : Stage) → is_waiting s ≡ true → is_left s ≡ true
-waits_left Waiting is = refl
-waits_left Flying is = absurd cc
-waits_left Finished is = absurd cc
-
-flies_left : (s : Stage) → is_flying s ≡ true → is_left s ≡ true
-flies_left Waiting is = absurd cc
-flies_left Flying is = refl
-flies_left Finished is = absurd cc
 
 left_waits : (s : Stage) → is_left s ≡ true → (is_flying s ≡ true → ⊥) → is_waiting s ≡ true
 left_waits Waiting is no_flight = refl
@@ -66,7 +59,7 @@ going_start log p db order job q g s rec = subst (λ (z : Pooled). IsGoing log z
   each_once = subst (λ (rest : List Kept). Reordered (taken log) (order ++ rest)) (sym same) g.each_once;
   orderly = g.orderly;
   ahead = λ r m. subst (λ (rest : List Kept). IsAhead r rest) (sym same) (g.ahead r m);
-  flying = λ k y r at held flies. subst (λ (rest : List Kept). IsAhead r rest) (sym same) (elim (found_set p.items job.place (staged Flying s.item) k y (get_within p.items job.place s.item s.there) at) [
+  flying = λ k y r at held flies. subst (λ (rest : List Kept). IsAhead r rest) (sym same) (elim (found_set p.items job.place (staged Flying s.item) k y (got_within p.items job.place s.item s.there) at) [
     | inl a ↦ ready_ahead r (subst (λ (n : ℕ). slice_get (taken log) n ≡ Some r) a.0 held)
     | inr b ↦ g.flying k y r b.1 held flies
   ]);
@@ -74,7 +67,7 @@ going_start log p db order job q g s rec = subst (λ (z : Pooled). IsGoing log z
 })
   where
     same : left_in (taken log) (set p.items job.place (staged Flying s.item)) ≡ left_in (taken log) p.items
-    same = left_same Flying (taken log) p.items job.place s.item s.there (sym (waits_left s.item.stage s.unstarted))
+    same = left_same Flying (taken log) p.items job.place s.item s.there (sym (waiting_left s.item.stage s.unstarted))
 
     ready_ahead : (r : Kept) → slice_get (taken log) job.place ≡ Some r → IsAhead r (left_in (taken log) p.items)
     ready_ahead r held q' m =
@@ -91,30 +84,30 @@ pub going_finish : (log : Log) (p : Pooled) (db : Db) (order : List Kept) (job :
     slice_get (taken log) job.place ≡ Some r → db' ≡ redone log.declarations.procs r.content db → IsGoing log q db' (order ++ r ∷ [])
 going_finish log p db order job q r db' g f h rec held is =
     let x = f.item in
-    let left = flies_left x.stage f.started in
+    let left = flying_left x.stage f.started in
     let items : q.items ≡ set p.items job.place (staged Finished x) = h.items x f.there in
     let (front, back, before, after) = left_out (taken log) p.items job.place x r f.there held left in
     let rest : left_in (taken log) q.items ≡ front ++ back = ap (λ (xs : List Item). left_in (taken log) xs) items ∙ after in
     let less : (y : Kept) → Member y (left_in (taken log) q.items) → Member y (left_in (taken log) p.items) = λ y m.
-    subst (λ (zs : List Kept). Member y zs) (sym before) (member-put r y front back (subst (λ (zs : List Kept). Member y zs) rest m)) in
+    subst (λ (zs : List Kept). Member y zs) (sym before) (member_put r y front back (subst (λ (zs : List Kept). Member y zs) rest m)) in
     let mine = g.flying job.place x r f.there held f.started in
     record {
       ends = h.ends ∙ g.ends;
       recovered = rec;
       items = subst (λ (xs : List Item). AreOf log (taken log) xs) (sym items) (of_set log Finished (taken log) p.items job.place x f.there g.items);
       each_once = subst (λ (zs : List Kept). Reordered (taken log) ((order ++ r ∷ []) ++ zs)) (sym rest) (moved (taken log) order front back r (subst (λ (zs : List Kept). Reordered (taken log) (order ++ zs)) before g.each_once));
-      orderly = subst (λ (ps : List Place). Orderly ps) (sym (map-push place_of order r)) (orderly-push (map place_of order) r.place g.orderly
-          (λ y m. let (z, n, e) = member-map place_of order y m in subst (λ (w : Place). slice_index w.dep r.place.stream ≤ r.place.start) e (g.ahead z n r (left_put (taken log) p.items job.place x r f.there held left)))
+      orderly = subst (λ (ps : List Place). Orderly ps) (sym (map_push place_of order r)) (orderly_push (map place_of order) r.place g.orderly
+          (λ y m. let (z, n, e) = member_map place_of order y m in subst (λ (w : Place). slice_index w.dep r.place.stream ≤ r.place.start) e (g.ahead z n r (left_put (taken log) p.items job.place x r f.there held left)))
           (mine r (left_put (taken log) p.items job.place x r f.there held left)));
       ahead = λ y m z n. elim (pushed order r y m) [
         | inl a ↦ g.ahead y a z (less z n)
         | inr e ↦ subst (λ (w : Kept). slice_index w.place.dep z.place.stream ≤ z.place.start) e (mine z (less z n))
       ];
-      flying = λ k y z at kept flies w n. elim (found_set p.items job.place (staged Finished x) k y (get_within p.items job.place x f.there) (subst (λ (xs : List Item). slice_get xs k ≡ Some y) items at)) [
+      flying = λ k y z at kept flies w n. elim (found_set p.items job.place (staged Finished x) k y (got_within p.items job.place x f.there) (subst (λ (xs : List Item). slice_get xs k ≡ Some y) items at)) [
         | inl a ↦ let off : is_flying y.stage ≡ false = ap (λ (i : Item). is_flying i.stage) (sym a.1) in absurd cc
         | inr b ↦ g.flying k y z b.1 kept flies w (less w n)
       ];
-      database = is ∙ ap (redone log.declarations.procs r.content) g.database ∙ sym (ap (λ (cs : List Content). redo_contents log.declarations.procs cs empty_db) (map-push content_of order r) ∙ redo-push log.declarations.procs (map content_of order) r.content empty_db);
+      database = is ∙ ap (redone log.declarations.procs r.content) g.database ∙ sym (ap (λ (cs : List Content). redo_contents log.declarations.procs cs empty_db) (map_push content_of order r) ∙ redo_push log.declarations.procs (map content_of order) r.content empty_db);
     }
 
 -- ---- nothing is left
@@ -126,14 +119,9 @@ none_in (x ∷ xs) none = absurd (none x (inl refl))
 pub none_left : (log : Log) (p : Pooled) (db : Db) (order : List Kept) → IsGoing log p db order → IsDone p → flying_in p.items ≡ 0 → left_in (taken log) p.items ≡ []
 none_left log p db order g over idle = none_in (left_in (taken log) p.items) (λ q m.
     let (k, y, at, held, left, of) = left_get log (taken log) p.items q g.items m in
-    over k y at (left_waits y.stage left (none-flying p.items idle k y at)))
+    over k y at (left_waits y.stage left (none_flying p.items idle k y at)))
 
 -- ---- nothing is ready
-
-pub past_end : (xs : List ℕ) (j : ℕ) → length xs ≤ j → slice_index xs j ≡ 0
-past_end [] j le = refl
-past_end (y ∷ xs) zero le = absurd (omega (arith, le))
-past_end (y ∷ xs) (suc j) le = past_end xs j (omega (arith, le))
 
 uncovered : (w v : List ℕ) → covers w v ≡ false → (j : ℕ) × (slice_index w j < slice_index v j)
 uncovered w [] e = absurd cc
@@ -158,10 +146,10 @@ uncovered (b ∷ w) (a ∷ v) e = by_test (λ f. uncovered w v f) (nat_le a b) r
 pub waits_for_one : (log : Log) (p : Pooled) (db : Db) (order : List Kept) → IsGoing log p db order → NoneReady p → flying_in p.items ≡ 0 → (r : Kept) → Member r (left_in (taken log) p.items) → WaitsFor r (left_in (taken log) p.items)
 waits_for_one log p db order g none idle r m =
     let (k, y, at, held, left, of) = left_get log (taken log) p.items r g.items m in
-    by_test k y at held of (left_waits y.stage left (none-flying p.items idle k y at)) (covers p.rlv y.dep) refl
+    by_test k y at held of (left_waits y.stage left (none_flying p.items idle k y at)) (covers p.rlv y.dep) refl
   where
     by_test : (k : ℕ) (y : Item) → slice_get p.items k ≡ Some y → slice_get (taken log) k ≡ Some r → IsOf log r y → is_waiting y.stage ≡ true → (b : Bool) → covers p.rlv y.dep ≡ b → WaitsFor r (left_in (taken log) p.items)
-    by_test k y at held of waits true e = absurd (none k y at waits (covers-at_most p.rlv y.dep e))
+    by_test k y at held of waits true e = absurd (none k y at waits (covers_at_most p.rlv y.dep e))
     by_test k y at held of waits false e =
         let (j, above) = uncovered p.rlv y.dep e in
         let taken_low = taken_covered log r (get_member (taken log) k r held) j in
@@ -176,7 +164,7 @@ waits_for_one log p db order g none idle r m =
                 let dep : slice_index r.place.dep j ≡ slice_index r.place.dep q.place.stream = ap (λ (n : ℕ). slice_index r.place.dep n) (sym stream ∙ of_q.stream) in
                 (q, left_put (taken log) p.items i z q there kept left, omega (arith, above, same, start, of_q.start, dep))
           ]
-          | inr past ↦ let zero_end = past_end p.ends j past in absurd (omega (arith, above, same, ends, taken_low, zero_end))
+          | inr past ↦ let zero_end = beyond p.ends j past in absurd (omega (arith, above, same, ends, taken_low, zero_end))
         ]
 
 -- so no order of the taken records is orderly

@@ -15,7 +15,7 @@ use Rattle.tau_pool.specs.declared.item.Stage.{Stage}
 use Rattle.tau_pool.specs.declared.item.Stage.TheVariants.{Waiting, Flying, Finished}
 use Rattle.tau_pool.specs.Items.{is_left, is_waiting, is_flying}
 use Rattle.tau_pool.specs.Pooled.{Pooled, IsRecovered, IsStarted, IsFlying, IsFinished, staged, flying_in}
-use Rattle.tau_pool.proofs.Gets.{some_is, get_within, get_member, get_set_same}
+use Rattle.tau_pool.proofs.Gets.{get_member}
 use Rattle.tau_replay.specs.declared.turns.Replay.{Replay}
 use Rattle.tau_replay.specs.declared.view.TheConstants.{HANDS}
 use Rattle.tau_replay.specs.Recovering.{IsGoing, IsHeld, AreHands}
@@ -23,9 +23,11 @@ use Rattle.tau_replay.specs.Followed.{HasFollowed}
 use Rattle.tau_replay.specs.Sound.{settled_stage, settled_item, settled, IsSound, AreWorking}
 use Rattle.tau_replay.proofs.Lists.{of_get, left_put}
 use Rattle.tau_replay.proofs.Starting.{taken_covered}
-use Rattle.tau_replay.proofs.RecoveryGoesOn.{past_end}
 use Rattle.tau_replay.proofs.Following.{follow_start, follow_finish}
 use Rattle.tau_replay.proofs.Hands.{empty_hands, none_of_idle}
+use Rattle.tau_base.proofs.Vectors.{beyond}
+use Rattle.tau_base.proofs.Logic.{some_is}
+use Rattle.tau_base.proofs.Lists.{got_within, get_set_same}
 
 -- ---- stages
 
@@ -108,7 +110,7 @@ flying_covered log p db order job g f j =
             let ahead = g.flying job.place x r f.there held f.started q (left_put (taken log) p.items i z q there kept left) in
             omega (arith, ahead, same, start, of_q.start, dep)
       ]
-      | inr past ↦ let zero_end = past_end p.ends j past in omega (arith, low, same, ends, zero_end)
+      | inr past ↦ let zero_end = beyond p.ends j past in omega (arith, low, same, ends, zero_end)
     ]
 
 pub settled_finish : (log : Log) (turns : List ℕ) (p q : Pooled) (job : Job) (r : Kept) (db after : Db) → HasFollowed log turns (settled p) (replicate 16 None) db → (f : IsFlying p job) → AtMost f.item.dep p.rlv → IsHeld log job r →
@@ -119,7 +121,7 @@ settled_finish log turns p q job r db after followed f low held h rec is =
     let y : Item = staged Flying (settled_item x) in
     let m : Pooled = record { ends = p.ends; rlv = p.rlv; items = set (map settled_item p.items) job.place y } in
     let began : IsStarted (settled p) job m = record { item = settled_item x; there = at; unstarted = flies_settled x.stage f.started; ready = low; named = f.named; new = refl } in
-    let here : slice_get m.items job.place ≡ Some y = get_set_same (map settled_item p.items) job.place y (get_within (map settled_item p.items) job.place (settled_item x) at) in
+    let here : slice_get m.items job.place ≡ Some y = get_set_same (map settled_item p.items) job.place y (got_within (map settled_item p.items) job.place (settled_item x) at) in
     let done : IsFinished m job (settled q) = record {
       ends = h.ends;
       items = λ z there.

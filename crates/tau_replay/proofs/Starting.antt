@@ -4,7 +4,7 @@ use Rattle.std.specs.Prelude.{Some, slice_get, if◌then◌else◌}
 use Rattle.std.specs.List.{filter}
 use Rattle.std.proofs.lemmas.List.Elements.{filter-append}
 use Rattle.tau_base.specs.Vectors.{AtMost, covers}
-use Rattle.tau_base.proofs.Vectors.{covers-at_most}
+use Rattle.tau_base.proofs.Vectors.{covers_at_most}
 use Rattle.tau_model.specs.History.{Member}
 use Rattle.tau_record.specs.declared.entry.Entry.{Entry}
 use Rattle.tau_record.specs.declared.entry.Entry.TheVariants.{Written, Command, Anchor, Catalogue}
@@ -80,4 +80,4 @@ kept_passes p (y ∷ ys) x m = by_test (λ n. kept_passes p ys x n) (p y) refl m
     by_test more false e m = more (subst (λ (b : Bool). Member x (if b then y ∷ filter p ys else filter p ys)) e m)
 
 pub taken_covered : (log : Log) (r : Kept) → Member r (taken log) → AtMost r.place.dep log.elv
-taken_covered log r m = covers-at_most log.elv r.place.dep (kept_passes (is_kept log) (kept_from 0 log.streams) r m)
+taken_covered log r m = covers_at_most log.elv r.place.dep (kept_passes (is_kept log) (kept_from 0 log.streams) r m)

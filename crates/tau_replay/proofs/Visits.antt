@@ -5,13 +5,13 @@ use Rattle.std.specs.Prelude.{Option, Some, None, slice_get}
 use Rattle.std.proofs.Math.ListN.{set}
 use Rattle.tau_scan.specs.declared.log.Log.{Log}
 use Rattle.tau_pool.specs.declared.item.Job.{Job}
-use Rattle.tau_pool.proofs.Gets.{get_within, get_set_same, get_set_other}
 use Rattle.tau_replay.specs.declared.turns.Replay.{Replay}
 use Rattle.tau_replay.specs.Followed.{Followed}
 use Rattle.tau_replay.specs.Way.{IsOnWay}
 use Rattle.tau_replay.specs.Rule.{Hand, Sat, Boxed, hands_of, holding, given, hands_now, IsNoneOf, OthersStay, MayGive, IsIdle}
 use Rattle.tau_replay.specs.Sound.{IsSound, AreWorking}
 use Rattle.tau_replay.specs.Working.{AreFrom, IsFor, Went, RestStays}
+use Rattle.tau_base.proofs.Lists.{got_within, get_set_same, get_set_other}
 
 -- one more turn
 pub sound_turn : (log : Log) (r s : Replay) (worker : ℕ) (k : IsSound log r) → IsOnWay log s → ((turns : List ℕ) → Followed log turns r → Followed log (turns ++ worker ∷ []) s) → IsSound log s
@@ -47,7 +47,7 @@ rest_more first i a b c one two v far = two v (by_side far).0 ∙ one v (by_side
     by_side (inr le) = (inr (omega (arith, le)), inr (omega (arith, le)))
 
 pub set_here : (w : ℕ) (old new : List (Option Job)) (o x : Option Job) → slice_get old w ≡ Some o → new ≡ set old w x → slice_get new w ≡ Some x
-set_here w old new o x at is = ap (λ hs. slice_get hs w) is ∙ get_set_same old w x (get_within old w o at)
+set_here w old new o x at is = ap (λ hs. slice_get hs w) is ∙ get_set_same old w x (got_within old w o at)
 
 -- ---- of a seat
 

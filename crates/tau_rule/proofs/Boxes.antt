@@ -9,7 +9,7 @@ use Rattle.tau_machine.specs.Worker.{Worker}
 use Rattle.tau_machine.specs.Pieces.{placed_in, placed_of}
 use Rattle.tau_machine.specs.State.{Outbox, Item, Record, past_of}
 use Rattle.tau_machine.specs.Events.{Event, Post, Leads, with_worker, with_outbox}
-use Rattle.tau_machine.proofs.At.{at-same, at-other}
+use Rattle.tau_machine.proofs.At.{at_same, at_other}
 use Rattle.tau_outbox.specs.declared.Piece.{Piece}
 use Rattle.tau_txn.specs.Txn.{PlainTxn}
 use Rattle.tau_outbox.specs.Pieces as outbox
@@ -26,64 +26,64 @@ use Rattle.tau_rule.specs.Boxes.{BoxOf, box_in, with_box, StepsBox, GivesBox, to
 use Rattle.tau_rule.specs.declared.part.Part.{Part}
 use Rattle.tau_rule.specs.declared.part.Part.TheVariants as part
 use Rattle.tau_core.specs.View.{tickets}
-use Rattle.tau_rule.proofs.Turns.{Turn, reached-invariant, more, reached-on, handed-sees, share-worker, one-role, role-alone, alone}
+use Rattle.tau_rule.proofs.Turns.{Turn, reached_invariant, more, reached_on, handed_sees, share_worker, one_role, role_alone, alone}
 
 module _ (origin : Plain) where
-  pub part-box : (c : Now) (w : ℕ) (p : Part) (b : PlainOutbox × PlainPending) → box_in p ≡ Some b → IsPart origin.load (outbox_part w) p c → IsOutbox origin.load b.0 b.1 (anchors_at c.core) (c.core.outboxes w)
-  part-box c w (part.Shard x) b is h = cc
-  part-box c w (part.Outbox o p) b is h =
+  pub part_box : (c : Now) (w : ℕ) (p : Part) (b : PlainOutbox × PlainPending) → box_in p ≡ Some b → IsPart origin.load (outbox_part w) p c → IsOutbox origin.load b.0 b.1 (anchors_at c.core) (c.core.outboxes w)
+  part_box c w (part.Shard x) b is h = cc
+  part_box c w (part.Outbox o p) b is h =
       let same : w ≡ h.0 = (let e = h.1 in omega arith) in
       let it : (o.value, p.value) ≡ b = cc in
       subst (λ (z : ℕ × (PlainOutbox × PlainPending)). IsOutbox origin.load z.1.0 z.1.1 (anchors_at c.core) (c.core.outboxes z.0)) (λ i. (sym same i, it i)) h.3
-  part-box c w (part.Anchor number lv) b is h = cc
+  part_box c w (part.Anchor number lv) b is h = cc
 
-  pub box-part : (c : Now) (w : ℕ) (p : Part) (b : PlainOutbox × PlainPending) → box_in p ≡ Some b → w < origin.load.workers → IsOutbox origin.load b.0 b.1 (anchors_at c.core) (c.core.outboxes w) → (c.spare w).0 ≤ b.0.room → (c.spare w).1 ≤ b.1.room → IsPart origin.load (outbox_part w) p c
-  box-part c w (part.Shard x) b is low h r s = cc
-  box-part c w (part.Outbox o p) b is low h r s =
+  pub box_part : (c : Now) (w : ℕ) (p : Part) (b : PlainOutbox × PlainPending) → box_in p ≡ Some b → w < origin.load.workers → IsOutbox origin.load b.0 b.1 (anchors_at c.core) (c.core.outboxes w) → (c.spare w).0 ≤ b.0.room → (c.spare w).1 ≤ b.1.room → IsPart origin.load (outbox_part w) p c
+  box_part c w (part.Shard x) b is low h r s = cc
+  box_part c w (part.Outbox o p) b is low h r s =
       let it : b ≡ (o.value, p.value) = cc in
       let all = subst (λ (z : PlainOutbox × PlainPending). IsOutbox origin.load z.0 z.1 (anchors_at c.core) (c.core.outboxes w) × ((c.spare w).0 ≤ z.0.room) × ((c.spare w).1 ≤ z.1.room)) it (h, r, s) in
       (w, refl, low, all.0, all.1, all.2)
-  box-part c w (part.Anchor number lv) b is low h r s = cc
+  box_part c w (part.Anchor number lv) b is low h r s = cc
 
   module _ (c : Now) (w : ℕ) (old : Role) (wk : Worker) (box : Outbox) (spare : ℕ × ℕ) (wide : w < origin.load.workers) where
     abbrev pub on_box : Now
     on_box = record { core = with_outbox (with_worker c.core w wk) w box; raised = c.raised; spare = at w spare c.spare }
 
-    parts-stay : (j : ℕ) (p : Part) → (j ≡ outbox_part w → ⊥) → IsPart origin.load j p c → IsPart origin.load j p on_box
-    parts-stay j (part.Shard b) apart h = h
-    parts-stay j (part.Outbox o p) apart h =
+    parts_stay : (j : ℕ) (p : Part) → (j ≡ outbox_part w → ⊥) → IsPart origin.load j p c → IsPart origin.load j p on_box
+    parts_stay j (part.Shard b) apart h = h
+    parts_stay j (part.Outbox o p) apart h =
         let other : h.0 ≡ w → ⊥ = (λ e. apart (h.1 ∙ ap outbox_part e)) in (
           h.0,
           h.1,
           h.2,
-          subst (λ (z : Outbox). IsOutbox origin.load o.value p.value (anchors_at c.core) z) (sym (at-other w box c.core.outboxes h.0 other)) h.3,
-          subst (λ (z : ℕ × ℕ). z.0 ≤ o.value.room) (sym (at-other w spare c.spare h.0 other)) h.4,
-          subst (λ (z : ℕ × ℕ). z.1 ≤ p.value.room) (sym (at-other w spare c.spare h.0 other)) h.5,
+          subst (λ (z : Outbox). IsOutbox origin.load o.value p.value (anchors_at c.core) z) (sym (at_other w box c.core.outboxes h.0 other)) h.3,
+          subst (λ (z : ℕ × ℕ). z.0 ≤ o.value.room) (sym (at_other w spare c.spare h.0 other)) h.4,
+          subst (λ (z : ℕ × ℕ). z.1 ≤ p.value.room) (sym (at_other w spare c.spare h.0 other)) h.5,
         )
-    parts-stay j (part.Anchor number lv) apart h = h
+    parts_stay j (part.Anchor number lv) apart h = h
 
-    shares-stay : (u : ℕ) (x : Share) → (u ≡ w → ⊥) → IsShare origin.load u x c.core → IsShare origin.load u x on_box.core
-    shares-stay u (Working x) apart h = (h.0, at-other w wk c.core.workers u apart ∙ h.1)
-    shares-stay u (Managing g) apart h = (h.0, h.1, h.2, record { moved = h.3.moved; gathered = h.3.gathered; anchors = h.3.anchors; own = h.3.own })
-    shares-stay u (Clerking acked) apart h = h
+    shares_stay : (u : ℕ) (x : Share) → (u ≡ w → ⊥) → IsShare origin.load u x c.core → IsShare origin.load u x on_box.core
+    shares_stay u (Working x) apart h = (h.0, at_other w wk c.core.workers u apart ∙ h.1)
+    shares_stay u (Managing g) apart h = (h.0, h.1, h.2, record { moved = h.3.moved; gathered = h.3.gathered; anchors = h.3.anchors; own = h.3.own })
+    shares_stay u (Clerking acked) apart h = h
 
-    pub on_box-sees : (v : Knows) → Sees origin c v → Sees origin on_box v
-    on_box-sees v h = record { opened = h.opened; wide = h.wide; low = h.low; own = h.own; read = h.read; found = h.found }
+    pub on_box_sees : (v : Knows) → Sees origin c v → Sees origin on_box v
+    on_box_sees v h = record { opened = h.opened; wide = h.wide; low = h.low; own = h.own; read = h.read; found = h.found }
 
-    pub on_box-turn : (e : Event) (new : List (Act Txn)) → Meets origin c → IsRole origin.load w old c → Leads (setting_of origin.load) e c.core on_box.core new → Turn origin c on_box (outbox_part w) w (with_box old wk spare)
-    on_box-turn e new meets mine leads = record {
-      parts = λ j p low apart h. parts-stay j p apart h;
-      mine = ((wide, at-same w wk c.core.workers), mine.1, at-same w spare c.spare);
-      others = λ u x apart h. (shares-stay u x.share apart h.0, h.1, at-other w spare c.spare u apart ∙ h.2);
-      sight = λ v lacks h. on_box-sees v h;
+    pub on_box_turn : (e : Event) (new : List (Act Txn)) → Meets origin c → IsRole origin.load w old c → Leads (setting_of origin.load) e c.core on_box.core new → Turn origin c on_box (outbox_part w) w (with_box old wk spare)
+    on_box_turn e new meets mine leads = record {
+      parts = λ j p low apart h. parts_stay j p apart h;
+      mine = ((wide, at_same w wk c.core.workers), mine.1, at_same w spare c.spare);
+      others = λ u x apart h. (shares_stay u x.share apart h.0, h.1, at_other w spare c.spare u apart ∙ h.2);
+      sight = λ v lacks h. on_box_sees v h;
       kept = record {
-        reached = reached-on origin e c.core on_box.core new meets.reached leads;
+        reached = reached_on origin e c.core on_box.core new meets.reached leads;
         going = meets.going;
         fits = λ j low. more _ _ (length meets.reached.joined) (length (meets.reached.joined ++ new)) _ (meets.fits j low) (let a = length-append meets.reached.joined new in omega arith);
         anchors = meets.anchors;
         opened = meets.opened;
         limited = meets.limited;
-        beyond = λ u low. at-other w wk c.core.workers u (λ e. omega arith) ∙ meets.beyond u low;
+        beyond = λ u low. at_other w wk c.core.workers u (λ e. omega arith) ∙ meets.beyond u low;
         shards = meets.shards;
         streams = meets.streams;
       };
@@ -94,27 +94,27 @@ pub gives_box : (origin : Plain) (id : ℕ) (v : Knows) (carried : List (ℕ × 
     → ComesHome origin id v (outbox_part w) q (handed v w (with_box g.role wk' spare))
 gives_box origin id v carried q w wk' spare e g opened =
     let y : Role = with_box g.role wk' spare in
-    gives_part (IsPart origin.load) (IsRole origin.load) (word_of origin.load) hand_of has (Sees origin) (Meets origin) (part_count origin.load) (origin.load.streams + origin.load.streams + 1) id (outbox_part w) v (handed v w y) g.taken q w g.role y g.held (one-role v w g.role g.roles) refl
-    (role-alone w y) (λ u z h. alone w y u z h)
+    gives_part (IsPart origin.load) (IsRole origin.load) (word_of origin.load) hand_of has (Sees origin) (Meets origin) (part_count origin.load) (origin.load.streams + origin.load.streams + 1) id (outbox_part w) v (handed v w y) g.taken q w g.role y g.held (one_role v w g.role g.roles) refl
+    (role_alone w y) (λ u z h. alone w y u z h)
     (λ c m part mine seen.
-    let worker = share-worker origin w g.role.share g.worker c.core g.share mine.0 in
-    let led = g.steps c m seen worker.1 (part-box origin c w g.taken g.before g.was part) in
+    let worker = share_worker origin w g.role.share g.worker c.core g.share mine.0 in
+    let led = g.steps c m seen worker.1 (part_box origin c w g.taken g.before g.was part) in
     let c' : Now = on_box origin c w g.role wk' led.0 spare g.there in (
       c',
-      on_box-turn origin c w g.role wk' led.0 spare g.there e led.1 m mine led.2,
-      box-part origin c' w q g.after g.is g.there (subst (λ (z : Outbox). IsOutbox origin.load g.after.0 g.after.1 (anchors_at c.core) z) (sym (at-same w led.0 c.core.outboxes)) led.3)
-          (subst (λ (z : ℕ × ℕ). z.0 ≤ g.after.0.room) (sym (at-same w spare c.spare)) g.records) (subst (λ (z : ℕ × ℕ). z.1 ≤ g.after.1.room) (sym (at-same w spare c.spare)) g.calls),
-      handed-sees origin c' v w g.role y g.there opened (one-role v w g.role g.roles) (on_box-sees origin c w g.role wk' led.0 spare g.there v seen),
+      on_box_turn origin c w g.role wk' led.0 spare g.there e led.1 m mine led.2,
+      box_part origin c' w q g.after g.is g.there (subst (λ (z : Outbox). IsOutbox origin.load g.after.0 g.after.1 (anchors_at c.core) z) (sym (at_same w led.0 c.core.outboxes)) led.3)
+          (subst (λ (z : ℕ × ℕ). z.0 ≤ g.after.0.room) (sym (at_same w spare c.spare)) g.records) (subst (λ (z : ℕ × ℕ). z.1 ≤ g.after.1.room) (sym (at_same w spare c.spare)) g.calls),
+      handed_sees origin c' v w g.role y g.there opened (one_role v w g.role g.roles) (on_box_sees origin c w g.role wk' led.0 spare g.there v seen),
       (λ i low. refl),
     ))
     (λ found m. m ≡ (handed v w y, []))
     (λ m. refl)
 
-pub paired-snoc : {A B : Type 0} (R : A → B → Type 0) (xs : List A) (ys : List B) (x : A) (y : B) → Paired R xs ys → R x y → Paired R (xs ++ x ∷ []) (ys ++ y ∷ [])
-paired-snoc R [] [] x y h r = (r, tt)
-paired-snoc R [] (b ∷ ys) x y h r = absurd h
-paired-snoc R (a ∷ xs) [] x y h r = absurd h
-paired-snoc R (a ∷ xs) (b ∷ ys) x y h r = (h.0, paired-snoc R xs ys x y h.1 r)
+pub paired_snoc : {A B : Type 0} (R : A → B → Type 0) (xs : List A) (ys : List B) (x : A) (y : B) → Paired R xs ys → R x y → Paired R (xs ++ x ∷ []) (ys ++ y ∷ [])
+paired_snoc R [] [] x y h r = (r, tt)
+paired_snoc R [] (b ∷ ys) x y h r = absurd h
+paired_snoc R (a ∷ xs) [] x y h r = absurd h
+paired_snoc R (a ∷ xs) (b ∷ ys) x y h r = (h.0, paired_snoc R xs ys x y h.1 r)
 
 -- a record that has its place is posted
 pub posts : (origin : Plain) (v : Knows) (w : ℕ) (wk wk' : Worker) (hand : Hand) (act : Act Txn) (b b' : PlainOutbox × PlainPending) (piece : Piece) → wk.hand ≡ Some hand → hand.phase ≡ Placed act → wk' ≡ record wk { hand = Some (record hand { phase = Freeing act }) } →
@@ -134,34 +134,34 @@ posts origin v w wk wk' hand act b b' piece is phase worker pieces calls spelled
   ),
   record {
     posted = subst (λ (ps : List Piece). Paired (IsPieceOf origin.load (anchors_at c.core)) ps ((c.core.outboxes w).posted ++ Record act ∷ [])) (sym pieces)
-        (paired-snoc (IsPieceOf origin.load (anchors_at c.core)) b.0.pieces (c.core.outboxes w).posted piece (Record act) box.posted (spelled c sees));
+        (paired_snoc (IsPieceOf origin.load (anchors_at c.core)) b.0.pieces (c.core.outboxes w).posted piece (Record act) box.posted (spelled c sees));
     pending = box.pending ∙ ap tickets (sym calls);
   },
 )
 
 -- the pieces that stand in the outbox of a call that has its place end before it
-low-end : (origin : Plain) (anchors : ℕ → List (List ℕ)) (pieces : List Piece) (items : List Item) (from start : ℕ) → Paired (IsPieceOf origin.load anchors) pieces items → from ≤ start → ((i : Item) → Member i items → past_of i ≤ start) → outbox.end_of from pieces ≤ start
-low-end origin anchors [] [] from start h low all = low
-low-end origin anchors [] (i ∷ is) from start h low all = absurd h
-low-end origin anchors (p ∷ ps) [] from start h low all = absurd h
-low-end origin anchors (p ∷ ps) (i ∷ is) from start h low all =
-    low-end origin anchors ps is (outbox.past_of p) start h.1 (subst (λ (n : ℕ). n ≤ start) (sym h.0.past) (all i (inl refl))) (λ k m. all k (inr m))
+low_end : (origin : Plain) (anchors : ℕ → List (List ℕ)) (pieces : List Piece) (items : List Item) (from start : ℕ) → Paired (IsPieceOf origin.load anchors) pieces items → from ≤ start → ((i : Item) → Member i items → past_of i ≤ start) → outbox.end_of from pieces ≤ start
+low_end origin anchors [] [] from start h low all = low
+low_end origin anchors [] (i ∷ is) from start h low all = absurd h
+low_end origin anchors (p ∷ ps) [] from start h low all = absurd h
+low_end origin anchors (p ∷ ps) (i ∷ is) from start h low all =
+    low_end origin anchors ps is (outbox.past_of p) start h.1 (subst (λ (n : ℕ). n ≤ start) (sym h.0.past) (all i (inl refl))) (λ k m. all k (inr m))
 
-pub posts-behind : (origin : Plain) (c : Now) (w : ℕ) (wk : Worker) (hand : Hand) (act : Act Txn) (b : PlainOutbox × PlainPending) → Meets origin c → c.core.workers w ≡ wk → IsOutbox origin.load b.0 b.1 (anchors_at c.core) (c.core.outboxes w) → wk.hand ≡ Some hand → hand.phase ≡ Placed act →
+pub posts_behind : (origin : Plain) (c : Now) (w : ℕ) (wk : Worker) (hand : Hand) (act : Act Txn) (b : PlainOutbox × PlainPending) → Meets origin c → c.core.workers w ≡ wk → IsOutbox origin.load b.0 b.1 (anchors_at c.core) (c.core.outboxes w) → wk.hand ≡ Some hand → hand.phase ≡ Placed act →
     outbox.end_of 0 b.0.pieces ≤ act.call.place.start
-posts-behind origin c w wk hand act b meets at_worker box is phase =
-    let inv = reached-invariant origin c.core meets.reached in
+posts_behind origin c w wk hand act b meets at_worker box is phase =
+    let inv = reached_invariant origin c.core meets.reached in
     let placed : placed_in (c.core.workers w).hand ≡ Some act = ap (λ (x : Worker). placed_in x.hand) at_worker ∙ ap placed_in is ∙ ap placed_of phase in
-    low-end origin (anchors_at c.core) b.0.pieces (c.core.outboxes w).posted 0 act.call.place.start box.posted (omega arith) (λ i m. inv.agrees.pieces.last w act i placed m)
+    low_end origin (anchors_at c.core) b.0.pieces (c.core.outboxes w).posted 0 act.call.place.start box.posted (omega arith) (λ i m. inv.agrees.pieces.last w act i placed m)
 
-pub told_box-is : (origin : Plain) (v : Knows) (t : PlainTxn) (spare : ℕ × ℕ) (w : ℕ) (x : Role) (wk : Worker) → v.roles ≡ (w, x) ∷ [] → x.share ≡ Working wk → told_box origin.load v t spare ≡ handed v w (with_box x (next_worker origin.load wk t) spare)
-told_box-is origin v t spare w x wk roles share = λ i. handed v (first_role (roles i)).0 (with_box (first_role (roles i)).1 (next_worker origin.load ((ap (λ (r : List (ℕ × Role)). worker_in_share (first_role r).1.share) roles ∙ ap worker_in_share share) i) t) spare)
+pub told_box_is : (origin : Plain) (v : Knows) (t : PlainTxn) (spare : ℕ × ℕ) (w : ℕ) (x : Role) (wk : Worker) → v.roles ≡ (w, x) ∷ [] → x.share ≡ Working wk → told_box origin.load v t spare ≡ handed v w (with_box x (next_worker origin.load wk t) spare)
+told_box_is origin v t spare w x wk roles share = λ i. handed v (first_role (roles i)).0 (with_box (first_role (roles i)).1 (next_worker origin.load ((ap (λ (r : List (ℕ × Role)). worker_in_share (first_role r).1.share) roles ∙ ap worker_in_share share) i) t) spare)
 
 -- an outbox has the room that its worker counts on
-pub part-rooms : (origin : Plain) (c : Now) (w : ℕ) (p : Part) (b : BoxOf) → box_in p ≡ Some b → IsPart origin.load (outbox_part w) p c → ((c.spare w).0 ≤ b.0.room) × ((c.spare w).1 ≤ b.1.room)
-part-rooms origin c w (part.Shard x) b is h = cc
-part-rooms origin c w (part.Outbox o p) b is h =
+pub part_rooms : (origin : Plain) (c : Now) (w : ℕ) (p : Part) (b : BoxOf) → box_in p ≡ Some b → IsPart origin.load (outbox_part w) p c → ((c.spare w).0 ≤ b.0.room) × ((c.spare w).1 ≤ b.1.room)
+part_rooms origin c w (part.Shard x) b is h = cc
+part_rooms origin c w (part.Outbox o p) b is h =
     let same : w ≡ h.0 = (let e = h.1 in omega arith) in
     let it : (o.value, p.value) ≡ b = cc in
     subst (λ (z : ℕ × BoxOf). ((c.spare z.0).0 ≤ z.1.0.room) × ((c.spare z.0).1 ≤ z.1.1.room)) (λ i. (sym same i, it i)) (h.4, h.5)
-part-rooms origin c w (part.Anchor number lv) b is h = cc
+part_rooms origin c w (part.Anchor number lv) b is h = cc

@@ -8,10 +8,10 @@ use Rattle.tau_model.specs.History.{Act, Member}
 use Rattle.tau_machine.specs.Hands.{Txn}
 use Rattle.tau_machine.specs.State.{Core}
 use Rattle.tau_machine.specs.Accounts.{one, in_acts}
-use Rattle.tau_machine.proofs.Lists.{apart-counts}
+use Rattle.tau_machine.proofs.Lists.{apart_counts}
 use Rattle.tau_machine.proofs.Results.{committed_theorem}
 use Rattle.tau_rule.specs.Rule.{IsReached}
-use Rattle.tau_rule.proofs.Turns.{reached-invariant, reached-invariant}
+use Rattle.tau_rule.proofs.Turns.{reached_invariant, reached_invariant}
 use Rattle.tau_core.specs.State.{Plain}
 use Rattle.tau_core.specs.View.{setting_of, call_of}
 
@@ -20,31 +20,31 @@ abbrev sum_to : (ℕ → ℕ) → ℕ → ℕ
 sum_to f zero = 0
 sum_to f (suc n) = f (suc n) + sum_to f n
 
-sum-add : (f g : ℕ → ℕ) (n : ℕ) → sum_to (λ k. f k + g k) n ≡ sum_to f n + sum_to g n
-sum-add f g zero = refl
-sum-add f g (suc n) = let e = sum-add f g n in omega arith
+sum_add : (f g : ℕ → ℕ) (n : ℕ) → sum_to (λ k. f k + g k) n ≡ sum_to f n + sum_to g n
+sum_add f g zero = refl
+sum_add f g (suc n) = let e = sum_add f g n in omega arith
 
-sum-few : (f : ℕ → ℕ) (n : ℕ) → ((k : ℕ) → f k ≤ 1) → sum_to f n ≤ n
-sum-few f zero few = omega arith
-sum-few f (suc n) few = let e = sum-few f n few in let a = few (suc n) in omega arith
+sum_few : (f : ℕ → ℕ) (n : ℕ) → ((k : ℕ) → f k ≤ 1) → sum_to f n ≤ n
+sum_few f zero few = omega arith
+sum_few f (suc n) few = let e = sum_few f n few in let a = few (suc n) in omega arith
 
-one-itself : (k : ℕ) → one k k ≡ 1
-one-itself k = (let f : (k == k) ≡ true = eq-eqb k k refl in ap (λ (b : Bool). if b then 1 else 0) f)
+one_itself : (k : ℕ) → one k k ≡ 1
+one_itself k = (let f : (k == k) ≡ true = eq-eqb k k refl in ap (λ (b : Bool). if b then 1 else 0) f)
 
-sum-one : (m n : ℕ) → 1 ≤ m → m ≤ n → 1 ≤ sum_to (λ k. one k m) n
-sum-one m zero low high = absurd (omega arith)
-sum-one m (suc n) low high = elim (cases_eq m (suc n)) [
-  | inl is ↦ (let a : one (suc n) m ≡ 1 = ap (one (suc n)) is ∙ one-itself (suc n) in omega arith)
-  | inr ne ↦ (let a = sum-one m n low (omega arith) in omega arith)
+sum_one : (m n : ℕ) → 1 ≤ m → m ≤ n → 1 ≤ sum_to (λ k. one k m) n
+sum_one m zero low high = absurd (omega arith)
+sum_one m (suc n) low high = elim (cases_eq m (suc n)) [
+  | inl is ↦ (let a : one (suc n) m ≡ 1 = ap (one (suc n)) is ∙ one_itself (suc n) in omega arith)
+  | inr ne ↦ (let a = sum_one m n low (omega arith) in omega arith)
 ]
 
-counted-all : (ts : List (Act Txn)) (n : ℕ) → ((t : Act Txn) → Member t ts → (1 ≤ t.call.call.number) × (t.call.call.number ≤ n)) → length ts ≤ sum_to (λ k. in_acts k ts) n
-counted-all [] n all = omega arith
-counted-all (t ∷ ts) n all =
+counted_all : (ts : List (Act Txn)) (n : ℕ) → ((t : Act Txn) → Member t ts → (1 ≤ t.call.call.number) × (t.call.call.number ≤ n)) → length ts ≤ sum_to (λ k. in_acts k ts) n
+counted_all [] n all = omega arith
+counted_all (t ∷ ts) n all =
     let here = all t (inl refl) in
-    let a = sum-one t.call.call.number n here.0 here.1 in
-    let rest = counted-all ts n (λ u m. all u (inr m)) in
-    let e = sum-add (λ k. one k t.call.call.number) (λ k. in_acts k ts) n in
+    let a = sum_one t.call.call.number n here.0 here.1 in
+    let rest = counted_all ts n (λ u m. all u (inr m)) in
+    let e = sum_add (λ k. one k t.call.call.number) (λ k. in_acts k ts) n in
     omega arith
 
 numbered : (calls : List Call) (n : ℕ) (c : Call) → call_of calls n ≡ Some c → (1 ≤ n) × (n ≤ length calls)
@@ -61,11 +61,11 @@ numbered calls n c e = elim (cases_eq n 0) [
     above zero ne = absurd (ne refl)
     above (suc n) ne = omega arith
 
-pub few-joined : (origin : Plain) (s : Core) (r : IsReached origin s) → length r.joined ≤ length origin.load.calls
-few-joined origin s r =
-    let inv = reached-invariant origin s r in
+pub few_joined : (origin : Plain) (s : Core) (r : IsReached origin s) → length r.joined ≤ length origin.load.calls
+few_joined origin s r =
+    let inv = reached_invariant origin s r in
     let known = committed_theorem (setting_of origin.load) r.joined s inv in
-    let once = apart-counts r.joined known.1 in
-    let low = counted-all r.joined (length origin.load.calls) (λ t m. numbered origin.load.calls t.call.call.number t.call.call.call (known.0 t m).0) in
-    let high = sum-few (λ k. in_acts k r.joined) (length origin.load.calls) once in
+    let once = apart_counts r.joined known.1 in
+    let low = counted_all r.joined (length origin.load.calls) (λ t m. numbered origin.load.calls t.call.call.number t.call.call.call (known.0 t m).0) in
+    let high = sum_few (λ k. in_acts k r.joined) (length origin.load.calls) once in
     omega arith

@@ -23,16 +23,16 @@ use Rattle.tau_rule.specs.Rule.{Now, Rule, anchors_at, IsPart, IsShare, IsRole, 
 use Rattle.tau_rule.specs.First.{worker_share, manager_share, clerk_share, outer_share, share_at, role_at, roles_below, first_view}
 use Rattle.tau_rule.specs.declared.part.Part.{Part}
 
-none_raised : (n : ℕ) → is_raised n (λ u. false) ≡ false
+pub none_raised : (n : ℕ) → is_raised n (λ u. false) ≡ false
 none_raised zero = refl
 none_raised (suc n) = none_raised n
 
 -- the role of this number is the one among those below n
-in-below : (origin : Plain) (n u : ℕ) (x : Role) → role_in u (roles_below origin n) ≡ Some x → (u < n) × (x ≡ role_at origin u)
-in-below origin zero u x h = absurd (let bad : None ≡ Some x = h in cc)
-in-below origin (suc n) u x h = elim (cases_eq n u) [
+in_below : (origin : Plain) (n u : ℕ) (x : Role) → role_in u (roles_below origin n) ≡ Some x → (u < n) × (x ≡ role_at origin u)
+in_below origin zero u x h = absurd (let bad : None ≡ Some x = h in cc)
+in_below origin (suc n) u x h = elim (cases_eq n u) [
   | inl is ↦ (let a : Some (role_at origin n) ≡ Some x = sym (ap (λ b. cond b (Some (role_at origin n)) (role_in u (roles_below origin n))) (eq-eqb n u is)) ∙ h in let b : role_at origin n ≡ x = cc in (omega arith, sym b ∙ ap (role_at origin) is))
-  | inr ne ↦ (let r = in-below origin n u x (sym (ap (λ b. cond b (Some (role_at origin n)) (role_in u (roles_below origin n))) (ne_eqb n u ne)) ∙ h) in (let a = r.0 in omega arith, r.1))
+  | inr ne ↦ (let r = in_below origin n u x (sym (ap (λ b. cond b (Some (role_at origin n)) (role_in u (roles_below origin n))) (ne_eqb n u ne)) ∙ h) in (let a = r.0 in omega arith, r.1))
 ]
 
 abbrev no_tickets : List Ticket
@@ -54,8 +54,8 @@ module _ (origin : Plain) (q : Opened origin.load origin) where
   replicated (suc n) zero = refl
   replicated (suc n) (suc w) = replicated n w
 
-  outer-is : (u : ℕ) → origin.load.workers ≤ u → u < origin.load.workers + origin.load.streams + 1 → IsShare origin.load u (outer_share origin u) o
-  outer-is u low high = elim (leb_tells (u + 1) (origin.load.workers + origin.load.streams)) [
+  outer_is : (u : ℕ) → origin.load.workers ≤ u → u < origin.load.workers + origin.load.streams + 1 → IsShare origin.load u (outer_share origin u) o
+  outer_is u low high = elim (leb_tells (u + 1) (origin.load.workers + origin.load.streams)) [
     | inl a ↦ subst (λ (b : Bool). IsShare origin.load u (if b then manager_share origin u else clerk_share origin) o) (sym a.0) (
       u - origin.load.workers,
       (let h = a.1 in omega arith),
@@ -71,14 +71,14 @@ module _ (origin : Plain) (q : Opened origin.load origin) where
         ((let h = b.1 in omega arith), λ w lt. q.opening.acked w ∙ sym (replicated origin.load.workers w))
   ]
 
-  share-is : (u : ℕ) → u < origin.load.workers + origin.load.streams + 1 → IsShare origin.load u (share_at origin u) o
-  share-is u high = elim (leb_tells (u + 1) origin.load.workers) [
+  share_is : (u : ℕ) → u < origin.load.workers + origin.load.streams + 1 → IsShare origin.load u (share_at origin u) o
+  share_is u high = elim (leb_tells (u + 1) origin.load.workers) [
     | inl a ↦ subst (λ (b : Bool). IsShare origin.load u (if b then worker_share origin u else outer_share origin u) o) (sym a.0) ((let h = a.1 in omega arith), refl)
-    | inr b ↦ subst (λ (z : Bool). IsShare origin.load u (if z then worker_share origin u else outer_share origin u) o) (sym b.0) (outer-is u (let h = b.1 in omega arith) high)
+    | inr b ↦ subst (λ (z : Bool). IsShare origin.load u (if z then worker_share origin u else outer_share origin u) o) (sym b.0) (outer_is u (let h = b.1 in omega arith) high)
   ]
 
-  sees-is : Sees origin now (first_view origin)
-  sees-is = record {
+  sees_is : Sees origin now (first_view origin)
+  sees_is = record {
     opened = λ u r h. refl;
     wide = λ u r h. q.opening.count;
     low = λ j. (let e = ap (λ (v : List ℕ). slice_index v j) q.opening.plv in omega arith);
@@ -95,8 +95,8 @@ module _ (origin : Plain) (q : Opened origin.load origin) where
       let empty : cs ≡ [] = ap (λ (s : Option PlainSeat). (worker_in origin.load s cs).committed) (sym none) ∙ q.opening.committed u in
       ap (λ (s : Option PlainSeat). worker_in origin.load s cs) none ∙ ap (λ (xs : List Committed). record { waiting = []; hand = None; left = []; committed = xs }) empty
 
-  no-shards : (i : ℕ) → SHARDS ≤ i → o.shards i ≡ no_shard
-  no-shards i low = ap shard_in (slice_get_past origin.shards i (let a = q.stands.sound.shards in omega arith))
+  no_shards : (i : ℕ) → SHARDS ≤ i → o.shards i ≡ no_shard
+  no_shards i low = ap shard_in (slice_get_past origin.shards i (let a = q.stands.sound.shards in omega arith))
 
   -- the limits of the run are those of what was opened, where the streams leave room
   pub limited : ((j : ℕ) → j < origin.load.streams → slice_index origin.load.opening.ends j ≤ 2 ^ 61) → IsLimited origin.load
@@ -109,8 +109,8 @@ module _ (origin : Plain) (q : Opened origin.load origin) where
     wide = q.opening.count;
   }
 
-  meets-is : IsLimited origin.load → Meets origin now
-  meets-is limits = record {
+  meets_is : IsLimited origin.load → Meets origin now
+  meets_is limits = record {
     reached = record { events = []; joined = []; run = (goes_on_theorem (setting_of origin.load) o).0 q.opening };
     going = q.opening.stops;
     fits = λ j lt. (let e = ap (λ (v : List ℕ). slice_index v j) q.opening.ends in omega arith);
@@ -118,7 +118,7 @@ module _ (origin : Plain) (q : Opened origin.load origin) where
     opened = q;
     limited = limits;
     beyond = beyond;
-    shards = no-shards;
+    shards = no_shards;
     streams = λ j low. q.opening.anchors j;
   }
 
@@ -128,5 +128,5 @@ module _ (origin : Plain) (q : Opened origin.load origin) where
       ((k : ℕ) → k < part_count origin.load → IsPart origin.load k (part k) now) → Rule origin (opening ws xs (first_view origin))
   begins ws xs part limits wide count free home numbers parts =
       opens (IsPart origin.load) (IsRole origin.load) (word_of origin.load) hand_of has (Sees origin) (Meets origin) (part_count origin.load) (origin.load.streams + origin.load.streams + 1) now part (first_view origin) ws xs wide count free home numbers parts refl
-      (λ u x h. let r = in-below origin (origin.load.workers + origin.load.streams + 1) u x h in subst (λ (y : Role). IsRole origin.load u y now) (sym r.1) (share-is u r.0, refl, refl))
-      sees-is (meets-is limits)
+      (λ u x h. let r = in_below origin (origin.load.workers + origin.load.streams + 1) u x h in subst (λ (y : Role). IsRole origin.load u y now) (sym r.1) (share_is u r.0, refl, refl))
+      sees_is (meets_is limits)

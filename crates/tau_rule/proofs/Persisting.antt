@@ -16,27 +16,27 @@ use Rattle.tau_rule.specs.Steps.{Sat}
 use Rattle.tau_rule.specs.Positions.{plv_word, sees_to, looked, stored, IsManager}
 use Rattle.tau_rule.specs.declared.part.Part.{Part}
 use Rattle.tau_rule.specs.declared.part.Part.TheVariants as part
-use Rattle.tau_rule.proofs.Gives.{one-origin}
-use Rattle.tau_rule.proofs.Numbers.{few-joined}
+use Rattle.tau_rule.proofs.Gives.{one_origin}
+use Rattle.tau_rule.proofs.Numbers.{few_joined}
 use Rattle.tau_rule.proofs.Placing.{room}
-use Rattle.tau_rule.proofs.Turns.{reached-invariant, Turn, reached-on, alone, one-role}
+use Rattle.tau_rule.proofs.Turns.{reached_invariant, Turn, reached_on, alone, one_role}
 use Rattle.tau_base.specs.declared.limits.TheConstants.{MAX_CALLS}
 
-same-beyond : (xs : List ℕ) (j y : ℕ) → length xs ≤ j → slice_set xs j y ≡ xs
-same-beyond [] j y e = refl
-same-beyond (x ∷ xs) zero y e = absurd (omega arith)
-same-beyond (x ∷ xs) (suc j) y e = ap (λ (xs : List ℕ). x ∷ xs) (same-beyond xs j y (omega arith))
+same_beyond : (xs : List ℕ) (j y : ℕ) → length xs ≤ j → slice_set xs j y ≡ xs
+same_beyond [] j y e = refl
+same_beyond (x ∷ xs) zero y e = absurd (omega arith)
+same_beyond (x ∷ xs) (suc j) y e = ap (λ (xs : List ℕ). x ∷ xs) (same_beyond xs j y (omega arith))
 
 -- where a vector is set, it is what was set, or beyond its end as it was
-set-at : (xs : List ℕ) (j y : ℕ) → (slice_index (slice_set xs j y) j ≡ y) ⊎ (slice_index (slice_set xs j y) j ≡ slice_index xs j)
-set-at xs j y = elim (leb_tells (length xs) j) [
-  | inl beyond ↦ inr (ap (λ (v : List ℕ). slice_index v j) (same-beyond xs j y beyond.1))
+set_at : (xs : List ℕ) (j y : ℕ) → (slice_index (slice_set xs j y) j ≡ y) ⊎ (slice_index (slice_set xs j y) j ≡ slice_index xs j)
+set_at xs j y = elim (leb_tells (length xs) j) [
+  | inl beyond ↦ inr (ap (λ (v : List ℕ). slice_index v j) (same_beyond xs j y beyond.1))
   | inr within ↦ inl (get_or-set_same xs j y 0 within.1)
 ]
 
 -- the words of persisted positions
-word-plv : (origin : Plain) (j : ℕ) (c : Now) → j < origin.load.streams → word_of origin.load (origin.load.streams + j) c ≡ slice_index c.core.plv j
-word-plv origin j c low =
+pub word_plv : (origin : Plain) (j : ℕ) (c : Now) → j < origin.load.streams → word_of origin.load (origin.load.streams + j) c ≡ slice_index c.core.plv j
+word_plv origin j c low =
     let a : (origin.load.streams + j == origin.load.streams + origin.load.streams) ≡ false = ne_eqb (origin.load.streams + j) (origin.load.streams + origin.load.streams) (λ e. omega arith) in
     let b : nat_le (origin.load.streams + j + 1) origin.load.streams ≡ false = lt-leb (origin.load.streams + j + 1) origin.load.streams (omega arith) in
     let d : origin.load.streams + j - origin.load.streams ≡ j = omega arith in
@@ -44,12 +44,12 @@ word-plv origin j c low =
     ∙ ap (λ (z : Bool). if z then slice_index c.core.ends (origin.load.streams + j) else slice_index c.core.plv (origin.load.streams + j - origin.load.streams)) b
     ∙ ap (slice_index c.core.plv) d
 
-seen-more : (origin : Plain) (c : Now) (v : Knows) (j : ℕ) → Sees origin c v → Sees origin c (sees_to j (slice_index c.core.plv j) v)
-seen-more origin c v j h = record {
+seen_more : (origin : Plain) (c : Now) (v : Knows) (j : ℕ) → Sees origin c v → Sees origin c (sees_to j (slice_index c.core.plv j) v)
+seen_more origin c v j h = record {
   opened = h.opened;
   wide = λ u r e. length-set v.seen j (slice_index c.core.plv j) ∙ h.wide u r e;
   low = λ i. elim (cases_eq i j) [
-    | inl is ↦ subst (λ (z : ℕ). slice_index (slice_set v.seen j (slice_index c.core.plv j)) z ≤ slice_index c.core.plv z) (sym is) (elim (set-at v.seen j (slice_index c.core.plv j)) [
+    | inl is ↦ subst (λ (z : ℕ). slice_index (slice_set v.seen j (slice_index c.core.plv j)) z ≤ slice_index c.core.plv z) (sym is) (elim (set_at v.seen j (slice_index c.core.plv j)) [
       | inl here ↦ omega arith
       | inr was ↦ (let b = h.low j in omega arith)
     ])
@@ -57,7 +57,7 @@ seen-more origin c v j h = record {
   ];
   own = λ i r lt e. elim (cases_eq i j) [
     | inl is ↦ subst (λ (z : ℕ). slice_index v.seen z ≡ slice_index c.core.plv z → slice_index (slice_set v.seen j (slice_index c.core.plv j)) z ≡ slice_index c.core.plv z) (sym is)
-        (λ was. elim (set-at v.seen j (slice_index c.core.plv j)) [ inl here ↦ here | inr same ↦ same ∙ was ]) (h.own i r lt e)
+        (λ was. elim (set_at v.seen j (slice_index c.core.plv j)) [ inl here ↦ here | inr same ↦ same ∙ was ]) (h.own i r lt e)
     | inr ne ↦ get_or-set_other v.seen j i (slice_index c.core.plv j) 0 ne ∙ h.own i r lt e
   ];
   read = h.read;
@@ -65,30 +65,30 @@ seen-more origin c v j h = record {
 }
 
 -- no position wraps
-pub small-end : (origin : Plain) (c : Now) → Meets origin c → (j : ℕ) → j < origin.load.streams → slice_index c.core.ends j < 2 ^ 62
-small-end origin c meets j low =
-    let few = few-joined origin c.core meets.reached in
+pub small_end : (origin : Plain) (c : Now) → Meets origin c → (j : ℕ) → j < origin.load.streams → slice_index c.core.ends j < 2 ^ 62
+small_end origin c meets j low =
+    let few = few_joined origin c.core meets.reached in
     let calls = meets.limited.few in
     let all : length meets.reached.joined ≤ MAX_CALLS = omega (arith, few, calls) in
     room (slice_index c.core.ends j) (slice_index origin.load.opening.ends j) (length meets.reached.joined) (MAX_ANCHOR * length (c.core.streams j).anchors) (length (c.core.streams j).anchors)
     (meets.limited.low j low) all refl (meets.anchors j low) (meets.fits j low)
 
-pub small-plv : (origin : Plain) (c : Now) → Meets origin c → (j : ℕ) → j < origin.load.streams → slice_index c.core.plv j < 2 ^ 62
-small-plv origin c meets j low =
-    let behind : slice_index c.core.plv j ≤ slice_index c.core.ends j = (reached-invariant origin c.core meets.reached).agrees.good.good.order.behind j in
-    let ends = small-end origin c meets j low in
+pub small_plv : (origin : Plain) (c : Now) → Meets origin c → (j : ℕ) → j < origin.load.streams → slice_index c.core.plv j < 2 ^ 62
+small_plv origin c meets j low =
+    let behind : slice_index c.core.plv j ≤ slice_index c.core.ends j = (reached_invariant origin c.core meets.reached).agrees.good.good.order.behind j in
+    let ends = small_end origin c meets j low in
     omega (arith, behind, ends)
 
-pub small-gathered : (origin : Plain) (c : Now) → Meets origin c → (j : ℕ) → j < origin.load.streams → slice_index c.core.gathered j < 2 ^ 62
-small-gathered origin c meets j low =
-    let behind : slice_index c.core.gathered j ≤ slice_index c.core.ends j = (reached-invariant origin c.core meets.reached).agrees.good.gathered j in
-    let ends = small-end origin c meets j low in
+pub small_gathered : (origin : Plain) (c : Now) → Meets origin c → (j : ℕ) → j < origin.load.streams → slice_index c.core.gathered j < 2 ^ 62
+small_gathered origin c meets j low =
+    let behind : slice_index c.core.gathered j ≤ slice_index c.core.ends j = (reached_invariant origin c.core meets.reached).agrees.good.gathered j in
+    let ends = small_end origin c meets j low in
     omega (arith, behind, ends)
 
 -- the stream whose persisted position is this word
-stream-at : (origin o : Plain) (j i : ℕ) → Some origin ≡ Some o → plv_word origin.load j ≡ plv_word o.load i → i ≡ j
-stream-at origin o j i e at =
-    let same : origin ≡ o = one-origin origin o e in
+stream_at : (origin o : Plain) (j i : ℕ) → Some origin ≡ Some o → plv_word origin.load j ≡ plv_word o.load i → i ≡ j
+stream_at origin o j i e at =
+    let same : origin ≡ o = one_origin origin o e in
     let b : plv_word o.load i ≡ plv_word origin.load i = ap (λ (x : Plain). plv_word x.load i) (sym same) in
     let d : plv_word origin.load j ≡ plv_word origin.load i = at ∙ b in
     omega arith
@@ -98,14 +98,14 @@ pub loads_plv : (origin : Plain) (id j : ℕ) (m : Sat) (st : Step (Option Part)
 loads_plv origin id j m st opened low word =
     loads_word (IsPart origin.load) (IsRole origin.load) (word_of origin.load) hand_of has (Sees origin) (Meets origin) (part_count origin.load) (origin.load.streams + origin.load.streams + 1) id (origin.load.streams + j) m.0 m.1 (omega arith)
     (λ n. sees_to j n m.0) (λ n. refl) (λ n u. refl)
-    (λ c meets h. subst (λ (n : ℕ). Sees origin c (sees_to j n m.0)) (sym (word-plv origin j c low)) (seen-more origin c m.0 j h))
+    (λ c meets h. subst (λ (n : ℕ). Sees origin c (sees_to j n m.0)) (sym (word_plv origin j c low)) (seen_more origin c m.0 j h))
     (looked st m)
     (λ c meets h o its i at.
-    let is = word-plv origin j c low in
-    let same : i ≡ j = stream-at origin o j i (sym opened ∙ its) (sym word ∙ at) in
+    let is = word_plv origin j c low in
+    let same : i ≡ j = stream_at origin o j i (sym opened ∙ its) (sym word ∙ at) in
     let me : Sat = (sees_to j (word_of origin.load (origin.load.streams + j) c) m.0, m.1) in
     subst (λ (z : ℕ). (slice_index m.0.seen z ≤ word_of origin.load (origin.load.streams + j) c) × (word_of origin.load (origin.load.streams + j) c < 2 ^ 62) × (me ≡ (sees_to z (word_of origin.load (origin.load.streams + j) c) m.0, m.1))) (sym same)
-    ((let b = h.low j in omega arith), (let b = small-plv origin c meets j low in omega arith), refl))
+    ((let b = h.low j in omega arith), (let b = small_plv origin c meets j low in omega arith), refl))
 
 module _ (origin : Plain) (j : ℕ) (m : Sat) (managed : Managed) (new : ℕ) (p : IsManager origin j m managed) (up : slice_index m.0.seen j ≤ new) (high : new ≤ managed.gathered) where
   abbrev pub then_persisted : Now → Now
@@ -115,15 +115,15 @@ module _ (origin : Plain) (j : ℕ) (m : Sat) (managed : Managed) (new : ℕ) (p
     managing : (i : ℕ) × (manager_role origin.load j ≡ manager_role origin.load i) × (i < origin.load.streams) × IsManaged origin.load i managed c.core
     managing = subst (λ (x : Share). IsShare origin.load (manager_role origin.load j) x c.core) p.share mine.0
 
-    gathered-is : slice_index c.core.gathered j ≡ managed.gathered
-    gathered-is = subst (λ (z : ℕ). slice_index c.core.gathered z ≡ managed.gathered) (let e = managing.1 in omega arith) managing.3.gathered
+    gathered_is : slice_index c.core.gathered j ≡ managed.gathered
+    gathered_is = subst (λ (z : ℕ). slice_index c.core.gathered z ≡ managed.gathered) (let e = managing.1 in omega arith) managing.3.gathered
 
-    now-is : slice_index m.0.seen j ≡ slice_index c.core.plv j
-    now-is = sees.own j p.role p.there (one-role m.0 (manager_role origin.load j) p.role p.roles)
+    now_is : slice_index m.0.seen j ≡ slice_index c.core.plv j
+    now_is = sees.own j p.role p.there (one_role m.0 (manager_role origin.load j) p.role p.roles)
 
-    wide-plv : j < length c.core.plv
-    wide-plv =
-        let inv = reached-invariant origin c.core meets.reached in
+    wide_plv : j < length c.core.plv
+    wide_plv =
+        let inv = reached_invariant origin c.core meets.reached in
         let count : length c.core.plv ≡ origin.load.streams = inv.agrees.good.count_plv in
         let low = p.there in
         omega arith
@@ -133,31 +133,31 @@ module _ (origin : Plain) (j : ℕ) (m : Sat) (managed : Managed) (new : ℕ) (p
       record {
         there = p.there;
         going = meets.going j;
-        low = (let e = now-is in omega arith);
-        high = (let e = gathered-is in omega arith);
+        low = (let e = now_is in omega arith);
+        high = (let e = gathered_is in omega arith);
         after = refl;
       },
       refl,
     )
 
-    parts-stay : (k : ℕ) (q : Part) → IsPart origin.load k q c → IsPart origin.load k q (then_persisted c)
-    parts-stay k (part.Shard b) h = h
-    parts-stay k (part.Outbox o b) h = h
-    parts-stay k (part.Anchor number lv) h = h
+    parts_stay : (k : ℕ) (q : Part) → IsPart origin.load k q c → IsPart origin.load k q (then_persisted c)
+    parts_stay k (part.Shard b) h = h
+    parts_stay k (part.Outbox o b) h = h
+    parts_stay k (part.Anchor number lv) h = h
 
-    shares-stay : (u : ℕ) (x : Share) → IsShare origin.load u x c.core → IsShare origin.load u x (then_persisted c).core
-    shares-stay u (Working x) h = h
-    shares-stay u (Managing g) h = (h.0, h.1, h.2, record { moved = h.3.moved; gathered = h.3.gathered; anchors = h.3.anchors; own = h.3.own })
-    shares-stay u (Clerking acked) h = h
+    shares_stay : (u : ℕ) (x : Share) → IsShare origin.load u x c.core → IsShare origin.load u x (then_persisted c).core
+    shares_stay u (Working x) h = h
+    shares_stay u (Managing g) h = (h.0, h.1, h.2, record { moved = h.3.moved; gathered = h.3.gathered; anchors = h.3.anchors; own = h.3.own })
+    shares_stay u (Clerking acked) h = h
 
     rises : (i : ℕ) → slice_index c.core.plv i ≤ slice_index (slice_set c.core.plv j new) i
     rises i = elim (cases_eq i j) [
-      | inl is ↦ subst (λ (z : ℕ). slice_index c.core.plv z ≤ slice_index (slice_set c.core.plv j new) z) (sym is) (let e = get_or-set_same c.core.plv j new 0 wide-plv in let n = now-is in omega arith)
+      | inl is ↦ subst (λ (z : ℕ). slice_index c.core.plv z ≤ slice_index (slice_set c.core.plv j new) z) (sym is) (let e = get_or-set_same c.core.plv j new 0 wide_plv in let n = now_is in omega arith)
       | inr ne ↦ (let e = get_or-set_other c.core.plv j i new 0 ne in omega arith)
     ]
 
-    sight-stays : (v : Knows) → ((r : Role) → has (manager_role origin.load j) v ≡ Some r → ⊥) → Sees origin c v → Sees origin (then_persisted c) v
-    sight-stays v lacks h = record {
+    sight_stays : (v : Knows) → ((r : Role) → has (manager_role origin.load j) v ≡ Some r → ⊥) → Sees origin c v → Sees origin (then_persisted c) v
+    sight_stays v lacks h = record {
       opened = h.opened;
       wide = h.wide;
       low = λ i. (let a = h.low i in let b = rises i in omega arith);
@@ -169,14 +169,14 @@ module _ (origin : Plain) (j : ℕ) (m : Sat) (managed : Managed) (new : ℕ) (p
       found = h.found;
     }
 
-    pub persist-turn : Turn origin c (then_persisted c) (part_count origin.load) (manager_role origin.load j) p.role
-    persist-turn = record {
-      parts = λ k q low apart h. parts-stay k q h;
-      mine = (shares-stay (manager_role origin.load j) p.role.share mine.0, mine.1, mine.2);
-      others = λ u x apart h. (shares-stay u x.share h.0, h.1, h.2);
-      sight = sight-stays;
+    pub persist_turn : Turn origin c (then_persisted c) (part_count origin.load) (manager_role origin.load j) p.role
+    persist_turn = record {
+      parts = λ k q low apart h. parts_stay k q h;
+      mine = (shares_stay (manager_role origin.load j) p.role.share mine.0, mine.1, mine.2);
+      others = λ u x apart h. (shares_stay u x.share h.0, h.1, h.2);
+      sight = sight_stays;
       kept = record {
-        reached = reached-on origin (Persist j new) c.core (then_persisted c).core [] meets.reached leads;
+        reached = reached_on origin (Persist j new) c.core (then_persisted c).core [] meets.reached leads;
         going = meets.going;
         fits = subst (λ (k : ℕ). (i : ℕ) → i < origin.load.streams → slice_index c.core.ends i ≤ slice_index origin.load.opening.ends i + LONGEST * k + MAX_ANCHOR * length (c.core.streams i).anchors) (sym (length-append meets.reached.joined [] ∙ add-zero (length meets.reached.joined))) meets.fits;
         anchors = meets.anchors;
@@ -188,29 +188,29 @@ module _ (origin : Plain) (j : ℕ) (m : Sat) (managed : Managed) (new : ℕ) (p
       };
     }
 
-    own-sees : Sees origin (then_persisted c) (sees_to j new m.0)
-    own-sees = record {
+    own_sees : Sees origin (then_persisted c) (sees_to j new m.0)
+    own_sees = record {
       opened = sees.opened;
       wide = λ u r e. length-set m.0.seen j new ∙ sees.wide u r e;
       low = λ i. elim (cases_eq i j) [
         | inl is ↦ subst (λ (z : ℕ). slice_index (slice_set m.0.seen j new) z ≤ slice_index (slice_set c.core.plv j new) z) (sym is)
-            (let e = get_or-set_same c.core.plv j new 0 wide-plv in let f = get_or-set_same m.0.seen j new 0 wide-seen in omega arith)
+            (let e = get_or-set_same c.core.plv j new 0 wide_plv in let f = get_or-set_same m.0.seen j new 0 wide_seen in omega arith)
         | inr ne ↦ (let e = get_or-set_other c.core.plv j i new 0 ne in let f = get_or-set_other m.0.seen j i new 0 ne in let a = sees.low i in omega arith)
       ];
       own = λ i r lt e. elim (cases_eq i j) [
         | inl is ↦ subst (λ (z : ℕ). slice_index (slice_set m.0.seen j new) z ≡ slice_index (slice_set c.core.plv j new) z) (sym is)
-            (get_or-set_same m.0.seen j new 0 wide-seen ∙ sym (get_or-set_same c.core.plv j new 0 wide-plv))
+            (get_or-set_same m.0.seen j new 0 wide_seen ∙ sym (get_or-set_same c.core.plv j new 0 wide_plv))
         | inr ne ↦ get_or-set_other m.0.seen j i new 0 ne ∙ sees.own i r lt e ∙ sym (get_or-set_other c.core.plv j i new 0 ne)
       ];
       read = sees.read;
       found = sees.found;
     }
       where
-        wide-seen : j < length m.0.seen
-        wide-seen = (let e = sees.wide (manager_role origin.load j) p.role (one-role m.0 (manager_role origin.load j) p.role p.roles) in let low = p.there in omega arith)
+        wide_seen : j < length m.0.seen
+        wide_seen = (let e = sees.wide (manager_role origin.load j) p.role (one_role m.0 (manager_role origin.load j) p.role p.roles) in let low = p.there in omega arith)
 
-  words-same : (c : Now) (i : ℕ) → i < origin.load.streams + origin.load.streams + 1 → (i ≡ origin.load.streams + j → ⊥) → word_of origin.load i (then_persisted c) ≡ word_of origin.load i c
-  words-same c i lt apart = elim (leb_tells (i + 1) origin.load.streams) [
+  words_same : (c : Now) (i : ℕ) → i < origin.load.streams + origin.load.streams + 1 → (i ≡ origin.load.streams + j → ⊥) → word_of origin.load i (then_persisted c) ≡ word_of origin.load i c
+  words_same c i lt apart = elim (leb_tells (i + 1) origin.load.streams) [
     | inl low ↦ ap (λ (b : Bool). if i == origin.load.streams + origin.load.streams then number_if (is_raised (origin.load.workers + origin.load.streams + 1) c.raised) else (if b then slice_index c.core.ends i else slice_index (slice_set c.core.plv j new) (i - origin.load.streams))) low.0
         ∙ sym (ap (λ (b : Bool). if i == origin.load.streams + origin.load.streams then number_if (is_raised (origin.load.workers + origin.load.streams + 1) c.raised) else (if b then slice_index c.core.ends i else slice_index c.core.plv (i - origin.load.streams))) low.0)
     | inr high ↦
@@ -221,18 +221,18 @@ module _ (origin : Plain) (j : ℕ) (m : Sat) (managed : Managed) (new : ℕ) (p
   -- the manager stores how far its disk is
   pub persists : (id : ℕ) (st : Step (Option Part)) → st.first ≡ new → st.word ≡ plv_word origin.load j → Allows (Rule origin) (part_count origin.load) id m (plv_word origin.load j) (λ _. new) (λ _. stored st m new)
   persists id st first word =
-      words_step (IsPart origin.load) (IsRole origin.load) (word_of origin.load) hand_of has (Sees origin) (Meets origin) (part_count origin.load) (origin.load.streams + origin.load.streams + 1) id (origin.load.streams + j) m.0 m.1 (manager_role origin.load j) p.role (let low = p.there in omega arith) (one-role m.0 (manager_role origin.load j) p.role p.roles)
-      (λ _. new) (λ _. sees_to j new m.0) (λ _. p.role) (λ _. refl) (λ _. one-role m.0 (manager_role origin.load j) p.role p.roles) (λ n u z h. alone (manager_role origin.load j) p.role u z (sym (ap (role_in u) p.roles) ∙ h))
+      words_step (IsPart origin.load) (IsRole origin.load) (word_of origin.load) hand_of has (Sees origin) (Meets origin) (part_count origin.load) (origin.load.streams + origin.load.streams + 1) id (origin.load.streams + j) m.0 m.1 (manager_role origin.load j) p.role (let low = p.there in omega arith) (one_role m.0 (manager_role origin.load j) p.role p.roles)
+      (λ _. new) (λ _. sees_to j new m.0) (λ _. p.role) (λ _. refl) (λ _. one_role m.0 (manager_role origin.load j) p.role p.roles) (λ n u z h. alone (manager_role origin.load j) p.role u z (sym (ap (role_in u) p.roles) ∙ h))
       (λ c meets mine sees. (
         then_persisted c,
-        persist-turn c meets mine sees,
-        own-sees c meets mine sees,
-        word-plv origin j (then_persisted c) p.there ∙ get_or-set_same c.core.plv j new 0 (wide-plv c meets mine sees),
-        words-same c,
+        persist_turn c meets mine sees,
+        own_sees c meets mine sees,
+        word_plv origin j (then_persisted c) p.there ∙ get_or-set_same c.core.plv j new 0 (wide_plv c meets mine sees),
+        words_same c,
       ))
       (λ _. stored st m new)
       (λ c meets mine sees o its i at.
-      let same : i ≡ j = stream-at origin o j i (sym p.opened ∙ its) (sym word ∙ at) in
+      let same : i ≡ j = stream_at origin o j i (sym p.opened ∙ its) (sym word ∙ at) in
       λ k. (sees_to (sym same k) (sym first k) m.0, m.1))
 
 pub loads_as : (origin : Plain) (slots id j word : ℕ) (m : Sat) → slots ≡ part_count origin.load → m.0.opened ≡ Some origin → j < origin.load.streams → word ≡ plv_word origin.load j → Allows (Rule origin) slots id m word (λ n. n) (looked (step slots word 0 0 none) m)

@@ -7,7 +7,7 @@ use Rattle.tau_shown.proofs.Steps.{splits_role}
 use Rattle.tau_model.specs.History.{Numbered, Member}
 use Rattle.tau_machine.specs.Worker.{Worker}
 use Rattle.tau_machine.specs.Events.{Resume, Leads, with_worker}
-use Rattle.tau_machine.proofs.At.{at-same, at-other}
+use Rattle.tau_machine.proofs.At.{at_same, at_other}
 use Rattle.tau_core.specs.State.{Plain}
 use Rattle.tau_core.specs.View.{setting_of}
 use Rattle.tau_core.specs.Parts.{nobody}
@@ -17,8 +17,8 @@ use Rattle.tau_rule.specs.Rule.{MAX_ANCHOR, Now, Rule, IsPart, IsShare, IsRole, 
 use Rattle.tau_rule.specs.Heads.{left_by, split_as, CanResume, resumed}
 use Rattle.tau_rule.specs.declared.part.Part.{Part}
 use Rattle.tau_rule.specs.declared.part.Part.TheVariants as part
-use Rattle.tau_rule.proofs.Turns.{Turn, reached-on, role-alone, alone, share-worker}
-use Rattle.tau_rule.proofs.Heads.{still-in}
+use Rattle.tau_rule.proofs.Turns.{Turn, reached_on, role_alone, alone, share_worker}
+use Rattle.tau_rule.proofs.Heads.{still_in}
 
 module _ (origin : Plain) (v : Knows) (w : ℕ) (call : Numbered) (front back : List Numbered) (p : CanResume origin.load v w call front back) where
   abbrev next : Worker
@@ -31,7 +31,7 @@ module _ (origin : Plain) (v : Knows) (w : ℕ) (call : Numbered) (front back : 
     known : (u : ℕ) → u < origin.load.workers → (k : Worker) × (c.core.workers u ≡ k) × (k.hand ≡ None) × (k.waiting ≡ []) × ((n : Numbered) → Member n k.left → call.number ≤ n.number)
     known u low =
         let q = p.all u low in
-        let is = share-worker origin u q.0.share q.1 c.core q.3 (roles u q.0 q.2).0 in
+        let is = share_worker origin u q.0.share q.1 c.core q.3 (roles u q.0 q.2).0 in
         (q.1, is.1, q.4, q.5, q.6)
 
     each : (u : ℕ) → (k : Worker) × (c.core.workers u ≡ k) × (k.hand ≡ None) × (k.waiting ≡ []) × ((n : Numbered) → Member n k.left → call.number ≤ n.number)
@@ -41,7 +41,7 @@ module _ (origin : Plain) (v : Knows) (w : ℕ) (call : Numbered) (front back : 
     ]
 
     mine : c.core.workers w ≡ p.worker
-    mine = (share-worker origin w p.role.share p.worker c.core p.share (roles w p.role p.is).0).1
+    mine = (share_worker origin w p.role.share p.worker c.core p.share (roles w p.role p.is).0).1
 
     leads : Leads (setting_of origin.load) (Resume w) c.core (then_resumed c).core []
     leads = (
@@ -57,34 +57,34 @@ module _ (origin : Plain) (v : Knows) (w : ℕ) (call : Numbered) (front back : 
       refl,
     )
 
-    shares-stay : (u : ℕ) (x : Share) → (u ≡ w → ⊥) → IsShare origin.load u x c.core → IsShare origin.load u x (then_resumed c).core
-    shares-stay u (Working x) apart h = (h.0, at-other w next c.core.workers u apart ∙ h.1)
-    shares-stay u (Managing g) apart h = (h.0, h.1, h.2, record { moved = h.3.moved; gathered = h.3.gathered; anchors = h.3.anchors; own = h.3.own })
-    shares-stay u (Clerking acked) apart h = h
+    shares_stay : (u : ℕ) (x : Share) → (u ≡ w → ⊥) → IsShare origin.load u x c.core → IsShare origin.load u x (then_resumed c).core
+    shares_stay u (Working x) apart h = (h.0, at_other w next c.core.workers u apart ∙ h.1)
+    shares_stay u (Managing g) apart h = (h.0, h.1, h.2, record { moved = h.3.moved; gathered = h.3.gathered; anchors = h.3.anchors; own = h.3.own })
+    shares_stay u (Clerking acked) apart h = h
 
-    parts-stay : (k : ℕ) (q : Part) → IsPart origin.load k q c → IsPart origin.load k q (then_resumed c)
-    parts-stay k (part.Shard b) h = h
-    parts-stay k (part.Outbox a b) h = h
-    parts-stay k (part.Anchor number lv) h = h
+    parts_stay : (k : ℕ) (q : Part) → IsPart origin.load k q c → IsPart origin.load k q (then_resumed c)
+    parts_stay k (part.Shard b) h = h
+    parts_stay k (part.Outbox a b) h = h
+    parts_stay k (part.Anchor number lv) h = h
 
-    sees-stay : (x : Knows) → Sees origin c x → Sees origin (then_resumed c) x
-    sees-stay x h = record { opened = h.opened; wide = h.wide; low = h.low; own = h.own; read = h.read; found = h.found }
+    sees_stay : (x : Knows) → Sees origin c x → Sees origin (then_resumed c) x
+    sees_stay x h = record { opened = h.opened; wide = h.wide; low = h.low; own = h.own; read = h.read; found = h.found }
 
-    resume-turn : Turn origin c (then_resumed c) (part_count origin.load) w (resumed p.role p.worker call front back)
-    resume-turn = record {
-      parts = λ k q lt apart h. parts-stay k q h;
-      mine = ((p.there, at-same w next c.core.workers), (roles w p.role p.is).1, (roles w p.role p.is).2);
-      others = λ u x apart h. (shares-stay u x.share apart h.0, h.1, h.2);
-      sight = λ x lacks h. sees-stay x h;
+    resume_turn : Turn origin c (then_resumed c) (part_count origin.load) w (resumed p.role p.worker call front back)
+    resume_turn = record {
+      parts = λ k q lt apart h. parts_stay k q h;
+      mine = ((p.there, at_same w next c.core.workers), (roles w p.role p.is).1, (roles w p.role p.is).2);
+      others = λ u x apart h. (shares_stay u x.share apart h.0, h.1, h.2);
+      sight = λ x lacks h. sees_stay x h;
       kept = record {
-        reached = reached-on origin (Resume w) c.core (then_resumed c).core [] meets.reached leads;
+        reached = reached_on origin (Resume w) c.core (then_resumed c).core [] meets.reached leads;
         going = meets.going;
         fits = subst (λ (k : ℕ). (i : ℕ) → i < origin.load.streams → slice_index c.core.ends i ≤ slice_index origin.load.opening.ends i + LONGEST * k + MAX_ANCHOR * length (c.core.streams i).anchors)
             (sym (length-append meets.reached.joined [] ∙ add-zero (length meets.reached.joined))) meets.fits;
         anchors = meets.anchors;
         opened = meets.opened;
         limited = meets.limited;
-        beyond = λ u low. at-other w next c.core.workers u (λ e. let b = p.there in omega arith) ∙ meets.beyond u low;
+        beyond = λ u low. at_other w next c.core.workers u (λ e. let b = p.there in omega arith) ∙ meets.beyond u low;
         shards = meets.shards;
         streams = meets.streams;
       };
@@ -94,17 +94,17 @@ module _ (origin : Plain) (v : Knows) (w : ℕ) (call : Numbered) (front back : 
   pub splits_resuming : (id : ℕ) → v.hand ≡ None → Splits (Rule origin) id v (left_by w v) (split_as w (resumed p.role p.worker call front back) v)
   splits_resuming id idle =
       let y : Role = resumed p.role p.worker call front back in
-      splits_role (IsPart origin.load) (IsRole origin.load) (word_of origin.load) hand_of has (Sees origin) (Meets origin) (part_count origin.load) (origin.load.streams + origin.load.streams + 1) id w v (left_by w v) (split_as w y v) p.role y idle idle refl p.is (role-alone w y)
-      (λ u z h. still-in w v.roles u z h) (λ u z h. alone w y u z h)
-      (λ c meets roles sees. let s = sees-stay c meets roles v sees in (
+      splits_role (IsPart origin.load) (IsRole origin.load) (word_of origin.load) hand_of has (Sees origin) (Meets origin) (part_count origin.load) (origin.load.streams + origin.load.streams + 1) id w v (left_by w v) (split_as w y v) p.role y idle idle refl p.is (role_alone w y)
+      (λ u z h. still_in w v.roles u z h) (λ u z h. alone w y u z h)
+      (λ c meets roles sees. let s = sees_stay c meets roles v sees in (
         then_resumed c,
-        resume-turn c meets roles,
+        resume_turn c meets roles,
         record {
-          opened = λ u z h. s.opened u z (still-in w v.roles u z h).1;
-          wide = λ u z h. s.wide u z (still-in w v.roles u z h).1;
+          opened = λ u z h. s.opened u z (still_in w v.roles u z h).1;
+          wide = λ u z h. s.wide u z (still_in w v.roles u z h).1;
           low = s.low;
-          own = λ j z lt h. s.own j z lt (still-in w v.roles (manager_role origin.load j) z h).1;
-          read = λ u z lt h. s.read u z lt (still-in w v.roles u z h).1;
+          own = λ j z lt h. s.own j z lt (still_in w v.roles (manager_role origin.load j) z h).1;
+          read = λ u z lt h. s.read u z lt (still_in w v.roles u z h).1;
           found = s.found;
         },
         record {

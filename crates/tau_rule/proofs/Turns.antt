@@ -10,9 +10,9 @@ use Rattle.tau_machine.specs.Shard.{Shard}
 use Rattle.tau_machine.specs.Worker.{Worker}
 use Rattle.tau_machine.specs.State.{Core}
 use Rattle.tau_machine.specs.Events.{Event, Leads, with_worker, with_shard}
-use Rattle.tau_machine.proofs.At.{at-same, at-other}
+use Rattle.tau_machine.proofs.At.{at_same, at_other}
 use Rattle.tau_machine.specs.Invariant.{Invariant}
-use Rattle.tau_machine.proofs.Runs.{lead_on-more, run-invariant}
+use Rattle.tau_machine.proofs.Runs.{lead_on_more, run_invariant}
 use Rattle.tau_core.specs.Opens.{nothing}
 use Rattle.tau_core.specs.View.{core_of}
 use Rattle.tau_shown.specs.Shown.{Turns}
@@ -26,29 +26,29 @@ use Rattle.tau_rule.specs.declared.part.Part.{Part}
 use Rattle.tau_rule.specs.declared.part.Part.TheVariants as part
 
 -- one event more
-abbrev pub reached-on : (origin : Plain) (e : Event) (s s' : Core) (new : List (Act Txn)) → IsReached origin s → Leads (setting_of origin.load) e s s' new → IsReached origin s'
-reached-on origin e s s' new r leads = record {
+abbrev pub reached_on : (origin : Plain) (e : Event) (s s' : Core) (new : List (Act Txn)) → IsReached origin s → Leads (setting_of origin.load) e s s' new → IsReached origin s'
+reached_on origin e s s' new r leads = record {
   events = r.events ++ e ∷ [];
   joined = r.joined ++ new;
-  run = record { opens = r.run.opens; leads = lead_on-more (setting_of origin.load) r.events r.joined (core_of origin nothing) s s' e new r.run.leads leads };
+  run = record { opens = r.run.opens; leads = lead_on_more (setting_of origin.load) r.events r.joined (core_of origin nothing) s s' e new r.run.leads leads };
 }
 
 -- what holds of every state that a run leads to
-pub reached-invariant : (origin : Plain) (s : Core) (r : IsReached origin s) → Invariant (setting_of origin.load) r.joined s
-reached-invariant origin s r = run-invariant (setting_of origin.load) (core_of origin nothing) r.events r.joined s r.run
+pub reached_invariant : (origin : Plain) (s : Core) (r : IsReached origin s) → Invariant (setting_of origin.load) r.joined s
+reached_invariant origin s r = run_invariant (setting_of origin.load) (core_of origin nothing) r.events r.joined s r.run
 
 -- a longer list of committed calls bounds a stream too
 pub more : (e o a b r : ℕ) → e ≤ o + LONGEST * a + r → a ≤ b → e ≤ o + LONGEST * b + r
 more e o a b r h low = omega arith
 
-pub role-alone : (w : ℕ) (x : Role) → role_in w ((w, x) ∷ []) ≡ Some x
-role-alone w x = ap (λ b. cond b (Some x) None) (eq-eqb w w refl)
+pub role_alone : (w : ℕ) (x : Role) → role_in w ((w, x) ∷ []) ≡ Some x
+role_alone w x = ap (λ b. cond b (Some x) None) (eq-eqb w w refl)
 
 pub alone : (w : ℕ) (x : Role) (u : ℕ) (z : Role) → role_in u ((w, x) ∷ []) ≡ Some z → u ≡ w
 alone w x u z e = dite (ℕ_discrete w u) sym (λ n. absurd (let a : None ≡ Some z = sym (ap (λ b. cond b (Some x) None) (ne_eqb w u n)) ∙ e in cc))
 
-pub one-role : (v : Knows) (w : ℕ) (x : Role) → v.roles ≡ (w, x) ∷ [] → has w v ≡ Some x
-one-role v w x is = ap (role_in w) is ∙ role-alone w x
+pub one_role : (v : Knows) (w : ℕ) (x : Role) → v.roles ≡ (w, x) ∷ [] → has w v ≡ Some x
+one_role v w x is = ap (role_in w) is ∙ role_alone w x
 
 module _ (origin : Plain) where
   abbrev pub Turn : Now → Now → ℕ → ℕ → Role → Type 0
@@ -59,40 +59,40 @@ module _ (origin : Plain) where
     abbrev pub on_shard : Now
     on_shard = record { core = with_shard (with_worker c.core w wk) k sh; raised = c.raised; spare = c.spare }
 
-    parts-stay : (j : ℕ) (p : Part) → (j ≡ k → ⊥) → IsPart origin.load j p c → IsPart origin.load j p on_shard
-    parts-stay j (part.Shard b) apart h = (h.0, at-other k sh c.core.shards j apart ∙ h.1)
-    parts-stay j (part.Outbox o p) apart h = h
-    parts-stay j (part.Anchor number lv) apart h = h
+    parts_stay : (j : ℕ) (p : Part) → (j ≡ k → ⊥) → IsPart origin.load j p c → IsPart origin.load j p on_shard
+    parts_stay j (part.Shard b) apart h = (h.0, at_other k sh c.core.shards j apart ∙ h.1)
+    parts_stay j (part.Outbox o p) apart h = h
+    parts_stay j (part.Anchor number lv) apart h = h
 
-    shares-stay : (u : ℕ) (x : Share) → (u ≡ w → ⊥) → IsShare origin.load u x c.core → IsShare origin.load u x on_shard.core
-    shares-stay u (Working x) apart h = (h.0, at-other w wk c.core.workers u apart ∙ h.1)
-    shares-stay u (Managing g) apart h = (h.0, h.1, h.2, record { moved = h.3.moved; gathered = h.3.gathered; anchors = h.3.anchors; own = h.3.own })
-    shares-stay u (Clerking acked) apart h = h
+    shares_stay : (u : ℕ) (x : Share) → (u ≡ w → ⊥) → IsShare origin.load u x c.core → IsShare origin.load u x on_shard.core
+    shares_stay u (Working x) apart h = (h.0, at_other w wk c.core.workers u apart ∙ h.1)
+    shares_stay u (Managing g) apart h = (h.0, h.1, h.2, record { moved = h.3.moved; gathered = h.3.gathered; anchors = h.3.anchors; own = h.3.own })
+    shares_stay u (Clerking acked) apart h = h
 
-    sight-stays : (v : Knows) → Sees origin c v → Sees origin on_shard v
-    sight-stays v h = record { opened = h.opened; wide = h.wide; low = h.low; own = h.own; read = h.read; found = h.found }
+    sight_stays : (v : Knows) → Sees origin c v → Sees origin on_shard v
+    sight_stays v h = record { opened = h.opened; wide = h.wide; low = h.low; own = h.own; read = h.read; found = h.found }
 
-    pub on_shard-turn : (e : Event) (new : List (Act Txn)) → Meets origin c → IsRole origin.load w old c → Leads (setting_of origin.load) e c.core on_shard.core new → Turn c on_shard k w (working old wk)
-    on_shard-turn e new meets mine leads = record {
-      parts = λ j p low apart h. parts-stay j p apart h;
-      mine = ((wide, at-same w wk c.core.workers), mine.1, mine.2);
-      others = λ u x apart h. (shares-stay u x.share apart h.0, h.1, h.2);
-      sight = λ v none h. sight-stays v h;
+    pub on_shard_turn : (e : Event) (new : List (Act Txn)) → Meets origin c → IsRole origin.load w old c → Leads (setting_of origin.load) e c.core on_shard.core new → Turn c on_shard k w (working old wk)
+    on_shard_turn e new meets mine leads = record {
+      parts = λ j p low apart h. parts_stay j p apart h;
+      mine = ((wide, at_same w wk c.core.workers), mine.1, mine.2);
+      others = λ u x apart h. (shares_stay u x.share apart h.0, h.1, h.2);
+      sight = λ v none h. sight_stays v h;
       kept = record {
-        reached = reached-on origin e c.core on_shard.core new meets.reached leads;
+        reached = reached_on origin e c.core on_shard.core new meets.reached leads;
         going = meets.going;
         fits = λ j low. more _ _ (length meets.reached.joined) (length (meets.reached.joined ++ new)) _ (meets.fits j low) (let a = length-append meets.reached.joined new in omega arith);
         anchors = meets.anchors;
         opened = meets.opened;
         limited = meets.limited;
-        beyond = λ u low. at-other w wk c.core.workers u (λ e. omega arith) ∙ meets.beyond u low;
-        shards = λ i low. at-other k sh c.core.shards i (λ e. omega arith) ∙ meets.shards i low;
+        beyond = λ u low. at_other w wk c.core.workers u (λ e. omega arith) ∙ meets.beyond u low;
+        shards = λ i low. at_other k sh c.core.shards i (λ e. omega arith) ∙ meets.shards i low;
         streams = meets.streams;
       };
     }
 
-  pub handed-sees : (c : Now) (v : Knows) (w : ℕ) (x y : Role) → w < origin.load.workers → v.opened ≡ Some origin → has w v ≡ Some x → Sees origin c v → Sees origin c (handed v w y)
-  handed-sees c v w x y wide opened is h = record {
+  pub handed_sees : (c : Now) (v : Knows) (w : ℕ) (x y : Role) → w < origin.load.workers → v.opened ≡ Some origin → has w v ≡ Some x → Sees origin c v → Sees origin c (handed v w y)
+  handed_sees c v w x y wide opened is h = record {
     opened = λ u r e. opened;
     wide = λ u r e. h.wide w x is;
     low = h.low;
@@ -101,15 +101,15 @@ module _ (origin : Plain) where
     found = h.found;
   }
 
-  pub part-shard : (c : Now) (k : ℕ) (p : Part) (sh : Shard) → shard_in p ≡ Some sh → IsPart origin.load k p c → (k < SHARDS) × (c.core.shards k ≡ sh)
-  part-shard c k (part.Shard b) sh is h = (h.0, h.1 ∙ cc)
-  part-shard c k (part.Outbox o p) sh is h = cc
-  part-shard c k (part.Anchor number lv) sh is h = cc
+  pub part_shard : (c : Now) (k : ℕ) (p : Part) (sh : Shard) → shard_in p ≡ Some sh → IsPart origin.load k p c → (k < SHARDS) × (c.core.shards k ≡ sh)
+  part_shard c k (part.Shard b) sh is h = (h.0, h.1 ∙ cc)
+  part_shard c k (part.Outbox o p) sh is h = cc
+  part_shard c k (part.Anchor number lv) sh is h = cc
 
-  pub shard-part : (c : Now) (k : ℕ) (p : Part) (sh : Shard) → shard_in p ≡ Some sh → k < SHARDS → c.core.shards k ≡ sh → IsPart origin.load k p c
-  shard-part c k (part.Shard b) sh is low e = (low, e ∙ cc)
-  shard-part c k (part.Outbox o p) sh is low e = cc
-  shard-part c k (part.Anchor number lv) sh is low e = cc
+  pub shard_part : (c : Now) (k : ℕ) (p : Part) (sh : Shard) → shard_in p ≡ Some sh → k < SHARDS → c.core.shards k ≡ sh → IsPart origin.load k p c
+  shard_part c k (part.Shard b) sh is low e = (low, e ∙ cc)
+  shard_part c k (part.Outbox o p) sh is low e = cc
+  shard_part c k (part.Anchor number lv) sh is low e = cc
 
-  pub share-worker : (u : ℕ) (x : Share) (wk : Worker) (s : Core) → x ≡ Working wk → IsShare origin.load u x s → (u < origin.load.workers) × (s.workers u ≡ wk)
-  share-worker u x wk s is h = subst (λ (y : Share). IsShare origin.load u y s) is h
+  pub share_worker : (u : ℕ) (x : Share) (wk : Worker) (s : Core) → x ≡ Working wk → IsShare origin.load u x s → (u < origin.load.workers) × (s.workers u ≡ wk)
+  share_worker u x wk s is h = subst (λ (y : Share). IsShare origin.load u y s) is h

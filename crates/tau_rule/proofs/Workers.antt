@@ -16,7 +16,7 @@ use Rattle.tau_machine.specs.Shard.{Shard, Entry, entry_in, shard_locked, shard_
 use Rattle.tau_machine.specs.Worker.{Worker, begun, hand_locked, hand_busy, settled, hand_freed}
 use Rattle.tau_machine.specs.State.{Setting}
 use Rattle.tau_machine.specs.Events.{Lock, Busy, Free, Conflicts, lock_next, with_worker, with_shard}
-use Rattle.tau_machine.proofs.At.{at-itself}
+use Rattle.tau_machine.proofs.At.{at_itself}
 use Rattle.tau_shard.specs.Blocks.{against, blocks, dep_locked}
 use Rattle.tau_txn.specs.declared.standing.Standing.{Standing}
 use Rattle.tau_txn.specs.declared.standing.Standing.TheVariants as standing
@@ -31,43 +31,9 @@ use Rattle.tau_rule.specs.Steps.{StepsShard}
 
 -- these four stand in tau_core's lemmas too
 
-pub none-conflicts : (set : Setting) (sh : Shard) (w : ℕ) (x : Key) (m : Mode) → ((u : ℕ) → blocks (entry_in sh x) w m u ≡ false) → Conflicts set sh w x m → ⊥
-none-conflicts set sh w x m free c = at_mode m c.1 c.4 (sym (ap (against m) c.3) ∙ clear)
-  where
-    apart : (c.0 == w) ≡ false
-    apart = ne_eqb c.0 w c.2
-
-    clear : against m ((entry_in sh x).holders c.0) ≡ false
-    clear = (let f = free c.0 in rw apart at f)
-
-    at_mode : (m n : Mode) → (m ≡ Write) ⊎ (n ≡ Write) → against m (Some n) ≡ false → ⊥
-    at_mode Read Read (inl e) f = cc
-    at_mode Read Read (inr e) f = cc
-    at_mode Read Write o f = cc
-    at_mode Write Read o f = cc
-    at_mode Write Write o f = cc
-
-pub shown-dep : (procs : List Proc) (t : PlainTxn) (h : Hand) → hand_in procs t ≡ Some h → dep_in t ≡ h.dep
-shown-dep procs t h e = by_case t.hand e
-  where
-    at : (st : Standing) (x : PlainHand) → shown procs t.worker st x ≡ Some h → x.dep ≡ h.dep
-    at standing.Running x f = (let g : hand_of procs t.worker x ≡ h = cc in ap (λ (y : Hand). y.dep) g)
-    at standing.Quitting x f = (let g : hand_of procs t.worker x ≡ h = cc in ap (λ (y : Hand). y.dep) g)
-    at standing.Placed x f = (let g : hand_of procs t.worker x ≡ h = cc in ap (λ (y : Hand). y.dep) g)
-    at standing.Freeing x f = (let g : hand_of procs t.worker x ≡ h = cc in ap (λ (y : Hand). y.dep) g)
-    at standing.LeftOver x f = cc
-
-    by_case : (o : Option PlainHand) → shown_of procs t.worker o ≡ Some h → dep_by t.width o ≡ h.dep
-    by_case None f = cc
-    by_case (Some x) f = at x.standing x f
-
-pub locked-alike : (h : Hand) (x : Key) (m : Mode) (row : Value) (dep : List ℕ) (e : Entry) → dep ≡ dep_locked m h.dep e → locked_with h x m row dep ≡ hand_locked h x m row e.write_lv e.read_lv
-locked-alike h x Read row dep e is = ap (λ (d : List ℕ). locked_with h x Read row d) is
-locked-alike h x Write row dep e is = ap (λ (d : List ℕ). locked_with h x Write row d) is
-
 -- a call that is in hand is the worker's
-pub worker-shown : (procs : List Proc) (wk : Worker) (t : PlainTxn) (h : Hand) → hand_in procs t ≡ Some h → worker_of procs wk t ≡ record wk { hand = Some h }
-worker-shown procs wk t h e = by_case t.hand e
+pub worker_shown : (procs : List Proc) (wk : Worker) (t : PlainTxn) (h : Hand) → hand_in procs t ≡ Some h → worker_of procs wk t ≡ record wk { hand = Some h }
+worker_shown procs wk t h e = by_case t.hand e
   where
     at : (st : Standing) (x : PlainHand) → shown procs t.worker st x ≡ Some h → worker_by procs t.worker wk st x ≡ record wk { hand = Some h }
     at standing.Running x f = ap (λ (y : Option Hand). record wk { hand = y }) f
@@ -116,7 +82,7 @@ module _ (origin : Plain) (w k : ℕ) (wk : Worker) (sh : Shard) (hand : Hand) (
           phase = phase;
           next = next;
           after = (λ i. with_shard (with_worker s w (worker i)) k (sym at_shard i))
-              ∙ ap (λ (f : ℕ → Shard). record (with_worker s w (settled origin.load.streams (begun origin.load.streams wk) (hand_busy hand))) { shards = f }) (at-itself k s.shards)
+              ∙ ap (λ (f : ℕ → Shard). record (with_worker s w (settled origin.load.streams (begun origin.load.streams wk) (hand_busy hand))) { shards = f }) (at_itself k s.shards)
               ∙ (λ i. with_worker s w (settled origin.load.streams (begun origin.load.streams (sym at_worker i)) (hand_busy hand)));
         },
         refl,

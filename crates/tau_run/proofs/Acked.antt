@@ -6,10 +6,10 @@ use Rattle.std.proofs.lemmas.Option.{get_or_from_slice_get}
 use Rattle.std.proofs.lemmas.List.{length-append}
 use Rattle.tau_base.specs.Vectors.{AtMost}
 use Rattle.tau_base.specs.declared.value.LogMode.{LogMode}
-use Rattle.tau_base.proofs.Vectors.{at_most-within}
+use Rattle.tau_base.proofs.Vectors.{at_most_within}
 use Rattle.tau_model.specs.History.{Act, Member, Depends, updates}
-use Rattle.tau_model.proofs.Dependence.{depends-there}
-use Rattle.tau_model.proofs.Reorder.{reordered-itself}
+use Rattle.tau_model.proofs.Dependence.{depends_there}
+use Rattle.tau_model.proofs.Reorder.{reordered_itself}
 use Rattle.tau_machine.specs.Hands.{Txn}
 use Rattle.tau_machine.specs.Reports.{held_by}
 use Rattle.tau_machine.specs.State.{Core, Ticket, ticket}
@@ -31,13 +31,15 @@ use Rattle.tau_run.specs.StopsLeave.{HasFront}
 use Rattle.tau_run.proofs.Closed.{Behind, behind}
 use Rattle.tau_run.proofs.Each.{one_content}
 use Rattle.tau_run.proofs.History.{acts_are, ack_of}
-use Rattle.tau_run.proofs.Lists.{member_map, any_member}
-use Rattle.tau_run.proofs.Logs.{LogOf, log_of_them, some_within, length_at}
+use Rattle.tau_run.proofs.Lists.{any_member}
+use Rattle.tau_run.proofs.Logs.{LogOf, log_of_them, length_at}
 use Rattle.tau_run.proofs.Order.{apart, history, once, there}
 use Rattle.tau_run.proofs.Recovered.{CutLog, cut_log, is_set, none_anchored, records_are}
 use Rattle.tau_run.proofs.Streams.{AreSound, IsRead, whole_read}
 use Rattle.tau_run.proofs.Taken.{takes_is}
 use Rattle.tau_run.proofs.CommittedTold.{act_of, number_of, one_of_number, apart_reordered}
+use Rattle.tau_base.proofs.Lists.{some_at}
+use Rattle.tau_model.proofs.Assembling.{member_mapped}
 
 abbrev answered : {A : Type 0} → (E : Type 0) → A → Result A E
 answered E a = Ok a
@@ -62,7 +64,7 @@ module _ (n m : ℕ) (mode : LogMode) (load : Workload) (l : Load) (K : List (Ac
     whole_log.log,
     whole_log.reads,
     λ j lt.
-        (let h = some_within run.contents j (subst (λ (k : ℕ). j < k) (sym is.streams) lt) in
+        (let h = some_at run.contents j (subst (λ (k : ℕ). j < k) (sym is.streams) lt) in
         let r = whole_log.all j h.0 h.1 in
         let w = whole_at j h.0 h.1 in
         let same : r.0 ≡ w.0 = ok_is RecordFault r.0 w.0 (sym r.2.reads ∙ w.1.reads) in
@@ -80,7 +82,7 @@ module _ (n m : ℕ) (mode : LogMode) (load : Workload) (l : Load) (K : List (Ac
   -- an act of the run is that of a committed call
   pub act_there : (x : Act Committed) → Member x (acts load.declarations.procs run) → (t : Act Txn) × Member t K × (act_of t ≡ x)
   act_there x q =
-      let w = member_map act_of x H (subst (λ (xs : List (Act Committed)). Member x xs) (acts_are (setting_of l) K s inv n m load (is_set n m mode load l at) run is.calls) q) in
+      let w = member_mapped act_of x H (subst (λ (xs : List (Act Committed)). Member x xs) (acts_are (setting_of l) K s inv n m load (is_set n m mode load l at) run is.calls) q) in
       (w.0, there (setting_of l) K s inv w.0 w.1, w.2)
 
   -- a number that is acknowledged
@@ -107,11 +109,11 @@ module _ (n m : ℕ) (mode : LogMode) (load : Workload) (l : Load) (K : List (Ac
         (catalogue_of load ++ f.0, f.1.has, inr (f.0, f.1.count, refl, f.1.spelled)))
 
     covered : AtMost s.plv found.made.log.elv
-    covered = at_most-within s.plv found.made.log.elv (λ j lt.
+    covered = at_most_within s.plv found.made.log.elv (λ j lt.
         let wide : length s.plv ≡ n = inv.agrees.good.count_plv ∙ at.streams in
         let low : j < n = subst (λ (k : ℕ). j < k) wide lt in
-        let h = some_within images j (subst (λ (k : ℕ). j < k) (sym count) low) in
-        let c = some_within found.contents j (subst (λ (k : ℕ). j < k) (sym found.long) low) in
+        let h = some_at images j (subst (λ (k : ℕ). j < k) (sym count) low) in
+        let c = some_at found.contents j (subst (λ (k : ℕ). j < k) (sym found.long) low) in
         let f = present j h.0 h.1 in
         let same : c.0 ≡ catalogue_of load ++ f.0 = one_content n j h.0 c.0 (catalogue_of load ++ f.0) (found.has j h.0 c.0 h.1 c.1) f.1.has in
         let long : slice_index found.made.log.elv j ≡ length (catalogue_of load) + length f.0 =
@@ -137,7 +139,7 @@ module _ (n m : ℕ) (mode : LogMode) (load : Workload) (l : Load) (K : List (Ac
               let early_there = there (setting_of l) K s inv w.early w.early_there in
               let late : w.late ≡ t.0 = one_act w.late t.0 late_there t.1 (ap (λ (y : Act Committed). y.call.number) (w.late_is ∙ sym t.2)) in
               let up' : updates w.early.effect ≡ true = ap (λ (y : Act Committed). updates y.effect) w.early_is ∙ up in
-              let how = depends-there K H (once (setting_of l) K s inv) (reported_theorem (setting_of l) K s inv K (reordered-itself K)).1 w.late w.early w.depends in
+              let how = depends_there K H (once (setting_of l) K s inv) (reported_theorem (setting_of l) K s inv K (reordered_itself K)).1 w.late w.early w.depends in
               let held : held_by found.made.log.elv w.early.call ≡ true = elim how [
                 | inl p ↦ law.1 w.early (subst (λ (z : Act Txn). Depends K z w.early) late p) up'
                 | inr p ↦

@@ -5,16 +5,16 @@ use Rattle.std.specs.List.{filter}
 use Rattle.std.proofs.lemmas.Bool.{cases_eq, eq-eqb, ne_eqb}
 use Rattle.std.proofs.lemmas.List.{append-nil, map-append}
 use Rattle.tau_model.specs.History.{Act, Member}
-use Rattle.tau_model.proofs.Orders.{member-front, member-back, member-reordered}
+use Rattle.tau_model.proofs.Orders.{member_front, member_back, member_reordered}
 use Rattle.tau_machine.specs.Hands.{Txn, act_in}
 use Rattle.tau_machine.specs.Accounts.{in_committed, in_worker, in_calls, in_hand, joined_list}
 use Rattle.tau_machine.specs.State.{Setting, Ticket, Core, ticket_of}
 use Rattle.tau_machine.specs.Invariant.{Invariant}
 use Rattle.tau_machine.specs.Events.{Event, Lock, Busy, Quit, Commit, Post, Free, FirstFree, Done, DoneReading, Drop, Gather, PlaceAnchor, Persist, Ack, Stop, Resume, Leads, Gathered, stop, record_first, anchor_first}
 use Rattle.tau_machine.specs.Runs.{IsOpening}
-use Rattle.tau_machine.proofs.Accounts.{committed-append}
-use Rattle.tau_machine.proofs.At.{at-other}
-use Rattle.tau_machine.proofs.Runs.{run-invariant}
+use Rattle.tau_machine.proofs.Accounts.{committed_append}
+use Rattle.tau_machine.proofs.At.{at_other}
+use Rattle.tau_machine.proofs.Runs.{run_invariant}
 use Rattle.tau_run.specs.Run.{pair_of}
 use Rattle.tau_run.specs.Laws.{TurnsAreARun}
 use Rattle.tau_run.specs.Turns.{Progress, begun, Goes, Tells, IsWholeRun, IsPartOfRun}
@@ -51,11 +51,11 @@ quiet_acked set (Resume w) s s' new q r = ap (λ (x : Core). x.acked) r.0.after
 pending_own : (set : Setting) (K : List (Act Txn)) (s : Core) → Invariant set K s → (w : ℕ) (k : Ticket) → Member k (s.outboxes w).pending → set.worker_of k.number ≡ w
 pending_own set K s g w k q =
     let acc = g.agrees.accounts w in
-    let there : Member k (map ticket_of acc.ended) = member-reordered (map ticket_of acc.ended) ((s.outboxes w).pending ++ s.acked w) acc.tickets k (member-front k (s.outboxes w).pending (s.acked w) q) in
+    let there : Member k (map ticket_of acc.ended) = member_reordered (map ticket_of acc.ended) ((s.outboxes w).pending ++ s.acked w) acc.tickets k (member_front k (s.outboxes w).pending (s.acked w) q) in
     let one = count_member (λ (x : Ticket). x.number) k.number k (map ticket_of acc.ended) there refl in
     let a = count_tickets k.number acc.ended in
     let b = ap (in_committed k.number) acc.committed in
-    let c = committed-append k.number acc.ended (joined_list (act_in (s.workers w).hand)) in
+    let c = committed_append k.number acc.ended (joined_list (act_in (s.workers w).hand)) in
     let f : in_calls k.number (s.workers w).waiting + in_hand k.number (s.workers w).hand + in_calls k.number (s.workers w).left + in_committed k.number (s.workers w).committed ≡ in_worker k.number (s.workers w) = refl in
     acc.whose k.number (omega (arith, one, a, b, c, f))
 
@@ -79,8 +79,8 @@ module _ (set : Setting) (m n : ℕ) (opening : Core) (opens : IsOpening set ope
     where
       own : set.worker_of g.ticket.number ≡ w
       own =
-          pending_own set p.joined p.state (run-invariant set opening p.events p.joined p.state (record { opens = opens; leads = t.led.leads })) w g.ticket
-          (subst (λ (ks : List Ticket). Member g.ticket ks) (sym g.is) (member-back g.ticket g.front (g.ticket ∷ g.back) (inl refl)))
+          pending_own set p.joined p.state (run_invariant set opening p.events p.joined p.state (record { opens = opens; leads = t.led.leads })) w g.ticket
+          (subst (λ (ks : List Ticket). Member g.ticket ks) (sym g.is) (member_back g.ticket g.front (g.ticket ∷ g.back) (inl refl)))
 
       more : (u : ℕ) → filter (λ (a : ℕ × List ℕ). set.worker_of a.0 == u) p'.told ≡ map pair_of (p.state.acked u) ++ filter (λ (a : ℕ × List ℕ). set.worker_of a.0 == u) (pair_of g.ticket ∷ [])
       more u =
@@ -98,7 +98,7 @@ module _ (set : Setting) (m n : ℕ) (opening : Core) (opens : IsOpening set ope
             let not_mine : (set.worker_of g.ticket.number == u) ≡ false = ne_eqb (set.worker_of g.ticket.number) u (λ e. other (sym e ∙ own)) in
             let none : filter (λ (a : ℕ × List ℕ). set.worker_of a.0 == u) (pair_of g.ticket ∷ []) ≡ [] = rw not_mine refl in
             let a = g.leads.0 in
-            let same : p'.state.acked u ≡ p.state.acked u = ap (λ (x : Core). x.acked u) a.after ∙ at-other w (p.state.acked w ++ a.ticket ∷ []) p.state.acked u other in
+            let same : p'.state.acked u ≡ p.state.acked u = ap (λ (x : Core). x.acked u) a.after ∙ at_other w (p.state.acked w ++ a.ticket ∷ []) p.state.acked u other in
             more u ∙ ap (λ (l : List (ℕ × List ℕ)). map pair_of (p.state.acked u) ++ l) none ∙ append-nil (map pair_of (p.state.acked u)) ∙ ap (map pair_of) (sym same)
       ]
 

@@ -1,7 +1,7 @@
 -- A closed set of committed acts is one of what the report has of them.
 use Rattle.std.proofs.Common.{Bool, true, ◌≡◌, List, map, sym, ap, subst, ◌∙◌}
 use Rattle.tau_model.specs.History.{Act, Member, Conflict, Depends, at_once, through, Closed, updates}
-use Rattle.tau_model.proofs.Logged.{member-first, member-second}
+use Rattle.tau_model.proofs.Logged.{member_first, member_second}
 use Rattle.tau_machine.specs.Hands.{Txn}
 use Rattle.tau_run.specs.Run.{Committed, told_of}
 use Rattle.tau_run.proofs.Lists.{before_map}
@@ -23,8 +23,8 @@ module _ (H : List (Act Txn)) (apart : Apart H) where
       record {
         late = w.1;
         early = w.0;
-        late_there = member-second w.0 w.1 H w.2;
-        early_there = member-first w.0 w.1 H w.2;
+        late_there = member_second w.0 w.1 H w.2;
+        early_there = member_first w.0 w.1 H w.2;
         late_is = w.4;
         early_is = w.3;
         depends = at_once w.2 (subst (λ (y : Act Committed). Conflict w.0.effect y.effect) (sym w.4) (subst (λ (y : Act Committed). Conflict y.effect x.effect) (sym w.3) c));

@@ -5,15 +5,16 @@ use Rattle.tau_proc.specs.declared.proc.Proc.{Proc}
 use Rattle.tau_proc.specs.Effect.{Effect}
 use Rattle.tau_proc.specs.Meaning.{meaning}
 use Rattle.tau_model.specs.History.{Act, Member, Before, Reordered, trace, exec}
-use Rattle.tau_model.proofs.Dependence.{members-order}
+use Rattle.tau_model.proofs.Dependence.{members_order}
 use Rattle.tau_machine.specs.Hands as hands
 use Rattle.tau_machine.specs.Hands.{Txn}
 use Rattle.tau_machine.specs.Pieces.{Chain, records_in, records_of_stream}
 use Rattle.tau_machine.specs.State.{Item, Record, Anchor}
 use Rattle.tau_machine.specs.Reports.{calls_of}
-use Rattle.tau_machine.proofs.Lists.{before-counts, apart-counts, reordered-counts}
+use Rattle.tau_machine.proofs.Lists.{before_counts, apart_counts, reordered_counts}
 use Rattle.tau_run.specs.Run.{Committed, told_of, means, Distinct, StandBetween, of_stream}
-use Rattle.tau_run.proofs.Lists.{member_map, filter_map}
+use Rattle.tau_run.proofs.Lists.{filter_map}
+use Rattle.tau_model.proofs.Assembling.{member_mapped}
 
 abbrev pub act_of : Act Txn → Act Committed
 act_of t = record { call = told_of t; effect = t.effect }
@@ -47,13 +48,13 @@ Apart ts = (u t : Act Txn) → Before u t ts → number_of u ≡ number_of t →
 
 pub apart_reordered : (K H : List (Act Txn)) → Apart K → Reordered K H → Apart H
 apart_reordered K H apart r u t b e =
-    let two = before-counts (number_of u) u t H b refl e in
-    let one = apart-counts K apart (number_of u) in
-    let same = reordered-counts (number_of u) K H r in
+    let two = before_counts (number_of u) u t H b refl e in
+    let one = apart_counts K apart (number_of u) in
+    let same = reordered_counts (number_of u) K H r in
     absurd (omega arith)
 
 pub one_of_number : (K : List (Act Txn)) → Apart K → (u t : Act Txn) → Member u K → Member t K → number_of u ≡ number_of t → u ≡ t
-one_of_number K apart u t mu mt e = elim (members-order u t K mu mt) [
+one_of_number K apart u t mu mt e = elim (members_order u t K mu mt) [
   | inl o ↦ elim o [ inl b ↦ absurd (apart u t b e) | inr b ↦ absurd (apart t u b (sym e)) ]
   | inr same ↦ sym same
 ]
@@ -61,8 +62,8 @@ one_of_number K apart u t mu mt e = elim (members-order u t K mu mt) [
 pub distinct_of : (ts : List (Act Txn)) → Apart ts → Distinct (map (λ (c : Committed). c.number) (map told_of ts))
 distinct_of [] apart = tt
 distinct_of (t ∷ ts) apart = (
-  λ m. (let w = member_map (λ (c : Committed). c.number) (number_of t) (map told_of ts) m in
-      let v = member_map told_of w.0 ts w.1 in
+  λ m. (let w = member_mapped (λ (c : Committed). c.number) (number_of t) (map told_of ts) m in
+      let v = member_mapped told_of w.0 ts w.1 in
       apart t v.0 (inl (refl, v.1)) (sym (ap (λ (c : Committed). c.number) v.2 ∙ w.2))),
   distinct_of ts (λ u v b e. apart u v (inr b) e),
 )

@@ -4,10 +4,9 @@ use Rattle.std.specs.Prelude.{Some, None, ◌==◌, ◌||◌}
 use Rattle.std.specs.Prelude.{map}
 use Rattle.std.specs.List.{filter}
 use Rattle.std.proofs.lemmas.Bool.{cases_eq, ne_eqb}
-use Rattle.tau_model.proofs.Logged.{member-filtered}
+use Rattle.tau_model.proofs.Logged.{member_filtered}
 use Rattle.tau_machine.specs.Invariant.{Invariant}
 use Rattle.tau_machine.proofs.Results.{committed_theorem}
-use Rattle.tau_run.proofs.Lists.{member_map}
 use Rattle.tau_base.specs.declared.value.Key.{Key}
 use Rattle.tau_base.specs.declared.value.Value.{Value}
 use Rattle.tau_base.specs.declared.value.Mode.{Mode}
@@ -23,8 +22,10 @@ use Rattle.tau_machine.specs.Accounts.{one, in_calls, in_committed, in_phase, in
 use Rattle.tau_machine.specs.Events.{Event, Lock, Busy, Quit, Commit, Post, Free, FirstFree, Done, DoneReading, Drop, Gather, PlaceAnchor, Persist, Ack, Stop, Resume, Leads, ready, Gathered, stop, record_first, anchor_first, Reads, Frees, Finishes}
 use Rattle.tau_machine.specs.Runs.{LeadOn, Run}
 use Rattle.tau_run.specs.Laws.{KeepsCall, KeepCalls}
-use Rattle.tau_machine.proofs.At.{at-same, at-other}
-use Rattle.tau_machine.proofs.Accounts.{calls-append, committed-append}
+use Rattle.tau_machine.proofs.At.{at_same, at_other}
+use Rattle.tau_machine.proofs.Accounts.{calls_append, committed_append}
+use Rattle.tau_machine.proofs.Commits.{begun_committed}
+use Rattle.tau_model.proofs.Assembling.{member_mapped}
 
 -- the call in hand is not given up
 abbrev pub Steady : Worker → Type 0
@@ -41,7 +42,7 @@ keeps_on a b c p q = record { all = λ n. (let x = p.all n in let y = q.all n in
 itself : (wk : Worker) → Steady wk → Keeps wk wk
 itself wk h = record { all = λ n. omega arith; steady = h }
 
-some_hand : (a b : Hand) → Some a ≡ Some b → a ≡ b
+pub some_hand : (a b : Hand) → Some a ≡ Some b → a ≡ b
 some_hand a b e = cc e
 
 begun_keeps : (width : ℕ) (wk : Worker) → Steady wk → Keeps wk (begun width wk)
@@ -55,29 +56,21 @@ begun_keeps width wk steady = by_hand wk.hand wk.waiting refl refl
       steady = λ h g. ap (λ (x : Hand). x.given_up) (sym (some_hand (fresh width c 0) h g));
     }
 
-begun_committed : (width : ℕ) (wk : Worker) → (begun width wk).committed ≡ wk.committed
-begun_committed width wk = by_hand wk.hand wk.waiting
-  where
-    by_hand : (o : Option Hand) (cs : List Numbered) → (begun_by width wk o cs).committed ≡ wk.committed
-    by_hand (Some h) cs = refl
-    by_hand None [] = refl
-    by_hand None (c ∷ cs) = refl
-
 -- another hand that accounts for the same call
-hand_keeps : (wk : Worker) (h h' : Hand) → wk.hand ≡ Some h → Steady wk → ((n : ℕ) → in_hand n (Some h) ≤ in_hand n (Some h')) → h'.given_up ≡ h.given_up → Keeps wk (record wk { hand = Some h' })
+pub hand_keeps : (wk : Worker) (h h' : Hand) → wk.hand ≡ Some h → Steady wk → ((n : ℕ) → in_hand n (Some h) ≤ in_hand n (Some h')) → h'.given_up ≡ h.given_up → Keeps wk (record wk { hand = Some h' })
 hand_keeps wk h h' e steady more same = record {
   all = λ n. (let x = ap (in_hand n) e in let y = more n in omega (arith, x, y));
   steady = λ g f. (ap (λ (x : Hand). x.given_up) (sym (some_hand h' g f)) ∙ same ∙ steady h e);
 }
 
-phase_one : (n : ℕ) (m : ℕ) (p : Phase) → act_of p ≡ None → in_phase n m p ≡ one n m
+pub phase_one : (n : ℕ) (m : ℕ) (p : Phase) → act_of p ≡ None → in_phase n m p ≡ one n m
 phase_one n m Running e = refl
 phase_one n m Quitting e = refl
 phase_one n m (Placed t) e = absurd (cc e)
 phase_one n m (Freeing t) e = absurd (cc e)
 
 -- a call that is to quit
-settled_keeps : (width : ℕ) (wk : Worker) (h h' : Hand) → wk.hand ≡ Some h → act_of h.phase ≡ None → h'.phase ≡ Quitting → h'.call ≡ h.call → h'.given_up ≡ false → Keeps wk (settled width wk h')
+pub settled_keeps : (width : ℕ) (wk : Worker) (h h' : Hand) → wk.hand ≡ Some h → act_of h.phase ≡ None → h'.phase ≡ Quitting → h'.call ≡ h.call → h'.given_up ≡ false → Keeps wk (settled width wk h')
 settled_keeps width wk h h' e none quits call up = by_held h'.held h'.given_up (h'.tries == MAX_TRIES) up
   where
     was : (n : ℕ) → in_hand n wk.hand ≡ one n h'.call.number
@@ -93,7 +86,7 @@ settled_keeps width wk h h' e none quits call up = by_held h'.held h'.given_up (
     }
     by_held [] true last g = absurd (cc g)
     by_held [] false true g = record {
-      all = λ n. (let x = was n in let y = calls-append n wk.left (h'.call ∷ []) in omega (arith, x, y));
+      all = λ n. (let x = was n in let y = calls_append n wk.left (h'.call ∷ []) in omega (arith, x, y));
       steady = λ i f. absurd (cc f);
     }
     by_held [] false false g = record {
@@ -102,7 +95,7 @@ settled_keeps width wk h h' e none quits call up = by_held h'.held h'.given_up (
     }
 
 -- the call in hand joins the committed ones
-joins_keeps : (width : ℕ) (wk : Worker) (h : Hand) (p : Phase) (dep : List ℕ) (c : Committed) → (begun width wk).hand ≡ Some h → h.phase ≡ Running → c.number ≡ h.call.number → Steady wk →
+pub joins_keeps : (width : ℕ) (wk : Worker) (h : Hand) (p : Phase) (dep : List ℕ) (c : Committed) → (begun width wk).hand ≡ Some h → h.phase ≡ Running → c.number ≡ h.call.number → Steady wk →
     Keeps wk (record (begun width wk) { hand = Some (hand_joined h p dep); committed = wk.committed ++ c ∷ [] })
 joins_keeps width wk h p dep c e runs number steady =
     let b = begun_keeps width wk steady in record {
@@ -110,13 +103,13 @@ joins_keeps width wk h p dep c e runs number steady =
           (let x = b.all n in
           let y : in_hand n (begun width wk).hand ≡ one n h.call.number = ap (in_hand n) e ∙ ap (in_phase n h.call.number) runs in
           let z = ap (in_committed n) (begun_committed width wk) in
-          let v = committed-append n wk.committed (c ∷ []) in
+          let v = committed_append n wk.committed (c ∷ []) in
           let u : one n c.number ≡ one n h.call.number = ap (one n) number in
           omega (arith, x, y, z, v, u));
       steady = λ i f. ap (λ (x : Hand). x.given_up) (sym (some_hand (hand_joined h p dep) i f)) ∙ b.steady h e;
     }
 
-locked_same : (h : Hand) (key : Key) (mode : Mode) (row : Value) (write_lv read_lv : List ℕ) → ((n : ℕ) → in_hand n (Some h) ≤ in_hand n (Some (hand_locked h key mode row write_lv read_lv))) × ((hand_locked h key mode row write_lv read_lv).given_up ≡ h.given_up)
+pub locked_same : (h : Hand) (key : Key) (mode : Mode) (row : Value) (write_lv read_lv : List ℕ) → ((n : ℕ) → in_hand n (Some h) ≤ in_hand n (Some (hand_locked h key mode row write_lv read_lv))) × ((hand_locked h key mode row write_lv read_lv).given_up ≡ h.given_up)
 locked_same h key Read row write_lv read_lv = (λ n. omega arith, refl)
 locked_same h key Write row write_lv read_lv = (λ n. omega arith, refl)
 
@@ -133,8 +126,8 @@ same_workers s s' steady e = record { each = λ w. subst (Keeps (s.workers w)) (
 one_worker : (s s' : Core) (w : ℕ) (wk : Worker) → AllSteady s → s'.workers ≡ at w wk s.workers → Keeps (s.workers w) wk → AllKeep s s'
 one_worker s s' w wk steady e k = record {
   each = λ u. subst (Keeps (s.workers u)) (ap (λ (f : ℕ → Worker). f u) (sym e)) (elim (cases_eq u w) [
-    | inl same ↦ subst (λ (v : ℕ). Keeps (s.workers v) (at w wk s.workers v)) (sym same) (subst (Keeps (s.workers w)) (sym (at-same w wk s.workers)) k)
-    | inr other ↦ subst (Keeps (s.workers u)) (sym (at-other w wk s.workers u other)) (itself (s.workers u) (steady u))
+    | inl same ↦ subst (λ (v : ℕ). Keeps (s.workers v) (at w wk s.workers v)) (sym same) (subst (Keeps (s.workers w)) (sym (at_same w wk s.workers)) k)
+    | inr other ↦ subst (Keeps (s.workers u)) (sym (at_other w wk s.workers u other)) (itself (s.workers u) (steady u))
   ]);
 }
 
@@ -225,8 +218,8 @@ module _ (set : Setting) where
         all = λ n.
             (let a = ap (in_calls n) (q.resting w).1 in
             let b = ap (in_calls n) q.is in
-            let c = calls-append n q.front (q.call ∷ q.back) in
-            let d = calls-append n q.front q.back in
+            let c = calls_append n q.front (q.call ∷ q.back) in
+            let d = calls_append n q.front q.back in
             omega (arith, a, b, c, d));
         steady = steady w;
       }
@@ -237,7 +230,7 @@ module _ (set : Setting) where
   all_keep (e ∷ es) s s' new steady k r =
       let a = step_keeps e s r.0 r.1 steady k.0 r.3 in all_on s r.0 s' a (all_keep es r.0 s' r.2 (all_steady s r.0 a) k.1 r.4)
 
-member_of_number : (k : ℕ) (cs : List Committed) → 1 ≤ in_committed k cs → (c : Committed) × Member c cs × (c.number ≡ k)
+pub member_of_number : (k : ℕ) (cs : List Committed) → 1 ≤ in_committed k cs → (c : Committed) × Member c cs × (c.number ≡ k)
 member_of_number k [] low = absurd (omega (arith, low))
 member_of_number k (c ∷ cs) low = elim (cases_eq k c.number) [
   | inl is ↦ (c, inl refl, sym is)
@@ -259,5 +252,5 @@ committed_there set opening events K s run inv keep k w low hand waiting left =
     let f : in_calls k (s.workers w).waiting + in_hand k (s.workers w).hand + in_calls k (s.workers w).left + in_committed k (s.workers w).committed ≡ in_worker k (s.workers w) = refl in
     let there = member_of_number k (s.workers w).committed (omega (arith, low, all, a, b, c, f)) in
     let mine : Member there.0 (map committed_of (filter (λ (t : Act Txn). t.call.worker == w) K)) = subst (λ (cs : List Committed). Member there.0 cs) ((committed_theorem set K s inv).2 w) there.1 in
-    let t = member_map committed_of there.0 (filter (λ (t : Act Txn). t.call.worker == w) K) mine in
-    (t.0, (member-filtered (λ (u : Act Txn). u.call.worker == w) t.0 K t.1).0, ap (λ (c : Committed). c.number) t.2 ∙ there.2)
+    let t = member_mapped committed_of there.0 (filter (λ (t : Act Txn). t.call.worker == w) K) mine in
+    (t.0, (member_filtered (λ (u : Act Txn). u.call.worker == w) t.0 K t.1).0, ap (λ (c : Committed). c.number) t.2 ∙ there.2)

@@ -7,14 +7,12 @@ use Rattle.tau_model.specs.declared.committed.Committed.{Committed}
 use Rattle.tau_machine.specs.State.{ticket_of}
 use Rattle.tau_machine.specs.Accounts.{one, in_committed}
 use Rattle.tau_run.specs.Run.{Distinct}
-use Rattle.tau_run.proofs.Lists.{member_map}
+use Rattle.tau_machine.proofs.Lists.{one_same}
+use Rattle.tau_model.proofs.Assembling.{member_mapped}
 
 abbrev pub count : {A : Type 0} → (A → ℕ) → ℕ → List A → ℕ
 count num n [] = 0
 count num n (x ∷ xs) = one n (num x) + count num n xs
-
-one_same : (n k : ℕ) → n ≡ k → one n k ≡ 1
-one_same n k e = let f : (n == k) ≡ true = eq-eqb n k e in rw f refl
 
 pub count_append : {A : Type 0} (num : A → ℕ) (n : ℕ) (xs ys : List A) → count num n (xs ++ ys) ≡ count num n xs + count num n ys
 count_append num n [] ys = omega arith
@@ -47,6 +45,6 @@ count_tickets n (c ∷ cs) = let e = count_tickets n cs in omega (arith, e)
 pub distinct_apart : {A : Type 0} (num : A → ℕ) (xs : List A) → ((x y : A) → Before x y xs → num x ≡ num y → ⊥) → Distinct (map num xs)
 distinct_apart num [] apart = tt
 distinct_apart num (x ∷ xs) apart = (
-  λ m. (let w = member_map num (num x) xs m in apart x w.0 (inl (refl, w.1)) (sym w.2)),
+  λ m. (let w = member_mapped num (num x) xs m in apart x w.0 (inl (refl, w.1)) (sym w.2)),
   distinct_apart num xs (λ y z b e. apart y z (inr b) e),
 )

@@ -7,7 +7,7 @@ use Rattle.tau_model.specs.History.{Act}
 use Rattle.tau_machine.specs.Hands.{Txn}
 use Rattle.tau_machine.specs.Pieces.{Chain, records_in}
 use Rattle.tau_machine.specs.State.{Item, Record, Anchor}
-use Rattle.tau_machine.proofs.Pieces.{chain-low}
+use Rattle.tau_machine.proofs.Pieces.{chain_low}
 
 -- the record ends at or below this place
 abbrev pub ends_by : ℕ → Act Txn → Bool
@@ -35,11 +35,11 @@ pub record Taken (a b : ℕ) (items : List Item) (i : ℕ) : Type 0 where
   pub firsts : records_in (take i items) ≡ take count (records_in items)
 
 pub chain_take : (a b : ℕ) (items : List Item) (i : ℕ) → Chain a items b → Taken a b items i
-chain_take a b items zero h = record { end = a; chain = refl; within = chain-low a b items h; records = sym (chain_none a b a items h (omega arith)); count = 0; firsts = refl }
+chain_take a b items zero h = record { end = a; chain = refl; within = chain_low a b items h; records = sym (chain_none a b a items h (omega arith)); count = 0; firsts = refl }
 chain_take a b [] (suc i) h = record { end = a; chain = refl; within = omega (arith, h); records = refl; count = 0; firsts = refl }
 chain_take a b (Record t ∷ items) (suc i) h =
     let q = chain_take t.call.place.past b items i h.2 in
-    let low = chain-low t.call.place.past q.end (take i items) q.chain in
+    let low = chain_low t.call.place.past q.end (take i items) q.chain in
     record {
       end = q.end;
       chain = (h.0, h.1, q.chain);

@@ -7,15 +7,13 @@ use Rattle.tau_block.specs.declared.fault.ImageFault.{ImageFault}
 use Rattle.tau_block.specs.Image.{Reading as ImageReading, image_of, is_of, bytes_of, HasContent}
 use Rattle.tau_scan.specs.declared.fault.LogFault.{LogFault}
 use Rattle.tau_scan.specs.Reading.{◌>>=◌, in_front, each_from, counted, opened, unless_other, catalogue_from}
+use Rattle.tau_base.proofs.Logic.{some_is}
 
 pub record EachOk {A B : Type 0} (f : ℕ → A → Result B LogFault) (P : ℕ → A → B → Type 0) (j : ℕ) (xs : List A) : Type 0 where
   pub ys : List B
   pub is : each_from f j xs ≡ Ok ys
   pub long : length ys ≡ length xs
   pub all : (k i : ℕ) (x : A) (y : B) → k ≡ j + i → slice_get xs i ≡ Some x → slice_get ys i ≡ Some y → P k x y
-
-pub some_is : {A : Type 0} (x y : A) → Some x ≡ Some y → x ≡ y
-some_is x y e = cc e
 
 pub each_ok : {A B : Type 0} (f : ℕ → A → Result B LogFault) (P : ℕ → A → B → Type 0) (j : ℕ) (xs : List A) →
     ((k i : ℕ) (x : A) → k ≡ j + i → slice_get xs i ≡ Some x → (y : B) × (f k x ≡ Ok y) × P k x y) → EachOk f P j xs

@@ -9,22 +9,22 @@ use Rattle.std.proofs.lemmas.Option.{get_or_from_slice_get}
 use Rattle.std.specs.Prelude.{min}
 use Rattle.tau_base.specs.Vectors.{AtMost, covers}
 use Rattle.tau_base.specs.declared.value.LogMode.{LogMode}
-use Rattle.tau_base.proofs.Vectors.{at_most-covers, at_most-within, at_most-trans}
+use Rattle.tau_base.proofs.Vectors.{at_most_covers, at_most_within, at_most_trans}
 use Rattle.tau_block.specs.Image.{HasContent}
 use Rattle.tau_model.specs.History.{Act, Member, updates}
 use Rattle.tau_model.specs.Logged.{Place, lv}
 use Rattle.tau_model.specs.declared.committed.Committed.{Committed as Kept}
-use Rattle.tau_model.proofs.Orders.{member-reordered}
-use Rattle.tau_model.proofs.Reorder.{reordered-sym}
+use Rattle.tau_model.proofs.Orders.{member_reordered}
+use Rattle.tau_model.proofs.Reorder.{reordered_sym}
 use Rattle.tau_machine.specs.Hands.{Txn, committed_of, lv_of, act_in, Hand}
 use Rattle.tau_machine.specs.Pieces.{Chain}
 use Rattle.tau_machine.specs.Accounts.{joined_list}
 use Rattle.tau_machine.specs.State.{Core, Item, Ticket, ticket, ticket_of, hand_of}
 use Rattle.tau_machine.specs.Invariant.{Invariant}
-use Rattle.tau_machine.proofs.Lists.{member-of}
-use Rattle.tau_machine.proofs.Pieces.{chain-append}
+use Rattle.tau_machine.proofs.Lists.{member_of}
+use Rattle.tau_machine.proofs.Pieces.{chain_append}
 use Rattle.tau_machine.proofs.Results.{committed_theorem, acknowledged_theorem, ended_theorem}
-use Rattle.tau_model.proofs.Logged.{member-filtered}
+use Rattle.tau_model.proofs.Logged.{member_filtered}
 use Rattle.tau_text.specs.declared.load.Workload.{Workload}
 use Rattle.tau_core.specs.declared.state.Load.{Load}
 use Rattle.tau_core.specs.View.{setting_of, worker_of}
@@ -35,13 +35,14 @@ use Rattle.tau_run.specs.CoreRun.{IsLoadOf, IsRunOf}
 use Rattle.tau_run.specs.StopsLeave.{HasFront, IsOver}
 use Rattle.tau_run.proofs.Acked.{acked_there}
 use Rattle.tau_run.proofs.Cuts.{take_within}
-use Rattle.tau_run.proofs.Lists.{member_map, map_member, any_true}
-use Rattle.tau_run.proofs.Logs.{some_within}
+use Rattle.tau_run.proofs.Lists.{map_member, any_true}
 use Rattle.tau_run.proofs.Order.{apart, history, there}
 use Rattle.tau_run.proofs.Spelled.{spelled_long}
 use Rattle.tau_run.proofs.Streams.{AreSound, front_first}
 use Rattle.tau_run.proofs.Recovered.{none_anchored}
 use Rattle.tau_run.proofs.CommittedTold.{number_of, one_of_number}
+use Rattle.tau_base.proofs.Lists.{some_at}
+use Rattle.tau_model.proofs.Assembling.{member_mapped}
 
 split_member : {A : Type 0} (x : A) (xs ys : List A) → Member x (xs ++ ys) → Member x xs ⊎ Member x ys
 split_member x [] ys m = inr m
@@ -72,7 +73,7 @@ module _ (n m : ℕ) (mode : LogMode) (load : Workload) (l : Load) (K : List (Ac
     (run : Run) (is : IsRunOf n l K s (catalogue_of load) run) where
   call_there : (c : Committed) → Member c run.calls → (t : Act Txn) × Member t K × (told_of t ≡ c)
   call_there c q =
-      let w = member_map told_of c (history (setting_of l) K s inv) (subst (λ (cs : List Committed). Member c cs) is.calls q) in
+      let w = member_mapped told_of c (history (setting_of l) K s inv) (subst (λ (cs : List Committed). Member c cs) is.calls q) in
       (w.0, there (setting_of l) K s inv w.0 w.1, w.2)
 
   below_ends : (t : Act Txn) → Member t K → AtMost (lv_of t) s.ends
@@ -85,13 +86,13 @@ module _ (n m : ℕ) (mode : LogMode) (load : Workload) (l : Load) (K : List (Ac
       let a = acked_there n m mode load l K s inv at room sound run is c.number e in
       let law = acknowledged_theorem (setting_of l) K s inv a.3.0 (ticket a.0) a.3.1 in
       let same : law.0 ≡ t.0 = one_of_number K (apart (setting_of l) K s inv) law.0 t.0 law.1 t.1 (ap (λ (k : Ticket). k.number) law.2 ∙ a.2 ∙ ap (λ (d : Committed). d.number) (sym t.2)) in
-      ap (λ (d : Committed). covers s.plv (vector_of d)) (sym t.2) ∙ ap (λ (u : Act Txn). covers s.plv (lv_of u)) (sym same) ∙ at_most-covers s.plv (lv_of law.0) law.3
+      ap (λ (d : Committed). covers s.plv (vector_of d)) (sym t.2) ∙ ap (λ (u : Act Txn). covers s.plv (lv_of u)) (sym same) ∙ at_most_covers s.plv (lv_of law.0) law.3
 
   -- a ticket among these is acknowledged
   has_ticket : (t : Act Txn) (w : ℕ) → (setting_of l).worker_of (number_of t) ≡ w → Member (ticket t) (s.acked w) → has_ack run (number_of t) ≡ true
   has_ticket t w own q =
       let mine : Member (pair_of (ticket t)) (filter (λ (a : ℕ × List ℕ). worker_of l.workers a.0 == w) run.acks) = subst (λ (xs : List (ℕ × List ℕ)). Member (pair_of (ticket t)) xs) (sym (is.acks w)) (map_member pair_of (ticket t) (s.acked w) q) in
-      any_true (λ (a : ℕ × List ℕ). a.0 == number_of t) (pair_of (ticket t)) run.acks (member-filtered (λ (a : ℕ × List ℕ). worker_of l.workers a.0 == w) (pair_of (ticket t)) run.acks mine).0 (eq-eqb (number_of t) (number_of t) refl)
+      any_true (λ (a : ℕ × List ℕ). a.0 == number_of t) (pair_of (ticket t)) run.acks (member_filtered (λ (a : ℕ × List ℕ). worker_of l.workers a.0 == w) (pair_of (ticket t)) run.acks mine).0 (eq-eqb (number_of t) (number_of t) refl)
 
   module _ (over : IsOver n s) where
     -- the call has ended, and is pending or acknowledged
@@ -99,17 +100,17 @@ module _ (n m : ℕ) (mode : LogMode) (load : Workload) (l : Load) (K : List (Ac
     covered_acked t q e =
         let w : ℕ = t.call.worker in
         let law = committed_theorem (setting_of l) K s inv in
-        let mine : Member t (filter (λ (u : Act Txn). u.call.worker == w) K) = member-of (λ (u : Act Txn). u.call.worker == w) t K q (eq-eqb w w refl) in
+        let mine : Member t (filter (λ (u : Act Txn). u.call.worker == w) K) = member_of (λ (u : Act Txn). u.call.worker == w) t K q (eq-eqb w w refl) in
         let kept : Member (committed_of t) (s.workers w).committed = subst (λ (cs : List Kept). Member (committed_of t) cs) (sym (law.2 w)) (map_member committed_of t (filter (λ (u : Act Txn). u.call.worker == w) K) mine) in
         let end = ended_theorem (setting_of l) K s inv w in
         let none : joined_list (act_in (hand_of s w)) ≡ [] = ap (λ (h : Option Hand). joined_list (act_in h)) (over.rests w) in
         let all : (s.workers w).committed ≡ end.0 = end.1 ∙ ap (λ (cs : List Kept). end.0 ++ cs) none ∙ append-nil end.0 in
         let ended : Member (committed_of t) end.0 = subst (λ (cs : List Kept). Member (committed_of t) cs) all kept in
         let told : Member (ticket t) ((s.outboxes w).pending ++ s.acked w) =
-        member-reordered ((s.outboxes w).pending ++ s.acked w) (map ticket_of end.0) (reordered-sym (map ticket_of end.0) ((s.outboxes w).pending ++ s.acked w) end.2) (ticket t) (map_member ticket_of (committed_of t) end.0 ended) in
+        member_reordered ((s.outboxes w).pending ++ s.acked w) (map ticket_of end.0) (reordered_sym (map ticket_of end.0) ((s.outboxes w).pending ++ s.acked w) end.2) (ticket t) (map_member ticket_of (committed_of t) end.0 ended) in
         elim (split_member (ticket t) (s.outboxes w).pending (s.acked w) told) [
           | inl p ↦ absurd (
-              let left : Member (ticket t) (filter (λ (k : Ticket). covers s.plv k.lv) (s.outboxes w).pending) = member-of (λ (k : Ticket). covers s.plv k.lv) (ticket t) (s.outboxes w).pending p e in
+              let left : Member (ticket t) (filter (λ (k : Ticket). covers s.plv k.lv) (s.outboxes w).pending) = member_of (λ (k : Ticket). covers s.plv k.lv) (ticket t) (s.outboxes w).pending p e in
               subst (λ (ks : List Ticket). Member (ticket t) ks) (over.told w) left)
           | inr p ↦ has_ticket t w ((law.0 t q).1) p
         ]
@@ -139,19 +140,19 @@ module _ (n m : ℕ) (mode : LogMode) (load : Workload) (l : Load) (K : List (Ac
     pub all_acked_of : ((j : ℕ) → j < n → (s.streams j).stop ≡ None) → (t : Act Txn) → Member t K → has_ack run (number_of t) ≡ true
     all_acked_of going t q =
         let wide : length s.ends ≡ n = inv.agrees.good.good.order.count ∙ at.streams in
-        let low : AtMost s.ends s.plv = at_most-within s.ends s.plv (λ j lt. (let e = over.persisted j (subst (λ (k : ℕ). j < k) wide lt) (going j (subst (λ (k : ℕ). j < k) wide lt)) in omega (arith, e))) in
-        covered_acked t q (at_most-covers s.plv (lv_of t) (at_most-trans (lv_of t) s.ends s.plv (below_ends t q) low))
+        let low : AtMost s.ends s.plv = at_most_within s.ends s.plv (λ j lt. (let e = over.persisted j (subst (λ (k : ℕ). j < k) wide lt) (going j (subst (λ (k : ℕ). j < k) wide lt)) in omega (arith, e))) in
+        covered_acked t q (at_most_covers s.plv (lv_of t) (at_most_trans (lv_of t) s.ends s.plv (below_ends t q) low))
 
     -- an image of a stream that was not stopped has all of it
     pub flushed_is : (j : ℕ) → j < n → (s.streams j).stop ≡ None → (image bytes : List ℕ) → HasFront n j (catalogue_of load) l s bytes image → slice_index s.plv j ≤ length (catalogue_of load) + length bytes →
         HasContent n j (slice_index_or run.contents j []) image
     flushed_is j lt going image bytes f reach =
-        let h = some_within run.contents j (subst (λ (k : ℕ). j < k) (sym is.streams) lt) in
+        let h = some_at run.contents j (subst (λ (k : ℕ). j < k) (sym is.streams) lt) in
         let g = is.given j h.0 h.1 in
         let whole : slice_index_or run.contents j [] ≡ h.0 = get_or_from_slice_get run.contents j h.0 [] h.1 in
         let cat : List ℕ = catalogue_of load in
         let items : List Item = (s.streams j).moved ++ g.waiting in
-        let chain : Chain (length cat) items (slice_index s.ends j) = chain-append (length cat) (slice_index s.gathered j) (slice_index s.ends j) (s.streams j).moved g.waiting g.moved g.rest in
+        let chain : Chain (length cat) items (slice_index s.ends j) = chain_append (length cat) (slice_index s.gathered j) (slice_index s.ends j) (s.streams j).moved g.waiting g.moved g.rest in
         let w = take_within (s.streams j).moved g.waiting f.count in
         let spelled : Spelled l (λ i. (s.streams i).anchors) (take w.0 items) bytes = subst (λ (xs : List Item). Spelled l (λ i. (s.streams i).anchors) xs bytes) w.1 f.spelled in
         let first = front_first n l load K s j room at.streams (none_anchored n j l.opening.anchors.items at.anchors) sound h.0 g w.0 bytes spelled in

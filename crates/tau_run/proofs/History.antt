@@ -7,8 +7,8 @@ use Rattle.tau_base.specs.Database.{empty_db}
 use Rattle.tau_base.specs.declared.value.Call.{Call}
 use Rattle.tau_text.specs.declared.load.Workload.{Workload}
 use Rattle.tau_model.specs.History.{Act, Member, Before, trace, updates}
-use Rattle.tau_model.proofs.Reorder.{reordered-itself, reordered-sym}
-use Rattle.tau_model.proofs.Orders.{member-reordered}
+use Rattle.tau_model.proofs.Reorder.{reordered_itself, reordered_sym}
+use Rattle.tau_model.proofs.Orders.{member_reordered}
 use Rattle.tau_machine.specs.Hands.{Txn, committed_of}
 use Rattle.tau_machine.specs.Hands as hands
 use Rattle.tau_machine.specs.Accounts.{in_committed, in_calls, in_hand, joined_list}
@@ -16,17 +16,18 @@ use Rattle.tau_machine.specs.State.{Setting, Core, Ticket, ticket, ticket_of}
 use Rattle.tau_machine.specs.Invariant.{Invariant}
 use Rattle.tau_machine.specs.Pieces.{records_in}
 use Rattle.tau_machine.specs.Reports.{calls_of}
-use Rattle.tau_machine.proofs.Accounts.{committed-append}
-use Rattle.tau_machine.proofs.Pieces.{chain-append}
+use Rattle.tau_machine.proofs.Accounts.{committed_append}
+use Rattle.tau_machine.proofs.Pieces.{chain_append}
 use Rattle.tau_model.specs.Reported.{reported_of}
 use Rattle.tau_proc.specs.declared.proc.Proc.{Proc}
-use Rattle.tau_machine.proofs.Lists.{member-of, before-of}
+use Rattle.tau_machine.proofs.Lists.{member_of, before_of}
 use Rattle.tau_machine.proofs.Results.{reported_theorem, committed_theorem, acknowledged_theorem, streams_theorem}
 use Rattle.tau_run.specs.Run.{Committed, Run, told_of, pair_of, means, acts, Distinct, StandBetween, of_stream, ends, IsHistory}
-use Rattle.tau_run.proofs.Lists.{member_map, map_member, before_map}
+use Rattle.tau_run.proofs.Lists.{map_member, before_map}
 use Rattle.tau_run.proofs.CommittedTold.{act_of, number_of, trace_told, distinct_of, apart_reordered, chain_stands, stream_told}
 use Rattle.tau_run.proofs.Counts.{count, count_append, count_reordered, count_before, count_tickets, distinct_apart}
 use Rattle.tau_run.proofs.Order.{apart, history, once, there, in_order}
+use Rattle.tau_model.proofs.Assembling.{member_mapped}
 
 logs_same : (H : List (Act Txn)) → map (λ (c : Committed). c.logs) (map told_of H) ≡ map (λ (x : Act Committed). updates x.effect) (map act_of H)
 logs_same [] = refl
@@ -46,11 +47,11 @@ module _ (set : Setting) (K : List (Act Txn)) (s : Core) (g : Invariant set K s)
   H = history set K s g
 
   here : (t : Act Txn) → Member t K → Member t H
-  here t m = member-reordered H K (reordered-sym K H (once set K s g)) t m
+  here t m = member_reordered H K (reordered_sym K H (once set K s g)) t m
 
   pub acts_are : (n m : ℕ) (load : Workload) → IsSet n m load set → (run : Run) → run.calls ≡ map told_of H → acts load.declarations.procs run ≡ map act_of H
   acts_are n m load is run e =
-      let law : trace (hands.means set.procs) (calls_of H) set.base ≡ H = (reported_theorem set K s g K (reordered-itself K)).3 in
+      let law : trace (hands.means set.procs) (calls_of H) set.base ≡ H = (reported_theorem set K s g K (reordered_itself K)).3 in
       ap (λ (l : List Committed). trace (means load.declarations.procs) l empty_db) e
       ∙ ap (λ (p : List Proc). trace (means p) (map told_of H) empty_db) (sym is.procs)
       ∙ ap (trace (means set.procs) (map told_of H)) (sym is.base)
@@ -61,8 +62,8 @@ module _ (set : Setting) (K : List (Act Txn)) (s : Core) (g : Invariant set K s)
     pub ack_of : (a : ℕ × List ℕ) → Member a acks → (t : Act Txn) × Member t K × (number_of t ≡ a.0) × (hands.lv_of t ≡ a.1) × Member (ticket t) (s.acked (set.worker_of a.0))
     ack_of a m =
         let w : ℕ = set.worker_of a.0 in
-        let mine : Member a (filter (λ (b : ℕ × List ℕ). set.worker_of b.0 == w) acks) = member-of (λ (b : ℕ × List ℕ). set.worker_of b.0 == w) a acks m (eq-eqb w w refl) in
-        let k = member_map pair_of a (s.acked w) (subst (λ (l : List (ℕ × List ℕ)). Member a l) (are w) mine) in
+        let mine : Member a (filter (λ (b : ℕ × List ℕ). set.worker_of b.0 == w) acks) = member_of (λ (b : ℕ × List ℕ). set.worker_of b.0 == w) a acks m (eq-eqb w w refl) in
+        let k = member_mapped pair_of a (s.acked w) (subst (λ (l : List (ℕ × List ℕ)). Member a l) (are w) mine) in
         let t = acknowledged_theorem set K s g w k.0 k.1 in (
           t.0,
           t.1,
@@ -79,7 +80,7 @@ module _ (set : Setting) (K : List (Act Txn)) (s : Core) (g : Invariant set K s)
         let b = count_reordered (λ (k : Ticket). k.number) n (map ticket_of acc.ended) (pending ++ s.acked w) acc.tickets in
         let c = count_append (λ (k : Ticket). k.number) n pending (s.acked w) in
         let d = ap (in_committed n) acc.committed in
-        let e = committed-append n acc.ended (joined_list (hands.act_in (s.workers w).hand)) in
+        let e = committed_append n acc.ended (joined_list (hands.act_in (s.workers w).hand)) in
         let f : in_calls n (s.workers w).waiting + in_hand n (s.workers w).hand + in_calls n (s.workers w).left + in_committed n (s.workers w).committed ≤ 1 = acc.once n in
         omega (arith, a, b, c, d, e, f)
 
@@ -87,7 +88,7 @@ module _ (set : Setting) (K : List (Act Txn)) (s : Core) (g : Invariant set K s)
     acks_once = distinct_apart (λ (a : ℕ × List ℕ). a.0) acks (λ x y b e.
         let w : ℕ = set.worker_of x.0 in
         let mine : Before x y (filter (λ (a : ℕ × List ℕ). set.worker_of a.0 == w) acks) =
-        before-of (λ (a : ℕ × List ℕ). set.worker_of a.0 == w) x y acks b (eq-eqb w w refl) (eq-eqb (set.worker_of y.0) w (ap set.worker_of (sym e))) in
+        before_of (λ (a : ℕ × List ℕ). set.worker_of a.0 == w) x y acks b (eq-eqb w w refl) (eq-eqb (set.worker_of y.0) w (ap set.worker_of (sym e))) in
         let v = before_map pair_of x y (s.acked w) (subst (λ (l : List (ℕ × List ℕ)). Before x y l) (are w) mine) in
         let first : x.0 ≡ v.0.number = ap (λ (a : ℕ × List ℕ). a.0) (sym v.3) in
         let second : x.0 ≡ v.1.number = e ∙ ap (λ (a : ℕ × List ℕ). a.0) (sym v.4) in
@@ -100,7 +101,7 @@ module _ (set : Setting) (K : List (Act Txn)) (s : Core) (g : Invariant set K s)
   is_history n m load is run calls long places are =
       let law = (committed_theorem set K s g).0 in
       let from : (c : Committed) → Member c run.calls → (t : Act Txn) × Member t K × (told_of t ≡ c) = λ c m.
-      (let w = member_map told_of c H (subst (λ (l : List Committed). Member c l) calls m) in (w.0, there set K s g w.0 w.1, w.2)) in
+      (let w = member_mapped told_of c H (subst (λ (l : List Committed). Member c l) calls m) in (w.0, there set K s g w.0 w.1, w.2)) in
       record {
         of_workload = λ c m. (let w = from c m in subst (λ (x : Committed). (1 ≤ x.number) × (slice_get load.calls (x.number - 1) ≡ Some x.call)) w.2 (is.call (number_of w.0) w.0.call.call.call (law w.0 w.1).0));
         once = subst (λ (l : List Committed). Distinct (map (λ (c : Committed). c.number) l)) (sym calls) (distinct_of H (apart_reordered K H (apart set K s g) (once set K s g)));
@@ -116,10 +117,10 @@ module _ (set : Setting) (K : List (Act Txn)) (s : Core) (g : Invariant set K s)
             let st = streams_theorem set K s g j low in
             let first = slice_index set.opening j in
             let same : of_stream run.calls j ≡ map told_of (records_in ((s.streams j).moved ++ st.0)) =
-            ap (λ (l : List Committed). of_stream l j) calls ∙ stream_told H j ∙ ap (map told_of) ((reported_theorem set K s g K (reordered-itself K)).2 j ∙ sym st.3) in
+            ap (λ (l : List Committed). of_stream l j) calls ∙ stream_told H j ∙ ap (map told_of) ((reported_theorem set K s g K (reordered_itself K)).2 j ∙ sym st.3) in
             subst (λ (l : List Committed). StandBetween 0 (slice_index (ends run) j) l) (sym same)
             (subst (λ (v : List ℕ). StandBetween 0 (slice_index v j) (map told_of (records_in ((s.streams j).moved ++ st.0)))) (sym places)
-            (chain_stands 0 first (slice_index s.ends j) ((s.streams j).moved ++ st.0) (chain-append first (slice_index s.gathered j) (slice_index s.ends j) (s.streams j).moved st.0 st.1 st.2) (omega arith))));
+            (chain_stands 0 first (slice_index s.ends j) ((s.streams j).moved ++ st.0) (chain_append first (slice_index s.gathered j) (slice_index s.ends j) (s.streams j).moved st.0 st.1 st.2) (omega arith))));
         widths = λ c m. (let w = from c m in sym (ap (λ (x : Committed). length x.place.dep) w.2) ∙ (law w.0 w.1).3 ∙ is.width);
         streams = long;
         order = calls ∙ in_order set K s g ∙ (λ i. ordered (sym places i) (sym calls i));

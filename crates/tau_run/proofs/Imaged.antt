@@ -13,8 +13,8 @@ use Rattle.tau_run.specs.RecoveredFacts.{catalogue_of, IsImaged, IsAcknowledged,
 use Rattle.tau_run.specs.CoreRun.{IsRunOf, IsCourse}
 use Rattle.tau_run.specs.StopsLeave.{IsLeft, Leaves, IsOver}
 use Rattle.tau_run.proofs.Each.{one_content}
-use Rattle.tau_run.proofs.Logs.{got_within}
 use Rattle.tau_run.proofs.Results.{contents_law, images_law, acked_law, ends_law}
+use Rattle.tau_base.proofs.Lists.{got_within}
 
 module _ (n m : ℕ) (mode : LogMode) (load : Workload) (l : Load) (K : List (Act Txn)) (s : Core) (c : IsCourse n m mode load l K s) (run : Run) (is : IsRunOf n l K s (catalogue_of load) run)
     (past now : ℕ → List ℕ → Type 0) (rose : ℕ → Type 0) where

@@ -7,7 +7,7 @@ use Rattle.tau_machine.specs.Hands.{Txn}
 use Rattle.tau_machine.specs.State.{Setting, Core}
 use Rattle.tau_machine.specs.Events.{Event, Lock, Busy, Quit, Commit, Post, Free, FirstFree, Done, DoneReading, Drop, Gather, PlaceAnchor, Persist, Ack, Stop, Resume}
 use Rattle.tau_machine.specs.Runs.{LeadOn}
-use Rattle.tau_machine.proofs.Runs.{lead_on-more}
+use Rattle.tau_machine.proofs.Runs.{lead_on_more}
 use Rattle.tau_run.specs.Laws.{KeepsCall, KeepCalls}
 use Rattle.tau_text.specs.declared.load.Turn.{Turn}
 use Rattle.tau_text.specs.declared.load.Turn.TheVariants as turn
@@ -71,7 +71,7 @@ module _ (set : Setting) (m n : ℕ) (opening : Core) where
   pub goes_led : (e : Event) (p p' : Progress) → IsQuiet e → IsLed set opening p → Goes set m n e p p' → IsLed set opening p'
   goes_led e p p' k led g = record {
     leads = subst (λ (es : List Event). LeadOn set es opening p'.state p'.joined) (sym g.events)
-        (subst (λ (new : List (Act Txn)). LeadOn set (p.events ++ e ∷ []) opening p'.state new) (sym g.joined) (lead_on-more set p.events p.joined opening p.state p'.state e g.new led.leads g.leads));
+        (subst (λ (new : List (Act Txn)). LeadOn set (p.events ++ e ∷ []) opening p'.state new) (sym g.joined) (lead_on_more set p.events p.joined opening p.state p'.state e g.new led.leads g.leads));
     keep = subst KeepCalls (sym g.events) (keep_more p.events e led.keep (quiet_keeps e k));
   }
 
@@ -79,7 +79,7 @@ module _ (set : Setting) (m n : ℕ) (opening : Core) where
   tells_led w p p' led g = record {
     leads = subst (λ (es : List Event). LeadOn set es opening p'.state p'.joined) (sym g.events)
         (subst (λ (new : List (Act Txn)). LeadOn set (p.events ++ Ack w p.state.plv ∷ []) opening p'.state new) (append-nil p.joined ∙ sym g.joined)
-        (lead_on-more set p.events p.joined opening p.state p'.state (Ack w p.state.plv) [] led.leads g.leads));
+        (lead_on_more set p.events p.joined opening p.state p'.state (Ack w p.state.plv) [] led.leads g.leads));
     keep = subst KeepCalls (sym g.events) (keep_more p.events (Ack w p.state.plv) led.keep tt);
   }
 

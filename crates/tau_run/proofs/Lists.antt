@@ -4,11 +4,7 @@ use Rattle.std.specs.Prelude.{◌&&◌, ◌||◌}
 use Rattle.std.specs.List.{filter, list_any}
 use Rattle.std.proofs.lemmas.Bool.{cases_Bool}
 use Rattle.tau_model.specs.History.{Member, Before}
-
-pub member_map : {A B : Type 0} (f : A → B) (b : B) (xs : List A) → Member b (map f xs) → (x : A) × Member x xs × (f x ≡ b)
-member_map f b [] m = absurd m
-member_map f b (x ∷ xs) (inl e) = (x, inl refl, e)
-member_map f b (x ∷ xs) (inr m) = let w = member_map f b xs m in (w.0, inr w.1, w.2)
+use Rattle.tau_model.proofs.Assembling.{member_mapped}
 
 pub map_member : {A B : Type 0} (f : A → B) (x : A) (xs : List A) → Member x xs → Member (f x) (map f xs)
 map_member f x [] m = absurd m
@@ -17,7 +13,7 @@ map_member f x (y ∷ xs) (inr m) = inr (map_member f x xs m)
 
 pub before_map : {A B : Type 0} (f : A → B) (b c : B) (xs : List A) → Before b c (map f xs) → (u : A) × (t : A) × Before u t xs × (f u ≡ b) × (f t ≡ c)
 before_map f b c [] m = absurd m
-before_map f b c (x ∷ xs) (inl m) = let w = member_map f c xs m.1 in (x, w.0, inl (refl, w.1), m.0, w.2)
+before_map f b c (x ∷ xs) (inl m) = let w = member_mapped f c xs m.1 in (x, w.0, inl (refl, w.1), m.0, w.2)
 before_map f b c (x ∷ xs) (inr m) = let w = before_map f b c xs m in (w.0, w.1, inr w.2, w.3, w.4)
 
 pub filter_map : {A B : Type 0} (f : A → B) (q : B → Bool) (p : A → Bool) (xs : List A) → ((x : A) → Member x xs → q (f x) ≡ p x) → filter q (map f xs) ≡ map f (filter p xs)
@@ -25,13 +21,6 @@ filter_map f q p [] h = refl
 filter_map {A} {B} f q p (x ∷ xs) h = elim (cases_Bool (p x)) [
   | inl is ↦ rw (h x (inl refl), is) (ap (λ (l : List B). f x ∷ l) (filter_map f q p xs (λ y m. h y (inr m))))
   | inr no' ↦ rw (h x (inl refl), no') (filter_map f q p xs (λ y m. h y (inr m)))
-]
-
-pub filter_alike : {A : Type 0} (p q : A → Bool) (xs : List A) → ((x : A) → Member x xs → p x ≡ q x) → filter p xs ≡ filter q xs
-filter_alike p q [] h = refl
-filter_alike {A} p q (x ∷ xs) h = elim (cases_Bool (q x)) [
-  | inl is ↦ rw (h x (inl refl), is) (ap (λ (l : List A). x ∷ l) (filter_alike p q xs (λ y m. h y (inr m))))
-  | inr no' ↦ rw (h x (inl refl), no') (filter_alike p q xs (λ y m. h y (inr m)))
 ]
 
 pub filter_twice : {A : Type 0} (p q : A → Bool) (xs : List A) → filter p (filter q xs) ≡ filter (λ x. q x && p x) xs

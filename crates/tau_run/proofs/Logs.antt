@@ -19,36 +19,23 @@ use Rattle.tau_scan.specs.declared.log.Log.{Log}
 use Rattle.tau_scan.specs.declared.fault.LogFault.{LogFault}
 use Rattle.tau_scan.specs.Reading.{◌>>=◌, recorded, records_of, streams_of, catalogue_in, declared_in, declared_by, none_declared, or_none, catalogue_of as text_in}
 use Rattle.tau_scan.specs.Taken.{Kept, kept_in, kept_from, taken}
-use Rattle.tau_scan.proofs.Streams.{map-get}
+use Rattle.tau_scan.proofs.Streams.{map_get}
 use Rattle.tau_run.specs.RecoveredFacts.{log_of_contents}
 use Rattle.tau_run.proofs.Cuts.{ends_by}
-use Rattle.tau_run.proofs.Each.{EachOk, each_ok, one_catalogue, some_is}
+use Rattle.tau_run.proofs.Each.{EachOk, each_ok, one_catalogue}
 use Rattle.tau_run.proofs.Reading.{kept_of}
 use Rattle.tau_run.proofs.Streams.{AreSound, IsRead}
 use Rattle.tau_run.proofs.Taken.{IsLogOf}
+use Rattle.tau_base.proofs.Lists.{some_at, got_within, got_mapped}
+use Rattle.tau_base.proofs.Logic.{some_is}
 
 all_empty : (k : ℕ) (streams : List (List Placed)) → ((i : ℕ) (ps : List Placed) → slice_get streams i ≡ Some ps → ps ≡ []) → kept_from k streams ≡ []
 all_empty k [] h = refl
 all_empty k (ps ∷ streams) h =
     ap (λ (q : List Placed). kept_in k q ++ kept_from (suc k) streams) (h 0 ps refl) ∙ all_empty (suc k) streams (λ i q e. h (suc i) q e)
 
-got_map : {A B : Type 0} (f : A → B) (xs : List A) (i : ℕ) (y : B) → slice_get (map f xs) i ≡ Some y → (x : A) × (slice_get xs i ≡ Some x) × (f x ≡ y)
-got_map f [] i y e = absurd cc
-got_map f (x ∷ xs) zero y e = (x, refl, some_is (f x) y e)
-got_map f (x ∷ xs) (suc i) y e = got_map f xs i y e
-
-pub some_within : {A : Type 0} (xs : List A) (i : ℕ) → i < length xs → (x : A) × (slice_get xs i ≡ Some x)
-some_within [] i lt = absurd (omega (arith, lt))
-some_within (x ∷ xs) zero lt = (x, refl)
-some_within (x ∷ xs) (suc i) lt = some_within xs i (omega (arith, lt))
-
-pub got_within : {A : Type 0} (xs : List A) (i : ℕ) (x : A) → slice_get xs i ≡ Some x → i < length xs
-got_within [] i x e = absurd cc
-got_within (y ∷ xs) zero x e = omega arith
-got_within (y ∷ xs) (suc i) x e = let h = got_within xs i x e in omega (arith, h)
-
 pub length_at : (contents : List (List ℕ)) (j : ℕ) (content : List ℕ) → slice_get contents j ≡ Some content → slice_index (map length contents) j ≡ length content
-length_at contents j content e = get_or_from_slice_get (map length contents) j (length content) 0 (map-get length contents j content e)
+length_at contents j content e = get_or_from_slice_get (map length contents) j (length content) 0 (map_get length contents j content e)
 
 -- contents of which each was read make a log
 pub record LogOf (l : Load) (load : Workload) (K : List (Act Txn)) (s : Core) (inv : Invariant (setting_of l) K s) (n : ℕ) (width : l.streams ≡ n) (contents : List (List ℕ)) : Type 0 where
@@ -76,13 +63,13 @@ module _ (l : Load) (load : Workload) (K : List (Act Txn)) (s : Core) (inv : Inv
   all_read : (j : ℕ) (content : List ℕ) → slice_get contents j ≡ Some content → (ps : List Placed) × (slice_get streams.ys j ≡ Some ps) × IsRead l load K n j content ps
   all_read j content e =
       let lt = got_within contents j content e in
-      let h = some_within streams.ys j (subst (λ (m : ℕ). j < m) (sym streams.long) lt) in
+      let h = some_at streams.ys j (subst (λ (m : ℕ). j < m) (sym streams.long) lt) in
       (h.0, h.1, streams.all j j content h.0 (omega arith) e h.1)
 
   read_of : (j : ℕ) (ps : List Placed) → slice_get streams.ys j ≡ Some ps → (content : List ℕ) × (slice_get contents j ≡ Some content) × IsRead l load K n j content ps
   read_of j ps e =
       let lt = got_within streams.ys j ps e in
-      let h = some_within contents j (subst (λ (m : ℕ). j < m) streams.long lt) in
+      let h = some_at contents j (subst (λ (m : ℕ). j < m) streams.long lt) in
       (h.0, h.1, streams.all j j h.0 ps (omega arith) h.1 e)
 
   abbrev text : List ℕ
@@ -90,7 +77,7 @@ module _ (l : Load) (load : Workload) (K : List (Act Txn)) (s : Core) (inv : Inv
 
   texts : (i : ℕ) (x : Option (List ℕ)) → slice_get (map text_in streams.ys) i ≡ Some x → (x ≡ None) ⊎ (x ≡ Some text)
   texts i x e =
-      let p = got_map text_in streams.ys i x e in
+      let p = got_mapped text_in streams.ys i x e in
       let r = read_of i p.0 p.1 in
       elim r.2.text [ inl none ↦ inl (sym p.2 ∙ ap text_in none) | inr is ↦ inr (sym p.2 ∙ is) ]
 
@@ -107,7 +94,7 @@ module _ (l : Load) (load : Workload) (K : List (Act Txn)) (s : Core) (inv : Inv
   log_is d = record {
     count = streams.long ∙ long;
     kept = λ j lt.
-        (let h = some_within contents j (subst (λ (m : ℕ). j < m) (sym long) lt) in
+        (let h = some_at contents j (subst (λ (m : ℕ). j < m) (sym long) lt) in
         let r = all_read j h.0 h.1 in
         let at : slice_index_or streams.ys j [] ≡ r.0 = get_or_from_slice_get streams.ys j r.0 [] r.1 in
         let end : slice_index (map length contents) j ≡ length h.0 = length_at contents j h.0 h.1 in
@@ -123,7 +110,7 @@ module _ (l : Load) (load : Workload) (K : List (Act Txn)) (s : Core) (inv : Inv
       let r = read_of i ps e in
       elim r.2.text [
         | inl empty ↦ empty
-        | inr is ↦ absurd (let f : Some text ≡ None = sym is ∙ none i (text_in ps) (map-get text_in streams.ys i ps e) in cc f)
+        | inr is ↦ absurd (let f : Some text ≡ None = sym is ∙ none i (text_in ps) (map_get text_in streams.ys i ps e) in cc f)
       ]))
 
   pub log_of_them : LogOf l load K s inv n width contents

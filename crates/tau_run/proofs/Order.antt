@@ -7,17 +7,17 @@ use Rattle.tau_model.specs.History.{Act, Member, Before, Reordered, updates}
 use Rattle.tau_model.specs.Logged.{Place}
 use Rattle.tau_model.specs.Committed.{place_at, place_of, has_record}
 use Rattle.tau_model.specs.Reported.{ascending, in_stream, reported_of}
-use Rattle.tau_model.proofs.Ascending.{ascending-unique, ascending-reordered}
-use Rattle.tau_model.proofs.Sorting.{Rising, ascending-rising}
-use Rattle.tau_model.proofs.Reorder.{reordered-itself}
-use Rattle.tau_model.proofs.Orders.{member-reordered}
-use Rattle.tau_model.proofs.Logged.{member-first, member-second, member-filtered, before-filtered}
+use Rattle.tau_model.proofs.Ascending.{ascending_unique, ascending_reordered}
+use Rattle.tau_model.proofs.Sorting.{Rising, ascending_rising}
+use Rattle.tau_model.proofs.Reorder.{reordered_itself}
+use Rattle.tau_model.proofs.Orders.{member_reordered}
+use Rattle.tau_model.proofs.Logged.{member_first, member_second, member_filtered, before_filtered}
 use Rattle.tau_machine.specs.Hands.{Txn, committed_of, unplaced_at, spot_of}
 use Rattle.tau_machine.specs.State.{Setting, Core}
 use Rattle.tau_machine.specs.Invariant.{Invariant}
 use Rattle.tau_machine.specs.Reports.{reported}
-use Rattle.tau_machine.proofs.Mapped.{reported-map}
-use Rattle.tau_machine.proofs.Results.{reported_theorem, committed_theorem}
+use Rattle.tau_machine.proofs.Mapped.{reported_map}
+use Rattle.tau_machine.proofs.Results.{reported_theorem, committed_theorem, spot_is}
 use Rattle.tau_run.specs.Run.{Committed, told_of}
 use Rattle.tau_run.proofs.CommittedTold.{number_of, Apart, apart_reordered}
 use Rattle.tau_run.proofs.Again.{Rises, reported_again}
@@ -27,10 +27,6 @@ kept_place t = place_of (committed_of t)
 
 abbrev kept_up : Act Txn → Bool
 kept_up t = has_record (committed_of t)
-
-spot_up : (b : Bool) (t : Txn) → is_some (spot_of b t) ≡ b
-spot_up true t = refl
-spot_up false t = refl
 
 spot_place : (b : Bool) (t : Txn) → (b ≡ false → t.place ≡ unplaced_at t.place.dep) → place_at t.place.dep (spot_of b t) ≡ t.place
 spot_place true t h = refl
@@ -57,13 +53,13 @@ module _ (set : Setting) (K : List (Act Txn)) (s : Core) (g : Invariant set K s)
   history = reported s.ends K
 
   pub once : Reordered K history
-  once = (reported_theorem set K s g K (reordered-itself K)).0
+  once = (reported_theorem set K s g K (reordered_itself K)).0
 
   pub there : (t : Act Txn) → Member t history → Member t K
-  there t m = member-reordered K history once t m
+  there t m = member_reordered K history once t m
 
   up_is : (t : Act Txn) → kept_up t ≡ updates t.effect
-  up_is t = spot_up (updates t.effect) t.call
+  up_is t = spot_is (updates t.effect) t.call
 
   place_is : (t : Act Txn) → Member t K → kept_place t ≡ t.call.place
   place_is t m = spot_place (updates t.effect) t.call (λ e. g.agrees.good.unplaced t m e)
@@ -75,9 +71,9 @@ module _ (set : Setting) (K : List (Act Txn)) (s : Core) (g : Invariant set K s)
   starts j =
       let of_j : List (Act Txn) = filter (in_stream kept_place kept_up j) K in
       let up : Rises (λ t. (kept_place t).start) of_j = λ u t b.
-      (let h = before-filtered (in_stream kept_place kept_up j) u t K b in
-      let mu = member-filtered (in_stream kept_place kept_up j) u K (member-first u t of_j b) in
-      let mt = member-filtered (in_stream kept_place kept_up j) t K (member-second u t of_j b) in
+      (let h = before_filtered (in_stream kept_place kept_up j) u t K b in
+      let mu = member_filtered (in_stream kept_place kept_up j) u K (member_first u t of_j b) in
+      let mt = member_filtered (in_stream kept_place kept_up j) t K (member_second u t of_j b) in
       let pu = and_parts (kept_up u) ((kept_place u).stream == j) mu.1 in
       let pt = and_parts (kept_up t) ((kept_place t).stream == j) mt.1 in
       let eu = place_is u mu.0 in
@@ -88,13 +84,13 @@ module _ (set : Setting) (K : List (Act Txn)) (s : Core) (g : Invariant set K s)
       let ku : (kept_place u).start ≡ u.call.place.start = ap (λ (p : Place). p.start) eu in
       let kt : (kept_place t).start ≡ t.call.place.start = ap (λ (p : Place). p.start) et in
       omega (arith, lt, ku, kt)) in
-      subst (Rises (λ t. (kept_place t).start)) (sym (ascending-unique (λ t. (kept_place t).start) of_j of_j up (reordered-itself of_j))) up
+      subst (Rises (λ t. (kept_place t).start)) (sym (ascending_unique (λ t. (kept_place t).start) of_j of_j up (reordered_itself of_j))) up
 
   numbers : Rises number_of (ascending number_of (filter (λ t. not (kept_up t)) K))
   numbers u t b =
       let readers : List (Act Txn) = filter (λ t. not (kept_up t)) K in
-      let low = rising_before number_of (ascending number_of readers) (ascending-rising number_of readers) u t b in
-      let other : Apart (ascending number_of readers) = apart_reordered readers (ascending number_of readers) (λ x y c e. apart x y (before-filtered (λ t. not (kept_up t)) x y K c) e) (ascending-reordered number_of readers) in
+      let low = rising_before number_of (ascending number_of readers) (ascending_rising number_of readers) u t b in
+      let other : Apart (ascending number_of readers) = apart_reordered readers (ascending number_of readers) (λ x y c e. apart x y (before_filtered (λ t. not (kept_up t)) x y K c) e) (ascending_reordered number_of readers) in
       below (number_of u) (number_of t) low (other u t b)
     where
       below : (a c : ℕ) → a ≤ c → (a ≡ c → ⊥) → a < c
@@ -111,5 +107,5 @@ module _ (set : Setting) (K : List (Act Txn)) (s : Core) (g : Invariant set K s)
   in_order =
       let same : map told_of history ≡ map kept_told history = map_alike told_of kept_told history (λ t m. told_same t (there t m)) in
       let natural : map kept_told (reported s.ends history) ≡ reported_of (λ (c : Committed). c.place) (λ c. c.logs) (λ c. c.number) s.ends (map kept_told history) =
-      reported-map kept_told (λ (c : Committed). c.place) (λ c. c.logs) (λ c. c.number) s.ends history in
+      reported_map kept_told (λ (c : Committed). c.place) (λ c. c.logs) (λ c. c.number) s.ends history in
       same ∙ ap (map kept_told) (sym again) ∙ natural ∙ ap (reported_of (λ (c : Committed). c.place) (λ c. c.logs) (λ c. c.number) s.ends) (sym same)

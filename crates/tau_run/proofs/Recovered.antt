@@ -17,7 +17,7 @@ use Rattle.tau_machine.specs.Pieces.{records_of_stream}
 use Rattle.tau_machine.specs.State.{Core, Item}
 use Rattle.tau_machine.specs.Invariant.{Invariant}
 use Rattle.tau_machine.proofs.Results.{reported_theorem}
-use Rattle.tau_model.proofs.Reorder.{reordered-itself}
+use Rattle.tau_model.proofs.Reorder.{reordered_itself}
 use Rattle.tau_text.specs.declared.load.Workload.{Workload}
 use Rattle.tau_text.specs.declared.load.Declarations.{Declarations}
 use Rattle.tau_record.specs.declared.entry.Placed.{Placed}
@@ -37,12 +37,13 @@ use Rattle.tau_run.proofs.Cuts.{take_within}
 use Rattle.tau_run.proofs.Each.{EachOk, each_ok, image_opened}
 use Rattle.tau_run.proofs.History.{IsSet, acts_are}
 use Rattle.tau_run.proofs.Lists.{filter_map}
-use Rattle.tau_run.proofs.Logs.{LogOf, log_of_them, some_within, got_within}
+use Rattle.tau_run.proofs.Logs.{LogOf, log_of_them}
 use Rattle.tau_run.proofs.Order.{history}
 use Rattle.tau_run.proofs.Reading.{kept_of}
 use Rattle.tau_run.proofs.Streams.{AreSound, IsRead, front_read, none_read, front_first}
 use Rattle.tau_run.proofs.Taken.{in_some_order, is_closed, all_redo}
 use Rattle.tau_run.proofs.CommittedTold.{act_of}
+use Rattle.tau_base.proofs.Lists.{some_at, got_within}
 
 -- ---- the setting
 
@@ -112,7 +113,7 @@ module _ (n m : ℕ) (mode : LogMode) (load : Workload) (l : Load) (K : List (Ac
 
   given_at : (j : ℕ) → j < n → IsGiven l K s j (catalogue_of load) (whole_of j)
   given_at j lt =
-      let h = some_within run.contents j (subst (λ (k : ℕ). j < k) (sym is.streams) lt) in
+      let h = some_at run.contents j (subst (λ (k : ℕ). j < k) (sym is.streams) lt) in
       let same : whole_of j ≡ h.0 = get_or_from_slice_get run.contents j h.0 [] h.1 in
       subst (λ (c : List ℕ). IsGiven l K s j (catalogue_of load) c) (sym same) (is.given j h.0 h.1)
 
@@ -140,7 +141,7 @@ module _ (n m : ℕ) (mode : LogMode) (load : Workload) (l : Load) (K : List (Ac
   pub records_are : (j : ℕ) → records_in l.mode load run j ≡ map (kept_of l.mode) (records_of_stream j K)
   records_are j =
       let H : List (Act Txn) = history (setting_of l) K s inv in
-      let law = (reported_theorem (setting_of l) K s inv K (reordered-itself K)).2 j in
+      let law = (reported_theorem (setting_of l) K s inv K (reordered_itself K)).2 j in
       ap (λ (xs : List (Act Committed)). map (record_of l.mode) (filter (in_it j) xs)) (acts_are (setting_of l) K s inv n m load set_is run is.calls)
       ∙ ap (map (record_of l.mode)) (filter_map act_of (in_it j) (λ t. in_it j (act_of t)) H (λ t q. refl)) ∙ map_twice l.mode (records_of_stream j H) ∙ ap (map (kept_of l.mode)) law
 
@@ -167,7 +168,7 @@ module _ (n m : ℕ) (mode : LogMode) (load : Workload) (l : Load) (K : List (Ac
     content_is : (j : ℕ) (content : List ℕ) → slice_get read.ys j ≡ Some content → IsCut j content
     content_is j content e =
         let lt = got_within read.ys j content e in
-        let h = some_within images j (subst (λ (q : ℕ). j < q) read.long lt) in
+        let h = some_at images j (subst (λ (q : ℕ). j < q) read.long lt) in
         (read.all j j h.0 content (omega arith) h.1 e).1
 
     below_n : (j : ℕ) (content : List ℕ) → slice_get read.ys j ≡ Some content → j < n
@@ -197,7 +198,7 @@ module _ (n m : ℕ) (mode : LogMode) (load : Workload) (l : Load) (K : List (Ac
   recovered images count left =
       let c = cut_log images count (λ j image e. cut_of j image (left j image e)) in
       let log : Log = c.made.log in
-      let at_j : (j : ℕ) → j < n → (content : List ℕ) × (slice_get c.contents j ≡ Some content) = λ j lt. some_within c.contents j (subst (λ (q : ℕ). j < q) (sym c.long) lt) in
+      let at_j : (j : ℕ) → j < n → (content : List ℕ) × (slice_get c.contents j ≡ Some content) = λ j lt. some_at c.contents j (subst (λ (q : ℕ). j < q) (sym c.long) lt) in
       record {
         log = log;
         reads = c.reads;

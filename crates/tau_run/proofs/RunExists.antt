@@ -5,8 +5,8 @@ use Rattle.std.proofs.Math.Nat.{mod-lt}
 use Rattle.tau_base.specs.declared.value.LogMode.{LogMode}
 use Rattle.tau_model.specs.History.{Act, Member, updates}
 use Rattle.tau_model.specs.declared.committed.Committed.{Committed as Kept}
-use Rattle.tau_model.proofs.Logged.{member-filtered}
-use Rattle.tau_model.proofs.Orders.{member-back}
+use Rattle.tau_model.proofs.Logged.{member_filtered}
+use Rattle.tau_model.proofs.Orders.{member_back}
 use Rattle.tau_machine.specs.Hands.{Txn, Hand}
 use Rattle.tau_machine.specs.State.{Core, Item, Record, Anchor, start_of, past_of, hand_of}
 use Rattle.tau_machine.specs.Pieces.{Chain, NameTheirs, records_in, placed_in, StreamGood}
@@ -24,14 +24,14 @@ use Rattle.tau_core.specs.Pieces.{IsPieceOf, AreBytesOf, Paired, Spelled}
 use Rattle.tau_run.specs.Run.{Run, told_of}
 use Rattle.tau_run.specs.RecoveredFacts.{catalogue_of}
 use Rattle.tau_run.specs.CoreRun.{IsLoadOf, AreAcks, IsGiven, IsRunOf}
-use Rattle.tau_run.proofs.Logs.{some_within}
-use Rattle.tau_run.proofs.Each.{some_is}
+use Rattle.tau_base.proofs.Lists.{some_at}
+use Rattle.tau_base.proofs.Logic.{some_is, replicated}
 
 -- an item with its bytes
 abbrev HasBytes : Load → (ℕ → List (List ℕ)) → Item → Type 0
 HasBytes l anchors i = (bytes : List ℕ) × (start_of i + length bytes ≡ past_of i) × AreBytesOf l anchors i bytes
 
-spelled_of : (l : Load) (anchors : ℕ → List (List ℕ)) (items : List Item) → ((i : Item) → Member i items → HasBytes l anchors i) → (bytes : List ℕ) × Spelled l anchors items bytes
+pub spelled_of : (l : Load) (anchors : ℕ → List (List ℕ)) (items : List Item) → ((i : Item) → Member i items → HasBytes l anchors i) → (bytes : List ℕ) × Spelled l anchors items bytes
 spelled_of l anchors [] h = ([], refl)
 spelled_of l anchors (i ∷ items) h =
     let first = h i (inl refl) in
@@ -41,14 +41,14 @@ spelled_of l anchors (i ∷ items) h =
 piece_bytes : (l : Load) (anchors : ℕ → List (List ℕ)) (p : Piece) (i : Item) → IsPieceOf l anchors p i → HasBytes l anchors i
 piece_bytes l anchors p i is = (p.bytes, ap (λ k. k + length p.bytes) (sym is.start) ∙ is.past, is.bytes)
 
-paired_bytes : (l : Load) (anchors : ℕ → List (List ℕ)) (pieces : List Piece) (items : List Item) → Paired (IsPieceOf l anchors) pieces items → (i : Item) → Member i items → HasBytes l anchors i
+pub paired_bytes : (l : Load) (anchors : ℕ → List (List ℕ)) (pieces : List Piece) (items : List Item) → Paired (IsPieceOf l anchors) pieces items → (i : Item) → Member i items → HasBytes l anchors i
 paired_bytes l anchors [] [] pair i m = absurd m
 paired_bytes l anchors [] (x ∷ items) pair i m = absurd pair
 paired_bytes l anchors (p ∷ pieces) [] pair i m = absurd pair
 paired_bytes l anchors (p ∷ pieces) (x ∷ items) pair i (inl e) = subst (HasBytes l anchors) e (piece_bytes l anchors p x pair.0)
 paired_bytes l anchors (p ∷ pieces) (x ∷ items) pair i (inr m) = paired_bytes l anchors pieces items pair.1 i m
 
-record_member : (items : List Item) (t : Act Txn) → Member (Record t) items → Member t (records_in items)
+pub record_member : (items : List Item) (t : Act Txn) → Member (Record t) items → Member t (records_in items)
 record_member [] t m = absurd m
 record_member (Record u ∷ items) t (inl e) = inl (record_is e)
   where
@@ -61,11 +61,6 @@ record_member (Record u ∷ items) t (inl e) = inl (record_is e)
 record_member (Anchor a b v ∷ items) t (inl e) = absurd (cc e)
 record_member (Record u ∷ items) t (inr m) = inr (record_member items t m)
 record_member (Anchor a b v ∷ items) t (inr m) = record_member items t m
-
-replicated : (n k j : ℕ) → j < n → slice_index (replicate n k) j ≡ k
-replicated zero k j lt = absurd (omega (arith, lt))
-replicated (suc n) k zero lt = refl
-replicated (suc n) k (suc j) lt = replicated n k j (omega (arith, lt))
 
 -- the hand of a worker that may be there
 abbrev hand_seat : Load → List Kept → Option PlainSeat → Option Hand
@@ -99,7 +94,7 @@ module _ (n m : ℕ) (mode : LogMode) (load : Workload) (p : Plain) (K : List (A
   anchors = anchors_at p
 
   seat_there : (w : ℕ) → w < l.workers → (x : PlainSeat) × (slice_get p.seats w ≡ Some x)
-  seat_there w lt = some_within p.seats w (let e = st.sound.seats in omega (arith, e, lt))
+  seat_there w lt = some_at p.seats w (let e = st.sound.seats in omega (arith, e, lt))
 
   -- the worker of a committed call is there
   worker_low : (t : Act Txn) → Member t K → t.call.worker < l.workers
@@ -116,12 +111,12 @@ module _ (n m : ℕ) (mode : LogMode) (load : Workload) (p : Plain) (K : List (A
     good = st.inv.agrees.pieces.stream j low
 
     stream : (x : PlainStream) × (slice_get p.streams j ≡ Some x)
-    stream = some_within p.streams j (let e = st.sound.streams in omega (arith, e, low))
+    stream = some_at p.streams j (let e = st.sound.streams in omega (arith, e, low))
 
     in_order : (t : Act Txn) → Member (Record t) good.waiting → Member t K
     in_order t q =
-        let all : Member t (records_in (h.moved j ++ good.waiting)) = record_member (h.moved j ++ good.waiting) t (member-back (Record t) (h.moved j) good.waiting q) in
-        (member-filtered (λ (x : Act Txn). updates x.effect && x.call.place.stream == j) t K (subst (λ (ts : List (Act Txn)). Member t ts) good.records all)).0
+        let all : Member t (records_in (h.moved j ++ good.waiting)) = record_member (h.moved j ++ good.waiting) t (member_back (Record t) (h.moved j) good.waiting q) in
+        (member_filtered (λ (x : Act Txn). updates x.effect && x.call.place.stream == j) t K (subst (λ (ts : List (Act Txn)). Member t ts) good.records all)).0
 
     waiting_bytes : (i : Item) → Member i good.waiting → HasBytes l anchors i
     waiting_bytes i q = elim (good.there i q) [

@@ -18,7 +18,7 @@ use Rattle.tau_machine.specs.State.{Core}
 use Rattle.tau_machine.specs.Invariant.{Invariant}
 use Rattle.tau_machine.specs.Reports.{calls_of}
 use Rattle.tau_machine.proofs.Results.{committed_theorem, rows_theorem}
-use Rattle.tau_machine.proofs.Pieces.{chain-append}
+use Rattle.tau_machine.proofs.Pieces.{chain_append}
 use Rattle.tau_text.specs.declared.load.Workload.{Workload}
 use Rattle.tau_txn.specs.Record.{entry_of}
 use Rattle.tau_core.specs.declared.state.Load.{Load}
@@ -29,10 +29,11 @@ use Rattle.tau_run.specs.RecoveredFacts.{catalogue_of}
 use Rattle.tau_run.specs.CoreRun.{IsLoadOf, IsRunOf, IsSoundLoad}
 use Rattle.tau_run.proofs.Declared.{call_named}
 use Rattle.tau_run.proofs.History.{is_history}
-use Rattle.tau_run.proofs.Logs.{some_within, length_at}
+use Rattle.tau_run.proofs.Logs.{length_at}
 use Rattle.tau_run.proofs.Recovered.{is_set}
 use Rattle.tau_run.proofs.Spelled.{spelled_long}
 use Rattle.tau_run.proofs.Streams.{AreSound}
+use Rattle.tau_base.proofs.Lists.{some_at}
 
 -- each act of a trace did what its call means on some database
 traced : (procs : List Proc) (ts : List Txn) (db : Db) (t : Act Txn) → Member t (trace (hands.means procs) ts db) → (d : Db) × (t.effect ≡ meaning procs t.call.call.call d)
@@ -67,9 +68,9 @@ module _ (n m : ℕ) (mode : LogMode) (load : Workload) (l : Load) (K : List (Ac
         by_place j long wide = elim (leb_tells n j) [
           | inl le ↦ get_or_past (ends run) j 0 (omega (arith, long, le)) ∙ sym (get_or_past s.ends j 0 (omega (arith, wide, le)))
           | inr lt ↦
-              let h = some_within run.contents j (let e = is.streams in omega (arith, e, lt)) in
+              let h = some_at run.contents j (let e = is.streams in omega (arith, e, lt)) in
               let g = is.given j h.0 h.1 in
-              let chain = chain-append (length (catalogue_of load)) (slice_index s.gathered j) (slice_index s.ends j) (s.streams j).moved g.waiting g.moved g.rest in
+              let chain = chain_append (length (catalogue_of load)) (slice_index s.gathered j) (slice_index s.ends j) (s.streams j).moved g.waiting g.moved g.rest in
               length_at run.contents j h.0 h.1 ∙ ap length g.is ∙ length-append (catalogue_of load) g.bytes
               ∙ spelled_long l (λ i. (s.streams i).anchors) (length (catalogue_of load)) (slice_index s.ends j) ((s.streams j).moved ++ g.waiting) g.bytes g.spelled chain
         ]

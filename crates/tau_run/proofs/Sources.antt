@@ -24,7 +24,6 @@ use Rattle.tau_text.specs.Given.{or_else}
 use Rattle.tau_text.specs.Spelled.{first, ended, whole, literal, name, place_from, known, register, operand}
 use Rattle.tau_text.specs.Forms.{get_words, put_words, del_words, sum_words, test_words, reply_words, step_line, with_step, number_value, call_of, key_words, put_call, add_call, key_call, names_of, literals, args_at, proc_call}
 use Rattle.tau_text.specs.Text.{workload_of}
-use Rattle.tau_text_laws.proofs.Binds.{bind_ok}
 use Rattle.tau_text_laws.proofs.Unique.{was_some}
 use Rattle.tau_text_laws.proofs.MoreTables.{one_step}
 use Rattle.tau_text_laws.proofs.PartsTold.{StepsTold, last_step, ProcsTold, call_read, CallsTold}
@@ -33,6 +32,7 @@ use Rattle.tau_text_laws.proofs.Ranges.{declarations_bytes}
 use Rattle.tau_scan.specs.Reading.{has_table, names_table, is_of_table}
 use Rattle.tau_run.specs.CoreRun.{step_named, IsSoundLoad}
 use Rattle.tau_run.proofs.Reading.{IsCatalogue}
+use Rattle.tau_text.proofs.Binds.{bind_ok}
 
 -- ---- a name that is known
 

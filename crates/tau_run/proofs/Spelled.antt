@@ -18,6 +18,8 @@ use Rattle.tau_record.specs.Content.{placed, named_after, Begins, Reads}
 use Rattle.tau_core.specs.declared.state.Load.{Load}
 use Rattle.tau_txn.specs.Record.{entry_of}
 use Rattle.tau_core.specs.Pieces.{Names, Spelled}
+use Rattle.tau_base.proofs.Lists.{got_front, got_or}
+use Rattle.tau_base.proofs.Logic.{some_is}
 
 -- the entry of an item, with its place
 abbrev pub entry_in : LogMode → Item → Entry
@@ -41,19 +43,6 @@ spelled_long l anchors a b (i ∷ items) bytes h c =
     let k = c.0 in
     omega (arith, rest, e, f, g, k)
 
-got_front : {A : Type 0} (xs ys : List A) (i : ℕ) (x : A) → slice_get xs i ≡ Some x → slice_get (xs ++ ys) i ≡ Some x
-got_front [] ys i x e = absurd cc
-got_front (y ∷ xs) ys zero x e = e
-got_front (y ∷ xs) ys (suc i) x e = got_front xs ys i x e
-
-pub got_or : {A : Type 0} (xs : List A) (i : ℕ) (x d : A) → slice_get xs i ≡ Some x → slice_index_or xs i d ≡ x
-got_or [] i x d e = absurd cc
-got_or (y ∷ xs) zero x d e = let f : y ≡ x = cc e in f
-got_or (y ∷ xs) (suc i) x d e = got_or xs i x d e
-
-some_same : {A : Type 0} (x y : A) → Some x ≡ Some y → x ≡ y
-some_same x y e = cc e
-
 -- of all records but the first the number tells the base, of the anchors before it
 base_is : (l : Load) (n j : ℕ) (before more : List (List ℕ)) (t : Txn) (base : List ℕ) → l.streams ≡ n → slice_index l.opening.anchors.items j ≡ 0 →
     NamesOne 0 before t → Names l j (before ++ more) t.anchor base → base_of (named n before) t.anchor ≡ base
@@ -65,7 +54,7 @@ base_is l n j before more t base width none (inr q) (inr p) =
     let one : q.0 ≡ p.0 = (let e = q.2 in let f = p.1 in omega (arith, e, f, none)) in
     let at : t.anchor ≡ suc q.0 = (let e = q.2 in omega (arith, e)) in
     let got : slice_get (before ++ more) q.0 ≡ Some q.1 = got_front before more q.0 q.1 q.3 in
-    let same : q.1 ≡ base = some_same q.1 base (sym got ∙ ap (slice_get (before ++ more)) one ∙ p.2) in
+    let same : q.1 ≡ base = some_is q.1 base (sym got ∙ ap (slice_get (before ++ more)) one ∙ p.2) in
     ap (base_of (named n before)) at ∙ got_or before q.0 q.1 [] q.3 ∙ same
 
 begun : (n at : ℕ) (vectors : List (List ℕ)) (e : Entry) (first rest bytes : List ℕ) (start past : ℕ) → Spells One n vectors false e first → bytes ≡ first ++ rest → 1 ≤ at → start ≡ at →

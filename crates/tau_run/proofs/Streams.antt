@@ -7,11 +7,11 @@ use Rattle.std.proofs.lemmas.List.{length-append, take-append-drop}
 use Rattle.std.proofs.lemmas.Grind.{flat_map-append}
 use Rattle.std.proofs.lemmas.Bool.{and_parts, eqb-true}
 use Rattle.tau_model.specs.History.{Act, Member, updates}
-use Rattle.tau_model.proofs.Logged.{member-filtered}
+use Rattle.tau_model.proofs.Logged.{member_filtered}
 use Rattle.tau_machine.specs.Hands.{Txn}
 use Rattle.tau_machine.specs.Pieces.{Chain, records_in, anchors_in, NameTheirs, records_of_stream}
 use Rattle.tau_machine.specs.State.{Item, Record, Anchor, Core}
-use Rattle.tau_machine.proofs.Pieces.{chain-append}
+use Rattle.tau_machine.proofs.Pieces.{chain_append}
 use Rattle.tau_text.specs.declared.load.Workload.{Workload}
 use Rattle.tau_text.specs.Canonical.{declarations_text}
 use Rattle.tau_record.specs.declared.entry.Placed.{Placed}
@@ -25,8 +25,9 @@ use Rattle.tau_scan.specs.Taken.{kept_in}
 use Rattle.tau_run.specs.RecoveredFacts.{catalogue_of}
 use Rattle.tau_run.specs.CoreRun.{IsGiven}
 use Rattle.tau_run.proofs.Cuts.{ends_by, Taken, chain_none, chain_take}
-use Rattle.tau_run.proofs.Spelled.{entry_in, placed_in, AreOf, spelled_long, got_or}
+use Rattle.tau_run.proofs.Spelled.{entry_in, placed_in, AreOf, spelled_long}
 use Rattle.tau_run.proofs.Reading.{kept_of, AreDeclared, IsCatalogue, first_placed, kept_items, content_read, nothing_read}
+use Rattle.tau_base.proofs.Lists.{got_or}
 
 -- ---- the bytes of items are a function of them
 
@@ -103,17 +104,17 @@ module _ (n : ℕ) (l : Load) (load : Workload) (K : List (Act Txn)) (s : Core) 
   anchors i = (s.streams i).anchors
 
   chain : Chain (length (catalogue_of load)) items (slice_index s.ends j)
-  chain = chain-append (length (catalogue_of load)) (slice_index s.gathered j) (slice_index s.ends j) (s.streams j).moved g.waiting g.moved g.rest
+  chain = chain_append (length (catalogue_of load)) (slice_index s.gathered j) (slice_index s.ends j) (s.streams j).moved g.waiting g.moved g.rest
 
   of_stream : (t : Act Txn) → Member t (records_in items) → Member t K × (updates t.effect ≡ true) × (t.call.place.stream ≡ j)
   of_stream t m =
       let p : Act Txn → Bool = λ x. updates x.effect && x.call.place.stream == j in
-      let h = member-filtered p t K (subst (λ (ts : List (Act Txn)). Member t ts) g.records m) in
+      let h = member_filtered p t K (subst (λ (ts : List (Act Txn)). Member t ts) g.records m) in
       let q = and_parts (updates t.effect) (t.call.place.stream == j) h.1 in
       (h.0, q.0, eqb-true t.call.place.stream j q.1)
 
   front_member : (i : ℕ) (q : Taken (length (catalogue_of load)) (slice_index s.ends j) items i) (t : Act Txn) → Member t (records_in (take i items)) → Member t (records_in items)
-  front_member i q t m = (member-filtered (ends_by q.end) t (records_in items) (subst (λ (ts : List (Act Txn)). Member t ts) q.records m)).0
+  front_member i q t m = (member_filtered (ends_by q.end) t (records_in items) (subst (λ (ts : List (Act Txn)). Member t ts) q.records m)).0
 
   -- cut after any of its items
   front_is : (i : ℕ) (bytes : List ℕ) → Spelled l anchors (take i items) bytes → IsRead l load K n j (catalogue_of load ++ bytes) (first_placed load ∷ map (placed_in l.mode) (take i items))

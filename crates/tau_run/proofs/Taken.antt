@@ -8,16 +8,16 @@ use Rattle.tau_base.specs.Database.{Db, empty_db}
 use Rattle.tau_base.specs.Vectors.{covers}
 use Rattle.tau_base.specs.declared.value.LogMode.{LogMode}
 use Rattle.tau_base.specs.declared.value.LogMode.TheVariants.{Values, Commands}
-use Rattle.tau_base.proofs.Vectors.{covers-at_most, at_most-covers}
+use Rattle.tau_base.proofs.Vectors.{covers_at_most, at_most_covers}
 use Rattle.tau_proc.specs.declared.proc.Proc.{Proc}
 use Rattle.tau_text.specs.declared.load.Workload.{Workload}
 use Rattle.tau_model.specs.History.{Act, Member, Reordered, Closed, exec, updates}
 use Rattle.tau_model.specs.Logged.{Place, IsCutAt, Orderly}
 use Rattle.tau_model.specs.Redo.{Content, redo_contents}
 use Rattle.tau_model.proofs.Calls.{lifted}
-use Rattle.tau_model.proofs.Orders.{member-reordered}
-use Rattle.tau_model.proofs.Logged.{member-filtered}
-use Rattle.tau_model.proofs.Reorder.{reordered-itself, reordered-sym, reordered-trans}
+use Rattle.tau_model.proofs.Orders.{member_reordered}
+use Rattle.tau_model.proofs.Logged.{member_filtered}
+use Rattle.tau_model.proofs.Reorder.{reordered_itself, reordered_sym, reordered_trans}
 use Rattle.tau_machine.specs.Hands.{Txn}
 use Rattle.tau_machine.specs.Hands as hands
 use Rattle.tau_machine.specs.State.{Setting, Core}
@@ -25,22 +25,23 @@ use Rattle.tau_machine.specs.Invariant.{Invariant}
 use Rattle.tau_machine.specs.Pieces.{records_of_stream}
 use Rattle.tau_machine.specs.Reports.{calls_of, placed_at, held_by, in_turn}
 use Rattle.tau_machine.specs.Reports as reports
-use Rattle.tau_machine.proofs.Classes.{classes}
-use Rattle.tau_machine.proofs.Lists.{member-of}
-use Rattle.tau_machine.proofs.Results.{committed_theorem, cuts_theorem}
+use Rattle.tau_machine.proofs.Classes.{classes, in_turn_map, reordered_map}
+use Rattle.tau_machine.proofs.Lists.{member_of}
+use Rattle.tau_machine.proofs.Results.{committed_theorem, cuts_theorem, filter_alike}
 use Rattle.tau_record.specs.declared.entry.Placed.{Placed}
 use Rattle.tau_scan.specs.declared.log.Log.{Log}
 use Rattle.tau_scan.specs.Taken.{Kept, kept_in, kept_from, taken}
 use Rattle.tau_replay.specs.Redone.{IsOrderOf}
 use Rattle.tau_run.specs.Run.{Committed, Run, told_of, acts, means}
 use Rattle.tau_run.specs.RecoveredFacts.{takes}
-use Rattle.tau_run.proofs.Lists.{member_map, map_member, filter_map, filter_alike, filter_twice, filter_append, any_true, any_member, bool_same}
+use Rattle.tau_run.proofs.Lists.{map_member, filter_map, filter_twice, filter_append, any_true, any_member, bool_same}
 use Rattle.tau_run.proofs.CommittedTold.{number_of, one_of_number, apart_reordered, exec_told}
 use Rattle.tau_run.proofs.Closed.{closed_told}
 use Rattle.tau_run.proofs.Order.{apart, history, once, there}
 use Rattle.tau_run.proofs.History.{IsSet, acts_are}
 use Rattle.tau_run.proofs.Cuts.{ends_by}
 use Rattle.tau_run.proofs.Reading.{kept_of}
+use Rattle.tau_model.proofs.Assembling.{member_mapped}
 
 -- ---- one stream after another
 
@@ -49,18 +50,9 @@ in_turn_alike zero f g h = refl
 in_turn_alike {A} (suc n) f g h =
     ap (λ (l : List A). l ++ in_turn n (λ j. f (suc j))) (h 0 (omega arith)) ∙ ap (λ (l : List A). g 0 ++ l) (in_turn_alike n (λ j. f (suc j)) (λ j. g (suc j)) (λ j lt. h (suc j) (omega (arith, lt))))
 
-in_turn_map : {A B : Type 0} (f : A → B) (n : ℕ) (g : ℕ → List A) → map f (in_turn n g) ≡ in_turn n (λ j. map f (g j))
-in_turn_map f zero g = refl
-in_turn_map {B = B} f (suc n) g = map-append f (g 0) (in_turn n (λ j. g (suc j))) ∙ ap (λ (l : List B). map f (g 0) ++ l) (in_turn_map f n (λ j. g (suc j)))
-
 in_turn_filter : {A : Type 0} (p : A → Bool) (n : ℕ) (g : ℕ → List A) → filter p (in_turn n g) ≡ in_turn n (λ j. filter p (g j))
 in_turn_filter p zero g = refl
 in_turn_filter {A} p (suc n) g = filter_append p (g 0) (in_turn n (λ j. g (suc j))) ∙ ap (λ (l : List A). filter p (g 0) ++ l) (in_turn_filter p n (λ j. g (suc j)))
-
-reordered_map : {A B : Type 0} (f : A → B) (xs ys : List A) → Reordered xs ys → Reordered (map f xs) (map f ys)
-reordered_map f [] ys e = ap (map f) e
-reordered_map {A} {B} f (x ∷ xs) ys (front, back, e, r) =
-    (map f front, map f back, ap (map f) e ∙ map-append f front (x ∷ back), subst (λ (l : List B). Reordered (map f xs) l) (map-append f front back) (reordered_map f xs (front ++ back) r))
 
 kept_turn : (streams : List (List Placed)) (k : ℕ) (f : ℕ → List Kept) → ((j i : ℕ) → j ≡ k + i → f i ≡ kept_in j (slice_index_or streams i [])) → kept_from k streams ≡ in_turn (length streams) f
 kept_turn [] k f h = refl
@@ -115,7 +107,7 @@ module _ (set : Setting) (K : List (Act Txn)) (s : Core) (g : Invariant set K s)
         let own : t.call.place.stream ≡ j = eqb-true t.call.place.stream j b.1 in
         let low : t.call.place.past ≤ slice_index log.elv j = leb-true t.call.place.past (slice_index log.elv j) c.0 in
         and_from (held t) (t.call.place.stream == j)
-        ((cut_is log.elv t m).1 (b.0, subst (λ k. t.call.place.past ≤ slice_index log.elv k) (sym own) low, covers-at_most log.elv t.call.place.dep c.1)) b.1)
+        ((cut_is log.elv t m).1 (b.0, subst (λ k. t.call.place.past ≤ slice_index log.elv k) (sym own) low, covers_at_most log.elv t.call.place.dep c.1)) b.1)
         (λ e.
         let a = and_parts (held t) (t.call.place.stream == j) e in
         let b = (cut_is log.elv t m).0 a.0 in
@@ -123,7 +115,7 @@ module _ (set : Setting) (K : List (Act Txn)) (s : Core) (g : Invariant set K s)
         let low : t.call.place.past ≤ slice_index log.elv j = subst (λ k. t.call.place.past ≤ slice_index log.elv k) own b.1 in
         and_from (updates t.effect && t.call.place.stream == j) (ends_by (slice_index log.elv j) t && covers log.elv t.call.place.dep)
         (and_from (updates t.effect) (t.call.place.stream == j) b.0 a.1)
-        (and_from (ends_by (slice_index log.elv j) t) (covers log.elv t.call.place.dep) (le-leb t.call.place.past (slice_index log.elv j) low) (at_most-covers log.elv t.call.place.dep b.2)))
+        (and_from (ends_by (slice_index log.elv j) t) (covers log.elv t.call.place.dep) (le-leb t.call.place.past (slice_index log.elv j) low) (at_most_covers log.elv t.call.place.dep b.2)))
 
     same_part : (j : ℕ) → j < n → made j ≡ map (kept_of mode) (part j)
     same_part j lt =
@@ -147,7 +139,7 @@ module _ (set : Setting) (K : List (Act Txn)) (s : Core) (g : Invariant set K s)
     pub taken_are : Reordered (map (kept_of mode) (filter held K)) (taken log)
     taken_are =
         let low : (t : Act Txn) → Member t (filter held K) → t.call.place.stream < n = λ t m.
-        (let h = member-filtered held t K m in stream_low t h.0 ((cut_is log.elv t h.0).0 h.1).0) in
+        (let h = member_filtered held t K m in stream_low t h.0 ((cut_is log.elv t h.0).0 h.1).0) in
         let class : Reordered (filter held K) (in_turn n part) = classes (λ (t : Act Txn). t.call.place.stream) n (filter held K) low in
         let same : map (kept_of mode) (in_turn n part) ≡ taken log = in_turn_map (kept_of mode) n part ∙ in_turn_alike n (λ j. map (kept_of mode) (part j)) made (λ j lt. sym (same_part j lt)) ∙ sym taken_turn in
         subst (λ (l : List Kept). Reordered (map (kept_of mode) (filter held K)) l) same (reordered_map (kept_of mode) (filter held K) (in_turn n part) class)
@@ -157,15 +149,15 @@ module _ (set : Setting) (K : List (Act Txn)) (s : Core) (g : Invariant set K s)
     takes_is t m = bool_same (takes log (told_of t)) (held t)
         (λ e.
         let r = any_member (λ (r : Kept). r.number == number_of t) (taken log) e in
-        let u = member_map (kept_of mode) r.0 (filter held K) (member-reordered (map (kept_of mode) (filter held K)) (taken log) taken_are r.0 r.1) in
-        let h = member-filtered held u.0 K u.1 in
+        let u = member_mapped (kept_of mode) r.0 (filter held K) (member_reordered (map (kept_of mode) (filter held K)) (taken log) taken_are r.0 r.1) in
+        let h = member_filtered held u.0 K u.1 in
         let same : number_of u.0 ≡ number_of t = ap (λ (k : Kept). k.number) u.2 ∙ eqb-true r.0.number (number_of t) r.2 in
         let one : u.0 ≡ t = one_of_number K (apart set K s g) u.0 t h.0 m same in
         subst (λ (x : Act Txn). held x ≡ true) one h.1)
         (λ e.
-        let there : Member (kept_of mode t) (map (kept_of mode) (filter held K)) = map_member (kept_of mode) t (filter held K) (member-of held t K m e) in
+        let there : Member (kept_of mode t) (map (kept_of mode) (filter held K)) = map_member (kept_of mode) t (filter held K) (member_of held t K m e) in
         let in_log : Member (kept_of mode t) (taken log) =
-        member-reordered (taken log) (map (kept_of mode) (filter held K)) (reordered-sym (map (kept_of mode) (filter held K)) (taken log) taken_are) (kept_of mode t) there in
+        member_reordered (taken log) (map (kept_of mode) (filter held K)) (reordered_sym (map (kept_of mode) (filter held K)) (taken log) taken_are) (kept_of mode t) there in
         any_true (λ (r : Kept). r.number == number_of t) (kept_of mode t) (taken log) in_log (eq-eqb (number_of t) (number_of t) refl))
 
     -- an orderly order exists
@@ -173,7 +165,7 @@ module _ (set : Setting) (K : List (Act Txn)) (s : Core) (g : Invariant set K s)
     in_some_order = (
       map (kept_of mode) (filter held K),
       record {
-        each_once = reordered-sym (map (kept_of mode) (filter held K)) (taken log) taken_are;
+        each_once = reordered_sym (map (kept_of mode) (filter held K)) (taken log) taken_are;
         orderly = subst Orderly (sym (places_are mode (filter held K))) (cuts_theorem set K s g log.elv).2;
       },
     )
@@ -181,7 +173,7 @@ module _ (set : Setting) (K : List (Act Txn)) (s : Core) (g : Invariant set K s)
     -- and each redoes to what executing just these calls gives
     order_redoes : (order : List Kept) → IsOrderOf log order → redo_contents set.procs (map (λ (r : Kept). r.content) order) set.base ≡ exec (hands.means set.procs) (filter (held_by log.elv) (calls_of K)) set.base
     order_redoes order is_order =
-        let chain : Reordered (map (kept_of mode) (filter held K)) order = reordered-trans (map (kept_of mode) (filter held K)) (taken log) order taken_are is_order.each_once in
+        let chain : Reordered (map (kept_of mode) (filter held K)) order = reordered_trans (map (kept_of mode) (filter held K)) (taken log) order taken_are is_order.each_once in
         let (ys, r, e) = lifted (kept_of mode) (filter held K) order chain in
         let orderly : Orderly (map (λ (t : Act Txn). t.call.place) ys) =
         subst Orderly (ap (map (λ (k : Kept). k.place)) (sym e) ∙ places_are mode ys) is_order.orderly in
@@ -194,14 +186,14 @@ module _ (set : Setting) (K : List (Act Txn)) (s : Core) (g : Invariant set K s)
 
       pub is_closed : Closed (acts load.declarations.procs run) (takes log)
       is_closed =
-          let law = (cuts_theorem set K s g log.elv).4 K (reordered-itself K) in
+          let law = (cuts_theorem set K s g log.elv).4 K (reordered_itself K) in
           subst (λ (l : List (Act Committed)). Closed l (takes log)) (sym (acts_are set K s g n m load at run calls))
           (closed_told H (apart_reordered K H (apart set K s g) (once set K s g)) (held_by log.elv) (takes log) law.0 (λ t q. takes_is t (there set K s g t q)))
 
       pub all_redo : (order : List Kept) → IsOrderOf log order →
           redo_contents load.declarations.procs (map (λ (r : Kept). r.content) order) empty_db ≡ exec (means load.declarations.procs) (filter (takes log) run.calls) empty_db
       all_redo order is_order =
-          let law = ((cuts_theorem set K s g log.elv).4 K (reordered-itself K)).1 in
+          let law = ((cuts_theorem set K s g log.elv).4 K (reordered_itself K)).1 in
           let chosen : filter (takes log) run.calls ≡ map told_of (filter held H) =
           ap (filter (takes log)) calls ∙ filter_map told_of (takes log) held H (λ t q. takes_is t (there set K s g t q)) in
           ap (λ (p : List Proc). redo_contents p (map (λ (r : Kept). r.content) order) empty_db) (sym at.procs)

@@ -7,21 +7,8 @@ use Rattle.std.proofs.lemmas.List.{length-append, length-set}
 use Rattle.tau_disk.specs.Disk.{Elapses}
 use Rattle.tau_disk.specs.Used.{Each}
 use Rattle.tau_scan.specs.Outside.{IsRead}
-
-pub get_set_same : {D : Type 0} (xs : List D) (i : ℕ) (v : D) → i < length xs → slice_get (set xs i v) i ≡ Some v
-get_set_same [] i v lt = absurd (omega (arith, lt))
-get_set_same (x ∷ xs) zero v lt = refl
-get_set_same (x ∷ xs) (suc i) v lt = get_set_same xs i v (omega (arith, lt))
-
-pub get_set_other : {D : Type 0} (xs : List D) (i k : ℕ) (v : D) → k ≢ i → slice_get (set xs i v) k ≡ slice_get xs k
-get_set_other [] i k v other = refl
-get_set_other (x ∷ xs) zero zero v other = absurd (other refl)
-get_set_other (x ∷ xs) zero (suc k) v other = refl
-get_set_other (x ∷ xs) (suc i) zero v other = refl
-get_set_other (x ∷ xs) (suc i) (suc k) v other = get_set_other xs i k v (λ e. other (ap (λ (n : ℕ). suc n) e))
-
-pub same_some : {D : Type 0} (d e : D) → Some d ≡ Some e → d ≡ e
-same_some d e is = cc
+use Rattle.tau_base.proofs.Logic.{some_is}
+use Rattle.tau_base.proofs.Lists.{get_set_same, get_set_other}
 
 module _ {D : Type 0} (tells : Type 0) (seen : D → List ℕ) (may_leave : D → List ℕ → Type 0) (moment : D → ℕ) (since : D → ℕ → List ℕ → Type 0) (faults : D → ℕ) where
   -- one call that read
@@ -78,7 +65,7 @@ module _ {D : Type 0} (tells : Type 0) (seen : D → List ℕ) (may_leave : D �
 
   taken_more : (old : List D) (n : ℕ) (d : D) → slice_get old n ≡ Some d → map seen (take (n + 1) old) ≡ map seen (take n old) ++ seen d ∷ []
   taken_more [] n d here = absurd cc
-  taken_more (y ∷ old) zero d here = ap (λ (z : D). seen z ∷ []) (same_some y d here)
+  taken_more (y ∷ old) zero d here = ap (λ (z : D). seen z ∷ []) (some_is y d here)
   taken_more (y ∷ old) (suc n) d here = let next : suc n + 1 ≡ suc (n + 1) = omega arith in rw next (ap (λ (zs : List (List ℕ)). seen y ∷ zs) (taken_more old n d here))
 
   pub reading_first : (old : List D) → IsReading old old 0 []
@@ -96,7 +83,7 @@ module _ {D : Type 0} (tells : Type 0) (seen : D → List ℕ) (may_leave : D �
   each_on old new n images d e g lt here read j b was = elim (cases_eq j n) [
     | inl same ↦
         let mine : slice_get old n ≡ Some b = subst (λ (k : ℕ). slice_get old k ≡ Some b) same was in
-        let is : d ≡ b = same_some d b (sym here ∙ g.rest n (omega arith) ∙ mine) in
+        let is : d ≡ b = some_is d b (sym here ∙ g.rest n (omega arith) ∙ mine) in
         (e, subst (λ (k : ℕ). slice_get (set new n e) k ≡ Some e) (sym same) (get_set_same new n e lt), subst (λ (z : D). IsRead tells seen may_leave moment since faults z e) is read)
     | inr other ↦ let (f, there, r) = g.read j b was in (f, get_set_other new n j e other ∙ there, r)
   ]

@@ -4,12 +4,13 @@ use Rattle.std.specs.Prelude.{Option, Some, None, slice_get, if◌then◌else◌
 use Rattle.std.specs.List.{filter}
 use Rattle.tau_base.specs.Vectors.{covers}
 use Rattle.tau_model.specs.History.{Member}
-use Rattle.tau_model.proofs.Orders.{member-front, member-back}
+use Rattle.tau_model.proofs.Orders.{member_front, member_back}
 use Rattle.tau_record.specs.declared.entry.Entry.{Entry}
 use Rattle.tau_record.specs.declared.entry.Entry.TheVariants.{Written, Command, Anchor, Catalogue}
 use Rattle.tau_record.specs.declared.entry.Placed.{Placed}
 use Rattle.tau_scan.specs.Taken.{Kept, kept_as, kept_in, kept_from, is_taken_by, is_taken_one, is_taken_in}
 use Rattle.tau_scan.specs.Laws.{TakenAreListed}
+use Rattle.tau_model.proofs.ReportOrder.{member_filter_in}
 
 -- ---- lists
 
@@ -26,15 +27,6 @@ passed {A} p (x ∷ xs) a m = by_test (passed p xs a) (p x) refl m
     by_test more true is (inl e) = (inl e, subst (λ (z : A). p z ≡ true) e is)
     by_test more true is (inr n) = let (there, pass) = more n in (inr there, pass)
     by_test more false is n = let (there, pass) = more n in (inr there, pass)
-
-passing : {A : Type 0} (p : A → Bool) (xs : List A) (a : A) → Member a xs → p a ≡ true → Member a (filter p xs)
-passing p [] a m is = absurd m
-passing {A} p (x ∷ xs) a (inl e) is = let here : p x ≡ true = ap p e ∙ is in rw here (inl e)
-passing {A} p (x ∷ xs) a (inr m) is = by_test (p x) (passing p xs a m is)
-  where
-    by_test : (b : Bool) → Member a (filter p xs) → Member a (if b then x ∷ filter p xs else filter p xs)
-    by_test true n = inr n
-    by_test false n = n
 
 -- ---- records
 
@@ -71,8 +63,8 @@ of_stream : (j : ℕ) (ps : List Placed) (i : ℕ) (p : Placed) (r : Kept) → s
 of_stream j [] i p r at m = absurd cc
 of_stream j (q ∷ ps) zero p r at m =
     let same : p ≡ q = cc in
-    member-front r (kept_as j q q.entry) (kept_in j ps) (subst (λ (z : Placed). Member r (kept_as j z z.entry)) same m)
-of_stream j (q ∷ ps) (suc i) p r at m = member-back r (kept_as j q q.entry) (kept_in j ps) (of_stream j ps i p r at m)
+    member_front r (kept_as j q q.entry) (kept_in j ps) (subst (λ (z : Placed). Member r (kept_as j z z.entry)) same m)
+of_stream j (q ∷ ps) (suc i) p r at m = member_back r (kept_as j q q.entry) (kept_in j ps) (of_stream j ps i p r at m)
 
 -- ---- streams
 
@@ -87,9 +79,9 @@ of_streams : (j : ℕ) (streams : List (List Placed)) (k : ℕ) (ps : List Place
 of_streams j [] k ps r at m = absurd cc
 of_streams j (qs ∷ streams) zero ps r at m =
     let same : ps ≡ qs = cc in
-    member-front r (kept_in j qs) (kept_from (suc j) streams) (subst (λ (zs : List Placed). Member r (kept_in j zs)) same (subst (λ (x : ℕ). Member r (kept_in x ps)) (omega arith) m))
+    member_front r (kept_in j qs) (kept_from (suc j) streams) (subst (λ (zs : List Placed). Member r (kept_in j zs)) same (subst (λ (x : ℕ). Member r (kept_in x ps)) (omega arith) m))
 of_streams j (qs ∷ streams) (suc k) ps r at m =
-    member-back r (kept_in j qs) (kept_from (suc j) streams) (of_streams (suc j) streams k ps r at (subst (λ (x : ℕ). Member r (kept_in x ps)) (omega arith) m))
+    member_back r (kept_in j qs) (kept_from (suc j) streams) (of_streams (suc j) streams k ps r at (subst (λ (x : ℕ). Member r (kept_in x ps)) (omega arith) m))
 
 -- ---- the law
 
@@ -110,8 +102,8 @@ found_at elv streams j i is = by_stream (slice_get streams j) refl is
     by_stream None at is = absurd cc
     by_stream (Some ps) at is = by_record ps at (slice_get ps i) refl is
 
-pub taken-are_listed : TakenAreListed
-taken-are_listed log = (
+pub taken_are_listed : TakenAreListed
+taken_are_listed log = (
   λ r m.
       let (kept, covered) = passed (λ (x : Kept). covers log.elv x.place.dep) (kept_from 0 log.streams) r m in
       let (k, ps, at, among) = in_streams 0 log.streams r kept in
@@ -128,6 +120,6 @@ taken-are_listed log = (
       let among : Member r (kept_in (0 + j) ps) = subst (λ (x : ℕ). Member r (kept_in x ps)) (omega arith) (of_stream j ps i p r there m) in (
         r,
         record { records = ps; placed = p; stream = at; there = there; is = one_kept j p p.entry r m },
-        passing (λ (x : Kept). covers log.elv x.place.dep) (kept_from 0 log.streams) r (of_streams 0 log.streams j ps r at among) (sym (same_test log.elv j p p.entry r m) ∙ by),
+        member_filter_in (λ (x : Kept). covers log.elv x.place.dep) (kept_from 0 log.streams) r (of_streams 0 log.streams j ps r at among) (sym (same_test log.elv j p p.entry r m) ∙ by),
       ),
 )

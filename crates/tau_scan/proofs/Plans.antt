@@ -7,7 +7,8 @@ use Rattle.std.proofs.lemmas.Bool.Decides.{leb_tells}
 use Rattle.tau_disk.specs.Used.{GoesOn, AllCalls, IsStopped}
 use Rattle.tau_disk.specs.Disk.{WasToFail, WasRefused}
 use Rattle.tau_scan.specs.Outside.{calls_to_read}
-use Rattle.tau_scan.proofs.Disks.{get_set_same, get_set_other, same_some}
+use Rattle.tau_base.proofs.Logic.{some_is}
+use Rattle.tau_base.proofs.Lists.{get_set_same, get_set_other}
 
 up_to : (n k : ℕ) → (k ≤ n) ⊎ (n < k)
 up_to n k = elim (leb_tells k n) [ inl le ↦ inl le.1 | inr gt ↦ inr gt.1 ]
@@ -71,7 +72,7 @@ module _ {D : Type 0} (number : D → ℕ) (fails : D → ℕ → Bool) where
     one_more P old new n d e rest below low here made j b lt was = elim (cases_eq j n) [
       | inl same ↦
           let mine : slice_get old n ≡ Some b = subst (λ (k : ℕ). slice_get old k ≡ Some b) same was in
-          let is : d ≡ b = same_some d b (sym here ∙ rest n (omega arith) ∙ mine) in
+          let is : d ≡ b = some_is d b (sym here ∙ rest n (omega arith) ∙ mine) in
           (e, subst (λ (k : ℕ). slice_get (set new n e) k ≡ Some e) (sym same) (get_set_same new n e low), subst (λ (z : D). P z e) is made)
       | inr other ↦ (let f = below j b (omega (arith, lt, other)) was in (f.0, get_set_other new n j e other ∙ f.1, f.2))
     ]

@@ -14,6 +14,8 @@ use Rattle.tau_scan.specs.declared.fault.LogRefusal.{LogRefusal}
 use Rattle.tau_scan.specs.declared.fault.LogRefusal.TheVariants as refusals
 use Rattle.tau_scan.specs.Found.{Lost, other_text}
 use Rattle.tau_scan.specs.Reading.{◌>>=◌, in_front, each_from, is_declared, first_undeclared, catalogue_from, unless_other, alike}
+use Rattle.tau_base.proofs.Lists.{drop_at}
+use Rattle.tau_base.proofs.Logic.{some_is}
 
 -- these values in front of the others
 abbrev pub behind : {A E : Type 0} → List A → Result (List A) E → Result (List A) E
@@ -32,15 +34,6 @@ pub behind_err : {A E : Type 0} (done : List A) (e : E) → behind done (Err e) 
 behind_err [] e = refl
 behind_err (x ∷ xs) e = ap (λ q. in_front x q) (behind_err xs e)
 
-some_is : {A : Type 0} (x y : A) → Some x ≡ Some y → x ≡ y
-some_is x y is = cc
-
--- what is left from an index on begins with the element there
-pub drop-at : {A : Type 0} (xs : List A) (i : ℕ) (x : A) → slice_get xs i ≡ Some x → drop i xs ≡ x ∷ drop (suc i) xs
-drop-at [] i x is = absurd cc
-drop-at {A} (y ∷ xs) zero x is = ap (λ (z : A). z ∷ xs) (some_is y x is)
-drop-at (y ∷ xs) (suc i) x is = drop-at xs i x is
-
 pub record IsGoing {A B : Type 0} (f : ℕ → A → Result B LogFault) (xs : List A) (i : ℕ) (done : List B) : Type 0 where
   pub same : each_from f 0 xs ≡ behind done (each_from f i (drop i xs))
   pub count : length done ≡ i
@@ -50,7 +43,7 @@ module _ {A B : Type 0} (f : ℕ → A → Result B LogFault) (xs : List A) wher
   going_first = record { same = refl; count = refl }
 
   step_of : (i : ℕ) (done : List B) (x : A) → IsGoing f xs i done → slice_get xs i ≡ Some x → each_from f 0 xs ≡ behind done (f i x >>= λ y. in_front y (each_from f (suc i) (drop (suc i) xs)))
-  step_of i done x g here = g.same ∙ ap (λ (ys : List A). behind done (each_from f i ys)) (drop-at xs i x here)
+  step_of i done x g here = g.same ∙ ap (λ (ys : List A). behind done (each_from f i ys)) (drop_at xs i x here)
 
   pub going_on : (i : ℕ) (done : List B) (x : A) (y : B) → IsGoing f xs i done → slice_get xs i ≡ Some x → f i x ≡ Ok y → IsGoing f xs (i + 1) (done ++ y ∷ [])
   going_on i done x y g here is = subst (λ (k : ℕ). IsGoing f xs k (done ++ y ∷ [])) (sym (add-one i)) (record {
@@ -74,12 +67,12 @@ module _ {A B : Type 0} (f : ℕ → A → Result B LogFault) (xs : List A) wher
 pub undeclared_here : (d : Declarations) (ps : List Placed) (i : ℕ) (p : Placed) → slice_get ps i ≡ Some p → is_declared d p.entry ≡ false →
     first_undeclared d (drop i ps) ≡ Some (record { at = p.start; cause = BadBody })
 unfolding first_undeclared
-undeclared_here d ps i p here fails = rw (drop-at ps i p here, fails) refl
+undeclared_here d ps i p here fails = rw (drop_at ps i p here, fails) refl
 
 pub declared_here : (d : Declarations) (ps : List Placed) (i : ℕ) (p : Placed) → slice_get ps i ≡ Some p → is_declared d p.entry ≡ true →
     first_undeclared d (drop i ps) ≡ first_undeclared d (drop (i + 1) ps)
 unfolding first_undeclared
-declared_here d ps i p here passes = rw (drop-at ps i p here, passes, add-one i) refl
+declared_here d ps i p here passes = rw (drop_at ps i p here, passes, add-one i) refl
 
 pub all_declared : (d : Declarations) (ps : List Placed) (i : ℕ) → length ps ≤ i → first_undeclared d (drop i ps) ≡ None
 unfolding first_undeclared
@@ -91,17 +84,17 @@ abbrev fault_of : ℕ → List ℕ → ℕ → List ℕ → LogFault
 fault_of first text j other = record { stream = j; cause = cause.Catalogue first (alike text other) }
 
 pub no_text_here : (xs : List (Option (List ℕ))) (j : ℕ) → slice_get xs j ≡ Some None → catalogue_from j (drop j xs) ≡ catalogue_from (j + 1) (drop (j + 1) xs)
-no_text_here xs j here = rw (drop-at xs j None here, add-one j) refl
+no_text_here xs j here = rw (drop_at xs j None here, add-one j) refl
 
 pub no_text : (xs : List (Option (List ℕ))) (j : ℕ) → length xs ≤ j → catalogue_from j (drop j xs) ≡ Ok None
 no_text xs j le = rw (drop_all j xs le) refl
 
 pub text_here : (xs : List (Option (List ℕ))) (j : ℕ) (text : List ℕ) → slice_get xs j ≡ Some (Some text) → catalogue_from j (drop j xs) ≡ unless_other j text (j + 1) (drop (j + 1) xs)
-text_here xs j text here = rw (drop-at xs j (Some text) here, add-one j) refl
+text_here xs j text here = rw (drop_at xs j (Some text) here, add-one j) refl
 
 pub same_here : (first : ℕ) (text : List ℕ) (xs : List (Option (List ℕ))) (j : ℕ) (x : Option (List ℕ)) → slice_get xs j ≡ Some x → other_text first text j x ≡ None →
     unless_other first text j (drop j xs) ≡ unless_other first text (j + 1) (drop (j + 1) xs)
-same_here first text xs j x here same = rw (drop-at xs j x here, add-one j) (by_case x same)
+same_here first text xs j x here same = rw (drop_at xs j x here, add-one j) (by_case x same)
   where
     by_case : (x : Option (List ℕ)) → other_text first text j x ≡ None → unless_other first text j (x ∷ drop (suc j) xs) ≡ unless_other first text (suc j) (drop (suc j) xs)
     by_case None same = refl
@@ -113,7 +106,7 @@ same_here first text xs j x here same = rw (drop-at xs j x here, add-one j) (by_
 
 pub other_here : (first : ℕ) (text : List ℕ) (xs : List (Option (List ℕ))) (j : ℕ) (x : Option (List ℕ)) (fault : LogFault) → slice_get xs j ≡ Some x → other_text first text j x ≡ Some fault →
     unless_other first text j (drop j xs) ≡ Err fault
-other_here first text xs j x fault here is = rw (drop-at xs j x here) (by_case x is)
+other_here first text xs j x fault here is = rw (drop_at xs j x here) (by_case x is)
   where
     by_case : (x : Option (List ℕ)) → other_text first text j x ≡ Some fault → unless_other first text j (x ∷ drop (suc j) xs) ≡ Err fault
     by_case None is = absurd cc
@@ -127,10 +120,10 @@ pub same_to_end : (first : ℕ) (text : List ℕ) (xs : List (Option (List ℕ))
 same_to_end first text xs j le = rw (drop_all j xs le) refl
 
 -- the element of a mapped list at the index of a read one
-pub map-get : {A B : Type 0} (f : A → B) (xs : List A) (i : ℕ) (x : A) → slice_get xs i ≡ Some x → slice_get (map f xs) i ≡ Some (f x)
-map-get f [] i x is = absurd cc
-map-get {A} f (y ∷ xs) zero x is = ap (λ (z : A). Some (f z)) (some_is y x is)
-map-get f (y ∷ xs) (suc i) x is = map-get f xs i x is
+pub map_get : {A B : Type 0} (f : A → B) (xs : List A) (i : ℕ) (x : A) → slice_get xs i ≡ Some x → slice_get (map f xs) i ≡ Some (f x)
+map_get f [] i x is = absurd cc
+map_get {A} f (y ∷ xs) zero x is = ap (λ (z : A). Some (f z)) (some_is y x is)
+map_get f (y ∷ xs) (suc i) x is = map_get f xs i x is
 
 -- a read element, also through a view of it
 pub read_as : {A : Type 0} (xs : List A) (i : ℕ) (x y : A) → i < length xs → x ≡ get_or xs i x → y ≡ x → slice_get xs i ≡ Some y
@@ -147,7 +140,7 @@ a_text_of (Some text) is = (text, refl)
 -- ---- texts that begin alike
 
 pub alike_more : (xs ys : List ℕ) (n : ℕ) (x y : ℕ) → slice_get xs n ≡ Some x → slice_get ys n ≡ Some y → x ≡ y → n + alike (drop n xs) (drop n ys) ≡ (n + 1) + alike (drop (n + 1) xs) (drop (n + 1) ys)
-alike_more xs ys n x y here there same = rw (drop-at xs n x here, drop-at ys n y there, eq-eqb x y same, add-one n) (omega arith)
+alike_more xs ys n x y here there same = rw (drop_at xs n x here, drop_at ys n y there, eq-eqb x y same, add-one n) (omega arith)
 
 pub alike_end : (xs ys : List ℕ) (n : ℕ) → min (length xs) (length ys) ≤ n → alike (drop n xs) (drop n ys) ≡ 0
 alike_end xs ys n le = elim (leb_tells (length xs) n) [
@@ -160,7 +153,7 @@ alike_end xs ys n le = elim (leb_tells (length xs) n) [
     none (z ∷ zs) = refl
 
 pub alike_ends : (xs ys : List ℕ) (n : ℕ) (x y : ℕ) → slice_get xs n ≡ Some x → slice_get ys n ≡ Some y → eqb x y ≡ false → alike (drop n xs) (drop n ys) ≡ 0
-alike_ends xs ys n x y here there other = rw (drop-at xs n x here, drop-at ys n y there, other) refl
+alike_ends xs ys n x y here there other = rw (drop_at xs n x here, drop_at ys n y there, other) refl
 
 -- ---- the lengths
 

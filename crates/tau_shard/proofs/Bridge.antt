@@ -8,35 +8,35 @@ use Rattle.tau_base.specs.declared.value.Mode.TheVariants.{Read, Write}
 use Rattle.tau_machine.specs.Shard.{Entry, Shard, entry_in, held_as, shard_locked}
 use Rattle.tau_machine.specs.State.{Setting}
 use Rattle.tau_machine.specs.Events.{Conflicts}
-use Rattle.tau_machine.proofs.At.{at-same, entry-same}
+use Rattle.tau_machine.proofs.At.{at_same, entry_same}
 use Rattle.tau_shard.specs.Blocks.{against, blocks}
 
-against-from : (m n : Mode) → (m ≡ Write) ⊎ (n ≡ Write) → against m (Some n) ≡ true
-against-from Read Read h = elim h [ inl e ↦ absurd (let bad : Read ≡ Write = e in cc) | inr e ↦ absurd (let bad : Read ≡ Write = e in cc) ]
-against-from Read Write h = refl
-against-from Write n h = refl
+against_from : (m n : Mode) → (m ≡ Write) ⊎ (n ≡ Write) → against m (Some n) ≡ true
+against_from Read Read h = elim h [ inl e ↦ absurd (let bad : Read ≡ Write = e in cc) | inr e ↦ absurd (let bad : Read ≡ Write = e in cc) ]
+against_from Read Write h = refl
+against_from Write n h = refl
 
-against-to : (m : Mode) (o : Option Mode) → against m o ≡ true → (n : Mode) × (o ≡ Some n) × ((m ≡ Write) ⊎ (n ≡ Write))
-against-to Read None h = absurd (let bad : false ≡ true = h in cc)
-against-to Write None h = absurd (let bad : false ≡ true = h in cc)
-against-to Read (Some Read) h = absurd (let bad : false ≡ true = h in cc)
-against-to Read (Some Write) h = (Write, refl, inr refl)
-against-to Write (Some n) h = (n, refl, inl refl)
+pub against_to : (m : Mode) (o : Option Mode) → against m o ≡ true → (n : Mode) × (o ≡ Some n) × ((m ≡ Write) ⊎ (n ≡ Write))
+against_to Read None h = absurd (let bad : false ≡ true = h in cc)
+against_to Write None h = absurd (let bad : false ≡ true = h in cc)
+against_to Read (Some Read) h = absurd (let bad : false ≡ true = h in cc)
+against_to Read (Some Write) h = (Write, refl, inr refl)
+against_to Write (Some n) h = (n, refl, inl refl)
 
 -- where the test finds nobody, there is no conflict
-pub no-conflict : (set : Setting) (sh : Shard) (w : ℕ) (x : Key) (m : Mode) → ((u : ℕ) → blocks (entry_in sh x) w m u ≡ false) → Conflicts set sh w x m → ⊥
-no-conflict set sh w x m free h =
-    both_ways (blocks (entry_in sh x) w m h.0) (free h.0) (rw (ne_eqb h.0 w h.2, h.3) (against-from m h.1 h.4))
+pub no_conflict : (set : Setting) (sh : Shard) (w : ℕ) (x : Key) (m : Mode) → ((u : ℕ) → blocks (entry_in sh x) w m u ≡ false) → Conflicts set sh w x m → ⊥
+no_conflict set sh w x m free h =
+    both_ways (blocks (entry_in sh x) w m h.0) (free h.0) (rw (ne_eqb h.0 w h.2, h.3) (against_from m h.1 h.4))
 
 -- and where it finds one, there is
-pub a-conflict : (set : Setting) (sh : Shard) (w : ℕ) (x : Key) (m : Mode) (u : ℕ) → blocks (entry_in sh x) w m u ≡ true → Conflicts set sh w x m
-a-conflict set sh w x m u h = elim (cases_eq u w) [
+pub a_conflict : (set : Setting) (sh : Shard) (w : ℕ) (x : Key) (m : Mode) (u : ℕ) → blocks (entry_in sh x) w m u ≡ true → Conflicts set sh w x m
+a_conflict set sh w x m u h = elim (cases_eq u w) [
   | inl is ↦ absurd (let bad : false ≡ true = rw (eq-eqb u w is) at h in cc)
   | inr ne ↦
-      let a = against-to m ((entry_in sh x).holders u) (rw (ne_eqb u w ne) at h) in
+      let a = against_to m ((entry_in sh x).holders u) (rw (ne_eqb u w ne) at h) in
       (u, a.0, ne, a.1, a.2)
 ]
 
 -- a locked key is held
-pub locked-held : (sh : Shard) (w : ℕ) (x : Key) (m : Mode) → (entry_in (shard_locked sh w x m) x).holders w ≡ Some m
-locked-held sh w x m = ap (λ (e : Entry). e.holders w) (entry-same sh x (held_as (entry_in sh x) w (Some m))) ∙ at-same w (Some m) (entry_in sh x).holders
+pub locked_held : (sh : Shard) (w : ℕ) (x : Key) (m : Mode) → (entry_in (shard_locked sh w x m) x).holders w ≡ Some m
+locked_held sh w x m = ap (λ (e : Entry). e.holders w) (entry_same sh x (held_as (entry_in sh x) w (Some m))) ∙ at_same w (Some m) (entry_in sh x).holders

@@ -14,12 +14,10 @@ use Rattle.tau_base.specs.declared.value.Value.TheVariants.{Absent, Int, Text}
 use Rattle.tau_base.specs.Database.{Db, same_key, db_of}
 use Rattle.tau_shard.specs.Read.{is_key}
 use Rattle.tau_shard.specs.Present.{is_present, present_rows}
-use Rattle.tau_shard.proofs.Drops.{key-laws}
-use Rattle.tau_shard.proofs.Puts.{is_key-same}
-use Rattle.tau_shard.proofs.Sweeps.{drop-next, drop-past}
-
-same_test : is_key ≡ same_key
-same_test = fun_ext (λ a. fun_ext (λ b. is_key-same a b))
+use Rattle.tau_shard.proofs.Drops.{key_laws}
+use Rattle.tau_shard.proofs.Puts.{is_key_same}
+use Rattle.tau_shard.proofs.Sweeps.{drop_next, drop_past}
+use Rattle.tau_model.proofs.Places.{same_test}
 
 module _ (rows : List (Key × Value)) (distinct : IsDistinct is_key (keys_of rows)) where
   kept : (o : Option Value) → unwrap_or (option_filter is_present o) Absent ≡ unwrap_or o Absent
@@ -28,28 +26,28 @@ module _ (rows : List (Key × Value)) (distinct : IsDistinct is_key (keys_of row
   kept (Some (Int n)) = refl
   kept (Some (Text t)) = refl
 
-  pub present-database : db_of (λ x. lookup (same_key x) (present_rows rows)) ≡ db_of (λ x. lookup (is_key x) rows)
-  present-database =
+  pub present_database : db_of (λ x. lookup (same_key x) (present_rows rows)) ≡ db_of (λ x. lookup (is_key x) rows)
+  present_database =
       subst (λ (t : Key → Key → Bool). ◌≡◌ {A = Db} (db_of (λ x. lookup (t x) (present_rows rows))) (db_of (λ x. lookup (is_key x) rows))) same_test
-      (fun_ext (λ x. ap (λ (o : Option Value). unwrap_or o Absent) (lookup-filter-values key-laws is_present x rows distinct) ∙ kept (lookup (is_key x) rows)))
+      (fun_ext (λ x. ap (λ (o : Option Value). unwrap_or o Absent) (lookup-filter-values key_laws is_present x rows distinct) ∙ kept (lookup (is_key x) rows)))
 
-  pub present-once : IsDistinct same_key (keys_of (present_rows rows))
-  present-once = subst (λ (t : Key → Key → Bool). IsDistinct t (keys_of (present_rows rows))) same_test (IsDistinct-keys_filter is_key (λ r. is_present r.1) rows distinct)
+  pub present_once : IsDistinct same_key (keys_of (present_rows rows))
+  present_once = subst (λ (t : Key → Key → Bool). IsDistinct t (keys_of (present_rows rows))) same_test (IsDistinct-keys_filter is_key (λ r. is_present r.1) rows distinct)
 
 -- one row after another
 module _ (rows : List (Key × Value)) (i : ℕ) where
-  pub row-in : (x : Key × Value) → slice_get rows i ≡ Some x → is_present x.1 ≡ true → present_rows (drop i rows) ≡ x ∷ present_rows (drop (i + 1) rows)
-  row-in x at is = ap present_rows (drop-next rows i x at) ∙ rw is refl
+  pub row_in : (x : Key × Value) → slice_get rows i ≡ Some x → is_present x.1 ≡ true → present_rows (drop i rows) ≡ x ∷ present_rows (drop (i + 1) rows)
+  row_in x at is = ap present_rows (drop_next rows i x at) ∙ rw is refl
 
-  pub row-out : (x : Key × Value) → slice_get rows i ≡ Some x → is_present x.1 ≡ false → present_rows (drop i rows) ≡ present_rows (drop (i + 1) rows)
-  row-out x at is = ap present_rows (drop-next rows i x at) ∙ rw is refl
+  pub row_out : (x : Key × Value) → slice_get rows i ≡ Some x → is_present x.1 ≡ false → present_rows (drop i rows) ≡ present_rows (drop (i + 1) rows)
+  row_out x at is = ap present_rows (drop_next rows i x at) ∙ rw is refl
 
-  pub row-past : slice_get rows i ≡ None → present_rows (drop i rows) ≡ present_rows (drop (i + 1) rows)
-  row-past at = ap present_rows (drop-past rows i at)
+  pub row_past : slice_get rows i ≡ None → present_rows (drop i rows) ≡ present_rows (drop (i + 1) rows)
+  row_past at = ap present_rows (drop_past rows i at)
 
 -- a list that grows keeps its first part
-pub take-more : {A : Type 0} (old xs ys : List A) → take (length old) xs ≡ old → take (length old) (xs ++ ys) ≡ old
-take-more old xs ys h =
+pub take_more : {A : Type 0} (old xs ys : List A) → take (length old) xs ≡ old → take (length old) (xs ++ ys) ≡ old
+take_more old xs ys h =
     let l = length-take (length old) xs in
     let e : length (take (length old) xs) ≡ length old = ap length h in
     take-append-le (length old) xs ys (omega (arith, l, e)) ∙ h

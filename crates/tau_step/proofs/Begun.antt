@@ -20,46 +20,46 @@ use Rattle.tau_step.specs.RunTold.{AreNew, Began, Ran, RanFrom, RanNew}
 use Rattle.tau_step.specs.Whole.{IsBegun}
 
 module _ {D : Type 0} {G : Ghosts D} (m : ℕ) (mode : LogMode) (load : Workload) (ws ws' : List (Writer D G)) (hears : Type 0) (held held' : List ℕ) (sink_rose : Type 0) where
-  began-by : (ran : Result RunEnd NoMemory → Type 0) (r : Result RunEnd NoMemory) → ran r → Began m mode load ws ws' hears held held' sink_rose ran r
-  began-by ran (Ok end) q = q
-  began-by ran (Err e) q = inl q
+  began_by : (ran : Result RunEnd NoMemory → Type 0) (r : Result RunEnd NoMemory) → ran r → Began m mode load ws ws' hears held held' sink_rose ran r
+  began_by ran (Ok end) q = q
+  began_by ran (Err e) q = inl q
 
   -- on new streams
   module _ (p : Plain) (q : OpenedFresh load.declarations.procs load.calls mode m (length ws) (catalogue_size (declarations_text load.declarations)) p) where
-    pub fresh-opened : Opened p.load p
-    fresh-opened = subst (λ (l : Load). Opened l p) (sym q.2.load) q.2
+    pub fresh_opened : Opened p.load p
+    fresh_opened = subst (λ (l : Load). Opened l p) (sym q.2.load) q.2
 
-    ends-long : length q.0.ends ≡ length ws
-    ends-long = ap (length {A = ℕ}) q.1.ends ∙ length-replicate (length ws) (length (catalogue_of load))
+    ends_long : length q.0.ends ≡ length ws
+    ends_long = ap (length {A = ℕ}) q.1.ends ∙ length-replicate (length ws) (length (catalogue_of load))
 
-    pub fresh-load : IsLoadOf (length ws) m mode load p.load
-    fresh-load = subst (λ (l : Load). IsLoadOf (length ws) m mode load l) (sym q.2.load) (record {
+    pub fresh_load : IsLoadOf (length ws) m mode load p.load
+    fresh_load = subst (λ (l : Load). IsLoadOf (length ws) m mode load l) (sym q.2.load) (record {
       procs = refl;
       calls = refl;
       mode_is = refl;
       workers = refl;
-      streams = ends-long;
+      streams = ends_long;
       rows = q.1.rows;
       floor = q.1.floor;
       ends = q.1.ends;
       anchors = q.1.anchors;
     })
 
-    pub fresh-begun : AreNew (λ j. catalogue_of load) ws → IsBegun (λ j. catalogue_of load) ws p.load.opening
-    fresh-begun new = subst (λ (l : Load). IsBegun (λ j. catalogue_of load) ws l.opening) (sym q.2.load) (record {
-      count = sym ends-long;
-      long = λ j lt. sym (ap (λ (v : List ℕ). slice_index v j) q.1.ends ∙ get_or-replicate (length ws) j (length (catalogue_of load)) 0 (let e = ends-long in omega arith));
+    pub fresh_begun : AreNew (λ j. catalogue_of load) ws → IsBegun (λ j. catalogue_of load) ws p.load.opening
+    fresh_begun new = subst (λ (l : Load). IsBegun (λ j. catalogue_of load) ws l.opening) (sym q.2.load) (record {
+      count = sym ends_long;
+      long = λ j lt. sym (ap (λ (v : List ℕ). slice_index v j) q.1.ends ∙ get_or-replicate (length ws) j (length (catalogue_of load)) 0 (let e = ends_long in omega arith));
       new = new;
     })
 
-    pub ran-new : (r : Result RunEnd NoMemory) → Ran (turns_of load) (λ j. catalogue_of load) p ws ws' hears held held' sink_rose r → Began m mode load ws ws' hears held held' sink_rose (RanNew m mode load ws ws' hears held held' sink_rose) r
-    ran-new r ran = began-by (RanNew m mode load ws ws' hears held held' sink_rose) r (record { first = p; load_is = fresh-load; opened = fresh-opened; ran = ran })
+    pub ran_new : (r : Result RunEnd NoMemory) → Ran (turns_of load) (λ j. catalogue_of load) p ws ws' hears held held' sink_rose r → Began m mode load ws ws' hears held held' sink_rose (RanNew m mode load ws ws' hears held held' sink_rose) r
+    ran_new r ran = began_by (RanNew m mode load ws ws' hears held held' sink_rose) r (record { first = p; load_is = fresh_load; opened = fresh_opened; ran = ran })
 
   -- from a given state
   module _ (o : Opening) (p : Plain) (q : Opened (load_of load.declarations.procs load.calls mode m o) p) where
-    pub given-begun : (bases : ℕ → List ℕ) → IsBegun bases ws o → IsBegun bases ws p.load.opening
-    given-begun bases b = subst (λ (l : Load). IsBegun bases ws l.opening) (sym q.load) b
+    pub given_begun : (bases : ℕ → List ℕ) → IsBegun bases ws o → IsBegun bases ws p.load.opening
+    given_begun bases b = subst (λ (l : Load). IsBegun bases ws l.opening) (sym q.load) b
 
-    pub ran-from : (bases : ℕ → List ℕ) (r : Result RunEnd NoMemory) → Ran (turns_of load) bases p ws ws' hears held held' sink_rose r →
+    pub ran_from : (bases : ℕ → List ℕ) (r : Result RunEnd NoMemory) → Ran (turns_of load) bases p ws ws' hears held held' sink_rose r →
         Began m mode load ws ws' hears held held' sink_rose (RanFrom m mode load ws ws' hears held held' sink_rose o bases) r
-    ran-from bases r ran = began-by (RanFrom m mode load ws ws' hears held held' sink_rose o bases) r (record { first = p; load_is = q.load; opened = subst (λ (l : Load). Opened l p) (sym q.load) q; ran = ran })
+    ran_from bases r ran = began_by (RanFrom m mode load ws ws' hears held held' sink_rose o bases) r (record { first = p; load_is = q.load; opened = subst (λ (l : Load). Opened l p) (sym q.load) q; ran = ran })

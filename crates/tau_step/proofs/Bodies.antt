@@ -16,47 +16,43 @@ use Rattle.tau_core.specs.State.{Plain}
 use Rattle.tau_core.specs.View.{Hidden}
 use Rattle.tau_core.specs.Stands.{Stands, anchors_at}
 use Rattle.tau_core.specs.Pieces.{AreBytesOf, Spelled}
-
-copies : (m k : ℕ) (base : List ℕ) → k < m → base_of (replicate m base) k ≡ base
-copies zero k base lt = absurd (omega arith)
-copies (suc m) zero base lt = refl
-copies (suc m) (suc k) base lt = copies m k base (omega arith)
+use Rattle.tau_core.proofs.Sizes.{named_copies}
 
 module _ (l : Load) (anchors : ℕ → List (List ℕ)) where
   -- a record has at least five bytes
   pub five : (i : Item) (bytes : List ℕ) → AreBytesOf l anchors i bytes → 5 ≤ length bytes
   five (Record t) bytes q =
       let vectors : List (List ℕ) = replicate (suc t.call.anchor) q.base in
-      let s = q.spelled vectors (copies (suc t.call.anchor) t.call.anchor q.base (omega arith)) in
+      let s = q.spelled vectors (named_copies (suc t.call.anchor) t.call.anchor q.base (omega arith)) in
       subst (λ (b : List ℕ). 5 ≤ length b) (sym s.text) (spelling_long One vectors (entry_of l.mode t))
   five (Anchor start past v) bytes q =
       let s = q [] in
       subst (λ (b : List ℕ). 5 ≤ length b) (sym s.text) (spelling_long One [] (entry.Anchor v))
 
   -- the bytes of a chain of items are as long as it is
-  pub spelled-long : (from to : ℕ) (items : List Item) (bytes : List ℕ) → Chain from items to → Spelled l anchors items bytes → from + length bytes ≡ to
-  spelled-long from to [] bytes c s = (let e = ap (length {A = ℕ}) s in let f : from ≡ to = c in omega arith)
-  spelled-long from to (i ∷ is) bytes c s =
+  pub spelled_long : (from to : ℕ) (items : List Item) (bytes : List ℕ) → Chain from items to → Spelled l anchors items bytes → from + length bytes ≡ to
+  spelled_long from to [] bytes c s = (let e = ap (length {A = ℕ}) s in let f : from ≡ to = c in omega arith)
+  spelled_long from to (i ∷ is) bytes c s =
       let (first, rest, whole, size, mine, more) = s in
-      let up = spelled-long (past_of i) to is rest c.2 more in
+      let up = spelled_long (past_of i) to is rest c.2 more in
       let start = c.0 in
       let sum : length bytes ≡ length first + length rest = ap (length {A = ℕ}) whole ∙ length-append first rest in
       omega arith
 
   -- what stands after whole records has none or a record
-  pub behind-whole : (is js : List Item) (b c : List ℕ) → Spelled l anchors is b → Spelled l anchors (is ++ js) (b ++ c) → (c ≡ []) ⊎ (5 ≤ length c)
-  behind-whole [] [] b c p q = inl (subst (λ (x : List ℕ). x ++ c ≡ []) p q)
-  behind-whole [] (k ∷ ks) b c p q =
+  pub behind_whole : (is js : List Item) (b c : List ℕ) → Spelled l anchors is b → Spelled l anchors (is ++ js) (b ++ c) → (c ≡ []) ⊎ (5 ≤ length c)
+  behind_whole [] [] b c p q = inl (subst (λ (x : List ℕ). x ++ c ≡ []) p q)
+  behind_whole [] (k ∷ ks) b c p q =
       let (first, rest, whole, size, mine, more) = q in
       let is : c ≡ first ++ rest = ap (λ (x : List ℕ). x ++ c) (sym p) ∙ whole in
       inr (let low = five k first mine in let e = ap (length {A = ℕ}) is ∙ length-append first rest in omega arith)
-  behind-whole (i ∷ is) js b c p q =
+  behind_whole (i ∷ is) js b c p q =
       let (first, rest, whole, size, mine, more) = p in
       let (first', rest', whole', size', mine', more') = q in
       let same : first ++ (rest ++ c) ≡ first' ++ rest' = sym (append_assoc first rest c) ∙ ap (λ (x : List ℕ). x ++ c) (sym whole) ∙ whole' in
       let long : length first ≡ length first' = omega arith in
       let parts = split first first' (rest ++ c) rest' long same in
-      behind-whole is js rest c more (subst (λ (x : List ℕ). Spelled l anchors (is ++ js) x) (sym parts) more')
+      behind_whole is js rest c more (subst (λ (x : List ℕ). Spelled l anchors (is ++ js) x) (sym parts) more')
     where
       split : (a b x y : List ℕ) → length a ≡ length b → a ++ x ≡ b ++ y → x ≡ y
       split [] [] x y e f = f
@@ -70,8 +66,8 @@ module _ (l : Load) (anchors : ℕ → List (List ℕ)) where
 
 module _ (p : Plain) (K : List (Act Txn)) (h : Hidden) (g : Stands p K h) (j : ℕ) (there : j < p.load.streams) where
   -- what was handed out and what is here reach to where the stream is gathered
-  pub body-long : (s : PlainStream) → slice_get p.streams j ≡ Some s → slice_index p.load.opening.ends j + (length (h.taken j) + length s.body) ≡ slice_index p.gathered j
-  body-long s is =
+  pub body_long : (s : PlainStream) → slice_get p.streams j ≡ Some s → slice_index p.load.opening.ends j + (length (h.taken j) + length s.body) ≡ slice_index p.gathered j
+  body_long s is =
       let o = g.inv.agrees.pieces.stream j there in
       ap (λ (n : ℕ). slice_index p.load.opening.ends j + n) (sym (length-append (h.taken j) s.body))
-      ∙ spelled-long p.load (anchors_at p) (slice_index p.load.opening.ends j) (slice_index p.gathered j) (h.moved j) (h.taken j ++ s.body) o.moved (g.gathered j s is)
+      ∙ spelled_long p.load (anchors_at p) (slice_index p.load.opening.ends j) (slice_index p.gathered j) (h.moved j) (h.taken j ++ s.body) o.moved (g.gathered j s is)

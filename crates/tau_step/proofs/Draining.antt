@@ -13,64 +13,64 @@ use Rattle.tau_step.specs.declared.run.Run.{Run}
 use Rattle.tau_step.specs.RunEffects.{IsOn, Manages, Moves}
 use Rattle.tau_step.specs.Progressed.{progress}
 use Rattle.tau_step.specs.Rounding.{managed_by, flushed_by, idled, idles_on, idled_below, all_idled, clerked, drained}
-use Rattle.tau_step.proofs.RunSteps.{kept-after, went-on}
+use Rattle.tau_step.proofs.RunSteps.{kept_after, went_on}
 use Rattle.tau_step.specs.Device.{noting}
-use Rattle.tau_step.proofs.Silent.{false-not}
-use Rattle.tau_step.proofs.EffectsInTurn.{manages-on, manages-as, manages-none, manages-moves, moves-on, moves-as}
-use Rattle.tau_step.proofs.OneByOne.{one-more, one-cut, below-split}
+use Rattle.tau_step.proofs.Silent.{false_not}
+use Rattle.tau_step.proofs.EffectsInTurn.{manages_on, manages_as, manages_none, manages_moves, moves_on, moves_as}
+use Rattle.tau_step.proofs.OneByOne.{one_more, one_cut, below_split}
 
 abbrev pub idles_so : ℕ → Bool → Load → Progress → Progress → Type 0
 idles_so j whole l P P' = idles_on j l P P'
 
 module _ {D : Type 0} {G : Ghosts D} (seen_now : (d : D) → G.tells → G.may_leave d (G.seen d)) where
   -- one turn
-  pub flushed-as : (j : ℕ) (old new : Run) (ws ws' : List (Writer D G)) → Manages (managed_by j (Ok did.Flushed)) true old new ws ws' → Manages (flushed_by j (Ok true)) true old new ws ws'
-  flushed-as j old new ws ws' x = manages-as seen_now (managed_by j (Ok did.Flushed)) (flushed_by j (Ok true)) true old new ws ws' (λ l P P' q. q.1) x
+  pub flushed_as : (j : ℕ) (old new : Run) (ws ws' : List (Writer D G)) → Manages (managed_by j (Ok did.Flushed)) true old new ws ws' → Manages (flushed_by j (Ok true)) true old new ws ws'
+  flushed_as j old new ws ws' x = manages_as seen_now (managed_by j (Ok did.Flushed)) (flushed_by j (Ok true)) true old new ws ws' (λ l P P' q. q.1) x
 
-  pub idle-as : (j : ℕ) (old new : Run) (ws ws' : List (Writer D G)) → Manages (managed_by j (Ok did.Idle)) true old new ws ws' → Manages (flushed_by j (Ok false)) true old new ws ws'
-  idle-as j old new ws ws' x = manages-as seen_now (managed_by j (Ok did.Idle)) (flushed_by j (Ok false)) true old new ws ws' (λ l P P' q. q.1) x
+  pub idle_as : (j : ℕ) (old new : Run) (ws ws' : List (Writer D G)) → Manages (managed_by j (Ok did.Idle)) true old new ws ws' → Manages (flushed_by j (Ok false)) true old new ws ws'
+  idle_as j old new ws ws' x = manages_as seen_now (managed_by j (Ok did.Idle)) (flushed_by j (Ok false)) true old new ws ws' (λ l P P' q. q.1) x
 
-  pub failed-as : (j : ℕ) (old new : Run) (ws ws' : List (Writer D G)) → Manages (managed_by j (Ok did.Failed)) true old new ws ws' → Manages (flushed_by j (Ok false)) true old new ws ws'
-  failed-as j old new ws ws' x = manages-as seen_now (managed_by j (Ok did.Failed)) (flushed_by j (Ok false)) true old new ws ws' (λ l P P' q. q.1) x
+  pub failed_as : (j : ℕ) (old new : Run) (ws ws' : List (Writer D G)) → Manages (managed_by j (Ok did.Failed)) true old new ws ws' → Manages (flushed_by j (Ok false)) true old new ws ws'
+  failed_as j old new ws ws' x = manages_as seen_now (managed_by j (Ok did.Failed)) (flushed_by j (Ok false)) true old new ws ws' (λ l P P' q. q.1) x
 
-  pub short-as : (j : ℕ) (e : NoMemory) (old new : Run) (ws ws' : List (Writer D G)) → Manages (managed_by j (Err e)) false old new ws ws' → Manages (flushed_by j (Err e)) false old new ws ws'
-  short-as j e old new ws ws' x = manages-as seen_now (managed_by j (Err e)) (flushed_by j (Err e)) false old new ws ws' (λ l P P' q. Idled.cut q) x
+  pub short_as : (j : ℕ) (e : NoMemory) (old new : Run) (ws ws' : List (Writer D G)) → Manages (managed_by j (Err e)) false old new ws ws' → Manages (flushed_by j (Err e)) false old new ws ws'
+  short_as j e old new ws ws' x = manages_as seen_now (managed_by j (Err e)) (flushed_by j (Err e)) false old new ws ws' (λ l P P' q. Idled.cut q) x
 
   -- turns of one manager
-  pub idles-none : (j : ℕ) (run : Run) (ws : List (Writer D G)) → IsOn ws run → Manages (idles_so j) true run run ws ws
-  idles-none j run ws on = manages-none seen_now (idles_so j) run ws on (λ P whole R r. r)
+  pub idles_none : (j : ℕ) (run : Run) (ws : List (Writer D G)) → IsOn ws run → Manages (idles_so j) true run run ws ws
+  idles_none j run ws on = manages_none seen_now (idles_so j) run ws on (λ P whole R r. r)
 
   module _ (j : ℕ) (old mid new : Run) (ws ms ws' : List (Writer D G)) (x : Manages (idles_so j) true old mid ws ms) where
-    pub idles-more : Manages (flushed_by j (Ok true)) true mid new ms ws' → Manages (idles_so j) true old new ws ws'
-    idles-more y = manages-on seen_now (idles_so j) (flushed_by j (Ok true)) (idles_so j) true old mid new ws ms ws' (λ l P Q P' p q whole R r. p whole R (q whole R r)) x y
+    pub idles_more : Manages (flushed_by j (Ok true)) true mid new ms ws' → Manages (idles_so j) true old new ws ws'
+    idles_more y = manages_on seen_now (idles_so j) (flushed_by j (Ok true)) (idles_so j) true old mid new ws ms ws' (λ l P Q P' p q whole R r. p whole R (q whole R r)) x y
 
-    pub idles-end : Manages (flushed_by j (Ok false)) true mid new ms ws' → Manages (idled j) true old new ws ws'
-    idles-end y = manages-on seen_now (idles_so j) (flushed_by j (Ok false)) (idled j) true old mid new ws ms ws' (λ l P Q P' p q. p true P' q) x y
+    pub idles_end : Manages (flushed_by j (Ok false)) true mid new ms ws' → Manages (idled j) true old new ws ws'
+    idles_end y = manages_on seen_now (idles_so j) (flushed_by j (Ok false)) (idled j) true old mid new ws ms ws' (λ l P Q P' p q. p true P' q) x y
 
-    pub idles-cut : (e : NoMemory) → Manages (flushed_by j (Err e)) false mid new ms ws' → Manages (idled j) false old new ws ws'
-    idles-cut e y = manages-on seen_now (idles_so j) (flushed_by j (Err e)) (idled j) false old mid new ws ms ws' (λ l P Q P' p q. p false P' q) x y
+    pub idles_cut : (e : NoMemory) → Manages (flushed_by j (Err e)) false mid new ms ws' → Manages (idled j) false old new ws ws'
+    idles_cut e y = manages_on seen_now (idles_so j) (flushed_by j (Err e)) (idled j) false old mid new ws ms ws' (λ l P Q P' p q. p false P' q) x y
 
   -- one manager after another
-  pub drains-none : (run : Run) (ws : List (Writer D G)) → IsOn ws run → Manages (idled_below 0) true run run ws ws
-  drains-none run ws on = manages-none seen_now (idled_below 0) run ws on (λ P. refl)
+  pub drains_none : (run : Run) (ws : List (Writer D G)) → IsOn ws run → Manages (idled_below 0) true run run ws ws
+  drains_none run ws on = manages_none seen_now (idled_below 0) run ws on (λ P. refl)
 
-  pub drains-more : (i : ℕ) (old mid new : Run) (ws ms ws' : List (Writer D G)) → Manages (idled_below i) true old mid ws ms → Manages (idled i) true mid new ms ws' → Manages (idled_below (i + 1)) true old new ws ws'
-  drains-more i old mid new ws ms ws' x y = manages-on seen_now (idled_below i) (idled i) (idled_below (i + 1)) true old mid new ws ms ws'
+  pub drains_more : (i : ℕ) (old mid new : Run) (ws ms ws' : List (Writer D G)) → Manages (idled_below i) true old mid ws ms → Manages (idled i) true mid new ms ws' → Manages (idled_below (i + 1)) true old new ws ws'
+  drains_more i old mid new ws ms ws' x y = manages_on seen_now (idled_below i) (idled i) (idled_below (i + 1)) true old mid new ws ms ws'
       (λ l P Q P' p q. let next : suc i ≡ i + 1 = omega arith in subst (λ (k : ℕ). idled_below k true l P P') next
-      (one-more (setting_of l) l.workers l.streams (λ b j. Idled (setting_of l) l.workers l.streams j b) (below i) i P Q P' p q)) x y
+      (one_more (setting_of l) l.workers l.streams (λ b j. Idled (setting_of l) l.workers l.streams j b) (below i) i P Q P' p q)) x y
 
-  pub drains-cut : (i : ℕ) (old mid new : Run) (ws ms ws' : List (Writer D G)) → i < old.core.load.streams → Manages (idled_below i) true old mid ws ms → Manages (idled i) false mid new ms ws' → Manages all_idled false old new ws ws'
-  drains-cut i old mid new ws ms ws' lt x y = record {
+  pub drains_cut : (i : ℕ) (old mid new : Run) (ws ms ws' : List (Writer D G)) → i < old.core.load.streams → Manages (idled_below i) true old mid ws ms → Manages (idled i) false mid new ms ws' → Manages all_idled false old new ws ws'
+  drains_cut i old mid new ws ms ws' lt x y = record {
     went = λ bases K h es told g k. (let a = x.went bases K h es told g k in
-        let b = y.went bases a.order a.hidden a.events told a.stands (kept-after seen_now bases (noting old.flushes mid.flushes (idled_below i)) old.core mid.core ws ms told told K h es k a) in
-        let whole = went-on seen_now bases (noting old.flushes mid.flushes (idled_below i)) (noting mid.flushes new.flushes (idled i)) cut_at false old.core mid.core new.core ws ms ws' told told told K h es (λ l P Q P' p q. (Q, p.0, q.0)) a b in
+        let b = y.went bases a.order a.hidden a.events told a.stands (kept_after seen_now bases (noting old.flushes mid.flushes (idled_below i)) old.core mid.core ws ms told told K h es k a) in
+        let whole = went_on seen_now bases (noting old.flushes mid.flushes (idled_below i)) (noting mid.flushes new.flushes (idled i)) cut_at false old.core mid.core new.core ws ms ws' told told told K h es (λ l P Q P' p q. (Q, p.0, q.0)) a b in
         record {
           hidden = whole.hidden;
           order = whole.order;
           events = whole.events;
           stands = whole.stands;
           load = whole.load;
-          moved = (join old.core.load lt (progress old.core h es K told) (progress new.core whole.hidden whole.events whole.order told) whole.moved, λ e. false-not e);
+          moved = (join old.core.load lt (progress old.core h es K told) (progress new.core whole.hidden whole.events whole.order told) whole.moved, λ e. false_not e);
           grown = whole.grown;
           count = whole.count;
           kept = whole.kept;
@@ -86,12 +86,12 @@ module _ {D : Type 0} {G : Ghosts D} (seen_now : (d : D) → G.tells → G.may_l
 
       join : (l : Load) → i < l.streams → (P P' : Progress) → cut_at false l P P' → all_idled false l P P'
       join l low P P' (Q, p, q) =
-          let split = below-split i l.streams low in
+          let split = below_split i l.streams low in
           subst (λ (is : List ℕ). OneByOne (setting_of l) l.workers l.streams (λ b j. Idled (setting_of l) l.workers l.streams j b) false is P P') (sym split.1)
-          (one-cut (setting_of l) l.workers l.streams (λ b j. Idled (setting_of l) l.workers l.streams j b) (below i) i split.0 P Q P' p q)
+          (one_cut (setting_of l) l.workers l.streams (λ b j. Idled (setting_of l) l.workers l.streams j b) (below i) i split.0 P Q P' p q)
 
-  pub drains-all : (i : ℕ) (old new : Run) (ws ws' : List (Writer D G)) → i ≡ old.core.load.streams → Manages (idled_below i) true old new ws ws' → Manages all_idled true old new ws ws'
-  drains-all i old new ws ws' e x = record {
+  pub drains_all : (i : ℕ) (old new : Run) (ws ws' : List (Writer D G)) → i ≡ old.core.load.streams → Manages (idled_below i) true old new ws ws' → Manages all_idled true old new ws ws'
+  drains_all i old new ws ws' e x = record {
     went = λ bases K h es told g k. (let a = x.went bases K h es told g k in
         record {
           hidden = a.hidden;
@@ -111,11 +111,11 @@ module _ {D : Type 0} {G : Ghosts D} (seen_now : (d : D) → G.tells → G.may_l
   }
 
   module _ (hears : Type 0) where
-    pub drain-whole : (whole : Bool) (old mid new : Run) (ws ms : List (Writer D G)) (held held' : List ℕ) (faults faults' : ℕ) → Manages all_idled true old mid ws ms → Moves clerked whole mid new ms ms hears held held' faults faults' → Moves drained whole old new ws ms hears held held' faults faults'
-    drain-whole true old mid new ws ms held held' faults faults' x y =
-        moves-on seen_now hears all_idled clerked drained true old mid new ws ms ms held held held' faults faults faults' (λ l P Q P' p q. (Q, p, q)) (manages-moves seen_now hears all_idled true old mid ws ms held faults x) y
-    drain-whole false old mid new ws ms held held' faults faults' x y =
-        moves-on seen_now hears all_idled clerked drained false old mid new ws ms ms held held held' faults faults faults' (λ l P Q P' p q. inr (Q, p, q)) (manages-moves seen_now hears all_idled true old mid ws ms held faults x) y
+    pub drain_whole : (whole : Bool) (old mid new : Run) (ws ms : List (Writer D G)) (held held' : List ℕ) (faults faults' : ℕ) → Manages all_idled true old mid ws ms → Moves clerked whole mid new ms ms hears held held' faults faults' → Moves drained whole old new ws ms hears held held' faults faults'
+    drain_whole true old mid new ws ms held held' faults faults' x y =
+        moves_on seen_now hears all_idled clerked drained true old mid new ws ms ms held held held' faults faults faults' (λ l P Q P' p q. (Q, p, q)) (manages_moves seen_now hears all_idled true old mid ws ms held faults x) y
+    drain_whole false old mid new ws ms held held' faults faults' x y =
+        moves_on seen_now hears all_idled clerked drained false old mid new ws ms ms held held held' faults faults faults' (λ l P Q P' p q. inr (Q, p, q)) (manages_moves seen_now hears all_idled true old mid ws ms held faults x) y
 
-    pub drain-managers : (old new : Run) (ws ws' : List (Writer D G)) (held : List ℕ) (faults : ℕ) → Manages all_idled false old new ws ws' → Moves drained false old new ws ws' hears held held faults faults
-    drain-managers old new ws ws' held faults x = moves-as seen_now hears all_idled drained false old new ws ws' held held faults faults (λ l P P' p. inl p) (manages-moves seen_now hears all_idled false old new ws ws' held faults x)
+    pub drain_managers : (old new : Run) (ws ws' : List (Writer D G)) (held : List ℕ) (faults : ℕ) → Manages all_idled false old new ws ws' → Moves drained false old new ws ws' hears held held faults faults
+    drain_managers old new ws ws' held faults x = moves_as seen_now hears all_idled drained false old new ws ws' held held faults faults (λ l P P' p. inl p) (manages_moves seen_now hears all_idled false old new ws ws' held faults x)

@@ -42,22 +42,24 @@ use Rattle.tau_step.specs.RunTold.{AreNew, EachOf, Left, Ended, CutShort, Ran, I
 use Rattle.tau_step.specs.Telling.{Heard}
 use Rattle.tau_step.specs.Rounding.{ran_all}
 use Rattle.tau_step.specs.Whole.{IsBegun}
-use Rattle.tau_step.proofs.Fates.{at-member, number-is, of-map}
-use Rattle.tau_step.proofs.Kept.{kept-leaving}
-use Rattle.tau_step.proofs.EffectsInTurn.{lowest-same}
-use Rattle.tau_step.proofs.RunEnds.{IsBeyond, AreShort, whole-over}
-use Rattle.tau_step.proofs.Short.{are-short}
-use Rattle.tau_step.proofs.Whole.{all-whole, all-part, whole-part}
+use Rattle.tau_step.proofs.Fates.{at_member, number_is}
+use Rattle.tau_step.proofs.Kept.{kept_leaving}
+use Rattle.tau_step.proofs.EffectsInTurn.{lowest_same}
+use Rattle.tau_step.proofs.RunEnds.{IsBeyond, AreShort, whole_over}
+use Rattle.tau_step.proofs.Short.{are_short}
+use Rattle.tau_step.proofs.Whole.{all_whole, all_part, whole_part}
+use Rattle.tau_replay.proofs.Lists.{member_map}
+use Rattle.tau_machine.proofs.Lists.{member_of}
 
 -- ---- how it begins
 
 module _ {D : Type 0} {G : Ghosts D} (bases : ℕ → List ℕ) (ws : List (Writer D G)) (p : Plain) (o : Opened p.load p) (b : IsBegun bases ws p.load.opening) where
-  pub count-is : length ws ≡ p.load.streams
-  count-is = b.count ∙ o.opening.count
+  pub count_is : length ws ≡ p.load.streams
+  count_is = b.count ∙ o.opening.count
 
-  pub begun-kept : AreKept bases ws p nothing
-  begun-kept = record {
-    count = count-is;
+  pub begun_kept : AreKept bases ws p nothing
+  begun_kept = record {
+    count = count_is;
     long = λ j lt. b.long j (let e = o.opening.count in omega arith);
     each = λ j w e. (let n = b.new j w e in
         let lt = slice_get_within ws j w e in
@@ -68,71 +70,66 @@ module _ {D : Type 0} {G : Ghosts D} (bases : ℕ → List ℕ) (ws : List (Writ
           durable = n.durable ∙ b.long j (let e = b.count in omega arith) ∙ ap (λ (v : List ℕ). slice_index v j) (sym o.opening.plv);
           left = n.left;
           spelled = refl;
-          ready = λ tells. subst (λ (bytes : List ℕ). IsReady p.load.streams j w bytes) (sym (append-nil (bases j))) (subst (λ (n : ℕ). IsReady n j w (bases j)) count-is (n.ready tells));
+          ready = λ tells. subst (λ (bytes : List ℕ). IsReady p.load.streams j w bytes) (sym (append-nil (bases j))) (subst (λ (n : ℕ). IsReady n j w (bases j)) count_is (n.ready tells));
         }));
   }
 
-  pub begun-along : IsAlong ws p None
-  begun-along = record { bases = bases; order = []; hidden = nothing; stands = o.stands; kept = begun-kept; lowest = λ j lt. o.opening.stops j }
+  pub begun_along : IsAlong ws p None
+  begun_along = record { bases = bases; order = []; hidden = nothing; stands = o.stands; kept = begun_kept; lowest = λ j lt. o.opening.stops j }
 
 -- ---- what lies beyond the workers
 
-no-seat : (p : Plain) (K : List (Act Txn)) (h : Hidden) → Stands p K h → (w : ℕ) → p.load.workers ≤ w → slice_get p.seats w ≡ None
-no-seat p K h g w le = slice_get_past p.seats w (let e = g.sound.seats in omega arith)
+no_seat : (p : Plain) (K : List (Act Txn)) (h : Hidden) → Stands p K h → (w : ℕ) → p.load.workers ≤ w → slice_get p.seats w ≡ None
+no_seat p K h g w le = slice_get_past p.seats w (let e = g.sound.seats in omega arith)
 
 beyond : (p : Plain) (K : List (Act Txn)) (h : Hidden) → Stands p K h → IsBeyond (setting_of p.load) p.load.workers p.load.streams (core_of p h)
 beyond p K h g = record {
-  hands = λ w le. ap (λ (o : Option PlainSeat). (worker_in p.load o (committed_by p.load.workers w p.committed)).hand) (no-seat p K h g w le);
-  waiting = λ w le. ap (λ (o : Option PlainSeat). (worker_in p.load o (committed_by p.load.workers w p.committed)).waiting) (no-seat p K h g w le);
-  left = λ w le. ap (λ (o : Option PlainSeat). (worker_in p.load o (committed_by p.load.workers w p.committed)).left) (no-seat p K h g w le);
-  pending = λ w le. ap pending_in (no-seat p K h g w le);
+  hands = λ w le. ap (λ (o : Option PlainSeat). (worker_in p.load o (committed_by p.load.workers w p.committed)).hand) (no_seat p K h g w le);
+  waiting = λ w le. ap (λ (o : Option PlainSeat). (worker_in p.load o (committed_by p.load.workers w p.committed)).waiting) (no_seat p K h g w le);
+  left = λ w le. ap (λ (o : Option PlainSeat). (worker_in p.load o (committed_by p.load.workers w p.committed)).left) (no_seat p K h g w le);
+  pending = λ w le. ap pending_in (no_seat p K h g w le);
 }
 
-over-at : (p : Plain) (K : List (Act Txn)) (h : Hidden) → Stands p K h → (turns : List Turn) (opening : Core) (P : Progress) → P.state ≡ core_of p h → IsWholeRun (setting_of p.load) p.load.workers p.load.streams turns opening P → IsOver p.load.streams (core_of p h)
-over-at p K h g turns opening P e r =
+over_at : (p : Plain) (K : List (Act Txn)) (h : Hidden) → Stands p K h → (turns : List Turn) (opening : Core) (P : Progress) → P.state ≡ core_of p h → IsWholeRun (setting_of p.load) p.load.workers p.load.streams turns opening P → IsOver p.load.streams (core_of p h)
+over_at p K h g turns opening P e r =
     subst (λ (s : Core). IsOver p.load.streams s) e
-    (whole-over (setting_of p.load) p.load.workers p.load.streams turns opening K P (subst (λ (s : Core). Invariant (setting_of p.load) K s) (sym e) g.inv) refl
+    (whole_over (setting_of p.load) p.load.workers p.load.streams turns opening K P (subst (λ (s : Core). Invariant (setting_of p.load) K s) (sym e) g.inv) refl
     (λ k. mod-lt (k - 1) (let low = g.sound.workers_low in omega arith))
     (subst (λ (s : Core). IsBeyond (setting_of p.load) p.load.workers p.load.streams s) (sym e) (beyond p K h g))
-    (subst (λ (s : Core). AreShort (setting_of p.load) p.load.workers p.load.streams s) (sym e) (are-short p K h g)) r)
+    (subst (λ (s : Core). AreShort (setting_of p.load) p.load.workers p.load.streams s) (sym e) (are_short p K h g)) r)
 
 -- ---- the numbers of the calls that are told
 
-if-member : {A : Type 0} (b : Bool) (x a : A) (ys : List A) → b ≡ true → x ≡ a → Member a (if b then x ∷ ys else ys)
-if-member true x a ys t e = inl e
-if-member false x a ys t e = absurd (let bad : false ≡ true = t in cc)
+pub if_member : {A : Type 0} (b : Bool) (x a : A) (ys : List A) → b ≡ true → x ≡ a → Member a (if b then x ∷ ys else ys)
+if_member true x a ys t e = inl e
+if_member false x a ys t e = absurd (let bad : false ≡ true = t in cc)
 
-if-behind : {A : Type 0} (b : Bool) (x a : A) (ys : List A) → Member a ys → Member a (if b then x ∷ ys else ys)
-if-behind true x a ys m = inr m
-if-behind false x a ys m = m
+pub if_behind : {A : Type 0} (b : Bool) (x a : A) (ys : List A) → Member a ys → Member a (if b then x ∷ ys else ys)
+if_behind true x a ys m = inr m
+if_behind false x a ys m = m
 
-filtered-member : {A : Type 0} (f : A → Bool) (a : A) (xs : List A) → Member a xs → f a ≡ true → Member a (filter f xs)
-filtered-member f a [] m t = absurd m
-filtered-member f a (x ∷ xs) (inl e) t = if-member (f x) x a (filter f xs) (ap f e ∙ t) e
-filtered-member f a (x ∷ xs) (inr m) t = if-behind (f x) x a (filter f xs) (filtered-member f a xs m t)
-
-told-one : (p : Plain) (K : List (Act Txn)) (h : Hidden) → Stands p K h → (told : List (ℕ × List ℕ)) → ((w : ℕ) → filter (λ (a : ℕ × List ℕ). (setting_of p.load).worker_of a.0 == w) told ≡ map pair_of ((core_of p h).acked w)) →
+told_one : (p : Plain) (K : List (Act Txn)) (h : Hidden) → Stands p K h → (told : List (ℕ × List ℕ)) → ((w : ℕ) → filter (λ (a : ℕ × List ℕ). (setting_of p.load).worker_of a.0 == w) told ≡ map pair_of ((core_of p h).acked w)) →
     (a : ℕ × List ℕ) → Member a told → IsNumberOf (length p.load.calls) a.0
-told-one p K h g told acks a m =
+told_one p K h g told acks a m =
     let w : ℕ = (setting_of p.load).worker_of a.0 in
-    let n = filtered-member (λ (b : ℕ × List ℕ). (setting_of p.load).worker_of b.0 == w) a told m (eq-eqb ((setting_of p.load).worker_of a.0) w refl) in
-    let (k, mk, e) = of-map pair_of (h.acked w) a (subst (λ (l : List (ℕ × List ℕ)). Member a l) (acks w) n) in
+    let n = member_of (λ (b : ℕ × List ℕ). (setting_of p.load).worker_of b.0 == w) a told m (eq-eqb ((setting_of p.load).worker_of a.0) w refl) in
+    let (k, mk, e) = member_map pair_of (h.acked w) a (subst (λ (l : List (ℕ × List ℕ)). Member a l) (acks w) n) in
     let law = acknowledged_law p K h g w k mk in
     let t = law.0 in
     subst (λ (number : ℕ). IsNumberOf (length p.load.calls) number) (ap (λ (x : Ticket). x.number) law.2 ∙ ap (λ (x : ℕ × List ℕ). x.0) e)
-    (number-is p.load.calls t.call.call.number t.call.call.call ((committed_law p K h g).0 t law.1).0)
+    (number_is p.load.calls t.call.call.number t.call.call.call ((committed_law p K h g).0 t law.1).0)
 
 -- ---- what it leaves
 
 module _ {D : Type 0} {G : Ghosts D} (seen_now : (d : D) → G.tells → G.may_leave d (G.seen d)) (bases : ℕ → List ℕ) (R : Bool → Load → Progress → Progress → Type 0) (whole : Bool) (p p' : Plain) (ws ws' : List (Writer D G)) (told told' : List (ℕ × List ℕ))
     (new : AreNew bases ws) (w : Went bases R whole p p' ws ws' told told' [] nothing []) where
-  leaving-by : (b : Bool) (j : ℕ) (x : Writer D G) → KeptBy j (bases j) b x p' w.hidden → IsLeaving j (bases j) x p' w.hidden
-  leaving-by true j x k = kept-leaving seen_now j (bases j) x p' w.hidden k
-  leaving-by false j x k = k
+  leaving_by : (b : Bool) (j : ℕ) (x : Writer D G) → KeptBy j (bases j) b x p' w.hidden → IsLeaving j (bases j) x p' w.hidden
+  leaving_by true j x k = kept_leaving seen_now j (bases j) x p' w.hidden k
+  leaving_by false j x k = k
 
-  left-of : (j : ℕ) (x x' : Writer D G) → slice_get ws j ≡ Some x → slice_get ws' j ≡ Some x' → Since j (bases j) p.load (core_of p' w.hidden) x x' → Left p.load (core_of p' w.hidden) j (bases j) x x'
-  left-of j x x' e e' s =
-      let l = leaving-by whole j x' (w.kept j x' e') in
+  left_of : (j : ℕ) (x x' : Writer D G) → slice_get ws j ≡ Some x → slice_get ws' j ≡ Some x' → Since j (bases j) p.load (core_of p' w.hidden) x x' → Left p.load (core_of p' w.hidden) j (bases j) x x'
+  left_of j x x' e e' s =
+      let l = leaving_by whole j x' (w.kept j x' e') in
       record {
         before = s.before;
         present = λ tells y left. subst (λ (d : Load). (bytes : List ℕ) × HasFront d.streams j (bases j) d (core_of p' w.hidden) bytes y × (slice_index p'.plv j ≤ length (bases j) + length bytes)) w.load (l.present tells y left);
@@ -142,36 +139,36 @@ module _ {D : Type 0} {G : Ghosts D} (seen_now : (d : D) → G.tells → G.may_l
         faults = s.faults;
       }
 
-  pub writers-left : EachOf (λ j x x'. Left p.load (core_of p' w.hidden) j (bases j) x x') ws ws'
-  writers-left = record { count = w.count; each = λ j x e. (let (x', e', s) = w.since j x e in (x', e', left-of j x x' e e' s)) }
+  pub writers_left : EachOf (λ j x x'. Left p.load (core_of p' w.hidden) j (bases j) x x') ws ws'
+  writers_left = record { count = w.count; each = λ j x e. (let (x', e', s) = w.since j x e in (x', e', left_of j x x' e e' s)) }
 
 -- ---- all of it
 
 module _ {D : Type 0} {G : Ghosts D} (seen_now : (d : D) → G.tells → G.may_leave d (G.seen d)) (turns : List Turn) (bases : ℕ → List ℕ) (old new : Run) (ws ws' : List (Writer D G)) (hears : Type 0) (held held' : List ℕ) (faults faults' : ℕ)
     (o : Opened old.core.load old.core) (b : IsBegun bases ws old.core.load.opening) (acks : old.clerk.acks ≡ []) (works : old.clerk.sink_failed ≡ false) where
-  first-held : Heard held old.clerk.acks old.clerk.sink_failed held
-  first-held = subst (λ (a : List (ℕ × List ℕ)). Heard held a old.clerk.sink_failed held) (sym acks) (subst (λ (f : Bool). Heard held [] f held) (sym works) (sym (append-nil held)))
+  first_held : Heard held old.clerk.acks old.clerk.sink_failed held
+  first_held = subst (λ (a : List (ℕ × List ℕ)). Heard held a old.clerk.sink_failed held) (sym acks) (subst (λ (f : Bool). Heard held [] f held) (sym works) (sym (append-nil held)))
 
-  rose-now : (new.clerk.sink_failed ≡ true → (old.clerk.sink_failed ≡ true) ⊎ Rose faults faults') → new.clerk.sink_failed ≡ true → Rose faults faults'
-  rose-now rose e = elim (rose e) [ inl was ↦ absurd (let bad : false ≡ true = sym works ∙ was in cc) | inr r ↦ r ]
+  rose_now : (new.clerk.sink_failed ≡ true → (old.clerk.sink_failed ≡ true) ⊎ Rose faults faults') → new.clerk.sink_failed ≡ true → Rose faults faults'
+  rose_now rose e = elim (rose e) [ inl was ↦ absurd (let bad : false ≡ true = sym works ∙ was in cc) | inr r ↦ r ]
 
   -- from its beginning
-  from-begun : (whole : Bool) (P : Progress) → ran_all turns whole old.core.load (progress old.core nothing [] [] old.clerk.acks) P → ran_all turns whole old.core.load (begun (core_of old.core nothing)) P
-  from-begun whole P r = subst (λ (a : List (ℕ × List ℕ)). ran_all turns whole old.core.load (record { state = core_of old.core nothing; events = []; joined = []; told = a }) P) acks r
+  from_begun : (whole : Bool) (P : Progress) → ran_all turns whole old.core.load (progress old.core nothing [] [] old.clerk.acks) P → ran_all turns whole old.core.load (begun (core_of old.core nothing)) P
+  from_begun whole P r = subst (λ (a : List (ℕ × List ℕ)). ran_all turns whole old.core.load (record { state = core_of old.core nothing; events = []; joined = []; told = a }) P) acks r
 
   module _ (x : Moves (ran_all turns) true old new ws ws' hears held held' faults faults') where
     went : Went bases (noting old.flushes new.flushes (ran_all turns)) true old.core new.core ws ws' old.clerk.acks new.clerk.acks [] nothing []
-    went = x.went bases [] nothing [] o.stands (begun-kept bases ws old.core o b)
+    went = x.went bases [] nothing [] o.stands (begun_kept bases ws old.core o b)
 
     whole : IsWholeRun (setting_of old.core.load) old.core.load.workers old.core.load.streams turns (core_of old.core nothing) (progress new.core went.hidden went.events went.order new.clerk.acks)
-    whole = all-whole old.core.load turns (core_of old.core nothing) (progress new.core went.hidden went.events went.order new.clerk.acks) (from-begun true (progress new.core went.hidden went.events went.order new.clerk.acks) went.moved.0)
+    whole = all_whole old.core.load turns (core_of old.core nothing) (progress new.core went.hidden went.events went.order new.clerk.acks) (from_begun true (progress new.core went.hidden went.events went.order new.clerk.acks) went.moved.0)
 
-    pub told-numbers : All (λ (a : ℕ × List ℕ). IsNumberOf (length new.core.load.calls) a.0) new.clerk.acks
-    told-numbers = λ k d lt.
-        told-one new.core went.order went.hidden went.stands new.clerk.acks
+    pub told_numbers : All (λ (a : ℕ × List ℕ). IsNumberOf (length new.core.load.calls) a.0) new.clerk.acks
+    told_numbers = λ k d lt.
+        told_one new.core went.order went.hidden went.stands new.clerk.acks
         (subst (λ (l : Load). (w : ℕ) → filter (λ (a : ℕ × List ℕ). (setting_of l).worker_of a.0 == w) new.clerk.acks ≡ map pair_of ((core_of new.core went.hidden).acked w)) (sym went.load)
         (turns_law (setting_of old.core.load) old.core.load.workers old.core.load.streams turns (core_of old.core nothing) (progress new.core went.hidden went.events went.order new.clerk.acks) o.opening (inl whole)).2)
-        (slice_index_or new.clerk.acks k d) (at-member new.clerk.acks k d lt)
+        (slice_index_or new.clerk.acks k d) (at_member new.clerk.acks k d lt)
 
     ended : (end : RunEnd) → end.report.acks ≡ new.clerk.acks →
         ((K : List (Act Txn)) (h : Hidden) → Stands new.core K h → end.report.fates ≡ fates_by (length new.core.load.calls) K new.clerk.acks) →
@@ -188,16 +185,16 @@ module _ {D : Type 0} {G : Ghosts D} (seen_now : (d : D) → G.tells → G.may_l
         stands = went.stands;
         load = went.load;
         by = whole;
-        writers = writers-left seen_now bases (noting old.flushes new.flushes (ran_all turns)) true old.core new.core ws ws' old.clerk.acks new.clerk.acks b.new went;
+        writers = writers_left seen_now bases (noting old.flushes new.flushes (ran_all turns)) true old.core new.core ws ws' old.clerk.acks new.clerk.acks b.new went;
       };
       over = subst (λ (l : Load). IsOver l.streams (core_of new.core went.hidden)) went.load
-          (over-at new.core went.order went.hidden went.stands turns (core_of old.core nothing) (progress new.core went.hidden went.events went.order new.clerk.acks) refl
+          (over_at new.core went.order went.hidden went.stands turns (core_of old.core nothing) (progress new.core went.hidden went.events went.order new.clerk.acks) refl
           (subst (λ (l : Load). IsWholeRun (setting_of l) l.workers l.streams turns (core_of old.core nothing) (progress new.core went.hidden went.events went.order new.clerk.acks)) (sym went.load) whole));
-      heard = λ q. subst (λ (f : Bool). Heard held new.clerk.acks f held') (sym sink) (x.heard refl q held first-held);
-      sink = λ e. rose-now x.rose (sym sink ∙ e);
+      heard = λ q. subst (λ (f : Bool). Heard held new.clerk.acks f held') (sym sink) (x.heard refl q held first_held);
+      sink = λ e. rose_now x.rose (sym sink ∙ e);
       disk = subst (λ (f : Option ℕ). IsLowestStopped old.core.load.streams (core_of new.core went.hidden) f) (sym disk)
           (subst (λ (l : Load). IsLowestStopped l.streams (core_of new.core went.hidden) new.failed) went.load
-          (let a = (x.on refl).along in lowest-same new.core.load.streams (core_of new.core a.hidden) (core_of new.core went.hidden) (λ j. refl) new.failed a.lowest));
+          (let a = (x.on refl).along in lowest_same new.core.load.streams (core_of new.core a.hidden) (core_of new.core went.hidden) (λ j. refl) new.failed a.lowest));
       acks = told;
       fates = fates went.order went.hidden went.stands ∙ ap (λ (l : Load). fates_by (length l.calls) went.order new.clerk.acks) went.load;
       order = order went.order went.hidden went.stands;
@@ -205,8 +202,8 @@ module _ {D : Type 0} {G : Ghosts D} (seen_now : (d : D) → G.tells → G.may_l
     }
 
     -- memory ran out for what it tells
-    not-told : CutShort turns bases old.core ws ws' hears held held' (Rose faults faults')
-    not-told = record {
+    not_told : CutShort turns bases old.core ws ws' hears held held' (Rose faults faults')
+    not_told = record {
       came = record {
         last = new.core;
         hidden = went.hidden;
@@ -215,32 +212,32 @@ module _ {D : Type 0} {G : Ghosts D} (seen_now : (d : D) → G.tells → G.may_l
         told = new.clerk.acks;
         stands = went.stands;
         load = went.load;
-        by = whole-part old.core.load turns (core_of old.core nothing) (progress new.core went.hidden went.events went.order new.clerk.acks) (o.stands.sound.workers_low)
-            (from-begun true (progress new.core went.hidden went.events went.order new.clerk.acks) went.moved.0);
-        writers = writers-left seen_now bases (noting old.flushes new.flushes (ran_all turns)) true old.core new.core ws ws' old.clerk.acks new.clerk.acks b.new went;
+        by = whole_part old.core.load turns (core_of old.core nothing) (progress new.core went.hidden went.events went.order new.clerk.acks) (o.stands.sound.workers_low)
+            (from_begun true (progress new.core went.hidden went.events went.order new.clerk.acks) went.moved.0);
+        writers = writers_left seen_now bases (noting old.flushes new.flushes (ran_all turns)) true old.core new.core ws ws' old.clerk.acks new.clerk.acks b.new went;
       };
       count = length new.clerk.acks;
       sink_failed = new.clerk.sink_failed;
-      heard = λ q. subst (λ (a : List (ℕ × List ℕ)). Heard held a new.clerk.sink_failed held') (sym (take-length new.clerk.acks)) (x.heard refl q held first-held);
-      sink = rose-now x.rose;
+      heard = λ q. subst (λ (a : List (ℕ × List ℕ)). Heard held a new.clerk.sink_failed held') (sym (take-length new.clerk.acks)) (x.heard refl q held first_held);
+      sink = rose_now x.rose;
     }
 
-    pub calls-same : length new.core.load.calls ≡ length old.core.load.calls
-    calls-same = ap (λ (l : Load). length l.calls) went.load
+    pub calls_same : length new.core.load.calls ≡ length old.core.load.calls
+    calls_same = ap (λ (l : Load). length l.calls) went.load
 
     -- by what the end answered
-    pub ran-by : (r : Result RunEnd NoMemory) → IfOk r (λ end. end.report.acks ≡ new.clerk.acks) →
+    pub ran_by : (r : Result RunEnd NoMemory) → IfOk r (λ end. end.report.acks ≡ new.clerk.acks) →
         IfOk r (λ end. (K : List (Act Txn)) (h : Hidden) → Stands new.core K h → end.report.fates ≡ fates_by (length new.core.load.calls) K new.clerk.acks) →
         IfOk r (λ end. (K : List (Act Txn)) (h : Hidden) → Stands new.core K h → end.report.order ≡ map (λ (t : Act Txn). t.call.call.number) (reported new.core.ends K)) →
         IfOk r (λ end. (K : List (Act Txn)) (h : Hidden) → Stands new.core K h → IsTablesOf (sight (setting_of new.core.load) (core_of new.core h)).row end.report.tables) →
         IfOk r (λ end. end.disk ≡ new.failed) → IfOk r (λ end. end.sink_failed ≡ new.clerk.sink_failed) → Ran turns bases old.core ws ws' hears held held' (Rose faults faults') r
-    ran-by (Ok end) told fates order tables disk sink = ended end told fates order tables disk sink
-    ran-by (Err e) told fates order tables disk sink = not-told
+    ran_by (Ok end) told fates order tables disk sink = ended end told fates order tables disk sink
+    ran_by (Err e) told fates order tables disk sink = not_told
 
   -- memory ran out on the way
-  pub cut-short : Moves (ran_all turns) false old new ws ws' hears held held' faults faults' → CutShort turns bases old.core ws ws' hears held held' (Rose faults faults')
-  cut-short x =
-      let s = x.went bases [] nothing [] o.stands (begun-kept bases ws old.core o b) in
+  pub cut_short : Moves (ran_all turns) false old new ws ws' hears held held' faults faults' → CutShort turns bases old.core ws ws' hears held held' (Rose faults faults')
+  cut_short x =
+      let s = x.went bases [] nothing [] o.stands (begun_kept bases ws old.core o b) in
       let went = s.went in
       record {
         came = record {
@@ -251,17 +248,17 @@ module _ {D : Type 0} {G : Ghosts D} (seen_now : (d : D) → G.tells → G.may_l
           told = s.told_now;
           stands = went.stands;
           load = went.load;
-          by = all-part old.core.load turns (core_of old.core nothing) (progress new.core went.hidden went.events went.order s.told_now)
-              (from-begun false (progress new.core went.hidden went.events went.order s.told_now) went.moved);
-          writers = writers-left seen_now bases (ran_all turns) false old.core new.core ws ws' old.clerk.acks s.told_now b.new went;
+          by = all_part old.core.load turns (core_of old.core nothing) (progress new.core went.hidden went.events went.order s.told_now)
+              (from_begun false (progress new.core went.hidden went.events went.order s.told_now) went.moved);
+          writers = writers_left seen_now bases (ran_all turns) false old.core new.core ws ws' old.clerk.acks s.told_now b.new went;
         };
         count = s.count;
         sink_failed = new.clerk.sink_failed;
-        heard = λ q. s.heard q held first-held;
-        sink = rose-now x.rose;
+        heard = λ q. s.heard q held first_held;
+        sink = rose_now x.rose;
       }
 
   -- how many writers there are
-  pub count-same : (whole : Bool) → Moves (ran_all turns) whole old new ws ws' hears held held' faults faults' → length ws' ≡ length ws
-  count-same true x = (x.went bases [] nothing [] o.stands (begun-kept bases ws old.core o b)).count
-  count-same false x = (x.went bases [] nothing [] o.stands (begun-kept bases ws old.core o b)).went.count
+  pub count_same : (whole : Bool) → Moves (ran_all turns) whole old new ws ws' hears held held' faults faults' → length ws' ≡ length ws
+  count_same true x = (x.went bases [] nothing [] o.stands (begun_kept bases ws old.core o b)).count
+  count_same false x = (x.went bases [] nothing [] o.stands (begun_kept bases ws old.core o b)).went.count

@@ -20,7 +20,7 @@ use Rattle.tau_machine.specs.Hands.{Txn}
 use Rattle.tau_machine.specs.Shard.{at}
 use Rattle.tau_machine.specs.State.{Core, Stream, Item}
 use Rattle.tau_machine.specs.Events as machine
-use Rattle.tau_machine.proofs.At.{at-same, at-other}
+use Rattle.tau_machine.proofs.At.{at_same, at_other}
 use Rattle.tau_core.specs.declared.state.Load.{Load}
 use Rattle.tau_core.specs.declared.event.Event.TheVariants as event
 use Rattle.tau_core.specs.declared.event.Outcome.{Outcome}
@@ -38,19 +38,19 @@ use Rattle.tau_run.specs.Turns.{Stays, Goes}
 use Rattle.tau_step.specs.declared.manager.Managing.TheVariants as did
 use Rattle.tau_step.specs.Progressed.{progress}
 use Rattle.tau_step.specs.Keeping.{IsLoaded, FlushTurns}
-use Rattle.tau_step.proofs.Deciding.{if-so, if-not}
+use Rattle.tau_step.proofs.Deciding.{if_so, if_not}
 use Rattle.tau_step.proofs.Images.{settled_has}
 
 -- a function of each stream that a change leaves
-pub kept-at : {A : Type 0} (F : Stream → A) (j : ℕ) (x : Stream) (f : ℕ → Stream) → F x ≡ F (f j) → ◌≡◌ {A = ℕ → A} (λ (i : ℕ). F (at j x f i)) (λ (i : ℕ). F (f i))
-kept-at F j x f e = fun_ext (λ i. elim (cases_eq i j) [
-  | inl is ↦ subst (λ (k : ℕ). F (at j x f k) ≡ F (f k)) (sym is) (ap F (at-same j x f) ∙ e)
-  | inr ne ↦ ap F (at-other j x f i ne)
+pub kept_at : {A : Type 0} (F : Stream → A) (j : ℕ) (x : Stream) (f : ℕ → Stream) → F x ≡ F (f j) → ◌≡◌ {A = ℕ → A} (λ (i : ℕ). F (at j x f i)) (λ (i : ℕ). F (f i))
+kept_at F j x f e = fun_ext (λ i. elim (cases_eq i j) [
+  | inl is ↦ subst (λ (k : ℕ). F (at j x f k) ≡ F (f k)) (sym is) (ap F (at_same j x f) ∙ e)
+  | inr ne ↦ ap F (at_other j x f i ne)
 ])
 
 -- the bytes of items stay theirs where load and anchors do
-pub spelled-kept : (p p' : Plain) (items : List Item) (bytes : List ℕ) → p'.load ≡ p.load → anchors_at p' ≡ anchors_at p → Spelled p.load (anchors_at p) items bytes → Spelled p'.load (anchors_at p') items bytes
-spelled-kept p p' items bytes load anchors s =
+pub spelled_kept : (p p' : Plain) (items : List Item) (bytes : List ℕ) → p'.load ≡ p.load → anchors_at p' ≡ anchors_at p → Spelled p.load (anchors_at p) items bytes → Spelled p'.load (anchors_at p') items bytes
+spelled_kept p p' items bytes load anchors s =
     subst (λ (l : Load). Spelled l (anchors_at p') items bytes) (sym load) (subst (λ (a : ℕ → List (List ℕ)). Spelled p.load a items bytes) (sym anchors) s)
 
 -- what the calls of a flush have made of the disk
@@ -58,21 +58,21 @@ module _ {D T : Type 0} (G : Ghosts D) (old new : D) where
   abbrev FlushMade : Result T Flush → Type 0
   FlushMade r = HasMade 4 (G.number old) (G.number new) (G.fails old) (G.fails new) (G.short old) (G.short new) r
 
-  pub made-goes : (x : T) (r : Result T Flush) → r ≡ Ok x → FlushMade r → GoesOn G.number G.fails old new
-  made-goes x r e m =
+  pub made_goes : (x : T) (r : Result T Flush) → r ≡ Ok x → FlushMade r → GoesOn G.number G.fails old new
+  made_goes x r e m =
       let all : MadeAll 4 (G.number old) (G.number new) (G.fails old) (G.short old) (G.short new) = subst (λ (o : Result T Flush). OnOk o (MadeAll 4 (G.number old) (G.number new) (G.fails old) (G.short old) (G.short new))) e m.ok in
       let count = all.0 in
       record { same = m.same; later = omega arith; clean = λ k low high. all.2 k low (omega arith) }
 
-  pub made-stops : (x : Flush) (r : Result T Flush) → r ≡ Err x → FlushMade r → (G.short new ≡ true) ⊎ ((G.number old < G.number new) × (G.fails old (G.number new) ≡ true) × ((k : ℕ) → G.number old < k → k < G.number new → G.fails old k ≡ false))
-  made-stops x r e m =
+  pub made_stops : (x : Flush) (r : Result T Flush) → r ≡ Err x → FlushMade r → (G.short new ≡ true) ⊎ ((G.number old < G.number new) × (G.fails old (G.number new) ≡ true) × ((k : ℕ) → G.number old < k → k < G.number new → G.fails old k ≡ false))
+  made_stops x r e m =
       let some : MadeSome 4 (G.number old) (G.number new) (G.fails old) (G.short new) = subst (λ (o : Result T Flush). OnErr o (MadeSome 4 (G.number old) (G.number new) (G.fails old) (G.short new))) e m.failed in
       elim some [ inl (low, high, fails, before) ↦ inr (low, fails, before) | inr short ↦ inl short ]
 
 -- an image with a front of what was gathered
-pub has-front : (n j : ℕ) (catalogue : List ℕ) (p : Plain) (h : Hidden) (before others : List Item) (bytes image : List ℕ) → h.moved j ≡ before ++ others → Spelled p.load (anchors_at p) before bytes →
+pub has_front : (n j : ℕ) (catalogue : List ℕ) (p : Plain) (h : Hidden) (before others : List Item) (bytes image : List ℕ) → h.moved j ≡ before ++ others → Spelled p.load (anchors_at p) before bytes →
     HasContent n j (catalogue ++ bytes) image → HasFront n j catalogue p.load (core_of p h) bytes image
-has-front n j catalogue p h before others bytes image is s has = record {
+has_front n j catalogue p h before others bytes image is s has = record {
   count = length before;
   spelled = subst (λ (items : List Item). Spelled p.load (anchors_at p) items bytes) (sym (ap (take (length before)) is ∙ take-append_seam before others)) s;
   has = has;
@@ -81,11 +81,11 @@ has-front n j catalogue p h before others bytes image is s has = record {
 module _ {D : Type 0} {G : Ghosts D} (j : ℕ) (catalogue : List ℕ) (upto : ℕ) (w w' : Writer D G) (p p' : Plain) (told : List (ℕ × List ℕ)) (K : List (Act Txn)) (h : Hidden) (es : List machine.Event)
     (g : Stands p K h) (there : j < p.load.streams) (size : length catalogue ≡ slice_index p.load.opening.ends j) (l : IsLoaded j catalogue upto w p h) where
   -- what the flush writes is all that is left
-  part-is : part_upto w upto ≡ left_of w
-  part-is = take_all (upto - durable_of w) (left_of w) (let c = l.count in let d = l.durable in omega arith)
+  part_is : part_upto w upto ≡ left_of w
+  part_is = take_all (upto - durable_of w) (left_of w) (let c = l.count in let d = l.durable in omega arith)
 
-  whole-is : (catalogue ++ l.first) ++ part_upto w upto ≡ catalogue ++ h.taken j
-  whole-is = ap (λ (b : List ℕ). (catalogue ++ l.first) ++ b) part-is ∙ append_assoc catalogue l.first (left_of w) ∙ ap (λ (b : List ℕ). catalogue ++ b) (sym l.is)
+  whole_is : (catalogue ++ l.first) ++ part_upto w upto ≡ catalogue ++ h.taken j
+  whole_is = ap (λ (b : List ℕ). (catalogue ++ l.first) ++ b) part_is ∙ append_assoc catalogue l.first (left_of w) ∙ ap (λ (b : List ℕ). catalogue ++ b) (sym l.is)
 
   -- the streams of a state in which what was gathered, and the anchors, are the same
   record Alike (k : Hidden) : Type 0 where
@@ -94,39 +94,39 @@ module _ {D : Type 0} {G : Ghosts D} (j : ℕ) (catalogue : List ℕ) (upto : �
     pub moved : k.moved j ≡ h.moved j
     pub taken : k.taken ≡ h.taken
 
-  old-front : (k : Hidden) → Alike k → (x : List ℕ) → HasContent p.load.streams j (catalogue ++ l.first) x → HasFront p.load.streams j catalogue p.load (core_of p' k) l.first x
-  old-front k a x has =
+  old_front : (k : Hidden) → Alike k → (x : List ℕ) → HasContent p.load.streams j (catalogue ++ l.first) x → HasFront p.load.streams j catalogue p.load (core_of p' k) l.first x
+  old_front k a x has =
       subst (λ (d : Load). HasFront p.load.streams j catalogue d (core_of p' k) l.first x) a.load
-      (has-front p.load.streams j catalogue p' k l.before l.others l.first x (a.moved ∙ l.moved) (spelled-kept p p' l.before l.first a.load a.anchors l.front) has)
+      (has_front p.load.streams j catalogue p' k l.before l.others l.first x (a.moved ∙ l.moved) (spelled_kept p p' l.before l.first a.load a.anchors l.front) has)
 
-  all-spelled : (k : Hidden) → Alike k → Spelled p'.load (anchors_at p') (k.moved j) (k.taken j)
-  all-spelled k a =
+  all_spelled : (k : Hidden) → Alike k → Spelled p'.load (anchors_at p') (k.moved j) (k.taken j)
+  all_spelled k a =
       subst (λ (items : List Item). Spelled p'.load (anchors_at p') items (k.taken j)) (sym a.moved)
       (subst (λ (t : ℕ → List ℕ). Spelled p'.load (anchors_at p') (h.moved j) (t j)) (sym a.taken)
-      (spelled-kept p p' (h.moved j) (h.taken j) a.load a.anchors l.spelled))
+      (spelled_kept p p' (h.moved j) (h.taken j) a.load a.anchors l.spelled))
 
-  new-front : (k : Hidden) → Alike k → (x : List ℕ) → HasContent p.load.streams j (catalogue ++ h.taken j) x → HasFront p.load.streams j catalogue p.load (core_of p' k) (h.taken j) x
-  new-front k a x has =
+  new_front : (k : Hidden) → Alike k → (x : List ℕ) → HasContent p.load.streams j (catalogue ++ h.taken j) x → HasFront p.load.streams j catalogue p.load (core_of p' k) (h.taken j) x
+  new_front k a x has =
       subst (λ (d : Load). HasFront p.load.streams j catalogue d (core_of p' k) (h.taken j) x) a.load
-      (has-front p.load.streams j catalogue p' k (h.moved j) [] (h.taken j) x (a.moved ∙ sym (append-nil (h.moved j))) (spelled-kept p p' (h.moved j) (h.taken j) a.load a.anchors l.spelled) has)
+      (has_front p.load.streams j catalogue p' k (h.moved j) [] (h.taken j) x (a.moved ∙ sym (append-nil (h.moved j))) (spelled_kept p p' (h.moved j) (h.taken j) a.load a.anchors l.spelled) has)
 
-  either-left : (k : Hidden) → Alike k → (x : List ℕ) → IsOldOrNew p.load.streams j (catalogue ++ l.first) (part_upto w upto) x → IsLeft p.load.streams j catalogue p.load (core_of p' k) x
-  either-left k a x (inl has) = inr (l.first, old-front k a x has)
-  either-left k a x (inr has) = inr (h.taken j, new-front k a x (subst (λ (b : List ℕ). HasContent p.load.streams j b x) whole-is has))
+  either_left : (k : Hidden) → Alike k → (x : List ℕ) → IsOldOrNew p.load.streams j (catalogue ++ l.first) (part_upto w upto) x → IsLeft p.load.streams j catalogue p.load (core_of p' k) x
+  either_left k a x (inl has) = inr (l.first, old_front k a x has)
+  either_left k a x (inr has) = inr (h.taken j, new_front k a x (subst (λ (b : List ℕ). HasContent p.load.streams j b x) whole_is has))
 
   passed : (k : Hidden) → Alike k → (G.tells → (n i : ℕ) (content : List ℕ) → IsReady n i w content → Passes G.moment G.may_leave_since (disk_of w) (disk_of w') (IsOldOrNew n i content (part_upto w upto))) →
       G.tells → Passes G.moment G.may_leave_since (disk_of w) (disk_of w') (IsLeft p.load.streams j catalogue p.load (core_of p' k))
   passed k a moments tells =
       passes_weaker G.moment G.may_leave_since (disk_of w) (disk_of w') (IsOldOrNew p.load.streams j (catalogue ++ l.first) (part_upto w upto)) (IsLeft p.load.streams j catalogue p.load (core_of p' k))
-      (moments tells p.load.streams j (catalogue ++ l.first) (l.ready tells)) (either-left k a)
+      (moments tells p.load.streams j (catalogue ++ l.first) (l.ready tells)) (either_left k a)
 
   -- all of it is durable
   module _ (ne : upto ≡ durable_of w → ⊥) (durable : durable_of w' ≡ upto) (left : left_of w' ≡ drop (upto - durable_of w) (left_of w)) (works : has_failed w' ≡ false)
       (done : G.tells → (n i : ℕ) (content : List ℕ) → IsReady n i w content → IsReady n i w' (content ++ part_upto w upto))
       (moments : G.tells → (n i : ℕ) (content : List ℕ) → IsReady n i w content → Passes G.moment G.may_leave_since (disk_of w) (disk_of w') (IsOldOrNew n i content (part_upto w upto)))
       (goes : G.tells → GoesOn G.number G.fails (disk_of w) (disk_of w')) (faults : G.faults (disk_of w) ≤ G.faults (disk_of w')) where
-    by-persist : Happened (machine.Persist j upto) p p' K h → FlushTurns j catalogue w w' p p' told K h es did.Flushed
-    by-persist q =
+    by_persist : Happened (machine.Persist j upto) p p' K h → FlushTurns j catalogue w w' p p' told K h es did.Flushed
+    by_persist q =
         let s = q.leads.0 in
         let streams : (core_of p' q.hidden).streams ≡ (core_of p h).streams = ap (λ (c : Core). c.streams) s.after in
         let a : Alike q.hidden = record { load = q.load; anchors = ap {B = ℕ → List (List ℕ)} (λ (f : ℕ → Stream) (i : ℕ). (f i).anchors) streams; moved = ap (λ (f : ℕ → Stream). (f j).moved) streams; taken = q.taken } in
@@ -141,7 +141,7 @@ module _ {D : Type 0} {G : Ghosts D} (j : ℕ) (catalogue : List ℕ) (upto : �
           stands = q.stands;
           load = q.load;
           taken = q.taken;
-          moved = if-not (slice_index p.gathered j == slice_index p.plv j) (Stays P P')
+          moved = if_not (slice_index p.gathered j == slice_index p.plv j) (Stays P P')
               (Goes (setting_of p.load) p.load.workers p.load.streams (machine.Persist j (slice_index p.gathered j)) P P' ⊎ Goes (setting_of p.load) p.load.workers p.load.streams (machine.Stop j (slice_index p.plv j)) P P')
               (ne_eqb (slice_index p.gathered j) (slice_index p.plv j) (λ e. ne (l.gathered ∙ e ∙ sym l.durable)))
               (inl (subst (λ (u : ℕ). Goes (setting_of p.load) p.load.workers p.load.streams (machine.Persist j u) P P') l.gathered
@@ -152,9 +152,9 @@ module _ {D : Type 0} {G : Ghosts D} (j : ℕ) (catalogue : List ℕ) (upto : �
             gathered = ap (λ (c : Core). slice_index c.gathered j) s.after ∙ sym l.gathered ∙ sym here;
             durable = durable ∙ sym here;
             left = left ∙ drop_all (upto - durable_of w) (left_of w) (let c = l.count in let d = l.durable in omega arith);
-            spelled = all-spelled q.hidden a;
+            spelled = all_spelled q.hidden a;
             ready = λ tells. subst (λ (n : ℕ). IsReady n j w' (catalogue ++ q.hidden.taken j)) (ap (λ (d : Load). d.streams) (sym q.load))
-                (subst (λ (b : List ℕ). IsReady p.load.streams j w' b) (whole-is ∙ ap (λ (t : ℕ → List ℕ). catalogue ++ t j) (sym q.taken)) (done tells p.load.streams j (catalogue ++ l.first) (l.ready tells)));
+                (subst (λ (b : List ℕ). IsReady p.load.streams j w' b) (whole_is ∙ ap (λ (t : ℕ → List ℕ). catalogue ++ t j) (sym q.taken)) (done tells p.load.streams j (catalogue ++ l.first) (l.ready tells)));
           });
           passes = passed q.hidden a moments;
           faults = faults;
@@ -191,16 +191,16 @@ module _ {D : Type 0} {G : Ghosts D} (j : ℕ) (catalogue : List ℕ) (upto : �
       (moments : G.tells → (n i : ℕ) (content : List ℕ) → IsReady n i w content → Passes G.moment G.may_leave_since (disk_of w) (disk_of w') (IsOldOrNew n i content (part_upto w upto)))
       (reached : G.tells → (n i : ℕ) (content : List ℕ) → IsReady n i w content → MayHold n i content (G.may_leave (disk_of w')))
       (stops : IsStopped G.tells G.number G.fails G.short (disk_of w) (disk_of w')) (faults : G.faults (disk_of w) ≤ G.faults (disk_of w')) where
-    by-stop : Happened (machine.Stop j (slice_index p.plv j)) p p' K h → FlushTurns j catalogue w w' p p' told K h es did.Failed
-    by-stop q =
+    by_stop : Happened (machine.Stop j (slice_index p.plv j)) p p' K h → FlushTurns j catalogue w w' p p' told K h es did.Failed
+    by_stop q =
         let s = q.leads.0 in
         let f : ℕ → Stream = (core_of p h).streams in
         let x : Stream = record (f j) { stop = Some (slice_index p.plv j) } in
         let streams : (core_of p' q.hidden).streams ≡ at j x f = ap (λ (c : Core). c.streams) s.after in
         let a : Alike q.hidden = record {
           load = q.load;
-          anchors = ap {B = ℕ → List (List ℕ)} (λ (o : ℕ → Stream) (i : ℕ). (o i).anchors) streams ∙ kept-at (λ (o : Stream). o.anchors) j x f refl;
-          moved = ap (λ (o : ℕ → Stream). (o j).moved) streams ∙ ap (λ (o : Stream). o.moved) (at-same j x f);
+          anchors = ap {B = ℕ → List (List ℕ)} (λ (o : ℕ → Stream) (i : ℕ). (o i).anchors) streams ∙ kept_at (λ (o : Stream). o.anchors) j x f refl;
+          moved = ap (λ (o : ℕ → Stream). (o j).moved) streams ∙ ap (λ (o : Stream). o.moved) (at_same j x f);
           taken = q.taken;
         } in
         let plv : p'.plv ≡ p.plv = ap (λ (c : Core). c.plv) s.after in
@@ -214,25 +214,25 @@ module _ {D : Type 0} {G : Ghosts D} (j : ℕ) (catalogue : List ℕ) (upto : �
           stands = q.stands;
           load = q.load;
           taken = q.taken;
-          moved = if-not (slice_index p.gathered j == slice_index p.plv j) (Stays P P')
+          moved = if_not (slice_index p.gathered j == slice_index p.plv j) (Stays P P')
               (Goes (setting_of p.load) p.load.workers p.load.streams (machine.Persist j (slice_index p.gathered j)) P P' ⊎ Goes (setting_of p.load) p.load.workers p.load.streams (machine.Stop j (slice_index p.plv j)) P P')
               (ne_eqb (slice_index p.gathered j) (slice_index p.plv j) (λ e. ne (l.gathered ∙ e ∙ sym l.durable)))
               (inr (record { new = q.joined; leads = q.leads; events = refl; joined = refl; told = refl }));
           kept = inr (record {
             fails = fails;
             at = slice_index p.plv j;
-            stop = ap (λ (o : ℕ → Stream). (o j).stop) streams ∙ ap (λ (o : Stream). o.stop) (at-same j x f);
+            stop = ap (λ (o : ℕ → Stream). (o j).stop) streams ∙ ap (λ (o : Stream). o.stop) (at_same j x f);
             durable = durable ∙ l.durable ∙ sym here;
             present = λ tells y left.
                 subst (λ (d : Load). (bytes : List ℕ) × HasFront d.streams j catalogue d (core_of p' q.hidden) bytes y × (slice_index p'.plv j ≤ length catalogue + length bytes)) (sym q.load)
                 (elim (left_by G.moment G.may_leave_since G.may_leave counts only (disk_of w) (disk_of w') (IsOldOrNew p.load.streams j (catalogue ++ l.first) (part_upto w upto))
                 (moments tells p.load.streams j (catalogue ++ l.first) (l.ready tells)) y left) [
-                  | inl was ↦ (l.first, old-front q.hidden a y (settled_has p.load.streams j (G.seen (disk_of w)) (G.may_leave (disk_of w)) w.gate_at (catalogue ++ l.first) (l.ready tells).settled y was), (let n = l.long in omega arith))
+                  | inl was ↦ (l.first, old_front q.hidden a y (settled_has p.load.streams j (G.seen (disk_of w)) (G.may_leave (disk_of w)) w.gate_at (catalogue ++ l.first) (l.ready tells).settled y was), (let n = l.long in omega arith))
                   | inr either ↦ elim either [
-                    | inl has ↦ (l.first, old-front q.hidden a y has, (let n = l.long in omega arith))
+                    | inl has ↦ (l.first, old_front q.hidden a y has, (let n = l.long in omega arith))
                     | inr has ↦ (
                       h.taken j,
-                      new-front q.hidden a y (subst (λ (b : List ℕ). HasContent p.load.streams j b y) whole-is has),
+                      new_front q.hidden a y (subst (λ (b : List ℕ). HasContent p.load.streams j b y) whole_is has),
                       (let n = l.long in let e = ap (length {A = ℕ}) l.is ∙ length-append l.first (left_of w) in omega arith),
                     )
                   ]
@@ -255,46 +255,46 @@ module _ {D : Type 0} {G : Ghosts D} (j : ℕ) (catalogue : List ℕ) (upto : �
           stops = λ e. stops;
         }
 
-    pub flush-failed : (at : ℕ) → at ≡ slice_index p.plv j → (o : Outcome) → Steps p p' K h (event.Stop j at) o → FlushTurns j catalogue w w' p p' told K h es did.Failed
-    flush-failed at is outcome.Went t = by-stop (subst (λ (u : ℕ). Happened (machine.Stop j u) p p' K h) is t)
-    flush-failed at is (outcome.Granted value) t = absurd t
-    flush-failed at is (outcome.Busy holder) t = absurd t
-    flush-failed at is (outcome.Placed start) t = absurd t
-    flush-failed at is (outcome.Gathered upto) t = absurd t
-    flush-failed at is (outcome.Acked number lv) t = absurd t
-    flush-failed at is outcome.NothingCovered t = absurd t
-    flush-failed at is (outcome.NotNow phase) t = absurd (barred at phase t.1 (omega arith) (let c = within in omega (arith, c.0, c.1, is)))
-    flush-failed at is outcome.NoMemory t = absurd t
+    pub flush_failed : (at : ℕ) → at ≡ slice_index p.plv j → (o : Outcome) → Steps p p' K h (event.Stop j at) o → FlushTurns j catalogue w w' p p' told K h es did.Failed
+    flush_failed at is outcome.Went t = by_stop (subst (λ (u : ℕ). Happened (machine.Stop j u) p p' K h) is t)
+    flush_failed at is (outcome.Granted value) t = absurd t
+    flush_failed at is (outcome.Busy holder) t = absurd t
+    flush_failed at is (outcome.Placed start) t = absurd t
+    flush_failed at is (outcome.Gathered upto) t = absurd t
+    flush_failed at is (outcome.Acked number lv) t = absurd t
+    flush_failed at is outcome.NothingCovered t = absurd t
+    flush_failed at is (outcome.NotNow phase) t = absurd (barred at phase t.1 (omega arith) (let c = within in omega (arith, c.0, c.1, is)))
+    flush_failed at is outcome.NoMemory t = absurd t
 
   module _ (ne : upto ≡ durable_of w → ⊥) (durable : durable_of w' ≡ upto) (left : left_of w' ≡ drop (upto - durable_of w) (left_of w)) (works : has_failed w' ≡ false)
       (done : G.tells → (n i : ℕ) (content : List ℕ) → IsReady n i w content → IsReady n i w' (content ++ part_upto w upto))
       (moments : G.tells → (n i : ℕ) (content : List ℕ) → IsReady n i w content → Passes G.moment G.may_leave_since (disk_of w) (disk_of w') (IsOldOrNew n i content (part_upto w upto)))
       (goes : G.tells → GoesOn G.number G.fails (disk_of w) (disk_of w')) (faults : G.faults (disk_of w) ≤ G.faults (disk_of w')) where
-    pub flush-done : (o : Outcome) → Steps p p' K h (event.Persist j upto) o → FlushTurns j catalogue w w' p p' told K h es did.Flushed
-    flush-done outcome.Went t = by-persist ne durable left works done moments goes faults t
-    flush-done (outcome.Granted value) t = absurd t
-    flush-done (outcome.Busy holder) t = absurd t
-    flush-done (outcome.Placed start) t = absurd t
-    flush-done (outcome.Gathered upto) t = absurd t
-    flush-done (outcome.Acked number lv) t = absurd t
-    flush-done outcome.NothingCovered t = absurd t
-    flush-done (outcome.NotNow phase) t = absurd (barred upto phase t.1 within.0 within.1)
-    flush-done outcome.NoMemory t = absurd t
+    pub flush_done : (o : Outcome) → Steps p p' K h (event.Persist j upto) o → FlushTurns j catalogue w w' p p' told K h es did.Flushed
+    flush_done outcome.Went t = by_persist ne durable left works done moments goes faults t
+    flush_done (outcome.Granted value) t = absurd t
+    flush_done (outcome.Busy holder) t = absurd t
+    flush_done (outcome.Placed start) t = absurd t
+    flush_done (outcome.Gathered upto) t = absurd t
+    flush_done (outcome.Acked number lv) t = absurd t
+    flush_done outcome.NothingCovered t = absurd t
+    flush_done (outcome.NotNow phase) t = absurd (barred upto phase t.1 within.0 within.1)
+    flush_done outcome.NoMemory t = absurd t
 
 -- there was nothing to flush
 module _ {D : Type 0} {G : Ghosts D} (j : ℕ) (catalogue : List ℕ) (upto : ℕ) (w : Writer D G) (p : Plain) (told : List (ℕ × List ℕ)) (K : List (Act Txn)) (h : Hidden) (es : List machine.Event)
     (g : Stands p K h) (l : IsLoaded j catalogue upto w p h) (is : upto ≡ durable_of w) where
-  nothing-left : left_of w ≡ []
-  nothing-left = nil (left_of w) (let c = l.count in let d = l.durable in omega arith)
+  nothing_left : left_of w ≡ []
+  nothing_left = nil (left_of w) (let c = l.count in let d = l.durable in omega arith)
     where
       nil : (xs : List ℕ) → length xs ≡ 0 → xs ≡ []
       nil [] e = refl
       nil (x ∷ xs) e = absurd (omega arith)
 
-  pub flush-idle : FlushTurns j catalogue w w p p told K h es did.Idle
-  flush-idle =
+  pub flush_idle : FlushTurns j catalogue w w p p told K h es did.Idle
+  flush_idle =
       let P = progress p h es K told in
-      let all : h.taken j ≡ l.first = l.is ∙ ap (λ (b : List ℕ). l.first ++ b) nothing-left ∙ append-nil l.first in
+      let all : h.taken j ≡ l.first = l.is ∙ ap (λ (b : List ℕ). l.first ++ b) nothing_left ∙ append-nil l.first in
       record {
         hidden = h;
         order = K;
@@ -302,7 +302,7 @@ module _ {D : Type 0} {G : Ghosts D} (j : ℕ) (catalogue : List ℕ) (upto : �
         stands = g;
         load = refl;
         taken = refl;
-        moved = if-so (slice_index p.gathered j == slice_index p.plv j) (Stays P P)
+        moved = if_so (slice_index p.gathered j == slice_index p.plv j) (Stays P P)
             (Goes (setting_of p.load) p.load.workers p.load.streams (machine.Persist j (slice_index p.gathered j)) P P ⊎ Goes (setting_of p.load) p.load.workers p.load.streams (machine.Stop j (slice_index p.plv j)) P P)
             (eq-eqb (slice_index p.gathered j) (slice_index p.plv j) (sym l.gathered ∙ is ∙ l.durable)) refl;
         kept = inl (record {
@@ -310,7 +310,7 @@ module _ {D : Type 0} {G : Ghosts D} (j : ℕ) (catalogue : List ℕ) (upto : �
           going = l.going;
           gathered = sym l.gathered ∙ is ∙ l.durable;
           durable = l.durable;
-          left = nothing-left;
+          left = nothing_left;
           spelled = l.spelled;
           ready = λ tells. subst (λ (b : List ℕ). IsReady p.load.streams j w (catalogue ++ b)) (sym all) (l.ready tells);
         });

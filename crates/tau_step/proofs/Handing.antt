@@ -7,7 +7,7 @@ use Rattle.tau_stream.specs.Writer.{disk_of, durable_of, left_of, has_failed, Is
 use Rattle.tau_model.specs.History.{Act}
 use Rattle.tau_machine.specs.Hands.{Txn}
 use Rattle.tau_machine.specs.State.{Core, Stream, Item}
-use Rattle.tau_machine.proofs.At.{at-same, at-other}
+use Rattle.tau_machine.proofs.At.{at_same, at_other}
 use Rattle.tau_core.specs.declared.state.Load.{Load}
 use Rattle.tau_core.specs.State.{Plain}
 use Rattle.tau_core.specs.View.{Hidden, core_of}
@@ -23,54 +23,54 @@ use Rattle.tau_run.specs.Turns.{Progress, Flushed}
 use Rattle.tau_step.specs.declared.manager.Managing.{Managing}
 use Rattle.tau_step.specs.Progressed.{progress}
 use Rattle.tau_step.specs.Keeping.{IsFilled, IsLoaded, Handed, FlushTurns, GatheredTurns, GatheredStops}
-use Rattle.tau_step.proofs.Bodies.{spelled-long, behind-whole}
-use Rattle.tau_step.proofs.Flushing.{spelled-kept}
+use Rattle.tau_step.proofs.Bodies.{spelled_long, behind_whole}
+use Rattle.tau_step.proofs.Flushing.{spelled_kept}
 
 module _ {D : Type 0} {G : Ghosts D} (j : ℕ) (catalogue : List ℕ) (upto : ℕ) (w : Writer D G) (p p' : Plain) (K : List (Act Txn)) (h : Hidden) (bytes : List ℕ)
     (there : j < p.load.streams) (l : IsFilled j catalogue upto w p h) (o : HandsOut p p' K h j bytes) where
-  taken-is : o.hidden.taken j ≡ h.taken j ++ bytes
-  taken-is = ap (λ (t : ℕ → List ℕ). t j) o.taken ∙ at-same j (h.taken j ++ bytes) h.taken
+  taken_is : o.hidden.taken j ≡ h.taken j ++ bytes
+  taken_is = ap (λ (t : ℕ → List ℕ). t j) o.taken ∙ at_same j (h.taken j ++ bytes) h.taken
 
-  streams-same : (core_of p' o.hidden).streams ≡ (core_of p h).streams
-  streams-same = ap (λ (c : Core). c.streams) o.same
+  streams_same : (core_of p' o.hidden).streams ≡ (core_of p h).streams
+  streams_same = ap (λ (c : Core). c.streams) o.same
 
-  anchors-same : anchors_at p' ≡ anchors_at p
-  anchors-same = ap {B = ℕ → List (List ℕ)} (λ (f : ℕ → Stream) (i : ℕ). (f i).anchors) streams-same
+  anchors_same : anchors_at p' ≡ anchors_at p
+  anchors_same = ap {B = ℕ → List (List ℕ)} (λ (f : ℕ → Stream) (i : ℕ). (f i).anchors) streams_same
 
-  moved-is : o.hidden.moved j ≡ l.before ++ l.others
-  moved-is = ap (λ (f : ℕ → Stream). (f j).moved) streams-same ∙ l.is
+  moved_is : o.hidden.moved j ≡ l.before ++ l.others
+  moved_is = ap (λ (f : ℕ → Stream). (f j).moved) streams_same ∙ l.is
 
-  gathered-same : slice_index p'.gathered j ≡ slice_index p.gathered j
-  gathered-same = ap (λ (c : Core). slice_index c.gathered j) o.same
+  gathered_same : slice_index p'.gathered j ≡ slice_index p.gathered j
+  gathered_same = ap (λ (c : Core). slice_index c.gathered j) o.same
 
   -- as many bytes as the stream was gathered on
-  pub bytes-count : slice_index p.plv j + length bytes ≡ upto
-  bytes-count =
+  pub bytes_count : slice_index p.plv j + length bytes ≡ upto
+  bytes_count =
       let there' : j < p'.load.streams = subst (λ (d : Load). j < d.streams) (sym o.load) there in
       let q = o.stands.inv.agrees.pieces.stream j there' in
-      let whole = spelled-long p'.load (anchors_at p') (slice_index p'.load.opening.ends j) (slice_index p'.gathered j) (o.hidden.moved j) (o.hidden.taken j) q.moved o.spelled in
+      let whole = spelled_long p'.load (anchors_at p') (slice_index p'.load.opening.ends j) (slice_index p'.gathered j) (o.hidden.moved j) (o.hidden.taken j) q.moved o.spelled in
       let opening : slice_index p'.load.opening.ends j ≡ slice_index p.load.opening.ends j = ap (λ (d : Load). slice_index d.opening.ends j) o.load in
-      let parts : length (o.hidden.taken j) ≡ length (h.taken j) + length bytes = ap (length {A = ℕ}) taken-is ∙ length-append (h.taken j) bytes in
-      let same = gathered-same in
+      let parts : length (o.hidden.taken j) ≡ length (h.taken j) + length bytes = ap (length {A = ℕ}) taken_is ∙ length-append (h.taken j) bytes in
+      let same = gathered_same in
       let e = l.gathered in
       let d = l.long in
       omega arith
 
-  before-spelled : Spelled p'.load (anchors_at p') l.before (h.taken j)
-  before-spelled = spelled-kept p p' l.before (h.taken j) o.load anchors-same l.spelled
+  before_spelled : Spelled p'.load (anchors_at p') l.before (h.taken j)
+  before_spelled = spelled_kept p p' l.before (h.taken j) o.load anchors_same l.spelled
 
-  pub bytes-whole : (upto ≡ durable_of w) ⊎ (durable_of w + 5 ≤ upto)
-  bytes-whole = elim (behind-whole p'.load (anchors_at p') l.before l.others (h.taken j) bytes before-spelled
-      (subst (λ (t : List ℕ). Spelled p'.load (anchors_at p') (l.before ++ l.others) t) taken-is
-      (subst (λ (items : List Item). Spelled p'.load (anchors_at p') items (o.hidden.taken j)) moved-is o.spelled))) [
-        | inl none ↦ inl (let n = ap (length {A = ℕ}) none in let c = bytes-count in let d = l.durable in omega arith)
-        | inr five ↦ inr (let c = bytes-count in let d = l.durable in omega arith)
+  pub bytes_whole : (upto ≡ durable_of w) ⊎ (durable_of w + 5 ≤ upto)
+  bytes_whole = elim (behind_whole p'.load (anchors_at p') l.before l.others (h.taken j) bytes before_spelled
+      (subst (λ (t : List ℕ). Spelled p'.load (anchors_at p') (l.before ++ l.others) t) taken_is
+      (subst (λ (items : List Item). Spelled p'.load (anchors_at p') items (o.hidden.taken j)) moved_is o.spelled))) [
+        | inl none ↦ inl (let n = ap (length {A = ℕ}) none in let c = bytes_count in let d = l.durable in omega arith)
+        | inr five ↦ inr (let c = bytes_count in let d = l.durable in omega arith)
       ]
 
   -- the writer may go up to there, once it has the bytes
-  pub may-reach : (w' : Writer D G) → durable_of w' ≡ durable_of w → left_of w' ≡ left_of w ++ bytes → MayReach w' upto
-  may-reach w' durable left =
-      let c = bytes-count in
+  pub may_reach : (w' : Writer D G) → durable_of w' ≡ durable_of w → left_of w' ≡ left_of w ++ bytes → MayReach w' upto
+  may_reach w' durable left =
+      let c = bytes_count in
       let d = l.durable in
       let e : length (left_of w') ≡ length bytes = ap (length {A = ℕ}) (left ∙ ap (λ (b : List ℕ). b ++ bytes) l.left) in
       let small = o.small in
@@ -78,7 +78,7 @@ module _ {D : Type 0} {G : Ghosts D} (j : ℕ) (catalogue : List ℕ) (upto : �
         not_before = omega arith;
         within = omega arith;
         small = omega arith;
-        whole = elim bytes-whole [ inl same ↦ inl (same ∙ sym durable) | inr five ↦ inr (omega arith) ];
+        whole = elim bytes_whole [ inl same ↦ inl (same ∙ sym durable) | inr five ↦ inr (omega arith) ];
       }
 
   abbrev pub handed : {w' : Writer D G} → Handed j catalogue upto w' p p' K h
@@ -87,7 +87,7 @@ module _ {D : Type 0} {G : Ghosts D} (j : ℕ) (catalogue : List ℕ) (upto : �
     same = o.same;
     stands = o.stands;
     load = o.load;
-    taken = λ i ne. ap (λ (t : ℕ → List ℕ). t i) o.taken ∙ at-other j (h.taken j ++ bytes) h.taken i ne;
+    taken = λ i ne. ap (λ (t : ℕ → List ℕ). t i) o.taken ∙ at_other j (h.taken j ++ bytes) h.taken i ne;
   }
 
   -- and has them
@@ -98,32 +98,32 @@ module _ {D : Type 0} {G : Ghosts D} (j : ℕ) (catalogue : List ℕ) (upto : �
       let all : left_of w' ≡ bytes = left ∙ ap (λ (b : List ℕ). b ++ bytes) l.left in
       record {
         works = works ∙ l.works;
-        going = ap (λ (f : ℕ → Stream). (f j).stop) streams-same ∙ l.going;
-        gathered = l.gathered ∙ sym gathered-same;
+        going = ap (λ (f : ℕ → Stream). (f j).stop) streams_same ∙ l.going;
+        gathered = l.gathered ∙ sym gathered_same;
         durable = durable ∙ l.durable ∙ sym plv;
         first = h.taken j;
-        is = taken-is ∙ ap (λ (b : List ℕ). h.taken j ++ b) (sym all);
+        is = taken_is ∙ ap (λ (b : List ℕ). h.taken j ++ b) (sym all);
         before = l.before;
         others = l.others;
-        moved = moved-is;
-        front = before-spelled;
+        moved = moved_is;
+        front = before_spelled;
         spelled = o.spelled;
         long = ap (λ (d : Load). slice_index d.opening.ends j + length (h.taken j)) o.load ∙ l.long ∙ sym plv;
-        count = ap (λ (n : ℕ). n + length (left_of w')) plv ∙ ap (λ (b : List ℕ). slice_index p.plv j + length b) all ∙ bytes-count;
+        count = ap (λ (n : ℕ). n + length (left_of w')) plv ∙ ap (λ (b : List ℕ). slice_index p.plv j + length b) all ∙ bytes_count;
         ready = λ tells. subst (λ (d : Load). IsReady d.streams j w' (catalogue ++ h.taken j)) (sym o.load) (ready p.load.streams j (catalogue ++ h.taken j) (l.ready tells));
       }
 
 -- the turn after its Gather, of which what was handed over is flushed
 module _ {D : Type 0} {G : Ghosts D} (j : ℕ) (catalogue : List ℕ) (upto : ℕ) (w m w' : Writer D G) (p q p' : Plain) (told : List (ℕ × List ℕ)) (K : List (Act Txn)) (h : Hidden) (es : List machine.Event)
     (x : Handed j catalogue upto m p q K h) (disk : disk_of m ≡ disk_of w) where
-  same-progress : progress q x.hidden es K told ≡ progress p h es K told
-  same-progress = ap (λ (c : Core). record { state = c; events = es; joined = K; told = told }) x.same
+  same_progress : progress q x.hidden es K told ≡ progress p h es K told
+  same_progress = ap (λ (c : Core). record { state = c; events = es; joined = K; told = told }) x.same
 
-  plv-same : slice_index q.plv j ≡ slice_index p.plv j
-  plv-same = ap (λ (c : Core). slice_index c.plv j) x.same
+  plv_same : slice_index q.plv j ≡ slice_index p.plv j
+  plv_same = ap (λ (c : Core). slice_index c.plv j) x.same
 
-  pub gathered-turns : (a : Managing) → FlushTurns j catalogue m w' q p' told K x.hidden es a → GatheredTurns j catalogue w w' p p' told K h es a
-  gathered-turns a t =
+  pub gathered_turns : (a : Managing) → FlushTurns j catalogue m w' q p' told K x.hidden es a → GatheredTurns j catalogue w w' p p' told K h es a
+  gathered_turns a t =
       let P' = progress p' t.hidden t.events t.order told in
       record {
         hidden = t.hidden;
@@ -132,18 +132,18 @@ module _ {D : Type 0} {G : Ghosts D} (j : ℕ) (catalogue : List ℕ) (upto : �
         stands = t.stands;
         load = t.load ∙ x.load;
         taken = λ i ne. ap (λ (f : ℕ → List ℕ). f i) t.taken ∙ x.taken i ne;
-        moved = subst (λ (P : Progress). Flushed (setting_of p.load) p.load.workers p.load.streams j P P') same-progress
+        moved = subst (λ (P : Progress). Flushed (setting_of p.load) p.load.workers p.load.streams j P P') same_progress
             (subst (λ (d : Load). Flushed (setting_of d) d.workers d.streams j (progress q x.hidden es K told) P') x.load t.moved);
         kept = t.kept;
         passes = λ tells. subst (λ (k : D). Passes G.moment G.may_leave_since k (disk_of w') (IsLeft p.load.streams j catalogue p.load (core_of p' t.hidden))) disk
             (subst (λ (d : Load). Passes G.moment G.may_leave_since (disk_of m) (disk_of w') (IsLeft d.streams j catalogue d (core_of p' t.hidden))) x.load (t.passes tells));
         faults = subst (λ (k : D). G.faults k ≤ G.faults (disk_of w')) disk t.faults;
-        flushed = λ e. let f = t.flushed e in (f.0, subst (λ (n : ℕ). n < slice_index p'.plv j) plv-same f.1);
+        flushed = λ e. let f = t.flushed e in (f.0, subst (λ (n : ℕ). n < slice_index p'.plv j) plv_same f.1);
         failed = λ e. let f = t.failed e in (f.0, subst (λ (k : D). Rose (G.faults k) (G.faults (disk_of w'))) disk f.1);
-        idle = λ e. let f = t.idle e in (f.0, f.1 ∙ plv-same);
+        idle = λ e. let f = t.idle e in (f.0, f.1 ∙ plv_same);
         goes = λ e tells. subst (λ (k : D). GoesOn G.number G.fails k (disk_of w')) disk (t.goes e tells);
         stops = λ e. subst (λ (k : D). IsStopped G.tells G.number G.fails G.short k (disk_of w')) disk (t.stops e);
       }
 
-  pub gathered-stops : has_failed m ≡ has_failed w → GatheredStops j catalogue w m p q told K h es
-  gathered-stops works = record { hidden = x.hidden; same = x.same; stands = x.stands; load = x.load; disk = disk; works = works }
+  pub gathered_stops : has_failed m ≡ has_failed w → GatheredStops j catalogue w m p q told K h es
+  gathered_stops works = record { hidden = x.hidden; same = x.same; stands = x.stands; load = x.load; disk = disk; works = works }

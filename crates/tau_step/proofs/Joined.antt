@@ -11,12 +11,12 @@ use Rattle.tau_run.specs.Turns.{Progress}
 use Rattle.tau_step.specs.Progressed.{progress, Comes, stays}
 
 -- nothing has happened yet
-pub comes-none : (p : Plain) (told : List (ℕ × List ℕ)) (K : List (Act Txn)) (h : Hidden) (es : List machine.Event) → Stands p K h → Comes stays p p told told K h es
-comes-none p told K h es g = record { hidden = h; order = K; events = es; stands = g; load = refl; taken = refl; moved = refl }
+pub comes_none : (p : Plain) (told : List (ℕ × List ℕ)) (K : List (Act Txn)) (h : Hidden) (es : List machine.Event) → Stands p K h → Comes stays p p told told K h es
+comes_none p told K h es g = record { hidden = h; order = K; events = es; stands = g; load = refl; taken = refl; moved = refl }
 
-pub comes-as : (R S : Load → Progress → Progress → Type 0) → ((l : Load) (P P' : Progress) → R l P P' → S l P P') → (p p' : Plain) (told told' : List (ℕ × List ℕ)) (K : List (Act Txn)) (h : Hidden) (es : List machine.Event) →
+pub comes_as : (R S : Load → Progress → Progress → Type 0) → ((l : Load) (P P' : Progress) → R l P P' → S l P P') → (p p' : Plain) (told told' : List (ℕ × List ℕ)) (K : List (Act Txn)) (h : Hidden) (es : List machine.Event) →
     Comes R p p' told told' K h es → Comes S p p' told told' K h es
-comes-as R S f p p' told told' K h es c = record {
+comes_as R S f p p' told told' K h es c = record {
   hidden = c.hidden;
   order = c.order;
   events = c.events;
@@ -26,10 +26,10 @@ comes-as R S f p p' told told' K h es c = record {
   moved = f p.load (progress p h es K told) (progress p' c.hidden c.events c.order told') c.moved;
 }
 
-pub comes-on : (R S T : Load → Progress → Progress → Type 0) → ((l : Load) (P Q P' : Progress) → R l P Q → S l Q P' → T l P P') →
+pub comes_on : (R S T : Load → Progress → Progress → Type 0) → ((l : Load) (P Q P' : Progress) → R l P Q → S l Q P' → T l P P') →
     (p m p' : Plain) (told told' told'' : List (ℕ × List ℕ)) (K : List (Act Txn)) (h : Hidden) (es : List machine.Event) →
     (c : Comes R p m told told' K h es) → Comes S m p' told' told'' c.order c.hidden c.events → Comes T p p' told told'' K h es
-comes-on R S T f p m p' told told' told'' K h es c d = record {
+comes_on R S T f p m p' told told' told'' K h es c d = record {
   hidden = d.hidden;
   order = d.order;
   events = d.events;

@@ -13,41 +13,41 @@ use Rattle.tau_core.specs.State.{Plain}
 use Rattle.tau_core.specs.Stands.{anchors_at}
 use Rattle.tau_core.specs.View.{Hidden, core_of}
 use Rattle.tau_core.specs.Pieces.{Spelled}
-use Rattle.tau_core.proofs.AnchorNames.{spelled-more}
+use Rattle.tau_core.proofs.AnchorNames.{spelled_more}
 use Rattle.tau_run.specs.StopsLeave.{HasFront, IsLeft}
 use Rattle.tau_step.specs.Along.{Grows, SameAt, IsLeaving}
 use Rattle.tau_step.specs.Keeping.{IsKept, IsCurrent, IsBroken}
-use Rattle.tau_step.proofs.Growing.{anchors-grow}
+use Rattle.tau_step.proofs.Growing.{anchors_grow}
 use Rattle.tau_step.proofs.Images.{settled_has}
 
 -- a first part of what was gathered is one of what is gathered by now
-take-more : {A : Type 0} (k : ℕ) (xs ys m : List A) → ys ≡ xs ++ m → (i : ℕ) × (take i ys ≡ take k xs)
-take-more k xs ys m e = elim (cases_lt k (length xs)) [
+take_more : {A : Type 0} (k : ℕ) (xs ys m : List A) → ys ≡ xs ++ m → (i : ℕ) × (take i ys ≡ take k xs)
+take_more k xs ys m e = elim (cases_lt k (length xs)) [
   | inl lt ↦ (k, ap (take k) e ∙ take-append-le k xs m (omega (arith, lt)))
   | inr ge ↦ (length xs, ap (take (length xs)) e ∙ take-append_seam xs m ∙ sym (take_all k xs ge))
 ]
 
 module _ (n j : ℕ) (base : List ℕ) (l : Load) (s s' : Core) (g : Grows s s') where
-  pub front-grows : (bytes image : List ℕ) → HasFront n j base l s bytes image → HasFront n j base l s' bytes image
-  front-grows bytes image f =
+  pub front_grows : (bytes image : List ℕ) → HasFront n j base l s bytes image → HasFront n j base l s' bytes image
+  front_grows bytes image f =
       let more = g.moved j in
-      let at = take-more f.count (s.streams j).moved (s'.streams j).moved more.0 more.1 in
+      let at = take_more f.count (s.streams j).moved (s'.streams j).moved more.0 more.1 in
       record {
         count = at.0;
         spelled = subst (λ (items : List Item). Spelled l (λ i. (s'.streams i).anchors) items bytes) (sym at.1)
-            (spelled-more l (λ i. (s.streams i).anchors) (λ i. (s'.streams i).anchors) (anchors-grow s s' g) (take f.count (s.streams j).moved) bytes f.spelled);
+            (spelled_more l (λ i. (s.streams i).anchors) (λ i. (s'.streams i).anchors) (anchors_grow s s' g) (take f.count (s.streams j).moved) bytes f.spelled);
         has = f.has;
       }
 
-  pub left-grows : (image : List ℕ) → IsLeft n j base l s image → IsLeft n j base l s' image
-  left-grows image (inl has) = inl has
-  left-grows image (inr (bytes, f)) = inr (bytes, front-grows bytes image f)
+  pub left_grows : (image : List ℕ) → IsLeft n j base l s image → IsLeft n j base l s' image
+  left_grows image (inl has) = inl has
+  left_grows image (inr (bytes, f)) = inr (bytes, front_grows bytes image f)
 
 module _ {D : Type 0} {G : Ghosts D} (seen_now : (d : D) → G.tells → G.may_leave d (G.seen d)) (j : ℕ) (base : List ℕ) (w : Writer D G) where
   module _ (p p' : Plain) (h h' : Hidden) (load : p'.load ≡ p.load) (grown : Grows (core_of p h) (core_of p' h')) (same : SameAt j (core_of p h) (core_of p' h')) where
     module _ (taken : h'.taken j ≡ h.taken j) where
-      current-same : IsCurrent j base w p h → IsCurrent j base w p' h'
-      current-same k = record {
+      current_same : IsCurrent j base w p h → IsCurrent j base w p' h'
+      current_same k = record {
         works = k.works;
         going = same.stop ∙ k.going;
         gathered = same.gathered ∙ k.gathered ∙ sym same.plv;
@@ -56,13 +56,13 @@ module _ {D : Type 0} {G : Ghosts D} (seen_now : (d : D) → G.tells → G.may_l
         spelled = subst (λ (l : Load). Spelled l (anchors_at p') (h'.moved j) (h'.taken j)) (sym load)
             (subst (λ (b : List ℕ). Spelled p.load (anchors_at p') (h'.moved j) b) (sym taken)
             (subst (λ (items : List Item). Spelled p.load (anchors_at p') items (h.taken j)) (sym same.moved)
-            (spelled-more p.load (anchors_at p) (anchors_at p') (anchors-grow (core_of p h) (core_of p' h') grown) (h.moved j) (h.taken j) k.spelled)));
+            (spelled_more p.load (anchors_at p) (anchors_at p') (anchors_grow (core_of p h) (core_of p' h') grown) (h.moved j) (h.taken j) k.spelled)));
         ready = λ tells. subst (λ (l : Load). IsReady l.streams j w (base ++ h'.taken j)) (sym load)
             (subst (λ (b : List ℕ). IsReady p.load.streams j w (base ++ b)) (sym taken) (k.ready tells));
       }
 
-      broken-same : IsBroken j base w p h → IsBroken j base w p' h'
-      broken-same k = record {
+      broken_same : IsBroken j base w p h → IsBroken j base w p' h'
+      broken_same k = record {
         fails = k.fails;
         at = k.at;
         stop = same.stop ∙ k.stop;
@@ -70,7 +70,7 @@ module _ {D : Type 0} {G : Ghosts D} (seen_now : (d : D) → G.tells → G.may_l
         present = λ tells x left.
             (let (bytes, front, reach) = k.present tells x left in (
               bytes,
-              subst (λ (l : Load). HasFront l.streams j base l (core_of p' h') bytes x) (sym load) (front-grows p.load.streams j base p.load (core_of p h) (core_of p' h') grown bytes x front),
+              subst (λ (l : Load). HasFront l.streams j base l (core_of p' h') bytes x) (sym load) (front_grows p.load.streams j base p.load (core_of p h) (core_of p' h') grown bytes x front),
               (let e = same.plv in omega (arith, reach, e)),
             ));
         reached = λ tells.
@@ -78,17 +78,17 @@ module _ {D : Type 0} {G : Ghosts D} (seen_now : (d : D) → G.tells → G.may_l
             (y, content, now, subst (λ (l : Load). HasContent l.streams j content y) (sym load) has, size ∙ sym same.plv));
       }
 
-      pub kept-same : IsKept j base w p h → IsKept j base w p' h'
-      kept-same (inl k) = inl (current-same k)
-      kept-same (inr k) = inr (broken-same k)
+      pub kept_same : IsKept j base w p h → IsKept j base w p' h'
+      kept_same (inl k) = inl (current_same k)
+      kept_same (inr k) = inr (broken_same k)
 
     -- and what a stop may leave
-    pub leaving-same : IsLeaving j base w p h → IsLeaving j base w p' h'
-    leaving-same k = record {
+    pub leaving_same : IsLeaving j base w p h → IsLeaving j base w p' h'
+    leaving_same k = record {
       present = λ tells x left.
           (let (bytes, front, reach) = k.present tells x left in (
             bytes,
-            subst (λ (l : Load). HasFront l.streams j base l (core_of p' h') bytes x) (sym load) (front-grows p.load.streams j base p.load (core_of p h) (core_of p' h') grown bytes x front),
+            subst (λ (l : Load). HasFront l.streams j base l (core_of p' h') bytes x) (sym load) (front_grows p.load.streams j base p.load (core_of p h) (core_of p' h') grown bytes x front),
             (let e = same.plv in omega (arith, reach, e)),
           ));
       reached = λ tells.
@@ -98,31 +98,31 @@ module _ {D : Type 0} {G : Ghosts D} (seen_now : (d : D) → G.tells → G.may_l
       stopped = λ fails. (let (at, is) = k.stopped fails in (at, same.stop ∙ is));
     }
 
-  false-true : (b : Bool) → b ≡ false → b ≡ true → ⊥
-  false-true b e f = let bad : false ≡ true = sym e ∙ f in cc
+  false_true : (b : Bool) → b ≡ false → b ≡ true → ⊥
+  false_true b e f = let bad : false ≡ true = sym e ∙ f in cc
 
   module _ (p : Plain) (h : Hidden) where
-    current-has : IsCurrent j base w p h → G.tells → (x : List ℕ) → G.may_leave (disk_of w) x → HasContent p.load.streams j (base ++ h.taken j) x
-    current-has k tells x left = settled_has p.load.streams j (G.seen (disk_of w)) (G.may_leave (disk_of w)) w.gate_at (base ++ h.taken j) (k.ready tells).settled x left
+    current_has : IsCurrent j base w p h → G.tells → (x : List ℕ) → G.may_leave (disk_of w) x → HasContent p.load.streams j (base ++ h.taken j) x
+    current_has k tells x left = settled_has p.load.streams j (G.seen (disk_of w)) (G.may_leave (disk_of w)) w.gate_at (base ++ h.taken j) (k.ready tells).settled x left
 
-    pub kept-leaving : IsKept j base w p h → IsLeaving j base w p h
-    kept-leaving (inl k) = record {
+    pub kept_leaving : IsKept j base w p h → IsLeaving j base w p h
+    kept_leaving (inl k) = record {
       present = λ tells x left. (
         h.taken j,
         record {
           count = length (h.moved j);
           spelled = subst (λ (items : List Item). Spelled p.load (anchors_at p) items (h.taken j)) (sym (take_all (length (h.moved j)) (h.moved j) (omega arith))) k.spelled;
-          has = current-has k tells x left;
+          has = current_has k tells x left;
         },
         (let c = (k.ready tells).counts in let d = k.durable in omega (arith, c, d, length-append base (h.taken j))),
       );
-      reached = λ tells. (let now = seen_now (disk_of w) tells in (G.seen (disk_of w), base ++ h.taken j, now, current-has k tells (G.seen (disk_of w)) now, sym (k.ready tells).counts ∙ k.durable));
+      reached = λ tells. (let now = seen_now (disk_of w) tells in (G.seen (disk_of w), base ++ h.taken j, now, current_has k tells (G.seen (disk_of w)) now, sym (k.ready tells).counts ∙ k.durable));
       going = λ e. k.going;
-      stopped = λ e. absurd (false-true (has_failed w) k.works e);
+      stopped = λ e. absurd (false_true (has_failed w) k.works e);
     }
-    kept-leaving (inr k) = record {
+    kept_leaving (inr k) = record {
       present = k.present;
       reached = k.reached;
-      going = λ e. absurd (false-true (has_failed w) e k.fails);
+      going = λ e. absurd (false_true (has_failed w) e k.fails);
       stopped = λ e. (k.at, k.stop);
     }

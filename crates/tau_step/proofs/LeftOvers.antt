@@ -11,7 +11,7 @@ use Rattle.tau_machine.specs.State.{Core}
 use Rattle.tau_machine.specs.Events as machine
 use Rattle.tau_machine.specs.Events.{Resumes, with_worker}
 use Rattle.tau_machine.specs.Shard.{at}
-use Rattle.tau_machine.proofs.At.{at-same, at-other}
+use Rattle.tau_machine.proofs.At.{at_same, at_other}
 use Rattle.tau_core.specs.declared.state.Load.{Load}
 use Rattle.tau_core.specs.State.{Plain}
 use Rattle.tau_core.specs.View.{Hidden, core_of, setting_of, worker_at, worker_in, committed_by}
@@ -30,58 +30,58 @@ use Rattle.tau_step.specs.Progressed.{progress}
 use Rattle.tau_step.specs.Remains.{sum_below}
 use Rattle.tau_step.specs.Rounding.{worked_by, acted_alone, alone_on, ran_left_over, left_over_on, resumed_by}
 use Rattle.tau_step.specs.RunTold.{IsLowestStopped}
-use Rattle.tau_step.proofs.Fitting.{lowest-raised}
-use Rattle.tau_step.proofs.EffectsInTurn.{works-on, works-none}
-use Rattle.tau_step.proofs.Resting.{any-none, rest-hand, rest-waiting, busy-none, none-busy, resumed-later, resumed-quiet, alone-none, alone-more, alone-cut, left-more, left-cut, left-none, left-raised}
-use Rattle.tau_step.proofs.Rounding.{quiet-none}
-use Rattle.tau_step.proofs.Totals.{sum-same, sum-less}
-use Rattle.tau_step.proofs.Working.{goes, same-progress}
+use Rattle.tau_step.proofs.Fitting.{lowest_raised}
+use Rattle.tau_step.proofs.EffectsInTurn.{works_on, works_none}
+use Rattle.tau_step.proofs.Resting.{any_none, rest_hand, rest_waiting, busy_none, none_busy, resumed_later, resumed_quiet, alone_none, alone_more, alone_cut, left_more, left_cut, left_none, left_raised}
+use Rattle.tau_step.proofs.Rounding.{quiet_none}
+use Rattle.tau_step.proofs.Totals.{sum_same, sum_less}
+use Rattle.tau_step.proofs.Working.{goes, same_progress}
 
 -- ---- alone
 
 abbrev pub alone_so : ℕ → Bool → Load → Progress → Progress → Type 0
 alone_so w whole l P P' = alone_on w l P P'
 
-pub alone-quiet : (w : ℕ) (whole : Bool) (l : Load) (P P' : Progress) → alone_so w whole l P P' → Quiet P.state P'.state
-alone-quiet w whole l P P' h = (h false P' (alone-cut (setting_of l) l.workers l.streams w P' P' refl)).quiet
+pub alone_quiet : (w : ℕ) (whole : Bool) (l : Load) (P P' : Progress) → alone_so w whole l P P' → Quiet P.state P'.state
+alone_quiet w whole l P P' h = (h false P' (alone_cut (setting_of l) l.workers l.streams w P' P' refl)).quiet
 
-pub acts-none : (w : ℕ) (run : Run) → Stood run.core → Works (alone_so w) true run run
-acts-none w run stood = works-none (alone_so w) run stood (λ P whole R r. r)
+pub acts_none : (w : ℕ) (run : Run) → Stood run.core → Works (alone_so w) true run run
+acts_none w run stood = works_none (alone_so w) run stood (λ P whole R r. r)
 
 module _ (w : ℕ) (old mid new : Run) (x : Works (alone_so w) true old mid) where
-  pub acts-more : Works (worked_by w (Ok true)) true mid new → Works (alone_so w) true old new
-  acts-more y = works-on (alone_so w) (worked_by w (Ok true)) (alone_so w) true old mid new (λ l P Q P' p q whole R r. p whole R (alone-more (setting_of l) l.workers l.streams w Q P' (sym q.0) q.1 whole R r)) x y
+  pub acts_more : Works (worked_by w (Ok true)) true mid new → Works (alone_so w) true old new
+  acts_more y = works_on (alone_so w) (worked_by w (Ok true)) (alone_so w) true old mid new (λ l P Q P' p q whole R r. p whole R (alone_more (setting_of l) l.workers l.streams w Q P' (sym q.0) q.1 whole R r)) x y
 
-  pub acts-end : Works (worked_by w (Ok false)) true mid new → Works (acted_alone w) true old new
-  acts-end y = works-on (alone_so w) (worked_by w (Ok false)) (acted_alone w) true old mid new (λ l P Q P' p q. p true P' (alone-none (setting_of l) l.workers l.streams w Q P' (sym q.0) q.1)) x y
+  pub acts_end : Works (worked_by w (Ok false)) true mid new → Works (acted_alone w) true old new
+  acts_end y = works_on (alone_so w) (worked_by w (Ok false)) (acted_alone w) true old mid new (λ l P Q P' p q. p true P' (alone_none (setting_of l) l.workers l.streams w Q P' (sym q.0) q.1)) x y
 
-  pub acts-cut : (e : NoMemory) → Works (worked_by w (Err e)) false mid new → Works (acted_alone w) false old new
-  acts-cut e y = works-on (alone_so w) (worked_by w (Err e)) (acted_alone w) false old mid new (λ l P Q P' p q. p false P' (alone-cut (setting_of l) l.workers l.streams w Q P' q)) x y
+  pub acts_cut : (e : NoMemory) → Works (worked_by w (Err e)) false mid new → Works (acted_alone w) false old new
+  acts_cut e y = works_on (alone_so w) (worked_by w (Err e)) (acted_alone w) false old mid new (λ l P Q P' p q. p false P' (alone_cut (setting_of l) l.workers l.streams w Q P' q)) x y
 
 -- ---- calls left over, one after another
 
 abbrev pub left_so : Bool → Load → Progress → Progress → Type 0
 left_so whole l P P' = left_over_on l P P'
 
-pub left_so-quiet : (whole : Bool) (l : Load) (P P' : Progress) → left_so whole l P P' → Quiet P.state P'.state
-left_so-quiet whole l P P' h = (h false P' (record { turns = LeftOver.stop; quiet = quiet-none P'.state })).quiet
+pub left_so_quiet : (whole : Bool) (l : Load) (P P' : Progress) → left_so whole l P P' → Quiet P.state P'.state
+left_so_quiet whole l P P' h = (h false P' (record { turns = LeftOver.stop; quiet = quiet_none P'.state })).quiet
 
-pub calls-none : (run : Run) → Stood run.core → Works left_so true run run
-calls-none run stood = works-none left_so run stood (λ P whole R r. r)
+pub calls_none : (run : Run) → Stood run.core → Works left_so true run run
+calls_none run stood = works_none left_so run stood (λ P whole R r. r)
 
 module _ (old mid new : Run) (x : Works left_so true old mid) where
-  pub calls-more : Works (resumed_by (Ok true)) true mid new → Works left_so true old new
-  calls-more y = works-on left_so (resumed_by (Ok true)) left_so true old mid new (λ l P Q P' p q whole R r. p whole R (q whole R r)) x y
+  pub calls_more : Works (resumed_by (Ok true)) true mid new → Works left_so true old new
+  calls_more y = works_on left_so (resumed_by (Ok true)) left_so true old mid new (λ l P Q P' p q whole R r. p whole R (q whole R r)) x y
 
-  pub calls-end : Works (resumed_by (Ok false)) true mid new → Works ran_left_over true old new
-  calls-end y = works-on left_so (resumed_by (Ok false)) ran_left_over true old mid new (λ l P Q P' p q. p true P' q) x y
+  pub calls_end : Works (resumed_by (Ok false)) true mid new → Works ran_left_over true old new
+  calls_end y = works_on left_so (resumed_by (Ok false)) ran_left_over true old mid new (λ l P Q P' p q. p true P' q) x y
 
-  pub calls-cut : (e : NoMemory) → Works (resumed_by (Err e)) false mid new → Works ran_left_over false old new
-  calls-cut e y = works-on left_so (resumed_by (Err e)) ran_left_over false old mid new (λ l P Q P' p q. p false P' q) x y
+  pub calls_cut : (e : NoMemory) → Works (resumed_by (Err e)) false mid new → Works ran_left_over false old new
+  calls_cut e y = works_on left_so (resumed_by (Err e)) ran_left_over false old mid new (λ l P Q P' p q. p false P' q) x y
 
 -- after a stop none runs
-pub none-run : (run : Run) → Stood run.core → IsLowestStopped run.core.load.streams (core_of run.core nothing) run.failed → is_some run.failed ≡ true → Works ran_left_over true run run
-none-run run stood lowest some = record {
+pub none_run : (run : Run) → Stood run.core → IsLowestStopped run.core.load.streams (core_of run.core nothing) run.failed → is_some run.failed ≡ true → Works ran_left_over true run run
+none_run run stood lowest some = record {
   comes = λ K h es told g. record {
     hidden = h;
     order = K;
@@ -89,7 +89,7 @@ none-run run stood lowest some = record {
     stands = g;
     load = refl;
     taken = refl;
-    moved = left-raised (setting_of run.core.load) run.core.load.workers run.core.load.streams (progress run.core h es K told) (sym (lowest-raised run.core nothing h run.failed lowest) ∙ some);
+    moved = left_raised (setting_of run.core.load) run.core.load.workers run.core.load.streams (progress run.core h es K told) (sym (lowest_raised run.core nothing h run.failed lowest) ∙ some);
   };
   stood = stood;
   load = refl;
@@ -100,29 +100,29 @@ none-run run stood lowest some = record {
   flushes = refl;
 }
 
-pub is-none : (o : Option ℕ) → is_some o ≡ false → o ≡ None
-is-none None e = refl
-is-none (Some x) e = absurd (let bad : true ≡ false = e in cc)
+pub is_none : (o : Option ℕ) → is_some o ≡ false → o ≡ None
+is_none None e = refl
+is_none (Some x) e = absurd (let bad : true ≡ false = e in cc)
 
 -- ---- a call that goes back
 
-none-not : {A : Type 0} (x : A) (xs ys : List A) → [] ≡ xs ++ x ∷ ys → ⊥
-none-not x [] ys e = cc
-none-not x (y ∷ xs) ys e = cc
+none_not : {A : Type 0} (x : A) (xs ys : List A) → [] ≡ xs ++ x ∷ ys → ⊥
+none_not x [] ys e = cc
+none_not x (y ∷ xs) ys e = cc
 
 -- beyond the workers there is none
 module _ (p : Plain) (K : List (Act Txn)) (h : Hidden) (g : Stands p K h) where
   pub beyond : (w : ℕ) → p.load.workers ≤ w → slice_get p.seats w ≡ None
   beyond w le = slice_get_past p.seats w (let e = g.sound.seats in omega (arith, le, e))
 
-  pub beyond-hand : (w : ℕ) → p.load.workers ≤ w → (worker_at p w).hand ≡ None
-  beyond-hand w le = ap (λ (o : Option PlainSeat). (worker_in p.load o (committed_by p.load.workers w p.committed)).hand) (beyond w le)
+  pub beyond_hand : (w : ℕ) → p.load.workers ≤ w → (worker_at p w).hand ≡ None
+  beyond_hand w le = ap (λ (o : Option PlainSeat). (worker_in p.load o (committed_by p.load.workers w p.committed)).hand) (beyond w le)
 
-  pub beyond-waiting : (w : ℕ) → p.load.workers ≤ w → (worker_at p w).waiting ≡ []
-  beyond-waiting w le = ap (λ (o : Option PlainSeat). (worker_in p.load o (committed_by p.load.workers w p.committed)).waiting) (beyond w le)
+  pub beyond_waiting : (w : ℕ) → p.load.workers ≤ w → (worker_at p w).waiting ≡ []
+  beyond_waiting w le = ap (λ (o : Option PlainSeat). (worker_in p.load o (committed_by p.load.workers w p.committed)).waiting) (beyond w le)
 
-  pub beyond-left : (w : ℕ) → p.load.workers ≤ w → (worker_at p w).left ≡ []
-  beyond-left w le = ap (λ (o : Option PlainSeat). (worker_in p.load o (committed_by p.load.workers w p.committed)).left) (beyond w le)
+  pub beyond_left : (w : ℕ) → p.load.workers ≤ w → (worker_at p w).left ≡ []
+  beyond_left w le = ap (λ (o : Option PlainSeat). (worker_in p.load o (committed_by p.load.workers w p.committed)).left) (beyond w le)
 
 -- the lowest of some calls, and of those of many workers
 
@@ -133,9 +133,9 @@ record LeastIn (xs : List Numbered) : Type 0 where
   is : xs ≡ front ++ call ∷ back
   lowest : (c : Numbered) → Member c xs → call.number ≤ c.number
 
-least-in : (xs : List Numbered) → (xs ≡ []) ⊎ LeastIn xs
-least-in [] = inl refl
-least-in (x ∷ xs) = inr (elim (least-in xs) [
+least_in : (xs : List Numbered) → (xs ≡ []) ⊎ LeastIn xs
+least_in [] = inl refl
+least_in (x ∷ xs) = inr (elim (least_in xs) [
   | inl none ↦ record { front = []; call = x; back = xs; is = refl; lowest = λ c q. elim q [ inl e ↦ (let n = ap (λ (y : Numbered). y.number) e in omega (arith, n)) | inr more ↦ absurd (subst (λ (ys : List Numbered). Member c ys) none more) ] }
   | inr l ↦ elim (cases_lt l.call.number x.number) [
     | inl lt ↦ record {
@@ -161,10 +161,10 @@ record LeastOf (f : ℕ → List Numbered) (m : ℕ) : Type 0 where
   least : LeastIn (f worker)
   lowest : (u : ℕ) (c : Numbered) → u < m → Member c (f u) → least.call.number ≤ c.number
 
-least-of : (f : ℕ → List Numbered) (m : ℕ) → ((u : ℕ) → u < m → f u ≡ []) ⊎ LeastOf f m
-least-of f zero = inl (λ u lt. absurd (omega (arith, lt)))
-least-of f (suc m) = elim (least-of f m) [
-  | inl none ↦ elim (least-in (f m)) [
+least_of : (f : ℕ → List Numbered) (m : ℕ) → ((u : ℕ) → u < m → f u ≡ []) ⊎ LeastOf f m
+least_of f zero = inl (λ u lt. absurd (omega (arith, lt)))
+least_of f (suc m) = elim (least_of f m) [
+  | inl none ↦ elim (least_in (f m)) [
     | inl empty ↦ inl (λ u lt. elim (cases_eq u m) [ inl e ↦ ap f e ∙ empty | inr ne ↦ none u (omega (arith, lt, ne)) ])
     | inr l ↦ inr (record {
       worker = m;
@@ -173,7 +173,7 @@ least-of f (suc m) = elim (least-of f m) [
       lowest = λ u c lt q. elim (cases_eq u m) [ inl e ↦ l.lowest c (subst (λ (k : ℕ). Member c (f k)) e q) | inr ne ↦ absurd (subst (λ (ys : List Numbered). Member c ys) (none u (omega (arith, lt, ne))) q) ];
     })
   ]
-  | inr o ↦ elim (least-in (f m)) [
+  | inr o ↦ elim (least_in (f m)) [
     | inl empty ↦ inr (record {
       worker = o.worker;
       there = (let t = o.there in omega (arith, t));
@@ -197,9 +197,9 @@ least-of f (suc m) = elim (least-of f m) [
   ]
 ]
 
-empty-not : {A : Type 0} (xs : List A) → xs ≡ [] → not (is_empty xs) ≡ false
-empty-not [] e = refl
-empty-not (x ∷ xs) e = absurd (let bad : x ∷ xs ≡ [] = e in cc)
+empty_not : {A : Type 0} (xs : List A) → xs ≡ [] → not (is_empty xs) ≡ false
+empty_not [] e = refl
+empty_not (x ∷ xs) e = absurd (let bad : x ∷ xs ≡ [] = e in cc)
 
 shorter : {A : Type 0} (xs : List A) (x : A) (ys zs us : List A) → us ≡ xs ++ x ∷ ys → zs ≡ xs ++ ys → length zs < length us
 shorter {A} xs x ys zs us e f =
@@ -210,19 +210,19 @@ shorter {A} xs x ys zs us e f =
 abbrev pub resume_so : ℕ → Bool → Load → Progress → Progress → Type 0
 resume_so w whole l P P' = (w < l.workers) × (is_raised (setting_of l) l.workers l.streams P.state ≡ false) × Goes (setting_of l) l.workers l.streams (machine.Resume w) P P'
 
-pub resume-quiet : (w : ℕ) (whole : Bool) (l : Load) (P P' : Progress) → resume_so w whole l P P' → Quiet P.state P'.state
-resume-quiet w whole l P P' q = resumed-quiet (setting_of l) l.workers l.streams w P P' q.2
+pub resume_quiet : (w : ℕ) (whole : Bool) (l : Load) (P P' : Progress) → resume_so w whole l P P' → Quiet P.state P'.state
+resume_quiet w whole l P P' q = resumed_quiet (setting_of l) l.workers l.streams w P P' q.2
 
 -- the lowest call goes back to this worker
 module _ (w : ℕ) (old mid : Run) (stood : Stood old.core) (steps : (K : List (Act Txn)) (h : Hidden) → Stands old.core K h → Happened (machine.Resume w) old.core mid.core K h) where
-  pub resume-there : w < old.core.load.workers
-  resume-there = let (K, h, g) = stood in elim (cases_lt w old.core.load.workers) [
+  pub resume_there : w < old.core.load.workers
+  resume_there = let (K, h, g) = stood in elim (cases_lt w old.core.load.workers) [
     | inl lt ↦ lt
-    | inr le ↦ (let r = (steps K h g).leads.0 in absurd (none-not r.call r.front r.back (sym (beyond-left old.core K h g w le) ∙ r.is)))
+    | inr le ↦ (let r = (steps K h g).leads.0 in absurd (none_not r.call r.front r.back (sym (beyond_left old.core K h g w le) ∙ r.is)))
   ]
 
-  pub resume-works : mid.clerk ≡ old.clerk → mid.failed ≡ old.failed → mid.workers ≡ old.workers → mid.streams ≡ old.streams → mid.flushes ≡ old.flushes → IsLowestStopped old.core.load.streams (core_of old.core nothing) old.failed → old.failed ≡ None → Works (resume_so w) true old mid
-  resume-works clerk failed workers streams flushes lowest none = record {
+  pub resume_works : mid.clerk ≡ old.clerk → mid.failed ≡ old.failed → mid.workers ≡ old.workers → mid.streams ≡ old.streams → mid.flushes ≡ old.flushes → IsLowestStopped old.core.load.streams (core_of old.core nothing) old.failed → old.failed ≡ None → Works (resume_so w) true old mid
+  resume_works clerk failed workers streams flushes lowest none = record {
     comes = λ K h es told g. (let q = steps K h g in
         record {
           hidden = q.hidden;
@@ -231,7 +231,7 @@ module _ (w : ℕ) (old mid : Run) (stood : Stood old.core) (steps : (K : List (
           stands = q.stands;
           load = q.load;
           taken = q.taken;
-          moved = (resume-there, sym (lowest-raised old.core nothing h old.failed lowest) ∙ ap is_some none, goes old.core mid.core K h es told (machine.Resume w) q);
+          moved = (resume_there, sym (lowest_raised old.core nothing h old.failed lowest) ∙ ap is_some none, goes old.core mid.core K h es told (machine.Resume w) q);
         });
     stood = (let (K, h, g) = stood in let q = steps K h g in (K ++ q.joined, q.hidden, q.stands));
     load = (let (K, h, g) = stood in (steps K h g).load);
@@ -245,53 +245,53 @@ module _ (w : ℕ) (old mid : Run) (stood : Stood old.core) (steps : (K : List (
   abbrev Back : (K : List (Act Txn)) (h : Hidden) → Type 0
   Back K h = Happened (machine.Resume w) old.core mid.core K h
 
-  worker-now : (K : List (Act Txn)) (h : Hidden) (q : Back K h) (u : ℕ) →
+  worker_now : (K : List (Act Txn)) (h : Hidden) (q : Back K h) (u : ℕ) →
       worker_at mid.core u ≡ at w (record (worker_at old.core w) { waiting = q.leads.0.call ∷ []; left = q.leads.0.front ++ q.leads.0.back }) (λ v. worker_at old.core v) u
-  worker-now K h q u = ap (λ (c : Core). c.workers u) q.leads.0.after
+  worker_now K h q u = ap (λ (c : Core). c.workers u) q.leads.0.after
 
-  pub resume-hands : (u : ℕ) → (worker_at mid.core u).hand ≡ None
-  resume-hands u = let (K, h, g) = stood in let q = steps K h g in let r = q.leads.0 in
-      ap (λ (k : Worker). k.hand) (worker-now K h q u) ∙ elim (cases_eq u w) [
+  pub resume_hands : (u : ℕ) → (worker_at mid.core u).hand ≡ None
+  resume_hands u = let (K, h, g) = stood in let q = steps K h g in let r = q.leads.0 in
+      ap (λ (k : Worker). k.hand) (worker_now K h q u) ∙ elim (cases_eq u w) [
         | inl e ↦ subst (λ (v : ℕ). (at w (record (worker_at old.core w) { waiting = r.call ∷ []; left = r.front ++ r.back }) (λ v. worker_at old.core v) v).hand ≡ None) (sym e)
-            (ap (λ (k : Worker). k.hand) (at-same w (record (worker_at old.core w) { waiting = r.call ∷ []; left = r.front ++ r.back }) (λ v. worker_at old.core v)) ∙ (r.resting w).0)
-        | inr ne ↦ ap (λ (k : Worker). k.hand) (at-other w (record (worker_at old.core w) { waiting = r.call ∷ []; left = r.front ++ r.back }) (λ v. worker_at old.core v) u ne) ∙ (r.resting u).0
+            (ap (λ (k : Worker). k.hand) (at_same w (record (worker_at old.core w) { waiting = r.call ∷ []; left = r.front ++ r.back }) (λ v. worker_at old.core v)) ∙ (r.resting w).0)
+        | inr ne ↦ ap (λ (k : Worker). k.hand) (at_other w (record (worker_at old.core w) { waiting = r.call ∷ []; left = r.front ++ r.back }) (λ v. worker_at old.core v) u ne) ∙ (r.resting u).0
       ]
 
-  pub resume-settling : IsSettling w mid.core
-  resume-settling e = let bad : Resting ≡ Quitting = sym (ap (hand_phase mid.core.load.procs) (resume-hands w)) ∙ e in cc
+  pub resume_settling : IsSettling w mid.core
+  resume_settling e = let bad : Resting ≡ Quitting = sym (ap (hand_phase mid.core.load.procs) (resume_hands w)) ∙ e in cc
 
-  pub resume-fewer : calls_over mid.core < calls_over old.core
-  resume-fewer = let (K, h, g) = stood in let q = steps K h g in let r = q.leads.0 in
+  pub resume_fewer : calls_over mid.core < calls_over old.core
+  resume_fewer = let (K, h, g) = stood in let q = steps K h g in let r = q.leads.0 in
       subst (λ (l : Load). sum_below (λ u. length (worker_at mid.core u).left) l.workers < calls_over old.core) (sym q.load)
-      (sum-less (λ u. length (worker_at mid.core u).left) (λ u. length (worker_at old.core u).left) w old.core.load.workers resume-there
+      (sum_less (λ u. length (worker_at mid.core u).left) (λ u. length (worker_at old.core u).left) w old.core.load.workers resume_there
       (shorter r.front r.call r.back (worker_at mid.core w).left (worker_at old.core w).left r.is
-      (ap (λ (k : Worker). k.left) (worker-now K h q w ∙ at-same w (record (worker_at old.core w) { waiting = r.call ∷ []; left = r.front ++ r.back }) (λ v. worker_at old.core v))))
-      (λ u ne. ap (λ (k : Worker). length k.left) (worker-now K h q u ∙ at-other w (record (worker_at old.core w) { waiting = r.call ∷ []; left = r.front ++ r.back }) (λ v. worker_at old.core v) u ne)))
+      (ap (λ (k : Worker). k.left) (worker_now K h q w ∙ at_same w (record (worker_at old.core w) { waiting = r.call ∷ []; left = r.front ++ r.back }) (λ v. worker_at old.core v))))
+      (λ u ne. ap (λ (k : Worker). length k.left) (worker_now K h q u ∙ at_other w (record (worker_at old.core w) { waiting = r.call ∷ []; left = r.front ++ r.back }) (λ v. worker_at old.core v) u ne)))
 
   -- and runs alone
   module _ (new : Run) (x : Works (resume_so w) true old mid) where
-    pub resumed-on : Works (acted_alone w) true mid new → Works (resumed_by (Ok true)) true old new
-    resumed-on y = works-on (resume_so w) (acted_alone w) (resumed_by (Ok true)) true old mid new (λ l P Q P' p q whole X rest. left-more (setting_of l) l.workers l.streams w p.0 P Q P' p.1 p.2 q whole X rest) x y
+    pub resumed_on : Works (acted_alone w) true mid new → Works (resumed_by (Ok true)) true old new
+    resumed_on y = works_on (resume_so w) (acted_alone w) (resumed_by (Ok true)) true old mid new (λ l P Q P' p q whole X rest. left_more (setting_of l) l.workers l.streams w p.0 P Q P' p.1 p.2 q whole X rest) x y
 
-    pub resumed-cut : (e : NoMemory) → Works (acted_alone w) false mid new → Works (resumed_by (Err e)) false old new
-    resumed-cut e y = works-on (resume_so w) (acted_alone w) (resumed_by (Err e)) false old mid new (λ l P Q P' p q. left-cut (setting_of l) l.workers l.streams w p.0 P Q P' p.1 p.2 q) x y
+    pub resumed_cut : (e : NoMemory) → Works (acted_alone w) false mid new → Works (resumed_by (Err e)) false old new
+    resumed_cut e y = works_on (resume_so w) (acted_alone w) (resumed_by (Err e)) false old mid new (λ l P Q P' p q. left_cut (setting_of l) l.workers l.streams w p.0 P Q P' p.1 p.2 q) x y
 
-    pub resumed-fewer : Works (acted_alone w) true mid new → Settles w mid.core new.core → calls_over new.core < calls_over old.core
-    resumed-fewer y settles =
+    pub resumed_fewer : Works (acted_alone w) true mid new → Settles w mid.core new.core → calls_over new.core < calls_over old.core
+    resumed_fewer y settles =
         let (K, h, g) = x.stood in
         let c = y.comes K h [] [] g in
         let same : calls_over new.core ≡ calls_over mid.core =
         ap (λ (l : Load). sum_below (λ u. length (worker_at new.core u).left) l.workers) y.load
-        ∙ sum-same (λ u. length (worker_at new.core u).left) (λ u. length (worker_at mid.core u).left) mid.core.load.workers
+        ∙ sum_same (λ u. length (worker_at new.core u).left) (λ u. length (worker_at mid.core u).left) mid.core.load.workers
         (λ u lt. elim (cases_eq u w) [
           | inl e ↦ subst (λ (v : ℕ). length (worker_at new.core v).left ≡ length (worker_at mid.core v).left) (sym e) (ap (length {A = Numbered}) settles.left)
           | inr ne ↦ ap (λ (k : Worker). length k.left) (c.moved.apart u ne)
         ]) in
-        let less = resume-fewer in
+        let less = resume_fewer in
         omega (arith, same, less)
 
-    pub resumed-rests : Works (acted_alone w) true mid new → rests_in old.core → rests_in new.core
-    resumed-rests y rests =
+    pub resumed_rests : Works (acted_alone w) true mid new → rests_in old.core → rests_in new.core
+    resumed_rests y rests =
         let (K, h, g) = stood in
         let a = x.comes K h [] [] g in
         let b = y.comes a.order a.hidden a.events [] a.stands in
@@ -301,28 +301,28 @@ module _ (w : ℕ) (old mid : Run) (stood : Stood old.core) (steps : (K : List (
         let R = progress new.core b.hidden b.events b.order [] in
         let acted : acted_alone w true l Q R = subst (λ (k : Load). acted_alone w true k Q R) a.load b.moved in
         let none : is_busy (setting_of l) l.workers l.streams R.state ≡ false =
-        none-busy (setting_of l) l.workers l.streams R.state (λ u lt. elim (cases_eq u w) [
+        none_busy (setting_of l) l.workers l.streams R.state (λ u lt. elim (cases_eq u w) [
           | inl e ↦ subst (λ (v : ℕ). has_work (setting_of l) l.workers l.streams R.state v ≡ false) (sym e) (acted.rests refl)
-          | inr ne ↦ acted.others u ne ∙ resumed-later (setting_of l) l.workers l.streams w u ne P Q a.moved.2 ∙ busy-none (setting_of l) l.workers l.streams P.state rests u lt
+          | inr ne ↦ acted.others u ne ∙ resumed_later (setting_of l) l.workers l.streams w u ne P Q a.moved.2 ∙ busy_none (setting_of l) l.workers l.streams P.state rests u lt
         ]) in
         subst (λ (k : Load). is_busy (setting_of k) k.workers k.streams (core_of new.core nothing) ≡ false) (sym (y.load ∙ x.load)) none
 
 -- none is left
 module _ (old new : Run) (stood : Stood old.core) (steps : (K : List (Act Txn)) (h : Hidden) → Stands old.core K h → Unmoved old.core new.core K h × ((w : ℕ) (s' : Core) → Resumes (setting_of old.core.load) w (core_of old.core h) s' → ⊥))
     (lowest : IsLowestStopped old.core.load.streams (core_of old.core nothing) old.failed) (none : old.failed ≡ None) (rests : rests_in old.core) where
-  nothing-left : (K : List (Act Txn)) (h : Hidden) → Stands old.core K h → any_left (setting_of old.core.load) old.core.load.workers old.core.load.streams (core_of old.core h) ≡ false
-  nothing-left K h g =
+  nothing_left : (K : List (Act Txn)) (h : Hidden) → Stands old.core K h → any_left (setting_of old.core.load) old.core.load.workers old.core.load.streams (core_of old.core h) ≡ false
+  nothing_left K h g =
       let l = old.core.load in
-      let going : is_raised (setting_of l) l.workers l.streams (core_of old.core h) ≡ false = sym (lowest-raised old.core nothing h old.failed lowest) ∙ ap is_some none in
-      elim (least-of (λ u. (worker_at old.core u).left) l.workers) [
-        | inl empty ↦ any-none (λ u. not (is_empty (worker_at old.core u).left)) l.workers (λ u lt. empty-not (worker_at old.core u).left (empty u lt))
+      let going : is_raised (setting_of l) l.workers l.streams (core_of old.core h) ≡ false = sym (lowest_raised old.core nothing h old.failed lowest) ∙ ap is_some none in
+      elim (least_of (λ u. (worker_at old.core u).left) l.workers) [
+        | inl empty ↦ any_none (λ u. not (is_empty (worker_at old.core u).left)) l.workers (λ u lt. empty_not (worker_at old.core u).left (empty u lt))
         | inr o ↦ absurd ((steps K h g).1 o.worker (with_worker (core_of old.core h) o.worker (record (worker_at old.core o.worker) { waiting = o.least.call ∷ []; left = o.least.front ++ o.least.back })) (record {
           resting = λ u. elim (cases_lt u l.workers) [
             | inl lt ↦ (
-              rest-hand (setting_of l) l.workers l.streams (core_of old.core h) u lt (busy-none (setting_of l) l.workers l.streams (core_of old.core h) rests u lt),
-              rest-waiting (setting_of l) l.workers l.streams (core_of old.core h) u lt going (busy-none (setting_of l) l.workers l.streams (core_of old.core h) rests u lt),
+              rest_hand (setting_of l) l.workers l.streams (core_of old.core h) u lt (busy_none (setting_of l) l.workers l.streams (core_of old.core h) rests u lt),
+              rest_waiting (setting_of l) l.workers l.streams (core_of old.core h) u lt going (busy_none (setting_of l) l.workers l.streams (core_of old.core h) rests u lt),
             )
-            | inr le ↦ (beyond-hand old.core K h g u le, beyond-waiting old.core K h g u le)
+            | inr le ↦ (beyond_hand old.core K h g u le, beyond_waiting old.core K h g u le)
           ];
           front = o.least.front;
           call = o.least.call;
@@ -330,14 +330,14 @@ module _ (old new : Run) (stood : Stood old.core) (steps : (K : List (Act Txn)) 
           is = o.least.is;
           lowest = λ u c q. elim (cases_lt u l.workers) [
             | inl lt ↦ o.lowest u c lt q
-            | inr le ↦ absurd (subst (λ (cs : List Numbered). Member c cs) (beyond-left old.core K h g u le) q)
+            | inr le ↦ absurd (subst (λ (cs : List Numbered). Member c cs) (beyond_left old.core K h g u le) q)
           ];
           after = refl;
         }))
       ]
 
-  pub none-works : new.clerk ≡ old.clerk → new.failed ≡ old.failed → new.workers ≡ old.workers → new.streams ≡ old.streams → new.flushes ≡ old.flushes → Works (resumed_by (Ok false)) true old new
-  none-works clerk failed workers streams flushes = record {
+  pub none_works : new.clerk ≡ old.clerk → new.failed ≡ old.failed → new.workers ≡ old.workers → new.streams ≡ old.streams → new.flushes ≡ old.flushes → Works (resumed_by (Ok false)) true old new
+  none_works clerk failed workers streams flushes = record {
     comes = λ K h es told g. (let u = (steps K h g).0 in
         record {
           hidden = u.hidden;
@@ -346,7 +346,7 @@ module _ (old new : Run) (stood : Stood old.core) (steps : (K : List (Act Txn)) 
           stands = u.stands;
           load = u.load;
           taken = u.taken;
-          moved = left-none (setting_of old.core.load) old.core.load.workers old.core.load.streams (progress old.core h es K told) (progress new.core u.hidden es K told) (nothing-left K h g) (same-progress old.core new.core K h es told u);
+          moved = left_none (setting_of old.core.load) old.core.load.workers old.core.load.streams (progress old.core h es K told) (progress new.core u.hidden es K told) (nothing_left K h g) (same_progress old.core new.core K h es told u);
         });
     stood = (let (K, h, g) = stood in let u = (steps K h g).0 in (K, u.hidden, u.stands));
     load = (let (K, h, g) = stood in (steps K h g).0.load);
@@ -357,8 +357,8 @@ module _ (old new : Run) (stood : Stood old.core) (steps : (K : List (Act Txn)) 
     flushes = flushes;
   }
 
-  pub none-rests : rests_in new.core
-  none-rests =
+  pub none_rests : rests_in new.core
+  none_rests =
       let (K, h, g) = stood in
       let u = (steps K h g).0 in
       subst (λ (k : Load). is_busy (setting_of k) k.workers k.streams (core_of new.core nothing) ≡ false) (sym u.load)

@@ -19,7 +19,7 @@ use Rattle.tau_core.specs.declared.state.Load.{Load}
 use Rattle.tau_core.specs.State.{Plain}
 use Rattle.tau_core.specs.View.{Hidden, setting_of, core_of}
 use Rattle.tau_core.specs.Stands.{Stands}
-use Rattle.tau_core.proofs.Lists.{got-same, got-other}
+use Rattle.tau_core.proofs.Lists.{got_same, got_other}
 use Rattle.tau_run.specs.StopsLeave.{HasFront, IsLeft}
 use Rattle.tau_run.specs.Turns.{Progress}
 use Rattle.tau_step.specs.declared.manager.Managing.{Managing}
@@ -28,55 +28,50 @@ use Rattle.tau_step.specs.Along.{IsLeaving, Since, AreKept, Went}
 use Rattle.tau_step.specs.Keeping.{IsKept, ManagerTurns, ManagerStops, ManagerTurned}
 use Rattle.tau_step.specs.Progressed.{progress}
 use Rattle.tau_step.specs.Device.{managed_flushing}
-use Rattle.tau_step.proofs.Calls.{calls-none}
-use Rattle.tau_step.proofs.RunSteps.{since-none}
-use Rattle.tau_step.proofs.Idling.{idle-idled, failed-idled, flushed-on, part-stop}
-use Rattle.tau_step.proofs.Noting.{idle-silent, failed-silent, flushed-noted}
-use Rattle.tau_step.proofs.Kept.{kept-same, kept-leaving, leaving-same}
-use Rattle.tau_step.proofs.Turning.{managed-grows, managed-same}
-
-false-true : (b : Bool) → b ≡ false → b ≡ true → ⊥
-false-true b e f = let bad : false ≡ true = sym e ∙ f in cc
-
-some-is : {A : Type 0} (a b : A) → Some a ≡ Some b → a ≡ b
-some-is a b e = cc e
+use Rattle.tau_step.proofs.Calls.{calls_none}
+use Rattle.tau_step.proofs.RunSteps.{since_none}
+use Rattle.tau_step.proofs.Idling.{idle_idled, failed_idled, flushed_on, part_stop}
+use Rattle.tau_step.proofs.Noting.{idle_silent, failed_silent, flushed_noted}
+use Rattle.tau_step.proofs.Kept.{kept_same, kept_leaving, leaving_same}
+use Rattle.tau_step.proofs.Turning.{managed_grows, managed_same}
+use Rattle.tau_base.proofs.Logic.{some_is, not_both}
 
 module _ {D : Type 0} {G : Ghosts D} (seen_now : (d : D) → G.tells → G.may_leave d (G.seen d)) (bases : ℕ → List ℕ) (ws ws' : List (Writer D G)) (j : ℕ) (w w' : Writer D G) (is : slice_get ws j ≡ Some w) (is' : ws' ≡ slice_set ws j w')
     (p p' : Plain) (told : List (ℕ × List ℕ)) (K : List (Act Txn)) (h : Hidden) (es : List machine.Event) (g : Stands p K h) (k : AreKept bases ws p h) (there : j < p.load.streams) where
   within : j < length ws
   within = slice_get_within ws j w is
 
-  got-here : slice_get ws' j ≡ Some w'
-  got-here = ap (λ (xs : List (Writer D G)). slice_get xs j) is' ∙ got-same ws j w' within
+  got_here : slice_get ws' j ≡ Some w'
+  got_here = ap (λ (xs : List (Writer D G)). slice_get xs j) is' ∙ got_same ws j w' within
 
-  got-there : (i : ℕ) → (i ≡ j → ⊥) → slice_get ws' i ≡ slice_get ws i
-  got-there i ne = ap (λ (xs : List (Writer D G)). slice_get xs i) is' ∙ got-other ws j i w' ne
+  got_there : (i : ℕ) → (i ≡ j → ⊥) → slice_get ws' i ≡ slice_get ws i
+  got_there i ne = ap (λ (xs : List (Writer D G)). slice_get xs i) is' ∙ got_other ws j i w' ne
 
   many : length ws' ≡ length ws
   many = ap (length {A = Writer D G}) is' ∙ length-set ws j w'
 
   -- of each writer, by the one that acts and the others
   module _ (hidden : Hidden) (P : (i : ℕ) → Writer D G → Type 0) (here : P j w') (others : (i : ℕ) → (i ≡ j → ⊥) → (v : Writer D G) → slice_get ws i ≡ Some v → P i v) where
-    each-now : (i : ℕ) (v : Writer D G) → slice_get ws' i ≡ Some v → P i v
-    each-now i v e = elim (cases_eq i j) [
+    each_now : (i : ℕ) (v : Writer D G) → slice_get ws' i ≡ Some v → P i v
+    each_now i v e = elim (cases_eq i j) [
       | inl same ↦
           (let at : slice_get ws' j ≡ Some v = subst (λ (k : ℕ). slice_get ws' k ≡ Some v) same e in
-          let value : w' ≡ v = some-is w' v (sym got-here ∙ at) in
+          let value : w' ≡ v = some_is w' v (sym got_here ∙ at) in
           subst (λ (k : ℕ). P k v) (sym same) (subst (P j) value here))
-      | inr ne ↦ others i ne v (sym (got-there i ne) ∙ e)
+      | inr ne ↦ others i ne v (sym (got_there i ne) ∙ e)
     ]
 
-  since-now : (l : Load) (s : Core) → Since j (bases j) l s w w' → (i : ℕ) (v : Writer D G) → slice_get ws i ≡ Some v → (v' : Writer D G) × (slice_get ws' i ≡ Some v') × Since i (bases i) l s v v'
-  since-now l s here i v e = elim (cases_eq i j) [
+  since_now : (l : Load) (s : Core) → Since j (bases j) l s w w' → (i : ℕ) (v : Writer D G) → slice_get ws i ≡ Some v → (v' : Writer D G) × (slice_get ws' i ≡ Some v') × Since i (bases i) l s v v'
+  since_now l s here i v e = elim (cases_eq i j) [
     | inl same ↦
         (let at : slice_get ws j ≡ Some v = subst (λ (k : ℕ). slice_get ws k ≡ Some v) same e in
-        let value : w ≡ v = some-is w v (sym is ∙ at) in
-        subst (λ (k : ℕ). (v' : Writer D G) × (slice_get ws' k ≡ Some v') × Since k (bases k) l s v v') (sym same) (w', got-here, subst (λ (x : Writer D G). Since j (bases j) l s x w') value here))
-    | inr ne ↦ (v, got-there i ne ∙ e, since-none i (bases i) l s v)
+        let value : w ≡ v = some_is w v (sym is ∙ at) in
+        subst (λ (k : ℕ). (v' : Writer D G) × (slice_get ws' k ≡ Some v') × Since k (bases k) l s v v') (sym same) (w', got_here, subst (λ (x : Writer D G). Since j (bases j) l s x w') value here))
+    | inr ne ↦ (v, got_there i ne ∙ e, since_none i (bases i) l s v)
   ]
 
-  kept-now : IsKept j (bases j) w p h
-  kept-now = k.each j w is
+  kept_now : IsKept j (bases j) w p h
+  kept_now = k.each j w is
 
   module _ (a : Managing) (t : ManagerTurns j (bases j) w w' p p' told K h es a) where
     abbrev P : Progress
@@ -86,58 +81,58 @@ module _ {D : Type 0} {G : Ghosts D} (seen_now : (d : D) → G.tells → G.may_l
     P' = progress p' t.hidden t.events t.order told
 
     was : ((P.state.streams j).stop ≡ None) ⊎ ((x : ℕ) × ((P.state.streams j).stop ≡ Some x))
-    was = let l = kept-leaving seen_now j (bases j) w p h kept-now in elim (cases_Bool (has_failed w)) [
+    was = let l = kept_leaving seen_now j (bases j) w p h kept_now in elim (cases_Bool (has_failed w)) [
       | inl fails ↦ inr (l.stopped fails)
       | inr works ↦ inl (l.going works)
     ]
 
     now : IsLeaving j (bases j) w' p' t.hidden
-    now = kept-leaving seen_now j (bases j) w' p' t.hidden t.kept
+    now = kept_leaving seen_now j (bases j) w' p' t.hidden t.kept
 
     long : j < length p.plv
     long = let e = g.sound.plv in omega (arith, e, there)
 
-    works-first : (P.state.streams j).stop ≡ None → has_failed w ≡ false
-    works-first none = elim (cases_Bool (has_failed w)) [
-      | inl fails ↦ (let (x, e) = (kept-leaving seen_now j (bases j) w p h kept-now).stopped fails in absurd (let bad : None ≡ Some x = sym none ∙ e in cc))
+    works_first : (P.state.streams j).stop ≡ None → has_failed w ≡ false
+    works_first none = elim (cases_Bool (has_failed w)) [
+      | inl fails ↦ (let (x, e) = (kept_leaving seen_now j (bases j) w p h kept_now).stopped fails in absurd (let bad : None ≡ Some x = sym none ∙ e in cc))
       | inr works ↦ works
     ]
 
-    by-answer : (b : Managing) → a ≡ b → managed_flushing j (Ok b) true p.load P P'
-    by-answer did.Idle e =
+    by_answer : (b : Managing) → a ≡ b → managed_flushing j (Ok b) true p.load P P'
+    by_answer did.Idle e =
         let i = t.idle e in (
-          (t.moved, idle-idled (setting_of p.load) p.load.workers p.load.streams j there P P' was (λ none. now.going (i.0 ∙ works-first none)) i.1 long t.moved),
-          idle-silent (setting_of p.load) p.load.workers p.load.streams j there P P' was i.1 long t.moved,
+          (t.moved, idle_idled (setting_of p.load) p.load.workers p.load.streams j there P P' was (λ none. now.going (i.0 ∙ works_first none)) i.1 long t.moved),
+          idle_silent (setting_of p.load) p.load.workers p.load.streams j there P P' was i.1 long t.moved,
         )
-    by-answer did.Failed e =
+    by_answer did.Failed e =
         let f = t.failed e in
         let (x, stop) = now.stopped f.1 in
-        let going = (kept-leaving seen_now j (bases j) w p h kept-now).going f.0 in (
-          (t.moved, failed-idled (setting_of p.load) p.load.workers p.load.streams j there P P' x going stop t.moved),
-          failed-silent (setting_of p.load) p.load.workers p.load.streams j there P P' x going stop t.moved,
+        let going = (kept_leaving seen_now j (bases j) w p h kept_now).going f.0 in (
+          (t.moved, failed_idled (setting_of p.load) p.load.workers p.load.streams j there P P' x going stop t.moved),
+          failed_silent (setting_of p.load) p.load.workers p.load.streams j there P P' x going stop t.moved,
         )
-    by-answer did.Flushed e =
+    by_answer did.Flushed e =
         let f = t.flushed e in
-        let going = (kept-leaving seen_now j (bases j) w p h kept-now).going f.0 in (
-          (t.moved, flushed-on (setting_of p.load) p.load.workers p.load.streams j there P P' going f.2 t.moved),
-          flushed-noted (setting_of p.load) p.load.workers p.load.streams j there P P' going f.2 t.moved,
+        let going = (kept_leaving seen_now j (bases j) w p h kept_now).going f.0 in (
+          (t.moved, flushed_on (setting_of p.load) p.load.workers p.load.streams j there P P' going f.2 t.moved),
+          flushed_noted (setting_of p.load) p.load.workers p.load.streams j there P P' going f.2 t.moved,
         )
 
-    turns-went : Went bases (managed_flushing j (Ok a)) true p p' ws ws' told told K h es
-    turns-went =
-        let grown = managed-grows (setting_of p.load) p.load.workers p.load.streams P P' j true t.moved in
+    turns_went : Went bases (managed_flushing j (Ok a)) true p p' ws ws' told told K h es
+    turns_went =
+        let grown = managed_grows (setting_of p.load) p.load.workers p.load.streams P P' j true t.moved in
         record {
           hidden = t.hidden;
           order = t.order;
           events = t.events;
           stands = t.stands;
           load = t.load;
-          moved = by-answer a refl;
+          moved = by_answer a refl;
           grown = grown;
           count = many;
-          kept = each-now t.hidden (λ i v. IsKept i (bases i) v p' t.hidden) t.kept
-              (λ i ne v e. kept-same seen_now i (bases i) v p p' h t.hidden t.load grown (managed-same (setting_of p.load) p.load.workers p.load.streams P P' i j ne true t.moved) (t.taken i ne) (k.each i v e));
-          since = since-now p.load (core_of p' t.hidden) (record {
+          kept = each_now t.hidden (λ i v. IsKept i (bases i) v p' t.hidden) t.kept
+              (λ i ne v e. kept_same seen_now i (bases i) v p p' h t.hidden t.load grown (managed_same (setting_of p.load) p.load.workers p.load.streams P P' i j ne true t.moved) (t.taken i ne) (k.each i v e));
+          since = since_now p.load (core_of p' t.hidden) (record {
             before = t.passes;
             faults = t.faults;
             goes = t.goes;
@@ -150,9 +145,9 @@ module _ {D : Type 0} {G : Ghosts D} (seen_now : (d : D) → G.tells → G.may_l
         rises works fails = by a refl
           where
             by : (b : Managing) → a ≡ b → Rose (G.faults (disk_of w)) (G.faults (disk_of w'))
-            by did.Idle e = absurd (false-true (has_failed w') ((t.idle e).0 ∙ works) fails)
+            by did.Idle e = absurd (not_both (has_failed w') ((t.idle e).0 ∙ works) fails)
             by did.Failed e = (t.failed e).2
-            by did.Flushed e = absurd (false-true (has_failed w') (t.flushed e).1 fails)
+            by did.Flushed e = absurd (not_both (has_failed w') (t.flushed e).1 fails)
 
   module _ (x : NoMemory) (t : ManagerStops j (bases j) w w' p p' told K h es) where
     abbrev Q : Progress
@@ -161,11 +156,11 @@ module _ {D : Type 0} {G : Ghosts D} (seen_now : (d : D) → G.tells → G.may_l
     abbrev Q' : Progress
     Q' = progress p' t.hidden t.events t.order told
 
-    same-disk : disk_of w ≡ disk_of w'
-    same-disk = sym t.disk
+    same_disk : disk_of w ≡ disk_of w'
+    same_disk = sym t.disk
 
-    stays-working : has_failed w' ≡ false
-    stays-working = t.works ∙ t.worked
+    stays_working : has_failed w' ≡ false
+    stays_working = t.works ∙ t.worked
 
     leaves : IsLeaving j (bases j) w' p' t.hidden
     leaves = record {
@@ -176,13 +171,13 @@ module _ {D : Type 0} {G : Ghosts D} (seen_now : (d : D) → G.tells → G.may_l
           (let now = seen_now (disk_of w') tells in
           let (bytes, front, size) = t.present t.worked tells (G.seen (disk_of w')) (subst (λ (d : D). G.may_leave d (G.seen (disk_of w'))) t.disk now) in
           (G.seen (disk_of w'), bases j ++ bytes, now, subst (λ (l : Load). HasContent l.streams j (bases j ++ bytes) (G.seen (disk_of w'))) (sym t.load) front.has, length-append (bases j) bytes ∙ sym size));
-      going = λ works. part-stop (setting_of p.load) p.load.workers p.load.streams j there Q Q' t.moved ∙ (kept-leaving seen_now j (bases j) w p h kept-now).going t.worked;
-      stopped = λ fails. absurd (false-true (has_failed w') stays-working fails);
+      going = λ works. part_stop (setting_of p.load) p.load.workers p.load.streams j there Q Q' t.moved ∙ (kept_leaving seen_now j (bases j) w p h kept_now).going t.worked;
+      stopped = λ fails. absurd (not_both (has_failed w') stays_working fails);
     }
 
-    stops-went : Went bases (managed_flushing j (Err x)) false p p' ws ws' told told K h es
-    stops-went =
-        let grown = managed-grows (setting_of p.load) p.load.workers p.load.streams Q Q' j false t.moved in
+    stops_went : Went bases (managed_flushing j (Err x)) false p p' ws ws' told told K h es
+    stops_went =
+        let grown = managed_grows (setting_of p.load) p.load.workers p.load.streams Q Q' j false t.moved in
         record {
           hidden = t.hidden;
           order = t.order;
@@ -192,18 +187,18 @@ module _ {D : Type 0} {G : Ghosts D} (seen_now : (d : D) → G.tells → G.may_l
           moved = (t.moved, tt);
           grown = grown;
           count = many;
-          kept = each-now t.hidden (λ i v. IsLeaving i (bases i) v p' t.hidden) leaves
-              (λ i ne v e. leaving-same seen_now i (bases i) v p p' h t.hidden t.load grown (managed-same (setting_of p.load) p.load.workers p.load.streams Q Q' i j ne false t.moved) (kept-leaving seen_now i (bases i) v p h (k.each i v e)));
-          since = since-now p.load (core_of p' t.hidden) (record {
-            before = λ tells. subst (λ (d : D). Passes G.moment G.may_leave_since (disk_of w) d (IsLeft p.load.streams j (bases j) p.load (core_of p' t.hidden))) same-disk
+          kept = each_now t.hidden (λ i v. IsLeaving i (bases i) v p' t.hidden) leaves
+              (λ i ne v e. leaving_same seen_now i (bases i) v p p' h t.hidden t.load grown (managed_same (setting_of p.load) p.load.workers p.load.streams Q Q' i j ne false t.moved) (kept_leaving seen_now i (bases i) v p h (k.each i v e)));
+          since = since_now p.load (core_of p' t.hidden) (record {
+            before = λ tells. subst (λ (d : D). Passes G.moment G.may_leave_since (disk_of w) d (IsLeft p.load.streams j (bases j) p.load (core_of p' t.hidden))) same_disk
                 (passes_none G.moment G.may_leave_since (disk_of w) (IsLeft p.load.streams j (bases j) p.load (core_of p' t.hidden)));
-            faults = subst (λ (d : D). G.faults (disk_of w) ≤ G.faults d) same-disk (omega arith);
-            goes = λ works tells. subst (λ (d : D). GoesOn G.number G.fails (disk_of w) d) same-disk (calls-none G.tells G.number G.fails G.short (disk_of w));
-            stops = λ works fails. absurd (false-true (has_failed w') stays-working fails);
-            still = λ fails. absurd (false-true (has_failed w) t.worked fails);
+            faults = subst (λ (d : D). G.faults (disk_of w) ≤ G.faults d) same_disk (omega arith);
+            goes = λ works tells. subst (λ (d : D). GoesOn G.number G.fails (disk_of w) d) same_disk (calls_none G.tells G.number G.fails G.short (disk_of w));
+            stops = λ works fails. absurd (not_both (has_failed w') stays_working fails);
+            still = λ fails. absurd (not_both (has_failed w) t.worked fails);
           });
         }
 
-  pub manager-went : (r : Result Managing NoMemory) → ManagerTurned j (bases j) w w' p p' told K h es r → (whole : Bool) → whole ≡ is_ok r → Went bases (managed_flushing j r) whole p p' ws ws' told told K h es
-  manager-went (Ok a) t whole e = subst (λ (b : Bool). Went bases (managed_flushing j (Ok a)) b p p' ws ws' told told K h es) (sym e) (turns-went a t)
-  manager-went (Err x) t whole e = subst (λ (b : Bool). Went bases (managed_flushing j (Err x)) b p p' ws ws' told told K h es) (sym e) (stops-went x t)
+  pub manager_went : (r : Result Managing NoMemory) → ManagerTurned j (bases j) w w' p p' told K h es r → (whole : Bool) → whole ≡ is_ok r → Went bases (managed_flushing j r) whole p p' ws ws' told told K h es
+  manager_went (Ok a) t whole e = subst (λ (b : Bool). Went bases (managed_flushing j (Ok a)) b p p' ws ws' told told K h es) (sym e) (turns_went a t)
+  manager_went (Err x) t whole e = subst (λ (b : Bool). Went bases (managed_flushing j (Err x)) b p p' ws ws' told told K h es) (sym e) (stops_went x t)

@@ -6,35 +6,35 @@ use Rattle.tau_run.specs.Run.{below}
 use Rattle.tau_run.specs.Turns.{Progress, OneByOne}
 
 module _ (set : Setting) (m n : ℕ) {A : Type 0} (step : Bool → A → Progress → Progress → Type 0) where
-  pub one-none : (P : Progress) → OneByOne set m n step true [] P P
-  one-none P = refl
+  pub one_none : (P : Progress) → OneByOne set m n step true [] P P
+  one_none P = refl
 
   -- one more after them
-  pub one-more : (xs : List A) (x : A) (P Q P' : Progress) → OneByOne set m n step true xs P Q → step true x Q P' → OneByOne set m n step true (xs ++ x ∷ []) P P'
-  one-more [] x P Q P' e s = (P', subst (λ (q : Progress). step true x q P') e s, refl)
-  one-more (y ∷ ys) x P Q P' (q, first, rest) s = (q, first, one-more ys x q Q P' rest s)
+  pub one_more : (xs : List A) (x : A) (P Q P' : Progress) → OneByOne set m n step true xs P Q → step true x Q P' → OneByOne set m n step true (xs ++ x ∷ []) P P'
+  one_more [] x P Q P' e s = (P', subst (λ (q : Progress). step true x q P') e s, refl)
+  one_more (y ∷ ys) x P Q P' (q, first, rest) s = (q, first, one_more ys x q Q P' rest s)
 
   -- the next of them is left undone in part
-  pub one-cut : (xs : List A) (x : A) (ys : List A) (P Q P' : Progress) → OneByOne set m n step true xs P Q → step false x Q P' → OneByOne set m n step false (xs ++ x ∷ ys) P P'
-  one-cut [] x ys P Q P' e s = inl (subst (λ (q : Progress). step false x q P') e s)
-  one-cut (y ∷ zs) x ys P Q P' (q, first, rest) s = inr (q, first, one-cut zs x ys q Q P' rest s)
+  pub one_cut : (xs : List A) (x : A) (ys : List A) (P Q P' : Progress) → OneByOne set m n step true xs P Q → step false x Q P' → OneByOne set m n step false (xs ++ x ∷ ys) P P'
+  one_cut [] x ys P Q P' e s = inl (subst (λ (q : Progress). step false x q P') e s)
+  one_cut (y ∷ zs) x ys P Q P' (q, first, rest) s = inr (q, first, one_cut zs x ys q Q P' rest s)
 
   -- some after others
-  pub one-both : (xs ys : List A) (P Q P' : Progress) → OneByOne set m n step true xs P Q → OneByOne set m n step true ys Q P' → OneByOne set m n step true (xs ++ ys) P P'
-  one-both [] ys P Q P' e s = subst (λ (q : Progress). OneByOne set m n step true ys q P') e s
-  one-both (x ∷ xs) ys P Q P' (q, first, rest) s = (q, first, one-both xs ys q Q P' rest s)
+  pub one_both : (xs ys : List A) (P Q P' : Progress) → OneByOne set m n step true xs P Q → OneByOne set m n step true ys Q P' → OneByOne set m n step true (xs ++ ys) P P'
+  one_both [] ys P Q P' e s = subst (λ (q : Progress). OneByOne set m n step true ys q P') e s
+  one_both (x ∷ xs) ys P Q P' (q, first, rest) s = (q, first, one_both xs ys q Q P' rest s)
 
   -- of some after others the last are left undone in part
-  pub one-cut_behind : (xs ys : List A) (P Q P' : Progress) → OneByOne set m n step true xs P Q → OneByOne set m n step false ys Q P' → OneByOne set m n step false (xs ++ ys) P P'
-  one-cut_behind [] ys P Q P' e s = subst (λ (q : Progress). OneByOne set m n step false ys q P') e s
-  one-cut_behind (x ∷ xs) ys P Q P' (q, first, rest) s = inr (q, first, one-cut_behind xs ys q Q P' rest s)
+  pub one_cut_behind : (xs ys : List A) (P Q P' : Progress) → OneByOne set m n step true xs P Q → OneByOne set m n step false ys Q P' → OneByOne set m n step false (xs ++ ys) P P'
+  one_cut_behind [] ys P Q P' e s = subst (λ (q : Progress). OneByOne set m n step false ys q P') e s
+  one_cut_behind (x ∷ xs) ys P Q P' (q, first, rest) s = inr (q, first, one_cut_behind xs ys q Q P' rest s)
 
 -- the numbers below one are those below another, it, and others
-pub below-split : (i m : ℕ) → i < m → (others : List ℕ) × (below m ≡ below i ++ i ∷ others)
-below-split i zero lt = absurd (omega arith)
-below-split i (suc m) lt = elim (cases_eq i m) [
+pub below_split : (i m : ℕ) → i < m → (others : List ℕ) × (below m ≡ below i ++ i ∷ others)
+below_split i zero lt = absurd (omega arith)
+below_split i (suc m) lt = elim (cases_eq i m) [
   | inl e ↦ ([], ap (λ (k : ℕ). below k ++ k ∷ []) (sym e))
-  | inr ne ↦ (let more = below-split i m (under i m lt ne) in
+  | inr ne ↦ (let more = below_split i m (under i m lt ne) in
       (more.0 ++ m ∷ [], ap (λ (l : List ℕ). l ++ m ∷ []) more.1 ∙ append_assoc (below i) (i ∷ more.0) (m ∷ [])))
 ]
   where

@@ -29,14 +29,14 @@ use Rattle.tau_step.specs.RunEffects.{IsOn, Moves}
 use Rattle.tau_step.specs.Progressed.{progress}
 use Rattle.tau_step.specs.Rounding.{ran_all}
 use Rattle.tau_step.specs.RunTold.{AreNew, IsLowestStopped}
-use Rattle.tau_step.proofs.Begun.{fresh-begun, fresh-load, fresh-opened}
-use Rattle.tau_step.proofs.Ending.{begun-along, begun-kept}
-use Rattle.tau_step.proofs.EffectsInTurn.{lowest-same}
-use Rattle.tau_step.proofs.Whole.{all-whole}
+use Rattle.tau_step.proofs.Begun.{fresh_begun, fresh_load, fresh_opened}
+use Rattle.tau_step.proofs.Ending.{begun_along, begun_kept}
+use Rattle.tau_step.proofs.EffectsInTurn.{lowest_same}
+use Rattle.tau_step.proofs.Whole.{all_whole}
 
 -- the writers of streams that were just opened
-pub are-new : {D : Type 0} {G : Ghosts D} (n : ℕ) (load : Workload) (old mid : List D) (ws : List (Writer D G)) → AreOpened G n (catalogue_of load) old mid ws → AreNew (λ j. catalogue_of load) ws
-are-new {D} {G} n load old mid ws streams j w e =
+pub are_new : {D : Type 0} {G : Ghosts D} (n : ℕ) (load : Workload) (old mid : List D) (ws : List (Writer D G)) → AreOpened G n (catalogue_of load) old mid ws → AreNew (λ j. catalogue_of load) ws
+are_new {D} {G} n load old mid ws streams j w e =
     let b = streams.begun j w e in
     record {
       works = b.works;
@@ -48,12 +48,12 @@ are-new {D} {G} n load old mid ws streams j w e =
 -- a run that was not begun
 module _ {D : Type 0} {G : Ghosts D} (m : ℕ) (mode : LogMode) (load : Workload) (run : Run) (ws : List (Writer D G)) (fresh : OpenedFresh load.declarations.procs load.calls mode m (length ws) (catalogue_size (declarations_text load.declarations)) run.core)
     (are : AreNew (λ j. catalogue_of load) ws) (workers : run.workers ≡ m) (streams : run.streams ≡ length ws) (none : run.failed ≡ None) where
-  pub begun-on : IsOn ws run
-  begun-on =
-      let opened = fresh-opened m mode load ws ws ⊥ [] [] ⊥ run.core fresh in
-      let loaded = fresh-load m mode load ws ws ⊥ [] [] ⊥ run.core fresh in
+  pub begun_on : IsOn ws run
+  begun_on =
+      let opened = fresh_opened m mode load ws ws ⊥ [] [] ⊥ run.core fresh in
+      let loaded = fresh_load m mode load ws ws ⊥ [] [] ⊥ run.core fresh in
       record {
-        along = subst (λ (f : Option ℕ). IsAlong ws run.core f) (sym none) (begun-along (λ j. catalogue_of load) ws run.core opened (fresh-begun m mode load ws ws ⊥ [] [] ⊥ run.core fresh are));
+        along = subst (λ (f : Option ℕ). IsAlong ws run.core f) (sym none) (begun_along (λ j. catalogue_of load) ws run.core opened (fresh_begun m mode load ws ws ⊥ [] [] ⊥ run.core fresh are));
         workers = workers ∙ sym loaded.workers;
         streams = streams ∙ sym loaded.streams;
       }
@@ -68,13 +68,13 @@ module _ {D : Type 0} {G : Ghosts D} (m : ℕ) (mode : LogMode) (load : Workload
   bases j = catalogue_of load
 
   opened : Opened old.core.load old.core
-  opened = fresh-opened m mode load ws ws hears held held hears old.core fresh
+  opened = fresh_opened m mode load ws ws hears held held hears old.core fresh
 
   first_load : IsLoadOf n m mode load old.core.load
-  first_load = fresh-load m mode load ws ws hears held held hears old.core fresh
+  first_load = fresh_load m mode load ws ws hears held held hears old.core fresh
 
   went : Went bases (noting old.flushes new.flushes (ran_all (turns_of load))) true old.core new.core ws ws' old.clerk.acks new.clerk.acks [] nothing []
-  went = x.went bases [] nothing [] opened.stands (begun-kept bases ws old.core opened (fresh-begun m mode load ws ws hears held held hears old.core fresh are))
+  went = x.went bases [] nothing [] opened.stands (begun_kept bases ws old.core opened (fresh_begun m mode load ws ws hears held held hears old.core fresh are))
 
   abbrev l : Load
   l = new.core.load
@@ -96,7 +96,7 @@ module _ {D : Type 0} {G : Ghosts D} (m : ℕ) (mode : LogMode) (load : Workload
       subst (λ (d : Load). IsWholeRun (setting_of d) m n (turns_of load) (core_of old.core nothing) P) (sym went.load)
       (subst (λ (k : ℕ). IsWholeRun (setting_of old.core.load) m k (turns_of load) (core_of old.core nothing) P) first_load.streams
       (subst (λ (k : ℕ). IsWholeRun (setting_of old.core.load) k old.core.load.streams (turns_of load) (core_of old.core nothing) P) first_load.workers
-      (all-whole old.core.load (turns_of load) (core_of old.core nothing) P from_begun)))
+      (all_whole old.core.load (turns_of load) (core_of old.core nothing) P from_begun)))
 
   opening_is : machine.IsOpening (setting_of l) (core_of old.core nothing)
   opening_is = subst (λ (d : Load). machine.IsOpening (setting_of d) (core_of old.core nothing)) (sym went.load) opened.opening
@@ -111,12 +111,12 @@ module _ {D : Type 0} {G : Ghosts D} (m : ℕ) (mode : LogMode) (load : Workload
     unstopped : (j : ℕ) → j < n → (s.streams j).stop ≡ None
     unstopped j lt =
         let a = (x.on refl).along in
-        let lowest = lowest-same new.core.load.streams (core_of new.core a.hidden) s (λ i. refl) new.failed a.lowest in
+        let lowest = lowest_same new.core.load.streams (core_of new.core a.hidden) s (λ i. refl) new.failed a.lowest in
         let all : IsLowestStopped new.core.load.streams s None = subst (λ (f : Option ℕ). IsLowestStopped new.core.load.streams s f) of_run.0 lowest in
         all j (subst (λ (k : ℕ). j < k) (sym is_load.streams) lt)
 
-    pub flush-order : IsFlushOrder n m mode load flushes
-    flush-order = record {
+    pub flush_order : IsFlushOrder n m mode load flushes
+    flush_order = record {
       run = there.0;
       core = record {
         stands_on = l;

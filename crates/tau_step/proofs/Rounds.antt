@@ -24,14 +24,14 @@ use Rattle.tau_step.specs.RunEffects.{IsOn, Works, Manages, Moves, rests_in, tot
 use Rattle.tau_step.specs.Progressed.{progress, clerks}
 use Rattle.tau_step.specs.Telling.{Passed}
 use Rattle.tau_step.specs.Rounding.{managed, Rounded, worked_by, rounded_by, round_by, rounds_on, in_rounds, managed_by, managed_below, all_managed, clerked, rest_of_round}
-use Rattle.tau_step.proofs.RunSteps.{kept-after, went-on}
+use Rattle.tau_step.proofs.RunSteps.{kept_after, went_on}
 use Rattle.tau_step.specs.Device.{noting}
-use Rattle.tau_step.proofs.Silent.{false-not, rounded-silent}
-use Rattle.tau_step.proofs.EffectsInTurn.{works-on, works-none, works-manages, manages-on, manages-as, manages-none, manages-moves, moves-on, moves-as, moves-none}
-use Rattle.tau_step.proofs.ManagerRuns.{moved-by, total-same}
-use Rattle.tau_step.proofs.Others.{clerked-workers}
-use Rattle.tau_step.proofs.OneByOne.{one-more, one-cut, below-split}
-use Rattle.tau_step.proofs.Rounding.{worked-still, rounded-none, rounded-more, rounded-cut, round-whole, round-workers, round-managers, round-clerk}
+use Rattle.tau_step.proofs.Silent.{false_not, rounded_silent}
+use Rattle.tau_step.proofs.EffectsInTurn.{works_on, works_none, works_manages, manages_on, manages_as, manages_none, manages_moves, moves_on, moves_as, moves_none}
+use Rattle.tau_step.proofs.ManagerRuns.{moved_by, total_same}
+use Rattle.tau_step.proofs.Others.{clerked_workers}
+use Rattle.tau_step.proofs.OneByOne.{one_more, one_cut, below_split}
+use Rattle.tau_step.proofs.Rounding.{worked_still, rounded_none, rounded_more, rounded_cut, round_whole, round_workers, round_managers, round_clerk}
 
 -- ---- workers
 
@@ -39,18 +39,18 @@ use Rattle.tau_step.proofs.Rounding.{worked-still, rounded-none, rounded-more, r
 abbrev pub rounded_below : ℕ → Bool → Bool → Load → Progress → Progress → Type 0
 rounded_below i any whole l P P' = Rounded (setting_of l) l.workers l.streams i any P P'
 
-pub below-quiet : (i : ℕ) (any whole : Bool) (l : Load) (P P' : Progress) → rounded_below i any whole l P P' → Quiet P.state P'.state
-below-quiet i any whole l P P' q = q.quiet
+pub below_quiet : (i : ℕ) (any whole : Bool) (l : Load) (P P' : Progress) → rounded_below i any whole l P P' → Quiet P.state P'.state
+below_quiet i any whole l P P' q = q.quiet
 
-pub workers-none : (run : Run) → Stood run.core → Works (rounded_below 0 false) true run run
-workers-none run stood = works-none (rounded_below 0 false) run stood (λ P. rounded-none (setting_of run.core.load) run.core.load.workers run.core.load.streams P)
+pub workers_none : (run : Run) → Stood run.core → Works (rounded_below 0 false) true run run
+workers_none run stood = works_none (rounded_below 0 false) run stood (λ P. rounded_none (setting_of run.core.load) run.core.load.workers run.core.load.streams P)
 
-pub workers-more : (i : ℕ) (any acted any' : Bool) (old mid new : Run) → any' ≡ (any || acted) → Works (rounded_below i any) true old mid → Works (worked_by i (Ok acted)) true mid new → Works (rounded_below (i + 1) any') true old new
-workers-more i any acted any' old mid new e x y = works-on (rounded_below i any) (worked_by i (Ok acted)) (rounded_below (i + 1) any') true old mid new
-    (λ l P Q P' r h. subst (λ (k : ℕ). Rounded (setting_of l) l.workers l.streams k any' P P') (omega arith) (rounded-more (setting_of l) l.workers l.streams i any acted any' P Q P' r h.0 h.1 e)) x y
+pub workers_more : (i : ℕ) (any acted any' : Bool) (old mid new : Run) → any' ≡ (any || acted) → Works (rounded_below i any) true old mid → Works (worked_by i (Ok acted)) true mid new → Works (rounded_below (i + 1) any') true old new
+workers_more i any acted any' old mid new e x y = works_on (rounded_below i any) (worked_by i (Ok acted)) (rounded_below (i + 1) any') true old mid new
+    (λ l P Q P' r h. subst (λ (k : ℕ). Rounded (setting_of l) l.workers l.streams k any' P P') (omega arith) (rounded_more (setting_of l) l.workers l.streams i any acted any' P Q P' r h.0 h.1 e)) x y
 
-pub workers-cut : (i : ℕ) (any : Bool) (error : NoMemory) (old mid new : Run) → i < old.core.load.workers → Works (rounded_below i any) true old mid → Works (worked_by i (Err error)) false mid new → Works (rounded_by (Err error)) false old new
-workers-cut i any error old mid new lt x y = record {
+pub workers_cut : (i : ℕ) (any : Bool) (error : NoMemory) (old mid new : Run) → i < old.core.load.workers → Works (rounded_below i any) true old mid → Works (worked_by i (Err error)) false mid new → Works (rounded_by (Err error)) false old new
+workers_cut i any error old mid new lt x y = record {
   comes = λ K h es told g. (let c = x.comes K h es told g in let d = y.comes c.order c.hidden c.events told c.stands in
       record {
         hidden = d.hidden;
@@ -59,7 +59,7 @@ workers-cut i any error old mid new lt x y = record {
         stands = d.stands;
         load = d.load ∙ c.load;
         taken = d.taken ∙ c.taken;
-        moved = rounded-cut (setting_of old.core.load) old.core.load.workers old.core.load.streams i any (progress old.core h es K told) (progress mid.core c.hidden c.events c.order told) (progress new.core d.hidden d.events d.order told) lt c.moved d.moved;
+        moved = rounded_cut (setting_of old.core.load) old.core.load.workers old.core.load.streams i any (progress old.core h es K told) (progress mid.core c.hidden c.events c.order told) (progress new.core d.hidden d.events d.order told) lt c.moved d.moved;
       });
   stood = y.stood;
   load = y.load ∙ x.load;
@@ -70,8 +70,8 @@ workers-cut i any error old mid new lt x y = record {
   flushes = y.flushes ∙ x.flushes;
 }
 
-pub workers-all : (i : ℕ) (any : Bool) (old new : Run) → i ≡ old.core.load.workers → Works (rounded_below i any) true old new → Works (rounded_by (Ok any)) true old new
-workers-all i any old new e x = record {
+pub workers_all : (i : ℕ) (any : Bool) (old new : Run) → i ≡ old.core.load.workers → Works (rounded_below i any) true old new → Works (rounded_by (Ok any)) true old new
+workers_all i any old new e x = record {
   comes = λ K h es told g. (let c = x.comes K h es told g in
       record {
         hidden = c.hidden;
@@ -91,55 +91,55 @@ workers-all i any old new e x = record {
   flushes = x.flushes;
 }
 
-pub rounded-quiet : (r : Result Bool NoMemory) (whole : Bool) (l : Load) (P P' : Progress) → rounded_by r whole l P P' → Quiet P.state P'.state
-rounded-quiet (Ok any) whole l P P' q = q.quiet
-rounded-quiet (Err e) whole l P P' q = q.quiet
+pub rounded_quiet : (r : Result Bool NoMemory) (whole : Bool) (l : Load) (P P' : Progress) → rounded_by r whole l P P' → Quiet P.state P'.state
+rounded_quiet (Ok any) whole l P P' q = q.quiet
+rounded_quiet (Err e) whole l P P' q = q.quiet
 
-busy-of : (l : Load) (P P' : Progress) → rounded_by (Ok true) true l P P' → is_busy (setting_of l) l.workers l.streams P.state ≡ true
-busy-of l P P' r = sym r.any_is
+busy_of : (l : Load) (P P' : Progress) → rounded_by (Ok true) true l P P' → is_busy (setting_of l) l.workers l.streams P.state ≡ true
+busy_of l P P' r = sym r.any_is
 
 -- a worker that did nothing has as much left
-pub idle-total : (w : ℕ) (old new : Run) → Stood old.core → Works (worked_by w (Ok false)) true old new → total_left new.core ≡ total_left old.core
-idle-total w old new stood x =
+pub idle_total : (w : ℕ) (old new : Run) → Stood old.core → Works (worked_by w (Ok false)) true old new → total_left new.core ≡ total_left old.core
+idle_total w old new stood x =
     let (K, h, g) = stood in
     let c = x.comes K h [] [] g in
     let P = progress old.core h [] K [] in
     let P' = progress new.core c.hidden c.events c.order [] in
-    let same : P' ≡ P = worked-still (setting_of old.core.load) old.core.load.workers old.core.load.streams w P P' (sym c.moved.0) c.moved.1 in
-    total-same old.core new.core x.load (ap (λ (X : Progress). X.state.workers) same)
+    let same : P' ≡ P = worked_still (setting_of old.core.load) old.core.load.workers old.core.load.streams w P P' (sym c.moved.0) c.moved.1 in
+    total_same old.core new.core x.load (ap (λ (X : Progress). X.state.workers) same)
 
-pub totals-more : (any acted any' : Bool) (t s s' : ℕ) → any' ≡ (any || acted) → s ≤ t → (any ≡ true → s < t) → (acted ≡ true → s' < s) → (acted ≡ false → s' ≡ s) → (s' ≤ t) × (any' ≡ true → s' < t)
-totals-more any true any' t s s' e le less falls stays = let f = falls refl in (omega (arith, le, f), λ q. omega (arith, le, f))
-totals-more any false any' t s s' e le less falls stays = let f = stays refl in (omega (arith, le, f), λ q. (let was : any ≡ true = sym (or-none any) ∙ sym e ∙ q in let l = less was in omega (arith, l, f)))
+pub totals_more : (any acted any' : Bool) (t s s' : ℕ) → any' ≡ (any || acted) → s ≤ t → (any ≡ true → s < t) → (acted ≡ true → s' < s) → (acted ≡ false → s' ≡ s) → (s' ≤ t) × (any' ≡ true → s' < t)
+totals_more any true any' t s s' e le less falls stays = let f = falls refl in (omega (arith, le, f), λ q. omega (arith, le, f))
+totals_more any false any' t s s' e le less falls stays = let f = stays refl in (omega (arith, le, f), λ q. (let was : any ≡ true = sym (or_none any) ∙ sym e ∙ q in let l = less was in omega (arith, l, f)))
   where
-    or-none : (b : Bool) → (b || false) ≡ b
-    or-none true = refl
-    or-none false = refl
+    or_none : (b : Bool) → (b || false) ≡ b
+    or_none true = refl
+    or_none false = refl
 
 -- ---- managers
 
 module _ {D : Type 0} {G : Ghosts D} (seen_now : (d : D) → G.tells → G.may_leave d (G.seen d)) where
-  pub managers-none : (run : Run) (ws : List (Writer D G)) → IsOn ws run → Manages (managed_below 0) true run run ws ws
-  managers-none run ws on = manages-none seen_now (managed_below 0) run ws on (λ P. refl)
+  pub managers_none : (run : Run) (ws : List (Writer D G)) → IsOn ws run → Manages (managed_below 0) true run run ws ws
+  managers_none run ws on = manages_none seen_now (managed_below 0) run ws on (λ P. refl)
 
-  pub managers-more : (i : ℕ) (a : Managing) (old mid new : Run) (ws ms ws' : List (Writer D G)) → Manages (managed_below i) true old mid ws ms → Manages (managed_by i (Ok a)) true mid new ms ws' → Manages (managed_below (i + 1)) true old new ws ws'
-  managers-more i a old mid new ws ms ws' x y = manages-on seen_now (managed_below i) (managed_by i (Ok a)) (managed_below (i + 1)) true old mid new ws ms ws'
+  pub managers_more : (i : ℕ) (a : Managing) (old mid new : Run) (ws ms ws' : List (Writer D G)) → Manages (managed_below i) true old mid ws ms → Manages (managed_by i (Ok a)) true mid new ms ws' → Manages (managed_below (i + 1)) true old new ws ws'
+  managers_more i a old mid new ws ms ws' x y = manages_on seen_now (managed_below i) (managed_by i (Ok a)) (managed_below (i + 1)) true old mid new ws ms ws'
       (λ l P Q P' p q. let next : suc i ≡ i + 1 = omega arith in subst (λ (k : ℕ). TurnedAll (setting_of l) l.workers l.streams true (map turn.Manager (below k)) P P') next
       (subst (λ (ts : List Turn). TurnedAll (setting_of l) l.workers l.streams true ts P P') (sym (map-append turn.Manager (below i) (i ∷ [])))
-      (one-more (setting_of l) l.workers l.streams (Turned (setting_of l) l.workers l.streams) (map turn.Manager (below i)) (turn.Manager i) P Q P' p (moved-by i a l Q P' q)))) x y
+      (one_more (setting_of l) l.workers l.streams (Turned (setting_of l) l.workers l.streams) (map turn.Manager (below i)) (turn.Manager i) P Q P' p (moved_by i a l Q P' q)))) x y
 
-  pub managers-cut : (i : ℕ) (error : NoMemory) (old mid new : Run) (ws ms ws' : List (Writer D G)) → i < old.core.load.streams → Manages (managed_below i) true old mid ws ms → Manages (managed_by i (Err error)) false mid new ms ws' → Manages all_managed false old new ws ws'
-  managers-cut i error old mid new ws ms ws' lt x y = record {
+  pub managers_cut : (i : ℕ) (error : NoMemory) (old mid new : Run) (ws ms ws' : List (Writer D G)) → i < old.core.load.streams → Manages (managed_below i) true old mid ws ms → Manages (managed_by i (Err error)) false mid new ms ws' → Manages all_managed false old new ws ws'
+  managers_cut i error old mid new ws ms ws' lt x y = record {
     went = λ bases K h es told g k. (let a = x.went bases K h es told g k in
-        let b = y.went bases a.order a.hidden a.events told a.stands (kept-after seen_now bases (noting old.flushes mid.flushes (managed_below i)) old.core mid.core ws ms told told K h es k a) in
-        let whole = went-on seen_now bases (noting old.flushes mid.flushes (managed_below i)) (noting mid.flushes new.flushes (managed_by i (Err error))) (cut_at i) false old.core mid.core new.core ws ms ws' told told told K h es (λ l P Q P' p q. (Q, p.0, q.0)) a b in
+        let b = y.went bases a.order a.hidden a.events told a.stands (kept_after seen_now bases (noting old.flushes mid.flushes (managed_below i)) old.core mid.core ws ms told told K h es k a) in
+        let whole = went_on seen_now bases (noting old.flushes mid.flushes (managed_below i)) (noting mid.flushes new.flushes (managed_by i (Err error))) (cut_at i) false old.core mid.core new.core ws ms ws' told told told K h es (λ l P Q P' p q. (Q, p.0, q.0)) a b in
         record {
           hidden = whole.hidden;
           order = whole.order;
           events = whole.events;
           stands = whole.stands;
           load = whole.load;
-          moved = (join old.core.load lt (progress old.core h es K told) (progress new.core whole.hidden whole.events whole.order told) whole.moved, λ e. false-not e);
+          moved = (join old.core.load lt (progress old.core h es K told) (progress new.core whole.hidden whole.events whole.order told) whole.moved, λ e. false_not e);
           grown = whole.grown;
           count = whole.count;
           kept = whole.kept;
@@ -154,13 +154,13 @@ module _ {D : Type 0} {G : Ghosts D} (seen_now : (d : D) → G.tells → G.may_l
       cut_at k whole l P P' = (Q : Progress) × managed_below k true l P Q × managed k false l Q P'
 
       join : (l : Load) → i < l.streams → (P P' : Progress) → cut_at i false l P P' → all_managed false l P P'
-      join l below-all P P' (Q, p, q) =
-          let split = below-split i l.streams below-all in
+      join l below_all P P' (Q, p, q) =
+          let split = below_split i l.streams below_all in
           subst (λ (ts : List Turn). TurnedAll (setting_of l) l.workers l.streams false ts P P') (sym (ap (map turn.Manager) split.1 ∙ map-append turn.Manager (below i) (i ∷ split.0)))
-          (one-cut (setting_of l) l.workers l.streams (Turned (setting_of l) l.workers l.streams) (map turn.Manager (below i)) (turn.Manager i) (map turn.Manager split.0) P Q P' p q)
+          (one_cut (setting_of l) l.workers l.streams (Turned (setting_of l) l.workers l.streams) (map turn.Manager (below i)) (turn.Manager i) (map turn.Manager split.0) P Q P' p q)
 
-  pub managers-all : (i : ℕ) (old new : Run) (ws ws' : List (Writer D G)) → i ≡ old.core.load.streams → Manages (managed_below i) true old new ws ws' → Manages all_managed true old new ws ws'
-  managers-all i old new ws ws' e x = record {
+  pub managers_all : (i : ℕ) (old new : Run) (ws ws' : List (Writer D G)) → i ≡ old.core.load.streams → Manages (managed_below i) true old new ws ws' → Manages all_managed true old new ws ws'
+  managers_all i old new ws ws' e x = record {
     went = λ bases K h es told g k. (let a = x.went bases K h es told g k in
         record {
           hidden = a.hidden;
@@ -183,75 +183,75 @@ module _ {D : Type 0} {G : Ghosts D} (seen_now : (d : D) → G.tells → G.may_l
 
   module _ (hears : Type 0) where
     -- the managers, and the clerk
-    pub rest-whole : (old mid new : Run) (ws ms : List (Writer D G)) (held held' : List ℕ) (faults faults' : ℕ) → Manages all_managed true old mid ws ms → Moves clerked true mid new ms ms hears held held' faults faults' → Moves rest_of_round true old new ws ms hears held held' faults faults'
-    rest-whole old mid new ws ms held held' faults faults' x y =
-        moves-on seen_now hears all_managed clerked rest_of_round true old mid new ws ms ms held held held' faults faults faults' (λ l P Q P' p q. (Q, p, q)) (manages-moves seen_now hears all_managed true old mid ws ms held faults x) y
+    pub rest_whole : (old mid new : Run) (ws ms : List (Writer D G)) (held held' : List ℕ) (faults faults' : ℕ) → Manages all_managed true old mid ws ms → Moves clerked true mid new ms ms hears held held' faults faults' → Moves rest_of_round true old new ws ms hears held held' faults faults'
+    rest_whole old mid new ws ms held held' faults faults' x y =
+        moves_on seen_now hears all_managed clerked rest_of_round true old mid new ws ms ms held held held' faults faults faults' (λ l P Q P' p q. (Q, p, q)) (manages_moves seen_now hears all_managed true old mid ws ms held faults x) y
 
-    pub rest-clerk : (old mid new : Run) (ws ms : List (Writer D G)) (held held' : List ℕ) (faults faults' : ℕ) → Manages all_managed true old mid ws ms → Moves clerked false mid new ms ms hears held held' faults faults' → Moves rest_of_round false old new ws ms hears held held' faults faults'
-    rest-clerk old mid new ws ms held held' faults faults' x y =
-        moves-on seen_now hears all_managed clerked rest_of_round false old mid new ws ms ms held held held' faults faults faults' (λ l P Q P' p q. inr (Q, p, q)) (manages-moves seen_now hears all_managed true old mid ws ms held faults x) y
+    pub rest_clerk : (old mid new : Run) (ws ms : List (Writer D G)) (held held' : List ℕ) (faults faults' : ℕ) → Manages all_managed true old mid ws ms → Moves clerked false mid new ms ms hears held held' faults faults' → Moves rest_of_round false old new ws ms hears held held' faults faults'
+    rest_clerk old mid new ws ms held held' faults faults' x y =
+        moves_on seen_now hears all_managed clerked rest_of_round false old mid new ws ms ms held held held' faults faults faults' (λ l P Q P' p q. inr (Q, p, q)) (manages_moves seen_now hears all_managed true old mid ws ms held faults x) y
 
-    pub rest-managers : (old new : Run) (ws ws' : List (Writer D G)) (held : List ℕ) (faults : ℕ) → Manages all_managed false old new ws ws' → Moves rest_of_round false old new ws ws' hears held held faults faults
-    rest-managers old new ws ws' held faults x = moves-as seen_now hears all_managed rest_of_round false old new ws ws' held held faults faults (λ l P P' p. inl p) (manages-moves seen_now hears all_managed false old new ws ws' held faults x)
+    pub rest_managers : (old new : Run) (ws ws' : List (Writer D G)) (held : List ℕ) (faults : ℕ) → Manages all_managed false old new ws ws' → Moves rest_of_round false old new ws ws' hears held held faults faults
+    rest_managers old new ws ws' held faults x = moves_as seen_now hears all_managed rest_of_round false old new ws ws' held held faults faults (λ l P P' p. inl p) (manages_moves seen_now hears all_managed false old new ws ws' held faults x)
 
     -- with its workers
-    pub round-on : (old mid new : Run) (ws ws' : List (Writer D G)) (held held' : List ℕ) (faults faults' : ℕ) → Works (rounded_by (Ok true)) true old mid → IsOn ws old → Moves rest_of_round true mid new ws ws' hears held held' faults faults' → Moves (round_by (Ok true)) true old new ws ws' hears held held' faults faults'
-    round-on old mid new ws ws' held held' faults faults' x on y =
-        moves-on seen_now hears (rounded_by (Ok true)) rest_of_round (round_by (Ok true)) true old mid new ws ws ws' held held held' faults faults faults'
-        (λ l P A P' r rest whole R more. Rounds.again (busy-of l P A r) (round-whole (setting_of l) l.workers l.streams P A rest.0 P' r.turns rest.1 rest.2) more)
-        (manages-moves seen_now hears (rounded_by (Ok true)) true old mid ws ws held faults (works-manages seen_now (rounded_by (Ok true)) true old mid ws on (rounded-quiet (Ok true) true) (rounded-silent true true) x)) y
+    pub round_on : (old mid new : Run) (ws ws' : List (Writer D G)) (held held' : List ℕ) (faults faults' : ℕ) → Works (rounded_by (Ok true)) true old mid → IsOn ws old → Moves rest_of_round true mid new ws ws' hears held held' faults faults' → Moves (round_by (Ok true)) true old new ws ws' hears held held' faults faults'
+    round_on old mid new ws ws' held held' faults faults' x on y =
+        moves_on seen_now hears (rounded_by (Ok true)) rest_of_round (round_by (Ok true)) true old mid new ws ws ws' held held held' faults faults faults'
+        (λ l P A P' r rest whole R more. Rounds.again (busy_of l P A r) (round_whole (setting_of l) l.workers l.streams P A rest.0 P' r.turns rest.1 rest.2) more)
+        (manages_moves seen_now hears (rounded_by (Ok true)) true old mid ws ws held faults (works_manages seen_now (rounded_by (Ok true)) true old mid ws on (rounded_quiet (Ok true) true) (rounded_silent true true) x)) y
 
-    pub round-cut : (error : NoMemory) (old mid new : Run) (ws ws' : List (Writer D G)) (held held' : List ℕ) (faults faults' : ℕ) → Works (rounded_by (Ok true)) true old mid → IsOn ws old → Moves rest_of_round false mid new ws ws' hears held held' faults faults' → Moves (round_by (Err error)) false old new ws ws' hears held held' faults faults'
-    round-cut error old mid new ws ws' held held' faults faults' x on y =
-        moves-on seen_now hears (rounded_by (Ok true)) rest_of_round (round_by (Err error)) false old mid new ws ws ws' held held held' faults faults faults'
-        (λ l P A P' r rest. inl (Rounds.cut (busy-of l P A r) (elim rest [
-          | inl managers ↦ round-managers (setting_of l) l.workers l.streams P A P' r.turns managers
-          | inr q ↦ round-clerk (setting_of l) l.workers l.streams P A q.0 P' r.turns q.1 q.2
+    pub round_cut : (error : NoMemory) (old mid new : Run) (ws ws' : List (Writer D G)) (held held' : List ℕ) (faults faults' : ℕ) → Works (rounded_by (Ok true)) true old mid → IsOn ws old → Moves rest_of_round false mid new ws ws' hears held held' faults faults' → Moves (round_by (Err error)) false old new ws ws' hears held held' faults faults'
+    round_cut error old mid new ws ws' held held' faults faults' x on y =
+        moves_on seen_now hears (rounded_by (Ok true)) rest_of_round (round_by (Err error)) false old mid new ws ws ws' held held held' faults faults faults'
+        (λ l P A P' r rest. inl (Rounds.cut (busy_of l P A r) (elim rest [
+          | inl managers ↦ round_managers (setting_of l) l.workers l.streams P A P' r.turns managers
+          | inr q ↦ round_clerk (setting_of l) l.workers l.streams P A q.0 P' r.turns q.1 q.2
         ])))
-        (manages-moves seen_now hears (rounded_by (Ok true)) true old mid ws ws held faults (works-manages seen_now (rounded_by (Ok true)) true old mid ws on (rounded-quiet (Ok true) true) (rounded-silent true true) x)) y
+        (manages_moves seen_now hears (rounded_by (Ok true)) true old mid ws ws held faults (works_manages seen_now (rounded_by (Ok true)) true old mid ws on (rounded_quiet (Ok true) true) (rounded_silent true true) x)) y
 
     -- no worker had anything to do
-    pub round-over : (old new : Run) (ws : List (Writer D G)) (held : List ℕ) (faults : ℕ) → Works (rounded_by (Ok false)) true old new → IsOn ws old → Moves (round_by (Ok false)) true old new ws ws hears held held faults faults
-    round-over old new ws held faults x on =
-        manages-moves seen_now hears (round_by (Ok false)) true old new ws ws held faults (manages-as seen_now (rounded_by (Ok false)) (round_by (Ok false)) true old new ws ws
+    pub round_over : (old new : Run) (ws : List (Writer D G)) (held : List ℕ) (faults : ℕ) → Works (rounded_by (Ok false)) true old new → IsOn ws old → Moves (round_by (Ok false)) true old new ws ws hears held held faults faults
+    round_over old new ws held faults x on =
+        manages_moves seen_now hears (round_by (Ok false)) true old new ws ws held faults (manages_as seen_now (rounded_by (Ok false)) (round_by (Ok false)) true old new ws ws
         (λ l P P' r. subst (λ (X : Progress). in_rounds true l P X) (sym (r.still refl)) (Rounds.over (sym r.any_is)))
-        (works-manages seen_now (rounded_by (Ok false)) true old new ws on (rounded-quiet (Ok false) true) (rounded-silent false true) x))
+        (works_manages seen_now (rounded_by (Ok false)) true old new ws on (rounded_quiet (Ok false) true) (rounded_silent false true) x))
 
-    pub round-short : (error : NoMemory) (old new : Run) (ws : List (Writer D G)) (held : List ℕ) (faults : ℕ) → Works (rounded_by (Err error)) false old new → IsOn ws old → Moves (round_by (Err error)) false old new ws ws hears held held faults faults
-    round-short error old new ws held faults x on =
-        manages-moves seen_now hears (round_by (Err error)) false old new ws ws held faults (manages-as seen_now (rounded_by (Err error)) (round_by (Err error)) false old new ws ws
+    pub round_short : (error : NoMemory) (old new : Run) (ws : List (Writer D G)) (held : List ℕ) (faults : ℕ) → Works (rounded_by (Err error)) false old new → IsOn ws old → Moves (round_by (Err error)) false old new ws ws hears held held faults faults
+    round_short error old new ws held faults x on =
+        manages_moves seen_now hears (round_by (Err error)) false old new ws ws held faults (manages_as seen_now (rounded_by (Err error)) (round_by (Err error)) false old new ws ws
         (λ l P P' r. elim (cases_Bool (is_busy (setting_of l) l.workers l.streams P.state)) [
-          | inl busy ↦ inl (Rounds.cut busy (round-workers (setting_of l) l.workers l.streams P P' r.turns))
+          | inl busy ↦ inl (Rounds.cut busy (round_workers (setting_of l) l.workers l.streams P P' r.turns))
           | inr none ↦ inr (subst (λ (X : Progress). in_rounds true l P X) (sym (r.still none)) (Rounds.over none))
         ])
-        (works-manages seen_now (rounded_by (Err error)) false old new ws on (rounded-quiet (Err error) false) (λ l P P' e q. false-not e) x))
+        (works_manages seen_now (rounded_by (Err error)) false old new ws on (rounded_quiet (Err error) false) (λ l P P' e q. false_not e) x))
 
 -- the clerk leaves workers as they are
-pub clerk-total : {A : Type 0} (old new : Run) (hears : Type 0) (held held' : List ℕ) → Stood old.core → (a : A) →
+pub clerk_total : {A : Type 0} (old new : Run) (hears : Type 0) (held held' : List ℕ) → Stood old.core → (a : A) →
     ((K : List (Act Txn)) (h : Hidden) (es : List machine.Event) → Stands old.core K h → Passed clerks old.core new.core old.clerk.acks new.clerk.acks old.clerk.sink_failed new.clerk.sink_failed hears held held' K h es (Ok a)) → total_left new.core ≡ total_left old.core
-clerk-total old new hears held held' stood a passed =
+clerk_total old new hears held held' stood a passed =
     let (K, h, g) = stood in
     let c = passed K h [] g in
-    total-same old.core new.core c.load
-    (clerked-workers (setting_of old.core.load) old.core.load.workers old.core.load.streams (progress old.core h [] K old.clerk.acks) (progress new.core c.hidden c.events c.order new.clerk.acks) true c.moved)
+    total_same old.core new.core c.load
+    (clerked_workers (setting_of old.core.load) old.core.load.workers old.core.load.streams (progress old.core h [] K old.clerk.acks) (progress new.core c.hidden c.events c.order new.clerk.acks) true c.moved)
 
 -- the measure of rounds
-pub rounds-fewer : (a b c : ℕ) → b < a → c ≡ b → c < a
-rounds-fewer a b c less same = omega (arith, less, same)
+pub rounds_fewer : (a b c : ℕ) → b < a → c ≡ b → c < a
+rounds_fewer a b c less same = omega (arith, less, same)
 
 -- by the answer of the rest of the round
-pub round-rest : {D : Type 0} {G : Ghosts D} (seen_now : (d : D) → G.tells → G.may_leave d (G.seen d)) (hears : Type 0) (r : Result Bool NoMemory) → (r ≡ Ok false → ⊥) → (old mid new : Run) (ws ws' : List (Writer D G)) (held held' : List ℕ) (faults faults' : ℕ) →
+pub round_rest : {D : Type 0} {G : Ghosts D} (seen_now : (d : D) → G.tells → G.may_leave d (G.seen d)) (hears : Type 0) (r : Result Bool NoMemory) → (r ≡ Ok false → ⊥) → (old mid new : Run) (ws ws' : List (Writer D G)) (held held' : List ℕ) (faults faults' : ℕ) →
     Works (rounded_by (Ok true)) true old mid → IsOn ws old → Moves rest_of_round (is_ok r) mid new ws ws' hears held held' faults faults' → Moves (round_by r) (is_ok r) old new ws ws' hears held held' faults faults'
-round-rest seen_now hears (Ok true) some old mid new ws ws' held held' faults faults' x on y = round-on seen_now hears old mid new ws ws' held held' faults faults' x on y
-round-rest seen_now hears (Ok false) some old mid new ws ws' held held' faults faults' x on y = absurd (some refl)
-round-rest seen_now hears (Err e) some old mid new ws ws' held held' faults faults' x on y = round-cut seen_now hears e old mid new ws ws' held held' faults faults' x on y
+round_rest seen_now hears (Ok true) some old mid new ws ws' held held' faults faults' x on y = round_on seen_now hears old mid new ws ws' held held' faults faults' x on y
+round_rest seen_now hears (Ok false) some old mid new ws ws' held held' faults faults' x on y = absurd (some refl)
+round_rest seen_now hears (Err e) some old mid new ws ws' held held' faults faults' x on y = round_cut seen_now hears e old mid new ws ws' held held' faults faults' x on y
 
-pub round-total : (r : Result Bool NoMemory) (t s s' : ℕ) → s < t → OnOk r (s' ≡ s) → r ≡ Ok true → s' < t
-round-total (Ok b) t s s' less same e = let l = less in omega (arith, l, same)
-round-total (Err x) t s s' less same e = absurd (let bad : Err x ≡ Ok true = e in cc)
+pub round_total : (r : Result Bool NoMemory) (t s s' : ℕ) → s < t → OnOk r (s' ≡ s) → r ≡ Ok true → s' < t
+round_total (Ok b) t s s' less same e = let l = less in omega (arith, l, same)
+round_total (Err x) t s s' less same e = absurd (let bad : Err x ≡ Ok true = e in cc)
 
-pub round-rests : (old new : Run) → Stood old.core → Works (rounded_by (Ok false)) true old new → rests_in new.core
-round-rests old new stood x =
+pub round_rests : (old new : Run) → Stood old.core → Works (rounded_by (Ok false)) true old new → rests_in new.core
+round_rests old new stood x =
     let (K, h, g) = stood in
     let c = x.comes K h [] [] g in
     let P = progress old.core h [] K [] in
@@ -266,16 +266,16 @@ abbrev pub rounds_so : Bool → Load → Progress → Progress → Type 0
 rounds_so whole l P P' = rounds_on l P P'
 
 module _ {D : Type 0} {G : Ghosts D} (seen_now : (d : D) → G.tells → G.may_leave d (G.seen d)) (hears : Type 0) where
-  pub rounds-none : (run : Run) (ws : List (Writer D G)) (held : List ℕ) (faults : ℕ) → IsOn ws run → Moves rounds_so true run run ws ws hears held held faults faults
-  rounds-none run ws held faults on = moves-none seen_now hears rounds_so run ws held faults on (λ P whole Q r. r)
+  pub rounds_none : (run : Run) (ws : List (Writer D G)) (held : List ℕ) (faults : ℕ) → IsOn ws run → Moves rounds_so true run run ws ws hears held held faults faults
+  rounds_none run ws held faults on = moves_none seen_now hears rounds_so run ws held faults on (λ P whole Q r. r)
 
   module _ (old mid new : Run) (ws ms ws' : List (Writer D G)) (held held' held'' : List ℕ) (faults faults' faults'' : ℕ) (x : Moves rounds_so true old mid ws ms hears held held' faults faults') where
-    pub rounds-more : Moves (round_by (Ok true)) true mid new ms ws' hears held' held'' faults' faults'' → Moves rounds_so true old new ws ws' hears held held'' faults faults''
-    rounds-more y = moves-on seen_now hears rounds_so (round_by (Ok true)) rounds_so true old mid new ws ms ws' held held' held'' faults faults' faults'' (λ l P Q P' p q whole R r. p whole R (q whole R r)) x y
+    pub rounds_more : Moves (round_by (Ok true)) true mid new ms ws' hears held' held'' faults' faults'' → Moves rounds_so true old new ws ws' hears held held'' faults faults''
+    rounds_more y = moves_on seen_now hears rounds_so (round_by (Ok true)) rounds_so true old mid new ws ms ws' held held' held'' faults faults' faults'' (λ l P Q P' p q whole R r. p whole R (q whole R r)) x y
 
-    pub rounds-end : Moves (round_by (Ok false)) true mid new ms ws' hears held' held'' faults' faults'' → Moves in_rounds true old new ws ws' hears held held'' faults faults''
-    rounds-end y = moves-on seen_now hears rounds_so (round_by (Ok false)) in_rounds true old mid new ws ms ws' held held' held'' faults faults' faults'' (λ l P Q P' p q. p true P' q) x y
+    pub rounds_end : Moves (round_by (Ok false)) true mid new ms ws' hears held' held'' faults' faults'' → Moves in_rounds true old new ws ws' hears held held'' faults faults''
+    rounds_end y = moves_on seen_now hears rounds_so (round_by (Ok false)) in_rounds true old mid new ws ms ws' held held' held'' faults faults' faults'' (λ l P Q P' p q. p true P' q) x y
 
-    pub rounds-cut : (e : NoMemory) → Moves (round_by (Err e)) false mid new ms ws' hears held' held'' faults' faults'' → Moves in_rounds false old new ws ws' hears held held'' faults faults''
-    rounds-cut e y = moves-on seen_now hears rounds_so (round_by (Err e)) in_rounds false old mid new ws ms ws' held held' held'' faults faults' faults''
+    pub rounds_cut : (e : NoMemory) → Moves (round_by (Err e)) false mid new ms ws' hears held' held'' faults' faults'' → Moves in_rounds false old new ws ws' hears held held'' faults faults''
+    rounds_cut e y = moves_on seen_now hears rounds_so (round_by (Err e)) in_rounds false old mid new ws ms ws' held held' held'' faults faults' faults''
         (λ l P Q P' p q. elim q [ inl r ↦ inl (p false P' r) | inr r ↦ inr (p true P' r) ]) x y

@@ -7,7 +7,7 @@ use Rattle.tau_base.specs.declared.limits.TheConstants.{MAX_BODY}
 use Rattle.tau_base.specs.Vectors.{covers}
 use Rattle.tau_model.specs.History.{Act, Member, updates}
 use Rattle.tau_model.specs.Reported.{in_stream}
-use Rattle.tau_model.proofs.Logged.{member-filtered}
+use Rattle.tau_model.proofs.Logged.{member_filtered}
 use Rattle.tau_machine.specs.Hands.{Txn}
 use Rattle.tau_machine.specs.Worker.{Worker}
 use Rattle.tau_machine.specs.Shard.{at}
@@ -15,30 +15,27 @@ use Rattle.tau_machine.specs.Pieces.{Chain, Ascending, PostedAt, Flying, placed_
 use Rattle.tau_machine.specs.Invariant.{Invariant}
 use Rattle.tau_machine.specs.State.{Setting, Ticket, Item, Record, Anchor, Core, Stream, Outbox, start_of, past_of}
 use Rattle.tau_machine.specs.Events.{Event, Lock, Busy, Quit, Commit, Post, Free, FirstFree, Done, DoneReading, Drop, Gather, PlaceAnchor, Persist, Ack, Stop, Resume, Leads, Gathered, stop, record_first, anchor_first}
-use Rattle.tau_machine.proofs.At.{at-same, at-other}
-use Rattle.tau_machine.proofs.Pieces.{chain-member, records-append}
+use Rattle.tau_machine.proofs.At.{at_same, at_other}
+use Rattle.tau_machine.proofs.Pieces.{chain_member, records_append}
 use Rattle.tau_machine.proofs.Results.{committed_theorem}
 use Rattle.tau_text.specs.declared.load.Turn.{Turn}
 use Rattle.tau_run.specs.StopsLeave.{IsOver}
 use Rattle.tau_run.specs.Run.{below}
 use Rattle.tau_run.specs.Turns.{Progress, Stays, IfSo, Goes, Waits, IsGathered, Gathers, Flushed, ManagedPart, Cleared, OneByOne, Rounds, Alone, LeftOver, Idled, IsWholeRun, has_work, is_busy, is_raised, is_going, is_empty, any_left}
-use Rattle.tau_step.proofs.Idling.{gathered-stop, stopped-there}
-use Rattle.tau_step.proofs.Others.{IsElsewhere, elsewhere, worked-streams, worked-others, raised-same}
-use Rattle.tau_step.proofs.Resting.{any-none, rest-hand, rest-waiting, busy-none}
-use Rattle.tau_step.proofs.Rounding.{none-below}
-use Rattle.tau_step.proofs.Turning.{managed-keep}
+use Rattle.tau_step.proofs.Idling.{gathered_stop, stopped_there, none_some}
+use Rattle.tau_step.proofs.Others.{IsElsewhere, elsewhere, worked_streams, worked_others, raised_same}
+use Rattle.tau_step.proofs.Resting.{any_none, rest_hand, rest_waiting, busy_none}
+use Rattle.tau_step.proofs.Rounding.{none_below}
+use Rattle.tau_step.proofs.Turning.{managed_keep}
+use Rattle.tau_base.proofs.Logic.{not_both}
+use Rattle.tau_run.proofs.RunExists.{record_member}
+use Rattle.tau_pool.proofs.Gets.{member_back}
 
-false-true : (b : Bool) → b ≡ false → b ≡ true → ⊥
-false-true b e f = let bad : false ≡ true = sym e ∙ f in cc
-
-none-some : {A : Type 0} (o : Option A) (x : A) → o ≡ None → o ≡ Some x → ⊥
-none-some o x e f = let bad : None ≡ Some x = sym e ∙ f in cc
-
-pub member-below : (w m : ℕ) → w < m → Member w (below m)
-member-below w zero lt = absurd (omega arith)
-member-below w (suc m) lt = elim (cases_eq w m) [
+pub member_below : (w m : ℕ) → w < m → Member w (below m)
+member_below w zero lt = absurd (omega arith)
+member_below w (suc m) lt = elim (cases_eq w m) [
   | inl e ↦ last (below m) e
-  | inr ne ↦ front (below m) (member-below w m (omega (arith, lt, ne)))
+  | inr ne ↦ front (below m) (member_below w m (omega (arith, lt, ne)))
 ]
   where
     last : (xs : List ℕ) → w ≡ m → Member w (xs ++ m ∷ [])
@@ -50,22 +47,11 @@ member-below w (suc m) lt = elim (cases_eq w m) [
     front (x ∷ xs) (inl e) = inl e
     front (x ∷ xs) (inr q) = inr (front xs q)
 
-record-is : (u t : Act Txn) → Record u ≡ Record t → u ≡ t
-record-is u t e = cc e
+record_is : (u t : Act Txn) → Record u ≡ Record t → u ≡ t
+record_is u t e = cc e
 
-anchor-not : (a b : ℕ) (v : List ℕ) (t : Act Txn) → Anchor a b v ≡ Record t → ⊥
-anchor-not a b v t e = cc
-
-member-records : (xs : List Item) (t : Act Txn) → Member (Record t) xs → Member t (records_in xs)
-member-records [] t q = q
-member-records (Record u ∷ xs) t (inl e) = inl (record-is u t e)
-member-records (Record u ∷ xs) t (inr q) = inr (member-records xs t q)
-member-records (Anchor a b v ∷ xs) t (inl e) = absurd (anchor-not a b v t e)
-member-records (Anchor a b v ∷ xs) t (inr q) = member-records xs t q
-
-member-behind : {A : Type 0} (xs ys : List A) (y : A) → Member y ys → Member y (xs ++ ys)
-member-behind [] ys y q = q
-member-behind (x ∷ xs) ys y q = inr (member-behind xs ys y q)
+anchor_not : (a b : ℕ) (v : List ℕ) (t : Act Txn) → Anchor a b v ≡ Record t → ⊥
+anchor_not a b v t e = cc
 
 module _ (set : Setting) (m n : ℕ) where
   -- ---- workers
@@ -75,47 +61,47 @@ module _ (set : Setting) (m n : ℕ) where
     hands : (w : ℕ) → w < m → (s.workers w).hand ≡ None
     waiting : is_raised set m n s ≡ false → (w : ℕ) → w < m → (s.workers w).waiting ≡ []
 
-  rounds-end : (whole : Bool) (P P' : Progress) → whole ≡ true → Rounds set m n whole P P' → is_busy set m n P'.state ≡ false
-  rounds-end whole P P' e (Rounds.over none) = none
-  rounds-end whole P P' e (Rounds.again {q = Q} b h more) = rounds-end whole Q P' e more
-  rounds-end whole P P' e (Rounds.cut b h) = absurd (false-true false refl e)
+  rounds_end : (whole : Bool) (P P' : Progress) → whole ≡ true → Rounds set m n whole P P' → is_busy set m n P'.state ≡ false
+  rounds_end whole P P' e (Rounds.over none) = none
+  rounds_end whole P P' e (Rounds.again {q = Q} b h more) = rounds_end whole Q P' e more
+  rounds_end whole P P' e (Rounds.cut b h) = absurd (not_both false refl e)
 
-  rests-all : (s : Core) → is_busy set m n s ≡ false → AtRest s
-  rests-all s e = record {
-    hands = λ w lt. rest-hand set m n s w lt (busy-none set m n s e w lt);
-    waiting = λ going w lt. rest-waiting set m n s w lt going (busy-none set m n s e w lt);
+  rests_all : (s : Core) → is_busy set m n s ≡ false → AtRest s
+  rests_all s e = record {
+    hands = λ w lt. rest_hand set m n s w lt (busy_none set m n s e w lt);
+    waiting = λ going w lt. rest_waiting set m n s w lt going (busy_none set m n s e w lt);
   }
 
-  alone-end : (w : ℕ) (whole : Bool) (P P' : Progress) → whole ≡ true → Alone set m n w whole P P' → has_work set m n P'.state w ≡ false
-  alone-end w whole P P' e (Alone.over none) = none
-  alone-end w whole P P' e (Alone.again {q = Q} b h more) = alone-end w whole Q P' e more
-  alone-end w whole P P' e Alone.cut = absurd (false-true false refl e)
+  alone_end : (w : ℕ) (whole : Bool) (P P' : Progress) → whole ≡ true → Alone set m n w whole P P' → has_work set m n P'.state w ≡ false
+  alone_end w whole P P' e (Alone.over none) = none
+  alone_end w whole P P' e (Alone.again {q = Q} b h more) = alone_end w whole Q P' e more
+  alone_end w whole P P' e Alone.cut = absurd (not_both false refl e)
 
-  alone-others : (w u : ℕ) → (u ≡ w → ⊥) → (whole : Bool) (P P' : Progress) → Alone set m n w whole P P' → P'.state.workers u ≡ P.state.workers u
-  alone-others w u ne whole P P' (Alone.over none) = refl
-  alone-others w u ne whole P P' (Alone.again {q = Q} b h more) = alone-others w u ne whole Q P' more ∙ worked-others set m n P Q w u ne true h
-  alone-others w u ne whole P P' Alone.cut = refl
+  alone_others : (w u : ℕ) → (u ≡ w → ⊥) → (whole : Bool) (P P' : Progress) → Alone set m n w whole P P' → P'.state.workers u ≡ P.state.workers u
+  alone_others w u ne whole P P' (Alone.over none) = refl
+  alone_others w u ne whole P P' (Alone.again {q = Q} b h more) = alone_others w u ne whole Q P' more ∙ worked_others set m n P Q w u ne true h
+  alone_others w u ne whole P P' Alone.cut = refl
 
-  alone-streams : (w : ℕ) (whole : Bool) (P P' : Progress) → Alone set m n w whole P P' → P'.state.streams ≡ P.state.streams
-  alone-streams w whole P P' (Alone.over none) = refl
-  alone-streams w whole P P' (Alone.again {q = Q} b h more) = alone-streams w whole Q P' more ∙ worked-streams set m n P Q w true h
-  alone-streams w whole P P' Alone.cut = refl
+  alone_streams : (w : ℕ) (whole : Bool) (P P' : Progress) → Alone set m n w whole P P' → P'.state.streams ≡ P.state.streams
+  alone_streams w whole P P' (Alone.over none) = refl
+  alone_streams w whole P P' (Alone.again {q = Q} b h more) = alone_streams w whole Q P' more ∙ worked_streams set m n P Q w true h
+  alone_streams w whole P P' Alone.cut = refl
 
   -- after a call that ran alone all rest again
-  rests-again : (w : ℕ) → w < m → (P A B : Progress) → AtRest P.state → is_raised set m n P.state ≡ false → Goes set m n (Resume w) P A → Alone set m n w true A B → AtRest B.state
-  rests-again w lt P A B rest going g a =
+  rests_again : (w : ℕ) → w < m → (P A B : Progress) → AtRest P.state → is_raised set m n P.state ≡ false → Goes set m n (Resume w) P A → Alone set m n w true A B → AtRest B.state
+  rests_again w lt P A B rest going g a =
       let q = g.leads.0 in
       let raised : is_raised set m n B.state ≡ false =
-      raised-same set m n A.state B.state (alone-streams w true A B a) ∙ raised-same set m n P.state A.state (ap (λ (c : Core). c.streams) q.after) ∙ going in
-      let done = alone-end w true A B refl a in
+      raised_same set m n A.state B.state (alone_streams w true A B a) ∙ raised_same set m n P.state A.state (ap (λ (c : Core). c.streams) q.after) ∙ going in
+      let done = alone_end w true A B refl a in
       record {
         hands = λ u below. elim (cases_eq u w) [
-          | inl e ↦ subst (λ (k : ℕ). (B.state.workers k).hand ≡ None) (sym e) (rest-hand set m n B.state w lt done)
-          | inr ne ↦ ap (λ (wk : Worker). wk.hand) (alone-others w u ne true A B a) ∙ ap (λ (c : Core). (c.workers u).hand) q.after ∙ ap (λ (wk : Worker). wk.hand) (at-other w _ P.state.workers u ne) ∙ rest.hands u below
+          | inl e ↦ subst (λ (k : ℕ). (B.state.workers k).hand ≡ None) (sym e) (rest_hand set m n B.state w lt done)
+          | inr ne ↦ ap (λ (wk : Worker). wk.hand) (alone_others w u ne true A B a) ∙ ap (λ (c : Core). (c.workers u).hand) q.after ∙ ap (λ (wk : Worker). wk.hand) (at_other w _ P.state.workers u ne) ∙ rest.hands u below
         ];
         waiting = λ none u below. elim (cases_eq u w) [
-          | inl e ↦ subst (λ (k : ℕ). (B.state.workers k).waiting ≡ []) (sym e) (rest-waiting set m n B.state w lt raised done)
-          | inr ne ↦ ap (λ (wk : Worker). wk.waiting) (alone-others w u ne true A B a) ∙ ap (λ (c : Core). (c.workers u).waiting) q.after ∙ ap (λ (wk : Worker). wk.waiting) (at-other w _ P.state.workers u ne) ∙ rest.waiting going u below
+          | inl e ↦ subst (λ (k : ℕ). (B.state.workers k).waiting ≡ []) (sym e) (rest_waiting set m n B.state w lt raised done)
+          | inr ne ↦ ap (λ (wk : Worker). wk.waiting) (alone_others w u ne true A B a) ∙ ap (λ (c : Core). (c.workers u).waiting) q.after ∙ ap (λ (wk : Worker). wk.waiting) (at_other w _ P.state.workers u ne) ∙ rest.waiting going u below
         ];
       }
 
@@ -124,44 +110,44 @@ module _ (set : Setting) (m n : ℕ) where
     rest : AtRest s
     none : is_raised set m n s ≡ false → any_left set m n s ≡ false
 
-  left-end : (whole : Bool) (P P' : Progress) → whole ≡ true → AtRest P.state → LeftOver set m n whole P P' → NoneOver P'.state
-  left-end whole P P' e rest (LeftOver.over none) = record { rest = rest; none = λ going. only (is_raised set m n P.state) (any_left set m n P.state) going none }
+  left_end : (whole : Bool) (P P' : Progress) → whole ≡ true → AtRest P.state → LeftOver set m n whole P P' → NoneOver P'.state
+  left_end whole P P' e rest (LeftOver.over none) = record { rest = rest; none = λ going. only (is_raised set m n P.state) (any_left set m n P.state) going none }
     where
       only : (a b : Bool) → a ≡ false → (not a && b) ≡ false → b ≡ false
       only false b f q = q
-      only true b f q = absurd (false-true true f refl)
-  left-end whole P P' e rest (LeftOver.again {a = A} {b = B} w going lt g a more) = left-end whole B P' e (rests-again w lt P A B rest going g a) more
-  left-end whole P P' e rest (LeftOver.cut w going lt g a) = absurd (false-true false refl e)
-  left-end whole P P' e rest LeftOver.stop = absurd (false-true false refl e)
+      only true b f q = absurd (not_both true f refl)
+  left_end whole P P' e rest (LeftOver.again {a = A} {b = B} w going lt g a more) = left_end whole B P' e (rests_again w lt P A B rest going g a) more
+  left_end whole P P' e rest (LeftOver.cut w going lt g a) = absurd (not_both false refl e)
+  left_end whole P P' e rest LeftOver.stop = absurd (not_both false refl e)
 
-  empty-none : {A : Type 0} (xs : List A) → not (is_empty xs) ≡ false → xs ≡ []
-  empty-none [] e = refl
-  empty-none (x ∷ xs) e = absurd (false-true true e refl)
+  empty_none : {A : Type 0} (xs : List A) → not (is_empty xs) ≡ false → xs ≡ []
+  empty_none [] e = refl
+  empty_none (x ∷ xs) e = absurd (not_both true e refl)
 
-  done-left : (s : Core) → NoneOver s → is_raised set m n s ≡ false → (w : ℕ) → w < m → (s.workers w).left ≡ []
-  done-left s d going w lt = empty-none (s.workers w).left (none-below (λ u. not (is_empty (s.workers u).left)) m (d.none going) w lt)
+  done_left : (s : Core) → NoneOver s → is_raised set m n s ≡ false → (w : ℕ) → w < m → (s.workers w).left ≡ []
+  done_left s d going w lt = empty_none (s.workers w).left (none_below (λ u. not (is_empty (s.workers u).left)) m (d.none going) w lt)
 
   -- ---- what managers keep
 
   module _ (Q : Core → Core → Type 0) (none : (s : Core) → Q s s) (on : (s t u : Core) → Q s t → Q t u → Q s u) (allows : Event → Type 0) (leads : (e : Event) (s s' : Core) (new : List (Act Txn)) → allows e → Leads set e s s' new → Q s s') where
-    idled-keep : (j : ℕ) → allows (Gather j) → ((u : ℕ) → allows (Persist j u)) → ((u : ℕ) → allows (Stop j u)) → (whole : Bool) (P P' : Progress) → Idled set m n j whole P P' → Q P.state P'.state
-    idled-keep j g p s whole P P' (Idled.failed e) = none P.state
-    idled-keep j g p s whole P P' (Idled.idle e h f) = leads (Gather j) P.state P'.state h.0.new g h.0.leads
-    idled-keep j g p s whole P P' (Idled.again A B e h f k more) =
-        on P.state B.state P'.state (managed-keep set m n Q none on allows leads j g p s true P B (whole-turn P A B e h k)) (idled-keep j g p s whole B P' more)
+    idled_keep : (j : ℕ) → allows (Gather j) → ((u : ℕ) → allows (Persist j u)) → ((u : ℕ) → allows (Stop j u)) → (whole : Bool) (P P' : Progress) → Idled set m n j whole P P' → Q P.state P'.state
+    idled_keep j g p s whole P P' (Idled.failed e) = none P.state
+    idled_keep j g p s whole P P' (Idled.idle e h f) = leads (Gather j) P.state P'.state h.0.new g h.0.leads
+    idled_keep j g p s whole P P' (Idled.again A B e h f k more) =
+        on P.state B.state P'.state (managed_keep set m n Q none on allows leads j g p s true P B (whole_turn P A B e h k)) (idled_keep j g p s whole B P' more)
       where
-        whole-turn : (P A B : Progress) → is_going set m n P.state j ≡ true → Gathers set m n j P A → Flushed set m n j A B → ManagedPart set m n true j P B
-        whole-turn P A B e h k = subst (λ (b : Bool). IfSo b ((q : Progress) × Gathers set m n j P q × Flushed set m n j q B) (Stays P B)) (sym e) (A, h, k)
-    idled-keep j g p s whole P P' (Idled.cut h) = managed-keep set m n Q none on allows leads j g p s false P P' h
+        whole_turn : (P A B : Progress) → is_going set m n P.state j ≡ true → Gathers set m n j P A → Flushed set m n j A B → ManagedPart set m n true j P B
+        whole_turn P A B e h k = subst (λ (b : Bool). IfSo b ((q : Progress) × Gathers set m n j P q × Flushed set m n j q B) (Stays P B)) (sym e) (A, h, k)
+    idled_keep j g p s whole P P' (Idled.cut h) = managed_keep set m n Q none on allows leads j g p s false P P' h
 
-    cleared-keeps : ((w : ℕ) (v : List ℕ) → allows (Ack w v)) → (w : ℕ) (whole : Bool) (P P' : Progress) → Cleared set m n w whole P P' → Q P.state P'.state
-    cleared-keeps acks w whole P P' (Cleared.none e) = none P.state
-    cleared-keeps acks w whole P P' (Cleared.next {q = R} t more) = on P.state R.state P'.state (leads (Ack w P.state.plv) P.state R.state [] (acks w P.state.plv) t.leads) (cleared-keeps acks w whole R P' more)
-    cleared-keeps acks w whole P P' Cleared.cut = none P.state
+    cleared_keeps : ((w : ℕ) (v : List ℕ) → allows (Ack w v)) → (w : ℕ) (whole : Bool) (P P' : Progress) → Cleared set m n w whole P P' → Q P.state P'.state
+    cleared_keeps acks w whole P P' (Cleared.none e) = none P.state
+    cleared_keeps acks w whole P P' (Cleared.next {q = R} t more) = on P.state R.state P'.state (leads (Ack w P.state.plv) P.state R.state [] (acks w P.state.plv) t.leads) (cleared_keeps acks w whole R P' more)
+    cleared_keeps acks w whole P P' Cleared.cut = none P.state
 
-    each-keeps : {A : Type 0} (step : Bool → A → Progress → Progress → Type 0) → (xs : List A) → ((x : A) (P P' : Progress) → Member x xs → step true x P P' → Q P.state P'.state) → (P P' : Progress) → OneByOne set m n step true xs P P' → Q P.state P'.state
-    each-keeps step [] each P P' h = subst (λ (X : Progress). Q P.state X.state) (sym h) (none P.state)
-    each-keeps step (x ∷ xs) each P P' h = on P.state h.0.state P'.state (each x P h.0 (inl refl) h.1) (each-keeps step xs (λ y A B q k. each y A B (inr q) k) h.0 P' h.2)
+    each_keeps : {A : Type 0} (step : Bool → A → Progress → Progress → Type 0) → (xs : List A) → ((x : A) (P P' : Progress) → Member x xs → step true x P P' → Q P.state P'.state) → (P P' : Progress) → OneByOne set m n step true xs P P' → Q P.state P'.state
+    each_keeps step [] each P P' h = subst (λ (X : Progress). Q P.state X.state) (sym h) (none P.state)
+    each_keeps step (x ∷ xs) each P P' h = on P.state h.0.state P'.state (each x P h.0 (inl refl) h.1) (each_keeps step xs (λ y A B q k. each y A B (inr q) k) h.0 P' h.2)
 
   -- a stream that is not stopped was not stopped
   abbrev WasGoing : ℕ → Core → Core → Type 0
@@ -175,27 +161,27 @@ module _ (set : Setting) (m n : ℕ) where
   IsLate (Ack w v) = Unit {0}
   IsLate _ = ⊥
 
-  was-going : (j : ℕ) (e : Event) (s s' : Core) (new : List (Act Txn)) → IsLate e → Leads set e s s' new → WasGoing j s s'
-  was-going j (Lock u) s s' new o q = absurd o
-  was-going j (Busy u) s s' new o q = absurd o
-  was-going j (Quit u up) s s' new o q = absurd o
-  was-going j (Commit u) s s' new o q = absurd o
-  was-going j (Post u) s s' new o q = absurd o
-  was-going j (Free u) s s' new o q = absurd o
-  was-going j (FirstFree u) s s' new o q = absurd o
-  was-going j (Done u) s s' new o q = absurd o
-  was-going j (DoneReading u) s s' new o q = absurd o
-  was-going j (Drop i v) s s' new o q = absurd o
-  was-going j (Gather i) s s' new o q = λ e. sym (gathered-stop set i j s s' q.0) ∙ e
-  was-going j (PlaceAnchor i v) s s' new o q = absurd o
-  was-going j (Persist i upto) s s' new o q = λ e. sym (ap (λ (c : Core). (c.streams j).stop) q.0.after) ∙ e
-  was-going j (Ack u v) s s' new o q = λ e. sym (ap (λ (c : Core). (c.streams j).stop) q.0.after) ∙ e
-  was-going j (Stop i upto) s s' new o q = λ e. elim (cases_eq j i) [
-    | inl is ↦ (let now : (s'.streams i).stop ≡ Some upto = ap (λ (c : Core). (c.streams i).stop) q.0.after ∙ ap (λ (x : Stream). x.stop) (at-same i (record (s.streams i) { stop = Some upto }) s.streams) in
-        absurd (none-some (s'.streams j).stop upto e (subst (λ (k : ℕ). (s'.streams k).stop ≡ Some upto) (sym is) now)))
-    | inr ne ↦ sym (ap (λ (c : Core). (c.streams j).stop) q.0.after ∙ ap (λ (x : Stream). x.stop) (at-other i (record (s.streams i) { stop = Some upto }) s.streams j ne)) ∙ e
+  was_going : (j : ℕ) (e : Event) (s s' : Core) (new : List (Act Txn)) → IsLate e → Leads set e s s' new → WasGoing j s s'
+  was_going j (Lock u) s s' new o q = absurd o
+  was_going j (Busy u) s s' new o q = absurd o
+  was_going j (Quit u up) s s' new o q = absurd o
+  was_going j (Commit u) s s' new o q = absurd o
+  was_going j (Post u) s s' new o q = absurd o
+  was_going j (Free u) s s' new o q = absurd o
+  was_going j (FirstFree u) s s' new o q = absurd o
+  was_going j (Done u) s s' new o q = absurd o
+  was_going j (DoneReading u) s s' new o q = absurd o
+  was_going j (Drop i v) s s' new o q = absurd o
+  was_going j (Gather i) s s' new o q = λ e. sym (gathered_stop set i j s s' q.0) ∙ e
+  was_going j (PlaceAnchor i v) s s' new o q = absurd o
+  was_going j (Persist i upto) s s' new o q = λ e. sym (ap (λ (c : Core). (c.streams j).stop) q.0.after) ∙ e
+  was_going j (Ack u v) s s' new o q = λ e. sym (ap (λ (c : Core). (c.streams j).stop) q.0.after) ∙ e
+  was_going j (Stop i upto) s s' new o q = λ e. elim (cases_eq j i) [
+    | inl is ↦ (let now : (s'.streams i).stop ≡ Some upto = ap (λ (c : Core). (c.streams i).stop) q.0.after ∙ ap (λ (x : Stream). x.stop) (at_same i (record (s.streams i) { stop = Some upto }) s.streams) in
+        absurd (none_some (s'.streams j).stop upto e (subst (λ (k : ℕ). (s'.streams k).stop ≡ Some upto) (sym is) now)))
+    | inr ne ↦ sym (ap (λ (c : Core). (c.streams j).stop) q.0.after ∙ ap (λ (x : Stream). x.stop) (at_other i (record (s.streams i) { stop = Some upto }) s.streams j ne)) ∙ e
   ]
-  was-going j (Resume u) s s' new o q = absurd o
+  was_going j (Resume u) s s' new o q = absurd o
 
   -- what waits of a stream, and how far it is gathered and persisted, is as it was
   record Apart (j : ℕ) (s s' : Core) : Type 0 where
@@ -204,11 +190,11 @@ module _ (set : Setting) (m n : ℕ) where
     gathered : slice_index s'.gathered j ≡ slice_index s.gathered j
     plv : slice_index s'.plv j ≡ slice_index s.plv j
 
-  apart-none : (j : ℕ) (s : Core) → Apart j s s
-  apart-none j s = record { own = refl; posted = λ w e. refl; gathered = refl; plv = refl }
+  apart_none : (j : ℕ) (s : Core) → Apart j s s
+  apart_none j s = record { own = refl; posted = λ w e. refl; gathered = refl; plv = refl }
 
-  apart-on : (j : ℕ) (s t u : Core) → Apart j s t → Apart j t u → Apart j s u
-  apart-on j s t u a b = record { own = b.own ∙ a.own; posted = λ w e. b.posted w e ∙ a.posted w e; gathered = b.gathered ∙ a.gathered; plv = b.plv ∙ a.plv }
+  apart_on : (j : ℕ) (s t u : Core) → Apart j s t → Apart j t u → Apart j s u
+  apart_on j s t u a b = record { own = b.own ∙ a.own; posted = λ w e. b.posted w e ∙ a.posted w e; gathered = b.gathered ∙ a.gathered; plv = b.plv ∙ a.plv }
 
   -- an event of another manager, or of the clerk
   abbrev IsApart : ℕ → Event → Type 0
@@ -218,67 +204,67 @@ module _ (set : Setting) (m n : ℕ) where
   IsApart j (Ack w v) = Unit {0}
   IsApart j _ = ⊥
 
-  apart-gathered : (j i : ℕ) → (j ≡ i → ⊥) → (s s' : Core) → Gathered set i s s' → Apart j s s'
-  apart-gathered j i ne s s' stop = apart-none j s
-  apart-gathered j i ne s s' (record_first {m = M} w q more) = apart-on j s M s' (record {
-    own = ap (λ (c : Core). (c.streams j).posted) q.after ∙ ap (λ (x : Stream). x.posted) (at-other i (record (s.streams i) { moved = (s.streams i).moved ++ q.item ∷ [] }) s.streams j ne);
-    posted = λ v e. ap (λ (c : Core). (c.outboxes v).posted) q.after ∙ ap (λ (x : Outbox). x.posted) (at-other w (record (s.outboxes w) { posted = q.others }) s.outboxes v (λ same. ne (sym e ∙ ap set.stream_of same ∙ q.whose)));
+  apart_gathered : (j i : ℕ) → (j ≡ i → ⊥) → (s s' : Core) → Gathered set i s s' → Apart j s s'
+  apart_gathered j i ne s s' stop = apart_none j s
+  apart_gathered j i ne s s' (record_first {m = M} w q more) = apart_on j s M s' (record {
+    own = ap (λ (c : Core). (c.streams j).posted) q.after ∙ ap (λ (x : Stream). x.posted) (at_other i (record (s.streams i) { moved = (s.streams i).moved ++ q.item ∷ [] }) s.streams j ne);
+    posted = λ v e. ap (λ (c : Core). (c.outboxes v).posted) q.after ∙ ap (λ (x : Outbox). x.posted) (at_other w (record (s.outboxes w) { posted = q.others }) s.outboxes v (λ same. ne (sym e ∙ ap set.stream_of same ∙ q.whose)));
     gathered = ap (λ (c : Core). slice_index c.gathered j) q.after ∙ get_or-set_other s.gathered i j (past_of q.item) 0 ne;
     plv = ap (λ (c : Core). slice_index c.plv j) q.after;
-  }) (apart-gathered j i ne M s' more)
-  apart-gathered j i ne s s' (anchor_first {m = M} q more) = apart-on j s M s' (record {
-    own = ap (λ (c : Core). (c.streams j).posted) q.after ∙ ap (λ (x : Stream). x.posted) (at-other i (record (s.streams i) { posted = q.others; moved = (s.streams i).moved ++ q.item ∷ [] }) s.streams j ne);
+  }) (apart_gathered j i ne M s' more)
+  apart_gathered j i ne s s' (anchor_first {m = M} q more) = apart_on j s M s' (record {
+    own = ap (λ (c : Core). (c.streams j).posted) q.after ∙ ap (λ (x : Stream). x.posted) (at_other i (record (s.streams i) { posted = q.others; moved = (s.streams i).moved ++ q.item ∷ [] }) s.streams j ne);
     posted = λ v e. ap (λ (c : Core). (c.outboxes v).posted) q.after;
     gathered = ap (λ (c : Core). slice_index c.gathered j) q.after ∙ get_or-set_other s.gathered i j (past_of q.item) 0 ne;
     plv = ap (λ (c : Core). slice_index c.plv j) q.after;
-  }) (apart-gathered j i ne M s' more)
+  }) (apart_gathered j i ne M s' more)
 
-  apart-event : (j : ℕ) (e : Event) (s s' : Core) (new : List (Act Txn)) → IsApart j e → Leads set e s s' new → Apart j s s'
-  apart-event j (Lock u) s s' new o q = absurd o
-  apart-event j (Busy u) s s' new o q = absurd o
-  apart-event j (Quit u up) s s' new o q = absurd o
-  apart-event j (Commit u) s s' new o q = absurd o
-  apart-event j (Post u) s s' new o q = absurd o
-  apart-event j (Free u) s s' new o q = absurd o
-  apart-event j (FirstFree u) s s' new o q = absurd o
-  apart-event j (Done u) s s' new o q = absurd o
-  apart-event j (DoneReading u) s s' new o q = absurd o
-  apart-event j (Drop i v) s s' new o q = absurd o
-  apart-event j (Gather i) s s' new o q = apart-gathered j i o s s' q.0
-  apart-event j (PlaceAnchor i v) s s' new o q = absurd o
-  apart-event j (Persist i upto) s s' new o q = record {
+  apart_event : (j : ℕ) (e : Event) (s s' : Core) (new : List (Act Txn)) → IsApart j e → Leads set e s s' new → Apart j s s'
+  apart_event j (Lock u) s s' new o q = absurd o
+  apart_event j (Busy u) s s' new o q = absurd o
+  apart_event j (Quit u up) s s' new o q = absurd o
+  apart_event j (Commit u) s s' new o q = absurd o
+  apart_event j (Post u) s s' new o q = absurd o
+  apart_event j (Free u) s s' new o q = absurd o
+  apart_event j (FirstFree u) s s' new o q = absurd o
+  apart_event j (Done u) s s' new o q = absurd o
+  apart_event j (DoneReading u) s s' new o q = absurd o
+  apart_event j (Drop i v) s s' new o q = absurd o
+  apart_event j (Gather i) s s' new o q = apart_gathered j i o s s' q.0
+  apart_event j (PlaceAnchor i v) s s' new o q = absurd o
+  apart_event j (Persist i upto) s s' new o q = record {
     own = ap (λ (c : Core). (c.streams j).posted) q.0.after;
     posted = λ w e. ap (λ (c : Core). (c.outboxes w).posted) q.0.after;
     gathered = ap (λ (c : Core). slice_index c.gathered j) q.0.after;
     plv = ap (λ (c : Core). slice_index c.plv j) q.0.after ∙ get_or-set_other s.plv i j upto 0 o;
   }
-  apart-event j (Ack w v) s s' new o q = let a = q.0 in record {
+  apart_event j (Ack w v) s s' new o q = let a = q.0 in record {
     own = ap (λ (c : Core). (c.streams j).posted) a.after;
-    posted = λ u e. ap (λ (c : Core). (c.outboxes u).posted) a.after ∙ outbox-kept u w (record (s.outboxes w) { pending = a.front ++ a.back }) s.outboxes refl;
+    posted = λ u e. ap (λ (c : Core). (c.outboxes u).posted) a.after ∙ outbox_kept u w (record (s.outboxes w) { pending = a.front ++ a.back }) s.outboxes refl;
     gathered = ap (λ (c : Core). slice_index c.gathered j) a.after;
     plv = ap (λ (c : Core). slice_index c.plv j) a.after;
   }
     where
-      outbox-kept : (u w : ℕ) (x : Outbox) (f : ℕ → Outbox) → x.posted ≡ (f w).posted → (at w x f u).posted ≡ (f u).posted
-      outbox-kept u w x f e = elim (cases_eq u w) [
-        | inl is ↦ subst (λ (k : ℕ). (at w x f k).posted ≡ (f k).posted) (sym is) (ap (λ (o : Outbox). o.posted) (at-same w x f) ∙ e)
-        | inr ne ↦ ap (λ (o : Outbox). o.posted) (at-other w x f u ne)
+      outbox_kept : (u w : ℕ) (x : Outbox) (f : ℕ → Outbox) → x.posted ≡ (f w).posted → (at w x f u).posted ≡ (f u).posted
+      outbox_kept u w x f e = elim (cases_eq u w) [
+        | inl is ↦ subst (λ (k : ℕ). (at w x f k).posted ≡ (f k).posted) (sym is) (ap (λ (o : Outbox). o.posted) (at_same w x f) ∙ e)
+        | inr ne ↦ ap (λ (o : Outbox). o.posted) (at_other w x f u ne)
       ]
-  apart-event j (Stop i upto) s s' new o q = record {
-    own = ap (λ (c : Core). (c.streams j).posted) q.0.after ∙ ap (λ (x : Stream). x.posted) (at-other i (record (s.streams i) { stop = Some upto }) s.streams j o);
+  apart_event j (Stop i upto) s s' new o q = record {
+    own = ap (λ (c : Core). (c.streams j).posted) q.0.after ∙ ap (λ (x : Stream). x.posted) (at_other i (record (s.streams i) { stop = Some upto }) s.streams j o);
     posted = λ w e. ap (λ (c : Core). (c.outboxes w).posted) q.0.after;
     gathered = ap (λ (c : Core). slice_index c.gathered j) q.0.after;
     plv = ap (λ (c : Core). slice_index c.plv j) q.0.after;
   }
-  apart-event j (Resume u) s s' new o q = absurd o
+  apart_event j (Resume u) s s' new o q = absurd o
 
   -- nothing more can be gathered of the stream, and it is persisted; or it was stopped
   record Settled (j : ℕ) (s : Core) : Type 0 where
     gathered : IsGathered set m n j s
     persisted : slice_index s.gathered j ≡ slice_index s.plv j
 
-  settled-apart : (j : ℕ) (s s' : Core) → Apart j s s' → Settled j s → Settled j s'
-  settled-apart j s s' a g = record {
+  settled_apart : (j : ℕ) (s s' : Core) → Apart j s s' → Settled j s → Settled j s'
+  settled_apart j s s' a g = record {
     gathered = record {
       near = (let e = a.gathered in let f = a.plv in let most = g.gathered.near in omega (arith, e, f, most));
       own = waits (s.streams j).posted (s'.streams j).posted a.own g.gathered.own;
@@ -294,27 +280,27 @@ module _ (set : Setting) (m n : ℕ) where
       waits : (xs ys : List Item) → ys ≡ xs → Waits set m n s j xs → Waits set m n s' j ys
       waits xs ys e q = subst (λ (zs : List Item). Waits set m n s' j zs) (sym e) (one xs q)
 
-  is-equal : (a b : ℕ) → (a == b) ≡ true → a ≡ b
-  is-equal a b e = elim (cases_eq a b) [ inl p ↦ p | inr ne ↦ absurd (false-true (a == b) (ne_eqb a b ne) e) ]
+  is_equal : (a b : ℕ) → (a == b) ≡ true → a ≡ b
+  is_equal a b e = elim (cases_eq a b) [ inl p ↦ p | inr ne ↦ absurd (not_both (a == b) (ne_eqb a b ne) e) ]
 
-  idled-settled : (j : ℕ) → j < n → (whole : Bool) (P P' : Progress) → whole ≡ true → (P'.state.streams j).stop ≡ None → Idled set m n j whole P P' → Settled j P'.state
-  idled-settled j lt whole P P' e going (Idled.failed f) = absurd (stopped-there set m n j lt P.state f going)
-  idled-settled j lt whole P P' e going (Idled.idle f h all) = record { gathered = h.1; persisted = is-equal (slice_index P'.state.gathered j) (slice_index P'.state.plv j) all }
-  idled-settled j lt whole P P' e going (Idled.again A B f h new k more) = idled-settled j lt whole B P' e going more
-  idled-settled j lt whole P P' e going (Idled.cut h) = absurd (false-true false refl e)
+  idled_settled : (j : ℕ) → j < n → (whole : Bool) (P P' : Progress) → whole ≡ true → (P'.state.streams j).stop ≡ None → Idled set m n j whole P P' → Settled j P'.state
+  idled_settled j lt whole P P' e going (Idled.failed f) = absurd (stopped_there set m n j lt P.state f going)
+  idled_settled j lt whole P P' e going (Idled.idle f h all) = record { gathered = h.1; persisted = is_equal (slice_index P'.state.gathered j) (slice_index P'.state.plv j) all }
+  idled_settled j lt whole P P' e going (Idled.again A B f h new k more) = idled_settled j lt whole B P' e going more
+  idled_settled j lt whole P P' e going (Idled.cut h) = absurd (not_both false refl e)
 
   -- after all managers each stream is settled that is not stopped
-  all-settled : (j : ℕ) → j < n → (xs : List ℕ) (P P' : Progress) → Member j xs ⊎ Settled j P.state → (P'.state.streams j).stop ≡ None → OneByOne set m n (λ b i. Idled set m n i b) true xs P P' → Settled j P'.state
-  all-settled j lt [] P P' how going h = elim how [ inl q ↦ absurd q | inr s ↦ subst (λ (X : Progress). Settled j X.state) (sym h) s ]
-  all-settled j lt (x ∷ xs) P P' how going (R, first, rest) =
+  all_settled : (j : ℕ) → j < n → (xs : List ℕ) (P P' : Progress) → Member j xs ⊎ Settled j P.state → (P'.state.streams j).stop ≡ None → OneByOne set m n (λ b i. Idled set m n i b) true xs P P' → Settled j P'.state
+  all_settled j lt [] P P' how going h = elim how [ inl q ↦ absurd q | inr s ↦ subst (λ (X : Progress). Settled j X.state) (sym h) s ]
+  all_settled j lt (x ∷ xs) P P' how going (R, first, rest) =
       let later : (R.state.streams j).stop ≡ None =
-      each-keeps (WasGoing j) (λ s e. e) (λ s t u a b e. a (b e)) IsLate (was-going j) (λ b i. Idled set m n i b) xs
-      (λ i A B q k. idled-keep (WasGoing j) (λ s e. e) (λ s t u a b e. a (b e)) IsLate (was-going j) i tt (λ u. tt) (λ u. tt) true A B k) R P' rest going in
-      all-settled j lt xs R P' (elim (cases_eq j x) [
-        | inl e ↦ inr (idled-settled j lt true P R refl later (subst (λ (k : ℕ). Idled set m n k true P R) (sym e) first))
+      each_keeps (WasGoing j) (λ s e. e) (λ s t u a b e. a (b e)) IsLate (was_going j) (λ b i. Idled set m n i b) xs
+      (λ i A B q k. idled_keep (WasGoing j) (λ s e. e) (λ s t u a b e. a (b e)) IsLate (was_going j) i tt (λ u. tt) (λ u. tt) true A B k) R P' rest going in
+      all_settled j lt xs R P' (elim (cases_eq j x) [
+        | inl e ↦ inr (idled_settled j lt true P R refl later (subst (λ (k : ℕ). Idled set m n k true P R) (sym e) first))
         | inr ne ↦ elim how [
           | inl q ↦ elim q [ inl is ↦ absurd (ne (sym is)) | inr more ↦ inl more ]
-          | inr s ↦ inr (settled-apart j P.state R.state (idled-keep (Apart j) (apart-none j) (apart-on j) (IsApart j) (apart-event j) x ne (λ u. ne) (λ u. ne) true P R first) s)
+          | inr s ↦ inr (settled_apart j P.state R.state (idled_keep (Apart j) (apart_none j) (apart_on j) (IsApart j) (apart_event j) x ne (λ u. ne) (λ u. ne) true P R first) s)
         ]
       ]) going rest
 
@@ -323,36 +309,36 @@ module _ (set : Setting) (m n : ℕ) where
   abbrev NoneCovered : ℕ → Core → Type 0
   NoneCovered w s = list_any (λ (k : Ticket). covers s.plv k.lv) (s.outboxes w).pending ≡ false
 
-  cleared-end : (w : ℕ) (whole : Bool) (P P' : Progress) → whole ≡ true → Cleared set m n w whole P P' → NoneCovered w P'.state
-  cleared-end w whole P P' e (Cleared.none none) = none
-  cleared-end w whole P P' e (Cleared.next {q = R} t more) = cleared-end w whole R P' e more
-  cleared-end w whole P P' e Cleared.cut = absurd (false-true false refl e)
+  cleared_end : (w : ℕ) (whole : Bool) (P P' : Progress) → whole ≡ true → Cleared set m n w whole P P' → NoneCovered w P'.state
+  cleared_end w whole P P' e (Cleared.none none) = none
+  cleared_end w whole P P' e (Cleared.next {q = R} t more) = cleared_end w whole R P' e more
+  cleared_end w whole P P' e Cleared.cut = absurd (not_both false refl e)
 
-  cleared-other : (w u : ℕ) → (u ≡ w → ⊥) → (whole : Bool) (P P' : Progress) → NoneCovered u P.state → Cleared set m n w whole P P' → NoneCovered u P'.state
-  cleared-other w u ne whole P P' none (Cleared.none e) = none
-  cleared-other w u ne whole P P' none (Cleared.next {q = R} t more) =
+  cleared_other : (w u : ℕ) → (u ≡ w → ⊥) → (whole : Bool) (P P' : Progress) → NoneCovered u P.state → Cleared set m n w whole P P' → NoneCovered u P'.state
+  cleared_other w u ne whole P P' none (Cleared.none e) = none
+  cleared_other w u ne whole P P' none (Cleared.next {q = R} t more) =
       let a = t.leads.0 in
       let plv = ap (λ (c : Core). c.plv) a.after in
-      let same = ap (λ (c : Core). (c.outboxes u).pending) a.after ∙ ap (λ (o : Outbox). o.pending) (at-other w (record (P.state.outboxes w) { pending = a.front ++ a.back }) P.state.outboxes u ne) in
-      cleared-other w u ne whole R P' (subst (λ (v : List ℕ). list_any (λ (k : Ticket). covers v k.lv) (R.state.outboxes u).pending ≡ false) (sym plv)
+      let same = ap (λ (c : Core). (c.outboxes u).pending) a.after ∙ ap (λ (o : Outbox). o.pending) (at_other w (record (P.state.outboxes w) { pending = a.front ++ a.back }) P.state.outboxes u ne) in
+      cleared_other w u ne whole R P' (subst (λ (v : List ℕ). list_any (λ (k : Ticket). covers v k.lv) (R.state.outboxes u).pending ≡ false) (sym plv)
       (subst (λ (ks : List Ticket). list_any (λ (k : Ticket). covers P.state.plv k.lv) ks ≡ false) (sym same) none)) more
-  cleared-other w u ne whole P P' none Cleared.cut = none
+  cleared_other w u ne whole P P' none Cleared.cut = none
 
-  all-cleared : (w : ℕ) (xs : List ℕ) (P P' : Progress) → Member w xs ⊎ NoneCovered w P.state → OneByOne set m n (λ b u. Cleared set m n u b) true xs P P' → NoneCovered w P'.state
-  all-cleared w [] P P' how h = elim how [ inl q ↦ absurd q | inr s ↦ subst (λ (X : Progress). NoneCovered w X.state) (sym h) s ]
-  all-cleared w (x ∷ xs) P P' how (R, first, rest) = all-cleared w xs R P' (elim (cases_eq w x) [
-    | inl e ↦ inr (cleared-end w true P R refl (subst (λ (k : ℕ). Cleared set m n k true P R) (sym e) first))
+  all_cleared : (w : ℕ) (xs : List ℕ) (P P' : Progress) → Member w xs ⊎ NoneCovered w P.state → OneByOne set m n (λ b u. Cleared set m n u b) true xs P P' → NoneCovered w P'.state
+  all_cleared w [] P P' how h = elim how [ inl q ↦ absurd q | inr s ↦ subst (λ (X : Progress). NoneCovered w X.state) (sym h) s ]
+  all_cleared w (x ∷ xs) P P' how (R, first, rest) = all_cleared w xs R P' (elim (cases_eq w x) [
+    | inl e ↦ inr (cleared_end w true P R refl (subst (λ (k : ℕ). Cleared set m n k true P R) (sym e) first))
     | inr ne ↦ elim how [
       | inl q ↦ elim q [ inl is ↦ absurd (ne (sym is)) | inr more ↦ inl more ]
-      | inr s ↦ inr (cleared-other x w ne true P R s first)
+      | inr s ↦ inr (cleared_other x w ne true P R s first)
     ]
   ]) rest
 
-  none-filtered : {A : Type 0} (f : A → Bool) (xs : List A) → list_any f xs ≡ false → filter f xs ≡ []
-  none-filtered f [] e = refl
-  none-filtered f (x ∷ xs) e = elim (cases_Bool (f x)) [
-    | inl yes' ↦ absurd (false-true true (rw yes' at e) refl)
-    | inr no' ↦ rw no' (none-filtered f xs (rw no' at e))
+  none_filtered : {A : Type 0} (f : A → Bool) (xs : List A) → list_any f xs ≡ false → filter f xs ≡ []
+  none_filtered f [] e = refl
+  none_filtered f (x ∷ xs) e = elim (cases_Bool (f x)) [
+    | inl yes' ↦ absurd (not_both true (rw yes' at e) refl)
+    | inr no' ↦ rw no' (none_filtered f xs (rw no' at e))
   ]
 
   -- ---- all of it
@@ -371,81 +357,81 @@ module _ (set : Setting) (m n : ℕ) where
 
   module _ (K : List (Act Txn)) (s : Core) (inv : Invariant set K s) (width : set.width ≡ n) (small : (k : ℕ) → set.worker_of k < m) (beyond : IsBeyond s) (short : AreShort s) where
     -- the first of those that are posted does not wait
-    first-short : (j : ℕ) (g : StreamGood set K s j) → slice_index s.gathered j ≡ slice_index s.plv j → (xs : List Item) → ((i : Item) → Member i xs → PostedAt set s j i) → Ascending xs → Waits set m n s j xs →
+    first_short : (j : ℕ) (g : StreamGood set K s j) → slice_index s.gathered j ≡ slice_index s.plv j → (xs : List Item) → ((i : Item) → Member i xs → PostedAt set s j i) → Ascending xs → Waits set m n s j xs →
         ((i : Item) → Member i xs → past_of i ≤ start_of i + MAX_BODY) → (i : Item) → Member i xs → start_of i ≡ slice_index s.gathered j → ⊥
-    first-short j g same [] posted up waits fits i q e = q
-    first-short j g same (x ∷ xs) posted up waits fits i (inl is) e =
+    first_short j g same [] posted up waits fits i q e = q
+    first_short j g same (x ∷ xs) posted up waits fits i (inl is) e =
         let start : start_of x ≡ slice_index s.gathered j = ap start_of is ∙ e in
         let long = waits start in
         let short = fits x (inl refl) in
         omega (arith, long, short, start, same)
-    first-short j g same (x ∷ xs) posted up waits fits i (inr q) e =
+    first_short j g same (x ∷ xs) posted up waits fits i (inr q) e =
         let before = up.0 i q in
-        let there = chain-member (slice_index s.gathered j) (slice_index s.ends j) g.waiting x g.rest (g.posted x (posted x (inl refl))) in
+        let there = chain_member (slice_index s.gathered j) (slice_index s.ends j) g.waiting x g.rest (g.posted x (posted x (inl refl))) in
         omega (arith, before, e, there.0, there.1)
 
-    nothing-waits : (j : ℕ) → j < n → ((w : ℕ) → (s.workers w).hand ≡ None) → Settled j s → slice_index s.plv j ≡ slice_index s.ends j
-    nothing-waits j lt rests settled = by (good.waiting) good.rest (λ i q. q)
+    nothing_waits : (j : ℕ) → j < n → ((w : ℕ) → (s.workers w).hand ≡ None) → Settled j s → slice_index s.plv j ≡ slice_index s.ends j
+    nothing_waits j lt rests settled = by (good.waiting) good.rest (λ i q. q)
       where
         good : StreamGood set K s j
         good = inv.agrees.pieces.stream j (omega (arith, lt, width))
 
-        posted-none : (i : Item) → Member i good.waiting → start_of i ≡ slice_index s.gathered j → PostedAt set s j i → ⊥
-        posted-none i q e (inl (w, whose, there)) = elim (cases_lt w m) [
-          | inl below ↦ first-short j good settled.persisted (s.outboxes w).posted (λ k p. inl (w, whose, p)) (inv.agrees.pieces.ascending w) (settled.gathered.posted w below whose) (λ k p. short.posted w k below p) i there e
+        posted_none : (i : Item) → Member i good.waiting → start_of i ≡ slice_index s.gathered j → PostedAt set s j i → ⊥
+        posted_none i q e (inl (w, whose, there)) = elim (cases_lt w m) [
+          | inl below ↦ first_short j good settled.persisted (s.outboxes w).posted (λ k p. inl (w, whose, p)) (inv.agrees.pieces.ascending w) (settled.gathered.posted w below whose) (λ k p. short.posted w k below p) i there e
           | inr beyond ↦ (let (t, is, by) = inv.agrees.pieces.whose w i there in
-              let worker = worker-below t (records-there i t is q) in
+              let worker = worker_below t (records_there i t is q) in
               omega (arith, worker, by, beyond))
         ]
           where
-            worker-below : (t : Act Txn) → Member t K → t.call.worker < m
-            worker-below t p = let c = (committed_theorem set K s inv).0 t p in subst (λ (k : ℕ). k < m) c.1 (small t.call.call.number)
+            worker_below : (t : Act Txn) → Member t K → t.call.worker < m
+            worker_below t p = let c = (committed_theorem set K s inv).0 t p in subst (λ (k : ℕ). k < m) c.1 (small t.call.call.number)
 
-            records-there : (i : Item) (t : Act Txn) → i ≡ Record t → Member i good.waiting → Member t K
-            records-there i t is q =
-                (member-filtered (in_stream (λ (t : Act Txn). t.call.place) (λ t. updates t.effect) j) t K
-                (subst (λ (ts : List (Act Txn)). Member t ts) good.records (subst (λ (ts : List (Act Txn)). Member t ts) (sym (records-append (s.streams j).moved good.waiting))
-                (member-behind (records_in (s.streams j).moved) (records_in good.waiting) t (member-records good.waiting t (subst (λ (k : Item). Member k good.waiting) is q)))))).0
-        posted-none i q e (inr there) = first-short j good settled.persisted (s.streams j).posted (λ k p. inr p) (inv.agrees.pieces.ascending_own j) settled.gathered.own (λ k p. short.own j k lt p) i there e
+            records_there : (i : Item) (t : Act Txn) → i ≡ Record t → Member i good.waiting → Member t K
+            records_there i t is q =
+                (member_filtered (in_stream (λ (t : Act Txn). t.call.place) (λ t. updates t.effect) j) t K
+                (subst (λ (ts : List (Act Txn)). Member t ts) good.records (subst (λ (ts : List (Act Txn)). Member t ts) (sym (records_append (s.streams j).moved good.waiting))
+                (member_back (records_in (s.streams j).moved) (records_in good.waiting) t (record_member good.waiting t (subst (λ (k : Item). Member k good.waiting) is q)))))).0
+        posted_none i q e (inr there) = first_short j good settled.persisted (s.streams j).posted (λ k p. inr p) (inv.agrees.pieces.ascending_own j) settled.gathered.own (λ k p. short.own j k lt p) i there e
 
-        flying-none : (i : Item) → Flying set s j i → ⊥
-        flying-none i (w, whose, (t, is, placed)) = none-some (placed_in (s.workers w).hand) t (ap placed_in (rests w)) placed
+        flying_none : (i : Item) → Flying set s j i → ⊥
+        flying_none i (w, whose, (t, is, placed)) = none_some (placed_in (s.workers w).hand) t (ap placed_in (rests w)) placed
 
         by : (xs : List Item) → Chain (slice_index s.gathered j) xs (slice_index s.ends j) → ((i : Item) → Member i xs → Member i good.waiting) → slice_index s.plv j ≡ slice_index s.ends j
         by [] e all = sym settled.persisted ∙ e
         by (i ∷ xs) c all = absurd (elim (good.there i (all i (inl refl))) [
-          | inl p ↦ posted-none i (all i (inl refl)) c.0 p
-          | inr f ↦ flying-none i f
+          | inl p ↦ posted_none i (all i (inl refl)) c.0 p
+          | inr f ↦ flying_none i f
         ])
 
-  pub whole-over : (turns : List Turn) (opening : Core) (K : List (Act Txn)) (P : Progress) → Invariant set K P.state → set.width ≡ n → ((k : ℕ) → set.worker_of k < m) → IsBeyond P.state → AreShort P.state →
+  pub whole_over : (turns : List Turn) (opening : Core) (K : List (Act Txn)) (P : Progress) → Invariant set K P.state → set.width ≡ n → ((k : ℕ) → set.worker_of k < m) → IsBeyond P.state → AreShort P.state →
       IsWholeRun set m n turns opening P → IsOver n P.state
-  whole-over turns opening K P inv width small beyond short r = record {
+  whole_over turns opening K P inv width small beyond short r = record {
     rests = rests;
-    persisted = λ j lt going. nothing-waits K P.state inv width small beyond short j lt rests (settled j lt going);
+    persisted = λ j lt going. nothing_waits K P.state inv width small beyond short j lt rests (settled j lt going);
     told = λ w. elim (cases_lt w m) [
-      | inl lt ↦ none-filtered (λ (k : Ticket). covers P.state.plv k.lv) (P.state.outboxes w).pending (all-cleared w (below m) r.flushed P (inl (member-below w m lt)) r.clerk)
+      | inl lt ↦ none_filtered (λ (k : Ticket). covers P.state.plv k.lv) (P.state.outboxes w).pending (all_cleared w (below m) r.flushed P (inl (member_below w m lt)) r.clerk)
       | inr le ↦ ap (filter (λ (k : Ticket). covers P.state.plv k.lv)) (beyond.pending w le)
     ];
-    done = λ going w. (let none = any-none (λ j. is_some (r.alone.state.streams j).stop) n (λ j lt. ap is_some (before-managers j (before-clerk j (going j lt)))) in
+    done = λ going w. (let none = any_none (λ j. is_some (r.alone.state.streams j).stop) n (λ j lt. ap is_some (before_managers j (before_clerk j (going j lt)))) in
         elim (cases_lt w m) [
-          | inl lt ↦ (ap (λ (f : ℕ → Worker). (f w).waiting) same ∙ over.rest.waiting none w lt, ap (λ (f : ℕ → Worker). (f w).left) same ∙ done-left r.alone.state over none w lt)
+          | inl lt ↦ (ap (λ (f : ℕ → Worker). (f w).waiting) same ∙ over.rest.waiting none w lt, ap (λ (f : ℕ → Worker). (f w).left) same ∙ done_left r.alone.state over none w lt)
           | inr le ↦ (beyond.waiting w le, beyond.left w le)
         ]);
   }
     where
       over : NoneOver r.alone.state
-      over = left-end true r.rounds r.alone refl (rests-all r.rounds.state (rounds-end true r.named r.rounds refl r.in_rounds)) r.left_over
+      over = left_end true r.rounds r.alone refl (rests_all r.rounds.state (rounds_end true r.named r.rounds refl r.in_rounds)) r.left_over
 
-      clerk-keeps : (Q : Core → Core → Type 0) → ((s : Core) → Q s s) → ((s t u : Core) → Q s t → Q t u → Q s u) → (allows : Event → Type 0) → ((e : Event) (s s' : Core) (new : List (Act Txn)) → allows e → Leads set e s s' new → Q s s') →
+      clerk_keeps : (Q : Core → Core → Type 0) → ((s : Core) → Q s s) → ((s t u : Core) → Q s t → Q t u → Q s u) → (allows : Event → Type 0) → ((e : Event) (s s' : Core) (new : List (Act Txn)) → allows e → Leads set e s s' new → Q s s') →
           ((w : ℕ) (v : List ℕ) → allows (Ack w v)) → Q r.flushed.state P.state
-      clerk-keeps Q none on allows leads acks = each-keeps Q none on allows leads (λ b w. Cleared set m n w b) (below m) (λ w A B q k. cleared-keeps Q none on allows leads acks w true A B k) r.flushed P r.clerk
+      clerk_keeps Q none on allows leads acks = each_keeps Q none on allows leads (λ b w. Cleared set m n w b) (below m) (λ w A B q k. cleared_keeps Q none on allows leads acks w true A B k) r.flushed P r.clerk
 
       same : P.state.workers ≡ r.alone.state.workers
       same =
-          clerk-keeps (λ s s'. s'.workers ≡ s.workers) (λ s. refl) (λ s t u a b. b ∙ a) IsElsewhere (elsewhere set) (λ w v. tt)
-          ∙ each-keeps (λ s s'. s'.workers ≡ s.workers) (λ s. refl) (λ s t u a b. b ∙ a) IsElsewhere (elsewhere set) (λ b i. Idled set m n i b) (below n)
-          (λ i A B q k. idled-keep (λ s s'. s'.workers ≡ s.workers) (λ s. refl) (λ s t u a b. b ∙ a) IsElsewhere (elsewhere set) i tt (λ u. tt) (λ u. tt) true A B k) r.alone r.flushed r.managers
+          clerk_keeps (λ s s'. s'.workers ≡ s.workers) (λ s. refl) (λ s t u a b. b ∙ a) IsElsewhere (elsewhere set) (λ w v. tt)
+          ∙ each_keeps (λ s s'. s'.workers ≡ s.workers) (λ s. refl) (λ s t u a b. b ∙ a) IsElsewhere (elsewhere set) (λ b i. Idled set m n i b) (below n)
+          (λ i A B q k. idled_keep (λ s s'. s'.workers ≡ s.workers) (λ s. refl) (λ s t u a b. b ∙ a) IsElsewhere (elsewhere set) i tt (λ u. tt) (λ u. tt) true A B k) r.alone r.flushed r.managers
 
       rests : (w : ℕ) → (P.state.workers w).hand ≡ None
       rests w = elim (cases_lt w m) [
@@ -453,13 +439,13 @@ module _ (set : Setting) (m n : ℕ) where
         | inr le ↦ beyond.hands w le
       ]
 
-      before-clerk : (j : ℕ) → (P.state.streams j).stop ≡ None → (r.flushed.state.streams j).stop ≡ None
-      before-clerk j e = clerk-keeps (WasGoing j) (λ s q. q) (λ s t u a b q. a (b q)) IsLate (was-going j) (λ w v. tt) e
+      before_clerk : (j : ℕ) → (P.state.streams j).stop ≡ None → (r.flushed.state.streams j).stop ≡ None
+      before_clerk j e = clerk_keeps (WasGoing j) (λ s q. q) (λ s t u a b q. a (b q)) IsLate (was_going j) (λ w v. tt) e
 
-      before-managers : (j : ℕ) → (r.flushed.state.streams j).stop ≡ None → (r.alone.state.streams j).stop ≡ None
-      before-managers j e = each-keeps (WasGoing j) (λ s q. q) (λ s t u a b q. a (b q)) IsLate (was-going j) (λ b i. Idled set m n i b) (below n)
-          (λ i A B q k. idled-keep (WasGoing j) (λ s q. q) (λ s t u a b q. a (b q)) IsLate (was-going j) i tt (λ u. tt) (λ u. tt) true A B k) r.alone r.flushed r.managers e
+      before_managers : (j : ℕ) → (r.flushed.state.streams j).stop ≡ None → (r.alone.state.streams j).stop ≡ None
+      before_managers j e = each_keeps (WasGoing j) (λ s q. q) (λ s t u a b q. a (b q)) IsLate (was_going j) (λ b i. Idled set m n i b) (below n)
+          (λ i A B q k. idled_keep (WasGoing j) (λ s q. q) (λ s t u a b q. a (b q)) IsLate (was_going j) i tt (λ u. tt) (λ u. tt) true A B k) r.alone r.flushed r.managers e
 
       settled : (j : ℕ) → j < n → (P.state.streams j).stop ≡ None → Settled j P.state
-      settled j lt going = settled-apart j r.flushed.state P.state (clerk-keeps (Apart j) (apart-none j) (apart-on j) (IsApart j) (apart-event j) (λ w v. tt))
-          (all-settled j lt (below n) r.alone r.flushed (inl (member-below j n lt)) (before-clerk j going) r.managers)
+      settled j lt going = settled_apart j r.flushed.state P.state (clerk_keeps (Apart j) (apart_none j) (apart_on j) (IsApart j) (apart_event j) (λ w v. tt))
+          (all_settled j lt (below n) r.alone r.flushed (inl (member_below j n lt)) (before_clerk j going) r.managers)

@@ -21,89 +21,86 @@ use Rattle.tau_step.specs.RunEffects.{Works, total_left}
 use Rattle.tau_step.specs.Progressed.{Comes, stays, anchors, drops}
 use Rattle.tau_step.specs.Remains.{sum_below, worker_left}
 use Rattle.tau_step.specs.Rounding.{turned, worked_by}
-use Rattle.tau_step.proofs.Deciding.{if-not}
-use Rattle.tau_step.proofs.Fitting.{stands-tries}
-use Rattle.tau_step.proofs.EffectsInTurn.{works-as, works-none}
-use Rattle.tau_step.proofs.Totals.{worked-total}
-use Rattle.tau_step.proofs.Turning.{worked-grows, worked-same, anchored-grows, anchored-same, removed-grows, removed-same}
+use Rattle.tau_step.proofs.Deciding.{if_not}
+use Rattle.tau_step.proofs.Fitting.{stands_tries}
+use Rattle.tau_step.proofs.EffectsInTurn.{works_as, works_none}
+use Rattle.tau_step.proofs.Totals.{worked_total}
+use Rattle.tau_step.proofs.Turning.{worked_grows, worked_same, anchored_grows, anchored_same, removed_grows, removed_same}
+use Rattle.tau_base.proofs.Logic.{first_not}
 
-not-below : (a b : ℕ) → b ≤ a → nat_lt a b ≡ false
-not-below a b le = elim (cases_Bool (nat_lt a b)) [
+not_below : (a b : ℕ) → b ≤ a → nat_lt a b ≡ false
+not_below a b le = elim (cases_Bool (nat_lt a b)) [
   | inl above ↦ absurd (grind (arith, nat_tests, above, le))
   | inr e ↦ e
 ]
 
-not-first : (a b : Bool) → a ≡ false → (a && b) ≡ false
-not-first false b e = refl
-not-first true b e = absurd (let bad : true ≡ false = e in cc)
-
 module _ (old new : Run) (clerk : new.clerk ≡ old.clerk) (failed : new.failed ≡ old.failed) (workers : new.workers ≡ old.workers) (streams : new.streams ≡ old.streams) (flushes : new.flushes ≡ old.flushes) (stood : Stood old.core) where
   -- from what always comes
-  pub works-of : (R : Bool → Load → Progress → Progress → Type 0) (whole : Bool) → ((K : List (Act Txn)) (h : Hidden) (es : List machine.Event) (told : List (ℕ × List ℕ)) → Stands old.core K h → Comes (R whole) old.core new.core told told K h es) → Works R whole old new
-  works-of R whole comes =
+  pub works_of : (R : Bool → Load → Progress → Progress → Type 0) (whole : Bool) → ((K : List (Act Txn)) (h : Hidden) (es : List machine.Event) (told : List (ℕ × List ℕ)) → Stands old.core K h → Comes (R whole) old.core new.core told told K h es) → Works R whole old new
+  works_of R whole comes =
       let (K, h, g) = stood in
       let c = comes K h [] [] g in
       record { comes = comes; stood = (c.order, c.hidden, c.stands); load = c.load; clerk = clerk; failed = failed; workers = workers; streams = streams; flushes = flushes }
 
   -- the turn of a worker
-  pub work-works : (w : ℕ) (r : Result Bool NoMemory) → ((K : List (Act Txn)) (h : Hidden) (es : List machine.Event) (told : List (ℕ × List ℕ)) → Stands old.core K h → WorkerTurned w old.core new.core K h es told r) → Works (worked_by w r) (is_ok r) old new
-  work-works w (Ok did) t = works-of (worked_by w (Ok did)) true (λ K h es told g. (let q = t K h es told g in let c = q.1 in
+  pub work_works : (w : ℕ) (r : Result Bool NoMemory) → ((K : List (Act Txn)) (h : Hidden) (es : List machine.Event) (told : List (ℕ × List ℕ)) → Stands old.core K h → WorkerTurned w old.core new.core K h es told r) → Works (worked_by w r) (is_ok r) old new
+  work_works w (Ok did) t = works_of (worked_by w (Ok did)) true (λ K h es told g. (let q = t K h es told g in let c = q.1 in
       record { hidden = c.hidden; order = c.order; events = c.events; stands = c.stands; load = c.load; taken = c.taken; moved = (q.0, c.moved) }))
-  work-works w (Err e) t = works-of (worked_by w (Err e)) false (λ K h es told g. t K h es told g)
+  work_works w (Err e) t = works_of (worked_by w (Err e)) false (λ K h es told g. t K h es told g)
 
   -- an anchor
-  pub anchor-works : {A : Type 0} (j : ℕ) (r : Result A NoMemory) → OnOk r ((K : List (Act Txn)) (h : Hidden) (es : List machine.Event) (told : List (ℕ × List ℕ)) → Stands old.core K h → Comes (anchors true j) old.core new.core told told K h es) →
+  pub anchor_works : {A : Type 0} (j : ℕ) (r : Result A NoMemory) → OnOk r ((K : List (Act Txn)) (h : Hidden) (es : List machine.Event) (told : List (ℕ × List ℕ)) → Stands old.core K h → Comes (anchors true j) old.core new.core told told K h es) →
       OnErr r ((K : List (Act Txn)) (h : Hidden) (es : List machine.Event) (told : List (ℕ × List ℕ)) → Stands old.core K h → Comes stays old.core new.core told told K h es) → Works (turned (turn.Anchor j)) (is_ok r) old new
-  anchor-works j (Ok a) ok short = works-of (turned (turn.Anchor j)) true (λ K h es told g. ok K h es told g)
-  anchor-works j (Err e) ok short = works-of (turned (turn.Anchor j)) false (λ K h es told g. short K h es told g)
+  anchor_works j (Ok a) ok short = works_of (turned (turn.Anchor j)) true (λ K h es told g. ok K h es told g)
+  anchor_works j (Err e) ok short = works_of (turned (turn.Anchor j)) false (λ K h es told g. short K h es told g)
 
-  pub removal-works : ((K : List (Act Txn)) (h : Hidden) (es : List machine.Event) (told : List (ℕ × List ℕ)) → Stands old.core K h → Comes (drops true) old.core new.core told told K h es) → Works (turned turn.Drop) true old new
-  removal-works all = works-of (turned turn.Drop) true (λ K h es told g. all K h es told g)
+  pub removal_works : ((K : List (Act Txn)) (h : Hidden) (es : List machine.Event) (told : List (ℕ × List ℕ)) → Stands old.core K h → Comes (drops true) old.core new.core told told K h es) → Works (turned turn.Drop) true old new
+  removal_works all = works_of (turned turn.Drop) true (λ K h es told g. all K h es told g)
 
 -- as the turn word of the worker
-pub word-works : (w : ℕ) (old new : Run) (r : Result Bool NoMemory) → Works (worked_by w r) (is_ok r) old new → Works (turned (turn.Worker w)) (is_ok r) old new
-word-works w old new (Ok did) x = works-as (worked_by w (Ok did)) (turned (turn.Worker w)) true true old new (λ l P P' q. q.1) x
-word-works w old new (Err e) x = works-as (worked_by w (Err e)) (turned (turn.Worker w)) false false old new (λ l P P' q. q) x
+pub word_works : (w : ℕ) (old new : Run) (r : Result Bool NoMemory) → Works (worked_by w r) (is_ok r) old new → Works (turned (turn.Worker w)) (is_ok r) old new
+word_works w old new (Ok did) x = works_as (worked_by w (Ok did)) (turned (turn.Worker w)) true true old new (λ l P P' q. q.1) x
+word_works w old new (Err e) x = works_as (worked_by w (Err e)) (turned (turn.Worker w)) false false old new (λ l P P' q. q) x
 
 -- turn words of nobody
 
-absent-worker : (set : Setting) (m n w : ℕ) → m ≤ w → (P : Progress) → Worked set m n w P P
-absent-worker set m n w le P = if-not (has_work set m n P.state w) _ _ (not-first (nat_lt w m) (is_some (P.state.workers w).hand || (not (is_raised set m n P.state) && not (is_empty (P.state.workers w).waiting))) (not-below w m le)) refl
+absent_worker : (set : Setting) (m n w : ℕ) → m ≤ w → (P : Progress) → Worked set m n w P P
+absent_worker set m n w le P = if_not (has_work set m n P.state w) _ _ (first_not (nat_lt w m) (is_some (P.state.workers w).hand || (not (is_raised set m n P.state) && not (is_empty (P.state.workers w).waiting))) (not_below w m le)) refl
 
-pub no-worker : (w : ℕ) (run : Run) → Stood run.core → run.core.load.workers ≤ w → Works (turned (turn.Worker w)) true run run
-no-worker w run stood le = works-none (turned (turn.Worker w)) run stood (λ P. absent-worker (setting_of run.core.load) run.core.load.workers run.core.load.streams w le P)
+pub no_worker : (w : ℕ) (run : Run) → Stood run.core → run.core.load.workers ≤ w → Works (turned (turn.Worker w)) true run run
+no_worker w run stood le = works_none (turned (turn.Worker w)) run stood (λ P. absent_worker (setting_of run.core.load) run.core.load.workers run.core.load.streams w le P)
 
-pub absent-manager : (l : Load) (j : ℕ) → l.streams ≤ j → (P : Progress) → Managed (setting_of l) l.workers l.streams j P P
-absent-manager l j le P = if-not (is_going (setting_of l) l.workers l.streams P.state j) _ _ (not-first (nat_lt j l.streams) (is_none (P.state.streams j).stop) (not-below j l.streams le)) refl
+pub absent_manager : (l : Load) (j : ℕ) → l.streams ≤ j → (P : Progress) → Managed (setting_of l) l.workers l.streams j P P
+absent_manager l j le P = if_not (is_going (setting_of l) l.workers l.streams P.state j) _ _ (first_not (nat_lt j l.streams) (is_none (P.state.streams j).stop) (not_below j l.streams le)) refl
 
-pub no-anchor : (j : ℕ) (run : Run) → Stood run.core → run.core.load.streams ≤ j → Works (turned (turn.Anchor j)) true run run
-no-anchor j run stood le =
-    works-none (turned (turn.Anchor j)) run stood
-    (λ P. if-not (is_going (setting_of run.core.load) run.core.load.workers run.core.load.streams P.state j && nat_lt ((setting_of run.core.load).anchored j + length (P.state.streams j).anchors) (2 ^ 32 - 1)) _ _
-    (not-first (is_going (setting_of run.core.load) run.core.load.workers run.core.load.streams P.state j) (nat_lt ((setting_of run.core.load).anchored j + length (P.state.streams j).anchors) (2 ^ 32 - 1))
-    (not-first (nat_lt j run.core.load.streams) (is_none (P.state.streams j).stop) (not-below j run.core.load.streams le))) refl)
+pub no_anchor : (j : ℕ) (run : Run) → Stood run.core → run.core.load.streams ≤ j → Works (turned (turn.Anchor j)) true run run
+no_anchor j run stood le =
+    works_none (turned (turn.Anchor j)) run stood
+    (λ P. if_not (is_going (setting_of run.core.load) run.core.load.workers run.core.load.streams P.state j && nat_lt ((setting_of run.core.load).anchored j + length (P.state.streams j).anchors) (2 ^ 32 - 1)) _ _
+    (first_not (is_going (setting_of run.core.load) run.core.load.workers run.core.load.streams P.state j) (nat_lt ((setting_of run.core.load).anchored j + length (P.state.streams j).anchors) (2 ^ 32 - 1))
+    (first_not (nat_lt j run.core.load.streams) (is_none (P.state.streams j).stop) (not_below j run.core.load.streams le))) refl)
 
 -- what is left falls where a worker did anything
 
-pub total-less : (p p' : Plain) (K : List (Act Txn)) (h h' : Hidden) → p'.load ≡ p.load →
+pub total_less : (p p' : Plain) (K : List (Act Txn)) (h h' : Hidden) → p'.load ≡ p.load →
     sum_below (λ w. worker_left p.load.procs ((core_of p' h').workers w)) p.load.workers < sum_below (λ w. worker_left p.load.procs ((core_of p h).workers w)) p.load.workers → total_left p' < total_left p
-total-less p p' K h h' load less = subst (λ (l : Load). sum_below (λ w. worker_left l.procs (worker_at p' w)) l.workers < total_left p) (sym load) less
+total_less p p' K h h' load less = subst (λ (l : Load). sum_below (λ w. worker_left l.procs (worker_at p' w)) l.workers < total_left p) (sym load) less
 
-pub work-fewer : (w : ℕ) (p p' : Plain) (r : Result Bool NoMemory) → w < p.load.workers → Stood p → ((K : List (Act Txn)) (h : Hidden) (es : List machine.Event) (told : List (ℕ × List ℕ)) → Stands p K h → WorkerTurned w p p' K h es told r) → r ≡ Ok true → total_left p' < total_left p
-work-fewer w p p' r lt stood t e =
+pub work_fewer : (w : ℕ) (p p' : Plain) (r : Result Bool NoMemory) → w < p.load.workers → Stood p → ((K : List (Act Txn)) (h : Hidden) (es : List machine.Event) (told : List (ℕ × List ℕ)) → Stands p K h → WorkerTurned w p p' K h es told r) → r ≡ Ok true → total_left p' < total_left p
+work_fewer w p p' r lt stood t e =
     let (K, h, g) = stood in
     let q : WorkerTurned w p p' K h [] [] (Ok true) = subst (λ (x : Result Bool NoMemory). WorkerTurned w p p' K h [] [] x) e (t K h [] [] g) in
     let c = q.1 in
-    total-less p p' K h c.hidden c.load
-    (worked-total (setting_of p.load) p.load.workers p.load.streams w lt (record { state = core_of p h; events = []; joined = K; told = [] }) (record { state = core_of p' c.hidden; events = c.events; joined = c.order; told = [] }) (sym q.0) (stands-tries p K h g w) c.moved)
+    total_less p p' K h c.hidden c.load
+    (worked_total (setting_of p.load) p.load.workers p.load.streams w lt (record { state = core_of p h; events = []; joined = K; told = [] }) (record { state = core_of p' c.hidden; events = c.events; joined = c.order; told = [] }) (sym q.0) (stands_tries p K h g w) c.moved)
 
 -- no stream is touched by these
 
-pub word-quiet : (w : ℕ) (whole : Bool) (l : Load) (P P' : Progress) → turned (turn.Worker w) whole l P P' → Quiet P.state P'.state
-word-quiet w whole l P P' h = record { grown = worked-grows (setting_of l) l.workers l.streams P P' w whole h; same = λ i. worked-same (setting_of l) l.workers l.streams P P' i w whole h }
+pub word_quiet : (w : ℕ) (whole : Bool) (l : Load) (P P' : Progress) → turned (turn.Worker w) whole l P P' → Quiet P.state P'.state
+word_quiet w whole l P P' h = record { grown = worked_grows (setting_of l) l.workers l.streams P P' w whole h; same = λ i. worked_same (setting_of l) l.workers l.streams P P' i w whole h }
 
-pub anchor-quiet : (j : ℕ) (whole : Bool) (l : Load) (P P' : Progress) → turned (turn.Anchor j) whole l P P' → Quiet P.state P'.state
-anchor-quiet j whole l P P' h = record { grown = anchored-grows (setting_of l) l.workers l.streams P P' j whole h; same = λ i. anchored-same (setting_of l) l.workers l.streams P P' i j whole h }
+pub anchor_quiet : (j : ℕ) (whole : Bool) (l : Load) (P P' : Progress) → turned (turn.Anchor j) whole l P P' → Quiet P.state P'.state
+anchor_quiet j whole l P P' h = record { grown = anchored_grows (setting_of l) l.workers l.streams P P' j whole h; same = λ i. anchored_same (setting_of l) l.workers l.streams P P' i j whole h }
 
-pub removal-quiet : (whole : Bool) (l : Load) (P P' : Progress) → turned turn.Drop whole l P P' → Quiet P.state P'.state
-removal-quiet whole l P P' h = record { grown = removed-grows (setting_of l) l.workers l.streams P P' whole h; same = λ i. removed-same (setting_of l) l.workers l.streams P P' i whole h }
+pub removal_quiet : (whole : Bool) (l : Load) (P P' : Progress) → turned turn.Drop whole l P P' → Quiet P.state P'.state
+removal_quiet whole l P P' h = record { grown = removed_grows (setting_of l) l.workers l.streams P P' whole h; same = λ i. removed_same (setting_of l) l.workers l.streams P P' i whole h }

@@ -17,7 +17,7 @@ use Rattle.tau_machine.specs.Worker.{Worker, begun_by, hand_freed, hand_locked}
 use Rattle.tau_machine.specs.State.{Setting, Core}
 use Rattle.tau_machine.specs.Events as events
 use Rattle.tau_machine.specs.Events.{Leads, Locks, Commits, Posts, Reads, Frees, Finishes, ready}
-use Rattle.tau_machine.proofs.At.{at-same, at-other}
+use Rattle.tau_machine.proofs.At.{at_same, at_other}
 use Rattle.tau_shard.specs.Blocks.{against}
 use Rattle.tau_core.specs.declared.event.Event.TheVariants as event
 use Rattle.tau_core.specs.declared.event.Outcome.{Outcome}
@@ -30,6 +30,7 @@ use Rattle.tau_core.specs.View.{Hidden, setting_of, core_of}
 use Rattle.tau_core.specs.Stands.{Stands}
 use Rattle.tau_core.specs.Steps.{Steps, Happened, Unmoved, IsBarred}
 use Rattle.tau_step.specs.Acting.{IsSettling, IsAlone, Settles}
+use Rattle.tau_machine.proofs.Leads.{locked_phase}
 
 freeing : (held : List (Key × Mode)) → freeing_phase held ≡ Quitting → ⊥
 freeing [] e = cc
@@ -45,20 +46,16 @@ running None (Wants rs k) held e = cc
 running None (Ends f) held e = finished (updating f.writes) held e
 
 -- only a call that is to quit stands there
-not-quitting : (procs : List Proc) (h : Hand) (phase : machine.Phase) → (phase ≡ machine.Quitting → ⊥) → phase_by procs h phase ≡ Quitting → ⊥
-not-quitting procs h machine.Running n e = running _ _ h.held e
-not-quitting procs h machine.Quitting n e = n refl
-not-quitting procs h (machine.Placed t) n e = cc
-not-quitting procs h (machine.Freeing t) n e = freeing h.held e
+not_quitting : (procs : List Proc) (h : Hand) (phase : machine.Phase) → (phase ≡ machine.Quitting → ⊥) → phase_by procs h phase ≡ Quitting → ⊥
+not_quitting procs h machine.Running n e = running _ _ h.held e
+not_quitting procs h machine.Quitting n e = n refl
+not_quitting procs h (machine.Placed t) n e = cc
+not_quitting procs h (machine.Freeing t) n e = freeing h.held e
 
-begun-left : (width : ℕ) (wk : Worker) (hand : Option Hand) (calls : List Numbered) → (begun_by width wk hand calls).left ≡ wk.left
-begun-left width wk (Some h) cs = refl
-begun-left width wk None [] = refl
-begun-left width wk None (c ∷ cs) = refl
-
-locked-phase : (h : Hand) (key : Key) (mode : Mode) (row : Value) (a b : List ℕ) → (hand_locked h key mode row a b).phase ≡ h.phase
-locked-phase h key Read row a b = refl
-locked-phase h key Write row a b = refl
+begun_left : (width : ℕ) (wk : Worker) (hand : Option Hand) (calls : List Numbered) → (begun_by width wk hand calls).left ≡ wk.left
+begun_left width wk (Some h) cs = refl
+begun_left width wk None [] = refl
+begun_left width wk None (c ∷ cs) = refl
 
 -- one event of a worker that is not to quit
 module _ (set : Setting) (w : ℕ) where
@@ -67,53 +64,53 @@ module _ (set : Setting) (w : ℕ) where
     pub left : (s'.workers w).left ≡ (s.workers w).left
     pub others : (u : ℕ) → (u ≡ w → ⊥) → (s'.workers u).hand ≡ (s.workers u).hand
 
-  keeps-on : (s m s' : Core) → Keeps s m → Keeps m s' → Keeps s s'
-  keeps-on s m s' a b = record { settling = b.settling; left = b.left ∙ a.left; others = λ u ne. b.others u ne ∙ a.others u ne }
+  keeps_on : (s m s' : Core) → Keeps s m → Keeps m s' → Keeps s s'
+  keeps_on s m s' a b = record { settling = b.settling; left = b.left ∙ a.left; others = λ u ne. b.others u ne ∙ a.others u ne }
 
   module _ (s s' : Core) where
-    by-worker : (wk : Worker) → s'.workers ≡ at w wk s.workers → (hand_phase set.procs wk.hand ≡ Quitting → ⊥) → wk.left ≡ (s.workers w).left → Keeps s s'
-    by-worker wk e phase left = record {
-      settling = subst (λ (k : Worker). hand_phase set.procs k.hand ≡ Quitting → ⊥) (sym (ap (λ (f : ℕ → Worker). f w) e ∙ at-same w wk s.workers)) phase;
-      left = ap (λ (f : ℕ → Worker). (f w).left) e ∙ ap (λ (k : Worker). k.left) (at-same w wk s.workers) ∙ left;
-      others = λ u ne. ap (λ (f : ℕ → Worker). (f u).hand) e ∙ ap (λ (k : Worker). k.hand) (at-other w wk s.workers u ne);
+    by_worker : (wk : Worker) → s'.workers ≡ at w wk s.workers → (hand_phase set.procs wk.hand ≡ Quitting → ⊥) → wk.left ≡ (s.workers w).left → Keeps s s'
+    by_worker wk e phase left = record {
+      settling = subst (λ (k : Worker). hand_phase set.procs k.hand ≡ Quitting → ⊥) (sym (ap (λ (f : ℕ → Worker). f w) e ∙ at_same w wk s.workers)) phase;
+      left = ap (λ (f : ℕ → Worker). (f w).left) e ∙ ap (λ (k : Worker). k.left) (at_same w wk s.workers) ∙ left;
+      others = λ u ne. ap (λ (f : ℕ → Worker). (f u).hand) e ∙ ap (λ (k : Worker). k.hand) (at_other w wk s.workers u ne);
     }
 
-    begun-same : (ready set s w).left ≡ (s.workers w).left
-    begun-same = begun-left set.width (s.workers w) (s.workers w).hand (s.workers w).waiting
+    begun_same : (ready set s w).left ≡ (s.workers w).left
+    begun_same = begun_left set.width (s.workers w) (s.workers w).hand (s.workers w).waiting
 
     locks : Locks set w s s' → Keeps s s'
     locks q =
         let sh = s.shards (set.shard_of q.key) in
         let hand = hand_locked q.hand q.key q.mode (sh.rows q.key) (entry_in sh q.key).write_lv (entry_in sh q.key).read_lv in
-        by-worker (record (ready set s w) { hand = Some hand }) (ap (λ (c : Core). c.workers) q.after)
-        (not-quitting set.procs hand hand.phase (λ e. let bad : machine.Running ≡ machine.Quitting = sym q.phase ∙ sym (locked-phase q.hand q.key q.mode (sh.rows q.key) (entry_in sh q.key).write_lv (entry_in sh q.key).read_lv) ∙ e in cc))
-        begun-same
+        by_worker (record (ready set s w) { hand = Some hand }) (ap (λ (c : Core). c.workers) q.after)
+        (not_quitting set.procs hand hand.phase (λ e. let bad : machine.Running ≡ machine.Quitting = sym q.phase ∙ sym (locked_phase q.hand q.key q.mode (sh.rows q.key) (entry_in sh q.key).write_lv (entry_in sh q.key).read_lv) ∙ e in cc))
+        begun_same
 
     commits : (t : Act Txn) → Commits set w s s' t → Keeps s s'
     commits t q =
-        by-worker (record (ready set s w) { hand = Some (record q.hand { phase = machine.Placed t; dep = t.call.place.dep }); committed = _ }) (ap (λ (c : Core). c.workers) q.after) (λ e. cc) begun-same
+        by_worker (record (ready set s w) { hand = Some (record q.hand { phase = machine.Placed t; dep = t.call.place.dep }); committed = _ }) (ap (λ (c : Core). c.workers) q.after) (λ e. cc) begun_same
 
     posts : Posts set w s s' → Keeps s s'
-    posts q = by-worker (record (s.workers w) { hand = Some (record q.hand { phase = machine.Freeing q.act }) }) (ap (λ (c : Core). c.workers) q.after) (λ e. freeing q.hand.held e) refl
+    posts q = by_worker (record (s.workers w) { hand = Some (record q.hand { phase = machine.Freeing q.act }) }) (ap (λ (c : Core). c.workers) q.after) (λ e. freeing q.hand.held e) refl
 
     reads : (t : Act Txn) → Reads set w s s' t → Keeps s s'
     reads t q =
-        by-worker (record (ready set s w) { hand = Some (record q.hand { phase = machine.Freeing t; dep = q.hand.dep }); committed = _ }) (ap (λ (c : Core). c.workers) q.after) (λ e. freeing q.hand.held e) begun-same
+        by_worker (record (ready set s w) { hand = Some (record q.hand { phase = machine.Freeing t; dep = q.hand.dep }); committed = _ }) (ap (λ (c : Core). c.workers) q.after) (λ e. freeing q.hand.held e) begun_same
 
     frees : Frees set w s s' → Keeps s s'
     frees q =
         let hand = hand_freed q.hand q.key in
-        by-worker (record (s.workers w) { hand = Some hand }) (ap (λ (c : Core). c.workers) q.after)
-        (not-quitting set.procs hand hand.phase (λ e. let bad : machine.Freeing q.act ≡ machine.Quitting = sym q.phase ∙ e in cc)) refl
+        by_worker (record (s.workers w) { hand = Some hand }) (ap (λ (c : Core). c.workers) q.after)
+        (not_quitting set.procs hand hand.phase (λ e. let bad : machine.Freeing q.act ≡ machine.Quitting = sym q.phase ∙ e in cc)) refl
 
     finishes : Finishes set w s s' → Keeps s s'
-    finishes q = by-worker (record (s.workers w) { hand = None }) (ap (λ (c : Core). c.workers) q.after) (λ e. cc) refl
+    finishes q = by_worker (record (s.workers w) { hand = None }) (ap (λ (c : Core). c.workers) q.after) (λ e. cc) refl
 
-pub settles-on : (w : ℕ) (p m p' : Plain) → Settles w p m → Settles w m p' → Settles w p p'
-settles-on w p m p' a b = record { settling = b.settling; left = b.left ∙ a.left; others = λ u ne. b.others u ne ∙ a.others u ne }
+pub settles_on : (w : ℕ) (p m p' : Plain) → Settles w p m → Settles w m p' → Settles w p p'
+settles_on w p m p' a b = record { settling = b.settling; left = b.left ∙ a.left; others = λ u ne. b.others u ne ∙ a.others u ne }
 
-pub settles-none : (w : ℕ) (p : Plain) → IsSettling w p → Settles w p p
-settles-none w p settling = record { settling = settling; left = refl; others = λ u ne. refl }
+pub settles_none : (w : ℕ) (p : Plain) → IsSettling w p → Settles w p p
+settles_none w p settling = record { settling = settling; left = refl; others = λ u ne. refl }
 
 module _ (p p' : Plain) (K : List (Act Txn)) (h : Hidden) (g : Stands p K h) (w : ℕ) (settling : IsSettling w p) where
   abbrev set : Setting
@@ -126,20 +123,20 @@ module _ (p p' : Plain) (K : List (Act Txn)) (h : Hidden) (g : Stands p K h) (w 
     others = q.others;
   }
 
-  unmoved-settles : Unmoved p p' K h → Settles w p p'
-  unmoved-settles u = settles u.hidden u.load (record {
+  unmoved_settles : Unmoved p p' K h → Settles w p p'
+  unmoved_settles u = settles u.hidden u.load (record {
     settling = subst (λ (c : Core). hand_phase p.load.procs (c.workers w).hand ≡ Quitting → ⊥) (sym u.same) settling;
     left = ap (λ (c : Core). (c.workers w).left) u.same;
     others = λ v ne. ap (λ (c : Core). (c.workers v).hand) u.same;
   })
 
   module _ (q : Happened (events.Lock w) p p' K h) where
-    lock-settles : Settles w p p'
-    lock-settles = settles q.hidden q.load (locks set w (core_of p h) (core_of p' q.hidden) q.leads.0)
+    lock_settles : Settles w p p'
+    lock_settles = settles q.hidden q.load (locks set w (core_of p h) (core_of p' q.hidden) q.leads.0)
 
   -- nobody stands against its lock
-  not-barred : IsAlone w p → (holder : ℕ) → IsBarred p h w holder → ⊥
-  not-barred alone holder (key, mode, wants, lowest) = elim (cases_eq holder w) [
+  not_barred : IsAlone w p → (holder : ℕ) → IsBarred p h w holder → ⊥
+  not_barred alone holder (key, mode, wants, lowest) = elim (cases_eq holder w) [
     | inl e ↦ own (entry_in ((core_of p h).shards (shard_number key)) key).holders mode e lowest.0
     | inr ne ↦ other (entry_in ((core_of p h).shards (shard_number key)) key).holders mode
         (g.inv.agrees.good.locks holder key ∙ ap (λ (o : Option Hand). held_in o key) (alone holder ne)) lowest.0
@@ -155,63 +152,63 @@ module _ (p p' : Plain) (K : List (Act Txn)) (h : Hidden) (g : Stands p K h) (w 
       other : (holders : ℕ → Option Mode) (m : Mode) → holders holder ≡ None → (not (holder == w) && against m (holders holder)) ≡ true → ⊥
       other holders m e t = none (not (holder == w)) m (ap (λ (o : Option Mode). not (holder == w) && against m o) (sym e) ∙ t)
 
-  pub locked-settles : IsAlone w p → (o : Outcome) → Steps p p' K h (event.Lock w) o → Settles w p p'
-  locked-settles alone outcome.Went t = absurd t
-  locked-settles alone (outcome.Granted value) t = lock-settles t.0
-  locked-settles alone (outcome.Busy holder) t = absurd (not-barred alone holder t.1)
-  locked-settles alone (outcome.Placed start) t = absurd t
-  locked-settles alone (outcome.Gathered upto) t = absurd t
-  locked-settles alone (outcome.Acked number lv) t = absurd t
-  locked-settles alone outcome.NothingCovered t = absurd t
-  locked-settles alone (outcome.NotNow phase) t = unmoved-settles t.0
-  locked-settles alone outcome.NoMemory t = unmoved-settles t.0
+  pub locked_settles : IsAlone w p → (o : Outcome) → Steps p p' K h (event.Lock w) o → Settles w p p'
+  locked_settles alone outcome.Went t = absurd t
+  locked_settles alone (outcome.Granted value) t = lock_settles t.0
+  locked_settles alone (outcome.Busy holder) t = absurd (not_barred alone holder t.1)
+  locked_settles alone (outcome.Placed start) t = absurd t
+  locked_settles alone (outcome.Gathered upto) t = absurd t
+  locked_settles alone (outcome.Acked number lv) t = absurd t
+  locked_settles alone outcome.NothingCovered t = absurd t
+  locked_settles alone (outcome.NotNow phase) t = unmoved_settles t.0
+  locked_settles alone outcome.NoMemory t = unmoved_settles t.0
 
-  pub commit-settles : (o : Outcome) → Steps p p' K h (event.Commit w) o → Settles w p p'
-  commit-settles outcome.Went t = absurd t
-  commit-settles (outcome.Granted value) t = absurd t
-  commit-settles (outcome.Busy holder) t = absurd t
-  commit-settles (outcome.Placed start) t = settles t.0.hidden t.0.load (commits set w (core_of p h) (core_of p' t.0.hidden) t.0.leads.0 t.0.leads.1)
-  commit-settles (outcome.Gathered upto) t = absurd t
-  commit-settles (outcome.Acked number lv) t = absurd t
-  commit-settles outcome.NothingCovered t = absurd t
-  commit-settles (outcome.NotNow phase) t = unmoved-settles t.0
-  commit-settles outcome.NoMemory t = unmoved-settles t.0
+  pub commit_settles : (o : Outcome) → Steps p p' K h (event.Commit w) o → Settles w p p'
+  commit_settles outcome.Went t = absurd t
+  commit_settles (outcome.Granted value) t = absurd t
+  commit_settles (outcome.Busy holder) t = absurd t
+  commit_settles (outcome.Placed start) t = settles t.0.hidden t.0.load (commits set w (core_of p h) (core_of p' t.0.hidden) t.0.leads.0 t.0.leads.1)
+  commit_settles (outcome.Gathered upto) t = absurd t
+  commit_settles (outcome.Acked number lv) t = absurd t
+  commit_settles outcome.NothingCovered t = absurd t
+  commit_settles (outcome.NotNow phase) t = unmoved_settles t.0
+  commit_settles outcome.NoMemory t = unmoved_settles t.0
 
-  pub post-settles : (o : Outcome) → Steps p p' K h (event.Post w) o → Settles w p p'
-  post-settles outcome.Went t = settles t.hidden t.load (posts set w (core_of p h) (core_of p' t.hidden) t.leads.0)
-  post-settles (outcome.Granted value) t = absurd t
-  post-settles (outcome.Busy holder) t = absurd t
-  post-settles (outcome.Placed start) t = absurd t
-  post-settles (outcome.Gathered upto) t = absurd t
-  post-settles (outcome.Acked number lv) t = absurd t
-  post-settles outcome.NothingCovered t = absurd t
-  post-settles (outcome.NotNow phase) t = unmoved-settles t.0
-  post-settles outcome.NoMemory t = absurd t
+  pub post_settles : (o : Outcome) → Steps p p' K h (event.Post w) o → Settles w p p'
+  post_settles outcome.Went t = settles t.hidden t.load (posts set w (core_of p h) (core_of p' t.hidden) t.leads.0)
+  post_settles (outcome.Granted value) t = absurd t
+  post_settles (outcome.Busy holder) t = absurd t
+  post_settles (outcome.Placed start) t = absurd t
+  post_settles (outcome.Gathered upto) t = absurd t
+  post_settles (outcome.Acked number lv) t = absurd t
+  post_settles outcome.NothingCovered t = absurd t
+  post_settles (outcome.NotNow phase) t = unmoved_settles t.0
+  post_settles outcome.NoMemory t = absurd t
 
-  pub free-settles : (o : Outcome) → Steps p p' K h (event.Free w) o → Settles w p p'
-  free-settles outcome.Went t = elim t [
+  pub free_settles : (o : Outcome) → Steps p p' K h (event.Free w) o → Settles w p p'
+  free_settles outcome.Went t = elim t [
     | inl q ↦ settles q.hidden q.load (frees set w (core_of p h) (core_of p' q.hidden) q.leads.0)
-    | inr q ↦ settles q.hidden q.load (keeps-on set w (core_of p h) q.leads.0 (core_of p' q.hidden) (reads set w (core_of p h) q.leads.0 q.leads.1 q.leads.2) (frees set w q.leads.0 (core_of p' q.hidden) q.leads.3))
+    | inr q ↦ settles q.hidden q.load (keeps_on set w (core_of p h) q.leads.0 (core_of p' q.hidden) (reads set w (core_of p h) q.leads.0 q.leads.1 q.leads.2) (frees set w q.leads.0 (core_of p' q.hidden) q.leads.3))
   ]
-  free-settles (outcome.Granted value) t = absurd t
-  free-settles (outcome.Busy holder) t = absurd t
-  free-settles (outcome.Placed start) t = absurd t
-  free-settles (outcome.Gathered upto) t = absurd t
-  free-settles (outcome.Acked number lv) t = absurd t
-  free-settles outcome.NothingCovered t = absurd t
-  free-settles (outcome.NotNow phase) t = unmoved-settles t.0
-  free-settles outcome.NoMemory t = absurd t
+  free_settles (outcome.Granted value) t = absurd t
+  free_settles (outcome.Busy holder) t = absurd t
+  free_settles (outcome.Placed start) t = absurd t
+  free_settles (outcome.Gathered upto) t = absurd t
+  free_settles (outcome.Acked number lv) t = absurd t
+  free_settles outcome.NothingCovered t = absurd t
+  free_settles (outcome.NotNow phase) t = unmoved_settles t.0
+  free_settles outcome.NoMemory t = absurd t
 
-  pub done-settles : (o : Outcome) → Steps p p' K h (event.Done w) o → Settles w p p'
-  done-settles outcome.Went t = elim t [
+  pub done_settles : (o : Outcome) → Steps p p' K h (event.Done w) o → Settles w p p'
+  done_settles outcome.Went t = elim t [
     | inl q ↦ settles q.hidden q.load (finishes set w (core_of p h) (core_of p' q.hidden) q.leads.0)
-    | inr q ↦ settles q.hidden q.load (keeps-on set w (core_of p h) q.leads.0 (core_of p' q.hidden) (reads set w (core_of p h) q.leads.0 q.leads.1 q.leads.2) (finishes set w q.leads.0 (core_of p' q.hidden) q.leads.3))
+    | inr q ↦ settles q.hidden q.load (keeps_on set w (core_of p h) q.leads.0 (core_of p' q.hidden) (reads set w (core_of p h) q.leads.0 q.leads.1 q.leads.2) (finishes set w q.leads.0 (core_of p' q.hidden) q.leads.3))
   ]
-  done-settles (outcome.Granted value) t = absurd t
-  done-settles (outcome.Busy holder) t = absurd t
-  done-settles (outcome.Placed start) t = absurd t
-  done-settles (outcome.Gathered upto) t = absurd t
-  done-settles (outcome.Acked number lv) t = absurd t
-  done-settles outcome.NothingCovered t = absurd t
-  done-settles (outcome.NotNow phase) t = unmoved-settles t.0
-  done-settles outcome.NoMemory t = unmoved-settles t.0
+  done_settles (outcome.Granted value) t = absurd t
+  done_settles (outcome.Busy holder) t = absurd t
+  done_settles (outcome.Placed start) t = absurd t
+  done_settles (outcome.Gathered upto) t = absurd t
+  done_settles (outcome.Acked number lv) t = absurd t
+  done_settles outcome.NothingCovered t = absurd t
+  done_settles (outcome.NotNow phase) t = unmoved_settles t.0
+  done_settles outcome.NoMemory t = unmoved_settles t.0

@@ -29,11 +29,12 @@ use Rattle.tau_run.specs.Turns.{Progress, Stays, Goes, NamesNewest, BusyHasHolde
 use Rattle.tau_step.specs.Progressed as on
 use Rattle.tau_step.specs.Progressed.{progress, Comes}
 use Rattle.tau_step.specs.Acting.{Tells, Acts, WorkerTurned, raised, has_work_in}
-use Rattle.tau_step.proofs.Deciding.{if-so, if-not, acts-held, not-elsewhere, waits, idle, works-held, works-waiting, rests-raised, rests-idle}
+use Rattle.tau_step.proofs.Deciding.{if_so, if_not, acts_held, not_elsewhere, waits, idle, works_held, works_waiting, rests_raised, rests_idle}
+use Rattle.tau_shard.proofs.Bridge.{against_to}
 
 -- an event after a step that changed nothing
-pub unmoved-happened : (e : machine.Event) (p m p' : Plain) (K : List (Act Txn)) (h : Hidden) (u : Unmoved p m K h) → Happened e m p' K u.hidden → Happened e p p' K h
-unmoved-happened e p m p' K h u q = record {
+pub unmoved_happened : (e : machine.Event) (p m p' : Plain) (K : List (Act Txn)) (h : Hidden) (u : Unmoved p m K h) → Happened e m p' K u.hidden → Happened e p p' K h
+unmoved_happened e p m p' K h u q = record {
   hidden = q.hidden;
   joined = q.joined;
   leads = subst (λ (s : Core). Leads (setting_of p.load) e s (core_of p' q.hidden) q.joined) u.same
@@ -43,18 +44,11 @@ unmoved-happened e p m p' K h u q = record {
   taken = q.taken ∙ u.taken;
 }
 
-pub unmoved-on : (p m p' : Plain) (K : List (Act Txn)) (h : Hidden) (u : Unmoved p m K h) → Unmoved m p' K u.hidden → Unmoved p p' K h
-unmoved-on p m p' K h u q = record { hidden = q.hidden; same = q.same ∙ u.same; stands = q.stands; load = q.load ∙ u.load; taken = q.taken ∙ u.taken }
+pub unmoved_on : (p m p' : Plain) (K : List (Act Txn)) (h : Hidden) (u : Unmoved p m K h) → Unmoved m p' K u.hidden → Unmoved p p' K h
+unmoved_on p m p' K h u q = record { hidden = q.hidden; same = q.same ∙ u.same; stands = q.stands; load = q.load ∙ u.load; taken = q.taken ∙ u.taken }
 
--- who stands against a lock holds the key, in a mode that conflicts
-against-conflicts : (m : Mode) (o : Option Mode) → against m o ≡ true → (n : Mode) × (o ≡ Some n) × ((m ≡ Write) ⊎ (n ≡ Write))
-against-conflicts m None e = absurd (let bad : false ≡ true = e in cc)
-against-conflicts Read (Some Read) e = absurd (let bad : false ≡ true = e in cc)
-against-conflicts Read (Some Write) e = (Write, refl, inr refl)
-against-conflicts Write (Some n) e = (n, refl, inl refl)
-
-blocks-other : (u w : ℕ) (b : Bool) → (not (u == w) && b) ≡ true → (u ≡ w → ⊥) × (b ≡ true)
-blocks-other u w b e = elim (cases_eq u w) [
+blocks_other : (u w : ℕ) (b : Bool) → (not (u == w) && b) ≡ true → (u ≡ w → ⊥) × (b ≡ true)
+blocks_other u w b e = elim (cases_eq u w) [
   | inl is ↦ absurd (let f : (u == w) ≡ true = eq-eqb u w is in let bad : (not (u == w) && b) ≡ false = ap (λ (x : Bool). not x && b) f in let g : true ≡ false = sym e ∙ bad in cc)
   | inr ne ↦ (ne, (let f : (u == w) ≡ false = ne_eqb u w ne in sym (ap (λ (x : Bool). not x && b) f) ∙ e))
 ]
@@ -63,13 +57,13 @@ blocks-other u w b e = elim (cases_eq u w) [
 barred : (p : Plain) (h : Hidden) (w holder : ℕ) → IsBarred p h w holder → run.IsBarred (setting_of p.load) p.load.workers p.load.streams w (core_of p h)
 barred p h w holder (key, mode, wants, lowest) =
     let entry = entry_in ((core_of p h).shards (shard_number key)) key in
-    let other = blocks-other holder w (against mode (entry.holders holder)) lowest.0 in
-    let (n, has, conflict) = against-conflicts mode (entry.holders holder) other.1 in
+    let other = blocks_other holder w (against mode (entry.holders holder)) lowest.0 in
+    let (n, has, conflict) = against_to mode (entry.holders holder) other.1 in
     record { hand = wants.hand; key = key; mode = mode; is = wants.is; next = wants.next; held = (holder, n, other.0, has, conflict) }
 
 module _ (p p' : Plain) (K : List (Act Txn)) (h : Hidden) (es : List machine.Event) (told : List (ℕ × List ℕ)) where
-  pub same-progress : (u : Unmoved p p' K h) → progress p' u.hidden es K told ≡ progress p h es K told
-  same-progress u = ap (λ (s : Core). record { state = s; events = es; joined = K; told = told }) u.same
+  pub same_progress : (u : Unmoved p p' K h) → progress p' u.hidden es K told ≡ progress p h es K told
+  same_progress u = ap (λ (s : Core). record { state = s; events = es; joined = K; told = told }) u.same
 
   -- nothing happened
   pub stays : Unmoved p p' K h → Comes on.stays p p' told told K h es
@@ -80,7 +74,7 @@ module _ (p p' : Plain) (K : List (Act Txn)) (h : Hidden) (es : List machine.Eve
     stands = u.stands;
     load = u.load;
     taken = u.taken;
-    moved = same-progress u;
+    moved = same_progress u;
   }
 
   -- one event happened
@@ -106,7 +100,7 @@ module _ (p p' : Plain) (K : List (Act Txn)) (h : Hidden) (es : List machine.Eve
         moved =
             let P = progress p h es K told in
             let P' = progress p' q.hidden (es ++ e ∷ []) (K ++ q.joined) told in
-            if-so (has_work_in p h w) (own_event P P') (Stays P P') works (e, own, record { new = q.joined; leads = q.leads; events = refl; joined = refl; told = refl }, newest, rightly);
+            if_so (has_work_in p h w) (own_event P P') (Stays P P') works (e, own, record { new = q.joined; leads = q.leads; events = refl; joined = refl; told = refl }, newest, rightly);
       },
     )
 
@@ -122,7 +116,7 @@ module _ (p p' : Plain) (K : List (Act Txn)) (h : Hidden) (es : List machine.Eve
             stands = u.stands;
             load = u.load;
             taken = u.taken;
-            moved = if-not (has_work_in p h w) (own_event P P') (Stays P P') rests (same-progress u);
+            moved = if_not (has_work_in p h w) (own_event P P') (Stays P P') rests (same_progress u);
           },
         )
 
@@ -147,144 +141,144 @@ module _ (p p' : Plain) (K : List (Act Txn)) (h : Hidden) (es : List machine.Eve
     hand_at phase = hand_phase p.load.procs (hand_of (core_of p h) w) ≡ phase
 
     held : (phase : Phase) → (Resting ≡ phase → ⊥) → hand_at phase → w < p.load.workers → has_work_in p h w ≡ true
-    held phase acts at lt = works-held (setting_of p.load) p.load.workers p.load.streams (core_of p h) w lt (acts-held p.load.procs (hand_of (core_of p h) w) phase at acts)
+    held phase acts at lt = works_held (setting_of p.load) p.load.workers p.load.streams (core_of p h) w lt (acts_held p.load.procs (hand_of (core_of p h) w) phase at acts)
 
     here : (phase now : Phase) → (Resting ≡ phase → ⊥) → hand_at phase → StandsElsewhere p h w phase now → ⊥
-    here phase now acts at elsewhere = not-elsewhere p.load.procs p.load.streams ((core_of p h).workers w) phase at acts elsewhere.1
+    here phase now acts at elsewhere = not_elsewhere p.load.procs p.load.streams ((core_of p h).workers w) phase at acts elsewhere.1
 
-    pub lock-turn : (r : Result Bool NoMemory) (o : Outcome) → Tells o r → Steps p p' K h (event.Lock w) o → hand_at Locking → w < p.load.workers → WorkerTurned w p p' K h es told r
-    lock-turn r outcome.Went e t at lt = absurd t
-    lock-turn r (outcome.Granted value) e t at lt = did r true e (worked (machine.Lock w) refl (held Locking (λ q. cc) at lt) t.0 tt tt)
-    lock-turn r (outcome.Busy holder) e t at lt = did r true e (worked (machine.Busy w) refl (held Locking (λ q. cc) at lt) t.0 tt (barred p h w holder t.1))
-    lock-turn r (outcome.Placed start) e t at lt = absurd t
-    lock-turn r (outcome.Gathered upto) e t at lt = absurd t
-    lock-turn r (outcome.Acked number lv) e t at lt = absurd t
-    lock-turn r outcome.NothingCovered e t at lt = absurd t
-    lock-turn r (outcome.NotNow phase) e t at lt = absurd (here Locking phase (λ q. cc) at t.1)
-    lock-turn r outcome.NoMemory e t at lt = short r e t.0
+    pub lock_turn : (r : Result Bool NoMemory) (o : Outcome) → Tells o r → Steps p p' K h (event.Lock w) o → hand_at Locking → w < p.load.workers → WorkerTurned w p p' K h es told r
+    lock_turn r outcome.Went e t at lt = absurd t
+    lock_turn r (outcome.Granted value) e t at lt = did r true e (worked (machine.Lock w) refl (held Locking (λ q. cc) at lt) t.0 tt tt)
+    lock_turn r (outcome.Busy holder) e t at lt = did r true e (worked (machine.Busy w) refl (held Locking (λ q. cc) at lt) t.0 tt (barred p h w holder t.1))
+    lock_turn r (outcome.Placed start) e t at lt = absurd t
+    lock_turn r (outcome.Gathered upto) e t at lt = absurd t
+    lock_turn r (outcome.Acked number lv) e t at lt = absurd t
+    lock_turn r outcome.NothingCovered e t at lt = absurd t
+    lock_turn r (outcome.NotNow phase) e t at lt = absurd (here Locking phase (λ q. cc) at t.1)
+    lock_turn r outcome.NoMemory e t at lt = short r e t.0
 
-    pub quit-turn : (r : Result Bool NoMemory) (o : Outcome) → Tells o r → Steps p p' K h (event.Quit w) o → hand_at Quitting → w < p.load.workers → WorkerTurned w p p' K h es told r
-    quit-turn r outcome.Went e t at lt = did r true e (worked (machine.Quit w false) (refl, refl) (held Quitting (λ q. cc) at lt) t tt tt)
-    quit-turn r (outcome.Granted value) e t at lt = absurd t
-    quit-turn r (outcome.Busy holder) e t at lt = absurd t
-    quit-turn r (outcome.Placed start) e t at lt = absurd t
-    quit-turn r (outcome.Gathered upto) e t at lt = absurd t
-    quit-turn r (outcome.Acked number lv) e t at lt = absurd t
-    quit-turn r outcome.NothingCovered e t at lt = absurd t
-    quit-turn r (outcome.NotNow phase) e t at lt = absurd (here Quitting phase (λ q. cc) at t.1)
-    quit-turn r outcome.NoMemory e t at lt = absurd t
+    pub quit_turn : (r : Result Bool NoMemory) (o : Outcome) → Tells o r → Steps p p' K h (event.Quit w) o → hand_at Quitting → w < p.load.workers → WorkerTurned w p p' K h es told r
+    quit_turn r outcome.Went e t at lt = did r true e (worked (machine.Quit w false) (refl, refl) (held Quitting (λ q. cc) at lt) t tt tt)
+    quit_turn r (outcome.Granted value) e t at lt = absurd t
+    quit_turn r (outcome.Busy holder) e t at lt = absurd t
+    quit_turn r (outcome.Placed start) e t at lt = absurd t
+    quit_turn r (outcome.Gathered upto) e t at lt = absurd t
+    quit_turn r (outcome.Acked number lv) e t at lt = absurd t
+    quit_turn r outcome.NothingCovered e t at lt = absurd t
+    quit_turn r (outcome.NotNow phase) e t at lt = absurd (here Quitting phase (λ q. cc) at t.1)
+    quit_turn r outcome.NoMemory e t at lt = absurd t
 
-    pub commit-turn : (r : Result Bool NoMemory) (o : Outcome) → Tells o r → Steps p p' K h (event.Commit w) o → hand_at Ready → w < p.load.workers → WorkerTurned w p p' K h es told r
-    commit-turn r outcome.Went e t at lt = absurd t
-    commit-turn r (outcome.Granted value) e t at lt = absurd t
-    commit-turn r (outcome.Busy holder) e t at lt = absurd t
-    commit-turn r (outcome.Placed start) e t at lt = let (x, start, named) = t in did r true e (worked (machine.Commit w) refl (held Ready (λ q. cc) at lt) x (newest x named.0 named.1 named.2) tt)
-    commit-turn r (outcome.Gathered upto) e t at lt = absurd t
-    commit-turn r (outcome.Acked number lv) e t at lt = absurd t
-    commit-turn r outcome.NothingCovered e t at lt = absurd t
-    commit-turn r (outcome.NotNow phase) e t at lt = absurd (here Ready phase (λ q. cc) at t.1)
-    commit-turn r outcome.NoMemory e t at lt = short r e t.0
+    pub commit_turn : (r : Result Bool NoMemory) (o : Outcome) → Tells o r → Steps p p' K h (event.Commit w) o → hand_at Ready → w < p.load.workers → WorkerTurned w p p' K h es told r
+    commit_turn r outcome.Went e t at lt = absurd t
+    commit_turn r (outcome.Granted value) e t at lt = absurd t
+    commit_turn r (outcome.Busy holder) e t at lt = absurd t
+    commit_turn r (outcome.Placed start) e t at lt = let (x, start, named) = t in did r true e (worked (machine.Commit w) refl (held Ready (λ q. cc) at lt) x (newest x named.0 named.1 named.2) tt)
+    commit_turn r (outcome.Gathered upto) e t at lt = absurd t
+    commit_turn r (outcome.Acked number lv) e t at lt = absurd t
+    commit_turn r outcome.NothingCovered e t at lt = absurd t
+    commit_turn r (outcome.NotNow phase) e t at lt = absurd (here Ready phase (λ q. cc) at t.1)
+    commit_turn r outcome.NoMemory e t at lt = short r e t.0
 
-    pub post-turn : (r : Result Bool NoMemory) (o : Outcome) → Tells o r → Steps p p' K h (event.Post w) o → hand_at Placed → w < p.load.workers → WorkerTurned w p p' K h es told r
-    post-turn r outcome.Went e t at lt = did r true e (worked (machine.Post w) refl (held Placed (λ q. cc) at lt) t tt tt)
-    post-turn r (outcome.Granted value) e t at lt = absurd t
-    post-turn r (outcome.Busy holder) e t at lt = absurd t
-    post-turn r (outcome.Placed start) e t at lt = absurd t
-    post-turn r (outcome.Gathered upto) e t at lt = absurd t
-    post-turn r (outcome.Acked number lv) e t at lt = absurd t
-    post-turn r outcome.NothingCovered e t at lt = absurd t
-    post-turn r (outcome.NotNow phase) e t at lt = absurd (here Placed phase (λ q. cc) at t.1)
-    post-turn r outcome.NoMemory e t at lt = absurd t
+    pub post_turn : (r : Result Bool NoMemory) (o : Outcome) → Tells o r → Steps p p' K h (event.Post w) o → hand_at Placed → w < p.load.workers → WorkerTurned w p p' K h es told r
+    post_turn r outcome.Went e t at lt = did r true e (worked (machine.Post w) refl (held Placed (λ q. cc) at lt) t tt tt)
+    post_turn r (outcome.Granted value) e t at lt = absurd t
+    post_turn r (outcome.Busy holder) e t at lt = absurd t
+    post_turn r (outcome.Placed start) e t at lt = absurd t
+    post_turn r (outcome.Gathered upto) e t at lt = absurd t
+    post_turn r (outcome.Acked number lv) e t at lt = absurd t
+    post_turn r outcome.NothingCovered e t at lt = absurd t
+    post_turn r (outcome.NotNow phase) e t at lt = absurd (here Placed phase (λ q. cc) at t.1)
+    post_turn r outcome.NoMemory e t at lt = absurd t
 
-    pub free-turn : (r : Result Bool NoMemory) (o : Outcome) → Tells o r → Steps p p' K h (event.Free w) o → hand_at Freeing → w < p.load.workers → WorkerTurned w p p' K h es told r
-    free-turn r outcome.Went e t at lt = did r true e (elim t [ inl q ↦ worked (machine.Free w) refl (held Freeing (λ q. cc) at lt) q tt tt | inr q ↦ worked (machine.FirstFree w) refl (held Freeing (λ q. cc) at lt) q tt tt ])
-    free-turn r (outcome.Granted value) e t at lt = absurd t
-    free-turn r (outcome.Busy holder) e t at lt = absurd t
-    free-turn r (outcome.Placed start) e t at lt = absurd t
-    free-turn r (outcome.Gathered upto) e t at lt = absurd t
-    free-turn r (outcome.Acked number lv) e t at lt = absurd t
-    free-turn r outcome.NothingCovered e t at lt = absurd t
-    free-turn r (outcome.NotNow phase) e t at lt = absurd (here Freeing phase (λ q. cc) at t.1)
-    free-turn r outcome.NoMemory e t at lt = absurd t
+    pub free_turn : (r : Result Bool NoMemory) (o : Outcome) → Tells o r → Steps p p' K h (event.Free w) o → hand_at Freeing → w < p.load.workers → WorkerTurned w p p' K h es told r
+    free_turn r outcome.Went e t at lt = did r true e (elim t [ inl q ↦ worked (machine.Free w) refl (held Freeing (λ q. cc) at lt) q tt tt | inr q ↦ worked (machine.FirstFree w) refl (held Freeing (λ q. cc) at lt) q tt tt ])
+    free_turn r (outcome.Granted value) e t at lt = absurd t
+    free_turn r (outcome.Busy holder) e t at lt = absurd t
+    free_turn r (outcome.Placed start) e t at lt = absurd t
+    free_turn r (outcome.Gathered upto) e t at lt = absurd t
+    free_turn r (outcome.Acked number lv) e t at lt = absurd t
+    free_turn r outcome.NothingCovered e t at lt = absurd t
+    free_turn r (outcome.NotNow phase) e t at lt = absurd (here Freeing phase (λ q. cc) at t.1)
+    free_turn r outcome.NoMemory e t at lt = absurd t
 
-    pub done-turn : (r : Result Bool NoMemory) (o : Outcome) → Tells o r → Steps p p' K h (event.Done w) o → hand_at Ended → w < p.load.workers → WorkerTurned w p p' K h es told r
-    done-turn r outcome.Went e t at lt = did r true e (elim t [ inl q ↦ worked (machine.Done w) refl (held Ended (λ q. cc) at lt) q tt tt | inr q ↦ worked (machine.DoneReading w) refl (held Ended (λ q. cc) at lt) q tt tt ])
-    done-turn r (outcome.Granted value) e t at lt = absurd t
-    done-turn r (outcome.Busy holder) e t at lt = absurd t
-    done-turn r (outcome.Placed start) e t at lt = absurd t
-    done-turn r (outcome.Gathered upto) e t at lt = absurd t
-    done-turn r (outcome.Acked number lv) e t at lt = absurd t
-    done-turn r outcome.NothingCovered e t at lt = absurd t
-    done-turn r (outcome.NotNow phase) e t at lt = absurd (here Ended phase (λ q. cc) at t.1)
-    done-turn r outcome.NoMemory e t at lt = short r e t.0
+    pub done_turn : (r : Result Bool NoMemory) (o : Outcome) → Tells o r → Steps p p' K h (event.Done w) o → hand_at Ended → w < p.load.workers → WorkerTurned w p p' K h es told r
+    done_turn r outcome.Went e t at lt = did r true e (elim t [ inl q ↦ worked (machine.Done w) refl (held Ended (λ q. cc) at lt) q tt tt | inr q ↦ worked (machine.DoneReading w) refl (held Ended (λ q. cc) at lt) q tt tt ])
+    done_turn r (outcome.Granted value) e t at lt = absurd t
+    done_turn r (outcome.Busy holder) e t at lt = absurd t
+    done_turn r (outcome.Placed start) e t at lt = absurd t
+    done_turn r (outcome.Gathered upto) e t at lt = absurd t
+    done_turn r (outcome.Acked number lv) e t at lt = absurd t
+    done_turn r outcome.NothingCovered e t at lt = absurd t
+    done_turn r (outcome.NotNow phase) e t at lt = absurd (here Ended phase (λ q. cc) at t.1)
+    done_turn r outcome.NoMemory e t at lt = short r e t.0
 
-    none-some : {A : Type 0} (o : Option A) (x : A) → o ≡ None → o ≡ Some x → ⊥
-    none-some o x none some = let bad : None ≡ Some x = sym none ∙ some in cc
+    none_some : {A : Type 0} (o : Option A) (x : A) → o ≡ None → o ≡ Some x → ⊥
+    none_some o x none some = let bad : None ≡ Some x = sym none ∙ some in cc
 
     waiting : (hand : Hand) → hand_of (core_of p h) w ≡ None → (ready (setting_of p.load) (core_of p h) w).hand ≡ Some hand → raised p h ≡ false → w < p.load.workers → has_work_in p h w ≡ true
-    waiting hand none is going lt = works-waiting (setting_of p.load) p.load.workers p.load.streams (core_of p h) w lt going (waits p.load.streams ((core_of p h).workers w) hand none is)
+    waiting hand none is going lt = works_waiting (setting_of p.load) p.load.workers p.load.streams (core_of p h) w lt going (waits p.load.streams ((core_of p h).workers w) hand none is)
 
     -- the next call begins with a lock
-    pub begin-locked : (o : Outcome) → Tells o (Ok true) → Steps p p' K h (event.Lock w) o → hand_of (core_of p h) w ≡ None → raised p h ≡ false → w < p.load.workers → WorkerTurned w p p' K h es told (Ok true)
-    begin-locked outcome.Went e t none going lt = absurd t
-    begin-locked (outcome.Granted value) e t none going lt = let (key, mode, wants, is) = t.1 in worked (machine.Lock w) refl (waiting wants.hand none wants.is going lt) t.0 tt tt
-    begin-locked (outcome.Busy holder) e t none going lt = let (key, mode, wants, is) = t.1 in worked (machine.Busy w) refl (waiting wants.hand none wants.is going lt) t.0 tt (barred p h w holder t.1)
-    begin-locked (outcome.Placed start) e t none going lt = absurd t
-    begin-locked (outcome.Gathered upto) e t none going lt = absurd t
-    begin-locked (outcome.Acked number lv) e t none going lt = absurd t
-    begin-locked outcome.NothingCovered e t none going lt = absurd t
-    begin-locked (outcome.NotNow phase) e t none going lt = absurd (let bad : Ok true ≡ Ok false = e in cc)
-    begin-locked outcome.NoMemory e t none going lt = absurd e
+    pub begin_locked : (o : Outcome) → Tells o (Ok true) → Steps p p' K h (event.Lock w) o → hand_of (core_of p h) w ≡ None → raised p h ≡ false → w < p.load.workers → WorkerTurned w p p' K h es told (Ok true)
+    begin_locked outcome.Went e t none going lt = absurd t
+    begin_locked (outcome.Granted value) e t none going lt = let (key, mode, wants, is) = t.1 in worked (machine.Lock w) refl (waiting wants.hand none wants.is going lt) t.0 tt tt
+    begin_locked (outcome.Busy holder) e t none going lt = let (key, mode, wants, is) = t.1 in worked (machine.Busy w) refl (waiting wants.hand none wants.is going lt) t.0 tt (barred p h w holder t.1)
+    begin_locked (outcome.Placed start) e t none going lt = absurd t
+    begin_locked (outcome.Gathered upto) e t none going lt = absurd t
+    begin_locked (outcome.Acked number lv) e t none going lt = absurd t
+    begin_locked outcome.NothingCovered e t none going lt = absurd t
+    begin_locked (outcome.NotNow phase) e t none going lt = absurd (let bad : Ok true ≡ Ok false = e in cc)
+    begin_locked outcome.NoMemory e t none going lt = absurd e
 
-    pub begin-short : (o : Outcome) (x : NoMemory) → Tells o (Err x) → Steps p p' K h (event.Lock w) o → Comes on.stays p p' told told K h es
-    begin-short outcome.Went x e t = absurd t
-    begin-short (outcome.Granted value) x e t = absurd (let bad : Err x ≡ Ok true = e in cc)
-    begin-short (outcome.Busy holder) x e t = absurd (let bad : Err x ≡ Ok true = e in cc)
-    begin-short (outcome.Placed start) x e t = absurd t
-    begin-short (outcome.Gathered upto) x e t = absurd t
-    begin-short (outcome.Acked number lv) x e t = absurd t
-    begin-short outcome.NothingCovered x e t = absurd t
-    begin-short (outcome.NotNow phase) x e t = absurd (let bad : Err x ≡ Ok false = e in cc)
-    begin-short outcome.NoMemory x e t = stays t.0
+    pub begin_short : (o : Outcome) (x : NoMemory) → Tells o (Err x) → Steps p p' K h (event.Lock w) o → Comes on.stays p p' told told K h es
+    begin_short outcome.Went x e t = absurd t
+    begin_short (outcome.Granted value) x e t = absurd (let bad : Err x ≡ Ok true = e in cc)
+    begin_short (outcome.Busy holder) x e t = absurd (let bad : Err x ≡ Ok true = e in cc)
+    begin_short (outcome.Placed start) x e t = absurd t
+    begin_short (outcome.Gathered upto) x e t = absurd t
+    begin_short (outcome.Acked number lv) x e t = absurd t
+    begin_short outcome.NothingCovered x e t = absurd t
+    begin_short (outcome.NotNow phase) x e t = absurd (let bad : Err x ≡ Ok false = e in cc)
+    begin_short outcome.NoMemory x e t = stays t.0
 
-    pub rest-raised : hand_of (core_of p h) w ≡ None → raised p h ≡ true → Unmoved p p' K h → WorkerTurned w p p' K h es told (Ok false)
-    rest-raised none up u = rested (rests-raised (setting_of p.load) p.load.workers p.load.streams (core_of p h) w none up) u
+    pub rest_raised : hand_of (core_of p h) w ≡ None → raised p h ≡ true → Unmoved p p' K h → WorkerTurned w p p' K h es told (Ok false)
+    rest_raised none up u = rested (rests_raised (setting_of p.load) p.load.workers p.load.streams (core_of p h) w none up) u
 
     -- or with its end
     module _ (m : Plain) (none : hand_of (core_of p h) w ≡ None) (going : raised p h ≡ false) (lt : w < p.load.workers) where
       abbrev at_rest : Plain → Hidden → Phase → Type 0
       at_rest x k phase = hand_phase x.load.procs (ready (setting_of x.load) (core_of x k) w).hand ≡ phase → ⊥
 
-      ended-there : (u : Unmoved p m K h) → at_rest m u.hidden Ended → at_rest p h Ended
-      ended-there u far =
+      ended_there : (u : Unmoved p m K h) → at_rest m u.hidden Ended → at_rest p h Ended
+      ended_there u far =
           subst (λ (s : Core). hand_phase p.load.procs (ready (setting_of p.load) s w).hand ≡ Ended → ⊥) u.same
           (subst (λ l. hand_phase l.procs (ready (setting_of l) (core_of m u.hidden) w).hand ≡ Ended → ⊥) u.load far)
 
-      by-end : (u : Unmoved p m K h) → at_rest p h Locking → (r : Result Bool NoMemory) (o : Outcome) → Tells o r → Steps m p' K u.hidden (event.Done w) o → WorkerTurned w p p' K h es told r
-      by-end u locking r outcome.Went e t = did r true e (elim t [
-        | inl q ↦ (let c = unmoved-happened (machine.Done w) p m p' K h u q in absurd (none-some (hand_of (core_of p h) w) c.leads.0.hand none c.leads.0.is))
-        | inr q ↦ (let c = unmoved-happened (machine.DoneReading w) p m p' K h u q in
+      by_end : (u : Unmoved p m K h) → at_rest p h Locking → (r : Result Bool NoMemory) (o : Outcome) → Tells o r → Steps m p' K u.hidden (event.Done w) o → WorkerTurned w p p' K h es told r
+      by_end u locking r outcome.Went e t = did r true e (elim t [
+        | inl q ↦ (let c = unmoved_happened (machine.Done w) p m p' K h u q in absurd (none_some (hand_of (core_of p h) w) c.leads.0.hand none c.leads.0.is))
+        | inr q ↦ (let c = unmoved_happened (machine.DoneReading w) p m p' K h u q in
             let (mid, t, reads, ends, new) = c.leads in
             worked (machine.DoneReading w) refl (waiting reads.hand none reads.is going lt) c tt tt)
       ])
-      by-end u locking r (outcome.Granted value) e t = absurd t
-      by-end u locking r (outcome.Busy holder) e t = absurd t
-      by-end u locking r (outcome.Placed start) e t = absurd t
-      by-end u locking r (outcome.Gathered upto) e t = absurd t
-      by-end u locking r (outcome.Acked number lv) e t = absurd t
-      by-end u locking r outcome.NothingCovered e t = absurd t
-      by-end u locking r (outcome.NotNow phase) e t = did r false e
-          (rested (rests-idle (setting_of p.load) p.load.workers p.load.streams (core_of p h) w none
-          (idle p.load.procs p.load.streams ((core_of p h).workers w) none locking (ended-there u t.1.1))) (unmoved-on p m p' K h u t.0))
-      by-end u locking r outcome.NoMemory e t = short r e (unmoved-on p m p' K h u t.0)
+      by_end u locking r (outcome.Granted value) e t = absurd t
+      by_end u locking r (outcome.Busy holder) e t = absurd t
+      by_end u locking r (outcome.Placed start) e t = absurd t
+      by_end u locking r (outcome.Gathered upto) e t = absurd t
+      by_end u locking r (outcome.Acked number lv) e t = absurd t
+      by_end u locking r outcome.NothingCovered e t = absurd t
+      by_end u locking r (outcome.NotNow phase) e t = did r false e
+          (rested (rests_idle (setting_of p.load) p.load.workers p.load.streams (core_of p h) w none
+          (idle p.load.procs p.load.streams ((core_of p h).workers w) none locking (ended_there u t.1.1))) (unmoved_on p m p' K h u t.0))
+      by_end u locking r outcome.NoMemory e t = short r e (unmoved_on p m p' K h u t.0)
 
-      pub begin-ended : (o : Outcome) → Tells o (Ok false) → Steps p m K h (event.Lock w) o → (r : Result Bool NoMemory) → Acts (event.Done w) r m p' → WorkerTurned w p p' K h es told r
-      begin-ended outcome.Went e t r a = absurd t
-      begin-ended (outcome.Granted value) e t r a = absurd (let bad : Ok false ≡ Ok true = e in cc)
-      begin-ended (outcome.Busy holder) e t r a = absurd (let bad : Ok false ≡ Ok true = e in cc)
-      begin-ended (outcome.Placed start) e t r a = absurd t
-      begin-ended (outcome.Gathered upto) e t r a = absurd t
-      begin-ended (outcome.Acked number lv) e t r a = absurd t
-      begin-ended outcome.NothingCovered e t r a = absurd t
-      begin-ended (outcome.NotNow phase) e t r a = by-end t.0 t.1.1 r a.outcome a.tells (a.steps K t.0.hidden t.0.stands)
-      begin-ended outcome.NoMemory e t r a = absurd e
+      pub begin_ended : (o : Outcome) → Tells o (Ok false) → Steps p m K h (event.Lock w) o → (r : Result Bool NoMemory) → Acts (event.Done w) r m p' → WorkerTurned w p p' K h es told r
+      begin_ended outcome.Went e t r a = absurd t
+      begin_ended (outcome.Granted value) e t r a = absurd (let bad : Ok false ≡ Ok true = e in cc)
+      begin_ended (outcome.Busy holder) e t r a = absurd (let bad : Ok false ≡ Ok true = e in cc)
+      begin_ended (outcome.Placed start) e t r a = absurd t
+      begin_ended (outcome.Gathered upto) e t r a = absurd t
+      begin_ended (outcome.Acked number lv) e t r a = absurd t
+      begin_ended outcome.NothingCovered e t r a = absurd t
+      begin_ended (outcome.NotNow phase) e t r a = by_end t.0 t.1.1 r a.outcome a.tells (a.steps K t.0.hidden t.0.stands)
+      begin_ended outcome.NoMemory e t r a = absurd e

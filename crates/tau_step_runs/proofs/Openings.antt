@@ -12,8 +12,8 @@ use Rattle.tau_run.specs.RecoveredFacts.{catalogue_of}
 use Rattle.tau_step.specs.RunTold.{AreNew}
 use Rattle.tau_step.specs.Whole.{IsBegun}
 
-pub are-new : {D : Type 0} {G : Ghosts D} (n : ℕ) (load : Workload) (old mid : List D) (ws : List (Writer D G)) → AreOpened G n (catalogue_of load) old mid ws → AreNew (λ j. catalogue_of load) ws
-are-new {D} {G} n load old mid ws streams j w e =
+pub are_new : {D : Type 0} {G : Ghosts D} (n : ℕ) (load : Workload) (old mid : List D) (ws : List (Writer D G)) → AreOpened G n (catalogue_of load) old mid ws → AreNew (λ j. catalogue_of load) ws
+are_new {D} {G} n load old mid ws streams j w e =
     let b = streams.begun j w e in
     record {
       works = b.works;
@@ -22,10 +22,10 @@ are-new {D} {G} n load old mid ws streams j w e =
       ready = λ t. subst (λ (k : ℕ). IsReady k j w (catalogue_of load)) (sym streams.count) (b.ready t);
     }
 
-both-end : (end size j : ℕ) → size ≡ end → j < 2 → size ≡ slice_index (end ∷ end ∷ []) j
-both-end end size zero e lt = e
-both-end end size (suc zero) e lt = e
-both-end end size (suc (suc j)) e lt = absurd (omega (arith, lt))
+both_end : (end size j : ℕ) → size ≡ end → j < 2 → size ≡ slice_index (end ∷ end ∷ []) j
+both_end end size zero e lt = e
+both_end end size (suc zero) e lt = e
+both_end end size (suc (suc j)) e lt = absurd (omega (arith, lt))
 
 low : (end j : ℕ) → slice_index (0 ∷ 0 ∷ []) j ≤ slice_index (end ∷ end ∷ []) j
 low end zero = omega arith
@@ -43,6 +43,6 @@ module _ (o : Opening) (end : ℕ) (ends : o.ends ≡ end ∷ end ∷ []) where
   pub begun : {D : Type 0} {G : Ghosts D} (load : Workload) (ws : List (Writer D G)) → AreNew (λ j. catalogue_of load) ws → length ws ≡ 2 → length (catalogue_of load) ≡ end → IsBegun (λ j. catalogue_of load) ws o
   begun load ws new two size = record {
     count = two ∙ sym (ap (length {A = ℕ}) ends);
-    long = λ j lt. subst (λ (v : List ℕ). length (catalogue_of load) ≡ slice_index v j) (sym ends) (both-end end (length (catalogue_of load)) j size (subst (λ (v : List ℕ). j < length v) ends lt));
+    long = λ j lt. subst (λ (v : List ℕ). length (catalogue_of load) ≡ slice_index v j) (sym ends) (both_end end (length (catalogue_of load)) j size (subst (λ (v : List ℕ). j < length v) ends lt));
     new = new;
   }

@@ -7,13 +7,7 @@ use Rattle.tau_disk.specs.Disk.{Torn, Holds, Only}
 use Rattle.tau_block.specs.Image.{content_of, HasContent, header_of, block_of, tail_of, IsBody, IsLog}
 use Rattle.tau_block.proofs.Blocks.{front_block, log_of_front, short_content}
 use Rattle.tau_stream.specs.Stream.{IsSettled, IsOldOrNew}
-
-pub on_err : {A E P : Type 0} (r : Result A E) → P → OnErr r P
-on_err (Ok x) p = tt
-on_err (Err e) p = p
-
-split_at : (xs : List ℕ) (p : ℕ) → p < length xs → xs ≡ take p xs ++ get_or xs p 0 ∷ drop (p + 1) xs
-split_at xs p lt = sym (take-append-drop p xs) ∙ ap (λ (l : List ℕ). take p xs ++ l) (drop_more xs p 0 lt)
+use Rattle.tau_base.proofs.Lists.{split_at}
 
 -- a write makes the file as long as it reaches, and no shorter
 pub holds_long : (at : ℕ) (bytes old new : List ℕ) → at ≤ length old → Holds old at bytes new → (at + length bytes ≤ length new) × (length old ≤ length new)
@@ -26,8 +20,8 @@ module _ (n j : ℕ) (file : List ℕ) (gate_at : ℕ) (content : List ℕ) (s :
   abbrev front : List ℕ
   front = take gate_at file
 
-  length-front : length front ≡ gate_at
-  length-front = length-take-le gate_at file (omega (arith, s.within))
+  length_front : length front ≡ gate_at
+  length_front = length-take-le gate_at file (omega (arith, s.within))
 
   -- what is written after the closed gate changes nothing
   pub torn_behind : (size : ℕ) (x : List ℕ) → Torn (gate_at + 1) size file x → HasContent n j content x
@@ -65,8 +59,8 @@ module _ (n j : ℕ) (file : List ℕ) (gate_at : ℕ) (content : List ℕ) (s :
     opens : gated 1 ≡ grown ++ 0 ∷ behind
     opens = ap (λ (l : List ℕ). front ++ 1 ∷ (to_be_bytes w32 (length body) ++ l)) (append_assoc body (0 ∷ []) behind) ∙ sym (append_assoc front (block_of body) (0 ∷ behind))
 
-    length-grown : length grown ≡ gate_at + length (tail_of body)
-    length-grown = omega (arith, length-front, length-append front (block_of body), length-append body (0 ∷ []))
+    length_grown : length grown ≡ gate_at + length (tail_of body)
+    length_grown = omega (arith, length_front, length-append front (block_of body), length-append body (0 ∷ []))
 
     pub gate_cases : (gate : ℕ) → IsOldOrNew n j content body (gated gate)
     gate_cases gate = elim (cases_eq gate 1) [
@@ -77,23 +71,23 @@ module _ (n j : ℕ) (file : List ℕ) (gate_at : ℕ) (content : List ℕ) (s :
     pub torn_gate : (gate : ℕ) (bytes x : List ℕ) → bytes ≡ 1 ∷ [] → Torn gate_at (length bytes) (gated gate) x → IsOldOrNew n j content body x
     torn_gate gate bytes x is was =
         let torn = subst (λ (b : List ℕ). Torn gate_at (length b) (gated gate) x) is was in
-        let lt : gate_at < length x = omega (arith, torn.no_shorter, length-front, length-append front (gate ∷ (tail_of body ++ behind))) in
-        let same : take gate_at x ≡ front = torn.before ∙ take_at front (gate ∷ (tail_of body ++ behind)) gate_at length-front in
-        let rest : drop (gate_at + 1) x ≡ tail_of body ++ behind = torn.after ∙ ap (drop (gate_at + 1)) (sym (append_assoc front (gate ∷ []) (tail_of body ++ behind))) ∙ drop_at (front ++ gate ∷ []) (tail_of body ++ behind) (gate_at + 1) (omega (arith, length-front, length-append front (gate ∷ []))) in
+        let lt : gate_at < length x = omega (arith, torn.no_shorter, length_front, length-append front (gate ∷ (tail_of body ++ behind))) in
+        let same : take gate_at x ≡ front = torn.before ∙ take_at front (gate ∷ (tail_of body ++ behind)) gate_at length_front in
+        let rest : drop (gate_at + 1) x ≡ tail_of body ++ behind = torn.after ∙ ap (drop (gate_at + 1)) (sym (append_assoc front (gate ∷ []) (tail_of body ++ behind))) ∙ drop_at (front ++ gate ∷ []) (tail_of body ++ behind) (gate_at + 1) (omega (arith, length_front, length-append front (gate ∷ []))) in
         let whole : x ≡ gated (get_or x gate_at 0) = split_at x gate_at lt ∙ (λ i. same i ++ get_or x gate_at 0 ∷ rest i) in
         subst (IsOldOrNew n j content body) (sym whole) (gate_cases (get_or x gate_at 0))
 
     pub opened : (gate : ℕ) (bytes new : List ℕ) → bytes ≡ 1 ∷ [] → Holds (gated gate) gate_at bytes new → new ≡ grown ++ 0 ∷ behind
     opened gate bytes new is holds =
         subst (λ (b : List ℕ). Holds (gated gate) gate_at b new) is holds
-        ∙ ap (λ (l : List ℕ). l ++ (1 ∷ []) ++ drop (gate_at + 1) (gated gate)) (take_at front (gate ∷ (tail_of body ++ behind)) gate_at length-front)
-        ∙ ap (λ (l : List ℕ). (front ++ 1 ∷ []) ++ l) (ap (drop (gate_at + 1)) (sym (append_assoc front (gate ∷ []) (tail_of body ++ behind))) ∙ drop_at (front ++ gate ∷ []) (tail_of body ++ behind) (gate_at + 1) (omega (arith, length-front, length-append front (gate ∷ []))))
+        ∙ ap (λ (l : List ℕ). l ++ (1 ∷ []) ++ drop (gate_at + 1) (gated gate)) (take_at front (gate ∷ (tail_of body ++ behind)) gate_at length_front)
+        ∙ ap (λ (l : List ℕ). (front ++ 1 ∷ []) ++ l) (ap (drop (gate_at + 1)) (sym (append_assoc front (gate ∷ []) (tail_of body ++ behind))) ∙ drop_at (front ++ gate ∷ []) (tail_of body ++ behind) (gate_at + 1) (omega (arith, length_front, length-append front (gate ∷ []))))
         ∙ append_assoc front (1 ∷ []) (tail_of body ++ behind)
         ∙ opens
 
     pub settles : (new : List ℕ) (leaves : List ℕ → Type 0) → new ≡ grown ++ 0 ∷ behind → Only new leaves → IsSettled n j new leaves (gate_at + length (tail_of body)) (content ++ body)
     settles new leaves is only = record {
-      log = subst (λ (g : ℕ). IsLog n j new g (content ++ body)) length-grown
+      log = subst (λ (g : ℕ). IsLog n j new g (content ++ body)) length_grown
           (subst (λ (l : List ℕ). IsLog n j l (length grown) (content ++ body)) (sym is)
           (log_of_front n j grown (content ++ body) behind (front_block n j front content body s.front some.some (omega (arith, some.most)))));
       only = only;

@@ -5,8 +5,8 @@ use Rattle.std.specs.List.{position_or_len}
 use Rattle.std.proofs.lemmas.List.{take_all}
 use Rattle.tau_text.specs.Lines.{Between, Plain, Quoted, onto, lines, body, words, words_from}
 
-one-add : (n : ℕ) → 1 + n ≡ suc n
-one-add n = omega arith
+one_add : (n : ℕ) → 1 + n ≡ suc n
+one_add n = omega arith
 
 abbrev pub place : ℕ → List ℕ → ℕ
 place b bs = position_or_len (λ x. x == b) bs
@@ -111,7 +111,7 @@ word_plain [] n lt h k e = absurd (omega arith)
 word_plain (b ∷ bs) n lt h k e =
     let s = not_same b 32 h in
     let t = not_same b 34 k in
-    let f : n ≡ suc (place 32 bs) = e ∙ rw s (one-add (place 32 bs)) in
+    let f : n ≡ suc (place 32 bs) = e ∙ rw s (one_add (place 32 bs)) in
     rw (f, s, t, plain_cut bs) refl
 
 pub word_quoted : (line : List ℕ) (q r : ℕ) → get_or line 0 0 ≡ 34 → q ≡ place 34 (drop 1 line) → q + 2 ≤ length line → r ≡ place 32 (drop (q + 2) line)

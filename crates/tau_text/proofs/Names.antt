@@ -41,7 +41,7 @@ pub place_none : (w : List ℕ) (i : ℕ) (names : List (List ℕ)) → length n
 unfolding place_from
 place_none w i names le = rw (drop_all i names le) refl
 
-not_utf8 : (bs : List ℕ) (b : Bool) → is_utf8 bs ≡ b → ¬ (IsUtf8 bs) → b ≡ false
+pub not_utf8 : (bs : List ℕ) (b : Bool) → is_utf8 bs ≡ b → ¬ (IsUtf8 bs) → b ≡ false
 not_utf8 bs true e h = absurd (h (IsUtf8-from_is_utf8 bs e))
 not_utf8 bs false e h = refl
 

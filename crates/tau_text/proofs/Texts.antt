@@ -17,16 +17,13 @@ use Rattle.tau_text.specs.Given.{Fails, ◌>>=◌}
 use Rattle.tau_text.specs.Forms.{head}
 use Rattle.tau_text.specs.Text.{line_read, lines_read, statement_read, outer_read, is_before, placed}
 use Rattle.tau_text.specs.Kept.{Misses, refusal}
+use Rattle.tau_text.proofs.Names.{not_utf8}
 
 pub utf8_yes : (bs : List ℕ) → IsUtf8 bs → is_utf8 bs ≡ true
 utf8_yes bs h = is_utf8-from_IsUtf8 bs h
 
-no : (bs : List ℕ) (b : Bool) → is_utf8 bs ≡ b → ¬ (IsUtf8 bs) → b ≡ false
-no bs true e h = absurd (h (IsUtf8-from_is_utf8 bs e))
-no bs false e h = refl
-
 pub utf8_no : (bs : List ℕ) → ¬ (IsUtf8 bs) → is_utf8 bs ≡ false
-utf8_no bs h = no bs (is_utf8 bs) refl h
+utf8_no bs h = not_utf8 bs (is_utf8 bs) refl h
 
 fits : (n : ℕ) → n ≤ MAX_WORKLOAD → nat_le n MAX_WORKLOAD ≡ true
 fits n h = grind (arith, common_steps)

@@ -23,12 +23,13 @@ use Rattle.tau_text.specs.Lines.{body, words}
 use Rattle.tau_text.specs.Spelled.{ended, begins_with, turn}
 use Rattle.tau_text.specs.Forms.{within, room, grown, line_size, table_line, proc_line, step_added, with_step, depth_at, step_head, head, turns_line}
 use Rattle.tau_text.specs.Text.{with_call, is_before, outer_read, inner_read, placed, statement_read, words_read, line_read, at_line, lines_read, nothing}
-use Rattle.tau_text_laws.proofs.Binds.{bind_ok, then_ok}
+use Rattle.tau_text_laws.proofs.Binds.{then_ok}
 use Rattle.tau_text_laws.proofs.Unique.{only_if}
 use Rattle.tau_text_laws.proofs.Once.{once_end, table_once, proc_once}
 use Rattle.tau_text_laws.proofs.WholeLines.{Is, step_head_is, head_is, once_front, step_once}
 use Rattle.tau_text_laws.proofs.MoreTables.{one_step}
 use Rattle.tau_text_laws.proofs.PartsTold.{TablesTold, tables_push, StepTold, StepsTold, steps_push, ProcTold, ProcsTold, procs_push, procs_more, BegunTold, call_read, CallTold, CallsTold, calls_push, TurnsTold, tables_size, procs_size, begun_size, tables_size_push, steps_size_push, procs_size_push, procs_size_more}
+use Rattle.tau_text.proofs.Binds.{bind_ok}
 
 abbrev pub MaybeBegun : List (List ℕ) → List Proc → List Call → Option Begun → Type 0
 MaybeBegun ts ps cs None = Unit {0}
@@ -304,7 +305,7 @@ at_ok : {A : Type 0} (n : ℕ) (r : Result A TextCause) (x : A) → at_line n r 
 at_ok n (Ok y) x e = cc
 at_ok n (Err c) x e = absurd cc
 
-bound : {A B : Type 0} (r : Result A TextFault) (f : A → Result B TextFault) (y : B) → (r >>= f) ≡ Ok y → (x : A) × (r ≡ Ok x) × (f x ≡ Ok y)
+pub bound : {A B : Type 0} (r : Result A TextFault) (f : A → Result B TextFault) (y : B) → (r >>= f) ≡ Ok y → (x : A) × (r ≡ Ok x) × (f x ≡ Ok y)
 bound (Ok x) f y e = (x, refl, e)
 bound (Err c) f y e = absurd cc
 

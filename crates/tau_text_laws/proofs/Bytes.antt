@@ -16,10 +16,10 @@ use Rattle.tau_text.specs.Canonical.{behind, line_text, text_word}
 use Rattle.tau_text.specs.Spelled.{is_text_byte}
 use Rattle.tau_text.specs.Forms.{within}
 use Rattle.tau_text.specs.Text.{words_read, line_read, at_line, lines_read}
-use Rattle.tau_text_laws.proofs.Binds.{bind_ok}
-use Rattle.tau_text_laws.proofs.Unique.{is_plain, IsPlain, IsWord}
+use Rattle.tau_text_laws.proofs.Unique.{is_plain, IsPlain, IsWord, all_more}
 use Rattle.tau_text_laws.proofs.Once.{AreWords}
 use Rattle.tau_text_laws.proofs.Runs.{run}
+use Rattle.tau_text.proofs.Binds.{bind_ok}
 
 -- the words after the first, each after a space
 abbrev pub gaps : List (List ℕ) → List ℕ
@@ -36,12 +36,6 @@ in_line b = not (b == 10)
 not_true : (b : Bool) → not b ≡ true → b ≡ false
 not_true true e = absurd cc
 not_true false e = refl
-
-all_more : (p q : ℕ → Bool) (w : List ℕ) → ((b : ℕ) → p b ≡ true → q b ≡ true) → list_all p w ≡ true → list_all q w ≡ true
-all_more p q [] h e = refl
-all_more p q (b ∷ w) h e =
-    let s = and_parts (p b) (list_all p w) e in
-    rw (h b s.0, all_more p q w h s.1) refl
 
 both : (p : ℕ → Bool) (a b : List ℕ) → list_all p a ≡ true → list_all p b ≡ true → list_all p (a ++ b) ≡ true
 both p a b e f = list_all-append p a b ∙ rw (e, f) refl
@@ -184,7 +178,7 @@ fits n le =
     let t : nat_le n MAX_WORKLOAD ≡ true = grind (arith, common_steps) in
     rw t refl
 
-next : {A B : Type 0} (r : Result A TextFault) (f : A → Result B TextFault) (x : A) (y : Result B TextFault) → r ≡ Ok x → f x ≡ y → (r >>= f) ≡ y
+pub next : {A B : Type 0} (r : Result A TextFault) (f : A → Result B TextFault) (x : A) (y : Result B TextFault) → r ≡ Ok x → f x ≡ y → (r >>= f) ≡ y
 next r f x y e g = rw e g
 
 at_same : {A : Type 0} (n : ℕ) (r : Result A TextCause) (x : A) → r ≡ Ok x → at_line n r ≡ Ok x

@@ -22,10 +22,10 @@ use Rattle.tau_text.specs.Text.{lines_read, nothing, closed, workload_of}
 use Rattle.tau_text.specs.Alone.{differs, declarations_of}
 use Rattle.tau_text_laws.proofs.Once.{table_once, proc_once}
 use Rattle.tau_text_laws.proofs.PartsTold.{TablesTold, StepsTold, ProcTold, ProcsTold, CallsTold, TurnsTold, tables_size, steps_size, procs_size, told_once}
-use Rattle.tau_text_laws.proofs.Behind.{Told, told_lines, told_nothing}
+use Rattle.tau_text_laws.proofs.Behind.{Told, told_lines, told_nothing, bound}
 use Rattle.tau_text_laws.proofs.Runs.{run, run_more, declared, run_tables, proc_lines, run_procs}
 use Rattle.tau_text_laws.proofs.Whole.{calling, run_calls, told_call_once, turn_lines, turns_told, run_turns}
-use Rattle.tau_text_laws.proofs.Bytes.{AreLine, AreLines, text_again}
+use Rattle.tau_text_laws.proofs.Bytes.{AreLine, AreLines, text_again, next}
 
 -- ---- the lines of the canonical text
 
@@ -134,13 +134,6 @@ all_run s h =
     (run_turns s.tables s.procs size (1 + length (front ++ calls)) s.calls s.turns h.turns)
 
 -- ---- the law
-
-bound : {A B : Type 0} (r : Result A TextFault) (f : A → Result B TextFault) (y : B) → (r >>= f) ≡ Ok y → (x : A) × (r ≡ Ok x) × (f x ≡ Ok y)
-bound (Ok x) f y e = (x, refl, e)
-bound (Err c) f y e = absurd cc
-
-next : {A B : Type 0} (r : Result A TextFault) (f : A → Result B TextFault) (x : A) (y : Result B TextFault) → r ≡ Ok x → f x ≡ y → (r >>= f) ≡ y
-next r f x y e g = rw e g
 
 closed_is : (s : Reading) (o : Option Begun) (load : Workload) → closed s o ≡ Ok load → load_of s ≡ load
 closed_is s None load e = cc

@@ -10,8 +10,9 @@ use Rattle.tau_text.specs.declared.fault.TextCause.TheVariants.{BadStep, Unknown
 use Rattle.tau_text.specs.Given.{◌>>=◌, or_else}
 use Rattle.tau_text.specs.Spelled.{first, name, place_from, known, register}
 use Rattle.tau_text.specs.Forms.{room, get_words, put_words, del_words, step_line, step_added, with_step}
-use Rattle.tau_text_laws.proofs.Binds.{bind_ok, then_ok}
+use Rattle.tau_text_laws.proofs.Binds.{then_ok}
 use Rattle.tau_text_laws.proofs.Unique.{was_some}
+use Rattle.tau_text.proofs.Binds.{bind_ok}
 
 more_step : (t : Bool) (k i : ℕ) (o p : Option ℕ) → (o ≡ Some i → p ≡ Some i) → cond t (Some k) o ≡ Some i → cond t (Some k) p ≡ Some i
 more_step true k i o p h e = e

@@ -15,6 +15,7 @@ use Rattle.tau_text_laws.proofs.Unique.{is_plain, IsWord}
 use Rattle.tau_text_laws.proofs.Once.{AreWords}
 use Rattle.tau_text_laws.proofs.Bytes.{AreLines}
 use Rattle.tau_text_laws.proofs.Law.{Source, source, load_of, declared_lines, declared_text_is, declared_all}
+use Rattle.tau_base.proofs.Logic.{below_of_true}
 
 abbrev AllBytes : List ℕ → Type 0
 AllBytes [] = Unit {0}
@@ -49,14 +50,11 @@ encoded false false false c top one two three =
     let few : c / 262144 < 5 = (div-lt_iff_lt-mul {k = 262144} {x = c} {y = 5} (omega arith)).1 (omega (arith, top)) in
     (omega (arith, few), (next_low (c / 4096), (next_low (c / 64), (next_low c, tt))))
 
-low_by : (c limit : ℕ) → nat_lt c limit ≡ true → c < limit
-low_by c limit e = grind (arith, common_steps)
-
 character : (c : ℕ) → scalar c ≡ true → AllBytes (encode_utf8 c)
 unfolding encode_utf8
 character c e =
     let top : c < 1114112 = elim (scalar_cases c e) [ inl low ↦ omega (arith, low) | inr high ↦ high.1 ] in
-    encoded (nat_lt c 128) (nat_lt c 2048) (nat_lt c 65536) c top (low_by c 128) (low_by c 2048) (low_by c 65536)
+    encoded (nat_lt c 128) (nat_lt c 2048) (nat_lt c 65536) c top (below_of_true c 128) (below_of_true c 2048) (below_of_true c 65536)
 
 characters : (cs : List ℕ) → scalars cs ≡ true → AllBytes (encode_utf8_all cs)
 characters [] e = tt

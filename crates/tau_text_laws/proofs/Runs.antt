@@ -17,9 +17,10 @@ use Rattle.tau_text.specs.Canonical.{step_words, table_words, proc_words}
 use Rattle.tau_text.specs.Spelled.{begins_with}
 use Rattle.tau_text.specs.Forms.{room, grown, line_size, table_line, proc_line, step_line, step_added, with_step, depth_at, step_head, head}
 use Rattle.tau_text.specs.Text.{is_before, outer_read, inner_read, statement_read, words_read}
-use Rattle.tau_text_laws.proofs.Binds.{bind_ok, then_ok}
+use Rattle.tau_text_laws.proofs.Binds.{then_ok}
 use Rattle.tau_text_laws.proofs.WholeLines.{step_word, step_head_is}
 use Rattle.tau_text_laws.proofs.PartsTold.{TablesTold, StepTold, StepsTold, with_steps, ProcTold, ProcsTold, tables_size, steps_size, proc_size, procs_size, told_once}
+use Rattle.tau_text.proofs.Binds.{bind_ok}
 
 -- the lines one after the other, each by its words
 unfoldable pub run : Reading → ℕ → List (List (List ℕ)) → Result Reading TextCause
@@ -42,7 +43,7 @@ grown_fits size ws le =
     let t : nat_le (size + line_size ws) MAX_CATALOGUE ≡ true = grind (arith, common_steps) in
     rw t refl
 
-room_fits : (limit n : ℕ) → n < limit → room limit n ≡ Ok tt
+pub room_fits : (limit n : ℕ) → n < limit → room limit n ≡ Ok tt
 room_fits limit n lt =
     let t : nat_lt n limit ≡ true = grind (arith, common_steps) in
     rw t refl

@@ -15,7 +15,7 @@ use Rattle.tau_text.specs.declared.fault.TextCause.TheVariants.{BadNumber, BadSt
 use Rattle.tau_text.specs.Given.{or_else}
 use Rattle.tau_text.specs.Canonical.{text_word, name_at}
 use Rattle.tau_text.specs.Spelled.{is_digit, is_letter, is_name_byte, is_text_byte, is_named, digits_after, at_most, magnitude, number, whole, as_count, count, below, index, name, place_from, known, register, positive, argument}
-use Rattle.tau_text_laws.proofs.Binds.{bind_ok}
+use Rattle.tau_text.proofs.Binds.{bind_ok}
 
 -- ---- choices
 
@@ -47,7 +47,7 @@ chained : {A B : Type 0} (f : A → Option B) (o : Option A) (y : B) → option_
 chained f (Some x) y e = (x, refl, e)
 chained f None y e = absurd cc
 
-all_more : (p q : ℕ → Bool) (w : List ℕ) → ((b : ℕ) → p b ≡ true → q b ≡ true) → list_all p w ≡ true → list_all q w ≡ true
+pub all_more : (p q : ℕ → Bool) (w : List ℕ) → ((b : ℕ) → p b ≡ true → q b ≡ true) → list_all p w ≡ true → list_all q w ≡ true
 all_more p q [] h e = refl
 all_more p q (b ∷ w) h e =
     let s = and_parts (p b) (list_all p w) e in

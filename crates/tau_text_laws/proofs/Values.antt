@@ -21,8 +21,8 @@ use Rattle.tau_text.specs.declared.fault.TextCause.TheVariants.{BadStep, TooMany
 use Rattle.tau_text.specs.Given.{◌>>=◌, or_else}
 use Rattle.tau_text.specs.Canonical.{value_word, text_word, operand_word, compare_word, turn_word}
 use Rattle.tau_text.specs.Spelled.{is_digit, is_text_byte, whole, index, unquoted, short, quoted, literal, register, argument, constant, begins_with, operand, compare, turn}
-use Rattle.tau_text_laws.proofs.Binds.{bind_ok}
 use Rattle.tau_text_laws.proofs.Unique.{taken, unless_bad, was_some, IsPlain, IsWord, lettered, whole_spells, index_spells, register_spells, argument_spells}
+use Rattle.tau_text.proofs.Binds.{bind_ok}
 
 -- ---- texts
 

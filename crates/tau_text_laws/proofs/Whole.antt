@@ -17,12 +17,13 @@ use Rattle.tau_text.specs.Canonical.{value_word, name_at, built_in_words, call_w
 use Rattle.tau_text.specs.Spelled.{first, ended, known, begins_with}
 use Rattle.tau_text.specs.Forms.{room, names_of, head, put_call, add_call, key_call, literals, args_at, proc_call, call_of, turns_line}
 use Rattle.tau_text.specs.Text.{with_call, is_before, outer_read, placed, statement_read, words_read}
-use Rattle.tau_text_laws.proofs.Binds.{bind_ok, then_ok}
+use Rattle.tau_text_laws.proofs.Binds.{then_ok}
 use Rattle.tau_text_laws.proofs.Unique.{known_spells}
 use Rattle.tau_text_laws.proofs.Once.{AreWords, Once, once_end, once_more}
 use Rattle.tau_text_laws.proofs.WholeLines.{Is, keyed_words, head_word, head_is, once_front, put_call_once, add_call_once, key_call_once, literals_once, turns_once}
 use Rattle.tau_text_laws.proofs.PartsTold.{call_read, CallTold, CallsTold, TurnsTold}
-use Rattle.tau_text_laws.proofs.Runs.{run}
+use Rattle.tau_text_laws.proofs.Runs.{run, room_fits}
+use Rattle.tau_text.proofs.Binds.{bind_ok}
 
 -- ---- the words of a call
 
@@ -110,11 +111,6 @@ outer_call ts ps size n cs heads.Call ws rest c e = (refl, refl)
 outer_call ts ps size n cs heads.Table ws rest c e = absurd cc
 outer_call ts ps size n cs heads.Proc ws rest c e = absurd cc
 outer_call ts ps size n cs heads.Turns ws rest c e = absurd cc
-
-room_fits : (limit n : ℕ) → n < limit → room limit n ≡ Ok tt
-room_fits limit n lt =
-    let t : nat_lt n limit ≡ true = grind (arith, common_steps) in
-    rw t refl
 
 one_call : (ts : List (List ℕ)) (ps : List Proc) (size n : ℕ) (before : List Call) (c : Call) → CallTold ts ps c → length before < MAX_CALLS
     → words_read (calling ts ps size before) n (call_words (record { tables = ts; procs = ps }) c) ≡ Ok (calling ts ps size (before ++ c ∷ []))

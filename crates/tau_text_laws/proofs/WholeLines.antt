@@ -17,10 +17,10 @@ use Rattle.tau_text.specs.declared.fault.TextCause.TheVariants.{UnknownWord}
 use Rattle.tau_text.specs.Canonical.{value_word, turn_word, name_at, step_words, call_words}
 use Rattle.tau_text.specs.Spelled.{first, ended, whole, known, literal, turn}
 use Rattle.tau_text.specs.Forms.{room, get_words, put_words, del_words, sum_words, test_words, reply_words, step_line, step_head, head, key_words, put_call, add_call, key_call, literals, number_value, turns_line}
-use Rattle.tau_text_laws.proofs.Binds.{bind_ok}
 use Rattle.tau_text_laws.proofs.Unique.{IsPlain, whole_spells, known_spells}
 use Rattle.tau_text_laws.proofs.Values.{chosen, literal_tells, turn_turns}
 use Rattle.tau_text_laws.proofs.Once.{Once, once_end, once_more, get_once, put_once, del_once, sum_once, test_once, reply_once}
+use Rattle.tau_text.proofs.Binds.{bind_ok}
 
 -- ---- first words
 

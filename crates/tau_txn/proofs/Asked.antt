@@ -22,13 +22,13 @@ use Rattle.tau_txn.specs.Progress.{IsFinished}
 use Rattle.tau_txn.specs.Kept.{is_leaving}
 use Rattle.tau_txn.specs.Steps.{lock_by, lock_in, first_key}
 
-no-writes : (ws : List (Key × Value)) → (length ws == 0) ≡ true → ws ≡ []
-no-writes [] e = refl
-no-writes (w ∷ ws) e = absurd (let a = eqb-true (length (w ∷ ws)) 0 e in omega (arith, a))
+no_writes : (ws : List (Key × Value)) → (length ws == 0) ≡ true → ws ≡ []
+no_writes [] e = refl
+no_writes (w ∷ ws) e = absurd (let a = eqb-true (length (w ∷ ws)) 0 e in omega (arith, a))
 
-some-writes : (ws : List (Key × Value)) → (length ws == 0) ≡ false → 1 ≤ length ws
-some-writes [] e = absurd (both_ways true e refl)
-some-writes (w ∷ ws) e = omega arith
+some_writes : (ws : List (Key × Value)) → (length ws == 0) ≡ false → 1 ≤ length ws
+some_writes [] e = absurd (both_ways true e refl)
+some_writes (w ∷ ws) e = omega arith
 
 module _ (h : PlainHand) where
   pub record LockAsked (x : Key) (m : Mode) : Type 0 where
@@ -87,47 +87,47 @@ module _ (h : PlainHand) where
   Asked action.LeftOver = h.standing ≡ LeftOver
   Asked action.Nothing = NothingAsked
 
-  asked-quits : is_leaving h.standing h.leaves ≡ true → (held : List (Key × Mode)) → h.held ≡ held → Asked (quits held)
-  asked-quits leaving [] e = inl (leaving, e)
-  asked-quits leaving (k ∷ ks) e = record { leaving = leaving; key = ap first_key e }
+  asked_quits : is_leaving h.standing h.leaves ≡ true → (held : List (Key × Mode)) → h.held ≡ held → Asked (quits held)
+  asked_quits leaving [] e = inl (leaving, e)
+  asked_quits leaving (k ∷ ks) e = record { leaving = leaving; key = ap first_key e }
 
-  asked-frees : (reply : Reply) (v : List ℕ) (ws : List (Key × Value)) → next_want h.machine ≡ Finished reply → FreesWith v ws → (held : List (Key × Mode)) → h.held ≡ held →
+  asked_frees : (reply : Reply) (v : List ℕ) (ws : List (Key × Value)) → next_want h.machine ≡ Finished reply → FreesWith v ws → (held : List (Key × Mode)) → h.held ≡ held →
       Asked (frees reply v ws held)
-  asked-frees reply v ws finished why [] e = record { held = e; finished = finished; writes = ws; why = why }
-  asked-frees reply v ws finished why (k ∷ ks) e = record { key = ap first_key e; reply = reply; finished = finished; vector = v; writes = ws; why = why; write_is = refl }
+  asked_frees reply v ws finished why [] e = record { held = e; finished = finished; writes = ws; why = why }
+  asked_frees reply v ws finished why (k ∷ ks) e = record { key = ap first_key e; reply = reply; finished = finished; vector = v; writes = ws; why = why; write_is = refl }
 
-  asked-ends : h.standing ≡ Running → h.leaves ≡ false → (reply : Reply) → next_want h.machine ≡ Finished reply → (b : Bool) → (length (buffered h.machine) == 0) ≡ b → Asked (ends_with b reply h)
-  asked-ends running stays reply finished true e =
-      asked-frees reply h.dep [] finished (inr (record { running = running; stays = stays; none = no-writes (buffered h.machine) e }, refl, refl)) h.held refl
-  asked-ends running stays reply finished false e =
-      record { running = running; stays = stays; reply = reply; finished = finished; some = some-writes (buffered h.machine) e; size_is = refl }
+  asked_ends : h.standing ≡ Running → h.leaves ≡ false → (reply : Reply) → next_want h.machine ≡ Finished reply → (b : Bool) → (length (buffered h.machine) == 0) ≡ b → Asked (ends_with b reply h)
+  asked_ends running stays reply finished true e =
+      asked_frees reply h.dep [] finished (inr (record { running = running; stays = stays; none = no_writes (buffered h.machine) e }, refl, refl)) h.held refl
+  asked_ends running stays reply finished false e =
+      record { running = running; stays = stays; reply = reply; finished = finished; some = some_writes (buffered h.machine) e; size_is = refl }
 
-  asked-runs : h.standing ≡ Running → h.leaves ≡ false → (want : Want) → next_want h.machine ≡ want → Asked (asks want h)
-  asked-runs running stays (Read x) e = record { running = running; stays = stays; lock = ap lock_by e }
-  asked-runs running stays (Write x) e = record { running = running; stays = stays; lock = ap lock_by e }
-  asked-runs running stays (Finished reply) e = asked-ends running stays reply e (length (buffered h.machine) == 0) refl
+  asked_runs : h.standing ≡ Running → h.leaves ≡ false → (want : Want) → next_want h.machine ≡ want → Asked (asks want h)
+  asked_runs running stays (Read x) e = record { running = running; stays = stays; lock = ap lock_by e }
+  asked_runs running stays (Write x) e = record { running = running; stays = stays; lock = ap lock_by e }
+  asked_runs running stays (Finished reply) e = asked_ends running stays reply e (length (buffered h.machine) == 0) refl
 
-  asked-freeing : h.standing ≡ Freeing → (want : Want) → next_want h.machine ≡ want → Asked (frees_on want h)
-  asked-freeing freeing (Read x) e = inr (freeing, λ (f : IsFinished (next_want h.machine)). subst IsFinished e f)
-  asked-freeing freeing (Write x) e = inr (freeing, λ (f : IsFinished (next_want h.machine)). subst IsFinished e f)
-  asked-freeing freeing (Finished reply) e = asked-frees reply h.lv (buffered h.machine) e (inl (freeing, refl, refl)) h.held refl
+  asked_freeing : h.standing ≡ Freeing → (want : Want) → next_want h.machine ≡ want → Asked (frees_on want h)
+  asked_freeing freeing (Read x) e = inr (freeing, λ (f : IsFinished (next_want h.machine)). subst IsFinished e f)
+  asked_freeing freeing (Write x) e = inr (freeing, λ (f : IsFinished (next_want h.machine)). subst IsFinished e f)
+  asked_freeing freeing (Finished reply) e = asked_frees reply h.lv (buffered h.machine) e (inl (freeing, refl, refl)) h.held refl
 
   pub asked : Asked (next_by h.standing h)
   asked = at h.standing refl
     where
       leaves' : (b : Bool) → h.leaves ≡ b → h.standing ≡ Running → Asked (if b then quits h.held else asks (next_want h.machine) h)
-      leaves' true is running = asked-quits (ap (λ (s : Standing). is_leaving s h.leaves) running ∙ is) h.held refl
-      leaves' false is running = asked-runs running is (next_want h.machine) refl
+      leaves' true is running = asked_quits (ap (λ (s : Standing). is_leaving s h.leaves) running ∙ is) h.held refl
+      leaves' false is running = asked_runs running is (next_want h.machine) refl
 
       at : (s : Standing) → h.standing ≡ s → Asked (next_by s h)
       at Running is = leaves' h.leaves refl is
-      at Quitting is = asked-quits (ap (λ (s : Standing). is_leaving s h.leaves) is) h.held refl
+      at Quitting is = asked_quits (ap (λ (s : Standing). is_leaving s h.leaves) is) h.held refl
       at Placed is = is
-      at Freeing is = asked-freeing is (next_want h.machine) refl
+      at Freeing is = asked_freeing is (next_want h.machine) refl
       at LeftOver is = is
 
-  pub asked-at : (a : Action) → next_by h.standing h ≡ a → Asked a
-  asked-at a e = subst Asked e asked
+  pub asked_at : (a : Action) → next_by h.standing h ≡ a → Asked a
+  asked_at a e = subst Asked e asked
 
 -- which locks, and which commits
 
@@ -136,43 +136,43 @@ pub record LockIs (a : Action) : Type 0 where
   pub mode : Mode
   pub is : a ≡ action.Lock key mode
 
-pub lock-is_one : (a : Action) → IsLock a → LockIs a
-lock-is_one (action.Lock x m) h = record { key = x; mode = m; is = refl }
-lock-is_one (action.Quit x) h = absurd h
-lock-is_one (action.Commit size) h = absurd h
-lock-is_one action.Post h = absurd h
-lock-is_one (action.Free x write) h = absurd h
-lock-is_one (action.Done reply lv) h = absurd h
-lock-is_one action.LeftOver h = absurd h
-lock-is_one action.Nothing h = absurd h
+pub lock_is_one : (a : Action) → IsLock a → LockIs a
+lock_is_one (action.Lock x m) h = record { key = x; mode = m; is = refl }
+lock_is_one (action.Quit x) h = absurd h
+lock_is_one (action.Commit size) h = absurd h
+lock_is_one action.Post h = absurd h
+lock_is_one (action.Free x write) h = absurd h
+lock_is_one (action.Done reply lv) h = absurd h
+lock_is_one action.LeftOver h = absurd h
+lock_is_one action.Nothing h = absurd h
 
 pub record CommitIs (a : Action) : Type 0 where
   pub size : ℕ
   pub is : a ≡ action.Commit size
 
-pub commit-is_one : (a : Action) → IsCommit a → CommitIs a
-commit-is_one (action.Commit size) h = record { size = size; is = refl }
-commit-is_one (action.Lock x m) h = absurd h
-commit-is_one (action.Quit x) h = absurd h
-commit-is_one action.Post h = absurd h
-commit-is_one (action.Free x write) h = absurd h
-commit-is_one (action.Done reply lv) h = absurd h
-commit-is_one action.LeftOver h = absurd h
-commit-is_one action.Nothing h = absurd h
+pub commit_is_one : (a : Action) → IsCommit a → CommitIs a
+commit_is_one (action.Commit size) h = record { size = size; is = refl }
+commit_is_one (action.Lock x m) h = absurd h
+commit_is_one (action.Quit x) h = absurd h
+commit_is_one action.Post h = absurd h
+commit_is_one (action.Free x write) h = absurd h
+commit_is_one (action.Done reply lv) h = absurd h
+commit_is_one action.LeftOver h = absurd h
+commit_is_one action.Nothing h = absurd h
 
-pub lock-of : (h : PlainHand) → IsLock (next_by h.standing h) → (l : LockIs (next_by h.standing h)) × LockAsked h l.key l.mode
-lock-of h is = let l = lock-is_one (next_by h.standing h) is in (l, asked-at h (action.Lock l.key l.mode) l.is)
+pub lock_of : (h : PlainHand) → IsLock (next_by h.standing h) → (l : LockIs (next_by h.standing h)) × LockAsked h l.key l.mode
+lock_of h is = let l = lock_is_one (next_by h.standing h) is in (l, asked_at h (action.Lock l.key l.mode) l.is)
 
-pub commit-of : (h : PlainHand) → IsCommit (next_by h.standing h) → (l : CommitIs (next_by h.standing h)) × CommitAsked h l.size
-commit-of h is = let l = commit-is_one (next_by h.standing h) is in (l, asked-at h (action.Commit l.size) l.is)
+pub commit_of : (h : PlainHand) → IsCommit (next_by h.standing h) → (l : CommitIs (next_by h.standing h)) × CommitAsked h l.size
+commit_of h is = let l = commit_is_one (next_by h.standing h) is in (l, asked_at h (action.Commit l.size) l.is)
 
 -- a call that runs, is not to be given up, and has no action with an answer of its own is read-only and has finished
-pub reads-only : (h : PlainHand) → h.standing ≡ Running → h.leaves ≡ false → IsForWent (next_by h.standing h) → ReadsOnly h × IsFinished (next_want h.machine)
-reads-only h running stays rest = at (next_by h.standing h) refl rest
+pub reads_only : (h : PlainHand) → h.standing ≡ Running → h.leaves ≡ false → IsForWent (next_by h.standing h) → ReadsOnly h × IsFinished (next_want h.machine)
+reads_only h running stays rest = at (next_by h.standing h) refl rest
   where
-    of-why : (v : List ℕ) (ws : List (Key × Value)) → FreesWith h v ws → ReadsOnly h
-    of-why v ws (inl freeing) = let bad : Freeing ≡ Running = sym freeing.0 ∙ running in cc
-    of-why v ws (inr reads) = reads.0
+    of_why : (v : List ℕ) (ws : List (Key × Value)) → FreesWith h v ws → ReadsOnly h
+    of_why v ws (inl freeing) = let bad : Freeing ≡ Running = sym freeing.0 ∙ running in cc
+    of_why v ws (inr reads) = reads.0
 
     never : is_leaving h.standing h.leaves ≡ true → ⊥
     never e = let a : is_leaving Running false ≡ true = subst (λ (b : Bool). is_leaving Running b ≡ true) stays (subst (λ (s : Standing). is_leaving s h.leaves ≡ true) running e) in cc
@@ -181,11 +181,11 @@ reads-only h running stays rest = at (next_by h.standing h) refl rest
     at (action.Lock x m) e r = absurd r
     at (action.Commit size) e r = absurd r
     at action.Post e r = absurd r
-    at (action.Quit x) e r = absurd (never (asked-at h (action.Quit x) e).leaving)
-    at (action.Free x write) e r = let f = asked-at h (action.Free x write) e in (of-why f.vector f.writes f.why, subst IsFinished (sym f.finished) tt)
-    at (action.Done reply v) e r = let f = asked-at h (action.Done reply v) e in (of-why v f.writes f.why, subst IsFinished (sym f.finished) tt)
-    at action.LeftOver e r = let bad : Running ≡ LeftOver = sym running ∙ asked-at h action.LeftOver e in cc
-    at action.Nothing e r = elim (asked-at h action.Nothing e) [
+    at (action.Quit x) e r = absurd (never (asked_at h (action.Quit x) e).leaving)
+    at (action.Free x write) e r = let f = asked_at h (action.Free x write) e in (of_why f.vector f.writes f.why, subst IsFinished (sym f.finished) tt)
+    at (action.Done reply v) e r = let f = asked_at h (action.Done reply v) e in (of_why v f.writes f.why, subst IsFinished (sym f.finished) tt)
+    at action.LeftOver e r = let bad : Running ≡ LeftOver = sym running ∙ asked_at h action.LeftOver e in cc
+    at action.Nothing e r = elim (asked_at h action.Nothing e) [
       | inl quits' ↦ absurd (never quits'.0)
       | inr frees' ↦ let bad : Freeing ≡ Running = sym frees'.0 ∙ running in cc
     ]

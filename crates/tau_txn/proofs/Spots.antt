@@ -10,34 +10,34 @@ use Rattle.tau_base.specs.Database.{key_cmp}
 use Rattle.tau_machine.specs.Hands.{hold}
 use Rattle.tau_txn.specs.Spot.{later, spot}
 
-pub later-zero : (r : Result ℕ ℕ) → r ≡ later 0 r
-later-zero (Ok i) = let e : i ≡ 0 + i = omega arith in ap (λ n. Ok n) e
-later-zero (Err i) = let e : i ≡ 0 + i = omega arith in ap (λ n. Err n) e
+pub later_zero : (r : Result ℕ ℕ) → r ≡ later 0 r
+later_zero (Ok i) = let e : i ≡ 0 + i = omega arith in ap (λ n. Ok n) e
+later_zero (Err i) = let e : i ≡ 0 + i = omega arith in ap (λ n. Err n) e
 
-pub later-later : (n m : ℕ) (r : Result ℕ ℕ) → later n (later m r) ≡ later (n + m) r
-later-later n m (Ok i) = let e : n + (m + i) ≡ (n + m) + i = omega arith in ap (λ k. Ok k) e
-later-later n m (Err i) = let e : n + (m + i) ≡ (n + m) + i = omega arith in ap (λ k. Err k) e
+pub later_later : (n m : ℕ) (r : Result ℕ ℕ) → later n (later m r) ≡ later (n + m) r
+later_later n m (Ok i) = let e : n + (m + i) ≡ (n + m) + i = omega arith in ap (λ k. Ok k) e
+later_later n m (Err i) = let e : n + (m + i) ≡ (n + m) + i = omega arith in ap (λ k. Err k) e
 
-pub spot-greater : (key : Key) (e : Key × Mode) (es : List (Key × Mode)) → key_cmp key e.0 ≡ Greater → spot key (e ∷ es) ≡ later 1 (spot key es)
-spot-greater key e es p = ap (λ o. by_order o (Err 0) (Ok 0) (later 1 (spot key es))) p
+pub spot_greater : (key : Key) (e : Key × Mode) (es : List (Key × Mode)) → key_cmp key e.0 ≡ Greater → spot key (e ∷ es) ≡ later 1 (spot key es)
+spot_greater key e es p = ap (λ o. by_order o (Err 0) (Ok 0) (later 1 (spot key es))) p
 
-pub spot-less : (key : Key) (e : Key × Mode) (es : List (Key × Mode)) → key_cmp key e.0 ≡ Less → spot key (e ∷ es) ≡ Err 0
-spot-less key e es p = ap (λ o. by_order o (Err 0) (Ok 0) (later 1 (spot key es))) p
+pub spot_less : (key : Key) (e : Key × Mode) (es : List (Key × Mode)) → key_cmp key e.0 ≡ Less → spot key (e ∷ es) ≡ Err 0
+spot_less key e es p = ap (λ o. by_order o (Err 0) (Ok 0) (later 1 (spot key es))) p
 
-pub spot-equal : (key : Key) (e : Key × Mode) (es : List (Key × Mode)) → key_cmp key e.0 ≡ Equal → spot key (e ∷ es) ≡ Ok 0
-spot-equal key e es p = ap (λ o. by_order o (Err 0) (Ok 0) (later 1 (spot key es))) p
+pub spot_equal : (key : Key) (e : Key × Mode) (es : List (Key × Mode)) → key_cmp key e.0 ≡ Equal → spot key (e ∷ es) ≡ Ok 0
+spot_equal key e es p = ap (λ o. by_order o (Err 0) (Ok 0) (later 1 (spot key es))) p
 
-take-front : {A : Type 0} (ws ys : List A) → take (length ws) (ws ++ ys) ≡ ws
-take-front [] ys = refl
-take-front (w ∷ ws) ys = ap (λ l. w ∷ l) (take-front ws ys)
+take_front : {A : Type 0} (ws ys : List A) → take (length ws) (ws ++ ys) ≡ ws
+take_front [] ys = refl
+take_front (w ∷ ws) ys = ap (λ l. w ∷ l) (take_front ws ys)
 
 -- a slice of the whole, written and put back
 pub refilled : {A : Type 0} (n : ℕ) (xs ws : List A) → length ws ≡ n → refill n xs ws ≡ ws
-refilled n xs ws e = subst (λ k. take k (ws ++ drop (length ws) xs) ≡ ws) e (take-front ws (drop (length ws) xs))
+refilled n xs ws e = subst (λ k. take k (ws ++ drop (length ws) xs) ≡ ws) e (take_front ws (drop (length ws) xs))
 
-pub err-is : (key : Key) (m : Mode) (held : List (Key × Mode)) (i : ℕ) → spot key held ≡ Err i → (i ≤ length held) × (insert held i (key, m) ≡ hold key m held)
-err-is key m [] i e = let z : 0 ≡ i = cc in subst (λ k. (k ≤ 0) × (insert {X = Key × Mode} [] k (key, m) ≡ (key, m) ∷ [])) z (omega arith, refl)
-err-is key m (e ∷ es) i s = at' (key_cmp key e.0) (spot key es) s refl (λ j. err-is key m es j)
+pub err_is : (key : Key) (m : Mode) (held : List (Key × Mode)) (i : ℕ) → spot key held ≡ Err i → (i ≤ length held) × (insert held i (key, m) ≡ hold key m held)
+err_is key m [] i e = let z : 0 ≡ i = cc in subst (λ k. (k ≤ 0) × (insert {X = Key × Mode} [] k (key, m) ≡ (key, m) ∷ [])) z (omega arith, refl)
+err_is key m (e ∷ es) i s = at' (key_cmp key e.0) (spot key es) s refl (λ j. err_is key m es j)
   where
     at' : (o : Ordering) (r : Result ℕ ℕ) → by_order o (Err 0) (Ok 0) (later 1 r) ≡ Err i → spot key es ≡ r →
         ((j : ℕ) → spot key es ≡ Err j → (j ≤ length es) × (insert es j (key, m) ≡ hold key m es)) →
@@ -51,9 +51,9 @@ err-is key m (e ∷ es) i s = at' (key_cmp key e.0) (spot key es) s refl (λ j. 
         let w = h j q in
         subst (λ k. (k ≤ length (e ∷ es)) × (insert (e ∷ es) k (key, m) ≡ e ∷ hold key m es)) z (let l = w.0 in omega arith, ap (λ l. e ∷ l) w.1)
 
-pub ok-is : (key : Key) (m : Mode) (d : Key × Mode) (held : List (Key × Mode)) (i : ℕ) → spot key held ≡ Ok i → (i < length held) × (set held i ((get_or held i d).0, m) ≡ hold key m held)
-ok-is key m d [] i e = cc
-ok-is key m d (e ∷ es) i s = at' (key_cmp key e.0) (spot key es) s refl (λ j. ok-is key m d es j)
+pub ok_is : (key : Key) (m : Mode) (d : Key × Mode) (held : List (Key × Mode)) (i : ℕ) → spot key held ≡ Ok i → (i < length held) × (set held i ((get_or held i d).0, m) ≡ hold key m held)
+ok_is key m d [] i e = cc
+ok_is key m d (e ∷ es) i s = at' (key_cmp key e.0) (spot key es) s refl (λ j. ok_is key m d es j)
   where
     at' : (o : Ordering) (r : Result ℕ ℕ) → by_order o (Err 0) (Ok 0) (later 1 r) ≡ Ok i → spot key es ≡ r →
         ((j : ℕ) → spot key es ≡ Ok j → (j < length es) × (set es j ((get_or es j d).0, m) ≡ hold key m es)) →

@@ -39,10 +39,10 @@ use Rattle.tau_txn.specs.Narrow.{listed}
 use Rattle.tau_txn.specs.Record.{entry_of, spot_by, kept_joined, kept_reading, kept_by}
 use Rattle.tau_txn.specs.Steps.{locked_with, lock_in, lock_by, record_of}
 use Rattle.tau_txn.specs.Txn.{PlainTxn, shown, hand_in, joined_by, lv_by}
-use Rattle.tau_txn.proofs.Asked.{Asked, asked-at, LockAsked, QuitAsked, CommitAsked, FreesWith, FreeAsked, DoneAsked}
-use Rattle.tau_txn.proofs.Bridge.{Effected, effected, lock-is}
-use Rattle.tau_txn.proofs.Lowest.{FirstHeld, first-held}
-use Rattle.tau_txn.proofs.Nexts.{next-is, freeing-finished}
+use Rattle.tau_txn.proofs.Asked.{Asked, asked_at, LockAsked, QuitAsked, CommitAsked, FreesWith, FreeAsked, DoneAsked}
+use Rattle.tau_txn.proofs.Bridge.{Effected, effected, lock_is}
+use Rattle.tau_txn.proofs.Lowest.{FirstHeld, first_held}
+use Rattle.tau_txn.proofs.Nexts.{next_is_that, freeing_finished}
 
 -- a call that shows in the core's hand is not left over
 pub record Shows (procs : List Proc) (w : ℕ) (h : PlainHand) (hand : Hand) : Type 0 where
@@ -63,85 +63,85 @@ shows procs w h hand = at h.standing refl
     at LeftOver e is = cc
 
 -- what it does next is what the core's hand does next
-pub next-of : (procs : List Proc) (w : ℕ) (h : PlainHand) (hand : Hand) → IsRunBy procs h → is_sorted key_cmp (buffered h.machine) ≡ true → shown procs w h.standing h ≡ Some hand →
+pub next_of : (procs : List Proc) (w : ℕ) (h : PlainHand) (hand : Hand) → IsRunBy procs h → is_sorted key_cmp (buffered h.machine) ≡ true → shown procs w h.standing h ≡ Some hand →
     next_by h.standing h ≡ action_of procs w h.leaves (length h.bytes) hand
-next-of procs w h hand run sorted is =
+next_of procs w h hand run sorted is =
     let s = shows procs w h hand is in
-    next-is procs w h run sorted s.there ∙ ap (action_of procs w h.leaves (length h.bytes)) s.is
+    next_is_that procs w h run sorted s.there ∙ ap (action_of procs w h.leaves (length h.bytes)) s.is
 
 -- a call in hand always does something next
-never-nothing : (procs : List Proc) (width : ℕ) (h : PlainHand) → IsRunBy procs h → KeepsHand width h → Asked h action.Nothing → ⊥
-never-nothing procs width h run keeps (inl q) = let a = keeps.settled.holds q.0 in let b : length h.held ≡ 0 = ap length q.1 in omega (arith, a, b)
-never-nothing procs width h run keeps (inr f) = f.1 (freeing-finished procs h run f.0)
+never_nothing : (procs : List Proc) (width : ℕ) (h : PlainHand) → IsRunBy procs h → KeepsHand width h → Asked h action.Nothing → ⊥
+never_nothing procs width h run keeps (inl q) = let a = keeps.settled.holds q.0 in let b : length h.held ≡ 0 = ap length q.1 in omega (arith, a, b)
+never_nothing procs width h run keeps (inr f) = f.1 (freeing_finished procs h run f.0)
 
-pub never-rests : (procs : List Proc) (width : ℕ) (h : PlainHand) → IsRunBy procs h → KeepsHand width h → next_by h.standing h ≡ action.Nothing → ⊥
-never-rests procs width h run keeps e = never-nothing procs width h run keeps (asked-at h action.Nothing e)
+pub never_rests : (procs : List Proc) (width : ℕ) (h : PlainHand) → IsRunBy procs h → KeepsHand width h → next_by h.standing h ≡ action.Nothing → ⊥
+never_rests procs width h run keeps e = never_nothing procs width h run keeps (asked_at h action.Nothing e)
 
 module _ (procs : List Proc) (w width : ℕ) (mode : LogMode) (h : PlainHand) where
   abbrev pub txn : PlainTxn
   txn = record { worker = w; width = width; mode = mode; hand = Some h }
 
   module _ (run : IsRunBy procs h) (keeps : KeepsHand width h) (sorted : is_sorted key_cmp (buffered h.machine) ≡ true) where
-    shown-at : (s : Standing) → h.standing ≡ s → (s ≡ LeftOver → ⊥) → hand_in procs txn ≡ Some (hand_of procs w h)
-    shown-at Running e there = ap (λ (s : Standing). shown procs w s h) e
-    shown-at Quitting e there = ap (λ (s : Standing). shown procs w s h) e
-    shown-at Placed e there = ap (λ (s : Standing). shown procs w s h) e
-    shown-at Freeing e there = ap (λ (s : Standing). shown procs w s h) e
-    shown-at LeftOver e there = absurd (there refl)
+    shown_at : (s : Standing) → h.standing ≡ s → (s ≡ LeftOver → ⊥) → hand_in procs txn ≡ Some (hand_of procs w h)
+    shown_at Running e there = ap (λ (s : Standing). shown procs w s h) e
+    shown_at Quitting e there = ap (λ (s : Standing). shown procs w s h) e
+    shown_at Placed e there = ap (λ (s : Standing). shown procs w s h) e
+    shown_at Freeing e there = ap (λ (s : Standing). shown procs w s h) e
+    shown_at LeftOver e there = absurd (there refl)
 
-    phase-at : (s : Standing) → h.standing ≡ s → (hand_of procs w h).phase ≡ phase_in procs w s h
-    phase-at s e = ap (λ (r : Standing). phase_in procs w r h) e
+    phase_at : (s : Standing) → h.standing ≡ s → (hand_of procs w h).phase ≡ phase_in procs w s h
+    phase_at s e = ap (λ (r : Standing). phase_in procs w r h) e
 
-    running-shown : h.standing ≡ Running → hand_in procs txn ≡ Some (hand_of procs w h)
-    running-shown e = shown-at Running e (λ (b : Running ≡ LeftOver). cc)
+    running_shown : h.standing ≡ Running → hand_in procs txn ≡ Some (hand_of procs w h)
+    running_shown e = shown_at Running e (λ (b : Running ≡ LeftOver). cc)
 
-    lock-means : (x : Key) (m : Mode) → LockAsked h x m → Locks procs txn x m
-    lock-means x m l = record {
+    lock_means : (x : Key) (m : Mode) → LockAsked h x m → Locks procs txn x m
+    lock_means x m l = record {
       hand = hand_of procs w h;
-      is = running-shown l.running;
-      phase = phase-at Running l.running;
-      next = lock-is procs h run (run.holds l.running) sorted (next_want h.machine) refl ∙ l.lock;
+      is = running_shown l.running;
+      phase = phase_at Running l.running;
+      next = lock_is procs h run (run.holds l.running) sorted (next_want h.machine) refl ∙ l.lock;
     }
 
-    quit-means : (x : Key) → QuitAsked h x → Quits procs txn x
-    quit-means x q = at h.standing refl q.leaving
+    quit_means : (x : Key) → QuitAsked h x → Quits procs txn x
+    quit_means x q = at h.standing refl q.leaving
       where
         f : FirstHeld x h.held
-        f = first-held x h.held keeps.shaped.ascend q.key
+        f = first_held x h.held keeps.shaped.ascend q.key
 
         at : (s : Standing) → h.standing ≡ s → is_leaving s h.leaves ≡ true → Quits procs txn x
-        at Running e l = record { hand = hand_of procs w h; mode = f.mode; is = running-shown e; phase = inr (phase-at Running e, l); held = f.held_in; lowest = f.lowest }
-        at Quitting e l = record { hand = hand_of procs w h; mode = f.mode; is = shown-at Quitting e (λ (b : Quitting ≡ LeftOver). cc); phase = inl (phase-at Quitting e); held = f.held_in; lowest = f.lowest }
+        at Running e l = record { hand = hand_of procs w h; mode = f.mode; is = running_shown e; phase = inr (phase_at Running e, l); held = f.held_in; lowest = f.lowest }
+        at Quitting e l = record { hand = hand_of procs w h; mode = f.mode; is = shown_at Quitting e (λ (b : Quitting ≡ LeftOver). cc); phase = inl (phase_at Quitting e); held = f.held_in; lowest = f.lowest }
         at Placed e l = cc
         at Freeing e l = cc
         at LeftOver e l = cc
 
-    some-updating : (ws : List (Key × Value)) → 1 ≤ length ws → updating ws ≡ true
-    some-updating [] e = absurd (omega (arith, e))
-    some-updating (x ∷ ws) e = refl
+    some_updating : (ws : List (Key × Value)) → 1 ≤ length ws → updating ws ≡ true
+    some_updating [] e = absurd (omega (arith, e))
+    some_updating (x ∷ ws) e = refl
 
-    finished-at : (reply : Reply) → next_want h.machine ≡ Finished reply → Effected procs h run
-    finished-at reply e = effected procs h run (subst IsFinished (sym e) tt)
+    finished_at : (reply : Reply) → next_want h.machine ≡ Finished reply → Effected procs h run
+    finished_at reply e = effected procs h run (subst IsFinished (sym e) tt)
 
-    replies-at : (reply : Reply) (e : next_want h.machine ≡ Finished reply) → (finished-at reply e).reply ≡ reply
-    replies-at reply e = let f : Finished (finished-at reply e).reply ≡ Finished reply = sym (finished-at reply e).finished ∙ e in cc
+    replies_at : (reply : Reply) (e : next_want h.machine ≡ Finished reply) → (finished_at reply e).reply ≡ reply
+    replies_at reply e = let f : Finished (finished_at reply e).reply ≡ Finished reply = sym (finished_at reply e).finished ∙ e in cc
 
-    commit-means : (size : ℕ) → CommitAsked h size → Commits procs txn size
-    commit-means size k =
-        let e = finished-at k.reply k.finished in
+    commit_means : (size : ℕ) → CommitAsked h size → Commits procs txn size
+    commit_means size k =
+        let e = finished_at k.reply k.finished in
         record {
           hand = hand_of procs w h;
           effect = record { reads = run.follows.reads; writes = buffered h.machine; reply = e.reply };
-          is = running-shown k.running;
-          phase = phase-at Running k.running;
+          is = running_shown k.running;
+          phase = phase_at Running k.running;
           ended = e.ended;
-          locked = lock-is procs h run (run.holds k.running) sorted (next_want h.machine) refl ∙ ap lock_by k.finished;
-          updates = some-updating (buffered h.machine) k.some;
+          locked = lock_is procs h run (run.holds k.running) sorted (next_want h.machine) refl ∙ ap lock_by k.finished;
+          updates = some_updating (buffered h.machine) k.some;
           size_is = k.size_is;
         }
 
-    post-means : h.standing ≡ Placed → Posts procs txn
-    post-means e = record { hand = hand_of procs w h; act = act_in procs w h; is = shown-at Placed e (λ (b : Placed ≡ LeftOver). cc); phase = phase-at Placed e }
+    post_means : h.standing ≡ Placed → Posts procs txn
+    post_means e = record { hand = hand_of procs w h; act = act_in procs w h; is = shown_at Placed e (λ (b : Placed ≡ LeftOver). cc); phase = phase_at Placed e }
 
     -- the act of a call that frees its keys
     record Freed (reply : Reply) (v : List ℕ) (ws : List (Key × Value)) : Type 0 where
@@ -152,111 +152,111 @@ module _ (procs : List Proc) (w width : ℕ) (mode : LogMode) (h : PlainHand) wh
       reply_is : reply ≡ act.effect.reply
       lv_is : v ≡ lv_of act
 
-    freed-as : (reply : Reply) (v : List ℕ) (ws : List (Key × Value)) → next_want h.machine ≡ Finished reply → FreesWith h v ws → Freed reply v ws
-    freed-as reply v ws e (inl f) =
-        let d = finished-at reply e in
+    freed_as : (reply : Reply) (v : List ℕ) (ws : List (Key × Value)) → next_want h.machine ≡ Finished reply → FreesWith h v ws → Freed reply v ws
+    freed_as reply v ws e (inl f) =
+        let d = finished_at reply e in
         record {
           act = act_in procs w h;
-          is = shown-at Freeing f.0 (λ (b : Freeing ≡ LeftOver). cc);
-          act_is = subst (λ (s : Standing). FreesBy procs (joined_by s) w (hand_of procs w h) (act_in procs w h)) (sym f.0) (phase-at Freeing f.0);
+          is = shown_at Freeing f.0 (λ (b : Freeing ≡ LeftOver). cc);
+          act_is = subst (λ (s : Standing). FreesBy procs (joined_by s) w (hand_of procs w h) (act_in procs w h)) (sym f.0) (phase_at Freeing f.0);
           writes_are = f.2 ∙ sym d.writes;
-          reply_is = sym (d.replies ∙ replies-at reply e);
+          reply_is = sym (d.replies ∙ replies_at reply e);
           lv_is = f.1 ∙ run.vector (subst HasCommitted (sym f.0) tt)
               ∙ ap (λ (l : List (Key × Value)). lv_of (record (act_in procs w h) { effect = record (effect_of procs h) { writes = l } })) (sym d.writes);
         }
-    freed-as reply v ws e (inr f) =
-        let d = finished-at reply e in
+    freed_as reply v ws e (inr f) =
+        let d = finished_at reply e in
         let reads = f.0 in
         record {
           act = record {
             call = record { call = record { number = h.number; call = h.call }; worker = w; place = unplaced_at h.dep; anchor = 0 };
             effect = record { reads = run.follows.reads; writes = buffered h.machine; reply = d.reply };
           };
-          is = running-shown reads.running;
+          is = running_shown reads.running;
           act_is = subst (λ (s : Standing). FreesBy procs (joined_by s) w (hand_of procs w h) (record {
             call = record { call = record { number = h.number; call = h.call }; worker = w; place = unplaced_at h.dep; anchor = 0 };
             effect = record { reads = run.follows.reads; writes = buffered h.machine; reply = d.reply };
-          })) (sym reads.running) (record { effect = record { reads = run.follows.reads; writes = buffered h.machine; reply = d.reply }; phase = phase-at Running reads.running; ended = d.ended; no_write = reads.none; is = refl });
+          })) (sym reads.running) (record { effect = record { reads = run.follows.reads; writes = buffered h.machine; reply = d.reply }; phase = phase_at Running reads.running; ended = d.ended; no_write = reads.none; is = refl });
           writes_are = f.2 ∙ sym reads.none;
-          reply_is = sym (replies-at reply e);
+          reply_is = sym (replies_at reply e);
           lv_is = f.1 ∙ sym (ap (λ (l : List (Key × Value)). lv_of (record {
             call = record { call = record { number = h.number; call = h.call }; worker = w; place = unplaced_at h.dep; anchor = 0 };
             effect = record { reads = run.follows.reads; writes = l; reply = d.reply };
           })) reads.none);
         }
 
-    free-means : (x : Key) (write : Option Value) → FreeAsked h x write → Frees procs txn x write
-    free-means x write f =
-        let d = freed-as f.reply f.vector f.writes f.finished f.why in
-        let k = first-held x h.held keeps.shaped.ascend f.key in
+    free_means : (x : Key) (write : Option Value) → FreeAsked h x write → Frees procs txn x write
+    free_means x write f =
+        let d = freed_as f.reply f.vector f.writes f.finished f.why in
+        let k = first_held x h.held keeps.shaped.ascend f.key in
         record { hand = hand_of procs w h; act = d.act; mode = k.mode; is = d.is; act_is = d.act_is; held = k.held_in; lowest = k.lowest; write_is = f.write_is ∙ ap (lookup (same_key x)) d.writes_are }
 
-    done-means : (reply : Reply) (v : List ℕ) → DoneAsked h reply v → Finishes procs txn reply v
-    done-means reply v f =
-        let d = freed-as reply v f.writes f.finished f.why in
+    done_means : (reply : Reply) (v : List ℕ) → DoneAsked h reply v → Finishes procs txn reply v
+    done_means reply v f =
+        let d = freed_as reply v f.writes f.finished f.why in
         record { hand = hand_of procs w h; act = d.act; is = d.is; act_is = d.act_is; held = f.held; reply_is = d.reply_is; lv_is = d.lv_is }
 
-    means-at : (a : Action) → Asked h a → Means procs txn a
-    means-at (action.Lock x m) q = lock-means x m q
-    means-at (action.Quit x) q = quit-means x q
-    means-at (action.Commit size) q = commit-means size q
-    means-at action.Post q = post-means q
-    means-at (action.Free x write) q = free-means x write q
-    means-at (action.Done reply v) q = done-means reply v q
-    means-at action.LeftOver q = record { hand = h; is = refl; tries = (keeps.settled.last q).1; held = (keeps.settled.last q).0; gone = ap (λ (s : Standing). shown procs w s h) q }
-    means-at action.Nothing q = absurd (never-nothing procs width h run keeps q)
+    means_at : (a : Action) → Asked h a → Means procs txn a
+    means_at (action.Lock x m) q = lock_means x m q
+    means_at (action.Quit x) q = quit_means x q
+    means_at (action.Commit size) q = commit_means size q
+    means_at action.Post q = post_means q
+    means_at (action.Free x write) q = free_means x write q
+    means_at (action.Done reply v) q = done_means reply v q
+    means_at action.LeftOver q = record { hand = h; is = refl; tries = (keeps.settled.last q).1; held = (keeps.settled.last q).0; gone = ap (λ (s : Standing). shown procs w s h) q }
+    means_at action.Nothing q = absurd (never_nothing procs width h run keeps q)
 
-    pub means-of : Means procs txn (next_by h.standing h)
-    means-of = means-at (next_by h.standing h) (asked-at h (next_by h.standing h) refl)
+    pub means_of : Means procs txn (next_by h.standing h)
+    means_of = means_at (next_by h.standing h) (asked_at h (next_by h.standing h) refl)
 
 -- the core's hand after a lock
-pub locked-in : (w : ℕ) (h new : PlainHand) (value : Value) (dep : List ℕ) →
+pub locked_in : (w : ℕ) (h new : PlainHand) (value : Value) (dep : List ℕ) →
     ((procs : List Proc) (u : ℕ) (l : Key × Mode) → lock_in h ≡ Some l → hand_of procs u new ≡ locked_with (hand_of procs u h) l.0 l.1 value dep) → new.standing ≡ Running →
     (procs : List Proc) (hand : Hand) (x : Key) (m : Mode) → next_by h.standing h ≡ action.Lock x m → shown procs w h.standing h ≡ Some hand →
     shown procs w new.standing new ≡ Some (locked_with hand x m value dep)
-locked-in w h new value dep locked running procs hand x m asks' is =
+locked_in w h new value dep locked running procs hand x m asks' is =
     ap (λ (s : Standing). shown procs w s new) running
-    ∙ ap (λ (a : Hand). Some a) (locked procs w (x, m) (asked-at h (action.Lock x m) asks').lock)
+    ∙ ap (λ (a : Hand). Some a) (locked procs w (x, m) (asked_at h (action.Lock x m) asks').lock)
     ∙ ap (λ (a : Hand). Some (locked_with a x m value dep)) (shows procs w h hand is).is
 
 -- the core's hand once its record has its place
-pub placed-in : (procs : List Proc) (w width : ℕ) (mode : LogMode) (stream start : ℕ) (h new : PlainHand) → stream ≡ w % width → new.standing ≡ Placed →
+pub placed_in : (procs : List Proc) (w width : ℕ) (mode : LogMode) (stream start : ℕ) (h new : PlainHand) → stream ≡ w % width → new.standing ≡ Placed →
     ((procs : List Proc) (u : ℕ) → hand_of procs u new ≡ hand_joined (hand_of procs u h) (theory.Placed (placed_act procs u stream start h)) h.dep) →
     (hand : Hand) → shown procs w h.standing h ≡ Some hand →
     shown procs w new.standing new ≡ Some (hand_joined hand (theory.Placed (act_at procs (record { worker = w; width = width; mode = mode; hand = Some h }) start hand)) hand.dep)
-placed-in procs w width mode stream start h new own stands placed hand is =
+placed_in procs w width mode stream start h new own stands placed hand is =
     ap (λ (s : Standing). shown procs w s new) stands
     ∙ ap (λ (a : Hand). Some a) (placed procs w)
     ∙ ap (λ (k : ℕ). Some (hand_joined (hand_of procs w h) (theory.Placed (placed_act procs w k start h)) h.dep)) own
     ∙ ap (λ (a : Hand). Some (hand_joined a (theory.Placed (act_at procs (record { worker = w; width = width; mode = mode; hand = Some h }) start a)) a.dep)) (shows procs w h hand is).is
 
 -- the core's worker after a key was given back
-pub quit-in : (procs : List Proc) (w width : ℕ) (h : PlainHand) (after : Worker → Worker) →
+pub quit_in : (procs : List Proc) (w width : ℕ) (h : PlainHand) (after : Worker → Worker) →
     ((wk : Worker) (x : Key) → next_by h.standing h ≡ action.Quit x → after wk ≡ settled (length h.dep) wk (hand_quit (hand_of procs w h) x h.leaves)) → length h.dep ≡ width →
     (wk : Worker) (hand : Hand) (x : Key) → next_by h.standing h ≡ action.Quit x → shown procs w h.standing h ≡ Some hand → after wk ≡ settled width wk (hand_quit hand x h.leaves)
-quit-in procs w width h after quit wide wk hand x asks' is =
+quit_in procs w width h after quit wide wk hand x asks' is =
     quit wk x asks' ∙ ap (λ (n : ℕ). settled n wk (hand_quit (hand_of procs w h) x h.leaves)) wide ∙ ap (λ (a : Hand). settled width wk (hand_quit a x h.leaves)) (shows procs w h hand is).is
 
 -- the core's hand after a key was freed
-pub freed-in : (procs : List Proc) (w : ℕ) (h : PlainHand) (after : Option Hand) →
+pub freed_in : (procs : List Proc) (w : ℕ) (h : PlainHand) (after : Option Hand) →
     ((x : Key) (write : Option Value) (act : Act theory.Txn) → next_by h.standing h ≡ action.Free x write → FreesBy procs (joined_by h.standing) w (hand_of procs w h) act →
     after ≡ Some (hand_freed (hand_joined (hand_of procs w h) (theory.Freeing act) h.dep) x)) →
     (hand : Hand) (act : Act theory.Txn) (x : Key) (write : Option Value) → next_by h.standing h ≡ action.Free x write → shown procs w h.standing h ≡ Some hand →
     FreesBy procs (joined_by h.standing) w hand act → after ≡ Some (hand_freed (hand_joined hand (theory.Freeing act) hand.dep) x)
-freed-in procs w h after freed hand act x write asks' is frees =
+freed_in procs w h after freed hand act x write asks' is frees =
     let e = (shows procs w h hand is).is in
     freed x write act asks' (subst (λ (a : Hand). FreesBy procs (joined_by h.standing) w a act) (sym e) frees) ∙ ap (λ (a : Hand). Some (hand_freed (hand_joined a (theory.Freeing act) a.dep) x)) e
 
 -- what is kept of a call that has joined the committed ones, or is read-only
 
-spot-is : (ws : List (Key × Value)) (h : PlainHand) (t : theory.Txn) → t.place.stream ≡ h.stream → t.place.start ≡ h.start → t.place.past ≡ h.past → t.anchor ≡ h.anchor →
+spot_is : (ws : List (Key × Value)) (h : PlainHand) (t : theory.Txn) → t.place.stream ≡ h.stream → t.place.start ≡ h.start → t.place.past ≡ h.past → t.anchor ≡ h.anchor →
     spot_by ws h ≡ spot_of (updating ws) t
-spot-is [] h t a b c d = refl
-spot-is (x ∷ ws) h t a b c d = rw (a, b, c, d) refl
+spot_is [] h t a b c d = refl
+spot_is (x ∷ ws) h t a b c d = rw (a, b, c, d) refl
 
-pub kept-joined : (procs : List Proc) (w : ℕ) (h : PlainHand) (hand : Hand) (act : Act theory.Txn) → IsRunBy procs h → shown procs w h.standing h ≡ Some hand → act_of hand.phase ≡ Some act →
+pub joined_is_kept : (procs : List Proc) (w : ℕ) (h : PlainHand) (hand : Hand) (act : Act theory.Txn) → IsRunBy procs h → shown procs w h.standing h ≡ Some hand → act_of hand.phase ≡ Some act →
     kept_by h.standing h ≡ Some (committed_of act)
-kept-joined procs w h hand act run is acts = at h.standing refl
+joined_is_kept procs w h hand act run is acts = at h.standing refl
   where
     there : act_of (phase_in procs w h.standing h) ≡ Some act
     there = ap (λ (a : Hand). act_of a.phase) (shows procs w h hand is).is ∙ acts
@@ -273,7 +273,7 @@ kept-joined procs w h hand act run is acts = at h.standing refl
           dep = h.dep;
           lv = lv (updating (buffered h.machine)) (record { stream = h.stream; start = h.start; past = h.past; dep = h.dep });
           spot = s;
-        })) (spot-is (buffered h.machine) h (act_in procs w h).call refl refl refl refl)
+        })) (spot_is (buffered h.machine) h (act_in procs w h).call refl refl refl refl)
         ∙ ap (λ (ws : List (Key × Value)). Some (record {
           number = h.number;
           reply = (effect_of procs h).reply;
@@ -295,9 +295,9 @@ kept-joined procs w h hand act run is acts = at h.standing refl
     at Freeing e = finished (subst HasCommitted (sym e) tt) ∙ same Freeing e refl
     at LeftOver e = absurd (none LeftOver e refl)
 
-pub kept-reading : (procs : List Proc) (w : ℕ) (h : PlainHand) (hand : Hand) (act : Act theory.Txn) → IsRunBy procs h → is_sorted key_cmp (buffered h.machine) ≡ true →
+pub reading_is_kept : (procs : List Proc) (w : ℕ) (h : PlainHand) (hand : Hand) (act : Act theory.Txn) → IsRunBy procs h → is_sorted key_cmp (buffered h.machine) ≡ true →
     shown procs w h.standing h ≡ Some hand → Reads procs w hand act → kept_by h.standing h ≡ Some (committed_of act)
-kept-reading procs w h hand act run sorted is reads = at h.standing refl
+reading_is_kept procs w h hand act run sorted is reads = at h.standing refl
   where
     s : Shows procs w h hand
     s = shows procs w h hand is
@@ -311,11 +311,11 @@ kept-reading procs w h hand act run sorted is reads = at h.standing refl
     -- it has ended, so it has no lock left
     finished : (want : Want) → next_want h.machine ≡ want → h.standing ≡ Running → IsFinished want
     finished (Read k) e r =
-        let l : lock_of (stage procs h.call h.seen) h.held ≡ Some (k, mode.Read) = lock-is procs h run (run.holds r) sorted (Read k) e in
+        let l : lock_of (stage procs h.call h.seen) h.held ≡ Some (k, mode.Read) = lock_is procs h run (run.holds r) sorted (Read k) e in
         let none : lock_of (stage procs h.call h.seen) h.held ≡ None = ap (λ (t : Stage). lock_of t h.held) ended ∙ ap (λ (ws : List (Key × Value)). write_want (unlocked ws h.held)) reads.no_write in
         let bad : Some (k, mode.Read) ≡ None = sym l ∙ none in cc
     finished (Write k) e r =
-        let l : lock_of (stage procs h.call h.seen) h.held ≡ Some (k, mode.Write) = lock-is procs h run (run.holds r) sorted (Write k) e in
+        let l : lock_of (stage procs h.call h.seen) h.held ≡ Some (k, mode.Write) = lock_is procs h run (run.holds r) sorted (Write k) e in
         let none : lock_of (stage procs h.call h.seen) h.held ≡ None = ap (λ (t : Stage). lock_of t h.held) ended ∙ ap (λ (ws : List (Key × Value)). write_want (unlocked ws h.held)) reads.no_write in
         let bad : Some (k, mode.Write) ≡ None = sym l ∙ none in cc
     finished (Finished reply) e r = tt
@@ -347,18 +347,18 @@ kept-reading procs w h hand act run sorted is reads = at h.standing refl
     at LeftOver e = absurd (s.there e)
 
 -- the record of a call that was prepared, as that of the act that it becomes
-pub record-is : (procs : List Proc) (w width : ℕ) (mode : LogMode) (start : ℕ) (h : PlainHand) (hand : Hand) → IsRunBy procs h → IsFinished (next_want h.machine) → shown procs w h.standing h ≡ Some hand →
+pub record_is : (procs : List Proc) (w width : ℕ) (mode : LogMode) (start : ℕ) (h : PlainHand) (hand : Hand) → IsRunBy procs h → IsFinished (next_want h.machine) → shown procs w h.standing h ≡ Some hand →
     record_of mode h ≡ entry_of mode (act_at procs (record { worker = w; width = width; mode = mode; hand = Some h }) start hand)
-record-is procs w width Values start h hand run finished is =
+record_is procs w width Values start h hand run finished is =
     let e = effected procs h run finished in
     ap (λ (ws : List (Key × Value)). Written h.number h.anchor h.dep ws) (sym e.writes)
     ∙ ap (λ (a : Hand). Written a.call.number h.anchor a.dep (effect_in (stage procs a.call.call a.seen)).writes) (shows procs w h hand is).is
-record-is procs w width Commands start h hand run finished is = ap (λ (a : Hand). Command a.call.number h.anchor a.dep a.call.call) (shows procs w h hand is).is
+record_is procs w width Commands start h hand run finished is = ap (λ (a : Hand). Command a.call.number h.anchor a.dep a.call.call) (shows procs w h hand is).is
 
 -- the vector of a call that frees its keys
-pub freed-lv : (procs : List Proc) (w : ℕ) (h : PlainHand) (hand : Hand) (act : Act theory.Txn) → IsRunBy procs h → shown procs w h.standing h ≡ Some hand → FreesBy procs (joined_by h.standing) w hand act →
+pub freed_lv : (procs : List Proc) (w : ℕ) (h : PlainHand) (hand : Hand) (act : Act theory.Txn) → IsRunBy procs h → shown procs w h.standing h ≡ Some hand → FreesBy procs (joined_by h.standing) w hand act →
     lv_by h.standing h ≡ lv_of act
-freed-lv procs w h hand act run is frees = at h.standing refl frees
+freed_lv procs w h hand act run is frees = at h.standing refl frees
   where
     s : Shows procs w h hand
     s = shows procs w h hand is
@@ -382,23 +382,23 @@ freed-lv procs w h hand act run is frees = at h.standing refl frees
     at LeftOver e f = absurd (s.there e)
 
 -- the vector of a call that has joined the committed ones is that of its place
-pub lv-kept : (procs : List Proc) (h : PlainHand) → IsRunBy procs h → HasCommitted h.standing → h.lv ≡ lv_at h.dep (spot_by (buffered h.machine) h)
-lv-kept procs h run joined = run.vector joined ∙ at (buffered h.machine)
+pub lv_kept : (procs : List Proc) (h : PlainHand) → IsRunBy procs h → HasCommitted h.standing → h.lv ≡ lv_at h.dep (spot_by (buffered h.machine) h)
+lv_kept procs h run joined = run.vector joined ∙ at (buffered h.machine)
   where
     at : (ws : List (Key × Value)) → lv (updating ws) (record { stream = h.stream; start = h.start; past = h.past; dep = h.dep }) ≡ lv_at h.dep (spot_by ws h)
     at [] = refl
     at (w ∷ ws) = refl
 
 -- what is put of a call that has joined the committed ones
-pub joined-put : (h : PlainHand) (said : Reply) (spot : Option Spot) → next_want h.machine ≡ Finished said → spot ≡ spot_by (buffered h.machine) h
+pub joined_put : (h : PlainHand) (said : Reply) (spot : Option Spot) → next_want h.machine ≡ Finished said → spot ≡ spot_by (buffered h.machine) h
     → h.lv ≡ lv_at h.dep (spot_by (buffered h.machine) h)
     → record { number = h.number; reply = said; dep = h.dep; lv = lv_at h.dep spot; spot = spot } ∷ [] ≡ listed (kept_joined (next_want h.machine) h)
-joined-put h said spot want is vector =
+joined_put h said spot want is vector =
     (λ i. record { number = h.number; reply = said; dep = h.dep; lv = lv_at h.dep (is i); spot = is i } ∷ [])
     ∙ (λ i. record { number = h.number; reply = said; dep = h.dep; lv = sym vector i; spot = spot_by (buffered h.machine) h } ∷ [])
     ∙ ap (λ (w : Want). listed (kept_joined w h)) (sym want)
 
 -- what is put of a call that has finished and writes nothing
-pub reading-put : (h : PlainHand) (said : Reply) → next_want h.machine ≡ Finished said → buffered h.machine ≡ []
+pub reading_put : (h : PlainHand) (said : Reply) → next_want h.machine ≡ Finished said → buffered h.machine ≡ []
     → record { number = h.number; reply = said; dep = h.dep; lv = h.dep; spot = None } ∷ [] ≡ listed (kept_reading (next_want h.machine) (buffered h.machine) h)
-reading-put h said want none = λ i. listed (kept_reading (sym want i) (sym none i) h)
+reading_put h said want none = λ i. listed (kept_reading (sym want i) (sym none i) h)

@@ -1,11 +1,11 @@
-use Rattle.tau_base.proofs.Vectors.{join-left, join-right, join-below}
+use Rattle.tau_base.proofs.Vectors.{join_left, join_right, join_below}
 use Rattle.tau_base.proofs.laws.join_is_least_upper_bound.Goals as goal
 
 pub returns-clause-left : goal.returns-clause-left
-returns-clause-left c = join-left
+returns-clause-left c = join_left
 
 pub returns-clause-right : goal.returns-clause-right
-returns-clause-right c = join-right
+returns-clause-right c = join_right
 
 pub returns-clause-least : goal.returns-clause-least
-returns-clause-least c = join-below
+returns-clause-least c = join_below

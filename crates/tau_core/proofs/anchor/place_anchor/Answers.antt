@@ -5,24 +5,25 @@ use Rattle.tau_outbox.specs.Pieces.{end_of}
 use Rattle.tau_core.specs.Plain.{PlainStream}
 use Rattle.tau_core.specs.State.{Plain, plain}
 use Rattle.tau_core.specs.Anchors.{Reserves}
-use Rattle.tau_core.proofs.Found.{found-part, part_in, part-within}
-use Rattle.tau_core.proofs.Lists.{some-at, set-got}
-use Rattle.tau_core.proofs.Anchors.{own-end}
+use Rattle.tau_core.proofs.Found.{found_part, part_in, part_within}
+use Rattle.tau_core.proofs.Lists.{set_got}
+use Rattle.tau_core.proofs.Anchors.{own_end}
 use Rattle.tau_core.proofs.anchor.place_anchor.Goals as goal
+use Rattle.tau_base.proofs.Lists.{some_at}
 
 reserves : (p : Plain) (j : ℕ) (stream : PlainStream) → slice_get p.streams j ≡ Some stream → Reserves j p p
-reserves p j stream is = record { stream = stream; own = stream.own; room = stream.room; is = is; pieces = refl; after = ap (λ (l : List PlainStream). record p { streams = l }) (sym (set-got p.streams j stream is)) }
+reserves p j stream is = record { stream = stream; own = stream.own; room = stream.room; is = is; pieces = refl; after = ap (λ (l : List PlainStream). record p { streams = l }) (sym (set_got p.streams j stream is)) }
 
 pub returns-in_default : goal.returns-in_default
 returns-in_default c =
-    let found_one = some-at c.args.state.now.streams.items c.args.stream (part-within c.args.state.now c.args.stream c.requires.stood.2.sound c.requires.there) in
+    let found_one = some_at c.args.state.now.streams.items c.args.stream (part_within c.args.state.now c.args.stream c.requires.stood.2.sound c.requires.there) in
     (c.requires.going, reserves (plain c.args.state.now) c.args.stream found_one.0 found_one.1)
 
 pub post-requires-clause-order : goal.post-requires-clause-order
 post-requires-clause-order c =
     let g = c.requires.stood in
-    let is = found-part c.args.state.now c.args.stream c.index_mut-part.result.now c.part.inside g.2.sound c.requires.there c.index_mut-part.ensures.value c.part.view_is in
-    let low = own-end (plain c.args.state.now) g.0 g.1 g.2 c.args.stream c.requires.there (part_in c.part.inside) is in
+    let is = found_part c.args.state.now c.args.stream c.index_mut-part.result.now c.part.inside g.2.sound c.requires.there c.index_mut-part.ensures.value c.part.view_is in
+    let low = own_end (plain c.args.state.now) g.0 g.1 g.2 c.args.stream c.requires.there (part_in c.part.inside) is in
     let start = c.get-start.ensures.same in
     subst (λ (l : List Piece). end_of 0 l ≤ c.get-start.result) (sym c.reserve.ensures.pieces) (omega arith)
 
@@ -30,7 +31,7 @@ pub returns-in-Ok-keep : goal.returns-in-Ok-keep
 returns-in-Ok-keep c =
     let p : Plain = plain c.args.state.now in
     let g = c.requires.stood in
-    let is = found-part c.args.state.now c.args.stream c.index_mut-part.result.now c.part.inside g.2.sound c.requires.there c.index_mut-part.ensures.value c.part.view_is in
+    let is = found_part c.args.state.now c.args.stream c.index_mut-part.result.now c.part.inside g.2.sound c.requires.there c.index_mut-part.ensures.value c.part.view_is in
     let start = c.get-start.ensures.same in
     let past : c.get-start.result + c.len.result ≡ slice_index p.ends c.args.stream + length c.in-Ok.bytes.items = (let e = c.len.ensures in let o = c.in-Ok.bytes.ok in omega arith) in (
       c.requires.going,
@@ -53,14 +54,14 @@ returns-in-Ok-keep c =
 pub returns-then-is_err : goal.returns-then-is_err
 returns-then-is_err c =
     let g = c.requires.stood in
-    let is = found-part c.args.state.now c.args.stream c.index_mut-part.result.now c.part.inside g.2.sound c.requires.there c.index_mut-part.ensures.value c.part.view_is in
+    let is = found_part c.args.state.now c.args.stream c.index_mut-part.result.now c.part.inside g.2.sound c.requires.there c.index_mut-part.ensures.value c.part.view_is in
     (c.requires.going, record { stream = part_in c.part.inside; own = c.reserve.new.self; room = (part_in c.part.inside).room; is = is; pieces = c.reserve.ensures.pieces; after = refl })
 
 pub returns-in-Err : goal.returns-in-Err
 returns-in-Err c =
     let p : Plain = plain c.args.state.now in
     let g = c.requires.stood in
-    let is = found-part c.args.state.now c.args.stream c.index_mut-part.result.now c.part.inside g.2.sound c.requires.there c.index_mut-part.ensures.value c.part.view_is in (
+    let is = found_part c.args.state.now c.args.stream c.index_mut-part.result.now c.part.inside g.2.sound c.requires.there c.index_mut-part.ensures.value c.part.view_is in (
       c.requires.going,
       record {
         stream = part_in c.part.inside;
@@ -76,5 +77,5 @@ pub returns-then-number-ge-LAST_ANCHOR : goal.returns-then-number-ge-LAST_ANCHOR
 returns-then-number-ge-LAST_ANCHOR c =
     let p : Plain = plain c.args.state.now in
     let g = c.requires.stood in
-    let is = found-part c.args.state.now c.args.stream c.index_mut-part.result.now c.part.inside g.2.sound c.requires.there c.index_mut-part.ensures.value c.part.view_is in
+    let is = found_part c.args.state.now c.args.stream c.index_mut-part.result.now c.part.inside g.2.sound c.requires.there c.index_mut-part.ensures.value c.part.view_is in
     (c.requires.going, record { stream = part_in c.part.inside; own = c.part.inside.own; room = (part_in c.part.inside).room; is = is; pieces = refl; after = ap (λ (x : PlainStream). record p { streams = slice_set p.streams c.args.stream x }) (sym c.part.view_is) })

@@ -4,32 +4,33 @@ use Rattle.tau_core.specs.State.{Plain, plain}
 use Rattle.tau_core.specs.Stands.{anchors_at}
 use Rattle.tau_core.specs.Pieces.{Names}
 use Rattle.tau_core.specs.Commits.{MakesRoom}
-use Rattle.tau_core.proofs.Lists.{some-at, set-got}
+use Rattle.tau_core.proofs.Lists.{set_got}
 use Rattle.tau_txn.specs.declared.action.Action.TheVariants as action
-use Rattle.tau_core.proofs.PhaseLaws.{means-phase}
+use Rattle.tau_core.proofs.PhaseLaws.{means_phase}
 use Rattle.tau_core.proofs.commit.place.Goals as goal
+use Rattle.tau_base.proofs.Lists.{some_at}
 
-no-room : (p : Plain) (w : ℕ) → w < length p.seats → MakesRoom w p p
-no-room p w lt =
-    let found = some-at p.seats w lt in
-    record { seat = found.0; outbox = found.0.outbox; is = found.1; pieces = refl; room = (omega arith); after = ap (λ (l : List PlainSeat). record p { seats = l }) (sym (set-got p.seats w found.0 found.1)) }
+no_room : (p : Plain) (w : ℕ) → w < length p.seats → MakesRoom w p p
+no_room p w lt =
+    let found = some_at p.seats w lt in
+    record { seat = found.0; outbox = found.0.outbox; is = found.1; pieces = refl; room = (omega arith); after = ap (λ (l : List PlainSeat). record p { seats = l }) (sym (set_got p.seats w found.0 found.1)) }
 
 pub returns-then-start : goal.returns-then-start
 returns-then-start c = (
-  no-room (plain c.args.state.now) c.args.worker (let e = c.requires.sound.seats in let l = c.requires.there in omega arith),
+  no_room (plain c.args.state.now) c.args.worker (let e = c.requires.sound.seats in let l = c.requires.there in omega arith),
   λ s e.
       let o = c.requires.sound.seat c.args.worker s e in
       let at = c.requires.at s e in
-      means-phase c.args.state.now.load.procs s.txn (action.Commit at.0) at.2 o.leaving o.stays,
+      means_phase c.args.state.now.load.procs s.txn (action.Commit at.0) at.2 o.leaving o.stays,
 )
 
 pub returns-then-not-newest : goal.returns-then-not-newest
 returns-then-not-newest c = (
-  no-room (plain c.args.state.now) c.args.worker (let e = c.requires.sound.seats in let l = c.requires.there in omega arith),
+  no_room (plain c.args.state.now) c.args.worker (let e = c.requires.sound.seats in let l = c.requires.there in omega arith),
   λ s e.
       let o = c.requires.sound.seat c.args.worker s e in
       let at = c.requires.at s e in
-      means-phase c.args.state.now.load.procs s.txn (action.Commit at.0) at.2 o.leaving o.stays,
+      means_phase c.args.state.now.load.procs s.txn (action.Commit at.0) at.2 o.leaving o.stays,
 )
 
 pub place_above-requires-clause-names : goal.place_above-requires-clause-names

@@ -15,83 +15,83 @@ use Rattle.tau_machine.specs.Worker.{hand_freed, hand_joined}
 use Rattle.tau_shard.specs.Read.{shard_of}
 use Rattle.tau_core.specs.Plain.{PlainSeat}
 use Rattle.tau_core.specs.State.{Plain, plain}
-use Rattle.tau_core.proofs.Found.{seat_in, found-seat, found-shard-of}
-use Rattle.tau_core.proofs.Hands.{some-hand, sound-on}
-use Rattle.tau_core.proofs.Holders.{copied-some, is-held, is-written}
-use Rattle.tau_core.proofs.Joins.{kept-into, joins-new, none-open, joined-none, reads-phase, rooms-new, room-new}
+use Rattle.tau_core.proofs.Found.{seat_in, found_seat, found_shard_of}
+use Rattle.tau_core.proofs.Hands.{some_hand, sound_on}
+use Rattle.tau_core.proofs.Holders.{copied_some, is_held, is_written}
+use Rattle.tau_core.proofs.Joins.{kept_into, joins_new, none_open, joined_none, reads_phase, rooms_new, room_new}
 use Rattle.tau_core.proofs.free.free_first.Goals as goal
 
 pub commit_into-requires : goal.commit_into-requires
 commit_into-requires c =
     let g = c.requires.stood in
-    let is = found-seat c.args.state.now c.args.worker c.index_mut-seat.result.now c.seat.inside g.2.sound c.requires.there c.index_mut-seat.ensures.value c.seat.view_is in
+    let is = found_seat c.args.state.now c.args.worker c.index_mut-seat.result.now c.seat.inside g.2.sound c.requires.there c.index_mut-seat.ensures.value c.seat.view_is in
     let m = (c.requires.at (seat_in c.seat.inside) is (seat_in c.seat.inside) is).1 in
     let let_go : PlainSeat = record (seat_in c.seat.inside) { txn = record c.seat.inside.txn { hand = None } } in
     record {
-      room = room-new (plain c.args.state.now) c.args.worker (seat_in c.seat.inside) let_go m.hand m.act is m.is (none-open c.args.state.now.load let_go refl)
-          (reads-phase c.args.state.now.load.procs (has_joined c.seat.inside.txn) c.seat.inside.txn.worker m.hand m.act (c.requires.joined (seat_in c.seat.inside) is) m.act_is) g.2.sound.room;
+      room = room_new (plain c.args.state.now) c.args.worker (seat_in c.seat.inside) let_go m.hand m.act is m.is (none_open c.args.state.now.load let_go refl)
+          (reads_phase c.args.state.now.load.procs (has_joined c.seat.inside.txn) c.seat.inside.txn.worker m.hand m.act (c.requires.joined (seat_in c.seat.inside) is) m.act_is) g.2.sound.room;
     }
 
 pub lv_ref-requires : goal.lv_ref-requires
 lv_ref-requires c =
     let g = c.requires.stood in
-    let is = found-seat c.args.state.now c.args.worker c.index_mut-seat.result.now c.seat.inside g.2.sound c.requires.there c.index_mut-seat.ensures.value c.seat.view_is in
+    let is = found_seat c.args.state.now c.args.worker c.index_mut-seat.result.now c.seat.inside g.2.sound c.requires.there c.index_mut-seat.ensures.value c.seat.view_is in
     let m = (c.requires.at (seat_in c.seat.inside) is (seat_in c.seat.inside) is).1 in
-    some-hand c.args.state.now.load.procs c.seat.inside.txn m.hand m.is
+    some_hand c.args.state.now.load.procs c.seat.inside.txn m.hand m.is
 
 pub free_by-requires-clause-held : goal.free_by-requires-clause-held
 free_by-requires-clause-held c =
     let g = c.requires.stood in
-    let is = found-seat c.args.state.now c.args.worker c.index_mut-seat.result.now c.seat.inside g.2.sound c.requires.there c.index_mut-seat.ensures.value c.seat.view_is in
+    let is = found_seat c.args.state.now c.args.worker c.index_mut-seat.result.now c.seat.inside g.2.sound c.requires.there c.index_mut-seat.ensures.value c.seat.view_is in
     let at = c.requires.at (seat_in c.seat.inside) is (seat_in c.seat.inside) is in
     let m = at.1 in
-    let shard_is = found-shard-of c.args.state.now c.args.key c.shard_of.result c.from.result c.index_mut-part.result.now g.2.sound c.from.ensures c.shard_of.ensures.same c.shard_of.ensures.small c.index_mut-part.ensures.value in
-    is-held (plain c.args.state.now) g.0 g.1 g.2 c.args.worker (seat_in c.seat.inside) m.hand c.index_mut-part.result.now c.args.key m.mode is m.is shard_is m.held
+    let shard_is = found_shard_of c.args.state.now c.args.key c.shard_of.result c.from.result c.index_mut-part.result.now g.2.sound c.from.ensures c.shard_of.ensures.same c.shard_of.ensures.small c.index_mut-part.ensures.value in
+    is_held (plain c.args.state.now) g.0 g.1 g.2 c.args.worker (seat_in c.seat.inside) m.hand c.index_mut-part.result.now c.args.key m.mode is m.is shard_is m.held
 
 pub free_by-requires-clause-writes : goal.free_by-requires-clause-writes
 free_by-requires-clause-writes c =
     let g = c.requires.stood in
-    let is = found-seat c.args.state.now c.args.worker c.index_mut-seat.result.now c.seat.inside g.2.sound c.requires.there c.index_mut-seat.ensures.value c.seat.view_is in
+    let is = found_seat c.args.state.now c.args.worker c.index_mut-seat.result.now c.seat.inside g.2.sound c.requires.there c.index_mut-seat.ensures.value c.seat.view_is in
     let at = c.requires.at (seat_in c.seat.inside) is (seat_in c.seat.inside) is in
     let m = at.1 in
-    let shard_is = found-shard-of c.args.state.now c.args.key c.shard_of.result c.from.result c.index_mut-part.result.now g.2.sound c.from.ensures c.shard_of.ensures.same c.shard_of.ensures.small c.index_mut-part.ensures.value in
-    λ some. is-written (plain c.args.state.now) g.0 g.1 g.2 c.args.worker (seat_in c.seat.inside) m.hand c.index_mut-part.result.now c.args.key m.mode is m.is shard_is m.held m.act (has_joined c.seat.inside.txn) m.act_is
-    (subst (λ (x : Option Value). IsSome x) (c.written_at.ensures ∙ m.write_is) (copied-some c.written_at.result some))
+    let shard_is = found_shard_of c.args.state.now c.args.key c.shard_of.result c.from.result c.index_mut-part.result.now g.2.sound c.from.ensures c.shard_of.ensures.same c.shard_of.ensures.small c.index_mut-part.ensures.value in
+    λ some. is_written (plain c.args.state.now) g.0 g.1 g.2 c.args.worker (seat_in c.seat.inside) m.hand c.index_mut-part.result.now c.args.key m.mode is m.is shard_is m.held m.act (has_joined c.seat.inside.txn) m.act_is
+    (subst (λ (x : Option Value). IsSome x) (c.written_at.ensures ∙ m.write_is) (copied_some c.written_at.result some))
 
 pub went-requires-clause-rest : goal.went-requires-clause-rest
 went-requires-clause-rest c =
     let g = c.requires.stood in
-    let is = found-seat c.args.state.now c.args.worker c.index_mut-seat.result.now c.seat.inside g.2.sound c.requires.there c.index_mut-seat.ensures.value c.seat.view_is in
+    let is = found_seat c.args.state.now c.args.worker c.index_mut-seat.result.now c.seat.inside g.2.sound c.requires.there c.index_mut-seat.ensures.value c.seat.view_is in
     let at = c.requires.at (seat_in c.seat.inside) is (seat_in c.seat.inside) is in
     subst (λ (a : Action). IsForWent a) (sym at.0) tt
 
 pub went-requires-clause-run : goal.went-requires-clause-run
 went-requires-clause-run c =
     let g = c.requires.stood in
-    let is = found-seat c.args.state.now c.args.worker c.index_mut-seat.result.now c.seat.inside g.2.sound c.requires.there c.index_mut-seat.ensures.value c.seat.view_is in
+    let is = found_seat c.args.state.now c.args.worker c.index_mut-seat.result.now c.seat.inside g.2.sound c.requires.there c.index_mut-seat.ensures.value c.seat.view_is in
     let o = g.2.sound.seat c.args.worker (seat_in c.seat.inside) is in
     o.runs
 
 pub returns : goal.returns
 returns c =
     let g = c.requires.stood in
-    let is = found-seat c.args.state.now c.args.worker c.index_mut-seat.result.now c.seat.inside g.2.sound c.requires.there c.index_mut-seat.ensures.value c.seat.view_is in
+    let is = found_seat c.args.state.now c.args.worker c.index_mut-seat.result.now c.seat.inside g.2.sound c.requires.there c.index_mut-seat.ensures.value c.seat.view_is in
     let o = g.2.sound.seat c.args.worker (seat_in c.seat.inside) is in
     let at = c.requires.at (seat_in c.seat.inside) is (seat_in c.seat.inside) is in
     let m = at.1 in
     let number : c.from.result ≡ shard_number c.args.key = c.from.ensures ∙ c.shard_of.ensures.same in
-    let shard_is = found-shard-of c.args.state.now c.args.key c.shard_of.result c.from.result c.index_mut-part.result.now g.2.sound c.from.ensures c.shard_of.ensures.same c.shard_of.ensures.small c.index_mut-part.ensures.value in
+    let shard_is = found_shard_of c.args.state.now c.args.key c.shard_of.result c.from.result c.index_mut-part.result.now g.2.sound c.from.ensures c.shard_of.ensures.same c.shard_of.ensures.small c.index_mut-part.ensures.value in
     let p : Plain = plain c.args.state.now in
     let new : PlainSeat = record (seat_in c.seat.inside) { txn = c.went.new.self } in
     let k : Hand = hand_freed (hand_joined m.hand (Freeing m.act) m.hand.dep) c.args.key in
     let left = c.went.ensures.freed m.hand m.act c.args.key (written_in c.seat.inside.txn c.args.key) at.0 m.is m.act_is in
-    let kept = kept-into c.args.state.now.load.procs c.seat.inside.txn m.hand m.act (has_joined c.seat.inside.txn) p.committed c.commit_into.new.out.items m.act_is
+    let kept = kept_into c.args.state.now.load.procs c.seat.inside.txn m.hand m.act (has_joined c.seat.inside.txn) p.committed c.commit_into.new.out.items m.act_is
     (λ a e. c.commit_into.ensures.joined c.args.state.now.load.procs m.hand a o.runs m.is e) (λ a e. c.commit_into.ensures.reading c.args.state.now.load.procs m.hand a o.runs m.is e) in
     let write = c.written_at.ensures ∙ m.write_is in
     let vector : c.lv_ref.result.now ≡ lv_of m.act = c.lv_ref.ensures.frees c.args.state.now.load.procs m.hand m.act o.runs m.is m.act_is in
     let frees : shard_of c.free_by.new.self ≡ shard_freed (shard_of c.index_mut-part.result.now) c.args.worker c.args.key (lv_of m.act) (lookup (same_key c.args.key) m.act.effect.writes) =
     c.free_by.ensures ∙ (λ i. shard_freed (shard_of c.index_mut-part.result.now) c.args.worker c.args.key (vector i) (write i)) in
-    let sound = sound-on c.args.state.now.load c.args.worker (seat_in c.seat.inside) new m.hand k o m.is refl c.went.ensures.same left refl c.went.ensures.runs (c.went.ensures.stays o.leaving) refl in
+    let sound = sound_on c.args.state.now.load c.args.worker (seat_in c.seat.inside) new m.hand k o m.is refl c.went.ensures.same left refl c.went.ensures.runs (c.went.ensures.stays o.leaving) refl in
     record {
       seat = seat_in c.seat.inside;
       shard = c.index_mut-part.result.now;
@@ -106,13 +106,13 @@ returns c =
       is = is;
       shard_is = shard_is;
       hand_is = m.is;
-      joins = joins-new c.args.state.now.load c.args.worker m.hand m.act (has_joined c.seat.inside.txn) c.seat.inside.txn o.worker (c.requires.joined (seat_in c.seat.inside) is) m.act_is;
+      joins = joins_new c.args.state.now.load c.args.worker m.hand m.act (has_joined c.seat.inside.txn) c.seat.inside.txn o.worker (c.requires.joined (seat_in c.seat.inside) is) m.act_is;
       held = m.held;
       lowest = m.lowest;
       frees = frees;
       left = left;
       others = refl;
       sound = sound;
-      rooms = rooms-new p c.args.worker (seat_in c.seat.inside) new m.hand m.act is m.is (joined-none c.args.state.now.load new k m.act left refl) c.commit_into.new.out.room (reads-phase c.args.state.now.load.procs (has_joined c.seat.inside.txn) c.seat.inside.txn.worker m.hand m.act (c.requires.joined (seat_in c.seat.inside) is) m.act_is) g.2.sound.room c.commit_into.ensures.room;
+      rooms = rooms_new p c.args.worker (seat_in c.seat.inside) new m.hand m.act is m.is (joined_none c.args.state.now.load new k m.act left refl) c.commit_into.new.out.room (reads_phase c.args.state.now.load.procs (has_joined c.seat.inside.txn) c.seat.inside.txn.worker m.hand m.act (c.requires.joined (seat_in c.seat.inside) is) m.act_is) g.2.sound.room c.commit_into.ensures.room;
       after = ap (λ (x : ℕ × List Committed). record p { seats = slice_set p.seats c.args.worker new; shards = slice_set p.shards x.0 c.free_by.new.self; committed = x.1; room = c.commit_into.new.out.room }) (λ i. (number i, kept i));
     }

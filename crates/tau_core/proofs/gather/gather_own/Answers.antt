@@ -3,19 +3,19 @@ use Rattle.std.specs.Prelude.{slice_index, slice_set, vec_capacity, vec_len}
 use Rattle.tau_outbox.specs.Pieces.{bytes_of}
 use Rattle.tau_outbox.specs.Gather.{run}
 use Rattle.tau_core.specs.State.{Plain, plain}
-use Rattle.tau_core.proofs.Found.{found-part, part_in}
-use Rattle.tau_core.proofs.Spellings.{moves-of}
-use Rattle.tau_core.proofs.GathersOwn.{own-bound}
-use Rattle.tau_core.proofs.GathersAll.{own-fits, own-roomy}
-use Rattle.tau_core.proofs.GathersOn.{next-own}
+use Rattle.tau_core.proofs.Found.{found_part, part_in}
+use Rattle.tau_core.proofs.Spellings.{moves_of}
+use Rattle.tau_core.proofs.GathersOwn.{own_bound}
+use Rattle.tau_core.proofs.GathersAll.{own_fits, own_roomy}
+use Rattle.tau_core.proofs.GathersOn.{next_own}
 use Rattle.tau_core.proofs.gather.gather_own.Goals as goal
 
 pub gather_reserved-upto-requires : goal.gather_reserved-upto-requires
 gather_reserved-upto-requires c =
     let p : Plain = plain c.args.state.now in
     let g = c.requires.stood in
-    let is = found-part c.args.state.now c.args.stream c.index_mut-part.result.now c.part.inside g.2.sound c.requires.there c.index_mut-part.ensures.value c.part.view_is in
-    let fits = own-fits p g c.args.stream c.requires.there c.requires.going c.requires.roomy (part_in c.part.inside) is in
+    let is = found_part c.args.state.now c.args.stream c.index_mut-part.result.now c.part.inside g.2.sound c.requires.there c.index_mut-part.ensures.value c.part.view_is in
+    let fits = own_fits p g c.args.stream c.requires.there c.requires.going c.requires.roomy (part_in c.part.inside) is in
     let next = c.get-next.ensures.same in
     let used : vec_len c.part.inside.body ≡ length c.part.inside.body.items = c.part.inside.body.ok.0 in
     let few : length (bytes_of (run c.get-next.result (vec_len c.part.inside.body) c.part.inside.own.pieces)) ≤ vec_capacity c.part.inside.body - vec_len c.part.inside.body =
@@ -27,11 +27,11 @@ pub set-requires-clause-small : goal.set-requires-clause-small
 set-requires-clause-small c =
     let p : Plain = plain c.args.state.now in
     let g = c.requires.stood in
-    let is = found-part c.args.state.now c.args.stream c.index_mut-part.result.now c.part.inside g.2.sound c.requires.there c.index_mut-part.ensures.value c.part.view_is in
+    let is = found_part c.args.state.now c.args.stream c.index_mut-part.result.now c.part.inside g.2.sound c.requires.there c.index_mut-part.ensures.value c.part.view_is in
     let q = c.gather_reserved-upto.ensures.gathers in
-    let moves = moves-of (slice_index p.gathered c.args.stream) c.get-next.result c.part.inside.own c.gather_reserved-upto.new.self c.part.inside.body.items c.gather_reserved-upto.new.body.items c.gather_reserved-upto.result c.get-next.ensures.same q c.gather_reserved-upto.ensures.room in
+    let moves = moves_of (slice_index p.gathered c.args.stream) c.get-next.result c.part.inside.own c.gather_reserved-upto.new.self c.part.inside.body.items c.gather_reserved-upto.new.body.items c.gather_reserved-upto.result c.get-next.ensures.same q c.gather_reserved-upto.ensures.room in
     let bound : slice_index p.gathered c.args.stream + length (bytes_of q.taken) ≤ slice_index p.ends c.args.stream =
-    own-bound p g.0 g.1 g.2 c.args.stream c.requires.there c.requires.going (part_in c.part.inside) c.gather_reserved-upto.new.self c.gather_reserved-upto.new.body.items 0 is moves in
+    own_bound p g.0 g.1 g.2 c.args.stream c.requires.there c.requires.going (part_in c.part.inside) c.gather_reserved-upto.new.self c.gather_reserved-upto.new.body.items 0 is moves in
     let past = q.past in
     let next = c.get-next.ensures.same in
     let limit = c.get-limit.ensures.same in
@@ -42,9 +42,9 @@ pub returns-clause-moves : goal.returns-clause-moves
 returns-clause-moves c =
     let p : Plain = plain c.args.state.now in
     let g = c.requires.stood in
-    let is = found-part c.args.state.now c.args.stream c.index_mut-part.result.now c.part.inside g.2.sound c.requires.there c.index_mut-part.ensures.value c.part.view_is in
+    let is = found_part c.args.state.now c.args.stream c.index_mut-part.result.now c.part.inside g.2.sound c.requires.there c.index_mut-part.ensures.value c.part.view_is in
     let q = c.gather_reserved-upto.ensures.gathers in
-    let moves = moves-of (slice_index p.gathered c.args.stream) c.get-next.result c.part.inside.own c.gather_reserved-upto.new.self c.part.inside.body.items c.gather_reserved-upto.new.body.items c.gather_reserved-upto.result c.get-next.ensures.same q c.gather_reserved-upto.ensures.room in
+    let moves = moves_of (slice_index p.gathered c.args.stream) c.get-next.result c.part.inside.own c.gather_reserved-upto.new.self c.part.inside.body.items c.gather_reserved-upto.new.body.items c.gather_reserved-upto.result c.get-next.ensures.same q c.gather_reserved-upto.ensures.room in
     record {
       stream = part_in c.part.inside;
       own = c.gather_reserved-upto.new.self;
@@ -60,5 +60,5 @@ returns-clause-moves c =
 pub returns-clause-next : goal.returns-clause-next
 returns-clause-next c =
     let moves = returns-clause-moves c in
-    next-own c.args.stream (plain c.args.state.now) _ c.requires.stood c.requires.there c.requires.going moves
-    (own-roomy (plain c.args.state.now) c.requires.stood c.args.stream c.requires.there c.requires.going c.requires.roomy _ moves)
+    next_own c.args.stream (plain c.args.state.now) _ c.requires.stood c.requires.there c.requires.going moves
+    (own_roomy (plain c.args.state.now) c.requires.stood c.args.stream c.requires.there c.requires.going c.requires.roomy _ moves)

@@ -5,17 +5,17 @@ use Rattle.tau_core.specs.Gather.{GathersOn, end_on, WaitsBelow}
 use Rattle.tau_core.specs.Ends.{IsNext}
 use Rattle.tau_core.specs.declared.state.Load.{Load}
 use Rattle.tau_core.specs.declared.state.State.{State}
-use Rattle.tau_core.proofs.GathersOn.{next-on, on-own, on-posted}
-use Rattle.tau_core.proofs.GathersAll.{own-waits, posted-waits, passed-waits, all-wait}
+use Rattle.tau_core.proofs.GathersOn.{next_on, on_own, on_posted}
+use Rattle.tau_core.proofs.GathersAll.{own_waits, posted_waits, passed_waits, all_wait}
 use Rattle.tau_core.proofs.gather.gather_round.Goals as goal
 use Rattle.tau_core.proofs.gather.gather_round.Goals.{then-stream_of-stream, else-stream_of-stream}
 
 pub loop-worker-init : goal.loop-worker-init
 loop-worker-init c = record {
-  gathers = on-own c.args.stream (plain c.args.state.now) (plain c.args.state.now) (plain c.gather_own.new.state) end_on c.gather_own.ensures.moves;
+  gathers = on_own c.args.stream (plain c.args.state.now) (plain c.args.state.now) (plain c.gather_own.new.state) end_on c.gather_own.ensures.moves;
   next = c.gather_own.ensures.next;
   streams = refl;
-  waits = λ e. own-waits (plain c.args.state.now) c.requires.stood c.args.stream c.requires.there c.requires.going c.requires.roomy (plain c.gather_own.new.state) c.gather_own.ensures.moves;
+  waits = λ e. own_waits (plain c.args.state.now) c.requires.stood c.args.stream c.requires.there c.requires.going c.requires.roomy (plain c.gather_own.new.state) c.gather_own.ensures.moves;
 }
 
 pub gather_from-requires : goal.gather_from-requires
@@ -40,16 +40,16 @@ loop-worker-preserved c = elim c.if-stream_of-stream.branch [
       let whose = ap (λ (m : ℕ). c.loop-worker.worker % m) (sym c.loop-worker.invariant.streams) ∙ sym c.stream_of.ensures.same ∙ w.if-stream_of-stream.true in
       record {
         gathers = subst (λ (s : State). GathersOn c.args.stream (plain c.args.state.now) (plain s)) (sym w.state-is)
-            (on-posted c.args.stream (plain c.args.state.now) (plain c.loop-worker.state) (plain w.gather_from.new.state) c.loop-worker.worker whose c.loop-worker.invariant.gathers w.gather_from.ensures.moves);
+            (on_posted c.args.stream (plain c.args.state.now) (plain c.loop-worker.state) (plain w.gather_from.new.state) c.loop-worker.worker whose c.loop-worker.invariant.gathers w.gather_from.ensures.moves);
         next = subst (λ (s : State). IsNext c.args.stream (plain c.args.state.now) (plain s)) (sym w.state-is)
-            (next-on c.args.stream (plain c.args.state.now) (plain c.loop-worker.state) (plain w.gather_from.new.state) before after);
+            (next_on c.args.stream (plain c.args.state.now) (plain c.loop-worker.state) (plain w.gather_from.new.state) before after);
         streams = c.loop-worker.invariant.streams ∙ ap (λ (l : Load). l.streams) (sym after.same) ∙ ap (λ (s : State). s.load.streams) (sym w.state-is);
         waits = subst (λ (s : State). slice_index s.gathered c.args.stream ≡ slice_index c.args.state.now.gathered c.args.stream → WaitsBelow c.args.stream (c.loop-worker.worker + 1) (plain s)) (sym w.state-is) (λ e.
             let up = before.up in
             let more = after.up in
             let first : slice_index c.loop-worker.state.gathered c.args.stream ≡ slice_index c.args.state.now.gathered c.args.stream = omega arith in
             let then : slice_index w.gather_from.new.state.gathered c.args.stream ≡ slice_index c.loop-worker.state.gathered c.args.stream = omega arith in
-            posted-waits (plain c.loop-worker.state) before.stood c.args.stream before.there before.going before.roomy c.loop-worker.worker (plain w.gather_from.new.state) w.gather_from.ensures.moves then (c.loop-worker.invariant.waits first));
+            posted_waits (plain c.loop-worker.state) before.stood c.args.stream before.there before.going before.roomy c.loop-worker.worker (plain w.gather_from.new.state) w.gather_from.ensures.moves then (c.loop-worker.invariant.waits first));
       }
   | else-stream_of-stream w ↦
       let other : c.loop-worker.worker % c.loop-worker.state.load.streams ≡ c.args.stream → ⊥ =
@@ -59,14 +59,14 @@ loop-worker-preserved c = elim c.if-stream_of-stream.branch [
         next = subst (λ (s : State). IsNext c.args.stream (plain c.args.state.now) (plain s)) (sym w.state-is) c.loop-worker.invariant.next;
         streams = c.loop-worker.invariant.streams ∙ ap (λ (s : State). s.load.streams) (sym w.state-is);
         waits = subst (λ (s : State). slice_index s.gathered c.args.stream ≡ slice_index c.args.state.now.gathered c.args.stream → WaitsBelow c.args.stream (c.loop-worker.worker + 1) (plain s)) (sym w.state-is)
-            (λ e. passed-waits c.args.stream c.loop-worker.worker (plain c.loop-worker.state) other (c.loop-worker.invariant.waits e));
+            (λ e. passed_waits c.args.stream c.loop-worker.worker (plain c.loop-worker.state) other (c.loop-worker.invariant.waits e));
       }
 ]
 
 pub returns-clause-settles : goal.returns-clause-settles
 returns-clause-settles c = λ e.
     let n = c.loop-worker.invariant.next in
-    all-wait c.args.stream c.loop-worker.worker (plain c.loop-worker.state)
+    all_wait c.args.stream c.loop-worker.worker (plain c.loop-worker.state)
     (let few = n.stood.2.sound.seats in
     let same : c.loop-worker.state.load.workers ≡ c.gather_own.new.state.load.workers = ap (λ (l : Load). l.workers) (n.same ∙ sym c.gather_own.ensures.next.same) in
     let past = c.loop-worker-test.false in

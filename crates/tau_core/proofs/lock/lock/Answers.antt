@@ -1,26 +1,26 @@
 use Rattle.std.proofs.Common.{refl, sym, ◌∙◌}
 use Rattle.tau_base.specs.declared.value.Value.TheVariants.{Absent}
 use Rattle.tau_core.specs.Firsts.{goes, begins, rests}
-use Rattle.tau_core.proofs.Firsts.{none-some, some-none}
+use Rattle.tau_core.proofs.Firsts.{none_some, some_none}
 use Rattle.tau_core.proofs.lock.lock.Goals as goal
 
 pub returns-then-in_hand : goal.returns-then-in_hand
 returns-then-in_hand c = record {
   value = c.lock_next.ensures.value;
-  is = goes (λ s e none. some-none s.txn.hand (sym (c.in_hand.ensures s e) ∙ c.if-in_hand.true) none) c.lock_next.ensures.is;
+  is = goes (λ s e none. some_none s.txn.hand (sym (c.in_hand.ensures s e) ∙ c.if-in_hand.true) none) c.lock_next.ensures.is;
 }
 
 pub first_lock-requires-clause-rests : goal.first_lock-requires-clause-rests
-first_lock-requires-clause-rests c = λ s e. none-some s.txn.hand (sym (c.in_hand.ensures s e) ∙ c.if-in_hand.false)
+first_lock-requires-clause-rests c = λ s e. none_some s.txn.hand (sym (c.in_hand.ensures s e) ∙ c.if-in_hand.false)
 
 pub returns-in-None : goal.returns-in-None
 returns-in-None c = record {
   value = Absent;
-  is = rests refl refl (λ s e. none-some s.txn.hand (sym (c.in_hand.ensures s e) ∙ c.if-in_hand.false)) (λ s e. sym (c.next_number.ensures s e) ∙ c.in-None.is);
+  is = rests refl refl (λ s e. none_some s.txn.hand (sym (c.in_hand.ensures s e) ∙ c.if-in_hand.false)) (λ s e. sym (c.next_number.ensures s e) ∙ c.in-None.is);
 }
 
 pub returns-in-Some : goal.returns-in-Some
 returns-in-Some c = record {
   value = c.first_lock.ensures.value;
-  is = begins c.in-Some.number (λ s e. none-some s.txn.hand (sym (c.in_hand.ensures s e) ∙ c.if-in_hand.false)) (λ s e. sym (c.next_number.ensures s e) ∙ c.in-Some.is) c.first_lock.ensures.is;
+  is = begins c.in-Some.number (λ s e. none_some s.txn.hand (sym (c.in_hand.ensures s e) ∙ c.if-in_hand.false)) (λ s e. sym (c.next_number.ensures s e) ∙ c.in-Some.is) c.first_lock.ensures.is;
 }

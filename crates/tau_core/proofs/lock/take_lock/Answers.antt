@@ -16,23 +16,23 @@ use Rattle.tau_shard.specs.Blocks.{dep_locked, IsLowest, RefusedBy}
 use Rattle.tau_shard.specs.declared.entry.ShardRefusal.{ShardRefusal}
 use Rattle.tau_core.specs.Plain.{PlainSeat}
 use Rattle.tau_core.specs.State.{Plain, plain}
-use Rattle.tau_core.proofs.Found.{seat_in, found-seat, found-whole, found-shard}
-use Rattle.tau_core.proofs.Lists.{set-got}
-use Rattle.tau_core.proofs.Hands.{shown-dep, some-hand, locked-alike, locked-wide, locked-call, sound-on, entry-narrow}
-use Rattle.tau_core.proofs.Takes.{locked-phase}
+use Rattle.tau_core.proofs.Found.{seat_in, found_seat, found_whole, found_shard}
+use Rattle.tau_core.proofs.Lists.{set_got}
+use Rattle.tau_core.proofs.Hands.{shown_dep, some_hand, locked_alike, locked_wide, sound_on, entry_narrow}
 use Rattle.tau_core.proofs.Leaving.{leaving}
-use Rattle.tau_core.proofs.PhaseLaws.{means-phase}
+use Rattle.tau_core.proofs.PhaseLaws.{means_phase}
 use Rattle.tau_core.proofs.lock.take_lock.Goals as goal
+use Rattle.tau_machine.proofs.Leads.{locked_call, locked_phase}
 
 pub dep_ref-requires : goal.dep_ref-requires
 dep_ref-requires c =
-    let is = found-seat c.args.state.now c.args.worker c.index_mut-seat.result.now c.seat.inside c.requires.sound c.requires.there c.index_mut-seat.ensures.value c.seat.view_is in
+    let is = found_seat c.args.state.now c.args.worker c.index_mut-seat.result.now c.seat.inside c.requires.sound c.requires.there c.index_mut-seat.ensures.value c.seat.view_is in
     let m = (c.requires.wants (seat_in c.seat.inside) is).1 in
-    some-hand c.args.state.now.load.procs c.seat.inside.txn m.hand m.is
+    some_hand c.args.state.now.load.procs c.seat.inside.txn m.hand m.is
 
 pub granted_by-requires-clause-lock : goal.granted_by-requires-clause-lock
 granted_by-requires-clause-lock c =
-    let is = found-seat c.args.state.now c.args.worker c.index_mut-seat.result.now c.seat.inside c.requires.sound c.requires.there c.index_mut-seat.ensures.value c.seat.view_is in
+    let is = found_seat c.args.state.now c.args.worker c.index_mut-seat.result.now c.seat.inside c.requires.sound c.requires.there c.index_mut-seat.ensures.value c.seat.view_is in
     let o = c.requires.sound.seat c.args.worker (seat_in c.seat.inside) is in
     let wants = c.requires.wants (seat_in c.seat.inside) is in
     let m = wants.1 in
@@ -40,7 +40,7 @@ granted_by-requires-clause-lock c =
 
 pub busy-requires-clause-lock : goal.busy-requires-clause-lock
 busy-requires-clause-lock c =
-    let is = found-seat c.args.state.now c.args.worker c.index_mut-seat.result.now c.seat.inside c.requires.sound c.requires.there c.index_mut-seat.ensures.value c.seat.view_is in
+    let is = found_seat c.args.state.now c.args.worker c.index_mut-seat.result.now c.seat.inside c.requires.sound c.requires.there c.index_mut-seat.ensures.value c.seat.view_is in
     let o = c.requires.sound.seat c.args.worker (seat_in c.seat.inside) is in
     let wants = c.requires.wants (seat_in c.seat.inside) is in
     let m = wants.1 in
@@ -48,7 +48,7 @@ busy-requires-clause-lock c =
 
 pub busy-requires-clause-run : goal.busy-requires-clause-run
 busy-requires-clause-run c =
-    let is = found-seat c.args.state.now c.args.worker c.index_mut-seat.result.now c.seat.inside c.requires.sound c.requires.there c.index_mut-seat.ensures.value c.seat.view_is in
+    let is = found_seat c.args.state.now c.args.worker c.index_mut-seat.result.now c.seat.inside c.requires.sound c.requires.there c.index_mut-seat.ensures.value c.seat.view_is in
     let o = c.requires.sound.seat c.args.worker (seat_in c.seat.inside) is in
     let wants = c.requires.wants (seat_in c.seat.inside) is in
     let m = wants.1 in
@@ -56,36 +56,36 @@ busy-requires-clause-run c =
 
 pub granted_by-requires-clause-wide : goal.granted_by-requires-clause-wide
 granted_by-requires-clause-wide c =
-    let is = found-seat c.args.state.now c.args.worker c.index_mut-seat.result.now c.seat.inside c.requires.sound c.requires.there c.index_mut-seat.ensures.value c.seat.view_is in
+    let is = found_seat c.args.state.now c.args.worker c.index_mut-seat.result.now c.seat.inside c.requires.sound c.requires.there c.index_mut-seat.ensures.value c.seat.view_is in
     let o = c.requires.sound.seat c.args.worker (seat_in c.seat.inside) is in
     let wants = c.requires.wants (seat_in c.seat.inside) is in
     let m = wants.1 in
     let below : c.from.result < SHARDS = (let e = c.from.ensures in let f = c.shard_of.ensures.small in omega arith) in
-    let shard = found-shard c.args.state.now c.from.result c.index_mut-part.result.now c.requires.sound below c.index_mut-part.ensures.value in
+    let shard = found_shard c.args.state.now c.from.result c.index_mut-part.result.now c.requires.sound below c.index_mut-part.ensures.value in
     let number : c.from.result ≡ shard_number c.args.key = c.from.ensures ∙ c.shard_of.ensures.same in
     let shard_is = subst (λ (n : ℕ). slice_get c.args.state.now.shards.items n ≡ Some c.index_mut-part.result.now) number shard in
     let entry : Entry = entry_in (shard_of c.index_mut-part.result.now) c.args.key in
-    let narrow = entry-narrow c.args.state.now.load (shard_of c.index_mut-part.result.now) c.args.key (c.requires.sound.narrow c.from.result c.index_mut-part.result.now shard) in
+    let narrow = entry_narrow c.args.state.now.load (shard_of c.index_mut-part.result.now) c.args.key (c.requires.sound.narrow c.from.result c.index_mut-part.result.now shard) in
     let wide : length (dep_locked c.args.mode c.dep_ref.result.now entry) ≡ c.seat.inside.txn.width =
-    locked-wide c.args.mode c.seat.inside.txn.width c.dep_ref.result.now entry c.dep_ref.ensures.wide (let a = narrow.0 in let b = o.width in omega arith) (let a = narrow.1 in let b = o.width in omega arith) in
+    locked_wide c.args.mode c.seat.inside.txn.width c.dep_ref.result.now entry c.dep_ref.ensures.wide (let a = narrow.0 in let b = o.width in omega arith) (let a = narrow.1 in let b = o.width in omega arith) in
     ap length c.in-Ok.ensures.joined ∙ wide
 
 pub leave-requires-clause-room : goal.leave-requires-clause-room
 leave-requires-clause-room c =
-    let is = found-seat c.args.state.now c.args.worker c.index_mut-seat.result.now c.seat.inside c.requires.sound c.requires.there c.index_mut-seat.ensures.value c.seat.view_is in
+    let is = found_seat c.args.state.now c.args.worker c.index_mut-seat.result.now c.seat.inside c.requires.sound c.requires.there c.index_mut-seat.ensures.value c.seat.view_is in
     let o = c.requires.sound.seat c.args.worker (seat_in c.seat.inside) is in
     let wants = c.requires.wants (seat_in c.seat.inside) is in
     let m = wants.1 in
-    λ e. o.leaves (some-hand c.args.state.now.load.procs c.seat.inside.txn m.hand m.is)
+    λ e. o.leaves (some_hand c.args.state.now.load.procs c.seat.inside.txn m.hand m.is)
 
 pub returns-in-Ok : goal.returns-in-Ok
 returns-in-Ok c =
-    let is = found-seat c.args.state.now c.args.worker c.index_mut-seat.result.now c.seat.inside c.requires.sound c.requires.there c.index_mut-seat.ensures.value c.seat.view_is in
+    let is = found_seat c.args.state.now c.args.worker c.index_mut-seat.result.now c.seat.inside c.requires.sound c.requires.there c.index_mut-seat.ensures.value c.seat.view_is in
     let o = c.requires.sound.seat c.args.worker (seat_in c.seat.inside) is in
     let wants = c.requires.wants (seat_in c.seat.inside) is in
     let m = wants.1 in
     let below : c.from.result < SHARDS = (let e = c.from.ensures in let f = c.shard_of.ensures.small in omega arith) in
-    let shard = found-shard c.args.state.now c.from.result c.index_mut-part.result.now c.requires.sound below c.index_mut-part.ensures.value in
+    let shard = found_shard c.args.state.now c.from.result c.index_mut-part.result.now c.requires.sound below c.index_mut-part.ensures.value in
     let number : c.from.result ≡ shard_number c.args.key = c.from.ensures ∙ c.shard_of.ensures.same in
     let shard_is = subst (λ (n : ℕ). slice_get c.args.state.now.shards.items n ≡ Some c.index_mut-part.result.now) number shard in
     let entry : Entry = entry_in (shard_of c.index_mut-part.result.now) c.args.key in
@@ -93,10 +93,10 @@ returns-in-Ok c =
     let row : Value = (shard_of c.index_mut-part.result.now).rows c.args.key in
     let new : PlainSeat = record (seat_in c.seat.inside) { txn = c.granted_by.new.self } in
     let dep : c.lock_key.new.dep ≡ dep_locked c.args.mode m.hand.dep entry =
-    c.in-Ok.ensures.joined ∙ ap (λ (d : List ℕ). dep_locked c.args.mode d entry) (c.dep_ref.ensures.dep ∙ shown-dep c.args.state.now.load.procs c.seat.inside.txn m.hand m.is) in
+    c.in-Ok.ensures.joined ∙ ap (λ (d : List ℕ). dep_locked c.args.mode d entry) (c.dep_ref.ensures.dep ∙ shown_dep c.args.state.now.load.procs c.seat.inside.txn m.hand m.is) in
     let lent = c.row-row.ensures ∙ ap (λ (t : Shard). t.rows c.args.key) c.in-Ok.ensures.locked in
     let granted = c.granted_by.ensures.locked c.args.state.now.load.procs m.hand c.args.key c.args.mode o.runs wants.0 m.is
-    ∙ ap Some (ap (λ (v : Value). locked_with m.hand c.args.key c.args.mode v c.lock_key.new.dep) lent ∙ locked-alike m.hand c.args.key c.args.mode row c.lock_key.new.dep entry dep) in
+    ∙ ap Some (ap (λ (v : Value). locked_with m.hand c.args.key c.args.mode v c.lock_key.new.dep) lent ∙ locked_alike m.hand c.args.key c.args.mode row c.lock_key.new.dep entry dep) in
     record {
       value = row;
       is = record {
@@ -115,21 +115,21 @@ returns-in-Ok c =
         locks = c.in-Ok.ensures.locked;
         granted = granted;
         others = refl;
-        sound = sound-on c.args.state.now.load c.args.worker (seat_in c.seat.inside) new m.hand (hand_locked m.hand c.args.key c.args.mode row entry.write_lv entry.read_lv) o m.is refl c.granted_by.ensures.same granted
-            (locked-call m.hand c.args.key c.args.mode row entry.write_lv entry.read_lv) (c.granted_by.ensures.runs c.args.state.now.load.procs o.runs) (c.granted_by.ensures.stays o.leaving)
-            (ap placed_of (locked-phase m.hand c.args.key c.args.mode row entry.write_lv entry.read_lv ∙ m.phase));
+        sound = sound_on c.args.state.now.load c.args.worker (seat_in c.seat.inside) new m.hand (hand_locked m.hand c.args.key c.args.mode row entry.write_lv entry.read_lv) o m.is refl c.granted_by.ensures.same granted
+            (locked_call m.hand c.args.key c.args.mode row entry.write_lv entry.read_lv) (c.granted_by.ensures.runs c.args.state.now.load.procs o.runs) (c.granted_by.ensures.stays o.leaving)
+            (ap placed_of (locked_phase m.hand c.args.key c.args.mode row entry.write_lv entry.read_lv ∙ m.phase));
         after = ap (λ (n : ℕ). record p { seats = slice_set p.seats c.args.worker new; shards = slice_set p.shards n c.lock_key.new.self }) number;
       };
     }
 
 pub returns-in-Err-Busy : goal.returns-in-Err-Busy
 returns-in-Err-Busy c =
-    let is = found-seat c.args.state.now c.args.worker c.index_mut-seat.result.now c.seat.inside c.requires.sound c.requires.there c.index_mut-seat.ensures.value c.seat.view_is in
+    let is = found_seat c.args.state.now c.args.worker c.index_mut-seat.result.now c.seat.inside c.requires.sound c.requires.there c.index_mut-seat.ensures.value c.seat.view_is in
     let o = c.requires.sound.seat c.args.worker (seat_in c.seat.inside) is in
     let wants = c.requires.wants (seat_in c.seat.inside) is in
     let m = wants.1 in
     let below : c.from.result < SHARDS = (let e = c.from.ensures in let f = c.shard_of.ensures.small in omega arith) in
-    let shard = found-shard c.args.state.now c.from.result c.index_mut-part.result.now c.requires.sound below c.index_mut-part.ensures.value in
+    let shard = found_shard c.args.state.now c.from.result c.index_mut-part.result.now c.requires.sound below c.index_mut-part.ensures.value in
     let number : c.from.result ≡ shard_number c.args.key = c.from.ensures ∙ c.shard_of.ensures.same in
     let shard_is = subst (λ (n : ℕ). slice_get c.args.state.now.shards.items n ≡ Some c.index_mut-part.result.now) number shard in
     let entry : Entry = entry_in (shard_of c.index_mut-part.result.now) c.args.key in
@@ -162,9 +162,9 @@ returns-in-Err-Busy c =
 pub returns-in-Err-NoMemory : goal.returns-in-Err-NoMemory
 returns-in-Err-NoMemory c =
     let p : Plain = plain c.args.state.now in
-    let is = found-whole c.args.state.now c.args.worker c.index_mut-seat.result.now c.requires.sound c.requires.there c.index_mut-seat.ensures.value in
+    let is = found_whole c.args.state.now c.args.worker c.index_mut-seat.result.now c.requires.sound c.requires.there c.index_mut-seat.ensures.value in
     let below : c.from.result < SHARDS = (let e = c.from.ensures in let f = c.shard_of.ensures.small in omega arith) in
-    let shard = found-shard c.args.state.now c.from.result c.index_mut-part.result.now c.requires.sound below c.index_mut-part.ensures.value in
+    let shard = found_shard c.args.state.now c.from.result c.index_mut-part.result.now c.requires.sound below c.index_mut-part.ensures.value in
     let number : c.from.result ≡ shard_number c.args.key = c.from.ensures ∙ c.shard_of.ensures.same in
     let shard_is = subst (λ (n : ℕ). slice_get c.args.state.now.shards.items n ≡ Some c.index_mut-part.result.now) number shard in
     let entry : Entry = entry_in (shard_of c.index_mut-part.result.now) c.args.key in
@@ -177,10 +177,10 @@ returns-in-Err-NoMemory c =
           kept = c.lock_key.new.self;
           is = shard;
           kept_is = c.in-Err-NoMemory.ensures.unchanged;
-          after = ap (λ (l : List PlainSeat). record p { seats = l; shards = slice_set p.shards c.from.result c.lock_key.new.self }) (set-got c.args.state.now.seats.items c.args.worker c.index_mut-seat.result.now is);
+          after = ap (λ (l : List PlainSeat). record p { seats = l; shards = slice_set p.shards c.from.result c.lock_key.new.self }) (set_got c.args.state.now.seats.items c.args.worker c.index_mut-seat.result.now is);
         },
         λ s e.
             let o = c.requires.sound.seat c.args.worker s e in
-            means-phase c.args.state.now.load.procs s.txn (action.Lock c.args.key c.args.mode) (c.requires.wants s e).1 o.leaving o.stays,
+            means_phase c.args.state.now.load.procs s.txn (action.Lock c.args.key c.args.mode) (c.requires.wants s e).1 o.leaving o.stays,
       );
     }

@@ -5,7 +5,7 @@ use Rattle.tau_machine.specs.Stage.{stage}
 use Rattle.tau_machine.specs.Hands.{Hand}
 use Rattle.tau_machine.specs.Worker.{fresh, lock_of}
 use Rattle.tau_core.proofs.Numbers.{numbers}
-use Rattle.tau_core.proofs.NextLock.{none-first}
+use Rattle.tau_core.proofs.NextLock.{none_first}
 use Rattle.tau_core.proofs.next.first_lock.Goals as goal
 
 pub returns-in-Some : goal.returns-in-Some
@@ -25,4 +25,4 @@ returns-in-None c =
     (let f : Some c.call_at-call.result ≡ Some n.call = sym c.call_at-call.ensures ∙ n.got in cc) in
     let none : lock_of (stage c.args.state.now.load.procs n.call []) [] ≡ None =
     ap (λ (x : Call). lock_of (stage c.args.state.now.load.procs x []) []) (sym same) ∙ sym c.first_lock.ensures ∙ c.in-None.is in
-    (n.call, n.is, none-first c.args.state.now.load c.args.number n.call none)
+    (n.call, n.is, none_first c.args.state.now.load c.args.number n.call none)

@@ -6,17 +6,17 @@ use Rattle.tau_txn.specs.Next.{next_action, Means}
 use Rattle.tau_core.specs.Plain.{PlainSeat}
 use Rattle.tau_txn.specs.Txn.{hand_in}
 use Rattle.tau_core.specs.Phases.{hand_phase, phase_of_kind}
-use Rattle.tau_core.proofs.PhaseLaws.{means-phase}
-use Rattle.tau_core.proofs.Found.{seat_in, found-seat}
-use Rattle.tau_core.proofs.ActionKinds.{phase-kind, post-kind, elsewhere-post}
+use Rattle.tau_core.proofs.PhaseLaws.{means_phase}
+use Rattle.tau_core.proofs.Found.{seat_in, found_seat}
+use Rattle.tau_core.proofs.ActionKinds.{phase_kind, post_kind, elsewhere_post}
 use Rattle.tau_core.proofs.post.post.Goals as goal
 
 pub post_record-requires-clause-at : goal.post_record-requires-clause-at
 post_record-requires-clause-at c = λ s e.
-    let is = found-seat c.args.state.now c.args.worker c.index-seat.result.now c.seat.inside c.requires.stood.2.sound c.requires.there c.index-seat.ensures c.seat.view_is in
+    let is = found_seat c.args.state.now c.args.worker c.index-seat.result.now c.seat.inside c.requires.stood.2.sound c.requires.there c.index-seat.ensures c.seat.view_is in
     let o = c.requires.stood.2.sound.seat c.args.worker (seat_in c.seat.inside) is in
     let same : seat_in c.seat.inside ≡ s = (let f : Some (seat_in c.seat.inside) ≡ Some s = sym is ∙ e in cc) in
-    let at = post-kind (next_action c.seat.inside.txn) (sym c.kind.ensures.kind ∙ c.in-Post.is) in
+    let at = post_kind (next_action c.seat.inside.txn) (sym c.kind.ensures.kind ∙ c.in-Post.is) in
     let means = subst (λ (a : Action). Means c.args.state.now.load.procs c.seat.inside.txn a) at (c.kind.ensures.means c.args.state.now.load.procs o.runs) in
     subst (λ (x : PlainSeat). (next_action x.txn ≡ action.Post) × Means c.args.state.now.load.procs x.txn action.Post) same (at, means)
 
@@ -24,12 +24,12 @@ pub returns-in_default : goal.returns-in_default
 returns-in_default c = (
   refl,
   λ s e.
-      let is = found-seat c.args.state.now c.args.worker c.index-seat.result.now c.seat.inside c.requires.stood.2.sound c.requires.there c.index-seat.ensures c.seat.view_is in
+      let is = found_seat c.args.state.now c.args.worker c.index-seat.result.now c.seat.inside c.requires.stood.2.sound c.requires.there c.index-seat.ensures c.seat.view_is in
       let same : seat_in c.seat.inside ≡ s = (let f : Some (seat_in c.seat.inside) ≡ Some s = sym is ∙ e in cc) in
       let o = c.requires.stood.2.sound.seat c.args.worker (seat_in c.seat.inside) is in
       let next : Action = next_action c.seat.inside.txn in
-      let phase = means-phase c.args.state.now.load.procs c.seat.inside.txn next (c.kind.ensures.means c.args.state.now.load.procs o.runs) o.leaving o.stays in (
-        ap phase_of_kind c.kind.ensures.kind ∙ sym (phase-kind next) ∙ sym phase ∙ ap (λ (x : PlainSeat). hand_phase c.args.state.now.load.procs (hand_in c.args.state.now.load.procs x.txn)) same,
-        λ f. elsewhere-post c.kind.result c.in_default.not-Post f,
+      let phase = means_phase c.args.state.now.load.procs c.seat.inside.txn next (c.kind.ensures.means c.args.state.now.load.procs o.runs) o.leaving o.stays in (
+        ap phase_of_kind c.kind.ensures.kind ∙ sym (phase_kind next) ∙ sym phase ∙ ap (λ (x : PlainSeat). hand_phase c.args.state.now.load.procs (hand_in c.args.state.now.load.procs x.txn)) same,
+        λ f. elsewhere_post c.kind.result c.in_default.not-Post f,
       ),
 )

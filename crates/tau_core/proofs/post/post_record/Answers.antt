@@ -4,15 +4,15 @@ use Rattle.tau_machine.specs.Hands.{Freeing}
 use Rattle.tau_machine.specs.Pieces.{placed_in, placed_of}
 use Rattle.tau_core.specs.Plain.{PlainSeat}
 use Rattle.tau_core.specs.State.{Plain, plain}
-use Rattle.tau_core.proofs.Found.{seat_in, found-seat}
-use Rattle.tau_core.proofs.Hands.{sound-on, sound-outbox}
-use Rattle.tau_core.proofs.Posts.{posts-order, posts-small}
+use Rattle.tau_core.proofs.Found.{seat_in, found_seat}
+use Rattle.tau_core.proofs.Hands.{sound_on, sound_outbox}
+use Rattle.tau_core.proofs.Posts.{posts_order, posts_small}
 use Rattle.tau_core.proofs.post.post_record.Goals as goal
 
 pub post-requires-clause-room : goal.post-requires-clause-room
 post-requires-clause-room c =
     let g = c.requires.stood in
-    let is = found-seat c.args.state.now c.args.worker c.index_mut-seat.result.now c.seat.inside g.2.sound c.requires.there c.index_mut-seat.ensures.value c.seat.view_is in
+    let is = found_seat c.args.state.now c.args.worker c.index_mut-seat.result.now c.seat.inside g.2.sound c.requires.there c.index_mut-seat.ensures.value c.seat.view_is in
     let o = g.2.sound.seat c.args.worker (seat_in c.seat.inside) is in
     let at = c.requires.at (seat_in c.seat.inside) is in
     let m = at.1 in
@@ -21,20 +21,20 @@ post-requires-clause-room c =
 pub post-requires-clause-order : goal.post-requires-clause-order
 post-requires-clause-order c =
     let g = c.requires.stood in
-    let is = found-seat c.args.state.now c.args.worker c.index_mut-seat.result.now c.seat.inside g.2.sound c.requires.there c.index_mut-seat.ensures.value c.seat.view_is in
+    let is = found_seat c.args.state.now c.args.worker c.index_mut-seat.result.now c.seat.inside g.2.sound c.requires.there c.index_mut-seat.ensures.value c.seat.view_is in
     let o = g.2.sound.seat c.args.worker (seat_in c.seat.inside) is in
     let at = c.requires.at (seat_in c.seat.inside) is in
     let m = at.1 in
-    posts-order (plain c.args.state.now) g.0 g.1 g.2 c.args.worker (seat_in c.seat.inside) m.act is (ap placed_in m.is ∙ ap placed_of m.phase)
+    posts_order (plain c.args.state.now) g.0 g.1 g.2 c.args.worker (seat_in c.seat.inside) m.act is (ap placed_in m.is ∙ ap placed_of m.phase)
 
 pub post-requires-clause-small : goal.post-requires-clause-small
 post-requires-clause-small c =
     let g = c.requires.stood in
-    let is = found-seat c.args.state.now c.args.worker c.index_mut-seat.result.now c.seat.inside g.2.sound c.requires.there c.index_mut-seat.ensures.value c.seat.view_is in
+    let is = found_seat c.args.state.now c.args.worker c.index_mut-seat.result.now c.seat.inside g.2.sound c.requires.there c.index_mut-seat.ensures.value c.seat.view_is in
     let o = g.2.sound.seat c.args.worker (seat_in c.seat.inside) is in
     let at = c.requires.at (seat_in c.seat.inside) is in
     let m = at.1 in
-    let up = posts-small (plain c.args.state.now) g.0 g.1 g.2 c.args.worker (seat_in c.seat.inside) m.act is (ap placed_in m.is ∙ ap placed_of m.phase) in
+    let up = posts_small (plain c.args.state.now) g.0 g.1 g.2 c.args.worker (seat_in c.seat.inside) m.act is (ap placed_in m.is ∙ ap placed_of m.phase) in
     let limit = c.get-limit.ensures.same ∙ ap (slice_index c.args.state.now.ends) c.stream_of.ensures.same in
     let small = c.get-limit.ensures.small in
     let bytes = ap length c.take_bytes-bytes.ensures.bytes in
@@ -44,7 +44,7 @@ post-requires-clause-small c =
 pub returns : goal.returns
 returns c =
     let g = c.requires.stood in
-    let is = found-seat c.args.state.now c.args.worker c.index_mut-seat.result.now c.seat.inside g.2.sound c.requires.there c.index_mut-seat.ensures.value c.seat.view_is in
+    let is = found_seat c.args.state.now c.args.worker c.index_mut-seat.result.now c.seat.inside g.2.sound c.requires.there c.index_mut-seat.ensures.value c.seat.view_is in
     let o = g.2.sound.seat c.args.worker (seat_in c.seat.inside) is in
     let at = c.requires.at (seat_in c.seat.inside) is in
     let m = at.1 in
@@ -63,8 +63,8 @@ returns c =
       posted = posted;
       pieces = c.post.ensures.pieces ∙ ap (λ (b : List ℕ). c.seat.inside.outbox.pieces ++ record { start = c.seat.inside.start; bytes = b } ∷ []) c.take_bytes-bytes.ensures.bytes;
       others = refl;
-      sound = sound-outbox c.args.state.now.load c.args.worker mid c.post.new.self
-          (sound-on c.args.state.now.load c.args.worker (seat_in c.seat.inside) mid m.hand (record m.hand { phase = Freeing m.act }) o m.is refl c.take_bytes-bytes.ensures.same posted refl (c.take_bytes-bytes.ensures.runs c.args.state.now.load.procs o.runs) (c.take_bytes-bytes.ensures.stays o.leaving) refl)
+      sound = sound_outbox c.args.state.now.load c.args.worker mid c.post.new.self
+          (sound_on c.args.state.now.load c.args.worker (seat_in c.seat.inside) mid m.hand (record m.hand { phase = Freeing m.act }) o m.is refl c.take_bytes-bytes.ensures.same posted refl (c.take_bytes-bytes.ensures.runs c.args.state.now.load.procs o.runs) (c.take_bytes-bytes.ensures.stays o.leaving) refl)
           (ap placed_in posted);
       after = refl;
     }

@@ -1,12 +1,12 @@
 use Rattle.std.proofs.Common.{◌≡◌, arith, below_more}
 use Rattle.std.specs.Prelude.{false, true}
 use Rattle.std.proofs.lemmas.Option.{slice_get_within}
-use Rattle.tau_core.proofs.Lists.{some-at}
 use Rattle.tau_core.proofs.resume.all_rest.Goals as goal
+use Rattle.tau_base.proofs.Lists.{some_at}
 
 pub returns-then-not-rests-clause-other : goal.returns-then-not-rests-clause-other
 returns-then-not-rests-clause-other c = λ e all.
-    let found = some-at c.args.state.now.seats.items c.loop-worker.worker (let n = c.requires.sound.seats in omega arith) in
+    let found = some_at c.args.state.now.seats.items c.loop-worker.worker (let n = c.requires.sound.seats in omega arith) in
     let no : c.rests.result ≡ false = c.if-not-rests.true in
     c.rests.ensures.other no found.0 found.1 (all c.loop-worker.worker found.0 found.1)
 

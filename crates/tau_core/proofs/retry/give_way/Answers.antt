@@ -2,32 +2,32 @@ use Rattle.std.proofs.Common.{ℕ, refl, sym, ap, subst, ◌∙◌}
 use Rattle.tau_txn.specs.declared.action.Action.{Action}
 use Rattle.tau_txn.specs.Next.{IsLock}
 use Rattle.tau_machine.specs.Worker.{hand_busy, settled}
-use Rattle.tau_core.proofs.Found.{seat_in, found-seat}
-use Rattle.tau_core.proofs.Hands.{some-hand}
+use Rattle.tau_core.proofs.Found.{seat_in, found_seat}
+use Rattle.tau_core.proofs.Hands.{some_hand}
 use Rattle.tau_core.proofs.Leaving.{leaving}
 use Rattle.tau_core.proofs.retry.give_way.Goals as goal
 
 pub busy-requires-clause-lock : goal.busy-requires-clause-lock
 busy-requires-clause-lock c =
-    let is = found-seat c.args.state.now c.args.worker c.index_mut-seat.result.now c.seat.inside c.requires.sound c.requires.there c.index_mut-seat.ensures.value c.seat.view_is in
+    let is = found_seat c.args.state.now c.args.worker c.index_mut-seat.result.now c.seat.inside c.requires.sound c.requires.there c.index_mut-seat.ensures.value c.seat.view_is in
     let wants = c.requires.wants (seat_in c.seat.inside) is in
     subst (λ (a : Action). IsLock a) (sym wants.2) tt
 
 pub busy-requires-clause-run : goal.busy-requires-clause-run
 busy-requires-clause-run c =
-    let is = found-seat c.args.state.now c.args.worker c.index_mut-seat.result.now c.seat.inside c.requires.sound c.requires.there c.index_mut-seat.ensures.value c.seat.view_is in
+    let is = found_seat c.args.state.now c.args.worker c.index_mut-seat.result.now c.seat.inside c.requires.sound c.requires.there c.index_mut-seat.ensures.value c.seat.view_is in
     (c.requires.sound.seat c.args.worker (seat_in c.seat.inside) is).runs
 
 pub leave-requires-clause-room : goal.leave-requires-clause-room
 leave-requires-clause-room c =
-    let is = found-seat c.args.state.now c.args.worker c.index_mut-seat.result.now c.seat.inside c.requires.sound c.requires.there c.index_mut-seat.ensures.value c.seat.view_is in
+    let is = found_seat c.args.state.now c.args.worker c.index_mut-seat.result.now c.seat.inside c.requires.sound c.requires.there c.index_mut-seat.ensures.value c.seat.view_is in
     let o = c.requires.sound.seat c.args.worker (seat_in c.seat.inside) is in
     let m = (c.requires.wants (seat_in c.seat.inside) is).3 in
-    λ e. o.leaves (some-hand c.args.state.now.load.procs c.seat.inside.txn m.hand m.is)
+    λ e. o.leaves (some_hand c.args.state.now.load.procs c.seat.inside.txn m.hand m.is)
 
 pub returns : goal.returns
 returns c =
-    let is = found-seat c.args.state.now c.args.worker c.index_mut-seat.result.now c.seat.inside c.requires.sound c.requires.there c.index_mut-seat.ensures.value c.seat.view_is in
+    let is = found_seat c.args.state.now c.args.worker c.index_mut-seat.result.now c.seat.inside c.requires.sound c.requires.there c.index_mut-seat.ensures.value c.seat.view_is in
     let o = c.requires.sound.seat c.args.worker (seat_in c.seat.inside) is in
     let wants = c.requires.wants (seat_in c.seat.inside) is in
     let m = wants.3 in

@@ -5,15 +5,15 @@ use Rattle.tau_txn.specs.Next.{next_action, Locks}
 use Rattle.tau_core.specs.Plain.{PlainSeat}
 use Rattle.tau_txn.specs.Txn.{hand_in}
 use Rattle.tau_core.specs.Phases.{hand_phase, phase_of_kind}
-use Rattle.tau_core.proofs.PhaseLaws.{means-phase}
-use Rattle.tau_core.proofs.Found.{seat_in, found-seat}
-use Rattle.tau_core.proofs.Elsewhere.{elsewhere-lock}
-use Rattle.tau_core.proofs.ActionKinds.{phase-kind}
+use Rattle.tau_core.proofs.PhaseLaws.{means_phase}
+use Rattle.tau_core.proofs.Found.{seat_in, found_seat}
+use Rattle.tau_core.proofs.Elsewhere.{elsewhere_lock}
+use Rattle.tau_core.proofs.ActionKinds.{phase_kind}
 use Rattle.tau_core.proofs.retry.retry_next.Goals as goal
 
 pub give_way-requires-clause-wants : goal.give_way-requires-clause-wants
 give_way-requires-clause-wants c = λ s e.
-    let is = found-seat c.args.state.now c.args.worker c.index-seat.result.now c.seat.inside c.requires.sound c.requires.there c.index-seat.ensures c.seat.view_is in
+    let is = found_seat c.args.state.now c.args.worker c.index-seat.result.now c.seat.inside c.requires.sound c.requires.there c.index-seat.ensures c.seat.view_is in
     let o = c.requires.sound.seat c.args.worker (seat_in c.seat.inside) is in
     let same : seat_in c.seat.inside ≡ s = (let f : Some (seat_in c.seat.inside) ≡ Some s = sym is ∙ e in cc) in
     let at = c.in-Some.field-0 in (
@@ -27,11 +27,11 @@ pub returns-in-None : goal.returns-in-None
 returns-in-None c = (
   refl,
   λ s e.
-      let is = found-seat c.args.state.now c.args.worker c.index-seat.result.now c.seat.inside c.requires.sound c.requires.there c.index-seat.ensures c.seat.view_is in
+      let is = found_seat c.args.state.now c.args.worker c.index-seat.result.now c.seat.inside c.requires.sound c.requires.there c.index-seat.ensures c.seat.view_is in
       let same : seat_in c.seat.inside ≡ s = (let f : Some (seat_in c.seat.inside) ≡ Some s = sym is ∙ e in cc) in
       let o = c.requires.sound.seat c.args.worker (seat_in c.seat.inside) is in
       let next : Action = next_action c.seat.inside.txn in
-      let phase = means-phase c.args.state.now.load.procs c.seat.inside.txn next (c.kind.ensures.means c.args.state.now.load.procs o.runs) o.leaving o.stays in
-      let told = c.phase_of_kind.ensures ∙ ap phase_of_kind c.kind.ensures.kind ∙ sym (phase-kind next) in
-      (told ∙ sym phase ∙ ap (λ (x : PlainSeat). hand_phase c.args.state.now.load.procs (hand_in c.args.state.now.load.procs x.txn)) same, λ f. elsewhere-lock next c.in-None.ensures.other (sym told ∙ f)),
+      let phase = means_phase c.args.state.now.load.procs c.seat.inside.txn next (c.kind.ensures.means c.args.state.now.load.procs o.runs) o.leaving o.stays in
+      let told = c.phase_of_kind.ensures ∙ ap phase_of_kind c.kind.ensures.kind ∙ sym (phase_kind next) in
+      (told ∙ sym phase ∙ ap (λ (x : PlainSeat). hand_phase c.args.state.now.load.procs (hand_in c.args.state.now.load.procs x.txn)) same, λ f. elsewhere_lock next c.in-None.ensures.other (sym told ∙ f)),
 )

@@ -1,7 +1,7 @@
 use Rattle.std.proofs.Common.{sym, subst, List}
 use Rattle.tau_crew.specs.EndDone.{ClosesDone}
 use Rattle.tau_crew.proofs.EndCloses.{resting, whole}
-use Rattle.tau_crew.proofs.EndDone.{closes-done}
+use Rattle.tau_crew.proofs.EndDone.{closes_done}
 use Rattle.tau_crew.proofs.ending_close.close_run.Goals as goal
 
 pub close-requires-clause-own : goal.close-requires-clause-own
@@ -17,4 +17,4 @@ pub close-requires-clause-rests : goal.close-requires-clause-rests
 close-requires-clause-rests g c = let (bases, ws, jobs, telling, same, b) = c.requires.back in resting _ _ bases ws c.args.head jobs telling b c.agrees.ensures
 
 pub returns : goal.returns
-returns g c = λ bases ws jobs telling same b. subst (λ (ws' : List _). ClosesDone c.args.desk.table.shared.key.value bases ws ws' c.args.head jobs telling c.close.result) (sym same) (closes-done _ _ bases ws c.args.head jobs telling b c.agrees.ensures c.close.result c.close.ensures)
+returns g c = λ bases ws jobs telling same b. subst (λ (ws' : List _). ClosesDone c.args.desk.table.shared.key.value bases ws ws' c.args.head jobs telling c.close.result) (sym same) (closes_done _ _ bases ws c.args.head jobs telling b c.agrees.ensures c.close.result c.close.ensures)

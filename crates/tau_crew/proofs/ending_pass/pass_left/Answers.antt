@@ -3,11 +3,11 @@ use Rattle.tau_desk.specs.Seats.{PlainHead}
 use Rattle.tau_crew.specs.Ending.{IsHeadBack}
 use Rattle.tau_crew.specs.EndDone.{durables}
 use Rattle.tau_crew.specs.EndLeft.{AreTold, HaveGathered}
-use Rattle.tau_crew.proofs.EndLeft.{goes-none, goes-on}
+use Rattle.tau_crew.proofs.EndLeft.{goes_none, goes_on}
 use Rattle.tau_crew.proofs.ending_pass.pass_left.Goals as goal
 
 pub loop-init : goal.loop-init
-loop-init g c = (refl, goes-none _ _ _ _ _ _ _ c.requires.clerk)
+loop-init g c = (refl, goes_none _ _ _ _ _ _ _ c.requires.clerk)
 
 pub pass_once-requires-clause-managers : goal.pass_once-requires-clause-managers
 pass_once-requires-clause-managers g c = let (bases, ws, m) = c.requires.managers in (bases, ws, c.loop.invariant.1.managers bases ws m)
@@ -22,19 +22,19 @@ pub nothing_left-requires-clause-managers : goal.nothing_left-requires-clause-ma
 nothing_left-requires-clause-managers g c = let (bases, ws, m) = c.requires.managers in (bases, ws, c.pass_once.ensures.managers bases ws (c.loop.invariant.1.managers bases ws m))
 
 pub loop-preserved : goal.loop-preserved
-loop-preserved g c = (c.nothing_left.ensures.same ∙ c.loop.invariant.0, goes-on _ _ _ _ _ _ _ _ _ _ _ _ _ _ _ c.loop.invariant.1 c.pass_once.ensures)
+loop-preserved g c = (c.nothing_left.ensures.same ∙ c.loop.invariant.0, goes_on _ _ _ _ _ _ _ _ _ _ _ _ _ _ _ c.loop.invariant.1 c.pass_once.ensures)
 
 pub returns-then-not-have_memory-clause-same : goal.returns-then-not-have_memory-clause-same
 returns-then-not-have_memory-clause-same g c = c.loop.invariant.0
 
 pub returns-then-not-have_memory-clause-goes : goal.returns-then-not-have_memory-clause-goes
-returns-then-not-have_memory-clause-goes g c = goes-on _ _ _ _ _ _ _ _ _ _ _ _ _ _ _ c.loop.invariant.1 c.pass_once.ensures
+returns-then-not-have_memory-clause-goes g c = goes_on _ _ _ _ _ _ _ _ _ _ _ _ _ _ _ c.loop.invariant.1 c.pass_once.ensures
 
 pub returns-then-nothing_left-clause-same : goal.returns-then-nothing_left-clause-same
 returns-then-nothing_left-clause-same g c = c.nothing_left.ensures.same ∙ c.loop.invariant.0
 
 pub returns-then-nothing_left-clause-goes : goal.returns-then-nothing_left-clause-goes
-returns-then-nothing_left-clause-goes g c = goes-on _ _ _ _ _ _ _ _ _ _ _ _ _ _ _ c.loop.invariant.1 c.pass_once.ensures
+returns-then-nothing_left-clause-goes g c = goes_on _ _ _ _ _ _ _ _ _ _ _ _ _ _ _ c.loop.invariant.1 c.pass_once.ensures
 
 pub returns-then-nothing_left-clause-memory : goal.returns-then-nothing_left-clause-memory
 returns-then-nothing_left-clause-memory g c = λ yes. c.have_memory.ensures.managers c.if-not-have_memory.false

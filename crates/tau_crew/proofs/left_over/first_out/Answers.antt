@@ -1,12 +1,12 @@
 use Rattle.std.proofs.Common.{arith}
-use Rattle.tau_crew.proofs.LeftOver.{first-is-out, one-there}
+use Rattle.tau_crew.proofs.LeftOver.{first_is_out, one_there}
 use Rattle.tau_crew.proofs.left_over.first_out.Goals as goal
 
 pub returns-then-not-has_worker : goal.returns-then-not-has_worker
-returns-then-not-has_worker c = λ w q. first-is-out c.args.head.now c.loop-worker.worker w q c.loop-worker.invariant (c.has_worker.ensures.out c.if-not-has_worker.true)
+returns-then-not-has_worker c = λ w q. first_is_out c.args.head.now c.loop-worker.worker w q c.loop-worker.invariant (c.has_worker.ensures.out c.if-not-has_worker.true)
 
 pub loop-worker-preserved : goal.loop-worker-preserved
-loop-worker-preserved c = one-there c.args.head.now c.loop-worker.worker c.loop-worker.invariant (c.has_worker.ensures.there c.if-not-has_worker.false)
+loop-worker-preserved c = one_there c.args.head.now c.loop-worker.worker c.loop-worker.invariant (c.has_worker.ensures.there c.if-not-has_worker.false)
 
 pub unreachable-requires : goal.unreachable-requires
 unreachable-requires c =

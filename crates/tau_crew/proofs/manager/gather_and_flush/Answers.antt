@@ -1,20 +1,20 @@
 use Rattle.std.proofs.Common.{ℕ, List, [], ◌++◌, ◌≡◌, ◌⊎◌, ◌≤◌, length, ◌∙◌, ap, sym, subst, refl, arith}
 use Rattle.tau_outbox.specs.Pieces.{bytes_of}
 use Rattle.tau_crew.specs.Gathering.{GathersMore}
-use Rattle.tau_crew.proofs.Gathering.{long-bytes}
-use Rattle.tau_crew.proofs.Driving.{driven-loaded, driven-short}
+use Rattle.tau_crew.proofs.Gathering.{long_bytes}
+use Rattle.tau_crew.proofs.Driving.{driven_loaded, driven_short}
 use Rattle.tau_crew.proofs.manager.gather_and_flush.Goals as goal
 
 pub returns-in-Err-clause-short : goal.returns-in-Err-clause-short
 returns-in-Err-clause-short g c = λ n j base w0 d all.
-    driven-short n j base w0 g.met.D.Disk.seen_now c.args.seat.now c.gather_all.new.seat c.clear.new.self.items c.gather_all.new.body.items c.args.writer.now c.args.writer.now d c.gather_all.ensures refl refl refl
+    driven_short n j base w0 g.met.D.Disk.seen_now c.args.seat.now c.gather_all.new.seat c.clear.new.self.items c.gather_all.new.body.items c.args.writer.now c.args.writer.now d c.gather_all.ensures refl refl refl
 
 pub hand_over-requires-clause-whole : goal.hand_over-requires-clause-whole
 hand_over-requires-clause-whole g c =
     let (n, j, base, w0, d) = c.requires.driven in
     let e = c.gather_all.ensures in
     let body : c.deref.result.now ≡ bytes_of e.pieces = c.deref.ensures.value ∙ e.bytes ∙ ap (λ (b : List ℕ). b ++ bytes_of e.pieces) c.clear.ensures.items in
-    subst (λ (b : List ℕ). (b ≡ []) ⊎ (5 ≤ length b)) (sym body) (long-bytes e.pieces (e.long d.long))
+    subst (λ (b : List ℕ). (b ≡ []) ⊎ (5 ≤ length b)) (sym body) (long_bytes e.pieces (e.long d.long))
 
 pub flush-requires-clause-driven : goal.flush-requires-clause-driven
 flush-requires-clause-driven g c =
@@ -24,14 +24,14 @@ flush-requires-clause-driven g c =
       j,
       base,
       w0,
-      driven-loaded n j base w0 g.met.D.Disk.seen_now c.args.seat.now c.gather_all.new.seat c.gather_all.new.body.items c.args.writer.now c.hand_over.new.writer d c.requires.flushed (sym c.failed.ensures ∙ c.if-failed.false) from_none
+      driven_loaded n j base w0 g.met.D.Disk.seen_now c.args.seat.now c.gather_all.new.seat c.gather_all.new.body.items c.args.writer.now c.hand_over.new.writer d c.requires.flushed (sym c.failed.ensures ∙ c.if-failed.false) from_none
           (c.in-Ok-hand_over.ensures.left ∙ c.deref.ensures.value) c.hand_over.ensures.disk c.hand_over.ensures.durable c.hand_over.ensures.works c.hand_over.ensures.ready,
     )
 
 pub returns-in-Ok-hand_over-clause-keeps : goal.returns-in-Ok-hand_over-clause-keeps
 returns-in-Ok-hand_over-clause-keeps g c = λ n j base w0 d.
     let from_none : GathersMore c.args.seat.now c.gather_all.new.seat [] c.gather_all.new.body.items = subst (λ (b : List ℕ). GathersMore c.args.seat.now c.gather_all.new.seat b c.gather_all.new.body.items) c.clear.ensures.items c.gather_all.ensures in
-    c.flush.ensures.keeps n j base w0 (driven-loaded n j base w0 g.met.D.Disk.seen_now c.args.seat.now c.gather_all.new.seat c.gather_all.new.body.items c.args.writer.now c.hand_over.new.writer d c.requires.flushed (sym c.failed.ensures ∙ c.if-failed.false) from_none
+    c.flush.ensures.keeps n j base w0 (driven_loaded n j base w0 g.met.D.Disk.seen_now c.args.seat.now c.gather_all.new.seat c.gather_all.new.body.items c.args.writer.now c.hand_over.new.writer d c.requires.flushed (sym c.failed.ensures ∙ c.if-failed.false) from_none
     (c.in-Ok-hand_over.ensures.left ∙ c.deref.ensures.value) c.hand_over.ensures.disk c.hand_over.ensures.durable c.hand_over.ensures.works c.hand_over.ensures.ready)
 
 pub returns-in-Ok-hand_over-clause-block : goal.returns-in-Ok-hand_over-clause-block
@@ -42,4 +42,4 @@ returns-in-Ok-hand_over-clause-block g c =
 
 pub returns-in-Err-hand_over-clause-short : goal.returns-in-Err-hand_over-clause-short
 returns-in-Err-hand_over-clause-short g c = λ n j base w0 d all.
-    driven-short n j base w0 g.met.D.Disk.seen_now c.args.seat.now c.gather_all.new.seat c.clear.new.self.items c.gather_all.new.body.items c.args.writer.now c.hand_over.new.writer d c.gather_all.ensures c.hand_over.ensures.disk c.hand_over.ensures.durable c.hand_over.ensures.works
+    driven_short n j base w0 g.met.D.Disk.seen_now c.args.seat.now c.gather_all.new.seat c.clear.new.self.items c.gather_all.new.body.items c.args.writer.now c.hand_over.new.writer d c.gather_all.ensures c.hand_over.ensures.disk c.hand_over.ensures.durable c.hand_over.ensures.works

@@ -1,7 +1,7 @@
 use Rattle.std.proofs.Common.{◌∙◌, length, sym, ap, arith}
 use Rattle.std.proofs.lemmas.List.{length-map}
 use Rattle.tau_crew.specs.EndJoins.{writer_in}
-use Rattle.tau_crew.proofs.EndLeft.{back-on}
+use Rattle.tau_crew.proofs.EndLeft.{back_on}
 use Rattle.tau_crew.proofs.top.finish.Goals as goal
 
 pub returns-then-short-clause-ran : goal.returns-then-short-clause-ran
@@ -28,7 +28,7 @@ end_well-requires-clause-room g c =
 
 pub returns-then-do_left-clause-ran : goal.returns-then-do_left-clause-ran
 returns-then-do_left-clause-ran g c = λ bases ws held faults up b.
-    c.end_well.ensures.ran bases ws held faults _ (back-on _ _ _ bases ws held _ _ faults _ _ _ _ _ _ _ _ c.args.short up b c.do_left.ensures.head c.do_left.ensures.goes) (c.do_left.ensures.done c.if-do_left.true)
+    c.end_well.ensures.ran bases ws held faults _ (back_on _ _ _ bases ws held _ _ faults _ _ _ _ _ _ _ _ c.args.short up b c.do_left.ensures.head c.do_left.ensures.goes) (c.do_left.ensures.done c.if-do_left.true)
 
 pub returns-then-do_left-clause-count : goal.returns-then-do_left-clause-count
 returns-then-do_left-clause-count g c =
@@ -50,7 +50,7 @@ end_short-requires-2-clause-room g c =
 
 pub returns-clause-ran : goal.returns-clause-ran
 returns-clause-ran g c = λ bases ws held faults up b.
-    c.end_short-2.ensures.short bases ws held faults _ (back-on _ _ _ bases ws held _ _ faults _ _ _ _ _ _ _ _ c.args.short up b c.do_left.ensures.head c.do_left.ensures.goes)
+    c.end_short-2.ensures.short bases ws held faults _ (back_on _ _ _ bases ws held _ _ faults _ _ _ _ _ _ _ _ c.args.short up b c.do_left.ensures.head c.do_left.ensures.goes)
 
 pub returns-clause-count : goal.returns-clause-count
 returns-clause-count g c =

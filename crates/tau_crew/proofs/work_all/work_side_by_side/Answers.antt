@@ -1,7 +1,7 @@
 use Rattle.std.proofs.Common.{◌+◌, ◌-◌, ◌≤◌, ◌≡◌, ℕ, ap, subst, arith}
 use Rattle.tau_core.specs.declared.state.Load.{Load}
 use Rattle.tau_crew.specs.WorkersBack.{WorkersBack}
-use Rattle.tau_crew.proofs.WorkReturn.{all-back, all-ran}
+use Rattle.tau_crew.proofs.WorkReturn.{all_back, all_ran}
 use Rattle.tau_crew.proofs.work_all.work_side_by_side.Goals as goal
 
 pub returns-clause-all : goal.returns-clause-all
@@ -20,7 +20,7 @@ returns-clause-back g c =
     let low : 1 ≤ l.workers = c.requires.run.stands.sound.workers_low in
     let count : 0 + (c.args.desk.now.load.workers - 1 + 1) ≡ l.workers = omega (arith, same, low) in
     let all : WorkersBack l 0 l.workers c.args.head c.work_all.result.0 c.work_all.result.1 = subst (λ (n : ℕ). WorkersBack l 0 n c.args.head c.work_all.result.0 c.work_all.result.1) count c.work_all.ensures in
-    all-back l c.args.head c.work_all.result.0 c.work_all.result.1 all
+    all_back l c.args.head c.work_all.result.0 c.work_all.result.1 all
 
 pub returns-clause-ran : goal.returns-clause-ran
 returns-clause-ran g c =
@@ -29,4 +29,4 @@ returns-clause-ran g c =
     let low : 1 ≤ l.workers = c.requires.run.stands.sound.workers_low in
     let count : 0 + (c.args.desk.now.load.workers - 1 + 1) ≡ l.workers = omega (arith, same, low) in
     let all : WorkersBack l 0 l.workers c.args.head c.work_all.result.0 c.work_all.result.1 = subst (λ (n : ℕ). WorkersBack l 0 n c.args.head c.work_all.result.0 c.work_all.result.1) count c.work_all.ensures in
-    all-ran l c.args.head c.work_all.result.0 c.work_all.result.1 all
+    all_ran l c.args.head c.work_all.result.0 c.work_all.result.1 all

@@ -9,9 +9,9 @@ use Rattle.tau_desk.proofs.asks.covered_in.Goals as goal
 use Rattle.tau_desk.proofs.asks.covered_in.Goals.{then-is_covered, else-is_covered}
 
 -- one more was looked at
-covered-more : (positions : List ℕ) (calls : List Committed) (i : ℕ) (call : Committed) → slice_get calls i ≡ Some call →
+covered_more : (positions : List ℕ) (calls : List Committed) (i : ℕ) (call : Committed) → slice_get calls i ≡ Some call →
     covered_calls positions (take (i + 1) calls) ≡ covered_calls positions (take i calls) + cond (covers positions call.lv) 1 0
-covered-more positions calls i call is =
+covered_more positions calls i call is =
     length-filter_more (λ (x : Committed). covers positions x.lv) calls i call (slice_get_within calls i call is)
     ∙ ap (λ (x : Committed). covered_calls positions (take i calls) + cond (covers positions x.lv) 1 0) (get_or_from_slice_get calls i call call is)
 
@@ -20,7 +20,7 @@ loop-i-preserved c =
     let positions : List ℕ = c.args.positions.now in
     let calls : List Committed = c.args.calls.now.items in
     let so_far : ℕ = covered_calls positions (take c.loop-i.i calls) in
-    let more = covered-more positions calls c.loop-i.i c.at.result c.at.ensures.at in
+    let more = covered_more positions calls c.loop-i.i c.at.result c.at.ensures.at in
     let count = c.loop-i.invariant.count in
     let low = c.loop-i.invariant.low in
     elim c.if-is_covered.branch [

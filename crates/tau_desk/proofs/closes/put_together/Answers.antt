@@ -14,11 +14,11 @@ take_seats-seats-requires-clause-boxes c = λ w low.
     subst (λ (slots : List (Option Part)). (p : Part) × (x : PlainSeat) × (get_elem? slots (SHARDS + w) ≡ some (Some p)) × IsBoxOf p x) (sym c.take_shards-shards.ensures.same.0) (c.requires.can.boxes w low)
 
 -- how long a vector of zeros is
-zeros-length : (n : ℕ) (v : List ℕ) → v ≡ replicate n 0 → length v ≡ n
-zeros-length n v e = ap (λ (l : List ℕ). length l) e ∙ length-replicate n zero-word
+zeros_length : (n : ℕ) (v : List ℕ) → v ≡ replicate n 0 → length v ≡ n
+zeros_length n v e = ap (λ (l : List ℕ). length l) e ∙ length-replicate n zero_word
   where
-    zero-word : ℕ
-    zero-word = 0
+    zero_word : ℕ
+    zero_word = 0
 
 pub free-requires : goal.free-requires
 free-requires c = λ k lt.
@@ -28,13 +28,13 @@ free-requires c = λ k lt.
     let s = c.requires.sized in
     let s1 = s.1 in
     let s2 = s.2 in
-    let z = zeros-length c.args.load.streams c.zero.result c.zero.ensures in
+    let z = zeros_length c.args.load.streams c.zero.result c.zero.ensures in
     c.take_streams-streams.ensures.taken.empty k (omega (arith, lt, a, b, d, s1, s2, z))
 
 pub returns : goal.returns
 returns c =
     let width : ℕ = c.args.load.streams in
-    let z = zeros-length width c.zero.result c.zero.ensures in
+    let z = zeros_length width c.zero.result c.zero.ensures in
     record {
       load = refl;
       shard_count = c.take_shards-shards.ensures.count;

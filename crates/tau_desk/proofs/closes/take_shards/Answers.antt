@@ -3,10 +3,10 @@ use Rattle.std.specs.Prelude.{Some, slice_get}
 use Rattle.std.specs.Slots.{slots_filled, slots_items, slots_len}
 use mathlib.Core.Option.{some-injective}
 use lib.ListN.{get_elem?}
-use Rattle.tau_core.proofs.Pushes.{each-snoc, length-snoc}
+use Rattle.tau_core.proofs.Pushes.{each_snoc, length_snoc}
 use Rattle.tau_rule.specs.declared.part.Part.{Part}
 use Rattle.tau_desk.specs.Taken.{IsShardAt}
-use Rattle.tau_desk.proofs.Assembling.{now-empty, still-full}
+use Rattle.tau_desk.proofs.Assembling.{now_empty, still_full}
 use Rattle.tau_desk.proofs.closes.take_shards.Goals as goal
 
 pub shard_of-requires : goal.shard_of-requires
@@ -29,9 +29,9 @@ loop-shard-preserved c =
     record {
       items = o.0 ∙ i.items;
       len = o.2 ∙ i.len;
-      taken = record { full = still-full (slots_filled c.loop-shard.closed.slots) (slots_filled c.take.new.self.slots) k (slots_len c.loop-shard.closed.slots) (slots_len c.take.new.self.slots) o.2 o.1 i.taken.full; empty = now-empty (slots_filled c.loop-shard.closed.slots) (slots_filled c.take.new.self.slots) k o.1 i.taken.empty };
+      taken = record { full = still_full (slots_filled c.loop-shard.closed.slots) (slots_filled c.take.new.self.slots) k (slots_len c.loop-shard.closed.slots) (slots_len c.take.new.self.slots) o.2 o.1 i.taken.full; empty = now_empty (slots_filled c.loop-shard.closed.slots) (slots_filled c.take.new.self.slots) k o.1 i.taken.empty };
       below = (let t = c.loop-shard-test.true in omega (arith, t));
-      count = ap (λ l. length l) c.push_reserved.ensures.items ∙ length-snoc c.loop-shard.shards.items c.shard_of.result ∙ ap (λ (n : ℕ). n + 1) i.count;
+      count = ap (λ l. length l) c.push_reserved.ensures.items ∙ length_snoc c.loop-shard.shards.items c.shard_of.result ∙ ap (λ (n : ℕ). n + 1) i.count;
       room = (let r = i.room in let e = c.push_reserved.ensures.capacity in omega (arith, r, e));
-      each = λ n x e. each-snoc (λ m y. IsShardAt xs m y) c.loop-shard.shards.items c.shard_of.result i.each (subst (λ (m : ℕ). IsShardAt xs m c.shard_of.result) (sym i.count) new) n x (ap (λ l. slice_get l n) (sym c.push_reserved.ensures.items) ∙ e);
+      each = λ n x e. each_snoc (λ m y. IsShardAt xs m y) c.loop-shard.shards.items c.shard_of.result i.each (subst (λ (m : ℕ). IsShardAt xs m c.shard_of.result) (sym i.count) new) n x (ap (λ l. slice_get l n) (sym c.push_reserved.ensures.items) ∙ e);
     }

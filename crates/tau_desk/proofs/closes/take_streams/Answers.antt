@@ -3,15 +3,12 @@ use Rattle.std.specs.Prelude.{Some, None, slice_get, slice_index}
 use Rattle.std.specs.Slots.{slots_filled, slots_len}
 use Rattle.std.proofs.lemmas.Option.{slice_get_within}
 use Rattle.tau_core.specs.Plain.{PlainStream}
-use Rattle.tau_core.proofs.Lists.{got-other}
-use Rattle.tau_core.proofs.Pushes.{each-snoc, length-snoc}
+use Rattle.tau_core.proofs.Lists.{got_other}
+use Rattle.tau_core.proofs.Pushes.{each_snoc, length_snoc}
 use Rattle.tau_desk.specs.Shares.{PlainStock}
 use Rattle.tau_desk.specs.Taken.{IsStreamAt, IsStreamFrom, IsTakenTo}
-use Rattle.tau_desk.proofs.Assembling.{now-empty, still-full}
+use Rattle.tau_desk.proofs.Assembling.{now_empty, still_full, same_inside}
 use Rattle.tau_desk.proofs.closes.take_streams.Goals as goal
-
-same-inside : {A : Type 0} (a b : A) (x : Option (Option A)) → x ≡ Some (Some a) → x ≡ Some (Some b) → a ≡ b
-same-inside a b x e f = cc
 
 pub take_stock-stock-requires : goal.take_stock-stock-requires
 take_stock-stock-requires c =
@@ -25,7 +22,7 @@ set-requires-clause-small c =
     let j = c.loop-stream.stream in
     let low : j < length c.args.gathered = (let t = c.loop-stream-test.true in let w = c.width-count.ensures.same in omega (arith, t, w)) in
     let h = c.requires.stocks j low in
-    let same : h.0 ≡ c.take_stock-stock.result = same-inside h.0 c.take_stock-stock.result (slice_get c.loop-stream.stocks.items j) (c.loop-stream.invariant.rest j (omega arith) ∙ h.1) c.take_stock-stock.ensures.taken in
+    let same : h.0 ≡ c.take_stock-stock.result = same_inside h.0 c.take_stock-stock.result (slice_get c.loop-stream.stocks.items j) (c.loop-stream.invariant.rest j (omega arith) ∙ h.1) c.take_stock-stock.ensures.taken in
     let is : c.stock.inside.gathered ≡ h.0.gathered = ap (λ (o : PlainStock). o.gathered) c.stock.view_is ∙ sym (ap (λ (o : PlainStock). o.gathered) same) in
     let small = h.2 in
     omega (arith, is, small)
@@ -59,14 +56,14 @@ loop-stream-preserved c =
       items = o.0 ∙ i.items;
       len = o.2 ∙ i.len;
       taken = subst (λ (n : ℕ). IsTakenTo n (slots_filled c.take.new.self.slots) (slots_len c.take.new.self.slots)) (omega arith) (record {
-        full = still-full (slots_filled c.loop-stream.closed.slots) (slots_filled c.take.new.self.slots) at (slots_len c.loop-stream.closed.slots) (slots_len c.take.new.self.slots) o.2 o.1 i.taken.full;
-        empty = now-empty (slots_filled c.loop-stream.closed.slots) (slots_filled c.take.new.self.slots) at o.1 i.taken.empty;
+        full = still_full (slots_filled c.loop-stream.closed.slots) (slots_filled c.take.new.self.slots) at (slots_len c.loop-stream.closed.slots) (slots_len c.take.new.self.slots) o.2 o.1 i.taken.full;
+        empty = now_empty (slots_filled c.loop-stream.closed.slots) (slots_filled c.take.new.self.slots) at o.1 i.taken.empty;
       });
       below = (let t = c.loop-stream-test.true in omega (arith, t));
-      rest = λ k lt. ap (λ l. slice_get l k) c.take_stock-stock.ensures.left ∙ got-other c.loop-stream.stocks.items j k None (λ e. omega (arith, e, lt)) ∙ i.rest k (omega (arith, lt));
+      rest = λ k lt. ap (λ l. slice_get l k) c.take_stock-stock.ensures.left ∙ got_other c.loop-stream.stocks.items j k None (λ e. omega (arith, e, lt)) ∙ i.rest k (omega (arith, lt));
       wide = ap (λ (l : List ℕ). length l) c.set.ensures ∙ length-set c.loop-stream.gathered j v ∙ wide;
-      many = ap (λ l. length l) c.push_reserved.ensures.items ∙ length-snoc c.loop-stream.streams.items c.stream_of.result ∙ ap (λ (n : ℕ). n + 1) i.many;
+      many = ap (λ l. length l) c.push_reserved.ensures.items ∙ length_snoc c.loop-stream.streams.items c.stream_of.result ∙ ap (λ (n : ℕ). n + 1) i.many;
       room = (let r = i.room in let e = c.push_reserved.ensures.capacity in omega (arith, r, e));
-      each = λ n x e. each-snoc (λ m y. IsStreamAt init c.set.new.self m y) c.loop-stream.streams.items c.stream_of.result old (subst (λ (m : ℕ). IsStreamAt init c.set.new.self m c.stream_of.result) (sym i.many) new) n x
+      each = λ n x e. each_snoc (λ m y. IsStreamAt init c.set.new.self m y) c.loop-stream.streams.items c.stream_of.result old (subst (λ (m : ℕ). IsStreamAt init c.set.new.self m c.stream_of.result) (sym i.many) new) n x
           (ap (λ l. slice_get l n) (sym c.push_reserved.ensures.items) ∙ e);
     }

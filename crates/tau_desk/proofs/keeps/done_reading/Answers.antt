@@ -9,23 +9,24 @@ use Rattle.tau_txn.specs.declared.action.Action.{Action}
 use Rattle.tau_txn.specs.Next.{Finishes, FreesBy, Means, Reads, next_action}
 use Rattle.tau_txn.specs.Txn.{RunsBy}
 use Rattle.tau_core.specs.State.{Plain}
-use Rattle.tau_core.proofs.Hands.{some-hand}
+use Rattle.tau_core.proofs.Hands.{some_hand}
 use Rattle.tau_rule.specs.Boxes.{BoxOf}
 use Rattle.tau_rule.specs.Boxes.{StepsBox}
 use Rattle.tau_rule.specs.Knows.{Knows}
 use Rattle.tau_desk.specs.Works.{joined_worker, told_read_only}
-use Rattle.tau_desk.proofs.Finishing.{box-rooms, done-is}
-use Rattle.tau_desk.proofs.Lasts.{some-last}
-use Rattle.tau_desk.proofs.WorkerReading.{number-shown, reading-dones}
+use Rattle.tau_desk.proofs.Finishing.{box_rooms}
+use Rattle.tau_desk.proofs.Lasts.{some_last}
+use Rattle.tau_desk.proofs.WorkerReading.{number_shown, reading_dones}
 use Rattle.tau_desk.proofs.keeps.done_reading.Goals as goal
+use Rattle.tau_core.proofs.ActionKinds.{done_kind}
 
 pub lv_ref-requires : goal.lv_ref-requires
 lv_ref-requires g c =
     let origin : Plain = c.args.desk.now.table.shared.key.value in
     let r = c.requires.ready in
-    let next = done-is (next_action c.args.txn.now) c.requires.next in
+    let next = done_kind (next_action c.args.txn.now) c.requires.next in
     let means : Finishes origin.load.procs c.args.txn.now next.0 next.1 = subst (λ (a : Action). Means origin.load.procs c.args.txn.now a) next.2 (c.kind.ensures.means origin.load.procs r.runs) in
-    some-hand origin.load.procs c.args.txn.now means.hand means.is
+    some_hand origin.load.procs c.args.txn.now means.hand means.is
 
 pub put_from-requires : goal.put_from-requires
 put_from-requires g c =
@@ -33,7 +34,7 @@ put_from-requires g c =
     let r = c.requires.ready in
     let held = c.take_outbox-outbox.ensures.held in
     let b : BoxOf = (c.take_outbox-outbox.result.0.value, c.take_outbox-outbox.result.1.value) in
-    let rooms = box-rooms origin c.args.worker c.args.seat.now.me c.args.txn.now r held.0 b c.args.room.now.records c.args.room.now.calls held.3 held.2 c.requires.room.0 in
+    let rooms = box_rooms origin c.args.worker c.args.seat.now.me c.args.txn.now r held.0 b c.args.room.now.records c.args.room.now.calls held.3 held.2 c.requires.room.0 in
     let low = c.requires.room.1 in
     subst (λ (o : PlainPending). 1 ≤ o.room) (sym c.deref_mut.ensures.value) (omega (arith, rooms.1, low))
 
@@ -43,7 +44,7 @@ more_records-room-requires g c =
     let r = c.requires.ready in
     let held = c.take_outbox-outbox.ensures.held in
     let b : BoxOf = (c.take_outbox-outbox.result.0.value, c.take_outbox-outbox.result.1.value) in
-    let rooms = box-rooms origin c.args.worker c.args.seat.now.me c.args.txn.now r held.0 b c.args.room.now.records c.args.room.now.calls held.3 held.2 c.requires.room.0 in
+    let rooms = box_rooms origin c.args.worker c.args.seat.now.me c.args.txn.now r held.0 b c.args.room.now.records c.args.room.now.calls held.3 held.2 c.requires.room.0 in
     let low = c.requires.room.1 in
     subst (λ (o : PlainOutbox). c.args.room.now.records ≤ o.room) (sym c.deref_mut-2.ensures.value) rooms.0
 
@@ -53,7 +54,7 @@ more_calls-room-requires g c =
     let r = c.requires.ready in
     let held = c.take_outbox-outbox.ensures.held in
     let b : BoxOf = (c.take_outbox-outbox.result.0.value, c.take_outbox-outbox.result.1.value) in
-    let rooms = box-rooms origin c.args.worker c.args.seat.now.me c.args.txn.now r held.0 b c.args.room.now.records c.args.room.now.calls held.3 held.2 c.requires.room.0 in
+    let rooms = box_rooms origin c.args.worker c.args.seat.now.me c.args.txn.now r held.0 b c.args.room.now.records c.args.room.now.calls held.3 held.2 c.requires.room.0 in
     let low = c.requires.room.1 in
     let before = ap (λ (o : PlainPending). o.room) c.deref_mut.ensures.value in
     let after = ap (λ (o : PlainPending). o.room) c.deref_mut-3.ensures.value in
@@ -64,17 +65,17 @@ pub last_of-kept-requires : goal.last_of-kept-requires
 last_of-kept-requires g c =
     let origin : Plain = c.args.desk.now.table.shared.key.value in
     let r = c.requires.ready in
-    let next = done-is (next_action c.args.txn.now) c.requires.next in
+    let next = done_kind (next_action c.args.txn.now) c.requires.next in
     let means : Finishes origin.load.procs c.args.txn.now next.0 next.1 = subst (λ (a : Action). Means origin.load.procs c.args.txn.now a) next.2 (c.kind.ensures.means origin.load.procs r.runs) in
     let reads : Reads origin.load.procs c.args.txn.now.worker means.hand means.act = subst (λ (j : Bool). FreesBy origin.load.procs j c.args.txn.now.worker means.hand means.act) c.requires.unjoined means.act_is in
-    record { some = some-last c.commit_into.new.out.items c.args.committed.now.items (committed_of means.act) (c.commit_into.ensures.reading origin.load.procs means.hand means.act r.runs means.is reads) }
+    record { some = some_last c.commit_into.new.out.items c.args.committed.now.items (committed_of means.act) (c.commit_into.ensures.reading origin.load.procs means.hand means.act r.runs means.is reads) }
 
 pub give_read_only-requires-clause-event : goal.give_read_only-requires-clause-event
 give_read_only-requires-clause-event g c =
     let origin : Plain = c.args.desk.now.table.shared.key.value in
     let r = c.requires.ready in
     let held = c.take_outbox-outbox.ensures.held in
-    let next = done-is (next_action c.args.txn.now) c.requires.next in
+    let next = done_kind (next_action c.args.txn.now) c.requires.next in
     let means : Finishes origin.load.procs c.args.txn.now next.0 next.1 = subst (λ (a : Action). Means origin.load.procs c.args.txn.now a) next.2 (c.kind.ensures.means origin.load.procs r.runs) in
     let empty : c.went.new.self.hand ≡ None = c.went.ensures.done next.0 next.1 next.2 in
     let reads : Reads origin.load.procs c.args.txn.now.worker means.hand means.act = subst (λ (j : Bool). FreesBy origin.load.procs j c.args.txn.now.worker means.hand means.act) c.requires.unjoined means.act_is in
@@ -83,7 +84,7 @@ give_read_only-requires-clause-event g c =
     let b : BoxOf = (c.take_outbox-outbox.result.0.value, c.take_outbox-outbox.result.1.value) in
     let b' : BoxOf = (c.more_records-room.new.outbox, c.more_calls-room.new.pending) in
     let number : c.number_of.result ≡ means.act.call.call.number =
-    (let e : Some c.number_of.result ≡ Some means.act.call.call.number = c.number_of.ensures ∙ number-shown origin.load.procs c.args.txn.now means.hand means.act means.is reads in cc) in
+    (let e : Some c.number_of.result ≡ Some means.act.call.call.number = c.number_of.ensures ∙ number_shown origin.load.procs c.args.txn.now means.hand means.act means.is reads in cc) in
     let lv : c.lv_ref.result.now ≡ lv_of means.act = c.lv_ref.ensures.frees origin.load.procs means.hand means.act r.runs means.is means.act_is in
     let v : Knows = c.take_outbox-outbox.new.seat.me.0 in (
       b',
@@ -102,7 +103,7 @@ give_read_only-requires-clause-event g c =
         records = c.more_records-room.ensures.there;
         calls = c.more_calls-room.ensures.there;
         steps = subst (λ (x : Committed). StepsBox origin (DoneReading c.args.worker) v c.args.worker r.worker (joined_worker origin.load r.worker c.went.new.self x) b b') (sym kept)
-            (reading-dones origin v c.args.worker r.worker c.went.new.self means.hand means.act b b' c.number_of.result c.lv_ref.result.now (r.agrees ∙ means.is) (subst (λ (n : ℕ). Reads origin.load.procs n means.hand means.act) r.number reads) means.held empty
+            (reading_dones origin v c.args.worker r.worker c.went.new.self means.hand means.act b b' c.number_of.result c.lv_ref.result.now (r.agrees ∙ means.is) (subst (λ (n : ℕ). Reads origin.load.procs n means.hand means.act) r.number reads) means.held empty
             (c.more_records-room.ensures.pieces ∙ ap (λ (o : PlainOutbox). o.pieces) c.deref_mut-2.ensures.value)
             (c.more_calls-room.ensures.calls ∙ ap (λ (o : PlainPending). o.calls) c.deref_mut-3.ensures.value ∙ c.put_from.ensures.calls ∙ ap (λ (o : PlainPending). o.calls ++ record { number = c.number_of.result; lv = c.lv_ref.result.now } ∷ []) c.deref_mut.ensures.value)
             (λ i. record { number = number i; lv = lv i }));
@@ -114,7 +115,7 @@ returns-clause-step g c =
     let origin : Plain = c.args.desk.now.table.shared.key.value in
     let r = c.requires.ready in
     let held = c.take_outbox-outbox.ensures.held in
-    let next = done-is (next_action c.args.txn.now) c.requires.next in
+    let next = done_kind (next_action c.args.txn.now) c.requires.next in
     let means : Finishes origin.load.procs c.args.txn.now next.0 next.1 = subst (λ (a : Action). Means origin.load.procs c.args.txn.now a) next.2 (c.kind.ensures.means origin.load.procs r.runs) in
     let empty : c.went.new.self.hand ≡ None = c.went.ensures.done next.0 next.1 next.2 in
     let reads : Reads origin.load.procs c.args.txn.now.worker means.hand means.act = subst (λ (j : Bool). FreesBy origin.load.procs j c.args.txn.now.worker means.hand means.act) c.requires.unjoined means.act_is in

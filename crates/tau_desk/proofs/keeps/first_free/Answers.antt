@@ -22,10 +22,10 @@ use Rattle.tau_rule.specs.Knows.{Knows}
 use Rattle.tau_rule.specs.Steps.{Agrees, StepsShard, shard_in}
 use Rattle.tau_machine.specs.Events.{FirstFree}
 use Rattle.tau_desk.specs.Works.{joined_worker, told_joined}
-use Rattle.tau_desk.proofs.Freeing.{no-free, taken-held}
-use Rattle.tau_desk.proofs.Lasts.{some-last}
-use Rattle.tau_desk.proofs.Quitting.{was-holding}
-use Rattle.tau_desk.proofs.Reading.{first-steps}
+use Rattle.tau_desk.proofs.Freeing.{no_free, taken_held}
+use Rattle.tau_desk.proofs.Lasts.{some_last}
+use Rattle.tau_desk.proofs.Quitting.{was_holding}
+use Rattle.tau_desk.proofs.Reading.{first_steps}
 use Rattle.tau_desk.proofs.keeps.first_free.Goals as goal
 
 pub lv_ref-requires : goal.lv_ref-requires
@@ -44,9 +44,9 @@ free_by-requires-clause-held g c =
     let number : k ≡ shard_number key = c.from-number.ensures ∙ c.shard_of.ensures.same in
     let means : Frees origin.load.procs c.args.txn.now key (written_in c.args.txn.now key) = c.in-Some.ensures.means origin.load.procs r.runs in
     let next : next_action c.args.txn.now ≡ action.Free key (written_in c.args.txn.now key) = c.in-Some.ensures.next in
-    let begun = was-holding origin.load.streams r.worker means.hand key means.mode (r.agrees ∙ means.is) means.held in
+    let begun = was_holding origin.load.streams r.worker means.hand key means.mode (r.agrees ∙ means.is) means.held in
     let agrees : Agrees origin v k held.0 = held.3 in
-    let holds = taken-held origin c.args.seat.now.me c.args.txn.now c.args.worker k held.0 sh r means.hand key begun.0 agrees was number in
+    let holds = taken_held origin c.args.seat.now.me c.args.txn.now c.args.worker k held.0 sh r means.hand key begun.0 agrees was number in
     let is : Some means.mode ≡ (entry_in sh key).holders c.args.worker = sym (holds ∙ means.held) in
     subst IsSome is refl
 
@@ -57,7 +57,7 @@ last_of-requires g c =
     let key : Key = c.in-Some.key in
     let means : Frees origin.load.procs c.args.txn.now key (written_in c.args.txn.now key) = c.in-Some.ensures.means origin.load.procs r.runs in
     let reads : Reads origin.load.procs c.args.txn.now.worker means.hand means.act = subst (λ (b : Bool). FreesBy origin.load.procs b c.args.txn.now.worker means.hand means.act) c.requires.unjoined means.act_is in
-    record { some = some-last c.commit_into.new.out.items c.args.committed.now.items (committed_of means.act) (c.commit_into.ensures.reading origin.load.procs means.hand means.act r.runs means.is reads) }
+    record { some = some_last c.commit_into.new.out.items c.args.committed.now.items (committed_of means.act) (c.commit_into.ensures.reading origin.load.procs means.hand means.act r.runs means.is reads) }
 
 pub give_first-requires-clause-event : goal.give_first-requires-clause-event
 give_first-requires-clause-event g c =
@@ -72,7 +72,7 @@ give_first-requires-clause-event g c =
     let number : k ≡ shard_number key = c.from-number.ensures ∙ c.shard_of.ensures.same in
     let means : Frees origin.load.procs c.args.txn.now key (written_in c.args.txn.now key) = c.in-Some.ensures.means origin.load.procs r.runs in
     let next : next_action c.args.txn.now ≡ action.Free key (written_in c.args.txn.now key) = c.in-Some.ensures.next in
-    let begun = was-holding origin.load.streams r.worker means.hand key means.mode (r.agrees ∙ means.is) means.held in
+    let begun = was_holding origin.load.streams r.worker means.hand key means.mode (r.agrees ∙ means.is) means.held in
     let reads : Reads origin.load.procs c.args.txn.now.worker means.hand means.act = subst (λ (b : Bool). FreesBy origin.load.procs b c.args.txn.now.worker means.hand means.act) c.requires.unjoined means.act_is in
     let items : c.commit_into.new.out.items ≡ c.args.committed.now.items ++ committed_of means.act ∷ [] = c.commit_into.ensures.reading origin.load.procs means.hand means.act r.runs means.is reads in
     let kept : c.last_of.result ≡ committed_of means.act = c.last_of.ensures.last c.args.committed.now.items (committed_of means.act) items in
@@ -94,7 +94,7 @@ give_first-requires-clause-event g c =
         was = was;
         there = r.there;
         steps = subst (λ (x : Committed). StepsShard origin (FirstFree c.args.worker) c.args.worker r.worker (joined_worker origin.load r.worker c.went.new.self x) k sh (shard_of c.free_by.new.self)) (sym kept)
-            (first-steps origin c.args.worker k r.worker sh (shard_of c.free_by.new.self) c.went.new.self key means.mode means.act means.hand begun.0 begun.1 number (subst (λ (n : ℕ). Reads origin.load.procs n means.hand means.act) r.number reads) means.held means.lowest after shown);
+            (first_steps origin c.args.worker k r.worker sh (shard_of c.free_by.new.self) c.went.new.self key means.mode means.act means.hand begun.0 begun.1 number (subst (λ (n : ℕ). Reads origin.load.procs n means.hand means.act) r.number reads) means.held means.lowest after shown);
       },
     )
 
@@ -111,7 +111,7 @@ returns-clause-step g c = λ e.
     let number : k ≡ shard_number key = c.from-number.ensures ∙ c.shard_of.ensures.same in
     let means : Frees origin.load.procs c.args.txn.now key (written_in c.args.txn.now key) = c.in-Some.ensures.means origin.load.procs r.runs in
     let next : next_action c.args.txn.now ≡ action.Free key (written_in c.args.txn.now key) = c.in-Some.ensures.next in
-    let begun = was-holding origin.load.streams r.worker means.hand key means.mode (r.agrees ∙ means.is) means.held in
+    let begun = was_holding origin.load.streams r.worker means.hand key means.mode (r.agrees ∙ means.is) means.held in
     let reads : Reads origin.load.procs c.args.txn.now.worker means.hand means.act = subst (λ (b : Bool). FreesBy origin.load.procs b c.args.txn.now.worker means.hand means.act) c.requires.unjoined means.act_is in
     let items : c.commit_into.new.out.items ≡ c.args.committed.now.items ++ committed_of means.act ∷ [] = c.commit_into.ensures.reading origin.load.procs means.hand means.act r.runs means.is reads in
     let kept : c.last_of.result ≡ committed_of means.act = c.last_of.ensures.last c.args.committed.now.items (committed_of means.act) items in
@@ -134,4 +134,4 @@ returns-clause-step g c = λ e.
     )
 
 pub returns-in_default-clause-other : goal.returns-in_default-clause-other
-returns-in_default-clause-other g c = λ e. no-free (next_action c.args.txn.now) c.free_asked.result c.free_asked.ensures.asked c.in_default.not-Some
+returns-in_default-clause-other g c = λ e. no_free (next_action c.args.txn.now) c.free_asked.result c.free_asked.ensures.asked c.in_default.not-Some

@@ -1,5 +1,5 @@
-use Rattle.tau_desk.proofs.Owning.{own_keys-is}
+use Rattle.tau_desk.proofs.Owning.{own_keys_is}
 use Rattle.tau_desk.proofs.laws.own_keys.Goals as goal
 
 pub returns : goal.returns
-returns c = own_keys-is
+returns c = own_keys_is

@@ -1,5 +1,5 @@
-use Rattle.tau_desk.proofs.Owning.{own_vectors-is}
+use Rattle.tau_desk.proofs.Owning.{own_vectors_is}
 use Rattle.tau_desk.proofs.laws.own_vectors.Goals as goal
 
 pub returns : goal.returns
-returns c = own_vectors-is
+returns c = own_vectors_is

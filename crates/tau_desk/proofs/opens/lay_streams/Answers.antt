@@ -7,7 +7,7 @@ use Rattle.std.proofs.lemmas.Option.{slice_get_read}
 use Rattle.tau_rule.specs.declared.part.Part.{Part}
 use Rattle.tau_desk.specs.Shares.{PlainStock}
 use Rattle.tau_desk.specs.Laid.{EachOf, HasAnchor, IsFirstAnchor, IsItsStock, stock_at}
-use Rattle.tau_desk.proofs.Slots.{each-more}
+use Rattle.tau_desk.proofs.Slots.{each_more}
 use Rattle.tau_desk.proofs.opens.lay_streams.Goals as goal
 
 pub stock_of-requires : goal.stock_of-requires
@@ -26,9 +26,9 @@ loop-stream-preserved c =
     let end : c.position-end.result ≡ slice_index ends (length c.loop-stream.yielded) = c.position-end.ensures.same ∙ ap (slice_index ends) (at ∙ i.stocks.count) in
     record {
       slots = subst (λ (ys : List (Option Part)). EachOf (HasAnchor (length ends)) (c.loop-stream.yielded ++ c.in-Some.stream ∷ []) ys) (sym c.in_ok-push.ensures.items)
-          (each-more (HasAnchor (length ends)) c.loop-stream.yielded c.loop-stream.slots.items c.in-Some.stream (Some c.in_ok-part.part) i.slots
+          (each_more (HasAnchor (length ends)) c.loop-stream.yielded c.loop-stream.slots.items c.in-Some.stream (Some c.in_ok-part.part) i.slots
           (c.in_ok-part.part, refl, subst (λ (n : ℕ). IsFirstAnchor n c.in_ok-part.part) c.width.ensures.same c.in_ok-part.ensures));
       stocks = subst (λ (ys : List (Option PlainStock)). EachOf (IsItsStock ends) (c.loop-stream.yielded ++ c.in-Some.stream ∷ []) ys) (sym c.in_ok-push-2.ensures.items)
-          (each-more (IsItsStock ends) c.loop-stream.yielded c.loop-stream.stocks.items c.in-Some.stream (Some c.stock_of.result) i.stocks
+          (each_more (IsItsStock ends) c.loop-stream.yielded c.loop-stream.stocks.items c.in-Some.stream (Some c.stock_of.result) i.stocks
           (c.stock_of.ensures.0, ap (λ (o : PlainStock). Some o) c.stock_of.ensures.1 ∙ ap (λ (n : ℕ). Some (stock_at c.in-Some.stream n c.stock_of.ensures.0)) end));
     }

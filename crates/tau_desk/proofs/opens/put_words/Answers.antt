@@ -1,7 +1,7 @@
 use Rattle.std.proofs.Common.{rules, ℕ, ◌+◌, ◌*◌, ◌<◌, ◌≡◌, inl, inr, length, ap, sym, ◌∙◌, arith, length-set}
 use Rattle.std.specs.Prelude.{slice_index}
 use Rattle.std.proofs.lemmas.Bool.{cases_eq}
-use Rattle.tau_desk.proofs.Slots.{word-put, word-else}
+use Rattle.tau_desk.proofs.Slots.{word_put, word_else}
 use Rattle.tau_desk.proofs.opens.put_words.Goals as goal
 
 pub loop-j-preserved : goal.loop-j-preserved
@@ -15,10 +15,10 @@ loop-j-preserved c =
     record {
       count = length-set ws (8 * (from + j)) x ∙ i.count;
       put = λ k lt. elim (cases_eq k j) [
-        | inl is ↦ word-put ws (from + j) (from + k) x (ap (λ (n : ℕ). from + n) is) inside ∙ c.get.ensures.same ∙ ap (slice_index c.args.lv.now) (sym is)
-        | inr ne ↦ word-else ws (from + j) (from + k) x (λ e. ne (omega (arith, e))) ∙ i.put k (below k j lt ne)
+        | inl is ↦ word_put ws (from + j) (from + k) x (ap (λ (n : ℕ). from + n) is) inside ∙ c.get.ensures.same ∙ ap (slice_index c.args.lv.now) (sym is)
+        | inr ne ↦ word_else ws (from + j) (from + k) x (λ e. ne (omega (arith, e))) ∙ i.put k (below k j lt ne)
       ];
-      others = λ k apart. word-else ws (from + j) k x (λ e. apart j (omega arith) e) ∙ i.others k (λ n lt. apart n (omega (arith, lt)));
+      others = λ k apart. word_else ws (from + j) k x (λ e. apart j (omega arith) e) ∙ i.others k (λ n lt. apart n (omega (arith, lt)));
     }
   where
     below : (k j : ℕ) → k < j + 1 → (k ≡ j → ⊥) → k < j

@@ -8,19 +8,20 @@ use Rattle.tau_txn.specs.declared.action.Action.{Action}
 use Rattle.tau_txn.specs.Next.{Finishes, FreesBy, Means, next_action}
 use Rattle.tau_txn.specs.Txn.{RunsBy}
 use Rattle.tau_core.specs.State.{Plain}
-use Rattle.tau_core.proofs.Hands.{some-hand}
-use Rattle.tau_core.proofs.Joins.{number-freed}
+use Rattle.tau_core.proofs.Hands.{some_hand}
+use Rattle.tau_core.proofs.Joins.{number_freed}
 use Rattle.tau_rule.specs.Boxes.{BoxOf}
-use Rattle.tau_desk.proofs.Finishing.{box-rooms, done-is, dones}
-use Rattle.tau_desk.proofs.Freeing.{was-begun}
+use Rattle.tau_desk.proofs.Finishing.{box_rooms, dones}
+use Rattle.tau_desk.proofs.Freeing.{was_begun}
 use Rattle.tau_desk.proofs.work.done.Goals as goal
+use Rattle.tau_core.proofs.ActionKinds.{done_kind}
 
 pub lv_ref-requires : goal.lv_ref-requires
 lv_ref-requires g c =
     let origin : Plain = c.args.desk.now.table.shared.key.value in
-    let next = done-is (next_action c.args.txn.now) c.requires.next in
+    let next = done_kind (next_action c.args.txn.now) c.requires.next in
     let means : Finishes origin.load.procs c.args.txn.now next.0 next.1 = subst (λ (a : Action). Means origin.load.procs c.args.txn.now a) next.2 (c.kind.ensures.means origin.load.procs c.requires.ready.runs) in
-    some-hand origin.load.procs c.args.txn.now means.hand means.is
+    some_hand origin.load.procs c.args.txn.now means.hand means.is
 
 pub put_from-requires : goal.put_from-requires
 put_from-requires g c =
@@ -28,7 +29,7 @@ put_from-requires g c =
     let r = c.requires.ready in
     let held = c.take_outbox-outbox.ensures.held in
     let b : BoxOf = (c.take_outbox-outbox.result.0.value, c.take_outbox-outbox.result.1.value) in
-    let rooms = box-rooms origin c.args.worker c.args.seat.now.me c.args.txn.now r held.0 b c.args.room.now.records c.args.room.now.calls held.3 held.2 c.requires.room.0 in
+    let rooms = box_rooms origin c.args.worker c.args.seat.now.me c.args.txn.now r held.0 b c.args.room.now.records c.args.room.now.calls held.3 held.2 c.requires.room.0 in
     let low = c.requires.room.1 in
     subst (λ (o : PlainPending). 1 ≤ o.room) (sym c.deref_mut.ensures.value) (omega (arith, rooms.1, low))
 
@@ -38,7 +39,7 @@ more_records-room-requires g c =
     let r = c.requires.ready in
     let held = c.take_outbox-outbox.ensures.held in
     let b : BoxOf = (c.take_outbox-outbox.result.0.value, c.take_outbox-outbox.result.1.value) in
-    let rooms = box-rooms origin c.args.worker c.args.seat.now.me c.args.txn.now r held.0 b c.args.room.now.records c.args.room.now.calls held.3 held.2 c.requires.room.0 in
+    let rooms = box_rooms origin c.args.worker c.args.seat.now.me c.args.txn.now r held.0 b c.args.room.now.records c.args.room.now.calls held.3 held.2 c.requires.room.0 in
     let low = c.requires.room.1 in
     subst (λ (o : PlainOutbox). c.args.room.now.records ≤ o.room) (sym c.deref_mut-2.ensures.value) rooms.0
 
@@ -48,7 +49,7 @@ more_calls-room-requires g c =
     let r = c.requires.ready in
     let held = c.take_outbox-outbox.ensures.held in
     let b : BoxOf = (c.take_outbox-outbox.result.0.value, c.take_outbox-outbox.result.1.value) in
-    let rooms = box-rooms origin c.args.worker c.args.seat.now.me c.args.txn.now r held.0 b c.args.room.now.records c.args.room.now.calls held.3 held.2 c.requires.room.0 in
+    let rooms = box_rooms origin c.args.worker c.args.seat.now.me c.args.txn.now r held.0 b c.args.room.now.records c.args.room.now.calls held.3 held.2 c.requires.room.0 in
     let low = c.requires.room.1 in
     let before = ap (λ (o : PlainPending). o.room) c.deref_mut.ensures.value in
     let after = ap (λ (o : PlainPending). o.room) c.deref_mut-3.ensures.value in
@@ -61,15 +62,15 @@ give_outbox-requires-clause-event g c =
     let r = c.requires.ready in
     let held = c.take_outbox-outbox.ensures.held in
     let b : BoxOf = (c.take_outbox-outbox.result.0.value, c.take_outbox-outbox.result.1.value) in
-    let rooms = box-rooms origin c.args.worker c.args.seat.now.me c.args.txn.now r held.0 b c.args.room.now.records c.args.room.now.calls held.3 held.2 c.requires.room.0 in
+    let rooms = box_rooms origin c.args.worker c.args.seat.now.me c.args.txn.now r held.0 b c.args.room.now.records c.args.room.now.calls held.3 held.2 c.requires.room.0 in
     let low = c.requires.room.1 in
-    let next = done-is (next_action c.args.txn.now) c.requires.next in
+    let next = done_kind (next_action c.args.txn.now) c.requires.next in
     let means : Finishes origin.load.procs c.args.txn.now next.0 next.1 = subst (λ (a : Action). Means origin.load.procs c.args.txn.now a) next.2 (c.kind.ensures.means origin.load.procs r.runs) in
     let empty : c.went.new.self.hand ≡ None = c.went.ensures.done next.0 next.1 next.2 in
     let phase : means.hand.phase ≡ Freeing means.act = subst (λ (j : Bool). FreesBy origin.load.procs j c.args.txn.now.worker means.hand means.act) c.requires.joined means.act_is in
-    let begun = was-begun origin.load.streams r.worker means.hand means.act (r.agrees ∙ means.is) phase in
+    let begun = was_begun origin.load.streams r.worker means.hand means.act (r.agrees ∙ means.is) phase in
     let number : c.number_of.result ≡ means.act.call.call.number =
-    (let e : Some c.number_of.result ≡ Some means.act.call.call.number = c.number_of.ensures ∙ number-freed origin.load.procs c.args.txn.now means.hand means.act means.is phase in cc) in
+    (let e : Some c.number_of.result ≡ Some means.act.call.call.number = c.number_of.ensures ∙ number_freed origin.load.procs c.args.txn.now means.hand means.act means.is phase in cc) in
     let lv : c.lv_ref.result.now ≡ lv_of means.act = c.lv_ref.ensures.frees origin.load.procs means.hand means.act r.runs means.is means.act_is in
     let b' : BoxOf = (c.more_records-room.new.outbox, c.more_calls-room.new.pending) in (
       Done c.args.worker,
@@ -101,7 +102,7 @@ pub returns-clause-call : goal.returns-clause-call
 returns-clause-call g c =
     let origin : Plain = c.args.desk.now.table.shared.key.value in
     let r = c.requires.ready in
-    let next = done-is (next_action c.args.txn.now) c.requires.next in
+    let next = done_kind (next_action c.args.txn.now) c.requires.next in
     let means : Finishes origin.load.procs c.args.txn.now next.0 next.1 = subst (λ (a : Action). Means origin.load.procs c.args.txn.now a) next.2 (c.kind.ensures.means origin.load.procs r.runs) in
     let empty : c.went.new.self.hand ≡ None = c.went.ensures.done next.0 next.1 next.2 in
     record {

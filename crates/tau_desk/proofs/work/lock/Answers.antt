@@ -17,8 +17,8 @@ use Rattle.tau_txn.specs.Txn.{RunsBy, hand_in, worker_of}
 use Rattle.tau_core.specs.State.{Plain}
 use Rattle.tau_rule.specs.Knows.{Knows}
 use Rattle.tau_rule.specs.Steps.{Agrees, told, shard_in}
-use Rattle.tau_rule.proofs.Turns.{part-shard}
-use Rattle.tau_desk.proofs.Locking.{no-lock, granted-steps, busy-steps, taken-wide}
+use Rattle.tau_rule.proofs.Turns.{part_shard}
+use Rattle.tau_desk.proofs.Locking.{no_lock, granted_steps, busy_steps, taken_wide}
 use Rattle.tau_desk.proofs.work.lock.Goals as goal
 
 pub dep_ref-requires : goal.dep_ref-requires
@@ -43,7 +43,7 @@ granted_by-requires-clause-wide g c =
     let means : Locks origin.load.procs c.args.txn.now c.in-Some.key c.in-Some.mode = c.in-Some.ensures.means origin.load.procs r.runs in
     let next : next_action c.args.txn.now ≡ action.Lock c.in-Some.key c.in-Some.mode = c.in-Some.ensures.next in
     let agrees : Agrees origin v k held.0 = held.3 in
-    ap (length {A = ℕ}) c.in-Ok.ensures.joined ∙ taken-wide origin v k held.0 sh c.in-Some.key c.in-Some.mode c.dep_ref.result.now agrees was (c.dep_ref.ensures.wide ∙ r.width)
+    ap (length {A = ℕ}) c.in-Ok.ensures.joined ∙ taken_wide origin v k held.0 sh c.in-Some.key c.in-Some.mode c.dep_ref.result.now agrees was (c.dep_ref.ensures.wide ∙ r.width)
     ∙ sym r.width
 
 pub give_shard-requires-clause-event : goal.give_shard-requires-clause-event
@@ -73,7 +73,7 @@ give_shard-requires-clause-event g c =
         share = r.share;
         was = was;
         there = r.there;
-        steps = granted-steps origin c.args.worker k r.worker sh (shard_of c.lock_key.new.self) c.args.txn.now c.granted_by.new.self c.in-Some.key c.in-Some.mode row c.dep_ref.result.now c.lock_key.new.dep means r.agrees number
+        steps = granted_steps origin c.args.worker k r.worker sh (shard_of c.lock_key.new.self) c.args.txn.now c.granted_by.new.self c.in-Some.key c.in-Some.mode row c.dep_ref.result.now c.lock_key.new.dep means r.agrees number
             c.dep_ref.ensures.dep c.in-Ok.ensures.joined lent c.in-Ok.ensures.free c.in-Ok.ensures.locked
             (c.granted_by.ensures.locked origin.load.procs means.hand c.in-Some.key c.in-Some.mode r.runs next means.is);
       },
@@ -104,7 +104,7 @@ give_shard-requires-in-Err-Busy-clause-event g c =
         share = r.share;
         was = was;
         there = r.there;
-        steps = busy-steps origin c.args.worker k r.worker sh (shard_of c.lock_key.new.self) c.args.txn.now c.busy.new.self c.in-Some.key c.in-Some.mode means r.agrees number c.in-Err-Busy.ensures.unchanged r.width
+        steps = busy_steps origin c.args.worker k r.worker sh (shard_of c.lock_key.new.self) c.args.txn.now c.busy.new.self c.in-Some.key c.in-Some.mode means r.agrees number c.in-Err-Busy.ensures.unchanged r.width
             (subst (λ (p : List Proc). (x : Worker) (h : Hand) → hand_in p c.args.txn.now ≡ Some h → worker_of p x c.busy.new.self ≡ settled c.args.txn.now.width x (hand_busy h)) c.requires.procs c.busy.ensures.busy);
       },
     )
@@ -128,7 +128,7 @@ give_back-requires-clause-same g c =
       held = ap (λ m. m.0.hand) held.1;
       carried = ap (λ m. m.1) held.1;
       roles = ap (λ m. m.0.roles) held.1 ∙ r.seat.roles;
-      same = λ s part. let is = part-shard origin s k held.0 sh was part in (is.0, is.1 ∙ sym c.in-Err-NoMemory.ensures.unchanged);
+      same = λ s part. let is = part_shard origin s k held.0 sh was part in (is.0, is.1 ∙ sym c.in-Err-NoMemory.ensures.unchanged);
     }
 
 pub returns-in-Ok-clause-step : goal.returns-in-Ok-clause-step
@@ -170,4 +170,4 @@ returns-in-Err-Busy-clause-step g c =
     )
 
 pub returns-in_default-clause-other : goal.returns-in_default-clause-other
-returns-in_default-clause-other g c = λ e. no-lock (next_action c.args.txn.now) c.lock_asked.result c.lock_asked.ensures.asked c.in_default.not-Some
+returns-in_default-clause-other g c = λ e. no_lock (next_action c.args.txn.now) c.lock_asked.result c.lock_asked.ensures.asked c.in_default.not-Some

@@ -6,13 +6,13 @@ use Rattle.tau_outbox.specs.Pieces.{PlainOutbox}
 use Rattle.tau_core.specs.State.{Plain}
 use Rattle.tau_rule.specs.Knows.{Knows}
 use Rattle.tau_rule.specs.Boxes.{BoxOf, box_in}
-use Rattle.tau_desk.proofs.Posting.{post-rooms, post-order, post-steps, steps-holding}
+use Rattle.tau_desk.proofs.Posting.{post_rooms, post_order, post_steps, steps_holding}
 use Rattle.tau_desk.proofs.work.post.Goals as goal
 
 pub post-requires-clause-room : goal.post-requires-clause-room
 post-requires-clause-room g c =
     let held = c.take_outbox-outbox.ensures.held in
-    let rooms = post-rooms c.args.desk.now.table.shared.key.value c.args.worker c.args.seat.now.me c.args.txn.now c.args.start c.requires.ready c.requires.posts held.0 (c.take_outbox-outbox.result.0.value, c.take_outbox-outbox.result.1.value)
+    let rooms = post_rooms c.args.desk.now.table.shared.key.value c.args.worker c.args.seat.now.me c.args.txn.now c.args.start c.requires.ready c.requires.posts held.0 (c.take_outbox-outbox.result.0.value, c.take_outbox-outbox.result.1.value)
     c.args.room.now.records c.args.room.now.calls held.3 held.2 c.requires.room.0 in
     let low = c.requires.room.1 in
     subst (λ (o : PlainOutbox). 1 ≤ o.room) (sym c.deref_mut.ensures.value) (omega (arith, rooms.0, low))
@@ -21,7 +21,7 @@ pub post-requires-clause-order : goal.post-requires-clause-order
 post-requires-clause-order g c =
     let held = c.take_outbox-outbox.ensures.held in
     subst (λ (o : PlainOutbox). Rattle.tau_outbox.specs.Pieces.end_of 0 o.pieces ≤ c.args.start) (sym c.deref_mut.ensures.value)
-    (post-order c.args.desk.now.table.shared.key.value c.args.worker c.args.seat.now.me c.args.txn.now c.args.start c.requires.ready c.requires.posts held.0 (c.take_outbox-outbox.result.0.value, c.take_outbox-outbox.result.1.value) held.3 held.2)
+    (post_order c.args.desk.now.table.shared.key.value c.args.worker c.args.seat.now.me c.args.txn.now c.args.start c.requires.ready c.requires.posts held.0 (c.take_outbox-outbox.result.0.value, c.take_outbox-outbox.result.1.value) held.3 held.2)
 
 pub give_outbox-requires-clause-event : goal.give_outbox-requires-clause-event
 give_outbox-requires-clause-event g c =
@@ -31,7 +31,7 @@ give_outbox-requires-clause-event g c =
     let held = c.take_outbox-outbox.ensures.held in
     let b : BoxOf = (c.take_outbox-outbox.result.0.value, c.take_outbox-outbox.result.1.value) in
     let b' : BoxOf = (c.post.new.self, c.take_outbox-outbox.result.1.value) in
-    let rooms = post-rooms origin c.args.worker c.args.seat.now.me c.args.txn.now c.args.start r q held.0 b c.args.room.now.records c.args.room.now.calls held.3 held.2 c.requires.room.0 in
+    let rooms = post_rooms origin c.args.worker c.args.seat.now.me c.args.txn.now c.args.start r q held.0 b c.args.room.now.records c.args.room.now.calls held.3 held.2 c.requires.room.0 in
     let before : c.deref_mut.result.now ≡ c.take_outbox-outbox.result.0.value = c.deref_mut.ensures.value in
     let piece : Piece = record { start = c.args.start; bytes = c.take_bytes-bytes.result.items } in (
       Post c.args.worker,
@@ -52,8 +52,8 @@ give_outbox-requires-clause-event g c =
           records = (let e = c.post.ensures.room in let f = ap (λ (o : PlainOutbox). o.room) before in let low = c.requires.room.1 in omega (arith, rooms.0, e, f, low));
           calls = rooms.1;
           steps = subst (λ (v : Knows). Rattle.tau_rule.specs.Boxes.StepsBox origin (Post c.args.worker) v c.args.worker r.worker (Rattle.tau_rule.specs.Steps.next_worker origin.load r.worker c.take_bytes-bytes.new.self) b b') (sym (ap (λ m. m.0) held.1))
-              (steps-holding origin (Post c.args.worker) c.args.seat.now.me.0 (SHARDS + c.args.worker) held.0 c.args.worker r.worker (Rattle.tau_rule.specs.Steps.next_worker origin.load r.worker c.take_bytes-bytes.new.self) b b'
-              (post-steps origin c.args.worker c.args.seat.now.me c.args.txn.now c.args.start r q c.take_bytes-bytes.new.self b b' piece
+              (steps_holding origin (Post c.args.worker) c.args.seat.now.me.0 (SHARDS + c.args.worker) held.0 c.args.worker r.worker (Rattle.tau_rule.specs.Steps.next_worker origin.load r.worker c.take_bytes-bytes.new.self) b b'
+              (post_steps origin c.args.worker c.args.seat.now.me c.args.txn.now c.args.start r q c.take_bytes-bytes.new.self b b' piece
               (c.take_bytes-bytes.ensures.posted origin.load.procs q.hand q.act r.runs q.is q.phase) (ap (λ (z : List ℕ). record { start = c.args.start; bytes = z }) c.take_bytes-bytes.ensures.bytes)
               (c.post.ensures.pieces ∙ ap (λ (o : PlainOutbox). o.pieces ++ piece ∷ []) before) refl));
         },

@@ -15,8 +15,8 @@ use Rattle.tau_txn.specs.Txn.{RunsBy, hand_in, leaves_in, worker_of}
 use Rattle.tau_core.specs.State.{Plain}
 use Rattle.tau_rule.specs.Knows.{Knows}
 use Rattle.tau_rule.specs.Steps.{Agrees, shard_in, told}
-use Rattle.tau_desk.proofs.Freeing.{taken-held}
-use Rattle.tau_desk.proofs.Quitting.{no-quit, quit-steps, was-holding}
+use Rattle.tau_desk.proofs.Freeing.{taken_held}
+use Rattle.tau_desk.proofs.Quitting.{no_quit, quit_steps, was_holding}
 use Rattle.tau_desk.proofs.work.quit.Goals as goal
 
 pub quit-requires-clause-held : goal.quit-requires-clause-held
@@ -31,9 +31,9 @@ quit-requires-clause-held g c =
     let was : shard_in held.0 ≡ Some sh = held.2 ∙ ap (λ (s : PlainShard). Some (shard_of s)) (sym c.deref_mut.ensures.value) in
     let number : k ≡ shard_number key = c.from-number.ensures ∙ c.shard_of.ensures.same in
     let means : Quits origin.load.procs c.args.txn.now key = c.in-Some.ensures.means origin.load.procs r.runs in
-    let begun = was-holding origin.load.streams r.worker means.hand key means.mode (r.agrees ∙ means.is) means.held in
+    let begun = was_holding origin.load.streams r.worker means.hand key means.mode (r.agrees ∙ means.is) means.held in
     let agrees : Agrees origin v k held.0 = held.3 in
-    let holds = taken-held origin c.args.seat.now.me c.args.txn.now c.args.worker k held.0 sh r means.hand key begun.0 agrees was number in
+    let holds = taken_held origin c.args.seat.now.me c.args.txn.now c.args.worker k held.0 sh r means.hand key begun.0 agrees was number in
     let is : Some means.mode ≡ (entry_in sh key).holders c.args.worker = sym (holds ∙ means.held) in
     subst IsSome is refl
 
@@ -49,7 +49,7 @@ give_shard-requires-clause-event g c =
     let number : k ≡ shard_number key = c.from-number.ensures ∙ c.shard_of.ensures.same in
     let means : Quits origin.load.procs c.args.txn.now key = c.in-Some.ensures.means origin.load.procs r.runs in
     let next : next_action c.args.txn.now ≡ action.Quit key = c.in-Some.ensures.next in
-    let begun = was-holding origin.load.streams r.worker means.hand key means.mode (r.agrees ∙ means.is) means.held in (
+    let begun = was_holding origin.load.streams r.worker means.hand key means.mode (r.agrees ∙ means.is) means.held in (
       Quit c.args.worker (leaves_in c.args.txn.now),
       c.args.worker,
       record {
@@ -63,7 +63,7 @@ give_shard-requires-clause-event g c =
         share = r.share;
         was = was;
         there = r.there;
-        steps = quit-steps origin c.args.worker k r.worker sh (shard_of c.quit.new.self) c.args.txn.now c.went.new.self key means begun.0 begun.1 number r.width c.quit.ensures
+        steps = quit_steps origin c.args.worker k r.worker sh (shard_of c.quit.new.self) c.args.txn.now c.went.new.self key means begun.0 begun.1 number r.width c.quit.ensures
             (λ x. subst (λ (p : List Proc). (wk : Worker) (h : Hand) (y : Key) → next_action c.args.txn.now ≡ action.Quit y → hand_in p c.args.txn.now ≡ Some h → worker_of p wk c.went.new.self ≡ settled c.args.txn.now.width wk (hand_quit h y (leaves_in c.args.txn.now))) c.requires.procs
             (λ wk h y. c.went.ensures.quit wk h y) x means.hand key next means.is);
       },
@@ -89,4 +89,4 @@ returns-clause-step g c =
     )
 
 pub returns-in_default-clause-other : goal.returns-in_default-clause-other
-returns-in_default-clause-other g c = λ e. no-quit (next_action c.args.txn.now) c.quit_asked.result c.quit_asked.ensures.asked c.in_default.not-Some
+returns-in_default-clause-other g c = λ e. no_quit (next_action c.args.txn.now) c.quit_asked.result c.quit_asked.ensures.asked c.in_default.not-Some

@@ -7,7 +7,7 @@ use Rattle.tau_txn.specs.Txn.{PlainTxn, hand_in}
 use Rattle.tau_core.specs.declared.state.Load.{Load}
 use Rattle.tau_core.specs.Begins.{next_behind, number_by}
 use Rattle.tau_desk.specs.Shares.{PlainWork}
-use Rattle.tau_desk.proofs.CallBegins.{next-is}
+use Rattle.tau_desk.proofs.CallBegins.{next_is_that}
 use Rattle.tau_desk.proofs.worker.begin_next.Goals as goal
 
 pub start-requires-clause-takes : goal.start-requires-clause-takes
@@ -16,7 +16,7 @@ start-requires-clause-takes c =
     let same : c.args.desk.now.load ≡ l = c.args.desk.now.same_load in
     let number : ℕ = c.in-Some.number in
     let next : number_by (length l.calls) c.args.work.now.next c.args.work.now.again ≡ Some number = ap (λ (k : Load). number_by (length k.calls) c.args.work.now.next c.args.work.now.again) (sym same) ∙ ap (λ (k : ℕ). number_by k c.args.work.now.next c.args.work.now.again) (sym c.len.ensures) ∙ sym c.number_in.ensures ∙ c.in-Some.is in
-    let n = next-is l c.requires.fits.0 c.args.work.now number c.requires.fits.1 next in
+    let n = next_is_that l c.requires.fits.0 c.args.work.now number c.requires.fits.1 next in
     let call : n.call ≡ c.at-call.result.now =
     (let f : Some n.call ≡ Some c.at-call.result.now = sym n.got ∙ ap (λ (k : Load). slice_get k.calls (number - 1)) (sym same) ∙ c.at-call.ensures in cc) in
     subst (λ (k : Load). IsTrue (takes k.procs c.at-call.result.now)) (sym same)
@@ -28,7 +28,7 @@ returns-clause-begins c =
     let same : c.args.desk.now.load ≡ l = c.args.desk.now.same_load in
     let number : ℕ = c.in-Some.number in
     let next : number_by (length l.calls) c.args.work.now.next c.args.work.now.again ≡ Some number = ap (λ (k : Load). number_by (length k.calls) c.args.work.now.next c.args.work.now.again) (sym same) ∙ ap (λ (k : ℕ). number_by k c.args.work.now.next c.args.work.now.again) (sym c.len.ensures) ∙ sym c.number_in.ensures ∙ c.in-Some.is in
-    let n = next-is l c.requires.fits.0 c.args.work.now number c.requires.fits.1 next in
+    let n = next_is_that l c.requires.fits.0 c.args.work.now number c.requires.fits.1 next in
     let call : n.call ≡ c.at-call.result.now =
     (let f : Some n.call ≡ Some c.at-call.result.now = sym n.got ∙ ap (λ (k : Load). slice_get k.calls (number - 1)) (sym same) ∙ c.at-call.ensures in cc) in
     let made = c.in_ok-reserve.ensures.made in

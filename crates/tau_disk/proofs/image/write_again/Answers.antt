@@ -2,7 +2,7 @@ use Rattle.std.proofs.Common.{ℕ, ◌+◌, List, take, sym, ap, ◌∙◌, ◌�
 use Rattle.std.proofs.lemmas.List.{take_more}
 use Rattle.tau_disk.specs.declared.call.DiskCall.{DiskCall}
 use Rattle.tau_disk.specs.Tear.{rewritten}
-use Rattle.tau_disk.proofs.Replays.{rewritten-append}
+use Rattle.tau_disk.proofs.Replays.{rewritten_append}
 use Rattle.tau_disk.proofs.image.write_again.Goals as goal
 
 pub loop-call-preserved : goal.loop-call-preserved
@@ -14,5 +14,5 @@ loop-call-preserved c =
     take_more calls k c.call-item.result c.loop-call-test.true ∙ ap (λ (call : DiskCall). take k calls ++ call ∷ []) (sym c.call-item.is) in
     c.in_ok-write_one.ensures
     ∙ ap (λ (file : List ℕ). rewritten file (c.call-item.result ∷ [])) c.loop-call.invariant
-    ∙ sym (rewritten-append first (take k calls) (c.call-item.result ∷ []))
+    ∙ sym (rewritten_append first (take k calls) (c.call-item.result ∷ []))
     ∙ ap (rewritten first) (sym grown)

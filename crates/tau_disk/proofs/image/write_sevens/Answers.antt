@@ -2,7 +2,7 @@ use Rattle.std.proofs.Common.{ℕ, ◌+◌, List, take, sym, ap, ◌∙◌, ◌�
 use Rattle.std.proofs.lemmas.List.{take_more}
 use Rattle.tau_disk.specs.declared.call.DiskCall.{DiskCall}
 use Rattle.tau_disk.specs.Tear.{sevened}
-use Rattle.tau_disk.proofs.Replays.{sevened-append}
+use Rattle.tau_disk.proofs.Replays.{sevened_append}
 use Rattle.tau_disk.proofs.image.write_sevens.Goals as goal
 
 pub loop-call-preserved : goal.loop-call-preserved
@@ -14,5 +14,5 @@ loop-call-preserved c =
     take_more calls k c.call-item.result c.loop-call-test.true ∙ ap (λ (call : DiskCall). take k calls ++ call ∷ []) (sym c.call-item.is) in
     c.in_ok-write_one_sevens.ensures
     ∙ ap (λ (file : List ℕ). sevened file (c.call-item.result ∷ [])) c.loop-call.invariant
-    ∙ sym (sevened-append first (take k calls) (c.call-item.result ∷ []))
+    ∙ sym (sevened_append first (take k calls) (c.call-item.result ∷ []))
     ∙ ap (sevened first) (sym grown)

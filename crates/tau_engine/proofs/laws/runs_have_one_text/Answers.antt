@@ -1,6 +1,6 @@
 -- The law is a lemma.
-use Rattle.tau_engine.proofs.Same.{runs-have_one_text}
+use Rattle.tau_engine.proofs.Same.{runs_have_one_text}
 use Rattle.tau_engine.proofs.laws.runs_have_one_text.Goals as goal
 
 pub returns : goal.returns
-returns c = runs-have_one_text
+returns c = runs_have_one_text

@@ -1,5 +1,5 @@
-use Rattle.tau_gen.proofs.BenchSums.{any-order}
+use Rattle.tau_gen.proofs.BenchSums.{any_order}
 use Rattle.tau_gen.proofs.laws.any_order.Goals as goal
 
 pub returns : goal.returns
-returns c = any-order
+returns c = any_order

@@ -3,19 +3,20 @@ use Rattle.std.proofs.Common.{◌<◌, ◌≢◌, [], length, map, sym, ◌∙�
 use Rattle.std.proofs.lemmas.List.{length-map}
 use Rattle.std.specs.VecDeque.{deque_items}
 use Rattle.tau_model.specs.Listing.{entry_place}
-use Rattle.tau_model.proofs.Listings.{map-at, emitted-next, same_below, length-emitted}
+use Rattle.tau_model.proofs.Listings.{map_at, emitted_next, length_emitted}
 use Rattle.tau_model.proofs.report.emitted_first.Goals as goal
+use Rattle.tau_base.proofs.Lists.{same_list}
 
 pub set-requires-clause-small : goal.set-requires-clause-small
 set-requires-clause-small c =
-    let here = map-at deque_items c.args.streams.now c.loop-j.j c.index-streams-j.result [] c.loop-j-test.true c.index-streams-j.is in
-    let next = emitted-next c.args.ends.now (map deque_items c.args.streams.now) c.loop-j.j c.index-streams-j.result.items c.get.result c.next_start.result c.requires here c.get.ensures.same c.next_start.ensures in
+    let here = map_at deque_items c.args.streams.now c.loop-j.j c.index-streams-j.result [] c.loop-j-test.true c.index-streams-j.is in
+    let next = emitted_next c.args.ends.now (map deque_items c.args.streams.now) c.loop-j.j c.index-streams-j.result.items c.get.result c.next_start.result c.requires here c.get.ensures.same c.next_start.ensures in
     omega (arith, next.0, c.get.ensures.small, c.get.ensures.same)
 
 pub loop-j-preserved : goal.loop-j-preserved
 loop-j-preserved c =
-    let here = map-at deque_items c.args.streams.now c.loop-j.j c.index-streams-j.result [] c.loop-j-test.true c.index-streams-j.is in
-    let next = emitted-next c.args.ends.now (map deque_items c.args.streams.now) c.loop-j.j c.index-streams-j.result.items c.get.result c.next_start.result c.requires here c.get.ensures.same c.next_start.ensures in
+    let here = map_at deque_items c.args.streams.now c.loop-j.j c.index-streams-j.result [] c.loop-j-test.true c.index-streams-j.is in
+    let next = emitted_next c.args.ends.now (map deque_items c.args.streams.now) c.loop-j.j c.index-streams-j.result.items c.get.result c.next_start.result c.requires here c.get.ensures.same c.next_start.ensures in
     let set = c.set.ensures in
     let lt : c.loop-j.j < length c.loop-j.emitted = omega (arith, c.requires.count, length-map c.args.streams.now deque_items, c.loop-j.invariant.wide) in record {
       wide = rw (set, length-set c.loop-j.emitted c.loop-j.j c.next_start.result) c.loop-j.invariant.wide;
@@ -25,4 +26,4 @@ loop-j-preserved c =
     }
 
 pub returns : goal.returns
-returns c = same_below _ _ (c.loop-j.invariant.wide ∙ sym (length-emitted entry_place _ _ c.requires.count)) (λ k lt. c.loop-j.invariant.done k (omega (arith, c.requires.count, length-map c.args.streams.now deque_items, c.loop-j.invariant.wide)))
+returns c = same_list _ _ (c.loop-j.invariant.wide ∙ sym (length_emitted entry_place _ _ c.requires.count)) (λ k lt. c.loop-j.invariant.done k (omega (arith, c.requires.count, length-map c.args.streams.now deque_items, c.loop-j.invariant.wide)))

@@ -2,10 +2,10 @@
 use Rattle.std.proofs.Common.{◌≡◌, rules}
 use Rattle.std.proofs.lemmas.List.Sorted.{answers_always}
 use Rattle.tau_model.specs.Listing.{entry_start}
-use Rattle.tau_model.proofs.Sorting.{sorted-ascending}
+use Rattle.tau_model.proofs.Sorting.{sorted_ascending}
 use Rattle.tau_model.proofs.report.sort_by_start.Goals as goal
 
 pub returns : goal.returns
 returns c =
-    sorted-ascending entry_start c.args.entries.now.items c.sort_by_key.new.self.items
+    sorted_ascending entry_start c.args.entries.now.items c.sort_by_key.new.self.items
     (c.in_ok-sort_by_key.ensures.sorted entry_start (answers_always _ (λ a r. r ≡ entry_start a.0.now) _ (λ f a r f' k. search rules))) (c.sort_by_key.ensures.stable entry_start (answers_always _ (λ a r. r ≡ entry_start a.0.now) _ (λ f a r f' k. search rules)))

@@ -2,11 +2,11 @@ use Rattle.std.proofs.Common.{sym, subst, ◌≡◌, ap, ◌∙◌, length, vec_
 use Rattle.std.proofs.lemmas.Grind.{common_steps}
 use Rattle.tau_outbox.specs.Pieces.{InOrder}
 use Rattle.tau_outbox.specs.Gather.{Gathers}
-use Rattle.tau_outbox.proofs.Orders.{order-left, gathered}
+use Rattle.tau_outbox.proofs.Orders.{order_left, gathered}
 use Rattle.tau_outbox.proofs.Outbox.gather_reserved.Goals as goal
 
 pub invariant_of-self : goal.invariant_of-self
-invariant_of-self c = rw c.move_run.ensures.pieces (order-left c.args.next (vec_len c.args.body.now) 0 c.self.inside.pieces.items c.self.invariant)
+invariant_of-self c = rw c.move_run.ensures.pieces (order_left c.args.next (vec_len c.args.body.now) 0 c.self.inside.pieces.items c.self.invariant)
 
 pub returns-clause-gathers : goal.returns-clause-gathers
 returns-clause-gathers c =

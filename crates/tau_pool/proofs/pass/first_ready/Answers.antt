@@ -2,9 +2,9 @@
 use Rattle.std.proofs.Common.{◌≡◌, ◌∙◌, true, inl, inr, ap, arith}
 use Rattle.std.proofs.lemmas.Bool.{cases_lt}
 use Rattle.tau_pool.specs.Passing.{is_ready}
-use Rattle.tau_pool.proofs.Gets.{get_within}
 use Rattle.tau_pool.proofs.Passes.{ready_is}
 use Rattle.tau_pool.proofs.pass.first_ready.Goals as goal
+use Rattle.tau_base.proofs.Lists.{got_within}
 
 pub loop-place-preserved : goal.loop-place-preserved
 loop-place-preserved c i x lt there waits covered = elim (cases_lt i c.loop-place.place) [
@@ -18,5 +18,5 @@ loop-place-preserved c i x lt there waits covered = elim (cases_lt i c.loop-plac
 
 pub returns-clause-none : goal.returns-clause-none
 returns-clause-none c e i x there waits covered =
-    let in' = get_within c.args.items.now i x there in
+    let in' = got_within c.args.items.now i x there in
     c.loop-place.invariant i x (omega (arith, in', c.len-place-end.ensures)) there waits covered

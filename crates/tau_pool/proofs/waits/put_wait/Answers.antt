@@ -2,19 +2,19 @@
 use Rattle.std.proofs.Common.{◌≡◌, ◌+◌, ◌++◌, ◌∷◌, [], ◌∙◌, true, false, List, drop, ap, sym, rules}
 use Rattle.tau_pool.specs.declared.waits.Wait.{Wait}
 use Rattle.tau_pool.specs.Passing.{waits_for, waits_at}
-use Rattle.tau_pool.proofs.Gets.{get_there}
 use Rattle.tau_pool.proofs.Waiting.{wait_passed, wait_put, put_after}
 use Rattle.tau_pool.proofs.waits.put_wait.Goals as goal
+use Rattle.tau_base.proofs.Lists.{some_at}
 
 pub returns-then-not-waits_for : goal.returns-then-not-waits_for
 returns-then-not-waits_for c =
-    let (x, there) = get_there c.args.items.now c.args.item c.requires in
+    let (x, there) = some_at c.args.items.now c.args.item c.requires in
     let is : waits_for c.args.k c.args.reach x ≡ false = sym (c.waits_for.ensures x there) ∙ c.if-not-waits_for.true in
     ap (λ (ws : List Wait). c.args.waits.now.items ++ ws) (sym (wait_passed c.args.k c.args.reach c.args.items.now c.args.item x there is))
 
 pub returns : goal.returns
 returns c =
-    let (x, there) = get_there c.args.items.now c.args.item c.requires in
+    let (x, there) = some_at c.args.items.now c.args.item c.requires in
     let is : waits_for c.args.k c.args.reach x ≡ true = sym (c.waits_for.ensures x there) ∙ c.if-not-waits_for.false in
     let w : Wait = record { at = c.position.result; item = c.args.item } in
     let rest : List Wait = waits_at c.args.k c.args.reach (c.args.item + 1) (drop (c.args.item + 1) c.args.items.now) in

@@ -1,5 +1,5 @@
-use Rattle.tau_proc.proofs.Sound.{meaning-sound}
+use Rattle.tau_proc.proofs.Sound.{meaning_sound}
 use Rattle.tau_proc.proofs.laws.reads_determine.Goals as goal
 
 pub returns : goal.returns
-returns c = meaning-sound
+returns c = meaning_sound

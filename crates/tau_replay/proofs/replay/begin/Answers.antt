@@ -2,14 +2,14 @@
 use Rattle.std.proofs.Common.{ℕ, List, ◌≡◌, [], length, replicate, refl, sym, ap, subst, ◌∙◌, arith}
 use Rattle.std.specs.Prelude.{Option, None, true}
 use Rattle.std.proofs.lemmas.List.{length-replicate}
-use Rattle.tau_model.proofs.Reorder.{reordered-itself}
+use Rattle.tau_model.proofs.Reorder.{reordered_itself}
 use Rattle.tau_model.specs.History.{Member, Reordered}
 use Rattle.tau_scan.specs.Taken.{Kept, taken}
 use Rattle.tau_pool.specs.Item.{Item}
 use Rattle.tau_pool.specs.declared.item.Job.{Job}
 use Rattle.tau_pool.specs.Items.{is_waiting, items_from}
 use Rattle.tau_pool.specs.Pooled.{flying_in}
-use Rattle.tau_pool.proofs.Counts.{none-flying}
+use Rattle.tau_pool.proofs.Counts.{none_flying}
 use Rattle.tau_pool.proofs.Opening.{of_log, all_wait}
 use Rattle.tau_replay.specs.Recovering.{AreOf, left_in}
 use Rattle.tau_replay.proofs.Starting.{of_taken, all_left}
@@ -31,10 +31,10 @@ returns-clause-going c =
         ends = c.in_ok-pools.ensures.ends;
         recovered = c.in_ok-pools.ensures.recovered;
         items = subst (λ (xs : List Item). AreOf log (taken log) xs) (sym is) (of_taken log);
-        each_once = subst (λ (zs : List Kept). Reordered (taken log) zs) (sym (ap (λ (xs : List Item). left_in (taken log) xs) is ∙ left)) (reordered-itself (taken log));
+        each_once = subst (λ (zs : List Kept). Reordered (taken log) zs) (sym (ap (λ (xs : List Item). left_in (taken log) xs) is ∙ left)) (reordered_itself (taken log));
         orderly = tt;
         ahead = λ r m. absurd m;
-        flying = λ i x r at held flies. absurd (none-flying c.in_ok-pools.pools.items idle i x at flies);
+        flying = λ i x r at held flies. absurd (none_flying c.in_ok-pools.pools.items idle i x at flies);
         database = c.new-2.ensures;
       };
       hands = empty_hands 16 c.in_ok-pools.pools c.loop.hands.items (c.loop.invariant ∙ ap (λ (n : ℕ). replicate n None) sixteen) idle;

@@ -3,13 +3,13 @@ use Rattle.std.proofs.Common.{ℕ, List, ◌≡◌, ◌+◌, ◌<◌, ◌≤◌,
 use Rattle.std.specs.Prelude.{Option, Some, None, slice_get}
 use Rattle.std.proofs.lemmas.Bool.{cases_eq, cases_lt}
 use Rattle.tau_pool.specs.declared.item.Job.{Job}
-use Rattle.tau_pool.proofs.Gets.{get_within}
 use Rattle.tau_model.specs.Store.{database}
 use Rattle.tau_replay.specs.Followed.{workers_from}
 use Rattle.tau_replay.specs.Way.{left_of}
 use Rattle.tau_replay.proofs.Following.{round_begins, round_goes, round_ends}
 use Rattle.tau_replay.proofs.Hands.{some_hand}
 use Rattle.tau_replay.proofs.replay.round.Goals as goal
+use Rattle.tau_base.proofs.Lists.{got_within}
 
 -- the hand of this worker holds a job, or none does so far
 turned : (left_new left_now left_old from worker : ℕ) (old now new : List (Option Job)) → left_new ≤ left_now → left_now ≤ left_old →
@@ -66,7 +66,7 @@ returns-clause-some c e flying = elim c.loop-worker.invariant.some [
   | inl less ↦ less
   | inr h ↦
       let (w, job, at) = some_hand c.args.replay.now.hands.items (omega (arith, flying, c.requires.going.hands.count)) in
-      let lt = get_within c.args.replay.now.hands.items w (Some job) at in
+      let lt = got_within c.args.replay.now.hands.items w (Some job) at in
       absurd (h.1 w job (omega (arith, e)) (omega (arith, lt, c.requires.going.sixteen, c.loop-worker-test.false)) at)
 ]
 

@@ -5,13 +5,13 @@ use Rattle.std.proofs.lemmas.List.{length-set}
 use Rattle.tau_model.specs.Store.{database}
 use Rattle.tau_scan.specs.Taken.{taken}
 use Rattle.tau_pool.specs.declared.item.Job.{Job}
-use Rattle.tau_pool.proofs.Gets.{get_within}
 use Rattle.tau_replay.specs.Recovering.{Stands}
 use Rattle.tau_replay.proofs.Lists.{of_get}
 use Rattle.tau_replay.proofs.RecoveryGoesOn.{going_finish}
 use Rattle.tau_replay.proofs.Hands.{hands_finish}
 use Rattle.tau_replay.proofs.Settled.{settled_finish, flying_covered, working_same}
 use Rattle.tau_replay.proofs.turns.finish_at.Goals as goal
+use Rattle.tau_base.proofs.Lists.{got_within}
 
 pub apply-requires-clause-held : goal.apply-requires-clause-held
 apply-requires-clause-held c =
@@ -22,7 +22,7 @@ apply-requires-clause-held c =
 
 pub index_mut-requires : goal.index_mut-requires
 index_mut-requires c =
-    let lt = get_within c.args.replay.now.hands.items c.args.hand (Some c.args.outcome.now.job) c.requires.busy in
+    let lt = got_within c.args.replay.now.hands.items c.args.hand (Some c.args.outcome.now.job) c.requires.busy in
     let v = c.args.replay.now.hands in
     omega (arith, lt, v.ok)
 

@@ -1,5 +1,5 @@
-use Rattle.tau_shard.proofs.Masks.{bits-or}
+use Rattle.tau_shard.proofs.Masks.{bits_or}
 use Rattle.tau_shard.proofs.mask.either.Goals as goal
 
 pub returns : goal.returns
-returns c = bits-or c.args.left c.args.right
+returns c = bits_or c.args.left c.args.right

@@ -3,8 +3,8 @@ use Rattle.std.specs.Prelude.{slice_index}
 use Rattle.std.proofs.lemmas.Result.{err_from_is_err_and}
 use Rattle.tau_core.specs.declared.state.Load.{Load}
 use Rattle.tau_step.specs.Keeping.{HandedOver}
-use Rattle.tau_step.proofs.Handing.{gathered-turns, gathered-stops}
-use Rattle.tau_step.proofs.NothingNew.{gathered-idle}
+use Rattle.tau_step.proofs.Handing.{gathered_turns, gathered_stops}
+use Rattle.tau_step.proofs.NothingNew.{gathered_idle}
 use Rattle.tau_step.proofs.manager.flush_gathered.Goals as goal
 
 pub flush_prepared-requires : goal.flush_prepared-requires
@@ -23,14 +23,14 @@ flush_prepared-requires g c =
 pub returns : goal.returns
 returns g c = λ catalogue K h es told stands size l.
     let over = subst (λ r. HandedOver c.args.stream catalogue c.args.upto c.hand_over.new.writer c.args.core.now c.hand_over.new.core K h r) c.in_ok-hand_over.was (c.hand_over.ensures.over catalogue K h stands size l) in
-    gathered-turns c.args.stream catalogue c.args.upto c.args.writer.now c.hand_over.new.writer c.flush_prepared.new.writer c.args.core.now c.hand_over.new.core c.flush_prepared.new.core told K h es over.0 c.hand_over.ensures.disk c.flush_prepared.result
+    gathered_turns c.args.stream catalogue c.args.upto c.args.writer.now c.hand_over.new.writer c.flush_prepared.new.writer c.args.core.now c.hand_over.new.core c.flush_prepared.new.core told K h es over.0 c.hand_over.ensures.disk c.flush_prepared.result
     (c.flush_prepared.ensures catalogue K over.0.hidden es told over.0.stands (size ∙ ap (λ (d : Load). slice_index d.opening.ends c.args.stream) (sym over.0.load)) over.1)
 
 pub returns-in_err-hand_over : goal.returns-in_err-hand_over
 returns-in_err-hand_over g c = λ catalogue K h es told stands size l.
     let over = subst (λ r. HandedOver c.args.stream catalogue c.args.upto c.hand_over.new.writer c.args.core.now c.hand_over.new.core K h r) c.in_err-hand_over.was (c.hand_over.ensures.over catalogue K h stands size l) in
-    rw (err_from_is_err_and c.from_residual.result c.from_residual.ensures.1).1 (gathered-stops c.args.stream catalogue c.args.upto c.args.writer.now c.hand_over.new.writer c.hand_over.new.writer c.args.core.now c.hand_over.new.core c.hand_over.new.core told K h es over c.hand_over.ensures.disk c.hand_over.ensures.works)
+    rw (err_from_is_err_and c.from_residual.result c.from_residual.ensures.1).1 (gathered_stops c.args.stream catalogue c.args.upto c.args.writer.now c.hand_over.new.writer c.hand_over.new.writer c.args.core.now c.hand_over.new.core c.hand_over.new.core told K h es over c.hand_over.ensures.disk c.hand_over.ensures.works)
 
 pub returns-then-upto-durable : goal.returns-then-upto-durable
 returns-then-upto-durable g c = λ catalogue K h es told stands size l.
-    gathered-idle c.args.stream catalogue c.args.upto c.args.writer.now c.args.core.now K h stands c.requires.there l (omega (arith, c.if-upto-durable.true, c.durable.ensures)) told es
+    gathered_idle c.args.stream catalogue c.args.upto c.args.writer.now c.args.core.now K h stands c.requires.there l (omega (arith, c.if-upto-durable.true, c.durable.ensures)) told es

@@ -1,13 +1,13 @@
 use Rattle.std.proofs.Common.{ℕ, ◌++◌, List, length, ap, ◌∙◌, arith}
 use Rattle.tau_stream.specs.Writer.{left_of}
-use Rattle.tau_step.proofs.Handing.{bytes-count, may-reach, handed, loaded}
+use Rattle.tau_step.proofs.Handing.{bytes_count, may_reach, handed, loaded}
 use Rattle.tau_step.proofs.manager.hand_over.Goals as goal
 
 pub add-requires : goal.add-requires
 add-requires g c =
     let (catalogue, K, h, stands, size, l) = c.requires.filled in
     let o = c.swap_body.ensures K h stands in
-    let count = bytes-count c.args.stream catalogue c.args.upto c.args.writer.now c.args.core.now c.swap_body.new.self K h c.swap_body.new.bytes.items c.requires.there l o in
+    let count = bytes_count c.args.stream catalogue c.args.upto c.args.writer.now c.args.core.now c.swap_body.new.self K h c.swap_body.new.bytes.items c.requires.there l o in
     let none = ap (length {A = ℕ}) l.left in
     let counted = c.args.writer.now.counted in
     let same = ap (length {A = ℕ}) c.deref.ensures.value in
@@ -17,7 +17,7 @@ pub prepare-requires : goal.prepare-requires
 prepare-requires g c =
     let (catalogue, K, h, stands, size, l) = c.requires.filled in
     let o = c.swap_body.ensures K h stands in
-    may-reach c.args.stream catalogue c.args.upto c.args.writer.now c.args.core.now c.swap_body.new.self K h c.swap_body.new.bytes.items c.requires.there l o
+    may_reach c.args.stream catalogue c.args.upto c.args.writer.now c.args.core.now c.swap_body.new.self K h c.swap_body.new.bytes.items c.requires.there l o
     c.add.new.self c.in-Ok.ensures.durable (c.in-Ok.ensures.left ∙ ap (λ (b : List ℕ). left_of c.args.writer.now ++ b) c.deref.ensures.value)
 
 pub returns-then-upto-ge-END_OF_POSITIONS-clause-over : goal.returns-then-upto-ge-END_OF_POSITIONS-clause-over

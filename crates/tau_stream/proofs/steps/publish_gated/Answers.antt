@@ -3,8 +3,9 @@ use Rattle.tau_disk.specs.Disk.{Torn, Holds}
 use Rattle.tau_disk.proofs.Images.{holds_torn}
 use Rattle.tau_disk.specs.Passing.{passes_weaker, passes_on}
 use Rattle.tau_stream.specs.Stream.{IsOldOrNew, IsSettled}
-use Rattle.tau_stream.proofs.Tears.{on_err, torn_behind, content_now, staged, torn_gate, opened, settles, holds_long}
+use Rattle.tau_stream.proofs.Tears.{torn_behind, content_now, staged, torn_gate, opened, settles, holds_long}
 use Rattle.tau_stream.proofs.steps.publish_gated.Goals as goal
+use Rattle.tau_base.proofs.Logic.{on_err}
 
 pub returns-in_err-write_durably-clause-moments : goal.returns-in_err-write_durably-clause-moments
 returns-in_err-write_durably-clause-moments g c = λ tells n j content body s some is.

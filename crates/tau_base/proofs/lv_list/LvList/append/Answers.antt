@@ -3,7 +3,7 @@ use Rattle.std.specs.List.{All}
 use Rattle.std.proofs.lemmas.List.{length-map}
 use Rattle.tau_base.specs.declared.lv_list.Mark.{Mark}
 use Rattle.tau_base.specs.KeptLvList.{vector_at, mark_behind, IsMark}
-use Rattle.tau_base.proofs.Flat.{vectors-joined, marks-joined, small-joined}
+use Rattle.tau_base.proofs.Flat.{vectors_joined, marks_joined, small_joined}
 use Rattle.tau_base.proofs.lv_list.LvList.append.Goals as goal
 
 pub invariant_of-self : goal.invariant_of-self
@@ -25,10 +25,10 @@ invariant_of-self c =
     ap (λ (xs : List Mark). length xs) c.put_marks.ensures.items ∙ length-append ms moved ∙ ap (λ (k : ℕ). length ms + k) (length-map ns (mark_behind c.len-from.result)) in
     let marks : All (IsMark c.append.new.self.items) c.put_marks.new.marks.items =
     subst (λ (xs : List ℕ). All (IsMark xs) c.put_marks.new.marks.items) (sym c.in-Ok.ensures.items)
-    (subst (λ (xs : List Mark). All (IsMark (ps ++ qs)) xs) (sym c.put_marks.ensures.items) (marks-joined ps qs c.len-from.result ms ns from mine.marks others.marks)) in
+    (subst (λ (xs : List Mark). All (IsMark (ps ++ qs)) xs) (sym c.put_marks.ensures.items) (marks_joined ps qs c.len-from.result ms ns from mine.marks others.marks)) in
     record {
       marks = marks;
-      small = subst (λ (xs : List ℕ). (k : ℕ) → slice_index xs k < 2 ^ 62) (sym c.in-Ok.ensures.items) (small-joined (2 ^ 62) ps qs mine.small others.small);
+      small = subst (λ (xs : List ℕ). (k : ℕ) → slice_index xs k < 2 ^ 62) (sym c.in-Ok.ensures.items) (small_joined (2 ^ 62) ps qs mine.small others.small);
       lean = let a = mine.lean in let b = others.lean in omega (arith, long, more, a, b);
       room = let a = mine.room in let l = c.put_marks.ensures.len in let k = c.put_marks.ensures.capacity in omega (arith, a, l, k, few, count);
       positions_room = let a = mine.positions_room in let b = others.lean in let l = c.in-Ok.ensures.len in let k = c.in-Ok.ensures.capacity in omega (arith, a, b, l, k, few, count, flat);
@@ -43,6 +43,6 @@ returns c =
     a ∙ sym (length-map c.other.inside.marks.items (vector_at c.other.inside.positions.items)) ∙ (λ i. length (c.other.view_is i).items) in
     let items : map (vector_at c.append.new.self.items) c.put_marks.new.marks.items ≡ c.args.self.now.items ++ c.args.other.items =
     (λ i. map (vector_at (c.in-Ok.ensures.items i)) (c.put_marks.ensures.items i))
-    ∙ vectors-joined c.self.inside.positions.items c.other.inside.positions.items c.len-from.result c.self.inside.marks.items c.other.inside.marks.items from c.self.invariant.marks
+    ∙ vectors_joined c.self.inside.positions.items c.other.inside.positions.items c.len-from.result c.self.inside.marks.items c.other.inside.marks.items from c.self.invariant.marks
     ∙ (λ i. (c.self.view_is i).items ++ (c.other.view_is i).items) in
     λ i. record { items = items i; room = (c.self.view_is i).room - count i }

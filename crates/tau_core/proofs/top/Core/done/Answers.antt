@@ -7,18 +7,18 @@ use Rattle.tau_core.specs.View.{Hidden}
 use Rattle.tau_core.specs.Stands.{Stands}
 use Rattle.tau_core.specs.Steps.{DoneSteps}
 use Rattle.tau_core.specs.Answered.{went_by}
-use Rattle.tau_core.proofs.Whole.{stood-at}
-use Rattle.tau_core.proofs.FirstSteps.{done-steps}
+use Rattle.tau_core.proofs.Whole.{stood_at}
+use Rattle.tau_core.proofs.FirstSteps.{done_steps}
 use Rattle.tau_core.proofs.top.Core.done.Goals as goal
 
 pub invariant_of-self : goal.invariant_of-self
 invariant_of-self c =
     let there : c.args.worker < c.self.inside.state.load.workers = subst (λ (p : Plain). c.args.worker < p.load.workers) (sym c.self.view_is) c.requires.there in
-    stood-at (plain c.self.inside.state) (plain c.done.new.state) (event.Done c.args.worker) (went_by c.done.result) c.self.invariant
-    (λ K h g. done-steps (plain c.self.inside.state) (plain c.done.new.state) K h g c.args.worker there (went_by c.done.result) c.done.ensures)
+    stood_at (plain c.self.inside.state) (plain c.done.new.state) (event.Done c.args.worker) (went_by c.done.result) c.self.invariant
+    (λ K h g. done_steps (plain c.self.inside.state) (plain c.done.new.state) K h g c.args.worker there (went_by c.done.result) c.done.ensures)
 
 pub returns : goal.returns
 returns c =
     let there : c.args.worker < c.self.inside.state.load.workers = subst (λ (p : Plain). c.args.worker < p.load.workers) (sym c.self.view_is) c.requires.there in
     subst (λ (p : Plain). (K : List (Act Txn)) (h : Hidden) → Stands p K h → DoneSteps p (plain c.done.new.state) K h c.args.worker (went_by c.done.result)) c.self.view_is
-    (λ K h g. done-steps (plain c.self.inside.state) (plain c.done.new.state) K h g c.args.worker there (went_by c.done.result) c.done.ensures)
+    (λ K h g. done_steps (plain c.self.inside.state) (plain c.done.new.state) K h g c.args.worker there (went_by c.done.result) c.done.ensures)

@@ -7,18 +7,18 @@ use Rattle.tau_core.specs.View.{Hidden}
 use Rattle.tau_core.specs.Stands.{Stands}
 use Rattle.tau_core.specs.Steps.{GatherSteps}
 use Rattle.tau_core.specs.Answered.{gathered_by}
-use Rattle.tau_core.proofs.Whole.{stood-at}
-use Rattle.tau_core.proofs.Steps.{gather-steps}
+use Rattle.tau_core.proofs.Whole.{stood_at}
+use Rattle.tau_core.proofs.Steps.{gather_steps}
 use Rattle.tau_core.proofs.top.Core.gather.Goals as goal
 
 pub invariant_of-self : goal.invariant_of-self
 invariant_of-self c =
     let there : c.args.stream < c.self.inside.state.load.streams = subst (λ (p : Plain). c.args.stream < p.load.streams) (sym c.self.view_is) c.requires.there in
-    stood-at (plain c.self.inside.state) (plain c.gather.new.state) (event.Gather c.args.stream) (gathered_by c.gather.result) c.self.invariant
-    (λ K h g. gather-steps (plain c.self.inside.state) (plain c.gather.new.state) K h g c.args.stream (gathered_by c.gather.result) there c.gather.ensures)
+    stood_at (plain c.self.inside.state) (plain c.gather.new.state) (event.Gather c.args.stream) (gathered_by c.gather.result) c.self.invariant
+    (λ K h g. gather_steps (plain c.self.inside.state) (plain c.gather.new.state) K h g c.args.stream (gathered_by c.gather.result) there c.gather.ensures)
 
 pub returns : goal.returns
 returns c =
     let there : c.args.stream < c.self.inside.state.load.streams = subst (λ (p : Plain). c.args.stream < p.load.streams) (sym c.self.view_is) c.requires.there in
     subst (λ (p : Plain). (K : List (Act Txn)) (h : Hidden) → Stands p K h → GatherSteps p (plain c.gather.new.state) K h c.args.stream (gathered_by c.gather.result)) c.self.view_is
-    (λ K h g. gather-steps (plain c.self.inside.state) (plain c.gather.new.state) K h g c.args.stream (gathered_by c.gather.result) there c.gather.ensures)
+    (λ K h g. gather_steps (plain c.self.inside.state) (plain c.gather.new.state) K h g c.args.stream (gathered_by c.gather.result) there c.gather.ensures)

@@ -7,15 +7,15 @@ use Rattle.tau_core.specs.View.{Hidden}
 use Rattle.tau_core.specs.Stands.{Stands}
 use Rattle.tau_core.specs.Steps.{LockSteps}
 use Rattle.tau_core.specs.Answered.{granted_by}
-use Rattle.tau_core.proofs.Whole.{stood-at}
-use Rattle.tau_core.proofs.FirstSteps.{lock-steps}
+use Rattle.tau_core.proofs.Whole.{stood_at}
+use Rattle.tau_core.proofs.FirstSteps.{lock_steps}
 use Rattle.tau_core.proofs.top.Core.lock.Goals as goal
 
 pub invariant_of-self : goal.invariant_of-self
 invariant_of-self c =
     let there : c.args.worker < c.self.inside.state.load.workers = subst (λ (p : Plain). c.args.worker < p.load.workers) (sym c.self.view_is) c.requires.there in
-    stood-at (plain c.self.inside.state) (plain c.lock.new.state) (event.Lock c.args.worker) (granted_by c.lock.ensures.value c.lock.result) c.self.invariant
-    (λ K h g. lock-steps (plain c.self.inside.state) (plain c.lock.new.state) K h g c.args.worker there (granted_by c.lock.ensures.value c.lock.result) c.lock.ensures.is)
+    stood_at (plain c.self.inside.state) (plain c.lock.new.state) (event.Lock c.args.worker) (granted_by c.lock.ensures.value c.lock.result) c.self.invariant
+    (λ K h g. lock_steps (plain c.self.inside.state) (plain c.lock.new.state) K h g c.args.worker there (granted_by c.lock.ensures.value c.lock.result) c.lock.ensures.is)
 
 pub returns : goal.returns
 returns c =
@@ -23,5 +23,5 @@ returns c =
     record {
       value = c.lock.ensures.value;
       is = subst (λ (p : Plain). (K : List (Act Txn)) (h : Hidden) → Stands p K h → LockSteps p (plain c.lock.new.state) K h c.args.worker (granted_by c.lock.ensures.value c.lock.result)) c.self.view_is
-          (λ K h g. lock-steps (plain c.self.inside.state) (plain c.lock.new.state) K h g c.args.worker there (granted_by c.lock.ensures.value c.lock.result) c.lock.ensures.is);
+          (λ K h g. lock_steps (plain c.self.inside.state) (plain c.lock.new.state) K h g c.args.worker there (granted_by c.lock.ensures.value c.lock.result) c.lock.ensures.is);
     }

@@ -10,18 +10,18 @@ use Rattle.tau_core.specs.State.{Plain, plain}
 use Rattle.tau_core.specs.View.{Hidden, core_of}
 use Rattle.tau_core.specs.Stands.{Stands}
 use Rattle.tau_core.specs.Phases.{hand_phase, phase_of_kind}
-use Rattle.tau_core.proofs.ActionKinds.{phase-kind}
-use Rattle.tau_core.proofs.Found.{seat_in, found-seat}
-use Rattle.tau_core.proofs.PhaseLaws.{means-phase}
-use Rattle.tau_core.proofs.Seats.{seat-worker}
+use Rattle.tau_core.proofs.ActionKinds.{phase_kind}
+use Rattle.tau_core.proofs.Found.{seat_in, found_seat}
+use Rattle.tau_core.proofs.PhaseLaws.{means_phase}
+use Rattle.tau_core.proofs.Seats.{worker_of_seat}
 use Rattle.tau_core.proofs.top.Core.next_of.Goals as goal
 
 pub returns : goal.returns
 returns c = subst (λ (p : Plain). (K : List (Act Txn)) (h : Hidden) → Stands p K h → c.phase_of_kind.result ≡ hand_phase p.load.procs (hand_of (core_of p h) c.args.worker)) c.self.view_is (λ K h g.
     let s : State = c.self.inside.state in
     let there : c.args.worker < s.load.workers = subst (λ (p : Plain). c.args.worker < p.load.workers) (sym c.self.view_is) c.requires.there in
-    let is = found-seat s c.args.worker c.index-seat.result.now c.seat.inside g.sound there c.index-seat.ensures c.seat.view_is in
+    let is = found_seat s c.args.worker c.index-seat.result.now c.seat.inside g.sound there c.index-seat.ensures c.seat.view_is in
     let o = g.sound.seat c.args.worker (seat_in c.seat.inside) is in
     let next : Action = next_action c.seat.inside.txn in
-    let phase = means-phase s.load.procs c.seat.inside.txn next (c.kind.ensures.means s.load.procs o.runs) o.leaving o.stays in
-    c.phase_of_kind.ensures ∙ ap phase_of_kind c.kind.ensures.kind ∙ sym (phase-kind next) ∙ sym phase ∙ ap (λ (x : Worker). hand_phase s.load.procs x.hand) (sym (seat-worker (plain s) h c.args.worker (seat_in c.seat.inside) (seat_in c.seat.inside) is)))
+    let phase = means_phase s.load.procs c.seat.inside.txn next (c.kind.ensures.means s.load.procs o.runs) o.leaving o.stays in
+    c.phase_of_kind.ensures ∙ ap phase_of_kind c.kind.ensures.kind ∙ sym (phase_kind next) ∙ sym phase ∙ ap (λ (x : Worker). hand_phase s.load.procs x.hand) (sym (worker_of_seat (plain s) h c.args.worker (seat_in c.seat.inside) (seat_in c.seat.inside) is)))

@@ -5,16 +5,16 @@ use Rattle.tau_core.specs.State.{Plain, plain}
 use Rattle.tau_core.specs.View.{Hidden}
 use Rattle.tau_core.specs.Stands.{Stands}
 use Rattle.tau_core.specs.Steps.{HandsOut}
-use Rattle.tau_core.proofs.Bodies.{hands-out}
+use Rattle.tau_core.proofs.Bodies.{hands_out}
 use Rattle.std.proofs.Common.{subst}
 use Rattle.tau_core.proofs.top.Core.take_body.Goals as goal
 
 pub invariant_of-self : goal.invariant_of-self
 invariant_of-self c =
     let g = c.self.invariant in
-    let q = hands-out (plain c.self.inside.state) (plain c.take_body.new.state) g.0 g.1 g.2 c.args.stream c.take_body.result.items c.take_body.ensures in
+    let q = hands_out (plain c.self.inside.state) (plain c.take_body.new.state) g.0 g.1 g.2 c.args.stream c.take_body.result.items c.take_body.ensures in
     (g.0, q.hidden, q.stands)
 
 pub returns : goal.returns
 returns c = subst (λ (p : Plain). (K : List (Act Txn)) (h : Hidden) → Stands p K h → HandsOut p (plain c.take_body.new.state) K h c.args.stream c.take_body.result.items) c.self.view_is
-    (λ K h g. hands-out (plain c.self.inside.state) (plain c.take_body.new.state) K h g c.args.stream c.take_body.result.items c.take_body.ensures)
+    (λ K h g. hands_out (plain c.self.inside.state) (plain c.take_body.new.state) K h g c.args.stream c.take_body.result.items c.take_body.ensures)

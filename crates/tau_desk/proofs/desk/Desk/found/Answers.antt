@@ -1,5 +1,5 @@
 use Rattle.std.proofs.Common.{rules, ◌+◌, ◌*◌, ◌∙◌, refl, arith}
-use Rattle.tau_desk.proofs.Words.{sees-stop_as}
+use Rattle.tau_desk.proofs.Words.{sees_stop_as}
 use Rattle.tau_desk.proofs.desk.Desk.found.Goals as goal
 
 pub load-requires : goal.load-requires
@@ -8,7 +8,7 @@ load-requires c =
     let streams = c.args.self.now.streams_are in (
       search rules,
       (let a = sized.0 in let b = streams.0 in omega arith),
-      sees-stop_as c.args.self.now.table.shared.key.value _ _ _ c.args.seat.now.me (sized.1 ∙ sized.2) c.requires.opened (λ i. 8 * (sized.2 i + (streams.0 i + streams.0 i))),
+      sees_stop_as c.args.self.now.table.shared.key.value _ _ _ c.args.seat.now.me (sized.1 ∙ sized.2) c.requires.opened (λ i. 8 * (sized.2 i + (streams.0 i + streams.0 i))),
     )
 
 pub returns-clause-found : goal.returns-clause-found

@@ -5,7 +5,7 @@ use Rattle.tau_rule.specs.Steps.{ComesHome}
 use Rattle.tau_rule.specs.Rule.{outbox_part}
 use Rattle.tau_rule.specs.declared.part.Part.{Part}
 use Rattle.tau_rule.specs.declared.part.Part.TheVariants as part
-use Rattle.tau_desk.proofs.Acknowledging.{gives_acked, told_acked-is}
+use Rattle.tau_desk.proofs.Acknowledging.{gives_acked, told_acked_is}
 use Rattle.tau_desk.proofs.desk.Desk.give_acked_told.Goals as goal
 
 pub come_home-requires-clause-part : goal.come_home-requires-clause-part
@@ -28,5 +28,5 @@ come_home-requires-clause-home g c =
     let q : Part = part.Outbox c.args.outbox c.args.pending in
     let at' : SHARDS + c.from-number.result ≡ outbox_part c.args.worker = (let e = c.from-number.ensures in omega (arith, e)) in
     subst (λ (x : ℕ × Knows). ComesHome origin c.args.seat.now.id c.args.seat.now.me.0 x.0 q x.1)
-    (λ i. (sym at' i, sym (c.requires.told ∙ told_acked-is origin.load c.args.seat.now.me event.0 c.args.worker c.args.call.now event.2) i))
+    (λ i. (sym at' i, sym (c.requires.told ∙ told_acked_is origin.load c.args.seat.now.me event.0 c.args.worker c.args.call.now event.2) i))
     (gives_acked origin c.args.seat.now.id c.args.seat.now.me q event.0 c.args.worker c.args.call.now (ap Some (sym event.1)) event.2 c.requires.opened)

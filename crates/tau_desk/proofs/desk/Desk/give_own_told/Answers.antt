@@ -2,7 +2,7 @@ use Rattle.std.proofs.Common.{None, ℕ, [], ◌∷◌, subst, sym, ap, ◌∙�
 use Rattle.tau_rule.specs.Knows.{Knows}
 use Rattle.tau_rule.specs.Steps.{ComesHome}
 use Rattle.tau_rule.specs.declared.part.Part.{Part}
-use Rattle.tau_desk.proofs.OwnAnchors.{gives_own, told_own-is}
+use Rattle.tau_desk.proofs.OwnAnchors.{gives_own, told_own_is}
 use Rattle.tau_desk.proofs.desk.Desk.give_own_told.Goals as goal
 
 pub come_home-requires-clause-part : goal.come_home-requires-clause-part
@@ -21,5 +21,5 @@ come_home-requires-clause-home g c =
     let origin = c.args.self.now.table.shared.key.value in
     let left = c.args.stock.now.own.pieces in
     subst (λ (x : (ℕ × Part) × Knows). ComesHome origin c.args.seat.now.id c.args.seat.now.me.0 x.0.0 x.0.1 x.1)
-    (λ i. ((sym c.anchor_number-number.ensures i, d.2 i), sym (c.requires.told ∙ told_own-is origin c.args.seat.now.me c.args.stream d.0 left d.1) i))
+    (λ i. ((sym c.anchor_number-number.ensures i, d.2 i), sym (c.requires.told ∙ told_own_is origin c.args.seat.now.me c.args.stream d.0 left d.1) i))
     (gives_own origin c.args.seat.now.id c.args.seat.now.me c.args.stream d.0 left d.1)

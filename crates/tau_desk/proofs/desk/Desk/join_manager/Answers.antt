@@ -6,8 +6,7 @@ use Rattle.tau_rule.specs.Rule.{manager_role}
 use Rattle.tau_rule.specs.Steps.{Sat}
 use Rattle.tau_desk.specs.Seats.{IsHead, PlainHead}
 use Rattle.tau_desk.specs.Shares.{IsStock}
-use Rattle.tau_desk.proofs.SplittingOff.{one-origin}
-use Rattle.tau_desk.proofs.JoiningIn.{head-and-manager}
+use Rattle.tau_desk.proofs.JoiningIn.{head_and_manager, same_origin}
 use Rattle.tau_desk.proofs.desk.Desk.join_manager.Goals as goal
 
 pub invariant_of-head : goal.invariant_of-head
@@ -19,8 +18,8 @@ invariant_of-head c =
     let seat = c.seat.inside in
     let v = c.head.view_is in
     let z = c.seat.view_is in
-    let a : h.origin ≡ key = one-origin head.seat.me.0.opened h.origin key h.opened (ap (λ (p : PlainHead). p.me.0.opened) v ∙ c.requires.opened.0) in
-    let b : s.origin ≡ key = one-origin seat.seat.me.0.opened s.origin key s.opened (ap (λ p. p.me.0.opened) z ∙ c.requires.opened.1) in
+    let a : h.origin ≡ key = same_origin head.seat.me.0.opened h.origin key h.opened (ap (λ (p : PlainHead). p.me.0.opened) v ∙ c.requires.opened.0) in
+    let b : s.origin ≡ key = same_origin seat.seat.me.0.opened s.origin key s.opened (ap (λ p. p.me.0.opened) z ∙ c.requires.opened.1) in
     let same : s.origin ≡ h.origin = b ∙ sym a in
     let wide : length seat.seen ≡ h.origin.load.streams = s.seen_wide ∙ ap (λ (p : Plain). p.load.streams) same in
     let me : c.take_manager.new.seat.me ≡ (both_at seat.stream head.seat.me.0 seat.seat.me.0, []) = c.take_manager.ensures.joined ∙ (λ i. (both_at seat.stream head.seat.me.0 seat.seat.me.0, h.none i)) in
@@ -28,7 +27,7 @@ invariant_of-head c =
     let seen : c.set.new.self ≡ slice_set head.seen j (slice_index seat.seen j) = c.set.ensures ∙ (λ i. slice_set head.seen j (c.get-upto.ensures.same i)) in
     let stock = subst (λ (p : Plain). IsStock p.load j s.role seat.stock) same s.stock in
     subst (λ (y : Sat × List ℕ). IsHead y.0 head.workers.items (slice_set head.managers.items j (Some seat.stock)) head.clerk y.1) (λ i. (sym me i, sym seen i))
-    (head-and-manager head.seat.me head.workers.items head.managers.items head.clerk head.seen h seat.seat.me seat.seen s.seen_is wide (manager_role s.origin.load j) s.role s.roles j seat.stock (ap (λ (p : Plain). manager_role p.load j) same) stock)
+    (head_and_manager head.seat.me head.workers.items head.managers.items head.clerk head.seen h seat.seat.me seat.seen s.seen_is wide (manager_role s.origin.load j) s.role s.roles j seat.stock (ap (λ (p : Plain). manager_role p.load j) same) stock)
 
 pub returns : goal.returns
 returns c =
@@ -60,8 +59,8 @@ set-requires-clause-there c =
     let head = c.head.inside in
     let seat = c.seat.inside in
     let key = c.args.self.now.table.shared.key.value in
-    let a : h.origin ≡ key = one-origin head.seat.me.0.opened h.origin key h.opened (ap (λ (p : PlainHead). p.me.0.opened) c.head.view_is ∙ c.requires.opened.0) in
-    let b : s.origin ≡ key = one-origin seat.seat.me.0.opened s.origin key s.opened (ap (λ p. p.me.0.opened) c.seat.view_is ∙ c.requires.opened.1) in
+    let a : h.origin ≡ key = same_origin head.seat.me.0.opened h.origin key h.opened (ap (λ (p : PlainHead). p.me.0.opened) c.head.view_is ∙ c.requires.opened.0) in
+    let b : s.origin ≡ key = same_origin seat.seat.me.0.opened s.origin key s.opened (ap (λ p. p.me.0.opened) c.seat.view_is ∙ c.requires.opened.1) in
     let same : s.origin ≡ h.origin = b ∙ sym a in
     let there : seat.stream < h.origin.load.streams = subst (λ (p : Plain). seat.stream < p.load.streams) same s.stock.there in
     let e = h.seen_wide in

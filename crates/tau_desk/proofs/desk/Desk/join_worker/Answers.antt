@@ -6,8 +6,7 @@ use Rattle.tau_rule.specs.Heads.{both}
 use Rattle.tau_rule.specs.Steps.{Sat}
 use Rattle.tau_desk.specs.Seats.{IsHead, PlainHead, PlainWorkerSeat}
 use Rattle.tau_desk.specs.Shares.{IsWork, PlainWork}
-use Rattle.tau_desk.proofs.SplittingOff.{one-origin}
-use Rattle.tau_desk.proofs.JoiningIn.{head-and-worker}
+use Rattle.tau_desk.proofs.JoiningIn.{head_and_worker, same_origin}
 use Rattle.tau_desk.proofs.desk.Desk.join_worker.Goals as goal
 
 pub invariant_of-head : goal.invariant_of-head
@@ -19,15 +18,15 @@ invariant_of-head c =
     let seat = c.seat.inside in
     let v = c.head.view_is in
     let z = c.seat.view_is in
-    let a : h.origin ≡ key = one-origin head.seat.me.0.opened h.origin key h.opened (ap (λ (p : PlainHead). p.me.0.opened) v ∙ c.requires.opened.0) in
-    let b : s.origin ≡ key = one-origin seat.seat.me.0.opened s.origin key s.seat.opened (ap (λ p. p.me.0.opened) z ∙ c.requires.opened.1) in
+    let a : h.origin ≡ key = same_origin head.seat.me.0.opened h.origin key h.opened (ap (λ (p : PlainHead). p.me.0.opened) v ∙ c.requires.opened.0) in
+    let b : s.origin ≡ key = same_origin seat.seat.me.0.opened s.origin key s.seat.opened (ap (λ p. p.me.0.opened) z ∙ c.requires.opened.1) in
     let same : s.origin ≡ h.origin = b ∙ sym a in
     let wide : length seat.seen ≡ h.origin.load.streams = s.seen_wide ∙ ap (λ (p : Plain). p.load.streams) same in
     let me : c.take_in.new.seat.me ≡ (both head.seat.me.0 seat.seat.me.0, []) = c.take_in.ensures.joined ∙ (λ i. (both head.seat.me.0 seat.seat.me.0, h.none i)) in
     let work = subst (λ (p : Plain). IsWork p.load seat.worker s.role c.args.seat.work) same (subst (λ (y : PlainWorkerSeat). IsWork s.origin.load seat.worker s.role y.work) z s.work) in
     let w : ℕ = seat.worker in
     subst (λ (y : Sat × PlainWork × List ℕ). IsHead y.0 (slice_set head.workers.items w (Some y.1)) head.managers.items head.clerk y.2) (λ i. (sym me i, sym (ap (λ (y : PlainWorkerSeat). y.work) z) i, sym c.raise.ensures i))
-    (head-and-worker head.seat.me head.workers.items head.managers.items head.clerk head.seen h seat.seat.me seat.seen s.seen_is wide w s.role s.seat.roles w c.args.seat.work refl work c.requires.posted)
+    (head_and_worker head.seat.me head.workers.items head.managers.items head.clerk head.seen h seat.seat.me seat.seen s.seen_is wide w s.role s.seat.roles w c.args.seat.work refl work c.requires.posted)
 
 pub returns : goal.returns
 returns c =

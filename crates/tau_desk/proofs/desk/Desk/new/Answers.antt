@@ -5,7 +5,7 @@ use Rattle.tau_core.specs.declared.state.Load.{Load}
 use Rattle.tau_core.specs.Opens.{Opened, OpenedFresh, catalogue_size}
 use Rattle.tau_core.specs.State.{Plain}
 use Rattle.tau_desk.specs.Ends.{IsFirst}
-use Rattle.tau_desk.proofs.Beginning.{fresh-short, unbegun-rests}
+use Rattle.tau_desk.proofs.Beginning.{fresh_short, unbegun_rests}
 use Rattle.tau_desk.proofs.desk.Desk.new.Goals as goal
 
 pub desk_of-requires-clause-opened : goal.desk_of-requires-clause-opened
@@ -13,7 +13,7 @@ desk_of-requires-clause-opened c = (let h = c.in_ok-core.ensures.2 in subst (λ 
 
 pub desk_of-requires-clause-short : goal.desk_of-requires-clause-short
 desk_of-requires-clause-short c = λ j lt. (let h = c.in_ok-core.ensures in
-    subst (λ (l : Load). slice_index l.opening.ends j ≤ 2 ^ 61) (sym h.2.load) (fresh-short c.args.n (declarations_text c.args.load.now.declarations) h.0 h.1 c.requires.text j))
+    subst (λ (l : Load). slice_index l.opening.ends j ≤ 2 ^ 61) (sym h.2.load) (fresh_short c.args.n (declarations_text c.args.load.now.declarations) h.0 h.1 c.requires.text j))
 
 pub returns : goal.returns
 returns c =
@@ -23,5 +23,5 @@ returns c =
       d.2,
       d.3,
       d.4,
-      unbegun-rests c.in_ok-desk.head d.4,
+      unbegun_rests c.in_ok-desk.head d.4,
     )

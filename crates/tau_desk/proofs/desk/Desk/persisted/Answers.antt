@@ -1,5 +1,5 @@
 use Rattle.std.proofs.Common.{rules, ◌+◌, ◌*◌, ◌∙◌, arith}
-use Rattle.tau_desk.proofs.Words.{sees-persisted_as}
+use Rattle.tau_desk.proofs.Words.{sees_persisted_as}
 use Rattle.tau_desk.proofs.desk.Desk.persisted.Goals as goal
 
 pub load-requires : goal.load-requires
@@ -8,7 +8,7 @@ load-requires c =
     let streams = c.args.self.now.streams_are in (
       search rules,
       (let a = sized.0 in let b = streams.0 in let d = c.requires.there in omega arith),
-      sees-persisted_as c.args.self.now.table.shared.key.value _ _ c.args.stream _ c.args.seat.now.me (sized.1 ∙ sized.2) c.requires.opened (let b = streams.0 in let d = c.requires.there in omega arith) (λ i. 8 * (sized.2 i + (streams.0 i + c.args.stream))),
+      sees_persisted_as c.args.self.now.table.shared.key.value _ _ c.args.stream _ c.args.seat.now.me (sized.1 ∙ sized.2) c.requires.opened (let b = streams.0 in let d = c.requires.there in omega arith) (λ i. 8 * (sized.2 i + (streams.0 i + c.args.stream))),
     )
 
 pub returns-clause-small : goal.returns-clause-small

@@ -1,5 +1,5 @@
 use Rattle.std.proofs.Common.{rules, ◌+◌, ◌*◌, ◌∙◌, ap, arith}
-use Rattle.tau_desk.proofs.EndStops.{head-stops_as}
+use Rattle.tau_desk.proofs.EndStops.{head_stops_as}
 use Rattle.tau_desk.proofs.desk.Desk.raise_head_as.Goals as goal
 
 pub store-requires : goal.store-requires
@@ -9,7 +9,7 @@ store-requires g c =
     let who = c.requires.role in (
       search rules,
       (let a = sized.0 in let b = streams.0 in omega arith),
-      head-stops_as c.args.self.now.table.shared.key.value _ _ who.0 _ c.args.seat.now.me who.1 _ (sized.1 ∙ sized.2) who.2 (λ i. 8 * (sized.2 i + (streams.0 i + streams.0 i))) c.requires.told,
+      head_stops_as c.args.self.now.table.shared.key.value _ _ who.0 _ c.args.seat.now.me who.1 _ (sized.1 ∙ sized.2) who.2 (λ i. 8 * (sized.2 i + (streams.0 i + streams.0 i))) c.requires.told,
     )
 
 pub returns-clause-raised : goal.returns-clause-raised

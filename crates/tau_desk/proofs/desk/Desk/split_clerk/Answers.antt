@@ -4,8 +4,9 @@ use Rattle.tau_rule.specs.Heads.{left_by, split_off}
 use Rattle.tau_rule.specs.Rule.{clerk_role}
 use Rattle.tau_rule.specs.Steps.{Sat}
 use Rattle.tau_desk.specs.Seats.{IsHead, PlainHead}
-use Rattle.tau_desk.proofs.SplittingOff.{head-less-clerk, one-origin}
+use Rattle.tau_desk.proofs.SplittingOff.{head_less_clerk}
 use Rattle.tau_desk.proofs.desk.Desk.split_clerk.Goals as goal
+use Rattle.tau_desk.proofs.JoiningIn.{same_origin}
 
 pub invariant_of-head : goal.invariant_of-head
 invariant_of-head c =
@@ -14,12 +15,12 @@ invariant_of-head c =
     let h = c.head.invariant in
     let head = c.head.inside in
     let v = c.head.view_is in
-    let a : h.origin ≡ key = one-origin head.seat.me.0.opened h.origin key h.opened (ap (λ (p : PlainHead). p.me.0.opened) v ∙ c.requires.opened) in
+    let a : h.origin ≡ key = same_origin head.seat.me.0.opened h.origin key h.opened (ap (λ (p : PlainHead). p.me.0.opened) v ∙ c.requires.opened) in
     let l : desk.load ≡ key.load = desk.same_load in
     let s : desk.streams ≡ key.load.streams = desk.streams_are.0 in
     let at : desk.load.workers + desk.streams ≡ clerk_role h.origin.load = (λ i. (l i).workers + s i) ∙ sym (ap (λ (p : Plain). clerk_role p.load) a) in
     let me : c.part_off-seat.new.seat.me ≡ (left_by (clerk_role h.origin.load) head.seat.me.0, []) = c.part_off-seat.ensures.parted.0 ∙ (λ i. (left_by (at i) head.seat.me.0, h.none i)) in
-    subst (λ (z : Sat). IsHead z head.workers.items head.managers.items false head.seen) (sym me) (head-less-clerk head.seat.me head.workers.items head.managers.items head.clerk head.seen h)
+    subst (λ (z : Sat). IsHead z head.workers.items head.managers.items false head.seen) (sym me) (head_less_clerk head.seat.me head.workers.items head.managers.items head.clerk head.seen h)
 
 pub returns : goal.returns
 returns c =
@@ -28,7 +29,7 @@ returns c =
     let h = c.head.invariant in
     let head = c.head.inside in
     let v = c.head.view_is in
-    let a : h.origin ≡ key = one-origin head.seat.me.0.opened h.origin key h.opened (ap (λ (p : PlainHead). p.me.0.opened) v ∙ c.requires.opened) in
+    let a : h.origin ≡ key = same_origin head.seat.me.0.opened h.origin key h.opened (ap (λ (p : PlainHead). p.me.0.opened) v ∙ c.requires.opened) in
     let l : desk.load ≡ key.load = desk.same_load in
     let s : desk.streams ≡ key.load.streams = desk.streams_are.0 in
     let own = c.part_off-seat.ensures.own in

@@ -6,8 +6,9 @@ use Rattle.tau_rule.specs.Rule.{has, manager_role}
 use Rattle.tau_rule.specs.Steps.{Sat}
 use Rattle.tau_desk.specs.Seats.{IsHead, IsManagerSeat, PlainHead}
 use Rattle.tau_desk.specs.Shares.{PlainStock}
-use Rattle.tau_desk.proofs.SplittingOff.{head-less-manager, manager-off, one-origin}
+use Rattle.tau_desk.proofs.SplittingOff.{head_less_manager, manager_off}
 use Rattle.tau_desk.proofs.desk.Desk.split_manager.Goals as goal
+use Rattle.tau_desk.proofs.JoiningIn.{same_origin}
 
 pub part_off-seat-requires-clause-there : goal.part_off-seat-requires-clause-there
 part_off-seat-requires-clause-there c =
@@ -16,7 +17,7 @@ part_off-seat-requires-clause-there c =
     let h = c.head.invariant in
     let head = c.head.inside in
     let v = c.head.view_is in
-    let a : h.origin ≡ key = one-origin head.seat.me.0.opened h.origin key h.opened (ap (λ (p : PlainHead). p.me.0.opened) v ∙ c.requires.opened) in
+    let a : h.origin ≡ key = same_origin head.seat.me.0.opened h.origin key h.opened (ap (λ (p : PlainHead). p.me.0.opened) v ∙ c.requires.opened) in
     let l : desk.load ≡ key.load = desk.same_load in
     let s : desk.streams ≡ key.load.streams = desk.streams_are.0 in
     let j = c.args.stream in
@@ -32,7 +33,7 @@ invariant_of-head c =
     let h = c.head.invariant in
     let head = c.head.inside in
     let v = c.head.view_is in
-    let a : h.origin ≡ key = one-origin head.seat.me.0.opened h.origin key h.opened (ap (λ (p : PlainHead). p.me.0.opened) v ∙ c.requires.opened) in
+    let a : h.origin ≡ key = same_origin head.seat.me.0.opened h.origin key h.opened (ap (λ (p : PlainHead). p.me.0.opened) v ∙ c.requires.opened) in
     let l : desk.load ≡ key.load = desk.same_load in
     let s : desk.streams ≡ key.load.streams = desk.streams_are.0 in
     let j = c.args.stream in
@@ -41,7 +42,7 @@ invariant_of-head c =
     let at : desk.load.workers + j ≡ manager_role h.origin.load j = (λ i. (l i).workers + j) ∙ sym (ap (λ (p : Plain). manager_role p.load j) a) in
     let me : c.part_off-seat.new.seat.me ≡ (left_by (manager_role h.origin.load j) head.seat.me.0, []) = c.part_off-seat.ensures.parted.0 ∙ (λ i. (left_by (at i) head.seat.me.0, h.none i)) in
     subst (λ (z : Sat × List (Option PlainStock)). IsHead z.0 head.workers.items z.1 head.clerk head.seen) (λ i. (sym me i, sym c.take_stock-stock.ensures.left i))
-    (head-less-manager head.seat.me head.workers.items head.managers.items head.clerk head.seen h j g.stock.there)
+    (head_less_manager head.seat.me head.workers.items head.managers.items head.clerk head.seen h j g.stock.there)
 
 pub invariant_of-result : goal.invariant_of-result
 invariant_of-result c =
@@ -50,7 +51,7 @@ invariant_of-result c =
     let h = c.head.invariant in
     let head = c.head.inside in
     let v = c.head.view_is in
-    let a : h.origin ≡ key = one-origin head.seat.me.0.opened h.origin key h.opened (ap (λ (p : PlainHead). p.me.0.opened) v ∙ c.requires.opened) in
+    let a : h.origin ≡ key = same_origin head.seat.me.0.opened h.origin key h.opened (ap (λ (p : PlainHead). p.me.0.opened) v ∙ c.requires.opened) in
     let l : desk.load ≡ key.load = desk.same_load in
     let s : desk.streams ≡ key.load.streams = desk.streams_are.0 in
     let j = c.args.stream in
@@ -58,7 +59,7 @@ invariant_of-result c =
     let g = h.manager j c.take_stock-stock.result e in
     let at : desk.load.workers + j ≡ manager_role h.origin.load j = (λ i. (l i).workers + j) ∙ sym (ap (λ (p : Plain). manager_role p.load j) a) in
     let me : c.part_off-seat.result.me ≡ (split_off (manager_role h.origin.load j) head.seat.me.0, []) = c.part_off-seat.ensures.parted.1 ∙ (λ i. (split_off (at i) head.seat.me.0, [])) in
-    subst (λ (z : Sat). IsManagerSeat z j c.take_stock-stock.result head.seen) (sym me) (manager-off head.seat.me head.workers.items head.managers.items head.clerk head.seen h j c.take_stock-stock.result e)
+    subst (λ (z : Sat). IsManagerSeat z j c.take_stock-stock.result head.seen) (sym me) (manager_off head.seat.me head.workers.items head.managers.items head.clerk head.seen h j c.take_stock-stock.result e)
 
 pub returns : goal.returns
 returns c =
@@ -67,7 +68,7 @@ returns c =
     let h = c.head.invariant in
     let head = c.head.inside in
     let v = c.head.view_is in
-    let a : h.origin ≡ key = one-origin head.seat.me.0.opened h.origin key h.opened (ap (λ (p : PlainHead). p.me.0.opened) v ∙ c.requires.opened) in
+    let a : h.origin ≡ key = same_origin head.seat.me.0.opened h.origin key h.opened (ap (λ (p : PlainHead). p.me.0.opened) v ∙ c.requires.opened) in
     let l : desk.load ≡ key.load = desk.same_load in
     let s : desk.streams ≡ key.load.streams = desk.streams_are.0 in
     let j = c.args.stream in

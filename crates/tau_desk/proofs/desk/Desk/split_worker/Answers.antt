@@ -8,8 +8,9 @@ use Rattle.tau_rule.specs.Steps.{Sat}
 use Rattle.tau_desk.specs.Ends.{calls_each}
 use Rattle.tau_desk.specs.Seats.{IsHead, IsWorkerSeat, PlainHead}
 use Rattle.tau_desk.specs.Shares.{PlainWork}
-use Rattle.tau_desk.proofs.SplittingOff.{head-less-worker, one-origin, put-back, worker-off}
+use Rattle.tau_desk.proofs.SplittingOff.{head_less_worker, put_back, worker_off}
 use Rattle.tau_desk.proofs.desk.Desk.split_worker.Goals as goal
+use Rattle.tau_desk.proofs.JoiningIn.{same_origin}
 
 pub part_off-seat-requires-clause-there : goal.part_off-seat-requires-clause-there
 part_off-seat-requires-clause-there c =
@@ -18,7 +19,7 @@ part_off-seat-requires-clause-there c =
     let h = c.head.invariant in
     let head = c.head.inside in
     let v = c.head.view_is in
-    let a : h.origin ≡ key = one-origin head.seat.me.0.opened h.origin key h.opened (ap (λ (p : PlainHead). p.me.0.opened) v ∙ c.requires.opened) in
+    let a : h.origin ≡ key = same_origin head.seat.me.0.opened h.origin key h.opened (ap (λ (p : PlainHead). p.me.0.opened) v ∙ c.requires.opened) in
     let l : desk.load ≡ key.load = desk.same_load in
     let s : desk.streams ≡ key.load.streams = desk.streams_are.0 in
     let w : ℕ = c.args.worker in
@@ -41,7 +42,7 @@ invariant_of-head-2 c =
     let h = c.head.invariant in
     let head = c.head.inside in
     let v = c.head.view_is in
-    let a : h.origin ≡ key = one-origin head.seat.me.0.opened h.origin key h.opened (ap (λ (p : PlainHead). p.me.0.opened) v ∙ c.requires.opened) in
+    let a : h.origin ≡ key = same_origin head.seat.me.0.opened h.origin key h.opened (ap (λ (p : PlainHead). p.me.0.opened) v ∙ c.requires.opened) in
     let l : desk.load ≡ key.load = desk.same_load in
     let s : desk.streams ≡ key.load.streams = desk.streams_are.0 in
     let w : ℕ = c.args.worker in
@@ -50,7 +51,7 @@ invariant_of-head-2 c =
     let g = h.worker w o e in
     let me : c.part_off-seat.new.seat.me ≡ (left_by w head.seat.me.0, []) = c.part_off-seat.ensures.parted.0 ∙ (λ i. (left_by w head.seat.me.0, h.none i)) in
     subst (λ (z : Sat × List (Option PlainWork)). IsHead z.0 z.1 head.managers.items head.clerk head.seen) (λ i. (sym me i, sym c.take_work-work.ensures.left i))
-    (head-less-worker head.seat.me head.workers.items head.managers.items head.clerk head.seen h w g.work.there)
+    (head_less_worker head.seat.me head.workers.items head.managers.items head.clerk head.seen h w g.work.there)
 
 pub invariant_of-result : goal.invariant_of-result
 invariant_of-result c =
@@ -59,7 +60,7 @@ invariant_of-result c =
     let h = c.head.invariant in
     let head = c.head.inside in
     let v = c.head.view_is in
-    let a : h.origin ≡ key = one-origin head.seat.me.0.opened h.origin key h.opened (ap (λ (p : PlainHead). p.me.0.opened) v ∙ c.requires.opened) in
+    let a : h.origin ≡ key = same_origin head.seat.me.0.opened h.origin key h.opened (ap (λ (p : PlainHead). p.me.0.opened) v ∙ c.requires.opened) in
     let l : desk.load ≡ key.load = desk.same_load in
     let s : desk.streams ≡ key.load.streams = desk.streams_are.0 in
     let w : ℕ = c.args.worker in
@@ -72,7 +73,7 @@ invariant_of-result c =
     let kept = c.reserve_more.ensures.items ∙ ap (λ (x : PlainWork). x.committed) c.work.view_is in
     subst (λ (z : Sat × PlainWork × List ℕ). IsWorkerSeat z.0 w z.1 (0, z.2) head.seen)
     (λ i. (sym c.part_off-seat.ensures.parted.1 i, sym (λ k. record (c.work.view_is k) { committed = kept k; committed_room = room }) i, sym zeros i))
-    (worker-off head.seat.me head.workers.items head.managers.items head.clerk head.seen h w room o e more)
+    (worker_off head.seat.me head.workers.items head.managers.items head.clerk head.seen h w room o e more)
 
 pub invariant_of-head : goal.invariant_of-head
 invariant_of-head c =
@@ -81,7 +82,7 @@ invariant_of-head c =
     let h = c.head.invariant in
     let head = c.head.inside in
     let v = c.head.view_is in
-    let a : h.origin ≡ key = one-origin head.seat.me.0.opened h.origin key h.opened (ap (λ (p : PlainHead). p.me.0.opened) v ∙ c.requires.opened) in
+    let a : h.origin ≡ key = same_origin head.seat.me.0.opened h.origin key h.opened (ap (λ (p : PlainHead). p.me.0.opened) v ∙ c.requires.opened) in
     let l : desk.load ≡ key.load = desk.same_load in
     let s : desk.streams ≡ key.load.streams = desk.streams_are.0 in
     let w : ℕ = c.args.worker in
@@ -90,7 +91,7 @@ invariant_of-head c =
     let same_list : c.reserve_more.new.committed ≡ c.work.inside.committed = search rules in
     let room : c.reserve_more.new.committed.room ≡ o.committed_room = ap (λ (q : PlainCommittedList). q.room) same_list ∙ ap (λ (x : PlainWork). x.committed_room) c.work.view_is in
     let kept = c.reserve_more.ensures.items ∙ ap (λ (x : PlainWork). x.committed) c.work.view_is in
-    let items : c.put_work.new.workers.items ≡ head.workers.items = c.put_work.ensures ∙ (λ i. slice_set (c.take_work-work.ensures.left i) w (Some (record (c.work.view_is i) { committed = kept i; committed_room = room i }))) ∙ put-back head.workers.items w o o e refl in
+    let items : c.put_work.new.workers.items ≡ head.workers.items = c.put_work.ensures ∙ (λ i. slice_set (c.take_work-work.ensures.left i) w (Some (record (c.work.view_is i) { committed = kept i; committed_room = room i }))) ∙ put_back head.workers.items w o o e refl in
     subst (λ (xs : List (Option PlainWork)). IsHead head.seat.me xs head.managers.items head.clerk head.seen) (sym items) h
 
 pub returns-then-is_err-clause-refused : goal.returns-then-is_err-clause-refused
@@ -100,7 +101,7 @@ returns-then-is_err-clause-refused c =
     let h = c.head.invariant in
     let head = c.head.inside in
     let v = c.head.view_is in
-    let a : h.origin ≡ key = one-origin head.seat.me.0.opened h.origin key h.opened (ap (λ (p : PlainHead). p.me.0.opened) v ∙ c.requires.opened) in
+    let a : h.origin ≡ key = same_origin head.seat.me.0.opened h.origin key h.opened (ap (λ (p : PlainHead). p.me.0.opened) v ∙ c.requires.opened) in
     let l : desk.load ≡ key.load = desk.same_load in
     let s : desk.streams ≡ key.load.streams = desk.streams_are.0 in
     let w : ℕ = c.args.worker in
@@ -109,7 +110,7 @@ returns-then-is_err-clause-refused c =
     let same_list : c.reserve_more.new.committed ≡ c.work.inside.committed = search rules in
     let room : c.reserve_more.new.committed.room ≡ o.committed_room = ap (λ (q : PlainCommittedList). q.room) same_list ∙ ap (λ (x : PlainWork). x.committed_room) c.work.view_is in
     let kept = c.reserve_more.ensures.items ∙ ap (λ (x : PlainWork). x.committed) c.work.view_is in
-    let items : c.put_work.new.workers.items ≡ head.workers.items = c.put_work.ensures ∙ (λ i. slice_set (c.take_work-work.ensures.left i) w (Some (record (c.work.view_is i) { committed = kept i; committed_room = room i }))) ∙ put-back head.workers.items w o o e refl in
+    let items : c.put_work.new.workers.items ≡ head.workers.items = c.put_work.ensures ∙ (λ i. slice_set (c.take_work-work.ensures.left i) w (Some (record (c.work.view_is i) { committed = kept i; committed_room = room i }))) ∙ put_back head.workers.items w o o e refl in
     (λ i. record { table_id = head.seat.table_id; id = head.seat.id; me = head.seat.me; workers = items i; managers = head.managers.items; clerk = head.clerk; seen = head.seen }) ∙ v
 
 pub returns : goal.returns
@@ -119,7 +120,7 @@ returns c =
     let h = c.head.invariant in
     let head = c.head.inside in
     let v = c.head.view_is in
-    let a : h.origin ≡ key = one-origin head.seat.me.0.opened h.origin key h.opened (ap (λ (p : PlainHead). p.me.0.opened) v ∙ c.requires.opened) in
+    let a : h.origin ≡ key = same_origin head.seat.me.0.opened h.origin key h.opened (ap (λ (p : PlainHead). p.me.0.opened) v ∙ c.requires.opened) in
     let l : desk.load ≡ key.load = desk.same_load in
     let s : desk.streams ≡ key.load.streams = desk.streams_are.0 in
     let w : ℕ = c.args.worker in

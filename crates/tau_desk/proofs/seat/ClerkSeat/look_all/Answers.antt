@@ -3,7 +3,7 @@ use Rattle.std.specs.Prelude.{slice_index}
 use Rattle.tau_core.specs.State.{Plain}
 use Rattle.tau_desk.specs.Looks.{LooksOver}
 use Rattle.tau_desk.specs.Seats.{PlainClerkSeat}
-use Rattle.tau_desk.proofs.Words.{looks-on, sees-again}
+use Rattle.tau_desk.proofs.Words.{looks_on, sees_again}
 use Rattle.tau_desk.proofs.seat.ClerkSeat.look_all.Goals as goal
 use Rattle.tau_desk.proofs.seat.ClerkSeat.look_all.Goals.{then-looks, else-looks}
 
@@ -16,8 +16,8 @@ loop-stream-preserved c =
     let o = c.loop-stream.invariant in
     let e = c.looks.ensures in
     let on : ((c.if-looks.rose ≡ true) → (c.loop-stream.rose ≡ true) ⊎ (slice_index now.seen c.loop-stream.stream < slice_index new.seen c.loop-stream.stream)) → LooksOver key first.me.0 (c.loop-stream.stream + 1) first.seen new.seen c.if-looks.rose =
-    looks-on key first.me now.me c.loop-stream.stream first.seen now.seen new.seen c.loop-stream.rose c.if-looks.rose o.looks o.sees e.sees.up e.others e.stands in record {
-      sees = sees-again first.me now.me new.me first.seen now.seen new.seen o.sees e.sees;
+    looks_on key first.me now.me c.loop-stream.stream first.seen now.seen new.seen c.loop-stream.rose c.if-looks.rose o.looks o.sees e.sees.up e.others e.stands in record {
+      sees = sees_again first.me now.me new.me first.seen now.seen new.seen o.sees e.sees;
       rest = e.rest ∙ ap (λ (s : PlainClerkSeat). record s { me = new.me; seen = new.seen }) o.rest;
       none = λ no. elim c.if-looks.branch [
         | then-looks w ↦ absurd (let bad : true ≡ false = sym w.rose-is ∙ no in cc)

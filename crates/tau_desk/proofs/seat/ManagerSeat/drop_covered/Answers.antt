@@ -4,7 +4,7 @@ use Rattle.tau_shard.specs.Plain.{PlainShard}
 use Rattle.tau_shard.specs.Read.{shard_of}
 use Rattle.tau_rule.specs.Rule.{manager_role}
 use Rattle.tau_rule.specs.Steps.{Sat}
-use Rattle.tau_rule.proofs.Turns.{one-role}
+use Rattle.tau_rule.proofs.Turns.{one_role}
 use Rattle.tau_core.specs.State.{Plain}
 use Rattle.tau_desk.specs.Seats.{PlainManagerSeat}
 use Rattle.tau_desk.specs.Visits.{Sweeps}
@@ -13,7 +13,7 @@ use Rattle.tau_desk.proofs.seat.ManagerSeat.drop_covered.Goals as goal
 pub take_free-shard-requires-clause-role : goal.take_free-shard-requires-clause-role
 take_free-shard-requires-clause-role g c =
     let h = c.self.invariant in
-    (manager_role h.origin.load c.self.inside.stream, h.role, one-role c.self.inside.seat.me.0 (manager_role h.origin.load c.self.inside.stream) h.role h.roles)
+    (manager_role h.origin.load c.self.inside.stream, h.role, one_role c.self.inside.seat.me.0 (manager_role h.origin.load c.self.inside.stream) h.role h.roles)
 
 pub give_swept-requires-clause-event : goal.give_swept-requires-clause-event
 give_swept-requires-clause-event g c =

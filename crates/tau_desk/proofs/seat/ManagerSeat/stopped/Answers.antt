@@ -2,7 +2,7 @@ use Rattle.std.proofs.Common.{subst}
 use Rattle.tau_core.specs.State.{Plain}
 use Rattle.tau_desk.specs.Looks.{StopStands}
 use Rattle.tau_desk.specs.Seats.{PlainManagerSeat}
-use Rattle.tau_desk.proofs.Words.{has-raised}
+use Rattle.tau_desk.proofs.Words.{has_raised}
 use Rattle.tau_desk.proofs.seat.ManagerSeat.stopped.Goals as goal
 
 pub returns-clause-stands : goal.returns-clause-stands
@@ -11,4 +11,4 @@ returns-clause-stands c = subst (λ (s : PlainManagerSeat). StopStands c.args.de
 pub returns-clause-mine : goal.returns-clause-mine
 returns-clause-mine c =
     let key : Plain = c.args.desk.now.table.shared.key.value in
-    λ raised. has-raised key c.args.self.now.me.0 c.found.result (subst (λ (s : PlainManagerSeat). StopStands key s.me.0 c.found.result) c.self.view_is c.found.ensures.stands) raised
+    λ raised. has_raised key c.args.self.now.me.0 c.found.result (subst (λ (s : PlainManagerSeat). StopStands key s.me.0 c.found.result) c.self.view_is c.found.ensures.stands) raised

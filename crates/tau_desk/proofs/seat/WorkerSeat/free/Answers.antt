@@ -3,7 +3,7 @@ use Rattle.tau_txn.specs.Txn.{PlainTxn, has_joined}
 use Rattle.tau_core.specs.State.{Plain}
 use Rattle.tau_desk.specs.Acts.{HasFreed}
 use Rattle.tau_desk.specs.Seats.{IsWorkerSeat}
-use Rattle.tau_desk.proofs.GoingOn.{seat-freed}
+use Rattle.tau_desk.proofs.GoingOn.{seat_freed}
 use Rattle.tau_desk.proofs.seat.WorkerSeat.free.Goals as goal
 
 pub invariant_of-self : goal.invariant_of-self
@@ -11,5 +11,5 @@ invariant_of-self g c =
     let origin : Plain = c.args.desk.now.table.shared.key.value in
     let opened = ap (λ x. x.seat.me.0.opened) c.self-inside.view_is ∙ ap (λ v. v.me.0.opened) c.self.view_is ∙ c.requires.opened in
     let s = subst (λ x. IsWorkerSeat x.seat.me x.worker x.work (x.anchor, x.anchor_lv) x.seen) (sym c.self-inside.view_is) c.self.invariant in
-    seat-freed origin _ c.free.new.seat.me _ _ c.free.new.txn _ _ opened s c.in-Went.ensures.step.0 (ap (λ x. has_joined x.work.txn) c.self-inside.view_is ∙ ap (λ v. has_joined v.work.txn) c.self.view_is ∙ c.requires.joined)
+    seat_freed origin _ c.free.new.seat.me _ _ c.free.new.txn _ _ opened s c.in-Went.ensures.step.0 (ap (λ x. has_joined x.work.txn) c.self-inside.view_is ∙ ap (λ v. has_joined v.work.txn) c.self.view_is ∙ c.requires.joined)
     (subst (λ (t : PlainTxn). HasFreed origin.load.procs t c.free.new.txn) c.deref_mut.ensures.value c.in-Went.ensures.step.1)

@@ -3,7 +3,7 @@ use Rattle.tau_core.specs.State.{Plain}
 use Rattle.tau_txn.specs.Txn.{PlainTxn}
 use Rattle.tau_desk.specs.Acts.{HasLocked, HasMetBusy}
 use Rattle.tau_desk.specs.Seats.{IsWorkerSeat}
-use Rattle.tau_desk.proofs.GoingOn.{seat-busy, seat-locked}
+use Rattle.tau_desk.proofs.GoingOn.{seat_busy, seat_locked}
 use Rattle.tau_desk.proofs.seat.WorkerSeat.lock.Goals as goal
 
 pub invariant_of-self : goal.invariant_of-self
@@ -11,7 +11,7 @@ invariant_of-self g c =
     let origin : Plain = c.args.desk.now.table.shared.key.value in
     let opened = ap (λ x. x.seat.me.0.opened) c.self-inside.view_is ∙ ap (λ v. v.me.0.opened) c.self.view_is ∙ c.requires.opened in
     let s = subst (λ x. IsWorkerSeat x.seat.me x.worker x.work (x.anchor, x.anchor_lv) x.seen) (sym c.self-inside.view_is) c.self.invariant in
-    seat-locked origin _ c.lock.new.seat.me _ _ c.lock.new.txn _ _ opened s c.in-Went.ensures.step.0
+    seat_locked origin _ c.lock.new.seat.me _ _ c.lock.new.txn _ _ opened s c.in-Went.ensures.step.0
     (subst (λ (t : PlainTxn). HasLocked origin.load.procs t c.lock.new.txn) c.deref_mut.ensures.value c.in-Went.ensures.step.1)
 
 pub invariant_of-self-in-Busy : goal.invariant_of-self-in-Busy
@@ -19,5 +19,5 @@ invariant_of-self-in-Busy g c =
     let origin : Plain = c.args.desk.now.table.shared.key.value in
     let opened = ap (λ x. x.seat.me.0.opened) c.self-inside.view_is ∙ ap (λ v. v.me.0.opened) c.self.view_is ∙ c.requires.opened in
     let s = subst (λ x. IsWorkerSeat x.seat.me x.worker x.work (x.anchor, x.anchor_lv) x.seen) (sym c.self-inside.view_is) c.self.invariant in
-    seat-busy origin _ c.lock.new.seat.me _ _ c.lock.new.txn _ _ opened s c.in-Busy.ensures.step.0 c.leave.new.work
+    seat_busy origin _ c.lock.new.seat.me _ _ c.lock.new.txn _ _ opened s c.in-Busy.ensures.step.0 c.leave.new.work
     (subst (λ (t : PlainTxn). HasMetBusy origin.load.procs t c.lock.new.txn) c.deref_mut.ensures.value c.in-Busy.ensures.step.1) c.leave.ensures

@@ -3,7 +3,7 @@ use Rattle.tau_core.specs.State.{Plain}
 use Rattle.tau_txn.specs.Txn.{PlainTxn}
 use Rattle.tau_desk.specs.Acts.{HasQuit}
 use Rattle.tau_desk.specs.Seats.{IsWorkerSeat}
-use Rattle.tau_desk.proofs.GoingOn.{seat-quit}
+use Rattle.tau_desk.proofs.GoingOn.{seat_quit}
 use Rattle.tau_desk.proofs.seat.WorkerSeat.quit.Goals as goal
 
 pub invariant_of-self : goal.invariant_of-self
@@ -11,5 +11,5 @@ invariant_of-self g c =
     let origin : Plain = c.args.desk.now.table.shared.key.value in
     let opened = ap (λ x. x.seat.me.0.opened) c.self-inside.view_is ∙ ap (λ v. v.me.0.opened) c.self.view_is ∙ c.requires.opened in
     let s = subst (λ x. IsWorkerSeat x.seat.me x.worker x.work (x.anchor, x.anchor_lv) x.seen) (sym c.self-inside.view_is) c.self.invariant in
-    seat-quit origin _ c.quit.new.seat.me _ _ c.quit.new.txn _ _ opened s c.in-Went.ensures.step.0 c.leave.new.work
+    seat_quit origin _ c.quit.new.seat.me _ _ c.quit.new.txn _ _ opened s c.in-Went.ensures.step.0 c.leave.new.work
     (subst (λ (t : PlainTxn). HasQuit origin.load.procs t c.quit.new.txn) c.deref_mut.ensures.value c.in-Went.ensures.step.1) c.leave.ensures

@@ -3,9 +3,10 @@ use Rattle.tau_disk.specs.Disk.{Follows, Torn, Holds}
 use Rattle.tau_disk.specs.Replay.{opened, replayed, leaves, is_stop}
 use Rattle.tau_disk.specs.declared.call.DiskCall.TheVariants.{Lost, Wrote}
 use Rattle.tau_disk.proofs.Images.{elapses, lost_crash, lost_sound, lost_reads, lost_keeps, lost_torn, lost_long, wrote_torn, wrote_long, wrote_crash, wrote_sound, wrote_reads, wrote_keeps}
-use Rattle.tau_disk.proofs.Kept.{written, kept, not_kept, both, second_not, first_not}
+use Rattle.tau_disk.proofs.Kept.{written, kept, not_kept, both, second_not}
 use Rattle.tau_disk.proofs.memory.MemDiskDisk.write_at.Goals as goal
 use Rattle.tau_disk.proofs.memory.MemDiskDisk.write_at.Goals.{else-self-via-then-self+else-is_last, else-self-via-else-self}
+use Rattle.tau_base.proofs.Logic.{first_not}
 
 pub invariant_of-self : goal.invariant_of-self
 invariant_of-self c =

@@ -4,12 +4,12 @@ use Rattle.std.specs.List.{All}
 use Rattle.std.proofs.lemmas.List.{length-map}
 use Rattle.tau_model.specs.declared.committed_list.Head.{Head}
 use Rattle.tau_model.specs.KeptCommitted.{IsHead, calls_of, head_behind}
-use Rattle.tau_model.proofs.KeptCalls.{calls-count, calls-joined, heads-joined}
+use Rattle.tau_model.proofs.KeptCalls.{calls_count, calls_joined, heads_joined}
 use Rattle.tau_model.proofs.committed_list.CommittedList.append.Goals as goal
 
 pub unreachable-requires : goal.unreachable-requires
 unreachable-requires c =
-    let count = calls-count c.other.inside.texts.items c.other.inside.heads.items c.other.inside.deps.items c.args.other.items c.other.invariant.same (λ i. (c.other.view_is i).items) in
+    let count = calls_count c.other.inside.texts.items c.other.inside.heads.items c.other.inside.deps.items c.args.other.items c.other.invariant.same (λ i. (c.other.view_is i).items) in
     let room : c.self.inside.room ≡ c.args.self.now.room = (λ i. (c.self.view_is i).room) in
     let few = c.requires in
     let full = c.in_default.ensures.full in
@@ -20,7 +20,7 @@ unreachable-requires c =
 
 pub overflow_sub-self : goal.overflow_sub-self
 overflow_sub-self c =
-    let count = calls-count c.other.inside.texts.items c.other.inside.heads.items c.other.inside.deps.items c.args.other.items c.other.invariant.same (λ i. (c.other.view_is i).items) in
+    let count = calls_count c.other.inside.texts.items c.other.inside.heads.items c.other.inside.deps.items c.args.other.items c.other.invariant.same (λ i. (c.other.view_is i).items) in
     let room : c.self.inside.room ≡ c.args.self.now.room = (λ i. (c.self.view_is i).room) in
     let few = c.requires in
     let long = c.len-2.ensures in
@@ -29,7 +29,7 @@ overflow_sub-self c =
 
 pub put_heads-requires-clause-room : goal.put_heads-requires-clause-room
 put_heads-requires-clause-room c =
-    let count = calls-count c.other.inside.texts.items c.other.inside.heads.items c.other.inside.deps.items c.args.other.items c.other.invariant.same (λ i. (c.other.view_is i).items) in
+    let count = calls_count c.other.inside.texts.items c.other.inside.heads.items c.other.inside.deps.items c.args.other.items c.other.invariant.same (λ i. (c.other.view_is i).items) in
     let room : c.self.inside.room ≡ c.args.self.now.room = (λ i. (c.self.view_is i).room) in
     let few = c.requires in
     let mine = c.self.invariant.heads_room in
@@ -37,7 +37,7 @@ put_heads-requires-clause-room c =
 
 pub append-requires-2 : goal.append-requires-2
 append-requires-2 c =
-    let count = calls-count c.other.inside.texts.items c.other.inside.heads.items c.other.inside.deps.items c.args.other.items c.other.invariant.same (λ i. (c.other.view_is i).items) in
+    let count = calls_count c.other.inside.texts.items c.other.inside.heads.items c.other.inside.deps.items c.args.other.items c.other.invariant.same (λ i. (c.other.view_is i).items) in
     let room : c.self.inside.room ≡ c.args.self.now.room = (λ i. (c.self.view_is i).room) in
     let few = c.requires in
     let mine = c.self.invariant.deps_room in
@@ -55,7 +55,7 @@ invariant_of-self c =
     let ds = c.self.inside.deps.items in
     let es = c.other.inside.deps.items in
     let before : ℕ = c.len.result - c.len-more.result in
-    let count = calls-count us gs es c.args.other.items others.same (λ i. (c.other.view_is i).items) in
+    let count = calls_count us gs es c.args.other.items others.same (λ i. (c.other.view_is i).items) in
     let room : c.self.inside.room ≡ c.args.self.now.room = (λ i. (c.self.view_is i).room) in
     let fits : length gs ≤ c.self.inside.room = let few = c.requires in omega (arith, count, room, few) in
     let texts_here : vec_len c.self.inside.texts ≡ length ts = c.self.inside.texts.ok.0 in
@@ -71,7 +71,7 @@ invariant_of-self c =
     record {
       same = let a = mine.same in let b = others.same in omega (arith, a, b, heads, deps);
       replies = subst (λ (xs : List (List ℕ)). All (IsHead (length xs)) c.put_heads.new.heads.items) (sym c.in-Ok.ensures.items)
-          (subst (λ (xs : List Head). All (IsHead (length (ts ++ us))) xs) (sym c.put_heads.ensures.items) (heads-joined ts us before hs gs at mine.replies others.replies));
+          (subst (λ (xs : List Head). All (IsHead (length (ts ++ us))) xs) (sym c.put_heads.ensures.items) (heads_joined ts us before hs gs at mine.replies others.replies));
       lean = let a = mine.lean in let b = others.lean in omega (arith, a, b, heads, texts);
       heads_room = let a = mine.heads_room in let l = c.put_heads.ensures.len in let k = c.put_heads.ensures.capacity in omega (arith, a, l, k, fits, passed);
       deps_room = let a = mine.deps_room in let b = others.same in omega (arith, a, b, left, fits, passed);
@@ -91,7 +91,7 @@ returns-clause-items c =
     let texts_there : vec_len c.other.inside.texts ≡ length us = c.other.inside.texts.ok.0 in
     let at : before ≡ length ts = let a = c.len.ensures in let b = c.len-more.ensures in let l = c.in-Ok.ensures.len in omega (arith, a, b, l, texts_here, texts_there) in
     (λ i. calls_of (c.in-Ok.ensures.items i) (c.put_heads.ensures.items i) (c.append-2.ensures i).items)
-    ∙ calls-joined ts us before hs gs ds es at c.self.invariant.same c.self.invariant.replies
+    ∙ calls_joined ts us before hs gs ds es at c.self.invariant.same c.self.invariant.replies
     ∙ (λ i. (c.self.view_is i).items ++ (c.other.view_is i).items)
 
 pub returns-clause-room : goal.returns-clause-room
@@ -100,5 +100,5 @@ returns-clause-room c =
     let gs = c.other.inside.heads.items in
     let es = c.other.inside.deps.items in
     let count : c.len-2.result ≡ length c.args.other.items =
-    c.len-2.ensures ∙ c.other.inside.heads.ok.0 ∙ calls-count us gs es c.args.other.items c.other.invariant.same (λ i. (c.other.view_is i).items) in
+    c.len-2.ensures ∙ c.other.inside.heads.ok.0 ∙ calls_count us gs es c.args.other.items c.other.invariant.same (λ i. (c.other.view_is i).items) in
     λ i. (c.self.view_is i).room - count i

@@ -5,14 +5,14 @@ use Rattle.indexmap.specs.IndexMap.{get}
 use Rattle.tau_base.specs.declared.value.Value.{Value}
 use Rattle.tau_base.specs.Database.{written}
 use Rattle.tau_model.specs.Store.{is_key, rows_of}
-use Rattle.tau_model.proofs.Places.{rows-set}
+use Rattle.tau_model.proofs.Places.{rows_set}
 use Rattle.tau_model.proofs.rows.Rows.put_row.Goals as goal
 
 pub returns-clause-set : goal.returns-clause-set
 returns-clause-set c =
     let w : Value = c.put_value.new.place in
     let some : IsSome (get is_key c.args.self.now.rows c.args.key) = subst (λ (o : Option Value). IsSome o) c.in-Some.ensures.value refl in
-    rows-set (λ q. get is_key c.args.self.now.rows q) (λ q. get is_key (c.get_mut.follows.lender w) q) c.args.key w (λ q. ((c.get_mut.follows.holds w).3 some).0 q)
+    rows_set (λ q. get is_key c.args.self.now.rows q) (λ q. get is_key (c.get_mut.follows.lender w) q) c.args.key w (λ q. ((c.get_mut.follows.holds w).3 some).0 q)
     ∙ ap (λ (v : Value). written ((c.args.key, v) ∷ []) (rows_of c.args.self.now)) c.put_value.ensures
 
 pub returns-clause-room : goal.returns-clause-room

@@ -3,10 +3,10 @@ use Rattle.std.proofs.Common.{ℕ, suc, ◌≡◌, ◌+◌, ◌∙◌, true, fal
 use Rattle.tau_pool.specs.First.{first_from}
 use Rattle.tau_pool.specs.Passing.{is_passed}
 use Rattle.tau_pool.specs.Flat.{item_at}
-use Rattle.tau_pool.proofs.Gets.{drop_at}
 use Rattle.tau_pool.proofs.Firsts.{step_first, stop_first}
 use Rattle.tau_pool.proofs.Flat.{stands}
 use Rattle.tau_pool.proofs.items.Items.is_passed.Goals as goal
+use Rattle.tau_base.proofs.Lists.{drop_at}
 
 pub returns-clause-on : goal.returns-clause-on
 returns-clause-on c e =

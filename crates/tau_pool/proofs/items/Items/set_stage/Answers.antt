@@ -4,7 +4,7 @@ use Rattle.std.proofs.Math.ListN.{set}
 use Rattle.std.proofs.lemmas.List.Elements.{All-set}
 use Rattle.tau_pool.specs.Flat.{IsRow}
 use Rattle.tau_pool.specs.Pooled.{staged}
-use Rattle.tau_pool.proofs.Flat.{stands, items-set}
+use Rattle.tau_pool.proofs.Flat.{stands, items_set}
 use Rattle.tau_pool.proofs.items.Items.set_stage.Goals as goal
 
 pub invariant_of-self : goal.invariant_of-self
@@ -22,4 +22,4 @@ returns c x there =
     let r = c.index_mut-row.result.now in
     let s = stands c.args.self.now ps rs c.args.place r c.self.view_is c.self.invariant c.requires c.index_mut-row.ensures.value in
     let is = s.is x there in
-    items-set ps rs c.args.place (record r { stage = c.args.stage }) ∙ (λ i. set (c.self.view_is i) c.args.place (staged c.args.stage (is i)))
+    items_set ps rs c.args.place (record r { stage = c.args.stage }) ∙ (λ i. set (c.self.view_is i) c.args.place (staged c.args.stage (is i)))

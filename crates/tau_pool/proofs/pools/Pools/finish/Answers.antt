@@ -10,12 +10,13 @@ use Rattle.tau_pool.specs.Items.{is_flying}
 use Rattle.tau_pool.specs.First.{first_from, reach_one}
 use Rattle.tau_pool.specs.Kept.{IsKept}
 use Rattle.tau_pool.specs.Pooled.{Pooled, IsFlying, IsFinished, IsRecovered, staged}
-use Rattle.tau_pool.proofs.Gets.{some_is, get_within}
-use Rattle.tau_pool.proofs.Counts.{flying-set, one}
+use Rattle.tau_pool.proofs.Counts.{flying_set, one}
 use Rattle.tau_pool.proofs.Firsts.{first_bounds, recovered}
 use Rattle.tau_pool.proofs.Keeping.{within_set, finish_kept}
 use Rattle.tau_pool.proofs.Flights.{flying_left}
 use Rattle.tau_pool.proofs.pools.Pools.finish.Goals as goal
+use Rattle.tau_base.proofs.Logic.{some_is}
+use Rattle.tau_base.proofs.Lists.{got_within}
 
 pub set_stage-requires : goal.set_stage-requires
 set_stage-requires c =
@@ -25,7 +26,7 @@ set_stage-requires c =
     let k = c.self.invariant in
     let w = k.within c.args.job.place x f.there in
     let of : c.args.job.stream ≡ x.stream = ap (λ (b : Job). b.stream) f.named in
-    get_within items c.args.job.place x f.there
+    got_within items c.args.job.place x f.there
 
 pub overflow_sub-self : goal.overflow_sub-self
 overflow_sub-self c =
@@ -35,7 +36,7 @@ overflow_sub-self c =
     let k = c.self.invariant in
     let w = k.within c.args.job.place x f.there in
     let of : c.args.job.stream ≡ x.stream = ap (λ (b : Job). b.stream) f.named in
-    let count = flying-set items c.args.job.place x (staged Finished x) f.there in
+    let count = flying_set items c.args.job.place x (staged Finished x) f.there in
     let o : one (is_flying x.stage) ≡ 1 = ap one f.started in
     omega (arith, count, o, k.started)
 

@@ -8,30 +8,30 @@ use Rattle.tau_pool.specs.Items.{is_waiting}
 use Rattle.tau_pool.specs.Passing.{is_ready}
 use Rattle.tau_pool.specs.Kept.{IsKept}
 use Rattle.tau_pool.specs.Pooled.{Pooled, IsStarted, IsRecovered, job_of, staged}
-use Rattle.tau_pool.proofs.Gets.{get_within}
-use Rattle.tau_pool.proofs.Counts.{waiting-set, counts-few, one}
+use Rattle.tau_pool.proofs.Counts.{waiting_set, counts_few, one}
 use Rattle.tau_pool.proofs.Passes.{ready_inv}
 use Rattle.tau_pool.proofs.Keeping.{start_kept}
 use Rattle.tau_pool.proofs.Firsts.{recovered}
 use Rattle.tau_pool.proofs.pools.Pools.start.Goals as goal
+use Rattle.tau_base.proofs.Lists.{got_within}
 
 pub job-job-requires : goal.job-job-requires
 job-job-requires c =
     let ready : is_ready c.self.inside.items c.self.inside.rlv c.args.place ≡ true = subst (λ (p : Pooled). is_ready p.items p.rlv c.args.place ≡ true) (sym c.self.view_is) c.requires in
     let (x, there, waits, covered) = ready_inv c.self.inside.items c.self.inside.rlv c.args.place ready in
-    get_within c.self.inside.items c.args.place x there
+    got_within c.self.inside.items c.args.place x there
 
 pub set_stage-requires : goal.set_stage-requires
 set_stage-requires c =
     let ready : is_ready c.self.inside.items c.self.inside.rlv c.args.place ≡ true = subst (λ (p : Pooled). is_ready p.items p.rlv c.args.place ≡ true) (sym c.self.view_is) c.requires in
     let (x, there, waits, covered) = ready_inv c.self.inside.items c.self.inside.rlv c.args.place ready in
-    get_within c.self.inside.items c.args.place x there
+    got_within c.self.inside.items c.args.place x there
 
 pub overflow_sub-self : goal.overflow_sub-self
 overflow_sub-self c =
     let ready : is_ready c.self.inside.items c.self.inside.rlv c.args.place ≡ true = subst (λ (p : Pooled). is_ready p.items p.rlv c.args.place ≡ true) (sym c.self.view_is) c.requires in
     let (x, there, waits, covered) = ready_inv c.self.inside.items c.self.inside.rlv c.args.place ready in
-    let count = waiting-set c.self.inside.items c.args.place x (staged Flying x) there in
+    let count = waiting_set c.self.inside.items c.args.place x (staged Flying x) there in
     let o : one (is_waiting x.stage) ≡ 1 = ap one waits in
     omega (arith, count, o, c.self.invariant.unstarted)
 
@@ -39,9 +39,9 @@ pub overflow_add-self : goal.overflow_add-self
 overflow_add-self c =
     let ready : is_ready c.self.inside.items c.self.inside.rlv c.args.place ≡ true = subst (λ (p : Pooled). is_ready p.items p.rlv c.args.place ≡ true) (sym c.self.view_is) c.requires in
     let (x, there, waits, covered) = ready_inv c.self.inside.items c.self.inside.rlv c.args.place ready in
-    let count = waiting-set c.self.inside.items c.args.place x (staged Flying x) there in
+    let count = waiting_set c.self.inside.items c.args.place x (staged Flying x) there in
     let o : one (is_waiting x.stage) ≡ 1 = ap one waits in
-    let few = counts-few c.self.inside.items in
+    let few = counts_few c.self.inside.items in
     let some : c.self.inside.flying + 1 ≤ length c.self.inside.items = omega (arith, count, o, few, c.self.invariant.started) in
     omega (arith, some, c.job-job.ensures.few)
 

@@ -3,18 +3,18 @@ use Rattle.tau_core.specs.declared.event.Event.TheVariants as event
 use Rattle.tau_core.specs.Steps.{AckSteps}
 use Rattle.tau_core.specs.Answered.{acked_by}
 use Rattle.tau_step.specs.Progressed.{Comes, tells, clears}
-use Rattle.tau_step.proofs.Clearing.{acknowledged, told-less, told-cut, nothing-told, none-waits}
-use Rattle.tau_step.proofs.Joined.{comes-as}
-use Rattle.tau_step.proofs.Lines.{heard-cut}
-use Rattle.tau_step.proofs.Standing.{all-stand}
+use Rattle.tau_step.proofs.Clearing.{acknowledged, told_less, told_cut, nothing_told, none_waits}
+use Rattle.tau_step.proofs.Joined.{comes_as}
+use Rattle.tau_step.proofs.Lines.{heard_cut}
+use Rattle.tau_step.proofs.Standing.{all_stand}
 use Rattle.tau_step.proofs.clerk.Clerk.next.Goals as goal
 
 pub returns-then-not-waits-clause-told : goal.returns-then-not-waits-clause-told
-returns-then-not-waits-clause-told g c = λ order h es s. none-waits c.args.core.now order h es c.args.self.now.acks c.args.worker c.waits.result c.if-not-waits.true c.waits.ensures.1 s
+returns-then-not-waits-clause-told g c = λ order h es s. none_waits c.args.core.now order h es c.args.self.now.acks c.args.worker c.waits.result c.if-not-waits.true c.waits.ensures.1 s
 
 pub returns-then-not-ack-clause-told : goal.returns-then-not-ack-clause-told
 returns-then-not-ack-clause-told g c = λ order h es s.
-    nothing-told c.args.core.now c.ack.new.self order h s es c.args.self.now.acks c.args.worker c.requires.there (acked_by false c.ack.new.call) (λ number lv e. cc)
+    nothing_told c.args.core.now c.ack.new.self order h s es c.args.self.now.acks c.args.worker c.requires.there (acked_by false c.ack.new.call) (λ number lv e. cc)
     (subst (λ (b : Bool). AckSteps c.args.core.now c.ack.new.self order h c.args.worker (acked_by b c.ack.new.call)) c.if-not-ack.true (c.ack.ensures order h s))
 
 pub returns-in-Ok-clause-told : goal.returns-in-Ok-clause-told
@@ -27,7 +27,7 @@ pub returns-in-Ok-clause-less : goal.returns-in-Ok-clause-less
 returns-in-Ok-clause-less g c = λ is.
     let (order, h, s) = c.requires.stood in
     let t = subst (λ (b : Bool). AckSteps c.args.core.now c.ack.new.self order h c.args.worker (acked_by b c.ack.new.call)) c.if-not-ack.false (c.ack.ensures order h s) in
-    told-less c.args.core.now c.ack.new.self order h s [] [] c.args.worker c.requires.there c.ack.new.call.number c.ack.new.call.lv t.0 t.2
+    told_less c.args.core.now c.ack.new.self order h s [] [] c.args.worker c.requires.there c.ack.new.call.number c.ack.new.call.lv t.0 t.2
 
 pub returns-in-Err-clause-told : goal.returns-in-Err-clause-told
 returns-in-Err-clause-told g c = λ order h es s.
@@ -37,26 +37,26 @@ returns-in-Err-clause-told g c = λ order h es s.
     record {
       told = acks ++ a ∷ [];
       count = length acks;
-      comes = comes-as (tells c.args.worker) (clears c.args.worker false) (told-cut c.args.worker) c.args.core.now c.ack.new.self acks (acks ++ a ∷ []) order h es
+      comes = comes_as (tells c.args.worker) (clears c.args.worker false) (told_cut c.args.worker) c.args.core.now c.ack.new.self acks (acks ++ a ∷ []) order h es
           (acknowledged c.args.core.now c.ack.new.self order h s es acks c.args.worker c.requires.there c.ack.new.call.number c.ack.new.call.lv t.0 t.1 t.2);
-      heard = λ tells base was. heard-cut base acks a c.args.self.now.sink_failed c.tell.new.self.sink_failed (g.K.Sink.held c.args.sink.now) (g.K.Sink.held c.tell.new.sink)
+      heard = λ tells base was. heard_cut base acks a c.args.self.now.sink_failed c.tell.new.self.sink_failed (g.K.Sink.held c.args.sink.now) (g.K.Sink.held c.tell.new.sink)
           c.in-Err.ensures.short.1 (ap g.K.Sink.held c.in-Err.ensures.short.0) was;
     }
 
 pub returns-then-not-ack-clause-load : goal.returns-then-not-ack-clause-load
-returns-then-not-ack-clause-load g c = (all-stand c.args.core.now c.ack.new.self c.requires.stood (event.Ack c.args.worker) (acked_by c.ack.result c.ack.new.call) c.ack.ensures).0
+returns-then-not-ack-clause-load g c = (all_stand c.args.core.now c.ack.new.self c.requires.stood (event.Ack c.args.worker) (acked_by c.ack.result c.ack.new.call) c.ack.ensures).0
 
 pub returns-then-not-ack-clause-stood : goal.returns-then-not-ack-clause-stood
-returns-then-not-ack-clause-stood g c = (all-stand c.args.core.now c.ack.new.self c.requires.stood (event.Ack c.args.worker) (acked_by c.ack.result c.ack.new.call) c.ack.ensures).1
+returns-then-not-ack-clause-stood g c = (all_stand c.args.core.now c.ack.new.self c.requires.stood (event.Ack c.args.worker) (acked_by c.ack.result c.ack.new.call) c.ack.ensures).1
 
 pub returns-in-Ok-clause-load : goal.returns-in-Ok-clause-load
-returns-in-Ok-clause-load g c = (all-stand c.args.core.now c.ack.new.self c.requires.stood (event.Ack c.args.worker) (acked_by c.ack.result c.ack.new.call) c.ack.ensures).0
+returns-in-Ok-clause-load g c = (all_stand c.args.core.now c.ack.new.self c.requires.stood (event.Ack c.args.worker) (acked_by c.ack.result c.ack.new.call) c.ack.ensures).0
 
 pub returns-in-Ok-clause-stood : goal.returns-in-Ok-clause-stood
-returns-in-Ok-clause-stood g c = (all-stand c.args.core.now c.ack.new.self c.requires.stood (event.Ack c.args.worker) (acked_by c.ack.result c.ack.new.call) c.ack.ensures).1
+returns-in-Ok-clause-stood g c = (all_stand c.args.core.now c.ack.new.self c.requires.stood (event.Ack c.args.worker) (acked_by c.ack.result c.ack.new.call) c.ack.ensures).1
 
 pub returns-in-Err-clause-load : goal.returns-in-Err-clause-load
-returns-in-Err-clause-load g c = (all-stand c.args.core.now c.ack.new.self c.requires.stood (event.Ack c.args.worker) (acked_by c.ack.result c.ack.new.call) c.ack.ensures).0
+returns-in-Err-clause-load g c = (all_stand c.args.core.now c.ack.new.self c.requires.stood (event.Ack c.args.worker) (acked_by c.ack.result c.ack.new.call) c.ack.ensures).0
 
 pub returns-in-Err-clause-stood : goal.returns-in-Err-clause-stood
-returns-in-Err-clause-stood g c = (all-stand c.args.core.now c.ack.new.self c.requires.stood (event.Ack c.args.worker) (acked_by c.ack.result c.ack.new.call) c.ack.ensures).1
+returns-in-Err-clause-stood g c = (all_stand c.args.core.now c.ack.new.self c.requires.stood (event.Ack c.args.worker) (acked_by c.ack.result c.ack.new.call) c.ack.ensures).1

@@ -3,15 +3,15 @@ use Rattle.std.specs.Prelude.{Ok}
 use Rattle.std.proofs.lemmas.Result.{err_from_is_err_and}
 use Rattle.tau_step.specs.Telling.{NextTold, Passed}
 use Rattle.tau_step.specs.Progressed.{clears}
-use Rattle.tau_step.proofs.Passing.{clears-none, clears-one, clears-end}
-use Rattle.tau_step.proofs.Lines.{cause-on}
+use Rattle.tau_step.proofs.Passing.{clears_none, clears_one, clears_end}
+use Rattle.tau_step.proofs.Lines.{cause_on}
 use Rattle.tau_step.proofs.clerk.Clerk.pass_worker.Goals as goal
 
 pub loop-init : goal.loop-init
 loop-init g c = record {
   stood = c.requires.stood;
   load = refl;
-  comes = λ order h es s. clears-none c.args.core.now c.args.self.now.acks order h es c.args.worker s;
+  comes = λ order h es s. clears_none c.args.core.now c.args.self.now.acks order h es c.args.worker s;
   heard = λ tells base was. was;
   cause = λ e. inl e;
   faults = omega arith;
@@ -25,18 +25,18 @@ loop-preserved g c =
       load = c.next.ensures.load ∙ i.load;
       comes = λ order h es s.
           let d = i.comes order h es s in
-          clears-one c.args.core.now c.args.self.now.acks order h es c.args.worker c.loop.core c.next.new.core c.loop.self.acks c.next.new.self.acks d
+          clears_one c.args.core.now c.args.self.now.acks order h es c.args.worker c.loop.core c.next.new.core c.loop.self.acks c.next.new.self.acks d
           (subst (λ r. NextTold c.args.worker c.loop.core c.next.new.core c.loop.self.acks c.next.new.self.acks c.loop.self.sink_failed c.next.new.self.sink_failed g.K.Sink.tells (g.K.Sink.held c.loop.sink) (g.K.Sink.held c.next.new.sink) d.order d.hidden d.events r)
           (c.in_ok-next.was ∙ ap Ok c.if-branch.true) (c.next.ensures.told d.order d.hidden d.events d.stands));
       heard = λ tells base was. c.in_ok-next.ensures.heard tells base (i.heard tells base was);
-      cause = cause-on c.args.self.now.sink_failed c.loop.self.sink_failed c.next.new.self.sink_failed (g.K.Sink.faults c.args.sink.now) (g.K.Sink.faults c.loop.sink) (g.K.Sink.faults c.next.new.sink) i.cause i.faults c.next.ensures.cause c.next.ensures.faults;
+      cause = cause_on c.args.self.now.sink_failed c.loop.self.sink_failed c.next.new.self.sink_failed (g.K.Sink.faults c.args.sink.now) (g.K.Sink.faults c.loop.sink) (g.K.Sink.faults c.next.new.sink) i.cause i.faults c.next.ensures.cause c.next.ensures.faults;
       faults = omega (arith, i.faults, c.next.ensures.faults);
     }
 
 pub returns-clause-passed : goal.returns-clause-passed
 returns-clause-passed g c = λ order h es s.
     let d = c.loop.invariant.comes order h es s in
-    clears-end c.args.core.now c.args.self.now.acks order h es c.args.worker true c.loop.core c.next.new.core c.loop.self.acks c.next.new.self.acks d
+    clears_end c.args.core.now c.args.self.now.acks order h es c.args.worker true c.loop.core c.next.new.core c.loop.self.acks c.next.new.self.acks d
     (subst (λ r. NextTold c.args.worker c.loop.core c.next.new.core c.loop.self.acks c.next.new.self.acks c.loop.self.sink_failed c.next.new.self.sink_failed g.K.Sink.tells (g.K.Sink.held c.loop.sink) (g.K.Sink.held c.next.new.sink) d.order d.hidden d.events r)
     (c.in_ok-next.was ∙ ap Ok c.if-branch.false) (c.next.ensures.told d.order d.hidden d.events d.stands))
 
@@ -51,6 +51,6 @@ returns-in_err-next-clause-passed g c = λ order h es s.
     (record {
       told = x.told;
       count = x.count;
-      comes = clears-end c.args.core.now c.args.self.now.acks order h es c.args.worker false c.loop.core c.next.new.core c.loop.self.acks x.told d x.comes;
+      comes = clears_end c.args.core.now c.args.self.now.acks order h es c.args.worker false c.loop.core c.next.new.core c.loop.self.acks x.told d x.comes;
       heard = λ tells base was. x.heard tells base (i.heard tells base was);
     })

@@ -1,45 +1,45 @@
 use Rattle.std.proofs.Common.{refl, true, false, ◌≡◌, ap, arith}
 use Rattle.std.specs.Prelude.{Ok, Err}
 use Rattle.tau_core.specs.declared.state.Load.{Load}
-use Rattle.tau_step.proofs.LeftOvers.{resume_so, resume-quiet, resume-there, resume-works, resume-hands, resume-settling, resumed-on, resumed-cut, resumed-fewer, resumed-rests, none-works, none-rests}
-use Rattle.tau_step.proofs.EffectsInTurn.{works-lowest}
+use Rattle.tau_step.proofs.LeftOvers.{resume_so, resume_quiet, resume_there, resume_works, resume_hands, resume_settling, resumed_on, resumed_cut, resumed_fewer, resumed_rests, none_works, none_rests}
+use Rattle.tau_step.proofs.EffectsInTurn.{works_lowest}
 use Rattle.tau_step.proofs.run.Run.resumed.Goals as goal
 
 pub alone-requires-clause-stood : goal.alone-requires-clause-stood
-alone-requires-clause-stood c = (resume-works c.in-Some.worker c.args.self.now (record (c.args.self.now) { core = c.resume.new.self }) c.requires.stood (λ K h s. rw c.in-Some.is at c.resume.ensures K h s) refl refl refl refl refl c.requires.lowest c.requires.going).stood
+alone-requires-clause-stood c = (resume_works c.in-Some.worker c.args.self.now (record (c.args.self.now) { core = c.resume.new.self }) c.requires.stood (λ K h s. rw c.in-Some.is at c.resume.ensures K h s) refl refl refl refl refl c.requires.lowest c.requires.going).stood
 
 pub alone-requires-clause-there : goal.alone-requires-clause-there
-alone-requires-clause-there c = let t = resume-there c.in-Some.worker c.args.self.now (record (c.args.self.now) { core = c.resume.new.self }) c.requires.stood (λ K h s. rw c.in-Some.is at c.resume.ensures K h s) in let load = ap (λ (l : Load). l.workers) (resume-works c.in-Some.worker c.args.self.now (record (c.args.self.now) { core = c.resume.new.self }) c.requires.stood (λ K h s. rw c.in-Some.is at c.resume.ensures K h s) refl refl refl refl refl c.requires.lowest c.requires.going).load in omega (arith, t, load)
+alone-requires-clause-there c = let t = resume_there c.in-Some.worker c.args.self.now (record (c.args.self.now) { core = c.resume.new.self }) c.requires.stood (λ K h s. rw c.in-Some.is at c.resume.ensures K h s) in let load = ap (λ (l : Load). l.workers) (resume_works c.in-Some.worker c.args.self.now (record (c.args.self.now) { core = c.resume.new.self }) c.requires.stood (λ K h s. rw c.in-Some.is at c.resume.ensures K h s) refl refl refl refl refl c.requires.lowest c.requires.going).load in omega (arith, t, load)
 
 pub alone-requires-clause-lowest : goal.alone-requires-clause-lowest
-alone-requires-clause-lowest c = works-lowest (resume_so c.in-Some.worker) true c.args.self.now (record (c.args.self.now) { core = c.resume.new.self }) c.requires.stood (resume-quiet c.in-Some.worker true) (resume-works c.in-Some.worker c.args.self.now (record (c.args.self.now) { core = c.resume.new.self }) c.requires.stood (λ K h s. rw c.in-Some.is at c.resume.ensures K h s) refl refl refl refl refl c.requires.lowest c.requires.going) c.requires.lowest
+alone-requires-clause-lowest c = works_lowest (resume_so c.in-Some.worker) true c.args.self.now (record (c.args.self.now) { core = c.resume.new.self }) c.requires.stood (resume_quiet c.in-Some.worker true) (resume_works c.in-Some.worker c.args.self.now (record (c.args.self.now) { core = c.resume.new.self }) c.requires.stood (λ K h s. rw c.in-Some.is at c.resume.ensures K h s) refl refl refl refl refl c.requires.lowest c.requires.going) c.requires.lowest
 
 pub alone-requires-clause-alone : goal.alone-requires-clause-alone
-alone-requires-clause-alone c = λ u ne. resume-hands c.in-Some.worker c.args.self.now (record (c.args.self.now) { core = c.resume.new.self }) c.requires.stood (λ K h s. rw c.in-Some.is at c.resume.ensures K h s) u
+alone-requires-clause-alone c = λ u ne. resume_hands c.in-Some.worker c.args.self.now (record (c.args.self.now) { core = c.resume.new.self }) c.requires.stood (λ K h s. rw c.in-Some.is at c.resume.ensures K h s) u
 
 pub alone-requires-clause-settling : goal.alone-requires-clause-settling
-alone-requires-clause-settling c = resume-settling c.in-Some.worker c.args.self.now (record (c.args.self.now) { core = c.resume.new.self }) c.requires.stood (λ K h s. rw c.in-Some.is at c.resume.ensures K h s)
+alone-requires-clause-settling c = resume_settling c.in-Some.worker c.args.self.now (record (c.args.self.now) { core = c.resume.new.self }) c.requires.stood (λ K h s. rw c.in-Some.is at c.resume.ensures K h s)
 
 pub returns-in-Ok-clause-works : goal.returns-in-Ok-clause-works
-returns-in-Ok-clause-works c = resumed-on c.in-Some.worker c.args.self.now (record (c.args.self.now) { core = c.resume.new.self }) c.requires.stood (λ K h s. rw c.in-Some.is at c.resume.ensures K h s) c.alone.new.self (resume-works c.in-Some.worker c.args.self.now (record (c.args.self.now) { core = c.resume.new.self }) c.requires.stood (λ K h s. rw c.in-Some.is at c.resume.ensures K h s) refl refl refl refl refl c.requires.lowest c.requires.going) c.in-Ok.ensures.works
+returns-in-Ok-clause-works c = resumed_on c.in-Some.worker c.args.self.now (record (c.args.self.now) { core = c.resume.new.self }) c.requires.stood (λ K h s. rw c.in-Some.is at c.resume.ensures K h s) c.alone.new.self (resume_works c.in-Some.worker c.args.self.now (record (c.args.self.now) { core = c.resume.new.self }) c.requires.stood (λ K h s. rw c.in-Some.is at c.resume.ensures K h s) refl refl refl refl refl c.requires.lowest c.requires.going) c.in-Ok.ensures.works
 
 pub returns-in-Ok-clause-rests : goal.returns-in-Ok-clause-rests
-returns-in-Ok-clause-rests c = resumed-rests c.in-Some.worker c.args.self.now (record (c.args.self.now) { core = c.resume.new.self }) c.requires.stood (λ K h s. rw c.in-Some.is at c.resume.ensures K h s) c.alone.new.self (resume-works c.in-Some.worker c.args.self.now (record (c.args.self.now) { core = c.resume.new.self }) c.requires.stood (λ K h s. rw c.in-Some.is at c.resume.ensures K h s) refl refl refl refl refl c.requires.lowest c.requires.going) c.in-Ok.ensures.works c.requires.rests
+returns-in-Ok-clause-rests c = resumed_rests c.in-Some.worker c.args.self.now (record (c.args.self.now) { core = c.resume.new.self }) c.requires.stood (λ K h s. rw c.in-Some.is at c.resume.ensures K h s) c.alone.new.self (resume_works c.in-Some.worker c.args.self.now (record (c.args.self.now) { core = c.resume.new.self }) c.requires.stood (λ K h s. rw c.in-Some.is at c.resume.ensures K h s) refl refl refl refl refl c.requires.lowest c.requires.going) c.in-Ok.ensures.works c.requires.rests
 
 pub returns-in-Ok-clause-fewer : goal.returns-in-Ok-clause-fewer
-returns-in-Ok-clause-fewer c = λ e. resumed-fewer c.in-Some.worker c.args.self.now (record (c.args.self.now) { core = c.resume.new.self }) c.requires.stood (λ K h s. rw c.in-Some.is at c.resume.ensures K h s) c.alone.new.self (resume-works c.in-Some.worker c.args.self.now (record (c.args.self.now) { core = c.resume.new.self }) c.requires.stood (λ K h s. rw c.in-Some.is at c.resume.ensures K h s) refl refl refl refl refl c.requires.lowest c.requires.going) c.in-Ok.ensures.works c.alone.ensures.settles
+returns-in-Ok-clause-fewer c = λ e. resumed_fewer c.in-Some.worker c.args.self.now (record (c.args.self.now) { core = c.resume.new.self }) c.requires.stood (λ K h s. rw c.in-Some.is at c.resume.ensures K h s) c.alone.new.self (resume_works c.in-Some.worker c.args.self.now (record (c.args.self.now) { core = c.resume.new.self }) c.requires.stood (λ K h s. rw c.in-Some.is at c.resume.ensures K h s) refl refl refl refl refl c.requires.lowest c.requires.going) c.in-Ok.ensures.works c.alone.ensures.settles
 
 pub returns-in-Err-clause-works : goal.returns-in-Err-clause-works
-returns-in-Err-clause-works c = resumed-cut c.in-Some.worker c.args.self.now (record (c.args.self.now) { core = c.resume.new.self }) c.requires.stood (λ K h s. rw c.in-Some.is at c.resume.ensures K h s) c.alone.new.self (resume-works c.in-Some.worker c.args.self.now (record (c.args.self.now) { core = c.resume.new.self }) c.requires.stood (λ K h s. rw c.in-Some.is at c.resume.ensures K h s) refl refl refl refl refl c.requires.lowest c.requires.going) c.in-Err.error c.in-Err.ensures.works
+returns-in-Err-clause-works c = resumed_cut c.in-Some.worker c.args.self.now (record (c.args.self.now) { core = c.resume.new.self }) c.requires.stood (λ K h s. rw c.in-Some.is at c.resume.ensures K h s) c.alone.new.self (resume_works c.in-Some.worker c.args.self.now (record (c.args.self.now) { core = c.resume.new.self }) c.requires.stood (λ K h s. rw c.in-Some.is at c.resume.ensures K h s) refl refl refl refl refl c.requires.lowest c.requires.going) c.in-Err.error c.in-Err.ensures.works
 
 pub returns-in-Err-clause-fewer : goal.returns-in-Err-clause-fewer
 returns-in-Err-clause-fewer c = λ e. absurd (let bad : Err c.in-Err.error ≡ Ok true = e in cc)
 
 pub returns-in-None-clause-works : goal.returns-in-None-clause-works
-returns-in-None-clause-works c = none-works c.args.self.now (record (c.args.self.now) { core = c.resume.new.self }) c.requires.stood (λ K h s. rw c.in-None.is at c.resume.ensures K h s) c.requires.lowest c.requires.going c.requires.rests refl refl refl refl refl
+returns-in-None-clause-works c = none_works c.args.self.now (record (c.args.self.now) { core = c.resume.new.self }) c.requires.stood (λ K h s. rw c.in-None.is at c.resume.ensures K h s) c.requires.lowest c.requires.going c.requires.rests refl refl refl refl refl
 
 pub returns-in-None-clause-rests : goal.returns-in-None-clause-rests
-returns-in-None-clause-rests c = none-rests c.args.self.now (record (c.args.self.now) { core = c.resume.new.self }) c.requires.stood (λ K h s. rw c.in-None.is at c.resume.ensures K h s) c.requires.lowest c.requires.going c.requires.rests
+returns-in-None-clause-rests c = none_rests c.args.self.now (record (c.args.self.now) { core = c.resume.new.self }) c.requires.stood (λ K h s. rw c.in-None.is at c.resume.ensures K h s) c.requires.lowest c.requires.going c.requires.rests
 
 pub returns-in-None-clause-fewer : goal.returns-in-None-clause-fewer
 returns-in-None-clause-fewer c = λ e. absurd (let bad : Ok false ≡ Ok true = e in cc)

@@ -1,18 +1,18 @@
 use Rattle.std.proofs.Common.{refl, ap, ◌∙◌}
 use Rattle.std.specs.Prelude.{Ok}
 use Rattle.std.proofs.lemmas.Result.{err_from_is_err_and}
-use Rattle.tau_step.proofs.Rounds.{rounds-none, rounds-more, rounds-end, rounds-cut}
+use Rattle.tau_step.proofs.Rounds.{rounds_none, rounds_more, rounds_end, rounds_cut}
 use Rattle.tau_step.proofs.run.Run.rounds.Goals as goal
 
 pub rounds-init : goal.rounds-init
-rounds-init g c = record { moves = rounds-none g.met.D.Disk.seen_now g.K.Sink.tells c.args.self.now c.args.writers.now.items (g.K.Sink.held c.args.sink.now) (g.K.Sink.faults c.args.sink.now) c.requires.on }
+rounds-init g c = record { moves = rounds_none g.met.D.Disk.seen_now g.K.Sink.tells c.args.self.now c.args.writers.now.items (g.K.Sink.held c.args.sink.now) (g.K.Sink.faults c.args.sink.now) c.requires.on }
 
 pub round-requires : goal.round-requires
 round-requires g c = record { on = c.rounds.invariant.moves.on refl }
 
 pub rounds-preserved : goal.rounds-preserved
 rounds-preserved g c = record {
-  moves = rounds-more g.met.D.Disk.seen_now g.K.Sink.tells c.args.self.now c.rounds.self c.round.new.self c.args.writers.now.items c.rounds.writers.items c.round.new.writers.items
+  moves = rounds_more g.met.D.Disk.seen_now g.K.Sink.tells c.args.self.now c.rounds.self c.round.new.self c.args.writers.now.items c.rounds.writers.items c.round.new.writers.items
       (g.K.Sink.held c.args.sink.now) (g.K.Sink.held c.rounds.sink) (g.K.Sink.held c.round.new.sink) (g.K.Sink.faults c.args.sink.now) (g.K.Sink.faults c.rounds.sink) (g.K.Sink.faults c.round.new.sink) c.rounds.invariant.moves (rw c.if-branch.true at c.in_ok-round.ensures.moves);
 }
 
@@ -21,7 +21,7 @@ rounds-smaller g c = c.round.ensures.fewer (c.in_ok-round.was ∙ ap Ok c.if-bra
 
 pub returns-clause-moves : goal.returns-clause-moves
 returns-clause-moves g c =
-    rounds-end g.met.D.Disk.seen_now g.K.Sink.tells c.args.self.now c.rounds.self c.round.new.self c.args.writers.now.items c.rounds.writers.items c.round.new.writers.items
+    rounds_end g.met.D.Disk.seen_now g.K.Sink.tells c.args.self.now c.rounds.self c.round.new.self c.args.writers.now.items c.rounds.writers.items c.round.new.writers.items
     (g.K.Sink.held c.args.sink.now) (g.K.Sink.held c.rounds.sink) (g.K.Sink.held c.round.new.sink) (g.K.Sink.faults c.args.sink.now) (g.K.Sink.faults c.rounds.sink) (g.K.Sink.faults c.round.new.sink) c.rounds.invariant.moves (rw c.if-branch.false at c.in_ok-round.ensures.moves)
 
 pub returns-clause-rests : goal.returns-clause-rests
@@ -29,7 +29,7 @@ returns-clause-rests g c = c.round.ensures.rests (c.in_ok-round.was ∙ ap Ok c.
 
 pub returns-in_err-round : goal.returns-in_err-round
 returns-in_err-round g c = record {
-  moves = rw (err_from_is_err_and c.from_residual.result c.from_residual.ensures.1).1 (rounds-cut g.met.D.Disk.seen_now g.K.Sink.tells c.args.self.now c.rounds.self c.round.new.self c.args.writers.now.items c.rounds.writers.items c.round.new.writers.items
+  moves = rw (err_from_is_err_and c.from_residual.result c.from_residual.ensures.1).1 (rounds_cut g.met.D.Disk.seen_now g.K.Sink.tells c.args.self.now c.rounds.self c.round.new.self c.args.writers.now.items c.rounds.writers.items c.round.new.writers.items
       (g.K.Sink.held c.args.sink.now) (g.K.Sink.held c.rounds.sink) (g.K.Sink.held c.round.new.sink) (g.K.Sink.faults c.args.sink.now) (g.K.Sink.faults c.rounds.sink) (g.K.Sink.faults c.round.new.sink) c.rounds.invariant.moves _ c.in_err-round.ensures.moves);
   rests = rw (err_from_is_err_and c.from_residual.result c.from_residual.ensures.1).1 tt;
 }

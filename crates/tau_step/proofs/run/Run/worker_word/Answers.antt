@@ -1,11 +1,11 @@
 use Rattle.std.proofs.Common.{arith}
 use Rattle.std.specs.Prelude.{Ok, Err}
 use Rattle.std.proofs.lemmas.Result.{err_from_is_err_and}
-use Rattle.tau_step.proofs.Running.{no-worker, word-works}
+use Rattle.tau_step.proofs.Running.{no_worker, word_works}
 use Rattle.tau_step.proofs.run.Run.worker_word.Goals as goal
 
 pub returns-then-worker-self : goal.returns-then-worker-self
-returns-then-worker-self c = record { works = no-worker c.args.worker c.args.self.now c.requires.stood (omega (arith, c.if-worker-self.true, c.requires.workers)) }
+returns-then-worker-self c = record { works = no_worker c.args.worker c.args.self.now c.requires.stood (omega (arith, c.if-worker-self.true, c.requires.workers)) }
 
 pub work-requires-clause-stood : goal.work-requires-clause-stood
 work-requires-clause-stood c = c.requires.stood
@@ -17,7 +17,7 @@ pub work-requires-clause-lowest : goal.work-requires-clause-lowest
 work-requires-clause-lowest c = c.requires.lowest
 
 pub returns-in_err-work : goal.returns-in_err-work
-returns-in_err-work c = record { works = rw (err_from_is_err_and c.from_residual.result c.from_residual.ensures.1).1 (word-works c.args.worker c.args.self.now c.work.new.self (Err _) c.in_err-work.ensures.works) }
+returns-in_err-work c = record { works = rw (err_from_is_err_and c.from_residual.result c.from_residual.ensures.1).1 (word_works c.args.worker c.args.self.now c.work.new.self (Err _) c.in_err-work.ensures.works) }
 
 pub returns : goal.returns
-returns c = record { works = word-works c.args.worker c.args.self.now c.work.new.self (Ok _) c.in_ok-work.ensures.works }
+returns c = record { works = word_works c.args.worker c.args.self.now c.work.new.self (Ok _) c.in_ok-work.ensures.works }

@@ -1,13 +1,13 @@
 use Rattle.std.proofs.Common.{◌≡◌, ℕ, ◌+◌, ◌∙◌, subst, length, ap, arith}
 use Rattle.tau_stream.specs.Stream.{IsSettled, catalogue_record}
-use Rattle.tau_stream.proofs.Catalogues.{catalogue_is, length-block}
+use Rattle.tau_stream.proofs.Catalogues.{catalogue_is, length_block}
 use Rattle.tau_stream.proofs.writer.Writer.create.Goals as goal
 
 pub invariant_of-result : goal.invariant_of-result
 invariant_of-result g c =
     let text = c.args.catalogue.now in
     let block = c.in-Ok.block in
-    let size : length block.items ≡ 10 + length text = length-block text block.items c.in-Ok.ensures.block in
+    let size : length block.items ≡ 10 + length text = length_block text block.items c.in-Ok.ensures.block in
     let long : c.len.result ≡ length block.items = omega (arith, c.len.ensures) in
     record {
       here = λ tells works. omega (arith, long, ap length c.deref.ensures.value, c.in-Ok-begin.ensures.here tells);

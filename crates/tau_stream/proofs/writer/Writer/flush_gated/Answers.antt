@@ -2,7 +2,7 @@ use Rattle.std.proofs.Common.{◌≡◌, ℕ, ◌+◌, ◌-◌, ◌<◌, ◌≤�
 use Rattle.tau_stream.specs.Stream.{IsSettled}
 use Rattle.tau_stream.specs.Writer.{part_upto}
 use Rattle.tau_stream.proofs.Tears.{content_now}
-use Rattle.tau_stream.proofs.Parts.{part_is, part_whole, length-part, length-tail}
+use Rattle.tau_stream.proofs.Parts.{part_is, part_whole, length_part, length_tail}
 use Rattle.tau_stream.proofs.writer.Writer.flush_gated.Goals as goal
 
 pub invariant_of-self : goal.invariant_of-self
@@ -10,7 +10,7 @@ invariant_of-self g c =
     let w = c.args.self.now in
     let reach = c.requires.prepared.reach in
     let some : w.durable < c.args.upto = omega (arith, reach.not_before, c.if-upto-self.false) in
-    let size : length w.block.items ≡ 5 + (c.args.upto - w.durable) = ap length (c.requires.prepared.block some) ∙ length-tail w c.args.upto reach some in
+    let size : length w.block.items ≡ 5 + (c.args.upto - w.durable) = ap length (c.requires.prepared.block some) ∙ length_tail w c.args.upto reach some in
     let long : c.len.result ≡ length w.block.items = omega (arith, c.len.ensures) in
     let here : length c.deref.result.now ≡ length w.block.items = ap length c.deref.ensures.value in
     let whole : w.durable + 5 ≤ c.args.upto = part_whole w c.args.upto reach some in
@@ -36,7 +36,7 @@ returns-in-Ok-clause-flushed g c =
       done = λ tells n j content ready. record {
         settled = subst (λ (long : ℕ). IsSettled n j (g.D.Disk.seen c.publish_gated.new.disk) (g.D.Disk.may_leave c.publish_gated.new.disk) (w.gate_at + long) (content ++ part_upto w c.args.upto)) size
             (c.in-Ok.ensures.done tells n j content (part_upto w c.args.upto) ready.settled (part_is w c.args.upto reach some) (c.deref.ensures.value ∙ c.requires.prepared.block some));
-        counts = omega (arith, ready.counts, length-append content (part_upto w c.args.upto), length-part w c.args.upto reach some, reach.not_before);
+        counts = omega (arith, ready.counts, length-append content (part_upto w c.args.upto), length_part w c.args.upto reach some, reach.not_before);
       };
     }
 

@@ -10,7 +10,7 @@ use Rattle.tau_proc.specs.Progress.{next_want}
 use Rattle.tau_txn.specs.Hand.{PlainHand}
 use Rattle.tau_txn.specs.Read.{hand_of}
 use Rattle.tau_txn.specs.Steps.{lock_by, locked_with}
-use Rattle.tau_txn.proofs.Keeping.{locked-keeps}
+use Rattle.tau_txn.proofs.Keeping.{locked_keeps}
 use Rattle.tau_txn.proofs.hand.Hand.granted.Goals as goal
 
 pub returns-in-Write-clause-locked : goal.returns-in-Write-clause-locked
@@ -24,10 +24,10 @@ returns-in-Write-clause-locked c = λ procs w l e.
 
 pub returns-in-Read-clause-keeps : goal.returns-in-Read-clause-keeps
 returns-in-Read-clause-keeps c = λ width wide keeps.
-    locked-keeps width c.args.self.now c.in-Read.key mode.Read c.read.new.self.machine c.read.new.self.seen c.args.dep.now c.read.new.self c.read.ensures.same keeps c.requires.running wide
+    locked_keeps width c.args.self.now c.in-Read.key mode.Read c.read.new.self.machine c.read.new.self.seen c.args.dep.now c.read.new.self c.read.ensures.same keeps c.requires.running wide
     (record { procs = keeps.run.procs; is = c.read.ensures.runs keeps.run.procs keeps.run.is })
 
 pub returns-in-Write-clause-keeps : goal.returns-in-Write-clause-keeps
 returns-in-Write-clause-keeps c = λ width wide keeps.
-    locked-keeps width c.args.self.now c.in-Write.key mode.Write c.write.new.self.machine c.write.new.self.seen c.args.dep.now c.write.new.self c.write.ensures.same keeps c.requires.running wide
+    locked_keeps width c.args.self.now c.in-Write.key mode.Write c.write.new.self.machine c.write.new.self.seen c.args.dep.now c.write.new.self c.write.ensures.same keeps c.requires.running wide
     (record { procs = keeps.run.procs; is = c.write.ensures.runs keeps.run.procs keeps.run.is })

@@ -11,7 +11,7 @@ use Rattle.tau_txn.specs.Kept.{kept}
 use Rattle.tau_txn.specs.Next.{next_action}
 use Rattle.tau_txn.specs.Steps.{locked_with}
 use Rattle.tau_txn.specs.Txn.{PlainTxn, RunsBy, hand_in, shown_of}
-use Rattle.tau_txn.proofs.Txns.{locked-in}
+use Rattle.tau_txn.proofs.Txns.{locked_in}
 use Rattle.tau_txn.proofs.txn.Txn.granted_by.Goals as goal
 
 pub returns-clause-locked : goal.returns-clause-locked
@@ -21,4 +21,4 @@ returns-clause-locked c =
     (ap (λ (b : Bool). record { worker = c.self.inside.worker; width = c.self.inside.streams; mode = c.self.inside.mode; hand = kept b c.self.inside.hand }) (sym c.if-not-self.false) ∙ c.self.view_is)
     (λ procs hand x m run asked is.
     ap (λ (b : Bool). shown_of procs c.self.inside.worker (kept b c.granted.new.self)) c.if-not-self.false
-    ∙ locked-in c.self.inside.worker c.self.inside.hand c.granted.new.self (unwrap_or (option_copied c.args.row) Absent) c.args.dep.now c.granted.ensures.locked c.granted.ensures.standing procs hand x m asked is)
+    ∙ locked_in c.self.inside.worker c.self.inside.hand c.granted.new.self (unwrap_or (option_copied c.args.row) Absent) c.args.dep.now c.granted.ensures.locked c.granted.ensures.standing procs hand x m asked is)

@@ -9,21 +9,21 @@ use Rattle.tau_txn.specs.Next.{next_action, IsCommit, act_at}
 use Rattle.tau_txn.specs.Progress.{IsFinished}
 use Rattle.tau_txn.specs.Record.{entry_of}
 use Rattle.tau_txn.specs.Txn.{PlainTxn, RunsBy, shown, shown_of, bytes_by}
-use Rattle.tau_txn.proofs.Asked.{commit-of}
-use Rattle.tau_txn.proofs.Prepared.{prepared-bytes, prepared-sized}
+use Rattle.tau_txn.proofs.Asked.{commit_of}
+use Rattle.tau_txn.proofs.Prepared.{prepared_bytes, prepared_sized}
 use Rattle.tau_txn.proofs.txn.Txn.prepare.Goals as goal
 
 pub returns-clause-sized : goal.returns-clause-sized
 returns-clause-sized c =
     subst (λ (b : Bool). OnOk c.prepare.result (1 ≤ length (bytes_by (kept b c.prepare.new.self)))) (sym c.if-not-self.false)
-    (prepared-sized c.self.inside.worker c.self.inside.streams c.self.inside.mode c.self.inside.hand c.prepare.new.self c.args.anchor_number c.args.anchor.now c.prepare.result c.prepare.ensures.bytes)
+    (prepared_sized c.self.inside.worker c.self.inside.streams c.self.inside.mode c.self.inside.hand c.prepare.new.self c.args.anchor_number c.args.anchor.now c.prepare.result c.prepare.ensures.bytes)
 
 pub returns-clause-bytes : goal.returns-clause-bytes
 returns-clause-bytes c =
     let at : ◌≡◌ {A = PlainTxn} (record { worker = c.self.inside.worker; width = c.self.inside.streams; mode = c.self.inside.mode; hand = Some c.self.inside.hand }) c.args.self.now =
     ap (λ (b : Bool). record { worker = c.self.inside.worker; width = c.self.inside.streams; mode = c.self.inside.mode; hand = kept b c.self.inside.hand }) (sym c.if-not-self.false) ∙ c.self.view_is in
     let keeps : KeepsHand c.self.inside.streams c.self.inside.hand = subst (λ (b : Bool). keeps_in c.self.inside.streams (kept b c.self.inside.hand)) c.if-not-self.false c.self.invariant.hand in
-    let asked = commit-of c.self.inside.hand (subst (λ (t : PlainTxn). IsCommit (next_action t)) (sym at) c.requires.commit) in
+    let asked = commit_of c.self.inside.hand (subst (λ (t : PlainTxn). IsCommit (next_action t)) (sym at) c.requires.commit) in
     let finished = subst IsFinished (sym asked.1.finished) tt in
     subst (λ (b : Bool). OnOk c.prepare.result ((procs : List Proc) (hand : theory.Hand) (start : ℕ) (vectors : List (List ℕ)) → RunsBy procs c.args.self.now →
     shown_of procs c.self.inside.worker (kept b c.prepare.new.self) ≡ Some hand → base_of vectors c.args.anchor_number ≡ c.args.anchor.now →
@@ -35,5 +35,5 @@ returns-clause-bytes c =
     Spells One t.width vectors false
     (entry_of t.mode (act_at procs (record { worker = c.self.inside.worker; width = c.self.inside.streams; mode = c.self.inside.mode; hand = Some c.prepare.new.self }) start hand)) c.prepare.new.self.bytes))
     at
-    (prepared-bytes c.self.inside.worker c.self.inside.streams c.self.inside.mode c.self.inside.hand c.prepare.new.self c.args.anchor_number c.args.anchor.now c.prepare.result
+    (prepared_bytes c.self.inside.worker c.self.inside.streams c.self.inside.mode c.self.inside.hand c.prepare.new.self c.args.anchor_number c.args.anchor.now c.prepare.result
     c.prepare.ensures.raised c.prepare.ensures.bytes keeps.shaped.wide finished c.prepare.ensures.runs))

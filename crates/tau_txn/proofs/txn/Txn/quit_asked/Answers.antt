@@ -7,21 +7,21 @@ use Rattle.tau_txn.specs.Kept.{keeps_in, kept}
 use Rattle.tau_txn.specs.Narrow.{quit_at}
 use Rattle.tau_txn.specs.Next.{next_action, Quits}
 use Rattle.tau_txn.specs.Txn.{PlainTxn, RunsBy}
-use Rattle.tau_txn.proofs.Narrow.{quit-next, quit-is, quit-means, quit-other}
-use Rattle.tau_txn.proofs.Txns.{means-of}
+use Rattle.tau_txn.proofs.Narrow.{quit_next, quit_is, quit_means, quit_other}
+use Rattle.tau_txn.proofs.Txns.{means_of}
 use Rattle.tau_txn.proofs.txn.Txn.quit_asked.Goals as goal
 
 pub returns-clause-asked : goal.returns-clause-asked
 returns-clause-asked c =
     subst (λ (t : PlainTxn). c.quit_asked.result ≡ quit_at (next_action t))
     (ap (λ (b : Bool). record { worker = c.self.inside.worker; width = c.self.inside.streams; mode = c.self.inside.mode; hand = kept b c.self.inside.hand }) (sym c.if-not-self.false) ∙ c.self.view_is)
-    (c.quit_asked.ensures.asked ∙ sym (quit-next c.self.inside.hand.standing c.self.inside.hand))
+    (c.quit_asked.ensures.asked ∙ sym (quit_next c.self.inside.hand.standing c.self.inside.hand))
 
 pub returns-clause-next : goal.returns-clause-next
 returns-clause-next c =
     subst (λ (t : PlainTxn). IfSome c.quit_asked.result (λ x. next_action t ≡ action.Quit x))
     (ap (λ (b : Bool). record { worker = c.self.inside.worker; width = c.self.inside.streams; mode = c.self.inside.mode; hand = kept b c.self.inside.hand }) (sym c.if-not-self.false) ∙ c.self.view_is)
-    (quit-is (record { worker = c.self.inside.worker; width = c.self.inside.streams; mode = c.self.inside.mode; hand = Some c.self.inside.hand }) c.quit_asked.result (c.quit_asked.ensures.asked ∙ sym (quit-next c.self.inside.hand.standing c.self.inside.hand)))
+    (quit_is (record { worker = c.self.inside.worker; width = c.self.inside.streams; mode = c.self.inside.mode; hand = Some c.self.inside.hand }) c.quit_asked.result (c.quit_asked.ensures.asked ∙ sym (quit_next c.self.inside.hand.standing c.self.inside.hand)))
 
 pub returns-clause-means : goal.returns-clause-means
 returns-clause-means c =
@@ -29,15 +29,15 @@ returns-clause-means c =
     (ap (λ (b : Bool). record { worker = c.self.inside.worker; width = c.self.inside.streams; mode = c.self.inside.mode; hand = kept b c.self.inside.hand }) (sym c.if-not-self.false) ∙ c.self.view_is)
     (λ procs run.
     let keeps = subst (λ (b : Bool). keeps_in c.self.inside.streams (kept b c.self.inside.hand)) c.if-not-self.false c.self.invariant.hand in
-    quit-means (record { worker = c.self.inside.worker; width = c.self.inside.streams; mode = c.self.inside.mode; hand = Some c.self.inside.hand }) procs c.quit_asked.result
-    (c.quit_asked.ensures.asked ∙ sym (quit-next c.self.inside.hand.standing c.self.inside.hand))
-    (means-of procs c.self.inside.worker c.self.inside.streams c.self.inside.mode c.self.inside.hand run keeps c.quit_asked.ensures.ascend))
+    quit_means (record { worker = c.self.inside.worker; width = c.self.inside.streams; mode = c.self.inside.mode; hand = Some c.self.inside.hand }) procs c.quit_asked.result
+    (c.quit_asked.ensures.asked ∙ sym (quit_next c.self.inside.hand.standing c.self.inside.hand))
+    (means_of procs c.self.inside.worker c.self.inside.streams c.self.inside.mode c.self.inside.hand run keeps c.quit_asked.ensures.ascend))
 
 pub returns-clause-other : goal.returns-clause-other
 returns-clause-other c =
     subst (λ (t : PlainTxn). IfNone c.quit_asked.result ((x : Key) → next_action t ≡ action.Quit x → ⊥))
     (ap (λ (b : Bool). record { worker = c.self.inside.worker; width = c.self.inside.streams; mode = c.self.inside.mode; hand = kept b c.self.inside.hand }) (sym c.if-not-self.false) ∙ c.self.view_is)
-    (quit-other (record { worker = c.self.inside.worker; width = c.self.inside.streams; mode = c.self.inside.mode; hand = Some c.self.inside.hand }) c.quit_asked.result (c.quit_asked.ensures.asked ∙ sym (quit-next c.self.inside.hand.standing c.self.inside.hand)))
+    (quit_other (record { worker = c.self.inside.worker; width = c.self.inside.streams; mode = c.self.inside.mode; hand = Some c.self.inside.hand }) c.quit_asked.result (c.quit_asked.ensures.asked ∙ sym (quit_next c.self.inside.hand.standing c.self.inside.hand)))
 
 pub returns-clause-hand : goal.returns-clause-hand
 returns-clause-hand c = λ some.
