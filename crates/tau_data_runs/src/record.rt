@@ -9,7 +9,7 @@ use tau_base::{Call, Key, Lv, Text64, Value};
 use tau_record::{
     Entry, Format, KeptLv, KeptWrites, LentWrites, Placed, RecordCause, RecordFault, RecordRefusal,
     compress, compress_wide, decode, decode_as, encode_anchor, encode_catalogue, encode_command,
-    encode_command_wide, encode_written, encode_written_wide, raise,
+    encode_command_wide, encode_epoch, encode_written, encode_written_wide, raise,
 };
 
 /// The bytes of hexadecimal digits, between which there may be spaces.
@@ -45,6 +45,9 @@ const WIDE_WRITTEN: &str =
 /// The same call as a command record in format 2.
 const WIDE_COMMAND: &str =
     "02 00000033 0000000000000001 00000000 00000000 0000 03 01 0000000000000000 01 0000000000000001 01 0000000000000005";
+
+/// Epoch 1 of two streams, which then held 13 and 61 bytes.
+const EPOCH: &str = "05 00000019 00000001 000000000000000d 000000000000003d";
 
 /// The catalogue record, and then other bytes.
 fn content_of(alloc: Global, rest: &str) -> Result<Vec<u8>, Fail> {
@@ -120,6 +123,27 @@ fn records_have_the_stated_bytes(rt: HostRuntime) -> Result<(), Fail> {
         alloc,
         anchor.as_slice(),
         "03 0000001d 000000000000000d 000000000000000d 0000000000000035",
+    )
+}
+
+/// The bytes of an epoch with this number and vector.
+fn epoch(rt: &impl Abort, alloc: Global, number: u32, lv: &[u64]) -> Result<Vec<u8>, Fail> {
+    assert!(rt; 1 <= number);
+    Ok(encode_epoch(alloc, number, &vector(rt, lv))?)
+}
+
+/// An epoch takes 9 bytes and 8 for each stream, and is the same in both formats.
+#[test]
+fn epochs_have_the_stated_bytes(rt: HostRuntime) -> Result<(), Fail> {
+    let alloc = rt.alloc();
+    let first = epoch(&rt, alloc, 1, &[13, 61])?;
+    are_bytes(&rt, alloc, first.as_slice(), EPOCH)?;
+    let last = epoch(&rt, alloc, u32::MAX, &[0, 0x3fff_ffff_ffff_ffff])?;
+    are_bytes(
+        &rt,
+        alloc,
+        last.as_slice(),
+        "05 00000019 ffffffff 0000000000000000 3fffffffffffffff",
     )
 }
 
@@ -312,6 +336,61 @@ fn wide_contents_are_read(rt: HostRuntime) -> Result<(), Fail> {
     Ok(())
 }
 
+/// The entry is the epoch with this number and vector.
+fn is_epoch(rt: &impl Abort, entry: &Entry, stated: u32, positions: &[u64]) {
+    match entry {
+        Entry::Epoch { number, lv } => {
+            assert_eq!(rt; *number, stated);
+            assert_eq!(rt; lv.as_slice(), positions);
+        }
+        _ => assert!(rt; false),
+    }
+}
+
+/// The catalogue record, epochs 1 and 3, and between them an anchor and the record of call 1 above it.
+fn with_epochs(rt: &impl Abort, alloc: Global) -> Result<Vec<u8>, Fail> {
+    let lv = vector(rt, &[13, 13]);
+    let mut content = content_of(alloc, "")?;
+    content.extend_from_slice(epoch(rt, alloc, 1, &[13, 61])?.as_slice())?;
+    content.extend_from_slice(encode_anchor(alloc, &lv)?.as_slice())?;
+    let record = put(rt, alloc, 1, 1, &lv, &lv, Value::Int(5))?;
+    content.extend_from_slice(record.as_slice())?;
+    content.extend_from_slice(epoch(rt, alloc, 3, &[99, 61])?.as_slice())?;
+    Ok(content)
+}
+
+/// Epochs are read again, each in its place. They are no anchors: the anchor after one has number 1.
+#[test]
+fn epochs_are_read(rt: HostRuntime) -> Result<(), Fail> {
+    let alloc = rt.alloc();
+    let content = with_epochs(&rt, alloc)?;
+    assert_eq!(rt; content.len(), 124);
+    let placed = decode(alloc, 2, content.as_slice())?;
+    assert_eq!(rt; placed.len(), 5);
+    assert_eq!(rt; place_of(&rt, placed.as_slice(), 1), (13, 38));
+    assert_eq!(rt; place_of(&rt, placed.as_slice(), 2), (38, 59));
+    assert_eq!(rt; place_of(&rt, placed.as_slice(), 3), (59, 99));
+    assert_eq!(rt; place_of(&rt, placed.as_slice(), 4), (99, 124));
+    is_epoch(&rt, &placed[1].entry, 1, &[13, 61]);
+    is_first_write(&rt, &placed[3].entry, 1, &[13, 13]);
+    is_epoch(&rt, &placed[4].entry, 3, &[99, 61]);
+    Ok(())
+}
+
+/// An epoch of format 2 has the bytes of format 1.
+#[test]
+fn epochs_of_both_formats(rt: HostRuntime) -> Result<(), Fail> {
+    let alloc = rt.alloc();
+    let content = content_of(alloc, EPOCH)?;
+    for format in [Format::One, Format::Two] {
+        let placed = decode_as(alloc, format, 2, content.as_slice())?;
+        assert_eq!(rt; placed.len(), 2);
+        assert_eq!(rt; place_of(&rt, placed.as_slice(), 1), (13, 38));
+        is_epoch(&rt, &placed[1].entry, 1, &[13, 61]);
+    }
+    Ok(())
+}
+
 /// A vector comes back as it was put.
 fn keeps_vector(rt: &impl Abort, alloc: Global, parts: &[u64]) -> Result<(), Fail> {
     let kept = KeptLv::of(alloc, &vector(rt, parts))?;
@@ -423,10 +502,12 @@ fn have_causes(rt: &impl Abort, alloc: Global, rows: &[(&str, u8)]) -> Result<()
 }
 
 /// Bytes behind the catalogue record, and the cause that is found there, or 0: kinds, lengths and anchors.
-const LENGTHS: [(&str, u8); 12] = [
+const LENGTHS: [(&str, u8); 14] = [
     ("", 0),
     // the kind, and then the length
-    ("05", 2),
+    ("05", 1),
+    ("06", 2),
+    ("06 00000005", 2),
     ("00 00000005", 2),
     ("04 00000005", 2),
     ("03", 1),
@@ -443,6 +524,69 @@ const LENGTHS: [(&str, u8); 12] = [
 #[test]
 fn each_cause_at_its_edge(rt: HostRuntime) -> Result<(), Fail> {
     have_causes(&rt, rt.alloc(), &LENGTHS)
+}
+
+/// The same of epochs of one stream.
+const EPOCHS: [(&str, u8); 10] = [
+    // the number, and then the components
+    ("05 00000011 00000001 000000000000000d", 0),
+    ("05 00000011 ffffffff 0000000000000000", 0),
+    ("05 00000011 00000000 000000000000000d", 6),
+    ("05 00000009 00000000", 6),
+    ("05 00000011 00000001 3fffffffffffffff", 0),
+    ("05 00000011 00000001 4000000000000000", 6),
+    // the length
+    ("05 00000005", 3),
+    ("05 00000008 000001", 3),
+    ("05 00000010 00000001 00000000000000", 3),
+    ("05 00000012 00000001 000000000000000d 00", 3),
+];
+
+#[test]
+fn each_cause_of_an_epoch_at_its_edge(rt: HostRuntime) -> Result<(), Fail> {
+    have_causes(&rt, rt.alloc(), &EPOCHS)
+}
+
+/// Two epochs of one stream with these numbers, and an anchor between them.
+fn two_epochs(rt: &impl Abort, alloc: Global, first: u32, second: u32) -> Result<Vec<u8>, Fail> {
+    let mut content = content_of(alloc, "")?;
+    content.extend_from_slice(epoch(rt, alloc, first, &[13])?.as_slice())?;
+    content.extend_from_slice(encode_anchor(alloc, &vector(rt, &[30]))?.as_slice())?;
+    content.extend_from_slice(epoch(rt, alloc, second, &[13])?.as_slice())?;
+    Ok(content)
+}
+
+/// The numbers of the epochs of a stream rise.
+#[test]
+fn numbers_of_epochs_rise(rt: HostRuntime) -> Result<(), Fail> {
+    let alloc = rt.alloc();
+    for (first, second) in [(1, 2), (1, 7), (7, u32::MAX)] {
+        let content = two_epochs(&rt, alloc, first, second)?;
+        assert_eq!(rt; decode(alloc, 1, content.as_slice())?.len(), 4);
+    }
+    // The first stands at 13 and takes 17 bytes, the anchor 13.
+    let body = RecordFault {
+        at: 43,
+        cause: RecordCause::BadBody,
+    };
+    for (first, second) in [(1, 1), (7, 7), (7, 1), (u32::MAX, 7)] {
+        let content = two_epochs(&rt, alloc, first, second)?;
+        refuses(&rt, alloc, content.as_slice(), body);
+    }
+    Ok(())
+}
+
+/// No epoch is the first record of a stream.
+#[test]
+fn no_epoch_comes_first(rt: HostRuntime) -> Result<(), Fail> {
+    let alloc = rt.alloc();
+    let content = epoch(&rt, alloc, 1, &[13])?;
+    let first = RecordFault {
+        at: 0,
+        cause: RecordCause::BadKind,
+    };
+    refuses(&rt, alloc, content.as_slice(), first);
+    Ok(())
 }
 
 /// The same of the head of a data record.

@@ -86,7 +86,7 @@ impl Epochs {
     }
 
     /// The vector of the epoch with this number.
-    fn vector(&self, number: u32) -> Option<&Lv>
+    pub fn vector(&self, number: u32) -> Option<&Lv>
         ensures { option_copied result ≡ vector_of number self.now }
     {
         self.known.get(&number)

@@ -7,16 +7,17 @@ use Rattle.std.proofs.lemmas.Slice.Zip.{AllZip-long}
 use Rattle.tau_scan.specs.declared.log.Log.{Log}
 use Rattle.std.proofs.lemmas.Bool.Decides.{nat_tests}
 use Rattle.tau_base.specs.Vectors.{AtMost, covers}
-use Rattle.tau_base.proofs.Vectors.{covers_at_most}
 use Rattle.tau_model.specs.History.{Member}
 use Rattle.tau_model.specs.Reported.{put_in, ascending}
 use Rattle.tau_model.proofs.Sorting.{Rising, ascending_rising}
 use Rattle.tau_record.specs.declared.entry.Placed.{Placed}
 use Rattle.tau_record.specs.Format.{One}
-use Rattle.tau_record.specs.Record.{named, spelling}
+use Rattle.tau_record.specs.Record.{named, spelling, epoch_after}
 use Rattle.tau_record.specs.Content.{named_after, Reads}
 use Rattle.tau_record.proofs.ContentLaws.{spelling_long}
 use Rattle.tau_scan.specs.Reading.{IsReading, IsLog}
+use Rattle.tau_scan.specs.Epochs.{marks_of, judge_of}
+use Rattle.tau_scan.proofs.Known.{judged_low}
 use Rattle.tau_pool.specs.Item.{Item}
 use Rattle.tau_pool.specs.declared.item.Stage.TheVariants.{Waiting}
 use Rattle.tau_pool.specs.declared.waits.Wait.{Wait}
@@ -35,37 +36,42 @@ pub record OfStream (elv : List ℕ) (j low high : ℕ) (x : Item) : Type 0 wher
   pub taken : AtMost x.dep elv
   pub waits : is_waiting x.stage ≡ true
 
-item_is : (elv : List ℕ) (j i start : ℕ) (o : Option (List ℕ)) (x : Item) → item_as elv j i start o ≡ Some x → (x.stream ≡ j) × (x.start ≡ start) × AtMost x.dep elv × (is_waiting x.stage ≡ true)
-item_is elv j i start None x is = absurd cc
-item_is elv j i start (Some dep) x is = by_test (covers elv dep) refl is
+item_is : (lv : List ℕ) (j i start : ℕ) (o : Option (List ℕ)) (x : Item) → item_as lv j i start o ≡ Some x → (x.stream ≡ j) × (x.start ≡ start) × (covers lv x.dep ≡ true) × (is_waiting x.stage ≡ true)
+item_is lv j i start None x is = absurd cc
+item_is lv j i start (Some dep) x is = by_test (covers lv dep) refl is
   where
-    by_test : (b : Bool) → covers elv dep ≡ b → (if b then Some (record { stream = j; index = i; start = start; dep = dep; stage = Waiting }) else None) ≡ Some x →
-        (x.stream ≡ j) × (x.start ≡ start) × AtMost x.dep elv × (is_waiting x.stage ≡ true)
-    by_test true c e = subst (λ (q : Item). (q.stream ≡ j) × (q.start ≡ start) × AtMost q.dep elv × (is_waiting q.stage ≡ true)) (some_is (record { stream = j; index = i; start = start; dep = dep; stage = Waiting }) x e)
-        (refl, refl, covers_at_most elv dep c, refl)
+    by_test : (b : Bool) → covers lv dep ≡ b → (if b then Some (record { stream = j; index = i; start = start; dep = dep; stage = Waiting }) else None) ≡ Some x →
+        (x.stream ≡ j) × (x.start ≡ start) × (covers lv x.dep ≡ true) × (is_waiting x.stage ≡ true)
+    by_test true c e = subst (λ (q : Item). (q.stream ≡ j) × (q.start ≡ start) × (covers lv q.dep ≡ true) × (is_waiting q.stage ≡ true)) (some_is (record { stream = j; index = i; start = start; dep = dep; stage = Waiting }) x e)
+        (refl, refl, c, refl)
     by_test false c e = absurd cc
 
 abbrev Streamed : List ℕ → ℕ → ℕ → ℕ → List Item → Type 0
 Streamed elv j low high xs = Ordered xs × ((x : Item) → Member x xs → OfStream elv j low high x)
 
-in_stream : (elv : List ℕ) (j n at : ℕ) (vectors : List (List ℕ)) (content : List ℕ) (i : ℕ) (ps : List Placed) → Reads One n at vectors content ps → Streamed elv j at (at + length content) (items_in elv j i ps)
-in_stream elv j n at vectors content i [] r = (tt, λ x m. absurd m)
-in_stream elv j n at vectors content i (p ∷ ps) r =
+-- what a judging vector covers the lengths cover
+abbrev pub IsLow : List ℕ → (ℕ → List ℕ) → Type 0
+IsLow elv judge = (k : ℕ) (dep : List ℕ) → covers (judge k) dep ≡ true → AtMost dep elv
+
+in_stream : (elv : List ℕ) (judge : ℕ → List ℕ) → IsLow elv judge → (j n at k : ℕ) (vectors : List (List ℕ)) (content : List ℕ) (i : ℕ) (ps : List Placed) → Reads One n at k vectors content ps →
+    Streamed elv j at (at + length content) (items_in judge j k i ps)
+in_stream elv judge is_low j n at k vectors content i [] r = (tt, λ x m. absurd m)
+in_stream elv judge is_low j n at k vectors content i (p ∷ ps) r =
     let text = spelling One vectors p.entry in
     let rest : List ℕ = r.0 in
     let long = spelling_long One vectors p.entry in
     let size : length content ≡ length text + length rest = ap (λ (xs : List ℕ). length xs) r.1.parts ∙ length-append text rest in
-    let more = in_stream elv j n p.past (named_after vectors p.entry) rest (suc i) ps r.2 in
-    by_item (at + length content) p.past (omega (arith, size, r.1.ends)) (omega (arith, r.1.ends, r.1.starts, long)) (omega (arith, r.1.starts)) (omega (arith, size, r.1.ends, r.1.starts, long)) more (item_of elv j i p) refl
+    let more = in_stream elv judge is_low j n p.past (epoch_after k p.entry) (named_after vectors p.entry) rest (suc i) ps r.2 in
+    by_item (at + length content) p.past (omega (arith, size, r.1.ends)) (omega (arith, r.1.ends, r.1.starts, long)) (omega (arith, r.1.starts)) (omega (arith, size, r.1.ends, r.1.starts, long)) more (item_of (judge k) j i p) refl
   where
-    by_item : (high past : ℕ) → past + length r.0 ≡ high → p.start < past → at ≤ p.start → p.start < high → Streamed elv j past (past + length r.0) (items_in elv j (suc i) ps) → (o : Option Item) → item_of elv j i p ≡ o →
-        Streamed elv j at high (with_item o (items_in elv j (suc i) ps))
+    by_item : (high past : ℕ) → past + length r.0 ≡ high → p.start < past → at ≤ p.start → p.start < high → Streamed elv j past (past + length r.0) (items_in judge j (epoch_after k p.entry) (suc i) ps) →
+        (o : Option Item) → item_of (judge k) j i p ≡ o → Streamed elv j at high (with_item o (items_in judge j (epoch_after k p.entry) (suc i) ps))
     by_item high past top lt low under more None is = (more.0, λ x m. let o = more.1 x m in record { stream = o.stream; above = omega (arith, o.above, lt, low); below = omega (arith, o.below, top); taken = o.taken; waits = o.waits })
     by_item high past top lt low under more (Some x) is =
-        let h = item_is elv j i p.start (dep_of p.entry) x is in (
+        let h = item_is (judge k) j i p.start (dep_of p.entry) x is in (
           ((λ y m. let o = more.1 y m in inr (h.0 ∙ sym o.stream, omega (arith, h.1, lt, o.above))), more.0),
           λ y m. elim m [
-            | inl e ↦ subst (λ (q : Item). OfStream elv j at high q) e (record { stream = h.0; above = omega (arith, h.1, low); below = omega (arith, h.1, under); taken = h.2; waits = h.3 })
+            | inl e ↦ subst (λ (q : Item). OfStream elv j at high q) e (record { stream = h.0; above = omega (arith, h.1, low); below = omega (arith, h.1, under); taken = is_low k x.dep h.2; waits = h.3 })
             | inr t ↦ let o = more.1 y t in record { stream = o.stream; above = omega (arith, o.above, lt, low); below = omega (arith, o.below, top); taken = o.taken; waits = o.waits }
           ],
         )
@@ -84,18 +90,18 @@ pub record OfLog (elv : List ℕ) (low high : ℕ) (x : Item) : Type 0 where
   pub taken : AtMost x.dep elv
   pub waits : is_waiting x.stage ≡ true
 
-pub of_streams : (elv : List ℕ) (n j : ℕ) (contents : List (List ℕ)) (streams : List (List Placed)) → AllZip (IsReading n) contents streams →
+pub of_streams : (elv : List ℕ) (judge : ℕ → List ℕ) → IsLow elv judge → (n j : ℕ) (contents : List (List ℕ)) (streams : List (List Placed)) → AllZip (IsReading n) contents streams →
     ((k : ℕ) → slice_index elv (j + k) ≡ slice_index (map (λ (c : List ℕ). length c) contents) k) →
-    Ordered (items_from elv j streams) × ((x : Item) → Member x (items_from elv j streams) → OfLog elv j (j + length streams) x)
-of_streams elv n j [] [] all ends = (tt, λ x m. absurd m)
-of_streams elv n j [] (ps ∷ streams) all ends = absurd all
-of_streams elv n j (c ∷ contents) [] all ends = absurd all
-of_streams elv n j (c ∷ contents) (ps ∷ streams) all ends =
-    let here = in_stream elv j n 0 (named n []) c 0 ps all.0.spelled in
-    let rest = of_streams elv n (suc j) contents streams all.1 (λ k. ap (λ (q : ℕ). slice_index elv q) (omega arith) ∙ ends (suc k)) in
+    Ordered (items_from judge j streams) × ((x : Item) → Member x (items_from judge j streams) → OfLog elv j (j + length streams) x)
+of_streams elv judge is_low n j [] [] all ends = (tt, λ x m. absurd m)
+of_streams elv judge is_low n j [] (ps ∷ streams) all ends = absurd all
+of_streams elv judge is_low n j (c ∷ contents) [] all ends = absurd all
+of_streams elv judge is_low n j (c ∷ contents) (ps ∷ streams) all ends =
+    let here = in_stream elv judge is_low j n 0 0 (named n []) c 0 ps all.0.spelled in
+    let rest = of_streams elv judge is_low n (suc j) contents streams all.1 (λ k. ap (λ (q : ℕ). slice_index elv q) (omega arith) ∙ ends (suc k)) in
     let end : slice_index elv j ≡ length c = ap (λ (q : ℕ). slice_index elv q) (omega arith) ∙ ends 0 in (
-      ordered_append (items_in elv j 0 ps) (items_from elv (suc j) streams) here.0 rest.0 (λ x y m t. let o = here.1 x m in let q = rest.1 y t in inl (omega (arith, o.stream, q.above))),
-      λ x m. elim (member_either (items_in elv j 0 ps) (items_from elv (suc j) streams) x m) [
+      ordered_append (items_in judge j 0 0 ps) (items_from judge (suc j) streams) here.0 rest.0 (λ x y m t. let o = here.1 x m in let q = rest.1 y t in inl (omega (arith, o.stream, q.above))),
+      λ x m. elim (member_either (items_in judge j 0 0 ps) (items_from judge (suc j) streams) x m) [
         | inl t ↦
             let o = here.1 x t in
             let at : slice_index elv x.stream ≡ length c = ap (λ (q : ℕ). slice_index elv q) o.stream ∙ end in
@@ -224,8 +230,9 @@ streams_many log l =
     let long = AllZip-long (IsReading (length l.contents)) l.contents log.streams l.read in
     omega (arith, long, ap (λ (xs : List ℕ). length xs) l.lengths, length-map l.contents (λ (c : List ℕ). length c))
 
-pub of_log : (log : Log) → IsLog log → Ordered (items_from log.elv 0 log.streams) × ((x : Item) → Member x (items_from log.elv 0 log.streams) → OfLog log.elv 0 (length log.elv) x)
+pub of_log : (log : Log) → IsLog log → Ordered (items_from (judge_of log) 0 log.streams) × ((x : Item) → Member x (items_from (judge_of log) 0 log.streams) → OfLog log.elv 0 (length log.elv) x)
 of_log log l =
-    let h = of_streams log.elv (length l.contents) 0 l.contents log.streams l.read (λ k. let at : 0 + k ≡ k = omega arith in ap (λ (n : ℕ). slice_index log.elv n) at ∙ ap (λ (xs : List ℕ). slice_index xs k) l.lengths) in
+    let h = of_streams log.elv (judge_of log) (λ k dep covered. judged_low log.elv (marks_of log) k dep covered) (length l.contents) 0 l.contents log.streams l.read
+    (λ k. let at : 0 + k ≡ k = omega arith in ap (λ (n : ℕ). slice_index log.elv n) at ∙ ap (λ (xs : List ℕ). slice_index xs k) l.lengths) in
     let many : 0 + length log.streams ≡ length log.elv = omega (arith, streams_many log l) in
     (h.0, λ x m. subst (λ (n : ℕ). OfLog log.elv 0 n x) many (h.1 x m))

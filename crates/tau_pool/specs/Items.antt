@@ -2,8 +2,9 @@
 use Rattle.std.specs.Prelude.{ℕ, suc, Bool, true, false, List, [], ◌∷◌, ◌++◌, Option, Some, None, if◌then◌else◌}
 use Rattle.tau_base.specs.Vectors.{covers}
 use Rattle.tau_record.specs.declared.entry.Entry.{Entry}
-use Rattle.tau_record.specs.declared.entry.Entry.TheVariants.{Written, Command, Anchor, Catalogue}
+use Rattle.tau_record.specs.declared.entry.Entry.TheVariants.{Written, Command, Anchor, Catalogue, Epoch}
 use Rattle.tau_record.specs.declared.entry.Placed.{Placed}
+use Rattle.tau_record.specs.Record.{epoch_after}
 use Rattle.tau_pool.specs.Item.{Item}
 use Rattle.tau_pool.specs.declared.item.Stage.{Stage}
 use Rattle.tau_pool.specs.declared.item.Stage.TheVariants.{Waiting, Flying, Finished}
@@ -30,29 +31,30 @@ dep_of (Written number anchor dep writes) = Some dep
 dep_of (Command number anchor dep call) = Some dep
 dep_of (Anchor lv) = None
 dep_of (Catalogue text) = None
+dep_of (Epoch number lv) = None
 
 -- a record that is not started
 abbrev pub unstarted : ℕ → ℕ → ℕ → List ℕ → Item
 unstarted j i start dep = record { stream = j; index = i; start = start; dep = dep; stage = Waiting }
 
 abbrev pub item_as : List ℕ → ℕ → ℕ → ℕ → Option (List ℕ) → Option Item
-item_as elv j i start None = None
-item_as elv j i start (Some dep) = if covers elv dep then Some (unstarted j i start dep) else None
+item_as lv j i start None = None
+item_as lv j i start (Some dep) = if covers lv dep then Some (unstarted j i start dep) else None
 
--- what is kept of a record, where it is taken
+-- what is kept of a record that is judged against this vector, where it is taken
 abbrev pub item_of : List ℕ → ℕ → ℕ → Placed → Option Item
-item_of elv j i p = item_as elv j i p.start (dep_of p.entry)
+item_of lv j i p = item_as lv j i p.start (dep_of p.entry)
 
 abbrev pub with_item : Option Item → List Item → List Item
 with_item None xs = xs
 with_item (Some x) xs = x ∷ xs
 
--- the taken records of a stream, from number i on
-abbrev pub items_in : List ℕ → ℕ → ℕ → List Placed → List Item
-items_in elv j i [] = []
-items_in elv j i (p ∷ ps) = with_item (item_of elv j i p) (items_in elv j (suc i) ps)
+-- the taken records of a stream after an epoch with number k, from number i on
+abbrev pub items_in : (ℕ → List ℕ) → ℕ → ℕ → ℕ → List Placed → List Item
+items_in judge j k i [] = []
+items_in judge j k i (p ∷ ps) = with_item (item_of (judge k) j i p) (items_in judge j (epoch_after k p.entry) (suc i) ps)
 
 -- those of all streams, from stream j on
-abbrev pub items_from : List ℕ → ℕ → List (List Placed) → List Item
-items_from elv j [] = []
-items_from elv j (ps ∷ streams) = items_in elv j 0 ps ++ items_from elv (suc j) streams
+abbrev pub items_from : (ℕ → List ℕ) → ℕ → List (List Placed) → List Item
+items_from judge j [] = []
+items_from judge j (ps ∷ streams) = items_in judge j 0 0 ps ++ items_from judge (suc j) streams

@@ -1,12 +1,14 @@
 //! What the pools keep of a taken record.
 ghost use Rattle.std.specs.Prelude.{◌≡◌, ◌≤◌, ◌++◌, ◌∷◌, [], Some, None, length, IfOk, IfSome, IsNone, OnOk};
 ghost use Rattle.tau_base.specs.declared.limits.TheConstants.{MAX_STREAMS};
+ghost use Rattle.tau_scan.specs.Epochs.{vector_by};
 ghost use Rattle.tau_pool.specs.Items.{is_left, is_waiting, dep_of, with_item, item_of, items_in, items_from};
 
 use crate::items::Items;
 use std::alloc::Global;
 use tau_base::{Listed, Lv, NoMemory};
 use tau_record::{Entry, Placed};
+use tau_scan::Judge;
 
 /// Where a taken record stands.
 #[derive(Clone, Copy, Debug, PartialEq, Eq)]
@@ -65,23 +67,24 @@ fn dep_of(entry: &Entry) -> Option<&[u64]>
         Entry::Command { dep, .. } => Some(dep.as_slice()),
         Entry::Anchor { .. } => None,
         Entry::Catalogue { .. } => None,
+        Entry::Epoch { .. } => None,
     }
 }
 
-/// Puts a record after the others, where it is taken.
+/// Puts a record that is judged against this vector after the others, where it is taken.
 fn put_record(
     items: &mut Items,
-    elv: &Lv,
+    lv: &Lv,
     stream: u8,
     index: usize,
     placed: &Placed,
 ) -> Result<(), NoMemory>
-    ensures { OnOk result (items.new ≡ items.old ++ with_item (item_of elv.now stream index placed.now) []) }
+    ensures { OnOk result (items.new ≡ items.old ++ with_item (item_of lv.now stream index placed.now) []) }
 {
     match dep_of(&placed.entry) {
         None => Ok(()),
         Some(dep) => {
-            if !elv.covers_all(dep) {
+            if !lv.covers_all(dep) {
                 return Ok(());
             }
             items.put(stream, index, placed.start, dep)
@@ -90,11 +93,18 @@ fn put_record(
 }
 
 /// Puts the taken records of a stream after the others.
-fn put_stream(items: &mut Items, elv: &Lv, stream: u8, records: &[Placed]) -> Result<(), NoMemory>
-    ensures { OnOk result (items.new ≡ items.old ++ items_in elv.now stream 0 records.now) }
+fn put_stream(
+    items: &mut Items,
+    judge: &Judge,
+    stream: u8,
+    records: &[Placed],
+) -> Result<(), NoMemory>
+    ensures { OnOk result (items.new ≡ items.old ++ items_in (vector_by judge.now) stream 0 0 records.now) }
 {
+    let mut lv = judge.vector(0);
     for (index, placed) in records.iter().enumerate() {
-        put_record(items, elv, stream, index, placed)?;
+        put_record(items, &lv, stream, index, placed)?;
+        lv = judge.after(lv, &placed.entry);
     }
     Ok(())
 }
@@ -111,15 +121,15 @@ fn records_in(streams: &[Listed<Placed>]) -> usize {
 /// The taken records of all streams, none of them started.
 pub(crate) fn items_of(
     alloc: Global,
-    elv: &Lv,
+    judge: &Judge,
     streams: &[Listed<Placed>],
 ) -> Result<Items, NoMemory>
     requires { length streams.now ≤ MAX_STREAMS }
-    ensures { IfOk result (λ items. items ≡ items_from elv.now 0 streams.now) }
+    ensures { IfOk result (λ items. items ≡ items_from (vector_by judge.now) 0 streams.now) }
 {
-    let mut items = Items::with_room(alloc, records_in(streams), elv.width())?;
+    let mut items = Items::with_room(alloc, records_in(streams), judge.vector(0).width())?;
     for (j, records) in streams.iter().enumerate() {
-        put_stream(&mut items, elv, j as u8, records.as_slice())?;
+        put_stream(&mut items, judge, j as u8, records.as_slice())?;
     }
     Ok(items)
 }

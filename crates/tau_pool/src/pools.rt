@@ -1,6 +1,7 @@
 //! The pools of a recovery.
 ghost use Rattle.std.specs.Prelude.{◌≡◌, ◌≢◌, ◌≤◌, ◌<◌, ◌+◌, ℕ, true, false, length, replicate, slice_get, IfOk, IfSome, IsNone, Some};
 ghost use Rattle.tau_scan.specs.Reading.{IsLog};
+ghost use Rattle.tau_scan.specs.Epochs.{judge_of};
 ghost use Rattle.tau_pool.specs.Item.{Item};
 ghost use Rattle.tau_pool.specs.declared.item.Job.{Job};
 ghost use Rattle.tau_pool.specs.Items.{is_left, items_from};
@@ -16,7 +17,7 @@ use crate::waits::{Wait, waits_of};
 use std::alloc::Global;
 use std::marker::Model;
 use tau_base::{Listed, Lv, NoMemory};
-use tau_scan::Log;
+use tau_scan::{Judge, Log};
 
 /// What may be done next.
 #[derive(Clone, Copy, Debug, PartialEq, Eq)]
@@ -66,12 +67,13 @@ impl Pools {
     /// The pools of a log, where no record is started.
     pub fn new(alloc: Global, log: &Log) -> Result<Pools, NoMemory>
         requires { IsLog log.now }
-        ensures items { IfOk result (λ p. p.items ≡ items_from log.now.elv 0 log.now.streams) }
+        ensures items { IfOk result (λ p. p.items ≡ items_from (judge_of log.now) 0 log.now.streams) }
         ensures ends { IfOk result (λ p. p.ends ≡ log.now.elv) }
         ensures recovered { IfOk result (λ p. IsRecovered p.ends p.rlv p.items) }
     {
         let n = log.elv.width();
-        let items = items_of(alloc, &log.elv, log.streams.as_slice())?;
+        let judge = Judge::of(alloc, log)?;
+        let items = items_of(alloc, &judge, log.streams.as_slice())?;
         let (rlv, nexts) = reached_of(alloc, &log.elv, &items)?;
         let waiting = items.len();
         Ok(Pools {

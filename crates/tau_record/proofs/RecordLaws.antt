@@ -8,14 +8,14 @@ use Rattle.tau_base.specs.declared.value.Key.{Key}
 use Rattle.tau_base.specs.declared.value.Call.{Call}
 use Rattle.tau_base.specs.declared.value.Value.{Value}
 use Rattle.tau_record.specs.declared.entry.Entry.{Entry}
-use Rattle.tau_record.specs.declared.entry.Entry.TheVariants.{Written, Command, Anchor, Catalogue}
+use Rattle.tau_record.specs.declared.entry.Entry.TheVariants.{Written, Command, Anchor, Catalogue, Epoch}
 use Rattle.tau_record.specs.declared.fault.RecordCause.{RecordCause}
 use Rattle.tau_record.specs.declared.fault.RecordCause.TheVariants.{Short, BadKind, BadLength, BadAnchor, BadBody}
 use Rattle.tau_record.specs.Field.{◌>>=◌, number_at}
 use Rattle.tau_record.specs.Format.{Format, most_streams}
 use Rattle.tau_record.specs.Vector.{ArePlaces, vector, vector_at}
 use Rattle.tau_record.specs.Item.{value, write, writes_at, args_at, byte_at}
-use Rattle.tau_record.specs.Record.{AreVectors, Fits, base_of, origin, kind_of, body, framed, spelling, FitsOrigin, FitsBody, kind_fits, Origin, origin_at, written_at, command_at, lv_at, fields_at, body_at, sized_at, total_at, frame_at, record_at}
+use Rattle.tau_record.specs.Record.{AreVectors, Fits, base_of, origin, kind_of, body, framed, spelling, FitsOrigin, FitsBody, kind_fits, IsNext, Origin, origin_at, written_at, command_at, lv_at, epoch_at, fields_at, body_at, sized_at, total_at, frame_at, record_at}
 use Rattle.tau_record.proofs.FieldLaws.{IsBytes, IsBytes-rest, IsBytes-drop, IsBytes-take, Takes, Takes-none, Takes-then, bind_ok, guard_ok, ok_is, IsWide, wide16, wide32, wide64, number_takes, number_again}
 use Rattle.tau_record.proofs.SizeLaws.{size_fits}
 use Rattle.tau_record.proofs.VectorLaws.{raises, raises_width, raises_covers, raises_places, vector_takes, vector_again}
@@ -177,12 +177,15 @@ chosen : {A : Type 0} (b : Bool) (x y z : A) → cond b x y ≡ z → ((b ≡ tr
 chosen true x y z e = inl (refl, e)
 chosen false x y z e = inr (refl, e)
 
-kind_bound : (first : Bool) (kind : ℕ) → kind_fits first kind ≡ true → (1 ≤ kind) × (kind ≤ 4)
+kind_bound : (first : Bool) (kind : ℕ) → kind_fits first kind ≡ true → (1 ≤ kind) × (kind ≤ 5)
 kind_bound true kind e = let k = eqb-true kind 4 e in (omega (arith, k), omega (arith, k))
 kind_bound false kind e =
-    elim (chosen (leb 1 kind) (leb kind 3) false true e) [
-      | inl t ↦ (leb-true 1 kind t.0, let le = leb-true kind 3 t.1 in omega (arith, le))
-      | inr t ↦ absurd cc
+    elim (chosen (eqb kind 5) true (cond (leb 1 kind) (leb kind 3) false) true e) [
+      | inl t ↦ let k = eqb-true kind 5 t.0 in (omega (arith, k), omega (arith, k))
+      | inr t ↦ elim (chosen (leb 1 kind) (leb kind 3) false true t.1) [
+        | inl s ↦ (leb-true 1 kind s.0, let le = leb-true kind 3 s.1 in omega (arith, le))
+        | inr s ↦ absurd cc
+      ]
     ]
 
 anchor_takes : (format : Format) (n : ℕ) (vectors : List (List ℕ)) (bytes : List ℕ) (x : Entry × List ℕ) → IsBytes bytes → (lv_at n bytes >>= λ v. Ok (Anchor v.0, v.1)) ≡ Ok x → KindTakes format n vectors bytes 3 x
@@ -232,59 +235,113 @@ command_again format n vectors number anchor dep call rest room are fits =
     let most : ltb 8 (length args) ≡ false = le-ltb _ _ fits.2 in
     ap (command_at format vectors) regrouped ∙ rw (origin_again format n vectors o (proc ++ (count ++ tail)) room are fits.0, number_again w16 (2 ^ 16) wide16 call.proc (count ++ tail) fits.1, byte_again (length args) tail, most, args_again args rest fits.3) refl
 
-fields_take : (format : Format) (n : ℕ) (vectors : List (List ℕ)) (kind : ℕ) (bytes : List ℕ) (x : Entry × List ℕ) → IsBytes bytes → AreVectors n vectors → 1 ≤ kind → kind ≤ 4 → fields_at format n vectors kind bytes ≡ Ok x → KindTakes format n vectors bytes kind x
+-- an epoch that is read is the next one
+epoch_takes : (format : Format) (n k : ℕ) (vectors : List (List ℕ)) (bytes : List ℕ) (x : Entry × List ℕ) → IsBytes bytes → epoch_at n k bytes ≡ Ok x → KindTakes format n vectors bytes 5 x × IsNext k x.0
+unfolding epoch_at
+epoch_takes format n k vectors bytes x fits e =
+    let after : (ℕ × List ℕ) → Result (Entry × List ℕ) RecordCause = λ number. lv_at n number.1 >>= λ v. Ok (Epoch number.0 v.0, v.1) in
+    let a = bind_ok (number_at w32 bytes) (λ number. cond (leb number.0 k) (Err BadBody) (after number)) x e in
+    let g = guard_ok (leb a.0.0 k) BadBody (after a.0) x a.2 in
+    let b = bind_ok (lv_at n a.0.1) (λ v. Ok (Epoch a.0.0 v.0, v.1)) x g.1 in
+    let t0 = number_takes w32 (2 ^ 32) wide32 bytes a.0 fits a.1 in
+    let t1 = lv_takes n a.0.1 b.0 t0.0.rest_fits b.1 in
+    let both = Takes-then bytes (to_be_bytes w32 a.0.0) a.0.1 (flat_map (to_be_bytes w64) b.0.0) b.0.1 t0.0 t1.0 in
+    let next : k < a.0.0 = leb-false _ _ g.0 in
+    subst (λ (y : Entry × List ℕ). KindTakes format n vectors bytes 5 y × IsNext k y.0) (ok_is (Epoch a.0.0 b.0.0, b.0.1) x b.2) ((both, (omega (arith, next), t0.1, t1.1, t1.2), refl), next)
+
+epoch_again : (n k number : ℕ) (lv rest : List ℕ) → number < 2 ^ 32 → length lv ≡ n → ArePlaces lv → k < number → epoch_at n k ((to_be_bytes w32 number ++ flat_map (to_be_bytes w64) lv) ++ rest) ≡ Ok (Epoch number lv, rest)
+unfolding epoch_at
+epoch_again n k number lv rest small width places next =
+    let head = to_be_bytes w32 number in
+    let list = flat_map (to_be_bytes w64) lv in
+    let read : lv_at n (list ++ rest) ≡ Ok (lv, rest) = ap (λ (m : ℕ). lv_at m (list ++ rest)) (sym width) ∙ lv_again lv rest places in
+    ap (epoch_at n k) (append_assoc head list rest) ∙ rw (number_again w32 (2 ^ 32) wide32 number (list ++ rest) small, leb_not number k next, read) refl
+
+-- an entry of another kind is next after any epoch
+kind_next : (k : ℕ) (e : Entry) → (kind_of e ≡ 5 → ⊥) → IsNext k e
+kind_next k (Written number anchor dep writes) other = tt
+kind_next k (Command number anchor dep call) other = tt
+kind_next k (Anchor lv) other = tt
+kind_next k (Catalogue text) other = tt
+kind_next k (Epoch number lv) other = absurd (other refl)
+
+pub first_epoch : (n : ℕ) (vectors : List (List ℕ)) (first : Bool) (e : Entry) → Fits n vectors first e → IsNext 0 e
+first_epoch n vectors first (Written number anchor dep writes) fits = tt
+first_epoch n vectors first (Command number anchor dep call) fits = tt
+first_epoch n vectors first (Anchor lv) fits = tt
+first_epoch n vectors first (Catalogue text) fits = tt
+first_epoch n vectors first (Epoch number lv) fits = fits.fields.0
+
+-- a record of another kind that is read
+kind_takes : (format : Format) (n k : ℕ) (vectors : List (List ℕ)) (bytes : List ℕ) (is kind : ℕ) (x : Entry × List ℕ) → kind ≡ is → is < 5 → KindTakes format n vectors bytes is x → KindTakes format n vectors bytes kind x × IsNext k x.0
+kind_takes format n k vectors bytes is kind x same low t =
+    (subst (λ (m : ℕ). KindTakes format n vectors bytes m x) (sym same) t, kind_next k x.0 (λ five. omega (arith, five, t.2, low)))
+
+fields_take : (format : Format) (n k : ℕ) (vectors : List (List ℕ)) (kind : ℕ) (bytes : List ℕ) (x : Entry × List ℕ) → IsBytes bytes → AreVectors n vectors → 1 ≤ kind → kind ≤ 5 → fields_at format n k vectors kind bytes ≡ Ok x → KindTakes format n vectors bytes kind x × IsNext k x.0
 unfolding fields_at
-fields_take format n vectors kind bytes x fits are low high e =
-    let fourth : Result (Entry × List ℕ) RecordCause = cond (ltb 32768 (length bytes)) (Err BadBody) (Ok (Catalogue bytes, [])) in
+fields_take format n k vectors kind bytes x fits are low high e =
+    let fifth : Result (Entry × List ℕ) RecordCause = cond (ltb 32768 (length bytes)) (Err BadBody) (Ok (Catalogue bytes, [])) in
+    let fourth : Result (Entry × List ℕ) RecordCause = cond (eqb kind 5) (epoch_at n k bytes) fifth in
     let third : Result (Entry × List ℕ) RecordCause = cond (eqb kind 3) (lv_at n bytes >>= λ v. Ok (Anchor v.0, v.1)) fourth in
     let second : Result (Entry × List ℕ) RecordCause = cond (eqb kind 2) (command_at format vectors bytes) third in
     elim (chosen (eqb kind 1) (written_at format vectors bytes) second (Ok x) e) [
-      | inl t ↦ subst (λ (k : ℕ). KindTakes format n vectors bytes k x) (sym (eqb-true kind 1 t.0)) (written_takes format n vectors bytes x fits are t.1)
+      | inl t ↦ kind_takes format n k vectors bytes 1 kind x (eqb-true kind 1 t.0) (omega arith) (written_takes format n vectors bytes x fits are t.1)
       | inr t ↦ elim (chosen (eqb kind 2) (command_at format vectors bytes) third (Ok x) t.1) [
-        | inl s ↦ subst (λ (k : ℕ). KindTakes format n vectors bytes k x) (sym (eqb-true kind 2 s.0)) (command_takes format n vectors bytes x fits are s.1)
+        | inl s ↦ kind_takes format n k vectors bytes 2 kind x (eqb-true kind 2 s.0) (omega arith) (command_takes format n vectors bytes x fits are s.1)
         | inr s ↦ elim (chosen (eqb kind 3) (lv_at n bytes >>= λ v. Ok (Anchor v.0, v.1)) fourth (Ok x) s.1) [
-          | inl r ↦ subst (λ (k : ℕ). KindTakes format n vectors bytes k x) (sym (eqb-true kind 3 r.0)) (anchor_takes format n vectors bytes x fits r.1)
-          | inr r ↦ let a = eqb-false kind 1 t.0 in let b = eqb-false kind 2 s.0 in let d = eqb-false kind 3 r.0 in let is : 4 ≡ kind = omega (arith, a, b, d, low, high) in
-              subst (λ (k : ℕ). KindTakes format n vectors bytes k x) is (catalogue_takes format n vectors bytes x fits r.1)
+          | inl r ↦ kind_takes format n k vectors bytes 3 kind x (eqb-true kind 3 r.0) (omega arith) (anchor_takes format n vectors bytes x fits r.1)
+          | inr r ↦ elim (chosen (eqb kind 5) (epoch_at n k bytes) fifth (Ok x) r.1) [
+            | inl q ↦
+                let t5 = epoch_takes format n k vectors bytes x fits q.1 in
+                (subst (λ (m : ℕ). KindTakes format n vectors bytes m x) (sym (eqb-true kind 5 q.0)) t5.0, t5.1)
+            | inr q ↦
+                let a = eqb-false kind 1 t.0 in
+                let b = eqb-false kind 2 s.0 in
+                let d = eqb-false kind 3 r.0 in
+                let f = eqb-false kind 5 q.0 in
+                kind_takes format n k vectors bytes 4 kind x (omega (arith, a, b, d, f, low, high)) (omega arith) (catalogue_takes format n vectors bytes x fits q.1)
+          ]
         ]
       ]
     ]
 
-fields_again : (format : Format) (n : ℕ) (vectors : List (List ℕ)) (e : Entry) → n ≤ most_streams format → AreVectors n vectors → FitsBody n vectors e → fields_at format n vectors (kind_of e) (body format vectors e) ≡ Ok (e, [])
+fields_again : (format : Format) (n k : ℕ) (vectors : List (List ℕ)) (e : Entry) → n ≤ most_streams format → AreVectors n vectors → FitsBody n vectors e → IsNext k e → fields_at format n k vectors (kind_of e) (body format vectors e) ≡ Ok (e, [])
 unfolding fields_at
-fields_again format n vectors (Written number anchor dep writes) room are fits = ap (written_at format vectors) (sym (append-nil (body format vectors (Written number anchor dep writes)))) ∙ written_again format n vectors number anchor dep writes [] room are fits
-fields_again format n vectors (Command number anchor dep call) room are fits = ap (command_at format vectors) (sym (append-nil (body format vectors (Command number anchor dep call)))) ∙ command_again format n vectors number anchor dep call [] room are fits
-fields_again format n vectors (Anchor lv) room are fits =
+fields_again format n k vectors (Written number anchor dep writes) room are fits next = ap (written_at format vectors) (sym (append-nil (body format vectors (Written number anchor dep writes)))) ∙ written_again format n vectors number anchor dep writes [] room are fits
+fields_again format n k vectors (Command number anchor dep call) room are fits next = ap (command_at format vectors) (sym (append-nil (body format vectors (Command number anchor dep call)))) ∙ command_again format n vectors number anchor dep call [] room are fits
+fields_again format n k vectors (Anchor lv) room are fits next =
     let read : lv_at n (flat_map (to_be_bytes w64) lv) ≡ Ok (lv, []) = ap (lv_at n) (sym (append-nil (flat_map (to_be_bytes w64) lv))) ∙ ap (λ (m : ℕ). lv_at m (flat_map (to_be_bytes w64) lv ++ [])) (sym fits.0) ∙ lv_again lv [] fits.1 in
     rw read refl
-fields_again format n vectors (Catalogue text) room are fits = rw (le-ltb _ _ fits.0) refl
+fields_again format n k vectors (Catalogue text) room are fits next = rw (le-ltb _ _ fits.0) refl
+fields_again format n k vectors (Epoch number lv) room are fits next =
+    ap (epoch_at n k) (sym (append-nil (to_be_bytes w32 number ++ flat_map (to_be_bytes w64) lv))) ∙ epoch_again n k number lv [] fits.1 fits.2 fits.3 next
 
-pub record_takes : (format : Format) (n : ℕ) (vectors : List (List ℕ)) (first : Bool) (bytes : List ℕ) (x : Entry × List ℕ) → IsBytes bytes → AreVectors n vectors → record_at format n vectors first bytes ≡ Ok x → Takes bytes (spelling format vectors x.0) x.1 × Fits n vectors first x.0
+pub record_takes : (format : Format) (n k : ℕ) (vectors : List (List ℕ)) (first : Bool) (bytes : List ℕ) (x : Entry × List ℕ) → IsBytes bytes → AreVectors n vectors → record_at format n k vectors first bytes ≡ Ok x → Takes bytes (spelling format vectors x.0) x.1 × Fits n vectors first x.0 × IsNext k x.0
 unfolding record_at body_at
-record_takes format n vectors first bytes x fits are e =
-    let a = bind_ok (frame_at first bytes) (λ f. body_at format n vectors f.0.0 f.0.1 >>= λ e. Ok (e, f.1)) x e in
+record_takes format n k vectors first bytes x fits are e =
+    let a = bind_ok (frame_at first bytes) (λ f. body_at format n k vectors f.0.0 f.0.1 >>= λ e. Ok (e, f.1)) x e in
     let kind = a.0.0.0 in
     let text = a.0.0.1 in
-    let b = bind_ok (body_at format n vectors kind text) (λ e. Ok (e, a.0.1)) x a.2 in
-    let d = bind_ok (fields_at format n vectors kind text) (λ y. cond (eqb (length y.1) 0) (Ok y.0) (Err BadLength)) b.0 b.1 in
+    let b = bind_ok (body_at format n k vectors kind text) (λ e. Ok (e, a.0.1)) x a.2 in
+    let d = bind_ok (fields_at format n k vectors kind text) (λ y. cond (eqb (length y.1) 0) (Ok y.0) (Err BadLength)) b.0 b.1 in
     let g = guard_held (eqb (length d.0.1) 0) BadLength (Ok d.0.0) b.0 d.2 in
     let t0 = frame_takes first bytes a.0 fits a.1 in
     let bound = kind_bound first kind t0.1 in
-    let t1 = fields_take format n vectors kind text d.0 t0.3 are bound.0 bound.1 d.1 in
+    let t1 = fields_take format n k vectors kind text d.0 t0.3 are bound.0 bound.1 d.1 in
     let nothing : d.0.1 ≡ [] = nil_from_length d.0.1 (eqb-true _ _ g.0) in
-    let whole : text ≡ body format vectors d.0.0 = t1.0.parts ∙ ap (λ (r : List ℕ). body format vectors d.0.0 ++ r) nothing ∙ append-nil (body format vectors d.0.0) in
+    let whole : text ≡ body format vectors d.0.0 = t1.0.0.parts ∙ ap (λ (r : List ℕ). body format vectors d.0.0 ++ r) nothing ∙ append-nil (body format vectors d.0.0) in
     let first_takes : Takes bytes (framed kind (body format vectors d.0.0)) a.0.1 = subst (λ (t : List ℕ). Takes bytes (framed kind t) a.0.1) whole t0.0 in
-    let takes : Takes bytes (spelling format vectors d.0.0) a.0.1 = subst (λ (k : ℕ). Takes bytes (framed k (body format vectors d.0.0)) a.0.1) (sym t1.2) first_takes in
-    let fit : Fits n vectors first d.0.0 = record { kind = rw t1.2 t0.1; fields = t1.1 } in
-    subst (λ (y : Entry × List ℕ). Takes bytes (spelling format vectors y.0) y.1 × Fits n vectors first y.0) (ok_is (d.0.0, a.0.1) x (ap (λ (y : Result Entry RecordCause). y >>= λ e. Ok (e, a.0.1)) g.1 ∙ b.2)) (takes, fit)
+    let takes : Takes bytes (spelling format vectors d.0.0) a.0.1 = subst (λ (k : ℕ). Takes bytes (framed k (body format vectors d.0.0)) a.0.1) (sym t1.0.2) first_takes in
+    let fit : Fits n vectors first d.0.0 = record { kind = rw t1.0.2 t0.1; fields = t1.0.1 } in
+    subst (λ (y : Entry × List ℕ). Takes bytes (spelling format vectors y.0) y.1 × Fits n vectors first y.0 × IsNext k y.0) (ok_is (d.0.0, a.0.1) x (ap (λ (y : Result Entry RecordCause). y >>= λ e. Ok (e, a.0.1)) g.1 ∙ b.2)) (takes, fit, t1.1)
 
-pub record_again : (format : Format) (n : ℕ) (vectors : List (List ℕ)) (first : Bool) (e : Entry) (rest : List ℕ) → n ≤ most_streams format → AreVectors n vectors → Fits n vectors first e → record_at format n vectors first (spelling format vectors e ++ rest) ≡ Ok (e, rest)
+pub record_again : (format : Format) (n k : ℕ) (vectors : List (List ℕ)) (first : Bool) (e : Entry) (rest : List ℕ) → n ≤ most_streams format → AreVectors n vectors → Fits n vectors first e → IsNext k e → record_at format n k vectors first (spelling format vectors e ++ rest) ≡ Ok (e, rest)
 unfolding record_at body_at
-record_again format n vectors first e rest room are fits =
-    rw (frame_again first (kind_of e) (body format vectors e) rest fits.kind (size_fits format n vectors e room are fits.fields), fields_again format n vectors e room are fits.fields) refl
+record_again format n k vectors first e rest room are fits next =
+    rw (frame_again first (kind_of e) (body format vectors e) rest fits.kind (size_fits format n vectors e room are fits.fields), fields_again format n k vectors e room are fits.fields next) refl
 
 pub spelled_once : (format : Format) (n : ℕ) (vectors : List (List ℕ)) (first : Bool) (a b : Entry) (x y : List ℕ) → n ≤ most_streams format → AreVectors n vectors → Fits n vectors first a → Fits n vectors first b
     → spelling format vectors a ++ x ≡ spelling format vectors b ++ y → (a ≡ b) × (x ≡ y)
 spelled_once format n vectors first a b x y room are fa fb e =
-    let same : (a, x) ≡ (b, y) = ok_is (a, x) (b, y) (sym (record_again format n vectors first a x room are fa) ∙ ap (record_at format n vectors first) e ∙ record_again format n vectors first b y room are fb) in
+    let same : (a, x) ≡ (b, y) = ok_is (a, x) (b, y) (sym (record_again format n 0 vectors first a x room are fa (first_epoch n vectors first a fa)) ∙ ap (record_at format n 0 vectors first) e ∙ record_again format n 0 vectors first b y room are fb (first_epoch n vectors first b fb)) in
     (ap (λ (p : Entry × List ℕ). p.0) same, ap (λ (p : Entry × List ℕ). p.1) same)

@@ -1,6 +1,6 @@
 -- How long records are.
 use Rattle.std.proofs.Common.{ℕ, suc, ◌+◌, ◌*◌, ◌^◌, ◌<◌, ◌≤◌, true, false, cond, ltb, List, [], ◌∷◌, ◌++◌, length, subst, sym, arith}
-use Rattle.std.specs.Int.{w16, w64, to_be_bytes}
+use Rattle.std.specs.Int.{w16, w32, w64, to_be_bytes}
 use Rattle.std.specs.List.{flat_map, AllByRecursion}
 use Rattle.std.proofs.lemmas.List.{length-append}
 use Rattle.std.proofs.lemmas.List.Concat.{flat_map-cons}
@@ -14,7 +14,7 @@ use Rattle.tau_record.specs.Item.{value, FitsValue, write, FitsWrite}
 use Rattle.tau_record.specs.Record.{origin, base_of, body, AreVectors, FitsBody}
 use Rattle.tau_record.proofs.VectorLaws.{explicit, explicit_cons, piece}
 use Rattle.tau_record.specs.declared.entry.Entry.{Entry}
-use Rattle.tau_record.specs.declared.entry.Entry.TheVariants.{Written, Command, Anchor, Catalogue}
+use Rattle.tau_record.specs.declared.entry.Entry.TheVariants.{Written, Command, Anchor, Catalogue, Epoch}
 
 pub explicit_len : (base dep : List ℕ) → length (explicit base dep) ≤ 8 * length base
 explicit_len [] dep = omega arith
@@ -75,3 +75,4 @@ size_fits f n vectors (Command number anchor dep call) le are h =
     omega (arith, length-append (origin f (base_of vectors anchor) number anchor dep) (to_be_bytes w16 call.proc ++ ((length call.args.items ∷ []) ++ flat_map value call.args.items)), origin_len f (base_of vectors anchor) number anchor dep base, args_len call.args.items h.3, h.2)
 size_fits f n vectors (Anchor lv) le are h = omega (arith, lv_len lv, h.0, le, streams_most f)
 size_fits f n vectors (Catalogue text) le are h = omega (arith, h.0)
+size_fits f n vectors (Epoch number lv) le are h = omega (arith, length-append (to_be_bytes w32 number) (flat_map (to_be_bytes w64) lv), lv_len lv, h.2, le, streams_most f)

@@ -10,7 +10,7 @@ use Rattle.tau_base.specs.Vectors.{AtMost}
 use Rattle.tau_base.specs.declared.value.Call.{Call}
 use Rattle.tau_base.specs.declared.value.Key.{Key}
 use Rattle.tau_base.specs.declared.value.Value.{Value}
-use Rattle.tau_record.specs.declared.entry.Entry.TheVariants.{Written, Command, Anchor}
+use Rattle.tau_record.specs.declared.entry.Entry.TheVariants.{Written, Command, Anchor, Epoch}
 use Rattle.tau_record.specs.Format.{Format, One, mask_width}
 use Rattle.tau_record.specs.Vector.{ArePlaces, mask_of}
 use Rattle.tau_record.specs.Item.{value, FitsValue, write, FitsWrite}
@@ -93,3 +93,15 @@ anchor_spells lv vectors size one two places is a b = record {
   fits = record { kind = refl; fields = (refl, places) };
   text = framed_is 3 size (flat_map (to_be_bytes w64) lv) one two (omega (arith, is, lv_len lv)) a b;
 }
+
+pub epoch_spells : (f : Format) (number : ℕ) (lv : List ℕ) (vectors : List (List ℕ)) (size : ℕ) (one two three : List ℕ) → 1 ≤ number → number < 2 ^ 32 → ArePlaces lv → size ≡ 4 + 8 * length lv
+    → one ≡ 5 ∷ to_be_bytes w32 (5 + size) → two ≡ one ++ to_be_bytes w32 number → three ≡ two ++ flat_map (to_be_bytes w64) lv → Spells f (length lv) vectors false (Epoch number lv) three
+epoch_spells f number lv vectors size one two three low fits is size_is a b c =
+    let head = to_be_bytes w32 number in
+    let list = flat_map (to_be_bytes w64) lv in
+    let len : size ≡ length (head ++ list) = omega (arith, size_is, lv_len lv, length-append head list) in
+    let parts : three ≡ one ++ (head ++ list) = c ∙ ap (λ (t : List ℕ). t ++ list) b ∙ append_assoc one head list in
+    record {
+      fits = record { kind = refl; fields = (low, fits, refl, is) };
+      text = framed_is 5 size (head ++ list) one three len a parts;
+    }

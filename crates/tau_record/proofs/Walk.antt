@@ -12,7 +12,7 @@ use Rattle.tau_record.specs.Field.{Fails}
 use Rattle.tau_record.specs.declared.fault.RecordRefusal.{RecordRefusal}
 use Rattle.tau_record.specs.declared.fault.RecordRefusal.TheVariants as refusals
 use Rattle.tau_record.specs.Format.{Format, most_streams}
-use Rattle.tau_record.specs.Record.{record_at, spelling, named, AreVectors}
+use Rattle.tau_record.specs.Record.{record_at, spelling, named, AreVectors, epoch_after}
 use Rattle.tau_record.specs.Content.{named_after, in_front, placed, records_at, content_at, GivesAll, IsContent, IsAnswer, FirstBad, refused}
 use Rattle.tau_record.proofs.FieldLaws.{IsBytes}
 use Rattle.tau_record.proofs.RecordLaws.{record_takes}
@@ -26,34 +26,34 @@ regroup : (front : List Placed) (p : Placed) (r : Result (List Placed) RecordFau
 regroup front p (Ok ps) = ap (λ (qs : List Placed). Ok qs) (sym (append_assoc front (p ∷ []) ps))
 regroup front p (Err e) = refl
 
-pub goes_on : (format : Format) (n count i at past : ℕ) (vectors : List (List ℕ)) (rest : List ℕ) (e : Entry) (after : List ℕ) (front : List Placed) (total : Result (List Placed) RecordFault)
-    → i < count → (length rest ≡ 0 → ⊥) → past ≡ at + (length rest - length after) → record_at format n vectors (eqb at 0) rest ≡ Ok (e, after)
-    → in_fronts front (records_at format n (count - i) at vectors rest) ≡ total → in_fronts (front ++ placed e at past ∷ []) (records_at format n (count - (i + 1)) past (named_after vectors e) after) ≡ total
+pub goes_on : (format : Format) (n count i at past k : ℕ) (vectors : List (List ℕ)) (rest : List ℕ) (e : Entry) (after : List ℕ) (front : List Placed) (total : Result (List Placed) RecordFault)
+    → i < count → (length rest ≡ 0 → ⊥) → past ≡ at + (length rest - length after) → record_at format n k vectors (eqb at 0) rest ≡ Ok (e, after)
+    → in_fronts front (records_at format n (count - i) at k vectors rest) ≡ total → in_fronts (front ++ placed e at past ∷ []) (records_at format n (count - (i + 1)) past (epoch_after k e) (named_after vectors e) after) ≡ total
 unfolding records_at
-goes_on format n count i at past vectors [] e after front total lt some is h so_far = absurd (some refl)
-goes_on format n count i at past vectors (b ∷ bytes) e after front total lt some is h so_far =
-    let k : count - i ≡ suc (count - (i + 1)) = omega arith in
+goes_on format n count i at past k vectors [] e after front total lt some is h so_far = absurd (some refl)
+goes_on format n count i at past k vectors (b ∷ bytes) e after front total lt some is h so_far =
+    let fuel : count - i ≡ suc (count - (i + 1)) = omega arith in
     let q = at + (length (b ∷ bytes) - length after) in
-    let one : in_fronts front (records_at format n (count - i) at vectors (b ∷ bytes)) ≡ in_fronts (front ++ placed e at q ∷ []) (records_at format n (count - (i + 1)) q (named_after vectors e) after)
-    = rw (k, h) (regroup front (placed e at q) (records_at format n (count - (i + 1)) q (named_after vectors e) after)) in
-    subst (λ (p : ℕ). in_fronts (front ++ placed e at p ∷ []) (records_at format n (count - (i + 1)) p (named_after vectors e) after) ≡ total) (sym is) (sym one ∙ so_far)
+    let one : in_fronts front (records_at format n (count - i) at k vectors (b ∷ bytes)) ≡ in_fronts (front ++ placed e at q ∷ []) (records_at format n (count - (i + 1)) q (epoch_after k e) (named_after vectors e) after)
+    = rw (fuel, h) (regroup front (placed e at q) (records_at format n (count - (i + 1)) q (epoch_after k e) (named_after vectors e) after)) in
+    subst (λ (p : ℕ). in_fronts (front ++ placed e at p ∷ []) (records_at format n (count - (i + 1)) p (epoch_after k e) (named_after vectors e) after) ≡ total) (sym is) (sym one ∙ so_far)
 
-pub ends : (format : Format) (n count i at : ℕ) (vectors : List (List ℕ)) (rest : List ℕ) (e : FieldError) (front : List Placed) (total : Result (List Placed) RecordFault)
-    → i < count → (length rest ≡ 0 → ⊥) → Fails e (record_at format n vectors (eqb at 0) rest)
-    → in_fronts front (records_at format n (count - i) at vectors rest) ≡ total → GivesAll (Err (refused at e)) total
+pub ends : (format : Format) (n count i at k : ℕ) (vectors : List (List ℕ)) (rest : List ℕ) (e : FieldError) (front : List Placed) (total : Result (List Placed) RecordFault)
+    → i < count → (length rest ≡ 0 → ⊥) → Fails e (record_at format n k vectors (eqb at 0) rest)
+    → in_fronts front (records_at format n (count - i) at k vectors rest) ≡ total → GivesAll (Err (refused at e)) total
 unfolding records_at
-ends format n count i at vectors [] e front total lt some h so_far = absurd (some refl)
-ends format n count i at vectors (b ∷ bytes) errors.Memory front total lt some h so_far = tt
-ends format n count i at vectors (b ∷ bytes) (errors.Bad cause) front total lt some h so_far =
-    let k : count - i ≡ suc (count - (i + 1)) = omega arith in
-    let one : in_fronts front (records_at format n (count - i) at vectors (b ∷ bytes)) ≡ Err (record { at = at; cause = cause }) = rw (k, h) refl in
+ends format n count i at k vectors [] e front total lt some h so_far = absurd (some refl)
+ends format n count i at k vectors (b ∷ bytes) errors.Memory front total lt some h so_far = tt
+ends format n count i at k vectors (b ∷ bytes) (errors.Bad cause) front total lt some h so_far =
+    let fuel : count - i ≡ suc (count - (i + 1)) = omega arith in
+    let one : in_fronts front (records_at format n (count - i) at k vectors (b ∷ bytes)) ≡ Err (record { at = at; cause = cause }) = rw (fuel, h) refl in
     sym so_far ∙ one
 
-pub is_done : (format : Format) (n fuel at : ℕ) (vectors : List (List ℕ)) (rest : List ℕ) (front : List Placed) (total : Result (List Placed) RecordFault)
-    → length rest ≡ 0 → in_fronts front (records_at format n fuel at vectors rest) ≡ total → total ≡ Ok front
+pub is_done : (format : Format) (n fuel at k : ℕ) (vectors : List (List ℕ)) (rest : List ℕ) (front : List Placed) (total : Result (List Placed) RecordFault)
+    → length rest ≡ 0 → in_fronts front (records_at format n fuel at k vectors rest) ≡ total → total ≡ Ok front
 unfolding records_at
-is_done format n fuel at vectors rest front total none so_far =
-    let one : in_fronts front (records_at format n fuel at vectors rest) ≡ Ok front = rw (nil_from_length rest none) (ap (λ (qs : List Placed). Ok qs) (append-nil front)) in
+is_done format n fuel at k vectors rest front total none so_far =
+    let one : in_fronts front (records_at format n fuel at k vectors rest) ≡ Ok front = rw (nil_from_length rest none) (ap (λ (qs : List Placed). Ok qs) (append-nil front)) in
     sym so_far ∙ one
 
 -- what a record that was read leaves
@@ -62,9 +62,9 @@ pub record Leaves (n : ℕ) (vectors : List (List ℕ)) (rest after : List ℕ) 
   pub bytes : IsBytes after
   pub are : AreVectors n (named_after vectors e)
 
-pub leaves : (format : Format) (n at : ℕ) (vectors : List (List ℕ)) (rest : List ℕ) (e : Entry) (after : List ℕ) → IsBytes rest → AreVectors n vectors → record_at format n vectors (eqb at 0) rest ≡ Ok (e, after) → Leaves n vectors rest after e
-leaves format n at vectors rest e after fits are h =
-    let t = record_takes format n vectors (eqb at 0) rest (e, after) fits are h in
+pub leaves : (format : Format) (n at k : ℕ) (vectors : List (List ℕ)) (rest : List ℕ) (e : Entry) (after : List ℕ) → IsBytes rest → AreVectors n vectors → record_at format n k vectors (eqb at 0) rest ≡ Ok (e, after) → Leaves n vectors rest after e
+leaves format n at k vectors rest e after fits are h =
+    let t = record_takes format n k vectors (eqb at 0) rest (e, after) fits are h in
     let lens : length rest ≡ length (spelling format vectors e) + length after = ap length t.0.parts ∙ length-append (spelling format vectors e) after in
     record { shorter = omega (arith, lens, spelling_long format vectors e); bytes = t.0.rest_fits; are = named_keep n vectors e are t.1.fields }
 
@@ -84,11 +84,11 @@ fronts_none : (r : Result (List Placed) RecordFault) → in_fronts [] r ≡ r
 fronts_none (Ok ps) = refl
 fronts_none (Err e) = refl
 
-pub starts : (format : Format) (n : ℕ) (content : List ℕ) (vectors : List (List ℕ)) (ps : List Placed) → vectors ≡ named n [] → ps ≡ [] → in_fronts ps (records_at format n (length content - 0) 0 vectors content) ≡ content_at format n content
+pub starts : (format : Format) (n : ℕ) (content : List ℕ) (vectors : List (List ℕ)) (ps : List Placed) → vectors ≡ named n [] → ps ≡ [] → in_fronts ps (records_at format n (length content - 0) 0 0 vectors content) ≡ content_at format n content
 unfolding content_at
 starts format n content vectors ps v p =
     let z : length content - 0 ≡ length content = omega arith in
-    rw (v, p, z) (fronts_none (records_at format n (length content) 0 (named n []) content))
+    rw (v, p, z) (fronts_none (records_at format n (length content) 0 0 (named n []) content))
 
 pub are_first : (n : ℕ) (vectors : List (List ℕ)) → vectors ≡ named n [] → AreVectors n vectors
 are_first n vectors v = subst (λ (vs : List (List ℕ)). AreVectors n vs) (sym v) (named_are n)

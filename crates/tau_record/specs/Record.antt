@@ -7,7 +7,7 @@ use Rattle.tau_base.specs.Database.{key_cmp}
 use Rattle.tau_base.specs.Vectors.{AtMost}
 use Rattle.tau_base.specs.declared.limits.TheConstants.{MAX_ARGS, MAX_CATALOGUE, MAX_LSN, MAX_WRITES}
 use Rattle.tau_record.specs.declared.entry.Entry.{Entry}
-use Rattle.tau_record.specs.declared.entry.Entry.TheVariants.{Written, Command, Anchor, Catalogue}
+use Rattle.tau_record.specs.declared.entry.Entry.TheVariants.{Written, Command, Anchor, Catalogue, Epoch}
 use Rattle.tau_record.specs.declared.fault.RecordCause.{RecordCause}
 use Rattle.tau_record.specs.declared.fault.RecordCause.TheVariants.{Short, BadKind, BadLength, BadAnchor, BadBody}
 use Rattle.tau_record.specs.Format.{Format}
@@ -37,12 +37,14 @@ kind_of (Written number anchor dep writes) = 1
 kind_of (Command number anchor dep call) = 2
 kind_of (Anchor lv) = 3
 kind_of (Catalogue text) = 4
+kind_of (Epoch number lv) = 5
 
 abbrev pub body : Format → List (List ℕ) → Entry → List ℕ
 body f vectors (Written number anchor dep writes) = origin f (base_of vectors anchor) number anchor dep ++ (to_be_bytes w16 (length writes) ++ flat_map write writes)
 body f vectors (Command number anchor dep call) = origin f (base_of vectors anchor) number anchor dep ++ (to_be_bytes w16 call.proc ++ ((length call.args.items ∷ []) ++ flat_map value call.args.items))
 body f vectors (Anchor lv) = flat_map (to_be_bytes w64) lv
 body f vectors (Catalogue text) = text
+body f vectors (Epoch number lv) = to_be_bytes w32 number ++ flat_map (to_be_bytes w64) lv
 
 -- a kind, the length of the whole record, and the fields
 abbrev pub framed : ℕ → List ℕ → List ℕ
@@ -68,11 +70,12 @@ FitsBody n vectors (Written number anchor dep writes) = FitsOrigin vectors numbe
 FitsBody n vectors (Command number anchor dep call) = FitsOrigin vectors number anchor dep × (call.proc < 2 ^ 16) × (length call.args.items ≤ MAX_ARGS) × AllByRecursion FitsValue call.args.items
 FitsBody n vectors (Anchor lv) = (length lv ≡ n) × ArePlaces lv
 FitsBody n vectors (Catalogue text) = (length text ≤ MAX_CATALOGUE) × ((i : ℕ) → slice_index_or text i 0 < 256)
+FitsBody n vectors (Epoch number lv) = (1 ≤ number) × (number < 2 ^ 32) × (length lv ≡ n) × ArePlaces lv
 
 -- the catalogue comes first, and no other record does
 abbrev pub kind_fits : Bool → ℕ → Bool
 kind_fits true kind = kind == 4
-kind_fits false kind = if nat_le 1 kind then nat_le kind 3 else false
+kind_fits false kind = if kind == 5 then true else (if nat_le 1 kind then nat_le kind 3 else false)
 
 -- a record that may stand here, first in its stream or after these anchors
 pub record Fits (n : ℕ) (vectors : List (List ℕ)) (first : Bool) (e : Entry) : Type 0 where
@@ -83,6 +86,24 @@ pub record Fits (n : ℕ) (vectors : List (List ℕ)) (first : Bool) (e : Entry)
 pub record Spells (f : Format) (n : ℕ) (vectors : List (List ℕ)) (first : Bool) (e : Entry) (bytes : List ℕ) : Type 0 where
   pub fits : Fits n vectors first e
   pub text : bytes ≡ spelling f vectors e
+
+-- The epochs of a stream. Their numbers rise: k is that of the last one before a record, or 0.
+
+-- the number of an epoch is above that of the last one
+abbrev pub IsNext : ℕ → Entry → Type 0
+IsNext k (Written number anchor dep writes) = Unit {0}
+IsNext k (Command number anchor dep call) = Unit {0}
+IsNext k (Anchor lv) = Unit {0}
+IsNext k (Catalogue text) = Unit {0}
+IsNext k (Epoch number lv) = k < number
+
+-- the number of the last epoch after this record
+abbrev pub epoch_after : ℕ → Entry → ℕ
+epoch_after k (Written number anchor dep writes) = k
+epoch_after k (Command number anchor dep call) = k
+epoch_after k (Anchor lv) = k
+epoch_after k (Catalogue text) = k
+epoch_after k (Epoch number lv) = number
 
 -- ---- the reading
 
@@ -113,16 +134,22 @@ lv_at zero bytes = Ok ([], bytes)
 lv_at (suc n) bytes = number_at w64 bytes >>= λ part.
     if nat_le MAX_LSN part.0 then Err BadBody else (lv_at n part.1 >>= λ v. Ok (part.0 ∷ v.0, v.1))
 
-unfoldable pub fields_at : Format → ℕ → List (List ℕ) → ℕ → List ℕ → Result (Entry × List ℕ) RecordCause
-fields_at f n vectors kind bytes =
+-- The number is tested once it is read. Above k it is at least 1.
+unfoldable pub epoch_at : ℕ → ℕ → List ℕ → Result (Entry × List ℕ) RecordCause
+epoch_at n k bytes = number_at w32 bytes >>= λ number.
+    if nat_le number.0 k then Err BadBody else (lv_at n number.1 >>= λ v. Ok (Epoch number.0 v.0, v.1))
+
+unfoldable pub fields_at : Format → ℕ → ℕ → List (List ℕ) → ℕ → List ℕ → Result (Entry × List ℕ) RecordCause
+fields_at f n k vectors kind bytes =
     if kind == 1 then written_at f vectors bytes else (
     if kind == 2 then command_at f vectors bytes else (
     if kind == 3 then (lv_at n bytes >>= λ v. Ok (Anchor v.0, v.1)) else (
-    if nat_lt MAX_CATALOGUE (length bytes) then Err BadBody else Ok (Catalogue bytes, []))))
+    if kind == 5 then epoch_at n k bytes else (
+    if nat_lt MAX_CATALOGUE (length bytes) then Err BadBody else Ok (Catalogue bytes, [])))))
 
 -- all of the fields
-unfoldable pub body_at : Format → ℕ → List (List ℕ) → ℕ → List ℕ → Result Entry RecordCause
-body_at f n vectors kind bytes = fields_at f n vectors kind bytes >>= λ x. if length x.1 == 0 then Ok x.0 else Err BadLength
+unfoldable pub body_at : Format → ℕ → ℕ → List (List ℕ) → ℕ → List ℕ → Result Entry RecordCause
+body_at f n k vectors kind bytes = fields_at f n k vectors kind bytes >>= λ x. if length x.1 == 0 then Ok x.0 else Err BadLength
 
 abbrev pub sized_at : ℕ → ℕ → List ℕ → Result ((ℕ × List ℕ) × List ℕ) RecordCause
 sized_at kind total left =
@@ -136,6 +163,6 @@ unfoldable pub frame_at : Bool → List ℕ → Result ((ℕ × List ℕ) × Lis
 frame_at first [] = Err Short
 frame_at first (kind ∷ bytes) = if kind_fits first kind then total_at w32 kind bytes else Err BadKind
 
--- a record and the bytes after it, or the cause of the first field that fails
-unfoldable pub record_at : Format → ℕ → List (List ℕ) → Bool → List ℕ → Result (Entry × List ℕ) RecordCause
-record_at f n vectors first bytes = frame_at first bytes >>= λ frame. body_at f n vectors frame.0.0 frame.0.1 >>= λ e. Ok (e, frame.1)
+-- a record after an epoch with number k and the bytes after it, or the cause of the first field that fails
+unfoldable pub record_at : Format → ℕ → ℕ → List (List ℕ) → Bool → List ℕ → Result (Entry × List ℕ) RecordCause
+record_at f n k vectors first bytes = frame_at first bytes >>= λ frame. body_at f n k vectors frame.0.0 frame.0.1 >>= λ e. Ok (e, frame.1)

@@ -4,7 +4,7 @@ ghost use Rattle.tau_base.specs.declared.limits.TheConstants.{MAX_STREAMS};
 ghost use Rattle.tau_record.specs.Field.{Gives};
 ghost use Rattle.tau_record.specs.Format.{One, most_streams};
 ghost use Rattle.tau_record.specs.Content.{puts, anchor_at, Joins, IsContent, IsAnswer, FirstBad, content_at, GivesAll};
-ghost use Rattle.tau_record.specs.Record.{written_at, command_at, fields_at};
+ghost use Rattle.tau_record.specs.Record.{written_at, command_at, epoch_at, fields_at};
 ghost use Rattle.tau_record.specs.declared.entry.Placed.{Placed};
 ghost use Rattle.tau_record.specs.declared.fault.RecordFault.{RecordFault};
 ghost use Rattle.tau_record.specs.declared.fault.RecordRefusal.TheVariants.{Bad};
@@ -13,7 +13,7 @@ use crate::dep::KeptLv;
 use crate::entry::{Entry, Placed};
 use crate::fault::{FieldError, RecordCause, RecordRefusal, refusal_at};
 use crate::format::Format;
-use crate::record::{command_of, frame_of, is_whole, lv_of, written_of};
+use crate::record::{command_of, epoch_of, frame_of, is_whole, lv_of, written_of};
 use arrayvec::ArrayVec;
 use std::alloc::Global;
 use tau_base::{Call, KeptCall, Key, Listed, Lv, MAX_CATALOGUE, Value};
@@ -41,22 +41,30 @@ impl Reading {
     }
 }
 
+/// What the records so far name: the zero vector and those of the anchors in order, and the number of the last epoch, or 0.
+#[derive(Drop)]
+struct Named {
+    vectors: Vec<Lv>,
+    number: u32,
+}
+
 /// Puts a data record after those before it.
 fn put_written(
     format: Format,
-    vectors: &[Lv],
+    named: &Named,
     fields: &[u8],
     start: u64,
     past: u64,
     placed: &mut Vec<Placed>,
     reading: &mut Reading,
 ) -> Result<(), FieldError>
-    ensures { Gives (λ _. (placed.new.items, vectors.now)) result (puts (written_at format vectors.now fields.now) vectors.now placed.old.items start past) }
+    ensures { Gives (λ _. (placed.new.items, named.now.vectors.items, named.now.number)) result
+        (puts (written_at format named.now.vectors.items fields.now) named.now.vectors.items named.now.number placed.old.items start past) }
 {
     let (number, anchor, dep, writes, rest) = written_of(
         reading.alloc,
         format,
-        vectors,
+        named.vectors.as_slice(),
         fields,
         &mut reading.dep,
         &mut reading.writes,
@@ -80,19 +88,20 @@ fn put_written(
 /// Puts a command record after those before it.
 fn put_command(
     format: Format,
-    vectors: &[Lv],
+    named: &Named,
     fields: &[u8],
     start: u64,
     past: u64,
     placed: &mut Vec<Placed>,
     reading: &mut Reading,
 ) -> Result<(), FieldError>
-    ensures { Gives (λ _. (placed.new.items, vectors.now)) result (puts (command_at format vectors.now fields.now) vectors.now placed.old.items start past) }
+    ensures { Gives (λ _. (placed.new.items, named.now.vectors.items, named.now.number)) result
+        (puts (command_at format named.now.vectors.items fields.now) named.now.vectors.items named.now.number placed.old.items start past) }
 {
     let (number, anchor, dep, rest) = command_of(
         reading.alloc,
         format,
-        vectors,
+        named.vectors.as_slice(),
         fields,
         &mut reading.dep,
         &mut reading.call,
@@ -121,12 +130,13 @@ fn put_anchor(
     fields: &[u8],
     start: u64,
     past: u64,
-    vectors: &mut Vec<Lv>,
+    named: &mut Named,
     placed: &mut Vec<Placed>,
 ) -> Result<(), FieldError>
     requires low { 1 ≤ n }
     requires high { n ≤ MAX_STREAMS }
-    ensures { Gives (λ _. (placed.new.items, vectors.new.items)) result (puts (anchor_at n fields.now) vectors.old.items placed.old.items start past) }
+    ensures { Gives (λ _. (placed.new.items, named.new.vectors.items, named.new.number)) result
+        (puts (anchor_at n fields.now) named.old.vectors.items named.old.number placed.old.items start past) }
 {
     match lv_of(n, fields) {
         Err(e) => Err(e),
@@ -135,12 +145,45 @@ fn put_anchor(
                 return Err(FieldError::Bad(RecordCause::BadLength));
             }
             let kept = KeptLv::of(alloc, &lv)?;
-            vectors.push(lv)?;
+            named.vectors.push(lv)?;
             placed.push(Placed {
                 entry: Entry::Anchor { lv: kept },
                 start,
                 past,
             })?;
+            Ok(())
+        }
+    }
+}
+
+/// Puts an epoch after the records before it.
+fn put_epoch(
+    alloc: Global,
+    n: usize,
+    fields: &[u8],
+    start: u64,
+    past: u64,
+    named: &mut Named,
+    placed: &mut Vec<Placed>,
+) -> Result<(), FieldError>
+    requires low { 1 ≤ n }
+    requires high { n ≤ MAX_STREAMS }
+    ensures { Gives (λ _. (placed.new.items, named.new.vectors.items, named.new.number)) result
+        (puts (epoch_at n named.old.number fields.now) named.old.vectors.items named.old.number placed.old.items start past) }
+{
+    match epoch_of(n, named.number, fields) {
+        Err(e) => Err(e),
+        Ok((number, lv, rest)) => {
+            if !is_whole(rest) {
+                return Err(FieldError::Bad(RecordCause::BadLength));
+            }
+            let kept = KeptLv::of(alloc, &lv)?;
+            placed.push(Placed {
+                entry: Entry::Epoch { number, lv: kept },
+                start,
+                past,
+            })?;
+            named.number = number;
             Ok(())
         }
     }
@@ -155,38 +198,26 @@ fn put_fields(
     fields: &[u8],
     start: u64,
     past: u64,
-    vectors: &mut Vec<Lv>,
+    named: &mut Named,
     placed: &mut Vec<Placed>,
     reading: &mut Reading,
 ) -> Result<(), FieldError>
     requires low { 1 ≤ n }
     requires high { n ≤ MAX_STREAMS }
-    ensures { Gives (λ _. (placed.new.items, vectors.new.items)) result (puts (fields_at format n vectors.old.items kind fields.now) vectors.old.items placed.old.items start past) }
+    ensures { Gives (λ _. (placed.new.items, named.new.vectors.items, named.new.number)) result
+        (puts (fields_at format n named.old.number named.old.vectors.items kind fields.now) named.old.vectors.items named.old.number placed.old.items start past) }
 {
     if kind == 1 {
-        return put_written(
-            format,
-            vectors.as_slice(),
-            fields,
-            start,
-            past,
-            placed,
-            reading,
-        );
+        return put_written(format, named, fields, start, past, placed, reading);
     }
     if kind == 2 {
-        return put_command(
-            format,
-            vectors.as_slice(),
-            fields,
-            start,
-            past,
-            placed,
-            reading,
-        );
+        return put_command(format, named, fields, start, past, placed, reading);
     }
     if kind == 3 {
-        return put_anchor(reading.alloc, n, fields, start, past, vectors, placed);
+        return put_anchor(reading.alloc, n, fields, start, past, named, placed);
+    }
+    if kind == 5 {
+        return put_epoch(reading.alloc, n, fields, start, past, named, placed);
     }
     if fields.len() > MAX_CATALOGUE {
         return Err(FieldError::Bad(RecordCause::BadBody));
@@ -209,18 +240,18 @@ fn put_record<'a>(
     n: usize,
     at: u64,
     bytes: &'a [u8],
-    vectors: &mut Vec<Lv>,
+    named: &mut Named,
     placed: &mut Vec<Placed>,
     reading: &mut Reading,
 ) -> Result<&'a [u8], FieldError>
     requires low { 1 ≤ n }
     requires high { n ≤ MAX_STREAMS }
     requires fits { at + length bytes.now < 2 ^ 64 }
-    ensures { Joins (λ x. x.now) format n at vectors.old.items vectors.new.items bytes.now placed.old.items placed.new.items result }
+    ensures { Joins (λ x. x.now) format n at named.old.number named.new.number named.old.vectors.items named.new.vectors.items bytes.now placed.old.items placed.new.items result }
 {
     let (kind, fields, after) = frame_of(at == 0, bytes)?;
     let past = at + (bytes.len() - after.len()) as u64;
-    put_fields(format, n, kind, fields, at, past, vectors, placed, reading)?;
+    put_fields(format, n, kind, fields, at, past, named, placed, reading)?;
     Ok(after)
 }
 
@@ -236,6 +267,7 @@ fn records(
 {
     let mut vectors = Vec::new(alloc);
     vectors.push(Lv::zero(n))?;
+    let mut named = Named { vectors, number: 0 };
     let mut placed = Vec::new(alloc);
     let mut reading = Reading::new(alloc);
     let mut at: u64 = 0;
@@ -244,7 +276,7 @@ fn records(
         if rest.is_empty() {
             return Ok(placed);
         }
-        match put_record(format, n, at, rest, &mut vectors, &mut placed, &mut reading) {
+        match put_record(format, n, at, rest, &mut named, &mut placed, &mut reading) {
             Err(e) => return Err(refusal_at(at, e)),
             Ok(after) => {
                 let past = at + (rest.len() - after.len()) as u64;

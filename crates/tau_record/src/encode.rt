@@ -7,7 +7,7 @@ ghost use Rattle.tau_base.specs.Vectors.{AtMost};
 ghost use Rattle.tau_record.specs.Format.{One, Two, most_streams};
 ghost use Rattle.tau_record.specs.Record.{origin, base_of, Spells};
 ghost use Rattle.tau_record.specs.Vector.{ArePlaces};
-ghost use Rattle.tau_record.specs.declared.entry.Entry.TheVariants.{Written, Command, Anchor, Catalogue};
+ghost use Rattle.tau_record.specs.declared.entry.Entry.TheVariants.{Written, Command, Anchor, Catalogue, Epoch};
 
 use crate::format::Format;
 use crate::item::{args_size, put_args, put_writes, writes_size};
@@ -214,6 +214,25 @@ pub fn encode_anchor(alloc: Global, lv: &Lv) -> Result<Vec<u8>, NoMemory>
     ensures { IfOk result (λ v. (vectors : List (List ℕ)) → Spells One (length lv.now) vectors false (Anchor lv.now) v.items) }
 {
     Ok(anchor_bytes(alloc, lv)?)
+}
+
+fn epoch_bytes(alloc: Global, number: u32, lv: &Lv) -> Result<Vec<u8>, AllocError>
+    requires { 1 ≤ number }
+    ensures { IfOk result (λ v. (f : Format) (vectors : List (List ℕ)) → Spells f (length lv.now) vectors false (Epoch number lv.now) v.items) }
+{
+    let mut out = begin(alloc, 5, 4 + 8 * lv.width())?;
+    out.extend_from_slice(&number.to_be_bytes())?;
+    put_lv(&mut out, lv)?;
+    Ok(out)
+}
+
+/// An epoch with this number that holds the vector.
+pub fn encode_epoch(alloc: Global, number: u32, lv: &Lv) -> Result<Vec<u8>, NoMemory>
+    requires { 1 ≤ number }
+    // The one spelling in each format, after any anchors.
+    ensures { IfOk result (λ v. (f : Format) (vectors : List (List ℕ)) → Spells f (length lv.now) vectors false (Epoch number lv.now) v.items) }
+{
+    Ok(epoch_bytes(alloc, number, lv)?)
 }
 
 fn catalogue_bytes(alloc: Global, text: &[u8]) -> Result<Vec<u8>, AllocError>

@@ -38,6 +38,13 @@ pub enum Entry {
         /// Their text, of at most 32,768 bytes.
         text: Listed<u8>,
     },
+    /// The mark of a run that began on a log: the records after it in its stream are of its epoch.
+    Epoch {
+        /// Its number, from 1, above that of each earlier epoch of the stream.
+        number: u32,
+        /// How much of each stream the run began on.
+        lv: KeptLv,
+    },
 }
 
 /// A record with its place in the content of its stream.

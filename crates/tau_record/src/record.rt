@@ -3,8 +3,8 @@
 ghost use Rattle.std.specs.Prelude.{◌≡◌, ◌≤◌, ◌==◌, length};
 ghost use Rattle.tau_base.specs.declared.limits.TheConstants.{MAX_STREAMS};
 ghost use Rattle.tau_record.specs.Field.{Gives};
-ghost use Rattle.tau_record.specs.Record.{origin_at, written_at, command_at, lv_at, kind_fits, frame_at};
-ghost use Rattle.tau_record.specs.declared.entry.Entry.TheVariants.{Written, Command};
+ghost use Rattle.tau_record.specs.Record.{origin_at, written_at, command_at, lv_at, epoch_at, kind_fits, frame_at};
+ghost use Rattle.tau_record.specs.declared.entry.Entry.TheVariants.{Written, Command, Epoch};
 
 use crate::dep::KeptLv;
 use crate::fault::{FieldError, RecordCause};
@@ -88,7 +88,7 @@ pub(crate) fn command_of<'a>(
     Ok((number, anchor, dep, rest))
 }
 
-/// The vector of an anchor.
+/// The vector of an anchor or of an epoch.
 pub(crate) fn lv_of(n: usize, bytes: &[u8]) -> Result<(Lv, &[u8]), FieldError>
     requires low { 1 ≤ n }
     requires high { n ≤ MAX_STREAMS }
@@ -107,6 +107,23 @@ pub(crate) fn lv_of(n: usize, bytes: &[u8]) -> Result<(Lv, &[u8]), FieldError>
     Ok((lv, rest))
 }
 
+/// The number of an epoch, which is above that of the last one, and its vector.
+#[tactic(auto, unfolding(crate::specs::Record::epoch_at))]
+pub(crate) fn epoch_of(n: usize, last: u32, bytes: &[u8]) -> Result<(u32, Lv, &[u8]), FieldError>
+    requires low { 1 ≤ n }
+    requires high { n ≤ MAX_STREAMS }
+    ensures { Gives (λ x. (Epoch x.0 x.1, x.2.now)) result (epoch_at n last bytes.now) }
+{
+    let (number, rest) = u32_of(bytes)?;
+    if number <= last {
+        return Err(FieldError::Bad(RecordCause::BadBody));
+    }
+    match lv_of(n, rest) {
+        Err(e) => Err(e),
+        Ok((lv, rest)) => Ok((number, lv, rest)),
+    }
+}
+
 /// Whether the fields of a record take all of its bytes: nothing is left after them.
 pub(crate) fn is_whole(rest: &[u8]) -> bool
     ensures { result ≡ (length rest.now == 0) }
@@ -119,6 +136,8 @@ fn is_kind(first: bool, kind: u8) -> bool
 {
     if first {
         kind == 4
+    } else if kind == 5 {
+        true
     } else if 1 <= kind {
         kind <= 3
     } else {

@@ -16,6 +16,7 @@ use Rattle.tau_model.proofs.Replays.{Going, ready_exists}
 use Rattle.tau_scan.specs.declared.log.Log.{Log}
 use Rattle.tau_scan.specs.Reading.{IsLog}
 use Rattle.tau_scan.specs.Taken.{Kept, taken}
+use Rattle.tau_scan.specs.Epochs.{judge_of}
 use Rattle.tau_pool.specs.Item.{Item}
 use Rattle.tau_pool.specs.declared.item.Job.{Job}
 use Rattle.tau_pool.specs.declared.item.Stage.{Stage}
@@ -199,7 +200,7 @@ get_of log (q ∷ rs) (y ∷ ys) (suc i) r all is = get_of log rs ys i r all.1 i
 pub taken_behind : (log : Log) → IsLog log → (m i : ℕ) (a b : Kept) → slice_get (taken log) m ≡ Some a → slice_get (taken log) i ≡ Some b → m < i →
     (a.place.stream < b.place.stream) ⊎ ((a.place.stream ≡ b.place.stream) × (a.place.start < b.place.start))
 taken_behind log l m i a b at there lt =
-    let xs = items_from log.elv 0 log.streams in
+    let xs = items_from (judge_of log) 0 log.streams in
     let (x, x_at, of_x) = get_of log (taken log) xs m a (of_taken log) at in
     let (y, y_at, of_y) = get_of log (taken log) xs i b (of_taken log) there in
     elim (ordered_at xs m i x y (of_log log l).0 x_at y_at lt) [

@@ -1,24 +1,27 @@
 -- The taken records of a log, and their items.
-use Rattle.std.proofs.Common.{ℕ, suc, ◌≡◌, ◌+◌, inl, inr, Bool, true, false, List, [], ◌∷◌, ◌++◌, refl, sym, ap, subst, ◌∙◌, arith}
+use Rattle.std.proofs.Common.{ℕ, suc, ◌≡◌, ◌+◌, inl, inr, Bool, true, false, List, [], ◌∷◌, ◌++◌, refl, ap, subst, ◌∙◌, arith}
 use Rattle.std.specs.Prelude.{Some, slice_get, if◌then◌else◌}
 use Rattle.std.specs.List.{filter}
-use Rattle.std.proofs.lemmas.List.Elements.{filter-append}
 use Rattle.tau_base.specs.Vectors.{AtMost, covers}
-use Rattle.tau_base.proofs.Vectors.{covers_at_most}
 use Rattle.tau_model.specs.History.{Member}
 use Rattle.tau_record.specs.declared.entry.Entry.{Entry}
-use Rattle.tau_record.specs.declared.entry.Entry.TheVariants.{Written, Command, Anchor, Catalogue}
+use Rattle.tau_record.specs.declared.entry.Entry.TheVariants.{Written, Command, Anchor, Catalogue, Epoch}
 use Rattle.tau_record.specs.declared.entry.Placed.{Placed}
+use Rattle.tau_record.specs.Record.{epoch_after}
 use Rattle.tau_scan.specs.declared.log.Log.{Log}
-use Rattle.tau_scan.specs.Taken.{Kept, kept_as, kept_in, kept_from, taken}
+use Rattle.tau_scan.specs.Epochs.{marks_of, judge_of}
+use Rattle.tau_scan.specs.Taken.{Kept, kept_as, taken_in, taken_from, taken}
+use Rattle.tau_scan.proofs.Known.{judged_low}
 use Rattle.tau_pool.specs.Item.{Item}
 use Rattle.tau_pool.specs.declared.item.Stage.TheVariants.{Waiting, Flying, Finished}
 use Rattle.tau_pool.specs.declared.item.Stage.{Stage}
 use Rattle.tau_pool.specs.Items.{is_left, is_waiting, dep_of, item_as, with_item, items_in, items_from}
+use Rattle.tau_pool.proofs.Gets.{member_either}
 use Rattle.tau_replay.specs.Recovering.{AreOf, left_in}
 
-abbrev is_kept : Log → Kept → Bool
-is_kept log r = covers log.elv r.place.dep
+-- whether the vector covers that of the record
+abbrev is_kept : List ℕ → Kept → Bool
+is_kept lv r = covers lv r.place.dep
 
 are_append : (log : Log) (rs qs : List Kept) (xs ys : List Item) → AreOf log rs xs → AreOf log qs ys → AreOf log (rs ++ qs) (xs ++ ys)
 are_append log [] qs [] ys a b = b
@@ -26,38 +29,38 @@ are_append log [] qs (x ∷ xs) ys a b = absurd a
 are_append log (r ∷ rs) qs [] ys a b = absurd a
 are_append log (r ∷ rs) qs (x ∷ xs) ys a b = (a.0, are_append log rs qs xs ys a.1 b)
 
-one_kept : (log : Log) (j i : ℕ) (records : List Placed) (p : Placed) (ks : List Kept) (xs : List Item) → slice_get log.streams j ≡ Some records → slice_get records i ≡ Some p → AreOf log (filter (is_kept log) ks) xs →
-    (e : Entry) → p.entry ≡ e → AreOf log (filter (is_kept log) (kept_as j p e ++ ks)) (with_item (item_as log.elv j i p.start (dep_of e)) xs)
-one_kept log j i records p ks xs stream there rest (Anchor lv) is = rest
-one_kept log j i records p ks xs stream there rest (Catalogue text) is = rest
-one_kept log j i records p ks xs stream there rest (Written number anchor dep writes) is = by_test (covers log.elv dep) refl
+one_kept : (log : Log) (lv : List ℕ) (j i : ℕ) (records : List Placed) (p : Placed) (rs : List Kept) (xs : List Item) → slice_get log.streams j ≡ Some records → slice_get records i ≡ Some p → AreOf log rs xs →
+    (e : Entry) → p.entry ≡ e → AreOf log (filter (is_kept lv) (kept_as j p e) ++ rs) (with_item (item_as lv j i p.start (dep_of e)) xs)
+one_kept log lv j i records p rs xs stream there rest (Anchor v) is = rest
+one_kept log lv j i records p rs xs stream there rest (Catalogue text) is = rest
+one_kept log lv j i records p rs xs stream there rest (Epoch number v) is = rest
+one_kept log lv j i records p rs xs stream there rest (Written number anchor dep writes) is = by_test (covers lv dep) refl
   where
-    by_test : (b : Bool) → covers log.elv dep ≡ b → AreOf log (filter (is_kept log) (kept_as j p (Written number anchor dep writes) ++ ks)) (with_item (item_as log.elv j i p.start (Some dep)) xs)
+    by_test : (b : Bool) → covers lv dep ≡ b → AreOf log (filter (is_kept lv) (kept_as j p (Written number anchor dep writes)) ++ rs) (with_item (item_as lv j i p.start (Some dep)) xs)
     by_test true c = rw c (record { stream = refl; start = refl; dep = refl; stands = record { records = records; placed = p; stream = stream; there = there; is = ap (λ (e : Entry). kept_as j p e) is } }, rest)
     by_test false c = rw c rest
-one_kept log j i records p ks xs stream there rest (Command number anchor dep call) is = by_test (covers log.elv dep) refl
+one_kept log lv j i records p rs xs stream there rest (Command number anchor dep call) is = by_test (covers lv dep) refl
   where
-    by_test : (b : Bool) → covers log.elv dep ≡ b → AreOf log (filter (is_kept log) (kept_as j p (Command number anchor dep call) ++ ks)) (with_item (item_as log.elv j i p.start (Some dep)) xs)
+    by_test : (b : Bool) → covers lv dep ≡ b → AreOf log (filter (is_kept lv) (kept_as j p (Command number anchor dep call)) ++ rs) (with_item (item_as lv j i p.start (Some dep)) xs)
     by_test true c = rw c (record { stream = refl; start = refl; dep = refl; stands = record { records = records; placed = p; stream = stream; there = there; is = ap (λ (e : Entry). kept_as j p e) is } }, rest)
     by_test false c = rw c rest
 
-of_stream : (log : Log) (j i : ℕ) (records rest : List Placed) → slice_get log.streams j ≡ Some records → ((k : ℕ) → slice_get records (i + k) ≡ slice_get rest k) →
-    AreOf log (filter (is_kept log) (kept_in j rest)) (items_in log.elv j i rest)
-of_stream log j i records [] stream at = tt
-of_stream log j i records (p ∷ ps) stream at =
-    one_kept log j i records p (kept_in j ps) (items_in log.elv j (suc i) ps) stream (ap (λ (n : ℕ). slice_get records n) (omega arith) ∙ at 0)
-    (of_stream log j (suc i) records ps stream (λ k. ap (λ (n : ℕ). slice_get records n) (omega arith) ∙ at (suc k))) p.entry refl
+of_stream : (log : Log) (judge : ℕ → List ℕ) (j k i : ℕ) (records rest : List Placed) → slice_get log.streams j ≡ Some records → ((m : ℕ) → slice_get records (i + m) ≡ slice_get rest m) →
+    AreOf log (taken_in judge j k rest) (items_in judge j k i rest)
+of_stream log judge j k i records [] stream at = tt
+of_stream log judge j k i records (p ∷ ps) stream at =
+    one_kept log (judge k) j i records p (taken_in judge j (epoch_after k p.entry) ps) (items_in judge j (epoch_after k p.entry) (suc i) ps) stream (ap (λ (n : ℕ). slice_get records n) (omega arith) ∙ at 0)
+    (of_stream log judge j (epoch_after k p.entry) (suc i) records ps stream (λ m. ap (λ (n : ℕ). slice_get records n) (omega arith) ∙ at (suc m))) p.entry refl
 
-of_streams : (log : Log) (j : ℕ) (streams : List (List Placed)) → ((k : ℕ) → slice_get log.streams (j + k) ≡ slice_get streams k) → AreOf log (filter (is_kept log) (kept_from j streams)) (items_from log.elv j streams)
-of_streams log j [] at = tt
-of_streams log j (ps ∷ streams) at =
-    subst (λ (rs : List Kept). AreOf log rs (items_from log.elv j (ps ∷ streams))) (sym (filter-append (is_kept log) (kept_in j ps) (kept_from (suc j) streams)))
-    (are_append log (filter (is_kept log) (kept_in j ps)) (filter (is_kept log) (kept_from (suc j) streams)) (items_in log.elv j 0 ps) (items_from log.elv (suc j) streams)
-    (of_stream log j 0 ps ps (ap (λ (n : ℕ). slice_get log.streams n) (omega arith) ∙ at 0) (λ k. ap (λ (n : ℕ). slice_get ps n) (omega arith)))
-    (of_streams log (suc j) streams (λ k. ap (λ (n : ℕ). slice_get log.streams n) (omega arith) ∙ at (suc k))))
+of_streams : (log : Log) (judge : ℕ → List ℕ) (j : ℕ) (streams : List (List Placed)) → ((m : ℕ) → slice_get log.streams (j + m) ≡ slice_get streams m) → AreOf log (taken_from judge j streams) (items_from judge j streams)
+of_streams log judge j [] at = tt
+of_streams log judge j (ps ∷ streams) at =
+    are_append log (taken_in judge j 0 ps) (taken_from judge (suc j) streams) (items_in judge j 0 0 ps) (items_from judge (suc j) streams)
+    (of_stream log judge j 0 0 ps ps (ap (λ (n : ℕ). slice_get log.streams n) (omega arith) ∙ at 0) (λ m. ap (λ (n : ℕ). slice_get ps n) (omega arith)))
+    (of_streams log judge (suc j) streams (λ m. ap (λ (n : ℕ). slice_get log.streams n) (omega arith) ∙ at (suc m)))
 
-pub of_taken : (log : Log) → AreOf log (taken log) (items_from log.elv 0 log.streams)
-of_taken log = of_streams log 0 log.streams (λ k. ap (λ (n : ℕ). slice_get log.streams n) (omega arith))
+pub of_taken : (log : Log) → AreOf log (taken log) (items_from (judge_of log) 0 log.streams)
+of_taken log = of_streams log (judge_of log) 0 log.streams (λ m. ap (λ (n : ℕ). slice_get log.streams n) (omega arith))
 
 pub all_left : (log : Log) (rs : List Kept) (xs : List Item) → AreOf log rs xs → ((x : Item) → Member x xs → is_waiting x.stage ≡ true) → left_in rs xs ≡ rs
 all_left log [] xs all w = refl
@@ -79,5 +82,17 @@ kept_passes p (y ∷ ys) x m = by_test (λ n. kept_passes p ys x n) (p y) refl m
     by_test more true e m = elim (subst (λ (b : Bool). Member x (if b then y ∷ filter p ys else filter p ys)) e m) [ inl is ↦ subst (λ z. p z ≡ true) is e | inr n ↦ more n ]
     by_test more false e m = more (subst (λ (b : Bool). Member x (if b then y ∷ filter p ys else filter p ys)) e m)
 
+-- a taken record is covered by the vector of some epoch
+in_stream : (judge : ℕ → List ℕ) (j k : ℕ) (ps : List Placed) (r : Kept) → Member r (taken_in judge j k ps) → (n : ℕ) × (covers (judge n) r.place.dep ≡ true)
+in_stream judge j k [] r m = absurd m
+in_stream judge j k (p ∷ ps) r m = elim (member_either (filter (is_kept (judge k)) (kept_as j p p.entry)) (taken_in judge j (epoch_after k p.entry) ps) r m) [
+  | inl n ↦ (k, kept_passes (is_kept (judge k)) (kept_as j p p.entry) r n)
+  | inr n ↦ in_stream judge j (epoch_after k p.entry) ps r n
+]
+
+in_streams : (judge : ℕ → List ℕ) (j : ℕ) (streams : List (List Placed)) (r : Kept) → Member r (taken_from judge j streams) → (n : ℕ) × (covers (judge n) r.place.dep ≡ true)
+in_streams judge j [] r m = absurd m
+in_streams judge j (ps ∷ streams) r m = elim (member_either (taken_in judge j 0 ps) (taken_from judge (suc j) streams) r m) [ inl n ↦ in_stream judge j 0 ps r n | inr n ↦ in_streams judge (suc j) streams r n ]
+
 pub taken_covered : (log : Log) (r : Kept) → Member r (taken log) → AtMost r.place.dep log.elv
-taken_covered log r m = covers_at_most log.elv r.place.dep (kept_passes (is_kept log) (kept_from 0 log.streams) r m)
+taken_covered log r m = let (k, covered) = in_streams (judge_of log) 0 log.streams r m in judged_low log.elv (marks_of log) k r.place.dep covered

@@ -8,6 +8,7 @@ use Rattle.tau_model.specs.Store.{database}
 use Rattle.tau_model.specs.Tables.{IsTablesOf}
 use Rattle.tau_scan.specs.declared.log.Log.{Log}
 use Rattle.tau_scan.specs.Taken.{Kept}
+use Rattle.tau_scan.specs.Epochs.{judge_of}
 use Rattle.tau_pool.specs.declared.item.Job.{Job}
 use Rattle.tau_pool.specs.Item.{Item}
 use Rattle.tau_pool.specs.Items.{is_left, items_from}
@@ -23,7 +24,7 @@ pub record Worked : Type 0 where
 
 -- before the first turn: nothing is started, and sixteen workers have nothing in flight
 pub record IsUnstarted (log : Log) (s : Worked) : Type 0 where
-  pub items : s.pools.items ≡ items_from log.elv 0 log.streams
+  pub items : s.pools.items ≡ items_from (judge_of log) 0 log.streams
   pub ends : s.pools.ends ≡ log.elv
   pub recovered : IsRecovered s.pools.ends s.pools.rlv s.pools.items
   pub hands : s.hands ≡ replicate 16 None

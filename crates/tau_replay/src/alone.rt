@@ -4,7 +4,6 @@ ghost use Rattle.tau_pool.specs.Pooled.{NoneReady};
 ghost use Rattle.tau_replay.specs.Sound.{IsSound};
 ghost use Rattle.tau_replay.specs.Way.{left_of};
 
-use crate::outcome::Outcome;
 use crate::turns::{Replay, finish, start};
 use tau_base::NoMemory;
 use tau_disk::{Gate, Place};
@@ -23,10 +22,8 @@ fn redo_next<G: Gate>(log: &Log, replay: &mut Replay, gate: &G) -> Result<bool, 
     match start(log, replay, 0) {
         Next::Taken(job) => {
             gate.at(Place::Replay { worker: 0 });
-            match finish(log, replay, 0, &Outcome::anew(log, job)) {
-                Ok(()) => Ok(true),
-                Err(_) => Err(NoMemory),
-            }
+            finish(log, replay, 0, job)?;
+            Ok(true)
         }
         Next::NotYet => Ok(false),
         Next::Done => Ok(false),

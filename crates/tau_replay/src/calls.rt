@@ -111,6 +111,7 @@ fn try_entry<R: Wait>(
         Entry::Written { .. } => false,
         Entry::Anchor { .. } => false,
         Entry::Catalogue { .. } => false,
+        Entry::Epoch { .. } => false,
     }
 }
 

@@ -52,6 +52,7 @@ fn redo_entry(
         Entry::Command { call, .. } => redo_call(log, store, call, scratch),
         Entry::Anchor { .. } => Ok(()),
         Entry::Catalogue { .. } => Ok(()),
+        Entry::Epoch { .. } => Ok(()),
     }
 }
 

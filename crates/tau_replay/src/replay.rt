@@ -46,10 +46,7 @@ fn round(log: &Log, replay: &mut Replay, from: usize) -> Result<(), NoMemory>
     ensures followed { (turns : List ℕ) → Followed log.now turns replay.old → OnOk result (Followed log.now (turns ++ workers_from from) replay.new) }
 {
     for worker in from..16 {
-        match turn(log, replay, worker) {
-            Ok(()) => {}
-            Err(_) => return Err(NoMemory),
-        }
+        turn(log, replay, worker)?;
     }
     Ok(())
 }

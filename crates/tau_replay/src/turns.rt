@@ -8,6 +8,7 @@ ghost use Rattle.tau_replay.specs.Sound.{AreWorking};
 ghost use Rattle.tau_replay.specs.Way.{IsOnWay, left_of};
 
 use crate::outcome::{Outcome, Scratch, apply};
+use crate::redo::redo;
 use tau_base::NoMemory;
 use tau_model::SerialStore;
 use tau_pool::{Job, Next, Pools};
@@ -85,36 +86,24 @@ pub fn finish_at(
     ensures hand { OnOk result (replay.new.hands.items ≡ slice_set replay.old.hands.items hand None) }
     ensures err { OnErr result (replay.new.hands.items ≡ replay.old.hands.items) }
 {
-    match apply(log, &mut replay.store, outcome, &mut replay.scratch) {
-        Ok(()) => {}
-        Err(_) => return Err(NoMemory),
-    }
+    apply(log, &mut replay.store, outcome, &mut replay.scratch)?;
     replay.pools.finish(outcome.job);
     replay.hands[hand] = None;
     Ok(())
 }
 
 /// Finishes what a worker has in flight. If memory is refused nothing changes.
-pub fn finish(
-    log: &Log,
-    replay: &mut Replay,
-    worker: usize,
-    outcome: &Outcome,
-) -> Result<(), NoMemory>
-    requires of_log { outcome.now.log.value ≡ log.now }
+pub fn finish(log: &Log, replay: &mut Replay, worker: usize, job: Job) -> Result<(), NoMemory>
     requires going { IsOnWay log.now replay.old }
-    requires busy { slice_get replay.old.hands.items worker ≡ Some (Some outcome.now.job) }
+    requires busy { slice_get replay.old.hands.items worker ≡ Some (Some job) }
     ensures going { OnOk result (IsOnWay log.now replay.new) }
     ensures less { OnOk result (left_of replay.new < left_of replay.old) }
     ensures hand { OnOk result (replay.new.hands.items ≡ slice_set replay.old.hands.items worker None) }
     ensures followed { (turns : List ℕ) → Followed log.now turns replay.old → OnOk result (Followed log.now (turns ++ worker ∷ []) replay.new) }
     ensures err { OnErr result ((replay.new.pools ≡ replay.old.pools) × (replay.new.hands.items ≡ replay.old.hands.items) × (database replay.new.store ≡ database replay.old.store)) }
 {
-    match apply(log, &mut replay.store, outcome, &mut replay.scratch) {
-        Ok(()) => {}
-        Err(_) => return Err(NoMemory),
-    }
-    replay.pools.finish(outcome.job);
+    redo(log, &mut replay.store, job, &mut replay.scratch)?;
+    replay.pools.finish(job);
     replay.hands[worker] = None;
     Ok(())
 }
@@ -130,7 +119,7 @@ pub fn turn(log: &Log, replay: &mut Replay, worker: usize) -> Result<(), NoMemor
     ensures followed { (turns : List ℕ) → Followed log.now turns replay.old → OnOk result (Followed log.now (turns ++ worker ∷ []) replay.new) }
 {
     match replay.hands[worker] {
-        Some(job) => finish(log, replay, worker, &Outcome::anew(log, job)),
+        Some(job) => finish(log, replay, worker, job),
         None => {
             let _ = start(log, replay, worker);
             Ok(())

@@ -2,7 +2,8 @@
 ghost use Rattle.std.specs.Prelude.{ℕ, [], ◌∷◌, ◌≡◌, ◌++◌, OnOk, IfOk, codes, decimal, if◌then◌else◌};
 ghost use Rattle.std.specs.List.{filter};
 ghost use Rattle.tau_base.specs.Vectors.{covers};
-ghost use Rattle.tau_scan.specs.Taken.{kept_as, kept_in, kept_from};
+ghost use Rattle.tau_scan.specs.Epochs.{judge_of, vector_by};
+ghost use Rattle.tau_scan.specs.Taken.{kept_as, taken_in, taken_from};
 ghost use Rattle.tau_report.specs.Lines.{line};
 ghost use Rattle.tau_report.specs.Recovery.{elv_line, taken_lines, recover_text};
 
@@ -12,7 +13,7 @@ use std::alloc::{AllocError, Global};
 use tau_base::{Listed, Lv, NoMemory};
 use tau_model::Tables;
 use tau_record::{Entry, Placed};
-use tau_scan::Log;
+use tau_scan::{Judge, Log};
 
 fn put_elv(out: &mut Vec<u8>, elv: &Lv) -> Result<(), AllocError>
     ensures { OnOk result (out.new.items ≡ out.old.items ++ elv_line elv.now) }
@@ -44,15 +45,15 @@ fn put_taken(
     Ok(())
 }
 
-/// The line of a record, where this end-of-log vector has it taken.
-fn put_record(out: &mut Vec<u8>, elv: &Lv, stream: u64, placed: &Placed) -> Result<(), AllocError>
-    ensures { OnOk result (out.new.items ≡ out.old.items ++ taken_lines (filter (λ r. covers elv.now r.place.dep) (kept_as stream placed.now placed.now.entry))) }
+/// The line of a record that is judged against this vector, where it is taken.
+fn put_record(out: &mut Vec<u8>, lv: &Lv, stream: u64, placed: &Placed) -> Result<(), AllocError>
+    ensures { OnOk result (out.new.items ≡ out.old.items ++ taken_lines (filter (λ r. covers lv.now r.place.dep) (kept_as stream placed.now placed.now.entry))) }
 {
     match &placed.entry {
         Entry::Written { number, dep, .. } => {
             put_taken(
                 out,
-                elv.covers_all(dep.as_slice()),
+                lv.covers_all(dep.as_slice()),
                 stream,
                 placed.start,
                 *number,
@@ -61,7 +62,7 @@ fn put_record(out: &mut Vec<u8>, elv: &Lv, stream: u64, placed: &Placed) -> Resu
         Entry::Command { number, dep, .. } => {
             put_taken(
                 out,
-                elv.covers_all(dep.as_slice()),
+                lv.covers_all(dep.as_slice()),
                 stream,
                 placed.start,
                 *number,
@@ -69,41 +70,54 @@ fn put_record(out: &mut Vec<u8>, elv: &Lv, stream: u64, placed: &Placed) -> Resu
         }
         Entry::Anchor { .. } => Ok(()),
         Entry::Catalogue { .. } => Ok(()),
+        Entry::Epoch { .. } => Ok(()),
     }
 }
 
 /// The lines of the records of a stream.
 fn put_stream(
     out: &mut Vec<u8>,
-    elv: &Lv,
+    judge: &Judge,
     stream: u64,
     records: &[Placed],
 ) -> Result<(), AllocError>
-    ensures { OnOk result (out.new.items ≡ out.old.items ++ taken_lines (filter (λ r. covers elv.now r.place.dep) (kept_in stream records.now))) }
+    ensures { OnOk result (out.new.items ≡ out.old.items ++ taken_lines (taken_in (vector_by judge.now) stream 0 records.now)) }
 {
+    let mut lv = judge.vector(0);
     for placed in records {
-        put_record(out, elv, stream, placed)?;
+        put_record(out, &lv, stream, placed)?;
+        lv = judge.after(lv, &placed.entry);
     }
     Ok(())
 }
 
 /// The lines of the records of all streams.
-fn put_streams(out: &mut Vec<u8>, elv: &Lv, streams: &[Listed<Placed>]) -> Result<(), AllocError>
-    ensures { OnOk result (out.new.items ≡ out.old.items ++ taken_lines (filter (λ r. covers elv.now r.place.dep) (kept_from 0 streams.now))) }
+fn put_streams(
+    out: &mut Vec<u8>,
+    judge: &Judge,
+    streams: &[Listed<Placed>],
+) -> Result<(), AllocError>
+    ensures { OnOk result (out.new.items ≡ out.old.items ++ taken_lines (taken_from (vector_by judge.now) 0 streams.now)) }
 {
     let mut stream = 0u64;
     for records in streams {
-        put_stream(out, elv, stream, records.as_slice())?;
+        put_stream(out, judge, stream, records.as_slice())?;
         stream += 1;
     }
     Ok(())
 }
 
-fn put_recovery(out: &mut Vec<u8>, log: &Log, tables: &Tables) -> Result<(), AllocError>
+fn put_recovery(
+    out: &mut Vec<u8>,
+    judge: &Judge,
+    log: &Log,
+    tables: &Tables,
+) -> Result<(), AllocError>
+    requires { vector_by judge.now ≡ judge_of log.now }
     ensures { OnOk result (out.new.items ≡ out.old.items ++ recover_text log.now tables.now) }
 {
     put_elv(out, &log.elv)?;
-    put_streams(out, &log.elv, log.streams.as_slice())?;
+    put_streams(out, judge, log.streams.as_slice())?;
     put_rows(out, log.declarations.tables.as_slice(), tables.rows())?;
     put_end(out, None)
 }
@@ -113,7 +127,8 @@ fn put_recovery(out: &mut Vec<u8>, log: &Log, tables: &Tables) -> Result<(), All
 pub fn recover_text(alloc: Global, log: &Log, tables: &Tables) -> Result<Vec<u8>, NoMemory>
     ensures { IfOk result (λ text. text.items ≡ recover_text log.now tables.now) }
 {
+    let judge = Judge::of(alloc, log)?;
     let mut text = Vec::new(alloc);
-    put_recovery(&mut text, log, tables)?;
+    put_recovery(&mut text, &judge, log, tables)?;
     Ok(text)
 }

@@ -19,7 +19,12 @@ abbrev pub Found : {A : Type 0} → Result A LogRefusal → Result A LogFault �
 Found (Ok x) read = read ≡ Ok x
 Found (Err e) read = Lost e read
 
--- likewise for the records of one stream
+-- what was refused is this fault, unless memory ran out
+abbrev pub IsFault : LogRefusal → Option LogFault → Type 0
+IsFault of_logs.NoMemory found = Unit {0}
+IsFault (of_logs.Bad fault) found = found ≡ Some fault
+
+-- likewise what a function returned for the records of one stream
 abbrev pub Spoilt : {A : Type 0} → RecordRefusal → Result A RecordFault → Type 0
 Spoilt of_records.NoMemory read = Unit {0}
 Spoilt (of_records.Bad fault) read = read ≡ Err fault

@@ -1,4 +1,5 @@
 pub mod Reading
+pub mod Epochs
 pub mod Taken
 pub mod Outside
 pub mod Found

@@ -1,5 +1,5 @@
 -- What the images of all streams hold together, or the first cause why they hold no log.
-use Rattle.std.specs.Prelude.{ℕ, suc, ◌≡◌, Bool, true, false, ◌&&◌, nat_lt, ◌==◌, if◌then◌else◌, bytes_eq, nat_abs, List, [], ◌∷◌, length, map, take, Option, Some, None, Result, Ok, Err, is_ok}
+use Rattle.std.specs.Prelude.{ℕ, suc, ◌≡◌, Bool, true, false, ◌&&◌, nat_lt, ◌==◌, if◌then◌else◌, bytes_eq, nat_abs, List, [], ◌∷◌, length, map, take, Option, Some, None, Result, Ok, Err, is_ok, is_some}
 use Rattle.std.specs.List.{list_all, AllZip}
 use Rattle.tau_base.specs.declared.value.Key.{Key}
 use Rattle.tau_base.specs.declared.value.Value.{Value}
@@ -10,12 +10,14 @@ use Rattle.tau_block.specs.Image.{Reading as ImageReading, image_of}
 use Rattle.tau_proc.specs.declared.procs.TheConstants.{FIRST_DECLARED}
 use Rattle.tau_proc.specs.Takes.{takes}
 use Rattle.tau_record.specs.declared.entry.Entry.{Entry}
-use Rattle.tau_record.specs.declared.entry.Entry.TheVariants.{Written, Command, Anchor, Catalogue}
+use Rattle.tau_record.specs.declared.entry.Entry.TheVariants.{Written, Command, Anchor, Catalogue, Epoch}
 use Rattle.tau_record.specs.declared.entry.Placed.{Placed}
 use Rattle.tau_record.specs.declared.fault.RecordCause.TheVariants.{BadBody}
 use Rattle.tau_record.specs.declared.fault.RecordFault.{RecordFault}
 use Rattle.tau_record.specs.Format.{One}
 use Rattle.tau_record.specs.Content.{IsContent, content_at}
+use Rattle.tau_epoch.specs.Epochs.{Mark}
+use Rattle.tau_epoch.specs.Known.{vector_of}
 use Rattle.tau_text.specs.declared.load.Declarations.{Declarations}
 use Rattle.tau_text.specs.declared.fault.TextFault.{TextFault}
 use Rattle.tau_text.specs.Alone.{declarations_of}
@@ -24,6 +26,7 @@ use Rattle.tau_scan.specs.declared.fault.LogFault.{LogFault}
 use Rattle.tau_scan.specs.declared.fault.ScanRefusal.{ScanRefusal}
 use Rattle.tau_scan.specs.declared.fault.ScanRefusal.TheVariants as refusals
 use Rattle.tau_scan.specs.declared.log.Log.{Log}
+use Rattle.tau_scan.specs.Epochs.{marks_in, marks_from}
 
 -- ---- steps that may fail
 
@@ -54,6 +57,7 @@ text_of (Written number anchor dep writes) = None
 text_of (Command number anchor dep call) = None
 text_of (Anchor lv) = None
 text_of (Catalogue text) = Some text
+text_of (Epoch number lv) = None
 
 abbrev pub catalogue_of : List Placed → Option (List ℕ)
 catalogue_of [] = None
@@ -93,6 +97,7 @@ is_declared d (Written number anchor dep writes) = list_all (has_row d) writes
 is_declared d (Command number anchor dep call) = takes d.procs call && is_of_table d call
 is_declared d (Anchor lv) = true
 is_declared d (Catalogue text) = is_ok (declarations_of text)
+is_declared d (Epoch number lv) = true
 
 -- the first record that names what is not declared
 unfoldable pub first_undeclared : Declarations → List Placed → Option RecordFault
@@ -172,14 +177,48 @@ catalogue_in streams = catalogue_from 0 (map catalogue_of streams)
 unfoldable pub declared_in : List (List Placed) → Result Declarations LogFault
 declared_in streams = catalogue_in streams >>= λ catalogue. Ok (declared_by catalogue)
 
+-- the lowest stream, from number j on, that has an epoch with this number
+abbrev pub lowest_with : ℕ → ℕ → List (List Placed) → ℕ
+lowest_with number j [] = j
+lowest_with number j (ps ∷ streams) = if is_some (vector_of number (marks_in ps)) then j else lowest_with number (suc j) streams
+
+abbrev pub is_vector : List ℕ → Option (List ℕ) → Bool
+is_vector lv None = false
+is_vector lv (Some first) = bytes_eq first lv
+
+-- the first fault, or the second where there is none
+abbrev pub or_else : Option LogFault → Option LogFault → Option LogFault
+or_else None fault = fault
+or_else (Some first) fault = Some first
+
+-- the fault of a mark of stream j whose vector is not that of its number in the lowest stream that has it
+abbrev pub mark_fault : List (List Placed) → ℕ → Mark → Option LogFault
+mark_fault streams j m =
+    if is_vector m.lv (vector_of m.number (marks_from streams)) then None
+    else Some (record { stream = j; cause = cause.Epoch (lowest_with m.number 0 streams) m.number })
+
+-- the first one of these marks
+abbrev pub marks_fault : List (List Placed) → ℕ → List Mark → Option LogFault
+marks_fault streams j [] = None
+marks_fault streams j (m ∷ ms) = or_else (mark_fault streams j m) (marks_fault streams j ms)
+
+-- the first one of the streams from number j on
+abbrev pub epochs_fault : List (List Placed) → ℕ → List (List Placed) → Option LogFault
+epochs_fault streams j [] = None
+epochs_fault streams j (ps ∷ rest) = or_else (marks_fault streams j (marks_in ps)) (epochs_fault streams (suc j) rest)
+
+-- the first epoch record, by stream and place, whose vector is not that of its number in the lowest stream that has it
+unfoldable pub epoch_fault : List (List Placed) → Option LogFault
+epoch_fault streams = epochs_fault streams 0 streams
+
 -- The log of these images, one for each stream, or the first cause why they hold none: those of images and counts by
--- stream, then those of records by stream, then those of catalogues.
+-- stream, then those of records by stream, then those of catalogues, then those of epochs.
 unfoldable pub log_of : List (List ℕ) → Result Log LogFault
 log_of images = do
   contents ← contents_of images
   streams ← streams_of contents
   declarations ← declared_in streams
-  Ok (record { elv = map length contents; declarations = declarations; streams = streams })
+  unless (epoch_fault streams) (record { elv = map length contents; declarations = declarations; streams = streams })
 
 -- What a function returned is what the definition gives, unless memory ran out or a disk failed.
 abbrev pub Misses : {A : Type 0} → ScanRefusal → Result A LogFault → Type 0

@@ -34,6 +34,14 @@ pub enum LogCause {
         /// The first byte at which the texts differ, or the length of the shorter one.
         at: u32,
     },
+    /// Two streams have different vectors for one epoch.
+    #[error("epoch {number} differs from that of stream {with}")]
+    Epoch {
+        /// The lowest stream that has the epoch.
+        with: u8,
+        /// The number of the epoch.
+        number: u32,
+    },
     /// Records wait for one another. Reading never returns it.
     #[error("tangled at {at}")]
     Tangled {

@@ -3,7 +3,9 @@
 
 mod catalogue;
 mod content;
+mod epochs;
 mod fault;
+mod judge;
 mod laws;
 mod log;
 mod read;
@@ -11,6 +13,7 @@ mod reading;
 mod records;
 
 pub use fault::{LogCause, LogFault, ReplayRefusal, ScanRefusal};
-pub use laws::taken_are_listed;
+pub use judge::Judge;
+pub use laws::{taken_are_listed, taken_plain};
 pub use log::Log;
 pub use reading::scan;

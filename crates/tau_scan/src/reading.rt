@@ -11,6 +11,7 @@ ghost use Rattle.tau_scan.specs.Outside.{IsRead, calls_to_read};
 
 use crate::catalogue::one_catalogue;
 use crate::content::{contents_in, lengths_of};
+use crate::epochs::one_vector_each;
 use crate::fault::{LogCause, LogFault, LogRefusal, ReadRefusal, ScanRefusal};
 use crate::log::Log;
 use crate::read::read_images;
@@ -79,6 +80,7 @@ fn log_in(alloc: Global, images: &[Listed<u8>]) -> Result<Log, LogRefusal>
     let contents = contents_in(alloc, images)?;
     let streams = streams_in(alloc, contents.as_slice())?;
     let declarations = declarations_of(alloc, streams.as_slice())?;
+    one_vector_each(alloc, streams.as_slice())?;
     match lengths_of(contents.as_slice()) {
         Some(elv) => Ok(Log {
             elv,
@@ -90,7 +92,8 @@ fn log_in(alloc: Global, images: &[Listed<u8>]) -> Result<Log, LogRefusal>
 }
 
 /// Reads the log that the disks hold, one for each stream. All disks are read first; the lowest that fails ends the
-/// reading. Then come the causes of images and counts by stream, those of records by stream, and those of catalogues.
+/// reading. Then come the causes of images and counts by stream, those of records by stream, those of catalogues, and
+/// those of epochs.
 pub fn scan<D: Disk>(alloc: Global, disks: &mut [D]) -> Result<Log, ScanRefusal>
     requires low { 1 ≤ length disks.old }
     requires high { length disks.old ≤ MAX_STREAMS }

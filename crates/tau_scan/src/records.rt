@@ -57,6 +57,7 @@ fn text_in(entry: &Entry) -> Option<&[u8]>
         Entry::Written { .. } => None,
         Entry::Command { .. } => None,
         Entry::Anchor { .. } => None,
+        Entry::Epoch { .. } => None,
     }
 }
 
@@ -123,6 +124,7 @@ fn is_declared(
         Entry::Written { writes, .. } => Ok(writes.are_of(declarations.tables.len())),
         Entry::Command { call, .. } => Ok(is_declared_call(declarations, call, place)),
         Entry::Anchor { .. } => Ok(true),
+        Entry::Epoch { .. } => Ok(true),
         Entry::Catalogue { text } => is_canonical(alloc, text.as_slice()),
     }
 }

@@ -17,27 +17,27 @@ loop-init c =
     }
 
 pub returns-then-is_empty : goal.returns-then-is_empty
-returns-then-is_empty c = is_done c.args.format c.args.n (length c.args.content.now - c.loop.counter) c.loop.at c.loop.vectors.items c.loop.rest.now c.loop.placed.items (content_at c.args.format c.args.n c.args.content.now) (eqb-true _ _ (sym c.is_empty.ensures ∙ c.if-is_empty.true)) c.loop.invariant.reads
+returns-then-is_empty c = is_done c.args.format c.args.n (length c.args.content.now - c.loop.counter) c.loop.at c.loop.named.number c.loop.named.vectors.items c.loop.rest.now c.loop.placed.items (content_at c.args.format c.args.n c.args.content.now) (eqb-true _ _ (sym c.is_empty.ensures ∙ c.if-is_empty.true)) c.loop.invariant.reads
 
 pub returns-in-Err : goal.returns-in-Err
-returns-in-Err c = rw c.refusal_at.ensures (ends c.args.format c.args.n (length c.args.content.now) c.loop.counter c.loop.at c.loop.vectors.items c.loop.rest.now c.in-Err.e c.loop.placed.items (content_at c.args.format c.args.n c.args.content.now) c.loop-test.true (eqb-false _ _ (sym c.is_empty.ensures ∙ c.if-is_empty.false)) c.in-Err.ensures c.loop.invariant.reads)
+returns-in-Err c = rw c.refusal_at.ensures (ends c.args.format c.args.n (length c.args.content.now) c.loop.counter c.loop.at c.loop.named.number c.loop.named.vectors.items c.loop.rest.now c.in-Err.e c.loop.placed.items (content_at c.args.format c.args.n c.args.content.now) c.loop-test.true (eqb-false _ _ (sym c.is_empty.ensures ∙ c.if-is_empty.false)) c.in-Err.ensures c.loop.invariant.reads)
 
 pub overflow_sub-past : goal.overflow_sub-past
 overflow_sub-past c =
-    let left = leaves c.args.format c.args.n c.loop.at c.loop.vectors.items c.loop.rest.now c.in-Ok.ensures.entry c.in-Ok.after.now c.loop.invariant.bytes c.loop.invariant.are c.in-Ok.ensures.read in
+    let left = leaves c.args.format c.args.n c.loop.at c.loop.named.number c.loop.named.vectors.items c.loop.rest.now c.in-Ok.ensures.entry c.in-Ok.after.now c.loop.invariant.bytes c.loop.invariant.are c.in-Ok.ensures.read in
     omega (arith, left.shorter)
 
 pub loop-preserved : goal.loop-preserved
 loop-preserved c =
     let put = c.in-Ok.ensures in
-    let left = leaves c.args.format c.args.n c.loop.at c.loop.vectors.items c.loop.rest.now put.entry c.in-Ok.after.now c.loop.invariant.bytes c.loop.invariant.are put.read in
+    let left = leaves c.args.format c.args.n c.loop.at c.loop.named.number c.loop.named.vectors.items c.loop.rest.now put.entry c.in-Ok.after.now c.loop.invariant.bytes c.loop.invariant.are put.read in
     record {
       place = omega (arith, left.shorter, c.loop.invariant.place);
       fuel = omega (arith, left.shorter, c.loop.invariant.fuel);
       are = rw put.names_are left.are;
       bytes = left.bytes;
-      reads = rw (put.names_are, put.behind) (goes_on c.args.format c.args.n (length c.args.content.now) c.loop.counter c.loop.at (c.loop.at + (length c.loop.rest.now - length c.in-Ok.after.now)) c.loop.vectors.items c.loop.rest.now put.entry c.in-Ok.after.now c.loop.placed.items (content_at c.args.format c.args.n c.args.content.now) c.loop-test.true (eqb-false _ _ (sym c.is_empty.ensures ∙ c.if-is_empty.false)) refl put.read c.loop.invariant.reads);
+      reads = rw (put.names_are, put.number_is, put.behind) (goes_on c.args.format c.args.n (length c.args.content.now) c.loop.counter c.loop.at (c.loop.at + (length c.loop.rest.now - length c.in-Ok.after.now)) c.loop.named.number c.loop.named.vectors.items c.loop.rest.now put.entry c.in-Ok.after.now c.loop.placed.items (content_at c.args.format c.args.n c.args.content.now) c.loop-test.true (eqb-false _ _ (sym c.is_empty.ensures ∙ c.if-is_empty.false)) refl put.read c.loop.invariant.reads);
     }
 
 pub returns : goal.returns
-returns c = is_done c.args.format c.args.n (length c.args.content.now - c.loop.counter) c.loop.at c.loop.vectors.items c.loop.rest.now c.loop.placed.items (content_at c.args.format c.args.n c.args.content.now) (omega (arith, c.loop.invariant.fuel, c.loop-test.false)) c.loop.invariant.reads
+returns c = is_done c.args.format c.args.n (length c.args.content.now - c.loop.counter) c.loop.at c.loop.named.number c.loop.named.vectors.items c.loop.rest.now c.loop.placed.items (content_at c.args.format c.args.n c.args.content.now) (omega (arith, c.loop.invariant.fuel, c.loop-test.false)) c.loop.invariant.reads

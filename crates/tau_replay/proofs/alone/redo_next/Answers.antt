@@ -7,18 +7,16 @@ use Rattle.tau_replay.proofs.Visits.{sound_turn, set_here}
 use Rattle.tau_replay.proofs.alone.redo_next.Goals as goal
 
 pub finish-requires-clause-busy : goal.finish-requires-clause-busy
-finish-requires-clause-busy g c =
-    let busy = set_here 0 c.args.replay.now.hands.items c.start.new.replay.hands.items None (Some c.in-Taken.job) c.requires.idle (c.start.ensures.hand c.in-Taken.job c.in-Taken.is) in
-    subst (λ (job : Job). slice_get c.start.new.replay.hands.items 0 ≡ Some (Some job)) (sym c.anew.ensures.1) busy
+finish-requires-clause-busy g c = set_here 0 c.args.replay.now.hands.items c.start.new.replay.hands.items None (Some c.in-Taken.job) c.requires.idle (c.start.ensures.hand c.in-Taken.job c.in-Taken.is)
 
-pub returns-in-Ok-clause-sound : goal.returns-in-Ok-clause-sound
-returns-in-Ok-clause-sound g c =
-    sound_turn c.args.log.now c.start.new.replay c.finish.new.replay 0 (sound_turn c.args.log.now c.args.replay.now c.start.new.replay 0 c.requires.sound c.start.ensures.going c.start.ensures.followed) c.in-Ok.ensures.going c.in-Ok.ensures.followed
+pub returns-in_ok-finish-in-Taken-clause-sound : goal.returns-in_ok-finish-in-Taken-clause-sound
+returns-in_ok-finish-in-Taken-clause-sound g c =
+    sound_turn c.args.log.now c.start.new.replay c.finish.new.replay 0 (sound_turn c.args.log.now c.args.replay.now c.start.new.replay 0 c.requires.sound c.start.ensures.going c.start.ensures.followed) c.in_ok-finish-in-Taken.ensures.going c.in_ok-finish-in-Taken.ensures.followed
 
-pub returns-in-Ok-clause-idle : goal.returns-in-Ok-clause-idle
-returns-in-Ok-clause-idle g c =
+pub returns-in_ok-finish-in-Taken-clause-idle : goal.returns-in_ok-finish-in-Taken-clause-idle
+returns-in_ok-finish-in-Taken-clause-idle g c =
     let busy = set_here 0 c.args.replay.now.hands.items c.start.new.replay.hands.items None (Some c.in-Taken.job) c.requires.idle (c.start.ensures.hand c.in-Taken.job c.in-Taken.is) in
-    set_here 0 c.start.new.replay.hands.items c.finish.new.replay.hands.items (Some c.in-Taken.job) None busy c.in-Ok.ensures.hand
+    set_here 0 c.start.new.replay.hands.items c.finish.new.replay.hands.items (Some c.in-Taken.job) None busy c.in_ok-finish-in-Taken.ensures.hand
 
 pub returns-in-NotYet-clause-sound : goal.returns-in-NotYet-clause-sound
 returns-in-NotYet-clause-sound g c = sound_turn c.args.log.now c.args.replay.now c.start.new.replay 0 c.requires.sound c.start.ensures.going c.start.ensures.followed

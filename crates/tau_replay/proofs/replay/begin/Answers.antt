@@ -5,6 +5,7 @@ use Rattle.std.proofs.lemmas.List.{length-replicate}
 use Rattle.tau_model.proofs.Reorder.{reordered_itself}
 use Rattle.tau_model.specs.History.{Member, Reordered}
 use Rattle.tau_scan.specs.Taken.{Kept, taken}
+use Rattle.tau_scan.specs.Epochs.{judge_of}
 use Rattle.tau_pool.specs.Item.{Item}
 use Rattle.tau_pool.specs.declared.item.Job.{Job}
 use Rattle.tau_pool.specs.Items.{is_waiting, items_from}
@@ -19,7 +20,7 @@ use Rattle.tau_replay.proofs.replay.begin.Goals as goal
 pub returns-clause-going : goal.returns-clause-going
 returns-clause-going c =
     let log = c.args.log.now in
-    let items0 = items_from log.elv 0 log.streams in
+    let items0 = items_from (judge_of log) 0 log.streams in
     let is = c.in_ok-pools.ensures.items in
     let waits : (x : Item) → Member x items0 → is_waiting x.stage ≡ true = λ x m. ((of_log log c.requires).1 x m).waits in
     let left : left_in (taken log) items0 ≡ taken log = all_left log (taken log) items0 (of_taken log) waits in

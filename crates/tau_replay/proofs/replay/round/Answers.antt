@@ -53,12 +53,12 @@ loop-worker-init c = record {
 
 pub loop-worker-preserved : goal.loop-worker-preserved
 loop-worker-preserved c = record {
-  going = c.in-Ok.ensures.going;
-  less = omega (arith, c.in-Ok.ensures.less, c.loop-worker.invariant.less);
+  going = c.in_ok-turn.ensures.going;
+  less = omega (arith, c.in_ok-turn.ensures.less, c.loop-worker.invariant.less);
   followed = λ turns f. round_goes c.args.log.now turns (workers_from c.args.from) c.loop-worker.worker c.loop-worker.replay.pools c.turn.new.replay.pools c.loop-worker.replay.hands.items c.turn.new.replay.hands.items
-      (database c.loop-worker.replay.store) (database c.turn.new.replay.store) (omega (arith, c.loop-worker-test.true)) (c.loop-worker.invariant.followed turns f) c.in-Ok.ensures.followed;
+      (database c.loop-worker.replay.store) (database c.turn.new.replay.store) (omega (arith, c.loop-worker-test.true)) (c.loop-worker.invariant.followed turns f) c.in_ok-turn.ensures.followed;
   some = turned (left_of c.turn.new.replay) (left_of c.loop-worker.replay) (left_of c.args.replay.now) c.args.from c.loop-worker.worker c.args.replay.now.hands.items c.loop-worker.replay.hands.items c.turn.new.replay.hands.items
-      c.in-Ok.ensures.less c.loop-worker.invariant.less c.in-Ok.ensures.busy c.in-Ok.ensures.idle c.loop-worker.invariant.some;
+      c.in_ok-turn.ensures.less c.loop-worker.invariant.less c.in_ok-turn.ensures.busy c.in_ok-turn.ensures.idle c.loop-worker.invariant.some;
 }
 
 pub returns-clause-some : goal.returns-clause-some

@@ -38,13 +38,13 @@ returns-clause-working c =
     let stands : Stands log job.stream job.index r = subst (λ (j : Job). Stands log j.stream j.index r) (sym f.named) of.stands in
     record {
       order = w.order ++ r ∷ [];
-      going = going_finish log p (database c.args.replay.now.store) w.order job c.finish.new.self r (database c.apply.new.store) w.going f c.finish.ensures.finished c.finish.ensures.recovered held (c.in-Ok.ensures.ok r stands);
+      going = going_finish log p (database c.args.replay.now.store) w.order job c.finish.new.self r (database c.apply.new.store) w.going f c.finish.ensures.finished c.finish.ensures.recovered held (c.in_ok-apply.ensures.ok r stands);
       hands = hands_finish p hands c.args.hand job c.finish.new.self w.hands c.requires.busy c.finish.ensures.finished;
       many = length-set hands c.args.hand None ∙ w.many;
       turns = (w.turns ++ 0 ∷ []) ++ 0 ∷ [];
       followed = settled_finish log w.turns p c.finish.new.self job r (database c.args.replay.now.store) (database c.apply.new.store) w.followed f (flying_covered log p (database c.args.replay.now.store) w.order job w.going f)
-          stands c.finish.ensures.finished c.finish.ensures.recovered (c.in-Ok.ensures.ok r stands);
+          stands c.finish.ensures.finished c.finish.ensures.recovered (c.in_ok-apply.ensures.ok r stands);
     }
 
-pub returns-in-Err-clause-working : goal.returns-in-Err-clause-working
-returns-in-Err-clause-working c = working_same c.args.log.now c.args.replay.now _ c.requires.working refl refl c.in-Err.ensures.err
+pub returns-in_err-apply-clause-working : goal.returns-in_err-apply-clause-working
+returns-in_err-apply-clause-working c = working_same c.args.log.now c.args.replay.now _ c.requires.working refl refl c.in_err-apply.ensures.err

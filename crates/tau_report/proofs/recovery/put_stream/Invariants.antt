@@ -1,11 +1,10 @@
-use Rattle.std.proofs.Common.{◌≡◌, ◌++◌, drop}
-use Rattle.std.specs.List.{filter}
-use Rattle.tau_base.specs.Vectors.{covers}
-use Rattle.tau_scan.specs.Taken.{Kept, kept_in}
+-- The lines so far, and the vector of the epoch of the records that are left.
+use Rattle.std.proofs.Common.{ℕ, ◌≡◌, ◌++◌, drop}
+use Rattle.tau_scan.specs.Epochs.{vector_by}
+use Rattle.tau_scan.specs.Taken.{taken_in}
 use Rattle.tau_report.specs.Recovery.{taken_lines}
 use Rattle.tau_report.proofs.recovery.put_stream.Given as goal
 
 abbrev pub invariant-loop-placed : goal.invariant-loop-placed
-invariant-loop-placed l =
-    l.initial.out.items ++ taken_lines (filter (λ (r : Kept). covers l.elv r.place.dep) (kept_in l.stream l.records))
-    ≡ l.out.items ++ taken_lines (filter (λ (r : Kept). covers l.elv r.place.dep) (kept_in l.stream (drop l.placed-index l.records)))
+invariant-loop-placed l = (k : ℕ) × (l.lv ≡ vector_by l.judge k) ×
+    (l.initial.out.items ++ taken_lines (taken_in (vector_by l.judge) l.stream 0 l.records) ≡ l.out.items ++ taken_lines (taken_in (vector_by l.judge) l.stream k (drop l.placed-index l.records)))
