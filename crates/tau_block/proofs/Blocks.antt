@@ -1,17 +1,17 @@
 -- Blocks and headers, and how the front of an image grows.
-use Rattle.std.proofs.Common.{◌≡◌, ◌≢◌, ◌⊎◌, inl, inr, ℕ, zero, suc, ◌+◌, ◌-◌, ◌*◌, ◌/◌, ◌%◌, ◌<◌, ◌≤◌, ◌^◌, Bool, true, false, List, [], ◌∷◌, ◌++◌, length, get_or, take, drop, refl, sym, ◌∙◌, ap, subst, arith, append_assoc, length-append, take-append-drop, Option, Some, None, Result, Ok, Err, if◌then◌else◌}
+use Rattle.std.proofs.Common.{◌≡◌, ◌≢◌, ◌⊎◌, inl, inr, ℕ, zero, suc, ◌+◌, ◌<◌, ◌≤◌, ◌^◌, Bool, true, false, List, [], ◌∷◌, ◌++◌, length, get_or, take, drop, refl, sym, ◌∙◌, ap, subst, arith, append_assoc, length-append, Option, Some, None, Ok, if◌then◌else◌}
 use Rattle.std.specs.Prelude.{nat_eq, slice_set}
 use Rattle.std.specs.List.{starts_with}
-use Rattle.std.specs.Int.{w16, w32, to_be_bytes, from_be_bytes}
+use Rattle.std.specs.Int.{w32, from_be_bytes}
 use Rattle.std.proofs.lemmas.Nat.{from_be_bytes-to_be_bytes_2, from_be_bytes-to_be_bytes_4}
-use Rattle.std.proofs.lemmas.List.{take_at, drop_at, drop_all, drop_more, take_more, take-take, get_or-take, get_or_at, length-take-le, append-nil, get_or_append_left, take-append-le}
+use Rattle.std.proofs.lemmas.List.{take_at, drop_at, drop_all, get_or_at, length-take-le, append-nil, get_or_append_left, take-append-le}
 use Rattle.std.proofs.Math.Seq.{set-append_seam}
 use Rattle.std.proofs.lemmas.Bool.{cases_eq, le-leb, lt-leb}
 use Rattle.std.proofs.lemmas.Bool.Decides.{nat_tests}
-use Rattle.tau_base.specs.declared.limits.TheConstants.{MAX_BODY, MAX_STREAMS}
+use Rattle.tau_base.specs.declared.limits.TheConstants.{MAX_STREAMS}
 use Rattle.tau_block.specs.declared.fault.ImageFault.{ImageFault}
-use Rattle.tau_block.specs.declared.fault.ImageFault.TheVariants.{BadMagic, BadCount, BadIndex, OpenGateWithoutBlock}
-use Rattle.tau_block.specs.Image.{Reading, magic, header_of, count_in, index_in, header_fault, extended, bodies, with_count, behind_header, image_of, is_of, bytes_of, content_of, HasContent, block_of, tail_of, IsBody, IsFront, IsLog, IsHeader, IsBlockAt}
+use Rattle.tau_block.specs.declared.fault.ImageFault.TheVariants.{BadMagic, BadCount, BadIndex}
+use Rattle.tau_block.specs.Image.{magic, header_of, count_in, index_in, header_fault, extended, bodies, with_count, behind_header, image_of, bytes_of, content_of, block_of, tail_of, IsFront, IsLog, IsHeader}
 use Rattle.tau_base.proofs.Lists.{split_at}
 
 pub extended_extended : (a b : List ℕ) (o : Option (List ℕ)) → extended a (extended b o) ≡ extended (a ++ b) o
@@ -168,6 +168,11 @@ header_of_is n j some most below =
       sound = no_fault j (header_of n j) refl n (sym counts) some most j (sym indexes) refl below;
       counts = counts;
     }
+
+-- a header and what is after it name the stream
+pub head_names : (n j : ℕ) (rest : List ℕ) → n < 2 ^ 16 → j < 2 ^ 16 → (count_in (header_of n j ++ rest) ≡ n) × (index_in (header_of n j ++ rest) ≡ j)
+unfolding count_in index_in
+head_names n j rest count index = (from_be_bytes-to_be_bytes_2 n count, from_be_bytes-to_be_bytes_2 j index)
 
 pub log_of_header : (n j : ℕ) → 1 ≤ n → n ≤ MAX_STREAMS → j < n → IsLog n j (header_of n j ++ 0 ∷ []) 16 []
 log_of_header n j some most below = log_of_front n j (header_of n j) [] [] (front_head n j (header_of n j) (header_of_is n j some most below))

@@ -1,5 +1,5 @@
 // The content of an image.
-ghost use Rattle.std.specs.Prelude.{◌≡◌, ◌≢◌, ◌↔◌, ◌+◌, ◌<◌, ◌≤◌, ◌++◌, List, ℕ, length, take, drop, slice_index, Option, Some, None, IfOk, IfErr, IfSome, IsNone, ◌∷◌};
+ghost use Rattle.std.specs.Prelude.{◌≡◌, ◌≢◌, ◌↔◌, ◌+◌, ◌<◌, ◌≤◌, ◌++◌, List, ℕ, length, take, drop, slice_index, Option, Some, None, IfOk, IfErr, IfSome, IsNone, ◌∷◌, []};
 ghost use Rattle.tau_block.specs.Image.{image_of, header_fault, count_in, bodies, IsBlockAt, IsWalked, IsLog};
 
 use crate::{ImageFault, ImageRefusal};
@@ -25,6 +25,8 @@ pub fn contents_of(alloc: Global, image: &[u8], j: u16) -> Result<Content, Image
     ensures ok { IfOk result (λ c. image_of j image.now ≡ Ok (record { count = c.count; bytes = c.bytes })) }
     ensures gate { IfOk result (λ c. IfSome c.count (λ n. IsLog n j image.now c.gate_at c.bytes)) }
     ensures unborn { IfOk result (λ c. IsNone c.count → c.gate_at ≡ 16) }
+    ensures short { IfOk result (λ c. IsNone c.count → (c.bytes ≡ []) × (length image.now ≤ 17)) }
+    ensures before { IfOk result (λ c. length c.bytes ≤ c.gate_at) }
     ensures bad { IfErr result (λ r. (f : _) → r ≡ ImageRefusal.Bad f → image_of j image.now ≡ Err f) }
 {
     if image.len() <= HEADER + 1 {
@@ -48,6 +50,7 @@ fn blocks_of(alloc: Global, image: &[u8]) -> Result<(Vec<u8>, usize), ImageRefus
     requires { 16 < length image.now }
     ensures walked { IfOk result (λ r. IsWalked image.now r.1 r.0.items) }
     ensures shut { IfOk result (λ r. slice_index image.now r.1 ≢ 1) }
+    ensures before { IfOk result (λ r. length r.0.items ≤ r.1) }
     ensures bad { IfErr result (λ r. (f : _) → r ≡ ImageRefusal.Bad f → (f ≡ ImageFault.OpenGateWithoutBlock) × (bodies 0 (drop 16 image.now) ≡ None)) }
 {
     let mut bytes = Vec::new(alloc);

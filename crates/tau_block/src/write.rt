@@ -1,7 +1,7 @@
 // What a writer puts into an image.
 ghost use Rattle.std.specs.Prelude.{◌≡◌, ◌+◌, ◌<◌, ◌≤◌, ◌++◌, ◌∷◌, [], List, ℕ, length, slice_set, take, vec_capacity, ◌^◌, OnOk, OnErr};
 ghost use Rattle.tau_base.specs.declared.limits.TheConstants.{MAX_STREAMS};
-ghost use Rattle.tau_block.specs.Image.{header_of, tail_of, IsBody, IsLog};
+ghost use Rattle.tau_block.specs.Image.{count_in, header_of, index_in, tail_of, IsBody, IsLog};
 
 use std::alloc::AllocError;
 use tau_base::NoMemory;
@@ -9,6 +9,7 @@ use tau_base::NoMemory;
 /// The header of stream `j` of `n`, and a closed gate.
 pub fn header(n: u16, j: u16) -> [u8; 17]
     ensures bytes { result ≡ header_of n j ++ 0 ∷ [] }
+    ensures names { (count_in result ≡ n) × (index_in result ≡ j) }
     ensures empty { 1 ≤ n → n ≤ MAX_STREAMS → j < n → IsLog n j result 16 [] }
 {
     let [count_high, count_low] = n.to_be_bytes();

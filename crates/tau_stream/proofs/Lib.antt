@@ -1,3 +1,4 @@
 mod Catalogues
+pub mod Heads
 pub mod Tears
 pub mod Parts

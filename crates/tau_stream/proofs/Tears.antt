@@ -1,10 +1,10 @@
 -- What a torn write leaves of a stream, and what its two steps make.
-use Rattle.std.proofs.Common.{Result, Ok, Err, OnErr, ◌≡◌, inl, inr, ℕ, ◌+◌, ◌-◌, ◌<◌, ◌≤◌, List, [], ◌∷◌, ◌++◌, length, get_or, take, drop, sym, ◌∙◌, ap, subst, arith, append_assoc, length-append, length-drop, take-append-drop}
+use Rattle.std.proofs.Common.{◌≡◌, inl, inr, ℕ, ◌+◌, ◌-◌, ◌<◌, ◌≤◌, List, [], ◌∷◌, ◌++◌, length, get_or, take, drop, sym, ◌∙◌, ap, subst, arith, append_assoc, length-append, length-drop}
 use Rattle.std.specs.Int.{w32, to_be_bytes}
-use Rattle.std.proofs.lemmas.List.{take_at, drop_at, drop_all, drop_more, take_more, take-take, get_or-take, length-take-le, append-nil}
+use Rattle.std.proofs.lemmas.List.{take_at, drop_at, drop_all, take_more, take-take, get_or-take, length-take-le, append-nil}
 use Rattle.std.proofs.lemmas.Bool.{cases_eq}
 use Rattle.tau_disk.specs.Disk.{Torn, Holds, Only}
-use Rattle.tau_block.specs.Image.{content_of, HasContent, header_of, block_of, tail_of, IsBody, IsLog}
+use Rattle.tau_block.specs.Image.{content_of, HasContent, block_of, tail_of, IsBody, IsLog}
 use Rattle.tau_block.proofs.Blocks.{front_block, log_of_front, short_content}
 use Rattle.tau_stream.specs.Stream.{IsSettled, IsOldOrNew}
 use Rattle.tau_base.proofs.Lists.{split_at}
@@ -95,9 +95,9 @@ module _ (n j : ℕ) (file : List ℕ) (gate_at : ℕ) (content : List ℕ) (s :
 
 -- of a header alone
 
-pub header_is : (n j : ℕ) (old new bytes : List ℕ) → old ≡ [] → bytes ≡ header_of n j ++ 0 ∷ [] → Holds old 0 bytes new → new ≡ header_of n j ++ 0 ∷ []
-header_is n j old new bytes empty is holds =
-    holds ∙ ap (λ (l : List ℕ). bytes ++ l) (drop_all (0 + length bytes) old (omega (arith, ap length empty))) ∙ append-nil bytes ∙ is
+pub header_is : (head old new : List ℕ) → length head ≡ 17 → length old ≤ 17 → Holds old 0 head new → new ≡ head
+header_is head old new long short holds =
+    holds ∙ ap (λ (l : List ℕ). head ++ l) (drop_all (0 + length head) old (omega (arith, short, long))) ∙ append-nil head
 
 pub torn_unborn : (n j : ℕ) (d x : List ℕ) → length d ≤ 17 → Torn 0 17 d x → HasContent n j [] x
 torn_unborn n j d x short torn = short_content n j x (omega (arith, torn.no_longer, short))

@@ -1,7 +1,9 @@
 -- The disk of a log stream.
-use Rattle.std.specs.Prelude.{◌⊎◌, ℕ, ◌≤◌, List, [], ◌++◌, length}
+use Rattle.std.specs.Prelude.{◌≡◌, ◌⊎◌, ℕ, ◌≤◌, ◌<◌, List, [], ◌∷◌, ◌++◌, length, Option, Some, None, IsSome, IsNone}
 use Rattle.tau_disk.specs.Disk.{Only}
-use Rattle.tau_block.specs.Image.{HasContent, IsLog}
+use Rattle.tau_base.specs.declared.limits.TheConstants.{MAX_STREAMS}
+use Rattle.tau_block.specs.Image.{HasContent, IsLog, count_in, header_of, index_in}
+use Rattle.tau_block.specs.declared.content.Content.{Content}
 use Rattle.tau_record.specs.declared.entry.Entry.TheVariants.{Catalogue}
 use Rattle.tau_record.specs.Format.{One}
 use Rattle.tau_record.specs.Record.{spelling}
@@ -26,3 +28,20 @@ MayHold n j content may_leave = (x : List ℕ) × may_leave x × HasContent n j 
 -- a stop leaves at most a header
 abbrev pub IsUnborn : (List ℕ → Type 0) → Type 0
 IsUnborn may_leave = (x : List ℕ) → may_leave x → length x ≤ 17
+
+-- these are the header of a stream, and a closed gate
+pub record IsHead (head : List ℕ) : Type 0 where
+  pub few : count_in head ≤ MAX_STREAMS
+  pub there : index_in head < count_in head
+  pub bytes : head ≡ header_of (count_in head) (index_in head) ++ 0 ∷ []
+
+-- The content is that of what a read of the stream with this head gives. Nothing is pending on an image that has a header; one that
+-- has none is short.
+pub record IsRead (head : List ℕ) (content : Content) (file : List ℕ) (may_leave : List ℕ → Type 0) : Type 0 where
+  pub settled : IsSome content.count → IsSettled (count_in head) (index_in head) file may_leave content.gate_at content.bytes
+  pub unborn : IsNone content.count → length file ≤ 17
+
+-- so many calls of the disk put a block after a content, by what its header states
+abbrev pub calls_to_reopen : Option ℕ → ℕ
+calls_to_reopen (Some count) = 4
+calls_to_reopen None = 6

@@ -1,15 +1,15 @@
 // The writer of one log stream.
-ghost use Rattle.std.specs.Prelude.{◌≡◌, ◌+◌, ◌*◌, ◌<◌, ◌≤◌, ◌^◌, ◌++◌, [], List, ℕ, false, length, drop, vec_len, vec_capacity, OnOk, OnErr, IfOk, IfErr};
+ghost use Rattle.std.specs.Prelude.{◌≡◌, ◌+◌, ◌*◌, ◌<◌, ◌≤◌, ◌^◌, ◌++◌, ◌∷◌, [], List, ℕ, false, length, drop, vec_len, vec_capacity, IsNone, IsSome, OnOk, OnErr, IfOk, IfErr};
 ghost use Rattle.tau_base.specs.declared.limits.TheConstants.{MAX_CATALOGUE, MAX_STREAMS};
-ghost use Rattle.tau_block.specs.Image.{IsBody, tail_of};
+ghost use Rattle.tau_block.specs.Image.{IsBody, count_in, header_of, index_in, tail_of};
 ghost use Rattle.tau_disk.specs.Disk.{Passes, Rose, HasCause};
 ghost use Rattle.tau_disk.specs.Plan.{HasMade, MadeAll, MadeSome};
-ghost use Rattle.tau_stream.specs.Stream.{IsOldOrNew, IsSettled, IsUnborn, catalogue_record};
+ghost use Rattle.tau_stream.specs.Stream.{IsHead, IsOldOrNew, IsRead, IsSettled, IsUnborn, calls_to_reopen, catalogue_record};
 
 use crate::{Flush, publish, publish_gated};
 use std::alloc::Global;
 use tau_base::NoMemory;
-use tau_block::{append_tail, header};
+use tau_block::{Content, append_tail, header};
 use tau_disk::{Disk, Failed, Gate, Quiet, write_durably};
 use tau_record::encode_catalogue;
 
@@ -77,7 +77,7 @@ impl<D: Disk> Writer<D> {
         let Ok((block, size)) = first_block(alloc, catalogue) else {
             return Err((disk, Flush::NoMemory));
         };
-        let Ok(()) = begin(&mut disk, n, j, &block) else {
+        let Ok(()) = begin(&mut disk, &header(n, j), &block) else {
             return Err((disk, Flush::Failed));
         };
         Ok(Writer {
@@ -87,6 +87,68 @@ impl<D: Disk> Writer<D> {
             gate_at: 16 + block.len() as u64,
             durable: size as u64,
             added: 0,
+            body: Vec::new(alloc),
+            block,
+            failed: false,
+        })
+    }
+
+    /// Goes on with the stream that `head`, its header and a closed gate, is of, and whose content was read from the disk: `body`, 1 to
+    /// 1,048,576 bytes of whole records, is put after the content as one block. On an unborn image the head is written first.
+    /// It makes four calls of the disk, or six on an unborn image. A refusal hands the disk back; it is never Idle.
+    pub fn reopen(
+        alloc: Global,
+        disk: D,
+        head: [u8; 17],
+        content: Content,
+        body: &[u8],
+    ) -> Result<Writer<D>, (D, Flush)>
+        requires head { IsHead head }
+        requires read { D.tells → IsRead head content (D.seen disk) (D.may_leave disk) }
+        requires small { (content.gate_at ≤ 2 ^ 60) × (length content.bytes ≤ content.gate_at) }
+        requires unborn { IsNone content.count → (content.bytes ≡ []) × (content.gate_at ≡ 16) }
+        requires body { IsBody body.now × (5 ≤ length body.now) }
+
+        ensures ready { IfOk result (λ writer. D.tells → IsReady (count_in head) (index_in head) writer (content.bytes ++ body.now)) }
+        ensures durable { IfOk result (λ writer. durable_of writer ≡ length content.bytes + length body.now) }
+        ensures left { IfOk result (λ writer. left_of writer ≡ []) }
+        ensures added { IfOk result (λ writer. added_of writer ≡ length body.now) }
+        ensures works { IfOk result (λ writer. has_failed writer ≡ false) }
+
+        // At each moment every image has the content, or that with the body after it. Of an unborn image this is said where each
+        // image at the entry was unborn.
+        ensures moments { IfOk result (λ writer. D.tells → (IsNone content.count → IsUnborn (D.may_leave disk)) →
+            Passes D.moment D.may_leave_since disk (disk_of writer) (IsOldOrNew (count_in head) (index_in head) content.bytes body.now)) }
+        ensures moments_err { IfErr result (λ refusal. D.tells → (IsNone content.count → IsUnborn (D.may_leave disk)) →
+            Passes D.moment D.may_leave_since disk refusal.0 (IsOldOrNew (count_in head) (index_in head) content.bytes body.now)) }
+
+        // The calls that it made of the disk.
+        ensures made { IfOk result (λ writer. D.tells → MadeAll (calls_to_reopen content.count) (D.number disk) (D.number (disk_of writer)) (D.fails disk) (D.short disk) (D.short (disk_of writer))) }
+        ensures made_err { IfErr result (λ refusal. refusal.1 ≡ Flush.Failed → D.tells → MadeSome (calls_to_reopen content.count) (D.number disk) (D.number refusal.0) (D.fails disk) (D.short refusal.0)) }
+        ensures plan { IfOk result (λ writer. D.tells → (k : ℕ) → D.fails (disk_of writer) k ≡ D.fails disk k) }
+        ensures plan_err { IfErr result (λ refusal. D.tells → (k : ℕ) → D.fails refusal.0 k ≡ D.fails disk k) }
+
+        ensures failed { IfErr result (λ refusal. refusal.1 ≡ Flush.Failed → Rose (D.faults disk) (D.faults refusal.0)) }
+        ensures memory { IfErr result (λ refusal. refusal.1 ≡ Flush.NoMemory → refusal.0 ≡ disk) }
+        ensures idle { IfErr result (λ refusal. refusal.1 ≡ Flush.Idle → ⊥) }
+        ensures faults { IfOk result (λ writer. D.faults disk ≤ D.faults (disk_of writer)) }
+        ensures faults_err { IfErr result (λ refusal. D.faults disk ≤ D.faults refusal.0) }
+    {
+        let mut disk = disk;
+        let mut block = Vec::new(alloc);
+        let Ok(()) = append_tail(&mut block, body) else {
+            return Err((disk, Flush::NoMemory));
+        };
+        let Ok(()) = go_on(&mut disk, &head, &content, &block) else {
+            return Err((disk, Flush::Failed));
+        };
+        Ok(Writer {
+            disk,
+            alloc,
+            stream: head[15],
+            gate_at: content.gate_at + block.len() as u64,
+            durable: content.bytes.len() as u64 + body.len() as u64,
+            added: body.len() as u64,
             body: Vec::new(alloc),
             block,
             failed: false,
@@ -226,23 +288,43 @@ fn first_block(alloc: Global, catalogue: &[u8]) -> Result<(Vec<u8>, usize), NoMe
     Ok((block, record.len()))
 }
 
-// Writes the header with a closed gate onto an empty disk, and the first block after it.
-fn begin<D: Disk>(disk: &mut D, n: u16, j: u16, block: &[u8]) -> Result<(), Failed>
-    requires streams { n ≤ MAX_STREAMS }
-    requires stream { j < n }
-    requires empty { D.tells → D.seen disk.old ≡ [] }
+// Writes a header with a closed gate onto a disk whose image has none, and the first block after it.
+fn begin<D: Disk>(disk: &mut D, head: &[u8], block: &[u8]) -> Result<(), Failed>
+    requires head { IsHead head.now }
+    requires short { D.tells → length (D.seen disk.old) ≤ 17 }
     requires size { length block.now < 2 ^ 32 }
     ensures done { OnOk result (D.tells → (first : List ℕ) → IsBody first → block.now ≡ tail_of first →
-        IsSettled n j (D.seen disk.new) (D.may_leave disk.new) (16 + length block.now) first) }
+        IsSettled (count_in head.now) (index_in head.now) (D.seen disk.new) (D.may_leave disk.new) (16 + length block.now) first) }
     ensures here { OnOk result (D.tells → 16 + length block.now < length (D.seen disk.new)) }
     ensures moments { D.tells → (first : List ℕ) → IsBody first → block.now ≡ tail_of first → IsUnborn (D.may_leave disk.old) →
-        Passes D.moment D.may_leave_since disk.old disk.new (IsOldOrNew n j [] first) }
+        Passes D.moment D.may_leave_since disk.old disk.new (IsOldOrNew (count_in head.now) (index_in head.now) [] first) }
     ensures plan { D.tells → HasMade 6 (D.number disk.old) (D.number disk.new) (D.fails disk.old) (D.fails disk.new) (D.short disk.old) (D.short disk.new) result }
     ensures cause { HasCause (D.faults disk.old) (D.faults disk.new) result }
 {
-    write_durably(disk, 0, &header(n, j))?;
+    write_durably(disk, 0, head)?;
     publish(disk, 16, block)?;
     Ok(())
+}
+
+// Puts a block after the content that was read. On an unborn image the head goes first.
+fn go_on<D: Disk>(disk: &mut D, head: &[u8], content: &Content, block: &[u8]) -> Result<(), Failed>
+    requires head { IsHead head.now }
+    requires read { D.tells → IsRead head.now content.now (D.seen disk.old) (D.may_leave disk.old) }
+    requires small { content.now.gate_at ≤ 2 ^ 60 }
+    requires unborn { IsNone content.now.count → (content.now.bytes ≡ []) × (content.now.gate_at ≡ 16) }
+    requires size { length block.now < 2 ^ 32 }
+    ensures done { OnOk result (D.tells → (first : List ℕ) → IsBody first → block.now ≡ tail_of first →
+        IsSettled (count_in head.now) (index_in head.now) (D.seen disk.new) (D.may_leave disk.new) (content.now.gate_at + length block.now) (content.now.bytes ++ first)) }
+    ensures here { OnOk result (D.tells → content.now.gate_at + length block.now < length (D.seen disk.new)) }
+    ensures moments { D.tells → (first : List ℕ) → IsBody first → block.now ≡ tail_of first → (IsNone content.now.count → IsUnborn (D.may_leave disk.old)) →
+        Passes D.moment D.may_leave_since disk.old disk.new (IsOldOrNew (count_in head.now) (index_in head.now) content.now.bytes first) }
+    ensures plan { D.tells → HasMade (calls_to_reopen content.now.count) (D.number disk.old) (D.number disk.new) (D.fails disk.old) (D.fails disk.new) (D.short disk.old) (D.short disk.new) result }
+    ensures cause { HasCause (D.faults disk.old) (D.faults disk.new) result }
+{
+    match content.count {
+        Some(_) => publish(disk, content.gate_at, block),
+        None => begin(disk, head, block),
+    }
 }
 
 // Room for so many bytes. What is there already is kept only where the room was there.

@@ -4,4 +4,6 @@
 #[cfg(test)]
 mod open;
 #[cfg(test)]
+mod reopen;
+#[cfg(test)]
 mod stream;

@@ -1,4 +1,4 @@
-use Rattle.std.proofs.Common.{ℕ, List, refl, sym, ◌∙◌, inl, inr, drop, length, ◌≡◌, ◌≤◌, ◌<◌, ◌+◌, take, ◌-◌, ap, arith, length-drop}
+use Rattle.std.proofs.Common.{ℕ, List, refl, ◌∙◌, inl, inr, drop, length, ◌≡◌, ◌≤◌, take, ◌-◌, ap, arith, length-drop}
 use Rattle.std.proofs.lemmas.List.{take_all}
 use Rattle.tau_block.proofs.Blocks.{no_block, size_in}
 use Rattle.tau_block.proofs.content.body_at.Goals as goal

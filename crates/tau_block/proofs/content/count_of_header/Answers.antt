@@ -1,4 +1,4 @@
-use Rattle.std.proofs.Common.{ℕ, ◌≡◌, ◌∙◌, sym, inl, inr, refl, arith, true, false}
+use Rattle.std.proofs.Common.{◌∙◌, sym, inl, inr, arith}
 use Rattle.tau_block.proofs.Blocks.{bad_magic, bad_count, bad_index, no_fault}
 use Rattle.tau_block.specs.Image.{count_in, index_in}
 use Rattle.tau_block.proofs.content.count_of_header.Goals as goal

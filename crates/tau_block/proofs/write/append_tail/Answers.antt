@@ -1,4 +1,4 @@
-use Rattle.std.proofs.Common.{◌≡◌, ℕ, List, ◌+◌, ◌++◌, sym, subst, arith, rules, length}
+use Rattle.std.proofs.Common.{ℕ, List, ◌+◌, ◌++◌, sym, subst, arith, length}
 use Rattle.std.specs.Prelude.{slice_set}
 use Rattle.tau_block.specs.Image.{IsLog, tail_of}
 use Rattle.tau_block.proofs.Blocks.{log_longer, log_opened}
