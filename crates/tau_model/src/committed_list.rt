@@ -11,6 +11,9 @@ use std::marker::Model;
 use tau_base::{Lv, LvList, NoMemory, Text64, Value};
 use tau_proc::Reply;
 
+/// For how many calls room is made at once: a worker asks for room at each call that begins.
+const ROOMS: usize = 64;
+
 /// A reply. A text stands among the texts of the list.
 #[derive(Clone, Copy, Debug)]
 enum KeptReply {
@@ -84,6 +87,18 @@ impl CommittedList {
         if count <= self.room {
             return Ok(());
         }
+        self.make_room(at_least_rooms(count))
+    }
+
+    /// Makes room for so many more, where there is room for fewer.
+    #[inline(never)]
+    fn make_room(&mut self, count: usize) -> Result<(), NoMemory>
+        requires { self.old.room ≤ count }
+        ensures items { self.new.items ≡ self.old.items }
+        ensures kept { self.old.room ≤ self.new.room }
+        ensures roomy { OnOk result (self.new.room ≡ count) }
+        ensures err { OnErr result (self.new ≡ self.old) }
+    {
         if self.heads.try_reserve(count).is_err() {
             return Err(NoMemory);
         }
@@ -165,6 +180,13 @@ impl CommittedList {
         put_heads(&mut self.heads, &heads, before);
         self.deps.append(deps);
     }
+}
+
+/// For how many calls room is made, where so many are asked for.
+fn at_least_rooms(count: usize) -> usize
+    ensures { count ≤ result }
+{
+    if count < ROOMS { ROOMS } else { count }
 }
 
 /// Puts calls at the end, where there is room, and so many texts stand before theirs.

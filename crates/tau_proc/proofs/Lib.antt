@@ -5,7 +5,6 @@ pub mod Courses
 pub mod Kept
 pub mod Puts
 pub mod Refusals
-pub mod Same
 pub mod Sound
 pub mod Stages
 pub mod Starts

@@ -83,7 +83,7 @@ impl Running {
         if !self.touched {
             return;
         }
-        self.registers = Default::default();
+        make_absent(&mut self.registers);
         self.touched = false;
     }
 
@@ -379,5 +379,15 @@ impl Running {
             return Did::Goes;
         }
         self.perform(args, step)
+    }
+}
+
+/// Makes all registers absent, each in its place.
+fn make_absent(registers: &mut [Value; REGISTERS])
+    requires { length registers.old ≡ REGISTERS }
+    ensures { registers.new ≡ replicate REGISTERS Value.Absent }
+{
+    for at in 0..REGISTERS {
+        registers[at] = Value::Absent;
     }
 }

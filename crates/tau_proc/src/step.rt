@@ -32,6 +32,27 @@ impl Operand {
             Operand::Absent => Operand::Absent,
         }
     }
+
+    /// Whether both are the same operand.
+    fn is_same(&self, other: &Operand) -> bool
+        ensures { IsTrue result → self.now ≡ other.now }
+    {
+        match (self, other) {
+            (Operand::Register(a), Operand::Register(b)) => a == b,
+            (Operand::Argument(a), Operand::Argument(b)) => a == b,
+            (Operand::Int(a), Operand::Int(b)) => a == b,
+            (Operand::Text(a), Operand::Text(b)) => is_same_text(a, b),
+            (Operand::Absent, Operand::Absent) => true,
+            _ => false,
+        }
+    }
+}
+
+#[inline(never)]
+fn is_same_text(text: &Text64, other: &Text64) -> bool
+    ensures { IsTrue result → text.now ≡ other.now }
+{
+    text == other
 }
 
 /// How two values are compared. The last four are allowed for two numbers alone.
@@ -195,6 +216,93 @@ impl Step {
     pub(crate) fn is_same(&self, other: &Step) -> bool
         ensures { IsTrue result → self.now ≡ other.now }
     {
-        self == other
+        match (self, other) {
+            (
+                Step::Get { into, table, row },
+                Step::Get {
+                    into: i,
+                    table: t,
+                    row: r,
+                },
+            ) => { into == i && table == t && row.is_same(r) }
+            (
+                Step::Put { table, row, value },
+                Step::Put {
+                    table: t,
+                    row: r,
+                    value: v,
+                },
+            ) => { table == t && row.is_same(r) && value.is_same(v) }
+            (Step::Del { table, row }, Step::Del { table: t, row: r }) => {
+                table == t && row.is_same(r)
+            }
+            (
+                Step::Add { into, left, right },
+                Step::Add {
+                    into: i,
+                    left: l,
+                    right: r,
+                },
+            ) => { into == i && left.is_same(l) && right.is_same(r) }
+            (
+                Step::Sub { into, left, right },
+                Step::Sub {
+                    into: i,
+                    left: l,
+                    right: r,
+                },
+            ) => { into == i && left.is_same(l) && right.is_same(r) }
+            (
+                Step::Mul { into, left, right },
+                Step::Mul {
+                    into: i,
+                    left: l,
+                    right: r,
+                },
+            ) => { into == i && left.is_same(l) && right.is_same(r) }
+            (
+                Step::Min { into, left, right },
+                Step::Min {
+                    into: i,
+                    left: l,
+                    right: r,
+                },
+            ) => { into == i && left.is_same(l) && right.is_same(r) }
+            (
+                Step::Max { into, left, right },
+                Step::Max {
+                    into: i,
+                    left: l,
+                    right: r,
+                },
+            ) => { into == i && left.is_same(l) && right.is_same(r) }
+            (
+                Step::Cat { into, left, right },
+                Step::Cat {
+                    into: i,
+                    left: l,
+                    right: r,
+                },
+            ) => { into == i && left.is_same(l) && right.is_same(r) }
+            (
+                Step::Need { left, how, right },
+                Step::Need {
+                    left: l,
+                    how: h,
+                    right: r,
+                },
+            ) => { how == h && left.is_same(l) && right.is_same(r) }
+            (
+                Step::When { left, how, right },
+                Step::When {
+                    left: l,
+                    how: h,
+                    right: r,
+                },
+            ) => { how == h && left.is_same(l) && right.is_same(r) }
+            (Step::Done, Step::Done) => true,
+            (Step::Reply(value), Step::Reply(v)) => value.is_same(v),
+            _ => false,
+        }
     }
 }

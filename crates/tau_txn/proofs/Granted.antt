@@ -20,12 +20,16 @@ use Rattle.tau_proc.specs.declared.reply.Want.TheVariants.{Read, Write, Finished
 use Rattle.tau_proc.specs.Progress.{Progress, IsAt, ahead, buffered, next_want, want_of, want_of_write}
 use Rattle.tau_proc.specs.Stage.{Stage, Wants, Ends, values}
 use Rattle.tau_proc.proofs.Courses.{is_at_now, is_at_granted, buffered_ends}
+use Rattle.tau_machine.specs.Hands as theory
 use Rattle.tau_machine.specs.Hands.{hold, mode_of}
 use Rattle.tau_machine.specs.Worker.{held_writing}
 use Rattle.tau_machine.proofs.Modes.{hold_same, hold_other}
 use Rattle.tau_txn.specs.Hand.{PlainHand}
 use Rattle.tau_txn.specs.Progress.{Follows, WantsUnseen, GrantsNone, HoldsGranted, HasCommitted, IsFinished, IsRunBy}
-use Rattle.tau_txn.specs.declared.standing.Standing.TheVariants.{Running}
+use Rattle.tau_txn.specs.Read.{hand_of, phase_in}
+use Rattle.tau_txn.specs.Steps.{locked_with}
+use Rattle.tau_txn.specs.declared.standing.Standing.{Standing}
+use Rattle.tau_txn.specs.declared.standing.Standing.TheVariants.{Running, Quitting, Placed, Freeing, LeftOver}
 use Rattle.tau_txn.proofs.Bound.{Within, stage_within}
 use Rattle.tau_txn.proofs.Follow.{read_wants}
 use Rattle.tau_base.proofs.Logic.{or_alone, or_yes}
@@ -88,6 +92,39 @@ grants_zero g (Ends ws reply) e = tt
 
 not_committed : (h : PlainHand) → h.standing ≡ Running → HasCommitted h.standing → ⊥
 not_committed h running = λ hc. subst HasCommitted running hc
+
+-- a call runs on with another vector
+pub with_dep : (procs : List Proc) (h : PlainHand) (dep : List ℕ) → IsRunBy procs h → h.standing ≡ Running → IsRunBy procs (record h { dep = dep })
+with_dep procs h dep run running =
+    record {
+      takes = run.takes;
+      limits = run.limits;
+      follows = run.follows;
+      unseen = run.unseen;
+      none = run.none;
+      number = run.number;
+      tries = run.tries;
+      holds = λ is. let holds = run.holds is in record { locked = holds.locked; room = holds.room };
+      finished = run.finished;
+      vector = λ hc. absurd (not_committed h running hc);
+    }
+
+same_phase : (procs : List Proc) (n : ℕ) (s : Standing) (h : PlainHand) (dep : List ℕ) → s ≡ Running → phase_in procs n s (record h { dep = dep }) ≡ phase_in procs n s h
+same_phase procs n Running h dep e = refl
+same_phase procs n Quitting h dep e = refl
+same_phase procs n LeftOver h dep e = refl
+same_phase procs n Placed h dep e = cc
+same_phase procs n Freeing h dep e = cc
+
+-- what a lock leaves does not depend on the vector before
+pub locked_from : (procs : List Proc) (n : ℕ) (h : PlainHand) (dep before : List ℕ) (k : Key) (m : Mode) (v : Value) → h.standing ≡ Running →
+    locked_with (hand_of procs n (record h { dep = before })) k m v dep ≡ locked_with (hand_of procs n h) k m v dep
+locked_from procs n h dep before k mode.Read v running =
+    ap (λ (p : theory.Phase). record { call = record { number = h.number; call = h.call }; tries = h.tries; given_up = h.given_up; phase = p; dep = dep; held = hold k mode.Read h.held; seen = h.seen ++ (k, v) ∷ [] })
+    (same_phase procs n h.standing h before running)
+locked_from procs n h dep before k mode.Write v running =
+    ap (λ (p : theory.Phase). record { call = record { number = h.number; call = h.call }; tries = h.tries; given_up = h.given_up; phase = p; dep = dep; held = hold k mode.Write h.held; seen = h.seen })
+    (same_phase procs n h.standing h before running)
 
 -- a read lock was granted, and the machine was given the row
 pub run_read : (procs : List Proc) (h : PlainHand) (k : Key) (v : Value) (m : Progress) (dep : List ℕ) → IsRunBy procs h → h.standing ≡ Running → next_want h.machine ≡ Read k →

@@ -5,6 +5,7 @@ pub mod Follow
 pub mod Bound
 pub mod Granted
 pub mod Keeping
+pub mod Locks
 pub mod Lowest
 pub mod Bridge
 pub mod Nexts

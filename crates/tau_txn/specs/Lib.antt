@@ -1,6 +1,7 @@
 pub mod Actions
 pub mod Hand
 pub mod Kept
+pub mod Locked
 pub mod Narrow
 pub mod Next
 pub mod Progress

@@ -1,5 +1,5 @@
 //! A call in hand.
-ghost use Rattle.std.specs.Prelude.{◌≡◌, ◌==◌, ◌<◌, ◌≤◌, ◌+◌, ◌-◌, ◌++◌, ◌||◌, [], ◌∷◌, List, ℕ, Option, Some, length, not, replicate, IsTrue, IsSome, IfOk, true, false, OnOk, OnErr, slice_set};
+ghost use Rattle.std.specs.Prelude.{◌≡◌, ◌==◌, ◌<◌, ◌≤◌, ◌+◌, ◌-◌, ◌++◌, ◌||◌, [], ◌∷◌, List, ℕ, Option, Some, length, not, replicate, IsTrue, IsSome, IfOk, true, false, IfErr, OnOk, OnErr, slice_set};
 ghost use Rattle.std.specs.Option.{option_copied, unwrap_or};
 ghost use Rattle.std.specs.Map.{lookup};
 ghost use Rattle.arrayvec.specs.ArrayVec.{array_vec_len};
@@ -31,6 +31,10 @@ ghost use Rattle.tau_txn.specs.Read.{hand_of, act_in, placed_act, reading_act};
 ghost use Rattle.tau_txn.specs.Record.{kept_reading, kept_joined, kept_by, spot_by};
 ghost use Rattle.tau_txn.specs.Steps.{lock_by, lock_in, locked_with, first_key, without_first, record_of};
 ghost use Rattle.tau_txn.specs.Txn.{shown_of, worker_in, joined_by, lv_by};
+ghost use Rattle.tau_shard.specs.Blocks.{RefusedBy, dep_locked};
+ghost use Rattle.tau_shard.specs.Read.{shard_of};
+ghost use Rattle.tau_machine.specs.Shard.{entry_in};
+ghost use Rattle.tau_txn.specs.Locked.{HandLocked, RunsOn};
 
 use crate::action::{Action, ActionKind};
 use crate::course::Course;
@@ -46,6 +50,7 @@ use tau_base::{
 use tau_model::{Committed, CommittedList, Spot};
 use tau_proc::{Procs, Reply, Want};
 use tau_record::{encode_command, encode_written, raise};
+use tau_shard::{Shard, ShardRefusal};
 
 /// A call in hand. Its keys, the values that it has seen and its machine lie in the value itself; its record alone is on the heap.
 #[derive(Drop)]
@@ -551,11 +556,23 @@ impl Hand {
         ensures same { self.new ≡ record self.old { machine = self.new.machine; held = hold key Mode.Read self.old.held; seen = self.new.seen; dep = dep.now } }
         ensures runs { (procs : List Proc) → IsRunBy procs self.old → IsRunBy procs self.new }
     {
+        self.dep = *dep;
+        self.see(key, row);
+    }
+
+    /// A read lock was granted, which has raised the vector.
+    fn see(&mut self, key: Key, row: Option<&Value>)
+        requires run { IsRun self.old }
+        requires running { self.old.standing ≡ Standing.Running }
+        requires wanted { next_want self.old.machine ≡ Want.Read key }
+        ensures locked { (procs : List Proc) (w : ℕ) → hand_of procs w self.new ≡ locked_with (hand_of procs w self.old) key Mode.Read (unwrap_or (option_copied row.entry) Value.Absent) self.old.dep }
+        ensures same { self.new ≡ record self.old { machine = self.new.machine; held = hold key Mode.Read self.old.held; seen = self.new.seen } }
+        ensures runs { (procs : List Proc) → IsRunBy procs self.old → IsRunBy procs self.new }
+    {
         take(&mut self.held, key, Mode::Read);
         push_seen(&mut self.seen, key, row);
         self.machine.give_row(row);
         catch_up(&mut self.machine, self.seen.as_slice());
-        self.dep = *dep;
     }
 
     /// A write lock was granted.
@@ -567,9 +584,85 @@ impl Hand {
         ensures same { self.new ≡ record self.old { machine = self.new.machine; held = hold key Mode.Write self.old.held; seen = self.new.seen; dep = dep.now } }
         ensures runs { (procs : List Proc) → IsRunBy procs self.old → IsRunBy procs self.new }
     {
+        self.dep = *dep;
+        self.may_write(key);
+    }
+
+    /// A write lock was granted, which has raised the vector.
+    fn may_write(&mut self, key: Key)
+        requires run { IsRun self.old }
+        requires running { self.old.standing ≡ Standing.Running }
+        requires wanted { next_want self.old.machine ≡ Want.Write key }
+        ensures locked { (procs : List Proc) (w : ℕ) (row : Value) → hand_of procs w self.new ≡ locked_with (hand_of procs w self.old) key Mode.Write row self.old.dep }
+        ensures same { self.new ≡ record self.old { machine = self.new.machine; held = hold key Mode.Write self.old.held; seen = self.new.seen } }
+        ensures runs { (procs : List Proc) → IsRunBy procs self.old → IsRunBy procs self.new }
+    {
         take(&mut self.held, key, Mode::Write);
         self.machine.granted();
-        self.dep = *dep;
+    }
+
+    /// Locks the key on the shard for the worker, which raises the vector in place, and takes what the row shows. After a refusal shard and call are as before.
+    pub fn lock_on(
+        &mut self,
+        shard: &mut Shard,
+        worker: u8,
+        key: Key,
+        mode: Mode,
+    ) -> Result<(), ShardRefusal>
+        requires run { IsRun self.old }
+        requires running { self.old.standing ≡ Standing.Running }
+        requires wanted { lock_in self.old ≡ Some (key, mode) }
+        requires small { worker < 32 }
+        ensures step { OnOk result (HandLocked worker key mode (shard_of shard.old) (shard_of shard.new) self.old self.new) }
+        ensures runs { RunsOn (dep_locked mode self.old.dep (entry_in (shard_of shard.old) key)) self.old self.new }
+        ensures refused { IfErr result (λ e. RefusedBy (entry_in (shard_of shard.old) key) worker mode e) }
+        ensures unchanged { OnErr result (shard_of shard.new ≡ shard_of shard.old) }
+        ensures same { OnErr result (self.new ≡ self.old) }
+    {
+        match mode {
+            Mode::Read => self.read_on(shard, worker, key),
+            Mode::Write => self.write_on(shard, worker, key),
+        }
+    }
+
+    fn read_on(&mut self, shard: &mut Shard, worker: u8, key: Key) -> Result<(), ShardRefusal>
+        requires run { IsRun self.old }
+        requires running { self.old.standing ≡ Standing.Running }
+        requires wanted { next_want self.old.machine ≡ Want.Read key }
+        requires small { worker < 32 }
+        ensures step { OnOk result (HandLocked worker key Mode.Read (shard_of shard.old) (shard_of shard.new) self.old self.new) }
+        ensures runs { RunsOn (dep_locked Mode.Read self.old.dep (entry_in (shard_of shard.old) key)) self.old self.new }
+        ensures refused { IfErr result (λ e. RefusedBy (entry_in (shard_of shard.old) key) worker Mode.Read e) }
+        ensures unchanged { OnErr result (shard_of shard.new ≡ shard_of shard.old) }
+        ensures same { OnErr result (self.new ≡ self.old) }
+    {
+        match shard.lock_key(worker, key, Mode::Read, &mut self.dep) {
+            Ok(()) => {
+                self.see(key, shard.row(key));
+                Ok(())
+            }
+            Err(refusal) => Err(refusal),
+        }
+    }
+
+    fn write_on(&mut self, shard: &mut Shard, worker: u8, key: Key) -> Result<(), ShardRefusal>
+        requires run { IsRun self.old }
+        requires running { self.old.standing ≡ Standing.Running }
+        requires wanted { next_want self.old.machine ≡ Want.Write key }
+        requires small { worker < 32 }
+        ensures step { OnOk result (HandLocked worker key Mode.Write (shard_of shard.old) (shard_of shard.new) self.old self.new) }
+        ensures runs { RunsOn (dep_locked Mode.Write self.old.dep (entry_in (shard_of shard.old) key)) self.old self.new }
+        ensures refused { IfErr result (λ e. RefusedBy (entry_in (shard_of shard.old) key) worker Mode.Write e) }
+        ensures unchanged { OnErr result (shard_of shard.new ≡ shard_of shard.old) }
+        ensures same { OnErr result (self.new ≡ self.old) }
+    {
+        match shard.lock_key(worker, key, Mode::Write, &mut self.dep) {
+            Ok(()) => {
+                self.may_write(key);
+                Ok(())
+            }
+            Err(refusal) => Err(refusal),
+        }
     }
 
     /// The lock was refused: the call has met Busy once more. Whether it stays in hand.

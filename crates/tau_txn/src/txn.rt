@@ -1,5 +1,5 @@
 //! A worker's calls, one at a time.
-ghost use Rattle.std.specs.Prelude.{◌≡◌, ◌<◌, ◌≤◌, ◌+◌, ◌-◌, ◌++◌, ◌∷◌, [], List, ℕ, Option, Some, None, false, true, length, is_some, IsTrue, IsSome, IfSome, IfNone, OnOk, OnErr};
+ghost use Rattle.std.specs.Prelude.{◌≡◌, ◌<◌, ◌≤◌, ◌+◌, ◌-◌, ◌++◌, ◌∷◌, [], List, ℕ, Option, Some, None, false, true, length, is_some, IsTrue, IsSome, IfSome, IfNone, IfErr, OnOk, OnErr};
 ghost use Rattle.std.specs.Option.{option_copied, unwrap_or};
 ghost use Rattle.tau_base.specs.Vectors.{join};
 ghost use Rattle.tau_base.specs.declared.limits.TheConstants.{MAX_LSN, MAX_STREAMS};
@@ -21,6 +21,10 @@ ghost use Rattle.tau_txn.specs.Narrow.{lock_at, quit_at, free_at, left_over_at, 
 ghost use Rattle.tau_txn.specs.Next.{next_action, kind_of, Means, Locks, Quits, Frees, IsLeftOver, IsLock, IsCommit, IsForWent, FreesBy, Reads, act_at, lock_by};
 ghost use Rattle.tau_txn.specs.Record.{entry_of, kept_of};
 ghost use Rattle.tau_txn.specs.Steps.{locked_with};
+ghost use Rattle.tau_shard.specs.Blocks.{RefusedBy, dep_locked};
+ghost use Rattle.tau_shard.specs.Read.{shard_of};
+ghost use Rattle.tau_machine.specs.Shard.{entry_in};
+ghost use Rattle.tau_txn.specs.Locked.{TxnLocked};
 ghost use Rattle.tau_txn.specs.Txn.{hand_in, worker_of, RunsBy, number_in, dep_in, anchor_in, bytes_in, leaves_in, held_in, lv_in, has_joined};
 
 use crate::action::{Action, ActionKind};
@@ -31,11 +35,11 @@ use std::marker::Model;
 use tau_base::{Call, KeptCall, Key, LogMode, Lv, Mode, NoMemory, Value, stream_of};
 use tau_model::{Committed, CommittedList};
 use tau_proc::{Procs, Want};
+use tau_shard::{Shard, ShardRefusal};
 
 /// A worker with the call in its hand. It runs its calls one at a time.
 #[derive(Drop)]
 pub struct Txn {
-    alloc: Global,
     worker: u8,
     streams: usize,
     mode: LogMode,
@@ -62,7 +66,6 @@ impl Txn {
         ensures { result ≡ record { worker = worker; width = streams; mode = mode; hand = None } }
     {
         Txn {
-            alloc,
             worker,
             streams,
             mode,
@@ -198,9 +201,32 @@ impl Txn {
         ensures same { self.new ≡ record self.old { hand = self.new.hand } }
     {
         if !self.in_hand {
-            return;
+            unreachable!()
         }
         self.hand.granted(row, dep);
+    }
+
+    /// Locks on the shard, for the worker, the key that is the next action, as `lock_key`, and takes the lock as granted: the vector is raised in place, the row is lent, and looked up only for a read lock. After a refusal shard and call are as before.
+    pub fn lock_on(
+        &mut self,
+        shard: &mut Shard,
+        worker: u8,
+        key: Key,
+        mode: Mode,
+    ) -> Result<(), ShardRefusal>
+        requires lock { next_action self.old ≡ Action.Lock key mode }
+        requires wide { length (dep_locked mode (dep_in self.old) (entry_in (shard_of shard.old) key)) ≡ self.old.width }
+        requires small { worker < 32 }
+        ensures step { OnOk result (TxnLocked worker key mode (shard_of shard.old) (shard_of shard.new) self.old self.new) }
+        ensures refused { IfErr result (λ e. RefusedBy (entry_in (shard_of shard.old) key) worker mode e) }
+        ensures unchanged { OnErr result (shard_of shard.new ≡ shard_of shard.old) }
+        ensures as_before { OnErr result (self.new ≡ self.old) }
+        ensures runs { (procs : List Proc) → RunsBy procs self.old → RunsBy procs self.new }
+        ensures stays { leaves_in self.old ≡ false → leaves_in self.new ≡ false }
+        ensures bytes { bytes_in self.old ≡ [] → bytes_in self.new ≡ [] }
+        ensures same { self.new ≡ record self.old { hand = self.new.hand } }
+    {
+        self.hand.lock_on(shard, worker, key, mode)
     }
 
     /// The lock was granted: the row that it showed, and the vector that it raised. It takes no memory.
@@ -228,7 +254,7 @@ impl Txn {
         ensures same { self.new ≡ record self.old { hand = self.new.hand } }
     {
         if !self.in_hand {
-            return;
+            unreachable!()
         }
         self.in_hand = self.hand.busy(procs);
     }
@@ -251,7 +277,7 @@ impl Txn {
     {
         let mode = self.mode;
         if !self.in_hand {
-            return Ok(());
+            unreachable!()
         }
         self.hand.prepare(mode, anchor_number, anchor)
     }
@@ -270,7 +296,7 @@ impl Txn {
     {
         let stream = stream_of(usize::from(self.worker), self.streams);
         if !self.in_hand {
-            return;
+            unreachable!()
         }
         self.hand.placed(stream as u8, start);
     }
@@ -285,9 +311,8 @@ impl Txn {
         ensures stays { leaves_in self.old ≡ false → leaves_in self.new ≡ false }
         ensures same { self.new ≡ record self.old { hand = self.new.hand } }
     {
-        let alloc = self.alloc;
         if !self.in_hand {
-            return Vec::new(alloc);
+            unreachable!()
         }
         self.hand.take_bytes()
     }

@@ -1,42 +1,32 @@
-use Rattle.std.proofs.Common.{◌≡◌, ◌<◌, ◌∷◌, ◌++◌, [], List, sym, ap, subst, ◌∙◌, length}
-use Rattle.std.specs.Prelude.{None}
-use Rattle.std.specs.Map.{lookup}
+use Rattle.std.proofs.Common.{◌≡◌, ◌∷◌, ◌++◌, [], sym, ap, subst, ◌∙◌}
 use Rattle.std.specs.Option.{option_copied, unwrap_or}
-use Rattle.tau_base.specs.declared.value.Value.TheVariants.{Absent}
-use Rattle.tau_base.specs.declared.value.Key.{Key}
 use Rattle.tau_base.specs.declared.value.Value.{Value}
-use Rattle.tau_base.specs.Database.{same_key}
-use Rattle.tau_proc.specs.declared.reply.Want.TheVariants.{Read}
-use Rattle.tau_proc.specs.Progress.{ahead, next_want}
-use Rattle.tau_txn.specs.declared.standing.Standing.TheVariants.{Running}
+use Rattle.tau_base.specs.declared.value.Value.TheVariants.{Absent}
+use Rattle.tau_base.specs.declared.value.Mode.TheVariants as mode
+use Rattle.tau_machine.specs.Hands.{hold}
 use Rattle.tau_txn.specs.Hand.{PlainHand}
-use Rattle.tau_txn.specs.Progress.{IsRunBy, Follows, WantsUnseen}
-use Rattle.tau_txn.proofs.Follow.{follows_read, read_wants}
-use Rattle.tau_txn.proofs.Granted.{seen_room, held_room_read, run_read}
+use Rattle.tau_txn.specs.Progress.{IsRun, IsRunBy}
+use Rattle.tau_txn.specs.Read.{hand_of}
+use Rattle.tau_txn.specs.Steps.{locked_with}
+use Rattle.tau_txn.proofs.Granted.{with_dep, locked_from}
 use Rattle.tau_txn.proofs.hand.Hand.read.Goals as goal
 
-pub take-requires : goal.take-requires
-take-requires c =
-    let is = c.requires.run.is in
-    subst (λ (h : PlainHand). length h.held < 64) (sym c.self.view_is) (held_room_read c.requires.run.procs c.args.self.now c.args.key is (is.holds c.requires.running) c.requires.wanted)
+pub see-requires-clause-run : goal.see-requires-clause-run
+see-requires-clause-run c =
+    subst (λ (h : PlainHand). IsRun (record h { dep = c.args.dep.now })) (sym c.self.view_is)
+    (record { procs = c.requires.run.procs; is = with_dep c.requires.run.procs c.args.self.now c.args.dep.now c.requires.run.is c.requires.running })
 
-pub push_seen-requires : goal.push_seen-requires
-push_seen-requires c =
-    (subst (λ (h : PlainHand). length h.seen < 64) (sym c.self.view_is) (seen_room c.requires.run.procs c.args.self.now c.args.key c.requires.run.is c.requires.wanted))
+pub returns-clause-locked : goal.returns-clause-locked
+returns-clause-locked c = λ procs n.
+    c.see.ensures.locked procs n
+    ∙ subst (λ (h : PlainHand). locked_with (hand_of procs n (record h { dep = c.args.dep.now })) c.args.key mode.Read (unwrap_or (option_copied c.args.row) Absent) c.args.dep.now ≡ locked_with (hand_of procs n c.args.self.now) c.args.key mode.Read (unwrap_or (option_copied c.args.row) Absent) c.args.dep.now) (sym c.self.view_is)
+    (locked_from procs n c.args.self.now c.args.dep.now c.args.dep.now c.args.key mode.Read (unwrap_or (option_copied c.args.row) Absent) c.requires.running)
+
+pub returns-clause-same : goal.returns-clause-same
+returns-clause-same c =
+    c.see.ensures.same
+    ∙ ap (λ (h : PlainHand). record h { machine = c.see.new.self.machine; held = hold c.args.key mode.Read h.held; seen = c.see.new.self.seen; dep = c.args.dep.now }) c.self.view_is
 
 pub returns-clause-runs : goal.returns-clause-runs
 returns-clause-runs c = λ procs is.
-    let run = subst (IsRunBy procs) (sym c.self.view_is) is in
-    let running : c.self.inside.standing ≡ Running = ap (λ (h : PlainHand). h.standing) c.self.view_is ∙ c.requires.running in
-    let wants : next_want c.self.inside.machine ≡ Read c.args.key = ap (λ (h : PlainHand). next_want h.machine) c.self.view_is ∙ c.requires.wanted in
-    let stands = read_wants c.self.inside.machine c.args.key wants in
-    let more : List (Key × Value) = c.self.inside.seen.items ++ (c.args.key, (unwrap_or (option_copied c.args.row) Absent)) ∷ [] in
-    let saw : c.as_slice.result.now ≡ more = c.as_slice.ensures.value ∙ c.push_seen.ensures in
-    let none : lookup (same_key c.args.key) c.self.inside.seen.items ≡ None = subst (WantsUnseen c.self.inside.seen.items) stands run.unseen in
-    let gives = c.give_row.ensures.stands in
-    let once = follows_read procs c.self.inside.call c.self.inside.seen.items c.self.inside.machine c.args.key (unwrap_or (option_copied c.args.row) Absent) c.give_row.new.self stands gives c.give_row.ensures.granted run.follows none in
-    let again = c.catch_up.ensures.follows procs c.self.inside.call (subst (λ (l : List (Key × Value)). Follows procs c.self.inside.call l c.give_row.new.self) (sym saw) once) in
-    let follows = subst (λ (l : List (Key × Value)). Follows procs c.self.inside.call l c.catch_up.new.machine) saw again in
-    let unseen = subst (λ (l : List (Key × Value)). WantsUnseen l (ahead c.catch_up.new.machine [])) saw c.catch_up.ensures.unseen in
-    rw (c.take.ensures, c.push_seen.ensures)
-    (run_read procs _ c.args.key (unwrap_or (option_copied c.args.row) Absent) c.catch_up.new.machine c.args.dep.now run running wants follows unseen (c.catch_up.ensures.granted ∙ c.give_row.ensures.granted))
+    c.see.ensures.runs procs (subst (λ (h : PlainHand). IsRunBy procs (record h { dep = c.args.dep.now })) (sym c.self.view_is) (with_dep procs c.args.self.now c.args.dep.now is c.requires.running))
