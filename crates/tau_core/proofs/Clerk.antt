@@ -128,21 +128,16 @@ module _ (p : Plain) (K : List (Act Txn)) (h : Hidden) (g : Stands p K h) where
         let o : SoundSeat p.load w q.seat = g.sound.seat w q.seat q.is in
         record {
           sound = seat_sound p h w q.seat waits q.is g.sound (record {
-            worker = o.worker;
-            width = o.width;
-            mode = o.mode;
-            runs = o.runs;
-            stays = o.stays;
-            leaving = o.leaving;
-            call = o.call;
-            whose = o.whose;
-            ends = λ e. (let a = o.ends e in let b = q.room in omega arith);
-            leaves = o.leaves;
-            posts = o.posts;
-            low = o.low;
-            high = o.high;
-            again = o.again;
-            left = o.left;
+            txn = o.txn;
+            store = record {
+              ends = λ e. (let a = o.store.ends e in let b = q.room in omega arith);
+              leaves = o.store.leaves;
+              posts = o.store.posts;
+              low = o.store.low;
+              high = o.store.high;
+              again = o.store.again;
+              left = o.store.left;
+            };
           }) (omega arith);
           inv = kept (setting_of p.load) K (Ack w p.plv) (core_of p h) (core_of less acked) g.inv ack_leads;
           order = g.order;

@@ -62,7 +62,7 @@ module _ (p p' : Plain) (h : Hidden) (w start : ℕ) (q : Commits w start p p') 
   commit_hand = ap (λ (x : Worker). x.hand) (worker_of_seat p h w q.seat q.new q.is) ∙ q.hand_is
 
   number_is : worker_of p.load.workers (committed_of q.act).number ≡ w
-  number_is = ap (λ (a : Act Txn). worker_of p.load.workers a.call.call.number) q.act_is ∙ o.whose q.hand q.hand_is
+  number_is = ap (λ (a : Act Txn). worker_of p.load.workers a.call.call.number) q.act_is ∙ o.txn.whose q.hand q.hand_is
 
   so : NamedSo p j q.number q.hand.dep q.base
   so = named_so p j q.number q.hand.dep q.base wide q.named

@@ -199,7 +199,7 @@ module _ (p p' : Plain) (K : List (Act Txn)) (h : Hidden) (g : Stands p K h) (w 
       let o = g.sound.seat w found.0 found.1 in (
         unmoved p p' K h g q.0,
         elsewhere_by p K h g w found.0 Ended phase found.1
-            (λ e. absurd (has found.0 found.1 (none_some found.0.txn.hand (o.stays ∙ ap is_some e)))) at.0 at.1,
+            (λ e. absurd (has found.0 found.1 (none_some found.0.txn.hand (o.txn.stays ∙ ap is_some e)))) at.0 at.1,
       )
   done_on outcome.NoMemory has q = absurd q
   done_on (outcome.Granted v) has q = absurd q

@@ -15,7 +15,7 @@ use Rattle.tau_core.specs.Plain.{PlainSeat}
 use Rattle.tau_core.specs.State.{Plain}
 use Rattle.tau_core.specs.Stands.{Stood, Sound}
 use Rattle.tau_core.specs.Begins.{next_number, HasNext, RoomMade, IsRoomy, BeginsNext, Undone, seat_at}
-use Rattle.tau_core.specs.Firsts.{BegunUndone, Rests}
+use Rattle.tau_core.specs.Firsts.{BegunFrom, BegunUndone, Rests}
 use Rattle.tau_core.specs.declared.begin.Mark.{Mark}
 use Rattle.tau_core.specs.declared.event.Outcome.{Outcome}
 use Rattle.tau_core.proofs.Lists.{got_same}
@@ -86,24 +86,25 @@ pub room_sound : (p p' : Plain) (w : ℕ) → Stood p → RoomMade w p p' → So
 room_sound p p' w g q = (room_stood p p' w g q).2.sound
 
 -- a call is begun in the room that was made for it: p before, r with the room, b with the call begun
-module _ (p r b : Plain) (w n : ℕ) (stood : Stood p) (made : RoomMade w p r) where
-  pub first_begun : BeginsNext w n r b → IsRoomy w r → HasNext p w n → Rests p w → Sound b
-  first_begun begins roomy next rests = begun_sound r b w n (room_stood p r w stood made) begins roomy (room_next p r w n made next) (room_rests p r w n made rests)
-
-  -- what was tried left the workers as they were
-  pub first_seat : (t : Plain) → BeginsNext w n r b → t.seats ≡ b.seats → (s : PlainSeat) → slice_get t.seats w ≡ Some s → seat_at s
-  first_seat t begins same s e = begun_seat r b w n (room_stood p r w stood made) begins s (ap (λ (l : List PlainSeat). slice_get l w) (sym same) ∙ e)
+pub begun_from : (p r b : Plain) (w n : ℕ) (mark : Mark) → Stood p → (made : RoomMade w p r) → IsRoomy w r → BeginsNext w n r b → ((s : PlainSeat) → slice_get r.seats w ≡ Some s → mark ≡ record { next = s.next; again = s.again }) →
+    HasNext p w n → Rests p w → BegunFrom w n p mark b
+begun_from p r b w n mark stood made roomy begins marks next rests =
+    let g : Stood r = room_stood p r w stood made in
+    record {
+      as_begun = record { roomy = r; made = made; enough = roomy; begins = begins };
+      marked = marks begins.seat begins.is;
+      sound = begun_sound r b w n g begins roomy (room_next p r w n made next) (room_rests p r w n made rests);
+      fresh = λ t same s e. begun_seat r b w n g begins s (ap (λ (l : List PlainSeat). slice_get l w) (sym same) ∙ e);
+    }
 
 -- it is begun, and undone by the mark
-pub first_undone : (inner : Plain → ℕ → Outcome → Plain → Type 0) (p r b t p' : Plain) (w n : ℕ) (o : Outcome) (mark : Mark) →
-    RoomMade w p r → IsRoomy w r → BeginsNext w n r b → ((s : PlainSeat) → slice_get r.seats w ≡ Some s → mark ≡ record { next = s.next; again = s.again }) →
-    inner b w o t → Undone w mark.next mark.again t p' → BegunUndone inner w n p o p'
-first_undone inner p r b t p' w n o mark made enough begins marks refused undone = record {
+pub first_undone : (inner : Plain → ℕ → Outcome → Plain → Type 0) (p b t p' : Plain) (w n : ℕ) (o : Outcome) (mark : Mark) → BegunFrom w n p mark b → inner b w o t → Undone w mark.next mark.again t p' → BegunUndone inner w n p o p'
+first_undone inner p b t p' w n o mark q refused undone = record {
   begun = b;
   tried = t;
-  as_begun = record { roomy = r; made = made; enough = enough; begins = begins };
+  as_begun = q.as_begun;
   refused = refused;
-  undone = subst (λ (m : Mark). Undone w m.next m.again t p') (marks begins.seat begins.is) undone;
+  undone = subst (λ (m : Mark). Undone w m.next m.again t p') q.marked undone;
 }
 
 pub none_some : (o : Option PlainHand) → is_some o ≡ false → o ≡ None

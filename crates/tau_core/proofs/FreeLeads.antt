@@ -154,7 +154,7 @@ module _ (p p' : Plain) (h : Hidden) (w : ℕ) (q : FreesKey w p p') (o : SoundS
       let m : Core = with_worker s w wk in
       let sh : Shard = shard_freed (s.shards i) w q.key (lv_of q.act) (lookup (same_key q.key) q.act.effect.writes) in
       let number : worker_of p.load.workers (committed_of q.act).number ≡ w =
-      ap (λ (a : Act Txn). worker_of p.load.workers a.call.call.number) r.is ∙ o.whose q.hand q.hand_is in (
+      ap (λ (a : Act Txn). worker_of p.load.workers a.call.call.number) r.is ∙ o.txn.whose q.hand q.hand_is in (
         m,
         record { hand = q.hand; effect = r.effect; is = ap (λ (x : Worker). x.hand) rest ∙ free_hand; phase = r.phase; ended = r.ended; no_write = r.no_write; act = r.is; after = refl },
         record {
@@ -253,7 +253,7 @@ module _ (p p' : Plain) (h : Hidden) (w : ℕ) (q : EndsCall w p p') (o : SoundS
       let m : Core = with_worker s w wk in
       let box : Outbox = record (s.outboxes w) { pending = (s.outboxes w).pending ++ ticket q.act ∷ [] } in
       let number : worker_of p.load.workers (committed_of q.act).number ≡ w =
-      ap (λ (a : Act Txn). worker_of p.load.workers a.call.call.number) r.is ∙ o.whose q.hand q.hand_is in (
+      ap (λ (a : Act Txn). worker_of p.load.workers a.call.call.number) r.is ∙ o.txn.whose q.hand q.hand_is in (
         m,
         record { hand = q.hand; effect = r.effect; is = ap (λ (x : Worker). x.hand) rest ∙ end_hand; phase = r.phase; ended = r.ended; no_write = r.no_write; act = r.is; after = refl },
         record {

@@ -108,21 +108,16 @@ module _ (p : Plain) (K : List (Act Txn)) (h : Hidden) (g : Stands p K h) (j : �
     posted_stands =
         let o : SoundSeat p.load w seat = g.sound.seat w seat seat_is in
         let r : Sound (record p { seats = slice_set p.seats w box }) = seat_sound p h w seat box seat_is g.sound (record {
-          worker = o.worker;
-          width = o.width;
-          mode = o.mode;
-          runs = o.runs;
-          stays = o.stays;
-          leaving = o.leaving;
-          call = o.call;
-          whose = o.whose;
-          ends = o.ends;
-          leaves = o.leaves;
-          posts = λ t e. (let a = o.posts t e in let b = moves.room in omega arith);
-          low = o.low;
-          high = o.high;
-          again = o.again;
-          left = o.left;
+          txn = o.txn;
+          store = record {
+            ends = o.store.ends;
+            leaves = o.store.leaves;
+            posts = λ t e. (let a = o.store.posts t e in let b = moves.room in omega arith);
+            low = o.store.low;
+            high = o.store.high;
+            again = o.store.again;
+            left = o.store.left;
+          };
         }) (omega arith) in
         record {
           sound = record {

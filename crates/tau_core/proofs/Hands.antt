@@ -71,27 +71,31 @@ pub sound_on : (l : Load) (w : ℕ) (s new : PlainSeat) (h k : Hand) → SoundSe
 sound_on l w s new h k o is others same now call runs leaving unplaced =
     let had = some_hand l.procs s.txn h is in
     subst (λ (x : PlainSeat). SoundSeat l w x) (sym others) (record {
-      worker = ap (λ (t : PlainTxn). t.worker) same ∙ o.worker;
-      width = ap (λ (t : PlainTxn). t.width) same ∙ o.width;
-      mode = ap (λ (t : PlainTxn). t.mode) same ∙ o.mode;
-      runs = runs;
-      stays = both_some l.procs new.txn k now;
-      leaving = leaving;
-      call = λ x e.
-          let e' : k ≡ x = (let f : Some k ≡ Some x = sym now ∙ e in cc) in
-          let c : x.call ≡ h.call = ap (λ (y : Hand). y.call) (sym e') ∙ call in
-          subst (λ (n : Numbered). call_of l.calls n.number ≡ Some n.call) (sym c) (o.call h is);
-      whose = λ x e.
-          let e' : k ≡ x = (let f : Some k ≡ Some x = sym now ∙ e in cc) in
-          let c : x.call ≡ h.call = ap (λ (y : Hand). y.call) (sym e') ∙ call in
-          ap (λ (n : Numbered). worker_of l.workers n.number) c ∙ o.whose h is;
-      ends = λ e. o.ends had;
-      leaves = λ e. o.leaves had;
-      posts = λ t e. absurd (let bad : None ≡ Some t = sym (ap placed_in now ∙ unplaced) ∙ e in cc);
-      low = o.low;
-      high = o.high;
-      again = o.again;
-      left = o.left;
+      txn = record {
+        worker = ap (λ (t : PlainTxn). t.worker) same ∙ o.txn.worker;
+        width = ap (λ (t : PlainTxn). t.width) same ∙ o.txn.width;
+        mode = ap (λ (t : PlainTxn). t.mode) same ∙ o.txn.mode;
+        runs = runs;
+        stays = both_some l.procs new.txn k now;
+        leaving = leaving;
+        call = λ x e.
+            let e' : k ≡ x = (let f : Some k ≡ Some x = sym now ∙ e in cc) in
+            let c : x.call ≡ h.call = ap (λ (y : Hand). y.call) (sym e') ∙ call in
+            subst (λ (n : Numbered). call_of l.calls n.number ≡ Some n.call) (sym c) (o.txn.call h is);
+        whose = λ x e.
+            let e' : k ≡ x = (let f : Some k ≡ Some x = sym now ∙ e in cc) in
+            let c : x.call ≡ h.call = ap (λ (y : Hand). y.call) (sym e') ∙ call in
+            ap (λ (n : Numbered). worker_of l.workers n.number) c ∙ o.txn.whose h is;
+      };
+      store = record {
+        ends = λ e. o.store.ends had;
+        leaves = λ e. o.store.leaves had;
+        posts = λ t e. absurd (let bad : None ≡ Some t = sym (ap placed_in now ∙ unplaced) ∙ e in cc);
+        low = o.store.low;
+        high = o.store.high;
+        again = o.store.again;
+        left = o.store.left;
+      };
     })
 
 pub entry_narrow : (l : Load) (sh : Shard) (x : Key) → ShardShape (setting_of l) sh → (length (entry_in sh x).write_lv ≤ l.streams) × (length (entry_in sh x).read_lv ≤ l.streams)
@@ -103,21 +107,16 @@ entry_narrow l sh x q = by_case (sh.entries x) refl
 
 pub sound_outbox : (l : Load) (w : ℕ) (s : PlainSeat) (outbox : PlainOutbox) → SoundSeat l w s → placed_in (hand_in l.procs s.txn) ≡ None → SoundSeat l w (record s { outbox = outbox })
 sound_outbox l w s outbox o none = record {
-  worker = o.worker;
-  width = o.width;
-  mode = o.mode;
-  runs = o.runs;
-  stays = o.stays;
-  leaving = o.leaving;
-  call = o.call;
-  whose = o.whose;
-  ends = o.ends;
-  leaves = o.leaves;
-  posts = λ t e. absurd (let bad : None ≡ Some t = sym none ∙ e in cc);
-  low = o.low;
-  high = o.high;
-  again = o.again;
-  left = o.left;
+  txn = o.txn;
+  store = record {
+    ends = o.store.ends;
+    leaves = o.store.leaves;
+    posts = λ t e. absurd (let bad : None ≡ Some t = sym none ∙ e in cc);
+    low = o.store.low;
+    high = o.store.high;
+    again = o.store.again;
+    left = o.store.left;
+  };
 }
 
 pub hand_gone : (procs : List Proc) (t : PlainTxn) → t.hand ≡ None → hand_in procs t ≡ None
@@ -127,21 +126,25 @@ pub sound_gone : (l : Load) (w : ℕ) (s : PlainSeat) (t : PlainTxn) (pending : 
 sound_gone l w s t pending o same none =
     let gone = hand_gone l.procs t none in
     record {
-      worker = ap (λ (x : PlainTxn). x.worker) same ∙ o.worker;
-      width = ap (λ (x : PlainTxn). x.width) same ∙ o.width;
-      mode = ap (λ (x : PlainTxn). x.mode) same ∙ o.mode;
-      runs = subst (λ (x : Option PlainHand). runs_in l.procs x) (sym none) tt;
-      stays = ap is_some none ∙ sym (ap is_some gone);
-      leaving = ap leaves_by none;
-      call = λ h e. absurd (let bad : None ≡ Some h = sym gone ∙ e in cc);
-      whose = λ h e. absurd (let bad : None ≡ Some h = sym gone ∙ e in cc);
-      ends = λ e. absurd (let bad : false ≡ true = sym (ap is_some none) ∙ e in cc);
-      leaves = λ e. absurd (let bad : false ≡ true = sym (ap is_some none) ∙ e in cc);
-      posts = λ a e. absurd (let bad : None ≡ Some a = sym (ap placed_in gone) ∙ e in cc);
-      low = o.low;
-      high = o.high;
-      again = o.again;
-      left = o.left;
+      txn = record {
+        worker = ap (λ (x : PlainTxn). x.worker) same ∙ o.txn.worker;
+        width = ap (λ (x : PlainTxn). x.width) same ∙ o.txn.width;
+        mode = ap (λ (x : PlainTxn). x.mode) same ∙ o.txn.mode;
+        runs = subst (λ (x : Option PlainHand). runs_in l.procs x) (sym none) tt;
+        stays = ap is_some none ∙ sym (ap is_some gone);
+        leaving = ap leaves_by none;
+        call = λ h e. absurd (let bad : None ≡ Some h = sym gone ∙ e in cc);
+        whose = λ h e. absurd (let bad : None ≡ Some h = sym gone ∙ e in cc);
+      };
+      store = record {
+        ends = λ e. absurd (let bad : false ≡ true = sym (ap is_some none) ∙ e in cc);
+        leaves = λ e. absurd (let bad : false ≡ true = sym (ap is_some none) ∙ e in cc);
+        posts = λ a e. absurd (let bad : None ≡ Some a = sym (ap placed_in gone) ∙ e in cc);
+        low = o.store.low;
+        high = o.store.high;
+        again = o.store.again;
+        left = o.store.left;
+      };
     }
 
 -- a call that has its place
@@ -150,25 +153,29 @@ pub sound_placed : (l : Load) (w : ℕ) (s new : PlainSeat) (h k : Hand) → Sou
 sound_placed l w s new h k o is others same now call runs leaving room =
     let had = some_hand l.procs s.txn h is in
     subst (λ (x : PlainSeat). SoundSeat l w x) (sym others) (record {
-      worker = ap (λ (t : PlainTxn). t.worker) same ∙ o.worker;
-      width = ap (λ (t : PlainTxn). t.width) same ∙ o.width;
-      mode = ap (λ (t : PlainTxn). t.mode) same ∙ o.mode;
-      runs = runs;
-      stays = both_some l.procs new.txn k now;
-      leaving = leaving;
-      call = λ x e.
-          let e' : k ≡ x = (let f : Some k ≡ Some x = sym now ∙ e in cc) in
-          let c : x.call ≡ h.call = ap (λ (y : Hand). y.call) (sym e') ∙ call in
-          subst (λ (n : Numbered). call_of l.calls n.number ≡ Some n.call) (sym c) (o.call h is);
-      whose = λ x e.
-          let e' : k ≡ x = (let f : Some k ≡ Some x = sym now ∙ e in cc) in
-          let c : x.call ≡ h.call = ap (λ (y : Hand). y.call) (sym e') ∙ call in
-          ap (λ (n : Numbered). worker_of l.workers n.number) c ∙ o.whose h is;
-      ends = λ e. o.ends had;
-      leaves = λ e. o.leaves had;
-      posts = λ t e. room;
-      low = o.low;
-      high = o.high;
-      again = o.again;
-      left = o.left;
+      txn = record {
+        worker = ap (λ (t : PlainTxn). t.worker) same ∙ o.txn.worker;
+        width = ap (λ (t : PlainTxn). t.width) same ∙ o.txn.width;
+        mode = ap (λ (t : PlainTxn). t.mode) same ∙ o.txn.mode;
+        runs = runs;
+        stays = both_some l.procs new.txn k now;
+        leaving = leaving;
+        call = λ x e.
+            let e' : k ≡ x = (let f : Some k ≡ Some x = sym now ∙ e in cc) in
+            let c : x.call ≡ h.call = ap (λ (y : Hand). y.call) (sym e') ∙ call in
+            subst (λ (n : Numbered). call_of l.calls n.number ≡ Some n.call) (sym c) (o.txn.call h is);
+        whose = λ x e.
+            let e' : k ≡ x = (let f : Some k ≡ Some x = sym now ∙ e in cc) in
+            let c : x.call ≡ h.call = ap (λ (y : Hand). y.call) (sym e') ∙ call in
+            ap (λ (n : Numbered). worker_of l.workers n.number) c ∙ o.txn.whose h is;
+      };
+      store = record {
+        ends = λ e. o.store.ends had;
+        leaves = λ e. o.store.leaves had;
+        posts = λ t e. room;
+        low = o.store.low;
+        high = o.store.high;
+        again = o.store.again;
+        left = o.store.left;
+      };
     })

@@ -83,7 +83,7 @@ module _ (l : Load) (w : ℕ) (seat new : PlainSeat) (h k : Hand) (txn : PlainTx
   mid = record seat { txn = txn }
 
   number_is : call_of l.calls k.call.number ≡ Some k.call.call
-  number_is = subst (λ (n : Numbered). call_of l.calls n.number ≡ Some n.call) (sym call) (o.call h is)
+  number_is = subst (λ (n : Numbered). call_of l.calls n.number ≡ Some n.call) (sym call) (o.txn.call h is)
 
   -- the call stays in hand, or is let go
   stay : ((wk : Worker) → worker_of l.procs wk txn ≡ record wk { hand = hand_in l.procs txn }) → is_some txn.hand ≡ is_some (hand_in l.procs txn) → Settles l w seat mid k
@@ -91,25 +91,29 @@ module _ (l : Load) (w : ℕ) (seat new : PlainSeat) (h k : Hand) (txn : PlainTx
     worker = λ c. sym (shape (seat_worker l seat c)) ∙ settles (seat_worker l seat c);
     keeps = record { next = refl; again = refl; outbox = refl; pending = refl };
     sound = record {
-      worker = ap (λ (t : PlainTxn). t.worker) same ∙ o.worker;
-      width = ap (λ (t : PlainTxn). t.width) same ∙ o.width;
-      mode = ap (λ (t : PlainTxn). t.mode) same ∙ o.mode;
-      runs = runs;
-      stays = some;
-      leaving = leaving_none;
-      call = λ x e.
-          let f = settled_hand l.streams (seat_worker l seat []) k x phase (ap (λ (y : Worker). y.hand) (sym (settles (seat_worker l seat [])) ∙ shape (seat_worker l seat [])) ∙ e) in
-          subst (λ (n : Numbered). call_of l.calls n.number ≡ Some n.call) (sym f.0) number_is;
-      whose = λ x e.
-          let f = settled_hand l.streams (seat_worker l seat []) k x phase (ap (λ (y : Worker). y.hand) (sym (settles (seat_worker l seat [])) ∙ shape (seat_worker l seat [])) ∙ e) in
-          ap (λ (n : Numbered). number_worker l.workers n.number) (f.0 ∙ call) ∙ o.whose h is;
-      ends = λ e. o.ends had;
-      leaves = λ e. o.leaves had;
-      posts = λ t e. absurd (none_placed (hand_in l.procs txn) refl t e);
-      low = o.low;
-      high = o.high;
-      again = o.again;
-      left = o.left;
+      txn = record {
+        worker = ap (λ (t : PlainTxn). t.worker) same ∙ o.txn.worker;
+        width = ap (λ (t : PlainTxn). t.width) same ∙ o.txn.width;
+        mode = ap (λ (t : PlainTxn). t.mode) same ∙ o.txn.mode;
+        runs = runs;
+        stays = some;
+        leaving = leaving_none;
+        call = λ x e.
+            let f = settled_hand l.streams (seat_worker l seat []) k x phase (ap (λ (y : Worker). y.hand) (sym (settles (seat_worker l seat [])) ∙ shape (seat_worker l seat [])) ∙ e) in
+            subst (λ (n : Numbered). call_of l.calls n.number ≡ Some n.call) (sym f.0) number_is;
+        whose = λ x e.
+            let f = settled_hand l.streams (seat_worker l seat []) k x phase (ap (λ (y : Worker). y.hand) (sym (settles (seat_worker l seat [])) ∙ shape (seat_worker l seat [])) ∙ e) in
+            ap (λ (n : Numbered). number_worker l.workers n.number) (f.0 ∙ call) ∙ o.txn.whose h is;
+      };
+      store = record {
+        ends = λ e. o.store.ends had;
+        leaves = λ e. o.store.leaves had;
+        posts = λ t e. absurd (none_placed (hand_in l.procs txn) refl t e);
+        low = o.store.low;
+        high = o.store.high;
+        again = o.store.again;
+        left = o.store.left;
+      };
     };
   }
     where
@@ -150,21 +154,25 @@ module _ (l : Load) (w : ℕ) (seat new : PlainSeat) (h k : Hand) (txn : PlainTx
           pending = ap (λ (y : PlainSeat). y.pending) r.2;
         };
         sound = subst (λ (y : PlainSeat). SoundSeat l w y) (sym r.2) (record {
-          worker = ap (λ (t : PlainTxn). t.worker) r.0 ∙ ap (λ (t : PlainTxn). t.worker) same ∙ o.worker;
-          width = ap (λ (t : PlainTxn). t.width) r.0 ∙ ap (λ (t : PlainTxn). t.width) same ∙ o.width;
-          mode = ap (λ (t : PlainTxn). t.mode) r.0 ∙ ap (λ (t : PlainTxn). t.mode) same ∙ o.mode;
-          runs = subst (λ (t : PlainTxn). RunsBy l.procs t) (sym r.0) tt;
-          stays = ap (λ (t : PlainTxn). is_some t.hand) r.0 ∙ sym (ap is_some gone);
-          leaving = ap leaves_in r.0;
-          call = λ y f. absurd (let bad : None ≡ Some y = sym gone ∙ f in cc);
-          whose = λ y f. absurd (let bad : None ≡ Some y = sym gone ∙ f in cc);
-          ends = λ f. absurd (let bad : false ≡ true = sym (ap (λ (t : PlainTxn). is_some t.hand) r.0) ∙ f in cc);
-          leaves = λ f. absurd (let bad : false ≡ true = sym (ap (λ (t : PlainTxn). is_some t.hand) r.0) ∙ f in cc);
-          posts = λ t f. absurd (let bad : None ≡ Some t = sym (ap placed_in gone) ∙ f in cc);
-          low = o.low;
-          high = o.high;
-          again = o.again;
-          left = subst (λ (z : List ℕ). AreNumbers l z) (sym r.1) (numbers_append l seat.left x.number o.left (x.call, has));
+          txn = record {
+            worker = ap (λ (t : PlainTxn). t.worker) r.0 ∙ ap (λ (t : PlainTxn). t.worker) same ∙ o.txn.worker;
+            width = ap (λ (t : PlainTxn). t.width) r.0 ∙ ap (λ (t : PlainTxn). t.width) same ∙ o.txn.width;
+            mode = ap (λ (t : PlainTxn). t.mode) r.0 ∙ ap (λ (t : PlainTxn). t.mode) same ∙ o.txn.mode;
+            runs = subst (λ (t : PlainTxn). RunsBy l.procs t) (sym r.0) tt;
+            stays = ap (λ (t : PlainTxn). is_some t.hand) r.0 ∙ sym (ap is_some gone);
+            leaving = ap leaves_in r.0;
+            call = λ y f. absurd (let bad : None ≡ Some y = sym gone ∙ f in cc);
+            whose = λ y f. absurd (let bad : None ≡ Some y = sym gone ∙ f in cc);
+          };
+          store = record {
+            ends = λ f. absurd (let bad : false ≡ true = sym (ap (λ (t : PlainTxn). is_some t.hand) r.0) ∙ f in cc);
+            leaves = λ f. absurd (let bad : false ≡ true = sym (ap (λ (t : PlainTxn). is_some t.hand) r.0) ∙ f in cc);
+            posts = λ t f. absurd (let bad : None ≡ Some t = sym (ap placed_in gone) ∙ f in cc);
+            low = o.store.low;
+            high = o.store.high;
+            again = o.store.again;
+            left = subst (λ (z : List ℕ). AreNumbers l z) (sym r.1) (numbers_append l seat.left x.number o.store.left (x.call, has));
+          };
         });
       }
 

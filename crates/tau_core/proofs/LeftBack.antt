@@ -121,7 +121,7 @@ module _ (p p' : Plain) (K : List (Act Txn)) (h : Hidden) (g : Stands p K h) (l 
   sound_seat = g.sound.seat l.worker q.seat q.is
 
   split : Splits p.load.calls q.seat.left l.at l.number
-  split = splits p.load q.seat.left l.at l.number sound_seat.left q.number
+  split = splits p.load q.seat.left l.at l.number sound_seat.store.left q.number
 
   abbrev committed_there : List Committed
   committed_there = committed_by p.load.workers l.worker p.committed
@@ -184,21 +184,16 @@ module _ (p p' : Plain) (K : List (Act Txn)) (h : Hidden) (g : Stands p K h) (l 
   resumed_seat =
       let o = sound_seat in
       record {
-        worker = o.worker;
-        width = o.width;
-        mode = o.mode;
-        runs = o.runs;
-        stays = o.stays;
-        leaving = o.leaving;
-        call = o.call;
-        whose = o.whose;
-        ends = o.ends;
-        leaves = λ e. (let a = o.leaves e in let b = q.rooms in omega arith);
-        posts = o.posts;
-        low = o.low;
-        high = o.high;
-        again = λ n e. (let same : l.number ≡ n = cc in subst (λ (k : ℕ). IsNumber p.load k) same (number_got p.load q.seat.left l.at l.number o.left q.number));
-        left = numbers_less p.load q.seat.left l.at o.left;
+        txn = o.txn;
+        store = record {
+          ends = o.store.ends;
+          leaves = λ e. (let a = o.store.leaves e in let b = q.rooms in omega arith);
+          posts = o.store.posts;
+          low = o.store.low;
+          high = o.store.high;
+          again = λ n e. (let same : l.number ≡ n = cc in subst (λ (k : ℕ). IsNumber p.load k) same (number_got p.load q.seat.left l.at l.number o.store.left q.number));
+          left = numbers_less p.load q.seat.left l.at o.store.left;
+        };
       }
 
   resumed_stands : Invariant (setting_of p.load) K (core_of p' h) → Stands p' K h
@@ -238,7 +233,7 @@ resting_seats p K h g w s' q u s e =
     let o = g.sound.seat u s e in
     let none : hand_in p.load.procs s.txn ≡ None = ap (λ (x : Worker). x.hand) (sym is) ∙ rest.0 in
     let waits : waiting_in p.load s ≡ [] = ap (λ (x : Worker). x.waiting) (sym is) ∙ rest.1 in
-    (none_some s.txn.hand (o.stays ∙ ap is_some none), by_next (next_number (length p.load.calls) s) refl waits o)
+    (none_some s.txn.hand (o.txn.stays ∙ ap is_some none), by_next (next_number (length p.load.calls) s) refl waits o)
   where
     by_next : (n : Option ℕ) → next_number (length p.load.calls) s ≡ n → waiting_in p.load s ≡ [] → SoundSeat p.load u s → next_number (length p.load.calls) s ≡ None
     by_next None f waits o = f

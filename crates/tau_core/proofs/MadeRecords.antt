@@ -50,19 +50,19 @@ is_made p w start number base s t size m sound is wide same anchor raises runs b
     let procs = p.load.procs in
     let hand_is : hand_in procs t ≡ Some (raised m.hand base) = raises procs m.hand m.is in
     let act : Act Txn = act_of p w start number base m.hand m.effect (bytes_in t) in
-    let worker_is : t.worker ≡ w = ap (λ (x : PlainTxn). x.worker) same ∙ o.worker in
-    let width_is : t.width ≡ p.load.streams = ap (λ (x : PlainTxn). x.width) same ∙ o.width in
+    let worker_is : t.worker ≡ w = ap (λ (x : PlainTxn). x.worker) same ∙ o.txn.worker in
+    let width_is : t.width ≡ p.load.streams = ap (λ (x : PlainTxn). x.width) same ∙ o.txn.width in
     let act_is : act_at procs t start (raised m.hand base) ≡ act = (λ i. record {
       call = record { call = m.hand.call; worker = worker_is i; place = record { stream = worker_is i % width_is i; start = start; past = start + length (bytes_in t); dep = join m.hand.dep base }; anchor = anchor i };
       effect = effect_in (m.ended i);
     }) in
     let spelled : (vectors : List (List ℕ)) → base_of vectors number ≡ base → Spells One p.load.streams vectors false (entry_of p.load.mode act) (bytes_in t) =
     (λ (vectors : List (List ℕ)) (e : base_of vectors number ≡ base).
-    subst (λ (x : LogMode × ℕ). Spells One x.1 vectors false (entry_of x.0 act) (bytes_in t)) (λ i. (o.mode i, o.width i))
-    (subst (λ (a : Act Txn). Spells One s.txn.width vectors false (entry_of s.txn.mode a) (bytes_in t)) act_is (bytes procs (raised m.hand base) start vectors o.runs hand_is e))) in
+    subst (λ (x : LogMode × ℕ). Spells One x.1 vectors false (entry_of x.0 act) (bytes_in t)) (λ i. (o.txn.mode i, o.txn.width i))
+    (subst (λ (a : Act Txn). Spells One s.txn.width vectors false (entry_of s.txn.mode a) (bytes_in t)) act_is (bytes procs (raised m.hand base) start vectors o.txn.runs hand_is e))) in
     record {
       hand_is = hand_is;
-      runs = runs procs o.runs;
+      runs = runs procs o.txn.runs;
       act_is = act_is;
       spelled = spelled;
       small = size_small p.load.streams base p.load.mode act (bytes_in t) sound.streams_high wide spelled;

@@ -73,7 +73,7 @@ module _ (p : Plain) (K : List (Act Txn)) (h : Hidden) (g : Stands p K h) (w : �
   pub next_tells : (r : Option (ℕ × Key × Mode)) → IsNextLock p.load s r → TellsLock p h w r
   next_tells r (inl q) =
       let o = g.sound.seat w s is in
-      tells (hand_in p.load.procs s.txn) (some_shown (hand_in p.load.procs s.txn) refl (sym o.stays ∙ there s.txn.hand refl q.0)) r q.1
+      tells (hand_in p.load.procs s.txn) (some_shown (hand_in p.load.procs s.txn) refl (sym o.txn.stays ∙ there s.txn.hand refl q.0)) r q.1
   next_tells r (inr q) = by_next q.0 q.1
     where
       by_next : s.txn.hand ≡ None → ((n : ℕ) × (next_number (length p.load.calls) s ≡ Some n) × TellsFirst p.load n r) ⊎ ((next_number (length p.load.calls) s ≡ None) × (r ≡ None)) → TellsLock p h w r

@@ -36,10 +36,10 @@ pub next_is_that : (l : Load) (w : ℕ) (s : PlainSeat) (n : ℕ) → SoundSeat 
 next_is_that l w s n o e = by_again s.again refl e
   where
     by_again : (a : Option ℕ) → s.again ≡ a → number_by (length l.calls) s.next a ≡ Some n → Numbers l n
-    by_again (Some k) is f = (let k_is : k ≡ n = cc in let q = o.again n (is ∙ ap Some k_is) in numbers l n q.0 q.1)
+    by_again (Some k) is f = (let k_is : k ≡ n = cc in let q = o.store.again n (is ∙ ap Some k_is) in numbers l n q.0 q.1)
     by_again None is f = elim (leb_tells s.next (length l.calls)) [
       | inl le ↦
-          let low = o.low in
+          let low = o.store.low in
           let found = some_at l.calls (s.next - 1) (let u = le.1 in omega arith) in
           let same : s.next ≡ n = (let h = rw le.0 at f in cc) in
           let is_call : call_of l.calls s.next ≡ Some found.0 = called l.calls s.next found.0 low found.1 in

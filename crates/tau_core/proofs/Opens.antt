@@ -154,21 +154,25 @@ module _ (p : Plain) (o : Opens p.load p) where
       let none : hand_in p.load.procs s.txn ≡ None = ap (hand_in p.load.procs) r.txn in
       let still : is_some s.txn.hand ≡ false = ap (λ (t : PlainTxn). is_some t.hand) r.txn in
       record {
-        worker = ap (λ (t : PlainTxn). t.worker) r.txn;
-        width = ap (λ (t : PlainTxn). t.width) r.txn;
-        mode = ap (λ (t : PlainTxn). t.mode) r.txn;
-        runs = subst (λ (t : PlainTxn). RunsBy p.load.procs t) (sym r.txn) tt;
-        stays = still ∙ sym (ap is_some none);
-        leaving = ap leaves_in r.txn;
-        call = λ h f. no_hand none h f;
-        whose = λ h f. no_hand none h f;
-        ends = λ f. no_true still f;
-        leaves = λ f. no_true still f;
-        posts = λ t f. no_place t (ap placed_in none) f;
-        low = omega arith;
-        high = omega arith;
-        again = λ n f. no_number n r.again f;
-        left = subst (λ (l : List ℕ). AreNumbers p.load l) (sym r.left) tt;
+        txn = record {
+          worker = ap (λ (t : PlainTxn). t.worker) r.txn;
+          width = ap (λ (t : PlainTxn). t.width) r.txn;
+          mode = ap (λ (t : PlainTxn). t.mode) r.txn;
+          runs = subst (λ (t : PlainTxn). RunsBy p.load.procs t) (sym r.txn) tt;
+          stays = still ∙ sym (ap is_some none);
+          leaving = ap leaves_in r.txn;
+          call = λ h f. no_hand none h f;
+          whose = λ h f. no_hand none h f;
+        };
+        store = record {
+          ends = λ f. no_true still f;
+          leaves = λ f. no_true still f;
+          posts = λ t f. no_place t (ap placed_in none) f;
+          low = omega arith;
+          high = omega arith;
+          again = λ n f. no_number n r.again f;
+          left = subst (λ (l : List ℕ). AreNumbers p.load l) (sym r.left) tt;
+        };
       }
 
   none_open : (l : Load) (xs : List PlainSeat) → ((w : ℕ) (s : PlainSeat) → slice_get xs w ≡ Some s → is_open (hand_in l.procs s.txn) ≡ false) → open_calls l xs ≡ 0

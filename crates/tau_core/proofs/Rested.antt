@@ -185,21 +185,25 @@ module _ (p : Plain) (K : List (Act Txn)) (s : Core) (taken : ℕ → List ℕ) 
   seat_sound w x e =
       let r = rest.seat w x e in
       record {
-        worker = r.worker;
-        width = r.width;
-        mode = r.mode;
-        runs = tt;
-        stays = refl;
-        leaving = refl;
-        call = λ h f. absurd (let bad : None ≡ Some h = f in cc);
-        whose = λ h f. absurd (let bad : None ≡ Some h = f in cc);
-        ends = λ f. absurd (let bad : false ≡ true = f in cc);
-        leaves = λ f. absurd (let bad : false ≡ true = f in cc);
-        posts = λ t f. absurd (let bad : None ≡ Some t = f in cc);
-        low = r.low;
-        high = r.high;
-        again = r.again;
-        left = r.left;
+        txn = record {
+          worker = r.worker;
+          width = r.width;
+          mode = r.mode;
+          runs = tt;
+          stays = refl;
+          leaving = refl;
+          call = λ h f. absurd (let bad : None ≡ Some h = f in cc);
+          whose = λ h f. absurd (let bad : None ≡ Some h = f in cc);
+        };
+        store = record {
+          ends = λ f. absurd (let bad : false ≡ true = f in cc);
+          leaves = λ f. absurd (let bad : false ≡ true = f in cc);
+          posts = λ t f. absurd (let bad : None ≡ Some t = f in cc);
+          low = r.low;
+          high = r.high;
+          again = r.again;
+          left = r.left;
+        };
       }
 
   is_sound : Sound after

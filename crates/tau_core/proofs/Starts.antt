@@ -114,39 +114,43 @@ module _ (p p' : Plain) (K : List (Act Txn)) (h : Hidden) (g : Stands p K h) (w 
       account.whose n (omega arith)
 
   begun_is : hand_in p.load.procs q.new.txn ≡ Some (fresh p.load.streams call_n 0)
-  begun_is = q.begun ∙ ap (λ (k : ℕ). Some (fresh k call_n 0)) o.width
+  begun_is = q.begun ∙ ap (λ (k : ℕ). Some (fresh k call_n 0)) o.txn.width
 
   next_high : (a : Option ℕ) → q.seat.again ≡ a → number_by (length p.load.calls) q.seat.next a ≡ Some n → next_behind p.load.workers q.seat.next a ≤ length p.load.calls + p.load.workers
-  next_high (Some k) is e = o.high
+  next_high (Some k) is e = o.store.high
   next_high None is e = elim (leb_tells q.seat.next (length p.load.calls)) [ inl le ↦ (let u = le.1 in omega arith) | inr gt ↦ absurd (let f = rw gt.0 at e in cc) ]
 
   next_low : (a : Option ℕ) → 1 ≤ next_behind p.load.workers q.seat.next a
-  next_low (Some k) = o.low
-  next_low None = let l = o.low in omega arith
+  next_low (Some k) = o.store.low
+  next_low None = let l = o.store.low in omega arith
 
   new_sound : SoundSeat p.load w q.new
   new_sound =
       let rooms = roomy.seat q.seat q.is in
       subst (λ (x : PlainSeat). SoundSeat p.load w x) (sym q.others) (record {
-        worker = ap (λ (t : PlainTxn). t.worker) q.same ∙ o.worker;
-        width = ap (λ (t : PlainTxn). t.width) q.same ∙ o.width;
-        mode = ap (λ (t : PlainTxn). t.mode) q.same ∙ o.mode;
-        runs = q.runs;
-        stays = both_some p.load.procs q.new.txn (fresh p.load.streams call_n 0) begun_is;
-        leaving = q.stays;
-        call = λ x e.
-            let same : fresh p.load.streams call_n 0 ≡ x = (let f : Some (fresh p.load.streams call_n 0) ≡ Some x = sym begun_is ∙ e in cc) in
-            subst (λ (y : Hand). call_of p.load.calls y.call.number ≡ Some y.call.call) same q.call_is;
-        whose = λ x e.
-            let same : fresh p.load.streams call_n 0 ≡ x = (let f : Some (fresh p.load.streams call_n 0) ≡ Some x = sym begun_is ∙ e in cc) in
-            subst (λ (y : Hand). worker_of p.load.workers y.call.number ≡ w) same number_whose;
-        ends = λ e. rooms.0;
-        leaves = λ e. rooms.1;
-        posts = λ t e. absurd (let bad : None ≡ Some t = sym (ap placed_in begun_is) ∙ e in cc);
-        low = next_low q.seat.again;
-        high = next_high q.seat.again refl (next q.seat q.is);
-        again = λ k e. cc;
-        left = o.left;
+        txn = record {
+          worker = ap (λ (t : PlainTxn). t.worker) q.same ∙ o.txn.worker;
+          width = ap (λ (t : PlainTxn). t.width) q.same ∙ o.txn.width;
+          mode = ap (λ (t : PlainTxn). t.mode) q.same ∙ o.txn.mode;
+          runs = q.runs;
+          stays = both_some p.load.procs q.new.txn (fresh p.load.streams call_n 0) begun_is;
+          leaving = q.stays;
+          call = λ x e.
+              let same : fresh p.load.streams call_n 0 ≡ x = (let f : Some (fresh p.load.streams call_n 0) ≡ Some x = sym begun_is ∙ e in cc) in
+              subst (λ (y : Hand). call_of p.load.calls y.call.number ≡ Some y.call.call) same q.call_is;
+          whose = λ x e.
+              let same : fresh p.load.streams call_n 0 ≡ x = (let f : Some (fresh p.load.streams call_n 0) ≡ Some x = sym begun_is ∙ e in cc) in
+              subst (λ (y : Hand). worker_of p.load.workers y.call.number ≡ w) same number_whose;
+        };
+        store = record {
+          ends = λ e. rooms.0;
+          leaves = λ e. rooms.1;
+          posts = λ t e. absurd (let bad : None ≡ Some t = sym (ap placed_in begun_is) ∙ e in cc);
+          low = next_low q.seat.again;
+          high = next_high q.seat.again refl (next q.seat q.is);
+          again = λ k e. cc;
+          left = o.store.left;
+        };
       })
 
   pub begins_of : Begins w p p'
@@ -201,21 +205,16 @@ module _ (p p' : Plain) (K : List (Act Txn)) (h : Hidden) (g : Stands p K h) (w 
           gathered = g.sound.gathered;
           plv = g.sound.plv;
           seat = each_got (SoundSeat p.load) p.seats w roomier within (record {
-            worker = o.worker;
-            width = o.width;
-            mode = o.mode;
-            runs = o.runs;
-            stays = o.stays;
-            leaving = o.leaving;
-            call = o.call;
-            whose = o.whose;
-            ends = λ e. (let a = o.ends e in let b = q.pending_room in omega arith);
-            leaves = λ e. (let a = o.leaves e in let b = q.left_room in omega arith);
-            posts = o.posts;
-            low = o.low;
-            high = o.high;
-            again = o.again;
-            left = o.left;
+            txn = o.txn;
+            store = record {
+              ends = λ e. (let a = o.store.ends e in let b = q.pending_room in omega arith);
+              leaves = λ e. (let a = o.store.leaves e in let b = q.left_room in omega arith);
+              posts = o.store.posts;
+              low = o.store.low;
+              high = o.store.high;
+              again = o.store.again;
+              left = o.store.left;
+            };
           }) g.sound.seat;
           wide = g.sound.wide;
           narrow = g.sound.narrow;

@@ -93,21 +93,16 @@ roomy_unmoved p p' K h g w q =
       load = refl;
       stands = record {
         sound = seat_sound p h w q.seat roomy q.is g.sound (record {
-          worker = o.worker;
-          width = o.width;
-          mode = o.mode;
-          runs = o.runs;
-          stays = o.stays;
-          leaving = o.leaving;
-          call = o.call;
-          whose = o.whose;
-          ends = o.ends;
-          leaves = o.leaves;
-          posts = λ t e. (let a = o.posts t e in let b = q.room in omega arith);
-          low = o.low;
-          high = o.high;
-          again = o.again;
-          left = o.left;
+          txn = o.txn;
+          store = record {
+            ends = o.store.ends;
+            leaves = o.store.leaves;
+            posts = λ t e. (let a = o.store.posts t e in let b = q.room in omega arith);
+            low = o.store.low;
+            high = o.store.high;
+            again = o.store.again;
+            left = o.store.left;
+          };
         }) (omega arith);
         inv = subst (λ (c : Core). Invariant (setting_of p.load) K c) (sym same) g.inv;
         order = g.order;
@@ -279,7 +274,7 @@ module _ (p p' : Plain) (K : List (Act Txn)) (h : Hidden) (g : Stands p K h) (w 
       let o = g.sound.seat w found.0 found.1 in (
         unmoved p p' K h g q.0,
         elsewhere_by p K h g w found.0 Locking phase found.1
-            (λ e. absurd (has found.0 found.1 (none_some found.0.txn.hand (o.stays ∙ ap is_some e)))) at.0 at.1,
+            (λ e. absurd (has found.0 found.1 (none_some found.0.txn.hand (o.txn.stays ∙ ap is_some e)))) at.0 at.1,
       )
   locks_on outcome.NoMemory has q = (short_unmoved p p' K h g q.0, inl (is_at Locking q.1))
   locks_on outcome.Went has q = absurd q

@@ -6,7 +6,9 @@ use Rattle.tau_core.specs.declared.event.Outcome.{Outcome}
 use Rattle.tau_core.specs.declared.event.Outcome.TheVariants.{NotNow, NoMemory}
 use Rattle.tau_core.specs.Plain.{PlainSeat}
 use Rattle.tau_core.specs.State.{Plain}
-use Rattle.tau_core.specs.Begins.{next_number, HasNext, RoomMade, BeginsNext, IsRoomy, Undone}
+use Rattle.tau_core.specs.declared.begin.Mark.{Mark}
+use Rattle.tau_core.specs.Stands.{Sound}
+use Rattle.tau_core.specs.Begins.{next_number, HasNext, RoomMade, BeginsNext, IsRoomy, Undone, seat_at}
 
 abbrev pub Rests : Plain → ℕ → Type 0
 Rests p w = (s : PlainSeat) → slice_get p.seats w ≡ Some s → s.txn.hand ≡ None
@@ -17,6 +19,14 @@ pub record BegunAs (w n : ℕ) (p m : Plain) : Type 0 where
   pub made : RoomMade w p roomy
   pub enough : IsRoomy w roomy
   pub begins : BeginsNext w n roomy m
+
+-- and the mark tells where the worker stood
+pub record BegunFrom (w n : ℕ) (p : Plain) (mark : Mark) (m : Plain) : Type 0 where
+  pub as_begun : BegunAs w n p m
+  pub marked : mark ≡ record { next = as_begun.begins.seat.next; again = as_begun.begins.seat.again }
+  pub sound : Sound m
+  -- what is tried next may change the other parts
+  pub fresh : (t : Plain) → t.seats ≡ m.seats → (s : PlainSeat) → slice_get t.seats w ≡ Some s → seat_at s
 
 -- it is begun, and undone since the event is not its first action, or memory ran out
 pub record BegunUndone (inner : Plain → ℕ → Outcome → Plain → Type 0) (w n : ℕ) (p : Plain) (outcome : Outcome) (p' : Plain) : Type 0 where

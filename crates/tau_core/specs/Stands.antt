@@ -9,7 +9,7 @@ use Rattle.tau_machine.specs.Invariant.{Invariant}
 use Rattle.tau_machine.specs.Pieces.{placed_in}
 use Rattle.tau_machine.specs.Shapes.{ShardShape}
 use Rattle.tau_machine.specs.State.{Record}
-use Rattle.tau_txn.specs.Txn.{hand_in, RunsBy, bytes_in, leaves_in}
+use Rattle.tau_txn.specs.Txn.{PlainTxn, hand_in, RunsBy, bytes_in, leaves_in}
 use Rattle.tau_shard.specs.Plain.{PlainShard}
 use Rattle.tau_shard.specs.Read.{shard_of}
 use Rattle.tau_core.specs.declared.state.Load.{Load}
@@ -36,18 +36,21 @@ abbrev pub AreNumbers : Load → List ℕ → Type 0
 AreNumbers l [] = Unit {0}
 AreNumbers l (n ∷ ns) = IsNumber l n × AreNumbers l ns
 
--- a worker's part: its call in hand is one of the run, and has the room that it will need
-pub record SoundSeat (l : Load) (w : ℕ) (s : PlainSeat) : Type 0 where
-  pub worker : s.txn.worker ≡ w
-  pub width : s.txn.width ≡ l.streams
-  pub mode : s.txn.mode ≡ l.mode
-  pub runs : RunsBy l.procs s.txn
+-- a worker's transaction: it is the worker's own, and its call in hand is one of the run
+pub record SoundTxn (l : Load) (w : ℕ) (t : PlainTxn) : Type 0 where
+  pub worker : t.worker ≡ w
+  pub width : t.width ≡ l.streams
+  pub mode : t.mode ≡ l.mode
+  pub runs : RunsBy l.procs t
   -- a call that is left over does not stay
-  pub stays : is_some s.txn.hand ≡ is_some (hand_in l.procs s.txn)
+  pub stays : is_some t.hand ≡ is_some (hand_in l.procs t)
   -- and no call is given up
-  pub leaving : leaves_in s.txn ≡ false
-  pub call : (h : Hand) → hand_in l.procs s.txn ≡ Some h → call_of l.calls h.call.number ≡ Some h.call.call
-  pub whose : (h : Hand) → hand_in l.procs s.txn ≡ Some h → worker_of l.workers h.call.number ≡ w
+  pub leaving : leaves_in t ≡ false
+  pub call : (h : Hand) → hand_in l.procs t ≡ Some h → call_of l.calls h.call.number ≡ Some h.call.call
+  pub whose : (h : Hand) → hand_in l.procs t ≡ Some h → worker_of l.workers h.call.number ≡ w
+
+-- what a worker's part has in store: the room that its call in hand will need, and numbers of calls
+pub record SoundStore (l : Load) (s : PlainSeat) : Type 0 where
   pub ends : is_some s.txn.hand ≡ true → 1 ≤ s.pending.room
   pub leaves : is_some s.txn.hand ≡ true → 1 ≤ s.room
   pub posts : (t : Act Txn) → placed_in (hand_in l.procs s.txn) ≡ Some t → 1 ≤ s.outbox.room
@@ -55,6 +58,11 @@ pub record SoundSeat (l : Load) (w : ℕ) (s : PlainSeat) : Type 0 where
   pub high : s.next ≤ length l.calls + l.workers
   pub again : (n : ℕ) → s.again ≡ Some n → IsNumber l n
   pub left : AreNumbers l s.left
+
+-- a worker's part
+pub record SoundSeat (l : Load) (w : ℕ) (s : PlainSeat) : Type 0 where
+  pub txn : SoundTxn l w s.txn
+  pub store : SoundStore l s
 
 -- the anchors of a stream have a position for each stream, and its body keeps within its limit
 abbrev pub SoundStream : Load → PlainStream → Type 0

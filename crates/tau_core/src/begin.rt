@@ -1,13 +1,14 @@
 //! A worker that rests begins its next call.
-ghost use Rattle.std.specs.Prelude.{◌≡◌, ◌<◌, ◌≤◌, ◌+◌, ◌-◌, ◌++◌, ◌∷◌, [], None, Some, OnOk, OnErr, length, slice_get, is_some, IsTrue, false};
+ghost use Rattle.std.specs.Prelude.{◌≡◌, ◌<◌, ◌≤◌, ◌+◌, ◌-◌, ◌++◌, ◌∷◌, [], None, Some, IfOk, OnOk, OnErr, length, slice_get, is_some, IsTrue, false};
 ghost use Rattle.tau_core.specs.State.{plain};
-ghost use Rattle.tau_core.specs.Stands.{Sound};
+ghost use Rattle.tau_core.specs.Stands.{Sound, Stood};
 ghost use Rattle.tau_core.specs.Plain.{PlainSeat};
 ghost use Rattle.tau_core.specs.View.{call_of};
 ghost use Rattle.tau_proc.specs.Takes.{takes};
 ghost use Rattle.tau_machine.specs.Worker.{fresh};
 ghost use Rattle.tau_txn.specs.Txn.{hand_in, RunsBy, leaves_in};
 ghost use Rattle.tau_core.specs.Begins.{next_number, HasNext, RoomMade, IsRoomy, BeginsNext, Undone, next_behind, seat_at};
+ghost use Rattle.tau_core.specs.Firsts.{BegunFrom, Rests};
 
 use crate::state::{Seat, State};
 use tau_base::{KeptCall, MAX_WORKERS, NoMemory};
@@ -58,7 +59,7 @@ fn number_in(seat: &Seat, calls: usize) -> Option<u64>
 }
 
 /// Makes all room that a call needs until it is acknowledged, but for its record.
-pub(crate) fn make_room(state: &mut State, worker: usize) -> Result<(), NoMemory>
+fn make_room(state: &mut State, worker: usize) -> Result<(), NoMemory>
     requires sound { Sound (plain state.old) }
     requires there { worker < state.old.load.workers }
     ensures made { RoomMade worker (plain state.old) (plain state.new) }
@@ -92,7 +93,7 @@ fn seat_room(seat: &mut Seat) -> Result<(), NoMemory>
 }
 
 /// Begins the call of this number, the next one.
-pub(crate) fn begin_call(state: &mut State, worker: usize, number: u64) -> Mark
+fn begin_call(state: &mut State, worker: usize, number: u64) -> Mark
     requires sound { Sound (plain state.old) }
     requires there { worker < state.old.load.workers }
     requires rests { (s : PlainSeat) → slice_get state.old.seats.items worker ≡ Some s → s.txn.hand ≡ None }
@@ -134,6 +135,19 @@ fn start(seat: &mut Seat, procs: &Procs, number: u64, call: &KeptCall, workers: 
         seat.next += workers;
     }
     seat.again = None;
+}
+
+/// Makes the room that the call of this number needs, the next one of a worker that rests, and begins it.
+pub(crate) fn begin_first(state: &mut State, worker: usize, number: u64) -> Result<Mark, NoMemory>
+    requires stood { Stood (plain state.old) }
+    requires there { worker < state.old.load.workers }
+    requires rests { Rests (plain state.old) worker }
+    requires next { HasNext (plain state.old) worker number }
+    ensures begun { IfOk result (λ mark. BegunFrom worker number (plain state.old) mark (plain state.new)) }
+    ensures made { OnErr result (RoomMade worker (plain state.old) (plain state.new)) }
+{
+    make_room(state, worker)?;
+    Ok(begin_call(state, worker, number))
 }
 
 /// Gives the call up that was begun, as if it had not been.

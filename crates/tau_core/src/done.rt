@@ -7,7 +7,7 @@ ghost use Rattle.tau_core.specs.Firsts.{ActsBy, BeginsBy, Rests};
 ghost use Rattle.tau_core.specs.Frees.{IsAtDone, DoneBy, EndsCall, HasJoined};
 ghost use Rattle.tau_core.specs.Answered.{went_by};
 
-use crate::begin::{begin_call, in_hand, make_room, next_number, undo};
+use crate::begin::{begin_first, in_hand, next_number, undo};
 use crate::event::Acted;
 use crate::state::State;
 use tau_txn::ActionKind;
@@ -37,20 +37,17 @@ fn first_done(state: &mut State, worker: usize, number: u64) -> Acted
     requires next { HasNext (plain state.old) worker number }
     ensures { BeginsBy DoneBy worker number (plain state.old) (went_by result) (plain state.new) }
 {
-    match make_room(state, worker) {
-        Err(_) => Acted::NoMemory,
-        Ok(()) => {
-            let mark = begin_call(state, worker, number);
-            match done_next(state, worker) {
-                Acted::Other { .. } => {
-                    undo(state, worker, mark);
-                    Acted::Other {
-                        kind: ActionKind::Nothing,
-                    }
-                }
-                acted => acted,
+    let Ok(mark) = begin_first(state, worker, number) else {
+        return Acted::NoMemory;
+    };
+    match done_next(state, worker) {
+        Acted::Other { .. } => {
+            undo(state, worker, mark);
+            Acted::Other {
+                kind: ActionKind::Nothing,
             }
         }
+        acted => acted,
     }
 }
 
@@ -96,7 +93,7 @@ fn finish_on(state: &mut State, worker: usize)
 {
     let seat = &mut state.seats[worker];
     let Some(number) = seat.txn.number() else {
-        return;
+        unreachable!()
     };
     let vector = seat.txn.lv_ref();
     seat.pending.put_from(number, vector);
@@ -113,7 +110,7 @@ fn finish_first(state: &mut State, worker: usize)
 {
     let seat = &mut state.seats[worker];
     let Some(number) = seat.txn.number() else {
-        return;
+        unreachable!()
     };
     seat.txn.commit_into(&mut state.committed);
     seat.pending.put_from(number, seat.txn.lv_ref());

@@ -8,7 +8,7 @@ ghost use Rattle.tau_core.specs.Locks.{LockedBy, IsAtLock, Leaves};
 ghost use Rattle.tau_core.specs.Answered.{WithValue};
 ghost use Rattle.tau_txn.specs.Txn.{RunsBy};
 
-use crate::begin::{begin_call, in_hand, make_room, next_number, undo};
+use crate::begin::{begin_first, in_hand, next_number, undo};
 use crate::event::Acted;
 use crate::state::{Seat, State};
 use tau_base::{Key, Mode, shard_of};
@@ -41,24 +41,21 @@ fn first_lock(state: &mut State, worker: usize, number: u64) -> Acted
     requires next { HasNext (plain state.old) worker number }
     ensures { WithValue (λ outcome. BeginsBy LockedBy worker number (plain state.old) outcome (plain state.new)) result }
 {
-    match make_room(state, worker) {
-        Err(_) => Acted::NoMemory,
-        Ok(()) => {
-            let mark = begin_call(state, worker, number);
-            match lock_next(state, worker) {
-                Acted::Went => Acted::Went,
-                Acted::Busy { holder } => Acted::Busy { holder },
-                Acted::Other { .. } => {
-                    undo(state, worker, mark);
-                    Acted::Other {
-                        kind: ActionKind::Nothing,
-                    }
-                }
-                Acted::NoMemory => {
-                    undo(state, worker, mark);
-                    Acted::NoMemory
-                }
+    let Ok(mark) = begin_first(state, worker, number) else {
+        return Acted::NoMemory;
+    };
+    match lock_next(state, worker) {
+        Acted::Went => Acted::Went,
+        Acted::Busy { holder } => Acted::Busy { holder },
+        Acted::Other { .. } => {
+            undo(state, worker, mark);
+            Acted::Other {
+                kind: ActionKind::Nothing,
             }
+        }
+        Acted::NoMemory => {
+            undo(state, worker, mark);
+            Acted::NoMemory
         }
     }
 }

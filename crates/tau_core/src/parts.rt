@@ -9,7 +9,7 @@ use std::alloc::Global;
 use tau_ack::Pending;
 use tau_base::{Key, LogMode, Lv, Mode, NoMemory, SHARDS, Value, shard_of};
 use tau_outbox::Outbox;
-use tau_shard::Shard;
+use tau_shard::{Shard, ShardRefusal};
 use tau_txn::Txn;
 
 /// The workers, of which none has begun a call.
@@ -115,8 +115,11 @@ fn put_row(part: &mut Shard, key: Key, value: Value, floor: &Lv) -> Result<(), N
     ensures { OnOk result (PutsRow floor.now key value part.old part.new) }
 {
     let mut dep = *floor;
-    part.lock(0, key, Mode::Write, &mut dep)
-        .map_err(|_| NoMemory)?;
+    match part.lock_key(0, key, Mode::Write, &mut dep) {
+        Ok(()) => {}
+        Err(ShardRefusal::NoMemory) => return Err(NoMemory),
+        Err(ShardRefusal::Busy { holder: _ }) => unreachable!(),
+    }
     part.free(0, key, floor, Some(value));
     part.drop_covered(floor);
     Ok(())

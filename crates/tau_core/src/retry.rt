@@ -6,7 +6,7 @@ ghost use Rattle.tau_core.specs.Begins.{HasNext};
 ghost use Rattle.tau_core.specs.Firsts.{ActsBy, BeginsBy, Rests};
 ghost use Rattle.tau_core.specs.Retries.{GivesWay, IsAtSome, RetriedBy};
 
-use crate::begin::{begin_call, in_hand, make_room, next_number, undo};
+use crate::begin::{begin_first, in_hand, next_number, undo};
 use crate::event::{Outcome, Phase};
 use crate::lock::leave;
 use crate::phase::phase_of_kind;
@@ -37,20 +37,17 @@ fn first_retry(state: &mut State, worker: usize, number: u64) -> Outcome
     requires next { HasNext (plain state.old) worker number }
     ensures { BeginsBy RetriedBy worker number (plain state.old) result (plain state.new) }
 {
-    match make_room(state, worker) {
-        Err(_) => Outcome::NoMemory,
-        Ok(()) => {
-            let mark = begin_call(state, worker, number);
-            match retry_next(state, worker) {
-                Outcome::NotNow { .. } => {
-                    undo(state, worker, mark);
-                    Outcome::NotNow {
-                        phase: Phase::Resting,
-                    }
-                }
-                outcome => outcome,
+    let Ok(mark) = begin_first(state, worker, number) else {
+        return Outcome::NoMemory;
+    };
+    match retry_next(state, worker) {
+        Outcome::NotNow { .. } => {
+            undo(state, worker, mark);
+            Outcome::NotNow {
+                phase: Phase::Resting,
             }
         }
+        outcome => outcome,
     }
 }
 

@@ -145,7 +145,7 @@ module _ (origin : Plain) (q : Opened origin.load origin) where
       let g = q.stands.sound.seat w x e in
       let cs : List Committed = committed_by origin.load.workers w origin.committed in
       let shown : hand_in origin.load.procs x.txn ≡ None = sym (ap (λ (s : Option PlainSeat). (worker_in origin.load s cs).hand) e) ∙ q.opening.hands w in
-      let none : x.txn.hand ≡ None = none_some x.txn.hand (g.stays ∙ ap is_some shown) in
+      let none : x.txn.hand ≡ None = none_some x.txn.hand (g.txn.stays ∙ ap is_some shown) in
       let empty : cs ≡ [] = ap (λ (s : Option PlainSeat). (worker_in origin.load s cs).committed) (sym e) ∙ q.opening.committed w in
       let lacks : is_some x.txn.hand ≡ true → ⊥ = λ h. (let bad : false ≡ true = sym (ap is_some none) ∙ h in cc) in
       let quiet : next_action x.txn ≡ action.Post → ⊥ = λ h. no_post x.txn.hand none h in
@@ -162,17 +162,17 @@ module _ (origin : Plain) (q : Opened origin.load origin) where
           there = low;
           shows = ap (λ (s : Option PlainSeat). worker_in origin.load s cs) e ∙ ap (seat_worker origin.load x) empty;
           fits = record {
-            worker = g.worker;
-            width = g.width;
-            mode = g.mode;
-            runs = g.runs;
-            stays = g.stays;
-            call = g.call;
-            low = g.low;
-            high = g.high;
-            again = g.again;
+            worker = g.txn.worker;
+            width = g.txn.width;
+            mode = g.txn.mode;
+            runs = g.txn.runs;
+            stays = g.txn.stays;
+            call = g.txn.call;
+            low = g.store.low;
+            high = g.store.high;
+            again = g.store.again;
             mark = λ k h. absurd (no_mark k h);
-            left = g.left;
+            left = g.store.left;
             leaves = λ h. absurd (lacks h);
             ends = λ h. absurd (lacks h);
             posts = λ h. absurd (quiet h);
@@ -191,7 +191,7 @@ module _ (origin : Plain) (q : Opened origin.load origin) where
       let same : o ≡ work_of x h.2.0 = inside o (work_of x h.2.0) h.2.1 in
       let cs : List Committed = committed_by origin.load.workers w origin.committed in
       let shown : hand_in origin.load.procs x.txn ≡ None = sym (ap (λ (s : Option PlainSeat). (worker_in origin.load s cs).hand) h.1) ∙ q.opening.hands w in
-      let none : x.txn.hand ≡ None = none_some x.txn.hand ((q.stands.sound.seat w x h.1).stays ∙ ap is_some shown) in
+      let none : x.txn.hand ≡ None = none_some x.txn.hand ((q.stands.sound.seat w x h.1).txn.stays ∙ ap is_some shown) in
       (ap (λ (y : PlainWork). y.txn.hand) same ∙ none, ap (λ (y : PlainWork). y.mark) same)
     where
       inside : (y z : PlainWork) → Some y ≡ Some z → y ≡ z

@@ -73,10 +73,9 @@ pub fn lock<R: Wait>(
     };
     let number = usize::from(shard_of(key));
     let mut shard = take_shard(rt, desk, seat, number);
-    let mut dep = *txn.dep_ref();
-    match shard.lock_key(worker, key, mode, &mut dep) {
+    let _wide = txn.dep_ref();
+    match txn.lock_on(&mut shard, worker, key, mode) {
         Ok(()) => {
-            txn.granted_by(shard.row(key), &dep);
             desk.give_shard(seat, number, shard, txn);
             Acted::Went
         }

@@ -43,7 +43,7 @@ start-requires-clause-small c =
     let o = c.requires.sound.seat c.args.worker c.index_mut-seat.result.now is in
     let n = next_is_that c.args.state.now.load c.args.worker c.index_mut-seat.result.now c.args.number o (c.requires.next c.index_mut-seat.result.now is) in
     let few = c.requires.sound.few in
-    let high = o.high in
+    let high = o.store.high in
     let w = c.requires.sound.workers_high in
     omega arith
 

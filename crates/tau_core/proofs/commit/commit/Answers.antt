@@ -17,7 +17,7 @@ place-requires-clause-at c = λ s e.
     let o = c.requires.sound.seat c.args.worker (seat_in c.seat.inside) is in
     let same : seat_in c.seat.inside ≡ s = (let f : Some (seat_in c.seat.inside) ≡ Some s = sym is ∙ e in cc) in
     let at = commit_kind (next_action c.seat.inside.txn) (sym c.kind.ensures.kind ∙ c.in-Commit.is) in
-    let means = subst (λ (a : Action). Means c.args.state.now.load.procs c.seat.inside.txn a) at.1 (c.kind.ensures.means c.args.state.now.load.procs o.runs) in
+    let means = subst (λ (a : Action). Means c.args.state.now.load.procs c.seat.inside.txn a) at.1 (c.kind.ensures.means c.args.state.now.load.procs o.txn.runs) in
     (at.0, ap (λ (x : PlainSeat). next_action x.txn) (sym same) ∙ at.1, subst (λ (x : PlainSeat). Means c.args.state.now.load.procs x.txn (action.Commit at.0)) same means)
 
 pub returns-in_default : goal.returns-in_default
@@ -28,7 +28,7 @@ returns-in_default c = (
       let same : seat_in c.seat.inside ≡ s = (let f : Some (seat_in c.seat.inside) ≡ Some s = sym is ∙ e in cc) in
       let o = c.requires.sound.seat c.args.worker (seat_in c.seat.inside) is in
       let next : Action = next_action c.seat.inside.txn in
-      let phase = means_phase c.args.state.now.load.procs c.seat.inside.txn next (c.kind.ensures.means c.args.state.now.load.procs o.runs) o.leaving o.stays in (
+      let phase = means_phase c.args.state.now.load.procs c.seat.inside.txn next (c.kind.ensures.means c.args.state.now.load.procs o.txn.runs) o.txn.leaving o.txn.stays in (
         ap phase_of_kind c.kind.ensures.kind ∙ sym (phase_kind next) ∙ sym phase ∙ ap (λ (x : PlainSeat). hand_phase c.args.state.now.load.procs (hand_in c.args.state.now.load.procs x.txn)) same,
         λ f. elsewhere_commit c.kind.result c.in_default.not-Commit f,
       ),

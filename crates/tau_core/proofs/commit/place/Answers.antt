@@ -21,7 +21,7 @@ returns-then-start c = (
   λ s e.
       let o = c.requires.sound.seat c.args.worker s e in
       let at = c.requires.at s e in
-      means_phase c.args.state.now.load.procs s.txn (action.Commit at.0) at.2 o.leaving o.stays,
+      means_phase c.args.state.now.load.procs s.txn (action.Commit at.0) at.2 o.txn.leaving o.txn.stays,
 )
 
 pub returns-then-not-newest : goal.returns-then-not-newest
@@ -30,7 +30,7 @@ returns-then-not-newest c = (
   λ s e.
       let o = c.requires.sound.seat c.args.worker s e in
       let at = c.requires.at s e in
-      means_phase c.args.state.now.load.procs s.txn (action.Commit at.0) at.2 o.leaving o.stays,
+      means_phase c.args.state.now.load.procs s.txn (action.Commit at.0) at.2 o.txn.leaving o.txn.stays,
 )
 
 pub place_above-requires-clause-names : goal.place_above-requires-clause-names

@@ -32,7 +32,7 @@ returns-in-Err c =
       λ s e.
           let o = c.requires.sound.seat c.args.worker s e in
           let at = c.requires.at s e in
-          means_phase c.args.state.now.load.procs s.txn (action.Commit at.0) at.2 o.leaving o.stays,
+          means_phase c.args.state.now.load.procs s.txn (action.Commit at.0) at.2 o.txn.leaving o.txn.stays,
     )
 
 pub prepare-requires-clause-commit : goal.prepare-requires-clause-commit
@@ -45,7 +45,7 @@ pub prepare-requires-clause-wide : goal.prepare-requires-clause-wide
 prepare-requires-clause-wide c =
     let is = found_seat c.args.state.now c.args.worker c.index_mut-seat.result.now c.seat.inside c.requires.sound c.requires.there c.index_mut-seat.ensures.value c.seat.view_is in
     let o = c.requires.sound.seat c.args.worker (seat_in c.seat.inside) is in
-    c.requires.wide ∙ sym o.width
+    c.requires.wide ∙ sym o.txn.width
 
 pub returns-in-Err-prepare : goal.returns-in-Err-prepare
 returns-in-Err-prepare c =
@@ -61,7 +61,7 @@ returns-in-Err-prepare c =
       λ s e.
           let o = c.requires.sound.seat c.args.worker s e in
           let at = c.requires.at s e in
-          means_phase c.args.state.now.load.procs s.txn (action.Commit at.0) at.2 o.leaving o.stays,
+          means_phase c.args.state.now.load.procs s.txn (action.Commit at.0) at.2 o.txn.leaving o.txn.stays,
     )
 
 pub overflow_add-past : goal.overflow_add-past
@@ -158,7 +158,7 @@ returns-in-Ok-prepare c =
       pieces = c.reserve.ensures.pieces;
       others = refl;
       sound = sound_placed c.args.state.now.load c.args.worker (seat_in c.seat.inside) new m.hand (hand_joined m.hand (Placed act) (join m.hand.dep base)) o m.is refl same placed refl runs'
-          (c.placed.ensures.stays (c.in-Ok-prepare.ensures.stays o.leaving)) c.in-Ok.ensures.room;
+          (c.placed.ensures.stays (c.in-Ok-prepare.ensures.stays o.txn.leaving)) c.in-Ok.ensures.room;
       rooms = rooms_new (plain c.args.state.now) c.args.worker (seat_in c.seat.inside) new m.hand act is m.is (one_none c.args.state.now.load new (hand_joined m.hand (Placed act) (join m.hand.dep base)) act placed refl) left m.phase c.requires.sound.room c.commit_into.ensures.room;
       after = ap (λ (x : List Committed × List ℕ). record p { seats = slice_set p.seats c.args.worker new; committed = x.0; room = left; ends = x.1 })
           (λ i. (kept i, (c.set.ensures ∙ ap (λ (j : ℕ). slice_set p.ends j (c.args.start + c.record_size.result)) c.stream_of.ensures.same ∙ ap (λ (n : ℕ). slice_set p.ends (c.args.worker % p.load.streams) (c.args.start + n)) (c.record_size.ensures ∙ ap (length {A = ℕ}) (sym bytes_is))) i));

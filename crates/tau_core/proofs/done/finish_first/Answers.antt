@@ -12,12 +12,12 @@ use Rattle.tau_core.proofs.Hands.{some_hand, hand_gone, sound_gone}
 use Rattle.tau_core.proofs.Joins.{kept_into, number_hand, number_reads, joins_new, none_open, reads_phase, rooms_new, room_new}
 use Rattle.tau_core.proofs.done.finish_first.Goals as goal
 
-pub returns-in_default : goal.returns-in_default
-returns-in_default c =
+pub unreachable-requires : goal.unreachable-requires
+unreachable-requires c =
     let is = found_seat c.args.state.now c.args.worker c.index_mut-seat.result.now c.seat.inside c.requires.sound c.requires.there c.index_mut-seat.ensures.value c.seat.view_is in
     let at = c.requires.at (seat_in c.seat.inside) is in
     let m = at.3 in
-    absurd (c.in_default.not-Some m.hand.call.number (c.number.ensures ∙ number_hand c.args.state.now.load.procs c.seat.inside.txn m.hand m.is))
+    c.in_default.not-Some m.hand.call.number (c.number.ensures ∙ number_hand c.args.state.now.load.procs c.seat.inside.txn m.hand m.is)
 
 pub commit_into-requires : goal.commit_into-requires
 commit_into-requires c =
@@ -41,7 +41,7 @@ put_from-requires c =
     let o = c.requires.sound.seat c.args.worker (seat_in c.seat.inside) is in
     let at = c.requires.at (seat_in c.seat.inside) is in
     let m = at.3 in
-    o.ends (some_hand c.args.state.now.load.procs c.seat.inside.txn m.hand m.is)
+    o.store.ends (some_hand c.args.state.now.load.procs c.seat.inside.txn m.hand m.is)
 
 pub went-requires-clause-rest : goal.went-requires-clause-rest
 went-requires-clause-rest c =
@@ -53,7 +53,7 @@ pub went-requires-clause-run : goal.went-requires-clause-run
 went-requires-clause-run c =
     let is = found_seat c.args.state.now c.args.worker c.index_mut-seat.result.now c.seat.inside c.requires.sound c.requires.there c.index_mut-seat.ensures.value c.seat.view_is in
     let o = c.requires.sound.seat c.args.worker (seat_in c.seat.inside) is in
-    o.runs
+    o.txn.runs
 
 pub returns : goal.returns
 returns c =
@@ -66,8 +66,8 @@ returns c =
     let empty = c.went.ensures.done at.0 at.1 at.2 in
     let gone = hand_gone c.args.state.now.load.procs c.went.new.self empty in
     let kept = kept_into c.args.state.now.load.procs c.seat.inside.txn m.hand m.act (has_joined c.seat.inside.txn) p.committed c.commit_into.new.out.items m.act_is
-    (λ a e. c.commit_into.ensures.joined c.args.state.now.load.procs m.hand a o.runs m.is e) (λ a e. c.commit_into.ensures.reading c.args.state.now.load.procs m.hand a o.runs m.is e) in
-    let vector : c.lv_ref.result.now ≡ lv_of m.act = c.lv_ref.ensures.frees c.args.state.now.load.procs m.hand m.act o.runs m.is m.act_is in
+    (λ a e. c.commit_into.ensures.joined c.args.state.now.load.procs m.hand a o.txn.runs m.is e) (λ a e. c.commit_into.ensures.reading c.args.state.now.load.procs m.hand a o.txn.runs m.is e) in
+    let vector : c.lv_ref.result.now ≡ lv_of m.act = c.lv_ref.ensures.frees c.args.state.now.load.procs m.hand m.act o.txn.runs m.is m.act_is in
     let number : c.in-Some.number ≡ m.act.call.call.number =
     (let e : Some c.in-Some.number ≡ Some m.hand.call.number = sym c.in-Some.is ∙ c.number.ensures ∙ number_hand c.args.state.now.load.procs c.seat.inside.txn m.hand m.is in cc)
     ∙ number_reads c.args.state.now.load.procs (has_joined c.seat.inside.txn) c.seat.inside.txn.worker m.hand m.act (c.requires.joined (seat_in c.seat.inside) is) m.act_is in
@@ -81,7 +81,7 @@ returns c =
       room = c.commit_into.new.out.room;
       is = is;
       hand_is = m.is;
-      joins = joins_new c.args.state.now.load c.args.worker m.hand m.act (has_joined c.seat.inside.txn) c.seat.inside.txn o.worker (c.requires.joined (seat_in c.seat.inside) is) m.act_is;
+      joins = joins_new c.args.state.now.load c.args.worker m.hand m.act (has_joined c.seat.inside.txn) c.seat.inside.txn o.txn.worker (c.requires.joined (seat_in c.seat.inside) is) m.act_is;
       held = m.held;
       gone = gone;
       waits = c.put_from.ensures.calls ∙ (λ i. c.seat.inside.pending.calls ++ record { number = number i; lv = vector i } ∷ []);

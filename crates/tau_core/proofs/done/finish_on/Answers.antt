@@ -13,12 +13,12 @@ use Rattle.tau_core.proofs.Hands.{some_hand, hand_gone, sound_gone}
 use Rattle.tau_core.proofs.Joins.{joins_on, freeing_on, number_freed, none_open, rooms_on}
 use Rattle.tau_core.proofs.done.finish_on.Goals as goal
 
-pub returns-in_default : goal.returns-in_default
-returns-in_default c =
+pub unreachable-requires : goal.unreachable-requires
+unreachable-requires c =
     let is = found_seat c.args.state.now c.args.worker c.index_mut-seat.result.now c.seat.inside c.requires.sound c.requires.there c.index_mut-seat.ensures.value c.seat.view_is in
     let at = c.requires.at (seat_in c.seat.inside) is in
     let m = at.3 in
-    absurd (c.in_default.not-Some m.act.call.call.number (c.number.ensures ∙ number_freed c.args.state.now.load.procs c.seat.inside.txn m.hand m.act m.is (freeing_on c.args.state.now.load.procs (has_joined c.seat.inside.txn) c.seat.inside.txn.worker m.hand m.act (c.requires.joined (seat_in c.seat.inside) is) m.act_is)))
+    c.in_default.not-Some m.act.call.call.number (c.number.ensures ∙ number_freed c.args.state.now.load.procs c.seat.inside.txn m.hand m.act m.is (freeing_on c.args.state.now.load.procs (has_joined c.seat.inside.txn) c.seat.inside.txn.worker m.hand m.act (c.requires.joined (seat_in c.seat.inside) is) m.act_is))
 
 pub lv_ref-vector-requires : goal.lv_ref-vector-requires
 lv_ref-vector-requires c =
@@ -32,7 +32,7 @@ put_from-requires c =
     let o = c.requires.sound.seat c.args.worker (seat_in c.seat.inside) is in
     let at = c.requires.at (seat_in c.seat.inside) is in
     let m = at.3 in
-    o.ends (some_hand c.args.state.now.load.procs c.seat.inside.txn m.hand m.is)
+    o.store.ends (some_hand c.args.state.now.load.procs c.seat.inside.txn m.hand m.is)
 
 pub went-requires-clause-rest : goal.went-requires-clause-rest
 went-requires-clause-rest c =
@@ -44,7 +44,7 @@ pub went-requires-clause-run : goal.went-requires-clause-run
 went-requires-clause-run c =
     let is = found_seat c.args.state.now c.args.worker c.index_mut-seat.result.now c.seat.inside c.requires.sound c.requires.there c.index_mut-seat.ensures.value c.seat.view_is in
     let o = c.requires.sound.seat c.args.worker (seat_in c.seat.inside) is in
-    o.runs
+    o.txn.runs
 
 pub returns : goal.returns
 returns c =
@@ -56,7 +56,7 @@ returns c =
     let new : PlainSeat = record (seat_in c.seat.inside) { txn = c.went.new.self; pending = c.put_from.new.self } in
     let empty = c.went.ensures.done at.0 at.1 at.2 in
     let gone = hand_gone c.args.state.now.load.procs c.went.new.self empty in
-    let vector : c.lv_ref-vector.result.now ≡ lv_of m.act = c.lv_ref-vector.ensures.frees c.args.state.now.load.procs m.hand m.act o.runs m.is m.act_is in
+    let vector : c.lv_ref-vector.result.now ≡ lv_of m.act = c.lv_ref-vector.ensures.frees c.args.state.now.load.procs m.hand m.act o.txn.runs m.is m.act_is in
     let number : c.in-Some.number ≡ m.act.call.call.number =
     (let e : Some c.in-Some.number ≡ Some m.act.call.call.number = sym c.in-Some.is ∙ c.number.ensures ∙ number_freed c.args.state.now.load.procs c.seat.inside.txn m.hand m.act m.is (freeing_on c.args.state.now.load.procs (has_joined c.seat.inside.txn) c.seat.inside.txn.worker m.hand m.act (c.requires.joined (seat_in c.seat.inside) is) m.act_is) in cc) in
     let sound = sound_gone c.args.state.now.load c.args.worker (seat_in c.seat.inside) c.went.new.self c.put_from.new.self o c.went.ensures.same empty in
@@ -69,7 +69,7 @@ returns c =
       room = p.room;
       is = is;
       hand_is = m.is;
-      joins = joins_on c.args.state.now.load c.args.worker m.hand m.act (has_joined c.seat.inside.txn) c.seat.inside.txn o.worker (c.requires.joined (seat_in c.seat.inside) is) m.act_is;
+      joins = joins_on c.args.state.now.load c.args.worker m.hand m.act (has_joined c.seat.inside.txn) c.seat.inside.txn o.txn.worker (c.requires.joined (seat_in c.seat.inside) is) m.act_is;
       held = m.held;
       gone = gone;
       waits = c.put_from.ensures.calls ∙ (λ i. c.seat.inside.pending.calls ++ record { number = number i; lv = vector i } ∷ []);

@@ -22,7 +22,7 @@ free_key-requires-clause-at c = λ s e t f.
     subst
     (λ (x : PlainSeat × PlainSeat).
     (next_action x.1.txn ≡ action.Free c.in-Some.key (written_in x.0.txn c.in-Some.key)) × Frees c.args.state.now.load.procs x.1.txn c.in-Some.key (written_in x.0.txn c.in-Some.key)) (λ i. (same i, other i))
-    (c.in-Some.ensures.next, c.in-Some.ensures.means c.args.state.now.load.procs o.runs)
+    (c.in-Some.ensures.next, c.in-Some.ensures.means c.args.state.now.load.procs o.txn.runs)
 
 pub returns-in-None : goal.returns-in-None
 returns-in-None c = (
@@ -32,7 +32,7 @@ returns-in-None c = (
       let same : seat_in c.seat.inside ≡ s = (let f : Some (seat_in c.seat.inside) ≡ Some s = sym is ∙ e in cc) in
       let o = c.requires.stood.2.sound.seat c.args.worker (seat_in c.seat.inside) is in
       let next : Action = next_action c.seat.inside.txn in
-      let phase = means_phase c.args.state.now.load.procs c.seat.inside.txn next (c.kind.ensures.means c.args.state.now.load.procs o.runs) o.leaving o.stays in
+      let phase = means_phase c.args.state.now.load.procs c.seat.inside.txn next (c.kind.ensures.means c.args.state.now.load.procs o.txn.runs) o.txn.leaving o.txn.stays in
       let told = ap phase_of_kind c.kind.ensures.kind ∙ sym (phase_kind next) in
       (told ∙ sym phase ∙ ap (λ (x : PlainSeat). hand_phase c.args.state.now.load.procs (hand_in c.args.state.now.load.procs x.txn)) same, λ f. elsewhere_free next c.in-None.ensures.other (sym told ∙ f)),
 )

@@ -70,7 +70,7 @@ went-requires-clause-run c =
     let g = c.requires.stood in
     let is = found_seat c.args.state.now c.args.worker c.index_mut-seat.result.now c.seat.inside g.2.sound c.requires.there c.index_mut-seat.ensures.value c.seat.view_is in
     let o = g.2.sound.seat c.args.worker (seat_in c.seat.inside) is in
-    o.runs
+    o.txn.runs
 
 pub returns : goal.returns
 returns c =
@@ -86,12 +86,12 @@ returns c =
     let k : Hand = hand_freed (hand_joined m.hand (Freeing m.act) m.hand.dep) c.args.key in
     let left = c.went.ensures.freed m.hand m.act c.args.key (written_in c.seat.inside.txn c.args.key) at.0 m.is m.act_is in
     let kept = kept_into c.args.state.now.load.procs c.seat.inside.txn m.hand m.act (has_joined c.seat.inside.txn) p.committed c.commit_into.new.out.items m.act_is
-    (λ a e. c.commit_into.ensures.joined c.args.state.now.load.procs m.hand a o.runs m.is e) (λ a e. c.commit_into.ensures.reading c.args.state.now.load.procs m.hand a o.runs m.is e) in
+    (λ a e. c.commit_into.ensures.joined c.args.state.now.load.procs m.hand a o.txn.runs m.is e) (λ a e. c.commit_into.ensures.reading c.args.state.now.load.procs m.hand a o.txn.runs m.is e) in
     let write = c.written_at.ensures ∙ m.write_is in
-    let vector : c.lv_ref.result.now ≡ lv_of m.act = c.lv_ref.ensures.frees c.args.state.now.load.procs m.hand m.act o.runs m.is m.act_is in
+    let vector : c.lv_ref.result.now ≡ lv_of m.act = c.lv_ref.ensures.frees c.args.state.now.load.procs m.hand m.act o.txn.runs m.is m.act_is in
     let frees : shard_of c.free_by.new.self ≡ shard_freed (shard_of c.index_mut-part.result.now) c.args.worker c.args.key (lv_of m.act) (lookup (same_key c.args.key) m.act.effect.writes) =
     c.free_by.ensures ∙ (λ i. shard_freed (shard_of c.index_mut-part.result.now) c.args.worker c.args.key (vector i) (write i)) in
-    let sound = sound_on c.args.state.now.load c.args.worker (seat_in c.seat.inside) new m.hand k o m.is refl c.went.ensures.same left refl c.went.ensures.runs (c.went.ensures.stays o.leaving) refl in
+    let sound = sound_on c.args.state.now.load c.args.worker (seat_in c.seat.inside) new m.hand k o m.is refl c.went.ensures.same left refl c.went.ensures.runs (c.went.ensures.stays o.txn.leaving) refl in
     record {
       seat = seat_in c.seat.inside;
       shard = c.index_mut-part.result.now;
@@ -106,7 +106,7 @@ returns c =
       is = is;
       shard_is = shard_is;
       hand_is = m.is;
-      joins = joins_new c.args.state.now.load c.args.worker m.hand m.act (has_joined c.seat.inside.txn) c.seat.inside.txn o.worker (c.requires.joined (seat_in c.seat.inside) is) m.act_is;
+      joins = joins_new c.args.state.now.load c.args.worker m.hand m.act (has_joined c.seat.inside.txn) c.seat.inside.txn o.txn.worker (c.requires.joined (seat_in c.seat.inside) is) m.act_is;
       held = m.held;
       lowest = m.lowest;
       frees = frees;

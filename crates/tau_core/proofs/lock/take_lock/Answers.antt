@@ -52,7 +52,7 @@ busy-requires-clause-run c =
     let o = c.requires.sound.seat c.args.worker (seat_in c.seat.inside) is in
     let wants = c.requires.wants (seat_in c.seat.inside) is in
     let m = wants.1 in
-    o.runs
+    o.txn.runs
 
 pub granted_by-requires-clause-wide : goal.granted_by-requires-clause-wide
 granted_by-requires-clause-wide c =
@@ -67,7 +67,7 @@ granted_by-requires-clause-wide c =
     let entry : Entry = entry_in (shard_of c.index_mut-part.result.now) c.args.key in
     let narrow = entry_narrow c.args.state.now.load (shard_of c.index_mut-part.result.now) c.args.key (c.requires.sound.narrow c.from.result c.index_mut-part.result.now shard) in
     let wide : length (dep_locked c.args.mode c.dep_ref.result.now entry) ≡ c.seat.inside.txn.width =
-    locked_wide c.args.mode c.seat.inside.txn.width c.dep_ref.result.now entry c.dep_ref.ensures.wide (let a = narrow.0 in let b = o.width in omega arith) (let a = narrow.1 in let b = o.width in omega arith) in
+    locked_wide c.args.mode c.seat.inside.txn.width c.dep_ref.result.now entry c.dep_ref.ensures.wide (let a = narrow.0 in let b = o.txn.width in omega arith) (let a = narrow.1 in let b = o.txn.width in omega arith) in
     ap length c.in-Ok.ensures.joined ∙ wide
 
 pub leave-requires-clause-room : goal.leave-requires-clause-room
@@ -76,7 +76,7 @@ leave-requires-clause-room c =
     let o = c.requires.sound.seat c.args.worker (seat_in c.seat.inside) is in
     let wants = c.requires.wants (seat_in c.seat.inside) is in
     let m = wants.1 in
-    λ e. o.leaves (some_hand c.args.state.now.load.procs c.seat.inside.txn m.hand m.is)
+    λ e. o.store.leaves (some_hand c.args.state.now.load.procs c.seat.inside.txn m.hand m.is)
 
 pub returns-in-Ok : goal.returns-in-Ok
 returns-in-Ok c =
@@ -95,7 +95,7 @@ returns-in-Ok c =
     let dep : c.lock_key.new.dep ≡ dep_locked c.args.mode m.hand.dep entry =
     c.in-Ok.ensures.joined ∙ ap (λ (d : List ℕ). dep_locked c.args.mode d entry) (c.dep_ref.ensures.dep ∙ shown_dep c.args.state.now.load.procs c.seat.inside.txn m.hand m.is) in
     let lent = c.row-row.ensures ∙ ap (λ (t : Shard). t.rows c.args.key) c.in-Ok.ensures.locked in
-    let granted = c.granted_by.ensures.locked c.args.state.now.load.procs m.hand c.args.key c.args.mode o.runs wants.0 m.is
+    let granted = c.granted_by.ensures.locked c.args.state.now.load.procs m.hand c.args.key c.args.mode o.txn.runs wants.0 m.is
     ∙ ap Some (ap (λ (v : Value). locked_with m.hand c.args.key c.args.mode v c.lock_key.new.dep) lent ∙ locked_alike m.hand c.args.key c.args.mode row c.lock_key.new.dep entry dep) in
     record {
       value = row;
@@ -116,7 +116,7 @@ returns-in-Ok c =
         granted = granted;
         others = refl;
         sound = sound_on c.args.state.now.load c.args.worker (seat_in c.seat.inside) new m.hand (hand_locked m.hand c.args.key c.args.mode row entry.write_lv entry.read_lv) o m.is refl c.granted_by.ensures.same granted
-            (locked_call m.hand c.args.key c.args.mode row entry.write_lv entry.read_lv) (c.granted_by.ensures.runs c.args.state.now.load.procs o.runs) (c.granted_by.ensures.stays o.leaving)
+            (locked_call m.hand c.args.key c.args.mode row entry.write_lv entry.read_lv) (c.granted_by.ensures.runs c.args.state.now.load.procs o.txn.runs) (c.granted_by.ensures.stays o.txn.leaving)
             (ap placed_of (locked_phase m.hand c.args.key c.args.mode row entry.write_lv entry.read_lv ∙ m.phase));
         after = ap (λ (n : ℕ). record p { seats = slice_set p.seats c.args.worker new; shards = slice_set p.shards n c.lock_key.new.self }) number;
       };
@@ -135,7 +135,7 @@ returns-in-Err-Busy c =
     let entry : Entry = entry_in (shard_of c.index_mut-part.result.now) c.args.key in
     let p : Plain = plain c.args.state.now in
     let settles = leaving c.args.state.now.load c.args.worker (seat_in c.seat.inside) c.leave.new.seat m.hand (hand_busy m.hand) c.busy.new.self o m.is refl refl c.busy.ensures.same
-    (λ wk. c.busy.ensures.busy wk m.hand m.is ∙ ap (λ (n : ℕ). settled n wk (hand_busy m.hand)) o.width) c.busy.ensures.runs (c.busy.ensures.stays o.leaving) c.leave.ensures in
+    (λ wk. c.busy.ensures.busy wk m.hand m.is ∙ ap (λ (n : ℕ). settled n wk (hand_busy m.hand)) o.txn.width) c.busy.ensures.runs (c.busy.ensures.stays o.txn.leaving) c.leave.ensures in
     let refused = c.in-Err-Busy.ensures.refused in
     record {
       value = Absent;
@@ -181,6 +181,6 @@ returns-in-Err-NoMemory c =
         },
         λ s e.
             let o = c.requires.sound.seat c.args.worker s e in
-            means_phase c.args.state.now.load.procs s.txn (action.Lock c.args.key c.args.mode) (c.requires.wants s e).1 o.leaving o.stays,
+            means_phase c.args.state.now.load.procs s.txn (action.Lock c.args.key c.args.mode) (c.requires.wants s e).1 o.txn.leaving o.txn.stays,
       );
     }

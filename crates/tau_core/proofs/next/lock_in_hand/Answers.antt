@@ -22,7 +22,7 @@ returns-in-Lock c = λ s e.
     let same : seat_in c.seat.inside ≡ s = (let f : Some (seat_in c.seat.inside) ≡ Some s = sym is ∙ e in cc) in
     let at = lock_kind (next_action c.seat.inside.txn) (sym c.kind.ensures.kind ∙ c.in-Lock.is) in
     let means : Locks c.args.state.now.load.procs c.seat.inside.txn at.0 at.1 =
-    subst (λ (a : Action). Means c.args.state.now.load.procs c.seat.inside.txn a) at.2 (c.kind.ensures.means c.args.state.now.load.procs o.runs) in
+    subst (λ (a : Action). Means c.args.state.now.load.procs c.seat.inside.txn a) at.2 (c.kind.ensures.means c.args.state.now.load.procs o.txn.runs) in
     let told : c.next_lock.result ≡ Some (means.hand.call.number, at.0, at.1) = c.next_lock.ensures ∙ (λ i. lock_by (number_hand c.args.state.now.load.procs c.seat.inside.txn means.hand means.is i) (at.2 i)) in
     subst (λ (r : Option (ℕ × Key × Mode)). TellsHand c.args.state.now.load.procs (hand_in c.args.state.now.load.procs s.txn) r) (sym told)
     (subst (λ (x : PlainSeat). IsAt c.args.state.now.load.procs (hand_in c.args.state.now.load.procs x.txn) (means.hand.call.number, at.0, at.1)) same
@@ -34,5 +34,5 @@ returns-in_default c = λ s e f.
     let same : seat_in c.seat.inside ≡ s = (let g : Some (seat_in c.seat.inside) ≡ Some s = sym is ∙ e in cc) in
     let o = c.requires.sound.seat c.args.worker (seat_in c.seat.inside) is in
     let next : Action = next_action c.seat.inside.txn in
-    let phase = means_phase c.args.state.now.load.procs c.seat.inside.txn next (c.kind.ensures.means c.args.state.now.load.procs o.runs) o.leaving o.stays in
+    let phase = means_phase c.args.state.now.load.procs c.seat.inside.txn next (c.kind.ensures.means c.args.state.now.load.procs o.txn.runs) o.txn.leaving o.txn.stays in
     elsewhere_lock next (λ x m g. c.in_default.not-Lock (c.kind.ensures.kind ∙ ap kind_of g)) (sym phase ∙ ap (λ (x : PlainSeat). hand_phase c.args.state.now.load.procs (hand_in c.args.state.now.load.procs x.txn)) same ∙ f)

@@ -10,16 +10,16 @@ use Rattle.tau_core.proofs.parts.put_row.Goals as goal
 
 pub free-requires-clause-held : goal.free-requires-clause-held
 free-requires-clause-held c =
-    let locked : shard_of c.lock.new.self ≡ shard_locked (shard_of c.args.part.now) 0 c.args.key Write = search rules in
-    let held : (entry_in (shard_of c.lock.new.self) c.args.key).holders 0 ≡ Some Write = ap (λ (s : Shard). (entry_in s c.args.key).holders 0) locked ∙ locked_held (shard_of c.args.part.now) 0 c.args.key Write in
+    let locked : shard_of c.lock_key.new.self ≡ shard_locked (shard_of c.args.part.now) 0 c.args.key Write = search rules in
+    let held : (entry_in (shard_of c.lock_key.new.self) c.args.key).holders 0 ≡ Some Write = ap (λ (s : Shard). (entry_in s c.args.key).holders 0) locked ∙ locked_held (shard_of c.args.part.now) 0 c.args.key Write in
     ap is_some held
 
 pub free-requires-clause-writes : goal.free-requires-clause-writes
 free-requires-clause-writes c =
-    let locked : shard_of c.lock.new.self ≡ shard_locked (shard_of c.args.part.now) 0 c.args.key Write = search rules in
+    let locked : shard_of c.lock_key.new.self ≡ shard_locked (shard_of c.args.part.now) 0 c.args.key Write = search rules in
     λ e. ap (λ (s : Shard). (entry_in s c.args.key).holders 0) locked ∙ locked_held (shard_of c.args.part.now) 0 c.args.key Write
 
 pub returns : goal.returns
 returns c =
-    let locked : shard_of c.lock.new.self ≡ shard_locked (shard_of c.args.part.now) 0 c.args.key Write = search rules in
-    row_put c.args.floor.now c.args.key c.args.value c.args.part.now c.lock.new.self c.free.new.self c.drop_covered.new.self c.requires locked c.free.ensures c.drop_covered.ensures.dropped
+    let locked : shard_of c.lock_key.new.self ≡ shard_locked (shard_of c.args.part.now) 0 c.args.key Write = search rules in
+    row_put c.args.floor.now c.args.key c.args.value c.args.part.now c.lock_key.new.self c.free.new.self c.drop_covered.new.self c.requires locked c.free.ensures c.drop_covered.ensures.dropped

@@ -17,7 +17,7 @@ post_record-requires-clause-at c = λ s e.
     let o = c.requires.stood.2.sound.seat c.args.worker (seat_in c.seat.inside) is in
     let same : seat_in c.seat.inside ≡ s = (let f : Some (seat_in c.seat.inside) ≡ Some s = sym is ∙ e in cc) in
     let at = post_kind (next_action c.seat.inside.txn) (sym c.kind.ensures.kind ∙ c.in-Post.is) in
-    let means = subst (λ (a : Action). Means c.args.state.now.load.procs c.seat.inside.txn a) at (c.kind.ensures.means c.args.state.now.load.procs o.runs) in
+    let means = subst (λ (a : Action). Means c.args.state.now.load.procs c.seat.inside.txn a) at (c.kind.ensures.means c.args.state.now.load.procs o.txn.runs) in
     subst (λ (x : PlainSeat). (next_action x.txn ≡ action.Post) × Means c.args.state.now.load.procs x.txn action.Post) same (at, means)
 
 pub returns-in_default : goal.returns-in_default
@@ -28,7 +28,7 @@ returns-in_default c = (
       let same : seat_in c.seat.inside ≡ s = (let f : Some (seat_in c.seat.inside) ≡ Some s = sym is ∙ e in cc) in
       let o = c.requires.stood.2.sound.seat c.args.worker (seat_in c.seat.inside) is in
       let next : Action = next_action c.seat.inside.txn in
-      let phase = means_phase c.args.state.now.load.procs c.seat.inside.txn next (c.kind.ensures.means c.args.state.now.load.procs o.runs) o.leaving o.stays in (
+      let phase = means_phase c.args.state.now.load.procs c.seat.inside.txn next (c.kind.ensures.means c.args.state.now.load.procs o.txn.runs) o.txn.leaving o.txn.stays in (
         ap phase_of_kind c.kind.ensures.kind ∙ sym (phase_kind next) ∙ sym phase ∙ ap (λ (x : PlainSeat). hand_phase c.args.state.now.load.procs (hand_in c.args.state.now.load.procs x.txn)) same,
         λ f. elsewhere_post c.kind.result c.in_default.not-Post f,
       ),

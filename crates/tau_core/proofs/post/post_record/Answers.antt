@@ -16,7 +16,7 @@ post-requires-clause-room c =
     let o = g.2.sound.seat c.args.worker (seat_in c.seat.inside) is in
     let at = c.requires.at (seat_in c.seat.inside) is in
     let m = at.1 in
-    o.posts m.act (ap placed_in m.is ∙ ap placed_of m.phase)
+    o.store.posts m.act (ap placed_in m.is ∙ ap placed_of m.phase)
 
 pub post-requires-clause-order : goal.post-requires-clause-order
 post-requires-clause-order c =
@@ -51,7 +51,7 @@ returns c =
     let p : Plain = plain c.args.state.now in
     let mid : PlainSeat = record (seat_in c.seat.inside) { txn = c.take_bytes-bytes.new.self } in
     let new : PlainSeat = record (seat_in c.seat.inside) { txn = c.take_bytes-bytes.new.self; outbox = c.post.new.self } in
-    let posted = c.take_bytes-bytes.ensures.posted c.args.state.now.load.procs m.hand m.act o.runs m.is m.phase in
+    let posted = c.take_bytes-bytes.ensures.posted c.args.state.now.load.procs m.hand m.act o.txn.runs m.is m.phase in
     record {
       seat = seat_in c.seat.inside;
       hand = m.hand;
@@ -64,7 +64,7 @@ returns c =
       pieces = c.post.ensures.pieces ∙ ap (λ (b : List ℕ). c.seat.inside.outbox.pieces ++ record { start = c.seat.inside.start; bytes = b } ∷ []) c.take_bytes-bytes.ensures.bytes;
       others = refl;
       sound = sound_outbox c.args.state.now.load c.args.worker mid c.post.new.self
-          (sound_on c.args.state.now.load c.args.worker (seat_in c.seat.inside) mid m.hand (record m.hand { phase = Freeing m.act }) o m.is refl c.take_bytes-bytes.ensures.same posted refl (c.take_bytes-bytes.ensures.runs c.args.state.now.load.procs o.runs) (c.take_bytes-bytes.ensures.stays o.leaving) refl)
+          (sound_on c.args.state.now.load c.args.worker (seat_in c.seat.inside) mid m.hand (record m.hand { phase = Freeing m.act }) o m.is refl c.take_bytes-bytes.ensures.same posted refl (c.take_bytes-bytes.ensures.runs c.args.state.now.load.procs o.txn.runs) (c.take_bytes-bytes.ensures.stays o.txn.leaving) refl)
           (ap placed_in posted);
       after = refl;
     }

@@ -32,7 +32,7 @@ went-requires-clause-run c =
     let g = c.requires.stood in
     let is = found_seat c.args.state.now c.args.worker c.index_mut-seat.result.now c.seat.inside g.2.sound c.requires.there c.index_mut-seat.ensures.value c.seat.view_is in
     let o = g.2.sound.seat c.args.worker (seat_in c.seat.inside) is in
-    o.runs
+    o.txn.runs
 
 pub leave-requires-clause-room : goal.leave-requires-clause-room
 leave-requires-clause-room c =
@@ -41,7 +41,7 @@ leave-requires-clause-room c =
     let o = g.2.sound.seat c.args.worker (seat_in c.seat.inside) is in
     let at = c.requires.at (seat_in c.seat.inside) is in
     let m = at.1 in
-    λ e. o.leaves (some_hand c.args.state.now.load.procs c.seat.inside.txn m.hand m.is)
+    λ e. o.store.leaves (some_hand c.args.state.now.load.procs c.seat.inside.txn m.hand m.is)
 
 pub returns : goal.returns
 returns c =
@@ -54,7 +54,7 @@ returns c =
     let shard_is = found_shard_of c.args.state.now c.args.key c.shard_of.result c.from.result c.index_mut-part.result.now g.2.sound c.from.ensures c.shard_of.ensures.same c.shard_of.ensures.small c.index_mut-part.ensures.value in
     let p : Plain = plain c.args.state.now in
     let settles = leaving c.args.state.now.load c.args.worker (seat_in c.seat.inside) c.leave.new.seat m.hand (hand_quit m.hand c.args.key false) c.went.new.self o m.is refl refl c.went.ensures.same
-    (λ wk. c.went.ensures.quit wk m.hand c.args.key at.0 m.is ∙ ap (λ (b : Bool). settled c.seat.inside.txn.width wk (hand_quit m.hand c.args.key b)) o.leaving ∙ ap (λ (n : ℕ). settled n wk (hand_quit m.hand c.args.key false)) o.width) c.went.ensures.runs (c.went.ensures.stays o.leaving) c.leave.ensures in
+    (λ wk. c.went.ensures.quit wk m.hand c.args.key at.0 m.is ∙ ap (λ (b : Bool). settled c.seat.inside.txn.width wk (hand_quit m.hand c.args.key b)) o.txn.leaving ∙ ap (λ (n : ℕ). settled n wk (hand_quit m.hand c.args.key false)) o.txn.width) c.went.ensures.runs (c.went.ensures.stays o.txn.leaving) c.leave.ensures in
     record {
       seat = seat_in c.seat.inside;
       shard = c.index_mut-part.result.now;
@@ -66,7 +66,7 @@ returns c =
       is = is;
       shard_is = shard_is;
       hand_is = m.is;
-      phase = elim m.phase [ inl e ↦ e | inr e ↦ absurd (let bad : true ≡ false = sym e.1 ∙ o.leaving in cc) ];
+      phase = elim m.phase [ inl e ↦ e | inr e ↦ absurd (let bad : true ≡ false = sym e.1 ∙ o.txn.leaving in cc) ];
       held = m.held;
       quits = c.quit.ensures;
       settles = settles.worker;

@@ -20,7 +20,7 @@ give_way-requires-clause-wants c = λ s e.
       at.0,
       at.1,
       ap (λ (x : PlainSeat). next_action x.txn) (sym same) ∙ c.in-Some.ensures.next,
-      subst (λ (x : PlainSeat). Locks c.args.state.now.load.procs x.txn at.0 at.1) same (c.in-Some.ensures.means c.args.state.now.load.procs o.runs),
+      subst (λ (x : PlainSeat). Locks c.args.state.now.load.procs x.txn at.0 at.1) same (c.in-Some.ensures.means c.args.state.now.load.procs o.txn.runs),
     )
 
 pub returns-in-None : goal.returns-in-None
@@ -31,7 +31,7 @@ returns-in-None c = (
       let same : seat_in c.seat.inside ≡ s = (let f : Some (seat_in c.seat.inside) ≡ Some s = sym is ∙ e in cc) in
       let o = c.requires.sound.seat c.args.worker (seat_in c.seat.inside) is in
       let next : Action = next_action c.seat.inside.txn in
-      let phase = means_phase c.args.state.now.load.procs c.seat.inside.txn next (c.kind.ensures.means c.args.state.now.load.procs o.runs) o.leaving o.stays in
+      let phase = means_phase c.args.state.now.load.procs c.seat.inside.txn next (c.kind.ensures.means c.args.state.now.load.procs o.txn.runs) o.txn.leaving o.txn.stays in
       let told = c.phase_of_kind.ensures ∙ ap phase_of_kind c.kind.ensures.kind ∙ sym (phase_kind next) in
       (told ∙ sym phase ∙ ap (λ (x : PlainSeat). hand_phase c.args.state.now.load.procs (hand_in c.args.state.now.load.procs x.txn)) same, λ f. elsewhere_lock next c.in-None.ensures.other (sym told ∙ f)),
 )

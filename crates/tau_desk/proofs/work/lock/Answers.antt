@@ -1,19 +1,17 @@
-use Rattle.std.proofs.Common.{◌≡◌, ℕ, [], Some, refl, subst, sym, ap, ◌∙◌, List, length}
-use Rattle.std.specs.Option.{option_copied, unwrap_or}
-use Rattle.tau_base.specs.declared.value.Value.{Value}
-use Rattle.tau_base.specs.declared.value.Value.TheVariants.{Absent}
+use Rattle.std.proofs.Common.{◌≡◌, ℕ, [], false, Some, refl, subst, sym, ap, ◌∙◌, List, length}
+use Rattle.tau_shard.specs.Blocks.{dep_locked}
 use Rattle.tau_shard.specs.Read.{shard_of}
 use Rattle.tau_machine.specs.Events.{Lock, Busy}
 use Rattle.tau_machine.specs.Hands.{Hand}
 use Rattle.tau_machine.specs.Worker.{Worker, settled, hand_busy}
-use Rattle.tau_machine.specs.Shard.{Shard}
+use Rattle.tau_machine.specs.Shard.{Shard, entry_in}
 use Rattle.tau_base.specs.Shards.{shard_number}
 use Rattle.tau_shard.specs.Plain.{PlainShard}
 use Rattle.tau_proc.specs.declared.proc.Proc.{Proc}
 use Rattle.tau_txn.specs.declared.action.Action.TheVariants as action
 use Rattle.tau_txn.specs.declared.action.Action.{Action}
 use Rattle.tau_txn.specs.Next.{next_action, IsLock, Locks}
-use Rattle.tau_txn.specs.Txn.{RunsBy, hand_in, worker_of}
+use Rattle.tau_txn.specs.Txn.{PlainTxn, RunsBy, dep_in, hand_in, leaves_in, worker_of}
 use Rattle.tau_core.specs.State.{Plain}
 use Rattle.tau_rule.specs.Knows.{Knows}
 use Rattle.tau_rule.specs.Steps.{Agrees, told, shard_in}
@@ -21,17 +19,22 @@ use Rattle.tau_rule.proofs.Turns.{part_shard}
 use Rattle.tau_desk.proofs.Locking.{no_lock, granted_steps, busy_steps, taken_wide}
 use Rattle.tau_desk.proofs.work.lock.Goals as goal
 
-pub dep_ref-requires : goal.dep_ref-requires
-dep_ref-requires g c = c.in-Some.ensures.hand refl
+pub dep_ref-wide-requires : goal.dep_ref-wide-requires
+dep_ref-wide-requires g c = c.in-Some.ensures.hand refl
 
-pub granted_by-requires-clause-lock : goal.granted_by-requires-clause-lock
-granted_by-requires-clause-lock g c = subst (λ (a : Action). IsLock a) (sym c.in-Some.ensures.next) tt
+pub lock_on-requires-clause-lock : goal.lock_on-requires-clause-lock
+lock_on-requires-clause-lock g c = c.in-Some.ensures.next
 
 pub busy-requires-clause-lock : goal.busy-requires-clause-lock
-busy-requires-clause-lock g c = subst (λ (a : Action). IsLock a) (sym c.in-Some.ensures.next) tt
+busy-requires-clause-lock g c =
+    let before : IsLock (next_action c.args.txn.now) = subst (λ (a : Action). IsLock a) (sym c.in-Some.ensures.next) tt in
+    subst (λ (t : PlainTxn). IsLock (next_action t)) (sym c.in-Err-Busy.ensures.as_before) before
 
-pub granted_by-requires-clause-wide : goal.granted_by-requires-clause-wide
-granted_by-requires-clause-wide g c =
+pub busy-requires-clause-run : goal.busy-requires-clause-run
+busy-requires-clause-run g c = c.lock_on.ensures.runs c.args.procs.now (subst (λ (p : List Proc). RunsBy p c.args.txn.now) (sym c.requires.procs) c.requires.ready.runs)
+
+pub lock_on-requires-clause-wide : goal.lock_on-requires-clause-wide
+lock_on-requires-clause-wide g c =
     let r = c.requires.ready in
     let held = c.take_shard-shard.ensures.held in
     let origin : Plain = c.args.desk.now.table.shared.key.value in
@@ -43,8 +46,9 @@ granted_by-requires-clause-wide g c =
     let means : Locks origin.load.procs c.args.txn.now c.in-Some.key c.in-Some.mode = c.in-Some.ensures.means origin.load.procs r.runs in
     let next : next_action c.args.txn.now ≡ action.Lock c.in-Some.key c.in-Some.mode = c.in-Some.ensures.next in
     let agrees : Agrees origin v k held.0 = held.3 in
-    ap (length {A = ℕ}) c.in-Ok.ensures.joined ∙ taken_wide origin v k held.0 sh c.in-Some.key c.in-Some.mode c.dep_ref.result.now agrees was (c.dep_ref.ensures.wide ∙ r.width)
-    ∙ sym r.width
+    let dep : List ℕ = dep_in c.args.txn.now in
+    let wide : length dep ≡ origin.load.streams = ap (length {A = ℕ}) (sym c.dep_ref-wide.ensures.dep) ∙ c.dep_ref-wide.ensures.wide ∙ r.width in
+    taken_wide origin v k held.0 sh c.in-Some.key c.in-Some.mode dep agrees was wide ∙ sym r.width
 
 pub give_shard-requires-clause-event : goal.give_shard-requires-clause-event
 give_shard-requires-clause-event g c =
@@ -57,8 +61,6 @@ give_shard-requires-clause-event g c =
     let was : shard_in held.0 ≡ Some sh = held.2 ∙ ap (λ (s : PlainShard). Some (shard_of s)) (sym c.deref_mut.ensures.value) in
     let number : k ≡ shard_number c.in-Some.key = c.from-number.ensures ∙ c.shard_of.ensures.same in
     let means : Locks origin.load.procs c.args.txn.now c.in-Some.key c.in-Some.mode = c.in-Some.ensures.means origin.load.procs r.runs in
-    let row : Value = unwrap_or (option_copied c.row.result) Absent in
-    let lent : row ≡ sh.rows c.in-Some.key = c.row.ensures ∙ ap (λ (x : PlainShard). (shard_of x).rows c.in-Some.key) c.deref.ensures ∙ ap (λ (t : Shard). t.rows c.in-Some.key) c.in-Ok.ensures.locked in
     let next : next_action c.args.txn.now ≡ action.Lock c.in-Some.key c.in-Some.mode = c.in-Some.ensures.next in (
       Lock c.args.worker,
       c.args.worker,
@@ -73,9 +75,9 @@ give_shard-requires-clause-event g c =
         share = r.share;
         was = was;
         there = r.there;
-        steps = granted_steps origin c.args.worker k r.worker sh (shard_of c.lock_key.new.self) c.args.txn.now c.granted_by.new.self c.in-Some.key c.in-Some.mode row c.dep_ref.result.now c.lock_key.new.dep means r.agrees number
-            c.dep_ref.ensures.dep c.in-Ok.ensures.joined lent c.in-Ok.ensures.free c.in-Ok.ensures.locked
-            (c.granted_by.ensures.locked origin.load.procs means.hand c.in-Some.key c.in-Some.mode r.runs next means.is);
+        steps = granted_steps origin c.args.worker k r.worker sh (shard_of c.lock_on.new.shard) c.args.txn.now c.lock_on.new.self c.in-Some.key c.in-Some.mode (sh.rows c.in-Some.key) (dep_in c.args.txn.now)
+            (dep_locked c.in-Some.mode (dep_in c.args.txn.now) (entry_in sh c.in-Some.key)) means r.agrees number refl refl refl c.in-Ok.ensures.step.free c.in-Ok.ensures.step.locked
+            (c.in-Ok.ensures.step.is origin.load.procs means.hand r.runs means.is);
       },
     )
 
@@ -104,8 +106,9 @@ give_shard-requires-in-Err-Busy-clause-event g c =
         share = r.share;
         was = was;
         there = r.there;
-        steps = busy_steps origin c.args.worker k r.worker sh (shard_of c.lock_key.new.self) c.args.txn.now c.busy.new.self c.in-Some.key c.in-Some.mode means r.agrees number c.in-Err-Busy.ensures.unchanged r.width
-            (subst (λ (p : List Proc). (x : Worker) (h : Hand) → hand_in p c.args.txn.now ≡ Some h → worker_of p x c.busy.new.self ≡ settled c.args.txn.now.width x (hand_busy h)) c.requires.procs c.busy.ensures.busy);
+        steps = busy_steps origin c.args.worker k r.worker sh (shard_of c.lock_on.new.shard) c.args.txn.now c.busy.new.self c.in-Some.key c.in-Some.mode means r.agrees number c.in-Err-Busy.ensures.unchanged r.width
+            (subst (λ (t : PlainTxn). (x : Worker) (h : Hand) → hand_in origin.load.procs t ≡ Some h → worker_of origin.load.procs x c.busy.new.self ≡ settled t.width x (hand_busy h)) c.in-Err-Busy.ensures.as_before
+            (subst (λ (p : List Proc). (x : Worker) (h : Hand) → hand_in p c.lock_on.new.self ≡ Some h → worker_of p x c.busy.new.self ≡ settled c.lock_on.new.self.width x (hand_busy h)) c.requires.procs c.busy.ensures.busy));
       },
     )
 
@@ -137,17 +140,18 @@ returns-in-Ok-clause-step g c =
     let held = c.take_shard-shard.ensures.held in
     let origin : Plain = c.args.desk.now.table.shared.key.value in
     let v : Knows = c.args.seat.now.me.0 in
+    let sh : Shard = shard_of c.deref_mut.result.now in
     let means : Locks origin.load.procs c.args.txn.now c.in-Some.key c.in-Some.mode = c.in-Some.ensures.means origin.load.procs r.runs in
     let next : next_action c.args.txn.now ≡ action.Lock c.in-Some.key c.in-Some.mode = c.in-Some.ensures.next in (
-      c.give_shard.ensures.given ∙ ap (λ m. (told origin.load m.0 c.granted_by.new.self, [])) held.1,
+      c.give_shard.ensures.given ∙ ap (λ m. (told origin.load m.0 c.lock_on.new.self, [])) held.1,
       record {
         key = c.in-Some.key;
         mode = c.in-Some.mode;
-        row = unwrap_or (option_copied c.row.result) Absent;
-        dep = c.lock_key.new.dep;
+        row = sh.rows c.in-Some.key;
+        dep = dep_locked c.in-Some.mode (dep_in c.args.txn.now) (entry_in sh c.in-Some.key);
         wanted = means;
-        is = c.granted_by.ensures.locked origin.load.procs means.hand c.in-Some.key c.in-Some.mode r.runs next means.is;
-        worker = record { runs = c.granted_by.ensures.runs origin.load.procs r.runs; same = c.granted_by.ensures.same; stays = c.granted_by.ensures.stays };
+        is = c.in-Ok.ensures.step.is origin.load.procs means.hand r.runs means.is;
+        worker = record { runs = c.lock_on.ensures.runs origin.load.procs r.runs; same = c.lock_on.ensures.same; stays = c.lock_on.ensures.stays };
       },
     )
 
@@ -164,8 +168,9 @@ returns-in-Err-Busy-clause-step g c =
         key = c.in-Some.key;
         mode = c.in-Some.mode;
         wanted = means;
-        settles = λ wk. subst (λ (p : List Proc). (x : Worker) (h : Hand) → hand_in p c.args.txn.now ≡ Some h → worker_of p x c.busy.new.self ≡ settled c.args.txn.now.width x (hand_busy h)) c.requires.procs c.busy.ensures.busy wk means.hand means.is;
-        worker = record { runs = subst (λ (p : List Proc). RunsBy p c.busy.new.self) c.requires.procs c.busy.ensures.runs; same = c.busy.ensures.same; stays = c.busy.ensures.stays };
+        settles = λ wk. subst (λ (t : PlainTxn). (x : Worker) (h : Hand) → hand_in origin.load.procs t ≡ Some h → worker_of origin.load.procs x c.busy.new.self ≡ settled t.width x (hand_busy h)) c.in-Err-Busy.ensures.as_before
+            (subst (λ (p : List Proc). (x : Worker) (h : Hand) → hand_in p c.lock_on.new.self ≡ Some h → worker_of p x c.busy.new.self ≡ settled c.lock_on.new.self.width x (hand_busy h)) c.requires.procs c.busy.ensures.busy) wk means.hand means.is;
+        worker = record { runs = subst (λ (p : List Proc). RunsBy p c.busy.new.self) c.requires.procs c.busy.ensures.runs; same = subst (λ (t : PlainTxn). c.busy.new.self ≡ record t { hand = c.busy.new.self.hand }) c.in-Err-Busy.ensures.as_before c.busy.ensures.same; stays = subst (λ (t : PlainTxn). leaves_in t ≡ false → leaves_in c.busy.new.self ≡ false) c.in-Err-Busy.ensures.as_before c.busy.ensures.stays };
       },
     )
 

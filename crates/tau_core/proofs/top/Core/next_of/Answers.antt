@@ -23,5 +23,5 @@ returns c = subst (λ (p : Plain). (K : List (Act Txn)) (h : Hidden) → Stands 
     let is = found_seat s c.args.worker c.index-seat.result.now c.seat.inside g.sound there c.index-seat.ensures c.seat.view_is in
     let o = g.sound.seat c.args.worker (seat_in c.seat.inside) is in
     let next : Action = next_action c.seat.inside.txn in
-    let phase = means_phase s.load.procs c.seat.inside.txn next (c.kind.ensures.means s.load.procs o.runs) o.leaving o.stays in
+    let phase = means_phase s.load.procs c.seat.inside.txn next (c.kind.ensures.means s.load.procs o.txn.runs) o.txn.leaving o.txn.stays in
     c.phase_of_kind.ensures ∙ ap phase_of_kind c.kind.ensures.kind ∙ sym (phase_kind next) ∙ sym phase ∙ ap (λ (x : Worker). hand_phase s.load.procs x.hand) (sym (worker_of_seat (plain s) h c.args.worker (seat_in c.seat.inside) (seat_in c.seat.inside) is)))
