@@ -18,7 +18,7 @@ use Rattle.tau_desk.specs.Shares.{PlainWork}
 use Rattle.tau_desk.proofs.CallBegins.{rests_own}
 use Rattle.tau_desk.proofs.SplittingOff.{role_stays}
 use Rattle.tau_crew_facts.specs.Ends.{IsLoose}
-use Rattle.tau_crew_facts.specs.Keeping.{Keeps}
+use Rattle.tau_run.specs.Keeping.{Keeps}
 use Rattle.tau_crew.specs.Working.{HasRun, WorkerEnds, worker_at}
 use Rattle.tau_crew.specs.WorkersBack.{AreReady, IsStillRole, SeatRan, WorkerIsBack, WorkerRan, WorkersBack, worker_of}
 use Rattle.tau_crew.proofs.WorkSteps.{unjoined_none}

@@ -19,8 +19,8 @@ use Rattle.tau_rule.specs.Steps.{next_worker}
 use Rattle.tau_rule.proofs.Workers.{worker_shown}
 use Rattle.tau_desk.specs.Acts.{HasCommitted, HasEnded, HasEndedReading, HasFirstFreed, HasFreed, HasLocked, HasMetBusy, HasPosted, HasQuit}
 use Rattle.tau_desk.specs.Works.{joined_worker}
-use Rattle.tau_crew_facts.specs.Keeping.{Keeps, Steady}
-use Rattle.tau_crew_facts.proofs.Keeping.{begun_keeps, hand_keeps, joins_keeps, keeps_on, settled_keeps}
+use Rattle.tau_run.specs.Keeping.{Keeps, Steady}
+use Rattle.tau_run.proofs.Keeping.{begun_keeps, hand_keeps, joins_keeps, keeps_on, settled_keeps}
 
 or_false : (a b : Bool) → a ≡ false → b ≡ false → (Rattle.std.specs.Prelude.◌||◌ a b) ≡ false
 or_false true b e f = e

@@ -44,8 +44,8 @@ use Rattle.tau_desk.specs.declared.work.Acted.TheVariants as acted
 use Rattle.tau_desk.proofs.CallBegins.{rests_own}
 use Rattle.tau_desk.proofs.GoingOn.{begun_own, joined_is, joined_at, seat_origin}
 use Rattle.tau_crew_facts.specs.Ends.{IsLoose}
-use Rattle.tau_crew_facts.specs.Keeping.{Keeps}
-use Rattle.tau_crew_facts.proofs.Keeping.{itself, keeps_on}
+use Rattle.tau_run.specs.Keeping.{Keeps}
+use Rattle.tau_run.proofs.Keeping.{itself, keeps_on}
 use Rattle.tau_crew.specs.Working.{IsBare, IsSteady, IsUnjoined, WorksOn, has_raised, worker_at}
 use Rattle.tau_crew.proofs.WorkKeeps.{keeps_busy, keeps_committed, keeps_ended, keeps_ended_reading, keeps_first_freed, keeps_freed, keeps_locked, keeps_posted, keeps_quit}
 use Rattle.tau_base.proofs.Logic.{not_both}

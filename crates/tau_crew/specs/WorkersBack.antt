@@ -14,7 +14,7 @@ use Rattle.tau_desk.specs.Resumes.{RestsWork}
 use Rattle.tau_desk.specs.Seats.{PlainHead, PlainWorkerSeat, Works}
 use Rattle.tau_desk.specs.Shares.{PlainWork}
 use Rattle.tau_crew_facts.specs.Ends.{IsLoose}
-use Rattle.tau_crew_facts.specs.Keeping.{Keeps}
+use Rattle.tau_run.specs.Keeping.{Keeps}
 use Rattle.tau_crew.specs.Ending.{HasRunBack, IsWorkerBack}
 use Rattle.tau_crew.specs.Working.{IsUnjoined, WorkerEnds}
 

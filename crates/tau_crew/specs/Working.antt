@@ -12,7 +12,7 @@ use Rattle.tau_desk.specs.Resumes.{RestsWork}
 use Rattle.tau_desk.specs.Seats.{PlainWorkerSeat}
 use Rattle.tau_desk.specs.Works.{IsSameSeat}
 use Rattle.tau_crew_facts.specs.Ends.{IsLoose}
-use Rattle.tau_crew_facts.specs.Keeping.{Keeps, Steady}
+use Rattle.tau_run.specs.Keeping.{Keeps, Steady}
 
 -- what the seat knows of its worker, and whether it has raised the stop
 abbrev pub worker_at : PlainWorkerSeat → Worker

@@ -59,14 +59,9 @@ fn gather_and_flush<R: Wait, D: Disk, G: Gate>(
         return Ok(Managing::Idle);
     }
     body.clear();
-    match gather_all(rt, desk, seat, stream, body) {
-        Ok(()) => {}
-        Err(_) => return Err(NoMemory),
-    }
-    match hand_over(writer, body) {
-        Ok(upto) => Ok(flush(desk, seat, writer, upto, gate)),
-        Err(_) => Err(NoMemory),
-    }
+    gather_all(rt, desk, seat, stream, body)?;
+    let upto = hand_over(writer, body)?;
+    Ok(flush(desk, seat, writer, upto, gate))
 }
 
 /// One turn: what is new is flushed in one block; then entries that are covered go, and an anchor is placed if one is due.
@@ -93,17 +88,14 @@ fn manager_turn<R: Wait, D: Disk, G: Gate>(
     ensures short { OnErr result (EndsShort seat.old seat.new writer.old writer.new) }
     ensures own { (seat.new.table_id ≡ seat.old.table_id) × (seat.new.me.0.opened ≡ seat.old.me.0.opened) × (seat.new.stream ≡ seat.old.stream) }
 {
-    match gather_and_flush(rt, desk, seat, writer, stream, body, gate) {
-        Ok(Managing::Flushed) => {
+    match gather_and_flush(rt, desk, seat, writer, stream, body, gate)? {
+        Managing::Flushed => {
             let durable = writer.durable();
-            match follow(rt, desk, seat, stream, durable, marks) {
-                Ok(()) => Ok(Managing::Flushed),
-                Err(_) => Err(NoMemory),
-            }
+            follow(rt, desk, seat, stream, durable, marks)?;
+            Ok(Managing::Flushed)
         }
-        Ok(Managing::Idle) => Ok(Managing::Idle),
-        Ok(Managing::Failed) => Ok(Managing::Failed),
-        Err(_) => Err(NoMemory),
+        Managing::Idle => Ok(Managing::Idle),
+        Managing::Failed => Ok(Managing::Failed),
     }
 }
 

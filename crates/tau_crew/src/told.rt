@@ -67,9 +67,7 @@ impl Told {
     {
         self.line_of(number, lv)?;
         let before = self.lines.len();
-        self.lines
-            .extend_from_slice(&self.line)
-            .map_err(|_| NoMemory)?;
+        self.lines.extend_from_slice(&self.line)?;
         match self.acks.push(number, lv) {
             Ok(()) => Ok(()),
             Err(error) => {

@@ -1,7 +1,6 @@
 pub mod ManagerWriter
 pub mod Spacing
 pub mod Telling
-pub mod Keeping
 pub mod Stops
 pub mod Lost
 pub mod Anchors

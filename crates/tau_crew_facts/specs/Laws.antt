@@ -23,7 +23,7 @@ use Rattle.tau_crew_facts.specs.Closing.{ClerkDone, IsClosing, ManagerApart, Man
 use Rattle.tau_crew_facts.specs.Ends.{AreApart, IsLoose, IsThreadDone, IsThreadEnd}
 use Rattle.tau_crew_facts.specs.Spacing.{Flushes, IsSpacing, newest, placed_after}
 use Rattle.tau_crew_facts.specs.Telling.{IsTelling}
-use Rattle.tau_crew_facts.specs.Keeping.{Keeps, KeepsOf, Steady}
+use Rattle.tau_run.specs.Keeping.{Keeps, KeepsOf, Steady}
 
 -- anchors that are placed after each flush that makes them due stand in their distance, wherever the flushes end
 abbrev pub AnchorsKeepApart : Type 0

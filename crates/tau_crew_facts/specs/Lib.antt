@@ -1,7 +1,6 @@
 pub mod Writers
 pub mod Spacing
 pub mod Telling
-pub mod Keeping
 pub mod Ends
 pub mod Closing
 pub mod Laws

@@ -32,6 +32,7 @@ log_cause_words (log.Image fault) = codes "image" ∷ decimal (image_fault_numbe
 log_cause_words (log.Count asked found) = codes "count" ∷ decimal asked ∷ decimal found ∷ []
 log_cause_words (log.Body fault) = codes "record" ∷ decimal (record_cause_number fault.cause) ∷ decimal fault.at ∷ []
 log_cause_words (log.Catalogue with_stream at) = codes "catalogue" ∷ decimal with_stream ∷ decimal at ∷ []
+log_cause_words (log.Epoch with_stream number) = codes "epoch" ∷ decimal with_stream ∷ decimal number ∷ []
 log_cause_words (log.Tangled at) = codes "tangled" ∷ decimal at ∷ []
 
 -- the line of a stream that is at fault

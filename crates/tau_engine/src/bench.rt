@@ -210,7 +210,7 @@ fn digest_of(alloc: Global, declarations: &Declarations, rows: &Tables) -> Resul
 {
     let text = table_text(alloc, declarations, rows)?;
     let digest = Sha256::digest(text.as_slice());
-    hex::encode(alloc, digest.as_slice()).map_err(|_| NoMemory)
+    Ok(hex::encode(alloc, digest.as_slice())?)
 }
 
 /// Puts a line of a word and a number.

@@ -226,7 +226,7 @@ fn images_of(alloc: Global, disks: &[MemDisk], tear: Tear) -> Result<Vec<MemDisk
     for disk in disks {
         let image = disk.image(tear)?;
         let held = MemDisk::of_image(alloc, &image)?;
-        images.push(held).map_err(|_| NoMemory)?;
+        images.push(held)?;
     }
     Ok(images)
 }
@@ -286,7 +286,7 @@ fn tell<R: Threads + Wait + Sync, G: Gate + Sync>(
     ensures { OnOk result (IsFound (images_by tear disks.now) calls (λ text. held_by out.new ≡ held_by out.old ++ text)) }
 {
     let mut images = images_of(alloc, disks, tear)?;
-    let line = stopped_line(alloc, calls).map_err(|_| NoMemory)?;
+    let line = stopped_line(alloc, calls)?;
     write_all(out, line.as_bytes()).map_err(|_| NoMemory)?;
     // One worker: the drill starts no thread.
     match recover(rt, alloc, usize::from(streams), 1, out, &mut images, gate) {

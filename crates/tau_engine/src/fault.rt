@@ -98,6 +98,15 @@ fn catalogue_line(alloc: Global, stream: u8, with: u8, at: u32) -> Result<String
     Ok(text)
 }
 
+// The line of a stream of which the vector of an epoch differs.
+fn epoch_line(alloc: Global, stream: u8, with: u8, number: u32) -> Result<String, AllocError>
+    ensures { IfOk result (λ text. string_bytes text ≡ log_fault_text stream (LogCause.Epoch with number)) }
+{
+    let mut text = String::new(alloc);
+    write!(text, "fault 7 {stream} epoch {with} {number}\n")?;
+    Ok(text)
+}
+
 // The line of a stream with a record that can't be redone.
 fn tangled_line(alloc: Global, stream: u8, at: u64) -> Result<String, AllocError>
     ensures { IfOk result (λ text. string_bytes text ≡ log_fault_text stream (LogCause.Tangled at)) }
@@ -117,6 +126,7 @@ fn log_line(alloc: Global, fault: LogFault) -> Result<String, AllocError>
         LogCause::Count { asked, found } => count_line(alloc, stream, asked, found),
         LogCause::Body(record) => record_line(alloc, stream, record),
         LogCause::Catalogue { with, at } => catalogue_line(alloc, stream, with, at),
+        LogCause::Epoch { with, number } => epoch_line(alloc, stream, with, number),
         LogCause::Tangled { at } => tangled_line(alloc, stream, at),
     }
 }

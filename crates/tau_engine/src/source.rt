@@ -2,6 +2,7 @@
 ghost use Rattle.std.specs.Prelude.{◌≡◌, ◌≤◌, ◌<◌, ◌+◌, ◌++◌, [], ℕ, length, drop, IfOk, MatchResult};
 ghost use Rattle.tau_disk.specs.Disk.{Rose};
 ghost use Rattle.tau_engine.specs.Source.{ReadsText, RefusesText};
+ghost use Rattle.tau_engine.specs.declared.source.SourceRefusal.TheVariants.{Failed, NoMemory};
 
 use std::alloc::{AllocError, Global};
 use tau_base::MAX_WORKLOAD;
@@ -21,6 +22,22 @@ pub enum SourceRefusal {
     TooLong,
 }
 
+impl From<AllocError> for SourceRefusal {
+    ghost from_gives = { λ _ refusal. refusal ≡ NoMemory };
+
+    fn from(_e: AllocError) -> SourceRefusal {
+        SourceRefusal::NoMemory
+    }
+}
+
+impl From<Failed> for SourceRefusal {
+    ghost from_gives = { λ _ refusal. refusal ≡ Failed };
+
+    fn from(_e: Failed) -> SourceRefusal {
+        SourceRefusal::Failed
+    }
+}
+
 /// Reads all that is left, or as much as shows that it is too long.
 pub fn read_text<S: Source>(alloc: Global, source: &mut S) -> Result<Vec<u8>, SourceRefusal>
     ensures text { MatchResult result
@@ -31,17 +48,15 @@ pub fn read_text<S: Source>(alloc: Global, source: &mut S) -> Result<Vec<u8>, So
     ensures later { S.faults source.old ≤ S.faults source.new }
 {
     let mut text = Vec::new(alloc);
-    let mut chunk = room(alloc).map_err(|_| SourceRefusal::NoMemory)?;
+    let mut chunk = room(alloc)?;
     while text.len() <= MAX_WORKLOAD {
         let wanted = CHUNK.min(MAX_WORKLOAD + 1 - text.len());
         let buf = &mut chunk[..wanted];
-        match source.read(buf) {
-            Ok(0) => return Ok(text),
-            Ok(count) => text
-                .extend_from_slice(&buf[..count])
-                .map_err(|_| SourceRefusal::NoMemory)?,
-            Err(_) => return Err(SourceRefusal::Failed),
+        let count = source.read(buf)?;
+        if count == 0 {
+            return Ok(text);
         }
+        text.extend_from_slice(&buf[..count])?;
     }
     Err(SourceRefusal::TooLong)
 }

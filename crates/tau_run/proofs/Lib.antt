@@ -18,6 +18,7 @@ pub mod Sound
 pub mod Acked
 pub mod Ended
 pub mod RunExists
+pub mod Keeping
 pub mod Complete
 pub mod Results
 pub mod Imaged

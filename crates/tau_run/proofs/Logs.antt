@@ -17,8 +17,11 @@ use Rattle.tau_core.specs.declared.state.Load.{Load}
 use Rattle.tau_core.specs.View.{setting_of}
 use Rattle.tau_scan.specs.declared.log.Log.{Log}
 use Rattle.tau_scan.specs.declared.fault.LogFault.{LogFault}
-use Rattle.tau_scan.specs.Reading.{◌>>=◌, recorded, records_of, streams_of, catalogue_in, declared_in, declared_by, none_declared, or_none, catalogue_of as text_in}
+use Rattle.tau_scan.specs.Reading.{◌>>=◌, unless, recorded, records_of, streams_of, catalogue_in, declared_in, epoch_fault, declared_by, none_declared, or_none, catalogue_of as text_in}
+use Rattle.tau_scan.specs.Epochs.{marks_from}
 use Rattle.tau_scan.specs.Taken.{Kept, kept_in, kept_from, taken}
+use Rattle.tau_scan.proofs.Listed.{taken_plain}
+use Rattle.tau_scan.proofs.Marks.{no_epoch_fault, no_marks}
 use Rattle.tau_scan.proofs.Streams.{map_get}
 use Rattle.tau_run.specs.RecoveredFacts.{log_of_contents}
 use Rattle.tau_run.proofs.Cuts.{ends_by}
@@ -84,15 +87,20 @@ module _ (l : Load) (load : Workload) (K : List (Act Txn)) (s : Core) (inv : Inv
   abbrev log_with : Declarations → Log
   log_with d = record { elv = map length contents; declarations = d; streams = streams.ys }
 
+  plain : marks_from streams.ys ≡ []
+  plain = no_marks streams.ys (λ i ps at. (read_of i ps at).2.plain)
+
   found : (catalogue : Option (List ℕ)) → catalogue_in streams.ys ≡ Ok catalogue → log_of_contents contents ≡ Ok (log_with (declared_by catalogue))
   unfolding declared_in streams_of
   found catalogue e =
-      ap (λ (r : Result (List (List Placed)) LogFault). r >>= λ ys. declared_in ys >>= λ d. Ok (record { elv = map length contents; declarations = d; streams = ys })) streams.is
-      ∙ ap (λ (r : Result (Option (List ℕ)) LogFault). (r >>= λ c. Ok (declared_by c)) >>= λ d. Ok (record { elv = map length contents; declarations = d; streams = streams.ys })) e
+      ap (λ (r : Result (List (List Placed)) LogFault). r >>= λ ys. declared_in ys >>= λ d. unless (epoch_fault ys) (record { elv = map length contents; declarations = d; streams = ys })) streams.is
+      ∙ ap (λ (r : Result (Option (List ℕ)) LogFault). (r >>= λ c. Ok (declared_by c)) >>= λ d. unless (epoch_fault streams.ys) (record { elv = map length contents; declarations = d; streams = streams.ys })) e
+      ∙ ap (λ (o : Option LogFault). unless o (log_with (declared_by catalogue))) (no_epoch_fault streams.ys plain)
 
   log_is : (d : Declarations) → IsLogOf (setting_of l) K s inv l.mode n width (log_with d)
   log_is d = record {
     count = streams.long ∙ long;
+    plain = plain;
     kept = λ j lt.
         (let h = some_at contents j (subst (λ (m : ℕ). j < m) (sym long) lt) in
         let r = all_read j h.0 h.1 in
@@ -106,7 +114,7 @@ module _ (l : Load) (load : Workload) (K : List (Act Txn)) (s : Core) (inv : Inv
 
   nothing_taken : (d : Declarations) → ((i : ℕ) (x : Option (List ℕ)) → slice_get (map text_in streams.ys) i ≡ Some x → x ≡ None) → taken (log_with d) ≡ []
   nothing_taken d none =
-      ap (filter (λ (r : Kept). covers (map length contents) r.place.dep)) (all_empty 0 streams.ys (λ i ps e.
+      taken_plain (log_with d) plain ∙ ap (filter (λ (r : Kept). covers (map length contents) r.place.dep)) (all_empty 0 streams.ys (λ i ps e.
       let r = read_of i ps e in
       elim r.2.text [
         | inl empty ↦ empty

@@ -26,6 +26,7 @@ use Rattle.tau_txn.specs.Record.{entry_of}
 use Rattle.tau_core.specs.declared.state.Load.{Load}
 use Rattle.tau_core.specs.Pieces.{Spelled}
 use Rattle.tau_scan.specs.Reading.{or_none, is_declared, first_undeclared, undeclared, unless, judged, records_of}
+use Rattle.tau_scan.specs.Epochs.{marks_in}
 use Rattle.tau_scan.specs.Taken.{Kept, kept_in}
 use Rattle.tau_run.specs.Run.{record_of}
 use Rattle.tau_run.specs.RecoveredFacts.{catalogue_of}
@@ -49,6 +50,13 @@ kept_items Commands j (Record t ∷ items) of =
     ap (λ (p : Place). record (kept_of Commands t) { place = p } ∷ kept_in j (map (placed_in Commands) items)) place ∙ ap (λ (l : List Kept). kept_of Commands t ∷ l) (kept_items Commands j items (λ u m. of u (inr m)))
 kept_items mode j (Anchor x y v ∷ items) of = kept_items mode j items of
 
+-- no item is an epoch
+pub no_marks_of : (mode : LogMode) (items : List Item) → marks_in (map (placed_in mode) items) ≡ []
+no_marks_of mode [] = refl
+no_marks_of Values (Record t ∷ items) = no_marks_of Values items
+no_marks_of Commands (Record t ∷ items) = no_marks_of Commands items
+no_marks_of mode (Anchor x y v ∷ items) = no_marks_of mode items
+
 -- each record names what is declared
 abbrev pub AreDeclared : Declarations → LogMode → List (Act Txn) → Type 0
 AreDeclared d mode ts = (t : Act Txn) → Member t ts → is_declared d (entry_of mode t) ≡ true
@@ -71,7 +79,7 @@ first_placed load = placed (entry.Catalogue (declarations_text load.declarations
 catalogue_content : (n : ℕ) (load : Workload) → IsCatalogue load → IsContent One n (catalogue_of load) (first_placed load ∷ [])
 catalogue_content n load is = (
   [],
-  record { parts = sym (append-nil (catalogue_of load)); fits = record { kind = refl; fields = (is.short, is.bytes) }; starts = refl; ends = omega arith },
+  record { parts = sym (append-nil (catalogue_of load)); fits = record { kind = refl; fields = (is.short, is.bytes) }; next = tt; starts = refl; ends = omega arith },
   refl,
 )
 
@@ -95,7 +103,7 @@ pub content_read : (l : Load) (anchors : ℕ → List (List ℕ)) (load : Worklo
     slice_index l.opening.anchors.items j ≡ 0 → IsCatalogue load → Spelled l anchors items bytes → Chain (length (catalogue_of load)) items to → AreOf j items → NameTheirs 0 [] items → anchors j ≡ anchors_in items ++ more →
     AreDeclared load.declarations l.mode (records_in items) → records_of n (catalogue_of load ++ bytes) ≡ Ok (first_placed load ∷ map (placed_in l.mode) items)
 content_read l anchors load n j to more items bytes room width none is h c of names all are =
-    let rest : Reads One n (length (catalogue_of load)) (named n []) bytes (map (placed_in l.mode) items) = reads_items l anchors n j (length (catalogue_of load)) to [] more items bytes width none h c (catalogue_long load) of names all in
+    let rest : Reads One n (length (catalogue_of load)) 0 (named n []) bytes (map (placed_in l.mode) items) = reads_items l anchors n j (length (catalogue_of load)) 0 to [] more items bytes width none h c (catalogue_long load) of names all in
     let content : IsContent One n (catalogue_of load ++ bytes) (first_placed load ∷ map (placed_in l.mode) items) =
     appended_content One n (catalogue_of load) bytes (first_placed load ∷ []) (map (placed_in l.mode) items) (catalogue_content n load is) rest in
     whole_read n (catalogue_of load ++ bytes) (first_placed load ∷ map (placed_in l.mode) items) room content

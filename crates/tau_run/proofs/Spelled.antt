@@ -13,7 +13,7 @@ use Rattle.tau_record.specs.declared.entry.Entry.{Entry}
 use Rattle.tau_record.specs.declared.entry.Entry.TheVariants as entry
 use Rattle.tau_record.specs.declared.entry.Placed.{Placed}
 use Rattle.tau_record.specs.Format.{One}
-use Rattle.tau_record.specs.Record.{named, base_of, Spells, Fits}
+use Rattle.tau_record.specs.Record.{named, base_of, Spells, Fits, IsNext, epoch_after}
 use Rattle.tau_record.specs.Content.{placed, named_after, Begins, Reads}
 use Rattle.tau_core.specs.declared.state.Load.{Load}
 use Rattle.tau_txn.specs.Record.{entry_of}
@@ -57,13 +57,14 @@ base_is l n j before more t base width none (inr q) (inr p) =
     let same : q.1 ≡ base = some_is q.1 base (sym got ∙ ap (slice_get (before ++ more)) one ∙ p.2) in
     ap (base_of (named n before)) at ∙ got_or before q.0 q.1 [] q.3 ∙ same
 
-begun : (n at : ℕ) (vectors : List (List ℕ)) (e : Entry) (first rest bytes : List ℕ) (start past : ℕ) → Spells One n vectors false e first → bytes ≡ first ++ rest → 1 ≤ at → start ≡ at →
-    start + length first ≡ past → Begins One n at vectors bytes rest (placed e start past)
-begun n at vectors e first rest bytes start past s parts low place long =
+begun : (n at k : ℕ) (vectors : List (List ℕ)) (e : Entry) (first rest bytes : List ℕ) (start past : ℕ) → Spells One n vectors false e first → bytes ≡ first ++ rest → 1 ≤ at → start ≡ at →
+    start + length first ≡ past → IsNext k e → Begins One n at k vectors bytes rest (placed e start past)
+begun n at k vectors e first rest bytes start past s parts low place long next =
     let other : (at == 0) ≡ false = ne_eqb at 0 (λ z. omega (arith, z, low)) in
     record {
       parts = parts ∙ ap (λ (x : List ℕ). x ++ rest) s.text;
       fits = subst (λ (b : Bool). Fits n vectors b e) (sym other) s.fits;
+      next = next;
       starts = place;
       ends = sym long ∙ ap (λ k. k + length first) place ∙ ap (λ (x : List ℕ). at + length x) s.text;
     }
@@ -72,11 +73,19 @@ same_vectors : (mode : LogMode) (vectors : List (List ℕ)) (t : Act Txn) → na
 same_vectors Values vectors t = refl
 same_vectors Commands vectors t = refl
 
-pub reads_items : (l : Load) (anchors : ℕ → List (List ℕ)) (n j at to : ℕ) (before more : List (List ℕ)) (items : List Item) (bytes : List ℕ) → l.streams ≡ n →
+same_number : (mode : LogMode) (k : ℕ) (t : Act Txn) → epoch_after k (entry_of mode t) ≡ k
+same_number Values k t = refl
+same_number Commands k t = refl
+
+no_epoch : (mode : LogMode) (k : ℕ) (t : Act Txn) → IsNext k (entry_of mode t)
+no_epoch Values k t = tt
+no_epoch Commands k t = tt
+
+pub reads_items : (l : Load) (anchors : ℕ → List (List ℕ)) (n j at k to : ℕ) (before more : List (List ℕ)) (items : List Item) (bytes : List ℕ) → l.streams ≡ n →
     slice_index l.opening.anchors.items j ≡ 0 → Spelled l anchors items bytes → Chain at items to → 1 ≤ at → AreOf j items → NameTheirs 0 before items → anchors j ≡ (before ++ anchors_in items) ++ more →
-    Reads One n at (named n before) bytes (map (placed_in l.mode) items)
-reads_items l anchors n j at to before more [] bytes width none h c low of names all = h
-reads_items l anchors n j at to before more (Record t ∷ items) bytes width none h c low of names all =
+    Reads One n at k (named n before) bytes (map (placed_in l.mode) items)
+reads_items l anchors n j at k to before more [] bytes width none h c low of names all = h
+reads_items l anchors n j at k to before more (Record t ∷ items) bytes width none h c low of names all =
     let own : t.call.place.stream ≡ j = of t (inl refl) in
     let is = h.4 in
     let theirs : Names l j (before ++ (anchors_in items ++ more)) t.call.anchor is.base =
@@ -84,14 +93,15 @@ reads_items l anchors n j at to before more (Record t ∷ items) bytes width non
     let base = base_is l n j before (anchors_in items ++ more) t.call is.base width none names.0 theirs in
     let spells : Spells One n (named n before) false (entry_of l.mode t) h.0 = subst (λ k. Spells One k (named n before) false (entry_of l.mode t) h.0) width (is.spelled (named n before) base) in
     let lt = c.1 in
-    let rest = reads_items l anchors n j t.call.place.past to before more items h.1 width none h.5 c.2 (omega (arith, lt)) (λ u m. of u (inr m)) names.1 all in (
+    let rest = reads_items l anchors n j t.call.place.past k to before more items h.1 width none h.5 c.2 (omega (arith, lt)) (λ u m. of u (inr m)) names.1 all in (
       h.1,
-      begun n at (named n before) (entry_of l.mode t) h.0 h.1 bytes t.call.place.start t.call.place.past spells h.2 low c.0 h.3,
-      subst (λ (v : List (List ℕ)). Reads One n t.call.place.past v h.1 (map (placed_in l.mode) items)) (sym (same_vectors l.mode (named n before) t)) rest,
+      begun n at k (named n before) (entry_of l.mode t) h.0 h.1 bytes t.call.place.start t.call.place.past spells h.2 low c.0 h.3 (no_epoch l.mode k t),
+      subst (λ (v : List (List ℕ)). Reads One n t.call.place.past (epoch_after k (entry_of l.mode t)) v h.1 (map (placed_in l.mode) items)) (sym (same_vectors l.mode (named n before) t))
+          (subst (λ (q : ℕ). Reads One n t.call.place.past q (named n before) h.1 (map (placed_in l.mode) items)) (sym (same_number l.mode k t)) rest),
     )
-reads_items l anchors n j at to before more (Anchor x y v ∷ items) bytes width none h c low of names all =
+reads_items l anchors n j at k to before more (Anchor x y v ∷ items) bytes width none h c low of names all =
     let spells : Spells One n (named n before) false (entry.Anchor v) h.0 = subst (λ k. Spells One k (named n before) false (entry.Anchor v) h.0) width (h.4 (named n before)) in
     let lt = c.1 in
     let there : anchors j ≡ ((before ++ v ∷ []) ++ anchors_in items) ++ more = all ∙ ap (λ (z : List (List ℕ)). z ++ more) (sym (append_assoc before (v ∷ []) (anchors_in items))) in
-    let rest = reads_items l anchors n j y to (before ++ v ∷ []) more items h.1 width none h.5 c.2 (omega (arith, lt)) of names there in
-    (h.1, begun n at (named n before) (entry.Anchor v) h.0 h.1 bytes x y spells h.2 low c.0 h.3, rest)
+    let rest = reads_items l anchors n j y k to (before ++ v ∷ []) more items h.1 width none h.5 c.2 (omega (arith, lt)) of names there in
+    (h.1, begun n at k (named n before) (entry.Anchor v) h.0 h.1 bytes x y spells h.2 low c.0 h.3 tt, rest)

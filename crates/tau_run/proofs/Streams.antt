@@ -21,12 +21,13 @@ use Rattle.tau_txn.specs.Record.{entry_of}
 use Rattle.tau_core.specs.declared.state.Load.{Load}
 use Rattle.tau_core.specs.Pieces.{Names, Spelled}
 use Rattle.tau_scan.specs.Reading.{is_declared, records_of, catalogue_of as text_in}
+use Rattle.tau_scan.specs.Epochs.{marks_in}
 use Rattle.tau_scan.specs.Taken.{kept_in}
 use Rattle.tau_run.specs.RecoveredFacts.{catalogue_of}
 use Rattle.tau_run.specs.CoreRun.{IsGiven}
 use Rattle.tau_run.proofs.Cuts.{ends_by, Taken, chain_none, chain_take}
 use Rattle.tau_run.proofs.Spelled.{entry_in, placed_in, AreOf, spelled_long}
-use Rattle.tau_run.proofs.Reading.{kept_of, AreDeclared, IsCatalogue, first_placed, kept_items, content_read, nothing_read}
+use Rattle.tau_run.proofs.Reading.{kept_of, AreDeclared, IsCatalogue, first_placed, kept_items, no_marks_of, content_read, nothing_read}
 use Rattle.tau_base.proofs.Lists.{got_or}
 
 -- ---- the bytes of items are a function of them
@@ -94,6 +95,7 @@ pub record IsRead (l : Load) (load : Workload) (K : List (Act Txn)) (n j : ℕ) 
   pub count : ℕ
   pub firsts : kept_in j ps ≡ take count (map (kept_of l.mode) (records_of_stream j K))
   pub text : (ps ≡ []) ⊎ (text_in ps ≡ Some (declarations_text load.declarations))
+  pub plain : marks_in ps ≡ []
 
 module _ (n : ℕ) (l : Load) (load : Workload) (K : List (Act Txn)) (s : Core) (j : ℕ) (room : n ≤ 16) (width : l.streams ≡ n) (none : slice_index l.opening.anchors.items j ≡ 0)
     (sound : AreSound l load K) (content : List ℕ) (g : IsGiven l K s j (catalogue_of load) content) where
@@ -132,6 +134,7 @@ module _ (n : ℕ) (l : Load) (load : Workload) (K : List (Act Txn)) (s : Core) 
         count = q.count;
         firsts = kept ∙ ap (map (kept_of l.mode)) (q.firsts ∙ ap (take q.count) g.records) ∙ take_map (kept_of l.mode) (records_of_stream j K) q.count;
         text = inr refl;
+        plain = no_marks_of l.mode (take i items);
       }
 
   pub front_read : (i : ℕ) (bytes : List ℕ) → Spelled l anchors (take i items) bytes → (ps : List Placed) × IsRead l load K n j (catalogue_of load ++ bytes) ps
@@ -145,6 +148,7 @@ module _ (n : ℕ) (l : Load) (load : Workload) (K : List (Act Txn)) (s : Core) 
     count = 0;
     firsts = refl;
     text = inl refl;
+    plain = refl;
   }
 
   -- the whole of it

@@ -30,7 +30,9 @@ use Rattle.tau_machine.proofs.Lists.{member_of}
 use Rattle.tau_machine.proofs.Results.{committed_theorem, cuts_theorem, filter_alike}
 use Rattle.tau_record.specs.declared.entry.Placed.{Placed}
 use Rattle.tau_scan.specs.declared.log.Log.{Log}
+use Rattle.tau_scan.specs.Epochs.{marks_of}
 use Rattle.tau_scan.specs.Taken.{Kept, kept_in, kept_from, taken}
+use Rattle.tau_scan.proofs.Listed.{taken_plain}
 use Rattle.tau_replay.specs.Redone.{IsOrderOf}
 use Rattle.tau_run.specs.Run.{Committed, Run, told_of, acts, means}
 use Rattle.tau_run.specs.RecoveredFacts.{takes}
@@ -76,6 +78,7 @@ module _ (set : Setting) (K : List (Act Txn)) (s : Core) (g : Invariant set K s)
   -- the log has of each stream the records that end in its content
   pub record IsLogOf (log : Log) : Type 0 where
     pub count : length log.streams ≡ n
+    pub plain : marks_of log ≡ []
     pub kept : (j : ℕ) → j < n → kept_in j (slice_index_or log.streams j []) ≡ map (kept_of mode) (filter (ends_by (slice_index log.elv j)) (records_of_stream j K))
 
   cut_is : (cut : List ℕ) → IsCutAt placed_at cut K (held_by cut)
@@ -132,7 +135,8 @@ module _ (set : Setting) (K : List (Act Txn)) (s : Core) (g : Invariant set K s)
     taken_turn : taken log ≡ in_turn n made
     taken_turn =
         let f : ℕ → List Kept = λ j. kept_in j (slice_index_or log.streams j []) in
-        ap (filter (λ (r : Kept). covers log.elv r.place.dep)) (kept_turn log.streams 0 f (λ j i e. let same : i ≡ j = omega (arith, e) in ap (λ k. kept_in k (slice_index_or log.streams i [])) same))
+        taken_plain log is.plain
+        ∙ ap (filter (λ (r : Kept). covers log.elv r.place.dep)) (kept_turn log.streams 0 f (λ j i e. let same : i ≡ j = omega (arith, e) in ap (λ k. kept_in k (slice_index_or log.streams i [])) same))
         ∙ in_turn_filter (λ (r : Kept). covers log.elv r.place.dep) (length log.streams) f ∙ ap (λ k. in_turn k made) is.count
 
     -- the taken records are those of the calls that the cut holds

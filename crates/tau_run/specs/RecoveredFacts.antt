@@ -14,7 +14,7 @@ use Rattle.tau_record.specs.Format.{One}
 use Rattle.tau_record.specs.Record.{spelling}
 use Rattle.tau_scan.specs.declared.log.Log.{Log}
 use Rattle.tau_scan.specs.declared.fault.LogFault.{LogFault}
-use Rattle.tau_scan.specs.Reading.{◌>>=◌, none_declared, contents_of, streams_of, declared_in, log_of}
+use Rattle.tau_scan.specs.Reading.{◌>>=◌, none_declared, unless, contents_of, streams_of, declared_in, epoch_fault, log_of}
 use Rattle.tau_scan.specs.Taken.{Kept, kept_in, taken}
 use Rattle.tau_replay.specs.Redone.{IsOrderOf}
 use Rattle.tau_run.specs.Run.{Committed, Run, acts, means, records_in, has_ack, vector_of, AllAcked}
@@ -26,7 +26,7 @@ catalogue_of load = spelling One [] (Catalogue (declarations_text load.declarati
 -- the log of these contents, one for each stream, or the first cause why they hold none
 abbrev pub log_of_contents : List (List ℕ) → Result Log LogFault
 log_of_contents contents = streams_of contents >>= λ streams. declared_in streams >>= λ declarations.
-    Ok (record { elv = map length contents; declarations = declarations; streams = streams })
+    unless (epoch_fault streams) (record { elv = map length contents; declarations = declarations; streams = streams })
 
 -- one image of each stream
 abbrev pub AreFrom : (ℕ → List ℕ → Type 0) → ℕ → List (List ℕ) → Type 0

@@ -46,7 +46,7 @@ shown_of_tries procs w (Some h) q x is runs = shown_tries procs w h.standing h r
 
 worker_tries : (l : Load) (w : ℕ) (o : Option PlainSeat) (committed : List Committed) → ((s : PlainSeat) → o ≡ Some s → SoundSeat l w s) → HasTries (worker_in l o committed)
 worker_tries l w None committed sound = λ x is runs. absurd (none_some x is)
-worker_tries l w (Some s) committed sound = λ x is runs. shown_of_tries l.procs s.txn.worker s.txn.hand (sound s refl).runs x is runs
+worker_tries l w (Some s) committed sound = λ x is runs. shown_of_tries l.procs s.txn.worker s.txn.hand (sound s refl).txn.runs x is runs
 
 pub stands_tries : (p : Plain) (K : List (Act Txn)) (h : Hidden) → Stands p K h → (w : ℕ) → HasTries ((core_of p h).workers w)
 stands_tries p K h g w = worker_tries p.load w (slice_get p.seats w) (committed_by p.load.workers w p.committed) (λ s e. g.sound.seat w s e)

@@ -1,7 +1,7 @@
 -- No item that is posted is longer than a block.
 use Rattle.std.proofs.Common.{ℕ, zero, suc, ◌+◌, ◌*◌, ◌≤◌, ◌≡◌, inl, inr, true, false, cond, ltb, List, [], ◌∷◌, ◌++◌, length, refl, sym, ap, subst, ◌∙◌, Option, arith, length-append}
 use Rattle.std.specs.Prelude.{Some, None, slice_get}
-use Rattle.std.specs.Int.{w16, w64, to_be_bytes}
+use Rattle.std.specs.Int.{w16, w32, w64, to_be_bytes}
 use Rattle.std.specs.List.{flat_map, AllByRecursion}
 use Rattle.std.proofs.lemmas.List.{length-replicate}
 use Rattle.std.proofs.lemmas.List.Concat.{flat_map-cons}
@@ -14,7 +14,7 @@ use Rattle.tau_record.specs.Vector.{mask_of}
 use Rattle.tau_record.specs.Item.{value, FitsValue, write, FitsWrite}
 use Rattle.tau_record.specs.Record.{origin, base_of, body, FitsBody, Spells}
 use Rattle.tau_record.specs.declared.entry.Entry.{Entry}
-use Rattle.tau_record.specs.declared.entry.Entry.TheVariants.{Written, Command, Anchor, Catalogue}
+use Rattle.tau_record.specs.declared.entry.Entry.TheVariants.{Written, Command, Anchor, Catalogue, Epoch}
 use Rattle.tau_record.proofs.VectorLaws.{explicit, explicit_cons, piece}
 use Rattle.tau_model.specs.History.{Act, Member}
 use Rattle.tau_machine.specs.Hands.{Txn}
@@ -54,6 +54,7 @@ body_short n vectors (Command number anchor dep call) le short h =
     )
 body_short n vectors (Anchor lv) le short h = omega (arith, lv_len lv, h.0, le)
 body_short n vectors (Catalogue text) le short h = omega (arith, h.0)
+body_short n vectors (Epoch number lv) le short h = omega (arith, length-append (to_be_bytes w32 number) (flat_map (to_be_bytes w64) lv), lv_len lv, h.2, le)
 
 spelled_short : (n : ℕ) (vectors : List (List ℕ)) (e : Entry) (bytes : List ℕ) → n ≤ 16 → ((k : ℕ) → length (base_of vectors k) ≤ 16) → Spells One n vectors false e bytes → length bytes ≤ MAX_BODY
 spelled_short n vectors e bytes le short s = (let size = ap (length {A = ℕ}) s.text in let small = body_short n vectors e le short s.fits.fields in omega (arith, size, small))

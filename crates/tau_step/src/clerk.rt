@@ -54,10 +54,7 @@ impl Clerk {
         ensures cause { self.new.sink_failed ≡ true → (self.old.sink_failed ≡ true) ⊎ Rose (K.faults sink.old) (K.faults sink.new) }
         ensures faults { K.faults sink.old ≤ K.faults sink.new }
     {
-        match self.acks.push(self.call.number, &self.call.lv) {
-            Ok(()) => {}
-            Err(_) => return Err(NoMemory),
-        }
+        self.acks.push(self.call.number, &self.call.lv)?;
         if self.sink_failed {
             return Ok(());
         }
@@ -90,10 +87,8 @@ impl Clerk {
         if !core.ack(worker, &mut self.call) {
             return Ok(false);
         }
-        match self.tell(sink) {
-            Ok(()) => Ok(true),
-            Err(error) => Err(error),
-        }
+        self.tell(sink)?;
+        Ok(true)
     }
 
     /// Acknowledges all pending calls of a worker that the persisted positions cover, in the order in which they ended.

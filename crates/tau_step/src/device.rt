@@ -92,9 +92,10 @@ fn streams_of(alloc: Global, load: &Workload, n: u8) -> Result<Vec<Writer<NoDisk
     ensures new { IfOk result (λ writers. AreNew (λ j. catalogue_of load.now) writers.items) }
 {
     let catalogue = print_declarations(alloc, &load.declarations)?;
-    let mut disks = vec![in alloc; NoDisk; usize::from(n)].map_err(|_| NoMemory)?;
+    let mut disks = vec![in alloc; NoDisk; usize::from(n)]?;
     match open_streams(alloc, &mut disks, n, &catalogue) {
         Ok(writers) => Ok(writers),
+        // These disks tell nothing, so no clause excludes the other causes.
         Err(_) => Err(NoMemory),
     }
 }
@@ -154,7 +155,7 @@ fn put_lengths(order: &mut Vec<u8>, n: u8) -> Result<(), NoMemory>
     ensures { OnOk result (order.new.items ≡ order.old.items ++ below n) }
 {
     for stream in 0..n {
-        order.push(stream).map_err(|_| NoMemory)?;
+        order.push(stream)?;
     }
     Ok(())
 }
@@ -164,7 +165,7 @@ fn put_makings(order: &mut Vec<u8>, n: u8) -> Result<(), NoMemory>
     ensures { OnOk result (order.new.items ≡ order.old.items ++ flat_map (replicate calls_to_make) (below n)) }
 {
     for stream in 0..n {
-        order.extend_from_slice(&[stream; 6]).map_err(|_| NoMemory)?;
+        order.extend_from_slice(&[stream; 6])?;
     }
     Ok(())
 }
@@ -174,9 +175,7 @@ fn put_flushes(order: &mut Vec<u8>, flushes: &[u8]) -> Result<(), NoMemory>
     ensures { OnOk result (order.new.items ≡ order.old.items ++ flat_map (replicate calls_to_flush) flushes.now) }
 {
     for stream in flushes {
-        order
-            .extend_from_slice(&[*stream; 4])
-            .map_err(|_| NoMemory)?;
+        order.extend_from_slice(&[*stream; 4])?;
     }
     Ok(())
 }

@@ -32,15 +32,9 @@ fn fate(alloc: Global, acknowledged: bool, reply: &Reply) -> Result<KeptFate, No
 fn unrun(alloc: Global, calls: usize) -> Result<Vec<KeptFate>, NoMemory>
     ensures { IfOk result (λ fates. fates.items ≡ replicate calls Fate.Unrun) }
 {
-    let mut fates = match Vec::with_capacity(alloc, calls) {
-        Ok(fates) => fates,
-        Err(_) => return Err(NoMemory),
-    };
+    let mut fates = Vec::with_capacity(alloc, calls)?;
     for _ in 0..calls {
-        match fates.push(KeptFate::unrun()) {
-            Ok(()) => {}
-            Err(_) => return Err(NoMemory),
-        }
+        fates.push(KeptFate::unrun())?;
     }
     Ok(fates)
 }
@@ -50,10 +44,7 @@ fn marks_of(alloc: Global, calls: usize, acks: &Acks) -> Result<Vec<bool>, NoMem
     requires { All (λ ack. IsNumberOf calls ack.0) acks.now }
     ensures { IfOk result (λ marks. marks.items ≡ marks_in calls acks.now) }
 {
-    let mut marks = match vec![in alloc; false; calls] {
-        Ok(marks) => marks,
-        Err(_) => return Err(NoMemory),
-    };
+    let mut marks = vec![in alloc; false; calls]?;
     for i in 0..acks.len() {
         let index = (acks.number_at(i) - 1) as usize;
         marks[index] = true;

@@ -306,10 +306,10 @@ impl Run {
         ensures fewer { result ≡ Ok true → calls_over self.new.core < calls_over self.old.core }
     {
         match self.core.resume() {
-            Some(worker) => match self.alone(worker) {
-                Ok(()) => Ok(true),
-                Err(error) => Err(error),
-            },
+            Some(worker) => {
+                self.alone(worker)?;
+                Ok(true)
+            }
             None => Ok(false),
         }
     }

@@ -45,10 +45,8 @@ pub fn run_turns<D: Disk, K: Sink>(
     ensures faults { K.faults sink.old ≤ K.faults sink.new }
     ensures count { length writers.new.items ≡ length writers.old.items }
 {
-    match Core::new(alloc, load, writers.len() as u8, m, mode) {
-        Ok(core) => go(alloc, core, load, m, writers, sink),
-        Err(error) => Err(error),
-    }
+    let core = Core::new(alloc, load, writers.len() as u8, m, mode)?;
+    go(alloc, core, load, m, writers, sink)
 }
 
 /// The same from a given state, on streams that end where it says.
@@ -72,10 +70,8 @@ pub fn run_turns_from<D: Disk, K: Sink>(
     ensures faults { K.faults sink.old ≤ K.faults sink.new }
     ensures count { length writers.new.items ≡ length writers.old.items }
 {
-    match Core::open(alloc, load, opening, m, mode) {
-        Ok(core) => go(alloc, core, load, m, writers, sink),
-        Err(error) => Err(error),
-    }
+    let core = Core::open(alloc, load, opening, m, mode)?;
+    go(alloc, core, load, m, writers, sink)
 }
 
 /// The run itself.

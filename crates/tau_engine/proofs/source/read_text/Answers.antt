@@ -13,18 +13,18 @@ past old text part now n is size =
 
 pub loop-text-preserved : goal.loop-text-preserved
 loop-text-preserved g c =
-    let added : c.extend_from_slice.new.self.items ≡ c.loop-text.text.items ++ take c.in-Ok.count c.read.new.buf = search rules in
-    let longer : vec_len c.extend_from_slice.new.self ≡ vec_len c.loop-text.text + length (take c.in-Ok.count c.read.new.buf) = search rules in
+    let added : c.extend_from_slice.new.self.items ≡ c.loop-text.text.items ++ take c.in_ok-count.count c.read.new.buf = search rules in
+    let longer : vec_len c.extend_from_slice.new.self ≡ vec_len c.loop-text.text + length (take c.in_ok-count.count c.read.new.buf) = search rules in
     record {
-      within = omega (arith, c.in-Ok.ensures.bound, longer, length-take c.min-wanted.result c.deref_mut.result.now, length-take c.in-Ok.count c.read.new.buf);
+      within = omega (arith, c.in_ok-count.ensures.bound, longer, length-take c.min-wanted.result c.deref_mut.result.now, length-take c.in_ok-count.count c.read.new.buf);
       room = omega arith;
-      read = λ tells. rw added (more _ _ _ _ _ (c.loop-text.invariant.read tells) (c.in-Ok.ensures.bytes tells).split);
-      later = omega (arith, c.in-Ok.ensures.cause.later);
+      read = λ tells. rw added (more _ _ _ _ _ (c.loop-text.invariant.read tells) (c.in_ok-count.ensures.bytes tells).split);
+      later = omega (arith, c.in_ok-count.ensures.cause.later);
     }
 
-pub returns-in_err-map_err-in-Ok-clause-reads : goal.returns-in_err-map_err-in-Ok-clause-reads
-returns-in_err-map_err-in-Ok-clause-reads g c tells = (
-  length c.loop-text.text.items + c.in-Ok.count,
-  omega (arith, c.in-Ok.ensures.bound, length-take c.min-wanted.result c.deref_mut.result.now),
-  past _ _ _ _ _ (more _ _ _ _ _ (c.loop-text.invariant.read tells) (c.in-Ok.ensures.bytes tells).split) (c.in-Ok.ensures.bytes tells).count,
+pub returns-in_err-extend_from_slice-clause-reads : goal.returns-in_err-extend_from_slice-clause-reads
+returns-in_err-extend_from_slice-clause-reads g c tells = (
+  length c.loop-text.text.items + c.in_ok-count.count,
+  omega (arith, c.in_ok-count.ensures.bound, length-take c.min-wanted.result c.deref_mut.result.now),
+  past _ _ _ _ _ (more _ _ _ _ _ (c.loop-text.invariant.read tells) (c.in_ok-count.ensures.bytes tells).split) (c.in_ok-count.ensures.bytes tells).count,
 )

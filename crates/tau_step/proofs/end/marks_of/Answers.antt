@@ -5,7 +5,7 @@ use Rattle.tau_step.proofs.Fates.{marks_none, marks_more, told_more, told_number
 use Rattle.tau_step.proofs.end.marks_of.Goals as goal
 
 pub loop-i-init : goal.loop-i-init
-loop-i-init c = c.in-Ok.ensures.items_if_clones_equal (λ y e. e) ∙ marks_none c.args.calls
+loop-i-init c = c.in_ok-marks.ensures.items_if_clones_equal (λ y e. e) ∙ marks_none c.args.calls
 
 pub loop-i-preserved : goal.loop-i-preserved
 loop-i-preserved c =

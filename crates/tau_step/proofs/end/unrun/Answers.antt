@@ -5,4 +5,4 @@ use Rattle.tau_report.specs.declared.report.Fate.TheVariants.{Unrun}
 use Rattle.tau_step.proofs.end.unrun.Goals as goal
 
 pub loop-preserved : goal.loop-preserved
-loop-preserved c = c.in-Ok-push.ensures.items ∙ ap (λ (f : Fate). c.loop.fates.items ++ f ∷ []) c.unrun.ensures ∙ ap (λ (l : List Fate). l ++ Unrun ∷ []) c.loop.invariant ∙ replicate-append-replicate c.loop.counter 1 Unrun
+loop-preserved c = c.in_ok-push.ensures.items ∙ ap (λ (f : Fate). c.loop.fates.items ++ f ∷ []) c.unrun.ensures ∙ ap (λ (l : List Fate). l ++ Unrun ∷ []) c.loop.invariant ∙ replicate-append-replicate c.loop.counter 1 Unrun

@@ -9,12 +9,12 @@ use Rattle.tau_step.proofs.top.run_turns.Goals as goal
 pub go-requires-clause-begun : goal.go-requires-clause-begun
 go-requires-clause-begun g c =
     let long : c.len.result ≡ length c.args.writers.now.items = omega (arith, c.len.ensures) in
-    let opened = subst (λ (n : ℕ). OpenedFresh c.args.load.now.declarations.procs c.args.load.now.calls c.args.mode c.args.m n (catalogue_size (declarations_text c.args.load.now.declarations)) c.in-Ok.core) long c.in-Ok.ensures in
-    (λ j. catalogue_of c.args.load.now, fresh_begun c.args.m c.args.mode c.args.load.now c.args.writers.now.items c.args.writers.now.items g.K.Sink.tells (g.K.Sink.held c.args.sink.now) (g.K.Sink.held c.args.sink.now) (Rose (g.K.Sink.faults c.args.sink.now) (g.K.Sink.faults c.args.sink.now)) c.in-Ok.core opened c.requires.fresh)
+    let opened = subst (λ (n : ℕ). OpenedFresh c.args.load.now.declarations.procs c.args.load.now.calls c.args.mode c.args.m n (catalogue_size (declarations_text c.args.load.now.declarations)) c.in_ok-core.core) long c.in_ok-core.ensures in
+    (λ j. catalogue_of c.args.load.now, fresh_begun c.args.m c.args.mode c.args.load.now c.args.writers.now.items c.args.writers.now.items g.K.Sink.tells (g.K.Sink.held c.args.sink.now) (g.K.Sink.held c.args.sink.now) (Rose (g.K.Sink.faults c.args.sink.now) (g.K.Sink.faults c.args.sink.now)) c.in_ok-core.core opened c.requires.fresh)
 
-pub returns-in-Ok-clause-ran : goal.returns-in-Ok-clause-ran
-returns-in-Ok-clause-ran g c =
+pub returns-clause-ran : goal.returns-clause-ran
+returns-clause-ran g c =
     let long : c.len.result ≡ length c.args.writers.now.items = omega (arith, c.len.ensures) in
-    let opened = subst (λ (n : ℕ). OpenedFresh c.args.load.now.declarations.procs c.args.load.now.calls c.args.mode c.args.m n (catalogue_size (declarations_text c.args.load.now.declarations)) c.in-Ok.core) long c.in-Ok.ensures in
-    ran_new c.args.m c.args.mode c.args.load.now c.args.writers.now.items c.go.new.writers.items g.K.Sink.tells (g.K.Sink.held c.args.sink.now) (g.K.Sink.held c.go.new.sink) (Rose (g.K.Sink.faults c.args.sink.now) (g.K.Sink.faults c.go.new.sink)) c.in-Ok.core opened c.go.result
-    (c.go.ensures.ran (λ j. catalogue_of c.args.load.now) (fresh_begun c.args.m c.args.mode c.args.load.now c.args.writers.now.items c.args.writers.now.items g.K.Sink.tells (g.K.Sink.held c.args.sink.now) (g.K.Sink.held c.args.sink.now) (Rose (g.K.Sink.faults c.args.sink.now) (g.K.Sink.faults c.args.sink.now)) c.in-Ok.core opened c.requires.fresh))
+    let opened = subst (λ (n : ℕ). OpenedFresh c.args.load.now.declarations.procs c.args.load.now.calls c.args.mode c.args.m n (catalogue_size (declarations_text c.args.load.now.declarations)) c.in_ok-core.core) long c.in_ok-core.ensures in
+    ran_new c.args.m c.args.mode c.args.load.now c.args.writers.now.items c.go.new.writers.items g.K.Sink.tells (g.K.Sink.held c.args.sink.now) (g.K.Sink.held c.go.new.sink) (Rose (g.K.Sink.faults c.args.sink.now) (g.K.Sink.faults c.go.new.sink)) c.in_ok-core.core opened c.go.result
+    (c.go.ensures.ran (λ j. catalogue_of c.args.load.now) (fresh_begun c.args.m c.args.mode c.args.load.now c.args.writers.now.items c.args.writers.now.items g.K.Sink.tells (g.K.Sink.held c.args.sink.now) (g.K.Sink.held c.args.sink.now) (Rose (g.K.Sink.faults c.args.sink.now) (g.K.Sink.faults c.args.sink.now)) c.in_ok-core.core opened c.requires.fresh))

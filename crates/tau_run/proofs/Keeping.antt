@@ -17,7 +17,8 @@ use Rattle.tau_machine.specs.Accounts.{one, in_calls, in_committed, in_phase, in
 use Rattle.tau_machine.specs.Events.{Event, Lock, Busy, Quit, Commit, Post, Free, FirstFree, Done, DoneReading, Drop, Gather, PlaceAnchor, Persist, Ack, Stop, Resume, Leads, ready, Gathered, stop, record_first, anchor_first, Reads, Frees, Finishes}
 use Rattle.tau_machine.proofs.At.{at_same, at_other}
 use Rattle.tau_machine.proofs.Accounts.{calls_append, committed_append}
-use Rattle.tau_crew_facts.specs.Keeping.{Keeps, KeepsOf, Steady}
+use Rattle.tau_machine.proofs.Commits.{begun_committed}
+use Rattle.tau_run.specs.Keeping.{Keeps, KeepsOf, Steady}
 
 pub keeps_on : (a b c : Worker) → Keeps a b → Keeps b c → Keeps a c
 keeps_on a b c p q = record { all = λ n. (let x = p.all n in let y = q.all n in omega (arith, x, y)); steady = q.steady }
@@ -38,14 +39,6 @@ begun_keeps width wk steady = by_hand wk.hand wk.waiting refl refl
       all = λ n. (let x = ap (in_calls n) f in let y = ap (in_hand n) e in omega (arith, x, y));
       steady = λ h g. ap (λ (x : Hand). x.given_up) (sym (some_hand (fresh width c 0) h g));
     }
-
-begun_committed : (width : ℕ) (wk : Worker) → (begun width wk).committed ≡ wk.committed
-begun_committed width wk = by_hand wk.hand wk.waiting
-  where
-    by_hand : (o : Option Hand) (cs : List Numbered) → (begun_by width wk o cs).committed ≡ wk.committed
-    by_hand (Some h) cs = refl
-    by_hand None [] = refl
-    by_hand None (c ∷ cs) = refl
 
 -- another hand that accounts for the same call
 pub hand_keeps : (wk : Worker) (h h' : Hand) → wk.hand ≡ Some h → Steady wk → ((n : ℕ) → in_hand n (Some h) ≤ in_hand n (Some h')) → h'.given_up ≡ h.given_up → Keeps wk (record wk { hand = Some h' })
