@@ -104,7 +104,7 @@ fn put_stream(
     let mut lv = judge.vector(0);
     for (index, placed) in records.iter().enumerate() {
         put_record(items, &lv, stream, index, placed)?;
-        lv = judge.after(lv, &placed.entry);
+        judge.pass(&mut lv, &placed.entry);
     }
     Ok(())
 }

@@ -86,7 +86,7 @@ fn put_stream(
     let mut lv = judge.vector(0);
     for placed in records {
         put_record(out, &lv, stream, placed)?;
-        lv = judge.after(lv, &placed.entry);
+        judge.pass(&mut lv, &placed.entry);
     }
     Ok(())
 }

@@ -115,16 +115,16 @@ impl Judge {
         self.known.judging(&self.elv, number)
     }
 
-    /// The vector for the records after this one, where it is `lv` for this one.
-    pub fn after(&self, lv: Lv, entry: &Entry) -> Lv
-        ensures { (k : ℕ) → lv ≡ vector_by self.now k → result ≡ vector_by self.now (epoch_after k entry.now) }
+    /// Makes of the vector for this record that for the records after it.
+    pub fn pass(&self, lv: &mut Lv, entry: &Entry)
+        ensures { (k : ℕ) → lv.old ≡ vector_by self.now k → lv.new ≡ vector_by self.now (epoch_after k entry.now) }
     {
         match entry {
-            Entry::Written { .. } => lv,
-            Entry::Command { .. } => lv,
-            Entry::Anchor { .. } => lv,
-            Entry::Catalogue { .. } => lv,
-            Entry::Epoch { number, .. } => self.vector(*number),
+            Entry::Written { .. } => {}
+            Entry::Command { .. } => {}
+            Entry::Anchor { .. } => {}
+            Entry::Catalogue { .. } => {}
+            Entry::Epoch { number, .. } => *lv = self.vector(*number),
         }
     }
 }
