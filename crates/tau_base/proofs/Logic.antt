@@ -1,5 +1,5 @@
 -- Options, truth values and numbers.
-use Rattle.std.proofs.Common.{ℕ, ◌<◌, ◌⊎◌, ◌≤◌, arith, refl, suc, [], ◌∷◌, ◌++◌, ◌≡◌, zero, Bool, true, ap, false, ◌||◌, sym, ◌∙◌, replicate, ◌&&◌}
+use Rattle.std.proofs.Common.{ℕ, ◌<◌, ◌⊎◌, ◌≤◌, arith, refl, suc, ◌≡◌, zero, Bool, true, ap, false, ◌||◌, sym, ◌∙◌, replicate, ◌&&◌}
 use Rattle.std.specs.Prelude.{Some, ◌||◌, slice_index, nat_lt, Result, OnErr, Ok, Err, ◌&&◌, if◌then◌else◌}
 use Rattle.std.proofs.lemmas.Bool.Decides.{nat_tests}
 

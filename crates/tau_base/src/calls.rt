@@ -2,6 +2,7 @@
 ghost use Rattle.std.specs.Prelude.{◌≡◌, ◌<◌, ◌++◌, ◌∷◌, [], length, map, IfSome, IfOk, OnOk, OnErr, Some, slice_get};
 ghost use Rattle.tau_base.specs.declared.value.Value.TheVariants.{Int};
 
+use crate::limits::MAX_ARGS;
 use crate::value::{Call, NoMemory, Value};
 use arrayvec::ArrayVec;
 use std::alloc::Global;
@@ -119,7 +120,7 @@ fn short_args(args: &[Value]) -> Option<ArrayVec<i64, SHORT_ARGS>>
 }
 
 /// Whole numbers as the arguments of a call, in place of those before.
-fn put_numbers(numbers: &[i64], args: &mut ArrayVec<Value, 8>)
+fn put_numbers(numbers: &[i64], args: &mut ArrayVec<Value, MAX_ARGS>)
     requires { length numbers.now < 4 }
     ensures { args.new.items ≡ map Int numbers.now }
 {

@@ -6,6 +6,9 @@ pub const MAX_STREAMS: usize = 16;
 /// Workers of a run, at most.
 pub const MAX_WORKERS: usize = 16;
 
+/// Workers that an entry of the lock table tells apart: its mask has a bit for each.
+pub const MAX_HOLDERS: usize = 32;
+
 /// Workers of a recovery, at most.
 pub const MAX_RECOVERY_WORKERS: usize = 16;
 

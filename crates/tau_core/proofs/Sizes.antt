@@ -1,6 +1,7 @@
 -- A record that is made above an anchor is shorter than 2^32 bytes.
 use Rattle.std.proofs.Common.{ℕ, zero, suc, ◌+◌, ◌<◌, ◌≤◌, ◌^◌, ◌≡◌, false, List, [], ◌∷◌, length, refl, sym, ap, subst, ◌∙◌, length-append, arith}
 use Rattle.std.specs.Prelude.{replicate}
+use Rattle.tau_base.specs.declared.limits.TheConstants.{MAX_STREAMS}
 use Rattle.tau_base.specs.declared.value.LogMode.{LogMode}
 use Rattle.tau_base.specs.declared.value.LogMode.TheVariants.{Values, Commands}
 use Rattle.tau_base.specs.Vectors.{AtMost}
@@ -31,7 +32,7 @@ origin_in : (n : ℕ) (vectors : List (List ℕ)) (mode : LogMode) (t : Act Txn)
 origin_in n vectors Values t q = q.0
 origin_in n vectors Commands t q = q.0
 
-pub size_small : (n : ℕ) (base : List ℕ) (mode : LogMode) (t : Act Txn) (bytes : List ℕ) → n ≤ 16 → length base ≡ n →
+pub size_small : (n : ℕ) (base : List ℕ) (mode : LogMode) (t : Act Txn) (bytes : List ℕ) → n ≤ MAX_STREAMS → length base ≡ n →
     ((vectors : List (List ℕ)) → base_of vectors t.call.anchor ≡ base → Spells One n vectors false (entry_of mode t) bytes) → length bytes < 2 ^ 32
 size_small n base mode t bytes few wide spelled =
     let vectors : List (List ℕ) = replicate (suc t.call.anchor) base in

@@ -1,5 +1,6 @@
 -- How a worker that rests begins its next call.
 use Rattle.std.specs.Prelude.{ℕ, ◌+◌, ◌≡◌, ◌≤◌, false, Option, Some, None, [], if◌then◌else◌, nat_le, length, slice_get, slice_set}
+use Rattle.tau_base.specs.declared.limits.TheConstants.{MAX_WORKERS}
 use Rattle.tau_base.specs.declared.value.Call.{Call}
 use Rattle.tau_machine.specs.Worker.{fresh}
 use Rattle.tau_ack.specs.Pending.{PlainPending}
@@ -43,7 +44,7 @@ pub record RoomMade (w : ℕ) (p p' : Plain) : Type 0 where
 
 -- enough for a call of the worker, and for one of each other
 pub record IsRoomy (w : ℕ) (p : Plain) : Type 0 where
-  pub committed : 16 ≤ p.room
+  pub committed : MAX_WORKERS ≤ p.room
   pub seat : (s : PlainSeat) → slice_get p.seats w ≡ Some s → (1 ≤ s.pending.room) × (1 ≤ s.room)
 
 -- the next call begins

@@ -1,6 +1,6 @@
 -- The state in which a run begins.
 use Rattle.std.specs.Prelude.{ℕ, ◌+◌, ◌≡◌, ◌≤◌, ◌<◌, Some, None, List, [], ◌∷◌, length, replicate, slice_get}
-use Rattle.tau_base.specs.declared.limits.TheConstants.{SHARDS}
+use Rattle.tau_base.specs.declared.limits.TheConstants.{MAX_STREAMS, MAX_WORKERS, SHARDS}
 use Rattle.tau_base.specs.declared.value.Key.{Key}
 use Rattle.tau_base.specs.declared.value.Value.{Value}
 use Rattle.tau_base.specs.declared.value.Call.{Call}
@@ -50,9 +50,9 @@ pub record IsFresh (n end : ℕ) (o : Opening) : Type 0 where
 -- a run can stand on it
 pub record IsLoad (l : Load) : Type 0 where
   pub workers_low : 1 ≤ l.workers
-  pub workers_high : l.workers ≤ 16
+  pub workers_high : l.workers ≤ MAX_WORKERS
   pub streams_low : 1 ≤ l.streams
-  pub streams_high : l.streams ≤ 16
+  pub streams_high : l.streams ≤ MAX_STREAMS
   pub calls : AreCalls l.procs l.calls
   pub ends : length l.opening.ends ≡ l.streams
   pub fits : Fits l.opening

@@ -1,6 +1,6 @@
 -- What the core keeps: there is a commit order with which its state has the invariant of the machine, and its bytes are those of the records.
 use Rattle.std.specs.Prelude.{ℕ, ◌+◌, ◌≤◌, ◌≡◌, Bool, true, false, if◌then◌else◌, is_some, IsTrue, Option, Some, None, List, [], ◌∷◌, ◌++◌, length, map, slice_get}
-use Rattle.tau_base.specs.declared.limits.TheConstants.{MAX_BODY, MAX_CALLS, SHARDS}
+use Rattle.tau_base.specs.declared.limits.TheConstants.{MAX_BODY, MAX_CALLS, MAX_STREAMS, MAX_WORKERS, SHARDS}
 use Rattle.tau_base.specs.declared.value.Call.{Call}
 use Rattle.tau_proc.specs.Takes.{takes}
 use Rattle.tau_model.specs.History.{Act, Member, Reordered}
@@ -71,9 +71,9 @@ SoundStream l s = ((a : List ℕ) → Member a s.anchors → length a ≡ l.stre
 -- the parts by themselves
 pub record Sound (p : Plain) : Type 0 where
   pub workers_low : 1 ≤ p.load.workers
-  pub workers_high : p.load.workers ≤ 16
+  pub workers_high : p.load.workers ≤ MAX_WORKERS
   pub streams_low : 1 ≤ p.load.streams
-  pub streams_high : p.load.streams ≤ 16
+  pub streams_high : p.load.streams ≤ MAX_STREAMS
   pub few : length p.load.calls ≤ MAX_CALLS
   pub takes : (n : ℕ) (c : Call) → call_of p.load.calls n ≡ Some c → IsTrue (takes p.load.procs c)
   pub opened : length p.load.opening.anchors.items ≡ p.load.streams

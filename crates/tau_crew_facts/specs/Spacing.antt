@@ -1,5 +1,6 @@
 -- How far apart the anchors of a run in threads stand.
 use Rattle.std.specs.Prelude.{ℕ, ◌+◌, ◌<◌, ◌≤◌, ◌≡◌, nat_le, if◌then◌else◌, List, [], ◌∷◌, length, map, slice_index, Ok}
+use Rattle.tau_base.specs.declared.limits.TheConstants.{MAX_BODY}
 use Rattle.tau_record.specs.declared.entry.Placed.{Placed}
 use Rattle.tau_record.specs.Content.{anchors_of}
 use Rattle.tau_scan.specs.Reading.{records_of}
@@ -23,7 +24,7 @@ pub record IsSpacing (base durable : ℕ) (anchors : List ℕ) : Type 0 where
 -- where flushes end, one after another: each makes at most a block durable
 abbrev pub Flushes : ℕ → List ℕ → Type 0
 Flushes durable [] = Unit {0}
-Flushes durable (d ∷ ds) = (durable ≤ d) × (d ≤ durable + 1048576) × Flushes d ds
+Flushes durable (d ∷ ds) = (durable ≤ d) × (d ≤ durable + MAX_BODY) × Flushes d ds
 
 -- the own components of the anchors that are placed after these flushes, where the newest one before them has `last`
 abbrev pub placed_after : ℕ → List ℕ → List ℕ

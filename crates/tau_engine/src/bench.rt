@@ -124,6 +124,7 @@ fn play<R: Threads + Wait + Sync, D: Disk + Send, K: Sink + Send, G: Gate + Sync
     let catalogue = print_declarations(alloc, &load.declarations)?;
     match open_streams(alloc, disks, streams, &catalogue) {
         Ok(writers) => play_on(rt, alloc, load, workers, sink, disks, writers, gate),
+        // That a disk in memory fails is want of memory.
         Err(_) => Err(NoMemory),
     }
 }

@@ -99,10 +99,9 @@ impl Epochs {
         ensures err { IfErr result (λ e. e ≡ NoMemory) }
         ensures unchanged { OnErr result (self.new ≡ self.old) }
     {
-        match self.known.insert(number, lv) {
-            Ok(_) => {}
-            Err(_) => return Err(EpochRefusal::NoMemory),
-        }
+        let Ok(_) = self.known.insert(number, lv) else {
+            return Err(EpochRefusal::NoMemory);
+        };
         Ok(())
     }
 

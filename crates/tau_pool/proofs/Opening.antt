@@ -4,6 +4,7 @@ use Rattle.std.specs.Prelude.{Option, Some, None, slice_get, nat_lt, nat_le, ◌
 use Rattle.std.specs.List.{AllZip}
 use Rattle.std.proofs.lemmas.List.{length-append, length-map, length-replicate}
 use Rattle.std.proofs.lemmas.Slice.Zip.{AllZip-long}
+use Rattle.tau_base.specs.declared.limits.TheConstants.{MAX_STREAMS}
 use Rattle.tau_scan.specs.declared.log.Log.{Log}
 use Rattle.std.proofs.lemmas.Bool.Decides.{nat_tests}
 use Rattle.tau_base.specs.Vectors.{AtMost, covers}
@@ -178,7 +179,7 @@ waits_is (y ∷ ys) zero ws is = some y ws is
     some y ws is = cc
 waits_is (y ∷ ys) (suc k) ws is = waits_is ys k ws is
 
-pub opened : (elv rlv : List ℕ) (items : List Item) (waits : List (List Wait)) (nexts passed : List ℕ) (waiting : ℕ) → length elv ≤ 16 → length rlv ≡ length elv → length nexts ≡ length elv →
+pub opened : (elv rlv : List ℕ) (items : List Item) (waits : List (List Wait)) (nexts passed : List ℕ) (waiting : ℕ) → length elv ≤ MAX_STREAMS → length rlv ≡ length elv → length nexts ≡ length elv →
     waiting ≡ length items → Ordered items → ((x : Item) → Member x items → OfLog elv 0 (length elv) x) → IsReached elv rlv items nexts → IsKept elv rlv items waits nexts passed waiting 0 false
 opened elv rlv items waits nexts passed waiting narrow wide cursors count ordered all reached = record {
   narrow = narrow;

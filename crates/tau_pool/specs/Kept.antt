@@ -1,5 +1,6 @@
 -- What holds of the pools between two calls.
 use Rattle.std.specs.Prelude.{ℕ, ◌≡◌, ◌≤◌, ◌<◌, Bool, true, List, [], length, take, drop, slice_get, slice_index, slice_index_or, Some}
+use Rattle.tau_base.specs.declared.limits.TheConstants.{MAX_STREAMS}
 use Rattle.tau_base.specs.Vectors.{AtMost}
 use Rattle.tau_model.specs.History.{Member}
 use Rattle.tau_pool.specs.Item.{Item}
@@ -49,7 +50,7 @@ pub record AreQueued (ends rlv : List ℕ) (items : List Item) (waits : List (Li
   pub met : IsMet rlv items waits passed
 
 pub record IsKept (ends rlv : List ℕ) (items : List Item) (waits : List (List Wait)) (nexts passed : List ℕ) (waiting flying : ℕ) (listed : Bool) : Type 0 where
-  pub narrow : length ends ≤ 16
+  pub narrow : length ends ≤ MAX_STREAMS
   pub wide : length rlv ≡ length ends
   pub cursors : length nexts ≡ length ends
   pub ordered : Ordered items

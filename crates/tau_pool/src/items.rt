@@ -87,13 +87,9 @@ impl Items {
             width: dep.len() as u8,
             stage: Stage::Waiting,
         };
-        match put_vector(&mut self.positions, dep) {
-            Ok(()) => {
-                self.rows.push_reserved(row);
-                Ok(())
-            }
-            Err(_) => Err(NoMemory),
-        }
+        put_vector(&mut self.positions, dep)?;
+        self.rows.push_reserved(row);
+        Ok(())
     }
 
     /// The stream of the record at this place.

@@ -16,7 +16,7 @@ use crate::pass::{first_ready, next_ready};
 use crate::waits::{Wait, waits_of};
 use std::alloc::Global;
 use std::marker::Model;
-use tau_base::{Listed, Lv, NoMemory};
+use tau_base::{Listed, Lv, MAX_STREAMS, NoMemory};
 use tau_scan::{Judge, Log};
 
 /// What may be done next.
@@ -302,7 +302,7 @@ fn first_after(items: &Items, j: u8, from: usize) -> usize
 
 /// For each stream how far it is recovered, and the place of its first record that is left.
 fn reached_of(alloc: Global, ends: &Lv, items: &Items) -> Result<(Lv, Vec<usize>), NoMemory>
-    requires narrow { length ends.now ≤ 16 }
+    requires narrow { length ends.now ≤ MAX_STREAMS }
     requires within { AreWithin ends.now items.now }
     ensures reached { IfOk result (λ r. IsReached ends.now r.0 items.now r.1.items) }
     ensures wide { IfOk result (λ r. (length r.0 ≡ length ends.now) × (length r.1.items ≡ length ends.now)) }

@@ -58,6 +58,7 @@ impl Procs {
         ensures ok { OnOk result (self.new ≡ self.old ++ proc ∷ []) }
         ensures err { OnErr result (self.new ≡ self.old) }
     {
+        // Two arms in place of `?`: the invariant is found for each by itself.
         match self.list.push(proc) {
             Ok(()) => Ok(()),
             Err(_) => Err(NoMemory),

@@ -115,7 +115,7 @@ pub(crate) fn sum_with(value: &Value, number: i64) -> Option<i64>
 fn joined_text(left: &Text64, right: &Text64) -> Option<Text64>
     ensures { result ≡ (if nat_le (length (left.now ++ right.now)) MAX_TEXT then Some (left.now ++ right.now) else None) }
 {
-    let mut text: ArrayString<64> = ArrayString::new();
+    let mut text: ArrayString<MAX_TEXT> = ArrayString::new();
     text.try_push_str(left.as_str()).ok()?;
     text.try_push_str(right.as_str()).ok()?;
     Text64::of(text.as_str())

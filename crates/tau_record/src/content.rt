@@ -13,6 +13,7 @@ use crate::dep::KeptLv;
 use crate::entry::{Entry, Placed};
 use crate::fault::{FieldError, RecordCause, RecordRefusal, refusal_at};
 use crate::format::Format;
+use crate::kind;
 use crate::record::{command_of, epoch_of, frame_of, is_whole, lv_of, written_of};
 use arrayvec::ArrayVec;
 use std::alloc::Global;
@@ -207,16 +208,16 @@ fn put_fields(
     ensures { Gives (λ _. (placed.new.items, named.new.vectors.items, named.new.number)) result
         (puts (fields_at format n named.old.number named.old.vectors.items kind fields.now) named.old.vectors.items named.old.number placed.old.items start past) }
 {
-    if kind == 1 {
+    if kind == kind::WRITTEN {
         return put_written(format, named, fields, start, past, placed, reading);
     }
-    if kind == 2 {
+    if kind == kind::COMMAND {
         return put_command(format, named, fields, start, past, placed, reading);
     }
-    if kind == 3 {
+    if kind == kind::ANCHOR {
         return put_anchor(reading.alloc, n, fields, start, past, named, placed);
     }
-    if kind == 5 {
+    if kind == kind::EPOCH {
         return put_epoch(reading.alloc, n, fields, start, past, named, placed);
     }
     if fields.len() > MAX_CATALOGUE {

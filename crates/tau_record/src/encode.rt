@@ -11,6 +11,7 @@ ghost use Rattle.tau_record.specs.declared.entry.Entry.TheVariants.{Written, Com
 
 use crate::format::Format;
 use crate::item::{args_size, put_args, put_writes, writes_size};
+use crate::kind;
 use crate::vector::{mask_size, parts_size, put_lv, put_vector};
 use std::alloc::{AllocError, Global};
 use tau_base::{Call, Key, Lv, MAX_CATALOGUE, MAX_WRITES, NoMemory, Value};
@@ -65,7 +66,7 @@ fn written_bytes(
         Spells format (length dep.now) vectors false (Written number anchor_number dep.now writes.now) v.items) }
 {
     let size = 14 + mask_size(format) + parts_size(anchor, dep) + writes_size(writes);
-    let mut out = begin(alloc, 1, size)?;
+    let mut out = begin(alloc, kind::WRITTEN, size)?;
     put_origin(&mut out, format, number, anchor_number, dep, anchor)?;
     out.extend_from_slice(&(writes.len() as u16).to_be_bytes())?;
     put_writes(&mut out, writes)?;
@@ -152,7 +153,7 @@ fn command_bytes(
 {
     let args = call.args.as_slice();
     let size = 15 + mask_size(format) + parts_size(anchor, dep) + args_size(args);
-    let mut out = begin(alloc, 2, size)?;
+    let mut out = begin(alloc, kind::COMMAND, size)?;
     put_origin(&mut out, format, number, anchor_number, dep, anchor)?;
     out.extend_from_slice(&call.proc.to_be_bytes())?;
     out.push(args.len() as u8)?;
@@ -203,7 +204,7 @@ pub fn encode_command_wide(
 fn anchor_bytes(alloc: Global, lv: &Lv) -> Result<Vec<u8>, AllocError>
     ensures { IfOk result (λ v. (vectors : List (List ℕ)) → Spells One (length lv.now) vectors false (Anchor lv.now) v.items) }
 {
-    let mut out = begin(alloc, 3, 8 * lv.width())?;
+    let mut out = begin(alloc, kind::ANCHOR, 8 * lv.width())?;
     put_lv(&mut out, lv)?;
     Ok(out)
 }
@@ -220,7 +221,7 @@ fn epoch_bytes(alloc: Global, number: u32, lv: &Lv) -> Result<Vec<u8>, AllocErro
     requires { 1 ≤ number }
     ensures { IfOk result (λ v. (f : Format) (vectors : List (List ℕ)) → Spells f (length lv.now) vectors false (Epoch number lv.now) v.items) }
 {
-    let mut out = begin(alloc, 5, 4 + 8 * lv.width())?;
+    let mut out = begin(alloc, kind::EPOCH, 4 + 8 * lv.width())?;
     out.extend_from_slice(&number.to_be_bytes())?;
     put_lv(&mut out, lv)?;
     Ok(out)
@@ -239,7 +240,7 @@ fn catalogue_bytes(alloc: Global, text: &[u8]) -> Result<Vec<u8>, AllocError>
     requires { length text.now ≤ MAX_CATALOGUE }
     ensures { IfOk result (λ v. (n : ℕ) (vectors : List (List ℕ)) → Spells One n vectors true (Catalogue text.now) v.items) }
 {
-    let mut out = begin(alloc, 4, text.len())?;
+    let mut out = begin(alloc, kind::CATALOGUE, text.len())?;
     out.extend_from_slice(text)?;
     Ok(out)
 }

@@ -9,11 +9,12 @@ ghost use Rattle.tau_record.specs.Item.{value, FitsValue, key, FitsKey, write, F
 
 use crate::fault::{FieldError, RecordCause};
 use crate::field::{u16_of, u64_of};
+use crate::kind;
 use crate::writes::{KeptWrites, SHORT_WRITES, Short};
 use arrayvec::ArrayVec;
 use std::alloc::{AllocError, Global};
 use std::str;
-use tau_base::{Key, MAX_ARGS, MAX_TEXT, Text64, Value};
+use tau_base::{Key, MAX_ARGS, MAX_TEXT, MAX_WRITES, Text64, Value};
 
 // ---- reading
 
@@ -52,12 +53,12 @@ pub(crate) fn value_of(bytes: &[u8]) -> Result<(Value, &[u8]), FieldError>
 {
     match bytes {
         [] => Err(FieldError::Bad(RecordCause::BadLength)),
-        [0, rest @ ..] => Ok((Value::Absent, rest)),
-        [1, rest @ ..] => {
+        [kind::ABSENT, rest @ ..] => Ok((Value::Absent, rest)),
+        [kind::INT, rest @ ..] => {
             let (number, rest) = u64_of(rest)?;
             Ok((Value::Int(number.cast_signed()), rest))
         }
-        [2, rest @ ..] => text_of(rest),
+        [kind::TEXT, rest @ ..] => text_of(rest),
         [_, ..] => Err(FieldError::Bad(RecordCause::BadBody)),
     }
 }
@@ -109,7 +110,7 @@ fn number_of(last: Option<Key>, bytes: &[u8]) -> Option<((Key, i64), &[u8])>
     if !is_behind(last, key) {
         return None;
     }
-    let [1, rest @ ..] = rest else {
+    let [kind::INT, rest @ ..] = rest else {
         return None;
     };
     let Ok((number, rest)) = u64_of(rest) else {
@@ -200,7 +201,7 @@ fn put_arg<'a>(
     ensures { Adds (λ x. x.now) result (value_at bytes.now) args.old.items args.new.items }
 {
     match bytes {
-        [1, rest @ ..] => {
+        [kind::INT, rest @ ..] => {
             let (number, rest) = u64_of(rest)?;
             args.push(Value::Int(number.cast_signed()));
             Ok(rest)
@@ -241,7 +242,7 @@ fn value_size(v: &Value) -> usize
 
 /// How many bytes the writes take.
 pub(crate) fn writes_size(writes: &[(Key, Value)]) -> usize
-    requires { length writes.now ≤ 64 }
+    requires { length writes.now ≤ MAX_WRITES }
     ensures exact { result ≡ length (flat_map write writes.now) }
     ensures small { result ≤ 77 * length writes.now }
 {
@@ -254,7 +255,7 @@ pub(crate) fn writes_size(writes: &[(Key, Value)]) -> usize
 
 /// How many bytes the arguments take.
 pub(crate) fn args_size(args: &[Value]) -> usize
-    requires { length args.now ≤ 8 }
+    requires { length args.now ≤ MAX_ARGS }
     ensures exact { result ≡ length (flat_map value args.now) }
     ensures small { result ≤ 67 * length args.now }
 {
@@ -270,14 +271,14 @@ fn put_value(out: &mut Vec<u8>, v: &Value) -> Result<(), AllocError>
     ensures fits { OnOk result (FitsValue v.now) }
 {
     match v {
-        Value::Absent => out.push(0)?,
+        Value::Absent => out.push(kind::ABSENT)?,
         Value::Int(number) => {
-            out.push(1)?;
+            out.push(kind::INT)?;
             out.extend_from_slice(&number.to_be_bytes())?;
         }
         Value::Text(text) => {
             let text = text.as_str();
-            out.push(2)?;
+            out.push(kind::TEXT)?;
             out.extend_from_slice(&(text.len() as u16).to_be_bytes())?;
             out.extend_from_slice(text.as_bytes())?;
         }

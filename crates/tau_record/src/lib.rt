@@ -9,6 +9,7 @@ mod fault;
 mod field;
 mod format;
 mod item;
+mod kind;
 mod laws;
 mod record;
 mod vector;

@@ -11,6 +11,7 @@ use crate::fault::{FieldError, RecordCause};
 use crate::field::{byte_of, u16_of, u32_of, u64_of};
 use crate::format::Format;
 use crate::item::{args_of, kept_writes_of};
+use crate::kind;
 use crate::vector::vector_of;
 use crate::writes::KeptWrites;
 use std::alloc::Global;
@@ -135,11 +136,11 @@ fn is_kind(first: bool, kind: u8) -> bool
     ensures { result ≡ kind_fits first kind }
 {
     if first {
-        kind == 4
-    } else if kind == 5 {
+        kind == kind::CATALOGUE
+    } else if kind == kind::EPOCH {
         true
-    } else if 1 <= kind {
-        kind <= 3
+    } else if kind::WRITTEN <= kind {
+        kind <= kind::ANCHOR
     } else {
         false
     }

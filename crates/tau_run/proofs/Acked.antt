@@ -4,6 +4,7 @@ use Rattle.std.specs.Prelude.{Some, Result, Ok, slice_get, slice_index_or, ◌==
 use Rattle.std.proofs.lemmas.Bool.{eqb-true}
 use Rattle.std.proofs.lemmas.Option.{get_or_from_slice_get}
 use Rattle.std.proofs.lemmas.List.{length-append}
+use Rattle.tau_base.specs.declared.limits.TheConstants.{MAX_STREAMS}
 use Rattle.tau_base.specs.Vectors.{AtMost}
 use Rattle.tau_base.specs.declared.value.LogMode.{LogMode}
 use Rattle.tau_base.proofs.Vectors.{at_most_within}
@@ -47,7 +48,7 @@ answered E a = Ok a
 ok_is : {A : Type 0} (E : Type 0) (a b : A) → answered E a ≡ answered E b → a ≡ b
 ok_is E a b e = cc e
 
-module _ (n m : ℕ) (mode : LogMode) (load : Workload) (l : Load) (K : List (Act Txn)) (s : Core) (inv : Invariant (setting_of l) K s) (at : IsLoadOf n m mode load l) (room : n ≤ 16) (sound : AreSound l load K)
+module _ (n m : ℕ) (mode : LogMode) (load : Workload) (l : Load) (K : List (Act Txn)) (s : Core) (inv : Invariant (setting_of l) K s) (at : IsLoadOf n m mode load l) (room : n ≤ MAX_STREAMS) (sound : AreSound l load K)
     (run : Run) (is : IsRunOf n l K s (catalogue_of load) run) where
   -- ---- the whole contents
 

@@ -7,6 +7,7 @@ use Rattle.std.proofs.lemmas.Bool.{eq-eqb}
 use Rattle.std.proofs.lemmas.List.{append-nil, length-append, length-take, take_all}
 use Rattle.std.proofs.lemmas.Option.{get_or_from_slice_get}
 use Rattle.std.specs.Prelude.{min}
+use Rattle.tau_base.specs.declared.limits.TheConstants.{MAX_STREAMS}
 use Rattle.tau_base.specs.Vectors.{AtMost, covers}
 use Rattle.tau_base.specs.declared.value.LogMode.{LogMode}
 use Rattle.tau_base.proofs.Vectors.{at_most_covers, at_most_within, at_most_trans}
@@ -69,7 +70,7 @@ lv_low : (up : Bool) (p : Place) (w : List ℕ) → AtMost p.dep w → (up ≡ t
 lv_low true p w low past = set_low p.dep w p.stream p.past low (past refl)
 lv_low false p w low past = low
 
-module _ (n m : ℕ) (mode : LogMode) (load : Workload) (l : Load) (K : List (Act Txn)) (s : Core) (inv : Invariant (setting_of l) K s) (at : IsLoadOf n m mode load l) (room : n ≤ 16) (sound : AreSound l load K)
+module _ (n m : ℕ) (mode : LogMode) (load : Workload) (l : Load) (K : List (Act Txn)) (s : Core) (inv : Invariant (setting_of l) K s) (at : IsLoadOf n m mode load l) (room : n ≤ MAX_STREAMS) (sound : AreSound l load K)
     (run : Run) (is : IsRunOf n l K s (catalogue_of load) run) where
   call_there : (c : Committed) → Member c run.calls → (t : Act Txn) × Member t K × (told_of t ≡ c)
   call_there c q =

@@ -2,7 +2,7 @@
 use Rattle.std.proofs.Common.{ℕ, ◌≤◌, ◌<◌, true, ◌≡◌, inl, inr, List, [], ◌∷◌, ◌++◌, map, length, refl, sym, ap, subst, ◌∙◌, arith, slice_index}
 use Rattle.std.specs.Prelude.{Option, None, Ok, slice_index_or, is_ok}
 use Rattle.std.proofs.lemmas.List.{append-nil}
-use Rattle.tau_base.specs.declared.limits.TheConstants.{MAX_CATALOGUE}
+use Rattle.tau_base.specs.declared.limits.TheConstants.{MAX_CATALOGUE, MAX_STREAMS}
 use Rattle.tau_base.specs.declared.value.LogMode.{LogMode}
 use Rattle.tau_base.specs.declared.value.LogMode.TheVariants.{Values, Commands}
 use Rattle.tau_model.specs.History.{Act, Member}
@@ -87,7 +87,7 @@ pub catalogue_long : (load : Workload) → 1 ≤ length (catalogue_of load)
 catalogue_long load = omega arith
 
 -- a content with these records
-whole_read : (n : ℕ) (content : List ℕ) (ps : List Placed) → n ≤ 16 → IsContent One n content ps → undeclared ps ≡ None → records_of n content ≡ Ok ps
+whole_read : (n : ℕ) (content : List ℕ) (ps : List Placed) → n ≤ MAX_STREAMS → IsContent One n content ps → undeclared ps ≡ None → records_of n content ≡ Ok ps
 unfolding records_of
 whole_read n content ps room is none =
     ap (judged n content) (content_again One n content ps room is) ∙ ap (λ (o : Option RecordFault). unless o ps) none
@@ -99,7 +99,7 @@ all_declared load mode items is are d e =
     let good : is_ok (declarations_of (declarations_text load.declarations)) ≡ true = ap is_ok is.read in
     rw good (subst (λ (x : Declarations). first_undeclared x (map (placed_in mode) items) ≡ None) (sym e) (items_declared load.declarations mode items are))
 
-pub content_read : (l : Load) (anchors : ℕ → List (List ℕ)) (load : Workload) (n j to : ℕ) (more : List (List ℕ)) (items : List Item) (bytes : List ℕ) → n ≤ 16 → l.streams ≡ n →
+pub content_read : (l : Load) (anchors : ℕ → List (List ℕ)) (load : Workload) (n j to : ℕ) (more : List (List ℕ)) (items : List Item) (bytes : List ℕ) → n ≤ MAX_STREAMS → l.streams ≡ n →
     slice_index l.opening.anchors.items j ≡ 0 → IsCatalogue load → Spelled l anchors items bytes → Chain (length (catalogue_of load)) items to → AreOf j items → NameTheirs 0 [] items → anchors j ≡ anchors_in items ++ more →
     AreDeclared load.declarations l.mode (records_in items) → records_of n (catalogue_of load ++ bytes) ≡ Ok (first_placed load ∷ map (placed_in l.mode) items)
 content_read l anchors load n j to more items bytes room width none is h c of names all are =
@@ -113,5 +113,5 @@ none_undeclared : undeclared [] ≡ None
 unfolding first_undeclared
 none_undeclared = refl
 
-pub nothing_read : (n : ℕ) → n ≤ 16 → records_of n [] ≡ Ok []
+pub nothing_read : (n : ℕ) → n ≤ MAX_STREAMS → records_of n [] ≡ Ok []
 nothing_read n room = whole_read n [] [] room refl none_undeclared

@@ -6,6 +6,7 @@ use Rattle.std.proofs.Math.Seq.{take-append_seam, take-append-add, take-length}
 use Rattle.std.proofs.lemmas.List.{length-append, take-append-drop}
 use Rattle.std.proofs.lemmas.Grind.{flat_map-append}
 use Rattle.std.proofs.lemmas.Bool.{and_parts, eqb-true}
+use Rattle.tau_base.specs.declared.limits.TheConstants.{MAX_STREAMS}
 use Rattle.tau_model.specs.History.{Act, Member, updates}
 use Rattle.tau_model.proofs.Logged.{member_filtered}
 use Rattle.tau_machine.specs.Hands.{Txn}
@@ -97,7 +98,7 @@ pub record IsRead (l : Load) (load : Workload) (K : List (Act Txn)) (n j : ℕ) 
   pub text : (ps ≡ []) ⊎ (text_in ps ≡ Some (declarations_text load.declarations))
   pub plain : marks_in ps ≡ []
 
-module _ (n : ℕ) (l : Load) (load : Workload) (K : List (Act Txn)) (s : Core) (j : ℕ) (room : n ≤ 16) (width : l.streams ≡ n) (none : slice_index l.opening.anchors.items j ≡ 0)
+module _ (n : ℕ) (l : Load) (load : Workload) (K : List (Act Txn)) (s : Core) (j : ℕ) (room : n ≤ MAX_STREAMS) (width : l.streams ≡ n) (none : slice_index l.opening.anchors.items j ≡ 0)
     (sound : AreSound l load K) (content : List ℕ) (g : IsGiven l K s j (catalogue_of load) content) where
   abbrev pub items : List Item
   items = (s.streams j).moved ++ g.waiting

@@ -2,6 +2,7 @@
 ghost use Rattle.std.specs.Prelude.{◌≡◌};
 ghost use Rattle.tau_scan.specs.declared.fault.LogRefusal.TheVariants as log;
 ghost use Rattle.tau_scan.specs.declared.fault.ReadRefusal.TheVariants as disks;
+ghost use Rattle.tau_scan.specs.declared.fault.ReplayRefusal.TheVariants as replay;
 
 use std::alloc::AllocFailed;
 use tau_base::NoMemory;
@@ -91,6 +92,14 @@ pub enum ReplayRefusal {
         /// Where its first such record starts.
         at: u64,
     },
+}
+
+impl From<NoMemory> for ReplayRefusal {
+    ghost from_gives = { λ _ e. e ≡ replay.NoMemory };
+
+    fn from(_e: NoMemory) -> ReplayRefusal {
+        ReplayRefusal::NoMemory
+    }
 }
 
 /// Why the disks were not read.

@@ -168,9 +168,8 @@ fn earlier(alloc: Global, n: u16, content: &[u8], fault: RecordFault) -> RecordR
     requires first { FirstBad One n content.now fault }
     ensures { Judged {A = List Placed} (Err result) (judged n content.now (Err fault)) }
 {
-    let before = match decode(alloc, n, &content[..fault.at as usize]) {
-        Ok(before) => before,
-        Err(_) => return RecordRefusal::NoMemory,
+    let Ok(before) = decode(alloc, n, &content[..fault.at as usize]) else {
+        return RecordRefusal::NoMemory;
     };
     match undeclared(alloc, &before) {
         Ok(None) => RecordRefusal::Bad(fault),
@@ -184,10 +183,9 @@ fn declared_ones(alloc: Global, records: Vec<Placed>) -> Result<Listed<Placed>, 
     ensures judged { Judged result (unless (undeclared records.items) records.items) }
     ensures same { IfOk result (λ listed. (listed ≡ records.items) × (undeclared listed ≡ None)) }
 {
-    match undeclared(alloc, &records) {
-        Ok(None) => Ok(Listed::of(records)),
-        Ok(Some(fault)) => Err(RecordRefusal::Bad(fault)),
-        Err(_) => Err(RecordRefusal::NoMemory),
+    match undeclared(alloc, &records).map_err(|_| RecordRefusal::NoMemory)? {
+        None => Ok(Listed::of(records)),
+        Some(fault) => Err(RecordRefusal::Bad(fault)),
     }
 }
 

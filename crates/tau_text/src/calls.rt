@@ -18,7 +18,7 @@ use arrayvec::ArrayVec;
 use tau_base::{MAX_ARGS, MAX_TABLES, Name, Value};
 use tau_proc::{ADD, DEL, FIRST_DECLARED, GET, PUT, Proc};
 
-pub type Args = ArrayVec<Value, 8>;
+pub type Args = ArrayVec<Value, MAX_ARGS>;
 
 /// A table and a row, and what is after them.
 #[inline(always)]

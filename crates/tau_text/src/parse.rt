@@ -342,10 +342,8 @@ fn line_read(
     ensures given { Gives (λ _. s.new) result (line_read s.old n line.now) }
     ensures within { OnOk result (IsWithin s.new) }
 {
-    match str::from_utf8(line) {
-        Ok(_) => words_read(alloc, s, n, line, call),
-        Err(_) => Err(LineRefusal::Cause(TextCause::NotUtf8)),
-    }
+    str::from_utf8(line).map_err(|_| LineRefusal::Cause(TextCause::NotUtf8))?;
+    words_read(alloc, s, n, line, call)
 }
 
 /// The refusal of a line, with its number.

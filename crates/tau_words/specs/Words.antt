@@ -3,6 +3,7 @@ use Rattle.std.specs.Prelude.{ℕ, ◌-◌, ◌==◌, ◌&&◌, Bool, false, not
 use Rattle.std.specs.Cmp.Lexicographic.{pointwise}
 use Rattle.std.specs.List.{list_all}
 use Rattle.std.specs.Str.Parse.{digits_value}
+use Rattle.tau_base.specs.declared.limits.TheConstants.{MAX_CALLS}
 use Rattle.tau_base.specs.declared.value.LogMode.{LogMode}
 use Rattle.tau_base.specs.declared.value.LogMode.TheVariants.{Values, Commands}
 use Rattle.tau_disk.specs.declared.call.Tear.{Tear}
@@ -11,6 +12,7 @@ use Rattle.tau_words.specs.declared.command.Command.{Command}
 use Rattle.tau_words.specs.declared.command.Command.TheVariants.{Run, Recover, Drill, Bench}
 use Rattle.tau_words.specs.declared.command.Ending.{Ending}
 use Rattle.tau_words.specs.declared.command.Ending.TheVariants.{Stop, Fail}
+use Rattle.tau_words.specs.declared.number.TheConstants.{MAX_COUNT, MAX_DEVICE_CALL, MAX_START}
 
 abbrev pub Word : Type 0
 Word = List ℕ
@@ -38,11 +40,11 @@ number_in low high word = if is_number word then bounded low high (digits_value 
 
 -- how many streams, workers or recovery workers
 abbrev pub count_of : Word → Option ℕ
-count_of word = number_in 1 16 word
+count_of word = number_in 1 MAX_COUNT word
 
 -- which call of a disk
 abbrev pub call_of : Word → Option ℕ
-call_of word = number_in 1 1000000 word
+call_of word = number_in 1 MAX_DEVICE_CALL word
 
 -- ---- the commands
 
@@ -83,7 +85,7 @@ drill_of _ = None
 abbrev pub bench_of : List Word → Option Command
 bench_of (a ∷ c ∷ n ∷ m ∷ []) =
     option_and_then (λ start. option_and_then (λ calls. option_and_then (λ streams. option_map (λ workers. Bench start calls streams workers)
-    (count_of m)) (count_of n)) (number_in 0 200000 c)) (number_in 0 999 a)
+    (count_of m)) (count_of n)) (number_in 0 MAX_CALLS c)) (number_in 0 MAX_START a)
 bench_of _ = None
 
 -- the command of the words after the program's name; none where they are none

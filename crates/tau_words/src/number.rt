@@ -45,12 +45,21 @@ pub(crate) fn number_in(low: u32, high: u32, word: &str) -> Option<u32>
     }
 }
 
+/// Streams, workers or workers of a recovery that a command may ask for.
+pub(crate) const MAX_COUNT: u32 = 16;
+
+/// Where the rows of the measured job may begin.
+pub(crate) const MAX_START: u32 = 999;
+
+/// The last device call at which a drill may stop.
+pub(crate) const MAX_DEVICE_CALL: u32 = 1_000_000;
+
 /// A number of streams or workers.
 pub(crate) fn count_of(word: &str) -> Option<u8>
     ensures exact { result ≡ count_of word.now }
-    ensures within { IfSome result (λ n. (1 ≤ n) × (n ≤ 16)) }
+    ensures within { IfSome result (λ n. (1 ≤ n) × (n ≤ MAX_COUNT)) }
 {
-    match number_in(1, 16, word) {
+    match number_in(1, MAX_COUNT, word) {
         None => None,
         Some(n) => Some(n as u8),
     }

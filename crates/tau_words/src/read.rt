@@ -5,10 +5,10 @@ ghost use Rattle.tau_words.specs.declared.command.WordsRefusal.TheVariants.{Usag
 ghost use Rattle.tau_words.specs.declared.command.Command.TheVariants.{Drill};
 
 use crate::command::{Command, Ending, WordsRefusal};
-use crate::number::{count_of, number_in};
+use crate::number::{MAX_COUNT, MAX_DEVICE_CALL, MAX_START, count_of, number_in};
 use crate::split::{MAX_WORDS, has_flag, split};
 use std::alloc::Global;
-use tau_base::LogMode;
+use tau_base::{LogMode, MAX_CALLS};
 use tau_disk::Tear;
 
 fn is_word(word: &str, name: &str) -> bool
@@ -79,17 +79,20 @@ fn tear_of(word: &str) -> Option<Tear>
 
 fn ending_of(streams: u8, how: &str, first: &str, second: &str) -> Option<Ending>
     requires low { 1 ≤ streams }
-    requires high { streams ≤ 16 }
+    requires high { streams ≤ MAX_COUNT }
     ensures { result ≡ ending_of streams how.now first.now second.now }
 {
     if is_word(how, "stop") {
-        match (number_in(1, 1_000_000, first), tear_of(second)) {
+        match (number_in(1, MAX_DEVICE_CALL, first), tear_of(second)) {
             (Some(after), Some(tear)) => Some(Ending::Stop { after, tear }),
             _ => None,
         }
     } else if is_word(how, "fail") {
         let last = u32::from(streams) - 1;
-        match (number_in(0, last, first), number_in(1, 1_000_000, second)) {
+        match (
+            number_in(0, last, first),
+            number_in(1, MAX_DEVICE_CALL, second),
+        ) {
             (Some(stream), Some(call)) => Some(Ending::Fail {
                 stream: stream as u8,
                 call,
@@ -127,8 +130,8 @@ fn bench_of(words: &[&str]) -> Option<Command>
 {
     match words {
         [a, c, n, m] => {
-            let start = number_in(0, 999, a);
-            let calls = number_in(0, 200_000, c);
+            let start = number_in(0, MAX_START, a);
+            let calls = number_in(0, MAX_CALLS as u32, c);
             match (start, calls, count_of(n), count_of(m)) {
                 (Some(start), Some(calls), Some(n), Some(m)) => Some(Command::Bench {
                     start: start as u16,
