@@ -1,0 +1,12 @@
+pub mod Parts
+pub mod Judging
+pub mod Records
+pub mod Contents
+pub mod Grown
+pub mod Taken
+pub mod Judged
+pub mod Listed
+pub mod Splits
+pub mod Stays
+pub mod Fresh
+pub mod Chain

@@ -1,0 +1,3 @@
+pub mod Continues
+pub mod Sound
+pub mod Laws
