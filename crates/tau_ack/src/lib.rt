@@ -3,6 +3,7 @@
 
 ghost use Rattle.std.specs.Prelude.{◌≡◌, ◌==◌, ◌≤◌, ◌<◌, ◌+◌, [], ◌∷◌, ◌++◌, length, OnOk, true, false, IfSome, IfNone, set, get_or, vec_len, vec_capacity};
 ghost use Rattle.tau_ack.specs.declared.Waiting.{Waiting};
+ghost use Rattle.tau_base.specs.Vectors.{AtMost};
 ghost use Rattle.tau_ack.specs.Pending.{NoneCovered, TakesFirst, IsPass, in_pass};
 
 use std::alloc::Global;
@@ -80,10 +81,15 @@ impl Pending {
         ensures kept { self.old.room ≤ self.new.room }
         ensures calls { self.new.calls ≡ self.old.calls }
     {
-        match self.calls.try_reserve(1) {
-            Ok(()) => Ok(()),
-            Err(_) => Err(NoMemory),
-        }
+        self.calls.try_reserve(1)?;
+        Ok(())
+    }
+
+    /// How many more calls are put without memory.
+    pub fn room(&self) -> usize
+        ensures { result ≡ self.now.room }
+    {
+        self.calls.capacity() - self.calls.len()
     }
 
     /// Puts a call last. It takes no memory.
@@ -168,7 +174,7 @@ fn begin(calls: &mut Vec<Waiting>, pass: &mut Pass, plv: &Lv) -> bool
         if pass.passed == calls.len() {
             return false;
         }
-        pass.plv = *plv;
+        turn_to(&mut pass.plv, plv);
         return true;
     }
     close(calls, pass.passed, pass.next);
@@ -176,6 +182,28 @@ fn begin(calls: &mut Vec<Waiting>, pass: &mut Pass, plv: &Lv) -> bool
     pass.passed = 0;
     pass.next = 0;
     true
+}
+
+/// Becomes the other vector. One that is the same already, as in a pass that goes on, is not copied.
+fn turn_to(plv: &mut Lv, other: &Lv)
+    requires { AtMost other.now plv.old }
+    ensures { plv.new ≡ other.now }
+{
+    if is_same(plv, other) {
+        return;
+    }
+    *plv = *other;
+}
+
+/// Whether two vectors are the same, of which the first covers the second.
+fn is_same(plv: &Lv, other: &Lv) -> bool
+    requires { AtMost other.now plv.now }
+    ensures { result ≡ true → plv.now ≡ other.now }
+{
+    if plv.width() != other.width() {
+        return false;
+    }
+    other.covers(plv)
 }
 
 /// Closes the gap that a pass has left, if any.

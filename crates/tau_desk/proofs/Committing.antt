@@ -2,7 +2,7 @@
 use Rattle.std.proofs.Common.{◌≡◌, ℕ, ◌+◌, ◌%◌, ◌≤◌, ◌<◌, ◌^◌, Bool, true, false, inr, List, [], ◌∷◌, ◌++◌, length, refl, sym, ap, ◌∙◌, subst, Option, arith}
 use Rattle.std.specs.Prelude.{Some, None, is_some}
 use Rattle.tau_base.specs.Vectors.{join}
-use Rattle.tau_base.specs.declared.limits.TheConstants.{MAX_LSN}
+use Rattle.tau_base.specs.declared.limits.TheConstants.{MAX_LSN, MAX_STREAMS}
 use Rattle.tau_base.specs.declared.value.LogMode.{LogMode}
 use Rattle.tau_proc.specs.declared.proc.Proc.{Proc}
 use Rattle.tau_record.specs.Format.{One}
@@ -77,7 +77,7 @@ abbrev pub raised_by : Hand → List ℕ → Hand
 raised_by h anchor = record h { dep = join h.dep anchor }
 
 -- what its place owes, from the record that was made
-pub to_place : (origin : Plain) (w : ℕ) (m : Sat) (t p : PlainTxn) (size number : ℕ) (anchor : List ℕ) → IsReady origin w m t → (q : txn.Commits origin.load.procs t size) → m.0.read ≡ (number, anchor) → length anchor ≡ origin.load.streams → origin.load.streams ≤ 16 →
+pub to_place : (origin : Plain) (w : ℕ) (m : Sat) (t p : PlainTxn) (size number : ℕ) (anchor : List ℕ) → IsReady origin w m t → (q : txn.Commits origin.load.procs t size) → m.0.read ≡ (number, anchor) → length anchor ≡ origin.load.streams → origin.load.streams ≤ MAX_STREAMS →
     p ≡ record t { hand = p.hand } → hand_in origin.load.procs p ≡ Some (raised_by q.hand anchor) → anchor_in p ≡ number → 1 ≤ length (bytes_in p) →
     ((vectors : List (List ℕ)) → base_of vectors number ≡ anchor → Spells One t.width vectors false (entry_of t.mode (act_at origin.load.procs p 0 (raised_by q.hand anchor))) (bytes_in p)) → IsToPlace origin w m p
 to_place origin w m t p size number anchor r q read wide few same raised named sized spelled =

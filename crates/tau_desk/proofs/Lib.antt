@@ -2,7 +2,6 @@ pub mod Locking
 pub mod Freeing
 pub mod Posting
 pub mod Closing
-pub mod Backing
 pub mod Quitting
 pub mod Beginning
 pub mod Reading

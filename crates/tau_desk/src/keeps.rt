@@ -13,7 +13,7 @@ use crate::desk::Desk;
 use crate::room::Room;
 use crate::work::{more_calls, more_records, number_of, take_outbox, take_shard};
 use std::sync::Wait;
-use tau_base::{Lv, NoMemory, shard_of};
+use tau_base::{Lv, MAX_HOLDERS, NoMemory, shard_of};
 use tau_model::{CommittedList, LentCall};
 use tau_proc::Procs;
 use tau_rule::Seat;
@@ -41,9 +41,7 @@ pub(crate) fn commit(
     ensures same { OnErr result ((seat.new.me ≡ seat.old.me) × (txn.new ≡ txn.old) × (committed.new ≡ committed.old)) }
     ensures list { OnOk result (committed.old.room ≤ committed.new.room + 1) }
 {
-    let ActionKind::Commit = txn.kind() else {
-        unreachable!()
-    };
+    txn.means();
     txn.prepare(number, anchor)?;
     Ok(place(desk, seat, worker, txn, committed))
 }
@@ -95,9 +93,7 @@ pub(crate) fn done_reading<R: Wait>(
     ensures step { (kept : CommittedOf) × EndedReadingBy desk.now.table.shared.key.value seat.old.me txn.old seat.new.me txn.new kept (room.new.records, room.new.calls) × (committed.new.items ≡ committed.old.items ++ kept ∷ []) }
     ensures room { (room.old.records ≤ room.new.records) × (room.old.calls ≤ room.new.calls + 1) }
 {
-    let ActionKind::Done = txn.kind() else {
-        unreachable!()
-    };
+    txn.means();
     let (mut outbox, mut pending) = take_outbox(rt, desk, seat, worker);
     pending.put_from(number_of(txn), txn.lv_ref());
     txn.commit_into(committed);
@@ -121,7 +117,7 @@ pub(crate) fn first_free<R: Wait>(
 ) -> bool
     requires own { seat.old.table_id ≡ desk.now.table.shared.table_id }
     requires procs { procs.now ≡ desk.now.table.shared.key.value.load.procs }
-    requires small { worker < 32 }
+    requires small { worker < MAX_HOLDERS }
     requires unjoined { has_joined txn.old ≡ false }
     requires ready { IsReady desk.now.table.shared.key.value worker seat.old.me txn.old }
     requires list { 1 ≤ committed.old.room }

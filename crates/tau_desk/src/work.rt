@@ -15,7 +15,7 @@ use crate::desk::Desk;
 use crate::room::Room;
 use std::sync::Wait;
 use tau_ack::Pending;
-use tau_base::{NoMemory, SHARDS, shard_of};
+use tau_base::{MAX_HOLDERS, NoMemory, SHARDS, shard_of};
 use tau_outbox::Outbox;
 use tau_proc::Procs;
 use tau_rule::{Part, Seat};
@@ -62,7 +62,7 @@ pub fn lock<R: Wait>(
 ) -> Acted
     requires own { seat.old.table_id ≡ desk.now.table.shared.table_id }
     requires procs { procs.now ≡ desk.now.table.shared.key.value.load.procs }
-    requires small { worker < 32 }
+    requires small { worker < MAX_HOLDERS }
     requires ready { IsReady desk.now.table.shared.key.value worker seat.old.me txn.old }
     ensures own { (seat.new.table_id ≡ seat.old.table_id) × (seat.new.id ≡ seat.old.id) }
     ensures step { LockedBy desk.now.table.shared.key.value seat.old.me txn.old seat.new.me txn.new result }
@@ -102,7 +102,7 @@ pub fn free<R: Wait>(
 ) -> Acted
     requires own { seat.old.table_id ≡ desk.now.table.shared.table_id }
     requires procs { procs.now ≡ desk.now.table.shared.key.value.load.procs }
-    requires small { worker < 32 }
+    requires small { worker < MAX_HOLDERS }
     requires joined { has_joined txn.old ≡ true }
     requires ready { IsReady desk.now.table.shared.key.value worker seat.old.me txn.old }
     ensures own { (seat.new.table_id ≡ seat.old.table_id) × (seat.new.id ≡ seat.old.id) }
@@ -132,7 +132,7 @@ pub fn quit<R: Wait>(
 ) -> Acted
     requires own { seat.old.table_id ≡ desk.now.table.shared.table_id }
     requires procs { procs.now ≡ desk.now.table.shared.key.value.load.procs }
-    requires small { worker < 32 }
+    requires small { worker < MAX_HOLDERS }
     requires ready { IsReady desk.now.table.shared.key.value worker seat.old.me txn.old }
     ensures own { (seat.new.table_id ≡ seat.old.table_id) × (seat.new.id ≡ seat.old.id) }
     ensures step { QuitBy desk.now.table.shared.key.value seat.old.me txn.old seat.new.me txn.new result }
@@ -216,9 +216,7 @@ pub fn done<R: Wait>(
     ensures call { HasEnded desk.now.table.shared.key.value.load.procs txn.old txn.new }
     ensures room { (room.old.records ≤ room.new.records) × (room.old.calls ≤ room.new.calls + 1) }
 {
-    let ActionKind::Done = txn.kind() else {
-        unreachable!()
-    };
+    txn.means();
     let (mut outbox, mut pending) = take_outbox(rt, desk, seat, worker);
     pending.put_from(number_of(txn), txn.lv_ref());
     txn.went(procs);
@@ -235,7 +233,7 @@ pub(crate) fn number_of(txn: &Txn) -> u64
     txn.number().unwrap()
 }
 
-/// Where there is no room for a record, it is made.
+/// Where there is no room for a record, it is made. All that there is then counts, so that it is seldom asked for.
 pub(crate) fn more_records(outbox: &mut Outbox, room: usize) -> usize
     requires { room ≤ outbox.old.room }
     ensures pieces { outbox.new.pieces ≡ outbox.old.pieces }
@@ -246,12 +244,12 @@ pub(crate) fn more_records(outbox: &mut Outbox, room: usize) -> usize
         return room;
     }
     match outbox.reserve() {
-        Ok(()) => 1,
+        Ok(()) => outbox.room(),
         Err(_) => 0,
     }
 }
 
-/// Where there is no room for a call that waits, it is made.
+/// Where there is no room for a call that waits, it is made, and all that there is then counts.
 pub(crate) fn more_calls(pending: &mut Pending, room: usize) -> usize
     requires { room ≤ pending.old.room }
     ensures calls { pending.new.calls ≡ pending.old.calls }
@@ -262,7 +260,7 @@ pub(crate) fn more_calls(pending: &mut Pending, room: usize) -> usize
         return room;
     }
     match pending.reserve() {
-        Ok(()) => 1,
+        Ok(()) => pending.room(),
         Err(_) => 0,
     }
 }

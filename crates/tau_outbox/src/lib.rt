@@ -59,10 +59,15 @@ impl Outbox {
         ensures pieces { self.new.pieces ≡ self.old.pieces }
         ensures closed { self.new.closed ≡ self.old.closed }
     {
-        match self.pieces.try_reserve(1) {
-            Ok(()) => Ok(()),
-            Err(_) => Err(NoMemory),
-        }
+        self.pieces.try_reserve(1)?;
+        Ok(())
+    }
+
+    /// How many more pieces are put without memory.
+    pub fn room(&self) -> usize
+        ensures { result ≡ self.now.room }
+    {
+        self.pieces.capacity() - self.pieces.len()
     }
 
     /// Puts a piece last. It takes no memory.

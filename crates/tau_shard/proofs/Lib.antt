@@ -4,3 +4,4 @@ pub mod Masks
 pub mod Puts
 pub mod Sweeps
 pub mod Rows
+pub mod Stands

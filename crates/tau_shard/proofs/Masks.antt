@@ -53,16 +53,16 @@ holder_write : (w : ℕ) (reads writes : ℕ → Bool) → (λ (u : ℕ). holder
 holder_write w reads writes = fun_ext (λ u. elim (cases_Bool (u == w)) [ inl is ↦ rw is refl | inr no' ↦ rw no' refl ])
 
 entry_by : (e : LockEntry) (w : ℕ) (m : Option Mode) (r s : ℕ) → (λ (u : ℕ). holder (bits r u) (bits s u)) ≡ at w m (λ u. holder (bits e.readers u) (bits e.writers u)) →
-    entry_of (record { read = e.read; write = e.write; readers = r; writers = s }) ≡ held_as (entry_of e) w m
+    entry_of (record e { readers = r; writers = s }) ≡ held_as (entry_of e) w m
 entry_by e w m r s p = λ i. record { holders = p i; write_lv = e.write; read_lv = e.read }
 
 pub entry_both : (e : LockEntry) (w : ℕ) (a b : Bool) (r s : ℕ) → bits r ≡ at w a (bits e.readers) → bits s ≡ at w b (bits e.writers) →
-    entry_of (record { read = e.read; write = e.write; readers = r; writers = s }) ≡ held_as (entry_of e) w (holder a b)
+    entry_of (record e { readers = r; writers = s }) ≡ held_as (entry_of e) w (holder a b)
 entry_both e w a b r s p q =
     entry_by e w (holder a b) r s ((λ i. λ (u : ℕ). holder (p i u) (q i u)) ∙ holder_at w a b (bits e.readers) (bits e.writers))
 
 pub entry_write : (e : LockEntry) (w : ℕ) (s : ℕ) → bits s ≡ at w true (bits e.writers) →
-    entry_of (record { read = e.read; write = e.write; readers = e.readers; writers = s }) ≡ held_as (entry_of e) w (Some Write)
+    entry_of (record e { writers = s }) ≡ held_as (entry_of e) w (Some Write)
 entry_write e w s q =
     entry_by e w (Some Write) e.readers s ((λ i. λ (u : ℕ). holder (bits e.readers u) (q i u)) ∙ holder_write w (bits e.readers) (bits e.writers))
 
@@ -109,8 +109,8 @@ least_bit n above small =
 pub nobody : (e : LockEntry) → e.readers ≡ 0 → e.writers ≡ 0 → (w : ℕ) → (entry_of e).holders w ≡ None
 nobody e r s w = (λ i. holder (bits (r i) w) (bits (s i) w)) ∙ rw (bits_zero w) refl
 
-pub nobody_new : (floor : List ℕ) → entry_of (record { read = floor; write = floor; readers = 0; writers = 0 }) ≡ entry_or floor None
-nobody_new floor = λ i. record { holders = fun_ext (λ w. nobody (record { read = floor; write = floor; readers = 0; writers = 0 }) refl refl w) i; write_lv = floor; read_lv = floor }
+pub nobody_new : (floor : List ℕ) (at : ℕ) → entry_of (record { read = floor; write = floor; readers = 0; writers = 0; row_at = at }) ≡ entry_or floor None
+nobody_new floor at = λ i. record { holders = fun_ext (λ w. nobody (record { read = floor; write = floor; readers = 0; writers = 0; row_at = at }) refl refl w) i; write_lv = floor; read_lv = floor }
 
 not_held : (r s : Bool) → holder r s ≡ None → (r ≡ false) × (s ≡ false)
 not_held r true e = absurd (let bad : Some Write ≡ None = e in cc)

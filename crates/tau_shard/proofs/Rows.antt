@@ -15,7 +15,6 @@ use Rattle.tau_base.specs.Database.{Db, same_key, db_of}
 use Rattle.tau_shard.specs.Read.{is_key}
 use Rattle.tau_shard.specs.Present.{is_present, present_rows}
 use Rattle.tau_shard.proofs.Drops.{key_laws}
-use Rattle.tau_shard.proofs.Puts.{is_key_same}
 use Rattle.tau_shard.proofs.Sweeps.{drop_next, drop_past}
 use Rattle.tau_model.proofs.Places.{same_test}
 

@@ -2,3 +2,4 @@ pub mod Blocks
 pub mod Plain
 pub mod Present
 pub mod Read
+pub mod Stands

@@ -7,7 +7,7 @@ ghost use Rattle.tau_shard.specs.Blocks.{against, blocks, IsLowest, covered, dep
 ghost use Rattle.tau_shard.specs.declared.entry.ShardRefusal.TheVariants.{NoMemory};
 
 use crate::mask;
-use tau_base::{Lv, Mode, NoMemory};
+use tau_base::{Lv, MAX_HOLDERS, Mode, NoMemory};
 use thiserror::Error;
 
 /// Who holds a key, and its two vectors.
@@ -21,6 +21,8 @@ pub struct LockEntry {
     pub readers: u32,
     /// The workers that hold the key in write mode.
     pub writers: u32,
+    // Where the row stood when the key was locked last. It is looked at before the row is looked up, and may be wrong.
+    pub(crate) row_at: usize,
 }
 
 /// Why a lock is not given.
@@ -47,7 +49,7 @@ impl From<NoMemory> for ShardRefusal {
 
 /// A new entry at the floor, whose key the worker holds.
 pub(crate) fn first_held(floor: &Lv, worker: u8, mode: Mode) -> LockEntry
-    requires { worker < 32 }
+    requires { worker < MAX_HOLDERS }
     ensures { entry_of result ≡ held_as (entry_or floor.now None) worker (Some mode) }
 {
     let mut entry = LockEntry {
@@ -55,6 +57,7 @@ pub(crate) fn first_held(floor: &Lv, worker: u8, mode: Mode) -> LockEntry
         write: *floor,
         readers: 0,
         writers: 0,
+        row_at: 0,
     };
     hold(&mut entry, worker, mode);
     entry
@@ -62,7 +65,7 @@ pub(crate) fn first_held(floor: &Lv, worker: u8, mode: Mode) -> LockEntry
 
 /// The worker holds the key in this mode, and in no other.
 pub(crate) fn hold(entry: &mut LockEntry, worker: u8, mode: Mode)
-    requires { worker < 32 }
+    requires { worker < MAX_HOLDERS }
     ensures { entry_of entry.new ≡ held_as (entry_of entry.old) worker (Some mode) }
 {
     match mode {
@@ -72,7 +75,7 @@ pub(crate) fn hold(entry: &mut LockEntry, worker: u8, mode: Mode)
 }
 
 fn hold_read(entry: &mut LockEntry, worker: u8)
-    requires { worker < 32 }
+    requires { worker < MAX_HOLDERS }
     ensures { entry_of entry.new ≡ held_as (entry_of entry.old) worker (Some Mode.Read) }
 {
     entry.readers = mask::with(entry.readers, worker);
@@ -80,7 +83,7 @@ fn hold_read(entry: &mut LockEntry, worker: u8)
 }
 
 fn hold_write(entry: &mut LockEntry, worker: u8)
-    requires { worker < 32 }
+    requires { worker < MAX_HOLDERS }
     ensures { entry_of entry.new ≡ held_as (entry_of entry.old) worker (Some Mode.Write) }
 {
     entry.writers = mask::with(entry.writers, worker);
@@ -88,7 +91,7 @@ fn hold_write(entry: &mut LockEntry, worker: u8)
 
 /// The worker holds the key no more.
 pub(crate) fn release(entry: &mut LockEntry, worker: u8)
-    requires { worker < 32 }
+    requires { worker < MAX_HOLDERS }
     ensures { entry_of entry.new ≡ held_as (entry_of entry.old) worker None }
 {
     entry.readers = mask::without(entry.readers, worker);
@@ -97,7 +100,7 @@ pub(crate) fn release(entry: &mut LockEntry, worker: u8)
 
 /// The worker holds the key no more, whose read vector is raised.
 pub(crate) fn release_read(entry: &mut LockEntry, worker: u8, lv: &Lv)
-    requires { worker < 32 }
+    requires { worker < MAX_HOLDERS }
     ensures { entry_of entry.new ≡ record (held_as (entry_of entry.old) worker None) { read_lv = join entry.old.read lv.now } }
 {
     release(entry, worker);
@@ -106,7 +109,7 @@ pub(crate) fn release_read(entry: &mut LockEntry, worker: u8, lv: &Lv)
 
 /// The worker holds the key no more, whose write vector is raised.
 pub(crate) fn release_written(entry: &mut LockEntry, worker: u8, lv: &Lv)
-    requires { worker < 32 }
+    requires { worker < MAX_HOLDERS }
     ensures { entry_of entry.new ≡ record (held_as (entry_of entry.old) worker None) { write_lv = join entry.old.write lv.now } }
 {
     release(entry, worker);
@@ -125,7 +128,7 @@ fn conflicting(entry: &LockEntry, mode: Mode) -> u32
 
 /// The lowest other worker whose hold conflicts with a lock.
 pub(crate) fn blocker(entry: &LockEntry, worker: u8, mode: Mode) -> Option<u8>
-    requires { worker < 32 }
+    requires { worker < MAX_HOLDERS }
     ensures found { IfSome result (λ u. IsLowest (entry_of entry.now) worker mode u) }
     ensures free { IfNone result ((u : ℕ) → blocks (entry_of entry.now) worker mode u ≡ false) }
 {

@@ -4,9 +4,11 @@ ghost use Rattle.tau_machine.specs.Shard.{at};
 ghost use Rattle.tau_shard.specs.Read.{bits};
 ghost use Rattle.tau_shard.specs.Blocks.{IsLeast};
 
+use tau_base::MAX_HOLDERS;
+
 /// The set with this worker.
 pub(crate) fn with(mask: u32, worker: u8) -> u32
-    requires { worker < 32 }
+    requires { worker < MAX_HOLDERS }
     ensures { bits result ≡ at worker true (bits mask) }
 {
     mask | 1 << worker
@@ -14,7 +16,7 @@ pub(crate) fn with(mask: u32, worker: u8) -> u32
 
 /// The set without this worker.
 pub(crate) fn without(mask: u32, worker: u8) -> u32
-    requires { worker < 32 }
+    requires { worker < MAX_HOLDERS }
     ensures { bits result ≡ at worker false (bits mask) }
 {
     mask & !(1 << worker)

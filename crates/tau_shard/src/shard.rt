@@ -1,12 +1,14 @@
 //! A shard.
-ghost use Rattle.std.specs.Prelude.{◌≡◌, ◌<◌, ◌≤◌, ◌-◌, ◌++◌, ℕ, length, take, [], ◌∷◌, false, not, None, Some, OnOk, OnErr, IfOk, IfErr, IsSome, replicate, filter};
+ghost use Rattle.std.specs.Prelude.{◌≡◌, ◌<◌, ◌≤◌, ◌-◌, ◌++◌, ℕ, length, take, [], ◌∷◌, false, not, None, Some, OnOk, OnErr, IfOk, IfErr, IsSome, IfSome, IfNone, true, replicate, filter};
 ghost use Rattle.std.specs.Map.{lookup, keys_of};
 ghost use Rattle.std.specs.Option.{option_copied, unwrap_or};
 ghost use Rattle.tau_base.specs.Vectors.{join};
 ghost use Rattle.tau_base.specs.Database.{same_key, written, db_of};
 ghost use Rattle.tau_machine.specs.Shard.{entry_in, entry_or, held_as, put_entry, shard_locked, shard_quit, shard_freed, Dropped};
 ghost use Rattle.tau_shard.specs.Read.{is_key, entry_of, shard_of};
+ghost use Rattle.tau_shard.specs.declared.entry.LockEntry.{LockEntry as EntryOf};
 ghost use Rattle.std.specs.List.{IsDistinct};
+ghost use Rattle.tau_shard.specs.Stands.{StandsAt};
 ghost use Rattle.tau_shard.specs.Blocks.{blocks, RefusedBy, covered, dep_locked, empty, swept};
 ghost use Rattle.tau_shard.specs.Present.{is_present, present_rows};
 
@@ -17,7 +19,7 @@ use crate::entry::{
 use indexmap::IndexMap;
 use std::alloc::Global;
 use std::marker::Model;
-use tau_base::{Key, Lv, MAX_STREAMS, Mode, NoMemory, Value};
+use tau_base::{Key, Lv, MAX_HOLDERS, MAX_STREAMS, Mode, NoMemory, Value};
 
 /// A shard of the lock table.
 #[derive(Drop)]
@@ -25,6 +27,10 @@ pub struct Shard {
     rows: IndexMap<Key, Value>,
     entries: IndexMap<Key, LockEntry>,
     floor: Lv,
+    // Where the entry and the row of the key stand that was locked last: who locked it mostly locks it again or frees it
+    // next. They are looked at before a key is looked up, and may be wrong.
+    entry_at: usize,
+    row_at: usize,
 }
 
 impl Model for Shard {
@@ -56,6 +62,8 @@ impl Shard {
             rows: IndexMap::new(alloc),
             entries: IndexMap::new(alloc),
             floor,
+            entry_at: 0,
+            row_at: 0,
         }
     }
 
@@ -70,14 +78,14 @@ impl Shard {
     pub fn row(&self, key: Key) -> Option<&Value>
         ensures { unwrap_or (option_copied result) Value.Absent ≡ (shard_of self.now).rows key }
     {
-        self.rows.get(&key)
+        lent(&self.rows, key, self.row_at)
     }
 
     /// The row's value, Absent where there is none.
     pub fn value(&self, key: Key) -> Value
         ensures { result ≡ (shard_of self.now).rows key }
     {
-        match self.rows.get(&key) {
+        match self.row(key) {
             Some(value) => value.copied(),
             None => Value::Absent,
         }
@@ -99,10 +107,9 @@ impl Shard {
         requires { IsSome (lookup (is_key key) self.old.rows) }
         ensures { shard_of self.new ≡ record (shard_of self.old) { rows = written ((key, value.now) ∷ []) (shard_of self.old).rows } }
     {
-        match self.rows.get_mut(&key) {
-            Some(place) => put_value(place, value),
-            None => {}
-        }
+        let at = there(&self.rows, key, self.row_at);
+        let (_, place) = self.rows.pair_mut(at);
+        put_value(place, value);
     }
 
     /// A row that is to be written gets its place.
@@ -110,7 +117,7 @@ impl Shard {
         ensures same { shard_of self.new ≡ shard_of self.old }
         ensures there { OnOk result (mode ≡ Mode.Write → IsSome (lookup (is_key key) self.new.rows)) }
     {
-        place_row(&mut self.rows, key, mode)
+        place_row(&mut self.rows, &mut self.row_at, key, mode)
     }
 
     /// Raises the vector of a call by a lock of a key that has no entry.
@@ -122,7 +129,7 @@ impl Shard {
 
     /// A new entry, whose key the worker holds.
     fn first_entry(&self, worker: u8, mode: Mode) -> LockEntry
-        requires { worker < 32 }
+        requires { worker < MAX_HOLDERS }
         ensures { entry_of result ≡ held_as (entry_or (shard_of self.now).floor None) worker (Some mode) }
     {
         first_held(&self.floor, worker, mode)
@@ -137,7 +144,7 @@ impl Shard {
         mode: Mode,
         dep: &mut Lv,
     ) -> Result<Value, ShardRefusal>
-        requires { worker < 32 }
+        requires { worker < MAX_HOLDERS }
         ensures locked { OnOk result (shard_of self.new ≡ shard_locked (shard_of self.old) worker key mode) }
         ensures value { IfOk result (λ v. v ≡ (shard_of self.old).rows key) }
         ensures joined { OnOk result (dep.new ≡ dep_locked mode dep.old (entry_in (shard_of self.old) key)) }
@@ -158,7 +165,7 @@ impl Shard {
         mode: Mode,
         dep: &mut Lv,
     ) -> Result<(), ShardRefusal>
-        requires { worker < 32 }
+        requires { worker < MAX_HOLDERS }
         ensures locked { OnOk result (shard_of self.new ≡ shard_locked (shard_of self.old) worker key mode) }
         ensures joined { OnOk result (dep.new ≡ dep_locked mode dep.old (entry_in (shard_of self.old) key)) }
         ensures free { OnOk result ((u : ℕ) → blocks (entry_in (shard_of self.old) key) worker mode u ≡ false) }
@@ -166,10 +173,41 @@ impl Shard {
         ensures unchanged { OnErr result (shard_of self.new ≡ shard_of self.old) }
         ensures dep_unchanged { OnErr result (dep.new ≡ dep.old) }
     {
-        match self.entries.get_mut(&key) {
-            Some(entry) => lock_old(entry, &mut self.rows, worker, key, mode, dep),
+        match find(&self.entries, key, self.entry_at) {
+            Some(at) => self.lock_at(at, worker, key, mode, dep),
             None => self.lock_new(worker, key, mode, dep),
         }
+    }
+
+    /// Locks a key whose entry stands here.
+    fn lock_at(
+        &mut self,
+        at: usize,
+        worker: u8,
+        key: Key,
+        mode: Mode,
+        dep: &mut Lv,
+    ) -> Result<(), ShardRefusal>
+        requires low { worker < MAX_HOLDERS }
+        requires there { (e : EntryOf) × StandsAt self.old.entries key at e }
+        ensures locked { OnOk result (shard_of self.new ≡ shard_locked (shard_of self.old) worker key mode) }
+        ensures joined { OnOk result (dep.new ≡ dep_locked mode dep.old (entry_in (shard_of self.old) key)) }
+        ensures free { OnOk result ((u : ℕ) → blocks (entry_in (shard_of self.old) key) worker mode u ≡ false) }
+        ensures refused { IfErr result (λ e. RefusedBy (entry_in (shard_of self.old) key) worker mode e) }
+        ensures unchanged { OnErr result (shard_of self.new ≡ shard_of self.old) }
+        ensures dep_unchanged { OnErr result (dep.new ≡ dep.old) }
+    {
+        self.entry_at = at;
+        let (_, entry) = self.entries.pair_mut(at);
+        lock_old(
+            entry,
+            &mut self.rows,
+            &mut self.row_at,
+            worker,
+            key,
+            mode,
+            dep,
+        )
     }
 
     /// Locks a key that has no entry.
@@ -180,7 +218,7 @@ impl Shard {
         mode: Mode,
         dep: &mut Lv,
     ) -> Result<(), ShardRefusal>
-        requires low { worker < 32 }
+        requires low { worker < MAX_HOLDERS }
         requires none { lookup (is_key key) self.old.entries ≡ None }
         ensures locked { OnOk result (shard_of self.new ≡ shard_locked (shard_of self.old) worker key mode) }
         ensures joined { OnOk result (dep.new ≡ dep_locked mode dep.old (entry_in (shard_of self.old) key)) }
@@ -198,7 +236,7 @@ impl Shard {
     /// Frees a key of a call with this vector: what the call wrote becomes the row, and the vector is joined into the key's write vector; where the
     /// call only read the key, into its read vector. It takes no memory.
     pub fn free(&mut self, worker: u8, key: Key, lv: &Lv, write: Option<Value>)
-        requires low { worker < 32 }
+        requires low { worker < MAX_HOLDERS }
         requires held { IsSome ((entry_in (shard_of self.old) key).holders worker) }
         requires writes { IsSome write → (entry_in (shard_of self.old) key).holders worker ≡ Some Mode.Write }
         ensures { shard_of self.new ≡ shard_freed (shard_of self.old) worker key lv.now write }
@@ -208,7 +246,7 @@ impl Shard {
 
     /// Frees a key as `free` does. What the call wrote is lent, and copied once, into the row.
     pub fn free_by(&mut self, worker: u8, key: Key, lv: &Lv, write: Option<&Value>)
-        requires low { worker < 32 }
+        requires low { worker < MAX_HOLDERS }
         requires held { IsSome ((entry_in (shard_of self.old) key).holders worker) }
         requires writes { IsSome write → (entry_in (shard_of self.old) key).holders worker ≡ Some Mode.Write }
         ensures { shard_of self.new ≡ shard_freed (shard_of self.old) worker key lv.now (option_copied write.entry) }
@@ -224,39 +262,36 @@ impl Shard {
 
     /// Frees a key that the call only read.
     fn free_read(&mut self, worker: u8, key: Key, lv: &Lv)
-        requires low { worker < 32 }
+        requires low { worker < MAX_HOLDERS }
         requires held { IsSome ((entry_in (shard_of self.old) key).holders worker) }
         ensures { shard_of self.new ≡ shard_freed (shard_of self.old) worker key lv.now None }
     {
-        match self.entries.get_mut(&key) {
-            Some(entry) => release_read(entry, worker, lv),
-            None => {}
-        }
+        let at = there(&self.entries, key, self.entry_at);
+        let (_, entry) = self.entries.pair_mut(at);
+        release_read(entry, worker, lv);
     }
 
     /// Frees a key that the call wrote, all but its row.
     fn free_written(&mut self, worker: u8, key: Key, lv: &Lv)
-        requires low { worker < 32 }
+        requires low { worker < MAX_HOLDERS }
         requires held { (entry_in (shard_of self.old) key).holders worker ≡ Some Mode.Write }
         ensures entry { shard_of self.new ≡ put_entry (shard_of self.old) key (record (held_as (entry_in (shard_of self.old) key) worker None) { write_lv = join (entry_in (shard_of self.old) key).write_lv lv.now }) }
         ensures there { IsSome (lookup (is_key key) self.new.rows) }
     {
-        match self.entries.get_mut(&key) {
-            Some(entry) => release_written(entry, worker, lv),
-            None => {}
-        }
+        let at = there(&self.entries, key, self.entry_at);
+        let (_, entry) = self.entries.pair_mut(at);
+        release_written(entry, worker, lv);
     }
 
     /// Gives a key back and raises no vector. It takes no memory.
     pub fn quit(&mut self, worker: u8, key: Key)
-        requires low { worker < 32 }
+        requires low { worker < MAX_HOLDERS }
         requires held { IsSome ((entry_in (shard_of self.old) key).holders worker) }
         ensures { shard_of self.new ≡ shard_quit (shard_of self.old) worker key }
     {
-        match self.entries.get_mut(&key) {
-            Some(entry) => release(entry, worker),
-            None => {}
-        }
+        let at = there(&self.entries, key, self.entry_at);
+        let (_, entry) = self.entries.pair_mut(at);
+        release(entry, worker);
     }
 
     /// Removes each entry that nobody holds and whose vectors `plv` covers, joins them into the floor, and returns how many.
@@ -368,12 +403,13 @@ fn put_value(place: &mut Value, value: &Value)
 fn lock_old(
     entry: &mut LockEntry,
     rows: &mut IndexMap<Key, Value>,
+    row_at: &mut usize,
     worker: u8,
     key: Key,
     mode: Mode,
     dep: &mut Lv,
 ) -> Result<(), ShardRefusal>
-    requires { worker < 32 }
+    requires { worker < MAX_HOLDERS }
     ensures locked { OnOk result (entry_of entry.new ≡ held_as (entry_of entry.old) worker (Some mode)) }
     ensures joined { OnOk result (dep.new ≡ dep_locked mode dep.old (entry_of entry.old)) }
     ensures free { OnOk result ((u : ℕ) → blocks (entry_of entry.old) worker mode u ≡ false) }
@@ -387,33 +423,44 @@ fn lock_old(
     if let Some(holder) = blocker(entry, worker, mode) {
         return Err(ShardRefusal::Busy { holder });
     }
-    place_row(rows, key, mode)?;
+    *row_at = entry.row_at;
+    place_row(rows, row_at, key, mode)?;
+    entry.row_at = *row_at;
     raise_by(dep, mode, entry);
     hold(entry, worker, mode);
     Ok(())
 }
 
-/// A row that is to be written gets its place.
-fn place_row(rows: &mut IndexMap<Key, Value>, key: Key, mode: Mode) -> Result<(), NoMemory>
+/// A row that is to be written gets its place. Of one that has it, it is remembered.
+fn place_row(
+    rows: &mut IndexMap<Key, Value>,
+    row_at: &mut usize,
+    key: Key,
+    mode: Mode,
+) -> Result<(), NoMemory>
+    ensures same { db_of (λ x. lookup (is_key x) rows.new.entries) ≡ db_of (λ x. lookup (is_key x) rows.old.entries) }
+    ensures kept { (x : Key) → IsSome (lookup (is_key x) rows.old.entries) → IsSome (lookup (is_key x) rows.new.entries) }
+    ensures there { OnOk result (mode ≡ Mode.Write → IsSome (lookup (is_key key) rows.new.entries)) }
+{
+    match find(rows, key, *row_at) {
+        Some(at) => {
+            *row_at = at;
+            Ok(())
+        }
+        None => place_missing(rows, key, mode),
+    }
+}
+
+/// A row without a place gets it, if it is to be written.
+fn place_missing(rows: &mut IndexMap<Key, Value>, key: Key, mode: Mode) -> Result<(), NoMemory>
+    requires { lookup (is_key key) rows.old.entries ≡ None }
     ensures same { db_of (λ x. lookup (is_key x) rows.new.entries) ≡ db_of (λ x. lookup (is_key x) rows.old.entries) }
     ensures kept { (x : Key) → IsSome (lookup (is_key x) rows.old.entries) → IsSome (lookup (is_key x) rows.new.entries) }
     ensures there { OnOk result (mode ≡ Mode.Write → IsSome (lookup (is_key key) rows.new.entries)) }
 {
     match mode {
         Mode::Read => Ok(()),
-        Mode::Write => place_written(rows, key),
-    }
-}
-
-/// A row gets its place. One without a place is Absent there.
-fn place_written(rows: &mut IndexMap<Key, Value>, key: Key) -> Result<(), NoMemory>
-    ensures same { db_of (λ x. lookup (is_key x) rows.new.entries) ≡ db_of (λ x. lookup (is_key x) rows.old.entries) }
-    ensures kept { (x : Key) → IsSome (lookup (is_key x) rows.old.entries) → IsSome (lookup (is_key x) rows.new.entries) }
-    ensures there { OnOk result (IsSome (lookup (is_key key) rows.new.entries)) }
-{
-    match rows.get(&key) {
-        Some(_) => Ok(()),
-        None => place_absent(rows, key),
+        Mode::Write => place_absent(rows, key),
     }
 }
 
@@ -426,4 +473,51 @@ fn place_absent(rows: &mut IndexMap<Key, Value>, key: Key) -> Result<(), NoMemor
 {
     rows.insert(key, Value::Absent)?;
     Ok(())
+}
+
+/// The value of the key, lent.
+fn lent(map: &IndexMap<Key, Value>, key: Key, guess: usize) -> Option<&Value>
+    ensures { option_copied result ≡ lookup (is_key key) map.now.entries }
+{
+    if let Some((found, value)) = map.get_index(guess) {
+        if *found == key {
+            return Some(value);
+        }
+    }
+    map.get(&key)
+}
+
+/// Where the key stands, which is there.
+fn there<V>(map: &IndexMap<Key, V>, key: Key, guess: usize) -> usize
+    requires { IsSome (lookup (is_key key) map.now.entries) }
+    ensures { (v : V) × StandsAt map.now.entries key result v }
+{
+    match find(map, key, guess) {
+        Some(at) => at,
+        None => unreachable!(),
+    }
+}
+
+/// Where the key stands, if it is there.
+fn find<V>(map: &IndexMap<Key, V>, key: Key, guess: usize) -> Option<usize>
+    ensures found { IfSome result (λ at. (v : V) × StandsAt map.now.entries key at v) }
+    ensures none { IfNone result (lookup (is_key key) map.now.entries ≡ None) }
+{
+    if is_at(map, key, guess) {
+        return Some(guess);
+    }
+    match map.get_full(&key) {
+        Some((at, _, _)) => Some(at),
+        None => None,
+    }
+}
+
+/// Whether the key stands here.
+fn is_at<V>(map: &IndexMap<Key, V>, key: Key, at: usize) -> bool
+    ensures { result ≡ true → (v : V) × StandsAt map.now.entries key at v }
+{
+    match map.get_index(at) {
+        Some((found, _)) => *found == key,
+        None => false,
+    }
 }

@@ -45,7 +45,8 @@ use std::alloc::Global;
 use std::marker::Model;
 use std::mem;
 use tau_base::{
-    Call, KeptCall, Key, LogMode, Lv, MAX_STEPS, MAX_TRIES, Mode, NoMemory, Text64, Value,
+    Call, KeptCall, Key, LogMode, Lv, MAX_HOLDERS, MAX_STEPS, MAX_TRIES, Mode, NoMemory, Text64,
+    Value,
 };
 use tau_model::{Committed, CommittedList, Spot};
 use tau_proc::{Procs, Reply, Want};
@@ -134,7 +135,7 @@ impl Hand {
         self.dep = Lv::zero(streams);
         self.held.clear();
         self.bytes.clear();
-        self.restart(procs);
+        self.run_anew(procs);
     }
 
     /// Its number.
@@ -384,6 +385,14 @@ impl Hand {
         }
     }
 
+    /// That its writes ascend; it does nothing.
+    #[inline(always)]
+    pub fn ascends(&self)
+        ensures { IsTrue (is_sorted key_cmp (buffered self.now.machine)) }
+    {
+        let _ascending = self.machine.writes();
+    }
+
     fn run_kind(&self) -> ActionKind
         ensures { result ≡ kind_of (asks (next_want self.now.machine) self.now) }
     {
@@ -612,7 +621,7 @@ impl Hand {
         requires run { IsRun self.old }
         requires running { self.old.standing ≡ Standing.Running }
         requires wanted { lock_in self.old ≡ Some (key, mode) }
-        requires small { worker < 32 }
+        requires small { worker < MAX_HOLDERS }
         ensures step { OnOk result (HandLocked worker key mode (shard_of shard.old) (shard_of shard.new) self.old self.new) }
         ensures runs { RunsOn (dep_locked mode self.old.dep (entry_in (shard_of shard.old) key)) self.old self.new }
         ensures refused { IfErr result (λ e. RefusedBy (entry_in (shard_of shard.old) key) worker mode e) }
@@ -629,7 +638,7 @@ impl Hand {
         requires run { IsRun self.old }
         requires running { self.old.standing ≡ Standing.Running }
         requires wanted { next_want self.old.machine ≡ Want.Read key }
-        requires small { worker < 32 }
+        requires small { worker < MAX_HOLDERS }
         ensures step { OnOk result (HandLocked worker key Mode.Read (shard_of shard.old) (shard_of shard.new) self.old self.new) }
         ensures runs { RunsOn (dep_locked Mode.Read self.old.dep (entry_in (shard_of shard.old) key)) self.old self.new }
         ensures refused { IfErr result (λ e. RefusedBy (entry_in (shard_of shard.old) key) worker Mode.Read e) }
@@ -649,7 +658,7 @@ impl Hand {
         requires run { IsRun self.old }
         requires running { self.old.standing ≡ Standing.Running }
         requires wanted { next_want self.old.machine ≡ Want.Write key }
-        requires small { worker < 32 }
+        requires small { worker < MAX_HOLDERS }
         ensures step { OnOk result (HandLocked worker key Mode.Write (shard_of shard.old) (shard_of shard.new) self.old self.new) }
         ensures runs { RunsOn (dep_locked Mode.Write self.old.dep (entry_in (shard_of shard.old) key)) self.old self.new }
         ensures refused { IfErr result (λ e. RefusedBy (entry_in (shard_of shard.old) key) worker Mode.Write e) }
@@ -961,10 +970,25 @@ impl Hand {
         ensures begun { (w : ℕ) → hand_of procs.now w self.new ≡ fresh (length self.old.dep) (record { number = self.old.number; call = self.old.call }) self.old.tries }
         ensures runs { IsRunBy procs.now self.new }
     {
+        self.dep = Lv::zero(self.dep.width());
+        self.run_anew(procs);
+    }
+
+    /// The call begins, or begins again, whose vector is zero. It takes no memory.
+    fn run_anew(&mut self, procs: &Procs)
+        requires takes { IsTrue (takes procs.now self.old.call) }
+        requires number { 1 ≤ self.old.number }
+        requires tries { self.old.tries < MAX_TRIES }
+        requires given_up { self.old.given_up ≡ false }
+        requires held { self.old.held ≡ [] }
+        requires zero { self.old.dep ≡ replicate (length self.old.dep) 0 }
+        ensures same { self.new ≡ record self.old { machine = self.new.machine; seen = []; standing = Standing.Running } }
+        ensures begun { (w : ℕ) → hand_of procs.now w self.new ≡ fresh (length self.old.dep) (record { number = self.old.number; call = self.old.call }) self.old.tries }
+        ensures runs { IsRunBy procs.now self.new }
+    {
         let _limits = procs.list();
         self.machine.restart(procs, &self.call);
         clear_seen(&mut self.seen);
-        self.dep = Lv::zero(self.dep.width());
         self.standing = Standing::Running;
     }
 }
@@ -1038,8 +1062,29 @@ fn put_placed(lv: &mut Lv, dep: &Lv, stream: usize, past: u64)
     requires small { past < MAX_LSN }
     ensures { lv.new ≡ slice_set dep.now stream past }
 {
-    *lv = *dep;
+    become_other(lv, dep);
     lv.set(stream, past);
+}
+
+/// Becomes the other vector. Where that is as wide, its positions alone are copied.
+fn become_other(lv: &mut Lv, other: &Lv)
+    ensures { lv.new ≡ other.now }
+{
+    if lv.width() != other.width() {
+        *lv = *other;
+        return;
+    }
+    copy_positions(lv, other);
+}
+
+/// Becomes another vector that is as wide.
+fn copy_positions(lv: &mut Lv, other: &Lv)
+    requires { length lv.old ≡ length other.now }
+    ensures { lv.new ≡ other.now }
+{
+    for j in 0..other.width() {
+        lv.set(j, other.get(j));
+    }
 }
 
 /// Gives the lowest key back.

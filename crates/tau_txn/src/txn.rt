@@ -32,7 +32,7 @@ use crate::course::first_want;
 use crate::hand::Hand;
 use std::alloc::Global;
 use std::marker::Model;
-use tau_base::{Call, KeptCall, Key, LogMode, Lv, Mode, NoMemory, Value, stream_of};
+use tau_base::{Call, KeptCall, Key, LogMode, Lv, MAX_HOLDERS, Mode, NoMemory, Value, stream_of};
 use tau_model::{Committed, CommittedList};
 use tau_proc::{Procs, Want};
 use tau_shard::{Shard, ShardRefusal};
@@ -112,6 +112,17 @@ impl Txn {
             return ActionKind::Nothing;
         }
         self.hand.kind()
+    }
+
+    /// What the next action means; it does nothing.
+    #[inline(always)]
+    pub fn means(&self)
+        ensures { (procs : List Proc) → RunsBy procs self.now → Means procs self.now (next_action self.now) }
+    {
+        if !self.in_hand {
+            return;
+        }
+        self.hand.ascends();
     }
 
     /// How many bytes the record of the call in hand has, 0 while there is no record.
@@ -216,7 +227,7 @@ impl Txn {
     ) -> Result<(), ShardRefusal>
         requires lock { next_action self.old ≡ Action.Lock key mode }
         requires wide { length (dep_locked mode (dep_in self.old) (entry_in (shard_of shard.old) key)) ≡ self.old.width }
-        requires small { worker < 32 }
+        requires small { worker < MAX_HOLDERS }
         ensures step { OnOk result (TxnLocked worker key mode (shard_of shard.old) (shard_of shard.new) self.old self.new) }
         ensures refused { IfErr result (λ e. RefusedBy (entry_in (shard_of shard.old) key) worker mode e) }
         ensures unchanged { OnErr result (shard_of shard.new ≡ shard_of shard.old) }

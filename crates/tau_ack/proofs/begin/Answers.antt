@@ -1,6 +1,7 @@
-use Rattle.std.proofs.Common.{◌≡◌, length, take, arith}
+use Rattle.std.proofs.Common.{◌≡◌, ℕ, List, length, take, sym, subst, arith}
 use Rattle.std.proofs.lemmas.Grind.{common_steps}
 use Rattle.tau_base.specs.Vectors.{AtMost}
+use Rattle.tau_ack.specs.Pending.{NoneCovered}
 use Rattle.tau_ack.proofs.Passes.{none_below, none_at_end}
 use Rattle.tau_ack.proofs.begin.Goals as goal
 
@@ -10,7 +11,8 @@ returns-then-covers-clause-pass c = record {
   inside = c.requires.inside;
   left =
       let low : AtMost c.args.plv.now c.args.pass.now.plv = c.covers.ensures.covers.0 c.if-covers.true in
-      none_below c.args.plv.now c.args.pass.now.plv (take c.args.pass.now.passed c.args.calls.now.items) low c.requires.left;
+      subst (λ (v : List ℕ). NoneCovered v (take c.args.pass.now.passed c.args.calls.now.items)) (sym c.turn_to.ensures)
+      (none_below c.args.plv.now c.args.pass.now.plv (take c.args.pass.now.passed c.args.calls.now.items) low c.requires.left);
 }
 
 pub returns-then-pass-len-clause-none : goal.returns-then-pass-len-clause-none

@@ -18,7 +18,7 @@ place-requires-clause-call c =
     let procs : List Proc = origin.load.procs in
     let r = c.requires.ready in
     let next = commit_kind (next_action c.args.txn.now) c.requires.next in
-    let q : Commits procs c.args.txn.now next.0 = subst (λ (a : Action). Means procs c.args.txn.now a) next.1 (c.kind.ensures.means procs r.runs) in
+    let q : Commits procs c.args.txn.now next.0 = subst (λ (a : Action). Means procs c.args.txn.now a) next.1 (c.means.ensures procs r.runs) in
     let raised = c.in_ok-prepare.ensures.raised procs q.hand q.is in
     let streams = c.args.desk.now.streams_are in
     to_place origin c.args.worker c.args.seat.now.me c.args.txn.now c.prepare.new.self next.0 c.args.number c.args.anchor.now r q c.requires.read c.requires.wide (let a = streams.0 in let b = streams.2 in omega (arith, a, b)) c.in_ok-prepare.ensures.same raised
@@ -33,7 +33,7 @@ returns-clause-step c =
     let procs : List Proc = origin.load.procs in
     let r = c.requires.ready in
     let next = commit_kind (next_action c.args.txn.now) c.requires.next in
-    let q : Commits procs c.args.txn.now next.0 = subst (λ (a : Action). Means procs c.args.txn.now a) next.1 (c.kind.ensures.means procs r.runs) in
+    let q : Commits procs c.args.txn.now next.0 = subst (λ (a : Action). Means procs c.args.txn.now a) next.1 (c.means.ensures procs r.runs) in
     let raised = c.in_ok-prepare.ensures.raised procs q.hand q.is in
     let streams = c.args.desk.now.streams_are in
     let spelled : (start : ℕ) (vectors : List (List ℕ)) → base_of vectors c.args.number ≡ c.args.anchor.now →

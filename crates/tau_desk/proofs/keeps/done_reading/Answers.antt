@@ -25,7 +25,7 @@ lv_ref-requires g c =
     let origin : Plain = c.args.desk.now.table.shared.key.value in
     let r = c.requires.ready in
     let next = done_kind (next_action c.args.txn.now) c.requires.next in
-    let means : Finishes origin.load.procs c.args.txn.now next.0 next.1 = subst (λ (a : Action). Means origin.load.procs c.args.txn.now a) next.2 (c.kind.ensures.means origin.load.procs r.runs) in
+    let means : Finishes origin.load.procs c.args.txn.now next.0 next.1 = subst (λ (a : Action). Means origin.load.procs c.args.txn.now a) next.2 (c.means.ensures origin.load.procs r.runs) in
     some_hand origin.load.procs c.args.txn.now means.hand means.is
 
 pub put_from-requires : goal.put_from-requires
@@ -66,7 +66,7 @@ last_of-kept-requires g c =
     let origin : Plain = c.args.desk.now.table.shared.key.value in
     let r = c.requires.ready in
     let next = done_kind (next_action c.args.txn.now) c.requires.next in
-    let means : Finishes origin.load.procs c.args.txn.now next.0 next.1 = subst (λ (a : Action). Means origin.load.procs c.args.txn.now a) next.2 (c.kind.ensures.means origin.load.procs r.runs) in
+    let means : Finishes origin.load.procs c.args.txn.now next.0 next.1 = subst (λ (a : Action). Means origin.load.procs c.args.txn.now a) next.2 (c.means.ensures origin.load.procs r.runs) in
     let reads : Reads origin.load.procs c.args.txn.now.worker means.hand means.act = subst (λ (j : Bool). FreesBy origin.load.procs j c.args.txn.now.worker means.hand means.act) c.requires.unjoined means.act_is in
     record { some = some_last c.commit_into.new.out.items c.args.committed.now.items (committed_of means.act) (c.commit_into.ensures.reading origin.load.procs means.hand means.act r.runs means.is reads) }
 
@@ -76,7 +76,7 @@ give_read_only-requires-clause-event g c =
     let r = c.requires.ready in
     let held = c.take_outbox-outbox.ensures.held in
     let next = done_kind (next_action c.args.txn.now) c.requires.next in
-    let means : Finishes origin.load.procs c.args.txn.now next.0 next.1 = subst (λ (a : Action). Means origin.load.procs c.args.txn.now a) next.2 (c.kind.ensures.means origin.load.procs r.runs) in
+    let means : Finishes origin.load.procs c.args.txn.now next.0 next.1 = subst (λ (a : Action). Means origin.load.procs c.args.txn.now a) next.2 (c.means.ensures origin.load.procs r.runs) in
     let empty : c.went.new.self.hand ≡ None = c.went.ensures.done next.0 next.1 next.2 in
     let reads : Reads origin.load.procs c.args.txn.now.worker means.hand means.act = subst (λ (j : Bool). FreesBy origin.load.procs j c.args.txn.now.worker means.hand means.act) c.requires.unjoined means.act_is in
     let items : c.commit_into.new.out.items ≡ c.args.committed.now.items ++ committed_of means.act ∷ [] = c.commit_into.ensures.reading origin.load.procs means.hand means.act r.runs means.is reads in
@@ -116,7 +116,7 @@ returns-clause-step g c =
     let r = c.requires.ready in
     let held = c.take_outbox-outbox.ensures.held in
     let next = done_kind (next_action c.args.txn.now) c.requires.next in
-    let means : Finishes origin.load.procs c.args.txn.now next.0 next.1 = subst (λ (a : Action). Means origin.load.procs c.args.txn.now a) next.2 (c.kind.ensures.means origin.load.procs r.runs) in
+    let means : Finishes origin.load.procs c.args.txn.now next.0 next.1 = subst (λ (a : Action). Means origin.load.procs c.args.txn.now a) next.2 (c.means.ensures origin.load.procs r.runs) in
     let empty : c.went.new.self.hand ≡ None = c.went.ensures.done next.0 next.1 next.2 in
     let reads : Reads origin.load.procs c.args.txn.now.worker means.hand means.act = subst (λ (j : Bool). FreesBy origin.load.procs j c.args.txn.now.worker means.hand means.act) c.requires.unjoined means.act_is in
     let items : c.commit_into.new.out.items ≡ c.args.committed.now.items ++ committed_of means.act ∷ [] = c.commit_into.ensures.reading origin.load.procs means.hand means.act r.runs means.is reads in

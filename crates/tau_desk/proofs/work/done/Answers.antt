@@ -20,7 +20,7 @@ pub lv_ref-requires : goal.lv_ref-requires
 lv_ref-requires g c =
     let origin : Plain = c.args.desk.now.table.shared.key.value in
     let next = done_kind (next_action c.args.txn.now) c.requires.next in
-    let means : Finishes origin.load.procs c.args.txn.now next.0 next.1 = subst (λ (a : Action). Means origin.load.procs c.args.txn.now a) next.2 (c.kind.ensures.means origin.load.procs c.requires.ready.runs) in
+    let means : Finishes origin.load.procs c.args.txn.now next.0 next.1 = subst (λ (a : Action). Means origin.load.procs c.args.txn.now a) next.2 (c.means.ensures origin.load.procs c.requires.ready.runs) in
     some_hand origin.load.procs c.args.txn.now means.hand means.is
 
 pub put_from-requires : goal.put_from-requires
@@ -65,7 +65,7 @@ give_outbox-requires-clause-event g c =
     let rooms = box_rooms origin c.args.worker c.args.seat.now.me c.args.txn.now r held.0 b c.args.room.now.records c.args.room.now.calls held.3 held.2 c.requires.room.0 in
     let low = c.requires.room.1 in
     let next = done_kind (next_action c.args.txn.now) c.requires.next in
-    let means : Finishes origin.load.procs c.args.txn.now next.0 next.1 = subst (λ (a : Action). Means origin.load.procs c.args.txn.now a) next.2 (c.kind.ensures.means origin.load.procs r.runs) in
+    let means : Finishes origin.load.procs c.args.txn.now next.0 next.1 = subst (λ (a : Action). Means origin.load.procs c.args.txn.now a) next.2 (c.means.ensures origin.load.procs r.runs) in
     let empty : c.went.new.self.hand ≡ None = c.went.ensures.done next.0 next.1 next.2 in
     let phase : means.hand.phase ≡ Freeing means.act = subst (λ (j : Bool). FreesBy origin.load.procs j c.args.txn.now.worker means.hand means.act) c.requires.joined means.act_is in
     let begun = was_begun origin.load.streams r.worker means.hand means.act (r.agrees ∙ means.is) phase in
@@ -103,7 +103,7 @@ returns-clause-call g c =
     let origin : Plain = c.args.desk.now.table.shared.key.value in
     let r = c.requires.ready in
     let next = done_kind (next_action c.args.txn.now) c.requires.next in
-    let means : Finishes origin.load.procs c.args.txn.now next.0 next.1 = subst (λ (a : Action). Means origin.load.procs c.args.txn.now a) next.2 (c.kind.ensures.means origin.load.procs r.runs) in
+    let means : Finishes origin.load.procs c.args.txn.now next.0 next.1 = subst (λ (a : Action). Means origin.load.procs c.args.txn.now a) next.2 (c.means.ensures origin.load.procs r.runs) in
     let empty : c.went.new.self.hand ≡ None = c.went.ensures.done next.0 next.1 next.2 in
     record {
       reply = next.0;

@@ -5,4 +5,4 @@ use Rattle.tau_shard.proofs.Masks.{nobody_new}
 use Rattle.tau_shard.proofs.entry.first_held.Goals as goal
 
 pub returns : goal.returns
-returns c = c.hold.ensures ∙ ap (λ (e : Entry). held_as e c.args.worker (Some c.args.mode)) (nobody_new c.args.floor.now)
+returns c = c.hold.ensures ∙ ap (λ (e : Entry). held_as e c.args.worker (Some c.args.mode)) (nobody_new c.args.floor.now 0)
