@@ -34,6 +34,14 @@ key_total = then_total (on_total (λ (k : Key). k.table) nat_cmp_total) (on_tota
 key_laws : IsEquivalence same_key
 key_laws = eq_by_cmp_equiv key_total
 
+-- maps find keys by an equivalence
+pub is_key_laws : IsEquivalence is_key
+is_key_laws = subst (λ (f : Key → Key → Bool). IsEquivalence f) (sym same_test) key_laws
+
+-- which is that they are the same
+pub is_key_is : (a b : Key) → is_key a b ≡ true → a ≡ b
+is_key_is a b e = same_key_is a b (ap (λ (f : Key → Key → Bool). f a b) (sym same_test) ∙ e)
+
 -- what is not above and not the same is below
 below_by : (o : Ordering) → is_lt (ordering_reverse o) ≡ false → is_eq o ≡ false → o ≡ Less
 below_by Less p q = refl

@@ -7,6 +7,7 @@ mod committed_list;
 mod entry;
 mod laws;
 mod report;
+mod row_places;
 mod rows;
 mod store;
 mod tables;
@@ -18,5 +19,6 @@ pub use laws::{
     same_conflicts,
 };
 pub use report::{are_within, reported};
+pub use row_places::RowPlaces;
 pub use store::SerialStore;
 pub use tables::Tables;

@@ -7,6 +7,7 @@ ghost use Rattle.tau_proc.specs.Meaning.{meaning};
 ghost use Rattle.tau_proc.specs.Takes.{takes};
 ghost use Rattle.tau_model.specs.Tables.{IsTablesOf};
 
+use crate::row_places::RowPlaces;
 use crate::rows::Rows;
 use crate::tables::Tables;
 use std::alloc::Global;
@@ -48,6 +49,20 @@ impl SerialStore {
         self.rows.value_ref(key)
     }
 
+    /// The value of a row, lent, which is looked for first where it was found last; none only of an absent row.
+    pub fn near_ref(&self, key: Key, places: &RowPlaces) -> Option<&Value>
+        ensures { unwrap_or (option_copied result) Absent ≡ database self.now key }
+    {
+        self.rows.near_ref(key, places)
+    }
+
+    /// Puts the value of a row here, and notes its place.
+    pub fn read_noted(&self, key: Key, places: &mut RowPlaces, value: &mut Value)
+        ensures { value.new ≡ database self.now key }
+    {
+        self.rows.read_noted(key, places, value)
+    }
+
     /// The present rows in ascending order of keys.
     pub fn tables(&self, alloc: Global) -> Result<Tables, NoMemory>
         ensures { IfOk result (λ tables. IsTablesOf (database self.now) tables) }
@@ -81,6 +96,18 @@ impl SerialStore {
         ensures err { OnErr result (database self.new ≡ database self.old) }
     {
         self.rows.write(writes)
+    }
+
+    /// The same, each first where it was found last.
+    pub fn write_near(
+        &mut self,
+        writes: &[(Key, Value)],
+        places: &RowPlaces,
+    ) -> Result<(), NoMemory>
+        ensures ok { OnOk result (database self.new ≡ written writes.now (database self.old)) }
+        ensures err { OnErr result (database self.new ≡ database self.old) }
+    {
+        self.rows.write_near(writes, places)
     }
 
     /// Writes whole numbers to these rows, or to none of them.

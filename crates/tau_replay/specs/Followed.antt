@@ -1,5 +1,6 @@
 -- Which turns a recovery follows.
 use Rattle.std.specs.Prelude.{ℕ, zero, suc, true, ◌≡◌, ◌-◌, ◌⊎◌, List, [], ◌∷◌, ◌++◌, map, replicate, Option, Some, None, slice_get, slice_set}
+use Rattle.tau_base.specs.declared.limits.TheConstants.{MAX_RECOVERY_WORKERS}
 use Rattle.tau_base.specs.declared.value.Key.{Key}
 use Rattle.tau_base.specs.declared.value.Value.{Value}
 use Rattle.tau_base.specs.Database.{Db, empty_db}
@@ -27,7 +28,7 @@ pub record IsUnstarted (log : Log) (s : Worked) : Type 0 where
   pub items : s.pools.items ≡ items_from (judge_of log) 0 log.streams
   pub ends : s.pools.ends ≡ log.elv
   pub recovered : IsRecovered s.pools.ends s.pools.rlv s.pools.items
-  pub hands : s.hands ≡ replicate 16 None
+  pub hands : s.hands ≡ replicate MAX_RECOVERY_WORKERS None
   pub order : s.order ≡ []
 
 -- the worker starts a record that is ready
@@ -68,7 +69,7 @@ ascending worker (suc n) = worker ∷ ascending (suc worker) n
 
 -- the sixteen workers from this one on
 abbrev pub workers_from : ℕ → List ℕ
-workers_from worker = ascending worker (16 - worker)
+workers_from worker = ascending worker (MAX_RECOVERY_WORKERS - worker)
 
 -- so many rounds of all workers
 abbrev pub rounds : ℕ → List ℕ

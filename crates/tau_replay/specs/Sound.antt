@@ -1,5 +1,6 @@
 -- A recovery that turns of workers led to.
 use Rattle.std.specs.Prelude.{ℕ, ◌≡◌, List, [], length, map, replicate, None}
+use Rattle.tau_base.specs.declared.limits.TheConstants.{MAX_RECOVERY_WORKERS}
 use Rattle.tau_model.specs.Store.{database}
 use Rattle.tau_scan.specs.declared.log.Log.{Log}
 use Rattle.tau_scan.specs.Taken.{Kept}
@@ -39,7 +40,7 @@ pub record AreWorking (log : Log) (r : Replay) : Type 0 where
   pub hands : AreHands r.pools r.hands.items
   pub many : length r.hands.items ≡ HANDS
   pub turns : List ℕ
-  pub followed : HasFollowed log turns (settled r.pools) (replicate 16 None) (database r.store)
+  pub followed : HasFollowed log turns (settled r.pools) (replicate MAX_RECOVERY_WORKERS None) (database r.store)
 
 -- a log of nothing
 abbrev pub no_log : Log

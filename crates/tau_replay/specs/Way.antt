@@ -1,5 +1,6 @@
 -- Workers on their way through a log.
 use Rattle.std.specs.Prelude.{ℕ, ◌≡◌, List, [], length}
+use Rattle.tau_base.specs.declared.limits.TheConstants.{MAX_RECOVERY_WORKERS}
 use Rattle.tau_model.specs.Store.{database}
 use Rattle.tau_scan.specs.declared.log.Log.{Log}
 use Rattle.tau_scan.specs.Taken.{Kept, taken}
@@ -11,7 +12,7 @@ pub record IsOnWay (log : Log) (r : Replay) : Type 0 where
   pub order : List Kept
   pub going : IsGoing log r.pools (database r.store) order
   pub hands : AreHands r.pools r.hands.items
-  pub sixteen : length r.hands.items ≡ 16
+  pub sixteen : length r.hands.items ≡ MAX_RECOVERY_WORKERS
 
 -- how much is left to be done
 abbrev pub left_of : Replay → ℕ

@@ -2,14 +2,14 @@
 //! wants and is not among them is read in a visit of its own.
 use std::alloc::Global;
 use tau_base::{Call, Key, Value};
-use tau_model::SerialStore;
+use tau_model::{RowPlaces, SerialStore};
 use tau_proc::{FIRST_DECLARED, Operand, Procs, Step};
 use tau_record::Entry;
 use tau_scan::Log;
 
 /// Puts a row after the others. If memory is refused, it is not among them.
-fn put_key(key: Key, keys: &mut Vec<Key>) {
-    let _ = keys.push(key);
+fn put_key(key: Key, rows: &mut Vec<(Key, Value)>) {
+    let _ = rows.push((key, Value::Absent));
 }
 
 /// The row with the number that is this argument, from 1.
@@ -33,10 +33,10 @@ fn row_of(step: &Step, args: &[Value]) -> Option<Key> {
 }
 
 /// Puts the rows that these steps read.
-fn put_steps(steps: &[Step], args: &[Value], keys: &mut Vec<Key>) {
+fn put_steps(steps: &[Step], args: &[Value], rows: &mut Vec<(Key, Value)>) {
     for step in steps {
         match row_of(step, args) {
-            Some(key) => put_key(key, keys),
+            Some(key) => put_key(key, rows),
             None => {}
         }
     }
@@ -45,7 +45,7 @@ fn put_steps(steps: &[Step], args: &[Value], keys: &mut Vec<Key>) {
 /// Puts the rows that a call reads, if it is to be executed outside the lock. Whether it is. A call of a built-in
 /// procedure is not: it reads one row at most, and what it costs is no more than to read that ahead and compare it at the
 /// finish.
-fn put_call(procs: &Procs, call: &Call, keys: &mut Vec<Key>) -> bool {
+fn put_call(procs: &Procs, call: &Call, rows: &mut Vec<(Key, Value)>) -> bool {
     if call.proc < FIRST_DECLARED {
         return false;
     }
@@ -54,7 +54,7 @@ fn put_call(procs: &Procs, call: &Call, keys: &mut Vec<Key>) -> bool {
         .get(usize::from(call.proc.wrapping_sub(FIRST_DECLARED)))
     {
         Some(proc) => {
-            put_steps(proc.steps.as_slice(), call.args.as_slice(), keys);
+            put_steps(proc.steps.as_slice(), call.args.as_slice(), rows);
             true
         }
         None => false,
@@ -62,7 +62,13 @@ fn put_call(procs: &Procs, call: &Call, keys: &mut Vec<Key>) -> bool {
 }
 
 /// The same of a record, which has a call if it is a command record.
-fn put_record(log: &Log, stream: u8, index: usize, place: &mut Call, keys: &mut Vec<Key>) -> bool {
+fn put_record(
+    log: &Log,
+    stream: u8,
+    index: usize,
+    place: &mut Call,
+    rows: &mut Vec<(Key, Value)>,
+) -> bool {
     if log.declarations.procs.list().is_empty() {
         return false;
     }
@@ -75,7 +81,7 @@ fn put_record(log: &Log, stream: u8, index: usize, place: &mut Call, keys: &mut 
     match &placed.entry {
         Entry::Command { call, .. } => {
             call.put_into(place);
-            put_call(&log.declarations.procs, place, keys)
+            put_call(&log.declarations.procs, place, rows)
         }
         _ => false,
     }
@@ -89,7 +95,8 @@ pub struct Foreseen {
     /// Its number among the records of its stream.
     index: usize,
     is_call: bool,
-    keys: Vec<Key>,
+    /// The rows, each with the value that it had when it was read.
+    rows: Vec<(Key, Value)>,
 }
 
 impl Foreseen {
@@ -99,7 +106,7 @@ impl Foreseen {
             stream: 0,
             index: usize::MAX,
             is_call: false,
-            keys: Vec::new(alloc),
+            rows: Vec::new(alloc),
         }
     }
 
@@ -115,19 +122,20 @@ impl Foreseen {
         }
         self.stream = stream;
         self.index = index;
-        self.keys.clear();
-        self.is_call = put_record(log, stream, index, place, &mut self.keys);
+        self.rows.clear();
+        self.is_call = put_record(log, stream, index, place, &mut self.rows);
     }
 
-    /// Reads these rows. If memory is refused, not all of them are read.
-    pub fn read(&self, store: &SerialStore, ahead: &mut Vec<(Key, Value)>) {
-        if !self.is_call {
-            return;
+    /// Reads these rows, each into the place that it has here.
+    pub fn read(&mut self, store: &SerialStore, places: &mut RowPlaces) {
+        for row in self.rows.iter_mut() {
+            store.read_noted(row.0, places, &mut row.1);
         }
-        ahead.clear();
-        for key in self.keys.as_slice() {
-            let _ = ahead.push((*key, store.value(*key)));
-        }
+    }
+
+    /// The rows with the values that were read.
+    pub fn rows(&self) -> &[(Key, Value)] {
+        self.rows.as_slice()
     }
 }
 

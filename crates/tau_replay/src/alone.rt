@@ -5,7 +5,7 @@ ghost use Rattle.tau_replay.specs.Sound.{IsSound};
 ghost use Rattle.tau_replay.specs.Way.{left_of};
 
 use crate::turns::{Replay, finish, start};
-use tau_base::NoMemory;
+use tau_base::{MAX_RECOVERY_WORKERS, NoMemory};
 use tau_disk::{Gate, Place};
 use tau_pool::Next;
 use tau_scan::Log;
@@ -33,15 +33,13 @@ fn redo_next<G: Gate>(log: &Log, replay: &mut Replay, gate: &G) -> Result<bool, 
 /// Redoes one record after another until none is ready.
 pub fn run_alone<G: Gate>(log: &Log, mut replay: Replay, gate: &G) -> Result<Replay, NoMemory>
     requires sound { IsSound log.now replay }
-    requires idle { replay.hands.items ≡ replicate 16 None }
+    requires idle { replay.hands.items ≡ replicate MAX_RECOVERY_WORKERS None }
     ensures sound { IfOk result (λ r. IsSound log.now r) }
     ensures over { IfOk result (λ r. NoneReady r.pools) }
 {
     'records: loop {
-        match redo_next(log, &mut replay, gate) {
-            Ok(true) => {}
-            Ok(false) => return Ok(replay),
-            Err(_) => return Err(NoMemory),
+        if !redo_next(log, &mut replay, gate)? {
+            return Ok(replay);
         }
     }
 }

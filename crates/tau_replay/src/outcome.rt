@@ -16,7 +16,7 @@ use arrayvec::ArrayVec;
 use std::alloc::Global;
 use std::snapshot::Snapshot;
 use tau_base::{Call, Key, NoMemory, Value};
-use tau_model::SerialStore;
+use tau_model::{RowPlaces, SerialStore};
 use tau_pool::Job;
 use tau_proc::{Machine, Want};
 use tau_scan::Log;
@@ -31,6 +31,8 @@ pub struct Scratch {
     pub reads: Vec<(Key, Value)>,
     /// The call that runs, or that was looked at last.
     pub call: Call,
+    /// Where rows of the store were found last.
+    pub places: RowPlaces,
 }
 
 impl Scratch {
@@ -43,6 +45,7 @@ impl Scratch {
                 proc: 0,
                 args: ArrayVec::new(),
             },
+            places: RowPlaces::new(alloc),
         }
     }
 
@@ -152,19 +155,19 @@ fn apply_tried(
     ensures ok { (r : Kept) → IsHeld log.now job r → OnOk result (database store.new ≡ redone log.now.declarations.procs r.content (database store.old)) }
     ensures err { OnErr result (database store.new ≡ database store.old) }
 {
-    if has_values(store, executed.reads.as_slice()) {
-        store.write(executed.writes.as_slice())
+    if has_values(store, executed.reads.as_slice(), &scratch.places) {
+        store.write_near(executed.writes.as_slice(), &scratch.places)
     } else {
         redo(log, store, job, scratch)
     }
 }
 
 /// Whether the database has these values.
-fn has_values(store: &SerialStore, reads: &[(Key, Value)]) -> bool
+fn has_values(store: &SerialStore, reads: &[(Key, Value)], places: &RowPlaces) -> bool
     ensures { result ≡ true → Agrees reads.now (database store.now) }
 {
     for (key, value) in reads {
-        if !has_value(store, *key, value) {
+        if !has_value(store, *key, value, places) {
             return false;
         }
     }
@@ -172,10 +175,10 @@ fn has_values(store: &SerialStore, reads: &[(Key, Value)]) -> bool
 }
 
 /// Whether the database has this value in the row. The row is read where it stands.
-fn has_value(store: &SerialStore, key: Key, value: &Value) -> bool
+fn has_value(store: &SerialStore, key: Key, value: &Value, places: &RowPlaces) -> bool
     ensures { IsTrue result ↔ (database store.now key ≡ value.now) }
 {
-    match store.value_ref(key) {
+    match store.near_ref(key, places) {
         Some(row) => row.is_same(value),
         None => matches!(value, Value::Absent),
     }

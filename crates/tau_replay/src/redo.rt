@@ -14,7 +14,7 @@ ghost use Rattle.tau_replay.specs.Recovering.{IsHeld, IsHeldBy};
 
 use crate::outcome::Scratch;
 use tau_base::{Call, KeptCall, Key, NoMemory, Value};
-use tau_model::SerialStore;
+use tau_model::{RowPlaces, SerialStore};
 use tau_pool::Job;
 use tau_proc::{Machine, Procs, Want};
 use tau_record::{Entry, KeptWrites, LentWrites};
@@ -69,14 +69,14 @@ fn write(store: &mut SerialStore, writes: &KeptWrites) -> Result<(), NoMemory>
 
 /// Executes a call up to its end, or up to its first write if it has one: on the values that the database has, where they
 /// stand.
-fn run(machine: &mut Machine, store: &SerialStore, procs: &Procs, call: &Call)
+fn run(machine: &mut Machine, store: &SerialStore, procs: &Procs, call: &Call, places: &RowPlaces)
     requires { IsTrue (takes procs.now call.now) }
     ensures { buffered machine.new ≡ (meaning procs.now call.now (database store.now)).writes }
 {
     machine.restart(procs, call);
     'wants: loop {
         match machine.next() {
-            Want::Read(key) => give(machine, store, key),
+            Want::Read(key) => give(machine, store, key, places),
             Want::Write(_) => return,
             Want::Finished(_) => return,
         }
@@ -84,13 +84,13 @@ fn run(machine: &mut Machine, store: &SerialStore, procs: &Procs, call: &Call)
 }
 
 /// Gives the row that is wanted its value.
-fn give(machine: &mut Machine, store: &SerialStore, key: Key)
+fn give(machine: &mut Machine, store: &SerialStore, key: Key, places: &RowPlaces)
     requires wants { next_want machine.old ≡ Want.Read key }
     ensures stands { (vs : List Value) → ahead machine.new vs ≡ ahead machine.old (database store.now key ∷ vs) }
     ensures granted { machine.new.granted ≡ machine.old.granted }
     ensures fewer { wants_left machine.new < wants_left machine.old }
 {
-    match store.value_ref(key) {
+    match store.near_ref(key, places) {
         Some(value) => machine.give_lent(value),
         None => machine.give_lent(&Value::Absent),
     }
@@ -116,6 +116,7 @@ fn redo_call(
         store,
         &log.declarations.procs,
         &scratch.call,
+        &scratch.places,
     );
-    store.write(scratch.machine.writes())
+    store.write_near(scratch.machine.writes(), &scratch.places)
 }

@@ -11,7 +11,7 @@ ghost use Rattle.tau_replay.specs.Way.{IsOnWay, IsOver, left_of};
 use crate::outcome::Scratch;
 use crate::turns::{Replay, start, turn, turn_of};
 use std::alloc::Global;
-use tau_base::NoMemory;
+use tau_base::{MAX_RECOVERY_WORKERS, NoMemory};
 use tau_model::{SerialStore, Tables};
 use tau_pool::{Job, Next, Pools};
 use tau_scan::{Log, ReplayRefusal};
@@ -19,13 +19,13 @@ use tau_scan::{Log, ReplayRefusal};
 /// Sixteen workers with nothing in flight, before the first turn.
 pub fn begin(alloc: Global, log: &Log) -> Result<Replay, NoMemory>
     requires { IsLog log.now }
-    ensures idle { IfOk result (λ replay. replay.hands.items ≡ replicate 16 None) }
+    ensures idle { IfOk result (λ replay. replay.hands.items ≡ replicate MAX_RECOVERY_WORKERS None) }
     ensures going { IfOk result (λ replay. IsOnWay log.now replay) }
     ensures followed { IfOk result (λ replay. Followed log.now [] replay) }
 {
     let pools = Pools::new(alloc, log)?;
     let mut hands = Vec::new(alloc);
-    for _ in 0..16u64 {
+    for _ in 0..MAX_RECOVERY_WORKERS {
         hands.push(None)?;
     }
     Ok(Replay {
@@ -38,14 +38,14 @@ pub fn begin(alloc: Global, log: &Log) -> Result<Replay, NoMemory>
 
 /// A turn of each worker from a number on, in ascending order.
 fn round(log: &Log, replay: &mut Replay, from: usize) -> Result<(), NoMemory>
-    requires from { from ≤ 16 }
+    requires from { from ≤ MAX_RECOVERY_WORKERS }
     requires going { IsOnWay log.now replay.old }
     ensures going { OnOk result (IsOnWay log.now replay.new) }
     ensures less { OnOk result (left_of replay.new ≤ left_of replay.old) }
     ensures some { from ≡ 0 → 1 ≤ flying_in replay.old.pools.items → OnOk result (left_of replay.new < left_of replay.old) }
     ensures followed { (turns : List ℕ) → Followed log.now turns replay.old → OnOk result (Followed log.now (turns ++ workers_from from) replay.new) }
 {
-    for worker in from..16 {
+    for worker in from..MAX_RECOVERY_WORKERS {
         turn(log, replay, worker)?;
     }
     Ok(())
@@ -63,18 +63,16 @@ fn next_round(log: &Log, replay: &mut Replay) -> Result<bool, ReplayRefusal>
     ensures tangled { (j at : ℕ) → result ≡ Err (ReplayRefusal.Tangled j at) → IsTangledAt log.now j at × ((order : List Kept) → IsOrderOf log.now order → ⊥) }
 {
     if replay.pools.in_flight() > 0 {
-        return match round(log, replay, 0) {
-            Ok(()) => Ok(false),
-            Err(_) => Err(ReplayRefusal::NoMemory),
-        };
+        round(log, replay, 0)?;
+        return Ok(false);
     }
     match start(log, replay, 0) {
         Next::Done => Ok(true),
         Next::NotYet => Err(tangled(log, replay)),
-        Next::Taken(_) => match round(log, replay, 1) {
-            Ok(()) => Ok(false),
-            Err(_) => Err(ReplayRefusal::NoMemory),
-        },
+        Next::Taken(_) => {
+            round(log, replay, 1)?;
+            Ok(false)
+        }
     }
 }
 
@@ -116,6 +114,7 @@ fn run_out(log: &Log, replay: &mut Replay) -> Result<(), ReplayRefusal>
         match next_round(log, replay) {
             Ok(true) => return Ok(()),
             Ok(false) => {}
+            // A clause names this refusal, and through `?` its proof does not find it again.
             Err(refusal) => return Err(refusal),
         }
     }
@@ -150,14 +149,9 @@ pub fn replay_turns(alloc: Global, log: &Log, turns: &[u8]) -> Result<Tables, Re
     // No orderly order exists: this is the first record, by stream and place, of those that can't be started.
     ensures tangled { (j at : ℕ) → result ≡ Err (ReplayRefusal.Tangled j at) → IsTangledAt log.now j at × ((order : List Kept) → IsOrderOf log.now order → ⊥) }
 {
-    let Ok(mut replay) = begin(alloc, log) else {
-        return Err(ReplayRefusal::NoMemory);
-    };
+    let mut replay = begin(alloc, log)?;
     for worker in turns {
-        match turn_of(log, &mut replay, *worker) {
-            Ok(()) => {}
-            Err(_) => return Err(ReplayRefusal::NoMemory),
-        }
+        turn_of(log, &mut replay, *worker)?;
     }
     end(alloc, log, replay)
 }

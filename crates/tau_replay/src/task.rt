@@ -13,7 +13,7 @@ use std::mem::swap;
 use std::snapshot::Snapshot;
 use std::sync::Wait;
 use tau_base::{Call, Key, NoMemory, Value};
-use tau_model::SerialStore;
+use tau_model::{RowPlaces, SerialStore};
 use tau_pool::Job;
 use tau_scan::Log;
 
@@ -25,10 +25,9 @@ pub struct Task {
     /// Whether the call of the record was executed.
     tried: bool,
     executed: Executed,
-    /// The rows that its call reads, found before it is started if it is the one that was expected.
+    /// The rows that its call reads, found before it is started if it is the one that was expected, and read as it is
+    /// started.
     foreseen: Foreseen,
-    /// The rows that were read as the record was started.
-    ahead: Vec<(Key, Value)>,
 }
 
 impl Model for Task {
@@ -55,7 +54,6 @@ impl Task {
             tried: false,
             executed: Executed::new(alloc),
             foreseen: Foreseen::new(alloc),
-            ahead: Vec::new(alloc),
         }
     }
 
@@ -68,13 +66,20 @@ impl Task {
     }
 
     /// This record is started. The rows that it will want are read.
-    pub fn begin(&mut self, log: &Log, store: &SerialStore, job: Job, place: &mut Call)
+    pub fn begin(
+        &mut self,
+        log: &Log,
+        store: &SerialStore,
+        places: &mut RowPlaces,
+        job: Job,
+        place: &mut Call,
+    )
         ensures { self.new ≡ self.old }
     {
         self.tried = false;
         self.job = Some(job);
         self.foreseen.see(log, job.stream, job.index, place);
-        self.foreseen.read(store, &mut self.ahead);
+        self.foreseen.read(store, places);
     }
 
     /// The record that it has, if it has one.
@@ -112,7 +117,7 @@ impl Task {
             return true;
         }
         self.tried = false;
-        if !try_job(rt, lock, seat, log, job, &self.ahead, scratch) {
+        if !try_job(rt, lock, seat, log, job, self.foreseen.rows(), scratch) {
             return true;
         }
         swap(&mut self.executed.reads, &mut scratch.reads);

@@ -20,7 +20,7 @@ use crate::worker::work;
 use std::alloc::Global;
 use std::sync::Wait;
 use std::thread::{Threads, join};
-use tau_base::NoMemory;
+use tau_base::{MAX_RECOVERY_WORKERS, NoMemory};
 use tau_disk::Gate;
 use tau_model::Tables;
 use tau_pool::Job;
@@ -100,7 +100,7 @@ fn crew<R: Threads + Wait + Sync, G: Gate + Sync>(
     requires own { seat.table_id ≡ lock.now.table.shared.table_id }
     requires of_log { seat.me.0.log ≡ log.now }
     requires spare { IsSpare first (HANDS - first) seat.me }
-    requires few { (worker + others < 16) × (first + RECORDS * others + RECORDS ≤ HANDS) }
+    requires few { (worker + others < MAX_RECOVERY_WORKERS) × (first + RECORDS * others + RECORDS ≤ HANDS) }
     ensures own { result.table_id ≡ seat.table_id }
     ensures of_log { result.me.0.log ≡ seat.me.0.log }
     ensures idle { IsIdle result.me × (length result.me.0.hands ≡ length seat.me.0.hands) }
@@ -126,7 +126,7 @@ fn crew<R: Threads + Wait + Sync, G: Gate + Sync>(
             ensures { (result.table_id ≡ mine.table_id) × IsIdle result.me × (length result.me.0.hands ≡ length mine.me.0.hands) }
         { work(rt, alloc, lock, mine, log, worker, first, RECORDS, gate) },
         move || -> Seat
-            requires { IsSync R.row × IsSync G.row × (seat.table_id ≡ lock.now.table.shared.table_id) × (seat.me.0.log ≡ log.now) × IsSpare (first + RECORDS) (HANDS - (first + RECORDS)) seat.me × (1 ≤ others) × (worker + others < 16) × (first + RECORDS * others + RECORDS ≤ HANDS) }
+            requires { IsSync R.row × IsSync G.row × (seat.table_id ≡ lock.now.table.shared.table_id) × (seat.me.0.log ≡ log.now) × IsSpare (first + RECORDS) (HANDS - (first + RECORDS)) seat.me × (1 ≤ others) × (worker + others < MAX_RECOVERY_WORKERS) × (first + RECORDS * others + RECORDS ≤ HANDS) }
             ensures { (result.table_id ≡ seat.table_id) × (result.me.0.log ≡ seat.me.0.log) × IsIdle result.me × (length result.me.0.hands ≡ length seat.me.0.hands) }
         {
             crew(
@@ -156,7 +156,7 @@ fn idle_hands(alloc: Global, many: usize) -> Result<Vec<Option<Job>>, NoMemory>
 /// A recovery of which nothing is in flight, with the hands of workers in threads.
 fn spread(log: &Log, mut replay: Replay, hands: Vec<Option<Job>>) -> Replay
     requires sound { IsSound log.now replay }
-    requires idle { replay.hands.items ≡ replicate 16 None }
+    requires idle { replay.hands.items ≡ replicate MAX_RECOVERY_WORKERS None }
     requires hands { hands.items ≡ replicate HANDS None }
     ensures working { AreWorking log.now result }
     ensures idle { result.hands.items ≡ replicate HANDS None }
@@ -170,7 +170,7 @@ fn spread(log: &Log, mut replay: Replay, hands: Vec<Option<Job>>) -> Replay
 fn gather(log: &Log, mut replay: Replay, hands: Vec<Option<Job>>) -> Replay
     requires working { AreWorking log.now replay }
     requires calm { flying_in replay.pools.items ≡ 0 }
-    requires hands { hands.items ≡ replicate 16 None }
+    requires hands { hands.items ≡ replicate MAX_RECOVERY_WORKERS None }
     ensures sound { IsSound log.now result }
 {
     let _ = log;
@@ -186,7 +186,7 @@ fn left_by(alloc: Global, log: &Log, replay: Replay) -> Result<Replay, NoMemory>
     if replay.pools.in_flight() > 0 {
         return Err(NoMemory);
     }
-    let hands = idle_hands(alloc, 16)?;
+    let hands = idle_hands(alloc, MAX_RECOVERY_WORKERS)?;
     Ok(gather(log, replay, hands))
 }
 
@@ -200,8 +200,8 @@ fn run<R: Threads + Wait + Sync, G: Gate + Sync>(
     gate: &G,
 ) -> Result<Replay, NoMemory>
     requires sound { IsSound log.now replay }
-    requires idle { replay.hands.items ≡ replicate 16 None }
-    requires workers { (1 ≤ workers) × (workers ≤ 16) }
+    requires idle { replay.hands.items ≡ replicate MAX_RECOVERY_WORKERS None }
+    requires workers { (1 ≤ workers) × (workers ≤ MAX_RECOVERY_WORKERS) }
     ensures sound { IfOk result (λ r. IsSound log.now r) }
 {
     if workers == 1 {
@@ -231,7 +231,7 @@ pub fn replay_threads<R: Threads + Wait + Sync, G: Gate + Sync>(
     gate: &G,
 ) -> Result<Tables, ReplayRefusal>
     requires log { IsLog log.now }
-    requires workers { (1 ≤ workers) × (workers ≤ 16) }
+    requires workers { (1 ≤ workers) × (workers ≤ MAX_RECOVERY_WORKERS) }
     // The tables are those of redoing the taken records in an orderly order.
     ensures ok { IfOk result (λ tables. IsRedone log.now tables) }
     // They are what some turns of workers give, and rounds of all workers after them.

@@ -9,7 +9,7 @@ ghost use Rattle.tau_replay.specs.Way.{IsOnWay, left_of};
 
 use crate::outcome::{Outcome, Scratch, apply};
 use crate::redo::redo;
-use tau_base::NoMemory;
+use tau_base::{MAX_RECOVERY_WORKERS, NoMemory};
 use tau_model::SerialStore;
 use tau_pool::{Job, Next, Pools};
 use tau_scan::Log;
@@ -110,7 +110,7 @@ pub fn finish(log: &Log, replay: &mut Replay, worker: usize, job: Job) -> Result
 
 /// A turn of a worker: it finishes what it has in flight, or starts what is ready.
 pub fn turn(log: &Log, replay: &mut Replay, worker: usize) -> Result<(), NoMemory>
-    requires worker { worker < 16 }
+    requires worker { worker < MAX_RECOVERY_WORKERS }
     requires going { IsOnWay log.now replay.old }
     ensures going { OnOk result (IsOnWay log.now replay.new) }
     ensures less { OnOk result (left_of replay.new ≤ left_of replay.old) }
@@ -133,7 +133,7 @@ pub fn turn_of(log: &Log, replay: &mut Replay, worker: u8) -> Result<(), NoMemor
     ensures going { OnOk result (IsOnWay log.now replay.new) }
     ensures followed { (turns : List ℕ) → Followed log.now turns replay.old → OnOk result (Followed log.now (turns ++ worker ∷ []) replay.new) }
 {
-    if worker < 16 {
+    if usize::from(worker) < MAX_RECOVERY_WORKERS {
         turn(log, replay, usize::from(worker))
     } else {
         Ok(())

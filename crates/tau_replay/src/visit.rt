@@ -171,7 +171,8 @@ fn start_one(log: &Log, part: &mut Part, hand: usize, task: &mut Task, call: &mu
 {
     match start_idle(log, part, hand) {
         Some(job) => {
-            task.begin(log, &part.replay.store, job, call);
+            let replay = &mut part.replay;
+            task.begin(log, &replay.store, &mut replay.scratch.places, job, call);
             true
         }
         None => false,

@@ -27,7 +27,3 @@ refusal_is a b e = cc
 
 pub returns-in-NotYet-clause-tangled : goal.returns-in-NotYet-clause-tangled
 returns-in-NotYet-clause-tangled c j at e = c.tangled.ensures j at (refusal_is c.tangled.result (Tangled j at) e)
-
-pub returns-in-Ok-round-clause-followed : goal.returns-in-Ok-round-clause-followed
-returns-in-Ok-round-clause-followed c turns f e =
-    round_of_first c.args.log.now turns c.round-in-Taken.new.replay.pools c.round-in-Taken.new.replay.hands.items (database c.round-in-Taken.new.replay.store) (c.in-Ok-round.ensures.followed (turns ++ 0 ∷ []) (c.start.ensures.followed turns f))

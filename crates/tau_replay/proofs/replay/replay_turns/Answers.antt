@@ -9,8 +9,8 @@ loop-worker-preserved c =
     let turns = c.args.turns.now in
     let i = c.loop-worker.worker-index in
     let more = take_more turns i 0 (omega (arith, c.loop-worker-test.true)) in record {
-      going = c.in-Ok-turn_of.ensures.going;
-      followed = subst (λ (ts : List ℕ). Followed c.args.log.now ts c.turn_of.new.replay) (sym more) (c.in-Ok-turn_of.ensures.followed (take i turns) c.loop-worker.invariant.followed);
+      going = c.in_ok-turn_of.ensures.going;
+      followed = subst (λ (ts : List ℕ). Followed c.args.log.now ts c.turn_of.new.replay) (sym more) (c.in_ok-turn_of.ensures.followed (take i turns) c.loop-worker.invariant.followed);
     }
 
 pub returns-clause-followed : goal.returns-clause-followed
