@@ -3,6 +3,7 @@ use Rattle.std.proofs.Common.{ℕ, ◌+◌, ◌==◌, ◌<◌, ◌≤◌, ◌≡
 use Rattle.std.specs.Prelude.{Some, None, is_err, Ok, Err, Result, slice_get, slice_index, slice_set}
 use Rattle.std.proofs.lemmas.Bool.{cases_eq}
 use Rattle.atomic_table.specs.Seated.{TableId}
+use Rattle.tau_base.specs.declared.limits.TheConstants.{MAX_WORKERS}
 use Rattle.tau_base.specs.declared.value.NoMemory.{NoMemory}
 use Rattle.tau_base.proofs.Vectors.{join_at}
 use Rattle.tau_machine.specs.Accounts.{in_calls, in_worker}
@@ -235,7 +236,7 @@ module _ (first : Plain) (table : TableId) (h h1 : PlainHead) (s : PlainWorkerSe
           inside : (x y : Option PlainWork) → Some x ≡ Some y → x ≡ y
           inside x y f = cc f
 
-  pub few_out : first.load.workers ≤ 16 → w < 16
+  pub few_out : first.load.workers ≤ MAX_WORKERS → w < MAX_WORKERS
   few_out few = (let t = goes.can.there in omega (arith, few, t))
 
   module _ (a : Works s) where

@@ -12,7 +12,7 @@ use tau_disk::Gate;
 
 /// The first worker whose role is out.
 fn first_out(head: &Head) -> u8
-    requires out { (w : ℕ) × (w < 16) × IsFirstOut head.now w }
+    requires out { (w : ℕ) × (w < MAX_WORKERS) × IsFirstOut head.now w }
     ensures { (w : ℕ) → IsFirstOut head.now w → result ≡ w }
 {
     for worker in 0..MAX_WORKERS as u8 {

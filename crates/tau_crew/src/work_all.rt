@@ -14,6 +14,7 @@ use crate::shared::Crew;
 use crate::worker::work;
 use std::sync::Wait;
 use std::thread::{Threads, join};
+use tau_base::MAX_WORKERS;
 use tau_desk::{Desk, Head, WorkerSeat};
 use tau_disk::Gate;
 
@@ -59,7 +60,7 @@ fn refuse(desk: &Desk, mut head: Head, crew: &Crew, first: u8, workers: u8) -> H
 fn part(desk: &Desk, head: &mut Head, first: u8, others: u8) -> Option<WorkerSeat>
     requires own { head.old.table_id ≡ desk.now.table.shared.table_id }
     requires opened { head.old.me.0.opened ≡ Some desk.now.table.shared.key.value }
-    requires few { first + others < 16 }
+    requires few { first + others < MAX_WORKERS }
     requires ready { AreReady head.old first (first + (others + 1)) }
     ensures was { Heads head.old }
     ensures split { IfSome result (λ s. IsWorkerSplit first (calls_each desk.now.table.shared.key.value.load) head.old head.new s) }
@@ -110,7 +111,7 @@ pub(crate) fn work_all<R: Threads + Wait + Sync, G: Gate + Sync>(
     requires own { head.table_id ≡ desk.now.table.shared.table_id }
     requires opened { head.me.0.opened ≡ Some desk.now.table.shared.key.value }
     requires run { Opened desk.now.table.shared.key.value.load desk.now.table.shared.key.value }
-    requires few { first + others < 16 }
+    requires few { first + others < MAX_WORKERS }
     requires ready { AreReady head first (first + (others + 1)) }
     ensures { WorkersBack desk.now.table.shared.key.value.load first (first + (others + 1)) head result.0 result.1 }
 {
@@ -129,7 +130,7 @@ pub(crate) fn work_all<R: Threads + Wait + Sync, G: Gate + Sync>(
             ensures { SeatRan desk.entry.now.table.shared.key.value.load seat result.0 result.1 }
         { run_seat(rt, desk, seat, crew, gate, first) },
         move || -> (Head, bool)
-            requires { IsSync R.row × (head.table_id ≡ desk.now.table.shared.table_id) × (head.me.0.opened ≡ Some desk.now.table.shared.key.value) × Opened desk.now.table.shared.key.value.load desk.now.table.shared.key.value × (1 ≤ others) × (first + others < 16) × AreReady head (first + 1) (first + (others + 1)) }
+            requires { IsSync R.row × (head.table_id ≡ desk.now.table.shared.table_id) × (head.me.0.opened ≡ Some desk.now.table.shared.key.value) × Opened desk.now.table.shared.key.value.load desk.now.table.shared.key.value × (1 ≤ others) × (first + others < MAX_WORKERS) × AreReady head (first + 1) (first + (others + 1)) }
             ensures { WorkersBack desk.entry.now.table.shared.key.value.load (first + 1) (first + (others + 1)) head result.0 result.1 }
         { work_all(rt, desk, head, crew, gate, first + 1, others - 1) },
     );

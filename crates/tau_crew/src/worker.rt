@@ -8,6 +8,7 @@ ghost use Rattle.tau_crew.specs.Working.{HasNone, IsUnjoined, WorkerEnds, WorksO
 
 use crate::anchor::ANCHOR_BYTES;
 use std::sync::Wait;
+use std::thread;
 use tau_base::{NoMemory, stream_of};
 use tau_desk::{Acted, Desk, WorkerSeat};
 use tau_disk::{Gate, Place};
@@ -233,9 +234,17 @@ fn lock<R: Wait>(rt: &R, desk: &Desk, seat: &mut WorkerSeat) -> Result<(), NoMem
     seat.agrees();
     match seat.lock(rt, desk) {
         Acted::Went => Ok(()),
-        Acted::Busy => Ok(()),
+        Acted::Busy => Ok(give_way(seat)),
         Acted::Other => Ok(()),
         Acted::NoMemory => Err(NoMemory),
+    }
+}
+
+/// Lets other threads run before a call that met Busy begins again: who holds its key may have no processor.
+fn give_way(seat: &WorkerSeat) {
+    match seat.next() {
+        ActionKind::Quit => {}
+        _ => thread::yield_now(),
     }
 }
 
@@ -247,6 +256,7 @@ fn quit<R: Wait>(rt: &R, desk: &Desk, seat: &mut WorkerSeat)
 {
     seat.agrees();
     let _acted = seat.quit(rt, desk);
+    give_way(seat);
 }
 
 /// Whether an anchor may be published that the worker has not read: the stream is persisted so far beyond the last one as
