@@ -1,7 +1,7 @@
 //! Calls that have ended and wait for their acknowledgement.
 #![tactic(auto)]
 
-ghost use Rattle.std.specs.Prelude.{◌≡◌, ◌==◌, ◌≤◌, ◌<◌, ◌+◌, [], ◌∷◌, ◌++◌, length, OnOk, true, false, IfSome, IfNone, set, get_or, vec_len, vec_capacity};
+ghost use Rattle.std.specs.Prelude.{◌≡◌, ◌==◌, ◌≤◌, ◌<◌, ◌+◌, [], ◌∷◌, ◌++◌, length, OnOk, true, false, IfSome, IfNone, set, get_or, take, vec_len, vec_capacity};
 ghost use Rattle.tau_ack.specs.declared.Waiting.{Waiting};
 ghost use Rattle.tau_base.specs.Vectors.{AtMost};
 ghost use Rattle.tau_ack.specs.Pending.{NoneCovered, TakesFirst, IsPass, in_pass};
@@ -25,8 +25,16 @@ pub struct Waiting {
 /// the same vector stopped, and moves each call that it leaves at most once.
 #[derive(Drop)]
 pub struct Pending {
-    calls: Vec<Waiting>,
+    calls: Slots,
     pass: Pass,
+}
+
+/// A list of calls. The slots of calls that are gone stay, and later calls are written over them.
+#[derive(Drop)]
+struct Slots {
+    slots: Vec<Waiting>,
+    /// So many slots in front hold the calls.
+    count: usize,
 }
 
 /// How far a pass over the calls has come.
@@ -41,14 +49,24 @@ struct Pass {
 }
 
 impl Model for Pending {
-    ghost use Rattle.std.specs.Prelude.{◌-◌, ◌≤◌, length, take, take, vec_len, vec_capacity};
     ghost use Rattle.tau_ack.specs.Pending.{PlainPending, IsPass, in_pass};
 
     ghost Value = { PlainPending };
 
-    ghost view = { λ p. record { calls = in_pass p.pass.passed p.pass.next p.calls.items; room = vec_capacity p.calls - vec_len p.calls } };
+    ghost view = { λ p. record { calls = in_pass p.pass.passed p.pass.next p.calls.calls; room = p.calls.room } };
 
-    ghost invariant = { λ p. IsPass p.pass.plv p.pass.passed p.pass.next p.calls.items };
+    ghost invariant = { λ p. IsPass p.pass.plv p.pass.passed p.pass.next p.calls.calls };
+}
+
+impl Model for Slots {
+    ghost use Rattle.std.specs.Prelude.{◌-◌, ◌≤◌, take, vec_len, vec_capacity};
+    ghost use Rattle.tau_ack.specs.Pending.{PlainPending};
+
+    ghost Value = { PlainPending };
+
+    ghost view = { λ s. record { calls = take s.count s.slots.items; room = vec_capacity s.slots - s.count } };
+
+    ghost invariant = { λ s. s.count ≤ vec_len s.slots };
 }
 
 impl Pending {
@@ -57,7 +75,7 @@ impl Pending {
         ensures { result.calls ≡ [] }
     {
         Pending {
-            calls: Vec::new(alloc),
+            calls: Slots::new(alloc),
             pass: Pass {
                 plv: Lv::zero(1),
                 passed: 0,
@@ -81,15 +99,14 @@ impl Pending {
         ensures kept { self.old.room ≤ self.new.room }
         ensures calls { self.new.calls ≡ self.old.calls }
     {
-        self.calls.try_reserve(1)?;
-        Ok(())
+        self.calls.reserve()
     }
 
     /// How many more calls are put without memory.
     pub fn room(&self) -> usize
         ensures { result ≡ self.now.room }
     {
-        self.calls.capacity() - self.calls.len()
+        self.calls.room()
     }
 
     /// Puts a call last. It takes no memory.
@@ -107,7 +124,7 @@ impl Pending {
         ensures calls { self.new.calls ≡ self.old.calls ++ record { number = number; lv = lv.now } ∷ [] }
         ensures room { self.old.room ≤ self.new.room + 1 }
     {
-        self.calls.push_reserved(Waiting { number, lv: *lv });
+        self.calls.put(number, lv);
     }
 
     /// The first call whose vector `plv` covers, taken out. None exactly where no call is covered.
@@ -118,7 +135,7 @@ impl Pending {
         ensures room { self.old.room ≤ self.new.room }
     {
         match next_covered(&mut self.calls, &mut self.pass, plv) {
-            Some(at) => Some(self.calls[at]),
+            Some(at) => Some(*self.calls.get(at)),
             None => None,
         }
     }
@@ -133,7 +150,7 @@ impl Pending {
     {
         match next_covered(&mut self.calls, &mut self.pass, plv) {
             Some(at) => {
-                *taken = self.calls[at];
+                take_call(taken, self.calls.get(at));
                 true
             }
             None => false,
@@ -141,17 +158,124 @@ impl Pending {
     }
 }
 
-/// Takes out the first call that the vector covers. Returns where that call still lies.
-fn next_covered(calls: &mut Vec<Waiting>, pass: &mut Pass, plv: &Lv) -> Option<usize>
-    requires { IsPass pass.old.plv pass.old.passed pass.old.next calls.old.items }
-    ensures pass { IsPass pass.new.plv pass.new.passed pass.new.next calls.new.items }
-    ensures there { IfSome result (λ at. at < length calls.new.items) }
-    ensures first { IfSome result (λ at. (w : Waiting) → w ≡ get_or calls.new.items at w → TakesFirst plv.now (in_pass pass.old.passed pass.old.next calls.old.items) w (in_pass pass.new.passed pass.new.next calls.new.items)) }
-    ensures none { IfNone result (NoneCovered plv.now (in_pass pass.old.passed pass.old.next calls.old.items)) }
-    ensures unchanged { IfNone result (in_pass pass.new.passed pass.new.next calls.new.items ≡ in_pass pass.old.passed pass.old.next calls.old.items) }
-    ensures room { vec_capacity calls.old + vec_len calls.new ≤ vec_capacity calls.new + vec_len calls.old }
+impl Slots {
+    fn new(alloc: Global) -> Slots
+        ensures { result.calls ≡ [] }
+    {
+        Slots {
+            slots: Vec::new(alloc),
+            count: 0,
+        }
+    }
+
+    fn len(&self) -> usize
+        ensures { result ≡ length self.now.calls }
+    {
+        self.count
+    }
+
+    fn get(&self, at: usize) -> &Waiting
+        requires { at < length self.now.calls }
+        ensures { result.now ≡ get_or self.now.calls at result.now }
+    {
+        &self.slots[at]
+    }
+
+    /// Makes room for one more call.
+    fn reserve(&mut self) -> Result<(), NoMemory>
+        ensures room { OnOk result (1 ≤ self.new.room) }
+        ensures kept { self.old.room ≤ self.new.room }
+        ensures calls { self.new.calls ≡ self.old.calls }
+    {
+        if self.count < self.slots.len() {
+            return Ok(());
+        }
+        self.slots.try_reserve(1)?;
+        Ok(())
+    }
+
+    /// How many more calls are put without memory.
+    fn room(&self) -> usize
+        ensures { result ≡ self.now.room }
+    {
+        self.slots.capacity() - self.count
+    }
+
+    /// Puts a call last, in the slot of one that is gone if there is any.
+    fn put(&mut self, number: u64, lv: &Lv)
+        requires { 1 ≤ self.old.room }
+        ensures calls { self.new.calls ≡ self.old.calls ++ record { number = number; lv = lv.now } ∷ [] }
+        ensures room { self.old.room ≤ self.new.room + 1 }
+    {
+        put_at(&mut self.slots, self.count, number, lv);
+        self.count += 1;
+    }
+
+    /// Moves a call to the front of the gap, if there is one.
+    fn move_down(&mut self, from: usize, to: usize)
+        requires order { to ≤ from }
+        requires inside { from < length self.old.calls }
+        ensures calls { (d : Waiting) → self.new.calls ≡ set self.old.calls to (get_or self.old.calls from d) }
+        ensures room { self.new.room ≡ self.old.room }
+    {
+        if to == from {
+            return;
+        }
+        self.slots[to] = self.slots[from];
+    }
+
+    /// Only the first ones stay.
+    fn truncate(&mut self, count: usize)
+        requires { count ≤ length self.old.calls }
+        ensures calls { self.new.calls ≡ take count self.old.calls }
+        ensures room { self.old.room ≤ self.new.room }
+    {
+        self.count = count;
+    }
+}
+
+/// Writes a call into this slot, or after the last one.
+fn put_at(slots: &mut Vec<Waiting>, at: usize, number: u64, lv: &Lv)
+    requires there { at ≤ vec_len slots.old }
+    requires room { at < vec_capacity slots.old }
+    ensures calls { take (at + 1) slots.new.items ≡ take at slots.old.items ++ record { number = number; lv = lv.now } ∷ [] }
+    ensures there { at + 1 ≤ vec_len slots.new }
+    ensures capacity { vec_capacity slots.new ≡ vec_capacity slots.old }
 {
-    if calls.is_empty() {
+    if at == slots.len() {
+        slots.push_reserved(Waiting { number, lv: *lv });
+        return;
+    }
+    put_over(&mut slots[at], number, lv);
+}
+
+/// Becomes the call with this number and vector.
+fn put_over(call: &mut Waiting, number: u64, lv: &Lv)
+    ensures { call.new ≡ record { number = number; lv = lv.now } }
+{
+    call.number = number;
+    call.lv.copy_from(lv);
+}
+
+/// Becomes the same as another call.
+fn take_call(taken: &mut Waiting, call: &Waiting)
+    ensures { taken.new ≡ call.now }
+{
+    taken.number = call.number;
+    taken.lv.copy_from(&call.lv);
+}
+
+/// Takes out the first call that the vector covers. Returns where that call still lies.
+fn next_covered(calls: &mut Slots, pass: &mut Pass, plv: &Lv) -> Option<usize>
+    requires { IsPass pass.old.plv pass.old.passed pass.old.next calls.old.calls }
+    ensures pass { IsPass pass.new.plv pass.new.passed pass.new.next calls.new.calls }
+    ensures there { IfSome result (λ at. at < length calls.new.calls) }
+    ensures first { IfSome result (λ at. (w : Waiting) → w ≡ get_or calls.new.calls at w → TakesFirst plv.now (in_pass pass.old.passed pass.old.next calls.old.calls) w (in_pass pass.new.passed pass.new.next calls.new.calls)) }
+    ensures none { IfNone result (NoneCovered plv.now (in_pass pass.old.passed pass.old.next calls.old.calls)) }
+    ensures unchanged { IfNone result (in_pass pass.new.passed pass.new.next calls.new.calls ≡ in_pass pass.old.passed pass.old.next calls.old.calls) }
+    ensures room { calls.old.room ≤ calls.new.room }
+{
+    if calls.len() == 0 {
         return None;
     }
     if !begin(calls, pass, plv) {
@@ -162,13 +286,13 @@ fn next_covered(calls: &mut Vec<Waiting>, pass: &mut Pass, plv: &Lv) -> Option<u
 
 /// Turns the pass to this vector, from the front where it may have left a call that it would now take. It answers
 /// whether there is a call to look at.
-fn begin(calls: &mut Vec<Waiting>, pass: &mut Pass, plv: &Lv) -> bool
-    requires { IsPass pass.old.plv pass.old.passed pass.old.next calls.old.items }
-    ensures pass { IsPass pass.new.plv pass.new.passed pass.new.next calls.new.items }
+fn begin(calls: &mut Slots, pass: &mut Pass, plv: &Lv) -> bool
+    requires { IsPass pass.old.plv pass.old.passed pass.old.next calls.old.calls }
+    ensures pass { IsPass pass.new.plv pass.new.passed pass.new.next calls.new.calls }
     ensures plv { result ≡ true → pass.new.plv ≡ plv.now }
-    ensures none { result ≡ false → NoneCovered plv.now (in_pass pass.new.passed pass.new.next calls.new.items) }
-    ensures calls { in_pass pass.new.passed pass.new.next calls.new.items ≡ in_pass pass.old.passed pass.old.next calls.old.items }
-    ensures room { vec_capacity calls.old + vec_len calls.new ≤ vec_capacity calls.new + vec_len calls.old }
+    ensures none { result ≡ false → NoneCovered plv.now (in_pass pass.new.passed pass.new.next calls.new.calls) }
+    ensures calls { in_pass pass.new.passed pass.new.next calls.new.calls ≡ in_pass pass.old.passed pass.old.next calls.old.calls }
+    ensures room { calls.old.room ≤ calls.new.room }
 {
     if pass.plv.covers(plv) {
         if pass.passed == calls.len() {
@@ -178,7 +302,7 @@ fn begin(calls: &mut Vec<Waiting>, pass: &mut Pass, plv: &Lv) -> bool
         return true;
     }
     close(calls, pass.passed, pass.next);
-    pass.plv = *plv;
+    pass.plv.copy_from(plv);
     pass.passed = 0;
     pass.next = 0;
     true
@@ -192,7 +316,7 @@ fn turn_to(plv: &mut Lv, other: &Lv)
     if is_same(plv, other) {
         return;
     }
-    *plv = *other;
+    plv.copy_from(other);
 }
 
 /// Whether two vectors are the same, of which the first covers the second.
@@ -207,56 +331,41 @@ fn is_same(plv: &Lv, other: &Lv) -> bool
 }
 
 /// Closes the gap that a pass has left, if any.
-fn close(calls: &mut Vec<Waiting>, passed: usize, next: usize)
+fn close(calls: &mut Slots, passed: usize, next: usize)
     requires order { passed ≤ next }
-    requires inside { next ≤ vec_len calls.old }
-    ensures calls { calls.new.items ≡ in_pass passed next calls.old.items }
-    ensures len { vec_len calls.new ≤ vec_len calls.old }
-    ensures capacity { vec_capacity calls.new ≡ vec_capacity calls.old }
+    requires inside { next ≤ length calls.old.calls }
+    ensures calls { calls.new.calls ≡ in_pass passed next calls.old.calls }
+    ensures room { calls.old.room ≤ calls.new.room }
 {
     if passed == next {
         return;
     }
     let mut to = passed;
     for from in next..calls.len() {
-        calls[to] = calls[from];
+        calls.move_down(from, to);
         to += 1;
     }
     calls.truncate(to);
 }
 
-/// Moves a call to the front of the gap, if there is one.
-fn move_down(calls: &mut Vec<Waiting>, from: usize, to: usize)
-    requires order { to ≤ from }
-    requires inside { from < vec_len calls.old }
-    ensures calls { (d : Waiting) → calls.new.items ≡ set calls.old.items to (get_or calls.old.items from d) }
-    ensures len { vec_len calls.new ≡ vec_len calls.old }
-    ensures capacity { vec_capacity calls.new ≡ vec_capacity calls.old }
-{
-    if to == from {
-        return;
-    }
-    calls[to] = calls[from];
-}
-
 /// Goes on with a pass as far as the next covered call, which is gone from then on. Returns where that call still lies.
-fn scan(calls: &mut Vec<Waiting>, pass: &mut Pass) -> Option<usize>
-    requires { IsPass pass.old.plv pass.old.passed pass.old.next calls.old.items }
-    ensures pass { IsPass pass.new.plv pass.new.passed pass.new.next calls.new.items }
-    ensures there { IfSome result (λ at. at < length calls.new.items) }
-    ensures first { IfSome result (λ at. (w : Waiting) → w ≡ get_or calls.new.items at w → TakesFirst pass.old.plv (in_pass pass.old.passed pass.old.next calls.old.items) w (in_pass pass.new.passed pass.new.next calls.new.items)) }
-    ensures none { IfNone result (NoneCovered pass.old.plv (in_pass pass.old.passed pass.old.next calls.old.items)) }
-    ensures unchanged { IfNone result (in_pass pass.new.passed pass.new.next calls.new.items ≡ in_pass pass.old.passed pass.old.next calls.old.items) }
-    ensures room { vec_capacity calls.old + vec_len calls.new ≤ vec_capacity calls.new + vec_len calls.old }
+fn scan(calls: &mut Slots, pass: &mut Pass) -> Option<usize>
+    requires { IsPass pass.old.plv pass.old.passed pass.old.next calls.old.calls }
+    ensures pass { IsPass pass.new.plv pass.new.passed pass.new.next calls.new.calls }
+    ensures there { IfSome result (λ at. at < length calls.new.calls) }
+    ensures first { IfSome result (λ at. (w : Waiting) → w ≡ get_or calls.new.calls at w → TakesFirst pass.old.plv (in_pass pass.old.passed pass.old.next calls.old.calls) w (in_pass pass.new.passed pass.new.next calls.new.calls)) }
+    ensures none { IfNone result (NoneCovered pass.old.plv (in_pass pass.old.passed pass.old.next calls.old.calls)) }
+    ensures unchanged { IfNone result (in_pass pass.new.passed pass.new.next calls.new.calls ≡ in_pass pass.old.passed pass.old.next calls.old.calls) }
+    ensures room { calls.old.room ≤ calls.new.room }
 {
     let mut passed = pass.passed;
     for next in pass.next..calls.len() {
-        if pass.plv.covers(&calls[next].lv) {
+        if pass.plv.covers(&calls.get(next).lv) {
             pass.passed = passed;
             pass.next = next + 1;
             return Some(next);
         }
-        move_down(calls, next, passed);
+        calls.move_down(next, passed);
         passed += 1;
     }
     calls.truncate(passed);

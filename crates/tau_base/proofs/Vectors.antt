@@ -109,3 +109,16 @@ pub join_comm : (v w : List ℕ) → join v w ≡ join w v
 join_comm v w =
     let wide = join_wider v w in
     join_from (join v w) w v (omega (arith, wide.0, wide.1, wide.2)) (λ k. let at = join_at v w k in omega (arith, at))
+
+-- a vector that zeros were put after joins to the same
+pub join_widened : (v u w : List ℕ) → length v < length w → length u ≡ length w → ((k : ℕ) → k < length w → slice_index u k ≡ slice_index v k) → join u w ≡ join v w
+join_widened v u w narrow wide same =
+    let widths = join_wider u w in
+    join_from (join u w) v w (omega (arith, widths.0, widths.1, widths.2, narrow, wide)) (λ k. elim (leb_tells (length w) k) [
+      | inl h ↦
+          let at = join_at u w k in
+          let none_u = beyond u k (omega (arith, wide, h.1)) in
+          let none_v = beyond v k (omega (arith, narrow, h.1)) in
+          omega (arith, at, none_u, none_v)
+      | inr h ↦ let at = join_at u w k in let e = same k h.1 in omega (arith, at, e)
+    ])

@@ -1,10 +1,13 @@
 //! The limits of the engine. Contracts name these constants.
 
 /// Streams of a log, at most.
-pub const MAX_STREAMS: usize = 16;
+pub const MAX_STREAMS: usize = 32;
 
 /// Workers of a run, at most.
-pub const MAX_WORKERS: usize = 16;
+pub const MAX_WORKERS: usize = 32;
+
+/// Workers, and streams, that turn words name: those below this, whatever the other limits are.
+pub const TURN_ACTORS: usize = 16;
 
 /// Workers that an entry of the lock table tells apart: its mask has a bit for each.
 pub const MAX_HOLDERS: usize = 32;
@@ -57,8 +60,8 @@ pub const MAX_BODY: usize = 1_048_576;
 /// Tries of a call, before it is left over.
 pub const MAX_TRIES: usize = 64;
 
-/// Bytes of a record, at most: 64 texts and 16 components.
-pub const MAX_RECORD: usize = 5_077;
+/// Bytes of a record, at most: 64 texts and 32 components.
+pub const MAX_RECORD: usize = 5_207;
 
 /// A position in a stream is below this.
 pub const MAX_LSN: u64 = 4_611_686_018_427_387_904;

@@ -8,10 +8,12 @@ use Rattle.std.proofs.lemmas.List.{take_at, drop_at, drop_all, get_or_at, length
 use Rattle.std.proofs.Math.Seq.{set-append_seam}
 use Rattle.std.proofs.lemmas.Bool.{cases_eq, le-leb, lt-leb}
 use Rattle.std.proofs.lemmas.Bool.Decides.{nat_tests}
-use Rattle.tau_base.specs.declared.limits.TheConstants.{MAX_STREAMS}
+use Rattle.tau_base.specs.declared.format.Format.{Format}
+use Rattle.tau_base.specs.declared.format.Format.TheVariants.{One, Two}
+use Rattle.tau_base.specs.Modes.{most_streams}
 use Rattle.tau_block.specs.declared.fault.ImageFault.{ImageFault}
 use Rattle.tau_block.specs.declared.fault.ImageFault.TheVariants.{BadMagic, BadCount, BadIndex}
-use Rattle.tau_block.specs.Image.{magic, header_of, count_in, index_in, header_fault, extended, bodies, with_count, behind_header, image_of, bytes_of, content_of, block_of, tail_of, IsFront, IsLog, IsHeader}
+use Rattle.tau_block.specs.Image.{magic, header_of, format_in, count_in, index_in, header_fault, extended, bodies, with_count, behind_header, image_of, bytes_of, content_of, block_of, tail_of, IsFront, IsLog, IsHeader}
 use Rattle.tau_base.proofs.Lists.{split_at}
 
 pub extended_extended : (a b : List ℕ) (o : Option (List ℕ)) → extended a (extended b o) ≡ extended (a ++ b) o
@@ -77,49 +79,54 @@ no_block (a ∷ b ∷ c ∷ d ∷ rest) n long is (inr short) = elim (cases_eq n
 ]
 
 -- a block makes the front longer
-pub front_block : (n j : ℕ) (front content body : List ℕ) → IsFront n j front content → 1 ≤ length body → length body < 2 ^ 32 → IsFront n j (front ++ block_of body) (content ++ body)
-front_block n j front content body is some short = record {
+pub front_block : (f : Format) (n j : ℕ) (front content body : List ℕ) → IsFront f n j front content → 1 ≤ length body → length body < 2 ^ 32 → IsFront f n j (front ++ block_of body) (content ++ body)
+front_block f n j front content body is some short = record {
   long = omega (arith, is.long, length-append front (block_of body));
   closed = λ gate rest shut. reads (gate ∷ rest) ∙ ap (λ (o : Option (List ℕ)). extended (content ++ body) o) (bodies_shut gate rest shut) ∙ ap Some (append-nil (content ++ body));
   more = λ tail long. reads tail;
 }
   where
-    reads : (tail : List ℕ) → content_of n j ((front ++ block_of body) ++ tail) ≡ extended (content ++ body) (bodies 0 tail)
+    reads : (tail : List ℕ) → content_of f n j ((front ++ block_of body) ++ tail) ≡ extended (content ++ body) (bodies 0 tail)
     reads tail =
-        ap (content_of n j) (append_assoc front (block_of body) tail)
+        ap (content_of f n j) (append_assoc front (block_of body) tail)
         ∙ is.more (block_of body ++ tail) (omega arith)
         ∙ ap (λ (o : Option (List ℕ)). extended content o) (bodies_block body tail some short)
         ∙ extended_extended content body (bodies 0 tail)
 
 -- of a header alone
 
-pub short_content : (n j : ℕ) (image : List ℕ) → length image ≤ 17 → content_of n j image ≡ Some []
-short_content n j image short = ap (λ (b : Bool). bytes_of n (if b then Ok (record { count = None; bytes = [] }) else behind_header (take 16 image) (header_fault j (take 16 image)) (bodies 0 (drop 16 image)))) (le-leb (length image) 17 short)
+pub short_content : (f : Format) (n j : ℕ) (image : List ℕ) → length image ≤ 17 → content_of f n j image ≡ Some []
+short_content f n j image short = ap (λ (b : Bool). bytes_of f n (if b then Ok (record { format = None; count = None; bytes = [] }) else behind_header (take 16 image) (header_fault j (take 16 image)) (bodies 0 (drop 16 image)))) (le-leb (length image) 17 short)
 
-counted : (n count : ℕ) (blocks : Option (List ℕ)) → count ≡ n → bytes_of n (with_count count blocks) ≡ blocks
-counted n count None is = refl
-counted n count (Some bytes) is = grind (arith, nat_tests)
+own_counted : (f : Format) (n count : ℕ) (blocks : Option (List ℕ)) → count ≡ n → bytes_of f n (with_count f count blocks) ≡ blocks
+own_counted One n count None is = refl
+own_counted Two n count None is = refl
+own_counted One n count (Some bytes) is = grind (arith, nat_tests)
+own_counted Two n count (Some bytes) is = grind (arith, nat_tests)
+
+counted : (f g : Format) (n count : ℕ) (blocks : Option (List ℕ)) → g ≡ f → count ≡ n → bytes_of f n (with_count g count blocks) ≡ blocks
+counted f g n count blocks formats is = subst (λ (h : Format). bytes_of f n (with_count h count blocks) ≡ blocks) (sym formats) (own_counted f n count blocks is)
 
 pub long_image : (j : ℕ) (image : List ℕ) → 17 < length image → image_of j image ≡ behind_header (take 16 image) (header_fault j (take 16 image)) (bodies 0 (drop 16 image))
-long_image j image long = ap (λ (b : Bool). if b then Ok (record { count = None; bytes = [] }) else behind_header (take 16 image) (header_fault j (take 16 image)) (bodies 0 (drop 16 image))) (lt-leb (length image) 17 long)
+long_image j image long = ap (λ (b : Bool). if b then Ok (record { format = None; count = None; bytes = [] }) else behind_header (take 16 image) (header_fault j (take 16 image)) (bodies 0 (drop 16 image))) (lt-leb (length image) 17 long)
 
-pub headed : (j : ℕ) (image : List ℕ) → 17 < length image → header_fault j (take 16 image) ≡ None → image_of j image ≡ with_count (count_in (take 16 image)) (bodies 0 (drop 16 image))
+pub headed : (j : ℕ) (image : List ℕ) → 17 < length image → header_fault j (take 16 image) ≡ None → image_of j image ≡ with_count (format_in (take 16 image)) (count_in (take 16 image)) (bodies 0 (drop 16 image))
 headed j image long sound = long_image j image long ∙ ap (λ (f : Option ImageFault). behind_header (take 16 image) f (bodies 0 (drop 16 image))) sound
 
-long_content : (n j : ℕ) (image : List ℕ) → 17 < length image → IsHeader n j (take 16 image) → content_of n j image ≡ bodies 0 (drop 16 image)
-long_content n j image long header = ap (bytes_of n) (headed j image long header.sound) ∙ counted n (count_in (take 16 image)) (bodies 0 (drop 16 image)) header.counts
+long_content : (f : Format) (n j : ℕ) (image : List ℕ) → 17 < length image → IsHeader f n j (take 16 image) → content_of f n j image ≡ bodies 0 (drop 16 image)
+long_content f n j image long header = ap (bytes_of f n) (headed j image long header.sound) ∙ counted f (format_in (take 16 image)) n (count_in (take 16 image)) (bodies 0 (drop 16 image)) header.formats header.counts
 
-module _ (n j : ℕ) (head : List ℕ) (header : IsHeader n j head) where
-  behind_head : (tail : List ℕ) → 2 ≤ length tail → content_of n j (head ++ tail) ≡ bodies 0 tail
+module _ (f : Format) (n j : ℕ) (head : List ℕ) (header : IsHeader f n j head) where
+  behind_head : (tail : List ℕ) → 2 ≤ length tail → content_of f n j (head ++ tail) ≡ bodies 0 tail
   behind_head tail long =
-      long_content n j (head ++ tail) (omega (arith, header.size, length-append head tail)) (subst (IsHeader n j) (sym (take_at head tail 16 header.size)) header)
+      long_content f n j (head ++ tail) (omega (arith, header.size, length-append head tail)) (subst (IsHeader f n j) (sym (take_at head tail 16 header.size)) header)
       ∙ ap (λ (l : List ℕ). bodies 0 l) (drop_at head tail 16 header.size)
 
-  closed_head : (gate : ℕ) (rest : List ℕ) → gate ≢ 1 → content_of n j (head ++ gate ∷ rest) ≡ Some []
-  closed_head gate [] shut = short_content n j (head ++ gate ∷ []) (omega (arith, header.size, length-append head (gate ∷ [])))
+  closed_head : (gate : ℕ) (rest : List ℕ) → gate ≢ 1 → content_of f n j (head ++ gate ∷ rest) ≡ Some []
+  closed_head gate [] shut = short_content f n j (head ++ gate ∷ []) (omega (arith, header.size, length-append head (gate ∷ [])))
   closed_head gate (x ∷ rest) shut = behind_head (gate ∷ x ∷ rest) (omega arith) ∙ bodies_shut gate (x ∷ rest) shut
 
-  pub front_head : IsFront n j head []
+  pub front_head : IsFront f n j head []
   front_head = record {
     long = omega (arith, header.size);
     closed = closed_head;
@@ -130,70 +137,119 @@ zero_one : (n : ℕ) → n ≡ 0 → n ≡ 1 → ⊥
 zero_one n is_zero is_one = omega arith
 
 -- a front and a closed gate, with anything after it
-pub log_of_front : (n j : ℕ) (front content rest : List ℕ) → IsFront n j front content → IsLog n j (front ++ 0 ∷ rest) (length front) content
-log_of_front n j front content rest is = record {
+pub log_of_front : (f : Format) (n j : ℕ) (front content rest : List ℕ) → IsFront f n j front content → IsLog f n j (front ++ 0 ∷ rest) (length front) content
+log_of_front f n j front content rest is = record {
   within = omega (arith, length-append front (0 ∷ rest));
   shut = zero_one _ (get_or_at front 0 rest 0 (length front) refl);
-  front = subst (λ (l : List ℕ). IsFront n j l content) (sym (take_at front (0 ∷ rest) (length front) refl)) is;
+  front = subst (λ (l : List ℕ). IsFront f n j l content) (sym (take_at front (0 ∷ rest) (length front) refl)) is;
 }
 
 -- the causes in a header, in their order
 
-module _ (j : ℕ) (head : List ℕ) where
-  pub bad_magic : starts_with nat_eq head magic ≡ false → header_fault j head ≡ Some BadMagic
+module _ (j : ℕ) (head : List ℕ) (f : Format) (states : f ≡ format_in head) where
+  pub bad_magic : starts_with nat_eq head (magic f) ≡ false → header_fault j head ≡ Some BadMagic
   unfolding header_fault
-  bad_magic magical = grind (arith, nat_tests)
+  bad_magic magical =
+      let own : starts_with nat_eq head (magic (format_in head)) ≡ false = subst (λ (g : Format). starts_with nat_eq head (magic g) ≡ false) states magical in
+      grind (arith, nat_tests)
 
-  pub bad_count : starts_with nat_eq head magic ≡ true → (n : ℕ) → n ≡ count_in head → (n < 1) ⊎ (MAX_STREAMS < n) → header_fault j head ≡ Some BadCount
-  unfolding header_fault
-  bad_count magical n counts why = grind (arith, nat_tests)
+  module _ (magical : starts_with nat_eq head (magic f) ≡ true) (n : ℕ) (counts : n ≡ count_in head) where
+    own_magic : starts_with nat_eq head (magic (format_in head)) ≡ true
+    own_magic = subst (λ (g : Format). starts_with nat_eq head (magic g) ≡ true) states magical
 
-  module _ (magical : starts_with nat_eq head magic ≡ true) (n : ℕ) (counts : n ≡ count_in head) (some : 1 ≤ n) (most : n ≤ MAX_STREAMS) (i : ℕ) (indexes : i ≡ index_in head) where
-    pub bad_index : (i ≢ j) ⊎ (n ≤ i) → header_fault j head ≡ Some BadIndex
+    own_most : most_streams f ≡ most_streams (format_in head)
+    own_most = ap most_streams states
+
+    pub bad_count : (n < 1) ⊎ (most_streams f < n) → header_fault j head ≡ Some BadCount
     unfolding header_fault
-    bad_index why = grind (arith, nat_tests)
+    bad_count why = let own = own_magic in let most = own_most in grind (arith, nat_tests)
 
-    pub no_fault : i ≡ j → i < n → header_fault j head ≡ None
-    unfolding header_fault
-    no_fault own below = grind (arith, nat_tests)
+    module _ (some : 1 ≤ n) (fits : n ≤ most_streams f) (i : ℕ) (indexes : i ≡ index_in head) where
+      pub bad_index : (i ≢ j) ⊎ (n ≤ i) → header_fault j head ≡ Some BadIndex
+      unfolding header_fault
+      bad_index why = let own = own_magic in let most = own_most in grind (arith, nat_tests)
 
--- the header that is written is one
-pub header_of_is : (n j : ℕ) → 1 ≤ n → n ≤ MAX_STREAMS → j < n → IsHeader n j (header_of n j)
-unfolding count_in index_in
-header_of_is n j some most below =
-    let counts : count_in (header_of n j) ≡ n = from_be_bytes-to_be_bytes_2 n (omega arith) in
-    let indexes : index_in (header_of n j) ≡ j = from_be_bytes-to_be_bytes_2 j (omega arith) in
+      pub no_fault : i ≡ j → i < n → header_fault j head ≡ None
+      unfolding header_fault
+      no_fault own_index below = let own = own_magic in let most = own_most in grind (arith, nat_tests)
+
+-- a sound header counts no more streams than its format has room for
+pub sound_room : (j : ℕ) (head : List ℕ) → header_fault j head ≡ None → count_in head ≤ most_streams (format_in head)
+unfolding header_fault
+sound_room j head sound = grind (arith, nat_tests)
+
+most_of_all : (f : Format) → most_streams f ≤ 32
+most_of_all One = omega arith
+most_of_all Two = omega arith
+
+-- what the header that is written states
+
+header_long : (f : Format) (n j : ℕ) → length (header_of f n j) ≡ 16
+header_long f n j = refl
+
+header_counts : (f : Format) (n j : ℕ) → n < 2 ^ 16 → count_in (header_of f n j) ≡ n
+unfolding count_in
+header_counts f n j fits = from_be_bytes-to_be_bytes_2 n fits
+
+header_indexes : (f : Format) (n j : ℕ) → j < 2 ^ 16 → index_in (header_of f n j) ≡ j
+unfolding index_in
+header_indexes f n j fits = from_be_bytes-to_be_bytes_2 j fits
+
+header_formats : (f : Format) (n j : ℕ) → format_in (header_of f n j) ≡ f
+unfolding format_in
+header_formats One n j = refl
+header_formats Two n j = refl
+
+header_magical : (f : Format) (n j : ℕ) → starts_with nat_eq (header_of f n j) (magic f) ≡ true
+header_magical One n j = refl
+header_magical Two n j = refl
+
+pub head_format : (f : Format) (n j : ℕ) (rest : List ℕ) → format_in (header_of f n j ++ rest) ≡ f
+unfolding format_in
+head_format One n j rest = refl
+head_format Two n j rest = refl
+
+-- and is one
+pub header_of_is : (f : Format) (n j : ℕ) → 1 ≤ n → n ≤ most_streams f → j < n → IsHeader f n j (header_of f n j)
+header_of_is f n j some most below =
+    let few = most_of_all f in
+    let counts : count_in (header_of f n j) ≡ n = header_counts f n j (omega (arith, few, most)) in
+    let indexes : index_in (header_of f n j) ≡ j = header_indexes f n j (omega (arith, few, most, below)) in
+    let formats : format_in (header_of f n j) ≡ f = header_formats f n j in
     record {
-      size = refl;
-      sound = no_fault j (header_of n j) refl n (sym counts) some most j (sym indexes) refl below;
+      size = header_long f n j;
+      sound = no_fault j (header_of f n j) f (sym formats) (header_magical f n j) n (sym counts) some most j (sym indexes) refl below;
+      formats = formats;
       counts = counts;
     }
 
 -- a header and what is after it name the stream
-pub head_names : (n j : ℕ) (rest : List ℕ) → n < 2 ^ 16 → j < 2 ^ 16 → (count_in (header_of n j ++ rest) ≡ n) × (index_in (header_of n j ++ rest) ≡ j)
+pub head_names : (f : Format) (n j : ℕ) (rest : List ℕ) → n < 2 ^ 16 → j < 2 ^ 16 → (count_in (header_of f n j ++ rest) ≡ n) × (index_in (header_of f n j ++ rest) ≡ j)
 unfolding count_in index_in
-head_names n j rest count index = (from_be_bytes-to_be_bytes_2 n count, from_be_bytes-to_be_bytes_2 j index)
+head_names f n j rest count index = (from_be_bytes-to_be_bytes_2 n count, from_be_bytes-to_be_bytes_2 j index)
 
-pub log_of_header : (n j : ℕ) → 1 ≤ n → n ≤ MAX_STREAMS → j < n → IsLog n j (header_of n j ++ 0 ∷ []) 16 []
-log_of_header n j some most below = log_of_front n j (header_of n j) [] [] (front_head n j (header_of n j) (header_of_is n j some most below))
+pub log_of_header : (f : Format) (n j : ℕ) → 1 ≤ n → n ≤ most_streams f → j < n → IsLog f n j (header_of f n j ++ 0 ∷ []) 16 []
+log_of_header f n j some most below =
+    subst (λ (at : ℕ). IsLog f n j (header_of f n j ++ 0 ∷ []) at []) (header_long f n j)
+    (log_of_front f n j (header_of f n j) [] [] (front_head f n j (header_of f n j) (header_of_is f n j some most below)))
 
 -- an image that ends with its closed gate
 
-module _ (n j : ℕ) (image : List ℕ) (gate_at : ℕ) (content : List ℕ) (is : IsLog n j image gate_at content) where
+module _ (f : Format) (n j : ℕ) (image : List ℕ) (gate_at : ℕ) (content : List ℕ) (is : IsLog f n j image gate_at content) where
   -- goes on with anything
-  pub log_longer : (more : List ℕ) → IsLog n j (image ++ more) gate_at content
+  pub log_longer : (more : List ℕ) → IsLog f n j (image ++ more) gate_at content
   log_longer more = record {
     within = omega (arith, is.within, length-append image more);
     shut = λ opens. is.shut (sym (get_or_append_left image more 0 gate_at is.within) ∙ opens);
-    front = subst (λ (l : List ℕ). IsFront n j l content) (sym (take-append-le gate_at image more (omega (arith, is.within)))) is.front;
+    front = subst (λ (l : List ℕ). IsFront f n j l content) (sym (take-append-le gate_at image more (omega (arith, is.within)))) is.front;
   }
 
-  pub log_read : content_of n j image ≡ Some content
-  log_read = ap (content_of n j) (split_at image gate_at is.within) ∙ is.front.closed (get_or image gate_at 0) (drop (gate_at + 1) image) is.shut
+  pub log_read : content_of f n j image ≡ Some content
+  log_read = ap (content_of f n j) (split_at image gate_at is.within) ∙ is.front.closed (get_or image gate_at 0) (drop (gate_at + 1) image) is.shut
 
   -- and with a block whose gate is opened has one content more
   pub log_opened : (body : List ℕ) → 1 ≤ length body → length body < 2 ^ 32 → gate_at + 1 ≡ length image →
-      IsLog n j (slice_set (image ++ tail_of body) gate_at 1) (gate_at + length (tail_of body)) (content ++ body)
+      IsLog f n j (slice_set (image ++ tail_of body) gate_at 1) (gate_at + length (tail_of body)) (content ++ body)
   log_opened body some short ends =
       let size : length (take gate_at image) ≡ gate_at = length-take-le gate_at image (omega (arith, is.within)) in
       let whole : image ++ tail_of body ≡ take gate_at image ++ get_or image gate_at 0 ∷ tail_of body =
@@ -206,6 +262,6 @@ module _ (n j : ℕ) (image : List ℕ) (gate_at : ℕ) (content : List ℕ) (is
       ∙ sym (append_assoc (take gate_at image) (block_of body) (0 ∷ [])) in
       let grown : length (take gate_at image ++ block_of body) ≡ gate_at + length (tail_of body) =
       omega (arith, size, length-append (take gate_at image) (block_of body), length-append body (0 ∷ [])) in
-      let log = log_of_front n j (take gate_at image ++ block_of body) (content ++ body) [] (front_block n j (take gate_at image) content body is.front some short) in
-      subst (λ (g : ℕ). IsLog n j (slice_set (image ++ tail_of body) gate_at 1) g (content ++ body)) grown
-      (subst (λ (l : List ℕ). IsLog n j l (length (take gate_at image ++ block_of body)) (content ++ body)) (sym opens) log)
+      let log = log_of_front f n j (take gate_at image ++ block_of body) (content ++ body) [] (front_block f n j (take gate_at image) content body is.front some short) in
+      subst (λ (g : ℕ). IsLog f n j (slice_set (image ++ tail_of body) gate_at 1) g (content ++ body)) grown
+      (subst (λ (l : List ℕ). IsLog f n j l (length (take gate_at image ++ block_of body)) (content ++ body)) (sym opens) log)

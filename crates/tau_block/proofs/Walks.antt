@@ -2,7 +2,8 @@
 use Rattle.std.proofs.Common.{◌≡◌, ◌≢◌, ℕ, ◌+◌, ◌<◌, List, [], ◌∷◌, ◌++◌, length, get_or, take, drop, refl, sym, ◌∙◌, ap, subst, arith, append_assoc, length-append, take-append-drop, Option, Some, None, Ok}
 use Rattle.std.specs.Int.{w32, to_be_bytes}
 use Rattle.std.proofs.lemmas.List.{take_at, drop_more, drop-drop, length-take-le, append-nil}
-use Rattle.tau_block.specs.Image.{extended, bodies, block_of, IsFront, IsLog, IsHeader, IsBlockAt, IsWalked, header_fault, count_in, image_of, with_count}
+use Rattle.tau_base.specs.declared.format.Format.{Format}
+use Rattle.tau_block.specs.Image.{extended, bodies, block_of, IsFront, IsLog, IsHeader, IsBlockAt, IsWalked, header_fault, format_in, count_in, image_of, with_count}
 use Rattle.tau_block.proofs.Blocks.{extended_extended, extended_nil, bodies_block, bodies_shut, front_block, front_head, headed}
 
 -- at the first gate
@@ -10,7 +11,7 @@ pub walked_none : (image : List ℕ) → 16 < length image → IsWalked image 16
 walked_none image long = record {
   within = long;
   reads = sym (extended_nil (bodies 0 (drop 16 image)));
-  front = λ n j header. front_head n j (take 16 image) header;
+  front = λ f n j header. front_head f n j (take 16 image) header;
 }
 
 module _ (image : List ℕ) (gate_at : ℕ) (content : List ℕ) (is : IsWalked image gate_at content) where
@@ -24,8 +25,8 @@ module _ (image : List ℕ) (gate_at : ℕ) (content : List ℕ) (is : IsWalked 
       ∙ ap (λ (o : Option (List ℕ)). extended content o) (ap (λ (l : List ℕ). bodies 0 l) (gate (get_or image gate_at 0) refl) ∙ bodies_shut (get_or image gate_at 0) (drop (gate_at + 1) image) shut)
       ∙ ap Some (append-nil content)
 
-  pub walked_log : (n j : ℕ) → IsHeader n j (take 16 image) → get_or image gate_at 0 ≢ 1 → IsLog n j image gate_at content
-  walked_log n j header shut = record { within = is.within; shut = shut; front = is.front n j header }
+  pub walked_log : (f : Format) (n j : ℕ) → IsHeader f n j (take 16 image) → get_or image gate_at 0 ≢ 1 → IsLog f n j image gate_at content
+  walked_log f n j header shut = record { within = is.within; shut = shut; front = is.front f n j header }
 
   module _ (opens : get_or image gate_at 0 ≡ 1) where
     -- at an open gate without a block
@@ -56,23 +57,25 @@ module _ (image : List ℕ) (gate_at : ℕ) (content : List ℕ) (is : IsWalked 
         reads = is.reads
             ∙ ap (λ (o : Option (List ℕ)). extended content o) (ap (λ (l : List ℕ). bodies 0 l) behind ∙ bodies_block body (drop next image) block.some block.short)
             ∙ extended_extended content body (bodies 0 (drop next image));
-        front = λ n j header. subst (λ (l : List ℕ). IsFront n j l (content ++ body)) (sym front) (front_block n j (take gate_at image) content body (is.front n j header) block.some block.short);
+        front = λ f n j header. subst (λ (l : List ℕ). IsFront f n j l (content ++ body)) (sym front) (front_block f n j (take gate_at image) content body (is.front f n j header) block.some block.short);
       }
 
-module _ (j count : ℕ) (image head content : List ℕ) (gate_at : ℕ) (head_is : head ≡ take 16 image) (sound : header_fault j head ≡ None) (counts : count ≡ count_in head) (is : IsWalked image gate_at content) (shut : get_or image gate_at 0 ≢ 1) where
+module _ (j : ℕ) (format : Format) (count : ℕ) (image head content : List ℕ) (gate_at : ℕ) (head_is : head ≡ take 16 image) (sound : header_fault j head ≡ None) (states : format ≡ format_in head) (counts : count ≡ count_in head) (is : IsWalked image gate_at content) (shut : get_or image gate_at 0 ≢ 1) where
   -- all of an image is read
-  pub opened_log : 17 < length image → IsLog count j image gate_at content
-  opened_log long = walked_log image gate_at content is count j header shut
+  pub opened_log : 17 < length image → IsLog format count j image gate_at content
+  opened_log long = walked_log image gate_at content is format count j header shut
     where
-      header : IsHeader count j (take 16 image)
+      header : IsHeader format count j (take 16 image)
       header = record {
         size = length-take-le 16 image (omega arith);
         sound = subst (λ (l : List ℕ). header_fault j l ≡ None) head_is sound;
+        formats = sym (states ∙ ap format_in head_is);
         counts = sym (counts ∙ ap count_in head_is);
       }
 
-  pub opened_image : 17 < length image → image_of j image ≡ Ok (record { count = Some count; bytes = content })
+  pub opened_image : 17 < length image → image_of j image ≡ Ok (record { format = Some format; count = Some count; bytes = content })
   opened_image long =
       headed j image long (subst (λ (l : List ℕ). header_fault j l ≡ None) head_is sound)
-      ∙ ap (λ (n : ℕ). with_count n (bodies 0 (drop 16 image))) (sym (counts ∙ ap count_in head_is))
-      ∙ ap (λ (o : Option (List ℕ)). with_count count o) (walked_shut image gate_at content is shut)
+      ∙ ap (λ (f : Format). with_count f (count_in (take 16 image)) (bodies 0 (drop 16 image))) (sym (states ∙ ap format_in head_is))
+      ∙ ap (λ (n : ℕ). with_count format n (bodies 0 (drop 16 image))) (sym (counts ∙ ap count_in head_is))
+      ∙ ap (λ (o : Option (List ℕ)). with_count format count o) (walked_shut image gate_at content is shut)

@@ -2,22 +2,36 @@
 use Rattle.std.specs.Prelude.{◌≡◌, ◌≢◌, ℕ, zero, suc, ◌+◌, ◌<◌, ◌≤◌, ◌^◌, Bool, true, ◌&&◌, List, [], ◌∷◌, ◌++◌, length, take, drop, slice_index, nat_eq, nat_le, nat_lt, Option, Some, None, Result, Ok, Err, if◌then◌else◌, ◌==◌}
 use Rattle.std.specs.List.{starts_with}
 use Rattle.std.specs.Int.{w16, w32, to_be_bytes, from_be_bytes}
-use Rattle.tau_base.specs.declared.limits.TheConstants.{MAX_BODY, MAX_STREAMS}
+use Rattle.tau_base.specs.declared.format.Format.{Format}
+use Rattle.tau_base.specs.declared.format.Format.TheVariants.{One, Two}
+use Rattle.tau_base.specs.declared.limits.TheConstants.{MAX_BODY}
+use Rattle.tau_base.specs.Modes.{most_streams, same_format}
 use Rattle.tau_block.specs.declared.fault.ImageFault.{ImageFault}
 use Rattle.tau_block.specs.declared.fault.ImageFault.TheVariants.{BadMagic, BadCount, BadIndex, OpenGateWithoutBlock}
 
--- what an image holds: how many streams its log has, where it has a header, and the bodies of its blocks one after another
+-- what an image holds: the format of its log and how many streams it has, where it has a header, and the bodies of its
+-- blocks one after another
 pub record Reading : Type 0 where
+  pub format : Option Format
   pub count : Option ℕ
   pub bytes : List ℕ
 
--- the text `TAURUS-LOG-1`
-abbrev pub magic : List ℕ
-magic = 84 ∷ 65 ∷ 85 ∷ 82 ∷ 85 ∷ 83 ∷ 45 ∷ 76 ∷ 79 ∷ 71 ∷ 45 ∷ 49 ∷ []
+-- the digit that stands for a format
+abbrev pub format_digit : Format → ℕ
+format_digit One = 49
+format_digit Two = 50
 
--- the header of stream j of n, before its first gate
-abbrev pub header_of : ℕ → ℕ → List ℕ
-header_of n j = magic ++ (to_be_bytes w16 n ++ to_be_bytes w16 j)
+-- the text `TAURUS-LOG-1`, or `TAURUS-LOG-2`
+abbrev pub magic : Format → List ℕ
+magic f = 84 ∷ 65 ∷ 85 ∷ 82 ∷ 85 ∷ 83 ∷ 45 ∷ 76 ∷ 79 ∷ 71 ∷ 45 ∷ format_digit f ∷ []
+
+-- the header of stream j of n in a format, before its first gate
+abbrev pub header_of : Format → ℕ → ℕ → List ℕ
+header_of f n j = magic f ++ (to_be_bytes w16 n ++ to_be_bytes w16 j)
+
+-- the format that a header states: that of the digit at the end of its text
+unfoldable pub format_in : List ℕ → Format
+format_in head = if slice_index head 11 == format_digit Two then Two else One
 
 -- the number of streams that a header states, and the index of its own stream
 unfoldable pub count_in : List ℕ → ℕ
@@ -26,11 +40,15 @@ count_in head = from_be_bytes w16 (slice_index head 12 ∷ slice_index head 13 �
 unfoldable pub index_in : List ℕ → ℕ
 index_in head = from_be_bytes w16 (slice_index head 14 ∷ slice_index head 15 ∷ [])
 
+-- the format that the header of an image states, where it has one
+abbrev pub stated_in : List ℕ → Option Format
+stated_in image = if nat_le (length image) 17 then None else Some (format_in (take 16 image))
+
 -- the first cause why these 16 bytes are no header of stream j
 unfoldable pub header_fault : ℕ → List ℕ → Option ImageFault
 header_fault j head =
-    if starts_with nat_eq head magic then
-    (if nat_le 1 (count_in head) && nat_le (count_in head) MAX_STREAMS then
+    if starts_with nat_eq head (magic (format_in head)) then
+    (if nat_le 1 (count_in head) && nat_le (count_in head) (most_streams (format_in head)) then
     (if nat_eq (index_in head) j && nat_lt (index_in head) (count_in head) then None else Some BadIndex)
     else Some BadCount)
     else Some BadMagic
@@ -53,37 +71,48 @@ bodies (suc k) [] = None
 bodies (suc k) (x ∷ rest) = extended (x ∷ []) (bodies k rest)
 
 -- what stands after a header, or a cause
-abbrev pub with_count : ℕ → Option (List ℕ) → Result Reading ImageFault
-with_count n (Some bytes) = Ok (record { count = Some n; bytes = bytes })
-with_count n None = Err OpenGateWithoutBlock
+abbrev pub with_count : Format → ℕ → Option (List ℕ) → Result Reading ImageFault
+with_count f n (Some bytes) = Ok (record { format = Some f; count = Some n; bytes = bytes })
+with_count f n None = Err OpenGateWithoutBlock
 
 abbrev pub behind_header : List ℕ → Option ImageFault → Option (List ℕ) → Result Reading ImageFault
 behind_header head (Some fault) blocks = Err fault
-behind_header head None blocks = with_count (count_in head) blocks
+behind_header head None blocks = with_count (format_in head) (count_in head) blocks
 
 -- What an image of stream j holds, or the first cause why it holds nothing. One of at most 17 bytes is unborn,
 -- whatever it holds.
 abbrev pub image_of : ℕ → List ℕ → Result Reading ImageFault
 image_of j image =
-    if nat_le (length image) 17 then Ok (record { count = None; bytes = [] })
+    if nat_le (length image) 17 then Ok (record { format = None; count = None; bytes = [] })
     else behind_header (take 16 image) (header_fault j (take 16 image)) (bodies 0 (drop 16 image))
+
+-- no header states another format
+abbrev pub is_in : Format → Option Format → Bool
+is_in f (Some format) = same_format f format
+is_in f None = true
 
 -- no header states another number of streams
 abbrev pub is_of : ℕ → Option ℕ → Bool
 is_of n (Some count) = count == n
 is_of n None = true
 
-abbrev pub bytes_of : ℕ → Result Reading ImageFault → Option (List ℕ)
-bytes_of n (Ok reading) = if is_of n reading.count then Some reading.bytes else None
-bytes_of n (Err fault) = None
+abbrev pub bytes_of : Format → ℕ → Result Reading ImageFault → Option (List ℕ)
+bytes_of f n (Ok reading) = if is_in f reading.format && is_of n reading.count then Some reading.bytes else None
+bytes_of f n (Err fault) = None
 
--- the content of an image of stream j of n
-abbrev pub content_of : ℕ → ℕ → List ℕ → Option (List ℕ)
-content_of n j image = bytes_of n (image_of j image)
+-- the content of an image of stream j of n in a format
+abbrev pub content_of : Format → ℕ → ℕ → List ℕ → Option (List ℕ)
+content_of f n j image = bytes_of f n (image_of j image)
 
 -- the image has this content
-abbrev pub HasContent : ℕ → ℕ → List ℕ → List ℕ → Type 0
-HasContent n j content image = content_of n j image ≡ Some content
+abbrev pub HasContent : Format → ℕ → ℕ → List ℕ → List ℕ → Type 0
+HasContent f n j content image = content_of f n j image ≡ Some content
+
+-- what is said of a format and a number of streams is said of those that a header states, where there is one
+abbrev pub IfBorn : Option Format → Option ℕ → (Format → ℕ → Type 0) → Type 0
+IfBorn (Some f) (Some n) P = P f n
+IfBorn (Some f) None P = Unit {0}
+IfBorn None count P = Unit {0}
 
 -- a block with its open gate, and what of it stands after the gate, with the next gate closed
 abbrev pub block_of : List ℕ → List ℕ
@@ -99,21 +128,22 @@ pub record IsBody (body : List ℕ) : Type 0 where
 
 -- These bytes are a header and whole blocks of this content: whatever stands after them, the image reads as the
 -- content and then the rest.
-pub record IsFront (n j : ℕ) (front content : List ℕ) : Type 0 where
+pub record IsFront (f : Format) (n j : ℕ) (front content : List ℕ) : Type 0 where
   pub long : 16 ≤ length front
-  pub closed : (gate : ℕ) (rest : List ℕ) → gate ≢ 1 → content_of n j (front ++ gate ∷ rest) ≡ Some content
-  pub more : (tail : List ℕ) → 2 ≤ length tail → content_of n j (front ++ tail) ≡ extended content (bodies 0 tail)
+  pub closed : (gate : ℕ) (rest : List ℕ) → gate ≢ 1 → content_of f n j (front ++ gate ∷ rest) ≡ Some content
+  pub more : (tail : List ℕ) → 2 ≤ length tail → content_of f n j (front ++ tail) ≡ extended content (bodies 0 tail)
 
 -- the image has a header and whole blocks of this content, and after them a closed gate at this place
-pub record IsLog (n j : ℕ) (image : List ℕ) (gate_at : ℕ) (content : List ℕ) : Type 0 where
+pub record IsLog (f : Format) (n j : ℕ) (image : List ℕ) (gate_at : ℕ) (content : List ℕ) : Type 0 where
   pub within : gate_at < length image
   pub shut : slice_index image gate_at ≢ 1
-  pub front : IsFront n j (take gate_at image) content
+  pub front : IsFront f n j (take gate_at image) content
 
--- these are 16 bytes before the first gate of stream j of n
-pub record IsHeader (n j : ℕ) (head : List ℕ) : Type 0 where
+-- these are 16 bytes before the first gate of stream j of n in a format
+pub record IsHeader (f : Format) (n j : ℕ) (head : List ℕ) : Type 0 where
   pub size : length head ≡ 16
   pub sound : header_fault j head ≡ None
+  pub formats : format_in head ≡ f
   pub counts : count_in head ≡ n
 
 -- the length of this body and the body stand at this place, and a byte after them
@@ -127,4 +157,4 @@ pub record IsBlockAt (image : List ℕ) (at : ℕ) (body : List ℕ) : Type 0 wh
 pub record IsWalked (image : List ℕ) (gate_at : ℕ) (content : List ℕ) : Type 0 where
   pub within : gate_at < length image
   pub reads : bodies 0 (drop 16 image) ≡ extended content (bodies 0 (drop gate_at image))
-  pub front : (n j : ℕ) → IsHeader n j (take 16 image) → IsFront n j (take gate_at image) content
+  pub front : (f : Format) (n j : ℕ) → IsHeader f n j (take 16 image) → IsFront f n j (take gate_at image) content

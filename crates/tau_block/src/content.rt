@@ -1,10 +1,12 @@
 // The content of an image.
 ghost use Rattle.std.specs.Prelude.{◌≡◌, ◌≢◌, ◌↔◌, ◌+◌, ◌<◌, ◌≤◌, ◌++◌, List, ℕ, length, take, drop, slice_index, Option, Some, None, IfOk, IfErr, IfSome, IsNone, ◌∷◌, []};
-ghost use Rattle.tau_block.specs.Image.{image_of, header_fault, count_in, bodies, IsBlockAt, IsWalked, IsLog};
+ghost use Rattle.tau_base.specs.Modes.{most_streams};
+ghost use Rattle.tau_block.specs.Image.{image_of, header_fault, format_in, stated_in, count_in, bodies, IfBorn, IsBlockAt, IsWalked, IsLog};
 
+use crate::magic::magic_of;
 use crate::{ImageFault, ImageRefusal};
 use std::alloc::Global;
-use tau_base::{Listed, MAX_STREAMS};
+use tau_base::{Format, Listed, most_streams};
 
 // The bytes before the first gate.
 const HEADER: usize = 16;
@@ -12,6 +14,8 @@ const HEADER: usize = 16;
 /// What an image holds.
 #[derive(Debug, Drop)]
 pub struct Content {
+    /// The format that the header states; none exactly for an unborn stream.
+    pub format: Option<Format>,
     /// The number of streams that the header states; none exactly for an unborn stream.
     pub count: Option<u16>,
     /// The bodies of the blocks, one after another.
@@ -22,8 +26,10 @@ pub struct Content {
 
 /// The content of an image of stream `j`. Bad comes exactly where the image has none, with the first cause.
 pub fn contents_of(alloc: Global, image: &[u8], j: u16) -> Result<Content, ImageRefusal>
-    ensures ok { IfOk result (λ c. image_of j image.now ≡ Ok (record { count = c.count; bytes = c.bytes })) }
-    ensures gate { IfOk result (λ c. IfSome c.count (λ n. IsLog n j image.now c.gate_at c.bytes)) }
+    ensures ok { IfOk result (λ c. image_of j image.now ≡ Ok (record { format = c.format; count = c.count; bytes = c.bytes })) }
+    ensures gate { IfOk result (λ c. IfBorn c.format c.count (λ f n. IsLog f n j image.now c.gate_at c.bytes)) }
+    ensures fits { IfOk result (λ c. IfBorn c.format c.count (λ f n. (1 ≤ n) × (n ≤ most_streams f))) }
+    ensures stated { IfOk result (λ c. (IsNone c.format → IsNone c.count) × (IsNone c.count → IsNone c.format)) }
     ensures unborn { IfOk result (λ c. IsNone c.count → c.gate_at ≡ 16) }
     ensures short { IfOk result (λ c. IsNone c.count → (c.bytes ≡ []) × (length image.now ≤ 17)) }
     ensures before { IfOk result (λ c. length c.bytes ≤ c.gate_at) }
@@ -31,18 +37,32 @@ pub fn contents_of(alloc: Global, image: &[u8], j: u16) -> Result<Content, Image
 {
     if image.len() <= HEADER + 1 {
         return Ok(Content {
+            format: None,
             count: None,
             bytes: Listed::new(alloc),
             gate_at: HEADER as u64,
         });
     }
-    let count = count_of_header(&image[..HEADER], j)?;
+    let head = &image[..HEADER];
+    let format = format_of_header(head);
+    let count = count_of_header(head, format, j)?;
     let (bytes, gate_at) = blocks_of(alloc, image)?;
     Ok(Content {
+        format: Some(format),
         count: Some(count),
         bytes: Listed::of(bytes),
         gate_at: gate_at as u64,
     })
+}
+
+/// The format that the header of an image states; none exactly for an unborn stream. Whether the header is sound is not looked at.
+pub fn stated_format(image: &[u8]) -> Option<Format>
+    ensures { result ≡ stated_in image.now }
+{
+    if image.len() < HEADER + 2 {
+        return None;
+    }
+    Some(format_of_header(&image[..HEADER]))
 }
 
 // The bodies of the blocks after the header, and the place of the closed gate after them.
@@ -64,17 +84,33 @@ fn blocks_of(alloc: Global, image: &[u8]) -> Result<(Vec<u8>, usize), ImageRefus
     Ok((bytes, gate_at))
 }
 
-// The number of streams that a header of stream `j` states.
-fn count_of_header(head: &[u8], j: u16) -> Result<u16, ImageFault>
+// The format that a header states.
+#[tactic(auto, unfolding(crate::specs::Image::format_in))]
+fn format_of_header(head: &[u8]) -> Format
     requires { length head.now ≡ 16 }
+    ensures { result ≡ format_in head.now }
+{
+    if head[11] == b'2' {
+        Format::Two
+    } else {
+        Format::One
+    }
+}
+
+// The number of streams that a header of stream `j` in this format states.
+fn count_of_header(head: &[u8], format: Format, j: u16) -> Result<u16, ImageFault>
+    requires size { length head.now ≡ 16 }
+    requires states { format ≡ format_in head.now }
     ensures ok { IfOk result (λ count. (header_fault j head.now ≡ None) × (count ≡ count_in head.now)) }
+    ensures fits { IfOk result (λ count. (1 ≤ count) × (count ≤ most_streams format)) }
     ensures bad { IfErr result (λ f. header_fault j head.now ≡ Some f) }
 {
-    if !head.starts_with(b"TAURUS-LOG-1") {
+    if !head.starts_with(&magic_of(format)) {
         return Err(ImageFault::BadMagic);
     }
     let count = u16::from_be_bytes([head[12], head[13]]);
-    if count < 1 || count as usize > MAX_STREAMS {
+    let most = most_streams(format);
+    if count < 1 || count as usize > most {
         return Err(ImageFault::BadCount);
     }
     let index = u16::from_be_bytes([head[14], head[15]]);

@@ -11,7 +11,7 @@ pub enum ImageFault {
     /// The first 12 bytes are not those of a log.
     #[error("bad magic")]
     BadMagic = 1,
-    /// The number of streams is 0 or above 16.
+    /// The number of streams is 0, or above what the format has room for.
     #[error("bad count")]
     BadCount,
     /// The index is not that of the stream, or not below the number of streams.

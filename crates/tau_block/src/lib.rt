@@ -3,8 +3,9 @@
 
 mod content;
 mod fault;
+mod magic;
 mod write;
 
-pub use content::{Content, contents_of};
+pub use content::{Content, contents_of, stated_format};
 pub use fault::{ImageFault, ImageRefusal};
-pub use write::{append_tail, header, open_gate};
+pub use write::{append_tail, header, header_wide, open_gate};

@@ -14,7 +14,7 @@ use Rattle.tau_machine.specs.Invariant.{Invariant}
 use Rattle.tau_outbox.specs.declared.Piece.{Piece}
 use Rattle.tau_machine.proofs.At.{at_same, at_other}
 use Rattle.tau_machine.proofs.Pieces.{chain_member}
-use Rattle.tau_record.specs.Format.{One}
+use Rattle.tau_base.specs.Modes.{format_of}
 use Rattle.tau_record.specs.Record.{Spells}
 use Rattle.tau_record.specs.declared.entry.Entry.TheVariants as entry
 use Rattle.tau_outbox.specs.Pieces.{PlainOutbox, end_of}
@@ -40,7 +40,7 @@ module _ (p : Plain) (K : List (Act Txn)) (h : Hidden) (g : Stands p K h) (j : �
 
   module _ (going : stop_in (slice_get p.streams j) ≡ None) (stream : PlainStream) (own : PlainOutbox) (bytes : List ℕ) (is : slice_get p.streams j ≡ Some stream)
       (pieces : own.pieces ≡ stream.own.pieces ++ record { start = slice_index p.ends j; bytes = bytes } ∷ [])
-      (spelled : (vectors : List (List ℕ)) → Spells One (length p.plv) vectors false (entry.Anchor p.plv) bytes)
+      (spelled : (vectors : List (List ℕ)) → Spells (format_of p.load.mode) (length p.plv) vectors false (entry.Anchor p.plv) bytes)
       (room : slice_index p.load.opening.anchors.items j + length stream.anchors < 2 ^ 32 - 1) where
     abbrev start : ℕ
     start = slice_index p.ends j
@@ -104,7 +104,7 @@ module _ (p : Plain) (K : List (Act Txn)) (h : Hidden) (g : Stands p K h) (j : �
     new_piece = record {
       start = refl;
       past = refl;
-      bytes = λ vectors. subst (λ (n : ℕ). Spells One n vectors false (entry.Anchor p.plv) bytes) g.sound.plv (spelled vectors);
+      bytes = λ vectors. subst (λ (n : ℕ). Spells (format_of p.load.mode) n vectors false (entry.Anchor p.plv) bytes) g.sound.plv (spelled vectors);
     }
 
     pub anchor_stands : Stands anchored K anchor_hidden

@@ -6,7 +6,7 @@ use Rattle.tau_base.specs.declared.value.LogMode.{LogMode}
 use Rattle.tau_proc.specs.Effect.{Effect}
 use Rattle.tau_proc.specs.declared.proc.Proc.{Proc}
 use Rattle.tau_model.specs.History.{Act}
-use Rattle.tau_record.specs.Format.{One}
+use Rattle.tau_base.specs.Modes.{format_of}
 use Rattle.tau_record.specs.Record.{base_of, Spells}
 use Rattle.tau_txn.specs.Txn.{PlainTxn, RunsBy, hand_in, bytes_in, anchor_in}
 use Rattle.tau_txn.specs.Record.{entry_of}
@@ -34,7 +34,7 @@ pub record IsMade (p : Plain) (w start number : ℕ) (base : List ℕ) (h : Hand
   pub hand_is : hand_in p.load.procs t ≡ Some (raised h base)
   pub runs : RunsBy p.load.procs t
   pub act_is : act_at p.load.procs t start (raised h base) ≡ act_of p w start number base h effect (bytes_in t)
-  pub spelled : (vectors : List (List ℕ)) → base_of vectors number ≡ base → Spells One p.load.streams vectors false (entry_of p.load.mode (act_of p w start number base h effect (bytes_in t))) (bytes_in t)
+  pub spelled : (vectors : List (List ℕ)) → base_of vectors number ≡ base → Spells (format_of p.load.mode) p.load.streams vectors false (entry_of p.load.mode (act_of p w start number base h effect (bytes_in t))) (bytes_in t)
   pub small : length (bytes_in t) < 2 ^ 32
 
 pub is_made : (p : Plain) (w start number : ℕ) (base : List ℕ) (s : PlainSeat) (t : PlainTxn) (size : ℕ) (m : Commits p.load.procs s.txn size) →
@@ -43,7 +43,7 @@ pub is_made : (p : Plain) (w start number : ℕ) (base : List ℕ) (s : PlainSea
     ((procs : List Proc) (hand : Hand) → hand_in procs s.txn ≡ Some hand → hand_in procs t ≡ Some (raised hand base)) →
     ((procs : List Proc) → RunsBy procs s.txn → RunsBy procs t) →
     ((procs : List Proc) (hand : Hand) (from : ℕ) (vectors : List (List ℕ)) → RunsBy procs s.txn → hand_in procs t ≡ Some hand → base_of vectors number ≡ base →
-    Spells One s.txn.width vectors false (entry_of s.txn.mode (act_at procs t from hand)) (bytes_in t)) →
+    Spells (format_of s.txn.mode) s.txn.width vectors false (entry_of s.txn.mode (act_at procs t from hand)) (bytes_in t)) →
     IsMade p w start number base m.hand m.effect t
 is_made p w start number base s t size m sound is wide same anchor raises runs bytes =
     let o = sound.seat w s is in
@@ -56,10 +56,10 @@ is_made p w start number base s t size m sound is wide same anchor raises runs b
       call = record { call = m.hand.call; worker = worker_is i; place = record { stream = worker_is i % width_is i; start = start; past = start + length (bytes_in t); dep = join m.hand.dep base }; anchor = anchor i };
       effect = effect_in (m.ended i);
     }) in
-    let spelled : (vectors : List (List ℕ)) → base_of vectors number ≡ base → Spells One p.load.streams vectors false (entry_of p.load.mode act) (bytes_in t) =
+    let spelled : (vectors : List (List ℕ)) → base_of vectors number ≡ base → Spells (format_of p.load.mode) p.load.streams vectors false (entry_of p.load.mode act) (bytes_in t) =
     (λ (vectors : List (List ℕ)) (e : base_of vectors number ≡ base).
-    subst (λ (x : LogMode × ℕ). Spells One x.1 vectors false (entry_of x.0 act) (bytes_in t)) (λ i. (o.txn.mode i, o.txn.width i))
-    (subst (λ (a : Act Txn). Spells One s.txn.width vectors false (entry_of s.txn.mode a) (bytes_in t)) act_is (bytes procs (raised m.hand base) start vectors o.txn.runs hand_is e))) in
+    subst (λ (x : LogMode × ℕ). Spells (format_of x.0) x.1 vectors false (entry_of x.0 act) (bytes_in t)) (λ i. (o.txn.mode i, o.txn.width i))
+    (subst (λ (a : Act Txn). Spells (format_of s.txn.mode) s.txn.width vectors false (entry_of s.txn.mode a) (bytes_in t)) act_is (bytes procs (raised m.hand base) start vectors o.txn.runs hand_is e))) in
     record {
       hand_is = hand_is;
       runs = runs procs o.txn.runs;

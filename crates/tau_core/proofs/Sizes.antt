@@ -1,14 +1,13 @@
 -- A record that is made above an anchor is shorter than 2^32 bytes.
 use Rattle.std.proofs.Common.{ℕ, zero, suc, ◌+◌, ◌<◌, ◌≤◌, ◌^◌, ◌≡◌, false, List, [], ◌∷◌, length, refl, sym, ap, subst, ◌∙◌, length-append, arith}
 use Rattle.std.specs.Prelude.{replicate}
-use Rattle.tau_base.specs.declared.limits.TheConstants.{MAX_STREAMS}
+use Rattle.tau_base.specs.Modes.{format_of, most_streams}
 use Rattle.tau_base.specs.declared.value.LogMode.{LogMode}
-use Rattle.tau_base.specs.declared.value.LogMode.TheVariants.{Values, Commands}
+use Rattle.tau_base.specs.declared.value.LogMode.TheVariants.{Values, Commands, WideValues, WideCommands}
 use Rattle.tau_base.specs.Vectors.{AtMost}
 use Rattle.tau_model.specs.History.{Act}
 use Rattle.tau_machine.specs.Hands.{Txn}
 use Rattle.std.specs.Int.{w32, to_be_bytes}
-use Rattle.tau_record.specs.Format.{One}
 use Rattle.tau_record.specs.Vector.{ArePlaces}
 use Rattle.tau_record.specs.Record.{base_of, AreVectors, FitsOrigin, FitsBody, body, Spells}
 use Rattle.tau_record.proofs.SizeLaws.{size_fits}
@@ -31,9 +30,11 @@ copies_long (suc m) base = ap suc (copies_long m base)
 origin_in : (n : ℕ) (vectors : List (List ℕ)) (mode : LogMode) (t : Act Txn) → FitsBody n vectors (entry_of mode t) → FitsOrigin vectors t.call.call.number t.call.anchor t.call.place.dep
 origin_in n vectors Values t q = q.0
 origin_in n vectors Commands t q = q.0
+origin_in n vectors WideValues t q = q.0
+origin_in n vectors WideCommands t q = q.0
 
-pub size_small : (n : ℕ) (base : List ℕ) (mode : LogMode) (t : Act Txn) (bytes : List ℕ) → n ≤ MAX_STREAMS → length base ≡ n →
-    ((vectors : List (List ℕ)) → base_of vectors t.call.anchor ≡ base → Spells One n vectors false (entry_of mode t) bytes) → length bytes < 2 ^ 32
+pub size_small : (n : ℕ) (base : List ℕ) (mode : LogMode) (t : Act Txn) (bytes : List ℕ) → n ≤ most_streams (format_of mode) → length base ≡ n →
+    ((vectors : List (List ℕ)) → base_of vectors t.call.anchor ≡ base → Spells (format_of mode) n vectors false (entry_of mode t) bytes) → length bytes < 2 ^ 32
 size_small n base mode t bytes few wide spelled =
     let vectors : List (List ℕ) = replicate (suc t.call.anchor) base in
     let named : base_of vectors t.call.anchor ≡ base = named_copies (suc t.call.anchor) t.call.anchor base (omega arith) in
@@ -44,6 +45,6 @@ size_small n base mode t bytes few wide spelled =
     let are : AreVectors n vectors = (λ (k : ℕ) (lt : k < length vectors).
     let is : base_of vectors k ≡ base = named_copies (suc t.call.anchor) k base (let l = copies_long (suc t.call.anchor) base in omega arith) in
     (subst (λ (b : List ℕ). ArePlaces b) (sym is) places, ap (length {A = ℕ}) is ∙ wide)) in
-    let small = size_fits One n vectors (entry_of mode t) few are s.fits.fields in
+    let small = size_fits (format_of mode) n vectors (entry_of mode t) few are s.fits.fields in
     let size = ap (length {A = ℕ}) s.text in
-    omega (arith, length-append (to_be_bytes w32 (5 + length (body One vectors (entry_of mode t)))) (body One vectors (entry_of mode t)))
+    omega (arith, length-append (to_be_bytes w32 (5 + length (body (format_of mode) vectors (entry_of mode t)))) (body (format_of mode) vectors (entry_of mode t)))

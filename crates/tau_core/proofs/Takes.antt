@@ -1,12 +1,8 @@
 -- A lock that is taken.
-use Rattle.std.proofs.Common.{ℕ, ◌≡◌, ◌≤◌, true, false, ◌⊎◌, inl, inr, List, refl, sym, ap, subst, ◌∙◌, Option, arith, length-set}
-use Rattle.std.specs.Prelude.{Some, None, ◌==◌, slice_set}
-use Rattle.std.proofs.lemmas.Bool.{ne_eqb}
+use Rattle.std.proofs.Common.{ℕ, ◌≡◌, ◌≤◌, true, false, List, sym, ap, subst, ◌∙◌, Option, arith, length-set}
+use Rattle.std.specs.Prelude.{Some, None, slice_set}
 use Rattle.std.proofs.lemmas.Option.{slice_get_within}
-use Rattle.tau_base.specs.declared.value.Key.{Key}
 use Rattle.tau_base.specs.declared.value.Value.{Value}
-use Rattle.tau_base.specs.declared.value.Mode.{Mode}
-use Rattle.tau_base.specs.declared.value.Mode.TheVariants.{Read, Write}
 use Rattle.tau_base.specs.Shards.{shard_number}
 use Rattle.tau_model.specs.History.{Act}
 use Rattle.tau_model.specs.declared.committed.Committed.{Committed}
@@ -16,11 +12,11 @@ use Rattle.tau_machine.specs.Worker.{Worker, hand_locked}
 use Rattle.tau_machine.specs.Invariant.{Invariant}
 use Rattle.tau_machine.specs.Pieces.{placed_in, placed_of}
 use Rattle.tau_machine.specs.Shapes.{ShardShape}
-use Rattle.tau_machine.specs.State.{Setting, Record}
-use Rattle.tau_machine.specs.Events.{with_worker, with_shard, ready, Conflicts, Locks}
+use Rattle.tau_machine.specs.State.{Record}
+use Rattle.tau_machine.specs.Events.{with_worker, with_shard, ready, Locks}
 use Rattle.tau_shard.specs.Plain.{PlainShard}
 use Rattle.tau_shard.specs.Read.{shard_of}
-use Rattle.tau_shard.specs.Blocks.{against, blocks}
+use Rattle.tau_shard.specs.Blocks.{blocks}
 use Rattle.tau_txn.specs.Txn.{hand_in, bytes_in}
 use Rattle.tau_core.specs.Plain.{PlainSeat}
 use Rattle.tau_core.specs.State.{Plain}

@@ -1,6 +1,6 @@
 -- What a manager does to place an anchor.
 use Rattle.std.specs.Prelude.{ℕ, ◌+◌, ◌-◌, ◌<◌, ◌^◌, ◌≡◌, None, Some, false, List, [], ◌∷◌, ◌++◌, length, slice_get, slice_index, slice_set}
-use Rattle.tau_record.specs.Format.{One}
+use Rattle.tau_base.specs.Modes.{format_of}
 use Rattle.tau_record.specs.Record.{Spells}
 use Rattle.tau_record.specs.declared.entry.Entry.TheVariants as entry
 use Rattle.tau_outbox.specs.Pieces.{PlainOutbox}
@@ -19,7 +19,7 @@ pub record Anchors (j : ℕ) (p p' : Plain) : Type 0 where
   pub is : slice_get p.streams j ≡ Some stream
   pub pieces : own.pieces ≡ stream.own.pieces ++ record { start = slice_index p.ends j; bytes = bytes } ∷ []
   pub few : slice_index p.load.opening.anchors.items j + length stream.anchors < 2 ^ 32 - 1
-  pub spelled : (vectors : List (List ℕ)) → Spells One (length p.plv) vectors false (entry.Anchor p.plv) bytes
+  pub spelled : (vectors : List (List ℕ)) → Spells (format_of p.load.mode) (length p.plv) vectors false (entry.Anchor p.plv) bytes
   pub after : p' ≡ record p {
     streams = slice_set p.streams j (record stream { own = own; anchors = stream.anchors ++ p.plv ∷ [] });
     ends = slice_set p.ends j (slice_index p.ends j + length bytes);

@@ -1,11 +1,12 @@
 -- The state in which a run begins.
 use Rattle.std.specs.Prelude.{ℕ, ◌+◌, ◌≡◌, ◌≤◌, ◌<◌, Some, None, List, [], ◌∷◌, length, replicate, slice_get}
-use Rattle.tau_base.specs.declared.limits.TheConstants.{MAX_STREAMS, MAX_WORKERS, SHARDS}
+use Rattle.tau_base.specs.declared.limits.TheConstants.{MAX_WORKERS, SHARDS}
 use Rattle.tau_base.specs.declared.value.Key.{Key}
 use Rattle.tau_base.specs.declared.value.Value.{Value}
 use Rattle.tau_base.specs.declared.value.Call.{Call}
 use Rattle.tau_base.specs.declared.value.LogMode.{LogMode}
 use Rattle.tau_base.specs.Database.{written}
+use Rattle.tau_base.specs.Modes.{format_of, most_streams}
 use Rattle.tau_base.specs.Shards.{shard_number}
 use Rattle.tau_base.specs.Vectors.{AtMost}
 use Rattle.tau_proc.specs.declared.proc.Proc.{Proc}
@@ -52,7 +53,7 @@ pub record IsLoad (l : Load) : Type 0 where
   pub workers_low : 1 ≤ l.workers
   pub workers_high : l.workers ≤ MAX_WORKERS
   pub streams_low : 1 ≤ l.streams
-  pub streams_high : l.streams ≤ MAX_STREAMS
+  pub streams_high : l.streams ≤ most_streams (format_of l.mode)
   pub calls : AreCalls l.procs l.calls
   pub ends : length l.opening.ends ≡ l.streams
   pub fits : Fits l.opening

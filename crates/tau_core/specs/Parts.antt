@@ -1,6 +1,7 @@
 -- The parts of a core, apart: what they show, and the core that they make when they are at rest.
 use Rattle.std.specs.Prelude.{ℕ, ◌+◌, ◌≤◌, ◌<◌, ◌≡◌, IsTrue, false, Some, None, List, [], ◌++◌, length, map, slice_get}
-use Rattle.tau_base.specs.declared.limits.TheConstants.{MAX_CALLS, MAX_STREAMS, MAX_WORKERS, SHARDS}
+use Rattle.tau_base.specs.declared.limits.TheConstants.{MAX_CALLS, MAX_WORKERS, SHARDS}
+use Rattle.tau_base.specs.Modes.{format_of, most_streams}
 use Rattle.tau_base.specs.declared.value.Call.{Call}
 use Rattle.tau_base.specs.declared.value.Value.TheVariants.{Absent}
 use Rattle.tau_proc.specs.Takes.{takes}
@@ -61,7 +62,7 @@ pub record AtRest (p : Plain) : Type 0 where
   pub workers_low : 1 ≤ p.load.workers
   pub workers_high : p.load.workers ≤ MAX_WORKERS
   pub streams_low : 1 ≤ p.load.streams
-  pub streams_high : p.load.streams ≤ MAX_STREAMS
+  pub streams_high : p.load.streams ≤ most_streams (format_of p.load.mode)
   pub few : length p.load.calls ≤ MAX_CALLS
   pub takes : (n : ℕ) (c : Call) → call_of p.load.calls n ≡ Some c → IsTrue (takes p.load.procs c)
   pub opened : length p.load.opening.anchors.items ≡ p.load.streams

@@ -3,7 +3,7 @@ use Rattle.std.specs.Prelude.{ℕ, false, ◌+◌, ◌≡◌, ◌⊎◌, Some, L
 use Rattle.tau_model.specs.History.{Act}
 use Rattle.tau_machine.specs.Hands.{Txn}
 use Rattle.tau_machine.specs.State.{Item, Record, Anchor, start_of, past_of}
-use Rattle.tau_record.specs.Format.{One}
+use Rattle.tau_base.specs.Modes.{format_of}
 use Rattle.tau_record.specs.Record.{base_of, Spells}
 use Rattle.tau_record.specs.declared.entry.Entry.TheVariants as entry
 use Rattle.tau_txn.specs.Record.{entry_of}
@@ -25,11 +25,11 @@ newest_of before (a ∷ rest) = before + length (a ∷ rest)
 pub record IsRecordOf (l : Load) (anchors : ℕ → List (List ℕ)) (t : Act Txn) (bytes : List ℕ) : Type 0 where
   pub base : List ℕ
   pub named : Names l t.call.place.stream (anchors t.call.place.stream) t.call.anchor base
-  pub spelled : (vectors : List (List ℕ)) → base_of vectors t.call.anchor ≡ base → Spells One l.streams vectors false (entry_of l.mode t) bytes
+  pub spelled : (vectors : List (List ℕ)) → base_of vectors t.call.anchor ≡ base → Spells (format_of l.mode) l.streams vectors false (entry_of l.mode t) bytes
 
 abbrev pub AreBytesOf : Load → (ℕ → List (List ℕ)) → Item → List ℕ → Type 0
 AreBytesOf l anchors (Record t) bytes = IsRecordOf l anchors t bytes
-AreBytesOf l anchors (Anchor start past v) bytes = (vectors : List (List ℕ)) → Spells One l.streams vectors false (entry.Anchor v) bytes
+AreBytesOf l anchors (Anchor start past v) bytes = (vectors : List (List ℕ)) → Spells (format_of l.mode) l.streams vectors false (entry.Anchor v) bytes
 
 -- the piece stands where the item does, and has its bytes
 pub record IsPieceOf (l : Load) (anchors : ℕ → List (List ℕ)) (p : Piece) (i : Item) : Type 0 where

@@ -1,6 +1,7 @@
 -- What the core keeps: there is a commit order with which its state has the invariant of the machine, and its bytes are those of the records.
 use Rattle.std.specs.Prelude.{ℕ, ◌+◌, ◌≤◌, ◌≡◌, Bool, true, false, if◌then◌else◌, is_some, IsTrue, Option, Some, None, List, [], ◌∷◌, ◌++◌, length, map, slice_get}
-use Rattle.tau_base.specs.declared.limits.TheConstants.{MAX_BODY, MAX_CALLS, MAX_STREAMS, MAX_WORKERS, SHARDS}
+use Rattle.tau_base.specs.declared.limits.TheConstants.{MAX_BODY, MAX_CALLS, MAX_WORKERS, SHARDS}
+use Rattle.tau_base.specs.Modes.{format_of, most_streams}
 use Rattle.tau_base.specs.declared.value.Call.{Call}
 use Rattle.tau_proc.specs.Takes.{takes}
 use Rattle.tau_model.specs.History.{Act, Member, Reordered}
@@ -73,7 +74,7 @@ pub record Sound (p : Plain) : Type 0 where
   pub workers_low : 1 ≤ p.load.workers
   pub workers_high : p.load.workers ≤ MAX_WORKERS
   pub streams_low : 1 ≤ p.load.streams
-  pub streams_high : p.load.streams ≤ MAX_STREAMS
+  pub streams_high : p.load.streams ≤ most_streams (format_of p.load.mode)
   pub few : length p.load.calls ≤ MAX_CALLS
   pub takes : (n : ℕ) (c : Call) → call_of p.load.calls n ≡ Some c → IsTrue (takes p.load.procs c)
   pub opened : length p.load.opening.anchors.items ≡ p.load.streams

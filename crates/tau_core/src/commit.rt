@@ -108,6 +108,6 @@ fn newest(state: &State, stream: usize, named: &mut Named) -> bool
         return false;
     }
     named.number = number as u32;
-    named.lv = part.anchors[count - 1];
+    named.lv.copy_from(&part.anchors[count - 1]);
     true
 }

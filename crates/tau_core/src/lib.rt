@@ -39,5 +39,6 @@ pub use laws::{
 };
 pub use left_over::LeftOvers;
 pub use opening::Opening;
+pub use post::post_from;
 pub use state::{Load, Seat, Stream};
 pub use top::Core;

@@ -1,13 +1,13 @@
 //! The opening of a log that begins.
 ghost use Rattle.std.specs.Prelude.{◌≡◌, ◌≤◌, ◌<◌, IfOk, length, replicate};
-ghost use Rattle.tau_base.specs.declared.limits.TheConstants.{MAX_CATALOGUE, MAX_LSN, MAX_STREAMS};
+ghost use Rattle.tau_base.specs.declared.limits.TheConstants.{MAX_CATALOGUE, MAX_LSN};
 ghost use Rattle.tau_text.specs.Canonical.{declarations_text};
 ghost use Rattle.tau_core.specs.Opens.{IsFresh, catalogue_size};
 
 use crate::opening::Opening;
 use arrayvec::ArrayVec;
 use std::alloc::Global;
-use tau_base::{Lv, NoMemory};
+use tau_base::{Lv, MAX_STREAMS, NoMemory};
 use tau_model::Tables;
 use tau_record::encode_catalogue;
 use tau_text::{Declarations, print_declarations};
@@ -68,7 +68,7 @@ fn same_ends(n: usize, end: u64) -> Lv
 }
 
 /// No stream has an anchor.
-fn no_anchors(n: usize) -> ArrayVec<u32, 16>
+fn no_anchors(n: usize) -> ArrayVec<u32, MAX_STREAMS>
     requires { n ≤ MAX_STREAMS }
     ensures { result.items ≡ replicate n 0 }
 {

@@ -1,6 +1,7 @@
 //! The state in which nothing has happened.
-ghost use Rattle.std.specs.Prelude.{◌≡◌, ◌≤◌, IfOk};
+ghost use Rattle.std.specs.Prelude.{◌≡◌, ◌≤◌, IfOk, length};
 ghost use Rattle.tau_base.specs.declared.limits.TheConstants.{MAX_WORKERS};
+ghost use Rattle.tau_base.specs.Modes.{format_of, most_streams};
 ghost use Rattle.tau_text.specs.Kept.{AreCalls};
 ghost use Rattle.tau_core.specs.State.{plain};
 ghost use Rattle.tau_core.specs.Opens.{AreSeats, AreShards, AreStreams, Fits, IsLoad, Opens, load_of};
@@ -26,6 +27,7 @@ pub(crate) fn open(
     requires low { 1 ≤ workers }
     requires high { workers ≤ MAX_WORKERS }
     requires calls { AreCalls load.now.declarations.procs load.now.calls }
+    requires streams { length opening.ends ≤ most_streams (format_of mode) }
     requires fits { Fits opening }
     ensures { IfOk result (λ state. Opens (load_of load.now.declarations.procs load.now.calls mode workers opening) (plain state)) }
 {

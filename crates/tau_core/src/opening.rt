@@ -1,6 +1,6 @@
 //! The state in which a run begins.
 use arrayvec::ArrayVec;
-use tau_base::Lv;
+use tau_base::{Lv, MAX_STREAMS};
 use tau_model::Tables;
 
 /// What a run begins with.
@@ -13,5 +13,5 @@ pub struct Opening {
     /// Where each stream ends. All of it is gathered and persisted.
     pub ends: Lv,
     /// How many anchors each stream has.
-    pub anchors: ArrayVec<u32, 16>,
+    pub anchors: ArrayVec<u32, MAX_STREAMS>,
 }

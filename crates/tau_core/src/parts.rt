@@ -1,6 +1,7 @@
 //! The parts of a state in which nothing has happened.
 ghost use Rattle.std.specs.Prelude.{◌≡◌, ◌≤◌, ◌<◌, [], IfOk, OnOk};
-ghost use Rattle.tau_base.specs.declared.limits.TheConstants.{MAX_STREAMS, MAX_WORKERS};
+ghost use Rattle.tau_base.specs.declared.limits.TheConstants.{MAX_WORKERS};
+ghost use Rattle.tau_base.specs.Modes.{format_of, most_streams};
 ghost use Rattle.tau_core.specs.Opens.{AreSeats, AreShards, AreStreams, IsSeatAtRest, IsStreamAtRest, IsUnlocked, PutsRow};
 
 use crate::left_over::LeftOvers;
@@ -21,7 +22,7 @@ pub(crate) fn seats(
 ) -> Result<Vec<Seat>, NoMemory>
     requires high { workers ≤ MAX_WORKERS }
     requires streams_low { 1 ≤ streams }
-    requires streams_high { streams ≤ MAX_STREAMS }
+    requires streams_high { streams ≤ most_streams (format_of mode) }
     ensures { IfOk result (λ seats. AreSeats workers streams mode seats.items) }
 {
     let mut all = Vec::new(alloc);
@@ -35,7 +36,7 @@ pub(crate) fn seats(
 fn seat(alloc: Global, worker: usize, streams: usize, mode: LogMode) -> Seat
     requires there { worker < MAX_WORKERS }
     requires streams_low { 1 ≤ streams }
-    requires streams_high { streams ≤ MAX_STREAMS }
+    requires streams_high { streams ≤ most_streams (format_of mode) }
     ensures { IsSeatAtRest streams mode worker result }
 {
     Seat {

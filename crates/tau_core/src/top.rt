@@ -1,7 +1,8 @@
 //! The core.
 ghost use Rattle.std.specs.Prelude.{ℕ, ◌≡◌, ◌<◌, ◌≤◌, ◌%◌, ◌↔◌, IfOk, IsTrue, List, Some, length, map, slice_get, slice_index};
+ghost use Rattle.tau_base.specs.Modes.{format_of, most_streams};
 ghost use Rattle.tau_base.specs.Shards.{shard_number};
-ghost use Rattle.tau_base.specs.declared.limits.TheConstants.{MAX_CATALOGUE, MAX_STREAMS, MAX_WORKERS};
+ghost use Rattle.tau_base.specs.declared.limits.TheConstants.{MAX_CATALOGUE, MAX_WORKERS};
 ghost use Rattle.tau_text.specs.Canonical.{declarations_text};
 ghost use Rattle.tau_text.specs.Kept.{AreCalls};
 ghost use Rattle.tau_model.specs.Tables.{IsTablesOf};
@@ -77,6 +78,7 @@ impl Core {
         requires low { 1 ≤ workers }
         requires high { workers ≤ MAX_WORKERS }
         requires calls { AreCalls load.now.declarations.procs load.now.calls }
+        requires streams { length opening.ends ≤ most_streams (format_of mode) }
         requires fits { Fits opening }
         ensures { IfOk result (λ core. Opened (load_of load.now.declarations.procs load.now.calls mode workers opening) core) }
     {
@@ -93,7 +95,7 @@ impl Core {
         mode: LogMode,
     ) -> Result<Core, NoMemory>
         requires n_low { 1 ≤ streams }
-        requires n_high { streams ≤ MAX_STREAMS }
+        requires n_high { streams ≤ most_streams (format_of mode) }
         requires low { 1 ≤ workers }
         requires high { workers ≤ MAX_WORKERS }
         requires calls { AreCalls load.now.declarations.procs load.now.calls }

@@ -1,6 +1,7 @@
 //! Runs of the core, event by event, against the worked runs.
 ghost use Rattle.std.specs.Prelude.{◌≡◌, ◌<◌, ◌≤◌, IfOk, IsTrue};
-ghost use Rattle.tau_base.specs.declared.limits.TheConstants.{MAX_STREAMS, MAX_WORKERS};
+ghost use Rattle.tau_base.specs.Modes.{format_of, most_streams};
+ghost use Rattle.tau_base.specs.declared.limits.TheConstants.{MAX_WORKERS};
 ghost use Rattle.tau_core.specs.State.{Plain};
 ghost use Rattle.tau_core.specs.Stands.{Stood};
 ghost use Rattle.tau_core.specs.Steps.{IsThere};
@@ -11,7 +12,7 @@ use std::marker::Model;
 use std::process::Abort;
 use std::test::Fail;
 use tau_ack::Waiting;
-use tau_base::{Key, LogMode, Lv, MAX_CATALOGUE, SHARDS, Value};
+use tau_base::{Key, LogMode, Lv, MAX_CATALOGUE, SHARDS, Value, format_of, most_streams};
 use tau_core::{Acted, Core, Event, Gathering, Opening, Outcome, Phase};
 use tau_model::{Spot, Tables};
 use tau_text::{parse_workload, print_declarations};
@@ -156,9 +157,9 @@ fn tells(core: &mut Core, workers: u8, streams: u8, event: Event) -> Option<Told
 }
 
 /// The core of a run of this text, in which nothing has happened.
-fn core_of(alloc: Global, text: &[u8], n: u8, m: u8) -> Result<Core, Fail>
+fn core_of(alloc: Global, text: &[u8], n: u8, m: u8, mode: LogMode) -> Result<Core, Fail>
     requires n_low { 1 ≤ n }
-    requires n_high { n ≤ MAX_STREAMS }
+    requires n_high { n ≤ most_streams (format_of mode) }
     requires m_low { 1 ≤ m }
     requires m_high { m ≤ MAX_WORKERS }
     ensures workers { IfOk result (λ core. core.load.workers ≡ m) }
@@ -174,15 +175,15 @@ fn core_of(alloc: Global, text: &[u8], n: u8, m: u8) -> Result<Core, Fail>
     if printed.len() > MAX_CATALOGUE {
         return Err(Fail::new("the declarations are too long"));
     }
-    match Core::new(alloc, &load, n, m, LogMode::Values) {
+    match Core::new(alloc, &load, n, m, mode) {
         Ok(core) => Ok(core),
         Err(_) => Err(Fail::new("no memory")),
     }
 }
 
-/// The bytes of stream 0, of two.
+/// The bytes of stream 0.
 fn body_of(core: &mut Core) -> Vec<u8>
-    requires streams { core.old.load.streams ≡ 2 }
+    requires streams { 1 ≤ core.old.load.streams }
     requires stood { Stood core.old }
     ensures load { core.new.load ≡ core.old.load }
     ensures stood { Stood core.new }
@@ -258,12 +259,19 @@ impl Model for Run {
 
 impl Run {
     /// A run of this text, in which nothing has happened.
-    fn new(rt: &impl Abort, alloc: Global, text: &[u8], n: u8, m: u8) -> Result<Run, Fail> {
+    fn new(
+        rt: &impl Abort,
+        alloc: Global,
+        text: &[u8],
+        n: u8,
+        m: u8,
+        mode: LogMode,
+    ) -> Result<Run, Fail> {
         assert!(rt; 1 <= n);
-        assert!(rt; n <= 16);
+        assert!(rt; usize::from(n) <= most_streams(format_of(mode)));
         assert!(rt; 1 <= m);
-        assert!(rt; m <= 16);
-        let core = core_of(alloc, text, n, m)?;
+        assert!(rt; m <= 32);
+        let core = core_of(alloc, text, n, m, mode)?;
         Ok(Run {
             core,
             workers: m,
@@ -298,7 +306,7 @@ impl Run {
 
     /// The bytes of stream 0.
     fn body_of(&mut self, rt: &impl Abort) -> Vec<u8> {
-        assert!(rt; self.streams == 2);
+        assert!(rt; 1 <= self.streams);
         body_of(&mut self.core)
     }
 
@@ -330,6 +338,8 @@ enum Row<'a> {
     GoBack(u16),
     /// What is kept of the committed call of this place: its number, its dep and its vector.
     Keeps(usize, u64, [u64; 3], [u64; 3]),
+    /// The position in this stream of its dep and of its vector.
+    Reaches(usize, usize, (u64, u64)),
     /// The number of the committed call of this place.
     Numbers(usize, u64),
     /// Where its record stands.
@@ -372,6 +382,16 @@ fn kept(core: &Core, i: usize) -> (u64, [u64; 3], [u64; 3]) {
     let call = list.at(i);
     let vector = [call.position(0), call.position(1), call.position(2)];
     (call.number(), parts(call.dep()), vector)
+}
+
+/// The position in this stream of the dep and of the vector of the i-th committed call.
+fn positions_at(core: &Core, i: usize, stream: usize) -> (u64, u64) {
+    let list = core.committed();
+    if i >= list.len() {
+        return (0, 0);
+    }
+    let call = list.at(i);
+    (part(call.dep(), stream), call.position(stream))
 }
 
 /// The first three of these positions, 0 beyond the end.
@@ -496,6 +516,7 @@ fn floor(rt: &impl Abort, core: &Core, shard: u8) -> [u64; 3] {
 fn stands(rt: &impl Abort, core: &Core, look: Row<'_>) {
     match look {
         Row::Keeps(i, number, dep, lv) => assert_eq!(rt; kept(core, i), (number, dep, lv)),
+        Row::Reaches(i, stream, both) => assert_eq!(rt; positions_at(core, i, stream), both),
         Row::Numbers(i, number) => assert_eq!(rt; kept(core, i).0, number),
         Row::Stands(i, want) => assert_eq!(rt; spot(core, i), want),
         Row::Commits(calls) => assert_eq!(rt; core.committed().len(), calls),
@@ -539,7 +560,20 @@ fn goes(
     m: u8,
     rows: &[Row<'_>],
 ) -> Result<(), Fail> {
-    let mut run = Run::new(rt, alloc, text, n, m)?;
+    goes_in(rt, alloc, LogMode::Values, text, n, m, rows)
+}
+
+/// The same in this mode.
+fn goes_in(
+    rt: &impl Abort,
+    alloc: Global,
+    mode: LogMode,
+    text: &[u8],
+    n: u8,
+    m: u8,
+    rows: &[Row<'_>],
+) -> Result<(), Fail> {
+    let mut run = Run::new(rt, alloc, text, n, m, mode)?;
     plays(rt, &mut run, rows);
     Ok(())
 }
@@ -1128,6 +1162,160 @@ fn single_calls_tell_what_events_return(rt: HostRuntime) -> Result<(), Fail> {
                 ),
             ]),
             Row::Finds(1, Some(5)),
+        ],
+    )
+}
+
+/// One call on two streams, whose record has these bytes and ends here.
+fn puts_alone(
+    rt: &impl Abort,
+    alloc: Global,
+    mode: LogMode,
+    record: &[u8],
+    past: u64,
+) -> Result<(), Fail> {
+    goes_in(
+        rt,
+        alloc,
+        mode,
+        b"table a\nput a 1 5\n",
+        2,
+        1,
+        &[
+            Row::Does(&[
+                (Event::Lock { worker: 0 }, Said::Granted(None)),
+                (Event::Commit { worker: 0 }, Said::Placed(13)),
+                (Event::Post { worker: 0 }, Said::Went),
+                (Event::Free { worker: 0 }, Said::Went),
+                (Event::Done { worker: 0 }, Said::Went),
+                (Event::Gather { stream: 0 }, Said::Gathered(past)),
+            ]),
+            Row::Hands(record),
+            Row::Does(&[
+                (
+                    Event::Persist {
+                        stream: 0,
+                        upto: past,
+                    },
+                    Said::Went,
+                ),
+                (Event::Ack { worker: 0 }, Said::Acked(1, [past, 0, 0])),
+            ]),
+        ],
+    )
+}
+
+// The mode says whether a record holds the call, and whether its mask has 16 bits or 32.
+#[test]
+fn each_mode_has_its_records(rt: HostRuntime) -> Result<(), Fail> {
+    let alloc = rt.alloc();
+    let command = [
+        2, 0, 0, 0, 49, 0, 0, 0, 0, 0, 0, 0, 1, 0, 0, 0, 0, 0, 0, 0, 0, 3, 1, 0, 0, 0, 0, 0, 0, 0,
+        0, 1, 0, 0, 0, 0, 0, 0, 0, 1, 1, 0, 0, 0, 0, 0, 0, 0, 5,
+    ];
+    let wide = [
+        1, 0, 0, 0, 42, 0, 0, 0, 0, 0, 0, 0, 1, 0, 0, 0, 0, 0, 0, 0, 0, 0, 1, 0, 0, 0, 0, 0, 0, 0,
+        0, 0, 1, 1, 0, 0, 0, 0, 0, 0, 0, 5,
+    ];
+    let wide_command = [
+        2, 0, 0, 0, 51, 0, 0, 0, 0, 0, 0, 0, 1, 0, 0, 0, 0, 0, 0, 0, 0, 0, 0, 3, 1, 0, 0, 0, 0, 0,
+        0, 0, 0, 1, 0, 0, 0, 0, 0, 0, 0, 1, 1, 0, 0, 0, 0, 0, 0, 0, 5,
+    ];
+    puts_alone(&rt, alloc, LogMode::Commands, &command, 62)?;
+    puts_alone(&rt, alloc, LogMode::WideValues, &wide, 55)?;
+    puts_alone(&rt, alloc, LogMode::WideCommands, &wide_command, 64)
+}
+
+// Of 32 streams and 32 workers, the last call runs to its end. The first one is then raised to an anchor of all streams.
+#[test]
+fn the_last_of_32_workers_runs(rt: HostRuntime) -> Result<(), Fail> {
+    let text = puts(rt.alloc(), 32)?;
+    goes_in(
+        &rt,
+        rt.alloc(),
+        LogMode::WideValues,
+        text.as_slice(),
+        32,
+        32,
+        &[
+            Row::Does(&[
+                (Event::Lock { worker: 31 }, Said::Granted(None)),
+                (Event::Lock { worker: 0 }, Said::Busy(31)),
+                (Event::Commit { worker: 31 }, Said::Placed(13)),
+                (Event::Post { worker: 31 }, Said::Went),
+                (Event::Free { worker: 31 }, Said::Went),
+                (Event::Done { worker: 31 }, Said::Went),
+                (Event::Gather { stream: 31 }, Said::Gathered(55)),
+                (
+                    Event::Persist {
+                        stream: 31,
+                        upto: 55,
+                    },
+                    Said::Went,
+                ),
+                (Event::Ack { worker: 31 }, Said::Acked(32, [0, 0, 0])),
+                (Event::Anchor { stream: 0 }, Said::Placed(13)),
+                (Event::Lock { worker: 0 }, Said::Granted(Some(5))),
+                (Event::Commit { worker: 0 }, Said::Placed(274)),
+                (Event::Post { worker: 0 }, Said::Went),
+                (Event::Free { worker: 0 }, Said::Went),
+                (Event::Done { worker: 0 }, Said::Went),
+                (Event::Gather { stream: 0 }, Said::Gathered(316)),
+                (
+                    Event::Persist {
+                        stream: 0,
+                        upto: 316,
+                    },
+                    Said::Went,
+                ),
+                (Event::Ack { worker: 0 }, Said::Acked(1, [316, 13, 13])),
+            ]),
+            Row::Reaches(0, 31, (0, 55)),
+            Row::Reaches(1, 31, (55, 55)),
+            Row::Reaches(1, 16, (13, 13)),
+            Row::Reaches(1, 0, (13, 316)),
+            Row::Stands(
+                1,
+                Some(Spot {
+                    stream: 0,
+                    start: 274,
+                    past: 316,
+                    anchor: 1,
+                }),
+            ),
+        ],
+    )
+}
+
+// Of 32 streams, the first worker depends on the last one: the mask of its record has bit 31.
+#[test]
+fn masks_reach_the_last_of_32_streams(rt: HostRuntime) -> Result<(), Fail> {
+    let text = puts(rt.alloc(), 32)?;
+    let record = [
+        1, 0, 0, 0, 50, 0, 0, 0, 0, 0, 0, 0, 1, 0, 0, 0, 0, 128, 0, 0, 0, 0, 0, 0, 0, 0, 0, 0, 55,
+        0, 1, 0, 0, 0, 0, 0, 0, 0, 0, 0, 1, 1, 0, 0, 0, 0, 0, 0, 0, 5,
+    ];
+    goes_in(
+        &rt,
+        rt.alloc(),
+        LogMode::WideValues,
+        text.as_slice(),
+        32,
+        32,
+        &[
+            Row::Does(&[
+                (Event::Lock { worker: 31 }, Said::Granted(None)),
+                (Event::Commit { worker: 31 }, Said::Placed(13)),
+                (Event::Post { worker: 31 }, Said::Went),
+                (Event::Free { worker: 31 }, Said::Went),
+                (Event::Lock { worker: 0 }, Said::Granted(Some(5))),
+                (Event::Commit { worker: 0 }, Said::Placed(13)),
+                (Event::Post { worker: 0 }, Said::Went),
+                (Event::Gather { stream: 0 }, Said::Gathered(63)),
+            ]),
+            Row::Hands(&record),
+            Row::Reaches(1, 31, (55, 55)),
+            Row::Reaches(1, 0, (0, 63)),
         ],
     )
 }

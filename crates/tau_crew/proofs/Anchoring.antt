@@ -2,8 +2,9 @@
 use Rattle.std.proofs.Common.{ℕ, zero, suc, ◌+◌, ◌<◌, ◌≤◌, ◌≡◌, List, [], ◌∷◌, ◌++◌, length, refl, sym, ap, subst, ◌∙◌, arith, length-append, slice_index}
 use Rattle.std.specs.Prelude.{Err, Ok, OnErr, OnOk, Result, slice_set}
 use Rattle.std.proofs.lemmas.List.{map-append}
+use Rattle.tau_base.specs.declared.format.Format.{Format}
 use Rattle.tau_base.specs.declared.value.NoMemory.{NoMemory}
-use Rattle.tau_record.specs.Format.{One}
+use Rattle.tau_base.specs.Modes.{format_of}
 use Rattle.tau_record.specs.declared.entry.Entry.TheVariants as entry
 use Rattle.tau_record.proofs.ContentLaws.{spelling_long}
 use Rattle.tau_outbox.specs.declared.Piece.{Piece}
@@ -75,7 +76,7 @@ keeps_room s s' (o, e) = record {
 -- an anchor was placed
 pub keeps_placed : (l : Load) (s s' : PlainManagerSeat) → PlacesAnchor l s s' → KeepsSeat s s'
 keeps_placed l s s' p =
-    let five : 5 ≤ length p.bytes = (let t = p.spelled [] in subst (λ (b : List ℕ). 5 ≤ length b) (sym t.text) (spelling_long One [] (entry.Anchor s.seen))) in
+    let five : 5 ≤ length p.bytes = (let t = p.spelled [] in subst (λ (b : List ℕ). 5 ≤ length b) (sym t.text) (spelling_long (format_of l.mode) [] (entry.Anchor s.seen))) in
     record {
       table = ap (λ (x : PlainManagerSeat). x.table_id) p.after;
       stream = ap (λ (x : PlainManagerSeat). x.stream) p.after;
@@ -115,9 +116,9 @@ apart_places base before durable last placed s s' v a block due stream anchors o
     }
 
 -- such a step leaves what the loop keeps
-pub driven_keeps : {D : Type 0} {G : Ghosts D} (n j : ℕ) (base : List ℕ) (w0 : Writer D G) (s s' : PlainManagerSeat) (w : Writer D G) → IsDriven n j base w0 s w → KeepsSeat s s' → IsDriven n j base w0 s' w
-driven_keeps n j base w0 s s' w d k =
-    driven_same n j base w0 s s' w d k.stream k.taken (subst (λ (i : ℕ). slice_index s'.seen i ≡ slice_index s.seen i) d.stream k.stored) k.gathered (k.long d.long) k.raised
+pub driven_keeps : {D : Type 0} {G : Ghosts D} (format : Format) (n j : ℕ) (base : List ℕ) (w0 : Writer D G) (s s' : PlainManagerSeat) (w : Writer D G) → IsDriven format n j base w0 s w → KeepsSeat s s' → IsDriven format n j base w0 s' w
+driven_keeps format n j base w0 s s' w d k =
+    driven_same format n j base w0 s s' w d k.stream k.taken (subst (λ (i : ℕ). slice_index s'.seen i ≡ slice_index s.seen i) d.stream k.stored) k.gathered (k.long d.long) k.raised
 
 -- a step that places no anchor and stores nothing
 pub apart_same : (base durable last placed : ℕ) (s s' : PlainManagerSeat) → IsApart base durable last placed s → s'.stream ≡ s.stream → s'.stock.anchors ≡ s.stock.anchors → IsApart base durable last placed s'
@@ -130,11 +131,11 @@ apart_same base durable last placed s s' a stream anchors =
     }
 
 -- the stop was raised
-pub short_stopped : {D : Type 0} {G : Ghosts D} (n j : ℕ) (base : List ℕ) (w0 : Writer D G) (s s' : PlainManagerSeat) (w : Writer D G) → IsDrivenShort n j base w0 s w → s' ≡ record s { me = (told_raised s.me.0, s.me.1) } → IsDrivenShort n j base w0 s' w
-short_stopped n j base w0 s s' w d e = record {
+pub short_stopped : {D : Type 0} {G : Ghosts D} (format : Format) (n j : ℕ) (base : List ℕ) (w0 : Writer D G) (s s' : PlainManagerSeat) (w : Writer D G) → IsDrivenShort format n j base w0 s w → s' ≡ record s { me = (told_raised s.me.0, s.me.1) } → IsDrivenShort format n j base w0 s' w
+short_stopped format n j base w0 s s' w d e = record {
   stream = ap (λ (x : PlainManagerSeat). x.stream) e ∙ d.stream;
   stored = ap (λ (x : PlainManagerSeat). slice_index x.seen j) e ∙ d.stored;
   written =
-      subst (λ (ps : List Piece). HasWritten n j base ps (slice_index s'.seen j) w0 w) (sym (ap taken_in e))
-      (subst (λ (k : ℕ). HasWritten n j base (taken_in s) k w0 w) (sym (ap (λ (x : PlainManagerSeat). slice_index x.seen j) e)) d.written);
+      subst (λ (ps : List Piece). HasWritten format n j base ps (slice_index s'.seen j) w0 w) (sym (ap taken_in e))
+      (subst (λ (k : ℕ). HasWritten format n j base (taken_in s) k w0 w) (sym (ap (λ (x : PlainManagerSeat). slice_index x.seen j) e)) d.written);
 }

@@ -5,6 +5,7 @@ use Rattle.std.specs.List.{remove}
 use Rattle.std.proofs.lemmas.Bool.{cases_eq}
 use Rattle.std.proofs.lemmas.Bool.Decides.{leb_tells}
 use Rattle.atomic_table.specs.Seated.{TableId}
+use Rattle.tau_base.specs.Modes.{format_of}
 use Rattle.tau_disk.specs.declared.disk.Disk.{Ghosts}
 use Rattle.tau_stream.specs.declared.writer.Writer.{Writer}
 use Rattle.tau_core.proofs.Lists.{got_other}
@@ -71,7 +72,7 @@ dealing_more first table k h h' s d lt split =
 
 -- and it is a manager that has done nothing
 pub dealt : {D : Type 0} {G : Ghosts D} → SeenNow G → (first : Plain) (table : TableId) (bases : ℕ → List ℕ) (k : ℕ) (h h' : PlainHead) (w : Writer D G) (job : ManagerJob D G) → IsDealing first table k h → k < first.load.streams → IsManagerSplit first.load k h h' job.seat → Manages job.seat →
-    IsNew first.load.streams k (bases k) w → length (bases k) ≡ slice_index first.load.opening.ends k → job.writer ≡ w → job.stream ≡ k → job.marks.last ≡ length (bases k) → job.marks.placed ≡ 0 → job.short ≡ false → IsDealt first table bases k w job
+    IsNew (format_of first.load.mode) first.load.streams k (bases k) w → length (bases k) ≡ slice_index first.load.opening.ends k → job.writer ≡ w → job.stream ≡ k → job.marks.last ≡ length (bases k) → job.marks.placed ≡ 0 → job.short ≡ false → IsDealt first table bases k w job
 dealt {D} {G} seen_now first table bases k h h' w job d lt split manages new long writer stream last placed short =
     let r : ℕ = manager_role first.load k in
     let s : PlainManagerSeat = job.seat in
@@ -81,8 +82,8 @@ dealt {D} {G} seen_now first table bases k h h' w job d lt split manages new lon
     ap managed_in me ∙ ap (λ (x : Role). managed_in_share x.share) role ∙ ap managed_in_share (share_is first k lt) in
     let offset : r - first.load.workers ≡ k = omega arith in
     let base_is : slice_index first.load.opening.ends (r - first.load.workers) ≡ length (bases k) = ap (slice_index first.load.opening.ends) offset ∙ sym long in
-    let begun : IsManagerAt first.load.streams k (bases k) w s w (length (bases k)) 0 false =
-    manager_begins seen_now first.load.streams k (bases k) s w new split.stream (ap (λ (g : Managed). g.taken) managed) (ap (λ (v : List ℕ). slice_index v k) (split.seen ∙ d.seen) ∙ sym long)
+    let begun : IsManagerAt (format_of first.load.mode) first.load.streams k (bases k) w s w (length (bases k)) 0 false =
+    manager_begins seen_now (format_of first.load.mode) first.load.streams k (bases k) s w new split.stream (ap (λ (g : Managed). g.taken) managed) (ap (λ (v : List ℕ). slice_index v k) (split.seen ∙ d.seen) ∙ sym long)
     (sym (managed_gathered s manages) ∙ ap (λ (g : Managed). g.gathered) managed ∙ base_is) (sym (managed_anchors s manages) ∙ ap (λ (g : Managed). g.anchors) managed) (sym (managed_own s manages) ∙ ap (λ (g : Managed). g.own) managed)
     (ap raised_in me ∙ ap (λ (x : Role). x.raised) role) in
     record {
@@ -91,10 +92,10 @@ dealt {D} {G} seen_now first table bases k h h' w job d lt split manages new lon
       at = split.stream;
       stream = stream;
       manager =
-          subst (λ (b : Bool). IsManagerAt first.load.streams k (bases k) w s job.writer job.marks.last job.marks.placed b) (sym short)
-          (subst (λ (p : ℕ). IsManagerAt first.load.streams k (bases k) w s job.writer job.marks.last p false) (sym placed)
-          (subst (λ (p : ℕ). IsManagerAt first.load.streams k (bases k) w s job.writer p 0 false) (sym last)
-          (subst (λ (x : Writer D G). IsManagerAt first.load.streams k (bases k) w s x (length (bases k)) 0 false) (sym writer) begun)));
+          subst (λ (b : Bool). IsManagerAt (format_of first.load.mode) first.load.streams k (bases k) w s job.writer job.marks.last job.marks.placed b) (sym short)
+          (subst (λ (p : ℕ). IsManagerAt (format_of first.load.mode) first.load.streams k (bases k) w s job.writer job.marks.last p false) (sym placed)
+          (subst (λ (p : ℕ). IsManagerAt (format_of first.load.mode) first.load.streams k (bases k) w s job.writer p 0 false) (sym last)
+          (subst (λ (x : Writer D G). IsManagerAt (format_of first.load.mode) first.load.streams k (bases k) w s x (length (bases k)) 0 false) (sym writer) begun)));
     }
 
 -- the jobs with it
@@ -148,11 +149,11 @@ one_longer {A} xs ys y k e l = (let a = ap (length {A = A}) e in let b = longer 
     longer (z ∷ zs) = let e = longer zs in omega (arith, e)
 
 -- one more manager was dealt
-pub deals_more : {D : Type 0} {G : Ghosts D} (first : Plain) (table : TableId) (bases : ℕ → List ℕ) (ws left left' : List (Writer D G)) (k : ℕ) (jobs jobs' : List (ManagerJob D G)) → IsBegun bases ws first.load.opening → length ws ≡ first.load.streams → k < first.load.streams → left ≡ drop k ws →
+pub deals_more : {D : Type 0} {G : Ghosts D} (first : Plain) (table : TableId) (bases : ℕ → List ℕ) (ws left left' : List (Writer D G)) (k : ℕ) (jobs jobs' : List (ManagerJob D G)) → IsBegun (format_of first.load.mode) bases ws first.load.opening → length ws ≡ first.load.streams → k < first.load.streams → left ≡ drop k ws →
     AreDealt first table bases ws k jobs → DealsOne first table k left left' jobs jobs' → AreDealt first table bases ws (k + 1) jobs'
 deals_more {D} {G} first table bases ws left left' k jobs jobs' b count lt left_is a d =
     let there : slice_get ws k ≡ Some d.writer = sym (got_dropped ws k) ∙ ap (λ (xs : List (Writer D G)). slice_get xs 0) (sym left_is) ∙ d.is in
-    let new : IsNew first.load.streams k (bases k) d.writer = subst (λ (n : ℕ). IsNew n k (bases k) d.writer) count (b.new k d.writer there) in
+    let new : IsNew (format_of first.load.mode) first.load.streams k (bases k) d.writer = subst (λ (n : ℕ). IsNew (format_of first.load.mode) n k (bases k) d.writer) count (b.new k d.writer there) in
     let long = b.long k (let e = b.count in omega (arith, e, count, lt)) in
     subst (λ (xs : List (ManagerJob D G)). AreDealt first table bases ws (k + 1) xs) (sym d.jobs_are) (dealt_more first table bases ws k d.writer jobs d.job a there (d.dealt bases new long))
 

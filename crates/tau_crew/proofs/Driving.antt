@@ -2,6 +2,7 @@
 use Rattle.std.proofs.Common.{ℕ, zero, suc, ◌+◌, ◌-◌, ◌<◌, ◌≤◌, ◌≡◌, true, false, List, [], ◌∷◌, ◌++◌, length, drop, refl, sym, ap, subst, ◌∙◌, arith, length-append, slice_index}
 use Rattle.std.specs.Prelude.{slice_set}
 use Rattle.std.proofs.lemmas.List.{append-nil}
+use Rattle.tau_base.specs.declared.format.Format.{Format}
 use Rattle.tau_disk.specs.Disk.{Passes, Rose}
 use Rattle.tau_disk.specs.Used.{GoesOn, IsStopped}
 use Rattle.tau_disk.specs.declared.disk.Disk.{Ghosts}
@@ -39,11 +40,11 @@ set_there (y ∷ xs) (suc j) x lt = set_there xs j x (omega (arith, lt))
 pub stream_there : (s : PlainManagerSeat) → Manages s → s.stream < length s.seen
 stream_there s m = let a = m.stock.there in let b = m.seen_wide in omega (arith, a, b)
 
-module _ {D : Type 0} {G : Ghosts D} (n j : ℕ) (base : List ℕ) (w0 : Writer D G) where
+module _ {D : Type 0} {G : Ghosts D} (format : Format) (n j : ℕ) (base : List ℕ) (w0 : Writer D G) where
   -- how many bytes the writer has that are not durable
-  pub left_long : (s : PlainManagerSeat) (w : Writer D G) → IsDriven n j base w0 s w → has_failed w ≡ false → s.stock.gathered ≡ durable_of w + length (left_of w)
+  pub left_long : (s : PlainManagerSeat) (w : Writer D G) → IsDriven format n j base w0 s w → has_failed w ≡ false → s.stock.gathered ≡ durable_of w + length (left_of w)
   left_long s w d works =
-      let c : IsCurrent n j base (taken_in s) w = d.managing.current works in
+      let c : IsCurrent format n j base (taken_in s) w = d.managing.current works in
       let a = d.counted in
       let b = c.durable in
       let left = ap (length {A = ℕ}) c.left in
@@ -51,13 +52,13 @@ module _ {D : Type 0} {G : Ghosts D} (n j : ℕ) (base : List ℕ) (w0 : Writer 
       omega (arith, a, b, left, whole)
 
   -- what was gathered is handed to the writer
-  pub driven_loaded : (seen_now : SeenNow G) (s s' : PlainManagerSeat) (body : List ℕ) (w w' : Writer D G) → IsDriven n j base w0 s w → IsFlushed w → has_failed w ≡ false → GathersMore s s' [] body → left_of w' ≡ body → disk_of w' ≡ disk_of w → durable_of w' ≡ durable_of w → has_failed w' ≡ has_failed w →
-      ((n j : ℕ) (content : List ℕ) → IsReady n j w content → IsReady n j w' content) → IsDriven n j base w0 s' w'
+  pub driven_loaded : (seen_now : SeenNow G) (s s' : PlainManagerSeat) (body : List ℕ) (w w' : Writer D G) → IsDriven format n j base w0 s w → IsFlushed w → has_failed w ≡ false → GathersMore s s' [] body → left_of w' ≡ body → disk_of w' ≡ disk_of w → durable_of w' ≡ durable_of w → has_failed w' ≡ has_failed w →
+      ((format : Format) (n j : ℕ) (content : List ℕ) → IsReady format n j w content → IsReady format n j w' content) → IsDriven format n j base w0 s' w'
   driven_loaded seen_now s s' body w w' d all works g left disk durable same ready =
       let more : left_of w' ≡ left_of w ++ bytes_of g.pieces = left ∙ g.bytes ∙ ap (λ (b : List ℕ). b ++ bytes_of g.pieces) (sym (all works)) in
       record {
         stream = g.stream ∙ d.stream;
-        managing = subst (λ (ps : List Piece). IsManaging n j base ps w0 w') (sym g.taken) (gathers n j base seen_now (taken_in s) g.pieces w0 w w' d.managing more disk durable same ready);
+        managing = subst (λ (ps : List Piece). IsManaging format n j base ps w0 w') (sym g.taken) (gathers format n j base seen_now (taken_in s) g.pieces w0 w w' d.managing more disk durable same ready);
         stored = ap (λ (v : List ℕ). slice_index v j) g.seen ∙ d.stored ∙ sym durable;
         counted =
             (let a = g.gathered in
@@ -71,21 +72,21 @@ module _ {D : Type 0} {G : Ghosts D} (n j : ℕ) (base : List ℕ) (w0 : Writer 
       }
 
   -- or memory ran out
-  pub driven_short : (seen_now : SeenNow G) (s s' : PlainManagerSeat) (b b' : List ℕ) (w w' : Writer D G) → IsDriven n j base w0 s w → GathersMore s s' b b' → disk_of w' ≡ disk_of w → durable_of w' ≡ durable_of w → has_failed w' ≡ has_failed w → IsDrivenShort n j base w0 s' w'
+  pub driven_short : (seen_now : SeenNow G) (s s' : PlainManagerSeat) (b b' : List ℕ) (w w' : Writer D G) → IsDriven format n j base w0 s w → GathersMore s s' b b' → disk_of w' ≡ disk_of w → durable_of w' ≡ durable_of w → has_failed w' ≡ has_failed w → IsDrivenShort format n j base w0 s' w'
   driven_short seen_now s s' b b' w w' d g disk durable same = record {
     stream = g.stream ∙ d.stream;
     stored = ap (λ (v : List ℕ). slice_index v j) g.seen ∙ d.stored ∙ sym durable;
     written =
-        subst (λ (k : ℕ). HasWritten n j base (taken_in s') k w0 w') (sym (ap (λ (v : List ℕ). slice_index v j) g.seen ∙ d.stored ∙ sym durable))
-        (subst (λ (ps : List Piece). HasWritten n j base ps (durable_of w') w0 w') (sym g.taken) (gathers_short n j base seen_now (taken_in s) g.pieces w0 w w' d.managing disk durable same));
+        subst (λ (k : ℕ). HasWritten format n j base (taken_in s') k w0 w') (sym (ap (λ (v : List ℕ). slice_index v j) g.seen ∙ d.stored ∙ sym durable))
+        (subst (λ (ps : List Piece). HasWritten format n j base ps (durable_of w') w0 w') (sym g.taken) (gathers_short format n j base seen_now (taken_in s) g.pieces w0 w w' d.managing disk durable same));
   }
 
   -- a step that leaves the writer, and of the seat what the loop speaks of
-  pub driven_same : (s s' : PlainManagerSeat) (w : Writer D G) → IsDriven n j base w0 s w → s'.stream ≡ s.stream → taken_in s' ≡ taken_in s → slice_index s'.seen j ≡ slice_index s.seen j → s'.stock.gathered ≡ s.stock.gathered → AreLong s'.stock.own.pieces → raised_in s'.me.0 ≡ raised_in s.me.0 →
-      IsDriven n j base w0 s' w
+  pub driven_same : (s s' : PlainManagerSeat) (w : Writer D G) → IsDriven format n j base w0 s w → s'.stream ≡ s.stream → taken_in s' ≡ taken_in s → slice_index s'.seen j ≡ slice_index s.seen j → s'.stock.gathered ≡ s.stock.gathered → AreLong s'.stock.own.pieces → raised_in s'.me.0 ≡ raised_in s.me.0 →
+      IsDriven format n j base w0 s' w
   driven_same s s' w d stream taken seen gathered long raised = record {
     stream = stream ∙ d.stream;
-    managing = subst (λ (ps : List Piece). IsManaging n j base ps w0 w) (sym taken) d.managing;
+    managing = subst (λ (ps : List Piece). IsManaging format n j base ps w0 w) (sym taken) d.managing;
     stored = seen ∙ d.stored;
     counted = gathered ∙ d.counted ∙ ap (λ (ps : List Piece). length base + length (bytes_of ps)) (sym taken);
     long = long;
@@ -93,12 +94,12 @@ module _ {D : Type 0} {G : Ghosts D} (n j : ℕ) (base : List ℕ) (w0 : Writer 
   }
 
   -- what is driven has written so much
-  pub short_of : (s : PlainManagerSeat) (w : Writer D G) → IsDriven n j base w0 s w → IsDrivenShort n j base w0 s w
-  short_of s w d = record { stream = d.stream; stored = d.stored; written = subst (λ (k : ℕ). HasWritten n j base (taken_in s) k w0 w) (sym d.stored) d.managing.managed }
+  pub short_of : (s : PlainManagerSeat) (w : Writer D G) → IsDriven format n j base w0 s w → IsDrivenShort format n j base w0 s w
+  short_of s w d = record { stream = d.stream; stored = d.stored; written = subst (λ (k : ℕ). HasWritten format n j base (taken_in s) k w0 w) (sym d.stored) d.managing.managed }
 
-  module _ (seen_now : SeenNow G) (counts_now : CountsNow G) (only_now : OnlyNow G) (s s' : PlainManagerSeat) (w w' : Writer D G) (d : IsDriven n j base w0 s w) (works : has_failed w ≡ false) (upto : ℕ) (all : upto ≡ durable_of w + length (left_of w))
-      (moments : G.tells → (n j : ℕ) (content : List ℕ) → IsReady n j w content → Passes G.moment G.may_leave_since (disk_of w) (disk_of w') (IsOldOrNew n j content (part_upto w upto))) (faults : G.faults (disk_of w) ≤ G.faults (disk_of w')) where
-    abbrev current : IsCurrent n j base (taken_in s) w
+  module _ (seen_now : SeenNow G) (counts_now : CountsNow G) (only_now : OnlyNow G) (s s' : PlainManagerSeat) (w w' : Writer D G) (d : IsDriven format n j base w0 s w) (works : has_failed w ≡ false) (upto : ℕ) (all : upto ≡ durable_of w + length (left_of w))
+      (moments : G.tells → (format : Format) (n j : ℕ) (content : List ℕ) → IsReady format n j w content → Passes G.moment G.may_leave_since (disk_of w) (disk_of w') (IsOldOrNew format n j content (part_upto w upto))) (faults : G.faults (disk_of w) ≤ G.faults (disk_of w')) where
+    abbrev current : IsCurrent format n j base (taken_in s) w
     current = d.managing.current works
 
     abbrev rest : List Piece
@@ -112,12 +113,12 @@ module _ {D : Type 0} {G : Ghosts D} (n j : ℕ) (base : List ℕ) (w0 : Writer 
 
     -- a flush of all, and its end was stored
     pub driven_flushed : Manages s → s' ≡ record s { me = (sees_to s.stream upto s.me.0, s.me.1); seen = slice_set s.seen s.stream upto } → durable_of w' ≡ upto → left_of w' ≡ drop (upto - durable_of w) (left_of w) → has_failed w' ≡ false →
-        (G.tells → (n j : ℕ) (content : List ℕ) → IsReady n j w content → IsReady n j w' (content ++ part_upto w upto)) → (G.tells → GoesOn G.number G.fails (disk_of w) (disk_of w')) → IsDriven n j base w0 s' w' × IsFlushed w'
+        (G.tells → (format : Format) (n j : ℕ) (content : List ℕ) → IsReady format n j w content → IsReady format n j w' (content ++ part_upto w upto)) → (G.tells → GoesOn G.number G.fails (disk_of w) (disk_of w')) → IsDriven format n j base w0 s' w' × IsFlushed w'
     driven_flushed m knows durable left fine done goes = (
       record {
         stream = ap (λ (x : PlainManagerSeat). x.stream) knows ∙ d.stream;
-        managing = subst (λ (ps : List Piece). IsManaging n j base ps w0 w') (sym (ap taken_in knows))
-            (flushed n j base seen_now counts_now only_now (taken_in s) upto w0 w w' d.managing works rest [] whole upto_is moments faults durable left fine done goes);
+        managing = subst (λ (ps : List Piece). IsManaging format n j base ps w0 w') (sym (ap taken_in knows))
+            (flushed format n j base seen_now counts_now only_now (taken_in s) upto w0 w w' d.managing works rest [] whole upto_is moments faults durable left fine done goes);
         stored =
             (let here : slice_index (slice_set s.seen s.stream upto) s.stream ≡ upto = set_there s.seen s.stream upto (stream_there s m) in
             ap (λ (x : PlainManagerSeat). slice_index x.seen j) knows ∙ subst (λ (i : ℕ). slice_index (slice_set s.seen s.stream upto) i ≡ upto) d.stream here ∙ sym durable);
@@ -130,12 +131,12 @@ module _ {D : Type 0} {G : Ghosts D} (n j : ℕ) (base : List ℕ) (w0 : Writer 
 
     -- the disk failed, and the stop was raised
     pub driven_broke : s' ≡ record s { me = (told_raised s.me.0, s.me.1) } → durable_of w' ≡ durable_of w → has_failed w' ≡ true → Rose (G.faults (disk_of w)) (G.faults (disk_of w')) →
-        (G.tells → (n j : ℕ) (content : List ℕ) → IsReady n j w content → MayHold n j content (G.may_leave (disk_of w'))) → IsStopped G.tells G.number G.fails G.short (disk_of w) (disk_of w') → IsDriven n j base w0 s' w' × IsFlushed w'
+        (G.tells → (format : Format) (n j : ℕ) (content : List ℕ) → IsReady format n j w content → MayHold format n j content (G.may_leave (disk_of w'))) → IsStopped G.tells G.number G.fails G.short (disk_of w) (disk_of w') → IsDriven format n j base w0 s' w' × IsFlushed w'
     driven_broke knows durable fails rose reached stops = (
       record {
         stream = ap (λ (x : PlainManagerSeat). x.stream) knows ∙ d.stream;
-        managing = subst (λ (ps : List Piece). IsManaging n j base ps w0 w') (sym (ap taken_in knows))
-            (broke n j base seen_now counts_now only_now (taken_in s) upto w0 w w' d.managing works rest [] whole upto_is moments faults durable fails rose reached stops);
+        managing = subst (λ (ps : List Piece). IsManaging format n j base ps w0 w') (sym (ap taken_in knows))
+            (broke format n j base seen_now counts_now only_now (taken_in s) upto w0 w w' d.managing works rest [] whole upto_is moments faults durable fails rose reached stops);
         stored = ap (λ (x : PlainManagerSeat). slice_index x.seen j) knows ∙ d.stored ∙ sym durable;
         counted = ap (λ (x : PlainManagerSeat). x.stock.gathered) knows ∙ d.counted ∙ ap (λ (ps : List Piece). length base + length (bytes_of ps)) (sym (ap taken_in knows));
         long = subst (λ (x : PlainManagerSeat). AreLong x.stock.own.pieces) (sym knows) d.long;

@@ -5,6 +5,7 @@ use Rattle.std.specs.Prelude.{slice_index_or}
 use Rattle.std.specs.Option.{option_map}
 use Rattle.std.proofs.lemmas.List.{length-map}
 use Rattle.std.proofs.lemmas.Option.{slice_get-map}
+use Rattle.tau_base.specs.Modes.{format_of}
 use Rattle.tau_outbox.specs.declared.Piece.{Piece}
 use Rattle.tau_run.specs.Run.{pair_of}
 use Rattle.tau_step.specs.RunTold.{EachOf}
@@ -123,8 +124,8 @@ module _ {D : Type 0} {G : Ghosts D} (first : Plain) (table : TableId) (bases : 
           record {
             ready = back.ready;
             written =
-                subst (λ (ps : List Piece). HasWritten first.load.streams j (bases j) ps (slice_index h.me.0.seen j) w job.writer) (sym (ap (λ (m : Managed). m.taken) (managed_is j job at)))
-                (subst (λ (k : ℕ). HasWritten first.load.streams j (bases j) (taken_in job.seat) k w job.writer) seen back.manager.wrote.written);
+                subst (λ (ps : List Piece). HasWritten (format_of first.load.mode) first.load.streams j (bases j) ps (slice_index h.me.0.seen j) w job.writer) (sym (ap (λ (m : Managed). m.taken) (managed_is j job at)))
+                (subst (λ (k : ℕ). HasWritten (format_of first.load.mode) first.load.streams j (bases j) (taken_in job.seat) k w job.writer) seen back.manager.wrote.written);
           },
         ));
   }

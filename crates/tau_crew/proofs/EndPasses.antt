@@ -3,6 +3,7 @@ use Rattle.std.proofs.Common.{ℕ, zero, suc, ◌<◌, ◌≡◌, inl, inr, List
 use Rattle.std.specs.Prelude.{Some, slice_get, slice_set}
 use Rattle.std.proofs.lemmas.Bool.{cases_eq}
 use Rattle.atomic_table.specs.Seated.{TableId}
+use Rattle.tau_base.specs.Modes.{format_of}
 use Rattle.tau_disk.specs.declared.disk.Disk.{Ghosts}
 use Rattle.tau_stream.specs.declared.writer.Writer.{Writer}
 use Rattle.tau_core.specs.State.{Plain}
@@ -38,7 +39,7 @@ module _ {D : Type 0} {G : Ghosts D} (first : Plain) (table : TableId) (bases : 
   there_at l same o = subst (λ (x : Load). job.stream < length x.opening.anchors.items) (sym same) (let low = low_at in let s = back_at.stream in let n = o.stands.sound.opened in omega (arith, low, s, n))
 
   pub manage_at : CanManage job
-  manage_at = (first.load.streams, j, bases j, writer_of.0, back_at.manager)
+  manage_at = record { format = format_of first.load.mode; n = first.load.streams; j = j; base = bases j; w0 = writer_of.0; manager = back_at.manager }
 
   -- the manager went on
   pub managers_set : (job' : ManagerJob D G) → KeepsManager job job' → IsSameManager job job' → AreManagersBack first table bases ws (slice_set jobs j job')
@@ -58,7 +59,7 @@ module _ {D : Type 0} {G : Ghosts D} (first : Plain) (table : TableId) (bases : 
             at = same.at ∙ b.at;
             stream = same.stream ∙ b.stream;
             ready = b.ready;
-            manager = keeps first.load.streams j (bases j) w b.manager;
+            manager = keeps (format_of first.load.mode) first.load.streams j (bases j) w b.manager;
           })))
       | inr ne ↦ m.each i w x is (sym (got_other jobs j i job' ne) ∙ there)
     ];

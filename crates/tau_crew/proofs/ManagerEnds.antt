@@ -1,6 +1,8 @@
 -- How a manager's loop begins, and what is known when it has ended.
 use Rattle.std.proofs.Common.{ℕ, ◌<◌, ◌≡◌, Bool, false, List, [], length, sym, ap, subst, ◌∙◌, arith, slice_index}
 use Rattle.std.specs.Prelude.{◌%◌}
+use Rattle.tau_base.specs.declared.format.Format.{Format}
+use Rattle.tau_base.specs.Modes.{format_of}
 use Rattle.tau_disk.specs.declared.disk.Disk.{Ghosts}
 use Rattle.tau_stream.specs.declared.writer.Writer.{Writer}
 use Rattle.tau_stream.specs.Writer.{durable_of, has_failed, IsReady}
@@ -24,12 +26,12 @@ use Rattle.tau_crew.proofs.Driving.{left_long, short_of}
 use Rattle.tau_crew.proofs.Gathering.{managed_anchors, managed_gathered, managed_own}
 
 -- a manager that has done nothing, with a writer that was just opened
-pub manager_begins : {D : Type 0} {G : Ghosts D} → SeenNow G → (n j : ℕ) (base : List ℕ) (s : PlainManagerSeat) (w : Writer D G) → IsNew n j base w → s.stream ≡ j → taken_in s ≡ [] → slice_index s.seen j ≡ length base → s.stock.gathered ≡ length base → s.stock.anchors ≡ [] → s.stock.own.pieces ≡ [] →
-    raised_in s.me.0 ≡ false → IsManagerAt n j base w s w (length base) 0 false
-manager_begins seen_now n j base s w new stream taken seen gathered anchors own raised =
-    let driven : IsDriven n j base w s w = record {
+pub manager_begins : {D : Type 0} {G : Ghosts D} → SeenNow G → (format : Format) (n j : ℕ) (base : List ℕ) (s : PlainManagerSeat) (w : Writer D G) → IsNew format n j base w → s.stream ≡ j → taken_in s ≡ [] → slice_index s.seen j ≡ length base → s.stock.gathered ≡ length base → s.stock.anchors ≡ [] → s.stock.own.pieces ≡ [] →
+    raised_in s.me.0 ≡ false → IsManagerAt format n j base w s w (length base) 0 false
+manager_begins seen_now format n j base s w new stream taken seen gathered anchors own raised =
+    let driven : IsDriven format n j base w s w = record {
       stream = stream;
-      managing = subst (λ (ps : List Piece). IsManaging n j base ps w w) (sym taken) (begins n j base seen_now w (record { works = new.works; durable = new.durable; none = new.left; ready = new.ready }));
+      managing = subst (λ (ps : List Piece). IsManaging format n j base ps w w) (sym taken) (begins format n j base seen_now w (record { works = new.works; durable = new.durable; none = new.left; ready = new.ready }));
       stored = seen ∙ sym new.durable;
       counted = (let e = ap (λ (ps : List Piece). length (bytes_of ps)) taken in omega (arith, gathered, e));
       long = subst AreLong (sym own) tt;
@@ -37,7 +39,7 @@ manager_begins seen_now n j base s w new stream taken seen gathered anchors own 
     } in
     let none : own_of s.stream s.stock.anchors ≡ [] = ap (own_of s.stream) anchors in
     record {
-      wrote = short_of n j base w s w driven;
+      wrote = short_of format n j base w s w driven;
       driven = λ e. driven;
       flushed = λ e f. new.left;
       apart = λ e. record {
@@ -47,10 +49,10 @@ manager_begins seen_now n j base s w new stream taken seen gathered anchors own 
       };
     }
 
-module _ {D : Type 0} {G : Ghosts D} (l : Load) (v : List ℕ) (j : ℕ) (base : List ℕ) (s : PlainManagerSeat) (w0 w : Writer D G) (last placed : ℕ) (short : Bool) (m : IsManagerAt l.streams j base w0 s w last placed short) (manages : Manages s) (now : slice_index v j ≡ slice_index s.seen j) where
+module _ {D : Type 0} {G : Ghosts D} (l : Load) (v : List ℕ) (j : ℕ) (base : List ℕ) (s : PlainManagerSeat) (w0 w : Writer D G) (last placed : ℕ) (short : Bool) (m : IsManagerAt (format_of l.mode) l.streams j base w0 s w last placed short) (manages : Manages s) (now : slice_index v j ≡ slice_index s.seen j) where
   -- at whatever end
-  pub manager_knows : (G.tells → IsReady l.streams j w0 base) → ManagerKnows l v j base (managed_in s.me.0) w0 w
-  manager_knows ready = record { ready = ready; written = subst (λ (d : ℕ). HasWritten l.streams j base (taken_in s) d w0 w) (sym now) m.wrote.written }
+  pub manager_knows : (G.tells → IsReady (format_of l.mode) l.streams j w0 base) → ManagerKnows l v j base (managed_in s.me.0) w0 w
+  manager_knows ready = record { ready = ready; written = subst (λ (d : ℕ). HasWritten (format_of l.mode) l.streams j base (taken_in s) d w0 w) (sym now) m.wrote.written }
 
   -- where memory was there
   module _ (enough : short ≡ false) where
@@ -67,7 +69,7 @@ module _ {D : Type 0} {G : Ghosts D} (l : Load) (v : List ℕ) (j : ℕ) (base :
         let d = m.driven enough in
         let gathered : (managed_in s.me.0).gathered ≡ s.stock.gathered = managed_gathered s manages in
         let all : s.stock.gathered ≡ durable_of w =
-        (let long = left_long l.streams j base w0 s w d works in let none = ap (length {A = ℕ}) (m.flushed enough works) in omega (arith, long, none)) in
+        (let long = left_long (format_of l.mode) l.streams j base w0 s w d works in let none = ap (length {A = ℕ}) (m.flushed enough works) in omega (arith, long, none)) in
         record {
           durable = now ∙ d.stored ∙ sym all ∙ sym gathered;
           own = managed_own s manages ∙ own;

@@ -2,6 +2,7 @@
 use Rattle.std.proofs.Common.{ℕ, zero, suc, ◌<◌, ◌≤◌, ◌≡◌, inl, inr, arith, List, [], ◌∷◌, ◌++◌, drop, take, length, refl, sym, ap, subst, ◌∙◌}
 use Rattle.std.specs.Prelude.{Some, None, Result, Ok, Err, slice_get, slice_index_or}
 use Rattle.std.proofs.lemmas.List.{append-nil}
+use Rattle.tau_base.specs.Modes.{format_of}
 use Rattle.tau_base.specs.declared.value.LogMode.{LogMode}
 use Rattle.tau_base.specs.declared.value.NoMemory.{NoMemory}
 use Rattle.tau_disk.specs.declared.disk.Disk.{Ghosts}
@@ -80,7 +81,7 @@ module _ {D : Type 0} {G : Ghosts D} (desk : Desk) (bases : ℕ → List ℕ) (w
         opened = one.opened;
         stream = one.at ∙ sym one.stream;
         there = (let c = dealt.count in let s = one.stream in omega (arith, c, s, low, anchors));
-        manages = (desk.table.shared.key.value.load.streams, k, bases k, w.0, one.manager);
+        manages = record { format = format_of desk.table.shared.key.value.load.mode; n = desk.table.shared.key.value.load.streams; j = k; base = bases k; w0 = w.0; manager = one.manager };
       })
 
 -- the head after all other seats have left

@@ -2,6 +2,7 @@
 use Rattle.std.proofs.Common.{ℕ, zero, suc, ◌<◌, ◌≡◌, inl, inr, Bool, true, false, arith, List, [], ◌∷◌, length, sym, subst, ◌∙◌}
 use Rattle.std.specs.Prelude.{Some, None, slice_get, slice_index_or}
 use Rattle.atomic_table.specs.Seated.{TableId}
+use Rattle.tau_base.specs.Modes.{format_of}
 use Rattle.tau_disk.specs.Disk.{Rose}
 use Rattle.tau_disk.specs.declared.disk.Disk.{Ghosts}
 use Rattle.tau_stream.specs.declared.writer.Writer.{Writer}
@@ -21,7 +22,7 @@ use Rattle.tau_base.proofs.Lists.{some_at, got_within, got_or}
 pub one_head : (x y : PlainHead) → Some x ≡ Some y → x ≡ y
 one_head x y e = cc e
 
-module _ {D : Type 0} {G : Ghosts D} (first : Plain) (table : TableId) (bases : ℕ → List ℕ) (ws : List (Writer D G)) (wide : length first.load.opening.ends ≡ first.load.streams) (begun : IsBegun bases ws first.load.opening) where
+module _ {D : Type 0} {G : Ghosts D} (first : Plain) (table : TableId) (bases : ℕ → List ℕ) (ws : List (Writer D G)) (wide : length first.load.opening.ends ≡ first.load.streams) (begun : IsBegun (format_of first.load.mode) bases ws first.load.opening) where
   managers_back : (jobs jobs' : List (ManagerJob D G)) → AreDealt first table bases ws first.load.streams jobs → ManagersWent jobs jobs' → length jobs' ≡ length jobs → AreManagersBack first table bases ws jobs'
   managers_back jobs jobs' dealt went long = record {
     count = long ∙ dealt.count;
@@ -37,8 +38,8 @@ module _ {D : Type 0} {G : Ghosts D} (first : Plain) (table : TableId) (bases : 
           opened = one.own.opened ∙ d.opened;
           at = one.own.at ∙ d.at;
           stream = one.own.stream ∙ d.stream;
-          ready = λ t. subst (λ (n : ℕ). IsReady n j w (bases j)) (begun.count ∙ wide) ((begun.new j w at_w).ready t);
-          manager = one.keeps first.load.streams j (bases j) w d.manager;
+          ready = λ t. subst (λ (n : ℕ). IsReady (format_of first.load.mode) n j w (bases j)) (begun.count ∙ wide) ((begun.new j w at_w).ready t);
+          manager = one.keeps (format_of first.load.mode) first.load.streams j (bases j) w d.manager;
         });
   }
 

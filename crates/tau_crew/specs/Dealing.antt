@@ -1,6 +1,7 @@
 -- The managers' seats leave the head, each with the writer of its stream.
 use Rattle.std.specs.Prelude.{ℕ, ◌<◌, ◌≤◌, ◌≡◌, true, Some, List, [], ◌∷◌, ◌++◌, drop, length, slice_get, slice_index}
 use Rattle.atomic_table.specs.Seated.{TableId}
+use Rattle.tau_base.specs.Modes.{format_of}
 use Rattle.tau_disk.specs.declared.disk.Disk.{Ghosts}
 use Rattle.tau_stream.specs.declared.writer.Writer.{Writer}
 use Rattle.tau_core.specs.State.{Plain}
@@ -37,7 +38,7 @@ module _ {D : Type 0} {G : Ghosts D} (first : Plain) (table : TableId) (bases : 
     pub opened : job.seat.me.0.opened ≡ Some first
     pub at : job.seat.stream ≡ j
     pub stream : job.stream ≡ j
-    pub manager : IsManagerJob first.load.streams j (bases j) w job
+    pub manager : IsManagerJob (format_of first.load.mode) first.load.streams j (bases j) w job
 
   -- the first k managers
   pub record AreDealt (ws : List (Writer D G)) (k : ℕ) (jobs : List (ManagerJob D G)) : Type 0 where
@@ -52,4 +53,4 @@ module _ {D : Type 0} {G : Ghosts D} (first : Plain) (table : TableId) (k : ℕ)
     pub is : slice_get left 0 ≡ Some writer
     pub rest : left' ≡ drop 1 left
     pub jobs_are : jobs' ≡ jobs ++ job ∷ []
-    pub dealt : (bases : ℕ → List ℕ) → IsNew first.load.streams k (bases k) writer → length (bases k) ≡ slice_index first.load.opening.ends k → IsDealt first table bases k writer job
+    pub dealt : (bases : ℕ → List ℕ) → IsNew (format_of first.load.mode) first.load.streams k (bases k) writer → length (bases k) ≡ slice_index first.load.opening.ends k → IsDealt first table bases k writer job

@@ -1,5 +1,6 @@
 -- A manager with its writer: what its loop keeps.
 use Rattle.std.specs.Prelude.{ℕ, ◌+◌, ◌≤◌, ◌≡◌, Bool, false, List, [], length, map, slice_index}
+use Rattle.tau_base.specs.declared.format.Format.{Format}
 use Rattle.tau_base.specs.declared.limits.TheConstants.{MAX_BODY}
 use Rattle.tau_disk.specs.declared.disk.Disk.{Ghosts}
 use Rattle.tau_stream.specs.declared.writer.Writer.{Writer}
@@ -17,9 +18,9 @@ own_of j anchors = map (λ (v : List ℕ). slice_index v j) anchors
 module _ {D : Type 0} {G : Ghosts D} where
   -- The seat of the manager of stream j of n with its writer, which was w0 at the entry: the writer has what the view has gathered, and what was
   -- stored last is durable. The stop was raised exactly if the disk has failed.
-  pub record IsDriven (n j : ℕ) (base : List ℕ) (w0 : Writer D G) (s : PlainManagerSeat) (w : Writer D G) : Type 0 where
+  pub record IsDriven (format : Format) (n j : ℕ) (base : List ℕ) (w0 : Writer D G) (s : PlainManagerSeat) (w : Writer D G) : Type 0 where
     pub stream : s.stream ≡ j
-    pub managing : IsManaging n j base (taken_in s) w0 w
+    pub managing : IsManaging format n j base (taken_in s) w0 w
     pub stored : slice_index s.seen j ≡ durable_of w
     pub counted : s.stock.gathered ≡ length base + length (bytes_of (taken_in s))
     pub long : AreLong s.stock.own.pieces
@@ -30,21 +31,21 @@ module _ {D : Type 0} {G : Ghosts D} where
   IsFlushed w = has_failed w ≡ false → left_of w ≡ []
 
   -- where memory ran out the view may have more than the writer has
-  pub record IsDrivenShort (n j : ℕ) (base : List ℕ) (w0 : Writer D G) (s : PlainManagerSeat) (w : Writer D G) : Type 0 where
+  pub record IsDrivenShort (format : Format) (n j : ℕ) (base : List ℕ) (w0 : Writer D G) (s : PlainManagerSeat) (w : Writer D G) : Type 0 where
     pub stream : s.stream ≡ j
     pub stored : slice_index s.seen j ≡ durable_of w
-    pub written : HasWritten n j base (taken_in s) (slice_index s.seen j) w0 w
+    pub written : HasWritten format n j base (taken_in s) (slice_index s.seen j) w0 w
 
   -- whatever the stream began with and the writer was at the entry, a step keeps it
   abbrev pub KeepsDriven : PlainManagerSeat → PlainManagerSeat → Writer D G → Writer D G → Type 0
-  KeepsDriven s s' w w' = (n j : ℕ) (base : List ℕ) (w0 : Writer D G) → IsDriven n j base w0 s w → IsDriven n j base w0 s' w'
+  KeepsDriven s s' w w' = (format : Format) (n j : ℕ) (base : List ℕ) (w0 : Writer D G) → IsDriven format n j base w0 s w → IsDriven format n j base w0 s' w'
 
   abbrev pub EndsShort : PlainManagerSeat → PlainManagerSeat → Writer D G → Writer D G → Type 0
-  EndsShort s s' w w' = (n j : ℕ) (base : List ℕ) (w0 : Writer D G) → IsDriven n j base w0 s w → IsFlushed w → IsDrivenShort n j base w0 s' w'
+  EndsShort s s' w w' = (format : Format) (n j : ℕ) (base : List ℕ) (w0 : Writer D G) → IsDriven format n j base w0 s w → IsFlushed w → IsDrivenShort format n j base w0 s' w'
 
   -- some manager's loop keeps it
   abbrev pub CanDrive : PlainManagerSeat → Writer D G → Type 0
-  CanDrive s w = (n : ℕ) × (j : ℕ) × (base : List ℕ) × (w0 : Writer D G) × IsDriven n j base w0 s w
+  CanDrive s w = (format : Format) × (n : ℕ) × (j : ℕ) × (base : List ℕ) × (w0 : Writer D G) × IsDriven format n j base w0 s w
 
 -- nothing changed of the seat but what it knows
 pub record SameButKnows (s s' : PlainManagerSeat) : Type 0 where
@@ -75,8 +76,8 @@ abbrev pub IsBlock : ℕ → ℕ → Type 0
 IsBlock before durable = (before ≤ durable) × (durable ≤ before + MAX_BODY)
 
 -- The manager of stream j of n, whose writer was w0 at the entry, at the head of a turn. Where memory ran out it says less.
-pub record IsManagerAt {D : Type 0} {G : Ghosts D} (n j : ℕ) (base : List ℕ) (w0 : Writer D G) (s : PlainManagerSeat) (w : Writer D G) (last placed : ℕ) (short : Bool) : Type 0 where
-  pub wrote : IsDrivenShort n j base w0 s w
-  pub driven : short ≡ false → IsDriven n j base w0 s w
+pub record IsManagerAt {D : Type 0} {G : Ghosts D} (format : Format) (n j : ℕ) (base : List ℕ) (w0 : Writer D G) (s : PlainManagerSeat) (w : Writer D G) (last placed : ℕ) (short : Bool) : Type 0 where
+  pub wrote : IsDrivenShort format n j base w0 s w
+  pub driven : short ≡ false → IsDriven format n j base w0 s w
   pub flushed : short ≡ false → IsFlushed w
   pub apart : short ≡ false → IsApart (length base) (durable_of w) last placed s

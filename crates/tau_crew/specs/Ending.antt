@@ -1,6 +1,7 @@
 -- What the threads of a run give back: a head with every worker's role, the managers' jobs in the order of the streams and the clerk's, their seats still out.
 use Rattle.std.specs.Prelude.{ℕ, ◌<◌, ◌≤◌, ◌≡◌, ◌⊎◌, Bool, true, false, Some, None, List, [], length, slice_get}
 use Rattle.atomic_table.specs.Seated.{TableId}
+use Rattle.tau_base.specs.Modes.{format_of}
 use Rattle.tau_disk.specs.declared.disk.Disk.{Ghosts}
 use Rattle.tau_stream.specs.declared.writer.Writer.{Writer}
 use Rattle.tau_stream.specs.Writer.{IsReady}
@@ -66,8 +67,8 @@ module _ {D : Type 0} {G : Ghosts D} (first : Plain) (table : TableId) (bases : 
     pub opened : job.seat.me.0.opened ≡ Some first
     pub at : job.seat.stream ≡ j
     pub stream : job.stream ≡ j
-    pub ready : G.tells → IsReady first.load.streams j w (bases j)
-    pub manager : IsManagerJob first.load.streams j (bases j) w job
+    pub ready : G.tells → IsReady (format_of first.load.mode) first.load.streams j w (bases j)
+    pub manager : IsManagerJob (format_of first.load.mode) first.load.streams j (bases j) w job
 
   -- one of each stream, in their order
   pub record AreManagersBack (ws : List (Writer D G)) (jobs : List (ManagerJob D G)) : Type 0 where

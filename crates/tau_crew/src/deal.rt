@@ -1,5 +1,6 @@
 //! The managers' seats leave the head, each with the writer of its stream.
 ghost use Rattle.std.specs.Prelude.{false, ◌≡◌, ◌+◌, ◌-◌, ◌<◌, ◌≤◌, [], Some, ℕ, List, drop, length, vec_capacity, vec_len};
+ghost use Rattle.tau_base.specs.Modes.{format_of};
 ghost use Rattle.tau_step.specs.Whole.{IsBegun};
 ghost use Rattle.tau_desk.specs.Ends.{IsClerkSplit};
 ghost use Rattle.tau_crew.specs.Clerking.{IsToldSoFar, Tells};
@@ -63,7 +64,7 @@ pub(crate) fn deal_managers<D: Disk>(
     requires room { (jobs.old.items ≡ []) × (desk.now.streams ≤ vec_capacity jobs.old) }
     ensures dealing { IsDealing desk.now.table.shared.key.value desk.now.table.shared.table_id desk.now.streams head.new }
     ensures workers { KeepsWorkers desk.now.table.shared.key.value.load head.old head.new }
-    ensures dealt { (bases : ℕ → List ℕ) → IsBegun bases writers.old.items desk.now.table.shared.key.value.load.opening → AreDealt desk.now.table.shared.key.value desk.now.table.shared.table_id bases writers.old.items desk.now.streams jobs.new.items }
+    ensures dealt { (bases : ℕ → List ℕ) → IsBegun (format_of desk.now.table.shared.key.value.load.mode) bases writers.old.items desk.now.table.shared.key.value.load.opening → AreDealt desk.now.table.shared.key.value desk.now.table.shared.table_id bases writers.old.items desk.now.streams jobs.new.items }
     ensures writers { writers.new.items ≡ [] }
     ensures kept { vec_capacity writers.new ≡ vec_capacity writers.old }
 {

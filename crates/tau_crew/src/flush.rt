@@ -1,5 +1,6 @@
 //! A manager makes durable what it gathered.
 ghost use Rattle.std.specs.Prelude.{◌≡◌, ◌⊎◌, true, ◌+◌, ◌<◌, ◌≤◌, [], Some, false, ℕ, List, IfOk, OnOk, length};
+ghost use Rattle.tau_base.specs.declared.format.Format.{Format};
 ghost use Rattle.tau_base.specs.declared.limits.TheConstants.{MAX_BODY, MAX_LSN};
 ghost use Rattle.tau_stream.specs.Writer.{disk_of, durable_of, has_failed, left_of, IsPrepared, IsReady};
 ghost use Rattle.tau_crew.specs.Driving.{CanDrive, IsBlock, IsFlushed, KeepsDriven, SameButKnows};
@@ -24,7 +25,7 @@ pub(crate) fn hand_over<D: Disk>(writer: &mut Writer<D>, body: &[u8]) -> Result<
     ensures disk { disk_of writer.new ≡ disk_of writer.old }
     ensures durable { durable_of writer.new ≡ durable_of writer.old }
     ensures works { has_failed writer.new ≡ has_failed writer.old }
-    ensures ready { (n j : ℕ) (content : List ℕ) → IsReady n j writer.old content → IsReady n j writer.new content }
+    ensures ready { (format : Format) (n j : ℕ) (content : List ℕ) → IsReady format n j writer.old content → IsReady format n j writer.new content }
 {
     if writer.durable() > END_OF_POSITIONS - MAX_BODY as u64 {
         return Err(NoMemory);

@@ -1,6 +1,7 @@
 //! Runs in threads.
 ghost use Rattle.std.specs.Prelude.{ℕ, ◌≡◌, ◌≤◌, ◌<◌, ◌^◌, List, [], false, length, slice_index, vec_capacity, vec_len};
-ghost use Rattle.tau_base.specs.declared.limits.TheConstants.{MAX_CATALOGUE, MAX_STREAMS, MAX_WORKERS};
+ghost use Rattle.tau_base.specs.Modes.{format_of, most_streams};
+ghost use Rattle.tau_base.specs.declared.limits.TheConstants.{MAX_CATALOGUE, MAX_WORKERS};
 ghost use Rattle.tau_disk.specs.Disk.{Rose};
 ghost use Rattle.tau_text.specs.Canonical.{declarations_text};
 ghost use Rattle.tau_text.specs.Kept.{AreCalls};
@@ -49,12 +50,12 @@ pub fn run_threads<R: Threads + Wait + Sync, D: Disk + Send, K: Sink + Send, G: 
     gate: &G,
 ) -> Result<RunEnd, NoMemory>
     requires streams_low { 1 ≤ length writers.old.items }
-    requires streams_high { length writers.old.items ≤ MAX_STREAMS }
+    requires streams_high { length writers.old.items ≤ most_streams (format_of mode) }
     requires low { 1 ≤ workers }
     requires high { workers ≤ MAX_WORKERS }
     requires calls { AreCalls load.now.declarations.procs load.now.calls }
     requires text { length (declarations_text load.now.declarations) ≤ MAX_CATALOGUE }
-    requires fresh { AreNew (λ j. catalogue_of load.now) writers.old.items }
+    requires fresh { AreNew (format_of mode) (λ j. catalogue_of load.now) writers.old.items }
     ensures ran { RanInThreads workers mode load.now writers.old.items writers.new.items K.tells (K.held sink.old) (K.held sink.new) (Rose (K.faults sink.old) (K.faults sink.new)) result }
     ensures faults { K.faults sink.old ≤ K.faults sink.new }
     ensures count { length writers.new.items ≡ length writers.old.items }
@@ -78,9 +79,10 @@ pub fn run_threads_from<R: Threads + Wait + Sync, D: Disk + Send, K: Sink + Send
     requires low { 1 ≤ workers }
     requires high { workers ≤ MAX_WORKERS }
     requires calls { AreCalls load.now.declarations.procs load.now.calls }
+    requires streams { length opening.ends ≤ most_streams (format_of mode) }
     requires fits { Fits opening }
-    requires begun { (bases : ℕ → List ℕ) × IsBegun bases writers.old.items opening }
-    ensures ran { (bases : ℕ → List ℕ) → IsBegun bases writers.old.items opening →
+    requires begun { (bases : ℕ → List ℕ) × IsBegun (format_of mode) bases writers.old.items opening }
+    ensures ran { (bases : ℕ → List ℕ) → IsBegun (format_of mode) bases writers.old.items opening →
         RanInThreadsFrom workers mode load.now writers.old.items writers.new.items K.tells (K.held sink.old) (K.held sink.new) (Rose (K.faults sink.old) (K.faults sink.new)) opening bases result }
     ensures faults { K.faults sink.old ≤ K.faults sink.new }
     ensures count { length writers.new.items ≡ length writers.old.items }
@@ -119,8 +121,8 @@ fn go<R: Threads + Wait + Sync, D: Disk + Send, K: Sink + Send, G: Gate + Sync>(
     requires whole { IsWhole head }
     requires own { head.table_id ≡ desk.table.shared.table_id }
     requires unbegun { AreUnbegun head.workers }
-    requires begun { (bases : ℕ → List ℕ) × IsBegun bases writers.old.items desk.table.shared.key.value.load.opening }
-    ensures ran { (bases : ℕ → List ℕ) → IsBegun bases writers.old.items desk.table.shared.key.value.load.opening →
+    requires begun { (bases : ℕ → List ℕ) × IsBegun (format_of desk.table.shared.key.value.load.mode) bases writers.old.items desk.table.shared.key.value.load.opening }
+    ensures ran { (bases : ℕ → List ℕ) → IsBegun (format_of desk.table.shared.key.value.load.mode) bases writers.old.items desk.table.shared.key.value.load.opening →
         ThreadsWent bases desk.table.shared.key.value writers.old.items writers.new.items K.tells (K.held sink.old) (K.held sink.new) (Rose (K.faults sink.old) (K.faults sink.new)) result }
     ensures faults { K.faults sink.old ≤ K.faults sink.new }
     ensures count { length writers.new.items ≡ length writers.old.items }
@@ -155,9 +157,9 @@ fn run_all<R: Threads + Wait + Sync, D: Disk + Send, K: Sink + Send, G: Gate + S
     requires whole { IsWhole head }
     requires own { head.table_id ≡ desk.now.table.shared.table_id }
     requires unbegun { AreUnbegun head.workers }
-    requires begun { (bases : ℕ → List ℕ) × IsBegun bases writers.old.items desk.now.table.shared.key.value.load.opening }
+    requires begun { (bases : ℕ → List ℕ) × IsBegun (format_of desk.now.table.shared.key.value.load.mode) bases writers.old.items desk.now.table.shared.key.value.load.opening }
     requires room { (jobs.old.items ≡ []) × (desk.now.streams ≤ vec_capacity jobs.old) }
-    ensures back { (bases : ℕ → List ℕ) → IsBegun bases writers.old.items desk.now.table.shared.key.value.load.opening →
+    ensures back { (bases : ℕ → List ℕ) → IsBegun (format_of desk.now.table.shared.key.value.load.mode) bases writers.old.items desk.now.table.shared.key.value.load.opening →
         IsBack desk.now.table.shared.key.value desk.now.table.shared.table_id bases writers.old.items K.tells (K.held sink.old) (K.held sink.new) (Rose (K.faults sink.old) (K.faults sink.new)) result.0 jobs.new.items result.1 result.2 }
     ensures faults { K.faults sink.old ≤ K.faults sink.new }
     ensures writers { writers.new.items ≡ [] }

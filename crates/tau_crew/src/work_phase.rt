@@ -1,6 +1,7 @@
 //! The part of a run in which workers, managers and the clerk run side by side.
 ghost use Rattle.std.specs.Prelude.{ℕ, ◌≡◌, ◌<◌, ◌≤◌, List, Some, false, length};
 ghost use Rattle.std.specs.List.{All};
+ghost use Rattle.tau_base.specs.Modes.{format_of};
 ghost use Rattle.tau_disk.specs.Disk.{Rose};
 ghost use Rattle.tau_core.specs.Opens.{Opened};
 ghost use Rattle.tau_step.specs.Whole.{IsBegun};
@@ -37,7 +38,7 @@ pub(crate) fn run_phase<R: Threads + Wait + Sync, D: Disk + Send, K: Sink + Send
     requires managers { All (IsManagerReady desk.now) managers.old }
     requires some { 0 < length managers.old }
     requires clerk { IsClerkReady desk.now clerk.old }
-    ensures back { (bases : ℕ → List ℕ) (ws : List _) (held : List ℕ) → IsBegun bases ws desk.now.table.shared.key.value.load.opening → AreDealt desk.now.table.shared.key.value desk.now.table.shared.table_id bases ws desk.now.table.shared.key.value.load.streams managers.old →
+    ensures back { (bases : ℕ → List ℕ) (ws : List _) (held : List ℕ) → IsBegun (format_of desk.now.table.shared.key.value.load.mode) bases ws desk.now.table.shared.key.value.load.opening → AreDealt desk.now.table.shared.key.value desk.now.table.shared.table_id bases ws desk.now.table.shared.key.value.load.streams managers.old →
         ((w : ℕ) → w < desk.now.table.shared.key.value.load.workers → IsAtStart desk.now.table.shared.key.value.load head w) → Tells desk.now.table.shared.key.value.load clerk.old.seat clerk.old.told → (K.tells → IsToldSoFar held clerk.old.told (K.held sink.old)) → clerk.old.told.sink_failed ≡ false →
         IsBack desk.now.table.shared.key.value desk.now.table.shared.table_id bases ws K.tells held (K.held sink.new) (Rose (K.faults sink.old) (K.faults sink.new)) result.0 managers.new clerk.new result.1 }
     ensures faults { K.faults sink.old ≤ K.faults sink.new }

@@ -3,8 +3,9 @@ use Rattle.std.proofs.Common.{ℕ, ◌<◌, Bool, true, ◌≡◌, List, [], ◌
 use Rattle.std.specs.Prelude.{Some, Ok, ◌&&◌, ◌==◌, slice_get}
 use Rattle.std.proofs.lemmas.Bool.{and_parts, eqb-true}
 use Rattle.std.proofs.lemmas.List.{append-nil, length-append}
+use Rattle.tau_base.specs.Modes.{format_of}
 use Rattle.tau_base.specs.declared.value.LogMode.{LogMode}
-use Rattle.tau_base.specs.declared.value.LogMode.TheVariants.{Values, Commands}
+use Rattle.tau_base.specs.declared.value.LogMode.TheVariants.{Values, Commands, WideValues, WideCommands}
 use Rattle.tau_model.specs.History.{Act, Member, updates}
 use Rattle.tau_model.proofs.Logged.{member_filtered}
 use Rattle.tau_machine.specs.Hands.{Txn}
@@ -30,6 +31,8 @@ anchors_placed : (mode : LogMode) (items : List Item) → anchors_of (map (place
 anchors_placed mode [] = refl
 anchors_placed Values (Record t ∷ items) = anchors_placed Values items
 anchors_placed Commands (Record t ∷ items) = anchors_placed Commands items
+anchors_placed WideValues (Record t ∷ items) = anchors_placed WideValues items
+anchors_placed WideCommands (Record t ∷ items) = anchors_placed WideCommands items
 anchors_placed mode (Anchor x y v ∷ items) = ap (λ (vs : List (List ℕ)). v ∷ vs) (anchors_placed mode items)
 
 module _ (n m : ℕ) (mode : LogMode) (load : Workload) (l : Load) (K : List (Act Txn)) (s : Core) (c : IsCourse n m mode load l K s) (run : Run) (is : IsRunOf n l K s (catalogue_of load) run) (j : ℕ) (lt : j < n) (content : List ℕ)
@@ -54,12 +57,12 @@ module _ (n m : ℕ) (mode : LogMode) (load : Workload) (l : Load) (K : List (Ac
       (h.0, b.0, eqb-true t.call.place.stream j b.1)
 
   -- the anchors that are read of the content are those of the stream
-  pub anchors_read : (ps : List Placed) × (records_of n content ≡ Ok ps) × (anchors_of ps ≡ (s.streams j).anchors)
+  pub anchors_read : (ps : List Placed) × (records_of (format_of l.mode) n content ≡ Ok ps) × (anchors_of ps ≡ (s.streams j).anchors)
   anchors_read =
       let of : AreOf j items = λ t q. (of_stream t q).2 in
       let are : AreDeclared load.declarations l.mode (records_in items) = λ t q. (let h = of_stream t q in good.declared t h.0 h.1) in (
         first_placed load ∷ map (placed_in l.mode) items,
-        ap (records_of n) g.is ∙ content_read l (λ i. (s.streams i).anchors) load n j (slice_index s.ends j) [] items g.bytes c.room c.load_is.streams (none_anchored n j l.opening.anchors.items c.load_is.anchors) good.catalogue g.spelled chain of g.named
+        ap (records_of (format_of l.mode) n) g.is ∙ content_read l (λ i. (s.streams i).anchors) load n j (slice_index s.ends j) [] items g.bytes c.room c.load_is.streams (none_anchored n j l.opening.anchors.items c.load_is.anchors) good.catalogue g.spelled chain of g.named
             (sym g.anchors ∙ sym (append-nil (anchors_in items))) are,
         anchors_placed l.mode items ∙ g.anchors,
       )
@@ -68,7 +71,7 @@ module _ (n m : ℕ) (mode : LogMode) (load : Workload) (l : Load) (K : List (Ac
   content_long = ap (length {A = ℕ}) g.is ∙ length-append (catalogue_of load) g.bytes ∙ spelled_long l (λ i. (s.streams i).anchors) (length (catalogue_of load)) (slice_index s.ends j) items g.bytes g.spelled chain
 
   -- where all is persisted, and the manager kept its distance
-  pub anchors_spaced : slice_index s.plv j ≡ slice_index s.ends j → IsSpacing (length (catalogue_of load)) (slice_index s.plv j) (map (λ (v : List ℕ). slice_index v j) (s.streams j).anchors) → AreSpaced n j (length (catalogue_of load)) content
+  pub anchors_spaced : slice_index s.plv j ≡ slice_index s.ends j → IsSpacing (length (catalogue_of load)) (slice_index s.plv j) (map (λ (v : List ℕ). slice_index v j) (s.streams j).anchors) → AreSpaced (format_of l.mode) n j (length (catalogue_of load)) content
   anchors_spaced flushed k =
       let r = anchors_read in
       let same : map (λ (v : List ℕ). slice_index v j) (anchors_of r.0) ≡ map (λ (v : List ℕ). slice_index v j) (s.streams j).anchors = ap (map (λ (v : List ℕ). slice_index v j)) r.2 in

@@ -1,6 +1,7 @@
 -- The anchors of a run in threads stand in their distance, in what is read of its streams.
-use Rattle.std.proofs.Common.{ℕ, ◌<◌, ◌≡◌, false, List, length, arith, slice_index}
+use Rattle.std.proofs.Common.{ℕ, ◌<◌, ◌≡◌, false, List, length, subst, arith, slice_index}
 use Rattle.std.specs.Prelude.{Some, slice_get}
+use Rattle.tau_base.specs.Modes.{format_of}
 use Rattle.tau_base.specs.declared.value.LogMode.{LogMode}
 use Rattle.tau_disk.specs.declared.disk.Disk.{Ghosts}
 use Rattle.tau_stream.specs.declared.writer.Writer.{Writer}
@@ -25,6 +26,7 @@ module _ {D : Type 0} {G : Ghosts D} (n m : ℕ) (mode : LogMode) (load : Worklo
       d.flushed j w.0 w.1 (works j w.0 w.1)
 
   -- no disk failed: the anchors that are read of each stream stand in their distance
-  pub thread_spaced : (run : Run) → IsRunOf n first.load e.closed.joined (end n m mode load first load_is sound c ws ws' acks e) (catalogue_of load) run → (j : ℕ) (content : List ℕ) → j < n → slice_get run.contents j ≡ Some content → AreSpaced n j (length (catalogue_of load)) content
+  pub thread_spaced : (run : Run) → IsRunOf n first.load e.closed.joined (end n m mode load first load_is sound c ws ws' acks e) (catalogue_of load) run → (j : ℕ) (content : List ℕ) → j < n → slice_get run.contents j ≡ Some content → AreSpaced (format_of mode) n j (length (catalogue_of load)) content
   thread_spaced run is j content lt there =
-      anchors_spaced n m mode load first.load e.closed.joined (end n m mode load first load_is sound c ws ws' acks e) (course n m mode load first load_is sound c ws ws' acks e) run is j lt content there (flushed j lt) (apart j lt)
+      subst (λ (x : LogMode). AreSpaced (format_of x) n j (length (catalogue_of load)) content) load_is.mode_is
+      (anchors_spaced n m mode load first.load e.closed.joined (end n m mode load first load_is sound c ws ws' acks e) (course n m mode load first load_is sound c ws ws' acks e) run is j lt content there (flushed j lt) (apart j lt))

@@ -2,6 +2,7 @@
 use Rattle.std.proofs.Common.{ℕ, ◌<◌, ◌≤◌, ◌≡◌, ◌⊎◌, inl, inr, Bool, true, false, List, ◌++◌, length, take, refl, sym, ap, subst, ◌∙◌, arith, slice_index}
 use Rattle.std.specs.Prelude.{Option, Some, None, slice_get}
 use Rattle.std.proofs.lemmas.Bool.{cases_Bool}
+use Rattle.tau_base.specs.Modes.{format_of}
 use Rattle.tau_base.specs.declared.value.LogMode.{LogMode}
 use Rattle.tau_disk.specs.Passing.{passes_weaker}
 use Rattle.tau_disk.specs.declared.disk.Disk.{Ghosts}
@@ -46,7 +47,7 @@ failed_in (Some w) = has_failed w
 
 module _ (l : Load) (c s : Core) (j : ℕ) (base : List ℕ) (same_moved : (s.streams j).moved ≡ (c.streams j).moved) (same_anchors : anchors_at s ≡ anchors_at c) where
   -- an image with the first pieces that a manager gathered has the first items
-  pub pieces_front : (taken : List Piece) → Paired (IsPieceOf l (anchors_at c)) taken (c.streams j).moved → (x : List ℕ) (p : HasPieces l.streams j base taken x) → HasFront l.streams j base l s (bytes_of p.front) x
+  pub pieces_front : (taken : List Piece) → Paired (IsPieceOf l (anchors_at c)) taken (c.streams j).moved → (x : List ℕ) (p : HasPieces (format_of l.mode) l.streams j base taken x) → HasFront l.streams j base l s (bytes_of p.front) x
   pieces_front taken pair x p = record {
     count = length p.front;
     spelled =
@@ -62,9 +63,9 @@ module _ (l : Load) (c s : Core) (j : ℕ) (base : List ℕ) (same_moved : (s.st
   pub writer_left : {D : Type 0} {G : Ghosts D} (w w' : Writer D G) → ManagerEnds l c j base w w' → slice_index s.plv j ≡ slice_index c.plv j → (has_failed w' ≡ false → (s.streams j).stop ≡ None) →
       (has_failed w' ≡ true → (at : ℕ) × ((s.streams j).stop ≡ Some at)) → Left l s j base w w'
   writer_left {D} {G} w w' e plv goes stops =
-      let g : HasWritten l.streams j base e.taken (slice_index c.plv j) w w' = e.written in
+      let g : HasWritten (format_of l.mode) l.streams j base e.taken (slice_index c.plv j) w w' = e.written in
       record {
-        before = λ t. passes_weaker G.moment G.may_leave_since (disk_of w) (disk_of w') (HasPieces l.streams j base e.taken) (IsLeft l.streams j base l s) (g.before t) (λ x p. inr (bytes_of p.front, pieces_front e.taken e.moved x p));
+        before = λ t. passes_weaker G.moment G.may_leave_since (disk_of w) (disk_of w') (HasPieces (format_of l.mode) l.streams j base e.taken) (IsLeft l.streams j base l s) (g.before t) (λ x p. inr (bytes_of p.front, pieces_front e.taken e.moved x p));
         present = λ t x left. (let p = g.present t x left in (bytes_of p.0.front, pieces_front e.taken e.moved x p.0, (let r = p.1 in omega (arith, r, plv))));
         reached = λ t. (let r = g.reached t in (r.0, r.1, r.2, r.3, r.4 ∙ sym plv));
         goes = λ f. (goes f, g.goes f);

@@ -4,6 +4,7 @@ use Rattle.std.specs.Prelude.{Option, Some, None, slice_get, slice_index_or, ◌
 use Rattle.std.specs.List.{filter}
 use Rattle.std.proofs.Math.Nat.{mod-lt}
 use Rattle.std.proofs.lemmas.Bool.{eq-eqb}
+use Rattle.tau_base.specs.Modes.{format_of}
 use Rattle.tau_model.proofs.ReportOrder.{member_filter_in}
 use Rattle.tau_base.specs.Vectors.{AtMost, covers}
 use Rattle.tau_base.proofs.Vectors.{at_most_itself}
@@ -146,7 +147,7 @@ module _ (first : Plain) (v : Knows) (workers : ℕ → Worker) (managers : ℕ 
                 moved = g.moved;
                 posted = g.own;
                 ready = x.2.ready;
-                written = subst (λ (d : ℕ). HasWritten l.streams j (bases j) (managers j).taken d w x.0) (stored_is j) x.2.written;
+                written = subst (λ (d : ℕ). HasWritten (format_of l.mode) l.streams j (bases j) (managers j).taken d w x.0) (stored_is j) x.2.written;
               },
             ));
       };

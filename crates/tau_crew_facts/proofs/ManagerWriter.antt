@@ -3,6 +3,7 @@ use Rattle.std.proofs.Common.{ℕ, suc, ◌+◌, ◌-◌, ◌<◌, ◌≤◌, �
 use Rattle.std.specs.Prelude.{Some, slice_index}
 use Rattle.std.proofs.lemmas.List.{append-nil}
 use Rattle.std.proofs.Math.Seq.{take-append_seam, drop-append_seam}
+use Rattle.tau_base.specs.declared.format.Format.{Format}
 use Rattle.tau_block.specs.Image.{HasContent, IsLog, content_of}
 use Rattle.tau_disk.specs.Disk.{Passes, Rose}
 use Rattle.tau_disk.specs.Used.{GoesOn, IsStopped}
@@ -23,20 +24,20 @@ bytes_append (p ∷ xs) ys = ap (λ (b : List ℕ). p.bytes ++ b) (bytes_append 
 
 -- ---- a settled log is read as its content
 
-log_has : (n j : ℕ) (image : List ℕ) (gate_at : ℕ) (content : List ℕ) → IsLog n j image gate_at content → HasContent n j content image
-log_has n j image gate_at content log =
+log_has : (format : Format) (n j : ℕ) (image : List ℕ) (gate_at : ℕ) (content : List ℕ) → IsLog format n j image gate_at content → HasContent format n j content image
+log_has format n j image gate_at content log =
     let lt : gate_at < length image = log.within in
     let split : take gate_at image ++ slice_index image gate_at ∷ drop (suc gate_at) image ≡ image =
     ap (λ (xs : List ℕ). take gate_at image ++ xs) (sym (drop-cons image gate_at 0 lt)) ∙ take-append-drop gate_at image in
-    subst (λ (xs : List ℕ). content_of n j xs ≡ Some content) split (log.front.closed (slice_index image gate_at) (drop (suc gate_at) image) log.shut)
+    subst (λ (xs : List ℕ). content_of format n j xs ≡ Some content) split (log.front.closed (slice_index image gate_at) (drop (suc gate_at) image) log.shut)
 
-settled_has : (n j : ℕ) (file : List ℕ) (may_leave : List ℕ → Type 0) (gate_at : ℕ) (content : List ℕ) → IsSettled n j file may_leave gate_at content →
-    (x : List ℕ) → may_leave x → HasContent n j content x
-settled_has n j file may_leave gate_at content settled x left =
-    subst (λ (y : List ℕ). HasContent n j content y) (sym (settled.only x left)) (log_has n j file gate_at content settled.log)
+settled_has : (format : Format) (n j : ℕ) (file : List ℕ) (may_leave : List ℕ → Type 0) (gate_at : ℕ) (content : List ℕ) → IsSettled format n j file may_leave gate_at content →
+    (x : List ℕ) → may_leave x → HasContent format n j content x
+settled_has format n j file may_leave gate_at content settled x left =
+    subst (λ (y : List ℕ). HasContent format n j content y) (sym (settled.only x left)) (log_has format n j file gate_at content settled.log)
 
-pub ready_has : {D : Type 0} {G : Ghosts D} (n j : ℕ) (w : Writer D G) (content : List ℕ) → IsReady n j w content → (x : List ℕ) → G.may_leave (disk_of w) x → HasContent n j content x
-ready_has {D} {G} n j w content r x left = settled_has n j (G.seen (disk_of w)) (G.may_leave (disk_of w)) w.gate_at content r.settled x left
+pub ready_has : {D : Type 0} {G : Ghosts D} (format : Format) (n j : ℕ) (w : Writer D G) (content : List ℕ) → IsReady format n j w content → (x : List ℕ) → G.may_leave (disk_of w) x → HasContent format n j content x
+ready_has {D} {G} format n j w content r x left = settled_has format n j (G.seen (disk_of w)) (G.may_leave (disk_of w)) w.gate_at content r.settled x left
 
 -- ---- disks in a row
 
@@ -81,8 +82,8 @@ stops_on tells number fails short d e f goes stopped t = after (goes t) (stopped
 
 -- ---- the images, where more was gathered
 
-module _ (n j : ℕ) (base : List ℕ) where
-  pub pieces_grow : (taken more : List Piece) (x : List ℕ) → HasPieces n j base taken x → HasPieces n j base (taken ++ more) x
+module _ (format : Format) (n j : ℕ) (base : List ℕ) where
+  pub pieces_grow : (taken more : List Piece) (x : List ℕ) → HasPieces format n j base taken x → HasPieces format n j base (taken ++ more) x
   pieces_grow taken more x p = record {
     front = p.front;
     rest = p.rest ++ more;
@@ -90,12 +91,12 @@ module _ (n j : ℕ) (base : List ℕ) where
     has = p.has;
   }
 
-module _ {D : Type 0} {G : Ghosts D} (n j : ℕ) (base : List ℕ) where
-  pub managed_grows : (taken more : List Piece) (stored : ℕ) (w w' : Writer D G) → HasWritten n j base taken stored w w' → HasWritten n j base (taken ++ more) stored w w'
+module _ {D : Type 0} {G : Ghosts D} (format : Format) (n j : ℕ) (base : List ℕ) where
+  pub managed_grows : (taken more : List Piece) (stored : ℕ) (w w' : Writer D G) → HasWritten format n j base taken stored w w' → HasWritten format n j base (taken ++ more) stored w w'
   unfolding pieces_grow
   managed_grows taken more stored w w' g = record {
-    before = λ t. passes_weaker G.moment G.may_leave_since (disk_of w) (disk_of w') (HasPieces n j base taken) (HasPieces n j base (taken ++ more)) (g.before t) (λ x p. pieces_grow n j base taken more x p);
-    present = λ t x left. (let p = g.present t x left in (pieces_grow n j base taken more x p.0, p.1));
+    before = λ t. passes_weaker G.moment G.may_leave_since (disk_of w) (disk_of w') (HasPieces format n j base taken) (HasPieces format n j base (taken ++ more)) (g.before t) (λ x p. pieces_grow format n j base taken more x p);
+    present = λ t x left. (let p = g.present t x left in (pieces_grow format n j base taken more x p.0, p.1));
     reached = g.reached;
     goes = g.goes;
     stops = g.stops;
@@ -103,9 +104,9 @@ module _ {D : Type 0} {G : Ghosts D} (n j : ℕ) (base : List ℕ) where
   }
 
   -- the same disk in another writer
-  pub managed_same : (taken : List Piece) (stored : ℕ) (w w1 w2 : Writer D G) → disk_of w2 ≡ disk_of w1 → has_failed w2 ≡ has_failed w1 → HasWritten n j base taken stored w w1 → HasWritten n j base taken stored w w2
+  pub managed_same : (taken : List Piece) (stored : ℕ) (w w1 w2 : Writer D G) → disk_of w2 ≡ disk_of w1 → has_failed w2 ≡ has_failed w1 → HasWritten format n j base taken stored w w1 → HasWritten format n j base taken stored w w2
   managed_same taken stored w w1 w2 disk works g = record {
-    before = λ t. subst (λ (d : D). Passes G.moment G.may_leave_since (disk_of w) d (HasPieces n j base taken)) (sym disk) (g.before t);
+    before = λ t. subst (λ (d : D). Passes G.moment G.may_leave_since (disk_of w) d (HasPieces format n j base taken)) (sym disk) (g.before t);
     present = λ t x left. g.present t x (subst (λ (d : D). G.may_leave d x) disk left);
     reached = λ t. (let r = g.reached t in (r.0, r.1, subst (λ (d : D). G.may_leave d r.0) (sym disk) r.2, r.3, r.4));
     goes = λ e t. subst (λ (d : D). GoesOn G.number G.fails (disk_of w) d) (sym disk) (g.goes (sym works ∙ e) t);
@@ -115,38 +116,38 @@ module _ {D : Type 0} {G : Ghosts D} (n j : ℕ) (base : List ℕ) where
 
   module _ (seen_now : SeenNow G) where
     -- a writer that works, with these pieces durable
-    ready_managed : (taken front rest : List Piece) (w w' : Writer D G) → taken ≡ front ++ rest → (G.tells → Passes G.moment G.may_leave_since (disk_of w) (disk_of w') (HasPieces n j base taken)) →
-        (G.tells → IsReady n j w' (base ++ bytes_of front)) → has_failed w' ≡ false → durable_of w' ≡ length base + length (bytes_of front) →
-        (G.tells → GoesOn G.number G.fails (disk_of w) (disk_of w')) → G.faults (disk_of w) ≤ G.faults (disk_of w') → HasWritten n j base taken (durable_of w') w w'
+    ready_managed : (taken front rest : List Piece) (w w' : Writer D G) → taken ≡ front ++ rest → (G.tells → Passes G.moment G.may_leave_since (disk_of w) (disk_of w') (HasPieces format n j base taken)) →
+        (G.tells → IsReady format n j w' (base ++ bytes_of front)) → has_failed w' ≡ false → durable_of w' ≡ length base + length (bytes_of front) →
+        (G.tells → GoesOn G.number G.fails (disk_of w) (disk_of w')) → G.faults (disk_of w) ≤ G.faults (disk_of w') → HasWritten format n j base taken (durable_of w') w w'
     ready_managed taken front rest w w' is before ready works durable goes faults = record {
       before = before;
       present = λ t x left. (
-        record { front = front; rest = rest; is = is; has = ready_has n j w' (base ++ bytes_of front) (ready t) x left },
+        record { front = front; rest = rest; is = is; has = ready_has format n j w' (base ++ bytes_of front) (ready t) x left },
         omega (arith, durable),
       );
       reached = λ t.
           (let now = seen_now (disk_of w') t in
-          (G.seen (disk_of w'), base ++ bytes_of front, now, ready_has n j w' (base ++ bytes_of front) (ready t) (G.seen (disk_of w')) now, sym (ready t).counts));
+          (G.seen (disk_of w'), base ++ bytes_of front, now, ready_has format n j w' (base ++ bytes_of front) (ready t) (G.seen (disk_of w')) now, sym (ready t).counts));
       goes = λ e. goes;
       stops = λ e. absurd (true_false (has_failed w') e works);
       faults = faults;
     }
 
     -- at first
-    pub begins : (w : Writer D G) → IsFresh n j base w → IsManaging n j base [] w w
+    pub begins : (w : Writer D G) → IsFresh format n j base w → IsManaging format n j base [] w w
     begins w f =
-        let ready : G.tells → IsReady n j w (base ++ []) = λ t. subst (λ (c : List ℕ). IsReady n j w c) (sym (append-nil base)) (f.ready t) in
+        let ready : G.tells → IsReady format n j w (base ++ []) = λ t. subst (λ (c : List ℕ). IsReady format n j w c) (sym (append-nil base)) (f.ready t) in
         let size : durable_of w ≡ length base + length (bytes_of []) = (let e = f.durable in omega (arith, e)) in
         record {
-          managed = ready_managed [] [] [] w w refl (λ t. passes_none G.moment G.may_leave_since (disk_of w) (HasPieces n j base [])) ready f.works size (λ t. goes_none G.number G.fails (disk_of w)) (omega arith);
+          managed = ready_managed [] [] [] w w refl (λ t. passes_none G.moment G.may_leave_since (disk_of w) (HasPieces format n j base [])) ready f.works size (λ t. goes_none G.number G.fails (disk_of w)) (omega arith);
           current = λ e. record { front = []; rest = []; is = refl; left = f.none; durable = size; ready = ready };
         }
 
     -- `Writer::add` of the bytes of the pieces that a give with Gather appended (and `Writer::prepare`, with none)
-    pub gathers : (taken more : List Piece) (w w1 w2 : Writer D G) → IsManaging n j base taken w w1 → left_of w2 ≡ left_of w1 ++ bytes_of more → disk_of w2 ≡ disk_of w1 → durable_of w2 ≡ durable_of w1 → has_failed w2 ≡ has_failed w1 →
-        ((n j : ℕ) (content : List ℕ) → IsReady n j w1 content → IsReady n j w2 content) → IsManaging n j base (taken ++ more) w w2
+    pub gathers : (taken more : List Piece) (w w1 w2 : Writer D G) → IsManaging format n j base taken w w1 → left_of w2 ≡ left_of w1 ++ bytes_of more → disk_of w2 ≡ disk_of w1 → durable_of w2 ≡ durable_of w1 → has_failed w2 ≡ has_failed w1 →
+        ((format : Format) (n j : ℕ) (content : List ℕ) → IsReady format n j w1 content → IsReady format n j w2 content) → IsManaging format n j base (taken ++ more) w w2
     gathers taken more w w1 w2 g left disk durable works ready = record {
-      managed = subst (λ (k : ℕ). HasWritten n j base (taken ++ more) k w w2) (sym durable) (managed_grows taken more (durable_of w1) w w2 (managed_same taken (durable_of w1) w w1 w2 disk works g.managed));
+      managed = subst (λ (k : ℕ). HasWritten format n j base (taken ++ more) k w w2) (sym durable) (managed_grows taken more (durable_of w1) w w2 (managed_same taken (durable_of w1) w w1 w2 disk works g.managed));
       current = λ e.
           (let c = g.current (sym works ∙ e) in
           record {
@@ -155,22 +156,22 @@ module _ {D : Type 0} {G : Ghosts D} (n j : ℕ) (base : List ℕ) where
             is = ap (λ (ps : List Piece). ps ++ more) c.is ∙ append_assoc c.front c.rest more;
             left = left ∙ ap (λ (b : List ℕ). b ++ bytes_of more) c.left ∙ sym (bytes_append c.rest more);
             durable = durable ∙ c.durable;
-            ready = λ t. ready n j (base ++ bytes_of c.front) (c.ready t);
+            ready = λ t. ready format n j (base ++ bytes_of c.front) (c.ready t);
           });
     }
 
     -- lack of memory after the give: the pieces are gathered, and the disk is as it was
-    pub gathers_short : (taken more : List Piece) (w w1 w2 : Writer D G) → IsManaging n j base taken w w1 → disk_of w2 ≡ disk_of w1 → durable_of w2 ≡ durable_of w1 → has_failed w2 ≡ has_failed w1 →
-        HasWritten n j base (taken ++ more) (durable_of w2) w w2
+    pub gathers_short : (taken more : List Piece) (w w1 w2 : Writer D G) → IsManaging format n j base taken w w1 → disk_of w2 ≡ disk_of w1 → durable_of w2 ≡ durable_of w1 → has_failed w2 ≡ has_failed w1 →
+        HasWritten format n j base (taken ++ more) (durable_of w2) w w2
     gathers_short taken more w w1 w2 g disk durable works =
-        subst (λ (k : ℕ). HasWritten n j base (taken ++ more) k w w2) (sym durable) (managed_grows taken more (durable_of w1) w w2 (managed_same taken (durable_of w1) w w1 w2 disk works g.managed))
+        subst (λ (k : ℕ). HasWritten format n j base (taken ++ more) k w w2) (sym durable) (managed_grows taken more (durable_of w1) w w2 (managed_same taken (durable_of w1) w w1 w2 disk works g.managed))
 
     -- a flush of the first pieces that are left, by the clauses of `Writer::flush_gated`
-    module _ (counts_now : CountsNow G) (only_now : OnlyNow G) (taken : List Piece) (upto : ℕ) (w w1 w2 : Writer D G) (g : IsManaging n j base taken w w1) (worked : has_failed w1 ≡ false)
+    module _ (counts_now : CountsNow G) (only_now : OnlyNow G) (taken : List Piece) (upto : ℕ) (w w1 w2 : Writer D G) (g : IsManaging format n j base taken w w1) (worked : has_failed w1 ≡ false)
         (now later : List Piece) (part : (g.current worked).rest ≡ now ++ later) (all : upto ≡ durable_of w1 + length (bytes_of now))
-        (moments : G.tells → (n j : ℕ) (content : List ℕ) → IsReady n j w1 content → Passes G.moment G.may_leave_since (disk_of w1) (disk_of w2) (IsOldOrNew n j content (part_upto w1 upto)))
+        (moments : G.tells → (format : Format) (n j : ℕ) (content : List ℕ) → IsReady format n j w1 content → Passes G.moment G.may_leave_since (disk_of w1) (disk_of w2) (IsOldOrNew format n j content (part_upto w1 upto)))
         (faults : G.faults (disk_of w1) ≤ G.faults (disk_of w2)) where
-      abbrev c : IsCurrent n j base taken w1
+      abbrev c : IsCurrent format n j base taken w1
       c = g.current worked
 
       left_is : left_of w1 ≡ bytes_of now ++ bytes_of later
@@ -191,19 +192,19 @@ module _ {D : Type 0} {G : Ghosts D} (n j : ℕ) (base : List ℕ) where
       long_is : length (bytes_of (c.front ++ now)) ≡ length (bytes_of c.front) + length (bytes_of now)
       long_is = ap (length {A = ℕ}) (bytes_append c.front now) ∙ length-append (bytes_of c.front) (bytes_of now)
 
-      either : (x : List ℕ) → IsOldOrNew n j (base ++ bytes_of c.front) (part_upto w1 upto) x → HasPieces n j base taken x
+      either : (x : List ℕ) → IsOldOrNew format n j (base ++ bytes_of c.front) (part_upto w1 upto) x → HasPieces format n j base taken x
       either x (inl has) = record { front = c.front; rest = c.rest; is = c.is; has = has }
-      either x (inr has) = record { front = c.front ++ now; rest = later; is = split_is; has = subst (λ (b : List ℕ). HasContent n j b x) whole_is has }
+      either x (inr has) = record { front = c.front ++ now; rest = later; is = split_is; has = subst (λ (b : List ℕ). HasContent format n j b x) whole_is has }
 
-      passed : G.tells → Passes G.moment G.may_leave_since (disk_of w) (disk_of w2) (HasPieces n j base taken)
-      passed t = passes_on G.moment G.may_leave_since (disk_of w) (disk_of w1) (disk_of w2) (HasPieces n j base taken) (IsOldOrNew n j (base ++ bytes_of c.front) (part_upto w1 upto)) (HasPieces n j base taken)
-          (g.managed.before t) (moments t n j (base ++ bytes_of c.front) (c.ready t)) (λ x p. p) either
+      passed : G.tells → Passes G.moment G.may_leave_since (disk_of w) (disk_of w2) (HasPieces format n j base taken)
+      passed t = passes_on G.moment G.may_leave_since (disk_of w) (disk_of w1) (disk_of w2) (HasPieces format n j base taken) (IsOldOrNew format n j (base ++ bytes_of c.front) (part_upto w1 upto)) (HasPieces format n j base taken)
+          (g.managed.before t) (moments t format n j (base ++ bytes_of c.front) (c.ready t)) (λ x p. p) either
 
       -- these are durable
       pub flushed : durable_of w2 ≡ upto → left_of w2 ≡ drop (upto - durable_of w1) (left_of w1) → has_failed w2 ≡ false →
-          (G.tells → (n j : ℕ) (content : List ℕ) → IsReady n j w1 content → IsReady n j w2 (content ++ part_upto w1 upto)) → (G.tells → GoesOn G.number G.fails (disk_of w1) (disk_of w2)) → IsManaging n j base taken w w2
+          (G.tells → (format : Format) (n j : ℕ) (content : List ℕ) → IsReady format n j w1 content → IsReady format n j w2 (content ++ part_upto w1 upto)) → (G.tells → GoesOn G.number G.fails (disk_of w1) (disk_of w2)) → IsManaging format n j base taken w w2
       flushed durable left works done goes =
-          let ready : G.tells → IsReady n j w2 (base ++ bytes_of (c.front ++ now)) = λ t. subst (λ (b : List ℕ). IsReady n j w2 b) whole_is (done t n j (base ++ bytes_of c.front) (c.ready t)) in
+          let ready : G.tells → IsReady format n j w2 (base ++ bytes_of (c.front ++ now)) = λ t. subst (λ (b : List ℕ). IsReady format n j w2 b) whole_is (done t format n j (base ++ bytes_of c.front) (c.ready t)) in
           let was = c.durable in
           let long = long_is in
           let size : durable_of w2 ≡ length base + length (bytes_of (c.front ++ now)) = omega (arith, durable, all, was, long) in
@@ -221,14 +222,14 @@ module _ {D : Type 0} {G : Ghosts D} (n j : ℕ) (base : List ℕ) where
 
       -- the disk failed
       pub broke : durable_of w2 ≡ durable_of w1 → has_failed w2 ≡ true → Rose (G.faults (disk_of w1)) (G.faults (disk_of w2)) →
-          (G.tells → (n j : ℕ) (content : List ℕ) → IsReady n j w1 content → MayHold n j content (G.may_leave (disk_of w2))) → IsStopped G.tells G.number G.fails G.short (disk_of w1) (disk_of w2) → IsManaging n j base taken w w2
+          (G.tells → (format : Format) (n j : ℕ) (content : List ℕ) → IsReady format n j w1 content → MayHold format n j content (G.may_leave (disk_of w2))) → IsStopped G.tells G.number G.fails G.short (disk_of w1) (disk_of w2) → IsManaging format n j base taken w w2
       broke durable fails rose reached stops = record {
         managed = record {
           before = passed;
-          present = λ t x left. by_image x (left_by G.moment G.may_leave_since G.may_leave counts_now only_now (disk_of w1) (disk_of w2) (IsOldOrNew n j (base ++ bytes_of c.front) (part_upto w1 upto))
-              (moments t n j (base ++ bytes_of c.front) (c.ready t)) x left) t;
+          present = λ t x left. by_image x (left_by G.moment G.may_leave_since G.may_leave counts_now only_now (disk_of w1) (disk_of w2) (IsOldOrNew format n j (base ++ bytes_of c.front) (part_upto w1 upto))
+              (moments t format n j (base ++ bytes_of c.front) (c.ready t)) x left) t;
           reached = λ t.
-              (let some = reached t n j (base ++ bytes_of c.front) (c.ready t) in
+              (let some = reached t format n j (base ++ bytes_of c.front) (c.ready t) in
               (some.0, base ++ bytes_of c.front, some.1, some.2, (let d = c.durable in let e = length-append base (bytes_of c.front) in omega (arith, d, e, durable))));
           goes = λ e. absurd (true_false (has_failed w2) fails e);
           stops = λ e. ((let x = g.managed.faults in rose_on (G.faults (disk_of w)) (G.faults (disk_of w1)) (G.faults (disk_of w2)) x rose), stops_on G.tells G.number G.fails G.short (disk_of w) (disk_of w1) (disk_of w2) (g.managed.goes worked) stops);
@@ -240,15 +241,15 @@ module _ {D : Type 0} {G : Ghosts D} (n j : ℕ) (base : List ℕ) where
           rose_on : (a b c : ℕ) → a ≤ b → Rose b c → Rose a c
           rose_on a b c le r = omega (arith, le, r)
 
-          by_image : (x : List ℕ) → G.may_leave (disk_of w1) x ⊎ IsOldOrNew n j (base ++ bytes_of c.front) (part_upto w1 upto) x → G.tells →
-              (p : HasPieces n j base taken x) × (durable_of w2 ≤ length base + length (bytes_of p.front))
+          by_image : (x : List ℕ) → G.may_leave (disk_of w1) x ⊎ IsOldOrNew format n j (base ++ bytes_of c.front) (part_upto w1 upto) x → G.tells →
+              (p : HasPieces format n j base taken x) × (durable_of w2 ≤ length base + length (bytes_of p.front))
           by_image x (inl was) t = (
-            record { front = c.front; rest = c.rest; is = c.is; has = ready_has n j w1 (base ++ bytes_of c.front) (c.ready t) x was },
+            record { front = c.front; rest = c.rest; is = c.is; has = ready_has format n j w1 (base ++ bytes_of c.front) (c.ready t) x was },
             (let d = c.durable in omega (arith, d, durable)),
           )
           by_image x (inr (inl has)) t = (record { front = c.front; rest = c.rest; is = c.is; has = has }, (let d = c.durable in omega (arith, d, durable)))
           by_image x (inr (inr has)) t = (
-            record { front = c.front ++ now; rest = later; is = split_is; has = subst (λ (b : List ℕ). HasContent n j b x) whole_is has },
+            record { front = c.front ++ now; rest = later; is = split_is; has = subst (λ (b : List ℕ). HasContent format n j b x) whole_is has },
             (let d = c.durable in let long = long_is in omega (arith, d, durable, long)),
           )
 
@@ -257,14 +258,14 @@ module _ {D : Type 0} {G : Ghosts D} (n j : ℕ) (base : List ℕ) where
       content_long : length (base ++ bytes_of c.front) ≡ durable_of w1
       content_long = let d = c.durable in let e = length-append base (bytes_of c.front) in omega (arith, d, e)
 
-      has_long : (d : ℕ) → d ≤ durable_of w1 → (x : List ℕ) → IsOldOrNew n j (base ++ bytes_of c.front) (part_upto w1 upto) x → HasLong n j d x
+      has_long : (d : ℕ) → d ≤ durable_of w1 → (x : List ℕ) → IsOldOrNew format n j (base ++ bytes_of c.front) (part_upto w1 upto) x → HasLong format n j d x
       has_long d le x (inl has) = (base ++ bytes_of c.front, has, (let e = content_long in omega (arith, e, le)))
       has_long d le x (inr has) = ((base ++ bytes_of c.front) ++ part_upto w1 upto, has, (let e = content_long in let f = length-append (base ++ bytes_of c.front) (part_upto w1 upto) in omega (arith, e, f, le)))
 
-      pub still_stored : (marks : List (ℕ × ℕ)) → durable_of w1 ≤ durable_of w2 → AreStored n j marks w1 → AreStored n j marks w2
+      pub still_stored : (marks : List (ℕ × ℕ)) → durable_of w1 ≤ durable_of w2 → AreStored format n j marks w1 → AreStored format n j marks w2
       still_stored marks up s t a m =
           let h = s t a m in
-          let p = moments t n j (base ++ bytes_of c.front) (c.ready t) in
+          let p = moments t format n j (base ++ bytes_of c.front) (c.ready t) in
           let later_on = p.later in
           let early = h.0 in
           let low = h.1 in (
@@ -274,10 +275,10 @@ module _ {D : Type 0} {G : Ghosts D} (n j : ℕ) (base : List ℕ) where
           )
 
     -- after a flush that made all durable a mark of this moment is set
-    pub mark_now : (only_now : OnlyNow G) (taken : List Piece) (marks : List (ℕ × ℕ)) (w w' : Writer D G) → IsManaging n j base taken w w' → AreStored n j marks w' → AreStored n j ((G.moment (disk_of w'), durable_of w') ∷ marks) w'
+    pub mark_now : (only_now : OnlyNow G) (taken : List Piece) (marks : List (ℕ × ℕ)) (w w' : Writer D G) → IsManaging format n j base taken w w' → AreStored format n j marks w' → AreStored format n j ((G.moment (disk_of w'), durable_of w') ∷ marks) w'
     mark_now only_now taken marks w w' g s t a (inr m) = s t a m
     mark_now only_now taken marks w w' g s t a (inl is) =
-        subst (λ (b : ℕ × ℕ). (b.0 ≤ G.moment (disk_of w')) × (b.1 ≤ durable_of w') × ((x : List ℕ) → G.may_leave_since (disk_of w') b.0 x → HasLong n j b.1 x)) is (
+        subst (λ (b : ℕ × ℕ). (b.0 ≤ G.moment (disk_of w')) × (b.1 ≤ durable_of w') × ((x : List ℕ) → G.may_leave_since (disk_of w') b.0 x → HasLong format n j b.1 x)) is (
           omega arith,
           omega arith,
           λ x since.
@@ -287,7 +288,7 @@ module _ {D : Type 0} {G : Ghosts D} (n j : ℕ) (base : List ℕ) where
         )
 
     -- other calls of the writer leave the disk
-    pub stored_same : (marks : List (ℕ × ℕ)) (w1 w2 : Writer D G) → disk_of w2 ≡ disk_of w1 → durable_of w2 ≡ durable_of w1 → AreStored n j marks w1 → AreStored n j marks w2
+    pub stored_same : (marks : List (ℕ × ℕ)) (w1 w2 : Writer D G) → disk_of w2 ≡ disk_of w1 → durable_of w2 ≡ durable_of w1 → AreStored format n j marks w1 → AreStored format n j marks w2
     stored_same marks w1 w2 disk durable s t a m =
         let h = s t a m in (
           subst (λ (d : D). a.0 ≤ G.moment d) (sym disk) h.0,

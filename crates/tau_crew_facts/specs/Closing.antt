@@ -1,6 +1,7 @@
 -- What a desk gives when it closes, in the words of its rule, and what the loops know of their own.
 use Rattle.std.specs.Prelude.{ℕ, ◌%◌, ◌<◌, ◌≤◌, ◌≡◌, Option, Some, None, List, [], length, map, slice_index}
 use Rattle.std.specs.List.{filter}
+use Rattle.tau_base.specs.Modes.{format_of}
 use Rattle.tau_base.specs.Vectors.{covers}
 use Rattle.tau_disk.specs.declared.disk.Disk.{Ghosts}
 use Rattle.tau_stream.specs.declared.writer.Writer.{Writer}
@@ -36,8 +37,8 @@ pub record IsClosing (first : Plain) (v : Knows) (workers : ℕ → Worker) (man
 
 -- a manager and its writer, w at the entry
 pub record ManagerKnows {D : Type 0} {G : Ghosts D} (l : Load) (seen : List ℕ) (j : ℕ) (base : List ℕ) (g : Managed) (w w' : Writer D G) : Type 0 where
-  pub ready : G.tells → IsReady l.streams j w base
-  pub written : HasWritten l.streams j base g.taken (slice_index seen j) w w'
+  pub ready : G.tells → IsReady (format_of l.mode) l.streams j w base
+  pub written : HasWritten (format_of l.mode) l.streams j base g.taken (slice_index seen j) w w'
 
 -- the own components of its anchors stand in their distance up to what it has stored
 abbrev pub ManagerApart : List ℕ → ℕ → List ℕ → Managed → Type 0

@@ -1,6 +1,7 @@
 -- What a run in threads has at its end: the state that the desk gives when it closes, and what became of the writers and the sink.
 use Rattle.std.specs.Prelude.{ℕ, ◌<◌, ◌≤◌, ◌≡◌, ◌==◌, false, Option, Some, None, List, [], length, map, slice_get, slice_index}
 use Rattle.std.specs.List.{filter}
+use Rattle.tau_base.specs.Modes.{format_of}
 use Rattle.tau_base.specs.Vectors.{AtMost, covers}
 use Rattle.tau_disk.specs.Disk.{Rose}
 use Rattle.tau_disk.specs.declared.disk.Disk.{Ghosts}
@@ -48,8 +49,8 @@ pub record ManagerEnds {D : Type 0} {G : Ghosts D} (l : Load) (c : Core) (j : �
   pub own : List Piece
   pub moved : Paired (IsPieceOf l (anchors_at c)) taken (c.streams j).moved
   pub posted : Paired (IsPieceOf l (anchors_at c)) own (c.streams j).posted
-  pub ready : G.tells → IsReady l.streams j w base
-  pub written : HasWritten l.streams j base taken (slice_index c.plv j) w w'
+  pub ready : G.tells → IsReady (format_of l.mode) l.streams j w base
+  pub written : HasWritten (format_of l.mode) l.streams j base taken (slice_index c.plv j) w w'
 
 -- The clerk has told the calls of each worker in their order, and each with a vector that it had seen to be persisted.
 pub record ClerkEnds (l : Load) (c : Core) (acks : List (ℕ × List ℕ)) : Type 0 where

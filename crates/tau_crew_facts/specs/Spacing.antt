@@ -1,5 +1,6 @@
 -- How far apart the anchors of a run in threads stand.
 use Rattle.std.specs.Prelude.{ℕ, ◌+◌, ◌<◌, ◌≤◌, ◌≡◌, nat_le, if◌then◌else◌, List, [], ◌∷◌, length, map, slice_index, Ok}
+use Rattle.tau_base.specs.declared.format.Format.{Format}
 use Rattle.tau_base.specs.declared.limits.TheConstants.{MAX_BODY}
 use Rattle.tau_record.specs.declared.entry.Placed.{Placed}
 use Rattle.tau_record.specs.Content.{anchors_of}
@@ -32,9 +33,9 @@ placed_after last [] = []
 placed_after last (d ∷ ds) = if nat_le (last + 65536) d then d ∷ placed_after d ds else placed_after last ds
 
 -- The anchors that are read of a content of stream j, where it was opened with so many bytes.
-pub record AreSpaced (n j base : ℕ) (content : List ℕ) : Type 0 where
+pub record AreSpaced (format : Format) (n j base : ℕ) (content : List ℕ) : Type 0 where
   pub records : List Placed
-  pub reads : records_of n content ≡ Ok records
+  pub reads : records_of format n content ≡ Ok records
   pub spaced : Spaced base (map (λ (v : List ℕ). slice_index v j) (anchors_of records))
   pub low : newest base (map (λ (v : List ℕ). slice_index v j) (anchors_of records)) ≤ length content
   pub near : length content < newest base (map (λ (v : List ℕ). slice_index v j) (anchors_of records)) + 65536

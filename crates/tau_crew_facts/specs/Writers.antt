@@ -1,5 +1,6 @@
 -- The disk of a manager on its way, apart from any state of the core: what its images hold of the pieces that it has gathered.
 use Rattle.std.specs.Prelude.{ℕ, ◌+◌, ◌≤◌, ◌≡◌, true, false, List, [], ◌++◌, length}
+use Rattle.tau_base.specs.declared.format.Format.{Format}
 use Rattle.tau_block.specs.Image.{HasContent}
 use Rattle.tau_disk.specs.Disk.{Passes, Rose}
 use Rattle.tau_disk.specs.Used.{GoesOn, IsStopped}
@@ -11,15 +12,15 @@ use Rattle.tau_stream.specs.declared.writer.Writer.{Writer}
 use Rattle.tau_stream.specs.Writer.{disk_of, durable_of, left_of, has_failed, IsReady}
 
 -- the image has the base and after it the bytes of the first of these pieces
-pub record HasPieces (n j : ℕ) (base : List ℕ) (taken : List Piece) (image : List ℕ) : Type 0 where
+pub record HasPieces (format : Format) (n j : ℕ) (base : List ℕ) (taken : List Piece) (image : List ℕ) : Type 0 where
   pub front : List Piece
   pub rest : List Piece
   pub is : taken ≡ front ++ rest
-  pub has : HasContent n j (base ++ bytes_of front) image
+  pub has : HasContent format n j (base ++ bytes_of front) image
 
 -- the image has a content of at least this length
-abbrev pub HasLong : ℕ → ℕ → ℕ → List ℕ → Type 0
-HasLong n j d x = (content : List ℕ) × HasContent n j content x × (d ≤ length content)
+abbrev pub HasLong : Format → ℕ → ℕ → ℕ → List ℕ → Type 0
+HasLong format n j d x = (content : List ℕ) × HasContent format n j content x × (d ≤ length content)
 
 -- the laws of a disk, as its trait has them
 abbrev pub SeenNow : {D : Type 0} → Ghosts D → Type 0
@@ -31,15 +32,15 @@ CountsNow {D} G = (d : D) (t : ℕ) (x : List ℕ) → t ≤ G.moment d → G.ma
 abbrev pub OnlyNow : {D : Type 0} → Ghosts D → Type 0
 OnlyNow {D} G = (d : D) (x : List ℕ) → G.may_leave_since d (G.moment d) x → G.may_leave d x
 
-module _ {D : Type 0} {G : Ghosts D} (n j : ℕ) (base : List ℕ) where
+module _ {D : Type 0} {G : Ghosts D} (format : Format) (n j : ℕ) (base : List ℕ) where
   -- What became of the writer of a stream whose manager has gathered these pieces and stored this position: w is the writer at
   -- the entry, w' now. It speaks of no state of the core.
   pub record HasWritten (taken : List Piece) (stored : ℕ) (w w' : Writer D G) : Type 0 where
-    pub before : G.tells → Passes G.moment G.may_leave_since (disk_of w) (disk_of w') (HasPieces n j base taken)
+    pub before : G.tells → Passes G.moment G.may_leave_since (disk_of w) (disk_of w') (HasPieces format n j base taken)
     -- whatever a stop now may leave reaches what was stored
-    pub present : G.tells → (x : List ℕ) → G.may_leave (disk_of w') x → (p : HasPieces n j base taken x) × (stored ≤ length base + length (bytes_of p.front))
+    pub present : G.tells → (x : List ℕ) → G.may_leave (disk_of w') x → (p : HasPieces format n j base taken x) × (stored ≤ length base + length (bytes_of p.front))
     -- and no more, in one image
-    pub reached : G.tells → (y content : List ℕ) × G.may_leave (disk_of w') y × HasContent n j content y × (length content ≡ stored)
+    pub reached : G.tells → (y content : List ℕ) × G.may_leave (disk_of w') y × HasContent format n j content y × (length content ≡ stored)
     pub goes : has_failed w' ≡ false → G.tells → GoesOn G.number G.fails (disk_of w) (disk_of w')
     pub stops : has_failed w' ≡ true → Rose (G.faults (disk_of w)) (G.faults (disk_of w')) × IsStopped G.tells G.number G.fails G.short (disk_of w) (disk_of w')
     pub faults : G.faults (disk_of w) ≤ G.faults (disk_of w')
@@ -51,7 +52,7 @@ module _ {D : Type 0} {G : Ghosts D} (n j : ℕ) (base : List ℕ) where
     pub is : taken ≡ front ++ rest
     pub left : left_of w ≡ bytes_of rest
     pub durable : durable_of w ≡ length base + length (bytes_of front)
-    pub ready : G.tells → IsReady n j w (base ++ bytes_of front)
+    pub ready : G.tells → IsReady format n j w (base ++ bytes_of front)
 
   -- the invariant of a manager's loop: what it has stored is what its writer has durable
   pub record IsManaging (taken : List Piece) (w w' : Writer D G) : Type 0 where
@@ -63,8 +64,8 @@ module _ {D : Type 0} {G : Ghosts D} (n j : ℕ) (base : List ℕ) where
     pub works : has_failed w ≡ false
     pub durable : durable_of w ≡ length base
     pub none : left_of w ≡ bytes_of []
-    pub ready : G.tells → IsReady n j w base
+    pub ready : G.tells → IsReady format n j w base
 
 -- Each of `marks` is a moment and what was durable then: since that moment every image has at least so much.
-abbrev pub AreStored : {D : Type 0} {G : Ghosts D} → ℕ → ℕ → List (ℕ × ℕ) → Writer D G → Type 0
-AreStored {D} {G} n j marks w = G.tells → (a : ℕ × ℕ) → Member a marks → (a.0 ≤ G.moment (disk_of w)) × (a.1 ≤ durable_of w) × ((x : List ℕ) → G.may_leave_since (disk_of w) a.0 x → HasLong n j a.1 x)
+abbrev pub AreStored : {D : Type 0} {G : Ghosts D} → Format → ℕ → ℕ → List (ℕ × ℕ) → Writer D G → Type 0
+AreStored {D} {G} format n j marks w = G.tells → (a : ℕ × ℕ) → Member a marks → (a.0 ≤ G.moment (disk_of w)) × (a.1 ≤ durable_of w) × ((x : List ℕ) → G.may_leave_since (disk_of w) a.0 x → HasLong format n j a.1 x)

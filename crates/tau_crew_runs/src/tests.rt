@@ -1,4 +1,5 @@
 ghost use Rattle.std.specs.Prelude.{ℕ, ◌≡◌, ◌≤◌, ◌<◌, [], ◌∷◌, length, vec_len, IfOk, OnOk};
+ghost use Rattle.tau_base.specs.declared.format.Format.TheVariants.{One};
 ghost use Rattle.tau_base.specs.declared.limits.TheConstants.{MAX_CATALOGUE, MAX_LSN};
 ghost use Rattle.tau_text.specs.Canonical.{declarations_text};
 ghost use Rattle.tau_run.specs.RecoveredFacts.{catalogue_of};
@@ -36,7 +37,7 @@ fn two_disks(alloc: Global) -> Result<Vec<MemDisk>, Fail>
 fn created(alloc: Global, load: &Workload) -> Result<Vec<Writer<MemDisk>>, Fail>
     ensures count { IfOk result (λ writers. vec_len writers ≡ 2) }
     ensures text { OnOk result (length (declarations_text load.now.declarations) ≤ MAX_CATALOGUE) }
-    ensures fresh { IfOk result (λ writers. AreNew (λ j. catalogue_of load.now) writers.items) }
+    ensures fresh { IfOk result (λ writers. AreNew One (λ j. catalogue_of load.now) writers.items) }
 {
     let mut disks = two_disks(alloc)?;
     let catalogue = match print_declarations(alloc, &load.declarations) {

@@ -4,8 +4,8 @@ use std::alloc::Global;
 use std::process::Abort;
 use std::test::*;
 use tau_base::{
-    Call, Calls, KeptCall, Key, Listed, Lv, LvList, MAX_LSN, Name, Text64, Value, shard_of,
-    stream_of, worker_of,
+    Call, Calls, KeptCall, Key, Listed, Lv, LvList, MAX_LSN, MAX_STREAMS, Name, Text64, Value,
+    shard_of, stream_of, worker_of,
 };
 
 fn key(table: u16, row: i64) -> Key {
@@ -73,6 +73,157 @@ fn vectors_join_and_cover(rt: HostRuntime) {
     assert!(rt; b == both);
     set_middle(&rt, &mut b, 13);
     assert!(rt; b != both);
+}
+
+/// Positions that rise from stream to stream.
+const UP: [u64; 32] = [
+    1, 2, 3, 4, 5, 6, 7, 8, 9, 10, 11, 12, 13, 14, 15, 16, 17, 18, 19, 20, 21, 22, 23, 24, 25, 26,
+    27, 28, 29, 30, 31, 32,
+];
+
+/// Positions that fall from stream to stream.
+const DOWN: [u64; 32] = [
+    32, 31, 30, 29, 28, 27, 26, 25, 24, 23, 22, 21, 20, 19, 18, 17, 16, 15, 14, 13, 12, 11, 10, 9,
+    8, 7, 6, 5, 4, 3, 2, 1,
+];
+
+/// The greater one of both in each stream.
+const BOTH: [u64; 32] = [
+    32, 31, 30, 29, 28, 27, 26, 25, 24, 23, 22, 21, 20, 19, 18, 17, 17, 18, 19, 20, 21, 22, 23, 24,
+    25, 26, 27, 28, 29, 30, 31, 32,
+];
+
+/// The vector of the first so many of these positions.
+fn first_of(rt: &impl Abort, parts: &[u64], width: usize) -> Lv {
+    assert!(rt; width <= parts.len());
+    vector(rt, &parts[..width])
+}
+
+/// A vector that becomes this one, in place.
+fn becomes(rt: &impl Abort, place: &mut Lv, other: &Lv) {
+    place.copy_from(other);
+    assert!(rt; *place == *other);
+    assert_eq!(rt; place.width(), other.width());
+}
+
+/// A vector that becomes a zero of so many streams, in place.
+fn becomes_zero(rt: &impl Abort, place: &mut Lv, width: usize) {
+    assert!(rt; 1 <= width && width <= MAX_STREAMS);
+    place.set_zero(width);
+    assert!(rt; *place == Lv::zero(width));
+    assert_eq!(rt; place.width(), width);
+    assert_eq!(rt; place.position(0), 0);
+    assert_eq!(rt; place.position(width - 1), 0);
+}
+
+/// From each of four widths to each other one.
+const WIDTHS: [usize; 13] = [32, 1, 16, 17, 1, 17, 16, 32, 16, 1, 32, 17, 32];
+
+#[test]
+fn vectors_are_copied_over_other_widths(rt: HostRuntime) {
+    let mut place = Lv::zero(32);
+    for width in WIDTHS {
+        becomes(&rt, &mut place, &first_of(&rt, &DOWN, width));
+    }
+    for width in WIDTHS {
+        becomes(&rt, &mut place, &first_of(&rt, &UP, width));
+        becomes(&rt, &mut place, &first_of(&rt, &DOWN, width));
+    }
+}
+
+#[test]
+fn vectors_become_zero_over_other_widths(rt: HostRuntime) {
+    for width in [1usize, 16, 17, 32] {
+        let mut place = first_of(&rt, &UP, width);
+        for wanted in WIDTHS {
+            becomes_zero(&rt, &mut place, wanted);
+        }
+    }
+    let mut place = first_of(&rt, &UP, 32);
+    for width in WIDTHS {
+        becomes_zero(&rt, &mut place, width);
+        becomes(&rt, &mut place, &first_of(&rt, &UP, width));
+    }
+}
+
+/// Two vectors join to this one, whichever of them is raised, and it covers both.
+fn joins(rt: &impl Abort, a: &Lv, b: &Lv, both: &Lv) {
+    assert!(rt; a.join(b) == *both);
+    assert!(rt; b.join(a) == *both);
+    assert!(rt; both.covers(a) && both.covers(b));
+    let mut raised = *a;
+    raised.raise(b);
+    assert!(rt; raised == *both);
+    becomes(rt, &mut raised, b);
+    raised.raise(a);
+    assert!(rt; raised == *both);
+}
+
+/// What the first so many positions of `UP` and of `DOWN` join to: the first so many of `BOTH`, and then the others of the
+/// wider one.
+const JOINED: [(usize, usize, usize); 10] = [
+    (32, 32, 32),
+    (32, 17, 17),
+    (32, 16, 16),
+    (32, 1, 1),
+    (17, 32, 17),
+    (16, 32, 16),
+    (1, 32, 1),
+    (17, 16, 16),
+    (16, 17, 16),
+    (17, 17, 17),
+];
+
+/// The vector whose first positions are those of `BOTH`, and whose others are those of another list.
+fn first_joined(rt: &impl Abort, common: usize, others: &[u64], width: usize) -> Lv {
+    let mut out = first_of(rt, others, width);
+    for (j, part) in BOTH.iter().enumerate() {
+        assert!(rt; *part < MAX_LSN);
+        if j < common && j < out.width() {
+            out.set(j, *part);
+        }
+    }
+    out
+}
+
+#[test]
+fn vectors_of_all_widths_join(rt: HostRuntime) {
+    for (up, down, common) in JOINED {
+        let a = first_of(&rt, &UP, up);
+        let b = first_of(&rt, &DOWN, down);
+        let both = if up < down {
+            first_joined(&rt, common, &DOWN, down)
+        } else {
+            first_joined(&rt, common, &UP, up)
+        };
+        joins(&rt, &a, &b, &both);
+    }
+}
+
+/// Whether the first so many positions of `BOTH` cover so many of `UP`.
+fn covers_up(rt: &impl Abort, width: usize, up: usize, wanted: bool) {
+    let both = first_of(rt, &BOTH, width);
+    assert_eq!(rt; both.covers(&first_of(rt, &UP, up)), wanted);
+}
+
+// A vector has zeros beyond its end.
+#[test]
+fn wider_vectors_are_covered_up_to_their_zeros(rt: HostRuntime) {
+    let mut zeros = first_of(&rt, &UP, 16);
+    zeros.raise(&Lv::zero(32));
+    assert!(rt; first_of(&rt, &UP, 16).covers(&zeros));
+    assert!(rt; zeros.covers(&first_of(&rt, &UP, 16)));
+    for (width, up, wanted) in [
+        (32usize, 32usize, true),
+        (32, 1, true),
+        (17, 16, true),
+        (17, 17, true),
+        (16, 17, false),
+        (31, 32, false),
+        (1, 2, false),
+    ] {
+        covers_up(&rt, width, up, wanted);
+    }
 }
 
 /// This is a text, or none.
@@ -244,14 +395,15 @@ fn calls_are_found_by_their_place(rt: HostRuntime) -> Result<(), Fail> {
     Ok(())
 }
 
-/// The vector (53,61), and behind it (0,0,77) and (1,2) of another list.
+/// The vector (53,61), and after it (0,0,77), 32 positions and (1,2) of another list.
 fn of_two_lists(rt: &impl Abort, alloc: Global) -> Result<LvList, Fail> {
     let mut list = LvList::new(alloc);
-    list.reserve(3)?;
+    list.reserve(4)?;
     list.push_reserved(&vector(rt, &[53, 61]));
     let mut others = LvList::new(alloc);
-    others.reserve(2)?;
+    others.reserve(3)?;
     others.push_reserved(&vector(rt, &[0, 0, 77]));
+    others.push_reserved(&vector(rt, &UP));
     others.push_reserved(&vector(rt, &[1, 2]));
     list.append(others);
     Ok(list)
@@ -270,10 +422,11 @@ fn is_vector(rt: &impl Abort, list: &LvList, i: usize, parts: &[u64]) {
 #[test]
 fn vectors_are_kept_flat(rt: HostRuntime) -> Result<(), Fail> {
     let list = of_two_lists(&rt, rt.alloc())?;
-    assert_eq!(rt; list.len(), 3);
+    assert_eq!(rt; list.len(), 4);
     is_vector(&rt, &list, 0, &[53, 61]);
     is_vector(&rt, &list, 1, &[0, 0, 77]);
-    is_vector(&rt, &list, 2, &[1, 2]);
+    is_vector(&rt, &list, 2, &UP);
+    is_vector(&rt, &list, 3, &[1, 2]);
     Ok(())
 }
 
@@ -287,5 +440,17 @@ fn calls_and_records_are_dealt_in_turn(rt: HostRuntime) {
     let streams = [0usize, 1, 0, 1, 0];
     for (worker, stream) in streams.iter().enumerate() {
         assert_eq!(rt; stream_of(worker, 2), *stream);
+    }
+    // A call over 32 workers, and its worker over 17 streams.
+    let rows = [
+        (1u64, 0usize, 0usize),
+        (17, 16, 16),
+        (18, 17, 0),
+        (32, 31, 14),
+        (33, 0, 0),
+    ];
+    for (call, worker, stream) in rows {
+        assert_eq!(rt; worker_of(call, 32), worker);
+        assert_eq!(rt; stream_of(worker, 17), stream);
     }
 }

@@ -1,8 +1,10 @@
 use std::alloc::Global;
 use std::process::Abort;
 use std::test::*;
-use tau_base::MAX_BODY;
-use tau_block::{ImageRefusal, append_tail, contents_of, header, open_gate};
+use tau_base::{Format, MAX_BODY};
+use tau_block::{
+    ImageRefusal, append_tail, contents_of, header, header_wide, open_gate, stated_format,
+};
 
 // The log of a stream of one: the catalogue of `table a`, and the data record of `put a 1 5`. Its gates are at 16, 34
 // and 79.
@@ -10,6 +12,14 @@ const LOG: [u8; 80] = [
     84, 65, 85, 82, 85, 83, 45, 76, 79, 71, 45, 49, 0, 1, 0, 0, 1, 0, 0, 0, 13, 4, 0, 0, 0, 13,
     116, 97, 98, 108, 101, 32, 97, 10, 1, 0, 0, 0, 40, 1, 0, 0, 0, 40, 0, 0, 0, 0, 0, 0, 0, 1, 0,
     0, 0, 0, 0, 0, 0, 1, 0, 0, 0, 0, 0, 0, 0, 0, 0, 1, 1, 0, 0, 0, 0, 0, 0, 0, 5, 0,
+];
+
+// The log of stream 0 of two in format 2: the same catalogue, and the same record with its wider mask. Its gates are at
+// 16, 34 and 81.
+const WIDE_LOG: [u8; 82] = [
+    84, 65, 85, 82, 85, 83, 45, 76, 79, 71, 45, 50, 0, 2, 0, 0, 1, 0, 0, 0, 13, 4, 0, 0, 0, 13,
+    116, 97, 98, 108, 101, 32, 97, 10, 1, 0, 0, 0, 42, 1, 0, 0, 0, 42, 0, 0, 0, 0, 0, 0, 0, 1, 0,
+    0, 0, 0, 0, 0, 0, 0, 0, 1, 0, 0, 0, 0, 0, 0, 0, 0, 0, 1, 1, 0, 0, 0, 0, 0, 0, 0, 5, 0,
 ];
 
 // What is found in an image: the number of streams and the place of the closed gate, or the number of the cause.
@@ -77,6 +87,18 @@ fn found_changed(
     found(alloc, &image, j)
 }
 
+/// What is found in the log of format 2 with these bytes changed.
+fn found_changed_wide(
+    rt: &impl Abort,
+    alloc: Global,
+    changes: &[(usize, u8)],
+    j: u16,
+) -> (u16, u64, usize, u8) {
+    let mut image = WIDE_LOG;
+    change(rt, &mut image, changes);
+    found(alloc, &image, j)
+}
+
 #[test]
 fn images_are_written(rt: HostRuntime) -> Result<(), Fail> {
     let mut image = header(1, 0).to_vec(rt.alloc())?;
@@ -140,7 +162,7 @@ fn short_images_are_unborn(rt: HostRuntime) {
 /// Where a byte of the log is changed, to what, and the number of the cause.
 const CHANGES: [(usize, u8, u8); 13] = [
     (0, 0, 1),
-    (11, 50, 1),
+    (11, 51, 1),
     (12, 1, 2),
     (13, 0, 2),
     (13, 17, 2),
@@ -211,4 +233,86 @@ fn bodies_of_all_sizes(rt: HostRuntime) -> Result<(), Fail> {
         );
     }
     Ok(())
+}
+
+#[test]
+fn images_of_format_2_are_written(rt: HostRuntime) -> Result<(), Fail> {
+    let mut image = header_wide(2, 0).to_vec(rt.alloc())?;
+    append(&rt, &mut image, 16, part(&rt, &WIDE_LOG, 21, 34))?;
+    append(&rt, &mut image, 34, part(&rt, &WIDE_LOG, 39, 81))?;
+    assert_eq!(rt; image.as_slice(), WIDE_LOG.as_slice());
+    assert_eq!(rt;
+        header_wide(32, 31),
+        [
+            84, 65, 85, 82, 85, 83, 45, 76, 79, 71, 45, 50, 0, 32, 0, 31, 0
+        ]
+    );
+    Ok(())
+}
+
+#[test]
+fn a_content_states_its_format(rt: HostRuntime) -> Result<(), Fail> {
+    let content = contents_of(rt.alloc(), &WIDE_LOG, 0)?;
+    assert!(rt; content.format == Some(Format::Two));
+    assert_eq!(rt; content.count, Some(2));
+    assert_eq!(rt; content.gate_at, 81);
+    assert_eq!(rt; content.bytes.len(), 55);
+    assert!(rt; contents_of(rt.alloc(), &LOG, 0)?.format == Some(Format::One));
+    assert!(rt; contents_of(rt.alloc(), first(&rt, &WIDE_LOG, 17), 0)?.format == None);
+    assert!(rt; stated_format(&WIDE_LOG) == Some(Format::Two));
+    assert!(rt; stated_format(first(&rt, &WIDE_LOG, 18)) == Some(Format::Two));
+    assert!(rt; stated_format(&LOG) == Some(Format::One));
+    assert!(rt; stated_format(first(&rt, &WIDE_LOG, 17)) == None);
+    Ok(())
+}
+
+// Each number of streams above those of format 1 is one of format 2 alone. Bytes 11, 13 and 15 are the digit of the format,
+// the number of streams and the stream.
+#[test]
+fn counts_of_format_2(rt: HostRuntime) {
+    let alloc = rt.alloc();
+    for n in 17u8..33 {
+        let last = n - 1;
+        let wide = found_changed_wide(&rt, alloc, &[(13, n), (15, last)], u16::from(last));
+        assert_eq!(rt; wide, (u16::from(n), 81, 55, 0), "{n} streams");
+        let narrow = found_changed_wide(&rt, alloc, &[(11, 49), (13, n), (15, last)], 16);
+        assert_eq!(rt; narrow, (0, 0, 0, 2), "{n} streams in format 1");
+    }
+}
+
+/// Where a byte of the log of format 2 is changed, to what, and the number of the cause.
+const WIDE_CHANGES: [(usize, u8, u8); 11] = [
+    (0, 0, 1),
+    (11, 51, 1),
+    (12, 1, 2),
+    (13, 0, 2),
+    (13, 33, 2),
+    (14, 1, 3),
+    (15, 1, 3),
+    (17, 1, 4),
+    (20, 0, 4),
+    (38, 43, 4),
+    (81, 1, 4),
+];
+
+#[test]
+fn causes_in_format_2(rt: HostRuntime) {
+    let alloc = rt.alloc();
+    for (at, byte, cause) in WIDE_CHANGES {
+        let seen = found_changed_wide(&rt, alloc, &[(at, byte)], 0);
+        assert_eq!(rt; seen, (0, 0, 0, cause), "byte {at} set to {byte}");
+    }
+    // Of several causes the first one that is looked for is told.
+    let rows = [
+        ([(13usize, 33u8), (15, 32)], 32u16, 2u8),
+        ([(13, 33), (0, 0)], 0, 1),
+        ([(13, 32), (15, 32)], 32, 3),
+        ([(13, 32), (15, 31)], 30, 3),
+    ];
+    for (changes, j, cause) in rows {
+        assert_eq!(rt;
+            found_changed_wide(&rt, alloc, &changes, j),
+            (0, 0, 0, cause)
+        );
+    }
 }

@@ -10,6 +10,8 @@ mod block;
 #[cfg(test)]
 mod epoch;
 #[cfg(test)]
+mod memory;
+#[cfg(test)]
 mod model;
 #[cfg(test)]
 mod outbox;

@@ -68,7 +68,7 @@ fn put(
 ) -> Result<Vec<u8>, Fail>
     requires { 1 ≤ number }
 {
-    assert!(rt; dep.width() == anchor.width());
+    assert!(rt; dep.width() == anchor.width() && dep.width() <= 16);
     assert!(rt; dep.covers(anchor));
     let writes = [(Key { table: 0, row: 1 }, value)];
     Ok(encode_written(alloc, number, anchor_number, dep, anchor, &writes)?)
@@ -171,21 +171,22 @@ fn commands_have_the_stated_bytes(rt: HostRuntime) -> Result<(), Fail> {
     )
 }
 
-/// The bytes of the record, in format 2, of a call that puts a number into row 1, above no anchor.
+/// The bytes of the record, in format 2, of a call that puts a number into row 1, above the anchor of this number.
 fn wide_put(
     rt: &impl Abort,
     alloc: Global,
     call: u64,
     dep: &[u64],
+    named: (u32, &[u64]),
     number: i64,
 ) -> Result<Vec<u8>, Fail> {
     assert!(rt; 1 <= call);
-    let zero = vector(rt, &[0, 0]);
+    let anchor = vector(rt, named.1);
     let dep = vector(rt, dep);
-    assert!(rt; dep.width() == zero.width());
-    assert!(rt; dep.covers(&zero));
+    assert!(rt; dep.width() == anchor.width());
+    assert!(rt; dep.covers(&anchor));
     let writes = [(Key { table: 0, row: 1 }, Value::Int(number))];
-    Ok(encode_written_wide(alloc, call, 0, &dep, &zero, &writes)?)
+    Ok(encode_written_wide(alloc, call, named.0, &dep, &anchor, &writes)?)
 }
 
 /// The bytes of the command record, in format 2, of call 1 with these arguments, above no anchor.
@@ -204,9 +205,9 @@ fn wide_command(rt: &impl Abort, alloc: Global, numbers: &[i64]) -> Result<Vec<u
 #[test]
 fn wide_records_have_the_stated_bytes(rt: HostRuntime) -> Result<(), Fail> {
     let alloc = rt.alloc();
-    let first = wide_put(&rt, alloc, 1, &[0, 0], 5)?;
+    let first = wide_put(&rt, alloc, 1, &[0, 0], (0, &[0, 0]), 5)?;
     are_bytes(&rt, alloc, first.as_slice(), WIDE_WRITTEN)?;
-    let second = wide_put(&rt, alloc, 2, &[55, 0], 7)?;
+    let second = wide_put(&rt, alloc, 2, &[55, 0], (0, &[0, 0]), 7)?;
     are_bytes(
         &rt,
         alloc,
@@ -217,9 +218,82 @@ fn wide_records_have_the_stated_bytes(rt: HostRuntime) -> Result<(), Fail> {
     are_bytes(&rt, alloc, command.as_slice(), WIDE_COMMAND)
 }
 
+/// The anchor with number 1 of a stream of 32.
+const ENDS: [u64; 32] = [
+    13, 13, 13, 13, 13, 13, 13, 13, 13, 13, 13, 13, 13, 13, 13, 13, 61, 13, 13, 13, 13, 13, 13, 13,
+    13, 13, 13, 13, 13, 13, 13, 77,
+];
+
+/// The same with another position for the last stream.
+const ENDS_RAISED: [u64; 32] = [
+    13, 13, 13, 13, 13, 13, 13, 13, 13, 13, 13, 13, 13, 13, 13, 13, 61, 13, 13, 13, 13, 13, 13, 13,
+    13, 13, 13, 13, 13, 13, 13, 90,
+];
+
+/// Of 32 streams, 16 and 31 have a position.
+const TWO_HIGH: [u64; 32] = [
+    0, 0, 0, 0, 0, 0, 0, 0, 0, 0, 0, 0, 0, 0, 0, 0, 13, 0, 0, 0, 0, 0, 0, 0, 0, 0, 0, 0, 0, 0, 0,
+    61,
+];
+
+/// The record of call 1 with the vector `TWO_HIGH` above no anchor.
+const HIGH_WRITTEN: &str =
+    "01 0000003a 0000000000000001 00000000 80010000 000000000000000d 000000000000003d 0001 0000 0000000000000001 01 0000000000000005";
+
+/// The record of call 1 with the vector `ENDS_RAISED` above the anchor `ENDS`.
+const ANCHORED_WRITTEN: &str =
+    "01 00000032 0000000000000001 00000001 80000000 000000000000005a 0001 0000 0000000000000001 01 0000000000000005";
+
+/// The record of call 1 with the vector of that anchor.
+const SAME_WRITTEN: &str =
+    "01 0000002a 0000000000000001 00000001 00000000 0001 0000 0000000000000001 01 0000000000000005";
+
+/// The record of call 1 with this vector, above the anchor of this number, has these bytes.
+fn wide_put_is(
+    rt: &impl Abort,
+    alloc: Global,
+    dep: &[u64],
+    named: (u32, &[u64]),
+    text: &str,
+) -> Result<(), Fail> {
+    let record = wide_put(rt, alloc, 1, dep, named, 5)?;
+    are_bytes(rt, alloc, record.as_slice(), text)
+}
+
+/// Masks have bits above 16.
+#[test]
+fn records_of_32_streams_have_the_stated_bytes(rt: HostRuntime) -> Result<(), Fail> {
+    let alloc = rt.alloc();
+    wide_put_is(&rt, alloc, &TWO_HIGH, (0, &[0; 32]), HIGH_WRITTEN)?;
+    wide_put_is(&rt, alloc, &ENDS_RAISED, (1, &ENDS), ANCHORED_WRITTEN)?;
+    wide_put_is(&rt, alloc, &ENDS, (1, &ENDS), SAME_WRITTEN)
+}
+
+/// The bytes of these digits, and then these components.
+fn with_components(alloc: Global, head: &str, lv: &[u64]) -> Result<Vec<u8>, Fail> {
+    let mut bytes = bytes_of(alloc, head)?;
+    for position in lv {
+        bytes.extend_from_slice(&position.to_be_bytes())?;
+    }
+    Ok(bytes)
+}
+
+/// An anchor and an epoch of 32 streams have a component for each.
+#[test]
+fn anchors_and_epochs_of_32_streams_have_the_stated_bytes(rt: HostRuntime) -> Result<(), Fail> {
+    let alloc = rt.alloc();
+    let anchor = encode_anchor(alloc, &vector(&rt, &ENDS))?;
+    let wanted = with_components(alloc, "03 00000105", &ENDS)?;
+    assert_eq!(rt; anchor.as_slice(), wanted.as_slice());
+    let first = epoch(&rt, alloc, 1, &ENDS)?;
+    let wanted = with_components(alloc, "05 00000109 00000001", &ENDS)?;
+    assert_eq!(rt; first.as_slice(), wanted.as_slice());
+    Ok(())
+}
+
 /// The mask of a vector above an anchor.
 fn mask(rt: &impl Abort, dep: &Lv, anchor: &Lv) -> u16 {
-    assert!(rt; dep.width() == anchor.width());
+    assert!(rt; dep.width() == anchor.width() && dep.width() <= 16);
     assert!(rt; dep.covers(anchor));
     compress(dep, anchor)
 }
@@ -246,6 +320,34 @@ fn masks_of_both_formats(rt: HostRuntime) -> Result<(), Fail> {
         assert_eq!(rt; wide_mask(&rt, dep, anchor), u32::from(bits));
     }
     Ok(())
+}
+
+/// The mask, in format 2, of the vector with these positions above the anchor with those.
+fn wide_mask_is(rt: &impl Abort, dep: &[u64], anchor: &[u64], bits: u32) {
+    assert_eq!(rt; wide_mask(rt, &vector(rt, dep), &vector(rt, anchor)), bits);
+}
+
+#[test]
+fn masks_of_32_streams(rt: HostRuntime) {
+    wide_mask_is(&rt, &[0; 32], &[0; 32], 0);
+    wide_mask_is(&rt, &[1; 32], &[0; 32], 0xffff_ffff);
+    wide_mask_is(&rt, &[1; 17], &[0; 17], 0x0001_ffff);
+    wide_mask_is(&rt, &TWO_HIGH, &[0; 32], 0x8001_0000);
+    wide_mask_is(&rt, &ENDS_RAISED, &ENDS, 0x8000_0000);
+    wide_mask_is(&rt, &ENDS_RAISED, &[13; 32], 0x8001_0000);
+}
+
+/// A vector that is raised to an anchor covers it, also one of few streams.
+#[test]
+fn vectors_are_raised_to_anchors_of_32_streams(rt: HostRuntime) {
+    let ends = vector(&rt, &ENDS);
+    let raised = vector(&rt, &ENDS_RAISED);
+    assert!(rt; raise(&vector(&rt, &TWO_HIGH), &ends) == ends);
+    assert!(rt; raise(&vector(&rt, &[0; 32]), &ends) == ends);
+    assert!(rt; raise(&ends, &raised) == raised);
+    assert!(rt; raise(&raised, &ends) == raised);
+    assert!(rt; raise(&vector(&rt, &[13; 17]), &ends) == ends);
+    assert!(rt; raise(&raised, &vector(&rt, &[13; 17])) == raised);
 }
 
 /// The catalogue record, an anchor, and the record of call 1 with the same vector.
@@ -336,6 +438,47 @@ fn wide_contents_are_read(rt: HostRuntime) -> Result<(), Fail> {
     Ok(())
 }
 
+/// The catalogue record, and after it an anchor, and a record of one write.
+fn wide_anchored(alloc: Global, lv: &[u64], record: &str) -> Result<Vec<u8>, Fail> {
+    let mut content = content_of(alloc, "")?;
+    content.extend_from_slice(with_components(alloc, "03 00000105", lv)?.as_slice())?;
+    content.extend_from_slice(bytes_of(alloc, record)?.as_slice())?;
+    Ok(content)
+}
+
+/// The last record of this content of 32 streams is call 1 with this vector, above the anchor with this number.
+fn reads_last(
+    rt: &impl Abort,
+    alloc: Global,
+    content: &[u8],
+    named: u32,
+    positions: &[u64],
+) -> Result<(), Fail> {
+    let placed = decode_as(alloc, Format::Two, 32, content)?;
+    let count = placed.len();
+    assert!(rt; 1 <= count);
+    assert_eq!(rt;
+        place_of(rt, placed.as_slice(), count - 1).1,
+        content.len() as u64
+    );
+    is_first_write(rt, &placed[count - 1].entry, named, positions);
+    Ok(())
+}
+
+/// Records whose masks have bits above 16 are read with their vectors.
+#[test]
+fn records_of_32_streams_are_read(rt: HostRuntime) -> Result<(), Fail> {
+    let alloc = rt.alloc();
+    let content = content_of(alloc, HIGH_WRITTEN)?;
+    reads_last(&rt, alloc, content.as_slice(), 0, &TWO_HIGH)?;
+    let content = wide_anchored(alloc, &ENDS, ANCHORED_WRITTEN)?;
+    assert_eq!(rt; content.len(), 324);
+    reads_last(&rt, alloc, content.as_slice(), 1, &ENDS_RAISED)?;
+    let content = wide_anchored(alloc, &ENDS, SAME_WRITTEN)?;
+    assert_eq!(rt; content.len(), 316);
+    reads_last(&rt, alloc, content.as_slice(), 1, &ENDS)
+}
+
 /// The entry is the epoch with this number and vector.
 fn is_epoch(rt: &impl Abort, entry: &Entry, stated: u32, positions: &[u64]) {
     match entry {
@@ -410,7 +553,7 @@ fn vectors_are_kept_short(rt: HostRuntime) -> Result<(), Fail> {
     for parts in rows {
         keeps_vector(&rt, rt.alloc(), parts)?;
     }
-    Ok(())
+    keeps_vector(&rt, rt.alloc(), &ENDS)
 }
 
 /// How many writes there are.
@@ -629,9 +772,11 @@ fn each_cause_of_a_head_at_its_edge(rt: HostRuntime) -> Result<(), Fail> {
 }
 
 /// What `decode_as` finds in the catalogue record and other bytes of format 2: 0, or the cause of the record at 13.
-fn wide_cause_of(rt: &impl Abort, alloc: Global, rest: &str) -> Result<u8, Fail> {
-    let content = content_of(alloc, rest)?;
-    match decode_as(alloc, Format::Two, 1, content.as_slice()) {
+fn wide_cause_of(rt: &impl Abort, alloc: Global, n: u16, rest: &[u8]) -> Result<u8, Fail> {
+    assert!(rt; 1 <= n && n <= 32);
+    let mut content = content_of(alloc, "")?;
+    content.extend_from_slice(rest)?;
+    match decode_as(alloc, Format::Two, n, content.as_slice()) {
         Ok(_) => Ok(0),
         Err(RecordRefusal::NoMemory) => Ok(100),
         Err(RecordRefusal::Bad(fault)) => {
@@ -639,6 +784,23 @@ fn wide_cause_of(rt: &impl Abort, alloc: Global, rest: &str) -> Result<u8, Fail>
             Ok(fault.cause as u8)
         }
     }
+}
+
+/// A record of format 2 in a stream of so many has this cause, or 0.
+fn wide_cause_is(
+    rt: &impl Abort,
+    alloc: Global,
+    n: u16,
+    rest: &str,
+    cause: u8,
+) -> Result<(), Fail> {
+    let rest = bytes_of(alloc, rest)?;
+    assert_eq!(rt;
+        wide_cause_of(rt, alloc, n, rest.as_slice())?,
+        cause,
+        "{n} streams"
+    );
+    Ok(())
 }
 
 /// Records of format 2 and of the other format, and the cause that is found there in format 2, or 0.
@@ -666,11 +828,96 @@ const WIDE: [(&str, u8); 6] = [
 fn each_cause_of_a_wide_head(rt: HostRuntime) -> Result<(), Fail> {
     let alloc = rt.alloc();
     for (rest, cause) in WIDE {
-        assert_eq!(rt; wide_cause_of(&rt, alloc, rest)?, cause, "{rest}");
+        wide_cause_is(&rt, alloc, 1, rest, cause)?;
     }
     // In format 1 the count is the second half of the mask.
     assert_eq!(rt; cause_of(&rt, alloc, 1, WIDE_WRITTEN)?, 6);
     Ok(())
+}
+
+/// A record with the mask of stream 16, one with that of stream 17, and one with that of stream 31.
+const BIT_16: &str =
+    "01 00000032 0000000000000001 00000000 00010000 0000000000000001 0001 0000 0000000000000001 01 0000000000000005";
+
+const BIT_17: &str =
+    "01 00000032 0000000000000001 00000000 00020000 0000000000000001 0001 0000 0000000000000001 01 0000000000000005";
+
+const BIT_31: &str =
+    "01 00000032 0000000000000001 00000000 80000000 0000000000000001 0001 0000 0000000000000001 01 0000000000000005";
+
+/// Of how many streams, the record, and the cause that is found there in format 2, or 0.
+const MASKS: [(u16, &str, u8); 11] = [
+    // a bit at the number of streams, and one below it
+    (16, BIT_16, 5),
+    (17, BIT_16, 0),
+    (17, BIT_17, 5),
+    (18, BIT_17, 0),
+    (31, BIT_31, 5),
+    (32, BIT_31, 0),
+    (32, HIGH_WRITTEN, 0),
+    (31, HIGH_WRITTEN, 5),
+    // the component
+    (
+        32,
+        "01 00000032 0000000000000001 00000000 80000000 0000000000000000 0001 0000 0000000000000001 01 0000000000000005",
+        5,
+    ),
+    (
+        32,
+        "01 00000032 0000000000000001 00000000 80000000 3fffffffffffffff 0001 0000 0000000000000001 01 0000000000000005",
+        0,
+    ),
+    (
+        32,
+        "01 00000032 0000000000000001 00000000 80000000 4000000000000000 0001 0000 0000000000000001 01 0000000000000005",
+        5,
+    ),
+];
+
+#[test]
+fn each_cause_of_a_mask_above_16_bits(rt: HostRuntime) -> Result<(), Fail> {
+    let alloc = rt.alloc();
+    for (n, rest, cause) in MASKS {
+        wide_cause_is(&rt, alloc, n, rest, cause)?;
+    }
+    Ok(())
+}
+
+/// An anchor and an epoch with these components, in a stream of so many, have this cause, or none.
+fn components_have(
+    rt: &impl Abort,
+    alloc: Global,
+    n: u16,
+    lv: &[u64],
+    cause: u8,
+) -> Result<(), Fail> {
+    let anchor = with_components(alloc, "03 00000105", lv)?;
+    assert_eq!(rt;
+        wide_cause_of(rt, alloc, n, anchor.as_slice())?,
+        cause,
+        "{n} streams"
+    );
+    let epoch = with_components(alloc, "05 00000109 00000001", lv)?;
+    assert_eq!(rt;
+        wide_cause_of(rt, alloc, n, epoch.as_slice())?,
+        cause,
+        "{n} streams"
+    );
+    Ok(())
+}
+
+/// The components of 32 streams are too many for 31, and the last one is below 2^62.
+#[test]
+fn each_cause_of_32_components(rt: HostRuntime) -> Result<(), Fail> {
+    let alloc = rt.alloc();
+    components_have(&rt, alloc, 32, &ENDS, 0)?;
+    components_have(&rt, alloc, 31, &ENDS, 3)?;
+    components_have(&rt, alloc, 16, &ENDS, 3)?;
+    let mut high = ENDS;
+    high[31] = 0x3fff_ffff_ffff_ffff;
+    components_have(&rt, alloc, 32, &high, 0)?;
+    high[31] = 0x4000_0000_0000_0000;
+    components_have(&rt, alloc, 32, &high, 6)
 }
 
 /// The same of its writes.

@@ -6,10 +6,11 @@ use Rattle.std.specs.List.{flat_map}
 use mathlib.Core.Option.{none}
 use Rattle.atomic_table.specs.Table.{Allows, step}
 use Rattle.tau_base.specs.declared.limits.TheConstants.{MAX_STREAMS}
+use Rattle.tau_base.specs.declared.format.Format.{Format}
+use Rattle.tau_base.specs.Modes.{format_of}
 use Rattle.tau_model.specs.History.{Member}
 use Rattle.tau_machine.specs.Pieces.{Ascending}
 use Rattle.tau_machine.specs.State.{Item, past_of, start_of}
-use Rattle.tau_record.specs.Format.{One}
 use Rattle.tau_record.specs.Record.{Spells}
 use Rattle.tau_record.specs.declared.entry.Entry.TheVariants as entry
 use Rattle.tau_outbox.specs.declared.Piece.{Piece}
@@ -36,8 +37,8 @@ use Rattle.tau_desk.proofs.Taking.{At, managed_is}
 use Rattle.tau_record.proofs.SizeLaws.{lv_len}
 
 -- the record of an anchor is short
-pub anchor_long : (n : ℕ) (lv bytes : List ℕ) → length lv ≤ MAX_STREAMS → Spells One n [] false (entry.Anchor lv) bytes → (1 ≤ length bytes) × (length bytes ≤ MAX_ANCHOR)
-anchor_long n lv bytes few s =
+pub anchor_long : (f : Format) (n : ℕ) (lv bytes : List ℕ) → length lv ≤ MAX_STREAMS → Spells f n [] false (entry.Anchor lv) bytes → (1 ≤ length bytes) × (length bytes ≤ MAX_ANCHOR)
+anchor_long f n lv bytes few s =
     let fields : List ℕ = flat_map (to_be_bytes w64) lv in
     let text : length bytes ≡ 1 + length (to_be_bytes w32 (5 + length fields) ++ fields) = (let e = ap (length {A = ℕ}) s.text in omega (arith, e)) in
     let all = length-append (to_be_bytes w32 (5 + length fields)) fields in
@@ -48,14 +49,14 @@ pub anchored_is : (m : Sat) (u : ℕ) (r : Role) (g : Managed) (bytes : List ℕ
 anchored_is m u r g bytes start roles share =
     λ i. record m.0 { roles = ((first_role (roles i)).0, record (first_role (roles i)).1 { share = Managing (anchored (managed_is m.0 u r g roles share i) m.0.seen bytes start) }) ∷ [] }
 
-pub to_anchor : (key : Plain) (m : Sat) (j : ℕ) (o : PlainStock) (h : At key m j o) (seen bytes : List ℕ) → m.0.seen ≡ seen → length seen ≡ key.load.streams → key.load.streams ≤ MAX_STREAMS → ((vectors : List (List ℕ)) → Spells One (length seen) vectors false (entry.Anchor seen) bytes) →
+pub to_anchor : (key : Plain) (m : Sat) (j : ℕ) (o : PlainStock) (h : At key m j o) (seen bytes : List ℕ) → m.0.seen ≡ seen → length seen ≡ key.load.streams → key.load.streams ≤ MAX_STREAMS → ((vectors : List (List ℕ)) → Spells (format_of key.load.mode) (length seen) vectors false (entry.Anchor seen) bytes) →
     slice_index key.load.opening.anchors.items j + length o.anchors < 2 ^ 32 - 1 → IsToAnchor key j m bytes
 to_anchor key m j o h seen bytes is wide few spelled room =
     let s = h.stock in
-    let long = anchor_long (length seen) seen bytes (omega (arith, wide, few)) (spelled []) in record {
+    let long = anchor_long (format_of key.load.mode) (length seen) seen bytes (omega (arith, wide, few)) (spelled []) in record {
       managed = s.managed;
       is = record { role = h.role; opened = h.opened; roles = h.roles; share = s.share; there = s.there };
-      spelled = λ vectors. subst (λ (z : ℕ × List ℕ). Spells One z.0 vectors false (entry.Anchor z.1) bytes) (λ i. (wide i, sym is i)) (spelled vectors);
+      spelled = λ vectors. subst (λ (z : ℕ × List ℕ). Spells (format_of key.load.mode) z.0 vectors false (entry.Anchor z.1) bytes) (λ i. (wide i, sym is i)) (spelled vectors);
       low = long.0;
       high = long.1;
       room = subst (λ (l : List (List ℕ)). slice_index key.load.opening.anchors.items j + length l < 2 ^ 32 - 1) (sym s.anchors) room;

@@ -24,7 +24,7 @@ use Rattle.tau_rule.specs.declared.part.Part.{Part}
 use Rattle.tau_rule.specs.declared.part.Part.TheVariants as part
 use Rattle.tau_rule.specs.First.{clerk_share, first_view, manager_share, outer_share, role_at, roles_below, share_at, worker_share}
 use Rattle.tau_rule.specs.Role.{role_in}
-use Rattle.tau_rule.specs.Rule.{IsPart, Rule, anchors_at, is_raised, number_if, part_count, word_of}
+use Rattle.tau_rule.specs.Rule.{IsPart, Rule, anchors_at, number_if, part_count, word_of}
 use Rattle.atomic_table.specs.Table.{opening}
 use Rattle.tau_rule.proofs.Opening.{begins, limited, now, none_raised}
 use Rattle.tau_desk.proofs.Closing.{word_ends, word_plv}

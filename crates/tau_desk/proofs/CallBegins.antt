@@ -1,6 +1,6 @@
 -- A worker begins its next call, and undoes that where the call has made no event.
-use Rattle.std.proofs.Common.{ℕ, zero, suc, ◌≡◌, ◌≤◌, ◌+◌, ◌-◌, ◌==◌, ne_eqb, inl, inr, Bool, true, false, List, [], ◌∷◌, ◌++◌, length, refl, sym, ap, subst, ◌∙◌, Option, arith}
-use Rattle.std.specs.Prelude.{Some, None, Result, Ok, Err, IfOk, is_some, slice_get}
+use Rattle.std.proofs.Common.{ℕ, ◌≡◌, ◌≤◌, ◌+◌, ◌-◌, inl, inr, Bool, true, false, List, [], ◌∷◌, ◌++◌, length, refl, sym, ap, subst, ◌∙◌, Option, arith}
+use Rattle.std.specs.Prelude.{Some, None, Result, Ok, Err, IfOk, is_some}
 use Rattle.std.proofs.lemmas.Bool.Decides.{leb_tells}
 use Rattle.tau_base.specs.declared.value.Call.{Call}
 use Rattle.tau_base.specs.declared.value.NoMemory.{NoMemory}

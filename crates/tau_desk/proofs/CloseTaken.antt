@@ -1,11 +1,11 @@
 -- At the end of the table a core can be made of the slots, of the words, and of what the head has.
-use Rattle.std.proofs.Common.{ℕ, ◌+◌, ◌-◌, ◌*◌, ◌^◌, ◌<◌, ◌≤◌, ◌≡◌, List, [], length, refl, sym, ap, ◌∙◌, Option, arith}
+use Rattle.std.proofs.Common.{ℕ, ◌+◌, ◌-◌, ◌*◌, ◌<◌, ◌≤◌, ◌≡◌, List, [], length, refl, sym, ap, ◌∙◌, Option, arith}
 use Rattle.std.specs.Prelude.{Some, None, map, slice_get, slice_index}
 use Rattle.std.proofs.Math.Nat.{mod-lt}
 use Rattle.std.proofs.lemmas.List.{length-map}
 use mathlib.Core.Option.{some}
 use lib.ListN.{get_elem?}
-use Rattle.tau_base.specs.declared.limits.TheConstants.{MAX_CALLS, SHARDS}
+use Rattle.tau_base.specs.declared.limits.TheConstants.{SHARDS}
 use Rattle.tau_model.specs.declared.committed.Committed.{Committed}
 use Rattle.tau_model.specs.History.{Reordered}
 use Rattle.tau_model.proofs.Reorder.{reordered_length}
@@ -17,12 +17,11 @@ use Rattle.tau_txn.specs.Txn.{PlainTxn}
 use Rattle.tau_core.specs.Plain.{PlainSeat}
 use Rattle.tau_core.specs.State.{Plain}
 use Rattle.tau_core.specs.View.{setting_of, worker_of}
-use Rattle.tau_rule.specs.Rule.{IsPart, MAX_ANCHOR, Meets, Now, outbox_part, part_count}
+use Rattle.tau_rule.specs.Rule.{IsPart, Now, outbox_part, part_count}
 use Rattle.tau_rule.specs.declared.part.Part.{Part}
 use Rattle.tau_rule.specs.declared.part.Part.TheVariants as part
 use Rattle.tau_rule.proofs.Numbers.{few_joined}
 use Rattle.tau_rule.proofs.Persisting.{small_plv, small_end}
-use Rattle.tau_rule.proofs.Placing.{room}
 use Rattle.tau_rule.proofs.Turns.{reached_invariant, share_worker}
 use Rattle.tau_desk.specs.Close.{IsBoxOf}
 use Rattle.tau_desk.specs.Ends.{AreResting, IsWhole}

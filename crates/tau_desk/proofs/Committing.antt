@@ -2,10 +2,10 @@
 use Rattle.std.proofs.Common.{◌≡◌, ℕ, ◌+◌, ◌%◌, ◌≤◌, ◌<◌, ◌^◌, Bool, true, false, inr, List, [], ◌∷◌, ◌++◌, length, refl, sym, ap, ◌∙◌, subst, Option, arith}
 use Rattle.std.specs.Prelude.{Some, None, is_some}
 use Rattle.tau_base.specs.Vectors.{join}
-use Rattle.tau_base.specs.declared.limits.TheConstants.{MAX_LSN, MAX_STREAMS}
+use Rattle.tau_base.specs.declared.limits.TheConstants.{MAX_LSN}
+use Rattle.tau_base.specs.Modes.{format_of, most_streams}
 use Rattle.tau_base.specs.declared.value.LogMode.{LogMode}
 use Rattle.tau_proc.specs.declared.proc.Proc.{Proc}
-use Rattle.tau_record.specs.Format.{One}
 use Rattle.tau_record.specs.Record.{base_of, Spells}
 use Rattle.tau_model.specs.declared.committed.Committed.{Committed}
 use Rattle.tau_model.specs.History.{Act, Numbered}
@@ -77,14 +77,14 @@ abbrev pub raised_by : Hand → List ℕ → Hand
 raised_by h anchor = record h { dep = join h.dep anchor }
 
 -- what its place owes, from the record that was made
-pub to_place : (origin : Plain) (w : ℕ) (m : Sat) (t p : PlainTxn) (size number : ℕ) (anchor : List ℕ) → IsReady origin w m t → (q : txn.Commits origin.load.procs t size) → m.0.read ≡ (number, anchor) → length anchor ≡ origin.load.streams → origin.load.streams ≤ MAX_STREAMS →
+pub to_place : (origin : Plain) (w : ℕ) (m : Sat) (t p : PlainTxn) (size number : ℕ) (anchor : List ℕ) → IsReady origin w m t → (q : txn.Commits origin.load.procs t size) → m.0.read ≡ (number, anchor) → length anchor ≡ origin.load.streams → origin.load.streams ≤ most_streams (format_of t.mode) →
     p ≡ record t { hand = p.hand } → hand_in origin.load.procs p ≡ Some (raised_by q.hand anchor) → anchor_in p ≡ number → 1 ≤ length (bytes_in p) →
-    ((vectors : List (List ℕ)) → base_of vectors number ≡ anchor → Spells One t.width vectors false (entry_of t.mode (act_at origin.load.procs p 0 (raised_by q.hand anchor))) (bytes_in p)) → IsToPlace origin w m p
+    ((vectors : List (List ℕ)) → base_of vectors number ≡ anchor → Spells (format_of t.mode) t.width vectors false (entry_of t.mode (act_at origin.load.procs p 0 (raised_by q.hand anchor))) (bytes_in p)) → IsToPlace origin w m p
 to_place origin w m t p size number anchor r q read wide few same raised named sized spelled =
     let a : Act theory.Txn = act_at origin.load.procs p 0 (raised_by q.hand anchor) in
     let small : length (bytes_in p) < 2 ^ 32 =
     size_small origin.load.streams anchor t.mode a (bytes_in p) few wide
-    (λ vectors e. subst (λ (n : ℕ). Spells One n vectors false (entry_of t.mode a) (bytes_in p)) r.width (spelled vectors (ap (base_of vectors) (sym named) ∙ e))) in
+    (λ vectors e. subst (λ (n : ℕ). Spells (format_of t.mode) n vectors false (entry_of t.mode a) (bytes_in p)) r.width (spelled vectors (ap (base_of vectors) (sym named) ∙ e))) in
     record {
       role = r.role;
       worker = r.worker;
@@ -116,7 +116,7 @@ commit_room l w o f m e =
 
 -- what the call is then
 pub has_committed : (procs : List Proc) (t p t' : PlainTxn) (size number : ℕ) (anchor : List ℕ) (start : ℕ) (kept : Committed) (q : txn.Commits procs t size) → p ≡ record t { hand = p.hand } → (leaves_in t ≡ false → leaves_in p ≡ false) → hand_in procs p ≡ Some (raised_by q.hand anchor) → anchor_in p ≡ number →
-    start + length (bytes_in p) < MAX_LSN → ((vectors : List (List ℕ)) → base_of vectors number ≡ anchor → Spells One t.width vectors false (entry_of t.mode (act_at procs p start (raised_by q.hand anchor))) (bytes_in p)) → IsPlaced procs p t' start kept → HasCommitted procs t t' number anchor start kept
+    start + length (bytes_in p) < MAX_LSN → ((vectors : List (List ℕ)) → base_of vectors number ≡ anchor → Spells (format_of t.mode) t.width vectors false (entry_of t.mode (act_at procs p start (raised_by q.hand anchor))) (bytes_in p)) → IsPlaced procs p t' start kept → HasCommitted procs t t' number anchor start kept
 has_committed procs t p t' size number anchor start kept q same stays raised named small spelled s =
     let h : Hand = raised_by q.hand anchor in
     let a : Act theory.Txn = act_at procs p start h in
@@ -134,7 +134,7 @@ has_committed procs t p t' size number anchor start kept q same stays raised nam
       is = now.0;
       next = posts_next procs t' (hand_joined q.hand (Placed a) (join q.hand.dep anchor)) a now.0 refl;
       small = subst (λ (b : List ℕ). start + length b < MAX_LSN) (sym s.bytes) small;
-      spelled = λ vectors e. subst (λ (b : List ℕ). Spells One t.width vectors false (entry_of t.mode a) b) (sym s.bytes) (spelled vectors e);
+      spelled = λ vectors e. subst (λ (b : List ℕ). Spells (format_of t.mode) t.width vectors false (entry_of t.mode a) b) (sym s.bytes) (spelled vectors e);
       kept_is = now.1;
       worker = record { runs = s.worker.runs; same = s.worker.same ∙ ap (λ (x : PlainTxn). record x { hand = t'.hand }) same; stays = λ e. s.worker.stays (stays e) };
     }
@@ -173,7 +173,7 @@ to_post origin m t t' number anchor start kept read width mode c =
       small = c.small;
       stream = ap (λ (x : Act theory.Txn). x.call.place.stream) c.act_is ∙ (λ i. (sym worker_is i) % (width i));
       named = inr (number_is ∙ sym (ap (λ (z : ℕ × List ℕ). z.0) read), sym (ap (λ (z : ℕ × List ℕ). z.1) read));
-      spelled = λ vectors e. subst (λ (z : LogMode × ℕ). Spells One z.1 vectors false (entry_of z.0 c.act) (bytes_in t')) (λ i. (mode i, width i)) (c.spelled vectors (ap (base_of vectors) (sym number_is) ∙ e));
+      spelled = λ vectors e. subst (λ (z : LogMode × ℕ). Spells (format_of z.0) z.1 vectors false (entry_of z.0 c.act) (bytes_in t')) (λ i. (mode i, width i)) (c.spelled vectors (ap (base_of vectors) (sym number_is) ∙ e));
     }
 
 -- a seat whose call in hand has joined the committed ones

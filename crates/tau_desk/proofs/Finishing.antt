@@ -7,13 +7,10 @@ use Rattle.tau_machine.specs.Hands.{Txn, Hand, Freeing}
 use Rattle.tau_machine.specs.State.{ticket}
 use Rattle.tau_machine.specs.Worker.{Worker, begun}
 use Rattle.tau_machine.specs.Events.{Done, with_outbox, with_worker}
-use Rattle.tau_txn.specs.declared.action.Action.{Action}
-use Rattle.tau_txn.specs.declared.action.Action.TheVariants as action
 use Rattle.tau_txn.specs.declared.action.ActionKind.TheVariants as kind
 use Rattle.tau_txn.specs.Hand.{PlainHand}
 use Rattle.tau_txn.specs.Next.{kind_of, next_action, next_of}
 use Rattle.tau_txn.specs.Txn.{PlainTxn, worker_in, worker_of}
-use Rattle.tau_proc.specs.declared.reply.Reply.{Reply}
 use Rattle.tau_core.specs.State.{Plain}
 use Rattle.tau_core.specs.View.{tickets}
 use Rattle.tau_core.specs.Pieces.{IsPieceOf, Paired}

@@ -1,9 +1,7 @@
 -- The call in hand of a seat goes on by a step, and a call that is left over goes to the others that are.
-use Rattle.std.proofs.Common.{ℕ, ◌≡◌, ◌≤◌, ◌<◌, Bool, true, false, inl, inr, arith, List, [], ◌∷◌, ◌++◌, refl, sym, ap, subst, ◌∙◌, Option, append_assoc}
+use Rattle.std.proofs.Common.{ℕ, ◌≡◌, ◌≤◌, ◌<◌, Bool, true, false, inl, inr, arith, List, [], ◌∷◌, ◌++◌, refl, sym, ap, subst, ◌∙◌, Option}
 use Rattle.std.specs.Prelude.{Some, None, is_some, length}
 use Rattle.std.specs.Map.{lookup}
-use Rattle.std.proofs.lemmas.List.{append-nil}
-use Rattle.tau_base.specs.declared.value.Call.{Call}
 use Rattle.tau_base.specs.declared.value.Key.{Key}
 use Rattle.tau_base.specs.declared.value.Value.{Value}
 use Rattle.tau_base.specs.declared.value.Mode.{Mode}
@@ -29,7 +27,7 @@ use Rattle.tau_txn.specs.Steps.{locked_with, worker_by}
 use Rattle.tau_txn.specs.Txn.{PlainTxn, RunsBy, hand_in, has_joined, joined_by, joined_of, shown, shown_of, worker_in, worker_of}
 use Rattle.tau_core.specs.declared.state.Load.{Load}
 use Rattle.tau_core.specs.State.{Plain}
-use Rattle.tau_core.specs.View.{all_numbered, call_of, numbered, numbered_by}
+use Rattle.tau_core.specs.View.{all_numbered, call_of}
 use Rattle.tau_core.specs.Stands.{AreNumbers, IsNumber}
 use Rattle.tau_core.proofs.Begins.{ready_in_hand}
 use Rattle.tau_core.proofs.Hands.{some_hand}

@@ -1,13 +1,10 @@
 -- A worker locks a key, or meets Busy.
-use Rattle.std.proofs.Common.{◌≡◌, ◌≤◌, ℕ, false, List, [], Option, length, refl, sym, ap, ◌∙◌, subst, arith}
+use Rattle.std.proofs.Common.{◌≡◌, ◌≤◌, ℕ, false, List, [], Option, length, refl, sym, ap, ◌∙◌, subst}
 use Rattle.std.specs.Prelude.{Some, None}
 use Rattle.tau_base.specs.declared.value.Key.{Key}
 use Rattle.tau_base.specs.declared.value.Value.{Value}
 use Rattle.tau_base.specs.declared.value.Mode.{Mode}
-use Rattle.tau_base.specs.declared.value.Mode.TheVariants.{Read, Write}
 use Rattle.tau_base.specs.Shards.{shard_number}
-use Rattle.tau_base.specs.Vectors.{join}
-use Rattle.tau_base.proofs.Vectors.{join_wider}
 use Rattle.tau_proc.specs.declared.proc.Proc.{Proc}
 use Rattle.tau_machine.specs.Hands.{Hand}
 use Rattle.tau_machine.specs.Shard.{Shard, Entry, entry_in, entry_or, shard_locked}

@@ -1,5 +1,5 @@
 -- The worker of the lowest call that was left over goes on with it.
-use Rattle.std.proofs.Common.{ℕ, zero, suc, ◌-◌, ◌<◌, ◌≤◌, ◌≡◌, inl, inr, false, true, List, [], ◌∷◌, ◌++◌, length, refl, sym, ap, subst, ◌∙◌, Option, arith}
+use Rattle.std.proofs.Common.{ℕ, zero, suc, ◌-◌, ◌<◌, ◌≤◌, ◌≡◌, false, true, List, [], ◌∷◌, ◌++◌, length, refl, sym, ap, subst, ◌∙◌, Option, arith}
 use Rattle.std.specs.Prelude.{Some, None, drop, is_some, replicate, slice_get, take}
 use Rattle.std.specs.List.{remove}
 use lib.ListN.{length-replicate}
@@ -10,7 +10,7 @@ use Rattle.tau_txn.specs.Hand.{PlainHand}
 use Rattle.tau_txn.specs.Txn.{shown_of}
 use Rattle.tau_core.specs.declared.state.Load.{Load}
 use Rattle.tau_core.specs.State.{Plain}
-use Rattle.tau_core.specs.View.{again_in, all_numbered, call_of, every, from_on, numbered, numbered_by}
+use Rattle.tau_core.specs.View.{again_in, all_numbered, every, from_on, numbered, numbered_by}
 use Rattle.tau_core.specs.Stands.{AreNumbers, IsNumber}
 use Rattle.tau_rule.specs.Heads.{resumed, role_or, split_as}
 use Rattle.tau_rule.specs.Role.{Role, Share, Working}
@@ -22,7 +22,7 @@ use Rattle.tau_desk.specs.Seats.{HasWork, IsWorkerSeat, PlainHead}
 use Rattle.tau_desk.specs.Shares.{PlainWork, ShowsWorker, own_worker}
 use Rattle.tau_desk.proofs.Assembling.{same_inside}
 use Rattle.tau_desk.proofs.CloseHead.{HeadAt}
-use Rattle.tau_core.proofs.LeftBack.{numbered_first, numbered_at, number_got}
+use Rattle.tau_core.proofs.LeftBack.{numbered_at, number_got}
 use Rattle.tau_base.proofs.Lists.{some_at}
 
 -- one of the numbers, among their calls

@@ -3,7 +3,6 @@ use Rattle.std.proofs.Common.{ℕ, zero, suc, ◌<◌, ◌≤◌, ◌==◌, ◌�
 use Rattle.std.specs.Prelude.{Some, None, replicate, slice_get, slice_set}
 use Rattle.std.proofs.lemmas.Bool.{cases_eq}
 use lib.ListN.{length-replicate}
-use Rattle.tau_core.specs.State.{Plain}
 use Rattle.tau_core.proofs.Lists.{got_same, got_other}
 use Rattle.tau_rule.specs.Heads.{left_by, role_or, split_off, without}
 use Rattle.tau_rule.specs.Role.{Role, role_in}

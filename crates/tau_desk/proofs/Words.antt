@@ -1,7 +1,7 @@
 -- What a seat is told by a look at a word: that of the stop, and those of persisted positions.
-use Rattle.std.proofs.Common.{◌≡◌, ℕ, zero, suc, ◌+◌, ◌-◌, ◌<◌, inl, inr, true, false, Bool, List, Option, refl, sym, ap, ◌∙◌, subst, arith}
-use Rattle.std.specs.Prelude.{Some, ◌==◌, ◌⊎◌, if◌then◌else◌, nat_le, slice_index}
-use Rattle.std.proofs.lemmas.Bool.{cases_eq, ne_eqb, lt-leb}
+use Rattle.std.proofs.Common.{◌≡◌, ℕ, zero, suc, ◌+◌, ◌<◌, inl, inr, true, false, Bool, List, Option, refl, sym, ap, ◌∙◌, subst, arith}
+use Rattle.std.specs.Prelude.{Some, ◌==◌, ◌⊎◌, if◌then◌else◌, slice_index}
+use Rattle.std.proofs.lemmas.Bool.{cases_eq}
 use mathlib.Core.Option.{none}
 use Rattle.atomic_table.specs.Table.{Allows, Step, step}
 use Rattle.tau_base.specs.Vectors.{AtMost}
@@ -9,7 +9,7 @@ use Rattle.tau_base.proofs.Vectors.{at_most_trans}
 use Rattle.tau_core.specs.State.{Plain}
 use Rattle.tau_rule.specs.Knows.{Knows}
 use Rattle.tau_rule.specs.Positions.{plv_word}
-use Rattle.tau_rule.specs.Rule.{Now, Rule, has, is_raised, number_if, part_count, word_of}
+use Rattle.tau_rule.specs.Rule.{Rule, has, is_raised, number_if, part_count}
 use Rattle.tau_rule.specs.Steps.{Sat}
 use Rattle.tau_rule.specs.Stopping.{stop_word}
 use Rattle.tau_rule.specs.declared.part.Part.{Part}

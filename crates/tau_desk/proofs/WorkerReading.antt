@@ -1,5 +1,5 @@
 -- A call that only read joins the committed ones: by its first free, or by its end, where it holds no key.
-use Rattle.std.proofs.Common.{◌≡◌, ◌≤◌, ℕ, Bool, true, false, List, [], ◌∷◌, ◌++◌, refl, sym, ap, ◌∙◌, subst, Option}
+use Rattle.std.proofs.Common.{◌≡◌, ◌≤◌, ℕ, false, List, [], ◌∷◌, ◌++◌, refl, sym, ap, ◌∙◌, subst, Option}
 use Rattle.std.specs.Prelude.{Some, None, is_some}
 use Rattle.tau_ack.specs.declared.Waiting.{Waiting}
 use Rattle.tau_model.specs.declared.committed.Committed.{Committed}

@@ -11,7 +11,7 @@ use Rattle.tau_model.specs.declared.committed.Committed.{Committed}
 use Rattle.tau_model.specs.History.{Act}
 use Rattle.tau_machine.specs.Hands.{Freeing, Hand, Placed, Txn, committed_of}
 use Rattle.tau_machine.specs.Worker.{Worker, hand_busy, hand_freed, hand_joined, hand_quit, settled}
-use Rattle.tau_record.specs.Format.{One}
+use Rattle.tau_base.specs.Modes.{format_of}
 use Rattle.tau_record.specs.Record.{base_of, Spells}
 use Rattle.tau_txn.specs.Record.{entry_of}
 use Rattle.tau_txn.specs.Txn.{PlainTxn, RunsBy, bytes_in, hand_in, leaves_in, stream_in, worker_of}
@@ -118,7 +118,7 @@ module _ (procs : List Proc) (t t' : PlainTxn) where
     pub is : hand_in procs t' ≡ Some (hand_joined commits.hand (Placed act) (join commits.hand.dep anchor))
     pub next : txn.next_action t' ≡ action.Post
     pub small : start + length (bytes_in t') < MAX_LSN
-    pub spelled : (vectors : List (List ℕ)) → base_of vectors number ≡ anchor → Spells One t.width vectors false (entry_of t.mode act) (bytes_in t')
+    pub spelled : (vectors : List (List ℕ)) → base_of vectors number ≡ anchor → Spells (format_of t.mode) t.width vectors false (entry_of t.mode act) (bytes_in t')
     pub kept_is : kept ≡ committed_of act
     pub worker : SameWorker procs t t'
 

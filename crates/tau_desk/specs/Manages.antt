@@ -11,7 +11,7 @@ use Rattle.tau_ack.specs.Pending.{NoneCovered, TakesFirst}
 use Rattle.tau_ack.specs.declared.Waiting.{Waiting}
 use Rattle.tau_shard.specs.Plain.{PlainShard}
 use Rattle.tau_shard.specs.Read.{shard_of}
-use Rattle.tau_record.specs.Format.{One}
+use Rattle.tau_base.specs.Modes.{format_of}
 use Rattle.tau_record.specs.Record.{Spells}
 use Rattle.tau_record.specs.declared.entry.Entry.TheVariants as entry
 use Rattle.tau_core.specs.declared.state.Load.{Load}
@@ -203,7 +203,7 @@ pub record PutsAnchor (o : PlainStock) (lv bytes : List ℕ) (start : ℕ) (o' :
 pub record PlacesAnchor (l : Load) (s s' : PlainManagerSeat) : Type 0 where
   pub bytes : List ℕ
   pub start : ℕ
-  pub spelled : (vectors : List (List ℕ)) → Spells One l.streams vectors false (entry.Anchor s.seen) bytes
+  pub spelled : (vectors : List (List ℕ)) → Spells (format_of l.mode) l.streams vectors false (entry.Anchor s.seen) bytes
   pub small : start + length bytes < MAX_LSN
   pub puts : PutsAnchor s.stock s.seen bytes start s'.stock
   pub after : s' ≡ record s { me = (told_anchored s.me.0 bytes start, []); stock = s'.stock }

@@ -38,10 +38,9 @@ impl WorkerSeat {
         let stream = stream_of(usize::from(self.worker), desk.streams);
         let part = desk.anchor_number(stream as u8);
         let (number, lv) = take_anchor(rt, desk, &mut self.seat, part);
-        let read = *lv;
+        self.anchor_lv.copy_from(&lv);
         desk.give_read(&mut self.seat, self.worker, part, number, lv);
         self.anchor = number;
-        self.anchor_lv = read;
     }
 
     /// The position of the worker's own stream in the anchor that the seat read last, 0 if it has read none.

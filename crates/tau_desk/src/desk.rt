@@ -2,6 +2,7 @@
 ghost use Rattle.tau_desk.specs.Kept.{HasRoom};
 ghost use Rattle.std.specs.Prelude.{vec_len, vec_capacity, true, false, ◌≡◌, ◌+◌, ◌*◌, ◌<◌, ◌≤◌, ◌^◌, [], ◌∷◌, None, Some, ℕ, length, slice_index};
 ghost use Rattle.tau_base.specs.declared.limits.TheConstants.{MAX_STREAMS, MAX_WORKERS};
+ghost use Rattle.tau_base.specs.Modes.{format_of, most_streams};
 ghost use Rattle.tau_machine.specs.Events.{Event as EventOf};
 ghost use Rattle.tau_txn.specs.Txn.{bytes_in};
 ghost use Rattle.tau_rule.specs.Role.{Managed as ManagedOf, Role as RoleOf};
@@ -58,6 +59,7 @@ pub struct Desk {
     ghost few: { table.shared.key.value.load.workers ≤ MAX_WORKERS },
     ghost roomy: { HasRoom table.shared.key.value.load (vec_len kept.shards, vec_capacity kept.shards) (vec_len kept.seats, vec_capacity kept.seats) (vec_len kept.streams, vec_capacity kept.streams) (length kept.committed.items, kept.committed.room) },
     ghost sized: { (table.shared.table_id.words ≡ 8 * (parts + (table.shared.key.value.load.streams + table.shared.key.value.load.streams + 1))) × (table.shared.table_id.slots ≡ parts) × (parts ≡ part_count table.shared.key.value.load) × (parts < 2 ^ 16) },
+    ghost fit: { table.shared.key.value.load.streams ≤ most_streams (format_of table.shared.key.value.load.mode) },
     ghost streams_are: { (streams ≡ table.shared.key.value.load.streams) × (1 ≤ streams) × (streams ≤ MAX_STREAMS) },
 }
 

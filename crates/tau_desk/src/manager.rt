@@ -93,7 +93,7 @@ impl Stock {
         requires some { 1 ≤ length self.now.anchors }
         ensures newest { slice_get self.now.anchors (length self.now.anchors - 1) ≡ Some result.value }
     {
-        *lv = self.anchors[self.anchors.len() - 1];
+        lv.copy_from(&self.anchors[self.anchors.len() - 1]);
         lv
     }
 

@@ -1,6 +1,7 @@
 //! The desk opens.
 ghost use Rattle.std.specs.Prelude.{◌≡◌, ◌≤◌, ◌<◌, ◌+◌, ◌*◌, ◌^◌, ◌++◌, [], ℕ, IfOk, Some, length, slice_get, slice_index, vec_len, vec_capacity};
 ghost use Rattle.tau_base.specs.declared.limits.TheConstants.{MAX_CATALOGUE, MAX_STREAMS, MAX_WORKERS, SHARDS};
+ghost use Rattle.tau_base.specs.Modes.{format_of, most_streams};
 ghost use Rattle.tau_text.specs.Canonical.{declarations_text};
 ghost use Rattle.tau_text.specs.Kept.{AreCalls};
 ghost use Rattle.tau_core.specs.Opens.{Fits, Opened, OpenedFresh, catalogue_size, load_of};
@@ -38,6 +39,7 @@ impl Desk {
         requires low { 1 ≤ m }
         requires high { m ≤ MAX_WORKERS }
         requires calls { AreCalls load.now.declarations.procs load.now.calls }
+        requires streams { length opening.ends ≤ most_streams (format_of mode) }
         requires fits { Fits opening }
         requires short { (j : ℕ) → j < length opening.ends → slice_index opening.ends j ≤ 2 ^ 61 }
         ensures { IfOk result (λ d. Opened (load_of load.now.declarations.procs load.now.calls mode m opening) d.0.table.shared.key.value × IsFirst d.0.table.shared.key.value d.1.me × IsWhole d.1 × (d.1.table_id ≡ d.0.table.shared.table_id) × AreUnbegun d.1.workers × AreResting d.1) }
@@ -56,7 +58,7 @@ impl Desk {
         mode: LogMode,
     ) -> Result<(Desk, Head), NoMemory>
         requires n_low { 1 ≤ n }
-        requires n_high { n ≤ MAX_STREAMS }
+        requires n_high { n ≤ most_streams (format_of mode) }
         requires low { 1 ≤ m }
         requires high { m ≤ MAX_WORKERS }
         requires calls { AreCalls load.now.declarations.procs load.now.calls }

@@ -16,6 +16,7 @@ use crate::room::Room;
 use std::sync::Wait;
 use tau_ack::Pending;
 use tau_base::{MAX_HOLDERS, NoMemory, SHARDS, shard_of};
+use tau_core::post_from;
 use tau_outbox::Outbox;
 use tau_proc::Procs;
 use tau_rule::{Part, Seat};
@@ -189,8 +190,7 @@ pub fn post<R: Wait>(
     ensures room { (room.new.records + 1 ≡ room.old.records) × (room.new.calls ≡ room.old.calls) }
 {
     let (mut outbox, pending) = take_outbox(rt, desk, seat, worker);
-    let bytes = txn.take_bytes();
-    outbox.post(start, bytes);
+    post_from(txn, start, &mut outbox);
     room.records -= 1;
     desk.give_outbox(seat, worker, outbox, pending, txn, *room);
 }

@@ -1,6 +1,5 @@
 //! Runs in threads, over one row and over many, that are closed.
 ghost use Rattle.std.specs.Prelude.{◌≡◌, ◌≤◌, ◌<◌, Some};
-ghost use Rattle.tau_base.specs.declared.limits.TheConstants.{MAX_STREAMS, MAX_WORKERS};
 ghost use Rattle.tau_core.specs.Opens.{Opened};
 ghost use Rattle.tau_desk_runs.specs.Same.{IsSameHead};
 
@@ -120,9 +119,9 @@ fn run_of<R: Threads + Wait + Sync>(
     m: u8,
 ) -> Result<Core, Fail>
     requires n_low { 1 ≤ n }
-    requires n_high { n ≤ MAX_STREAMS }
+    requires n_high { n ≤ 16 }
     requires m_low { 1 ≤ m }
-    requires m_high { m ≤ MAX_WORKERS }
+    requires m_high { m ≤ 16 }
 {
     let (desk, head) = desk_of(alloc, text, n, m)?;
     if desk.streams != n as usize {

@@ -1,6 +1,5 @@
 //! What the runs share: a desk of a text, and what a worker, a manager and the clerk do on their seats.
 ghost use Rattle.std.specs.Prelude.{◌≡◌, ◌≤◌, ◌<◌, ◌%◌, IfOk, IfSome, Some, true};
-ghost use Rattle.tau_base.specs.declared.limits.TheConstants.{MAX_STREAMS, MAX_WORKERS};
 ghost use Rattle.tau_core.specs.Opens.{Opened};
 ghost use Rattle.tau_desk.specs.Works.{IsSameSeat};
 ghost use Rattle.tau_desk_runs.specs.Same.{IsSameClerk, IsSameHead, IsSameManager};
@@ -25,9 +24,9 @@ pub struct Stuck {
 /// The desk of a run of this text, in which nothing has happened, and its head.
 pub fn desk_of(alloc: Global, text: &[u8], n: u8, m: u8) -> Result<(Desk, Head), Fail>
     requires n_low { 1 ≤ n }
-    requires n_high { n ≤ MAX_STREAMS }
+    requires n_high { n ≤ 16 }
     requires m_low { 1 ≤ m }
-    requires m_high { m ≤ MAX_WORKERS }
+    requires m_high { m ≤ 16 }
     ensures own { IfOk result (λ d. d.1.table_id ≡ d.0.table.shared.table_id) }
     ensures opened { IfOk result (λ d. d.1.me.0.opened ≡ Some d.0.table.shared.key.value) }
     ensures run { IfOk result (λ d. Opened d.0.table.shared.key.value.load d.0.table.shared.key.value) }

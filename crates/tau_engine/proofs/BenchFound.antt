@@ -1,9 +1,10 @@
 -- What the measured job finds: the rows of the run and those that recovery gives are the formula's, and each call was
 -- acknowledged.
-use Rattle.std.proofs.Common.{ℕ, suc, ◌+◌, ◌-◌, ◌≤◌, ◌≡◌, true, List, [], ◌∷◌, map, length, refl, sym, ap, subst, ◌∙◌, arith}
+use Rattle.std.proofs.Common.{ℕ, ◌+◌, ◌-◌, ◌≤◌, ◌≡◌, true, List, [], ◌∷◌, map, length, refl, sym, ap, subst, ◌∙◌, arith}
 use Rattle.std.specs.Prelude.{Some, slice_get, Ok, ◌==◌}
 use Rattle.std.specs.List.{filter}
 use Rattle.std.proofs.lemmas.Bool.{eqb-true}
+use Rattle.tau_base.specs.declared.format.Format.TheVariants.{One}
 use Rattle.tau_base.specs.declared.limits.TheConstants.{MAX_CALLS}
 use Rattle.tau_base.specs.declared.value.Call.{Call}
 use Rattle.tau_base.specs.declared.value.Key.{Key}
@@ -36,7 +37,7 @@ use Rattle.tau_model.proofs.Reorder.{reordered_length}
 use Rattle.tau_engine.specs.Bench.{AreFound, IsMeasured}
 use Rattle.tau_engine.specs.Drill.{images_by}
 use Rattle.tau_engine.proofs.BenchNumbers.{all_numbers}
-use Rattle.tau_engine.proofs.Drilled.{recovered, taken, ordered}
+use Rattle.tau_engine.proofs.Drilled.{recovered, taken}
 use Rattle.tau_crew_facts.proofs.Done.{filter_all}
 use Rattle.tau_base.proofs.Lists.{length_mapped}
 use Rattle.tau_model.proofs.Assembling.{member_mapped}
@@ -128,12 +129,12 @@ module _ {G : Ghosts MemDisk} (tells : G.tells) (left : (d : MemDisk) (tear : Te
   -- so what recovery finds is the formula's too
   pub found_are : (found : Rows) → AreFound new found → found ≡ rows_of start count
   found_are found f =
-      let same : Ok f.log ≡ Ok recovers.log = sym f.reads ∙ ap log_of (sym (as_seen new)) ∙ recovers.reads in
+      let same : Ok f.log ≡ Ok recovers.log = sym f.reads ∙ ap (λ (images : List (List ℕ)). log_of (Some One) images) (sym (as_seen new)) ∙ recovers.asked in
       let one : f.log ≡ recovers.log = cc in
       let redone = subst (λ (log : Log). Rattle.tau_replay.specs.Redone.IsRedone log found) one f.redone in
       let is_db = recovers.redo redone.order redone.is_order ∙ ap (λ (cs : List Committed). exec (means load.declarations.procs) cs empty_db) whole in
       tables_one (last_db load run) found (rows_of start count) (subst (λ (db : Db). IsTablesOf db found) is_db redone.tables) leaves
 
   -- and there is a log with an order
-  pub can_recover : (log : Log) × (log_of (map seen_by new) ≡ Ok log) × (order : List Kept) × IsOrderOf log order
-  can_recover = subst (λ (images : List (List ℕ)). (log : Log) × (log_of images ≡ Ok log) × (order : List Kept) × IsOrderOf log order) (as_seen new) (ordered tells left n m load old new old_count new_count wrote r.rehearsed New)
+  pub can_recover : (log : Log) × (log_of (Some One) (map seen_by new) ≡ Ok log) × (order : List Kept) × IsOrderOf log order
+  can_recover = subst (λ (images : List (List ℕ)). (log : Log) × (log_of (Some One) images ≡ Ok log) × (order : List Kept) × IsOrderOf log order) (as_seen new) (recovers.log, recovers.asked, recovers.ordered.0, recovers.ordered.1)

@@ -1,7 +1,5 @@
 -- Numbers that differ, and are those from 1 to some count, are all of these in some order.
-use Rattle.std.proofs.Common.{ℕ, zero, suc, ◌≤◌, ◌≡◌, ◌⊎◌, inl, inr, Bool, true, List, [], ◌∷◌, ◌++◌, refl, sym, ap, subst, arith}
-use Rattle.std.specs.List.{filter, list_any}
-use Rattle.std.proofs.lemmas.Bool.{cases_Bool}
+use Rattle.std.proofs.Common.{ℕ, zero, suc, ◌≤◌, ◌≡◌, ◌⊎◌, inl, inr, List, [], ◌∷◌, ◌++◌, refl, sym, ap, subst, arith}
 use Rattle.tau_model.specs.History.{Member, Reordered}
 use Rattle.tau_model.proofs.Orders.{member_put, member_back}
 use Rattle.tau_run.specs.Run.{Distinct}

@@ -1,6 +1,6 @@
 -- What recovery finds on the disks of a drill.
-use Rattle.std.proofs.Common.{ℕ, zero, suc, ◌<◌, ◌≤◌, ◌≡◌, ◌⊎◌, inl, inr, Bool, true, false, List, [], ◌∷◌, ◌++◌, map, length, refl, sym, ap, subst, ◌∙◌, arith, ◌+◌, ◌-◌, ◌==◌, ◌&&◌, take, length-append}
-use Rattle.std.specs.Prelude.{Some, slice_get, Ok}
+use Rattle.std.proofs.Common.{ℕ, zero, suc, ◌≤◌, ◌≡◌, inl, inr, Bool, true, false, List, [], ◌∷◌, ◌++◌, length, refl, sym, ap, subst, ◌∙◌, arith, ◌+◌, ◌-◌, ◌==◌, ◌&&◌, take, length-append}
+use Rattle.std.specs.Prelude.{Some, None, slice_get, Ok}
 use Rattle.std.specs.List.{filter, list_any}
 use Rattle.tau_base.specs.declared.value.LogMode.TheVariants.{Values}
 use Rattle.tau_base.specs.Database.{Db, empty_db}
@@ -9,7 +9,7 @@ use Rattle.tau_disk.specs.declared.call.Tear.TheVariants.{Old, New, Torn}
 use Rattle.tau_disk.specs.declared.disk.Disk.{Ghosts}
 use Rattle.tau_disk.specs.declared.memory.MemDisk.{MemDisk}
 use Rattle.tau_disk.specs.Memory.{seen_by, state_of, is_short_by, fails_at, keeps_at}
-use Rattle.tau_disk.specs.Replay.{DiskState, leaves, reach, IsImage, is_from, is_stop}
+use Rattle.tau_disk.specs.Replay.{DiskState, leaves, IsImage, is_from, is_stop}
 use Rattle.tau_disk.specs.Tear.{image_by}
 use Rattle.tau_model.specs.History.{Act, Member, exec, updates}
 use Rattle.tau_model.specs.Tables.{IsTablesOf}
@@ -69,7 +69,7 @@ module _ {G : Ghosts MemDisk} (tells : G.tells) (left : (d : MemDisk) (tear : Te
   pub rows_are : (found : List ℕ) (f : IsRecoveryOf recovered.log found) → IsTablesOf (exec (means load.declarations.procs) (filter (takes recovered.log) r.facts.run.calls) empty_db) f.rows
   rows_are found f = subst (λ (db : Db). IsTablesOf db f.rows) (recovered.redo f.redone.order f.redone.is_order) f.redone.tables
 
-  pub ordered : (log : Log) × (log_of (images_by tear new) ≡ Ok log) × (order : List Kept) × IsOrderOf log order
+  pub ordered : (log : Log) × (log_of None (images_by tear new) ≡ Ok log) × (order : List Kept) × IsOrderOf log order
   ordered = (recovered.log, recovered.reads, recovered.ordered.0, recovered.ordered.1)
 
 module _ {G : Ghosts MemDisk} (tells : G.tells) (left : (d : MemDisk) (tear : Tear) → G.may_leave d (image_by (state_of d) tear)) (n m : ℕ) (how : Ending) (load : Workload) (old new : List MemDisk) (count : length old ≡ n) (same_count : length new ≡ n) (held acks text : List ℕ)

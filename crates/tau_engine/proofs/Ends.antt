@@ -2,14 +2,16 @@
 use Rattle.std.proofs.Common.{ℕ, ◌<◌, ◌≤◌, ◌≡◌, ◌⊎◌, inl, inr, List, [], ◌++◌, map, length, refl, sym, ap, subst, ◌∙◌, Option, Result, Ok, Err, arith}
 use Rattle.std.specs.Prelude.{Some, None, slice_get}
 use Rattle.std.proofs.lemmas.List.{append-nil}
+use Rattle.tau_base.specs.declared.format.Format.TheVariants.{One}
 use Rattle.tau_base.specs.declared.value.LogMode.{LogMode}
+use Rattle.tau_base.specs.Modes.{format_of}
 use Rattle.tau_base.specs.declared.value.NoMemory.{NoMemory}
 use Rattle.tau_block.specs.Image.{HasContent}
 use Rattle.tau_disk.specs.declared.disk.Disk.{Ghosts}
 use Rattle.tau_disk.specs.Disk.{Rose}
 use Rattle.tau_disk.specs.Used.{RoseAt, Made}
 use Rattle.tau_stream.specs.declared.writer.Writer.{Writer}
-use Rattle.tau_stream.specs.Writer.{disk_of, IsReady}
+use Rattle.tau_stream.specs.Writer.{disk_of}
 use Rattle.tau_block.proofs.Blocks.{short_content}
 use Rattle.tau_open.specs.Opening.{IsOpened, AreOpened, Begins}
 use Rattle.tau_open.proofs.Closed.{rest_back, each_back}
@@ -20,7 +22,6 @@ use Rattle.tau_run.specs.RecoveredFacts.{catalogue_of}
 use Rattle.tau_run.specs.CoreRun.{IsLoadOf, IsSoundLoad}
 use Rattle.tau_run.specs.RunFacts as ending
 use Rattle.tau_run.proofs.Reading.{IsCatalogue}
-use Rattle.tau_step.specs.RunTold.{AreNew}
 use Rattle.tau_engine.specs.declared.status.Status.{Status}
 use Rattle.tau_engine.specs.declared.status.Status.TheVariants as status
 use Rattle.tau_engine.specs.Came.{Gave}
@@ -38,26 +39,15 @@ use Rattle.tau_engine.proofs.Streams.{OnlyNow}
 
 -- an image of a disk on which at most the catalogue was written
 module _ {D : Type 0} (G : Ghosts D) (only_now : OnlyNow G) (n : ℕ) (catalogue : List ℕ) (old new : List D) (each : (j : ℕ) (d : D) → j < n → slice_get old j ≡ Some d → (e : D) × (slice_get new j ≡ Some e) × Begins G n catalogue j d e) where
-  pub begun_left : AreUnborn G.tells G.may_leave old n → (j : ℕ) (x : List ℕ) → j < n → Past G.tells G.moment G.may_leave_since old new j x → HasContent n j [] x ⊎ HasContent n j catalogue x
+  pub begun_left : AreUnborn G.tells G.may_leave old n → (j : ℕ) (x : List ℕ) → j < n → Past G.tells G.moment G.may_leave_since old new j x → HasContent One n j [] x ⊎ HasContent One n j catalogue x
   begun_left unborn j x lt (d, e, was, is, (t, since)) =
       let h = each j d lt was in
       let same : h.0 ≡ e = (let f : Some h.0 ≡ Some e = sym h.1 ∙ is in cc) in
       let passes = h.2 t (unborn j d lt was t) in
       elim (passes.new_ones (G.moment d) x (omega arith) (subst (λ (y : D). G.may_leave_since y (G.moment d) x) (sym same) since)) [
-        | inl first ↦ inl (short_content n j x (unborn j d lt was t x (only_now d x first)))
+        | inl first ↦ inl (short_content One n j x (unborn j d lt was t x (only_now d x first)))
         | inr made ↦ made
       ]
-
--- writers that were just opened are new
-pub are_new : {D : Type 0} {G : Ghosts D} (n : ℕ) (load : Workload) (old mid : List D) (ws : List (Writer D G)) → AreOpened G n (catalogue_of load) old mid ws → AreNew (λ j. catalogue_of load) ws
-are_new {D} {G} n load old mid ws streams j w e =
-    let b = streams.begun j w e in
-    record {
-      works = b.works;
-      durable = b.durable;
-      left = b.left;
-      ready = λ t. subst (λ (k : ℕ). IsReady k j w (catalogue_of load)) (sym streams.count) (b.ready t);
-    }
 
 -- what either kind of run gives
 pub gave : {D : Type 0} {G : Ghosts D} → OnlyNow G → (n m : ℕ) (mode : LogMode) (load : Workload) → n ≤ 16 → IsSoundLoad load → (ws ws' : List (Writer D G)) → length ws ≡ n → (hears : Type 0) (held held' : List ℕ) (sink_rose : Type 0) (turns : Option (List Turn)) → load.turns ≡ turns →
@@ -65,7 +55,7 @@ pub gave : {D : Type 0} {G : Ghosts D} → OnlyNow G → (n m : ℕ) (mode : Log
 gave {D} {G} only_now n m mode load room sound ws ws' count hears held held' sink_rose None is result x = of_threads.gave n m mode load is sound ws ws' count hears held held' sink_rose result x
 gave {D} {G} only_now n m mode load room sound ws ws' count hears held held' sink_rose (Some turns) is result x = ran.gave only_now n m mode load room sound ws ws' count hears held held' sink_rose result x
 
-module _ {D : Type 0} {G : Ghosts D} (only_now : OnlyNow G) (n m : ℕ) (mode : LogMode) (load : Workload) (some : 1 ≤ n) (room : n ≤ 16) (workers : 1 ≤ m) (sound : IsSoundLoad load) (old mid new : List D) (many : n ≤ length old)
+module _ {D : Type 0} {G : Ghosts D} (only_now : OnlyNow G) (n m : ℕ) (mode : LogMode) (load : Workload) (some : 1 ≤ n) (room : n ≤ 16) (narrow : format_of mode ≡ One) (workers : 1 ≤ m) (sound : IsSoundLoad load) (old mid new : List D) (many : n ≤ length old)
     (ws : List (Writer D G)) (streams : AreOpened G n (catalogue_of load) old mid ws) (hears : Type 0) (held : List ℕ) (faults : ℕ) where
   abbrev is_catalogue : IsCatalogue load
   is_catalogue = record { short = sound.short; bytes = sound.bytes; read = sound.read }
@@ -74,7 +64,7 @@ module _ {D : Type 0} {G : Ghosts D} (only_now : OnlyNow G) (n m : ℕ) (mode : 
 
   none_begun : (held' : List ℕ) (faults' : ℕ) → new ≡ map (disk_of {D = D} {G = G}) ws ++ mid → held' ≡ held → SaysRun G n m mode load old new hears held held' faults faults' status.NoMemory
   none_begun held' faults' back same = record {
-    facts = facts_of_none n m mode load some room workers is_catalogue (AreUnborn G.tells G.may_leave old n) (Past G.tells G.moment G.may_leave_since old new) (Now G.tells G.may_leave old new) (RoseAt G.faults old new) (Rose faults faults')
+    facts = facts_of_none n m mode load some room narrow workers is_catalogue (AreUnborn G.tells G.may_leave old n) (Past G.tells G.moment G.may_leave_since old new) (Now G.tells G.may_leave old new) (RoseAt G.faults old new) (Rose faults faults')
         (λ j k. G.tells → Made G.number G.short old new j k) (Wrote hears held held') (λ j. fault_text (status.DiskFault j)) ending.NoMemory tt
         (begun_left G only_now n (catalogue_of load) old new (λ j d lt was. (let h = each_back n old new mid ws streams.count back (λ j. IsOpened G n (catalogue_of load) j) streams.disks j d lt was in (h.0, h.1, h.2.begins))))
         (0, inl (λ told. same ∙ sym (append-nil held)));
@@ -95,15 +85,15 @@ module _ {D : Type 0} {G : Ghosts D} (only_now : OnlyNow G) (n m : ℕ) (mode : 
 
   -- its anchors, if it went to its end and no disk failed
   abbrev Spaces : Result RunEnd NoMemory → Type 0
-  Spaces (Ok e) = load.turns ≡ None → e.disk ≡ None → (j : ℕ) (x : List ℕ) → j < n → Now G.tells G.may_leave old new j x → HasSpaced n j load x
+  Spaces (Ok e) = load.turns ≡ None → e.disk ≡ None → (j : ℕ) (x : List ℕ) → j < n → Now G.tells G.may_leave old new j x → HasSpaced (format_of mode) n j load x
   Spaces (Err e) = Unit {0}
 
   module _ (after : List (Writer D G)) (back : new ≡ map (disk_of {D = D} {G = G}) after ++ mid) (held1 : List ℕ) (faults1 : ℕ) (early : faults ≤ faults1) where
     says_gave : (held' : List ℕ) (faults' : ℕ) → faults1 ≤ faults' → (end : Result RunEnd NoMemory) → Gave n m mode load ws after hears held held1 (Rose faults faults1) end → Spaces end →
         (answer : Status) → TellsRun load.declarations.tables end hears held1 held' (Rose faults1 faults') answer → SaysRun G n m mode load old new hears held held' faults faults' answer
-    says_gave held' faults' late (Ok e) x spaced answer t = to.concludes only_now n m mode load ws after old mid new many streams back hears held held1 held' faults faults1 faults' early late e x spaced answer t
+    says_gave held' faults' late (Ok e) x spaced answer t = to.concludes only_now n m mode load narrow ws after old mid new many streams back hears held held1 held' faults faults1 faults' early late e x spaced answer t
     says_gave held' faults' late (Err no_memory) (inl x) spaced answer t =
-        subst (λ (a : Status). SaysRun G n m mode load old new hears held held' faults faults' a) (sym t.0) (to.cuts_off only_now n m mode load ws after old mid new many streams back hears held held1 held' faults faults1 faults' early late x t.1)
+        subst (λ (a : Status). SaysRun G n m mode load old new hears held held' faults faults' a) (sym t.0) (to.cuts_off only_now n m mode load narrow ws after old mid new many streams back hears held held1 held' faults faults1 faults' early late x t.1)
     says_gave held' faults' late (Err no_memory) (inr none) spaced answer t =
         subst (λ (a : Status). SaysRun G n m mode load old new hears held held' faults faults' a) (sym t.0)
         (none_begun held' faults' (back ∙ ap (λ (w : List (Writer D G)). map (disk_of {D = D} {G = G}) w ++ mid) none.0) (t.1 ∙ none.1))

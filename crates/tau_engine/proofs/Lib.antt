@@ -2,6 +2,7 @@ pub mod Longs
 pub mod Loaded
 pub mod Texts
 pub mod Streams
+pub mod Opened
 pub mod Reports
 pub mod Chosen
 pub mod NotBegun

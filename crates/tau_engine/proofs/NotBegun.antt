@@ -5,7 +5,10 @@ use Rattle.std.proofs.Math.Nat.{mod-lt}
 use Rattle.std.proofs.lemmas.List.{append-nil, length-replicate}
 use Rattle.std.proofs.lemmas.Bool.{cases_Bool}
 use Rattle.std.proofs.lemmas.Bool.Decides.{nat_tests}
+use Rattle.tau_base.specs.declared.format.Format.{Format}
+use Rattle.tau_base.specs.declared.format.Format.TheVariants.{One}
 use Rattle.tau_base.specs.declared.value.LogMode.{LogMode}
+use Rattle.tau_base.specs.Modes.{format_of}
 use Rattle.tau_block.specs.Image.{HasContent}
 use Rattle.tau_model.specs.History.{Member, Numbered}
 use Rattle.tau_model.specs.Tables.{db_of_rows}
@@ -36,6 +39,7 @@ use Rattle.tau_run.proofs.Order.{once}
 use Rattle.tau_run.proofs.Reading.{IsCatalogue}
 use Rattle.tau_run.proofs.Recovered.{is_set, recovered}
 use Rattle.tau_run.proofs.Streams.{AreSound}
+use Rattle.tau_engine.proofs.Opened.{low_streams}
 use Rattle.tau_base.proofs.Lists.{got_within}
 use Rattle.tau_base.proofs.Logic.{replicated}
 
@@ -75,7 +79,7 @@ lengths_same : (n : ℕ) (x : List ℕ) → map length (replicate n x) ≡ repli
 lengths_same zero x = refl
 lengths_same (suc n) x = ap (λ (l : List ℕ). length x ∷ l) (lengths_same n x)
 
-module _ (n m : ℕ) (mode : LogMode) (load : Workload) (some : 1 ≤ n) (room : n ≤ 16) (workers : 1 ≤ m) (sound : IsCatalogue load) where
+module _ (n m : ℕ) (mode : LogMode) (load : Workload) (some : 1 ≤ n) (room : n ≤ 16) (narrow : format_of mode ≡ One) (workers : 1 ≤ m) (sound : IsCatalogue load) where
   abbrev catalogue : List ℕ
   catalogue = catalogue_of load
 
@@ -223,14 +227,16 @@ module _ (n m : ℕ) (mode : LogMode) (load : Workload) (some : 1 ≤ n) (room :
   core_at told.NoMemory may = core
   core_at told.NotBegun may = (refl, refl)
 
-  is_left : (j : ℕ) (x : List ℕ) → HasContent n j [] x ⊎ HasContent n j catalogue x → IsLeft n j catalogue l first x
-  is_left j x (inl none) = inl none
-  is_left j x (inr all) = inr ([], record { count = 0; spelled = refl; has = subst (λ (c : List ℕ). HasContent n j c x) (sym (append-nil catalogue)) all })
+  is_left : (j : ℕ) (x : List ℕ) → HasContent One n j [] x ⊎ HasContent One n j catalogue x → IsLeft n j catalogue l first x
+  is_left j x (inl none) = inl (subst (λ (f : Format). HasContent f n j [] x) (sym narrow) none)
+  is_left j x (inr all) =
+      let has : HasContent (format_of mode) n j catalogue x = subst (λ (f : Format). HasContent f n j catalogue x) (sym narrow) all in
+      inr ([], record { count = 0; spelled = refl; has = subst (λ (c : List ℕ). HasContent (format_of mode) n j c x) (sym (append-nil catalogue)) has })
 
   -- all that is said of it, where each image has nothing or the catalogue
   abbrev built_of_none : (unborn : Type 0) (past now : ℕ → List ℕ → Type 0) (rose : ℕ → Type 0) (sink_rose : Type 0) (made : ℕ → ℕ → Type 0) (wrote : List ℕ → Type 0) (fault : ℕ → List ℕ) (ending : Ending) → MayEnd ending →
-      (unborn → (j : ℕ) (x : List ℕ) → j < n → past j x → HasContent n j [] x ⊎ HasContent n j catalogue x) →
-      RunTells (IsEnded n load now rose) n load (λ j. None) sink_rose made wrote fault empty_run ending →
+      (unborn → (j : ℕ) (x : List ℕ) → j < n → past j x → HasContent One n j [] x ⊎ HasContent One n j catalogue x) →
+      RunTells (IsEnded n mode load now rose) n load (λ j. None) sink_rose made wrote fault empty_run ending →
       RunFacts (chosen_by load.turns n m load) n m mode load unborn past now rose sink_rose made wrote fault ending
   built_of_none unborn past now rose sink_rose made wrote fault ending may left tells = record {
     run = empty_run;
@@ -240,12 +246,12 @@ module _ (n m : ℕ) (mode : LogMode) (load : Workload) (some : 1 ≤ n) (room :
     stopped = λ j k e. absurd (never_stopped k e);
     told = tells;
     imaged =
-        (let w = whole n m mode load l [] first inv load_is room are_sound empty_run is_run in
+        (let w = whole n m mode load l [] first inv load_is (low_streams (format_of mode) n room) are_sound empty_run is_run in
         record {
           whole = w.0;
           reads = w.1;
           records = w.2;
-          each = λ u images from. recovered n m mode load l [] first inv load_is room are_sound empty_run is_run images from.0
+          each = λ u images from. recovered n m mode load l [] first inv load_is (low_streams (format_of mode) n room) are_sound empty_run is_run images from.0
               (λ j image e.
               let lt : j < n = subst (λ (k : ℕ). j < k) from.0 (got_within images j image e) in
               is_left j image (left u j image lt (from.1 j image e)));
@@ -254,14 +260,14 @@ module _ (n m : ℕ) (mode : LogMode) (load : Workload) (some : 1 ≤ n) (room :
   }
 
   pub facts_of_none : (unborn : Type 0) (past now : ℕ → List ℕ → Type 0) (rose : ℕ → Type 0) (sink_rose : Type 0) (made : ℕ → ℕ → Type 0) (wrote : List ℕ → Type 0) (fault : ℕ → List ℕ) (ending : Ending) → MayEnd ending →
-      (unborn → (j : ℕ) (x : List ℕ) → j < n → past j x → HasContent n j [] x ⊎ HasContent n j catalogue x) →
-      RunTells (IsEnded n load now rose) n load (λ j. None) sink_rose made wrote fault empty_run ending →
+      (unborn → (j : ℕ) (x : List ℕ) → j < n → past j x → HasContent One n j [] x ⊎ HasContent One n j catalogue x) →
+      RunTells (IsEnded n mode load now rose) n load (λ j. None) sink_rose made wrote fault empty_run ending →
       RunFacts (chosen_by load.turns n m load) n m mode load unborn past now rose sink_rose made wrote fault ending
   facts_of_none unborn past now rose sink_rose made wrote fault ending may left tells = built_of_none unborn past now rose sink_rose made wrote fault ending may left tells
 
   -- and nothing is acknowledged
   pub told_of_none : (unborn : Type 0) (past now : ℕ → List ℕ → Type 0) (rose : ℕ → Type 0) (sink_rose : Type 0) (made : ℕ → ℕ → Type 0) (wrote : List ℕ → Type 0) (fault : ℕ → List ℕ) (ending : Ending) → MayEnd ending →
-      (unborn → (j : ℕ) (x : List ℕ) → j < n → past j x → HasContent n j [] x ⊎ HasContent n j catalogue x) →
-      RunTells (IsEnded n load now rose) n load (λ j. None) sink_rose made wrote fault empty_run ending →
+      (unborn → (j : ℕ) (x : List ℕ) → j < n → past j x → HasContent One n j [] x ⊎ HasContent One n j catalogue x) →
+      RunTells (IsEnded n mode load now rose) n load (λ j. None) sink_rose made wrote fault empty_run ending →
       (facts : RunFacts (chosen_by load.turns n m load) n m mode load unborn past now rose sink_rose made wrote fault ending) × (facts.run.acks ≡ [])
   told_of_none unborn past now rose sink_rose made wrote fault ending may left tells = (built_of_none unborn past now rose sink_rose made wrote fault ending may left tells, refl)

@@ -2,6 +2,7 @@
 use Rattle.std.proofs.Common.{ℕ, ◌<◌, ◌≤◌, ◌≡◌, ◌⊎◌, inl, inr, Bool, true, false, List, [], ◌∷◌, length, refl, sym, ap, subst, ◌∙◌, Option, Result, Ok, Err, arith}
 use Rattle.std.specs.Prelude.{Some, None, slice_get}
 use Rattle.tau_base.specs.declared.value.LogMode.{LogMode}
+use Rattle.tau_base.specs.Modes.{format_of}
 use Rattle.tau_base.specs.declared.value.NoMemory.{NoMemory}
 use Rattle.tau_disk.specs.declared.disk.Disk.{Ghosts}
 use Rattle.tau_stream.specs.declared.writer.Writer.{Writer}
@@ -31,6 +32,7 @@ use Rattle.tau_run.proofs.Start.{started}
 use Rattle.tau_step.specs.Came.{CameTo}
 use Rattle.tau_step.specs.Progressed.{progress}
 use Rattle.tau_step.specs.RunTold.{Began, Came, CutShort, EachOf, Ended, Left, IsLowestStopped, RanNew, fates_by}
+use Rattle.tau_engine.proofs.Opened.{low_streams}
 use Rattle.tau_engine.specs.Came.{Concluded, CutOff, Gave}
 use Rattle.tau_engine.proofs.Chosen.{chosen}
 use Rattle.tau_engine.proofs.Streams.{OnlyNow}
@@ -67,7 +69,7 @@ module _ {D : Type 0} {G : Ghosts D} (only_now : OnlyNow G) (n m : ℕ) (mode : 
   is_load = subst (λ (x : Load). IsLoadOf n m mode load x) (sym came.load) load_is
 
   pub course : IsCourse n m mode load l K s
-  course = record { room = room; load_is = is_load; sound = sound; inv = came.stands.inv }
+  course = record { room = low_streams (format_of l.mode) n room; load_is = is_load; sound = sound; inv = came.stands.inv }
 
   by_first : IsByTurns whole n m load first.load (core_of first nothing) P
   by_first =

@@ -1,7 +1,9 @@
 -- What a run on open streams has done, in the words of runs: by turns or in threads.
 use Rattle.std.proofs.Common.{ℕ, ◌<◌, ◌≤◌, ◌≡◌, inl, inr, Bool, true, false, List, [], ◌++◌, map, length, take, refl, sym, ap, subst, ◌∙◌, Option, arith}
 use Rattle.std.specs.Prelude.{Some, None, slice_index_or}
+use Rattle.tau_base.specs.declared.format.Format.TheVariants.{One}
 use Rattle.tau_base.specs.declared.value.LogMode.{LogMode}
+use Rattle.tau_base.specs.Modes.{format_of}
 use Rattle.tau_disk.specs.declared.disk.Disk.{Ghosts}
 use Rattle.tau_disk.specs.Disk.{Rose}
 use Rattle.tau_disk.specs.Used.{EachIn, EachUsed, RoseAt, IsFirstStopped, Made}
@@ -95,10 +97,10 @@ module _ {D : Type 0} {G : Ghosts D} (only_now : OnlyNow G) (n m : ℕ) (mode : 
     at_leaves =
         leaves G n (catalogue_of load) l s streams_are old new many all stop_low
 
-    pub facts : (sink_rose : Type 0) (made : ℕ → ℕ → Type 0) (wrote : List ℕ → Type 0) (fault : ℕ → List ℕ) (ending : Ending) → IsCoreRunAt (by) n m mode load stops run ending →
-        RunTells (IsEnded n load (Now G.tells G.may_leave old new) (RoseAt G.faults old new)) n load stops sink_rose made wrote fault run ending →
+    pub facts : format_of mode ≡ One → (sink_rose : Type 0) (made : ℕ → ℕ → Type 0) (wrote : List ℕ → Type 0) (fault : ℕ → List ℕ) (ending : Ending) → IsCoreRunAt (by) n m mode load stops run ending →
+        RunTells (IsEnded n mode load (Now G.tells G.may_leave old new) (RoseAt G.faults old new)) n load stops sink_rose made wrote fault run ending →
         RunFacts (by) n m mode load (AreUnborn G.tells G.may_leave old n) (Past G.tells G.moment G.may_leave_since old new) (Now G.tells G.may_leave old new) (RoseAt G.faults old new) sink_rose made wrote fault ending
-    facts sink_rose made wrote fault ending core told = record {
+    facts narrow sink_rose made wrote fault ending core told = record {
       run = run;
       history = history_law n m mode load l K s course run t.is;
       stops = stops;
@@ -106,21 +108,21 @@ module _ {D : Type 0} {G : Ghosts D} (only_now : OnlyNow G) (n m : ℕ) (mode : 
       stopped = at_leaves.stopped;
       told = told;
       imaged = imaged n m mode load l K s course run t.is (Past G.tells G.moment G.may_leave_since old new) (Now G.tells G.may_leave old new) (RoseAt G.faults old new) (AreUnborn G.tells G.may_leave old n)
-          (λ u j x lt q. left_since G n (catalogue_of load) l s streams_are old new many all only_now u j x lt q);
+          (λ u j x lt q. left_since G n (catalogue_of load) l s streams_are old new many all (sym (ap (λ (k : LogMode). format_of k) t.course.load_is.mode_is ∙ narrow)) only_now u j x lt q);
       acknowledged = acknowledged n m mode load l K s course run t.is (λ j x. ⊥) (Now G.tells G.may_leave old new) (RoseAt G.faults old new) at_leaves;
     }
 
-    pub has_ended : IsOver n s → (((j : ℕ) → j < n → stops j ≡ None) → AllAcked load run) → IsEnded n load (Now G.tells G.may_leave old new) (RoseAt G.faults old new) run
+    pub has_ended : IsOver n s → (((j : ℕ) → j < n → stops j ≡ None) → AllAcked load run) → IsEnded n mode load (Now G.tells G.may_leave old new) (RoseAt G.faults old new) run
     has_ended over complete = ended n m mode load l K s course run t.is (λ j x. ⊥) (Now G.tells G.may_leave old new) (RoseAt G.faults old new) at_leaves over complete
 
     -- where no stream was stopped, whatever a stop now may leave has all that the stream was given
-    pub whole_now : IsOver n s → ((j : ℕ) → j < n → stops j ≡ None) → (j : ℕ) (x : List ℕ) → j < n → Now G.tells G.may_leave old new j x → HasContent n j (slice_index_or run.contents j []) x
+    pub whole_now : IsOver n s → ((j : ℕ) → j < n → stops j ≡ None) → (j : ℕ) (x : List ℕ) → j < n → Now G.tells G.may_leave old new j x → HasContent (format_of mode) n j (slice_index_or run.contents j []) x
     whole_now over going j x lt now =
         let stopping : Leaves n (catalogue_of load) l s (λ i y. ⊥) (Now G.tells G.may_leave old new) (λ i. (at : ℕ) × (i < n) × (stops i ≡ Some at)) =
         record { before = at_leaves.before; present = at_leaves.present; reached = at_leaves.reached; stopped = λ i at e. (at, stop_low i at e, e) } in
         let last = ends_law n m mode load l K s course run t.is over in
         let p = stopping.present j x lt now in
-        last.2 j lt (going j lt) x p.0 p.1 p.2
+        subst (λ (k : LogMode). HasContent (format_of k) n j (slice_index_or run.contents j []) x) t.course.load_is.mode_is (last.2 j lt (going j lt) x p.0 p.1 p.2)
 
     pub rise : AreUnborn G.tells G.may_leave old n → EachUsed (NotEarlier G.tells G.moment) old new n
     rise unborn = rises G n (catalogue_of load) l s streams_are old new many all unborn
@@ -139,10 +141,10 @@ module _ {D : Type 0} {G : Ghosts D} (only_now : OnlyNow G) (n m : ℕ) (mode : 
     none_failed None low worked = refl
     none_failed (Some j) low worked = absurd (worked j low.0 (rose_at G n (catalogue_of load) l s streams_are old new many all j low.1.0 low.0 low.1.1))
 
-    module _ (e : RunEnd) (whole : by true l t.opening (came_far t)) (over : IsOver n s) (complete : ((j : ℕ) → j < n → stops j ≡ None) → AllAcked load run) (hears : Type 0) (held held1 held' : List ℕ) (faults faults1 faults' : ℕ) (early : faults ≤ faults1) (late : faults1 ≤ faults')
+    module _ (narrow : format_of mode ≡ One) (e : RunEnd) (whole : by true l t.opening (came_far t)) (over : IsOver n s) (complete : ((j : ℕ) → j < n → stops j ≡ None) → AllAcked load run) (hears : Type 0) (held held1 held' : List ℕ) (faults faults1 faults' : ℕ) (early : faults ≤ faults1) (late : faults1 ≤ faults')
         (heard : hears → Heard held acks e.sink_failed held1) (sink : e.sink_failed ≡ true → Rose faults faults1) (low : IsLowestStopped n s e.disk) (acks_are : e.report.acks ≡ acks)
         (fates : e.report.fates ≡ fates_by (length l.calls) K acks) (order : e.report.order ≡ map (λ (t : Act Txn). t.call.call.number) (reported s.ends K))
-        (tables : IsTablesOf (sight (setting_of l) s).row e.report.tables) (spaced : load.turns ≡ None → e.disk ≡ None → (j : ℕ) (x : List ℕ) → j < n → Now G.tells G.may_leave old new j x → HasSpaced n j load x) where
+        (tables : IsTablesOf (sight (setting_of l) s).row e.report.tables) (spaced : load.turns ≡ None → e.disk ≡ None → (j : ℕ) (x : List ℕ) → j < n → Now G.tells G.may_leave old new j x → HasSpaced (format_of mode) n j load x) where
       abbrev declared : List (List ℕ)
       declared = load.declarations.tables
 
@@ -159,7 +161,7 @@ module _ {D : Type 0} {G : Ghosts D} (only_now : OnlyNow G) (n m : ℕ) (mode : 
       tells_ok none works wrote =
           let going : IsLowestStopped n s None = subst (λ (o : Option ℕ). IsLowestStopped n s o) none low in
           record {
-            facts = facts (Rose faults faults') (λ j k. G.tells → Made G.number G.short old new j k) (Wrote hears held held') (λ j. fault_text (status.DiskFault j)) ending.Done (core_run true whole)
+            facts = facts narrow (Rose faults faults') (λ j k. G.tells → Made G.number G.short old new j k) (Wrote hears held held') (λ j. fault_text (status.DiskFault j)) ending.Done (core_run true whole)
                 (has_ended over complete, going, complete going, (report_text declared e.report None, report_is None, whole_text hears held held1 held' declared e.report None (heard_by false works) wrote));
             kind = refl;
             disk = λ j f. absurd (cc);
@@ -181,7 +183,7 @@ module _ {D : Type 0} {G : Ghosts D} (only_now : OnlyNow G) (n m : ℕ) (mode : 
           let here : IsLowestStopped n s (Some j) = subst (λ (o : Option ℕ). IsLowestStopped n s o) is low in
           let same : (i : ℕ) → status.DiskFault j ≡ status.DiskFault i → j ≡ i = λ i f. cc in
           record {
-            facts = facts (Rose faults faults') (λ i k. G.tells → Made G.number G.short old new i k) (Wrote hears held held') (λ i. fault_text (status.DiskFault i)) (ending.DiskFailed j) (inl (core_run true whole))
+            facts = facts narrow (Rose faults faults') (λ i k. G.tells → Made G.number G.short old new i k) (Wrote hears held held') (λ i. fault_text (status.DiskFault i)) (ending.DiskFailed j) (inl (core_run true whole))
                 (inl (
                   has_ended over complete,
                   here,
@@ -205,7 +207,7 @@ module _ {D : Type 0} {G : Ghosts D} (only_now : OnlyNow G) (n m : ℕ) (mode : 
 
       tells_sink : Rose faults faults' → (i : ℕ) × (i < length (report_text declared e.report e.disk)) × Wrote hears held held' (take i (report_text declared e.report e.disk)) → SaysRun G n m mode load old new hears held held' faults faults' status.WriteFault
       tells_sink rose cut = record {
-        facts = facts (Rose faults faults') (λ j k. G.tells → Made G.number G.short old new j k) (Wrote hears held held') (λ j. fault_text (status.DiskFault j)) ending.SinkFailed (core_run true whole)
+        facts = facts narrow (Rose faults faults') (λ j k. G.tells → Made G.number G.short old new j k) (Wrote hears held held') (λ j. fault_text (status.DiskFault j)) ending.SinkFailed (core_run true whole)
             (has_ended over complete, (report_text declared e.report e.disk, e.disk, cut.0, report_is e.disk, names e.disk low, cut.1, cut.2));
         kind = refl;
         disk = λ j f. absurd (cc);
@@ -224,7 +226,7 @@ module _ {D : Type 0} {G : Ghosts D} (only_now : OnlyNow G) (n m : ℕ) (mode : 
 
       tells_memory : e.sink_failed ≡ false → held' ≡ held1 → SaysRun G n m mode load old new hears held held' faults faults' status.NoMemory
       tells_memory works same = record {
-        facts = facts (Rose faults faults') (λ j k. G.tells → Made G.number G.short old new j k) (Wrote hears held held') (λ j. fault_text (status.DiskFault j)) ending.NoMemory
+        facts = facts narrow (Rose faults faults') (λ j k. G.tells → Made G.number G.short old new j k) (Wrote hears held held') (λ j. fault_text (status.DiskFault j)) ending.NoMemory
             (core_run false t.part)
             (length run.acks, inl (λ told. same ∙ heard_by false works told ∙ ap (λ (a : List (ℕ × List ℕ)). held ++ ack_lines a) (acks_are ∙ sym t.told ∙ sym (take_long (length run.acks) run.acks (omega arith)))));
         kind = refl;
@@ -261,18 +263,18 @@ module _ {D : Type 0} {G : Ghosts D} (only_now : OnlyNow G) (n m : ℕ) (mode : 
 
 -- ---- over any kind of run
 
-module _ {D : Type 0} {G : Ghosts D} (only_now : OnlyNow G) (n m : ℕ) (mode : LogMode) (load : Workload) (ws ws' : List (Writer D G)) (old mid new : List D) (many : n ≤ length old) (streams : AreOpened G n (catalogue_of load) old mid ws) (back : new ≡ map disk_of ws' ++ mid)
+module _ {D : Type 0} {G : Ghosts D} (only_now : OnlyNow G) (n m : ℕ) (mode : LogMode) (load : Workload) (narrow : format_of mode ≡ One) (ws ws' : List (Writer D G)) (old mid new : List D) (many : n ≤ length old) (streams : AreOpened G n (catalogue_of load) old mid ws) (back : new ≡ map disk_of ws' ++ mid)
     (hears : Type 0) (held held1 held' : List ℕ) (faults faults1 faults' : ℕ) (early : faults ≤ faults1) (late : faults1 ≤ faults') where
   -- it went to its end
-  pub concludes : (e : RunEnd) → Concluded n m mode load ws ws' hears held held1 (Rose faults faults1) e → (load.turns ≡ None → e.disk ≡ None → (j : ℕ) (x : List ℕ) → j < n → Now G.tells G.may_leave old new j x → HasSpaced n j load x) →
+  pub concludes : (e : RunEnd) → Concluded n m mode load ws ws' hears held held1 (Rose faults faults1) e → (load.turns ≡ None → e.disk ≡ None → (j : ℕ) (x : List ℕ) → j < n → Now G.tells G.may_leave old new j x → HasSpaced (format_of mode) n j load x) →
       (answer : Status) → TellsEnd load.declarations.tables e hears held1 held' (Rose faults1 faults') answer → SaysRun G n m mode load old new hears held held' faults faults' answer
   concludes e c spaced answer t =
-      tells_end only_now n m mode load ws ws' c.acks c.came old mid new many streams back e c.whole c.over c.complete hears held held1 held' faults faults1 faults' early late c.heard c.sink c.disk c.told c.fates c.order c.tables spaced answer t
+      tells_end only_now n m mode load ws ws' c.acks c.came old mid new many streams back narrow e c.whole c.over c.complete hears held held1 held' faults faults1 faults' early late c.heard c.sink c.disk c.told c.fates c.order c.tables spaced answer t
 
   -- it was out of memory before: one history, of which the first acknowledgements were told
   pub cuts_off : CutOff n m mode load ws ws' hears held held1 (Rose faults faults1) → held' ≡ held1 → SaysRun G n m mode load old new hears held held' faults faults' status.NoMemory
   cuts_off c same = record {
-    facts = facts only_now n m mode load ws ws' c.acks c.came old mid new many streams back (Rose faults faults') (λ j k. G.tells → Made G.number G.short old new j k) (Wrote hears held held') (λ j. fault_text (status.DiskFault j)) ending.NoMemory
+    facts = facts only_now n m mode load ws ws' c.acks c.came old mid new many streams back narrow (Rose faults faults') (λ j k. G.tells → Made G.number G.short old new j k) (Wrote hears held held') (λ j. fault_text (status.DiskFault j)) ending.NoMemory
         (core_run only_now n m mode load ws ws' c.acks c.came false c.came.part) (
           c.count,
           subst (λ (acks : List (ℕ × List ℕ)). WroteFront (Wrote hears held held') (Rose faults faults') (ack_lines (take c.count acks))) (sym c.came.told)

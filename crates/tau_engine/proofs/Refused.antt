@@ -2,7 +2,9 @@
 use Rattle.std.proofs.Common.{ℕ, ◌+◌, ◌-◌, ◌<◌, ◌≤◌, ◌≡◌, ◌⊎◌, inl, inr, true, false, min, List, [], drop, refl, sym, subst, ◌∙◌, arith}
 use Rattle.std.specs.Prelude.{Some}
 use Rattle.std.proofs.lemmas.List.{append-nil}
+use Rattle.tau_base.specs.declared.format.Format.TheVariants.{One}
 use Rattle.tau_base.specs.declared.value.LogMode.{LogMode}
+use Rattle.tau_base.specs.Modes.{format_of}
 use Rattle.tau_block.specs.Image.{HasContent}
 use Rattle.tau_disk.specs.declared.disk.Disk.{Ghosts}
 use Rattle.tau_disk.specs.Disk.{Rose}
@@ -29,29 +31,29 @@ use Rattle.tau_engine.proofs.Ends.{begun_left}
 use Rattle.tau_engine.proofs.NotBegun.{facts_of_none}
 use Rattle.tau_engine.proofs.Streams.{OnlyNow}
 
-module _ {D : Type 0} (G : Ghosts D) (only_now : OnlyNow G) (n m : ℕ) (mode : LogMode) (load : Workload) (some : 1 ≤ n) (room : n ≤ 16) (workers : 1 ≤ m) (sound : IsCatalogue load) (old : List D) (hears : Type 0) (held held' : List ℕ) (faults faults' : ℕ) where
+module _ {D : Type 0} (G : Ghosts D) (only_now : OnlyNow G) (n m : ℕ) (mode : LogMode) (load : Workload) (some : 1 ≤ n) (room : n ≤ 16) (narrow : format_of mode ≡ One) (workers : 1 ≤ m) (sound : IsCatalogue load) (old : List D) (hears : Type 0) (held held' : List ℕ) (faults faults' : ℕ) where
   -- ---- nothing was touched
 
-  unborn_left : AreUnborn G.tells G.may_leave old n → (j : ℕ) (x : List ℕ) → j < n → Past G.tells G.moment G.may_leave_since old old j x → HasContent n j [] x ⊎ HasContent n j (catalogue_of load) x
+  unborn_left : AreUnborn G.tells G.may_leave old n → (j : ℕ) (x : List ℕ) → j < n → Past G.tells G.moment G.may_leave_since old old j x → HasContent One n j [] x ⊎ HasContent One n j (catalogue_of load) x
   unborn_left unborn j x lt (d, e, was, is, (t, since)) =
       let same : d ≡ e = (let f : Some d ≡ Some e = sym was ∙ is in cc) in
-      inl (short_content n j x (unborn j d lt was t x (only_now d x (subst (λ (y : D). G.may_leave_since y (G.moment d) x) (sym same) since))))
+      inl (short_content One n j x (unborn j d lt was t x (only_now d x (subst (λ (y : D). G.may_leave_since y (G.moment d) x) (sym same) since))))
 
   pub untouched_facts : (answer : Status) → ends_reading answer ≡ true → (answer ≡ status.NoMemory → Wrote hears held held' []) → SaysFacts G n m mode load old old hears held held' faults faults' answer
   untouched_facts status.NoMemory kind silent =
-      facts_of_none n m mode load some room workers sound (AreUnborn G.tells G.may_leave old n) (Past G.tells G.moment G.may_leave_since old old) (Now G.tells G.may_leave old old) (RoseAt G.faults old old) (Rose faults faults')
+      facts_of_none n m mode load some room narrow workers sound (AreUnborn G.tells G.may_leave old n) (Past G.tells G.moment G.may_leave_since old old) (Now G.tells G.may_leave old old) (RoseAt G.faults old old) (Rose faults faults')
       (λ j k. G.tells → Made G.number G.short old old j k) (Wrote hears held held') (λ j. fault_text (status.DiskFault j)) ending.NoMemory tt unborn_left (0, inl (silent refl))
   untouched_facts status.Usage kind silent =
-      facts_of_none n m mode load some room workers sound (AreUnborn G.tells G.may_leave old n) (Past G.tells G.moment G.may_leave_since old old) (Now G.tells G.may_leave old old) (RoseAt G.faults old old) (Rose faults faults')
+      facts_of_none n m mode load some room narrow workers sound (AreUnborn G.tells G.may_leave old n) (Past G.tells G.moment G.may_leave_since old old) (Now G.tells G.may_leave old old) (RoseAt G.faults old old) (Rose faults faults')
       (λ j k. G.tells → Made G.number G.short old old j k) (Wrote hears held held') (λ j. fault_text (status.DiskFault j)) ending.NotBegun tt unborn_left (refl, refl)
   untouched_facts (status.BadText at why) kind silent =
-      facts_of_none n m mode load some room workers sound (AreUnborn G.tells G.may_leave old n) (Past G.tells G.moment G.may_leave_since old old) (Now G.tells G.may_leave old old) (RoseAt G.faults old old) (Rose faults faults')
+      facts_of_none n m mode load some room narrow workers sound (AreUnborn G.tells G.may_leave old n) (Past G.tells G.moment G.may_leave_since old old) (Now G.tells G.may_leave old old) (RoseAt G.faults old old) (Rose faults faults')
       (λ j k. G.tells → Made G.number G.short old old j k) (Wrote hears held held') (λ j. fault_text (status.DiskFault j)) ending.NotBegun tt unborn_left (refl, refl)
   untouched_facts status.ReadFault kind silent =
-      facts_of_none n m mode load some room workers sound (AreUnborn G.tells G.may_leave old n) (Past G.tells G.moment G.may_leave_since old old) (Now G.tells G.may_leave old old) (RoseAt G.faults old old) (Rose faults faults')
+      facts_of_none n m mode load some room narrow workers sound (AreUnborn G.tells G.may_leave old n) (Past G.tells G.moment G.may_leave_since old old) (Now G.tells G.may_leave old old) (RoseAt G.faults old old) (Rose faults faults')
       (λ j k. G.tells → Made G.number G.short old old j k) (Wrote hears held held') (λ j. fault_text (status.DiskFault j)) ending.NotBegun tt unborn_left (refl, refl)
   untouched_facts status.TooLong kind silent =
-      facts_of_none n m mode load some room workers sound (AreUnborn G.tells G.may_leave old n) (Past G.tells G.moment G.may_leave_since old old) (Now G.tells G.may_leave old old) (RoseAt G.faults old old) (Rose faults faults')
+      facts_of_none n m mode load some room narrow workers sound (AreUnborn G.tells G.may_leave old n) (Past G.tells G.moment G.may_leave_since old old) (Now G.tells G.may_leave old old) (RoseAt G.faults old old) (Rose faults faults')
       (λ j k. G.tells → Made G.number G.short old old j k) (Wrote hears held held') (λ j. fault_text (status.DiskFault j)) ending.NotBegun tt unborn_left (refl, refl)
   untouched_facts status.Ok kind silent = absurd (cc)
   untouched_facts status.WriteFault kind silent = absurd (cc)
@@ -103,7 +105,7 @@ module _ {D : Type 0} (G : Ghosts D) (only_now : OnlyNow G) (n m : ℕ) (mode : 
     abbrev wrote : List ℕ → Type 0
     wrote = Wrote hears held held'
 
-    begun : (r : OpenRefusal) → IsOpenRefusal r → AreUnborn G.tells G.may_leave old n → (j : ℕ) (x : List ℕ) → j < n → Past G.tells G.moment G.may_leave_since old new j x → HasContent n j [] x ⊎ HasContent n j (catalogue_of load) x
+    begun : (r : OpenRefusal) → IsOpenRefusal r → AreUnborn G.tells G.may_leave old n → (j : ℕ) (x : List ℕ) → j < n → Past G.tells G.moment G.may_leave_since old new j x → HasContent One n j [] x ⊎ HasContent One n j (catalogue_of load) x
     begun r h = begun_left G only_now n (catalogue_of load) old new (λ j d lt was. h.begins j d lt was)
 
     rises : (r : OpenRefusal) → IsOpenRefusal r → AreUnborn G.tells G.may_leave old n → EachUsed (NotEarlier G.tells G.moment) old new n
@@ -112,7 +114,7 @@ module _ {D : Type 0} (G : Ghosts D) (only_now : OnlyNow G) (n m : ℕ) (mode : 
     says_memory : (r : OpenRefusal) → IsOpenRefusal r → wrote [] → SaysRun G n m mode load old new hears held held' faults faults' status.NoMemory
     says_memory r h silent = record {
       facts =
-          facts_of_none n m mode load some room workers sound (AreUnborn G.tells G.may_leave old n) (Past G.tells G.moment G.may_leave_since old new) (Now G.tells G.may_leave old new) (RoseAt G.faults old new) (Rose faults faults')
+          facts_of_none n m mode load some room narrow workers sound (AreUnborn G.tells G.may_leave old n) (Past G.tells G.moment G.may_leave_since old new) (Now G.tells G.may_leave old new) (RoseAt G.faults old new) (Rose faults faults')
           (λ j k. G.tells → Made G.number G.short old new j k) wrote (λ j. fault_text (status.DiskFault j)) ending.NoMemory tt (begun r h) (0, inl silent);
       kind = refl;
       disk = λ j e. absurd (cc);
@@ -155,7 +157,7 @@ module _ {D : Type 0} (G : Ghosts D) (only_now : OnlyNow G) (n m : ℕ) (mode : 
         let made = few_made j rose.1 (h.early j refl) in
         record {
           facts =
-              facts_of_none n m mode load some room workers sound (AreUnborn G.tells G.may_leave old n) (Past G.tells G.moment G.may_leave_since old new) (Now G.tells G.may_leave old new) (RoseAt G.faults old new) (Rose faults faults')
+              facts_of_none n m mode load some room narrow workers sound (AreUnborn G.tells G.may_leave old n) (Past G.tells G.moment G.may_leave_since old new) (Now G.tells G.may_leave old new) (RoseAt G.faults old new) (Rose faults faults')
               (λ i k. G.tells → Made G.number G.short old new i k) wrote (λ i. fault_text (status.DiskFault i)) (ending.DiskFailed j) tt (begun (refusal.Failed j) h)
               (inr (refl, refl, made, line));
           kind = refl;
@@ -180,7 +182,7 @@ module _ {D : Type 0} (G : Ghosts D) (only_now : OnlyNow G) (n m : ℕ) (mode : 
         record { bad = tt; read = λ i d lt was. (let a = each i d lt was in (a.0, a.1, a.2.read)); told = λ not. line; silent = λ e. absurd (cc) } in
         record {
           facts =
-              facts_of_none n m mode load some room workers sound (AreUnborn G.tells G.may_leave old n) (Past G.tells G.moment G.may_leave_since old new) (Now G.tells G.may_leave old new) (RoseAt G.faults old new) (Rose faults faults')
+              facts_of_none n m mode load some room narrow workers sound (AreUnborn G.tells G.may_leave old n) (Past G.tells G.moment G.may_leave_since old new) (Now G.tells G.may_leave old new) (RoseAt G.faults old new) (Rose faults faults')
               (λ i k. G.tells → Made G.number G.short old new i k) wrote (λ i. fault_text (status.DiskFault i)) ending.NotBegun tt (begun (refusal.NotEmpty j size) h) (refl, refl);
           kind = refl;
           disk = λ i e. absurd (cc);

@@ -62,7 +62,7 @@ module _ {D : Type 0} {G : Ghosts D} (only_now : OnlyNow G) (n m : ℕ) (load : 
   at_leaves : Rattle.tau_run.specs.StopsLeave.Leaves n (catalogue_of load) l s (λ j x. ⊥) (Now G.tells G.may_leave old new) (RoseAt G.faults old new)
   at_leaves = to.at_leaves only_now n m Values load ws after h.acks t old mid new many streams back
 
-  ended : IsEnded n load (Now G.tells G.may_leave old new) (RoseAt G.faults old new) run
+  ended : IsEnded n Values load (Now G.tells G.may_leave old new) (RoseAt G.faults old new) run
   ended = to.has_ended only_now n m Values load ws after h.acks t old mid new many streams back h.over h.complete
 
   -- its rows are those of the history
@@ -173,7 +173,7 @@ module _ {D : Type 0} (G : Ghosts D) (only_now : OnlyNow G) (counts_now : (d : D
   pub rehearsed_none : (j : ℕ) → j < n → IsFirstStopped G.tells G.number G.fails G.short old new j → (k : ℕ) → k ≤ calls_to_open → Made G.number G.short old new j k → IsRehearsed G n m load old new (Wrote hears held held)
   rehearsed_none j lt stopped k few made =
       let told =
-      told_of_none n m Values load some room workers (record { short = sound.short; bytes = sound.bytes; read = sound.read }) (Unit {0}) (Now G.tells G.may_leave old new) (Now G.tells G.may_leave old new) (RoseAt G.faults old new) ⊥
+      told_of_none n m Values load some room refl workers (record { short = sound.short; bytes = sound.bytes; read = sound.read }) (Unit {0}) (Now G.tells G.may_leave old new) (Now G.tells G.may_leave old new) (RoseAt G.faults old new) ⊥
       (λ i c. Made G.number G.short old new i c) (λ text. Unit {0}) (λ i. []) (ending.DiskFailed j) tt
       (λ u i x low now. begun_left G only_now n (catalogue_of load) old new (λ a d below was. (let b = begins a d below was in (b.0, b.1, b.2))) unborn i x low (past_now i x low now))
       (inr (refl, refl, (k, few, made), inl tt)) in

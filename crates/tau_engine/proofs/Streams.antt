@@ -3,6 +3,9 @@ use Rattle.std.proofs.Common.{ℕ, zero, suc, ◌+◌, ◌-◌, ◌<◌, ◌≤�
 use Rattle.std.specs.Prelude.{Some, None, slice_get}
 use Rattle.std.proofs.lemmas.Bool.{cases_Bool}
 use Rattle.std.proofs.lemmas.List.{append-nil}
+use Rattle.tau_base.specs.declared.format.Format.{Format}
+use Rattle.tau_base.specs.declared.format.Format.TheVariants.{One}
+use Rattle.tau_base.specs.Modes.{format_of}
 use Rattle.tau_block.specs.Image.{HasContent}
 use Rattle.tau_disk.specs.declared.disk.Disk.{Ghosts}
 use Rattle.tau_disk.specs.Disk.{Rose}
@@ -70,26 +73,28 @@ module _ {D : Type 0} (G : Ghosts D) where
         let h = all j d.0 lt d.1 in
         (d.0, h.0, d.1, h.1, h.2)
 
-    -- an image that a stop since the entry might have left
-    since_entry : OnlyNow G → (j : ℕ) (d e : D) → Joined n catalogue l s j d e → G.tells → ((x : List ℕ) → G.may_leave d x → length x ≤ 17) → (x : List ℕ) → G.may_leave_since e (G.moment d) x → IsLeft n j catalogue l s x
-    since_entry only_now j d e h t unborn x since =
+    -- an image that a stop since the entry might have left, where the run is of format 1
+    since_entry : One ≡ format_of l.mode → OnlyNow G → (j : ℕ) (d e : D) → Joined n catalogue l s j d e → G.tells → ((x : List ℕ) → G.may_leave d x → length x ≤ 17) → (x : List ℕ) → G.may_leave_since e (G.moment d) x → IsLeft n j catalogue l s x
+    since_entry narrow only_now j d e h t unborn x since =
         let began = h.opened.begins t unborn in
         let went = h.left.before t in
         let now : G.may_leave_since (disk_of h.after) (G.moment d) x = subst (λ (y : D). G.may_leave_since y (G.moment d) x) h.is since in
         elim (went.new_ones (G.moment d) x began.later now) [
           | inl early ↦ elim (began.new_ones (G.moment d) x (omega arith) early) [
-            | inl first ↦ inl (short_content n j x (unborn x (only_now d x first)))
+            | inl first ↦ inl (short_content (format_of l.mode) n j x (unborn x (only_now d x first)))
             | inr made ↦ of_catalogue made
           ]
           | inr ran ↦ subst (λ (k : ℕ). IsLeft k j catalogue l s x) streams ran
         ]
       where
-        of_catalogue : IsOldOrNew n j [] catalogue x → IsLeft n j catalogue l s x
-        of_catalogue (inl none) = inl none
-        of_catalogue (inr whole) = inr ([], record { count = 0; spelled = refl; has = subst (λ (c : List ℕ). HasContent n j c x) (sym (append-nil catalogue)) whole })
+        of_catalogue : IsOldOrNew One n j [] catalogue x → IsLeft n j catalogue l s x
+        of_catalogue (inl none) = inl (subst (λ (f : Format). HasContent f n j [] x) narrow none)
+        of_catalogue (inr whole) =
+            let has : HasContent (format_of l.mode) n j catalogue x = subst (λ (f : Format). HasContent f n j catalogue x) narrow whole in
+            inr ([], record { count = 0; spelled = refl; has = subst (λ (c : List ℕ). HasContent (format_of l.mode) n j c x) (sym (append-nil catalogue)) has })
 
-    pub left_since : OnlyNow G → AreUnborn G.tells G.may_leave old n → (j : ℕ) (x : List ℕ) → j < n → Past G.tells G.moment G.may_leave_since old new j x → IsLeft n j catalogue l s x
-    left_since only_now unborn j x lt (d, e, was, is, (t, since)) = since_entry only_now j d e (at_end j lt d e was is) t (unborn j d lt was t) x since
+    pub left_since : One ≡ format_of l.mode → OnlyNow G → AreUnborn G.tells G.may_leave old n → (j : ℕ) (x : List ℕ) → j < n → Past G.tells G.moment G.may_leave_since old new j x → IsLeft n j catalogue l s x
+    left_since narrow only_now unborn j x lt (d, e, was, is, (t, since)) = since_entry narrow only_now j d e (at_end j lt d e was is) t (unborn j d lt was t) x since
 
     -- no moment has fallen
     pub rises : AreUnborn G.tells G.may_leave old n → EachUsed (NotEarlier G.tells G.moment) old new n
@@ -189,6 +194,6 @@ module _ {D : Type 0} (G : Ghosts D) where
           (let (d, e, was, is, (t, now)) = q in
           let h = at_end j lt d e was is in
           let p = h.left.reached t in
-          (p.0, p.1, (d, e, was, is, (t, subst (λ (y : D). G.may_leave y p.0) (sym h.is) p.2)), subst (λ (k : ℕ). HasContent k j p.1 p.0) streams p.3, p.4));
+          (p.0, p.1, (d, e, was, is, (t, subst (λ (y : D). G.may_leave y p.0) (sym h.is) p.2)), subst (λ (k : ℕ). HasContent (format_of l.mode) k j p.1 p.0) streams p.3, p.4));
       stopped = λ j at stop. rose_at j at (low j at stop) stop;
     }

@@ -4,6 +4,7 @@ use Rattle.std.specs.Prelude.{Some, None, slice_index_or}
 use Rattle.std.proofs.lemmas.Option.{get_or_from_slice_get}
 use Rattle.tau_base.specs.declared.value.Call.{Call}
 use Rattle.tau_base.specs.declared.value.LogMode.{LogMode}
+use Rattle.tau_base.specs.Modes.{format_of}
 use Rattle.tau_base.specs.declared.value.NoMemory.{NoMemory}
 use Rattle.tau_block.specs.Image.{HasContent}
 use Rattle.tau_disk.specs.declared.disk.Disk.{Ghosts}
@@ -179,13 +180,13 @@ module _ {D : Type 0} {G : Ghosts D} (only_now : OnlyNow G) (n m : ℕ) (mode : 
       (subst (λ (l : Load). IsRunOf n l t.joined t.state (catalogue_of load) t.run) (load_at n m mode load threads sound first load_is ws ws' r.state r.acks r.came) t.is))
 
   -- what a stop now may leave of a used disk has them in their distance
-  pub spaced : (j : ℕ) (x : List ℕ) → j < n → Now G.tells G.may_leave old new j x → HasSpaced n j load x
+  pub spaced : (j : ℕ) (x : List ℕ) → j < n → Now G.tells G.may_leave old new j x → HasSpaced (format_of mode) n j load x
   spaced j x lt now =
       let whole = to.whole_now only_now n m mode load ws ws' r.acks t old mid new many streams back (over n m mode load threads sound first load_is ws ws' r.state r.acks r.came r.done) going j x lt now in
       let content = some_at t.run.contents j (let a = t.is.streams in omega (arith, lt, a)) in
       let same : slice_index_or t.run.contents j [] ≡ content.0 = get_or_from_slice_get t.run.contents j content.0 [] content.1 in
       let working = works n m mode load threads sound first load_is ws ws' r.state r.acks r.came going in (
         content.0,
-        subst (λ (b : List ℕ). HasContent n j b x) same whole,
+        subst (λ (b : List ℕ). HasContent (format_of mode) n j b x) same whole,
         apart.thread_spaced n m mode load first load_is sound r.state ws ws' r.acks r.came r.done working (subst (λ (k : ℕ). AreApart (λ j. catalogue_of load) k r.state) load_is.streams (r.apart working)) t.run is j content.0 lt content.1,
       )

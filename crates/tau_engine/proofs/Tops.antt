@@ -3,6 +3,9 @@ use Rattle.std.proofs.Common.{ℕ, ◌≡◌, ◌≤◌, List, [], ◌∷◌, re
 use Rattle.std.specs.Prelude.{Option, Some, None, Result, Ok, Err, nat_le, ◌&&◌, if◌then◌else◌, option_and_then}
 use Rattle.std.proofs.lemmas.Bool.Decides.{nat_tests}
 use Rattle.std.proofs.lemmas.Bool.{and_parts}
+use Rattle.tau_base.specs.declared.format.Format.TheVariants.{One}
+use Rattle.tau_base.specs.declared.value.LogMode.TheVariants.{Values, Commands, WideValues, WideCommands}
+use Rattle.tau_base.specs.Modes.{format_of, same_format}
 use Rattle.tau_base.specs.declared.value.LogMode.{LogMode}
 use Rattle.tau_disk.specs.declared.disk.Disk.{Ghosts}
 use Rattle.tau_model.specs.History.{Member}
@@ -85,24 +88,31 @@ ends_well status.TooLong kind sink disk empty = absurd (cc)
 pub not_recovery : (o : Option Command) (n m k p : ℕ) (mode : LogMode) → o ≡ Some (Run n m mode) → o ≡ Some (Recover k p) → ⊥
 not_recovery o n m k p mode one other = (let f : Some (Run n m mode) ≡ Some (Recover k p) = sym one ∙ other in cc f)
 
--- the streams and the workers of a run that is served
-pub within_served : (words : List (List ℕ)) (n m : ℕ) (mode : LogMode) → served words ≡ Some (Run n m mode) → (1 ≤ n) × (n ≤ 16) × (1 ≤ m)
+narrow_of : (mode : LogMode) → same_format One (format_of mode) ≡ true → format_of mode ≡ One
+narrow_of Values e = refl
+narrow_of Commands e = refl
+narrow_of WideValues e = absurd (cc e)
+narrow_of WideCommands e = absurd (cc e)
+
+-- the streams, the workers and the format of a run that is served
+pub within_served : (words : List (List ℕ)) (n m : ℕ) (mode : LogMode) → served words ≡ Some (Run n m mode) → (1 ≤ n) × (n ≤ 16) × (1 ≤ m) × (format_of mode ≡ One)
 within_served words n m mode e = by_command (command_of words) e
   where
-    low : (n m : ℕ) → (nat_le 1 n && nat_le n 16 && nat_le 1 m && nat_le m 16) ≡ true → (1 ≤ n) × (n ≤ 16) × (1 ≤ m)
-    low n m t =
-        let a = and_parts (nat_le 1 n && nat_le n 16 && nat_le 1 m) (nat_le m 16) t in
-        let b = and_parts (nat_le 1 n && nat_le n 16) (nat_le 1 m) a.0 in
-        let d = and_parts (nat_le 1 n) (nat_le n 16) b.0 in
-        (le_of 1 n d.0, le_of n 16 d.1, le_of 1 m b.1)
+    low : (n m : ℕ) (mode : LogMode) → (same_format One (format_of mode) && nat_le 1 n && nat_le n 16 && nat_le 1 m && nat_le m 16) ≡ true → (1 ≤ n) × (n ≤ 16) × (1 ≤ m) × (format_of mode ≡ One)
+    low n m mode t =
+        let a = and_parts (same_format One (format_of mode) && nat_le 1 n && nat_le n 16 && nat_le 1 m) (nat_le m 16) t in
+        let b = and_parts (same_format One (format_of mode) && nat_le 1 n && nat_le n 16) (nat_le 1 m) a.0 in
+        let d = and_parts (same_format One (format_of mode) && nat_le 1 n) (nat_le n 16) b.0 in
+        let e = and_parts (same_format One (format_of mode)) (nat_le 1 n) d.0 in
+        (le_of 1 n e.1, le_of n 16 d.1, le_of 1 m b.1, narrow_of mode e.0)
 
-    by_test : (d : Command) (b : Bool) → is_served d ≡ b → (if b then Some d else None) ≡ Some (Run n m mode) → (1 ≤ n) × (n ≤ 16) × (1 ≤ m)
+    by_test : (d : Command) (b : Bool) → is_served d ≡ b → (if b then Some d else None) ≡ Some (Run n m mode) → (1 ≤ n) × (n ≤ 16) × (1 ≤ m) × (format_of mode ≡ One)
     by_test d true is f =
         let same : d ≡ Run n m mode = cc in
-        low n m (sym (ap is_served same) ∙ is)
+        low n m mode (sym (ap is_served same) ∙ is)
     by_test d false is f = absurd (cc)
 
-    by_command : (o : Option Command) → option_and_then if_served o ≡ Some (Run n m mode) → (1 ≤ n) × (n ≤ 16) × (1 ≤ m)
+    by_command : (o : Option Command) → option_and_then if_served o ≡ Some (Run n m mode) → (1 ≤ n) × (n ≤ 16) × (1 ≤ m) × (format_of mode ≡ One)
     by_command None f = absurd (cc)
     by_command (Some d) f = by_test d (is_served d) refl f
 

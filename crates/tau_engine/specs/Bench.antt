@@ -1,11 +1,12 @@
 -- The measured job: the generated calls are run on new disks and recovered from them, and what is told is a function of
 -- the first row and of how many calls there are.
-use Rattle.std.specs.Prelude.{ℕ, pos, ◌<◌, ◌≡◌, false, None, Ok, List, [], ◌∷◌, ◌++◌, codes, length, take, map}
+use Rattle.std.specs.Prelude.{ℕ, pos, ◌<◌, ◌≡◌, false, Some, None, Ok, List, [], ◌∷◌, ◌++◌, codes, length, take, map}
 use Rattle.std.specs.List.{filter, sum_by}
 use Rattle.std.specs.Prelude.{◌==◌}
 use Rattle.std.specs.Fmt.{decimal}
 use Rattle.sha2.specs.Sha256.{sha256}
 use Rattle.hex.specs.Hex.{encode_lower}
+use Rattle.tau_base.specs.declared.format.Format.TheVariants.{One}
 use Rattle.tau_base.specs.declared.value.Key.{Key}
 use Rattle.tau_base.specs.declared.value.Value.{Value}
 use Rattle.tau_base.specs.declared.value.Value.TheVariants.{Int}
@@ -95,8 +96,8 @@ pub record IsMeasured {D : Type 0} (G : Ghosts D) (n m : ℕ) (load : Workload) 
 abbrev pub lines_in : List ℕ → ℕ
 lines_in text = length (filter (λ b. b == 10) text)
 
--- these are the rows that redoing the log of these disks gives
+-- these are the rows that redoing the log of these disks, which is in format 1, gives
 pub record AreFound (disks : List MemDisk) (rows : List (Key × Value)) : Type 0 where
   pub log : Log
-  pub reads : log_of (map seen_by disks) ≡ Ok log
+  pub reads : log_of (Some One) (map seen_by disks) ≡ Ok log
   pub redone : IsRedone log rows

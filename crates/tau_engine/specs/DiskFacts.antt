@@ -1,5 +1,6 @@
 -- What stops may leave of the disks of a call, how a call ends in the words of runs, and what a refused opening leaves.
 use Rattle.std.specs.Prelude.{ℕ, Bool, false, ◌+◌, ◌<◌, ◌≤◌, ◌≡◌, List, [], length, slice_get, Some}
+use Rattle.tau_base.specs.declared.format.Format.{Format}
 use Rattle.tau_block.specs.Image.{HasContent}
 use Rattle.tau_crew_facts.specs.Spacing.{AreSpaced}
 use Rattle.tau_disk.specs.Used.{OfDisk, EachUsed}
@@ -53,6 +54,6 @@ pub record IsRefused {D : Type 0} (n : ℕ) (only_read : D → D → Type 0) (wr
   pub told : (answer ≡ status.NoMemory → ⊥) → WroteFront wrote sink_rose (fault_text answer)
   pub silent : answer ≡ status.NoMemory → wrote []
 
--- the image of stream j has a content, and the anchors that are read of it stand in their distance, the first of them from the catalogue's end
-abbrev pub HasSpaced : ℕ → ℕ → Workload → List ℕ → Type 0
-HasSpaced n j load x = (content : List ℕ) × HasContent n j content x × AreSpaced n j (length (catalogue_of load)) content
+-- the image of stream j has a content in this format, and the anchors that are read of it stand in their distance, the first of them from the catalogue's end
+abbrev pub HasSpaced : Format → ℕ → ℕ → Workload → List ℕ → Type 0
+HasSpaced f n j load x = (content : List ℕ) × HasContent f n j content x × AreSpaced f n j (length (catalogue_of load)) content

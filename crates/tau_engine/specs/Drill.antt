@@ -127,7 +127,7 @@ stopped_line calls = line (codes "stopped" ∷ decimal calls ∷ [])
 -- what is told of the images: how many calls were counted, and what recovery finds
 pub record IsFound (images : List (List ℕ)) (calls : ℕ) (wrote : List ℕ → Type 0) : Type 0 where
   pub log : Log
-  pub reads : log_of images ≡ Ok log
+  pub reads : log_of None images ≡ Ok log
   pub found : List ℕ
   pub recovery : IsRecoveryOf log found
   pub told : wrote (stopped_line calls ++ found)

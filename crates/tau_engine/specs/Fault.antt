@@ -29,11 +29,16 @@ record_cause_number body.BadBody = 6
 
 abbrev pub log_cause_words : LogCause → List (List ℕ)
 log_cause_words (log.Image fault) = codes "image" ∷ decimal (image_fault_number fault) ∷ []
+log_cause_words (log.Format asked found) = codes "format" ∷ decimal asked ∷ decimal found ∷ []
 log_cause_words (log.Count asked found) = codes "count" ∷ decimal asked ∷ decimal found ∷ []
 log_cause_words (log.Body fault) = codes "record" ∷ decimal (record_cause_number fault.cause) ∷ decimal fault.at ∷ []
 log_cause_words (log.Catalogue with_stream at) = codes "catalogue" ∷ decimal with_stream ∷ decimal at ∷ []
 log_cause_words (log.Epoch with_stream number) = codes "epoch" ∷ decimal with_stream ∷ decimal number ∷ []
+log_cause_words (log.Declared at) = codes "declared" ∷ decimal at ∷ []
+log_cause_words (log.Long size) = codes "long" ∷ decimal size ∷ []
+log_cause_words log.Last = codes "last" ∷ []
 log_cause_words (log.Tangled at) = codes "tangled" ∷ decimal at ∷ []
+log_cause_words (log.Late at) = codes "late" ∷ decimal at ∷ []
 
 -- the line of a stream that is at fault
 abbrev pub log_fault_text : ℕ → LogCause → List ℕ

@@ -1,5 +1,5 @@
 -- What recovery tells of the images that the disks give.
-use Rattle.std.specs.Prelude.{ℕ, ◌≡◌, ◌<◌, ◌⊎◌, List, [], length, take, map, Ok, Err}
+use Rattle.std.specs.Prelude.{ℕ, ◌≡◌, ◌<◌, ◌⊎◌, List, [], length, take, map, None, Ok, Err}
 use Rattle.tau_base.specs.declared.value.Key.{Key}
 use Rattle.tau_base.specs.declared.value.Value.{Value}
 use Rattle.tau_scan.specs.declared.log.Log.{Log}
@@ -34,12 +34,12 @@ IsTangle log fault = (at : ℕ) × (fault.cause ≡ cause.Tangled at) × IsTangl
 
 -- the images are refused for this fault
 abbrev pub IsBadLog : List (List ℕ) → LogFault → Type 0
-IsBadLog images fault = (log_of images ≡ Err fault) ⊎ ((log : Log) × (log_of images ≡ Ok log) × IsTangle log fault)
+IsBadLog images fault = (log_of None images ≡ Err fault) ⊎ ((log : Log) × (log_of None images ≡ Ok log) × IsTangle log fault)
 
 -- what recovery writes of these images, where they hold a log
 abbrev pub RecoverTells : List (List ℕ) → (List ℕ → Type 0) → Status → Type 0
-RecoverTells images wrote status.Ok = (log : Log) × (log_of images ≡ Ok log) × LogTells log wrote status.Ok
-RecoverTells images wrote status.WriteFault = (log : Log) × (log_of images ≡ Ok log) × LogTells log wrote status.WriteFault
+RecoverTells images wrote status.Ok = (log : Log) × (log_of None images ≡ Ok log) × LogTells log wrote status.Ok
+RecoverTells images wrote status.WriteFault = (log : Log) × (log_of None images ≡ Ok log) × LogTells log wrote status.WriteFault
 RecoverTells images wrote status.NoMemory = wrote []
 RecoverTells images wrote other = Unit {0}
 

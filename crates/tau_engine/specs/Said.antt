@@ -1,6 +1,7 @@
 -- All that is said of a call that was to run a workload, over its disks and its sink.
 use Rattle.std.specs.Prelude.{ℕ, ◌<◌, ◌≡◌, true, None, List, drop}
 use Rattle.tau_base.specs.declared.value.LogMode.{LogMode}
+use Rattle.tau_base.specs.Modes.{format_of}
 use Rattle.tau_disk.specs.declared.disk.Disk.{Ghosts}
 use Rattle.tau_disk.specs.Disk.{Rose}
 use Rattle.tau_disk.specs.Used.{EachUsed, RoseAt, IsFirstLong, OnlyRead, AllCalls, IsClean, IsFirstStopped, Made}
@@ -36,6 +37,6 @@ module _ {D : Type 0} (G : Ghosts D) (n m : ℕ) (mode : LogMode) (load : Worklo
     pub long : (j long : ℕ) → j < n → G.tells → IsFirstLong G.seen old j long → SaysRefused
     pub asked : (j long : ℕ) → answer ≡ status.NotEmpty j long → SaysRefused × EachUsed (AllCalls G.tells G.number G.fails G.short 1) old new n
     -- in threads, if no disk failed, the anchors of each used disk stand in their distance
-    pub spaced : load.turns ≡ None → DisksWorked n (RoseAt G.faults old new) answer → (j : ℕ) (x : List ℕ) → j < n → Now G.tells G.may_leave old new j x → HasSpaced n j load x
+    pub spaced : load.turns ≡ None → DisksWorked n (RoseAt G.faults old new) answer → (j : ℕ) (x : List ℕ) → j < n → Now G.tells G.may_leave old new j x → HasSpaced (format_of mode) n j load x
     pub moments : AreUnborn G.tells G.may_leave old n → EachUsed (NotEarlier G.tells G.moment) old new n
     pub rest : drop n new ≡ drop n old

@@ -1,5 +1,5 @@
 -- Recovery writes the same, however many workers there are.
-use Rattle.std.specs.Prelude.{ℕ, ◌≡◌, List, Ok}
+use Rattle.std.specs.Prelude.{ℕ, ◌≡◌, List, None, Ok}
 use Rattle.tau_base.specs.declared.value.LogMode.{LogMode}
 use Rattle.tau_text.specs.declared.load.Workload.{Workload}
 use Rattle.tau_scan.specs.declared.log.Log.{Log}
@@ -11,7 +11,7 @@ use Rattle.tau_engine.specs.Recovery.{IsRecoveryOf}
 
 -- Where all orderly orders of the log of the images give one database, recovery has one text.
 abbrev pub OneText : Type 0
-OneText = (images : List (List ℕ)) (log other : Log) (text words : List ℕ) → log_of images ≡ Ok log → log_of images ≡ Ok other → OrdersAgree log →
+OneText = (images : List (List ℕ)) (log other : Log) (text words : List ℕ) → log_of None images ≡ Ok log → log_of None images ≡ Ok other → OrdersAgree log →
     IsRecoveryOf log text → IsRecoveryOf other words → text ≡ words
 
 -- They do where a run has left the images.

@@ -1,11 +1,14 @@
 -- Which commands are served, and what they use.
 use Rattle.std.specs.Prelude.{ℕ, Bool, true, false, ◌&&◌, nat_le, nat_lt, if◌then◌else◌, List, Option, Some, None, option_and_then}
-use Rattle.tau_base.specs.declared.limits.TheConstants.{MAX_CALLS, MAX_STREAMS, MAX_WORKERS, MAX_RECOVERY_WORKERS}
+use Rattle.tau_base.specs.declared.limits.TheConstants.{MAX_CALLS, MAX_RECOVERY_WORKERS, MAX_STREAMS}
+use Rattle.tau_base.specs.declared.format.Format.TheVariants.{One}
+use Rattle.tau_base.specs.Modes.{format_of, same_format}
 use Rattle.tau_words.specs.declared.command.Command.{Command}
 use Rattle.tau_words.specs.declared.command.Command.TheVariants.{Run, Recover, Drill, Bench}
 use Rattle.tau_words.specs.declared.command.Ending.{Ending}
 use Rattle.tau_words.specs.declared.command.Ending.TheVariants.{Stop, Fail}
 use Rattle.tau_words.specs.Words.{command_of}
+use Rattle.tau_engine.specs.declared.served.TheConstants.{MAX_COUNT}
 use Rattle.tau_engine.specs.declared.served.Work.{Work}
 use Rattle.tau_engine.specs.declared.served.Work.TheVariants as work
 
@@ -18,12 +21,12 @@ is_ending n (Fail stream call) = nat_lt stream n && nat_le 1 call && nat_le call
 abbrev pub is_job : ℕ → ℕ → Bool
 is_job start calls = nat_le start 999 && nat_le calls MAX_CALLS
 
--- the commands that are there by now
+-- the commands that are there by now: a run is of format 1, a recovery of either
 abbrev pub is_served : Command → Bool
-is_served (Run n m mode) = nat_le 1 n && nat_le n MAX_STREAMS && nat_le 1 m && nat_le m MAX_WORKERS
+is_served (Run n m mode) = same_format One (format_of mode) && nat_le 1 n && nat_le n MAX_COUNT && nat_le 1 m && nat_le m MAX_COUNT
 is_served (Recover n p) = nat_le 1 n && nat_le n MAX_STREAMS && nat_le 1 p && nat_le p MAX_RECOVERY_WORKERS
-is_served (Drill n m p ending) = nat_le 1 n && nat_le n MAX_STREAMS && nat_le 1 m && nat_le m MAX_WORKERS && is_ending n ending
-is_served (Bench start calls n m) = is_job start calls && (nat_le 1 n && nat_le n MAX_STREAMS) && (nat_le 1 m && nat_le m MAX_WORKERS)
+is_served (Drill n m p ending) = nat_le 1 n && nat_le n MAX_COUNT && nat_le 1 m && nat_le m MAX_COUNT && is_ending n ending
+is_served (Bench start calls n m) = is_job start calls && (nat_le 1 n && nat_le n MAX_COUNT) && (nat_le 1 m && nat_le m MAX_COUNT)
 
 abbrev pub if_served : Command → Option Command
 if_served c = if is_served c then Some c else None

@@ -1,6 +1,8 @@
 //! The measured job: the generated calls, run on new disks in memory and recovered from them.
 ghost use Rattle.std.specs.Prelude.{ℕ, ◌≡◌, ◌≤◌, ◌+◌, ◌++◌, ◌∷◌, List, [], false, true, length, map, string_bytes, vec_len, vec_capacity, codes, Ok, Some, None, IfOk, OnOk};
-ghost use Rattle.tau_base.specs.declared.limits.TheConstants.{MAX_CALLS, MAX_CATALOGUE, MAX_RECOVERY_WORKERS, MAX_STREAMS, MAX_WORKERS};
+ghost use Rattle.tau_base.specs.declared.limits.TheConstants.{MAX_CALLS, MAX_CATALOGUE, MAX_RECOVERY_WORKERS};
+ghost use Rattle.tau_base.specs.declared.format.Format.TheVariants.{One};
+ghost use Rattle.tau_base.specs.Modes.{most_streams};
 ghost use Rattle.tau_disk.specs.Disk.{Rose};
 ghost use Rattle.tau_disk.specs.Memory.{seen_by};
 ghost use Rattle.tau_disk.specs.Used.{AreEmpty};
@@ -15,6 +17,7 @@ ghost use Rattle.tau_run.specs.RecoveredFacts.{catalogue_of};
 ghost use Rattle.tau_run.specs.CoreRun.{IsSoundLoad};
 ghost use Rattle.tau_step.specs.RunTold.{AreNew};
 ghost use Rattle.tau_engine.specs.Bench.{AreFound, BenchTells, IsMeasured, PlaysWell, bench_text, count_lines, digest_lines, digest_of, lines_in, measured_text, number_in, number_line, sum_of};
+ghost use Rattle.tau_engine.specs.declared.served.TheConstants.{MAX_COUNT};
 ghost use Rattle.tau_engine.specs.Drill.{AreNewDisks};
 ghost use Rattle.tau_engine.specs.DiskFacts.{AreUnborn};
 ghost use Rattle.tau_engine.specs.Outside.{Wrote, ends_rehearsal};
@@ -25,7 +28,7 @@ use sha2::{Digest, Sha256};
 use std::alloc::{AllocError, Global};
 use std::sync::Wait;
 use std::thread::Threads;
-use tau_base::{Key, LogMode, NoMemory, Value};
+use tau_base::{Format, Key, LogMode, NoMemory, Value};
 use tau_disk::{Disk, Gate, MemDisk, MemSink, Sink};
 use tau_gen::generate;
 use tau_model::Tables;
@@ -71,12 +74,12 @@ fn play_on<R: Threads + Wait + Sync, D: Disk + Send, K: Sink + Send, G: Gate + S
     gate: &G,
 ) -> Result<Tables, NoMemory>
     requires streams_low { 1 ≤ vec_len writers }
-    requires streams_high { vec_len writers ≤ MAX_STREAMS }
+    requires streams_high { vec_len writers ≤ MAX_COUNT }
     requires low { 1 ≤ workers }
-    requires high { workers ≤ MAX_WORKERS }
+    requires high { workers ≤ MAX_COUNT }
     requires calls { AreCalls load.now.declarations.procs load.now.calls }
     requires text { length (declarations_text load.now.declarations) ≤ MAX_CATALOGUE }
-    requires fresh { AreNew (λ j. catalogue_of load.now) writers.items }
+    requires fresh { AreNew One (λ j. catalogue_of load.now) writers.items }
     requires room { vec_len disks.old + vec_len writers ≤ vec_capacity disks.old }
     ensures ran { IfOk result (λ rows. PlaysWell workers load.now writers.items disks.old.items disks.new.items K.tells (K.held sink.old) (K.held sink.new) (Rose (K.faults sink.old) (K.faults sink.new)) rows) }
     ensures len { vec_len disks.new ≡ vec_len writers + vec_len disks.old }
@@ -109,9 +112,9 @@ fn play<R: Threads + Wait + Sync, D: Disk + Send, K: Sink + Send, G: Gate + Sync
     gate: &G,
 ) -> Result<Tables, NoMemory>
     requires streams_low { 1 ≤ streams }
-    requires streams_high { streams ≤ MAX_STREAMS }
+    requires streams_high { streams ≤ MAX_COUNT }
     requires low { 1 ≤ workers }
-    requires high { workers ≤ MAX_WORKERS }
+    requires high { workers ≤ MAX_COUNT }
     requires sound { IsSoundLoad load.now }
     requires calls { AreCalls load.now.declarations.procs load.now.calls }
     requires count { vec_len disks.old ≡ streams }
@@ -142,7 +145,7 @@ fn new_disks(alloc: Global, streams: u8) -> Result<Vec<MemDisk>, NoMemory>
     Ok(disks)
 }
 
-/// The rows that so many workers recover from these disks.
+/// The rows that so many workers recover from these disks, which hold a log in format 1.
 fn recovered<R: Threads + Wait + Sync, G: Gate + Sync>(
     rt: &R,
     alloc: Global,
@@ -151,12 +154,12 @@ fn recovered<R: Threads + Wait + Sync, G: Gate + Sync>(
     gate: &G,
 ) -> Result<Tables, NoMemory>
     requires low { 1 ≤ length disks.old }
-    requires high { length disks.old ≤ MAX_STREAMS }
+    requires high { length disks.old ≤ most_streams One }
     requires workers { (1 ≤ workers) × (workers ≤ MAX_RECOVERY_WORKERS) }
-    requires ordered { (log : Log) × (log_of (map seen_by disks.old) ≡ Ok log) × (order : List Kept) × IsOrderOf log order }
+    requires ordered { (log : Log) × (log_of (Some One) (map seen_by disks.old) ≡ Ok log) × (order : List Kept) × IsOrderOf log order }
     ensures { IfOk result (λ rows. AreFound disks.old rows) }
 {
-    let log = match scan(alloc, disks) {
+    let log = match scan(alloc, disks, Some(Format::One)) {
         Ok(log) => log,
         Err(ScanRefusal::Bad(_)) => unreachable!(),
         Err(_) => return Err(NoMemory),
@@ -288,9 +291,9 @@ fn measure<R: Threads + Wait + Sync, G: Gate + Sync>(
     requires start { start ≤ 999 }
     requires calls { calls ≤ MAX_CALLS }
     requires streams_low { 1 ≤ streams }
-    requires streams_high { streams ≤ MAX_STREAMS }
+    requires streams_high { streams ≤ MAX_COUNT }
     requires low { 1 ≤ workers }
-    requires high { workers ≤ MAX_WORKERS }
+    requires high { workers ≤ MAX_COUNT }
     ensures { IfOk result (λ text. string_bytes text ≡ bench_text start calls) }
 {
     let load = generate(alloc, start, calls)?;
@@ -320,9 +323,9 @@ pub fn bench<R: Threads + Wait + Sync, K: Sink, G: Gate + Sync>(
     requires start { start ≤ 999 }
     requires calls { calls ≤ MAX_CALLS }
     requires streams_low { 1 ≤ streams }
-    requires streams_high { streams ≤ MAX_STREAMS }
+    requires streams_high { streams ≤ MAX_COUNT }
     requires low { 1 ≤ workers }
-    requires high { workers ≤ MAX_WORKERS }
+    requires high { workers ≤ MAX_COUNT }
     // The text is a function of the first row and of how many calls there are.
     ensures told { BenchTells start calls (Wrote K.tells (K.held sink.old) (K.held sink.new)) result }
     ensures kind { ends_rehearsal result ≡ true }

@@ -1,7 +1,8 @@
 //! A rehearsed crash: a run on disks in memory that fail as told, and what recovery finds on them.
-ghost use Rattle.std.specs.Prelude.{ℕ, ◌≡◌, ◌≤◌, ◌<◌, ◌+◌, ◌++◌, ◌∷◌, ◌==◌, List, [], true, false, length, take, drop, map, slice_get, string_bytes, vec_len, vec_capacity, Ok, IfOk, OnOk};
+ghost use Rattle.std.specs.Prelude.{ℕ, ◌≡◌, ◌≤◌, ◌<◌, ◌+◌, ◌++◌, ◌∷◌, ◌==◌, List, [], true, false, length, take, drop, map, slice_get, string_bytes, vec_len, vec_capacity, None, Ok, IfOk, OnOk};
 ghost use Rattle.std.specs.List.{filter, list_any};
-ghost use Rattle.tau_base.specs.declared.limits.TheConstants.{MAX_CATALOGUE, MAX_STREAMS, MAX_WORKERS};
+ghost use Rattle.tau_base.specs.declared.limits.TheConstants.{MAX_CATALOGUE};
+ghost use Rattle.tau_base.specs.declared.format.Format.TheVariants.{One};
 ghost use Rattle.tau_disk.specs.Disk.{Rose};
 ghost use Rattle.tau_disk.specs.Memory.{is_short_by, seen_by};
 ghost use Rattle.tau_disk.specs.Streams.{held_by};
@@ -20,6 +21,7 @@ ghost use Rattle.tau_run.specs.RecoveredFacts.{catalogue_of};
 ghost use Rattle.tau_run.specs.CoreRun.{IsSoundLoad};
 ghost use Rattle.tau_run.specs.RunFacts.{WroteFront};
 ghost use Rattle.tau_step.specs.RunTold.{AreNew};
+ghost use Rattle.tau_engine.specs.declared.served.TheConstants.{MAX_COUNT};
 ghost use Rattle.tau_engine.specs.Drill.{AreNewDisks, DrillTells, FailsOnce, IsDrill, IsFound, IsNew, IsRehearsed, PlaysOn, StopsAt, calls_of, images_by, is_of, stopped_line, with_turns};
 ghost use Rattle.tau_engine.specs.DiskFacts.{AreUnborn};
 ghost use Rattle.tau_engine.specs.Fault.{fault_text, is_refusal};
@@ -52,12 +54,12 @@ fn play_on<D: Disk, K: Sink>(
     writers: Vec<Writer<D>>,
 ) -> Result<(), NoMemory>
     requires streams_low { 1 ≤ vec_len writers }
-    requires streams_high { vec_len writers ≤ MAX_STREAMS }
+    requires streams_high { vec_len writers ≤ MAX_COUNT }
     requires low { 1 ≤ workers }
-    requires high { workers ≤ MAX_WORKERS }
+    requires high { workers ≤ MAX_COUNT }
     requires calls { AreCalls load.now.declarations.procs load.now.calls }
     requires text { length (declarations_text load.now.declarations) ≤ MAX_CATALOGUE }
-    requires fresh { AreNew (λ j. catalogue_of load.now) writers.items }
+    requires fresh { AreNew One (λ j. catalogue_of load.now) writers.items }
     requires room { vec_len disks.old + vec_len writers ≤ vec_capacity disks.old }
     ensures ran { OnOk result (PlaysOn workers load.now writers.items disks.old.items disks.new.items K.tells (K.held sink.old) (K.held sink.new) (Rose (K.faults sink.old) (K.faults sink.new))) }
     ensures len { vec_len disks.new ≡ vec_len writers + vec_len disks.old }
@@ -81,9 +83,9 @@ fn rehearse<D: Disk, K: Sink>(
     disks: &mut Vec<D>,
 ) -> Result<(), NoMemory>
     requires streams_low { 1 ≤ streams }
-    requires streams_high { streams ≤ MAX_STREAMS }
+    requires streams_high { streams ≤ MAX_COUNT }
     requires low { 1 ≤ workers }
-    requires high { workers ≤ MAX_WORKERS }
+    requires high { workers ≤ MAX_COUNT }
     requires sound { IsSoundLoad load.now }
     requires calls { AreCalls load.now.declarations.procs load.now.calls }
     requires count { vec_len disks.old ≡ streams }
@@ -250,9 +252,9 @@ fn play(
     disks: &mut Vec<MemDisk>,
 ) -> Result<(), NoMemory>
     requires streams_low { 1 ≤ streams }
-    requires streams_high { streams ≤ MAX_STREAMS }
+    requires streams_high { streams ≤ MAX_COUNT }
     requires low { 1 ≤ workers }
-    requires high { workers ≤ MAX_WORKERS }
+    requires high { workers ≤ MAX_COUNT }
     requires sound { IsSoundLoad load.now }
     requires calls { AreCalls load.now.declarations.procs load.now.calls }
     requires count { vec_len disks.old ≡ streams }
@@ -280,9 +282,9 @@ fn tell<R: Threads + Wait + Sync, G: Gate + Sync>(
     gate: &G,
 ) -> Result<(), NoMemory>
     requires low { 1 ≤ streams }
-    requires high { streams ≤ MAX_STREAMS }
+    requires high { streams ≤ MAX_COUNT }
     requires count { length disks.now ≡ streams }
-    requires ordered { (log : Log) × (log_of (images_by tear disks.now) ≡ Ok log) × (order : List Kept) × IsOrderOf log order }
+    requires ordered { (log : Log) × (log_of None (images_by tear disks.now) ≡ Ok log) × (order : List Kept) × IsOrderOf log order }
     ensures { OnOk result (IsFound (images_by tear disks.now) calls (λ text. held_by out.new ≡ held_by out.old ++ text)) }
 {
     let mut images = images_of(alloc, disks, tear)?;
@@ -309,9 +311,9 @@ fn drill_stop<R: Threads + Wait + Sync, G: Gate + Sync>(
     gate: &G,
 ) -> Result<(), NoMemory>
     requires streams_low { 1 ≤ streams }
-    requires streams_high { streams ≤ MAX_STREAMS }
+    requires streams_high { streams ≤ MAX_COUNT }
     requires low { 1 ≤ workers }
-    requires high { workers ≤ MAX_WORKERS }
+    requires high { workers ≤ MAX_COUNT }
     requires sound { IsSoundLoad load.now }
     requires calls { AreCalls load.now.declarations.procs load.now.calls }
     requires after_low { 1 ≤ after }
@@ -339,9 +341,9 @@ fn drill_failure<R: Threads + Wait + Sync, G: Gate + Sync>(
     gate: &G,
 ) -> Result<(), NoMemory>
     requires streams_low { 1 ≤ streams }
-    requires streams_high { streams ≤ MAX_STREAMS }
+    requires streams_high { streams ≤ MAX_COUNT }
     requires low { 1 ≤ workers }
-    requires high { workers ≤ MAX_WORKERS }
+    requires high { workers ≤ MAX_COUNT }
     requires sound { IsSoundLoad load.now }
     requires calls { AreCalls load.now.declarations.procs load.now.calls }
     requires empty { held_by out.old ≡ [] }
@@ -374,9 +376,9 @@ fn drill_by<R: Threads + Wait + Sync, G: Gate + Sync>(
     gate: &G,
 ) -> Result<(), NoMemory>
     requires streams_low { 1 ≤ streams }
-    requires streams_high { streams ≤ MAX_STREAMS }
+    requires streams_high { streams ≤ MAX_COUNT }
     requires low { 1 ≤ workers }
-    requires high { workers ≤ MAX_WORKERS }
+    requires high { workers ≤ MAX_COUNT }
     requires sound { IsSoundLoad load.now }
     requires calls { AreCalls load.now.declarations.procs load.now.calls }
     requires ending { is_ending streams ending ≡ true }
@@ -429,9 +431,9 @@ fn drill<R: Threads + Wait + Sync, K: Sink, G: Gate + Sync>(
     gate: &G,
 ) -> Status
     requires streams_low { 1 ≤ streams }
-    requires streams_high { streams ≤ MAX_STREAMS }
+    requires streams_high { streams ≤ MAX_COUNT }
     requires low { 1 ≤ workers }
-    requires high { workers ≤ MAX_WORKERS }
+    requires high { workers ≤ MAX_COUNT }
     requires ending { is_ending streams ending ≡ true }
     requires runnable { IsRunnable load }
     requires meant { (text : List ℕ) × (workload_of text ≡ Ok load) }
@@ -465,9 +467,9 @@ pub fn drill_source<R: Threads + Wait + Sync, S: Source, K: Sink, G: Gate + Sync
     gate: &G,
 ) -> Status
     requires streams_low { 1 ≤ streams }
-    requires streams_high { streams ≤ MAX_STREAMS }
+    requires streams_high { streams ≤ MAX_COUNT }
     requires low { 1 ≤ workers }
-    requires high { workers ≤ MAX_WORKERS }
+    requires high { workers ≤ MAX_COUNT }
     requires ending { is_ending streams ending ≡ true }
 
     // What it does with a workload.

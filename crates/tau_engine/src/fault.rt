@@ -69,6 +69,15 @@ fn image_line(alloc: Global, stream: u8, fault: ImageFault) -> Result<String, Al
     Ok(text)
 }
 
+// The line of a stream of a log in another format.
+fn format_line(alloc: Global, stream: u8, asked: u8, found: u8) -> Result<String, AllocError>
+    ensures { IfOk result (λ text. string_bytes text ≡ log_fault_text stream (LogCause.Format asked found)) }
+{
+    let mut text = String::new(alloc);
+    write!(text, "fault 7 {stream} format {asked} {found}\n")?;
+    Ok(text)
+}
+
 // The line of a stream of a log of another number of streams.
 fn count_line(alloc: Global, stream: u8, asked: u16, found: u16) -> Result<String, AllocError>
     ensures { IfOk result (λ text. string_bytes text ≡ log_fault_text stream (LogCause.Count asked found)) }
@@ -107,12 +116,48 @@ fn epoch_line(alloc: Global, stream: u8, with: u8, number: u32) -> Result<String
     Ok(text)
 }
 
+// The line of a stream whose catalogue is not that of the workload.
+fn declared_line(alloc: Global, stream: u8, at: u32) -> Result<String, AllocError>
+    ensures { IfOk result (λ text. string_bytes text ≡ log_fault_text stream (LogCause.Declared at)) }
+{
+    let mut text = String::new(alloc);
+    write!(text, "fault 7 {stream} declared {at}\n")?;
+    Ok(text)
+}
+
+// The line of a stream that is too long to go on from.
+fn long_line(alloc: Global, stream: u8, length: u64) -> Result<String, AllocError>
+    ensures { IfOk result (λ text. string_bytes text ≡ log_fault_text stream (LogCause.Long length)) }
+{
+    let mut text = String::new(alloc);
+    write!(text, "fault 7 {stream} long {length}\n")?;
+    Ok(text)
+}
+
+// The line of a stream after whose epochs there is no other.
+fn last_line(alloc: Global, stream: u8) -> Result<String, AllocError>
+    ensures { IfOk result (λ text. string_bytes text ≡ log_fault_text stream LogCause.Last) }
+{
+    let mut text = String::new(alloc);
+    write!(text, "fault 7 {stream} last\n")?;
+    Ok(text)
+}
+
 // The line of a stream with a record that can't be redone.
 fn tangled_line(alloc: Global, stream: u8, at: u64) -> Result<String, AllocError>
     ensures { IfOk result (λ text. string_bytes text ≡ log_fault_text stream (LogCause.Tangled at)) }
 {
     let mut text = String::new(alloc);
     write!(text, "fault 7 {stream} tangled {at}\n")?;
+    Ok(text)
+}
+
+// The line of a stream with a record that was applied too early.
+fn late_line(alloc: Global, stream: u8, at: u64) -> Result<String, AllocError>
+    ensures { IfOk result (λ text. string_bytes text ≡ log_fault_text stream (LogCause.Late at)) }
+{
+    let mut text = String::new(alloc);
+    write!(text, "fault 7 {stream} late {at}\n")?;
     Ok(text)
 }
 
@@ -123,11 +168,16 @@ fn log_line(alloc: Global, fault: LogFault) -> Result<String, AllocError>
     let stream = fault.stream;
     match fault.cause {
         LogCause::Image(image) => image_line(alloc, stream, image),
+        LogCause::Format { asked, found } => format_line(alloc, stream, asked, found),
         LogCause::Count { asked, found } => count_line(alloc, stream, asked, found),
         LogCause::Body(record) => record_line(alloc, stream, record),
         LogCause::Catalogue { with, at } => catalogue_line(alloc, stream, with, at),
         LogCause::Epoch { with, number } => epoch_line(alloc, stream, with, number),
+        LogCause::Declared { at } => declared_line(alloc, stream, at),
+        LogCause::Long { length } => long_line(alloc, stream, length),
+        LogCause::Last => last_line(alloc, stream),
         LogCause::Tangled { at } => tangled_line(alloc, stream, at),
+        LogCause::Late { at } => late_line(alloc, stream, at),
     }
 }
 

@@ -1,5 +1,5 @@
 //! Recovery.
-ghost use Rattle.std.specs.Prelude.{◌≡◌, ◌≤◌, ◌<◌, ◌⊎◌, ℕ, List, [], true, false, length, take, drop, map, IfOk, OnOk, Ok, Err};
+ghost use Rattle.std.specs.Prelude.{◌≡◌, ◌≤◌, ◌<◌, ◌⊎◌, ℕ, List, [], true, false, length, take, drop, map, IfOk, OnOk, None, Ok, Err};
 ghost use Rattle.tau_base.specs.declared.limits.TheConstants.{MAX_RECOVERY_WORKERS, MAX_STREAMS};
 ghost use Rattle.tau_disk.specs.Disk.{Rose};
 ghost use Rattle.tau_scan.specs.declared.fault.LogFault.{LogFault};
@@ -26,12 +26,12 @@ use tau_report::recover_text;
 use tau_scan::{Log, LogCause, LogFault, ReplayRefusal, ScanRefusal, scan};
 use tau_step::write_all;
 
-/// The log of the first disks.
+/// The log of the first disks, in the format that they state.
 fn scan_first<D: Disk>(alloc: Global, streams: usize, disks: &mut [D]) -> Result<Log, ScanRefusal>
     requires low { 1 ≤ streams }
     requires high { streams ≤ MAX_STREAMS }
     requires there { streams ≤ length disks.old }
-    ensures read { HasRead D.tells D.seen (take streams disks.old) result }
+    ensures read { HasRead D.tells D.seen None (take streams disks.old) result }
     ensures sound { IfOk result (λ log. IsLog log) }
     ensures failed { (j : ℕ) → result ≡ Err (ScanRefusal.Failed j) → (j < streams) × RoseAt D.faults disks.old disks.new j }
     ensures only_read { EachUsed (OnlyRead D.tells D.seen D.may_leave D.moment D.may_leave_since) disks.old disks.new streams }
@@ -40,7 +40,7 @@ fn scan_first<D: Disk>(alloc: Global, streams: usize, disks: &mut [D]) -> Result
     ensures stopped { (j : ℕ) → result ≡ Err (ScanRefusal.Failed j) → D.tells → IsFirstStopped D.tells D.number D.fails D.short disks.old disks.new j }
     ensures untouched { drop streams disks.new ≡ drop streams disks.old }
 {
-    scan(alloc, &mut disks[..streams])
+    scan(alloc, &mut disks[..streams], None)
 }
 
 /// Redoes a log by so many workers, and writes what recovery finds in it.
@@ -98,9 +98,9 @@ pub fn recover<R: Threads + Wait + Sync, D: Disk, K: Sink, G: Gate + Sync>(
     ensures refusal { is_refusal result ≡ true → WroteFront (Wrote K.tells (K.held sink.old) (K.held sink.new)) (Rose (K.faults sink.old) (K.faults sink.new)) (fault_text result) }
     ensures fault_line { (j : ℕ) → result ≡ Status.DiskFault j → WroteFront (Wrote K.tells (K.held sink.old) (K.held sink.new)) (Rose (K.faults sink.old) (K.faults sink.new)) (fault_text result) }
     ensures bad_log { (fault : LogFault) → result ≡ Status.BadLog fault → D.tells → IsBadLog (images_of D.seen disks.old streams) fault }
-    ensures bad_log_told { (fault : LogFault) → D.tells → log_of (images_of D.seen disks.old streams) ≡ Err fault → EndsAsBad fault result }
-    ensures tangled_told { (log : Log) → D.tells → log_of (images_of D.seen disks.old streams) ≡ Ok log → ((order : List Kept) → IsOrderOf log order → ⊥) → EndsTangled log result }
-    ensures ordered { (log : Log) (order : List Kept) (fault : LogFault) → D.tells → log_of (images_of D.seen disks.old streams) ≡ Ok log → IsOrderOf log order → result ≡ Status.BadLog fault → ⊥ }
+    ensures bad_log_told { (fault : LogFault) → D.tells → log_of None (images_of D.seen disks.old streams) ≡ Err fault → EndsAsBad fault result }
+    ensures tangled_told { (log : Log) → D.tells → log_of None (images_of D.seen disks.old streams) ≡ Ok log → ((order : List Kept) → IsOrderOf log order → ⊥) → EndsTangled log result }
+    ensures ordered { (log : Log) (order : List Kept) (fault : LogFault) → D.tells → log_of None (images_of D.seen disks.old streams) ≡ Ok log → IsOrderOf log order → result ≡ Status.BadLog fault → ⊥ }
     ensures disk_fault { (j : ℕ) → result ≡ Status.DiskFault j → (j < streams) × RoseAt D.faults disks.old disks.new j }
     ensures calls { is_behind_reading result ≡ true → EachUsed (AllCalls D.tells D.number D.fails D.short calls_to_read) disks.old disks.new streams }
     ensures stopped { (j : ℕ) → result ≡ Status.DiskFault j → D.tells → IsFirstStopped D.tells D.number D.fails D.short disks.old disks.new j }

@@ -1,12 +1,15 @@
 //! A run on the first disks.
 ghost use Rattle.std.specs.Prelude.{◌≡◌, ◌≤◌, ◌+◌, ℕ, List, Ok, length, vec_len, vec_capacity};
-ghost use Rattle.tau_base.specs.declared.limits.TheConstants.{MAX_CATALOGUE, MAX_STREAMS, MAX_WORKERS};
+ghost use Rattle.tau_base.specs.declared.limits.TheConstants.{MAX_CATALOGUE, MAX_STREAMS};
+ghost use Rattle.tau_base.specs.declared.format.Format.TheVariants.{One};
+ghost use Rattle.tau_base.specs.Modes.{format_of, most_streams};
 ghost use Rattle.tau_disk.specs.Disk.{Rose};
 ghost use Rattle.tau_text.specs.Canonical.{declarations_text};
 ghost use Rattle.tau_text.specs.Kept.{AreCalls, IsRunnable};
 ghost use Rattle.tau_text.specs.Text.{workload_of};
 ghost use Rattle.tau_run.specs.RecoveredFacts.{catalogue_of};
 ghost use Rattle.tau_step.specs.RunTold.{AreNew};
+ghost use Rattle.tau_engine.specs.declared.served.TheConstants.{MAX_COUNT};
 ghost use Rattle.tau_engine.specs.Runs.{RanChosen, RunsOn, TellsEnd, status_in};
 ghost use Rattle.tau_engine.specs.Said.{SaysRun};
 
@@ -68,12 +71,12 @@ pub(crate) fn run_writers<R: Threads + Wait + Sync, D: Disk + Send, K: Sink + Se
     gate: &G,
 ) -> Result<RunEnd, NoMemory>
     requires streams_low { 1 ≤ length writers.old.items }
-    requires streams_high { length writers.old.items ≤ MAX_STREAMS }
+    requires streams_high { length writers.old.items ≤ most_streams (format_of mode) }
     requires low { 1 ≤ workers }
-    requires high { workers ≤ MAX_WORKERS }
+    requires high { workers ≤ MAX_COUNT }
     requires calls { AreCalls load.now.declarations.procs load.now.calls }
     requires text { length (declarations_text load.now.declarations) ≤ MAX_CATALOGUE }
-    requires fresh { AreNew (λ j. catalogue_of load.now) writers.old.items }
+    requires fresh { AreNew (format_of mode) (λ j. catalogue_of load.now) writers.old.items }
     ensures ran { RanChosen load.now.turns workers mode load.now writers.old.items writers.new.items K.tells (K.held sink.old) (K.held sink.new) (Rose (K.faults sink.old) (K.faults sink.new)) result }
     ensures faults { K.faults sink.old ≤ K.faults sink.new }
     ensures count { length writers.new.items ≡ length writers.old.items }
@@ -97,12 +100,12 @@ fn run_on<R: Threads + Wait + Sync, D: Disk + Send, K: Sink + Send, G: Gate + Sy
     gate: &G,
 ) -> Status
     requires streams_low { 1 ≤ vec_len writers }
-    requires streams_high { vec_len writers ≤ MAX_STREAMS }
+    requires streams_high { vec_len writers ≤ most_streams (format_of mode) }
     requires low { 1 ≤ workers }
-    requires high { workers ≤ MAX_WORKERS }
+    requires high { workers ≤ MAX_COUNT }
     requires runnable { IsRunnable load.now }
     requires text { length (declarations_text load.now.declarations) ≤ MAX_CATALOGUE }
-    requires fresh { AreNew (λ j. catalogue_of load.now) writers.items }
+    requires fresh { AreNew (format_of mode) (λ j. catalogue_of load.now) writers.items }
     requires room { vec_len disks.old + vec_len writers ≤ vec_capacity disks.old }
     ensures ran { RunsOn workers mode load.now writers.items disks.old.items disks.new.items K.tells (K.held sink.old) (K.held sink.new) (K.faults sink.old) (K.faults sink.new) result }
     ensures len { vec_len disks.new ≡ vec_len writers + vec_len disks.old }
@@ -116,7 +119,7 @@ fn run_on<R: Threads + Wait + Sync, D: Disk + Send, K: Sink + Send, G: Gate + Sy
     }
 }
 
-/// Runs a workload on the first `streams` disks, which are to hold nothing, and puts them back in their places.
+/// Runs a workload on the first `streams` disks, which are to hold nothing, and puts them back in their places. The log is of format 1.
 pub fn run<R: Threads + Wait + Sync, D: Disk + Send, K: Sink + Send, G: Gate + Sync>(
     rt: &R,
     alloc: Global,
@@ -130,9 +133,10 @@ pub fn run<R: Threads + Wait + Sync, D: Disk + Send, K: Sink + Send, G: Gate + S
 ) -> Status
     requires disks { vec_len disks.old ≡ MAX_STREAMS }
     requires streams_low { 1 ≤ streams }
-    requires streams_high { streams ≤ MAX_STREAMS }
+    requires streams_high { streams ≤ MAX_COUNT }
     requires low { 1 ≤ workers }
-    requires high { workers ≤ MAX_WORKERS }
+    requires high { workers ≤ MAX_COUNT }
+    requires narrow { format_of mode ≡ One }
     requires runnable { IsRunnable load.now }
     requires meant { (text : List ℕ) × (workload_of text ≡ Ok load.now) }
 

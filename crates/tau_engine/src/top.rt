@@ -2,6 +2,7 @@
 ghost use Rattle.std.specs.Prelude.{◌≡◌, ◌<◌, ◌≤◌, ◌⊎◌, ◌++◌, ◌+◌, List, ℕ, [], ◌∷◌, length, drop, map, true, false, Some, None, Ok, Err, vec_len, string_bytes};
 ghost use Rattle.tau_base.specs.declared.limits.TheConstants.{MAX_STREAMS};
 ghost use Rattle.tau_base.specs.declared.value.LogMode.{LogMode};
+ghost use Rattle.tau_base.specs.Modes.{format_of};
 ghost use Rattle.tau_disk.specs.Disk.{Rose};
 ghost use Rattle.tau_model.specs.History.{Member};
 ghost use Rattle.tau_words.specs.declared.command.Command.{Command};
@@ -83,9 +84,9 @@ pub fn taurus<R: Threads + Wait + Sync, S: Source, K: Sink + Send, D: Disk + Sen
     ensures bad_log { (fault : LogFault) → result ≡ Status.BadLog fault → (n p : ℕ) × (served (map string_bytes words.now) ≡ Some (Command.Recover n p))
         × (D.tells → IsBadLog (images_of D.seen disks.old.items n) fault) }
     ensures bad_log_told { (n p : ℕ) (fault : LogFault) → served (map string_bytes words.now) ≡ Some (Command.Recover n p) → D.tells →
-        log_of (images_of D.seen disks.old.items n) ≡ Err fault → EndsAsBad fault result }
+        log_of None (images_of D.seen disks.old.items n) ≡ Err fault → EndsAsBad fault result }
     ensures tangled_told { (n p : ℕ) (log : Log) → served (map string_bytes words.now) ≡ Some (Command.Recover n p) → D.tells →
-        log_of (images_of D.seen disks.old.items n) ≡ Ok log → ((order : List Kept) → IsOrderOf log order → ⊥) → EndsTangled log result }
+        log_of None (images_of D.seen disks.old.items n) ≡ Ok log → ((order : List Kept) → IsOrderOf log order → ⊥) → EndsTangled log result }
     ensures write_fault { result ≡ Status.WriteFault → Rose (K.faults sink.old) (K.faults sink.new) }
     // A disk that fails while the streams are opened comes before a sink that fails.
     ensures write_fault_late { (n m : ℕ) (mode : LogMode) → served (map string_bytes words.now) ≡ Some (Command.Run n m mode) → result ≡ Status.WriteFault →
@@ -121,7 +122,7 @@ pub fn taurus<R: Threads + Wait + Sync, S: Source, K: Sink + Send, D: Disk + Sen
     // In threads, if the run went to its end and no disk failed, the anchors that are read of each used disk stand in their
     // distance, also if the sink failed.
     ensures anchors { (n m : ℕ) (mode : LogMode) (load : Workload) → served (map string_bytes words.now) ≡ Some (Command.Run n m mode) → S.tells → HasWorkload (S.left source.old) load → load.turns ≡ None →
-        DisksWorked n (RoseAt D.faults disks.old.items disks.new.items) result → (j : ℕ) (image : List ℕ) → j < n → Now D.tells D.may_leave disks.old.items disks.new.items j image → HasSpaced n j load image }
+        DisksWorked n (RoseAt D.faults disks.old.items disks.new.items) result → (j : ℕ) (image : List ℕ) → j < n → Now D.tells D.may_leave disks.old.items disks.new.items j image → HasSpaced (format_of mode) n j load image }
 
     // So an image that a stop now may leave is one that a stop since the entry might have left.
     ensures moments { (n m : ℕ) (mode : LogMode) → served (map string_bytes words.now) ≡ Some (Command.Run n m mode) →
@@ -167,7 +168,7 @@ pub fn taurus<R: Threads + Wait + Sync, S: Source, K: Sink + Send, D: Disk + Sen
     ensures bench_done { (start calls n m : ℕ) → served (map string_bytes words.now) ≡ Some (Command.Bench start calls n m) →
         (Rose (K.faults sink.old) (K.faults sink.new) → ⊥) → Member result (Status.Ok ∷ Status.NoMemory ∷ []) }
     ensures recover_done { (n p : ℕ) (log : Log) (order : List Kept) → served (map string_bytes words.now) ≡ Some (Command.Recover n p) →
-        D.tells → log_of (images_of D.seen disks.old.items n) ≡ Ok log → IsOrderOf log order →
+        D.tells → log_of None (images_of D.seen disks.old.items n) ≡ Ok log → IsOrderOf log order →
         (Rose (K.faults sink.old) (K.faults sink.new) → ⊥) → ((j : ℕ) → j < n → RoseAt D.faults disks.old.items disks.new.items j → ⊥) →
         Member result (Status.Ok ∷ Status.NoMemory ∷ []) }
 {

@@ -7,10 +7,10 @@ use std::test::*;
 use std::thread::Threads;
 use tau_disk::MemDisk;
 
-// The image of stream `j` of `n`, with the catalogue of table a and these records after it.
-pub(crate) fn image_of(alloc: Global, n: u8, j: u8, records: &[u8]) -> Result<MemDisk, Fail> {
-    let mut image = Vec::from_slice(alloc, b"TAURUS-LOG-1")?;
-    image.extend_from_slice(&[0, n, 0, j])?;
+// The image of stream `j` of `n` in the format with this digit, with the catalogue of table a and these records after it.
+fn image_in(alloc: Global, digit: u8, n: u8, j: u8, records: &[u8]) -> Result<MemDisk, Fail> {
+    let mut image = Vec::from_slice(alloc, b"TAURUS-LOG-")?;
+    image.extend_from_slice(&[digit, 0, n, 0, j])?;
     image.extend_from_slice(b"\x01\x00\x00\x00\x0d\x04\x00\x00\x00\x0dtable a\n")?;
     if !records.is_empty() {
         let long = u8::try_from(records.len()).ok().ok_or("too long")?;
@@ -21,9 +21,17 @@ pub(crate) fn image_of(alloc: Global, n: u8, j: u8, records: &[u8]) -> Result<Me
     Ok(MemDisk::of_image(alloc, &image)?)
 }
 
+// The same in format 1.
+pub(crate) fn image_of(alloc: Global, n: u8, j: u8, records: &[u8]) -> Result<MemDisk, Fail> {
+    image_in(alloc, b'1', n, j, records)
+}
+
 // Call 1 puts 5 into row 1.
 pub(crate) static FIRST: &[u8] =
     b"\x01\x00\x00\x00\x28\x00\x00\x00\x00\x00\x00\x00\x01\x00\x00\x00\x00\x00\x00\x00\x01\x00\x00\x00\x00\x00\x00\x00\x00\x00\x01\x01\x00\x00\x00\x00\x00\x00\x00\x05";
+// The same in format 2.
+static WIDE: &[u8] =
+    b"\x01\x00\x00\x00\x2a\x00\x00\x00\x00\x00\x00\x00\x01\x00\x00\x00\x00\x00\x00\x00\x00\x00\x01\x00\x00\x00\x00\x00\x00\x00\x00\x00\x01\x01\x00\x00\x00\x00\x00\x00\x00\x05";
 // Call 2 puts 7 into row 1, and waits for call 1.
 static SECOND: &[u8] =
     b"\x01\x00\x00\x00\x30\x00\x00\x00\x00\x00\x00\x00\x02\x00\x00\x00\x00\x00\x01\x00\x00\x00\x00\x00\x00\x00\x35\x00\x01\x00\x00\x00\x00\x00\x00\x00\x00\x00\x01\x01\x00\x00\x00\x00\x00\x00\x00\x07";
@@ -134,8 +142,10 @@ fn unborn_streams_hold_nothing(rt: HostRuntime) -> Result<(), Fail> {
 
 #[test]
 fn hostile_images_are_named(rt: HostRuntime) -> Result<(), Fail> {
-    let rows: [(usize, usize, &[u8], &str); 13] = [
+    let rows: [(usize, usize, &[u8], &str); 15] = [
         (0, 1, b"\x00", "fault 7 0 image 1\n"),
+        (11, 12, b"3", "fault 7 0 image 1\n"),
+        (11, 12, b"2", "fault 7 0 record 5 13\n"),
         (12, 14, b"\x00\x11", "fault 7 0 image 2\n"),
         (14, 16, b"\x00\x01", "fault 7 0 image 3\n"),
         (17, 21, b"\x00\x00\x00\x00", "fault 7 0 image 4\n"),
@@ -183,6 +193,64 @@ fn catalogues_agree(rt: HostRuntime) -> Result<(), Fail> {
         "fault 7 1 catalogue 0 6\n",
         &mut disks,
     )
+}
+
+// Recovery of two streams, each given by the digit of its format, the number of streams that it states and its records, ends
+// with this code, and tells what is wanted.
+fn formats_tell<R: Threads + Wait + Sync + Abort>(
+    rt: &R,
+    alloc: Global,
+    first: (u8, u8, &[u8]),
+    second: (u8, u8, &[u8]),
+    code: u8,
+    wanted: &str,
+) -> Result<(), Fail> {
+    let lower = image_in(alloc, first.0, first.1, 0, first.2)?;
+    let higher = image_in(alloc, second.0, second.1, 1, second.2)?;
+    let mut disks = disks_of(alloc, lower, higher)?;
+    tells(rt, alloc, "recover 2 1", "", code, wanted, &mut disks)
+}
+
+#[test]
+fn logs_of_format_2(rt: HostRuntime) -> Result<(), Fail> {
+    let alloc = rt.alloc();
+    let wanted = "elv 55,13\ntaken 0 13 1\nrow a 1 int 5\nend 0\n";
+    formats_tell(&rt, alloc, (b'2', 2, WIDE), (b'2', 2, b""), 0, wanted)?;
+    let unborn = MemDisk::new(alloc, &[])?;
+    let mut disks = disks_of(alloc, unborn, image_in(alloc, b'2', 2, 1, WIDE)?)?;
+    let alone = "elv 0,55\ntaken 1 13 1\nrow a 1 int 5\nend 0\n";
+    tells(&rt, alloc, "recover 2 1", "", 0, alone, &mut disks)
+}
+
+// Of seventeen streams the last one alone is born.
+fn last_born(alloc: Global, j: u8) -> Result<MemDisk, Fail> {
+    if j == 16 {
+        return image_in(alloc, b'2', 17, j, WIDE);
+    }
+    Ok(MemDisk::new(alloc, &[])?)
+}
+
+#[test]
+fn logs_of_many_streams(rt: HostRuntime) -> Result<(), Fail> {
+    let alloc = rt.alloc();
+    let mut disks = Vec::new(alloc);
+    for j in 0u8..32 {
+        disks.push(last_born(alloc, j)?)?;
+    }
+    let wanted =
+        "elv 0,0,0,0,0,0,0,0,0,0,0,0,0,0,0,0,55\ntaken 16 13 1\nrow a 1 int 5\nend 0\n";
+    tells(&rt, alloc, "recover 17 3", "", 0, wanted, &mut disks)
+}
+
+// The lowest born stream asks. Another format comes before another number of streams, and before all records.
+#[test]
+fn formats_agree(rt: HostRuntime) -> Result<(), Fail> {
+    let alloc = rt.alloc();
+    let found_two = "fault 7 1 format 1 2\n";
+    formats_tell(&rt, alloc, (b'1', 2, FIRST), (b'2', 2, b""), 7, found_two)?;
+    formats_tell(&rt, alloc, (b'1', 2, WIDE), (b'2', 3, b""), 7, found_two)?;
+    let found_one = "fault 7 1 format 2 1\n";
+    formats_tell(&rt, alloc, (b'2', 2, WIDE), (b'1', 2, b""), 7, found_one)
 }
 
 #[test]

@@ -8,7 +8,7 @@ use std::thread::Threads;
 use tau_disk::{Gate, MemDisk, MemSink, MemSource, Quiet, Tear};
 use tau_engine::{Status, taurus};
 
-/// Sixteen disks, of which these are the first two.
+/// Thirty-two disks, of which these are the first two.
 pub(crate) fn disks_of(
     alloc: Global,
     first: MemDisk,
@@ -17,13 +17,13 @@ pub(crate) fn disks_of(
     let mut disks = Vec::new(alloc);
     disks.push(first)?;
     disks.push(second)?;
-    for _ in 0..14u64 {
+    for _ in 0..30u64 {
         disks.push(MemDisk::new(alloc, &[])?)?;
     }
     Ok(disks)
 }
 
-/// Sixteen new disks; these calls of the first two are to fail.
+/// Thirty-two new disks; these calls of the first two are to fail.
 pub(crate) fn failing_disks(
     alloc: Global,
     first: &[u32],
@@ -36,7 +36,7 @@ pub(crate) fn failing_disks(
     )
 }
 
-/// Sixteen new disks.
+/// Thirty-two new disks.
 pub(crate) fn new_disks(alloc: Global) -> Result<Vec<MemDisk>, Fail> {
     failing_disks(alloc, &[], &[])
 }
@@ -52,7 +52,7 @@ fn words_of(alloc: Global, line: &str) -> Result<Vec<String>, Fail> {
     Ok(words)
 }
 
-/// Does what these words say, over this source, with this gate. It takes sixteen disks.
+/// Does what these words say, over this source, with this gate. It takes thirty-two disks.
 pub(crate) fn do_at<R: Threads + Wait + Sync, G: Gate + Sync>(
     rt: &R,
     alloc: Global,
@@ -63,7 +63,7 @@ pub(crate) fn do_at<R: Threads + Wait + Sync, G: Gate + Sync>(
     gate: &G,
 ) -> Result<Status, Fail> {
     let words = words_of(alloc, line)?;
-    if disks.len() != 16 {
+    if disks.len() != 32 {
         return Err(Fail::new("another number of disks"));
     }
     Ok(taurus(rt, alloc, words.as_slice(), source, sink, disks, gate))

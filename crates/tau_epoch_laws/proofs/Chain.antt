@@ -174,6 +174,6 @@ steps_go_on old (first ∷ steps) are step (inr m) =
     (in_turn first.more rest.0, goes_on old first.more first.log rest.0 step.log are.0 rest.1)
 
 pub judged_for_good : JudgedForGood
-judged_for_good before after old steps step read fit are m now =
+judged_for_good f before after old steps step read fit are m now =
     let on = steps_go_on old steps are step m in
-    old_judged before after old on.0 step.log read fit now on.1
+    old_judged f before after old on.0 step.log read fit now on.1

@@ -2,13 +2,13 @@
 use Rattle.std.proofs.Common.{ℕ, suc, ◌+◌, ◌≤◌, ◌<◌, Bool, true, false, ◌≡◌, ◌⊎◌, inl, inr, List, [], ◌∷◌, ◌++◌, map, length, Option, Some, None, Result, Ok, Err, refl, sym, ap, subst, ◌∙◌, arith, slice_index, bytes_eq}
 use Rattle.std.specs.Prelude.{if◌then◌else◌}
 use Rattle.std.proofs.lemmas.Slice.Eq.{bytes_eq-Decides}
+use Rattle.tau_base.specs.declared.format.Format.{Format}
 use Rattle.tau_base.proofs.Logic.{some_is}
 use Rattle.tau_model.specs.History.{Member}
 use Rattle.tau_epoch.specs.Epochs.{Mark}
 use Rattle.tau_epoch.specs.Known.{vector_of}
 use Rattle.tau_record.specs.declared.entry.Placed.{Placed}
 use Rattle.tau_record.specs.declared.fault.RecordFault.{RecordFault}
-use Rattle.tau_record.specs.Format.{One}
 use Rattle.tau_record.specs.Content.{last_epoch, content_at}
 use Rattle.tau_text.specs.declared.load.Declarations.{Declarations}
 use Rattle.tau_scan.specs.declared.fault.LogFault.{LogFault}
@@ -47,13 +47,13 @@ recorded_ok : (j : ℕ) (r : Result (List Placed) RecordFault) (ps : List Placed
 recorded_ok j (Ok qs) ps e = cc
 recorded_ok j (Err fault) ps e = absurd cc
 
-judged_ok : (n : ℕ) (content : List ℕ) (r : Result (List Placed) RecordFault) (ps : List Placed) → judged n content r ≡ Ok ps → r ≡ Ok ps
-judged_ok n content (Ok qs) ps e = let same = (unless_ok (undeclared qs) qs ps e).1 in ap (λ (xs : List Placed). Ok xs) same
-judged_ok n content (Err fault) ps e = absurd cc
+judged_ok : (f : Format) (n : ℕ) (content : List ℕ) (r : Result (List Placed) RecordFault) (ps : List Placed) → judged f n content r ≡ Ok ps → r ≡ Ok ps
+judged_ok f n content (Ok qs) ps e = let same = (unless_ok (undeclared qs) qs ps e).1 in ap (λ (xs : List Placed). Ok xs) same
+judged_ok f n content (Err fault) ps e = absurd cc
 
-records_ok : (n : ℕ) (content : List ℕ) (ps : List Placed) → records_of n content ≡ Ok ps → content_at One n content ≡ Ok ps
+records_ok : (f : Format) (n : ℕ) (content : List ℕ) (ps : List Placed) → records_of f n content ≡ Ok ps → content_at f n content ≡ Ok ps
 unfolding records_of
-records_ok n content ps e = judged_ok n content (content_at One n content) ps e
+records_ok f n content ps e = judged_ok f n content (content_at f n content) ps e
 
 -- ---- streams
 
@@ -66,13 +66,13 @@ AreStreams [] [] = Unit {0}
 AreStreams (content ∷ contents) (ps ∷ streams) = IsStream content ps × AreStreams contents streams
 AreStreams _ _ = ⊥
 
-are_streams : (n j : ℕ) (contents : List (List ℕ)) (streams : List (List Placed)) → each_from (λ j content. recorded j (records_of n content)) j contents ≡ Ok streams → AreStreams contents streams
-are_streams n j [] streams e = subst (AreStreams []) (ok_is [] streams e) tt
-are_streams n j (content ∷ contents) streams e =
-    let a = bind_ok (recorded j (records_of n content)) (λ y. in_front y (each_from (λ j content. recorded j (records_of n content)) (suc j) contents)) streams e in
-    let g = front_ok a.0 (each_from (λ j content. recorded j (records_of n content)) (suc j) contents) streams a.2 in
-    let read = records_ok n content a.0 (recorded_ok j (records_of n content) a.0 a.1) in
-    subst (AreStreams (content ∷ contents)) g.2 (record { stand = content_stands One n content a.0 read; first = no_catalogue One n content a.0 read }, are_streams n (suc j) contents g.0 g.1)
+are_streams : (f : Format) (n j : ℕ) (contents : List (List ℕ)) (streams : List (List Placed)) → each_from (λ j content. recorded j (records_of f n content)) j contents ≡ Ok streams → AreStreams contents streams
+are_streams f n j [] streams e = subst (AreStreams []) (ok_is [] streams e) tt
+are_streams f n j (content ∷ contents) streams e =
+    let a = bind_ok (recorded j (records_of f n content)) (λ y. in_front y (each_from (λ j content. recorded j (records_of f n content)) (suc j) contents)) streams e in
+    let g = front_ok a.0 (each_from (λ j content. recorded j (records_of f n content)) (suc j) contents) streams a.2 in
+    let read = records_ok f n content a.0 (recorded_ok j (records_of f n content) a.0 a.1) in
+    subst (AreStreams (content ∷ contents)) g.2 (record { stand = content_stands f n content a.0 read; first = no_catalogue f n content a.0 read }, are_streams f n (suc j) contents g.0 g.1)
 
 -- ---- marks
 
@@ -163,16 +163,16 @@ pub record Holds (contents : List (List ℕ)) (log : Log) : Type 0 where
   pub agree : Agree (marks_of log)
   pub catalogue : (c : Option (List ℕ)) × (catalogue_in log.streams ≡ Ok c) × (log.declarations ≡ declared_by c)
 
-pub holds : (contents : List (List ℕ)) (log : Log) → log_of_contents contents ≡ Ok log → Holds contents log
+pub holds : (f : Format) (contents : List (List ℕ)) (log : Log) → log_of_contents f contents ≡ Ok log → Holds contents log
 unfolding streams_of declared_in
-holds contents log e =
+holds f contents log e =
     let found : List (List Placed) → Declarations → Log = λ streams declarations. record { elv = map length contents; declarations = declarations; streams = streams } in
-    let a = bind_ok (streams_of contents) (λ streams. declared_in streams >>= λ declarations. unless (epoch_fault streams) (found streams declarations)) log e in
+    let a = bind_ok (streams_of f contents) (λ streams. declared_in streams >>= λ declarations. unless (epoch_fault streams) (found streams declarations)) log e in
     let b = bind_ok (declared_in a.0) (λ declarations. unless (epoch_fault a.0) (found a.0 declarations)) log a.2 in
     let c = bind_ok (catalogue_in a.0) (λ catalogue. Ok (declared_by catalogue)) b.0 b.1 in
     let u = unless_ok (epoch_fault a.0) (found a.0 b.0) log b.2 in
     subst (Holds contents) u.1 (record {
-      streams = are_streams (length contents) 0 contents a.0 a.1;
+      streams = are_streams f (length contents) 0 contents a.0 a.1;
       elv = refl;
       agree = agree a.0 u.0;
       catalogue = (c.0, c.1, sym (ok_is (declared_by c.0) b.0 c.2));

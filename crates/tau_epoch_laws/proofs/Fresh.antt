@@ -2,6 +2,7 @@
 use Rattle.std.proofs.Common.{ℕ, zero, suc, ◌≡◌, List, [], ◌∷◌, map, length, replicate, Result, Ok, refl, sym, ap, subst, ◌∙◌}
 use Rattle.std.specs.Prelude.{None}
 use Rattle.tau_base.specs.Database.{empty_db}
+use Rattle.tau_base.specs.declared.format.Format.{Format}
 use Rattle.tau_model.specs.History.{Member, Reordered}
 use Rattle.tau_epoch.specs.Epochs.{Mark}
 use Rattle.tau_record.specs.declared.entry.Placed.{Placed}
@@ -16,19 +17,19 @@ use Rattle.tau_epoch_laws.specs.Sound.{log_of_contents, fresh_log, redo_in}
 use Rattle.tau_epoch_laws.specs.Laws.{FreshSound}
 use Rattle.tau_epoch_laws.proofs.Stays.{none_taken}
 
-nothing_read : (n : ℕ) → records_of n [] ≡ Ok []
+nothing_read : (f : Format) (n : ℕ) → records_of f n [] ≡ Ok []
 unfolding records_of content_at records_at first_undeclared
-nothing_read n = refl
+nothing_read f n = refl
 
-each_empty : (m j n : ℕ) → each_from (λ j content. recorded j (records_of m content)) j (replicate n []) ≡ Ok (replicate n [])
-each_empty m j zero = refl
-each_empty m j (suc n) =
-    ap (λ (r : Result (List Placed) LogFault). r >>= λ y. in_front y (each_from (λ j content. recorded j (records_of m content)) (suc j) (replicate n []))) (ap (recorded j) (nothing_read m))
-    ∙ ap (λ (r : Result (List (List Placed)) LogFault). in_front [] r) (each_empty m (suc j) n)
+each_empty : (f : Format) (m j n : ℕ) → each_from (λ j content. recorded j (records_of f m content)) j (replicate n []) ≡ Ok (replicate n [])
+each_empty f m j zero = refl
+each_empty f m j (suc n) =
+    ap (λ (r : Result (List Placed) LogFault). r >>= λ y. in_front y (each_from (λ j content. recorded j (records_of f m content)) (suc j) (replicate n []))) (ap (recorded j) (nothing_read f m))
+    ∙ ap (λ (r : Result (List (List Placed)) LogFault). in_front [] r) (each_empty f m (suc j) n)
 
-streams_empty : (n : ℕ) → streams_of (replicate n []) ≡ Ok (replicate n [])
+streams_empty : (f : Format) (n : ℕ) → streams_of f (replicate n []) ≡ Ok (replicate n [])
 unfolding streams_of
-streams_empty n = each_empty (length (replicate n [])) 0 n
+streams_empty f n = each_empty f (length (replicate n [])) 0 n
 
 none_of : (j n : ℕ) → catalogue_from j (map catalogue_of (replicate n [])) ≡ Ok None
 none_of j zero = refl
@@ -53,14 +54,14 @@ none_there : (n : ℕ) → none_in (replicate n [])
 none_there zero = tt
 none_there (suc n) = (refl, none_there n)
 
-reads : (n : ℕ) → log_of_contents (replicate n []) ≡ Ok (fresh_log n)
-reads n = rw (streams_empty n, declared_empty n, no_epoch_fault (replicate n []) (no_marks n), lengths n) refl
+reads : (f : Format) (n : ℕ) → log_of_contents f (replicate n []) ≡ Ok (fresh_log n)
+reads f n = rw (streams_empty f n, declared_empty n, no_epoch_fault (replicate n []) (no_marks n), lengths n) refl
 
 pub fresh_sound : FreshSound
-fresh_sound n =
+fresh_sound f n =
     let nothing : taken (fresh_log n) ≡ [] = none_taken (judge_of (fresh_log n)) 0 (replicate n []) (none_there n) in
     record {
-      reads = reads n;
+      reads = reads f n;
       fit = λ m h. absurd (subst (λ (l : List Mark). Member m l) (no_marks n) h);
       redone = record {
         ordered = ([], record { each_once = subst (λ (l : List Kept). Reordered l []) (sym nothing) refl; orderly = tt });

@@ -84,5 +84,5 @@ module _ (f g : ℕ → List ℕ) where
       ∙ sym (ap (λ (o : Option (List Placed)). is_taken_in g o i) at ∙ ap (λ (o : Option Placed). is_taken_one (g (last_epoch 0 (take i ps))) o) there.1)
 
 pub old_judged : OldJudged
-old_judged before after old more log read fit now c j i ps at lt =
-    judged_at (judge_of log) (judge_of old) old.streams more log.streams j i ps c.streams (alike before after old more log (holds before old read) fit (holds after log now) c) at lt
+old_judged f before after old more log read fit now c j i ps at lt =
+    judged_at (judge_of log) (judge_of old) old.streams more log.streams j i ps c.streams (alike before after old more log (holds f before old read) fit (holds f after log now) c) at lt

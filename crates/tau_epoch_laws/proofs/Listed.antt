@@ -57,15 +57,15 @@ module _ (before after : List (List ℕ)) (old : Log) (more : List (List Placed)
   are_new r m = le-ltb r.place.start (slice_index old.elv r.place.stream) (starts_after before after old more log h g c r m)
 
 pub old_listed : OldListed
-old_listed before after old more log read fit now c =
-    let h = holds before old read in
-    let g = holds after log now in
+old_listed f before after old more log read fit now c =
+    let h = holds f before old read in
+    let g = holds f after log now in
     firsts (starts_in old) (judge_of log) (judge_of old) 0 old.streams more log.streams c.streams (alike before after old more log h fit g c)
     (are_old before after old more log h g c) (are_new before after old more log h g c)
 
 pub news_listed : NewsListed
-news_listed before after old more log read fit now c =
-    let h = holds before old read in
-    let g = holds after log now in
+news_listed f before after old more log read fit now c =
+    let h = holds f before old read in
+    let g = holds f after log now in
     seconds (λ r. not (starts_in old r)) (judge_of log) (judge_of old) 0 old.streams more log.streams c.streams (alike before after old more log h fit g c)
     (λ r m. ap not (are_old before after old more log h g c r m)) (λ r m. ap not (are_new before after old more log h g c r m))

@@ -4,6 +4,7 @@ use Rattle.std.specs.List.{filter}
 use Rattle.std.proofs.lemmas.Bool.{ltb-true}
 use Rattle.tau_base.specs.Database.{Db, empty_db}
 use Rattle.tau_base.specs.Vectors.{AtMost}
+use Rattle.tau_base.specs.declared.format.Format.{Format}
 use Rattle.tau_base.proofs.Lists.{map_append}
 use Rattle.tau_base.proofs.Vectors.{at_most_trans}
 use Rattle.tau_model.specs.History.{Member, Reordered}
@@ -47,10 +48,10 @@ pub none_taken : (judge : ℕ → List ℕ) (j : ℕ) (streams : List (List Plac
 none_taken judge j [] none = refl
 none_taken judge j (ps ∷ streams) none = ap (λ (l : List Placed). taken_in judge j 0 l ++ taken_from judge (suc j) streams) none.0 ∙ none_taken judge (suc j) streams none.1
 
-module _ (before after : List (List ℕ)) (old : Log) (more : List (List Placed)) (log : Log) (base : Db) (sound : IsSound before old base) (read : Holds after log) (c : Continues old more log)
+module _ (format : Format) (before after : List (List ℕ)) (old : Log) (more : List (List Placed)) (log : Log) (base : Db) (sound : IsSound format before old base) (read : Holds after log) (c : Continues old more log)
     (both : Reordered (taken old ++ news old more log) (taken log)) where
   held : Holds before old
-  held = holds before old sound.reads
+  held = holds format before old sound.reads
 
   -- the new log redoes what the old one took to the same database
   old_redone : (order : List Kept) → IsOrderOf (taken old) order → redo_in log order empty_db ≡ base
@@ -126,15 +127,15 @@ module _ (before after : List (List ℕ)) (old : Log) (more : List (List Placed)
     }
 
 pub redone_after : RedoneAfter
-redone_after before after old more log base base' sound now c =
-    redone_news before after old more log base sound (holds after log now.reads) c (old_taken before after old more log sound.reads sound.fit now.reads c) base' now.redone
+redone_after f before after old more log base base' sound now c =
+    redone_news f before after old more log base sound (holds f after log now.reads) c (old_taken f before after old more log sound.reads sound.fit now.reads c) base' now.redone
 
 pub stays_sound : StaysSound
-stays_sound before after old more log base base' sound reads c fit floor each = record {
+stays_sound f before after old more log base base' sound reads c fit floor each = record {
   reads = reads;
   fit = λ m h. elim (mark_in old.streams more log.streams c.streams m h) [
     | inl p ↦ at_most_trans m.lv old.elv log.elv (sound.fit m p) c.longer
     | inr p ↦ fit m p
   ];
-  redone = all_redone before after old more log base sound (holds after log reads) c (old_taken before after old more log sound.reads sound.fit reads c) base' floor each;
+  redone = all_redone f before after old more log base sound (holds f after log reads) c (old_taken f before after old more log sound.reads sound.fit reads c) base' floor each;
 }

@@ -93,8 +93,8 @@ alike before after old more log h fit g c = elim (none_or_some old.streams) [
 ]
 
 pub old_taken : OldTaken
-old_taken before after old more log read fit now c =
-    parted (judge_of log) (judge_of old) 0 old.streams more log.streams c.streams (alike before after old more log (holds before old read) fit (holds after log now) c)
+old_taken f before after old more log read fit now c =
+    parted (judge_of log) (judge_of old) 0 old.streams more log.streams c.streams (alike before after old more log (holds f before old read) fit (holds f after log now) c)
 
 -- ---- the deps of what is taken
 

@@ -2,6 +2,7 @@
 use Rattle.std.specs.Prelude.{ℕ, ◌≡◌, List, [], map, length, replicate, Result, Ok}
 use Rattle.tau_base.specs.Database.{Db, empty_db}
 use Rattle.tau_base.specs.Vectors.{AtMost}
+use Rattle.tau_base.specs.declared.format.Format.{Format}
 use Rattle.tau_model.specs.History.{Member, Reordered}
 use Rattle.tau_model.specs.Logged.{Orderly}
 use Rattle.tau_model.specs.Redo.{redo_contents}
@@ -12,9 +13,9 @@ use Rattle.tau_scan.specs.Reading.{◌>>=◌, unless, none_declared, streams_of,
 use Rattle.tau_scan.specs.Epochs.{marks_of}
 use Rattle.tau_scan.specs.Taken.{Kept, taken}
 
--- the log of these contents, one for each stream, or the first cause why they hold none
-abbrev pub log_of_contents : List (List ℕ) → Result Log LogFault
-log_of_contents contents = streams_of contents >>= λ streams. declared_in streams >>= λ declarations.
+-- the log of these contents, one for each stream, in a format, or the first cause why they hold none
+abbrev pub log_of_contents : Format → List (List ℕ) → Result Log LogFault
+log_of_contents f contents = streams_of f contents >>= λ streams. declared_in streams >>= λ declarations.
     unless (epoch_fault streams) (record { elv = map length contents; declarations = declarations; streams = streams })
 
 -- the log of n streams without a record
@@ -39,9 +40,9 @@ pub record Redoes (log : Log) (records : List Kept) (first second : Db) : Type 0
   pub ordered : (order : List Kept) × IsOrderOf records order
   pub alike : (order : List Kept) → IsOrderOf records order → redo_in log order first ≡ second
 
--- The contents hold the log, none of its epochs asks for more than they have, and what it takes redoes to this database,
+-- The contents hold the log in a format, none of its epochs asks for more than they have, and what it takes redoes to this database,
 -- in any orderly order.
-pub record IsSound (contents : List (List ℕ)) (log : Log) (base : Db) : Type 0 where
-  pub reads : log_of_contents contents ≡ Ok log
+pub record IsSound (f : Format) (contents : List (List ℕ)) (log : Log) (base : Db) : Type 0 where
+  pub reads : log_of_contents f contents ≡ Ok log
   pub fit : MarksFit log
   pub redone : Redoes log (taken log) empty_db base

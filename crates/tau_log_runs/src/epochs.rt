@@ -106,7 +106,7 @@ fn read(alloc: Global, first: &[u8], second: &[u8]) -> Result<Result<Log, ScanRe
         MemDisk::of_image(alloc, first)?,
         MemDisk::of_image(alloc, second)?,
     ]?;
-    Ok(scan(alloc, disks.as_mut_slice()))
+    Ok(scan(alloc, disks.as_mut_slice(), None))
 }
 
 // The log of these images.
@@ -143,6 +143,8 @@ fn a_record_that_was_left_out_stays_so(rt: HostRuntime) -> Result<(), Fail> {
     assert!(rt; log.elv.as_slice() == [94u64, 86].as_slice());
     takes(&rt, &log, 0, &[false, false, true]);
     takes(&rt, &log, 1, &[false, false, false]);
+    let text = recover_text(rt.alloc(), &log, &Tables::of(Vec::new(rt.alloc())))?;
+    assert!(rt; text.as_slice() == b"elv 94,86\ntaken 0 38 1\nend 0\n".as_slice());
     Ok(())
 }
 
@@ -188,7 +190,7 @@ fn pools_hold_what_is_taken(rt: HostRuntime) -> Result<(), Fail> {
         MemDisk::of_image(alloc, &FIRST_AGAIN)?,
         MemDisk::of_image(alloc, &SECOND_AGAIN)?,
     ]?;
-    match scan(alloc, disks.as_mut_slice()) {
+    match scan(alloc, disks.as_mut_slice(), None) {
         Ok(log) => {
             let pools = Pools::new(alloc, &log)?;
             assert!(rt; pools.rlv().as_slice() == [38u64, 111].as_slice());
@@ -233,7 +235,7 @@ fn the_lowest_stream_with_the_epoch_is_named(rt: HostRuntime) -> Result<(), Fail
         MemDisk::of_image(alloc, &THREE_HIGH)?,
         MemDisk::of_image(alloc, &THREE_OTHER)?,
     ]?;
-    let found = fault_of(scan(alloc, disks.as_mut_slice()));
+    let found = fault_of(scan(alloc, disks.as_mut_slice(), None));
     let number = u32::MAX;
     assert_eq!(rt; found, Some((2, LogCause::Epoch { with: 1, number })));
     Ok(())

@@ -2,6 +2,10 @@
 #![tactic(auto)]
 
 #[cfg(test)]
+mod contents;
+#[cfg(test)]
+mod edges;
+#[cfg(test)]
 mod epochs;
 #[cfg(test)]
 mod pool;
@@ -9,3 +13,5 @@ mod pool;
 mod report;
 #[cfg(test)]
 mod scan;
+#[cfg(test)]
+mod wide;

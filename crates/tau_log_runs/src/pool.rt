@@ -48,7 +48,7 @@ fn log_of(alloc: Global, first: &[u8], second: &[u8]) -> Result<Log, Fail>
         MemDisk::of_image(alloc, first)?,
         MemDisk::of_image(alloc, second)?,
     ]?;
-    match scan(alloc, disks.as_mut_slice()) {
+    match scan(alloc, disks.as_mut_slice(), None) {
         Ok(log) => Ok(log),
         Err(_) => Err(Fail::from("no log")),
     }

@@ -227,7 +227,10 @@ fn acknowledgements(rt: HostRuntime) -> Result<(), Fail> {
     acknowledges(&rt, &mut line, 1, &[0], b"ack 1 0\n")?;
     let far = [0, 4611686018427387903];
     let wanted = b"ack 200000 0,4611686018427387903\n";
-    acknowledges(&rt, &mut line, 200000, &far, wanted)
+    acknowledges(&rt, &mut line, 200000, &far, wanted)?;
+    let many =
+        b"ack 7 13,13,13,13,13,13,13,13,13,13,13,13,13,13,13,13,13,13,13,13,13,13,13,13,13,13,13,13,13,13,13,13\n";
+    acknowledges(&rt, &mut line, 7, &[13; 32], many)
 }
 
 // the catalogue of table a

@@ -136,7 +136,7 @@ static NOT_CANONICAL: [u8; 36] = [
 // The log of a stream of one with this image, or the first cause.
 fn read_one(alloc: Global, image: &[u8]) -> Result<Result<Log, ScanRefusal>, Fail> {
     let mut disks = vec![in alloc; MemDisk::of_image(alloc, image)?]?;
-    Ok(scan(alloc, disks.as_mut_slice()))
+    Ok(scan(alloc, disks.as_mut_slice(), None))
 }
 
 // The log of two streams with these images, or the first cause.
@@ -145,7 +145,7 @@ fn read_two(alloc: Global, first: &[u8], second: &[u8]) -> Result<Result<Log, Sc
         MemDisk::of_image(alloc, first)?,
         MemDisk::of_image(alloc, second)?,
     ]?;
-    Ok(scan(alloc, disks.as_mut_slice()))
+    Ok(scan(alloc, disks.as_mut_slice(), None))
 }
 
 // The log of three streams, of which the first has this image and the others hold nothing, or the first cause.
@@ -155,7 +155,7 @@ fn read_first_of_three(alloc: Global, first: &[u8]) -> Result<Result<Log, ScanRe
         MemDisk::of_image(alloc, b"")?,
         MemDisk::of_image(alloc, b"")?,
     ]?;
-    Ok(scan(alloc, disks.as_mut_slice()))
+    Ok(scan(alloc, disks.as_mut_slice(), None))
 }
 
 // The stream and the cause, where there is no log.
@@ -450,7 +450,7 @@ fn disks_are_read_before_all(rt: HostRuntime) -> Result<(), Fail> {
         MemDisk::new(alloc, &[2])?,
         MemDisk::new(alloc, &[1])?,
     ]?;
-    assert_eq!(rt; failed_of(scan(alloc, disks.as_mut_slice())), 1);
+    assert_eq!(rt; failed_of(scan(alloc, disks.as_mut_slice(), None)), 1);
     Ok(())
 }
 

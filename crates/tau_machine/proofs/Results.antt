@@ -8,7 +8,7 @@ use Rattle.tau_base.specs.declared.value.Key.{Key}
 use Rattle.tau_base.specs.declared.value.Mode.{Mode}
 use Rattle.tau_base.specs.declared.value.Mode.TheVariants.{Write}
 use Rattle.tau_base.specs.declared.value.LogMode.{LogMode}
-use Rattle.tau_base.specs.declared.value.LogMode.TheVariants.{Values, Commands}
+use Rattle.tau_base.specs.declared.value.LogMode.TheVariants.{Values, Commands, WideValues, WideCommands}
 use Rattle.tau_base.specs.Database.{Db, written}
 use Rattle.tau_base.specs.Vectors.{AtMost, covers}
 use Rattle.tau_base.proofs.Vectors.{at_most_trans, covers_at_most, at_most_covers}
@@ -65,6 +65,8 @@ replies_trace meaning (c ∷ cs) db = ap (λ (l : List Reply). (meaning c db).re
 content_redone : (procs : List Proc) (mode : LogMode) (t : Act Txn) (db : Db) → means procs t.call db ≡ t.effect → redone procs (content_of mode t) db ≡ written t.effect.writes db
 content_redone procs Values t db is = refl
 content_redone procs Commands t db is = ap (λ (e : Effect). written e.writes db) is
+content_redone procs WideValues t db is = refl
+content_redone procs WideCommands t db is = ap (λ (e : Effect). written e.writes db) is
 
 contents_redone : (procs : List Proc) (mode : Act Txn → LogMode) (ts : List (Act Txn)) (db : Db) → Consistent (means procs) ts db →
     redo_contents procs (map (λ t. content_of (mode t) t) ts) db ≡ redo ts db

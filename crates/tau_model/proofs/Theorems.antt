@@ -3,7 +3,7 @@ use Rattle.std.proofs.Common.{ℕ, ◌≡◌, List, [], ◌∷◌, map, length, 
 use Rattle.std.specs.Prelude.{slice_index_or}
 use Rattle.std.specs.List.{filter}
 use Rattle.tau_base.specs.declared.value.LogMode.{LogMode}
-use Rattle.tau_base.specs.declared.value.LogMode.TheVariants.{Values, Commands}
+use Rattle.tau_base.specs.declared.value.LogMode.TheVariants.{Values, Commands, WideValues, WideCommands}
 use Rattle.tau_base.specs.Database.{Db, written}
 use Rattle.tau_proc.specs.declared.proc.Proc.{Proc}
 use Rattle.tau_proc.specs.Effect.{Effect, Sound}
@@ -41,6 +41,8 @@ content_redone : (procs : List Proc) (mode : LogMode) (x : Act Numbered) (db : D
     redone procs (content mode x) db ≡ written x.effect.writes db
 content_redone procs Values x db is = refl
 content_redone procs Commands x db is = ap (λ (e : Effect). written e.writes db) is
+content_redone procs WideValues x db is = refl
+content_redone procs WideCommands x db is = ap (λ (e : Effect). written e.writes db) is
 
 contents_redone : (procs : List Proc) (mode : Act Numbered → LogMode) (xs : List (Act Numbered)) (db : Db) → Consistent (means procs) xs db →
     redo_contents procs (map (λ x. content (mode x) x) xs) db ≡ redo xs db

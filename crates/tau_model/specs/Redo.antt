@@ -1,10 +1,10 @@
 -- Redoing the records of a log.
-use Rattle.std.specs.Prelude.{List, [], ◌∷◌}
+use Rattle.std.specs.Prelude.{List, [], ◌∷◌, if◌then◌else◌}
 use Rattle.tau_base.specs.declared.value.Key.{Key}
 use Rattle.tau_base.specs.declared.value.Value.{Value}
 use Rattle.tau_base.specs.declared.value.Call.{Call}
 use Rattle.tau_base.specs.declared.value.LogMode.{LogMode}
-use Rattle.tau_base.specs.declared.value.LogMode.TheVariants.{Values, Commands}
+use Rattle.tau_base.specs.Modes.{is_command}
 use Rattle.tau_base.specs.Database.{Db, written}
 use Rattle.tau_proc.specs.declared.proc.Proc.{Proc}
 use Rattle.tau_proc.specs.Meaning.{meaning}
@@ -27,5 +27,4 @@ redo_contents procs (r ∷ rs) db = redo_contents procs rs (redone procs r db)
 
 -- what the record of a call holds in this mode
 abbrev pub content : LogMode → Act Numbered → Content
-content Values x = Written x.effect.writes
-content Commands x = Command x.call.call
+content mode x = if is_command mode then Command x.call.call else Written x.effect.writes

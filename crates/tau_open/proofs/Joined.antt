@@ -5,6 +5,7 @@ use Rattle.std.proofs.lemmas.Bool.{cases_eq}
 use Rattle.std.proofs.lemmas.Bool.Decides.{nat_tests}
 use Rattle.std.proofs.lemmas.List.{take_at, reverse-reverse}
 use Rattle.std.proofs.lemmas.Option.{slice_get_within, slice_get-get_or}
+use Rattle.tau_base.specs.declared.format.Format.TheVariants.{One}
 use Rattle.tau_block.specs.Image.{HasContent}
 use Rattle.tau_disk.specs.declared.disk.Disk.{Ghosts}
 use Rattle.tau_disk.specs.Passing.{passes_weaker, passes_on, passes_none}
@@ -16,26 +17,26 @@ use Rattle.tau_open.specs.declared.refusal.OpenRefusal.TheVariants.{NoMemory, Fa
 use Rattle.tau_disk.specs.Used.{EachIn, OfDisk, AreEmpty, IsFirstLong, OnlyRead}
 use Rattle.tau_open.specs.Opening.{Begins, Asked, IsCreated, FailsCreated, IsOpened, FailsOpened, AreAsked, FailsAsking, FailsMaking, GivesUp, Refuses, AreOpened}
 use Rattle.tau_open.specs.Creating.{Creating, StopsCreating, Stops}
-use Rattle.tau_open.proofs.Places.{get_dropped, dropped_more, each_then, each_weaker}
+use Rattle.tau_open.proofs.Places.{get_dropped, dropped_more, each_then}
 use Rattle.tau_open.proofs.Calls.{went_on, went_broke}
 use Rattle.tau_base.proofs.Logic.{some_is}
 
 -- an unborn image has no content
-pub unborn_content : (n j : ℕ) (x : List ℕ) → length x ≤ 17 → HasContent n j [] x
+pub unborn_content : (n j : ℕ) (x : List ℕ) → length x ≤ 17 → HasContent One n j [] x
 unborn_content n j x short = let small : nat_le (length x) 17 ≡ true = grind (arith, nat_tests, short) in rw small refl
 
 module _ {D : Type 0} (G : Ghosts D) (n : ℕ) (content : List ℕ) where
   -- a disk that was at most read begins no stream
   pub read_begins : (j : ℕ) (d e : D) → OnlyRead G.tells G.seen G.may_leave G.moment G.may_leave_since d e → Begins G n content j d e
-  read_begins j d e read t unborn = passes_weaker G.moment G.may_leave_since d e (G.may_leave d) (IsOldOrNew n j [] content) read.moments (λ x left. inl (unborn_content n j x (unborn x left)))
+  read_begins j d e read t unborn = passes_weaker G.moment G.may_leave_since d e (G.may_leave d) (IsOldOrNew One n j [] content) read.moments (λ x left. inl (unborn_content n j x (unborn x left)))
 
   pub still_begins : (j : ℕ) (d : D) → Begins G n content j d d
-  still_begins j d t unborn = passes_none G.moment G.may_leave_since d (IsOldOrNew n j [] content)
+  still_begins j d t unborn = passes_none G.moment G.may_leave_since d (IsOldOrNew One n j [] content)
 
   begins_on : (j : ℕ) (d e f : D) → Asked G d e → Begins G n content j e f → Begins G n content j d f
   begins_on j d e f asked begins t unborn =
       let kept : IsUnborn (G.may_leave e) = λ x left. unborn x (asked.read.no_more x left) in
-      passes_on G.moment G.may_leave_since d e f (IsOldOrNew n j [] content) (IsOldOrNew n j [] content) (IsOldOrNew n j [] content) (read_begins j d e asked.read t unborn) (begins t kept) (λ x is. is) (λ x is. is)
+      passes_on G.moment G.may_leave_since d e f (IsOldOrNew One n j [] content) (IsOldOrNew One n j [] content) (IsOldOrNew One n j [] content) (read_begins j d e asked.read t unborn) (begins t kept) (λ x is. is) (λ x is. is)
 
   pub asked_created : (j : ℕ) (d e f : D) → Asked G d e → IsCreated G n content j e f → IsOpened G n content j d f
   asked_created j d e f asked created = record { went = went_on G 1 6 d e f asked.went created.went; begins = begins_on j d e f asked created.begins }

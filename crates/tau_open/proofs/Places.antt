@@ -4,7 +4,7 @@ use Rattle.std.specs.Prelude.{Some, slice_get}
 use Rattle.std.proofs.Math.ListN.{set}
 use Rattle.std.proofs.lemmas.Bool.{cases_eq}
 use Rattle.std.proofs.lemmas.List.{drop-drop, drop-set-lt}
-use Rattle.tau_disk.specs.Used.{EachIn, EachUsed, OfDisk}
+use Rattle.tau_disk.specs.Used.{EachIn, OfDisk}
 use Rattle.tau_base.proofs.Logic.{some_is}
 
 module _ {D : Type 0} where

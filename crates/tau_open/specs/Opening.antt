@@ -1,5 +1,6 @@
 -- What an opening makes of the disks, stream by stream, and which calls of each disk it makes.
 use Rattle.std.specs.Prelude.{ℕ, ◌+◌, ◌<◌, ◌≤◌, ◌⊎◌, ◌==◌, if◌then◌else◌, false, ◌≡◌, List, [], length, map, drop, slice_get, Some, Option, None, Result, Ok, Err}
+use Rattle.tau_base.specs.declared.format.Format.TheVariants.{One}
 use Rattle.tau_disk.specs.declared.disk.Disk.{Ghosts}
 use Rattle.tau_disk.specs.Disk.{Rose, Passes}
 use Rattle.tau_disk.specs.Plan.{MadeAll, MadeSome}
@@ -27,7 +28,7 @@ module _ {D : Type 0} (G : Ghosts D) where
 
   -- at each moment a stop leaves no content or the whole of this one, where the disk was unborn
   abbrev pub Begins : ℕ → List ℕ → ℕ → D → D → Type 0
-  Begins n content j d e = G.tells → IsUnborn (G.may_leave d) → Passes G.moment G.may_leave_since d e (IsOldOrNew n j [] content)
+  Begins n content j d e = G.tells → IsUnborn (G.may_leave d) → Passes G.moment G.may_leave_since d e (IsOldOrNew One n j [] content)
 
   -- the length of the disk was asked
   pub record Asked (d e : D) : Type 0 where
@@ -98,7 +99,7 @@ module _ {D : Type 0} (G : Ghosts D) where
 
 -- the writer of stream j of n has this content, all of it durable, and nothing was added
 pub record IsBegun {D : Type 0} {G : Ghosts D} (n : ℕ) (content : List ℕ) (j : ℕ) (writer : Writer D G) : Type 0 where
-  pub ready : G.tells → IsReady n j writer content
+  pub ready : G.tells → IsReady One n j writer content
   pub durable : durable_of writer ≡ length content
   pub left : left_of writer ≡ []
   pub added : added_of writer ≡ 0

@@ -1,6 +1,8 @@
 //! The streams are made, the lowest first.
 ghost use Rattle.std.specs.Prelude.{◌≡◌, ◌<◌, ◌≤◌, ◌+◌, ◌++◌, [], length, map, reverse, vec_len, vec_capacity, slice_get, Some, OnOk, IfErr, OnErr};
-ghost use Rattle.tau_base.specs.declared.limits.TheConstants.{MAX_CATALOGUE, MAX_STREAMS};
+ghost use Rattle.tau_base.specs.declared.format.Format.TheVariants.{One};
+ghost use Rattle.tau_base.specs.declared.limits.TheConstants.{MAX_CATALOGUE};
+ghost use Rattle.tau_base.specs.Modes.{most_streams};
 ghost use Rattle.tau_stream.specs.Stream.{catalogue_record};
 ghost use Rattle.tau_stream.specs.Writer.{disk_of};
 ghost use Rattle.tau_disk.specs.Used.{AreEmpty};
@@ -20,7 +22,7 @@ pub fn create_streams<D: Disk>(
     n: u8,
     catalogue: &[u8],
 ) -> Result<(), OpenRefusal>
-    requires streams { n ≤ MAX_STREAMS }
+    requires streams { n ≤ most_streams One }
     requires disks { n ≤ vec_len stack.old }
     requires none { writers.old.items ≡ [] }
     requires room { n ≤ vec_capacity writers.old }
@@ -47,7 +49,7 @@ fn create_next<D: Disk>(
     j: u8,
     catalogue: &[u8],
 ) -> Result<(), OpenRefusal>
-    requires streams { n ≤ MAX_STREAMS }
+    requires streams { n ≤ most_streams One }
     requires stream { j < n }
     requires some { 0 < vec_len stack.old }
     requires room { vec_len writers.old < vec_capacity writers.old }

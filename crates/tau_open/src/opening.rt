@@ -1,6 +1,8 @@
 //! A run opens its streams.
 ghost use Rattle.std.specs.Prelude.{◌≡◌, ◌<◌, ◌≤◌, ◌+◌, ℕ, [], length, drop, vec_len, vec_capacity, OnErr, IfOk, IfErr, Err};
-ghost use Rattle.tau_base.specs.declared.limits.TheConstants.{MAX_CATALOGUE, MAX_STREAMS};
+ghost use Rattle.tau_base.specs.declared.format.Format.TheVariants.{One};
+ghost use Rattle.tau_base.specs.declared.limits.TheConstants.{MAX_CATALOGUE};
+ghost use Rattle.tau_base.specs.Modes.{most_streams};
 ghost use Rattle.tau_stream.specs.Stream.{catalogue_record};
 ghost use Rattle.tau_disk.specs.Used.{EachIn, EachUsed, RoseAt, IsFirstLong, OnlyRead, IsFirstStopped, Made};
 ghost use Rattle.tau_open.specs.Outside.{calls_to_open};
@@ -23,7 +25,7 @@ pub fn open_streams<D: Disk>(
     n: u8,
     catalogue: &[u8],
 ) -> Result<Vec<Writer<D>>, OpenRefusal>
-    requires streams { n ≤ MAX_STREAMS }
+    requires streams { n ≤ most_streams One }
     requires disks { n ≤ vec_len disks.old }
     requires text { length catalogue.now ≤ MAX_CATALOGUE }
 
@@ -64,7 +66,7 @@ fn open_into<D: Disk>(
     n: u8,
     catalogue: &[u8],
 ) -> Result<Vec<Writer<D>>, OpenRefusal>
-    requires streams { n ≤ MAX_STREAMS }
+    requires streams { n ≤ most_streams One }
     requires disks { n ≤ vec_len disks.old }
     requires none { writers.items ≡ [] }
     requires room { n ≤ vec_capacity writers }

@@ -1,7 +1,7 @@
 -- Pieces in order.
-use Rattle.std.proofs.Common.{ℕ, zero, suc, ◌+◌, ◌≤◌, ◌<◌, ◌≡◌, true, false, List, [], ◌∷◌, ◌++◌, length, arith, refl, ap, subst, ◌∙◌, inl, inr, eqb-true, eq-eqb, leb-true, le-leb, length-append}
+use Rattle.std.proofs.Common.{ℕ, zero, suc, ◌+◌, ◌≤◌, ◌<◌, ◌≡◌, true, List, [], ◌∷◌, ◌++◌, length, arith, refl, ap, subst, ◌∙◌, inl, inr, eqb-true, eq-eqb, leb-true, le-leb, length-append}
 use Rattle.std.specs.Prelude.{Some, None, slice_get, ◌==◌, ◌⊎◌, nat_le}
-use Rattle.std.proofs.lemmas.Bool.{cases_Bool, and_parts, and_from, both_ways}
+use Rattle.std.proofs.lemmas.Bool.{cases_Bool, and_parts, and_from}
 use Rattle.tau_base.specs.declared.limits.TheConstants.{MAX_LSN, MAX_BODY}
 use Rattle.tau_outbox.specs.declared.Piece.{Piece}
 use Rattle.tau_outbox.specs.Pieces.{past_of, bytes_of, end_of, InOrder}

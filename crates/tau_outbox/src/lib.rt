@@ -26,6 +26,9 @@ pub struct Piece {
 pub struct Outbox {
     pieces: VecDeque<Piece>,
     is_closed: bool,
+    /// Emptied byte vectors, whose memory is used again.
+    spares: Vec<Vec<u8>>,
+    alloc: Global,
 }
 
 impl Model for Outbox {
@@ -49,6 +52,8 @@ impl Outbox {
         Outbox {
             pieces: VecDeque::new(alloc),
             is_closed: false,
+            spares: Vec::new(alloc),
+            alloc,
         }
     }
 
@@ -60,6 +65,9 @@ impl Outbox {
         ensures closed { self.new.closed ≡ self.old.closed }
     {
         self.pieces.try_reserve(1)?;
+        // A piece that finds no room among the spares gives its memory back.
+        let room = self.pieces.capacity().saturating_sub(self.spares.len());
+        let _ = self.spares.try_reserve(room);
         Ok(())
     }
 
@@ -85,6 +93,23 @@ impl Outbox {
         });
     }
 
+    /// An empty vector for the bytes of a piece to come, with the memory of one that was gathered if there is any. It
+    /// takes no memory.
+    pub fn spare(&mut self) -> Vec<u8>
+        ensures empty { result.items ≡ [] }
+        ensures pieces { self.new.pieces ≡ self.old.pieces }
+        ensures room { self.new.room ≡ self.old.room }
+        ensures closed { self.new.closed ≡ self.old.closed }
+    {
+        match self.spares.pop() {
+            Some(mut bytes) => {
+                bytes.clear();
+                bytes
+            }
+            None => Vec::new(self.alloc),
+        }
+    }
+
     /// Moves front pieces to the body while each starts where the last one ended, the first at `next`, and the body
     /// stays within 1,048,576 bytes. Returns where the last one ends. After NoMemory nothing has changed.
     pub fn gather_into(&mut self, next: u64, body: &mut Vec<u8>) -> Result<u64, NoMemory>
@@ -101,7 +126,7 @@ impl Outbox {
         if body.try_reserve(size).is_err() {
             return Err(NoMemory);
         }
-        Ok(move_run(&mut self.pieces, next, body))
+        Ok(move_run(&mut self.pieces, next, body, &mut self.spares))
     }
 
     /// As `gather_into`, where the body has room for all that is moved. It takes no memory.
@@ -115,7 +140,7 @@ impl Outbox {
         if !begins_at(&self.pieces, next) {
             return next;
         }
-        move_run(&mut self.pieces, next, body)
+        move_run(&mut self.pieces, next, body, &mut self.spares)
     }
 
     /// Says that no piece comes any more.
@@ -166,7 +191,12 @@ fn run_size(pieces: &VecDeque<Piece>, next: u64, used: usize) -> usize
 }
 
 /// Moves the pieces that continue the body. It takes no memory.
-fn move_run(pieces: &mut VecDeque<Piece>, next: u64, body: &mut Vec<u8>) -> u64
+fn move_run(
+    pieces: &mut VecDeque<Piece>,
+    next: u64,
+    body: &mut Vec<u8>,
+    spares: &mut Vec<Vec<u8>>,
+) -> u64
     requires order { InOrder 0 pieces.old.items }
     requires room { vec_len body.old + length (bytes_of (run next (vec_len body.old) pieces.old.items)) ≤ vec_capacity body.old }
     ensures pieces { pieces.new.items ≡ left next (vec_len body.old) pieces.old.items }
@@ -179,8 +209,16 @@ fn move_run(pieces: &mut VecDeque<Piece>, next: u64, body: &mut Vec<u8>) -> u64
     while let Some(piece) = take_next(pieces, to, body.len()) {
         to += piece.bytes.len() as u64;
         let _ = body.extend_from_slice(piece.bytes.as_slice());
+        keep_spare(spares, piece);
     }
     to
+}
+
+/// Keeps the memory of a piece that was moved, if there is room.
+fn keep_spare(spares: &mut Vec<Vec<u8>>, piece: Piece) {
+    if spares.len() < spares.capacity() {
+        spares.push_reserved(piece.bytes.into_vec());
+    }
 }
 
 /// The front piece, where it continues a body of `used` bytes.

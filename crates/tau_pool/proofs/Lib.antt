@@ -7,4 +7,5 @@ pub mod Firsts
 pub mod Keeping
 pub mod Flights
 pub mod Waiting
+pub mod After
 pub mod Opening

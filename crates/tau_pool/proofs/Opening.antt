@@ -10,9 +10,10 @@ use Rattle.std.proofs.lemmas.Bool.Decides.{nat_tests}
 use Rattle.tau_base.specs.Vectors.{AtMost, covers}
 use Rattle.tau_model.specs.History.{Member}
 use Rattle.tau_model.specs.Reported.{put_in, ascending}
+use Rattle.tau_model.proofs.Logged.{member_filtered}
 use Rattle.tau_model.proofs.Sorting.{Rising, ascending_rising}
 use Rattle.tau_record.specs.declared.entry.Placed.{Placed}
-use Rattle.tau_record.specs.Format.{One}
+use Rattle.tau_base.specs.declared.format.Format.{Format}
 use Rattle.tau_record.specs.Record.{named, spelling, epoch_after}
 use Rattle.tau_record.specs.Content.{named_after, Reads}
 use Rattle.tau_record.proofs.ContentLaws.{spelling_long}
@@ -22,12 +23,13 @@ use Rattle.tau_scan.proofs.Known.{judged_low}
 use Rattle.tau_pool.specs.Item.{Item}
 use Rattle.tau_pool.specs.declared.item.Stage.TheVariants.{Waiting}
 use Rattle.tau_pool.specs.declared.waits.Wait.{Wait}
-use Rattle.tau_pool.specs.Items.{is_waiting, dep_of, item_as, item_of, with_item, items_in, items_from}
+use Rattle.tau_pool.specs.Items.{is_waiting, dep_of, item_as, item_of, with_item, items_in, items_from, item_after, items_after}
 use Rattle.tau_pool.specs.Passing.{wait_of, wait_at, waits_for, waits_at, Behind, Ordered, Rises}
 use Rattle.tau_pool.specs.Pooled.{waiting_in, flying_in}
 use Rattle.tau_pool.specs.Kept.{AreWithin, IsReached, AreQueued, IsKept, waits_in}
 use Rattle.tau_pool.proofs.Keeping.{waiting_flies}
 use Rattle.tau_pool.proofs.Gets.{get_member, member_either}
+use Rattle.tau_pool.proofs.After.{ordered_filter}
 use Rattle.tau_base.proofs.Logic.{some_is, zeros}
 
 pub record OfStream (elv : List ℕ) (j low high : ℕ) (x : Item) : Type 0 where
@@ -54,15 +56,15 @@ Streamed elv j low high xs = Ordered xs × ((x : Item) → Member x xs → OfStr
 abbrev pub IsLow : List ℕ → (ℕ → List ℕ) → Type 0
 IsLow elv judge = (k : ℕ) (dep : List ℕ) → covers (judge k) dep ≡ true → AtMost dep elv
 
-in_stream : (elv : List ℕ) (judge : ℕ → List ℕ) → IsLow elv judge → (j n at k : ℕ) (vectors : List (List ℕ)) (content : List ℕ) (i : ℕ) (ps : List Placed) → Reads One n at k vectors content ps →
+in_stream : (elv : List ℕ) (judge : ℕ → List ℕ) → IsLow elv judge → (f : Format) (j n at k : ℕ) (vectors : List (List ℕ)) (content : List ℕ) (i : ℕ) (ps : List Placed) → Reads f n at k vectors content ps →
     Streamed elv j at (at + length content) (items_in judge j k i ps)
-in_stream elv judge is_low j n at k vectors content i [] r = (tt, λ x m. absurd m)
-in_stream elv judge is_low j n at k vectors content i (p ∷ ps) r =
-    let text = spelling One vectors p.entry in
+in_stream elv judge is_low f j n at k vectors content i [] r = (tt, λ x m. absurd m)
+in_stream elv judge is_low f j n at k vectors content i (p ∷ ps) r =
+    let text = spelling f vectors p.entry in
     let rest : List ℕ = r.0 in
-    let long = spelling_long One vectors p.entry in
+    let long = spelling_long f vectors p.entry in
     let size : length content ≡ length text + length rest = ap (λ (xs : List ℕ). length xs) r.1.parts ∙ length-append text rest in
-    let more = in_stream elv judge is_low j n p.past (epoch_after k p.entry) (named_after vectors p.entry) rest (suc i) ps r.2 in
+    let more = in_stream elv judge is_low f j n p.past (epoch_after k p.entry) (named_after vectors p.entry) rest (suc i) ps r.2 in
     by_item (at + length content) p.past (omega (arith, size, r.1.ends)) (omega (arith, r.1.ends, r.1.starts, long)) (omega (arith, r.1.starts)) (omega (arith, size, r.1.ends, r.1.starts, long)) more (item_of (judge k) j i p) refl
   where
     by_item : (high past : ℕ) → past + length r.0 ≡ high → p.start < past → at ≤ p.start → p.start < high → Streamed elv j past (past + length r.0) (items_in judge j (epoch_after k p.entry) (suc i) ps) →
@@ -91,15 +93,15 @@ pub record OfLog (elv : List ℕ) (low high : ℕ) (x : Item) : Type 0 where
   pub taken : AtMost x.dep elv
   pub waits : is_waiting x.stage ≡ true
 
-pub of_streams : (elv : List ℕ) (judge : ℕ → List ℕ) → IsLow elv judge → (n j : ℕ) (contents : List (List ℕ)) (streams : List (List Placed)) → AllZip (IsReading n) contents streams →
+pub of_streams : (elv : List ℕ) (judge : ℕ → List ℕ) → IsLow elv judge → (f : Format) (n j : ℕ) (contents : List (List ℕ)) (streams : List (List Placed)) → AllZip (IsReading f n) contents streams →
     ((k : ℕ) → slice_index elv (j + k) ≡ slice_index (map (λ (c : List ℕ). length c) contents) k) →
     Ordered (items_from judge j streams) × ((x : Item) → Member x (items_from judge j streams) → OfLog elv j (j + length streams) x)
-of_streams elv judge is_low n j [] [] all ends = (tt, λ x m. absurd m)
-of_streams elv judge is_low n j [] (ps ∷ streams) all ends = absurd all
-of_streams elv judge is_low n j (c ∷ contents) [] all ends = absurd all
-of_streams elv judge is_low n j (c ∷ contents) (ps ∷ streams) all ends =
-    let here = in_stream elv judge is_low j n 0 0 (named n []) c 0 ps all.0.spelled in
-    let rest = of_streams elv judge is_low n (suc j) contents streams all.1 (λ k. ap (λ (q : ℕ). slice_index elv q) (omega arith) ∙ ends (suc k)) in
+of_streams elv judge is_low f n j [] [] all ends = (tt, λ x m. absurd m)
+of_streams elv judge is_low f n j [] (ps ∷ streams) all ends = absurd all
+of_streams elv judge is_low f n j (c ∷ contents) [] all ends = absurd all
+of_streams elv judge is_low f n j (c ∷ contents) (ps ∷ streams) all ends =
+    let here = in_stream elv judge is_low f j n 0 0 (named n []) c 0 ps all.0.spelled in
+    let rest = of_streams elv judge is_low f n (suc j) contents streams all.1 (λ k. ap (λ (q : ℕ). slice_index elv q) (omega arith) ∙ ends (suc k)) in
     let end : slice_index elv j ≡ length c = ap (λ (q : ℕ). slice_index elv q) (omega arith) ∙ ends 0 in (
       ordered_append (items_in judge j 0 0 ps) (items_from judge (suc j) streams) here.0 rest.0 (λ x y m t. let o = here.1 x m in let q = rest.1 y t in inl (omega (arith, o.stream, q.above))),
       λ x m. elim (member_either (items_in judge j 0 0 ps) (items_from judge (suc j) streams) x m) [
@@ -228,12 +230,19 @@ queued ends rlv items waits passed wide many none within each = record {
 
 pub streams_many : (log : Log) → IsLog log → length log.streams ≡ length log.elv
 streams_many log l =
-    let long = AllZip-long (IsReading (length l.contents)) l.contents log.streams l.read in
+    let long = AllZip-long (IsReading l.format (length l.contents)) l.contents log.streams l.read in
     omega (arith, long, ap (λ (xs : List ℕ). length xs) l.lengths, length-map l.contents (λ (c : List ℕ). length c))
 
 pub of_log : (log : Log) → IsLog log → Ordered (items_from (judge_of log) 0 log.streams) × ((x : Item) → Member x (items_from (judge_of log) 0 log.streams) → OfLog log.elv 0 (length log.elv) x)
 of_log log l =
-    let h = of_streams log.elv (judge_of log) (λ k dep covered. judged_low log.elv (marks_of log) k dep covered) (length l.contents) 0 l.contents log.streams l.read
+    let h = of_streams log.elv (judge_of log) (λ k dep covered. judged_low log.elv (marks_of log) k dep covered) l.format (length l.contents) 0 l.contents log.streams l.read
     (λ k. let at : 0 + k ≡ k = omega arith in ap (λ (n : ℕ). slice_index log.elv n) at ∙ ap (λ (xs : List ℕ). slice_index xs k) l.lengths) in
     let many : 0 + length log.streams ≡ length log.elv = omega (arith, streams_many log l) in
     (h.0, λ x m. subst (λ (n : ℕ). OfLog log.elv 0 n x) many (h.1 x m))
+
+-- and of those of its records that start at or after the place of their stream
+pub of_log_after : (from : List ℕ) (log : Log) → IsLog log → Ordered (items_after from (judge_of log) log.streams) × ((x : Item) → Member x (items_after from (judge_of log) log.streams) → OfLog log.elv 0 (length log.elv) x)
+of_log_after from log l =
+    let xs = items_from (judge_of log) 0 log.streams in
+    let o = of_log log l in
+    (ordered_filter (item_after from) xs o.0, λ x m. o.1 x (member_filtered (item_after from) x xs m).0)

@@ -1,5 +1,6 @@
 -- What the pools keep of the taken records.
-use Rattle.std.specs.Prelude.{ℕ, suc, Bool, true, false, List, [], ◌∷◌, ◌++◌, Option, Some, None, if◌then◌else◌}
+use Rattle.std.specs.Prelude.{ℕ, suc, Bool, true, false, nat_le, List, [], ◌∷◌, ◌++◌, slice_index, Option, Some, None, if◌then◌else◌}
+use Rattle.std.specs.List.{filter}
 use Rattle.tau_base.specs.Vectors.{covers}
 use Rattle.tau_record.specs.declared.entry.Entry.{Entry}
 use Rattle.tau_record.specs.declared.entry.Entry.TheVariants.{Written, Command, Anchor, Catalogue, Epoch}
@@ -58,3 +59,14 @@ items_in judge j k i (p ∷ ps) = with_item (item_of (judge k) j i p) (items_in 
 abbrev pub items_from : (ℕ → List ℕ) → ℕ → List (List Placed) → List Item
 items_from judge j [] = []
 items_from judge j (ps ∷ streams) = items_in judge j 0 0 ps ++ items_from judge (suc j) streams
+
+-- whether a record that starts here in this stream starts at or after what the vector has for the stream
+abbrev pub is_after : List ℕ → ℕ → ℕ → Bool
+is_after from j start = nat_le (slice_index from j) start
+
+abbrev pub item_after : List ℕ → Item → Bool
+item_after from x = is_after from x.stream x.start
+
+-- the taken records of all streams that do
+abbrev pub items_after : List ℕ → (ℕ → List ℕ) → List (List Placed) → List Item
+items_after from judge streams = filter (item_after from) (items_from judge 0 streams)

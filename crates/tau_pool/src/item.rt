@@ -1,8 +1,9 @@
 //! What the pools keep of a taken record.
 ghost use Rattle.std.specs.Prelude.{◌≡◌, ◌≤◌, ◌++◌, ◌∷◌, [], Some, None, length, IfOk, IfSome, IsNone, OnOk};
+ghost use Rattle.std.specs.List.{filter};
 ghost use Rattle.tau_base.specs.declared.limits.TheConstants.{MAX_STREAMS};
 ghost use Rattle.tau_scan.specs.Epochs.{vector_by};
-ghost use Rattle.tau_pool.specs.Items.{is_left, is_waiting, dep_of, with_item, item_of, items_in, items_from};
+ghost use Rattle.tau_pool.specs.Items.{is_left, is_waiting, dep_of, with_item, item_of, items_in, item_after, items_after};
 
 use crate::items::Items;
 use std::alloc::Global;
@@ -72,7 +73,7 @@ fn dep_of(entry: &Entry) -> Option<&[u64]>
 }
 
 /// Puts a record that is judged against this vector after the others, where it is taken.
-fn put_record(
+fn put_taken(
     items: &mut Items,
     lv: &Lv,
     stream: u8,
@@ -92,44 +93,84 @@ fn put_record(
     }
 }
 
-/// Puts the taken records of a stream after the others.
+/// The same, where it starts at or after the place of its stream.
+fn put_record(
+    items: &mut Items,
+    from: &Lv,
+    lv: &Lv,
+    stream: u8,
+    index: usize,
+    placed: &Placed,
+) -> Result<(), NoMemory>
+    ensures { OnOk result (items.new ≡ items.old ++ filter (item_after from.now) (with_item (item_of lv.now stream index placed.now) [])) }
+{
+    if placed.start < from.position(usize::from(stream)) {
+        return Ok(());
+    }
+    put_taken(items, lv, stream, index, placed)
+}
+
+/// Puts the taken records of a stream that start at or after its place after the others.
 fn put_stream(
     items: &mut Items,
+    from: &Lv,
     judge: &Judge,
     stream: u8,
     records: &[Placed],
 ) -> Result<(), NoMemory>
-    ensures { OnOk result (items.new ≡ items.old ++ items_in (vector_by judge.now) stream 0 0 records.now) }
+    ensures { OnOk result (items.new ≡ items.old ++ filter (item_after from.now) (items_in (vector_by judge.now) stream 0 0 records.now)) }
 {
     let mut lv = judge.vector(0);
     for (index, placed) in records.iter().enumerate() {
-        put_record(items, &lv, stream, index, placed)?;
+        put_record(items, from, &lv, stream, index, placed)?;
         judge.pass(&mut lv, &placed.entry);
     }
     Ok(())
 }
 
-/// How many records the streams have.
-fn records_in(streams: &[Listed<Placed>]) -> usize {
+/// How many records start at this place or after it.
+fn count_after(records: &[Placed], from: u64) -> usize {
     let mut count = 0usize;
-    for records in streams {
-        count = count.saturating_add(records.as_slice().len());
+    for placed in records {
+        if placed.start >= from {
+            count = count.saturating_add(1);
+        }
     }
     count
 }
 
-/// The taken records of all streams, none of them started.
+/// How many records of a stream there is room for: all, where the place is its beginning.
+fn room_of(records: &[Placed], from: u64) -> usize {
+    if from == 0 {
+        records.len()
+    } else {
+        count_after(records, from)
+    }
+}
+
+/// How many records of all streams there is room for.
+fn room_of_all(streams: &[Listed<Placed>], from: &Lv) -> usize {
+    let mut count = 0usize;
+    for (j, records) in streams.iter().enumerate() {
+        count = count.saturating_add(room_of(records.as_slice(), from.position(j)));
+    }
+    count
+}
+
+/// The taken records that start at or after the place of their stream, none of them started.
 pub(crate) fn items_of(
     alloc: Global,
+    from: &Lv,
     judge: &Judge,
     streams: &[Listed<Placed>],
 ) -> Result<Items, NoMemory>
     requires { length streams.now ≤ MAX_STREAMS }
-    ensures { IfOk result (λ items. items ≡ items_from (vector_by judge.now) 0 streams.now) }
+    ensures { IfOk result (λ items. items ≡ items_after from.now (vector_by judge.now) streams.now) }
 {
-    let mut items = Items::with_room(alloc, records_in(streams), judge.vector(0).width())?;
+    let room = room_of_all(streams, from);
+    let mut items = Items::with_room(alloc, room, judge.vector(0).width())?;
     for (j, records) in streams.iter().enumerate() {
-        put_stream(&mut items, judge, j as u8, records.as_slice())?;
+        put_stream(&mut items, from, judge, j as u8, records.as_slice())?;
     }
     Ok(items)
 }

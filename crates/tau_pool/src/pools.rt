@@ -4,7 +4,7 @@ ghost use Rattle.tau_scan.specs.Reading.{IsLog};
 ghost use Rattle.tau_scan.specs.Epochs.{judge_of};
 ghost use Rattle.tau_pool.specs.Item.{Item};
 ghost use Rattle.tau_pool.specs.declared.item.Job.{Job};
-ghost use Rattle.tau_pool.specs.Items.{is_left, items_from};
+ghost use Rattle.tau_pool.specs.Items.{is_left, items_from, items_after};
 ghost use Rattle.tau_pool.specs.Passing.{is_passed, is_ready};
 ghost use Rattle.tau_pool.specs.First.{first_from};
 ghost use Rattle.tau_pool.specs.Kept.{AreWithin, IsReached};
@@ -71,9 +71,19 @@ impl Pools {
         ensures ends { IfOk result (λ p. p.ends ≡ log.now.elv) }
         ensures recovered { IfOk result (λ p. IsRecovered p.ends p.rlv p.items) }
     {
+        Pools::behind(alloc, log, &Lv::zero(log.elv.width()))
+    }
+
+    /// The pools of the records of a log that start at or after the place of their stream, where no record is started.
+    pub fn behind(alloc: Global, log: &Log, from: &Lv) -> Result<Pools, NoMemory>
+        requires { IsLog log.now }
+        ensures items { IfOk result (λ p. p.items ≡ items_after from.now (judge_of log.now) log.now.streams) }
+        ensures ends { IfOk result (λ p. p.ends ≡ log.now.elv) }
+        ensures recovered { IfOk result (λ p. IsRecovered p.ends p.rlv p.items) }
+    {
         let n = log.elv.width();
         let judge = Judge::of(alloc, log)?;
-        let items = items_of(alloc, &judge, log.streams.as_slice())?;
+        let items = items_of(alloc, from, &judge, log.streams.as_slice())?;
         let (rlv, nexts) = reached_of(alloc, &log.elv, &items)?;
         let waiting = items.len();
         Ok(Pools {

@@ -7,7 +7,7 @@ use Rattle.std.proofs.lemmas.Nat.{be_bytes_2, be_bytes_4, be_bytes_8, from_be_by
 use Rattle.tau_record.specs.declared.fault.RecordCause.{RecordCause}
 use Rattle.tau_record.specs.declared.fault.RecordCause.TheVariants.{BadLength}
 use Rattle.tau_record.specs.Format.{Format, mask_width, most_streams}
-use Rattle.tau_record.specs.declared.format.Format.TheVariants.{One, Two}
+use Rattle.tau_base.specs.declared.format.Format.TheVariants.{One, Two}
 use Rattle.tau_record.specs.Field.{◌>>=◌, number_at}
 
 abbrev pub IsBytes : List ℕ → Type 0

@@ -8,7 +8,7 @@ use Rattle.tau_base.specs.declared.value.Key.{Key}
 use Rattle.tau_base.specs.declared.value.Value.{Value}
 use Rattle.tau_base.specs.declared.value.Value.TheVariants.{Absent, Int, Text}
 use Rattle.tau_record.specs.Format.{Format, mask_width, most_streams}
-use Rattle.tau_record.specs.declared.format.Format.TheVariants.{One, Two}
+use Rattle.tau_base.specs.declared.format.Format.TheVariants.{One, Two}
 use Rattle.tau_record.specs.Vector.{mask_of}
 use Rattle.tau_record.specs.Item.{value, FitsValue, write, FitsWrite}
 use Rattle.tau_record.specs.Record.{origin, base_of, body, AreVectors, FitsBody}
@@ -30,7 +30,7 @@ unfolding mask_width
 mask_len One m = omega arith
 mask_len Two m = omega arith
 
-streams_most : (f : Format) → most_streams f ≤ 32
+pub streams_most : (f : Format) → most_streams f ≤ 32
 streams_most One = omega arith
 streams_most Two = omega arith
 

@@ -11,7 +11,7 @@ use Rattle.tau_base.specs.declared.value.Call.{Call}
 use Rattle.tau_base.specs.declared.value.Key.{Key}
 use Rattle.tau_base.specs.declared.value.Value.{Value}
 use Rattle.tau_record.specs.declared.entry.Entry.TheVariants.{Written, Command, Anchor, Epoch}
-use Rattle.tau_record.specs.Format.{Format, One, mask_width}
+use Rattle.tau_record.specs.Format.{Format, mask_width}
 use Rattle.tau_record.specs.Vector.{ArePlaces, mask_of}
 use Rattle.tau_record.specs.Item.{value, FitsValue, write, FitsWrite}
 use Rattle.tau_record.specs.Record.{base_of, origin, framed, FitsOrigin, Spells}
@@ -87,9 +87,9 @@ lv_len : (lv : List ℕ) → length (flat_map (to_be_bytes w64) lv) ≡ 8 * leng
 lv_len [] = refl
 lv_len (part ∷ lv) = let more = lv_len lv in omega (arith, more)
 
-pub anchor_spells : (lv : List ℕ) (vectors : List (List ℕ)) (size : ℕ) (one two : List ℕ) → ArePlaces lv → size ≡ 8 * length lv
-    → one ≡ 3 ∷ to_be_bytes w32 (5 + size) → two ≡ one ++ flat_map (to_be_bytes w64) lv → Spells One (length lv) vectors false (Anchor lv) two
-anchor_spells lv vectors size one two places is a b = record {
+pub anchor_spells : (f : Format) (lv : List ℕ) (vectors : List (List ℕ)) (size : ℕ) (one two : List ℕ) → ArePlaces lv → size ≡ 8 * length lv
+    → one ≡ 3 ∷ to_be_bytes w32 (5 + size) → two ≡ one ++ flat_map (to_be_bytes w64) lv → Spells f (length lv) vectors false (Anchor lv) two
+anchor_spells f lv vectors size one two places is a b = record {
   fits = record { kind = refl; fields = (refl, places) };
   text = framed_is 3 size (flat_map (to_be_bytes w64) lv) one two (omega (arith, is, lv_len lv)) a b;
 }

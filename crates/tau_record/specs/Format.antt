@@ -1,8 +1,9 @@
 -- The formats of a log. They differ in the width of a mask.
 use Rattle.std.specs.Prelude.{ℕ}
 use Rattle.std.specs.Int.{Width, w16, w32}
-use Rattle.tau_record.specs.declared.format.Format as declared
-use Rattle.tau_record.specs.declared.format.Format.TheVariants as formats
+use Rattle.tau_base.specs.Modes as modes
+use Rattle.tau_base.specs.declared.format.Format as declared
+use Rattle.tau_base.specs.declared.format.Format.TheVariants as formats
 
 abbrev pub Format : Type 0
 Format = declared.Format
@@ -19,5 +20,4 @@ mask_width formats.Two = w32
 
 -- the most streams of a format, which are the bits of a mask
 abbrev pub most_streams : Format → ℕ
-most_streams formats.One = 16
-most_streams formats.Two = 32
+most_streams f = modes.most_streams f

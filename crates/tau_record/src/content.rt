@@ -12,12 +12,11 @@ ghost use Rattle.tau_record.specs.declared.fault.RecordRefusal.TheVariants.{Bad}
 use crate::dep::KeptLv;
 use crate::entry::{Entry, Placed};
 use crate::fault::{FieldError, RecordCause, RecordRefusal, refusal_at};
-use crate::format::Format;
 use crate::kind;
 use crate::record::{command_of, epoch_of, frame_of, is_whole, lv_of, written_of};
 use arrayvec::ArrayVec;
 use std::alloc::Global;
-use tau_base::{Call, KeptCall, Key, Listed, Lv, MAX_CATALOGUE, Value};
+use tau_base::{Call, Format, KeptCall, Key, Listed, Lv, MAX_CATALOGUE, Value};
 
 /// Where the parts of a record are read that are too long to be kept in the record itself: one place for all records.
 #[derive(Drop)]
@@ -299,7 +298,6 @@ pub fn decode_as(
 ) -> Result<Vec<Placed>, RecordRefusal>
     requires low { 1 ≤ n }
     requires high { n ≤ most_streams format }
-    requires streams { n ≤ MAX_STREAMS }
     // What is read is spelled so.
     ensures found { IfOk result (λ v. IsContent format n content.now v.items) }
     // What is spelled so is read.

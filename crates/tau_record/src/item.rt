@@ -299,8 +299,53 @@ fn put_write(out: &mut Vec<u8>, w: &(Key, Value)) -> Result<(), AllocError>
     ensures bytes { OnOk result (out.new.items ≡ out.old.items ++ write w.now) }
     ensures fits { OnOk result (FitsWrite w.now) }
 {
-    put_key(out, w.0)?;
-    put_value(out, &w.1)
+    put_pair(out, w.0, &w.1)
+}
+
+fn put_pair(out: &mut Vec<u8>, k: Key, v: &Value) -> Result<(), AllocError>
+    ensures bytes { OnOk result (out.new.items ≡ out.old.items ++ write (k, v.now)) }
+    ensures fits { OnOk result (FitsWrite (k, v.now)) }
+{
+    match v {
+        Value::Int(number) => {
+            out.extend_from_slice(&number_write(k, *number))?;
+            Ok(())
+        }
+        _ => {
+            put_key(out, k)?;
+            put_value(out, v)
+        }
+    }
+}
+
+/// The write of a whole number, as one piece.
+fn number_write(key: Key, number: i64) -> [u8; 19]
+    ensures { result ≡ write (key, Int number) }
+{
+    let [t0, t1] = key.table.to_be_bytes();
+    let [r0, r1, r2, r3, r4, r5, r6, r7] = key.row.to_be_bytes();
+    let [n0, n1, n2, n3, n4, n5, n6, n7] = number.to_be_bytes();
+    [
+        t0,
+        t1,
+        r0,
+        r1,
+        r2,
+        r3,
+        r4,
+        r5,
+        r6,
+        r7,
+        kind::INT,
+        n0,
+        n1,
+        n2,
+        n3,
+        n4,
+        n5,
+        n6,
+        n7,
+    ]
 }
 
 pub(crate) fn put_writes(out: &mut Vec<u8>, writes: &[(Key, Value)]) -> Result<(), AllocError>

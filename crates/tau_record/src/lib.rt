@@ -7,7 +7,6 @@ mod encode;
 mod entry;
 mod fault;
 mod field;
-mod format;
 mod item;
 mod kind;
 mod laws;
@@ -18,16 +17,17 @@ mod writes;
 pub use content::{decode, decode_as};
 pub use dep::KeptLv;
 pub use encode::{
-    encode_anchor, encode_catalogue, encode_command, encode_command_wide, encode_epoch,
-    encode_written, encode_written_wide,
+    encode_anchor, encode_catalogue, encode_command, encode_command_into, encode_command_wide,
+    encode_command_wide_into, encode_epoch, encode_written, encode_written_into,
+    encode_written_wide, encode_written_wide_into,
 };
 pub use entry::{Entry, Placed};
 pub use fault::{RecordCause, RecordFault, RecordRefusal};
-pub use format::Format;
 pub use laws::{
     anchor_vectors, anchors_appended, appended_content, appended_record, decoded_vector,
     empty_content, epochs_appended, epochs_rise, first_epoch, first_record, named_anchors,
     one_reading, one_spelling, read_again, record_in_place,
 };
+pub use tau_base::Format;
 pub use vector::{compress, compress_wide, raise};
 pub use writes::{KeptWrites, LentWrites};

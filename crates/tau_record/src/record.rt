@@ -9,13 +9,12 @@ ghost use Rattle.tau_record.specs.declared.entry.Entry.TheVariants.{Written, Com
 use crate::dep::KeptLv;
 use crate::fault::{FieldError, RecordCause};
 use crate::field::{byte_of, u16_of, u32_of, u64_of};
-use crate::format::Format;
 use crate::item::{args_of, kept_writes_of};
 use crate::kind;
 use crate::vector::vector_of;
 use crate::writes::KeptWrites;
 use std::alloc::Global;
-use tau_base::{Call, Key, Lv, MAX_ARGS, MAX_LSN, MAX_WRITES, Value};
+use tau_base::{Call, Format, Key, Lv, MAX_ARGS, MAX_LSN, MAX_WRITES, Value};
 
 /// The number of a record's call, that of its anchor, and its vector, which may be read by way of `dep`.
 #[inline(always)]

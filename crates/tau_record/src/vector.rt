@@ -10,9 +10,8 @@ ghost use Rattle.tau_record.specs.Vector.{ArePlaces, mask_of, above, vector, par
 use crate::dep::KeptLv;
 use crate::fault::{FieldError, RecordCause};
 use crate::field::{u16_of, u32_of, u64_of};
-use crate::format::Format;
 use std::alloc::{AllocError, Global};
-use tau_base::{Lv, MAX_LSN};
+use tau_base::{Format, Lv, MAX_LSN};
 
 // ---- reading
 
@@ -38,7 +37,7 @@ fn part_of(low: u64, bit: u32, bytes: &[u8]) -> Result<(u64, &[u8]), FieldError>
 fn parts_of<'a>(base: &Lv, mask: u32, bytes: &'a [u8], dep: &mut Lv) -> Result<&'a [u8], FieldError>
     ensures { Gives (λ x. (dep.new, x.now)) result (parts_at base.now mask bytes.now) }
 {
-    *dep = *base;
+    dep.copy_from(base);
     let mut left = mask;
     let mut rest = bytes;
     for j in 0..base.width() {

@@ -2,6 +2,7 @@ pub mod Lists
 pub mod Starting
 pub mod RecoveryGoesOn
 pub mod Hands
+pub mod Begins
 pub mod Following
 pub mod Settled
 pub mod Tangles

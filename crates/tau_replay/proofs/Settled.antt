@@ -18,6 +18,7 @@ use Rattle.tau_pool.specs.Pooled.{Pooled, IsRecovered, IsStarted, IsFlying, IsFi
 use Rattle.tau_pool.proofs.Gets.{get_member}
 use Rattle.tau_replay.specs.declared.turns.Replay.{Replay}
 use Rattle.tau_replay.specs.declared.view.TheConstants.{HANDS}
+use Rattle.tau_replay.specs.Course.{whole}
 use Rattle.tau_replay.specs.Recovering.{IsGoing, IsHeld, AreHands}
 use Rattle.tau_replay.specs.Followed.{HasFollowed}
 use Rattle.tau_replay.specs.Sound.{settled_stage, settled_item, settled, IsSound, AreWorking}
@@ -127,7 +128,7 @@ settled_finish log turns p q job r db after followed f low held h rec is =
       items = λ z there.
           ap (map settled_item) (h.items x f.there) ∙ finishes_same p.items job.place x y ∙ ap (λ (w : Item). set m.items job.place (staged Finished w)) (some_is y z (sym here ∙ there));
     } in
-    follow_finish log (turns ++ 0 ∷ []) 0 m (settled q) (set (replicate 16 None) 0 (Some job)) job r db after (follow_start log turns 0 (settled p) m (replicate 16 None) job db followed refl began) refl held done
+    follow_finish log (whole log) (turns ++ 0 ∷ []) 0 m (settled q) (set (replicate 16 None) 0 (Some job)) job r db after (follow_start log (whole log) turns 0 (settled p) m (replicate 16 None) job db followed refl began) refl held done
     (settled_recovered q.ends q.rlv q.items rec) is
 
 -- ---- nothing is in flight

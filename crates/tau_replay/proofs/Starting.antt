@@ -1,9 +1,12 @@
 -- The taken records of a log, and their items.
-use Rattle.std.proofs.Common.{ℕ, suc, ◌≡◌, ◌+◌, inl, inr, Bool, true, false, List, [], ◌∷◌, ◌++◌, refl, ap, subst, ◌∙◌, arith}
-use Rattle.std.specs.Prelude.{Some, slice_get, if◌then◌else◌}
+use Rattle.std.proofs.Common.{ℕ, suc, ◌≡◌, ◌+◌, inl, inr, Bool, true, false, List, [], ◌∷◌, ◌++◌, refl, sym, ap, subst, ◌∙◌, arith, slice_index}
+use Rattle.std.specs.Prelude.{Some, slice_get, nat_le, if◌then◌else◌}
 use Rattle.std.specs.List.{filter}
+use Rattle.std.proofs.lemmas.Bool.Decides.{nat_tests}
 use Rattle.tau_base.specs.Vectors.{AtMost, covers}
+use Rattle.tau_base.proofs.Logic.{zeros}
 use Rattle.tau_model.specs.History.{Member}
+use Rattle.tau_model.proofs.Logged.{member_filtered}
 use Rattle.tau_record.specs.declared.entry.Entry.{Entry}
 use Rattle.tau_record.specs.declared.entry.Entry.TheVariants.{Written, Command, Anchor, Catalogue, Epoch}
 use Rattle.tau_record.specs.declared.entry.Placed.{Placed}
@@ -15,9 +18,11 @@ use Rattle.tau_scan.proofs.Known.{judged_low}
 use Rattle.tau_pool.specs.Item.{Item}
 use Rattle.tau_pool.specs.declared.item.Stage.TheVariants.{Waiting, Flying, Finished}
 use Rattle.tau_pool.specs.declared.item.Stage.{Stage}
-use Rattle.tau_pool.specs.Items.{is_left, is_waiting, dep_of, item_as, with_item, items_in, items_from}
+use Rattle.tau_pool.specs.Items.{is_left, is_waiting, dep_of, item_as, with_item, items_in, items_from, is_after, item_after, items_after}
 use Rattle.tau_pool.proofs.Gets.{member_either}
-use Rattle.tau_replay.specs.Recovering.{AreOf, left_in}
+use Rattle.tau_replay.specs.Redone.{kept_after, taken_after}
+use Rattle.tau_replay.specs.Course.{Course, whole, IsPart}
+use Rattle.tau_replay.specs.Recovering.{IsOf, AreOf, left_in}
 
 -- whether the vector covers that of the record
 abbrev is_kept : List ℕ → Kept → Bool
@@ -96,3 +101,38 @@ in_streams judge j (ps ∷ streams) r m = elim (member_either (taken_in judge j 
 
 pub taken_covered : (log : Log) (r : Kept) → Member r (taken log) → AtMost r.place.dep log.elv
 taken_covered log r m = let (k, covered) = in_streams (judge_of log) 0 log.streams r m in judged_low log.elv (marks_of log) k r.place.dep covered
+
+-- ---- those that start at or after a place of their stream
+
+after_same : (log : Log) (from : List ℕ) (r : Kept) (x : Item) → IsOf log r x → kept_after from r ≡ item_after from x
+after_same log from r x o = ap (λ (j : ℕ). is_after from j r.place.start) (sym o.stream) ∙ ap (λ (n : ℕ). is_after from x.stream n) (sym o.start)
+
+of_filter : (log : Log) (from : List ℕ) (rs : List Kept) (xs : List Item) → AreOf log rs xs → AreOf log (filter (kept_after from) rs) (filter (item_after from) xs)
+of_filter log from [] [] a = tt
+of_filter log from [] (x ∷ xs) a = absurd a
+of_filter log from (r ∷ rs) [] a = absurd a
+of_filter log from (r ∷ rs) (x ∷ xs) a = by_test (kept_after from r) (item_after from x) (after_same log from r x a.0) (of_filter log from rs xs a.1)
+  where
+    by_test : (b c : Bool) → b ≡ c → AreOf log (filter (kept_after from) rs) (filter (item_after from) xs) →
+        AreOf log (if b then r ∷ filter (kept_after from) rs else filter (kept_after from) rs) (if c then x ∷ filter (item_after from) xs else filter (item_after from) xs)
+    by_test true true e rest = (a.0, rest)
+    by_test true false e rest = absurd cc
+    by_test false true e rest = absurd cc
+    by_test false false e rest = rest
+
+pub of_after : (log : Log) (from : List ℕ) → AreOf log (taken_after from log) (items_after from (judge_of log) log.streams)
+of_after log from = of_filter log from (taken log) (items_from (judge_of log) 0 log.streams) (of_taken log)
+
+pub part_covered : (log : Log) (course : Course) → IsPart log course → (r : Kept) → Member r course.records → AtMost r.place.dep log.elv
+part_covered log course (from, is) r m = taken_covered log r (member_filtered (kept_after from) r (taken log) (subst (λ (rs : List Kept). Member r rs) is m)).0
+
+-- from the beginning of each stream nothing is left out
+pub all_kept : (from : List ℕ) → ((j : ℕ) → slice_index from j ≡ 0) → (rs : List Kept) → filter (kept_after from) rs ≡ rs
+all_kept from zero_at [] = refl
+all_kept from zero_at (r ∷ rs) = rw (is_low (slice_index from r.place.stream) r.place.start (zero_at r.place.stream)) (ap (λ (qs : List Kept). r ∷ qs) (all_kept from zero_at rs))
+  where
+    is_low : (a b : ℕ) → a ≡ 0 → nat_le a b ≡ true
+    is_low a b e = grind (arith, nat_tests)
+
+pub whole_part : (log : Log) → IsPart log (whole log)
+whole_part log = ([], sym (all_kept [] (λ j. zeros 0 j) (taken log)))

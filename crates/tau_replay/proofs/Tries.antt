@@ -1,7 +1,7 @@
 -- A call that is executed on values that were read one after another.
-use Rattle.std.proofs.Common.{ℕ, ◌+◌, ◌≡◌, ◌<◌, List, [], ◌∷◌, ◌++◌, length, take, get_or, refl, sym, ap, subst, ◌∙◌, Option}
+use Rattle.std.proofs.Common.{ℕ, ◌+◌, ◌≡◌, ◌<◌, List, [], ◌∷◌, ◌++◌, length, take, get_or, refl, sym, ap, subst, ◌∙◌}
 use Rattle.std.proofs.lemmas.List.{append-nil, take_more}
-use Rattle.std.specs.Prelude.{Some, None, slice_get}
+use Rattle.std.specs.Prelude.{slice_get}
 use Rattle.tau_base.specs.declared.value.Call.{Call}
 use Rattle.tau_base.specs.declared.value.Key.{Key}
 use Rattle.tau_base.specs.declared.value.Value.{Value}
@@ -14,7 +14,7 @@ use Rattle.tau_proc.specs.declared.reply.Want.TheVariants.{Read}
 use Rattle.tau_proc.specs.declared.step.Step.{Step}
 use Rattle.tau_proc.specs.Effect.{Effect, Agrees}
 use Rattle.tau_proc.specs.Meaning.{Running}
-use Rattle.tau_proc.specs.Progress.{Progress, IsAt, IsRead, ahead, at_stop, next_want, want_of, want_of_write, buffered}
+use Rattle.tau_proc.specs.Progress.{Progress, IsAt, IsRead, ahead, at_stop, next_want, want_of, buffered}
 use Rattle.tau_proc.specs.Stage.{Stage, Wants, Ends, Asked, stage, values}
 use Rattle.tau_proc.proofs.Stages.{meaning_from_stage}
 use Rattle.tau_replay.specs.Result.{IsTrying, Executes}

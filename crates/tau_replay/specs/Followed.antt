@@ -3,29 +3,29 @@ use Rattle.std.specs.Prelude.{ℕ, zero, suc, true, ◌≡◌, ◌-◌, ◌⊎�
 use Rattle.tau_base.specs.declared.limits.TheConstants.{MAX_RECOVERY_WORKERS}
 use Rattle.tau_base.specs.declared.value.Key.{Key}
 use Rattle.tau_base.specs.declared.value.Value.{Value}
-use Rattle.tau_base.specs.Database.{Db, empty_db}
+use Rattle.tau_base.specs.Database.{Db}
 use Rattle.tau_model.specs.Redo.{redo_contents}
 use Rattle.tau_model.specs.Store.{database}
 use Rattle.tau_model.specs.Tables.{IsTablesOf}
 use Rattle.tau_scan.specs.declared.log.Log.{Log}
 use Rattle.tau_scan.specs.Taken.{Kept}
-use Rattle.tau_scan.specs.Epochs.{judge_of}
 use Rattle.tau_pool.specs.declared.item.Job.{Job}
 use Rattle.tau_pool.specs.Item.{Item}
-use Rattle.tau_pool.specs.Items.{is_left, items_from}
+use Rattle.tau_pool.specs.Items.{is_left}
 use Rattle.tau_pool.specs.Pooled.{Pooled, IsRecovered, IsStarted, IsFinished, NoneReady}
 use Rattle.tau_replay.specs.declared.turns.Replay.{Replay}
+use Rattle.tau_replay.specs.Course.{Course, whole}
 use Rattle.tau_replay.specs.Recovering.{IsHeld}
 
--- the taken records with how far each is, what each worker has in flight, and the finished records in their order
+-- the records with how far each is, what each worker has in flight, and the finished records in their order
 pub record Worked : Type 0 where
   pub pools : Pooled
   pub hands : List (Option Job)
   pub order : List Kept
 
 -- before the first turn: nothing is started, and sixteen workers have nothing in flight
-pub record IsUnstarted (log : Log) (s : Worked) : Type 0 where
-  pub items : s.pools.items ≡ items_from (judge_of log) 0 log.streams
+pub record IsUnstarted (log : Log) (course : Course) (s : Worked) : Type 0 where
+  pub items : s.pools.items ≡ course.items
   pub ends : s.pools.ends ≡ log.elv
   pub recovered : IsRecovered s.pools.ends s.pools.rlv s.pools.items
   pub hands : s.hands ≡ replicate MAX_RECOVERY_WORKERS None
@@ -78,22 +78,33 @@ rounds (suc n) = rounds n ++ workers_from 0
 
 -- these turns, from the beginning, led to what is started and finished here, and what the finished records did is in the
 -- database
-pub record HasFollowed (log : Log) (turns : List ℕ) (pools : Pooled) (hands : List (Option Job)) (db : Db) : Type 0 where
+pub record HasFollowedOn (log : Log) (course : Course) (turns : List ℕ) (pools : Pooled) (hands : List (Option Job)) (db : Db) : Type 0 where
   pub begun : Worked
-  pub unstarted : IsUnstarted log begun
+  pub unstarted : IsUnstarted log course begun
   pub order : List Kept
   pub steps : Follow log turns begun (record { pools = pools; hands = hands; order = order })
-  pub holds : db ≡ redo_contents log.declarations.procs (map (λ (r : Kept). r.content) order) empty_db
+  pub holds : db ≡ redo_contents log.declarations.procs (map (λ (r : Kept). r.content) order) course.base
+
+abbrev pub FollowedOn : Log → Course → List ℕ → Replay → Type 0
+FollowedOn log course turns r = HasFollowedOn log course turns r.pools r.hands.items (database r.store)
+
+-- the same through the whole log
+abbrev pub HasFollowed : Log → List ℕ → Pooled → List (Option Job) → Db → Type 0
+HasFollowed log turns pools hands db = HasFollowedOn log (whole log) turns pools hands db
 
 abbrev pub Followed : Log → List ℕ → Replay → Type 0
-Followed log turns r = HasFollowed log turns r.pools r.hands.items (database r.store)
+Followed log turns r = FollowedOn log (whole log) turns r
 
 -- the rows are those of what the turns of these workers finish, and after them rounds of all until nothing is left
-pub record IsRedoneBy (log : Log) (turns : List ℕ) (rows : List (Key × Value)) : Type 0 where
+pub record IsRedoneByOn (log : Log) (course : Course) (turns : List ℕ) (rows : List (Key × Value)) : Type 0 where
   pub more : ℕ
   pub begun : Worked
-  pub unstarted : IsUnstarted log begun
+  pub unstarted : IsUnstarted log course begun
   pub over : Worked
   pub steps : Follow log (turns ++ rounds more) begun over
   pub none_left : (i : ℕ) (x : Item) → slice_get over.pools.items i ≡ Some x → is_left x.stage ≡ true → ⊥
-  pub tables : IsTablesOf (redo_contents log.declarations.procs (map (λ (r : Kept). r.content) over.order) empty_db) rows
+  pub tables : IsTablesOf (redo_contents log.declarations.procs (map (λ (r : Kept). r.content) over.order) course.base) rows
+
+-- the same of the whole log
+abbrev pub IsRedoneBy : Log → List ℕ → List (Key × Value) → Type 0
+IsRedoneBy log turns rows = IsRedoneByOn log (whole log) turns rows

@@ -1,5 +1,5 @@
 -- What holds of every recovery.
-use Rattle.std.specs.Prelude.{ℕ, Bool, ◌≡◌, ◌⊎◌, List, [], map}
+use Rattle.std.specs.Prelude.{ℕ, Bool, ◌≡◌, ◌⊎◌, List, [], map, slice_index}
 use Rattle.std.specs.List.{filter}
 use Rattle.tau_base.specs.declared.value.Key.{Key}
 use Rattle.tau_base.specs.declared.value.Value.{Value}
@@ -13,7 +13,7 @@ use Rattle.tau_model.specs.Replay.{Replaying, Turn, Turns, IsReady}
 use Rattle.tau_model.specs.Tables.{IsTablesOf}
 use Rattle.tau_scan.specs.declared.log.Log.{Log}
 use Rattle.tau_scan.specs.Taken.{Kept, taken}
-use Rattle.tau_replay.specs.Redone.{IsOrderOf, IsRedone, IsTangledAt}
+use Rattle.tau_replay.specs.Redone.{IsOrderOf, IsRedone, IsTangledAt, taken_after}
 
 abbrev pub place_of : Kept → Place
 place_of r = r.place
@@ -66,3 +66,7 @@ TangledAlike = (log : Log) (j at k other : ℕ) → IsTangledAt log j at → IsT
 -- and then no orderly order exists
 abbrev pub TangledHasNoOrder : Type 0
 TangledHasNoOrder = (log : Log) (j at : ℕ) (order : List Kept) → IsTangledAt log j at → IsOrderOf log order → ⊥
+
+-- from the beginning of each stream nothing is left out
+abbrev pub NothingLeftOut : Type 0
+NothingLeftOut = (log : Log) (from : List ℕ) → ((j : ℕ) → slice_index from j ≡ 0) → taken_after from log ≡ taken log

@@ -1,4 +1,5 @@
 pub mod Redone
+pub mod Course
 pub mod Recovering
 pub mod Way
 pub mod Laws

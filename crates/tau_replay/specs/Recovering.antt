@@ -1,16 +1,17 @@
 -- A recovery on its way.
 use Rattle.std.specs.Prelude.{ℕ, ◌≡◌, ◌≢◌, ◌≤◌, ◌+◌, ◌*◌, true, List, [], ◌∷◌, ◌++◌, map, Option, Some, None, slice_get, slice_index, if◌then◌else◌}
-use Rattle.tau_base.specs.Database.{Db, empty_db}
+use Rattle.tau_base.specs.Database.{Db}
 use Rattle.tau_model.specs.History.{Member, Reordered}
 use Rattle.tau_model.specs.Logged.{Orderly}
 use Rattle.tau_model.specs.Redo.{redo_contents}
 use Rattle.tau_scan.specs.declared.log.Log.{Log}
 use Rattle.tau_record.specs.declared.entry.Placed.{Placed}
-use Rattle.tau_scan.specs.Taken.{Kept, kept_as, taken}
+use Rattle.tau_scan.specs.Taken.{Kept, kept_as}
 use Rattle.tau_pool.specs.Item.{Item}
 use Rattle.tau_pool.specs.declared.item.Job.{Job}
 use Rattle.tau_pool.specs.Items.{is_left, is_flying}
 use Rattle.tau_pool.specs.Pooled.{Pooled, IsRecovered, IsFlying, waiting_in, flying_in}
+use Rattle.tau_replay.specs.Course.{Course, whole, IsPart}
 
 -- the record at this number of this stream of the log is this data or command record
 pub record Stands (log : Log) (j i : ℕ) (r : Kept) : Type 0 where
@@ -44,17 +45,22 @@ left_in (r ∷ rs) (x ∷ xs) = if is_left x.stage then r ∷ left_in rs xs else
 abbrev pub IsAhead : Kept → List Kept → Type 0
 IsAhead r rest = (q : Kept) → Member q rest → slice_index r.place.dep q.place.stream ≤ q.place.start
 
--- These records are finished, in this order, and what they did is in the database. Each of them, and each in flight,
+-- Of the records of the course these are finished, in this order, and what they did is in the database. Each of them, and each in flight,
 -- waits for none that is left.
-pub record IsGoing (log : Log) (p : Pooled) (db : Db) (order : List Kept) : Type 0 where
+pub record IsGoingOn (log : Log) (course : Course) (p : Pooled) (db : Db) (order : List Kept) : Type 0 where
+  pub part : IsPart log course
   pub ends : p.ends ≡ log.elv
   pub recovered : IsRecovered p.ends p.rlv p.items
-  pub items : AreOf log (taken log) p.items
-  pub each_once : Reordered (taken log) (order ++ left_in (taken log) p.items)
+  pub items : AreOf log course.records p.items
+  pub each_once : Reordered course.records (order ++ left_in course.records p.items)
   pub orderly : Orderly (map (λ (r : Kept). r.place) order)
-  pub ahead : (r : Kept) → Member r order → IsAhead r (left_in (taken log) p.items)
-  pub flying : (i : ℕ) (x : Item) (r : Kept) → slice_get p.items i ≡ Some x → slice_get (taken log) i ≡ Some r → is_flying x.stage ≡ true → IsAhead r (left_in (taken log) p.items)
-  pub database : db ≡ redo_contents log.declarations.procs (map (λ (r : Kept). r.content) order) empty_db
+  pub ahead : (r : Kept) → Member r order → IsAhead r (left_in course.records p.items)
+  pub flying : (i : ℕ) (x : Item) (r : Kept) → slice_get p.items i ≡ Some x → slice_get course.records i ≡ Some r → is_flying x.stage ≡ true → IsAhead r (left_in course.records p.items)
+  pub database : db ≡ redo_contents log.declarations.procs (map (λ (r : Kept). r.content) order) course.base
+
+-- a recovery of the whole log
+abbrev pub IsGoing : Log → Pooled → Db → List Kept → Type 0
+IsGoing log p db order = IsGoingOn log (whole log) p db order
 
 -- the record of a job
 abbrev pub IsHeld : Log → Job → Kept → Type 0

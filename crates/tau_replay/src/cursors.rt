@@ -1,6 +1,6 @@
 //! Which record a worker in a thread starts next.
 use std::alloc::Global;
-use tau_base::{MAX_STREAMS, NoMemory};
+use tau_base::{MAX_RECOVERY_WORKERS, MAX_STREAMS, NoMemory};
 use tau_pool::Pools;
 
 /// Places of records of one stream.
@@ -12,7 +12,7 @@ struct Span {
     end: usize,
 }
 
-/// For each stream how far its records are started: workers start them in their order.
+/// For each stream of the log how far its records are started: workers start them in their order.
 #[derive(Drop)]
 pub struct Cursors {
     spans: Vec<Span>,
@@ -20,18 +20,34 @@ pub struct Cursors {
     streams: Vec<usize>,
 }
 
+/// The records of each stream of the log.
+fn spans_of(alloc: Global, pools: &Pools) -> Result<Vec<Span>, NoMemory> {
+    let mut spans = Vec::new(alloc);
+    for stream in 0..MAX_STREAMS {
+        let Some(next) = pools.first_of(stream) else {
+            break;
+        };
+        let end = pools.first_of(stream + 1).unwrap_or(usize::MAX);
+        spans.push(Span { next, end })?;
+    }
+    Ok(spans)
+}
+
+/// The stream of so many with which a worker begins.
+fn first_stream(worker: usize, count: usize) -> usize {
+    if count == 0 {
+        return 0;
+    }
+    worker % count
+}
+
 impl Cursors {
-    /// Nothing is started yet, and each worker begins with another stream.
+    /// Nothing is started yet, and each worker begins with another stream as long as there are some.
     pub fn new(alloc: Global, pools: &Pools) -> Result<Cursors, NoMemory> {
-        let mut spans = Vec::new(alloc);
+        let spans = spans_of(alloc, pools)?;
         let mut streams = Vec::new(alloc);
-        for stream in 0..MAX_STREAMS {
-            let span = Span {
-                next: pools.first_of(stream).unwrap_or(usize::MAX),
-                end: pools.first_of(stream + 1).unwrap_or(usize::MAX),
-            };
-            spans.push(span)?;
-            streams.push(stream)?;
+        for worker in 0..MAX_RECOVERY_WORKERS {
+            streams.push(first_stream(worker, spans.len()))?;
         }
         Ok(Cursors { spans, streams })
     }
@@ -67,8 +83,9 @@ impl Cursors {
     /// a place where no record is. The worker goes on with that stream.
     pub fn seek(&mut self, pools: &Pools, worker: usize) -> usize {
         let last = self.stream_of(worker);
-        for k in 1..MAX_STREAMS {
-            let stream = last.wrapping_add(k) % MAX_STREAMS;
+        let count = self.spans.len();
+        for k in 1..count {
+            let stream = last.wrapping_add(k) % count;
             let place = self.place_of(stream);
             if pools.ready_at(place).is_some() {
                 match self.streams.get_mut(worker) {

@@ -1,5 +1,5 @@
 //! What holds of every recovery, as functions that do nothing.
-ghost use Rattle.tau_replay.specs.Laws.{OrderlyTurns, SomeReady, RunsAgree, OneRecovery, RunsOrdersAgree, TangledAlike, TangledHasNoOrder};
+ghost use Rattle.tau_replay.specs.Laws.{OrderlyTurns, SomeReady, RunsAgree, OneRecovery, RunsOrdersAgree, TangledAlike, TangledHasNoOrder, NothingLeftOut};
 
 /// Whatever the turns, records that are all finished were finished in an orderly order.
 pub fn orderly_turns()
@@ -35,4 +35,9 @@ pub fn tangled_alike()
 /// Where it gets stuck, no orderly order of the taken records exists.
 pub fn tangled_has_no_order()
     ensures { TangledHasNoOrder }
+{}
+
+/// From the beginning of each stream on, what is redone is what recovery redoes.
+pub fn nothing_left_out()
+    ensures { NothingLeftOut }
 {}

@@ -3,6 +3,7 @@
 
 mod ahead;
 mod alone;
+mod behind;
 mod calls;
 mod cursors;
 mod laws;
@@ -17,9 +18,10 @@ mod view;
 mod visit;
 mod worker;
 
+pub use behind::redo_behind;
 pub use laws::{
-    one_recovery, orderly_turns, runs_agree, runs_orders_agree, some_ready, tangled_alike,
-    tangled_has_no_order,
+    nothing_left_out, one_recovery, orderly_turns, runs_agree, runs_orders_agree, some_ready,
+    tangled_alike, tangled_has_no_order,
 };
 pub use replay::replay_turns;
 pub use threads::replay_threads;

@@ -1,12 +1,14 @@
 //! Redoing a log.
 ghost use Rattle.std.specs.Prelude.{◌≡◌, ◌<◌, ◌≤◌, ◌++◌, [], ℕ, List, None, replicate, true, false, Ok, Err, IfOk, OnOk};
+ghost use Rattle.tau_model.specs.Store.{database};
 ghost use Rattle.tau_scan.specs.Reading.{IsLog};
 ghost use Rattle.tau_scan.specs.Taken.{Kept};
-ghost use Rattle.tau_replay.specs.Redone.{IsOrderOf, IsRedone, IsTangledAt};
+ghost use Rattle.tau_replay.specs.Redone.{IsOrderOf, IsOrderOver, IsRedone, IsRedoneOn, IsTangledAt, IsTangledOver};
+ghost use Rattle.tau_replay.specs.Course.{Course};
 ghost use Rattle.tau_pool.specs.Pooled.{IsNotYet, flying_in};
 ghost use Rattle.tau_replay.specs.Recovering.{IsHeld, IsHeldBy};
-ghost use Rattle.tau_replay.specs.Followed.{Followed, IsRedoneBy, rounds, workers_from};
-ghost use Rattle.tau_replay.specs.Way.{IsOnWay, IsOver, left_of};
+ghost use Rattle.tau_replay.specs.Followed.{Followed, FollowedOn, IsRedoneBy, IsRedoneByOn, rounds, workers_from};
+ghost use Rattle.tau_replay.specs.Way.{IsOnWay, IsOnCourse, IsOver, left_of};
 
 use crate::outcome::Scratch;
 use crate::turns::{Replay, start, turn, turn_of};
@@ -16,6 +18,24 @@ use tau_model::{SerialStore, Tables};
 use tau_pool::{Job, Next, Pools};
 use tau_scan::{Log, ReplayRefusal};
 
+/// Sixteen workers with nothing in flight, of these pools and this store.
+pub fn workers_of(alloc: Global, pools: Pools, store: SerialStore) -> Result<Replay, NoMemory>
+    ensures idle { IfOk result (λ replay. replay.hands.items ≡ replicate MAX_RECOVERY_WORKERS None) }
+    ensures pools { IfOk result (λ replay. replay.pools ≡ pools) }
+    ensures store { IfOk result (λ replay. database replay.store ≡ database store) }
+{
+    let mut hands = Vec::new(alloc);
+    for _ in 0..MAX_RECOVERY_WORKERS {
+        hands.push(None)?;
+    }
+    Ok(Replay {
+        pools,
+        store,
+        hands,
+        scratch: Scratch::new(alloc),
+    })
+}
+
 /// Sixteen workers with nothing in flight, before the first turn.
 pub fn begin(alloc: Global, log: &Log) -> Result<Replay, NoMemory>
     requires { IsLog log.now }
@@ -24,26 +44,18 @@ pub fn begin(alloc: Global, log: &Log) -> Result<Replay, NoMemory>
     ensures followed { IfOk result (λ replay. Followed log.now [] replay) }
 {
     let pools = Pools::new(alloc, log)?;
-    let mut hands = Vec::new(alloc);
-    for _ in 0..MAX_RECOVERY_WORKERS {
-        hands.push(None)?;
-    }
-    Ok(Replay {
-        pools,
-        store: SerialStore::new(alloc),
-        hands,
-        scratch: Scratch::new(alloc),
-    })
+    workers_of(alloc, pools, SerialStore::new(alloc))
 }
 
 /// A turn of each worker from a number on, in ascending order.
 fn round(log: &Log, replay: &mut Replay, from: usize) -> Result<(), NoMemory>
+    ghost course: { Course }
     requires from { from ≤ MAX_RECOVERY_WORKERS }
-    requires going { IsOnWay log.now replay.old }
-    ensures going { OnOk result (IsOnWay log.now replay.new) }
+    requires going { IsOnCourse log.now course replay.old }
+    ensures going { OnOk result (IsOnCourse log.now course replay.new) }
     ensures less { OnOk result (left_of replay.new ≤ left_of replay.old) }
     ensures some { from ≡ 0 → 1 ≤ flying_in replay.old.pools.items → OnOk result (left_of replay.new < left_of replay.old) }
-    ensures followed { (turns : List ℕ) → Followed log.now turns replay.old → OnOk result (Followed log.now (turns ++ workers_from from) replay.new) }
+    ensures followed { (turns : List ℕ) → FollowedOn log.now course turns replay.old → OnOk result (FollowedOn log.now course (turns ++ workers_from from) replay.new) }
 {
     for worker in from..MAX_RECOVERY_WORKERS {
         turn(log, replay, worker)?;
@@ -53,14 +65,15 @@ fn round(log: &Log, replay: &mut Replay, from: usize) -> Result<(), NoMemory>
 
 /// A round of all workers, where something is in flight or may be started. Whether all is done instead.
 fn next_round(log: &Log, replay: &mut Replay) -> Result<bool, ReplayRefusal>
+    ghost course: { Course }
     requires log { IsLog log.now }
-    requires going { IsOnWay log.now replay.old }
-    ensures going { OnOk result (IsOnWay log.now replay.new) }
-    ensures over { result ≡ Ok true → IsOver log.now replay.new }
+    requires going { IsOnCourse log.now course replay.old }
+    ensures going { OnOk result (IsOnCourse log.now course replay.new) }
+    ensures over { result ≡ Ok true → IsOver log.now course replay.new }
     ensures less { result ≡ Ok false → left_of replay.new < left_of replay.old }
-    ensures followed { (turns : List ℕ) → Followed log.now turns replay.old → result ≡ Ok false → Followed log.now (turns ++ workers_from 0) replay.new }
-    ensures ended { (turns : List ℕ) → Followed log.now turns replay.old → result ≡ Ok true → Followed log.now turns replay.new }
-    ensures tangled { (j at : ℕ) → result ≡ Err (ReplayRefusal.Tangled j at) → IsTangledAt log.now j at × ((order : List Kept) → IsOrderOf log.now order → ⊥) }
+    ensures followed { (turns : List ℕ) → FollowedOn log.now course turns replay.old → result ≡ Ok false → FollowedOn log.now course (turns ++ workers_from 0) replay.new }
+    ensures ended { (turns : List ℕ) → FollowedOn log.now course turns replay.old → result ≡ Ok true → FollowedOn log.now course turns replay.new }
+    ensures tangled { (j at : ℕ) → result ≡ Err (ReplayRefusal.Tangled j at) → IsTangledOver course.records j at × ((order : List Kept) → IsOrderOver course.records order → ⊥) }
 {
     if replay.pools.in_flight() > 0 {
         round(log, replay, 0)?;
@@ -78,11 +91,12 @@ fn next_round(log: &Log, replay: &mut Replay) -> Result<bool, ReplayRefusal>
 
 /// The refusal of a log of which nothing is in flight and nothing is ready.
 fn tangled(log: &Log, replay: &Replay) -> ReplayRefusal
+    ghost course: { Course }
     requires log { IsLog log.now }
-    requires going { IsOnWay log.now replay.now }
+    requires going { IsOnCourse log.now course replay.now }
     requires idle { flying_in replay.now.pools.items ≡ 0 }
     requires stuck { IsNotYet replay.now.pools }
-    ensures { (j at : ℕ) → result ≡ ReplayRefusal.Tangled j at → IsTangledAt log.now j at × ((order : List Kept) → IsOrderOf log.now order → ⊥) }
+    ensures { (j at : ℕ) → result ≡ ReplayRefusal.Tangled j at → IsTangledOver course.records j at × ((order : List Kept) → IsOrderOver course.records order → ⊥) }
 {
     match replay.pools.first_left() {
         None => ReplayRefusal::NoMemory,
@@ -104,11 +118,12 @@ fn start_of(log: &Log, job: Job) -> u64
 
 /// Rounds of all workers, until all is done.
 fn run_out(log: &Log, replay: &mut Replay) -> Result<(), ReplayRefusal>
+    ghost course: { Course }
     requires log { IsLog log.now }
-    requires going { IsOnWay log.now replay.old }
-    ensures done { OnOk result (IsOver log.now replay.new) }
-    ensures followed { (turns : List ℕ) → Followed log.now turns replay.old → OnOk result ((more : ℕ) × Followed log.now (turns ++ rounds more) replay.new) }
-    ensures tangled { (j at : ℕ) → result ≡ Err (ReplayRefusal.Tangled j at) → IsTangledAt log.now j at × ((order : List Kept) → IsOrderOf log.now order → ⊥) }
+    requires going { IsOnCourse log.now course replay.old }
+    ensures done { OnOk result (IsOver log.now course replay.new) }
+    ensures followed { (turns : List ℕ) → FollowedOn log.now course turns replay.old → OnOk result ((more : ℕ) × FollowedOn log.now course (turns ++ rounds more) replay.new) }
+    ensures tangled { (j at : ℕ) → result ≡ Err (ReplayRefusal.Tangled j at) → IsTangledOver course.records j at × ((order : List Kept) → IsOrderOver course.records order → ⊥) }
 {
     'rounds: loop {
         match next_round(log, replay) {
@@ -122,11 +137,12 @@ fn run_out(log: &Log, replay: &mut Replay) -> Result<(), ReplayRefusal>
 
 /// Rounds of all workers until all is done, and the tables then.
 pub fn end(alloc: Global, log: &Log, mut replay: Replay) -> Result<Tables, ReplayRefusal>
+    ghost course: { Course }
     requires log { IsLog log.now }
-    requires going { IsOnWay log.now replay }
-    ensures ok { IfOk result (λ tables. IsRedone log.now tables) }
-    ensures followed { (turns : List ℕ) → Followed log.now turns replay → IfOk result (λ tables. IsRedoneBy log.now turns tables) }
-    ensures tangled { (j at : ℕ) → result ≡ Err (ReplayRefusal.Tangled j at) → IsTangledAt log.now j at × ((order : List Kept) → IsOrderOf log.now order → ⊥) }
+    requires going { IsOnCourse log.now course replay }
+    ensures ok { IfOk result (λ tables. IsRedoneOn log.now course.records course.base tables) }
+    ensures followed { (turns : List ℕ) → FollowedOn log.now course turns replay → IfOk result (λ tables. IsRedoneByOn log.now course turns tables) }
+    ensures tangled { (j at : ℕ) → result ≡ Err (ReplayRefusal.Tangled j at) → IsTangledOver course.records j at × ((order : List Kept) → IsOrderOver course.records order → ⊥) }
 {
     match run_out(log, &mut replay) {
         Ok(()) => {}

@@ -3,9 +3,10 @@ ghost use Rattle.std.specs.Prelude.{◌≡◌, ◌<◌, ◌≤◌, ◌⊎◌, �
 ghost use Rattle.tau_model.specs.Store.{database};
 ghost use Rattle.tau_pool.specs.declared.item.Job.{Job};
 ghost use Rattle.tau_pool.specs.Pooled.{IsNotYet, IsDone, IsStarted, IsFinished};
-ghost use Rattle.tau_replay.specs.Followed.{Followed};
+ghost use Rattle.tau_replay.specs.Course.{Course};
+ghost use Rattle.tau_replay.specs.Followed.{FollowedOn};
 ghost use Rattle.tau_replay.specs.Sound.{AreWorking};
-ghost use Rattle.tau_replay.specs.Way.{IsOnWay, left_of};
+ghost use Rattle.tau_replay.specs.Way.{IsOnCourse, left_of};
 
 use crate::outcome::{Outcome, Scratch, apply};
 use crate::redo::redo;
@@ -29,15 +30,16 @@ pub struct Replay {
 
 /// Gives an idle worker a record that is ready.
 pub fn start(log: &Log, replay: &mut Replay, worker: usize) -> Next
-    requires going { IsOnWay log.now replay.old }
+    ghost course: { Course }
+    requires going { IsOnCourse log.now course replay.old }
     requires idle { slice_get replay.old.hands.items worker ≡ Some None }
-    ensures going { IsOnWay log.now replay.new }
+    ensures going { IsOnCourse log.now course replay.new }
     ensures taken { (job : Job) → result ≡ Next.Taken job → left_of replay.new < left_of replay.old }
     ensures hand { (job : Job) → result ≡ Next.Taken job → replay.new.hands.items ≡ slice_set replay.old.hands.items worker (Some job) }
     ensures not_yet { result ≡ Next.NotYet → (replay.new.hands.items ≡ replay.old.hands.items) × (replay.new.pools ≡ replay.old.pools) × IsNotYet replay.old.pools }
     ensures done { result ≡ Next.Done → (replay.new.hands.items ≡ replay.old.hands.items) × (replay.new.pools ≡ replay.old.pools) × IsDone replay.old.pools }
-    ensures followed { (turns : List ℕ) → Followed log.now turns replay.old → Followed log.now (turns ++ worker ∷ []) replay.new }
-    ensures ended { (turns : List ℕ) → Followed log.now turns replay.old → result ≡ Next.Done → Followed log.now turns replay.new }
+    ensures followed { (turns : List ℕ) → FollowedOn log.now course turns replay.old → FollowedOn log.now course (turns ++ worker ∷ []) replay.new }
+    ensures ended { (turns : List ℕ) → FollowedOn log.now course turns replay.old → result ≡ Next.Done → FollowedOn log.now course turns replay.new }
 {
     let _ = log;
     let next = replay.pools.take();
@@ -94,12 +96,13 @@ pub fn finish_at(
 
 /// Finishes what a worker has in flight. If memory is refused nothing changes.
 pub fn finish(log: &Log, replay: &mut Replay, worker: usize, job: Job) -> Result<(), NoMemory>
-    requires going { IsOnWay log.now replay.old }
+    ghost course: { Course }
+    requires going { IsOnCourse log.now course replay.old }
     requires busy { slice_get replay.old.hands.items worker ≡ Some (Some job) }
-    ensures going { OnOk result (IsOnWay log.now replay.new) }
+    ensures going { OnOk result (IsOnCourse log.now course replay.new) }
     ensures less { OnOk result (left_of replay.new < left_of replay.old) }
     ensures hand { OnOk result (replay.new.hands.items ≡ slice_set replay.old.hands.items worker None) }
-    ensures followed { (turns : List ℕ) → Followed log.now turns replay.old → OnOk result (Followed log.now (turns ++ worker ∷ []) replay.new) }
+    ensures followed { (turns : List ℕ) → FollowedOn log.now course turns replay.old → OnOk result (FollowedOn log.now course (turns ++ worker ∷ []) replay.new) }
     ensures err { OnErr result ((replay.new.pools ≡ replay.old.pools) × (replay.new.hands.items ≡ replay.old.hands.items) × (database replay.new.store ≡ database replay.old.store)) }
 {
     redo(log, &mut replay.store, job, &mut replay.scratch)?;
@@ -110,13 +113,14 @@ pub fn finish(log: &Log, replay: &mut Replay, worker: usize, job: Job) -> Result
 
 /// A turn of a worker: it finishes what it has in flight, or starts what is ready.
 pub fn turn(log: &Log, replay: &mut Replay, worker: usize) -> Result<(), NoMemory>
+    ghost course: { Course }
     requires worker { worker < MAX_RECOVERY_WORKERS }
-    requires going { IsOnWay log.now replay.old }
-    ensures going { OnOk result (IsOnWay log.now replay.new) }
+    requires going { IsOnCourse log.now course replay.old }
+    ensures going { OnOk result (IsOnCourse log.now course replay.new) }
     ensures less { OnOk result (left_of replay.new ≤ left_of replay.old) }
     ensures busy { (job : Job) → slice_get replay.old.hands.items worker ≡ Some (Some job) → OnOk result (left_of replay.new < left_of replay.old) }
     ensures idle { OnOk result ((left_of replay.new < left_of replay.old) ⊎ (replay.new.hands.items ≡ replay.old.hands.items)) }
-    ensures followed { (turns : List ℕ) → Followed log.now turns replay.old → OnOk result (Followed log.now (turns ++ worker ∷ []) replay.new) }
+    ensures followed { (turns : List ℕ) → FollowedOn log.now course turns replay.old → OnOk result (FollowedOn log.now course (turns ++ worker ∷ []) replay.new) }
 {
     match replay.hands[worker] {
         Some(job) => finish(log, replay, worker, job),
@@ -129,9 +133,10 @@ pub fn turn(log: &Log, replay: &mut Replay, worker: usize) -> Result<(), NoMemor
 
 /// A turn of a worker by its number; one of 16 or more is no worker, and nothing changes.
 pub fn turn_of(log: &Log, replay: &mut Replay, worker: u8) -> Result<(), NoMemory>
-    requires { IsOnWay log.now replay.old }
-    ensures going { OnOk result (IsOnWay log.now replay.new) }
-    ensures followed { (turns : List ℕ) → Followed log.now turns replay.old → OnOk result (Followed log.now (turns ++ worker ∷ []) replay.new) }
+    ghost course: { Course }
+    requires { IsOnCourse log.now course replay.old }
+    ensures going { OnOk result (IsOnCourse log.now course replay.new) }
+    ensures followed { (turns : List ℕ) → FollowedOn log.now course turns replay.old → OnOk result (FollowedOn log.now course (turns ++ worker ∷ []) replay.new) }
 {
     if usize::from(worker) < MAX_RECOVERY_WORKERS {
         turn(log, replay, usize::from(worker))

@@ -113,7 +113,7 @@ fn log_of(alloc: Global, first: &[u8], second: &[u8]) -> Result<Log, Fail>
     ensures { IfOk result (λ log. IsLog log) }
 {
     let mut disks = vec![in alloc; image_of(alloc, 0, first)?, image_of(alloc, 1, second)?]?;
-    match scan(alloc, disks.as_mut_slice()) {
+    match scan(alloc, disks.as_mut_slice(), None) {
         Ok(log) => Ok(log),
         Err(_) => Err(Fail::from("no log")),
     }
@@ -137,8 +137,8 @@ fn put_sums(stream: &mut Vec<u8>, alloc: Global, from: u64) -> Result<(), Fail> 
     Ok(())
 }
 
-// Calls 1 to 60, in turn in stream 0 and 1, of which none waits: call k adds k to row 1.
-fn sums(alloc: Global) -> Result<Log, Fail>
+/// Calls 1 to 60, in turn in stream 0 and 1, of which none waits: call k adds k to row 1.
+pub fn sums(alloc: Global) -> Result<Log, Fail>
     ensures { IfOk result (λ log. IsLog log) }
 {
     let mut first = Vec::new(alloc);
@@ -154,9 +154,14 @@ fn calls_that_change_one_row(rt: HostRuntime) -> Result<(), Fail> {
     each_gives(&rt, rt.alloc(), &log, &[1, 2, 5, 16], &[(1, 1830)])
 }
 
+/// Where the first call of each stream starts: after the catalogue.
+pub fn begin() -> u32 {
+    (CATALOGUE.len() as u32).saturating_add(5)
+}
+
 // The vector of a call that waits for all records of both streams so far.
 fn all_of(first: &[u8], second: &[u8]) -> [u64; 2] {
-    let begin = (CATALOGUE.len() as u64).saturating_add(5);
+    let begin = u64::from(begin());
     [
         begin.saturating_add(first.len() as u64),
         begin.saturating_add(second.len() as u64),

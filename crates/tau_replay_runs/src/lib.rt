@@ -1,6 +1,8 @@
-//! Recoveries in threads of logs that are given.
+//! Recoveries of logs that are given.
 #![tactic(auto)]
 
+#[cfg(test)]
+mod behind;
 #[cfg(test)]
 mod calls;
 #[cfg(test)]
@@ -9,5 +11,7 @@ mod gates;
 mod rows;
 #[cfg(test)]
 mod support;
+#[cfg(test)]
+mod wide;
 #[cfg(test)]
 mod worked;

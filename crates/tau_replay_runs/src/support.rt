@@ -66,7 +66,7 @@ pub fn log_of(alloc: Global, first: &[u8], second: &[u8]) -> Result<Log, Fail>
     ensures { IfOk result (λ log. IsLog log) }
 {
     let mut disks = vec![in alloc; image_of(alloc, 0, first)?, image_of(alloc, 1, second)?]?;
-    match scan(alloc, disks.as_mut_slice()) {
+    match scan(alloc, disks.as_mut_slice(), None) {
         Ok(log) => Ok(log),
         Err(_) => Err(Fail::from("no log")),
     }

@@ -101,7 +101,7 @@ fn log_of(alloc: Global, first: &[u8], second: &[u8]) -> Result<Log, Fail>
         MemDisk::of_image(alloc, first)?,
         MemDisk::of_image(alloc, second)?,
     ]?;
-    match scan(alloc, disks.as_mut_slice()) {
+    match scan(alloc, disks.as_mut_slice(), None) {
         Ok(log) => Ok(log),
         Err(_) => Err(Fail::from("no log")),
     }
@@ -112,7 +112,7 @@ fn log_of_one(alloc: Global, image: &[u8]) -> Result<Log, Fail>
     ensures { IfOk result (λ log. IsLog log) }
 {
     let mut disks = vec![in alloc; MemDisk::of_image(alloc, image)?]?;
-    match scan(alloc, disks.as_mut_slice()) {
+    match scan(alloc, disks.as_mut_slice(), None) {
         Ok(log) => Ok(log),
         Err(_) => Err(Fail::from("no log")),
     }

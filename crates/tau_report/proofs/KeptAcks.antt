@@ -1,5 +1,5 @@
 -- Acknowledged calls as a list keeps them.
-use Rattle.std.proofs.Common.{ℕ, suc, zero, refl, ◌+◌, ◌-◌, ◌≤◌, ◌<◌, ◌≡◌, ◌∙◌, List, [], ◌∷◌, ◌++◌, length, take, drop, get_or, ap, arith}
+use Rattle.std.proofs.Common.{ℕ, suc, zero, refl, ◌+◌, ◌≤◌, ◌<◌, ◌≡◌, ◌∙◌, List, [], ◌∷◌, ◌++◌, length, take, drop, get_or, ap, arith}
 use Rattle.std.specs.Prelude.{Some, slice_get}
 use Rattle.std.proofs.lemmas.List.{take-append-le, drop-append-le, length-drop, length-append}
 use Rattle.std.proofs.Math.Seq.{take-length}

@@ -1,6 +1,6 @@
 -- A manager places an anchor.
 use Rattle.std.specs.Prelude.{ℕ, false, ◌+◌, ◌-◌, ◌^◌, ◌<◌, ◌≤◌, List, [], ◌∷◌, ◌++◌, length, slice_index}
-use Rattle.tau_record.specs.Format.{One}
+use Rattle.tau_base.specs.Modes.{format_of}
 use Rattle.tau_record.specs.Record.{Spells}
 use Rattle.tau_record.specs.declared.entry.Entry.TheVariants as entry
 use Rattle.tau_core.specs.State.{Plain}
@@ -22,7 +22,7 @@ anchored_view l j x g bytes v start = record v { roles = (manager_role l j, reco
 pub record IsToAnchor (origin : Plain) (j : ℕ) (m : Sat) (bytes : List ℕ) : Type 0 where
   pub managed : Managed
   pub is : IsManager origin j m managed
-  pub spelled : (vectors : List (List ℕ)) → Spells One origin.load.streams vectors false (entry.Anchor m.0.seen) bytes
+  pub spelled : (vectors : List (List ℕ)) → Spells (format_of origin.load.mode) origin.load.streams vectors false (entry.Anchor m.0.seen) bytes
   pub low : 1 ≤ length bytes
   pub high : length bytes ≤ MAX_ANCHOR
   pub room : slice_index origin.load.opening.anchors.items j + length managed.anchors < 2 ^ 32 - 1

@@ -12,7 +12,7 @@ use Rattle.tau_outbox.specs.declared.Piece.{Piece}
 use Rattle.tau_outbox.specs.Pieces.{PlainOutbox, bytes_of}
 use Rattle.tau_outbox.specs.Gather.{Continues}
 use Rattle.tau_ack.specs.Pending.{PlainPending}
-use Rattle.tau_record.specs.Format.{One}
+use Rattle.tau_base.specs.Modes.{format_of}
 use Rattle.tau_record.specs.Record.{base_of, Spells}
 use Rattle.tau_txn.specs.Record.{entry_of}
 use Rattle.tau_txn.specs.Txn.{PlainTxn, hand_in, bytes_in}
@@ -95,7 +95,7 @@ pub record IsToPost (origin : Plain) (m : Sat) (t : PlainTxn) (start : ℕ) : Ty
   pub small : start + length (bytes_in t) < MAX_LSN
   pub stream : act.call.place.stream ≡ (setting_of origin.load).stream_of t.worker
   pub named : ((act.call.anchor ≡ 0) × (base ≡ replicate origin.load.streams 0)) ⊎ ((act.call.anchor ≡ m.0.read.0) × (base ≡ m.0.read.1))
-  pub spelled : (vectors : List (List ℕ)) → base_of vectors act.call.anchor ≡ base → Spells One origin.load.streams vectors false (entry_of origin.load.mode act) (bytes_in t)
+  pub spelled : (vectors : List (List ℕ)) → base_of vectors act.call.anchor ≡ base → Spells (format_of origin.load.mode) origin.load.streams vectors false (entry_of origin.load.mode act) (bytes_in t)
 
 -- the seat is the manager's of stream j and has the outbox of a worker of that stream in hand, of which it has gathered these pieces
 pub record GivesGathered (origin : Plain) (m : Sat) (q : Part) (w j : ℕ) (taken : List Piece) : Type 0 where

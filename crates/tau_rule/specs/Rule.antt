@@ -1,6 +1,7 @@
 -- The rule of the desk: its words, parts and views show one state of the core.
 use Rattle.std.specs.Prelude.{ℕ, ◌+◌, ◌-◌, ◌*◌, ◌^◌, ◌<◌, ◌≤◌, ◌==◌, ◌≡◌, Bool, true, false, if◌then◌else◌, List, [], length, Option, Some, None, slice_index, slice_index_or, zero, suc, nat_le}
-use Rattle.tau_base.specs.declared.limits.TheConstants.{SHARDS, MAX_CALLS, MAX_STREAMS, MAX_WORKERS}
+use Rattle.tau_base.specs.declared.limits.TheConstants.{SHARDS, MAX_CALLS, MAX_WORKERS}
+use Rattle.tau_base.specs.Modes.{format_of, most_streams}
 use Rattle.tau_base.specs.Vectors.{AtMost}
 use Rattle.atomic_table.specs.Table.{State}
 use Rattle.tau_machine.specs.State.{Core, Outbox}
@@ -107,7 +108,7 @@ pub record Sees (origin : Plain) (c : Now) (v : Knows) : Type 0 where
 
 -- how long the record of an anchor is at most
 abbrev pub MAX_ANCHOR : ℕ
-MAX_ANCHOR = 149
+MAX_ANCHOR = 277
 
 -- no record of a call is longer
 abbrev pub LONGEST : ℕ
@@ -116,7 +117,7 @@ LONGEST = 2 ^ 32
 -- the limits of a run
 pub record IsLimited (l : Load) : Type 0 where
   pub streams_low : 1 ≤ l.streams
-  pub streams_high : l.streams ≤ MAX_STREAMS
+  pub streams_high : l.streams ≤ most_streams (format_of l.mode)
   pub workers_high : l.workers ≤ MAX_WORKERS
   pub few : length l.calls ≤ MAX_CALLS
   pub low : (j : ℕ) → j < l.streams → slice_index l.opening.ends j ≤ 2 ^ 61

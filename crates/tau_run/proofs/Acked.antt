@@ -1,10 +1,10 @@
 -- The whole of a run is read, and what it has acknowledged is taken.
 use Rattle.std.proofs.Common.{ℕ, ◌+◌, ◌≤◌, ◌<◌, true, ◌≡◌, inl, inr, List, [], ◌++◌, length, refl, sym, ap, subst, ◌∙◌, arith, slice_index}
-use Rattle.std.specs.Prelude.{Some, Result, Ok, slice_get, slice_index_or, ◌==◌}
+use Rattle.std.specs.Prelude.{Some, None, Result, Ok, slice_get, slice_index_or, ◌==◌}
 use Rattle.std.proofs.lemmas.Bool.{eqb-true}
 use Rattle.std.proofs.lemmas.Option.{get_or_from_slice_get}
 use Rattle.std.proofs.lemmas.List.{length-append}
-use Rattle.tau_base.specs.declared.limits.TheConstants.{MAX_STREAMS}
+use Rattle.tau_base.specs.Modes.{format_of, most_streams}
 use Rattle.tau_base.specs.Vectors.{AtMost}
 use Rattle.tau_base.specs.declared.value.LogMode.{LogMode}
 use Rattle.tau_base.proofs.Vectors.{at_most_within}
@@ -48,7 +48,7 @@ answered E a = Ok a
 ok_is : {A : Type 0} (E : Type 0) (a b : A) → answered E a ≡ answered E b → a ≡ b
 ok_is E a b e = cc e
 
-module _ (n m : ℕ) (mode : LogMode) (load : Workload) (l : Load) (K : List (Act Txn)) (s : Core) (inv : Invariant (setting_of l) K s) (at : IsLoadOf n m mode load l) (room : n ≤ MAX_STREAMS) (sound : AreSound l load K)
+module _ (n m : ℕ) (mode : LogMode) (load : Workload) (l : Load) (K : List (Act Txn)) (s : Core) (inv : Invariant (setting_of l) K s) (at : IsLoadOf n m mode load l) (room : n ≤ most_streams (format_of l.mode)) (sound : AreSound l load K)
     (run : Run) (is : IsRunOf n l K s (catalogue_of load) run) where
   -- ---- the whole contents
 
@@ -60,7 +60,7 @@ module _ (n m : ℕ) (mode : LogMode) (load : Workload) (l : Load) (K : List (Ac
   whole_log : LogOf l load K s inv n at.streams run.contents
   whole_log = log_of_them l load K s inv n at.streams sound run.contents is.streams (λ j content e. let w = whole_at j content e in (w.0, w.1))
 
-  pub whole : (log : Log) × (log_of_contents run.contents ≡ Ok log) × ((j : ℕ) → j < n → kept_in j (slice_index_or log.streams j []) ≡ records_in l.mode load run j)
+  pub whole : (log : Log) × (log_of_contents (format_of l.mode) run.contents ≡ Ok log) × ((j : ℕ) → j < n → kept_in j (slice_index_or log.streams j []) ≡ records_in l.mode load run j)
   whole = (
     whole_log.log,
     whole_log.reads,
@@ -116,13 +116,13 @@ module _ (n m : ℕ) (mode : LogMode) (load : Workload) (l : Load) (K : List (Ac
         let h = some_at images j (subst (λ (k : ℕ). j < k) (sym count) low) in
         let c = some_at found.contents j (subst (λ (k : ℕ). j < k) (sym found.long) low) in
         let f = present j h.0 h.1 in
-        let same : c.0 ≡ catalogue_of load ++ f.0 = one_content n j h.0 c.0 (catalogue_of load ++ f.0) (found.has j h.0 c.0 h.1 c.1) f.1.has in
+        let same : c.0 ≡ catalogue_of load ++ f.0 = one_content (format_of l.mode) n j h.0 c.0 (catalogue_of load ++ f.0) (found.has j h.0 c.0 h.1 c.1) f.1.has in
         let long : slice_index found.made.log.elv j ≡ length (catalogue_of load) + length f.0 =
         ap (λ (v : List ℕ). slice_index v j) found.made.elv ∙ length_at found.contents j c.0 c.1 ∙ ap length same ∙ length-append (catalogue_of load) f.0 in
         let reach = f.2 in
         omega (arith, long, reach))
 
-    pub acked_taken : (log : Log) → log_of images ≡ Ok log → (x : Act Committed) → Member x (acts load.declarations.procs run) → has_ack run x.call.number ≡ true →
+    pub acked_taken : (log : Log) → log_of None images ≡ Ok log → (x : Act Committed) → Member x (acts load.declarations.procs run) → has_ack run x.call.number ≡ true →
         (updates x.effect ≡ true → takes log x.call ≡ true) × ((u : Act Committed) → Depends (acts load.declarations.procs run) x u → updates u.effect ≡ true → takes log u.call ≡ true)
     acked_taken log reads x q e =
         let same_log : found.made.log ≡ log = ok_is LogFault found.made.log log (sym found.reads ∙ reads) in

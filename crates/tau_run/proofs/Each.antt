@@ -1,12 +1,14 @@
 -- Streams that are read one after another, without a cause.
 use Rattle.std.proofs.Common.{ℕ, zero, suc, ◌+◌, Bool, true, ◌≡◌, ◌⊎◌, inl, inr, List, [], ◌∷◌, length, refl, sym, ap, subst, ◌∙◌, arith}
-use Rattle.std.specs.Prelude.{Option, Some, None, Result, Ok, Err, slice_get, bytes_eq, ◌==◌, if◌then◌else◌}
+use Rattle.std.specs.Prelude.{Option, Some, None, Result, Ok, Err, slice_get, bytes_eq, ◌==◌, ◌&&◌, if◌then◌else◌}
 use Rattle.std.proofs.lemmas.Bool.{cases_Bool}
 use Rattle.std.proofs.lemmas.Slice.Eq.{bytes_eq-Decides}
+use Rattle.tau_base.specs.declared.format.Format.{Format}
+use Rattle.tau_base.specs.declared.format.Format.TheVariants.{One, Two}
 use Rattle.tau_block.specs.declared.fault.ImageFault.{ImageFault}
-use Rattle.tau_block.specs.Image.{Reading as ImageReading, image_of, is_of, bytes_of, HasContent}
+use Rattle.tau_block.specs.Image.{Reading as ImageReading, image_of, is_in, is_of, bytes_of, HasContent}
 use Rattle.tau_scan.specs.declared.fault.LogFault.{LogFault}
-use Rattle.tau_scan.specs.Reading.{◌>>=◌, in_front, each_from, counted, opened, unless_other, catalogue_from}
+use Rattle.tau_scan.specs.Reading.{◌>>=◌, in_front, each_from, counted, formatted, opened, unless_other, catalogue_from}
 use Rattle.tau_base.proofs.Logic.{some_is}
 
 pub record EachOk {A B : Type 0} (f : ℕ → A → Result B LogFault) (P : ℕ → A → B → Type 0) (j : ℕ) (xs : List A) : Type 0 where
@@ -44,16 +46,25 @@ has_counted n j (Some found) bytes content e = elim (cases_Bool (found == n)) [
   | inr no' ↦ absurd (let f : None ≡ Some content = subst (λ (t : Bool). (if t then Some bytes else None) ≡ Some content) no' e in cc f)
 ]
 
-has_opened : (n j : ℕ) (r : Result ImageReading ImageFault) (content : List ℕ) → bytes_of n r ≡ Some content → opened n j r ≡ Ok content
-has_opened n j (Ok r) content e = has_counted n j r.count r.bytes content e
-has_opened n j (Err fault) content e = absurd cc
+-- no header states another format
+has_formatted : (f : Format) (n j : ℕ) (format : Option Format) (count : Option ℕ) (bytes content : List ℕ) → (if is_in f format && is_of n count then Some bytes else None) ≡ Some content →
+    formatted f j format (counted n j count bytes) ≡ Ok content
+has_formatted f n j None count bytes content e = has_counted n j count bytes content e
+has_formatted One n j (Some One) count bytes content e = has_counted n j count bytes content e
+has_formatted One n j (Some Two) count bytes content e = absurd (cc e)
+has_formatted Two n j (Some One) count bytes content e = absurd (cc e)
+has_formatted Two n j (Some Two) count bytes content e = has_counted n j count bytes content e
 
-pub image_opened : (n j : ℕ) (image content : List ℕ) → HasContent n j content image → opened n j (image_of j image) ≡ Ok content
-image_opened n j image content e = has_opened n j (image_of j image) content e
+has_opened : (f : Format) (n j : ℕ) (r : Result ImageReading ImageFault) (content : List ℕ) → bytes_of f n r ≡ Some content → opened f n j r ≡ Ok content
+has_opened f n j (Ok r) content e = has_formatted f n j r.format r.count r.bytes content e
+has_opened f n j (Err fault) content e = absurd cc
+
+pub image_opened : (f : Format) (n j : ℕ) (image content : List ℕ) → HasContent f n j content image → opened f n j (image_of j image) ≡ Ok content
+image_opened f n j image content e = has_opened f n j (image_of j image) content e
 
 -- an image has one content
-pub one_content : (n j : ℕ) (image a b : List ℕ) → HasContent n j a image → HasContent n j b image → a ≡ b
-one_content n j image a b e f = some_is a b (sym e ∙ f)
+pub one_content : (f : Format) (n j : ℕ) (image a b : List ℕ) → HasContent f n j a image → HasContent f n j b image → a ≡ b
+one_content f n j image a b e g = some_is a b (sym e ∙ g)
 
 -- ---- catalogues
 

@@ -7,7 +7,7 @@ use Rattle.std.proofs.lemmas.Bool.{eq-eqb}
 use Rattle.std.proofs.lemmas.List.{append-nil, length-append, length-take, take_all}
 use Rattle.std.proofs.lemmas.Option.{get_or_from_slice_get}
 use Rattle.std.specs.Prelude.{min}
-use Rattle.tau_base.specs.declared.limits.TheConstants.{MAX_STREAMS}
+use Rattle.tau_base.specs.Modes.{format_of, most_streams}
 use Rattle.tau_base.specs.Vectors.{AtMost, covers}
 use Rattle.tau_base.specs.declared.value.LogMode.{LogMode}
 use Rattle.tau_base.proofs.Vectors.{at_most_covers, at_most_within, at_most_trans}
@@ -70,7 +70,7 @@ lv_low : (up : Bool) (p : Place) (w : List ℕ) → AtMost p.dep w → (up ≡ t
 lv_low true p w low past = set_low p.dep w p.stream p.past low (past refl)
 lv_low false p w low past = low
 
-module _ (n m : ℕ) (mode : LogMode) (load : Workload) (l : Load) (K : List (Act Txn)) (s : Core) (inv : Invariant (setting_of l) K s) (at : IsLoadOf n m mode load l) (room : n ≤ MAX_STREAMS) (sound : AreSound l load K)
+module _ (n m : ℕ) (mode : LogMode) (load : Workload) (l : Load) (K : List (Act Txn)) (s : Core) (inv : Invariant (setting_of l) K s) (at : IsLoadOf n m mode load l) (room : n ≤ most_streams (format_of l.mode)) (sound : AreSound l load K)
     (run : Run) (is : IsRunOf n l K s (catalogue_of load) run) where
   call_there : (c : Committed) → Member c run.calls → (t : Act Txn) × Member t K × (told_of t ≡ c)
   call_there c q =
@@ -146,7 +146,7 @@ module _ (n m : ℕ) (mode : LogMode) (load : Workload) (l : Load) (K : List (Ac
 
     -- an image of a stream that was not stopped has all of it
     pub flushed_is : (j : ℕ) → j < n → (s.streams j).stop ≡ None → (image bytes : List ℕ) → HasFront n j (catalogue_of load) l s bytes image → slice_index s.plv j ≤ length (catalogue_of load) + length bytes →
-        HasContent n j (slice_index_or run.contents j []) image
+        HasContent (format_of l.mode) n j (slice_index_or run.contents j []) image
     flushed_is j lt going image bytes f reach =
         let h = some_at run.contents j (subst (λ (k : ℕ). j < k) (sym is.streams) lt) in
         let g = is.given j h.0 h.1 in
@@ -162,7 +162,7 @@ module _ (n m : ℕ) (mode : LogMode) (load : Workload) (l : Load) (K : List (Ac
         let persisted = over.persisted j lt going in
         let long : length h.0 ≤ length (cat ++ bytes) = omega (arith, all, size, persisted, reach) in
         let same : cat ++ bytes ≡ h.0 = whole_front (cat ++ bytes) h.0 first.0 first.1 long in
-        subst (λ (c : List ℕ). HasContent n j c image) (same ∙ sym whole) f.has
+        subst (λ (c : List ℕ). HasContent (format_of l.mode) n j c image) (same ∙ sym whole) f.has
       where
         whole_front : (xs ys : List ℕ) (k : ℕ) → xs ≡ take k ys → length ys ≤ length xs → xs ≡ ys
         whole_front xs ys k e long =

@@ -3,6 +3,7 @@ use Rattle.std.proofs.Common.{ℕ, ◌+◌, ◌<◌, ◌≡◌, List, ◌++◌, 
 use Rattle.std.specs.Prelude.{Some, None, slice_get}
 use Rattle.std.proofs.lemmas.List.{length-append}
 use Rattle.tau_base.specs.declared.value.LogMode.{LogMode}
+use Rattle.tau_base.specs.Modes.{format_of}
 use Rattle.tau_model.specs.History.{Act}
 use Rattle.tau_machine.specs.Hands.{Txn}
 use Rattle.tau_machine.specs.State.{Core}
@@ -42,13 +43,14 @@ module _ (n m : ℕ) (mode : LogMode) (load : Workload) (l : Load) (K : List (Ac
         by_stop None e = e
         by_stop (Some end) e = absurd (none (leaves.stopped j end e))
 
-    pub ended : IsOver n s → (((j : ℕ) → j < n → (s.streams j).stop ≡ None) → AllAcked load run) → IsEnded n load now rose run
+    pub ended : IsOver n s → (((j : ℕ) → j < n → (s.streams j).stop ≡ None) → AllAcked load run) → IsEnded n mode load now rose run
     ended over complete =
-        let law = ends_law n m mode load l K s c run is over in record {
+        let law = ends_law n m mode load l K s c run is over in
+        subst (λ (k : LogMode). IsEnded n k load now rose run) c.load_is.mode_is (record {
           durable = s.plv;
           least = λ j x content lt q has.
               (let p = leaves.present j x lt q in
-              let same = one_content n j x content (catalogue_of load ++ p.0) has p.1.has in
+              let same = one_content (format_of l.mode) n j x content (catalogue_of load ++ p.0) has p.1.has in
               let long : length content ≡ length (catalogue_of load) + length p.0 = ap length same ∙ length-append (catalogue_of load) p.0 in
               let reach = p.2 in
               omega (arith, long, reach));
@@ -58,4 +60,4 @@ module _ (n m : ℕ) (mode : LogMode) (load : Workload) (l : Load) (K : List (Ac
           flushed = λ j x lt none q. (let p = leaves.present j x lt q in law.2 j lt (going j none) x p.0 p.1 p.2);
           opened = law.3;
           all = λ none. complete (λ j lt. going j (none j lt));
-        }
+        })

@@ -9,6 +9,7 @@ pub mod Cuts
 pub mod Spelled
 pub mod Reading
 pub mod Each
+pub mod Asked
 pub mod Taken
 pub mod Streams
 pub mod Logs

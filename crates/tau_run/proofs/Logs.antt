@@ -1,8 +1,9 @@
 -- The log of the contents of all streams.
-use Rattle.std.proofs.Common.{ℕ, zero, suc, ◌<◌, ◌≡◌, ◌⊎◌, inl, inr, List, [], ◌∷◌, ◌++◌, map, length, refl, sym, ap, subst, ◌∙◌, arith, slice_index}
+use Rattle.std.proofs.Common.{ℕ, suc, ◌<◌, ◌≡◌, ◌⊎◌, inl, inr, List, [], ◌∷◌, ◌++◌, map, length, refl, sym, ap, subst, ◌∙◌, arith, slice_index}
 use Rattle.std.specs.Prelude.{Option, Some, None, Result, Ok, slice_get, slice_index_or}
 use Rattle.std.specs.List.{filter}
 use Rattle.std.proofs.lemmas.Option.{get_or_from_slice_get}
+use Rattle.tau_base.specs.Modes.{format_of}
 use Rattle.tau_base.specs.Vectors.{covers}
 use Rattle.tau_model.specs.History.{Act}
 use Rattle.tau_machine.specs.Hands.{Txn}
@@ -30,7 +31,6 @@ use Rattle.tau_run.proofs.Reading.{kept_of}
 use Rattle.tau_run.proofs.Streams.{AreSound, IsRead}
 use Rattle.tau_run.proofs.Taken.{IsLogOf}
 use Rattle.tau_base.proofs.Lists.{some_at, got_within, got_mapped}
-use Rattle.tau_base.proofs.Logic.{some_is}
 
 all_empty : (k : ℕ) (streams : List (List Placed)) → ((i : ℕ) (ps : List Placed) → slice_get streams i ≡ Some ps → ps ≡ []) → kept_from k streams ≡ []
 all_empty k [] h = refl
@@ -43,7 +43,7 @@ length_at contents j content e = get_or_from_slice_get (map length contents) j (
 -- contents of which each was read make a log
 pub record LogOf (l : Load) (load : Workload) (K : List (Act Txn)) (s : Core) (inv : Invariant (setting_of l) K s) (n : ℕ) (width : l.streams ≡ n) (contents : List (List ℕ)) : Type 0 where
   pub log : Log
-  pub reads : log_of_contents contents ≡ Ok log
+  pub reads : log_of_contents (format_of l.mode) contents ≡ Ok log
   pub elv : log.elv ≡ map length contents
   pub is : IsLogOf (setting_of l) K s inv l.mode n width log
   pub all : (j : ℕ) (content : List ℕ) → slice_get contents j ≡ Some content → (ps : List Placed) × (slice_get log.streams j ≡ Some ps) × IsRead l load K n j content ps
@@ -55,13 +55,13 @@ module _ (l : Load) (load : Workload) (K : List (Act Txn)) (s : Core) (inv : Inv
   P j content ps = IsRead l load K n j content ps
 
   abbrev step : ℕ → List ℕ → Result (List Placed) LogFault
-  step j content = recorded j (records_of (length contents) content)
+  step j content = recorded j (records_of (format_of l.mode) (length contents) content)
 
   streams : EachOk step P 0 contents
   streams = each_ok step P 0 contents (λ k i content e g.
       let same : i ≡ k = omega (arith, e) in
       let h = each k content (subst (λ (m : ℕ). slice_get contents m ≡ Some content) same g) in
-      (h.0, ap (λ (m : ℕ). recorded k (records_of m content)) long ∙ ap (recorded k) h.1.reads, h.1))
+      (h.0, ap (λ (m : ℕ). recorded k (records_of (format_of l.mode) m content)) long ∙ ap (recorded k) h.1.reads, h.1))
 
   all_read : (j : ℕ) (content : List ℕ) → slice_get contents j ≡ Some content → (ps : List Placed) × (slice_get streams.ys j ≡ Some ps) × IsRead l load K n j content ps
   all_read j content e =
@@ -90,7 +90,7 @@ module _ (l : Load) (load : Workload) (K : List (Act Txn)) (s : Core) (inv : Inv
   plain : marks_from streams.ys ≡ []
   plain = no_marks streams.ys (λ i ps at. (read_of i ps at).2.plain)
 
-  found : (catalogue : Option (List ℕ)) → catalogue_in streams.ys ≡ Ok catalogue → log_of_contents contents ≡ Ok (log_with (declared_by catalogue))
+  found : (catalogue : Option (List ℕ)) → catalogue_in streams.ys ≡ Ok catalogue → log_of_contents (format_of l.mode) contents ≡ Ok (log_with (declared_by catalogue))
   unfolding declared_in streams_of
   found catalogue e =
       ap (λ (r : Result (List (List Placed)) LogFault). r >>= λ ys. declared_in ys >>= λ d. unless (epoch_fault ys) (record { elv = map length contents; declarations = d; streams = ys })) streams.is
@@ -109,7 +109,7 @@ module _ (l : Load) (load : Workload) (K : List (Act Txn)) (s : Core) (inv : Inv
         ap (kept_in j) at ∙ r.2.kept ∙ ap (λ (c : ℕ). map (kept_of l.mode) (filter (ends_by c) (records_of_stream j K))) (sym end));
   }
 
-  made : (d : Declarations) → log_of_contents contents ≡ Ok (log_with d) → ((taken (log_with d) ≡ []) × (d ≡ none_declared)) ⊎ (d ≡ load.declarations) → LogOf l load K s inv n width contents
+  made : (d : Declarations) → log_of_contents (format_of l.mode) contents ≡ Ok (log_with d) → ((taken (log_with d) ≡ []) × (d ≡ none_declared)) ⊎ (d ≡ load.declarations) → LogOf l load K s inv n width contents
   made d reads declared = record { log = log_with d; reads = reads; elv = refl; is = log_is d; all = all_read; declared = declared }
 
   nothing_taken : (d : Declarations) → ((i : ℕ) (x : Option (List ℕ)) → slice_get (map text_in streams.ys) i ≡ Some x → x ≡ None) → taken (log_with d) ≡ []

@@ -2,9 +2,11 @@
 use Rattle.std.proofs.Common.{ℕ, ◌≤◌, ◌<◌, true, ◌≡◌, inl, inr, List, [], ◌∷◌, ◌++◌, map, length, refl, sym, ap, subst, ◌∙◌, arith, slice_index}
 use Rattle.std.specs.Prelude.{Option, None, Ok, slice_index_or, is_ok}
 use Rattle.std.proofs.lemmas.List.{append-nil}
-use Rattle.tau_base.specs.declared.limits.TheConstants.{MAX_CATALOGUE, MAX_STREAMS}
+use Rattle.tau_base.specs.declared.limits.TheConstants.{MAX_CATALOGUE}
+use Rattle.tau_base.specs.declared.format.Format.{Format}
+use Rattle.tau_base.specs.Modes.{format_of, most_streams}
 use Rattle.tau_base.specs.declared.value.LogMode.{LogMode}
-use Rattle.tau_base.specs.declared.value.LogMode.TheVariants.{Values, Commands}
+use Rattle.tau_base.specs.declared.value.LogMode.TheVariants.{Values, Commands, WideValues, WideCommands}
 use Rattle.tau_model.specs.History.{Act, Member}
 use Rattle.tau_model.specs.Logged.{Place}
 use Rattle.tau_machine.specs.Hands.{Txn}
@@ -17,9 +19,8 @@ use Rattle.tau_text.specs.Canonical.{declarations_text}
 use Rattle.tau_record.specs.declared.entry.Entry.TheVariants as entry
 use Rattle.tau_record.specs.declared.entry.Placed.{Placed}
 use Rattle.tau_record.specs.declared.fault.RecordFault.{RecordFault}
-use Rattle.tau_record.specs.Format.{One}
 use Rattle.tau_record.specs.Record.{named}
-use Rattle.tau_record.specs.Content.{placed, Reads, IsContent}
+use Rattle.tau_record.specs.Content.{placed, Reads, IsContent, content_at, records_at}
 use Rattle.tau_record.proofs.Appending.{appended_content}
 use Rattle.tau_record.proofs.ContentLaws.{content_again}
 use Rattle.tau_txn.specs.Record.{entry_of}
@@ -48,6 +49,12 @@ kept_items Values j (Record t ∷ items) of =
 kept_items Commands j (Record t ∷ items) of =
     let place = kept_place j t (of t (inl refl)) in
     ap (λ (p : Place). record (kept_of Commands t) { place = p } ∷ kept_in j (map (placed_in Commands) items)) place ∙ ap (λ (l : List Kept). kept_of Commands t ∷ l) (kept_items Commands j items (λ u m. of u (inr m)))
+kept_items WideValues j (Record t ∷ items) of =
+    let place = kept_place j t (of t (inl refl)) in
+    ap (λ (p : Place). record (kept_of WideValues t) { place = p } ∷ kept_in j (map (placed_in WideValues) items)) place ∙ ap (λ (l : List Kept). kept_of WideValues t ∷ l) (kept_items WideValues j items (λ u m. of u (inr m)))
+kept_items WideCommands j (Record t ∷ items) of =
+    let place = kept_place j t (of t (inl refl)) in
+    ap (λ (p : Place). record (kept_of WideCommands t) { place = p } ∷ kept_in j (map (placed_in WideCommands) items)) place ∙ ap (λ (l : List Kept). kept_of WideCommands t ∷ l) (kept_items WideCommands j items (λ u m. of u (inr m)))
 kept_items mode j (Anchor x y v ∷ items) of = kept_items mode j items of
 
 -- no item is an epoch
@@ -55,6 +62,8 @@ pub no_marks_of : (mode : LogMode) (items : List Item) → marks_in (map (placed
 no_marks_of mode [] = refl
 no_marks_of Values (Record t ∷ items) = no_marks_of Values items
 no_marks_of Commands (Record t ∷ items) = no_marks_of Commands items
+no_marks_of WideValues (Record t ∷ items) = no_marks_of WideValues items
+no_marks_of WideCommands (Record t ∷ items) = no_marks_of WideCommands items
 no_marks_of mode (Anchor x y v ∷ items) = no_marks_of mode items
 
 -- each record names what is declared
@@ -76,8 +85,9 @@ pub record IsCatalogue (load : Workload) : Type 0 where
 abbrev pub first_placed : Workload → Placed
 first_placed load = placed (entry.Catalogue (declarations_text load.declarations)) 0 (length (catalogue_of load))
 
-catalogue_content : (n : ℕ) (load : Workload) → IsCatalogue load → IsContent One n (catalogue_of load) (first_placed load ∷ [])
-catalogue_content n load is = (
+-- in any format
+catalogue_content : (f : Format) (n : ℕ) (load : Workload) → IsCatalogue load → IsContent f n (catalogue_of load) (first_placed load ∷ [])
+catalogue_content f n load is = (
   [],
   record { parts = sym (append-nil (catalogue_of load)); fits = record { kind = refl; fields = (is.short, is.bytes) }; next = tt; starts = refl; ends = omega arith },
   refl,
@@ -87,10 +97,10 @@ pub catalogue_long : (load : Workload) → 1 ≤ length (catalogue_of load)
 catalogue_long load = omega arith
 
 -- a content with these records
-whole_read : (n : ℕ) (content : List ℕ) (ps : List Placed) → n ≤ MAX_STREAMS → IsContent One n content ps → undeclared ps ≡ None → records_of n content ≡ Ok ps
+whole_read : (f : Format) (n : ℕ) (content : List ℕ) (ps : List Placed) → n ≤ most_streams f → IsContent f n content ps → undeclared ps ≡ None → records_of f n content ≡ Ok ps
 unfolding records_of
-whole_read n content ps room is none =
-    ap (judged n content) (content_again One n content ps room is) ∙ ap (λ (o : Option RecordFault). unless o ps) none
+whole_read f n content ps room is none =
+    ap (judged f n content) (content_again f n content ps room is) ∙ ap (λ (o : Option RecordFault). unless o ps) none
 
 all_declared : (load : Workload) (mode : LogMode) (items : List Item) → IsCatalogue load → AreDeclared load.declarations mode (records_in items) → (d : Declarations) → d ≡ load.declarations →
     first_undeclared d (first_placed load ∷ map (placed_in mode) items) ≡ None
@@ -99,19 +109,17 @@ all_declared load mode items is are d e =
     let good : is_ok (declarations_of (declarations_text load.declarations)) ≡ true = ap is_ok is.read in
     rw good (subst (λ (x : Declarations). first_undeclared x (map (placed_in mode) items) ≡ None) (sym e) (items_declared load.declarations mode items are))
 
-pub content_read : (l : Load) (anchors : ℕ → List (List ℕ)) (load : Workload) (n j to : ℕ) (more : List (List ℕ)) (items : List Item) (bytes : List ℕ) → n ≤ MAX_STREAMS → l.streams ≡ n →
+pub content_read : (l : Load) (anchors : ℕ → List (List ℕ)) (load : Workload) (n j to : ℕ) (more : List (List ℕ)) (items : List Item) (bytes : List ℕ) → n ≤ most_streams (format_of l.mode) → l.streams ≡ n →
     slice_index l.opening.anchors.items j ≡ 0 → IsCatalogue load → Spelled l anchors items bytes → Chain (length (catalogue_of load)) items to → AreOf j items → NameTheirs 0 [] items → anchors j ≡ anchors_in items ++ more →
-    AreDeclared load.declarations l.mode (records_in items) → records_of n (catalogue_of load ++ bytes) ≡ Ok (first_placed load ∷ map (placed_in l.mode) items)
+    AreDeclared load.declarations l.mode (records_in items) → records_of (format_of l.mode) n (catalogue_of load ++ bytes) ≡ Ok (first_placed load ∷ map (placed_in l.mode) items)
 content_read l anchors load n j to more items bytes room width none is h c of names all are =
-    let rest : Reads One n (length (catalogue_of load)) 0 (named n []) bytes (map (placed_in l.mode) items) = reads_items l anchors n j (length (catalogue_of load)) 0 to [] more items bytes width none h c (catalogue_long load) of names all in
-    let content : IsContent One n (catalogue_of load ++ bytes) (first_placed load ∷ map (placed_in l.mode) items) =
-    appended_content One n (catalogue_of load) bytes (first_placed load ∷ []) (map (placed_in l.mode) items) (catalogue_content n load is) rest in
-    whole_read n (catalogue_of load ++ bytes) (first_placed load ∷ map (placed_in l.mode) items) room content
+    let rest : Reads (format_of l.mode) n (length (catalogue_of load)) 0 (named n []) bytes (map (placed_in l.mode) items) = reads_items l anchors n j (length (catalogue_of load)) 0 to [] more items bytes width none h c (catalogue_long load) of names all in
+    let content : IsContent (format_of l.mode) n (catalogue_of load ++ bytes) (first_placed load ∷ map (placed_in l.mode) items) =
+    appended_content (format_of l.mode) n (catalogue_of load) bytes (first_placed load ∷ []) (map (placed_in l.mode) items) (catalogue_content (format_of l.mode) n load is) rest in
+    whole_read (format_of l.mode) n (catalogue_of load ++ bytes) (first_placed load ∷ map (placed_in l.mode) items) room content
     (all_declared load l.mode items is are (or_none (declarations_of (declarations_text load.declarations))) (ap or_none is.read))
 
-none_undeclared : undeclared [] ≡ None
-unfolding first_undeclared
-none_undeclared = refl
-
-pub nothing_read : (n : ℕ) → n ≤ MAX_STREAMS → records_of n [] ≡ Ok []
-nothing_read n room = whole_read n [] [] room refl none_undeclared
+-- of nothing nothing is read, in any format
+pub nothing_read : (f : Format) (n : ℕ) → records_of f n [] ≡ Ok []
+unfolding records_of content_at records_at first_undeclared
+nothing_read f n = refl

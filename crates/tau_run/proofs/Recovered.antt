@@ -4,7 +4,8 @@ use Rattle.std.specs.Prelude.{Some, None, Result, Ok, slice_get, slice_index_or,
 use Rattle.std.specs.List.{filter}
 use Rattle.std.proofs.lemmas.Bool.{cases_Bool}
 use Rattle.std.proofs.lemmas.Option.{get_or_from_slice_get}
-use Rattle.tau_base.specs.declared.limits.TheConstants.{MAX_STREAMS}
+use Rattle.tau_base.specs.Modes.{format_of, most_streams}
+use Rattle.tau_base.specs.declared.format.Format.{Format}
 use Rattle.tau_base.specs.declared.value.Call.{Call}
 use Rattle.tau_base.specs.declared.value.LogMode.{LogMode}
 use Rattle.tau_base.specs.Database.{Db, empty_db}
@@ -27,13 +28,14 @@ use Rattle.tau_core.specs.View.{setting_of, call_of}
 use Rattle.tau_core.specs.Pieces.{Spelled}
 use Rattle.tau_scan.specs.declared.log.Log.{Log}
 use Rattle.tau_scan.specs.declared.fault.LogFault.{LogFault}
-use Rattle.tau_scan.specs.Reading.{◌>>=◌, none_declared, each_from, opened, contents_of, log_of}
+use Rattle.tau_scan.specs.Reading.{◌>>=◌, none_declared, each_from, opened, contents_of, log_as, log_of}
 use Rattle.tau_scan.specs.Taken.{Kept, kept_in, taken}
 use Rattle.tau_replay.specs.Redone.{IsOrderOf}
 use Rattle.tau_run.specs.Run.{Committed, Run, means, records_in, record_of}
 use Rattle.tau_run.specs.RecoveredFacts.{catalogue_of, log_of_contents, takes, IsRecovered}
 use Rattle.tau_run.specs.CoreRun.{IsLoadOf, IsGiven, IsRunOf}
 use Rattle.tau_run.specs.StopsLeave.{IsLeft}
+use Rattle.tau_run.proofs.Asked.{asked_same}
 use Rattle.tau_run.proofs.Cuts.{take_within}
 use Rattle.tau_run.proofs.Each.{EachOk, each_ok, image_opened}
 use Rattle.tau_run.proofs.History.{IsSet, acts_are}
@@ -77,13 +79,13 @@ none_anchored n j v e = ap (λ (x : List ℕ). slice_index x j) e ∙ zeros n j
 
 -- ---- the images
 
-contents_are : (images ys : List (List ℕ)) → each_from (λ j image. opened (length images) j (image_of j image)) 0 images ≡ Ok ys → contents_of images ≡ Ok ys
+contents_are : (f : Format) (images ys : List (List ℕ)) → each_from (λ j image. opened f (length images) j (image_of j image)) 0 images ≡ Ok ys → contents_of f images ≡ Ok ys
 unfolding contents_of
-contents_are images ys e = e
+contents_are f images ys e = e
 
-log_there : (images contents : List (List ℕ)) (log : Log) → contents_of images ≡ Ok contents → log_of_contents contents ≡ Ok log → log_of images ≡ Ok log
-unfolding log_of
-log_there images contents log e f = ap (λ (r : Result (List (List ℕ)) LogFault). r >>= log_of_contents) e ∙ f
+log_there : (f : Format) (images contents : List (List ℕ)) (log : Log) → contents_of f images ≡ Ok contents → log_of_contents f contents ≡ Ok log → log_as f images ≡ Ok log
+unfolding log_as
+log_there f images contents log e is = ap (λ (r : Result (List (List ℕ)) LogFault). r >>= log_of_contents f) e ∙ is
 
 -- nothing was declared where nothing is taken
 redo_as : (load : Workload) (log : Log) → ((taken log ≡ []) × (log.declarations ≡ none_declared)) ⊎ (log.declarations ≡ load.declarations) → (order : List Kept) → IsOrderOf log order → (db : Db) →
@@ -101,7 +103,7 @@ map_twice : (mode : LogMode) (ts : List (Act Txn)) → map (record_of mode) (map
 map_twice mode [] = refl
 map_twice mode (t ∷ ts) = ap (λ (ks : List Kept). kept_of mode t ∷ ks) (map_twice mode ts)
 
-module _ (n m : ℕ) (mode : LogMode) (load : Workload) (l : Load) (K : List (Act Txn)) (s : Core) (inv : Invariant (setting_of l) K s) (at : IsLoadOf n m mode load l) (room : n ≤ MAX_STREAMS) (sound : AreSound l load K)
+module _ (n m : ℕ) (mode : LogMode) (load : Workload) (l : Load) (K : List (Act Txn)) (s : Core) (inv : Invariant (setting_of l) K s) (at : IsLoadOf n m mode load l) (room : n ≤ most_streams (format_of l.mode)) (sound : AreSound l load K)
     (run : Run) (is : IsRunOf n l K s (catalogue_of load) run) where
   set_is : IsSet n m load (setting_of l)
   set_is = is_set n m mode load l at
@@ -149,22 +151,23 @@ module _ (n m : ℕ) (mode : LogMode) (load : Workload) (l : Load) (K : List (Ac
   -- images whose contents were cut so have a log
   pub record CutLog (images : List (List ℕ)) : Type 0 where
     pub contents : List (List ℕ)
-    pub have : contents_of images ≡ Ok contents
+    pub have : contents_of (format_of l.mode) images ≡ Ok contents
     pub long : length contents ≡ n
     pub cut : (j : ℕ) (content : List ℕ) → slice_get contents j ≡ Some content → IsCut j content
-    pub has : (j : ℕ) (image content : List ℕ) → slice_get images j ≡ Some image → slice_get contents j ≡ Some content → HasContent n j content image
+    pub has : (j : ℕ) (image content : List ℕ) → slice_get images j ≡ Some image → slice_get contents j ≡ Some content → HasContent (format_of l.mode) n j content image
     pub made : LogOf l load K s inv n at.streams contents
-    pub reads : log_of images ≡ Ok made.log
+    pub reads : log_of None images ≡ Ok made.log
+    pub asked : log_of (Some (format_of l.mode)) images ≡ Ok made.log
 
-  module _ (images : List (List ℕ)) (count : length images ≡ n) (left : (j : ℕ) (image : List ℕ) → slice_get images j ≡ Some image → (content : List ℕ) × HasContent n j content image × IsCut j content) where
+  module _ (images : List (List ℕ)) (count : length images ≡ n) (left : (j : ℕ) (image : List ℕ) → slice_get images j ≡ Some image → (content : List ℕ) × HasContent (format_of l.mode) n j content image × IsCut j content) where
     abbrev P : ℕ → List ℕ → List ℕ → Type 0
-    P j image content = HasContent n j content image × IsCut j content
+    P j image content = HasContent (format_of l.mode) n j content image × IsCut j content
 
-    read : EachOk (λ j image. opened (length images) j (image_of j image)) P 0 images
-    read = each_ok (λ j image. opened (length images) j (image_of j image)) P 0 images (λ k i image e g.
+    read : EachOk (λ j image. opened (format_of l.mode) (length images) j (image_of j image)) P 0 images
+    read = each_ok (λ j image. opened (format_of l.mode) (length images) j (image_of j image)) P 0 images (λ k i image e g.
         let same : i ≡ k = omega (arith, e) in
         let h = left k image (subst (λ (q : ℕ). slice_get images q ≡ Some image) same g) in
-        (h.0, ap (λ (q : ℕ). opened q k (image_of k image)) count ∙ image_opened n k image h.0 h.1, (h.1, h.2)))
+        (h.0, ap (λ (q : ℕ). opened (format_of l.mode) q k (image_of k image)) count ∙ image_opened (format_of l.mode) n k image h.0 h.1, (h.1, h.2)))
 
     content_is : (j : ℕ) (content : List ℕ) → slice_get read.ys j ≡ Some content → IsCut j content
     content_is j content e =
@@ -185,14 +188,15 @@ module _ (n m : ℕ) (mode : LogMode) (load : Workload) (l : Load) (K : List (Ac
           cut = content_is;
           has = λ j image content e f. (read.all j j image content (omega arith) e f).0;
           made = made;
-          reads = reads made.log made.reads;
+          reads = asked_same (format_of l.mode) n images (λ i image e. (let h = left i image e in (i, h.0, h.1))) ∙ asked made.log made.reads;
+          asked = asked made.log made.reads;
         }
       where
-        have : contents_of images ≡ Ok read.ys
-        have = contents_are images read.ys read.is
+        have : contents_of (format_of l.mode) images ≡ Ok read.ys
+        have = contents_are (format_of l.mode) images read.ys read.is
 
-        reads : (log : Log) → log_of_contents read.ys ≡ Ok log → log_of images ≡ Ok log
-        reads log e = log_there images read.ys log have e
+        asked : (log : Log) → log_of_contents (format_of l.mode) read.ys ≡ Ok log → log_of (Some (format_of l.mode)) images ≡ Ok log
+        asked log e = log_there (format_of l.mode) images read.ys log have e
 
   -- images that a run has left
   pub recovered : (images : List (List ℕ)) → length images ≡ n → ((j : ℕ) (image : List ℕ) → slice_get images j ≡ Some image → IsLeft n j (catalogue_of load) l s image) → IsRecovered n l.mode load run images
@@ -203,6 +207,7 @@ module _ (n m : ℕ) (mode : LogMode) (load : Workload) (l : Load) (K : List (Ac
       record {
         log = log;
         reads = c.reads;
+        asked = c.asked;
         contents = c.contents;
         have = c.have;
         fronts = λ j lt.
@@ -219,6 +224,6 @@ module _ (n m : ℕ) (mode : LogMode) (load : Workload) (l : Load) (K : List (Ac
         redo = λ order o. redo_as load log c.made.declared order o (exec (means load.declarations.procs) (filter (takes log) run.calls) empty_db) (all_redo (setting_of l) K s inv l.mode n at.streams log c.made.is m load set_is run is.calls order o);
       }
     where
-      cut_of : (j : ℕ) (image : List ℕ) → IsLeft n j (catalogue_of load) l s image → (content : List ℕ) × HasContent n j content image × IsCut j content
+      cut_of : (j : ℕ) (image : List ℕ) → IsLeft n j (catalogue_of load) l s image → (content : List ℕ) × HasContent (format_of l.mode) n j content image × IsCut j content
       cut_of j image (inl e) = ([], e, inl refl)
       cut_of j image (inr f) = (catalogue_of load ++ f.0, f.1.has, inr (f.0, f.1.count, refl, f.1.spelled))

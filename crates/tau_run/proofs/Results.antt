@@ -1,9 +1,11 @@
 -- The laws on runs.
 use Rattle.std.proofs.Common.{ℕ, ◌≡◌, true, ap, subst, ◌∙◌}
+use Rattle.std.specs.Prelude.{Ok}
 use Rattle.tau_base.specs.declared.value.LogMode.{LogMode}
+use Rattle.tau_base.specs.Modes.{format_of}
 use Rattle.tau_core.specs.View.{setting_of}
 use Rattle.tau_run.specs.Run.{records_in, has_ack}
-use Rattle.tau_run.specs.RecoveredFacts.{IsRecovered}
+use Rattle.tau_run.specs.RecoveredFacts.{IsRecovered, log_of_contents}
 use Rattle.tau_run.specs.Laws.{RunIsThere, RunIsHistory, ContentsAreRecords, ImagesAreRecovered, AckedIsTaken, EndsWell, NothingIsLost}
 use Rattle.tau_run.proofs.Acked.{whole, acked_taken}
 use Rattle.tau_run.proofs.Ended.{acked_is, all_acked_of, uncovered_is, flushed_is, opened_is}
@@ -20,8 +22,11 @@ history_law n m mode load l K s c run is = history_is n m mode load l K s c.inv 
 
 pub contents_law : ContentsAreRecords
 contents_law n m mode load l K s c run is =
-    let w = whole n m mode load l K s c.inv c.load_is c.room (sound n m mode load l K s c.inv c.load_is c.sound) run is in
-    (w.0, w.1, λ j lt. w.2 j lt ∙ ap (λ (k : LogMode). records_in k load run j) c.load_is.mode_is)
+    let w = whole n m mode load l K s c.inv c.load_is c.room (sound n m mode load l K s c.inv c.load_is c.sound) run is in (
+      w.0,
+      subst (λ (k : LogMode). log_of_contents (format_of k) run.contents ≡ Ok w.0) c.load_is.mode_is w.1,
+      λ j lt. w.2 j lt ∙ ap (λ (k : LogMode). records_in k load run j) c.load_is.mode_is,
+    )
 
 pub images_law : ImagesAreRecovered
 images_law n m mode load l K s c run is images count left =

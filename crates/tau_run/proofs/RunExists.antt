@@ -1,5 +1,5 @@
 -- The run that a core has made is there.
-use Rattle.std.proofs.Common.{ℕ, zero, suc, ◌+◌, ◌-◌, ◌<◌, ◌≡◌, inl, inr, List, [], ◌∷◌, ◌++◌, map, length, replicate, refl, sym, ap, subst, ◌∙◌, arith, append_assoc, slice_index}
+use Rattle.std.proofs.Common.{ℕ, zero, suc, ◌+◌, ◌-◌, ◌<◌, ◌≡◌, inl, inr, List, [], ◌∷◌, ◌++◌, map, length, refl, sym, ap, subst, ◌∙◌, arith, append_assoc, slice_index}
 use Rattle.std.specs.Prelude.{Option, Some, None, slice_get, ◌&&◌, ◌==◌}
 use Rattle.std.proofs.Math.Nat.{mod-lt}
 use Rattle.tau_base.specs.declared.value.LogMode.{LogMode}

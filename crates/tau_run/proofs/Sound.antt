@@ -1,16 +1,18 @@
 -- What committed calls write and name is declared.
 use Rattle.std.proofs.Common.{ℕ, ◌-◌, true, ◌≡◌, inl, inr, List, [], ◌∷◌, ◌++◌, length, sym, ap, subst, ◌∙◌, arith, slice_index}
+use Rattle.std.specs.Prelude.{◌&&◌}
 use Rattle.std.specs.List.{list_all}
 use Rattle.std.proofs.lemmas.Bool.{and_from}
 use Rattle.std.proofs.lemmas.List.{length-map, length-append, get_or_past}
 use Rattle.std.proofs.lemmas.Bool.Decides.{leb_tells}
 use Rattle.tau_base.specs.declared.value.LogMode.{LogMode}
-use Rattle.tau_base.specs.declared.value.LogMode.TheVariants.{Values, Commands}
+use Rattle.tau_base.specs.declared.value.LogMode.TheVariants.{Values, Commands, WideValues, WideCommands}
 use Rattle.tau_base.specs.Database.{Db, written}
 use Rattle.tau_base.proofs.Vectors.{same_positions}
 use Rattle.tau_proc.specs.declared.proc.Proc.{Proc}
 use Rattle.tau_proc.specs.Effect.{Effect}
 use Rattle.tau_proc.specs.Meaning.{meaning}
+use Rattle.tau_proc.specs.Takes.{takes}
 use Rattle.tau_model.specs.History.{Act, Member, trace}
 use Rattle.tau_machine.specs.Hands as hands
 use Rattle.tau_machine.specs.Hands.{Txn}
@@ -23,7 +25,7 @@ use Rattle.tau_text.specs.declared.load.Workload.{Workload}
 use Rattle.tau_txn.specs.Record.{entry_of}
 use Rattle.tau_core.specs.declared.state.Load.{Load}
 use Rattle.tau_core.specs.View.{setting_of}
-use Rattle.tau_scan.specs.Reading.{has_row, is_declared}
+use Rattle.tau_scan.specs.Reading.{has_row, is_declared, is_of_table}
 use Rattle.tau_run.specs.Run.{Run, ends, IsHistory}
 use Rattle.tau_run.specs.RecoveredFacts.{catalogue_of}
 use Rattle.tau_run.specs.CoreRun.{IsLoadOf, IsRunOf, IsSoundLoad}
@@ -45,16 +47,24 @@ module _ (n m : ℕ) (mode : LogMode) (load : Workload) (l : Load) (K : List (Ac
   pub sound : AreSound l load K
   sound = record { catalogue = record { short = ok.short; bytes = ok.bytes; read = ok.read }; declared = λ t q up. by_mode l.mode t q }
     where
-      by_mode : (k : LogMode) (t : Act Txn) → Member t K → is_declared load.declarations (entry_of k t) ≡ true
-      by_mode Values t q =
+      rows_named : (t : Act Txn) → Member t K → list_all (has_row load.declarations) t.effect.writes ≡ true
+      rows_named t q =
           let call = (is_set n m mode load l at).call t.call.call.number t.call.call.call ((committed_theorem (setting_of l) K s inv).0 t q).0 in
           let law = (rows_theorem (setting_of l) K s inv).0 in
           let d = traced l.procs (calls_of K) (setting_of l).base t (subst (λ (ts : List (Act Txn)). Member t ts) (sym law) q) in
           let is : t.effect ≡ meaning load.declarations.procs t.call.call.call d.0 = d.1 ∙ ap (λ (p : List Proc). meaning p t.call.call.call d.0) at.procs in
           ap (λ (e : Effect). list_all (has_row load.declarations) e.writes) is ∙ call_named load.declarations load.declarations.procs t.call.call.call d.0 ok.steps (ok.named (t.call.call.number - 1) t.call.call.call call.1)
-      by_mode Commands t q =
+
+      call_taken : (t : Act Txn) → Member t K → (takes load.declarations.procs t.call.call.call && is_of_table load.declarations t.call.call.call) ≡ true
+      call_taken t q =
           let call = (is_set n m mode load l at).call t.call.call.number t.call.call.call ((committed_theorem (setting_of l) K s inv).0 t q).0 in
           and_from _ _ (ok.taken (t.call.call.number - 1) t.call.call.call call.1) (ok.named (t.call.call.number - 1) t.call.call.call call.1)
+
+      by_mode : (k : LogMode) (t : Act Txn) → Member t K → is_declared load.declarations (entry_of k t) ≡ true
+      by_mode Values t q = rows_named t q
+      by_mode Commands t q = call_taken t q
+      by_mode WideValues t q = rows_named t q
+      by_mode WideCommands t q = call_taken t q
 
   module _ (run : Run) (is : IsRunOf n l K s (catalogue_of load) run) where
     -- the contents are as long as the streams

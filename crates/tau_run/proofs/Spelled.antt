@@ -1,10 +1,12 @@
 -- The bytes of items are their records, one after another.
-use Rattle.std.proofs.Common.{ℕ, zero, suc, ◌+◌, ◌≤◌, Bool, false, ◌≡◌, inl, inr, List, [], ◌∷◌, ◌++◌, map, length, replicate, refl, sym, ap, subst, ◌∙◌, arith, append_assoc, slice_index}
-use Rattle.std.specs.Prelude.{Some, slice_get, slice_index_or, ◌==◌}
+use Rattle.std.proofs.Common.{ℕ, suc, ◌+◌, ◌≤◌, Bool, false, ◌≡◌, inl, inr, List, [], ◌∷◌, ◌++◌, map, length, replicate, refl, sym, ap, subst, ◌∙◌, arith, append_assoc, slice_index}
+use Rattle.std.specs.Prelude.{Some, slice_get, ◌==◌}
 use Rattle.std.proofs.lemmas.Bool.{ne_eqb}
 use Rattle.std.proofs.lemmas.List.{length-append}
 use Rattle.tau_base.specs.declared.value.LogMode.{LogMode}
-use Rattle.tau_base.specs.declared.value.LogMode.TheVariants.{Values, Commands}
+use Rattle.tau_base.specs.declared.value.LogMode.TheVariants.{Values, Commands, WideValues, WideCommands}
+use Rattle.tau_base.specs.declared.format.Format.{Format}
+use Rattle.tau_base.specs.Modes.{format_of}
 use Rattle.tau_model.specs.History.{Act, Member}
 use Rattle.tau_machine.specs.Hands.{Txn}
 use Rattle.tau_machine.specs.Pieces.{Chain, records_in, anchors_in, NamesOne, NameTheirs}
@@ -12,7 +14,6 @@ use Rattle.tau_machine.specs.State.{Item, Record, Anchor, start_of, past_of}
 use Rattle.tau_record.specs.declared.entry.Entry.{Entry}
 use Rattle.tau_record.specs.declared.entry.Entry.TheVariants as entry
 use Rattle.tau_record.specs.declared.entry.Placed.{Placed}
-use Rattle.tau_record.specs.Format.{One}
 use Rattle.tau_record.specs.Record.{named, base_of, Spells, Fits, IsNext, epoch_after}
 use Rattle.tau_record.specs.Content.{placed, named_after, Begins, Reads}
 use Rattle.tau_core.specs.declared.state.Load.{Load}
@@ -57,9 +58,9 @@ base_is l n j before more t base width none (inr q) (inr p) =
     let same : q.1 ≡ base = some_is q.1 base (sym got ∙ ap (slice_get (before ++ more)) one ∙ p.2) in
     ap (base_of (named n before)) at ∙ got_or before q.0 q.1 [] q.3 ∙ same
 
-begun : (n at k : ℕ) (vectors : List (List ℕ)) (e : Entry) (first rest bytes : List ℕ) (start past : ℕ) → Spells One n vectors false e first → bytes ≡ first ++ rest → 1 ≤ at → start ≡ at →
-    start + length first ≡ past → IsNext k e → Begins One n at k vectors bytes rest (placed e start past)
-begun n at k vectors e first rest bytes start past s parts low place long next =
+begun : (f : Format) (n at k : ℕ) (vectors : List (List ℕ)) (e : Entry) (first rest bytes : List ℕ) (start past : ℕ) → Spells f n vectors false e first → bytes ≡ first ++ rest → 1 ≤ at → start ≡ at →
+    start + length first ≡ past → IsNext k e → Begins f n at k vectors bytes rest (placed e start past)
+begun f n at k vectors e first rest bytes start past s parts low place long next =
     let other : (at == 0) ≡ false = ne_eqb at 0 (λ z. omega (arith, z, low)) in
     record {
       parts = parts ∙ ap (λ (x : List ℕ). x ++ rest) s.text;
@@ -72,18 +73,24 @@ begun n at k vectors e first rest bytes start past s parts low place long next =
 same_vectors : (mode : LogMode) (vectors : List (List ℕ)) (t : Act Txn) → named_after vectors (entry_of mode t) ≡ vectors
 same_vectors Values vectors t = refl
 same_vectors Commands vectors t = refl
+same_vectors WideValues vectors t = refl
+same_vectors WideCommands vectors t = refl
 
 same_number : (mode : LogMode) (k : ℕ) (t : Act Txn) → epoch_after k (entry_of mode t) ≡ k
 same_number Values k t = refl
 same_number Commands k t = refl
+same_number WideValues k t = refl
+same_number WideCommands k t = refl
 
 no_epoch : (mode : LogMode) (k : ℕ) (t : Act Txn) → IsNext k (entry_of mode t)
 no_epoch Values k t = tt
 no_epoch Commands k t = tt
+no_epoch WideValues k t = tt
+no_epoch WideCommands k t = tt
 
 pub reads_items : (l : Load) (anchors : ℕ → List (List ℕ)) (n j at k to : ℕ) (before more : List (List ℕ)) (items : List Item) (bytes : List ℕ) → l.streams ≡ n →
     slice_index l.opening.anchors.items j ≡ 0 → Spelled l anchors items bytes → Chain at items to → 1 ≤ at → AreOf j items → NameTheirs 0 before items → anchors j ≡ (before ++ anchors_in items) ++ more →
-    Reads One n at k (named n before) bytes (map (placed_in l.mode) items)
+    Reads (format_of l.mode) n at k (named n before) bytes (map (placed_in l.mode) items)
 reads_items l anchors n j at k to before more [] bytes width none h c low of names all = h
 reads_items l anchors n j at k to before more (Record t ∷ items) bytes width none h c low of names all =
     let own : t.call.place.stream ≡ j = of t (inl refl) in
@@ -91,17 +98,17 @@ reads_items l anchors n j at k to before more (Record t ∷ items) bytes width n
     let theirs : Names l j (before ++ (anchors_in items ++ more)) t.call.anchor is.base =
     subst (λ (v : List (List ℕ)). Names l j v t.call.anchor is.base) (all ∙ append_assoc before (anchors_in items) more) (subst (λ k. Names l k (anchors k) t.call.anchor is.base) own is.named) in
     let base = base_is l n j before (anchors_in items ++ more) t.call is.base width none names.0 theirs in
-    let spells : Spells One n (named n before) false (entry_of l.mode t) h.0 = subst (λ k. Spells One k (named n before) false (entry_of l.mode t) h.0) width (is.spelled (named n before) base) in
+    let spells : Spells (format_of l.mode) n (named n before) false (entry_of l.mode t) h.0 = subst (λ k. Spells (format_of l.mode) k (named n before) false (entry_of l.mode t) h.0) width (is.spelled (named n before) base) in
     let lt = c.1 in
     let rest = reads_items l anchors n j t.call.place.past k to before more items h.1 width none h.5 c.2 (omega (arith, lt)) (λ u m. of u (inr m)) names.1 all in (
       h.1,
-      begun n at k (named n before) (entry_of l.mode t) h.0 h.1 bytes t.call.place.start t.call.place.past spells h.2 low c.0 h.3 (no_epoch l.mode k t),
-      subst (λ (v : List (List ℕ)). Reads One n t.call.place.past (epoch_after k (entry_of l.mode t)) v h.1 (map (placed_in l.mode) items)) (sym (same_vectors l.mode (named n before) t))
-          (subst (λ (q : ℕ). Reads One n t.call.place.past q (named n before) h.1 (map (placed_in l.mode) items)) (sym (same_number l.mode k t)) rest),
+      begun (format_of l.mode) n at k (named n before) (entry_of l.mode t) h.0 h.1 bytes t.call.place.start t.call.place.past spells h.2 low c.0 h.3 (no_epoch l.mode k t),
+      subst (λ (v : List (List ℕ)). Reads (format_of l.mode) n t.call.place.past (epoch_after k (entry_of l.mode t)) v h.1 (map (placed_in l.mode) items)) (sym (same_vectors l.mode (named n before) t))
+          (subst (λ (q : ℕ). Reads (format_of l.mode) n t.call.place.past q (named n before) h.1 (map (placed_in l.mode) items)) (sym (same_number l.mode k t)) rest),
     )
 reads_items l anchors n j at k to before more (Anchor x y v ∷ items) bytes width none h c low of names all =
-    let spells : Spells One n (named n before) false (entry.Anchor v) h.0 = subst (λ k. Spells One k (named n before) false (entry.Anchor v) h.0) width (h.4 (named n before)) in
+    let spells : Spells (format_of l.mode) n (named n before) false (entry.Anchor v) h.0 = subst (λ k. Spells (format_of l.mode) k (named n before) false (entry.Anchor v) h.0) width (h.4 (named n before)) in
     let lt = c.1 in
     let there : anchors j ≡ ((before ++ v ∷ []) ++ anchors_in items) ++ more = all ∙ ap (λ (z : List (List ℕ)). z ++ more) (sym (append_assoc before (v ∷ []) (anchors_in items))) in
     let rest = reads_items l anchors n j y k to (before ++ v ∷ []) more items h.1 width none h.5 c.2 (omega (arith, lt)) of names there in
-    (h.1, begun n at k (named n before) (entry.Anchor v) h.0 h.1 bytes x y spells h.2 low c.0 h.3 tt, rest)
+    (h.1, begun (format_of l.mode) n at k (named n before) (entry.Anchor v) h.0 h.1 bytes x y spells h.2 low c.0 h.3 tt, rest)

@@ -6,7 +6,7 @@ use Rattle.std.proofs.Math.Seq.{take-append_seam, take-append-add, take-length}
 use Rattle.std.proofs.lemmas.List.{length-append, take-append-drop}
 use Rattle.std.proofs.lemmas.Grind.{flat_map-append}
 use Rattle.std.proofs.lemmas.Bool.{and_parts, eqb-true}
-use Rattle.tau_base.specs.declared.limits.TheConstants.{MAX_STREAMS}
+use Rattle.tau_base.specs.Modes.{format_of, most_streams}
 use Rattle.tau_model.specs.History.{Act, Member, updates}
 use Rattle.tau_model.proofs.Logged.{member_filtered}
 use Rattle.tau_machine.specs.Hands.{Txn}
@@ -16,7 +16,6 @@ use Rattle.tau_machine.proofs.Pieces.{chain_append}
 use Rattle.tau_text.specs.declared.load.Workload.{Workload}
 use Rattle.tau_text.specs.Canonical.{declarations_text}
 use Rattle.tau_record.specs.declared.entry.Placed.{Placed}
-use Rattle.tau_record.specs.Format.{One}
 use Rattle.tau_record.specs.Record.{named, base_of, spelling}
 use Rattle.tau_txn.specs.Record.{entry_of}
 use Rattle.tau_core.specs.declared.state.Load.{Load}
@@ -34,7 +33,7 @@ use Rattle.tau_base.proofs.Lists.{got_or}
 -- ---- the bytes of items are a function of them
 
 abbrev pub bytes_in : Load → List (List ℕ) → Item → List ℕ
-bytes_in l anchors i = spelling One (named l.streams anchors) (entry_in l.mode i)
+bytes_in l anchors i = spelling (format_of l.mode) (named l.streams anchors) (entry_in l.mode i)
 
 base_named : (l : Load) (j : ℕ) (anchors : List (List ℕ)) (number : ℕ) (base : List ℕ) → slice_index l.opening.anchors.items j ≡ 0 → Names l j anchors number base → base_of (named l.streams anchors) number ≡ base
 base_named l j anchors number base none (inl p) = ap (base_of (named l.streams anchors)) p.0 ∙ sym p.1
@@ -91,14 +90,14 @@ pub record AreSound (l : Load) (load : Workload) (K : List (Act Txn)) : Type 0 w
 
 -- what is read of a content of stream j: its records are those of the calls that end in it, the first of the stream
 pub record IsRead (l : Load) (load : Workload) (K : List (Act Txn)) (n j : ℕ) (content : List ℕ) (ps : List Placed) : Type 0 where
-  pub reads : records_of n content ≡ Ok ps
+  pub reads : records_of (format_of l.mode) n content ≡ Ok ps
   pub kept : kept_in j ps ≡ map (kept_of l.mode) (filter (ends_by (length content)) (records_of_stream j K))
   pub count : ℕ
   pub firsts : kept_in j ps ≡ take count (map (kept_of l.mode) (records_of_stream j K))
   pub text : (ps ≡ []) ⊎ (text_in ps ≡ Some (declarations_text load.declarations))
   pub plain : marks_in ps ≡ []
 
-module _ (n : ℕ) (l : Load) (load : Workload) (K : List (Act Txn)) (s : Core) (j : ℕ) (room : n ≤ MAX_STREAMS) (width : l.streams ≡ n) (none : slice_index l.opening.anchors.items j ≡ 0)
+module _ (n : ℕ) (l : Load) (load : Workload) (K : List (Act Txn)) (s : Core) (j : ℕ) (room : n ≤ most_streams (format_of l.mode)) (width : l.streams ≡ n) (none : slice_index l.opening.anchors.items j ≡ 0)
     (sound : AreSound l load K) (content : List ℕ) (g : IsGiven l K s j (catalogue_of load) content) where
   abbrev pub items : List Item
   items = (s.streams j).moved ++ g.waiting
@@ -144,7 +143,7 @@ module _ (n : ℕ) (l : Load) (load : Workload) (K : List (Act Txn)) (s : Core) 
   -- and where it has nothing
   pub none_read : IsRead l load K n j [] []
   none_read = record {
-    reads = nothing_read n room;
+    reads = nothing_read (format_of l.mode) n;
     kept = ap (map (kept_of l.mode)) (sym (chain_none (length (catalogue_of load)) (slice_index s.ends j) 0 items chain (omega arith)) ∙ ap (filter (ends_by 0)) g.records);
     count = 0;
     firsts = refl;

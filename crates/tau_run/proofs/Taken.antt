@@ -2,12 +2,11 @@
 use Rattle.std.proofs.Common.{ℕ, zero, suc, ◌+◌, ◌≤◌, ◌<◌, Bool, true, ◌≡◌, List, [], ◌∷◌, ◌++◌, map, length, refl, sym, ap, subst, ◌∙◌, arith, slice_index}
 use Rattle.std.specs.Prelude.{◌&&◌, ◌==◌, slice_index_or}
 use Rattle.std.specs.List.{filter}
-use Rattle.std.proofs.lemmas.List.{map-append}
 use Rattle.std.proofs.lemmas.Bool.{and_parts, and_from, eq-eqb, eqb-true, leb-true, le-leb}
 use Rattle.tau_base.specs.Database.{Db, empty_db}
 use Rattle.tau_base.specs.Vectors.{covers}
 use Rattle.tau_base.specs.declared.value.LogMode.{LogMode}
-use Rattle.tau_base.specs.declared.value.LogMode.TheVariants.{Values, Commands}
+use Rattle.tau_base.specs.declared.value.LogMode.TheVariants.{Values, Commands, WideValues, WideCommands}
 use Rattle.tau_base.proofs.Vectors.{covers_at_most, at_most_covers}
 use Rattle.tau_proc.specs.declared.proc.Proc.{Proc}
 use Rattle.tau_text.specs.declared.load.Workload.{Workload}
@@ -70,6 +69,8 @@ contents_are : (mode : LogMode) (ts : List (Act Txn)) → map (λ (r : Kept). r.
 contents_are mode [] = refl
 contents_are Values (t ∷ ts) = ap (λ (l : List Content). reports.content_of Values t ∷ l) (contents_are Values ts)
 contents_are Commands (t ∷ ts) = ap (λ (l : List Content). reports.content_of Commands t ∷ l) (contents_are Commands ts)
+contents_are WideValues (t ∷ ts) = ap (λ (l : List Content). reports.content_of WideValues t ∷ l) (contents_are WideValues ts)
+contents_are WideCommands (t ∷ ts) = ap (λ (l : List Content). reports.content_of WideCommands t ∷ l) (contents_are WideCommands ts)
 
 calls_filter : (p : Txn → Bool) (ts : List (Act Txn)) → filter p (calls_of ts) ≡ calls_of (filter (λ (t : Act Txn). p t.call) ts)
 calls_filter p ts = filter_map (λ (t : Act Txn). t.call) p (λ (t : Act Txn). p t.call) ts (λ t m. refl)

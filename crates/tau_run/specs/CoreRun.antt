@@ -13,7 +13,8 @@ use Rattle.tau_core.specs.declared.state.Load.{Load}
 use Rattle.tau_core.specs.Opens.{calls_of}
 use Rattle.tau_core.specs.Pieces.{Spelled}
 use Rattle.tau_core.specs.View.{setting_of, worker_of}
-use Rattle.tau_base.specs.declared.limits.TheConstants.{MAX_CATALOGUE, MAX_STREAMS, SHARDS}
+use Rattle.tau_base.specs.declared.limits.TheConstants.{MAX_CATALOGUE, SHARDS}
+use Rattle.tau_base.specs.Modes.{format_of, most_streams}
 use Rattle.tau_base.specs.Vectors.{AtMost}
 use Rattle.tau_base.specs.declared.value.Call.{Call}
 use Rattle.tau_proc.specs.declared.proc.Proc.{Proc}
@@ -89,7 +90,7 @@ pub record IsSoundLoad (load : Workload) : Type 0 where
 
 -- The core stands on this workload, and its state is one that events led to: the invariant of the machine holds of it.
 pub record IsCourse (n m : ℕ) (mode : LogMode) (load : Workload) (l : Load) (K : List (Act Txn)) (s : Core) : Type 0 where
-  pub room : n ≤ MAX_STREAMS
+  pub room : n ≤ most_streams (format_of l.mode)
   pub load_is : IsLoadOf n m mode load l
   pub sound : IsSoundLoad load
   pub inv : Invariant (setting_of l) K s

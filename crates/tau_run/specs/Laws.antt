@@ -2,6 +2,7 @@
 use Rattle.std.specs.Prelude.{ℕ, ◌⊎◌, ◌==◌, map, false, ◌∷◌, ◌<◌, ◌≤◌, ◌+◌, ◌≡◌, ◌↔◌, true, List, [], length, take, slice_get, slice_index, slice_index_or, Some, None, Ok}
 use Rattle.std.specs.List.{filter}
 use Rattle.tau_base.specs.declared.value.LogMode.{LogMode}
+use Rattle.tau_base.specs.Modes.{format_of}
 use Rattle.tau_base.specs.Vectors.{covers}
 use Rattle.tau_block.specs.Image.{HasContent}
 use Rattle.tau_model.specs.History.{Act, Member, Depends, updates}
@@ -45,7 +46,7 @@ RunIsHistory = (n m : ℕ) (mode : LogMode) (load : Workload) (l : Load) (K : Li
 -- what the streams were given can be read, and is the records of the history, stream by stream
 abbrev pub ContentsAreRecords : Type 0
 ContentsAreRecords = (n m : ℕ) (mode : LogMode) (load : Workload) (l : Load) (K : List (Act Txn)) (s : Core) → IsCourse n m mode load l K s → (run : Run) → IsRunOf n l K s (catalogue_of load) run →
-    (log : Log) × (log_of_contents run.contents ≡ Ok log) × ((j : ℕ) → j < n → kept_in j (slice_index_or log.streams j []) ≡ records_in mode load run j)
+    (log : Log) × (log_of_contents (format_of mode) run.contents ≡ Ok log) × ((j : ℕ) → j < n → kept_in j (slice_index_or log.streams j []) ≡ records_in mode load run j)
 
 -- images of which each has nothing, or the catalogue and the first of the items that were gathered, whatever the others have: what recovery finds of them
 abbrev pub ImagesAreRecovered : Type 0
@@ -57,7 +58,7 @@ abbrev pub AckedIsTaken : Type 0
 AckedIsTaken = (n m : ℕ) (mode : LogMode) (load : Workload) (l : Load) (K : List (Act Txn)) (s : Core) → IsCourse n m mode load l K s → (run : Run) → IsRunOf n l K s (catalogue_of load) run →
     (images : List (List ℕ)) → length images ≡ n →
     ((j : ℕ) (image : List ℕ) → slice_get images j ≡ Some image → (bytes : List ℕ) × HasFront n j (catalogue_of load) l s bytes image × (slice_index s.plv j ≤ length (catalogue_of load) + length bytes)) →
-    (log : Log) → log_of images ≡ Ok log → (x : Act Committed) → Member x (acts load.declarations.procs run) → has_ack run x.call.number ≡ true →
+    (log : Log) → log_of None images ≡ Ok log → (x : Act Committed) → Member x (acts load.declarations.procs run) → has_ack run x.call.number ≡ true →
     (updates x.effect ≡ true → takes log x.call ≡ true) × ((u : Act Committed) → Depends (acts load.declarations.procs run) x u → updates u.effect ≡ true → takes log u.call ≡ true)
 
 -- At the end: a call is acknowledged exactly where it is persisted; where it is not, its stream was stopped; an image of
@@ -67,7 +68,7 @@ EndsWell = (n m : ℕ) (mode : LogMode) (load : Workload) (l : Load) (K : List (
     ((c : Committed) → Member c run.calls → (has_ack run c.number ≡ true) ↔ (covers s.plv (vector_of c) ≡ true)) ×
     ((c : Committed) → Member c run.calls → (j : ℕ) → j < n → slice_index s.plv j < slice_index (vector_of c) j → (end : ℕ) × ((s.streams j).stop ≡ Some end)) ×
     ((j : ℕ) → j < n → (s.streams j).stop ≡ None → (image bytes : List ℕ) → HasFront n j (catalogue_of load) l s bytes image → slice_index s.plv j ≤ length (catalogue_of load) + length bytes →
-    HasContent n j (slice_index_or run.contents j []) image) ×
+    HasContent (format_of l.mode) n j (slice_index_or run.contents j []) image) ×
     ((j : ℕ) (content : List ℕ) → slice_get run.contents j ≡ Some content → take (length (catalogue_of load)) content ≡ catalogue_of load)
 
 -- no event gives a call up

@@ -1,8 +1,10 @@
 -- What a run leaves: what its streams hold, what recovery finds of it, and what it has acknowledged.
-use Rattle.std.specs.Prelude.{ℕ, ◌<◌, ◌≤◌, ◌≡◌, ◌↔◌, ◌⊎◌, ◌==◌, Bool, true, List, [], length, map, take, slice_get, slice_index, slice_index_or, Result, Ok, Some}
+use Rattle.std.specs.Prelude.{ℕ, ◌<◌, ◌≤◌, ◌≡◌, ◌↔◌, ◌⊎◌, ◌==◌, Bool, true, List, [], length, map, take, slice_get, slice_index, slice_index_or, None, Result, Ok, Some}
 use Rattle.std.specs.List.{filter, list_any}
+use Rattle.tau_base.specs.declared.format.Format.{Format}
 use Rattle.tau_base.specs.declared.value.LogMode.{LogMode}
 use Rattle.tau_base.specs.Database.{empty_db}
+use Rattle.tau_base.specs.Modes.{format_of}
 use Rattle.tau_base.specs.Vectors.{covers}
 use Rattle.tau_model.specs.History.{Act, Member, Closed, Depends, exec, updates}
 use Rattle.tau_model.specs.Redo.{redo_contents}
@@ -19,13 +21,13 @@ use Rattle.tau_scan.specs.Taken.{Kept, kept_in, taken}
 use Rattle.tau_replay.specs.Redone.{IsOrderOf}
 use Rattle.tau_run.specs.Run.{Committed, Run, acts, means, records_in, has_ack, vector_of, AllAcked}
 
--- the catalogue record of a workload's declarations, with which every stream begins
+-- the catalogue record of a workload's declarations, with which every stream begins; it is the same in each format
 abbrev pub catalogue_of : Workload → List ℕ
 catalogue_of load = spelling One [] (Catalogue (declarations_text load.declarations))
 
--- the log of these contents, one for each stream, or the first cause why they hold none
-abbrev pub log_of_contents : List (List ℕ) → Result Log LogFault
-log_of_contents contents = streams_of contents >>= λ streams. declared_in streams >>= λ declarations.
+-- the log of these contents in a format, one for each stream, or the first cause why they hold none
+abbrev pub log_of_contents : Format → List (List ℕ) → Result Log LogFault
+log_of_contents f contents = streams_of f contents >>= λ streams. declared_in streams >>= λ declarations.
     unless (epoch_fault streams) (record { elv = map length contents; declarations = declarations; streams = streams })
 
 -- one image of each stream
@@ -40,11 +42,12 @@ takes log c = list_any (λ r. r.number == c.number) (taken log)
 -- just these calls gives.
 pub record IsRecovered (n : ℕ) (mode : LogMode) (load : Workload) (run : Run) (images : List (List ℕ)) : Type 0 where
   pub log : Log
-  -- there is no cause to refuse them
-  pub reads : log_of images ≡ Ok log
+  -- there is no cause to refuse them, whether no format is asked or that of the run
+  pub reads : log_of None images ≡ Ok log
+  pub asked : log_of (Some (format_of mode)) images ≡ Ok log
   -- each content is a first part of what the stream was given, and its records are the first ones of the history there
   pub contents : List (List ℕ)
-  pub have : contents_of images ≡ Ok contents
+  pub have : contents_of (format_of mode) images ≡ Ok contents
   pub fronts : (j : ℕ) → j < n → (k : ℕ) × (slice_index_or contents j [] ≡ take k (slice_index_or run.contents j []))
   pub records : (j : ℕ) → j < n → (k : ℕ) × (kept_in j (slice_index_or log.streams j []) ≡ take k (records_in mode load run j))
   pub declared : ((taken log ≡ []) × (log.declarations ≡ none_declared)) ⊎ (log.declarations ≡ load.declarations)
@@ -57,28 +60,28 @@ pub record IsRecovered (n : ℕ) (mode : LogMode) (load : Workload) (run : Run) 
 -- has a first part of it
 pub record IsImaged (n : ℕ) (mode : LogMode) (load : Workload) (unborn : Type 0) (past : ℕ → List ℕ → Type 0) (run : Run) : Type 0 where
   pub whole : Log
-  pub reads : log_of_contents run.contents ≡ Ok whole
+  pub reads : log_of_contents (format_of mode) run.contents ≡ Ok whole
   pub records : (j : ℕ) → j < n → kept_in j (slice_index_or whole.streams j []) ≡ records_in mode load run j
   pub each : unborn → (images : List (List ℕ)) → AreFrom past n images → IsRecovered n mode load run images
 
 -- whatever a stop now leaves, each updating call that is acknowledged is taken, and each on which an acknowledged call depends
 abbrev pub IsAcknowledged : ℕ → Workload → (ℕ → List ℕ → Type 0) → Run → Type 0
-IsAcknowledged n load now run = (images : List (List ℕ)) → AreFrom now n images → (log : Log) → log_of images ≡ Ok log →
+IsAcknowledged n load now run = (images : List (List ℕ)) → AreFrom now n images → (log : Log) → log_of None images ≡ Ok log →
     (x : Act Committed) → Member x (acts load.declarations.procs run) → has_ack run x.call.number ≡ true →
     (updates x.effect ≡ true → takes log x.call ≡ true) ×
     ((u : Act Committed) → Depends (acts load.declarations.procs run) x u → updates u.effect ≡ true → takes log u.call ≡ true)
 
 -- The run went to its end. The durable lengths are those of the shortest contents that a stop now may leave; the
 -- acknowledged calls are those of them that these cover, and where one is not covered, that disk failed.
-pub record IsEnded (n : ℕ) (load : Workload) (now : ℕ → List ℕ → Type 0) (rose : ℕ → Type 0) (run : Run) : Type 0 where
+pub record IsEnded (n : ℕ) (mode : LogMode) (load : Workload) (now : ℕ → List ℕ → Type 0) (rose : ℕ → Type 0) (run : Run) : Type 0 where
   pub durable : List ℕ
-  pub least : (j : ℕ) (x content : List ℕ) → j < n → now j x → HasContent n j content x → slice_index durable j ≤ length content
+  pub least : (j : ℕ) (x content : List ℕ) → j < n → now j x → HasContent (format_of mode) n j content x → slice_index durable j ≤ length content
   pub reached : (j : ℕ) (x : List ℕ) → j < n → now j x →
-      (y content : List ℕ) × now j y × HasContent n j content y × (length content ≡ slice_index durable j)
+      (y content : List ℕ) × now j y × HasContent (format_of mode) n j content y × (length content ≡ slice_index durable j)
   pub acked : (c : Committed) → Member c run.calls → (has_ack run c.number ≡ true) ↔ (covers durable (vector_of c) ≡ true)
   pub uncovered : (c : Committed) → Member c run.calls → (j : ℕ) → j < n → slice_index durable j < slice_index (vector_of c) j → rose j
   -- a disk that has not failed has all
-  pub flushed : (j : ℕ) (x : List ℕ) → j < n → (rose j → ⊥) → now j x → HasContent n j (slice_index_or run.contents j []) x
+  pub flushed : (j : ℕ) (x : List ℕ) → j < n → (rose j → ⊥) → now j x → HasContent (format_of mode) n j (slice_index_or run.contents j []) x
   -- each stream was made: what it was given begins with the catalogue
   pub opened : (j : ℕ) (content : List ℕ) → slice_get run.contents j ≡ Some content → take (length (catalogue_of load)) content ≡ catalogue_of load
   -- where no disk has failed each call committed, and is acknowledged

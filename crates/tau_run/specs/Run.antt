@@ -5,7 +5,7 @@ use Rattle.tau_base.specs.declared.value.Key.{Key}
 use Rattle.tau_base.specs.declared.value.Value.{Value}
 use Rattle.tau_base.specs.declared.value.Call.{Call}
 use Rattle.tau_base.specs.declared.value.LogMode.{LogMode}
-use Rattle.tau_base.specs.declared.value.LogMode.TheVariants.{Values, Commands}
+use Rattle.tau_base.specs.Modes.{is_command}
 use Rattle.tau_base.specs.Database.{Db, empty_db}
 use Rattle.tau_proc.specs.declared.proc.Proc.{Proc}
 use Rattle.tau_proc.specs.declared.reply.Reply.{Reply}
@@ -121,8 +121,7 @@ last_db load run = exec (means load.declarations.procs) run.calls empty_db
 
 -- what the record of a call holds
 abbrev pub content_of : LogMode → Act Committed → Content
-content_of Values x = Written x.effect.writes
-content_of Commands x = Command x.call.call
+content_of mode x = if is_command mode then Command x.call.call else Written x.effect.writes
 
 abbrev pub record_of : LogMode → Act Committed → Kept
 record_of mode x = record { number = x.call.number; place = x.call.place; content = content_of mode x }

@@ -93,6 +93,6 @@ pub record RunFacts (by : Bool → Load → Core → Progress → Type 0) (n m :
   pub stops : ℕ → Option ℕ
   pub core : IsCoreRunAt by n m mode load stops run ending
   pub stopped : (j k : ℕ) → stops j ≡ Some k → rose j
-  pub told : RunTells (IsEnded n load now rose) n load stops sink_rose made wrote fault run ending
+  pub told : RunTells (IsEnded n mode load now rose) n load stops sink_rose made wrote fault run ending
   pub imaged : IsImaged n mode load unborn past run
   pub acknowledged : IsAcknowledged n load now run

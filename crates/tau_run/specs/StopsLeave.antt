@@ -1,6 +1,7 @@
 -- What a run leaves of its streams, apart from the types of its disks.
 use Rattle.std.specs.Prelude.{ℕ, ◌+◌, ◌<◌, ◌≤◌, ◌≡◌, ◌⊎◌, Some, None, List, [], ◌++◌, length, take, slice_index}
 use Rattle.std.specs.List.{filter}
+use Rattle.tau_base.specs.Modes.{format_of}
 use Rattle.tau_base.specs.Vectors.{covers}
 use Rattle.tau_block.specs.Image.{HasContent}
 use Rattle.tau_machine.specs.State.{Ticket, Core}
@@ -11,11 +12,11 @@ use Rattle.tau_core.specs.Pieces.{Spelled}
 pub record HasFront (n j : ℕ) (catalogue : List ℕ) (l : Load) (s : Core) (bytes image : List ℕ) : Type 0 where
   pub count : ℕ
   pub spelled : Spelled l (λ i. (s.streams i).anchors) (take count (s.streams j).moved) bytes
-  pub has : HasContent n j (catalogue ++ bytes) image
+  pub has : HasContent (format_of l.mode) n j (catalogue ++ bytes) image
 
 -- the image has nothing, or such a front
 abbrev pub IsLeft : ℕ → ℕ → List ℕ → Load → Core → List ℕ → Type 0
-IsLeft n j catalogue l s image = HasContent n j [] image ⊎ ((bytes : List ℕ) × HasFront n j catalogue l s bytes image)
+IsLeft n j catalogue l s image = HasContent (format_of l.mode) n j [] image ⊎ ((bytes : List ℕ) × HasFront n j catalogue l s bytes image)
 
 -- What stops may leave: `past` at some moment since the entry, `now` now. `rose` are the streams whose disk failed.
 pub record Leaves (n : ℕ) (catalogue : List ℕ) (l : Load) (s : Core) (past now : ℕ → List ℕ → Type 0) (rose : ℕ → Type 0) : Type 0 where
@@ -23,7 +24,7 @@ pub record Leaves (n : ℕ) (catalogue : List ℕ) (l : Load) (s : Core) (past n
   -- whatever a stop now leaves reaches what is persisted
   pub present : (j : ℕ) (x : List ℕ) → j < n → now j x → (bytes : List ℕ) × HasFront n j catalogue l s bytes x × (slice_index s.plv j ≤ length catalogue + length bytes)
   -- and it may leave no more than that
-  pub reached : (j : ℕ) (x : List ℕ) → j < n → now j x → (y content : List ℕ) × now j y × HasContent n j content y × (length content ≡ slice_index s.plv j)
+  pub reached : (j : ℕ) (x : List ℕ) → j < n → now j x → (y content : List ℕ) × now j y × HasContent (format_of l.mode) n j content y × (length content ≡ slice_index s.plv j)
   pub stopped : (j at : ℕ) → (s.streams j).stop ≡ Some at → rose j
 
 -- At the end of a run: no call is in hand; what was placed in a stream is persisted, unless its disk failed; what is

@@ -5,3 +5,5 @@ pub mod Known
 pub mod Marks
 pub mod Listed
 pub mod Plans
+pub mod Asked
+pub mod Contents

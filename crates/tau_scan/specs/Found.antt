@@ -19,6 +19,11 @@ abbrev pub Found : {A : Type 0} → Result A LogRefusal → Result A LogFault �
 Found (Ok x) read = read ≡ Ok x
 Found (Err e) read = Lost e read
 
+-- likewise of what a function returned this part
+abbrev pub FoundAs : {A B : Type 0} → (A → B) → Result A LogRefusal → Result B LogFault → Type 0
+FoundAs f (Ok x) read = read ≡ Ok (f x)
+FoundAs f (Err e) read = Lost e read
+
 -- what was refused is this fault, unless memory ran out
 abbrev pub IsFault : LogRefusal → Option LogFault → Type 0
 IsFault of_logs.NoMemory found = Unit {0}

@@ -3,4 +3,5 @@ pub mod Epochs
 pub mod Taken
 pub mod Outside
 pub mod Found
+pub mod Contents
 pub mod Laws

@@ -1,12 +1,15 @@
 -- What the images of all streams hold together, or the first cause why they hold no log.
-use Rattle.std.specs.Prelude.{ℕ, suc, ◌≡◌, Bool, true, false, ◌&&◌, nat_lt, ◌==◌, if◌then◌else◌, bytes_eq, nat_abs, List, [], ◌∷◌, length, map, take, Option, Some, None, Result, Ok, Err, is_ok, is_some}
+use Rattle.std.specs.Prelude.{ℕ, suc, ◌≡◌, Bool, true, false, ◌&&◌, nat_lt, nat_le, ◌==◌, if◌then◌else◌, bytes_eq, nat_abs, List, [], ◌∷◌, length, map, take, Option, Some, None, Result, Ok, Err, is_ok, is_some}
 use Rattle.std.specs.List.{list_all, AllZip}
+use Rattle.tau_base.specs.declared.format.Format.{Format}
+use Rattle.tau_base.specs.declared.format.Format.TheVariants.{One, Two}
+use Rattle.tau_base.specs.Modes.{format_number, most_streams, same_format}
 use Rattle.tau_base.specs.declared.value.Key.{Key}
 use Rattle.tau_base.specs.declared.value.Value.{Value}
 use Rattle.tau_base.specs.declared.value.Value.TheVariants.{Int}
 use Rattle.tau_base.specs.declared.value.Call.{Call}
 use Rattle.tau_block.specs.declared.fault.ImageFault.{ImageFault}
-use Rattle.tau_block.specs.Image.{Reading as ImageReading, image_of}
+use Rattle.tau_block.specs.Image.{Reading as ImageReading, image_of, stated_in}
 use Rattle.tau_proc.specs.declared.procs.TheConstants.{FIRST_DECLARED}
 use Rattle.tau_proc.specs.Takes.{takes}
 use Rattle.tau_record.specs.declared.entry.Entry.{Entry}
@@ -14,7 +17,6 @@ use Rattle.tau_record.specs.declared.entry.Entry.TheVariants.{Written, Command, 
 use Rattle.tau_record.specs.declared.entry.Placed.{Placed}
 use Rattle.tau_record.specs.declared.fault.RecordCause.TheVariants.{BadBody}
 use Rattle.tau_record.specs.declared.fault.RecordFault.{RecordFault}
-use Rattle.tau_record.specs.Format.{One}
 use Rattle.tau_record.specs.Content.{IsContent, content_at}
 use Rattle.tau_epoch.specs.Epochs.{Mark}
 use Rattle.tau_epoch.specs.Known.{vector_of}
@@ -118,13 +120,34 @@ or_fault (Some found) fault = found
 
 -- The records, where the bytes alone give these or this first bad one. What stands before a record that is bad by its
 -- bytes is records, of which one may be bad by the declarations.
-abbrev pub judged : ℕ → List ℕ → Result (List Placed) RecordFault → Result (List Placed) RecordFault
-judged n content (Ok ps) = unless (undeclared ps) ps
-judged n content (Err fault) = Err (or_fault (undeclared (or_no_records (content_at One n (take fault.at content)))) fault)
+abbrev pub judged : Format → ℕ → List ℕ → Result (List Placed) RecordFault → Result (List Placed) RecordFault
+judged f n content (Ok ps) = unless (undeclared ps) ps
+judged f n content (Err fault) = Err (or_fault (undeclared (or_no_records (content_at f n (take fault.at content)))) fault)
 
--- the records of the content of a stream, one of n, or its first bad record with the cause
-unfoldable pub records_of : ℕ → List ℕ → Result (List Placed) RecordFault
-records_of n content = judged n content (content_at One n content)
+-- the records of the content of a stream, one of n, in a format, or its first bad record with the cause
+unfoldable pub records_of : Format → ℕ → List ℕ → Result (List Placed) RecordFault
+records_of f n content = judged f n content (content_at f n content)
+
+-- ---- the format that is asked
+
+-- the first of two
+abbrev pub first_of : Option Format → Option Format → Option Format
+first_of None other = other
+first_of (Some f) other = Some f
+
+-- the format that the lowest born stream states
+abbrev pub stated_by : List (List ℕ) → Option Format
+stated_by [] = None
+stated_by (image ∷ images) = first_of (stated_in image) (stated_by images)
+
+-- without a born stream there is no format, and no record: the first that has room for so many streams
+abbrev pub or_roomy : ℕ → Option Format → Format
+or_roomy n None = if nat_le n (most_streams One) then One else Two
+or_roomy n (Some f) = f
+
+-- the one given, else that of the lowest born stream
+abbrev pub asked_format : Option Format → List (List ℕ) → Format
+asked_format asked images = or_roomy (length images) (first_of asked (stated_by images))
 
 -- ---- all streams
 
@@ -133,9 +156,14 @@ abbrev pub counted : ℕ → ℕ → Option ℕ → List ℕ → Result (List �
 counted n j None bytes = Ok bytes
 counted n j (Some found) bytes = if found == n then Ok bytes else Err (record { stream = j; cause = cause.Count n found })
 
-abbrev pub opened : ℕ → ℕ → Result ImageReading ImageFault → Result (List ℕ) LogFault
-opened n j (Ok r) = counted n j r.count r.bytes
-opened n j (Err fault) = Err (record { stream = j; cause = cause.Image fault })
+-- what is found there, unless the header states another format than this, which is asked
+abbrev pub formatted : Format → ℕ → Option Format → Result (List ℕ) LogFault → Result (List ℕ) LogFault
+formatted f j None content = content
+formatted f j (Some found) content = if same_format f found then content else Err (record { stream = j; cause = cause.Format (format_number f) (format_number found) })
+
+abbrev pub opened : Format → ℕ → ℕ → Result ImageReading ImageFault → Result (List ℕ) LogFault
+opened f n j (Ok r) = formatted f j r.format (counted n j r.count r.bytes)
+opened f n j (Err fault) = Err (record { stream = j; cause = cause.Image fault })
 
 abbrev pub recorded : ℕ → Result (List Placed) RecordFault → Result (List Placed) LogFault
 recorded j (Ok ps) = Ok ps
@@ -161,13 +189,13 @@ catalogue_from j [] = Ok None
 catalogue_from j (None ∷ rest) = catalogue_from (suc j) rest
 catalogue_from j (Some text ∷ rest) = unless_other j text (suc j) rest
 
--- the contents of these images, or the first image that has none or counts other streams
-unfoldable pub contents_of : List (List ℕ) → Result (List (List ℕ)) LogFault
-contents_of images = each_from (λ j image. opened (length images) j (image_of j image)) 0 images
+-- the contents of these images, or the first image that has none, states another format or counts other streams
+unfoldable pub contents_of : Format → List (List ℕ) → Result (List (List ℕ)) LogFault
+contents_of f images = each_from (λ j image. opened f (length images) j (image_of j image)) 0 images
 
 -- the records of these contents, or the first bad record of the first stream that has one
-unfoldable pub streams_of : List (List ℕ) → Result (List (List Placed)) LogFault
-streams_of contents = each_from (λ j content. recorded j (records_of (length contents) content)) 0 contents
+unfoldable pub streams_of : Format → List (List ℕ) → Result (List (List Placed)) LogFault
+streams_of f contents = each_from (λ j content. recorded j (records_of f (length contents) content)) 0 contents
 
 -- the one catalogue of these streams, or the first stream that has another than the first
 unfoldable pub catalogue_in : List (List Placed) → Result (Option (List ℕ)) LogFault
@@ -211,14 +239,19 @@ epochs_fault streams j (ps ∷ rest) = or_else (marks_fault streams j (marks_in 
 unfoldable pub epoch_fault : List (List Placed) → Option LogFault
 epoch_fault streams = epochs_fault streams 0 streams
 
--- The log of these images, one for each stream, or the first cause why they hold none: those of images and counts by
--- stream, then those of records by stream, then those of catalogues, then those of epochs.
-unfoldable pub log_of : List (List ℕ) → Result Log LogFault
-log_of images = do
-  contents ← contents_of images
-  streams ← streams_of contents
+-- The log of these images, one for each stream, of which those that are born are of this format, or the first cause why
+-- they hold none: those of images, formats and counts by stream, then those of records by stream, then those of catalogues,
+-- then those of epochs.
+unfoldable pub log_as : Format → List (List ℕ) → Result Log LogFault
+log_as f images = do
+  contents ← contents_of f images
+  streams ← streams_of f contents
   declarations ← declared_in streams
   unless (epoch_fault streams) (record { elv = map length contents; declarations = declarations; streams = streams })
+
+-- the same, if this format is asked, or none
+abbrev pub log_of : Option Format → List (List ℕ) → Result Log LogFault
+log_of asked images = log_as (asked_format asked images) images
 
 -- What a function returned is what the definition gives, unless memory ran out or a disk failed.
 abbrev pub Misses : {A : Type 0} → ScanRefusal → Result A LogFault → Type 0
@@ -230,20 +263,26 @@ abbrev pub Gives : {A : Type 0} → Result A ScanRefusal → Result A LogFault �
 Gives (Ok x) read = read ≡ Ok x
 Gives (Err e) read = Misses e read
 
+-- the log of what was read, without the contents
+abbrev pub log_read : {A : Type 0} → Result (Log × A) ScanRefusal → Result Log ScanRefusal
+log_read (Ok r) = Ok r.0
+log_read (Err e) = Err e
+
 -- What was answered is what these images give; a disk that tells gave the bytes that a read gives.
-pub record HasRead {D : Type 0} (tells : Type 0) (seen : D → List ℕ) (disks : List D) (result : Result Log ScanRefusal) : Type 0 where
+pub record HasRead {D : Type 0} (tells : Type 0) (seen : D → List ℕ) (asked : Option Format) (disks : List D) (result : Result Log ScanRefusal) : Type 0 where
   pub images : List (List ℕ)
   pub as_seen : tells → images ≡ map seen disks
-  pub gives : Gives result (log_of images)
+  pub gives : Gives result (log_of asked images)
 
--- these records are the one reading of the content of a stream, one of n, and name only what their catalogue declares
-pub record IsReading (n : ℕ) (content : List ℕ) (ps : List Placed) : Type 0 where
-  pub spelled : IsContent One n content ps
+-- these records are the one reading of the content of a stream, one of n, in a format, and name only what their catalogue declares
+pub record IsReading (f : Format) (n : ℕ) (content : List ℕ) (ps : List Placed) : Type 0 where
+  pub spelled : IsContent f n content ps
   pub declared : undeclared ps ≡ None
 
 -- the log has the records of some contents, their lengths, and what their one catalogue declares
 pub record IsLog (log : Log) : Type 0 where
+  pub format : Format
   pub contents : List (List ℕ)
   pub lengths : log.elv ≡ map length contents
-  pub read : AllZip (IsReading (length contents)) contents log.streams
+  pub read : AllZip (IsReading format (length contents)) contents log.streams
   pub declared : declared_in log.streams ≡ Ok log.declarations

@@ -16,6 +16,14 @@ pub enum LogCause {
     /// The image of the stream holds no content.
     #[error(transparent)]
     Image(ImageFault),
+    /// The image states another format.
+    #[error("asked for format {asked}, found {found}")]
+    Format {
+        /// The number of the format that was asked.
+        asked: u8,
+        /// The number of the one that the image states.
+        found: u8,
+    },
     /// The image states another number of streams.
     #[error("asked for {asked} streams, found {found}")]
     Count {
@@ -43,10 +51,31 @@ pub enum LogCause {
         /// The number of the epoch.
         number: u32,
     },
+    /// The declarations differ from those of the workload that was to go on from the log. Reading never returns it.
+    #[error("the catalogue differs from the workload's declarations at {at}")]
+    Declared {
+        /// The first byte at which the texts differ, or the length of the shorter one.
+        at: u32,
+    },
+    /// The image is too long, or has too many anchors, for a run to go on from it. Reading never returns it.
+    #[error("the image of {length} bytes is too long to go on from")]
+    Long {
+        /// The length of the image.
+        length: u64,
+    },
+    /// No number is left for another epoch. Reading never returns it.
+    #[error("the last epoch has begun")]
+    Last,
     /// Records wait for one another. Reading never returns it.
     #[error("tangled at {at}")]
     Tangled {
         /// Where the first record starts that can't be redone.
+        at: u64,
+    },
+    /// A record was applied that an epoch record which came after it leaves out. Reading never returns it.
+    #[error("applied too early at {at}")]
+    Late {
+        /// Where the applied record starts.
         at: u64,
     },
 }

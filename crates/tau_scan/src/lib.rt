@@ -16,4 +16,4 @@ pub use fault::{LogCause, LogFault, ReplayRefusal, ScanRefusal};
 pub use judge::Judge;
 pub use laws::{taken_are_listed, taken_plain};
 pub use log::Log;
-pub use reading::scan;
+pub use reading::{scan, scan_contents};

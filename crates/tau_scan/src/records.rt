@@ -3,16 +3,16 @@ ghost use Rattle.std.specs.Prelude.{◌≡◌, ◌≤◌, ◌&&◌, List, length
 ghost use Rattle.tau_proc.specs.Takes.{takes};
 ghost use Rattle.tau_record.specs.Content.{FirstBad, content_at};
 ghost use Rattle.tau_record.specs.declared.entry.Placed.{Placed};
-ghost use Rattle.tau_record.specs.Format.{One, most_streams};
+ghost use Rattle.tau_base.specs.Modes.{most_streams};
 ghost use Rattle.tau_text.specs.Alone.{declarations_of};
 ghost use Rattle.tau_scan.specs.Reading.{text_of, catalogue_of, declared_by, or_none, names_table, is_of_table, is_declared, first_undeclared, undeclared, records_of, judged, or_no_records, unless, IsReading};
 ghost use Rattle.tau_scan.specs.Found.{Judged, IsShort};
 
 use arrayvec::ArrayVec;
 use std::alloc::Global;
-use tau_base::{Call, KeptCall, Listed, NoMemory, Value};
+use tau_base::{Call, Format, KeptCall, Listed, NoMemory, Value};
 use tau_proc::{FIRST_DECLARED, Procs};
-use tau_record::{Entry, Placed, RecordCause, RecordFault, RecordRefusal, decode};
+use tau_record::{Entry, Placed, RecordCause, RecordFault, RecordRefusal, decode_as};
 use tau_text::{Declarations, TextRefusal, parse_declarations};
 
 /// The declarations of a log without a catalogue.
@@ -162,13 +162,19 @@ fn undeclared(alloc: Global, records: &[Placed]) -> Result<Option<RecordFault>, 
 
 /// The refusal of a stream whose bytes have this first bad record: that of an earlier record that names what is not
 /// declared, where there is one.
-fn earlier(alloc: Global, n: u16, content: &[u8], fault: RecordFault) -> RecordRefusal
+fn earlier(
+    alloc: Global,
+    format: Format,
+    n: u16,
+    content: &[u8],
+    fault: RecordFault,
+) -> RecordRefusal
     requires low { 1 ≤ n }
-    requires high { n ≤ most_streams One }
-    requires first { FirstBad One n content.now fault }
-    ensures { Judged {A = List Placed} (Err result) (judged n content.now (Err fault)) }
+    requires high { n ≤ most_streams format }
+    requires first { FirstBad format n content.now fault }
+    ensures { Judged {A = List Placed} (Err result) (judged format n content.now (Err fault)) }
 {
-    let Ok(before) = decode(alloc, n, &content[..fault.at as usize]) else {
+    let Ok(before) = decode_as(alloc, format, n, &content[..fault.at as usize]) else {
         return RecordRefusal::NoMemory;
     };
     match undeclared(alloc, &before) {
@@ -189,17 +195,22 @@ fn declared_ones(alloc: Global, records: Vec<Placed>) -> Result<Listed<Placed>, 
     }
 }
 
-/// The records of the content of a stream of `n`, or the first bad one.
-pub fn records_in(alloc: Global, n: u16, content: &[u8]) -> Result<Listed<Placed>, RecordRefusal>
+/// The records of the content of a stream of `n`, in a format, or the first bad one.
+pub fn records_in(
+    alloc: Global,
+    format: Format,
+    n: u16,
+    content: &[u8],
+) -> Result<Listed<Placed>, RecordRefusal>
     requires low { 1 ≤ n }
-    requires high { n ≤ most_streams One }
-    ensures same { Judged result (records_of n content.now) }
-    ensures read { IfOk result (λ records. IsReading n content.now records) }
+    requires high { n ≤ most_streams format }
+    ensures same { Judged result (records_of format n content.now) }
+    ensures read { IfOk result (λ records. IsReading format n content.now records) }
     ensures short { IfOk result (λ records. IsShort (catalogue_of records)) }
 {
-    match decode(alloc, n, content) {
+    match decode_as(alloc, format, n, content) {
         Ok(records) => declared_ones(alloc, records),
         Err(RecordRefusal::NoMemory) => Err(RecordRefusal::NoMemory),
-        Err(RecordRefusal::Bad(fault)) => Err(earlier(alloc, n, content, fault)),
+        Err(RecordRefusal::Bad(fault)) => Err(earlier(alloc, format, n, content, fault)),
     }
 }

@@ -498,7 +498,8 @@ fn there<V>(map: &IndexMap<Key, V>, key: Key, guess: usize) -> usize
     }
 }
 
-/// Where the key stands, if it is there.
+/// Where the key stands, if it is there. The guess is mostly right: only the test of it is written into each caller.
+#[inline(always)]
 fn find<V>(map: &IndexMap<Key, V>, key: Key, guess: usize) -> Option<usize>
     ensures found { IfSome result (λ at. (v : V) × StandsAt map.now.entries key at v) }
     ensures none { IfNone result (lookup (is_key key) map.now.entries ≡ None) }
@@ -506,6 +507,15 @@ fn find<V>(map: &IndexMap<Key, V>, key: Key, guess: usize) -> Option<usize>
     if is_at(map, key, guess) {
         return Some(guess);
     }
+    look_up(map, key)
+}
+
+/// Where the key stands, if it is there, looked up.
+#[inline(never)]
+fn look_up<V>(map: &IndexMap<Key, V>, key: Key) -> Option<usize>
+    ensures found { IfSome result (λ at. (v : V) × StandsAt map.now.entries key at v) }
+    ensures none { IfNone result (lookup (is_key key) map.now.entries ≡ None) }
+{
     match map.get_full(&key) {
         Some((at, _, _)) => Some(at),
         None => None,
@@ -513,6 +523,7 @@ fn find<V>(map: &IndexMap<Key, V>, key: Key, guess: usize) -> Option<usize>
 }
 
 /// Whether the key stands here.
+#[inline(always)]
 fn is_at<V>(map: &IndexMap<Key, V>, key: Key, at: usize) -> bool
     ensures { result ≡ true → (v : V) × StandsAt map.now.entries key at v }
 {

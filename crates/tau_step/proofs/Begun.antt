@@ -4,6 +4,7 @@ use Rattle.std.specs.Prelude.{slice_index, Result, Ok, Err}
 use Rattle.std.proofs.lemmas.List.{length-replicate, get_or-replicate}
 use Rattle.tau_base.specs.declared.value.LogMode.{LogMode}
 use Rattle.tau_base.specs.declared.value.NoMemory.{NoMemory}
+use Rattle.tau_base.specs.Modes.{format_of}
 use Rattle.tau_disk.specs.declared.disk.Disk.{Ghosts}
 use Rattle.tau_stream.specs.declared.writer.Writer.{Writer}
 use Rattle.tau_text.specs.Canonical.{declarations_text}
@@ -45,8 +46,8 @@ module _ {D : Type 0} {G : Ghosts D} (m : ℕ) (mode : LogMode) (load : Workload
       anchors = q.1.anchors;
     })
 
-    pub fresh_begun : AreNew (λ j. catalogue_of load) ws → IsBegun (λ j. catalogue_of load) ws p.load.opening
-    fresh_begun new = subst (λ (l : Load). IsBegun (λ j. catalogue_of load) ws l.opening) (sym q.2.load) (record {
+    pub fresh_begun : AreNew (format_of mode) (λ j. catalogue_of load) ws → IsBegun (format_of p.load.mode) (λ j. catalogue_of load) ws p.load.opening
+    fresh_begun new = subst (λ (l : Load). IsBegun (format_of l.mode) (λ j. catalogue_of load) ws l.opening) (sym q.2.load) (record {
       count = sym ends_long;
       long = λ j lt. sym (ap (λ (v : List ℕ). slice_index v j) q.1.ends ∙ get_or-replicate (length ws) j (length (catalogue_of load)) 0 (let e = ends_long in omega arith));
       new = new;
@@ -57,8 +58,8 @@ module _ {D : Type 0} {G : Ghosts D} (m : ℕ) (mode : LogMode) (load : Workload
 
   -- from a given state
   module _ (o : Opening) (p : Plain) (q : Opened (load_of load.declarations.procs load.calls mode m o) p) where
-    pub given_begun : (bases : ℕ → List ℕ) → IsBegun bases ws o → IsBegun bases ws p.load.opening
-    given_begun bases b = subst (λ (l : Load). IsBegun bases ws l.opening) (sym q.load) b
+    pub given_begun : (bases : ℕ → List ℕ) → IsBegun (format_of mode) bases ws o → IsBegun (format_of p.load.mode) bases ws p.load.opening
+    given_begun bases b = subst (λ (l : Load). IsBegun (format_of l.mode) bases ws l.opening) (sym q.load) b
 
     pub ran_from : (bases : ℕ → List ℕ) (r : Result RunEnd NoMemory) → Ran (turns_of load) bases p ws ws' hears held held' sink_rose r →
         Began m mode load ws ws' hears held held' sink_rose (RanFrom m mode load ws ws' hears held held' sink_rose o bases) r

@@ -1,12 +1,11 @@
 -- The bytes that are handed out of a stream.
-use Rattle.std.proofs.Common.{ℕ, zero, suc, ◌+◌, ◌<◌, ◌≤◌, ◌≡◌, ◌⊎◌, inl, inr, List, [], ◌∷◌, ◌++◌, length, refl, sym, ap, subst, ◌∙◌, append_assoc, arith, length-append}
+use Rattle.std.proofs.Common.{ℕ, suc, ◌+◌, ◌<◌, ◌≤◌, ◌≡◌, ◌⊎◌, inl, inr, List, [], ◌∷◌, ◌++◌, length, sym, ap, subst, ◌∙◌, append_assoc, arith, length-append}
 use Rattle.std.specs.Prelude.{Some, slice_get, slice_index, replicate}
+use Rattle.tau_base.specs.Modes.{format_of}
 use Rattle.tau_model.specs.History.{Act}
 use Rattle.tau_machine.specs.Hands.{Txn}
 use Rattle.tau_machine.specs.State.{Item, Record, Anchor, past_of}
 use Rattle.tau_machine.specs.Pieces.{Chain}
-use Rattle.tau_record.specs.Format.{One}
-use Rattle.tau_record.specs.Record.{base_of}
 use Rattle.tau_record.specs.declared.entry.Entry.TheVariants as entry
 use Rattle.tau_record.proofs.ContentLaws.{spelling_long}
 use Rattle.tau_txn.specs.Record.{entry_of}
@@ -24,10 +23,10 @@ module _ (l : Load) (anchors : ℕ → List (List ℕ)) where
   five (Record t) bytes q =
       let vectors : List (List ℕ) = replicate (suc t.call.anchor) q.base in
       let s = q.spelled vectors (named_copies (suc t.call.anchor) t.call.anchor q.base (omega arith)) in
-      subst (λ (b : List ℕ). 5 ≤ length b) (sym s.text) (spelling_long One vectors (entry_of l.mode t))
+      subst (λ (b : List ℕ). 5 ≤ length b) (sym s.text) (spelling_long (format_of l.mode) vectors (entry_of l.mode t))
   five (Anchor start past v) bytes q =
       let s = q [] in
-      subst (λ (b : List ℕ). 5 ≤ length b) (sym s.text) (spelling_long One [] (entry.Anchor v))
+      subst (λ (b : List ℕ). 5 ≤ length b) (sym s.text) (spelling_long (format_of l.mode) [] (entry.Anchor v))
 
   -- the bytes of a chain of items are as long as it is
   pub spelled_long : (from to : ℕ) (items : List Item) (bytes : List ℕ) → Chain from items to → Spelled l anchors items bytes → from + length bytes ≡ to

@@ -7,6 +7,7 @@ use Rattle.std.proofs.Math.Nat.{mod-lt}
 use Rattle.std.proofs.lemmas.List.{append-nil}
 use Rattle.std.proofs.lemmas.Bool.{eq-eqb}
 use Rattle.std.proofs.lemmas.Option.{slice_get_within, slice_get_past}
+use Rattle.tau_base.specs.Modes.{format_of}
 use Rattle.tau_base.specs.declared.value.NoMemory.{NoMemory}
 use Rattle.tau_block.specs.Image.{HasContent}
 use Rattle.tau_disk.specs.Disk.{Rose}
@@ -53,7 +54,7 @@ use Rattle.tau_machine.proofs.Lists.{member_of}
 
 -- ---- how it begins
 
-module _ {D : Type 0} {G : Ghosts D} (bases : ℕ → List ℕ) (ws : List (Writer D G)) (p : Plain) (o : Opened p.load p) (b : IsBegun bases ws p.load.opening) where
+module _ {D : Type 0} {G : Ghosts D} (bases : ℕ → List ℕ) (ws : List (Writer D G)) (p : Plain) (o : Opened p.load p) (b : IsBegun (format_of p.load.mode) bases ws p.load.opening) where
   pub count_is : length ws ≡ p.load.streams
   count_is = b.count ∙ o.opening.count
 
@@ -70,7 +71,7 @@ module _ {D : Type 0} {G : Ghosts D} (bases : ℕ → List ℕ) (ws : List (Writ
           durable = n.durable ∙ b.long j (let e = b.count in omega arith) ∙ ap (λ (v : List ℕ). slice_index v j) (sym o.opening.plv);
           left = n.left;
           spelled = refl;
-          ready = λ tells. subst (λ (bytes : List ℕ). IsReady p.load.streams j w bytes) (sym (append-nil (bases j))) (subst (λ (n : ℕ). IsReady n j w (bases j)) count_is (n.ready tells));
+          ready = λ tells. subst (λ (bytes : List ℕ). IsReady (format_of p.load.mode) p.load.streams j w bytes) (sym (append-nil (bases j))) (subst (λ (n : ℕ). IsReady (format_of p.load.mode) n j w (bases j)) count_is (n.ready tells));
         }));
   }
 
@@ -122,7 +123,7 @@ told_one p K h g told acks a m =
 -- ---- what it leaves
 
 module _ {D : Type 0} {G : Ghosts D} (seen_now : (d : D) → G.tells → G.may_leave d (G.seen d)) (bases : ℕ → List ℕ) (R : Bool → Load → Progress → Progress → Type 0) (whole : Bool) (p p' : Plain) (ws ws' : List (Writer D G)) (told told' : List (ℕ × List ℕ))
-    (new : AreNew bases ws) (w : Went bases R whole p p' ws ws' told told' [] nothing []) where
+    (new : AreNew (format_of p.load.mode) bases ws) (w : Went bases R whole p p' ws ws' told told' [] nothing []) where
   leaving_by : (b : Bool) (j : ℕ) (x : Writer D G) → KeptBy j (bases j) b x p' w.hidden → IsLeaving j (bases j) x p' w.hidden
   leaving_by true j x k = kept_leaving seen_now j (bases j) x p' w.hidden k
   leaving_by false j x k = k
@@ -133,7 +134,7 @@ module _ {D : Type 0} {G : Ghosts D} (seen_now : (d : D) → G.tells → G.may_l
       record {
         before = s.before;
         present = λ tells y left. subst (λ (d : Load). (bytes : List ℕ) × HasFront d.streams j (bases j) d (core_of p' w.hidden) bytes y × (slice_index p'.plv j ≤ length (bases j) + length bytes)) w.load (l.present tells y left);
-        reached = λ tells. (let (y, content, now, has, size) = l.reached tells in (y, content, now, subst (λ (d : Load). HasContent d.streams j content y) w.load has, size));
+        reached = λ tells. (let (y, content, now, has, size) = l.reached tells in (y, content, now, subst (λ (d : Load). HasContent (format_of d.mode) d.streams j content y) w.load has, size));
         goes = λ works. (l.going works, s.goes works);
         stops = λ fails. (let q = s.stops (new j x e).works fails in (l.stopped fails, q.0, q.1));
         faults = s.faults;
@@ -145,7 +146,7 @@ module _ {D : Type 0} {G : Ghosts D} (seen_now : (d : D) → G.tells → G.may_l
 -- ---- all of it
 
 module _ {D : Type 0} {G : Ghosts D} (seen_now : (d : D) → G.tells → G.may_leave d (G.seen d)) (turns : List Turn) (bases : ℕ → List ℕ) (old new : Run) (ws ws' : List (Writer D G)) (hears : Type 0) (held held' : List ℕ) (faults faults' : ℕ)
-    (o : Opened old.core.load old.core) (b : IsBegun bases ws old.core.load.opening) (acks : old.clerk.acks ≡ []) (works : old.clerk.sink_failed ≡ false) where
+    (o : Opened old.core.load old.core) (b : IsBegun (format_of old.core.load.mode) bases ws old.core.load.opening) (acks : old.clerk.acks ≡ []) (works : old.clerk.sink_failed ≡ false) where
   first_held : Heard held old.clerk.acks old.clerk.sink_failed held
   first_held = subst (λ (a : List (ℕ × List ℕ)). Heard held a old.clerk.sink_failed held) (sym acks) (subst (λ (f : Bool). Heard held [] f held) (sym works) (sym (append-nil held)))
 

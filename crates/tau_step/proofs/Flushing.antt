@@ -5,6 +5,8 @@ use Rattle.std.proofs.lemmas.List.{append-nil, take_all, drop_all, get_or-set_sa
 use Rattle.std.proofs.lemmas.Bool.{eq-eqb, ne_eqb, cases_eq}
 use Rattle.std.proofs.Math.Path.{fun_ext}
 use Rattle.std.proofs.Math.Seq.{take-append_seam}
+use Rattle.tau_base.specs.declared.format.Format.{Format}
+use Rattle.tau_base.specs.Modes.{format_of}
 use Rattle.tau_block.specs.Image.{HasContent}
 use Rattle.tau_disk.specs.Disk.{Passes, Rose}
 use Rattle.tau_disk.specs.Plan.{HasMade, MadeAll, MadeSome}
@@ -71,7 +73,7 @@ module _ {D T : Type 0} (G : Ghosts D) (old new : D) where
 
 -- an image with a front of what was gathered
 pub has_front : (n j : ℕ) (catalogue : List ℕ) (p : Plain) (h : Hidden) (before others : List Item) (bytes image : List ℕ) → h.moved j ≡ before ++ others → Spelled p.load (anchors_at p) before bytes →
-    HasContent n j (catalogue ++ bytes) image → HasFront n j catalogue p.load (core_of p h) bytes image
+    HasContent (format_of p.load.mode) n j (catalogue ++ bytes) image → HasFront n j catalogue p.load (core_of p h) bytes image
 has_front n j catalogue p h before others bytes image is s has = record {
   count = length before;
   spelled = subst (λ (items : List Item). Spelled p.load (anchors_at p) items bytes) (sym (ap (take (length before)) is ∙ take-append_seam before others)) s;
@@ -94,10 +96,11 @@ module _ {D : Type 0} {G : Ghosts D} (j : ℕ) (catalogue : List ℕ) (upto : �
     pub moved : k.moved j ≡ h.moved j
     pub taken : k.taken ≡ h.taken
 
-  old_front : (k : Hidden) → Alike k → (x : List ℕ) → HasContent p.load.streams j (catalogue ++ l.first) x → HasFront p.load.streams j catalogue p.load (core_of p' k) l.first x
+  old_front : (k : Hidden) → Alike k → (x : List ℕ) → HasContent (format_of p.load.mode) p.load.streams j (catalogue ++ l.first) x → HasFront p.load.streams j catalogue p.load (core_of p' k) l.first x
   old_front k a x has =
       subst (λ (d : Load). HasFront p.load.streams j catalogue d (core_of p' k) l.first x) a.load
-      (has_front p.load.streams j catalogue p' k l.before l.others l.first x (a.moved ∙ l.moved) (spelled_kept p p' l.before l.first a.load a.anchors l.front) has)
+      (has_front p.load.streams j catalogue p' k l.before l.others l.first x (a.moved ∙ l.moved) (spelled_kept p p' l.before l.first a.load a.anchors l.front)
+      (subst (λ (d : Load). HasContent (format_of d.mode) p.load.streams j (catalogue ++ l.first) x) (sym a.load) has))
 
   all_spelled : (k : Hidden) → Alike k → Spelled p'.load (anchors_at p') (k.moved j) (k.taken j)
   all_spelled k a =
@@ -105,25 +108,26 @@ module _ {D : Type 0} {G : Ghosts D} (j : ℕ) (catalogue : List ℕ) (upto : �
       (subst (λ (t : ℕ → List ℕ). Spelled p'.load (anchors_at p') (h.moved j) (t j)) (sym a.taken)
       (spelled_kept p p' (h.moved j) (h.taken j) a.load a.anchors l.spelled))
 
-  new_front : (k : Hidden) → Alike k → (x : List ℕ) → HasContent p.load.streams j (catalogue ++ h.taken j) x → HasFront p.load.streams j catalogue p.load (core_of p' k) (h.taken j) x
+  new_front : (k : Hidden) → Alike k → (x : List ℕ) → HasContent (format_of p.load.mode) p.load.streams j (catalogue ++ h.taken j) x → HasFront p.load.streams j catalogue p.load (core_of p' k) (h.taken j) x
   new_front k a x has =
       subst (λ (d : Load). HasFront p.load.streams j catalogue d (core_of p' k) (h.taken j) x) a.load
-      (has_front p.load.streams j catalogue p' k (h.moved j) [] (h.taken j) x (a.moved ∙ sym (append-nil (h.moved j))) (spelled_kept p p' (h.moved j) (h.taken j) a.load a.anchors l.spelled) has)
+      (has_front p.load.streams j catalogue p' k (h.moved j) [] (h.taken j) x (a.moved ∙ sym (append-nil (h.moved j))) (spelled_kept p p' (h.moved j) (h.taken j) a.load a.anchors l.spelled)
+      (subst (λ (d : Load). HasContent (format_of d.mode) p.load.streams j (catalogue ++ h.taken j) x) (sym a.load) has))
 
-  either_left : (k : Hidden) → Alike k → (x : List ℕ) → IsOldOrNew p.load.streams j (catalogue ++ l.first) (part_upto w upto) x → IsLeft p.load.streams j catalogue p.load (core_of p' k) x
+  either_left : (k : Hidden) → Alike k → (x : List ℕ) → IsOldOrNew (format_of p.load.mode) p.load.streams j (catalogue ++ l.first) (part_upto w upto) x → IsLeft p.load.streams j catalogue p.load (core_of p' k) x
   either_left k a x (inl has) = inr (l.first, old_front k a x has)
-  either_left k a x (inr has) = inr (h.taken j, new_front k a x (subst (λ (b : List ℕ). HasContent p.load.streams j b x) whole_is has))
+  either_left k a x (inr has) = inr (h.taken j, new_front k a x (subst (λ (b : List ℕ). HasContent (format_of p.load.mode) p.load.streams j b x) whole_is has))
 
-  passed : (k : Hidden) → Alike k → (G.tells → (n i : ℕ) (content : List ℕ) → IsReady n i w content → Passes G.moment G.may_leave_since (disk_of w) (disk_of w') (IsOldOrNew n i content (part_upto w upto))) →
+  passed : (k : Hidden) → Alike k → (G.tells → (f : Format) (n i : ℕ) (content : List ℕ) → IsReady f n i w content → Passes G.moment G.may_leave_since (disk_of w) (disk_of w') (IsOldOrNew f n i content (part_upto w upto))) →
       G.tells → Passes G.moment G.may_leave_since (disk_of w) (disk_of w') (IsLeft p.load.streams j catalogue p.load (core_of p' k))
   passed k a moments tells =
-      passes_weaker G.moment G.may_leave_since (disk_of w) (disk_of w') (IsOldOrNew p.load.streams j (catalogue ++ l.first) (part_upto w upto)) (IsLeft p.load.streams j catalogue p.load (core_of p' k))
-      (moments tells p.load.streams j (catalogue ++ l.first) (l.ready tells)) (either_left k a)
+      passes_weaker G.moment G.may_leave_since (disk_of w) (disk_of w') (IsOldOrNew (format_of p.load.mode) p.load.streams j (catalogue ++ l.first) (part_upto w upto)) (IsLeft p.load.streams j catalogue p.load (core_of p' k))
+      (moments tells (format_of p.load.mode) p.load.streams j (catalogue ++ l.first) (l.ready tells)) (either_left k a)
 
   -- all of it is durable
   module _ (ne : upto ≡ durable_of w → ⊥) (durable : durable_of w' ≡ upto) (left : left_of w' ≡ drop (upto - durable_of w) (left_of w)) (works : has_failed w' ≡ false)
-      (done : G.tells → (n i : ℕ) (content : List ℕ) → IsReady n i w content → IsReady n i w' (content ++ part_upto w upto))
-      (moments : G.tells → (n i : ℕ) (content : List ℕ) → IsReady n i w content → Passes G.moment G.may_leave_since (disk_of w) (disk_of w') (IsOldOrNew n i content (part_upto w upto)))
+      (done : G.tells → (f : Format) (n i : ℕ) (content : List ℕ) → IsReady f n i w content → IsReady f n i w' (content ++ part_upto w upto))
+      (moments : G.tells → (f : Format) (n i : ℕ) (content : List ℕ) → IsReady f n i w content → Passes G.moment G.may_leave_since (disk_of w) (disk_of w') (IsOldOrNew f n i content (part_upto w upto)))
       (goes : G.tells → GoesOn G.number G.fails (disk_of w) (disk_of w')) (faults : G.faults (disk_of w) ≤ G.faults (disk_of w')) where
     by_persist : Happened (machine.Persist j upto) p p' K h → FlushTurns j catalogue w w' p p' told K h es did.Flushed
     by_persist q =
@@ -153,8 +157,8 @@ module _ {D : Type 0} {G : Ghosts D} (j : ℕ) (catalogue : List ℕ) (upto : �
             durable = durable ∙ sym here;
             left = left ∙ drop_all (upto - durable_of w) (left_of w) (let c = l.count in let d = l.durable in omega arith);
             spelled = all_spelled q.hidden a;
-            ready = λ tells. subst (λ (n : ℕ). IsReady n j w' (catalogue ++ q.hidden.taken j)) (ap (λ (d : Load). d.streams) (sym q.load))
-                (subst (λ (b : List ℕ). IsReady p.load.streams j w' b) (whole_is ∙ ap (λ (t : ℕ → List ℕ). catalogue ++ t j) (sym q.taken)) (done tells p.load.streams j (catalogue ++ l.first) (l.ready tells)));
+            ready = λ tells. subst (λ (d : Load). IsReady (format_of d.mode) d.streams j w' (catalogue ++ q.hidden.taken j)) (sym q.load)
+                (subst (λ (b : List ℕ). IsReady (format_of p.load.mode) p.load.streams j w' b) (whole_is ∙ ap (λ (t : ℕ → List ℕ). catalogue ++ t j) (sym q.taken)) (done tells (format_of p.load.mode) p.load.streams j (catalogue ++ l.first) (l.ready tells)));
           });
           passes = passed q.hidden a moments;
           faults = faults;
@@ -188,8 +192,8 @@ module _ {D : Type 0} {G : Ghosts D} (j : ℕ) (catalogue : List ℕ) (upto : �
   -- the disk failed
   module _ (counts : (d : D) (t : ℕ) (x : List ℕ) → t ≤ G.moment d → G.may_leave d x → G.may_leave_since d t x) (only : (d : D) (x : List ℕ) → G.may_leave_since d (G.moment d) x → G.may_leave d x)
       (ne : upto ≡ durable_of w → ⊥) (durable : durable_of w' ≡ durable_of w) (fails : has_failed w' ≡ true) (rose : Rose (G.faults (disk_of w)) (G.faults (disk_of w')))
-      (moments : G.tells → (n i : ℕ) (content : List ℕ) → IsReady n i w content → Passes G.moment G.may_leave_since (disk_of w) (disk_of w') (IsOldOrNew n i content (part_upto w upto)))
-      (reached : G.tells → (n i : ℕ) (content : List ℕ) → IsReady n i w content → MayHold n i content (G.may_leave (disk_of w')))
+      (moments : G.tells → (f : Format) (n i : ℕ) (content : List ℕ) → IsReady f n i w content → Passes G.moment G.may_leave_since (disk_of w) (disk_of w') (IsOldOrNew f n i content (part_upto w upto)))
+      (reached : G.tells → (f : Format) (n i : ℕ) (content : List ℕ) → IsReady f n i w content → MayHold f n i content (G.may_leave (disk_of w')))
       (stops : IsStopped G.tells G.number G.fails G.short (disk_of w) (disk_of w')) (faults : G.faults (disk_of w) ≤ G.faults (disk_of w')) where
     by_stop : Happened (machine.Stop j (slice_index p.plv j)) p p' K h → FlushTurns j catalogue w w' p p' told K h es did.Failed
     by_stop q =
@@ -225,24 +229,24 @@ module _ {D : Type 0} {G : Ghosts D} (j : ℕ) (catalogue : List ℕ) (upto : �
             durable = durable ∙ l.durable ∙ sym here;
             present = λ tells y left.
                 subst (λ (d : Load). (bytes : List ℕ) × HasFront d.streams j catalogue d (core_of p' q.hidden) bytes y × (slice_index p'.plv j ≤ length catalogue + length bytes)) (sym q.load)
-                (elim (left_by G.moment G.may_leave_since G.may_leave counts only (disk_of w) (disk_of w') (IsOldOrNew p.load.streams j (catalogue ++ l.first) (part_upto w upto))
-                (moments tells p.load.streams j (catalogue ++ l.first) (l.ready tells)) y left) [
-                  | inl was ↦ (l.first, old_front q.hidden a y (settled_has p.load.streams j (G.seen (disk_of w)) (G.may_leave (disk_of w)) w.gate_at (catalogue ++ l.first) (l.ready tells).settled y was), (let n = l.long in omega arith))
+                (elim (left_by G.moment G.may_leave_since G.may_leave counts only (disk_of w) (disk_of w') (IsOldOrNew (format_of p.load.mode) p.load.streams j (catalogue ++ l.first) (part_upto w upto))
+                (moments tells (format_of p.load.mode) p.load.streams j (catalogue ++ l.first) (l.ready tells)) y left) [
+                  | inl was ↦ (l.first, old_front q.hidden a y (settled_has (format_of p.load.mode) p.load.streams j (G.seen (disk_of w)) (G.may_leave (disk_of w)) w.gate_at (catalogue ++ l.first) (l.ready tells).settled y was), (let n = l.long in omega arith))
                   | inr either ↦ elim either [
                     | inl has ↦ (l.first, old_front q.hidden a y has, (let n = l.long in omega arith))
                     | inr has ↦ (
                       h.taken j,
-                      new_front q.hidden a y (subst (λ (b : List ℕ). HasContent p.load.streams j b y) whole_is has),
+                      new_front q.hidden a y (subst (λ (b : List ℕ). HasContent (format_of p.load.mode) p.load.streams j b y) whole_is has),
                       (let n = l.long in let e = ap (length {A = ℕ}) l.is ∙ length-append l.first (left_of w) in omega arith),
                     )
                   ]
                 ]);
             reached = λ tells.
-                let some = reached tells p.load.streams j (catalogue ++ l.first) (l.ready tells) in (
+                let some = reached tells (format_of p.load.mode) p.load.streams j (catalogue ++ l.first) (l.ready tells) in (
                   some.0,
                   catalogue ++ l.first,
                   some.1,
-                  subst (λ (d : Load). HasContent d.streams j (catalogue ++ l.first) some.0) (sym q.load) some.2,
+                  subst (λ (d : Load). HasContent (format_of d.mode) d.streams j (catalogue ++ l.first) some.0) (sym q.load) some.2,
                   (let n = l.long in let e = length-append catalogue l.first in omega arith),
                 );
           });
@@ -267,8 +271,8 @@ module _ {D : Type 0} {G : Ghosts D} (j : ℕ) (catalogue : List ℕ) (upto : �
     flush_failed at is outcome.NoMemory t = absurd t
 
   module _ (ne : upto ≡ durable_of w → ⊥) (durable : durable_of w' ≡ upto) (left : left_of w' ≡ drop (upto - durable_of w) (left_of w)) (works : has_failed w' ≡ false)
-      (done : G.tells → (n i : ℕ) (content : List ℕ) → IsReady n i w content → IsReady n i w' (content ++ part_upto w upto))
-      (moments : G.tells → (n i : ℕ) (content : List ℕ) → IsReady n i w content → Passes G.moment G.may_leave_since (disk_of w) (disk_of w') (IsOldOrNew n i content (part_upto w upto)))
+      (done : G.tells → (f : Format) (n i : ℕ) (content : List ℕ) → IsReady f n i w content → IsReady f n i w' (content ++ part_upto w upto))
+      (moments : G.tells → (f : Format) (n i : ℕ) (content : List ℕ) → IsReady f n i w content → Passes G.moment G.may_leave_since (disk_of w) (disk_of w') (IsOldOrNew f n i content (part_upto w upto)))
       (goes : G.tells → GoesOn G.number G.fails (disk_of w) (disk_of w')) (faults : G.faults (disk_of w) ≤ G.faults (disk_of w')) where
     pub flush_done : (o : Outcome) → Steps p p' K h (event.Persist j upto) o → FlushTurns j catalogue w w' p p' told K h es did.Flushed
     flush_done outcome.Went t = by_persist ne durable left works done moments goes faults t
@@ -312,7 +316,7 @@ module _ {D : Type 0} {G : Ghosts D} (j : ℕ) (catalogue : List ℕ) (upto : �
           durable = l.durable;
           left = nothing_left;
           spelled = l.spelled;
-          ready = λ tells. subst (λ (b : List ℕ). IsReady p.load.streams j w (catalogue ++ b)) (sym all) (l.ready tells);
+          ready = λ tells. subst (λ (b : List ℕ). IsReady (format_of p.load.mode) p.load.streams j w (catalogue ++ b)) (sym all) (l.ready tells);
         });
         passes = λ tells. passes_none G.moment G.may_leave_since (disk_of w) (IsLeft p.load.streams j catalogue p.load (core_of p h));
         faults = omega arith;

@@ -1,6 +1,7 @@
 -- A Gather in the turn of a manager.
 use Rattle.std.proofs.Common.{ℕ, ◌+◌, ◌<◌, ◌≡◌, inl, inr, Bool, true, false, List, [], ◌∷◌, ◌++◌, length, refl, sym, ap, subst, ◌∙◌, append_assoc, arith, lt-ltb}
 use Rattle.std.specs.Prelude.{Some, is_none, ◌&&◌, nat_lt, slice_get, slice_index, Result, Ok, Err}
+use Rattle.tau_base.specs.Modes.{format_of}
 use Rattle.tau_base.specs.declared.value.NoMemory.{NoMemory}
 use Rattle.tau_disk.specs.Passing.{passes_none}
 use Rattle.std.proofs.lemmas.List.{append-nil}
@@ -130,8 +131,8 @@ module _ {D : Type 0} {G : Ghosts D} (j : ℕ) (catalogue : List ℕ) (w : Write
     is = grown.moved;
     spelled = subst (λ (b : List ℕ). Spelled m.load (anchors_at m) (h.moved j) b) (sym taken_same) front_spelled;
     long = long_behind;
-    ready = λ tells. subst (λ (n : ℕ). IsReady n j w (catalogue ++ q.hidden.taken j)) (ap (λ (d : Load). d.streams) (sym q.load))
-        (subst (λ (b : List ℕ). IsReady p.load.streams j w (catalogue ++ b)) (sym taken_same) (l.ready tells));
+    ready = λ tells. subst (λ (d : Load). IsReady (format_of d.mode) d.streams j w (catalogue ++ q.hidden.taken j)) (sym q.load)
+        (subst (λ (b : List ℕ). IsReady (format_of p.load.mode) p.load.streams j w (catalogue ++ b)) (sym taken_same) (l.ready tells));
   }
 
   there_behind : j < m.load.streams
@@ -196,16 +197,17 @@ module _ {D : Type 0} {G : Ghosts D} (j : ℕ) (catalogue : List ℕ) (w : Write
           worked = l.works;
           disk = t.disk;
           works = t.works;
-          present = λ works tells x left. front_now t x (settled_has p.load.streams j (G.seen (disk_of w)) (G.may_leave (disk_of w)) w.gate_at (catalogue ++ h.taken j) (l.ready tells).settled x left);
+          present = λ works tells x left. front_now t x (settled_has (format_of p.load.mode) p.load.streams j (G.seen (disk_of w)) (G.may_leave (disk_of w)) w.gate_at (catalogue ++ h.taken j) (l.ready tells).settled x left);
         }
       where
-        front_now : (t : GatheredStops j catalogue w w' m p' told (K ++ q.joined) q.hidden (es ++ machine.Gather j ∷ [])) (x : List ℕ) → HasContent p.load.streams j (catalogue ++ h.taken j) x →
+        front_now : (t : GatheredStops j catalogue w w' m p' told (K ++ q.joined) q.hidden (es ++ machine.Gather j ∷ [])) (x : List ℕ) → HasContent (format_of p.load.mode) p.load.streams j (catalogue ++ h.taken j) x →
             (bytes : List ℕ) × HasFront p.load.streams j catalogue p.load (core_of p' t.hidden) bytes x × (slice_index p'.plv j ≡ length catalogue + length bytes)
         front_now t x has = (
           h.taken j,
           subst (λ (c : Core). HasFront p.load.streams j catalogue p.load c (h.taken j) x) (sym t.same)
               (subst (λ (d : Load). HasFront p.load.streams j catalogue d (core_of m q.hidden) (h.taken j) x) q.load
-              (has_front p.load.streams j catalogue m q.hidden (h.moved j) grown.more (h.taken j) x grown.moved front_spelled has)),
+              (has_front p.load.streams j catalogue m q.hidden (h.moved j) grown.more (h.taken j) x grown.moved front_spelled
+              (subst (λ (d : Load). HasContent (format_of d.mode) p.load.streams j (catalogue ++ h.taken j) x) (sym q.load) has))),
           ap (λ (c : Core). slice_index c.plv j) t.same ∙ plv_same ∙ sym long_before ∙ ap (λ (n : ℕ). n + length (h.taken j)) (sym size),
         )
 
@@ -270,7 +272,7 @@ manager_short {D} {G} j catalogue w p p' told K h es g there size l u = record {
     h.taken j,
     subst (λ (c : Core). HasFront p.load.streams j catalogue p.load c (h.taken j) x) (sym u.same)
         (has_front p.load.streams j catalogue p h (h.moved j) [] (h.taken j) x (sym (append-nil (h.moved j))) l.spelled
-        (settled_has p.load.streams j (G.seen (disk_of w)) (G.may_leave (disk_of w)) w.gate_at (catalogue ++ h.taken j) (l.ready tells).settled x left)),
+        (settled_has (format_of p.load.mode) p.load.streams j (G.seen (disk_of w)) (G.may_leave (disk_of w)) w.gate_at (catalogue ++ h.taken j) (l.ready tells).settled x left)),
     (let long = spelled_long p.load (anchors_at p) (slice_index p.load.opening.ends j) (slice_index p.gathered j) (h.moved j) (h.taken j) (g.inv.agrees.pieces.stream j there).moved l.spelled in
         let same = ap (λ (c : Core). slice_index c.plv j) u.same in let e = l.gathered in omega arith),
   );

@@ -1,6 +1,8 @@
 -- What was gathered is handed to the writer.
 use Rattle.std.proofs.Common.{ℕ, ◌+◌, ◌<◌, ◌≤◌, ◌≡◌, ◌⊎◌, inl, inr, List, ◌++◌, length, sym, ap, subst, ◌∙◌, arith, length-append}
 use Rattle.std.specs.Prelude.{slice_index}
+use Rattle.tau_base.specs.Modes.{format_of}
+use Rattle.tau_base.specs.declared.format.Format.{Format}
 use Rattle.tau_disk.specs.declared.disk.Disk.{Ghosts}
 use Rattle.tau_stream.specs.declared.writer.Writer.{Writer}
 use Rattle.tau_stream.specs.Writer.{disk_of, durable_of, left_of, has_failed, IsReady, MayReach}
@@ -91,7 +93,7 @@ module _ {D : Type 0} {G : Ghosts D} (j : ℕ) (catalogue : List ℕ) (upto : �
   }
 
   -- and has them
-  pub loaded : (w' : Writer D G) → durable_of w' ≡ durable_of w → left_of w' ≡ left_of w ++ bytes → has_failed w' ≡ has_failed w → ((n i : ℕ) (content : List ℕ) → IsReady n i w content → IsReady n i w' content) →
+  pub loaded : (w' : Writer D G) → durable_of w' ≡ durable_of w → left_of w' ≡ left_of w ++ bytes → has_failed w' ≡ has_failed w → ((f : Format) (n i : ℕ) (content : List ℕ) → IsReady f n i w content → IsReady f n i w' content) →
       IsLoaded j catalogue upto w' p' o.hidden
   loaded w' durable left works ready =
       let plv : slice_index p'.plv j ≡ slice_index p.plv j = ap (λ (c : Core). slice_index c.plv j) o.same in
@@ -110,7 +112,7 @@ module _ {D : Type 0} {G : Ghosts D} (j : ℕ) (catalogue : List ℕ) (upto : �
         spelled = o.spelled;
         long = ap (λ (d : Load). slice_index d.opening.ends j + length (h.taken j)) o.load ∙ l.long ∙ sym plv;
         count = ap (λ (n : ℕ). n + length (left_of w')) plv ∙ ap (λ (b : List ℕ). slice_index p.plv j + length b) all ∙ bytes_count;
-        ready = λ tells. subst (λ (d : Load). IsReady d.streams j w' (catalogue ++ h.taken j)) (sym o.load) (ready p.load.streams j (catalogue ++ h.taken j) (l.ready tells));
+        ready = λ tells. subst (λ (d : Load). IsReady (format_of d.mode) d.streams j w' (catalogue ++ h.taken j)) (sym o.load) (ready (format_of p.load.mode) p.load.streams j (catalogue ++ h.taken j) (l.ready tells));
       }
 
 -- the turn after its Gather, of which what was handed over is flushed

@@ -1,6 +1,6 @@
 -- What the turn of a manager means for the turns until it is idle.
 use Rattle.std.proofs.Common.{ℕ, ◌<◌, ◌==◌, ◌≡◌, ◌⊎◌, Bool, true, false, inl, inr, List, [], ◌∷◌, ◌++◌, length, refl, sym, ap, subst, ◌∙◌, Option, arith, lt-ltb, get_or-set_same}
-use Rattle.std.specs.Prelude.{Some, None, is_none, ◌&&◌, nat_lt, slice_index}
+use Rattle.std.specs.Prelude.{Some, None, is_none, nat_lt, slice_index}
 use Rattle.std.proofs.lemmas.Bool.{cases_Bool, cases_eq, eq-eqb}
 use Rattle.tau_machine.specs.Shard.{at}
 use Rattle.tau_machine.specs.State.{Setting, Core, Stream}

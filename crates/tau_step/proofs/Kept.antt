@@ -3,6 +3,7 @@ use Rattle.std.proofs.Common.{ℕ, ◌≡◌, inl, inr, Bool, true, false, List,
 use Rattle.std.proofs.lemmas.List.{take_all, take-append-le}
 use Rattle.std.proofs.lemmas.Bool.{cases_lt}
 use Rattle.std.proofs.Math.Seq.{take-append_seam}
+use Rattle.tau_base.specs.Modes.{format_of}
 use Rattle.tau_block.specs.Image.{HasContent}
 use Rattle.tau_disk.specs.declared.disk.Disk.{Ghosts}
 use Rattle.tau_stream.specs.declared.writer.Writer.{Writer}
@@ -57,8 +58,8 @@ module _ {D : Type 0} {G : Ghosts D} (seen_now : (d : D) → G.tells → G.may_l
             (subst (λ (b : List ℕ). Spelled p.load (anchors_at p') (h'.moved j) b) (sym taken)
             (subst (λ (items : List Item). Spelled p.load (anchors_at p') items (h.taken j)) (sym same.moved)
             (spelled_more p.load (anchors_at p) (anchors_at p') (anchors_grow (core_of p h) (core_of p' h') grown) (h.moved j) (h.taken j) k.spelled)));
-        ready = λ tells. subst (λ (l : Load). IsReady l.streams j w (base ++ h'.taken j)) (sym load)
-            (subst (λ (b : List ℕ). IsReady p.load.streams j w (base ++ b)) (sym taken) (k.ready tells));
+        ready = λ tells. subst (λ (l : Load). IsReady (format_of l.mode) l.streams j w (base ++ h'.taken j)) (sym load)
+            (subst (λ (b : List ℕ). IsReady (format_of p.load.mode) p.load.streams j w (base ++ b)) (sym taken) (k.ready tells));
       }
 
       broken_same : IsBroken j base w p h → IsBroken j base w p' h'
@@ -75,7 +76,7 @@ module _ {D : Type 0} {G : Ghosts D} (seen_now : (d : D) → G.tells → G.may_l
             ));
         reached = λ tells.
             (let (y, content, now, has, size) = k.reached tells in
-            (y, content, now, subst (λ (l : Load). HasContent l.streams j content y) (sym load) has, size ∙ sym same.plv));
+            (y, content, now, subst (λ (l : Load). HasContent (format_of l.mode) l.streams j content y) (sym load) has, size ∙ sym same.plv));
       }
 
       pub kept_same : IsKept j base w p h → IsKept j base w p' h'
@@ -93,7 +94,7 @@ module _ {D : Type 0} {G : Ghosts D} (seen_now : (d : D) → G.tells → G.may_l
           ));
       reached = λ tells.
           (let (y, content, now, has, size) = k.reached tells in
-          (y, content, now, subst (λ (l : Load). HasContent l.streams j content y) (sym load) has, size ∙ sym same.plv));
+          (y, content, now, subst (λ (l : Load). HasContent (format_of l.mode) l.streams j content y) (sym load) has, size ∙ sym same.plv));
       going = λ works. same.stop ∙ k.going works;
       stopped = λ fails. (let (at, is) = k.stopped fails in (at, same.stop ∙ is));
     }
@@ -102,8 +103,8 @@ module _ {D : Type 0} {G : Ghosts D} (seen_now : (d : D) → G.tells → G.may_l
   false_true b e f = let bad : false ≡ true = sym e ∙ f in cc
 
   module _ (p : Plain) (h : Hidden) where
-    current_has : IsCurrent j base w p h → G.tells → (x : List ℕ) → G.may_leave (disk_of w) x → HasContent p.load.streams j (base ++ h.taken j) x
-    current_has k tells x left = settled_has p.load.streams j (G.seen (disk_of w)) (G.may_leave (disk_of w)) w.gate_at (base ++ h.taken j) (k.ready tells).settled x left
+    current_has : IsCurrent j base w p h → G.tells → (x : List ℕ) → G.may_leave (disk_of w) x → HasContent (format_of p.load.mode) p.load.streams j (base ++ h.taken j) x
+    current_has k tells x left = settled_has (format_of p.load.mode) p.load.streams j (G.seen (disk_of w)) (G.may_leave (disk_of w)) w.gate_at (base ++ h.taken j) (k.ready tells).settled x left
 
     pub kept_leaving : IsKept j base w p h → IsLeaving j base w p h
     kept_leaving (inl k) = record {

@@ -3,6 +3,7 @@ use Rattle.std.proofs.Common.{ℕ, ◌<◌, ◌≤◌, ◌≡◌, ◌⊎◌, inl
 use Rattle.std.specs.Prelude.{Some, None, slice_get, slice_set, is_ok, Result, Ok, Err}
 use Rattle.std.proofs.lemmas.Bool.{cases_Bool, cases_eq}
 use Rattle.std.proofs.lemmas.Option.{slice_get_within}
+use Rattle.tau_base.specs.Modes.{format_of}
 use Rattle.tau_base.specs.declared.value.NoMemory.{NoMemory}
 use Rattle.tau_block.specs.Image.{HasContent}
 use Rattle.tau_disk.specs.Disk.{Passes, Rose}
@@ -170,7 +171,7 @@ module _ {D : Type 0} {G : Ghosts D} (seen_now : (d : D) → G.tells → G.may_l
       reached = λ tells.
           (let now = seen_now (disk_of w') tells in
           let (bytes, front, size) = t.present t.worked tells (G.seen (disk_of w')) (subst (λ (d : D). G.may_leave d (G.seen (disk_of w'))) t.disk now) in
-          (G.seen (disk_of w'), bases j ++ bytes, now, subst (λ (l : Load). HasContent l.streams j (bases j ++ bytes) (G.seen (disk_of w'))) (sym t.load) front.has, length-append (bases j) bytes ∙ sym size));
+          (G.seen (disk_of w'), bases j ++ bytes, now, subst (λ (l : Load). HasContent (format_of l.mode) l.streams j (bases j ++ bytes) (G.seen (disk_of w'))) (sym t.load) front.has, length-append (bases j) bytes ∙ sym size));
       going = λ works. part_stop (setting_of p.load) p.load.workers p.load.streams j there Q Q' t.moved ∙ (kept_leaving seen_now j (bases j) w p h kept_now).going t.worked;
       stopped = λ fails. absurd (not_both (has_failed w') stays_working fails);
     }

@@ -1,7 +1,10 @@
 -- The flushes of a whole run in which no stream stops.
-use Rattle.std.proofs.Common.{ℕ, ◌<◌, ◌≡◌, inl, true, List, [], length, refl, sym, subst, ◌∙◌, Option}
+use Rattle.std.proofs.Common.{ℕ, ◌<◌, ◌≤◌, ◌≡◌, inl, true, List, [], length, refl, sym, subst, ◌∙◌, arith, Option}
 use Rattle.std.specs.Prelude.{None}
+use Rattle.tau_base.specs.declared.format.Format.{Format}
+use Rattle.tau_base.specs.declared.format.Format.TheVariants.{One, Two}
 use Rattle.tau_base.specs.declared.value.LogMode.{LogMode}
+use Rattle.tau_base.specs.Modes.{format_of, most_streams}
 use Rattle.tau_disk.specs.declared.disk.Disk.{Ghosts}
 use Rattle.tau_stream.specs.declared.writer.Writer.{Writer}
 use Rattle.tau_stream.specs.Writer.{IsReady}
@@ -34,20 +37,25 @@ use Rattle.tau_step.proofs.Ending.{begun_along, begun_kept}
 use Rattle.tau_step.proofs.EffectsInTurn.{lowest_same}
 use Rattle.tau_step.proofs.Whole.{all_whole}
 
--- the writers of streams that were just opened
-pub are_new : {D : Type 0} {G : Ghosts D} (n : ℕ) (load : Workload) (old mid : List D) (ws : List (Writer D G)) → AreOpened G n (catalogue_of load) old mid ws → AreNew (λ j. catalogue_of load) ws
-are_new {D} {G} n load old mid ws streams j w e =
+-- every format has room for the streams of the first
+pub low_streams : (f : Format) (n : ℕ) → n ≤ most_streams One → n ≤ most_streams f
+low_streams One n few = few
+low_streams Two n few = omega (arith, few)
+
+-- The writers of streams that were just opened. Disks that tell nothing are of any format.
+pub are_new : {D : Type 0} {G : Ghosts D} (n : ℕ) (load : Workload) (old mid : List D) (ws : List (Writer D G)) → AreOpened G n (catalogue_of load) old mid ws → (f : Format) → (G.tells → One ≡ f) → AreNew f (λ j. catalogue_of load) ws
+are_new {D} {G} n load old mid ws streams f is j w e =
     let b = streams.begun j w e in
     record {
       works = b.works;
       durable = b.durable;
       left = b.left;
-      ready = λ t. subst (λ (k : ℕ). IsReady k j w (catalogue_of load)) (sym streams.count) (b.ready t);
+      ready = λ t. subst (λ (g : Format). IsReady g (length ws) j w (catalogue_of load)) (is t) (subst (λ (k : ℕ). IsReady One k j w (catalogue_of load)) (sym streams.count) (b.ready t));
     }
 
 -- a run that was not begun
 module _ {D : Type 0} {G : Ghosts D} (m : ℕ) (mode : LogMode) (load : Workload) (run : Run) (ws : List (Writer D G)) (fresh : OpenedFresh load.declarations.procs load.calls mode m (length ws) (catalogue_size (declarations_text load.declarations)) run.core)
-    (are : AreNew (λ j. catalogue_of load) ws) (workers : run.workers ≡ m) (streams : run.streams ≡ length ws) (none : run.failed ≡ None) where
+    (are : AreNew (format_of mode) (λ j. catalogue_of load) ws) (workers : run.workers ≡ m) (streams : run.streams ≡ length ws) (none : run.failed ≡ None) where
   pub begun_on : IsOn ws run
   begun_on =
       let opened = fresh_opened m mode load ws ws ⊥ [] [] ⊥ run.core fresh in
@@ -59,7 +67,7 @@ module _ {D : Type 0} {G : Ghosts D} (m : ℕ) (mode : LogMode) (load : Workload
       }
 
 module _ {D : Type 0} {G : Ghosts D} (m : ℕ) (mode : LogMode) (load : Workload) (old new : Run) (ws ws' : List (Writer D G)) (hears : Type 0) (held held' : List ℕ) (faults faults' : ℕ)
-    (fresh : OpenedFresh load.declarations.procs load.calls mode m (length ws) (catalogue_size (declarations_text load.declarations)) old.core) (are : AreNew (λ j. catalogue_of load) ws) (acks : old.clerk.acks ≡ [])
+    (fresh : OpenedFresh load.declarations.procs load.calls mode m (length ws) (catalogue_size (declarations_text load.declarations)) old.core) (are : AreNew (format_of mode) (λ j. catalogue_of load) ws) (acks : old.clerk.acks ≡ [])
     (none : old.flushes.streams ≡ []) (x : Moves (ran_all (turns_of load)) true old new ws ws' hears held held' faults faults') where
   abbrev n : ℕ
   n = length ws

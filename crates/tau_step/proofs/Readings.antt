@@ -1,12 +1,11 @@
 -- A row that is given leaves fewer steps; and a call writes at most as often as it has steps.
-use Rattle.std.proofs.Common.{ℕ, suc, ◌+◌, ◌<◌, ◌≤◌, ◌≡◌, Bool, true, false, cond, inl, inr, List, [], ◌∷◌, ◌++◌, length, refl, ap, subst, ◌∙◌, Option, arith, nat_eq}
+use Rattle.std.proofs.Common.{ℕ, suc, ◌+◌, ◌<◌, ◌≤◌, ◌≡◌, Bool, true, false, cond, List, [], ◌∷◌, ◌++◌, length, refl, ap, subst, ◌∙◌, Option, arith, nat_eq}
 use Rattle.std.specs.Prelude.{Some, None, ◌+ℤ◌, ◌-ℤ◌, ◌*ℤ◌}
 use Rattle.std.specs.Map.{lookup}
 use Rattle.std.specs.FinMap.{put}
 use Rattle.std.specs.FinMap.Entries.{by_order}
 use Rattle.std.specs.declared.cmp.Ordering.{Ordering}
 use Rattle.std.specs.declared.cmp.Ordering.TheVariants.{Less, Equal, Greater}
-use Rattle.std.proofs.lemmas.Bool.{cases_Bool}
 use Rattle.tau_base.specs.declared.value.Call.{Call}
 use Rattle.tau_base.specs.declared.value.Key.{Key}
 use Rattle.tau_base.specs.declared.value.Mode.{Mode}
@@ -19,7 +18,7 @@ use Rattle.tau_proc.specs.declared.step.Operand.{Operand}
 use Rattle.tau_proc.specs.declared.step.Step.{Step}
 use Rattle.tau_proc.specs.declared.step.Step.TheVariants as step
 use Rattle.tau_proc.specs.Effect.{Effect}
-use Rattle.tau_proc.specs.Meaning.{Running, Action, Go, Ask, Refuse, action, set_register, reading, refused, begun, Built, Puts, Adds, Gets, Wrong, built_effect, built_in, proc_of, sum_with, added_writes, value_of, holds, smaller, greater, in_range, become, computed, joined, read_at, got, stored, needed, chosen, does_of, does, skipped}
+use Rattle.tau_proc.specs.Meaning.{Running, Action, Go, Ask, Refuse, action, set_register, reading, refused, begun, Built, Puts, Adds, Gets, Wrong, built_effect, built_in, proc_of, sum_with, value_of, holds, smaller, greater, in_range, become, computed, joined, read_at, got, stored, needed, chosen, does_of, does, skipped}
 use Rattle.tau_machine.specs.Stage.{Stage, Wants, Ends, more, looked, goes, stage_of, stage_in, stage_by, built_seen, built_stage, stage, writes_of}
 use Rattle.tau_step.specs.Remains.{looked_left, action_left, steps_left, steps_in, seen_left, built_left, reads_by, size_by, reads_left, size_of}
 use Rattle.tau_machine.proofs.Stages.{lookup_more, lookup_last}

@@ -9,7 +9,7 @@ use Rattle.tau_machine.specs.State.{Setting, Core}
 use Rattle.tau_text.specs.declared.load.Turn.{Turn}
 use Rattle.tau_text.specs.declared.load.Turn.TheVariants as turn
 use Rattle.tau_run.specs.Run.{below}
-use Rattle.tau_run.specs.Turns.{Progress, Stays, IfSo, OneByOne, Turned, TurnedAll, Worked, Cleared, DropOf, Clerked, round, Rounds, Alone, has_work, is_raised}
+use Rattle.tau_run.specs.Turns.{Progress, Stays, OneByOne, Turned, TurnedAll, Worked, Cleared, DropOf, Clerked, round, Rounds, Alone, has_work, is_raised}
 use Rattle.tau_step.specs.Along.{Quiet}
 use Rattle.tau_step.specs.Rounding.{Rounded, RoundCut}
 use Rattle.tau_step.proofs.Growing.{grows_none, grows_on, same_none, same_on}

@@ -3,9 +3,7 @@ use Rattle.std.proofs.Common.{ℕ, ◌≡◌, inl, inr, Bool, true, false, List,
 use Rattle.std.specs.Prelude.{Some, None, not, ◌==◌, ◌&&◌}
 use Rattle.std.proofs.lemmas.Bool.{cases_eq, eq-eqb}
 use Rattle.tau_base.specs.declared.value.Key.{Key}
-use Rattle.tau_base.specs.declared.value.Value.{Value}
 use Rattle.tau_base.specs.declared.value.Mode.{Mode}
-use Rattle.tau_base.specs.declared.value.Mode.TheVariants.{Read, Write}
 use Rattle.tau_base.specs.Shards.{shard_number}
 use Rattle.tau_proc.specs.declared.proc.Proc.{Proc}
 use Rattle.tau_model.specs.History.{Act, updating, Numbered}

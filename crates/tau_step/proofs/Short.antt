@@ -1,21 +1,21 @@
 -- No item that is posted is longer than a block.
-use Rattle.std.proofs.Common.{ℕ, zero, suc, ◌+◌, ◌*◌, ◌≤◌, ◌≡◌, inl, inr, true, false, cond, ltb, List, [], ◌∷◌, ◌++◌, length, refl, sym, ap, subst, ◌∙◌, Option, arith, length-append}
+use Rattle.std.proofs.Common.{ℕ, zero, suc, ◌+◌, ◌≤◌, ◌≡◌, inl, inr, false, List, [], ◌∷◌, ◌++◌, length, refl, ap, subst, ◌∙◌, Option, arith, length-append}
 use Rattle.std.specs.Prelude.{Some, None, slice_get}
 use Rattle.std.specs.Int.{w16, w32, w64, to_be_bytes}
-use Rattle.std.specs.List.{flat_map, AllByRecursion}
+use Rattle.std.specs.List.{flat_map}
 use Rattle.std.proofs.lemmas.List.{length-replicate}
-use Rattle.std.proofs.lemmas.List.Concat.{flat_map-cons}
 use Rattle.tau_base.specs.declared.limits.TheConstants.{MAX_BODY}
-use Rattle.tau_base.specs.declared.value.Key.{Key}
-use Rattle.tau_base.specs.declared.value.Value.{Value}
-use Rattle.tau_base.specs.declared.value.Value.TheVariants.{Absent, Int, Text}
-use Rattle.tau_record.specs.Format.{One, mask_width}
+use Rattle.tau_base.specs.declared.format.Format.{Format}
+use Rattle.tau_base.specs.declared.format.Format.TheVariants.{One, Two}
+use Rattle.tau_base.specs.Modes.{format_of}
+use Rattle.tau_base.proofs.Modes.{streams_most}
+use Rattle.tau_record.specs.Format.{mask_width}
 use Rattle.tau_record.specs.Vector.{mask_of}
-use Rattle.tau_record.specs.Item.{value, FitsValue, write, FitsWrite}
+use Rattle.tau_record.specs.Item.{value, write}
 use Rattle.tau_record.specs.Record.{origin, base_of, body, FitsBody, Spells}
 use Rattle.tau_record.specs.declared.entry.Entry.{Entry}
 use Rattle.tau_record.specs.declared.entry.Entry.TheVariants.{Written, Command, Anchor, Catalogue, Epoch}
-use Rattle.tau_record.proofs.VectorLaws.{explicit, explicit_cons, piece}
+use Rattle.tau_record.proofs.VectorLaws.{explicit}
 use Rattle.tau_model.specs.History.{Act, Member}
 use Rattle.tau_machine.specs.Hands.{Txn}
 use Rattle.tau_machine.specs.State as machine
@@ -29,35 +29,36 @@ use Rattle.tau_core.specs.Pieces.{AreBytesOf, IsPieceOf, Names, Paired}
 use Rattle.tau_core.specs.Stands.{Stands, anchors_at}
 use Rattle.tau_step.proofs.RunEnds.{AreShort}
 use Rattle.tau_base.proofs.Lists.{some_at}
-use Rattle.tau_record.proofs.SizeLaws.{lv_len, explicit_len, value_len, plus_le, writes_len, args_len}
+use Rattle.tau_record.proofs.SizeLaws.{lv_len, explicit_len, writes_len, args_len}
 
 -- ---- how long a record is
 
-mask_long : (m : ℕ) → length (to_be_bytes (mask_width One) m) ≤ 4
+mask_long : (f : Format) (m : ℕ) → length (to_be_bytes (mask_width f) m) ≤ 4
 unfolding mask_width
-mask_long m = omega arith
+mask_long One m = omega arith
+mask_long Two m = omega arith
 
-origin_long : (base : List ℕ) (number anchor : ℕ) (dep : List ℕ) → length base ≤ 16 → length (origin One base number anchor dep) ≤ 272
-origin_long base number anchor dep le =
-    omega (arith, length-append (to_be_bytes (mask_width One) (mask_of base dep)) (explicit base dep), mask_long (mask_of base dep), explicit_len base dep, le)
+origin_long : (f : Format) (base : List ℕ) (number anchor : ℕ) (dep : List ℕ) → length base ≤ 32 → length (origin f base number anchor dep) ≤ 272
+origin_long f base number anchor dep le =
+    omega (arith, length-append (to_be_bytes (mask_width f) (mask_of base dep)) (explicit base dep), mask_long f (mask_of base dep), explicit_len base dep, le)
 
-body_short : (n : ℕ) (vectors : List (List ℕ)) (e : Entry) → n ≤ 16 → ((k : ℕ) → length (base_of vectors k) ≤ 16) → FitsBody n vectors e → 5 + length (body One vectors e) ≤ MAX_BODY
-body_short n vectors (Written number anchor dep writes) le short h =
-    omega (arith, length-append (origin One (base_of vectors anchor) number anchor dep) (to_be_bytes w16 (length writes) ++ flat_map write writes), origin_long (base_of vectors anchor) number anchor dep (short anchor), writes_len writes h.4, h.2)
-body_short n vectors (Command number anchor dep call) le short h =
+body_short : (f : Format) (n : ℕ) (vectors : List (List ℕ)) (e : Entry) → n ≤ 32 → ((k : ℕ) → length (base_of vectors k) ≤ 32) → FitsBody n vectors e → 5 + length (body f vectors e) ≤ MAX_BODY
+body_short f n vectors (Written number anchor dep writes) le short h =
+    omega (arith, length-append (origin f (base_of vectors anchor) number anchor dep) (to_be_bytes w16 (length writes) ++ flat_map write writes), origin_long f (base_of vectors anchor) number anchor dep (short anchor), writes_len writes h.4, h.2)
+body_short f n vectors (Command number anchor dep call) le short h =
     omega (
       arith,
-      length-append (origin One (base_of vectors anchor) number anchor dep) (to_be_bytes w16 call.proc ++ ((length call.args.items ∷ []) ++ flat_map value call.args.items)),
-      origin_long (base_of vectors anchor) number anchor dep (short anchor),
+      length-append (origin f (base_of vectors anchor) number anchor dep) (to_be_bytes w16 call.proc ++ ((length call.args.items ∷ []) ++ flat_map value call.args.items)),
+      origin_long f (base_of vectors anchor) number anchor dep (short anchor),
       args_len call.args.items h.3,
       h.2,
     )
-body_short n vectors (Anchor lv) le short h = omega (arith, lv_len lv, h.0, le)
-body_short n vectors (Catalogue text) le short h = omega (arith, h.0)
-body_short n vectors (Epoch number lv) le short h = omega (arith, length-append (to_be_bytes w32 number) (flat_map (to_be_bytes w64) lv), lv_len lv, h.2, le)
+body_short f n vectors (Anchor lv) le short h = omega (arith, lv_len lv, h.0, le)
+body_short f n vectors (Catalogue text) le short h = omega (arith, h.0)
+body_short f n vectors (Epoch number lv) le short h = omega (arith, length-append (to_be_bytes w32 number) (flat_map (to_be_bytes w64) lv), lv_len lv, h.2, le)
 
-spelled_short : (n : ℕ) (vectors : List (List ℕ)) (e : Entry) (bytes : List ℕ) → n ≤ 16 → ((k : ℕ) → length (base_of vectors k) ≤ 16) → Spells One n vectors false e bytes → length bytes ≤ MAX_BODY
-spelled_short n vectors e bytes le short s = (let size = ap (length {A = ℕ}) s.text in let small = body_short n vectors e le short s.fits.fields in omega (arith, size, small))
+spelled_short : (f : Format) (n : ℕ) (vectors : List (List ℕ)) (e : Entry) (bytes : List ℕ) → n ≤ 32 → ((k : ℕ) → length (base_of vectors k) ≤ 32) → Spells f n vectors false e bytes → length bytes ≤ MAX_BODY
+spelled_short f n vectors e bytes le short s = (let size = ap (length {A = ℕ}) s.text in let small = body_short f n vectors e le short s.fits.fields in omega (arith, size, small))
 
 -- ---- a vector at a number, and no others
 
@@ -69,7 +70,7 @@ only_is : (n : ℕ) (base : List ℕ) → base_of (only_at n base) n ≡ base
 only_is zero base = refl
 only_is (suc n) base = only_is n base
 
-only_short : (n : ℕ) (base : List ℕ) → length base ≤ 16 → (k : ℕ) → length (base_of (only_at n base) k) ≤ 16
+only_short : (n : ℕ) (base : List ℕ) → length base ≤ 32 → (k : ℕ) → length (base_of (only_at n base) k) ≤ 32
 only_short zero base le zero = le
 only_short zero base le (suc k) = omega arith
 only_short (suc n) base le zero = omega arith
@@ -83,20 +84,23 @@ member_at (y ∷ ys) (suc i) x e = inr (member_at ys i x e)
 -- ---- items
 
 module _ (p : Plain) (K : List (Act Txn)) (h : Hidden) (g : Stands p K h) where
-  narrow_in : (j : ℕ) (a : List ℕ) (o : Option PlainStream) → slice_get p.streams j ≡ o → Member a (anchors_in o) → length a ≤ 16
-  narrow_in j a None e m = absurd m
-  narrow_in j a (Some s) e m = (let q = (g.sound.wide j s e).0 a m in let few = g.sound.streams_high in omega (arith, q, few))
+  few : p.load.streams ≤ 32
+  few = omega (arith, g.sound.streams_high, streams_most (format_of p.load.mode))
 
-  base_narrow : (j number : ℕ) (base : List ℕ) → Names p.load j (anchors_at p j) number base → length base ≤ 16
-  base_narrow j number base (inl (z, e)) = (let size = ap (length {A = ℕ}) e ∙ length-replicate p.load.streams 0 in let few = g.sound.streams_high in omega (arith, size, few))
+  narrow_in : (j : ℕ) (a : List ℕ) (o : Option PlainStream) → slice_get p.streams j ≡ o → Member a (anchors_in o) → length a ≤ 32
+  narrow_in j a None e m = absurd m
+  narrow_in j a (Some s) e m = (let q = (g.sound.wide j s e).0 a m in omega (arith, q, few))
+
+  base_narrow : (j number : ℕ) (base : List ℕ) → Names p.load j (anchors_at p j) number base → length base ≤ 32
+  base_narrow j number base (inl (z, e)) = (let size = ap (length {A = ℕ}) e ∙ length-replicate p.load.streams 0 in omega (arith, size, few))
   base_narrow j number base (inr (i, n, is)) = narrow_in j base (slice_get p.streams j) refl (member_at (anchors_at p j) i base is)
 
   bytes_short : (i : Item) (bytes : List ℕ) → AreBytesOf p.load (anchors_at p) i bytes → length bytes ≤ MAX_BODY
   bytes_short (machine.Record t) bytes q =
-      spelled_short p.load.streams (only_at t.call.anchor q.base) (entry_of p.load.mode t) bytes g.sound.streams_high
+      spelled_short (format_of p.load.mode) p.load.streams (only_at t.call.anchor q.base) (entry_of p.load.mode t) bytes few
       (only_short t.call.anchor q.base (base_narrow t.call.place.stream t.call.anchor q.base q.named)) (q.spelled (only_at t.call.anchor q.base) (only_is t.call.anchor q.base))
   bytes_short (machine.Anchor start past v) bytes q =
-      spelled_short p.load.streams (only_at 0 []) (Anchor v) bytes g.sound.streams_high (only_short 0 [] (omega arith)) (q (only_at 0 []))
+      spelled_short (format_of p.load.mode) p.load.streams (only_at 0 []) (Anchor v) bytes few (only_short 0 [] (omega arith)) (q (only_at 0 []))
 
   abbrev IsShort : Item → Type 0
   IsShort i = past_of i ≤ start_of i + MAX_BODY

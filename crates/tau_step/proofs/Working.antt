@@ -1,9 +1,7 @@
 -- A worker's turn is an event of its own, exactly where it has something to do.
-use Rattle.std.proofs.Common.{ℕ, ◌<◌, ◌==◌, ◌≡◌, ◌⊎◌, ◌%◌, ◌++◌, inl, inr, Bool, true, false, List, [], ◌∷◌, refl, sym, ap, subst, ◌∙◌, Option}
+use Rattle.std.proofs.Common.{ℕ, ◌<◌, ◌==◌, ◌≡◌, ◌%◌, ◌++◌, inl, inr, Bool, true, false, List, [], ◌∷◌, refl, sym, ap, subst, ◌∙◌, Option}
 use Rattle.std.specs.Prelude.{Some, None, ◌&&◌, not, slice_index, Result, Ok, Err}
 use Rattle.std.proofs.lemmas.Bool.{cases_eq, eq-eqb, ne_eqb}
-use Rattle.tau_base.specs.declared.value.Mode.{Mode}
-use Rattle.tau_base.specs.declared.value.Mode.TheVariants.{Read, Write}
 use Rattle.tau_base.specs.Shards.{shard_number}
 use Rattle.tau_base.specs.declared.value.NoMemory.{NoMemory}
 use Rattle.tau_model.specs.History.{Act}

@@ -1,5 +1,6 @@
 -- A run by turns on its way: what each step leaves of streams and writers.
 use Rattle.std.specs.Prelude.{ℕ, ◌+◌, ◌<◌, ◌≤◌, ◌≡◌, ◌++◌, Bool, true, false, Option, List, length, take, slice_get, slice_index, Some, None}
+use Rattle.tau_base.specs.Modes.{format_of}
 use Rattle.tau_block.specs.Image.{HasContent}
 use Rattle.tau_disk.specs.Disk.{Passes, Rose}
 use Rattle.tau_disk.specs.Used.{GoesOn, IsStopped}
@@ -50,7 +51,7 @@ module _ {D : Type 0} {G : Ghosts D} (j : ℕ) (base : List ℕ) where
   pub record IsLeaving (w : Writer D G) (p : Plain) (h : Hidden) : Type 0 where
     pub present : G.tells → (x : List ℕ) → G.may_leave (disk_of w) x →
         (bytes : List ℕ) × HasFront p.load.streams j base p.load (core_of p h) bytes x × (slice_index p.plv j ≤ length base + length bytes)
-    pub reached : G.tells → (y content : List ℕ) × G.may_leave (disk_of w) y × HasContent p.load.streams j content y × (length content ≡ slice_index p.plv j)
+    pub reached : G.tells → (y content : List ℕ) × G.may_leave (disk_of w) y × HasContent (format_of p.load.mode) p.load.streams j content y × (length content ≡ slice_index p.plv j)
     pub going : has_failed w ≡ false → ((core_of p h).streams j).stop ≡ None
     pub stopped : has_failed w ≡ true → (at : ℕ) × (((core_of p h).streams j).stop ≡ Some at)
 

@@ -1,6 +1,7 @@
 -- The writers of a run beside its core.
 use Rattle.std.specs.Prelude.{ℕ, ◌+◌, ◌≤◌, ◌<◌, ◌≡◌, ◌⊎◌, true, false, Some, None, List, [], ◌++◌, length, slice_get, slice_index, Result, Ok, Err}
 use Rattle.tau_base.specs.declared.value.NoMemory.{NoMemory}
+use Rattle.tau_base.specs.Modes.{format_of}
 use Rattle.tau_block.specs.Image.{HasContent}
 use Rattle.tau_disk.specs.Disk.{Passes, Rose}
 use Rattle.tau_disk.specs.Used.{GoesOn, IsStopped}
@@ -30,7 +31,7 @@ module _ {D : Type 0} {G : Ghosts D} (j : ℕ) (catalogue : List ℕ) where
     pub durable : durable_of w ≡ slice_index p.plv j
     pub left : left_of w ≡ []
     pub spelled : Spelled p.load (anchors_at p) (h.moved j) (h.taken j)
-    pub ready : G.tells → IsReady p.load.streams j w (catalogue ++ h.taken j)
+    pub ready : G.tells → IsReady (format_of p.load.mode) p.load.streams j w (catalogue ++ h.taken j)
 
   -- the disk failed: what a stop now may leave reaches what is persisted, and no more in one of its images
   pub record IsBroken (w : Writer D G) (p : Plain) (h : Hidden) : Type 0 where
@@ -40,7 +41,7 @@ module _ {D : Type 0} {G : Ghosts D} (j : ℕ) (catalogue : List ℕ) where
     pub durable : durable_of w ≡ slice_index p.plv j
     pub present : G.tells → (x : List ℕ) → G.may_leave (disk_of w) x →
         (bytes : List ℕ) × HasFront p.load.streams j catalogue p.load (core_of p h) bytes x × (slice_index p.plv j ≤ length catalogue + length bytes)
-    pub reached : G.tells → (y content : List ℕ) × G.may_leave (disk_of w) y × HasContent p.load.streams j content y × (length content ≡ slice_index p.plv j)
+    pub reached : G.tells → (y content : List ℕ) × G.may_leave (disk_of w) y × HasContent (format_of p.load.mode) p.load.streams j content y × (length content ≡ slice_index p.plv j)
 
   -- after a Gather, if the stream is gathered up to there: what was gathered before was handed out, and is durable
   pub record IsFilled (upto : ℕ) (w : Writer D G) (p : Plain) (h : Hidden) : Type 0 where
@@ -54,7 +55,7 @@ module _ {D : Type 0} {G : Ghosts D} (j : ℕ) (catalogue : List ℕ) where
     pub is : h.moved j ≡ before ++ others
     pub spelled : Spelled p.load (anchors_at p) before (h.taken j)
     pub long : slice_index p.load.opening.ends j + length (h.taken j) ≡ slice_index p.plv j
-    pub ready : G.tells → IsReady p.load.streams j w (catalogue ++ h.taken j)
+    pub ready : G.tells → IsReady (format_of p.load.mode) p.load.streams j w (catalogue ++ h.taken j)
 
   -- it was handed out to the writer
   pub record IsLoaded (upto : ℕ) (w : Writer D G) (p : Plain) (h : Hidden) : Type 0 where
@@ -71,7 +72,7 @@ module _ {D : Type 0} {G : Ghosts D} (j : ℕ) (catalogue : List ℕ) where
     pub spelled : Spelled p.load (anchors_at p) (h.moved j) (h.taken j)
     pub long : slice_index p.load.opening.ends j + length first ≡ slice_index p.plv j
     pub count : slice_index p.plv j + length (left_of w) ≡ upto
-    pub ready : G.tells → IsReady p.load.streams j w (catalogue ++ first)
+    pub ready : G.tells → IsReady (format_of p.load.mode) p.load.streams j w (catalogue ++ first)
 
   abbrev pub IsKept : Writer D G → Plain → Hidden → Type 0
   IsKept w p h = IsCurrent w p h ⊎ IsBroken w p h

@@ -1,8 +1,10 @@
 -- What a run by turns leaves, and what it tells.
 use Rattle.std.specs.Prelude.{ℕ, ◌+◌, ◌<◌, ◌≤◌, ◌==◌, ◌≡◌, ◌⊎◌, Bool, true, false, Option, Some, None, if◌then◌else◌, List, [], ◌∷◌, map, length, take, slice_get, slice_index, Result, Ok, Err}
 use Rattle.std.specs.List.{list_any}
+use Rattle.tau_base.specs.declared.format.Format.{Format}
 use Rattle.tau_base.specs.declared.value.LogMode.{LogMode}
 use Rattle.tau_base.specs.declared.value.NoMemory.{NoMemory}
+use Rattle.tau_base.specs.Modes.{format_of}
 use Rattle.tau_block.specs.Image.{HasContent}
 use Rattle.tau_disk.specs.Disk.{Passes, Rose}
 use Rattle.tau_disk.specs.Used.{GoesOn, IsStopped}
@@ -41,21 +43,21 @@ pub record EachOf {A : Type 0} (R : ℕ → A → A → Type 0) (old new : List 
   pub each : (j : ℕ) (x : A) → slice_get old j ≡ Some x → (y : A) × (slice_get new j ≡ Some y) × R j x y
 
 module _ {D : Type 0} {G : Ghosts D} where
-  -- the writer of stream j of n has these bytes, all of them durable
-  pub record IsNew (n j : ℕ) (bytes : List ℕ) (w : Writer D G) : Type 0 where
+  -- the writer of stream j of n in this format has these bytes, all of them durable
+  pub record IsNew (f : Format) (n j : ℕ) (bytes : List ℕ) (w : Writer D G) : Type 0 where
     pub works : has_failed w ≡ false
     pub durable : durable_of w ≡ length bytes
     pub left : left_of w ≡ []
-    pub ready : G.tells → IsReady n j w bytes
+    pub ready : G.tells → IsReady f n j w bytes
 
-  abbrev pub AreNew : (ℕ → List ℕ) → List (Writer D G) → Type 0
-  AreNew bases ws = (j : ℕ) (w : Writer D G) → slice_get ws j ≡ Some w → IsNew (length ws) j (bases j) w
+  abbrev pub AreNew : Format → (ℕ → List ℕ) → List (Writer D G) → Type 0
+  AreNew f bases ws = (j : ℕ) (w : Writer D G) → slice_get ws j ≡ Some w → IsNew f (length ws) j (bases j) w
 
   -- What became of the writer of stream j since the call, where the state is s now: its images, its disk's calls, and what a stop now may leave.
   pub record Left (l : Load) (s : Core) (j : ℕ) (base : List ℕ) (w w' : Writer D G) : Type 0 where
     pub before : G.tells → Passes G.moment G.may_leave_since (disk_of w) (disk_of w') (IsLeft l.streams j base l s)
     pub present : G.tells → (x : List ℕ) → G.may_leave (disk_of w') x → (bytes : List ℕ) × HasFront l.streams j base l s bytes x × (slice_index s.plv j ≤ length base + length bytes)
-    pub reached : G.tells → (y content : List ℕ) × G.may_leave (disk_of w') y × HasContent l.streams j content y × (length content ≡ slice_index s.plv j)
+    pub reached : G.tells → (y content : List ℕ) × G.may_leave (disk_of w') y × HasContent (format_of l.mode) l.streams j content y × (length content ≡ slice_index s.plv j)
     -- its stream is stopped exactly where its disk failed
     pub goes : has_failed w' ≡ false → ((s.streams j).stop ≡ None) × (G.tells → GoesOn G.number G.fails (disk_of w) (disk_of w'))
     pub stops : has_failed w' ≡ true →

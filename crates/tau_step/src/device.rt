@@ -1,7 +1,10 @@
 //! The order in which a run calls its disks.
 ghost use Rattle.std.specs.Prelude.{ℕ, ◌≡◌, ◌≤◌, ◌++◌, [], false, length, replicate, vec_len, IfOk, OnOk};
 ghost use Rattle.std.specs.List.{flat_map};
-ghost use Rattle.tau_base.specs.declared.limits.TheConstants.{MAX_CATALOGUE, MAX_STREAMS, MAX_WORKERS};
+ghost use Rattle.tau_base.specs.declared.format.Format.{Format};
+ghost use Rattle.tau_base.specs.declared.format.Format.TheVariants.{One};
+ghost use Rattle.tau_base.specs.declared.limits.TheConstants.{MAX_CATALOGUE, MAX_WORKERS};
+ghost use Rattle.tau_base.specs.Modes.{format_of, most_streams};
 ghost use Rattle.tau_text.specs.Canonical.{declarations_text};
 ghost use Rattle.tau_text.specs.Kept.{AreCalls};
 ghost use Rattle.tau_core.specs.Opens.{OpenedFresh, catalogue_size};
@@ -86,10 +89,11 @@ impl Sink for NoSink {
 
 /// Streams on disks that keep nothing.
 fn streams_of(alloc: Global, load: &Workload, n: u8) -> Result<Vec<Writer<NoDisk>>, NoMemory>
-    requires streams { n ≤ MAX_STREAMS }
+    requires streams { n ≤ most_streams One }
     requires text { length (declarations_text load.now.declarations) ≤ MAX_CATALOGUE }
     ensures count { IfOk result (λ writers. vec_len writers ≡ n) }
-    ensures new { IfOk result (λ writers. AreNew (λ j. catalogue_of load.now) writers.items) }
+    // These disks tell nothing, so they hold a log of any format.
+    ensures new { IfOk result (λ writers. (f : Format) → AreNew f (λ j. catalogue_of load.now) writers.items) }
 {
     let catalogue = print_declarations(alloc, &load.declarations)?;
     let mut disks = vec![in alloc; NoDisk; usize::from(n)]?;
@@ -133,7 +137,7 @@ fn flushes_of(
     writers: &mut Vec<Writer<NoDisk>>,
 ) -> Result<Listed<u8>, NoMemory>
     requires count { vec_len writers.old ≡ n }
-    requires new { AreNew (λ j. catalogue_of load.now) writers.old.items }
+    requires new { AreNew (format_of mode) (λ j. catalogue_of load.now) writers.old.items }
     requires opened { OpenedFresh load.now.declarations.procs load.now.calls mode m n (catalogue_size (declarations_text load.now.declarations)) core }
     ensures { IfOk result (λ flushes. IsFlushOrder n m mode load.now flushes) }
 {
@@ -189,7 +193,7 @@ pub fn device_order(
     mode: LogMode,
 ) -> Result<Vec<u8>, NoMemory>
     requires streams_low { 1 ≤ n }
-    requires streams_high { n ≤ MAX_STREAMS }
+    requires streams_high { n ≤ most_streams One }
     requires low { 1 ≤ m }
     requires high { m ≤ MAX_WORKERS }
     requires calls { AreCalls load.now.declarations.procs load.now.calls }

@@ -1,6 +1,7 @@
 //! Runs by turns.
 ghost use Rattle.std.specs.Prelude.{ℕ, ◌≡◌, ◌≤◌, List, length};
-ghost use Rattle.tau_base.specs.declared.limits.TheConstants.{MAX_CATALOGUE, MAX_STREAMS, MAX_WORKERS};
+ghost use Rattle.tau_base.specs.declared.limits.TheConstants.{MAX_CATALOGUE, MAX_WORKERS};
+ghost use Rattle.tau_base.specs.Modes.{format_of, most_streams};
 ghost use Rattle.tau_disk.specs.Disk.{Rose};
 ghost use Rattle.tau_text.specs.Canonical.{declarations_text};
 ghost use Rattle.tau_text.specs.Kept.{AreCalls};
@@ -34,12 +35,12 @@ pub fn run_turns<D: Disk, K: Sink>(
     sink: &mut K,
 ) -> Result<RunEnd, NoMemory>
     requires streams_low { 1 ≤ length writers.old.items }
-    requires streams_high { length writers.old.items ≤ MAX_STREAMS }
+    requires streams_high { length writers.old.items ≤ most_streams (format_of mode) }
     requires low { 1 ≤ m }
     requires high { m ≤ MAX_WORKERS }
     requires calls { AreCalls load.now.declarations.procs load.now.calls }
     requires text { length (declarations_text load.now.declarations) ≤ MAX_CATALOGUE }
-    requires fresh { AreNew (λ j. catalogue_of load.now) writers.old.items }
+    requires fresh { AreNew (format_of mode) (λ j. catalogue_of load.now) writers.old.items }
     ensures ran { Began m mode load.now writers.old.items writers.new.items K.tells (K.held sink.old) (K.held sink.new) (Rose (K.faults sink.old) (K.faults sink.new))
         (RanNew m mode load.now writers.old.items writers.new.items K.tells (K.held sink.old) (K.held sink.new) (Rose (K.faults sink.old) (K.faults sink.new))) result }
     ensures faults { K.faults sink.old ≤ K.faults sink.new }
@@ -62,9 +63,10 @@ pub fn run_turns_from<D: Disk, K: Sink>(
     requires low { 1 ≤ m }
     requires high { m ≤ MAX_WORKERS }
     requires calls { AreCalls load.now.declarations.procs load.now.calls }
+    requires streams { length opening.ends ≤ most_streams (format_of mode) }
     requires fits { Fits opening }
-    requires begun { (bases : ℕ → List ℕ) × IsBegun bases writers.old.items opening }
-    ensures ran { (bases : ℕ → List ℕ) → IsBegun bases writers.old.items opening →
+    requires begun { (bases : ℕ → List ℕ) × IsBegun (format_of mode) bases writers.old.items opening }
+    ensures ran { (bases : ℕ → List ℕ) → IsBegun (format_of mode) bases writers.old.items opening →
         Began m mode load.now writers.old.items writers.new.items K.tells (K.held sink.old) (K.held sink.new) (Rose (K.faults sink.old) (K.faults sink.new))
         (RanFrom m mode load.now writers.old.items writers.new.items K.tells (K.held sink.old) (K.held sink.new) (Rose (K.faults sink.old) (K.faults sink.new)) opening bases) result }
     ensures faults { K.faults sink.old ≤ K.faults sink.new }
@@ -86,8 +88,8 @@ fn go<D: Disk, K: Sink>(
     requires opened { Opened core.load core }
     requires workers { m ≡ core.load.workers }
     requires calls { load.now.calls ≡ core.load.calls }
-    requires begun { (bases : ℕ → List ℕ) × IsBegun bases writers.old.items core.load.opening }
-    ensures ran { (bases : ℕ → List ℕ) → IsBegun bases writers.old.items core.load.opening →
+    requires begun { (bases : ℕ → List ℕ) × IsBegun (format_of core.load.mode) bases writers.old.items core.load.opening }
+    ensures ran { (bases : ℕ → List ℕ) → IsBegun (format_of core.load.mode) bases writers.old.items core.load.opening →
         Ran (turns_of load.now) bases core writers.old.items writers.new.items K.tells (K.held sink.old) (K.held sink.new) (Rose (K.faults sink.old) (K.faults sink.new)) result }
     ensures faults { K.faults sink.old ≤ K.faults sink.new }
     ensures count { length writers.new.items ≡ length writers.old.items }

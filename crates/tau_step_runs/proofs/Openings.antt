@@ -1,6 +1,7 @@
 -- Writers that were just opened, and an opening that says so of two of them.
 use Rattle.std.proofs.Common.{ℕ, zero, suc, ◌<◌, ◌≤◌, ◌≡◌, List, [], ◌∷◌, length, sym, ap, subst, ◌∙◌, arith}
 use Rattle.std.specs.Prelude.{slice_index}
+use Rattle.tau_base.specs.declared.format.Format.TheVariants.{One}
 use Rattle.tau_disk.specs.declared.disk.Disk.{Ghosts}
 use Rattle.tau_stream.specs.declared.writer.Writer.{Writer}
 use Rattle.tau_stream.specs.Writer.{IsReady}
@@ -12,14 +13,14 @@ use Rattle.tau_run.specs.RecoveredFacts.{catalogue_of}
 use Rattle.tau_step.specs.RunTold.{AreNew}
 use Rattle.tau_step.specs.Whole.{IsBegun}
 
-pub are_new : {D : Type 0} {G : Ghosts D} (n : ℕ) (load : Workload) (old mid : List D) (ws : List (Writer D G)) → AreOpened G n (catalogue_of load) old mid ws → AreNew (λ j. catalogue_of load) ws
+pub are_new : {D : Type 0} {G : Ghosts D} (n : ℕ) (load : Workload) (old mid : List D) (ws : List (Writer D G)) → AreOpened G n (catalogue_of load) old mid ws → AreNew One (λ j. catalogue_of load) ws
 are_new {D} {G} n load old mid ws streams j w e =
     let b = streams.begun j w e in
     record {
       works = b.works;
       durable = b.durable;
       left = b.left;
-      ready = λ t. subst (λ (k : ℕ). IsReady k j w (catalogue_of load)) (sym streams.count) (b.ready t);
+      ready = λ t. subst (λ (k : ℕ). IsReady One k j w (catalogue_of load)) (sym streams.count) (b.ready t);
     }
 
 both_end : (end size j : ℕ) → size ≡ end → j < 2 → size ≡ slice_index (end ∷ end ∷ []) j
@@ -40,7 +41,7 @@ module _ (o : Opening) (end : ℕ) (ends : o.ends ≡ end ∷ end ∷ []) where
     anchors = ap (length {A = ℕ}) anchors ∙ sym (ap (length {A = ℕ}) ends);
   }
 
-  pub begun : {D : Type 0} {G : Ghosts D} (load : Workload) (ws : List (Writer D G)) → AreNew (λ j. catalogue_of load) ws → length ws ≡ 2 → length (catalogue_of load) ≡ end → IsBegun (λ j. catalogue_of load) ws o
+  pub begun : {D : Type 0} {G : Ghosts D} (load : Workload) (ws : List (Writer D G)) → AreNew One (λ j. catalogue_of load) ws → length ws ≡ 2 → length (catalogue_of load) ≡ end → IsBegun One (λ j. catalogue_of load) ws o
   begun load ws new two size = record {
     count = two ∙ sym (ap (length {A = ℕ}) ends);
     long = λ j lt. subst (λ (v : List ℕ). length (catalogue_of load) ≡ slice_index v j) (sym ends) (both_end end (length (catalogue_of load)) j size (subst (λ (v : List ℕ). j < length v) ends lt));

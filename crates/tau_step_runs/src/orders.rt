@@ -1,5 +1,7 @@
 ghost use Rattle.std.specs.Prelude.{◌≤◌};
-ghost use Rattle.tau_base.specs.declared.limits.TheConstants.{MAX_STREAMS, MAX_WORKERS};
+ghost use Rattle.tau_base.specs.declared.format.Format.TheVariants.{One};
+ghost use Rattle.tau_base.specs.Modes.{most_streams};
+ghost use Rattle.tau_base.specs.declared.limits.TheConstants.{MAX_WORKERS};
 
 use std::alloc::Global;
 use std::test::*;
@@ -10,7 +12,7 @@ use tau_text::{parse_workload, print_declarations};
 /// The stream of each disk call of the run over this text.
 fn order_over(alloc: Global, text: &[u8], n: u8, m: u8) -> Result<Vec<u8>, Fail>
     requires streams_low { 1 ≤ n }
-    requires streams_high { n ≤ MAX_STREAMS }
+    requires streams_high { n ≤ most_streams One }
     requires low { 1 ≤ m }
     requires high { m ≤ MAX_WORKERS }
 {

@@ -1,5 +1,6 @@
 -- What a writer stands for.
 use Rattle.std.specs.Prelude.{◌≡◌, ◌⊎◌, ◌↔◌, ℕ, ◌+◌, ◌-◌, ◌<◌, ◌≤◌, ◌++◌, Bool, true, false, List, take, drop, length, Result, Err}
+use Rattle.tau_base.specs.declared.format.Format.{Format}
 use Rattle.tau_base.specs.declared.limits.TheConstants.{MAX_BODY}
 use Rattle.tau_block.specs.Image.{tail_of}
 use Rattle.tau_disk.specs.declared.disk.Disk.{Ghosts}
@@ -52,8 +53,8 @@ module _ {D : Type 0} {G : Ghosts D} where
     pub block : writer.durable < upto → writer.block.items ≡ tail_of (take (upto - writer.durable) writer.body.items)
 
   -- the disk has this content and is ready for more
-  pub record IsReady (n j : ℕ) (writer : Writer D G) (content : List ℕ) : Type 0 where
-    pub settled : IsSettled n j (G.seen writer.disk) (G.may_leave writer.disk) writer.gate_at content
+  pub record IsReady (f : Format) (n j : ℕ) (writer : Writer D G) (content : List ℕ) : Type 0 where
+    pub settled : IsSettled f n j (G.seen writer.disk) (G.may_leave writer.disk) writer.gate_at content
     pub counts : writer.durable ≡ length content
 
   -- the content up to there is durable now
@@ -61,19 +62,19 @@ module _ {D : Type 0} {G : Ghosts D} where
     pub durable : durable_of new ≡ upto
     pub left : left_of new ≡ drop (upto - durable_of old) (left_of old)
     pub works : has_failed new ≡ false
-    pub done : G.tells → (n j : ℕ) (content : List ℕ) → IsReady n j old content → IsReady n j new (content ++ part_upto old upto)
+    pub done : G.tells → (f : Format) (n j : ℕ) (content : List ℕ) → IsReady f n j old content → IsReady f n j new (content ++ part_upto old upto)
 
   -- nothing more is durable, nothing was taken off, and some image has the old content
   pub record StaysUnflushed (old new : Writer D G) : Type 0 where
     pub durable : durable_of new ≡ durable_of old
     pub left : left_of new ≡ left_of old
-    pub reached : G.tells → (n j : ℕ) (content : List ℕ) → IsReady n j old content → MayHold n j content (G.may_leave (disk_of new))
+    pub reached : G.tells → (f : Format) (n j : ℕ) (content : List ℕ) → IsReady f n j old content → MayHold f n j content (G.may_leave (disk_of new))
 
   -- What is said of a flush up to there, however it ends. At each moment every image has the old content or the new one. It
   -- makes four calls of the disk, or is idle and makes none.
   pub record Flushes {T : Type 0} (upto : ℕ) (old new : Writer D G) (result : Result T Flush) : Type 0 where
-    pub moments : G.tells → (n j : ℕ) (content : List ℕ) → IsReady n j old content →
-        Passes G.moment G.may_leave_since (disk_of old) (disk_of new) (IsOldOrNew n j content (part_upto old upto))
+    pub moments : G.tells → (f : Format) (n j : ℕ) (content : List ℕ) → IsReady f n j old content →
+        Passes G.moment G.may_leave_since (disk_of old) (disk_of new) (IsOldOrNew f n j content (part_upto old upto))
     pub plan : G.tells → (upto ≡ durable_of old → ⊥) → HasMade 4 (G.number (disk_of old)) (G.number (disk_of new)) (G.fails (disk_of old)) (G.fails (disk_of new)) (G.short (disk_of old)) (G.short (disk_of new)) result
     pub idle : (result ≡ Err Idle) ↔ (upto ≡ durable_of old)
     pub idle_same : result ≡ Err Idle → new ≡ old

@@ -1,5 +1,6 @@
 // A block goes onto a disk in two steps.
 ghost use Rattle.std.specs.Prelude.{◌≡◌, ◌+◌, ◌<◌, ◌≤◌, ◌^◌, ◌++◌, List, ℕ, length, OnOk, OnErr};
+ghost use Rattle.tau_base.specs.declared.format.Format.{Format};
 ghost use Rattle.tau_block.specs.Image.{IsBody, tail_of};
 ghost use Rattle.tau_disk.specs.Disk.{Passes, HasCause};
 ghost use Rattle.tau_disk.specs.Plan.{HasMade};
@@ -21,20 +22,20 @@ pub fn publish_gated<D: Disk, G: Gate>(
     requires end { gate_at + 1 + length block.now < 2 ^ 62 }
 
     // After Ok the block is after the content, in every image.
-    ensures done { OnOk result (D.tells → (n j : ℕ) (content body : List ℕ) →
-        IsSettled n j (D.seen disk.old) (D.may_leave disk.old) gate_at content → IsBody body → block.now ≡ tail_of body →
-        IsSettled n j (D.seen disk.new) (D.may_leave disk.new) (gate_at + length block.now) (content ++ body)) }
+    ensures done { OnOk result (D.tells → (f : Format) (n j : ℕ) (content body : List ℕ) →
+        IsSettled f n j (D.seen disk.old) (D.may_leave disk.old) gate_at content → IsBody body → block.now ≡ tail_of body →
+        IsSettled f n j (D.seen disk.new) (D.may_leave disk.new) (gate_at + length block.now) (content ++ body)) }
 
     ensures here { OnOk result (D.tells → gate_at + length block.now < length (D.seen disk.new)) }
 
     // At each moment every image has the old content or the new one.
-    ensures moments { D.tells → (n j : ℕ) (content body : List ℕ) →
-        IsSettled n j (D.seen disk.old) (D.may_leave disk.old) gate_at content → IsBody body → block.now ≡ tail_of body →
-        Passes D.moment D.may_leave_since disk.old disk.new (IsOldOrNew n j content body) }
+    ensures moments { D.tells → (f : Format) (n j : ℕ) (content body : List ℕ) →
+        IsSettled f n j (D.seen disk.old) (D.may_leave disk.old) gate_at content → IsBody body → block.now ≡ tail_of body →
+        Passes D.moment D.may_leave_since disk.old disk.new (IsOldOrNew f n j content body) }
 
     // After a failure some image has the old content.
-    ensures reached { OnErr result (D.tells → (n j : ℕ) (content : List ℕ) →
-        IsSettled n j (D.seen disk.old) (D.may_leave disk.old) gate_at content → MayHold n j content (D.may_leave disk.new)) }
+    ensures reached { OnErr result (D.tells → (f : Format) (n j : ℕ) (content : List ℕ) →
+        IsSettled f n j (D.seen disk.old) (D.may_leave disk.old) gate_at content → MayHold f n j content (D.may_leave disk.new)) }
     ensures plan { D.tells → HasMade 4 (D.number disk.old) (D.number disk.new) (D.fails disk.old) (D.fails disk.new) (D.short disk.old) (D.short disk.new) result }
     ensures cause { HasCause (D.faults disk.old) (D.faults disk.new) result }
 {
@@ -50,20 +51,20 @@ pub fn publish<D: Disk>(disk: &mut D, gate_at: u64, block: &[u8]) -> Result<(), 
     requires end { gate_at + 1 + length block.now < 2 ^ 62 }
 
     // After Ok the block is after the content, in every image.
-    ensures done { OnOk result (D.tells → (n j : ℕ) (content body : List ℕ) →
-        IsSettled n j (D.seen disk.old) (D.may_leave disk.old) gate_at content → IsBody body → block.now ≡ tail_of body →
-        IsSettled n j (D.seen disk.new) (D.may_leave disk.new) (gate_at + length block.now) (content ++ body)) }
+    ensures done { OnOk result (D.tells → (f : Format) (n j : ℕ) (content body : List ℕ) →
+        IsSettled f n j (D.seen disk.old) (D.may_leave disk.old) gate_at content → IsBody body → block.now ≡ tail_of body →
+        IsSettled f n j (D.seen disk.new) (D.may_leave disk.new) (gate_at + length block.now) (content ++ body)) }
 
     ensures here { OnOk result (D.tells → gate_at + length block.now < length (D.seen disk.new)) }
 
     // At each moment every image has the old content or the new one.
-    ensures moments { D.tells → (n j : ℕ) (content body : List ℕ) →
-        IsSettled n j (D.seen disk.old) (D.may_leave disk.old) gate_at content → IsBody body → block.now ≡ tail_of body →
-        Passes D.moment D.may_leave_since disk.old disk.new (IsOldOrNew n j content body) }
+    ensures moments { D.tells → (f : Format) (n j : ℕ) (content body : List ℕ) →
+        IsSettled f n j (D.seen disk.old) (D.may_leave disk.old) gate_at content → IsBody body → block.now ≡ tail_of body →
+        Passes D.moment D.may_leave_since disk.old disk.new (IsOldOrNew f n j content body) }
 
     // After a failure some image has the old content.
-    ensures reached { OnErr result (D.tells → (n j : ℕ) (content : List ℕ) →
-        IsSettled n j (D.seen disk.old) (D.may_leave disk.old) gate_at content → MayHold n j content (D.may_leave disk.new)) }
+    ensures reached { OnErr result (D.tells → (f : Format) (n j : ℕ) (content : List ℕ) →
+        IsSettled f n j (D.seen disk.old) (D.may_leave disk.old) gate_at content → MayHold f n j content (D.may_leave disk.new)) }
     ensures plan { D.tells → HasMade 4 (D.number disk.old) (D.number disk.new) (D.fails disk.old) (D.fails disk.new) (D.short disk.old) (D.short disk.new) result }
     ensures cause { HasCause (D.faults disk.old) (D.faults disk.new) result }
 {

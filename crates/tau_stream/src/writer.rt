@@ -1,7 +1,10 @@
 // The writer of one log stream.
 ghost use Rattle.std.specs.Prelude.{◌≡◌, ◌+◌, ◌*◌, ◌<◌, ◌≤◌, ◌^◌, ◌++◌, ◌∷◌, [], List, ℕ, false, length, drop, vec_len, vec_capacity, IsNone, IsSome, OnOk, OnErr, IfOk, IfErr};
-ghost use Rattle.tau_base.specs.declared.limits.TheConstants.{MAX_CATALOGUE, MAX_STREAMS};
-ghost use Rattle.tau_block.specs.Image.{IsBody, count_in, header_of, index_in, tail_of};
+ghost use Rattle.tau_base.specs.declared.format.Format.{Format};
+ghost use Rattle.tau_base.specs.declared.format.Format.TheVariants.{One};
+ghost use Rattle.tau_base.specs.declared.limits.TheConstants.{MAX_CATALOGUE};
+ghost use Rattle.tau_base.specs.Modes.{most_streams};
+ghost use Rattle.tau_block.specs.Image.{IsBody, count_in, format_in, index_in, tail_of};
 ghost use Rattle.tau_disk.specs.Disk.{Passes, Rose, HasCause};
 ghost use Rattle.tau_disk.specs.Plan.{HasMade, MadeAll, MadeSome};
 ghost use Rattle.tau_stream.specs.Stream.{IsHead, IsOldOrNew, IsRead, IsSettled, IsUnborn, calls_to_reopen, catalogue_record};
@@ -35,7 +38,7 @@ pub struct Writer<D: Disk> {
 impl<D: Disk> Writer<D> {
     ghost use Rattle.tau_stream.specs.Writer.{disk_of, durable_of, gathered_of, left_of, added_of, has_failed, Flushed, Flushes, MayReach, IsPrepared, IsReady, StaysUnflushed};
 
-    /// Creates stream `j` of `n` on an empty disk: the header, and one block with the catalogue's record. It makes six
+    /// Creates stream `j` of `n`, in format 1, on an empty disk: the header, and one block with the catalogue's record. It makes six
     /// calls of the disk. A refusal hands the disk back; it is never Idle.
     pub fn create(
         alloc: Global,
@@ -44,12 +47,12 @@ impl<D: Disk> Writer<D> {
         j: u16,
         catalogue: &[u8],
     ) -> Result<Writer<D>, (D, Flush)>
-        requires streams { n ≤ MAX_STREAMS }
+        requires streams { n ≤ most_streams One }
         requires stream { j < n }
         requires text { length catalogue.now ≤ MAX_CATALOGUE }
         requires empty { D.tells → D.seen disk ≡ [] }
 
-        ensures ready { IfOk result (λ writer. D.tells → IsReady n j writer (catalogue_record catalogue.now)) }
+        ensures ready { IfOk result (λ writer. D.tells → IsReady One n j writer (catalogue_record catalogue.now)) }
         ensures durable { IfOk result (λ writer. durable_of writer ≡ length (catalogue_record catalogue.now)) }
         ensures left { IfOk result (λ writer. left_of writer ≡ []) }
         ensures added { IfOk result (λ writer. added_of writer ≡ 0) }
@@ -57,9 +60,9 @@ impl<D: Disk> Writer<D> {
 
         // At each moment every image is empty or has the catalogue's record, where each image at the entry was unborn.
         ensures moments { IfOk result (λ writer. D.tells → IsUnborn (D.may_leave disk) →
-            Passes D.moment D.may_leave_since disk (disk_of writer) (IsOldOrNew n j [] (catalogue_record catalogue.now))) }
+            Passes D.moment D.may_leave_since disk (disk_of writer) (IsOldOrNew One n j [] (catalogue_record catalogue.now))) }
         ensures moments_err { IfErr result (λ refusal. D.tells → IsUnborn (D.may_leave disk) →
-            Passes D.moment D.may_leave_since disk refusal.0 (IsOldOrNew n j [] (catalogue_record catalogue.now))) }
+            Passes D.moment D.may_leave_since disk refusal.0 (IsOldOrNew One n j [] (catalogue_record catalogue.now))) }
 
         // The calls that it made of the disk.
         ensures made { IfOk result (λ writer. D.tells → MadeAll 6 (D.number disk) (D.number (disk_of writer)) (D.fails disk) (D.short disk) (D.short (disk_of writer))) }
@@ -109,7 +112,7 @@ impl<D: Disk> Writer<D> {
         requires unborn { IsNone content.count → (content.bytes ≡ []) × (content.gate_at ≡ 16) }
         requires body { IsBody body.now × (5 ≤ length body.now) }
 
-        ensures ready { IfOk result (λ writer. D.tells → IsReady (count_in head) (index_in head) writer (content.bytes ++ body.now)) }
+        ensures ready { IfOk result (λ writer. D.tells → IsReady (format_in head) (count_in head) (index_in head) writer (content.bytes ++ body.now)) }
         ensures durable { IfOk result (λ writer. durable_of writer ≡ length content.bytes + length body.now) }
         ensures left { IfOk result (λ writer. left_of writer ≡ []) }
         ensures added { IfOk result (λ writer. added_of writer ≡ length body.now) }
@@ -118,9 +121,9 @@ impl<D: Disk> Writer<D> {
         // At each moment every image has the content, or that with the body after it. Of an unborn image this is said where each
         // image at the entry was unborn.
         ensures moments { IfOk result (λ writer. D.tells → (IsNone content.count → IsUnborn (D.may_leave disk)) →
-            Passes D.moment D.may_leave_since disk (disk_of writer) (IsOldOrNew (count_in head) (index_in head) content.bytes body.now)) }
+            Passes D.moment D.may_leave_since disk (disk_of writer) (IsOldOrNew (format_in head) (count_in head) (index_in head) content.bytes body.now)) }
         ensures moments_err { IfErr result (λ refusal. D.tells → (IsNone content.count → IsUnborn (D.may_leave disk)) →
-            Passes D.moment D.may_leave_since disk refusal.0 (IsOldOrNew (count_in head) (index_in head) content.bytes body.now)) }
+            Passes D.moment D.may_leave_since disk refusal.0 (IsOldOrNew (format_in head) (count_in head) (index_in head) content.bytes body.now)) }
 
         // The calls that it made of the disk.
         ensures made { IfOk result (λ writer. D.tells → MadeAll (calls_to_reopen content.count) (D.number disk) (D.number (disk_of writer)) (D.fails disk) (D.short disk) (D.short (disk_of writer))) }
@@ -202,7 +205,7 @@ impl<D: Disk> Writer<D> {
         ensures disk { disk_of self.new ≡ disk_of self.old }
         ensures durable { durable_of self.new ≡ durable_of self.old }
         ensures works { has_failed self.new ≡ has_failed self.old }
-        ensures ready { (n j : ℕ) (content : List ℕ) → IsReady n j self.old content → IsReady n j self.new content }
+        ensures ready { (f : Format) (n j : ℕ) (content : List ℕ) → IsReady f n j self.old content → IsReady f n j self.new content }
         ensures prepared { (k : ℕ) → IsPrepared self.old k → IsPrepared self.new k }
         ensures err { OnErr result (left_of self.new ≡ left_of self.old) }
         ensures err_added { OnErr result (added_of self.new ≡ added_of self.old) }
@@ -221,7 +224,7 @@ impl<D: Disk> Writer<D> {
         ensures left { left_of self.new ≡ left_of self.old }
         ensures added { added_of self.new ≡ added_of self.old }
         ensures works { has_failed self.new ≡ has_failed self.old }
-        ensures ready { (n j : ℕ) (content : List ℕ) → IsReady n j self.old content → IsReady n j self.new content }
+        ensures ready { (f : Format) (n j : ℕ) (content : List ℕ) → IsReady f n j self.old content → IsReady f n j self.new content }
         ensures err { OnErr result ((k : ℕ) → IsPrepared self.old k → IsPrepared self.new k) }
     {
         let count = (upto - self.durable) as usize;
@@ -294,10 +297,10 @@ fn begin<D: Disk>(disk: &mut D, head: &[u8], block: &[u8]) -> Result<(), Failed>
     requires short { D.tells → length (D.seen disk.old) ≤ 17 }
     requires size { length block.now < 2 ^ 32 }
     ensures done { OnOk result (D.tells → (first : List ℕ) → IsBody first → block.now ≡ tail_of first →
-        IsSettled (count_in head.now) (index_in head.now) (D.seen disk.new) (D.may_leave disk.new) (16 + length block.now) first) }
+        IsSettled (format_in head.now) (count_in head.now) (index_in head.now) (D.seen disk.new) (D.may_leave disk.new) (16 + length block.now) first) }
     ensures here { OnOk result (D.tells → 16 + length block.now < length (D.seen disk.new)) }
     ensures moments { D.tells → (first : List ℕ) → IsBody first → block.now ≡ tail_of first → IsUnborn (D.may_leave disk.old) →
-        Passes D.moment D.may_leave_since disk.old disk.new (IsOldOrNew (count_in head.now) (index_in head.now) [] first) }
+        Passes D.moment D.may_leave_since disk.old disk.new (IsOldOrNew (format_in head.now) (count_in head.now) (index_in head.now) [] first) }
     ensures plan { D.tells → HasMade 6 (D.number disk.old) (D.number disk.new) (D.fails disk.old) (D.fails disk.new) (D.short disk.old) (D.short disk.new) result }
     ensures cause { HasCause (D.faults disk.old) (D.faults disk.new) result }
 {
@@ -314,10 +317,10 @@ fn go_on<D: Disk>(disk: &mut D, head: &[u8], content: &Content, block: &[u8]) ->
     requires unborn { IsNone content.now.count → (content.now.bytes ≡ []) × (content.now.gate_at ≡ 16) }
     requires size { length block.now < 2 ^ 32 }
     ensures done { OnOk result (D.tells → (first : List ℕ) → IsBody first → block.now ≡ tail_of first →
-        IsSettled (count_in head.now) (index_in head.now) (D.seen disk.new) (D.may_leave disk.new) (content.now.gate_at + length block.now) (content.now.bytes ++ first)) }
+        IsSettled (format_in head.now) (count_in head.now) (index_in head.now) (D.seen disk.new) (D.may_leave disk.new) (content.now.gate_at + length block.now) (content.now.bytes ++ first)) }
     ensures here { OnOk result (D.tells → content.now.gate_at + length block.now < length (D.seen disk.new)) }
     ensures moments { D.tells → (first : List ℕ) → IsBody first → block.now ≡ tail_of first → (IsNone content.now.count → IsUnborn (D.may_leave disk.old)) →
-        Passes D.moment D.may_leave_since disk.old disk.new (IsOldOrNew (count_in head.now) (index_in head.now) content.now.bytes first) }
+        Passes D.moment D.may_leave_since disk.old disk.new (IsOldOrNew (format_in head.now) (count_in head.now) (index_in head.now) content.now.bytes first) }
     ensures plan { D.tells → HasMade (calls_to_reopen content.now.count) (D.number disk.old) (D.number disk.new) (D.fails disk.old) (D.fails disk.new) (D.short disk.old) (D.short disk.new) result }
     ensures cause { HasCause (D.faults disk.old) (D.faults disk.new) result }
 {

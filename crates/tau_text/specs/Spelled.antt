@@ -2,7 +2,7 @@
 use Rattle.std.specs.Prelude.{ℕ, zero, suc, ◌+◌, ◌-◌, ◌*◌, ◌^◌, Bool, false, not, ◌&&◌, ◌||◌, List, [], ◌∷◌, length, take, drop, ℤ, pos, negsuc, neg_ℤ, Option, Some, None, Result, Ok, Err, nat_lt, nat_le, ◌==◌, if◌then◌else◌, codes, bytes_eq, option_and_then, option_map}
 use Rattle.std.specs.Str.{is_utf8}
 use Rattle.std.specs.List.{list_all}
-use Rattle.tau_base.specs.declared.limits.TheConstants.{MAX_ARGS, MAX_NAME, MAX_STREAMS, MAX_TEXT, MAX_WORKERS, REGISTERS}
+use Rattle.tau_base.specs.declared.limits.TheConstants.{MAX_ARGS, MAX_NAME, MAX_TEXT, REGISTERS, TURN_ACTORS}
 use Rattle.tau_base.specs.declared.value.Value.{Value}
 use Rattle.tau_base.specs.declared.value.Value.TheVariants as values
 use Rattle.tau_proc.specs.declared.step.Operand.{Operand}
@@ -180,9 +180,9 @@ compare w =
 unfoldable pub turn : List ℕ → Result Turn TextCause
 turn [] = Err BadStep
 turn (b ∷ bs) =
-    if b == 119 then (or_else BadStep (index MAX_WORKERS bs) >>= λ i. Ok (turns.Worker i))
-    else if b == 109 then (or_else BadStep (index MAX_STREAMS bs) >>= λ i. Ok (turns.Manager i))
-    else if b == 97 then (or_else BadStep (index MAX_STREAMS bs) >>= λ i. Ok (turns.Anchor i))
+    if b == 119 then (or_else BadStep (index TURN_ACTORS bs) >>= λ i. Ok (turns.Worker i))
+    else if b == 109 then (or_else BadStep (index TURN_ACTORS bs) >>= λ i. Ok (turns.Manager i))
+    else if b == 97 then (or_else BadStep (index TURN_ACTORS bs) >>= λ i. Ok (turns.Anchor i))
     else if bytes_eq (b ∷ bs) (codes "c") then Ok turns.Clerk
     else if bytes_eq (b ∷ bs) (codes "d") then Ok turns.Drop
     else Err BadStep

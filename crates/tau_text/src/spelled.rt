@@ -10,9 +10,7 @@ ghost use Rattle.tau_text.specs.Spelled.{is_digit, is_letter, is_name_byte, is_t
 use crate::fault::{LineRefusal, TextCause};
 use crate::load::Turn;
 use std::str;
-use tau_base::{
-    MAX_ARGS, MAX_NAME, MAX_STREAMS, MAX_TABLES, MAX_WORKERS, Name, REGISTERS, Text64, Value,
-};
+use tau_base::{MAX_ARGS, MAX_NAME, MAX_TABLES, Name, REGISTERS, TURN_ACTORS, Text64, Value};
 use tau_proc::{Compare, Operand, Proc};
 
 pub fn is_digit(b: u8) -> bool
@@ -401,17 +399,17 @@ pub fn turn(word: &[u8]) -> Result<Turn, LineRefusal>
         [] => Err(LineRefusal::Cause(TextCause::BadStep)),
         [b, rest @ ..] => {
             if *b == b'w' {
-                match index(MAX_WORKERS as u8, rest) {
+                match index(TURN_ACTORS as u8, rest) {
                     Some(i) => Ok(Turn::Worker(i)),
                     None => Err(LineRefusal::Cause(TextCause::BadStep)),
                 }
             } else if *b == b'm' {
-                match index(MAX_STREAMS as u8, rest) {
+                match index(TURN_ACTORS as u8, rest) {
                     Some(i) => Ok(Turn::Manager(i)),
                     None => Err(LineRefusal::Cause(TextCause::BadStep)),
                 }
             } else if *b == b'a' {
-                match index(MAX_STREAMS as u8, rest) {
+                match index(TURN_ACTORS as u8, rest) {
                     Some(i) => Ok(Turn::Anchor(i)),
                     None => Err(LineRefusal::Cause(TextCause::BadStep)),
                 }

@@ -7,7 +7,7 @@ use Rattle.std.proofs.lemmas.Bool.Decides.{Decides-eqb}
 use Rattle.std.proofs.lemmas.Str.{IsUtf8-from_is_utf8}
 use Rattle.std.specs.List.{list_all}
 use Rattle.std.specs.Str.{is_utf8}
-use Rattle.tau_base.specs.declared.limits.TheConstants.{MAX_TEXT, MAX_WORKERS, MAX_STREAMS}
+use Rattle.tau_base.specs.declared.limits.TheConstants.{MAX_TEXT, TURN_ACTORS}
 use Rattle.tau_base.specs.declared.value.Value.{Value}
 use Rattle.tau_base.specs.declared.value.Value.TheVariants as values
 use Rattle.tau_proc.specs.declared.step.Operand.{Operand}
@@ -193,21 +193,21 @@ drop_turns w t =
     let s : codes "d" ≡ w = sym ((bytes_eq-Decides w (codes "d")).0 t) in
     record { same = s; word = inl (subst IsPlain s (record { bytes = refl; some = omega arith })) }
 
-worker_turns : (b i : ℕ) (bs : List ℕ) → (b == 119) ≡ true → index MAX_WORKERS bs ≡ Some i → Turns (b ∷ bs) (turns.Worker i)
-worker_turns b i bs t e = let s = lettered 119 b i bs refl t (index_spells MAX_WORKERS i bs e) in record { same = s.same; word = inl s.word }
+worker_turns : (b i : ℕ) (bs : List ℕ) → (b == 119) ≡ true → index TURN_ACTORS bs ≡ Some i → Turns (b ∷ bs) (turns.Worker i)
+worker_turns b i bs t e = let s = lettered 119 b i bs refl t (index_spells TURN_ACTORS i bs e) in record { same = s.same; word = inl s.word }
 
-manager_turns : (b i : ℕ) (bs : List ℕ) → (b == 109) ≡ true → index MAX_STREAMS bs ≡ Some i → Turns (b ∷ bs) (turns.Manager i)
-manager_turns b i bs t e = let s = lettered 109 b i bs refl t (index_spells MAX_STREAMS i bs e) in record { same = s.same; word = inl s.word }
+manager_turns : (b i : ℕ) (bs : List ℕ) → (b == 109) ≡ true → index TURN_ACTORS bs ≡ Some i → Turns (b ∷ bs) (turns.Manager i)
+manager_turns b i bs t e = let s = lettered 109 b i bs refl t (index_spells TURN_ACTORS i bs e) in record { same = s.same; word = inl s.word }
 
-anchor_turns : (b i : ℕ) (bs : List ℕ) → (b == 97) ≡ true → index MAX_STREAMS bs ≡ Some i → Turns (b ∷ bs) (turns.Anchor i)
-anchor_turns b i bs t e = let s = lettered 97 b i bs refl t (index_spells MAX_STREAMS i bs e) in record { same = s.same; word = inl s.word }
+anchor_turns : (b i : ℕ) (bs : List ℕ) → (b == 97) ≡ true → index TURN_ACTORS bs ≡ Some i → Turns (b ∷ bs) (turns.Anchor i)
+anchor_turns b i bs t e = let s = lettered 97 b i bs refl t (index_spells TURN_ACTORS i bs e) in record { same = s.same; word = inl s.word }
 
 pub turn_turns : (w : List ℕ) (t : Turn) → turn w ≡ Ok t → Turns w t
 unfolding turn
 turn_turns [] t e = absurd cc
 turn_turns (b ∷ bs) t e =
-    numbered (Turns (b ∷ bs)) (b == 119) (index MAX_WORKERS bs) (λ i. turns.Worker i) _ t (λ i h k. worker_turns b i bs h k) (λ e1.
-    numbered (Turns (b ∷ bs)) (b == 109) (index MAX_STREAMS bs) (λ i. turns.Manager i) _ t (λ i h k. manager_turns b i bs h k) (λ e2.
-    numbered (Turns (b ∷ bs)) (b == 97) (index MAX_STREAMS bs) (λ i. turns.Anchor i) _ t (λ i h k. anchor_turns b i bs h k) (λ e3.
+    numbered (Turns (b ∷ bs)) (b == 119) (index TURN_ACTORS bs) (λ i. turns.Worker i) _ t (λ i h k. worker_turns b i bs h k) (λ e1.
+    numbered (Turns (b ∷ bs)) (b == 109) (index TURN_ACTORS bs) (λ i. turns.Manager i) _ t (λ i h k. manager_turns b i bs h k) (λ e2.
+    numbered (Turns (b ∷ bs)) (b == 97) (index TURN_ACTORS bs) (λ i. turns.Anchor i) _ t (λ i h k. anchor_turns b i bs h k) (λ e3.
     chosen (Turns (b ∷ bs)) (bytes_eq (b ∷ bs) (codes "c")) turns.Clerk _ t (clerk_turns (b ∷ bs)) (λ e4.
     chosen (Turns (b ∷ bs)) (bytes_eq (b ∷ bs) (codes "d")) turns.Drop (Err BadStep) t (drop_turns (b ∷ bs)) (λ e5. absurd cc) e4) e3) e2) e1) e

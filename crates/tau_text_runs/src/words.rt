@@ -65,12 +65,10 @@ fn each_row_of_a_run_is_read(rt: HostRuntime) -> Result<(), Fail> {
     for (line, n, m, mode) in rows {
         reads(&rt, rt.alloc(), line, run(n, m, mode))?;
     }
-    reads(
-        &rt,
-        rt.alloc(),
-        "recover 16 1",
-        Command::Recover { n: 16, p: 1 },
-    )
+    for (line, n, p) in [("recover 16 1", 16, 1), ("recover 32 16", 32, 16)] {
+        reads(&rt, rt.alloc(), line, Command::Recover { n, p })?;
+    }
+    Ok(())
 }
 
 #[test]
@@ -147,7 +145,8 @@ fn other_words_are_refused(rt: HostRuntime) -> Result<(), Fail> {
         "run 1 1 data data",
         "Run 1 1",
         "recover 1",
-        "recover 17 1",
+        "recover 33 1",
+        "recover 1 17",
         "recover 1 1 1",
         "drill 1 1 1 stop 0 old",
         "drill 1 1 1 stop 1000001 old",

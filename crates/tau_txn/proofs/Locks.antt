@@ -1,5 +1,5 @@
 -- A lock on a shard, which raises the call's vector in place.
-use Rattle.std.proofs.Common.{ℕ, ◌≡◌, Bool, true, false, List, length, refl, sym, ap, subst, ◌∙◌}
+use Rattle.std.proofs.Common.{ℕ, ◌≡◌, Bool, true, false, List, refl, sym, ap, subst, ◌∙◌}
 use Rattle.std.specs.Prelude.{Some, Result, Ok, Err, OnOk, OnErr}
 use Rattle.tau_base.specs.declared.value.Key.{Key}
 use Rattle.tau_base.specs.declared.value.Mode.{Mode}
@@ -20,7 +20,6 @@ use Rattle.tau_txn.specs.Kept.{KeepsHand, kept}
 use Rattle.tau_txn.specs.Locked.{HandLocked, RunsOn, TxnLocked}
 use Rattle.tau_txn.specs.Next.{next_of}
 use Rattle.tau_txn.specs.Progress.{IsRunBy}
-use Rattle.tau_txn.specs.Read.{hand_of}
 use Rattle.tau_txn.specs.Steps.{lock_by, locked_with}
 use Rattle.tau_txn.specs.Txn.{PlainTxn, shown}
 use Rattle.tau_txn.proofs.Asked.{LockAsked, asked_at}

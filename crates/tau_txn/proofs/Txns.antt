@@ -15,7 +15,7 @@ use Rattle.tau_proc.specs.declared.reply.Want.TheVariants.{Read, Write, Finished
 use Rattle.tau_proc.specs.Effect.{Effect}
 use Rattle.tau_proc.specs.Progress.{buffered, next_want}
 use Rattle.tau_base.specs.declared.value.Mode.TheVariants as mode
-use Rattle.tau_base.specs.declared.value.LogMode.TheVariants.{Values, Commands}
+use Rattle.tau_base.specs.declared.value.LogMode.TheVariants.{Values, Commands, WideValues, WideCommands}
 use Rattle.tau_record.specs.declared.entry.Entry.TheVariants.{Written, Command}
 use Rattle.tau_model.specs.declared.committed.Spot.{Spot}
 use Rattle.tau_model.specs.History.{Act, updating}
@@ -354,6 +354,11 @@ record_is procs w width Values start h hand run finished is =
     ap (λ (ws : List (Key × Value)). Written h.number h.anchor h.dep ws) (sym e.writes)
     ∙ ap (λ (a : Hand). Written a.call.number h.anchor a.dep (effect_in (stage procs a.call.call a.seen)).writes) (shows procs w h hand is).is
 record_is procs w width Commands start h hand run finished is = ap (λ (a : Hand). Command a.call.number h.anchor a.dep a.call.call) (shows procs w h hand is).is
+record_is procs w width WideValues start h hand run finished is =
+    let e = effected procs h run finished in
+    ap (λ (ws : List (Key × Value)). Written h.number h.anchor h.dep ws) (sym e.writes)
+    ∙ ap (λ (a : Hand). Written a.call.number h.anchor a.dep (effect_in (stage procs a.call.call a.seen)).writes) (shows procs w h hand is).is
+record_is procs w width WideCommands start h hand run finished is = ap (λ (a : Hand). Command a.call.number h.anchor a.dep a.call.call) (shows procs w h hand is).is
 
 -- the vector of a call that frees its keys
 pub freed_lv : (procs : List Proc) (w : ℕ) (h : PlainHand) (hand : Hand) (act : Act theory.Txn) → IsRunBy procs h → shown procs w h.standing h ≡ Some hand → FreesBy procs (joined_by h.standing) w hand act →

@@ -3,6 +3,7 @@ use Rattle.std.specs.Prelude.{ℕ, ◌≤◌, ◌≡◌, Bool, true, false, Opti
 use Rattle.std.specs.FinMap.{is_sorted}
 use Rattle.tau_base.specs.Database.{key_cmp}
 use Rattle.tau_base.specs.declared.limits.TheConstants.{MAX_STREAMS, MAX_TRIES}
+use Rattle.tau_base.specs.Modes.{format_of, most_streams}
 use Rattle.tau_txn.specs.declared.standing.Standing.{Standing}
 use Rattle.tau_txn.specs.declared.standing.Standing.TheVariants.{Running, Quitting, LeftOver}
 use Rattle.tau_txn.specs.Hand.{PlainHand}
@@ -34,10 +35,11 @@ abbrev pub keeps_in : ℕ → Option PlainHand → Type 0
 keeps_in width None = Unit {0}
 keeps_in width (Some h) = KeepsHand width h
 
--- a worker of 1 to as many streams as there may be
+-- a worker of 1 to as many streams as there may be, and as the format of its mode has room for
 pub record Keeps (t : PlainTxn) : Type 0 where
   pub low : 1 ≤ t.width
   pub high : t.width ≤ MAX_STREAMS
+  pub fits : t.width ≤ most_streams (format_of t.mode)
   pub hand : keeps_in t.width t.hand
 
 -- the call in hand, where it stays there

@@ -1,5 +1,5 @@
 -- What is asked of the next action, one thing at a time.
-use Rattle.std.specs.Prelude.{ℕ, ◌==◌, Bool, true, false, if◌then◌else◌, Option, Some, None, List, [], ◌∷◌, length}
+use Rattle.std.specs.Prelude.{◌==◌, Bool, true, false, if◌then◌else◌, Option, Some, None, List, [], ◌∷◌, length}
 use Rattle.std.specs.Map.{lookup}
 use Rattle.tau_base.specs.declared.value.Key.{Key}
 use Rattle.tau_base.specs.declared.value.Value.{Value}
@@ -10,7 +10,7 @@ use Rattle.tau_proc.specs.declared.reply.Want.TheVariants as want
 use Rattle.tau_proc.specs.Progress.{buffered, next_want}
 use Rattle.tau_model.specs.declared.committed.Committed.{Committed}
 use Rattle.tau_txn.specs.declared.standing.Standing.{Standing}
-use Rattle.tau_txn.specs.declared.standing.Standing.TheVariants.{Running, Quitting, Placed, Freeing, LeftOver}
+use Rattle.tau_txn.specs.declared.standing.Standing.TheVariants.{Running, Quitting, Freeing, LeftOver}
 use Rattle.tau_txn.specs.declared.action.Action.{Action}
 use Rattle.tau_txn.specs.declared.action.Action.TheVariants as action
 use Rattle.tau_txn.specs.Hand.{PlainHand}

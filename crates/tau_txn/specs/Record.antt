@@ -1,9 +1,9 @@
 -- The record of an act, and what is kept of a call that has joined the committed ones.
-use Rattle.std.specs.Prelude.{Option, Some, None, List, [], ◌∷◌}
+use Rattle.std.specs.Prelude.{Option, Some, None, List, [], ◌∷◌, if◌then◌else◌}
 use Rattle.tau_base.specs.declared.value.Key.{Key}
 use Rattle.tau_base.specs.declared.value.Value.{Value}
 use Rattle.tau_base.specs.declared.value.LogMode.{LogMode}
-use Rattle.tau_base.specs.declared.value.LogMode.TheVariants.{Values, Commands}
+use Rattle.tau_base.specs.Modes.{is_command}
 use Rattle.tau_record.specs.declared.entry.Entry.{Entry}
 use Rattle.tau_record.specs.declared.entry.Entry.TheVariants.{Written, Command}
 use Rattle.tau_model.specs.History.{Act}
@@ -19,8 +19,9 @@ use Rattle.tau_txn.specs.Hand.{PlainHand}
 
 -- the record of an updating act: what it wrote, or the call itself
 abbrev pub entry_of : LogMode → Act theory.Txn → Entry
-entry_of Values t = Written t.call.call.number t.call.anchor t.call.place.dep t.effect.writes
-entry_of Commands t = Command t.call.call.number t.call.anchor t.call.place.dep t.call.call.call
+entry_of mode t =
+    if is_command mode then Command t.call.call.number t.call.anchor t.call.place.dep t.call.call.call
+    else Written t.call.call.number t.call.anchor t.call.place.dep t.effect.writes
 
 -- what is kept of a call by what its machine wants: it has finished, and has joined the committed ones or writes nothing
 abbrev pub spot_by : List (Key × Value) → PlainHand → Option Spot

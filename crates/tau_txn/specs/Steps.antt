@@ -1,11 +1,11 @@
 -- The next lock of a call in hand, what it is after a lock, and its record.
-use Rattle.std.specs.Prelude.{ℕ, Option, Some, None, List, [], ◌∷◌, ◌++◌}
+use Rattle.std.specs.Prelude.{ℕ, Option, Some, None, List, [], ◌∷◌, ◌++◌, if◌then◌else◌}
 use Rattle.tau_base.specs.declared.value.Key.{Key}
 use Rattle.tau_base.specs.declared.value.Value.{Value}
 use Rattle.tau_base.specs.declared.value.Mode.{Mode}
 use Rattle.tau_base.specs.declared.value.Mode.TheVariants.{Read, Write}
 use Rattle.tau_base.specs.declared.value.LogMode.{LogMode}
-use Rattle.tau_base.specs.declared.value.LogMode.TheVariants.{Values, Commands}
+use Rattle.tau_base.specs.Modes.{is_command}
 use Rattle.tau_record.specs.declared.entry.Entry.{Entry}
 use Rattle.tau_record.specs.declared.entry.Entry.TheVariants.{Written, Command}
 use Rattle.tau_proc.specs.declared.proc.Proc.{Proc}
@@ -53,5 +53,4 @@ without_first (e ∷ es) = without e.0 (e ∷ es)
 
 -- the record of a call that has ended: what it wrote, or the call itself
 abbrev pub record_of : LogMode → PlainHand → Entry
-record_of Values h = Written h.number h.anchor h.dep (buffered h.machine)
-record_of Commands h = Command h.number h.anchor h.dep h.call
+record_of mode h = if is_command mode then Command h.number h.anchor h.dep h.call else Written h.number h.anchor h.dep (buffered h.machine)

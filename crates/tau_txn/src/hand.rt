@@ -5,6 +5,7 @@ ghost use Rattle.std.specs.Map.{lookup};
 ghost use Rattle.arrayvec.specs.ArrayVec.{array_vec_len};
 ghost use Rattle.std.specs.FinMap.{is_sorted};
 ghost use Rattle.tau_base.specs.Database.{same_key, key_cmp};
+ghost use Rattle.tau_base.specs.Modes.{format_of, most_streams};
 ghost use Rattle.tau_base.specs.Vectors.{AtMost, join};
 ghost use Rattle.tau_base.specs.declared.limits.TheConstants.{MAX_LSN, MAX_STREAMS};
 ghost use Rattle.tau_base.specs.declared.value.Key.{Key};
@@ -16,7 +17,6 @@ ghost use Rattle.tau_proc.specs.declared.reply.Reply.{Reply};
 ghost use Rattle.tau_proc.specs.declared.reply.Want.{Want};
 ghost use Rattle.tau_proc.specs.Progress.{ahead, buffered, next_want};
 ghost use Rattle.tau_proc.specs.Takes.{takes};
-ghost use Rattle.tau_record.specs.Format.{One};
 ghost use Rattle.tau_record.specs.Record.{base_of, Spells};
 ghost use Rattle.tau_model.specs.History.{Act};
 ghost use Rattle.tau_model.specs.Committed.{lv_at};
@@ -50,7 +50,10 @@ use tau_base::{
 };
 use tau_model::{Committed, CommittedList, Spot};
 use tau_proc::{Procs, Reply, Want};
-use tau_record::{encode_command, encode_written, raise};
+use tau_record::{
+    encode_command_into, encode_command_wide_into, encode_written_into, encode_written_wide_into,
+    raise,
+};
 use tau_shard::{Shard, ShardRefusal};
 
 /// A call in hand. Its keys, the values that it has seen and its machine lie in the value itself; its record alone is on the heap.
@@ -73,6 +76,8 @@ pub struct Hand {
     past: u64,
     lv: Lv,
     bytes: Vec<u8>,
+    /// Memory for the bytes of the next record.
+    spare: Vec<u8>,
 }
 
 impl Model for Hand {
@@ -111,6 +116,7 @@ impl Hand {
             past: 0,
             lv: Lv::zero(streams),
             bytes: Vec::new(alloc),
+            spare: Vec::new(alloc),
         }
     }
 
@@ -132,7 +138,7 @@ impl Hand {
         self.tries = 0;
         self.leaves = false;
         self.given_up = false;
-        self.dep = Lv::zero(streams);
+        self.dep.set_zero(streams);
         self.held.clear();
         self.bytes.clear();
         self.run_anew(procs);
@@ -565,7 +571,7 @@ impl Hand {
         ensures same { self.new ≡ record self.old { machine = self.new.machine; held = hold key Mode.Read self.old.held; seen = self.new.seen; dep = dep.now } }
         ensures runs { (procs : List Proc) → IsRunBy procs self.old → IsRunBy procs self.new }
     {
-        self.dep = *dep;
+        self.dep.copy_from(dep);
         self.see(key, row);
     }
 
@@ -593,7 +599,7 @@ impl Hand {
         ensures same { self.new ≡ record self.old { machine = self.new.machine; held = hold key Mode.Write self.old.held; seen = self.new.seen; dep = dep.now } }
         ensures runs { (procs : List Proc) → IsRunBy procs self.old → IsRunBy procs self.new }
     {
-        self.dep = *dep;
+        self.dep.copy_from(dep);
         self.may_write(key);
     }
 
@@ -783,7 +789,7 @@ impl Hand {
         self.stream = 0;
         self.start = 0;
         self.past = 0;
-        self.lv = self.dep;
+        self.lv.copy_from(&self.dep);
         self.standing = Standing::Freeing;
     }
 
@@ -799,8 +805,9 @@ impl Hand {
         requires finished { IsFinished (next_want self.old.machine) }
         requires writes { 1 ≤ length (buffered self.old.machine) }
         requires width { length anchor.now ≡ length self.old.dep }
+        requires few { length self.old.dep ≤ most_streams (format_of mode) }
         ensures raised { OnOk result (self.new ≡ record self.old { dep = join self.old.dep anchor.now; anchor = anchor_number; bytes = self.new.bytes }) }
-        ensures bytes { OnOk result ((vectors : List (List ℕ)) → base_of vectors anchor_number ≡ anchor.now → Spells One (length self.old.dep) vectors false (record_of mode self.new) self.new.bytes) }
+        ensures bytes { OnOk result ((vectors : List (List ℕ)) → base_of vectors anchor_number ≡ anchor.now → Spells (format_of mode) (length self.old.dep) vectors false (record_of mode self.new) self.new.bytes) }
         ensures unchanged { OnErr result (self.new ≡ self.old) }
         ensures runs { (procs : List Proc) → IsRunBy procs self.old → IsRunBy procs self.new }
         ensures keeps { (width : ℕ) → KeepsHand width self.old → KeepsHand width self.new }
@@ -824,15 +831,17 @@ impl Hand {
         requires finished { IsFinished (next_want self.old.machine) }
         requires writes { 1 ≤ length (buffered self.old.machine) }
         requires width { length anchor.now ≡ length self.old.dep }
+        requires few { length self.old.dep ≤ most_streams (format_of mode) }
         requires covers { AtMost anchor.now self.old.dep }
         ensures raised { OnOk result (self.new ≡ record self.old { anchor = anchor_number; bytes = self.new.bytes }) }
-        ensures bytes { OnOk result ((vectors : List (List ℕ)) → base_of vectors anchor_number ≡ anchor.now → Spells One (length self.old.dep) vectors false (record_of mode self.new) self.new.bytes) }
+        ensures bytes { OnOk result ((vectors : List (List ℕ)) → base_of vectors anchor_number ≡ anchor.now → Spells (format_of mode) (length self.old.dep) vectors false (record_of mode self.new) self.new.bytes) }
         ensures unchanged { OnErr result (self.new ≡ self.old) }
         ensures runs { (procs : List Proc) → IsRunBy procs self.old → IsRunBy procs self.new }
         ensures keeps { (width : ℕ) → KeepsHand width self.old → KeepsHand width self.new }
         ensures leaves { self.new.leaves ≡ self.old.leaves }
     {
-        let bytes = self.record_bytes(mode, anchor_number, &self.dep, anchor)?;
+        let mut bytes = self.take_spare();
+        self.put_record(&mut bytes, mode, anchor_number, &self.dep, anchor)?;
         self.anchor = anchor_number;
         self.bytes = bytes;
         Ok(())
@@ -850,49 +859,86 @@ impl Hand {
         requires finished { IsFinished (next_want self.old.machine) }
         requires writes { 1 ≤ length (buffered self.old.machine) }
         requires width { length anchor.now ≡ length self.old.dep }
+        requires few { length self.old.dep ≤ most_streams (format_of mode) }
         ensures raised { OnOk result (self.new ≡ record self.old { dep = join self.old.dep anchor.now; anchor = anchor_number; bytes = self.new.bytes }) }
-        ensures bytes { OnOk result ((vectors : List (List ℕ)) → base_of vectors anchor_number ≡ anchor.now → Spells One (length self.old.dep) vectors false (record_of mode self.new) self.new.bytes) }
+        ensures bytes { OnOk result ((vectors : List (List ℕ)) → base_of vectors anchor_number ≡ anchor.now → Spells (format_of mode) (length self.old.dep) vectors false (record_of mode self.new) self.new.bytes) }
         ensures unchanged { OnErr result (self.new ≡ self.old) }
         ensures runs { (procs : List Proc) → IsRunBy procs self.old → IsRunBy procs self.new }
         ensures keeps { (width : ℕ) → KeepsHand width self.old → KeepsHand width self.new }
         ensures leaves { self.new.leaves ≡ self.old.leaves }
     {
         let dep = raise(&self.dep, anchor);
-        let bytes = self.record_bytes(mode, anchor_number, &dep, anchor)?;
+        let mut bytes = self.take_spare();
+        self.put_record(&mut bytes, mode, anchor_number, &dep, anchor)?;
         self.dep = dep;
         self.anchor = anchor_number;
         self.bytes = bytes;
         Ok(())
     }
 
-    /// The record of the call, with this vector over that of an anchor.
-    fn record_bytes(
+    /// An empty vector, with the memory that was kept for it.
+    fn take_spare(&mut self) -> Vec<u8>
+        ensures empty { result.items ≡ [] }
+        ensures same { self.new ≡ self.old }
+    {
+        let mut spare = mem::replace(&mut self.spare, Vec::new(self.alloc));
+        spare.clear();
+        spare
+    }
+
+    /// Keeps the memory of a vector for the next record.
+    pub fn keep(&mut self, spare: Vec<u8>)
+        ensures { self.new ≡ self.old }
+    {
+        self.spare = spare;
+    }
+
+    /// The record of the call, with this vector over that of an anchor, written into an empty vector.
+    fn put_record(
         &self,
+        out: &mut Vec<u8>,
         mode: LogMode,
         anchor_number: u32,
         dep: &Lv,
         anchor: &Lv,
-    ) -> Result<Vec<u8>, NoMemory>
+    ) -> Result<(), NoMemory>
+        requires empty { out.old.items ≡ [] }
         requires run { IsRun self.now }
         requires finished { IsFinished (next_want self.now.machine) }
         requires writes { 1 ≤ length (buffered self.now.machine) }
         requires width { length dep.now ≡ length anchor.now }
         requires covers { AtMost anchor.now dep.now }
-        ensures { IfOk result (λ v. (vectors : List (List ℕ)) → base_of vectors anchor_number ≡ anchor.now →
-            Spells One (length dep.now) vectors false (record_of mode (record self.now { dep = dep.now; anchor = anchor_number })) v.items) }
+        requires few { length dep.now ≤ most_streams (format_of mode) }
+        ensures { OnOk result ((vectors : List (List ℕ)) → base_of vectors anchor_number ≡ anchor.now →
+            Spells (format_of mode) (length dep.now) vectors false (record_of mode (record self.now { dep = dep.now; anchor = anchor_number })) out.new.items) }
     {
-        let _narrow = dep.width();
         match mode {
-            LogMode::Values => encode_written(
-                self.alloc,
+            LogMode::Values => encode_written_into(
+                out,
                 self.number,
                 anchor_number,
                 dep,
                 anchor,
                 self.machine.writes(),
             ),
-            LogMode::Commands => encode_command(
-                self.alloc,
+            LogMode::Commands => encode_command_into(
+                out,
+                self.number,
+                anchor_number,
+                dep,
+                anchor,
+                &self.call,
+            ),
+            LogMode::WideValues => encode_written_wide_into(
+                out,
+                self.number,
+                anchor_number,
+                dep,
+                anchor,
+                self.machine.writes(),
+            ),
+            LogMode::WideCommands => encode_command_wide_into(
+                out,
                 self.number,
                 anchor_number,
                 dep,
@@ -970,7 +1016,8 @@ impl Hand {
         ensures begun { (w : ℕ) → hand_of procs.now w self.new ≡ fresh (length self.old.dep) (record { number = self.old.number; call = self.old.call }) self.old.tries }
         ensures runs { IsRunBy procs.now self.new }
     {
-        self.dep = Lv::zero(self.dep.width());
+        let width = self.dep.width();
+        self.dep.set_zero(width);
         self.run_anew(procs);
     }
 
@@ -1062,29 +1109,8 @@ fn put_placed(lv: &mut Lv, dep: &Lv, stream: usize, past: u64)
     requires small { past < MAX_LSN }
     ensures { lv.new ≡ slice_set dep.now stream past }
 {
-    become_other(lv, dep);
+    lv.copy_from(dep);
     lv.set(stream, past);
-}
-
-/// Becomes the other vector. Where that is as wide, its positions alone are copied.
-fn become_other(lv: &mut Lv, other: &Lv)
-    ensures { lv.new ≡ other.now }
-{
-    if lv.width() != other.width() {
-        *lv = *other;
-        return;
-    }
-    copy_positions(lv, other);
-}
-
-/// Becomes another vector that is as wide.
-fn copy_positions(lv: &mut Lv, other: &Lv)
-    requires { length lv.old ≡ length other.now }
-    ensures { lv.new ≡ other.now }
-{
-    for j in 0..other.width() {
-        lv.set(j, other.get(j));
-    }
 }
 
 /// Gives the lowest key back.

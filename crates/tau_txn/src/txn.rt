@@ -1,15 +1,15 @@
 //! A worker's calls, one at a time.
 ghost use Rattle.std.specs.Prelude.{◌≡◌, ◌<◌, ◌≤◌, ◌+◌, ◌-◌, ◌++◌, ◌∷◌, [], List, ℕ, Option, Some, None, false, true, length, is_some, IsTrue, IsSome, IfSome, IfNone, IfErr, OnOk, OnErr};
 ghost use Rattle.std.specs.Option.{option_copied, unwrap_or};
+ghost use Rattle.tau_base.specs.Modes.{format_of, most_streams};
 ghost use Rattle.tau_base.specs.Vectors.{join};
-ghost use Rattle.tau_base.specs.declared.limits.TheConstants.{MAX_LSN, MAX_STREAMS};
+ghost use Rattle.tau_base.specs.declared.limits.TheConstants.{MAX_LSN};
 ghost use Rattle.tau_base.specs.declared.value.Key.{Key};
 ghost use Rattle.tau_base.specs.declared.value.Mode.{Mode};
 ghost use Rattle.tau_base.specs.declared.value.Value.{Value};
 ghost use Rattle.tau_proc.specs.declared.proc.Proc.{Proc};
 ghost use Rattle.tau_proc.specs.declared.reply.Reply.{Reply};
 ghost use Rattle.tau_proc.specs.Takes.{takes};
-ghost use Rattle.tau_record.specs.Format.{One};
 ghost use Rattle.tau_record.specs.Record.{base_of, Spells};
 ghost use Rattle.tau_model.specs.History.{Act};
 ghost use Rattle.tau_machine.specs.Stage.{stage};
@@ -59,10 +59,10 @@ impl Model for Txn {
 }
 
 impl Txn {
-    /// A worker of a run with so many streams, with no call in hand.
+    /// A worker of a run with so many streams, which the format of the mode has room for, with no call in hand.
     pub fn new(alloc: Global, worker: u8, streams: usize, mode: LogMode) -> Txn
         requires low { 1 ≤ streams }
-        requires high { streams ≤ MAX_STREAMS }
+        requires high { streams ≤ most_streams (format_of mode) }
         ensures { result ≡ record { worker = worker; width = streams; mode = mode; hand = None } }
     {
         Txn {
@@ -280,7 +280,7 @@ impl Txn {
         ensures next { OnOk result (next_action self.new ≡ Action.Commit (length (bytes_in self.new))) }
         ensures sized { OnOk result (1 ≤ length (bytes_in self.new)) }
         ensures bytes { OnOk result ((procs : List Proc) (hand : theory.Hand) (start : ℕ) (vectors : List (List ℕ)) → RunsBy procs self.old → hand_in procs self.new ≡ Some hand → base_of vectors anchor_number ≡ anchor.now →
-            Spells One self.old.width vectors false (entry_of self.old.mode (act_at procs self.new start hand)) (bytes_in self.new)) }
+            Spells (format_of self.old.mode) self.old.width vectors false (entry_of self.old.mode (act_at procs self.new start hand)) (bytes_in self.new)) }
         ensures runs { (procs : List Proc) → RunsBy procs self.old → RunsBy procs self.new }
         ensures stays { leaves_in self.old ≡ false → leaves_in self.new ≡ false }
         ensures same { self.new ≡ record self.old { hand = self.new.hand } }
@@ -326,6 +326,13 @@ impl Txn {
             unreachable!()
         }
         self.hand.take_bytes()
+    }
+
+    /// Keeps the memory of a vector for the record of a call to come.
+    pub fn keep(&mut self, spare: Vec<u8>)
+        ensures { self.new ≡ self.old }
+    {
+        self.hand.keep(spare);
     }
 
     /// The next action was done: a Quit, a Free, a Done or a LeftOver. The procedures are those of `begin`. It takes no memory.

@@ -7,7 +7,10 @@ use std::alloc::Global;
 use std::marker::Model;
 use std::process::Abort;
 use std::test::Fail;
-use tau_base::{Call, KeptCall, Key, Listed, LogMode, Lv, Mode, Name, Text64, Value};
+use tau_base::{
+    Call, KeptCall, Key, Listed, LogMode, Lv, MAX_STREAMS, Mode, Name, Text64, Value, format_of,
+    most_streams,
+};
 use tau_model::{Committed, CommittedList};
 use tau_proc::{ADD, FIRST_DECLARED, GET, Operand, PUT, Proc, Procs, Reply, Step};
 use tau_shard::{Shard, ShardRefusal};
@@ -51,6 +54,8 @@ enum Row<'a> {
     /// Its vectors: before its record had a place, and with which it frees its keys.
     Dep([u64; 3]),
     Lv([u64; 3]),
+    /// The position in this stream of the vector with which it frees its keys.
+    Reaches(usize, u64),
     InHand(bool),
     HoldsKey(bool),
     HasJoined(bool),
@@ -324,7 +329,7 @@ fn free_lent(txn: &Txn) -> Option<(Key, Lv)> {
 /// The vector with these positions.
 fn vector(rt: &impl Abort, positions: &[u64]) -> Lv {
     assert!(rt; 1 <= positions.len());
-    assert!(rt; positions.len() <= 16);
+    assert!(rt; positions.len() <= MAX_STREAMS);
     let mut lv = Lv::zero(positions.len());
     for j in 0..positions.len() {
         let lsn = positions[j];
@@ -366,7 +371,7 @@ impl Seat {
     ) -> Seat {
         assert!(rt; worker < 31);
         assert!(rt; 1 <= n);
-        assert!(rt; n <= 16);
+        assert!(rt; n <= most_streams(format_of(mode)));
         Seat {
             txn: Txn::new(alloc, worker, n, mode),
             procs,
@@ -422,6 +427,10 @@ impl Seat {
 
     fn lv(&self) -> [u64; 3] {
         positions(&self.txn.lv())
+    }
+
+    fn position(&self, stream: usize) -> u64 {
+        self.txn.lv().position(stream)
     }
 
     fn in_hand(&self) -> bool {
@@ -516,6 +525,7 @@ fn stands(rt: &impl Abort, seat: &Seat, row: Row<'_>) {
         Row::Number(number) => assert_eq!(rt; seat.number(), Some(number)),
         Row::Dep(dep) => assert_eq!(rt; seat.dep(), dep),
         Row::Lv(lv) => assert_eq!(rt; seat.lv(), lv),
+        Row::Reaches(stream, position) => assert_eq!(rt; seat.position(stream), position),
         Row::InHand(in_hand) => assert_eq!(rt; seat.in_hand(), in_hand),
         Row::HoldsKey(holds) => assert_eq!(rt; seat.holds_key(), holds),
         Row::HasJoined(joined) => assert_eq!(rt; seat.has_joined(), joined),
@@ -587,12 +597,24 @@ fn pair(
     steps: &[Step],
     rows: &[(u8, Row<'_>)],
 ) -> Result<(), Fail> {
-    assert!(rt; 1 <= n);
-    assert!(rt; n <= 16);
-    let mut shard = Shard::new(alloc, n);
     let procs = procs_of(rt, alloc, steps)?;
-    let mut first = Seat::new(rt, alloc, 0, n, LogMode::Values, procs);
-    let mut second = Seat::new(rt, alloc, 1, n, LogMode::Values, Procs::new(alloc));
+    let first = Seat::new(rt, alloc, 0, n, LogMode::Values, procs);
+    let second = Seat::new(rt, alloc, 1, n, LogMode::Values, Procs::new(alloc));
+    both_go(rt, alloc, n, first, second, rows)
+}
+
+/// Two seats at a shard of so many streams go through these rows, the first through those of number 0.
+fn both_go(
+    rt: &impl Abort,
+    alloc: Global,
+    n: usize,
+    mut first: Seat,
+    mut second: Seat,
+    rows: &[(u8, Row<'_>)],
+) -> Result<(), Fail> {
+    assert!(rt; 1 <= n);
+    assert!(rt; n <= MAX_STREAMS);
+    let mut shard = Shard::new(alloc, n);
     for row in rows {
         match row.0 {
             0 => play(rt, &mut shard, &mut first, row.1)?,
@@ -600,6 +622,19 @@ fn pair(
         }
     }
     Ok(())
+}
+
+/// These two workers of 32 streams and of format 2 go through these rows, the first through those of number 0.
+fn wide_pair(
+    rt: &impl Abort,
+    alloc: Global,
+    workers: (u8, u8),
+    rows: &[(u8, Row<'_>)],
+) -> Result<(), Fail> {
+    let mode = LogMode::WideValues;
+    let first = Seat::new(rt, alloc, workers.0, 32, mode, Procs::new(alloc));
+    let second = Seat::new(rt, alloc, workers.1, 32, mode, Procs::new(alloc));
+    both_go(rt, alloc, 32, first, second, rows)
 }
 
 /// The step `put a ROW NUMBER`
@@ -797,6 +832,98 @@ fn command_record(rt: HostRuntime) -> Result<(), Fail> {
     )
 }
 
+/// A worker of two streams puts 5 into row 1 in this mode: the bytes of its record, and where it ends.
+fn puts_alone(
+    rt: &impl Abort,
+    alloc: Global,
+    mode: LogMode,
+    record: &[u8],
+    past: u64,
+) -> Result<(), Fail> {
+    let mut shard = Shard::new(alloc, 2);
+    alone(
+        rt,
+        alloc,
+        &mut shard,
+        (0, 2, mode),
+        &[
+            Row::Begins(1, PUT, &[0, 1, 5]),
+            Row::Goes(&[Went::Granted]),
+            Row::Writes(0, &[0, 0], 13, record),
+            Row::Lv([past, 0, 0]),
+        ],
+    )
+}
+
+/// The mode picks the record: its kind, and whether its mask has 16 bits or 32.
+#[test]
+fn records_of_each_mode(rt: HostRuntime) -> Result<(), Fail> {
+    let alloc = rt.alloc();
+    let narrow =
+        b"\x01\0\0\0\x28\0\0\0\0\0\0\0\x01\0\0\0\0\0\0\0\x01\0\0\0\0\0\0\0\0\0\x01\x01\0\0\0\0\0\0\0\x05";
+    let wide =
+        b"\x01\0\0\0\x2a\0\0\0\0\0\0\0\x01\0\0\0\0\0\0\0\0\0\x01\0\0\0\0\0\0\0\0\0\x01\x01\0\0\0\0\0\0\0\x05";
+    let wide_command =
+        b"\x02\0\0\0\x33\0\0\0\0\0\0\0\x01\0\0\0\0\0\0\0\0\0\0\x03\x01\0\0\0\0\0\0\0\0\x01\0\0\0\0\0\0\0\x01\x01\0\0\0\0\0\0\0\x05";
+    puts_alone(&rt, alloc, LogMode::Values, narrow.as_slice(), 53)?;
+    puts_alone(&rt, alloc, LogMode::WideValues, wide.as_slice(), 55)?;
+    puts_alone(
+        &rt,
+        alloc,
+        LogMode::WideCommands,
+        wide_command.as_slice(),
+        64,
+    )
+}
+
+/// Of 32 streams, worker 30 depends on worker 20: its mask has bit 20.
+#[test]
+fn wide_record_with_a_high_bit(rt: HostRuntime) -> Result<(), Fail> {
+    let record =
+        b"\x01\0\0\0\x32\0\0\0\0\0\0\0\x02\0\0\0\0\0\x10\0\0\0\0\0\0\0\0\0\x37\0\x01\0\0\0\0\0\0\0\0\0\x01\x01\0\0\0\0\0\0\0\x07";
+    wide_pair(
+        &rt,
+        rt.alloc(),
+        (20, 30),
+        &[
+            (0, Row::Begins(1, PUT, &[0, 1, 5])),
+            (0, Row::Goes(&[Went::Granted])),
+            (0, Row::Commits(0, &[0; 32], 13, 42)),
+            (0, Row::Reaches(20, 55)),
+            (
+                0,
+                Row::Goes(&[Went::Freed(0, 1), Went::Done(None, [0, 0, 0])]),
+            ),
+            (1, Row::Begins(2, ADD, &[0, 1, 2])),
+            (1, Row::Goes(&[Went::Granted, Went::Granted])),
+            (1, Row::Writes(0, &[0; 32], 13, record.as_slice())),
+            (1, Row::Reaches(20, 55)),
+            (1, Row::Reaches(30, 63)),
+            (1, Row::Reaches(31, 0)),
+        ],
+    )
+}
+
+/// Of 32 streams, a record names an anchor of all of them and has an empty mask.
+#[test]
+fn wide_record_above_an_anchor(rt: HostRuntime) -> Result<(), Fail> {
+    let record =
+        b"\x01\0\0\0\x2a\0\0\0\0\0\0\0\x01\0\0\0\x01\0\0\0\0\0\x01\0\0\0\0\0\0\0\0\0\x01\x01\0\0\0\0\0\0\0\x05";
+    wide_pair(
+        &rt,
+        rt.alloc(),
+        (16, 30),
+        &[
+            (0, Row::Begins(1, PUT, &[0, 1, 5])),
+            (0, Row::Goes(&[Went::Granted])),
+            (0, Row::Writes(1, &[13; 32], 274, record.as_slice())),
+            (0, Row::Lv([13, 13, 13])),
+            (0, Row::Reaches(16, 316)),
+            (0, Row::Reaches(31, 13)),
+        ],
+    )
+}
+
 /// The first action of the call is to lock row 1 to write it.
 fn locks_first(rt: &impl Abort, procs: &Procs, call: &Call) {
     assert!(rt; procs.takes(call));
@@ -950,6 +1077,17 @@ fn longest_record(rt: HostRuntime) -> Result<(), Fail> {
     seat.grant(&rt, &full, 64);
     let none = [0, 0, 0, 0, 0, 0, 0, 0, 0, 0, 0, 0, 0, 0, 0, 0];
     commits(&rt, &mut seat, 0, &none, 13, 5077)
+}
+
+/// The longest record of format 2: 64 texts of 64 bytes, and 32 positions.
+#[test]
+fn longest_wide_record(rt: HostRuntime) -> Result<(), Fail> {
+    let alloc = rt.alloc();
+    let procs = declare(&rt, alloc, 1, many_writes(alloc)?)?;
+    let mut seat = Seat::new(&rt, alloc, 3, 32, LogMode::WideValues, procs);
+    seat.begin(&rt, 1, &text_call()?);
+    seat.grant(&rt, &vector(&rt, &[7; 32]), 64);
+    commits(&rt, &mut seat, 0, &[0; 32], 13, 5207)
 }
 
 /// A call that has its one key, of row 1, and wrote nothing, is asked to free that key, and nothing else.

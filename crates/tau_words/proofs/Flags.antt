@@ -7,7 +7,7 @@ use Rattle.tau_disk.specs.declared.call.Tear.{Tear}
 use Rattle.tau_words.specs.declared.command.Ending.{Ending}
 use Rattle.tau_words.specs.declared.command.Ending.TheVariants.{Stop, Fail}
 use Rattle.tau_words.specs.declared.command.Command.TheVariants.{Drill}
-use Rattle.tau_words.specs.Words.{Word, same_word, is_number, number_in, count_of, call_of, run_with, mode_of, run_of, recover_of, tear_of, ending_of, drill_of, bench_of, command_of}
+use Rattle.tau_words.specs.Words.{Word, same_word, is_number, number_in, count_of, streams_of, call_of, run_with, mode_of, run_of, recover_of, tear_of, ending_of, drill_of, bench_of, command_of}
 use Rattle.tau_words.specs.Split.{is_flag, has_flag}
 
 flag_is : (word : Word) → is_flag word ≡ true → (cs : Word) × (word ≡ 45 ∷ cs)
@@ -66,8 +66,8 @@ no_recover : (words : List Word) → has_flag words ≡ true → recover_of word
 no_recover [] h = refl
 no_recover (n ∷ []) h = refl
 no_recover (n ∷ p ∷ []) h = elim (or_cases (is_flag n) (is_flag p || false) h) [
-  | inl a ↦ rw (none_in 1 16 n a) refl
-  | inr b ↦ elim (or_cases (is_flag p) false b) [ inl a ↦ and_none _ (count_of n) (λ streams. rw (none_in 1 16 p a) refl) | inr bad ↦ absurd cc ]
+  | inl a ↦ rw (none_in 1 32 n a) refl
+  | inr b ↦ elim (or_cases (is_flag p) false b) [ inl a ↦ and_none _ (streams_of n) (λ streams. rw (none_in 1 16 p a) refl) | inr bad ↦ absurd cc ]
 ]
 no_recover (n ∷ p ∷ more ∷ words) h = refl
 

@@ -3,7 +3,7 @@ use Rattle.std.specs.Prelude.{ℕ, ◌-◌, ◌==◌, ◌&&◌, Bool, false, not
 use Rattle.std.specs.Cmp.Lexicographic.{pointwise}
 use Rattle.std.specs.List.{list_all}
 use Rattle.std.specs.Str.Parse.{digits_value}
-use Rattle.tau_base.specs.declared.limits.TheConstants.{MAX_CALLS}
+use Rattle.tau_base.specs.declared.limits.TheConstants.{MAX_CALLS, MAX_STREAMS}
 use Rattle.tau_base.specs.declared.value.LogMode.{LogMode}
 use Rattle.tau_base.specs.declared.value.LogMode.TheVariants.{Values, Commands}
 use Rattle.tau_disk.specs.declared.call.Tear.{Tear}
@@ -38,9 +38,13 @@ bounded low high n = if nat_le low n && nat_le n high then Some n else None
 abbrev pub number_in : ℕ → ℕ → Word → Option ℕ
 number_in low high word = if is_number word then bounded low high (digits_value 10 word) else None
 
--- how many streams, workers or recovery workers
+-- how many workers, recovery workers, or streams of a run
 abbrev pub count_of : Word → Option ℕ
 count_of word = number_in 1 MAX_COUNT word
+
+-- how many streams are recovered
+abbrev pub streams_of : Word → Option ℕ
+streams_of word = number_in 1 MAX_STREAMS word
 
 -- which call of a disk
 abbrev pub call_of : Word → Option ℕ
@@ -62,7 +66,7 @@ run_of _ = None
 
 -- N P
 abbrev pub recover_of : List Word → Option Command
-recover_of (n ∷ p ∷ []) = option_and_then (λ streams. option_map (λ workers. Recover streams workers) (count_of p)) (count_of n)
+recover_of (n ∷ p ∷ []) = option_and_then (λ streams. option_map (λ workers. Recover streams workers) (count_of p)) (streams_of n)
 recover_of _ = None
 
 abbrev pub tear_of : Word → Option Tear

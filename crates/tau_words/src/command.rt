@@ -36,7 +36,7 @@ pub enum Command {
     },
     /// Recovers from the disks.
     Recover {
-        /// Streams, 1 to 16.
+        /// Streams, 1 to 32.
         n: u8,
         /// Recovery workers, 1 to 16.
         p: u8,

@@ -1,7 +1,10 @@
 //! Numbers in words.
 ghost use Rattle.std.specs.Prelude.{◌≡◌, ◌≤◌, IfSome};
 ghost use Rattle.std.specs.List.{list_all};
-ghost use Rattle.tau_words.specs.Words.{is_digit, is_number, number_in, count_of};
+ghost use Rattle.tau_base.specs.declared.limits.TheConstants.{MAX_STREAMS};
+ghost use Rattle.tau_words.specs.Words.{is_digit, is_number, number_in, count_of, streams_of};
+
+use tau_base::MAX_STREAMS;
 
 fn is_digit(c: u8) -> bool
     ensures { result ≡ is_digit c }
@@ -45,7 +48,7 @@ pub(crate) fn number_in(low: u32, high: u32, word: &str) -> Option<u32>
     }
 }
 
-/// Streams, workers or workers of a recovery that a command may ask for.
+/// Workers, workers of a recovery, or streams of a run that a command may ask for.
 pub(crate) const MAX_COUNT: u32 = 16;
 
 /// Where the rows of the measured job may begin.
@@ -60,6 +63,17 @@ pub(crate) fn count_of(word: &str) -> Option<u8>
     ensures within { IfSome result (λ n. (1 ≤ n) × (n ≤ MAX_COUNT)) }
 {
     match number_in(1, MAX_COUNT, word) {
+        None => None,
+        Some(n) => Some(n as u8),
+    }
+}
+
+/// A number of streams to recover, which may be of either format.
+pub(crate) fn streams_of(word: &str) -> Option<u8>
+    ensures exact { result ≡ streams_of word.now }
+    ensures within { IfSome result (λ n. (1 ≤ n) × (n ≤ MAX_STREAMS)) }
+{
+    match number_in(1, MAX_STREAMS as u32, word) {
         None => None,
         Some(n) => Some(n as u8),
     }

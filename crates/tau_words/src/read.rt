@@ -5,7 +5,7 @@ ghost use Rattle.tau_words.specs.declared.command.WordsRefusal.TheVariants.{Usag
 ghost use Rattle.tau_words.specs.declared.command.Command.TheVariants.{Drill};
 
 use crate::command::{Command, Ending, WordsRefusal};
-use crate::number::{MAX_COUNT, MAX_DEVICE_CALL, MAX_START, count_of, number_in};
+use crate::number::{MAX_COUNT, MAX_DEVICE_CALL, MAX_START, count_of, number_in, streams_of};
 use crate::split::{MAX_WORDS, has_flag, split};
 use std::alloc::Global;
 use tau_base::{LogMode, MAX_CALLS};
@@ -55,7 +55,7 @@ fn recover_of(words: &[&str]) -> Option<Command>
     ensures { result ≡ recover_of (map (λ s. s.now) words.now) }
 {
     match words {
-        [n, p] => match (count_of(n), count_of(p)) {
+        [n, p] => match (streams_of(n), count_of(p)) {
             (Some(n), Some(p)) => Some(Command::Recover { n, p }),
             _ => None,
         },

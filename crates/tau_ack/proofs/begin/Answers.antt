@@ -11,12 +11,12 @@ returns-then-covers-clause-pass c = record {
   inside = c.requires.inside;
   left =
       let low : AtMost c.args.plv.now c.args.pass.now.plv = c.covers.ensures.covers.0 c.if-covers.true in
-      subst (λ (v : List ℕ). NoneCovered v (take c.args.pass.now.passed c.args.calls.now.items)) (sym c.turn_to.ensures)
-      (none_below c.args.plv.now c.args.pass.now.plv (take c.args.pass.now.passed c.args.calls.now.items) low c.requires.left);
+      subst (λ (v : List ℕ). NoneCovered v (take c.args.pass.now.passed c.args.calls.now.calls)) (sym c.turn_to.ensures)
+      (none_below c.args.plv.now c.args.pass.now.plv (take c.args.pass.now.passed c.args.calls.now.calls) low c.requires.left);
 }
 
 pub returns-then-pass-len-clause-none : goal.returns-then-pass-len-clause-none
 returns-then-pass-len-clause-none c =
     let low : AtMost c.args.plv.now c.args.pass.now.plv = c.covers.ensures.covers.0 c.if-covers.true in
-    let end : c.args.pass.now.passed ≡ length c.args.calls.now.items = grind (arith, common_steps) in
-    λ _. none_at_end c.args.plv.now c.args.pass.now.plv c.args.calls.now.items c.args.pass.now.passed c.args.pass.now.next c.requires end low
+    let end : c.args.pass.now.passed ≡ length c.args.calls.now.calls = grind (arith, common_steps) in
+    λ _. none_at_end c.args.plv.now c.args.pass.now.plv c.args.calls.now.calls c.args.pass.now.passed c.args.pass.now.next c.requires end low

@@ -1,4 +1,4 @@
-use Rattle.std.proofs.Common.{rules, sym, subst, arith}
+use Rattle.std.proofs.Common.{sym, subst, arith}
 use Rattle.std.proofs.lemmas.Grind.{common_steps}
 use Rattle.tau_outbox.specs.Pieces.{InOrder}
 use Rattle.tau_outbox.proofs.Orders.{order_others, run_step}

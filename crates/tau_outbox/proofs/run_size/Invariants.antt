@@ -1,4 +1,4 @@
-use Rattle.std.proofs.Common.{ℕ, ◌+◌, ◌≤◌, ◌≡◌, length, drop, max}
+use Rattle.std.proofs.Common.{◌+◌, ◌≤◌, ◌≡◌, length, drop, max}
 use Rattle.tau_outbox.specs.Pieces.{bytes_of}
 use Rattle.tau_outbox.specs.Gather.{run}
 use Rattle.tau_outbox.proofs.run_size.Given as goal

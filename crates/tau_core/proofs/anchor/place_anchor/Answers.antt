@@ -1,5 +1,6 @@
 use Rattle.std.proofs.Common.{ℕ, ◌+◌, ◌≡◌, ◌≤◌, List, [], ◌∷◌, ◌++◌, length, refl, sym, ap, subst, ◌∙◌, arith}
 use Rattle.std.specs.Prelude.{Some, slice_get, slice_index, slice_set}
+use Rattle.tau_base.specs.Modes.{format_of}
 use Rattle.tau_outbox.specs.declared.Piece.{Piece}
 use Rattle.tau_outbox.specs.Pieces.{end_of}
 use Rattle.tau_core.specs.Plain.{PlainStream}
@@ -45,7 +46,7 @@ returns-in-Ok-keep c =
             let count : c.len-2.result ≡ length c.part.inside.anchors.items = (let e = c.len-2.ensures in let o = c.part.inside.anchors.ok in omega arith) in
             (let n = c.if-number-ge-LAST_ANCHOR.false in omega arith);
         pieces = c.post.ensures.pieces ∙ ap (λ (x : List Piece × ℕ). x.0 ++ record { start = x.1; bytes = c.in-Ok.bytes.items } ∷ []) (λ i. (c.reserve.ensures.pieces i, start i));
-        spelled = c.in-Ok.ensures;
+        spelled = c.in-Ok.ensures (format_of p.load.mode);
         after = ap (λ (x : List (List ℕ) × List ℕ). record p { streams = slice_set p.streams c.args.stream (record (part_in c.part.inside) { own = c.post.new.self; anchors = x.0 }); ends = x.1 }) (λ i. (c.in-Ok-keep.ensures.ok i, (c.set.ensures ∙ ap (slice_set p.ends c.args.stream) past) i));
       },
       start,

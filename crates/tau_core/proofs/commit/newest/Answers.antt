@@ -51,7 +51,7 @@ returns-clause-names c = λ so.
     let got : slice_get c.part.inside.anchors.items (c.len-count.result - 1) ≡ Some c.index.result.now =
     slice_get_read c.part.inside.anchors.items (length c.part.inside.anchors.items) (c.len-count.result - 1) c.index.result.now refl (omega arith) c.index.ensures in
     let before : c.from.result ≡ slice_index c.args.state.now.load.opening.anchors.items c.args.stream = c.from.ensures ∙ ap (λ (l : List ℕ). slice_index l c.args.stream) c.as_slice.ensures.value in
-    inr (c.len-count.result - 1, (omega arith), ap (λ (l : List (List ℕ)). slice_get l (c.len-count.result - 1)) anchors ∙ got)
+    inr (c.len-count.result - 1, (omega arith), ap (λ (l : List (List ℕ)). slice_get l (c.len-count.result - 1)) anchors ∙ got ∙ ap (λ (l : List ℕ). Some l) (sym c.copy_from.ensures))
 
 pub returns-clause-wide : goal.returns-clause-wide
 returns-clause-wide c = λ so.
@@ -60,4 +60,4 @@ returns-clause-wide c = λ so.
     let low : 1 ≤ c.len-count.result = (let n = c.if-count-eq0.false in omega arith) in
     let got : slice_get c.part.inside.anchors.items (c.len-count.result - 1) ≡ Some c.index.result.now =
     slice_get_read c.part.inside.anchors.items (length c.part.inside.anchors.items) (c.len-count.result - 1) c.index.result.now refl (omega arith) c.index.ensures in
-    (c.requires.sound.wide c.args.stream (part_in c.part.inside) is).0 c.index.result.now (member_got c.part.inside.anchors.items (c.len-count.result - 1) c.index.result.now got)
+    ap (λ (l : List ℕ). length l) c.copy_from.ensures ∙ (c.requires.sound.wide c.args.stream (part_in c.part.inside) is).0 c.index.result.now (member_got c.part.inside.anchors.items (c.len-count.result - 1) c.index.result.now got)

@@ -1,4 +1,6 @@
 use Rattle.std.proofs.Common.{ℕ, ◌<◌, List, length, refl, sym, ap, subst, arith}
+use Rattle.tau_base.specs.Modes.{format_of}
+use Rattle.tau_base.proofs.Modes.{streams_most}
 use Rattle.tau_core.specs.Plain.{PlainSeat}
 use Rattle.tau_core.specs.State.{Plain, plain}
 use Rattle.tau_core.specs.Stands.{anchors_at}
@@ -36,3 +38,6 @@ returns-then-not-newest c = (
 pub place_above-requires-clause-names : goal.place_above-requires-clause-names
 place_above-requires-clause-names c =
     subst (λ (j : ℕ). Names c.args.state.now.load j (anchors_at (plain c.args.state.now) j) c.newest.new.named.number c.newest.new.named.lv) c.stream_of-stream.ensures.same (c.newest.ensures.names c.if-not-newest.false)
+
+pub zero-requires-clause-high : goal.zero-requires-clause-high
+zero-requires-clause-high c = omega (arith, c.requires.sound.streams_high, streams_most (format_of c.args.state.now.load.mode))

@@ -8,14 +8,14 @@ use Rattle.tau_crew.proofs.manager.manager_turn.Goals as goal
 
 pub follow-requires-clause-stored : goal.follow-requires-clause-stored
 follow-requires-clause-stored g c =
-    let (n, j, base, w0, d) = c.requires.driven in
-    let now = c.in_ok-gather_and_flush.ensures.keeps n j base w0 d in
+    let (format, n, j, base, w0, d) = c.requires.driven in
+    let now = c.in_ok-gather_and_flush.ensures.keeps format n j base w0 d in
     let same : c.args.stream ≡ j = sym c.requires.stream ∙ d.stream in
     ap (slice_index c.gather_and_flush.new.seat.seen) same ∙ now.stored ∙ sym c.durable-durable.ensures
 
 pub returns-in_ok-follow-in-Flushed-clause-keeps : goal.returns-in_ok-follow-in-Flushed-clause-keeps
-returns-in_ok-follow-in-Flushed-clause-keeps g c = λ n j base w0 d.
-    driven_keeps n j base w0 c.gather_and_flush.new.seat c.follow.new.seat c.gather_and_flush.new.writer (c.in_ok-gather_and_flush.ensures.keeps n j base w0 d) c.follow.ensures.keeps
+returns-in_ok-follow-in-Flushed-clause-keeps g c = λ format n j base w0 d.
+    driven_keeps format n j base w0 c.gather_and_flush.new.seat c.follow.new.seat c.gather_and_flush.new.writer (c.in_ok-gather_and_flush.ensures.keeps format n j base w0 d) c.follow.ensures.keeps
 
 pub returns-in_ok-follow-in-Flushed-clause-apart : goal.returns-in_ok-follow-in-Flushed-clause-apart
 returns-in_ok-follow-in-Flushed-clause-apart g c = λ base a.
@@ -25,9 +25,9 @@ returns-in_ok-follow-in-Flushed-clause-apart g c = λ base a.
     subst (λ (d : ℕ). IsApart base d c.follow.new.marks.last c.follow.new.marks.placed c.follow.new.seat) c.durable-durable.ensures (c.in_ok-follow-in-Flushed.ensures.apart base before now block)
 
 pub returns-in_err-follow-in-Flushed-clause-short : goal.returns-in_err-follow-in-Flushed-clause-short
-returns-in_err-follow-in-Flushed-clause-short g c = on_err c.from_residual-in_err-follow-in-Flushed.result (λ n j base w0 d all.
-    short_of n j base w0 c.follow.new.seat c.gather_and_flush.new.writer
-    (driven_keeps n j base w0 c.gather_and_flush.new.seat c.follow.new.seat c.gather_and_flush.new.writer (c.in_ok-gather_and_flush.ensures.keeps n j base w0 d) c.follow.ensures.keeps))
+returns-in_err-follow-in-Flushed-clause-short g c = on_err c.from_residual-in_err-follow-in-Flushed.result (λ format n j base w0 d all.
+    short_of format n j base w0 c.follow.new.seat c.gather_and_flush.new.writer
+    (driven_keeps format n j base w0 c.gather_and_flush.new.seat c.follow.new.seat c.gather_and_flush.new.writer (c.in_ok-gather_and_flush.ensures.keeps format n j base w0 d) c.follow.ensures.keeps))
 
 pub returns-in_err-gather_and_flush-clause-short : goal.returns-in_err-gather_and_flush-clause-short
 returns-in_err-gather_and_flush-clause-short g c = on_err c.from_residual.result c.in_err-gather_and_flush.ensures.short

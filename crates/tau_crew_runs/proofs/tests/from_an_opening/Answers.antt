@@ -1,10 +1,13 @@
 -- The streams are new, and end where the first writer says.
-use Rattle.std.proofs.Common.{◌≡◌, ◌<◌, length, refl, sym, ◌∙◌, arith}
+use Rattle.std.proofs.Common.{ℕ, ◌≡◌, ◌<◌, length, refl, sym, ap, ◌∙◌, arith}
 use Rattle.std.specs.Prelude.{Some, slice_get}
 use Rattle.std.proofs.lemmas.Option.{slice_get_read}
 use Rattle.tau_run.specs.RecoveredFacts.{catalogue_of}
 use Rattle.tau_crew_runs.proofs.Openings.{begun}
 use Rattle.tau_crew_runs.proofs.tests.from_an_opening.Goals as goal
+
+pub run_threads_from-requires-clause-streams : goal.run_threads_from-requires-clause-streams
+run_threads_from-requires-clause-streams g c κs = omega (arith, ap (length {A = ℕ}) c.opening-opening.ensures.ends)
 
 pub run_threads_from-requires-clause-begun : goal.run_threads_from-requires-clause-begun
 run_threads_from-requires-clause-begun g c κs =

@@ -1,5 +1,6 @@
 use Rattle.std.proofs.Common.{ℕ, ◌≡◌, ◌∙◌, List, ◌++◌, map, length, sym, ap, subst, arith}
-use Rattle.std.specs.Prelude.{Ok}
+use Rattle.std.specs.Prelude.{Some, Ok}
+use Rattle.tau_base.specs.declared.format.Format.TheVariants.{One}
 use Rattle.tau_disk.specs.declared.memory.MemDisk.{MemDisk}
 use Rattle.tau_disk.specs.Memory.{seen_by}
 use Rattle.tau_text.specs.declared.load.Workload.{Workload}
@@ -30,7 +31,7 @@ pub recovered-requires-clause-ordered : goal.recovered-requires-clause-ordered
 recovered-requires-clause-ordered g c κs within =
     let old_count : length c.in_ok-disks.disks.items ≡ c.args.streams = (let e = c.in_ok-disks.ensures.count in omega (arith, e)) in
     let new_count : length c.play.new.disks.items ≡ c.args.streams = (let e = c.in_ok-rows.ensures.count in omega (arith, e)) in
-    subst (λ (ds : List MemDisk). (log : Log) × (log_of (map seen_by ds) ≡ Ok log) × (order : List Kept) × IsOrderOf log order) (sym c.as_mut_slice.ensures.value)
+    subst (λ (ds : List MemDisk). (log : Log) × (log_of (Some One) (map seen_by ds) ≡ Ok log) × (order : List Kept) × IsOrderOf log order) (sym c.as_mut_slice.ensures.value)
     (can_recover tt image_left c.args.streams c.args.workers c.args.start c.args.calls c.requires.calls c.in_ok-load.load c.in_ok-load.ensures c.in_ok-disks.disks.items c.play.new.disks.items old_count new_count _ c.in_ok-rows.rows c.in_ok-rows.ensures.told)
 
 pub returns : goal.returns

@@ -1,5 +1,5 @@
 use Rattle.std.proofs.Common.{ℕ, ◌++◌, ◌≡◌, ◌∙◌, min, List, length, sym, ap, subst, arith}
-use Rattle.std.specs.Prelude.{Ok}
+use Rattle.std.specs.Prelude.{None, Ok}
 use Rattle.tau_disk.specs.declared.memory.MemDisk.{MemDisk}
 use Rattle.tau_disk.specs.Streams.{held_by}
 use Rattle.tau_words.specs.declared.command.Ending.TheVariants.{Stop}
@@ -19,7 +19,7 @@ pub tell-requires-clause-ordered : goal.tell-requires-clause-ordered
 tell-requires-clause-ordered g c κs within =
     let count : length c.in_ok-disks.disks.items ≡ c.args.streams = (let e = c.in_ok-disks.ensures.count in omega (arith, e)) in
     let same : length c.play.new.disks.items ≡ c.args.streams = (let e = c.in_ok-play.ensures.count in omega (arith, e)) in
-    subst (λ (ds : List MemDisk). (log : Log) × (log_of (images_by c.args.tear ds) ≡ Ok log) × (order : List Kept) × IsOrderOf log order) (sym c.as_slice-2.ensures.value)
+    subst (λ (ds : List MemDisk). (log : Log) × (log_of None (images_by c.args.tear ds) ≡ Ok log) × (order : List Kept) × IsOrderOf log order) (sym c.as_slice-2.ensures.value)
     (ordered tt image_left c.args.streams c.args.workers c.args.load.now c.in_ok-disks.disks.items c.play.new.disks.items count same (λ lines. held_by c.play.new.out ≡ held_by c.args.out.now ++ lines) c.in_ok-play.ensures.told c.args.tear)
 
 pub returns : goal.returns

@@ -1,11 +1,12 @@
-use Rattle.std.proofs.Common.{ℕ, ◌≡◌, ◌<◌, List, ap, subst, ◌∙◌, arith}
+use Rattle.std.proofs.Common.{ℕ, ◌≡◌, ◌<◌, List, refl, ap, subst, ◌∙◌, arith}
 use Rattle.std.specs.Prelude.{Err}
+use Rattle.tau_base.specs.declared.format.Format.TheVariants.{One}
 use Rattle.tau_stream.specs.Stream.{catalogue_record}
 use Rattle.tau_disk.specs.Used.{EachIn}
 use Rattle.tau_open.specs.Opening.{AreOpened, Begins}
 use Rattle.tau_run.specs.RecoveredFacts.{catalogue_of}
+use Rattle.tau_engine.proofs.Opened.{are_new}
 use Rattle.tau_engine.proofs.Oks.{on_ok}
-use Rattle.tau_engine.proofs.Ends.{are_new}
 use Rattle.tau_engine.proofs.Rehearsed.{rehearsed_on, rehearsed_none}
 use Rattle.tau_engine.proofs.drill.rehearse.Goals as goal
 
@@ -14,6 +15,7 @@ play_on-requires-clause-fresh g c =
     let is : catalogue_record c.deref.result.now ≡ catalogue_of c.args.load.now = ap catalogue_record (c.deref.ensures.value ∙ c.in_ok-catalogue.ensures) in
     are_new {D = g.row.D.Denot} {G = g.D.Disk} c.args.streams c.args.load.now c.args.disks.now.items c.open_streams.new.disks.items c.in-Ok.writers.items
     (subst (λ (text : List ℕ). AreOpened g.D.Disk c.args.streams text c.args.disks.now.items c.open_streams.new.disks.items c.in-Ok.writers.items) is c.in-Ok.ensures.opened)
+    One refl
 
 pub returns-in-Ok-clause-told : goal.returns-in-Ok-clause-told
 returns-in-Ok-clause-told g c =

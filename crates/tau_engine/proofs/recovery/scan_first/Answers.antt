@@ -6,6 +6,10 @@ use Rattle.tau_engine.proofs.Oks.{on_ok}
 use Rattle.tau_engine.proofs.Recoveries.{read_first, rose_among, each_lent, stopped_among}
 use Rattle.tau_engine.proofs.recovery.scan_first.Goals as goal
 
+-- no format is asked
+pub scan-requires-clause-fits : goal.scan-requires-clause-fits
+scan-requires-clause-fits g c f is = absurd (cc is)
+
 pub returns-clause-failed : goal.returns-clause-failed
 returns-clause-failed g c j e =
     let long : length c.scan.new.disks ≡ c.args.streams = search rules in

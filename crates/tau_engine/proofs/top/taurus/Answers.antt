@@ -1,6 +1,7 @@
 use Rattle.std.proofs.Common.{ℕ, ◌≡◌, ◌<◌, List, ◌∙◌, sym, ap, subst, refl, arith, map, length, take, drop, ◌++◌, rules, true, false}
 use Rattle.std.specs.Prelude.{string_bytes, Some, None, Ok}
 use Rattle.tau_base.specs.declared.value.LogMode.{LogMode}
+use Rattle.tau_base.specs.Modes.{format_of}
 use Rattle.tau_words.specs.declared.command.Command.TheVariants.{Run, Recover}
 use Rattle.tau_text.specs.declared.load.Workload.{Workload}
 use Rattle.tau_scan.specs.Outside.{calls_to_read}
@@ -61,6 +62,9 @@ run-requires-clause-low g c κs within = (c.in-Ok-Run.ensures.within_run c.in-Ok
 
 pub run-requires-clause-high : goal.run-requires-clause-high
 run-requires-clause-high g c κs within = (c.in-Ok-Run.ensures.within_run c.in-Ok-Run.n c.in-Ok-Run.m c.in-Ok-Run.mode c.in-Ok-Run.field-0-is).2
+
+pub run-requires-clause-narrow : goal.run-requires-clause-narrow
+run-requires-clause-narrow g c κs within = (c.in-Ok-Run.ensures.within_run c.in-Ok-Run.n c.in-Ok-Run.m c.in-Ok-Run.mode c.in-Ok-Run.field-0-is).3
 
 pub run-requires-clause-runnable : goal.run-requires-clause-runnable
 run-requires-clause-runnable g c κs within = c.in-Ok.ensures.runnable
@@ -186,7 +190,7 @@ returns-in-Ok-clause-moments g c n m mode words unborn = (says g c n m mode word
 pub returns-in-Ok-clause-anchors : goal.returns-in-Ok-clause-anchors
 returns-in-Ok-clause-anchors g c n m mode load words tells read threads worked =
     let same : c.in-Ok.load ≡ load = same_load (g.S.Source.left c.args.source.now) c.in-Ok.load load (c.in-Ok.ensures.load tells) read in
-    subst (λ (l : Workload). (j : ℕ) (image : List ℕ) → j < n → Now g.D.Disk.tells g.D.Disk.may_leave c.args.disks.now.items c.run.new.disks.items j image → HasSpaced n j l image) same
+    subst (λ (l : Workload). (j : ℕ) (image : List ℕ) → j < n → Now g.D.Disk.tells g.D.Disk.may_leave c.args.disks.now.items c.run.new.disks.items j image → HasSpaced (format_of mode) n j l image) same
     ((says g c n m mode words).spaced (ap (λ (l : Workload). l.turns) same ∙ threads) worked)
 
 pub returns-in-Ok-clause-recover_calls : goal.returns-in-Ok-clause-recover_calls
@@ -209,7 +213,7 @@ returns-in-Ok-clause-recover_done g c n p log order words tells is ordered no_si
 pub returns-in-Err-NoMemory-clause-run : goal.returns-in-Err-NoMemory-clause-run
 returns-in-Err-NoMemory-clause-run g c n m mode load words tells read empty =
     let within = within_served (map string_bytes c.args.words.now) n m mode words in
-    untouched_facts g.D.Disk (g.met.D.Disk g.world.𝓛 g.world.𝓜 g.world.𝓡 ((λ s x. x), (λ x. x), (λ x. x), λ x. x)).only_now n m mode load within.0 within.1 within.2 (catalogue_load (g.S.Source.left c.args.source.now) load read.1) c.args.disks.now.items
+    untouched_facts g.D.Disk (g.met.D.Disk g.world.𝓛 g.world.𝓜 g.world.𝓡 ((λ s x. x), (λ x. x), (λ x. x), λ x. x)).only_now n m mode load within.0 within.1 within.3 within.2 (catalogue_load (g.S.Source.left c.args.source.now) load read.1) c.args.disks.now.items
     g.K.Sink.tells (g.K.Sink.held c.args.sink.now) (g.K.Sink.held c.args.sink.now) (g.K.Sink.faults c.args.sink.now) (g.K.Sink.faults c.args.sink.now) status.NoMemory refl (λ e told. search rules)
 
 pub returns-in-Err-NoMemory-clause-anchors : goal.returns-in-Err-NoMemory-clause-anchors
@@ -223,7 +227,7 @@ returns-in-Err-clause-run g c n m mode load words tells read empty =
     let within = within_served (map string_bytes c.args.words.now) n m mode words in
     let kind : Rattle.tau_engine.specs.Outside.ends_reading c.in-Err.refusal ≡ true = c.in-Err.ensures.kind in
     let ended = ends_unread (Wrote g.K.Sink.tells (g.K.Sink.held c.args.sink.now) (g.K.Sink.held c.refuse-in-Err.new.sink)) (Rose (g.K.Sink.faults c.args.sink.now) (g.K.Sink.faults c.refuse-in-Err.new.sink)) c.in-Err.refusal c.refuse-in-Err.result kind c.refuse-in-Err.ensures in
-    untouched_facts g.D.Disk (g.met.D.Disk g.world.𝓛 g.world.𝓜 g.world.𝓡 ((λ s x. x), (λ x. x), (λ x. x), λ x. x)).only_now n m mode load within.0 within.1 within.2 (catalogue_load (g.S.Source.left c.args.source.now) load read.1) c.args.disks.now.items
+    untouched_facts g.D.Disk (g.met.D.Disk g.world.𝓛 g.world.𝓜 g.world.𝓡 ((λ s x. x), (λ x. x), (λ x. x), λ x. x)).only_now n m mode load within.0 within.1 within.3 within.2 (catalogue_load (g.S.Source.left c.args.source.now) load read.1) c.args.disks.now.items
     g.K.Sink.tells (g.K.Sink.held c.args.sink.now) (g.K.Sink.held c.refuse-in-Err.new.sink) (g.K.Sink.faults c.args.sink.now) (g.K.Sink.faults c.refuse-in-Err.new.sink) c.refuse-in-Err.result ended.0 ended.1
 
 pub returns-in-Ok-Recover-clause-run : goal.returns-in-Ok-Recover-clause-run
@@ -343,7 +347,7 @@ returns-in-Ok-Recover-clause-recover_done g c n p log order words tells is order
     let streams : c.from.result ≡ n = c.from.ensures ∙ same_streams (served (map string_bytes c.args.words.now)) c.in-Ok-Recover.n c.in-Ok-Recover.p n p asked words in
     let same : images_of g.D.Disk.seen c.args.disks.now.items n ≡ images_of g.D.Disk.seen c.deref_mut.result.now c.from.result =
     sym (ap (λ (ds : List g.row.D.Denot). images_of g.D.Disk.seen ds c.from.result) c.deref_mut.ensures.value ∙ ap (λ (k : ℕ). images_of g.D.Disk.seen c.args.disks.now.items k) streams) in
-    let read : log_of (images_of g.D.Disk.seen c.deref_mut.result.now c.from.result) ≡ Ok log = ap (λ (xs : List (List ℕ)). log_of xs) (sym same) ∙ is in
+    let read : log_of None (images_of g.D.Disk.seen c.deref_mut.result.now c.from.result) ≡ Ok log = ap (λ (xs : List (List ℕ)). log_of None xs) (sym same) ∙ is in
     let long : length c.recover.new.disks ≡ c.args.disks.now.len = search rules in
     let back = handed_back c.recover.new.disks c.args.disks.now.items c.args.disks.now.len long in
     recovers_well c.recover.result c.recover.ensures.kind

@@ -1,7 +1,5 @@
-use Rattle.std.proofs.Common.{sym, subst, ◌≡◌, ap, ◌∙◌, length, vec_len, arith}
+use Rattle.std.proofs.Common.{◌≡◌, length, vec_len, arith}
 use Rattle.std.proofs.lemmas.Grind.{common_steps}
-use Rattle.tau_outbox.specs.Pieces.{InOrder}
-use Rattle.tau_outbox.specs.Gather.{Gathers}
 use Rattle.tau_outbox.proofs.Orders.{order_left, gathered}
 use Rattle.tau_outbox.proofs.Outbox.gather_into.Goals as goal
 

@@ -1,5 +1,5 @@
-use Rattle.std.proofs.Common.{sym, subst, ◌++◌, ◌∷◌, [], ◌≡◌, ap, ◌∙◌, ◌≤◌, arith}
-use Rattle.tau_outbox.specs.Pieces.{InOrder, end_of}
+use Rattle.std.proofs.Common.{◌≤◌, arith}
+use Rattle.tau_outbox.specs.Pieces.{end_of}
 use Rattle.tau_outbox.proofs.Orders.{put_last}
 use Rattle.tau_outbox.proofs.Outbox.post.Goals as goal
 

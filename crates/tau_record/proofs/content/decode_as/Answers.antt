@@ -1,4 +1,5 @@
 use Rattle.std.proofs.Common.{arith}
+use Rattle.tau_record.proofs.SizeLaws.{streams_most}
 use Rattle.tau_record.proofs.Walk.{is_found, is_only, is_bad}
 use Rattle.tau_record.proofs.content.decode_as.Goals as goal
 
@@ -10,3 +11,6 @@ returns-clause-only c = λ ps h. is_only c.args.format c.args.n c.args.content.n
 
 pub returns-clause-bad : goal.returns-clause-bad
 returns-clause-bad c = λ fault e. is_bad c.args.format c.args.n c.args.content.now c.records.result fault (λ i. omega (arith, c.type_inv.content i)) c.records.ensures e
+
+pub records-requires-clause-high : goal.records-requires-clause-high
+records-requires-clause-high c = omega (arith, c.requires.high, streams_most c.args.format)

@@ -1,13 +1,18 @@
 -- A record is started and finished, or none is ready.
-use Rattle.std.proofs.Common.{◌≡◌, sym, subst}
-use Rattle.std.specs.Prelude.{Some, None, slice_get}
-use Rattle.tau_pool.specs.declared.item.Job.{Job}
+use Rattle.std.proofs.Common.{sym, subst}
+use Rattle.std.specs.Prelude.{Some, None}
 use Rattle.tau_pool.specs.Pooled.{Pooled, NoneReady}
 use Rattle.tau_replay.proofs.Visits.{sound_turn, set_here}
 use Rattle.tau_replay.proofs.alone.redo_next.Goals as goal
 
-pub finish-requires-clause-busy : goal.finish-requires-clause-busy
-finish-requires-clause-busy g c = set_here 0 c.args.replay.now.hands.items c.start.new.replay.hands.items None (Some c.in-Taken.job) c.requires.idle (c.start.ensures.hand c.in-Taken.job c.in-Taken.is)
+pub start-requires : goal.start-requires
+start-requires g c = (c.requires.sound.way, c.requires.idle)
+
+pub finish-requires : goal.finish-requires
+finish-requires g c = (
+  c.start.ensures.going,
+  set_here 0 c.args.replay.now.hands.items c.start.new.replay.hands.items None (Some c.in-Taken.job) c.requires.idle (c.start.ensures.hand c.in-Taken.job c.in-Taken.is),
+)
 
 pub returns-in_ok-finish-in-Taken-clause-sound : goal.returns-in_ok-finish-in-Taken-clause-sound
 returns-in_ok-finish-in-Taken-clause-sound g c =

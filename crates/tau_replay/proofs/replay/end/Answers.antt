@@ -16,9 +16,9 @@ abbrev stopped : ReplayRefusal → Result (Unit {0}) ReplayRefusal
 stopped a = Err a
 
 pub returns-in-Err-clause-tangled : goal.returns-in-Err-clause-tangled
-returns-in-Err-clause-tangled c j at e = c.in-Err.ensures.tangled j at (ap stopped (refusal_is c.in-Err.refusal (Tangled j at) e))
+returns-in-Err-clause-tangled g c j at e = c.in-Err.ensures.tangled j at (ap stopped (refusal_is c.in-Err.refusal (Tangled j at) e))
 
 pub returns-in-Ok-tables-clause-followed : goal.returns-in-Ok-tables-clause-followed
-returns-in-Ok-tables-clause-followed c turns f =
-    let (more, g) = c.in-Ok.ensures.followed turns f in
-    over_by c.args.log.now c.run_out.new.replay turns more c.in-Ok-tables.tables c.in-Ok.ensures.done g c.in-Ok-tables.ensures
+returns-in-Ok-tables-clause-followed g c turns f =
+    let (more, h) = c.in-Ok.ensures.followed turns f in
+    over_by c.args.log.now g.course c.run_out.new.replay turns more c.in-Ok-tables.tables c.in-Ok.ensures.done h c.in-Ok-tables.ensures

@@ -44,32 +44,32 @@ turned left_new left_now left_old from worker old now new a b busy (inr is) (inr
         below w worker lt other = elim (cases_lt w worker) [ inl x ↦ x | inr y ↦ absurd (other (omega (arith, lt, y))) ]
 
 pub loop-worker-init : goal.loop-worker-init
-loop-worker-init c = record {
-  going = c.requires.going;
+loop-worker-init g c = record {
+  going = c.requires.1;
   less = omega arith;
-  followed = λ turns f. round_begins c.args.log.now turns c.args.from c.args.replay.now.pools c.args.replay.now.hands.items (database c.args.replay.now.store) f;
+  followed = λ turns f. round_begins c.args.log.now g.course turns c.args.from c.args.replay.now.pools c.args.replay.now.hands.items (database c.args.replay.now.store) f;
   some = inr (refl, λ w job low lt at. absurd (omega (arith, low, lt)));
 }
 
 pub loop-worker-preserved : goal.loop-worker-preserved
-loop-worker-preserved c = record {
+loop-worker-preserved g c = record {
   going = c.in_ok-turn.ensures.going;
   less = omega (arith, c.in_ok-turn.ensures.less, c.loop-worker.invariant.less);
-  followed = λ turns f. round_goes c.args.log.now turns (workers_from c.args.from) c.loop-worker.worker c.loop-worker.replay.pools c.turn.new.replay.pools c.loop-worker.replay.hands.items c.turn.new.replay.hands.items
+  followed = λ turns f. round_goes c.args.log.now g.course turns (workers_from c.args.from) c.loop-worker.worker c.loop-worker.replay.pools c.turn.new.replay.pools c.loop-worker.replay.hands.items c.turn.new.replay.hands.items
       (database c.loop-worker.replay.store) (database c.turn.new.replay.store) (omega (arith, c.loop-worker-test.true)) (c.loop-worker.invariant.followed turns f) c.in_ok-turn.ensures.followed;
   some = turned (left_of c.turn.new.replay) (left_of c.loop-worker.replay) (left_of c.args.replay.now) c.args.from c.loop-worker.worker c.args.replay.now.hands.items c.loop-worker.replay.hands.items c.turn.new.replay.hands.items
       c.in_ok-turn.ensures.less c.loop-worker.invariant.less c.in_ok-turn.ensures.busy c.in_ok-turn.ensures.idle c.loop-worker.invariant.some;
 }
 
 pub returns-clause-some : goal.returns-clause-some
-returns-clause-some c e flying = elim c.loop-worker.invariant.some [
+returns-clause-some g c e flying = elim c.loop-worker.invariant.some [
   | inl less ↦ less
   | inr h ↦
-      let (w, job, at) = some_hand c.args.replay.now.hands.items (omega (arith, flying, c.requires.going.hands.count)) in
+      let (w, job, at) = some_hand c.args.replay.now.hands.items (omega (arith, flying, c.requires.1.hands.count)) in
       let lt = got_within c.args.replay.now.hands.items w (Some job) at in
-      absurd (h.1 w job (omega (arith, e)) (omega (arith, lt, c.requires.going.sixteen, c.loop-worker-test.false)) at)
+      absurd (h.1 w job (omega (arith, e)) (omega (arith, lt, c.requires.1.sixteen, c.loop-worker-test.false)) at)
 ]
 
 pub returns-clause-followed : goal.returns-clause-followed
-returns-clause-followed c turns f =
-    round_ends c.args.log.now turns (workers_from c.args.from) c.loop-worker.worker c.loop-worker.replay.pools c.loop-worker.replay.hands.items (database c.loop-worker.replay.store) (omega (arith, c.loop-worker-test.false)) (c.loop-worker.invariant.followed turns f)
+returns-clause-followed g c turns f =
+    round_ends c.args.log.now g.course turns (workers_from c.args.from) c.loop-worker.worker c.loop-worker.replay.pools c.loop-worker.replay.hands.items (database c.loop-worker.replay.store) (omega (arith, c.loop-worker-test.false)) (c.loop-worker.invariant.followed turns f)

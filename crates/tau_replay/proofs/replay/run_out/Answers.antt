@@ -17,19 +17,19 @@ abbrev failed : ReplayRefusal → Result Bool ReplayRefusal
 failed a = Err a
 
 pub returns-in-Err-clause-tangled : goal.returns-in-Err-clause-tangled
-returns-in-Err-clause-tangled c j at e = c.in-Err.ensures.tangled j at (ap failed (refusal_is c.in-Err.refusal (Tangled j at) e))
+returns-in-Err-clause-tangled g c j at e = c.in-Err.ensures.tangled j at (ap failed (refusal_is c.in-Err.refusal (Tangled j at) e))
 
 pub returns-in-Ok-true-clause-followed : goal.returns-in-Ok-true-clause-followed
-returns-in-Ok-true-clause-followed c turns f =
-    let (more, g) = c.rounds.invariant.followed turns f in
+returns-in-Ok-true-clause-followed g c turns f =
+    let (more, h) = c.rounds.invariant.followed turns f in
     let is : c.next_round.result ≡ Ok true = cc in
-    (more, c.next_round.ensures.ended (turns ++ rounds more) g is)
+    (more, c.next_round.ensures.ended (turns ++ rounds more) h is)
 
 pub rounds-preserved : goal.rounds-preserved
-rounds-preserved c =
+rounds-preserved g c =
     let is : c.next_round.result ≡ Ok false = cc in
     record {
       going = c.in-Ok-false.ensures.going;
-      followed = λ turns f. rounds_go c.args.log.now turns c.rounds.replay.pools c.next_round.new.replay.pools c.rounds.replay.hands.items c.next_round.new.replay.hands.items (database c.rounds.replay.store) (database c.next_round.new.replay.store)
-          (c.rounds.invariant.followed turns f) (λ ts g. c.next_round.ensures.followed ts g is);
+      followed = λ turns f. rounds_go c.args.log.now g.course turns c.rounds.replay.pools c.next_round.new.replay.pools c.rounds.replay.hands.items c.next_round.new.replay.hands.items (database c.rounds.replay.store) (database c.next_round.new.replay.store)
+          (c.rounds.invariant.followed turns f) (λ ts h. c.next_round.ensures.followed ts h is);
     }

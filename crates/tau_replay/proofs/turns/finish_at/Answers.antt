@@ -5,6 +5,7 @@ use Rattle.std.proofs.lemmas.List.{length-set}
 use Rattle.tau_model.specs.Store.{database}
 use Rattle.tau_scan.specs.Taken.{taken}
 use Rattle.tau_pool.specs.declared.item.Job.{Job}
+use Rattle.tau_replay.specs.Course.{whole}
 use Rattle.tau_replay.specs.Recovering.{Stands}
 use Rattle.tau_replay.proofs.Lists.{of_get}
 use Rattle.tau_replay.proofs.RecoveryGoesOn.{going_finish}
@@ -38,7 +39,7 @@ returns-clause-working c =
     let stands : Stands log job.stream job.index r = subst (λ (j : Job). Stands log j.stream j.index r) (sym f.named) of.stands in
     record {
       order = w.order ++ r ∷ [];
-      going = going_finish log p (database c.args.replay.now.store) w.order job c.finish.new.self r (database c.apply.new.store) w.going f c.finish.ensures.finished c.finish.ensures.recovered held (c.in_ok-apply.ensures.ok r stands);
+      going = going_finish log (whole log) p (database c.args.replay.now.store) w.order job c.finish.new.self r (database c.apply.new.store) w.going f c.finish.ensures.finished c.finish.ensures.recovered held (c.in_ok-apply.ensures.ok r stands);
       hands = hands_finish p hands c.args.hand job c.finish.new.self w.hands c.requires.busy c.finish.ensures.finished;
       many = length-set hands c.args.hand None ∙ w.many;
       turns = (w.turns ++ 0 ∷ []) ++ 0 ∷ [];

@@ -4,6 +4,7 @@ use Rattle.std.specs.Prelude.{Some, None}
 use Rattle.std.proofs.lemmas.List.{length-set}
 use Rattle.tau_model.specs.Store.{database}
 use Rattle.tau_pool.specs.Pooled.{Pooled}
+use Rattle.tau_replay.specs.Course.{whole}
 use Rattle.tau_replay.specs.Followed.{HasFollowed}
 use Rattle.tau_replay.proofs.RecoveryGoesOn.{going_start}
 use Rattle.tau_replay.proofs.Hands.{hands_start}
@@ -16,7 +17,7 @@ returns-in-Some-clause-working c =
     let s = c.in-Some.ensures.taken in
     record {
       order = w.order;
-      going = going_start c.args.log.now c.args.replay.now.pools (database c.args.replay.now.store) w.order c.in-Some.job c.take_at.new.self w.going s c.take_at.ensures.recovered;
+      going = going_start c.args.log.now (whole c.args.log.now) c.args.replay.now.pools (database c.args.replay.now.store) w.order c.in-Some.job c.take_at.new.self w.going s c.take_at.ensures.recovered;
       hands = hands_start c.args.replay.now.pools c.args.replay.now.hands.items c.args.hand c.in-Some.job c.take_at.new.self w.hands c.requires.idle s;
       many = length-set c.args.replay.now.hands.items c.args.hand (Some c.in-Some.job) ∙ w.many;
       turns = w.turns;

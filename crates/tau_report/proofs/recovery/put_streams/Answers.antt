@@ -1,5 +1,5 @@
 -- The lines of one stream more.
-use Rattle.std.proofs.Common.{ℕ, ◌+◌, ◌<◌, ◌++◌, List, length, ap, ◌∙◌, arith}
+use Rattle.std.proofs.Common.{ℕ, ◌<◌, ◌++◌, List, length, ap, ◌∙◌, arith}
 use Rattle.tau_record.specs.declared.entry.Placed.{Placed}
 use Rattle.tau_scan.specs.Epochs.{vector_by}
 use Rattle.tau_scan.specs.Taken.{taken_in}

@@ -1,9 +1,9 @@
--- The images that were read, or those that would have been.
-use Rattle.std.proofs.Common.{refl, map}
+-- The same cause, without the contents.
+use Rattle.std.proofs.Common.{Err, ap}
+use Rattle.tau_scan.specs.declared.fault.ScanRefusal.{ScanRefusal}
+use Rattle.tau_scan.specs.declared.fault.ScanRefusal.TheVariants.{Bad}
+use Rattle.tau_scan.proofs.Contents.{err_is}
 use Rattle.tau_scan.proofs.reading.scan.Goals as goal
 
-pub returns-in-Err-NoMemory-clause-read : goal.returns-in-Err-NoMemory-clause-read
-returns-in-Err-NoMemory-clause-read g c = record { images = map g.D.Disk.seen c.args.disks.now; as_seen = λ tells. refl; gives = tt }
-
-pub returns-in-Err-Failed-clause-read : goal.returns-in-Err-Failed-clause-read
-returns-in-Err-Failed-clause-read g c = record { images = map g.D.Disk.seen c.args.disks.now; as_seen = λ tells. refl; gives = tt }
+pub returns-in-Err-clause-calls_bad : goal.returns-in-Err-clause-calls_bad
+returns-in-Err-clause-calls_bad g c fault is = c.in-Err.ensures.calls_bad fault (ap (λ (r : ScanRefusal). Err r) (err_is c.in-Err.refusal (Bad fault) is))

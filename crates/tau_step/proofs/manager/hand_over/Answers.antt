@@ -38,5 +38,5 @@ returns-clause-over g c = λ catalogue K h stands size l.
       handed c.args.stream catalogue c.args.upto c.args.writer.now c.args.core.now c.swap_body.new.self K h c.swap_body.new.bytes.items c.requires.there l o,
       loaded c.args.stream catalogue c.args.upto c.args.writer.now c.args.core.now c.swap_body.new.self K h c.swap_body.new.bytes.items c.requires.there l o
           c.prepare.new.self (c.prepare.ensures.durable ∙ c.in-Ok.ensures.durable) (c.prepare.ensures.left ∙ c.in-Ok.ensures.left ∙ ap (λ (b : List ℕ). left_of c.args.writer.now ++ b) c.deref.ensures.value)
-          (c.prepare.ensures.works ∙ c.in-Ok.ensures.works) (λ n i content r. c.prepare.ensures.ready n i content (c.in-Ok.ensures.ready n i content r)),
+          (c.prepare.ensures.works ∙ c.in-Ok.ensures.works) (λ f n i content r. c.prepare.ensures.ready f n i content (c.in-Ok.ensures.ready f n i content r)),
     )

@@ -1,7 +1,7 @@
 use Rattle.std.proofs.Common.{[], List, ℕ, length, inl, subst, sym, ap, arith}
 use Rattle.tau_disk.specs.Disk.{Torn}
 use Rattle.tau_disk.specs.Passing.{passes_on, passes_weaker}
-use Rattle.tau_block.specs.Image.{IsLog, count_in, index_in}
+use Rattle.tau_block.specs.Image.{IsLog, count_in, format_in, index_in}
 use Rattle.tau_stream.specs.Stream.{IsOldOrNew}
 use Rattle.tau_stream.proofs.Heads.{long_head, log_of_head}
 use Rattle.tau_stream.proofs.Tears.{torn_unborn, header_is}
@@ -10,39 +10,42 @@ use Rattle.tau_stream.proofs.writer.begin.Goals as goal
 pub returns-clause-done : goal.returns-clause-done
 returns-clause-done g c = λ tells first some is.
     let file = header_is c.args.head.now _ _ (long_head c.args.head.now c.requires.head) (c.requires.short tells) (c.in_ok-write_durably.ensures.written tells) in
-    let log = subst (λ (l : List ℕ). IsLog (count_in c.args.head.now) (index_in c.args.head.now) l 16 []) (sym file) (log_of_head c.args.head.now c.requires.head) in
-    c.in_ok-publish.ensures.done tells (count_in c.args.head.now) (index_in c.args.head.now) [] first (record { log = log; only = c.in_ok-write_durably.ensures.durable tells }) some is
+    let log = subst (λ (l : List ℕ). IsLog (format_in c.args.head.now) (count_in c.args.head.now) (index_in c.args.head.now) l 16 []) (sym file) (log_of_head c.args.head.now c.requires.head) in
+    c.in_ok-publish.ensures.done tells (format_in c.args.head.now) (count_in c.args.head.now) (index_in c.args.head.now) [] first (record { log = log; only = c.in_ok-write_durably.ensures.durable tells }) some is
 
 pub returns-clause-moments : goal.returns-clause-moments
 returns-clause-moments g c = λ tells first some is unborn.
+    let f = format_in c.args.head.now in
     let n = count_in c.args.head.now in
     let j = index_in c.args.head.now in
     let long = long_head c.args.head.now c.requires.head in
     let file = header_is c.args.head.now _ _ long (c.requires.short tells) (c.in_ok-write_durably.ensures.written tells) in
-    let log = subst (λ (l : List ℕ). IsLog n j l 16 []) (sym file) (log_of_head c.args.head.now c.requires.head) in
-    passes_on g.D.Disk.moment g.D.Disk.may_leave_since _ _ _ _ _ (IsOldOrNew n j [] first) c.write_durably.ensures.moments
-    (c.publish.ensures.moments tells n j [] first (record { log = log; only = c.in_ok-write_durably.ensures.durable tells }) some is)
-    (λ x from. inl (torn_unborn n j from.0 x (unborn from.0 from.1) (subst (λ (size : ℕ). Torn 0 size from.0 x) long from.2)))
+    let log = subst (λ (l : List ℕ). IsLog f n j l 16 []) (sym file) (log_of_head c.args.head.now c.requires.head) in
+    passes_on g.D.Disk.moment g.D.Disk.may_leave_since _ _ _ _ _ (IsOldOrNew f n j [] first) c.write_durably.ensures.moments
+    (c.publish.ensures.moments tells f n j [] first (record { log = log; only = c.in_ok-write_durably.ensures.durable tells }) some is)
+    (λ x from. inl (torn_unborn f n j from.0 x (unborn from.0 from.1) (subst (λ (size : ℕ). Torn 0 size from.0 x) long from.2)))
     (λ x either. either)
 
 pub returns-in_err-publish-clause-moments : goal.returns-in_err-publish-clause-moments
 returns-in_err-publish-clause-moments g c = λ tells first some is unborn.
+    let f = format_in c.args.head.now in
     let n = count_in c.args.head.now in
     let j = index_in c.args.head.now in
     let long = long_head c.args.head.now c.requires.head in
     let file = header_is c.args.head.now _ _ long (c.requires.short tells) (c.in_ok-write_durably.ensures.written tells) in
-    let log = subst (λ (l : List ℕ). IsLog n j l 16 []) (sym file) (log_of_head c.args.head.now c.requires.head) in
-    passes_on g.D.Disk.moment g.D.Disk.may_leave_since _ _ _ _ _ (IsOldOrNew n j [] first) c.write_durably.ensures.moments
-    (c.publish.ensures.moments tells n j [] first (record { log = log; only = c.in_ok-write_durably.ensures.durable tells }) some is)
-    (λ x from. inl (torn_unborn n j from.0 x (unborn from.0 from.1) (subst (λ (size : ℕ). Torn 0 size from.0 x) long from.2)))
+    let log = subst (λ (l : List ℕ). IsLog f n j l 16 []) (sym file) (log_of_head c.args.head.now c.requires.head) in
+    passes_on g.D.Disk.moment g.D.Disk.may_leave_since _ _ _ _ _ (IsOldOrNew f n j [] first) c.write_durably.ensures.moments
+    (c.publish.ensures.moments tells f n j [] first (record { log = log; only = c.in_ok-write_durably.ensures.durable tells }) some is)
+    (λ x from. inl (torn_unborn f n j from.0 x (unborn from.0 from.1) (subst (λ (size : ℕ). Torn 0 size from.0 x) long from.2)))
     (λ x either. either)
 
 pub returns-in_err-write_durably-clause-moments : goal.returns-in_err-write_durably-clause-moments
 returns-in_err-write_durably-clause-moments g c = λ tells first some is unborn.
+    let f = format_in c.args.head.now in
     let n = count_in c.args.head.now in
     let j = index_in c.args.head.now in
-    passes_weaker g.D.Disk.moment g.D.Disk.may_leave_since _ _ _ (IsOldOrNew n j [] first) c.write_durably.ensures.moments
-    (λ x from. inl (torn_unborn n j from.0 x (unborn from.0 from.1) (subst (λ (size : ℕ). Torn 0 size from.0 x) (long_head c.args.head.now c.requires.head) from.2)))
+    passes_weaker g.D.Disk.moment g.D.Disk.may_leave_since _ _ _ (IsOldOrNew f n j [] first) c.write_durably.ensures.moments
+    (λ x from. inl (torn_unborn f n j from.0 x (unborn from.0 from.1) (subst (λ (size : ℕ). Torn 0 size from.0 x) (long_head c.args.head.now c.requires.head) from.2)))
 
 pub publish-requires-clause-within : goal.publish-requires-clause-within
 publish-requires-clause-within g c = λ tells.

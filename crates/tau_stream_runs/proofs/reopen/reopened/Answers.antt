@@ -1,32 +1,62 @@
-use Rattle.std.proofs.Common.{◌≡◌, ℕ, List, Option, Some, None, ◌∙◌, ap, false, length, sym, subst, true, arith}
-use Rattle.std.specs.Prelude.{IfSome, is_some}
+use Rattle.std.proofs.Common.{◌≡◌, ℕ, List, Option, Some, None, ◌∙◌, ap, false, length, refl, sym, subst, true, arith}
+use Rattle.std.specs.Prelude.{IsNone, is_some}
 use Rattle.std.specs.Option.{unwrap_or}
+use Rattle.tau_base.specs.declared.format.Format.{Format}
+use Rattle.tau_base.specs.declared.format.Format.TheVariants.{One, Two}
+use Rattle.tau_base.specs.Modes.{same_format}
 use Rattle.tau_disk.specs.Replay.{leaves, replayed, opened}
 use Rattle.tau_disk.proofs.Images.{image_synced}
-use Rattle.tau_block.specs.Image.{IsLog, count_in, index_in}
+use Rattle.tau_block.specs.Image.{IfBorn, IsLog, count_in, format_in, index_in}
 use Rattle.tau_stream.specs.Stream.{IsSettled}
+use Rattle.tau_stream.proofs.Heads.{is_head}
 use Rattle.tau_stream_runs.proofs.reopen.reopened.Goals as goal
 
--- the count of a stream of one
-log_of_one : (count : Option ℕ) (image bytes : List ℕ) (gate_at : ℕ) → unwrap_or count 1 ≡ 1 → is_some count ≡ true → IfSome count (λ n. IsLog n 0 image gate_at bytes) → IsLog 1 0 image gate_at bytes
-log_of_one (Some n) image bytes gate_at one some is = subst (λ (m : ℕ). IsLog m 0 image gate_at bytes) one is
-log_of_one None image bytes gate_at one some is = absurd (let bad : false ≡ true = some in cc)
+one_format : (f g : Format) → same_format f g ≡ true → f ≡ g
+one_format One One same = refl
+one_format One Two same = absurd (let bad : false ≡ true = same in cc)
+one_format Two One same = absurd (let bad : false ≡ true = same in cc)
+one_format Two Two same = refl
+
+-- the log of a stream whose header names it
+log_as : (f : Format) (n j : ℕ) (format : Option Format) (count : Option ℕ) (image bytes : List ℕ) (gate_at : ℕ) → unwrap_or format f ≡ f → unwrap_or count n ≡ n → is_some count ≡ true → (IsNone format → IsNone count) →
+    IfBorn format count (λ g m. IsLog g m j image gate_at bytes) → IsLog f n j image gate_at bytes
+log_as f n j (Some g) (Some m) image bytes gate_at formats counts some stated is =
+    subst (λ (h : Format). IsLog h n j image gate_at bytes) formats (subst (λ (k : ℕ). IsLog g k j image gate_at bytes) counts is)
+log_as f n j (Some g) None image bytes gate_at formats counts some stated is = absurd (let bad : false ≡ true = some in cc)
+log_as f n j None (Some m) image bytes gate_at formats counts some stated is = absurd (let bad : true ≡ false = stated refl in cc)
+log_as f n j None None image bytes gate_at formats counts some stated is = absurd (let bad : false ≡ true = some in cc)
+
+-- what is settled of a stream is settled of the one that its header names
+named_by : (f : Format) (n j : ℕ) (head : List ℕ) → format_in head ≡ f → (count_in head ≡ n) × (index_in head ≡ j) → (file : List ℕ) (may_leave : List ℕ → Type 0) (gate_at : ℕ) (content : List ℕ) →
+    IsSettled f n j file may_leave gate_at content → IsSettled (format_in head) (count_in head) (index_in head) file may_leave gate_at content
+named_by f n j head formats names file may_leave gate_at content is =
+    subst (λ (g : Format). IsSettled g (count_in head) (index_in head) file may_leave gate_at content) (sym formats)
+    (subst (λ (m : ℕ). IsSettled f m (index_in head) file may_leave gate_at content) (sym names.0)
+    (subst (λ (i : ℕ). IsSettled f n i file may_leave gate_at content) (sym names.1) is))
+
+pub reopen-requires-clause-head : goal.reopen-requires-clause-head
+reopen-requires-clause-head c =
+    is_head c.args.named.format c.args.named.streams c.args.named.index c.head_of.result (omega (arith, c.most_streams-most.ensures)) (omega arith) c.head_of.ensures.bytes c.head_of.ensures.format c.head_of.ensures.names
 
 pub reopen-requires-clause-read : goal.reopen-requires-clause-read
 reopen-requires-clause-read c = λ tells.
     let disk = c.in_ok-disk.disk in
     let content = c.in_ok-content.content in
+    let f = c.args.named.format in
+    let n = c.args.named.streams in
+    let j = c.args.named.index in
+    let head = c.head_of.result in
+    let left_of_disk = leaves (replayed (opened disk.first.items) disk.calls.items) in
     let seen : disk.seen.items ≡ c.args.image.now = c.in_ok-disk.ensures.holds in
-    let one : unwrap_or content.count 1 ≡ 1 = sym c.unwrap_or-count.ensures ∙ c.if-count-ne1.false in
-    let names = c.header.ensures.names in
+    let counts : unwrap_or content.count n ≡ n = sym c.unwrap_or-count.ensures ∙ c.if-count-streams.false in
+    let formats : unwrap_or content.format f ≡ f = sym c.unwrap_or-format.ensures ∙ one_format c.unwrap_or-format.result f (sym c.same_format.ensures ∙ c.if-not-same_format.false) in
     record {
       settled = λ some.
-          subst (λ (n : ℕ). IsSettled n (index_in c.header.result) disk.seen.items (leaves (replayed (opened disk.first.items) disk.calls.items)) content.gate_at content.bytes) (sym names.0)
-          (subst (λ (j : ℕ). IsSettled 1 j disk.seen.items (leaves (replayed (opened disk.first.items) disk.calls.items)) content.gate_at content.bytes) (sym names.1)
+          named_by f n j head c.head_of.ensures.format c.head_of.ensures.names disk.seen.items left_of_disk content.gate_at content.bytes
           (record {
-            log = subst (λ (l : List ℕ). IsLog 1 0 l content.gate_at content.bytes) (sym seen)
-                (log_of_one content.count c.args.image.now content.bytes content.gate_at one some c.in_ok-content.ensures.gate);
+            log = subst (λ (l : List ℕ). IsLog f n j l content.gate_at content.bytes) (sym seen)
+                (log_as f n j content.format content.count c.args.image.now content.bytes content.gate_at formats counts some c.in_ok-content.ensures.stated.0 c.in_ok-content.ensures.gate);
             only = λ x left. image_synced c.args.image.now x (subst (λ s. leaves s x) c.in_ok-disk.ensures.synced left) ∙ sym seen;
-          }));
+          });
       unborn = λ none. omega (arith, ap length seen, (c.in_ok-content.ensures.short none).1);
     }

@@ -1,5 +1,6 @@
 use Rattle.std.proofs.Common.{◌≡◌, ◌+◌, ◌-◌, ◌<◌, ◌^◌, ◌++◌, ℕ, None, [], ◌∷◌, length, refl, subst, sym, ap, ◌∙◌, arith}
 use Rattle.std.specs.Prelude.{slice_index}
+use Rattle.tau_base.specs.Modes.{format_of}
 use Rattle.tau_core.specs.State.{Plain}
 use Rattle.tau_rule.specs.Rule.{manager_role}
 use Rattle.tau_rule.specs.Steps.{Agrees, Sat, holding, idle}
@@ -17,7 +18,7 @@ place_anchor-start-requires-clause-anchor g c =
     let same = Rattle.tau_rule.proofs.Gives.one_origin c.self.invariant.origin key (sym c.self.invariant.opened ∙ ap (λ s. s.me.0.opened) c.self.view_is ∙ c.requires.opened) in
     let streams = c.args.desk.now.streams_are in
     to_anchor key c.self.inside.seat.me c.self.inside.stream c.self.inside.stock h c.self.inside.seen c.in_ok-bytes.bytes.items c.self.invariant.seen_is (c.self.invariant.seen_wide ∙ ap (λ (p : Plain). p.load.streams) same)
-    (let a = streams.0 in let b = streams.2 in omega (arith, a, b)) c.in_ok-bytes.ensures
+    (let a = streams.0 in let b = streams.2 in omega (arith, a, b)) (c.in_ok-bytes.ensures (format_of key.load.mode))
     (subst (λ (s : PlainManagerSeat). slice_index key.load.opening.anchors.items s.stream + length s.stock.anchors < 2 ^ 32 - 1) (sym c.self.view_is) c.requires.few)
 
 pub take-part-requires-clause-role : goal.take-part-requires-clause-role
@@ -40,7 +41,7 @@ put-requires-clause-some g c =
     let same = Rattle.tau_rule.proofs.Gives.one_origin c.self.invariant.origin key (sym c.self.invariant.opened ∙ ap (λ s. s.me.0.opened) c.self.view_is ∙ c.requires.opened) in
     let wide : length c.self.inside.seen ≡ key.load.streams = c.self.invariant.seen_wide ∙ ap (λ (p : Plain). p.load.streams) same in
     let streams = c.args.desk.now.streams_are in
-    let some = (anchor_long (length c.self.inside.seen) c.self.inside.seen c.in_ok-bytes.bytes.items (let a = streams.0 in let b = streams.2 in omega (arith, a, b, wide)) (c.in_ok-bytes.ensures [])).0 in
+    let some = (anchor_long (format_of key.load.mode) (length c.self.inside.seen) c.self.inside.seen c.in_ok-bytes.bytes.items (let a = streams.0 in let b = streams.2 in omega (arith, a, b, wide)) (c.in_ok-bytes.ensures (format_of key.load.mode) [])).0 in
     let o = c.in_ok-bytes.bytes.ok in
     omega (arith, some, o)
 
@@ -83,7 +84,7 @@ returns-clause-placed g c =
     let all : PlacesAnchor key.load s s' = record {
       bytes = c.in_ok-bytes.bytes.items;
       start = c.place_anchor-start.result;
-      spelled = λ vectors. subst (λ (n : ℕ). Rattle.tau_record.specs.Record.Spells Rattle.tau_record.specs.Format.One n vectors Rattle.std.proofs.Common.false (Rattle.tau_record.specs.declared.entry.Entry.TheVariants.Anchor c.self.inside.seen) c.in_ok-bytes.bytes.items) wide (c.in_ok-bytes.ensures vectors);
+      spelled = λ vectors. subst (λ (n : ℕ). Rattle.tau_record.specs.Record.Spells (format_of key.load.mode) n vectors Rattle.std.proofs.Common.false (Rattle.tau_record.specs.declared.entry.Entry.TheVariants.Anchor c.self.inside.seen) c.in_ok-bytes.bytes.items) wide (c.in_ok-bytes.ensures (format_of key.load.mode) vectors);
       small = (let a = c.place_anchor-start.ensures.small in let o = c.in_ok-bytes.bytes.ok in omega (arith, a, o));
       puts = c.put.ensures.puts;
       after = λ i. record s { table_id = (back.0 ∙ took.0 ∙ placed.0) i; id = (back.1 ∙ took.1 ∙ placed.1) i; me = knows i; stock = c.put.new.self };

@@ -1,4 +1,4 @@
-use Rattle.std.proofs.Common.{◌∙◌, ◌<◌, ◌≡◌, List, ℕ, length, sym, ap, subst, arith}
+use Rattle.std.proofs.Common.{◌<◌, ◌≡◌, List, ℕ, length, sym, ap, subst, arith}
 use Rattle.std.specs.Prelude.{Some, slice_get}
 use Rattle.tau_report.specs.KeptAcks.{acks_of}
 use Rattle.tau_report.proofs.KeptAcks.{acks_long, acks_number}

@@ -1,4 +1,6 @@
 use Rattle.std.proofs.Common.{◌≡◌, ℕ, ◌+◌, ◌∙◌, [], subst, length, ap, arith}
+use Rattle.tau_base.specs.declared.format.Format.{Format}
+use Rattle.tau_base.specs.declared.format.Format.TheVariants.{One}
 use Rattle.tau_disk.specs.Disk.{Passes}
 use Rattle.tau_stream.specs.Stream.{IsOldOrNew, IsSettled, catalogue_record}
 use Rattle.tau_stream.proofs.Heads.{is_head, of_stream}
@@ -24,8 +26,8 @@ returns-clause-ready g c = λ tells.
     let text = c.args.catalogue.now in
     let size : length c.deref.result.now ≡ c.len.result = omega (arith, c.len.ensures, ap length c.deref.ensures.value) in
     record {
-      settled = subst (λ (long : ℕ). IsSettled c.args.n c.args.j (g.D.Disk.seen c.begin.new.disk) (g.D.Disk.may_leave c.begin.new.disk) (16 + long) (catalogue_record text)) size
-          (of_stream c.args.n c.args.j c.header.result c.header.ensures.names (λ (n j : ℕ). IsSettled n j (g.D.Disk.seen c.begin.new.disk) (g.D.Disk.may_leave c.begin.new.disk) (16 + length c.deref.result.now) (catalogue_record text))
+      settled = subst (λ (long : ℕ). IsSettled One c.args.n c.args.j (g.D.Disk.seen c.begin.new.disk) (g.D.Disk.may_leave c.begin.new.disk) (16 + long) (catalogue_record text)) size
+          (of_stream One c.args.n c.args.j c.header.result c.header.ensures.format c.header.ensures.names (λ (f : Format) (n j : ℕ). IsSettled f n j (g.D.Disk.seen c.begin.new.disk) (g.D.Disk.may_leave c.begin.new.disk) (16 + length c.deref.result.now) (catalogue_record text))
           (c.in-Ok-begin.ensures.done tells (catalogue_record text) (catalogue_is text c.requires.text) (c.deref.ensures.value ∙ c.in-Ok.ensures.block)));
       counts = c.in-Ok.ensures.size;
     }
@@ -33,16 +35,16 @@ returns-clause-ready g c = λ tells.
 pub returns-clause-moments : goal.returns-clause-moments
 returns-clause-moments g c = λ tells unborn.
     let text = c.args.catalogue.now in
-    of_stream c.args.n c.args.j c.header.result c.header.ensures.names
-    (λ (n j : ℕ). Passes g.D.Disk.moment g.D.Disk.may_leave_since c.args.disk c.begin.new.disk (IsOldOrNew n j [] (catalogue_record text)))
+    of_stream One c.args.n c.args.j c.header.result c.header.ensures.format c.header.ensures.names
+    (λ (f : Format) (n j : ℕ). Passes g.D.Disk.moment g.D.Disk.may_leave_since c.args.disk c.begin.new.disk (IsOldOrNew f n j [] (catalogue_record text)))
     (c.begin.ensures.moments tells (catalogue_record text) (catalogue_is text c.requires.text) (c.deref.ensures.value ∙ c.in-Ok.ensures.block) unborn)
 
 pub returns-in_default-begin-clause-moments_err : goal.returns-in_default-begin-clause-moments_err
 returns-in_default-begin-clause-moments_err g c = λ tells unborn.
     let text = c.args.catalogue.now in
-    of_stream c.args.n c.args.j c.header.result c.header.ensures.names
-    (λ (n j : ℕ). Passes g.D.Disk.moment g.D.Disk.may_leave_since c.args.disk c.begin.new.disk (IsOldOrNew n j [] (catalogue_record text)))
+    of_stream One c.args.n c.args.j c.header.result c.header.ensures.format c.header.ensures.names
+    (λ (f : Format) (n j : ℕ). Passes g.D.Disk.moment g.D.Disk.may_leave_since c.args.disk c.begin.new.disk (IsOldOrNew f n j [] (catalogue_record text)))
     (c.begin.ensures.moments tells (catalogue_record text) (catalogue_is text c.requires.text) (c.deref.ensures.value ∙ c.in-Ok.ensures.block) unborn)
 
 pub begin-requires-clause-head : goal.begin-requires-clause-head
-begin-requires-clause-head g c = is_head c.args.n c.args.j c.header.result c.requires.streams c.requires.stream c.header.ensures.bytes c.header.ensures.names
+begin-requires-clause-head g c = is_head One c.args.n c.args.j c.header.result c.requires.streams c.requires.stream c.header.ensures.bytes c.header.ensures.format c.header.ensures.names

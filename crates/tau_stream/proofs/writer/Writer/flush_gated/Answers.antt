@@ -33,9 +33,9 @@ returns-in-Ok-clause-flushed g c =
       durable = search rules;
       left = search rules;
       works = search rules;
-      done = λ tells n j content ready. record {
-        settled = subst (λ (long : ℕ). IsSettled n j (g.D.Disk.seen c.publish_gated.new.disk) (g.D.Disk.may_leave c.publish_gated.new.disk) (w.gate_at + long) (content ++ part_upto w c.args.upto)) size
-            (c.in-Ok.ensures.done tells n j content (part_upto w c.args.upto) ready.settled (part_is w c.args.upto reach some) (c.deref.ensures.value ∙ c.requires.prepared.block some));
+      done = λ tells f n j content ready. record {
+        settled = subst (λ (long : ℕ). IsSettled f n j (g.D.Disk.seen c.publish_gated.new.disk) (g.D.Disk.may_leave c.publish_gated.new.disk) (w.gate_at + long) (content ++ part_upto w c.args.upto)) size
+            (c.in-Ok.ensures.done tells f n j content (part_upto w c.args.upto) ready.settled (part_is w c.args.upto reach some) (c.deref.ensures.value ∙ c.requires.prepared.block some));
         counts = omega (arith, ready.counts, length-append content (part_upto w c.args.upto), length_part w c.args.upto reach some, reach.not_before);
       };
     }
@@ -46,8 +46,8 @@ returns-in-Ok-clause-flushes g c =
     let reach = c.requires.prepared.reach in
     let some : w.durable < c.args.upto = omega (arith, reach.not_before, c.if-upto-self.false) in
     record {
-      moments = λ tells n j content ready.
-          c.publish_gated.ensures.moments tells n j content (part_upto w c.args.upto) ready.settled (part_is w c.args.upto reach some) (c.deref.ensures.value ∙ c.requires.prepared.block some);
+      moments = λ tells f n j content ready.
+          c.publish_gated.ensures.moments tells f n j content (part_upto w c.args.upto) ready.settled (part_is w c.args.upto reach some) (c.deref.ensures.value ∙ c.requires.prepared.block some);
       plan = search rules;
       idle = search rules;
       idle_same = search rules;
@@ -61,7 +61,7 @@ pub returns-in-Err-clause-stays : goal.returns-in-Err-clause-stays
 returns-in-Err-clause-stays g c = record {
   durable = search rules;
   left = search rules;
-  reached = λ tells n j content ready. c.in-Err.ensures.reached tells n j content ready.settled;
+  reached = λ tells f n j content ready. c.in-Err.ensures.reached tells f n j content ready.settled;
 }
 
 pub returns-in-Err-clause-flushes : goal.returns-in-Err-clause-flushes
@@ -70,8 +70,8 @@ returns-in-Err-clause-flushes g c =
     let reach = c.requires.prepared.reach in
     let some : w.durable < c.args.upto = omega (arith, reach.not_before, c.if-upto-self.false) in
     record {
-      moments = λ tells n j content ready.
-          c.publish_gated.ensures.moments tells n j content (part_upto w c.args.upto) ready.settled (part_is w c.args.upto reach some) (c.deref.ensures.value ∙ c.requires.prepared.block some);
+      moments = λ tells f n j content ready.
+          c.publish_gated.ensures.moments tells f n j content (part_upto w c.args.upto) ready.settled (part_is w c.args.upto reach some) (c.deref.ensures.value ∙ c.requires.prepared.block some);
       plan = search rules;
       idle = search rules;
       idle_same = search rules;
@@ -87,7 +87,7 @@ returns-then-upto-self-clause-stays g c =
     record {
       durable = search rules;
       left = search rules;
-      reached = λ tells n j content ready. (g.D.Disk.seen w.disk, g.met.D.Disk.seen_now w.disk tells, content_now n j (g.D.Disk.seen w.disk) w.gate_at content ready.settled.log);
+      reached = λ tells f n j content ready. (g.D.Disk.seen w.disk, g.met.D.Disk.seen_now w.disk tells, content_now f n j (g.D.Disk.seen w.disk) w.gate_at content ready.settled.log);
     }
 
 pub returns-then-upto-self-clause-flushes : goal.returns-then-upto-self-clause-flushes

@@ -1,4 +1,4 @@
-use Rattle.std.proofs.Common.{◌≡◌, sym, ap, subst, ◌∙◌}
+use Rattle.std.proofs.Common.{sym, ap, subst, ◌∙◌}
 use Rattle.std.specs.Prelude.{Some, OnOk, IfErr}
 use Rattle.tau_base.specs.declared.value.Mode.{Mode}
 use Rattle.tau_proc.specs.Progress.{next_want}

@@ -1,12 +1,9 @@
 -- What is kept is what stands in the hand.
-use Rattle.std.proofs.Common.{◌≡◌, List, ◌++◌, [], ◌∷◌, ◌∙◌, sym, ap, subst}
-use Rattle.std.specs.Prelude.{Option}
+use Rattle.std.proofs.Common.{◌≡◌, List, ◌++◌, [], ◌∷◌, ◌∙◌, sym, ap}
 use Rattle.tau_proc.specs.declared.reply.Want.TheVariants.{Finished}
-use Rattle.tau_proc.specs.Progress.{buffered, next_want}
+use Rattle.tau_proc.specs.Progress.{next_want}
 use Rattle.tau_model.specs.declared.committed.Committed.{Committed}
 use Rattle.tau_model.specs.Committed.{lv_at}
-use Rattle.tau_txn.specs.Hand.{PlainHand}
-use Rattle.tau_txn.specs.Record.{spot_by}
 use Rattle.tau_txn.proofs.Txns.{joined_put}
 use Rattle.tau_txn.proofs.hand.Hand.put_joined.Goals as goal
 

@@ -1,5 +1,5 @@
 -- What is kept is what stands in the hand.
-use Rattle.std.proofs.Common.{◌≡◌, List, ◌++◌, [], ◌∷◌, ◌∙◌, sym, ap, rules, arith, refl, length}
+use Rattle.std.proofs.Common.{◌≡◌, List, ◌++◌, [], ◌∷◌, ◌∙◌, sym, ap, rules, arith}
 use Rattle.std.specs.Prelude.{None}
 use Rattle.tau_proc.specs.declared.reply.Want.TheVariants.{Finished}
 use Rattle.tau_proc.specs.Progress.{buffered, next_want}

@@ -1,9 +1,8 @@
-use Rattle.std.proofs.Common.{◌≡◌, ℕ, ◌∷◌, ◌++◌, [], List, sym, ap, subst, ◌∙◌}
+use Rattle.std.proofs.Common.{◌≡◌, ℕ, List, sym, ap, subst, ◌∙◌}
 use Rattle.std.specs.Option.{option_copied, unwrap_or}
 use Rattle.tau_base.specs.declared.value.Value.{Value}
 use Rattle.tau_base.specs.declared.value.Value.TheVariants.{Absent}
 use Rattle.tau_base.specs.declared.value.Mode.TheVariants as mode
-use Rattle.tau_proc.specs.declared.reply.Want.TheVariants.{Read}
 use Rattle.tau_proc.specs.Progress.{next_want}
 use Rattle.tau_machine.specs.Hands.{hold}
 use Rattle.tau_machine.specs.Shard.{Shard, entry_in}

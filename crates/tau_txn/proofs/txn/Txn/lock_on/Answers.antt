@@ -1,15 +1,11 @@
-use Rattle.std.proofs.Common.{◌≡◌, ℕ, [], true, false, List, length, sym, ap, subst, ◌∙◌}
+use Rattle.std.proofs.Common.{◌≡◌, [], false, length, sym, ap, subst, ◌∙◌}
 use Rattle.std.specs.Prelude.{Bool, Some, OnOk, OnErr}
-use Rattle.tau_base.specs.declared.value.Key.{Key}
-use Rattle.tau_proc.specs.declared.proc.Proc.{Proc}
-use Rattle.tau_machine.specs.Hands as theory
-use Rattle.tau_machine.specs.Shard.{Shard, entry_in}
+use Rattle.tau_machine.specs.Shard.{entry_in}
 use Rattle.tau_shard.specs.Blocks.{dep_locked}
 use Rattle.tau_shard.specs.Read.{shard_of}
-use Rattle.tau_txn.specs.Hand.{PlainHand}
 use Rattle.tau_txn.specs.Kept.{KeepsHand, keeps_in, kept}
 use Rattle.tau_txn.specs.Next.{next_action}
-use Rattle.tau_txn.specs.Locked.{HandLocked, TxnLocked}
+use Rattle.tau_txn.specs.Locked.{TxnLocked}
 use Rattle.tau_txn.specs.Txn.{PlainTxn, RunsBy, runs_in, dep_in, leaves_in, leaves_by, bytes_in, bytes_by}
 use Rattle.tau_txn.proofs.Locks.{asks_lock, txn_locked, txn_same}
 use Rattle.tau_txn.proofs.txn.Txn.lock_on.Goals as goal
@@ -37,6 +33,7 @@ invariant_of-self c =
     record {
       low = c.self.invariant.low;
       high = c.self.invariant.high;
+      fits = c.self.invariant.fits;
       hand = subst (λ (b : Bool). keeps_in c.self.inside.streams (kept b c.lock_on.new.self)) (sym asked.0) (c.lock_on.ensures.runs.keeps c.self.inside.streams wide keeps);
     }
 

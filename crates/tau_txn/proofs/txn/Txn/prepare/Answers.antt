@@ -1,7 +1,7 @@
-use Rattle.std.proofs.Common.{◌≡◌, ◌≤◌, ℕ, length, false, List, sym, ap, subst, ◌∙◌}
+use Rattle.std.proofs.Common.{◌≡◌, ◌≤◌, ℕ, length, false, List, sym, ap, subst, ◌∙◌, arith}
 use Rattle.std.specs.Prelude.{Bool, Some, OnOk}
 use Rattle.tau_proc.specs.declared.proc.Proc.{Proc}
-use Rattle.tau_record.specs.Format.{One}
+use Rattle.tau_base.specs.Modes.{format_of}
 use Rattle.tau_record.specs.Record.{base_of, Spells}
 use Rattle.tau_machine.specs.Hands as theory
 use Rattle.tau_txn.specs.Kept.{KeepsHand, keeps_in, kept}
@@ -27,13 +27,18 @@ returns-clause-bytes c =
     let finished = subst IsFinished (sym asked.1.finished) tt in
     subst (λ (b : Bool). OnOk c.prepare.result ((procs : List Proc) (hand : theory.Hand) (start : ℕ) (vectors : List (List ℕ)) → RunsBy procs c.args.self.now →
     shown_of procs c.self.inside.worker (kept b c.prepare.new.self) ≡ Some hand → base_of vectors c.args.anchor_number ≡ c.args.anchor.now →
-    Spells One c.args.self.now.width vectors false
+    Spells (format_of c.args.self.now.mode) c.args.self.now.width vectors false
     (entry_of c.args.self.now.mode (act_at procs (record { worker = c.self.inside.worker; width = c.self.inside.streams; mode = c.self.inside.mode; hand = kept b c.prepare.new.self }) start hand)) (bytes_by (kept b c.prepare.new.self))))
     (sym c.if-not-self.false)
     (subst (λ (t : PlainTxn). OnOk c.prepare.result ((procs : List Proc) (hand : theory.Hand) (start : ℕ) (vectors : List (List ℕ)) → RunsBy procs t →
     shown procs c.self.inside.worker c.prepare.new.self.standing c.prepare.new.self ≡ Some hand → base_of vectors c.args.anchor_number ≡ c.args.anchor.now →
-    Spells One t.width vectors false
+    Spells (format_of t.mode) t.width vectors false
     (entry_of t.mode (act_at procs (record { worker = c.self.inside.worker; width = c.self.inside.streams; mode = c.self.inside.mode; hand = Some c.prepare.new.self }) start hand)) c.prepare.new.self.bytes))
     at
     (prepared_bytes c.self.inside.worker c.self.inside.streams c.self.inside.mode c.self.inside.hand c.prepare.new.self c.args.anchor_number c.args.anchor.now c.prepare.result
     c.prepare.ensures.raised c.prepare.ensures.bytes keeps.shaped.wide finished c.prepare.ensures.runs))
+
+pub prepare-requires-clause-few : goal.prepare-requires-clause-few
+prepare-requires-clause-few c =
+    let keeps : KeepsHand c.self.inside.streams c.self.inside.hand = subst (λ (b : Bool). keeps_in c.self.inside.streams (kept b c.self.inside.hand)) c.if-not-self.false c.self.invariant.hand in
+    omega (arith, keeps.shaped.wide, c.self.invariant.fits)

@@ -17,6 +17,7 @@ invariant_of-self c =
     record {
       low = c.self.invariant.low;
       high = c.self.invariant.high;
+      fits = c.self.invariant.fits;
       hand = c.went-self-inside.ensures.keeps c.self.inside.streams (subst (λ (b : Bool). keeps_in c.self.inside.streams (kept b c.self.inside.hand)) c.if-not-self.false c.self.invariant.hand);
     }
 

@@ -1,0 +1,22 @@
+use denote.Exit.{unseen}
+use denote.Param.Send.{Quiet-if}
+use mir.Syntax.{of_param}
+use Rattle.tau_crew.proofs.work_beside.work_beside.Goals as goal
+
+pub join_mut-short-requires-after_bounds : goal.join_mut-short-requires-after_bounds
+join_mut-short-requires-after_bounds g c κs within =
+    let b = c.type_bounds in (
+      (
+        (record { shared = b.sync-R.shared }, record { shared = b.sync-G.shared }, c.requires.managers, c.requires.some, c.requires.clerk),
+        (
+          record { owned = b.send-D.owned; leaving = λ k. Quiet-if (k (of_param 1)) unseen unseen (λ x w. tt) (λ x w. tt) },
+          record { owned = b.send-K.owned; leaving = λ k. Quiet-if (k (of_param 2)) unseen unseen (λ x w. tt) (λ x w. tt) },
+          record { shared = b.sync-R.shared },
+          record { shared = b.sync-G.shared },
+        ),
+      ),
+      (
+        (record { shared = b.sync-R.shared }, record { shared = b.sync-G.shared }, c.requires.placed, c.requires.run),
+        (record { shared = b.sync-R.shared }, record { shared = b.sync-G.shared }),
+      ),
+    )
