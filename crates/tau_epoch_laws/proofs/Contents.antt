@@ -15,10 +15,9 @@ use Rattle.tau_scan.specs.declared.fault.LogFault.{LogFault}
 use Rattle.tau_scan.specs.declared.fault.LogCause.TheVariants as cause
 use Rattle.tau_scan.specs.declared.log.Log.{Log}
 use Rattle.tau_scan.specs.Epochs.{marks_in, marks_from, marks_of, judge_of}
-use Rattle.tau_scan.specs.Reading.{◌>>=◌, in_front, each_from, unless, catalogue_of, declared_by, undeclared, judged, records_of, recorded, alike, unless_other, catalogue_from, catalogue_in, declared_in, streams_of, lowest_with, is_vector, or_else, mark_fault, marks_fault, epochs_fault, epoch_fault}
+use Rattle.tau_scan.specs.Reading.{◌>>=◌, in_front, each_from, unless, catalogue_of, declared_by, undeclared, judged, records_of, recorded, alike, unless_other, catalogue_from, catalogue_in, declared_in, streams_of, lowest_with, is_vector, or_else, mark_fault, marks_fault, epochs_fault, epoch_fault, log_of_contents}
 use Rattle.tau_scan.specs.Taken.{Kept, taken_in, taken_from, taken}
 use Rattle.tau_epoch_laws.specs.Continues.{Grown, none_in, Continues, news_from, news}
-use Rattle.tau_epoch_laws.specs.Sound.{log_of_contents}
 use Rattle.tau_epoch_laws.proofs.Parts.{in_either}
 use Rattle.tau_epoch_laws.proofs.Judging.{Agree}
 use Rattle.tau_epoch_laws.proofs.Records.{Stand, content_stands, no_catalogue, stand_after, taken_within}

@@ -9,11 +9,11 @@ use Rattle.tau_record.specs.declared.entry.Placed.{Placed}
 use Rattle.tau_record.specs.Content.{records_at, content_at}
 use Rattle.tau_scan.specs.declared.fault.LogFault.{LogFault}
 use Rattle.tau_scan.specs.Epochs.{marks_from, judge_of}
-use Rattle.tau_scan.specs.Reading.{◌>>=◌, in_front, each_from, catalogue_of, none_declared, first_undeclared, records_of, recorded, catalogue_from, catalogue_in, declared_in, streams_of}
+use Rattle.tau_scan.specs.Reading.{◌>>=◌, in_front, each_from, catalogue_of, none_declared, first_undeclared, records_of, recorded, catalogue_from, catalogue_in, declared_in, streams_of, log_of_contents}
 use Rattle.tau_scan.specs.Taken.{Kept, taken}
 use Rattle.tau_scan.proofs.Marks.{no_epoch_fault}
 use Rattle.tau_epoch_laws.specs.Continues.{none_in}
-use Rattle.tau_epoch_laws.specs.Sound.{log_of_contents, fresh_log, redo_in}
+use Rattle.tau_scan.specs.Sound.{fresh_log, redo_in}
 use Rattle.tau_epoch_laws.specs.Laws.{FreshSound}
 use Rattle.tau_epoch_laws.proofs.Stays.{none_taken}
 

@@ -12,7 +12,7 @@ use Rattle.tau_record.specs.declared.entry.Placed.{Placed}
 use Rattle.tau_scan.specs.declared.log.Log.{Log}
 use Rattle.tau_scan.specs.Epochs.{mark_of, marks_in, marks_from, marks_of, judge_of}
 use Rattle.tau_epoch_laws.specs.Continues.{Grown, none_in, NextEpochHas, Continues}
-use Rattle.tau_epoch_laws.specs.Sound.{MarksFit}
+use Rattle.tau_scan.specs.Sound.{MarksFit}
 use Rattle.tau_epoch_laws.proofs.Parts.{in_either, member_of, contains_of}
 use Rattle.tau_epoch_laws.proofs.Judging.{Agree, judging_is, judging_none, meet_covers, up_to_largest}
 

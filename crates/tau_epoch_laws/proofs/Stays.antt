@@ -20,7 +20,7 @@ use Rattle.tau_scan.specs.declared.log.Log.{Log}
 use Rattle.tau_scan.specs.Epochs.{judge_of}
 use Rattle.tau_scan.specs.Taken.{Kept, taken_in, taken_from, taken}
 use Rattle.tau_epoch_laws.specs.Continues.{none_in, Continues, news}
-use Rattle.tau_epoch_laws.specs.Sound.{IsOrderOf, redo_in, Redoes, IsSound}
+use Rattle.tau_scan.specs.Sound.{IsOrderOver, redo_in, Redoes, IsSound}
 use Rattle.tau_epoch_laws.specs.Laws.{starts_in, StaysSound, RedoneAfter}
 use Rattle.tau_epoch_laws.proofs.Parts.{in_either, reordered_front, filter_second}
 use Rattle.tau_epoch_laws.proofs.Contents.{Holds, holds, same_declared, starts_after}
@@ -54,7 +54,7 @@ module _ (format : Format) (before after : List (List ℕ)) (old : Log) (more : 
   held = holds format before old sound.reads
 
   -- the new log redoes what the old one took to the same database
-  old_redone : (order : List Kept) → IsOrderOf (taken old) order → redo_in log order empty_db ≡ base
+  old_redone : (order : List Kept) → IsOrderOver (taken old) order → redo_in log order empty_db ≡ base
   old_redone order is = elim (same_declared before after old more log held read c) [
     | inl none ↦
         let empty : order ≡ [] = subst (λ (l : List Kept). Reordered l order) (none_taken (judge_of old) 0 old.streams none) is.each_once in
@@ -63,7 +63,7 @@ module _ (format : Format) (before after : List (List ℕ)) (old : Log) (more : 
   ]
 
   -- an order of the old ones, and after it one of the new ones
-  together : (front back : List Kept) → IsOrderOf (taken old) front → IsOrderOf (news old more log) back → IsOrderOf (taken log) (front ++ back)
+  together : (front back : List Kept) → IsOrderOver (taken old) front → IsOrderOver (news old more log) back → IsOrderOver (taken log) (front ++ back)
   together front back f b = record {
     each_once = reordered_trans (taken log) (taken old ++ news old more log) (front ++ back) (reordered_sym (taken old ++ news old more log) (taken log) both)
         (reordered_trans (taken old ++ news old more log) (front ++ news old more log) (front ++ back)
@@ -83,7 +83,7 @@ module _ (format : Format) (before after : List (List ℕ)) (old : Log) (more : 
   news_are : (r : Kept) → Member r (news old more log) → starts_in old r ≡ false
   news_are = are_new before after old more log held read c
 
-  whole_order : (order : List Kept) → IsOrderOf (taken log) order → Reordered (taken old ++ news old more log) order
+  whole_order : (order : List Kept) → IsOrderOver (taken log) order → Reordered (taken old ++ news old more log) order
   whole_order order is = reordered_trans (taken old ++ news old more log) (taken log) order both is.each_once
 
   redone_news : (base' : Db) → Redoes log (taken log) empty_db base' → Redoes log (news old more log) base base'
@@ -113,7 +113,7 @@ module _ (format : Format) (before after : List (List ℕ)) (old : Log) (more : 
           omega (arith, lt, low)
     ]
 
-    all_alike : (order : List Kept) → IsOrderOf (taken log) order → redo_in log order empty_db ≡ base'
+    all_alike : (order : List Kept) → IsOrderOver (taken log) order → redo_in log order empty_db ≡ base'
     all_alike order is =
         let p = parts place_of (starts_in old) (taken old) (news old more log) order (whole_order order is) is.orderly olds_are news_are waits in
         ap (λ (l : List Kept). redo_in log l empty_db) p.whole ∙ redo_append log (filter (starts_in old) order) (filter is_new order) empty_db

@@ -17,7 +17,7 @@ use Rattle.tau_scan.specs.Epochs.{mark_of, marks_in, marks_from, marks_of, judge
 use Rattle.tau_scan.specs.Taken.{Kept, kept_as, taken_in, taken_from, taken}
 use Rattle.tau_scan.proofs.Known.{judged_low}
 use Rattle.tau_epoch_laws.specs.Continues.{Grown, none_in, Continues, news_from}
-use Rattle.tau_epoch_laws.specs.Sound.{MarksFit}
+use Rattle.tau_scan.specs.Sound.{MarksFit}
 use Rattle.tau_epoch_laws.specs.Laws.{OldTaken}
 use Rattle.tau_epoch_laws.proofs.Parts.{in_either, reordered_parts}
 use Rattle.tau_epoch_laws.proofs.Contents.{Holds, holds}

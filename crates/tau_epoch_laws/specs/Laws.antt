@@ -11,7 +11,8 @@ use Rattle.tau_scan.specs.declared.log.Log.{Log}
 use Rattle.tau_scan.specs.Epochs.{marks_from}
 use Rattle.tau_scan.specs.Taken.{Kept, taken, is_taken_at}
 use Rattle.tau_epoch_laws.specs.Continues.{Continues, news, in_turn, Step, AreSteps}
-use Rattle.tau_epoch_laws.specs.Sound.{log_of_contents, fresh_log, MarksFit, Redoes, IsSound}
+use Rattle.tau_scan.specs.Reading.{log_of_contents}
+use Rattle.tau_scan.specs.Sound.{fresh_log, MarksFit, Redoes, IsSound}
 
 -- the record starts before the end of this log
 abbrev pub starts_in : Log → Kept → Bool

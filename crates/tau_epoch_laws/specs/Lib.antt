@@ -1,3 +1,2 @@
 pub mod Continues
-pub mod Sound
 pub mod Laws

@@ -5,6 +5,7 @@ pub mod ItemLaws
 pub mod Joining
 pub mod Loop
 pub mod RecordLaws
+pub mod RowLaws
 pub mod SizeLaws
 pub mod Spell
 pub mod VectorLaws

@@ -3,6 +3,7 @@ pub mod Field
 pub mod Format
 pub mod Item
 pub mod Record
+pub mod Rows
 pub mod Vector
 pub mod KeptWrites
 pub mod KeptLv

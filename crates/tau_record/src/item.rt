@@ -151,13 +151,13 @@ pub(crate) fn kept_writes_of<'a>(
         return Ok((KeptWrites::short(numbers), rest));
     }
     writes.clear();
-    let rest = writes_of(count, bytes, writes)?;
+    let rest = writes_of(u64::from(count), bytes, writes)?;
     Ok((KeptWrites::of(alloc, writes.as_slice())?, rest))
 }
 
 /// Reads so many writes into an empty list.
-fn writes_of<'a>(
-    count: u16,
+pub(crate) fn writes_of<'a>(
+    count: u64,
     bytes: &'a [u8],
     writes: &mut Vec<(Key, Value)>,
 ) -> Result<&'a [u8], FieldError>

@@ -1,9 +1,14 @@
 //! Laws of the spelling, of which the contracts of this crate speak.
+ghost use Rattle.std.specs.List.{flat_map};
 ghost use Rattle.std.specs.Prelude.{◌≡◌, ◌<◌, ◌≤◌, ◌+◌, ◌++◌, ◌∷◌, [], List, ℕ, Bool, true, false, Ok, length, take, drop};
 ghost use Rattle.tau_base.specs.Vectors.{AtMost};
+ghost use Rattle.tau_base.specs.declared.value.Key.{Key};
+ghost use Rattle.tau_base.specs.declared.value.Value.{Value};
 ghost use Rattle.tau_record.specs.Content.{anchors_of, last_epoch, named_behind, placed, Begins, IsContent, Reads};
 ghost use Rattle.tau_record.specs.Format.{Format, most_streams};
+ghost use Rattle.tau_record.specs.Item.{write};
 ghost use Rattle.tau_record.specs.Record.{named, spelling, AreVectors, Fits, IsNext, Spells, record_at};
+ghost use Rattle.tau_record.specs.Rows.{AreRows, IsRead};
 ghost use Rattle.tau_record.specs.Vector.{mask_of, above, decoded};
 ghost use Rattle.tau_record.specs.declared.entry.Entry.{Entry};
 ghost use Rattle.tau_record.specs.declared.entry.Entry.TheVariants.{Epoch};
@@ -90,4 +95,14 @@ pub fn epochs_rise()
 /// Each anchor of a content has a place for each stream.
 pub fn anchor_vectors()
     ensures { (f : Format) (n : ℕ) (content : List ℕ) (ps : List Placed) → IsContent f n content ps → AreVectors n (named n (anchors_of ps)) }
+{}
+
+/// Bytes begin with the spelling of so many rows in one way.
+pub fn one_reading_of_rows()
+    ensures { (count : ℕ) (bytes : List ℕ) (rows others : List (Key × Value)) (rest left : List ℕ) → IsRead count bytes rows rest → IsRead count bytes others left → (rows ≡ others) × (rest ≡ left) }
+{}
+
+/// The spelling of rows, whatever follows it, begins with them.
+pub fn rows_read_again()
+    ensures { (rows : List (Key × Value)) (rest : List ℕ) → AreRows rows → IsRead (length rows) (flat_map write rows ++ rest) rows rest }
 {}

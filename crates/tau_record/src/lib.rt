@@ -11,6 +11,7 @@ mod item;
 mod kind;
 mod laws;
 mod record;
+mod rows;
 mod vector;
 mod writes;
 
@@ -26,8 +27,9 @@ pub use fault::{RecordCause, RecordFault, RecordRefusal};
 pub use laws::{
     anchor_vectors, anchors_appended, appended_content, appended_record, decoded_vector,
     empty_content, epochs_appended, epochs_rise, first_epoch, first_record, named_anchors,
-    one_reading, one_spelling, read_again, record_in_place,
+    one_reading, one_reading_of_rows, one_spelling, read_again, record_in_place, rows_read_again,
 };
+pub use rows::{put_writes, read_writes};
 pub use tau_base::Format;
 pub use vector::{compress, compress_wide, raise};
 pub use writes::{KeptWrites, LentWrites};

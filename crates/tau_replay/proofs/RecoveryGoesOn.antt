@@ -30,7 +30,8 @@ use Rattle.tau_pool.proofs.Stages.{found_set}
 use Rattle.tau_pool.proofs.Opening.{of_log_after}
 use Rattle.tau_replay.specs.Course.{Course, IsPart}
 use Rattle.tau_replay.specs.Recovering.{IsOf, AreOf, left_in, IsAhead, IsGoingOn}
-use Rattle.tau_replay.specs.Redone.{taken_after, IsOrderOver, IsTangledOver, WaitsFor}
+use Rattle.tau_scan.specs.Sound.{IsOrderOver}
+use Rattle.tau_replay.specs.Redone.{taken_after, IsTangledOver, WaitsFor}
 use Rattle.tau_replay.proofs.Lists.{orderly_push, map_push, member_map, pushed, moved, redo_push, of_get, of_set, left_same, left_get, left_put, left_out}
 use Rattle.tau_replay.proofs.Starting.{of_after, part_covered}
 use Rattle.tau_base.proofs.Logic.{some_is}

@@ -10,6 +10,7 @@ use Rattle.tau_model.specs.Redo.{redo_contents}
 use Rattle.tau_model.specs.Tables.{IsTablesOf}
 use Rattle.tau_scan.specs.declared.log.Log.{Log}
 use Rattle.tau_scan.specs.Taken.{Kept, taken}
+use Rattle.tau_scan.specs.Sound.{IsOrderOver}
 use Rattle.tau_pool.specs.Items.{is_after}
 
 -- whether the record starts at or after what the vector has for its stream
@@ -20,12 +21,7 @@ kept_after from r = is_after from r.place.stream r.place.start
 abbrev pub taken_after : List ℕ → Log → List Kept
 taken_after from log = filter (kept_after from) (taken log)
 
--- the order has each of these records once, and none stands before a record on whose start its vector waits
-pub record IsOrderOver (records order : List Kept) : Type 0 where
-  pub each_once : Reordered records order
-  pub orderly : Orderly (map (λ (r : Kept). r.place) order)
-
--- the same of all taken records
+-- an orderly order of all taken records
 abbrev pub IsOrderOf : Log → List Kept → Type 0
 IsOrderOf log order = IsOrderOver (taken log) order
 

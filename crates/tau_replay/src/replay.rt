@@ -3,7 +3,8 @@ ghost use Rattle.std.specs.Prelude.{◌≡◌, ◌<◌, ◌≤◌, ◌++◌, [],
 ghost use Rattle.tau_model.specs.Store.{database};
 ghost use Rattle.tau_scan.specs.Reading.{IsLog};
 ghost use Rattle.tau_scan.specs.Taken.{Kept};
-ghost use Rattle.tau_replay.specs.Redone.{IsOrderOf, IsOrderOver, IsRedone, IsRedoneOn, IsTangledAt, IsTangledOver};
+ghost use Rattle.tau_scan.specs.Sound.{IsOrderOver};
+ghost use Rattle.tau_replay.specs.Redone.{IsOrderOf, IsRedone, IsRedoneOn, IsTangledAt, IsTangledOver};
 ghost use Rattle.tau_replay.specs.Course.{Course};
 ghost use Rattle.tau_pool.specs.Pooled.{IsNotYet, flying_in};
 ghost use Rattle.tau_replay.specs.Recovering.{IsHeld, IsHeldBy};

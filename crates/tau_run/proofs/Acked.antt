@@ -23,10 +23,10 @@ use Rattle.tau_core.specs.View.{setting_of}
 use Rattle.tau_scan.specs.declared.log.Log.{Log}
 use Rattle.tau_scan.specs.declared.fault.LogFault.{LogFault}
 use Rattle.tau_record.specs.declared.fault.RecordFault.{RecordFault}
-use Rattle.tau_scan.specs.Reading.{log_of}
+use Rattle.tau_scan.specs.Reading.{log_of, log_of_contents}
 use Rattle.tau_scan.specs.Taken.{kept_in}
 use Rattle.tau_run.specs.Run.{Committed, Run, acts, records_in, has_ack}
-use Rattle.tau_run.specs.RecoveredFacts.{catalogue_of, log_of_contents, takes}
+use Rattle.tau_run.specs.RecoveredFacts.{catalogue_of, takes}
 use Rattle.tau_run.specs.CoreRun.{IsLoadOf, IsRunOf}
 use Rattle.tau_run.specs.StopsLeave.{HasFront}
 use Rattle.tau_run.proofs.Closed.{Behind, behind}

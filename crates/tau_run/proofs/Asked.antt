@@ -10,8 +10,7 @@ use Rattle.tau_block.specs.Image.{Reading as ImageReading, HasContent, behind_he
 use Rattle.tau_record.specs.declared.entry.Placed.{Placed}
 use Rattle.tau_scan.specs.declared.log.Log.{Log}
 use Rattle.tau_scan.specs.declared.fault.LogFault.{LogFault}
-use Rattle.tau_scan.specs.Reading.{◌>>=◌, in_front, each_from, opened, recorded, records_of, contents_of, streams_of, declared_in, unless, epoch_fault, first_of, stated_by, or_roomy, asked_format, log_as, log_of}
-use Rattle.tau_run.specs.RecoveredFacts.{log_of_contents}
+use Rattle.tau_scan.specs.Reading.{◌>>=◌, in_front, each_from, opened, recorded, records_of, contents_of, streams_of, declared_in, unless, epoch_fault, first_of, stated_by, or_roomy, asked_format, log_as, log_of, log_of_contents}
 use Rattle.tau_run.proofs.Reading.{nothing_read}
 
 -- it has a content in this format, whatever its stream

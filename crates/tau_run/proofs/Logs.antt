@@ -18,13 +18,12 @@ use Rattle.tau_core.specs.declared.state.Load.{Load}
 use Rattle.tau_core.specs.View.{setting_of}
 use Rattle.tau_scan.specs.declared.log.Log.{Log}
 use Rattle.tau_scan.specs.declared.fault.LogFault.{LogFault}
-use Rattle.tau_scan.specs.Reading.{◌>>=◌, unless, recorded, records_of, streams_of, catalogue_in, declared_in, epoch_fault, declared_by, none_declared, or_none, catalogue_of as text_in}
+use Rattle.tau_scan.specs.Reading.{◌>>=◌, unless, recorded, records_of, streams_of, catalogue_in, declared_in, epoch_fault, declared_by, none_declared, or_none, catalogue_of as text_in, log_of_contents}
 use Rattle.tau_scan.specs.Epochs.{marks_from}
 use Rattle.tau_scan.specs.Taken.{Kept, kept_in, kept_from, taken}
 use Rattle.tau_scan.proofs.Listed.{taken_plain}
 use Rattle.tau_scan.proofs.Marks.{no_epoch_fault, no_marks}
 use Rattle.tau_scan.proofs.Streams.{map_get}
-use Rattle.tau_run.specs.RecoveredFacts.{log_of_contents}
 use Rattle.tau_run.proofs.Cuts.{ends_by}
 use Rattle.tau_run.proofs.Each.{EachOk, each_ok, one_catalogue}
 use Rattle.tau_run.proofs.Reading.{kept_of}

@@ -28,11 +28,11 @@ use Rattle.tau_core.specs.View.{setting_of, call_of}
 use Rattle.tau_core.specs.Pieces.{Spelled}
 use Rattle.tau_scan.specs.declared.log.Log.{Log}
 use Rattle.tau_scan.specs.declared.fault.LogFault.{LogFault}
-use Rattle.tau_scan.specs.Reading.{◌>>=◌, none_declared, each_from, opened, contents_of, log_as, log_of}
+use Rattle.tau_scan.specs.Reading.{◌>>=◌, none_declared, each_from, opened, contents_of, log_as, log_of, log_of_contents}
 use Rattle.tau_scan.specs.Taken.{Kept, kept_in, taken}
 use Rattle.tau_replay.specs.Redone.{IsOrderOf}
 use Rattle.tau_run.specs.Run.{Committed, Run, means, records_in, record_of}
-use Rattle.tau_run.specs.RecoveredFacts.{catalogue_of, log_of_contents, takes, IsRecovered}
+use Rattle.tau_run.specs.RecoveredFacts.{catalogue_of, takes, IsRecovered}
 use Rattle.tau_run.specs.CoreRun.{IsLoadOf, IsGiven, IsRunOf}
 use Rattle.tau_run.specs.StopsLeave.{IsLeft}
 use Rattle.tau_run.proofs.Asked.{asked_same}

@@ -17,10 +17,10 @@ use Rattle.tau_core.specs.State.{Plain}
 use Rattle.tau_core.specs.View.{setting_of, Hidden, core_of}
 use Rattle.tau_core.specs.Stands.{Stands}
 use Rattle.tau_scan.specs.declared.log.Log.{Log}
-use Rattle.tau_scan.specs.Reading.{log_of}
+use Rattle.tau_scan.specs.Reading.{log_of, log_of_contents}
 use Rattle.tau_scan.specs.Taken.{kept_in}
 use Rattle.tau_run.specs.Run.{Committed, Run, pair_of, IsHistory, acts, records_in, has_ack, vector_of, AllAcked}
-use Rattle.tau_run.specs.RecoveredFacts.{catalogue_of, log_of_contents, takes, IsRecovered}
+use Rattle.tau_run.specs.RecoveredFacts.{catalogue_of, takes, IsRecovered}
 use Rattle.tau_base.specs.declared.value.Call.{Call}
 use Rattle.tau_proc.specs.Takes.{takes as takes_call}
 use Rattle.tau_text.specs.Text.{workload_of}

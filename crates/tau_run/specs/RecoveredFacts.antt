@@ -15,8 +15,7 @@ use Rattle.tau_record.specs.declared.entry.Entry.TheVariants.{Catalogue}
 use Rattle.tau_record.specs.Format.{One}
 use Rattle.tau_record.specs.Record.{spelling}
 use Rattle.tau_scan.specs.declared.log.Log.{Log}
-use Rattle.tau_scan.specs.declared.fault.LogFault.{LogFault}
-use Rattle.tau_scan.specs.Reading.{◌>>=◌, none_declared, unless, contents_of, streams_of, declared_in, epoch_fault, log_of}
+use Rattle.tau_scan.specs.Reading.{none_declared, contents_of, log_of, log_of_contents}
 use Rattle.tau_scan.specs.Taken.{Kept, kept_in, taken}
 use Rattle.tau_replay.specs.Redone.{IsOrderOf}
 use Rattle.tau_run.specs.Run.{Committed, Run, acts, means, records_in, has_ack, vector_of, AllAcked}
@@ -24,11 +23,6 @@ use Rattle.tau_run.specs.Run.{Committed, Run, acts, means, records_in, has_ack, 
 -- the catalogue record of a workload's declarations, with which every stream begins; it is the same in each format
 abbrev pub catalogue_of : Workload → List ℕ
 catalogue_of load = spelling One [] (Catalogue (declarations_text load.declarations))
-
--- the log of these contents in a format, one for each stream, or the first cause why they hold none
-abbrev pub log_of_contents : Format → List (List ℕ) → Result Log LogFault
-log_of_contents f contents = streams_of f contents >>= λ streams. declared_in streams >>= λ declarations.
-    unless (epoch_fault streams) (record { elv = map length contents; declarations = declarations; streams = streams })
 
 -- one image of each stream
 abbrev pub AreFrom : (ℕ → List ℕ → Type 0) → ℕ → List (List ℕ) → Type 0

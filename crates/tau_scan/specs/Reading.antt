@@ -239,15 +239,20 @@ epochs_fault streams j (ps ∷ rest) = or_else (marks_fault streams j (marks_in 
 unfoldable pub epoch_fault : List (List Placed) → Option LogFault
 epoch_fault streams = epochs_fault streams 0 streams
 
--- The log of these images, one for each stream, of which those that are born are of this format, or the first cause why
--- they hold none: those of images, formats and counts by stream, then those of records by stream, then those of catalogues,
--- then those of epochs.
-unfoldable pub log_as : Format → List (List ℕ) → Result Log LogFault
-log_as f images = do
-  contents ← contents_of f images
+-- The log of these contents in a format, one for each stream, or the first cause why they hold none: those of records by
+-- stream, then those of catalogues, then those of epochs.
+abbrev pub log_of_contents : Format → List (List ℕ) → Result Log LogFault
+log_of_contents f contents = do
   streams ← streams_of f contents
   declarations ← declared_in streams
   unless (epoch_fault streams) (record { elv = map length contents; declarations = declarations; streams = streams })
+
+-- The log of these images, one for each stream, of which those that are born are of this format, or the first cause why
+-- they hold none: those of images, formats and counts by stream, then those of their contents.
+unfoldable pub log_as : Format → List (List ℕ) → Result Log LogFault
+log_as f images = do
+  contents ← contents_of f images
+  log_of_contents f contents
 
 -- the same, if this format is asked, or none
 abbrev pub log_of : Option Format → List (List ℕ) → Result Log LogFault

@@ -1,5 +1,5 @@
 -- Logs that a run may go on from.
-use Rattle.std.specs.Prelude.{ℕ, ◌≡◌, List, [], map, length, replicate, Result, Ok}
+use Rattle.std.specs.Prelude.{ℕ, ◌≡◌, List, [], map, replicate, Ok}
 use Rattle.tau_base.specs.Database.{Db, empty_db}
 use Rattle.tau_base.specs.Vectors.{AtMost}
 use Rattle.tau_base.specs.declared.format.Format.{Format}
@@ -7,16 +7,10 @@ use Rattle.tau_model.specs.History.{Member, Reordered}
 use Rattle.tau_model.specs.Logged.{Orderly}
 use Rattle.tau_model.specs.Redo.{redo_contents}
 use Rattle.tau_epoch.specs.Epochs.{Mark}
-use Rattle.tau_scan.specs.declared.fault.LogFault.{LogFault}
 use Rattle.tau_scan.specs.declared.log.Log.{Log}
-use Rattle.tau_scan.specs.Reading.{◌>>=◌, unless, none_declared, streams_of, declared_in, epoch_fault}
+use Rattle.tau_scan.specs.Reading.{none_declared, log_of_contents}
 use Rattle.tau_scan.specs.Epochs.{marks_of}
 use Rattle.tau_scan.specs.Taken.{Kept, taken}
-
--- the log of these contents, one for each stream, in a format, or the first cause why they hold none
-abbrev pub log_of_contents : Format → List (List ℕ) → Result Log LogFault
-log_of_contents f contents = streams_of f contents >>= λ streams. declared_in streams >>= λ declarations.
-    unless (epoch_fault streams) (record { elv = map length contents; declarations = declarations; streams = streams })
 
 -- the log of n streams without a record
 abbrev pub fresh_log : ℕ → Log
@@ -27,7 +21,7 @@ abbrev pub MarksFit : Log → Type 0
 MarksFit log = (m : Mark) → Member m (marks_of log) → AtMost m.lv log.elv
 
 -- the order has each record once, and none stands before a record on whose start its vector waits
-pub record IsOrderOf (records order : List Kept) : Type 0 where
+pub record IsOrderOver (records order : List Kept) : Type 0 where
   pub each_once : Reordered records order
   pub orderly : Orderly (map (λ (r : Kept). r.place) order)
 
@@ -37,8 +31,8 @@ redo_in log order db = redo_contents log.declarations.procs (map (λ (r : Kept).
 
 -- these records of the log have an orderly order, and each of theirs makes the second database of the first
 pub record Redoes (log : Log) (records : List Kept) (first second : Db) : Type 0 where
-  pub ordered : (order : List Kept) × IsOrderOf records order
-  pub alike : (order : List Kept) → IsOrderOf records order → redo_in log order first ≡ second
+  pub ordered : (order : List Kept) × IsOrderOver records order
+  pub alike : (order : List Kept) → IsOrderOver records order → redo_in log order first ≡ second
 
 -- The contents hold the log in a format, none of its epochs asks for more than they have, and what it takes redoes to this database,
 -- in any orderly order.
