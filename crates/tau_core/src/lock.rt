@@ -84,13 +84,10 @@ fn take_lock(state: &mut State, worker: usize, key: Key, mode: Mode) -> Acted
 {
     let part = &mut state.shards[usize::from(shard_of(key))];
     let seat = &mut state.seats[worker];
-    let mut dep = *seat.txn.dep_ref();
-    match part.lock_key(worker as u8, key, mode, &mut dep) {
-        Ok(()) => {
-            let row = part.row(key);
-            seat.txn.granted_by(row, &dep);
-            Acted::Went
-        }
+    // What it lends says how wide the call's vector is.
+    let _wide = seat.txn.dep_ref();
+    match seat.txn.lock_on(part, worker as u8, key, mode) {
+        Ok(()) => Acted::Went,
         Err(ShardRefusal::Busy { holder }) => {
             seat.txn.busy(&state.load.procs, holder);
             leave(seat, &state.load.procs);

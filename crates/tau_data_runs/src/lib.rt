@@ -1,4 +1,4 @@
-//! Values, procedures, records, blocks, outboxes, waiting calls, epochs and histories, as tests.
+//! Values, procedures, records, rows, blocks, outboxes, waiting calls, epochs and histories, as tests.
 #![tactic(auto)]
 
 #[cfg(test)]
@@ -19,5 +19,7 @@ mod outbox;
 mod proc;
 #[cfg(test)]
 mod record;
+#[cfg(test)]
+mod rows;
 #[cfg(test)]
 mod vectors;

@@ -1,7 +1,4 @@
 //! Refusals, and calls of source, sink and disks that fail.
-use crate::support::{
-    disks_of, do_at, ends, ends_with, failing_disks, had_calls, new_disks, tells, tells_anew,
-};
 use std::alloc::Global;
 use std::process::Abort;
 use std::sync::Wait;
@@ -9,6 +6,9 @@ use std::test::*;
 use std::thread::Threads;
 use tau_disk::{MemDisk, MemSink, MemSource, Quiet};
 use tau_engine::Status;
+use tau_engine_support::{
+    disks_of, do_at, ends, ends_with, failing_disks, had_calls, new_disks, tells, tells_anew,
+};
 use tau_text::TextCause;
 
 #[test]
@@ -134,7 +134,7 @@ fn a_text_at_the_limit(rt: HostRuntime) -> Result<(), Fail> {
         &mut disks,
     )?;
     assert_eq!(rt; sink.bytes(), b"fault 3 1 2\nfault 9\n".as_slice());
-    had_calls(&rt, &disks, 0, 0)
+    had_calls(&disks, 0, 0)
 }
 
 // This call of the source fails, and the run ends with it.
@@ -159,7 +159,7 @@ fn a_source_that_fails(rt: HostRuntime) -> Result<(), Fail> {
     cannot_read(&rt, alloc, 1, &mut sink, &mut disks)?;
     cannot_read(&rt, alloc, 2, &mut sink, &mut disks)?;
     assert_eq!(rt; sink.bytes(), b"fault 4\nfault 4\n".as_slice());
-    had_calls(&rt, &disks, 0, 0)
+    had_calls(&disks, 0, 0)
 }
 
 #[test]
@@ -196,7 +196,7 @@ fn finds_bytes<R: Threads + Wait + Sync + Abort>(
     let first = MemDisk::of_image(alloc, first)?;
     let mut disks = disks_of(alloc, first, MemDisk::of_image(alloc, second)?)?;
     tells(rt, alloc, "run 2 1", "table a\n", 8, line, &mut disks)?;
-    had_calls(rt, &disks, 0, 1)
+    had_calls(&disks, 0, 1)
 }
 
 #[test]
@@ -230,7 +230,7 @@ fn a_disk_that_fails_comes_before_one_that_is_not_empty(rt: HostRuntime) -> Resu
         "fault 6 1\n",
         &mut disks,
     )?;
-    had_calls(&rt, &disks, 0, 1)
+    had_calls(&disks, 0, 1)
 }
 
 // These calls of the first two disks are to fail, and the run ends with this line, after so many calls of that disk.
@@ -245,7 +245,7 @@ fn cannot_open<R: Threads + Wait + Sync + Abort>(
 ) -> Result<(), Fail> {
     let mut disks = failing_disks(alloc, first, second)?;
     tells(rt, alloc, "run 2 1", "table a\n", 6, line, &mut disks)?;
-    had_calls(rt, &disks, place, u64::from(call))
+    had_calls(&disks, place, u64::from(call))
 }
 
 #[test]
@@ -340,5 +340,5 @@ fn the_second_flush_fails(rt: HostRuntime) -> Result<(), Fail> {
     let wanted =
         "ack 1 53,0\nreply 1 none\nunsure 2 none\nunrun 3\norder 1\norder 2\nrow a 1 int 5\nrow a 2 int 6\nend 6 0\n";
     tells(&rt, alloc, "run 2 1", text, 6, wanted, &mut disks)?;
-    had_calls(&rt, &disks, 0, 13)
+    had_calls(&disks, 0, 13)
 }

@@ -1,5 +1,4 @@
 //! Runs by turns and runs of one call, and recoveries of what they left.
-use crate::support::{each_tells, ends, had_calls, holds, new_disks, tells, tells_anew};
 use std::alloc::Global;
 use std::process::Abort;
 use std::sync::Wait;
@@ -7,6 +6,7 @@ use std::test::*;
 use std::thread::Threads;
 use tau_disk::{MemDisk, MemSink, Tear};
 use tau_engine::Status;
+use tau_engine_support::{each_tells, ends, had_calls, holds, new_disks, tells, tells_anew};
 
 // A transfer between two rows, and its calls.
 static TRANSFERS: &str =
@@ -117,8 +117,8 @@ fn images_of_an_empty_run(rt: HostRuntime) -> Result<(), Fail> {
     let alloc = rt.alloc();
     let mut disks = new_disks(alloc)?;
     tells(&rt, alloc, "run 2 1", "", 0, "end 0\n", &mut disks)?;
-    holds(&rt, &disks, 0, EMPTY[0])?;
-    holds(&rt, &disks, 1, EMPTY[1])
+    holds(&disks, 0, EMPTY[0])?;
+    holds(&disks, 1, EMPTY[1])
 }
 
 static ONE_PUT: &str = "table a\nput a 1 5\n";
@@ -154,10 +154,10 @@ fn images_of_one_put(rt: HostRuntime) -> Result<(), Fail> {
     let alloc = rt.alloc();
     let mut disks = new_disks(alloc)?;
     runs(&rt, alloc, "run 2 1", ONE_PUT, &mut disks)?;
-    holds(&rt, &disks, 0, OF_ONE_PUT[0])?;
-    holds(&rt, &disks, 1, OF_ONE_PUT[1])?;
-    had_calls(&rt, &disks, 0, 11)?;
-    had_calls(&rt, &disks, 1, 7)
+    holds(&disks, 0, OF_ONE_PUT[0])?;
+    holds(&disks, 1, OF_ONE_PUT[1])?;
+    had_calls(&disks, 0, 11)?;
+    had_calls(&disks, 1, 7)
 }
 
 // The disk has so many bytes, and these from that place on.

@@ -1,8 +1,8 @@
 //! Runs that go on without a disk or a sink, and turns of actors that are not there.
-use crate::support::{ends_with, failing_disks, had_calls, new_disks, tells, tells_anew};
 use std::alloc::Global;
 use std::test::*;
 use tau_engine::Status;
+use tau_engine_support::{ends_with, failing_disks, had_calls, new_disks, tells, tells_anew};
 
 // Worker 0 holds the lock while worker 1 tries 64 times.
 fn sixty_four_tries(alloc: Global) -> Result<String, Fail> {
@@ -47,7 +47,7 @@ fn no_anchor_behind_a_failed_disk(rt: HostRuntime) -> Result<(), Fail> {
     let text = "table a\nput a 1 5\nput a 2 6\nturns w0 w0 w0 w0 w0 m0 a0 m0 a1 m1\n";
     let wanted = "unsure 1 none\nunrun 2\norder 1\nrow a 1 int 5\nend 6 0\n";
     tells(&rt, alloc, "run 2 2", text, 6, wanted, &mut disks)?;
-    had_calls(&rt, &disks, 0, 9)?;
+    had_calls(&disks, 0, 9)?;
     tells(
         &rt,
         alloc,
@@ -69,8 +69,8 @@ fn two_failed_disks_name_the_lower(rt: HostRuntime) -> Result<(), Fail> {
     let wanted =
         "unsure 1 none\nunsure 2 none\nunrun 3\norder 1\norder 2\nrow a 1 int 5\nrow a 2 int 6\nend 6 0\n";
     ends_with(&rt, alloc, "run 2 2", text, fault, &[], wanted, &mut disks)?;
-    had_calls(&rt, &disks, 0, 10)?;
-    had_calls(&rt, &disks, 1, 8)
+    had_calls(&disks, 0, 10)?;
+    had_calls(&disks, 1, 8)
 }
 
 // The sink gets nothing after the call that failed; the run goes on.

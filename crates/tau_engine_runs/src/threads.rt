@@ -1,8 +1,4 @@
 //! Runs of workloads without turns: in threads. What is told here is so under every schedule.
-use crate::support::{
-    disks_of, each_tells, ends_with, failing_disks, had_calls, has_line, holds, lines_from,
-    new_disks, tells, told,
-};
 use std::alloc::Global;
 use std::process::Abort;
 use std::sync::Wait;
@@ -10,6 +6,10 @@ use std::test::*;
 use std::thread::Threads;
 use tau_disk::{MemDisk, Tear};
 use tau_engine::Status;
+use tau_engine_support::{
+    disks_of, each_tells, ends_with, failing_disks, had_calls, has_line, holds, lines_from,
+    new_disks, tells, told,
+};
 
 // One worker begins its calls one after another, and its acknowledgements come in that order.
 #[test]
@@ -70,8 +70,8 @@ fn cut(alloc: Global, disks: &[MemDisk]) -> Result<Vec<MemDisk>, Fail> {
 fn independent_puts(rt: HostRuntime) -> Result<(), Fail> {
     let alloc = rt.alloc();
     let mut disks = put_independently(&rt, alloc)?;
-    holds(&rt, &disks, 0, PUTS[0])?;
-    holds(&rt, &disks, 1, PUTS[1])?;
+    holds(&disks, 0, PUTS[0])?;
+    holds(&disks, 1, PUTS[1])?;
     let both = "elv 53,53\ntaken 0 13 1\ntaken 1 13 2\nrow a 1 int 5\nrow a 2 int 6\nend 0\n";
     tells(&rt, alloc, "recover 2 2", "", 0, both, &mut disks)?;
     // Stream 0 without its call.
@@ -175,7 +175,7 @@ fn a_failed_disk_ends_a_run_in_threads(rt: HostRuntime) -> Result<(), Fail> {
         wanted,
         &mut disks,
     )?;
-    had_calls(&rt, &disks, 0, 8)
+    had_calls(&disks, 0, 8)
 }
 
 // A sink that fails its first call gets nothing more; the run goes on.

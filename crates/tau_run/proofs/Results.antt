@@ -5,6 +5,7 @@ use Rattle.tau_base.specs.declared.value.LogMode.{LogMode}
 use Rattle.tau_base.specs.Modes.{format_of}
 use Rattle.tau_core.specs.View.{setting_of}
 use Rattle.tau_run.specs.Run.{records_in, has_ack}
+use Rattle.tau_scan.specs.Reading.{log_of_contents}
 use Rattle.tau_run.specs.RecoveredFacts.{IsRecovered}
 use Rattle.tau_run.specs.Laws.{RunIsThere, RunIsHistory, ContentsAreRecords, ImagesAreRecovered, AckedIsTaken, EndsWell, NothingIsLost}
 use Rattle.tau_run.proofs.Acked.{whole, acked_taken}

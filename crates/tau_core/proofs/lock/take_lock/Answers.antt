@@ -6,17 +6,18 @@ use Rattle.tau_base.specs.declared.limits.TheConstants.{SHARDS}
 use Rattle.tau_base.specs.Shards.{shard_number}
 use Rattle.tau_txn.specs.declared.action.Action.{Action}
 use Rattle.tau_txn.specs.declared.action.Action.TheVariants as action
-use Rattle.tau_txn.specs.Next.{IsLock}
-use Rattle.tau_txn.specs.Steps.{locked_with}
-use Rattle.tau_machine.specs.Shard.{Entry, Shard, entry_in}
-use Rattle.tau_machine.specs.Worker.{hand_busy, hand_locked, settled}
+use Rattle.tau_txn.specs.Next.{IsLock, next_action}
+use Rattle.tau_txn.specs.Txn.{PlainTxn, dep_in, hand_in, worker_of}
+use Rattle.tau_machine.specs.Shard.{Entry, entry_in}
+use Rattle.tau_machine.specs.Hands.{Hand}
+use Rattle.tau_machine.specs.Worker.{Worker, hand_busy, hand_locked, settled}
 use Rattle.tau_machine.specs.Pieces.{placed_of}
 use Rattle.tau_shard.specs.Read.{shard_of}
 use Rattle.tau_shard.specs.Blocks.{dep_locked, IsLowest, RefusedBy}
 use Rattle.tau_shard.specs.declared.entry.ShardRefusal.{ShardRefusal}
 use Rattle.tau_core.specs.Plain.{PlainSeat}
 use Rattle.tau_core.specs.State.{Plain, plain}
-use Rattle.tau_core.proofs.Found.{seat_in, found_seat, found_whole, found_shard}
+use Rattle.tau_core.proofs.Found.{seat_in, found_seat, found_shard}
 use Rattle.tau_core.proofs.Lists.{set_got}
 use Rattle.tau_core.proofs.Hands.{shown_dep, some_hand, locked_alike, locked_wide, sound_on, entry_narrow}
 use Rattle.tau_core.proofs.Leaving.{leaving}
@@ -24,38 +25,19 @@ use Rattle.tau_core.proofs.PhaseLaws.{means_phase}
 use Rattle.tau_core.proofs.lock.take_lock.Goals as goal
 use Rattle.tau_machine.proofs.Leads.{locked_call, locked_phase}
 
-pub dep_ref-requires : goal.dep_ref-requires
-dep_ref-requires c =
+pub dep_ref-wide-requires : goal.dep_ref-wide-requires
+dep_ref-wide-requires c =
     let is = found_seat c.args.state.now c.args.worker c.index_mut-seat.result.now c.seat.inside c.requires.sound c.requires.there c.index_mut-seat.ensures.value c.seat.view_is in
     let m = (c.requires.wants (seat_in c.seat.inside) is).1 in
     some_hand c.args.state.now.load.procs c.seat.inside.txn m.hand m.is
 
-pub granted_by-requires-clause-lock : goal.granted_by-requires-clause-lock
-granted_by-requires-clause-lock c =
+pub lock_on-requires-clause-lock : goal.lock_on-requires-clause-lock
+lock_on-requires-clause-lock c =
     let is = found_seat c.args.state.now c.args.worker c.index_mut-seat.result.now c.seat.inside c.requires.sound c.requires.there c.index_mut-seat.ensures.value c.seat.view_is in
-    let o = c.requires.sound.seat c.args.worker (seat_in c.seat.inside) is in
-    let wants = c.requires.wants (seat_in c.seat.inside) is in
-    let m = wants.1 in
-    subst (λ (a : Action). IsLock a) (sym wants.0) tt
+    (c.requires.wants (seat_in c.seat.inside) is).0
 
-pub busy-requires-clause-lock : goal.busy-requires-clause-lock
-busy-requires-clause-lock c =
-    let is = found_seat c.args.state.now c.args.worker c.index_mut-seat.result.now c.seat.inside c.requires.sound c.requires.there c.index_mut-seat.ensures.value c.seat.view_is in
-    let o = c.requires.sound.seat c.args.worker (seat_in c.seat.inside) is in
-    let wants = c.requires.wants (seat_in c.seat.inside) is in
-    let m = wants.1 in
-    subst (λ (a : Action). IsLock a) (sym wants.0) tt
-
-pub busy-requires-clause-run : goal.busy-requires-clause-run
-busy-requires-clause-run c =
-    let is = found_seat c.args.state.now c.args.worker c.index_mut-seat.result.now c.seat.inside c.requires.sound c.requires.there c.index_mut-seat.ensures.value c.seat.view_is in
-    let o = c.requires.sound.seat c.args.worker (seat_in c.seat.inside) is in
-    let wants = c.requires.wants (seat_in c.seat.inside) is in
-    let m = wants.1 in
-    o.txn.runs
-
-pub granted_by-requires-clause-wide : goal.granted_by-requires-clause-wide
-granted_by-requires-clause-wide c =
+pub lock_on-requires-clause-wide : goal.lock_on-requires-clause-wide
+lock_on-requires-clause-wide c =
     let is = found_seat c.args.state.now c.args.worker c.index_mut-seat.result.now c.seat.inside c.requires.sound c.requires.there c.index_mut-seat.ensures.value c.seat.view_is in
     let o = c.requires.sound.seat c.args.worker (seat_in c.seat.inside) is in
     let wants = c.requires.wants (seat_in c.seat.inside) is in
@@ -66,9 +48,20 @@ granted_by-requires-clause-wide c =
     let shard_is = subst (λ (n : ℕ). slice_get c.args.state.now.shards.items n ≡ Some c.index_mut-part.result.now) number shard in
     let entry : Entry = entry_in (shard_of c.index_mut-part.result.now) c.args.key in
     let narrow = entry_narrow c.args.state.now.load (shard_of c.index_mut-part.result.now) c.args.key (c.requires.sound.narrow c.from.result c.index_mut-part.result.now shard) in
-    let wide : length (dep_locked c.args.mode c.dep_ref.result.now entry) ≡ c.seat.inside.txn.width =
-    locked_wide c.args.mode c.seat.inside.txn.width c.dep_ref.result.now entry c.dep_ref.ensures.wide (let a = narrow.0 in let b = o.txn.width in omega arith) (let a = narrow.1 in let b = o.txn.width in omega arith) in
-    ap length c.in-Ok.ensures.joined ∙ wide
+    let wide : length (dep_in c.seat.inside.txn) ≡ c.seat.inside.txn.width = ap length (sym c.dep_ref-wide.ensures.dep) ∙ c.dep_ref-wide.ensures.wide in
+    locked_wide c.args.mode c.seat.inside.txn.width (dep_in c.seat.inside.txn) entry wide (let a = narrow.0 in let b = o.txn.width in omega arith) (let a = narrow.1 in let b = o.txn.width in omega arith)
+
+pub busy-requires-clause-lock : goal.busy-requires-clause-lock
+busy-requires-clause-lock c =
+    let is = found_seat c.args.state.now c.args.worker c.index_mut-seat.result.now c.seat.inside c.requires.sound c.requires.there c.index_mut-seat.ensures.value c.seat.view_is in
+    let before : IsLock (next_action c.seat.inside.txn) = subst (λ (a : Action). IsLock a) (sym (c.requires.wants (seat_in c.seat.inside) is).0) tt in
+    subst (λ (t : PlainTxn). IsLock (next_action t)) (sym c.in-Err-Busy.ensures.as_before) before
+
+pub busy-requires-clause-run : goal.busy-requires-clause-run
+busy-requires-clause-run c =
+    let is = found_seat c.args.state.now c.args.worker c.index_mut-seat.result.now c.seat.inside c.requires.sound c.requires.there c.index_mut-seat.ensures.value c.seat.view_is in
+    let o = c.requires.sound.seat c.args.worker (seat_in c.seat.inside) is in
+    c.lock_on.ensures.runs c.args.state.now.load.procs o.txn.runs
 
 pub leave-requires-clause-room : goal.leave-requires-clause-room
 leave-requires-clause-room c =
@@ -91,12 +84,10 @@ returns-in-Ok c =
     let entry : Entry = entry_in (shard_of c.index_mut-part.result.now) c.args.key in
     let p : Plain = plain c.args.state.now in
     let row : Value = (shard_of c.index_mut-part.result.now).rows c.args.key in
-    let new : PlainSeat = record (seat_in c.seat.inside) { txn = c.granted_by.new.self } in
-    let dep : c.lock_key.new.dep ≡ dep_locked c.args.mode m.hand.dep entry =
-    c.in-Ok.ensures.joined ∙ ap (λ (d : List ℕ). dep_locked c.args.mode d entry) (c.dep_ref.ensures.dep ∙ shown_dep c.args.state.now.load.procs c.seat.inside.txn m.hand m.is) in
-    let lent = c.row-row.ensures ∙ ap (λ (t : Shard). t.rows c.args.key) c.in-Ok.ensures.locked in
-    let granted = c.granted_by.ensures.locked c.args.state.now.load.procs m.hand c.args.key c.args.mode o.txn.runs wants.0 m.is
-    ∙ ap Some (ap (λ (v : Value). locked_with m.hand c.args.key c.args.mode v c.lock_key.new.dep) lent ∙ locked_alike m.hand c.args.key c.args.mode row c.lock_key.new.dep entry dep) in
+    let new : PlainSeat = record (seat_in c.seat.inside) { txn = c.lock_on.new.self } in
+    let dep : dep_locked c.args.mode (dep_in c.seat.inside.txn) entry ≡ dep_locked c.args.mode m.hand.dep entry =
+    ap (λ (d : List ℕ). dep_locked c.args.mode d entry) (shown_dep c.args.state.now.load.procs c.seat.inside.txn m.hand m.is) in
+    let granted = c.in-Ok.ensures.step.is c.args.state.now.load.procs m.hand o.txn.runs m.is ∙ ap Some (locked_alike m.hand c.args.key c.args.mode row (dep_locked c.args.mode (dep_in c.seat.inside.txn) entry) entry dep) in
     record {
       value = row;
       is = record {
@@ -106,19 +97,19 @@ returns-in-Ok c =
         key = c.args.key;
         mode = c.args.mode;
         new = new;
-        locked = c.lock_key.new.self;
+        locked = c.lock_on.new.shard;
         is = is;
         shard_is = shard_is;
         wants = record { is = m.is; phase = m.phase; next = m.next };
-        free = c.in-Ok.ensures.free;
+        free = c.in-Ok.ensures.step.free;
         value_is = refl;
-        locks = c.in-Ok.ensures.locked;
+        locks = c.in-Ok.ensures.step.locked;
         granted = granted;
         others = refl;
-        sound = sound_on c.args.state.now.load c.args.worker (seat_in c.seat.inside) new m.hand (hand_locked m.hand c.args.key c.args.mode row entry.write_lv entry.read_lv) o m.is refl c.granted_by.ensures.same granted
-            (locked_call m.hand c.args.key c.args.mode row entry.write_lv entry.read_lv) (c.granted_by.ensures.runs c.args.state.now.load.procs o.txn.runs) (c.granted_by.ensures.stays o.txn.leaving)
+        sound = sound_on c.args.state.now.load c.args.worker (seat_in c.seat.inside) new m.hand (hand_locked m.hand c.args.key c.args.mode row entry.write_lv entry.read_lv) o m.is refl c.lock_on.ensures.same granted
+            (locked_call m.hand c.args.key c.args.mode row entry.write_lv entry.read_lv) (c.lock_on.ensures.runs c.args.state.now.load.procs o.txn.runs) (c.lock_on.ensures.stays o.txn.leaving)
             (ap placed_of (locked_phase m.hand c.args.key c.args.mode row entry.write_lv entry.read_lv ∙ m.phase));
-        after = ap (λ (n : ℕ). record p { seats = slice_set p.seats c.args.worker new; shards = slice_set p.shards n c.lock_key.new.self }) number;
+        after = ap (λ (n : ℕ). record p { seats = slice_set p.seats c.args.worker new; shards = slice_set p.shards n c.lock_on.new.shard }) number;
       };
     }
 
@@ -134,8 +125,11 @@ returns-in-Err-Busy c =
     let shard_is = subst (λ (n : ℕ). slice_get c.args.state.now.shards.items n ≡ Some c.index_mut-part.result.now) number shard in
     let entry : Entry = entry_in (shard_of c.index_mut-part.result.now) c.args.key in
     let p : Plain = plain c.args.state.now in
-    let settles = leaving c.args.state.now.load c.args.worker (seat_in c.seat.inside) c.leave.new.seat m.hand (hand_busy m.hand) c.busy.new.self o m.is refl refl c.busy.ensures.same
-    (λ wk. c.busy.ensures.busy wk m.hand m.is ∙ ap (λ (n : ℕ). settled n wk (hand_busy m.hand)) o.txn.width) c.busy.ensures.runs (c.busy.ensures.stays o.txn.leaving) c.leave.ensures in
+    let kept = c.in-Err-Busy.ensures.as_before in
+    let same : c.busy.new.self ≡ record c.seat.inside.txn { hand = c.busy.new.self.hand } = subst (λ (t : PlainTxn). c.busy.new.self ≡ record t { hand = c.busy.new.self.hand }) kept c.busy.ensures.same in
+    let busy = subst (λ (t : PlainTxn). (x : Worker) (h : Hand) → hand_in c.args.state.now.load.procs t ≡ Some h → worker_of c.args.state.now.load.procs x c.busy.new.self ≡ settled t.width x (hand_busy h)) kept c.busy.ensures.busy in
+    let settles = leaving c.args.state.now.load c.args.worker (seat_in c.seat.inside) c.leave.new.seat m.hand (hand_busy m.hand) c.busy.new.self o m.is refl refl same
+    (λ wk. busy wk m.hand m.is ∙ ap (λ (n : ℕ). settled n wk (hand_busy m.hand)) o.txn.width) c.busy.ensures.runs (c.busy.ensures.stays (c.lock_on.ensures.stays o.txn.leaving)) c.leave.ensures in
     let refused = c.in-Err-Busy.ensures.refused in
     record {
       value = Absent;
@@ -146,7 +140,7 @@ returns-in-Err-Busy c =
         key = c.args.key;
         mode = c.args.mode;
         new = c.leave.new.seat;
-        kept = c.lock_key.new.self;
+        kept = c.lock_on.new.shard;
         is = is;
         shard_is = shard_is;
         kept_is = c.in-Err-Busy.ensures.unchanged;
@@ -155,14 +149,14 @@ returns-in-Err-Busy c =
         settles = settles.worker;
         keeps = settles.keeps;
         sound = settles.sound;
-        after = ap (λ (n : ℕ). record p { seats = slice_set p.seats c.args.worker c.leave.new.seat; shards = slice_set p.shards n c.lock_key.new.self }) number;
+        after = ap (λ (n : ℕ). record p { seats = slice_set p.seats c.args.worker c.leave.new.seat; shards = slice_set p.shards n c.lock_on.new.shard }) number;
       };
     }
 
 pub returns-in-Err-NoMemory : goal.returns-in-Err-NoMemory
 returns-in-Err-NoMemory c =
     let p : Plain = plain c.args.state.now in
-    let is = found_whole c.args.state.now c.args.worker c.index_mut-seat.result.now c.requires.sound c.requires.there c.index_mut-seat.ensures.value in
+    let is = found_seat c.args.state.now c.args.worker c.index_mut-seat.result.now c.seat.inside c.requires.sound c.requires.there c.index_mut-seat.ensures.value c.seat.view_is in
     let below : c.from.result < SHARDS = (let e = c.from.ensures in let f = c.shard_of.ensures.small in omega arith) in
     let shard = found_shard c.args.state.now c.from.result c.index_mut-part.result.now c.requires.sound below c.index_mut-part.ensures.value in
     let number : c.from.result ≡ shard_number c.args.key = c.from.ensures ∙ c.shard_of.ensures.same in
@@ -174,10 +168,11 @@ returns-in-Err-NoMemory c =
         record {
           i = c.from.result;
           shard = c.index_mut-part.result.now;
-          kept = c.lock_key.new.self;
+          kept = c.lock_on.new.shard;
           is = shard;
           kept_is = c.in-Err-NoMemory.ensures.unchanged;
-          after = ap (λ (l : List PlainSeat). record p { seats = l; shards = slice_set p.shards c.from.result c.lock_key.new.self }) (set_got c.args.state.now.seats.items c.args.worker c.index_mut-seat.result.now is);
+          after = ap (λ (t : PlainTxn). record p { seats = slice_set p.seats c.args.worker (record (seat_in c.seat.inside) { txn = t }); shards = slice_set p.shards c.from.result c.lock_on.new.shard }) c.in-Err-NoMemory.ensures.as_before
+              ∙ ap (λ (l : List PlainSeat). record p { seats = l; shards = slice_set p.shards c.from.result c.lock_on.new.shard }) (set_got c.args.state.now.seats.items c.args.worker (seat_in c.seat.inside) is);
         },
         λ s e.
             let o = c.requires.sound.seat c.args.worker s e in

@@ -1,5 +1,4 @@
 //! Drills: rehearsed crashes.
-use crate::support::{ends_with, has_line, new_disks, tells_anew, told_anew};
 use std::alloc::Global;
 use std::process::Abort;
 use std::sync::Wait;
@@ -7,6 +6,7 @@ use std::test::*;
 use std::thread::Threads;
 use tau_disk::{MemDisk, Tear};
 use tau_engine::Status;
+use tau_engine_support::{ends_with, has_line, new_disks, tells_anew, told_anew};
 
 static ONE_PUT: &str = "table a\nput a 1 5\n";
 

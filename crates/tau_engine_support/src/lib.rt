@@ -1,7 +1,11 @@
-//! What the tests share: a call of the program over memory forms, and what it is to tell. None of it has a clause, so
+//! What tests of the program share: a call of it over memory forms, and what it is to tell. None of it has a clause, so
 //! that a call of it costs a test little to prove.
+#![tactic(auto)]
+
+ghost use Rattle.std.specs.Prelude.{◌≡◌, OnOk};
+
 use std::alloc::Global;
-use std::process::Abort;
+use std::str;
 use std::sync::Wait;
 use std::test::Fail;
 use std::thread::Threads;
@@ -9,11 +13,7 @@ use tau_disk::{Gate, MemDisk, MemSink, MemSource, Quiet, Tear};
 use tau_engine::{Status, taurus};
 
 /// Thirty-two disks, of which these are the first two.
-pub(crate) fn disks_of(
-    alloc: Global,
-    first: MemDisk,
-    second: MemDisk,
-) -> Result<Vec<MemDisk>, Fail> {
+pub fn disks_of(alloc: Global, first: MemDisk, second: MemDisk) -> Result<Vec<MemDisk>, Fail> {
     let mut disks = Vec::new(alloc);
     disks.push(first)?;
     disks.push(second)?;
@@ -24,11 +24,7 @@ pub(crate) fn disks_of(
 }
 
 /// Thirty-two new disks; these calls of the first two are to fail.
-pub(crate) fn failing_disks(
-    alloc: Global,
-    first: &[u32],
-    second: &[u32],
-) -> Result<Vec<MemDisk>, Fail> {
+pub fn failing_disks(alloc: Global, first: &[u32], second: &[u32]) -> Result<Vec<MemDisk>, Fail> {
     disks_of(
         alloc,
         MemDisk::new(alloc, first)?,
@@ -37,7 +33,7 @@ pub(crate) fn failing_disks(
 }
 
 /// Thirty-two new disks.
-pub(crate) fn new_disks(alloc: Global) -> Result<Vec<MemDisk>, Fail> {
+pub fn new_disks(alloc: Global) -> Result<Vec<MemDisk>, Fail> {
     failing_disks(alloc, &[], &[])
 }
 
@@ -53,7 +49,7 @@ fn words_of(alloc: Global, line: &str) -> Result<Vec<String>, Fail> {
 }
 
 /// Does what these words say, over this source, with this gate. It takes thirty-two disks.
-pub(crate) fn do_at<R: Threads + Wait + Sync, G: Gate + Sync>(
+pub fn do_at<R: Threads + Wait + Sync, G: Gate + Sync>(
     rt: &R,
     alloc: Global,
     line: &str,
@@ -83,12 +79,7 @@ fn do_words<R: Threads + Wait + Sync>(
 }
 
 /// What a sink got from a call that ended so, where that is this code.
-pub(crate) fn bytes_of(
-    alloc: Global,
-    sink: &MemSink,
-    status: Status,
-    code: u8,
-) -> Result<Vec<u8>, Fail> {
+pub fn bytes_of(alloc: Global, sink: &MemSink, status: Status, code: u8) -> Result<Vec<u8>, Fail> {
     let bytes = if status.code() == code {
         sink.bytes()
     } else {
@@ -98,7 +89,7 @@ pub(crate) fn bytes_of(
 }
 
 /// What the call wrote, where it ended with this code.
-pub(crate) fn told<R: Threads + Wait + Sync>(
+pub fn told<R: Threads + Wait + Sync>(
     rt: &R,
     alloc: Global,
     line: &str,
@@ -112,7 +103,7 @@ pub(crate) fn told<R: Threads + Wait + Sync>(
 }
 
 /// The same on new disks.
-pub(crate) fn told_anew<R: Threads + Wait + Sync>(
+pub fn told_anew<R: Threads + Wait + Sync>(
     rt: &R,
     alloc: Global,
     line: &str,
@@ -123,8 +114,19 @@ pub(crate) fn told_anew<R: Threads + Wait + Sync>(
     told(rt, alloc, line, text, code, &mut disks)
 }
 
+/// What was written is what is wanted. The failure says what was.
+fn is_wanted(line: &str, got: &[u8], wanted: &[u8]) -> Result<(), Fail>
+    ensures { OnOk result (got.now ≡ wanted.now) }
+{
+    if got == wanted {
+        return Ok(());
+    }
+    let text = str::from_utf8(got).unwrap_or("no text");
+    Err(Fail::new(format_args!("{line}: {text}")))
+}
+
 /// The call ends with this code, and writes what is wanted.
-pub(crate) fn tells<R: Threads + Wait + Sync + Abort>(
+pub fn tells<R: Threads + Wait + Sync>(
     rt: &R,
     alloc: Global,
     line: &str,
@@ -134,12 +136,11 @@ pub(crate) fn tells<R: Threads + Wait + Sync + Abort>(
     disks: &mut Vec<MemDisk>,
 ) -> Result<(), Fail> {
     let got = told(rt, alloc, line, text.as_bytes(), code, disks)?;
-    assert_eq!(rt; got.as_slice(), wanted.as_bytes(), "{line}");
-    Ok(())
+    is_wanted(line, got.as_slice(), wanted.as_bytes())
 }
 
 /// The same on new disks.
-pub(crate) fn tells_anew<R: Threads + Wait + Sync + Abort>(
+pub fn tells_anew<R: Threads + Wait + Sync>(
     rt: &R,
     alloc: Global,
     line: &str,
@@ -148,12 +149,11 @@ pub(crate) fn tells_anew<R: Threads + Wait + Sync + Abort>(
     wanted: &str,
 ) -> Result<(), Fail> {
     let got = told_anew(rt, alloc, line, text.as_bytes(), code)?;
-    assert_eq!(rt; got.as_slice(), wanted.as_bytes(), "{line}");
-    Ok(())
+    is_wanted(line, got.as_slice(), wanted.as_bytes())
 }
 
 /// Each of these texts, on new disks, ends well and makes the words write what stands beside it.
-pub(crate) fn each_tells<R: Threads + Wait + Sync + Abort>(
+pub fn each_tells<R: Threads + Wait + Sync>(
     rt: &R,
     alloc: Global,
     line: &str,
@@ -166,7 +166,7 @@ pub(crate) fn each_tells<R: Threads + Wait + Sync + Abort>(
 }
 
 /// The call writes into the sink, and ends so.
-pub(crate) fn ends<R: Threads + Wait + Sync + Abort>(
+pub fn ends<R: Threads + Wait + Sync>(
     rt: &R,
     alloc: Global,
     line: &str,
@@ -176,12 +176,14 @@ pub(crate) fn ends<R: Threads + Wait + Sync + Abort>(
     disks: &mut Vec<MemDisk>,
 ) -> Result<(), Fail> {
     let got = do_words(rt, alloc, line, text, sink, disks)?;
-    assert!(rt; got == status, "{line}");
+    if got != status {
+        return Err(Fail::new(format_args!("{line}: another status")));
+    }
     Ok(())
 }
 
 /// The call ends so with a sink of which these calls fail, and that sink gets what is wanted.
-pub(crate) fn ends_with<R: Threads + Wait + Sync + Abort>(
+pub fn ends_with<R: Threads + Wait + Sync>(
     rt: &R,
     alloc: Global,
     line: &str,
@@ -193,37 +195,31 @@ pub(crate) fn ends_with<R: Threads + Wait + Sync + Abort>(
 ) -> Result<(), Fail> {
     let mut sink = MemSink::new(alloc, failing)?;
     ends(rt, alloc, line, text.as_bytes(), status, &mut sink, disks)?;
-    assert_eq!(rt; sink.bytes(), wanted.as_bytes(), "{line}");
-    Ok(())
+    is_wanted(line, sink.bytes(), wanted.as_bytes())
 }
 
 /// The disk in this place has had so many calls.
-pub(crate) fn had_calls(
-    rt: &impl Abort,
-    disks: &[MemDisk],
-    place: usize,
-    calls: u64,
-) -> Result<(), Fail> {
+pub fn had_calls(disks: &[MemDisk], place: usize, calls: u64) -> Result<(), Fail> {
     let disk = disks.get(place).ok_or("no disk")?;
-    assert_eq!(rt; disk.calls(), calls, "disk {place}");
+    let had = disk.calls();
+    if had != calls {
+        return Err(Fail::new(format_args!("disk {place} had {had} calls")));
+    }
     Ok(())
 }
 
 /// The disk in this place holds this image.
-pub(crate) fn holds(
-    rt: &impl Abort,
-    disks: &[MemDisk],
-    place: usize,
-    wanted: &[u8],
-) -> Result<(), Fail> {
+pub fn holds(disks: &[MemDisk], place: usize, wanted: &[u8]) -> Result<(), Fail> {
     let disk = disks.get(place).ok_or("no disk")?;
     let image = disk.image(Tear::Old)?;
-    assert_eq!(rt; image.as_slice(), wanted, "disk {place}");
+    if image.as_slice() != wanted {
+        return Err(Fail::new(format_args!("disk {place} holds another image")));
+    }
     Ok(())
 }
 
 /// Whether the text has the line.
-pub(crate) fn has_line(text: &[u8], line: &[u8]) -> bool {
+pub fn has_line(text: &[u8], line: &[u8]) -> bool {
     for at in 0..text.len() {
         if text[at..].starts_with(line) {
             return true;
@@ -233,7 +229,7 @@ pub(crate) fn has_line(text: &[u8], line: &[u8]) -> bool {
 }
 
 /// How many lines of the text begin with these bytes.
-pub(crate) fn lines_from(text: &[u8], start: &[u8]) -> u64 {
+pub fn lines_from(text: &[u8], start: &[u8]) -> u64 {
     let mut count = 0u64;
     let mut begins = true;
     for at in 0..text.len() {

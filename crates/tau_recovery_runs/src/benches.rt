@@ -1,5 +1,4 @@
 //! The measured job.
-use crate::support::{do_at, ends_with, new_disks, tells, tells_anew};
 use std::alloc::Global;
 use std::process::Abort;
 use std::sync::Wait;
@@ -8,6 +7,7 @@ use std::test::*;
 use std::thread::Threads;
 use tau_disk::{Gate, MemDisk, MemSink, MemSource, Place};
 use tau_engine::Status;
+use tau_engine_support::{do_at, ends_with, new_disks, tells, tells_anew};
 
 // Row r holds 20 * (1 + ((3 * r + 9) mod 10)); the digest is that of these thousand lines, by another program.
 #[test]

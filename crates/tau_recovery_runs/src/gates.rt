@@ -1,6 +1,5 @@
 //! Calls of the program whose places are held until others were reached.
 use crate::recoveries::{APART, FIRST, image_of};
-use crate::support::{bytes_of, disks_of, do_at, has_line, new_disks};
 use std::alloc::Global;
 use std::process::Abort;
 use std::sync::Wait;
@@ -9,6 +8,7 @@ use std::test::*;
 use std::thread;
 use std::thread::Threads;
 use tau_disk::{Gate, MemDisk, MemSink, MemSource, Place, Tear};
+use tau_engine_support::{bytes_of, disks_of, do_at, has_line, new_disks};
 
 // Holds the first record of each of two workers until the other's was reached.
 #[derive(Drop)]

@@ -1,11 +1,11 @@
 //! Recoveries of images that are given.
-use crate::support::{disks_of, tells};
 use std::alloc::Global;
 use std::process::Abort;
 use std::sync::Wait;
 use std::test::*;
 use std::thread::Threads;
 use tau_disk::MemDisk;
+use tau_engine_support::{disks_of, tells};
 
 // The image of stream `j` of `n` in the format with this digit, with the catalogue of table a and these records after it.
 fn image_in(alloc: Global, digit: u8, n: u8, j: u8, records: &[u8]) -> Result<MemDisk, Fail> {
@@ -237,8 +237,7 @@ fn logs_of_many_streams(rt: HostRuntime) -> Result<(), Fail> {
     for j in 0u8..32 {
         disks.push(last_born(alloc, j)?)?;
     }
-    let wanted =
-        "elv 0,0,0,0,0,0,0,0,0,0,0,0,0,0,0,0,55\ntaken 16 13 1\nrow a 1 int 5\nend 0\n";
+    let wanted = "elv 0,0,0,0,0,0,0,0,0,0,0,0,0,0,0,0,55\ntaken 16 13 1\nrow a 1 int 5\nend 0\n";
     tells(&rt, alloc, "recover 17 3", "", 0, wanted, &mut disks)
 }
 
