@@ -1,0 +1,7 @@
+//! Slots of checkpoints that are read and written, as tests.
+#![tactic(auto)]
+
+#[cfg(test)]
+mod slots;
+#[cfg(test)]
+mod stops;
