@@ -141,7 +141,7 @@ other_ok first text j (None ∷ xs) c e =
 other_ok first text j (Some found ∷ xs) c e = other_test first text j found xs c (other_ok first text (suc j) xs c) (bytes_eq text found) refl e
 
 -- the one catalogue is that of each stream that has one
-catalogue_ok : (j : ℕ) (xs : List (Option (List ℕ))) (c : Option (List ℕ)) → catalogue_from j xs ≡ Ok c → (t : List ℕ) → Member (Some t) xs → c ≡ Some t
+pub catalogue_ok : (j : ℕ) (xs : List (Option (List ℕ))) (c : Option (List ℕ)) → catalogue_from j xs ≡ Ok c → (t : List ℕ) → Member (Some t) xs → c ≡ Some t
 catalogue_ok j [] c e t m = absurd m
 catalogue_ok j (None ∷ xs) c e t (inl is) = absurd cc
 catalogue_ok j (None ∷ xs) c e t (inr m) = catalogue_ok (suc j) xs c e t m

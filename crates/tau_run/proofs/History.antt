@@ -1,9 +1,11 @@
 -- What the machine has made is a history.
-use Rattle.std.proofs.Common.{ℕ, ◌+◌, ◌-◌, ◌%◌, ◌≤◌, ◌<◌, Bool, true, ◌≡◌, List, [], ◌∷◌, ◌++◌, map, length, refl, sym, ap, subst, ◌∙◌, arith, slice_index}
-use Rattle.std.specs.Prelude.{Some, slice_get, ◌==◌}
+use Rattle.std.proofs.Common.{ℕ, zero, suc, inl, inr, ◌+◌, ◌-◌, ◌%◌, ◌≤◌, ◌<◌, Bool, true, false, ◌≡◌, List, [], ◌∷◌, ◌++◌, map, length, refl, sym, ap, subst, ◌∙◌, arith, slice_index}
+use Rattle.std.specs.Prelude.{Some, None, slice_get, slice_index_or, ◌==◌, if◌then◌else◌}
 use Rattle.std.specs.List.{filter}
-use Rattle.std.proofs.lemmas.Bool.{eq-eqb}
-use Rattle.tau_base.specs.Database.{empty_db}
+use Rattle.std.proofs.lemmas.Bool.{eq-eqb, cases_Bool}
+use Rattle.tau_base.specs.declared.value.LogMode.{LogMode}
+use Rattle.tau_core.specs.declared.state.Load.{Load}
+use Rattle.tau_core.specs.View.{setting_of, call_of}
 use Rattle.tau_base.specs.declared.value.Call.{Call}
 use Rattle.tau_text.specs.declared.load.Workload.{Workload}
 use Rattle.tau_model.specs.History.{Act, Member, Before, trace, updates}
@@ -22,6 +24,8 @@ use Rattle.tau_model.specs.Reported.{reported_of}
 use Rattle.tau_proc.specs.declared.proc.Proc.{Proc}
 use Rattle.tau_machine.proofs.Lists.{member_of, before_of}
 use Rattle.tau_machine.proofs.Results.{reported_theorem, committed_theorem, acknowledged_theorem, streams_theorem}
+use Rattle.tau_run.specs.Start.{Start, opened_with, opened_at}
+use Rattle.tau_run.specs.CoreRun.{IsLoadOn}
 use Rattle.tau_run.specs.Run.{Committed, Run, told_of, pair_of, means, acts, Distinct, StandBetween, of_stream, ends, IsHistory}
 use Rattle.tau_run.proofs.Lists.{map_member, before_map}
 use Rattle.tau_run.proofs.CommittedTold.{act_of, number_of, trace_told, distinct_of, apart_reordered, chain_stands, stream_told}
@@ -33,14 +37,41 @@ logs_same : (H : List (Act Txn)) → map (λ (c : Committed). c.logs) (map told_
 logs_same [] = refl
 logs_same (t ∷ H) = ap (λ (l : List Bool). updates t.effect ∷ l) (logs_same H)
 
--- the setting is that of this workload, over n streams by m workers
-pub record IsSet (n m : ℕ) (load : Workload) (set : Setting) : Type 0 where
+-- the setting is that of this workload, over n streams that begin so, by m workers
+pub record IsSet (n m : ℕ) (load : Workload) (start : Start) (set : Setting) : Type 0 where
   pub procs : set.procs ≡ load.declarations.procs
   pub width : set.width ≡ n
-  pub base : set.base ≡ empty_db
+  pub base : set.base ≡ start.base
+  pub opening : (j : ℕ) → j < n → slice_index set.opening j ≡ length (opened_at load start j)
   pub call : (k : ℕ) (c : Call) → set.call_of k ≡ Some c → (1 ≤ k) × (slice_get load.calls (k - 1) ≡ Some c)
   pub worker : (k : ℕ) → set.worker_of k ≡ (k - 1) % m
   pub stream : (w : ℕ) → set.stream_of w ≡ w % n
+
+numbered_call : (calls : List Call) (k : ℕ) (c : Call) → call_of calls k ≡ Some c → (1 ≤ k) × (slice_get calls (k - 1) ≡ Some c)
+numbered_call calls k c e = elim (cases_Bool (k == 0)) [
+  | inl is ↦ absurd (let f : None ≡ Some c = subst (λ (b : Bool). (if b then None else slice_get calls (k - 1)) ≡ Some c) is e in cc f)
+  | inr no' ↦ (
+    (let ne : k ≡ 0 → ⊥ = λ z. (let f : true ≡ false = sym (ap (λ m. m == 0) z) ∙ no' in cc f) in grind (arith, ne)),
+    subst (λ (b : Bool). (if b then None else slice_get calls (k - 1)) ≡ Some c) no' e,
+  )
+]
+
+-- an element of a list that was made element by element
+pub index_mapped : {A : Type 0} (f : A → ℕ) (xs : List A) (d : A) (j : ℕ) → j < length xs → slice_index (map f xs) j ≡ f (slice_index_or xs j d)
+index_mapped f [] d j lt = absurd (omega (arith, lt))
+index_mapped f (x ∷ xs) d zero lt = refl
+index_mapped f (x ∷ xs) d (suc j) lt = index_mapped f xs d j (omega (arith, lt))
+
+pub is_set : (n m : ℕ) (mode : LogMode) (load : Workload) (start : Start) (l : Load) → length start.old ≡ n → IsLoadOn n m mode load start l → IsSet n m load start (setting_of l)
+is_set n m mode load start l count is = record {
+  procs = is.procs;
+  width = is.streams;
+  base = is.rows;
+  opening = λ j lt. ap (λ (v : List ℕ). slice_index v j) is.ends ∙ index_mapped (λ (old : List ℕ). length (opened_with load start old)) start.old [] j (omega (arith, count, lt));
+  call = λ k c e. numbered_call load.calls k c (ap (λ (cs : List Call). call_of cs k) (sym is.calls) ∙ e);
+  worker = λ k. ap (λ (w : ℕ). (k - 1) % w) is.workers;
+  stream = λ w. ap (λ (k : ℕ). w % k) is.streams;
+}
 
 module _ (set : Setting) (K : List (Act Txn)) (s : Core) (g : Invariant set K s) where
   abbrev H : List (Act Txn)
@@ -49,11 +80,11 @@ module _ (set : Setting) (K : List (Act Txn)) (s : Core) (g : Invariant set K s)
   here : (t : Act Txn) → Member t K → Member t H
   here t m = member_reordered H K (reordered_sym K H (once set K s g)) t m
 
-  pub acts_are : (n m : ℕ) (load : Workload) → IsSet n m load set → (run : Run) → run.calls ≡ map told_of H → acts load.declarations.procs run ≡ map act_of H
-  acts_are n m load is run e =
+  pub acts_are : (n m : ℕ) (load : Workload) (run : Run) → IsSet n m load run.start set → run.calls ≡ map told_of H → acts load.declarations.procs run ≡ map act_of H
+  acts_are n m load run is e =
       let law : trace (hands.means set.procs) (calls_of H) set.base ≡ H = (reported_theorem set K s g K (reordered_itself K)).3 in
-      ap (λ (l : List Committed). trace (means load.declarations.procs) l empty_db) e
-      ∙ ap (λ (p : List Proc). trace (means p) (map told_of H) empty_db) (sym is.procs)
+      ap (λ (l : List Committed). trace (means load.declarations.procs) l run.start.base) e
+      ∙ ap (λ (p : List Proc). trace (means p) (map told_of H) run.start.base) (sym is.procs)
       ∙ ap (trace (means set.procs) (map told_of H)) (sym is.base)
       ∙ trace_told set.procs H set.base law
 
@@ -96,16 +127,16 @@ module _ (set : Setting) (K : List (Act Txn)) (s : Core) (g : Invariant set K s)
         let one = few w x.0 in
         absurd (omega (arith, two, one)))
 
-  pub is_history : (n m : ℕ) (load : Workload) → IsSet n m load set → (run : Run) → run.calls ≡ map told_of H → length run.contents ≡ n → ends run ≡ s.ends →
+  pub is_history : (n m : ℕ) (load : Workload) (run : Run) → IsSet n m load run.start set → run.calls ≡ map told_of H → length run.contents ≡ n → ends run ≡ s.ends →
       ((w : ℕ) → filter (λ (a : ℕ × List ℕ). set.worker_of a.0 == w) run.acks ≡ map pair_of (s.acked w)) → IsHistory n m load run
-  is_history n m load is run calls long places are =
+  is_history n m load run is calls long places are =
       let law = (committed_theorem set K s g).0 in
       let from : (c : Committed) → Member c run.calls → (t : Act Txn) × Member t K × (told_of t ≡ c) = λ c m.
       (let w = member_mapped told_of c H (subst (λ (l : List Committed). Member c l) calls m) in (w.0, there set K s g w.0 w.1, w.2)) in
       record {
         of_workload = λ c m. (let w = from c m in subst (λ (x : Committed). (1 ≤ x.number) × (slice_get load.calls (x.number - 1) ≡ Some x.call)) w.2 (is.call (number_of w.0) w.0.call.call.call (law w.0 w.1).0));
         once = subst (λ (l : List Committed). Distinct (map (λ (c : Committed). c.number) l)) (sym calls) (distinct_of H (apart_reordered K H (apart set K s g) (once set K s g)));
-        logs = ap (map (λ (c : Committed). c.logs)) calls ∙ logs_same H ∙ ap (map (λ (x : Act Committed). updates x.effect)) (sym (acts_are n m load is run calls));
+        logs = ap (map (λ (c : Committed). c.logs)) calls ∙ logs_same H ∙ ap (map (λ (x : Act Committed). updates x.effect)) (sym (acts_are n m load run is calls));
         homes = λ c q up.
             (let w = from c q in
             let up' : updates w.0.effect ≡ true = ap (λ (x : Committed). x.logs) w.2 ∙ up in
@@ -116,11 +147,13 @@ module _ (set : Setting) (K : List (Act Txn)) (s : Core) (g : Invariant set K s)
             (let low : j < set.width = subst (λ (k : ℕ). j < k) (sym is.width) lt in
             let st = streams_theorem set K s g j low in
             let first = slice_index set.opening j in
+            let opened : ℕ = length (opened_at load run.start j) in
+            let opens = is.opening j lt in
             let same : of_stream run.calls j ≡ map told_of (records_in ((s.streams j).moved ++ st.0)) =
             ap (λ (l : List Committed). of_stream l j) calls ∙ stream_told H j ∙ ap (map told_of) ((reported_theorem set K s g K (reordered_itself K)).2 j ∙ sym st.3) in
-            subst (λ (l : List Committed). StandBetween 0 (slice_index (ends run) j) l) (sym same)
-            (subst (λ (v : List ℕ). StandBetween 0 (slice_index v j) (map told_of (records_in ((s.streams j).moved ++ st.0)))) (sym places)
-            (chain_stands 0 first (slice_index s.ends j) ((s.streams j).moved ++ st.0) (chain_append first (slice_index s.gathered j) (slice_index s.ends j) (s.streams j).moved st.0 st.1 st.2) (omega arith))));
+            subst (λ (l : List Committed). StandBetween opened (slice_index (ends run) j) l) (sym same)
+            (subst (λ (v : List ℕ). StandBetween opened (slice_index v j) (map told_of (records_in ((s.streams j).moved ++ st.0)))) (sym places)
+            (chain_stands opened first (slice_index s.ends j) ((s.streams j).moved ++ st.0) (chain_append first (slice_index s.gathered j) (slice_index s.ends j) (s.streams j).moved st.0 st.1 st.2) (omega (arith, opens)))));
         widths = λ c m. (let w = from c m in sym (ap (λ (x : Committed). length x.place.dep) w.2) ∙ (law w.0 w.1).3 ∙ is.width);
         streams = long;
         order = calls ∙ in_order set K s g ∙ (λ i. ordered (sym places i) (sym calls i));

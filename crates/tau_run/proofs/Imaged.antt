@@ -9,32 +9,35 @@ use Rattle.tau_machine.specs.Hands.{Txn}
 use Rattle.tau_machine.specs.State.{Core}
 use Rattle.tau_text.specs.declared.load.Workload.{Workload}
 use Rattle.tau_core.specs.declared.state.Load.{Load}
+use Rattle.tau_scan.specs.Sound.{IsSound}
+use Rattle.tau_run.specs.Start.{old_at, opened_at}
 use Rattle.tau_run.specs.Run.{Run, AllAcked}
-use Rattle.tau_run.specs.RecoveredFacts.{catalogue_of, IsImaged, IsAcknowledged, IsEnded}
+use Rattle.tau_run.specs.RecoveredFacts.{IsImaged, IsAcknowledged, IsEnded}
 use Rattle.tau_run.specs.CoreRun.{IsRunOf, IsCourse}
 use Rattle.tau_run.specs.StopsLeave.{IsLeft, Leaves, IsOver}
 use Rattle.tau_run.proofs.Each.{one_content}
 use Rattle.tau_run.proofs.Results.{contents_law, images_law, acked_law, ends_law}
 use Rattle.tau_base.proofs.Lists.{got_within}
 
-module _ (n m : ℕ) (mode : LogMode) (load : Workload) (l : Load) (K : List (Act Txn)) (s : Core) (c : IsCourse n m mode load l K s) (run : Run) (is : IsRunOf n l K s (catalogue_of load) run)
+module _ (n m : ℕ) (mode : LogMode) (load : Workload) (l : Load) (K : List (Act Txn)) (s : Core) (run : Run) (c : IsCourse n m mode load run.start l K s) (is : IsRunOf n l K s load run)
     (past now : ℕ → List ℕ → Type 0) (rose : ℕ → Type 0) where
   within : (images : List (List ℕ)) (j : ℕ) (image : List ℕ) → length images ≡ n → slice_get images j ≡ Some image → j < n
   within images j image count e = subst (λ (k : ℕ). j < k) count (got_within images j image e)
 
-  pub imaged : (unborn : Type 0) → (unborn → (j : ℕ) (x : List ℕ) → j < n → past j x → IsLeft n j (catalogue_of load) l s x) → IsImaged n mode load unborn past run
+  pub imaged : (unborn : Type 0) → (unborn → IsSound (format_of mode) run.start.old run.start.log run.start.base × ((j : ℕ) (x : List ℕ) → j < n → past j x → IsLeft n j (old_at run.start j) (opened_at load run.start j) l s x)) →
+      IsImaged n mode load unborn past run
   imaged unborn left =
-      let w = contents_law n m mode load l K s c run is in record {
+      let w = contents_law n m mode load l K s run c is in record {
         whole = w.0;
         reads = w.1;
         records = w.2;
-        each = λ u images from. images_law n m mode load l K s c run is images from.0 (λ j image e. left u j image (within images j image from.0 e) (from.1 j image e));
+        each = λ u images from. images_law n m mode load l K s run c is (left u).0 images from.0 (λ j image e. (left u).1 j image (within images j image from.0 e) (from.1 j image e));
       }
 
-  module _ (leaves : Leaves n (catalogue_of load) l s past now rose) where
+  module _ (leaves : Leaves n (old_at run.start) (opened_at load run.start) l s past now rose) where
     pub acknowledged : IsAcknowledged n load now run
     acknowledged images from log reads x q e =
-        acked_law n m mode load l K s c run is images from.0 (λ j image f. leaves.present j image (within images j image from.0 f) (from.1 j image f)) log reads x q e
+        acked_law n m mode load l K s run c is images from.0 (λ j image f. leaves.present j image (within images j image from.0 f) (from.1 j image f)) log reads x q e
 
     going : (j : ℕ) → (rose j → ⊥) → (s.streams j).stop ≡ None
     going j none = by_stop (s.streams j).stop refl
@@ -45,13 +48,14 @@ module _ (n m : ℕ) (mode : LogMode) (load : Workload) (l : Load) (K : List (Ac
 
     pub ended : IsOver n s → (((j : ℕ) → j < n → (s.streams j).stop ≡ None) → AllAcked load run) → IsEnded n mode load now rose run
     ended over complete =
-        let law = ends_law n m mode load l K s c run is over in
+        let law = ends_law n m mode load l K s run c is over in
         subst (λ (k : LogMode). IsEnded n k load now rose run) c.load_is.mode_is (record {
           durable = s.plv;
           least = λ j x content lt q has.
               (let p = leaves.present j x lt q in
-              let same = one_content (format_of l.mode) n j x content (catalogue_of load ++ p.0) has p.1.has in
-              let long : length content ≡ length (catalogue_of load) + length p.0 = ap length same ∙ length-append (catalogue_of load) p.0 in
+              let first : List ℕ = opened_at load run.start j in
+              let same = one_content (format_of l.mode) n j x content (first ++ p.0) has p.1.has in
+              let long : length content ≡ length first + length p.0 = ap length same ∙ length-append first p.0 in
               let reach = p.2 in
               omega (arith, long, reach));
           reached = leaves.reached;

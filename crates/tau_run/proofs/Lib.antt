@@ -8,14 +8,16 @@ pub mod History
 pub mod Cuts
 pub mod Spelled
 pub mod Reading
+pub mod Begins
+pub mod Marks
 pub mod Each
 pub mod Asked
 pub mod Taken
 pub mod Streams
 pub mod Logs
-pub mod Recovered
 pub mod Declared
 pub mod Sound
+pub mod Recovered
 pub mod Acked
 pub mod Ended
 pub mod RunExists

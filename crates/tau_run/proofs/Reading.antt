@@ -1,6 +1,6 @@
 -- What is read of a content that was given.
-use Rattle.std.proofs.Common.{ℕ, ◌≤◌, ◌<◌, true, ◌≡◌, inl, inr, List, [], ◌∷◌, ◌++◌, map, length, refl, sym, ap, subst, ◌∙◌, arith, slice_index}
-use Rattle.std.specs.Prelude.{Option, None, Ok, slice_index_or, is_ok}
+use Rattle.std.proofs.Common.{ℕ, ◌≤◌, ◌<◌, Bool, true, false, ◌≡◌, inl, inr, List, [], ◌∷◌, ◌++◌, map, length, refl, sym, ap, subst, ◌∙◌, arith, slice_index}
+use Rattle.std.specs.Prelude.{Option, Some, None, Ok, slice_index_or, if◌then◌else◌}
 use Rattle.std.proofs.lemmas.List.{append-nil}
 use Rattle.tau_base.specs.declared.limits.TheConstants.{MAX_CATALOGUE}
 use Rattle.tau_base.specs.declared.format.Format.{Format}
@@ -20,17 +20,18 @@ use Rattle.tau_record.specs.declared.entry.Entry.TheVariants as entry
 use Rattle.tau_record.specs.declared.entry.Placed.{Placed}
 use Rattle.tau_record.specs.declared.fault.RecordFault.{RecordFault}
 use Rattle.tau_record.specs.Record.{named}
-use Rattle.tau_record.specs.Content.{placed, Reads, IsContent, content_at, records_at}
+use Rattle.tau_record.specs.declared.fault.RecordCause.TheVariants.{BadBody}
+use Rattle.tau_record.specs.Content.{placed, Reads, IsContent, anchors_of, last_epoch, content_at, records_at}
 use Rattle.tau_record.proofs.Appending.{appended_content}
 use Rattle.tau_record.proofs.ContentLaws.{content_again}
 use Rattle.tau_txn.specs.Record.{entry_of}
 use Rattle.tau_core.specs.declared.state.Load.{Load}
 use Rattle.tau_core.specs.Pieces.{Spelled}
-use Rattle.tau_scan.specs.Reading.{or_none, is_declared, first_undeclared, undeclared, unless, judged, records_of}
+use Rattle.tau_scan.specs.Reading.{is_declared, first_undeclared, undeclared, unless, judged, records_of}
 use Rattle.tau_scan.specs.Epochs.{marks_in}
 use Rattle.tau_scan.specs.Taken.{Kept, kept_in}
 use Rattle.tau_run.specs.Run.{record_of}
-use Rattle.tau_run.specs.RecoveredFacts.{catalogue_of}
+use Rattle.tau_run.specs.Start.{catalogue_of}
 use Rattle.tau_run.proofs.CommittedTold.{act_of}
 use Rattle.tau_run.proofs.Spelled.{placed_in, AreOf, reads_items}
 
@@ -70,7 +71,7 @@ no_marks_of mode (Anchor x y v ∷ items) = no_marks_of mode items
 abbrev pub AreDeclared : Declarations → LogMode → List (Act Txn) → Type 0
 AreDeclared d mode ts = (t : Act Txn) → Member t ts → is_declared d (entry_of mode t) ≡ true
 
-items_declared : (d : Declarations) (mode : LogMode) (items : List Item) → AreDeclared d mode (records_in items) → first_undeclared d (map (placed_in mode) items) ≡ None
+pub items_declared : (d : Declarations) (mode : LogMode) (items : List Item) → AreDeclared d mode (records_in items) → first_undeclared d (map (placed_in mode) items) ≡ None
 unfolding first_undeclared
 items_declared d mode [] are = refl
 items_declared d mode (Record t ∷ items) are = rw (are t (inl refl)) (items_declared d mode items (λ u m. are u (inr m)))
@@ -86,7 +87,7 @@ abbrev pub first_placed : Workload → Placed
 first_placed load = placed (entry.Catalogue (declarations_text load.declarations)) 0 (length (catalogue_of load))
 
 -- in any format
-catalogue_content : (f : Format) (n : ℕ) (load : Workload) → IsCatalogue load → IsContent f n (catalogue_of load) (first_placed load ∷ [])
+pub catalogue_content : (f : Format) (n : ℕ) (load : Workload) → IsCatalogue load → IsContent f n (catalogue_of load) (first_placed load ∷ [])
 catalogue_content f n load is = (
   [],
   record { parts = sym (append-nil (catalogue_of load)); fits = record { kind = refl; fields = (is.short, is.bytes) }; next = tt; starts = refl; ends = omega arith },
@@ -97,27 +98,31 @@ pub catalogue_long : (load : Workload) → 1 ≤ length (catalogue_of load)
 catalogue_long load = omega arith
 
 -- a content with these records
-whole_read : (f : Format) (n : ℕ) (content : List ℕ) (ps : List Placed) → n ≤ most_streams f → IsContent f n content ps → undeclared ps ≡ None → records_of f n content ≡ Ok ps
+pub read_again : (f : Format) (n : ℕ) (content : List ℕ) (ps : List Placed) → n ≤ most_streams f → IsContent f n content ps → undeclared ps ≡ None → records_of f n content ≡ Ok ps
 unfolding records_of
-whole_read f n content ps room is none =
+read_again f n content ps room is none =
     ap (judged f n content) (content_again f n content ps room is) ∙ ap (λ (o : Option RecordFault). unless o ps) none
 
-all_declared : (load : Workload) (mode : LogMode) (items : List Item) → IsCatalogue load → AreDeclared load.declarations mode (records_in items) → (d : Declarations) → d ≡ load.declarations →
-    first_undeclared d (first_placed load ∷ map (placed_in mode) items) ≡ None
+-- two parts of which each names what is declared
+pub declared_append : (d : Declarations) (xs ys : List Placed) → first_undeclared d xs ≡ None → first_undeclared d ys ≡ None → first_undeclared d (xs ++ ys) ≡ None
 unfolding first_undeclared
-all_declared load mode items is are d e =
-    let good : is_ok (declarations_of (declarations_text load.declarations)) ≡ true = ap is_ok is.read in
-    rw good (subst (λ (x : Declarations). first_undeclared x (map (placed_in mode) items) ≡ None) (sym e) (items_declared load.declarations mode items are))
+declared_append d [] ys h g = g
+declared_append d (x ∷ xs) ys h g = by_test (is_declared d x.entry) h (λ e. declared_append d xs ys e g)
+  where
+    by_test : (b : Bool) → (if b then first_undeclared d xs else Some (record { at = x.start; cause = BadBody })) ≡ None → (first_undeclared d xs ≡ None → first_undeclared d (xs ++ ys) ≡ None) →
+        (if b then first_undeclared d (xs ++ ys) else Some (record { at = x.start; cause = BadBody })) ≡ None
+    by_test true e rest = rest e
+    by_test false e rest = absurd cc
 
-pub content_read : (l : Load) (anchors : ℕ → List (List ℕ)) (load : Workload) (n j to : ℕ) (more : List (List ℕ)) (items : List Item) (bytes : List ℕ) → n ≤ most_streams (format_of l.mode) → l.streams ≡ n →
-    slice_index l.opening.anchors.items j ≡ 0 → IsCatalogue load → Spelled l anchors items bytes → Chain (length (catalogue_of load)) items to → AreOf j items → NameTheirs 0 [] items → anchors j ≡ anchors_in items ++ more →
-    AreDeclared load.declarations l.mode (records_in items) → records_of (format_of l.mode) n (catalogue_of load ++ bytes) ≡ Ok (first_placed load ∷ map (placed_in l.mode) items)
-content_read l anchors load n j to more items bytes room width none is h c of names all are =
-    let rest : Reads (format_of l.mode) n (length (catalogue_of load)) 0 (named n []) bytes (map (placed_in l.mode) items) = reads_items l anchors n j (length (catalogue_of load)) 0 to [] more items bytes width none h c (catalogue_long load) of names all in
-    let content : IsContent (format_of l.mode) n (catalogue_of load ++ bytes) (first_placed load ∷ map (placed_in l.mode) items) =
-    appended_content (format_of l.mode) n (catalogue_of load) bytes (first_placed load ∷ []) (map (placed_in l.mode) items) (catalogue_content (format_of l.mode) n load is) rest in
-    whole_read (format_of l.mode) n (catalogue_of load ++ bytes) (first_placed load ∷ map (placed_in l.mode) items) room content
-    (all_declared load l.mode items is are (or_none (declarations_of (declarations_text load.declarations))) (ap or_none is.read))
+-- a stream that has this first, and after it these items
+pub content_read : (l : Load) (anchors : ℕ → List (List ℕ)) (n j to : ℕ) (more : List (List ℕ)) (first : List ℕ) (olds : List Placed) (items : List Item) (bytes : List ℕ) → l.streams ≡ n →
+    IsContent (format_of l.mode) n first olds → slice_index l.opening.anchors.items j ≡ length (anchors_of olds) → Spelled l anchors items bytes → Chain (length first) items to → 1 ≤ length first → AreOf j items →
+    NameTheirs (slice_index l.opening.anchors.items j) [] items → anchors j ≡ anchors_in items ++ more → IsContent (format_of l.mode) n (first ++ bytes) (olds ++ map (placed_in l.mode) items)
+content_read l anchors n j to more first olds items bytes width content anchored h c low of names all =
+    let rest : Reads (format_of l.mode) n (length first) (last_epoch 0 olds) (named n (anchors_of olds ++ [])) bytes (map (placed_in l.mode) items) =
+    reads_items l anchors n j (length first) (last_epoch 0 olds) to (anchors_of olds) [] more items bytes width anchored h c low of names all in
+    appended_content (format_of l.mode) n first bytes olds (map (placed_in l.mode) items) content
+    (subst (λ (z : List (List ℕ)). Reads (format_of l.mode) n (length first) (last_epoch 0 olds) (named n z) bytes (map (placed_in l.mode) items)) (append-nil (anchors_of olds)) rest)
 
 -- of nothing nothing is read, in any format
 pub nothing_read : (f : Format) (n : ℕ) → records_of f n [] ≡ Ok []

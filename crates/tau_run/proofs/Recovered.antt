@@ -1,81 +1,60 @@
 -- What recovery finds of images that a run has left.
-use Rattle.std.proofs.Common.{ℕ, zero, suc, ◌-◌, ◌%◌, ◌≤◌, ◌<◌, Bool, true, false, ◌≡◌, ◌⊎◌, inl, inr, List, [], ◌∷◌, ◌++◌, map, length, take, replicate, refl, sym, ap, subst, ◌∙◌, arith, slice_index}
-use Rattle.std.specs.Prelude.{Some, None, Result, Ok, slice_get, slice_index_or, if◌then◌else◌, ◌==◌}
+use Rattle.std.proofs.Common.{ℕ, ◌≤◌, ◌<◌, Bool, true, ◌≡◌, ◌⊎◌, inl, inr, List, [], ◌∷◌, ◌++◌, map, length, take, refl, sym, ap, subst, ◌∙◌, arith, slice_index}
+use Rattle.std.specs.Prelude.{Some, None, Result, Ok, slice_get, slice_index_or, ◌==◌, ◌&&◌}
 use Rattle.std.specs.List.{filter}
-use Rattle.std.proofs.lemmas.Bool.{cases_Bool}
+use Rattle.std.proofs.lemmas.Bool.{and_from, eq-eqb}
 use Rattle.std.proofs.lemmas.Option.{get_or_from_slice_get}
 use Rattle.tau_base.specs.Modes.{format_of, most_streams}
 use Rattle.tau_base.specs.declared.format.Format.{Format}
-use Rattle.tau_base.specs.declared.value.Call.{Call}
 use Rattle.tau_base.specs.declared.value.LogMode.{LogMode}
-use Rattle.tau_base.specs.Database.{Db, empty_db}
+use Rattle.tau_base.specs.Database.{Db}
+use Rattle.tau_base.specs.Vectors.{AtMost}
 use Rattle.tau_model.specs.Reported.{in_stream}
-use Rattle.tau_model.specs.Tables.{db_of_rows}
 use Rattle.tau_block.specs.Image.{HasContent, image_of}
-use Rattle.tau_model.specs.History.{Act, Reordered, exec}
+use Rattle.tau_model.specs.History.{Act, Member, Reordered, exec, updates}
 use Rattle.tau_model.specs.Redo.{redo_contents}
 use Rattle.tau_machine.specs.Hands.{Txn}
 use Rattle.tau_machine.specs.Pieces.{records_of_stream}
 use Rattle.tau_machine.specs.State.{Core, Item}
-use Rattle.tau_machine.specs.Invariant.{Invariant}
+use Rattle.tau_machine.proofs.Lists.{member_of}
 use Rattle.tau_machine.proofs.Results.{reported_theorem}
 use Rattle.tau_model.proofs.Reorder.{reordered_itself}
 use Rattle.tau_text.specs.declared.load.Workload.{Workload}
 use Rattle.tau_text.specs.declared.load.Declarations.{Declarations}
 use Rattle.tau_record.specs.declared.entry.Placed.{Placed}
 use Rattle.tau_core.specs.declared.state.Load.{Load}
-use Rattle.tau_core.specs.View.{setting_of, call_of}
+use Rattle.tau_core.specs.View.{setting_of}
 use Rattle.tau_core.specs.Pieces.{Spelled}
+use Rattle.tau_epoch.specs.Epochs.{Mark}
 use Rattle.tau_scan.specs.declared.log.Log.{Log}
 use Rattle.tau_scan.specs.declared.fault.LogFault.{LogFault}
-use Rattle.tau_scan.specs.Reading.{◌>>=◌, none_declared, each_from, opened, contents_of, log_as, log_of, log_of_contents}
-use Rattle.tau_scan.specs.Taken.{Kept, kept_in, taken}
-use Rattle.tau_replay.specs.Redone.{IsOrderOf}
+use Rattle.tau_scan.specs.Epochs.{judge_of}
+use Rattle.tau_scan.specs.Reading.{◌>>=◌, each_from, opened, contents_of, log_as, log_of, log_of_contents}
+use Rattle.tau_scan.specs.Sound.{IsOrderOver, redo_in, IsSound}
+use Rattle.tau_scan.specs.Taken.{Kept, kept_in}
+use Rattle.tau_epoch_laws.specs.Continues.{none_in, news}
+use Rattle.tau_epoch_laws.proofs.Listed.{old_listed}
+use Rattle.tau_epoch_laws.proofs.Stays.{stays_sound}
+use Rattle.tau_run.specs.Start.{old_at, opened_at}
 use Rattle.tau_run.specs.Run.{Committed, Run, means, records_in, record_of}
-use Rattle.tau_run.specs.RecoveredFacts.{catalogue_of, takes, IsRecovered}
-use Rattle.tau_run.specs.CoreRun.{IsLoadOf, IsGiven, IsRunOf}
+use Rattle.tau_run.specs.RecoveredFacts.{takes, IsRecovered}
+use Rattle.tau_run.specs.CoreRun.{IsGiven, IsRunOf, IsCourse}
 use Rattle.tau_run.specs.StopsLeave.{IsLeft}
 use Rattle.tau_run.proofs.Asked.{asked_same}
+use Rattle.tau_run.proofs.Begins.{old_within}
+use Rattle.tau_run.proofs.CommittedTold.{act_of}
 use Rattle.tau_run.proofs.Cuts.{take_within}
 use Rattle.tau_run.proofs.Each.{EachOk, each_ok, image_opened}
-use Rattle.tau_run.proofs.History.{IsSet, acts_are}
+use Rattle.tau_run.proofs.History.{acts_are}
 use Rattle.tau_run.proofs.Lists.{filter_map}
 use Rattle.tau_run.proofs.Logs.{LogOf, log_of_them}
+use Rattle.tau_run.proofs.Marks.{news_none}
 use Rattle.tau_run.proofs.Order.{history}
 use Rattle.tau_run.proofs.Reading.{kept_of}
-use Rattle.tau_run.proofs.Streams.{AreSound, IsRead, front_read, none_read, front_first}
-use Rattle.tau_run.proofs.Taken.{in_some_order, is_closed, all_redo}
-use Rattle.tau_run.proofs.CommittedTold.{act_of}
+use Rattle.tau_run.proofs.Sound.{set_is, anchored, sound}
+use Rattle.tau_run.proofs.Streams.{AreSound, IsRead, kept_append, front_read, old_read, front_first, stands_after}
+use Rattle.tau_run.proofs.Taken.{stream_low, held_of, in_some_order, is_closed, all_redo}
 use Rattle.tau_base.proofs.Lists.{some_at, got_within}
-
--- ---- the setting
-
-numbered_call : (calls : List Call) (k : ℕ) (c : Call) → call_of calls k ≡ Some c → (1 ≤ k) × (slice_get calls (k - 1) ≡ Some c)
-numbered_call calls k c e = elim (cases_Bool (k == 0)) [
-  | inl is ↦ absurd (let f : None ≡ Some c = subst (λ (b : Bool). (if b then None else slice_get calls (k - 1)) ≡ Some c) is e in cc f)
-  | inr no' ↦ (
-    (let ne : k ≡ 0 → ⊥ = λ z. (let f : true ≡ false = sym (ap (λ m. m == 0) z) ∙ no' in cc f) in grind (arith, ne)),
-    subst (λ (b : Bool). (if b then None else slice_get calls (k - 1)) ≡ Some c) no' e,
-  )
-]
-
-pub is_set : (n m : ℕ) (mode : LogMode) (load : Workload) (l : Load) → IsLoadOf n m mode load l → IsSet n m load (setting_of l)
-is_set n m mode load l is = record {
-  procs = is.procs;
-  width = is.streams;
-  base = ap db_of_rows is.rows;
-  call = λ k c e. numbered_call load.calls k c (ap (λ (cs : List Call). call_of cs k) (sym is.calls) ∙ e);
-  worker = λ k. ap (λ (w : ℕ). (k - 1) % w) is.workers;
-  stream = λ w. ap (λ (k : ℕ). w % k) is.streams;
-}
-
-pub none_anchored : (n j : ℕ) (v : List ℕ) → v ≡ replicate n 0 → slice_index v j ≡ 0
-none_anchored n j v e = ap (λ (x : List ℕ). slice_index x j) e ∙ zeros n j
-  where
-    zeros : (n j : ℕ) → slice_index (replicate n 0) j ≡ 0
-    zeros zero j = refl
-    zeros (suc n) zero = refl
-    zeros (suc n) (suc j) = zeros n j
 
 -- ---- the images
 
@@ -87,14 +66,14 @@ log_there : (f : Format) (images contents : List (List ℕ)) (log : Log) → con
 unfolding log_as
 log_there f images contents log e is = ap (λ (r : Result (List (List ℕ)) LogFault). r >>= log_of_contents f) e ∙ is
 
--- nothing was declared where nothing is taken
-redo_as : (load : Workload) (log : Log) → ((taken log ≡ []) × (log.declarations ≡ none_declared)) ⊎ (log.declarations ≡ load.declarations) → (order : List Kept) → IsOrderOf log order → (db : Db) →
-    redo_contents load.declarations.procs (map (λ (r : Kept). r.content) order) empty_db ≡ db → redo_contents log.declarations.procs (map (λ (r : Kept). r.content) order) empty_db ≡ db
-redo_as load log (inl p) order o db e =
-    let empty : order ≡ [] = subst (λ (ks : List Kept). Reordered ks order) p.0 o.each_once in
-    ap (λ (os : List Kept). redo_contents log.declarations.procs (map (λ (r : Kept). r.content) os) empty_db) empty
-    ∙ ap (λ (os : List Kept). redo_contents load.declarations.procs (map (λ (r : Kept). r.content) os) empty_db) (sym empty) ∙ e
-redo_as load log (inr q) order o db e = ap (λ (d : Declarations). redo_contents d.procs (map (λ (r : Kept). r.content) order) empty_db) q ∙ e
+-- nothing is declared where nothing came after the old records
+redo_as : (load : Workload) (old : Log) (more : List (List Placed)) (log : Log) → none_in more ⊎ (log.declarations ≡ load.declarations) → (order : List Kept) → IsOrderOver (news old more log) order → (base db : Db) →
+    redo_contents load.declarations.procs (map (λ (r : Kept). r.content) order) base ≡ db → redo_in log order base ≡ db
+redo_as load old more log (inl none) order o base db e =
+    let empty : order ≡ [] = subst (λ (ks : List Kept). Reordered ks order) (news_none (judge_of log) 0 old.streams more none) o.each_once in
+    ap (λ (os : List Kept). redo_contents log.declarations.procs (map (λ (r : Kept). r.content) os) base) empty
+    ∙ ap (λ (os : List Kept). redo_contents load.declarations.procs (map (λ (r : Kept). r.content) os) base) (sym empty) ∙ e
+redo_as load old more log (inr q) order o base db e = ap (λ (d : Declarations). redo_contents d.procs (map (λ (r : Kept). r.content) order) base) q ∙ e
 
 abbrev in_it : ℕ → Act Committed → Bool
 in_it j x = in_stream (λ (y : Act Committed). y.call.place) (λ y. y.call.logs) j x
@@ -103,71 +82,92 @@ map_twice : (mode : LogMode) (ts : List (Act Txn)) → map (record_of mode) (map
 map_twice mode [] = refl
 map_twice mode (t ∷ ts) = ap (λ (ks : List Kept). kept_of mode t ∷ ks) (map_twice mode ts)
 
-module _ (n m : ℕ) (mode : LogMode) (load : Workload) (l : Load) (K : List (Act Txn)) (s : Core) (inv : Invariant (setting_of l) K s) (at : IsLoadOf n m mode load l) (room : n ≤ most_streams (format_of l.mode)) (sound : AreSound l load K)
-    (run : Run) (is : IsRunOf n l K s (catalogue_of load) run) where
-  set_is : IsSet n m load (setting_of l)
-  set_is = is_set n m mode load l at
-
-  none : (j : ℕ) → slice_index l.opening.anchors.items j ≡ 0
-  none j = none_anchored n j l.opening.anchors.items at.anchors
+module _ (n m : ℕ) (mode : LogMode) (load : Workload) (l : Load) (K : List (Act Txn)) (s : Core) (run : Run) (c : IsCourse n m mode load run.start l K s) (is : IsRunOf n l K s load run) where
+  abbrev f : Format
+  f = format_of l.mode
 
   abbrev whole_of : ℕ → List ℕ
   whole_of j = slice_index_or run.contents j []
 
-  given_at : (j : ℕ) → j < n → IsGiven l K s j (catalogue_of load) (whole_of j)
+  abbrev first : ℕ → List ℕ
+  first j = opened_at load run.start j
+
+  declared_all : AreSound l load K
+  declared_all = sound n m mode load l K s run c
+
+  given_at : (j : ℕ) → j < n → IsGiven l K s j (first j) (whole_of j)
   given_at j lt =
       let h = some_at run.contents j (subst (λ (k : ℕ). j < k) (sym is.streams) lt) in
       let same : whole_of j ≡ h.0 = get_or_from_slice_get run.contents j h.0 [] h.1 in
-      subst (λ (c : List ℕ). IsGiven l K s j (catalogue_of load) c) (sym same) (is.given j h.0 h.1)
+      subst (λ (z : List ℕ). IsGiven l K s j (first j) z) (sym same) (is.given j h.0 h.1)
 
-  -- a content that was left: nothing, or the catalogue and the first of the gathered items
+  -- the record of each call stands after what was there
+  pub stands : (t : Act Txn) → Member t K → updates t.effect ≡ true → length (old_at run.start t.call.place.stream) ≤ t.call.place.start
+  stands t q up =
+      let j : ℕ = t.call.place.stream in
+      let lt : j < n = stream_low (setting_of l) K s c.inv l.mode n c.load_is.streams t q up in
+      let mine : Member t (records_of_stream j K) = member_of (λ (u : Act Txn). updates u.effect && u.call.place.stream == j) t K q (and_from (updates t.effect) (j == j) up (eq-eqb j j refl)) in
+      let high = stands_after n l load run.start c.begins K s j lt c.room c.load_is.streams (anchored n m mode load l K s run c j lt) declared_all (whole_of j) (given_at j lt) t mine in
+      let low = old_within f n load run.start c.begins j in
+      omega (arith, low, high)
+
+  -- a content that was left: what was there, or what the stream held first and the first of the gathered items
   abbrev pub IsCut : ℕ → List ℕ → Type 0
-  IsCut j content = (content ≡ []) ⊎ ((bytes : List ℕ) × (count : ℕ) × (content ≡ catalogue_of load ++ bytes) × Spelled l (λ i. (s.streams i).anchors) (take count (s.streams j).moved) bytes)
+  IsCut j content = (content ≡ old_at run.start j) ⊎ ((bytes : List ℕ) × (count : ℕ) × (content ≡ first j ++ bytes) × Spelled l (λ i. (s.streams i).anchors) (take count (s.streams j).moved) bytes)
 
-  pub cut_read : (j : ℕ) → j < n → (content : List ℕ) → IsCut j content → (ps : List Placed) × IsRead l load K n j content ps
-  cut_read j lt content (inl e) = ([], subst (λ (c : List ℕ). IsRead l load K n j c []) (sym e) (none_read n l load K s j room at.streams (none j) sound (whole_of j) (given_at j lt)))
-  cut_read j lt content (inr f) =
+  pub cut_read : (j : ℕ) → j < n → (content : List ℕ) → IsCut j content → (more : List Placed) × IsRead l load run.start K n j content more
+  cut_read j lt content (inl e) =
+      ([], subst (λ (z : List ℕ). IsRead l load run.start K n j z []) (sym e) (old_read n l load run.start c.begins K s j lt c.room c.load_is.streams (anchored n m mode load l K s run c j lt) declared_all (whole_of j) (given_at j lt)))
+  cut_read j lt content (inr cut) =
       let g = given_at j lt in
-      let w = take_within (s.streams j).moved g.waiting f.1 in
-      let r = front_read n l load K s j room at.streams (none j) sound (whole_of j) g w.0 f.0 (subst (λ (items : List Item). Spelled l (λ i. (s.streams i).anchors) items f.0) w.1 f.3) in
-      (r.0, subst (λ (c : List ℕ). IsRead l load K n j c r.0) (sym f.2) r.1)
+      let w = take_within (s.streams j).moved g.waiting cut.1 in
+      let r = front_read n l load run.start c.begins K s j lt c.room c.load_is.streams (anchored n m mode load l K s run c j lt) declared_all (whole_of j) g w.0 cut.0
+      (subst (λ (items : List Item). Spelled l (λ i. (s.streams i).anchors) items cut.0) w.1 cut.3) in
+      (r.0, subst (λ (z : List ℕ). IsRead l load run.start K n j z r.0) (sym cut.2) r.1)
 
-  cut_first : (j : ℕ) → j < n → (content : List ℕ) → IsCut j content → (k : ℕ) × (content ≡ take k (whole_of j))
-  cut_first j lt content (inl e) = (0, e)
-  cut_first j lt content (inr f) =
+  -- it is what was there, or a first part of the whole
+  cut_first : (j : ℕ) → j < n → (content : List ℕ) → IsCut j content → (content ≡ old_at run.start j) ⊎ ((k : ℕ) × (length (first j) ≤ k) × (content ≡ take k (whole_of j)))
+  cut_first j lt content (inl e) = inl e
+  cut_first j lt content (inr cut) =
       let g = given_at j lt in
-      let w = take_within (s.streams j).moved g.waiting f.1 in
-      let r = front_first n l load K s j room at.streams (none j) sound (whole_of j) g w.0 f.0 (subst (λ (items : List Item). Spelled l (λ i. (s.streams i).anchors) items f.0) w.1 f.3) in
-      (r.0, f.2 ∙ r.1)
+      let w = take_within (s.streams j).moved g.waiting cut.1 in
+      let r = front_first n l load run.start c.begins K s j lt c.room c.load_is.streams (anchored n m mode load l K s run c j lt) declared_all (whole_of j) g w.0 cut.0
+      (subst (λ (items : List Item). Spelled l (λ i. (s.streams i).anchors) items cut.0) w.1 cut.3) in
+      inr (r.0, r.1, cut.2 ∙ r.2)
 
   -- the records of a stream, as the report has them
   pub records_are : (j : ℕ) → records_in l.mode load run j ≡ map (kept_of l.mode) (records_of_stream j K)
   records_are j =
-      let H : List (Act Txn) = history (setting_of l) K s inv in
-      let law = (reported_theorem (setting_of l) K s inv K (reordered_itself K)).2 j in
-      ap (λ (xs : List (Act Committed)). map (record_of l.mode) (filter (in_it j) xs)) (acts_are (setting_of l) K s inv n m load set_is run is.calls)
+      let H : List (Act Txn) = history (setting_of l) K s c.inv in
+      let law = (reported_theorem (setting_of l) K s c.inv K (reordered_itself K)).2 j in
+      ap (λ (xs : List (Act Committed)). map (record_of l.mode) (filter (in_it j) xs)) (acts_are (setting_of l) K s c.inv n m load run (set_is n m mode load l K s run c) is.calls)
       ∙ ap (map (record_of l.mode)) (filter_map act_of (in_it j) (λ t. in_it j (act_of t)) H (λ t q. refl)) ∙ map_twice l.mode (records_of_stream j H) ∙ ap (map (kept_of l.mode)) law
+
+  -- contents that were cut so make a log
+  pub cuts_log : (contents : List (List ℕ)) → length contents ≡ n → ((j : ℕ) (content : List ℕ) → slice_get contents j ≡ Some content → (more : List Placed) × IsRead l load run.start K n j content more) →
+      LogOf l load run.start K s c.inv n c.load_is.streams contents
+  cuts_log contents long each = log_of_them l load run.start n c.begins K s c.inv c.load_is.streams declared_all stands contents long each
 
   -- images whose contents were cut so have a log
   pub record CutLog (images : List (List ℕ)) : Type 0 where
     pub contents : List (List ℕ)
-    pub have : contents_of (format_of l.mode) images ≡ Ok contents
+    pub have : contents_of f images ≡ Ok contents
     pub long : length contents ≡ n
     pub cut : (j : ℕ) (content : List ℕ) → slice_get contents j ≡ Some content → IsCut j content
-    pub has : (j : ℕ) (image content : List ℕ) → slice_get images j ≡ Some image → slice_get contents j ≡ Some content → HasContent (format_of l.mode) n j content image
-    pub made : LogOf l load K s inv n at.streams contents
+    pub has : (j : ℕ) (image content : List ℕ) → slice_get images j ≡ Some image → slice_get contents j ≡ Some content → HasContent f n j content image
+    pub made : LogOf l load run.start K s c.inv n c.load_is.streams contents
     pub reads : log_of None images ≡ Ok made.log
-    pub asked : log_of (Some (format_of l.mode)) images ≡ Ok made.log
+    pub asked : log_of (Some f) images ≡ Ok made.log
 
-  module _ (images : List (List ℕ)) (count : length images ≡ n) (left : (j : ℕ) (image : List ℕ) → slice_get images j ≡ Some image → (content : List ℕ) × HasContent (format_of l.mode) n j content image × IsCut j content) where
+  module _ (images : List (List ℕ)) (count : length images ≡ n) (left : (j : ℕ) (image : List ℕ) → slice_get images j ≡ Some image → (content : List ℕ) × HasContent f n j content image × IsCut j content) where
     abbrev P : ℕ → List ℕ → List ℕ → Type 0
-    P j image content = HasContent (format_of l.mode) n j content image × IsCut j content
+    P j image content = HasContent f n j content image × IsCut j content
 
-    read : EachOk (λ j image. opened (format_of l.mode) (length images) j (image_of j image)) P 0 images
-    read = each_ok (λ j image. opened (format_of l.mode) (length images) j (image_of j image)) P 0 images (λ k i image e g.
+    read : EachOk (λ j image. opened f (length images) j (image_of j image)) P 0 images
+    read = each_ok (λ j image. opened f (length images) j (image_of j image)) P 0 images (λ k i image e g.
         let same : i ≡ k = omega (arith, e) in
         let h = left k image (subst (λ (q : ℕ). slice_get images q ≡ Some image) same g) in
-        (h.0, ap (λ (q : ℕ). opened (format_of l.mode) q k (image_of k image)) count ∙ image_opened (format_of l.mode) n k image h.0 h.1, (h.1, h.2)))
+        (h.0, ap (λ (q : ℕ). opened f q k (image_of k image)) count ∙ image_opened f n k image h.0 h.1, (h.1, h.2)))
 
     content_is : (j : ℕ) (content : List ℕ) → slice_get read.ys j ≡ Some content → IsCut j content
     content_is j content e =
@@ -180,50 +180,62 @@ module _ (n m : ℕ) (mode : LogMode) (load : Workload) (l : Load) (K : List (Ac
 
     pub cut_log : CutLog images
     cut_log =
-        let made : LogOf l load K s inv n at.streams read.ys = log_of_them l load K s inv n at.streams sound read.ys (read.long ∙ count) (λ j content e. cut_read j (below_n j content e) content (content_is j content e)) in
+        let made : LogOf l load run.start K s c.inv n c.load_is.streams read.ys = cuts_log read.ys (read.long ∙ count) (λ j content e. cut_read j (below_n j content e) content (content_is j content e)) in
         record {
           contents = read.ys;
           have = have;
           long = read.long ∙ count;
           cut = content_is;
-          has = λ j image content e f. (read.all j j image content (omega arith) e f).0;
+          has = λ j image content e g. (read.all j j image content (omega arith) e g).0;
           made = made;
-          reads = asked_same (format_of l.mode) n images (λ i image e. (let h = left i image e in (i, h.0, h.1))) ∙ asked made.log made.reads;
+          reads = asked_same f n images (λ i image e. (let h = left i image e in (i, h.0, h.1))) ∙ asked made.log made.reads;
           asked = asked made.log made.reads;
         }
       where
-        have : contents_of (format_of l.mode) images ≡ Ok read.ys
-        have = contents_are (format_of l.mode) images read.ys read.is
+        have : contents_of f images ≡ Ok read.ys
+        have = contents_are f images read.ys read.is
 
-        asked : (log : Log) → log_of_contents (format_of l.mode) read.ys ≡ Ok log → log_of (Some (format_of l.mode)) images ≡ Ok log
-        asked log e = log_there (format_of l.mode) images read.ys log have e
+        asked : (log : Log) → log_of_contents f read.ys ≡ Ok log → log_of (Some f) images ≡ Ok log
+        asked log e = log_there f images read.ys log have e
 
-  -- images that a run has left
-  pub recovered : (images : List (List ℕ)) → length images ≡ n → ((j : ℕ) (image : List ℕ) → slice_get images j ≡ Some image → IsLeft n j (catalogue_of load) l s image) → IsRecovered n l.mode load run images
-  recovered images count left =
-      let c = cut_log images count (λ j image e. cut_of j image (left j image e)) in
-      let log : Log = c.made.log in
-      let at_j : (j : ℕ) → j < n → (content : List ℕ) × (slice_get c.contents j ≡ Some content) = λ j lt. some_at c.contents j (subst (λ (q : ℕ). j < q) (sym c.long) lt) in
+  -- images that a run has left, where what was there was sound
+  pub recovered : IsSound f run.start.old run.start.log run.start.base → (images : List (List ℕ)) → length images ≡ n →
+      ((j : ℕ) (image : List ℕ) → slice_get images j ≡ Some image → IsLeft n j (old_at run.start j) (first j) l s image) → IsRecovered n l.mode load run images
+  recovered ok images count left =
+      let cut = cut_log images count (λ j image e. cut_of j image (left j image e)) in
+      let log : Log = cut.made.log in
+      let more : List (List Placed) = cut.made.more in
+      let at_j : (j : ℕ) → j < n → (content : List ℕ) × (slice_get cut.contents j ≡ Some content) = λ j lt. some_at cut.contents j (subst (λ (q : ℕ). j < q) (sym cut.long) lt) in
+      let set = set_is n m mode load l K s run c in
+      let base : Db = exec (means load.declarations.procs) (filter (takes log) run.calls) run.start.base in
       record {
         log = log;
-        reads = c.reads;
-        asked = c.asked;
-        contents = c.contents;
-        have = c.have;
+        reads = cut.reads;
+        asked = cut.asked;
+        contents = cut.contents;
+        have = cut.have;
         fronts = λ j lt.
             (let h = at_j j lt in
-            let f = cut_first j lt h.0 (c.cut j h.0 h.1) in
-            (f.0, get_or_from_slice_get c.contents j h.0 [] h.1 ∙ f.1));
+            let same : slice_index_or cut.contents j [] ≡ h.0 = get_or_from_slice_get cut.contents j h.0 [] h.1 in
+            elim (cut_first j lt h.0 (cut.cut j h.0 h.1)) [ inl e ↦ inl (same ∙ e) | inr k ↦ inr (k.0, k.1, same ∙ k.2) ]);
         records = λ j lt.
             (let h = at_j j lt in
-            let r = c.made.all j h.0 h.1 in
-            (r.2.count, ap (kept_in j) (get_or_from_slice_get log.streams j r.0 [] r.1) ∙ r.2.firsts ∙ ap (take r.2.count) (sym (records_are j))));
-        declared = c.made.declared;
-        closed = is_closed (setting_of l) K s inv l.mode n at.streams log c.made.is m load set_is run is.calls;
-        ordered = in_some_order (setting_of l) K s inv l.mode n at.streams log c.made.is;
-        redo = λ order o. redo_as load log c.made.declared order o (exec (means load.declarations.procs) (filter (takes log) run.calls) empty_db) (all_redo (setting_of l) K s inv l.mode n at.streams log c.made.is m load set_is run is.calls order o);
+            let r = cut.made.all j h.0 h.1 in
+            let olds : List Placed = slice_index_or run.start.log.streams j [] in
+            (r.2.count, ap (kept_in j) (get_or_from_slice_get log.streams j (olds ++ r.0) [] r.1) ∙ kept_append j olds r.0 ∙ ap (λ (ks : List Kept). kept_in j olds ++ ks) (r.2.firsts ∙ ap (take r.2.count) (sym (records_are j)))));
+        old = old_listed f run.start.old cut.contents run.start.log more log c.begins.reads ok.fit cut.made.reads cut.made.goes_on;
+        closed = is_closed (setting_of l) K s c.inv l.mode n c.load_is.streams run log more cut.made.is m load set is.calls;
+        sound = stays_sound f run.start.old cut.contents run.start.log more log run.start.base base ok cut.made.reads cut.made.goes_on
+            (λ m h. subst (λ (k : Mark). AtMost k.lv log.elv) (sym (cut.made.marks m h)) cut.made.goes_on.longer)
+            (λ r h.
+            let t = held_of (setting_of l) K s c.inv l.mode n c.load_is.streams run log more cut.made.is r h in
+            subst (λ (k : Kept). AtMost run.start.log.elv k.place.dep) t.3 (c.waits t.0 t.1 t.4))
+            (record {
+              ordered = in_some_order (setting_of l) K s c.inv l.mode n c.load_is.streams run log more cut.made.is;
+              alike = λ order o. redo_as load run.start.log more log cut.made.declared order o run.start.base base (all_redo (setting_of l) K s c.inv l.mode n c.load_is.streams run log more cut.made.is m load set is.calls order o);
+            });
       }
     where
-      cut_of : (j : ℕ) (image : List ℕ) → IsLeft n j (catalogue_of load) l s image → (content : List ℕ) × HasContent (format_of l.mode) n j content image × IsCut j content
-      cut_of j image (inl e) = ([], e, inl refl)
-      cut_of j image (inr f) = (catalogue_of load ++ f.0, f.1.has, inr (f.0, f.1.count, refl, f.1.spelled))
+      cut_of : (j : ℕ) (image : List ℕ) → IsLeft n j (old_at run.start j) (first j) l s image → (content : List ℕ) × HasContent f n j content image × IsCut j content
+      cut_of j image (inl e) = (old_at run.start j, e, inl refl)
+      cut_of j image (inr g) = (first j ++ g.0, g.1.has, inr (g.0, g.1.count, refl, g.1.spelled))

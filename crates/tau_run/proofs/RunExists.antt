@@ -22,10 +22,11 @@ use Rattle.tau_core.specs.View.{setting_of, Hidden, core_of, committed_by, worke
 use Rattle.tau_core.specs.Stands.{Stands, anchors_at}
 use Rattle.tau_core.specs.Pieces.{IsPieceOf, AreBytesOf, Paired, Spelled}
 use Rattle.tau_run.specs.Run.{Run, told_of}
-use Rattle.tau_run.specs.RecoveredFacts.{catalogue_of}
-use Rattle.tau_run.specs.CoreRun.{IsLoadOf, AreAcks, IsGiven, IsRunOf}
+use Rattle.tau_run.specs.Start.{Start, opened_at}
+use Rattle.tau_run.specs.CoreRun.{IsLoadOn, AreAcks, IsGiven, IsRunOf}
 use Rattle.tau_base.proofs.Lists.{some_at}
-use Rattle.tau_base.proofs.Logic.{some_is, replicated}
+use Rattle.tau_base.proofs.Logic.{some_is}
+use Rattle.tau_run.proofs.History.{is_set}
 
 -- an item with its bytes
 abbrev HasBytes : Load → (ℕ → List (List ℕ)) → Item → Type 0
@@ -83,7 +84,7 @@ listed_from {A} P (suc k) f =
     by_place zero x y q ys all e = subst (λ (z : A). P 0 z) (some_is y x e) q
     by_place (suc j) x y q ys all e = all j x e
 
-module _ (n m : ℕ) (mode : LogMode) (load : Workload) (p : Plain) (K : List (Act Txn)) (h : Hidden) (st : Stands p K h) (at : IsLoadOf n m mode load p.load) where
+module _ (n m : ℕ) (mode : LogMode) (load : Workload) (p : Plain) (K : List (Act Txn)) (h : Hidden) (st : Stands p K h) (start : Start) (at : IsLoadOn n m mode load start p.load) (count : length start.old ≡ n) where
   abbrev s : Core
   s = core_of p h
 
@@ -142,20 +143,22 @@ module _ (n m : ℕ) (mode : LogMode) (load : Workload) (p : Plain) (K : List (A
             subst (HasBytes l anchors) (sym is_t) (piece_bytes l anchors (record { start = x.start; bytes = bytes_in x.txn }) (Record t) (st.placed w x t e hand))
         by_seat w t None e is_t in_hand = absurd (let f : None ≡ Some t = sym (ap (λ (o : Option PlainSeat). placed_in (hand_seat l (committed_by l.workers w p.committed) o)) e) ∙ in_hand in cc f)
 
-    given : (content : List ℕ) × IsGiven l K s j (catalogue_of load) content
+    abbrev first_at : List ℕ
+    first_at = opened_at load start j
+
+    given : (content : List ℕ) × IsGiven l K s j first_at content
     given =
         let rest = spelled_of l anchors good.waiting waiting_bytes in
         let first = st.gathered j stream.0 stream.1 in
-        let opening : slice_index l.opening.ends j ≡ length (catalogue_of load) = ap (λ (v : List ℕ). slice_index v j) at.ends ∙ replicated n (length (catalogue_of load)) j lt in
-        let none : slice_index l.opening.anchors.items j ≡ 0 = ap (λ (v : List ℕ). slice_index v j) at.anchors ∙ replicated n 0 j lt in (
-          catalogue_of load ++ ((h.taken j ++ stream.0.body) ++ rest.0),
+        let opening : slice_index l.opening.ends j ≡ length first_at = (is_set n m mode load start l count at).opening j lt in (
+          first_at ++ ((h.taken j ++ stream.0.body) ++ rest.0),
           record {
             waiting = good.waiting;
             moved = subst (λ k. Chain k (h.moved j) (slice_index p.gathered j)) opening good.moved;
             rest = good.rest;
             records = good.records;
             anchors = good.anchors;
-            named = subst (λ k. NameTheirs k [] (h.moved j ++ good.waiting)) none good.named;
+            named = good.named;
             bytes = (h.taken j ++ stream.0.body) ++ rest.0;
             spelled = spelled_more l anchors (h.moved j) good.waiting (h.taken j ++ stream.0.body) rest.0 first rest.1;
             is = refl;
@@ -163,14 +166,11 @@ module _ (n m : ℕ) (mode : LogMode) (load : Workload) (p : Plain) (K : List (A
         )
 
   -- the run of this state, with these acknowledgements
-  pub run_there : (acks : List (ℕ × List ℕ)) → AreAcks l s acks → (run : Run) × IsRunOf n l K s (catalogue_of load) run × (run.acks ≡ acks)
+  pub run_there : (acks : List (ℕ × List ℕ)) → AreAcks l s acks → (run : Run) × IsRunOf n l K s load run × (run.acks ≡ acks) × (run.start ≡ start)
   run_there acks are =
-      let all = each_given n (λ j lt. given j lt) in (
-        record { calls = map told_of (reported s.ends K); contents = all.0; acks = acks },
+      let all = listed_from (λ j content. IsGiven l K s j (opened_at load start j) content) n (λ j lt. given j lt) in (
+        record { start = start; calls = map told_of (reported s.ends K); contents = all.0; acks = acks },
         record { calls = refl; streams = all.1; given = λ j content e. all.2 j content e; acks = are },
         refl,
+        refl,
       )
-    where
-      each_given : (k : ℕ) → ((j : ℕ) → j < k → (content : List ℕ) × IsGiven l K s j (catalogue_of load) content) →
-          (contents : List (List ℕ)) × (length contents ≡ k) × ((j : ℕ) (content : List ℕ) → slice_get contents j ≡ Some content → IsGiven l K s j (catalogue_of load) content)
-      each_given k f = listed_from (λ j content. IsGiven l K s j (catalogue_of load) content) k f

@@ -19,7 +19,7 @@ use Rattle.tau_record.specs.Content.{placed, named_after, Begins, Reads}
 use Rattle.tau_core.specs.declared.state.Load.{Load}
 use Rattle.tau_txn.specs.Record.{entry_of}
 use Rattle.tau_core.specs.Pieces.{Names, Spelled}
-use Rattle.tau_base.proofs.Lists.{got_front, got_or}
+use Rattle.tau_base.proofs.Lists.{got_front, get_behind, got_or}
 use Rattle.tau_base.proofs.Logic.{some_is}
 
 -- the entry of an item, with its place
@@ -44,21 +44,22 @@ spelled_long l anchors a b (i ∷ items) bytes h c =
     let k = c.0 in
     omega (arith, rest, e, f, g, k)
 
--- of all records but the first the number tells the base, of the anchors before it
-base_is : (l : Load) (n j : ℕ) (before more : List (List ℕ)) (t : Txn) (base : List ℕ) → l.streams ≡ n → slice_index l.opening.anchors.items j ≡ 0 →
-    NamesOne 0 before t → Names l j (before ++ more) t.anchor base → base_of (named n before) t.anchor ≡ base
-base_is l n j before more t base width none (inl zero_is) (inl p) =
-    ap (base_of (named n before)) zero_is ∙ ap (λ k. replicate k 0) (sym width) ∙ sym p.1
-base_is l n j before more t base width none (inl zero_is) (inr p) = let e = p.1 in absurd (omega (arith, zero_is, e))
-base_is l n j before more t base width none (inr q) (inl p) = let e = q.2 in let f = p.0 in absurd (omega (arith, e, f))
-base_is l n j before more t base width none (inr q) (inr p) =
-    let one : q.0 ≡ p.0 = (let e = q.2 in let f = p.1 in omega (arith, e, f, none)) in
-    let at : t.anchor ≡ suc q.0 = (let e = q.2 in omega (arith, e)) in
+-- the number of a record tells the base, of the anchors before it in its stream: the old ones, and those of this run
+base_is : (l : Load) (n j : ℕ) (olds before more : List (List ℕ)) (t : Txn) (base : List ℕ) → l.streams ≡ n → slice_index l.opening.anchors.items j ≡ length olds →
+    NamesOne (slice_index l.opening.anchors.items j) before t → Names l j (before ++ more) t.anchor base → base_of (named n (olds ++ before)) t.anchor ≡ base
+base_is l n j olds before more t base width anchored (inl zero_is) (inl p) =
+    ap (base_of (named n (olds ++ before))) zero_is ∙ ap (λ k. replicate k 0) (sym width) ∙ sym p.1
+base_is l n j olds before more t base width anchored (inl zero_is) (inr p) = let e = p.1 in absurd (omega (arith, zero_is, e))
+base_is l n j olds before more t base width anchored (inr q) (inl p) = let e = q.2 in let f = p.0 in absurd (omega (arith, e, f))
+base_is l n j olds before more t base width anchored (inr q) (inr p) =
+    let one : q.0 ≡ p.0 = (let e = q.2 in let f = p.1 in omega (arith, e, f)) in
+    let at : t.anchor ≡ suc (length olds + q.0) = (let e = q.2 in omega (arith, e, anchored)) in
     let got : slice_get (before ++ more) q.0 ≡ Some q.1 = got_front before more q.0 q.1 q.3 in
     let same : q.1 ≡ base = some_is q.1 base (sym got ∙ ap (slice_get (before ++ more)) one ∙ p.2) in
-    ap (base_of (named n before)) at ∙ got_or before q.0 q.1 [] q.3 ∙ same
+    let there : slice_get (olds ++ before) (length olds + q.0) ≡ Some q.1 = get_behind olds before q.0 ∙ q.3 in
+    ap (base_of (named n (olds ++ before))) at ∙ got_or (olds ++ before) (length olds + q.0) q.1 [] there ∙ same
 
-begun : (f : Format) (n at k : ℕ) (vectors : List (List ℕ)) (e : Entry) (first rest bytes : List ℕ) (start past : ℕ) → Spells f n vectors false e first → bytes ≡ first ++ rest → 1 ≤ at → start ≡ at →
+pub begun : (f : Format) (n at k : ℕ) (vectors : List (List ℕ)) (e : Entry) (first rest bytes : List ℕ) (start past : ℕ) → Spells f n vectors false e first → bytes ≡ first ++ rest → 1 ≤ at → start ≡ at →
     start + length first ≡ past → IsNext k e → Begins f n at k vectors bytes rest (placed e start past)
 begun f n at k vectors e first rest bytes start past s parts low place long next =
     let other : (at == 0) ≡ false = ne_eqb at 0 (λ z. omega (arith, z, low)) in
@@ -88,27 +89,33 @@ no_epoch Commands k t = tt
 no_epoch WideValues k t = tt
 no_epoch WideCommands k t = tt
 
-pub reads_items : (l : Load) (anchors : ℕ → List (List ℕ)) (n j at k to : ℕ) (before more : List (List ℕ)) (items : List Item) (bytes : List ℕ) → l.streams ≡ n →
-    slice_index l.opening.anchors.items j ≡ 0 → Spelled l anchors items bytes → Chain at items to → 1 ≤ at → AreOf j items → NameTheirs 0 before items → anchors j ≡ (before ++ anchors_in items) ++ more →
-    Reads (format_of l.mode) n at k (named n before) bytes (map (placed_in l.mode) items)
-reads_items l anchors n j at k to before more [] bytes width none h c low of names all = h
-reads_items l anchors n j at k to before more (Record t ∷ items) bytes width none h c low of names all =
+pub reads_items : (l : Load) (anchors : ℕ → List (List ℕ)) (n j at k to : ℕ) (olds before more : List (List ℕ)) (items : List Item) (bytes : List ℕ) → l.streams ≡ n →
+    slice_index l.opening.anchors.items j ≡ length olds → Spelled l anchors items bytes → Chain at items to → 1 ≤ at → AreOf j items → NameTheirs (slice_index l.opening.anchors.items j) before items →
+    anchors j ≡ (before ++ anchors_in items) ++ more → Reads (format_of l.mode) n at k (named n (olds ++ before)) bytes (map (placed_in l.mode) items)
+reads_items l anchors n j at k to olds before more [] bytes width anchored h c low of names all = h
+reads_items l anchors n j at k to olds before more (Record t ∷ items) bytes width anchored h c low of names all =
     let own : t.call.place.stream ≡ j = of t (inl refl) in
     let is = h.4 in
     let theirs : Names l j (before ++ (anchors_in items ++ more)) t.call.anchor is.base =
     subst (λ (v : List (List ℕ)). Names l j v t.call.anchor is.base) (all ∙ append_assoc before (anchors_in items) more) (subst (λ k. Names l k (anchors k) t.call.anchor is.base) own is.named) in
-    let base = base_is l n j before (anchors_in items ++ more) t.call is.base width none names.0 theirs in
-    let spells : Spells (format_of l.mode) n (named n before) false (entry_of l.mode t) h.0 = subst (λ k. Spells (format_of l.mode) k (named n before) false (entry_of l.mode t) h.0) width (is.spelled (named n before) base) in
+    let vectors : List (List ℕ) = named n (olds ++ before) in
+    let base = base_is l n j olds before (anchors_in items ++ more) t.call is.base width anchored names.0 theirs in
+    let spells : Spells (format_of l.mode) n vectors false (entry_of l.mode t) h.0 = subst (λ k. Spells (format_of l.mode) k vectors false (entry_of l.mode t) h.0) width (is.spelled vectors base) in
     let lt = c.1 in
-    let rest = reads_items l anchors n j t.call.place.past k to before more items h.1 width none h.5 c.2 (omega (arith, lt)) (λ u m. of u (inr m)) names.1 all in (
+    let rest = reads_items l anchors n j t.call.place.past k to olds before more items h.1 width anchored h.5 c.2 (omega (arith, lt)) (λ u m. of u (inr m)) names.1 all in (
       h.1,
-      begun (format_of l.mode) n at k (named n before) (entry_of l.mode t) h.0 h.1 bytes t.call.place.start t.call.place.past spells h.2 low c.0 h.3 (no_epoch l.mode k t),
-      subst (λ (v : List (List ℕ)). Reads (format_of l.mode) n t.call.place.past (epoch_after k (entry_of l.mode t)) v h.1 (map (placed_in l.mode) items)) (sym (same_vectors l.mode (named n before) t))
-          (subst (λ (q : ℕ). Reads (format_of l.mode) n t.call.place.past q (named n before) h.1 (map (placed_in l.mode) items)) (sym (same_number l.mode k t)) rest),
+      begun (format_of l.mode) n at k vectors (entry_of l.mode t) h.0 h.1 bytes t.call.place.start t.call.place.past spells h.2 low c.0 h.3 (no_epoch l.mode k t),
+      subst (λ (v : List (List ℕ)). Reads (format_of l.mode) n t.call.place.past (epoch_after k (entry_of l.mode t)) v h.1 (map (placed_in l.mode) items)) (sym (same_vectors l.mode vectors t))
+          (subst (λ (q : ℕ). Reads (format_of l.mode) n t.call.place.past q vectors h.1 (map (placed_in l.mode) items)) (sym (same_number l.mode k t)) rest),
     )
-reads_items l anchors n j at k to before more (Anchor x y v ∷ items) bytes width none h c low of names all =
-    let spells : Spells (format_of l.mode) n (named n before) false (entry.Anchor v) h.0 = subst (λ k. Spells (format_of l.mode) k (named n before) false (entry.Anchor v) h.0) width (h.4 (named n before)) in
+reads_items l anchors n j at k to olds before more (Anchor x y v ∷ items) bytes width anchored h c low of names all =
+    let vectors : List (List ℕ) = named n (olds ++ before) in
+    let spells : Spells (format_of l.mode) n vectors false (entry.Anchor v) h.0 = subst (λ k. Spells (format_of l.mode) k vectors false (entry.Anchor v) h.0) width (h.4 vectors) in
     let lt = c.1 in
     let there : anchors j ≡ ((before ++ v ∷ []) ++ anchors_in items) ++ more = all ∙ ap (λ (z : List (List ℕ)). z ++ more) (sym (append_assoc before (v ∷ []) (anchors_in items))) in
-    let rest = reads_items l anchors n j y k to (before ++ v ∷ []) more items h.1 width none h.5 c.2 (omega (arith, lt)) of names there in
-    (h.1, begun (format_of l.mode) n at k (named n before) (entry.Anchor v) h.0 h.1 bytes x y spells h.2 low c.0 h.3 tt, rest)
+    let rest = reads_items l anchors n j y k to olds (before ++ v ∷ []) more items h.1 width anchored h.5 c.2 (omega (arith, lt)) of names there in
+    let after : named n (olds ++ (before ++ v ∷ [])) ≡ vectors ++ v ∷ [] = ap (named n) (sym (append_assoc olds before (v ∷ []))) in (
+      h.1,
+      begun (format_of l.mode) n at k vectors (entry.Anchor v) h.0 h.1 bytes x y spells h.2 low c.0 h.3 tt,
+      subst (λ (z : List (List ℕ)). Reads (format_of l.mode) n y k z h.1 (map (placed_in l.mode) items)) after rest,
+    )

@@ -1,5 +1,5 @@
 -- What holds of every run, whatever its events.
-use Rattle.std.specs.Prelude.{ℕ, ◌⊎◌, ◌==◌, map, false, ◌∷◌, ◌<◌, ◌≤◌, ◌+◌, ◌≡◌, ◌↔◌, true, List, [], length, take, slice_get, slice_index, slice_index_or, Some, None, Ok}
+use Rattle.std.specs.Prelude.{ℕ, ◌⊎◌, ◌==◌, map, false, ◌++◌, ◌∷◌, ◌<◌, ◌≤◌, ◌+◌, ◌≡◌, ◌↔◌, true, List, [], length, take, slice_get, slice_index, slice_index_or, Some, None, Ok}
 use Rattle.std.specs.List.{filter}
 use Rattle.tau_base.specs.declared.value.LogMode.{LogMode}
 use Rattle.tau_base.specs.Modes.{format_of}
@@ -19,12 +19,14 @@ use Rattle.tau_core.specs.Stands.{Stands}
 use Rattle.tau_scan.specs.declared.log.Log.{Log}
 use Rattle.tau_scan.specs.Reading.{log_of, log_of_contents}
 use Rattle.tau_scan.specs.Taken.{kept_in}
+use Rattle.tau_scan.specs.Sound.{IsSound}
+use Rattle.tau_run.specs.Start.{Start, old_at, opened_at}
 use Rattle.tau_run.specs.Run.{Committed, Run, pair_of, IsHistory, acts, records_in, has_ack, vector_of, AllAcked}
-use Rattle.tau_run.specs.RecoveredFacts.{catalogue_of, takes, IsRecovered}
+use Rattle.tau_run.specs.RecoveredFacts.{takes, IsRecovered}
 use Rattle.tau_base.specs.declared.value.Call.{Call}
 use Rattle.tau_proc.specs.Takes.{takes as takes_call}
 use Rattle.tau_text.specs.Text.{workload_of}
-use Rattle.tau_run.specs.CoreRun.{IsLoadOf, AreAcks, IsRunOf, IsSoundLoad, IsCourse}
+use Rattle.tau_run.specs.CoreRun.{IsLoadOn, AreAcks, IsRunOf, IsSoundLoad, IsCourse}
 use Rattle.tau_text.specs.declared.load.Turn.{Turn}
 use Rattle.tau_machine.specs.Runs.{IsOpening}
 use Rattle.tau_run.specs.Turns.{Progress, IsWholeRun, IsPartOfRun}
@@ -34,42 +36,46 @@ use Rattle.tau_run.specs.StopsLeave.{HasFront, IsLeft, IsOver}
 abbrev pub TextsAreSound : Type 0
 TextsAreSound = (text : List ℕ) (load : Workload) → workload_of text ≡ Ok load → ((k : ℕ) (c : Call) → slice_get load.calls k ≡ Some c → takes_call load.declarations.procs c ≡ true) → IsSoundLoad load
 
--- a core that stands has made a run, with its acknowledgements in whatever order the workers' ones were told
+-- a core that stands on what a run begins with has made one, with its acknowledgements in whatever order the workers' ones were told
 abbrev pub RunIsThere : Type 0
-RunIsThere = (n m : ℕ) (mode : LogMode) (load : Workload) (p : Plain) (K : List (Act Txn)) (h : Hidden) → Stands p K h → IsLoadOf n m mode load p.load →
-    (acks : List (ℕ × List ℕ)) → AreAcks p.load (core_of p h) acks → (run : Run) × IsRunOf n p.load K (core_of p h) (catalogue_of load) run × (run.acks ≡ acks)
+RunIsThere = (n m : ℕ) (mode : LogMode) (load : Workload) (p : Plain) (K : List (Act Txn)) (h : Hidden) → Stands p K h → (start : Start) → IsLoadOn n m mode load start p.load →
+    length start.old ≡ n →
+    (acks : List (ℕ × List ℕ)) → AreAcks p.load (core_of p h) acks → (run : Run) × IsRunOf n p.load K (core_of p h) load run × (run.acks ≡ acks) × (run.start ≡ start)
 
 -- it is a history of the workload
 abbrev pub RunIsHistory : Type 0
-RunIsHistory = (n m : ℕ) (mode : LogMode) (load : Workload) (l : Load) (K : List (Act Txn)) (s : Core) → IsCourse n m mode load l K s → (run : Run) → IsRunOf n l K s (catalogue_of load) run → IsHistory n m load run
+RunIsHistory = (n m : ℕ) (mode : LogMode) (load : Workload) (l : Load) (K : List (Act Txn)) (s : Core) → (run : Run) → IsCourse n m mode load run.start l K s → IsRunOf n l K s load run → IsHistory n m load run
 
--- what the streams were given can be read, and is the records of the history, stream by stream
+-- what the streams have can be read: the old records, and then those of the history, stream by stream
 abbrev pub ContentsAreRecords : Type 0
-ContentsAreRecords = (n m : ℕ) (mode : LogMode) (load : Workload) (l : Load) (K : List (Act Txn)) (s : Core) → IsCourse n m mode load l K s → (run : Run) → IsRunOf n l K s (catalogue_of load) run →
-    (log : Log) × (log_of_contents (format_of mode) run.contents ≡ Ok log) × ((j : ℕ) → j < n → kept_in j (slice_index_or log.streams j []) ≡ records_in mode load run j)
+ContentsAreRecords = (n m : ℕ) (mode : LogMode) (load : Workload) (l : Load) (K : List (Act Txn)) (s : Core) → (run : Run) → IsCourse n m mode load run.start l K s → IsRunOf n l K s load run →
+    (log : Log) × (log_of_contents (format_of mode) run.contents ≡ Ok log) × ((j : ℕ) → j < n → kept_in j (slice_index_or log.streams j []) ≡ kept_in j (slice_index_or run.start.log.streams j []) ++ records_in mode load run j)
 
--- images of which each has nothing, or the catalogue and the first of the items that were gathered, whatever the others have: what recovery finds of them
+-- Images of which each has what was there, or what the stream held first and the first of the items that were gathered,
+-- whatever the others have: what recovery finds of them, if what was there was sound.
 abbrev pub ImagesAreRecovered : Type 0
-ImagesAreRecovered = (n m : ℕ) (mode : LogMode) (load : Workload) (l : Load) (K : List (Act Txn)) (s : Core) → IsCourse n m mode load l K s → (run : Run) → IsRunOf n l K s (catalogue_of load) run →
-    (images : List (List ℕ)) → length images ≡ n → ((j : ℕ) (image : List ℕ) → slice_get images j ≡ Some image → IsLeft n j (catalogue_of load) l s image) → IsRecovered n mode load run images
+ImagesAreRecovered = (n m : ℕ) (mode : LogMode) (load : Workload) (l : Load) (K : List (Act Txn)) (s : Core) → (run : Run) → IsCourse n m mode load run.start l K s → IsRunOf n l K s load run →
+    IsSound (format_of mode) run.start.old run.start.log run.start.base →
+    (images : List (List ℕ)) → length images ≡ n → ((j : ℕ) (image : List ℕ) → slice_get images j ≡ Some image → IsLeft n j (old_at run.start j) (opened_at load run.start j) l s image) → IsRecovered n mode load run images
 
 -- images that reach what is persisted: each updating call that is acknowledged is taken, and each on which an acknowledged call depends
 abbrev pub AckedIsTaken : Type 0
-AckedIsTaken = (n m : ℕ) (mode : LogMode) (load : Workload) (l : Load) (K : List (Act Txn)) (s : Core) → IsCourse n m mode load l K s → (run : Run) → IsRunOf n l K s (catalogue_of load) run →
+AckedIsTaken = (n m : ℕ) (mode : LogMode) (load : Workload) (l : Load) (K : List (Act Txn)) (s : Core) → (run : Run) → IsCourse n m mode load run.start l K s → IsRunOf n l K s load run →
     (images : List (List ℕ)) → length images ≡ n →
-    ((j : ℕ) (image : List ℕ) → slice_get images j ≡ Some image → (bytes : List ℕ) × HasFront n j (catalogue_of load) l s bytes image × (slice_index s.plv j ≤ length (catalogue_of load) + length bytes)) →
+    ((j : ℕ) (image : List ℕ) → slice_get images j ≡ Some image → (bytes : List ℕ) × HasFront n j (opened_at load run.start j) l s bytes image × (slice_index s.plv j ≤ length (opened_at load run.start j) + length bytes)) →
     (log : Log) → log_of None images ≡ Ok log → (x : Act Committed) → Member x (acts load.declarations.procs run) → has_ack run x.call.number ≡ true →
     (updates x.effect ≡ true → takes log x.call ≡ true) × ((u : Act Committed) → Depends (acts load.declarations.procs run) x u → updates u.effect ≡ true → takes log u.call ≡ true)
 
 -- At the end: a call is acknowledged exactly where it is persisted; where it is not, its stream was stopped; an image of
--- a stream that was not stopped has all of it; and each stream begins with the catalogue.
+-- a stream that was not stopped has all of it; and each stream
+-- begins with what it held first.
 abbrev pub EndsWell : Type 0
-EndsWell = (n m : ℕ) (mode : LogMode) (load : Workload) (l : Load) (K : List (Act Txn)) (s : Core) → IsCourse n m mode load l K s → (run : Run) → IsRunOf n l K s (catalogue_of load) run → IsOver n s →
+EndsWell = (n m : ℕ) (mode : LogMode) (load : Workload) (l : Load) (K : List (Act Txn)) (s : Core) → (run : Run) → IsCourse n m mode load run.start l K s → IsRunOf n l K s load run → IsOver n s →
     ((c : Committed) → Member c run.calls → (has_ack run c.number ≡ true) ↔ (covers s.plv (vector_of c) ≡ true)) ×
     ((c : Committed) → Member c run.calls → (j : ℕ) → j < n → slice_index s.plv j < slice_index (vector_of c) j → (end : ℕ) × ((s.streams j).stop ≡ Some end)) ×
-    ((j : ℕ) → j < n → (s.streams j).stop ≡ None → (image bytes : List ℕ) → HasFront n j (catalogue_of load) l s bytes image → slice_index s.plv j ≤ length (catalogue_of load) + length bytes →
+    ((j : ℕ) → j < n → (s.streams j).stop ≡ None → (image bytes : List ℕ) → HasFront n j (opened_at load run.start j) l s bytes image → slice_index s.plv j ≤ length (opened_at load run.start j) + length bytes →
     HasContent (format_of l.mode) n j (slice_index_or run.contents j []) image) ×
-    ((j : ℕ) (content : List ℕ) → slice_get run.contents j ≡ Some content → take (length (catalogue_of load)) content ≡ catalogue_of load)
+    ((j : ℕ) (content : List ℕ) → slice_get run.contents j ≡ Some content → take (length (opened_at load run.start j)) content ≡ opened_at load run.start j)
 
 -- no event gives a call up
 abbrev pub KeepsCall : Event → Type 0
@@ -86,7 +92,7 @@ AllWait load s = (k : ℕ) → 1 ≤ k → k ≤ length load.calls → (w : ℕ)
 
 -- Where no call was given up and no stream was stopped, every call is acknowledged at the end.
 abbrev pub NothingIsLost : Type 0
-NothingIsLost = (n m : ℕ) (mode : LogMode) (load : Workload) (l : Load) (K : List (Act Txn)) (s : Core) → IsCourse n m mode load l K s → (run : Run) → IsRunOf n l K s (catalogue_of load) run →
+NothingIsLost = (n m : ℕ) (mode : LogMode) (load : Workload) (l : Load) (K : List (Act Txn)) (s : Core) → (run : Run) → IsCourse n m mode load run.start l K s → IsRunOf n l K s load run →
     (opening : Core) (events : List Event) → machine.Run (setting_of l) opening events K s → KeepCalls events → AllWait load opening → IsOver n s → ((j : ℕ) → j < n → (s.streams j).stop ≡ None) → AllAcked load run
 
 -- A run by turns, whole or a part, is a run of the machine by its events, with its commit order; no call is given up in

@@ -1,3 +1,4 @@
+pub mod Start
 pub mod Run
 pub mod RecoveredFacts
 pub mod CoreRun

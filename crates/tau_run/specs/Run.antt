@@ -6,7 +6,7 @@ use Rattle.tau_base.specs.declared.value.Value.{Value}
 use Rattle.tau_base.specs.declared.value.Call.{Call}
 use Rattle.tau_base.specs.declared.value.LogMode.{LogMode}
 use Rattle.tau_base.specs.Modes.{is_command}
-use Rattle.tau_base.specs.Database.{Db, empty_db}
+use Rattle.tau_base.specs.Database.{Db}
 use Rattle.tau_proc.specs.declared.proc.Proc.{Proc}
 use Rattle.tau_proc.specs.declared.reply.Reply.{Reply}
 use Rattle.tau_proc.specs.Effect.{Effect}
@@ -24,6 +24,7 @@ use Rattle.tau_report.specs.declared.report.Fate.{Fate}
 use Rattle.tau_report.specs.declared.report.Fate.TheVariants.{Acked, Unsure, Unrun}
 use Rattle.tau_report.specs.declared.report.RunReport.{RunReport}
 use Rattle.tau_report.specs.Report.{report_text}
+use Rattle.tau_run.specs.Start.{Start, opened_at}
 
 -- a call that committed: its number, itself, whether it has a record, and its place. Of the place of a call
 -- without a record only the vector counts
@@ -33,9 +34,10 @@ pub record Committed : Type 0 where
   pub logs : Bool
   pub place : Place
 
--- a run: the committed calls in the order of the report, the contents that the streams were given, and the
--- acknowledged calls with their vectors in the order of acknowledgement
+-- a run: where it began, the committed calls in the order of the report, the contents that the streams have at the end,
+-- and the acknowledged calls with their vectors in the order of acknowledgement
 pub record Run : Type 0 where
+  pub start : Start
   pub calls : List Committed
   pub contents : List (List ℕ)
   pub acks : List (ℕ × List ℕ)
@@ -53,9 +55,9 @@ ends run = map length run.contents
 abbrev pub means : List Proc → Committed → Db → Effect
 means procs c db = meaning procs c.call db
 
--- the committed calls with what they do one after another
+-- the committed calls with what they do one after another, from where the run began
 abbrev pub acts : List Proc → Run → List (Act Committed)
-acts procs run = trace (means procs) run.calls empty_db
+acts procs run = trace (means procs) run.calls run.start.base
 
 -- the vector of a call, with its own component at the end of its record where it has one
 abbrev pub vector_of : Committed → List ℕ
@@ -78,7 +80,7 @@ StandBetween from to (c ∷ cs) = (from ≤ c.place.start) × (c.place.start < c
 abbrev pub of_stream : List Committed → ℕ → List Committed
 of_stream calls j = filter (in_stream (λ (c : Committed). c.place) (λ c. c.logs) j) calls
 
--- a history of this workload by m workers over n streams
+-- a history of this workload by m workers over n streams, whose records stand after what each stream held first
 pub record IsHistory (n m : ℕ) (load : Workload) (run : Run) : Type 0 where
   -- each committed call is that call of the workload, once
   pub of_workload : (c : Committed) → Member c run.calls → (1 ≤ c.number) × (slice_get load.calls (c.number - 1) ≡ Some c.call)
@@ -86,7 +88,7 @@ pub record IsHistory (n m : ℕ) (load : Workload) (run : Run) : Type 0 where
   -- a call has a record exactly where it writes, and in the stream of its worker
   pub logs : map (λ c. c.logs) run.calls ≡ map (λ x. updates x.effect) (acts load.declarations.procs run)
   pub homes : (c : Committed) → Member c run.calls → c.logs ≡ true → c.place.stream ≡ ((c.number - 1) % m) % n
-  pub stand : (j : ℕ) → j < n → StandBetween 0 (slice_index (ends run) j) (of_stream run.calls j)
+  pub stand : (j : ℕ) → j < n → StandBetween (length (opened_at load run.start j)) (slice_index (ends run) j) (of_stream run.calls j)
   pub widths : (c : Committed) → Member c run.calls → length c.place.dep ≡ n
   pub streams : length run.contents ≡ n
   -- the calls stand in the order of the reported history
@@ -117,7 +119,7 @@ report_of load run rows = record { acks = run.acks; fates = fates load run; orde
 
 -- the database after the history
 abbrev pub last_db : Workload → Run → Db
-last_db load run = exec (means load.declarations.procs) run.calls empty_db
+last_db load run = exec (means load.declarations.procs) run.calls run.start.base
 
 -- what the record of a call holds
 abbrev pub content_of : LogMode → Act Committed → Content

@@ -3,15 +3,15 @@ use Rattle.std.specs.Prelude.{ℕ, ◌<◌, ◌≤◌, ◌≡◌, ◌⊎◌, Boo
 use Rattle.tau_base.specs.declared.value.LogMode.{LogMode}
 use Rattle.tau_text.specs.declared.load.Turn.{Turn}
 use Rattle.tau_text.specs.declared.load.Workload.{Workload}
-use Rattle.tau_open.specs.Outside.{calls_to_open}
 use Rattle.tau_report.specs.Report.{ack_lines}
 use Rattle.tau_machine.specs.State.{Core}
 use Rattle.tau_machine.specs.Runs as machine
 use Rattle.tau_core.specs.declared.state.Load.{Load}
 use Rattle.tau_core.specs.View.{setting_of}
+use Rattle.tau_run.specs.Start.{Start}
 use Rattle.tau_run.specs.Run.{Run, IsHistory, IsReportOf, AllAcked}
-use Rattle.tau_run.specs.RecoveredFacts.{catalogue_of, IsImaged, IsAcknowledged, IsEnded}
-use Rattle.tau_run.specs.CoreRun.{IsLoadOf, IsStart, IsRunOf}
+use Rattle.tau_run.specs.RecoveredFacts.{IsImaged, IsAcknowledged, IsEnded}
+use Rattle.tau_run.specs.CoreRun.{IsLoadOn, IsBegun, IsRunOf}
 use Rattle.tau_run.specs.Turns.{Progress, IsWholeRun, IsPartOfRun}
 
 -- how a run ended: it went to its end, a disk failed, the sink failed, it ran out of memory, or it was not begun
@@ -31,16 +31,17 @@ abbrev pub NamesLowest : ℕ → (ℕ → Option ℕ) → Option ℕ → Type 0
 NamesLowest n stops None = (j : ℕ) → j < n → stops j ≡ None
 NamesLowest n stops (Some j) = (j < n) × ((at : ℕ) × (stops j ≡ Some at)) × ((i : ℕ) → i < j → stops i ≡ None)
 
--- What was written of the run, by how it ended; `stops` tells where each stream was stopped, and `fault` is the line that tells of a disk that failed before the run began.
-abbrev pub RunTells : (ended : Run → Type 0) → ℕ → Workload → (ℕ → Option ℕ) → Type 0 → (ℕ → ℕ → Type 0) → (List ℕ → Type 0) → (ℕ → List ℕ) → Run → Ending → Type 0
-RunTells ended n load stops sink_rose made wrote fault run Done = ended run × NamesLowest n stops None × AllAcked load run × ((text : List ℕ) × IsReportOf load run None text × wrote text)
-RunTells ended n load stops sink_rose made wrote fault run (DiskFailed j) =
-    (ended run × NamesLowest n stops (Some j) × ((i : ℕ) → i < n → (k : ℕ) × (calls_to_open ≤ k) × made i k) × ((text : List ℕ) × IsReportOf load run (Some j) text × wrote text))
-    ⊎ ((run.calls ≡ []) × (run.acks ≡ []) × ((k : ℕ) × (k ≤ calls_to_open) × made j k) × WroteFront wrote sink_rose (fault j))
-RunTells ended n load stops sink_rose made wrote fault run SinkFailed =
+-- What was written of the run, by how it ended; `stops` tells where each stream was stopped, `opening` how many calls open
+-- each disk, and `fault` is the line that tells of a disk that failed before the run began.
+abbrev pub RunTells : (ended : Run → Type 0) → ℕ → Workload → (ℕ → Option ℕ) → Type 0 → (ℕ → ℕ) → (ℕ → ℕ → Type 0) → (List ℕ → Type 0) → (ℕ → List ℕ) → Run → Ending → Type 0
+RunTells ended n load stops sink_rose opening made wrote fault run Done = ended run × NamesLowest n stops None × AllAcked load run × ((text : List ℕ) × IsReportOf load run None text × wrote text)
+RunTells ended n load stops sink_rose opening made wrote fault run (DiskFailed j) =
+    (ended run × NamesLowest n stops (Some j) × ((i : ℕ) → i < n → (k : ℕ) × (opening i ≤ k) × made i k) × ((text : List ℕ) × IsReportOf load run (Some j) text × wrote text))
+    ⊎ ((run.calls ≡ []) × (run.acks ≡ []) × ((k : ℕ) × (k ≤ opening j) × made j k) × WroteFront wrote sink_rose (fault j))
+RunTells ended n load stops sink_rose opening made wrote fault run SinkFailed =
     ended run × ((text : List ℕ) × (failed : Option ℕ) × (k : ℕ) × IsReportOf load run failed text × NamesLowest n stops failed × (k < length text) × wrote (take k text))
-RunTells ended n load stops sink_rose made wrote fault run NoMemory = (k : ℕ) × WroteFront wrote sink_rose (ack_lines (take k run.acks))
-RunTells ended n load stops sink_rose made wrote fault run NotBegun = (run.calls ≡ []) × (run.acks ≡ [])
+RunTells ended n load stops sink_rose opening made wrote fault run NoMemory = (k : ℕ) × WroteFront wrote sink_rose (ack_lines (take k run.acks))
+RunTells ended n load stops sink_rose opening made wrote fault run NotBegun = (run.calls ≡ []) × (run.acks ≡ [])
 
 -- the turns of a workload; none where it has no section of them
 abbrev pub turns_of : Workload → List Turn
@@ -62,17 +63,17 @@ abbrev pub chosen_by : Option (List Turn) → ℕ → ℕ → Workload → Bool 
 chosen_by None n m load = in_any_order
 chosen_by (Some turns) n m load = by_turns n m load
 
--- The run is what these events have made from the opening of this workload on new streams; a stream was stopped where the
--- function tells.
+-- The run is what these events have made from the opening of this workload where the run began; a stream was stopped
+-- where the function tells.
 pub record IsCoreRun (by : Load → Core → Progress → Type 0) (n m : ℕ) (mode : LogMode) (load : Workload) (stops : ℕ → Option ℕ) (run : Run) : Type 0 where
   pub stands_on : Load
-  pub load_is : IsLoadOf n m mode load stands_on
+  pub load_is : IsLoadOn n m mode load run.start stands_on
   pub opening : Core
-  pub start : IsStart stands_on opening
+  pub begun : IsBegun stands_on opening
   pub progress : Progress
   pub led : machine.Run (setting_of stands_on) opening progress.events progress.joined progress.state
   pub chosen : by stands_on opening progress
-  pub is : IsRunOf n stands_on progress.joined progress.state (catalogue_of load) run
+  pub is : IsRunOf n stands_on progress.joined progress.state load run
   pub told : run.acks ≡ progress.told
   pub stopped : (j : ℕ) → j < n → (progress.state.streams j).stop ≡ stops j
 
@@ -83,16 +84,17 @@ IsCoreRunAt by n m mode load stops run NotBegun = (run.calls ≡ []) × (run.ack
 IsCoreRunAt by n m mode load stops run (DiskFailed j) = IsCoreRun (by true) n m mode load stops run ⊎ ((run.calls ≡ []) × (run.acks ≡ []))
 IsCoreRunAt by n m mode load stops run other = IsCoreRun (by true) n m mode load stops run
 
--- What was written is its report, each image of a stop since the entry is a closed part of it, and a stop now leaves
--- what it acknowledged.
-pub record RunFacts (by : Bool → Load → Core → Progress → Type 0) (n m : ℕ) (mode : LogMode) (load : Workload) (unborn : Type 0) (past now : ℕ → List ℕ → Type 0) (rose : ℕ → Type 0) (sink_rose : Type 0) (made : ℕ → ℕ → Type 0)
-    (wrote : List ℕ → Type 0) (fault : ℕ → List ℕ) (ending : Ending) : Type 0 where
+-- The run began so. What was written is its report, each image of a stop since the entry is what was there and a closed
+-- part of it, and a stop now leaves what it acknowledged.
+pub record RunFacts (by : Bool → Load → Core → Progress → Type 0) (n m : ℕ) (mode : LogMode) (load : Workload) (start : Start) (unborn : Type 0) (past now : ℕ → List ℕ → Type 0) (rose : ℕ → Type 0) (sink_rose : Type 0)
+    (opening : ℕ → ℕ) (made : ℕ → ℕ → Type 0) (wrote : List ℕ → Type 0) (fault : ℕ → List ℕ) (ending : Ending) : Type 0 where
   pub run : Run
+  pub begins : run.start ≡ start
   pub history : IsHistory n m load run
   -- it is of a run of the core, in which a stream stops only where its disk failed
   pub stops : ℕ → Option ℕ
   pub core : IsCoreRunAt by n m mode load stops run ending
   pub stopped : (j k : ℕ) → stops j ≡ Some k → rose j
-  pub told : RunTells (IsEnded n mode load now rose) n load stops sink_rose made wrote fault run ending
+  pub told : RunTells (IsEnded n mode load now rose) n load stops sink_rose opening made wrote fault run ending
   pub imaged : IsImaged n mode load unborn past run
   pub acknowledged : IsAcknowledged n load now run

@@ -8,21 +8,22 @@ use Rattle.tau_machine.specs.State.{Ticket, Core}
 use Rattle.tau_core.specs.declared.state.Load.{Load}
 use Rattle.tau_core.specs.Pieces.{Spelled}
 
--- the image has the catalogue and after it the bytes of the first of the items that were gathered
-pub record HasFront (n j : ℕ) (catalogue : List ℕ) (l : Load) (s : Core) (bytes image : List ℕ) : Type 0 where
+-- the image has what the stream held first, and after it the bytes of the first of the items that were gathered
+pub record HasFront (n j : ℕ) (first : List ℕ) (l : Load) (s : Core) (bytes image : List ℕ) : Type 0 where
   pub count : ℕ
   pub spelled : Spelled l (λ i. (s.streams i).anchors) (take count (s.streams j).moved) bytes
-  pub has : HasContent (format_of l.mode) n j (catalogue ++ bytes) image
+  pub has : HasContent (format_of l.mode) n j (first ++ bytes) image
 
--- the image has nothing, or such a front
-abbrev pub IsLeft : ℕ → ℕ → List ℕ → Load → Core → List ℕ → Type 0
-IsLeft n j catalogue l s image = HasContent (format_of l.mode) n j [] image ⊎ ((bytes : List ℕ) × HasFront n j catalogue l s bytes image)
+-- the image has what was there, or such a front
+abbrev pub IsLeft : ℕ → ℕ → List ℕ → List ℕ → Load → Core → List ℕ → Type 0
+IsLeft n j old first l s image = HasContent (format_of l.mode) n j old image ⊎ ((bytes : List ℕ) × HasFront n j first l s bytes image)
 
--- What stops may leave: `past` at some moment since the entry, `now` now. `rose` are the streams whose disk failed.
-pub record Leaves (n : ℕ) (catalogue : List ℕ) (l : Load) (s : Core) (past now : ℕ → List ℕ → Type 0) (rose : ℕ → Type 0) : Type 0 where
-  pub before : (j : ℕ) (x : List ℕ) → j < n → past j x → IsLeft n j catalogue l s x
+-- What stops may leave, where each stream was opened from the old content to the first one: `past` at some moment since the
+-- entry, `now` now. `rose` are the streams whose disk failed.
+pub record Leaves (n : ℕ) (old first : ℕ → List ℕ) (l : Load) (s : Core) (past now : ℕ → List ℕ → Type 0) (rose : ℕ → Type 0) : Type 0 where
+  pub before : (j : ℕ) (x : List ℕ) → j < n → past j x → IsLeft n j (old j) (first j) l s x
   -- whatever a stop now leaves reaches what is persisted
-  pub present : (j : ℕ) (x : List ℕ) → j < n → now j x → (bytes : List ℕ) × HasFront n j catalogue l s bytes x × (slice_index s.plv j ≤ length catalogue + length bytes)
+  pub present : (j : ℕ) (x : List ℕ) → j < n → now j x → (bytes : List ℕ) × HasFront n j (first j) l s bytes x × (slice_index s.plv j ≤ length (first j) + length bytes)
   -- and it may leave no more than that
   pub reached : (j : ℕ) (x : List ℕ) → j < n → now j x → (y content : List ℕ) × now j y × HasContent (format_of l.mode) n j content y × (length content ≡ slice_index s.plv j)
   pub stopped : (j at : ℕ) → (s.streams j).stop ≡ Some at → rose j
