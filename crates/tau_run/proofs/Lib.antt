@@ -24,6 +24,8 @@ pub mod RunExists
 pub mod Keeping
 pub mod Complete
 pub mod Results
+pub mod Marked
+pub mod Lives
 pub mod Imaged
 pub mod Led
 pub mod Acks

@@ -57,7 +57,8 @@ pub record LogOf (l : Load) (load : Workload) (start : Start) (K : List (Act Txn
   pub elv : log.elv ≡ map length contents
   pub more : List (List Placed)
   pub goes_on : Continues start.log more log
-  pub marks : (m : Mark) → Member m (marks_from more) → m ≡ own_mark start
+  pub marks : (m : Mark) → Member m (marks_from more) → (m ≡ own_mark start) × (1 ≤ start.epoch)
+  pub long : length log.streams ≡ n
   pub is : IsLogOf (setting_of l) K s inv l.mode n width start log more
   pub all : (j : ℕ) (content : List ℕ) → slice_get contents j ≡ Some content →
       (ms : List Placed) × (slice_get log.streams j ≡ Some (slice_index_or start.log.streams j [] ++ ms)) × IsRead l load start K n j content ms
@@ -292,7 +293,8 @@ module _ (l : Load) (load : Workload) (start : Start) (n : ℕ) (b : IsStart (fo
     elv = refl;
     more = more;
     goes_on = goes_on d;
-    marks = λ m h. (new_mark_is m h).0;
+    marks = new_mark_is;
+    long = streams.long ∙ long;
     is = log_is d;
     all = λ j content e.
         (let lt = got_within contents j content e in

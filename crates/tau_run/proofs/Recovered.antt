@@ -198,11 +198,18 @@ module _ (n m : ℕ) (mode : LogMode) (load : Workload) (l : Load) (K : List (Ac
         asked : (log : Log) → log_of_contents f read.ys ≡ Ok log → log_of (Some f) images ≡ Ok log
         asked log e = log_there f images read.ys log have e
 
+  cut_of : (j : ℕ) (image : List ℕ) → IsLeft n j (old_at run.start j) (first j) l s image → (content : List ℕ) × HasContent f n j content image × IsCut j content
+  cut_of j image (inl e) = (old_at run.start j, e, inl refl)
+  cut_of j image (inr g) = (first j ++ g.0, g.1.has, inr (g.0, g.1.count, refl, g.1.spelled))
+
+  pub left_log : (images : List (List ℕ)) → length images ≡ n → ((j : ℕ) (image : List ℕ) → slice_get images j ≡ Some image → IsLeft n j (old_at run.start j) (first j) l s image) → CutLog images
+  left_log images count left = cut_log images count (λ j image e. cut_of j image (left j image e))
+
   -- images that a run has left, where what was there was sound
   pub recovered : IsSound f run.start.old run.start.log run.start.base → (images : List (List ℕ)) → length images ≡ n →
       ((j : ℕ) (image : List ℕ) → slice_get images j ≡ Some image → IsLeft n j (old_at run.start j) (first j) l s image) → IsRecovered n l.mode load run images
   recovered ok images count left =
-      let cut = cut_log images count (λ j image e. cut_of j image (left j image e)) in
+      let cut = left_log images count left in
       let log : Log = cut.made.log in
       let more : List (List Placed) = cut.made.more in
       let at_j : (j : ℕ) → j < n → (content : List ℕ) × (slice_get cut.contents j ≡ Some content) = λ j lt. some_at cut.contents j (subst (λ (q : ℕ). j < q) (sym cut.long) lt) in
@@ -226,7 +233,7 @@ module _ (n m : ℕ) (mode : LogMode) (load : Workload) (l : Load) (K : List (Ac
         old = old_listed f run.start.old cut.contents run.start.log more log c.begins.reads ok.fit cut.made.reads cut.made.goes_on;
         closed = is_closed (setting_of l) K s c.inv l.mode n c.load_is.streams run log more cut.made.is m load set is.calls;
         sound = stays_sound f run.start.old cut.contents run.start.log more log run.start.base base ok cut.made.reads cut.made.goes_on
-            (λ m h. subst (λ (k : Mark). AtMost k.lv log.elv) (sym (cut.made.marks m h)) cut.made.goes_on.longer)
+            (λ m h. subst (λ (k : Mark). AtMost k.lv log.elv) (sym (cut.made.marks m h).0) cut.made.goes_on.longer)
             (λ r h.
             let t = held_of (setting_of l) K s c.inv l.mode n c.load_is.streams run log more cut.made.is r h in
             subst (λ (k : Kept). AtMost run.start.log.elv k.place.dep) t.3 (c.waits t.0 t.1 t.4))
@@ -235,7 +242,3 @@ module _ (n m : ℕ) (mode : LogMode) (load : Workload) (l : Load) (K : List (Ac
               alike = λ order o. redo_as load run.start.log more log cut.made.declared order o run.start.base base (all_redo (setting_of l) K s c.inv l.mode n c.load_is.streams run log more cut.made.is m load set is.calls order o);
             });
       }
-    where
-      cut_of : (j : ℕ) (image : List ℕ) → IsLeft n j (old_at run.start j) (first j) l s image → (content : List ℕ) × HasContent f n j content image × IsCut j content
-      cut_of j image (inl e) = (old_at run.start j, e, inl refl)
-      cut_of j image (inr g) = (first j ++ g.0, g.1.has, inr (g.0, g.1.count, refl, g.1.spelled))

@@ -5,7 +5,7 @@ use Rattle.tau_base.specs.declared.value.LogMode.{LogMode}
 use Rattle.tau_base.specs.Modes.{format_of}
 use Rattle.tau_base.specs.Vectors.{covers}
 use Rattle.tau_block.specs.Image.{HasContent}
-use Rattle.tau_model.specs.History.{Act, Member, Depends, updates}
+use Rattle.tau_model.specs.History.{Act, Member, Depends, exec, updates}
 use Rattle.tau_machine.specs.Hands.{Txn}
 use Rattle.tau_machine.specs.State.{Setting, Core}
 use Rattle.tau_machine.specs.Accounts.{in_worker}
@@ -18,10 +18,14 @@ use Rattle.tau_core.specs.View.{setting_of, Hidden, core_of}
 use Rattle.tau_core.specs.Stands.{Stands}
 use Rattle.tau_scan.specs.declared.log.Log.{Log}
 use Rattle.tau_scan.specs.Reading.{log_of, log_of_contents}
-use Rattle.tau_scan.specs.Taken.{kept_in}
-use Rattle.tau_scan.specs.Sound.{IsSound}
+use Rattle.tau_scan.specs.Taken.{kept_in, is_taken_at}
+use Rattle.tau_base.specs.declared.format.Format.{Format}
+use Rattle.tau_base.specs.Database.{Db}
+use Rattle.tau_record.specs.declared.entry.Placed.{Placed}
+use Rattle.tau_epoch_laws.specs.Continues.{Continues}
+use Rattle.tau_scan.specs.Sound.{fresh_log, IsSound}
 use Rattle.tau_run.specs.Start.{Start, old_at, opened_at}
-use Rattle.tau_run.specs.Run.{Committed, Run, pair_of, IsHistory, acts, records_in, has_ack, vector_of, AllAcked}
+use Rattle.tau_run.specs.Run.{Committed, Run, means, pair_of, IsHistory, acts, records_in, has_ack, vector_of, AllAcked}
 use Rattle.tau_run.specs.RecoveredFacts.{takes, IsRecovered}
 use Rattle.tau_base.specs.declared.value.Call.{Call}
 use Rattle.tau_proc.specs.Takes.{takes as takes_call}
@@ -31,6 +35,7 @@ use Rattle.tau_text.specs.declared.load.Turn.{Turn}
 use Rattle.tau_machine.specs.Runs.{IsOpening}
 use Rattle.tau_run.specs.Turns.{Progress, IsWholeRun, IsPartOfRun}
 use Rattle.tau_run.specs.StopsLeave.{HasFront, IsLeft, IsOver}
+use Rattle.tau_run.specs.Lives.{Life, AreLives, last_contents, last_log, all_taken, exec_lives, AreMarked}
 
 -- a workload that a text means is sound, where its procedures take its calls
 abbrev pub TextsAreSound : Type 0
@@ -100,3 +105,32 @@ NothingIsLost = (n m : ℕ) (mode : LogMode) (load : Workload) (l : Load) (K : L
 abbrev pub TurnsAreARun : Type 0
 TurnsAreARun = (set : Setting) (m n : ℕ) (turns : List Turn) (opening : Core) (p : Progress) → IsOpening set opening → IsWholeRun set m n turns opening p ⊎ IsPartOfRun set m n turns opening p →
     machine.Run set opening p.events p.joined p.state × KeepCalls p.events × ((w : ℕ) → filter (λ (a : ℕ × List ℕ). set.worker_of a.0 == w) p.told ≡ map pair_of (p.state.acked w))
+
+-- Any number of runs and stops on a sound log leave a sound one, whose database is that of executing the calls that are
+-- taken, run after run; and what each stop left is what was there and a closed part of the history.
+abbrev pub LivesAreSound : Type 0
+LivesAreSound = (f : Format) (n : ℕ) (old : List (List ℕ)) (log : Log) (base : Db) → IsSound f old log base → (xs : List Life) → AreLives f n old xs →
+    IsSound f (last_contents old xs) (last_log log xs) (exec_lives xs base)
+
+abbrev pub LivesAreRecovered : Type 0
+LivesAreRecovered = (f : Format) (n : ℕ) (old : List (List ℕ)) (log : Log) (base : Db) → IsSound f old log base → (xs : List Life) → AreLives f n old xs →
+    (x : Life) → Member x xs → IsRecovered n x.mode x.load x.run x.images
+
+-- all of them are one history, by the procedures that the log declares
+abbrev pub LivesAreOne : Type 0
+LivesAreOne = (f : Format) (n : ℕ) (old : List (List ℕ)) (log : Log) (base : Db) → IsSound f old log base → (xs : List Life) → AreLives f n old xs →
+    exec_lives xs base ≡ exec (means (last_log log xs).declarations.procs) (all_taken xs) base
+
+-- the log that they leave goes on from the first one, and takes of its records what that one took: what is left out once is left out for good
+abbrev pub LeftOutForGood : Type 0
+LeftOutForGood = (f : Format) (n : ℕ) (old : List (List ℕ)) (log : Log) (base : Db) → IsSound f old log base → (x : Life) (xs : List Life) → AreLives f n old (x ∷ xs) →
+    (more : List (List Placed)) × Continues log more (last_log log (x ∷ xs)) ×
+    ((j i : ℕ) (ps : List Placed) → slice_get log.streams j ≡ Some ps → i < length ps → is_taken_at (last_log log (x ∷ xs)) j i ≡ is_taken_at log j i)
+
+-- and its epochs stand as those of a log do that runs left
+abbrev pub LivesAreMarked : Type 0
+LivesAreMarked = (f : Format) (n : ℕ) (old : List (List ℕ)) (log : Log) (base : Db) → IsSound f old log base → AreMarked log → (xs : List Life) → AreLives f n old xs → AreMarked (last_log log xs)
+
+-- those of empty streams do
+abbrev pub FreshMarked : Type 0
+FreshMarked = (n : ℕ) → AreMarked (fresh_log n)

@@ -5,5 +5,6 @@ pub mod CoreRun
 pub mod StopsLeave
 pub mod Turns
 pub mod Keeping
+pub mod Lives
 pub mod Laws
 pub mod RunFacts

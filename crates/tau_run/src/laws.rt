@@ -1,5 +1,5 @@
 //! What holds of every run, as functions that do nothing.
-ghost use Rattle.tau_run.specs.Laws.{TextsAreSound, RunIsThere, RunIsHistory, ContentsAreRecords, ImagesAreRecovered, AckedIsTaken, EndsWell, NothingIsLost, TurnsAreARun};
+ghost use Rattle.tau_run.specs.Laws.{TextsAreSound, RunIsThere, RunIsHistory, ContentsAreRecords, ImagesAreRecovered, AckedIsTaken, EndsWell, NothingIsLost, TurnsAreARun, LivesAreSound, LivesAreRecovered, LivesAreOne, LeftOutForGood, LivesAreMarked, FreshMarked};
 
 /// A workload that a text means can be run and logged: its calls and its steps name declared tables alone, and its catalogue can be read again.
 pub fn texts_are_sound()
@@ -44,4 +44,23 @@ pub fn nothing_is_lost()
 /// A run by turns is a run of the machine, in which no call is given up.
 pub fn turns_are_a_run()
     ensures { TurnsAreARun }
+{}
+
+/// After any number of runs and stops the log is sound, and its tables are those of executing the calls that are taken, run
+/// after run; each stop leaves what was there and a closed part of the history of its run.
+pub fn lives_are_sound()
+    ensures sound { LivesAreSound }
+    ensures each { LivesAreRecovered }
+    ensures one { LivesAreOne }
+{}
+
+/// What one recovery takes is taken by all later ones, and what it leaves out is left out for good.
+pub fn left_out_for_good()
+    ensures { LeftOutForGood }
+{}
+
+/// How the epochs stand that any number of runs and stops leave.
+pub fn lives_are_marked()
+    ensures kept { LivesAreMarked }
+    ensures fresh { FreshMarked }
 {}
