@@ -1,35 +1,48 @@
 -- Runs and stops, one after another.
-use Rattle.std.proofs.Common.{ℕ, zero, suc, ◌+◌, ◌≤◌, ◌<◌, Bool, true, ◌≡◌, ◌⊎◌, inl, inr, List, [], ◌∷◌, ◌++◌, map, length, Result, Ok, refl, sym, ap, subst, ◌∙◌, arith, slice_index}
-use Rattle.std.specs.Prelude.{Some, slice_get, slice_index_or}
-use Rattle.std.specs.List.{filter}
-use Rattle.std.proofs.lemmas.List.{length-append}
+use Rattle.std.proofs.Common.{ℕ, zero, suc, ◌+◌, ◌≤◌, ◌<◌, Bool, true, false, ◌≡◌, ◌⊎◌, inl, inr, List, [], ◌∷◌, ◌++◌, map, length, Result, Ok, refl, sym, ap, subst, ◌∙◌}
+use Rattle.std.specs.Prelude.{◌&&◌, ◌==◌}
+use Rattle.std.specs.List.{filter, list_any}
 use Rattle.tau_base.specs.declared.format.Format.{Format}
-use Rattle.tau_base.specs.declared.value.LogMode.{LogMode}
-use Rattle.tau_base.specs.Database.{Db, empty_db}
+use Rattle.tau_base.specs.Database.{Db, empty_db, written}
 use Rattle.tau_base.specs.Modes.{format_of}
-use Rattle.tau_base.proofs.Logic.{some_is}
 use Rattle.tau_model.specs.History.{Act, Member, exec}
-use Rattle.tau_model.proofs.Logged.{member_filtered}
+use Rattle.tau_model.proofs.Assembling.{member_mapped}
+use Rattle.tau_model.proofs.Orders.{member_reordered}
+use Rattle.tau_model.proofs.Reorder.{reordered_sym}
+use Rattle.tau_machine.specs.Hands.{Txn}
+use Rattle.tau_machine.specs.Invariant.{Invariant}
+use Rattle.tau_machine.specs.Reports.{held_by}
+use Rattle.tau_machine.specs.State.{Setting}
+use Rattle.tau_machine.proofs.Lists.{member_of}
 use Rattle.tau_proc.specs.declared.proc.Proc.{Proc}
-use Rattle.tau_proc.specs.Effect.{Effect}
 use Rattle.tau_text.specs.declared.load.Declarations.{Declarations}
 use Rattle.tau_record.specs.declared.entry.Placed.{Placed}
+use Rattle.tau_core.specs.View.{setting_of}
 use Rattle.tau_scan.specs.declared.fault.LogFault.{LogFault}
 use Rattle.tau_scan.specs.declared.log.Log.{Log}
+use Rattle.tau_scan.specs.Epochs.{judge_of}
 use Rattle.tau_scan.specs.Reading.{contents_of, log_of_contents}
 use Rattle.tau_scan.specs.Sound.{IsOrderOver, redo_in, IsSound}
-use Rattle.tau_scan.specs.Taken.{Kept, taken, is_taken_at}
-use Rattle.tau_epoch_laws.specs.Continues.{Grown, none_in, Continues}
+use Rattle.tau_scan.specs.Taken.{Kept, taken}
+use Rattle.tau_epoch_laws.specs.Continues.{none_in, Continues, news}
 use Rattle.tau_epoch_laws.proofs.Chain.{goes_on}
 use Rattle.tau_epoch_laws.proofs.Contents.{holds, same_declared}
+use Rattle.tau_epoch_laws.proofs.Grown.{none_or_some}
 use Rattle.tau_epoch_laws.proofs.Judged.{old_judged}
+use Rattle.tau_epoch_laws.proofs.Parts.{filter_none}
+use Rattle.tau_epoch_laws.proofs.Stays.{none_taken}
 use Rattle.tau_run.specs.Laws.{LivesAreSound, LivesAreRecovered, LivesAreOne, LeftOutForGood, LivesAreMarked}
 use Rattle.tau_run.specs.Lives.{Life, IsLife, AreLives, last_contents, last_log, taken_calls, all_taken, exec_lives, AreMarked}
 use Rattle.tau_run.specs.RecoveredFacts.{takes, IsRecovered}
-use Rattle.tau_run.specs.Run.{Committed, means}
+use Rattle.tau_run.specs.Run.{Committed, told_of, means}
+use Rattle.tau_run.proofs.Lists.{map_member}
 use Rattle.tau_run.proofs.Marked.{marked_after}
+use Rattle.tau_run.proofs.Marks.{news_none}
+use Rattle.tau_run.proofs.Order.{history, there}
+use Rattle.tau_run.proofs.Reading.{kept_of}
 use Rattle.tau_run.proofs.Recovered.{CutLog, left_log}
 use Rattle.tau_run.proofs.Results.{images_law}
+use Rattle.tau_run.proofs.Taken.{taken_are, takes_is}
 
 abbrev done : {A : Type 0} → A → Result A LogFault
 done x = Ok x
@@ -97,6 +110,45 @@ module _ (f : Format) (n : ℕ) (old : List (List ℕ)) (log : Log) (base : Db) 
       subst AreMarked cut_same
       (marked_after life.stands_on x.load x.run.start n life.course.begins life.joined life.state life.course.inv life.course.load_is.streams cut.contents cut.long cut.made sound_start.fit (subst AreMarked (sym same_log) marked))
 
+  -- nothing of the run is taken where nothing came after the old records
+  no_call : none_in cut.made.more → (d : Committed) → Member d x.run.calls → takes cut.made.log d ≡ true → ⊥
+  no_call nothing d q e =
+      let set : Setting = setting_of life.stands_on in
+      let K : List (Act Txn) = life.joined in
+      let inv : Invariant set K life.state = life.course.inv in
+      let w = member_mapped told_of d (history set K life.state inv) (subst (λ (cs : List Committed). Member d cs) life.is.calls q) in
+      let t = there set K life.state inv w.0 w.1 in
+      let width = life.course.load_is.streams in
+      let same = takes_is set K life.state inv life.stands_on.mode n width x.run cut.made.log cut.made.more cut.made.is w.0 t in
+      let held : held_by cut.made.log.elv w.0.call ≡ true = sym same ∙ ap (takes cut.made.log) w.2 ∙ e in
+      let mine = map_member (kept_of life.stands_on.mode) w.0 (filter (λ (u : Act Txn). held_by cut.made.log.elv u.call) K) (member_of (λ (u : Act Txn). held_by cut.made.log.elv u.call) w.0 K t held) in
+      let fresh : List Kept = news x.run.start.log cut.made.more cut.made.log in
+      let there : Member (kept_of life.stands_on.mode w.0) fresh = member_reordered fresh (map (kept_of life.stands_on.mode) (filter (λ (u : Act Txn). held_by cut.made.log.elv u.call) K))
+      (reordered_sym (map (kept_of life.stands_on.mode) (filter (λ (u : Act Txn). held_by cut.made.log.elv u.call) K)) fresh (taken_are set K life.state inv life.stands_on.mode n width x.run cut.made.log cut.made.more cut.made.is))
+      (kept_of life.stands_on.mode w.0) mine in
+      subst (λ (ks : List Kept). Member (kept_of life.stands_on.mode w.0) ks) (news_none (judge_of cut.made.log) 0 x.run.start.log.streams cut.made.more nothing) there
+
+  -- no call of the run is taken, or its workload's declarations are those of the log
+  pub life_declared : (taken_calls x ≡ []) ⊎ ((none_in x.log.streams → ⊥) × (x.log.declarations ≡ x.load.declarations))
+  life_declared = elim cut.made.declared [
+    | inl nothing ↦ inl (ap (λ (g : Log). filter (takes g) x.run.calls) (sym cut_same) ∙ filter_none (takes cut.made.log) x.run.calls (λ d q. not_true (takes cut.made.log d) (no_call nothing d q)))
+    | inr is ↦ elim (none_or_some x.log.streams) [
+      | inl empty ↦ inl (filter_none (takes x.log) x.run.calls (λ d q. takes_none d (none_taken (judge_of x.log) 0 x.log.streams empty)))
+      | inr some ↦ inr (some, ap (λ (g : Log). g.declarations) (sym cut_same) ∙ is)
+    ]
+  ]
+    where
+      not_true : (t : Bool) → (t ≡ true → ⊥) → t ≡ false
+      not_true true none = absurd (none refl)
+      not_true false none = refl
+
+      both_false : (t : Bool) → (t && false) ≡ false
+      both_false true = refl
+      both_false false = refl
+
+      takes_none : (d : Committed) → taken x.log ≡ [] → takes x.log d ≡ false
+      takes_none d e = ap (λ (ks : List Kept). d.logs && list_any (λ (r : Kept). (r.place.stream == d.place.stream) && (r.place.start == d.place.start)) ks) e ∙ both_false d.logs
+
 -- ---- any number of them
 
 pub lives_sound : LivesAreSound
@@ -128,3 +180,34 @@ left_out f n old log base sound x xs lives =
     let more = lives_go_on f n old log base sound x xs lives in
     let last = lives_sound f n old log base sound (x ∷ xs) lives in
     (more.0, more.1, λ j i ps e lt. old_judged f old (last_contents old (x ∷ xs)) log more.0 (last_log log (x ∷ xs)) sound.reads sound.fit last.reads more.1 j i ps e lt)
+
+-- ---- one history
+
+exec_append : (procs : List Proc) (xs ys : List Committed) (db : Db) → exec (means procs) (xs ++ ys) db ≡ exec (means procs) ys (exec (means procs) xs db)
+exec_append procs [] ys db = refl
+exec_append procs (x ∷ xs) ys db = exec_append procs xs ys (written (means procs x db).writes db)
+
+-- a log that has a record keeps its declarations
+declared_on : (f : Format) (n : ℕ) (old : List (List ℕ)) (log : Log) (base : Db) → IsSound f old log base → (xs : List Life) → AreLives f n old xs → (none_in log.streams → ⊥) → (last_log log xs).declarations ≡ log.declarations
+declared_on f n old log base sound [] lives some = refl
+declared_on f n old log base sound (x ∷ xs) lives some =
+    let more = lives_go_on f n old log base sound x xs lives in
+    let last = lives_sound f n old log base sound (x ∷ xs) lives in
+    elim (same_declared old (last_contents old (x ∷ xs)) log more.0 (last_log log (x ∷ xs)) (holds f old log sound.reads) (holds f (last_contents old (x ∷ xs)) (last_log log (x ∷ xs)) last.reads) more.1) [
+      | inl none ↦ absurd (some none)
+      | inr same ↦ same
+    ]
+
+pub lives_one : LivesAreOne
+lives_one f n old log base sound [] lives = refl
+lives_one f n old log base sound (x ∷ xs) lives =
+    let own : List Proc = x.load.declarations.procs in
+    let db : Db = exec (means own) (taken_calls x) base in
+    let next = life_sound f n old log base sound x lives.0 in
+    let last : Log = last_log x.log xs in
+    let rest = lives_one f n x.contents x.log db next xs lives.1 in
+    let same : exec (means last.declarations.procs) (taken_calls x) base ≡ db = elim (life_declared f n old log base sound x lives.0) [
+      | inl none ↦ ap (λ (cs : List Committed). exec (means last.declarations.procs) cs base) none ∙ ap (λ (cs : List Committed). exec (means own) cs base) (sym none)
+      | inr some ↦ ap (λ (d : Declarations). exec (means d.procs) (taken_calls x) base) (declared_on f n x.contents x.log db next xs lives.1 some.0 ∙ some.1)
+    ] in
+    rest ∙ ap (exec (means last.declarations.procs) (all_taken xs)) (sym same) ∙ sym (exec_append last.declarations.procs (taken_calls x) (all_taken xs) base)
