@@ -31,3 +31,4 @@ pub mod Led
 pub mod Acks
 pub mod Sources
 pub mod Start
+pub mod Fresh

@@ -44,7 +44,7 @@ pub record IsLoadOn (n m : ℕ) (mode : LogMode) (load : Workload) (start : Star
 
 -- The state in which a run on this begins: the floor of each shard is that of the opening, and each worker waits on
 -- exactly its calls, ascending.
-pub record IsBegun (l : Load) (opening : Core) : Type 0 where
+pub record IsFirstState (l : Load) (opening : Core) : Type 0 where
   pub floor_low : (i : ℕ) → i < SHARDS → AtMost l.opening.floor (opening.shards i).floor
   pub floor_high : (i : ℕ) → i < SHARDS → AtMost (opening.shards i).floor l.opening.floor
   pub waiting : (w : ℕ) → w < l.workers → (opening.workers w).waiting ≡ calls_of l w

@@ -24,7 +24,7 @@ use Rattle.tau_base.specs.Database.{Db}
 use Rattle.tau_record.specs.declared.entry.Placed.{Placed}
 use Rattle.tau_epoch_laws.specs.Continues.{Continues}
 use Rattle.tau_scan.specs.Sound.{fresh_log, IsSound}
-use Rattle.tau_run.specs.Start.{Start, old_at, opened_at}
+use Rattle.tau_run.specs.Start.{Start, fresh_start, catalogue_of, old_at, opened_at, IsStart}
 use Rattle.tau_run.specs.Run.{Committed, Run, means, pair_of, IsHistory, acts, records_in, has_ack, vector_of, AllAcked}
 use Rattle.tau_run.specs.RecoveredFacts.{takes, IsRecovered}
 use Rattle.tau_base.specs.declared.value.Call.{Call}
@@ -134,3 +134,8 @@ LivesAreMarked = (f : Format) (n : ℕ) (old : List (List ℕ)) (log : Log) (bas
 -- those of empty streams do
 abbrev pub FreshMarked : Type 0
 FreshMarked = (n : ℕ) → AreMarked (fresh_log n)
+
+-- A run may begin on streams that hold nothing, which are sound; then each stream is given the catalogue alone.
+abbrev pub FreshBegins : Type 0
+FreshBegins = (f : Format) (n : ℕ) (load : Workload) → IsStart f n load (fresh_start n) × IsSound f (fresh_start n).old (fresh_start n).log (fresh_start n).base ×
+    ((j : ℕ) → old_at (fresh_start n) j ≡ []) × ((j : ℕ) → opened_at load (fresh_start n) j ≡ catalogue_of load)

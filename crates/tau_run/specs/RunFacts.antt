@@ -11,7 +11,7 @@ use Rattle.tau_core.specs.View.{setting_of}
 use Rattle.tau_run.specs.Start.{Start}
 use Rattle.tau_run.specs.Run.{Run, IsHistory, IsReportOf, AllAcked}
 use Rattle.tau_run.specs.RecoveredFacts.{IsImaged, IsAcknowledged, IsEnded}
-use Rattle.tau_run.specs.CoreRun.{IsLoadOn, IsBegun, IsRunOf}
+use Rattle.tau_run.specs.CoreRun.{IsLoadOn, IsFirstState, IsRunOf}
 use Rattle.tau_run.specs.Turns.{Progress, IsWholeRun, IsPartOfRun}
 
 -- how a run ended: it went to its end, a disk failed, the sink failed, it ran out of memory, or it was not begun
@@ -69,7 +69,7 @@ pub record IsCoreRun (by : Load → Core → Progress → Type 0) (n m : ℕ) (m
   pub stands_on : Load
   pub load_is : IsLoadOn n m mode load run.start stands_on
   pub opening : Core
-  pub begun : IsBegun stands_on opening
+  pub first : IsFirstState stands_on opening
   pub progress : Progress
   pub led : machine.Run (setting_of stands_on) opening progress.events progress.joined progress.state
   pub chosen : by stands_on opening progress

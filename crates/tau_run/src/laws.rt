@@ -1,9 +1,14 @@
 //! What holds of every run, as functions that do nothing.
-ghost use Rattle.tau_run.specs.Laws.{TextsAreSound, RunIsThere, RunIsHistory, ContentsAreRecords, ImagesAreRecovered, AckedIsTaken, EndsWell, NothingIsLost, TurnsAreARun, LivesAreSound, LivesAreRecovered, LivesAreOne, LeftOutForGood, LivesAreMarked, FreshMarked};
+ghost use Rattle.tau_run.specs.Laws.{TextsAreSound, RunIsThere, RunIsHistory, ContentsAreRecords, ImagesAreRecovered, AckedIsTaken, EndsWell, NothingIsLost, TurnsAreARun, LivesAreSound, LivesAreRecovered, LivesAreOne, LeftOutForGood, LivesAreMarked, FreshMarked, FreshBegins};
 
 /// A workload that a text means can be run and logged: its calls and its steps name declared tables alone, and its catalogue can be read again.
 pub fn texts_are_sound()
     ensures { TextsAreSound }
+{}
+
+/// A run may begin on streams that hold nothing.
+pub fn fresh_begins()
+    ensures { FreshBegins }
 {}
 
 /// A core that stands has made a run.
