@@ -1,27 +1,26 @@
 -- What a stream holds when a run begins: it is read, the old records and then those that it is given first.
-use Rattle.std.proofs.Common.{ℕ, zero, suc, ◌+◌, ◌≤◌, ◌<◌, ◌^◌, Bool, true, ◌≡◌, ◌⊎◌, inl, inr, List, [], ◌∷◌, ◌++◌, map, length, refl, sym, ap, subst, ◌∙◌, arith, slice_index}
-use Rattle.std.specs.Prelude.{Option, Some, None, Result, Ok, slice_get, slice_index_or, is_ok, ◌==◌}
+use Rattle.std.proofs.Common.{ℕ, zero, suc, ◌+◌, ◌≤◌, ◌<◌, ◌^◌, true, ◌≡◌, ◌⊎◌, inl, inr, List, [], ◌∷◌, ◌++◌, map, length, refl, sym, ap, subst, ◌∙◌, arith, slice_index}
+use Rattle.std.specs.Prelude.{Option, Some, None, slice_get, slice_index_or, is_ok}
 use Rattle.std.specs.List.{AllZip}
 use Rattle.std.proofs.lemmas.List.{append-nil, length-append}
 use Rattle.tau_base.specs.declared.format.Format.{Format}
-use Rattle.tau_base.proofs.Lists.{some_at, got_or, empty_of_length, length_mapped}
+use Rattle.tau_base.proofs.Lists.{some_at, got_or, length_mapped}
 use Rattle.tau_base.proofs.Logic.{some_is}
 use Rattle.tau_model.specs.History.{Member}
 use Rattle.tau_model.proofs.Orders.{member_front, member_back}
 use Rattle.tau_record.specs.declared.entry.Entry.{Entry}
 use Rattle.tau_record.specs.declared.entry.Entry.TheVariants as entry
 use Rattle.tau_record.specs.declared.entry.Placed.{Placed}
-use Rattle.tau_record.specs.Format.{One}
-use Rattle.tau_record.specs.Record.{named, spelling, kind_of, kind_fits, Spells, IsNext, epoch_after}
+use Rattle.tau_record.specs.Record.{named, kind_of, kind_fits, epoch_after}
 use Rattle.tau_record.specs.Vector.{ArePlaces}
 use Rattle.tau_record.specs.Content.{placed, Reads, IsContent, anchors_of, last_epoch}
 use Rattle.tau_record.proofs.Appending.{appended_content, anchors_appended, epochs_appended}
-use Rattle.tau_epoch.specs.Epochs.{Mark, largest}
+use Rattle.tau_epoch.specs.Epochs.{Mark}
 use Rattle.tau_text.specs.declared.load.Workload.{Workload}
 use Rattle.tau_text.specs.declared.load.Declarations.{Declarations}
 use Rattle.tau_text.specs.Alone.{declarations_of}
 use Rattle.tau_text.specs.Canonical.{declarations_text}
-use Rattle.tau_scan.specs.Reading.{text_of, catalogue_of as text_in, declared_by, or_none, is_declared, first_undeclared, undeclared, catalogue_from, catalogue_in, IsReading}
+use Rattle.tau_scan.specs.Reading.{text_of, catalogue_of as text_in, declared_by, or_none, first_undeclared, catalogue_in, IsReading}
 use Rattle.tau_scan.specs.Epochs.{mark_of, marks_in, marks_from, marks_of}
 use Rattle.tau_scan.specs.Taken.{kept_in, taken_in}
 use Rattle.tau_scan.proofs.Streams.{map_get}
@@ -104,7 +103,7 @@ epoch_reads f n at k (suc number) vectors lv low small wide places next =
     let bytes : List ℕ = epoch_record (suc number) lv in (
       [],
       begun f n at k vectors (entry.Epoch (suc number) lv) bytes [] bytes at (at + length bytes)
-      (record { fits = record { kind = refl; fields = (omega arith, small, wide, places) }; text = refl }) (sym (append-nil bytes)) low refl refl (next (omega arith)),
+          (record { fits = record { kind = refl; fields = (omega arith, small, wide, places) }; text = refl }) (sym (append-nil bytes)) low refl refl (next (omega arith)),
       refl,
     )
 
@@ -260,13 +259,16 @@ module _ (f : Format) (n : ℕ) (load : Workload) (start : Start) (b : IsStart f
   unfolding catalogue_in
   empty_or_declared j lt = elim (empty_or_text f n (old_at start j) (ps_at j) (read_at j lt).spelled) [
     | inl e ↦ inl e
-    | inr w ↦ inr (w.0, elim b.declared [
-      | inl none ↦ absurd (let e : None ≡ Some w.1.0 = sym (ap text_in (none_at start.log.streams j none)) ∙ w.1.1 in cc e)
-      | inr is ↦
-          let there : slice_get start.log.streams j ≡ Some (ps_at j) = got_there start.log.streams j (let e = streams_wide in omega (arith, e, lt)) in
-          let at : slice_get (map text_in start.log.streams) j ≡ Some (Some w.1.0) = map_get text_in start.log.streams j (ps_at j) there ∙ ap (λ (o : Option (List ℕ)). Some o) w.1.1 in
-          w.1.1 ∙ sym (catalogue_ok 0 (map text_in start.log.streams) (Some text) is w.1.0 (get_member (map text_in start.log.streams) j (Some w.1.0) at))
-    ])
+    | inr w ↦ inr (
+      w.0,
+      elim b.declared [
+        | inl none ↦ absurd (let e : None ≡ Some w.1.0 = sym (ap text_in (none_at start.log.streams j none)) ∙ w.1.1 in cc e)
+        | inr is ↦
+            let there : slice_get start.log.streams j ≡ Some (ps_at j) = got_there start.log.streams j (let e = streams_wide in omega (arith, e, lt)) in
+            let at : slice_get (map text_in start.log.streams) j ≡ Some (Some w.1.0) = map_get text_in start.log.streams j (ps_at j) there ∙ ap (λ (o : Option (List ℕ)). Some o) w.1.1 in
+            w.1.1 ∙ sym (catalogue_ok 0 (map text_in start.log.streams) (Some text) is w.1.0 (get_member (map text_in start.log.streams) j (Some w.1.0) at))
+      ],
+    )
   ]
     where
       got_there : (xs : List (List Placed)) (i : ℕ) → i < length xs → slice_get xs i ≡ Some (slice_index_or xs i [])

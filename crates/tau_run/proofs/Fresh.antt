@@ -1,6 +1,6 @@
 -- A run on streams that hold nothing.
-use Rattle.std.proofs.Common.{ℕ, zero, suc, ◌<◌, ◌≤◌, ◌≡◌, inl, List, [], ◌∷◌, ◌++◌, map, length, replicate, refl, sym, ap, ◌∙◌, arith, slice_index}
-use Rattle.std.specs.Prelude.{None, slice_index_or}
+use Rattle.std.proofs.Common.{ℕ, zero, suc, ◌≡◌, inl, List, [], ◌∷◌, map, length, replicate, refl, sym, ap, ◌∙◌, arith}
+use Rattle.std.specs.Prelude.{slice_index_or}
 use Rattle.std.specs.List.{AllZip}
 use Rattle.std.proofs.lemmas.List.{append-nil, length-replicate}
 use Rattle.tau_base.specs.declared.format.Format.{Format}
@@ -14,11 +14,11 @@ use Rattle.tau_record.specs.Vector.{ArePlaces}
 use Rattle.tau_record.specs.Content.{anchors_of}
 use Rattle.tau_core.specs.declared.state.Load.{Load}
 use Rattle.tau_core.specs.Opens.{IsFresh}
-use Rattle.tau_scan.specs.Reading.{first_undeclared, undeclared, IsReading}
-use Rattle.tau_scan.specs.Sound.{fresh_log, IsSound}
+use Rattle.tau_scan.specs.Reading.{first_undeclared, IsReading}
+use Rattle.tau_scan.specs.Sound.{fresh_log}
 use Rattle.tau_epoch_laws.specs.Continues.{none_in}
 use Rattle.tau_epoch_laws.proofs.Fresh.{fresh_sound}
-use Rattle.tau_run.specs.Start.{Start, fresh_start, catalogue_of, opened_with, old_at, opened_at, IsStart}
+use Rattle.tau_run.specs.Start.{fresh_start, catalogue_of, opened_with, old_at, opened_at, IsStart}
 use Rattle.tau_run.specs.CoreRun.{IsLoadOn}
 
 none_there : (n : ℕ) → none_in (replicate n [])

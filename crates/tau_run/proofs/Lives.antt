@@ -1,5 +1,5 @@
 -- Runs and stops, one after another.
-use Rattle.std.proofs.Common.{ℕ, zero, suc, ◌+◌, ◌≤◌, ◌<◌, Bool, true, false, ◌≡◌, ◌⊎◌, inl, inr, List, [], ◌∷◌, ◌++◌, map, length, Result, Ok, refl, sym, ap, subst, ◌∙◌}
+use Rattle.std.proofs.Common.{ℕ, Bool, true, false, ◌≡◌, ◌⊎◌, inl, inr, List, [], ◌∷◌, ◌++◌, map, Result, Ok, refl, sym, ap, subst, ◌∙◌}
 use Rattle.std.specs.Prelude.{◌&&◌, ◌==◌}
 use Rattle.std.specs.List.{filter, list_any}
 use Rattle.tau_base.specs.declared.format.Format.{Format}
@@ -32,7 +32,7 @@ use Rattle.tau_epoch_laws.proofs.Judged.{old_judged}
 use Rattle.tau_epoch_laws.proofs.Parts.{filter_none}
 use Rattle.tau_epoch_laws.proofs.Stays.{none_taken}
 use Rattle.tau_run.specs.Laws.{LivesAreSound, LivesAreRecovered, LivesAreOne, LeftOutForGood, LivesAreMarked}
-use Rattle.tau_run.specs.Lives.{Life, IsLife, AreLives, last_contents, last_log, taken_calls, all_taken, exec_lives, AreMarked}
+use Rattle.tau_run.specs.Lives.{Life, IsLife, AreLives, last_contents, last_log, taken_calls, all_taken, AreMarked}
 use Rattle.tau_run.specs.RecoveredFacts.{takes, IsRecovered}
 use Rattle.tau_run.specs.Run.{Committed, told_of, means}
 use Rattle.tau_run.proofs.Lists.{map_member}

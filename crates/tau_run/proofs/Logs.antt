@@ -1,7 +1,7 @@
 -- The log of the contents of all streams, which goes on from the old one.
-use Rattle.std.proofs.Common.{ℕ, suc, ◌+◌, ◌≤◌, ◌<◌, Bool, true, ◌≡◌, ◌⊎◌, inl, inr, List, [], ◌∷◌, ◌++◌, map, length, refl, sym, ap, subst, ◌∙◌, arith, slice_index}
+use Rattle.std.proofs.Common.{ℕ, ◌≤◌, ◌<◌, true, ◌≡◌, ◌⊎◌, inl, inr, List, [], ◌++◌, map, length, refl, sym, ap, subst, ◌∙◌, arith, slice_index}
 use Rattle.std.specs.Prelude.{Option, Some, None, Result, Ok, slice_get, slice_index_or}
-use Rattle.std.specs.List.{filter, Contains}
+use Rattle.std.specs.List.{filter}
 use Rattle.std.proofs.lemmas.Option.{get_or_from_slice_get}
 use Rattle.tau_base.specs.Modes.{format_of}
 use Rattle.tau_base.specs.Vectors.{AtMost, covers}
@@ -21,21 +21,21 @@ use Rattle.tau_record.specs.declared.fault.RecordFault.{RecordFault}
 use Rattle.tau_record.specs.Content.{last_epoch}
 use Rattle.tau_core.specs.declared.state.Load.{Load}
 use Rattle.tau_core.specs.View.{setting_of}
-use Rattle.tau_epoch.specs.Epochs.{Mark, largest}
+use Rattle.tau_epoch.specs.Epochs.{Mark}
 use Rattle.tau_scan.specs.declared.log.Log.{Log}
 use Rattle.tau_scan.specs.declared.fault.LogFault.{LogFault}
 use Rattle.tau_scan.specs.Reading.{◌>>=◌, unless, recorded, records_of, streams_of, catalogue_in, declared_in, epoch_fault, declared_by, none_declared, or_none, catalogue_of as text_in, log_of_contents}
-use Rattle.tau_scan.specs.Epochs.{marks_in, marks_from, marks_of, judge_of}
-use Rattle.tau_scan.specs.Taken.{Kept, kept_in, taken_in, taken}
+use Rattle.tau_scan.specs.Epochs.{marks_in, marks_from, judge_of}
+use Rattle.tau_scan.specs.Taken.{Kept, kept_in, taken_in}
 use Rattle.tau_scan.proofs.Listed.{stream_plain}
 use Rattle.tau_scan.proofs.Marks.{none_second}
 use Rattle.tau_scan.proofs.Streams.{map_get}
-use Rattle.tau_epoch_laws.specs.Continues.{Grown, none_in, NextEpochHas, Continues, news}
+use Rattle.tau_epoch_laws.specs.Continues.{none_in, NextEpochHas, Continues}
 use Rattle.tau_epoch_laws.proofs.Grown.{marks_append, mark_in, none_or_some}
 use Rattle.tau_epoch_laws.proofs.Judging.{Agree, judging_none}
 use Rattle.tau_epoch_laws.proofs.Parts.{in_either, member_of}
 use Rattle.tau_epoch_laws.proofs.Taken.{taken_append}
-use Rattle.tau_run.specs.Start.{Start, old_at, opened_at, IsStart}
+use Rattle.tau_run.specs.Start.{Start, old_at, IsStart}
 use Rattle.tau_run.proofs.Begins.{held, streams_wide, elv_wide, elv_at, number_low, last_none, old_within, none_at, given_placed, given_kept, given_taken, given_last, given_mark, own_mark, own_there}
 use Rattle.tau_run.proofs.Cuts.{ends_by}
 use Rattle.tau_run.proofs.Each.{EachOk, each_ok, one_catalogue}
@@ -45,7 +45,6 @@ use Rattle.tau_run.proofs.Spelled.{placed_in}
 use Rattle.tau_run.proofs.Streams.{AreSound, IsMore, IsRead, kept_append}
 use Rattle.tau_run.proofs.Taken.{IsLogOf}
 use Rattle.tau_base.proofs.Lists.{some_at, same_list, got_or, got_within, got_mapped, length_mapped}
-use Rattle.tau_base.proofs.Logic.{some_is}
 
 pub length_at : (contents : List (List ℕ)) (j : ℕ) (content : List ℕ) → slice_get contents j ≡ Some content → slice_index (map length contents) j ≡ length content
 length_at contents j content e = get_or_from_slice_get (map length contents) j (length content) 0 (map_get length contents j content e)

@@ -1,5 +1,5 @@
 -- Where the epochs stand of a log that a run and a stop left.
-use Rattle.std.proofs.Common.{ℕ, zero, suc, ◌+◌, ◌≤◌, ◌<◌, ◌≡◌, ◌⊎◌, inl, inr, List, [], ◌∷◌, ◌++◌, map, length, replicate, refl, sym, ap, subst, ◌∙◌, arith, slice_index}
+use Rattle.std.proofs.Common.{ℕ, zero, suc, ◌≤◌, ◌<◌, ◌≡◌, ◌⊎◌, inl, inr, List, [], ◌∷◌, ◌++◌, map, length, replicate, refl, sym, ap, subst, ◌∙◌, arith, slice_index}
 use Rattle.std.specs.Prelude.{Some, slice_get, slice_index_or}
 use Rattle.tau_base.specs.Modes.{format_of}
 use Rattle.tau_base.specs.Vectors.{AtMost}
@@ -9,25 +9,24 @@ use Rattle.tau_model.specs.History.{Act, Member}
 use Rattle.tau_model.proofs.Orders.{member_front, member_back}
 use Rattle.tau_machine.specs.Hands.{Txn}
 use Rattle.tau_machine.specs.Invariant.{Invariant}
-use Rattle.tau_machine.specs.State.{Core, Item}
+use Rattle.tau_machine.specs.State.{Core}
 use Rattle.tau_text.specs.declared.load.Workload.{Workload}
 use Rattle.tau_record.specs.declared.entry.Placed.{Placed}
 use Rattle.tau_core.specs.declared.state.Load.{Load}
 use Rattle.tau_core.specs.View.{setting_of}
 use Rattle.tau_epoch.specs.Epochs.{Mark}
-use Rattle.tau_scan.specs.declared.log.Log.{Log}
 use Rattle.tau_scan.specs.Epochs.{mark_of, marks_in, marks_from, marks_of}
-use Rattle.tau_scan.specs.Sound.{fresh_log, MarksFit}
+use Rattle.tau_scan.specs.Sound.{MarksFit}
 use Rattle.tau_epoch_laws.proofs.Grown.{mark_in}
 use Rattle.tau_epoch_laws.proofs.Parts.{in_either}
 use Rattle.tau_run.specs.Start.{Start, old_at, catalogue_of, IsStart}
-use Rattle.tau_run.specs.Lives.{first_past, epoch_place, HasEpochAt, AreMarked}
+use Rattle.tau_run.specs.Lives.{epoch_place, HasEpochAt, AreMarked}
 use Rattle.tau_run.specs.Laws.{FreshMarked}
 use Rattle.tau_run.proofs.Begins.{streams_wide, elv_at, number_low, empty_or_declared, given_placed, epoch_placed, own_mark, given_mark}
 use Rattle.tau_run.proofs.Logs.{LogOf, length_at}
 use Rattle.tau_run.proofs.Reading.{no_marks_of, first_placed}
 use Rattle.tau_run.proofs.Spelled.{placed_in}
-use Rattle.tau_run.proofs.Streams.{IsMore, IsRead}
+use Rattle.tau_run.proofs.Streams.{IsMore}
 
 -- the mark of a record is one of its stream
 mark_member : (ps : List Placed) (p : Placed) (m : Mark) → Member p ps → mark_of p.entry ≡ m ∷ [] → Member m (marks_in ps)

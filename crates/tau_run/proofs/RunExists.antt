@@ -9,7 +9,7 @@ use Rattle.tau_model.proofs.Logged.{member_filtered}
 use Rattle.tau_model.proofs.Orders.{member_back}
 use Rattle.tau_machine.specs.Hands.{Txn, Hand}
 use Rattle.tau_machine.specs.State.{Core, Item, Record, Anchor, start_of, past_of, hand_of}
-use Rattle.tau_machine.specs.Pieces.{Chain, NameTheirs, records_in, placed_in, StreamGood}
+use Rattle.tau_machine.specs.Pieces.{Chain, records_in, placed_in, StreamGood}
 use Rattle.tau_machine.specs.Reports.{reported}
 use Rattle.tau_machine.proofs.Results.{committed_theorem}
 use Rattle.tau_text.specs.declared.load.Workload.{Workload}

@@ -1,5 +1,5 @@
 -- What a run leaves: what its streams hold, what recovery finds of it, and what it has acknowledged.
-use Rattle.std.specs.Prelude.{ℕ, ◌<◌, ◌≤◌, ◌≡◌, ◌↔◌, ◌⊎◌, ◌==◌, ◌&&◌, Bool, true, List, [], ◌++◌, length, map, take, slice_get, slice_index, slice_index_or, None, Result, Ok, Some}
+use Rattle.std.specs.Prelude.{ℕ, ◌<◌, ◌≤◌, ◌≡◌, ◌↔◌, ◌⊎◌, ◌==◌, ◌&&◌, Bool, true, List, [], ◌++◌, length, take, slice_get, slice_index, slice_index_or, None, Ok, Some}
 use Rattle.std.specs.List.{filter, list_any}
 use Rattle.tau_base.specs.declared.value.LogMode.{LogMode}
 use Rattle.tau_base.specs.Modes.{format_of}

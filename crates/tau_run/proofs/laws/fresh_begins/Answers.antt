@@ -1,4 +1,3 @@
-use Rattle.std.proofs.Common.{ℕ, List}
 use Rattle.tau_epoch_laws.proofs.Fresh.{fresh_sound}
 use Rattle.tau_run.proofs.Fresh.{fresh_begins, fresh_olds, fresh_opened}
 use Rattle.tau_run.proofs.laws.fresh_begins.Goals as goal
