@@ -13,7 +13,7 @@ use Rattle.tau_report.specs.declared.report.RunEnd.{RunEnd}
 use Rattle.tau_core.specs.declared.opening.Opening.{Opening}
 use Rattle.tau_core.specs.State.{Plain}
 use Rattle.tau_core.specs.Opens.{Opened, OpenedFresh, catalogue_size, load_of}
-use Rattle.tau_run.specs.RecoveredFacts.{catalogue_of}
+use Rattle.tau_run.specs.Start.{catalogue_of}
 use Rattle.tau_step.proofs.Begun.{fresh_load}
 use Rattle.tau_rule.specs.Steps.{Sat}
 use Rattle.tau_rule.proofs.Gives.{one_origin}

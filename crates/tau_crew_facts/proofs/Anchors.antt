@@ -18,7 +18,7 @@ use Rattle.tau_record.specs.Content.{anchors_of}
 use Rattle.tau_core.specs.declared.state.Load.{Load}
 use Rattle.tau_scan.specs.Reading.{records_of}
 use Rattle.tau_run.specs.Run.{Run}
-use Rattle.tau_run.specs.RecoveredFacts.{catalogue_of}
+use Rattle.tau_run.specs.Start.{catalogue_of}
 use Rattle.tau_run.specs.CoreRun.{IsCourse, IsGiven, IsRunOf}
 use Rattle.tau_run.proofs.Spelled.{placed_in, AreOf, spelled_long}
 use Rattle.tau_run.proofs.Reading.{AreDeclared, first_placed, content_read}

@@ -9,9 +9,9 @@ use Rattle.tau_stream.specs.Writer.{has_failed}
 use Rattle.tau_machine.specs.State.{Core}
 use Rattle.tau_text.specs.declared.load.Workload.{Workload}
 use Rattle.tau_core.specs.State.{Plain}
-use Rattle.tau_run.specs.RecoveredFacts.{catalogue_of}
+use Rattle.tau_run.specs.Start.{catalogue_of}
 use Rattle.tau_run.specs.Run.{Run}
-use Rattle.tau_run.specs.CoreRun.{IsLoadOf, IsRunOf, IsSoundLoad}
+use Rattle.tau_run.specs.CoreRun.{IsLoadOn, IsRunOf, IsSoundLoad}
 use Rattle.tau_crew_facts.specs.Spacing.{AreSpaced}
 use Rattle.tau_crew_facts.specs.Ends.{IsThreadEnd, IsThreadDone, AreApart}
 use Rattle.tau_crew_facts.proofs.Came.{course, end}

@@ -23,9 +23,9 @@ use Rattle.tau_core.specs.Opens.{nothing}
 use Rattle.tau_core.specs.State.{Plain}
 use Rattle.tau_core.specs.View.{core_of, setting_of}
 use Rattle.tau_core.specs.Pieces.{IsPieceOf, Paired, Spelled}
-use Rattle.tau_run.specs.RecoveredFacts.{catalogue_of}
+use Rattle.tau_run.specs.Start.{catalogue_of}
 use Rattle.tau_run.specs.Run.{Run}
-use Rattle.tau_run.specs.CoreRun.{AreAcks, IsLoadOf, IsRunOf, IsCourse, IsSoundLoad}
+use Rattle.tau_run.specs.CoreRun.{AreAcks, IsLoadOn, IsRunOf, IsCourse, IsSoundLoad}
 use Rattle.tau_run.specs.StopsLeave.{HasFront, IsLeft, IsOver}
 use Rattle.tau_run.specs.Turns.{Progress}
 use Rattle.tau_run.proofs.Start.{started}

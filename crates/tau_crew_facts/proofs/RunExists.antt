@@ -23,8 +23,8 @@ use Rattle.tau_core.specs.declared.state.Load.{Load}
 use Rattle.tau_core.specs.View.{setting_of, worker_of}
 use Rattle.tau_core.specs.Pieces.{IsPieceOf, AreBytesOf, Paired, Spelled}
 use Rattle.tau_run.specs.Run.{Run, told_of, pair_of}
-use Rattle.tau_run.specs.RecoveredFacts.{catalogue_of}
-use Rattle.tau_run.specs.CoreRun.{IsLoadOf, AreAcks, IsGiven, IsRunOf}
+use Rattle.tau_run.specs.Start.{catalogue_of}
+use Rattle.tau_run.specs.CoreRun.{IsLoadOn, AreAcks, IsGiven, IsRunOf}
 use Rattle.tau_run.proofs.Counts.{count_member, count_tickets}
 use Rattle.tau_rule.specs.Rule.{anchors_at}
 use Rattle.tau_crew_facts.specs.Ends.{IsLoose}

@@ -11,8 +11,8 @@ use Rattle.tau_machine.specs.State.{Core, Setting, Ticket}
 use Rattle.tau_machine.specs.Worker.{Worker}
 use Rattle.tau_text.specs.declared.load.Workload.{Workload}
 use Rattle.tau_core.specs.State.{Plain}
-use Rattle.tau_run.specs.CoreRun.{IsLoadOf, IsSoundLoad}
-use Rattle.tau_run.specs.RecoveredFacts.{catalogue_of}
+use Rattle.tau_run.specs.CoreRun.{IsLoadOn, IsSoundLoad}
+use Rattle.tau_run.specs.Start.{catalogue_of}
 use Rattle.tau_run.specs.RunFacts.{in_any_order}
 use Rattle.tau_rule.specs.Knows.{Knows}
 use Rattle.tau_rule.specs.Role.{Managed}

@@ -16,8 +16,8 @@ use Rattle.tau_core.specs.declared.opening.Opening.{Opening}
 use Rattle.tau_core.specs.Opens.{load_of}
 use Rattle.tau_core.specs.State.{Plain}
 use Rattle.tau_core.specs.View.{setting_of}
-use Rattle.tau_run.specs.CoreRun.{IsLoadOf}
-use Rattle.tau_run.specs.RecoveredFacts.{catalogue_of}
+use Rattle.tau_run.specs.CoreRun.{IsLoadOn}
+use Rattle.tau_run.specs.Start.{catalogue_of}
 use Rattle.tau_step.specs.RunTold.{Began, fates_by}
 use Rattle.tau_step.specs.Telling.{Heard}
 use Rattle.tau_crew_facts.specs.Ends.{AreApart, IsThreadDone, IsThreadEnd}

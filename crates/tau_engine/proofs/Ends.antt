@@ -18,8 +18,8 @@ use Rattle.tau_open.proofs.Closed.{rest_back, each_back}
 use Rattle.tau_text.specs.declared.load.Turn.{Turn}
 use Rattle.tau_text.specs.declared.load.Workload.{Workload}
 use Rattle.tau_report.specs.declared.report.RunEnd.{RunEnd}
-use Rattle.tau_run.specs.RecoveredFacts.{catalogue_of}
-use Rattle.tau_run.specs.CoreRun.{IsLoadOf, IsSoundLoad}
+use Rattle.tau_run.specs.Start.{catalogue_of}
+use Rattle.tau_run.specs.CoreRun.{IsLoadOn, IsSoundLoad}
 use Rattle.tau_run.specs.RunFacts as ending
 use Rattle.tau_run.proofs.Reading.{IsCatalogue}
 use Rattle.tau_engine.specs.declared.status.Status.{Status}

@@ -26,8 +26,9 @@ use Rattle.tau_core.specs.declared.state.Load.{Load}
 use Rattle.tau_core.specs.View.{setting_of, call_of, worker_of, from_on}
 use Rattle.tau_core.proofs.Turns.{call_there, once_there, whose_there}
 use Rattle.tau_run.specs.Run.{Run, told_of, below, IsHistory}
-use Rattle.tau_run.specs.RecoveredFacts.{catalogue_of, IsEnded}
-use Rattle.tau_run.specs.CoreRun.{IsLoadOf, IsStart, IsRunOf}
+use Rattle.tau_run.specs.RecoveredFacts.{IsEnded}
+use Rattle.tau_run.specs.Start.{catalogue_of}
+use Rattle.tau_run.specs.CoreRun.{IsLoadOn, IsFirstState, IsRunOf}
 use Rattle.tau_run.specs.StopsLeave.{IsLeft}
 use Rattle.tau_engine.proofs.Chosen.{chosen}
 use Rattle.tau_run.specs.RunFacts.{Ending, chosen_by, IsCoreRun, IsCoreRunAt, RunTells, RunFacts, turns_of}

@@ -8,7 +8,7 @@ use Rattle.tau_stream.specs.declared.writer.Writer.{Writer}
 use Rattle.tau_stream.specs.Writer.{IsReady}
 use Rattle.tau_open.specs.Opening.{AreOpened}
 use Rattle.tau_text.specs.declared.load.Workload.{Workload}
-use Rattle.tau_run.specs.RecoveredFacts.{catalogue_of}
+use Rattle.tau_run.specs.Start.{catalogue_of}
 use Rattle.tau_step.specs.RunTold.{AreNew}
 
 -- every format has room for the streams of the first

@@ -23,7 +23,8 @@ use Rattle.tau_report.specs.Report.{ack_lines, rest_text, report_text}
 use Rattle.tau_core.specs.declared.state.Load.{Load}
 use Rattle.tau_core.specs.View.{setting_of}
 use Rattle.tau_run.specs.Run.{Run, AllAcked, IsReportOf}
-use Rattle.tau_run.specs.RecoveredFacts.{catalogue_of, IsEnded}
+use Rattle.tau_run.specs.RecoveredFacts.{IsEnded}
+use Rattle.tau_run.specs.Start.{catalogue_of}
 use Rattle.tau_run.specs.CoreRun.{IsCourse}
 use Rattle.tau_run.specs.StopsLeave.{Leaves, IsOver}
 use Rattle.tau_run.specs.RunFacts.{Ending, WroteFront, NamesLowest, chosen_by, IsCoreRun, IsCoreRunAt, RunTells, RunFacts}

@@ -16,7 +16,7 @@ use Rattle.tau_open.specs.declared.refusal.OpenRefusal.{OpenRefusal}
 use Rattle.tau_open.specs.declared.refusal.OpenRefusal.TheVariants as refusal
 use Rattle.tau_open.proofs.Calls.{untouched, all_calls}
 use Rattle.tau_text.specs.declared.load.Workload.{Workload}
-use Rattle.tau_run.specs.RecoveredFacts.{catalogue_of}
+use Rattle.tau_run.specs.Start.{catalogue_of}
 use Rattle.tau_run.specs.RunFacts.{WroteFront}
 use Rattle.tau_run.specs.RunFacts as ending
 use Rattle.tau_run.proofs.Reading.{IsCatalogue}

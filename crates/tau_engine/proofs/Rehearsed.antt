@@ -19,7 +19,8 @@ use Rattle.tau_report.specs.declared.report.RunEnd.{RunEnd}
 use Rattle.tau_report.specs.Report.{ack_lines, report_text}
 use Rattle.tau_core.specs.declared.state.Load.{Load}
 use Rattle.tau_run.specs.Run.{Run, IsReportOf, last_db}
-use Rattle.tau_run.specs.RecoveredFacts.{catalogue_of, IsEnded}
+use Rattle.tau_run.specs.RecoveredFacts.{IsEnded}
+use Rattle.tau_run.specs.Start.{catalogue_of}
 use Rattle.tau_run.specs.CoreRun.{IsSoundLoad}
 use Rattle.tau_run.specs.StopsLeave.{IsLeft}
 use Rattle.tau_run.specs.RunFacts as ending

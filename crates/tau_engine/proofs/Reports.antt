@@ -23,7 +23,7 @@ use Rattle.tau_report.specs.Report.{report_text}
 use Rattle.tau_core.specs.declared.state.Load.{Load}
 use Rattle.tau_core.specs.View.{setting_of}
 use Rattle.tau_run.specs.Run.{Committed, Run, told_of, means, acts, below, reply_in, fate, fates, has_ack, last_db, IsReportOf}
-use Rattle.tau_run.specs.RecoveredFacts.{catalogue_of}
+use Rattle.tau_run.specs.Start.{catalogue_of}
 use Rattle.tau_run.specs.CoreRun.{IsRunOf, IsCourse}
 use Rattle.tau_run.proofs.CommittedTold.{act_of, number_of, Apart, one_of_number, exec_told}
 use Rattle.tau_run.proofs.Order.{apart, once}

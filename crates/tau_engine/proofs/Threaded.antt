@@ -25,8 +25,8 @@ use Rattle.tau_core.specs.Opens.{nothing}
 use Rattle.tau_core.specs.State.{Plain}
 use Rattle.tau_core.specs.View.{core_of, setting_of}
 use Rattle.tau_run.specs.Run.{AllAcked}
-use Rattle.tau_run.specs.RecoveredFacts.{catalogue_of}
-use Rattle.tau_run.specs.CoreRun.{IsLoadOf, IsRunOf, IsSoundLoad}
+use Rattle.tau_run.specs.Start.{catalogue_of}
+use Rattle.tau_run.specs.CoreRun.{IsLoadOn, IsRunOf, IsSoundLoad}
 use Rattle.tau_run.specs.StopsLeave.{IsOver}
 use Rattle.tau_run.specs.RunFacts.{chosen_by}
 use Rattle.tau_run.specs.Turns.{Progress}

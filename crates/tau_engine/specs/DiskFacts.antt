@@ -4,7 +4,7 @@ use Rattle.tau_base.specs.declared.format.Format.{Format}
 use Rattle.tau_block.specs.Image.{HasContent}
 use Rattle.tau_crew_facts.specs.Spacing.{AreSpaced}
 use Rattle.tau_disk.specs.Used.{OfDisk, EachUsed}
-use Rattle.tau_run.specs.RecoveredFacts.{catalogue_of}
+use Rattle.tau_run.specs.Start.{catalogue_of}
 use Rattle.tau_run.specs.RunFacts.{Ending, WroteFront}
 use Rattle.tau_run.specs.RunFacts as ending
 use Rattle.tau_text.specs.declared.load.Workload.{Workload}

@@ -13,7 +13,7 @@ ghost use Rattle.tau_scan.specs.Reading.{log_of};
 ghost use Rattle.tau_scan.specs.Taken.{Kept};
 ghost use Rattle.tau_replay.specs.Redone.{IsOrderOf};
 ghost use Rattle.tau_report.specs.Lines.{line};
-ghost use Rattle.tau_run.specs.RecoveredFacts.{catalogue_of};
+ghost use Rattle.tau_run.specs.Start.{catalogue_of};
 ghost use Rattle.tau_run.specs.CoreRun.{IsSoundLoad};
 ghost use Rattle.tau_step.specs.RunTold.{AreNew};
 ghost use Rattle.tau_engine.specs.Bench.{AreFound, BenchTells, IsMeasured, PlaysWell, bench_text, count_lines, digest_lines, digest_of, lines_in, measured_text, number_in, number_line, sum_of};

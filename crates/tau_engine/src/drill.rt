@@ -17,7 +17,7 @@ ghost use Rattle.tau_scan.specs.declared.log.Log.{Log};
 ghost use Rattle.tau_scan.specs.Reading.{log_of};
 ghost use Rattle.tau_scan.specs.Taken.{Kept};
 ghost use Rattle.tau_replay.specs.Redone.{IsOrderOf};
-ghost use Rattle.tau_run.specs.RecoveredFacts.{catalogue_of};
+ghost use Rattle.tau_run.specs.Start.{catalogue_of};
 ghost use Rattle.tau_run.specs.CoreRun.{IsSoundLoad};
 ghost use Rattle.tau_run.specs.RunFacts.{WroteFront};
 ghost use Rattle.tau_step.specs.RunTold.{AreNew};

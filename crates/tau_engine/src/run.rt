@@ -7,7 +7,7 @@ ghost use Rattle.tau_disk.specs.Disk.{Rose};
 ghost use Rattle.tau_text.specs.Canonical.{declarations_text};
 ghost use Rattle.tau_text.specs.Kept.{AreCalls, IsRunnable};
 ghost use Rattle.tau_text.specs.Text.{workload_of};
-ghost use Rattle.tau_run.specs.RecoveredFacts.{catalogue_of};
+ghost use Rattle.tau_run.specs.Start.{catalogue_of};
 ghost use Rattle.tau_step.specs.RunTold.{AreNew};
 ghost use Rattle.tau_engine.specs.declared.served.TheConstants.{MAX_COUNT};
 ghost use Rattle.tau_engine.specs.Runs.{RanChosen, RunsOn, TellsEnd, status_in};

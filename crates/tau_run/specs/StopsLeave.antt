@@ -14,9 +14,12 @@ pub record HasFront (n j : ℕ) (first : List ℕ) (l : Load) (s : Core) (bytes 
   pub spelled : Spelled l (λ i. (s.streams i).anchors) (take count (s.streams j).moved) bytes
   pub has : HasContent (format_of l.mode) n j (first ++ bytes) image
 
+abbrev pub IsFronted : ℕ → ℕ → List ℕ → Load → Core → List ℕ → Type 0
+IsFronted n j first l s image = (bytes : List ℕ) × HasFront n j first l s bytes image
+
 -- the image has what was there, or such a front
 abbrev pub IsLeft : ℕ → ℕ → List ℕ → List ℕ → Load → Core → List ℕ → Type 0
-IsLeft n j old first l s image = HasContent (format_of l.mode) n j old image ⊎ ((bytes : List ℕ) × HasFront n j first l s bytes image)
+IsLeft n j old first l s image = HasContent (format_of l.mode) n j old image ⊎ IsFronted n j first l s image
 
 -- What stops may leave, where each stream was opened from the old content to the first one: `past` at some moment since the
 -- entry, `now` now. `rose` are the streams whose disk failed.

@@ -14,8 +14,9 @@ use Rattle.tau_core.specs.declared.opening.Opening.{Opening}
 use Rattle.tau_core.specs.declared.state.Load.{Load}
 use Rattle.tau_core.specs.State.{Plain}
 use Rattle.tau_core.specs.Opens.{Opened, OpenedFresh, catalogue_size, load_of}
-use Rattle.tau_run.specs.RecoveredFacts.{catalogue_of}
-use Rattle.tau_run.specs.CoreRun.{IsLoadOf}
+use Rattle.tau_run.specs.Start.{fresh_start, catalogue_of}
+use Rattle.tau_run.proofs.Fresh.{fresh_load}
+use Rattle.tau_run.specs.CoreRun.{IsLoadOn}
 use Rattle.tau_run.specs.RunFacts.{turns_of}
 use Rattle.tau_step.specs.RunTold.{AreNew, Began, Ran, RanFrom, RanNew}
 use Rattle.tau_step.specs.Whole.{IsBegun}
@@ -33,18 +34,8 @@ module _ {D : Type 0} {G : Ghosts D} (m : ℕ) (mode : LogMode) (load : Workload
     ends_long : length q.0.ends ≡ length ws
     ends_long = ap (length {A = ℕ}) q.1.ends ∙ length-replicate (length ws) (length (catalogue_of load))
 
-    pub fresh_load : IsLoadOf (length ws) m mode load p.load
-    fresh_load = subst (λ (l : Load). IsLoadOf (length ws) m mode load l) (sym q.2.load) (record {
-      procs = refl;
-      calls = refl;
-      mode_is = refl;
-      workers = refl;
-      streams = ends_long;
-      rows = q.1.rows;
-      floor = q.1.floor;
-      ends = q.1.ends;
-      anchors = q.1.anchors;
-    })
+    pub loaded : IsLoadOn (length ws) m mode load (fresh_start (length ws)) p.load
+    loaded = subst (λ (l : Load). IsLoadOn (length ws) m mode load (fresh_start (length ws)) l) (sym q.2.load) (fresh_load (length ws) m mode load (load_of load.declarations.procs load.calls mode m q.0) refl refl refl refl ends_long q.1)
 
     pub fresh_begun : AreNew (format_of mode) (λ j. catalogue_of load) ws → IsBegun (format_of p.load.mode) (λ j. catalogue_of load) ws p.load.opening
     fresh_begun new = subst (λ (l : Load). IsBegun (format_of l.mode) (λ j. catalogue_of load) ws l.opening) (sym q.2.load) (record {
@@ -54,7 +45,7 @@ module _ {D : Type 0} {G : Ghosts D} (m : ℕ) (mode : LogMode) (load : Workload
     })
 
     pub ran_new : (r : Result RunEnd NoMemory) → Ran (turns_of load) (λ j. catalogue_of load) p ws ws' hears held held' sink_rose r → Began m mode load ws ws' hears held held' sink_rose (RanNew m mode load ws ws' hears held held' sink_rose) r
-    ran_new r ran = began_by (RanNew m mode load ws ws' hears held held' sink_rose) r (record { first = p; load_is = fresh_load; opened = fresh_opened; ran = ran })
+    ran_new r ran = began_by (RanNew m mode load ws ws' hears held held' sink_rose) r (record { first = p; load_is = loaded; opened = fresh_opened; ran = ran })
 
   -- from a given state
   module _ (o : Opening) (p : Plain) (q : Opened (load_of load.declarations.procs load.calls mode m o) p) where

@@ -1,6 +1,7 @@
 -- The flushes of a whole run in which no stream stops.
 use Rattle.std.proofs.Common.{ℕ, ◌<◌, ◌≤◌, ◌≡◌, inl, true, List, [], length, refl, sym, subst, ◌∙◌, arith, Option}
 use Rattle.std.specs.Prelude.{None}
+use Rattle.std.proofs.lemmas.List.{length-replicate}
 use Rattle.tau_base.specs.declared.format.Format.{Format}
 use Rattle.tau_base.specs.declared.format.Format.TheVariants.{One, Two}
 use Rattle.tau_base.specs.declared.value.LogMode.{LogMode}
@@ -16,8 +17,8 @@ use Rattle.tau_text.specs.Canonical.{declarations_text}
 use Rattle.tau_core.specs.declared.state.Load.{Load}
 use Rattle.tau_core.specs.View.{core_of, setting_of}
 use Rattle.tau_core.specs.Opens.{Opened, OpenedFresh, catalogue_size, nothing}
-use Rattle.tau_run.specs.RecoveredFacts.{catalogue_of}
-use Rattle.tau_run.specs.CoreRun.{IsLoadOf, IsStart, AreAcks, IsRunOf}
+use Rattle.tau_run.specs.Start.{Start, fresh_start, catalogue_of}
+use Rattle.tau_run.specs.CoreRun.{IsLoadOn, IsFirstState, AreAcks, IsRunOf}
 use Rattle.tau_run.specs.Laws.{KeepCalls}
 use Rattle.tau_run.specs.Run as told
 use Rattle.tau_run.specs.RunFacts.{turns_of}
@@ -32,7 +33,7 @@ use Rattle.tau_step.specs.RunEffects.{IsOn, Moves}
 use Rattle.tau_step.specs.Progressed.{progress}
 use Rattle.tau_step.specs.Rounding.{ran_all}
 use Rattle.tau_step.specs.RunTold.{AreNew, IsLowestStopped}
-use Rattle.tau_step.proofs.Begun.{fresh_begun, fresh_load, fresh_opened}
+use Rattle.tau_step.proofs.Begun.{fresh_begun, loaded, fresh_opened}
 use Rattle.tau_step.proofs.Ending.{begun_along, begun_kept}
 use Rattle.tau_step.proofs.EffectsInTurn.{lowest_same}
 use Rattle.tau_step.proofs.Whole.{all_whole}
@@ -59,11 +60,11 @@ module _ {D : Type 0} {G : Ghosts D} (m : ℕ) (mode : LogMode) (load : Workload
   pub begun_on : IsOn ws run
   begun_on =
       let opened = fresh_opened m mode load ws ws ⊥ [] [] ⊥ run.core fresh in
-      let loaded = fresh_load m mode load ws ws ⊥ [] [] ⊥ run.core fresh in
+      let stands = loaded m mode load ws ws ⊥ [] [] ⊥ run.core fresh in
       record {
         along = subst (λ (f : Option ℕ). IsAlong ws run.core f) (sym none) (begun_along (λ j. catalogue_of load) ws run.core opened (fresh_begun m mode load ws ws ⊥ [] [] ⊥ run.core fresh are));
-        workers = workers ∙ sym loaded.workers;
-        streams = streams ∙ sym loaded.streams;
+        workers = workers ∙ sym stands.workers;
+        streams = streams ∙ sym stands.streams;
       }
 
 module _ {D : Type 0} {G : Ghosts D} (m : ℕ) (mode : LogMode) (load : Workload) (old new : Run) (ws ws' : List (Writer D G)) (hears : Type 0) (held held' : List ℕ) (faults faults' : ℕ)
@@ -78,8 +79,8 @@ module _ {D : Type 0} {G : Ghosts D} (m : ℕ) (mode : LogMode) (load : Workload
   opened : Opened old.core.load old.core
   opened = fresh_opened m mode load ws ws hears held held hears old.core fresh
 
-  first_load : IsLoadOf n m mode load old.core.load
-  first_load = fresh_load m mode load ws ws hears held held hears old.core fresh
+  first_load : IsLoadOn n m mode load (fresh_start n) old.core.load
+  first_load = loaded m mode load ws ws hears held held hears old.core fresh
 
   went : Went bases (noting old.flushes new.flushes (ran_all (turns_of load))) true old.core new.core ws ws' old.clerk.acks new.clerk.acks [] nothing []
   went = x.went bases [] nothing [] opened.stands (begun_kept bases ws old.core opened (fresh_begun m mode load ws ws hears held held hears old.core fresh are))
@@ -93,8 +94,8 @@ module _ {D : Type 0} {G : Ghosts D} (m : ℕ) (mode : LogMode) (load : Workload
   abbrev P : Progress
   P = progress new.core went.hidden went.events went.order new.clerk.acks
 
-  is_load : IsLoadOf n m mode load l
-  is_load = subst (λ (d : Load). IsLoadOf n m mode load d) (sym went.load) first_load
+  is_load : IsLoadOn n m mode load (fresh_start n) l
+  is_load = subst (λ (d : Load). IsLoadOn n m mode load (fresh_start n) d) (sym went.load) first_load
 
   from_begun : ran_all (turns_of load) true old.core.load (begun (core_of old.core nothing)) P
   from_begun = subst (λ (a : List (ℕ × List ℕ)). ran_all (turns_of load) true old.core.load (record { state = core_of old.core nothing; events = []; joined = []; told = a }) P) acks went.moved.0
@@ -112,8 +113,8 @@ module _ {D : Type 0} {G : Ghosts D} (m : ℕ) (mode : LogMode) (load : Workload
   led : machine.Run (setting_of l) (core_of old.core nothing) went.events went.order s × KeepCalls went.events × AreAcks l s new.clerk.acks
   led = turns_law (setting_of l) m n (turns_of load) (core_of old.core nothing) P opening_is (inl whole)
 
-  there : (run : told.Run) × IsRunOf n l went.order s (catalogue_of load) run × (run.acks ≡ new.clerk.acks)
-  there = run_law n m mode load new.core went.order went.hidden went.stands is_load new.clerk.acks led.2
+  there : (run : told.Run) × IsRunOf n l went.order s load run × (run.acks ≡ new.clerk.acks) × (run.start ≡ fresh_start n)
+  there = run_law n m mode load new.core went.order went.hidden went.stands (fresh_start n) is_load (length-replicate n []) new.clerk.acks led.2
 
   module _ (flushes : List ℕ) (of_run : IsOfRun new.failed new.flushes flushes) where
     unstopped : (j : ℕ) → j < n → (s.streams j).stop ≡ None
@@ -126,11 +127,12 @@ module _ {D : Type 0} {G : Ghosts D} (m : ℕ) (mode : LogMode) (load : Workload
     pub flush_order : IsFlushOrder n m mode load flushes
     flush_order = record {
       run = there.0;
+      begins = there.3;
       core = record {
         stands_on = l;
-        load_is = is_load;
+        load_is = subst (λ (b : Start). IsLoadOn n m mode load b l) (sym there.3) is_load;
         opening = core_of old.core nothing;
-        start = subst (λ (d : Load). IsStart d (core_of old.core nothing)) (sym went.load) (started old.core.load old.core opened);
+        first = subst (λ (d : Load). IsFirstState d (core_of old.core nothing)) (sym went.load) (started old.core.load old.core opened);
         progress = P;
         led = led.0;
         chosen = whole;

@@ -15,7 +15,7 @@ use Rattle.tau_core.specs.declared.state.Load.{Load}
 use Rattle.tau_core.specs.State.{Plain}
 use Rattle.tau_core.specs.View.{Hidden, core_of}
 use Rattle.tau_core.specs.Stands.{Stands}
-use Rattle.tau_run.specs.StopsLeave.{HasFront, IsLeft}
+use Rattle.tau_run.specs.StopsLeave.{HasFront, IsFronted}
 use Rattle.tau_run.specs.Turns.{Progress}
 use Rattle.tau_step.specs.Keeping.{IsKept}
 use Rattle.tau_step.specs.Progressed.{progress}
@@ -62,7 +62,7 @@ module _ {D : Type 0} {G : Ghosts D} (j : ℕ) (base : List ℕ) where
 
   -- what became of a writer, where this is the state now
   pub record Since (l : Load) (s : Core) (w w' : Writer D G) : Type 0 where
-    pub before : G.tells → Passes G.moment G.may_leave_since (disk_of w) (disk_of w') (IsLeft l.streams j base l s)
+    pub before : G.tells → Passes G.moment G.may_leave_since (disk_of w) (disk_of w') (IsFronted l.streams j base l s)
     pub faults : G.faults (disk_of w) ≤ G.faults (disk_of w')
     pub goes : has_failed w' ≡ false → G.tells → GoesOn G.number G.fails (disk_of w) (disk_of w')
     pub stops : has_failed w ≡ false → has_failed w' ≡ true → Rose (G.faults (disk_of w)) (G.faults (disk_of w')) × IsStopped G.tells G.number G.fails G.short (disk_of w) (disk_of w')

@@ -9,6 +9,7 @@ use Rattle.tau_core.specs.declared.state.Load.{Load}
 use Rattle.tau_open.specs.Outside.{calls_to_make}
 use Rattle.tau_run.specs.Run.{Run, below}
 use Rattle.tau_run.specs.RunFacts.{by_turns, IsCoreRun}
+use Rattle.tau_run.specs.Start.{fresh_start}
 use Rattle.tau_run.specs.Turns.{Progress}
 use Rattle.tau_step.specs.declared.flushes.Flushes.{Flushes}
 use Rattle.tau_step.specs.declared.manager.Managing.{Managing}
@@ -59,9 +60,10 @@ calls_to_flush = 4
 abbrev pub device_calls : ℕ → List ℕ → List ℕ
 device_calls n flushes = below n ++ flat_map (replicate calls_to_make) (below n) ++ flat_map (replicate calls_to_flush) flushes
 
--- the stream of each flush, in order, of the run by turns in which no stream stops
+-- the stream of each flush, in order, of the run by turns on new streams in which none stops
 pub record IsFlushOrder (n m : ℕ) (mode : LogMode) (load : Workload) (flushes : List ℕ) : Type 0 where
   pub run : Run
+  pub begins : run.start ≡ fresh_start n
   pub core : IsCoreRun (by_turns n m load true) n m mode load (λ j. None) run
   pub flushes_are : flushes ≡ flushed_in core.progress.events
 

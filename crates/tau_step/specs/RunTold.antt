@@ -29,9 +29,9 @@ use Rattle.tau_core.specs.View.{Hidden, setting_of, core_of}
 use Rattle.tau_core.specs.Stands.{Stands}
 use Rattle.tau_core.specs.Opens.{Opened, load_of, nothing}
 use Rattle.tau_run.specs.Run.{below, fate}
-use Rattle.tau_run.specs.RecoveredFacts.{catalogue_of}
-use Rattle.tau_run.specs.CoreRun.{IsLoadOf}
-use Rattle.tau_run.specs.StopsLeave.{HasFront, IsLeft, IsOver}
+use Rattle.tau_run.specs.Start.{fresh_start, catalogue_of}
+use Rattle.tau_run.specs.CoreRun.{IsLoadOn}
+use Rattle.tau_run.specs.StopsLeave.{HasFront, IsFronted, IsOver}
 use Rattle.tau_run.specs.RunFacts.{turns_of}
 use Rattle.tau_run.specs.Turns.{Progress, IsWholeRun, IsPartOfRun}
 use Rattle.tau_step.specs.Progressed.{progress}
@@ -55,7 +55,7 @@ module _ {D : Type 0} {G : Ghosts D} where
 
   -- What became of the writer of stream j since the call, where the state is s now: its images, its disk's calls, and what a stop now may leave.
   pub record Left (l : Load) (s : Core) (j : ℕ) (base : List ℕ) (w w' : Writer D G) : Type 0 where
-    pub before : G.tells → Passes G.moment G.may_leave_since (disk_of w) (disk_of w') (IsLeft l.streams j base l s)
+    pub before : G.tells → Passes G.moment G.may_leave_since (disk_of w) (disk_of w') (IsFronted l.streams j base l s)
     pub present : G.tells → (x : List ℕ) → G.may_leave (disk_of w') x → (bytes : List ℕ) × HasFront l.streams j base l s bytes x × (slice_index s.plv j ≤ length base + length bytes)
     pub reached : G.tells → (y content : List ℕ) × G.may_leave (disk_of w') y × HasContent (format_of l.mode) l.streams j content y × (length content ≡ slice_index s.plv j)
     -- its stream is stopped exactly where its disk failed
@@ -133,7 +133,7 @@ module _ {D : Type 0} {G : Ghosts D} (turns : List Turn) (bases : ℕ → List �
 module _ {D : Type 0} {G : Ghosts D} (m : ℕ) (mode : LogMode) (load : Workload) (ws ws' : List (Writer D G)) (hears : Type 0) (held held' : List ℕ) (sink_rose : Type 0) where
   pub record RanNew (result : Result RunEnd NoMemory) : Type 0 where
     pub first : Plain
-    pub load_is : IsLoadOf (length ws) m mode load first.load
+    pub load_is : IsLoadOn (length ws) m mode load (fresh_start (length ws)) first.load
     pub opened : Opened first.load first
     pub ran : Ran (turns_of load) (λ j. catalogue_of load) first ws ws' hears held held' sink_rose result
 

@@ -9,7 +9,7 @@ ghost use Rattle.tau_text.specs.Canonical.{declarations_text};
 ghost use Rattle.tau_text.specs.Kept.{AreCalls};
 ghost use Rattle.tau_core.specs.Opens.{OpenedFresh, catalogue_size};
 ghost use Rattle.tau_open.specs.Outside.{calls_to_make};
-ghost use Rattle.tau_run.specs.RecoveredFacts.{catalogue_of};
+ghost use Rattle.tau_run.specs.Start.{catalogue_of};
 ghost use Rattle.tau_run.specs.Run.{below};
 ghost use Rattle.tau_step.specs.Device.{IsDeviceOrder, IsFlushOrder, IsOfRun, calls_to_flush};
 ghost use Rattle.tau_step.specs.RunTold.{AreNew};

@@ -6,7 +6,7 @@ ghost use Rattle.tau_disk.specs.Disk.{Rose};
 ghost use Rattle.tau_text.specs.Canonical.{declarations_text};
 ghost use Rattle.tau_text.specs.Kept.{AreCalls};
 ghost use Rattle.tau_core.specs.Opens.{Fits, Opened};
-ghost use Rattle.tau_run.specs.RecoveredFacts.{catalogue_of};
+ghost use Rattle.tau_run.specs.Start.{catalogue_of};
 ghost use Rattle.tau_run.specs.RunFacts.{turns_of};
 ghost use Rattle.tau_step.specs.RunTold.{AreNew, Began, Ran, RanFrom, RanNew};
 ghost use Rattle.tau_step.specs.Whole.{IsBegun};

@@ -9,7 +9,7 @@ use Rattle.tau_open.specs.Opening.{AreOpened}
 use Rattle.tau_text.specs.declared.load.Workload.{Workload}
 use Rattle.tau_core.specs.declared.opening.Opening.{Opening}
 use Rattle.tau_core.specs.Opens.{Fits}
-use Rattle.tau_run.specs.RecoveredFacts.{catalogue_of}
+use Rattle.tau_run.specs.Start.{catalogue_of}
 use Rattle.tau_step.specs.RunTold.{AreNew}
 use Rattle.tau_step.specs.Whole.{IsBegun}
 

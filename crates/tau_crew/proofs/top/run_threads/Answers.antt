@@ -2,7 +2,7 @@ use Rattle.std.proofs.Common.{ℕ, ◌≡◌, length, subst, arith}
 use Rattle.tau_disk.specs.Disk.{Rose}
 use Rattle.tau_text.specs.Canonical.{declarations_text}
 use Rattle.tau_core.specs.Opens.{OpenedFresh, catalogue_size}
-use Rattle.tau_run.specs.RecoveredFacts.{catalogue_of}
+use Rattle.tau_run.specs.Start.{catalogue_of}
 use Rattle.tau_step.proofs.Begun.{fresh_begun}
 use Rattle.tau_crew.proofs.Tops.{went_new}
 use Rattle.tau_crew.proofs.top.run_threads.Goals as goal

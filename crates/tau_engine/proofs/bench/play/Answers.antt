@@ -2,7 +2,7 @@ use Rattle.std.proofs.Common.{ℕ, ◌≡◌, List, refl, ap, subst, ◌∙◌, 
 use Rattle.tau_base.specs.declared.format.Format.TheVariants.{One}
 use Rattle.tau_stream.specs.Stream.{catalogue_record}
 use Rattle.tau_open.specs.Opening.{AreOpened}
-use Rattle.tau_run.specs.RecoveredFacts.{catalogue_of}
+use Rattle.tau_run.specs.Start.{catalogue_of}
 use Rattle.tau_engine.proofs.Opened.{are_new}
 use Rattle.tau_engine.proofs.Oks.{if_ok}
 use Rattle.tau_engine.proofs.Rehearsed.{measured_on}

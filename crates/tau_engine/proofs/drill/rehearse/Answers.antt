@@ -4,7 +4,7 @@ use Rattle.tau_base.specs.declared.format.Format.TheVariants.{One}
 use Rattle.tau_stream.specs.Stream.{catalogue_record}
 use Rattle.tau_disk.specs.Used.{EachIn}
 use Rattle.tau_open.specs.Opening.{AreOpened, Begins}
-use Rattle.tau_run.specs.RecoveredFacts.{catalogue_of}
+use Rattle.tau_run.specs.Start.{catalogue_of}
 use Rattle.tau_engine.proofs.Opened.{are_new}
 use Rattle.tau_engine.proofs.Oks.{on_ok}
 use Rattle.tau_engine.proofs.Rehearsed.{rehearsed_on, rehearsed_none}

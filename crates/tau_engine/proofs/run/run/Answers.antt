@@ -5,7 +5,7 @@ use Rattle.tau_stream.specs.Stream.{catalogue_record}
 use Rattle.tau_disk.specs.Used.{EachIn}
 use Rattle.tau_open.specs.Opening.{AreOpened, Begins}
 use Rattle.tau_text.specs.Canonical.{declarations_text}
-use Rattle.tau_run.specs.RecoveredFacts.{catalogue_of}
+use Rattle.tau_run.specs.Start.{catalogue_of}
 use Rattle.tau_engine.proofs.Opened.{are_new, low_streams}
 use Rattle.tau_run.proofs.Sources.{catalogue_load}
 use Rattle.tau_engine.proofs.Ends.{says_run}

@@ -1,7 +1,7 @@
 use Rattle.std.proofs.Common.{◌≡◌, ◌∙◌, ap, subst}
 use Rattle.tau_stream.specs.Stream.{catalogue_record}
 use Rattle.tau_open.specs.Opening.{AreOpened}
-use Rattle.tau_run.specs.RecoveredFacts.{catalogue_of}
+use Rattle.tau_run.specs.Start.{catalogue_of}
 use Rattle.tau_step.proofs.Ordered.{are_new}
 use Rattle.tau_step.proofs.device.streams_of.Goals as goal
 

@@ -2,7 +2,7 @@
 use Rattle.std.proofs.Common.{ℕ, ◌≡◌, ◌<◌, length, refl, sym, ap, ◌∙◌, arith}
 use Rattle.std.specs.Prelude.{Some, slice_get}
 use Rattle.std.proofs.lemmas.Option.{slice_get_read}
-use Rattle.tau_run.specs.RecoveredFacts.{catalogue_of}
+use Rattle.tau_run.specs.Start.{catalogue_of}
 use Rattle.tau_step_runs.proofs.Openings.{begun}
 use Rattle.tau_step_runs.proofs.tests.from_an_opening.Goals as goal
 
