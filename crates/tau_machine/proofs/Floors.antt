@@ -1,7 +1,7 @@
 -- The floor of an opening stays below all vectors of calls that write.
 use Rattle.std.proofs.Common.{ℕ, Bool, true, false, ◌≡◌, ◌⊎◌, inl, inr, Option, Some, None, List, [], ◌∷◌, ◌++◌, refl, sym, ap, subst, ◌∙◌, ◌==◌, if◌then◌else◌}
 use Rattle.std.specs.Map.{lookup}
-use Rattle.std.proofs.lemmas.Bool.{cases_Bool}
+use Rattle.std.proofs.lemmas.Bool.{cases_Bool, eqb-true}
 use Rattle.tau_base.specs.declared.value.Key.{Key}
 use Rattle.tau_base.specs.declared.value.Value.{Value}
 use Rattle.tau_base.specs.declared.value.Mode.{Mode}
@@ -33,18 +33,6 @@ module _ (low : List ℕ) where
   -- the dep of a committed call that writes
   abbrev ActAbove : Act Txn → Type 0
   ActAbove t = updates t.effect ≡ true → AtMost low t.call.place.dep
-
-  -- `Above`, part by part
-  record PartsAbove (K : List (Act Txn)) (s : Core) : Type 0 where
-    pub shards : (i : ℕ) → ShardAbove (s.shards i)
-    pub hands : (w : ℕ) → HandAbove (s.workers w).hand
-    pub deps : (t : Act Txn) → Member t K → ActAbove t
-
-  to_parts : (K : List (Act Txn)) (s : Core) → Above low K s → PartsAbove K s
-  to_parts K s a = record { shards = λ i. record { floor = a.floors i; entries = a.entries i }; hands = λ w h x m e p q. a.hands w h x m e p q; deps = a.deps }
-
-  from_parts : (K : List (Act Txn)) (s : Core) → PartsAbove K s → Above low K s
-  from_parts K s o = record { floors = λ i. (o.shards i).floor; entries = λ i. (o.shards i).entries; hands = λ w h x m e p q. o.hands w h x m e p q; deps = o.deps }
 
   -- ---- the parts, after each change
 
@@ -162,6 +150,37 @@ module _ (low : List ℕ) where
   more_deps K u all here t m = elim (member_more t K u m) [ inl p ↦ all t p | inr e ↦ subst ActAbove e here ]
 
   module _ (set : Setting) where
+    -- what holds of a shard that a key has
+    abbrev Here : ℕ → Shard → Type 0
+    Here i sh = (x : Key) → set.shard_of x ≡ i → ShardAbove sh
+
+    -- `Above`, part by part
+    record PartsAbove (K : List (Act Txn)) (s : Core) : Type 0 where
+      pub shards : (i : ℕ) → Here i (s.shards i)
+      pub hands : (w : ℕ) → HandAbove (s.workers w).hand
+      pub deps : (t : Act Txn) → Member t K → ActAbove t
+
+    to_parts : (K : List (Act Txn)) (s : Core) → Above set low K s → PartsAbove K s
+    to_parts K s a = record {
+      shards = λ i x own. subst (λ (k : ℕ). ShardAbove (s.shards k)) own (record { floor = a.floors x; entries = a.entries x });
+      hands = λ w h x m e p q. a.hands w h x m e p q;
+      deps = a.deps;
+    }
+
+    from_parts : (K : List (Act Txn)) (s : Core) → PartsAbove K s → Above set low K s
+    from_parts K s o = record {
+      floors = λ x. (o.shards (set.shard_of x) x refl).floor;
+      entries = λ x. (o.shards (set.shard_of x) x refl).entries;
+      hands = λ w h x m e p q. o.hands w h x m e p q;
+      deps = o.deps;
+    }
+
+    shards_above : (i : ℕ) (a : Shard) (f : ℕ → Shard) → Here i a → ((j : ℕ) → Here j (f j)) → (j : ℕ) → Here j (at i a f j)
+    shards_above i a f here all j = elim (cases_Bool (j == i)) [
+      | inl t ↦ subst (λ (b : Bool). Here j (if b then a else f j)) (sym t) (subst (λ (k : ℕ). Here k a) (sym (eqb-true j i t)) here)
+      | inr e ↦ subst (λ (b : Bool). Here j (if b then a else f j)) (sym e) (all j)
+    ]
+
     ready_above : (K : List (Act Txn)) (s : Core) (w : ℕ) → PartsAbove K s → HandAbove (ready set s w).hand
     ready_above K s w o = begun_above set.width (s.workers w) (o.hands w)
 
@@ -172,13 +191,16 @@ module _ (low : List ℕ) where
       abbrev e : Entry
       e = entry_in sh l.key
 
+      here : ShardAbove sh
+      here = o.shards (set.shard_of l.key) l.key refl
+
       taken : (m : Mode) → AtMost low (hand_locked l.hand l.key m (sh.rows l.key) e.write_lv e.read_lv).dep
-      taken Read = at_most_trans low e.write_lv (join l.hand.dep e.write_lv) (entry_above sh (o.shards (set.shard_of l.key)) l.key).0 (join_right l.hand.dep e.write_lv)
-      taken Write = at_most_trans low e.read_lv (join (join l.hand.dep e.write_lv) e.read_lv) (entry_above sh (o.shards (set.shard_of l.key)) l.key).1 (join_right (join l.hand.dep e.write_lv) e.read_lv)
+      taken Read = at_most_trans low e.write_lv (join l.hand.dep e.write_lv) (entry_above sh here l.key).0 (join_right l.hand.dep e.write_lv)
+      taken Write = at_most_trans low e.read_lv (join (join l.hand.dep e.write_lv) e.read_lv) (entry_above sh here l.key).1 (join_right (join l.hand.dep e.write_lv) e.read_lv)
 
       locks : PartsAbove K s'
       locks = subst (PartsAbove K) (sym l.after) (record {
-        shards = at_above ShardAbove (set.shard_of l.key) (shard_locked sh w l.key l.mode) s.shards (locked_above sh w l.key l.mode (o.shards (set.shard_of l.key))) o.shards;
+        shards = shards_above (set.shard_of l.key) (shard_locked sh w l.key l.mode) s.shards (λ x own. locked_above sh w l.key l.mode here) o.shards;
         hands = at_above (λ (k : Worker). HandAbove k.hand) w (record (ready set s w) { hand = Some (hand_locked l.hand l.key l.mode (sh.rows l.key) e.write_lv e.read_lv) }) s.workers
             (low_above (hand_locked l.hand l.key l.mode (sh.rows l.key) e.write_lv e.read_lv) (taken l.mode)) o.hands;
         deps = o.deps;
@@ -197,7 +219,7 @@ module _ (low : List ℕ) where
 
     quits : (K : List (Act Txn)) (w : ℕ) (up : Bool) (s s' : Core) → PartsAbove K s → Quits set w up s s' → PartsAbove K s'
     quits K w up s s' o q = subst (PartsAbove K) (sym q.after) (record {
-      shards = at_above ShardAbove (set.shard_of q.key) (shard_quit (s.shards (set.shard_of q.key)) w q.key) s.shards (quit_above (s.shards (set.shard_of q.key)) w q.key (o.shards (set.shard_of q.key))) o.shards;
+      shards = shards_above (set.shard_of q.key) (shard_quit (s.shards (set.shard_of q.key)) w q.key) s.shards (λ x own. quit_above (s.shards (set.shard_of q.key)) w q.key (o.shards (set.shard_of q.key) q.key refl)) o.shards;
       hands = at_above (λ (k : Worker). HandAbove k.hand) w (settled set.width (s.workers w) (hand_quit q.hand q.key up)) s.workers (settled_above set.width (s.workers w) (hand_quit q.hand q.key up) (low_above (hand_quit q.hand q.key up) covered)) o.hands;
       deps = o.deps;
     })
@@ -239,8 +261,8 @@ module _ (low : List ℕ) where
 
     frees : (K : List (Act Txn)) (w : ℕ) (s s' : Core) → PartsAbove K s → Frees set w s s' → PartsAbove K s'
     frees K w s s' o f = subst (PartsAbove K) (sym f.after) (record {
-      shards = at_above ShardAbove (set.shard_of f.key) (shard_freed (s.shards (set.shard_of f.key)) w f.key (lv_of f.act) (lookup (same_key f.key) f.act.effect.writes)) s.shards
-          (freed_above (s.shards (set.shard_of f.key)) w f.key (lv_of f.act) (lookup (same_key f.key) f.act.effect.writes) (o.shards (set.shard_of f.key))) o.shards;
+      shards = shards_above (set.shard_of f.key) (shard_freed (s.shards (set.shard_of f.key)) w f.key (lv_of f.act) (lookup (same_key f.key) f.act.effect.writes)) s.shards
+          (λ x own. freed_above (s.shards (set.shard_of f.key)) w f.key (lv_of f.act) (lookup (same_key f.key) f.act.effect.writes) (o.shards (set.shard_of f.key) f.key refl)) o.shards;
       hands = at_above (λ (k : Worker). HandAbove k.hand) w (record (s.workers w) { hand = Some (hand_freed f.hand f.key) }) s.workers (joined_above (hand_freed f.hand f.key) f.act (ap act_of f.phase)) o.hands;
       deps = o.deps;
     })
@@ -271,7 +293,7 @@ module _ (low : List ℕ) where
     leads K new (FirstFree w) s s' o l = subst (λ (n : List (Act Txn)). PartsAbove (K ++ n) s') (sym l.4) (frees (K ++ l.1 ∷ []) w l.0 s' (reads K w s l.0 l.1 o l.2) l.3)
     leads K new (Done w) s s' o l = same_calls K new s' l.1 (finishes K w s s' o l.0)
     leads K new (DoneReading w) s s' o l = subst (λ (n : List (Act Txn)). PartsAbove (K ++ n) s') (sym l.4) (finishes (K ++ l.1 ∷ []) w l.0 s' (reads K w s l.0 l.1 o l.2) l.3)
-    leads K new (Drop i v) s s' o l = same_calls K new s' l.1 (subst (PartsAbove K) (sym l.0.after) (record { shards = at_above ShardAbove i l.0.shard s.shards (dropped_above v (s.shards i) l.0.shard l.0.dropped (o.shards i)) o.shards; hands = o.hands; deps = o.deps }))
+    leads K new (Drop i v) s s' o l = same_calls K new s' l.1 (subst (PartsAbove K) (sym l.0.after) (record { shards = shards_above i l.0.shard s.shards (λ x own. dropped_above v (s.shards i) l.0.shard l.0.dropped (o.shards i x own)) o.shards; hands = o.hands; deps = o.deps }))
     leads K new (Gather j) s s' o l = same_calls K new s' l.1 (gathers K j s s' o l.0)
     leads K new (PlaceAnchor j v) s s' o l = same_calls K new s' l.1 (subst (PartsAbove K) (sym l.0.after) (record { shards = o.shards; hands = o.hands; deps = o.deps }))
     leads K new (Persist j upto) s s' o l = same_calls K new s' l.1 (subst (PartsAbove K) (sym l.0.after) (record { shards = o.shards; hands = o.hands; deps = o.deps }))
@@ -287,9 +309,9 @@ pub above_theorem : AboveTheorem
 above_theorem set low = (
   λ s opens floors. record {
     floors = floors;
-    entries = λ i x e is. absurd (let f = sym (opens.entries i x) ∙ is in cc f);
+    entries = λ x y e is. absurd (let f = sym (opens.entries (set.shard_of x) y) ∙ is in cc f);
     hands = λ w h x m is. absurd (let f = sym (opens.hands w) ∙ is in cc f);
     deps = λ t m. absurd m;
   },
-  λ K new e s s' a l. from_parts low (K ++ new) s' (leads low set K new e s s' (to_parts low K s a) l),
+  λ K new e s s' a l. from_parts low set (K ++ new) s' (leads low set K new e s s' (to_parts low set K s a) l),
 )
