@@ -32,3 +32,4 @@ pub mod Acks
 pub mod Sources
 pub mod Start
 pub mod Fresh
+pub mod Waits

@@ -3,7 +3,7 @@ use Rattle.std.specs.Prelude.{ℕ, ◌⊎◌, ◌==◌, map, false, ◌++◌, �
 use Rattle.std.specs.List.{filter}
 use Rattle.tau_base.specs.declared.value.LogMode.{LogMode}
 use Rattle.tau_base.specs.Modes.{format_of}
-use Rattle.tau_base.specs.Vectors.{covers}
+use Rattle.tau_base.specs.Vectors.{AtMost, covers}
 use Rattle.tau_block.specs.Image.{HasContent}
 use Rattle.tau_model.specs.History.{Act, Member, Depends, exec, updates}
 use Rattle.tau_machine.specs.Hands.{Txn}
@@ -30,7 +30,7 @@ use Rattle.tau_run.specs.RecoveredFacts.{takes, IsRecovered}
 use Rattle.tau_base.specs.declared.value.Call.{Call}
 use Rattle.tau_proc.specs.Takes.{takes as takes_call}
 use Rattle.tau_text.specs.Text.{workload_of}
-use Rattle.tau_run.specs.CoreRun.{IsLoadOn, AreAcks, IsRunOf, IsSoundLoad, IsCourse}
+use Rattle.tau_run.specs.CoreRun.{IsLoadOn, IsFirstState, AreAcks, IsRunOf, IsSoundLoad, IsCourse}
 use Rattle.tau_text.specs.declared.load.Turn.{Turn}
 use Rattle.tau_machine.specs.Runs.{IsOpening}
 use Rattle.tau_run.specs.Turns.{Progress, IsWholeRun, IsPartOfRun}
@@ -46,6 +46,11 @@ abbrev pub RunIsThere : Type 0
 RunIsThere = (n m : ℕ) (mode : LogMode) (load : Workload) (p : Plain) (K : List (Act Txn)) (h : Hidden) → Stands p K h → (start : Start) → IsLoadOn n m mode load start p.load →
     length start.old ≡ n →
     (acks : List (ℕ × List ℕ)) → AreAcks p.load (core_of p h) acks → (run : Run) × IsRunOf n p.load K (core_of p h) load run × (run.acks ≡ acks) × (run.start ≡ start)
+
+-- each call of a run that writes waits for all up to the floor with which the run began
+abbrev pub CallsWait : Type 0
+CallsWait = (l : Load) (opening : Core) (events : List Event) (K : List (Act Txn)) (s : Core) → machine.Run (setting_of l) opening events K s → IsFirstState l opening →
+    (t : Act Txn) → Member t K → updates t.effect ≡ true → AtMost l.opening.floor t.call.place.dep
 
 -- it is a history of the workload
 abbrev pub RunIsHistory : Type 0

@@ -1,5 +1,5 @@
 //! What holds of every run, as functions that do nothing.
-ghost use Rattle.tau_run.specs.Laws.{TextsAreSound, RunIsThere, RunIsHistory, ContentsAreRecords, ImagesAreRecovered, AckedIsTaken, EndsWell, NothingIsLost, TurnsAreARun, LivesAreSound, LivesAreRecovered, LivesAreOne, LeftOutForGood, LivesAreMarked, FreshMarked, FreshBegins};
+ghost use Rattle.tau_run.specs.Laws.{TextsAreSound, RunIsThere, RunIsHistory, ContentsAreRecords, ImagesAreRecovered, AckedIsTaken, EndsWell, NothingIsLost, TurnsAreARun, LivesAreSound, LivesAreRecovered, LivesAreOne, LeftOutForGood, LivesAreMarked, FreshMarked, FreshBegins, CallsWait};
 
 /// A workload that a text means can be run and logged: its calls and its steps name declared tables alone, and its catalogue can be read again.
 pub fn texts_are_sound()
@@ -14,6 +14,11 @@ pub fn fresh_begins()
 /// A core that stands has made a run.
 pub fn run_is_there()
     ensures { RunIsThere }
+{}
+
+/// Each call of a run that writes waits for all that was there when the run began.
+pub fn calls_wait()
+    ensures { CallsWait }
 {}
 
 /// It is a history of the workload.
