@@ -14,7 +14,7 @@ use Rattle.tau_core.specs.declared.opening.Opening.{Opening}
 use Rattle.tau_core.specs.State.{Plain}
 use Rattle.tau_core.specs.Opens.{Opened, OpenedFresh, catalogue_size, load_of}
 use Rattle.tau_run.specs.Start.{catalogue_of}
-use Rattle.tau_step.proofs.Begun.{fresh_load}
+use Rattle.tau_step.proofs.Begun.{loaded}
 use Rattle.tau_rule.specs.Steps.{Sat}
 use Rattle.tau_rule.proofs.Gives.{one_origin}
 use Rattle.tau_desk.specs.declared.desk.Desk.{Desk}
@@ -35,9 +35,9 @@ module _ {D : Type 0} {G : Ghosts D} (m : ℕ) (mode : LogMode) (load : Workload
   -- on new streams
   pub went_new : (p : Plain) → OpenedFresh load.declarations.procs load.calls mode m (length ws) (catalogue_size (declarations_text load.declarations)) p → (r : Result RunEnd NoMemory) →
       ThreadsWent (λ j. catalogue_of load) p ws ws' hears held held' sink_rose r → RanInThreads m mode load ws ws' hears held held' sink_rose r
-  went_new p q (Ok end) ran = record { first = p; load_is = fresh_load m mode load ws ws' hears held held' sink_rose p q; ran = ran }
+  went_new p q (Ok end) ran = record { first = p; load_is = loaded m mode load ws ws' hears held held' sink_rose p q; ran = ran }
   went_new p q (Err e) ran = elim ran [
-    | inl short ↦ inl (record { first = p; load_is = fresh_load m mode load ws ws' hears held held' sink_rose p q; ran = short })
+    | inl short ↦ inl (record { first = p; load_is = loaded m mode load ws ws' hears held held' sink_rose p q; ran = short })
     | inr same ↦ inr same
   ]
 

@@ -1,6 +1,6 @@
 -- The anchors that are read of what a stream was given are those of its manager, and stand in their distance.
 use Rattle.std.proofs.Common.{ℕ, ◌<◌, Bool, true, ◌≡◌, List, [], ◌∷◌, ◌++◌, map, length, refl, sym, ap, subst, ◌∙◌, arith, slice_index}
-use Rattle.std.specs.Prelude.{Some, Ok, ◌&&◌, ◌==◌, slice_get}
+use Rattle.std.specs.Prelude.{Some, Ok, slice_get, slice_index_or}
 use Rattle.std.proofs.lemmas.Bool.{and_parts, eqb-true}
 use Rattle.std.proofs.lemmas.List.{append-nil, length-append}
 use Rattle.tau_base.specs.Modes.{format_of}
@@ -18,13 +18,14 @@ use Rattle.tau_record.specs.Content.{anchors_of}
 use Rattle.tau_core.specs.declared.state.Load.{Load}
 use Rattle.tau_scan.specs.Reading.{records_of}
 use Rattle.tau_run.specs.Run.{Run}
-use Rattle.tau_run.specs.Start.{catalogue_of}
+use Rattle.tau_run.specs.Start.{Start, fresh_start, catalogue_of, old_at, opened_at}
+use Rattle.tau_run.proofs.Begins.{given_placed, given_anchors, none_at}
+use Rattle.tau_run.proofs.Fresh.{none_there}
+use Rattle.tau_record.proofs.Appending.{anchors_appended}
 use Rattle.tau_run.specs.CoreRun.{IsCourse, IsGiven, IsRunOf}
-use Rattle.tau_run.proofs.Spelled.{placed_in, AreOf, spelled_long}
-use Rattle.tau_run.proofs.Reading.{AreDeclared, first_placed, content_read}
-use Rattle.tau_run.proofs.Recovered.{none_anchored}
-use Rattle.tau_run.proofs.Sound.{sound}
-use Rattle.tau_run.proofs.Streams.{AreSound}
+use Rattle.tau_run.proofs.Spelled.{placed_in, spelled_long}
+use Rattle.tau_run.proofs.Sound.{anchored, sound}
+use Rattle.tau_run.proofs.Streams.{whole_records}
 use Rattle.tau_crew_facts.specs.Spacing.{Spaced, newest, IsSpacing, AreSpaced}
 
 anchors_placed : (mode : LogMode) (items : List Item) → anchors_of (map (placed_in mode) items) ≡ anchors_in items
@@ -35,40 +36,38 @@ anchors_placed WideValues (Record t ∷ items) = anchors_placed WideValues items
 anchors_placed WideCommands (Record t ∷ items) = anchors_placed WideCommands items
 anchors_placed mode (Anchor x y v ∷ items) = ap (λ (vs : List (List ℕ)). v ∷ vs) (anchors_placed mode items)
 
-module _ (n m : ℕ) (mode : LogMode) (load : Workload) (l : Load) (K : List (Act Txn)) (s : Core) (c : IsCourse n m mode load l K s) (run : Run) (is : IsRunOf n l K s (catalogue_of load) run) (j : ℕ) (lt : j < n) (content : List ℕ)
+module _ (n m : ℕ) (mode : LogMode) (load : Workload) (l : Load) (K : List (Act Txn)) (s : Core) (run : Run) (fresh : run.start ≡ fresh_start n) (c : IsCourse n m mode load run.start l K s) (is : IsRunOf n l K s load run) (j : ℕ) (lt : j < n) (content : List ℕ)
     (there : slice_get run.contents j ≡ Some content) where
-  abbrev g : IsGiven l K s j (catalogue_of load) content
+  abbrev g : IsGiven l K s j (opened_at load run.start j) content
   g = is.given j content there
 
   abbrev items : List Item
   items = (s.streams j).moved ++ g.waiting
 
-  good : AreSound l load K
-  good = sound n m mode load l K s c.inv c.load_is c.sound
+  abbrev olds : List Placed
+  olds = slice_index_or run.start.log.streams j []
 
-  chain : Chain (length (catalogue_of load)) items (slice_index s.ends j)
-  chain = chain_append (length (catalogue_of load)) (slice_index s.gathered j) (slice_index s.ends j) (s.streams j).moved g.waiting g.moved g.rest
+  abbrev given : List Placed
+  given = given_placed load run.start (old_at run.start j)
 
-  of_stream : (t : Act Txn) → Member t (records_in items) → Member t K × (updates t.effect ≡ true) × (t.call.place.stream ≡ j)
-  of_stream t q =
-      let p : Act Txn → Bool = λ x. updates x.effect && x.call.place.stream == j in
-      let h = member_filtered p t K (subst (λ (ts : List (Act Txn)). Member t ts) g.records q) in
-      let b = and_parts (updates t.effect) (t.call.place.stream == j) h.1 in
-      (h.0, b.0, eqb-true t.call.place.stream j b.1)
+  no_anchors : anchors_of olds ≡ []
+  no_anchors = ap (λ (b : Start). anchors_of (slice_index_or b.log.streams j [])) fresh ∙ ap anchors_of (none_at (fresh_start n).log.streams j (none_there n))
 
   -- the anchors that are read of the content are those of the stream
   pub anchors_read : (ps : List Placed) × (records_of (format_of l.mode) n content ≡ Ok ps) × (anchors_of ps ≡ (s.streams j).anchors)
   anchors_read =
-      let of : AreOf j items = λ t q. (of_stream t q).2 in
-      let are : AreDeclared load.declarations l.mode (records_in items) = λ t q. (let h = of_stream t q in good.declared t h.0 h.1) in (
-        first_placed load ∷ map (placed_in l.mode) items,
-        ap (records_of (format_of l.mode) n) g.is ∙ content_read l (λ i. (s.streams i).anchors) load n j (slice_index s.ends j) [] items g.bytes c.room c.load_is.streams (none_anchored n j l.opening.anchors.items c.load_is.anchors) good.catalogue g.spelled chain of g.named
-            (sym g.anchors ∙ sym (append-nil (anchors_in items))) are,
-        anchors_placed l.mode items ∙ g.anchors,
+      let placed : List Placed = map (placed_in l.mode) items in (
+        olds ++ (given ++ placed),
+        whole_records n l load run.start c.begins K s j lt c.room c.load_is.streams (anchored n m mode load l K s run c j lt) (sound n m mode load l K s run c) content g,
+        anchors_appended olds (given ++ placed) ∙ ap (λ (v : List (List ℕ)). v ++ anchors_of (given ++ placed)) no_anchors
+            ∙ anchors_appended given placed ∙ ap (λ (v : List (List ℕ)). v ++ anchors_of placed) (given_anchors load run.start (old_at run.start j))
+            ∙ anchors_placed l.mode items ∙ g.anchors,
       )
 
   pub content_long : length content ≡ slice_index s.ends j
-  content_long = ap (length {A = ℕ}) g.is ∙ length-append (catalogue_of load) g.bytes ∙ spelled_long l (λ i. (s.streams i).anchors) (length (catalogue_of load)) (slice_index s.ends j) items g.bytes g.spelled chain
+  content_long =
+      let chain = chain_append (length (opened_at load run.start j)) (slice_index s.gathered j) (slice_index s.ends j) (s.streams j).moved g.waiting g.moved g.rest in
+      ap (length {A = ℕ}) g.is ∙ length-append (opened_at load run.start j) g.bytes ∙ spelled_long l (λ i. (s.streams i).anchors) (length (opened_at load run.start j)) (slice_index s.ends j) items g.bytes g.spelled chain
 
   -- where all is persisted, and the manager kept its distance
   pub anchors_spaced : slice_index s.plv j ≡ slice_index s.ends j → IsSpacing (length (catalogue_of load)) (slice_index s.plv j) (map (λ (v : List ℕ). slice_index v j) (s.streams j).anchors) → AreSpaced (format_of l.mode) n j (length (catalogue_of load)) content

@@ -23,10 +23,11 @@ use Rattle.tau_core.specs.Opens.{nothing}
 use Rattle.tau_core.specs.State.{Plain}
 use Rattle.tau_core.specs.View.{core_of, setting_of}
 use Rattle.tau_core.specs.Pieces.{IsPieceOf, Paired, Spelled}
-use Rattle.tau_run.specs.Start.{catalogue_of}
+use Rattle.tau_run.specs.Start.{Start, opened_at, IsStart}
+use Rattle.tau_run.proofs.Waits.{waits_for}
 use Rattle.tau_run.specs.Run.{Run}
 use Rattle.tau_run.specs.CoreRun.{AreAcks, IsLoadOn, IsRunOf, IsCourse, IsSoundLoad}
-use Rattle.tau_run.specs.StopsLeave.{HasFront, IsLeft, IsOver}
+use Rattle.tau_run.specs.StopsLeave.{HasFront, IsFronted, IsOver}
 use Rattle.tau_run.specs.Turns.{Progress}
 use Rattle.tau_run.proofs.Start.{started}
 use Rattle.tau_rule.specs.Rule.{anchors_at}
@@ -65,7 +66,7 @@ module _ (l : Load) (c s : Core) (j : ℕ) (base : List ℕ) (same_moved : (s.st
   writer_left {D} {G} w w' e plv goes stops =
       let g : HasWritten (format_of l.mode) l.streams j base e.taken (slice_index c.plv j) w w' = e.written in
       record {
-        before = λ t. passes_weaker G.moment G.may_leave_since (disk_of w) (disk_of w') (HasPieces (format_of l.mode) l.streams j base e.taken) (IsLeft l.streams j base l s) (g.before t) (λ x p. inr (bytes_of p.front, pieces_front e.taken e.moved x p));
+        before = λ t. passes_weaker G.moment G.may_leave_since (disk_of w) (disk_of w') (HasPieces (format_of l.mode) l.streams j base e.taken) (IsFronted l.streams j base l s) (g.before t) (λ x p. (bytes_of p.front, pieces_front e.taken e.moved x p));
         present = λ t x left. (let p = g.present t x left in (bytes_of p.0.front, pieces_front e.taken e.moved x p.0, (let r = p.1 in omega (arith, r, plv))));
         reached = λ t. (let r = g.reached t in (r.0, r.1, r.2, r.3, r.4 ∙ sym plv));
         goes = λ f. (goes f, g.goes f);
@@ -157,12 +158,12 @@ module _ {D : Type 0} {G : Ghosts D} (bases : ℕ → List ℕ) (first : Plain) 
       done = λ going w. d.done (λ j w' is. (let a = got_within ws' j w' is in let lt : j < l.streams = (let x = e.managers.count in let y = e.count in omega (arith, a, x, y)) in works j lt w' is (going j lt))) w;
     }
 
--- ---- a run of a workload on streams that hold its catalogue alone, whatever is asked of its events
+-- ---- a run of a workload that begins so, whatever is asked of its events
 
-module _ {D : Type 0} {G : Ghosts D} (n m : ℕ) (mode : LogMode) (load : Workload) (first : Plain) (load_is : IsLoadOf n m mode load first.load) (sound : IsSoundLoad load) (c : Core) (ws ws' : List (Writer D G)) (acks : List (ℕ × List ℕ))
-    (e : IsThreadEnd (λ j. catalogue_of load) first c ws ws' acks) where
+module _ {D : Type 0} {G : Ghosts D} (n m : ℕ) (mode : LogMode) (load : Workload) (start : Start) (first : Plain) (begins : IsStart (format_of mode) n load start) (load_is : IsLoadOn n m mode load start first.load) (sound : IsSoundLoad load) (c : Core)
+    (ws ws' : List (Writer D G)) (acks : List (ℕ × List ℕ)) (e : IsThreadEnd (opened_at load start) first c ws ws' acks) where
   abbrev bases : ℕ → List ℕ
-  bases j = catalogue_of load
+  bases = opened_at load start
 
   abbrev K : List (Act Txn)
   K = e.closed.joined
@@ -170,15 +171,17 @@ module _ {D : Type 0} {G : Ghosts D} (n m : ℕ) (mode : LogMode) (load : Worklo
   abbrev pub end : Core
   end = s bases first c ws ws' acks e
 
-  pub course : IsCourse n m mode load first.load K end
+  pub course : IsCourse n m mode load start first.load K end
   course = record {
     room = (let a = e.closed.opened.stands.sound.streams_high in let b = load_is.streams in omega (arith, a, b));
+    begins = subst (λ (k : LogMode). IsStart (format_of k) n load start) (sym load_is.mode_is) begins;
     load_is = load_is;
     sound = sound;
     inv = inv bases first c ws ws' acks e;
+    waits = waits_for n m mode load start first.load (core_of first nothing) (events bases first c ws ws' acks e) K end load_is (led bases first c ws ws' acks e) (started first.load first e.closed.opened);
   }
 
-  managed_at : (j : ℕ) → j < n → (w w' : Writer D G) × ManagerEnds first.load c j (catalogue_of load) w w'
+  managed_at : (j : ℕ) → j < n → (w w' : Writer D G) × ManagerEnds first.load c j (bases j) w w'
   managed_at j lt =
       let w = some_at ws j (let count = e.count in let b = load_is.streams in omega (arith, count, lt, b)) in
       let x = e.managers.each j w.0 w.1 in
@@ -187,29 +190,30 @@ module _ {D : Type 0} {G : Ghosts D} (n m : ℕ) (mode : LogMode) (load : Worklo
   some : 1 ≤ m
   some = let a = load_is.workers in let b = e.closed.opened.stands.sound.workers_low in omega (arith, a, b)
 
-  there : (run : Run) × IsRunOf n first.load K end (catalogue_of load) run × (run.acks ≡ acks)
-  there = run_there n m mode load first.load K end (inv bases first c ws ws' acks e) load_is some (λ w. loose_unplaced (c.workers w).hand (e.closed.loose w)) e.closed.boxes
+  there : (run : Run) × IsRunOf n first.load K end load run × (run.acks ≡ acks) × (run.start ≡ start)
+  there = run_there n m mode load first.load K end (inv bases first c ws ws' acks e) start load_is begins.count some (λ w. loose_unplaced (c.workers w).hand (e.closed.loose w)) e.closed.boxes
       (λ j lt. let x = managed_at j lt in (x.2.own, x.2.posted))
       (λ j lt. let x = managed_at j lt in (bytes_of x.2.taken, pieces_spelled first.load (anchors_at c) x.2.taken (c.streams j).moved x.2.moved))
       acks (are_acks bases first c ws ws' acks e)
 
   module _ (by : Bool → Load → Core → Progress → Type 0) (any : (whole : Bool) (p : Progress) → by whole first.load (core_of first nothing) p) where
-    pub came : CameTo by n m mode load ws ws' acks
+    pub came : CameTo by n m mode load start ws ws' acks
     came = record {
       stands_on = first.load;
       opening = core_of first nothing;
-      start = started first.load first e.closed.opened;
+      first = started first.load first e.closed.opened;
       state = end;
       events = events bases first c ws ws' acks e;
       joined = K;
       led = led bases first c ws ws' acks e;
-      course = course;
       part = any false (record { state = end; events = events bases first c ws ws' acks e; joined = K; told = acks });
       run = there.0;
+      begins = there.3;
+      course = subst (λ (x : Start). IsCourse n m mode load x first.load K end) (sym there.3) course;
       is = there.1;
       told = there.2;
       stop_low = λ j at is. (let lt = stop_is_low bases first c ws ws' acks e j at is in let b = load_is.streams in omega (arith, lt, b));
-      writers = writers bases first c ws ws' acks e;
+      writers = subst (λ (x : Start). EachOf (λ j w w'. Left first.load end j (opened_at load x j) w w') ws ws') (sym there.3) (writers bases first c ws ws' acks e);
     }
 
     -- its load and its state are these

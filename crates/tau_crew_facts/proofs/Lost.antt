@@ -16,11 +16,9 @@ use Rattle.tau_text.specs.declared.load.Workload.{Workload}
 use Rattle.tau_core.specs.declared.state.Load.{Load}
 use Rattle.tau_core.specs.View.{setting_of}
 use Rattle.tau_run.specs.Run.{Run, AllAcked, has_ack}
-use Rattle.tau_run.specs.Start.{catalogue_of}
 use Rattle.tau_run.specs.CoreRun.{IsRunOf, IsCourse}
 use Rattle.tau_run.specs.StopsLeave.{IsOver}
 use Rattle.tau_run.proofs.Ended.{all_acked_of}
-use Rattle.tau_run.proofs.Sound.{sound}
 use Rattle.tau_run.proofs.Complete.{member_of_number}
 use Rattle.tau_model.proofs.Assembling.{member_mapped}
 
@@ -39,11 +37,10 @@ committed_there set K s inv k w low hand waiting left =
     (t.0, (member_filtered (λ (u : Act Txn). u.call.worker == w) t.0 K t.1).0, ap (λ (c : Committed). c.number) t.2 ∙ there.2)
 
 -- of the events nothing is needed but that each number is still somewhere
-pub kept_acked : (n m : ℕ) (mode : LogMode) (load : Workload) (l : Load) (K : List (Act Txn)) (s : Core) (c : IsCourse n m mode load l K s) (run : Run) → IsRunOf n l K s (catalogue_of load) run → IsOver n s →
+pub kept_acked : (n m : ℕ) (mode : LogMode) (load : Workload) (l : Load) (K : List (Act Txn)) (s : Core) (run : Run) (c : IsCourse n m mode load run.start l K s) → IsRunOf n l K s load run → IsOver n s →
     ((k : ℕ) → 1 ≤ k → k ≤ length load.calls → (w : ℕ) × (1 ≤ in_worker k (s.workers w))) → ((j : ℕ) → j < n → (s.streams j).stop ≡ None) → AllAcked load run
-kept_acked n m mode load l K s c run is over kept going k low high =
-    let ok = sound n m mode load l K s c.inv c.load_is c.sound in
+kept_acked n m mode load l K s run c is over kept going k low high =
     let w = kept k low high in
     let rest = over.done going w.0 in
     let t = committed_there (setting_of l) K s c.inv k w.0 w.1 (over.rests w.0) rest.0 rest.1 in
-    subst (λ (i : ℕ). has_ack run i ≡ true) t.2 (all_acked_of n m mode load l K s c.inv c.load_is c.room ok run is over going t.0 t.1)
+    subst (λ (i : ℕ). has_ack run i ≡ true) t.2 (all_acked_of n m mode load l K s run c is over going t.0 t.1)

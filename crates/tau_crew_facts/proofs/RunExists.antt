@@ -11,7 +11,7 @@ use Rattle.tau_model.proofs.Orders.{member_back, member_reordered}
 use Rattle.tau_machine.specs.Hands.{Txn, Hand, Phase, Running, Quitting, Placed, Freeing, act_in, act_of}
 use Rattle.tau_machine.specs.Accounts.{in_committed, in_worker, in_calls, in_hand, joined_list}
 use Rattle.tau_machine.specs.State.{Core, Item, Record, Anchor, Ticket, ticket_of, start_of, past_of, hand_of}
-use Rattle.tau_machine.specs.Pieces.{Chain, NameTheirs, records_in, placed_in, placed_of, StreamGood}
+use Rattle.tau_machine.specs.Pieces.{Chain, records_in, placed_in, placed_of, StreamGood}
 use Rattle.tau_machine.specs.Reports.{reported}
 use Rattle.tau_machine.specs.Invariant.{Invariant}
 use Rattle.tau_machine.proofs.Accounts.{committed_append}
@@ -23,12 +23,13 @@ use Rattle.tau_core.specs.declared.state.Load.{Load}
 use Rattle.tau_core.specs.View.{setting_of, worker_of}
 use Rattle.tau_core.specs.Pieces.{IsPieceOf, AreBytesOf, Paired, Spelled}
 use Rattle.tau_run.specs.Run.{Run, told_of, pair_of}
-use Rattle.tau_run.specs.Start.{catalogue_of}
+use Rattle.tau_run.specs.Start.{Start, opened_at}
+use Rattle.tau_run.proofs.History.{is_set}
 use Rattle.tau_run.specs.CoreRun.{IsLoadOn, AreAcks, IsGiven, IsRunOf}
 use Rattle.tau_run.proofs.Counts.{count_member, count_tickets}
 use Rattle.tau_rule.specs.Rule.{anchors_at}
 use Rattle.tau_crew_facts.specs.Ends.{IsLoose}
-use Rattle.tau_base.proofs.Logic.{some_is, replicated}
+use Rattle.tau_base.proofs.Logic.{some_is}
 use Rattle.tau_run.proofs.RunExists.{spelled_of, paired_bytes, record_member}
 
 -- ---- items with their bytes
@@ -140,7 +141,7 @@ posted_low l K s inv some j w i lt is q =
 
 -- ---- the run
 
-module _ (n m : ℕ) (mode : LogMode) (load : Workload) (l : Load) (K : List (Act Txn)) (s : Core) (inv : Invariant (setting_of l) K s) (at : IsLoadOf n m mode load l) (some : 1 ≤ m)
+module _ (n m : ℕ) (mode : LogMode) (load : Workload) (l : Load) (K : List (Act Txn)) (s : Core) (inv : Invariant (setting_of l) K s) (start : Start) (at : IsLoadOn n m mode load start l) (count : length start.old ≡ n) (some : 1 ≤ m)
     (none : (w : ℕ) → placed_in (hand_of s w) ≡ None)
     (boxes : (w : ℕ) → w < l.workers → (pieces : List Piece) × Paired (IsPieceOf l (anchors_at s)) pieces (s.outboxes w).posted)
     (own : (j : ℕ) → j < n → (pieces : List Piece) × Paired (IsPieceOf l (anchors_at s)) pieces (s.streams j).posted)
@@ -182,20 +183,22 @@ module _ (n m : ℕ) (mode : LogMode) (load : Workload) (l : Load) (K : List (Ac
       | inr flies ↦ absurd (let e : None ≡ Some flies.2.0 = sym (none flies.0) ∙ flies.2.2 in cc e)
     ]
 
-    given : (content : List ℕ) × IsGiven l K s j (catalogue_of load) content
+    abbrev first_at : List ℕ
+    first_at = opened_at load start j
+
+    given : (content : List ℕ) × IsGiven l K s j first_at content
     given =
         let rest = spelled_of l anchors good.waiting waiting_bytes in
         let first = moved j lt in
-        let opening : slice_index l.opening.ends j ≡ length (catalogue_of load) = ap (λ (v : List ℕ). slice_index v j) at.ends ∙ replicated n (length (catalogue_of load)) j lt in
-        let zero_before : slice_index l.opening.anchors.items j ≡ 0 = ap (λ (v : List ℕ). slice_index v j) at.anchors ∙ replicated n 0 j lt in (
-          catalogue_of load ++ (first.0 ++ rest.0),
+        let opening : slice_index l.opening.ends j ≡ length first_at = (is_set n m mode load start l count at).opening j lt in (
+          first_at ++ (first.0 ++ rest.0),
           record {
             waiting = good.waiting;
             moved = subst (λ k. Chain k (s.streams j).moved (slice_index s.gathered j)) opening good.moved;
             rest = good.rest;
             records = good.records;
             anchors = good.anchors;
-            named = subst (λ k. NameTheirs k [] ((s.streams j).moved ++ good.waiting)) zero_before good.named;
+            named = good.named;
             bytes = first.0 ++ rest.0;
             spelled = spelled_more l anchors (s.streams j).moved good.waiting first.0 rest.0 first.1 rest.1;
             is = refl;
@@ -203,10 +206,11 @@ module _ (n m : ℕ) (mode : LogMode) (load : Workload) (l : Load) (K : List (Ac
         )
 
   -- the run of this state, with these acknowledgements
-  pub run_there : (acks : List (ℕ × List ℕ)) → AreAcks l s acks → (run : Run) × IsRunOf n l K s (catalogue_of load) run × (run.acks ≡ acks)
+  pub run_there : (acks : List (ℕ × List ℕ)) → AreAcks l s acks → (run : Run) × IsRunOf n l K s load run × (run.acks ≡ acks) × (run.start ≡ start)
   run_there acks are =
-      let all = listed_from (λ j content. IsGiven l K s j (catalogue_of load) content) n (λ j lt. given j lt) in (
-        record { calls = map told_of (reported s.ends K); contents = all.0; acks = acks },
+      let all = listed_from (λ j content. IsGiven l K s j (opened_at load start j) content) n (λ j lt. given j lt) in (
+        record { start = start; calls = map told_of (reported s.ends K); contents = all.0; acks = acks },
         record { calls = refl; streams = all.1; given = λ j content e. all.2 j content e; acks = are },
+        refl,
         refl,
       )

@@ -12,7 +12,8 @@ use Rattle.tau_machine.specs.Worker.{Worker}
 use Rattle.tau_text.specs.declared.load.Workload.{Workload}
 use Rattle.tau_core.specs.State.{Plain}
 use Rattle.tau_run.specs.CoreRun.{IsLoadOn, IsSoundLoad}
-use Rattle.tau_run.specs.Start.{catalogue_of}
+use Rattle.tau_base.specs.Modes.{format_of}
+use Rattle.tau_run.specs.Start.{Start, opened_at, IsStart}
 use Rattle.tau_run.specs.RunFacts.{in_any_order}
 use Rattle.tau_rule.specs.Knows.{Knows}
 use Rattle.tau_rule.specs.Role.{Managed}
@@ -49,5 +50,5 @@ module _ {D : Type 0} (G : Ghosts D) where
   -- and that is a run of the core, by events in any order
   abbrev pub EndsAreRuns : Type 0
   EndsAreRuns =
-      (n m : ℕ) (mode : LogMode) (load : Workload) (first : Plain) → IsLoadOf n m mode load first.load → IsSoundLoad load → (c : Core) (ws ws' : List (Writer D G)) (acks : List (ℕ × List ℕ)) → IsThreadEnd (λ j. catalogue_of load) first c ws ws' acks →
-      CameTo in_any_order n m mode load ws ws' acks
+      (n m : ℕ) (mode : LogMode) (load : Workload) (start : Start) (first : Plain) → IsStart (format_of mode) n load start → IsLoadOn n m mode load start first.load → IsSoundLoad load →
+      (c : Core) (ws ws' : List (Writer D G)) (acks : List (ℕ × List ℕ)) → IsThreadEnd (opened_at load start) first c ws ws' acks → CameTo in_any_order n m mode load start ws ws' acks

@@ -17,7 +17,7 @@ use Rattle.tau_core.specs.Opens.{load_of}
 use Rattle.tau_core.specs.State.{Plain}
 use Rattle.tau_core.specs.View.{setting_of}
 use Rattle.tau_run.specs.CoreRun.{IsLoadOn}
-use Rattle.tau_run.specs.Start.{catalogue_of}
+use Rattle.tau_run.specs.Start.{fresh_start, catalogue_of}
 use Rattle.tau_step.specs.RunTold.{Began, fates_by}
 use Rattle.tau_step.specs.Telling.{Heard}
 use Rattle.tau_crew_facts.specs.Ends.{AreApart, IsThreadDone, IsThreadEnd}
@@ -66,7 +66,7 @@ module _ {D : Type 0} {G : Ghosts D} (m : ℕ) (mode : LogMode) (load : Workload
   -- by m workers on streams that were just created for the workload
   pub record ThreadsNew (result : Result RunEnd NoMemory) : Type 0 where
     pub first : Plain
-    pub load_is : IsLoadOf (length ws) m mode load first.load
+    pub load_is : IsLoadOn (length ws) m mode load (fresh_start (length ws)) first.load
     pub ran : ThreadsRan (λ j. catalogue_of load) first ws ws' hears held held' sink_rose result
 
   -- the same from a given state, on streams that had these bytes

@@ -126,7 +126,7 @@ epoch_anchors : (number : ℕ) (lv : List ℕ) (at : ℕ) → anchors_of (epoch_
 epoch_anchors zero lv at = refl
 epoch_anchors (suc k) lv at = refl
 
-given_anchors : (load : Workload) (start : Start) (old : List ℕ) → anchors_of (given_placed load start old) ≡ []
+pub given_anchors : (load : Workload) (start : Start) (old : List ℕ) → anchors_of (given_placed load start old) ≡ []
 given_anchors load start [] = epoch_anchors start.epoch start.log.elv (length (catalogue_of load))
 given_anchors load start (b ∷ bytes) = epoch_anchors start.epoch start.log.elv (length (b ∷ bytes))
 

@@ -21,7 +21,7 @@ use Rattle.tau_epoch_laws.proofs.Fresh.{fresh_sound}
 use Rattle.tau_run.specs.Start.{fresh_start, catalogue_of, opened_with, old_at, opened_at, IsStart}
 use Rattle.tau_run.specs.CoreRun.{IsLoadOn}
 
-none_there : (n : ℕ) → none_in (replicate n [])
+pub none_there : (n : ℕ) → none_in (replicate n [])
 none_there zero = tt
 none_there (suc n) = (refl, none_there n)
 

@@ -207,17 +207,22 @@ module _ (n : ℕ) (l : Load) (load : Workload) (start : Start) (b : IsStart (fo
       }
 
   -- the whole of it
-  pub whole_read : (more : List Placed) × IsRead l load start K n j content more × (kept_in j more ≡ map (kept_of l.mode) (records_of_stream j K))
-  whole_read =
+  whole_is : IsRead l load start K n j content (given ++ map (placed_in l.mode) items)
+  whole_is =
       let all : take (length items) items ≡ items = take-length items in
       let h = front_is (length items) g.bytes (subst (λ (is : List Item). Spelled l anchors is g.bytes) (sym all) g.spelled) in
-      let of : AreOf j items = λ t m. (of_stream t m).2 in
-      let more : List Placed = given ++ map (placed_in l.mode) items in (
-        more,
-        subst (λ (c : List ℕ). IsRead l load start K n j c more) (sym g.is) (subst (λ (is : List Item). IsRead l load start K n j (first ++ g.bytes) (given ++ map (placed_in l.mode) is)) all h),
-        kept_append j given (map (placed_in l.mode) items) ∙ ap (λ (ks : List Kept). ks ++ kept_in j (map (placed_in l.mode) items)) (given_kept j load start (old_at start j))
-            ∙ kept_items l.mode j items of ∙ ap (map (kept_of l.mode)) g.records,
-      )
+      subst (λ (c : List ℕ). IsRead l load start K n j c (given ++ map (placed_in l.mode) items)) (sym g.is) (subst (λ (is : List Item). IsRead l load start K n j (first ++ g.bytes) (given ++ map (placed_in l.mode) is)) all h)
+
+  pub whole_records : records_of f n content ≡ Ok (olds ++ (given ++ map (placed_in l.mode) items))
+  whole_records = whole_is.reads
+
+  pub whole_read : (more : List Placed) × IsRead l load start K n j content more × (kept_in j more ≡ map (kept_of l.mode) (records_of_stream j K))
+  whole_read = (
+    given ++ map (placed_in l.mode) items,
+    whole_is,
+    kept_append j given (map (placed_in l.mode) items) ∙ ap (λ (ks : List Kept). ks ++ kept_in j (map (placed_in l.mode) items)) (given_kept j load start (old_at start j))
+        ∙ kept_items l.mode j items (λ t m. (of_stream t m).2) ∙ ap (map (kept_of l.mode)) g.records,
+  )
 
   -- a content cut after any item is a first part of it
   pub front_first : (i : ℕ) (bytes : List ℕ) → Spelled l anchors (take i items) bytes → (k : ℕ) × (length first ≤ k) × (first ++ bytes ≡ take k content)
