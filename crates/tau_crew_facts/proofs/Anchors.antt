@@ -24,8 +24,8 @@ use Rattle.tau_run.proofs.Fresh.{none_there}
 use Rattle.tau_record.proofs.Appending.{anchors_appended}
 use Rattle.tau_run.specs.CoreRun.{IsCourse, IsGiven, IsRunOf}
 use Rattle.tau_run.proofs.Spelled.{placed_in, spelled_long}
-use Rattle.tau_run.proofs.Sound.{anchored, sound}
-use Rattle.tau_run.proofs.Streams.{whole_records}
+use Rattle.tau_run.proofs.Sound.{sound}
+use Rattle.tau_run.proofs.Streams.{anchored, whole_records}
 use Rattle.tau_crew_facts.specs.Spacing.{Spaced, newest, IsSpacing, AreSpaced}
 
 anchors_placed : (mode : LogMode) (items : List Item) → anchors_of (map (placed_in mode) items) ≡ anchors_in items
@@ -58,7 +58,7 @@ module _ (n m : ℕ) (mode : LogMode) (load : Workload) (l : Load) (K : List (Ac
   anchors_read =
       let placed : List Placed = map (placed_in l.mode) items in (
         olds ++ (given ++ placed),
-        whole_records n l load run.start c.begins K s j lt c.room c.load_is.streams (anchored n m mode load l K s run c j lt) (sound n m mode load l K s run c) content g,
+        whole_records n l load run.start c.begins K s j lt c.room c.load_is.streams (anchored n m mode load run.start l c.begins c.load_is j lt) (sound n m mode load l K s run c) content g,
         anchors_appended olds (given ++ placed) ∙ ap (λ (v : List (List ℕ)). v ++ anchors_of (given ++ placed)) no_anchors
             ∙ anchors_appended given placed ∙ ap (λ (v : List (List ℕ)). v ++ anchors_of placed) (given_anchors load run.start (old_at run.start j))
             ∙ anchors_placed l.mode items ∙ g.anchors,

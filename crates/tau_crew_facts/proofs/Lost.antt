@@ -19,6 +19,7 @@ use Rattle.tau_run.specs.Run.{Run, AllAcked, has_ack}
 use Rattle.tau_run.specs.CoreRun.{IsRunOf, IsCourse}
 use Rattle.tau_run.specs.StopsLeave.{IsOver}
 use Rattle.tau_run.proofs.Ended.{all_acked_of}
+use Rattle.tau_run.proofs.Sound.{declared}
 use Rattle.tau_run.proofs.Complete.{member_of_number}
 use Rattle.tau_model.proofs.Assembling.{member_mapped}
 
@@ -43,4 +44,4 @@ kept_acked n m mode load l K s run c is over kept going k low high =
     let w = kept k low high in
     let rest = over.done going w.0 in
     let t = committed_there (setting_of l) K s c.inv k w.0 w.1 (over.rests w.0) rest.0 rest.1 in
-    subst (λ (i : ℕ). has_ack run i ≡ true) t.2 (all_acked_of n m mode load l K s run c is over going t.0 t.1)
+    subst (λ (i : ℕ). has_ack run i ≡ true) t.2 (all_acked_of n m mode load l K s run (declared n m mode load l K s run c) is over going t.0 t.1)

@@ -17,7 +17,7 @@ use Rattle.tau_disk.specs.declared.memory.MemDisk.{MemDisk}
 use Rattle.tau_disk.specs.Memory.{seen_by, state_of}
 use Rattle.tau_disk.specs.Tear.{image_by}
 use Rattle.tau_base.specs.declared.value.LogMode.TheVariants.{Values}
-use Rattle.tau_model.specs.History.{Act, Member, Reordered, exec}
+use Rattle.tau_model.specs.History.{Act, Member, Reordered, exec, trace}
 use Rattle.tau_model.specs.Tables.{IsTablesOf}
 use Rattle.tau_model.proofs.Orders.{calls_trace}
 use Rattle.tau_text.specs.declared.load.Workload.{Workload}
@@ -27,6 +27,7 @@ use Rattle.tau_scan.specs.Taken.{Kept}
 use Rattle.tau_replay.specs.Redone.{IsOrderOf}
 use Rattle.tau_replay.proofs.Ones.{tables_one}
 use Rattle.tau_run.specs.Run.{Committed, Run, acts, means, has_ack, last_db}
+use Rattle.tau_run.specs.Start.{Start}
 use Rattle.tau_run.specs.RecoveredFacts.{IsRecovered, takes}
 use Rattle.tau_run.proofs.Lists.{map_member, any_member}
 use Rattle.tau_gen.specs.Generated.{call_of, calls_of, generated}
@@ -54,6 +55,9 @@ module _ {G : Ghosts MemDisk} (tells : G.tells) (left : (d : MemDisk) (tear : Te
     (old new : List MemDisk) (old_count : length old ≡ n) (new_count : length new ≡ n) (wrote : List ℕ → Type 0) (rows : Rows) (r : IsMeasured G n m load old new wrote rows) where
   abbrev run : Run
   run = r.rehearsed.facts.run
+
+  none_there : run.start.base ≡ empty_db
+  none_there = ap (λ (b : Start). b.base) r.rehearsed.facts.begins
 
   calls_are : load.calls ≡ calls_of start count
   calls_are = ap (λ (l : Workload). l.calls) is
@@ -103,7 +107,9 @@ module _ {G : Ghosts MemDisk} (tells : G.tells) (left : (d : MemDisk) (tear : Te
       ∙ length_numbers count
 
   leaves : IsTablesOf (last_db load run) (rows_of start count)
-  leaves = leaves_rows load.declarations.procs start count (λ (c : Committed). c.number) (λ c. c.call) run.calls few (λ c m. (formula c m).2) once
+  leaves =
+      subst (λ (db : Db). IsTablesOf (exec (means load.declarations.procs) run.calls db) (rows_of start count)) (sym none_there)
+      (leaves_rows load.declarations.procs start count (λ (c : Committed). c.number) (λ c. c.call) run.calls few (λ c m. (formula c m).2) once)
 
   -- the rows of the run are the formula's
   pub rows_are : rows ≡ rows_of start count
@@ -115,11 +121,11 @@ module _ {G : Ghosts MemDisk} (tells : G.tells) (left : (d : MemDisk) (tear : Te
   -- recovery takes every call
   takes_all : (c : Committed) → Member c run.calls → takes recovers.log c ≡ true
   takes_all c member =
-      let back : Member c (map (λ (x : Act Committed). x.call) (acts load.declarations.procs run)) = subst (λ (cs : List Committed). Member c cs) (sym (calls_trace (means load.declarations.procs) run.calls empty_db)) member in
+      let back : Member c (map (λ (x : Act Committed). x.call) (acts load.declarations.procs run)) = subst (λ (cs : List Committed). Member c cs) (sym (calls_trace (means load.declarations.procs) run.calls run.start.base)) member in
       let x = member_mapped (λ (x : Act Committed). x.call) c (acts load.declarations.procs run) back in
       let f = formula c member in
       let has : has_ack run c.number ≡ true = r.all c.number f.0 (let high = f.1 in omega (arith, high, long)) in
-      let up = all_write load.declarations.procs start count (λ (d : Committed). d.number) (λ d. d.call) run.calls few (λ d m. (formula d m).2) once x.0 x.1 in
+      let up = all_write load.declarations.procs start count (λ (d : Committed). d.number) (λ d. d.call) run.calls few (λ d m. (formula d m).2) once x.0 (subst (λ (db : Db). Member x.0 (trace (means load.declarations.procs) run.calls db)) none_there x.1) in
       subst (λ (d : Committed). takes recovers.log d ≡ true) x.2
       (taken tells left n m load old new old_count new_count wrote r.rehearsed New x.0 x.1 (subst (λ (d : Committed). has_ack run d.number ≡ true) (sym x.2) has) up)
 
@@ -132,9 +138,9 @@ module _ {G : Ghosts MemDisk} (tells : G.tells) (left : (d : MemDisk) (tear : Te
       let same : Ok f.log ≡ Ok recovers.log = sym f.reads ∙ ap (λ (images : List (List ℕ)). log_of (Some One) images) (sym (as_seen new)) ∙ recovers.asked in
       let one : f.log ≡ recovers.log = cc in
       let redone = subst (λ (log : Log). Rattle.tau_replay.specs.Redone.IsRedone log found) one f.redone in
-      let is_db = recovers.redo redone.order redone.is_order ∙ ap (λ (cs : List Committed). exec (means load.declarations.procs) cs empty_db) whole in
+      let is_db = recovers.sound.redone.alike redone.order redone.is_order ∙ ap (λ (cs : List Committed). exec (means load.declarations.procs) cs run.start.base) whole in
       tables_one (last_db load run) found (rows_of start count) (subst (λ (db : Db). IsTablesOf db found) is_db redone.tables) leaves
 
   -- and there is a log with an order
   pub can_recover : (log : Log) × (log_of (Some One) (map seen_by new) ≡ Ok log) × (order : List Kept) × IsOrderOf log order
-  can_recover = subst (λ (images : List (List ℕ)). (log : Log) × (log_of (Some One) images ≡ Ok log) × (order : List Kept) × IsOrderOf log order) (as_seen new) (recovers.log, recovers.asked, recovers.ordered.0, recovers.ordered.1)
+  can_recover = subst (λ (images : List (List ℕ)). (log : Log) × (log_of (Some One) images ≡ Ok log) × (order : List Kept) × IsOrderOf log order) (as_seen new) (recovers.log, recovers.asked, recovers.sound.redone.ordered.0, recovers.sound.redone.ordered.1)

@@ -21,6 +21,7 @@ use Rattle.tau_scan.specs.Reading.{log_of}
 use Rattle.tau_scan.specs.Taken.{Kept}
 use Rattle.tau_replay.specs.Redone.{IsOrderOf}
 use Rattle.tau_run.specs.Run.{Committed, acts, means, has_ack}
+use Rattle.tau_run.specs.Start.{Start}
 use Rattle.tau_run.specs.RecoveredFacts.{AreFrom, IsRecovered, takes}
 use Rattle.tau_engine.specs.Drill.{AreNewDisks, ArePlanned, IsDrill, IsFound, IsNew, IsRehearsed, StopsAt, images_by, is_of, stop_at, tear_in}
 use Rattle.tau_engine.specs.DiskFacts.{Now}
@@ -67,10 +68,12 @@ module _ {G : Ghosts MemDisk} (tells : G.tells) (left : (d : MemDisk) (tear : Te
   taken x member acked up = (r.facts.acknowledged (images_by tear new) from_now recovered.log recovered.reads x member acked).0 up
 
   pub rows_are : (found : List ℕ) (f : IsRecoveryOf recovered.log found) → IsTablesOf (exec (means load.declarations.procs) (filter (takes recovered.log) r.facts.run.calls) empty_db) f.rows
-  rows_are found f = subst (λ (db : Db). IsTablesOf db f.rows) (recovered.redo f.redone.order f.redone.is_order) f.redone.tables
+  rows_are found f =
+      let none : r.facts.run.start.base ≡ empty_db = ap (λ (b : Start). b.base) r.facts.begins in
+      subst (λ (db : Db). IsTablesOf db f.rows) (recovered.sound.redone.alike f.redone.order f.redone.is_order ∙ ap (exec (means load.declarations.procs) (filter (takes recovered.log) r.facts.run.calls)) none) f.redone.tables
 
   pub ordered : (log : Log) × (log_of None (images_by tear new) ≡ Ok log) × (order : List Kept) × IsOrderOf log order
-  ordered = (recovered.log, recovered.reads, recovered.ordered.0, recovered.ordered.1)
+  ordered = (recovered.log, recovered.reads, recovered.sound.redone.ordered.0, recovered.sound.redone.ordered.1)
 
 module _ {G : Ghosts MemDisk} (tells : G.tells) (left : (d : MemDisk) (tear : Tear) → G.may_leave d (image_by (state_of d) tear)) (n m : ℕ) (how : Ending) (load : Workload) (old new : List MemDisk) (count : length old ≡ n) (same_count : length new ≡ n) (held acks text : List ℕ)
     (r : IsRehearsed G n m load old new (λ lines. acks ≡ held ++ lines)) (begun : held ≡ []) (calls : ℕ) (f : IsFound (images_by (tear_in how) new) calls (λ lines. text ≡ acks ++ lines)) (planned : ArePlanned n m load how old new calls) (has_room : list_any is_short_by new ≡ false) where

@@ -18,7 +18,7 @@ use Rattle.tau_open.proofs.Closed.{rest_back, each_back}
 use Rattle.tau_text.specs.declared.load.Turn.{Turn}
 use Rattle.tau_text.specs.declared.load.Workload.{Workload}
 use Rattle.tau_report.specs.declared.report.RunEnd.{RunEnd}
-use Rattle.tau_run.specs.Start.{catalogue_of}
+use Rattle.tau_run.specs.Start.{fresh_start, catalogue_of}
 use Rattle.tau_run.specs.CoreRun.{IsLoadOn, IsSoundLoad}
 use Rattle.tau_run.specs.RunFacts as ending
 use Rattle.tau_run.proofs.Reading.{IsCatalogue}
@@ -51,9 +51,9 @@ module _ {D : Type 0} (G : Ghosts D) (only_now : OnlyNow G) (n : ℕ) (catalogue
 
 -- what either kind of run gives
 pub gave : {D : Type 0} {G : Ghosts D} → OnlyNow G → (n m : ℕ) (mode : LogMode) (load : Workload) → n ≤ 16 → IsSoundLoad load → (ws ws' : List (Writer D G)) → length ws ≡ n → (hears : Type 0) (held held' : List ℕ) (sink_rose : Type 0) (turns : Option (List Turn)) → load.turns ≡ turns →
-    (result : Result RunEnd NoMemory) → RanChosen turns m mode load ws ws' hears held held' sink_rose result → Gave n m mode load ws ws' hears held held' sink_rose result
+    (result : Result RunEnd NoMemory) → RanChosen turns m mode load ws ws' hears held held' sink_rose result → Gave n m mode load (fresh_start n) ws ws' hears held held' sink_rose result
 gave {D} {G} only_now n m mode load room sound ws ws' count hears held held' sink_rose None is result x = of_threads.gave n m mode load is sound ws ws' count hears held held' sink_rose result x
-gave {D} {G} only_now n m mode load room sound ws ws' count hears held held' sink_rose (Some turns) is result x = ran.gave only_now n m mode load room sound ws ws' count hears held held' sink_rose result x
+gave {D} {G} only_now n m mode load room sound ws ws' count hears held held' sink_rose (Some turns) is result x = ran.gave n m mode load sound ws ws' count hears held held' sink_rose result x
 
 module _ {D : Type 0} {G : Ghosts D} (only_now : OnlyNow G) (n m : ℕ) (mode : LogMode) (load : Workload) (some : 1 ≤ n) (room : n ≤ 16) (narrow : format_of mode ≡ One) (workers : 1 ≤ m) (sound : IsSoundLoad load) (old mid new : List D) (many : n ≤ length old)
     (ws : List (Writer D G)) (streams : AreOpened G n (catalogue_of load) old mid ws) (hears : Type 0) (held : List ℕ) (faults : ℕ) where
@@ -89,7 +89,7 @@ module _ {D : Type 0} {G : Ghosts D} (only_now : OnlyNow G) (n m : ℕ) (mode : 
   Spaces (Err e) = Unit {0}
 
   module _ (after : List (Writer D G)) (back : new ≡ map (disk_of {D = D} {G = G}) after ++ mid) (held1 : List ℕ) (faults1 : ℕ) (early : faults ≤ faults1) where
-    says_gave : (held' : List ℕ) (faults' : ℕ) → faults1 ≤ faults' → (end : Result RunEnd NoMemory) → Gave n m mode load ws after hears held held1 (Rose faults faults1) end → Spaces end →
+    says_gave : (held' : List ℕ) (faults' : ℕ) → faults1 ≤ faults' → (end : Result RunEnd NoMemory) → Gave n m mode load (fresh_start n) ws after hears held held1 (Rose faults faults1) end → Spaces end →
         (answer : Status) → TellsRun load.declarations.tables end hears held1 held' (Rose faults1 faults') answer → SaysRun G n m mode load old new hears held held' faults faults' answer
     says_gave held' faults' late (Ok e) x spaced answer t = to.concludes only_now n m mode load narrow ws after old mid new many streams back hears held held1 held' faults faults1 faults' early late e x spaced answer t
     says_gave held' faults' late (Err no_memory) (inl x) spaced answer t =
@@ -101,7 +101,8 @@ module _ {D : Type 0} {G : Ghosts D} (only_now : OnlyNow G) (n m : ℕ) (mode : 
     spaces : (turns : Option (List Turn)) → load.turns ≡ turns → (end : Result RunEnd NoMemory) → RanChosen turns m mode load ws after hears held held1 (Rose faults faults1) end → Spaces end
     spaces turns is (Err e) x = tt
     spaces None is (Ok e) x = λ threads none j y lt now.
-        of_threads.spaced only_now n m mode load is sound x.first (subst (λ (k : ℕ). IsLoadOf k m mode load x.first.load) streams.count x.load_is) ws after hears held held1 (Rose faults faults1) old mid new many streams back e x.ran none j y lt now
+        of_threads.spaced only_now n m mode load is sound x.first (of_threads.loaded n m mode load is sound ws after streams.count hears held held1 (Rose faults faults1) x.first.load x.load_is) ws after hears held held1 (Rose faults faults1) old mid new many streams back e
+        (of_threads.ran n m mode load is sound ws after streams.count hears held held1 (Rose faults faults1) x.first (Ok e) x.ran) none j y lt now
     spaces (Some turns) is (Ok e) x = λ threads. absurd (let bad : None ≡ Some turns = sym threads ∙ is in cc bad)
 
   pub says_run : (held' : List ℕ) (faults' : ℕ) (answer : Status) → RunsOn m mode load ws mid new hears held held' faults faults' answer → SaysRun G n m mode load old new hears held held' faults faults' answer

@@ -27,19 +27,21 @@ use Rattle.tau_core.specs.View.{setting_of, call_of, worker_of, from_on}
 use Rattle.tau_core.proofs.Turns.{call_there, once_there, whose_there}
 use Rattle.tau_run.specs.Run.{Run, told_of, below, IsHistory}
 use Rattle.tau_run.specs.RecoveredFacts.{IsEnded}
-use Rattle.tau_run.specs.Start.{catalogue_of}
-use Rattle.tau_run.specs.CoreRun.{IsLoadOn, IsFirstState, IsRunOf}
+use Rattle.tau_open.specs.Outside.{calls_to_open}
+use Rattle.tau_run.specs.Start.{fresh_start, catalogue_of, old_at, opened_at}
+use Rattle.tau_run.proofs.Fresh.{fresh_begins, fresh_is_sound, fresh_olds, fresh_opened, fresh_load}
+use Rattle.tau_run.specs.CoreRun.{IsLoadOn, IsFirstState, IsGiven, IsRunOf}
 use Rattle.tau_run.specs.StopsLeave.{IsLeft}
 use Rattle.tau_engine.proofs.Chosen.{chosen}
 use Rattle.tau_run.specs.RunFacts.{Ending, chosen_by, IsCoreRun, IsCoreRunAt, RunTells, RunFacts, turns_of}
 use Rattle.tau_run.specs.RunFacts as told
 use Rattle.tau_run.specs.Turns.{Progress, begun, Turned, TurnedAll, OneByOne, Cleared, IsPartOfRun}
 use Rattle.tau_run.proofs.Acked.{whole}
-use Rattle.tau_run.proofs.History.{is_history}
+use Rattle.tau_run.proofs.History.{is_set, is_history}
 use Rattle.tau_run.proofs.Order.{once}
 use Rattle.tau_run.proofs.Reading.{IsCatalogue}
-use Rattle.tau_run.proofs.Recovered.{is_set, recovered}
-use Rattle.tau_run.proofs.Streams.{AreSound}
+use Rattle.tau_run.proofs.Recovered.{recovered}
+use Rattle.tau_run.proofs.Streams.{AreSound, IsDeclaredCourse}
 use Rattle.tau_engine.proofs.Opened.{low_streams}
 use Rattle.tau_base.proofs.Lists.{got_within}
 use Rattle.tau_base.proofs.Logic.{replicated}
@@ -95,8 +97,8 @@ module _ (n m : ℕ) (mode : LogMode) (load : Workload) (some : 1 ≤ n) (room :
     opening = record { rows = []; floor = replicate n 0; ends = replicate n (length catalogue); anchors = record { items = replicate n 0 } };
   }
 
-  load_is : IsLoadOf n m mode load l
-  load_is = record { procs = refl; calls = refl; mode_is = refl; workers = refl; streams = refl; rows = refl; floor = refl; ends = refl; anchors = refl }
+  load_is : IsLoadOn n m mode load (fresh_start n) l
+  load_is = fresh_load n m mode load l refl refl refl refl refl (record { rows = refl; floor = refl; ends = refl; anchors = refl })
 
   -- a worker that has begun nothing
   abbrev resting_on : List Numbered → Worker
@@ -152,7 +154,7 @@ module _ (n m : ℕ) (mode : LogMode) (load : Workload) (some : 1 ≤ n) (room :
     whose = by_worker (λ w wk. (k : ℕ) → 1 ≤ in_worker k wk → worker_of m k ≡ w) (λ w lt k e. whose_there load.calls m w k workers lt (omega (arith, e))) (λ w k e. absurd (omega (arith, e)));
   }
 
-  starts : IsStart l first
+  starts : IsFirstState l first
   starts = record {
     floor_low = λ i lt j. no_more n j;
     floor_high = λ i lt j. omega arith;
@@ -170,19 +172,22 @@ module _ (n m : ℕ) (mode : LogMode) (load : Workload) (some : 1 ≤ n) (room :
 
   -- the run
   abbrev pub empty_run : Run
-  empty_run = record { calls = []; contents = replicate n catalogue; acks = [] }
+  empty_run = record { start = fresh_start n; calls = []; contents = replicate n catalogue; acks = [] }
 
   none_reported : reported first.ends [] ≡ []
   none_reported = once (setting_of l) [] first inv
 
-  is_run : IsRunOf n l [] first catalogue empty_run
+  base_at : (j : ℕ) → opened_at load (fresh_start n) j ≡ catalogue
+  base_at j = ap (λ (b : ℕ → List ℕ). b j) (fresh_opened n load)
+
+  is_run : IsRunOf n l [] first load empty_run
   is_run = record {
     calls = sym (ap (map told_of) none_reported);
     streams = length-replicate n catalogue;
     given = λ j content e.
         (let lt : j < n = subst (λ (k : ℕ). j < k) (length-replicate n catalogue) (got_within (replicate n catalogue) j content e) in
         let is = got_same n catalogue content j e in
-        record {
+        subst (λ (b : List ℕ). IsGiven l [] first j b content) (sym (base_at j)) (record {
           waiting = [];
           moved = sym (replicated n (length catalogue) j lt);
           rest = refl;
@@ -192,19 +197,19 @@ module _ (n m : ℕ) (mode : LogMode) (load : Workload) (some : 1 ≤ n) (room :
           bytes = [];
           spelled = refl;
           is = sym is ∙ sym (append-nil catalogue);
-        });
+        }));
     acks = λ w. refl;
   }
 
   history : IsHistory n m load empty_run
-  history = is_history (setting_of l) [] first inv n m load (is_set n m mode load l load_is) empty_run is_run.calls is_run.streams (lengths_same n catalogue) is_run.acks
+  history = is_history (setting_of l) [] first inv n m load empty_run (is_set n m mode load (fresh_start n) l (length-replicate n []) load_is) is_run.calls is_run.streams (lengths_same n catalogue) is_run.acks
 
   core : IsCoreRun (chosen_by load.turns n m load false) n m mode load (λ j. None) empty_run
   core = record {
     stands_on = l;
     load_is = load_is;
     opening = first;
-    start = starts;
+    first = starts;
     progress = begun first;
     led = led;
     chosen = chosen load.turns false n m load l first (begun first) (IsPartOfRun.in_turns (none_of (setting_of l) m n (turns_of load) (begun first)));
@@ -228,47 +233,55 @@ module _ (n m : ℕ) (mode : LogMode) (load : Workload) (some : 1 ≤ n) (room :
   core_at told.NoMemory may = core
   core_at told.NotBegun may = (refl, refl)
 
-  is_left : (j : ℕ) (x : List ℕ) → HasContent One n j [] x ⊎ HasContent One n j catalogue x → IsLeft n j catalogue l first x
+  course : IsDeclaredCourse n m mode load (fresh_start n) l [] first
+  course = record { room = low_streams (format_of mode) n room; begins = fresh_begins (format_of mode) n load; load_is = load_is; sound = are_sound; inv = inv; waits = λ t q up. absurd q }
+
+  is_left : (j : ℕ) (x : List ℕ) → HasContent One n j [] x ⊎ HasContent One n j catalogue x → IsLeft n j [] catalogue l first x
   is_left j x (inl none) = inl (subst (λ (f : Format). HasContent f n j [] x) (sym narrow) none)
   is_left j x (inr all) =
       let has : HasContent (format_of mode) n j catalogue x = subst (λ (f : Format). HasContent f n j catalogue x) (sym narrow) all in
       inr ([], record { count = 0; spelled = refl; has = subst (λ (c : List ℕ). HasContent (format_of mode) n j c x) (sym (append-nil catalogue)) has })
 
+  as_left : (j : ℕ) (x : List ℕ) → IsLeft n j [] catalogue l first x → IsLeft n j (old_at (fresh_start n) j) (opened_at load (fresh_start n) j) l first x
+  as_left j x left =
+      subst (λ (a : ℕ → List ℕ). IsLeft n j (a j) (opened_at load (fresh_start n) j) l first x) (sym (fresh_olds n)) (subst (λ (b : ℕ → List ℕ). IsLeft n j [] (b j) l first x) (sym (fresh_opened n load)) left)
+
   -- all that is said of it, where each image has nothing or the catalogue
   abbrev built_of_none : (unborn : Type 0) (past now : ℕ → List ℕ → Type 0) (rose : ℕ → Type 0) (sink_rose : Type 0) (made : ℕ → ℕ → Type 0) (wrote : List ℕ → Type 0) (fault : ℕ → List ℕ) (ending : Ending) → MayEnd ending →
       (unborn → (j : ℕ) (x : List ℕ) → j < n → past j x → HasContent One n j [] x ⊎ HasContent One n j catalogue x) →
-      RunTells (IsEnded n mode load now rose) n load (λ j. None) sink_rose made wrote fault empty_run ending →
-      RunFacts (chosen_by load.turns n m load) n m mode load unborn past now rose sink_rose made wrote fault ending
+      RunTells (IsEnded n mode load now rose) n load (λ j. None) sink_rose (λ j. calls_to_open) made wrote fault empty_run ending →
+      RunFacts (chosen_by load.turns n m load) n m mode load (fresh_start n) unborn past now rose sink_rose (λ j. calls_to_open) made wrote fault ending
   built_of_none unborn past now rose sink_rose made wrote fault ending may left tells = record {
     run = empty_run;
+    begins = refl;
     history = history;
     stops = λ j. None;
     core = core_at ending may;
     stopped = λ j k e. absurd (never_stopped k e);
     told = tells;
     imaged =
-        (let w = whole n m mode load l [] first inv load_is (low_streams (format_of mode) n room) are_sound empty_run is_run in
+        (let w = whole n m mode load l [] first empty_run course is_run in
         record {
           whole = w.0;
           reads = w.1;
           records = w.2;
-          each = λ u images from. recovered n m mode load l [] first inv load_is (low_streams (format_of mode) n room) are_sound empty_run is_run images from.0
+          each = λ u images from. recovered n m mode load l [] first empty_run course is_run (fresh_is_sound (format_of mode) n) images from.0
               (λ j image e.
               let lt : j < n = subst (λ (k : ℕ). j < k) from.0 (got_within images j image e) in
-              is_left j image (left u j image lt (from.1 j image e)));
+              as_left j image (is_left j image (left u j image lt (from.1 j image e))));
         });
     acknowledged = λ images from log reads x q e. absurd q;
   }
 
   pub facts_of_none : (unborn : Type 0) (past now : ℕ → List ℕ → Type 0) (rose : ℕ → Type 0) (sink_rose : Type 0) (made : ℕ → ℕ → Type 0) (wrote : List ℕ → Type 0) (fault : ℕ → List ℕ) (ending : Ending) → MayEnd ending →
       (unborn → (j : ℕ) (x : List ℕ) → j < n → past j x → HasContent One n j [] x ⊎ HasContent One n j catalogue x) →
-      RunTells (IsEnded n mode load now rose) n load (λ j. None) sink_rose made wrote fault empty_run ending →
-      RunFacts (chosen_by load.turns n m load) n m mode load unborn past now rose sink_rose made wrote fault ending
+      RunTells (IsEnded n mode load now rose) n load (λ j. None) sink_rose (λ j. calls_to_open) made wrote fault empty_run ending →
+      RunFacts (chosen_by load.turns n m load) n m mode load (fresh_start n) unborn past now rose sink_rose (λ j. calls_to_open) made wrote fault ending
   facts_of_none unborn past now rose sink_rose made wrote fault ending may left tells = built_of_none unborn past now rose sink_rose made wrote fault ending may left tells
 
   -- and nothing is acknowledged
   pub told_of_none : (unborn : Type 0) (past now : ℕ → List ℕ → Type 0) (rose : ℕ → Type 0) (sink_rose : Type 0) (made : ℕ → ℕ → Type 0) (wrote : List ℕ → Type 0) (fault : ℕ → List ℕ) (ending : Ending) → MayEnd ending →
       (unborn → (j : ℕ) (x : List ℕ) → j < n → past j x → HasContent One n j [] x ⊎ HasContent One n j catalogue x) →
-      RunTells (IsEnded n mode load now rose) n load (λ j. None) sink_rose made wrote fault empty_run ending →
-      (facts : RunFacts (chosen_by load.turns n m load) n m mode load unborn past now rose sink_rose made wrote fault ending) × (facts.run.acks ≡ [])
+      RunTells (IsEnded n mode load now rose) n load (λ j. None) sink_rose (λ j. calls_to_open) made wrote fault empty_run ending →
+      (facts : RunFacts (chosen_by load.turns n m load) n m mode load (fresh_start n) unborn past now rose sink_rose (λ j. calls_to_open) made wrote fault ending) × (facts.run.acks ≡ [])
   told_of_none unborn past now rose sink_rose made wrote fault ending may left tells = (built_of_none unborn past now rose sink_rose made wrote fault ending may left tells, refl)

@@ -20,7 +20,9 @@ use Rattle.tau_core.specs.State.{Plain}
 use Rattle.tau_core.specs.View.{setting_of, core_of, stop_in}
 use Rattle.tau_core.specs.Opens.{Opened, nothing}
 use Rattle.tau_run.specs.Run.{Run, below, AllAcked}
-use Rattle.tau_run.specs.Start.{catalogue_of}
+use Rattle.tau_run.specs.Start.{Start, fresh_start, catalogue_of, opened_at, IsStart}
+use Rattle.tau_run.proofs.Fresh.{fresh_begins, fresh_opened}
+use Rattle.tau_run.proofs.Waits.{waits_for}
 use Rattle.tau_run.specs.CoreRun.{IsLoadOn, IsFirstState, AreAcks, IsRunOf, IsSoundLoad, IsCourse}
 use Rattle.tau_run.specs.Laws.{KeepCalls, AllWait}
 use Rattle.tau_run.specs.StopsLeave.{IsOver}
@@ -31,11 +33,9 @@ use Rattle.tau_run.proofs.Results.{run_law, lost_law}
 use Rattle.tau_run.proofs.Start.{started}
 use Rattle.tau_step.specs.Came.{CameTo}
 use Rattle.tau_step.specs.Progressed.{progress}
-use Rattle.tau_step.specs.RunTold.{Began, Came, CutShort, EachOf, Ended, Left, IsLowestStopped, RanNew, fates_by}
-use Rattle.tau_engine.proofs.Opened.{low_streams}
+use Rattle.tau_step.specs.RunTold.{Began, Came, CutShort, EachOf, Ended, Left, IsLowestStopped, Ran, RanNew, fates_by}
 use Rattle.tau_engine.specs.Came.{Concluded, CutOff, Gave}
 use Rattle.tau_engine.proofs.Chosen.{chosen}
-use Rattle.tau_engine.proofs.Streams.{OnlyNow}
 
 -- ---- a whole run is a first part of itself
 
@@ -51,8 +51,8 @@ either_run : (whole : Bool) (n m : ℕ) (load : Workload) (l : Load) (opening : 
 either_run true n m load l opening p h = inl h
 either_run false n m load l opening p h = inr h
 
-module _ {D : Type 0} {G : Ghosts D} (only_now : OnlyNow G) (n m : ℕ) (mode : LogMode) (load : Workload) (room : n ≤ 16) (sound : IsSoundLoad load) (first : Plain) (load_is : IsLoadOf n m mode load first.load) (opened : Opened first.load first)
-    (ws ws' : List (Writer D G)) (whole : Bool) (came : Came (λ j. catalogue_of load) first ws ws' (λ P. IsByTurns whole first.load.streams first.load.workers load first.load (core_of first nothing) P)) where
+module _ {D : Type 0} {G : Ghosts D} (n m : ℕ) (mode : LogMode) (load : Workload) (start : Start) (begins : IsStart (format_of mode) n load start) (sound : IsSoundLoad load) (first : Plain) (load_is : IsLoadOn n m mode load start first.load) (opened : Opened first.load first)
+    (ws ws' : List (Writer D G)) (whole : Bool) (came : Came (opened_at load start) first ws ws' (λ P. IsByTurns whole first.load.streams first.load.workers load first.load (core_of first nothing) P)) where
   abbrev l : Load
   l = came.last.load
 
@@ -65,11 +65,8 @@ module _ {D : Type 0} {G : Ghosts D} (only_now : OnlyNow G) (n m : ℕ) (mode : 
   abbrev P : Progress
   P = progress came.last came.hidden came.events came.order came.told
 
-  pub is_load : IsLoadOf n m mode load l
-  is_load = subst (λ (x : Load). IsLoadOf n m mode load x) (sym came.load) load_is
-
-  pub course : IsCourse n m mode load l K s
-  course = record { room = low_streams (format_of l.mode) n room; load_is = is_load; sound = sound; inv = came.stands.inv }
+  pub is_load : IsLoadOn n m mode load start l
+  is_load = subst (λ (x : Load). IsLoadOn n m mode load start x) (sym came.load) load_is
 
   by_first : IsByTurns whole n m load first.load (core_of first nothing) P
   by_first =
@@ -85,11 +82,27 @@ module _ {D : Type 0} {G : Ghosts D} (only_now : OnlyNow G) (n m : ℕ) (mode : 
   pub led : machine.Run (setting_of l) (core_of first nothing) came.events K s × KeepCalls came.events × AreAcks l s came.told
   led = turns_law (setting_of l) m n (turns_of load) (core_of first nothing) P opening_is (either_run whole n m load l (core_of first nothing) P by_turns)
 
-  pub there : (run : Run) × IsRunOf n l K s (catalogue_of load) run × (run.acks ≡ came.told)
-  there = run_law n m mode load came.last K came.hidden came.stands is_load came.told led.2
+  begun : IsFirstState l (core_of first nothing)
+  begun = subst (λ (x : Load). IsFirstState x (core_of first nothing)) (sym came.load) (started first.load first opened)
+
+  pub course : IsCourse n m mode load start l K s
+  course = record {
+    room = (let a = came.stands.sound.streams_high in let b = is_load.streams in omega (arith, a, b));
+    begins = subst (λ (k : LogMode). IsStart (format_of k) n load start) (sym is_load.mode_is) begins;
+    load_is = is_load;
+    sound = sound;
+    inv = came.stands.inv;
+    waits = waits_for n m mode load start l (core_of first nothing) came.events K s is_load led.0 begun;
+  }
+
+  pub there : (run : Run) × IsRunOf n l K s load run × (run.acks ≡ came.told) × (run.start ≡ start)
+  there = run_law n m mode load came.last K came.hidden came.stands start is_load begins.count came.told led.2
 
   abbrev run : Run
   run = there.0
+
+  own_course : IsCourse n m mode load run.start l K s
+  own_course = subst (λ (b : Start). IsCourse n m mode load b l K s) (sym there.3) course
 
   abbrev stops : ℕ → Option ℕ
   stops j = (s.streams j).stop
@@ -109,41 +122,43 @@ module _ {D : Type 0} {G : Ghosts D} (only_now : OnlyNow G) (n m : ℕ) (mode : 
   waits k some high = opened.waits k some (let e = ap length load_is.calls in omega (arith, e, high))
 
   pub complete : IsOver n s → ((j : ℕ) → j < n → stops j ≡ None) → AllAcked load run
-  complete over going = lost_law n m mode load l K s course run there.1 (core_of first nothing) came.events led.0 led.1 waits over going
+  complete over going = lost_law n m mode load l K s run own_course there.1 (core_of first nothing) came.events led.0 led.1 waits over going
 
   pub part_by : (b : Bool) → IsByTurns b n m load l (core_of first nothing) P → IsByTurns false n m load l (core_of first nothing) P
   part_by true h = whole_is_part n m load l (core_of first nothing) P h
   part_by false h = h
 
   -- so it is one of any kind of run
-  abbrev pub came_to : CameTo (chosen_by load.turns n m load) n m mode load ws ws' came.told
+  abbrev pub came_to : CameTo (chosen_by load.turns n m load) n m mode load start ws ws' came.told
   came_to = record {
     stands_on = l;
     opening = core_of first nothing;
-    start = subst (λ (x : Load). IsStart x (core_of first nothing)) (sym came.load) (started first.load first opened);
+    first = begun;
     state = s;
     events = came.events;
     joined = K;
     led = led.0;
-    course = course;
     part = chosen load.turns false n m load l (core_of first nothing) P (part_by whole by_turns);
     run = run;
+    begins = there.3;
+    course = own_course;
     is = there.1;
     told = there.2;
     stop_low = stop_low;
-    writers = subst (λ (x : Load). EachOf (λ j w w'. Left x s j (catalogue_of load) w w') ws ws') (sym came.load) came.writers;
+    writers = subst (λ (b : Start). EachOf (λ j w w'. Left l s j (opened_at load b j) w w') ws ws') (sym there.3)
+        (subst (λ (x : Load). EachOf (λ j w w'. Left x s j (opened_at load start j) w w') ws ws') (sym came.load) came.writers);
   }
 
-module _ {D : Type 0} {G : Ghosts D} (only_now : OnlyNow G) (n m : ℕ) (mode : LogMode) (load : Workload) (room : n ≤ 16) (sound : IsSoundLoad load) (first : Plain) (load_is : IsLoadOf n m mode load first.load) (opened : Opened first.load first)
+module _ {D : Type 0} {G : Ghosts D} (n m : ℕ) (mode : LogMode) (load : Workload) (start : Start) (begins : IsStart (format_of mode) n load start) (sound : IsSoundLoad load) (first : Plain) (load_is : IsLoadOn n m mode load start first.load) (opened : Opened first.load first)
     (ws ws' : List (Writer D G)) (hears : Type 0) (held held' : List ℕ) (sink_rose : Type 0) where
   -- to its end
-  pub concluded : (e : RunEnd) → Ended (turns_of load) (λ j. catalogue_of load) first ws ws' hears held held' sink_rose e → Concluded n m mode load ws ws' hears held held' sink_rose e
+  pub concluded : (e : RunEnd) → Ended (turns_of load) (opened_at load start) first ws ws' hears held held' sink_rose e → Concluded n m mode load start ws ws' hears held held' sink_rose e
   concluded e h = record {
     acks = h.came.told;
-    came = came_to only_now n m mode load room sound first load_is opened ws ws' true h.came;
-    whole = chosen load.turns true n m load h.came.last.load (core_of first nothing) (progress h.came.last h.came.hidden h.came.events h.came.order h.came.told) (by_turns only_now n m mode load room sound first load_is opened ws ws' true h.came);
+    came = came_to n m mode load start begins sound first load_is opened ws ws' true h.came;
+    whole = chosen load.turns true n m load h.came.last.load (core_of first nothing) (progress h.came.last h.came.hidden h.came.events h.came.order h.came.told) (by_turns n m mode load start begins sound first load_is opened ws ws' true h.came);
     over = over_now;
-    complete = complete only_now n m mode load room sound first load_is opened ws ws' true h.came over_now;
+    complete = complete n m mode load start begins sound first load_is opened ws ws' true h.came over_now;
     heard = h.heard;
     sink = h.sink;
     disk = subst (λ (k : ℕ). IsLowestStopped k (core_of h.came.last h.came.hidden) e.disk) load_is.streams h.disk;
@@ -157,18 +172,28 @@ module _ {D : Type 0} {G : Ghosts D} (only_now : OnlyNow G) (n m : ℕ) (mode : 
       over_now = subst (λ (k : ℕ). IsOver k (core_of h.came.last h.came.hidden)) load_is.streams h.over
 
   -- so far as memory was there
-  pub cut : CutShort (turns_of load) (λ j. catalogue_of load) first ws ws' hears held held' sink_rose → CutOff n m mode load ws ws' hears held held' sink_rose
+  pub cut : CutShort (turns_of load) (opened_at load start) first ws ws' hears held held' sink_rose → CutOff n m mode load start ws ws' hears held held' sink_rose
   cut h = record {
     acks = h.came.told;
-    came = came_to only_now n m mode load room sound first load_is opened ws ws' false h.came;
+    came = came_to n m mode load start begins sound first load_is opened ws ws' false h.came;
     count = h.count;
     sink_failed = h.sink_failed;
     heard = h.heard;
     sink = h.sink;
   }
 
-module _ {D : Type 0} {G : Ghosts D} (only_now : OnlyNow G) (n m : ℕ) (mode : LogMode) (load : Workload) (room : n ≤ 16) (sound : IsSoundLoad load) (ws ws' : List (Writer D G)) (count : length ws ≡ n) (hears : Type 0) (held held' : List ℕ) (sink_rose : Type 0) where
-  pub gave : (result : Result RunEnd NoMemory) → Began m mode load ws ws' hears held held' sink_rose (RanNew m mode load ws ws' hears held held' sink_rose) result → Gave n m mode load ws ws' hears held held' sink_rose result
-  gave (Ok e) x = concluded only_now n m mode load room sound x.first (subst (λ (k : ℕ). IsLoadOf k m mode load x.first.load) count x.load_is) x.opened ws ws' hears held held' sink_rose e x.ran
-  gave (Err no_memory) (inl x) = inl (cut only_now n m mode load room sound x.first (subst (λ (k : ℕ). IsLoadOf k m mode load x.first.load) count x.load_is) x.opened ws ws' hears held held' sink_rose x.ran)
+-- on streams that were just created
+module _ {D : Type 0} {G : Ghosts D} (n m : ℕ) (mode : LogMode) (load : Workload) (sound : IsSoundLoad load) (ws ws' : List (Writer D G)) (count : length ws ≡ n) (hears : Type 0) (held held' : List ℕ) (sink_rose : Type 0) where
+  begins : IsStart (format_of mode) n load (fresh_start n)
+  begins = fresh_begins (format_of mode) n load
+
+  loaded : (l : Load) → IsLoadOn (length ws) m mode load (fresh_start (length ws)) l → IsLoadOn n m mode load (fresh_start n) l
+  loaded l is = subst (λ (k : ℕ). IsLoadOn k m mode load (fresh_start k) l) count is
+
+  ran : (first : Plain) (r : Result RunEnd NoMemory) → Ran (turns_of load) (λ j. catalogue_of load) first ws ws' hears held held' sink_rose r → Ran (turns_of load) (opened_at load (fresh_start n)) first ws ws' hears held held' sink_rose r
+  ran first r x = subst (λ (b : ℕ → List ℕ). Ran (turns_of load) b first ws ws' hears held held' sink_rose r) (sym (fresh_opened n load)) x
+
+  pub gave : (result : Result RunEnd NoMemory) → Began m mode load ws ws' hears held held' sink_rose (RanNew m mode load ws ws' hears held held' sink_rose) result → Gave n m mode load (fresh_start n) ws ws' hears held held' sink_rose result
+  gave (Ok e) x = concluded n m mode load (fresh_start n) begins sound x.first (loaded x.first.load x.load_is) x.opened ws ws' hears held held' sink_rose e (ran x.first (Ok e) x.ran)
+  gave (Err no_memory) (inl x) = inl (cut n m mode load (fresh_start n) begins sound x.first (loaded x.first.load x.load_is) x.opened ws ws' hears held held' sink_rose (ran x.first (Err no_memory) x.ran))
   gave (Err no_memory) (inr none) = inr none

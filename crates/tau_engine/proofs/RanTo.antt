@@ -24,16 +24,18 @@ use Rattle.tau_core.specs.declared.state.Load.{Load}
 use Rattle.tau_core.specs.View.{setting_of}
 use Rattle.tau_run.specs.Run.{Run, AllAcked, IsReportOf}
 use Rattle.tau_run.specs.RecoveredFacts.{IsEnded}
-use Rattle.tau_run.specs.Start.{catalogue_of}
+use Rattle.tau_run.specs.Start.{Start, fresh_start, catalogue_of, old_at, opened_at}
+use Rattle.tau_run.proofs.Fresh.{fresh_is_sound, fresh_olds, fresh_opened}
+use Rattle.tau_scan.specs.Sound.{IsSound}
 use Rattle.tau_run.specs.CoreRun.{IsCourse}
-use Rattle.tau_run.specs.StopsLeave.{Leaves, IsOver}
+use Rattle.tau_run.specs.StopsLeave.{IsLeft, Leaves, IsOver}
 use Rattle.tau_run.specs.RunFacts.{Ending, WroteFront, NamesLowest, chosen_by, IsCoreRun, IsCoreRunAt, RunTells, RunFacts}
 use Rattle.tau_run.specs.RunFacts as ending
 use Rattle.tau_run.specs.Turns.{Progress}
 use Rattle.tau_run.proofs.Imaged.{imaged, acknowledged, ended}
 use Rattle.tau_run.proofs.Results.{ends_law, history_law}
 use Rattle.tau_step.specs.Came.{CameTo, came_far}
-use Rattle.tau_step.specs.RunTold.{IsLowestStopped, fates_by}
+use Rattle.tau_step.specs.RunTold.{EachOf, Left, IsLowestStopped, fates_by}
 use Rattle.tau_step.specs.Telling.{Heard}
 use Rattle.tau_engine.specs.DiskFacts.{HasSpaced, Past, Now, AreUnborn, NotEarlier, NextClean}
 use Rattle.tau_engine.specs.declared.status.Status.{Status}
@@ -48,7 +50,7 @@ use Rattle.tau_engine.proofs.Reports.{reported_by}
 use Rattle.tau_engine.proofs.Streams.{OnlyNow, Joined, joined, rest_is, left_since, rises, opens_clean, rose_at, clean_below, first_stopped, stopped_late, made_all, leaves}
 use Rattle.tau_engine.proofs.Texts.{heard_front, whole_text, rest_cut, lines_cut, take_long}
 
-module _ {D : Type 0} {G : Ghosts D} (only_now : OnlyNow G) (n m : ℕ) (mode : LogMode) (load : Workload) (ws ws' : List (Writer D G)) (acks : List (ℕ × List ℕ)) (t : CameTo (chosen_by load.turns n m load) n m mode load ws ws' acks) where
+module _ {D : Type 0} {G : Ghosts D} (only_now : OnlyNow G) (n m : ℕ) (mode : LogMode) (load : Workload) (ws ws' : List (Writer D G)) (acks : List (ℕ × List ℕ)) (t : CameTo (chosen_by load.turns n m load) n m mode load (fresh_start n) ws ws' acks) where
   abbrev by : Bool → Load → Core → Progress → Type 0
   by = chosen_by load.turns n m load
 
@@ -61,11 +63,27 @@ module _ {D : Type 0} {G : Ghosts D} (only_now : OnlyNow G) (n m : ℕ) (mode : 
   abbrev s : Core
   s = t.state
 
-  abbrev course : IsCourse n m mode load l K s
-  course = t.course
-
   abbrev run : Run
   run = t.run
+
+  abbrev course : IsCourse n m mode load run.start l K s
+  course = t.course
+
+  bases : opened_at load run.start ≡ λ j. catalogue_of load
+  bases = ap (opened_at load) t.begins ∙ fresh_opened n load
+
+  olds : old_at run.start ≡ λ j. []
+  olds = ap old_at t.begins ∙ fresh_olds n
+
+  pub writers : EachOf (λ j w w'. Left l s j (catalogue_of load) w w') ws ws'
+  writers = subst (λ (b : ℕ → List ℕ). EachOf (λ j w w'. Left l s j (b j) w w') ws ws') bases t.writers
+
+  pub sound_start : IsSound (format_of mode) run.start.old run.start.log run.start.base
+  sound_start = subst (λ (b : Start). IsSound (format_of mode) b.old b.log b.base) (sym t.begins) (fresh_is_sound (format_of mode) n)
+
+  -- an image that has nothing, or a front after the catalogue
+  pub as_left : (j : ℕ) (x : List ℕ) → IsLeft n j [] (catalogue_of load) l s x → IsLeft n j (old_at run.start j) (opened_at load run.start j) l s x
+  as_left j x left = subst (λ (a : ℕ → List ℕ). IsLeft n j (a j) (opened_at load run.start j) l s x) (sym olds) (subst (λ (b : ℕ → List ℕ). IsLeft n j [] (b j) l s x) (sym bases) left)
 
   abbrev stops : ℕ → Option ℕ
   stops j = (s.streams j).stop
@@ -81,7 +99,7 @@ module _ {D : Type 0} {G : Ghosts D} (only_now : OnlyNow G) (n m : ℕ) (mode : 
     stands_on = l;
     load_is = t.course.load_is;
     opening = t.opening;
-    start = t.start;
+    first = t.first;
     progress = came_far t;
     led = t.led;
     chosen = h;
@@ -92,36 +110,39 @@ module _ {D : Type 0} {G : Ghosts D} (only_now : OnlyNow G) (n m : ℕ) (mode : 
 
   module _ (old mid new : List D) (many : n ≤ length old) (streams : AreOpened G n (catalogue_of load) old mid ws) (back : new ≡ map disk_of ws' ++ mid) where
     pub all : EachIn (λ j. j < n) (Joined G n (catalogue_of load) l s) old new
-    all = joined G n (catalogue_of load) l s old mid new ws ws' streams back t.writers
+    all = joined G n (catalogue_of load) l s old mid new ws ws' streams back writers
 
-    pub at_leaves : Leaves n (catalogue_of load) l s (λ j x. ⊥) (Now G.tells G.may_leave old new) (RoseAt G.faults old new)
+    pub at_leaves : Leaves n (old_at run.start) (opened_at load run.start) l s (λ j x. ⊥) (Now G.tells G.may_leave old new) (RoseAt G.faults old new)
     at_leaves =
-        leaves G n (catalogue_of load) l s streams_are old new many all stop_low
+        subst (λ (a : ℕ → List ℕ). Leaves n a (opened_at load run.start) l s (λ j x. ⊥) (Now G.tells G.may_leave old new) (RoseAt G.faults old new)) (sym olds)
+        (subst (λ (b : ℕ → List ℕ). Leaves n (λ j. []) b l s (λ j x. ⊥) (Now G.tells G.may_leave old new) (RoseAt G.faults old new)) (sym bases)
+        (leaves G n (catalogue_of load) l s streams_are old new many all stop_low))
 
     pub facts : format_of mode ≡ One → (sink_rose : Type 0) (made : ℕ → ℕ → Type 0) (wrote : List ℕ → Type 0) (fault : ℕ → List ℕ) (ending : Ending) → IsCoreRunAt (by) n m mode load stops run ending →
-        RunTells (IsEnded n mode load (Now G.tells G.may_leave old new) (RoseAt G.faults old new)) n load stops sink_rose made wrote fault run ending →
-        RunFacts (by) n m mode load (AreUnborn G.tells G.may_leave old n) (Past G.tells G.moment G.may_leave_since old new) (Now G.tells G.may_leave old new) (RoseAt G.faults old new) sink_rose made wrote fault ending
+        RunTells (IsEnded n mode load (Now G.tells G.may_leave old new) (RoseAt G.faults old new)) n load stops sink_rose (λ j. calls_to_open) made wrote fault run ending →
+        RunFacts (by) n m mode load (fresh_start n) (AreUnborn G.tells G.may_leave old n) (Past G.tells G.moment G.may_leave_since old new) (Now G.tells G.may_leave old new) (RoseAt G.faults old new) sink_rose (λ j. calls_to_open) made wrote fault ending
     facts narrow sink_rose made wrote fault ending core told = record {
       run = run;
-      history = history_law n m mode load l K s course run t.is;
+      begins = t.begins;
+      history = history_law n m mode load l K s run course t.is;
       stops = stops;
       core = core;
       stopped = at_leaves.stopped;
       told = told;
-      imaged = imaged n m mode load l K s course run t.is (Past G.tells G.moment G.may_leave_since old new) (Now G.tells G.may_leave old new) (RoseAt G.faults old new) (AreUnborn G.tells G.may_leave old n)
-          (λ u j x lt q. left_since G n (catalogue_of load) l s streams_are old new many all (sym (ap (λ (k : LogMode). format_of k) t.course.load_is.mode_is ∙ narrow)) only_now u j x lt q);
-      acknowledged = acknowledged n m mode load l K s course run t.is (λ j x. ⊥) (Now G.tells G.may_leave old new) (RoseAt G.faults old new) at_leaves;
+      imaged = imaged n m mode load l K s run course t.is (Past G.tells G.moment G.may_leave_since old new) (Now G.tells G.may_leave old new) (RoseAt G.faults old new) (AreUnborn G.tells G.may_leave old n)
+          (λ u. (sound_start, λ j x lt q. as_left j x (left_since G n (catalogue_of load) l s streams_are old new many all (sym (ap (λ (k : LogMode). format_of k) t.course.load_is.mode_is ∙ narrow)) only_now u j x lt q)));
+      acknowledged = acknowledged n m mode load l K s run course t.is (λ j x. ⊥) (Now G.tells G.may_leave old new) (RoseAt G.faults old new) at_leaves;
     }
 
     pub has_ended : IsOver n s → (((j : ℕ) → j < n → stops j ≡ None) → AllAcked load run) → IsEnded n mode load (Now G.tells G.may_leave old new) (RoseAt G.faults old new) run
-    has_ended over complete = ended n m mode load l K s course run t.is (λ j x. ⊥) (Now G.tells G.may_leave old new) (RoseAt G.faults old new) at_leaves over complete
+    has_ended over complete = ended n m mode load l K s run course t.is (λ j x. ⊥) (Now G.tells G.may_leave old new) (RoseAt G.faults old new) at_leaves over complete
 
     -- where no stream was stopped, whatever a stop now may leave has all that the stream was given
     pub whole_now : IsOver n s → ((j : ℕ) → j < n → stops j ≡ None) → (j : ℕ) (x : List ℕ) → j < n → Now G.tells G.may_leave old new j x → HasContent (format_of mode) n j (slice_index_or run.contents j []) x
     whole_now over going j x lt now =
-        let stopping : Leaves n (catalogue_of load) l s (λ i y. ⊥) (Now G.tells G.may_leave old new) (λ i. (at : ℕ) × (i < n) × (stops i ≡ Some at)) =
+        let stopping : Leaves n (old_at run.start) (opened_at load run.start) l s (λ i y. ⊥) (Now G.tells G.may_leave old new) (λ i. (at : ℕ) × (i < n) × (stops i ≡ Some at)) =
         record { before = at_leaves.before; present = at_leaves.present; reached = at_leaves.reached; stopped = λ i at e. (at, stop_low i at e, e) } in
-        let last = ends_law n m mode load l K s course run t.is over in
+        let last = ends_law n m mode load l K s run course t.is over in
         let p = stopping.present j x lt now in
         subst (λ (k : LogMode). HasContent (format_of k) n j (slice_index_or run.contents j []) x) t.course.load_is.mode_is (last.2 j lt (going j lt) x p.0 p.1 p.2)
 
@@ -151,7 +172,7 @@ module _ {D : Type 0} {G : Ghosts D} (only_now : OnlyNow G) (n m : ℕ) (mode : 
 
       report_is : (failed : Option ℕ) → IsReportOf load run failed (report_text declared e.report failed)
       report_is failed =
-          reported_by n m mode load l K s course run t.is e.report failed (acks_are ∙ sym t.told)
+          reported_by n m mode load l K s run course t.is e.report failed (acks_are ∙ sym t.told)
           (fates ∙ ap (λ (a : List (ℕ × List ℕ)). fates_by (length l.calls) K a) (sym t.told))
           order tables over.rests
 
@@ -176,7 +197,7 @@ module _ {D : Type 0} {G : Ghosts D} (only_now : OnlyNow G) (n m : ℕ) (mode : 
             asked = λ i size g. absurd (cc);
             spaced = λ threads worked. spaced threads none;
             moments = rise;
-            rest = rest_is G n (catalogue_of load) l s old mid new ws ws' streams back t.writers;
+            rest = rest_is G n (catalogue_of load) l s old mid new ws ws' streams back writers;
           }
 
       tells_disk : (j : ℕ) → (e.disk ≡ Some j) → e.sink_failed ≡ false → Wrote hears held1 held' (rest_text declared e.report (Some j)) → SaysRun G n m mode load old new hears held held' faults faults' (status.DiskFault j)
@@ -203,7 +224,7 @@ module _ {D : Type 0} {G : Ghosts D} (only_now : OnlyNow G) (n m : ℕ) (mode : 
             asked = λ i size g. absurd (cc);
             spaced = λ threads worked. absurd worked;
             moments = rise;
-            rest = rest_is G n (catalogue_of load) l s old mid new ws ws' streams back t.writers;
+            rest = rest_is G n (catalogue_of load) l s old mid new ws ws' streams back writers;
           }
 
       tells_sink : Rose faults faults' → (i : ℕ) × (i < length (report_text declared e.report e.disk)) × Wrote hears held held' (take i (report_text declared e.report e.disk)) → SaysRun G n m mode load old new hears held held' faults faults' status.WriteFault
@@ -222,7 +243,7 @@ module _ {D : Type 0} {G : Ghosts D} (only_now : OnlyNow G) (n m : ℕ) (mode : 
         asked = λ i size g. absurd (cc);
         spaced = λ threads worked. spaced threads (none_failed e.disk low worked);
         moments = rise;
-        rest = rest_is G n (catalogue_of load) l s old mid new ws ws' streams back t.writers;
+        rest = rest_is G n (catalogue_of load) l s old mid new ws ws' streams back writers;
       }
 
       tells_memory : e.sink_failed ≡ false → held' ≡ held1 → SaysRun G n m mode load old new hears held held' faults faults' status.NoMemory
@@ -242,7 +263,7 @@ module _ {D : Type 0} {G : Ghosts D} (only_now : OnlyNow G) (n m : ℕ) (mode : 
         asked = λ i size g. absurd (cc);
         spaced = λ threads worked. absurd worked;
         moments = rise;
-        rest = rest_is G n (catalogue_of load) l s old mid new ws ws' streams back t.writers;
+        rest = rest_is G n (catalogue_of load) l s old mid new ws ws' streams back writers;
       }
 
       pub tells_end : (answer : Status) → TellsEnd declared e hears held1 held' (Rose faults1 faults') answer → SaysRun G n m mode load old new hears held held' faults faults' answer
@@ -267,13 +288,13 @@ module _ {D : Type 0} {G : Ghosts D} (only_now : OnlyNow G) (n m : ℕ) (mode : 
 module _ {D : Type 0} {G : Ghosts D} (only_now : OnlyNow G) (n m : ℕ) (mode : LogMode) (load : Workload) (narrow : format_of mode ≡ One) (ws ws' : List (Writer D G)) (old mid new : List D) (many : n ≤ length old) (streams : AreOpened G n (catalogue_of load) old mid ws) (back : new ≡ map disk_of ws' ++ mid)
     (hears : Type 0) (held held1 held' : List ℕ) (faults faults1 faults' : ℕ) (early : faults ≤ faults1) (late : faults1 ≤ faults') where
   -- it went to its end
-  pub concludes : (e : RunEnd) → Concluded n m mode load ws ws' hears held held1 (Rose faults faults1) e → (load.turns ≡ None → e.disk ≡ None → (j : ℕ) (x : List ℕ) → j < n → Now G.tells G.may_leave old new j x → HasSpaced (format_of mode) n j load x) →
+  pub concludes : (e : RunEnd) → Concluded n m mode load (fresh_start n) ws ws' hears held held1 (Rose faults faults1) e → (load.turns ≡ None → e.disk ≡ None → (j : ℕ) (x : List ℕ) → j < n → Now G.tells G.may_leave old new j x → HasSpaced (format_of mode) n j load x) →
       (answer : Status) → TellsEnd load.declarations.tables e hears held1 held' (Rose faults1 faults') answer → SaysRun G n m mode load old new hears held held' faults faults' answer
   concludes e c spaced answer t =
       tells_end only_now n m mode load ws ws' c.acks c.came old mid new many streams back narrow e c.whole c.over c.complete hears held held1 held' faults faults1 faults' early late c.heard c.sink c.disk c.told c.fates c.order c.tables spaced answer t
 
   -- it was out of memory before: one history, of which the first acknowledgements were told
-  pub cuts_off : CutOff n m mode load ws ws' hears held held1 (Rose faults faults1) → held' ≡ held1 → SaysRun G n m mode load old new hears held held' faults faults' status.NoMemory
+  pub cuts_off : CutOff n m mode load (fresh_start n) ws ws' hears held held1 (Rose faults faults1) → held' ≡ held1 → SaysRun G n m mode load old new hears held held' faults faults' status.NoMemory
   cuts_off c same = record {
     facts = facts only_now n m mode load ws ws' c.acks c.came old mid new many streams back narrow (Rose faults faults') (λ j k. G.tells → Made G.number G.short old new j k) (Wrote hears held held') (λ j. fault_text (status.DiskFault j)) ending.NoMemory
         (core_run only_now n m mode load ws ws' c.acks c.came false c.came.part) (
@@ -295,5 +316,5 @@ module _ {D : Type 0} {G : Ghosts D} (only_now : OnlyNow G) (n m : ℕ) (mode : 
     asked = λ i size g. absurd (cc);
     spaced = λ threads worked. absurd worked;
     moments = rise only_now n m mode load ws ws' c.acks c.came old mid new many streams back;
-    rest = rest_is G n (catalogue_of load) c.came.stands_on c.came.state old mid new ws ws' streams back c.came.writers;
+    rest = rest_is G n (catalogue_of load) c.came.stands_on c.came.state old mid new ws ws' streams back (writers only_now n m mode load ws ws' c.acks c.came);
   }

@@ -20,7 +20,9 @@ use Rattle.tau_report.specs.Report.{ack_lines, report_text}
 use Rattle.tau_core.specs.declared.state.Load.{Load}
 use Rattle.tau_run.specs.Run.{Run, IsReportOf, last_db}
 use Rattle.tau_run.specs.RecoveredFacts.{IsEnded}
-use Rattle.tau_run.specs.Start.{catalogue_of}
+use Rattle.tau_base.specs.Modes.{format_of}
+use Rattle.tau_scan.specs.Sound.{IsSound}
+use Rattle.tau_run.specs.Start.{fresh_start, catalogue_of, old_at, opened_at}
 use Rattle.tau_run.specs.CoreRun.{IsSoundLoad}
 use Rattle.tau_run.specs.StopsLeave.{IsLeft}
 use Rattle.tau_run.specs.RunFacts as ending
@@ -44,8 +46,8 @@ use Rattle.tau_engine.proofs.Streams.{OnlyNow, Joined, clean_below, first_stoppe
 
 -- a run of any kind that went to its end, on these writers, where the sink has not failed
 module _ {D : Type 0} {G : Ghosts D} (only_now : OnlyNow G) (n m : ℕ) (load : Workload) (old mid new : List D) (many : n ≤ length old) (ws after : List (Writer D G)) (streams : AreOpened G n (catalogue_of load) old mid ws) (back : new ≡ map disk_of after ++ mid)
-    (tells : G.tells) (hears : Type 0) (held held' : List ℕ) (rose : Type 0) (end : RunEnd) (h : Concluded n m Values load ws after hears held held' rose end) (works : end.sink_failed ≡ false) where
-  abbrev t : CameTo (chosen_by load.turns n m load) n m Values load ws after h.acks
+    (tells : G.tells) (hears : Type 0) (held held' : List ℕ) (rose : Type 0) (end : RunEnd) (h : Concluded n m Values load (fresh_start n) ws after hears held held' rose end) (works : end.sink_failed ≡ false) where
+  abbrev t : CameTo (chosen_by load.turns n m load) n m Values load (fresh_start n) ws after h.acks
   t = h.came
 
   abbrev l : Load
@@ -60,22 +62,25 @@ module _ {D : Type 0} {G : Ghosts D} (only_now : OnlyNow G) (n m : ℕ) (load : 
   core : IsCoreRun (chosen_by load.turns n m load true) n m Values load (λ j. (s.streams j).stop) run
   core = to.core_run only_now n m Values load ws after h.acks t true h.whole
 
-  at_leaves : Rattle.tau_run.specs.StopsLeave.Leaves n (catalogue_of load) l s (λ j x. ⊥) (Now G.tells G.may_leave old new) (RoseAt G.faults old new)
+  at_leaves : Rattle.tau_run.specs.StopsLeave.Leaves n (old_at run.start) (opened_at load run.start) l s (λ j x. ⊥) (Now G.tells G.may_leave old new) (RoseAt G.faults old new)
   at_leaves = to.at_leaves only_now n m Values load ws after h.acks t old mid new many streams back
+
+  sound_start : IsSound (format_of Values) run.start.old run.start.log run.start.base
+  sound_start = to.sound_start only_now n m Values load ws after h.acks t
 
   ended : IsEnded n Values load (Now G.tells G.may_leave old new) (RoseAt G.faults old new) run
   ended = to.has_ended only_now n m Values load ws after h.acks t old mid new many streams back h.over h.complete
 
   -- its rows are those of the history
   present : IsTablesOf (last_db load run) end.report.tables
-  present = subst (λ (db : Db). IsTablesOf db end.report.tables) (last_is n m Values load l t.joined s t.course run t.is h.over.rests) h.tables
+  present = subst (λ (db : Db). IsTablesOf db end.report.tables) (last_is n m Values load l t.joined s run t.course t.is h.over.rests) h.tables
 
   reports : (failed : Option ℕ) → IsReportOf load run failed (report_text load.declarations.tables end.report failed)
   reports failed =
-      reported_by n m Values load l t.joined s t.course run t.is end.report failed (h.told ∙ sym t.told) (h.fates ∙ ap (λ (a : List (ℕ × List ℕ)). fates_by (length l.calls) t.joined a) (sym t.told))
+      reported_by n m Values load l t.joined s run t.course t.is end.report failed (h.told ∙ sym t.told) (h.fates ∙ ap (λ (a : List (ℕ × List ℕ)). fates_by (length l.calls) t.joined a) (sym t.told))
       h.order h.tables h.over.rests
 
-  left_now : (j : ℕ) (image : List ℕ) → j < n → Now G.tells G.may_leave old new j image → IsLeft n j (catalogue_of load) l s image
+  left_now : (j : ℕ) (image : List ℕ) → j < n → Now G.tells G.may_leave old new j image → IsLeft n j (old_at run.start j) (opened_at load run.start j) l s image
   left_now j image lt now = let q = at_leaves.present j image lt now in inr (q.0, q.1)
 
   told : hears → held' ≡ held ++ ack_lines run.acks
@@ -96,13 +101,14 @@ module _ {D : Type 0} {G : Ghosts D} (only_now : OnlyNow G) (n m : ℕ) (load : 
     ends = clean_below G n (catalogue_of load) l s streams_are old new many all n (omega arith) going;
     facts = record {
       run = run;
-      history = history_law n m Values load l t.joined s t.course run t.is;
+      begins = t.begins;
+      history = history_law n m Values load l t.joined s run t.course t.is;
       stops = λ j. (s.streams j).stop;
       core = core;
       stopped = at_leaves.stopped;
       told = (ended, going, h.complete going, (report_text load.declarations.tables end.report None, reports None, tt));
-      imaged = imaged n m Values load l t.joined s t.course run t.is (Now G.tells G.may_leave old new) (Now G.tells G.may_leave old new) (RoseAt G.faults old new) (Unit {0}) (λ u j y lt q. left_now j y lt q);
-      acknowledged = acknowledged n m Values load l t.joined s t.course run t.is (λ j y. ⊥) (Now G.tells G.may_leave old new) (RoseAt G.faults old new) at_leaves;
+      imaged = imaged n m Values load l t.joined s run t.course t.is (Now G.tells G.may_leave old new) (Now G.tells G.may_leave old new) (RoseAt G.faults old new) (Unit {0}) (λ u. (sound_start, λ j y lt q. left_now j y lt q));
+      acknowledged = acknowledged n m Values load l t.joined s run t.course t.is (λ j y. ⊥) (Now G.tells G.may_leave old new) (RoseAt G.faults old new) at_leaves;
     };
     acked = told;
   }
@@ -117,7 +123,8 @@ module _ {D : Type 0} {G : Ghosts D} (only_now : OnlyNow G) (n m : ℕ) (load : 
         ends = (q.0, first_stopped G n (catalogue_of load) l s streams_are old new many all j q.1.0 q.0 q.1.1 q.2 tells);
         facts = record {
           run = run;
-          history = history_law n m Values load l t.joined s t.course run t.is;
+          begins = t.begins;
+      history = history_law n m Values load l t.joined s run t.course t.is;
           stops = λ i. (s.streams i).stop;
           core = inl core;
           stopped = at_leaves.stopped;
@@ -127,8 +134,8 @@ module _ {D : Type 0} {G : Ghosts D} (only_now : OnlyNow G) (n m : ℕ) (load : 
             λ i lt. (let k = made_all G n (catalogue_of load) l s streams_are old new many all i lt in (k.0, k.1, k.2 tells)),
             (report_text load.declarations.tables end.report (Some j), reports (Some j), tt),
           );
-          imaged = imaged n m Values load l t.joined s t.course run t.is (Now G.tells G.may_leave old new) (Now G.tells G.may_leave old new) (RoseAt G.faults old new) (Unit {0}) (λ u i y lt w. left_now i y lt w);
-          acknowledged = acknowledged n m Values load l t.joined s t.course run t.is (λ i y. ⊥) (Now G.tells G.may_leave old new) (RoseAt G.faults old new) at_leaves;
+          imaged = imaged n m Values load l t.joined s run t.course t.is (Now G.tells G.may_leave old new) (Now G.tells G.may_leave old new) (RoseAt G.faults old new) (Unit {0}) (λ u. (sound_start, λ i y lt w. left_now i y lt w));
+          acknowledged = acknowledged n m Values load l t.joined s run t.course t.is (λ i y. ⊥) (Now G.tells G.may_leave old new) (RoseAt G.faults old new) at_leaves;
         };
         acked = told;
       }
@@ -138,12 +145,12 @@ module _ {D : Type 0} {G : Ghosts D} (only_now : OnlyNow G) (n m : ℕ) (load : 
     (streams : AreOpened G n (catalogue_of load) old mid ws) (tells : G.tells) (hears : Type 0) (held held' : List ℕ) (rose : Type 0) (p : PlaysOn m load ws mid new hears held held' rose) where
   pub rehearsed_on : IsRehearsed G n m load old new (Wrote hears held held')
   rehearsed_on =
-      rehearsal only_now n m load old mid new many ws p.after streams p.back tells hears held held' rose p.end (ran.gave only_now n m Values load room sound ws p.after streams.count hears held held' rose (Ok p.end) p.ran) p.heard
+      rehearsal only_now n m load old mid new many ws p.after streams p.back tells hears held held' rose p.end (ran.gave n m Values load sound ws p.after streams.count hears held held' rose (Ok p.end) p.ran) p.heard
 
 -- a run in which nothing failed, with its rows
 module _ {D : Type 0} {G : Ghosts D} (only_now : OnlyNow G) (n m : ℕ) (load : Workload) (room : n ≤ 16) (sound : IsSoundLoad load) (old mid new : List D) (many : n ≤ length old) (ws : List (Writer D G))
     (streams : AreOpened G n (catalogue_of load) old mid ws) (tells : G.tells) (hears : Type 0) (held held' : List ℕ) (rose : Type 0) (rows : List (Key × Value)) (q : PlaysWell m load ws mid new hears held held' rose rows) where
-  abbrev h_on : Concluded n m Values load ws q.after hears held held' rose q.end
+  abbrev h_on : Concluded n m Values load (fresh_start n) ws q.after hears held held' rose q.end
   h_on = gave only_now n m Values load room sound ws q.after streams.count hears held held' rose load.turns refl (Ok q.end) q.ran
 
   going : IsLowestStopped n h_on.came.state None

@@ -4,7 +4,7 @@ use Rattle.std.specs.Prelude.{Some, None, ◌==◌, if◌then◌else◌}
 use Rattle.std.proofs.lemmas.Bool.{cases_eq, eq-eqb, ne_eqb}
 use Rattle.tau_base.specs.declared.value.Key.{Key}
 use Rattle.tau_base.specs.declared.value.LogMode.{LogMode}
-use Rattle.tau_base.specs.Database.{Db, empty_db}
+use Rattle.tau_base.specs.Database.{Db}
 use Rattle.tau_proc.specs.declared.proc.Proc.{Proc}
 use Rattle.tau_proc.specs.declared.reply.Reply.{Reply}
 use Rattle.tau_model.specs.History.{Act, Member, Reordered, exec}
@@ -23,12 +23,10 @@ use Rattle.tau_report.specs.Report.{report_text}
 use Rattle.tau_core.specs.declared.state.Load.{Load}
 use Rattle.tau_core.specs.View.{setting_of}
 use Rattle.tau_run.specs.Run.{Committed, Run, told_of, means, acts, below, reply_in, fate, fates, has_ack, last_db, IsReportOf}
-use Rattle.tau_run.specs.Start.{catalogue_of}
 use Rattle.tau_run.specs.CoreRun.{IsRunOf, IsCourse}
 use Rattle.tau_run.proofs.CommittedTold.{act_of, number_of, Apart, one_of_number, exec_told}
 use Rattle.tau_run.proofs.Order.{apart, once}
-use Rattle.tau_run.proofs.History.{acts_are}
-use Rattle.tau_run.proofs.Recovered.{is_set}
+use Rattle.tau_run.proofs.History.{IsSet, is_set, acts_are}
 use Rattle.tau_step.specs.RunTold.{reply_at, is_told, fates_by}
 
 -- ---- the reply of a call, in whatever order the calls stand
@@ -77,12 +75,15 @@ numbers_same : (H : List (Act Txn)) → map (λ (t : Act Txn). t.call.call.numbe
 numbers_same [] = refl
 numbers_same (t ∷ H) = ap (λ (l : List ℕ). t.call.call.number ∷ l) (numbers_same H)
 
-module _ (n m : ℕ) (mode : LogMode) (load : Workload) (l : Load) (K : List (Act Txn)) (s : Core) (c : IsCourse n m mode load l K s) (run : Run) (is : IsRunOf n l K s (catalogue_of load) run) where
+module _ (n m : ℕ) (mode : LogMode) (load : Workload) (l : Load) (K : List (Act Txn)) (s : Core) (run : Run) (c : IsCourse n m mode load run.start l K s) (is : IsRunOf n l K s load run) where
+  abbrev at : IsSet n m load run.start (setting_of l)
+  at = is_set n m mode load run.start l c.begins.count c.load_is
+
   replies_are : (k : ℕ) → reply_at k K ≡ reply_in k (acts load.declarations.procs run)
   replies_are k =
       reply_same k K (reported s.ends K) (apart (setting_of l) K s c.inv) (once (setting_of l) K s c.inv)
       ∙ sym (reply_mapped k (reported s.ends K))
-      ∙ ap (reply_in k) (sym (acts_are (setting_of l) K s c.inv n m load (is_set n m mode load l c.load_is) run is.calls))
+      ∙ ap (reply_in k) (sym (acts_are (setting_of l) K s c.inv n m load run at is.calls))
 
   fates_are : fates_by (length l.calls) K run.acks ≡ fates load run
   fates_are =
@@ -97,15 +98,14 @@ module _ (n m : ℕ) (mode : LogMode) (load : Workload) (l : Load) (K : List (Ac
   -- the rows at the end are those of the history
   pub last_is : ((w : ℕ) → (s.workers w).hand ≡ None) → (sight (setting_of l) s).row ≡ last_db load run
   last_is rests =
-      let set = is_set n m mode load l c.load_is in
       let law = reported_theorem (setting_of l) K s c.inv K (reordered_itself K) in
-      let told : exec (means l.procs) (map told_of (reported s.ends K)) empty_db ≡ exec (hands.means l.procs) (calls_of (reported s.ends K)) empty_db = exec_told l.procs (reported s.ends K) empty_db in
+      let told : exec (means l.procs) (map told_of (reported s.ends K)) run.start.base ≡ exec (hands.means l.procs) (calls_of (reported s.ends K)) run.start.base = exec_told l.procs (reported s.ends K) run.start.base in
       let rows : exec (hands.means l.procs) (calls_of (reported s.ends K)) (setting_of l).base ≡ (sight (setting_of l) s).row = λ i x. (law.5 x (unheld rests x)) i in
       sym rows
-      ∙ ap (exec (hands.means l.procs) (calls_of (reported s.ends K))) set.base
+      ∙ ap (exec (hands.means l.procs) (calls_of (reported s.ends K))) at.base
       ∙ sym told
-      ∙ ap (λ (p : List Proc). exec (means p) (map told_of (reported s.ends K)) empty_db) set.procs
-      ∙ ap (λ (calls : List Committed). exec (means load.declarations.procs) calls empty_db) (sym is.calls)
+      ∙ ap (λ (p : List Proc). exec (means p) (map told_of (reported s.ends K)) run.start.base) at.procs
+      ∙ ap (λ (calls : List Committed). exec (means load.declarations.procs) calls run.start.base) (sym is.calls)
 
   pub reported_by : (report : RunReport) (failed : Option ℕ) → report.acks ≡ run.acks → report.fates ≡ fates_by (length l.calls) K run.acks →
       report.order ≡ map (λ (t : Act Txn). t.call.call.number) (reported s.ends K) → IsTablesOf (sight (setting_of l) s).row report.tables →

@@ -23,4 +23,4 @@ one_text images log other text words is also agree one two =
     one.text_is ∙ ap (λ (rs : List (Key × Value)). recover_text log rs) rows ∙ sym second.text_is
 
 pub runs_have_one_text : RunsHaveOneText
-runs_have_one_text n mode load run images r one other a b = r.redo one a ∙ sym (r.redo other b)
+runs_have_one_text n mode load run images r one other a b = r.sound.redone.alike one a ∙ sym (r.sound.redone.alike other b)

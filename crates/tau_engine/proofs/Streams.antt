@@ -21,7 +21,7 @@ use Rattle.tau_scan.proofs.Plans.{goes_on, goes_stopped}
 use Rattle.tau_open.proofs.Closed.{rest_back}
 use Rattle.tau_machine.specs.State.{Core}
 use Rattle.tau_core.specs.declared.state.Load.{Load}
-use Rattle.tau_run.specs.StopsLeave.{HasFront, IsLeft, Leaves}
+use Rattle.tau_run.specs.StopsLeave.{HasFront, IsFronted, IsLeft, Leaves}
 use Rattle.tau_step.specs.RunTold.{EachOf, Left}
 use Rattle.tau_engine.specs.DiskFacts.{Past, Now, AreUnborn, NotEarlier, NextClean}
 use Rattle.tau_base.proofs.Lists.{some_at, got_mapped}
@@ -74,7 +74,7 @@ module _ {D : Type 0} (G : Ghosts D) where
         (d.0, h.0, d.1, h.1, h.2)
 
     -- an image that a stop since the entry might have left, where the run is of format 1
-    since_entry : One ≡ format_of l.mode → OnlyNow G → (j : ℕ) (d e : D) → Joined n catalogue l s j d e → G.tells → ((x : List ℕ) → G.may_leave d x → length x ≤ 17) → (x : List ℕ) → G.may_leave_since e (G.moment d) x → IsLeft n j catalogue l s x
+    since_entry : One ≡ format_of l.mode → OnlyNow G → (j : ℕ) (d e : D) → Joined n catalogue l s j d e → G.tells → ((x : List ℕ) → G.may_leave d x → length x ≤ 17) → (x : List ℕ) → G.may_leave_since e (G.moment d) x → IsLeft n j [] catalogue l s x
     since_entry narrow only_now j d e h t unborn x since =
         let began = h.opened.begins t unborn in
         let went = h.left.before t in
@@ -84,16 +84,16 @@ module _ {D : Type 0} (G : Ghosts D) where
             | inl first ↦ inl (short_content (format_of l.mode) n j x (unborn x (only_now d x first)))
             | inr made ↦ of_catalogue made
           ]
-          | inr ran ↦ subst (λ (k : ℕ). IsLeft k j catalogue l s x) streams ran
+          | inr ran ↦ inr (subst (λ (k : ℕ). IsFronted k j catalogue l s x) streams ran)
         ]
       where
-        of_catalogue : IsOldOrNew One n j [] catalogue x → IsLeft n j catalogue l s x
+        of_catalogue : IsOldOrNew One n j [] catalogue x → IsLeft n j [] catalogue l s x
         of_catalogue (inl none) = inl (subst (λ (f : Format). HasContent f n j [] x) narrow none)
         of_catalogue (inr whole) =
             let has : HasContent (format_of l.mode) n j catalogue x = subst (λ (f : Format). HasContent f n j catalogue x) narrow whole in
             inr ([], record { count = 0; spelled = refl; has = subst (λ (c : List ℕ). HasContent (format_of l.mode) n j c x) (sym (append-nil catalogue)) has })
 
-    pub left_since : One ≡ format_of l.mode → OnlyNow G → AreUnborn G.tells G.may_leave old n → (j : ℕ) (x : List ℕ) → j < n → Past G.tells G.moment G.may_leave_since old new j x → IsLeft n j catalogue l s x
+    pub left_since : One ≡ format_of l.mode → OnlyNow G → AreUnborn G.tells G.may_leave old n → (j : ℕ) (x : List ℕ) → j < n → Past G.tells G.moment G.may_leave_since old new j x → IsLeft n j [] catalogue l s x
     left_since narrow only_now unborn j x lt (d, e, was, is, (t, since)) = since_entry narrow only_now j d e (at_end j lt d e was is) t (unborn j d lt was t) x since
 
     -- no moment has fallen
@@ -182,7 +182,7 @@ module _ {D : Type 0} (G : Ghosts D) where
 
     -- ---- what a stop now may leave
 
-    pub leaves : ((i at : ℕ) → (s.streams i).stop ≡ Some at → i < n) → Leaves n catalogue l s (λ j x. ⊥) (Now G.tells G.may_leave old new) (RoseAt G.faults old new)
+    pub leaves : ((i at : ℕ) → (s.streams i).stop ≡ Some at → i < n) → Leaves n (λ j. []) (λ j. catalogue) l s (λ j x. ⊥) (Now G.tells G.may_leave old new) (RoseAt G.faults old new)
     leaves low = record {
       before = λ j x lt q. absurd q;
       present = λ j x lt q.

@@ -25,7 +25,8 @@ use Rattle.tau_core.specs.Opens.{nothing}
 use Rattle.tau_core.specs.State.{Plain}
 use Rattle.tau_core.specs.View.{core_of, setting_of}
 use Rattle.tau_run.specs.Run.{AllAcked}
-use Rattle.tau_run.specs.Start.{catalogue_of}
+use Rattle.tau_run.specs.Start.{Start, fresh_start, catalogue_of, opened_at, IsStart}
+use Rattle.tau_run.proofs.Fresh.{fresh_begins, fresh_opened}
 use Rattle.tau_run.specs.CoreRun.{IsLoadOn, IsRunOf, IsSoundLoad}
 use Rattle.tau_run.specs.StopsLeave.{IsOver}
 use Rattle.tau_run.specs.RunFacts.{chosen_by}
@@ -33,7 +34,7 @@ use Rattle.tau_run.specs.Turns.{Progress}
 use Rattle.tau_step.specs.Came.{CameTo, came_far}
 use Rattle.tau_step.specs.RunTold.{IsLowestStopped, fates_by}
 use Rattle.tau_crew_facts.specs.Ends.{AreApart, IsThreadEnd, IsThreadDone}
-use Rattle.tau_crew_facts.specs.Threads.{IsLowestFailed, NoneFailed, RanInThreads, ThreadsEnded, ThreadsShort}
+use Rattle.tau_crew_facts.specs.Threads.{IsLowestFailed, NoneFailed, RanInThreads, ThreadsEnded, ThreadsRan, ThreadsShort}
 use Rattle.tau_crew_facts.proofs.Came as at
 use Rattle.tau_crew_facts.proofs.Apart as apart
 use Rattle.tau_crew_facts.proofs.Lost as lost
@@ -49,8 +50,8 @@ pub any_order : (turns : Option (List Turn)) (n m : ℕ) (load : Workload) → t
 any_order None n m load e whole l opening p = tt
 any_order (Some turns) n m load e whole l opening p = absurd (cc e)
 
-module _ {D : Type 0} {G : Ghosts D} (n m : ℕ) (mode : LogMode) (load : Workload) (threads : load.turns ≡ None) (sound : IsSoundLoad load) (first : Plain) (load_is : IsLoadOf n m mode load first.load)
-    (ws ws' : List (Writer D G)) (c : Core) (acks : List (ℕ × List ℕ)) (e : IsThreadEnd (λ j. catalogue_of load) first c ws ws' acks) where
+module _ {D : Type 0} {G : Ghosts D} (n m : ℕ) (mode : LogMode) (load : Workload) (threads : load.turns ≡ None) (start : Start) (begins : IsStart (format_of mode) n load start) (sound : IsSoundLoad load) (first : Plain) (load_is : IsLoadOn n m mode load start first.load)
+    (ws ws' : List (Writer D G)) (c : Core) (acks : List (ℕ × List ℕ)) (e : IsThreadEnd (opened_at load start) first c ws ws' acks) where
   abbrev by : Bool → Load → Core → Progress → Type 0
   by = chosen_by load.turns n m load
 
@@ -58,17 +59,17 @@ module _ {D : Type 0} {G : Ghosts D} (n m : ℕ) (mode : LogMode) (load : Worklo
   any = λ whole p. any_order load.turns n m load threads whole first.load (core_of first nothing) p
 
   -- it is one of any kind of run
-  abbrev pub came_to : CameTo (chosen_by load.turns n m load) n m mode load ws ws' acks
-  came_to = at.came n m mode load first load_is sound c ws ws' acks e by any
+  abbrev pub came_to : CameTo (chosen_by load.turns n m load) n m mode load start ws ws' acks
+  came_to = at.came n m mode load start first begins load_is sound c ws ws' acks e by any
 
   pub load_at : came_to.stands_on ≡ first.load
-  load_at = at.load_is_that n m mode load first load_is sound c ws ws' acks e by any
+  load_at = at.load_is_that n m mode load start first begins load_is sound c ws ws' acks e by any
 
-  pub state_at : came_to.state ≡ at.end n m mode load first load_is sound c ws ws' acks e
-  state_at = at.state_is n m mode load first load_is sound c ws ws' acks e by any
+  pub state_at : came_to.state ≡ at.end n m mode load start first begins load_is sound c ws ws' acks e
+  state_at = at.state_is n m mode load start first begins load_is sound c ws ws' acks e by any
 
   pub joined_at : came_to.joined ≡ e.closed.joined
-  joined_at = at.joined_is n m mode load first load_is sound c ws ws' acks e by any
+  joined_at = at.joined_is n m mode load start first begins load_is sound c ws ws' acks e by any
 
   many : length ws ≡ n
   many = e.count ∙ load_is.streams
@@ -108,7 +109,7 @@ module _ {D : Type 0} {G : Ghosts D} (n m : ℕ) (mode : LogMode) (load : Worklo
 
   module _ (d : IsThreadDone first.load c ws') where
     pub over : IsOver n came_to.state
-    over = at.over_at n m mode load first load_is sound c ws ws' acks e by any d
+    over = at.over_at n m mode load start first begins load_is sound c ws ws' acks e by any d
 
     kept : (k : ℕ) → 1 ≤ k → k ≤ length load.calls → (w : ℕ) × (1 ≤ in_worker k (came_to.state.workers w))
     kept k low high =
@@ -116,26 +117,26 @@ module _ {D : Type 0} {G : Ghosts D} (n m : ℕ) (mode : LogMode) (load : Worklo
         subst (λ (x : Core). (w : ℕ) × (1 ≤ in_worker k (x.workers w))) (sym state_at) (d.kept k low (omega (arith, high, calls)))
 
     pub complete : ((j : ℕ) → j < n → (came_to.state.streams j).stop ≡ None) → AllAcked load came_to.run
-    complete going = lost.kept_acked n m mode load came_to.stands_on came_to.joined came_to.state came_to.course came_to.run came_to.is over kept going
+    complete going = lost.kept_acked n m mode load came_to.stands_on came_to.joined came_to.state came_to.run came_to.course came_to.is over kept going
 
-module _ {D : Type 0} {G : Ghosts D} (n m : ℕ) (mode : LogMode) (load : Workload) (threads : load.turns ≡ None) (sound : IsSoundLoad load) (first : Plain) (load_is : IsLoadOf n m mode load first.load)
+module _ {D : Type 0} {G : Ghosts D} (n m : ℕ) (mode : LogMode) (load : Workload) (threads : load.turns ≡ None) (start : Start) (begins : IsStart (format_of mode) n load start) (sound : IsSoundLoad load) (first : Plain) (load_is : IsLoadOn n m mode load start first.load)
     (ws ws' : List (Writer D G)) (hears : Type 0) (held held' : List ℕ) (sink_rose : Type 0) where
   -- to its end
-  pub concluded : (e : RunEnd) → ThreadsEnded (λ j. catalogue_of load) first ws ws' hears held held' sink_rose e → Concluded n m mode load ws ws' hears held held' sink_rose e
+  pub concluded : (e : RunEnd) → ThreadsEnded (opened_at load start) first ws ws' hears held held' sink_rose e → Concluded n m mode load start ws ws' hears held held' sink_rose e
   concluded e r =
-      let l = load_at n m mode load threads sound first load_is ws ws' r.state r.acks r.came in
-      let s = state_at n m mode load threads sound first load_is ws ws' r.state r.acks r.came in
-      let joined = joined_at n m mode load threads sound first load_is ws ws' r.state r.acks r.came in
-      let t : CameTo (chosen_by load.turns n m load) n m mode load ws ws' r.acks = came_to n m mode load threads sound first load_is ws ws' r.state r.acks r.came in
+      let l = load_at n m mode load threads start begins sound first load_is ws ws' r.state r.acks r.came in
+      let s = state_at n m mode load threads start begins sound first load_is ws ws' r.state r.acks r.came in
+      let joined = joined_at n m mode load threads start begins sound first load_is ws ws' r.state r.acks r.came in
+      let t : CameTo (chosen_by load.turns n m load) n m mode load start ws ws' r.acks = came_to n m mode load threads start begins sound first load_is ws ws' r.state r.acks r.came in
       record {
         acks = r.acks;
-        came = came_to n m mode load threads sound first load_is ws ws' r.state r.acks r.came;
+        came = came_to n m mode load threads start begins sound first load_is ws ws' r.state r.acks r.came;
         whole = any_order load.turns n m load threads true t.stands_on t.opening (came_far t);
-        over = over n m mode load threads sound first load_is ws ws' r.state r.acks r.came r.done;
-        complete = complete n m mode load threads sound first load_is ws ws' r.state r.acks r.came r.done;
+        over = over n m mode load threads start begins sound first load_is ws ws' r.state r.acks r.came r.done;
+        complete = complete n m mode load threads start begins sound first load_is ws ws' r.state r.acks r.came r.done;
         heard = r.heard;
         sink = r.sink;
-        disk = lowest n m mode load threads sound first load_is ws ws' r.state r.acks r.came e.disk r.disk;
+        disk = lowest n m mode load threads start begins sound first load_is ws ws' r.state r.acks r.came e.disk r.disk;
         told = r.told;
         fates = r.fates ∙ ap (λ (x : Load). fates_by (length x.calls) r.came.closed.joined r.acks) (sym l) ∙ ap (λ (K : List (Act Txn)). fates_by (length t.stands_on.calls) K r.acks) (sym joined);
         order =
@@ -147,46 +148,59 @@ module _ {D : Type 0} {G : Ghosts D} (n m : ℕ) (mode : LogMode) (load : Worklo
       }
 
   -- so far as memory was there
-  pub cut : ThreadsShort (λ j. catalogue_of load) first ws ws' hears held held' sink_rose → CutOff n m mode load ws ws' hears held held' sink_rose
+  pub cut : ThreadsShort (opened_at load start) first ws ws' hears held held' sink_rose → CutOff n m mode load start ws ws' hears held held' sink_rose
   cut r = record {
     acks = r.acks;
-    came = came_to n m mode load threads sound first load_is ws ws' r.state r.acks r.came;
+    came = came_to n m mode load threads start begins sound first load_is ws ws' r.state r.acks r.came;
     count = r.count;
     sink_failed = r.sink_failed;
     heard = r.heard;
     sink = r.sink;
   }
 
+-- on streams that were just created
 module _ {D : Type 0} {G : Ghosts D} (n m : ℕ) (mode : LogMode) (load : Workload) (threads : load.turns ≡ None) (sound : IsSoundLoad load) (ws ws' : List (Writer D G)) (count : length ws ≡ n) (hears : Type 0) (held held' : List ℕ) (sink_rose : Type 0) where
-  pub gave : (result : Result RunEnd NoMemory) → RanInThreads m mode load ws ws' hears held held' sink_rose result → Gave n m mode load ws ws' hears held held' sink_rose result
-  gave (Ok e) x = concluded n m mode load threads sound x.first (subst (λ (k : ℕ). IsLoadOf k m mode load x.first.load) count x.load_is) ws ws' hears held held' sink_rose e x.ran
-  gave (Err no_memory) (inl x) = inl (cut n m mode load threads sound x.first (subst (λ (k : ℕ). IsLoadOf k m mode load x.first.load) count x.load_is) ws ws' hears held held' sink_rose x.ran)
+  fresh : IsStart (format_of mode) n load (fresh_start n)
+  fresh = fresh_begins (format_of mode) n load
+
+  pub loaded : (l : Load) → IsLoadOn (length ws) m mode load (fresh_start (length ws)) l → IsLoadOn n m mode load (fresh_start n) l
+  loaded l is = subst (λ (k : ℕ). IsLoadOn k m mode load (fresh_start k) l) count is
+
+  pub ran : (first : Plain) (r : Result RunEnd NoMemory) → ThreadsRan (λ j. catalogue_of load) first ws ws' hears held held' sink_rose r → ThreadsRan (opened_at load (fresh_start n)) first ws ws' hears held held' sink_rose r
+  ran first r x = subst (λ (b : ℕ → List ℕ). ThreadsRan b first ws ws' hears held held' sink_rose r) (sym (fresh_opened n load)) x
+
+  pub gave : (result : Result RunEnd NoMemory) → RanInThreads m mode load ws ws' hears held held' sink_rose result → Gave n m mode load (fresh_start n) ws ws' hears held held' sink_rose result
+  gave (Ok e) x = concluded n m mode load threads (fresh_start n) fresh sound x.first (loaded x.first.load x.load_is) ws ws' hears held held' sink_rose e (ran x.first (Ok e) x.ran)
+  gave (Err no_memory) (inl x) = inl (cut n m mode load threads (fresh_start n) fresh sound x.first (loaded x.first.load x.load_is) ws ws' hears held held' sink_rose (ran x.first (Err no_memory) x.ran))
   gave (Err no_memory) (inr none) = inr none
 
 -- ---- anchors, in a run in which no disk failed
 
-module _ {D : Type 0} {G : Ghosts D} (only_now : OnlyNow G) (n m : ℕ) (mode : LogMode) (load : Workload) (threads : load.turns ≡ None) (sound : IsSoundLoad load) (first : Plain) (load_is : IsLoadOf n m mode load first.load) (ws ws' : List (Writer D G)) (hears : Type 0) (held held' : List ℕ)
-    (sink_rose : Type 0) (old mid new : List D) (many : n ≤ length old) (streams : AreOpened G n (catalogue_of load) old mid ws) (back : new ≡ map disk_of ws' ++ mid) (e : RunEnd) (r : ThreadsEnded (λ j. catalogue_of load) first ws ws' hears held held' sink_rose e) (none : e.disk ≡ None) where
-  abbrev t : CameTo (chosen_by load.turns n m load) n m mode load ws ws' r.acks
-  t = came_to n m mode load threads sound first load_is ws ws' r.state r.acks r.came
+module _ {D : Type 0} {G : Ghosts D} (only_now : OnlyNow G) (n m : ℕ) (mode : LogMode) (load : Workload) (threads : load.turns ≡ None) (sound : IsSoundLoad load) (first : Plain) (load_is : IsLoadOn n m mode load (fresh_start n) first.load) (ws ws' : List (Writer D G)) (hears : Type 0) (held held' : List ℕ)
+    (sink_rose : Type 0) (old mid new : List D) (many : n ≤ length old) (streams : AreOpened G n (catalogue_of load) old mid ws) (back : new ≡ map disk_of ws' ++ mid) (e : RunEnd) (r : ThreadsEnded (opened_at load (fresh_start n)) first ws ws' hears held held' sink_rose e) (none : e.disk ≡ None) where
+  abbrev begins : IsStart (format_of mode) n load (fresh_start n)
+  begins = fresh_begins (format_of mode) n load
+
+  abbrev t : CameTo (chosen_by load.turns n m load) n m mode load (fresh_start n) ws ws' r.acks
+  t = came_to n m mode load threads (fresh_start n) begins sound first load_is ws ws' r.state r.acks r.came
 
   going : (j : ℕ) → j < n → (t.state.streams j).stop ≡ None
-  going = subst (λ (o : Option ℕ). IsLowestStopped n t.state o) none (lowest n m mode load threads sound first load_is ws ws' r.state r.acks r.came e.disk r.disk)
+  going = subst (λ (o : Option ℕ). IsLowestStopped n t.state o) none (lowest n m mode load threads (fresh_start n) begins sound first load_is ws ws' r.state r.acks r.came e.disk r.disk)
 
-  is : IsRunOf n first.load r.came.closed.joined (at.end n m mode load first load_is sound r.state ws ws' r.acks r.came) (catalogue_of load) t.run
+  is : IsRunOf n first.load r.came.closed.joined (at.end n m mode load (fresh_start n) first begins load_is sound r.state ws ws' r.acks r.came) load t.run
   is =
-      subst (λ (s : Core). IsRunOf n first.load r.came.closed.joined s (catalogue_of load) t.run) (state_at n m mode load threads sound first load_is ws ws' r.state r.acks r.came)
-      (subst (λ (K : List (Act Txn)). IsRunOf n first.load K t.state (catalogue_of load) t.run) (joined_at n m mode load threads sound first load_is ws ws' r.state r.acks r.came)
-      (subst (λ (l : Load). IsRunOf n l t.joined t.state (catalogue_of load) t.run) (load_at n m mode load threads sound first load_is ws ws' r.state r.acks r.came) t.is))
+      subst (λ (s : Core). IsRunOf n first.load r.came.closed.joined s load t.run) (state_at n m mode load threads (fresh_start n) begins sound first load_is ws ws' r.state r.acks r.came)
+      (subst (λ (K : List (Act Txn)). IsRunOf n first.load K t.state load t.run) (joined_at n m mode load threads (fresh_start n) begins sound first load_is ws ws' r.state r.acks r.came)
+      (subst (λ (l : Load). IsRunOf n l t.joined t.state load t.run) (load_at n m mode load threads (fresh_start n) begins sound first load_is ws ws' r.state r.acks r.came) t.is))
 
   -- what a stop now may leave of a used disk has them in their distance
   pub spaced : (j : ℕ) (x : List ℕ) → j < n → Now G.tells G.may_leave old new j x → HasSpaced (format_of mode) n j load x
   spaced j x lt now =
-      let whole = to.whole_now only_now n m mode load ws ws' r.acks t old mid new many streams back (over n m mode load threads sound first load_is ws ws' r.state r.acks r.came r.done) going j x lt now in
+      let whole = to.whole_now only_now n m mode load ws ws' r.acks t old mid new many streams back (over n m mode load threads (fresh_start n) begins sound first load_is ws ws' r.state r.acks r.came r.done) going j x lt now in
       let content = some_at t.run.contents j (let a = t.is.streams in omega (arith, lt, a)) in
       let same : slice_index_or t.run.contents j [] ≡ content.0 = get_or_from_slice_get t.run.contents j content.0 [] content.1 in
-      let working = works n m mode load threads sound first load_is ws ws' r.state r.acks r.came going in (
+      let working = works n m mode load threads (fresh_start n) begins sound first load_is ws ws' r.state r.acks r.came going in (
         content.0,
         subst (λ (b : List ℕ). HasContent (format_of mode) n j b x) same whole,
-        apart.thread_spaced n m mode load first load_is sound r.state ws ws' r.acks r.came r.done working (subst (λ (k : ℕ). AreApart (λ j. catalogue_of load) k r.state) load_is.streams (r.apart working)) t.run is j content.0 lt content.1,
+        apart.thread_spaced n m mode load first load_is sound r.state ws ws' r.acks r.came r.done working (subst (λ (k : ℕ). AreApart (opened_at load (fresh_start n)) k r.state) load_is.streams (r.apart working)) t.run t.begins is j content.0 lt content.1,
       )

@@ -1,4 +1,4 @@
--- What a run on open streams gives, by turns or in threads: if it went to its end, and if it was out of memory before.
+-- What a run gives that begins so, on open streams, by turns or in threads: if it went to its end, and if it was out of memory before.
 use Rattle.std.specs.Prelude.{ℕ, ◌<◌, ◌≡◌, ◌⊎◌, Bool, true, None, List, map, length, take, Result, Ok, Err}
 use Rattle.tau_base.specs.declared.value.LogMode.{LogMode}
 use Rattle.tau_base.specs.declared.value.NoMemory.{NoMemory}
@@ -15,15 +15,16 @@ use Rattle.tau_core.specs.View.{setting_of}
 use Rattle.tau_run.specs.StopsLeave.{IsOver}
 use Rattle.tau_run.specs.Run.{AllAcked}
 use Rattle.tau_run.specs.RunFacts.{chosen_by}
+use Rattle.tau_run.specs.Start.{Start}
 use Rattle.tau_step.specs.Came.{CameTo, came_far}
 use Rattle.tau_step.specs.RunTold.{IsLowestStopped, fates_by}
 use Rattle.tau_step.specs.Telling.{Heard}
 
-module _ {D : Type 0} {G : Ghosts D} (n m : ℕ) (mode : LogMode) (load : Workload) (ws ws' : List (Writer D G)) (hears : Type 0) (held held' : List ℕ) (sink_rose : Type 0) where
+module _ {D : Type 0} {G : Ghosts D} (n m : ℕ) (mode : LogMode) (load : Workload) (start : Start) (ws ws' : List (Writer D G)) (hears : Type 0) (held held' : List ℕ) (sink_rose : Type 0) where
   -- to its end, with what it tells
   pub record Concluded (end : RunEnd) : Type 0 where
     pub acks : List (ℕ × List ℕ)
-    pub came : CameTo (chosen_by load.turns n m load) n m mode load ws ws' acks
+    pub came : CameTo (chosen_by load.turns n m load) n m mode load start ws ws' acks
     pub whole : chosen_by load.turns n m load true came.stands_on came.opening (came_far came)
     pub over : IsOver n came.state
     pub complete : ((j : ℕ) → j < n → (came.state.streams j).stop ≡ None) → AllAcked load came.run
@@ -38,7 +39,7 @@ module _ {D : Type 0} {G : Ghosts D} (n m : ℕ) (mode : LogMode) (load : Worklo
   -- so far as memory was there: the first acknowledgements were told
   pub record CutOff : Type 0 where
     pub acks : List (ℕ × List ℕ)
-    pub came : CameTo (chosen_by load.turns n m load) n m mode load ws ws' acks
+    pub came : CameTo (chosen_by load.turns n m load) n m mode load start ws ws' acks
     pub count : ℕ
     pub sink_failed : Bool
     pub heard : hears → Heard held (take count acks) sink_failed held'

@@ -24,6 +24,8 @@ use Rattle.tau_report.specs.Lines.{line}
 use Rattle.tau_report.specs.Report.{ack_lines}
 use Rattle.tau_run.specs.Run.{Committed, acts, means, has_ack}
 use Rattle.tau_run.specs.RecoveredFacts.{IsRecovered, takes}
+use Rattle.tau_open.specs.Outside.{calls_to_open}
+use Rattle.tau_run.specs.Start.{fresh_start}
 use Rattle.tau_run.specs.RunFacts as ending
 use Rattle.tau_run.specs.RunFacts.{RunFacts, chosen_by, turns_of}
 use Rattle.tau_step.specs.Device.{IsDeviceOrder}
@@ -115,8 +117,8 @@ module _ {D : Type 0} (G : Ghosts D) where
   pub record IsRehearsed (n m : ℕ) (load : Workload) (old new : List D) (wrote : List ℕ → Type 0) : Type 0 where
     pub failed : Option ℕ
     pub ends : EndsAt n old new failed
-    pub facts : RunFacts (chosen_by load.turns n m load) n m Values load (Unit {0}) (Now G.tells G.may_leave old new) (Now G.tells G.may_leave old new) (RoseAt G.faults old new) ⊥
-        (λ j k. Made G.number G.short old new j k) (λ text. Unit {0}) (λ j. []) (ending_by failed)
+    pub facts : RunFacts (chosen_by load.turns n m load) n m Values load (fresh_start n) (Unit {0}) (Now G.tells G.may_leave old new) (Now G.tells G.may_leave old new) (RoseAt G.faults old new) ⊥
+        (λ j. calls_to_open) (λ j k. Made G.number G.short old new j k) (λ text. Unit {0}) (λ j. []) (ending_by failed)
     pub acked : wrote (ack_lines facts.run.acks)
 
 -- ---- what it tells

@@ -8,6 +8,7 @@ use Rattle.tau_disk.specs.Used.{EachUsed, RoseAt, IsFirstLong, OnlyRead, AllCall
 use Rattle.tau_open.specs.Outside.{calls_to_open}
 use Rattle.tau_text.specs.declared.load.Workload.{Workload}
 use Rattle.tau_run.specs.RunFacts.{WroteFront, chosen_by, RunFacts}
+use Rattle.tau_run.specs.Start.{fresh_start}
 use Rattle.tau_engine.specs.declared.status.Status.{Status}
 use Rattle.tau_engine.specs.declared.status.Status.TheVariants as status
 use Rattle.tau_engine.specs.DiskFacts.{DisksWorked, HasSpaced, Past, Now, AreUnborn, NotEarlier, NextClean, IsRefused, ending_of}
@@ -17,8 +18,8 @@ use Rattle.tau_engine.specs.Outside.{Wrote, FailsTold, ends_run}
 module _ {D : Type 0} (G : Ghosts D) (n m : ℕ) (mode : LogMode) (load : Workload) (old new : List D) (hears : Type 0) (held held' : List ℕ) (faults faults' : ℕ) (answer : Status) where
   -- one history, of which all is that was written, that stops may leave and that is acknowledged
   abbrev pub SaysFacts : Type 0
-  SaysFacts = RunFacts (chosen_by load.turns n m load) n m mode load (AreUnborn G.tells G.may_leave old n) (Past G.tells G.moment G.may_leave_since old new) (Now G.tells G.may_leave old new) (RoseAt G.faults old new) (Rose faults faults')
-      (λ j k. G.tells → Made G.number G.short old new j k) (Wrote hears held held') (λ j. fault_text (status.DiskFault j)) (ending_of answer)
+  SaysFacts = RunFacts (chosen_by load.turns n m load) n m mode load (fresh_start n) (AreUnborn G.tells G.may_leave old n) (Past G.tells G.moment G.may_leave_since old new) (Now G.tells G.may_leave old new) (RoseAt G.faults old new) (Rose faults faults')
+      (λ j. calls_to_open) (λ j k. G.tells → Made G.number G.short old new j k) (Wrote hears held held') (λ j. fault_text (status.DiskFault j)) (ending_of answer)
 
   -- the disks were at most read, and the line of the refusal was written
   abbrev pub SaysRefused : Type 0

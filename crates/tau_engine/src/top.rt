@@ -21,6 +21,7 @@ ghost use Rattle.tau_words.specs.declared.command.Ending.{Ending};
 ghost use Rattle.tau_engine.specs.Served.{served, used_by, reads_source, writes_at_end};
 ghost use Rattle.tau_text.specs.declared.load.Workload.{Workload};
 ghost use Rattle.tau_run.specs.RunFacts.{chosen_by, RunFacts};
+ghost use Rattle.tau_run.specs.Start.{fresh_start};
 ghost use Rattle.tau_open.specs.Outside.{calls_to_open};
 ghost use Rattle.tau_engine.specs.DiskFacts.{DisksWorked, HasSpaced, Past, Now, AreUnborn, NotEarlier, NextClean, ending_of};
 ghost use Rattle.tau_engine.specs.Fault.{fault_text, is_refusal};
@@ -115,8 +116,8 @@ pub fn taurus<R: Threads + Wait + Sync, S: Source, K: Sink + Send, D: Disk + Sen
     // A run has one history, of which its report, the images that stops may leave and its acknowledgements are, however it ends.
     ensures run { (n m : ℕ) (mode : LogMode) (load : Workload) → served (map string_bytes words.now) ≡ Some (Command.Run n m mode) →
         S.tells → HasWorkload (S.left source.old) load → AreEmpty D.tells D.seen disks.old.items n →
-        RunFacts (chosen_by load.turns n m load) n m mode load (AreUnborn D.tells D.may_leave disks.old.items n) (Past D.tells D.moment D.may_leave_since disks.old.items disks.new.items) (Now D.tells D.may_leave disks.old.items disks.new.items)
-        (RoseAt D.faults disks.old.items disks.new.items) (Rose (K.faults sink.old) (K.faults sink.new)) (λ j k. D.tells → Made D.number D.short disks.old.items disks.new.items j k)
+        RunFacts (chosen_by load.turns n m load) n m mode load (fresh_start n) (AreUnborn D.tells D.may_leave disks.old.items n) (Past D.tells D.moment D.may_leave_since disks.old.items disks.new.items) (Now D.tells D.may_leave disks.old.items disks.new.items)
+        (RoseAt D.faults disks.old.items disks.new.items) (Rose (K.faults sink.old) (K.faults sink.new)) (λ j. calls_to_open) (λ j k. D.tells → Made D.number D.short disks.old.items disks.new.items j k)
         (Wrote K.tells (K.held sink.old) (K.held sink.new)) (λ j. fault_text (Status.DiskFault j)) (ending_of result) }
 
     // In threads, if the run went to its end and no disk failed, the anchors that are read of each used disk stand in their

@@ -27,17 +27,16 @@ use Rattle.tau_scan.specs.Taken.{Kept, kept_in}
 use Rattle.tau_run.specs.Run.{Committed, Run, acts, records_in, has_ack}
 use Rattle.tau_run.specs.Start.{opened_at}
 use Rattle.tau_run.specs.RecoveredFacts.{takes}
-use Rattle.tau_run.specs.CoreRun.{IsRunOf, IsCourse}
+use Rattle.tau_run.specs.CoreRun.{IsRunOf}
 use Rattle.tau_run.specs.StopsLeave.{HasFront}
 use Rattle.tau_run.proofs.Closed.{Behind, behind}
 use Rattle.tau_run.proofs.Each.{one_content}
-use Rattle.tau_run.proofs.History.{acts_are, ack_of}
+use Rattle.tau_run.proofs.History.{acts_are, ack_of, is_set}
 use Rattle.tau_run.proofs.Lists.{any_member}
 use Rattle.tau_run.proofs.Logs.{LogOf, length_at}
 use Rattle.tau_run.proofs.Order.{apart, history, once, there}
 use Rattle.tau_run.proofs.Recovered.{CutLog, cut_log, cuts_log, records_are}
-use Rattle.tau_run.proofs.Sound.{set_is, anchored, sound}
-use Rattle.tau_run.proofs.Streams.{IsRead, kept_append, whole_read}
+use Rattle.tau_run.proofs.Streams.{IsRead, kept_append, whole_read, IsDeclaredCourse, anchored}
 use Rattle.tau_run.proofs.Taken.{takes_is}
 use Rattle.tau_run.proofs.CommittedTold.{act_of, number_of, one_of_number, apart_reordered}
 use Rattle.tau_base.proofs.Lists.{some_at, got_within}
@@ -49,13 +48,13 @@ answered E a = Ok a
 ok_is : {A : Type 0} (E : Type 0) (a b : A) → answered E a ≡ answered E b → a ≡ b
 ok_is E a b e = cc e
 
-module _ (n m : ℕ) (mode : LogMode) (load : Workload) (l : Load) (K : List (Act Txn)) (s : Core) (run : Run) (c : IsCourse n m mode load run.start l K s) (is : IsRunOf n l K s load run) where
+module _ (n m : ℕ) (mode : LogMode) (load : Workload) (l : Load) (K : List (Act Txn)) (s : Core) (run : Run) (c : IsDeclaredCourse n m mode load run.start l K s) (is : IsRunOf n l K s load run) where
   -- ---- the whole contents
 
   whole_at : (j : ℕ) (content : List ℕ) → slice_get run.contents j ≡ Some content → (more : List Placed) × IsRead l load run.start K n j content more × (kept_in j more ≡ records_in l.mode load run j)
   whole_at j content e =
       let lt : j < n = subst (λ (k : ℕ). j < k) is.streams (got_within run.contents j content e) in
-      let w = whole_read n l load run.start c.begins K s j lt c.room c.load_is.streams (anchored n m mode load l K s run c j lt) (sound n m mode load l K s run c) content (is.given j content e) in
+      let w = whole_read n l load run.start c.begins K s j lt c.room c.load_is.streams (anchored n m mode load run.start l c.begins c.load_is j lt) c.sound content (is.given j content e) in
       (w.0, w.1, w.2 ∙ sym (records_are n m mode load l K s run c is j))
 
   whole_log : LogOf l load run.start K s c.inv n c.load_is.streams run.contents
@@ -86,7 +85,7 @@ module _ (n m : ℕ) (mode : LogMode) (load : Workload) (l : Load) (K : List (Ac
   -- an act of the run is that of a committed call
   pub act_there : (x : Act Committed) → Member x (acts load.declarations.procs run) → (t : Act Txn) × Member t K × (act_of t ≡ x)
   act_there x q =
-      let w = member_mapped act_of x H (subst (λ (xs : List (Act Committed)). Member x xs) (acts_are (setting_of l) K s c.inv n m load run (set_is n m mode load l K s run c) is.calls) q) in
+      let w = member_mapped act_of x H (subst (λ (xs : List (Act Committed)). Member x xs) (acts_are (setting_of l) K s c.inv n m load run (is_set n m mode load run.start l c.begins.count c.load_is) is.calls) q) in
       (w.0, there (setting_of l) K s c.inv w.0 w.1, w.2)
 
   -- a number that is acknowledged
@@ -139,7 +138,7 @@ module _ (n m : ℕ) (mode : LogMode) (load : Workload) (l : Load) (K : List (Ac
           λ up. taken t.0 t.1 (law.0 (ap (λ (y : Act Committed). updates y.effect) t.2 ∙ up)) x t.2,
           λ u d up.
               (let w : Behind H x u = behind H (apart_reordered K H (apart (setting_of l) K s c.inv) (once (setting_of l) K s c.inv)) x u
-              (subst (λ (xs : List (Act Committed)). Depends xs x u) (acts_are (setting_of l) K s c.inv n m load run (set_is n m mode load l K s run c) is.calls) d) in
+              (subst (λ (xs : List (Act Committed)). Depends xs x u) (acts_are (setting_of l) K s c.inv n m load run (is_set n m mode load run.start l c.begins.count c.load_is) is.calls) d) in
               let late_there = there (setting_of l) K s c.inv w.late w.late_there in
               let early_there = there (setting_of l) K s c.inv w.early w.early_there in
               let late : w.late ≡ t.0 = one_act w.late t.0 late_there t.1 (ap (λ (y : Act Committed). y.call.number) (w.late_is ∙ sym t.2)) in

@@ -31,15 +31,14 @@ use Rattle.tau_core.specs.View.{setting_of, worker_of}
 use Rattle.tau_core.specs.Pieces.{Spelled}
 use Rattle.tau_run.specs.Run.{Committed, Run, told_of, pair_of, vector_of, has_ack}
 use Rattle.tau_run.specs.Start.{opened_at}
-use Rattle.tau_run.specs.CoreRun.{IsRunOf, IsCourse}
+use Rattle.tau_run.specs.CoreRun.{IsRunOf}
 use Rattle.tau_run.specs.StopsLeave.{HasFront, IsOver}
 use Rattle.tau_run.proofs.Acked.{acked_there}
 use Rattle.tau_run.proofs.Cuts.{take_within}
 use Rattle.tau_run.proofs.Lists.{map_member, any_true}
 use Rattle.tau_run.proofs.Order.{apart, history, there}
 use Rattle.tau_run.proofs.Spelled.{spelled_long}
-use Rattle.tau_run.proofs.Sound.{anchored, sound}
-use Rattle.tau_run.proofs.Streams.{front_first}
+use Rattle.tau_run.proofs.Streams.{front_first, IsDeclaredCourse, anchored}
 use Rattle.tau_run.proofs.CommittedTold.{number_of, one_of_number}
 use Rattle.tau_base.proofs.Lists.{some_at}
 use Rattle.tau_model.proofs.Assembling.{member_mapped}
@@ -69,7 +68,7 @@ lv_low : (up : Bool) (p : Place) (w : List ℕ) → AtMost p.dep w → (up ≡ t
 lv_low true p w low past = set_low p.dep w p.stream p.past low (past refl)
 lv_low false p w low past = low
 
-module _ (n m : ℕ) (mode : LogMode) (load : Workload) (l : Load) (K : List (Act Txn)) (s : Core) (run : Run) (c : IsCourse n m mode load run.start l K s) (is : IsRunOf n l K s load run) where
+module _ (n m : ℕ) (mode : LogMode) (load : Workload) (l : Load) (K : List (Act Txn)) (s : Core) (run : Run) (c : IsDeclaredCourse n m mode load run.start l K s) (is : IsRunOf n l K s load run) where
   call_there : (c : Committed) → Member c run.calls → (t : Act Txn) × Member t K × (told_of t ≡ c)
   call_there d q =
       let w = member_mapped told_of d (history (setting_of l) K s c.inv) (subst (λ (cs : List Committed). Member d cs) is.calls q) in
@@ -154,7 +153,7 @@ module _ (n m : ℕ) (mode : LogMode) (load : Workload) (l : Load) (K : List (Ac
         let chain : Chain (length first) items (slice_index s.ends j) = chain_append (length first) (slice_index s.gathered j) (slice_index s.ends j) (s.streams j).moved g.waiting g.moved g.rest in
         let w = take_within (s.streams j).moved g.waiting f.count in
         let spelled : Spelled l (λ i. (s.streams i).anchors) (take w.0 items) bytes = subst (λ (xs : List Item). Spelled l (λ i. (s.streams i).anchors) xs bytes) w.1 f.spelled in
-        let front = front_first n l load run.start c.begins K s j lt c.room c.load_is.streams (anchored n m mode load l K s run c j lt) (sound n m mode load l K s run c) h.0 g w.0 bytes spelled in
+        let front = front_first n l load run.start c.begins K s j lt c.room c.load_is.streams (anchored n m mode load run.start l c.begins c.load_is j lt) c.sound h.0 g w.0 bytes spelled in
         let all : length h.0 ≡ slice_index s.ends j = ap length g.is ∙ length-append first g.bytes ∙ spelled_long l (λ i. (s.streams i).anchors) (length first) (slice_index s.ends j) items g.bytes g.spelled chain in
         let size : length (first ++ bytes) ≡ length first + length bytes = length-append first bytes in
         let persisted = over.persisted j lt going in

@@ -15,7 +15,7 @@ use Rattle.tau_record.specs.Content.{anchors_of}
 use Rattle.tau_core.specs.declared.state.Load.{Load}
 use Rattle.tau_core.specs.Opens.{IsFresh}
 use Rattle.tau_scan.specs.Reading.{first_undeclared, IsReading}
-use Rattle.tau_scan.specs.Sound.{fresh_log}
+use Rattle.tau_scan.specs.Sound.{fresh_log, IsSound}
 use Rattle.tau_epoch_laws.specs.Continues.{none_in}
 use Rattle.tau_epoch_laws.proofs.Fresh.{fresh_sound}
 use Rattle.tau_run.specs.Start.{fresh_start, catalogue_of, opened_with, old_at, opened_at, IsStart}
@@ -52,6 +52,9 @@ fresh_begins f n load =
       small = omega arith;
       places = zeros_are n;
     }
+
+pub fresh_is_sound : (f : Format) (n : ℕ) → IsSound f (fresh_start n).old (fresh_start n).log (fresh_start n).base
+fresh_is_sound f n = fresh_sound f n
 
 empty_at : (n j : ℕ) → slice_index_or {A = List ℕ} (replicate n []) j [] ≡ []
 empty_at zero j = refl

@@ -33,3 +33,4 @@ pub mod Sources
 pub mod Start
 pub mod Fresh
 pub mod Waits
+pub mod NotBegun

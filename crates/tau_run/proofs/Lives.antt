@@ -42,6 +42,8 @@ use Rattle.tau_run.proofs.Order.{history, there}
 use Rattle.tau_run.proofs.Reading.{kept_of}
 use Rattle.tau_run.proofs.Recovered.{CutLog, left_log}
 use Rattle.tau_run.proofs.Results.{images_law}
+use Rattle.tau_run.proofs.Sound.{declared}
+use Rattle.tau_run.proofs.Streams.{IsDeclaredCourse}
 use Rattle.tau_run.proofs.Taken.{taken_are, takes_is}
 
 abbrev done : {A : Type 0} → A → Result A LogFault
@@ -89,8 +91,11 @@ module _ (f : Format) (n : ℕ) (old : List (List ℕ)) (log : Log) (base : Db) 
       subst (λ (g : Log). IsSound f x.contents g (exec (means x.load.declarations.procs) (filter (takes g) x.run.calls) x.run.start.base)) log_same one in
       subst (λ (d : Db). IsSound f x.contents x.log (exec (means x.load.declarations.procs) (taken_calls x) d)) same_base two
 
-  cut : CutLog n x.workers x.mode x.load life.stands_on life.joined life.state x.run life.course life.is x.images
-  cut = left_log n x.workers x.mode x.load life.stands_on life.joined life.state x.run life.course life.is x.images life.count life.left
+  abbrev course : IsDeclaredCourse n x.workers x.mode x.load x.run.start life.stands_on life.joined life.state
+  course = declared n x.workers x.mode x.load life.stands_on life.joined life.state x.run life.course
+
+  cut : CutLog n x.workers x.mode x.load life.stands_on life.joined life.state x.run course life.is x.images
+  cut = left_log n x.workers x.mode x.load life.stands_on life.joined life.state x.run course life.is x.images life.count life.left
 
   cut_contents : cut.contents ≡ x.contents
   cut_contents = ok_is cut.contents x.contents (sym (subst (λ (k : Format). contents_of k x.images ≡ Ok cut.contents) own_format cut.have) ∙ life.have)

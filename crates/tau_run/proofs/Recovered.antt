@@ -38,21 +38,20 @@ use Rattle.tau_epoch_laws.proofs.Stays.{stays_sound}
 use Rattle.tau_run.specs.Start.{old_at, opened_at}
 use Rattle.tau_run.specs.Run.{Committed, Run, means, records_in, record_of}
 use Rattle.tau_run.specs.RecoveredFacts.{takes, IsRecovered}
-use Rattle.tau_run.specs.CoreRun.{IsGiven, IsRunOf, IsCourse}
+use Rattle.tau_run.specs.CoreRun.{IsGiven, IsRunOf}
 use Rattle.tau_run.specs.StopsLeave.{IsLeft}
 use Rattle.tau_run.proofs.Asked.{asked_same}
 use Rattle.tau_run.proofs.Begins.{old_within}
 use Rattle.tau_run.proofs.CommittedTold.{act_of}
 use Rattle.tau_run.proofs.Cuts.{take_within}
 use Rattle.tau_run.proofs.Each.{EachOk, each_ok, image_opened}
-use Rattle.tau_run.proofs.History.{acts_are}
+use Rattle.tau_run.proofs.History.{acts_are, is_set}
 use Rattle.tau_run.proofs.Lists.{filter_map}
 use Rattle.tau_run.proofs.Logs.{LogOf, log_of_them}
 use Rattle.tau_run.proofs.Marks.{news_none}
 use Rattle.tau_run.proofs.Order.{history}
 use Rattle.tau_run.proofs.Reading.{kept_of}
-use Rattle.tau_run.proofs.Sound.{set_is, anchored, sound}
-use Rattle.tau_run.proofs.Streams.{AreSound, IsRead, kept_append, front_read, old_read, front_first, stands_after}
+use Rattle.tau_run.proofs.Streams.{IsRead, kept_append, front_read, old_read, front_first, stands_after, IsDeclaredCourse, anchored}
 use Rattle.tau_run.proofs.Taken.{stream_low, held_of, in_some_order, is_closed, all_redo}
 use Rattle.tau_base.proofs.Lists.{some_at, got_within}
 
@@ -82,7 +81,7 @@ map_twice : (mode : LogMode) (ts : List (Act Txn)) → map (record_of mode) (map
 map_twice mode [] = refl
 map_twice mode (t ∷ ts) = ap (λ (ks : List Kept). kept_of mode t ∷ ks) (map_twice mode ts)
 
-module _ (n m : ℕ) (mode : LogMode) (load : Workload) (l : Load) (K : List (Act Txn)) (s : Core) (run : Run) (c : IsCourse n m mode load run.start l K s) (is : IsRunOf n l K s load run) where
+module _ (n m : ℕ) (mode : LogMode) (load : Workload) (l : Load) (K : List (Act Txn)) (s : Core) (run : Run) (c : IsDeclaredCourse n m mode load run.start l K s) (is : IsRunOf n l K s load run) where
   abbrev f : Format
   f = format_of l.mode
 
@@ -91,9 +90,6 @@ module _ (n m : ℕ) (mode : LogMode) (load : Workload) (l : Load) (K : List (Ac
 
   abbrev first : ℕ → List ℕ
   first j = opened_at load run.start j
-
-  declared_all : AreSound l load K
-  declared_all = sound n m mode load l K s run c
 
   given_at : (j : ℕ) → j < n → IsGiven l K s j (first j) (whole_of j)
   given_at j lt =
@@ -107,7 +103,7 @@ module _ (n m : ℕ) (mode : LogMode) (load : Workload) (l : Load) (K : List (Ac
       let j : ℕ = t.call.place.stream in
       let lt : j < n = stream_low (setting_of l) K s c.inv l.mode n c.load_is.streams t q up in
       let mine : Member t (records_of_stream j K) = member_of (λ (u : Act Txn). updates u.effect && u.call.place.stream == j) t K q (and_from (updates t.effect) (j == j) up (eq-eqb j j refl)) in
-      let high = stands_after n l load run.start c.begins K s j lt c.room c.load_is.streams (anchored n m mode load l K s run c j lt) declared_all (whole_of j) (given_at j lt) t mine in
+      let high = stands_after n l load run.start c.begins K s j lt c.room c.load_is.streams (anchored n m mode load run.start l c.begins c.load_is j lt) c.sound (whole_of j) (given_at j lt) t mine in
       let low = old_within f n load run.start c.begins j in
       omega (arith, low, high)
 
@@ -117,11 +113,11 @@ module _ (n m : ℕ) (mode : LogMode) (load : Workload) (l : Load) (K : List (Ac
 
   pub cut_read : (j : ℕ) → j < n → (content : List ℕ) → IsCut j content → (more : List Placed) × IsRead l load run.start K n j content more
   cut_read j lt content (inl e) =
-      ([], subst (λ (z : List ℕ). IsRead l load run.start K n j z []) (sym e) (old_read n l load run.start c.begins K s j lt c.room c.load_is.streams (anchored n m mode load l K s run c j lt) declared_all (whole_of j) (given_at j lt)))
+      ([], subst (λ (z : List ℕ). IsRead l load run.start K n j z []) (sym e) (old_read n l load run.start c.begins K s j lt c.room c.load_is.streams (anchored n m mode load run.start l c.begins c.load_is j lt) c.sound (whole_of j) (given_at j lt)))
   cut_read j lt content (inr cut) =
       let g = given_at j lt in
       let w = take_within (s.streams j).moved g.waiting cut.1 in
-      let r = front_read n l load run.start c.begins K s j lt c.room c.load_is.streams (anchored n m mode load l K s run c j lt) declared_all (whole_of j) g w.0 cut.0
+      let r = front_read n l load run.start c.begins K s j lt c.room c.load_is.streams (anchored n m mode load run.start l c.begins c.load_is j lt) c.sound (whole_of j) g w.0 cut.0
       (subst (λ (items : List Item). Spelled l (λ i. (s.streams i).anchors) items cut.0) w.1 cut.3) in
       (r.0, subst (λ (z : List ℕ). IsRead l load run.start K n j z r.0) (sym cut.2) r.1)
 
@@ -131,7 +127,7 @@ module _ (n m : ℕ) (mode : LogMode) (load : Workload) (l : Load) (K : List (Ac
   cut_first j lt content (inr cut) =
       let g = given_at j lt in
       let w = take_within (s.streams j).moved g.waiting cut.1 in
-      let r = front_first n l load run.start c.begins K s j lt c.room c.load_is.streams (anchored n m mode load l K s run c j lt) declared_all (whole_of j) g w.0 cut.0
+      let r = front_first n l load run.start c.begins K s j lt c.room c.load_is.streams (anchored n m mode load run.start l c.begins c.load_is j lt) c.sound (whole_of j) g w.0 cut.0
       (subst (λ (items : List Item). Spelled l (λ i. (s.streams i).anchors) items cut.0) w.1 cut.3) in
       inr (r.0, r.1, cut.2 ∙ r.2)
 
@@ -140,13 +136,13 @@ module _ (n m : ℕ) (mode : LogMode) (load : Workload) (l : Load) (K : List (Ac
   records_are j =
       let H : List (Act Txn) = history (setting_of l) K s c.inv in
       let law = (reported_theorem (setting_of l) K s c.inv K (reordered_itself K)).2 j in
-      ap (λ (xs : List (Act Committed)). map (record_of l.mode) (filter (in_it j) xs)) (acts_are (setting_of l) K s c.inv n m load run (set_is n m mode load l K s run c) is.calls)
+      ap (λ (xs : List (Act Committed)). map (record_of l.mode) (filter (in_it j) xs)) (acts_are (setting_of l) K s c.inv n m load run (is_set n m mode load run.start l c.begins.count c.load_is) is.calls)
       ∙ ap (map (record_of l.mode)) (filter_map act_of (in_it j) (λ t. in_it j (act_of t)) H (λ t q. refl)) ∙ map_twice l.mode (records_of_stream j H) ∙ ap (map (kept_of l.mode)) law
 
   -- contents that were cut so make a log
   pub cuts_log : (contents : List (List ℕ)) → length contents ≡ n → ((j : ℕ) (content : List ℕ) → slice_get contents j ≡ Some content → (more : List Placed) × IsRead l load run.start K n j content more) →
       LogOf l load run.start K s c.inv n c.load_is.streams contents
-  cuts_log contents long each = log_of_them l load run.start n c.begins K s c.inv c.load_is.streams declared_all stands contents long each
+  cuts_log contents long each = log_of_them l load run.start n c.begins K s c.inv c.load_is.streams c.sound stands contents long each
 
   -- images whose contents were cut so have a log
   pub record CutLog (images : List (List ℕ)) : Type 0 where
@@ -213,7 +209,7 @@ module _ (n m : ℕ) (mode : LogMode) (load : Workload) (l : Load) (K : List (Ac
       let log : Log = cut.made.log in
       let more : List (List Placed) = cut.made.more in
       let at_j : (j : ℕ) → j < n → (content : List ℕ) × (slice_get cut.contents j ≡ Some content) = λ j lt. some_at cut.contents j (subst (λ (q : ℕ). j < q) (sym cut.long) lt) in
-      let set = set_is n m mode load l K s run c in
+      let set = is_set n m mode load run.start l c.begins.count c.load_is in
       let base : Db = exec (means load.declarations.procs) (filter (takes log) run.calls) run.start.base in
       record {
         log = log;

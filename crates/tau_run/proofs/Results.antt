@@ -14,7 +14,7 @@ use Rattle.tau_run.proofs.Acked.{whole, acked_taken}
 use Rattle.tau_run.proofs.Ended.{acked_is, all_acked_of, uncovered_is, flushed_is, opened_is}
 use Rattle.tau_run.proofs.Complete.{committed_there}
 use Rattle.tau_run.proofs.Recovered.{recovered}
-use Rattle.tau_run.proofs.Sound.{history_is}
+use Rattle.tau_run.proofs.Sound.{declared, history_is}
 use Rattle.tau_run.proofs.RunExists.{run_there}
 
 pub run_law : RunIsThere
@@ -25,7 +25,7 @@ history_law n m mode load l K s run c is = history_is n m mode load l K s run c 
 
 pub contents_law : ContentsAreRecords
 contents_law n m mode load l K s run c is =
-    let w = whole n m mode load l K s run c is in (
+    let w = whole n m mode load l K s run (declared n m mode load l K s run c) is in (
       w.0,
       subst (λ (k : LogMode). log_of_contents (format_of k) run.contents ≡ Ok w.0) c.load_is.mode_is w.1,
       λ j lt. w.2 j lt ∙ ap (λ (k : LogMode). kept_in j (slice_index_or run.start.log.streams j []) ++ records_in k load run j) c.load_is.mode_is,
@@ -34,17 +34,17 @@ contents_law n m mode load l K s run c is =
 pub images_law : ImagesAreRecovered
 images_law n m mode load l K s run c is ok images count left =
     subst (λ (k : LogMode). IsRecovered n k load run images) c.load_is.mode_is
-    (recovered n m mode load l K s run c is (subst (λ (k : LogMode). IsSound (format_of k) run.start.old run.start.log run.start.base) (sym c.load_is.mode_is) ok) images count left)
+    (recovered n m mode load l K s run (declared n m mode load l K s run c) is (subst (λ (k : LogMode). IsSound (format_of k) run.start.old run.start.log run.start.base) (sym c.load_is.mode_is) ok) images count left)
 
 pub acked_law : AckedIsTaken
-acked_law n m mode load l K s run c is images count present log reads x q e = acked_taken n m mode load l K s run c is images count present log reads x q e
+acked_law n m mode load l K s run c is images count present log reads x q e = acked_taken n m mode load l K s run (declared n m mode load l K s run c) is images count present log reads x q e
 
 pub ends_law : EndsWell
 ends_law n m mode load l K s run c is over = (
-  λ d q. acked_is n m mode load l K s run c is over d q,
-  λ d q j lt gap. uncovered_is n m mode load l K s run c is over d q j lt gap,
-  λ j lt going image bytes f reach. flushed_is n m mode load l K s run c is over j lt going image bytes f reach,
-  λ j content e. opened_is n m mode load l K s run c is over j content e,
+  λ d q. acked_is n m mode load l K s run (declared n m mode load l K s run c) is over d q,
+  λ d q j lt gap. uncovered_is n m mode load l K s run (declared n m mode load l K s run c) is over d q j lt gap,
+  λ j lt going image bytes f reach. flushed_is n m mode load l K s run (declared n m mode load l K s run c) is over j lt going image bytes f reach,
+  λ j content e. opened_is n m mode load l K s run (declared n m mode load l K s run c) is over j content e,
 )
 
 pub lost_law : NothingIsLost
@@ -52,4 +52,4 @@ lost_law n m mode load l K s run c is opening events led keep wait over going k 
     let w = wait k low high in
     let rest = over.done going w.0 in
     let t = committed_there (setting_of l) opening events K s led c.inv keep k w.0 w.1 (over.rests w.0) rest.0 rest.1 in
-    subst (λ (i : ℕ). has_ack run i ≡ true) t.2 (all_acked_of n m mode load l K s run c is over going t.0 t.1)
+    subst (λ (i : ℕ). has_ack run i ≡ true) t.2 (all_acked_of n m mode load l K s run (declared n m mode load l K s run c) is over going t.0 t.1)

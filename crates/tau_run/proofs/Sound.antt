@@ -24,19 +24,15 @@ use Rattle.tau_text.specs.declared.load.Workload.{Workload}
 use Rattle.tau_txn.specs.Record.{entry_of}
 use Rattle.tau_core.specs.declared.state.Load.{Load}
 use Rattle.tau_core.specs.View.{setting_of}
-use Rattle.tau_base.specs.Modes.{format_of}
-use Rattle.tau_record.specs.declared.entry.Placed.{Placed}
-use Rattle.tau_record.specs.Content.{anchors_of}
 use Rattle.tau_scan.specs.Reading.{has_row, is_declared, is_of_table}
 use Rattle.tau_run.specs.Run.{Run, ends, IsHistory}
 use Rattle.tau_run.specs.Start.{opened_at}
 use Rattle.tau_run.specs.CoreRun.{IsRunOf, IsCourse}
 use Rattle.tau_run.proofs.Declared.{call_named}
-use Rattle.tau_run.proofs.Begins.{streams_wide}
-use Rattle.tau_run.proofs.History.{IsSet, index_mapped, is_set, is_history}
+use Rattle.tau_run.proofs.History.{IsSet, is_set, is_history}
 use Rattle.tau_run.proofs.Logs.{length_at}
 use Rattle.tau_run.proofs.Spelled.{spelled_long}
-use Rattle.tau_run.proofs.Streams.{AreSound}
+use Rattle.tau_run.proofs.Streams.{AreSound, IsDeclaredCourse}
 use Rattle.tau_base.proofs.Lists.{some_at}
 
 -- each act of a trace did what its call means on some database
@@ -46,14 +42,8 @@ traced procs (c ∷ ts) db t (inl e) = (db, sym (ap (λ (x : Act Txn). x.effect)
 traced procs (c ∷ ts) db t (inr m) = traced procs ts (written (meaning procs c.call.call db).writes db) t m
 
 module _ (n m : ℕ) (mode : LogMode) (load : Workload) (l : Load) (K : List (Act Txn)) (s : Core) (run : Run) (c : IsCourse n m mode load run.start l K s) where
-  pub set_is : IsSet n m load run.start (setting_of l)
+  set_is : IsSet n m load run.start (setting_of l)
   set_is = is_set n m mode load run.start l c.begins.count c.load_is
-
-  -- each stream was opened with the anchors that it had
-  pub anchored : (j : ℕ) → j < n → slice_index l.opening.anchors.items j ≡ length (anchors_of (slice_index_or run.start.log.streams j []))
-  anchored j lt =
-      ap (λ (v : List ℕ). slice_index v j) c.load_is.anchors
-      ∙ index_mapped (λ (ps : List Placed). length (anchors_of ps)) run.start.log.streams [] j (let e = streams_wide (format_of l.mode) n load run.start c.begins in omega (arith, e, lt))
 
   pub sound : AreSound l load K
   sound = record { catalogue = record { short = c.sound.short; bytes = c.sound.bytes; read = c.sound.read }; declared = λ t q up. by_mode l.mode t q }
@@ -76,6 +66,9 @@ module _ (n m : ℕ) (mode : LogMode) (load : Workload) (l : Load) (K : List (Ac
       by_mode Commands t q = call_taken t q
       by_mode WideValues t q = rows_named t q
       by_mode WideCommands t q = call_taken t q
+
+  abbrev pub declared : IsDeclaredCourse n m mode load run.start l K s
+  declared = record { room = c.room; begins = c.begins; load_is = c.load_is; sound = sound; inv = c.inv; waits = c.waits }
 
   module _ (is : IsRunOf n l K s load run) where
     -- the contents are as long as the streams

@@ -26,8 +26,13 @@ use Rattle.tau_core.specs.Pieces.{Names, Spelled}
 use Rattle.tau_scan.specs.Reading.{or_none, declared_by, is_declared, first_undeclared, undeclared, records_of, catalogue_of as text_in}
 use Rattle.tau_scan.specs.Taken.{Kept, kept_as, kept_in}
 use Rattle.tau_run.specs.Start.{Start, old_at, opened_at, IsStart}
-use Rattle.tau_run.specs.CoreRun.{IsGiven}
-use Rattle.tau_run.proofs.Begins.{given_placed, given_kept, first_kept, read_at, empty_or_declared, opened_content, opened_text, opened_declared, opened_anchors, opened_long, old_within}
+use Rattle.tau_run.specs.CoreRun.{IsLoadOn, IsGiven}
+use Rattle.tau_run.proofs.History.{index_mapped}
+use Rattle.tau_base.specs.declared.value.LogMode.{LogMode}
+use Rattle.tau_base.specs.Vectors.{AtMost}
+use Rattle.tau_machine.specs.Invariant.{Invariant}
+use Rattle.tau_core.specs.View.{setting_of}
+use Rattle.tau_run.proofs.Begins.{streams_wide, given_placed, given_kept, first_kept, read_at, empty_or_declared, opened_content, opened_text, opened_declared, opened_anchors, opened_long, old_within}
 use Rattle.tau_run.proofs.Cuts.{ends_by, Taken, chain_none, chain_take}
 use Rattle.tau_run.proofs.Spelled.{entry_in, placed_in, AreOf, spelled_long}
 use Rattle.tau_run.proofs.Reading.{kept_of, AreDeclared, IsCatalogue, kept_items, items_declared, declared_append, content_read, read_again}
@@ -94,6 +99,22 @@ take_map {B = B} f (x ∷ xs) (suc k) = ap (λ (l : List B). f x ∷ l) (take_ma
 pub record AreSound (l : Load) (load : Workload) (K : List (Act Txn)) : Type 0 where
   pub catalogue : IsCatalogue load
   pub declared : (t : Act Txn) → Member t K → updates t.effect ≡ true → is_declared load.declarations (entry_of l.mode t) ≡ true
+
+-- a course whose calls name what is declared
+pub record IsDeclaredCourse (n m : ℕ) (mode : LogMode) (load : Workload) (start : Start) (l : Load) (K : List (Act Txn)) (s : Core) : Type 0 where
+  pub room : n ≤ most_streams (format_of l.mode)
+  pub begins : IsStart (format_of l.mode) n load start
+  pub load_is : IsLoadOn n m mode load start l
+  pub sound : AreSound l load K
+  pub inv : Invariant (setting_of l) K s
+  pub waits : (t : Act Txn) → Member t K → updates t.effect ≡ true → AtMost start.log.elv t.call.place.dep
+
+-- each stream was opened with the anchors that it had
+pub anchored : (n m : ℕ) (mode : LogMode) (load : Workload) (start : Start) (l : Load) → IsStart (format_of l.mode) n load start → IsLoadOn n m mode load start l → (j : ℕ) → j < n →
+    slice_index l.opening.anchors.items j ≡ length (anchors_of (slice_index_or start.log.streams j []))
+anchored n m mode load start l b at j lt =
+    ap (λ (v : List ℕ). slice_index v j) at.anchors
+    ∙ index_mapped (λ (ps : List Placed). length (anchors_of ps)) start.log.streams [] j (let e = streams_wide (format_of l.mode) n load start b in omega (arith, e, lt))
 
 -- What a content of stream j has after the old records: nothing, and it is the old one; or what the stream is given first,
 -- and these items.

@@ -2,7 +2,10 @@
 use Rattle.std.specs.Prelude.{ℕ, ◌⊎◌, ◌==◌, map, false, ◌++◌, ◌∷◌, ◌<◌, ◌≤◌, ◌+◌, ◌≡◌, ◌↔◌, true, List, [], length, take, slice_get, slice_index, slice_index_or, Some, None, Ok}
 use Rattle.std.specs.List.{filter}
 use Rattle.tau_base.specs.declared.value.LogMode.{LogMode}
-use Rattle.tau_base.specs.Modes.{format_of}
+use Rattle.tau_base.specs.Modes.{format_of, most_streams}
+use Rattle.tau_base.specs.declared.value.Key.{Key}
+use Rattle.tau_base.specs.declared.value.Value.{Value}
+use Rattle.tau_model.specs.Tables.{db_of_rows}
 use Rattle.tau_base.specs.Vectors.{AtMost, covers}
 use Rattle.tau_block.specs.Image.{HasContent}
 use Rattle.tau_model.specs.History.{Act, Member, Depends, exec, updates}
@@ -46,6 +49,14 @@ abbrev pub RunIsThere : Type 0
 RunIsThere = (n m : ℕ) (mode : LogMode) (load : Workload) (p : Plain) (K : List (Act Txn)) (h : Hidden) → Stands p K h → (start : Start) → IsLoadOn n m mode load start p.load →
     length start.old ≡ n →
     (acks : List (ℕ × List ℕ)) → AreAcks p.load (core_of p h) acks → (run : Run) × IsRunOf n p.load K (core_of p h) load run × (run.acks ≡ acks) × (run.start ≡ start)
+
+-- A run may have made nothing, whatever it begins on: then its streams have what they held first, and these rows are those
+-- of its database.
+abbrev pub NothingBegun : Type 0
+NothingBegun = (n m : ℕ) (mode : LogMode) (load : Workload) (start : Start) (rows : List (Key × Value)) → 1 ≤ n → n ≤ most_streams (format_of mode) → 1 ≤ m → IsStart (format_of mode) n load start → IsSoundLoad load →
+    db_of_rows rows ≡ start.base →
+    (l : Load) × (opening : Core) × (run : Run) × IsFirstState l opening × machine.Run (setting_of l) opening [] [] opening × IsCourse n m mode load run.start l [] opening × IsRunOf n l [] opening load run ×
+    (run.start ≡ start) × (run.calls ≡ []) × (run.acks ≡ [])
 
 -- each call of a run that writes waits for all up to the floor with which the run began
 abbrev pub CallsWait : Type 0

@@ -1,5 +1,5 @@
 //! What holds of every run, as functions that do nothing.
-ghost use Rattle.tau_run.specs.Laws.{TextsAreSound, RunIsThere, RunIsHistory, ContentsAreRecords, ImagesAreRecovered, AckedIsTaken, EndsWell, NothingIsLost, TurnsAreARun, LivesAreSound, LivesAreRecovered, LivesAreOne, LeftOutForGood, LivesAreMarked, FreshMarked, FreshBegins, CallsWait};
+ghost use Rattle.tau_run.specs.Laws.{TextsAreSound, RunIsThere, RunIsHistory, ContentsAreRecords, ImagesAreRecovered, AckedIsTaken, EndsWell, NothingIsLost, TurnsAreARun, LivesAreSound, LivesAreRecovered, LivesAreOne, LeftOutForGood, LivesAreMarked, FreshMarked, FreshBegins, CallsWait, NothingBegun};
 
 /// A workload that a text means can be run and logged: its calls and its steps name declared tables alone, and its catalogue can be read again.
 pub fn texts_are_sound()
@@ -9,6 +9,11 @@ pub fn texts_are_sound()
 /// A run may begin on streams that hold nothing.
 pub fn fresh_begins()
     ensures { FreshBegins }
+{}
+
+/// A run may have made nothing, whatever it begins on.
+pub fn nothing_begun()
+    ensures { NothingBegun }
 {}
 
 /// A core that stands has made a run.

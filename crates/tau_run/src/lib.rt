@@ -5,6 +5,6 @@ mod laws;
 
 pub use laws::{
     acked_is_taken, calls_wait, contents_are_records, ends_well, fresh_begins,
-    images_are_recovered, left_out_for_good, lives_are_marked, lives_are_sound, nothing_is_lost,
-    run_is_history, run_is_there, texts_are_sound, turns_are_a_run,
+    images_are_recovered, left_out_for_good, lives_are_marked, lives_are_sound, nothing_begun,
+    nothing_is_lost, run_is_history, run_is_there, texts_are_sound, turns_are_a_run,
 };
