@@ -82,7 +82,7 @@ module _ {D : Type 0} {G : Ghosts D} (n m : ℕ) (mode : LogMode) (load : Worklo
   pub led : machine.Run (setting_of l) (core_of first nothing) came.events K s × KeepCalls came.events × AreAcks l s came.told
   led = turns_law (setting_of l) m n (turns_of load) (core_of first nothing) P opening_is (either_run whole n m load l (core_of first nothing) P by_turns)
 
-  begun : IsFirstState l (core_of first nothing)
+  pub begun : IsFirstState l (core_of first nothing)
   begun = subst (λ (x : Load). IsFirstState x (core_of first nothing)) (sym came.load) (started first.load first opened)
 
   pub course : IsCourse n m mode load start l K s
@@ -101,7 +101,7 @@ module _ {D : Type 0} {G : Ghosts D} (n m : ℕ) (mode : LogMode) (load : Worklo
   abbrev run : Run
   run = there.0
 
-  own_course : IsCourse n m mode load run.start l K s
+  pub own_course : IsCourse n m mode load run.start l K s
   own_course = subst (λ (b : Start). IsCourse n m mode load b l K s) (sym there.3) course
 
   abbrev stops : ℕ → Option ℕ

@@ -124,7 +124,7 @@ module _ {D : Type 0} {G : Ghosts D} (only_now : OnlyNow G) (n m : ℕ) (load : 
         facts = record {
           run = run;
           begins = t.begins;
-      history = history_law n m Values load l t.joined s run t.course t.is;
+          history = history_law n m Values load l t.joined s run t.course t.is;
           stops = λ i. (s.streams i).stop;
           core = inl core;
           stopped = at_leaves.stopped;
