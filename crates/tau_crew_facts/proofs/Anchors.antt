@@ -1,8 +1,8 @@
 -- The anchors that are read of what a stream was given are those of its manager, and stand in their distance.
-use Rattle.std.proofs.Common.{ℕ, ◌<◌, Bool, true, ◌≡◌, List, [], ◌∷◌, ◌++◌, map, length, refl, sym, ap, subst, ◌∙◌, arith, slice_index}
+use Rattle.std.proofs.Common.{ℕ, ◌<◌, Bool, true, ◌≡◌, List, [], ◌∷◌, ◌++◌, map, length, drop, refl, sym, ap, subst, ◌∙◌, arith, slice_index}
 use Rattle.std.specs.Prelude.{Some, Ok, slice_get, slice_index_or}
-use Rattle.std.proofs.lemmas.Bool.{and_parts, eqb-true}
-use Rattle.std.proofs.lemmas.List.{append-nil, length-append}
+use Rattle.std.proofs.lemmas.List.{length-append}
+use Rattle.std.proofs.Math.Seq.{drop-append_seam}
 use Rattle.tau_base.specs.Modes.{format_of}
 use Rattle.tau_base.specs.declared.value.LogMode.{LogMode}
 use Rattle.tau_base.specs.declared.value.LogMode.TheVariants.{Values, Commands, WideValues, WideCommands}
@@ -18,9 +18,8 @@ use Rattle.tau_record.specs.Content.{anchors_of}
 use Rattle.tau_core.specs.declared.state.Load.{Load}
 use Rattle.tau_scan.specs.Reading.{records_of}
 use Rattle.tau_run.specs.Run.{Run}
-use Rattle.tau_run.specs.Start.{Start, fresh_start, catalogue_of, old_at, opened_at}
-use Rattle.tau_run.proofs.Begins.{given_placed, given_anchors, none_at}
-use Rattle.tau_run.proofs.Fresh.{none_there}
+use Rattle.tau_run.specs.Start.{old_at, opened_at}
+use Rattle.tau_run.proofs.Begins.{given_placed, given_anchors}
 use Rattle.tau_record.proofs.Appending.{anchors_appended}
 use Rattle.tau_run.specs.CoreRun.{IsCourse, IsGiven, IsRunOf}
 use Rattle.tau_run.proofs.Spelled.{placed_in, spelled_long}
@@ -36,7 +35,7 @@ anchors_placed WideValues (Record t ∷ items) = anchors_placed WideValues items
 anchors_placed WideCommands (Record t ∷ items) = anchors_placed WideCommands items
 anchors_placed mode (Anchor x y v ∷ items) = ap (λ (vs : List (List ℕ)). v ∷ vs) (anchors_placed mode items)
 
-module _ (n m : ℕ) (mode : LogMode) (load : Workload) (l : Load) (K : List (Act Txn)) (s : Core) (run : Run) (fresh : run.start ≡ fresh_start n) (c : IsCourse n m mode load run.start l K s) (is : IsRunOf n l K s load run) (j : ℕ) (lt : j < n) (content : List ℕ)
+module _ (n m : ℕ) (mode : LogMode) (load : Workload) (l : Load) (K : List (Act Txn)) (s : Core) (run : Run) (c : IsCourse n m mode load run.start l K s) (is : IsRunOf n l K s load run) (j : ℕ) (lt : j < n) (content : List ℕ)
     (there : slice_get run.contents j ≡ Some content) where
   abbrev g : IsGiven l K s j (opened_at load run.start j) content
   g = is.given j content there
@@ -50,16 +49,16 @@ module _ (n m : ℕ) (mode : LogMode) (load : Workload) (l : Load) (K : List (Ac
   abbrev given : List Placed
   given = given_placed load run.start (old_at run.start j)
 
-  no_anchors : anchors_of olds ≡ []
-  no_anchors = ap (λ (b : Start). anchors_of (slice_index_or b.log.streams j [])) fresh ∙ ap anchors_of (none_at (fresh_start n).log.streams j (none_there n))
+  abbrev base : List ℕ
+  base = opened_at load run.start j
 
-  -- the anchors that are read of the content are those of the stream
-  pub anchors_read : (ps : List Placed) × (records_of (format_of l.mode) n content ≡ Ok ps) × (anchors_of ps ≡ (s.streams j).anchors)
+  -- the anchors that are read of the content are the old ones, and then those of this run
+  pub anchors_read : (ps : List Placed) × (records_of (format_of l.mode) n content ≡ Ok ps) × (drop (length (anchors_of olds)) (anchors_of ps) ≡ (s.streams j).anchors)
   anchors_read =
       let placed : List Placed = map (placed_in l.mode) items in (
         olds ++ (given ++ placed),
         whole_records n l load run.start c.begins K s j lt c.room c.load_is.streams (anchored n m mode load run.start l c.begins c.load_is j lt) (sound n m mode load l K s run c) content g,
-        anchors_appended olds (given ++ placed) ∙ ap (λ (v : List (List ℕ)). v ++ anchors_of (given ++ placed)) no_anchors
+        ap (drop (length (anchors_of olds))) (anchors_appended olds (given ++ placed)) ∙ drop-append_seam (anchors_of olds) (anchors_of (given ++ placed))
             ∙ anchors_appended given placed ∙ ap (λ (v : List (List ℕ)). v ++ anchors_of placed) (given_anchors load run.start (old_at run.start j))
             ∙ anchors_placed l.mode items ∙ g.anchors,
       )
@@ -70,18 +69,20 @@ module _ (n m : ℕ) (mode : LogMode) (load : Workload) (l : Load) (K : List (Ac
       ap (length {A = ℕ}) g.is ∙ length-append (opened_at load run.start j) g.bytes ∙ spelled_long l (λ i. (s.streams i).anchors) (length (opened_at load run.start j)) (slice_index s.ends j) items g.bytes g.spelled chain
 
   -- where all is persisted, and the manager kept its distance
-  pub anchors_spaced : slice_index s.plv j ≡ slice_index s.ends j → IsSpacing (length (catalogue_of load)) (slice_index s.plv j) (map (λ (v : List ℕ). slice_index v j) (s.streams j).anchors) → AreSpaced (format_of l.mode) n j (length (catalogue_of load)) content
+  pub anchors_spaced : slice_index s.plv j ≡ slice_index s.ends j → IsSpacing (length base) (slice_index s.plv j) (map (λ (v : List ℕ). slice_index v j) (s.streams j).anchors) →
+      AreSpaced (format_of l.mode) n j (length (anchors_of olds)) (length base) content
   anchors_spaced flushed k =
       let r = anchors_read in
-      let same : map (λ (v : List ℕ). slice_index v j) (anchors_of r.0) ≡ map (λ (v : List ℕ). slice_index v j) (s.streams j).anchors = ap (map (λ (v : List ℕ). slice_index v j)) r.2 in
-      let last : newest (length (catalogue_of load)) (map (λ (v : List ℕ). slice_index v j) (anchors_of r.0)) ≡ newest (length (catalogue_of load)) (map (λ (v : List ℕ). slice_index v j) (s.streams j).anchors) = ap (newest (length (catalogue_of load))) same in
+      let own : List (List ℕ) = drop (length (anchors_of olds)) (anchors_of r.0) in
+      let same : map (λ (v : List ℕ). slice_index v j) own ≡ map (λ (v : List ℕ). slice_index v j) (s.streams j).anchors = ap (map (λ (v : List ℕ). slice_index v j)) r.2 in
+      let last : newest (length base) (map (λ (v : List ℕ). slice_index v j) own) ≡ newest (length base) (map (λ (v : List ℕ). slice_index v j) (s.streams j).anchors) = ap (newest (length base)) same in
       let long = content_long in
       let low = k.low in
       let near = k.near in
       record {
         records = r.0;
         reads = r.1;
-        spaced = subst (λ (xs : List ℕ). Spaced (length (catalogue_of load)) xs) (sym same) k.spaced;
+        spaced = subst (λ (xs : List ℕ). Spaced (length base) xs) (sym same) k.spaced;
         low = omega (arith, last, long, low, flushed);
         near = omega (arith, last, long, near, flushed);
       }

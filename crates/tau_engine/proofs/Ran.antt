@@ -18,12 +18,14 @@ use Rattle.tau_core.specs.declared.state.Load.{Load}
 use Rattle.tau_core.specs.Plain.{PlainStream}
 use Rattle.tau_core.specs.State.{Plain}
 use Rattle.tau_core.specs.View.{setting_of, core_of, stop_in}
-use Rattle.tau_core.specs.Opens.{Opened, nothing}
+use Rattle.tau_core.specs.declared.opening.Opening.{Opening}
+use Rattle.tau_core.specs.Opens.{Opened, load_of, nothing}
+use Rattle.tau_base.proofs.Lists.{length_mapped}
 use Rattle.tau_run.specs.Run.{Run, below, AllAcked}
-use Rattle.tau_run.specs.Start.{Start, fresh_start, catalogue_of, opened_at, IsStart}
+use Rattle.tau_run.specs.Start.{Start, fresh_start, catalogue_of, opened_with, opened_at, IsStart}
 use Rattle.tau_run.proofs.Fresh.{fresh_begins, fresh_opened}
 use Rattle.tau_run.proofs.Waits.{waits_for}
-use Rattle.tau_run.specs.CoreRun.{IsLoadOn, IsFirstState, AreAcks, IsRunOf, IsSoundLoad, IsCourse}
+use Rattle.tau_run.specs.CoreRun.{IsLoadOn, IsOpeningOn, IsFirstState, AreAcks, IsRunOf, IsSoundLoad, IsCourse}
 use Rattle.tau_run.specs.Laws.{KeepCalls, AllWait}
 use Rattle.tau_run.specs.StopsLeave.{IsOver}
 use Rattle.tau_run.specs.RunFacts.{turns_of, IsByTurns, chosen_by}
@@ -33,7 +35,7 @@ use Rattle.tau_run.proofs.Results.{run_law, lost_law}
 use Rattle.tau_run.proofs.Start.{started}
 use Rattle.tau_step.specs.Came.{CameTo}
 use Rattle.tau_step.specs.Progressed.{progress}
-use Rattle.tau_step.specs.RunTold.{Began, Came, CutShort, EachOf, Ended, Left, IsLowestStopped, Ran, RanNew, fates_by}
+use Rattle.tau_step.specs.RunTold.{Began, Came, CutShort, EachOf, Ended, Left, IsLowestStopped, Ran, RanFrom, RanNew, fates_by}
 use Rattle.tau_engine.specs.Came.{Concluded, CutOff, Gave}
 use Rattle.tau_engine.proofs.Chosen.{chosen}
 
@@ -181,6 +183,26 @@ module _ {D : Type 0} {G : Ghosts D} (n m : ℕ) (mode : LogMode) (load : Worklo
     heard = h.heard;
     sink = h.sink;
   }
+
+-- what a core stands on that was opened so
+pub loaded_from : (n m : ℕ) (mode : LogMode) (load : Workload) (start : Start) → IsStart (format_of mode) n load start → (o : Opening) → IsOpeningOn load start o → (l : Load) → l ≡ load_of load.declarations.procs load.calls mode m o →
+    IsLoadOn n m mode load start l
+loaded_from n m mode load start begins o on l is = subst (λ (x : Load). IsLoadOn n m mode load start x) (sym is) (record {
+  procs = refl;
+  calls = refl;
+  mode_is = refl;
+  workers = refl;
+  streams = ap length on.ends ∙ length_mapped (λ (old : List ℕ). length (opened_with load start old)) start.old ∙ begins.count;
+  opening = on;
+})
+
+-- from a given opening, on streams that hold what a run begins on
+module _ {D : Type 0} {G : Ghosts D} (n m : ℕ) (mode : LogMode) (load : Workload) (start : Start) (begins : IsStart (format_of mode) n load start) (sound : IsSoundLoad load) (o : Opening) (on : IsOpeningOn load start o) (ws ws' : List (Writer D G))
+    (hears : Type 0) (held held' : List ℕ) (sink_rose : Type 0) where
+  pub gave_from : (result : Result RunEnd NoMemory) → Began m mode load ws ws' hears held held' sink_rose (RanFrom m mode load ws ws' hears held held' sink_rose o (opened_at load start)) result → Gave n m mode load start ws ws' hears held held' sink_rose result
+  gave_from (Ok e) x = concluded n m mode load start begins sound x.first (loaded_from n m mode load start begins o on x.first.load x.load_is) x.opened ws ws' hears held held' sink_rose e x.ran
+  gave_from (Err no_memory) (inl x) = inl (cut n m mode load start begins sound x.first (loaded_from n m mode load start begins o on x.first.load x.load_is) x.opened ws ws' hears held held' sink_rose x.ran)
+  gave_from (Err no_memory) (inr none) = inr none
 
 -- on streams that were just created
 module _ {D : Type 0} {G : Ghosts D} (n m : ℕ) (mode : LogMode) (load : Workload) (sound : IsSoundLoad load) (ws ws' : List (Writer D G)) (count : length ws ≡ n) (hears : Type 0) (held held' : List ℕ) (sink_rose : Type 0) where

@@ -32,8 +32,8 @@ use Rattle.tau_run.specs.StopsLeave.{IsLeft, Leaves, IsOver}
 use Rattle.tau_run.specs.RunFacts.{Ending, WroteFront, NamesLowest, chosen_by, IsCoreRun, IsCoreRunAt, RunTells, RunFacts}
 use Rattle.tau_run.specs.RunFacts as ending
 use Rattle.tau_run.specs.Turns.{Progress}
-use Rattle.tau_run.proofs.Imaged.{imaged, acknowledged, ended}
-use Rattle.tau_run.proofs.Results.{ends_law, history_law}
+use Rattle.tau_run.proofs.Results.{ends_law}
+use Rattle.tau_step.proofs.Facts as of
 use Rattle.tau_step.specs.Came.{CameTo, came_far}
 use Rattle.tau_step.specs.RunTold.{EachOf, Left, IsLowestStopped, fates_by}
 use Rattle.tau_step.specs.Telling.{Heard}
@@ -72,9 +72,6 @@ module _ {D : Type 0} {G : Ghosts D} (only_now : OnlyNow G) (n m : ℕ) (mode : 
   bases : opened_at load run.start ≡ λ j. catalogue_of load
   bases = ap (opened_at load) t.begins ∙ fresh_opened n load
 
-  olds : old_at run.start ≡ λ j. []
-  olds = ap old_at t.begins ∙ fresh_olds n
-
   pub writers : EachOf (λ j w w'. Left l s j (catalogue_of load) w w') ws ws'
   writers = subst (λ (b : ℕ → List ℕ). EachOf (λ j w w'. Left l s j (b j) w w') ws ws') bases t.writers
 
@@ -82,8 +79,9 @@ module _ {D : Type 0} {G : Ghosts D} (only_now : OnlyNow G) (n m : ℕ) (mode : 
   sound_start = subst (λ (b : Start). IsSound (format_of mode) b.old b.log b.base) (sym t.begins) (fresh_is_sound (format_of mode) n)
 
   -- an image that has nothing, or a front after the catalogue
-  pub as_left : (j : ℕ) (x : List ℕ) → IsLeft n j [] (catalogue_of load) l s x → IsLeft n j (old_at run.start j) (opened_at load run.start j) l s x
-  as_left j x left = subst (λ (a : ℕ → List ℕ). IsLeft n j (a j) (opened_at load run.start j) l s x) (sym olds) (subst (λ (b : ℕ → List ℕ). IsLeft n j [] (b j) l s x) (sym bases) left)
+  as_fresh : (j : ℕ) (x : List ℕ) → IsLeft n j [] (catalogue_of load) l s x → IsLeft n j (old_at (fresh_start n) j) (opened_at load (fresh_start n) j) l s x
+  as_fresh j x left =
+      subst (λ (a : ℕ → List ℕ). IsLeft n j (a j) (opened_at load (fresh_start n) j) l s x) (sym (fresh_olds n)) (subst (λ (b : ℕ → List ℕ). IsLeft n j [] (b j) l s x) (sym (fresh_opened n load)) left)
 
   abbrev stops : ℕ → Option ℕ
   stops j = (s.streams j).stop
@@ -95,47 +93,35 @@ module _ {D : Type 0} {G : Ghosts D} (only_now : OnlyNow G) (n m : ℕ) (mode : 
   stop_low j at e = t.stop_low j at e
 
   pub core_run : (whole : Bool) → by whole l t.opening (came_far t) → IsCoreRun (by whole) n m mode load stops run
-  core_run whole h = record {
-    stands_on = l;
-    load_is = t.course.load_is;
-    opening = t.opening;
-    first = t.first;
-    progress = came_far t;
-    led = t.led;
-    chosen = h;
-    is = t.is;
-    told = t.told;
-    stopped = λ j lt. refl;
-  }
+  core_run whole h = of.core_run by n m mode load (fresh_start n) ws ws' acks t whole h
 
   module _ (old mid new : List D) (many : n ≤ length old) (streams : AreOpened G n (catalogue_of load) old mid ws) (back : new ≡ map disk_of ws' ++ mid) where
     pub all : EachIn (λ j. j < n) (Joined G n (catalogue_of load) l s) old new
     all = joined G n (catalogue_of load) l s old mid new ws ws' streams back writers
 
-    pub at_leaves : Leaves n (old_at run.start) (opened_at load run.start) l s (λ j x. ⊥) (Now G.tells G.may_leave old new) (RoseAt G.faults old new)
-    at_leaves =
-        subst (λ (a : ℕ → List ℕ). Leaves n a (opened_at load run.start) l s (λ j x. ⊥) (Now G.tells G.may_leave old new) (RoseAt G.faults old new)) (sym olds)
-        (subst (λ (b : ℕ → List ℕ). Leaves n (λ j. []) b l s (λ j x. ⊥) (Now G.tells G.may_leave old new) (RoseAt G.faults old new)) (sym bases)
+    fresh_leaves : Leaves n (old_at (fresh_start n)) (opened_at load (fresh_start n)) l s (λ j x. ⊥) (Now G.tells G.may_leave old new) (RoseAt G.faults old new)
+    fresh_leaves =
+        subst (λ (a : ℕ → List ℕ). Leaves n a (opened_at load (fresh_start n)) l s (λ j x. ⊥) (Now G.tells G.may_leave old new) (RoseAt G.faults old new)) (sym (fresh_olds n))
+        (subst (λ (b : ℕ → List ℕ). Leaves n (λ j. []) b l s (λ j x. ⊥) (Now G.tells G.may_leave old new) (RoseAt G.faults old new)) (sym (fresh_opened n load))
         (leaves G n (catalogue_of load) l s streams_are old new many all stop_low))
+
+    pub at_leaves : Leaves n (old_at run.start) (opened_at load run.start) l s (λ j x. ⊥) (Now G.tells G.may_leave old new) (RoseAt G.faults old new)
+    at_leaves = of.own_leaves by n m mode load (fresh_start n) ws ws' acks t (Past G.tells G.moment G.may_leave_since old new) (Now G.tells G.may_leave old new) (RoseAt G.faults old new) fresh_leaves
 
     pub facts : format_of mode ≡ One → (sink_rose : Type 0) (made : ℕ → ℕ → Type 0) (wrote : List ℕ → Type 0) (fault : ℕ → List ℕ) (ending : Ending) → IsCoreRunAt (by) n m mode load stops run ending →
         RunTells (IsEnded n mode load (Now G.tells G.may_leave old new) (RoseAt G.faults old new)) n load stops sink_rose (λ j. calls_to_open) made wrote fault run ending →
         RunFacts (by) n m mode load (fresh_start n) (AreUnborn G.tells G.may_leave old n) (Past G.tells G.moment G.may_leave_since old new) (Now G.tells G.may_leave old new) (RoseAt G.faults old new) sink_rose (λ j. calls_to_open) made wrote fault ending
-    facts narrow sink_rose made wrote fault ending core told = record {
-      run = run;
-      begins = t.begins;
-      history = history_law n m mode load l K s run course t.is;
-      stops = stops;
-      core = core;
-      stopped = at_leaves.stopped;
-      told = told;
-      imaged = imaged n m mode load l K s run course t.is (Past G.tells G.moment G.may_leave_since old new) (Now G.tells G.may_leave old new) (RoseAt G.faults old new) (AreUnborn G.tells G.may_leave old n)
-          (λ u. (sound_start, λ j x lt q. as_left j x (left_since G n (catalogue_of load) l s streams_are old new many all (sym (ap (λ (k : LogMode). format_of k) t.course.load_is.mode_is ∙ narrow)) only_now u j x lt q)));
-      acknowledged = acknowledged n m mode load l K s run course t.is (λ j x. ⊥) (Now G.tells G.may_leave old new) (RoseAt G.faults old new) at_leaves;
-    }
+    facts narrow sink_rose made wrote fault ending core told =
+        of.facts_of by n m mode load (fresh_start n) ws ws' acks t (Past G.tells G.moment G.may_leave_since old new) (Now G.tells G.may_leave old new) (RoseAt G.faults old new) fresh_leaves (AreUnborn G.tells G.may_leave old n)
+        (λ u. (
+          fresh_is_sound (format_of mode) n,
+          λ j x lt q. as_fresh j x (left_since G n (catalogue_of load) l s streams_are old new many all (sym (ap (λ (k : LogMode). format_of k) t.course.load_is.mode_is ∙ narrow)) only_now u j x lt q),
+        ))
+        sink_rose (λ j. calls_to_open) made wrote fault ending core told
 
     pub has_ended : IsOver n s → (((j : ℕ) → j < n → stops j ≡ None) → AllAcked load run) → IsEnded n mode load (Now G.tells G.may_leave old new) (RoseAt G.faults old new) run
-    has_ended over complete = ended n m mode load l K s run course t.is (λ j x. ⊥) (Now G.tells G.may_leave old new) (RoseAt G.faults old new) at_leaves over complete
+    has_ended over complete =
+        of.ended_of by n m mode load (fresh_start n) ws ws' acks t (Past G.tells G.moment G.may_leave_since old new) (Now G.tells G.may_leave old new) (RoseAt G.faults old new) fresh_leaves over complete
 
     -- where no stream was stopped, whatever a stop now may leave has all that the stream was given
     pub whole_now : IsOver n s → ((j : ℕ) → j < n → stops j ≡ None) → (j : ℕ) (x : List ℕ) → j < n → Now G.tells G.may_leave old new j x → HasContent (format_of mode) n j (slice_index_or run.contents j []) x

@@ -26,15 +26,21 @@ use Rattle.tau_core.specs.State.{Plain}
 use Rattle.tau_core.specs.View.{core_of, setting_of}
 use Rattle.tau_run.specs.Run.{AllAcked}
 use Rattle.tau_run.specs.Start.{Start, fresh_start, catalogue_of, opened_at, IsStart}
-use Rattle.tau_run.proofs.Fresh.{fresh_begins, fresh_opened}
-use Rattle.tau_run.specs.CoreRun.{IsLoadOn, IsRunOf, IsSoundLoad}
+use Rattle.tau_record.specs.declared.entry.Placed.{Placed}
+use Rattle.tau_record.specs.Content.{anchors_of}
+use Rattle.tau_run.proofs.Begins.{none_at}
+use Rattle.tau_run.proofs.Fresh.{none_there, fresh_begins, fresh_opened}
+use Rattle.tau_crew_facts.specs.Spacing.{AreSpaced}
+use Rattle.tau_run.specs.CoreRun.{IsLoadOn, IsOpeningOn, IsRunOf, IsSoundLoad}
+use Rattle.tau_core.specs.declared.opening.Opening.{Opening}
+use Rattle.tau_engine.proofs.Ran.{loaded_from}
 use Rattle.tau_run.specs.StopsLeave.{IsOver}
 use Rattle.tau_run.specs.RunFacts.{chosen_by}
 use Rattle.tau_run.specs.Turns.{Progress}
 use Rattle.tau_step.specs.Came.{CameTo, came_far}
 use Rattle.tau_step.specs.RunTold.{IsLowestStopped, fates_by}
 use Rattle.tau_crew_facts.specs.Ends.{AreApart, IsThreadEnd, IsThreadDone}
-use Rattle.tau_crew_facts.specs.Threads.{IsLowestFailed, NoneFailed, RanInThreads, ThreadsEnded, ThreadsRan, ThreadsShort}
+use Rattle.tau_crew_facts.specs.Threads.{IsLowestFailed, NoneFailed, RanInThreads, RanInThreadsFrom, ThreadsEnded, ThreadsRan, ThreadsShort}
 use Rattle.tau_crew_facts.proofs.Came as at
 use Rattle.tau_crew_facts.proofs.Apart as apart
 use Rattle.tau_crew_facts.proofs.Lost as lost
@@ -174,6 +180,14 @@ module _ {D : Type 0} {G : Ghosts D} (n m : ℕ) (mode : LogMode) (load : Worklo
   gave (Err no_memory) (inl x) = inl (cut n m mode load threads (fresh_start n) fresh sound x.first (loaded x.first.load x.load_is) ws ws' hears held held' sink_rose (ran x.first (Err no_memory) x.ran))
   gave (Err no_memory) (inr none) = inr none
 
+-- from a given opening, on streams that hold what a run begins on
+module _ {D : Type 0} {G : Ghosts D} (n m : ℕ) (mode : LogMode) (load : Workload) (threads : load.turns ≡ None) (start : Start) (begins : IsStart (format_of mode) n load start) (sound : IsSoundLoad load) (o : Opening) (on : IsOpeningOn load start o)
+    (ws ws' : List (Writer D G)) (hears : Type 0) (held held' : List ℕ) (sink_rose : Type 0) where
+  pub gave_from : (result : Result RunEnd NoMemory) → RanInThreadsFrom m mode load ws ws' hears held held' sink_rose o (opened_at load start) result → Gave n m mode load start ws ws' hears held held' sink_rose result
+  gave_from (Ok e) x = concluded n m mode load threads start begins sound x.first (loaded_from n m mode load start begins o on x.first.load x.load_is) ws ws' hears held held' sink_rose e x.ran
+  gave_from (Err no_memory) (inl x) = inl (cut n m mode load threads start begins sound x.first (loaded_from n m mode load start begins o on x.first.load x.load_is) ws ws' hears held held' sink_rose x.ran)
+  gave_from (Err no_memory) (inr none) = inr none
+
 -- ---- anchors, in a run in which no disk failed
 
 module _ {D : Type 0} {G : Ghosts D} (only_now : OnlyNow G) (n m : ℕ) (mode : LogMode) (load : Workload) (threads : load.turns ≡ None) (sound : IsSoundLoad load) (first : Plain) (load_is : IsLoadOn n m mode load (fresh_start n) first.load) (ws ws' : List (Writer D G)) (hears : Type 0) (held held' : List ℕ)
@@ -193,6 +207,12 @@ module _ {D : Type 0} {G : Ghosts D} (only_now : OnlyNow G) (n m : ℕ) (mode : 
       (subst (λ (K : List (Act Txn)). IsRunOf n first.load K t.state load t.run) (joined_at n m mode load threads (fresh_start n) begins sound first load_is ws ws' r.state r.acks r.came)
       (subst (λ (l : Load). IsRunOf n l t.joined t.state load t.run) (load_at n m mode load threads (fresh_start n) begins sound first load_is ws ws' r.state r.acks r.came) t.is))
 
+  -- new streams had no anchors, and were opened with the catalogue alone
+  as_fresh : (j : ℕ) (content : List ℕ) → AreSpaced (format_of mode) n j (length (anchors_of (slice_index_or (fresh_start n).log.streams j []))) (length (opened_at load (fresh_start n) j)) content → AreSpaced (format_of mode) n j 0 (length (catalogue_of load)) content
+  as_fresh j content h =
+      let none : length (anchors_of (slice_index_or (fresh_start n).log.streams j [])) ≡ 0 = ap (λ (ps : List Placed). length (anchors_of ps)) (none_at (fresh_start n).log.streams j (none_there n)) in
+      subst (λ (b : ℕ → List ℕ). AreSpaced (format_of mode) n j 0 (length (b j)) content) (fresh_opened n load) (subst (λ (k : ℕ). AreSpaced (format_of mode) n j k (length (opened_at load (fresh_start n) j)) content) none h)
+
   -- what a stop now may leave of a used disk has them in their distance
   pub spaced : (j : ℕ) (x : List ℕ) → j < n → Now G.tells G.may_leave old new j x → HasSpaced (format_of mode) n j load x
   spaced j x lt now =
@@ -202,5 +222,6 @@ module _ {D : Type 0} {G : Ghosts D} (only_now : OnlyNow G) (n m : ℕ) (mode : 
       let working = works n m mode load threads (fresh_start n) begins sound first load_is ws ws' r.state r.acks r.came going in (
         content.0,
         subst (λ (b : List ℕ). HasContent (format_of mode) n j b x) same whole,
-        apart.thread_spaced n m mode load first load_is sound r.state ws ws' r.acks r.came r.done working (subst (λ (k : ℕ). AreApart (opened_at load (fresh_start n)) k r.state) load_is.streams (r.apart working)) t.run t.begins is j content.0 lt content.1,
+        as_fresh j content.0
+            (apart.thread_spaced n m mode load (fresh_start n) first begins load_is sound r.state ws ws' r.acks r.came r.done working (subst (λ (k : ℕ). AreApart (opened_at load (fresh_start n)) k r.state) load_is.streams (r.apart working)) t.run t.begins is j content.0 lt content.1),
       )

@@ -56,4 +56,4 @@ pub record IsRefused {D : Type 0} (n : ℕ) (only_read : D → D → Type 0) (wr
 
 -- the image of stream j has a content in this format, and the anchors that are read of it stand in their distance, the first of them from the catalogue's end
 abbrev pub HasSpaced : Format → ℕ → ℕ → Workload → List ℕ → Type 0
-HasSpaced f n j load x = (content : List ℕ) × HasContent f n j content x × AreSpaced f n j (length (catalogue_of load)) content
+HasSpaced f n j load x = (content : List ℕ) × HasContent f n j content x × AreSpaced f n j 0 (length (catalogue_of load)) content

@@ -91,8 +91,5 @@ fresh_load n m mode load l procs calls mode_is workers streams fresh = record {
   mode_is = mode_is;
   workers = workers;
   streams = streams;
-  rows = ap db_of_rows fresh.rows;
-  floor = fresh.floor;
-  ends = fresh.ends ∙ ends_are load n n;
-  anchors = fresh.anchors ∙ anchors_are n;
+  opening = record { rows = ap db_of_rows fresh.rows; floor = fresh.floor; ends = fresh.ends ∙ ends_are load n n; anchors = fresh.anchors ∙ anchors_are n };
 }

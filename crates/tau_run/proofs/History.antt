@@ -66,8 +66,8 @@ pub is_set : (n m : ℕ) (mode : LogMode) (load : Workload) (start : Start) (l :
 is_set n m mode load start l count is = record {
   procs = is.procs;
   width = is.streams;
-  base = is.rows;
-  opening = λ j lt. ap (λ (v : List ℕ). slice_index v j) is.ends ∙ index_mapped (λ (old : List ℕ). length (opened_with load start old)) start.old [] j (omega (arith, count, lt));
+  base = is.opening.rows;
+  opening = λ j lt. ap (λ (v : List ℕ). slice_index v j) is.opening.ends ∙ index_mapped (λ (old : List ℕ). length (opened_with load start old)) start.old [] j (omega (arith, count, lt));
   call = λ k c e. numbered_call load.calls k c (ap (λ (cs : List Call). call_of cs k) (sym is.calls) ∙ e);
   worker = λ k. ap (λ (w : ℕ). (k - 1) % w) is.workers;
   stream = λ w. ap (λ (k : ℕ). w % k) is.streams;

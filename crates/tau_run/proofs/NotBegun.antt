@@ -61,7 +61,7 @@ module _ (n m : ℕ) (mode : LogMode) (load : Workload) (start : Start) (rows : 
   l = stands_on
 
   pub load_is : IsLoadOn n m mode load start stands_on
-  load_is = record { procs = refl; calls = refl; mode_is = refl; workers = refl; streams = refl; rows = rows_are; floor = refl; ends = refl; anchors = refl }
+  load_is = record { procs = refl; calls = refl; mode_is = refl; workers = refl; streams = refl; opening = record { rows = rows_are; floor = refl; ends = refl; anchors = refl } }
 
   -- a worker that has begun nothing
   abbrev resting_on : List Numbered → Worker

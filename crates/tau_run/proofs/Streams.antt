@@ -113,7 +113,7 @@ pub record IsDeclaredCourse (n m : ℕ) (mode : LogMode) (load : Workload) (star
 pub anchored : (n m : ℕ) (mode : LogMode) (load : Workload) (start : Start) (l : Load) → IsStart (format_of l.mode) n load start → IsLoadOn n m mode load start l → (j : ℕ) → j < n →
     slice_index l.opening.anchors.items j ≡ length (anchors_of (slice_index_or start.log.streams j []))
 anchored n m mode load start l b at j lt =
-    ap (λ (v : List ℕ). slice_index v j) at.anchors
+    ap (λ (v : List ℕ). slice_index v j) at.opening.anchors
     ∙ index_mapped (λ (ps : List Placed). length (anchors_of ps)) start.log.streams [] j (let e = streams_wide (format_of l.mode) n load start b in omega (arith, e, lt))
 
 -- What a content of stream j has after the old records: nothing, and it is the old one; or what the stream is given first,

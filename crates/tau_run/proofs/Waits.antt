@@ -41,4 +41,4 @@ calls_wait l opening events K s run first t m up =
 -- and so for the old log, of a run that begins so
 pub waits_for : (n m : ℕ) (mode : LogMode) (load : Workload) (start : Start) (l : Load) (opening : Core) (events : List Event) (K : List (Act Txn)) (s : Core) → IsLoadOn n m mode load start l → machine.Run (setting_of l) opening events K s →
     IsFirstState l opening → (t : Act Txn) → Member t K → updates t.effect ≡ true → AtMost start.log.elv t.call.place.dep
-waits_for n m mode load start l opening events K s on run first t q up = subst (λ (v : List ℕ). AtMost v t.call.place.dep) on.floor (calls_wait l opening events K s run first t q up)
+waits_for n m mode load start l opening events K s on run first t q up = subst (λ (v : List ℕ). AtMost v t.call.place.dep) on.opening.floor (calls_wait l opening events K s run first t q up)

@@ -10,6 +10,7 @@ use Rattle.tau_machine.specs.Invariant.{Invariant}
 use Rattle.tau_machine.specs.Pieces.{Chain, records_in, anchors_in, NameTheirs, records_of_stream}
 use Rattle.tau_machine.specs.Reports.{reported}
 use Rattle.tau_text.specs.declared.load.Workload.{Workload}
+use Rattle.tau_core.specs.declared.opening.Opening.{Opening}
 use Rattle.tau_core.specs.declared.state.Load.{Load}
 use Rattle.tau_core.specs.Opens.{calls_of}
 use Rattle.tau_core.specs.Pieces.{Spelled}
@@ -30,6 +31,14 @@ use Rattle.tau_record.specs.Content.{anchors_of}
 use Rattle.tau_run.specs.Start.{Start, opened_with, opened_at, IsStart}
 use Rattle.tau_run.specs.Run.{Run, told_of, pair_of}
 
+-- what a core is opened with on streams that begin so: their database, the old lengths as the floor, where each stream ends
+-- after what it was given first, and how many anchors each has
+pub record IsOpeningOn (load : Workload) (start : Start) (o : Opening) : Type 0 where
+  pub rows : db_of_rows o.rows ≡ start.base
+  pub floor : o.floor ≡ start.log.elv
+  pub ends : o.ends ≡ map (λ old. length (opened_with load start old)) start.old
+  pub anchors : o.anchors.items ≡ map (λ ps. length (anchors_of ps)) start.log.streams
+
 -- what the core stands on is this workload, by m workers, over n streams that begin so
 pub record IsLoadOn (n m : ℕ) (mode : LogMode) (load : Workload) (start : Start) (l : Load) : Type 0 where
   pub procs : l.procs ≡ load.declarations.procs
@@ -37,10 +46,7 @@ pub record IsLoadOn (n m : ℕ) (mode : LogMode) (load : Workload) (start : Star
   pub mode_is : l.mode ≡ mode
   pub workers : l.workers ≡ m
   pub streams : l.streams ≡ n
-  pub rows : db_of_rows l.opening.rows ≡ start.base
-  pub floor : l.opening.floor ≡ start.log.elv
-  pub ends : l.opening.ends ≡ map (λ old. length (opened_with load start old)) start.old
-  pub anchors : l.opening.anchors.items ≡ map (λ ps. length (anchors_of ps)) start.log.streams
+  pub opening : IsOpeningOn load start l.opening
 
 -- The state in which a run on this begins: the floor of each shard is that of the opening, and each worker waits on
 -- exactly its calls, ascending.

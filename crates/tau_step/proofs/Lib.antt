@@ -45,3 +45,4 @@ pub mod Begun
 mod Silent
 mod Noting
 mod Ordered
+pub mod Facts
