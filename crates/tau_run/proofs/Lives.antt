@@ -1,7 +1,7 @@
 -- Runs and stops, one after another.
-use Rattle.std.proofs.Common.{ℕ, Bool, true, false, ◌≡◌, ◌⊎◌, inl, inr, List, [], ◌∷◌, ◌++◌, map, Result, Ok, refl, sym, ap, subst, ◌∙◌}
-use Rattle.std.specs.Prelude.{◌&&◌, ◌==◌}
-use Rattle.std.specs.List.{filter, list_any}
+use Rattle.std.proofs.Common.{ℕ, ◌+◌, ◌<◌, Bool, true, false, ◌≡◌, ◌⊎◌, inl, inr, List, [], ◌∷◌, ◌++◌, map, length, Result, Ok, refl, sym, ap, subst, ◌∙◌, arith}
+use Rattle.std.specs.Prelude.{◌&&◌, ◌==◌, ◌^◌, Option, Some}
+use Rattle.std.specs.List.{filter, list_any, AllZip}
 use Rattle.tau_base.specs.declared.format.Format.{Format}
 use Rattle.tau_base.specs.Database.{Db, empty_db, written}
 use Rattle.tau_base.specs.Modes.{format_of}
@@ -20,8 +20,13 @@ use Rattle.tau_record.specs.declared.entry.Placed.{Placed}
 use Rattle.tau_core.specs.View.{setting_of}
 use Rattle.tau_scan.specs.declared.fault.LogFault.{LogFault}
 use Rattle.tau_scan.specs.declared.log.Log.{Log}
-use Rattle.tau_scan.specs.Epochs.{judge_of}
-use Rattle.tau_scan.specs.Reading.{contents_of, log_of_contents}
+use Rattle.tau_scan.specs.Epochs.{judge_of, marks_of}
+use Rattle.tau_epoch.specs.Epochs.{largest}
+use Rattle.tau_record.specs.Vector.{ArePlaces}
+use Rattle.tau_text.specs.declared.load.Workload.{Workload}
+use Rattle.tau_text.specs.Canonical.{declarations_text}
+use Rattle.tau_run.specs.Start.{Start, IsStart}
+use Rattle.tau_scan.specs.Reading.{contents_of, log_of_contents, catalogue_in, IsReading}
 use Rattle.tau_scan.specs.Sound.{IsOrderOver, redo_in, IsSound}
 use Rattle.tau_scan.specs.Taken.{Kept, taken}
 use Rattle.tau_epoch_laws.specs.Continues.{none_in, Continues, news}
@@ -31,7 +36,7 @@ use Rattle.tau_epoch_laws.proofs.Grown.{none_or_some}
 use Rattle.tau_epoch_laws.proofs.Judged.{old_judged}
 use Rattle.tau_epoch_laws.proofs.Parts.{filter_none}
 use Rattle.tau_epoch_laws.proofs.Stays.{none_taken}
-use Rattle.tau_run.specs.Laws.{LivesAreSound, LivesAreRecovered, LivesAreOne, LeftOutForGood, LivesAreMarked}
+use Rattle.tau_run.specs.Laws.{LivesAreSound, LivesAreRecovered, RunsMayGoOn, LivesAreOne, LeftOutForGood, LivesAreMarked}
 use Rattle.tau_run.specs.Lives.{Life, IsLife, AreLives, last_contents, last_log, taken_calls, all_taken, AreMarked}
 use Rattle.tau_run.specs.RecoveredFacts.{takes, IsRecovered}
 use Rattle.tau_run.specs.Run.{Committed, told_of, means}
@@ -154,6 +159,41 @@ module _ (f : Format) (n : ℕ) (old : List (List ℕ)) (log : Log) (base : Db) 
       takes_none : (d : Committed) → taken x.log ≡ [] → takes x.log d ≡ false
       takes_none d e = ap (λ (ks : List Kept). d.logs && list_any (λ (r : Kept). (r.place.stream == d.place.stream) && (r.place.start == d.place.start)) ks) e ∙ both_false d.logs
 
+  -- what came after it declares what this workload does
+  life_catalogue : none_in x.log.streams ⊎ (catalogue_in x.log.streams ≡ Ok (Some (declarations_text x.load.declarations)))
+  life_catalogue = subst (λ (g : Log). none_in g.streams ⊎ (catalogue_in g.streams ≡ Ok (Some (declarations_text x.load.declarations)))) cut_same cut.made.catalogue
+
+  life_read : AllZip (IsReading f n) x.contents x.log.streams
+  life_read =
+      subst (λ (g : Log). AllZip (IsReading f n) x.contents g.streams) cut_same
+      (subst (λ (c : List (List ℕ)). AllZip (IsReading f n) c cut.made.log.streams) cut_contents (subst (λ (k : Format). AllZip (IsReading k n) cut.contents cut.made.log.streams) own_format cut.made.read))
+
+  -- the next run may begin on it
+  module _ (load : Workload) (declares : declarations_text load.declarations ≡ declarations_text x.load.declarations) (small : largest (marks_of x.log) + 1 < 2 ^ 32) (places : ArePlaces x.log.elv) where
+    abbrev on : ℕ → Start
+    on epoch = record { old = x.contents; log = x.log; base = exec (means x.load.declarations.procs) (taken_calls x) base; epoch = epoch }
+
+    begins_on : (epoch : ℕ) → (none_in x.log.streams × (epoch ≡ 0)) ⊎ ((none_in x.log.streams → ⊥) × (epoch ≡ largest (marks_of x.log) + 1)) → epoch < 2 ^ 32 → IsStart f n load (on epoch)
+    begins_on epoch is low =
+        let s = life_sound in
+        let first = s.redone.ordered in
+        record {
+          count = subst (λ (c : List (List ℕ)). length c ≡ n) cut_contents cut.long;
+          reads = s.reads;
+          read = life_read;
+          redone = (first.0, first.1, s.redone.alike first.0 first.1);
+          declared = elim life_catalogue [ inl none ↦ inl none | inr c ↦ inr (c ∙ ap (λ (t : List ℕ). Ok (Some t)) (sym declares)) ];
+          epoch = is;
+          small = low;
+          places = places;
+        }
+
+    pub may_go_on : (start : Start) × IsStart f n load start × (start.old ≡ x.contents) × (start.base ≡ exec (means x.load.declarations.procs) (taken_calls x) base)
+    may_go_on = elim (none_or_some x.log.streams) [
+      | inl none ↦ (on 0, begins_on 0 (inl (none, refl)) (omega arith), refl, refl)
+      | inr some ↦ (on (largest (marks_of x.log) + 1), begins_on (largest (marks_of x.log) + 1) (inr (some, refl)) small, refl, refl)
+    ]
+
 -- ---- any number of them
 
 pub lives_sound : LivesAreSound
@@ -185,6 +225,9 @@ left_out f n old log base sound x xs lives =
     let more = lives_go_on f n old log base sound x xs lives in
     let last = lives_sound f n old log base sound (x ∷ xs) lives in
     (more.0, more.1, λ j i ps e lt. old_judged f old (last_contents old (x ∷ xs)) log more.0 (last_log log (x ∷ xs)) sound.reads sound.fit last.reads more.1 j i ps e lt)
+
+pub runs_go_on : RunsMayGoOn
+runs_go_on f n old log base sound x life load declares small places = may_go_on f n old log base sound x life load declares small places
 
 -- ---- one history
 

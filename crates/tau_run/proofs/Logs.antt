@@ -1,7 +1,7 @@
 -- The log of the contents of all streams, which goes on from the old one.
-use Rattle.std.proofs.Common.{ℕ, ◌≤◌, ◌<◌, true, ◌≡◌, ◌⊎◌, inl, inr, List, [], ◌++◌, map, length, refl, sym, ap, subst, ◌∙◌, arith, slice_index}
+use Rattle.std.proofs.Common.{ℕ, suc, ◌≤◌, ◌<◌, true, ◌≡◌, ◌⊎◌, inl, inr, List, [], ◌∷◌, ◌++◌, map, length, refl, sym, ap, subst, ◌∙◌, arith, slice_index}
 use Rattle.std.specs.Prelude.{Option, Some, None, Result, Ok, slice_get, slice_index_or}
-use Rattle.std.specs.List.{filter}
+use Rattle.std.specs.List.{filter, AllZip}
 use Rattle.std.proofs.lemmas.Option.{get_or_from_slice_get}
 use Rattle.tau_base.specs.Modes.{format_of}
 use Rattle.tau_base.specs.Vectors.{AtMost, covers}
@@ -24,7 +24,7 @@ use Rattle.tau_core.specs.View.{setting_of}
 use Rattle.tau_epoch.specs.Epochs.{Mark}
 use Rattle.tau_scan.specs.declared.log.Log.{Log}
 use Rattle.tau_scan.specs.declared.fault.LogFault.{LogFault}
-use Rattle.tau_scan.specs.Reading.{◌>>=◌, unless, recorded, records_of, streams_of, catalogue_in, declared_in, epoch_fault, declared_by, none_declared, or_none, catalogue_of as text_in, log_of_contents}
+use Rattle.tau_scan.specs.Reading.{◌>>=◌, unless, recorded, records_of, streams_of, catalogue_in, declared_in, epoch_fault, declared_by, none_declared, or_none, catalogue_of as text_in, log_of_contents, IsReading}
 use Rattle.tau_scan.specs.Epochs.{marks_in, marks_from, judge_of}
 use Rattle.tau_scan.specs.Taken.{Kept, kept_in, taken_in}
 use Rattle.tau_scan.proofs.Listed.{stream_plain}
@@ -62,6 +62,15 @@ pub record LogOf (l : Load) (load : Workload) (start : Start) (K : List (Act Txn
   pub all : (j : ℕ) (content : List ℕ) → slice_get contents j ≡ Some content →
       (ms : List Placed) × (slice_get log.streams j ≡ Some (slice_index_or start.log.streams j [] ++ ms)) × IsRead l load start K n j content ms
   pub declared : none_in more ⊎ (log.declarations ≡ load.declarations)
+  pub read : AllZip (IsReading (format_of l.mode) n) contents log.streams
+  pub catalogue : none_in log.streams ⊎ (catalogue_in log.streams ≡ Ok (Some (declarations_text load.declarations)))
+
+-- lists that stand in a relation place by place
+zip_of : {A B : Type 0} (R : A → B → Type 0) (xs : List A) (ys : List B) → length ys ≡ length xs → ((j : ℕ) (x : A) (y : B) → slice_get xs j ≡ Some x → slice_get ys j ≡ Some y → R x y) → AllZip R xs ys
+zip_of R [] [] long all = tt
+zip_of R [] (y ∷ ys) long all = absurd (omega (arith, long))
+zip_of R (x ∷ xs) [] long all = absurd (omega (arith, long))
+zip_of R (x ∷ xs) (y ∷ ys) long all = (all 0 x y refl refl, zip_of R xs ys (omega (arith, long)) (λ j a b e g. all (suc j) a b e g))
 
 abbrev done : List Placed → Result (List Placed) RecordFault
 done ps = Ok ps
@@ -285,8 +294,8 @@ module _ (l : Load) (load : Workload) (start : Start) (n : ℕ) (b : IsStart (fo
     ];
   }
 
-  made : (d : Declarations) → log_of_contents (format_of l.mode) contents ≡ Ok (log_with d) → none_in more ⊎ (d ≡ load.declarations) → LogOf l load start K s inv n width contents
-  made d reads declared = record {
+  made : (d : Declarations) → log_of_contents (format_of l.mode) contents ≡ Ok (log_with d) → none_in more ⊎ (d ≡ load.declarations) → none_in streams.ys ⊎ (catalogue_in streams.ys ≡ Ok (Some text)) → LogOf l load start K s inv n width contents
+  made d reads declared catalogue = record {
     log = log_with d;
     reads = reads;
     elv = refl;
@@ -301,7 +310,17 @@ module _ (l : Load) (load : Workload) (start : Start) (n : ℕ) (b : IsStart (fo
         let r = streams.all j j content h.0 (omega arith) e h.1 in
         (r.0, h.1 ∙ ap (λ (ps : List Placed). Some ps) r.1, r.2));
     declared = declared;
+    read = zip_of (IsReading (format_of l.mode) n) contents streams.ys streams.long (λ j content ps e g. (let r = streams.all j j content ps (omega arith) e g in subst (λ (qs : List Placed). IsReading (format_of l.mode) n content qs) (sym r.1) r.2.reading));
+    catalogue = catalogue;
   }
+
+  nothing_read : ((i : ℕ) (x : Option (List ℕ)) → slice_get (map text_in streams.ys) i ≡ Some x → x ≡ None) → none_in streams.ys
+  nothing_read none = none_of_each streams.ys (λ i ps e.
+      let r = read_of i ps e in
+      elim r.2.2.text [
+        | inl empty ↦ r.2.1 ∙ empty
+        | inr is ↦ absurd (let f : Some text ≡ None = sym is ∙ ap text_in (sym r.2.1) ∙ none i (text_in ps) (map_get text_in streams.ys i ps e) in cc f)
+      ])
 
   nothing_more : ((i : ℕ) (x : Option (List ℕ)) → slice_get (map text_in streams.ys) i ≡ Some x → x ≡ None) → none_in more
   nothing_more none = none_of_each more (λ i ms e.
@@ -322,6 +341,6 @@ module _ (l : Load) (load : Workload) (start : Start) (n : ℕ) (b : IsStart (fo
   log_of_them = elim (one_catalogue 0 text (map text_in streams.ys) texts) [
     | inl e ↦
         let same : declared_by (Some text) ≡ load.declarations = ap or_none sound.catalogue.read in
-        made (declared_by (Some text)) (found (Some text) e) (inr same)
-    | inr e ↦ made none_declared (found None e.0) (inl (nothing_more e.1))
+        made (declared_by (Some text)) (found (Some text) e) (inr same) (inr e)
+    | inr e ↦ made none_declared (found None e.0) (inl (nothing_more e.1)) (inl (nothing_read e.1))
   ]

@@ -23,7 +23,7 @@ use Rattle.tau_record.specs.Content.{IsContent, anchors_of}
 use Rattle.tau_txn.specs.Record.{entry_of}
 use Rattle.tau_core.specs.declared.state.Load.{Load}
 use Rattle.tau_core.specs.Pieces.{Names, Spelled}
-use Rattle.tau_scan.specs.Reading.{or_none, declared_by, is_declared, first_undeclared, undeclared, records_of, catalogue_of as text_in}
+use Rattle.tau_scan.specs.Reading.{or_none, declared_by, is_declared, first_undeclared, undeclared, records_of, catalogue_of as text_in, IsReading}
 use Rattle.tau_scan.specs.Taken.{Kept, kept_as, kept_in}
 use Rattle.tau_run.specs.Start.{Start, old_at, opened_at, IsStart}
 use Rattle.tau_run.specs.CoreRun.{IsLoadOn, IsGiven}
@@ -131,6 +131,7 @@ pub record IsRead (l : Load) (load : Workload) (start : Start) (K : List (Act Tx
   pub firsts : kept_in j more ≡ take count (map (kept_of l.mode) (records_of_stream j K))
   pub text : (slice_index_or start.log.streams j [] ++ more ≡ []) ⊎ (text_in (slice_index_or start.log.streams j [] ++ more) ≡ Some (declarations_text load.declarations))
   pub is_more : IsMore l load start j content more
+  pub reading : IsReading (format_of l.mode) n content (slice_index_or start.log.streams j [] ++ more)
 
 pub kept_append : (j : ℕ) (xs ys : List Placed) → kept_in j (xs ++ ys) ≡ kept_in j xs ++ kept_in j ys
 kept_append j [] ys = refl
@@ -208,6 +209,7 @@ module _ (n : ℕ) (l : Load) (load : Workload) (start : Start) (b : IsStart (fo
         firsts = kept ∙ ap (map (kept_of l.mode)) (q.firsts ∙ ap (take q.count) g.records) ∙ take_map (kept_of l.mode) (records_of_stream j K) q.count;
         text = inr (subst (λ (ps : List Placed). text_in ps ≡ Some (declarations_text load.declarations)) whole text);
         is_more = inr (take i items, refl, (let sum = length-append first bytes in omega (arith, sum)));
+        reading = subst (λ (ps : List Placed). IsReading f n (first ++ bytes) ps) whole (record { spelled = content_is; declared = named_all });
       }
 
   pub front_read : (i : ℕ) (bytes : List ℕ) → Spelled l anchors (take i items) bytes → (more : List Placed) × IsRead l load start K n j (first ++ bytes) more
@@ -225,6 +227,7 @@ module _ (n : ℕ) (l : Load) (load : Workload) (start : Start) (b : IsStart (fo
         firsts = refl;
         text = subst (λ (ps : List Placed). (ps ≡ []) ⊎ (text_in ps ≡ Some (declarations_text load.declarations))) (sym same) (elim (empty_or_declared f n load start b j lt) [ inl e ↦ inl e.1 | inr w ↦ inr w.1 ]);
         is_more = inl (refl, refl);
+        reading = subst (λ (ps : List Placed). IsReading f n (old_at start j) ps) (sym same) r;
       }
 
   -- the whole of it

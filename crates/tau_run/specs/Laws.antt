@@ -1,5 +1,5 @@
 -- What holds of every run, whatever its events.
-use Rattle.std.specs.Prelude.{ℕ, ◌⊎◌, ◌==◌, map, false, ◌++◌, ◌∷◌, ◌<◌, ◌≤◌, ◌+◌, ◌≡◌, ◌↔◌, true, List, [], length, take, slice_get, slice_index, slice_index_or, Some, None, Ok}
+use Rattle.std.specs.Prelude.{ℕ, ◌⊎◌, ◌==◌, map, false, ◌++◌, ◌∷◌, ◌<◌, ◌≤◌, ◌+◌, ◌≡◌, ◌^◌, ◌↔◌, true, List, [], length, take, slice_get, slice_index, slice_index_or, Some, None, Ok}
 use Rattle.std.specs.List.{filter}
 use Rattle.tau_base.specs.declared.value.LogMode.{LogMode}
 use Rattle.tau_base.specs.Modes.{format_of, most_streams}
@@ -33,12 +33,16 @@ use Rattle.tau_run.specs.RecoveredFacts.{takes, IsRecovered}
 use Rattle.tau_base.specs.declared.value.Call.{Call}
 use Rattle.tau_proc.specs.Takes.{takes as takes_call}
 use Rattle.tau_text.specs.Text.{workload_of}
+use Rattle.tau_text.specs.Canonical.{declarations_text}
+use Rattle.tau_record.specs.Vector.{ArePlaces}
+use Rattle.tau_epoch.specs.Epochs.{largest}
+use Rattle.tau_scan.specs.Epochs.{marks_of}
 use Rattle.tau_run.specs.CoreRun.{IsLoadOn, IsFirstState, AreAcks, IsRunOf, IsSoundLoad, IsCourse}
 use Rattle.tau_text.specs.declared.load.Turn.{Turn}
 use Rattle.tau_machine.specs.Runs.{IsOpening}
 use Rattle.tau_run.specs.Turns.{Progress, IsWholeRun, IsPartOfRun}
 use Rattle.tau_run.specs.StopsLeave.{HasFront, IsLeft, IsOver}
-use Rattle.tau_run.specs.Lives.{Life, AreLives, last_contents, last_log, all_taken, exec_lives, AreMarked}
+use Rattle.tau_run.specs.Lives.{Life, IsLife, AreLives, taken_calls, last_contents, last_log, all_taken, exec_lives, AreMarked}
 
 -- a workload that a text means is sound, where its procedures take its calls
 abbrev pub TextsAreSound : Type 0
@@ -131,6 +135,13 @@ LivesAreSound = (f : Format) (n : ℕ) (old : List (List ℕ)) (log : Log) (base
 abbrev pub LivesAreRecovered : Type 0
 LivesAreRecovered = (f : Format) (n : ℕ) (old : List (List ℕ)) (log : Log) (base : Db) → IsSound f old log base → (xs : List Life) → AreLives f n old xs →
     (x : Life) → Member x xs → IsRecovered n x.mode x.load x.run x.images
+
+-- A run may begin on what runs and stops have left, of a workload that declares the same: its database is that of the
+-- calls that are taken. The run's number and the lengths must fit into a record.
+abbrev pub RunsMayGoOn : Type 0
+RunsMayGoOn = (f : Format) (n : ℕ) (old : List (List ℕ)) (log : Log) (base : Db) → IsSound f old log base → (x : Life) → IsLife f n old x →
+    (load : Workload) → declarations_text load.declarations ≡ declarations_text x.load.declarations → largest (marks_of x.log) + 1 < 2 ^ 32 → ArePlaces x.log.elv →
+    (start : Start) × IsStart f n load start × (start.old ≡ x.contents) × (start.base ≡ exec (means x.load.declarations.procs) (taken_calls x) base)
 
 -- all of them are one history, by the procedures that the log declares
 abbrev pub LivesAreOne : Type 0

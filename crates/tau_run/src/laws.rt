@@ -1,5 +1,5 @@
 //! What holds of every run, as functions that do nothing.
-ghost use Rattle.tau_run.specs.Laws.{TextsAreSound, RunIsThere, RunIsHistory, ContentsAreRecords, ImagesAreRecovered, AckedIsTaken, EndsWell, NothingIsLost, TurnsAreARun, LivesAreSound, LivesAreRecovered, LivesAreOne, LeftOutForGood, LivesAreMarked, FreshMarked, FreshBegins, CallsWait, NothingBegun};
+ghost use Rattle.tau_run.specs.Laws.{TextsAreSound, RunIsThere, RunIsHistory, ContentsAreRecords, ImagesAreRecovered, AckedIsTaken, EndsWell, NothingIsLost, TurnsAreARun, LivesAreSound, LivesAreRecovered, RunsMayGoOn, LivesAreOne, LeftOutForGood, LivesAreMarked, FreshMarked, FreshBegins, CallsWait, NothingBegun};
 
 /// A workload that a text means can be run and logged: its calls and its steps name declared tables alone, and its catalogue can be read again.
 pub fn texts_are_sound()
@@ -66,6 +66,7 @@ pub fn turns_are_a_run()
 pub fn lives_are_sound()
     ensures sound { LivesAreSound }
     ensures each { LivesAreRecovered }
+    ensures next { RunsMayGoOn }
     ensures one { LivesAreOne }
 {}
 
