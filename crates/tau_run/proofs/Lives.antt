@@ -1,6 +1,6 @@
 -- Runs and stops, one after another.
 use Rattle.std.proofs.Common.{ℕ, ◌+◌, ◌<◌, Bool, true, false, ◌≡◌, ◌⊎◌, inl, inr, List, [], ◌∷◌, ◌++◌, map, length, Result, Ok, refl, sym, ap, subst, ◌∙◌, arith}
-use Rattle.std.specs.Prelude.{◌&&◌, ◌==◌, ◌^◌, Option, Some}
+use Rattle.std.specs.Prelude.{◌&&◌, ◌==◌, ◌^◌, Some}
 use Rattle.std.specs.List.{filter, list_any, AllZip}
 use Rattle.tau_base.specs.declared.format.Format.{Format}
 use Rattle.tau_base.specs.Database.{Db, empty_db, written}

@@ -1,6 +1,6 @@
 -- A run that has made nothing: its streams have what they held first.
-use Rattle.std.proofs.Common.{ℕ, zero, suc, ◌+◌, ◌<◌, ◌≤◌, ◌≡◌, inl, inr, Bool, true, false, List, [], ◌∷◌, ◌++◌, map, length, refl, sym, ap, subst, ◌∙◌, arith, lt-ltb, slice_index}
-use Rattle.std.specs.Prelude.{Some, None, nat_lt, slice_get}
+use Rattle.std.proofs.Common.{ℕ, ◌+◌, ◌<◌, ◌≤◌, ◌≡◌, inl, inr, Bool, true, false, List, [], map, length, refl, sym, ap, subst, ◌∙◌, arith, lt-ltb}
+use Rattle.std.specs.Prelude.{Some, None, nat_lt}
 use Rattle.std.proofs.Math.Nat.{mod-lt}
 use Rattle.std.proofs.lemmas.List.{append-nil}
 use Rattle.std.proofs.lemmas.Bool.{cases_Bool}
@@ -12,10 +12,9 @@ use Rattle.tau_base.specs.Modes.{format_of, most_streams}
 use Rattle.tau_base.specs.Vectors.{AtMost}
 use Rattle.tau_base.proofs.Lists.{got_mapped, got_or, got_within, length_mapped, map_map}
 use Rattle.tau_base.proofs.Vectors.{at_most_itself, at_most_within}
-use Rattle.tau_model.specs.History.{Act, Member, Numbered}
+use Rattle.tau_model.specs.History.{Member, Numbered}
 use Rattle.tau_model.specs.Tables.{db_of_rows}
 use Rattle.tau_machine.specs.Accounts.{in_worker}
-use Rattle.tau_machine.specs.Hands.{Txn}
 use Rattle.tau_machine.specs.Invariant.{Invariant}
 use Rattle.tau_machine.specs.Reports.{reported}
 use Rattle.tau_machine.specs.Runs.{IsOpening}
@@ -24,20 +23,19 @@ use Rattle.tau_machine.specs.State.{Core}
 use Rattle.tau_machine.specs.Worker.{Worker}
 use Rattle.tau_machine.proofs.Runs.{run_invariant}
 use Rattle.tau_text.specs.declared.load.Workload.{Workload}
-use Rattle.tau_record.specs.declared.entry.Placed.{Placed}
 use Rattle.tau_record.specs.Content.{anchors_of}
 use Rattle.tau_core.specs.declared.state.Load.{Load}
 use Rattle.tau_core.specs.View.{setting_of, call_of, worker_of, from_on}
 use Rattle.tau_core.proofs.Turns.{call_there, once_there, whose_there}
-use Rattle.tau_run.specs.CoreRun.{IsLoadOn, IsFirstState, IsGiven, IsRunOf, IsCourse}
+use Rattle.tau_run.specs.CoreRun.{IsLoadOn, IsFirstState, IsRunOf}
 use Rattle.tau_run.specs.Laws.{NothingBegun}
-use Rattle.tau_run.specs.Run.{Run, ends, told_of, IsHistory}
-use Rattle.tau_run.specs.Start.{Start, opened_with, old_at, opened_at, IsStart}
+use Rattle.tau_run.specs.Run.{Run, told_of, IsHistory}
+use Rattle.tau_run.specs.Start.{Start, opened_with, opened_at, IsStart}
 use Rattle.tau_run.proofs.Begins.{elv_at, elv_wide, old_within}
 use Rattle.tau_run.proofs.History.{is_set, is_history}
 use Rattle.tau_run.proofs.Order.{once}
 use Rattle.tau_run.proofs.Reading.{IsCatalogue}
-use Rattle.tau_run.proofs.Streams.{AreSound, IsDeclaredCourse}
+use Rattle.tau_run.proofs.Streams.{IsDeclaredCourse}
 
 module _ (n m : ℕ) (mode : LogMode) (load : Workload) (start : Start) (rows : List (Key × Value)) (some : 1 ≤ n) (room : n ≤ most_streams (format_of mode)) (workers : 1 ≤ m) (begins : IsStart (format_of mode) n load start)
     (rows_are : db_of_rows rows ≡ start.base) where

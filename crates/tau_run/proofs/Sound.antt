@@ -1,6 +1,6 @@
 -- What committed calls write and name is declared.
-use Rattle.std.proofs.Common.{ℕ, ◌-◌, ◌<◌, true, ◌≡◌, inl, inr, List, [], ◌∷◌, ◌++◌, length, sym, ap, subst, ◌∙◌, arith, slice_index}
-use Rattle.std.specs.Prelude.{◌&&◌, slice_index_or}
+use Rattle.std.proofs.Common.{ℕ, ◌-◌, true, ◌≡◌, inl, inr, List, [], ◌∷◌, ◌++◌, length, sym, ap, subst, ◌∙◌, arith, slice_index}
+use Rattle.std.specs.Prelude.{◌&&◌}
 use Rattle.std.specs.List.{list_all}
 use Rattle.std.proofs.lemmas.Bool.{and_from}
 use Rattle.std.proofs.lemmas.List.{length-map, length-append, get_or_past}

@@ -1,7 +1,6 @@
 -- Each call that writes waits for all that was there when the run began.
 use Rattle.std.proofs.Common.{ℕ, true, ◌≡◌, List, [], ◌∷◌, ◌++◌, sym, ap, subst, ◌∙◌, append_assoc}
 use Rattle.std.proofs.lemmas.List.{append-nil}
-use Rattle.tau_base.specs.declared.value.Key.{Key}
 use Rattle.tau_base.specs.declared.value.LogMode.{LogMode}
 use Rattle.tau_base.specs.Shards.{shard_number}
 use Rattle.tau_base.specs.Vectors.{AtMost}
