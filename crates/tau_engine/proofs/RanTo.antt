@@ -47,7 +47,7 @@ use Rattle.tau_engine.specs.Said.{SaysRun}
 use Rattle.tau_engine.specs.Came.{Concluded, CutOff}
 use Rattle.tau_engine.proofs.Longs.{none_is_long}
 use Rattle.tau_engine.proofs.Reports.{reported_by}
-use Rattle.tau_engine.proofs.Streams.{OnlyNow, Joined, joined, rest_is, left_since, rises, opens_clean, rose_at, clean_below, first_stopped, stopped_late, made_all, leaves}
+use Rattle.tau_engine.proofs.Streams.{OnlyNow, Way, fresh_way, Joined, joined, rest_is, left_since, rises, opens_clean, rose_at, clean_below, first_stopped, stopped_late, made_all, leaves}
 use Rattle.tau_engine.proofs.Texts.{heard_front, whole_text, rest_cut, lines_cut, take_long}
 
 module _ {D : Type 0} {G : Ghosts D} (only_now : OnlyNow G) (n m : ℕ) (mode : LogMode) (load : Workload) (ws ws' : List (Writer D G)) (acks : List (ℕ × List ℕ)) (t : CameTo (chosen_by load.turns n m load) n m mode load (fresh_start n) ws ws' acks) where
@@ -83,6 +83,9 @@ module _ {D : Type 0} {G : Ghosts D} (only_now : OnlyNow G) (n m : ℕ) (mode : 
   as_fresh j x left =
       subst (λ (a : ℕ → List ℕ). IsLeft n j (a j) (opened_at load (fresh_start n) j) l s x) (sym (fresh_olds n)) (subst (λ (b : ℕ → List ℕ). IsLeft n j [] (b j) l s x) (sym (fresh_opened n load)) left)
 
+  abbrev way : Way D
+  way = fresh_way G n (catalogue_of load)
+
   abbrev stops : ℕ → Option ℕ
   stops j = (s.streams j).stop
 
@@ -96,14 +99,14 @@ module _ {D : Type 0} {G : Ghosts D} (only_now : OnlyNow G) (n m : ℕ) (mode : 
   core_run whole h = of.core_run by n m mode load (fresh_start n) ws ws' acks t whole h
 
   module _ (old mid new : List D) (many : n ≤ length old) (streams : AreOpened G n (catalogue_of load) old mid ws) (back : new ≡ map disk_of ws' ++ mid) where
-    pub all : EachIn (λ j. j < n) (Joined G n (catalogue_of load) l s) old new
+    pub all : EachIn (λ j. j < n) (Joined G n way l s) old new
     all = joined G n (catalogue_of load) l s old mid new ws ws' streams back writers
 
     fresh_leaves : Leaves n (old_at (fresh_start n)) (opened_at load (fresh_start n)) l s (λ j x. ⊥) (Now G.tells G.may_leave old new) (RoseAt G.faults old new)
     fresh_leaves =
         subst (λ (a : ℕ → List ℕ). Leaves n a (opened_at load (fresh_start n)) l s (λ j x. ⊥) (Now G.tells G.may_leave old new) (RoseAt G.faults old new)) (sym (fresh_olds n))
         (subst (λ (b : ℕ → List ℕ). Leaves n (λ j. []) b l s (λ j x. ⊥) (Now G.tells G.may_leave old new) (RoseAt G.faults old new)) (sym (fresh_opened n load))
-        (leaves G n (catalogue_of load) l s streams_are old new many all stop_low))
+        (leaves G n way l s streams_are old new many all (λ j. []) stop_low))
 
     pub at_leaves : Leaves n (old_at run.start) (opened_at load run.start) l s (λ j x. ⊥) (Now G.tells G.may_leave old new) (RoseAt G.faults old new)
     at_leaves = of.own_leaves by n m mode load (fresh_start n) ws ws' acks t (Past G.tells G.moment G.may_leave_since old new) (Now G.tells G.may_leave old new) (RoseAt G.faults old new) fresh_leaves
@@ -133,10 +136,10 @@ module _ {D : Type 0} {G : Ghosts D} (only_now : OnlyNow G) (n m : ℕ) (mode : 
         subst (λ (k : LogMode). HasContent (format_of k) n j (slice_index_or run.contents j []) x) t.course.load_is.mode_is (last.2 j lt (going j lt) x p.0 p.1 p.2)
 
     pub rise : AreUnborn G.tells G.may_leave old n → EachUsed (NotEarlier G.tells G.moment) old new n
-    rise unborn = rises G n (catalogue_of load) l s streams_are old new many all unborn
+    rise unborn = rises G n way l s streams_are old new many all unborn
 
     opened_clean : EachUsed (NextClean G.tells G.number G.fails calls_to_open) old new n
-    opened_clean = opens_clean G n (catalogue_of load) l s streams_are old new many all
+    opened_clean = opens_clean G n way l s streams_are old new many all
 
     -- ---- the run went to its end
 
@@ -147,7 +150,7 @@ module _ {D : Type 0} {G : Ghosts D} (only_now : OnlyNow G) (n m : ℕ) (mode : 
     -- the report names none if no count rose
     none_failed : (o : Option ℕ) → IsLowestStopped n s o → ((j : ℕ) → j < n → RoseAt G.faults old new j → ⊥) → o ≡ None
     none_failed None low worked = refl
-    none_failed (Some j) low worked = absurd (worked j low.0 (rose_at G n (catalogue_of load) l s streams_are old new many all j low.1.0 low.0 low.1.1))
+    none_failed (Some j) low worked = absurd (worked j low.0 (rose_at G n way l s streams_are old new many all j low.1.0 low.0 low.1.1))
 
     module _ (narrow : format_of mode ≡ One) (e : RunEnd) (whole : by true l t.opening (came_far t)) (over : IsOver n s) (complete : ((j : ℕ) → j < n → stops j ≡ None) → AllAcked load run) (hears : Type 0) (held held1 held' : List ℕ) (faults faults1 faults' : ℕ) (early : faults ≤ faults1) (late : faults1 ≤ faults')
         (heard : hears → Heard held acks e.sink_failed held1) (sink : e.sink_failed ≡ true → Rose faults faults1) (low : IsLowestStopped n s e.disk) (acks_are : e.report.acks ≡ acks)
@@ -173,7 +176,7 @@ module _ {D : Type 0} {G : Ghosts D} (only_now : OnlyNow G) (n m : ℕ) (mode : 
                 (has_ended over complete, going, complete going, (report_text declared e.report None, report_is None, whole_text hears held held1 held' declared e.report None (heard_by false works) wrote));
             kind = refl;
             disk = λ j f. absurd (cc);
-            clean = λ f. clean_below G n (catalogue_of load) l s streams_are old new many all n (omega arith) going;
+            clean = λ f. clean_below G n way l s streams_are old new many all n (omega arith) going;
             stopped = λ j f tells. absurd (cc);
             told = λ j f tells. absurd (cc);
             sink = λ f. absurd (cc);
@@ -195,14 +198,14 @@ module _ {D : Type 0} {G : Ghosts D} (only_now : OnlyNow G) (n m : ℕ) (mode : 
                 (inl (
                   has_ended over complete,
                   here,
-                  λ i lt. made_all G n (catalogue_of load) l s streams_are old new many all i lt,
+                  λ i lt. made_all G n way l s streams_are old new many all i lt,
                   (report_text declared e.report (Some j), report_is (Some j), whole_text hears held held1 held' declared e.report (Some j) (heard_by false works) wrote),
                 ));
             kind = refl;
-            disk = λ i f. subst (λ (k : ℕ). (k < n) × RoseAt G.faults old new k) (same i f) (here.0, rose_at G n (catalogue_of load) l s streams_are old new many all j here.1.0 here.0 here.1.1);
+            disk = λ i f. subst (λ (k : ℕ). (k < n) × RoseAt G.faults old new k) (same i f) (here.0, rose_at G n way l s streams_are old new many all j here.1.0 here.0 here.1.1);
             clean = λ f. absurd (cc);
-            stopped = λ i f tells. subst (λ (k : ℕ). IsFirstStopped G.tells G.number G.fails G.short old new k) (same i f) (first_stopped G n (catalogue_of load) l s streams_are old new many all j here.1.0 here.0 here.1.1 here.2 tells);
-            told = λ i f tells. inr (subst (λ (k : ℕ). (c : ℕ) × (calls_to_open < c) × Made G.number G.short old new k c) (same i f) (stopped_late G n (catalogue_of load) l s streams_are old new many all j here.1.0 here.0 here.1.1 tells));
+            stopped = λ i f tells. subst (λ (k : ℕ). IsFirstStopped G.tells G.number G.fails G.short old new k) (same i f) (first_stopped G n way l s streams_are old new many all j here.1.0 here.0 here.1.1 here.2 tells);
+            told = λ i f tells. inr (subst (λ (k : ℕ). (c : ℕ) × (calls_to_open < c) × Made G.number G.short old new k c) (same i f) (stopped_late G n way l s streams_are old new many all j here.1.0 here.0 here.1.1 tells));
             sink = λ f. absurd (cc);
             opened = λ f. absurd (cc);
             not_empty = λ i size g. absurd (cc);

@@ -42,7 +42,7 @@ use Rattle.tau_engine.proofs.NotBegun.{told_of_none}
 use Rattle.tau_engine.proofs.Ran as ran
 use Rattle.tau_engine.proofs.RanTo as to
 use Rattle.tau_engine.proofs.Reports.{reported_by, last_is}
-use Rattle.tau_engine.proofs.Streams.{OnlyNow, Joined, clean_below, first_stopped, made_all}
+use Rattle.tau_engine.proofs.Streams.{OnlyNow, fresh_way, Joined, clean_below, first_stopped, made_all}
 
 -- a run of any kind that went to its end, on these writers, where the sink has not failed
 module _ {D : Type 0} {G : Ghosts D} (only_now : OnlyNow G) (n m : ℕ) (load : Workload) (old mid new : List D) (many : n ≤ length old) (ws after : List (Writer D G)) (streams : AreOpened G n (catalogue_of load) old mid ws) (back : new ≡ map disk_of after ++ mid)
@@ -91,14 +91,14 @@ module _ {D : Type 0} {G : Ghosts D} (only_now : OnlyNow G) (n m : ℕ) (load : 
   abbrev streams_are : l.streams ≡ n
   streams_are = t.course.load_is.streams
 
-  all : EachIn (λ j. j < n) (Joined G n (catalogue_of load) l s) old new
+  all : EachIn (λ j. j < n) (Joined G n (fresh_way G n (catalogue_of load)) l s) old new
   all = to.all only_now n m Values load ws after h.acks t old mid new many streams back
 
   -- where no disk failed
   abbrev went_well : IsLowestStopped n s None → IsRehearsed G n m load old new (Wrote hears held held')
   went_well going = record {
     failed = None;
-    ends = clean_below G n (catalogue_of load) l s streams_are old new many all n (omega arith) going;
+    ends = clean_below G n (fresh_way G n (catalogue_of load)) l s streams_are old new many all n (omega arith) going;
     facts = record {
       run = run;
       begins = t.begins;
@@ -120,7 +120,7 @@ module _ {D : Type 0} {G : Ghosts D} (only_now : OnlyNow G) (n m : ℕ) (load : 
       by None going = went_well going
       by (Some j) q = record {
         failed = Some j;
-        ends = (q.0, first_stopped G n (catalogue_of load) l s streams_are old new many all j q.1.0 q.0 q.1.1 q.2 tells);
+        ends = (q.0, first_stopped G n (fresh_way G n (catalogue_of load)) l s streams_are old new many all j q.1.0 q.0 q.1.1 q.2 tells);
         facts = record {
           run = run;
           begins = t.begins;
@@ -131,7 +131,7 @@ module _ {D : Type 0} {G : Ghosts D} (only_now : OnlyNow G) (n m : ℕ) (load : 
           told = inl (
             ended,
             q,
-            λ i lt. (let k = made_all G n (catalogue_of load) l s streams_are old new many all i lt in (k.0, k.1, k.2 tells)),
+            λ i lt. (let k = made_all G n (fresh_way G n (catalogue_of load)) l s streams_are old new many all i lt in (k.0, k.1, k.2 tells)),
             (report_text load.declarations.tables end.report (Some j), reports (Some j), tt),
           );
           imaged = imaged n m Values load l t.joined s run t.course t.is (Now G.tells G.may_leave old new) (Now G.tells G.may_leave old new) (RoseAt G.faults old new) (Unit {0}) (λ u. (sound_start, λ i y lt w. left_now i y lt w));
