@@ -1,15 +1,14 @@
 -- The anchors that are read of what a stream was given are those of its manager, and stand in their distance.
-use Rattle.std.proofs.Common.{ℕ, ◌<◌, Bool, true, ◌≡◌, List, [], ◌∷◌, ◌++◌, map, length, drop, refl, sym, ap, subst, ◌∙◌, arith, slice_index}
+use Rattle.std.proofs.Common.{ℕ, ◌<◌, ◌≡◌, List, [], ◌∷◌, ◌++◌, map, length, drop, refl, sym, ap, subst, ◌∙◌, arith, slice_index}
 use Rattle.std.specs.Prelude.{Some, Ok, slice_get, slice_index_or}
 use Rattle.std.proofs.lemmas.List.{length-append}
 use Rattle.std.proofs.Math.Seq.{drop-append_seam}
 use Rattle.tau_base.specs.Modes.{format_of}
 use Rattle.tau_base.specs.declared.value.LogMode.{LogMode}
 use Rattle.tau_base.specs.declared.value.LogMode.TheVariants.{Values, Commands, WideValues, WideCommands}
-use Rattle.tau_model.specs.History.{Act, Member, updates}
-use Rattle.tau_model.proofs.Logged.{member_filtered}
+use Rattle.tau_model.specs.History.{Act}
 use Rattle.tau_machine.specs.Hands.{Txn}
-use Rattle.tau_machine.specs.Pieces.{Chain, records_in, anchors_in}
+use Rattle.tau_machine.specs.Pieces.{anchors_in}
 use Rattle.tau_machine.specs.State.{Item, Record, Anchor, Core}
 use Rattle.tau_machine.proofs.Pieces.{chain_append}
 use Rattle.tau_text.specs.declared.load.Workload.{Workload}

@@ -1,15 +1,14 @@
 -- No call is lost: each number that a worker accounts for is that of a committed call at the end.
-use Rattle.std.proofs.Common.{ℕ, ◌+◌, ◌<◌, ◌≤◌, ◌≡◌, inl, inr, true, false, List, [], ◌∷◌, map, length, refl, sym, ap, subst, ◌∙◌, arith}
+use Rattle.std.proofs.Common.{ℕ, ◌+◌, ◌<◌, ◌≤◌, ◌≡◌, true, List, [], map, length, refl, ap, subst, ◌∙◌, arith}
 use Rattle.std.specs.Prelude.{None, ◌==◌}
 use Rattle.std.specs.List.{filter}
-use Rattle.std.proofs.lemmas.Bool.{cases_eq, ne_eqb}
 use Rattle.tau_base.specs.declared.value.LogMode.{LogMode}
 use Rattle.tau_model.specs.History.{Act, Member}
 use Rattle.tau_model.specs.declared.committed.Committed.{Committed}
 use Rattle.tau_model.proofs.Logged.{member_filtered}
 use Rattle.tau_machine.specs.Hands.{Txn, committed_of}
 use Rattle.tau_machine.specs.State.{Core, Setting}
-use Rattle.tau_machine.specs.Accounts.{one, in_calls, in_committed, in_hand, in_worker}
+use Rattle.tau_machine.specs.Accounts.{in_calls, in_committed, in_hand, in_worker}
 use Rattle.tau_machine.specs.Invariant.{Invariant}
 use Rattle.tau_machine.proofs.Results.{committed_theorem}
 use Rattle.tau_text.specs.declared.load.Workload.{Workload}

@@ -1,5 +1,5 @@
 -- The run that a state has made is there, whatever holds its pieces.
-use Rattle.std.proofs.Common.{ℕ, zero, suc, ◌+◌, ◌-◌, ◌<◌, ◌≤◌, ◌≡◌, ◌⊎◌, inl, inr, List, [], ◌∷◌, ◌++◌, map, length, replicate, take, refl, sym, ap, subst, ◌∙◌, arith, append_assoc, slice_index}
+use Rattle.std.proofs.Common.{ℕ, zero, suc, ◌+◌, ◌-◌, ◌<◌, ◌≤◌, ◌≡◌, ◌⊎◌, inl, inr, List, [], ◌∷◌, ◌++◌, map, length, take, refl, sym, ap, subst, ◌∙◌, arith, append_assoc, slice_index}
 use Rattle.std.specs.Prelude.{Option, Some, None, slice_get, ◌&&◌, ◌==◌, Bool, false, ◌%◌}
 use Rattle.std.specs.List.{filter}
 use Rattle.std.proofs.Math.Nat.{mod-lt}
@@ -10,7 +10,7 @@ use Rattle.tau_model.proofs.Logged.{member_filtered}
 use Rattle.tau_model.proofs.Orders.{member_back, member_reordered}
 use Rattle.tau_machine.specs.Hands.{Txn, Hand, Phase, Running, Quitting, Placed, Freeing, act_in, act_of}
 use Rattle.tau_machine.specs.Accounts.{in_committed, in_worker, in_calls, in_hand, joined_list}
-use Rattle.tau_machine.specs.State.{Core, Item, Record, Anchor, Ticket, ticket_of, start_of, past_of, hand_of}
+use Rattle.tau_machine.specs.State.{Core, Item, Record, Ticket, ticket_of, start_of, past_of, hand_of}
 use Rattle.tau_machine.specs.Pieces.{Chain, records_in, placed_in, placed_of, StreamGood}
 use Rattle.tau_machine.specs.Reports.{reported}
 use Rattle.tau_machine.specs.Invariant.{Invariant}

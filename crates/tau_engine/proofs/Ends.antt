@@ -19,7 +19,7 @@ use Rattle.tau_text.specs.declared.load.Turn.{Turn}
 use Rattle.tau_text.specs.declared.load.Workload.{Workload}
 use Rattle.tau_report.specs.declared.report.RunEnd.{RunEnd}
 use Rattle.tau_run.specs.Start.{fresh_start, catalogue_of}
-use Rattle.tau_run.specs.CoreRun.{IsLoadOn, IsSoundLoad}
+use Rattle.tau_run.specs.CoreRun.{IsSoundLoad}
 use Rattle.tau_run.specs.RunFacts as ending
 use Rattle.tau_run.proofs.Reading.{IsCatalogue}
 use Rattle.tau_engine.specs.declared.status.Status.{Status}
