@@ -27,7 +27,7 @@ use Rattle.tau_engine.specs.DiskFacts.{Past, Now, AreUnborn, NotEarlier, NextCle
 use Rattle.tau_base.proofs.Lists.{some_at, got_mapped}
 use Rattle.tau_base.proofs.Logic.{some_is}
 
-mapped_got : {A B : Type 0} (f : A → B) (xs rest : List A) (more : List B) (j : ℕ) (x : A) → slice_get xs j ≡ Some x → slice_get (map f xs ++ more) j ≡ Some (f x)
+pub mapped_got : {A B : Type 0} (f : A → B) (xs rest : List A) (more : List B) (j : ℕ) (x : A) → slice_get xs j ≡ Some x → slice_get (map f xs ++ more) j ≡ Some (f x)
 mapped_got f [] rest more j x e = absurd (cc)
 mapped_got {B = B} f (y ∷ xs) rest more zero x e = (let same = some_is y x e in ap (λ z. Some (f z)) same)
 mapped_got f (y ∷ xs) rest more (suc j) x e = mapped_got f xs rest more j x e
