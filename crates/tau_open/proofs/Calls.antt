@@ -5,22 +5,20 @@ use Rattle.std.proofs.lemmas.Bool.{cases_Bool}
 use Rattle.std.proofs.lemmas.Bool.Decides.{nat_tests}
 use Rattle.tau_disk.specs.declared.disk.Disk.{Ghosts}
 use Rattle.tau_disk.specs.Disk.{Rose, Elapses, WasToFail, WasRefused}
+use Rattle.tau_disk.specs.Passing.{passes_none, passes_call}
 use Rattle.tau_disk.specs.Plan.{MadeSome}
 use Rattle.tau_disk.specs.Used.{OnlyRead, IsClean, IsStopped, AllCalls, GoesOn}
 use Rattle.tau_open.specs.Opening.{Went, Broke}
 
 module _ {D : Type 0} (G : Ghosts D) where
   -- one call that read
-  pub only_read : (d e : D) → (G.tells → G.seen e ≡ G.seen d) → ((x : List ℕ) → G.may_leave e x → G.may_leave d x) → ((x : List ℕ) → G.may_leave d x → G.may_leave e x) →
+  pub only_read : ((d : D) (t : ℕ) (x : List ℕ) → t ≤ G.moment d → G.may_leave d x → G.may_leave_since d t x) → (d e : D) → (G.tells → G.seen e ≡ G.seen d) → ((x : List ℕ) → G.may_leave e x → G.may_leave d x) → ((x : List ℕ) → G.may_leave d x → G.may_leave e x) →
       Elapses (G.moment d) (G.moment e) (G.may_leave_since d) (G.may_leave_since e) (G.may_leave e) → OnlyRead G.tells G.seen G.may_leave G.moment G.may_leave_since d e
-  only_read d e same crash keeps time = record {
+  only_read counts_now d e same crash keeps time = record {
     same = same;
     no_more = crash;
     no_less = keeps;
-    moments = record {
-      later = time.later;
-      new_ones = λ t x le s. elim (time.nothing_else t x le s) [ inl old ↦ inl old | inr now ↦ inr (crash x now) ];
-    };
+    moments = passes_call G.moment G.may_leave_since G.may_leave counts_now d e (G.may_leave d) time crash;
   }
 
   pub untouched : (d : D) → OnlyRead G.tells G.seen G.may_leave G.moment G.may_leave_since d d
@@ -28,7 +26,7 @@ module _ {D : Type 0} (G : Ghosts D) where
     same = λ t. refl;
     no_more = λ x m. m;
     no_less = λ x m. m;
-    moments = record { later = omega arith; new_ones = λ t x le s. inl s };
+    moments = passes_none G.moment G.may_leave_since d (G.may_leave d);
   }
 
   pub one_went : (d e : D) → G.faults d ≤ G.faults e → (G.tells → (k : ℕ) → G.fails e k ≡ G.fails d k) →

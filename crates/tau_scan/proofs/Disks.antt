@@ -5,6 +5,7 @@ use Rattle.std.proofs.Math.ListN.{set}
 use Rattle.std.proofs.lemmas.Bool.{cases_eq}
 use Rattle.std.proofs.lemmas.List.{length-append, length-set}
 use Rattle.tau_disk.specs.Disk.{Elapses}
+use Rattle.tau_disk.specs.Passing.{passes_none, passes_call, passes_on}
 use Rattle.tau_disk.specs.Used.{Each}
 use Rattle.tau_scan.specs.Outside.{IsRead}
 use Rattle.tau_base.proofs.Logic.{some_is}
@@ -12,17 +13,14 @@ use Rattle.tau_base.proofs.Lists.{get_set_same, get_set_other}
 
 module _ {D : Type 0} (tells : Type 0) (seen : D → List ℕ) (may_leave : D → List ℕ → Type 0) (moment : D → ℕ) (since : D → ℕ → List ℕ → Type 0) (faults : D → ℕ) where
   -- one call that read
-  pub called : (d e : D) → (tells → seen e ≡ seen d) → ((x : List ℕ) → may_leave e x → may_leave d x) → ((x : List ℕ) → may_leave d x → may_leave e x) →
+  pub called : ((d : D) (t : ℕ) (x : List ℕ) → t ≤ moment d → may_leave d x → since d t x) → (d e : D) → (tells → seen e ≡ seen d) → ((x : List ℕ) → may_leave e x → may_leave d x) → ((x : List ℕ) → may_leave d x → may_leave e x) →
       Elapses (moment d) (moment e) (since d) (since e) (may_leave e) → faults d ≤ faults e → IsRead tells seen may_leave moment since faults d e
-  called d e same crash keeps time count = record {
+  called counts_now d e same crash keeps time count = record {
     read = record {
       same = same;
       no_more = crash;
       no_less = keeps;
-      moments = record {
-        later = time.later;
-        new_ones = λ t x le s. elim (time.nothing_else t x le s) [ inl old ↦ inl old | inr now ↦ inr (crash x now) ];
-      };
+      moments = passes_call moment since may_leave counts_now d e (may_leave d) time crash;
     };
     counts = count;
   }
@@ -33,7 +31,7 @@ module _ {D : Type 0} (tells : Type 0) (seen : D → List ℕ) (may_leave : D �
       same = λ t. refl;
       no_more = λ x m. m;
       no_less = λ x m. m;
-      moments = record { later = omega arith; new_ones = λ t x le s. inl s };
+      moments = passes_none moment since d (may_leave d);
     };
     counts = omega arith;
   }
@@ -44,13 +42,7 @@ module _ {D : Type 0} (tells : Type 0) (seen : D → List ℕ) (may_leave : D �
       same = λ t. b.read.same t ∙ a.read.same t;
       no_more = λ x m. a.read.no_more x (b.read.no_more x m);
       no_less = λ x m. b.read.no_less x (a.read.no_less x m);
-      moments = record {
-        later = omega (arith, a.read.moments.later, b.read.moments.later);
-        new_ones = λ t x le s. elim (b.read.moments.new_ones t x (omega (arith, le, a.read.moments.later)) s) [
-          | inl old ↦ a.read.moments.new_ones t x le old
-          | inr now ↦ inr (a.read.no_more x now)
-        ];
-      };
+      moments = passes_on moment since d e f (may_leave d) (may_leave e) (may_leave d) a.read.moments b.read.moments (λ x m. m) a.read.no_more;
     };
     counts = omega (arith, a.counts, b.counts);
   }
