@@ -6,3 +6,5 @@ pub mod Making
 pub mod Joined
 pub mod RefusalTold
 pub mod Closed
+pub mod Stages
+pub mod Starting

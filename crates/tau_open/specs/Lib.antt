@@ -1,3 +1,5 @@
 pub mod Outside
 pub mod Opening
 pub mod Creating
+pub mod Stages
+pub mod Reopening

@@ -6,8 +6,16 @@ mod close;
 mod create;
 mod opening;
 mod refusal;
+mod reopen;
+mod sizes;
+mod start;
+mod sync;
 
 pub use ask::ask_lengths;
 pub use close::close_streams;
 pub use opening::open_streams;
 pub use refusal::OpenRefusal;
+pub use reopen::reopen_streams;
+pub use sizes::ask_each;
+pub use start::StreamStart;
+pub use sync::barrier;
