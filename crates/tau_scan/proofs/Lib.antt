@@ -7,3 +7,4 @@ pub mod Listed
 pub mod Plans
 pub mod Asked
 pub mod Contents
+pub mod Beginning

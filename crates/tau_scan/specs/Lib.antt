@@ -6,3 +6,4 @@ pub mod Outside
 pub mod Found
 pub mod Contents
 pub mod Laws
+pub mod Begins

@@ -11,7 +11,7 @@ use tau_base::Listed;
 use tau_record::Placed;
 
 /// With how many bytes two texts begin alike.
-fn alike(text: &[u8], other: &[u8]) -> u32
+pub fn alike(text: &[u8], other: &[u8]) -> u32
     requires { length text.now ≤ MAX_CATALOGUE }
     ensures { result ≡ alike text.now other.now }
 {

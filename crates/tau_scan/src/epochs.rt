@@ -69,7 +69,7 @@ fn has_mark(records: &[Placed], number: u32) -> bool
 }
 
 /// The lowest stream that has a mark with this number, or how many there are.
-fn lowest_with(streams: &[Listed<Placed>], number: u32) -> usize
+pub fn lowest_with(streams: &[Listed<Placed>], number: u32) -> usize
     ensures same { result ≡ lowest_with number 0 streams.now }
     ensures within { result ≤ length streams.now }
 {

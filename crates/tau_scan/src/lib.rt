@@ -1,6 +1,7 @@
 //! Reading the log of all streams: what their images hold together, or the first cause why they hold no log.
 #![tactic(auto)]
 
+mod begins;
 mod catalogue;
 mod content;
 mod epochs;
@@ -12,8 +13,9 @@ mod read;
 mod reading;
 mod records;
 
+pub use begins::{LAST_EPOCH, MAX_ANCHORS, MAX_IMAGE, count_anchors, largest_epoch};
 pub use fault::{LogCause, LogFault, ReplayRefusal, ScanRefusal};
 pub use judge::Judge;
 pub use laws::{taken_are_listed, taken_plain};
 pub use log::Log;
-pub use reading::{scan, scan_contents};
+pub use reading::{read_log, scan, scan_contents};

@@ -4,7 +4,7 @@ ghost use Rattle.std.specs.List.{All, AllZip};
 ghost use Rattle.tau_base.specs.declared.limits.TheConstants.{MAX_STREAMS};
 ghost use Rattle.tau_base.specs.Modes.{most_streams};
 ghost use Rattle.tau_scan.specs.declared.fault.LogFault.{LogFault};
-ghost use Rattle.tau_scan.specs.Reading.{catalogue_of, asked_format, contents_of, declared_by, recorded, records_of, streams_of, declared_in, log_as, log_of, log_read, HasRead, IsReading, IsLog};
+ghost use Rattle.tau_scan.specs.Reading.{catalogue_of, asked_format, contents_of, declared_by, recorded, records_of, streams_of, declared_in, log_as, log_of, log_read, Gives, HasRead, IsReading, IsLog};
 ghost use Rattle.tau_scan.specs.Found.{Found, FoundAs, IsShort};
 ghost use Rattle.tau_scan.specs.Contents.{bytes_in, AreContents, IsLogOf, HasContents};
 ghost use Rattle.tau_disk.specs.Used.{Each, RoseAt, AllCalls, IsFirstStopped};
@@ -131,6 +131,31 @@ fn log_in(
 {
     let format = asked_format(asked, images);
     log_as(alloc, format, images)
+}
+
+/// The same, as a caller of the crate asks it.
+pub fn read_log(
+    alloc: Global,
+    asked: Option<Format>,
+    images: &[Listed<u8>],
+) -> Result<(Log, Vec<Content>), ScanRefusal>
+    requires low { 1 ≤ length images.now }
+    requires high { length images.now ≤ MAX_STREAMS }
+    requires fits { (f : _) → asked ≡ Some f → length images.now ≤ most_streams f }
+    ensures read { Gives (log_read result) (log_of asked images.now) }
+    ensures sound { IfOk result (λ r. IsLog r.0) }
+    ensures are { IfOk result (λ r. AreContents (asked_format asked images.now) images.now r.1.items) }
+    ensures theirs { IfOk result (λ r. IsLogOf (asked_format asked images.now) r.1.items r.0) }
+    ensures no_disk { (j : ℕ) → result ≡ Err (ScanRefusal.Failed j) → ⊥ }
+{
+    match log_in(alloc, asked, images) {
+        Ok((log, contents)) => {
+            let list = contents.into_vec();
+            Ok((log, list))
+        }
+        Err(LogRefusal::NoMemory) => Err(ScanRefusal::NoMemory),
+        Err(LogRefusal::Bad(fault)) => Err(ScanRefusal::Bad(fault)),
+    }
 }
 
 /// Reads the log that the disks hold, one for each stream, in the format that is asked, or else in that of the lowest born
