@@ -1,0 +1,5 @@
+//! Tests of runs on disks that hold a log.
+#![tactic(auto)]
+
+#[cfg(test)]
+mod reopened;
