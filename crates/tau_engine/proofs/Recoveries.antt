@@ -22,9 +22,9 @@ module _ {D : Type 0} where
   take_below (x ∷ xs) (suc n) zero d e = omega arith
   take_below (x ∷ xs) (suc n) (suc j) d e = let lt : j < n = take_below xs n j d e in omega (arith, lt)
 
-  pub read_first : (tells : Type 0) (seen : D → List ℕ) (may_leave : D → List ℕ → Type 0) (moment : D → ℕ) (since : D → ℕ → List ℕ → Type 0) (faults : D → ℕ) (old new : List D) (n : ℕ) →
-      Each (IsRead tells seen may_leave moment since faults) (take n old) (take n new) → EachUsed (OnlyRead tells seen may_leave moment since) old new n
-  read_first tells seen may_leave moment since faults old new n each j d lt get =
+  pub read_first : (tells : Type 0) (seen : D → List ℕ) (may_leave : D → List ℕ → Type 0) (moment : D → ℕ) (since : D → ℕ → List ℕ → Type 0) (faults number : D → ℕ) (fails : D → ℕ → Bool) (old new : List D) (n : ℕ) →
+      Each (IsRead tells seen may_leave moment since faults number fails) (take n old) (take n new) → EachUsed (OnlyRead tells seen may_leave moment since) old new n
+  read_first tells seen may_leave moment since faults number fails old new n each j d lt get =
       let (e, there, r) = each j d (get_take old n j lt ∙ get) in
       (e, sym (get_take new n j lt) ∙ there, r.read)
 

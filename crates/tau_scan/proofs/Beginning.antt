@@ -1,5 +1,5 @@
 -- The numbers of epochs and anchors, gone through one by one.
-use Rattle.std.proofs.Common.{ℕ, ◌≡◌, ◌+◌, List, [], ◌∷◌, ◌++◌, refl, ap, ◌∙◌, sym, length}
+use Rattle.std.proofs.Common.{ℕ, ◌≡◌, List, [], ◌∷◌, ◌++◌, refl, ap}
 use Rattle.std.specs.Prelude.{max}
 use Rattle.tau_epoch.specs.Epochs.{Mark, largest}
 use Rattle.tau_scan.specs.Begins.{largest_with}

@@ -1,31 +1,17 @@
 -- Reading disks one after another.
-use Rattle.std.proofs.Common.{ℕ, zero, suc, ◌≡◌, inl, inr, ◌+◌, ◌<◌, ◌≤◌, List, [], ◌∷◌, ◌++◌, map, take, length, refl, sym, ap, subst, ◌∙◌, arith}
+use Rattle.std.proofs.Common.{ℕ, Bool, zero, suc, ◌≡◌, inl, inr, ◌+◌, ◌<◌, ◌≤◌, List, [], ◌∷◌, ◌++◌, map, take, length, refl, sym, ap, subst, ◌∙◌, arith}
 use Rattle.std.specs.Prelude.{Some, slice_get}
 use Rattle.std.proofs.Math.ListN.{set}
 use Rattle.std.proofs.lemmas.Bool.{cases_eq}
 use Rattle.std.proofs.lemmas.List.{length-append, length-set}
-use Rattle.tau_disk.specs.Disk.{Elapses}
-use Rattle.tau_disk.specs.Passing.{passes_none, passes_call, passes_on}
+use Rattle.tau_disk.specs.Passing.{passes_none}
 use Rattle.tau_disk.specs.Used.{Each}
 use Rattle.tau_scan.specs.Outside.{IsRead}
 use Rattle.tau_base.proofs.Logic.{some_is}
 use Rattle.tau_base.proofs.Lists.{get_set_same, get_set_other}
 
-module _ {D : Type 0} (tells : Type 0) (seen : D → List ℕ) (may_leave : D → List ℕ → Type 0) (moment : D → ℕ) (since : D → ℕ → List ℕ → Type 0) (faults : D → ℕ) where
-  -- one call that read
-  pub called : ((d : D) (t : ℕ) (x : List ℕ) → t ≤ moment d → may_leave d x → since d t x) → (d e : D) → (tells → seen e ≡ seen d) → ((x : List ℕ) → may_leave e x → may_leave d x) → ((x : List ℕ) → may_leave d x → may_leave e x) →
-      Elapses (moment d) (moment e) (since d) (since e) (may_leave e) → faults d ≤ faults e → IsRead tells seen may_leave moment since faults d e
-  called counts_now d e same crash keeps time count = record {
-    read = record {
-      same = same;
-      no_more = crash;
-      no_less = keeps;
-      moments = passes_call moment since may_leave counts_now d e (may_leave d) time crash;
-    };
-    counts = count;
-  }
-
-  pub untouched : (d : D) → IsRead tells seen may_leave moment since faults d d
+module _ {D : Type 0} (tells : Type 0) (seen : D → List ℕ) (may_leave : D → List ℕ → Type 0) (moment : D → ℕ) (since : D → ℕ → List ℕ → Type 0) (faults number : D → ℕ) (fails : D → ℕ → Bool) where
+  pub untouched : (d : D) → IsRead tells seen may_leave moment since faults number fails d d
   untouched d = record {
     read = record {
       same = λ t. refl;
@@ -34,22 +20,13 @@ module _ {D : Type 0} (tells : Type 0) (seen : D → List ℕ) (may_leave : D �
       moments = passes_none moment since d (may_leave d);
     };
     counts = omega arith;
-  }
-
-  pub read_again : (d e f : D) → IsRead tells seen may_leave moment since faults d e → IsRead tells seen may_leave moment since faults e f → IsRead tells seen may_leave moment since faults d f
-  read_again d e f a b = record {
-    read = record {
-      same = λ t. b.read.same t ∙ a.read.same t;
-      no_more = λ x m. a.read.no_more x (b.read.no_more x m);
-      no_less = λ x m. b.read.no_less x (a.read.no_less x m);
-      moments = passes_on moment since d e f (may_leave d) (may_leave e) (may_leave d) a.read.moments b.read.moments (λ x m. m) a.read.no_more;
-    };
-    counts = omega (arith, a.counts, b.counts);
+    plan = λ t k. refl;
+    few = λ t. omega arith;
   }
 
   -- the disks below an index are read, and gave these images; the others are as they were
   pub record IsReading (old new : List D) (n : ℕ) (images : List (List ℕ)) : Type 0 where
-    pub read : Each (IsRead tells seen may_leave moment since faults) old new
+    pub read : Each (IsRead tells seen may_leave moment since faults number fails) old new
     pub rest : (k : ℕ) → n ≤ k → slice_get new k ≡ slice_get old k
     pub given : tells → images ≡ map seen (take n old)
     pub count : length images ≡ n
@@ -70,17 +47,17 @@ module _ {D : Type 0} (tells : Type 0) (seen : D → List ℕ) (may_leave : D �
   }
 
   -- the disk at an index was read, and whatever it gave
-  pub each_on : (old new : List D) (n : ℕ) (images : List (List ℕ)) (d e : D) → IsReading old new n images → n < length new → slice_get new n ≡ Some d → IsRead tells seen may_leave moment since faults d e →
-      Each (IsRead tells seen may_leave moment since faults) old (set new n e)
+  pub each_on : (old new : List D) (n : ℕ) (images : List (List ℕ)) (d e : D) → IsReading old new n images → n < length new → slice_get new n ≡ Some d → IsRead tells seen may_leave moment since faults number fails d e →
+      Each (IsRead tells seen may_leave moment since faults number fails) old (set new n e)
   each_on old new n images d e g lt here read j b was = elim (cases_eq j n) [
     | inl same ↦
         let mine : slice_get old n ≡ Some b = subst (λ (k : ℕ). slice_get old k ≡ Some b) same was in
         let is : d ≡ b = some_is d b (sym here ∙ g.rest n (omega arith) ∙ mine) in
-        (e, subst (λ (k : ℕ). slice_get (set new n e) k ≡ Some e) (sym same) (get_set_same new n e lt), subst (λ (z : D). IsRead tells seen may_leave moment since faults z e) is read)
+        (e, subst (λ (k : ℕ). slice_get (set new n e) k ≡ Some e) (sym same) (get_set_same new n e lt), subst (λ (z : D). IsRead tells seen may_leave moment since faults number fails z e) is read)
     | inr other ↦ let (f, there, r) = g.read j b was in (f, get_set_other new n j e other ∙ there, r)
   ]
 
-  pub reading_on : (old new : List D) (n : ℕ) (images : List (List ℕ)) (d e : D) (image : List ℕ) → IsReading old new n images → n < length new → slice_get new n ≡ Some d → IsRead tells seen may_leave moment since faults d e →
+  pub reading_on : (old new : List D) (n : ℕ) (images : List (List ℕ)) (d e : D) (image : List ℕ) → IsReading old new n images → n < length new → slice_get new n ≡ Some d → IsRead tells seen may_leave moment since faults number fails d e →
       (tells → image ≡ seen d) → IsReading old (set new n e) (n + 1) (images ++ image ∷ [])
   reading_on old new n images d e image g lt here read gave = record {
     read = each_on old new n images d e g lt here read;

@@ -1,5 +1,5 @@
 -- Why a run cannot go on from a log.
-use Rattle.std.specs.Prelude.{ℕ, suc, ◌^◌, ◌-◌, Bool, ◌||◌, ◌==◌, nat_lt, max, bytes_eq, if◌then◌else◌, List, [], ◌∷◌, length, Option, Some, None}
+use Rattle.std.specs.Prelude.{ℕ, suc, Bool, ◌||◌, ◌==◌, nat_lt, max, bytes_eq, if◌then◌else◌, List, [], ◌∷◌, length, Option, Some, None}
 use Rattle.tau_record.specs.declared.entry.Placed.{Placed}
 use Rattle.tau_record.specs.Content.{anchors_of}
 use Rattle.tau_epoch.specs.Epochs.{Mark, largest}

@@ -14,7 +14,7 @@ use tau_disk::Disk;
 fn read_image<D: Disk>(alloc: Global, disk: &mut D, stream: u8) -> Result<Vec<u8>, ReadRefusal>
     ensures bytes { IfOk result (λ image. D.tells → image.items ≡ D.seen disk.old) }
     ensures failed { (j : ℕ) → result ≡ Err (ReadRefusal.Failed j) → (j ≡ stream) × Rose (D.faults disk.old) (D.faults disk.new) }
-    ensures only_read { IsRead D.tells D.seen D.may_leave D.moment D.may_leave_since D.faults disk.old disk.new }
+    ensures only_read { IsRead D.tells D.seen D.may_leave D.moment D.may_leave_since D.faults D.number D.fails disk.old disk.new }
     ensures went { OnOk result (D.tells → GoesOn D.number D.fails disk.old disk.new) }
     ensures calls { OnOk result (AllCalls D.tells D.number D.fails D.short calls_to_read disk.old disk.new) }
     ensures stopped { (j : ℕ) → result ≡ Err (ReadRefusal.Failed j) → IsStopped D.tells D.number D.fails D.short disk.old disk.new }
@@ -42,7 +42,7 @@ pub fn read_images<D: Disk>(
     ensures many { IfOk result (λ images. length images ≡ length disks.old) }
     ensures bytes { IfOk result (λ images. D.tells → images ≡ map D.seen disks.old) }
     ensures failed { (j : ℕ) → result ≡ Err (ReadRefusal.Failed j) → RoseAt D.faults disks.old disks.new j }
-    ensures only_read { Each (IsRead D.tells D.seen D.may_leave D.moment D.may_leave_since D.faults) disks.old disks.new }
+    ensures only_read { Each (IsRead D.tells D.seen D.may_leave D.moment D.may_leave_since D.faults D.number D.fails) disks.old disks.new }
     ensures calls { OnOk result (Each (AllCalls D.tells D.number D.fails D.short calls_to_read) disks.old disks.new) }
     ensures stopped { (j : ℕ) → result ≡ Err (ReadRefusal.Failed j) → D.tells → IsFirstStopped D.tells D.number D.fails D.short disks.old disks.new j }
 {

@@ -176,7 +176,7 @@ pub fn scan<D: Disk>(
     // A disk failed only if its count rose.
     ensures failed { (j : ℕ) → result ≡ Err (ScanRefusal.Failed j) → RoseAt D.faults disks.old disks.new j }
     // The disks were at most read.
-    ensures only_read { Each (IsRead D.tells D.seen D.may_leave D.moment D.may_leave_since D.faults) disks.old disks.new }
+    ensures only_read { Each (IsRead D.tells D.seen D.may_leave D.moment D.may_leave_since D.faults D.number D.fails) disks.old disks.new }
     // Before a log or a cause is told every disk was read whole, and no call of any was to fail: a disk that fails
     // comes before a bad image. A disk that failed did so by its first call that was to fail, and none below it had one.
     ensures calls { OnOk result (Each (AllCalls D.tells D.number D.fails D.short calls_to_read) disks.old disks.new) }
@@ -207,7 +207,7 @@ pub fn scan_contents<D: Disk>(
     // A disk failed only if its count rose.
     ensures failed { (j : ℕ) → result ≡ Err (ScanRefusal.Failed j) → RoseAt D.faults disks.old disks.new j }
     // The disks were at most read.
-    ensures only_read { Each (IsRead D.tells D.seen D.may_leave D.moment D.may_leave_since D.faults) disks.old disks.new }
+    ensures only_read { Each (IsRead D.tells D.seen D.may_leave D.moment D.may_leave_since D.faults D.number D.fails) disks.old disks.new }
     // Before a log or a cause is told every disk was read whole, and no call of any was to fail: a disk that fails
     // comes before a bad image. A disk that failed did so by its first call that was to fail, and none below it had one.
     ensures calls { OnOk result (Each (AllCalls D.tells D.number D.fails D.short calls_to_read) disks.old disks.new) }

@@ -23,8 +23,8 @@ returns-clause-only_read g c =
     let long : length c.scan.new.disks ≡ c.args.streams = search rules in
     let same : take c.args.streams (c.scan.new.disks ++ drop c.args.streams c.args.disks.now) ≡ c.scan.new.disks =
     subst (λ (k : ℕ). take k (c.scan.new.disks ++ drop c.args.streams c.args.disks.now) ≡ c.scan.new.disks) long (take-append_seam c.scan.new.disks (drop c.args.streams c.args.disks.now)) in
-    read_first g.D.Disk.tells g.D.Disk.seen g.D.Disk.may_leave g.D.Disk.moment g.D.Disk.may_leave_since g.D.Disk.faults c.args.disks.now (c.scan.new.disks ++ drop c.args.streams c.args.disks.now) c.args.streams
-    (subst (λ (ds : List g.row.D.Denot). Each (IsRead g.D.Disk.tells g.D.Disk.seen g.D.Disk.may_leave g.D.Disk.moment g.D.Disk.may_leave_since g.D.Disk.faults) (take c.args.streams c.args.disks.now) ds) (sym same) c.scan.ensures.only_read)
+    read_first g.D.Disk.tells g.D.Disk.seen g.D.Disk.may_leave g.D.Disk.moment g.D.Disk.may_leave_since g.D.Disk.faults g.D.Disk.number g.D.Disk.fails c.args.disks.now (c.scan.new.disks ++ drop c.args.streams c.args.disks.now) c.args.streams
+    (subst (λ (ds : List g.row.D.Denot). Each (IsRead g.D.Disk.tells g.D.Disk.seen g.D.Disk.may_leave g.D.Disk.moment g.D.Disk.may_leave_since g.D.Disk.faults g.D.Disk.number g.D.Disk.fails) (take c.args.streams c.args.disks.now) ds) (sym same) c.scan.ensures.only_read)
 
 pub returns-clause-stopped : goal.returns-clause-stopped
 returns-clause-stopped g c j e tells =

@@ -12,8 +12,8 @@ loop-j-preserved g c =
     let at = slice_get-get_or c.loop-j.disks c.loop-j.j c.index-disks-j.result low in
     record {
       reading =
-          subst (λ (xs : List (List ℕ)). IsReading g.D.Disk.tells g.D.Disk.seen g.D.Disk.may_leave g.D.Disk.moment g.D.Disk.may_leave_since g.D.Disk.faults c.args.disks.now (set c.loop-j.disks c.loop-j.j c.read_image.new.disk) (c.loop-j.j + 1) xs) (sym c.in_ok-push.ensures.ok)
-          (reading_on g.D.Disk.tells g.D.Disk.seen g.D.Disk.may_leave g.D.Disk.moment g.D.Disk.may_leave_since g.D.Disk.faults c.args.disks.now c.loop-j.disks c.loop-j.j c.loop-j.images
+          subst (λ (xs : List (List ℕ)). IsReading g.D.Disk.tells g.D.Disk.seen g.D.Disk.may_leave g.D.Disk.moment g.D.Disk.may_leave_since g.D.Disk.faults g.D.Disk.number g.D.Disk.fails c.args.disks.now (set c.loop-j.disks c.loop-j.j c.read_image.new.disk) (c.loop-j.j + 1) xs) (sym c.in_ok-push.ensures.ok)
+          (reading_on g.D.Disk.tells g.D.Disk.seen g.D.Disk.may_leave g.D.Disk.moment g.D.Disk.may_leave_since g.D.Disk.faults g.D.Disk.number g.D.Disk.fails c.args.disks.now c.loop-j.disks c.loop-j.j c.loop-j.images
           (get_or c.loop-j.disks c.loop-j.j c.index-disks-j.result) c.read_image.new.disk c.of.result c.loop-j.invariant.reading low at c.read_image.ensures.only_read (λ t. c.of.ensures ∙ c.in_ok-image.ensures.bytes t));
       going = going_on g.D.Disk.number g.D.Disk.fails g.D.Disk.tells g.D.Disk.short c.args.disks.now c.loop-j.disks c.loop-j.j (get_or c.loop-j.disks c.loop-j.j c.index-disks-j.result) c.read_image.new.disk c.loop-j.invariant.going low at
           (λ t. c.in_ok-image.ensures.went t) c.in_ok-image.ensures.calls;
@@ -22,6 +22,6 @@ loop-j-preserved g c =
 pub returns-in_err-push-clause-only_read : goal.returns-in_err-push-clause-only_read
 returns-in_err-push-clause-only_read g c =
     let low : c.loop-j.j < length c.loop-j.disks = omega (arith, c.loop-j-test.true, c.loop-j.invariant.reading.many) in
-    each_on g.D.Disk.tells g.D.Disk.seen g.D.Disk.may_leave g.D.Disk.moment g.D.Disk.may_leave_since g.D.Disk.faults c.args.disks.now c.loop-j.disks c.loop-j.j c.loop-j.images
+    each_on g.D.Disk.tells g.D.Disk.seen g.D.Disk.may_leave g.D.Disk.moment g.D.Disk.may_leave_since g.D.Disk.faults g.D.Disk.number g.D.Disk.fails c.args.disks.now c.loop-j.disks c.loop-j.j c.loop-j.images
     (get_or c.loop-j.disks c.loop-j.j c.index-disks-j.result) c.read_image.new.disk c.loop-j.invariant.reading low
     (slice_get-get_or c.loop-j.disks c.loop-j.j c.index-disks-j.result low) c.read_image.ensures.only_read

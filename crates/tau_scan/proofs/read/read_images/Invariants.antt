@@ -5,6 +5,6 @@ use Rattle.tau_scan.proofs.read.read_images.Given as goal
 
 abbrev pub invariant-loop-j : goal.invariant-loop-j
 invariant-loop-j g l = record {
-  reading : IsReading g.D.Disk.tells g.D.Disk.seen g.D.Disk.may_leave g.D.Disk.moment g.D.Disk.may_leave_since g.D.Disk.faults l.initial.disks l.disks l.j l.images;
+  reading : IsReading g.D.Disk.tells g.D.Disk.seen g.D.Disk.may_leave g.D.Disk.moment g.D.Disk.may_leave_since g.D.Disk.faults g.D.Disk.number g.D.Disk.fails l.initial.disks l.disks l.j l.images;
   going : IsGoing g.D.Disk.number g.D.Disk.fails g.D.Disk.tells g.D.Disk.short l.initial.disks l.disks l.j;
 }
