@@ -1,6 +1,7 @@
 //! What streams are given before the first call of a run.
-ghost use Rattle.std.specs.Prelude.{◌≡◌, ◌≤◌, ◌<◌, ◌+◌, ℕ, List, [], length, IfOk};
-ghost use Rattle.tau_base.specs.declared.limits.TheConstants.{MAX_CATALOGUE};
+ghost use Rattle.std.specs.Prelude.{◌≡◌, ◌≤◌, ◌<◌, ◌+◌, ◌*◌, ℕ, List, [], length, IfOk};
+ghost use Rattle.tau_base.specs.declared.limits.TheConstants.{MAX_CATALOGUE, MAX_STREAMS};
+ghost use Rattle.tau_block.specs.Image.{IsBody};
 ghost use Rattle.tau_begin.specs.Given.{epoch_record, given_after, next_epoch, all_nothing};
 ghost use Rattle.tau_scan.specs.Contents.{bytes_in};
 ghost use Rattle.tau_epoch.specs.Epochs.{largest};
@@ -39,8 +40,11 @@ pub fn next_epoch(contents: &[Content], log: &Log) -> Result<u32, NoMemory>
 
 /// The record of the epoch; nothing for epoch 0.
 fn epoch_bytes(alloc: Global, epoch: u32, elv: &Lv) -> Result<Vec<u8>, NoMemory>
-    ensures { IfOk result (λ v. v.items ≡ epoch_record epoch elv.now) }
+    ensures is { IfOk result (λ v. v.items ≡ epoch_record epoch elv.now) }
+    ensures long { IfOk result (λ v. length v.items ≤ 9 + 8 * MAX_STREAMS) }
+    ensures some { IfOk result (λ v. 1 ≤ epoch → 5 ≤ length v.items) }
 {
+    let _positions = elv.as_slice();
     if epoch == 0 {
         return Ok(Vec::new(alloc));
     }
@@ -56,7 +60,9 @@ pub fn given_after(
     elv: &Lv,
 ) -> Result<Vec<u8>, NoMemory>
     requires { length text.now ≤ MAX_CATALOGUE }
-    ensures { IfOk result (λ v. v.items ≡ given_after text.now epoch elv.now content.now) }
+    ensures is { IfOk result (λ v. v.items ≡ given_after text.now epoch elv.now content.now) }
+    // It is one block of records, if the content is empty in epoch 0.
+    ensures body { IfOk result (λ v. (epoch ≡ 0 → length content.now ≡ 0) → IsBody v.items × (5 ≤ length v.items)) }
 {
     let marks = epoch_bytes(alloc, epoch, elv)?;
     if content.len() > 0 {

@@ -1,6 +1,10 @@
 //! What each stream starts with.
-ghost use Rattle.std.specs.Prelude.{◌≡◌, ◌≤◌, ◌<◌, ◌+◌, ℕ, List, [], length, IfOk, vec_len};
+ghost use Rattle.std.specs.Prelude.{◌≡◌, ◌≤◌, ◌<◌, ◌+◌, ◌++◌, ◌∷◌, ℕ, List, [], length, IfOk, vec_len, slice_get, Some};
 ghost use Rattle.tau_base.specs.declared.limits.TheConstants.{MAX_CATALOGUE, MAX_STREAMS};
+ghost use Rattle.tau_base.specs.Modes.{most_streams};
+ghost use Rattle.tau_block.specs.declared.content.Content.{Content as OneContent};
+ghost use Rattle.tau_block.specs.Image.{count_in, format_in, header_of, index_in};
+ghost use Rattle.tau_begin.specs.Starts.{AreStarts, IsShortContent, IsStartOf};
 
 use crate::given::given_after;
 use std::alloc::Global;
@@ -10,14 +14,18 @@ use tau_open::StreamStart;
 use tau_scan::MAX_IMAGE;
 
 /// The header of stream `j` of `n` in this format, and a closed gate.
-fn head_in(format: Format, n: u16, j: u16) -> [u8; 17] {
+fn head_in(format: Format, n: u16, j: u16) -> [u8; 17]
+    ensures bytes { result ≡ header_of format n j ++ 0 ∷ [] }
+    ensures format { format_in result ≡ format }
+    ensures names { (count_in result ≡ n) × (index_in result ≡ j) }
+{
     match format {
         Format::One => header(n, j),
         Format::Two => header_wide(n, j),
     }
 }
 
-/// What stream `j` of `n` starts with. A content so long that it fits no memory is refused.
+/// What stream `j` of `n` starts with. A content with a gate beyond all that fits into memory is refused.
 fn start_of(
     alloc: Global,
     format: Format,
@@ -28,22 +36,21 @@ fn start_of(
     epoch: u32,
     elv: &Lv,
 ) -> Result<StreamStart, NoMemory>
-    requires { length text.now ≤ MAX_CATALOGUE }
+    requires text { length text.now ≤ MAX_CATALOGUE }
+    requires streams { n ≤ most_streams format }
+    requires stream { j < n }
+    requires content { IsShortContent content }
+    requires fresh { epoch ≡ 0 → content.bytes ≡ [] }
+    ensures { IfOk result (λ p. IsStartOf format n j text.now epoch elv.now content p) }
 {
     if content.gate_at > MAX_IMAGE {
         return Err(NoMemory);
     }
-    let body = Listed::of(given_after(
-        alloc,
-        content.bytes.as_slice(),
-        text,
-        epoch,
-        elv,
-    )?);
+    let body = given_after(alloc, content.bytes.as_slice(), text, epoch, elv)?;
     Ok(StreamStart {
         head: head_in(format, n, j),
         content,
-        body,
+        body: Listed::of(body),
     })
 }
 
@@ -57,7 +64,10 @@ pub fn starts_of(
     elv: &Lv,
 ) -> Result<Vec<StreamStart>, NoMemory>
     requires text { length text.now ≤ MAX_CATALOGUE }
-    requires few { vec_len contents ≤ MAX_STREAMS }
+    requires few { vec_len contents ≤ most_streams format }
+    requires contents { (j : ℕ) (c : OneContent) → slice_get contents.items j ≡ Some c → IsShortContent c }
+    requires fresh { epoch ≡ 0 → (j : ℕ) (c : OneContent) → slice_get contents.items j ≡ Some c → c.bytes ≡ [] }
+    ensures { IfOk result (λ starts. AreStarts format text.now epoch elv.now contents.items starts.items) }
 {
     let n = contents.len();
     let mut left = contents;
@@ -65,9 +75,11 @@ pub fn starts_of(
     let mut starts = Vec::with_capacity(alloc, n)?;
     for j in 0..n {
         let Some(content) = left.pop() else {
-            return Err(NoMemory);
+            unreachable!()
         };
-        let start = start_of(alloc, format, n as u16, j as u16, content, text, epoch, elv)?;
+        let start = start_of(
+            alloc, format, n as u16, j as u16, content, text, epoch, elv,
+        )?;
         starts.push(start)?;
     }
     Ok(starts)
