@@ -10,7 +10,7 @@ use Rattle.tau_block.specs.Image.{image_of, IfBorn, IsLog as IsLogImage}
 use Rattle.tau_scan.specs.declared.fault.LogFault.{LogFault}
 use Rattle.tau_scan.specs.declared.fault.LogRefusal.{LogRefusal}
 use Rattle.tau_scan.specs.declared.log.Log.{Log}
-use Rattle.tau_scan.specs.Contents.{bytes_in, IsContentOf, AreContents, IsLogOf, HasContents}
+use Rattle.tau_scan.specs.Contents.{bytes_in, IsContentOf, AreContents, AreShortContents, IsLogOf, HasContents}
 use Rattle.tau_scan.specs.Found.{FoundAs}
 use Rattle.tau_scan.specs.Reading.{asked_format, counted, formatted}
 use Rattle.tau_scan.proofs.Asked.{counted_gave, formatted_gave}
@@ -70,6 +70,11 @@ count_of contents = length_mapped (λ (c : Content). c.bytes) contents
 pub bytes_at : (contents : List Content) (j : ℕ) (c : Content) (bytes : List ℕ) → j < length contents → c ≡ get_or contents j c → bytes ≡ c.bytes → slice_get (bytes_in contents) j ≡ Some bytes
 bytes_at contents j c bytes lt is same = map_get (λ (x : Content). x.bytes) contents j c (read_as contents j c c lt is refl) ∙ ap (λ (bs : List ℕ). Some bs) (sym same)
 
+pub short_contents : (f : Format) (images : List (List ℕ)) (contents : List Content) → AreContents f images contents → AreShortContents contents
+short_contents f images contents are j c at =
+    let (image, here, is) = are.each j c at in
+    record { before = is.before; unborn = λ none. ((is.short none).0, is.unborn none) }
+
 -- what was read of the images of disks that tell is what they hold
 pub has_contents : {D : Type 0} (tells : Type 0) (seen : D → List ℕ) (asked : Option Format) (disks : List D) (images : List (List ℕ)) (log : Log) (contents : List Content) → length images ≡ length disks → (tells → images ≡ map seen disks)
     → AreContents (asked_format asked images) images contents → IsLogOf (asked_format asked images) contents log → HasContents tells seen asked disks log contents
@@ -82,6 +87,7 @@ has_contents {D} tells seen asked disks images log contents many as_seen are the
       let same : image ≡ seen d = some_is image (seen d) (sym at ∙ ap (λ (xs : List (List ℕ)). slice_get xs j) (as_seen t) ∙ map_get seen disks j d here) in
       subst (λ (n : ℕ). IsContentOf (asked_format asked images) n j (seen d) c) many (subst (λ (x : List ℕ). IsContentOf (asked_format asked images) (length images) j x c) same is);
   log_of_them = theirs;
+  short = short_contents (asked_format asked images) images contents are;
 }
   where
     asked_is : (f : Format) (o : Option Format) → o ≡ Some f → asked_format o images ≡ f

@@ -5,7 +5,7 @@ use Rattle.tau_base.specs.declared.format.Format.{Format}
 use Rattle.tau_block.specs.Image.{image_of, IfBorn, IsLog as IsLogImage}
 use Rattle.tau_block.specs.declared.content.Content.{Content}
 use Rattle.tau_scan.specs.declared.log.Log.{Log}
-use Rattle.tau_scan.specs.Reading.{IsReading}
+use Rattle.tau_scan.specs.Reading.{IsReading, log_of_contents}
 
 -- the bytes of each content
 abbrev pub bytes_in : List Content → List (List ℕ)
@@ -26,8 +26,17 @@ pub record AreContents (f : Format) (images : List (List ℕ)) (contents : List 
   pub many : length contents ≡ length images
   pub each : (j : ℕ) (c : Content) → slice_get contents j ≡ Some c → (image : List ℕ) × (slice_get images j ≡ Some image) × IsContentOf f (length images) j image c
 
--- the log has the lengths of these contents, and the records that they spell in a format
+-- no content is longer than the place of its gate, and an unborn one has none
+pub record IsShortContent (c : Content) : Type 0 where
+  pub before : length c.bytes ≤ c.gate_at
+  pub unborn : IsNone c.count → (c.bytes ≡ []) × (c.gate_at ≡ 16)
+
+abbrev pub AreShortContents : List Content → Type 0
+AreShortContents contents = (j : ℕ) (c : Content) → slice_get contents j ≡ Some c → IsShortContent c
+
+-- the log is that of these contents in a format: it has their lengths, and the records that they spell
 pub record IsLogOf (f : Format) (contents : List Content) (log : Log) : Type 0 where
+  pub whole : log_of_contents f (bytes_in contents) ≡ Ok log
   pub lengths : log.elv ≡ map length (bytes_in contents)
   pub read : AllZip (IsReading f (length contents)) (bytes_in contents) log.streams
 
@@ -39,3 +48,4 @@ pub record HasContents {D : Type 0} (tells : Type 0) (seen : D → List ℕ) (as
   pub many : length contents ≡ length disks
   pub each : tells → (j : ℕ) (d : D) (c : Content) → slice_get disks j ≡ Some d → slice_get contents j ≡ Some c → IsContentOf format (length disks) j (seen d) c
   pub log_of_them : IsLogOf format contents log
+  pub short : AreShortContents contents

@@ -6,7 +6,7 @@ ghost use Rattle.tau_base.specs.Modes.{most_streams};
 ghost use Rattle.tau_scan.specs.declared.fault.LogFault.{LogFault};
 ghost use Rattle.tau_scan.specs.Reading.{catalogue_of, asked_format, contents_of, declared_by, recorded, records_of, streams_of, declared_in, log_as, log_of, log_read, Gives, HasRead, IsReading, IsLog};
 ghost use Rattle.tau_scan.specs.Found.{Found, FoundAs, IsShort};
-ghost use Rattle.tau_scan.specs.Contents.{bytes_in, AreContents, IsLogOf, HasContents};
+ghost use Rattle.tau_scan.specs.Contents.{bytes_in, AreContents, AreShortContents, IsLogOf, HasContents};
 ghost use Rattle.tau_disk.specs.Used.{Each, RoseAt, AllCalls, IsFirstStopped};
 ghost use Rattle.tau_scan.specs.Outside.{IsRead, calls_to_read};
 
@@ -146,6 +146,7 @@ pub fn read_log(
     ensures sound { IfOk result (λ r. IsLog r.0) }
     ensures are { IfOk result (λ r. AreContents (asked_format asked images.now) images.now r.1.items) }
     ensures theirs { IfOk result (λ r. IsLogOf (asked_format asked images.now) r.1.items r.0) }
+    ensures short { IfOk result (λ r. AreShortContents r.1.items) }
     ensures no_disk { (j : ℕ) → result ≡ Err (ScanRefusal.Failed j) → ⊥ }
 {
     match log_in(alloc, asked, images) {

@@ -69,7 +69,11 @@ returns-in-Some-clause-sound c =
 pub returns-in-Some-clause-theirs : goal.returns-in-Some-clause-theirs
 returns-in-Some-clause-theirs c =
     let elv : c.in-Some.elv ≡ map length (bytes_in c.in_ok-contents.contents) = search rules in
+    let streams : streams_of c.args.format (bytes_in c.in_ok-contents.contents) ≡ Ok c.as_slice-2.result.now =
+    ap (λ (xs : List Content). streams_of c.args.format (bytes_in xs)) (sym c.as_slice.ensures) ∙ c.in_ok-streams.ensures.same ∙ ap (λ (xs : List (List Placed)). Ok xs) (sym c.as_slice-2.ensures) in
+    let none : epoch_fault c.as_slice-2.result.now ≡ None = ap (λ (ss : List (List Placed)). epoch_fault ss) (c.as_slice-2.ensures ∙ sym c.as_slice-3.ensures) ∙ c.in_ok-one_vector_each.ensures.ok in
     record {
+      whole = rw (streams, c.in_ok-declarations.ensures, none, elv, c.as_slice-2.ensures) refl;
       lengths = elv;
       read = subst (λ (xs : List Content). AsRead c.args.format xs c.in_ok-streams.streams) c.as_slice.ensures c.in_ok-streams.ensures.read;
     }
