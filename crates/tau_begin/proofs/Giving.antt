@@ -1,6 +1,6 @@
 -- What streams are given.
 use Rattle.std.proofs.Common.{ℕ, zero, suc, ◌≡◌, ◌≤◌, ◌<◌, ◌+◌, List, [], ◌∷◌, ◌++◌, refl, ap, ◌∙◌, length, arith}
-use Rattle.std.specs.Prelude.{Result, Ok, Err, IfOk, ◌*◌}
+use Rattle.std.specs.Prelude.{Result, Ok, Err, IfOk, OnOk, ◌*◌}
 use Rattle.std.specs.Int.{w32, w64, to_be_bytes}
 use Rattle.std.specs.List.{flat_map}
 use Rattle.std.proofs.lemmas.List.{length-append}
@@ -29,3 +29,15 @@ epoch_long k lv bytes few is =
     let fields = length-append (to_be_bytes w32 k) (flat_map (to_be_bytes w64) lv) in
     let low = lv_len lv in
     (omega (arith, long), omega (arith, long, fields, low, few))
+
+pub on_ok_then : {A E : Type 0} (P Q : Type 0) (r : Result A E) → OnOk r P → (P → Q) → OnOk r Q
+on_ok_then P Q (Ok x) is then_so = then_so is
+on_ok_then P Q (Err e) is then_so = tt
+
+pub on_ok_all : {A E : Type 0} (P : Type 0) (r : Result A E) → P → OnOk r P
+on_ok_all P (Ok x) is = is
+on_ok_all P (Err e) is = tt
+
+pub if_ok_both : {A E : Type 0} (P Q R : A → Type 0) (r : Result A E) → IfOk r P → IfOk r Q → ((x : A) → P x → Q x → R x) → IfOk r R
+if_ok_both P Q R (Ok x) is also then_so = then_so x is also
+if_ok_both P Q R (Err e) is also then_so = tt

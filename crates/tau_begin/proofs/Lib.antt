@@ -1,3 +1,4 @@
 pub mod Giving
 pub mod Starting
 pub mod Ending
+pub mod Finding

@@ -1,5 +1,5 @@
 -- What each stream starts with, and the state in which the run begins.
-use Rattle.std.specs.Prelude.{ℕ, ◌+◌, ◌<◌, ◌≤◌, ◌≡◌, List, [], length, map, slice_get, Some, IsNone}
+use Rattle.std.specs.Prelude.{ℕ, ◌+◌, ◌<◌, ◌≤◌, ◌≡◌, List, [], length, map, slice_get, Some}
 use Rattle.tau_base.specs.declared.format.Format.{Format}
 use Rattle.tau_block.specs.Image.{count_in, format_in, index_in}
 use Rattle.tau_block.specs.declared.content.Content.{Content}
@@ -9,11 +9,6 @@ use Rattle.tau_core.specs.declared.opening.Opening.{Opening}
 use Rattle.tau_open.specs.declared.start.StreamStart.{StreamStart}
 use Rattle.tau_open.specs.Reopening.{IsStreamStart, started}
 use Rattle.tau_begin.specs.Given.{given_after}
-
--- the content of an image is not read beyond the image, and an unborn one has none
-pub record IsShortContent (c : Content) : Type 0 where
-  pub before : length c.bytes ≤ c.gate_at
-  pub unborn : IsNone c.count → (c.bytes ≡ []) × (c.gate_at ≡ 16)
 
 -- stream j of n starts on this content, in a format, with what it is given in the epoch with this number and vector
 pub record IsStartOf (f : Format) (n j : ℕ) (text : List ℕ) (epoch : ℕ) (lv : List ℕ) (c : Content) (p : StreamStart) : Type 0 where

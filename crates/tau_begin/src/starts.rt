@@ -4,7 +4,8 @@ ghost use Rattle.tau_base.specs.declared.limits.TheConstants.{MAX_CATALOGUE, MAX
 ghost use Rattle.tau_base.specs.Modes.{most_streams};
 ghost use Rattle.tau_block.specs.declared.content.Content.{Content as OneContent};
 ghost use Rattle.tau_block.specs.Image.{count_in, format_in, header_of, index_in};
-ghost use Rattle.tau_begin.specs.Starts.{AreStarts, IsShortContent, IsStartOf};
+ghost use Rattle.tau_scan.specs.Contents.{AreShortContents, IsShortContent};
+ghost use Rattle.tau_begin.specs.Starts.{AreStarts, IsStartOf};
 
 use crate::given::given_after;
 use std::alloc::Global;
@@ -65,7 +66,7 @@ pub fn starts_of(
 ) -> Result<Vec<StreamStart>, NoMemory>
     requires text { length text.now ≤ MAX_CATALOGUE }
     requires few { vec_len contents ≤ most_streams format }
-    requires contents { (j : ℕ) (c : OneContent) → slice_get contents.items j ≡ Some c → IsShortContent c }
+    requires contents { AreShortContents contents.items }
     requires fresh { epoch ≡ 0 → (j : ℕ) (c : OneContent) → slice_get contents.items j ≡ Some c → c.bytes ≡ [] }
     ensures { IfOk result (λ starts. AreStarts format text.now epoch elv.now contents.items starts.items) }
 {
