@@ -92,7 +92,7 @@ module _ {D : Type 0} (G : Ghosts D) where
     made = λ t. ⊎_elim (λ memory. inr memory) (λ made. inl (made.0, read.few t, made.1, made.2)) (stop t t);
   }
 
-  more_broke : (a b : ℕ) (d e : D) → a ≤ b → Broke G a d e → Broke G b d e
+  pub more_broke : (a b : ℕ) (d e : D) → a ≤ b → Broke G a d e → Broke G b d e
   more_broke a b d e le broke = record {
     counts = broke.counts;
     rose = broke.rose;
@@ -224,16 +224,13 @@ pub no_bytes : (xs : List ℕ) → length xs ≡ 0 → xs ≡ []
 no_bytes [] is = refl
 no_bytes (x ∷ xs) is = absurd (omega (arith, is))
 
-module _ {D : Type 0} (G : Ghosts D) (lengths : List ℕ) (old mid : List D) (synced : Staged (λ i. SyncedIf G (slice_index lengths i)) (length lengths) old mid) (many : length lengths ≡ length old) where
-  seen_if : (n : ℕ) (d e : D) → SyncedIf G n d e → G.tells → G.seen e ≡ G.seen d
-  seen_if zero d e same t = ap G.seen same
-  seen_if (suc n) d e s t = s.same t
+-- reads give the same of each disk
+abbrev pub SeenSame : {D : Type 0} → Ghosts D → List D → List D → Type 0
+SeenSame {D} G old mid = (length mid ≡ length old) × ((j : ℕ) (d : D) → slice_get old j ≡ Some d → (e : D) × (slice_get mid j ≡ Some e) × (G.tells → G.seen e ≡ G.seen d))
 
+module _ {D : Type 0} (G : Ghosts D) (old mid : List D) (same : SeenSame G old mid) where
   pub seen_same : G.tells → map G.seen mid ≡ map G.seen old
-  seen_same t = map_same G.seen mid old synced.many (λ j e d now was.
-      let low : j < length old = got_within old j d was in
-      let (f, there, r) = synced.each j d (omega (arith, low, many)) was in
-      ap G.seen (some_is e f (sym now ∙ there)) ∙ seen_if (slice_index lengths j) d f r t)
+  seen_same t = map_same G.seen mid old same.0 (λ j e d now was. let (f, there, is) = same.1 j d was in ap G.seen (some_is e f (sym now ∙ there)) ∙ is t)
 
   pub has_read : (asked : Option Format) (result : Result Log ScanRefusal) → HasRead G.tells G.seen asked mid result → HasRead G.tells G.seen asked old result
   has_read asked result read = record { images = read.images; as_seen = λ t. read.as_seen t ∙ seen_same t; gives = read.gives }
@@ -242,14 +239,24 @@ module _ {D : Type 0} (G : Ghosts D) (lengths : List ℕ) (old mid : List D) (sy
   has_contents asked log contents has = record {
     format = has.format;
     as_asked = has.as_asked;
-    many = has.many ∙ synced.many;
+    many = has.many ∙ same.0;
     each = λ t j d c was at.
-        let low : j < length old = got_within old j d was in
-        let (f, there, r) = synced.each j d (omega (arith, low, many)) was in
-        subst (λ (n : ℕ). IsContentOf has.format n j (G.seen d) c) synced.many (subst (λ (x : List ℕ). IsContentOf has.format (length mid) j x c) (seen_if (slice_index lengths j) d f r t) (has.each t j f c there at));
+        let (f, there, is) = same.1 j d was in
+        subst (λ (n : ℕ). IsContentOf has.format n j (G.seen d) c) same.0 (subst (λ (x : List ℕ). IsContentOf has.format (length mid) j x c) (is t) (has.each t j f c there at));
     log_of_them = has.log_of_them;
     short = has.short;
   }
+
+module _ {D : Type 0} (G : Ghosts D) (lengths : List ℕ) (old mid : List D) (synced : Staged (λ i. SyncedIf G (slice_index lengths i)) (length lengths) old mid) (many : length lengths ≡ length old) where
+  seen_if : (n : ℕ) (d e : D) → SyncedIf G n d e → G.tells → G.seen e ≡ G.seen d
+  seen_if zero d e same t = ap G.seen same
+  seen_if (suc n) d e s t = s.same t
+
+  pub same_synced : SeenSame G old mid
+  same_synced = (synced.many, λ j d was.
+      let low : j < length old = got_within old j d was in
+      let (f, there, r) = synced.each j d (omega (arith, low, many)) was in
+      (f, there, seen_if (slice_index lengths j) d f r))
 
 pub missed : {A : Type 0} (e : ScanRefusal) (read : Result A LogFault) → ((fault : LogFault) → e ≡ refusal.Bad fault → ⊥) → Misses e read
 missed refusal.NoMemory read good = tt

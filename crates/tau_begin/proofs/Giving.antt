@@ -41,3 +41,11 @@ on_ok_all P (Err e) is = tt
 pub if_ok_both : {A E : Type 0} (P Q R : A → Type 0) (r : Result A E) → IfOk r P → IfOk r Q → ((x : A) → P x → Q x → R x) → IfOk r R
 if_ok_both P Q R (Ok x) is also then_so = then_so x is also
 if_ok_both P Q R (Err e) is also then_so = tt
+
+pub if_ok_on : {A E : Type 0} (P : A → Type 0) (Q : Type 0) (R : A → Type 0) (r : Result A E) → IfOk r P → OnOk r Q → ((x : A) → P x → Q → R x) → IfOk r R
+if_ok_on P Q R (Ok x) is also then_so = then_so x is also
+if_ok_on P Q R (Err e) is also then_so = tt
+
+pub if_ok_all : {A E : Type 0} (P Q R S T : A → Type 0) (r : Result A E) → IfOk r P → IfOk r Q → IfOk r R → IfOk r S → ((x : A) → P x → Q x → R x → S x → T x) → IfOk r T
+if_ok_all P Q R S T (Ok x) p q r s then_so = then_so x p q r s
+if_ok_all P Q R S T (Err e) p q r s then_so = tt

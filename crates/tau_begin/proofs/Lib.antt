@@ -2,3 +2,4 @@ pub mod Giving
 pub mod Starting
 pub mod Ending
 pub mod Finding
+pub mod Looking

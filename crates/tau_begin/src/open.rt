@@ -3,6 +3,15 @@ ghost use Rattle.std.specs.Prelude.{◌≡◌, ◌≤◌, ◌<◌, ◌+◌, ℕ,
 ghost use Rattle.tau_base.specs.declared.limits.TheConstants.{MAX_CATALOGUE};
 ghost use Rattle.tau_base.specs.Modes.{most_streams};
 
+ghost use Rattle.std.specs.Prelude.{vec_capacity, drop, map, slice_get, Some, None, Ok, Err, IfOk, IfErr, OnOk, OnErr};
+ghost use Rattle.tau_disk.specs.Used.{Each, EachUsed, IsClean};
+ghost use Rattle.tau_scan.specs.declared.fault.LogFault.{LogFault};
+ghost use Rattle.tau_scan.specs.Contents.{HasContents};
+ghost use Rattle.tau_scan.specs.Reading.{HasRead, IsLog};
+ghost use Rattle.tau_open.specs.Stages.{AreLengths, OnlySynced};
+ghost use Rattle.tau_begin.specs.Finding.{AreFound, StopsFinding};
+ghost use Rattle.tau_begin.specs.Opened.{AreLooked, IsReadFrom, StopsLooking};
+
 use crate::given::next_epoch;
 use crate::opening::opening_of;
 use crate::read::{read_streams, refusal_of};
@@ -79,7 +88,7 @@ pub fn open_run<D: Disk>(
     let Ok(room) = Vec::with_capacity(alloc, usize::from(n)) else {
         return Err(ScanRefusal::NoMemory);
     };
-    let (log, contents, lengths) = read_run(alloc, disks, n, format, room)?;
+    let (log, contents, lengths) = read_run(alloc, &mut disks[..usize::from(n)], n, format, room)?;
     let (opening, starts) = begin_on(alloc, format, text, &lengths, &log, contents)?;
     match reopen_streams(alloc, disks, starts) {
         Ok(writers) => Ok((opening, writers)),
@@ -87,19 +96,55 @@ pub fn open_run<D: Disk>(
     }
 }
 
-/// Asks and reads the first n disks.
+/// Asks and reads these disks, n of them.
 fn read_run<D: Disk>(
     alloc: Global,
-    disks: &mut Vec<D>,
+    disks: &mut [D],
     n: u8,
     format: Format,
     room: Vec<u64>,
-) -> Result<(Log, Vec<Content>, Vec<u64>), ScanRefusal> {
+) -> Result<(Log, Vec<Content>, Vec<u64>), ScanRefusal>
+    requires low { 1 ≤ n }
+    requires high { n ≤ most_streams format }
+    requires there { length disks.old ≡ n }
+    requires none { room.items ≡ [] }
+    requires room { n ≤ vec_capacity room }
+    ensures only { Each (OnlySynced ⟦<D as Disk>⟧) disks.old disks.new }
+    ensures looked { IfOk result (λ r. AreLooked ⟦<D as Disk>⟧ r.2.items disks.old disks.new) }
+    ensures read { IfOk result (λ r. IsReadFrom ⟦<D as Disk>⟧ format disks.old r.2.items r.0 r.1.items) }
+    ensures bad { (fault : LogFault) → result ≡ Err (ScanRefusal.Bad fault) → HasRead D.tells D.seen (Some format) disks.old (Err (ScanRefusal.Bad fault)) × EachUsed (IsClean D.tells D.number D.fails) disks.old disks.new n }
+    ensures failed { (j : ℕ) → result ≡ Err (ScanRefusal.Failed j) → StopsLooking ⟦<D as Disk>⟧ n j disks.old disks.new }
+{
     let mut lengths = room;
     match ask_each(disks, n, &mut lengths) {
-        Ok(()) => {}
-        Err(refusal) => return Err(refusal_of(refusal)),
+        Ok(()) => read_asked(alloc, disks, format, lengths),
+        Err(refusal) => Err(refusal_of(refusal)),
     }
-    let (log, contents) = read_streams(alloc, format, &mut disks[..usize::from(n)], &lengths)?;
-    Ok((log, contents, lengths))
+}
+
+/// Reads these disks, which have these lengths, and hands the lengths on.
+fn read_asked<D: Disk>(
+    alloc: Global,
+    disks: &mut [D],
+    format: Format,
+    lengths: Vec<u64>,
+) -> Result<(Log, Vec<Content>, Vec<u64>), ScanRefusal>
+    requires low { 1 ≤ length disks.old }
+    requires high { length disks.old ≤ most_streams format }
+    requires many { length lengths.items ≡ length disks.old }
+    requires lengths { AreLengths D.tells D.seen disks.old lengths.items }
+    ensures only { Each (OnlySynced ⟦<D as Disk>⟧) disks.old disks.new }
+    ensures found { OnOk result (AreFound ⟦<D as Disk>⟧ lengths.items disks.old disks.new) }
+    ensures found_bad { (fault : LogFault) → result ≡ Err (ScanRefusal.Bad fault) → AreFound ⟦<D as Disk>⟧ lengths.items disks.old disks.new }
+    ensures failed { (j : ℕ) → result ≡ Err (ScanRefusal.Failed j) → StopsFinding ⟦<D as Disk>⟧ lengths.items j disks.old disks.new }
+    ensures same { IfOk result (λ r. r.2 ≡ lengths) }
+    ensures read { IfOk result (λ r. HasRead D.tells D.seen (Some format) disks.old (Ok r.0)) }
+    ensures bad { (fault : LogFault) → result ≡ Err (ScanRefusal.Bad fault) → HasRead D.tells D.seen (Some format) disks.old (Err (ScanRefusal.Bad fault)) }
+    ensures contents { IfOk result (λ r. HasContents D.tells D.seen (Some format) disks.old r.0 r.1.items) }
+    ensures sound { IfOk result (λ r. IsLog r.0) }
+{
+    match read_streams(alloc, format, disks, &lengths) {
+        Ok((log, contents)) => Ok((log, contents, lengths)),
+        Err(refusal) => Err(refusal),
+    }
 }

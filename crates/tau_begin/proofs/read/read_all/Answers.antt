@@ -2,7 +2,7 @@ use Rattle.std.proofs.Common.{ℕ, ◌≡◌, List, refl, sym, ap, ◌∙◌, ma
 use Rattle.std.specs.Prelude.{Result, Ok, Err, Some}
 use Rattle.tau_open.specs.declared.refusal.OpenRefusal.TheVariants as opens
 use Rattle.tau_scan.specs.declared.fault.ScanRefusal.TheVariants as refusal
-use Rattle.tau_begin.proofs.Finding.{are_found, only_all, stops_reading, stops_syncing, has_read, has_contents, missed, only_refused}
+use Rattle.tau_begin.proofs.Finding.{are_found, only_all, stops_reading, stops_syncing, same_synced, has_read, has_contents, missed, only_refused}
 use Rattle.tau_begin.proofs.Giving.{if_ok_then, on_ok_then}
 use Rattle.tau_begin.proofs.read.read_all.Goals as goal
 
@@ -22,11 +22,11 @@ returns-in-Ok-clause-failed g c j is =
     stops_reading g.D.Disk c.args.lengths.now c.args.disks.now c.barrier.new.disks c.in-Ok.ensures.synced c.requires.many c.scan_contents.new.disks j c.requires.some c.scan_contents.ensures.only_read (c.scan_contents.ensures.failed j is) (c.scan_contents.ensures.stopped j is)
 
 pub returns-in-Ok-clause-read : goal.returns-in-Ok-clause-read
-returns-in-Ok-clause-read g c = has_read g.D.Disk c.args.lengths.now c.args.disks.now c.barrier.new.disks c.in-Ok.ensures.synced c.requires.many (Some c.args.format) _ c.scan_contents.ensures.read
+returns-in-Ok-clause-read g c = has_read g.D.Disk c.args.disks.now c.barrier.new.disks (same_synced g.D.Disk c.args.lengths.now c.args.disks.now c.barrier.new.disks c.in-Ok.ensures.synced c.requires.many) (Some c.args.format) _ c.scan_contents.ensures.read
 
 pub returns-in-Ok-clause-contents : goal.returns-in-Ok-clause-contents
 returns-in-Ok-clause-contents g c = if_ok_then _ _ c.scan_contents.result c.scan_contents.ensures.contents
-    (λ r has. has_contents g.D.Disk c.args.lengths.now c.args.disks.now c.barrier.new.disks c.in-Ok.ensures.synced c.requires.many (Some c.args.format) r.0 r.1.items has)
+    (λ r has. has_contents g.D.Disk c.args.disks.now c.barrier.new.disks (same_synced g.D.Disk c.args.lengths.now c.args.disks.now c.barrier.new.disks c.in-Ok.ensures.synced c.requires.many) (Some c.args.format) r.0 r.1.items has)
 
 pub returns-in-Err-clause-only : goal.returns-in-Err-clause-only
 returns-in-Err-clause-only g c = only_refused g.D.Disk c.args.lengths.now c.args.disks.now c.barrier.new.disks c.barrier.result c.in-Err.refusal c.in-Err.is c.barrier.ensures.failed c.barrier.ensures.memory c.barrier.ensures.long

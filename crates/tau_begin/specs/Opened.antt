@@ -1,0 +1,63 @@
+-- What the opening of a run makes of the disks and gives.
+use Rattle.std.specs.Prelude.{ℕ, ◌+◌, ◌<◌, ◌≤◌, ◌≡◌, ◌⊎◌, List, [], length, map, take, drop, slice_get, slice_index, Some, None, Ok, Err}
+use Rattle.tau_base.specs.declared.format.Format.{Format}
+use Rattle.tau_block.specs.Image.{count_in, format_in, index_in}
+use Rattle.tau_block.specs.declared.content.Content.{Content}
+use Rattle.tau_disk.specs.declared.disk.Disk.{Ghosts}
+use Rattle.tau_disk.specs.Disk.{Only, Passes}
+use Rattle.tau_disk.specs.Used.{EachIn, EachUsed, OfDisk, IsClean}
+use Rattle.tau_scan.specs.declared.fault.LogCause.TheVariants as cause
+use Rattle.tau_scan.specs.declared.fault.LogFault.{LogFault}
+use Rattle.tau_scan.specs.declared.fault.ScanRefusal.{ScanRefusal}
+use Rattle.tau_scan.specs.declared.fault.ScanRefusal.TheVariants as refusal
+use Rattle.tau_scan.specs.declared.log.Log.{Log}
+use Rattle.tau_scan.specs.Begins.{begins_fault}
+use Rattle.tau_scan.specs.Contents.{bytes_in, HasContents}
+use Rattle.tau_scan.specs.Reading.{HasRead, IsLog, log_of}
+use Rattle.tau_scan.specs.Sound.{IsOrderOver}
+use Rattle.tau_scan.specs.Taken.{Kept, taken}
+use Rattle.tau_replay.specs.Redone.{IsRedone, IsTangledAt}
+use Rattle.tau_core.specs.declared.opening.Opening.{Opening}
+use Rattle.tau_stream.specs.declared.writer.Writer.{Writer}
+use Rattle.tau_stream.specs.Stream.{IsOldOrNew, IsUnborn, calls_to_reopen}
+use Rattle.tau_stream.specs.Writer.{disk_of}
+use Rattle.tau_open.specs.declared.start.StreamStart.{StreamStart}
+use Rattle.tau_open.specs.Opening.{Went, Broke}
+use Rattle.tau_open.specs.Reopening.{HasStarted}
+use Rattle.tau_open.specs.Stages.{AreLengths, OnlySynced}
+use Rattle.tau_begin.specs.Finding.{has_byte, calls_to_find}
+use Rattle.tau_begin.specs.Given.{next_epoch}
+use Rattle.tau_begin.specs.Starts.{AreStarts, IsOpeningOn}
+
+-- the calls that ask the length of a disk and read it, where the disks have these lengths
+abbrev pub calls_to_look : List ℕ → ℕ → ℕ
+calls_to_look sizes j = 1 + calls_to_find (has_byte sizes) (slice_index sizes j)
+
+-- they are no more than this
+abbrev pub most_to_look : ℕ
+most_to_look = 4
+
+module _ {D : Type 0} (G : Ghosts D) where
+  -- the disk of stream j was asked and read, behind a barrier if it has a byte
+  pub record IsLooked (sizes : List ℕ) (j : ℕ) (d e : D) : Type 0 where
+    pub only : OnlySynced G d e
+    pub same : G.tells → G.seen e ≡ G.seen d
+    pub settled : G.tells → (G.seen d ≡ [] → ⊥) → Only (G.seen e) (G.may_leave e)
+    pub went : Went G (calls_to_look sizes j) d e
+
+  abbrev pub AreLooked : List ℕ → List D → List D → Type 0
+  AreLooked sizes old new = EachIn (λ j. j < length sizes) (IsLooked sizes) old new
+
+  -- the disk of stream j failed meanwhile, one of n, and of those below it no call was to fail
+  pub record StopsLooking (n j : ℕ) (old new : List D) : Type 0 where
+    pub low : j < n
+    pub clean : EachIn (λ i. i < j) (λ i. IsClean G.tells G.number G.fails) old new
+    pub here : OfDisk (Broke G most_to_look) old new j
+
+-- what was read: the log of the first n disks, of which these are the lengths and the contents
+pub record IsReadFrom {D : Type 0} (G : Ghosts D) (f : Format) (disks : List D) (sizes : List ℕ) (log : Log) (contents : List Content) : Type 0 where
+  pub lengths : AreLengths G.tells G.seen disks sizes
+  pub many : length sizes ≡ length disks
+  pub read : HasRead G.tells G.seen (Some f) disks (Ok log)
+  pub contents_are : HasContents G.tells G.seen (Some f) disks log contents
+  pub sound : IsLog log
