@@ -3,3 +3,4 @@ pub mod Starting
 pub mod Ending
 pub mod Finding
 pub mod Looking
+pub mod Beginning

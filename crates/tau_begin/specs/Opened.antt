@@ -61,3 +61,15 @@ pub record IsReadFrom {D : Type 0} (G : Ghosts D) (f : Format) (disks : List D) 
   pub read : HasRead G.tells G.seen (Some f) disks (Ok log)
   pub contents_are : HasContents G.tells G.seen (Some f) disks log contents
   pub sound : IsLog log
+
+-- why a run cannot begin on a log of images with these lengths: a cause of its own, or the log is tangled
+abbrev pub IsRefusedOn : List ℕ → List ℕ → Log → LogFault → Type 0
+IsRefusedOn text sizes log fault = (begins_fault text sizes log ≡ Some fault)
+    ⊎ ((begins_fault text sizes log ≡ None) × ((at : ℕ) × (fault.cause ≡ cause.Tangled at) × IsTangledAt log fault.stream at) × ((order : List Kept) → IsOrderOver (taken log) order → ⊥))
+
+-- a run begins on a log that was read so, from this state, with what each stream starts with
+pub record Begins (f : Format) (text sizes : List ℕ) (log : Log) (contents : List Content) (o : Opening) (starts : List StreamStart) : Type 0 where
+  pub fits : begins_fault text sizes log ≡ None
+  pub starts_are : AreStarts f text (next_epoch (bytes_in contents) log) log.elv contents starts
+  pub opening : IsOpeningOn log starts o
+  pub rows : IsRedone log o.rows

@@ -6,11 +6,19 @@ ghost use Rattle.tau_base.specs.Modes.{most_streams};
 ghost use Rattle.std.specs.Prelude.{vec_capacity, drop, map, slice_get, Some, None, Ok, Err, IfOk, IfErr, OnOk, OnErr};
 ghost use Rattle.tau_disk.specs.Used.{Each, EachUsed, IsClean};
 ghost use Rattle.tau_scan.specs.declared.fault.LogFault.{LogFault};
-ghost use Rattle.tau_scan.specs.Contents.{HasContents};
+ghost use Rattle.std.specs.Prelude.{◌^◌};
+ghost use Rattle.tau_record.specs.declared.entry.Placed.{Placed as OneRecord};
+ghost use Rattle.tau_record.specs.Content.{anchors_of};
+ghost use Rattle.tau_scan.specs.Contents.{AreShortContents, HasContents, bytes_in};
+ghost use Rattle.tau_scan.specs.Sound.{IsOrderOver};
+ghost use Rattle.tau_scan.specs.Taken.{Kept, taken};
+ghost use Rattle.tau_replay.specs.Redone.{IsRedone, IsTangledAt};
+ghost use Rattle.tau_begin.specs.Given.{next_epoch};
+ghost use Rattle.tau_begin.specs.Starts.{AreStarts, IsOpeningOn};
 ghost use Rattle.tau_scan.specs.Reading.{HasRead, IsLog};
 ghost use Rattle.tau_open.specs.Stages.{AreLengths, OnlySynced};
 ghost use Rattle.tau_begin.specs.Finding.{AreFound, StopsFinding};
-ghost use Rattle.tau_begin.specs.Opened.{AreLooked, IsReadFrom, StopsLooking};
+ghost use Rattle.tau_begin.specs.Opened.{AreLooked, Begins, IsReadFrom, IsRefusedOn, StopsLooking};
 
 use crate::given::next_epoch;
 use crate::opening::opening_of;
@@ -28,7 +36,13 @@ use tau_scan::{Log, LogCause, LogFault, ReplayRefusal, ScanRefusal};
 use tau_stream::Writer;
 
 /// The rows of redoing a log.
-fn redone(alloc: Global, log: &Log) -> Result<Tables, ScanRefusal> {
+fn redone(alloc: Global, log: &Log) -> Result<Tables, ScanRefusal>
+    requires { IsLog log.now }
+    ensures rows { IfOk result (λ rows. IsRedone log.now rows) }
+    ensures bad { (fault : LogFault) → result ≡ Err (ScanRefusal.Bad fault) →
+        ((at : ℕ) × (fault.cause ≡ LogCause.Tangled at) × IsTangledAt log.now fault.stream at) × ((order : List Kept) → IsOrderOver (taken log.now) order → ⊥) }
+    ensures no_disk { (j : ℕ) → result ≡ Err (ScanRefusal.Failed j) → ⊥ }
+{
     match replay_turns(alloc, log, &[]) {
         Ok(tables) => Ok(tables),
         Err(ReplayRefusal::NoMemory) => Err(ScanRefusal::NoMemory),
@@ -44,18 +58,55 @@ fn begin_on(
     alloc: Global,
     format: Format,
     text: &[u8],
-    lengths: &[u64],
+    sizes: &[u64],
     log: &Log,
     contents: Vec<Content>,
-) -> Result<(Opening, Vec<StreamStart>), ScanRefusal> {
-    if let Some(fault) = log.begins_fault(text, lengths) {
-        return Err(ScanRefusal::Bad(fault));
+) -> Result<(Opening, Vec<StreamStart>), ScanRefusal>
+    requires low { 1 ≤ vec_len contents }
+    requires high { vec_len contents ≤ most_streams format }
+    requires sizes { length sizes.now ≡ vec_len contents }
+    requires streams { length log.now.streams ≡ vec_len contents }
+    requires short { AreShortContents contents.items }
+    requires log { IsLog log.now }
+    requires text { length text.now ≤ MAX_CATALOGUE }
+    ensures begun { IfOk result (λ r. Begins format text.now sizes.now log.now contents.items r.0 r.1.items) }
+    ensures bad { (fault : LogFault) → result ≡ Err (ScanRefusal.Bad fault) → IsRefusedOn text.now sizes.now log.now fault }
+    ensures no_disk { (j : ℕ) → result ≡ Err (ScanRefusal.Failed j) → ⊥ }
+{
+    match log.begins_fault(text, sizes) {
+        Some(fault) => Err(ScanRefusal::Bad(fault)),
+        None => match redone(alloc, log) {
+            Ok(rows) => start_on(alloc, format, text, rows, log, contents),
+            Err(refusal) => Err(refusal),
+        },
     }
-    let rows = redone(alloc, log)?;
-    match starts_on(alloc, format, text, log, contents) {
-        Ok(starts) => Ok((opening_of(rows, log, &starts), starts)),
-        Err(_) => Err(ScanRefusal::NoMemory),
-    }
+}
+
+/// The same, once the rows are there.
+fn start_on(
+    alloc: Global,
+    format: Format,
+    text: &[u8],
+    rows: Tables,
+    log: &Log,
+    contents: Vec<Content>,
+) -> Result<(Opening, Vec<StreamStart>), ScanRefusal>
+    requires low { 1 ≤ vec_len contents }
+    requires high { vec_len contents ≤ most_streams format }
+    requires streams { length log.now.streams ≡ vec_len contents }
+    requires short { AreShortContents contents.items }
+    requires text { length text.now ≤ MAX_CATALOGUE }
+    requires anchors { (j : ℕ) (ps : List OneRecord) → slice_get log.now.streams j ≡ Some ps → length (anchors_of ps) < 2 ^ 32 }
+    ensures starts { IfOk result (λ r. AreStarts format text.now (next_epoch (bytes_in contents.items) log.now) log.now.elv contents.items r.1.items) }
+    ensures opening { IfOk result (λ r. IsOpeningOn log.now r.1.items r.0) }
+    ensures rows { IfOk result (λ r. r.0.rows ≡ rows) }
+    ensures memory { IfErr result (λ refusal. refusal ≡ ScanRefusal.NoMemory) }
+{
+    let Ok(starts) = starts_on(alloc, format, text, log, contents) else {
+        return Err(ScanRefusal::NoMemory);
+    };
+    let opening = opening_of(rows, log, &starts);
+    Ok((opening, starts))
 }
 
 /// What each stream starts with.
@@ -65,7 +116,12 @@ fn starts_on(
     text: &[u8],
     log: &Log,
     contents: Vec<Content>,
-) -> Result<Vec<StreamStart>, NoMemory> {
+) -> Result<Vec<StreamStart>, NoMemory>
+    requires high { vec_len contents ≤ most_streams format }
+    requires short { AreShortContents contents.items }
+    requires text { length text.now ≤ MAX_CATALOGUE }
+    ensures { IfOk result (λ starts. AreStarts format text.now (next_epoch (bytes_in contents.items) log.now) log.now.elv contents.items starts.items) }
+{
     let epoch = next_epoch(&contents, log)?;
     starts_of(alloc, format, contents, text, epoch, &log.elv)
 }
