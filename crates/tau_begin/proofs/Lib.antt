@@ -4,3 +4,7 @@ pub mod Ending
 pub mod Finding
 pub mod Looking
 pub mod Beginning
+pub mod Slices
+pub mod Opened
+pub mod Reading
+pub mod Barrier

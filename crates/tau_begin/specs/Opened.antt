@@ -73,3 +73,81 @@ pub record Begins (f : Format) (text sizes : List ℕ) (log : Log) (contents : L
   pub starts_are : AreStarts f text (next_epoch (bytes_in contents) log) log.elv contents starts
   pub opening : IsOpeningOn log starts o
   pub rows : IsRedone log o.rows
+
+module _ {D : Type 0} (G : Ghosts D) where
+  -- What became of the disk of stream j of n since the opening began: it was read, and since then a stop leaves what it held,
+  -- or that with what the stream is given. Of a disk without a byte this is said where a stop left at most a header at the entry.
+  pub record IsTouched (f : Format) (n j : ℕ) (sizes old body : List ℕ) (d e : D) : Type 0 where
+    pub mid : D
+    pub looked : IsLooked G sizes j d mid
+    pub starts : G.tells → (G.seen d ≡ [] → IsUnborn (G.may_leave d)) → Passes G.moment G.may_leave_since mid e (IsOldOrNew f n j old body)
+
+  -- the same by what the stream starts with
+  abbrev pub TouchedAt : Format → List ℕ → List StreamStart → ℕ → D → D → Type 0
+  TouchedAt f sizes starts j d e = (p : StreamStart) → slice_get starts j ≡ Some p → IsTouched f (length starts) j sizes p.content.bytes p.body d e
+
+  -- all calls that open the stream were made, and none of them was to fail
+  abbrev pub OpenedAt : Format → List ℕ → List StreamStart → ℕ → D → D → Type 0
+  OpenedAt f sizes starts j d e = TouchedAt f sizes starts j d e × ((p : StreamStart) → slice_get starts j ≡ Some p → Went G (calls_to_look sizes j + calls_to_reopen p.content.count) d e)
+
+  -- the first one that was to fail was one of them
+  abbrev pub BreaksAt : List ℕ → List StreamStart → ℕ → D → D → Type 0
+  BreaksAt sizes starts j d e = (p : StreamStart) → slice_get starts j ≡ Some p → Broke G (calls_to_look sizes j + calls_to_reopen p.content.count) d e
+
+  -- the disk of stream j failed when its stream was started, and of those below it no call was to fail
+  pub record StopsStarting (sizes : List ℕ) (starts : List StreamStart) (j : ℕ) (old new : List D) : Type 0 where
+    pub low : j < length starts
+    pub clean : EachIn (λ i. i < j) (λ i. IsClean G.tells G.number G.fails) old new
+    pub here : OfDisk (BreaksAt sizes starts j) old new j
+
+  -- all was read of the first n disks, and a run begins on it
+  pub record IsBegun (f : Format) (text : List ℕ) (disks : List D) (sizes : List ℕ) (starts : List StreamStart) : Type 0 where
+    pub log : Log
+    pub contents : List Content
+    pub opening : Opening
+    pub read : IsReadFrom G f disks sizes log contents
+    pub begins : Begins f text sizes log contents opening starts
+
+  -- all was read of the first n disks, and the run begins so; nothing was written
+  pub record IsReady (f : Format) (n : ℕ) (text : List ℕ) (old new : List D) (o : Opening) (starts : List StreamStart) : Type 0 where
+    pub sizes : List ℕ
+    pub begun : IsBegun f text (take n old) sizes starts
+    pub opening : begun.opening ≡ o
+    pub count : length starts ≡ n
+    pub looked : EachIn (λ j. j < n) (IsLooked G sizes) old new
+
+  -- the writers have the first n disks, whose streams have started, and the others stand as they stood
+  pub record IsOpenRun (f : Format) (n : ℕ) (text : List ℕ) (old new : List D) (o : Opening) (ws : List (Writer D G)) : Type 0 where
+    pub sizes : List ℕ
+    pub starts : List StreamStart
+    pub begun : IsBegun f text (take n old) sizes starts
+    pub opening : begun.opening ≡ o
+    pub count : length ws ≡ n
+    pub rest : new ≡ drop n old
+    pub disks : EachIn (λ j. j < n) (OpenedAt f sizes starts) old (map disk_of ws)
+    pub writers : (j : ℕ) (w : Writer D G) (p : StreamStart) → slice_get ws j ≡ Some w → slice_get starts j ≡ Some p → HasStarted p w
+
+  -- the disks stand in their places, and each was at most read and synced, or it was read and its stream is at most started
+  pub record IsWritten (f : Format) (n : ℕ) (text : List ℕ) (old new : List D) : Type 0 where
+    pub sizes : List ℕ
+    pub starts : List StreamStart
+    pub begun : IsBegun f text (take n old) sizes starts
+    pub touched : EachIn (λ j. j < n) (TouchedAt f sizes starts) old new
+
+  -- why the log of the first n disks is refused
+  abbrev pub IsBadRead : Format → ℕ → List ℕ → List D → LogFault → Type 0
+  IsBadRead f n text disks fault = HasRead G.tells G.seen (Some f) (take n disks) (Err (refusal.Bad fault))
+      ⊎ ((sizes : List ℕ) × (log : Log) × (contents : List Content) × IsReadFrom G f (take n disks) sizes log contents × IsRefusedOn text sizes log fault)
+
+  -- what a refusal tells before anything is written
+  abbrev pub RefusesReading : Format → ℕ → List ℕ → List D → List D → ScanRefusal → Type 0
+  RefusesReading f n text old new refusal.NoMemory = EachUsed (OnlySynced G) old new n
+  RefusesReading f n text old new (refusal.Failed j) = StopsLooking G n j old new × EachUsed (OnlySynced G) old new n
+  RefusesReading f n text old new (refusal.Bad fault) = IsBadRead f n text old fault × EachUsed (IsClean G.tells G.number G.fails) old new n × EachUsed (OnlySynced G) old new n
+
+  -- what a refusal of the opening tells of the disks, which stand in their places
+  abbrev pub RefusesRun : Format → ℕ → List ℕ → List D → List D → ScanRefusal → Type 0
+  RefusesRun f n text old new refusal.NoMemory = EachUsed (OnlySynced G) old new n ⊎ IsWritten f n text old new
+  RefusesRun f n text old new (refusal.Failed j) = (StopsLooking G n j old new × EachUsed (OnlySynced G) old new n)
+      ⊎ ((w : IsWritten f n text old new) × StopsStarting w.sizes w.starts j old new)
+  RefusesRun f n text old new (refusal.Bad fault) = IsBadRead f n text old fault × EachUsed (IsClean G.tells G.number G.fails) old new n × EachUsed (OnlySynced G) old new n

@@ -3,9 +3,11 @@
 #![tactic(auto)]
 
 mod given;
+mod laws;
 mod open;
 mod opening;
 mod read;
 mod starts;
 
+pub use laws::opening_is_put;
 pub use open::open_run;

@@ -3,8 +3,8 @@ ghost use Rattle.std.specs.Prelude.{◌≡◌, ◌≤◌, ◌<◌, ◌+◌, ℕ,
 ghost use Rattle.tau_base.specs.declared.limits.TheConstants.{MAX_CATALOGUE};
 ghost use Rattle.tau_base.specs.Modes.{most_streams};
 
-ghost use Rattle.std.specs.Prelude.{vec_capacity, drop, map, slice_get, Some, None, Ok, Err, IfOk, IfErr, OnOk, OnErr};
-ghost use Rattle.tau_disk.specs.Used.{Each, EachUsed, IsClean};
+ghost use Rattle.std.specs.Prelude.{vec_capacity, drop, take, map, slice_get, Some, None, Ok, Err, IfOk, IfErr, OnOk, OnErr};
+ghost use Rattle.tau_disk.specs.Used.{Each, EachIn, EachUsed, IsClean};
 ghost use Rattle.tau_scan.specs.declared.fault.LogFault.{LogFault};
 ghost use Rattle.std.specs.Prelude.{◌^◌};
 ghost use Rattle.tau_record.specs.declared.entry.Placed.{Placed as OneRecord};
@@ -18,7 +18,7 @@ ghost use Rattle.tau_begin.specs.Starts.{AreStarts, IsOpeningOn};
 ghost use Rattle.tau_scan.specs.Reading.{HasRead, IsLog};
 ghost use Rattle.tau_open.specs.Stages.{AreLengths, OnlySynced};
 ghost use Rattle.tau_begin.specs.Finding.{AreFound, StopsFinding};
-ghost use Rattle.tau_begin.specs.Opened.{AreLooked, Begins, IsReadFrom, IsRefusedOn, StopsLooking};
+ghost use Rattle.tau_begin.specs.Opened.{AreLooked, Begins, IsLooked, IsOpenRun, IsReadFrom, IsReady, IsRefusedOn, RefusesReading, RefusesRun, StopsLooking};
 
 use crate::given::next_epoch;
 use crate::opening::opening_of;
@@ -140,16 +140,73 @@ pub fn open_run<D: Disk>(
     requires high { n ≤ most_streams format }
     requires there { n ≤ vec_len disks.old }
     requires short { length text.now ≤ MAX_CATALOGUE }
+    ensures opened { IfOk result (λ r. IsOpenRun ⟦<D as Disk>⟧ format n text.now disks.old.items disks.new.items r.0 r.1.items) }
+    ensures refused { IfErr result (λ refusal. RefusesRun ⟦<D as Disk>⟧ format n text.now disks.old.items disks.new.items refusal) }
+    ensures rest { OnErr result (drop n disks.new.items ≡ drop n disks.old.items) }
+    ensures back { OnErr result (vec_len disks.new ≡ vec_len disks.old) }
+    ensures capacity { vec_capacity disks.new ≡ vec_capacity disks.old }
+    ensures len { IfOk result (λ r. vec_len r.1 + vec_len disks.new ≡ vec_len disks.old) }
 {
     let Ok(room) = Vec::with_capacity(alloc, usize::from(n)) else {
         return Err(ScanRefusal::NoMemory);
     };
-    let (log, contents, lengths) = read_run(alloc, &mut disks[..usize::from(n)], n, format, room)?;
-    let (opening, starts) = begin_on(alloc, format, text, &lengths, &log, contents)?;
-    match reopen_streams(alloc, disks, starts) {
-        Ok(writers) => Ok((opening, writers)),
-        Err(refusal) => Err(refusal_of(refusal)),
+    match begin_run(alloc, disks, n, format, text, room) {
+        Ok((opening, starts)) => match reopen_streams(alloc, disks, starts) {
+            Ok(writers) => Ok((opening, writers)),
+            Err(refusal) => Err(refusal_of(refusal)),
+        },
+        Err(refusal) => Err(refusal),
     }
+}
+
+/// Asks and reads the first n disks, and makes of what they hold the state in which the run begins and what each stream
+/// starts with.
+fn begin_run<D: Disk>(
+    alloc: Global,
+    disks: &mut [D],
+    n: u8,
+    format: Format,
+    text: &[u8],
+    room: Vec<u64>,
+) -> Result<(Opening, Vec<StreamStart>), ScanRefusal>
+    requires low { 1 ≤ n }
+    requires high { n ≤ most_streams format }
+    requires there { n ≤ length disks.old }
+    requires none { room.items ≡ [] }
+    requires room { n ≤ vec_capacity room }
+    requires short { length text.now ≤ MAX_CATALOGUE }
+    ensures begun { IfOk result (λ r. IsReady ⟦<D as Disk>⟧ format n text.now disks.old disks.new r.0 r.1.items) }
+    ensures refused { IfErr result (λ refusal. RefusesReading ⟦<D as Disk>⟧ format n text.now disks.old disks.new refusal) }
+    ensures rest { drop n disks.new ≡ drop n disks.old }
+{
+    match read_first(alloc, disks, n, format, room) {
+        Ok((log, contents, sizes)) => begin_on(alloc, format, text, &sizes, &log, contents),
+        Err(refusal) => Err(refusal),
+    }
+}
+
+/// Asks and reads the first n disks.
+fn read_first<D: Disk>(
+    alloc: Global,
+    disks: &mut [D],
+    n: u8,
+    format: Format,
+    room: Vec<u64>,
+) -> Result<(Log, Vec<Content>, Vec<u64>), ScanRefusal>
+    requires low { 1 ≤ n }
+    requires high { n ≤ most_streams format }
+    requires there { n ≤ length disks.old }
+    requires none { room.items ≡ [] }
+    requires room { n ≤ vec_capacity room }
+    ensures only { EachUsed (OnlySynced ⟦<D as Disk>⟧) disks.old disks.new n }
+    ensures looked { IfOk result (λ r. EachIn (λ j. j < n) (IsLooked ⟦<D as Disk>⟧ r.2.items) disks.old disks.new) }
+    ensures read { IfOk result (λ r. IsReadFrom ⟦<D as Disk>⟧ format (take n disks.old) r.2.items r.0 r.1.items) }
+    ensures bad { (fault : LogFault) → result ≡ Err (ScanRefusal.Bad fault) →
+        HasRead D.tells D.seen (Some format) (take n disks.old) (Err (ScanRefusal.Bad fault)) × EachUsed (IsClean D.tells D.number D.fails) disks.old disks.new n }
+    ensures failed { (j : ℕ) → result ≡ Err (ScanRefusal.Failed j) → StopsLooking ⟦<D as Disk>⟧ n j disks.old disks.new }
+    ensures rest { drop n disks.new ≡ drop n disks.old }
+{
+    read_run(alloc, &mut disks[..n as usize], n, format, room)
 }
 
 /// Asks and reads these disks, n of them.
