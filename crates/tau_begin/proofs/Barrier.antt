@@ -1,14 +1,14 @@
 -- The barrier of a disk, through the opening and whatever comes after it.
-use Rattle.std.proofs.Common.{ℕ, ◌≡◌, ◌≤◌, ◌⊎◌, true, List, [], ◌∷◌, ◌++◌, refl, sym, subst, inl, inr, ⊎_elim, length, arith, ◌∙◌}
+use Rattle.std.proofs.Common.{ℕ, ◌≡◌, ◌≤◌, ◌⊎◌, true, List, [], ◌∷◌, refl, sym, subst, inl, inr, ⊎_elim, length, arith, ◌∙◌}
 use Rattle.std.specs.Prelude.{nat_le}
 use Rattle.std.proofs.lemmas.Bool.Decides.{nat_tests}
 use Rattle.tau_base.specs.declared.format.Format.{Format}
 use Rattle.tau_block.specs.Image.{HasContent}
 use Rattle.tau_disk.specs.declared.disk.Disk.{Ghosts}
-use Rattle.tau_disk.specs.Disk.{Only, Passes}
+use Rattle.tau_disk.specs.Disk.{Passes}
 use Rattle.tau_disk.specs.Passing.{passes_none, passes_on, barrier}
 use Rattle.tau_stream.specs.Stream.{IsOldOrNew, IsUnborn}
-use Rattle.tau_begin.specs.Opened.{IsLooked, IsTouched}
+use Rattle.tau_begin.specs.Opened.{IsTouched}
 use Rattle.tau_begin.specs.Barrier.{IsPut, OpeningIsPut}
 
 unborn_content : (f : Format) (n j : ℕ) (x : List ℕ) → length x ≤ 17 → HasContent f n j [] x
@@ -29,32 +29,39 @@ module _ {D : Type 0} (G : Ghosts D) (only_now : (d : D) (x : List ℕ) → G.ma
   Put = (b : ℕ) × IsPut G b d g × ((x : List ℕ) → G.may_leave_since g b x → Left x)
 
   from_entry : G.seen d ≡ [] → Put
-  from_entry none = (G.moment d, record {
-    low = omega arith;
-    high = omega (arith, touched.looked.only.moments.later, after.later);
-    since_b = λ x s. inr s;
-    entry = λ tells empty. refl;
-  }, λ x s. ⊎_elim
-      (λ early. let at : G.may_leave d x = at_entry x early in
-          inl (inl (subst (λ (c : List ℕ). HasContent f n j c x) (sym (empty none).0) (unborn_content f n j x ((empty none).1 x at)))))
-      (λ is. is)
-      (after.new_ones (G.moment d) x touched.looked.only.moments.later s))
+  from_entry none = (
+    G.moment d,
+    record {
+      low = omega arith;
+      high = omega (arith, touched.looked.only.moments.later, after.later);
+      since_b = λ x s. inr s;
+      entry = λ tells empty. refl;
+    },
+    λ x s. ⊎_elim
+        (λ early. let at : G.may_leave d x = at_entry x early in
+        inl (inl (subst (λ (c : List ℕ). HasContent f n j c x) (sym (empty none).0) (unborn_content f n j x ((empty none).1 x at)))))
+        (λ is. is)
+        (after.new_ones (G.moment d) x touched.looked.only.moments.later s),
+  )
     where
       at_entry : (x : List ℕ) → G.may_leave_since touched.mid (G.moment d) x → G.may_leave d x
       at_entry x s = ⊎_elim (λ before. only_now d x before) (λ is. is) (touched.looked.only.moments.new_ones (G.moment d) x (omega arith) s)
 
   from_barrier : (G.seen d ≡ [] → ⊥) → Put
   from_barrier some =
-      let both = barrier G.moment G.may_leave_since G.may_leave only_now d mid g (G.seen mid) Left touched.looked.only.moments (touched.looked.settled t some) after in
-      (G.moment mid, record {
-        low = touched.looked.only.moments.later;
-        high = after.later;
-        since_b = both.0;
-        entry = λ tells none. absurd (some none);
-      }, λ x s. ⊎_elim
-          (λ same. inl (inl (subst (λ (y : List ℕ). HasContent f n j old y) (sym (same ∙ touched.looked.same t)) has)))
-          (λ is. is)
-          (both.1 x s))
+      let both = barrier G.moment G.may_leave_since G.may_leave only_now d mid g (G.seen mid) Left touched.looked.only.moments (touched.looked.settled t some) after in (
+        G.moment mid,
+        record {
+          low = touched.looked.only.moments.later;
+          high = after.later;
+          since_b = both.0;
+          entry = λ tells none. absurd (some none);
+        },
+        λ x s. ⊎_elim
+            (λ same. inl (inl (subst (λ (y : List ℕ). HasContent f n j old y) (sym (same ∙ touched.looked.same t)) has)))
+            (λ is. is)
+            (both.1 x s),
+      )
 
   by_bytes : (xs : List ℕ) → G.seen d ≡ xs → Put
   by_bytes [] is = from_entry is

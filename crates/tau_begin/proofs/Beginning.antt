@@ -1,7 +1,6 @@
 -- What is known of a log from which a run can go on.
-use Rattle.std.proofs.Common.{ℕ, zero, suc, ◌≡◌, ◌+◌, ◌<◌, ◌≤◌, List, [], ◌∷◌, refl, sym, ap, subst, ◌∙◌, inl, inr, true, false, length, arith}
-use Rattle.std.specs.Prelude.{Bool, Option, Some, None, ◌&&◌, ◌||◌, ◌^◌, nat_lt, slice_get, if◌then◌else◌}
-use Rattle.std.proofs.lemmas.Bool.{cases_Bool}
+use Rattle.std.proofs.Common.{ℕ, zero, suc, ◌≡◌, ◌+◌, ◌<◌, List, [], ◌∷◌, refl, sym, ap, subst, ◌∙◌, true, false, length, arith}
+use Rattle.std.specs.Prelude.{Bool, Option, Some, None, ◌&&◌, ◌^◌, slice_get, if◌then◌else◌}
 use Rattle.std.proofs.lemmas.Bool.Decides.{nat_tests}
 use Rattle.tau_base.proofs.Logic.{some_is}
 use Rattle.tau_block.specs.declared.content.Content.{Content}

@@ -1,12 +1,11 @@
 -- What the steps of reading come to together, disk by disk.
-use Rattle.std.proofs.Common.{ℕ, zero, suc, ◌≡◌, ◌+◌, ◌<◌, ◌≤◌, ◌⊎◌, List, [], ◌∷◌, refl, sym, ap, subst, ◌∙◌, inl, inr, ⊎_elim, true, false, length, map, replicate, drop, arith}
-use Rattle.std.specs.Prelude.{Bool, Option, Some, Result, Ok, Err, slice_get, slice_index}
+use Rattle.std.proofs.Common.{ℕ, zero, suc, ◌≡◌, ◌+◌, ◌<◌, ◌≤◌, List, [], ◌∷◌, refl, sym, ap, subst, ◌∙◌, inl, inr, ⊎_elim, true, false, length, map, replicate, arith}
+use Rattle.std.specs.Prelude.{Bool, Option, Some, Result, Err, slice_get, slice_index}
 use Rattle.std.proofs.lemmas.Bool.{cases_eq}
 use Rattle.tau_base.proofs.Logic.{some_is, below_or_not}
 use Rattle.tau_base.proofs.Lists.{got_within, some_at}
 use Rattle.tau_disk.specs.declared.disk.Disk.{Ghosts}
-use Rattle.tau_disk.specs.Disk.{Only, Rose}
-use Rattle.tau_disk.specs.Plan.{MadeSome}
+use Rattle.tau_disk.specs.Disk.{Rose}
 use Rattle.tau_disk.specs.Passing.{passes_none, passes_on}
 use Rattle.tau_disk.specs.Used.{EachIn, Each, OfDisk, OnlyRead, AllCalls, IsClean, IsStopped}
 use Rattle.tau_base.specs.declared.format.Format.{Format}
@@ -21,7 +20,7 @@ use Rattle.tau_scan.specs.Outside.{IsRead, calls_to_read}
 use Rattle.tau_open.specs.declared.refusal.OpenRefusal.{OpenRefusal}
 use Rattle.tau_open.specs.declared.refusal.OpenRefusal.TheVariants as opens
 use Rattle.tau_open.specs.Opening.{Went, Broke}
-use Rattle.tau_open.specs.Stages.{OnlySynced, Synced, FailsSynced, SyncedIf, FailsSyncedIf, Staged, StageFails}
+use Rattle.tau_open.specs.Stages.{OnlySynced, SyncedIf, FailsSyncedIf, Staged, StageFails}
 use Rattle.tau_open.proofs.Calls.{went_on, went_broke, went_clean}
 use Rattle.tau_open.proofs.Places.{get_dropped}
 use Rattle.tau_begin.specs.Finding.{has_byte, calls_to_find, IsFound, AreFound, StopsFinding}
@@ -161,11 +160,17 @@ module _ {D : Type 0} (G : Ghosts D) where
               let (c, at_i, q) = synced.each i b (omega (arith, under, low)) before in
               let (k, now, s_i) = read i c at_i in
               (k, now, clean_on (slice_index lengths i) b c k q (λ t. let (l, now_too, cl) = (stop t).1 i c under at_i in subst (λ (z : D). IsClean G.tells G.number G.fails c z) (some_is l k (sym now_too ∙ now)) cl t));
-          here = (d, f, was, is, subst (λ (b : Bool). Broke G (calls_to_find b (slice_index lengths j)) d f) (sym some)
-              (broke_found (slice_index lengths j) d e f (subst (λ (z : D). SyncedIf G (slice_index lengths j) d z) same r)
-              (subst (λ (z : D). IsRead G.tells G.seen G.may_leave G.moment G.may_leave_since G.faults G.number G.fails e z) same_too s) up
-              (λ t. let (a, b, at_a, at_b, st) = (stop t).0 in
-                  subst (λ (z : D). IsStopped G.tells G.number G.fails G.short z f) (some_is a e (sym at_a ∙ there)) (subst (λ (z : D). IsStopped G.tells G.number G.fails G.short a z) (some_is b f (sym at_b ∙ is)) st))));
+          here = (
+            d,
+            f,
+            was,
+            is,
+            subst (λ (b : Bool). Broke G (calls_to_find b (slice_index lengths j)) d f) (sym some)
+                (broke_found (slice_index lengths j) d e f (subst (λ (z : D). SyncedIf G (slice_index lengths j) d z) same r)
+                (subst (λ (z : D). IsRead G.tells G.seen G.may_leave G.moment G.may_leave_since G.faults G.number G.fails e z) same_too s) up
+                (λ t. let (a, b, at_a, at_b, st) = (stop t).0 in
+                subst (λ (z : D). IsStopped G.tells G.number G.fails G.short z f) (some_is a e (sym at_a ∙ there)) (subst (λ (z : D). IsStopped G.tells G.number G.fails G.short a z) (some_is b f (sym at_b ∙ is)) st))),
+          );
         }
       where
         here_before : (j : ℕ) (e : D) → slice_get mid j ≡ Some e → j < length lengths → (d : D) × (slice_get old j ≡ Some d)
@@ -253,10 +258,13 @@ module _ {D : Type 0} (G : Ghosts D) (lengths : List ℕ) (old mid : List D) (sy
   seen_if (suc n) d e s t = s.same t
 
   pub same_synced : SeenSame G old mid
-  same_synced = (synced.many, λ j d was.
-      let low : j < length old = got_within old j d was in
-      let (f, there, r) = synced.each j d (omega (arith, low, many)) was in
-      (f, there, seen_if (slice_index lengths j) d f r))
+  same_synced = (
+    synced.many,
+    λ j d was.
+        let low : j < length old = got_within old j d was in
+        let (f, there, r) = synced.each j d (omega (arith, low, many)) was in
+        (f, there, seen_if (slice_index lengths j) d f r),
+  )
 
 pub missed : {A : Type 0} (e : ScanRefusal) (read : Result A LogFault) → ((fault : LogFault) → e ≡ refusal.Bad fault → ⊥) → Misses e read
 missed refusal.NoMemory read good = tt

@@ -1,14 +1,14 @@
 -- What asking and reading come to together, disk by disk.
-use Rattle.std.proofs.Common.{ℕ, zero, suc, ◌≡◌, ◌+◌, ◌<◌, ◌≤◌, ◌⊎◌, List, [], ◌∷◌, refl, sym, ap, subst, ◌∙◌, inl, inr, ⊎_elim, true, false, length, arith}
+use Rattle.std.proofs.Common.{ℕ, zero, suc, ◌≡◌, ◌+◌, ◌<◌, ◌≤◌, List, [], ◌∷◌, refl, sym, ap, subst, ◌∙◌, inl, inr, ⊎_elim, true, false, length, arith}
 use Rattle.std.specs.Prelude.{Bool, Some, Result, Err, slice_get, slice_index}
 use Rattle.std.proofs.lemmas.Bool.{cases_eq}
 use Rattle.tau_base.proofs.Logic.{some_is, below_or_not}
 use Rattle.tau_base.proofs.Lists.{got_within, some_at}
 use Rattle.tau_disk.specs.declared.disk.Disk.{Ghosts}
-use Rattle.tau_disk.specs.Used.{EachIn, EachUsed, Each, OfDisk, IsClean}
+use Rattle.tau_disk.specs.Used.{EachUsed, Each, IsClean}
 use Rattle.tau_open.specs.declared.refusal.OpenRefusal.{OpenRefusal}
 use Rattle.tau_open.specs.declared.refusal.OpenRefusal.TheVariants as opens
-use Rattle.tau_open.specs.Opening.{Went, Broke, Asked, FailsAsked}
+use Rattle.tau_open.specs.Opening.{Went, Asked, FailsAsked}
 use Rattle.tau_open.specs.Stages.{AreLengths, OnlySynced, Staged, StageFails}
 use Rattle.tau_open.proofs.Calls.{went_on, went_broke, went_clean}
 use Rattle.tau_open.proofs.Places.{get_dropped}
@@ -48,10 +48,13 @@ module _ {D : Type 0} (G : Ghosts D) where
 
   module _ (old mid : List D) (n : ℕ) (asked : Staged (λ i. Asked G) n old mid) (many : length old ≡ n) where
     pub same_asked : SeenSame G old mid
-    same_asked = (asked.many, λ j d was.
-        let low : j < length old = got_within old j d was in
-        let (e, there, r) = asked.each j d (omega (arith, low, many)) was in
-        (e, there, r.read.same))
+    same_asked = (
+      asked.many,
+      λ j d was.
+          let low : j < length old = got_within old j d was in
+          let (e, there, r) = asked.each j d (omega (arith, low, many)) was in
+          (e, there, r.read.same),
+    )
 
     pub lengths_on : (sizes : List ℕ) → length sizes ≡ n → AreLengths G.tells G.seen old sizes → AreLengths G.tells G.seen mid sizes
     lengths_on sizes count are j e low there t =
@@ -92,8 +95,14 @@ module _ {D : Type 0} (G : Ghosts D) where
                 let (c, at_i, q) = asked.each i b (let low = stop.low in omega (arith, under, low, count)) before in
                 let (k, now, cl) = stop.clean i c under at_i in
                 (k, now, clean_on b c k q cl);
-            here = (d, f, was, is, more_broke G (1 + calls_to_find (has_byte sizes) (slice_index sizes j)) most_to_look d f (omega (arith, few))
-                (went_broke G 1 (calls_to_find (has_byte sizes) (slice_index sizes j)) d e f (subst (λ (z : D). Went G 1 d z) same r.went) broke));
+            here = (
+              d,
+              f,
+              was,
+              is,
+              more_broke G (1 + calls_to_find (has_byte sizes) (slice_index sizes j)) most_to_look d f (omega (arith, few))
+                  (went_broke G 1 (calls_to_find (has_byte sizes) (slice_index sizes j)) d e f (subst (λ (z : D). Went G 1 d z) same r.went) broke),
+            );
           }
 
   module _ (n : ℕ) (old new : List D) (j : ℕ) (low : j < n) (fails : StageFails (λ i. Asked G) (λ i. FailsAsked G) j old new) where

@@ -1,6 +1,6 @@
 -- A stream starts on what was read of its disk.
-use Rattle.std.proofs.Common.{ℕ, zero, suc, ◌≡◌, ◌+◌, ◌<◌, ◌≤◌, ◌⊎◌, List, [], ◌∷◌, ◌++◌, refl, sym, ap, subst, ◌∙◌, inl, inr, ⊎_elim, length, map, take, drop, arith}
-use Rattle.std.specs.Prelude.{Option, Some, None, IsSome, IsNone, slice_get, Ok, Err}
+use Rattle.std.proofs.Common.{ℕ, ◌≡◌, ◌+◌, ◌<◌, ◌≤◌, List, [], ◌∷◌, refl, sym, ap, subst, ◌∙◌, inl, inr, ⊎_elim, length, take, drop, arith}
+use Rattle.std.specs.Prelude.{Option, Some, None, IsSome, IsNone, slice_get}
 use Rattle.std.proofs.lemmas.Bool.{cases_eq}
 use Rattle.tau_base.proofs.Logic.{some_is, below_or_not}
 use Rattle.tau_base.proofs.Lists.{got_within, some_at}
@@ -8,29 +8,27 @@ use Rattle.tau_base.specs.declared.format.Format.{Format}
 use Rattle.tau_block.specs.declared.content.Content.{Content}
 use Rattle.tau_block.specs.Image.{IfBorn, IsLog, count_in, format_in, index_in}
 use Rattle.tau_disk.specs.declared.disk.Disk.{Ghosts}
-use Rattle.tau_disk.specs.Disk.{Only, Passes}
+use Rattle.tau_disk.specs.Disk.{Passes}
 use Rattle.tau_disk.specs.Passing.{passes_none}
-use Rattle.tau_disk.specs.Used.{EachIn, EachUsed, OfDisk, IsClean}
-use Rattle.tau_scan.specs.declared.log.Log.{Log}
-use Rattle.tau_scan.specs.Contents.{IsContentOf, HasContents, bytes_in}
+use Rattle.tau_disk.specs.Used.{EachIn, IsClean}
+use Rattle.tau_scan.specs.Contents.{IsContentOf, bytes_in}
 use Rattle.tau_stream.specs.declared.writer.Writer.{Writer}
 use Rattle.tau_stream.specs.Stream.{IsOldOrNew, IsRead, IsSettled, IsUnborn, calls_to_reopen}
-use Rattle.tau_stream.specs.Writer.{disk_of}
 use Rattle.tau_stream.proofs.Heads.{of_stream}
 use Rattle.tau_open.specs.declared.refusal.OpenRefusal.{OpenRefusal}
 use Rattle.tau_open.specs.declared.refusal.OpenRefusal.TheVariants as opens
 use Rattle.tau_open.specs.declared.start.StreamStart.{StreamStart}
-use Rattle.tau_open.specs.Opening.{Went, Broke}
-use Rattle.tau_open.specs.Reopening.{AreRead, AreStreamStarts, Starts, IsStarted, FailsStarted, StartedAt, FailsAt, RefusesStart, Starting, HasStarted}
-use Rattle.tau_open.specs.Stages.{Staged, StageFails, OnlySynced}
+use Rattle.tau_open.specs.Opening.{Broke}
+use Rattle.tau_open.specs.Reopening.{AreRead, AreStreamStarts, Starts, StartedAt, FailsAt, RefusesStart, Starting}
+use Rattle.tau_open.specs.Stages.{Staged, StageFails}
 use Rattle.tau_open.proofs.Calls.{went_on, went_broke, went_clean}
 use Rattle.tau_open.proofs.Places.{get_dropped, dropped_more}
 use Rattle.tau_scan.specs.declared.fault.LogFault.{LogFault}
 use Rattle.tau_scan.specs.declared.fault.ScanRefusal.{ScanRefusal}
 use Rattle.tau_scan.specs.declared.fault.ScanRefusal.TheVariants as refusal
 use Rattle.tau_begin.specs.Given.{next_epoch}
-use Rattle.tau_begin.specs.Starts.{IsStartOf, AreStarts}
-use Rattle.tau_begin.specs.Opened.{calls_to_look, IsLooked, IsTouched, TouchedAt, OpenedAt, BreaksAt, StopsStarting, IsBegun, IsReady, IsOpenRun, IsWritten, IsReadFrom, RefusesReading, RefusesRun}
+use Rattle.tau_begin.specs.Starts.{IsStartOf}
+use Rattle.tau_begin.specs.Opened.{calls_to_look, IsLooked, IsTouched, TouchedAt, OpenedAt, StopsStarting, IsBegun, IsOpenRun, IsWritten, RefusesReading, RefusesRun}
 use Rattle.tau_begin.proofs.Slices.{get_take}
 
 -- what is said of stream j of n is said of the stream that its head names
@@ -193,26 +191,29 @@ module _ {D : Type 0} (G : Ghosts D) (f : Format) (n : ℕ) (text : List ℕ) (o
           went_clean G (calls_to_look sizes i + calls_to_reopen p.content.count) a y (went_on G (calls_to_look sizes i) (calls_to_reopen p.content.count) a x y lx.went (s p at).went)
 
   pub written_fails : (new : List D) (k : ℕ) → StageFails (StartedAt G starts) (FailsAt G starts) k mid new → k < n → (w : IsWritten G f n text old new) × StopsStarting G w.sizes w.starts k old new
-  written_fails new k fails lt = (record {
-    sizes = sizes;
-    starts = starts;
-    begun = begun;
-    touched = λ j d low was.
-        let (e, there, lk) = looked j d low was in
-        elim (cases_eq j k) [
-          | inl same ↦
-              let (b, g, here, is, r) = fails.here in
-              let it : b ≡ e = some_is b e (sym here ∙ subst (λ (i : ℕ). slice_get mid i ≡ Some e) same there) in (
-                g,
-                subst (λ (i : ℕ). slice_get new i ≡ Some g) (sym same) is,
-                touched_at j d e g low was lk (λ p at. subst (λ (z : D). Starts G p z g) it (r p (subst (λ (i : ℕ). slice_get starts i ≡ Some p) same at)).starts),
-              )
-          | inr other ↦ ⊎_elim
-              (λ under. let (g, is, r) = fails.below j e under there in (g, is, (opened_at j d e g low was lk r).0))
-              (λ above. (e, get_dropped new mid (k + 1) j fails.rest (omega (arith, above, other)) ∙ there, left_at j d e low was lk))
-              (below_or_not j k)
-        ];
-  }, stops_starting new k fails lt)
+  written_fails new k fails lt = (
+    record {
+      sizes = sizes;
+      starts = starts;
+      begun = begun;
+      touched = λ j d low was.
+          let (e, there, lk) = looked j d low was in
+          elim (cases_eq j k) [
+            | inl same ↦
+                let (b, g, here, is, r) = fails.here in
+                let it : b ≡ e = some_is b e (sym here ∙ subst (λ (i : ℕ). slice_get mid i ≡ Some e) same there) in (
+                  g,
+                  subst (λ (i : ℕ). slice_get new i ≡ Some g) (sym same) is,
+                  touched_at j d e g low was lk (λ p at. subst (λ (z : D). Starts G p z g) it (r p (subst (λ (i : ℕ). slice_get starts i ≡ Some p) same at)).starts),
+                )
+            | inr other ↦ ⊎_elim
+                (λ under. let (g, is, r) = fails.below j e under there in (g, is, (opened_at j d e g low was lk r).0))
+                (λ above. (e, get_dropped new mid (k + 1) j fails.rest (omega (arith, above, other)) ∙ there, left_at j d e low was lk))
+                (below_or_not j k)
+          ];
+    },
+    stops_starting new k fails lt,
+  )
 
   -- what the refusal of a start tells
   pub refused_start : (new : List D) (e : OpenRefusal) (told : ScanRefusal) → RefusesStart G starts mid new e → ((j : ℕ) → e ≡ opens.Failed j → told ≡ refusal.Failed j) → ((j : ℕ) → told ≡ refusal.Failed j → e ≡ opens.Failed j) →

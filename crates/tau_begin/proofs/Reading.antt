@@ -1,5 +1,5 @@
 -- What a beginning tells that was refused after all was read.
-use Rattle.std.proofs.Common.{ℕ, ◌≡◌, ◌+◌, ◌<◌, List, [], ◌∷◌, refl, ap, inr, length, map, take, arith}
+use Rattle.std.proofs.Common.{ℕ, ◌≡◌, ◌<◌, List, [], ◌∷◌, refl, ap, inr, length, take, arith}
 use Rattle.std.specs.Prelude.{Result, Ok, Err, IfErr}
 use Rattle.std.specs.List.{AllZip}
 use Rattle.tau_base.specs.declared.format.Format.{Format}

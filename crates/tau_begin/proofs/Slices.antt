@@ -1,10 +1,10 @@
 -- The first disks among all.
-use Rattle.std.proofs.Common.{ℕ, zero, suc, ◌≡◌, ◌+◌, ◌<◌, ◌≤◌, List, [], ◌∷◌, ◌++◌, refl, sym, ◌∙◌, subst, take, drop, length, arith}
-use Rattle.std.specs.Prelude.{Some, slice_get}
+use Rattle.std.proofs.Common.{ℕ, zero, suc, ◌≡◌, ◌<◌, ◌≤◌, List, [], ◌∷◌, ◌++◌, refl, sym, ◌∙◌, subst, take, length, arith}
+use Rattle.std.specs.Prelude.{slice_get}
 use Rattle.std.proofs.Math.Seq.{take-append_seam}
 use Rattle.tau_disk.specs.declared.disk.Disk.{Ghosts}
 use Rattle.tau_disk.specs.Used.{EachIn, EachUsed, Each, OfDisk}
-use Rattle.tau_begin.specs.Opened.{IsLooked, AreLooked, StopsLooking}
+use Rattle.tau_begin.specs.Opened.{StopsLooking}
 
 module _ {D : Type 0} where
   pub get_take : (ds : List D) (n j : ℕ) → j < n → slice_get (take n ds) j ≡ slice_get ds j

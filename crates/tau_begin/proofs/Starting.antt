@@ -1,9 +1,9 @@
 -- One start more.
-use Rattle.std.proofs.Common.{ℕ, zero, suc, ◌≡◌, ◌+◌, ◌<◌, List, [], ◌∷◌, ◌++◌, refl, sym, ap, subst, ◌∙◌, ⊎_elim, reverse, drop, length, arith}
+use Rattle.std.proofs.Common.{ℕ, zero, suc, ◌≡◌, ◌+◌, List, [], ◌∷◌, ◌++◌, refl, sym, ap, subst, ◌∙◌, ⊎_elim, reverse, drop, length}
 use Rattle.std.specs.Prelude.{Some, slice_get}
 use Rattle.std.proofs.lemmas.List.{drop-drop}
 use Rattle.tau_base.specs.declared.format.Format.{Format}
-use Rattle.tau_base.proofs.Lists.{got_more, get_behind}
+use Rattle.tau_base.proofs.Lists.{got_more}
 use Rattle.tau_block.specs.declared.content.Content.{Content}
 use Rattle.tau_open.specs.declared.start.StreamStart.{StreamStart}
 use Rattle.tau_begin.specs.Starts.{IsStartOf}
@@ -34,6 +34,6 @@ started_more f text epoch lv contents starts starts' j c p so count at is start 
     ⊎_elim
     (λ old. so i q old)
     (λ new.
-        let place : j ≡ i = sym (new.0 ∙ count) in
-        (c, subst (λ (k : ℕ). slice_get contents k ≡ Some c) place at, subst (λ (k : ℕ). IsStartOf f (length contents) k text epoch lv c q) place (subst (λ (r : StreamStart). IsStartOf f (length contents) j text epoch lv c r) new.1 start)))
+    let place : j ≡ i = sym (new.0 ∙ count) in
+    (c, subst (λ (k : ℕ). slice_get contents k ≡ Some c) place at, subst (λ (k : ℕ). IsStartOf f (length contents) k text epoch lv c q) place (subst (λ (r : StreamStart). IsStartOf f (length contents) j text epoch lv c r) new.1 start)))
     (got_more starts p q i found)

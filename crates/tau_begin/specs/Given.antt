@@ -1,6 +1,5 @@
 -- What streams are given before the first call of a run, and which epoch the run is.
-use Rattle.std.specs.Prelude.{ℕ, zero, suc, ◌+◌, Bool, true, false, ◌&&◌, List, [], ◌∷◌, ◌++◌, length, map, if◌then◌else◌}
-use Rattle.tau_block.specs.declared.content.Content.{Content}
+use Rattle.std.specs.Prelude.{ℕ, zero, suc, ◌+◌, Bool, true, false, ◌&&◌, List, [], ◌∷◌, ◌++◌, if◌then◌else◌}
 use Rattle.tau_record.specs.declared.entry.Entry.TheVariants.{Epoch}
 use Rattle.tau_record.specs.Format.{One}
 use Rattle.tau_record.specs.Record.{spelling}

@@ -1,7 +1,6 @@
 -- What the opening of a run makes of the disks and gives.
-use Rattle.std.specs.Prelude.{ℕ, ◌+◌, ◌<◌, ◌≤◌, ◌≡◌, ◌⊎◌, List, [], length, map, take, drop, slice_get, slice_index, Some, None, Ok, Err}
+use Rattle.std.specs.Prelude.{ℕ, ◌+◌, ◌<◌, ◌≡◌, ◌⊎◌, List, [], length, map, take, drop, slice_get, slice_index, Some, None, Ok, Err}
 use Rattle.tau_base.specs.declared.format.Format.{Format}
-use Rattle.tau_block.specs.Image.{count_in, format_in, index_in}
 use Rattle.tau_block.specs.declared.content.Content.{Content}
 use Rattle.tau_disk.specs.declared.disk.Disk.{Ghosts}
 use Rattle.tau_disk.specs.Disk.{Only, Passes}
@@ -13,7 +12,7 @@ use Rattle.tau_scan.specs.declared.fault.ScanRefusal.TheVariants as refusal
 use Rattle.tau_scan.specs.declared.log.Log.{Log}
 use Rattle.tau_scan.specs.Begins.{begins_fault}
 use Rattle.tau_scan.specs.Contents.{bytes_in, HasContents}
-use Rattle.tau_scan.specs.Reading.{HasRead, IsLog, log_of}
+use Rattle.tau_scan.specs.Reading.{HasRead, IsLog}
 use Rattle.tau_scan.specs.Sound.{IsOrderOver}
 use Rattle.tau_scan.specs.Taken.{Kept, taken}
 use Rattle.tau_replay.specs.Redone.{IsRedone, IsTangledAt}

@@ -1,5 +1,5 @@
 -- What each stream starts with, and the state in which the run begins.
-use Rattle.std.specs.Prelude.{ℕ, ◌+◌, ◌<◌, ◌≤◌, ◌≡◌, List, [], length, map, slice_get, Some}
+use Rattle.std.specs.Prelude.{ℕ, ◌≡◌, List, length, map, slice_get, Some}
 use Rattle.tau_base.specs.declared.format.Format.{Format}
 use Rattle.tau_block.specs.Image.{count_in, format_in, index_in}
 use Rattle.tau_block.specs.declared.content.Content.{Content}

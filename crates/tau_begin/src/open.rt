@@ -2,7 +2,6 @@
 ghost use Rattle.std.specs.Prelude.{◌≡◌, ◌≤◌, ◌<◌, ◌+◌, ℕ, List, [], length, vec_len};
 ghost use Rattle.tau_base.specs.declared.limits.TheConstants.{MAX_CATALOGUE};
 ghost use Rattle.tau_base.specs.Modes.{most_streams};
-
 ghost use Rattle.std.specs.Prelude.{vec_capacity, drop, take, map, slice_get, Some, None, Ok, Err, IfOk, IfErr, OnOk, OnErr};
 ghost use Rattle.tau_disk.specs.Used.{Each, EachIn, EachUsed, IsClean};
 ghost use Rattle.tau_scan.specs.declared.fault.LogFault.{LogFault};

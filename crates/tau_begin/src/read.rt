@@ -40,11 +40,7 @@ fn no_images(alloc: Global, n: usize) -> Result<Listed<Listed<u8>>, NoMemory>
 }
 
 /// The log of disks without a byte.
-fn read_nothing(
-    alloc: Global,
-    format: Format,
-    n: usize,
-) -> Result<(Log, Vec<Content>), ScanRefusal>
+fn read_nothing(alloc: Global, format: Format, n: usize) -> Result<(Log, Vec<Content>), ScanRefusal>
     requires low { 1 ≤ n }
     requires high { n ≤ most_streams format }
     ensures read { Gives (log_read result) (log_of (Some format) (replicate n [])) }

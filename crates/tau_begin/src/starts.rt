@@ -78,9 +78,7 @@ pub fn starts_of(
         let Some(content) = left.pop() else {
             unreachable!()
         };
-        let start = start_of(
-            alloc, format, n as u16, j as u16, content, text, epoch, elv,
-        )?;
+        let start = start_of(alloc, format, n as u16, j as u16, content, text, epoch, elv)?;
         starts.push(start)?;
     }
     Ok(starts)

@@ -1,6 +1,5 @@
-use Rattle.std.proofs.Common.{ℕ, ◌≡◌, ◌≤◌, [], length, List, sym, subst, arith}
+use Rattle.std.proofs.Common.{[]}
 use Rattle.tau_record.specs.Format.{One}
-use Rattle.tau_begin.specs.Given.{epoch_record}
 use Rattle.tau_begin.proofs.Giving.{if_ok_then, epoch_is, epoch_long}
 use Rattle.tau_begin.proofs.given.epoch_bytes.Goals as goal
 

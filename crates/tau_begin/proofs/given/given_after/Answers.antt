@@ -1,6 +1,5 @@
-use Rattle.std.proofs.Common.{◌≡◌, ◌≤◌, ◌+◌, ◌++◌, [], ◌∙◌, List, ℕ, ap, sym, length, arith, length-append}
+use Rattle.std.proofs.Common.{◌≡◌, ◌++◌, [], ◌∙◌, List, ℕ, ap, sym, length, arith, length-append}
 use Rattle.tau_stream.specs.Stream.{catalogue_record}
-use Rattle.tau_begin.specs.Given.{epoch_record}
 use Rattle.tau_begin.proofs.Giving.{given_empty}
 use Rattle.tau_begin.proofs.given.given_after.Goals as goal
 

@@ -1,4 +1,4 @@
-use Rattle.std.proofs.Common.{◌≡◌, sym, ◌∙◌, length, arith}
+use Rattle.std.proofs.Common.{sym, ◌∙◌, arith}
 use Rattle.tau_begin.proofs.Beginning.{few_anchors}
 use Rattle.tau_begin.proofs.open.begin_on.Goals as goal
 

@@ -1,6 +1,4 @@
-use Rattle.std.proofs.Common.{ℕ, ◌≡◌, ◌<◌, List, refl, sym, ap, subst, ◌∙◌, length, take, arith}
-use Rattle.std.specs.Prelude.{Ok, Err, IfErr, IfOk}
-use Rattle.tau_scan.specs.declared.fault.LogFault.{LogFault}
+use Rattle.std.proofs.Common.{ℕ, ◌≡◌, List, refl, subst, ◌∙◌, length, take, arith}
 use Rattle.tau_begin.specs.Opened.{Begins, IsRefusedOn}
 use Rattle.tau_begin.proofs.Giving.{if_ok_then}
 use Rattle.tau_begin.proofs.Slices.{taken_long}

@@ -1,10 +1,8 @@
-use Rattle.std.proofs.Common.{ℕ, ◌≡◌, ◌≤◌, ◌++◌, List, sym, ap, subst, ◌∙◌, length, take, drop, arith}
-use Rattle.std.specs.Prelude.{Ok, Err}
-use Rattle.tau_stream.specs.declared.writer.Writer.{Writer}
+use Rattle.std.proofs.Common.{ℕ, ◌≡◌, ◌≤◌, List, sym, subst, length, drop, arith}
 use Rattle.tau_core.specs.declared.opening.Opening.{Opening}
 use Rattle.tau_open.specs.Reopening.{AreRead, RefusesStart, Starting}
 use Rattle.tau_open.proofs.Joined.{whole_again}
-use Rattle.tau_begin.specs.Opened.{IsOpenRun, RefusesRun, RefusesReading}
+use Rattle.tau_begin.specs.Opened.{IsOpenRun, RefusesRun}
 use Rattle.tau_begin.proofs.Opened.{are_sound, are_read, is_open, refused_start, start_rest, reading_refused}
 use Rattle.tau_begin.proofs.open.open_run.Goals as goal
 

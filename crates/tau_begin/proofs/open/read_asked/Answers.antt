@@ -1,5 +1,5 @@
 use Rattle.std.proofs.Common.{ℕ, ◌≡◌, List, ap, subst, ◌∙◌}
-use Rattle.std.specs.Prelude.{Result, Err, Some}
+use Rattle.std.specs.Prelude.{Err, Some}
 use Rattle.tau_scan.specs.declared.fault.ScanRefusal.TheVariants as refusal
 use Rattle.tau_scan.specs.Reading.{HasRead, log_read}
 use Rattle.tau_begin.specs.Finding.{AreFound}

@@ -1,8 +1,7 @@
-use Rattle.std.proofs.Common.{ℕ, ◌≡◌, ◌<◌, ◌++◌, List, length, take, drop, sym, subst, ap, ◌∙◌, rules, arith}
-use Rattle.std.specs.Prelude.{Result}
+use Rattle.std.proofs.Common.{◌≡◌, ◌<◌, ◌++◌, List, length, take, drop, sym, subst, ◌∙◌, rules}
 use Rattle.tau_disk.specs.Used.{EachIn, EachUsed, Each, IsClean}
 use Rattle.tau_open.specs.Stages.{OnlySynced}
-use Rattle.tau_begin.specs.Opened.{IsLooked, AreLooked, StopsLooking}
+use Rattle.tau_begin.specs.Opened.{IsLooked, StopsLooking}
 use Rattle.tau_begin.proofs.Giving.{if_ok_both}
 use Rattle.tau_begin.proofs.Slices.{handed_back, in_first, used_first, used_of_first, stops_first, sized, taken_long}
 use Rattle.tau_begin.proofs.open.read_first.Goals as goal
@@ -19,9 +18,9 @@ returns-clause-looked g c =
     let long : length c.read_run.new.disks ≡ c.args.n = search rules in
     let same = handed_back c.read_run.new.disks (drop c.args.n c.args.disks.now) c.args.n long in
     if_ok_both _ _ _ c.read_run.result c.read_run.ensures.looked c.read_run.ensures.read (λ r looked read.
-        in_first (λ j. j < c.args.n) (IsLooked g.D.Disk r.2.items) c.args.disks.now (c.read_run.new.disks ++ drop c.args.n c.args.disks.now) c.args.n (λ j low. low)
-            (subst (λ (ds : List g.row.D.Denot). EachIn (λ j. j < c.args.n) (IsLooked g.D.Disk r.2.items) (take c.args.n c.args.disks.now) ds) (sym same)
-            (sized (IsLooked g.D.Disk r.2.items) (take c.args.n c.args.disks.now) c.read_run.new.disks (length r.2.items) c.args.n looked (read.many ∙ taken_long c.args.disks.now c.args.n c.requires.there))))
+    in_first (λ j. j < c.args.n) (IsLooked g.D.Disk r.2.items) c.args.disks.now (c.read_run.new.disks ++ drop c.args.n c.args.disks.now) c.args.n (λ j low. low)
+    (subst (λ (ds : List g.row.D.Denot). EachIn (λ j. j < c.args.n) (IsLooked g.D.Disk r.2.items) (take c.args.n c.args.disks.now) ds) (sym same)
+    (sized (IsLooked g.D.Disk r.2.items) (take c.args.n c.args.disks.now) c.read_run.new.disks (length r.2.items) c.args.n looked (read.many ∙ taken_long c.args.disks.now c.args.n c.requires.there))))
 
 pub returns-clause-bad : goal.returns-clause-bad
 returns-clause-bad g c fault e =

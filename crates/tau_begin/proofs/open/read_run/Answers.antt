@@ -1,9 +1,9 @@
 use Rattle.std.proofs.Common.{ℕ, ◌≡◌, List, sym, ap, subst, ◌∙◌, length, arith}
-use Rattle.std.specs.Prelude.{Err, Some, IfOk}
+use Rattle.std.specs.Prelude.{Err, Some}
 use Rattle.tau_begin.specs.Opened.{AreLooked, IsReadFrom}
 use Rattle.tau_begin.proofs.Finding.{has_read, has_contents}
 use Rattle.tau_begin.proofs.Giving.{if_ok_on, if_ok_all}
-use Rattle.tau_begin.proofs.Looking.{same_asked, lengths_on, only_after, are_looked, clean_looked, stops_after, stops_asking, asking_refused}
+use Rattle.tau_begin.proofs.Looking.{same_asked, only_after, are_looked, clean_looked, stops_after, stops_asking, asking_refused}
 use Rattle.tau_begin.proofs.open.read_run.Goals as goal
 
 pub returns-in-Err-clause-only : goal.returns-in-Err-clause-only
@@ -22,21 +22,21 @@ pub returns-in-Ok-clause-looked : goal.returns-in-Ok-clause-looked
 returns-in-Ok-clause-looked g c =
     let count : length c.ask_each.new.lengths.items ≡ c.args.n = omega (arith, c.in-Ok.ensures.count, c.ask_each.new.lengths.ok.0) in
     if_ok_on _ _ _ c.read_asked.result c.read_asked.ensures.same c.read_asked.ensures.found (λ r same found.
-        subst (λ (xs : List ℕ). AreLooked g.D.Disk xs c.args.disks.now c.read_asked.new.disks) (sym (ap (λ v. v.items) same))
-        (are_looked g.D.Disk c.args.disks.now c.ask_each.new.disks c.args.n c.in-Ok.ensures.asked c.requires.there c.ask_each.new.lengths.items count c.in-Ok.ensures.lengths c.read_asked.new.disks found))
+    subst (λ (xs : List ℕ). AreLooked g.D.Disk xs c.args.disks.now c.read_asked.new.disks) (sym (ap (λ v. v.items) same))
+    (are_looked g.D.Disk c.args.disks.now c.ask_each.new.disks c.args.n c.in-Ok.ensures.asked c.requires.there c.ask_each.new.lengths.items count c.in-Ok.ensures.lengths c.read_asked.new.disks found))
 
 pub returns-in-Ok-clause-read : goal.returns-in-Ok-clause-read
 returns-in-Ok-clause-read g c =
     let count : length c.ask_each.new.lengths.items ≡ c.args.n = omega (arith, c.in-Ok.ensures.count, c.ask_each.new.lengths.ok.0) in
     let seen = same_asked g.D.Disk c.args.disks.now c.ask_each.new.disks c.args.n c.in-Ok.ensures.asked c.requires.there in
     if_ok_all _ _ _ _ _ c.read_asked.result c.read_asked.ensures.same c.read_asked.ensures.read c.read_asked.ensures.contents c.read_asked.ensures.sound (λ r same read contents sound.
-        subst (λ (xs : List ℕ). IsReadFrom g.D.Disk c.args.format c.args.disks.now xs r.0 r.1.items) (sym (ap (λ v. v.items) same)) (record {
-          lengths = c.in-Ok.ensures.lengths;
-          many = count ∙ sym c.requires.there;
-          read = has_read g.D.Disk c.args.disks.now c.ask_each.new.disks seen (Some c.args.format) _ read;
-          contents_are = has_contents g.D.Disk c.args.disks.now c.ask_each.new.disks seen (Some c.args.format) r.0 r.1.items contents;
-          sound = sound;
-        }))
+    subst (λ (xs : List ℕ). IsReadFrom g.D.Disk c.args.format c.args.disks.now xs r.0 r.1.items) (sym (ap (λ v. v.items) same)) (record {
+      lengths = c.in-Ok.ensures.lengths;
+      many = count ∙ sym c.requires.there;
+      read = has_read g.D.Disk c.args.disks.now c.ask_each.new.disks seen (Some c.args.format) _ read;
+      contents_are = has_contents g.D.Disk c.args.disks.now c.ask_each.new.disks seen (Some c.args.format) r.0 r.1.items contents;
+      sound = sound;
+    }))
 
 pub returns-in-Ok-clause-bad : goal.returns-in-Ok-clause-bad
 returns-in-Ok-clause-bad g c fault e =

@@ -13,4 +13,4 @@ returns-in-Err-Tangled-clause-bad c fault e =
     let is : here ≡ fault = cc e in
     let told = c.replay_turns.ensures.tangled c.in-Err-Tangled.stream c.in-Err-Tangled.at (c.in-Err-Tangled.is ∙ ap (λ x. Err x) c.in-Err-Tangled.field-0-is) in
     subst (λ (f : LogFault). ((at : ℕ) × (f.cause ≡ cause.Tangled at) × IsTangledAt c.args.log.now f.stream at) × ((order : List Kept) → IsOrderOver (taken c.args.log.now) order → ⊥)) is
-        ((c.in-Err-Tangled.at, refl, told.0), told.1)
+    ((c.in-Err-Tangled.at, refl, told.0), told.1)

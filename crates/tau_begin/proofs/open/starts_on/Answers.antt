@@ -1,4 +1,4 @@
-use Rattle.std.proofs.Common.{ℕ, ◌≡◌, List, ap, ◌∙◌}
+use Rattle.std.proofs.Common.{List, ap, ◌∙◌}
 use Rattle.tau_block.specs.declared.content.Content.{Content}
 use Rattle.tau_scan.specs.Contents.{bytes_in}
 use Rattle.tau_begin.specs.Given.{next_epoch}

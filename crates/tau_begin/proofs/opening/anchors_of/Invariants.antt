@@ -1,5 +1,5 @@
 -- The anchors of the streams so far.
-use Rattle.std.proofs.Common.{ℕ, ◌≡◌, length, map, take}
+use Rattle.std.proofs.Common.{◌≡◌, length, map, take}
 use Rattle.tau_record.specs.Content.{anchors_of}
 use Rattle.tau_begin.proofs.opening.anchors_of.Given as goal
 

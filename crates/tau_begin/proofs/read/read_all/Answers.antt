@@ -1,7 +1,5 @@
-use Rattle.std.proofs.Common.{ℕ, ◌≡◌, List, refl, sym, ap, ◌∙◌, map}
-use Rattle.std.specs.Prelude.{Result, Ok, Err, Some}
-use Rattle.tau_open.specs.declared.refusal.OpenRefusal.TheVariants as opens
-use Rattle.tau_scan.specs.declared.fault.ScanRefusal.TheVariants as refusal
+use Rattle.std.proofs.Common.{refl, ap, ◌∙◌, map}
+use Rattle.std.specs.Prelude.{Err, Some}
 use Rattle.tau_begin.proofs.Finding.{are_found, only_all, stops_reading, stops_syncing, same_synced, has_read, has_contents, missed, only_refused}
 use Rattle.tau_begin.proofs.Giving.{if_ok_then, on_ok_then}
 use Rattle.tau_begin.proofs.read.read_all.Goals as goal

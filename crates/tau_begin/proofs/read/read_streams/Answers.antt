@@ -1,5 +1,5 @@
-use Rattle.std.proofs.Common.{ℕ, ◌≡◌, ◌<◌, [], List, refl, sym, ap, subst, ◌∙◌, length, map, replicate, false, arith}
-use Rattle.std.specs.Prelude.{Bool, Some, slice_get, slice_index}
+use Rattle.std.proofs.Common.{ℕ, ◌≡◌, ◌<◌, [], sym, subst, ◌∙◌, length, replicate, false, arith}
+use Rattle.std.specs.Prelude.{Bool, Some, slice_index}
 use Rattle.std.proofs.lemmas.List.{length-replicate}
 use Rattle.tau_base.proofs.Lists.{got_within}
 use Rattle.tau_scan.proofs.Contents.{has_contents}
@@ -34,7 +34,7 @@ returns-clause-contents g c =
     let none : has_byte c.args.lengths.now ≡ false = sym c.has_byte.ensures ∙ c.if-has_byte.false in
     let many : length c.args.lengths.now ≡ length c.args.disks.now = c.requires.many in
     if_ok_both _ _ _ c.read_nothing.result c.read_nothing.ensures.are c.read_nothing.ensures.theirs (λ r are theirs.
-        has_contents g.D.Disk.tells g.D.Disk.seen (Some c.args.format) c.args.disks.now (replicate (length c.args.lengths.now) []) r.0 r.1.items (length-replicate (length c.args.lengths.now) [] ∙ many)
-            (λ t. nothing_seen g.D.Disk.seen c.args.disks.now (length c.args.lengths.now) many (λ j d at.
-                no_bytes (g.D.Disk.seen d) (sym (c.requires.lengths j d (let low : j < length c.args.disks.now = got_within c.args.disks.now j d at in omega (arith, low, many)) at t) ∙ no_byte c.args.lengths.now none j)))
-            are theirs)
+    has_contents g.D.Disk.tells g.D.Disk.seen (Some c.args.format) c.args.disks.now (replicate (length c.args.lengths.now) []) r.0 r.1.items (length-replicate (length c.args.lengths.now) [] ∙ many)
+    (λ t. nothing_seen g.D.Disk.seen c.args.disks.now (length c.args.lengths.now) many (λ j d at.
+    no_bytes (g.D.Disk.seen d) (sym (c.requires.lengths j d (let low : j < length c.args.disks.now = got_within c.args.disks.now j d at in omega (arith, low, many)) at t) ∙ no_byte c.args.lengths.now none j)))
+    are theirs)

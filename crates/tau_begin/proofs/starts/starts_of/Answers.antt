@@ -1,4 +1,4 @@
-use Rattle.std.proofs.Common.{ℕ, [], ◌∷◌, ◌≡◌, ◌<◌, ◌+◌, List, reverse, length, sym, subst, ap, ◌∙◌, arith}
+use Rattle.std.proofs.Common.{ℕ, [], ◌∷◌, ◌≡◌, ◌+◌, List, reverse, length, subst, ap, ◌∙◌, arith}
 use Rattle.std.proofs.lemmas.List.{reverse-append, length-append}
 use Rattle.tau_block.specs.declared.content.Content.{Content}
 use Rattle.tau_open.specs.declared.start.StreamStart.{StreamStart}
