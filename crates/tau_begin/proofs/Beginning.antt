@@ -1,11 +1,13 @@
 -- What is known of a log from which a run can go on.
 use Rattle.std.proofs.Common.{ℕ, zero, suc, ◌≡◌, ◌+◌, ◌<◌, List, [], ◌∷◌, refl, sym, ap, subst, ◌∙◌, true, false, length, arith}
-use Rattle.std.specs.Prelude.{Bool, Option, Some, None, ◌&&◌, ◌^◌, slice_get, if◌then◌else◌}
+use Rattle.std.specs.Prelude.{Bool, Option, Some, None, ◌&&◌, ◌^◌, slice_get, slice_index, if◌then◌else◌}
 use Rattle.std.proofs.lemmas.Bool.Decides.{nat_tests}
+use Rattle.tau_base.specs.declared.limits.TheConstants.{MAX_LSN}
 use Rattle.tau_base.proofs.Logic.{some_is}
 use Rattle.tau_block.specs.declared.content.Content.{Content}
 use Rattle.tau_record.specs.declared.entry.Placed.{Placed}
 use Rattle.tau_record.specs.Content.{anchors_of}
+use Rattle.tau_record.specs.Vector.{ArePlaces}
 use Rattle.tau_scan.specs.declared.fault.LogFault.{LogFault}
 use Rattle.tau_scan.specs.declared.log.Log.{Log}
 use Rattle.tau_scan.specs.Begins.{begins_fault, declared_fault, long_fault, is_long, last_fault}
@@ -66,3 +68,7 @@ none_before contents log epoch is none = by_case (all_nothing (bytes_in contents
     by_case false not =
         let some : epoch ≡ largest (marks_of log) + 1 = is ∙ ap (λ (b : Bool). if b then 0 else largest (marks_of log) + 1) not in
         absurd (omega (arith, some, none))
+
+pub all_places : (v : List ℕ) → ((k : ℕ) → slice_index v k < MAX_LSN) → ArePlaces v
+all_places [] low = tt
+all_places (x ∷ v) low = (low 0, all_places v (λ k. low (suc k)))

@@ -1,5 +1,5 @@
 -- What the opening of a run makes of the disks and gives.
-use Rattle.std.specs.Prelude.{ℕ, ◌+◌, ◌<◌, ◌≡◌, ◌⊎◌, List, [], length, map, take, drop, slice_get, slice_index, Some, None, Ok, Err}
+use Rattle.std.specs.Prelude.{ℕ, ◌+◌, ◌<◌, ◌^◌, ◌≡◌, ◌⊎◌, List, [], length, map, take, drop, slice_get, slice_index, Some, None, Ok, Err}
 use Rattle.tau_base.specs.declared.format.Format.{Format}
 use Rattle.tau_block.specs.declared.content.Content.{Content}
 use Rattle.tau_disk.specs.declared.disk.Disk.{Ghosts}
@@ -15,6 +15,7 @@ use Rattle.tau_scan.specs.Contents.{bytes_in, HasContents}
 use Rattle.tau_scan.specs.Reading.{HasRead, IsLog}
 use Rattle.tau_scan.specs.Sound.{IsOrderOver}
 use Rattle.tau_scan.specs.Taken.{Kept, taken}
+use Rattle.tau_record.specs.Vector.{ArePlaces}
 use Rattle.tau_replay.specs.Redone.{IsRedone, IsTangledAt}
 use Rattle.tau_core.specs.declared.opening.Opening.{Opening}
 use Rattle.tau_stream.specs.declared.writer.Writer.{Writer}
@@ -70,6 +71,8 @@ IsRefusedOn text sizes log fault = (begins_fault text sizes log ≡ Some fault)
 pub record Begins (f : Format) (text sizes : List ℕ) (log : Log) (contents : List Content) (o : Opening) (starts : List StreamStart) : Type 0 where
   pub fits : begins_fault text sizes log ≡ None
   pub starts_are : AreStarts f text (next_epoch (bytes_in contents) log) log.elv contents starts
+  pub small : next_epoch (bytes_in contents) log < 2 ^ 32
+  pub places : ArePlaces log.elv
   pub opening : IsOpeningOn log starts o
   pub rows : IsRedone log o.rows
 

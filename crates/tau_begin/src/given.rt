@@ -1,5 +1,5 @@
 //! What streams are given before the first call of a run.
-ghost use Rattle.std.specs.Prelude.{◌≡◌, ◌≤◌, ◌<◌, ◌+◌, ◌*◌, ℕ, List, [], length, IfOk};
+ghost use Rattle.std.specs.Prelude.{◌≡◌, ◌≤◌, ◌<◌, ◌+◌, ◌*◌, ◌^◌, ℕ, List, [], length, IfOk};
 ghost use Rattle.tau_base.specs.declared.limits.TheConstants.{MAX_CATALOGUE, MAX_STREAMS};
 ghost use Rattle.tau_block.specs.Image.{IsBody};
 ghost use Rattle.tau_begin.specs.Given.{epoch_record, given_after, next_epoch, all_nothing};
@@ -27,7 +27,8 @@ pub fn all_nothing(contents: &[Content]) -> bool
 
 /// The number of the epoch of a run on these contents: 0 on empty ones, else the one after the largest known.
 pub fn next_epoch(contents: &[Content], log: &Log) -> Result<u32, NoMemory>
-    ensures { IfOk result (λ n. n ≡ next_epoch (bytes_in contents.now) log.now) }
+    ensures is { IfOk result (λ n. n ≡ next_epoch (bytes_in contents.now) log.now) }
+    ensures small { IfOk result (λ n. n < 2 ^ 32) }
 {
     if all_nothing(contents) {
         return Ok(0);

@@ -8,6 +8,7 @@ ghost use Rattle.tau_scan.specs.declared.fault.LogFault.{LogFault};
 ghost use Rattle.std.specs.Prelude.{◌^◌};
 ghost use Rattle.tau_record.specs.declared.entry.Placed.{Placed as OneRecord};
 ghost use Rattle.tau_record.specs.Content.{anchors_of};
+ghost use Rattle.tau_record.specs.Vector.{ArePlaces};
 ghost use Rattle.tau_scan.specs.Contents.{AreShortContents, HasContents, bytes_in};
 ghost use Rattle.tau_scan.specs.Sound.{IsOrderOver};
 ghost use Rattle.tau_scan.specs.Taken.{Kept, taken};
@@ -97,10 +98,13 @@ fn start_on(
     requires text { length text.now ≤ MAX_CATALOGUE }
     requires anchors { (j : ℕ) (ps : List OneRecord) → slice_get log.now.streams j ≡ Some ps → length (anchors_of ps) < 2 ^ 32 }
     ensures starts { IfOk result (λ r. AreStarts format text.now (next_epoch (bytes_in contents.items) log.now) log.now.elv contents.items r.1.items) }
+    ensures small { IfOk result (λ r. next_epoch (bytes_in contents.items) log.now < 2 ^ 32) }
+    ensures places { ArePlaces log.now.elv }
     ensures opening { IfOk result (λ r. IsOpeningOn log.now r.1.items r.0) }
     ensures rows { IfOk result (λ r. r.0.rows ≡ rows) }
     ensures memory { IfErr result (λ refusal. refusal ≡ ScanRefusal.NoMemory) }
 {
+    let _positions = log.elv.as_slice();
     let Ok(starts) = starts_on(alloc, format, text, log, contents) else {
         return Err(ScanRefusal::NoMemory);
     };
@@ -119,7 +123,8 @@ fn starts_on(
     requires high { vec_len contents ≤ most_streams format }
     requires short { AreShortContents contents.items }
     requires text { length text.now ≤ MAX_CATALOGUE }
-    ensures { IfOk result (λ starts. AreStarts format text.now (next_epoch (bytes_in contents.items) log.now) log.now.elv contents.items starts.items) }
+    ensures starts { IfOk result (λ starts. AreStarts format text.now (next_epoch (bytes_in contents.items) log.now) log.now.elv contents.items starts.items) }
+    ensures small { IfOk result (λ starts. next_epoch (bytes_in contents.items) log.now < 2 ^ 32) }
 {
     let epoch = next_epoch(&contents, log)?;
     starts_of(alloc, format, contents, text, epoch, &log.elv)
