@@ -22,7 +22,7 @@ module _ (p p' : Plain) (K : List (Act Txn)) (h : Hidden) where
   steps_load (event.Lock w) outcome.NothingCovered q = absurd q
   steps_load (event.Lock w) (outcome.NotNow phase) q = q.0.load
   steps_load (event.Lock w) outcome.NoMemory q = q.0.load
-  steps_load (event.Quit w) outcome.Went q = q.load
+  steps_load (event.Quit w) outcome.Went q = q.0.load
   steps_load (event.Quit w) (outcome.Granted v) q = absurd q
   steps_load (event.Quit w) (outcome.Busy u') q = absurd q
   steps_load (event.Quit w) (outcome.Placed at) q = absurd q

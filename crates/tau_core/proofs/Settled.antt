@@ -5,7 +5,11 @@ use Rattle.std.proofs.lemmas.Option.{slice_get_within}
 use Rattle.tau_base.specs.Shards.{shard_number}
 use Rattle.tau_model.specs.History.{Act}
 use Rattle.tau_model.specs.declared.committed.Committed.{Committed}
-use Rattle.tau_machine.specs.Hands.{Txn, Hand, Running, Quitting}
+use Rattle.std.specs.Ordering.{is_le}
+use Rattle.tau_base.specs.Database.{key_cmp}
+use Rattle.tau_base.specs.declared.value.Key.{Key}
+use Rattle.tau_base.specs.declared.value.Mode.{Mode}
+use Rattle.tau_machine.specs.Hands.{Txn, Hand, Running, Quitting, mode_of}
 use Rattle.tau_machine.specs.Shard.{at, Shard, shard_quit}
 use Rattle.tau_machine.specs.Worker.{Worker, hand_busy, hand_quit, settled}
 use Rattle.tau_machine.specs.Invariant.{Invariant}
@@ -135,8 +139,8 @@ module _ (p p' : Plain) (h : Hidden) (w : ℕ) (q : GivesBack w p p') where
   gives_hand : ((core_of p h).workers w).hand ≡ Some q.hand
   gives_hand = ap (λ (x : Worker). x.hand) (worker_of_seat p h w q.seat q.new q.is) ∙ q.hand_is
 
-  pub gives_quits : Quits (setting_of p.load) w false (core_of p h) (core_of p' h)
-  gives_quits = record {
+  quits_core : Quits (setting_of p.load) w false (core_of p h) (core_of p' h)
+  quits_core = record {
     hand = q.hand;
     key = q.key;
     mode = q.mode;
@@ -147,6 +151,10 @@ module _ (p p' : Plain) (h : Hidden) (w : ℕ) (q : GivesBack w p p') where
         ∙ settled_core p [] h w (shard_number q.key) q.seat q.new q.shard q.quit q.hand (hand_quit q.hand q.key false) q.is q.shard_is q.hand_is (open_quitting p q.seat q.hand q.hand_is (inl q.phase)) refl q.keeps q.settles q.sound
         (shard_quit ((core_of p h).shards (shard_number q.key)) w q.key) (q.quits ∙ ap (λ (x : Shard). shard_quit x w q.key) (sym (ap shard_in q.shard_is)));
   }
+
+  pub gives_quits : (r : Quits (setting_of p.load) w false (core_of p h) (core_of p' h)) × ((k : Key) (mode : Mode) → mode_of k r.hand.held ≡ Some mode → is_le (key_cmp r.key k) ≡ true)
+  unfolding quits_core
+  gives_quits = (quits_core, q.lowest)
 
   pub gives_stands : (K : List (Act Txn)) → Carried p K h → Invariant (setting_of p.load) K (core_of p' h) → Stands p' K h
   gives_stands K g inv = subst (λ (x : Plain). Stands x K h) (sym q.after)

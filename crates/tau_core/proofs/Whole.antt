@@ -29,7 +29,7 @@ module _ (p p' : Plain) (K : List (Act Txn)) (h : Hidden) where
   steps_stood (event.Lock w) outcome.NothingCovered q = absurd q
   steps_stood (event.Lock w) (outcome.NotNow phase) q = unmoved_stood p p' K h q.0
   steps_stood (event.Lock w) outcome.NoMemory q = unmoved_stood p p' K h q.0
-  steps_stood (event.Quit w) outcome.Went q = happened_stood (machine.Quit w false) p p' K h q
+  steps_stood (event.Quit w) outcome.Went q = happened_stood (machine.Quit w false) p p' K h q.0
   steps_stood (event.Quit w) (outcome.Granted v) q = absurd q
   steps_stood (event.Quit w) (outcome.Busy u') q = absurd q
   steps_stood (event.Quit w) (outcome.Placed at) q = absurd q

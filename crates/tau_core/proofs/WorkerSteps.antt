@@ -180,11 +180,12 @@ module _ (p p' : Plain) (K : List (Act Txn)) (h : Hidden) (g : Stands p K h) (w 
       let at = q found.0 found.1 in
       elsewhere_by p K h g w found.0 wanted phase found.1 (λ e. (locking, ended, resting)) at.0 at.1
 
-  quits : GivesBack w p p' → Happened (machine.Quit w false) p p' K h
+  quits : GivesBack w p p' → QuitSteps p p' K h w outcome.Went
   quits q =
-      let leads : Leads (setting_of p.load) (machine.Quit w false) (core_of p h) (core_of p' h) [] = (gives_quits p p' h w q, refl) in
+      let (back, lowest) = gives_quits p p' h w q in
+      let leads : Leads (setting_of p.load) (machine.Quit w false) (core_of p h) (core_of p' h) [] = (back, refl) in
       let inv = kept (setting_of p.load) K (machine.Quit w false) (core_of p h) (core_of p' h) g.inv leads in
-      happened (machine.Quit w false) p p' K h h leads (gives_stands p p' h w q K (carried p K h g) inv) (ap (λ (x : Plain). x.load) q.after) refl
+      (happened (machine.Quit w false) p p' K h h leads (gives_stands p p' h w q K (carried p K h g) inv) (ap (λ (x : Plain). x.load) q.after) refl, lowest)
 
   pub quit_steps : (o : Outcome) → QuitBy p w o p' → QuitSteps p p' K h w o
   quit_steps outcome.Went q = quits q

@@ -1,12 +1,14 @@
 -- What a step is: the event of the machine that it was, or nothing with its cause.
-use Rattle.std.specs.Prelude.{ℕ, false, ◌%◌, ◌<◌, ◌≤◌, ◌≡◌, ◌⊎◌, Some, None, List, [], ◌∷◌, ◌++◌, length, slice_get, slice_index}
+use Rattle.std.specs.Prelude.{ℕ, true, false, ◌%◌, ◌<◌, ◌≤◌, ◌≡◌, ◌⊎◌, Some, None, List, [], ◌∷◌, ◌++◌, length, slice_get, slice_index}
 use Rattle.tau_base.specs.declared.value.Key.{Key}
 use Rattle.tau_base.specs.declared.value.Value.{Value}
 use Rattle.tau_base.specs.declared.value.Mode.{Mode}
 use Rattle.tau_base.specs.Shards.{shard_number}
 use Rattle.tau_base.specs.declared.limits.TheConstants.{MAX_BODY, SHARDS}
 use Rattle.tau_model.specs.History.{Act}
-use Rattle.tau_machine.specs.Hands.{Txn, Hand}
+use Rattle.std.specs.Ordering.{is_le}
+use Rattle.tau_base.specs.Database.{key_cmp}
+use Rattle.tau_machine.specs.Hands.{Txn, Hand, mode_of}
 use Rattle.tau_machine.specs.Shard.{at, entry_in}
 use Rattle.tau_machine.specs.State.{hand_of}
 use Rattle.tau_machine.specs.Events as machine
@@ -94,7 +96,9 @@ module _ (p p' : Plain) (K : List (Act Txn)) (h : Hidden) where
   LockSteps w _ = ⊥
 
   abbrev pub QuitSteps : ℕ → Outcome → Type 0
-  QuitSteps w outcome.Went = Happened (machine.Quit w false) p p' K h
+  -- the key that is given back is the lowest that the call holds
+  QuitSteps w outcome.Went = (x : Happened (machine.Quit w false) p p' K h) ×
+      ((k : Key) (mode : Mode) → mode_of k x.leads.0.hand.held ≡ Some mode → is_le (key_cmp x.leads.0.key k) ≡ true)
   QuitSteps w (outcome.NotNow phase) = of_worker w Quitting phase
   QuitSteps w _ = ⊥
 

@@ -1,8 +1,10 @@
 -- What workers do, on the parts.
-use Rattle.std.specs.Prelude.{ℕ, ◌≡◌, ◌≤◌, false, Some, None, List, ◌∷◌, ◌++◌, slice_get, slice_set}
+use Rattle.std.specs.Ordering.{is_le}
+use Rattle.std.specs.Prelude.{ℕ, ◌≡◌, ◌≤◌, true, false, Some, None, List, ◌∷◌, ◌++◌, slice_get, slice_set}
 use Rattle.tau_base.specs.declared.value.Key.{Key}
 use Rattle.tau_base.specs.declared.value.Value.{Value}
 use Rattle.tau_base.specs.declared.value.Mode.{Mode}
+use Rattle.tau_base.specs.Database.{key_cmp}
 use Rattle.tau_base.specs.Shards.{shard_number}
 use Rattle.tau_model.specs.History.{Numbered}
 use Rattle.tau_model.specs.declared.committed.Committed.{Committed}
@@ -116,6 +118,7 @@ pub record GivesBack (w : ℕ) (p p' : Plain) : Type 0 where
   pub hand_is : hand_in p.load.procs seat.txn ≡ Some hand
   pub phase : hand.phase ≡ Quitting
   pub held : mode_of key hand.held ≡ Some mode
+  pub lowest : (k : Key) (m : Mode) → mode_of k hand.held ≡ Some m → is_le (key_cmp key k) ≡ true
   pub quits : shard_of quit ≡ shard_quit (shard_of shard) w key
   pub settles : (c : List Committed) → seat_worker p.load new c ≡ settled p.load.streams (seat_worker p.load seat c) (hand_quit hand key false)
   pub keeps : Keeps seat new

@@ -68,6 +68,7 @@ returns c =
       hand_is = m.is;
       phase = elim m.phase [ inl e ↦ e | inr e ↦ absurd (let bad : true ≡ false = sym e.1 ∙ o.txn.leaving in cc) ];
       held = m.held;
+      lowest = m.lowest;
       quits = c.quit.ensures;
       settles = settles.worker;
       keeps = settles.keeps;
