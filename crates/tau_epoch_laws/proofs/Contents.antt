@@ -149,7 +149,7 @@ catalogue_ok j (Some text ∷ xs) c e t (inl is) = (other_ok j text (suc j) xs c
 catalogue_ok j (Some text ∷ xs) c e t (inr m) = let one = other_ok j text (suc j) xs c e in one.0 ∙ ap (λ (u : List ℕ). Some u) (one.1 t m)
 
 -- and some stream has it
-catalogue_there : (j : ℕ) (xs : List (Option (List ℕ))) (t : List ℕ) → catalogue_from j xs ≡ Ok (Some t) → Member (Some t) xs
+pub catalogue_there : (j : ℕ) (xs : List (Option (List ℕ))) (t : List ℕ) → catalogue_from j xs ≡ Ok (Some t) → Member (Some t) xs
 catalogue_there j [] t e = absurd cc
 catalogue_there j (None ∷ xs) t e = inr (catalogue_there (suc j) xs t e)
 catalogue_there j (Some text ∷ xs) t e = inl (sym (other_ok j text (suc j) xs (Some t) e).0)
@@ -183,7 +183,7 @@ first_kept : (ps ms : List Placed) (t : List ℕ) → catalogue_of ps ≡ Some t
 first_kept [] ms t e = absurd cc
 first_kept (p ∷ ps) ms t e = e
 
-catalogues_kept : (old more new : List (List Placed)) → Grown old more new → (t : List ℕ) → Member (Some t) (map catalogue_of old) → Member (Some t) (map catalogue_of new)
+pub catalogues_kept : (old more new : List (List Placed)) → Grown old more new → (t : List ℕ) → Member (Some t) (map catalogue_of old) → Member (Some t) (map catalogue_of new)
 catalogues_kept [] [] [] g t m = absurd m
 catalogues_kept [] [] (qs ∷ new) g t m = absurd g
 catalogues_kept [] (ms ∷ more) new g t m = absurd g

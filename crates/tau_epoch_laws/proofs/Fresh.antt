@@ -31,7 +31,7 @@ streams_empty : (f : Format) (n : ℕ) → streams_of f (replicate n []) ≡ Ok 
 unfolding streams_of
 streams_empty f n = each_empty f (length (replicate n [])) 0 n
 
-none_of : (j n : ℕ) → catalogue_from j (map catalogue_of (replicate n [])) ≡ Ok None
+pub none_of : (j n : ℕ) → catalogue_from j (map catalogue_of (replicate n [])) ≡ Ok None
 none_of j zero = refl
 none_of j (suc n) = none_of (suc j) n
 

@@ -7,3 +7,4 @@ pub mod Rows
 pub mod Vector
 pub mod KeptWrites
 pub mod KeptLv
+pub mod Single

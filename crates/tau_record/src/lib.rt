@@ -12,6 +12,7 @@ mod kind;
 mod laws;
 mod record;
 mod rows;
+mod single;
 mod vector;
 mod writes;
 
@@ -30,6 +31,7 @@ pub use laws::{
     one_reading, one_reading_of_rows, one_spelling, read_again, record_in_place, rows_read_again,
 };
 pub use rows::{put_writes, read_writes};
+pub use single::decode_one;
 pub use tau_base::Format;
 pub use vector::{compress, compress_wide, raise};
 pub use writes::{KeptWrites, LentWrites};

@@ -1,5 +1,5 @@
 //! Acknowledged calls that are kept short.
-ghost use Rattle.std.specs.Prelude.{ℕ, ◌≡◌, ◌≤◌, ◌<◌, ◌+◌, ◌++◌, ◌∷◌, [], List, length, vec_len, vec_capacity, OnOk, OnErr, Some, slice_get};
+ghost use Rattle.std.specs.Prelude.{ℕ, ◌≡◌, ◌≤◌, ◌<◌, ◌+◌, ◌++◌, ◌∷◌, [], List, length, vec_len, vec_capacity, OnOk, OnErr, MatchOption, Some, slice_get};
 
 use std::alloc::Global;
 use std::marker::Model;
@@ -73,5 +73,51 @@ impl Acks {
         put_parts(&mut self.parts, lv);
         self.heads.push_reserved((number, width as u8));
         Ok(())
+    }
+
+    /// The calls from the first on, one after another.
+    pub fn walk(&self) -> AckWalk<'_>
+        ensures { result ≡ self.now }
+    {
+        AckWalk {
+            heads: self.heads.as_slice(),
+            parts: self.parts.as_slice(),
+        }
+    }
+}
+
+/// Acknowledged calls that are gone through. Contracts see those that are left.
+#[derive(Drop)]
+pub struct AckWalk<'a> {
+    heads: &'a [(u64, u8)],
+    parts: &'a [u64],
+}
+
+impl<'a> Model for AckWalk<'a> {
+    ghost use Rattle.std.specs.Prelude.{ℕ, List};
+    ghost use Rattle.tau_report.specs.KeptAcks.{acks_of, IsWhole};
+
+    ghost Value = { List (ℕ × List ℕ) };
+
+    ghost view = { λ w. acks_of w.heads.now w.parts.now };
+
+    ghost invariant = { λ w. IsWhole w.heads.now w.parts.now };
+}
+
+impl<'a> AckWalk<'a> {
+    /// The next call's number and vector; none behind the last.
+    pub fn next(&mut self) -> Option<(u64, &'a [u64])>
+        ensures { MatchOption result ((self.old ≡ []) × (self.new ≡ [])) (λ a. self.old ≡ (a.0, a.1.now) ∷ self.new) }
+    {
+        match self.heads {
+            [] => None,
+            [head, heads @ ..] => {
+                let width = usize::from(head.1);
+                let lv = &self.parts[..width];
+                self.parts = &self.parts[width..];
+                self.heads = heads;
+                Some((head.0, lv))
+            }
+        }
     }
 }

@@ -66,4 +66,32 @@ impl KeptFate {
             }),
         }
     }
+
+    /// The fate as a value of its own. It takes no memory.
+    pub fn fate(&self) -> Fate
+        ensures { result ≡ self.now }
+    {
+        match &self.kept {
+            Kept::Unrun => Fate::Unrun,
+            Kept::Int {
+                acknowledged,
+                number,
+            } => fate_of(*acknowledged, Reply::Ok(Value::Int(*number))),
+            Kept::Other {
+                acknowledged,
+                reply,
+            } => fate_of(*acknowledged, reply.as_ref().copied()),
+        }
+    }
+}
+
+/// The fate of a call that committed with this reply.
+fn fate_of(acknowledged: bool, reply: Reply) -> Fate
+    ensures { result ≡ fate_by acknowledged reply }
+{
+    if acknowledged {
+        Fate::Acked(reply)
+    } else {
+        Fate::Unsure(reply)
+    }
 }

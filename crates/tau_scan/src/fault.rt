@@ -145,7 +145,7 @@ pub(crate) enum ReadRefusal {
 
 /// Why the images gave no log.
 #[derive(Clone, Copy, Debug, PartialEq, Eq)]
-pub(crate) enum LogRefusal {
+pub enum LogRefusal {
     /// Out of memory.
     NoMemory,
     /// The first cause.

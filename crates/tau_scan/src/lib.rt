@@ -14,8 +14,11 @@ mod reading;
 mod records;
 
 pub use begins::{LAST_EPOCH, MAX_ANCHORS, MAX_IMAGE, count_anchors, largest_epoch};
-pub use fault::{LogCause, LogFault, ReplayRefusal, ScanRefusal};
-pub use judge::Judge;
+pub use catalogue::one_catalogue;
+pub use epochs::one_vector_each;
+pub use fault::{LogCause, LogFault, LogRefusal, ReplayRefusal, ScanRefusal};
+pub use judge::{Judge, known_in};
 pub use laws::{taken_are_listed, taken_plain};
 pub use log::Log;
 pub use reading::{read_log, scan, scan_contents};
+pub use records::{declarations_in, is_declared, none_declared};

@@ -111,8 +111,8 @@ fn is_declared_call(declarations: &Declarations, kept: &KeptCall, place: &mut Ca
     declarations.procs.takes(place) && is_of_table(declarations, place)
 }
 
-/// Whether what the record names is declared.
-fn is_declared(
+/// Whether what the record names is declared. A call is put into a place that is kept.
+pub fn is_declared(
     alloc: Global,
     declarations: &Declarations,
     entry: &Entry,

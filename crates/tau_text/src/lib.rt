@@ -21,3 +21,4 @@ pub use load::{Declarations, Turn, Workload};
 pub use parse::parse_workload;
 pub use print::{print_declarations, print_workload};
 pub use reading::{Begun, Reading};
+pub use spelled::{known_table, literal, whole};
