@@ -6,7 +6,9 @@ use Rattle.tau_base.specs.declared.value.Mode.{Mode}
 use Rattle.tau_base.specs.Vectors.{covers}
 use Rattle.tau_base.specs.declared.limits.TheConstants.{MAX_BODY, SHARDS}
 use Rattle.tau_model.specs.History.{Act, Member}
-use Rattle.tau_machine.specs.Hands.{Txn, Hand}
+use Rattle.tau_base.specs.Database.{key_cmp}
+use Rattle.std.specs.Ordering.{is_le}
+use Rattle.tau_machine.specs.Hands.{Txn, Hand, mode_of}
 use Rattle.tau_core.specs.Pieces.{newest_of}
 use Rattle.tau_machine.specs.State.{Setting, Ticket, Item, start_of, past_of, Core}
 use Rattle.tau_machine.specs.Events.{Event, Lock, Busy, Quit, Commit, Post, Free, FirstFree, Done, DoneReading, Drop, Gather, PlaceAnchor, Persist, Ack, Stop, Resume, Leads, ready, lock_next, Conflicts}
@@ -108,9 +110,17 @@ module _ (set : Setting) (m n : ℕ) where
   BusyHasHolder (Busy w) s = IsBarred w s
   BusyHasHolder _ s = Unit {0}
 
+  -- a key that is given back is the lowest that the call holds
+  abbrev pub QuitsLowest : (e : Event) (s s' : Core) (new : List (Act Txn)) → Leads set e s s' new → Type 0
+  QuitsLowest (Quit w up) s s' new leads = (k : Key) (mode : Mode) → mode_of k leads.0.hand.held ≡ Some mode → is_le (key_cmp leads.0.key k) ≡ true
+  QuitsLowest _ s s' new leads = Unit {0}
+
   -- the next action of the worker
   abbrev pub Worked : ℕ → Progress → Progress → Type 0
-  Worked w p p' = IfSo (has_work p.state w) ((e : Event) × IsOwn w e × (q : Goes e p p') × NamesNewest e p.state q.new × BusyHasHolder e p.state) (Stays p p')
+  Worked w p p' =
+      IfSo (has_work p.state w)
+      ((e : Event) × IsOwn w e × (q : Goes e p p') × NamesNewest e p.state q.new × BusyHasHolder e p.state × QuitsLowest e p.state p'.state q.new q.leads)
+      (Stays p p')
 
   -- the first of these items does not continue what was gathered, or it is too long for the block that is to be written
   abbrev pub Waits : Core → ℕ → List Item → Type 0

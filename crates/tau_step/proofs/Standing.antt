@@ -33,7 +33,7 @@ module _ (p p' : Plain) (K : List (Act Txn)) (h : Hidden) where
   steps_stand (event.Lock w) outcome.NothingCovered t = absurd t
   steps_stand (event.Lock w) (outcome.NotNow phase) t = unmoved t.0
   steps_stand (event.Lock w) outcome.NoMemory t = unmoved t.0
-  steps_stand (event.Quit w) outcome.Went t = happened (machine.Quit w false) t
+  steps_stand (event.Quit w) outcome.Went t = happened (machine.Quit w false) t.0
   steps_stand (event.Quit w) (outcome.Granted value) t = absurd t
   steps_stand (event.Quit w) (outcome.Busy holder) t = absurd t
   steps_stand (event.Quit w) (outcome.Placed start) t = absurd t

@@ -39,6 +39,6 @@ module _ (set : Setting) (m n : ℕ) where
   -- a worker that has something to do does it
   pub worked_total : (w : ℕ) → w < m → (P P' : Progress) → has_work set m n P.state w ≡ true → HasTries (P.state.workers w) → Worked set m n w P P' → all_left P'.state < all_left P.state
   worked_total w lt P P' works has h =
-      let (e, own, q, names, held) = if_then (has_work set m n P.state w) _ _ works h in
+      let (e, own, q, names, held, lowest) = if_then (has_work set m n P.state w) _ _ works h in
       sum_less (λ u. worker_left set.procs (P'.state.workers u)) (λ u. worker_left set.procs (P.state.workers u)) w m lt (own_falls set w e own P.state P'.state q.new has q.leads)
       (λ u ne. ap (worker_left set.procs) (worked_others set m n P P' w u ne true h))

@@ -23,7 +23,7 @@ use Rattle.tau_core.specs.Pieces as core
 use Rattle.tau_core.specs.Phases.{hand_phase}
 use Rattle.tau_core.specs.Steps.{Steps, Happened, Unmoved, StandsElsewhere, IsBarred}
 use Rattle.tau_run.specs.Turns as run
-use Rattle.tau_run.specs.Turns.{Progress, Stays, Goes, NamesNewest, BusyHasHolder, IsOwn}
+use Rattle.tau_run.specs.Turns.{Progress, Stays, Goes, NamesNewest, BusyHasHolder, QuitsLowest, IsOwn}
 use Rattle.tau_step.specs.Progressed as on
 use Rattle.tau_step.specs.Progressed.{progress, Comes}
 use Rattle.tau_step.specs.Acting.{Tells, Acts, WorkerTurned, raised, has_work_in}
@@ -82,11 +82,11 @@ module _ (p p' : Plain) (K : List (Act Txn)) (h : Hidden) (es : List machine.Eve
   module _ (w : ℕ) where
     abbrev own_event : Progress → Progress → Type 0
     own_event P P' = (f : machine.Event) × IsOwn w f × (q : Goes (setting_of p.load) p.load.workers p.load.streams f P P') × NamesNewest (setting_of p.load) p.load.workers p.load.streams f P.state q.new ×
-        BusyHasHolder (setting_of p.load) p.load.workers p.load.streams f P.state
+        BusyHasHolder (setting_of p.load) p.load.workers p.load.streams f P.state × QuitsLowest (setting_of p.load) p.load.workers p.load.streams f P.state P'.state q.new q.leads
 
     pub worked : (e : machine.Event) → IsOwn w e → has_work_in p h w ≡ true → (q : Happened e p p' K h) → NamesNewest (setting_of p.load) p.load.workers p.load.streams e (core_of p h) q.joined →
-        BusyHasHolder (setting_of p.load) p.load.workers p.load.streams e (core_of p h) → WorkerTurned w p p' K h es told (Ok true)
-    worked e own works q newest rightly = (
+        BusyHasHolder (setting_of p.load) p.load.workers p.load.streams e (core_of p h) → QuitsLowest (setting_of p.load) p.load.workers p.load.streams e (core_of p h) (core_of p' q.hidden) q.joined q.leads → WorkerTurned w p p' K h es told (Ok true)
+    worked e own works q newest rightly lowest = (
       sym works,
       record {
         hidden = q.hidden;
@@ -98,7 +98,7 @@ module _ (p p' : Plain) (K : List (Act Txn)) (h : Hidden) (es : List machine.Eve
         moved =
             let P = progress p h es K told in
             let P' = progress p' q.hidden (es ++ e ∷ []) (K ++ q.joined) told in
-            if_so (has_work_in p h w) (own_event P P') (Stays P P') works (e, own, record { new = q.joined; leads = q.leads; events = refl; joined = refl; told = refl }, newest, rightly);
+            if_so (has_work_in p h w) (own_event P P') (Stays P P') works (e, own, record { new = q.joined; leads = q.leads; events = refl; joined = refl; told = refl }, newest, rightly, lowest);
       },
     )
 
@@ -146,8 +146,8 @@ module _ (p p' : Plain) (K : List (Act Txn)) (h : Hidden) (es : List machine.Eve
 
     pub lock_turn : (r : Result Bool NoMemory) (o : Outcome) → Tells o r → Steps p p' K h (event.Lock w) o → hand_at Locking → w < p.load.workers → WorkerTurned w p p' K h es told r
     lock_turn r outcome.Went e t at lt = absurd t
-    lock_turn r (outcome.Granted value) e t at lt = did r true e (worked (machine.Lock w) refl (held Locking (λ q. cc) at lt) t.0 tt tt)
-    lock_turn r (outcome.Busy holder) e t at lt = did r true e (worked (machine.Busy w) refl (held Locking (λ q. cc) at lt) t.0 tt (barred p h w holder t.1))
+    lock_turn r (outcome.Granted value) e t at lt = did r true e (worked (machine.Lock w) refl (held Locking (λ q. cc) at lt) t.0 tt tt tt)
+    lock_turn r (outcome.Busy holder) e t at lt = did r true e (worked (machine.Busy w) refl (held Locking (λ q. cc) at lt) t.0 tt (barred p h w holder t.1) tt)
     lock_turn r (outcome.Placed start) e t at lt = absurd t
     lock_turn r (outcome.Gathered upto) e t at lt = absurd t
     lock_turn r (outcome.Acked number lv) e t at lt = absurd t
@@ -156,7 +156,7 @@ module _ (p p' : Plain) (K : List (Act Txn)) (h : Hidden) (es : List machine.Eve
     lock_turn r outcome.NoMemory e t at lt = short r e t.0
 
     pub quit_turn : (r : Result Bool NoMemory) (o : Outcome) → Tells o r → Steps p p' K h (event.Quit w) o → hand_at Quitting → w < p.load.workers → WorkerTurned w p p' K h es told r
-    quit_turn r outcome.Went e t at lt = did r true e (worked (machine.Quit w false) (refl, refl) (held Quitting (λ q. cc) at lt) t tt tt)
+    quit_turn r outcome.Went e t at lt = did r true e (worked (machine.Quit w false) (refl, refl) (held Quitting (λ q. cc) at lt) t.0 tt tt t.1)
     quit_turn r (outcome.Granted value) e t at lt = absurd t
     quit_turn r (outcome.Busy holder) e t at lt = absurd t
     quit_turn r (outcome.Placed start) e t at lt = absurd t
@@ -170,7 +170,7 @@ module _ (p p' : Plain) (K : List (Act Txn)) (h : Hidden) (es : List machine.Eve
     commit_turn r outcome.Went e t at lt = absurd t
     commit_turn r (outcome.Granted value) e t at lt = absurd t
     commit_turn r (outcome.Busy holder) e t at lt = absurd t
-    commit_turn r (outcome.Placed start) e t at lt = let (x, start, named) = t in did r true e (worked (machine.Commit w) refl (held Ready (λ q. cc) at lt) x (newest x named.0 named.1 named.2) tt)
+    commit_turn r (outcome.Placed start) e t at lt = let (x, start, named) = t in did r true e (worked (machine.Commit w) refl (held Ready (λ q. cc) at lt) x (newest x named.0 named.1 named.2) tt tt)
     commit_turn r (outcome.Gathered upto) e t at lt = absurd t
     commit_turn r (outcome.Acked number lv) e t at lt = absurd t
     commit_turn r outcome.NothingCovered e t at lt = absurd t
@@ -178,7 +178,7 @@ module _ (p p' : Plain) (K : List (Act Txn)) (h : Hidden) (es : List machine.Eve
     commit_turn r outcome.NoMemory e t at lt = short r e t.0
 
     pub post_turn : (r : Result Bool NoMemory) (o : Outcome) → Tells o r → Steps p p' K h (event.Post w) o → hand_at Placed → w < p.load.workers → WorkerTurned w p p' K h es told r
-    post_turn r outcome.Went e t at lt = did r true e (worked (machine.Post w) refl (held Placed (λ q. cc) at lt) t tt tt)
+    post_turn r outcome.Went e t at lt = did r true e (worked (machine.Post w) refl (held Placed (λ q. cc) at lt) t tt tt tt)
     post_turn r (outcome.Granted value) e t at lt = absurd t
     post_turn r (outcome.Busy holder) e t at lt = absurd t
     post_turn r (outcome.Placed start) e t at lt = absurd t
@@ -189,7 +189,7 @@ module _ (p p' : Plain) (K : List (Act Txn)) (h : Hidden) (es : List machine.Eve
     post_turn r outcome.NoMemory e t at lt = absurd t
 
     pub free_turn : (r : Result Bool NoMemory) (o : Outcome) → Tells o r → Steps p p' K h (event.Free w) o → hand_at Freeing → w < p.load.workers → WorkerTurned w p p' K h es told r
-    free_turn r outcome.Went e t at lt = did r true e (elim t [ inl q ↦ worked (machine.Free w) refl (held Freeing (λ q. cc) at lt) q tt tt | inr q ↦ worked (machine.FirstFree w) refl (held Freeing (λ q. cc) at lt) q tt tt ])
+    free_turn r outcome.Went e t at lt = did r true e (elim t [ inl q ↦ worked (machine.Free w) refl (held Freeing (λ q. cc) at lt) q tt tt tt | inr q ↦ worked (machine.FirstFree w) refl (held Freeing (λ q. cc) at lt) q tt tt tt ])
     free_turn r (outcome.Granted value) e t at lt = absurd t
     free_turn r (outcome.Busy holder) e t at lt = absurd t
     free_turn r (outcome.Placed start) e t at lt = absurd t
@@ -200,7 +200,7 @@ module _ (p p' : Plain) (K : List (Act Txn)) (h : Hidden) (es : List machine.Eve
     free_turn r outcome.NoMemory e t at lt = absurd t
 
     pub done_turn : (r : Result Bool NoMemory) (o : Outcome) → Tells o r → Steps p p' K h (event.Done w) o → hand_at Ended → w < p.load.workers → WorkerTurned w p p' K h es told r
-    done_turn r outcome.Went e t at lt = did r true e (elim t [ inl q ↦ worked (machine.Done w) refl (held Ended (λ q. cc) at lt) q tt tt | inr q ↦ worked (machine.DoneReading w) refl (held Ended (λ q. cc) at lt) q tt tt ])
+    done_turn r outcome.Went e t at lt = did r true e (elim t [ inl q ↦ worked (machine.Done w) refl (held Ended (λ q. cc) at lt) q tt tt tt | inr q ↦ worked (machine.DoneReading w) refl (held Ended (λ q. cc) at lt) q tt tt tt ])
     done_turn r (outcome.Granted value) e t at lt = absurd t
     done_turn r (outcome.Busy holder) e t at lt = absurd t
     done_turn r (outcome.Placed start) e t at lt = absurd t
@@ -219,8 +219,8 @@ module _ (p p' : Plain) (K : List (Act Txn)) (h : Hidden) (es : List machine.Eve
     -- the next call begins with a lock
     pub begin_locked : (o : Outcome) → Tells o (Ok true) → Steps p p' K h (event.Lock w) o → hand_of (core_of p h) w ≡ None → raised p h ≡ false → w < p.load.workers → WorkerTurned w p p' K h es told (Ok true)
     begin_locked outcome.Went e t none going lt = absurd t
-    begin_locked (outcome.Granted value) e t none going lt = let (key, mode, wants, is) = t.1 in worked (machine.Lock w) refl (waiting wants.hand none wants.is going lt) t.0 tt tt
-    begin_locked (outcome.Busy holder) e t none going lt = let (key, mode, wants, is) = t.1 in worked (machine.Busy w) refl (waiting wants.hand none wants.is going lt) t.0 tt (barred p h w holder t.1)
+    begin_locked (outcome.Granted value) e t none going lt = let (key, mode, wants, is) = t.1 in worked (machine.Lock w) refl (waiting wants.hand none wants.is going lt) t.0 tt tt tt
+    begin_locked (outcome.Busy holder) e t none going lt = let (key, mode, wants, is) = t.1 in worked (machine.Busy w) refl (waiting wants.hand none wants.is going lt) t.0 tt (barred p h w holder t.1) tt
     begin_locked (outcome.Placed start) e t none going lt = absurd t
     begin_locked (outcome.Gathered upto) e t none going lt = absurd t
     begin_locked (outcome.Acked number lv) e t none going lt = absurd t
@@ -257,7 +257,7 @@ module _ (p p' : Plain) (K : List (Act Txn)) (h : Hidden) (es : List machine.Eve
         | inl q ↦ (let c = unmoved_happened (machine.Done w) p m p' K h u q in absurd (none_some (hand_of (core_of p h) w) c.leads.0.hand none c.leads.0.is))
         | inr q ↦ (let c = unmoved_happened (machine.DoneReading w) p m p' K h u q in
             let (mid, t, reads, ends, new) = c.leads in
-            worked (machine.DoneReading w) refl (waiting reads.hand none reads.is going lt) c tt tt)
+            worked (machine.DoneReading w) refl (waiting reads.hand none reads.is going lt) c tt tt tt)
       ])
       by_end u locking r (outcome.Granted value) e t = absurd t
       by_end u locking r (outcome.Busy holder) e t = absurd t
