@@ -1,0 +1,4 @@
+pub mod Catalogues
+pub mod Empty
+pub mod Ends
+pub mod Starting
