@@ -18,15 +18,12 @@ use crate::status::Status;
 use std::alloc::Global;
 use std::sync::Wait;
 use std::thread::Threads;
-use tau_base::{LogMode, NoMemory, format_of};
-use tau_begin::open_run;
-use tau_core::Opening;
-use tau_crew::{run_threads, run_threads_from};
+use tau_base::{LogMode, NoMemory};
+use tau_crew::run_threads;
 use tau_disk::{Disk, Gate, Sink};
-use tau_open::close_streams;
+use tau_open::{OpenRefusal, close_streams, open_streams};
 use tau_report::{RunEnd, report_text};
-use tau_scan::ScanRefusal;
-use tau_step::{run_turns, run_turns_from, write_all};
+use tau_step::{run_turns, write_all};
 use tau_stream::Writer;
 use tau_text::{Workload, print_declarations};
 
@@ -52,11 +49,13 @@ fn tell_end<K: Sink>(alloc: Global, load: &Workload, end: &RunEnd, sink: &mut K)
 }
 
 /// How a run ends where it could not begin.
-fn status_of(refusal: ScanRefusal) -> Status {
+fn status_of(refusal: OpenRefusal) -> Status
+    ensures value { result ≡ status_in refusal }
+{
     match refusal {
-        ScanRefusal::NoMemory => Status::NoMemory,
-        ScanRefusal::Failed { stream } => Status::DiskFault { stream },
-        ScanRefusal::Bad(fault) => Status::BadLog(fault),
+        OpenRefusal::NoMemory => Status::NoMemory,
+        OpenRefusal::Failed { stream } => Status::DiskFault { stream },
+        OpenRefusal::NotEmpty { stream, length } => Status::NotEmpty { stream, length },
     }
 }
 
@@ -88,41 +87,31 @@ pub(crate) fn run_writers<R: Threads + Wait + Sync, D: Disk + Send, K: Sink + Se
     }
 }
 
-/// Runs a workload from this opening on the streams of these writers: by turns if it has them, else in threads.
-fn run_from<R: Threads + Wait + Sync, D: Disk + Send, K: Sink + Send, G: Gate + Sync>(
-    rt: &R,
-    alloc: Global,
-    load: &Workload,
-    opening: Opening,
-    workers: u8,
-    mode: LogMode,
-    writers: &mut Vec<Writer<D>>,
-    sink: &mut K,
-    gate: &G,
-) -> Result<RunEnd, NoMemory> {
-    match load.turns {
-        Some(_) => run_turns_from(alloc, load, opening, workers, mode, writers, sink),
-        None => run_threads_from(rt, alloc, load, opening, workers, mode, writers, sink, gate),
-    }
-}
-
-/// Runs a workload from this opening on the streams of these writers, and puts their disks back in front of the others.
+/// Runs a workload on the streams of these writers, and puts their disks back in front of the others.
 fn run_on<R: Threads + Wait + Sync, D: Disk + Send, K: Sink + Send, G: Gate + Sync>(
     rt: &R,
     alloc: Global,
     load: &Workload,
-    opening: Opening,
     workers: u8,
     mode: LogMode,
     sink: &mut K,
     disks: &mut Vec<D>,
     writers: Vec<Writer<D>>,
     gate: &G,
-) -> Status {
+) -> Status
+    requires streams_low { 1 ≤ vec_len writers }
+    requires streams_high { vec_len writers ≤ most_streams (format_of mode) }
+    requires low { 1 ≤ workers }
+    requires high { workers ≤ MAX_COUNT }
+    requires runnable { IsRunnable load.now }
+    requires text { length (declarations_text load.now.declarations) ≤ MAX_CATALOGUE }
+    requires fresh { AreNew (format_of mode) (λ j. catalogue_of load.now) writers.items }
+    requires room { vec_len disks.old + vec_len writers ≤ vec_capacity disks.old }
+    ensures ran { RunsOn workers mode load.now writers.items disks.old.items disks.new.items K.tells (K.held sink.old) (K.held sink.new) (K.faults sink.old) (K.faults sink.new) result }
+    ensures len { vec_len disks.new ≡ vec_len writers + vec_len disks.old }
+{
     let mut writers = writers;
-    let end = run_from(
-        rt, alloc, load, opening, workers, mode, &mut writers, sink, gate,
-    );
+    let end = run_writers(rt, alloc, load, workers, mode, &mut writers, sink, gate);
     close_streams(disks, writers);
     match end {
         Ok(end) => tell_end(alloc, load, &end, sink),
@@ -130,7 +119,7 @@ fn run_on<R: Threads + Wait + Sync, D: Disk + Send, K: Sink + Send, G: Gate + Sy
     }
 }
 
-/// Runs a workload on what the first `streams` disks hold, and puts them back in their places.
+/// Runs a workload on the first `streams` disks, which are to hold nothing, and puts them back in their places. The log is of format 1.
 pub fn run<R: Threads + Wait + Sync, D: Disk + Send, K: Sink + Send, G: Gate + Sync>(
     rt: &R,
     alloc: Global,
@@ -144,22 +133,21 @@ pub fn run<R: Threads + Wait + Sync, D: Disk + Send, K: Sink + Send, G: Gate + S
 ) -> Status
     requires disks { vec_len disks.old ≡ MAX_STREAMS }
     requires streams_low { 1 ≤ streams }
-    requires streams_high { streams ≤ most_streams (format_of mode) }
+    requires streams_high { streams ≤ MAX_COUNT }
     requires low { 1 ≤ workers }
-    requires high { workers ≤ MAX_STREAMS }
+    requires high { workers ≤ MAX_COUNT }
+    requires narrow { format_of mode ≡ One }
     requires runnable { IsRunnable load.now }
     requires meant { (text : List ℕ) × (workload_of text ≡ Ok load.now) }
 
     ensures count { vec_len disks.new ≡ MAX_STREAMS }
     ensures says { SaysRun ⟦<D as Disk>⟧ streams workers mode load.now disks.old.items disks.new.items K.tells (K.held sink.old) (K.held sink.new) (K.faults sink.old) (K.faults sink.new) result }
 {
-    let Ok(text) = print_declarations(alloc, &load.declarations) else {
+    let Ok(catalogue) = print_declarations(alloc, &load.declarations) else {
         return Status::NoMemory;
     };
-    match open_run(alloc, disks, streams, format_of(mode), &text) {
+    match open_streams(alloc, disks, streams, &catalogue) {
         Err(refusal) => refuse(alloc, sink, status_of(refusal)),
-        Ok((opening, writers)) => run_on(
-            rt, alloc, load, opening, workers, mode, sink, disks, writers, gate,
-        ),
+        Ok(writers) => run_on(rt, alloc, load, workers, mode, sink, disks, writers, gate),
     }
 }
