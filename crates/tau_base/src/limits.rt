@@ -65,3 +65,18 @@ pub const MAX_RECORD: usize = 5_207;
 
 /// A position in a stream is below this.
 pub const MAX_LSN: u64 = 4_611_686_018_427_387_904;
+
+/// Bytes of an image that a run goes on from, at most.
+pub const MAX_IMAGE: u64 = 1_152_921_504_606_846_976;
+
+/// A run in threads begins where each stream ends at most here.
+pub const MAX_BEGIN: u64 = 2_305_843_009_213_693_952;
+
+/// Anchors of a stream, at most.
+pub const MAX_ANCHORS: u64 = 4_294_967_295;
+
+/// After this epoch there is no other.
+pub const LAST_EPOCH: u32 = 4_294_967_295;
+
+/// Bytes of a stream from one anchor of a run in threads to the next, at least.
+pub const ANCHOR_BYTES: u64 = 65_536;

@@ -9,10 +9,9 @@ ghost use Rattle.tau_begin.specs.Starts.{AreStarts, IsStartOf};
 
 use crate::given::given_after;
 use std::alloc::Global;
-use tau_base::{Format, Listed, Lv, NoMemory};
+use tau_base::{Format, Listed, Lv, MAX_IMAGE, NoMemory};
 use tau_block::{Content, header, header_wide};
 use tau_open::StreamStart;
-use tau_scan::MAX_IMAGE;
 
 /// The header of stream `j` of `n` in this format, and a closed gate.
 fn head_in(format: Format, n: u16, j: u16) -> [u8; 17]

@@ -1,5 +1,6 @@
 -- What a manager does to place an anchor.
 use Rattle.std.specs.Prelude.{ℕ, ◌+◌, ◌-◌, ◌<◌, ◌^◌, ◌≡◌, None, Some, false, List, [], ◌∷◌, ◌++◌, length, slice_get, slice_index, slice_set}
+use Rattle.tau_base.specs.declared.limits.TheConstants.{MAX_ANCHORS}
 use Rattle.tau_base.specs.Modes.{format_of}
 use Rattle.tau_record.specs.Record.{Spells}
 use Rattle.tau_record.specs.declared.entry.Entry.TheVariants as entry
@@ -18,7 +19,7 @@ pub record Anchors (j : ℕ) (p p' : Plain) : Type 0 where
   pub bytes : List ℕ
   pub is : slice_get p.streams j ≡ Some stream
   pub pieces : own.pieces ≡ stream.own.pieces ++ record { start = slice_index p.ends j; bytes = bytes } ∷ []
-  pub few : slice_index p.load.opening.anchors.items j + length stream.anchors < 2 ^ 32 - 1
+  pub few : slice_index p.load.opening.anchors.items j + length stream.anchors < MAX_ANCHORS
   pub spelled : (vectors : List (List ℕ)) → Spells (format_of p.load.mode) (length p.plv) vectors false (entry.Anchor p.plv) bytes
   pub after : p' ≡ record p {
     streams = slice_set p.streams j (record stream { own = own; anchors = stream.anchors ++ p.plv ∷ [] });

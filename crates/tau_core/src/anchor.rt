@@ -7,11 +7,8 @@ ghost use Rattle.tau_core.specs.Anchors.{Anchored};
 
 use crate::event::{Outcome, Phase};
 use crate::state::State;
-use tau_base::{Lv, MAX_LSN, NoMemory};
+use tau_base::{Lv, MAX_ANCHORS, MAX_LSN, NoMemory};
 use tau_record::encode_anchor;
-
-/// No anchor has a greater number.
-const LAST_ANCHOR: u64 = 4_294_967_295;
 
 /// Places and posts an anchor that holds the persisted positions.
 pub(crate) fn anchor(state: &mut State, stream: usize) -> Outcome
@@ -47,7 +44,7 @@ fn place_anchor(state: &mut State, stream: usize) -> Outcome
         return Outcome::NoMemory;
     }
     let number = u64::from(before) + part.anchors.len() as u64;
-    if number >= LAST_ANCHOR {
+    if number >= MAX_ANCHORS {
         return Outcome::NoMemory;
     }
     if part.own.reserve().is_err() {

@@ -3,14 +3,8 @@ ghost use Rattle.std.specs.Prelude.{◌≡◌, ◌+◌, ◌^◌, ◌<◌, ◌≤
 ghost use Rattle.tau_crew.specs.Driving.{IsApart, IsBlock, KeepsSeat};
 
 use std::sync::Wait;
-use tau_base::{NoMemory, SHARDS, stream_of};
+use tau_base::{ANCHOR_BYTES, MAX_ANCHORS, NoMemory, SHARDS, stream_of};
 use tau_desk::{Desk, ManagerSeat};
-
-/// How many content bytes are persisted at least from one anchor to the next.
-pub(crate) const ANCHOR_BYTES: u64 = 65_536;
-
-/// No anchor has a greater number.
-const LAST_ANCHOR: u64 = 4_294_967_295;
 
 /// Where the anchors of a manager stand.
 #[derive(Clone, Copy, Debug, PartialEq, Eq)]
@@ -92,7 +86,7 @@ fn anchor<R: Wait>(
 {
     seat.agrees();
     let before = desk.load.opening.anchors.as_slice()[stream as usize];
-    if u64::from(before) + u64::from(placed) >= LAST_ANCHOR {
+    if u64::from(before) + u64::from(placed) >= MAX_ANCHORS {
         return Err(NoMemory);
     }
     seat.reserve()?;

@@ -1,7 +1,7 @@
 //! Runs in threads.
 ghost use Rattle.std.specs.Prelude.{ℕ, ◌≡◌, ◌≤◌, ◌<◌, ◌^◌, List, [], false, length, slice_index, vec_capacity, vec_len};
 ghost use Rattle.tau_base.specs.Modes.{format_of, most_streams};
-ghost use Rattle.tau_base.specs.declared.limits.TheConstants.{MAX_CATALOGUE, MAX_WORKERS};
+ghost use Rattle.tau_base.specs.declared.limits.TheConstants.{MAX_BEGIN, MAX_CATALOGUE, MAX_WORKERS};
 ghost use Rattle.tau_disk.specs.Disk.{Rose};
 ghost use Rattle.tau_text.specs.Canonical.{declarations_text};
 ghost use Rattle.tau_text.specs.Kept.{AreCalls};
@@ -25,16 +25,13 @@ use crate::work_phase::run_phase;
 use std::alloc::Global;
 use std::sync::Wait;
 use std::thread::Threads;
-use tau_base::{LogMode, NoMemory};
+use tau_base::{LogMode, MAX_BEGIN, NoMemory};
 use tau_core::Opening;
 use tau_desk::{Desk, Head};
 use tau_disk::{Disk, Gate, Sink};
 use tau_report::RunEnd;
 use tau_stream::Writer;
 use tau_text::Workload;
-
-/// A stream of a desk ends no later than there when it opens, 2^61.
-const LATEST_END: u64 = 2_305_843_009_213_693_952;
 
 /// Runs a workload in threads, with so many workers, on streams that were just created for it: workers, managers and the
 /// clerk side by side. Then the calls left over run alone, each manager flushes what is left, and the clerk makes a last pass.
@@ -96,10 +93,10 @@ pub fn run_threads_from<R: Threads + Wait + Sync, D: Disk + Send, K: Sink + Send
 
 /// Whether a stream ends later than a desk can open with.
 fn is_long(opening: &Opening) -> bool
-    ensures { result ≡ false → (j : ℕ) → j < length opening.now.ends → slice_index opening.now.ends j ≤ 2 ^ 61 }
+    ensures { result ≡ false → (j : ℕ) → j < length opening.now.ends → slice_index opening.now.ends j ≤ MAX_BEGIN }
 {
     for j in 0..opening.ends.width() {
-        if opening.ends.get(j) > LATEST_END {
+        if opening.ends.get(j) > MAX_BEGIN {
             return true;
         }
     }

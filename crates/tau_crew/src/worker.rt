@@ -6,10 +6,9 @@ ghost use Rattle.tau_txn.specs.Txn.{held_in};
 ghost use Rattle.tau_desk.specs.Works.{IsSameSeat};
 ghost use Rattle.tau_crew.specs.Working.{HasNone, IsUnjoined, WorkerEnds, WorksOn, has_raised};
 
-use crate::anchor::ANCHOR_BYTES;
 use std::sync::Wait;
 use std::thread;
-use tau_base::{NoMemory, stream_of};
+use tau_base::{ANCHOR_BYTES, NoMemory, stream_of};
 use tau_desk::{Acted, Desk, WorkerSeat};
 use tau_disk::{Gate, Place};
 use tau_txn::ActionKind;

@@ -1,6 +1,6 @@
 //! The manager of a stream on its seat.
 ghost use Rattle.std.specs.Prelude.{◌≡◌, ◌+◌, ◌-◌, ◌%◌, ◌^◌, ◌<◌, ◌≤◌, [], ◌∷◌, None, Some, ℕ, IfNone, IfSome, OnErr, OnOk, false, true, length, slice_get, slice_index, slice_set, vec_len};
-ghost use Rattle.tau_base.specs.declared.limits.TheConstants.{MAX_LSN, SHARDS};
+ghost use Rattle.tau_base.specs.declared.limits.TheConstants.{MAX_ANCHORS, MAX_LSN, SHARDS};
 ghost use Rattle.tau_rule.specs.Role.{Role as RoleOf};
 ghost use Rattle.tau_rule.specs.Boxes.{box_in};
 ghost use Rattle.tau_rule.specs.Positions.{sees_to};
@@ -271,7 +271,7 @@ impl ManagerSeat {
         requires own { self.old.table_id ≡ desk.now.table.shared.table_id }
         requires opened { self.old.me.0.opened ≡ Some desk.now.table.shared.key.value }
         requires room { (1 ≤ self.old.stock.room) × (1 ≤ self.old.stock.own.room) }
-        requires few { slice_index desk.now.table.shared.key.value.load.opening.anchors.items self.old.stream + length self.old.stock.anchors < 2 ^ 32 - 1 }
+        requires few { slice_index desk.now.table.shared.key.value.load.opening.anchors.items self.old.stream + length self.old.stock.anchors < MAX_ANCHORS }
         ensures placed { OnOk result (PlacesAnchor desk.now.table.shared.key.value.load self.old self.new) }
         ensures same { OnErr result (self.new ≡ self.old) }
     {

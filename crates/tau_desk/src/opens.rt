@@ -1,6 +1,6 @@
 //! The desk opens.
 ghost use Rattle.std.specs.Prelude.{◌≡◌, ◌≤◌, ◌<◌, ◌+◌, ◌*◌, ◌^◌, ◌++◌, [], ℕ, IfOk, Some, length, slice_get, slice_index, vec_len, vec_capacity};
-ghost use Rattle.tau_base.specs.declared.limits.TheConstants.{MAX_CATALOGUE, MAX_STREAMS, MAX_WORKERS, SHARDS};
+ghost use Rattle.tau_base.specs.declared.limits.TheConstants.{MAX_BEGIN, MAX_CATALOGUE, MAX_STREAMS, MAX_WORKERS, SHARDS};
 ghost use Rattle.tau_base.specs.Modes.{format_of, most_streams};
 ghost use Rattle.tau_text.specs.Canonical.{declarations_text};
 ghost use Rattle.tau_text.specs.Kept.{AreCalls};
@@ -41,7 +41,7 @@ impl Desk {
         requires calls { AreCalls load.now.declarations.procs load.now.calls }
         requires streams { length opening.ends ≤ most_streams (format_of mode) }
         requires fits { Fits opening }
-        requires short { (j : ℕ) → j < length opening.ends → slice_index opening.ends j ≤ 2 ^ 61 }
+        requires short { (j : ℕ) → j < length opening.ends → slice_index opening.ends j ≤ MAX_BEGIN }
         ensures { IfOk result (λ d. Opened (load_of load.now.declarations.procs load.now.calls mode m opening) d.0.table.shared.key.value × IsFirst d.0.table.shared.key.value d.1.me × IsWhole d.1 × (d.1.table_id ≡ d.0.table.shared.table_id) × AreUnbegun d.1.workers × AreResting d.1) }
     {
         let core = Core::open(alloc, load, opening, m, mode)?;
@@ -74,7 +74,7 @@ impl Desk {
 /// The desk of a core that has just opened.
 fn desk_of(alloc: Global, core: Core) -> Result<(Desk, Head), NoMemory>
     requires opened { Opened core.load core }
-    requires short { (j : ℕ) → j < core.load.streams → slice_index core.load.opening.ends j ≤ 2 ^ 61 }
+    requires short { (j : ℕ) → j < core.load.streams → slice_index core.load.opening.ends j ≤ MAX_BEGIN }
     ensures { IfOk result (λ d. (d.0.table.shared.key.value ≡ core) × IsFirst core d.1.me × IsWhole d.1 × (d.1.table_id ≡ d.0.table.shared.table_id) × AreUnbegun d.1.workers) }
 {
     let key = Snapshot::of(&core);

@@ -4,6 +4,7 @@ use Rattle.std.specs.Map.{lookup}
 use Rattle.tau_base.specs.declared.value.Key.{Key}
 use Rattle.tau_base.specs.declared.value.Mode.{Mode}
 use Rattle.tau_base.specs.declared.value.Mode.TheVariants.{Write}
+use Rattle.tau_base.specs.declared.limits.TheConstants.{MAX_ANCHORS}
 use Rattle.tau_model.specs.History.{Numbered, Act, Member, updating}
 use Rattle.std.specs.Ordering.{is_le}
 use Rattle.tau_base.specs.Database.{key_cmp, same_key}
@@ -173,7 +174,7 @@ module _ (set : Setting) where
   pub record Anchors (j : ℕ) (v : List ℕ) (s s' : Core) : Type 0 where
     pub there : j < set.width
     pub going : (s.streams j).stop ≡ None
-    pub room : set.anchored j + length (s.streams j).anchors < 2 ^ 32 - 1
+    pub room : set.anchored j + length (s.streams j).anchors < MAX_ANCHORS
     pub covered : AtMost v s.plv
     pub narrow : length v ≤ set.width
     pub past : ℕ

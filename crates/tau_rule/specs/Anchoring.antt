@@ -1,5 +1,6 @@
 -- A manager places an anchor.
 use Rattle.std.specs.Prelude.{ℕ, false, ◌+◌, ◌-◌, ◌^◌, ◌<◌, ◌≤◌, List, [], ◌∷◌, ◌++◌, length, slice_index}
+use Rattle.tau_base.specs.declared.limits.TheConstants.{MAX_ANCHORS}
 use Rattle.tau_base.specs.Modes.{format_of}
 use Rattle.tau_record.specs.Record.{Spells}
 use Rattle.tau_record.specs.declared.entry.Entry.TheVariants as entry
@@ -25,4 +26,4 @@ pub record IsToAnchor (origin : Plain) (j : ℕ) (m : Sat) (bytes : List ℕ) : 
   pub spelled : (vectors : List (List ℕ)) → Spells (format_of origin.load.mode) origin.load.streams vectors false (entry.Anchor m.0.seen) bytes
   pub low : 1 ≤ length bytes
   pub high : length bytes ≤ MAX_ANCHOR
-  pub room : slice_index origin.load.opening.anchors.items j + length managed.anchors < 2 ^ 32 - 1
+  pub room : slice_index origin.load.opening.anchors.items j + length managed.anchors < MAX_ANCHORS

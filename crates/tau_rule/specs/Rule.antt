@@ -1,6 +1,6 @@
 -- The rule of the desk: its words, parts and views show one state of the core.
 use Rattle.std.specs.Prelude.{ℕ, ◌+◌, ◌-◌, ◌*◌, ◌^◌, ◌<◌, ◌≤◌, ◌==◌, ◌≡◌, Bool, true, false, if◌then◌else◌, List, [], length, Option, Some, None, slice_index, slice_index_or, zero, suc, nat_le}
-use Rattle.tau_base.specs.declared.limits.TheConstants.{SHARDS, MAX_CALLS, MAX_WORKERS}
+use Rattle.tau_base.specs.declared.limits.TheConstants.{SHARDS, MAX_BEGIN, MAX_CALLS, MAX_WORKERS}
 use Rattle.tau_base.specs.Modes.{format_of, most_streams}
 use Rattle.tau_base.specs.Vectors.{AtMost}
 use Rattle.atomic_table.specs.Table.{State}
@@ -120,7 +120,7 @@ pub record IsLimited (l : Load) : Type 0 where
   pub streams_high : l.streams ≤ most_streams (format_of l.mode)
   pub workers_high : l.workers ≤ MAX_WORKERS
   pub few : length l.calls ≤ MAX_CALLS
-  pub low : (j : ℕ) → j < l.streams → slice_index l.opening.ends j ≤ 2 ^ 61
+  pub low : (j : ℕ) → j < l.streams → slice_index l.opening.ends j ≤ MAX_BEGIN
   pub wide : length l.opening.ends ≡ l.streams
 
 -- events lead there from the core with which the desk was opened

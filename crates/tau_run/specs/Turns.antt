@@ -4,7 +4,7 @@ use Rattle.std.specs.List.{list_any}
 use Rattle.tau_base.specs.declared.value.Key.{Key}
 use Rattle.tau_base.specs.declared.value.Mode.{Mode}
 use Rattle.tau_base.specs.Vectors.{covers}
-use Rattle.tau_base.specs.declared.limits.TheConstants.{MAX_BODY, SHARDS}
+use Rattle.tau_base.specs.declared.limits.TheConstants.{MAX_ANCHORS, MAX_BODY, SHARDS}
 use Rattle.tau_model.specs.History.{Act, Member}
 use Rattle.tau_base.specs.Database.{key_cmp}
 use Rattle.std.specs.Ordering.{is_le}
@@ -149,7 +149,7 @@ module _ (set : Setting) (m n : ℕ) where
 
   -- an anchor of the stream that holds what is persisted
   abbrev pub Anchored : ℕ → Progress → Progress → Type 0
-  Anchored j p p' = IfSo (is_going p.state j && nat_lt (set.anchored j + length (p.state.streams j).anchors) (2 ^ 32 - 1)) (Goes (PlaceAnchor j p.state.plv) p p') (Stays p p')
+  Anchored j p p' = IfSo (is_going p.state j && nat_lt (set.anchored j + length (p.state.streams j).anchors) MAX_ANCHORS) (Goes (PlaceAnchor j p.state.plv) p p') (Stays p p')
 
   -- all pending calls of the worker that are persisted are acknowledged, in the order in which they were put; `whole` is false where it was left undone
   pub data Cleared (w : ℕ) : Bool → Progress → Progress → Type 0 where

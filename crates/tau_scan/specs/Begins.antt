@@ -3,7 +3,7 @@ use Rattle.std.specs.Prelude.{ℕ, suc, Bool, ◌||◌, ◌==◌, nat_lt, max, b
 use Rattle.tau_record.specs.declared.entry.Placed.{Placed}
 use Rattle.tau_record.specs.Content.{anchors_of}
 use Rattle.tau_epoch.specs.Epochs.{Mark, largest}
-use Rattle.tau_scan.specs.declared.begins.TheConstants.{MAX_IMAGE, MAX_ANCHORS, LAST_EPOCH}
+use Rattle.tau_base.specs.declared.limits.TheConstants.{MAX_IMAGE, MAX_ANCHORS, LAST_EPOCH}
 use Rattle.tau_scan.specs.declared.fault.LogCause.TheVariants as cause
 use Rattle.tau_scan.specs.declared.fault.LogFault.{LogFault}
 use Rattle.tau_scan.specs.declared.log.Log.{Log}

@@ -13,17 +13,8 @@ use crate::epochs::lowest_with;
 use crate::fault::{LogCause, LogFault};
 use crate::log::Log;
 use crate::records::catalogue_text;
-use tau_base::Listed;
+use tau_base::{LAST_EPOCH, Listed, MAX_ANCHORS, MAX_IMAGE};
 use tau_record::{Entry, Placed};
-
-/// A run goes on from an image of at most so many bytes.
-pub const MAX_IMAGE: u64 = 1 << 60;
-
-/// A run goes on from a stream with at most so many anchors.
-pub const MAX_ANCHORS: u32 = 4_294_967_295;
-
-/// After this epoch there is no other.
-pub const LAST_EPOCH: u32 = 4_294_967_295;
 
 /// The larger one of a number and that of the epoch that the record begins, if it does.
 fn largest_at(entry: &Entry, found: u32) -> u32

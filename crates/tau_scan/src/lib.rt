@@ -13,7 +13,7 @@ mod read;
 mod reading;
 mod records;
 
-pub use begins::{LAST_EPOCH, MAX_ANCHORS, MAX_IMAGE, count_anchors, largest_epoch};
+pub use begins::{count_anchors, largest_epoch};
 pub use catalogue::one_catalogue;
 pub use epochs::one_vector_each;
 pub use fault::{LogCause, LogFault, LogRefusal, ReplayRefusal, ScanRefusal};

@@ -44,7 +44,7 @@ returns-in-Ok-keep c =
         few =
             let before : c.from.result ≡ slice_index p.load.opening.anchors.items c.args.stream = c.from.ensures ∙ ap (λ (l : List ℕ). slice_index l c.args.stream) c.as_slice.ensures.value in
             let count : c.len-2.result ≡ length c.part.inside.anchors.items = (let e = c.len-2.ensures in let o = c.part.inside.anchors.ok in omega arith) in
-            (let n = c.if-number-ge-LAST_ANCHOR.false in omega arith);
+            (let n = c.if-number-ge-MAX_ANCHORS.false in omega arith);
         pieces = c.post.ensures.pieces ∙ ap (λ (x : List Piece × ℕ). x.0 ++ record { start = x.1; bytes = c.in-Ok.bytes.items } ∷ []) (λ i. (c.reserve.ensures.pieces i, start i));
         spelled = c.in-Ok.ensures (format_of p.load.mode);
         after = ap (λ (x : List (List ℕ) × List ℕ). record p { streams = slice_set p.streams c.args.stream (record (part_in c.part.inside) { own = c.post.new.self; anchors = x.0 }); ends = x.1 }) (λ i. (c.in-Ok-keep.ensures.ok i, (c.set.ensures ∙ ap (slice_set p.ends c.args.stream) past) i));
@@ -74,8 +74,8 @@ returns-in-Err c =
       },
     )
 
-pub returns-then-number-ge-LAST_ANCHOR : goal.returns-then-number-ge-LAST_ANCHOR
-returns-then-number-ge-LAST_ANCHOR c =
+pub returns-then-number-ge-MAX_ANCHORS : goal.returns-then-number-ge-MAX_ANCHORS
+returns-then-number-ge-MAX_ANCHORS c =
     let p : Plain = plain c.args.state.now in
     let g = c.requires.stood in
     let is = found_part c.args.state.now c.args.stream c.index_mut-part.result.now c.part.inside g.2.sound c.requires.there c.index_mut-part.ensures.value c.part.view_is in
