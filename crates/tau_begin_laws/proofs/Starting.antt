@@ -49,9 +49,9 @@ module _ {D : Type 0} (G : Ghosts D) (f : Format) (load : Workload) (disks : Lis
 
   declared : Declared
   declared = elim (catalogue_is held.catalogue.0 held.catalogue.1) [
-        | inl none ↦ inl none
-        | inr is ↦ inr (held.catalogue.1 ∙ ap (λ (c : Option (List ℕ)). Ok c) is)
-      ]
+    | inl none ↦ inl none
+    | inr is ↦ inr (held.catalogue.1 ∙ ap (λ (c : Option (List ℕ)). Ok c) is)
+  ]
 
   next_is : IsNext (next_epoch (bytes_in b.contents) b.log)
   next_is = by_bytes (all_nothing (bytes_in b.contents)) refl

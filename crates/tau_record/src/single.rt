@@ -26,8 +26,9 @@ fn written_entry(
 {
     let mut place = Lv::zero(1);
     let mut rows = Vec::new(alloc);
-    let (number, anchor, dep, writes, rest) =
-        written_of(alloc, format, vectors, fields, &mut place, &mut rows)?;
+    let (number, anchor, dep, writes, rest) = written_of(
+        alloc, format, vectors, fields, &mut place, &mut rows,
+    )?;
     if !is_whole(rest) {
         return Err(FieldError::Bad(RecordCause::BadLength));
     }
@@ -52,8 +53,9 @@ fn command_entry(
         proc: 0,
         args: ArrayVec::new(),
     };
-    let (number, anchor, dep, rest) =
-        command_of(alloc, format, vectors, fields, &mut place, &mut read)?;
+    let (number, anchor, dep, rest) = command_of(
+        alloc, format, vectors, fields, &mut place, &mut read,
+    )?;
     if !is_whole(rest) {
         return Err(FieldError::Bad(RecordCause::BadLength));
     }
