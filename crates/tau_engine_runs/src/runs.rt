@@ -245,6 +245,43 @@ fn thousand_puts(rt: HostRuntime) -> Result<(), Fail> {
     are_puts(&rt, first.get(34..).ok_or("no put")?)
 }
 
+// The image of the one stream that a refused call leaves: its catalogue alone, of 66 bytes.
+static OF_REFUSED: &[u8] =
+    b"TAURUS-LOG-1\x00\x01\x00\x00\x01\x00\x00\x00\x42\x04\x00\x00\x00\x42table a\nproc pay 1\nget r0 a 1\nneed r0 != none\nput a 1 $1\nend\n\x00";
+// The image of the one stream of one put, with gates at 16, 34 and 79.
+static ALONE: &[u8] =
+    b"TAURUS-LOG-1\x00\x01\x00\x00\x01\x00\x00\x00\x0d\x04\x00\x00\x00\x0dtable a\n\x01\x00\x00\x00\x28\x01\x00\x00\x00\x28\x00\x00\x00\x00\x00\x00\x00\x01\x00\x00\x00\x00\x00\x00\x00\x01\x00\x00\x00\x00\x00\x00\x00\x00\x00\x01\x01\x00\x00\x00\x00\x00\x00\x00\x05\x00";
+// Stream 1 of two, whose one record of 48 bytes depends on position 53 of stream 0.
+static OF_DEPENDENT: &[u8] =
+    b"TAURUS-LOG-1\x00\x02\x00\x01\x01\x00\x00\x00\x0d\x04\x00\x00\x00\x0dtable a\n\x01\x00\x00\x00\x30\x01\x00\x00\x00\x30\x00\x00\x00\x00\x00\x00\x00\x02\x00\x00\x00\x00\x00\x01\x00\x00\x00\x00\x00\x00\x00\x35\x00\x01\x00\x00\x00\x00\x00\x00\x00\x00\x00\x01\x01\x00\x00\x00\x00\x00\x00\x00\x07\x00";
+
+#[test]
+fn images_of_one_stream(rt: HostRuntime) -> Result<(), Fail> {
+    let alloc = rt.alloc();
+    let mut disks = new_disks(alloc)?;
+    let refused = "table a\nproc pay 1\nget r0 a 1\nneed r0 != none\nput a 1 $1\nend\ncall pay 5\n";
+    runs(&rt, alloc, "run 1 1", refused, &mut disks)?;
+    holds(&disks, 0, OF_REFUSED)?;
+    let mut disks = new_disks(alloc)?;
+    runs(&rt, alloc, "run 1 1", ONE_PUT, &mut disks)?;
+    holds(&disks, 0, ALONE)
+}
+
+#[test]
+fn image_of_a_dependence(rt: HostRuntime) -> Result<(), Fail> {
+    let alloc = rt.alloc();
+    let mut disks = new_disks(alloc)?;
+    runs(&rt, alloc, "run 2 2", DEPENDENT, &mut disks)?;
+    holds(&disks, 0, OF_ONE_PUT[0])?;
+    holds(&disks, 1, OF_DEPENDENT)
+}
+
+#[test]
+fn a_record_of_a_call(rt: HostRuntime) -> Result<(), Fail> {
+    let wanted = "ack 1 62\nreply 1 none\norder 1\nrow a 1 int 5\nend 0\n";
+    tells_anew(&rt, rt.alloc(), "run 1 1 command", ONE_PUT, 0, wanted)
+}
+
 // What recovery tells of the streams that a run leaves.
 fn recovered<R: Threads + Wait + Sync + Abort>(
     rt: &R,

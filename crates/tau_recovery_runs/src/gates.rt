@@ -368,13 +368,17 @@ fn long_puts(alloc: Global) -> Result<String, Fail> {
     Ok(workload)
 }
 
-// The last block of the first disk is that of call 701 alone: a record of 98 bytes, then the closed gate.
+// The last block of the first disk is that of call 701 alone: a record of 98 bytes, then the closed gate. The block before it
+// ends with the anchor, whose 13 bytes hold position 68,613.
 fn ends_with_701(rt: &impl Abort, disks: &[MemDisk]) -> Result<(), Fail> {
     let image = disks.first().ok_or("no disk")?.image(Tear::Old)?;
     let past = image.len().saturating_sub(99);
     let block = image.get(past..past.saturating_add(19)).ok_or("no block")?;
     let wanted = b"\x01\x00\x00\x00\x62\x00\x00\x00\x00\x00\x00\x02\xbd\x00\x00\x00\x01\x00\x00";
     assert_eq!(rt; block, wanted.as_slice());
+    let before = image.get(past.saturating_sub(18)..past.saturating_sub(5));
+    let anchor = b"\x03\x00\x00\x00\x0d\x00\x00\x00\x00\x00\x01\x0c\x05";
+    assert_eq!(rt; before, Some(anchor.as_slice()));
     Ok(())
 }
 

@@ -280,6 +280,54 @@ fn recovery_of_a_dependence(rt: HostRuntime) -> Result<(), Fail> {
     two_tell(&rt, alloc, [&[], APART], &["recover 2 2"], 0, apart)
 }
 
+// An anchor of three streams, and after it call 1, which names it and has no component of its own.
+static ANCHORED: &[u8] =
+    b"\x03\x00\x00\x00\x1d\x00\x00\x00\x00\x00\x00\x00\x0d\x00\x00\x00\x00\x00\x00\x00\x0d\x00\x00\x00\x00\x00\x00\x00\x35\x01\x00\x00\x00\x28\x00\x00\x00\x00\x00\x00\x00\x01\x00\x00\x00\x01\x00\x00\x00\x01\x00\x00\x00\x00\x00\x00\x00\x00\x00\x01\x01\x00\x00\x00\x00\x00\x00\x00\x05";
+// Call 2 of three streams, which waits for all of them.
+static WAITS_FOR_ALL: &[u8] =
+    b"\x01\x00\x00\x00\x40\x00\x00\x00\x00\x00\x00\x00\x02\x00\x00\x00\x00\x00\x07\x00\x00\x00\x00\x00\x00\x00\x52\x00\x00\x00\x00\x00\x00\x00\x0d\x00\x00\x00\x00\x00\x00\x00\x35\x00\x01\x00\x00\x00\x00\x00\x00\x00\x00\x00\x01\x01\x00\x00\x00\x00\x00\x00\x00\x07";
+// Call 3 puts 9 into row 3.
+static THIRD: &[u8] =
+    b"\x01\x00\x00\x00\x28\x00\x00\x00\x00\x00\x00\x00\x03\x00\x00\x00\x00\x00\x00\x00\x01\x00\x00\x00\x00\x00\x00\x00\x00\x00\x03\x01\x00\x00\x00\x00\x00\x00\x00\x09";
+
+// Recovery of three streams, the last with these records, tells what is wanted.
+fn three_tell<R: Threads + Wait + Sync + Abort>(
+    rt: &R,
+    alloc: Global,
+    last: &[u8],
+    wanted: &str,
+) -> Result<(), Fail> {
+    let first = image_of(alloc, 3, 0, ANCHORED)?;
+    let mut disks = disks_of(alloc, first, image_of(alloc, 3, 1, WAITS_FOR_ALL)?)?;
+    let third = disks.get_mut(2).ok_or("no disk")?;
+    *third = image_of(alloc, 3, 2, last)?;
+    tells(rt, alloc, "recover 3 1", "", 0, wanted, &mut disks)
+}
+
+#[test]
+fn records_wait_for_what_an_anchor_names(rt: HostRuntime) -> Result<(), Fail> {
+    let alloc = rt.alloc();
+    let whole =
+        "elv 82,77,53\ntaken 0 42 1\ntaken 1 13 2\ntaken 2 13 3\nrow a 1 int 7\nrow a 3 int 9\nend 0\n";
+    three_tell(&rt, alloc, THIRD, whole)?;
+    three_tell(&rt, alloc, &[], "elv 82,77,13\nend 0\n")
+}
+
+#[test]
+fn two_streams_without_a_byte(rt: HostRuntime) -> Result<(), Fail> {
+    let alloc = rt.alloc();
+    let mut disks = disks_of(alloc, MemDisk::new(alloc, &[])?, MemDisk::new(alloc, &[])?)?;
+    tells(
+        &rt,
+        alloc,
+        "recover 2 1",
+        "",
+        0,
+        "elv 0,0\nend 0\n",
+        &mut disks,
+    )
+}
+
 #[test]
 fn images_that_hold_no_log(rt: HostRuntime) -> Result<(), Fail> {
     let alloc = rt.alloc();
@@ -291,7 +339,7 @@ fn images_that_hold_no_log(rt: HostRuntime) -> Result<(), Fail> {
         &rt,
         alloc,
         records,
-        &["recover 2 2"],
+        &["recover 2 1", "recover 2 2"],
         7,
         "fault 7 0 tangled 13\n",
     )?;
@@ -301,7 +349,7 @@ fn images_that_hold_no_log(rt: HostRuntime) -> Result<(), Fail> {
 
 // Stream 0 of two, whose first byte is none of a log's.
 static HOSTILE: &[u8] =
-    b"\x00AURUS-LOG-1\x00\x02\x00\x00\x01\x00\x00\x00\x0d\x04\x00\x00\x00\x0dtable a\n\x00";
+    b"\x00AURUS-LOG-1\x00\x02\x00\x00\x01\x00\x00\x00\x0d\x04\x00\x00\x00\x0dtable a\n\x01\x00\x00\x00\x28\x01\x00\x00\x00\x28\x00\x00\x00\x00\x00\x00\x00\x01\x00\x00\x00\x00\x00\x00\x00\x01\x00\x00\x00\x00\x00\x00\x00\x00\x00\x01\x01\x00\x00\x00\x00\x00\x00\x00\x05\x00";
 
 // Recovery of the hostile stream, beside one whose disk fails this call.
 fn hostile_tells<R: Threads + Wait + Sync + Abort>(
