@@ -12,7 +12,7 @@ use std::marker::Model;
 use std::process::Abort;
 use std::test::Fail;
 use tau_ack::Waiting;
-use tau_base::{Key, LogMode, Lv, MAX_CATALOGUE, SHARDS, Value, format_of, most_streams};
+use tau_base::{Key, LogMode, Lv, MAX_CATALOGUE, Mode, SHARDS, Value, format_of, most_streams};
 use tau_core::{Acted, Core, Event, Gathering, Opening, Outcome, Phase};
 use tau_model::{Spot, Tables};
 use tau_text::{parse_workload, print_declarations};
@@ -212,6 +212,25 @@ fn resumed(core: &mut Core) -> Option<u8>
     core.resume()
 }
 
+/// What a retry of worker 0 tells: the lock that it wants is not taken.
+fn retried(core: &mut Core) -> Said
+    requires workers { 1 ≤ core.old.load.workers }
+    requires stood { Stood core.old }
+    ensures load { core.new.load ≡ core.old.load }
+    ensures stood { Stood core.new }
+{
+    let outcome = core.retry(0);
+    plain_of(&outcome)
+}
+
+/// The lock that worker 0 takes next: the number of its call, the row, and whether it is for writing.
+fn lock_asked(core: &Core) -> Option<(u64, i64, bool)>
+    requires { 1 ≤ core.now.load.workers }
+{
+    let (number, key, mode) = core.next_lock(0)?;
+    Some((number, key.row, mode == Mode::Write))
+}
+
 /// A core of one worker and two streams that begins with a row of 5, a floor, ends, and two anchors in stream 0.
 fn opened(alloc: Global, text: &[u8]) -> Result<Core, Fail>
     ensures workers { IfOk result (λ core. core.load.workers ≡ 1) }
@@ -297,6 +316,18 @@ impl Run {
     /// What the call of one event tells.
     fn tells(&mut self, event: Event) -> Option<Told> {
         tells(&mut self.core, self.workers, self.streams, event)
+    }
+
+    /// What a retry of worker 0 tells.
+    fn retried(&mut self, rt: &impl Abort) -> Said {
+        assert!(rt; 1 <= self.workers);
+        retried(&mut self.core)
+    }
+
+    /// The lock that worker 0 takes next.
+    fn lock_asked(&self, rt: &impl Abort) -> Option<(u64, i64, bool)> {
+        assert!(rt; 1 <= self.workers);
+        lock_asked(&self.core)
     }
 
     /// The worker to which a call that was left over went back.
@@ -1164,6 +1195,56 @@ fn single_calls_tell_what_events_return(rt: HostRuntime) -> Result<(), Fail> {
             Row::Finds(1, Some(5)),
         ],
     )
+}
+
+// A worker that rests wants the first lock of its next call. It is not taken, and the call begins again; once it has the key it
+// wants no other lock. Nothing is persisted before a flush is.
+#[test]
+fn a_lock_that_is_not_taken(rt: HostRuntime) -> Result<(), Fail> {
+    let mut run = Run::new(
+        &rt,
+        rt.alloc(),
+        b"table a\nput a 7 5\n",
+        1,
+        1,
+        LogMode::Values,
+    )?;
+    assert_eq!(rt; run.lock_asked(&rt), Some((1, 7, true)));
+    assert_eq!(rt; run.retried(&rt), Said::Went);
+    assert_eq!(rt; run.lock_asked(&rt), Some((1, 7, true)));
+    does(
+        &rt,
+        &mut run,
+        &[(Event::Lock { worker: 0 }, Said::Granted(None))],
+    );
+    assert_eq!(rt; run.lock_asked(&rt), None);
+    assert_eq!(rt; run.retried(&rt), Said::NotNow(Phase::Ready));
+    all_tell(
+        &rt,
+        &mut run,
+        &[
+            (Event::Commit { worker: 0 }, Told::Acted(Acted::Went)),
+            (Event::Post { worker: 0 }, Told::Acted(Acted::Went)),
+            (
+                Event::Gather { stream: 0 },
+                Told::Gathered(Gathering::Upto { upto: 53 }),
+            ),
+        ],
+    );
+    assert_eq!(rt; positions(&run.core.plv()), [13, 0, 0]);
+    all_tell(
+        &rt,
+        &mut run,
+        &[(
+            Event::Persist {
+                stream: 0,
+                upto: 53,
+            },
+            Told::Reached(None),
+        )],
+    );
+    assert_eq!(rt; positions(&run.core.plv()), [53, 0, 0]);
+    Ok(())
 }
 
 /// One call on two streams, whose record has these bytes and ends here.
