@@ -1,5 +1,5 @@
 -- A core that goes on with a call that was left over, or with one that does not take its lock.
-use Rattle.std.proofs.Common.{ℕ, ◌≡◌, Option, Some, None, ◌++◌, absurd}
+use Rattle.std.proofs.Common.{ℕ, ◌≡◌, Option, Some, None, ◌++◌}
 use Rattle.tau_core.specs.State.{Plain}
 use Rattle.tau_core.specs.Stands.{Stood}
 use Rattle.tau_core.specs.LeftOvers.{ResumeSteps}
