@@ -1,0 +1,13 @@
+pub mod Kept
+pub mod Rises
+pub mod Among
+pub mod Reached
+pub mod Order
+pub mod Local
+pub mod GoesOn
+pub mod Follows
+pub mod Judged
+pub mod Lasting
+pub mod Histories
+pub mod Closing
+pub mod Stepping
