@@ -19,10 +19,10 @@ use Rattle.tau_scan.specs.Reading.{HasRead, Misses}
 use Rattle.tau_scan.specs.Outside.{IsRead, calls_to_read}
 use Rattle.tau_open.specs.declared.refusal.OpenRefusal.{OpenRefusal}
 use Rattle.tau_open.specs.declared.refusal.OpenRefusal.TheVariants as opens
-use Rattle.tau_open.specs.Opening.{Went, Broke}
-use Rattle.tau_open.specs.Stages.{OnlySynced, SyncedIf, FailsSyncedIf, Staged, StageFails}
-use Rattle.tau_open.proofs.Calls.{went_on, went_broke, went_clean}
-use Rattle.tau_open.proofs.Places.{get_dropped}
+use Rattle.tau_disk.specs.Stages.{Went, Broke}
+use Rattle.tau_disk.specs.Stages.{OnlySynced, SyncedIf, FailsSyncedIf, Staged, StageFails}
+use Rattle.tau_disk.proofs.Calls.{went_on, went_broke, went_clean}
+use Rattle.tau_disk.proofs.Places.{get_dropped}
 use Rattle.tau_begin.specs.Finding.{has_byte, calls_to_find, IsFound, AreFound, StopsFinding}
 
 module _ {D : Type 0} (G : Ghosts D) where

@@ -9,9 +9,9 @@ use Rattle.tau_disk.specs.Used.{EachUsed, Each, IsClean}
 use Rattle.tau_open.specs.declared.refusal.OpenRefusal.{OpenRefusal}
 use Rattle.tau_open.specs.declared.refusal.OpenRefusal.TheVariants as opens
 use Rattle.tau_open.specs.Opening.{Went, Asked, FailsAsked}
-use Rattle.tau_open.specs.Stages.{AreLengths, OnlySynced, Staged, StageFails}
-use Rattle.tau_open.proofs.Calls.{went_on, went_broke, went_clean}
-use Rattle.tau_open.proofs.Places.{get_dropped}
+use Rattle.tau_disk.specs.Stages.{AreLengths, OnlySynced, Staged, StageFails}
+use Rattle.tau_disk.proofs.Calls.{went_on, went_broke, went_clean}
+use Rattle.tau_disk.proofs.Places.{get_dropped}
 use Rattle.tau_begin.specs.Finding.{has_byte, calls_to_find, IsFound, AreFound, StopsFinding}
 use Rattle.tau_begin.specs.Opened.{calls_to_look, most_to_look, IsLooked, AreLooked, StopsLooking}
 use Rattle.tau_begin.proofs.Finding.{SeenSame, only_none, only_read, only_on, more_broke}

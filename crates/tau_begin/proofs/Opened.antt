@@ -18,11 +18,11 @@ use Rattle.tau_stream.proofs.Heads.{of_stream}
 use Rattle.tau_open.specs.declared.refusal.OpenRefusal.{OpenRefusal}
 use Rattle.tau_open.specs.declared.refusal.OpenRefusal.TheVariants as opens
 use Rattle.tau_open.specs.declared.start.StreamStart.{StreamStart}
-use Rattle.tau_open.specs.Opening.{Broke}
+use Rattle.tau_disk.specs.Stages.{Broke}
 use Rattle.tau_open.specs.Reopening.{AreRead, AreStreamStarts, Starts, StartedAt, FailsAt, RefusesStart, Starting}
-use Rattle.tau_open.specs.Stages.{Staged, StageFails}
-use Rattle.tau_open.proofs.Calls.{went_on, went_broke, went_clean}
-use Rattle.tau_open.proofs.Places.{get_dropped, dropped_more}
+use Rattle.tau_disk.specs.Stages.{Staged, StageFails}
+use Rattle.tau_disk.proofs.Calls.{went_on, went_broke, went_clean}
+use Rattle.tau_disk.proofs.Places.{get_dropped, dropped_more}
 use Rattle.tau_scan.specs.declared.fault.LogFault.{LogFault}
 use Rattle.tau_scan.specs.declared.fault.ScanRefusal.{ScanRefusal}
 use Rattle.tau_scan.specs.declared.fault.ScanRefusal.TheVariants as refusal

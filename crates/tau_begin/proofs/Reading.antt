@@ -12,8 +12,8 @@ use Rattle.tau_scan.specs.declared.fault.LogFault.{LogFault}
 use Rattle.tau_scan.specs.declared.fault.ScanRefusal.{ScanRefusal}
 use Rattle.tau_scan.specs.declared.fault.ScanRefusal.TheVariants as refusal
 use Rattle.tau_scan.specs.Contents.{bytes_in}
-use Rattle.tau_open.specs.Stages.{OnlySynced}
-use Rattle.tau_open.proofs.Calls.{went_clean}
+use Rattle.tau_disk.specs.Stages.{OnlySynced}
+use Rattle.tau_disk.proofs.Calls.{went_clean}
 use Rattle.tau_begin.specs.Opened.{calls_to_look, IsLooked, IsReadFrom, IsRefusedOn, RefusesReading}
 
 pub zip_long : {A B : Type 0} (R : A → B → Type 0) (xs : List A) (ys : List B) → AllZip R xs ys → length xs ≡ length ys

@@ -4,8 +4,8 @@ use Rattle.tau_disk.specs.declared.disk.Disk.{Ghosts}
 use Rattle.tau_disk.specs.Disk.{Only}
 use Rattle.tau_disk.specs.Used.{EachIn, OfDisk, IsClean}
 use Rattle.tau_scan.specs.Outside.{calls_to_read}
-use Rattle.tau_open.specs.Opening.{Went, Broke}
-use Rattle.tau_open.specs.Stages.{OnlySynced}
+use Rattle.tau_disk.specs.Stages.{Went, Broke}
+use Rattle.tau_disk.specs.Stages.{OnlySynced}
 
 -- some disk has a byte, of those with these lengths
 abbrev pub has_byte : List ℕ → Bool

@@ -22,9 +22,9 @@ use Rattle.tau_stream.specs.declared.writer.Writer.{Writer}
 use Rattle.tau_stream.specs.Stream.{IsOldOrNew, IsUnborn, calls_to_reopen}
 use Rattle.tau_stream.specs.Writer.{disk_of}
 use Rattle.tau_open.specs.declared.start.StreamStart.{StreamStart}
-use Rattle.tau_open.specs.Opening.{Went, Broke}
+use Rattle.tau_disk.specs.Stages.{Went, Broke}
 use Rattle.tau_open.specs.Reopening.{HasStarted}
-use Rattle.tau_open.specs.Stages.{AreLengths, OnlySynced}
+use Rattle.tau_disk.specs.Stages.{AreLengths, OnlySynced}
 use Rattle.tau_begin.specs.Finding.{has_byte, calls_to_find}
 use Rattle.tau_begin.specs.Given.{next_epoch}
 use Rattle.tau_begin.specs.Starts.{AreStarts, IsOpeningOn}

@@ -16,7 +16,7 @@ ghost use Rattle.tau_replay.specs.Redone.{IsRedone, IsTangledAt};
 ghost use Rattle.tau_begin.specs.Given.{next_epoch};
 ghost use Rattle.tau_begin.specs.Starts.{AreStarts, IsOpeningOn};
 ghost use Rattle.tau_scan.specs.Reading.{HasRead, IsLog};
-ghost use Rattle.tau_open.specs.Stages.{AreLengths, OnlySynced};
+ghost use Rattle.tau_disk.specs.Stages.{AreLengths, OnlySynced};
 ghost use Rattle.tau_begin.specs.Finding.{AreFound, StopsFinding};
 ghost use Rattle.tau_begin.specs.Opened.{AreLooked, Begins, IsLooked, IsOpenRun, IsReadFrom, IsReady, IsRefusedOn, RefusesReading, RefusesRun, StopsLooking};
 

@@ -6,7 +6,7 @@ ghost use Rattle.tau_disk.specs.Used.{Each};
 ghost use Rattle.tau_scan.specs.Contents.{AreContents, HasContents, IsLogOf};
 ghost use Rattle.tau_scan.specs.Reading.{Gives, HasRead, IsLog, asked_format, log_of, log_read};
 ghost use Rattle.tau_scan.specs.declared.fault.LogFault.{LogFault};
-ghost use Rattle.tau_open.specs.Stages.{AreLengths, OnlySynced};
+ghost use Rattle.tau_disk.specs.Stages.{AreLengths, OnlySynced};
 ghost use Rattle.tau_begin.specs.Finding.{AreFound, StopsFinding, has_byte};
 
 use std::alloc::Global;

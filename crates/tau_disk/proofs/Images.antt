@@ -1,7 +1,6 @@
 -- How the images that a stop may leave go on from call to call.
 use Rattle.std.proofs.Common.{◌≡◌, ◌⊎◌, inl, inr, ⊎_elim, ℕ, zero, suc, ◌+◌, ◌-◌, ◌<◌, ◌≤◌, min, List, [], ◌∷◌, ◌++◌, length, get_or, take, drop, refl, sym, ◌∙◌, ap, subst, arith, append_assoc, length-append, length-drop, Vec, Global}
 use Rattle.std.proofs.lemmas.List.{take-take, take_all, drop_all, get_or-take, get_or-drop, length-take, ext_get_or, take_at, drop_at, length-take-le, length-replicate}
-use Rattle.std.proofs.lemmas.Bool.{cases_lt}
 use Rattle.tau_disk.specs.Disk.{Torn, Holds, Follows, Elapses}
 use Rattle.tau_disk.specs.Replay.{DiskState, over, sevens, after_call, replayed, IsOutside, reach, IsImage, leaves, leaves_since}
 use Rattle.tau_disk.specs.declared.call.DiskCall.{DiskCall}

@@ -2,3 +2,7 @@ pub mod Tears
 pub mod Images
 pub mod Replays
 mod Kept
+pub mod Places
+pub mod Calls
+pub mod Stages
+pub mod Syncing

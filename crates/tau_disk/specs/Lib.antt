@@ -6,3 +6,4 @@ pub mod Replay
 pub mod Streams
 pub mod Tear
 pub mod Used
+pub mod Stages

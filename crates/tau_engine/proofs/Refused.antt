@@ -14,7 +14,7 @@ use Rattle.tau_open.specs.Outside.{calls_to_open}
 use Rattle.tau_open.specs.Opening.{Asked, Begins}
 use Rattle.tau_open.specs.declared.refusal.OpenRefusal.{OpenRefusal}
 use Rattle.tau_open.specs.declared.refusal.OpenRefusal.TheVariants as refusal
-use Rattle.tau_open.proofs.Calls.{untouched, all_calls}
+use Rattle.tau_disk.proofs.Calls.{untouched, all_calls}
 use Rattle.tau_text.specs.declared.load.Workload.{Workload}
 use Rattle.tau_run.specs.Start.{catalogue_of}
 use Rattle.tau_run.specs.RunFacts.{WroteFront}

@@ -15,8 +15,9 @@ use Rattle.tau_stream.specs.Stream.{IsOldOrNew, IsUnborn}
 use Rattle.tau_stream.specs.Writer.{disk_of, has_failed}
 use Rattle.tau_block.proofs.Blocks.{short_content}
 use Rattle.tau_open.specs.Outside.{calls_to_open}
-use Rattle.tau_open.specs.Opening.{Went, IsOpened, AreOpened}
-use Rattle.tau_open.proofs.Calls.{went_on_further}
+use Rattle.tau_disk.specs.Stages.{Went}
+use Rattle.tau_open.specs.Opening.{IsOpened, AreOpened}
+use Rattle.tau_disk.proofs.Calls.{went_on_further}
 use Rattle.tau_scan.proofs.Plans.{goes_on, goes_stopped}
 use Rattle.tau_open.proofs.Closed.{rest_back}
 use Rattle.tau_machine.specs.State.{Core}

@@ -6,8 +6,8 @@ use Rattle.std.proofs.lemmas.List.{length-set}
 use Rattle.tau_disk.specs.declared.disk.Disk.{Ghosts}
 use Rattle.tau_disk.specs.Disk.{Rose, Elapses, WasToFail, WasRefused}
 use Rattle.tau_open.specs.Opening.{Asked, FailsAsked, AreAsked, FailsAsking}
-use Rattle.tau_open.proofs.Places.{each_more, each_below, at_here, rest_more}
-use Rattle.tau_open.proofs.Calls.{only_read, one_went, one_broke}
+use Rattle.tau_disk.proofs.Places.{each_more, each_below, at_here, rest_more}
+use Rattle.tau_disk.proofs.Calls.{only_read, one_went, one_broke}
 
 module _ {D : Type 0} (G : Ghosts D) (counts_now : (d : D) (t : ℕ) (x : List ℕ) → t ≤ G.moment d → G.may_leave d x → G.may_leave_since d t x) (old cur : List D) (j : ℕ) (d e : D) (asked : AreAsked G j old cur) (lt : j < length cur) (here : slice_get cur j ≡ Some d)
     (same : G.tells → G.seen e ≡ G.seen d) (crash : (x : List ℕ) → G.may_leave e x → G.may_leave d x) (keeps : (x : List ℕ) → G.may_leave d x → G.may_leave e x)

@@ -6,7 +6,7 @@ use Rattle.tau_disk.specs.declared.disk.Disk.{Ghosts}
 use Rattle.tau_stream.specs.declared.writer.Writer.{Writer}
 use Rattle.tau_stream.specs.Writer.{disk_of}
 use Rattle.tau_disk.specs.Used.{EachIn, OfDisk}
-use Rattle.tau_open.proofs.Places.{get_append, each_moved}
+use Rattle.tau_disk.proofs.Places.{get_append, each_moved}
 
 module _ {D : Type 0} {G : Ghosts D} (n : ℕ) (old new rest : List D) (writers : List (Writer D G)) (many : length writers ≡ n) (back : new ≡ map disk_of writers ++ rest) where
   back_at : (j : ℕ) → j < n → slice_get new j ≡ slice_get (map disk_of writers) j

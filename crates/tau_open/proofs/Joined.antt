@@ -17,8 +17,8 @@ use Rattle.tau_open.specs.declared.refusal.OpenRefusal.TheVariants.{NoMemory, Fa
 use Rattle.tau_disk.specs.Used.{EachIn, OfDisk, AreEmpty, IsFirstLong, OnlyRead}
 use Rattle.tau_open.specs.Opening.{Begins, Asked, IsCreated, FailsCreated, IsOpened, FailsOpened, AreAsked, FailsAsking, FailsMaking, GivesUp, Refuses, AreOpened}
 use Rattle.tau_open.specs.Creating.{Creating, StopsCreating, Stops}
-use Rattle.tau_open.proofs.Places.{get_dropped, dropped_more, each_then}
-use Rattle.tau_open.proofs.Calls.{went_on, went_broke}
+use Rattle.tau_disk.proofs.Places.{get_dropped, dropped_more, each_then}
+use Rattle.tau_disk.proofs.Calls.{went_on, went_broke}
 use Rattle.tau_base.proofs.Logic.{some_is}
 
 -- an unborn image has no content

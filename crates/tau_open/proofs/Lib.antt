@@ -1,10 +1,8 @@
-pub mod Places
-pub mod Calls
 pub mod Lengths
 pub mod Asking
 pub mod Making
 pub mod Joined
 pub mod RefusalTold
 pub mod Closed
-pub mod Stages
+pub mod AskedLengths
 pub mod Starting

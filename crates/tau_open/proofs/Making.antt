@@ -12,7 +12,7 @@ use Rattle.tau_open.specs.declared.refusal.OpenRefusal.TheVariants.{NoMemory, Fa
 use Rattle.tau_disk.specs.Used.{EachIn, AreEmpty, OfDisk}
 use Rattle.tau_open.specs.Opening.{IsCreated, FailsCreated, IsBegun}
 use Rattle.tau_open.specs.Creating.{CreatesNext, KeepsPlace, Creating, StopsCreating, Stops, Fails}
-use Rattle.tau_open.proofs.Places.{get_append, get_seam, get_drop, each_moved}
+use Rattle.tau_disk.proofs.Places.{get_append, get_seam, get_drop, each_moved}
 use Rattle.tau_base.proofs.Logic.{some_is}
 
 module _ {D : Type 0} (G : Ghosts D) (n : ℕ) (content : List ℕ) where

@@ -8,8 +8,8 @@ use Rattle.tau_open.specs.declared.refusal.OpenRefusal.TheVariants.{NoMemory, Fa
 use Rattle.tau_disk.specs.Used.{EachIn, EachUsed, OfDisk, RoseAt, AreEmpty, IsFirstLong, OnlyRead, IsClean, IsStopped, IsFirstStopped, Made}
 use Rattle.tau_open.specs.Outside.{calls_to_open}
 use Rattle.tau_open.specs.Opening.{Begins, Asked, FailsAsked, IsOpened, FailsOpened, AreAsked, FailsAsking, FailsMaking, GivesUp, Refuses, TellsLong}
-use Rattle.tau_open.proofs.Places.{get_dropped, dropped_more, each_weaker, each_same}
-use Rattle.tau_open.proofs.Calls.{untouched, went_clean, broke_stopped, broke_early}
+use Rattle.tau_disk.proofs.Places.{get_dropped, dropped_more, each_weaker, each_same}
+use Rattle.tau_disk.proofs.Calls.{untouched, went_clean, broke_stopped, broke_early}
 use Rattle.tau_open.proofs.Joined.{read_begins, still_begins}
 use Rattle.tau_base.proofs.Logic.{below_or_not, some_is}
 

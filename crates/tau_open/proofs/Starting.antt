@@ -18,7 +18,7 @@ use Rattle.tau_open.specs.declared.refusal.OpenRefusal.{OpenRefusal}
 use Rattle.tau_open.specs.declared.refusal.OpenRefusal.TheVariants.{NoMemory, Failed, NotEmpty}
 use Rattle.tau_open.specs.declared.start.StreamStart.{StreamStart}
 use Rattle.tau_open.specs.Reopening.{AreRead, Starts, IsStarted, FailsStarted, StartedAt, RefusesStart, HasStarted, Starting, StartsNext, FailsNext, PutsBack}
-use Rattle.tau_open.proofs.Places.{get_append, get_seam, get_drop, each_moved}
+use Rattle.tau_disk.proofs.Places.{get_append, get_seam, get_drop, each_moved}
 
 module _ {D : Type 0} (G : Ghosts D) where
   -- why a stream was not started

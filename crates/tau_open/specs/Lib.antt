@@ -1,5 +1,4 @@
 pub mod Outside
 pub mod Opening
 pub mod Creating
-pub mod Stages
 pub mod Reopening

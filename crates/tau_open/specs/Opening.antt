@@ -2,8 +2,8 @@
 use Rattle.std.specs.Prelude.{ℕ, ◌+◌, ◌<◌, ◌≤◌, ◌⊎◌, ◌==◌, if◌then◌else◌, false, ◌≡◌, List, [], length, map, drop, slice_get, Some, Option, None, Result, Ok, Err}
 use Rattle.tau_base.specs.declared.format.Format.TheVariants.{One}
 use Rattle.tau_disk.specs.declared.disk.Disk.{Ghosts}
-use Rattle.tau_disk.specs.Disk.{Rose, Passes}
-use Rattle.tau_disk.specs.Plan.{MadeAll, MadeSome}
+use Rattle.tau_disk.specs.Disk.{Passes}
+use Rattle.tau_disk.specs.Stages.{Went, Broke}
 use Rattle.tau_stream.specs.declared.writer.Writer.{Writer}
 use Rattle.tau_stream.specs.Stream.{IsOldOrNew, IsUnborn}
 use Rattle.tau_stream.specs.Writer.{disk_of, durable_of, left_of, added_of, has_failed, IsReady}
@@ -13,19 +13,6 @@ use Rattle.tau_disk.specs.Used.{EachIn, EachUsed, OfDisk, AreEmpty, IsFirstLong,
 use Rattle.tau_open.specs.Outside.{calls_to_make, calls_to_open}
 
 module _ {D : Type 0} (G : Ghosts D) where
-  -- so many calls of the disk were made, and none of them was to fail
-  pub record Went (count : ℕ) (d e : D) : Type 0 where
-    pub counts : G.faults d ≤ G.faults e
-    pub same : G.tells → (k : ℕ) → G.fails e k ≡ G.fails d k
-    pub made : G.tells → MadeAll count (G.number d) (G.number e) (G.fails d) (G.short d) (G.short e)
-
-  -- at most so many calls of the disk were made, and the last one failed, which was the first that was to fail
-  pub record Broke (count : ℕ) (d e : D) : Type 0 where
-    pub counts : G.faults d ≤ G.faults e
-    pub rose : Rose (G.faults d) (G.faults e)
-    pub same : G.tells → (k : ℕ) → G.fails e k ≡ G.fails d k
-    pub made : G.tells → MadeSome count (G.number d) (G.number e) (G.fails d) (G.short e)
-
   -- at each moment a stop leaves no content or the whole of this one, where the disk was unborn
   abbrev pub Begins : ℕ → List ℕ → ℕ → D → D → Type 0
   Begins n content j d e = G.tells → IsUnborn (G.may_leave d) → Passes G.moment G.may_leave_since d e (IsOldOrNew One n j [] content)
@@ -33,31 +20,31 @@ module _ {D : Type 0} (G : Ghosts D) where
   -- the length of the disk was asked
   pub record Asked (d e : D) : Type 0 where
     pub read : OnlyRead G.tells G.seen G.may_leave G.moment G.may_leave_since d e
-    pub went : Went 1 d e
+    pub went : Went G 1 d e
 
   -- the length of the disk was asked, and it failed
   pub record FailsAsked (d e : D) : Type 0 where
     pub read : OnlyRead G.tells G.seen G.may_leave G.moment G.may_leave_since d e
-    pub broke : Broke 1 d e
+    pub broke : Broke G 1 d e
 
   -- stream j of n was made on the disk
   pub record IsCreated (n : ℕ) (content : List ℕ) (j : ℕ) (d e : D) : Type 0 where
-    pub went : Went calls_to_make d e
+    pub went : Went G calls_to_make d e
     pub begins : Begins n content j d e
 
   -- the disk failed while stream j of n was made on it
   pub record FailsCreated (n : ℕ) (content : List ℕ) (j : ℕ) (d e : D) : Type 0 where
-    pub broke : Broke calls_to_make d e
+    pub broke : Broke G calls_to_make d e
     pub begins : Begins n content j d e
 
   -- the length of the disk was asked, and stream j of n was made on it
   pub record IsOpened (n : ℕ) (content : List ℕ) (j : ℕ) (d e : D) : Type 0 where
-    pub went : Went calls_to_open d e
+    pub went : Went G calls_to_open d e
     pub begins : Begins n content j d e
 
   -- the length of the disk was asked, and then it failed while stream j of n was made on it
   pub record FailsOpened (n : ℕ) (content : List ℕ) (j : ℕ) (d e : D) : Type 0 where
-    pub broke : Broke calls_to_open d e
+    pub broke : Broke G calls_to_open d e
     pub asked : G.tells → G.fails d (G.number d + 1) ≡ false
     pub begins : Begins n content j d e
 

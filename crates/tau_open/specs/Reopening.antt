@@ -10,8 +10,8 @@ use Rattle.tau_stream.specs.Writer.{disk_of, durable_of, left_of, added_of, has_
 use Rattle.tau_open.specs.declared.refusal.OpenRefusal.{OpenRefusal}
 use Rattle.tau_open.specs.declared.refusal.OpenRefusal.TheVariants.{NoMemory, Failed, NotEmpty}
 use Rattle.tau_open.specs.declared.start.StreamStart.{StreamStart}
-use Rattle.tau_open.specs.Opening.{Went, Broke}
-use Rattle.tau_open.specs.Stages.{Staged, StageFails}
+use Rattle.tau_disk.specs.Stages.{Went, Broke}
+use Rattle.tau_disk.specs.Stages.{Staged, StageFails}
 
 -- A stream can start so: its header is one, its content is not too long, and what is put after the content is a body of
 -- at least one record.

@@ -9,7 +9,6 @@ mod refusal;
 mod reopen;
 mod sizes;
 mod start;
-mod sync;
 
 pub use ask::ask_lengths;
 pub use close::close_streams;
@@ -18,4 +17,3 @@ pub use refusal::OpenRefusal;
 pub use reopen::reopen_streams;
 pub use sizes::ask_each;
 pub use start::StreamStart;
-pub use sync::barrier;

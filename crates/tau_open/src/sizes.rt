@@ -1,7 +1,7 @@
 //! All lengths are asked before anything else.
 ghost use Rattle.std.specs.Prelude.{◌≡◌, ◌<◌, ◌≤◌, ℕ, [], length, vec_len, vec_capacity, OnOk, Err};
 ghost use Rattle.tau_open.specs.Opening.{Asked, FailsAsked};
-ghost use Rattle.tau_open.specs.Stages.{Staged, StageFails, AreLengths};
+ghost use Rattle.tau_disk.specs.Stages.{Staged, StageFails, AreLengths};
 
 use crate::refusal::OpenRefusal;
 use tau_disk::Disk;

@@ -96,3 +96,7 @@ has_contents {D} tells seen asked disks images log contents many as_seen are the
 
 pub err_is : {A E : Type 0} (d e : E) → ◌≡◌ {A = Result A E} (Err d) (Err e) → d ≡ e
 err_is d e is = cc
+
+pub if_ok_both : {A E : Type 0} (P Q R : A → Type 0) (r : Result A E) → IfOk r P → IfOk r Q → ((x : A) → P x → Q x → R x) → IfOk r R
+if_ok_both P Q R (Ok x) is also then_so = then_so x is also
+if_ok_both P Q R (Err e) is also then_so = tt

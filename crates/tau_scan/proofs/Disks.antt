@@ -10,6 +10,12 @@ use Rattle.tau_scan.specs.Outside.{IsRead}
 use Rattle.tau_base.proofs.Logic.{some_is}
 use Rattle.tau_base.proofs.Lists.{get_set_same, get_set_other}
 
+-- one disk more gives its bytes
+pub taken_more : {D : Type 0} (seen : D → List ℕ) (old : List D) (n : ℕ) (d : D) → slice_get old n ≡ Some d → map seen (take (n + 1) old) ≡ map seen (take n old) ++ seen d ∷ []
+taken_more seen [] n d here = absurd cc
+taken_more {D} seen (y ∷ old) zero d here = ap (λ (z : D). seen z ∷ []) (some_is y d here)
+taken_more seen (y ∷ old) (suc n) d here = let next : suc n + 1 ≡ suc (n + 1) = omega arith in rw next (ap (λ (zs : List (List ℕ)). seen y ∷ zs) (taken_more seen old n d here))
+
 module _ {D : Type 0} (tells : Type 0) (seen : D → List ℕ) (may_leave : D → List ℕ → Type 0) (moment : D → ℕ) (since : D → ℕ → List ℕ → Type 0) (faults number : D → ℕ) (fails : D → ℕ → Bool) where
   pub untouched : (d : D) → IsRead tells seen may_leave moment since faults number fails d d
   untouched d = record {
@@ -31,11 +37,6 @@ module _ {D : Type 0} (tells : Type 0) (seen : D → List ℕ) (may_leave : D �
     pub given : tells → images ≡ map seen (take n old)
     pub count : length images ≡ n
     pub many : length new ≡ length old
-
-  taken_more : (old : List D) (n : ℕ) (d : D) → slice_get old n ≡ Some d → map seen (take (n + 1) old) ≡ map seen (take n old) ++ seen d ∷ []
-  taken_more [] n d here = absurd cc
-  taken_more (y ∷ old) zero d here = ap (λ (z : D). seen z ∷ []) (some_is y d here)
-  taken_more (y ∷ old) (suc n) d here = let next : suc n + 1 ≡ suc (n + 1) = omega arith in rw next (ap (λ (zs : List (List ℕ)). seen y ∷ zs) (taken_more old n d here))
 
   pub reading_first : (old : List D) → IsReading old old 0 []
   reading_first old = record {
@@ -63,7 +64,7 @@ module _ {D : Type 0} (tells : Type 0) (seen : D → List ℕ) (may_leave : D �
     read = each_on old new n images d e g lt here read;
     rest = λ k le. get_set_other new n k e (λ same. omega (arith, le, same)) ∙ g.rest k (omega (arith, le));
     given = λ t.
-        let more = taken_more old n d (sym (g.rest n (omega arith)) ∙ here) in
+        let more = taken_more seen old n d (sym (g.rest n (omega arith)) ∙ here) in
         ap (λ (xs : List (List ℕ)). xs ++ image ∷ []) (g.given t) ∙ ap (λ (x : List ℕ). map seen (take n old) ++ x ∷ []) (gave t) ∙ sym more;
     count = omega (arith, length-append images (image ∷ []), g.count);
     many = length-set new n e ∙ g.many;

@@ -8,3 +8,4 @@ pub mod Plans
 pub mod Asked
 pub mod Contents
 pub mod Beginning
+pub mod Settling

@@ -7,3 +7,4 @@ pub mod Found
 pub mod Contents
 pub mod Laws
 pub mod Begins
+pub mod Given

@@ -20,5 +20,5 @@ pub use fault::{LogCause, LogFault, LogRefusal, ReplayRefusal, ScanRefusal};
 pub use judge::{Judge, known_in};
 pub use laws::{taken_are_listed, taken_plain};
 pub use log::Log;
-pub use reading::{read_log, scan, scan_contents};
+pub use reading::{scan, scan_contents, scan_settled};
 pub use records::{declarations_in, is_declared, none_declared};

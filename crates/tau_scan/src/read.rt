@@ -2,8 +2,9 @@
 ghost use Rattle.std.specs.Prelude.{◌≡◌, ◌≤◌, ℕ, List, length, map, IfOk, OnOk, OnErr, Err};
 ghost use Rattle.tau_base.specs.declared.limits.TheConstants.{MAX_STREAMS};
 ghost use Rattle.tau_disk.specs.Disk.{Rose};
+ghost use Rattle.tau_disk.specs.Stages.{AreLengths, Broke};
 ghost use Rattle.tau_disk.specs.Used.{Each, RoseAt, GoesOn, AllCalls, IsStopped, IsFirstStopped};
-ghost use Rattle.tau_scan.specs.Outside.{IsRead, calls_to_read};
+ghost use Rattle.tau_scan.specs.Outside.{AreSettled, AreSynced, IsRead, IsSettled, IsSynced, StopsSettling, calls_to_read, calls_to_settle};
 
 use crate::fault::ReadRefusal;
 use std::alloc::Global;
@@ -49,6 +50,52 @@ pub fn read_images<D: Disk>(
     let mut images = Listed::new(alloc);
     for j in 0..disks.len() {
         let image = read_image(alloc, &mut disks[j], j as u8)?;
+        images.push(Listed::of(image))?;
+    }
+    Ok(images)
+}
+
+/// Syncs the disk of this length and then reads it whole, if it has a byte.
+fn settle_image<D: Disk>(
+    alloc: Global,
+    disk: &mut D,
+    size: u64,
+    stream: u8,
+) -> Result<Vec<u8>, ReadRefusal>
+    requires { D.tells → size ≡ length (D.seen disk.old) }
+    ensures bytes { IfOk result (λ image. D.tells → image.items ≡ D.seen disk.old) }
+    ensures synced { IsSynced ⟦<D as Disk>⟧ size disk.old disk.new }
+    ensures settled { OnOk result (IsSettled ⟦<D as Disk>⟧ size disk.old disk.new) }
+    ensures failed { (j : ℕ) → result ≡ Err (ReadRefusal.Failed j) → (j ≡ stream) × Broke ⟦<D as Disk>⟧ (calls_to_settle size) disk.old disk.new }
+{
+    if size == 0 {
+        return Ok(Vec::new(alloc));
+    }
+    let Ok(()) = disk.sync() else {
+        return Err(ReadRefusal::Failed { stream });
+    };
+    read_image(alloc, disk, stream)
+}
+
+/// The images of all streams, which have these lengths: each disk with a byte is synced and then read. The lowest disk that
+/// fails ends the reading.
+pub fn settle_images<D: Disk>(
+    alloc: Global,
+    disks: &mut [D],
+    lengths: &[u64],
+) -> Result<Listed<Listed<u8>>, ReadRefusal>
+    requires few { length disks.old ≤ MAX_STREAMS }
+    requires many { length lengths.now ≡ length disks.old }
+    requires lengths { AreLengths D.tells D.seen disks.old lengths.now }
+    ensures many { IfOk result (λ images. length images ≡ length disks.old) }
+    ensures bytes { IfOk result (λ images. D.tells → images ≡ map D.seen disks.old) }
+    ensures synced { AreSynced ⟦<D as Disk>⟧ lengths.now disks.old disks.new }
+    ensures settled { OnOk result (AreSettled ⟦<D as Disk>⟧ lengths.now disks.old disks.new) }
+    ensures failed { (j : ℕ) → result ≡ Err (ReadRefusal.Failed j) → StopsSettling ⟦<D as Disk>⟧ lengths.now j disks.old disks.new }
+{
+    let mut images = Listed::new(alloc);
+    for j in 0..lengths.len() {
+        let image = settle_image(alloc, &mut disks[j], lengths[j], j as u8)?;
         images.push(Listed::of(image))?;
     }
     Ok(images)

@@ -6,16 +6,17 @@ ghost use Rattle.tau_base.specs.Modes.{most_streams};
 ghost use Rattle.tau_scan.specs.declared.fault.LogFault.{LogFault};
 ghost use Rattle.tau_scan.specs.Reading.{catalogue_of, asked_format, contents_of, declared_by, recorded, records_of, streams_of, declared_in, log_as, log_of, log_read, Gives, HasRead, IsReading, IsLog};
 ghost use Rattle.tau_scan.specs.Found.{Found, FoundAs, IsShort};
-ghost use Rattle.tau_scan.specs.Contents.{bytes_in, AreContents, AreShortContents, IsLogOf, HasContents};
+ghost use Rattle.tau_scan.specs.Contents.{bytes_in, AreContents, IsLogOf, HasContents};
+ghost use Rattle.tau_disk.specs.Stages.{AreLengths};
 ghost use Rattle.tau_disk.specs.Used.{Each, RoseAt, AllCalls, IsFirstStopped};
-ghost use Rattle.tau_scan.specs.Outside.{IsRead, calls_to_read};
+ghost use Rattle.tau_scan.specs.Outside.{AreSettled, AreSynced, IsRead, StopsSettling, calls_to_read};
 
 use crate::catalogue::one_catalogue;
 use crate::content::{asked_format, contents_in, lengths_of};
 use crate::epochs::one_vector_each;
 use crate::fault::{LogCause, LogFault, LogRefusal, ReadRefusal, ScanRefusal};
 use crate::log::Log;
-use crate::read::read_images;
+use crate::read::{read_images, settle_images};
 use crate::records::{declarations_in, none_declared, records_in};
 use std::alloc::Global;
 use tau_base::{Format, Listed};
@@ -133,8 +134,8 @@ fn log_in(
     log_as(alloc, format, images)
 }
 
-/// The same, as a caller of the crate asks it.
-pub fn read_log(
+/// The same, refused as a caller of the crate is told it.
+fn read_log(
     alloc: Global,
     asked: Option<Format>,
     images: &[Listed<u8>],
@@ -146,7 +147,6 @@ pub fn read_log(
     ensures sound { IfOk result (λ r. IsLog r.0) }
     ensures are { IfOk result (λ r. AreContents (asked_format asked images.now) images.now r.1.items) }
     ensures theirs { IfOk result (λ r. IsLogOf (asked_format asked images.now) r.1.items r.0) }
-    ensures short { IfOk result (λ r. AreShortContents r.1.items) }
     ensures no_disk { (j : ℕ) → result ≡ Err (ScanRefusal.Failed j) → ⊥ }
 {
     match log_in(alloc, asked, images) {
@@ -215,14 +215,44 @@ pub fn scan_contents<D: Disk>(
     ensures calls_bad { (fault : LogFault) → result ≡ Err (ScanRefusal.Bad fault) → Each (AllCalls D.tells D.number D.fails D.short calls_to_read) disks.old disks.new }
     ensures stopped { (j : ℕ) → result ≡ Err (ScanRefusal.Failed j) → D.tells → IsFirstStopped D.tells D.number D.fails D.short disks.old disks.new j }
 {
-    let images = match read_images(alloc, disks) {
-        Ok(images) => images,
-        Err(ReadRefusal::NoMemory) => return Err(ScanRefusal::NoMemory),
-        Err(ReadRefusal::Failed { stream }) => return Err(ScanRefusal::Failed { stream }),
-    };
-    match log_in(alloc, asked, images.as_slice()) {
-        Ok((log, contents)) => Ok((log, contents.into_vec())),
-        Err(LogRefusal::NoMemory) => Err(ScanRefusal::NoMemory),
-        Err(LogRefusal::Bad(fault)) => Err(ScanRefusal::Bad(fault)),
+    match read_images(alloc, disks) {
+        Ok(images) => read_log(alloc, asked, images.as_slice()),
+        Err(ReadRefusal::NoMemory) => Err(ScanRefusal::NoMemory),
+        Err(ReadRefusal::Failed { stream }) => Err(ScanRefusal::Failed { stream }),
+    }
+}
+
+/// Reads as `scan_contents` does, after a barrier: the disks have these lengths, and one after another each that has a byte
+/// is synced and then read. A disk without a byte is left alone.
+pub fn scan_settled<D: Disk>(
+    alloc: Global,
+    disks: &mut [D],
+    lengths: &[u64],
+    asked: Option<Format>,
+) -> Result<(Log, Vec<Content>), ScanRefusal>
+    requires low { 1 ≤ length disks.old }
+    requires high { length disks.old ≤ MAX_STREAMS }
+    requires fits { (f : _) → asked ≡ Some f → length disks.old ≤ most_streams f }
+    requires many { length lengths.now ≡ length disks.old }
+    requires lengths { AreLengths D.tells D.seen disks.old lengths.now }
+    // The log of the images, or the first cause why they hold none, unless memory ran out or a disk failed.
+    ensures read { HasRead D.tells D.seen asked disks.old (log_read result) }
+    // What is read is a log.
+    ensures sound { IfOk result (λ r. IsLog r.0) }
+    // The contents are those of the disks, and the log is the log of these contents.
+    ensures contents { IfOk result (λ r. HasContents D.tells D.seen asked disks.old r.0 r.1.items) }
+    // The disks were at most synced and read.
+    ensures synced { AreSynced ⟦<D as Disk>⟧ lengths.now disks.old disks.new }
+    // Before a log or a cause is told every disk with a byte was synced and read whole, and no call of any was to fail.
+    ensures settled { OnOk result (AreSettled ⟦<D as Disk>⟧ lengths.now disks.old disks.new) }
+    ensures settled_bad { (fault : LogFault) → result ≡ Err (ScanRefusal.Bad fault) → AreSettled ⟦<D as Disk>⟧ lengths.now disks.old disks.new }
+    // A disk that failed did so by its first call that was to fail. Those below it were synced and read whole, and those
+    // above it were not touched.
+    ensures failed { (j : ℕ) → result ≡ Err (ScanRefusal.Failed j) → StopsSettling ⟦<D as Disk>⟧ lengths.now j disks.old disks.new }
+{
+    match settle_images(alloc, disks, lengths) {
+        Ok(images) => read_log(alloc, asked, images.as_slice()),
+        Err(ReadRefusal::NoMemory) => Err(ScanRefusal::NoMemory),
+        Err(ReadRefusal::Failed { stream }) => Err(ScanRefusal::Failed { stream }),
     }
 }

@@ -1,6 +1,6 @@
 use Rattle.std.proofs.Common.{◌≡◌, ◌<◌, ◌++◌, List, length, take, drop, sym, subst, ◌∙◌, rules}
 use Rattle.tau_disk.specs.Used.{EachIn, EachUsed, Each, IsClean}
-use Rattle.tau_open.specs.Stages.{OnlySynced}
+use Rattle.tau_disk.specs.Stages.{OnlySynced}
 use Rattle.tau_begin.specs.Opened.{IsLooked, StopsLooking}
 use Rattle.tau_begin.proofs.Giving.{if_ok_both}
 use Rattle.tau_begin.proofs.Slices.{handed_back, in_first, used_first, used_of_first, stops_first, sized, taken_long}

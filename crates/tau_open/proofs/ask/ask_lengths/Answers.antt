@@ -3,7 +3,7 @@ use Rattle.std.specs.Prelude.{Option, Some, slice_get}
 use Rattle.std.proofs.Math.ListN.{set}
 use Rattle.std.proofs.lemmas.Option.{slice_get-get_or}
 use Rattle.tau_open.specs.Opening.{FailsAsking}
-use Rattle.tau_open.proofs.Places.{get_dropped}
+use Rattle.tau_disk.proofs.Places.{get_dropped}
 use Rattle.tau_open.proofs.Lengths.{Found, found_more}
 use Rattle.tau_open.proofs.Asking.{asked_more, asking_fails}
 use Rattle.tau_open.proofs.ask.ask_lengths.Goals as goal

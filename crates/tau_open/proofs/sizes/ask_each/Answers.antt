@@ -3,10 +3,11 @@ use Rattle.std.specs.Prelude.{Some, slice_get}
 use Rattle.std.proofs.Math.ListN.{set}
 use Rattle.std.proofs.lemmas.Option.{slice_get-get_or}
 use Rattle.tau_open.specs.Opening.{Asked, FailsAsked}
-use Rattle.tau_open.specs.Stages.{StageFails, AreLengths}
-use Rattle.tau_open.proofs.Calls.{only_read, one_went, one_broke}
-use Rattle.tau_open.proofs.Places.{get_dropped}
-use Rattle.tau_open.proofs.Stages.{staged_more, stage_fails, lengths_more}
+use Rattle.tau_disk.specs.Stages.{StageFails, AreLengths}
+use Rattle.tau_disk.proofs.Calls.{only_read, one_went, one_broke}
+use Rattle.tau_disk.proofs.Places.{get_dropped}
+use Rattle.tau_disk.proofs.Stages.{staged_more, stage_fails}
+use Rattle.tau_open.proofs.AskedLengths.{lengths_more}
 use Rattle.tau_open.proofs.sizes.ask_each.Goals as goal
 
 pub returns-in_default-clause-failed : goal.returns-in_default-clause-failed

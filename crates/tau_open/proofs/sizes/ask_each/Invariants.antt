@@ -1,7 +1,7 @@
 -- The disks so far are asked, and their lengths are in the list.
 use Rattle.std.proofs.Common.{◌≡◌, vec_len, vec_capacity}
 use Rattle.tau_open.specs.Opening.{Asked}
-use Rattle.tau_open.specs.Stages.{Staged, AreLengths}
+use Rattle.tau_disk.specs.Stages.{Staged, AreLengths}
 use Rattle.tau_open.proofs.sizes.ask_each.Given as goal
 
 abbrev pub invariant-loop-j : goal.invariant-loop-j

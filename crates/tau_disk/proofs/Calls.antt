@@ -1,4 +1,4 @@
--- What the calls of an opening make of a disk.
+-- What calls make of a disk, one after another.
 use Rattle.std.proofs.Common.{ℕ, ◌≡◌, ◌+◌, ◌-◌, ◌<◌, ◌≤◌, ◌⊎◌, List, refl, sym, ◌∙◌, subst, inl, inr, true, false, arith}
 use Rattle.std.specs.Prelude.{nat_lt}
 use Rattle.std.proofs.lemmas.Bool.{cases_Bool}
@@ -8,7 +8,7 @@ use Rattle.tau_disk.specs.Disk.{Rose, Elapses, WasToFail, WasRefused}
 use Rattle.tau_disk.specs.Passing.{passes_none, passes_call}
 use Rattle.tau_disk.specs.Plan.{MadeSome}
 use Rattle.tau_disk.specs.Used.{OnlyRead, IsClean, IsStopped, AllCalls, GoesOn}
-use Rattle.tau_open.specs.Opening.{Went, Broke}
+use Rattle.tau_disk.specs.Stages.{Went, Broke}
 
 module _ {D : Type 0} (G : Ghosts D) where
   -- one call that read
@@ -51,7 +51,7 @@ module _ {D : Type 0} (G : Ghosts D) where
     ];
   }
 
-  -- after the asking come the calls that make a stream
+  -- some calls after others
 
   both_same : (d e f : D) → (G.tells → (k : ℕ) → G.fails e k ≡ G.fails d k) → (G.tells → (k : ℕ) → G.fails f k ≡ G.fails e k) → G.tells → (k : ℕ) → G.fails f k ≡ G.fails d k
   both_same d e f first second t k = second t k ∙ first t k

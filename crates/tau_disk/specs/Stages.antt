@@ -1,9 +1,9 @@
--- The stages of an opening: each goes over the disks one after another, the lowest first.
-use Rattle.std.specs.Prelude.{ℕ, zero, suc, ◌+◌, ◌<◌, ◌≤◌, ◌≡◌, List, length, drop, slice_get, slice_index, Some}
+-- What calls make of several disks, which they go over one after another, the lowest first.
+use Rattle.std.specs.Prelude.{ℕ, ◌+◌, ◌<◌, ◌≤◌, ◌≡◌, List, length, drop, slice_get, slice_index, Some}
 use Rattle.tau_disk.specs.declared.disk.Disk.{Ghosts}
-use Rattle.tau_disk.specs.Disk.{Only, Passes, Rose}
+use Rattle.tau_disk.specs.Disk.{Rose, Passes}
+use Rattle.tau_disk.specs.Plan.{MadeAll, MadeSome}
 use Rattle.tau_disk.specs.Used.{EachIn, OfDisk}
-use Rattle.tau_open.specs.Opening.{Went, Broke}
 
 module _ {D : Type 0} where
   -- the disks below j are through the stage, and the others are as they were
@@ -24,6 +24,19 @@ abbrev pub AreLengths : {D : Type 0} → Type 0 → (D → List ℕ) → List D 
 AreLengths {D} tells seen disks lengths = (j : ℕ) (d : D) → j < length lengths → slice_get disks j ≡ Some d → tells → slice_index lengths j ≡ length (seen d)
 
 module _ {D : Type 0} (G : Ghosts D) where
+  -- so many calls of the disk were made, and none of them was to fail
+  pub record Went (count : ℕ) (d e : D) : Type 0 where
+    pub counts : G.faults d ≤ G.faults e
+    pub same : G.tells → (k : ℕ) → G.fails e k ≡ G.fails d k
+    pub made : G.tells → MadeAll count (G.number d) (G.number e) (G.fails d) (G.short d) (G.short e)
+
+  -- at most so many calls of the disk were made, and the last one failed, which was the first that was to fail
+  pub record Broke (count : ℕ) (d e : D) : Type 0 where
+    pub counts : G.faults d ≤ G.faults e
+    pub rose : Rose (G.faults d) (G.faults e)
+    pub same : G.tells → (k : ℕ) → G.fails e k ≡ G.fails d k
+    pub made : G.tells → MadeSome count (G.number d) (G.number e) (G.fails d) (G.short e)
+
   -- The disk was at most read and synced: a stop leaves nothing that it did not leave, and unless it failed a read gives
   -- what it gave.
   pub record OnlySynced (d e : D) : Type 0 where
@@ -31,24 +44,3 @@ module _ {D : Type 0} (G : Ghosts D) where
     pub moments : Passes G.moment G.may_leave_since d e (G.may_leave d)
     pub counts : G.faults d ≤ G.faults e
     pub same : G.tells → (Rose (G.faults d) (G.faults e) → ⊥) → G.seen e ≡ G.seen d
-
-  -- the disk was synced
-  pub record Synced (d e : D) : Type 0 where
-    pub only : OnlySynced d e
-    pub same : G.tells → G.seen e ≡ G.seen d
-    pub settled : G.tells → Only (G.seen e) (G.may_leave e)
-    pub went : Went G 1 d e
-
-  -- the disk failed when it was synced
-  pub record FailsSynced (d e : D) : Type 0 where
-    pub only : OnlySynced d e
-    pub broke : Broke G 1 d e
-
-  -- a disk of this length was synced if it has a byte, else left alone
-  abbrev pub SyncedIf : ℕ → D → D → Type 0
-  SyncedIf zero d e = e ≡ d
-  SyncedIf (suc n) d e = Synced d e
-
-  abbrev pub FailsSyncedIf : ℕ → D → D → Type 0
-  FailsSyncedIf zero d e = ⊥
-  FailsSyncedIf (suc n) d e = FailsSynced d e
