@@ -14,8 +14,13 @@ fn words_of(alloc: Global, line: &str) -> Result<Vec<String>, Fail> {
     Ok(words)
 }
 
-fn run(n: u8, m: u8, mode: LogMode) -> Command {
-    Command::Run { n, m, mode }
+fn run(n: u8, m: u8, mode: LogMode, optimistic: bool) -> Command {
+    Command::Run {
+        n,
+        m,
+        mode,
+        optimistic,
+    }
 }
 
 // a drill on so many streams, by so many workers and recovery workers
@@ -58,15 +63,49 @@ fn reads(rt: &impl Abort, alloc: Global, line: &str, command: Command) -> Result
 #[test]
 fn each_row_of_a_run_is_read(rt: HostRuntime) -> Result<(), Fail> {
     let rows = [
-        ("run 2 1", 2, 1, LogMode::Values),
-        ("run 16 16 data", 16, 16, LogMode::Values),
-        ("run 1 3 command", 1, 3, LogMode::Commands),
+        ("run 2 1", 2, 1, LogMode::Values, false),
+        ("run 16 16 data", 16, 16, LogMode::Values, false),
+        ("run 1 3 command", 1, 3, LogMode::Commands, false),
+        ("run 2 1 wide", 2, 1, LogMode::WideValues, false),
+        ("run 32 31 data wide", 32, 31, LogMode::WideValues, false),
+        (
+            "run 17 32 command wide",
+            17,
+            32,
+            LogMode::WideCommands,
+            false,
+        ),
+        ("run 2 1 optimistic", 2, 1, LogMode::Values, true),
+        ("run 2 1 data optimistic", 2, 1, LogMode::Values, true),
+        ("run 2 1 command optimistic", 2, 1, LogMode::Commands, true),
+        ("run 32 1 optimistic wide", 32, 1, LogMode::WideValues, true),
+        (
+            "run 1 1 command optimistic wide",
+            1,
+            1,
+            LogMode::WideCommands,
+            true,
+        ),
     ];
-    for (line, n, m, mode) in rows {
-        reads(&rt, rt.alloc(), line, run(n, m, mode))?;
+    for (line, n, m, mode, optimistic) in rows {
+        reads(&rt, rt.alloc(), line, run(n, m, mode, optimistic))?;
     }
-    for (line, n, p) in [("recover 16 1", 16, 1), ("recover 32 16", 32, 16)] {
-        reads(&rt, rt.alloc(), line, Command::Recover { n, p })?;
+    Ok(())
+}
+
+#[test]
+fn each_row_of_a_reading_is_read(rt: HostRuntime) -> Result<(), Fail> {
+    let rows = [
+        ("recover 16 1", Command::Recover { n: 16, p: 1 }),
+        ("recover 32 16", Command::Recover { n: 32, p: 16 }),
+        ("checkpoint 32 16", Command::Checkpoint { n: 32, p: 16 }),
+        ("restore 1 2", Command::Restore { n: 1, p: 2 }),
+        ("follow 32", Command::Follow { n: 32 }),
+        ("inspect 7", Command::Inspect { n: 7 }),
+        ("audit 32 31", Command::Audit { n: 32, m: 31 }),
+    ];
+    for (line, command) in rows {
+        reads(&rt, rt.alloc(), line, command)?;
     }
     Ok(())
 }
@@ -143,6 +182,28 @@ fn other_words_are_refused(rt: HostRuntime) -> Result<(), Fail> {
         "run 1 99999999999999999999",
         "run 1 1 values",
         "run 1 1 data data",
+        "run 33 1 wide",
+        "run 1 33 wide",
+        "run 17 17 data",
+        "run 17 1 optimistic",
+        "run 1 1 wide data",
+        "run 1 1 wide optimistic",
+        "run 1 1 wide wide",
+        "run 1 1 optimistic command",
+        "run 1 1 data command wide",
+        "run 1 1 data optimistic wide wide",
+        "checkpoint 1",
+        "checkpoint 33 1",
+        "restore 1 17",
+        "restore 1 1 1",
+        "follow",
+        "follow 0",
+        "follow 33",
+        "follow 1 1",
+        "inspect 33",
+        "audit 1",
+        "audit 1 33",
+        "audit 33 1",
         "Run 1 1",
         "recover 1",
         "recover 33 1",

@@ -27,12 +27,14 @@ pub enum Ending {
 pub enum Command {
     /// Runs the workload of the source.
     Run {
-        /// Streams, 1 to 16.
+        /// Streams, 1 to 16; 1 to 32 of a wide mode.
         n: u8,
-        /// Workers, 1 to 16.
+        /// Workers, 1 to 16; 1 to 32 of a wide mode.
         m: u8,
-        /// What the records hold.
+        /// What the records hold, and in which format.
         mode: LogMode,
+        /// Whether workers execute a call before they lock its keys.
+        optimistic: bool,
     },
     /// Recovers from the disks.
     Recover {
@@ -61,6 +63,37 @@ pub enum Command {
         /// Streams, 1 to 16.
         n: u8,
         /// Workers, 1 to 16.
+        m: u8,
+    },
+    /// Recovers from the disks, and writes what it finds into a checkpoint's slot.
+    Checkpoint {
+        /// Streams, 1 to 32.
+        n: u8,
+        /// Recovery workers, 1 to 16.
+        p: u8,
+    },
+    /// Recovers from the disks and the better checkpoint.
+    Restore {
+        /// Streams, 1 to 32.
+        n: u8,
+        /// Recovery workers, 1 to 16.
+        p: u8,
+    },
+    /// Follows the pieces of contents that the source has.
+    Follow {
+        /// Streams, 1 to 32.
+        n: u8,
+    },
+    /// Tells what the disks hold, record by record.
+    Inspect {
+        /// Streams, 1 to 32.
+        n: u8,
+    },
+    /// Judges a report of the source against what the disks hold.
+    Audit {
+        /// Streams, 1 to 32.
+        n: u8,
+        /// Workers, 1 to 32.
         m: u8,
     },
 }

@@ -1,10 +1,10 @@
 //! Numbers in words.
 ghost use Rattle.std.specs.Prelude.{◌≡◌, ◌≤◌, IfSome};
 ghost use Rattle.std.specs.List.{list_all};
-ghost use Rattle.tau_base.specs.declared.limits.TheConstants.{MAX_STREAMS};
-ghost use Rattle.tau_words.specs.Words.{is_digit, is_number, number_in, count_of, streams_of};
+ghost use Rattle.tau_base.specs.declared.limits.TheConstants.{MAX_STREAMS, MAX_WORKERS};
+ghost use Rattle.tau_words.specs.Words.{is_digit, is_number, number_in, count_of, streams_of, workers_of, run_count_of};
 
-use tau_base::MAX_STREAMS;
+use tau_base::{MAX_STREAMS, MAX_WORKERS};
 
 fn is_digit(c: u8) -> bool
     ensures { result ≡ is_digit c }
@@ -68,7 +68,7 @@ pub(crate) fn count_of(word: &str) -> Option<u8>
     }
 }
 
-/// A number of streams to recover, which may be of either format.
+/// A number of streams that are read, which may be of either format.
 pub(crate) fn streams_of(word: &str) -> Option<u8>
     ensures exact { result ≡ streams_of word.now }
     ensures within { IfSome result (λ n. (1 ≤ n) × (n ≤ MAX_STREAMS)) }
@@ -76,5 +76,26 @@ pub(crate) fn streams_of(word: &str) -> Option<u8>
     match number_in(1, MAX_STREAMS as u32, word) {
         None => None,
         Some(n) => Some(n as u8),
+    }
+}
+
+/// A number of workers of a run whose report is read.
+pub(crate) fn workers_of(word: &str) -> Option<u8>
+    ensures exact { result ≡ workers_of word.now }
+{
+    match number_in(1, MAX_WORKERS as u32, word) {
+        None => None,
+        Some(n) => Some(n as u8),
+    }
+}
+
+/// A number of streams or workers of a run, wide or not.
+pub(crate) fn run_count_of(wide: bool, word: &str) -> Option<u8>
+    ensures { result ≡ run_count_of wide word.now }
+{
+    if wide {
+        streams_of(word)
+    } else {
+        count_of(word)
     }
 }

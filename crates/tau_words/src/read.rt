@@ -1,11 +1,14 @@
 //! Reading a command line.
 ghost use Rattle.std.specs.Prelude.{◌≡◌, ◌≤◌, Err, IfOk, Some, None, map, option_map, string_bytes};
-ghost use Rattle.tau_words.specs.Words.{same_word, run_with, mode_of, run_of, recover_of, tear_of, ending_of, drill_of, bench_of, command_of};
+ghost use Rattle.tau_words.specs.Words.{same_word, run_with, mode_by, wide_in, run_as, run_by, run_of_counts, run_of, recover_of, checkpoint_of, restore_of, follow_of, inspect_of, audit_of, tear_of, ending_of, drill_of, bench_of, command_on_streams, command_of};
 ghost use Rattle.tau_words.specs.declared.command.WordsRefusal.TheVariants.{Usage};
 ghost use Rattle.tau_words.specs.declared.command.Command.TheVariants.{Drill};
 
 use crate::command::{Command, Ending, WordsRefusal};
-use crate::number::{MAX_COUNT, MAX_DEVICE_CALL, MAX_START, count_of, number_in, streams_of};
+use crate::number::{
+    MAX_COUNT, MAX_DEVICE_CALL, MAX_START, count_of, number_in, run_count_of, streams_of,
+    workers_of,
+};
 use crate::split::{MAX_WORDS, has_flag, split};
 use std::alloc::Global;
 use tau_base::{LogMode, MAX_CALLS};
@@ -17,24 +20,94 @@ fn is_word(word: &str, name: &str) -> bool
     word == name
 }
 
-fn run_with(mode: LogMode, n: &str, m: &str) -> Option<Command>
-    ensures { result ≡ run_with mode n.now m.now }
+fn run_with(mode: LogMode, wide: bool, optimistic: bool, n: &str, m: &str) -> Option<Command>
+    ensures { result ≡ run_with mode wide optimistic n.now m.now }
 {
-    match (count_of(n), count_of(m)) {
-        (Some(n), Some(m)) => Some(Command::Run { n, m, mode }),
+    match (run_count_of(wide, n), run_count_of(wide, m)) {
+        (Some(n), Some(m)) => Some(Command::Run {
+            n,
+            m,
+            mode,
+            optimistic,
+        }),
         _ => None,
     }
 }
 
-fn mode_of(word: &str) -> Option<LogMode>
-    ensures { result ≡ mode_of word.now }
+fn mode_by(command: bool, wide: bool) -> LogMode
+    ensures { result ≡ mode_by command wide }
 {
-    if is_word(word, "data") {
-        Some(LogMode::Values)
-    } else if is_word(word, "command") {
-        Some(LogMode::Commands)
+    if command {
+        if wide {
+            LogMode::WideCommands
+        } else {
+            LogMode::Commands
+        }
+    } else if wide {
+        LogMode::WideValues
     } else {
-        None
+        LogMode::Values
+    }
+}
+
+/// Whether the words that are left ask for the wide format, if they say no more than that.
+fn wide_in(words: &[&str]) -> Option<bool>
+    ensures { result ≡ wide_in (map (λ s. s.now) words.now) }
+{
+    match words {
+        [] => Some(false),
+        [word] => {
+            if is_word(word, "wide") {
+                Some(true)
+            } else {
+                None
+            }
+        }
+        _ => None,
+    }
+}
+
+/// The run whose records hold this, with these counts and what the words after these say.
+fn run_as(command: bool, optimistic: bool, n: &str, m: &str, words: &[&str]) -> Option<Command>
+    ensures { result ≡ run_as command optimistic n.now m.now (map (λ s. s.now) words.now) }
+{
+    match wide_in(words) {
+        None => None,
+        Some(wide) => run_with(mode_by(command, wide), wide, optimistic, n, m),
+    }
+}
+
+/// The same, where the words may begin with how its workers go on.
+fn run_by(command: bool, n: &str, m: &str, words: &[&str]) -> Option<Command>
+    ensures { result ≡ run_by command n.now m.now (map (λ s. s.now) words.now) }
+{
+    match words {
+        [] => run_as(command, false, n, m, words),
+        [word, rest @ ..] => {
+            if is_word(word, "optimistic") {
+                run_as(command, true, n, m, rest)
+            } else {
+                run_as(command, false, n, m, words)
+            }
+        }
+    }
+}
+
+/// The same, where they may begin with what its records hold.
+fn run_of_counts(n: &str, m: &str, words: &[&str]) -> Option<Command>
+    ensures { result ≡ run_of_counts n.now m.now (map (λ s. s.now) words.now) }
+{
+    match words {
+        [] => run_by(false, n, m, words),
+        [word, rest @ ..] => {
+            if is_word(word, "data") {
+                run_by(false, n, m, rest)
+            } else if is_word(word, "command") {
+                run_by(true, n, m, rest)
+            } else {
+                run_by(false, n, m, words)
+            }
+        }
     }
 }
 
@@ -42,11 +115,7 @@ fn run_of(words: &[&str]) -> Option<Command>
     ensures { result ≡ run_of (map (λ s. s.now) words.now) }
 {
     match words {
-        [n, m] => run_with(LogMode::Values, n, m),
-        [n, m, mode] => match mode_of(mode) {
-            None => None,
-            Some(mode) => run_with(mode, n, m),
-        },
+        [n, m, rest @ ..] => run_of_counts(n, m, rest),
         _ => None,
     }
 }
@@ -57,6 +126,66 @@ fn recover_of(words: &[&str]) -> Option<Command>
     match words {
         [n, p] => match (streams_of(n), count_of(p)) {
             (Some(n), Some(p)) => Some(Command::Recover { n, p }),
+            _ => None,
+        },
+        _ => None,
+    }
+}
+
+fn checkpoint_of(words: &[&str]) -> Option<Command>
+    ensures { result ≡ checkpoint_of (map (λ s. s.now) words.now) }
+{
+    match words {
+        [n, p] => match (streams_of(n), count_of(p)) {
+            (Some(n), Some(p)) => Some(Command::Checkpoint { n, p }),
+            _ => None,
+        },
+        _ => None,
+    }
+}
+
+fn restore_of(words: &[&str]) -> Option<Command>
+    ensures { result ≡ restore_of (map (λ s. s.now) words.now) }
+{
+    match words {
+        [n, p] => match (streams_of(n), count_of(p)) {
+            (Some(n), Some(p)) => Some(Command::Restore { n, p }),
+            _ => None,
+        },
+        _ => None,
+    }
+}
+
+fn follow_of(words: &[&str]) -> Option<Command>
+    ensures { result ≡ follow_of (map (λ s. s.now) words.now) }
+{
+    match words {
+        [n] => match streams_of(n) {
+            Some(n) => Some(Command::Follow { n }),
+            None => None,
+        },
+        _ => None,
+    }
+}
+
+fn inspect_of(words: &[&str]) -> Option<Command>
+    ensures { result ≡ inspect_of (map (λ s. s.now) words.now) }
+{
+    match words {
+        [n] => match streams_of(n) {
+            Some(n) => Some(Command::Inspect { n }),
+            None => None,
+        },
+        _ => None,
+    }
+}
+
+fn audit_of(words: &[&str]) -> Option<Command>
+    ensures { result ≡ audit_of (map (λ s. s.now) words.now) }
+{
+    match words {
+        [n, m] => match (streams_of(n), workers_of(m)) {
+            (Some(n), Some(m)) => Some(Command::Audit { n, m }),
             _ => None,
         },
         _ => None,
@@ -146,6 +275,25 @@ fn bench_of(words: &[&str]) -> Option<Command>
     }
 }
 
+/// The command with this name, of those that work on streams that were written.
+fn command_on_streams(name: &str, rest: &[&str]) -> Option<Command>
+    ensures { result ≡ command_on_streams name.now (map (λ s. s.now) rest.now) }
+{
+    if is_word(name, "checkpoint") {
+        checkpoint_of(rest)
+    } else if is_word(name, "restore") {
+        restore_of(rest)
+    } else if is_word(name, "follow") {
+        follow_of(rest)
+    } else if is_word(name, "inspect") {
+        inspect_of(rest)
+    } else if is_word(name, "audit") {
+        audit_of(rest)
+    } else {
+        None
+    }
+}
+
 fn command_of(words: &[&str]) -> Option<Command>
     ensures { result ≡ command_of (map (λ s. s.now) words.now) }
 {
@@ -161,7 +309,7 @@ fn command_of(words: &[&str]) -> Option<Command>
             } else if is_word(name, "bench") {
                 bench_of(rest)
             } else {
-                None
+                command_on_streams(name, rest)
             }
         }
     }

@@ -5,7 +5,4 @@ use Rattle.tau_words.proofs.Lengths.{no_run}
 use Rattle.tau_words.proofs.read.run_of.Goals as goal
 
 pub returns-in_default : goal.returns-in_default
-returns-in_default c = sym (no_run (map (λ (s : Bor (List ℕ)). s.now) c.args.words.now) (λ e. omega (arith, e, c.in_default.len_below, length-map c.args.words.now (λ (s : Bor (List ℕ)). s.now))) (λ e. omega (arith, e, c.in_default.len_below, length-map c.args.words.now (λ (s : Bor (List ℕ)). s.now))))
-
-pub returns-in_default-2 : goal.returns-in_default-2
-returns-in_default-2 c = sym (no_run (map (λ (s : Bor (List ℕ)). s.now) c.args.words.now) (λ e. omega (arith, e, c.in_default.len_at_least, length-map c.args.words.now (λ (s : Bor (List ℕ)). s.now))) (λ e. omega (arith, e, c.in_default.len_at_least, length-map c.args.words.now (λ (s : Bor (List ℕ)). s.now))))
+returns-in_default c = sym (no_run (map (λ (s : Bor (List ℕ)). s.now) c.args.words.now) (λ e. omega (arith, e, c.in_default.len_below, length-map c.args.words.now (λ (s : Bor (List ℕ)). s.now))))
