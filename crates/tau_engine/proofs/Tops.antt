@@ -20,7 +20,7 @@ use Rattle.tau_engine.specs.declared.status.Status.{Status}
 use Rattle.tau_engine.specs.declared.status.Status.TheVariants as status
 use Rattle.tau_engine.specs.declared.served.Work.{Work}
 use Rattle.tau_engine.specs.declared.served.Work.TheVariants as work
-use Rattle.tau_engine.specs.Served.{command_in, is_served, if_served, served}
+use Rattle.tau_engine.specs.Served.{command_in, is_run, is_served, if_served, served}
 use Rattle.tau_engine.specs.DiskFacts.{DisksWorked}
 use Rattle.tau_engine.specs.Fault.{fault_text, TellsFault}
 use Rattle.tau_engine.specs.Outside.{HasWorkload, HasFault, is_before_disks, ends_run, ends_recovery, ends_reading}
@@ -30,7 +30,7 @@ le_of : (j k : ℕ) → nat_le j k ≡ true → j ≤ k
 le_of j k e = grind (arith, nat_tests)
 
 -- what is asked for, as the command
-pub command_of_run : (o : Option Command) (w : Work) (n m : ℕ) (mode : LogMode) → o ≡ Some (command_in w) → w ≡ work.Run n m mode → o ≡ Some (Run n m mode)
+pub command_of_run : (o : Option Command) (w : Work) (n m : ℕ) (mode : LogMode) → o ≡ Some (command_in w) → w ≡ work.Run n m mode → o ≡ Some (Run n m mode false)
 command_of_run o w n m mode is e = subst (λ (x : Work). o ≡ Some (command_in x)) e is
 
 pub command_of_recovery : (o : Option Command) (w : Work) (n p : ℕ) → o ≡ Some (command_in w) → w ≡ work.Recover n p → o ≡ Some (Recover n p)
@@ -40,21 +40,21 @@ pub same_streams : (o : Option Command) (a b n p : ℕ) → o ≡ Some (Recover 
 same_streams o a b n p one other = cc
 
 -- the command of words is one
-pub same_command : (o : Option Command) (a b : ℕ) (how : LogMode) (n m : ℕ) (mode : LogMode) → o ≡ Some (Run a b how) → o ≡ Some (Run n m mode) → (a ≡ n) × (b ≡ m) × (how ≡ mode)
+pub same_command : (o : Option Command) (a b : ℕ) (how : LogMode) (n m : ℕ) (mode : LogMode) → o ≡ Some (Run a b how false) → o ≡ Some (Run n m mode false) → (a ≡ n) × (b ≡ m) × (how ≡ mode)
 same_command o a b how n m mode one some =
-    let same : Some (Run a b how) ≡ Some (Run n m mode) = sym one ∙ some in
+    let same : Some (Run a b how false) ≡ Some (Run n m mode false) = sym one ∙ some in
     (ap (λ (x : Option Command). streams_in x) same, ap (λ (x : Option Command). workers_in x) same, ap (λ (x : Option Command). mode_in how x) same)
   where
     streams_in : Option Command → ℕ
-    streams_in (Some (Run n m mode)) = n
+    streams_in (Some (Run n m mode optimistic)) = n
     streams_in other = 0
 
     workers_in : Option Command → ℕ
-    workers_in (Some (Run n m mode)) = m
+    workers_in (Some (Run n m mode optimistic)) = m
     workers_in other = 0
 
     mode_in : LogMode → Option Command → LogMode
-    mode_in none (Some (Run n m mode)) = mode
+    mode_in none (Some (Run n m mode optimistic)) = mode
     mode_in none other = none
 
 -- and likewise a recovery
@@ -85,8 +85,8 @@ ends_well status.ReadFault kind sink disk empty = absurd (cc)
 ends_well (status.BadLog fault) kind sink disk empty = absurd (cc)
 ends_well status.TooLong kind sink disk empty = absurd (cc)
 
-pub not_recovery : (o : Option Command) (n m k p : ℕ) (mode : LogMode) → o ≡ Some (Run n m mode) → o ≡ Some (Recover k p) → ⊥
-not_recovery o n m k p mode one other = (let f : Some (Run n m mode) ≡ Some (Recover k p) = sym one ∙ other in cc f)
+pub not_recovery : (o : Option Command) (n m k p : ℕ) (mode : LogMode) → o ≡ Some (Run n m mode false) → o ≡ Some (Recover k p) → ⊥
+not_recovery o n m k p mode one other = (let f : Some (Run n m mode false) ≡ Some (Recover k p) = sym one ∙ other in cc f)
 
 narrow_of : (mode : LogMode) → same_format One (format_of mode) ≡ true → format_of mode ≡ One
 narrow_of Values e = refl
@@ -95,24 +95,24 @@ narrow_of WideValues e = absurd (cc e)
 narrow_of WideCommands e = absurd (cc e)
 
 -- the streams, the workers and the format of a run that is served
-pub within_served : (words : List (List ℕ)) (n m : ℕ) (mode : LogMode) → served words ≡ Some (Run n m mode) → (1 ≤ n) × (n ≤ 16) × (1 ≤ m) × (format_of mode ≡ One)
+pub within_served : (words : List (List ℕ)) (n m : ℕ) (mode : LogMode) → served words ≡ Some (Run n m mode false) → (1 ≤ n) × (n ≤ 16) × (1 ≤ m) × (format_of mode ≡ One)
 within_served words n m mode e = by_command (command_of words) e
   where
-    low : (n m : ℕ) (mode : LogMode) → (same_format One (format_of mode) && nat_le 1 n && nat_le n 16 && nat_le 1 m && nat_le m 16) ≡ true → (1 ≤ n) × (n ≤ 16) × (1 ≤ m) × (format_of mode ≡ One)
+    low : (n m : ℕ) (mode : LogMode) → (is_run mode false && nat_le 1 n && nat_le n 16 && nat_le 1 m && nat_le m 16) ≡ true → (1 ≤ n) × (n ≤ 16) × (1 ≤ m) × (format_of mode ≡ One)
     low n m mode t =
-        let a = and_parts (same_format One (format_of mode) && nat_le 1 n && nat_le n 16 && nat_le 1 m) (nat_le m 16) t in
-        let b = and_parts (same_format One (format_of mode) && nat_le 1 n && nat_le n 16) (nat_le 1 m) a.0 in
-        let d = and_parts (same_format One (format_of mode) && nat_le 1 n) (nat_le n 16) b.0 in
-        let e = and_parts (same_format One (format_of mode)) (nat_le 1 n) d.0 in
+        let a = and_parts (is_run mode false && nat_le 1 n && nat_le n 16 && nat_le 1 m) (nat_le m 16) t in
+        let b = and_parts (is_run mode false && nat_le 1 n && nat_le n 16) (nat_le 1 m) a.0 in
+        let d = and_parts (is_run mode false && nat_le 1 n) (nat_le n 16) b.0 in
+        let e = and_parts (is_run mode false) (nat_le 1 n) d.0 in
         (le_of 1 n e.1, le_of n 16 d.1, le_of 1 m b.1, narrow_of mode e.0)
 
-    by_test : (d : Command) (b : Bool) → is_served d ≡ b → (if b then Some d else None) ≡ Some (Run n m mode) → (1 ≤ n) × (n ≤ 16) × (1 ≤ m) × (format_of mode ≡ One)
+    by_test : (d : Command) (b : Bool) → is_served d ≡ b → (if b then Some d else None) ≡ Some (Run n m mode false) → (1 ≤ n) × (n ≤ 16) × (1 ≤ m) × (format_of mode ≡ One)
     by_test d true is f =
-        let same : d ≡ Run n m mode = cc in
+        let same : d ≡ Run n m mode false = cc in
         low n m mode (sym (ap is_served same) ∙ is)
     by_test d false is f = absurd (cc)
 
-    by_command : (o : Option Command) → option_and_then if_served o ≡ Some (Run n m mode) → (1 ≤ n) × (n ≤ 16) × (1 ≤ m) × (format_of mode ≡ One)
+    by_command : (o : Option Command) → option_and_then if_served o ≡ Some (Run n m mode false) → (1 ≤ n) × (n ≤ 16) × (1 ≤ m) × (format_of mode ≡ One)
     by_command None f = absurd (cc)
     by_command (Some d) f = by_test d (is_served d) refl f
 

@@ -2,9 +2,10 @@
 use Rattle.std.specs.Prelude.{ℕ, Bool, true, false, ◌&&◌, nat_le, nat_lt, if◌then◌else◌, List, Option, Some, None, option_and_then}
 use Rattle.tau_base.specs.declared.limits.TheConstants.{MAX_CALLS, MAX_RECOVERY_WORKERS, MAX_STREAMS}
 use Rattle.tau_base.specs.declared.format.Format.TheVariants.{One}
+use Rattle.tau_base.specs.declared.value.LogMode.{LogMode}
 use Rattle.tau_base.specs.Modes.{format_of, same_format}
 use Rattle.tau_words.specs.declared.command.Command.{Command}
-use Rattle.tau_words.specs.declared.command.Command.TheVariants.{Run, Recover, Drill, Bench}
+use Rattle.tau_words.specs.declared.command.Command.TheVariants.{Run, Recover, Drill, Bench, Checkpoint, Restore, Follow, Inspect, Audit}
 use Rattle.tau_words.specs.declared.command.Ending.{Ending}
 use Rattle.tau_words.specs.declared.command.Ending.TheVariants.{Stop, Fail}
 use Rattle.tau_words.specs.Words.{command_of}
@@ -21,12 +22,22 @@ is_ending n (Fail stream call) = nat_lt stream n && nat_le 1 call && nat_le call
 abbrev pub is_job : ℕ → ℕ → Bool
 is_job start calls = nat_le start 999 && nat_le calls MAX_CALLS
 
--- the commands that are there by now: a run is of format 1, a recovery of either
+-- a run is of format 1, and its workers lock before they execute
+abbrev pub is_run : LogMode → Bool → Bool
+is_run mode true = false
+is_run mode false = same_format One (format_of mode)
+
+-- the commands that are there by now
 abbrev pub is_served : Command → Bool
-is_served (Run n m mode) = same_format One (format_of mode) && nat_le 1 n && nat_le n MAX_COUNT && nat_le 1 m && nat_le m MAX_COUNT
+is_served (Run n m mode optimistic) = is_run mode optimistic && nat_le 1 n && nat_le n MAX_COUNT && nat_le 1 m && nat_le m MAX_COUNT
 is_served (Recover n p) = nat_le 1 n && nat_le n MAX_STREAMS && nat_le 1 p && nat_le p MAX_RECOVERY_WORKERS
 is_served (Drill n m p ending) = nat_le 1 n && nat_le n MAX_COUNT && nat_le 1 m && nat_le m MAX_COUNT && is_ending n ending
 is_served (Bench start calls n m) = is_job start calls && (nat_le 1 n && nat_le n MAX_COUNT) && (nat_le 1 m && nat_le m MAX_COUNT)
+is_served (Checkpoint n p) = false
+is_served (Restore n p) = false
+is_served (Follow n) = false
+is_served (Inspect n) = false
+is_served (Audit n m) = false
 
 abbrev pub if_served : Command → Option Command
 if_served c = if is_served c then Some c else None
@@ -37,7 +48,7 @@ served words = option_and_then if_served (command_of words)
 
 -- the command of what is asked for
 abbrev pub command_in : Work → Command
-command_in (work.Run n m mode) = Run n m mode
+command_in (work.Run n m mode) = Run n m mode false
 command_in (work.Recover n p) = Recover n p
 command_in (work.Drill n m p ending) = Drill n m p ending
 command_in (work.Bench start calls n m) = Bench start calls n m
@@ -52,12 +63,12 @@ writes_at_end (Some other) = false
 
 -- the disks that the command uses are the first of them
 abbrev pub used_by : Option Command → ℕ
-used_by (Some (Run n m mode)) = n
+used_by (Some (Run n m mode optimistic)) = n
 used_by (Some (Recover n p)) = n
 used_by _ = 0
 
 -- whether the command reads the source
 abbrev pub reads_source : Option Command → Bool
-reads_source (Some (Run n m mode)) = true
+reads_source (Some (Run n m mode optimistic)) = true
 reads_source (Some (Drill n m p ending)) = true
 reads_source _ = false

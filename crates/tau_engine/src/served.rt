@@ -3,8 +3,8 @@ ghost use Rattle.std.specs.Prelude.{◌≡◌, ◌≤◌, ◌&&◌, nat_le, ℕ,
 ghost use Rattle.tau_base.specs.declared.format.Format.TheVariants.{One};
 ghost use Rattle.tau_base.specs.declared.limits.TheConstants.{MAX_CALLS, MAX_RECOVERY_WORKERS, MAX_STREAMS};
 ghost use Rattle.tau_base.specs.declared.value.LogMode.{LogMode};
-ghost use Rattle.tau_base.specs.Modes.{format_of, same_format};
-ghost use Rattle.tau_engine.specs.Served.{command_in, is_ending, is_job, is_served, served};
+ghost use Rattle.tau_base.specs.Modes.{format_of};
+ghost use Rattle.tau_engine.specs.Served.{command_in, is_ending, is_job, is_run, is_served, served};
 ghost use Rattle.tau_words.specs.declared.command.Ending.{Ending};
 ghost use Rattle.tau_words.specs.declared.command.WordsRefusal.TheVariants.{Usage};
 
@@ -80,11 +80,15 @@ fn is_count(n: u8) -> bool
     1 <= n && usize::from(n) <= MAX_COUNT
 }
 
-// Whether a run of this mode is of format 1.
-fn is_narrow(mode: LogMode) -> bool
-    ensures value { result ≡ same_format One (format_of mode) }
-    ensures within { result ≡ true → format_of mode ≡ One }
+// Whether a run of this mode is of format 1, and its workers lock before they execute.
+fn is_run(mode: LogMode, optimistic: bool) -> bool
+    ensures value { result ≡ is_run mode optimistic }
+    ensures narrow { result ≡ true → format_of mode ≡ One }
+    ensures locking { result ≡ true → optimistic ≡ false }
 {
+    if optimistic {
+        return false;
+    }
     same_format(Format::One, format_of(mode))
 }
 
@@ -117,7 +121,12 @@ fn work_of(command: Command) -> Option<Work>
     ensures none { IfNone result (is_served command ≡ false) }
 {
     match command {
-        Command::Run { n, m, mode } if is_narrow(mode) && is_count(n) && is_count(m) => {
+        Command::Run {
+            n,
+            m,
+            mode,
+            optimistic,
+        } if is_run(mode, optimistic) && is_count(n) && is_count(m) => {
             Some(Work::Run { n, m, mode })
         }
         Command::Recover { n, p } if is_streams(n) && is_count(p) => Some(Work::Recover { n, p }),

@@ -77,9 +77,9 @@ pub fn taurus<R: Threads + Wait + Sync, S: Source, K: Sink + Send, D: Disk + Sen
     // A fault of a disk is the first call that was to fail, of the lowest disk that has one, unless its memory was short.
     ensures disk_fault_first { (j : ℕ) → result ≡ Status.DiskFault j → D.tells → IsFirstStopped D.tells D.number D.fails D.short disks.old.items disks.new.items j }
     ensures disk_fault_told { result ≡ Status.Ok → EachUsed (IsClean D.tells D.number D.fails) disks.old.items disks.new.items (used_by (served (map string_bytes words.now))) }
-    ensures not_empty { (j long : ℕ) → result ≡ Status.NotEmpty j long → (n m : ℕ) × (mode : LogMode) × (served (map string_bytes words.now) ≡ Some (Command.Run n m mode))
+    ensures not_empty { (j long : ℕ) → result ≡ Status.NotEmpty j long → (n m : ℕ) × (mode : LogMode) × (served (map string_bytes words.now) ≡ Some (Command.Run n m mode false))
         × (j < n) × (D.tells → IsFirstLong D.seen disks.old.items j long) }
-    ensures not_empty_told { (n m : ℕ) (mode : LogMode) (j long : ℕ) → served (map string_bytes words.now) ≡ Some (Command.Run n m mode) →
+    ensures not_empty_told { (n m : ℕ) (mode : LogMode) (j long : ℕ) → served (map string_bytes words.now) ≡ Some (Command.Run n m mode false) →
         S.tells → (load : Workload) → HasWorkload (S.left source.old) load → D.tells → j < n → IsFirstLong D.seen disks.old.items j long →
         Member result (Status.NotEmpty j long ∷ Status.ReadFault ∷ Status.NoMemory ∷ []) ⊎ ((i : ℕ) × (result ≡ Status.DiskFault i)) }
     ensures bad_log { (fault : LogFault) → result ≡ Status.BadLog fault → (n p : ℕ) × (served (map string_bytes words.now) ≡ Some (Command.Recover n p))
@@ -90,7 +90,7 @@ pub fn taurus<R: Threads + Wait + Sync, S: Source, K: Sink + Send, D: Disk + Sen
         log_of None (images_of D.seen disks.old.items n) ≡ Ok log → ((order : List Kept) → IsOrderOf log order → ⊥) → EndsTangled log result }
     ensures write_fault { result ≡ Status.WriteFault → Rose (K.faults sink.old) (K.faults sink.new) }
     // A disk that fails while the streams are opened comes before a sink that fails.
-    ensures write_fault_late { (n m : ℕ) (mode : LogMode) → served (map string_bytes words.now) ≡ Some (Command.Run n m mode) → result ≡ Status.WriteFault →
+    ensures write_fault_late { (n m : ℕ) (mode : LogMode) → served (map string_bytes words.now) ≡ Some (Command.Run n m mode false) → result ≡ Status.WriteFault →
         EachUsed (NextClean D.tells D.number D.fails calls_to_open) disks.old.items disks.new.items n }
 
     // What is read of the source.
@@ -100,21 +100,21 @@ pub fn taurus<R: Threads + Wait + Sync, S: Source, K: Sink + Send, D: Disk + Sen
 
     // A refusal writes its one line, and a call that runs out of memory before a run nothing.
     ensures refusal { is_refusal result ≡ true → WroteFront (Wrote K.tells (K.held sink.old) (K.held sink.new)) (Rose (K.faults sink.old) (K.faults sink.new)) (fault_text result) }
-    ensures opening_fault { (n m i j long : ℕ) (mode : LogMode) → served (map string_bytes words.now) ≡ Some (Command.Run n m mode) → result ≡ Status.DiskFault i →
+    ensures opening_fault { (n m i j long : ℕ) (mode : LogMode) → served (map string_bytes words.now) ≡ Some (Command.Run n m mode false) → result ≡ Status.DiskFault i →
         D.tells → j < n → IsFirstLong D.seen disks.old.items j long →
         WroteFront (Wrote K.tells (K.held sink.old) (K.held sink.new)) (Rose (K.faults sink.old) (K.faults sink.new)) (fault_text result) }
     // A disk that fails while its stream is made is told by the one line; one that fails later is told by the report.
-    ensures making_fault { (n m j : ℕ) (mode : LogMode) → served (map string_bytes words.now) ≡ Some (Command.Run n m mode) → result ≡ Status.DiskFault j → D.tells → FailsTold (Made D.number D.short disks.old.items disks.new.items j)
+    ensures making_fault { (n m j : ℕ) (mode : LogMode) → served (map string_bytes words.now) ≡ Some (Command.Run n m mode false) → result ≡ Status.DiskFault j → D.tells → FailsTold (Made D.number D.short disks.old.items disks.new.items j)
         (WroteFront (Wrote K.tells (K.held sink.old) (K.held sink.new)) (Rose (K.faults sink.old) (K.faults sink.new)) (fault_text result)) }
     ensures silent { result ≡ Status.NoMemory → writes_at_end (served (map string_bytes words.now)) ≡ true → Wrote K.tells (K.held sink.old) (K.held sink.new) [] }
 
     // Out of memory after a text that is no workload, or if a used disk holds something, writes nothing.
     ensures silent_text { result ≡ Status.NoMemory → reads_source (served (map string_bytes words.now)) ≡ true → S.tells → HasNoWorkload (S.left source.old) → Wrote K.tells (K.held sink.old) (K.held sink.new) [] }
-    ensures silent_long { (n m j long : ℕ) (mode : LogMode) → served (map string_bytes words.now) ≡ Some (Command.Run n m mode) → result ≡ Status.NoMemory →
+    ensures silent_long { (n m j long : ℕ) (mode : LogMode) → served (map string_bytes words.now) ≡ Some (Command.Run n m mode false) → result ≡ Status.NoMemory →
         D.tells → j < n → IsFirstLong D.seen disks.old.items j long → Wrote K.tells (K.held sink.old) (K.held sink.new) [] }
 
     // A run has one history, of which its report, the images that stops may leave and its acknowledgements are, however it ends.
-    ensures run { (n m : ℕ) (mode : LogMode) (load : Workload) → served (map string_bytes words.now) ≡ Some (Command.Run n m mode) →
+    ensures run { (n m : ℕ) (mode : LogMode) (load : Workload) → served (map string_bytes words.now) ≡ Some (Command.Run n m mode false) →
         S.tells → HasWorkload (S.left source.old) load → AreEmpty D.tells D.seen disks.old.items n →
         RunFacts (chosen_by load.turns n m load) n m mode load (fresh_start n) (AreUnborn D.tells D.may_leave disks.old.items n) (Past D.tells D.moment D.may_leave_since disks.old.items disks.new.items) (Now D.tells D.may_leave disks.old.items disks.new.items)
         (RoseAt D.faults disks.old.items disks.new.items) (Rose (K.faults sink.old) (K.faults sink.new)) (λ j. calls_to_open) (λ j k. D.tells → Made D.number D.short disks.old.items disks.new.items j k)
@@ -122,11 +122,11 @@ pub fn taurus<R: Threads + Wait + Sync, S: Source, K: Sink + Send, D: Disk + Sen
 
     // In threads, if the run went to its end and no disk failed, the anchors that are read of each used disk stand in their
     // distance, also if the sink failed.
-    ensures anchors { (n m : ℕ) (mode : LogMode) (load : Workload) → served (map string_bytes words.now) ≡ Some (Command.Run n m mode) → S.tells → HasWorkload (S.left source.old) load → load.turns ≡ None →
+    ensures anchors { (n m : ℕ) (mode : LogMode) (load : Workload) → served (map string_bytes words.now) ≡ Some (Command.Run n m mode false) → S.tells → HasWorkload (S.left source.old) load → load.turns ≡ None →
         DisksWorked n (RoseAt D.faults disks.old.items disks.new.items) result → (j : ℕ) (image : List ℕ) → j < n → Now D.tells D.may_leave disks.old.items disks.new.items j image → HasSpaced (format_of mode) n j load image }
 
     // So an image that a stop now may leave is one that a stop since the entry might have left.
-    ensures moments { (n m : ℕ) (mode : LogMode) → served (map string_bytes words.now) ≡ Some (Command.Run n m mode) →
+    ensures moments { (n m : ℕ) (mode : LogMode) → served (map string_bytes words.now) ≡ Some (Command.Run n m mode false) →
         AreUnborn D.tells D.may_leave disks.old.items n → EachUsed (NotEarlier D.tells D.moment) disks.old.items disks.new.items n }
 
     // Recovery is a function of what the disks read.
@@ -148,7 +148,7 @@ pub fn taurus<R: Threads + Wait + Sync, S: Source, K: Sink + Send, D: Disk + Sen
     ensures before_disks { is_before_disks result ≡ true → disks.new.items ≡ disks.old.items }
 
     ensures bad_text_untouched { S.tells → reads_source (served (map string_bytes words.now)) ≡ true → (fault : TextFault) → HasFault (S.left source.old) fault → disks.new.items ≡ disks.old.items }
-    ensures not_empty_untouched { (n m : ℕ) (mode : LogMode) (j long : ℕ) → served (map string_bytes words.now) ≡ Some (Command.Run n m mode) → j < n → D.tells → IsFirstLong D.seen disks.old.items j long →
+    ensures not_empty_untouched { (n m : ℕ) (mode : LogMode) (j long : ℕ) → served (map string_bytes words.now) ≡ Some (Command.Run n m mode false) → j < n → D.tells → IsFirstLong D.seen disks.old.items j long →
         EachUsed (OnlyRead D.tells D.seen D.may_leave D.moment D.may_leave_since) disks.old.items disks.new.items n }
     ensures asked { (j long : ℕ) → result ≡ Status.NotEmpty j long → EachUsed (OnlyRead D.tells D.seen D.may_leave D.moment D.may_leave_since) disks.old.items disks.new.items (used_by (served (map string_bytes words.now))) }
     // A disk that fails comes before one that is not empty: each was asked, once, and none failed.
@@ -160,7 +160,7 @@ pub fn taurus<R: Threads + Wait + Sync, S: Source, K: Sink + Send, D: Disk + Sen
     ensures read { (n p : ℕ) → served (map string_bytes words.now) ≡ Some (Command.Recover n p) → EachUsed (OnlyRead D.tells D.seen D.may_leave D.moment D.may_leave_since) disks.old.items disks.new.items n }
 
     // Where nothing is amiss, the work is done.
-    ensures run_done { (n m : ℕ) (mode : LogMode) (load : Workload) → served (map string_bytes words.now) ≡ Some (Command.Run n m mode) →
+    ensures run_done { (n m : ℕ) (mode : LogMode) (load : Workload) → served (map string_bytes words.now) ≡ Some (Command.Run n m mode false) →
         S.tells → D.tells → HasWorkload (S.left source.old) load → AreEmpty D.tells D.seen disks.old.items n →
         (Rose (S.faults source.old) (S.faults source.new) → ⊥) → (Rose (K.faults sink.old) (K.faults sink.new) → ⊥) → ((j : ℕ) → j < n → RoseAt D.faults disks.old.items disks.new.items j → ⊥) →
         Member result (Status.Ok ∷ Status.NoMemory ∷ []) }

@@ -29,7 +29,7 @@ use Rattle.tau_engine.proofs.top.taurus.Goals as goal
 
 -- ---- a run
 
-asked : (g : Over) (c : goal.Joined-load g) → served (map string_bytes c.args.words.now) ≡ Some (Run c.in-Ok-Run.n c.in-Ok-Run.m c.in-Ok-Run.mode)
+asked : (g : Over) (c : goal.Joined-load g) → served (map string_bytes c.args.words.now) ≡ Some (Run c.in-Ok-Run.n c.in-Ok-Run.m c.in-Ok-Run.mode false)
 asked g c = command_of_run (served (map string_bytes c.args.words.now)) c.in-Ok-Run.field-0 c.in-Ok-Run.n c.in-Ok-Run.m c.in-Ok-Run.mode c.in-Ok-Run.ensures.ok c.in-Ok-Run.field-0-is
 
 used : (g : Over) (c : goal.Joined-load g) → c.in-Ok-Run.n ≡ used_by (served (map string_bytes c.args.words.now))
@@ -42,7 +42,7 @@ Says g c n m mode load =
 here : (g : Over) (c : goal.Joined-load g) → Says g c c.in-Ok-Run.n c.in-Ok-Run.m c.in-Ok-Run.mode c.in-Ok.load
 here g c = c.run.ensures.says
 
-says : (g : Over) (c : goal.Joined-load g) (n m : ℕ) (mode : LogMode) → served (map string_bytes c.args.words.now) ≡ Some (Run n m mode) → Says g c n m mode c.in-Ok.load
+says : (g : Over) (c : goal.Joined-load g) (n m : ℕ) (mode : LogMode) → served (map string_bytes c.args.words.now) ≡ Some (Run n m mode false) → Says g c n m mode c.in-Ok.load
 says g c n m mode words =
     let q = same_command (served (map string_bytes c.args.words.now)) c.in-Ok-Run.n c.in-Ok-Run.m c.in-Ok-Run.mode n m mode (asked g c) words in
     says_at g.D.Disk c.in-Ok-Run.n c.in-Ok-Run.m n m c.in-Ok-Run.mode mode c.in-Ok.load c.in-Ok.load c.args.disks.now.items c.run.new.disks.items g.K.Sink.tells (g.K.Sink.held c.args.sink.now) (g.K.Sink.held c.run.new.sink) (g.K.Sink.faults c.args.sink.now) (g.K.Sink.faults c.run.new.sink)
@@ -76,7 +76,7 @@ pub returns-in-Ok-clause-usage : goal.returns-in-Ok-clause-usage
 returns-in-Ok-clause-usage g c e = absurd (other_end c.run.result status.Usage (here g c).kind refl e)
 
 pub returns-in-Ok-clause-usage_told : goal.returns-in-Ok-clause-usage_told
-returns-in-Ok-clause-usage_told g c none = absurd (let f : None ≡ Some (Run c.in-Ok-Run.n c.in-Ok-Run.m c.in-Ok-Run.mode) = sym none ∙ asked g c in cc f)
+returns-in-Ok-clause-usage_told g c none = absurd (let f : None ≡ Some (Run c.in-Ok-Run.n c.in-Ok-Run.m c.in-Ok-Run.mode false) = sym none ∙ asked g c in cc f)
 
 pub returns-in-Ok-clause-read_fault : goal.returns-in-Ok-clause-read_fault
 returns-in-Ok-clause-read_fault g c e = absurd (other_end c.run.result status.ReadFault (here g c).kind refl e)
@@ -220,7 +220,7 @@ pub returns-in-Err-NoMemory-clause-anchors : goal.returns-in-Err-NoMemory-clause
 returns-in-Err-NoMemory-clause-anchors g c n m mode load words tells read threads worked = absurd worked
 
 pub returns-in-Err-Usage-clause-run : goal.returns-in-Err-Usage-clause-run
-returns-in-Err-Usage-clause-run g c n m mode load words tells read empty = absurd (let f : None ≡ Some (Run n m mode) = sym (c.in-Err-Usage.ensures.usage (search rules)) ∙ words in cc f)
+returns-in-Err-Usage-clause-run g c n m mode load words tells read empty = absurd (let f : None ≡ Some (Run n m mode false) = sym (c.in-Err-Usage.ensures.usage (search rules)) ∙ words in cc f)
 
 pub returns-in-Err-clause-run : goal.returns-in-Err-clause-run
 returns-in-Err-clause-run g c n m mode load words tells read empty =
