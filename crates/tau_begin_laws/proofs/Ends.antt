@@ -8,7 +8,8 @@ use Rattle.tau_block.specs.declared.content.Content.{Content}
 use Rattle.tau_scan.specs.Contents.{bytes_in}
 use Rattle.tau_open.specs.declared.start.StreamStart.{StreamStart}
 use Rattle.tau_open.specs.Reopening.{started}
-use Rattle.tau_run.specs.Start.{Start, catalogue_of, epoch_record as epoch_of, given_first, opened_with}
+use Rattle.tau_scan.specs.Given.{epoch_record as epoch_of}
+use Rattle.tau_run.specs.Start.{Start, catalogue_of, given_first, opened_with}
 use Rattle.tau_begin.specs.Given.{epoch_record, given_after}
 
 same_epoch : (k : ℕ) (lv : List ℕ) → epoch_record k lv ≡ epoch_of k lv

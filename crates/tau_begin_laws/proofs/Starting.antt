@@ -1,5 +1,5 @@
 -- A run that was opened begins as a run may begin.
-use Rattle.std.proofs.Common.{ℕ, ◌+◌, Bool, true, false, ◌≡◌, ◌⊎◌, inl, inr, List, [], map, length, Option, Some, Ok, refl, sym, ap, subst, ◌∙◌}
+use Rattle.std.proofs.Common.{ℕ, ◌+◌, Bool, true, false, ◌≡◌, ◌⊎◌, inl, inr, List, [], map, length, Option, Some, Ok, refl, sym, ap, subst, ◌∙◌, arith}
 use Rattle.std.specs.List.{AllZip}
 use Rattle.std.specs.Prelude.{if◌then◌else◌}
 use Rattle.tau_base.specs.declared.format.Format.{Format}
@@ -73,7 +73,7 @@ module _ {D : Type 0} (G : Ghosts D) (f : Format) (load : Workload) (disks : Lis
           redone = (rows.order, rows.is_order, refl);
           declared = declared;
           epoch = next_is;
-          small = b.begins.small;
+          small = (let small = b.begins.small in omega (arith, small));
           places = b.begins.places;
         };
         opening = record {

@@ -22,6 +22,7 @@ use Rattle.tau_text.specs.Alone.{declarations_of}
 use Rattle.tau_text.specs.Canonical.{declarations_text}
 use Rattle.tau_scan.specs.Reading.{text_of, catalogue_of as text_in, declared_by, or_none, first_undeclared, catalogue_in, IsReading}
 use Rattle.tau_scan.specs.Epochs.{mark_of, marks_in, marks_from, marks_of}
+use Rattle.tau_scan.specs.Given.{epoch_record}
 use Rattle.tau_scan.specs.Taken.{kept_in, taken_in}
 use Rattle.tau_scan.proofs.Streams.{map_get}
 use Rattle.tau_epoch_laws.specs.Continues.{none_in}
@@ -29,7 +30,7 @@ use Rattle.tau_epoch_laws.proofs.Contents.{Holds, holds, catalogue_ok}
 use Rattle.tau_epoch_laws.proofs.Grown.{no_mark}
 use Rattle.tau_epoch_laws.proofs.Judging.{up_to_largest}
 use Rattle.tau_epoch_laws.proofs.Taken.{epoch_is}
-use Rattle.tau_run.specs.Start.{Start, catalogue_of, epoch_record, given_first, opened_with, old_at, opened_at, IsStart}
+use Rattle.tau_run.specs.Start.{Start, catalogue_of, given_first, opened_with, old_at, opened_at, IsStart}
 use Rattle.tau_run.proofs.Spelled.{begun}
 use Rattle.tau_run.proofs.Reading.{IsCatalogue, first_placed, catalogue_content, catalogue_long, declared_append}
 
@@ -280,7 +281,7 @@ module _ (f : Format) (n : ℕ) (load : Workload) (start : Start) (b : IsStart f
 
   module _ (is : IsCatalogue load) where
     pub opened_content : (j : ℕ) → j < n → IsContent f n (opened_at load start j) (first_ps j)
-    opened_content j lt = opened_reads f n load start (old_at start j) (ps_at j) is b.small elv_wide b.places (read_at j lt).spelled (last_low j)
+    opened_content j lt = opened_reads f n load start (old_at start j) (ps_at j) is (let small = b.small in omega (arith, small)) elv_wide b.places (read_at j lt).spelled (last_low j)
 
     pub opened_text : (j : ℕ) → j < n → text_in (first_ps j) ≡ Some text
     opened_text j lt = elim (empty_or_declared j lt) [

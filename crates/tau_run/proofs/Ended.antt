@@ -92,6 +92,10 @@ module _ (n m : ℕ) (mode : LogMode) (load : Workload) (l : Load) (K : List (Ac
       let mine : Member (pair_of (ticket t)) (filter (λ (a : ℕ × List ℕ). worker_of l.workers a.0 == w) run.acks) = subst (λ (xs : List (ℕ × List ℕ)). Member (pair_of (ticket t)) xs) (sym (is.acks w)) (map_member pair_of (ticket t) (s.acked w) q) in
       any_true (λ (a : ℕ × List ℕ). a.0 == number_of t) (pair_of (ticket t)) run.acks (member_filtered (λ (a : ℕ × List ℕ). worker_of l.workers a.0 == w) (pair_of (ticket t)) run.acks mine).0 (eq-eqb (number_of t) (number_of t) refl)
 
+  -- what a stream has begins with what it held first
+  pub opened_is : (j : ℕ) (content : List ℕ) → slice_get run.contents j ≡ Some content → take (length (opened_at load run.start j)) content ≡ opened_at load run.start j
+  opened_is j content e = let g = is.given j content e in ap (take (length (opened_at load run.start j))) g.is ∙ take-append_seam (opened_at load run.start j) g.bytes
+
   module _ (over : IsOver n s) where
     -- the call has ended, and is pending or acknowledged
     covered_acked : (t : Act Txn) → Member t K → covers s.plv (lv_of t) ≡ true → has_ack run (number_of t) ≡ true
@@ -165,7 +169,3 @@ module _ (n m : ℕ) (mode : LogMode) (load : Workload) (l : Load) (K : List (Ac
         whole_front xs ys k e long =
             let short : length xs ≡ min k (length ys) = ap length e ∙ length-take k ys in
             e ∙ take_all k ys (omega (arith, short, long))
-
-    -- what a stream has begins with what it held first
-    pub opened_is : (j : ℕ) (content : List ℕ) → slice_get run.contents j ≡ Some content → take (length (opened_at load run.start j)) content ≡ opened_at load run.start j
-    opened_is j content e = let g = is.given j content e in ap (take (length (opened_at load run.start j))) g.is ∙ take-append_seam (opened_at load run.start j) g.bytes

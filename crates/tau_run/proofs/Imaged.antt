@@ -28,9 +28,10 @@ module _ (n m : ℕ) (mode : LogMode) (load : Workload) (l : Load) (K : List (Ac
       IsImaged n mode load unborn past run
   imaged unborn left =
       let w = contents_law n m mode load l K s run c is in record {
-        whole = w.0;
-        reads = w.1;
-        records = w.2;
+        opened = w.0;
+        whole = w.1.0;
+        reads = w.1.1;
+        records = w.1.2;
         each = λ u images from. images_law n m mode load l K s run c is (left u).0 images from.0 (λ j image e. (left u).1 j image (within images j image from.0 e) (from.1 j image e));
       }
 
@@ -62,6 +63,5 @@ module _ (n m : ℕ) (mode : LogMode) (load : Workload) (l : Load) (K : List (Ac
           acked = law.0;
           uncovered = λ d q j lt gap. (let at = law.1 d q j lt gap in leaves.stopped j at.0 at.1);
           flushed = λ j x lt none q. (let p = leaves.present j x lt q in law.2 j lt (going j none) x p.0 p.1 p.2);
-          opened = law.3;
           all = λ none. complete (λ j lt. going j (none j lt));
         })

@@ -1,7 +1,8 @@
 -- Runs and stops, one after another.
-use Rattle.std.proofs.Common.{ℕ, ◌+◌, ◌<◌, Bool, true, false, ◌≡◌, ◌⊎◌, inl, inr, List, [], ◌∷◌, ◌++◌, map, length, Result, Ok, refl, sym, ap, subst, ◌∙◌, arith}
-use Rattle.std.specs.Prelude.{◌&&◌, ◌==◌, ◌^◌, Some}
+use Rattle.std.proofs.Common.{ℕ, ◌+◌, ◌≤◌, ◌<◌, Bool, true, false, ◌≡◌, ◌⊎◌, inl, inr, List, [], ◌∷◌, ◌++◌, map, length, Result, Ok, refl, sym, ap, subst, ◌∙◌, arith}
+use Rattle.std.specs.Prelude.{◌&&◌, ◌==◌, Some}
 use Rattle.std.specs.List.{filter, list_any, AllZip}
+use Rattle.tau_base.specs.declared.limits.TheConstants.{LAST_EPOCH}
 use Rattle.tau_base.specs.declared.format.Format.{Format}
 use Rattle.tau_base.specs.Database.{Db, empty_db, written}
 use Rattle.tau_base.specs.Modes.{format_of}
@@ -34,10 +35,12 @@ use Rattle.tau_epoch_laws.proofs.Chain.{goes_on}
 use Rattle.tau_epoch_laws.proofs.Contents.{holds, same_declared}
 use Rattle.tau_epoch_laws.proofs.Grown.{none_or_some}
 use Rattle.tau_epoch_laws.proofs.Judged.{old_judged}
+use Rattle.tau_epoch_laws.proofs.Listed.{old_listed}
 use Rattle.tau_epoch_laws.proofs.Parts.{filter_none}
 use Rattle.tau_epoch_laws.proofs.Stays.{none_taken}
 use Rattle.tau_run.specs.Laws.{LivesAreSound, LivesAreRecovered, RunsMayGoOn, LivesAreOne, LeftOutForGood, LivesAreMarked}
-use Rattle.tau_run.specs.Lives.{Life, IsLife, AreLives, last_contents, last_log, taken_calls, all_taken, AreMarked}
+use Rattle.tau_epoch_laws.specs.Marked.{AreMarked}
+use Rattle.tau_run.specs.Lives.{Life, IsLife, AreLives, last_contents, last_log, taken_calls, all_taken}
 use Rattle.tau_run.specs.RecoveredFacts.{takes, IsRecovered}
 use Rattle.tau_run.specs.Run.{Committed, told_of, means}
 use Rattle.tau_run.proofs.Lists.{map_member}
@@ -115,10 +118,10 @@ module _ (f : Format) (n : ℕ) (old : List (List ℕ)) (log : Log) (base : Db) 
   pub life_goes_on : (more : List (List Placed)) × Continues log more x.log
   life_goes_on = (cut.made.more, subst (λ (g : Log). Continues g cut.made.more x.log) same_log (subst (λ (g : Log). Continues x.run.start.log cut.made.more g) cut_same cut.made.goes_on))
 
-  pub life_marked : AreMarked log → AreMarked x.log
+  pub life_marked : AreMarked log.streams → AreMarked x.log.streams
   life_marked marked =
-      subst AreMarked cut_same
-      (marked_after life.stands_on x.load x.run.start n life.course.begins life.joined life.state life.course.inv life.course.load_is.streams cut.contents cut.long cut.made sound_start.fit (subst AreMarked (sym same_log) marked))
+      subst (λ (g : Log). AreMarked g.streams) cut_same
+      (marked_after life.stands_on x.load x.run.start n life.course.begins life.joined life.state life.course.inv life.course.load_is.streams cut.contents cut.long cut.made sound_start.fit (subst (λ (g : Log). AreMarked g.streams) (sym same_log) marked))
 
   -- nothing of the run is taken where nothing came after the old records
   no_call : none_in cut.made.more → (d : Committed) → Member d x.run.calls → takes cut.made.log d ≡ true → ⊥
@@ -169,11 +172,11 @@ module _ (f : Format) (n : ℕ) (old : List (List ℕ)) (log : Log) (base : Db) 
       (subst (λ (c : List (List ℕ)). AllZip (IsReading f n) c cut.made.log.streams) cut_contents (subst (λ (k : Format). AllZip (IsReading k n) cut.contents cut.made.log.streams) own_format cut.made.read))
 
   -- the next run may begin on it
-  module _ (load : Workload) (declares : declarations_text load.declarations ≡ declarations_text x.load.declarations) (small : largest (marks_of x.log) + 1 < 2 ^ 32) (places : ArePlaces x.log.elv) where
+  module _ (load : Workload) (declares : declarations_text load.declarations ≡ declarations_text x.load.declarations) (small : largest (marks_of x.log) < LAST_EPOCH) (places : ArePlaces x.log.elv) where
     abbrev on : ℕ → Start
     on epoch = record { old = x.contents; log = x.log; base = exec (means x.load.declarations.procs) (taken_calls x) base; epoch = epoch }
 
-    begins_on : (epoch : ℕ) → (none_in x.log.streams × (epoch ≡ 0)) ⊎ ((none_in x.log.streams → ⊥) × (epoch ≡ largest (marks_of x.log) + 1)) → epoch < 2 ^ 32 → IsStart f n load (on epoch)
+    begins_on : (epoch : ℕ) → (none_in x.log.streams × (epoch ≡ 0)) ⊎ ((none_in x.log.streams → ⊥) × (epoch ≡ largest (marks_of x.log) + 1)) → epoch ≤ LAST_EPOCH → IsStart f n load (on epoch)
     begins_on epoch is low =
         let s = life_sound in
         let first = s.redone.ordered in
@@ -191,7 +194,7 @@ module _ (f : Format) (n : ℕ) (old : List (List ℕ)) (log : Log) (base : Db) 
     pub may_go_on : (start : Start) × IsStart f n load start × (start.old ≡ x.contents) × (start.base ≡ exec (means x.load.declarations.procs) (taken_calls x) base)
     may_go_on = elim (none_or_some x.log.streams) [
       | inl none ↦ (on 0, begins_on 0 (inl (none, refl)) (omega arith), refl, refl)
-      | inr some ↦ (on (largest (marks_of x.log) + 1), begins_on (largest (marks_of x.log) + 1) (inr (some, refl)) small, refl, refl)
+      | inr some ↦ (on (largest (marks_of x.log) + 1), begins_on (largest (marks_of x.log) + 1) (inr (some, refl)) (omega (arith, small)), refl, refl)
     ]
 
 -- ---- any number of them
@@ -224,7 +227,9 @@ pub left_out : LeftOutForGood
 left_out f n old log base sound x xs lives =
     let more = lives_go_on f n old log base sound x xs lives in
     let last = lives_sound f n old log base sound (x ∷ xs) lives in
-    (more.0, more.1, λ j i ps e lt. old_judged f old (last_contents old (x ∷ xs)) log more.0 (last_log log (x ∷ xs)) sound.reads sound.fit last.reads more.1 j i ps e lt)
+    let after : List (List ℕ) = last_contents old (x ∷ xs) in
+    let whole : Log = last_log log (x ∷ xs) in
+    (more.0, more.1, old_listed f old after log more.0 whole sound.reads sound.fit last.reads more.1, λ j i ps e lt. old_judged f old after log more.0 whole sound.reads sound.fit last.reads more.1 j i ps e lt)
 
 pub runs_go_on : RunsMayGoOn
 runs_go_on f n old log base sound x life load declares small places = may_go_on f n old log base sound x life load declares small places

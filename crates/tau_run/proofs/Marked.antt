@@ -1,12 +1,12 @@
 -- Where the epochs stand of a log that a run and a stop left.
-use Rattle.std.proofs.Common.{ℕ, zero, suc, ◌≤◌, ◌<◌, ◌≡◌, ◌⊎◌, inl, inr, List, [], ◌∷◌, ◌++◌, map, length, replicate, refl, sym, ap, subst, ◌∙◌, arith, slice_index}
+use Rattle.std.proofs.Common.{ℕ, zero, suc, ◌≤◌, ◌<◌, ◌≡◌, ◌⊎◌, inl, inr, List, [], ◌∷◌, ◌++◌, map, length, replicate, refl, sym, ap, subst, ◌∙◌, arith, slice_index, append_assoc}
+use Rattle.std.proofs.lemmas.List.{append-nil}
 use Rattle.std.specs.Prelude.{Some, slice_get, slice_index_or}
 use Rattle.tau_base.specs.Modes.{format_of}
 use Rattle.tau_base.specs.Vectors.{AtMost}
 use Rattle.tau_base.proofs.Lists.{some_at, got_or, got_within}
 use Rattle.tau_base.proofs.Logic.{some_is}
 use Rattle.tau_model.specs.History.{Act, Member}
-use Rattle.tau_model.proofs.Orders.{member_front, member_back}
 use Rattle.tau_machine.specs.Hands.{Txn}
 use Rattle.tau_machine.specs.Invariant.{Invariant}
 use Rattle.tau_machine.specs.State.{Core}
@@ -15,85 +15,75 @@ use Rattle.tau_record.specs.declared.entry.Placed.{Placed}
 use Rattle.tau_core.specs.declared.state.Load.{Load}
 use Rattle.tau_core.specs.View.{setting_of}
 use Rattle.tau_epoch.specs.Epochs.{Mark}
-use Rattle.tau_scan.specs.Epochs.{mark_of, marks_in, marks_from, marks_of}
+use Rattle.tau_scan.specs.Epochs.{marks_from, marks_of}
 use Rattle.tau_scan.specs.Sound.{MarksFit}
+use Rattle.tau_epoch_laws.specs.Marked.{last_past, HasEpochThere, AreMarked}
+use Rattle.tau_epoch_laws.proofs.Contents.{AreStreams}
 use Rattle.tau_epoch_laws.proofs.Grown.{mark_in}
-use Rattle.tau_epoch_laws.proofs.Parts.{in_either}
+use Rattle.tau_epoch_laws.proofs.Records.{Stand}
 use Rattle.tau_run.specs.Start.{Start, old_at, catalogue_of, IsStart}
-use Rattle.tau_run.specs.Lives.{epoch_place, HasEpochAt, AreMarked}
 use Rattle.tau_run.specs.Laws.{FreshMarked}
-use Rattle.tau_run.proofs.Begins.{streams_wide, elv_at, number_low, empty_or_declared, given_placed, epoch_placed, own_mark, given_mark}
-use Rattle.tau_run.proofs.Logs.{LogOf, length_at}
-use Rattle.tau_run.proofs.Reading.{no_marks_of, first_placed}
+use Rattle.tau_run.proofs.Begins.{held, streams_wide, elv_at, number_low, empty_or_declared, given_placed, epoch_placed, own_mark}
+use Rattle.tau_run.proofs.Logs.{LogOf}
+use Rattle.tau_run.proofs.Reading.{first_placed}
 use Rattle.tau_run.proofs.Spelled.{placed_in}
 use Rattle.tau_run.proofs.Streams.{IsMore}
 
--- the mark of a record is one of its stream
-mark_member : (ps : List Placed) (p : Placed) (m : Mark) → Member p ps → mark_of p.entry ≡ m ∷ [] → Member m (marks_in ps)
-mark_member [] p m h e = absurd h
-mark_member (q ∷ ps) p m (inl same) e =
-    member_front m (mark_of q.entry) (marks_in ps) (subst (λ (ms : List Mark). Member m ms) (sym (ap (λ (x : Placed). mark_of x.entry) same ∙ e)) (inl refl))
-mark_member (q ∷ ps) p m (inr h) e = member_back m (mark_of q.entry) (marks_in ps) (mark_member ps p m h e)
-
--- records after those of a stream that has some change no place
-place_kept : (ps ms : List Placed) (p : Placed) (at : ℕ) → Member p ps → epoch_place (ps ++ ms) at ≡ epoch_place ps at
-place_kept [] ms p at h = absurd h
-place_kept (q ∷ ps) ms p zero h = refl
-place_kept (q ∷ ps) ms p (suc k) h = refl
-
-kept_there : (ps ms : List Placed) (number at : ℕ) → HasEpochAt ps number at → HasEpochAt (ps ++ ms) number at
-kept_there ps ms number at h = record {
-  placed = h.placed;
-  mark = h.mark;
-  there = member_front h.placed ps ms h.there;
+-- an epoch that stands in a stream still does with records after it
+kept_there : (m : Mark) (j : ℕ) (ps ms : List Placed) → HasEpochThere m j ps → HasEpochThere m j (ps ++ ms)
+kept_there m j ps ms h = record {
+  before = h.before;
+  epoch = h.epoch;
+  after = h.after ++ ms;
+  parts = ap (λ (qs : List Placed). qs ++ ms) h.parts ∙ append_assoc h.before (h.epoch ∷ h.after) ms;
+  number = h.number;
+  lv = h.lv;
   is = h.is;
-  start = h.start ∙ sym (place_kept ps ms h.placed at h.there);
-  high = h.high;
+  later = h.later;
+  found = h.found;
+  at_once = h.at_once;
 }
 
--- the epoch record of a run, in a stream that held this
-own_epoch : (load : Workload) (number : ℕ) (lv : List ℕ) (at past : ℕ) (ps ms : List Placed) → 1 ≤ number → at ≡ epoch_place (ps ++ (epoch_placed number lv at ++ ms)) past → HasEpochAt (ps ++ (epoch_placed number lv at ++ ms)) number past
-own_epoch load zero lv at past ps ms low place = absurd (omega (arith, low))
-own_epoch load (suc k) lv at past ps ms low place =
-    let all : List Placed = epoch_placed (suc k) lv at ++ ms in
-    record { placed = _; mark = record { number = suc k; lv = lv }; there = member_back _ ps all (inl refl); is = refl; start = place; high = omega arith }
+-- the epoch record of a run, after these records
+own_epoch : (m : Mark) (j number : ℕ) (lv : List ℕ) (at : ℕ) (before ms : List Placed) → 1 ≤ number → m.number ≤ number → slice_index lv j ≡ slice_index m.lv j →
+    (at ≡ slice_index m.lv j) ⊎ ((slice_index m.lv j ≡ 0) × (length before ≡ 1)) → HasEpochThere m j (before ++ (epoch_placed number lv at ++ ms))
+own_epoch m j zero lv at before ms low later found at_once = absurd (omega (arith, low))
+own_epoch m j (suc k) lv at before ms low later found at_once =
+    record { before = before; epoch = _; after = ms; parts = refl; number = suc k; lv = lv; is = refl; later = later; found = found; at_once = at_once }
 
-epoch_there : (load : Workload) (start : Start) (old : List ℕ) (ps ms : List Placed) → 1 ≤ start.epoch → ((old ≡ []) × (ps ≡ [])) ⊎ (1 ≤ length old) → HasEpochAt (ps ++ (given_placed load start old ++ ms)) start.epoch (length old)
-epoch_there load start [] ps ms low (inl none) =
-    let cat : Placed = first_placed load in
-    let rest : List Placed = epoch_placed start.epoch start.log.elv (length (catalogue_of load)) ++ ms in
-    subst (λ (qs : List Placed). HasEpochAt (qs ++ (cat ∷ rest)) start.epoch 0) (sym none.1)
-    (own_epoch load start.epoch start.log.elv (length (catalogue_of load)) 0 (cat ∷ []) ms low refl)
-epoch_there load start [] ps ms low (inr some) = absurd (omega (arith, some))
-epoch_there load start (b ∷ bytes) ps ms low either = own_epoch load start.epoch start.log.elv (length (b ∷ bytes)) (length (b ∷ bytes)) ps ms low refl
-
--- and no other record that a run gives first has a mark
-epoch_at : (number : ℕ) (lv : List ℕ) (at : ℕ) (p : Placed) → Member p (epoch_placed number lv at) → p.start ≡ at
-epoch_at zero lv at p h = absurd h
-epoch_at (suc k) lv at p (inl e) = ap (λ (q : Placed). q.start) (sym e)
-epoch_at (suc k) lv at p (inr h) = absurd h
-
-given_place : (load : Workload) (start : Start) (old : List ℕ) (ps ms : List Placed) (p : Placed) (m : Mark) → ((old ≡ []) × (ps ≡ [])) ⊎ (1 ≤ length old) → Member p (given_placed load start old) → mark_of p.entry ≡ m ∷ [] →
-    p.start ≡ epoch_place (ps ++ (given_placed load start old ++ ms)) (length old)
-given_place load start [] ps ms p m (inr some) h e = absurd (omega (arith, some))
-given_place load start [] ps ms p m (inl none) (inl same) e = absurd (let f = ap (λ (q : Placed). mark_of q.entry) same ∙ e in cc f)
-given_place load start [] ps ms p m (inl none) (inr h) e =
+-- it stands where a stream that held this ended, or after the catalogue
+epoch_there : (m : Mark) (j : ℕ) (load : Workload) (start : Start) (old : List ℕ) (ps ms : List Placed) → 1 ≤ start.epoch → m.number ≤ start.epoch → slice_index start.log.elv j ≡ slice_index m.lv j → slice_index m.lv j ≡ length old →
+    ((old ≡ []) × (ps ≡ [])) ⊎ (1 ≤ length old) → HasEpochThere m j (ps ++ (given_placed load start old ++ ms))
+epoch_there m j load start [] ps ms low later found at (inl none) =
     let rest : List Placed = given_placed load start [] ++ ms in
-    epoch_at start.epoch start.log.elv (length (catalogue_of load)) p h ∙ ap (λ (qs : List Placed). epoch_place (qs ++ rest) 0) (sym none.1)
-given_place load start (b ∷ bytes) ps ms p m either h e = epoch_at start.epoch start.log.elv (length (b ∷ bytes)) p h
+    subst (λ (qs : List Placed). HasEpochThere m j (qs ++ rest)) (sym none.1) (own_epoch m j start.epoch start.log.elv (length (catalogue_of load)) (first_placed load ∷ []) ms low later found (inr (at, refl)))
+epoch_there m j load start [] ps ms low later found at (inr some) = absurd (omega (arith, some))
+epoch_there m j load start (b ∷ bytes) ps ms low later found at either = own_epoch m j start.epoch start.log.elv (length (b ∷ bytes)) ps ms low later found (inl (sym at))
+
+-- the records of a stream end where its content ends
+stand_last : (at end : ℕ) (ps : List Placed) → Stand at end ps → last_past at ps ≡ end
+stand_last at end [] h = h
+stand_last at end (p ∷ ps) h = stand_last p.past end ps h.2
+
+streams_end : (contents : List (List ℕ)) (streams : List (List Placed)) (j : ℕ) → AreStreams contents streams → last_past 0 (slice_index_or streams j []) ≡ length (slice_index_or contents j [])
+streams_end [] [] j are = refl
+streams_end [] (ps ∷ streams) j are = absurd are
+streams_end (content ∷ contents) [] j are = absurd are
+streams_end (content ∷ contents) (ps ∷ streams) zero are = stand_last 0 (length content) ps are.0.stand
+streams_end (content ∷ contents) (ps ∷ streams) (suc j) are = streams_end contents streams j are.1
 
 module _ (l : Load) (load : Workload) (start : Start) (n : ℕ) (b : IsStart (format_of l.mode) n load start) (K : List (Act Txn)) (s : Core) (inv : Invariant (setting_of l) K s) (width : l.streams ≡ n)
-    (contents : List (List ℕ)) (count : length contents ≡ n) (made : LogOf l load start K s inv n width contents) (fit : MarksFit start.log) (marked : AreMarked start.log) where
+    (contents : List (List ℕ)) (count : length contents ≡ n) (made : LogOf l load start K s inv n width contents) (fit : MarksFit start.log) (marked : AreMarked start.log.streams) where
   abbrev olds : ℕ → List Placed
   olds j = slice_index_or start.log.streams j []
 
-  either_mark : (m : Mark) → Member m (marks_of made.log) → Member m (marks_of start.log) ⊎ ((m ≡ own_mark start) × (1 ≤ start.epoch))
+  either_mark : (m : Mark) → Member m (marks_from made.log.streams) → Member m (marks_of start.log) ⊎ ((m ≡ own_mark start) × (1 ≤ start.epoch))
   either_mark m h = elim (mark_in start.log.streams made.more made.log.streams made.goes_on.streams m h) [ inl p ↦ inl p | inr p ↦ inr (made.marks m p) ]
 
   low_mark : (m : Mark) → Member m (marks_of start.log) → m.number < start.epoch
   low_mark m h = number_low (format_of l.mode) n load start b m h
 
-  rise : (x y : Mark) → Member x (marks_of made.log) → Member y (marks_of made.log) → x.number < y.number → AtMost x.lv y.lv
+  rise : (x y : Mark) → Member x (marks_from made.log.streams) → Member y (marks_from made.log.streams) → x.number < y.number → AtMost x.lv y.lv
   rise x y hx hy lt = elim (either_mark x hx) [
     | inl p ↦ elim (either_mark y hy) [
       | inl q ↦ marked.rise x y p q lt
@@ -112,7 +102,6 @@ module _ (l : Load) (load : Workload) (start : Start) (n : ℕ) (b : IsStart (fo
     pub ms : List Placed
     pub got : slice_get start.log.streams j ≡ Some (olds j)
     pub whole : ps ≡ olds j ++ ms
-    pub elv : slice_index made.log.elv j ≡ length content
     pub is_more : IsMore l load start j content ms
     pub empty : ((old_at start j ≡ []) × (olds j ≡ [])) ⊎ (1 ≤ length (old_at start j))
 
@@ -128,70 +117,45 @@ module _ (l : Load) (load : Workload) (start : Start) (n : ℕ) (b : IsStart (fo
         ms = r.0;
         got = h.1 ∙ ap (λ (qs : List Placed). Some qs) (sym (got_or start.log.streams j h.0 [] h.1));
         whole = some_is ps (olds j ++ r.0) (sym e ∙ r.1);
-        elv = ap (λ (v : List ℕ). slice_index v j) made.elv ∙ length_at contents j c.0 c.1;
         is_more = r.2.is_more;
         empty = elim (empty_or_declared (format_of l.mode) n load start b j low) [ inl z ↦ inl z | inr z ↦ inr z.0 ];
       }
 
-  here_or_after : (j : ℕ) (ps : List Placed) (p : Placed) → (q : Part j ps) → Member p ps → Member p (olds j) ⊎ Member p q.ms
-  here_or_after j ps p q h = in_either p (olds j) q.ms (subst (λ (qs : List Placed). Member p qs) q.whole h)
+  old_end : (j : ℕ) → last_past 0 (olds j) ≡ length (old_at start j)
+  old_end j = streams_end start.old start.log.streams j (held (format_of l.mode) n load start b).streams
 
-  place : (j : ℕ) (ps : List Placed) → slice_get made.log.streams j ≡ Some ps → (p : Placed) (m : Mark) → Member p ps → mark_of p.entry ≡ m ∷ [] → p.start ≡ epoch_place ps (slice_index m.lv j)
-  place j ps e p m h is = place_in j ps p m (part_of j ps e) h is
-    where
-      after : (j : ℕ) (ps : List Placed) (p : Placed) (m : Mark) (q : Part j ps) → mark_of p.entry ≡ m ∷ [] → Member p q.ms → IsMore l load start j q.content q.ms → p.start ≡ epoch_place ps (slice_index m.lv j)
-      after j ps p m q is h (inl none) = absurd (subst (λ (qs : List Placed). Member p qs) none.0 h)
-      after j ps p m q is h (inr new) =
-          let given : List Placed = given_placed load start (old_at start j) in
-          let items : List Placed = map (placed_in l.mode) new.0 in
-          elim (in_either p given items (subst (λ (qs : List Placed). Member p qs) new.1 h)) [
-            | inl first ↦
-                let own = given_mark load start (old_at start j) m (mark_member given p m first is) in
-                let at : slice_index m.lv j ≡ length (old_at start j) = ap (λ (k : Mark). slice_index k.lv j) own.0 ∙ elv_at (format_of l.mode) n load start b j q.low in
-                given_place load start (old_at start j) (olds j) items p m q.empty first is ∙ ap (λ (qs : List Placed). epoch_place (olds j ++ qs) (length (old_at start j))) (sym new.1)
-                ∙ ap (λ (qs : List Placed). epoch_place qs (length (old_at start j))) (sym q.whole) ∙ ap (epoch_place ps) (sym at)
-            | inr later ↦ absurd (subst (λ (ms : List Mark). Member m ms) (no_marks_of l.mode new.0) (mark_member items p m later is))
-          ]
-
-      place_in : (j : ℕ) (ps : List Placed) (p : Placed) (m : Mark) → Part j ps → Member p ps → mark_of p.entry ≡ m ∷ [] → p.start ≡ epoch_place ps (slice_index m.lv j)
-      place_in j ps p m q h is = elim (here_or_after j ps p q h) [
-        | inl here ↦ marked.place j (olds j) q.got p m here is ∙ sym (place_kept (olds j) q.ms p (slice_index m.lv j) here) ∙ ap (λ (qs : List Placed). epoch_place qs (slice_index m.lv j)) (sym q.whole)
-        | inr there ↦ after j ps p m q is there q.is_more
-      ]
-
-  -- where the old log ended in a stream, it ends, or the run's epoch stands
-  next_own : (j : ℕ) (ps : List Placed) (q : Part j ps) → 1 ≤ start.epoch → IsMore l load start j q.content q.ms → (slice_index made.log.elv j ≤ slice_index start.log.elv j) ⊎ HasEpochAt ps start.epoch (slice_index start.log.elv j)
-  next_own j ps q low (inl none) = inl (let e = q.elv in let f = ap length none.1 in let g = elv_at (format_of l.mode) n load start b j q.low in omega (arith, e, f, g))
-  next_own j ps q low (inr new) =
+  -- where an epoch found the end of the old stream, the stream ends, or the run's epoch stands
+  next_own : (m : Mark) (j : ℕ) (ps : List Placed) (q : Part j ps) → 1 ≤ start.epoch → m.number ≤ start.epoch → slice_index start.log.elv j ≡ slice_index m.lv j → IsMore l load start j q.content q.ms →
+      (last_past 0 ps ≤ slice_index m.lv j) ⊎ HasEpochThere m j ps
+  next_own m j ps q low later found (inl none) =
+      let same : ps ≡ olds j = q.whole ∙ ap (λ (ms : List Placed). olds j ++ ms) none.0 ∙ append-nil (olds j) in
+      let end = ap (last_past 0) same in
+      let old = old_end j in
+      let at = elv_at (format_of l.mode) n load start b j q.low in
+      inl (omega (arith, end, old, at, found))
+  next_own m j ps q low later found (inr new) =
       let items : List Placed = map (placed_in l.mode) new.0 in
-      let there = epoch_there load start (old_at start j) (olds j) items low q.empty in
       let whole : olds j ++ (given_placed load start (old_at start j) ++ items) ≡ ps = ap (λ (ms : List Placed). olds j ++ ms) (sym new.1) ∙ sym q.whole in
-      inr (subst (λ (at : ℕ). HasEpochAt ps start.epoch at) (sym (elv_at (format_of l.mode) n load start b j q.low)) (subst (λ (qs : List Placed). HasEpochAt qs start.epoch (length (old_at start j))) whole there))
+      inr (subst (λ (qs : List Placed). HasEpochThere m j qs) whole (epoch_there m j load start (old_at start j) (olds j) items low later found (sym found ∙ elv_at (format_of l.mode) n load start b j q.low) q.empty))
 
-  lower_number : (ps : List Placed) (number other at : ℕ) → number ≤ other → HasEpochAt ps other at → HasEpochAt ps number at
-  lower_number ps number other at le h = record { placed = h.placed; mark = h.mark; there = h.there; is = h.is; start = h.start; high = (let up = h.high in omega (arith, le, up)) }
-
-  next : (m : Mark) → Member m (marks_of made.log) → (j : ℕ) (ps : List Placed) → slice_get made.log.streams j ≡ Some ps → (slice_index made.log.elv j ≤ slice_index m.lv j) ⊎ HasEpochAt ps m.number (slice_index m.lv j)
+  next : (m : Mark) → Member m (marks_from made.log.streams) → (j : ℕ) (ps : List Placed) → slice_get made.log.streams j ≡ Some ps → (last_past 0 ps ≤ slice_index m.lv j) ⊎ HasEpochThere m j ps
   next m h j ps e =
       let q = part_of j ps e in
       elim (either_mark m h) [
         | inl p ↦ elim (marked.next m p j (olds j) q.got) [
           | inl le ↦
               let up = fit m p j in
-              let at : slice_index start.log.elv j ≡ slice_index m.lv j = omega (arith, le, up) in
+              let old = old_end j in
+              let at = elv_at (format_of l.mode) n load start b j q.low in
               let lt = low_mark m p in
-              elim (next_own j ps q (omega (arith, lt)) q.is_more) [
-                | inl short ↦ inl (omega (arith, short, at))
-                | inr has ↦ inr (lower_number ps m.number start.epoch (slice_index m.lv j) (omega (arith, lt)) (subst (λ (x : ℕ). HasEpochAt ps start.epoch x) at has))
-              ]
-          | inr has ↦ inr (subst (λ (qs : List Placed). HasEpochAt qs m.number (slice_index m.lv j)) (sym q.whole) (kept_there (olds j) q.ms m.number (slice_index m.lv j) has))
+              next_own m j ps q (omega (arith, lt)) (omega (arith, lt)) (omega (arith, le, up, old, at)) q.is_more
+          | inr has ↦ inr (subst (λ (qs : List Placed). HasEpochThere m j qs) (sym q.whole) (kept_there m j (olds j) q.ms has))
         ]
-        | inr own ↦
-            subst (λ (k : Mark). (slice_index made.log.elv j ≤ slice_index k.lv j) ⊎ HasEpochAt ps k.number (slice_index k.lv j)) (sym own.0) (next_own j ps q own.1 q.is_more)
+        | inr own ↦ next_own m j ps q own.1 (let e = ap (λ (k : Mark). k.number) own.0 in omega (arith, e)) (ap (λ (k : Mark). slice_index k.lv j) (sym own.0)) q.is_more
       ]
 
-  pub marked_after : AreMarked made.log
-  marked_after = record { rise = rise; place = place; next = next }
+  pub marked_after : AreMarked made.log.streams
+  marked_after = record { rise = rise; next = next }
 
 -- ---- empty streams
 
@@ -199,14 +163,8 @@ none_marked : (n : ℕ) → marks_from (replicate n []) ≡ []
 none_marked zero = refl
 none_marked (suc n) = none_marked n
 
-none_placed : (n j : ℕ) (ps : List Placed) → slice_get (replicate n []) j ≡ Some ps → ps ≡ []
-none_placed zero j ps e = absurd cc
-none_placed (suc n) zero ps e = sym (some_is [] ps e)
-none_placed (suc n) (suc j) ps e = none_placed n j ps e
-
 pub fresh_marked : FreshMarked
 fresh_marked n = record {
   rise = λ a b h. absurd (subst (λ (ms : List Mark). Member a ms) (none_marked n) h);
-  place = λ j ps e p m h. absurd (subst (λ (qs : List Placed). Member p qs) (none_placed n j ps e) h);
   next = λ m h. absurd (subst (λ (ms : List Mark). Member m ms) (none_marked n) h);
 }

@@ -25,10 +25,14 @@ history_law n m mode load l K s run c is = history_is n m mode load l K s run c 
 
 pub contents_law : ContentsAreRecords
 contents_law n m mode load l K s run c is =
-    let w = whole n m mode load l K s run (declared n m mode load l K s run c) is in (
-      w.0,
-      subst (λ (k : LogMode). log_of_contents (format_of k) run.contents ≡ Ok w.0) c.load_is.mode_is w.1,
-      λ j lt. w.2 j lt ∙ ap (λ (k : LogMode). kept_in j (slice_index_or run.start.log.streams j []) ++ records_in k load run j) c.load_is.mode_is,
+    let course = declared n m mode load l K s run c in
+    let w = whole n m mode load l K s run course is in (
+      λ j content e. opened_is n m mode load l K s run course is j content e,
+      (
+        w.0,
+        subst (λ (k : LogMode). log_of_contents (format_of k) run.contents ≡ Ok w.0) c.load_is.mode_is w.1,
+        λ j lt. w.2 j lt ∙ ap (λ (k : LogMode). kept_in j (slice_index_or run.start.log.streams j []) ++ records_in k load run j) c.load_is.mode_is,
+      ),
     )
 
 pub images_law : ImagesAreRecovered
@@ -44,7 +48,6 @@ ends_law n m mode load l K s run c is over = (
   λ d q. acked_is n m mode load l K s run (declared n m mode load l K s run c) is over d q,
   λ d q j lt gap. uncovered_is n m mode load l K s run (declared n m mode load l K s run c) is over d q j lt gap,
   λ j lt going image bytes f reach. flushed_is n m mode load l K s run (declared n m mode load l K s run c) is over j lt going image bytes f reach,
-  λ j content e. opened_is n m mode load l K s run (declared n m mode load l K s run c) is over j content e,
 )
 
 pub lost_law : NothingIsLost

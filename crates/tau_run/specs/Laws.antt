@@ -1,5 +1,5 @@
 -- What holds of every run, whatever its events.
-use Rattle.std.specs.Prelude.{ℕ, ◌⊎◌, ◌==◌, map, false, ◌++◌, ◌∷◌, ◌<◌, ◌≤◌, ◌+◌, ◌≡◌, ◌^◌, ◌↔◌, true, List, [], length, take, slice_get, slice_index, slice_index_or, Some, None, Ok}
+use Rattle.std.specs.Prelude.{ℕ, ◌⊎◌, ◌==◌, map, false, ◌++◌, ◌∷◌, ◌<◌, ◌≤◌, ◌+◌, ◌≡◌, ◌↔◌, true, List, [], length, take, slice_get, slice_index, slice_index_or, Some, None, Ok}
 use Rattle.std.specs.List.{filter}
 use Rattle.tau_base.specs.declared.value.LogMode.{LogMode}
 use Rattle.tau_base.specs.Modes.{format_of, most_streams}
@@ -21,11 +21,14 @@ use Rattle.tau_core.specs.View.{setting_of, Hidden, core_of}
 use Rattle.tau_core.specs.Stands.{Stands}
 use Rattle.tau_scan.specs.declared.log.Log.{Log}
 use Rattle.tau_scan.specs.Reading.{log_of, log_of_contents}
-use Rattle.tau_scan.specs.Taken.{kept_in, is_taken_at}
+use Rattle.tau_scan.specs.Taken.{kept_in, taken, is_taken_at}
 use Rattle.tau_base.specs.declared.format.Format.{Format}
 use Rattle.tau_base.specs.Database.{Db}
+use Rattle.tau_base.specs.declared.limits.TheConstants.{LAST_EPOCH}
 use Rattle.tau_record.specs.declared.entry.Placed.{Placed}
 use Rattle.tau_epoch_laws.specs.Continues.{Continues}
+use Rattle.tau_epoch_laws.specs.Laws.{starts_in}
+use Rattle.tau_epoch_laws.specs.Marked.{AreMarked}
 use Rattle.tau_scan.specs.Sound.{fresh_log, IsSound}
 use Rattle.tau_run.specs.Start.{Start, fresh_start, catalogue_of, old_at, opened_at, IsStart}
 use Rattle.tau_run.specs.Run.{Committed, Run, means, pair_of, IsHistory, acts, records_in, has_ack, vector_of, AllAcked}
@@ -42,7 +45,7 @@ use Rattle.tau_text.specs.declared.load.Turn.{Turn}
 use Rattle.tau_machine.specs.Runs.{IsOpening}
 use Rattle.tau_run.specs.Turns.{Progress, IsWholeRun, IsPartOfRun}
 use Rattle.tau_run.specs.StopsLeave.{HasFront, IsLeft, IsOver}
-use Rattle.tau_run.specs.Lives.{Life, IsLife, AreLives, taken_calls, last_contents, last_log, all_taken, exec_lives, AreMarked}
+use Rattle.tau_run.specs.Lives.{Life, IsLife, AreLives, taken_calls, last_contents, last_log, all_taken, exec_lives}
 
 -- a workload that a text means is sound, where its procedures take its calls
 abbrev pub TextsAreSound : Type 0
@@ -71,10 +74,12 @@ CallsWait = (l : Load) (opening : Core) (events : List Event) (K : List (Act Txn
 abbrev pub RunIsHistory : Type 0
 RunIsHistory = (n m : ℕ) (mode : LogMode) (load : Workload) (l : Load) (K : List (Act Txn)) (s : Core) → (run : Run) → IsCourse n m mode load run.start l K s → IsRunOf n l K s load run → IsHistory n m load run
 
--- what the streams have can be read: the old records, and then those of the history, stream by stream
+-- What the streams have begins with what they held first, and can be read: the old records, and then those of the history,
+-- stream by stream.
 abbrev pub ContentsAreRecords : Type 0
 ContentsAreRecords = (n m : ℕ) (mode : LogMode) (load : Workload) (l : Load) (K : List (Act Txn)) (s : Core) → (run : Run) → IsCourse n m mode load run.start l K s → IsRunOf n l K s load run →
-    (log : Log) × (log_of_contents (format_of mode) run.contents ≡ Ok log) × ((j : ℕ) → j < n → kept_in j (slice_index_or log.streams j []) ≡ kept_in j (slice_index_or run.start.log.streams j []) ++ records_in mode load run j)
+    ((j : ℕ) (content : List ℕ) → slice_get run.contents j ≡ Some content → take (length (opened_at load run.start j)) content ≡ opened_at load run.start j) ×
+    ((log : Log) × (log_of_contents (format_of mode) run.contents ≡ Ok log) × ((j : ℕ) → j < n → kept_in j (slice_index_or log.streams j []) ≡ kept_in j (slice_index_or run.start.log.streams j []) ++ records_in mode load run j))
 
 -- Images of which each has what was there, or what the stream held first and the first of the items that were gathered,
 -- whatever the others have: what recovery finds of them, if what was there was sound.
@@ -91,16 +96,14 @@ AckedIsTaken = (n m : ℕ) (mode : LogMode) (load : Workload) (l : Load) (K : Li
     (log : Log) → log_of None images ≡ Ok log → (x : Act Committed) → Member x (acts load.declarations.procs run) → has_ack run x.call.number ≡ true →
     (updates x.effect ≡ true → takes log x.call ≡ true) × ((u : Act Committed) → Depends (acts load.declarations.procs run) x u → updates u.effect ≡ true → takes log u.call ≡ true)
 
--- At the end: a call is acknowledged exactly where it is persisted; where it is not, its stream was stopped; an image of
--- a stream that was not stopped has all of it; and each stream
--- begins with what it held first.
+-- At the end: a call is acknowledged exactly where it is persisted; where it is not, its stream was stopped; and an image
+-- of a stream that was not stopped has all of it.
 abbrev pub EndsWell : Type 0
 EndsWell = (n m : ℕ) (mode : LogMode) (load : Workload) (l : Load) (K : List (Act Txn)) (s : Core) → (run : Run) → IsCourse n m mode load run.start l K s → IsRunOf n l K s load run → IsOver n s →
     ((c : Committed) → Member c run.calls → (has_ack run c.number ≡ true) ↔ (covers s.plv (vector_of c) ≡ true)) ×
     ((c : Committed) → Member c run.calls → (j : ℕ) → j < n → slice_index s.plv j < slice_index (vector_of c) j → (end : ℕ) × ((s.streams j).stop ≡ Some end)) ×
     ((j : ℕ) → j < n → (s.streams j).stop ≡ None → (image bytes : List ℕ) → HasFront n j (opened_at load run.start j) l s bytes image → slice_index s.plv j ≤ length (opened_at load run.start j) + length bytes →
-    HasContent (format_of l.mode) n j (slice_index_or run.contents j []) image) ×
-    ((j : ℕ) (content : List ℕ) → slice_get run.contents j ≡ Some content → take (length (opened_at load run.start j)) content ≡ opened_at load run.start j)
+    HasContent (format_of l.mode) n j (slice_index_or run.contents j []) image)
 
 -- no event gives a call up
 abbrev pub KeepsCall : Event → Type 0
@@ -140,7 +143,7 @@ LivesAreRecovered = (f : Format) (n : ℕ) (old : List (List ℕ)) (log : Log) (
 -- calls that are taken. The run's number and the lengths must fit into a record.
 abbrev pub RunsMayGoOn : Type 0
 RunsMayGoOn = (f : Format) (n : ℕ) (old : List (List ℕ)) (log : Log) (base : Db) → IsSound f old log base → (x : Life) → IsLife f n old x →
-    (load : Workload) → declarations_text load.declarations ≡ declarations_text x.load.declarations → largest (marks_of x.log) + 1 < 2 ^ 32 → ArePlaces x.log.elv →
+    (load : Workload) → declarations_text load.declarations ≡ declarations_text x.load.declarations → largest (marks_of x.log) < LAST_EPOCH → ArePlaces x.log.elv →
     (start : Start) × IsStart f n load start × (start.old ≡ x.contents) × (start.base ≡ exec (means x.load.declarations.procs) (taken_calls x) base)
 
 -- all of them are one history, by the procedures that the log declares
@@ -148,19 +151,20 @@ abbrev pub LivesAreOne : Type 0
 LivesAreOne = (f : Format) (n : ℕ) (old : List (List ℕ)) (log : Log) (base : Db) → IsSound f old log base → (xs : List Life) → AreLives f n old xs →
     exec_lives xs base ≡ exec (means (last_log log xs).declarations.procs) (all_taken xs) base
 
--- the log that they leave goes on from the first one, and takes of its records what that one took: what is left out once is left out for good
+-- The log that they leave goes on from the first one, and takes of its records what that one took, record by record: what
+-- is left out once is left out for good.
 abbrev pub LeftOutForGood : Type 0
 LeftOutForGood = (f : Format) (n : ℕ) (old : List (List ℕ)) (log : Log) (base : Db) → IsSound f old log base → (x : Life) (xs : List Life) → AreLives f n old (x ∷ xs) →
-    (more : List (List Placed)) × Continues log more (last_log log (x ∷ xs)) ×
+    (more : List (List Placed)) × Continues log more (last_log log (x ∷ xs)) × (filter (starts_in log) (taken (last_log log (x ∷ xs))) ≡ taken log) ×
     ((j i : ℕ) (ps : List Placed) → slice_get log.streams j ≡ Some ps → i < length ps → is_taken_at (last_log log (x ∷ xs)) j i ≡ is_taken_at log j i)
 
 -- and its epochs stand as those of a log do that runs left
 abbrev pub LivesAreMarked : Type 0
-LivesAreMarked = (f : Format) (n : ℕ) (old : List (List ℕ)) (log : Log) (base : Db) → IsSound f old log base → AreMarked log → (xs : List Life) → AreLives f n old xs → AreMarked (last_log log xs)
+LivesAreMarked = (f : Format) (n : ℕ) (old : List (List ℕ)) (log : Log) (base : Db) → IsSound f old log base → AreMarked log.streams → (xs : List Life) → AreLives f n old xs → AreMarked (last_log log xs).streams
 
 -- those of empty streams do
 abbrev pub FreshMarked : Type 0
-FreshMarked = (n : ℕ) → AreMarked (fresh_log n)
+FreshMarked = (n : ℕ) → AreMarked (fresh_log n).streams
 
 -- A run may begin on streams that hold nothing, which are sound; then each stream is given the catalogue alone.
 abbrev pub FreshBegins : Type 0

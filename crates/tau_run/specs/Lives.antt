@@ -1,20 +1,16 @@
 -- Runs and stops, one after another: each run begins on what the stop of the one before it left.
-use Rattle.std.specs.Prelude.{ℕ, zero, suc, ◌<◌, ◌≤◌, ◌≡◌, ◌⊎◌, List, [], ◌∷◌, ◌++◌, length, slice_get, slice_index, Ok, Some}
+use Rattle.std.specs.Prelude.{ℕ, ◌≡◌, List, [], ◌∷◌, ◌++◌, length, slice_get, Ok, Some}
 use Rattle.std.specs.List.{filter}
 use Rattle.tau_base.specs.declared.format.Format.{Format}
 use Rattle.tau_base.specs.declared.value.LogMode.{LogMode}
 use Rattle.tau_base.specs.Database.{Db}
 use Rattle.tau_base.specs.Modes.{format_of}
-use Rattle.tau_base.specs.Vectors.{AtMost}
-use Rattle.tau_model.specs.History.{Act, Member, exec}
+use Rattle.tau_model.specs.History.{Act, exec}
 use Rattle.tau_machine.specs.Hands.{Txn}
 use Rattle.tau_machine.specs.State.{Core}
 use Rattle.tau_text.specs.declared.load.Workload.{Workload}
-use Rattle.tau_record.specs.declared.entry.Placed.{Placed}
 use Rattle.tau_core.specs.declared.state.Load.{Load}
-use Rattle.tau_epoch.specs.Epochs.{Mark}
 use Rattle.tau_scan.specs.declared.log.Log.{Log}
-use Rattle.tau_scan.specs.Epochs.{mark_of, marks_of}
 use Rattle.tau_scan.specs.Reading.{contents_of, log_of_contents}
 use Rattle.tau_run.specs.Start.{old_at, opened_at}
 use Rattle.tau_run.specs.Run.{Committed, Run, means}
@@ -74,33 +70,3 @@ all_taken (x ∷ xs) = taken_calls x ++ all_taken xs
 abbrev pub exec_lives : List Life → Db → Db
 exec_lives [] db = db
 exec_lives (x ∷ xs) db = exec_lives xs (exec (means x.load.declarations.procs) (taken_calls x) db)
-
--- ---- where the epochs stand
-
--- where the first record ends, which is the catalogue
-abbrev pub first_past : List Placed → ℕ
-first_past [] = 0
-first_past (p ∷ ps) = p.past
-
--- where an epoch record that has this position as its own component stands: there, or after the catalogue if it is 0
-abbrev pub epoch_place : List Placed → ℕ → ℕ
-epoch_place ps zero = first_past ps
-epoch_place ps (suc k) = suc k
-
--- the stream has a record of this epoch, at the place of such a component
-pub record HasEpochAt (ps : List Placed) (number at : ℕ) : Type 0 where
-  pub placed : Placed
-  pub mark : Mark
-  pub there : Member placed ps
-  pub is : mark_of placed.entry ≡ mark ∷ []
-  pub start : placed.start ≡ epoch_place ps at
-  pub high : number ≤ mark.number
-
--- How the epochs of a log stand that runs and stops have left: a greater number has the vector that covers the other; an
--- epoch record stands where its vector says of its stream; and where any epoch's vector ends in a stream, the stream
--- ends, or an epoch with no smaller number follows at once.
-pub record AreMarked (log : Log) : Type 0 where
-  pub rise : (a b : Mark) → Member a (marks_of log) → Member b (marks_of log) → a.number < b.number → AtMost a.lv b.lv
-  pub place : (j : ℕ) (ps : List Placed) → slice_get log.streams j ≡ Some ps → (p : Placed) (m : Mark) → Member p ps → mark_of p.entry ≡ m ∷ [] → p.start ≡ epoch_place ps (slice_index m.lv j)
-  pub next : (m : Mark) → Member m (marks_of log) → (j : ℕ) (ps : List Placed) → slice_get log.streams j ≡ Some ps →
-      (slice_index log.elv j ≤ slice_index m.lv j) ⊎ HasEpochAt ps m.number (slice_index m.lv j)

@@ -42,9 +42,10 @@ pub record IsRecovered (n : ℕ) (mode : LogMode) (load : Workload) (run : Run) 
   -- each orderly redo gives what executing just these calls gives, from where the run began
   pub sound : IsSound (format_of mode) contents log (exec (means load.declarations.procs) (filter (takes log) run.calls) run.start.base)
 
--- what the streams have are the old records and those of the history, and, where the disks began unborn, each image of a
--- stop has a part of it
+-- What the streams have begins with what was there and what they were given first; its records are the old ones and those
+-- of the history; and, where the disks began so, each image of a stop has a part of it.
 pub record IsImaged (n : ℕ) (mode : LogMode) (load : Workload) (unborn : Type 0) (past : ℕ → List ℕ → Type 0) (run : Run) : Type 0 where
+  pub opened : (j : ℕ) (content : List ℕ) → slice_get run.contents j ≡ Some content → take (length (opened_at load run.start j)) content ≡ opened_at load run.start j
   pub whole : Log
   pub reads : log_of_contents (format_of mode) run.contents ≡ Ok whole
   pub records : (j : ℕ) → j < n → kept_in j (slice_index_or whole.streams j []) ≡ kept_in j (slice_index_or run.start.log.streams j []) ++ records_in mode load run j
@@ -68,7 +69,5 @@ pub record IsEnded (n : ℕ) (mode : LogMode) (load : Workload) (now : ℕ → L
   pub uncovered : (c : Committed) → Member c run.calls → (j : ℕ) → j < n → slice_index durable j < slice_index (vector_of c) j → rose j
   -- a disk that has not failed has all
   pub flushed : (j : ℕ) (x : List ℕ) → j < n → (rose j → ⊥) → now j x → HasContent (format_of mode) n j (slice_index_or run.contents j []) x
-  -- each stream was opened: it has what was there, and what it was given first
-  pub opened : (j : ℕ) (content : List ℕ) → slice_get run.contents j ≡ Some content → take (length (opened_at load run.start j)) content ≡ opened_at load run.start j
   -- where no disk has failed each call committed, and is acknowledged
   pub all : ((j : ℕ) → j < n → rose j → ⊥) → AllAcked load run

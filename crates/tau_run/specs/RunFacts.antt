@@ -12,6 +12,7 @@ use Rattle.tau_run.specs.Start.{Start}
 use Rattle.tau_run.specs.Run.{Run, IsHistory, IsReportOf, AllAcked}
 use Rattle.tau_run.specs.RecoveredFacts.{IsImaged, IsAcknowledged, IsEnded}
 use Rattle.tau_run.specs.CoreRun.{IsLoadOn, IsFirstState, IsRunOf}
+use Rattle.tau_run.specs.StopsLeave.{NamesLowest}
 use Rattle.tau_run.specs.Turns.{Progress, IsWholeRun, IsPartOfRun}
 
 -- how a run ended: it went to its end, a disk failed, the sink failed, it ran out of memory, or it was not begun
@@ -25,11 +26,6 @@ pub data Ending : Type 0 where
 -- the text was written, or a first part of it where the sink failed
 abbrev pub WroteFront : (List ℕ → Type 0) → Type 0 → List ℕ → Type 0
 WroteFront wrote sink_rose text = wrote text ⊎ ((k : ℕ) × (k < length text) × wrote (take k text) × sink_rose)
-
--- the report names the lowest stream that was stopped, and none if none was
-abbrev pub NamesLowest : ℕ → (ℕ → Option ℕ) → Option ℕ → Type 0
-NamesLowest n stops None = (j : ℕ) → j < n → stops j ≡ None
-NamesLowest n stops (Some j) = (j < n) × ((at : ℕ) × (stops j ≡ Some at)) × ((i : ℕ) → i < j → stops i ≡ None)
 
 -- What was written of the run, by how it ended; `stops` tells where each stream was stopped, `opening` how many calls open
 -- each disk, and `fault` is the line that tells of a disk that failed before the run began.

@@ -1,17 +1,19 @@
 -- Where a run begins: what its streams held before it, and what each of them is given first.
-use Rattle.std.specs.Prelude.{ℕ, zero, suc, ◌+◌, ◌<◌, ◌^◌, ◌≡◌, ◌⊎◌, List, [], ◌∷◌, ◌++◌, length, replicate, slice_index_or, Some, Ok}
+use Rattle.std.specs.Prelude.{ℕ, ◌+◌, ◌≤◌, ◌≡◌, ◌⊎◌, List, [], ◌++◌, length, replicate, slice_index_or, Some, Ok}
 use Rattle.std.specs.List.{AllZip}
 use Rattle.tau_base.specs.declared.format.Format.{Format}
 use Rattle.tau_base.specs.Database.{Db, empty_db}
+use Rattle.tau_base.specs.declared.limits.TheConstants.{LAST_EPOCH}
 use Rattle.tau_text.specs.declared.load.Workload.{Workload}
 use Rattle.tau_text.specs.Canonical.{declarations_text}
-use Rattle.tau_record.specs.declared.entry.Entry.TheVariants.{Catalogue, Epoch}
+use Rattle.tau_record.specs.declared.entry.Entry.TheVariants.{Catalogue}
 use Rattle.tau_record.specs.Format.{One}
 use Rattle.tau_record.specs.Record.{spelling}
 use Rattle.tau_record.specs.Vector.{ArePlaces}
 use Rattle.tau_epoch.specs.Epochs.{largest}
 use Rattle.tau_scan.specs.declared.log.Log.{Log}
 use Rattle.tau_scan.specs.Epochs.{marks_of}
+use Rattle.tau_scan.specs.Given.{given_after}
 use Rattle.tau_scan.specs.Reading.{catalogue_in, log_of_contents, IsReading}
 use Rattle.tau_scan.specs.Sound.{fresh_log, IsOrderOver, redo_in}
 use Rattle.tau_scan.specs.Taken.{Kept, taken}
@@ -33,16 +35,10 @@ fresh_start n = record { old = replicate n []; log = fresh_log n; base = empty_d
 abbrev pub catalogue_of : Workload → List ℕ
 catalogue_of load = spelling One [] (Catalogue (declarations_text load.declarations))
 
--- the record of the epoch with this number and vector, the same in each format; none for 0
-abbrev pub epoch_record : ℕ → List ℕ → List ℕ
-epoch_record zero lv = []
-epoch_record (suc k) lv = spelling One [] (Epoch (suc k) lv)
-
 -- what a stream that held this is given before the first call: the catalogue if it held nothing, and the epoch with the
 -- old lengths
 abbrev pub given_first : Workload → Start → List ℕ → List ℕ
-given_first load start [] = catalogue_of load ++ epoch_record start.epoch start.log.elv
-given_first load start (b ∷ bytes) = epoch_record start.epoch start.log.elv
+given_first load start old = given_after (declarations_text load.declarations) start.epoch start.log.elv old
 
 -- what it holds then
 abbrev pub opened_with : Workload → Start → List ℕ → List ℕ
@@ -63,5 +59,5 @@ pub record IsStart (f : Format) (n : ℕ) (load : Workload) (start : Start) : Ty
   pub redone : (order : List Kept) × IsOrderOver (taken start.log) order × (redo_in start.log order empty_db ≡ start.base)
   pub declared : none_in start.log.streams ⊎ (catalogue_in start.log.streams ≡ Ok (Some (declarations_text load.declarations)))
   pub epoch : (none_in start.log.streams × (start.epoch ≡ 0)) ⊎ ((none_in start.log.streams → ⊥) × (start.epoch ≡ largest (marks_of start.log) + 1))
-  pub small : start.epoch < 2 ^ 32
+  pub small : start.epoch ≤ LAST_EPOCH
   pub places : ArePlaces start.log.elv

@@ -1,5 +1,5 @@
 -- What a run leaves of its streams, apart from the types of its disks.
-use Rattle.std.specs.Prelude.{ℕ, ◌+◌, ◌<◌, ◌≤◌, ◌≡◌, ◌⊎◌, Some, None, List, [], ◌++◌, length, take, slice_index}
+use Rattle.std.specs.Prelude.{ℕ, ◌+◌, ◌<◌, ◌≤◌, ◌≡◌, ◌⊎◌, Option, Some, None, List, [], ◌++◌, length, take, slice_index}
 use Rattle.std.specs.List.{filter}
 use Rattle.tau_base.specs.Modes.{format_of}
 use Rattle.tau_base.specs.Vectors.{covers}
@@ -14,12 +14,13 @@ pub record HasFront (n j : ℕ) (first : List ℕ) (l : Load) (s : Core) (bytes 
   pub spelled : Spelled l (λ i. (s.streams i).anchors) (take count (s.streams j).moved) bytes
   pub has : HasContent (format_of l.mode) n j (first ++ bytes) image
 
-abbrev pub IsFronted : ℕ → ℕ → List ℕ → Load → Core → List ℕ → Type 0
-IsFronted n j first l s image = (bytes : List ℕ) × HasFront n j first l s bytes image
+-- and such a front of some bytes
+abbrev pub HasSomeFront : ℕ → ℕ → List ℕ → Load → Core → List ℕ → Type 0
+HasSomeFront n j first l s image = (bytes : List ℕ) × HasFront n j first l s bytes image
 
 -- the image has what was there, or such a front
 abbrev pub IsLeft : ℕ → ℕ → List ℕ → List ℕ → Load → Core → List ℕ → Type 0
-IsLeft n j old first l s image = HasContent (format_of l.mode) n j old image ⊎ IsFronted n j first l s image
+IsLeft n j old first l s image = HasContent (format_of l.mode) n j old image ⊎ HasSomeFront n j first l s image
 
 -- What stops may leave, where each stream was opened from the old content to the first one: `past` at some moment since the
 -- entry, `now` now. `rose` are the streams whose disk failed.
@@ -38,3 +39,12 @@ pub record IsOver (n : ℕ) (s : Core) : Type 0 where
   pub persisted : (j : ℕ) → j < n → (s.streams j).stop ≡ None → slice_index s.plv j ≡ slice_index s.ends j
   pub told : (w : ℕ) → filter (λ (k : Ticket). covers s.plv k.lv) (s.outboxes w).pending ≡ []
   pub done : ((j : ℕ) → j < n → (s.streams j).stop ≡ None) → (w : ℕ) → ((s.workers w).waiting ≡ []) × ((s.workers w).left ≡ [])
+
+-- where each stream of the state was stopped
+abbrev pub stops_in : Core → ℕ → Option ℕ
+stops_in s j = (s.streams j).stop
+
+-- this is the lowest of n streams that was stopped, and none if none was
+abbrev pub NamesLowest : ℕ → (ℕ → Option ℕ) → Option ℕ → Type 0
+NamesLowest n stops None = (j : ℕ) → j < n → stops j ≡ None
+NamesLowest n stops (Some j) = (j < n) × ((at : ℕ) × (stops j ≡ Some at)) × ((i : ℕ) → i < j → stops i ≡ None)
