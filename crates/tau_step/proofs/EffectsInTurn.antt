@@ -16,6 +16,7 @@ use Rattle.tau_core.specs.View.{Hidden, core_of, setting_of}
 use Rattle.tau_core.specs.Opens.{nothing}
 use Rattle.tau_core.specs.Stands.{Stands, Stood}
 use Rattle.tau_run.specs.Turns.{Progress}
+use Rattle.tau_run.specs.StopsLeave.{NamesLowest, stops_in}
 use Rattle.tau_step.specs.declared.clerk.Clerk.{Clerk}
 use Rattle.tau_step.specs.declared.flushes.Flushes.{Flushes}
 use Rattle.tau_step.specs.declared.run.Run.{Run}
@@ -24,7 +25,6 @@ use Rattle.tau_step.specs.Device.{IsNoted, noting}
 use Rattle.tau_step.specs.RunEffects.{IsOn, Works, Manages, Moves, WentBy}
 use Rattle.tau_step.specs.Progressed.{progress, clerks}
 use Rattle.tau_step.specs.Rounding.{clerked}
-use Rattle.tau_step.specs.RunTold.{IsLowestStopped}
 use Rattle.tau_step.specs.Telling.{Heard, Passed}
 use Rattle.tau_step.proofs.RunSteps.{kept_after, went_quiet, went_on, went_as, since_none, rose_on}
 use Rattle.tau_step.proofs.Growing.{grows_none}
@@ -90,22 +90,22 @@ works_none R run stood r = record {
 }
 
 -- the lowest stream that is stopped is the same where the streams are
-pub lowest_same : (n : ℕ) (s s' : Core) → ((j : ℕ) → (s'.streams j).stop ≡ (s.streams j).stop) → (failed : Option ℕ) → IsLowestStopped n s failed → IsLowestStopped n s' failed
+pub lowest_same : (n : ℕ) (s s' : Core) → ((j : ℕ) → (s'.streams j).stop ≡ (s.streams j).stop) → (failed : Option ℕ) → NamesLowest n (stops_in s) failed → NamesLowest n (stops_in s') failed
 lowest_same n s s' same None q = λ j lt. same j ∙ q j lt
 lowest_same n s s' same (Some j) q = (q.0, (q.1.0, same j ∙ q.1.1), λ i lt. same i ∙ q.2 i lt)
 
-pub lowest_nothing : (p : Plain) (h : Hidden) (failed : Option ℕ) → IsLowestStopped p.load.streams (core_of p h) failed → IsLowestStopped p.load.streams (core_of p nothing) failed
+pub lowest_nothing : (p : Plain) (h : Hidden) (failed : Option ℕ) → NamesLowest p.load.streams (stops_in (core_of p h)) failed → NamesLowest p.load.streams (stops_in (core_of p nothing)) failed
 lowest_nothing p h failed q = lowest_same p.load.streams (core_of p h) (core_of p nothing) (λ j. refl) failed q
 
 -- so it is after what workers do
 pub works_lowest : (R : Bool → Load → Progress → Progress → Type 0) (whole : Bool) (old new : Run) → Stood old.core → ((l : Load) (P P' : Progress) → R whole l P P' → Quiet P.state P'.state) → Works R whole old new →
-    IsLowestStopped old.core.load.streams (core_of old.core nothing) old.failed → IsLowestStopped new.core.load.streams (core_of new.core nothing) new.failed
+    NamesLowest old.core.load.streams (stops_in (core_of old.core nothing)) old.failed → NamesLowest new.core.load.streams (stops_in (core_of new.core nothing)) new.failed
 works_lowest R whole old new stood quiet x q =
     let (K, h, g) = stood in
     let c = x.comes K h [] [] g in
     let same = quiet old.core.load (progress old.core h [] K []) (progress new.core c.hidden c.events c.order []) c.moved in
-    subst (λ (f : Option ℕ). IsLowestStopped new.core.load.streams (core_of new.core nothing) f) (sym x.failed)
-    (subst (λ (l : Load). IsLowestStopped l.streams (core_of new.core nothing) old.failed) (sym x.load)
+    subst (λ (f : Option ℕ). NamesLowest new.core.load.streams (stops_in (core_of new.core nothing)) f) (sym x.failed)
+    (subst (λ (l : Load). NamesLowest l.streams (stops_in (core_of new.core nothing)) old.failed) (sym x.load)
     (lowest_same old.core.load.streams (core_of old.core nothing) (core_of new.core nothing) (λ j. (same.same j).stop) old.failed q))
 
 module _ {D : Type 0} {G : Ghosts D} (seen_now : (d : D) → G.tells → G.may_leave d (G.seen d)) where
@@ -146,8 +146,8 @@ module _ {D : Type 0} {G : Ghosts D} (seen_now : (d : D) → G.tells → G.may_l
           hidden = w.hidden;
           stands = w.stands;
           kept = kept_after seen_now a.bases N old.core new.core ws ws [] [] a.order a.hidden [] a.kept w;
-          lowest = subst (λ (f : Option ℕ). IsLowestStopped new.core.load.streams (core_of new.core w.hidden) f) (sym x.failed)
-              (subst (λ (l : Load). IsLowestStopped l.streams (core_of new.core w.hidden) old.failed) (sym x.load)
+          lowest = subst (λ (f : Option ℕ). NamesLowest new.core.load.streams (stops_in (core_of new.core w.hidden)) f) (sym x.failed)
+              (subst (λ (l : Load). NamesLowest l.streams (stops_in (core_of new.core w.hidden)) old.failed) (sym x.load)
               (lowest_same old.core.load.streams (core_of old.core a.hidden) (core_of new.core w.hidden) (λ j. (q.same j).stop) old.failed a.lowest));
         }
 
@@ -300,8 +300,8 @@ module _ {D : Type 0} {G : Ghosts D} (seen_now : (d : D) → G.tells → G.may_l
                 hidden = w.hidden;
                 stands = w.stands;
                 kept = kept_after seen_now a.bases (noting old.flushes new.flushes clerked) old.core new.core ws ws old.clerk.acks new.clerk.acks a.order a.hidden [] a.kept w;
-                lowest = subst (λ (f : Option ℕ). IsLowestStopped new.core.load.streams (core_of new.core w.hidden) f) (sym failed)
-                    (subst (λ (l : Load). IsLowestStopped l.streams (core_of new.core w.hidden) old.failed) (sym load)
+                lowest = subst (λ (f : Option ℕ). NamesLowest new.core.load.streams (stops_in (core_of new.core w.hidden)) f) (sym failed)
+                    (subst (λ (l : Load). NamesLowest l.streams (stops_in (core_of new.core w.hidden)) old.failed) (sym load)
                     (lowest_same old.core.load.streams (core_of old.core a.hidden) (core_of new.core w.hidden) (λ j. (q.same j).stop) old.failed a.lowest));
               };
               workers = workers ∙ on.workers ∙ sym (ap (λ (l : Load). l.workers) load);

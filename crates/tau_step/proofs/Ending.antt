@@ -17,6 +17,7 @@ use Rattle.tau_stream.specs.Writer.{IsReady}
 use Rattle.tau_text.specs.declared.load.Turn.{Turn}
 use Rattle.tau_model.specs.History.{Act, Member}
 use Rattle.tau_model.specs.Tables.{IsTablesOf}
+use Rattle.tau_model.proofs.Assembling.{member_mapped}
 use Rattle.tau_machine.specs.Hands.{Txn}
 use Rattle.tau_machine.specs.Invariant.{Invariant}
 use Rattle.tau_machine.specs.Reports.{reported}
@@ -30,7 +31,7 @@ use Rattle.tau_core.specs.Opens.{Opened, nothing}
 use Rattle.tau_core.specs.Stands.{Stands}
 use Rattle.tau_core.proofs.Promises.{acknowledged_law, committed_law}
 use Rattle.tau_run.specs.Run.{pair_of}
-use Rattle.tau_run.specs.StopsLeave.{HasFront, IsOver}
+use Rattle.tau_run.specs.StopsLeave.{HasFront, IsOver, NamesLowest, stops_in}
 use Rattle.tau_run.specs.Turns.{Progress, begun, IsWholeRun}
 use Rattle.tau_run.proofs.Acks.{turns_law}
 use Rattle.tau_step.specs.declared.run.Run.{Run}
@@ -39,7 +40,7 @@ use Rattle.tau_step.specs.Device.{noting}
 use Rattle.tau_step.specs.Fates.{IsNumberOf}
 use Rattle.tau_step.specs.RunEffects.{Moves}
 use Rattle.tau_step.specs.Progressed.{progress}
-use Rattle.tau_step.specs.RunTold.{AreNew, EachOf, Left, Ended, CutShort, Ran, IsLowestStopped, fates_by}
+use Rattle.tau_step.specs.RunTold.{AreNew, EachOf, Left, Ended, CutShort, Ran, fates_by}
 use Rattle.tau_step.specs.Telling.{Heard}
 use Rattle.tau_step.specs.Rounding.{ran_all}
 use Rattle.tau_step.specs.Whole.{IsBegun}
@@ -49,7 +50,6 @@ use Rattle.tau_step.proofs.EffectsInTurn.{lowest_same}
 use Rattle.tau_step.proofs.RunEnds.{IsBeyond, AreShort, whole_over}
 use Rattle.tau_step.proofs.Short.{are_short}
 use Rattle.tau_step.proofs.Whole.{all_whole, all_part, whole_part}
-use Rattle.tau_replay.proofs.Lists.{member_map}
 use Rattle.tau_machine.proofs.Lists.{member_of}
 
 -- ---- how it begins
@@ -114,7 +114,7 @@ told_one : (p : Plain) (K : List (Act Txn)) (h : Hidden) → Stands p K h → (t
 told_one p K h g told acks a m =
     let w : ℕ = (setting_of p.load).worker_of a.0 in
     let n = member_of (λ (b : ℕ × List ℕ). (setting_of p.load).worker_of b.0 == w) a told m (eq-eqb ((setting_of p.load).worker_of a.0) w refl) in
-    let (k, mk, e) = member_map pair_of (h.acked w) a (subst (λ (l : List (ℕ × List ℕ)). Member a l) (acks w) n) in
+    let (k, mk, e) = member_mapped pair_of a (h.acked w) (subst (λ (l : List (ℕ × List ℕ)). Member a l) (acks w) n) in
     let law = acknowledged_law p K h g w k mk in
     let t = law.0 in
     subst (λ (number : ℕ). IsNumberOf (length p.load.calls) number) (ap (λ (x : Ticket). x.number) law.2 ∙ ap (λ (x : ℕ × List ℕ). x.0) e)
@@ -193,8 +193,8 @@ module _ {D : Type 0} {G : Ghosts D} (seen_now : (d : D) → G.tells → G.may_l
           (subst (λ (l : Load). IsWholeRun (setting_of l) l.workers l.streams turns (core_of old.core nothing) (progress new.core went.hidden went.events went.order new.clerk.acks)) (sym went.load) whole));
       heard = λ q. subst (λ (f : Bool). Heard held new.clerk.acks f held') (sym sink) (x.heard refl q held first_held);
       sink = λ e. rose_now x.rose (sym sink ∙ e);
-      disk = subst (λ (f : Option ℕ). IsLowestStopped old.core.load.streams (core_of new.core went.hidden) f) (sym disk)
-          (subst (λ (l : Load). IsLowestStopped l.streams (core_of new.core went.hidden) new.failed) went.load
+      disk = subst (λ (f : Option ℕ). NamesLowest old.core.load.streams (stops_in (core_of new.core went.hidden)) f) (sym disk)
+          (subst (λ (l : Load). NamesLowest l.streams (stops_in (core_of new.core went.hidden)) new.failed) went.load
           (let a = (x.on refl).along in lowest_same new.core.load.streams (core_of new.core a.hidden) (core_of new.core went.hidden) (λ j. refl) new.failed a.lowest));
       acks = told;
       fates = fates went.order went.hidden went.stands ∙ ap (λ (l : Load). fates_by (length l.calls) went.order new.clerk.acks) went.load;

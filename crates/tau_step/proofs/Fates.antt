@@ -14,6 +14,7 @@ use Rattle.tau_model.specs.Committed.{number_of, has_record, place_of, reported_
 use Rattle.tau_model.specs.History.{Act, Member, Reordered}
 use Rattle.tau_model.proofs.Orders.{member_reordered}
 use Rattle.tau_model.proofs.Reorder.{reordered_itself, reordered_sym}
+use Rattle.tau_model.proofs.Assembling.{member_mapped}
 use Rattle.tau_machine.specs.Hands.{Txn, committed_of}
 use Rattle.tau_machine.specs.Reports.{reported}
 use Rattle.tau_machine.proofs.Mapped.{reported_map}
@@ -29,7 +30,6 @@ use Rattle.tau_run.proofs.Order.{again_of}
 use Rattle.tau_step.specs.RunTold.{fates_by, is_told, reply_at}
 use Rattle.tau_step.specs.Fates.{IsNumberOf, fates_in, marks_in, reply_in}
 use Rattle.tau_base.proofs.Logic.{if_true, if_false}
-use Rattle.tau_replay.proofs.Lists.{member_map}
 
 -- a function of the numbers below one, as a list
 module _ {A : Type 0} where
@@ -203,7 +203,7 @@ module _ (p : Plain) (K : List (Act Txn)) (h : Hidden) (g : Stands p K h) where
 
   of_committed : (P : Committed → Type 0) → ((t : Act Txn) → Member t K → P (committed_of t)) → All P p.committed
   of_committed P each k d lt =
-      let (t, m, e) = member_map committed_of K (slice_index_or p.committed k d) (member_reordered (map committed_of K) p.committed g.order (slice_index_or p.committed k d) (at_member p.committed k d lt)) in
+      let (t, m, e) = member_mapped committed_of (slice_index_or p.committed k d) K (member_reordered (map committed_of K) p.committed g.order (slice_index_or p.committed k d) (at_member p.committed k d lt)) in
       subst P e (each t m)
 
   pub committed_numbers : All (λ c. IsNumberOf (length p.load.calls) c.number) p.committed

@@ -23,8 +23,8 @@ use Rattle.tau_core.specs.View.{Hidden, core_of, worker_in, committed_by}
 use Rattle.tau_core.specs.Stands.{Stands, SoundSeat}
 use Rattle.tau_run.specs.Run.{below}
 use Rattle.tau_run.proofs.Lists.{any_true}
+use Rattle.tau_run.specs.StopsLeave.{NamesLowest, stops_in}
 use Rattle.tau_step.specs.Acting.{raised}
-use Rattle.tau_step.specs.RunTold.{IsLowestStopped}
 use Rattle.tau_step.proofs.Falling.{HasTries}
 use Rattle.tau_step.proofs.RunEnds.{member_below}
 use Rattle.tau_step.proofs.Resting.{any_none}
@@ -53,13 +53,13 @@ stands_tries p K h g w = worker_tries p.load w (slice_get p.seats w) (committed_
 
 -- a stream is stopped where there is a lowest one
 
-any_stopped : (n : ℕ) (s : Core) (failed : Option ℕ) → IsLowestStopped n s failed → is_some failed ≡ list_any (λ j. is_some (s.streams j).stop) (below n)
+any_stopped : (n : ℕ) (s : Core) (failed : Option ℕ) → NamesLowest n (stops_in s) failed → is_some failed ≡ list_any (λ j. is_some (s.streams j).stop) (below n)
 any_stopped n s None q = sym (any_none (λ j. is_some (s.streams j).stop) n (λ j lt. ap is_some (q j lt)))
 any_stopped n s (Some j) q = sym (any_true (λ i. is_some (s.streams i).stop) j (below n) (member_below j n q.0) (ap is_some q.1.1))
 
-pub lowest_raised : (p : Plain) (h h' : Hidden) (failed : Option ℕ) → IsLowestStopped p.load.streams (core_of p h) failed → is_some failed ≡ raised p h'
+pub lowest_raised : (p : Plain) (h h' : Hidden) (failed : Option ℕ) → NamesLowest p.load.streams (stops_in (core_of p h)) failed → is_some failed ≡ raised p h'
 lowest_raised p h h' failed q = any_stopped p.load.streams (core_of p h') failed (same failed q)
   where
-    same : (f : Option ℕ) → IsLowestStopped p.load.streams (core_of p h) f → IsLowestStopped p.load.streams (core_of p h') f
+    same : (f : Option ℕ) → NamesLowest p.load.streams (stops_in (core_of p h)) f → NamesLowest p.load.streams (stops_in (core_of p h')) f
     same None r = r
     same (Some j) r = r

@@ -35,7 +35,7 @@ use Rattle.tau_core.specs.Stands.{Stands, anchors_at}
 use Rattle.tau_core.specs.Pieces.{Spelled}
 use Rattle.tau_core.specs.Managers.{Bars}
 use Rattle.tau_core.specs.Steps.{Steps, Happened}
-use Rattle.tau_run.specs.StopsLeave.{HasFront, IsFronted}
+use Rattle.tau_run.specs.StopsLeave.{HasFront, HasSomeFront}
 use Rattle.tau_run.specs.Turns.{Stays, Goes}
 use Rattle.tau_step.specs.declared.manager.Managing.TheVariants as did
 use Rattle.tau_step.specs.Progressed.{progress}
@@ -114,14 +114,14 @@ module _ {D : Type 0} {G : Ghosts D} (j : ℕ) (catalogue : List ℕ) (upto : �
       (has_front p.load.streams j catalogue p' k (h.moved j) [] (h.taken j) x (a.moved ∙ sym (append-nil (h.moved j))) (spelled_kept p p' (h.moved j) (h.taken j) a.load a.anchors l.spelled)
       (subst (λ (d : Load). HasContent (format_of d.mode) p.load.streams j (catalogue ++ h.taken j) x) (sym a.load) has))
 
-  either_left : (k : Hidden) → Alike k → (x : List ℕ) → IsOldOrNew (format_of p.load.mode) p.load.streams j (catalogue ++ l.first) (part_upto w upto) x → IsFronted p.load.streams j catalogue p.load (core_of p' k) x
+  either_left : (k : Hidden) → Alike k → (x : List ℕ) → IsOldOrNew (format_of p.load.mode) p.load.streams j (catalogue ++ l.first) (part_upto w upto) x → HasSomeFront p.load.streams j catalogue p.load (core_of p' k) x
   either_left k a x (inl has) = (l.first, old_front k a x has)
   either_left k a x (inr has) = (h.taken j, new_front k a x (subst (λ (b : List ℕ). HasContent (format_of p.load.mode) p.load.streams j b x) whole_is has))
 
   passed : (k : Hidden) → Alike k → (G.tells → (f : Format) (n i : ℕ) (content : List ℕ) → IsReady f n i w content → Passes G.moment G.may_leave_since (disk_of w) (disk_of w') (IsOldOrNew f n i content (part_upto w upto))) →
-      G.tells → Passes G.moment G.may_leave_since (disk_of w) (disk_of w') (IsFronted p.load.streams j catalogue p.load (core_of p' k))
+      G.tells → Passes G.moment G.may_leave_since (disk_of w) (disk_of w') (HasSomeFront p.load.streams j catalogue p.load (core_of p' k))
   passed k a moments tells =
-      passes_weaker G.moment G.may_leave_since (disk_of w) (disk_of w') (IsOldOrNew (format_of p.load.mode) p.load.streams j (catalogue ++ l.first) (part_upto w upto)) (IsFronted p.load.streams j catalogue p.load (core_of p' k))
+      passes_weaker G.moment G.may_leave_since (disk_of w) (disk_of w') (IsOldOrNew (format_of p.load.mode) p.load.streams j (catalogue ++ l.first) (part_upto w upto)) (HasSomeFront p.load.streams j catalogue p.load (core_of p' k))
       (moments tells (format_of p.load.mode) p.load.streams j (catalogue ++ l.first) (l.ready tells)) (either_left k a)
 
   -- all of it is durable
@@ -318,7 +318,7 @@ module _ {D : Type 0} {G : Ghosts D} (j : ℕ) (catalogue : List ℕ) (upto : �
           spelled = l.spelled;
           ready = λ tells. subst (λ (b : List ℕ). IsReady (format_of p.load.mode) p.load.streams j w (catalogue ++ b)) (sym all) (l.ready tells);
         });
-        passes = λ tells. passes_none G.moment G.may_leave_since (disk_of w) (IsFronted p.load.streams j catalogue p.load (core_of p h));
+        passes = λ tells. passes_none G.moment G.may_leave_since (disk_of w) (HasSomeFront p.load.streams j catalogue p.load (core_of p h));
         faults = omega arith;
         flushed = λ e. absurd (let bad : did.Idle ≡ did.Flushed = e in cc);
         failed = λ e. absurd (let bad : did.Idle ≡ did.Failed = e in cc);

@@ -33,7 +33,7 @@ use Rattle.tau_core.specs.declared.event.Outcome.{Outcome}
 use Rattle.tau_core.specs.declared.event.Outcome.TheVariants as outcome
 use Rattle.tau_core.specs.Steps.{Steps, Happened, Unmoved}
 use Rattle.tau_run.specs.Turns.{Progress, Stays, Waits, IsGathered, Gathers, Flushed, is_going}
-use Rattle.tau_run.specs.StopsLeave.{HasFront, IsFronted}
+use Rattle.tau_run.specs.StopsLeave.{HasFront, HasSomeFront}
 use Rattle.tau_step.specs.declared.manager.Managing.{Managing}
 use Rattle.tau_step.specs.declared.manager.Managing.TheVariants as did
 use Rattle.tau_step.specs.Progressed.{progress}
@@ -172,7 +172,7 @@ module _ {D : Type 0} {G : Ghosts D} (j : ℕ) (catalogue : List ℕ) (w : Write
               ((x : Progress) × Gathers (setting_of p.load) p.load.workers p.load.streams j before_now x × Flushed (setting_of p.load) p.load.workers p.load.streams j x P') (Stays before_now P') going_now
               (behind_now, gathers all, subst (λ (d : Load). Flushed (setting_of d) d.workers d.streams j behind_now P') q.load t.moved);
           kept = t.kept;
-          passes = λ tells. subst (λ (d : Load). Passes G.moment G.may_leave_since (disk_of w) (disk_of w') (IsFronted d.streams j catalogue d (core_of p' t.hidden))) q.load (t.passes tells);
+          passes = λ tells. subst (λ (d : Load). Passes G.moment G.may_leave_since (disk_of w) (disk_of w') (HasSomeFront d.streams j catalogue d (core_of p' t.hidden))) q.load (t.passes tells);
           faults = t.faults;
           flushed = λ e. let f = t.flushed e in (l.works, f.0, subst (λ (n : ℕ). n < slice_index p'.plv j) plv_same f.1);
           failed = λ e. let f = t.failed e in (l.works, f.0, f.1);
@@ -241,7 +241,7 @@ manager_idle {D} {G} j catalogue w p told K h es g b =
           ((x : Progress) × Gathers (setting_of p.load) p.load.workers p.load.streams j P x × Flushed (setting_of p.load) p.load.workers p.load.streams j x P) (Stays P P)
           (second (nat_lt j p.load.streams) (is_none (stop_in (slice_get p.streams j))) (ap is_none b.stop)) refl;
       kept = inr b;
-      passes = λ tells. passes_none G.moment G.may_leave_since (disk_of w) (IsFronted p.load.streams j catalogue p.load (core_of p h));
+      passes = λ tells. passes_none G.moment G.may_leave_since (disk_of w) (HasSomeFront p.load.streams j catalogue p.load (core_of p h));
       faults = omega arith;
       flushed = λ e. absurd (let bad : did.Idle ≡ did.Flushed = e in cc);
       failed = λ e. absurd (let bad : did.Idle ≡ did.Failed = e in cc);

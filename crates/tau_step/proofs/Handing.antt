@@ -20,7 +20,7 @@ use Rattle.tau_disk.specs.Disk.{Passes, Rose}
 use Rattle.tau_disk.specs.Used.{GoesOn, IsStopped}
 use Rattle.tau_machine.specs.Events as machine
 use Rattle.tau_core.specs.View.{setting_of}
-use Rattle.tau_run.specs.StopsLeave.{IsFronted}
+use Rattle.tau_run.specs.StopsLeave.{HasSomeFront}
 use Rattle.tau_run.specs.Turns.{Progress, Flushed}
 use Rattle.tau_step.specs.declared.manager.Managing.{Managing}
 use Rattle.tau_step.specs.Progressed.{progress}
@@ -137,8 +137,8 @@ module _ {D : Type 0} {G : Ghosts D} (j : ℕ) (catalogue : List ℕ) (upto : �
         moved = subst (λ (P : Progress). Flushed (setting_of p.load) p.load.workers p.load.streams j P P') same_progress
             (subst (λ (d : Load). Flushed (setting_of d) d.workers d.streams j (progress q x.hidden es K told) P') x.load t.moved);
         kept = t.kept;
-        passes = λ tells. subst (λ (k : D). Passes G.moment G.may_leave_since k (disk_of w') (IsFronted p.load.streams j catalogue p.load (core_of p' t.hidden))) disk
-            (subst (λ (d : Load). Passes G.moment G.may_leave_since (disk_of m) (disk_of w') (IsFronted d.streams j catalogue d (core_of p' t.hidden))) x.load (t.passes tells));
+        passes = λ tells. subst (λ (k : D). Passes G.moment G.may_leave_since k (disk_of w') (HasSomeFront p.load.streams j catalogue p.load (core_of p' t.hidden))) disk
+            (subst (λ (d : Load). Passes G.moment G.may_leave_since (disk_of m) (disk_of w') (HasSomeFront d.streams j catalogue d (core_of p' t.hidden))) x.load (t.passes tells));
         faults = subst (λ (k : D). G.faults k ≤ G.faults (disk_of w')) disk t.faults;
         flushed = λ e. let f = t.flushed e in (f.0, subst (λ (n : ℕ). n < slice_index p'.plv j) plv_same f.1);
         failed = λ e. let f = t.failed e in (f.0, subst (λ (k : D). Rose (G.faults k) (G.faults (disk_of w'))) disk f.1);

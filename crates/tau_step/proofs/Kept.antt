@@ -15,7 +15,7 @@ use Rattle.tau_core.specs.Stands.{anchors_at}
 use Rattle.tau_core.specs.View.{Hidden, core_of}
 use Rattle.tau_core.specs.Pieces.{Spelled}
 use Rattle.tau_core.proofs.AnchorNames.{spelled_more}
-use Rattle.tau_run.specs.StopsLeave.{HasFront, IsFronted}
+use Rattle.tau_run.specs.StopsLeave.{HasFront, HasSomeFront}
 use Rattle.tau_step.specs.Along.{Grows, SameAt, IsLeaving}
 use Rattle.tau_step.specs.Keeping.{IsKept, IsCurrent, IsBroken}
 use Rattle.tau_step.proofs.Growing.{anchors_grow}
@@ -40,7 +40,7 @@ module _ (n j : ℕ) (base : List ℕ) (l : Load) (s s' : Core) (g : Grows s s')
         has = f.has;
       }
 
-  pub left_grows : (image : List ℕ) → IsFronted n j base l s image → IsFronted n j base l s' image
+  pub left_grows : (image : List ℕ) → HasSomeFront n j base l s image → HasSomeFront n j base l s' image
   left_grows image (bytes, f) = (bytes, front_grows bytes image f)
 
 module _ {D : Type 0} {G : Ghosts D} (seen_now : (d : D) → G.tells → G.may_leave d (G.seen d)) (j : ℕ) (base : List ℕ) (w : Writer D G) where

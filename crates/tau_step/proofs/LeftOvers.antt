@@ -22,6 +22,7 @@ use Rattle.tau_core.specs.Opens.{nothing}
 use Rattle.tau_core.specs.Stands.{Stands, Stood}
 use Rattle.tau_core.specs.Steps.{Happened, Unmoved}
 use Rattle.tau_run.specs.Turns.{Progress, Goes, has_work, is_busy, is_raised, is_empty, any_left, LeftOver}
+use Rattle.tau_run.specs.StopsLeave.{NamesLowest, stops_in}
 use Rattle.tau_step.specs.declared.run.Run.{Run}
 use Rattle.tau_step.specs.Acting.{IsSettling, Settles}
 use Rattle.tau_step.specs.Along.{Quiet}
@@ -29,7 +30,6 @@ use Rattle.tau_step.specs.RunEffects.{Works, calls_over, rests_in}
 use Rattle.tau_step.specs.Progressed.{progress}
 use Rattle.tau_step.specs.Remains.{sum_below}
 use Rattle.tau_step.specs.Rounding.{worked_by, acted_alone, alone_on, ran_left_over, left_over_on, resumed_by}
-use Rattle.tau_step.specs.RunTold.{IsLowestStopped}
 use Rattle.tau_step.proofs.Fitting.{lowest_raised}
 use Rattle.tau_step.proofs.EffectsInTurn.{works_on, works_none}
 use Rattle.tau_step.proofs.Resting.{any_none, rest_hand, rest_waiting, busy_none, none_busy, resumed_later, resumed_quiet, alone_none, alone_more, alone_cut, left_more, left_cut, left_none, left_raised}
@@ -80,7 +80,7 @@ module _ (old mid new : Run) (x : Works left_so true old mid) where
   calls_cut e y = works_on left_so (resumed_by (Err e)) ran_left_over false old mid new (λ l P Q P' p q. p false P' q) x y
 
 -- after a stop none runs
-pub none_run : (run : Run) → Stood run.core → IsLowestStopped run.core.load.streams (core_of run.core nothing) run.failed → is_some run.failed ≡ true → Works ran_left_over true run run
+pub none_run : (run : Run) → Stood run.core → NamesLowest run.core.load.streams (stops_in (core_of run.core nothing)) run.failed → is_some run.failed ≡ true → Works ran_left_over true run run
 none_run run stood lowest some = record {
   comes = λ K h es told g. record {
     hidden = h;
@@ -221,7 +221,7 @@ module _ (w : ℕ) (old mid : Run) (stood : Stood old.core) (steps : (K : List (
     | inr le ↦ (let r = (steps K h g).leads.0 in absurd (none_not r.call r.front r.back (sym (beyond_left old.core K h g w le) ∙ r.is)))
   ]
 
-  pub resume_works : mid.clerk ≡ old.clerk → mid.failed ≡ old.failed → mid.workers ≡ old.workers → mid.streams ≡ old.streams → mid.flushes ≡ old.flushes → IsLowestStopped old.core.load.streams (core_of old.core nothing) old.failed → old.failed ≡ None → Works (resume_so w) true old mid
+  pub resume_works : mid.clerk ≡ old.clerk → mid.failed ≡ old.failed → mid.workers ≡ old.workers → mid.streams ≡ old.streams → mid.flushes ≡ old.flushes → NamesLowest old.core.load.streams (stops_in (core_of old.core nothing)) old.failed → old.failed ≡ None → Works (resume_so w) true old mid
   resume_works clerk failed workers streams flushes lowest none = record {
     comes = λ K h es told g. (let q = steps K h g in
         record {
@@ -309,7 +309,7 @@ module _ (w : ℕ) (old mid : Run) (stood : Stood old.core) (steps : (K : List (
 
 -- none is left
 module _ (old new : Run) (stood : Stood old.core) (steps : (K : List (Act Txn)) (h : Hidden) → Stands old.core K h → Unmoved old.core new.core K h × ((w : ℕ) (s' : Core) → Resumes (setting_of old.core.load) w (core_of old.core h) s' → ⊥))
-    (lowest : IsLowestStopped old.core.load.streams (core_of old.core nothing) old.failed) (none : old.failed ≡ None) (rests : rests_in old.core) where
+    (lowest : NamesLowest old.core.load.streams (stops_in (core_of old.core nothing)) old.failed) (none : old.failed ≡ None) (rests : rests_in old.core) where
   nothing_left : (K : List (Act Txn)) (h : Hidden) → Stands old.core K h → any_left (setting_of old.core.load) old.core.load.workers old.core.load.streams (core_of old.core h) ≡ false
   nothing_left K h g =
       let l = old.core.load in

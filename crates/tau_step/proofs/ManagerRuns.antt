@@ -19,6 +19,7 @@ use Rattle.tau_core.specs.View.{Hidden, setting_of, core_of, worker_at}
 use Rattle.tau_core.specs.Stands.{Stands}
 use Rattle.tau_core.proofs.Lists.{got_same}
 use Rattle.tau_run.specs.Turns.{Progress}
+use Rattle.tau_run.specs.StopsLeave.{NamesLowest, stops_in}
 use Rattle.tau_step.specs.declared.manager.Managing.{Managing}
 use Rattle.tau_step.specs.declared.manager.Managing.TheVariants as did
 use Rattle.tau_step.specs.declared.run.Run.{Run}
@@ -28,7 +29,6 @@ use Rattle.tau_step.specs.RunEffects.{IsOn, Manages, total_left, to_flush}
 use Rattle.tau_step.specs.Progressed.{progress}
 use Rattle.tau_step.specs.Remains.{sum_below, worker_left}
 use Rattle.tau_step.specs.Rounding.{managed, managed_by, turned}
-use Rattle.tau_step.specs.RunTold.{IsLowestStopped}
 use Rattle.tau_step.proofs.RunSteps.{went_as, kept_after}
 use Rattle.tau_step.proofs.Idling.{managed_ends, none_some}
 use Rattle.tau_step.proofs.Kept.{kept_leaving}
@@ -44,7 +44,7 @@ use Rattle.tau_base.proofs.Logic.{some_is, not_both}
 
 -- the lowest stream that is stopped, where only one may have changed
 module _ (n j : ℕ) (s s' : Core) (others : (i : ℕ) → (i ≡ j → ⊥) → (s'.streams i).stop ≡ (s.streams i).stop) where
-  pub lowest_kept : ((s.streams j).stop ≡ None → (s'.streams j).stop ≡ None) → ((x : ℕ) → (s.streams j).stop ≡ Some x → (y : ℕ) × ((s'.streams j).stop ≡ Some y)) → (failed : Option ℕ) → IsLowestStopped n s failed → IsLowestStopped n s' failed
+  pub lowest_kept : ((s.streams j).stop ≡ None → (s'.streams j).stop ≡ None) → ((x : ℕ) → (s.streams j).stop ≡ Some x → (y : ℕ) × ((s'.streams j).stop ≡ Some y)) → (failed : Option ℕ) → NamesLowest n (stops_in s) failed → NamesLowest n (stops_in s') failed
   lowest_kept none some None q = λ i lt. still i (q i lt)
     where
       still : (i : ℕ) → (s.streams i).stop ≡ None → (s'.streams i).stop ≡ None
@@ -68,16 +68,16 @@ module _ (n j : ℕ) (s s' : Core) (others : (i : ℕ) → (i ≡ j → ⊥) →
       ]
 
   pub lowest_new : j < n → (s.streams j).stop ≡ None → (y : ℕ) → (s'.streams j).stop ≡ Some y → (failed failed' : Option ℕ) → (failed ≡ None → failed' ≡ Some j) →
-      ((k : ℕ) → failed ≡ Some k → ((k ≤ j) × (failed' ≡ Some k)) ⊎ ((j < k) × (failed' ≡ Some j))) → IsLowestStopped n s failed → IsLowestStopped n s' failed'
+      ((k : ℕ) → failed ≡ Some k → ((k ≤ j) × (failed' ≡ Some k)) ⊎ ((j < k) × (failed' ≡ Some j))) → NamesLowest n (stops_in s) failed → NamesLowest n (stops_in s') failed'
   lowest_new there was y now None failed' none some q =
-      subst (λ (f : Option ℕ). IsLowestStopped n s' f) (sym (none refl)) (there, (y, now), λ i lt. others i (λ e. absurd (omega (arith, e, lt))) ∙ q i (omega (arith, lt, there)))
+      subst (λ (f : Option ℕ). NamesLowest n (stops_in s') f) (sym (none refl)) (there, (y, now), λ i lt. others i (λ e. absurd (omega (arith, e, lt))) ∙ q i (omega (arith, lt, there)))
   lowest_new there was y now (Some k) failed' none some q = elim (some k refl) [
-    | inl a ↦ subst (λ (f : Option ℕ). IsLowestStopped n s' f) (sym a.1) (
+    | inl a ↦ subst (λ (f : Option ℕ). NamesLowest n (stops_in s') f) (sym a.1) (
       q.0,
       (q.1.0, others k (λ e. none_some (s.streams j).stop q.1.0 was (subst (λ (i : ℕ). (s.streams i).stop ≡ Some q.1.0) e q.1.1)) ∙ q.1.1),
       λ i lt. others i (λ e. absurd (omega (arith, e, lt, a.0))) ∙ q.2 i lt,
     )
-    | inr b ↦ subst (λ (f : Option ℕ). IsLowestStopped n s' f) (sym b.1) (there, (y, now), λ i lt. others i (λ e. absurd (omega (arith, e, lt))) ∙ q.2 i (omega (arith, lt, b.0)))
+    | inr b ↦ subst (λ (f : Option ℕ). NamesLowest n (stops_in s') f) (sym b.1) (there, (y, now), λ i lt. others i (λ e. absurd (omega (arith, e, lt))) ∙ q.2 i (omega (arith, lt, b.0)))
   ]
 
 -- how the lowest failed stream goes on, by the answer
@@ -89,10 +89,10 @@ FailsBy j other failed failed' = failed' ≡ failed
 lowest_by : (n j : ℕ) (s s' : Core) → j < n → ((i : ℕ) → (i ≡ j → ⊥) → (s'.streams i).stop ≡ (s.streams i).stop) → (was is : Bool) →
     (was ≡ false → (s.streams j).stop ≡ None) → (was ≡ true → (x : ℕ) × ((s.streams j).stop ≡ Some x)) → (is ≡ false → (s'.streams j).stop ≡ None) → (is ≡ true → (x : ℕ) × ((s'.streams j).stop ≡ Some x)) →
     (a : Managing) → (a ≡ did.Idle → is ≡ was) → (a ≡ did.Flushed → (was ≡ false) × (is ≡ false)) → (a ≡ did.Failed → (was ≡ false) × (is ≡ true)) →
-    (failed failed' : Option ℕ) → FailsBy j (Ok a) failed failed' → IsLowestStopped n s failed → IsLowestStopped n s' failed'
+    (failed failed' : Option ℕ) → FailsBy j (Ok a) failed failed' → NamesLowest n (stops_in s) failed → NamesLowest n (stops_in s') failed'
 lowest_by n j s s' there others was is before before' after after' did.Idle idle flushed fails failed failed' how q =
     let same = idle refl in
-    subst (λ (f : Option ℕ). IsLowestStopped n s' f) (sym how)
+    subst (λ (f : Option ℕ). NamesLowest n (stops_in s') f) (sym how)
     (lowest_kept n j s s' others
     (λ none. elim (cases_Bool was) [
       | inl e ↦ (let (x, some) = before' e in absurd (none_some (s.streams j).stop x none some))
@@ -104,7 +104,7 @@ lowest_by n j s s' there others was is before before' after after' did.Idle idle
     ]) failed q)
 lowest_by n j s s' there others was is before before' after after' did.Flushed idle flushed fails failed failed' how q =
     let both = flushed refl in
-    subst (λ (f : Option ℕ). IsLowestStopped n s' f) (sym how)
+    subst (λ (f : Option ℕ). NamesLowest n (stops_in s') f) (sym how)
     (lowest_kept n j s s' others (λ none. after both.1) (λ x some. absurd (none_some (s.streams j).stop x (before both.0) some)) failed q)
 lowest_by n j s s' there others was is before before' after after' did.Failed idle flushed fails failed failed' how q =
     let both = fails refl in
@@ -161,7 +161,7 @@ module _ {D : Type 0} {G : Ghosts D} (seen_now : (d : D) → G.tells → G.may_l
             hidden = x.hidden;
             stands = x.stands;
             kept = kept_after seen_now o.bases (noting old.flushes new.flushes (managed_by j (Ok a))) old.core new.core ws ws' [] [] o.order o.hidden [] o.kept x;
-            lowest = subst (λ (l : Load). IsLowestStopped l.streams (core_of new.core x.hidden) new.failed) (sym x.load)
+            lowest = subst (λ (l : Load). NamesLowest l.streams (stops_in (core_of new.core x.hidden)) new.failed) (sym x.load)
                 (lowest_by old.core.load.streams j (core_of old.core o.hidden) (core_of new.core x.hidden) low
                 (λ i ne. (managed_same (setting_of old.core.load) old.core.load.workers old.core.load.streams P P' i j ne true (moved_by j a old.core.load P P' x.moved.0)).stop)
                 (has_failed w) (has_failed v) before.going before.stopped after.going after.stopped a

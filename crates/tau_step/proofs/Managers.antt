@@ -21,7 +21,7 @@ use Rattle.tau_core.specs.State.{Plain}
 use Rattle.tau_core.specs.View.{Hidden, setting_of, core_of}
 use Rattle.tau_core.specs.Stands.{Stands}
 use Rattle.tau_core.proofs.Lists.{got_same, got_other}
-use Rattle.tau_run.specs.StopsLeave.{HasFront, IsFronted}
+use Rattle.tau_run.specs.StopsLeave.{HasFront, HasSomeFront}
 use Rattle.tau_run.specs.Turns.{Progress}
 use Rattle.tau_step.specs.declared.manager.Managing.{Managing}
 use Rattle.tau_step.specs.declared.manager.Managing.TheVariants as did
@@ -191,8 +191,8 @@ module _ {D : Type 0} {G : Ghosts D} (seen_now : (d : D) → G.tells → G.may_l
           kept = each_now t.hidden (λ i v. IsLeaving i (bases i) v p' t.hidden) leaves
               (λ i ne v e. leaving_same seen_now i (bases i) v p p' h t.hidden t.load grown (managed_same (setting_of p.load) p.load.workers p.load.streams Q Q' i j ne false t.moved) (kept_leaving seen_now i (bases i) v p h (k.each i v e)));
           since = since_now p.load (core_of p' t.hidden) (record {
-            before = λ tells. subst (λ (d : D). Passes G.moment G.may_leave_since (disk_of w) d (IsFronted p.load.streams j (bases j) p.load (core_of p' t.hidden))) same_disk
-                (passes_none G.moment G.may_leave_since (disk_of w) (IsFronted p.load.streams j (bases j) p.load (core_of p' t.hidden)));
+            before = λ tells. subst (λ (d : D). Passes G.moment G.may_leave_since (disk_of w) d (HasSomeFront p.load.streams j (bases j) p.load (core_of p' t.hidden))) same_disk
+                (passes_none G.moment G.may_leave_since (disk_of w) (HasSomeFront p.load.streams j (bases j) p.load (core_of p' t.hidden)));
             faults = subst (λ (d : D). G.faults (disk_of w) ≤ G.faults d) same_disk (omega arith);
             goes = λ works tells. subst (λ (d : D). GoesOn G.number G.fails (disk_of w) d) same_disk (calls_none G.tells G.number G.fails G.short (disk_of w));
             stops = λ works fails. absurd (not_both (has_failed w') stays_working fails);

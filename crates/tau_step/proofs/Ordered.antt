@@ -26,13 +26,14 @@ use Rattle.tau_run.specs.Turns.{Progress, IsWholeRun, begun}
 use Rattle.tau_run.proofs.Acks.{turns_law}
 use Rattle.tau_run.proofs.Results.{run_law}
 use Rattle.tau_run.proofs.Start.{started}
+use Rattle.tau_run.specs.StopsLeave.{NamesLowest, stops_in}
 use Rattle.tau_step.specs.declared.run.Run.{Run}
 use Rattle.tau_step.specs.Along.{IsAlong, Went}
 use Rattle.tau_step.specs.Device.{IsFlushOrder, IsOfRun, noting}
 use Rattle.tau_step.specs.RunEffects.{IsOn, Moves}
 use Rattle.tau_step.specs.Progressed.{progress}
 use Rattle.tau_step.specs.Rounding.{ran_all}
-use Rattle.tau_step.specs.RunTold.{AreNew, IsLowestStopped}
+use Rattle.tau_step.specs.RunTold.{AreNew}
 use Rattle.tau_step.proofs.Begun.{fresh_begun, loaded, fresh_opened}
 use Rattle.tau_step.proofs.Ending.{begun_along, begun_kept}
 use Rattle.tau_step.proofs.EffectsInTurn.{lowest_same}
@@ -121,7 +122,7 @@ module _ {D : Type 0} {G : Ghosts D} (m : ℕ) (mode : LogMode) (load : Workload
     unstopped j lt =
         let a = (x.on refl).along in
         let lowest = lowest_same new.core.load.streams (core_of new.core a.hidden) s (λ i. refl) new.failed a.lowest in
-        let all : IsLowestStopped new.core.load.streams s None = subst (λ (f : Option ℕ). IsLowestStopped new.core.load.streams s f) of_run.0 lowest in
+        let all : NamesLowest new.core.load.streams (stops_in s) None = subst (λ (f : Option ℕ). NamesLowest new.core.load.streams (stops_in s) f) of_run.0 lowest in
         all j (subst (λ (k : ℕ). j < k) (sym is_load.streams) lt)
 
     pub flush_order : IsFlushOrder n m mode load flushes

@@ -8,6 +8,7 @@ use Rattle.tau_base.specs.Vectors.{covers}
 use Rattle.tau_model.specs.History.{Act, Member, updates}
 use Rattle.tau_model.specs.Reported.{in_stream}
 use Rattle.tau_model.proofs.Logged.{member_filtered}
+use Rattle.tau_model.proofs.Orders.{member_back}
 use Rattle.tau_machine.specs.Hands.{Txn}
 use Rattle.tau_machine.specs.Worker.{Worker}
 use Rattle.tau_machine.specs.Shard.{at}
@@ -29,7 +30,6 @@ use Rattle.tau_step.proofs.Rounding.{none_below}
 use Rattle.tau_step.proofs.Turning.{managed_keep}
 use Rattle.tau_base.proofs.Logic.{not_both}
 use Rattle.tau_run.proofs.RunExists.{record_member}
-use Rattle.tau_pool.proofs.Gets.{member_back}
 
 pub member_below : (w m : ℕ) → w < m → Member w (below m)
 member_below w zero lt = absurd (omega arith)
@@ -391,7 +391,7 @@ module _ (set : Setting) (m n : ℕ) where
             records_there i t is q =
                 (member_filtered (in_stream (λ (t : Act Txn). t.call.place) (λ t. updates t.effect) j) t K
                 (subst (λ (ts : List (Act Txn)). Member t ts) good.records (subst (λ (ts : List (Act Txn)). Member t ts) (sym (records_append (s.streams j).moved good.waiting))
-                (member_back (records_in (s.streams j).moved) (records_in good.waiting) t (record_member good.waiting t (subst (λ (k : Item). Member k good.waiting) is q)))))).0
+                (member_back t (records_in (s.streams j).moved) (records_in good.waiting) (record_member good.waiting t (subst (λ (k : Item). Member k good.waiting) is q)))))).0
         posted_none i q e (inr there) = first_short j good settled.persisted (s.streams j).posted (λ k p. inr p) (inv.agrees.pieces.ascending_own j) settled.gathered.own (λ k p. short.own j k lt p) i there e
 
         flying_none : (i : Item) → Flying set s j i → ⊥

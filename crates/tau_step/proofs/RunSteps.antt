@@ -15,7 +15,7 @@ use Rattle.tau_machine.specs.Events as machine
 use Rattle.tau_core.specs.declared.state.Load.{Load}
 use Rattle.tau_core.specs.State.{Plain}
 use Rattle.tau_core.specs.View.{Hidden, core_of}
-use Rattle.tau_run.specs.StopsLeave.{IsFronted}
+use Rattle.tau_run.specs.StopsLeave.{HasSomeFront}
 use Rattle.tau_run.specs.Turns.{Progress}
 use Rattle.tau_step.specs.Along.{Grows, Quiet, KeptBy, Since, AreKept, Went}
 use Rattle.tau_step.specs.Keeping.{IsKept}
@@ -32,7 +32,7 @@ module _ {D : Type 0} {G : Ghosts D} (j : ℕ) (base : List ℕ) (l : Load) wher
   -- nothing became of a writer
   pub since_none : (s : Core) (w : Writer D G) → Since j base l s w w
   since_none s w = record {
-    before = λ tells. passes_none G.moment G.may_leave_since (disk_of w) (IsFronted l.streams j base l s);
+    before = λ tells. passes_none G.moment G.may_leave_since (disk_of w) (HasSomeFront l.streams j base l s);
     faults = omega arith;
     goes = λ works tells. calls_none G.tells G.number G.fails G.short (disk_of w);
     stops = λ works fails. absurd (not_both (has_failed w) works fails);
@@ -41,7 +41,7 @@ module _ {D : Type 0} {G : Ghosts D} (j : ℕ) (base : List ℕ) (l : Load) wher
 
   pub since_on : (s s' : Core) → Grows s s' → (w m w' : Writer D G) → Since j base l s w m → Since j base l s' m w' → Since j base l s' w w'
   since_on s s' grown w m w' a b = record {
-    before = λ tells. passes_on G.moment G.may_leave_since (disk_of w) (disk_of m) (disk_of w') (IsFronted l.streams j base l s) (IsFronted l.streams j base l s') (IsFronted l.streams j base l s')
+    before = λ tells. passes_on G.moment G.may_leave_since (disk_of w) (disk_of m) (disk_of w') (HasSomeFront l.streams j base l s) (HasSomeFront l.streams j base l s') (HasSomeFront l.streams j base l s')
         (a.before tells) (b.before tells) (λ x q. left_grows l.streams j base l s s' grown x q) (λ x q. q);
     faults = omega (arith, a.faults, b.faults);
     goes = λ works tells. elim (cases_Bool (has_failed m)) [

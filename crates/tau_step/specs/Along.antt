@@ -15,11 +15,10 @@ use Rattle.tau_core.specs.declared.state.Load.{Load}
 use Rattle.tau_core.specs.State.{Plain}
 use Rattle.tau_core.specs.View.{Hidden, core_of}
 use Rattle.tau_core.specs.Stands.{Stands}
-use Rattle.tau_run.specs.StopsLeave.{HasFront, IsFronted}
+use Rattle.tau_run.specs.StopsLeave.{HasFront, HasSomeFront, NamesLowest, stops_in}
 use Rattle.tau_run.specs.Turns.{Progress}
 use Rattle.tau_step.specs.Keeping.{IsKept}
 use Rattle.tau_step.specs.Progressed.{progress}
-use Rattle.tau_step.specs.RunTold.{IsLowestStopped}
 use Rattle.tau_step.specs.Telling.{Heard}
 
 -- items and anchors of each stream are those of before and more
@@ -62,7 +61,7 @@ module _ {D : Type 0} {G : Ghosts D} (j : ℕ) (base : List ℕ) where
 
   -- what became of a writer, where this is the state now
   pub record Since (l : Load) (s : Core) (w w' : Writer D G) : Type 0 where
-    pub before : G.tells → Passes G.moment G.may_leave_since (disk_of w) (disk_of w') (IsFronted l.streams j base l s)
+    pub before : G.tells → Passes G.moment G.may_leave_since (disk_of w) (disk_of w') (HasSomeFront l.streams j base l s)
     pub faults : G.faults (disk_of w) ≤ G.faults (disk_of w')
     pub goes : has_failed w' ≡ false → G.tells → GoesOn G.number G.fails (disk_of w) (disk_of w')
     pub stops : has_failed w ≡ false → has_failed w' ≡ true → Rose (G.faults (disk_of w)) (G.faults (disk_of w')) × IsStopped G.tells G.number G.fails G.short (disk_of w) (disk_of w')
@@ -102,4 +101,4 @@ pub record IsAlong {D : Type 0} {G : Ghosts D} (ws : List (Writer D G)) (p : Pla
   pub hidden : Hidden
   pub stands : Stands p order hidden
   pub kept : AreKept bases ws p hidden
-  pub lowest : IsLowestStopped p.load.streams (core_of p hidden) failed
+  pub lowest : NamesLowest p.load.streams (stops_in (core_of p hidden)) failed

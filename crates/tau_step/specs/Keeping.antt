@@ -17,7 +17,7 @@ use Rattle.tau_core.specs.View.{Hidden, setting_of, stop_in, core_of}
 use Rattle.tau_core.specs.Stands.{Stands, anchors_at}
 use Rattle.tau_core.specs.Pieces.{Spelled}
 use Rattle.tau_run.specs.Turns.{Managed, ManagedPart, Flushed}
-use Rattle.tau_run.specs.StopsLeave.{HasFront, IsFronted}
+use Rattle.tau_run.specs.StopsLeave.{HasFront, HasSomeFront}
 use Rattle.tau_step.specs.declared.manager.Managing.{Managing}
 use Rattle.tau_step.specs.declared.manager.Managing.TheVariants as did
 use Rattle.tau_step.specs.Progressed.{progress}
@@ -88,7 +88,7 @@ module _ {D : Type 0} {G : Ghosts D} (j : ℕ) (catalogue : List ℕ) where
       pub taken : (i : ℕ) → (i ≡ j → ⊥) → hidden.taken i ≡ h.taken i
       pub moved : Managed (setting_of p.load) p.load.workers p.load.streams j (progress p h es K told) (progress p' hidden events order told)
       pub kept : IsKept w' p' hidden
-      pub passes : G.tells → Passes G.moment G.may_leave_since (disk_of w) (disk_of w') (IsFronted p.load.streams j catalogue p.load (core_of p' hidden))
+      pub passes : G.tells → Passes G.moment G.may_leave_since (disk_of w) (disk_of w') (HasSomeFront p.load.streams j catalogue p.load (core_of p' hidden))
       pub faults : G.faults (disk_of w) ≤ G.faults (disk_of w')
       pub flushed : a ≡ did.Flushed → (has_failed w ≡ false) × (has_failed w' ≡ false) × (slice_index p.plv j < slice_index p'.plv j)
       pub failed : a ≡ did.Failed → (has_failed w ≡ false) × (has_failed w' ≡ true) × Rose (G.faults (disk_of w)) (G.faults (disk_of w'))
@@ -121,7 +121,7 @@ module _ {D : Type 0} {G : Ghosts D} (j : ℕ) (catalogue : List ℕ) where
       pub taken : hidden.taken ≡ h.taken
       pub moved : Flushed (setting_of p.load) p.load.workers p.load.streams j (progress p h es K told) (progress p' hidden events order told)
       pub kept : IsKept w' p' hidden
-      pub passes : G.tells → Passes G.moment G.may_leave_since (disk_of w) (disk_of w') (IsFronted p.load.streams j catalogue p.load (core_of p' hidden))
+      pub passes : G.tells → Passes G.moment G.may_leave_since (disk_of w) (disk_of w') (HasSomeFront p.load.streams j catalogue p.load (core_of p' hidden))
       pub faults : G.faults (disk_of w) ≤ G.faults (disk_of w')
       pub flushed : a ≡ did.Flushed → (has_failed w' ≡ false) × (slice_index p.plv j < slice_index p'.plv j)
       pub failed : a ≡ did.Failed → (has_failed w' ≡ true) × Rose (G.faults (disk_of w)) (G.faults (disk_of w'))
@@ -139,7 +139,7 @@ module _ {D : Type 0} {G : Ghosts D} (j : ℕ) (catalogue : List ℕ) where
       pub taken : (i : ℕ) → (i ≡ j → ⊥) → hidden.taken i ≡ h.taken i
       pub moved : Flushed (setting_of p.load) p.load.workers p.load.streams j (progress p h es K told) (progress p' hidden events order told)
       pub kept : IsKept w' p' hidden
-      pub passes : G.tells → Passes G.moment G.may_leave_since (disk_of w) (disk_of w') (IsFronted p.load.streams j catalogue p.load (core_of p' hidden))
+      pub passes : G.tells → Passes G.moment G.may_leave_since (disk_of w) (disk_of w') (HasSomeFront p.load.streams j catalogue p.load (core_of p' hidden))
       pub faults : G.faults (disk_of w) ≤ G.faults (disk_of w')
       pub flushed : a ≡ did.Flushed → (has_failed w' ≡ false) × (slice_index p.plv j < slice_index p'.plv j)
       pub failed : a ≡ did.Failed → (has_failed w' ≡ true) × Rose (G.faults (disk_of w)) (G.faults (disk_of w'))

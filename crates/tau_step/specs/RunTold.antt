@@ -31,7 +31,7 @@ use Rattle.tau_core.specs.Opens.{Opened, load_of, nothing}
 use Rattle.tau_run.specs.Run.{below, fate}
 use Rattle.tau_run.specs.Start.{fresh_start, catalogue_of}
 use Rattle.tau_run.specs.CoreRun.{IsLoadOn}
-use Rattle.tau_run.specs.StopsLeave.{HasFront, IsFronted, IsOver}
+use Rattle.tau_run.specs.StopsLeave.{HasFront, HasSomeFront, IsOver, NamesLowest, stops_in}
 use Rattle.tau_run.specs.RunFacts.{turns_of}
 use Rattle.tau_run.specs.Turns.{Progress, IsWholeRun, IsPartOfRun}
 use Rattle.tau_step.specs.Progressed.{progress}
@@ -55,7 +55,7 @@ module _ {D : Type 0} {G : Ghosts D} where
 
   -- What became of the writer of stream j since the call, where the state is s now: its images, its disk's calls, and what a stop now may leave.
   pub record Left (l : Load) (s : Core) (j : ℕ) (base : List ℕ) (w w' : Writer D G) : Type 0 where
-    pub before : G.tells → Passes G.moment G.may_leave_since (disk_of w) (disk_of w') (IsFronted l.streams j base l s)
+    pub before : G.tells → Passes G.moment G.may_leave_since (disk_of w) (disk_of w') (HasSomeFront l.streams j base l s)
     pub present : G.tells → (x : List ℕ) → G.may_leave (disk_of w') x → (bytes : List ℕ) × HasFront l.streams j base l s bytes x × (slice_index s.plv j ≤ length base + length bytes)
     pub reached : G.tells → (y content : List ℕ) × G.may_leave (disk_of w') y × HasContent (format_of l.mode) l.streams j content y × (length content ≡ slice_index s.plv j)
     -- its stream is stopped exactly where its disk failed
@@ -79,11 +79,6 @@ module _ {D : Type 0} {G : Ghosts D} where
 -- the streams end where these bytes do
 abbrev pub AreBases : (ℕ → List ℕ) → List ℕ → Type 0
 AreBases bases ends = (j : ℕ) → j < length ends → length (bases j) ≡ slice_index ends j
-
--- the lowest stream that is stopped
-abbrev pub IsLowestStopped : ℕ → Core → Option ℕ → Type 0
-IsLowestStopped n s None = (j : ℕ) → j < n → (s.streams j).stop ≡ None
-IsLowestStopped n s (Some j) = (j < n) × ((at : ℕ) × ((s.streams j).stop ≡ Some at)) × ((i : ℕ) → i < j → (s.streams i).stop ≡ None)
 
 -- the reply of the committed call with this number
 abbrev pub reply_at : ℕ → List (Act Txn) → Option Reply
@@ -111,7 +106,7 @@ module _ {D : Type 0} {G : Ghosts D} (turns : List Turn) (bases : ℕ → List �
     pub over : IsOver first.load.streams (core_of came.last came.hidden)
     pub heard : hears → Heard held came.told end.sink_failed held'
     pub sink : end.sink_failed ≡ true → sink_rose
-    pub disk : IsLowestStopped first.load.streams (core_of came.last came.hidden) end.disk
+    pub disk : NamesLowest first.load.streams (stops_in (core_of came.last came.hidden)) end.disk
     pub acks : end.report.acks ≡ came.told
     pub fates : end.report.fates ≡ fates_by (length first.load.calls) came.order came.told
     pub order : end.report.order ≡ map (λ (t : Act Txn). t.call.call.number) (reported came.last.ends came.order)

@@ -8,11 +8,11 @@ ghost use Rattle.tau_core.specs.Opens.{nothing};
 ghost use Rattle.tau_core.specs.Stands.{Stands, Stood};
 ghost use Rattle.tau_core.specs.View.{Hidden, core_of};
 ghost use Rattle.tau_run.specs.RunFacts.{turns_of};
+ghost use Rattle.tau_run.specs.StopsLeave.{NamesLowest, stops_in};
 ghost use Rattle.tau_step.specs.Acting.{IsAlone, IsSettling, Settles};
 ghost use Rattle.tau_step.specs.RunEffects.{IsOn, Manages, Moves, Works, calls_over, rests_in, to_flush, total_left};
 ghost use Rattle.tau_step.specs.Progressed.{clerks};
 ghost use Rattle.tau_step.specs.Rounding.{acted_alone, all_idled, all_managed, drained, flushed_by, idled, in_rounds, managed_by, ran_all, ran_behind, ran_last, ran_left_over, rest_of_round, resumed_by, round_by, rounded_by, turned, turned_all, worked_by};
-ghost use Rattle.tau_step.specs.RunTold.{IsLowestStopped};
 ghost use Rattle.tau_step.specs.Telling.{Heard, Passed};
 
 use crate::clerk::Clerk;
@@ -65,7 +65,7 @@ impl Run {
     fn work(&mut self, worker: u8) -> Result<bool, NoMemory>
         requires stood { Stood self.old.core }
         requires there { worker < self.old.core.load.workers }
-        requires lowest { IsLowestStopped self.old.core.load.streams (core_of self.old.core nothing) self.old.failed }
+        requires lowest { NamesLowest self.old.core.load.streams (stops_in (core_of self.old.core nothing)) self.old.failed }
         ensures works { Works (worked_by worker result) (is_ok result) self.old self.new }
         ensures fewer { result ≡ Ok true → total_left self.new.core < total_left self.old.core }
         ensures alone { IsAlone worker self.old.core → IsSettling worker self.old.core → Settles worker self.old.core self.new.core }
@@ -122,7 +122,7 @@ impl Run {
     fn worker_word(&mut self, worker: u8) -> Result<(), NoMemory>
         requires stood { Stood self.old.core }
         requires workers { self.old.workers ≡ self.old.core.load.workers }
-        requires lowest { IsLowestStopped self.old.core.load.streams (core_of self.old.core nothing) self.old.failed }
+        requires lowest { NamesLowest self.old.core.load.streams (stops_in (core_of self.old.core nothing)) self.old.failed }
         ensures works { Works (turned (Turn.Worker worker)) (is_ok result) self.old self.new }
     {
         if worker >= self.workers {
@@ -210,7 +210,7 @@ impl Run {
     fn workers_round(&mut self) -> Result<bool, NoMemory>
         requires stood { Stood self.old.core }
         requires workers { self.old.workers ≡ self.old.core.load.workers }
-        requires lowest { IsLowestStopped self.old.core.load.streams (core_of self.old.core nothing) self.old.failed }
+        requires lowest { NamesLowest self.old.core.load.streams (stops_in (core_of self.old.core nothing)) self.old.failed }
         ensures works { Works (rounded_by result) (is_ok result) self.old self.new }
         ensures fewer { result ≡ Ok true → total_left self.new.core < total_left self.old.core }
     {
@@ -285,7 +285,7 @@ impl Run {
     fn alone(&mut self, worker: u8) -> Result<(), NoMemory>
         requires stood { Stood self.old.core }
         requires there { worker < self.old.core.load.workers }
-        requires lowest { IsLowestStopped self.old.core.load.streams (core_of self.old.core nothing) self.old.failed }
+        requires lowest { NamesLowest self.old.core.load.streams (stops_in (core_of self.old.core nothing)) self.old.failed }
         requires alone { IsAlone worker self.old.core }
         requires settling { IsSettling worker self.old.core }
         ensures works { Works (acted_alone worker) (is_ok result) self.old self.new }
@@ -298,7 +298,7 @@ impl Run {
     /// The lowest call left over runs alone, if there is one.
     fn resumed(&mut self) -> Result<bool, NoMemory>
         requires stood { Stood self.old.core }
-        requires lowest { IsLowestStopped self.old.core.load.streams (core_of self.old.core nothing) self.old.failed }
+        requires lowest { NamesLowest self.old.core.load.streams (stops_in (core_of self.old.core nothing)) self.old.failed }
         requires going { self.old.failed ≡ None }
         requires rests { rests_in self.old.core }
         ensures works { Works (resumed_by result) (is_ok result) self.old self.new }
@@ -317,7 +317,7 @@ impl Run {
     /// The calls left over run alone, each in its own stream, in ascending number. After a stop none does.
     pub(crate) fn left_over(&mut self) -> Result<(), NoMemory>
         requires stood { Stood self.old.core }
-        requires lowest { IsLowestStopped self.old.core.load.streams (core_of self.old.core nothing) self.old.failed }
+        requires lowest { NamesLowest self.old.core.load.streams (stops_in (core_of self.old.core nothing)) self.old.failed }
         requires rests { rests_in self.old.core }
         ensures works { Works ran_left_over (is_ok result) self.old self.new }
     {
