@@ -1,5 +1,5 @@
 -- The anchors that are read of what a stream was given are those of its manager, and stand in their distance.
-use Rattle.std.proofs.Common.{ℕ, ◌<◌, ◌≡◌, List, [], ◌∷◌, ◌++◌, map, length, drop, refl, sym, ap, subst, ◌∙◌, arith, slice_index}
+use Rattle.std.proofs.Common.{ℕ, ◌<◌, ◌≡◌, List, [], ◌∷◌, ◌++◌, map, length, drop, refl, sym, ap, subst, ◌∙◌, slice_index}
 use Rattle.std.specs.Prelude.{Some, Ok, slice_get, slice_index_or}
 use Rattle.std.proofs.lemmas.List.{length-append}
 use Rattle.std.proofs.Math.Seq.{drop-append_seam}
@@ -24,7 +24,7 @@ use Rattle.tau_run.specs.CoreRun.{IsCourse, IsGiven, IsRunOf}
 use Rattle.tau_run.proofs.Spelled.{placed_in, spelled_long}
 use Rattle.tau_run.proofs.Sound.{sound}
 use Rattle.tau_run.proofs.Streams.{anchored, whole_records}
-use Rattle.tau_crew_facts.specs.Spacing.{Spaced, newest, IsSpacing, AreSpaced}
+use Rattle.tau_crew_facts.specs.Spacing.{IsSpacing, AreSpaced}
 
 anchors_placed : (mode : LogMode) (items : List Item) → anchors_of (map (placed_in mode) items) ≡ anchors_in items
 anchors_placed mode [] = refl
@@ -74,14 +74,9 @@ module _ (n m : ℕ) (mode : LogMode) (load : Workload) (l : Load) (K : List (Ac
       let r = anchors_read in
       let own : List (List ℕ) = drop (length (anchors_of olds)) (anchors_of r.0) in
       let same : map (λ (v : List ℕ). slice_index v j) own ≡ map (λ (v : List ℕ). slice_index v j) (s.streams j).anchors = ap (map (λ (v : List ℕ). slice_index v j)) r.2 in
-      let last : newest (length base) (map (λ (v : List ℕ). slice_index v j) own) ≡ newest (length base) (map (λ (v : List ℕ). slice_index v j) (s.streams j).anchors) = ap (newest (length base)) same in
-      let long = content_long in
-      let low = k.low in
-      let near = k.near in
+      let whole : slice_index s.plv j ≡ length content = flushed ∙ sym content_long in
       record {
         records = r.0;
         reads = r.1;
-        spaced = subst (λ (xs : List ℕ). Spaced (length base) xs) (sym same) k.spaced;
-        low = omega (arith, last, long, low, flushed);
-        near = omega (arith, last, long, near, flushed);
+        spacing = subst (λ (at : ℕ). IsSpacing (length base) at (map (λ (v : List ℕ). slice_index v j) own)) whole (subst (λ (xs : List ℕ). IsSpacing (length base) (slice_index s.plv j) xs) (sym same) k);
       }

@@ -27,7 +27,7 @@ use Rattle.tau_run.specs.Start.{Start, opened_at, IsStart}
 use Rattle.tau_run.proofs.Waits.{waits_for}
 use Rattle.tau_run.specs.Run.{Run}
 use Rattle.tau_run.specs.CoreRun.{AreAcks, IsLoadOn, IsRunOf, IsCourse, IsSoundLoad}
-use Rattle.tau_run.specs.StopsLeave.{HasFront, IsFronted, IsOver}
+use Rattle.tau_run.specs.StopsLeave.{HasFront, HasSomeFront, IsOver}
 use Rattle.tau_run.specs.Turns.{Progress}
 use Rattle.tau_run.proofs.Start.{started}
 use Rattle.tau_rule.specs.Rule.{anchors_at}
@@ -66,7 +66,7 @@ module _ (l : Load) (c s : Core) (j : ℕ) (base : List ℕ) (same_moved : (s.st
   writer_left {D} {G} w w' e plv goes stops =
       let g : HasWritten (format_of l.mode) l.streams j base e.taken (slice_index c.plv j) w w' = e.written in
       record {
-        before = λ t. passes_weaker G.moment G.may_leave_since (disk_of w) (disk_of w') (HasPieces (format_of l.mode) l.streams j base e.taken) (IsFronted l.streams j base l s) (g.before t) (λ x p. (bytes_of p.front, pieces_front e.taken e.moved x p));
+        before = λ t. passes_weaker G.moment G.may_leave_since (disk_of w) (disk_of w') (HasPieces (format_of l.mode) l.streams j base e.taken) (HasSomeFront l.streams j base l s) (g.before t) (λ x p. (bytes_of p.front, pieces_front e.taken e.moved x p));
         present = λ t x left. (let p = g.present t x left in (bytes_of p.0.front, pieces_front e.taken e.moved x p.0, (let r = p.1 in omega (arith, r, plv))));
         reached = λ t. (let r = g.reached t in (r.0, r.1, r.2, r.3, r.4 ∙ sym plv));
         goes = λ f. (goes f, g.goes f);
