@@ -18,6 +18,7 @@ use Rattle.tau_crew_facts.proofs.Spacing.{newest_more, spacing_places, spacing_s
 use Rattle.tau_crew.specs.Gathering.{AreLong, raised_in, taken_in}
 use Rattle.tau_disk.specs.declared.disk.Disk.{Ghosts}
 use Rattle.tau_stream.specs.declared.writer.Writer.{Writer}
+use Rattle.tau_base.specs.declared.limits.TheConstants.{ANCHOR_BYTES}
 use Rattle.tau_crew.specs.Driving.{IsApart, IsBlock, IsDriven, IsDrivenShort, KeepsSeat, own_of}
 use Rattle.tau_crew.proofs.Driving.{driven_same}
 use Rattle.tau_crew.proofs.Gathering.{long_append}
@@ -93,7 +94,7 @@ keeps_anchored l s1 s2 s3 (Ok u) k ok err = keeps_on s1 s2 s3 k (keeps_placed l 
 keeps_anchored l s1 s2 s3 (Err e) k ok err = keeps_on s1 s2 s3 k (keeps_same s2 s3 err)
 
 -- no anchor is due
-pub apart_stays : (base before durable last placed : ℕ) (s s' : PlainManagerSeat) → IsApart base before last placed s → IsBlock before durable → durable < last + 65536 → s'.stream ≡ s.stream → s'.stock.anchors ≡ s.stock.anchors → IsApart base durable last placed s'
+pub apart_stays : (base before durable last placed : ℕ) (s s' : PlainManagerSeat) → IsApart base before last placed s → IsBlock before durable → durable < last + ANCHOR_BYTES → s'.stream ≡ s.stream → s'.stock.anchors ≡ s.stock.anchors → IsApart base durable last placed s'
 apart_stays base before durable last placed s s' a block near stream anchors =
     let same : own_of s'.stream s'.stock.anchors ≡ own_of s.stream s.stock.anchors = ap (λ (j : ℕ). own_of j s'.stock.anchors) stream ∙ ap (own_of s.stream) anchors in
     record {
@@ -103,7 +104,7 @@ apart_stays base before durable last placed s s' a block near stream anchors =
     }
 
 -- one is placed, whose own component is what is durable now
-pub apart_places : (base before durable last placed : ℕ) (s s' : PlainManagerSeat) (v : List ℕ) → IsApart base before last placed s → IsBlock before durable → last + 65536 ≤ durable → s'.stream ≡ s.stream → s'.stock.anchors ≡ s.stock.anchors ++ v ∷ [] → slice_index v s.stream ≡ durable →
+pub apart_places : (base before durable last placed : ℕ) (s s' : PlainManagerSeat) (v : List ℕ) → IsApart base before last placed s → IsBlock before durable → last + ANCHOR_BYTES ≤ durable → s'.stream ≡ s.stream → s'.stock.anchors ≡ s.stock.anchors ++ v ∷ [] → slice_index v s.stream ≡ durable →
     IsApart base durable durable (placed + 1) s'
 apart_places base before durable last placed s s' v a block due stream anchors own =
     let xs : List ℕ = own_of s.stream s.stock.anchors in

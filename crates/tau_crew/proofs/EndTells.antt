@@ -12,6 +12,7 @@ use Rattle.tau_stream.specs.declared.writer.Writer.{Writer}
 use Rattle.tau_stream.specs.Writer.{has_failed}
 use Rattle.tau_model.specs.History.{Act, Member}
 use Rattle.tau_model.specs.Tables.{IsTablesOf}
+use Rattle.tau_model.proofs.Assembling.{member_mapped}
 use Rattle.tau_machine.specs.Hands.{Txn}
 use Rattle.tau_machine.specs.Reports.{reported}
 use Rattle.tau_machine.specs.State.{Core, Ticket, sight}
@@ -35,7 +36,6 @@ use Rattle.tau_crew.specs.EndCloses.{ClosesRun}
 use Rattle.tau_crew.specs.EndDone.{ClosesDone, IsDone}
 use Rattle.tau_crew.proofs.EndTold.{all_heard, ends_short}
 use Rattle.tau_base.proofs.Logic.{if_true, if_false}
-use Rattle.tau_replay.proofs.Lists.{member_map}
 use Rattle.tau_machine.proofs.Lists.{member_of}
 
 at_member : {A : Type 0} (xs : List A) (k : ℕ) (d : A) → k < length xs → Member (slice_index_or xs k d) xs
@@ -56,7 +56,7 @@ module _ (p : Plain) (K : List (Act Txn)) (h : Hidden) (g : Stands p K h) (told 
       let w : ℕ = worker_of p.load.workers a.0 in
       let low : worker_of p.load.workers a.0 < p.load.workers = mod-lt (a.0 - 1) {m = p.load.workers} (let some = g.sound.workers_low in omega (arith, some)) in
       let n = member_of (λ (b : ℕ × List ℕ). worker_of p.load.workers b.0 == w) a told m (eq-eqb (worker_of p.load.workers a.0) w refl) in
-      let (k, mk, e) = member_map pair_of (h.acked w) a (subst (λ (l : List (ℕ × List ℕ)). Member a l) (acks w low) n) in
+      let (k, mk, e) = member_mapped pair_of a (h.acked w) (subst (λ (l : List (ℕ × List ℕ)). Member a l) (acks w low) n) in
       let law = acknowledged_law p K h g w k mk in
       let t = law.0 in
       subst (λ (number : ℕ). IsNumberOf (length p.load.calls) number) (ap (λ (x : Ticket). x.number) law.2 ∙ ap (λ (x : ℕ × List ℕ). x.0) e)

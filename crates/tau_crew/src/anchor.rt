@@ -82,7 +82,7 @@ fn anchor<R: Wait>(
     requires there { stream < length desk.now.load.opening.anchors.items }
     ensures keeps { KeepsSeat seat.old seat.new }
     ensures more { OnOk result (seat.new.stock.anchors ≡ seat.old.stock.anchors ++ seat.old.seen ∷ []) }
-    ensures room { OnOk result (placed + 1 < 2 ^ 32) }
+    ensures room { OnOk result (placed < MAX_ANCHORS) }
 {
     seat.agrees();
     let before = desk.load.opening.anchors.as_slice()[stream as usize];
