@@ -27,7 +27,7 @@ use Rattle.tau_run.proofs.Fresh.{fresh_begins, fresh_opened}
 use Rattle.tau_run.proofs.Waits.{waits_for}
 use Rattle.tau_run.specs.CoreRun.{IsLoadOn, IsOpeningOn, IsFirstState, AreAcks, IsRunOf, IsSoundLoad, IsCourse}
 use Rattle.tau_run.specs.Laws.{KeepCalls, AllWait}
-use Rattle.tau_run.specs.StopsLeave.{IsOver}
+use Rattle.tau_run.specs.StopsLeave.{IsOver, NamesLowest, stops_in}
 use Rattle.tau_run.specs.RunFacts.{turns_of, IsByTurns, chosen_by}
 use Rattle.tau_run.specs.Turns.{Progress, Cleared, OneByOne, IsWholeRun, IsPartOfRun}
 use Rattle.tau_run.proofs.Acks.{turns_law}
@@ -35,7 +35,7 @@ use Rattle.tau_run.proofs.Results.{run_law, lost_law}
 use Rattle.tau_run.proofs.Start.{started}
 use Rattle.tau_step.specs.Came.{CameTo}
 use Rattle.tau_step.specs.Progressed.{progress}
-use Rattle.tau_step.specs.RunTold.{Began, Came, CutShort, EachOf, Ended, Left, IsLowestStopped, Ran, RanFrom, RanNew, fates_by}
+use Rattle.tau_step.specs.RunTold.{Began, Came, CutShort, EachOf, Ended, Left, Ran, RanFrom, RanNew, fates_by}
 use Rattle.tau_engine.specs.Came.{Concluded, CutOff, Gave}
 use Rattle.tau_engine.proofs.Chosen.{chosen}
 
@@ -163,7 +163,7 @@ module _ {D : Type 0} {G : Ghosts D} (n m : ℕ) (mode : LogMode) (load : Worklo
     complete = complete n m mode load start begins sound first load_is opened ws ws' true h.came over_now;
     heard = h.heard;
     sink = h.sink;
-    disk = subst (λ (k : ℕ). IsLowestStopped k (core_of h.came.last h.came.hidden) e.disk) load_is.streams h.disk;
+    disk = subst (λ (k : ℕ). NamesLowest k (stops_in (core_of h.came.last h.came.hidden)) e.disk) load_is.streams h.disk;
     told = h.acks;
     fates = h.fates ∙ ap (λ (x : Load). fates_by (length x.calls) h.came.order h.came.told) (sym h.came.load);
     order = h.order;

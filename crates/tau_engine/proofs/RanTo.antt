@@ -28,14 +28,14 @@ use Rattle.tau_run.specs.Start.{Start, fresh_start, catalogue_of, old_at, opened
 use Rattle.tau_run.proofs.Fresh.{fresh_is_sound, fresh_olds, fresh_opened}
 use Rattle.tau_scan.specs.Sound.{IsSound}
 use Rattle.tau_run.specs.CoreRun.{IsCourse}
-use Rattle.tau_run.specs.StopsLeave.{IsLeft, Leaves, IsOver}
-use Rattle.tau_run.specs.RunFacts.{Ending, WroteFront, NamesLowest, chosen_by, IsCoreRun, IsCoreRunAt, RunTells, RunFacts}
+use Rattle.tau_run.specs.StopsLeave.{IsLeft, Leaves, IsOver, NamesLowest, stops_in}
+use Rattle.tau_run.specs.RunFacts.{Ending, WroteFront, chosen_by, IsCoreRun, IsCoreRunAt, RunTells, RunFacts}
 use Rattle.tau_run.specs.RunFacts as ending
 use Rattle.tau_run.specs.Turns.{Progress}
 use Rattle.tau_run.proofs.Results.{ends_law}
 use Rattle.tau_step.proofs.Facts as of
 use Rattle.tau_step.specs.Came.{CameTo, came_far}
-use Rattle.tau_step.specs.RunTold.{EachOf, Left, IsLowestStopped, fates_by}
+use Rattle.tau_step.specs.RunTold.{EachOf, Left, fates_by}
 use Rattle.tau_step.specs.Telling.{Heard}
 use Rattle.tau_engine.specs.DiskFacts.{HasSpaced, Past, Now, AreUnborn, NotEarlier, NextClean}
 use Rattle.tau_engine.specs.declared.status.Status.{Status}
@@ -143,17 +143,17 @@ module _ {D : Type 0} {G : Ghosts D} (only_now : OnlyNow G) (n m : ℕ) (mode : 
 
     -- ---- the run went to its end
 
-    names : (o : Option ℕ) → IsLowestStopped n s o → NamesLowest n stops o
+    names : (o : Option ℕ) → NamesLowest n (stops_in s) o → NamesLowest n stops o
     names None low = low
     names (Some j) low = low
 
     -- the report names none if no count rose
-    none_failed : (o : Option ℕ) → IsLowestStopped n s o → ((j : ℕ) → j < n → RoseAt G.faults old new j → ⊥) → o ≡ None
+    none_failed : (o : Option ℕ) → NamesLowest n (stops_in s) o → ((j : ℕ) → j < n → RoseAt G.faults old new j → ⊥) → o ≡ None
     none_failed None low worked = refl
     none_failed (Some j) low worked = absurd (worked j low.0 (rose_at G n way l s streams_are old new many all j low.1.0 low.0 low.1.1))
 
     module _ (narrow : format_of mode ≡ One) (e : RunEnd) (whole : by true l t.opening (came_far t)) (over : IsOver n s) (complete : ((j : ℕ) → j < n → stops j ≡ None) → AllAcked load run) (hears : Type 0) (held held1 held' : List ℕ) (faults faults1 faults' : ℕ) (early : faults ≤ faults1) (late : faults1 ≤ faults')
-        (heard : hears → Heard held acks e.sink_failed held1) (sink : e.sink_failed ≡ true → Rose faults faults1) (low : IsLowestStopped n s e.disk) (acks_are : e.report.acks ≡ acks)
+        (heard : hears → Heard held acks e.sink_failed held1) (sink : e.sink_failed ≡ true → Rose faults faults1) (low : NamesLowest n (stops_in s) e.disk) (acks_are : e.report.acks ≡ acks)
         (fates : e.report.fates ≡ fates_by (length l.calls) K acks) (order : e.report.order ≡ map (λ (t : Act Txn). t.call.call.number) (reported s.ends K))
         (tables : IsTablesOf (sight (setting_of l) s).row e.report.tables) (spaced : load.turns ≡ None → e.disk ≡ None → (j : ℕ) (x : List ℕ) → j < n → Now G.tells G.may_leave old new j x → HasSpaced (format_of mode) n j load x) where
       abbrev declared : List (List ℕ)
@@ -170,7 +170,7 @@ module _ {D : Type 0} {G : Ghosts D} (only_now : OnlyNow G) (n m : ℕ) (mode : 
 
       tells_ok : (e.disk ≡ None) → e.sink_failed ≡ false → Wrote hears held1 held' (rest_text declared e.report None) → SaysRun G n m mode load old new hears held held' faults faults' status.Ok
       tells_ok none works wrote =
-          let going : IsLowestStopped n s None = subst (λ (o : Option ℕ). IsLowestStopped n s o) none low in
+          let going : NamesLowest n (stops_in s) None = subst (λ (o : Option ℕ). NamesLowest n (stops_in s) o) none low in
           record {
             facts = facts narrow (Rose faults faults') (λ j k. G.tells → Made G.number G.short old new j k) (Wrote hears held held') (λ j. fault_text (status.DiskFault j)) ending.Done (core_run true whole)
                 (has_ended over complete, going, complete going, (report_text declared e.report None, report_is None, whole_text hears held held1 held' declared e.report None (heard_by false works) wrote));
@@ -191,7 +191,7 @@ module _ {D : Type 0} {G : Ghosts D} (only_now : OnlyNow G) (n m : ℕ) (mode : 
 
       tells_disk : (j : ℕ) → (e.disk ≡ Some j) → e.sink_failed ≡ false → Wrote hears held1 held' (rest_text declared e.report (Some j)) → SaysRun G n m mode load old new hears held held' faults faults' (status.DiskFault j)
       tells_disk j is works wrote =
-          let here : IsLowestStopped n s (Some j) = subst (λ (o : Option ℕ). IsLowestStopped n s o) is low in
+          let here : NamesLowest n (stops_in s) (Some j) = subst (λ (o : Option ℕ). NamesLowest n (stops_in s) o) is low in
           let same : (i : ℕ) → status.DiskFault j ≡ status.DiskFault i → j ≡ i = λ i f. cc in
           record {
             facts = facts narrow (Rose faults faults') (λ i k. G.tells → Made G.number G.short old new i k) (Wrote hears held held') (λ i. fault_text (status.DiskFault i)) (ending.DiskFailed j) (inl (core_run true whole))

@@ -24,13 +24,13 @@ use Rattle.tau_base.specs.Modes.{format_of}
 use Rattle.tau_scan.specs.Sound.{IsSound}
 use Rattle.tau_run.specs.Start.{fresh_start, catalogue_of, old_at, opened_at}
 use Rattle.tau_run.specs.CoreRun.{IsSoundLoad}
-use Rattle.tau_run.specs.StopsLeave.{IsLeft}
+use Rattle.tau_run.specs.StopsLeave.{IsLeft, NamesLowest, stops_in}
 use Rattle.tau_run.specs.RunFacts as ending
 use Rattle.tau_run.specs.RunFacts.{chosen_by, IsCoreRun}
 use Rattle.tau_run.proofs.Imaged.{imaged, acknowledged}
 use Rattle.tau_run.proofs.Results.{history_law}
 use Rattle.tau_step.specs.Came.{CameTo}
-use Rattle.tau_step.specs.RunTold.{IsLowestStopped, fates_by}
+use Rattle.tau_step.specs.RunTold.{fates_by}
 use Rattle.tau_step.specs.Telling.{Heard}
 use Rattle.tau_engine.specs.Bench.{IsMeasured, PlaysWell}
 use Rattle.tau_engine.specs.Came.{Concluded}
@@ -95,7 +95,7 @@ module _ {D : Type 0} {G : Ghosts D} (only_now : OnlyNow G) (n m : ℕ) (load : 
   all = to.all only_now n m Values load ws after h.acks t old mid new many streams back
 
   -- where no disk failed
-  abbrev went_well : IsLowestStopped n s None → IsRehearsed G n m load old new (Wrote hears held held')
+  abbrev went_well : NamesLowest n (stops_in s) None → IsRehearsed G n m load old new (Wrote hears held held')
   went_well going = record {
     failed = None;
     ends = clean_below G n (fresh_way G n (catalogue_of load)) l s streams_are old new many all n (omega arith) going;
@@ -116,7 +116,7 @@ module _ {D : Type 0} {G : Ghosts D} (only_now : OnlyNow G) (n m : ℕ) (load : 
   pub rehearsal : IsRehearsed G n m load old new (Wrote hears held held')
   rehearsal = by end.disk h.disk
     where
-      by : (failed : Option ℕ) → IsLowestStopped n s failed → IsRehearsed G n m load old new (Wrote hears held held')
+      by : (failed : Option ℕ) → NamesLowest n (stops_in s) failed → IsRehearsed G n m load old new (Wrote hears held held')
       by None going = went_well going
       by (Some j) q = record {
         failed = Some j;
@@ -153,8 +153,8 @@ module _ {D : Type 0} {G : Ghosts D} (only_now : OnlyNow G) (n m : ℕ) (load : 
   abbrev h_on : Concluded n m Values load (fresh_start n) ws q.after hears held held' rose q.end
   h_on = gave only_now n m Values load room sound ws q.after streams.count hears held held' rose load.turns refl (Ok q.end) q.ran
 
-  going : IsLowestStopped n h_on.came.state None
-  going = subst (λ (o : Option ℕ). IsLowestStopped n h_on.came.state o) q.whole h_on.disk
+  going : NamesLowest n (stops_in h_on.came.state) None
+  going = subst (λ (o : Option ℕ). NamesLowest n (stops_in h_on.came.state) o) q.whole h_on.disk
 
   pub measured_on : IsMeasured G n m load old new (Wrote hears held held') rows
   measured_on = record {

@@ -22,7 +22,7 @@ use Rattle.tau_scan.proofs.Plans.{goes_on, goes_stopped}
 use Rattle.tau_open.proofs.Closed.{rest_back}
 use Rattle.tau_machine.specs.State.{Core}
 use Rattle.tau_core.specs.declared.state.Load.{Load}
-use Rattle.tau_run.specs.StopsLeave.{HasFront, IsFronted, IsLeft, Leaves}
+use Rattle.tau_run.specs.StopsLeave.{HasFront, HasSomeFront, IsLeft, Leaves}
 use Rattle.tau_step.specs.RunTold.{EachOf, Left}
 use Rattle.tau_engine.specs.DiskFacts.{Past, Now, AreUnborn, NotEarlier, NextClean}
 use Rattle.tau_base.proofs.Lists.{some_at, got_mapped}
@@ -102,7 +102,7 @@ module _ {D : Type 0} (G : Ghosts D) where
             | inl first ↦ inl (before x first)
             | inr made ↦ opens x made
           ]
-          | inr ran ↦ inr (subst (λ (k : ℕ). IsFronted k j (way.first j) l s x) streams ran)
+          | inr ran ↦ inr (subst (λ (k : ℕ). HasSomeFront k j (way.first j) l s x) streams ran)
         ]
 
     -- no moment has fallen

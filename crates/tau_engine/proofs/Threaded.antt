@@ -34,11 +34,11 @@ use Rattle.tau_crew_facts.specs.Spacing.{AreSpaced}
 use Rattle.tau_run.specs.CoreRun.{IsLoadOn, IsOpeningOn, IsRunOf, IsSoundLoad}
 use Rattle.tau_core.specs.declared.opening.Opening.{Opening}
 use Rattle.tau_engine.proofs.Ran.{loaded_from}
-use Rattle.tau_run.specs.StopsLeave.{IsOver}
+use Rattle.tau_run.specs.StopsLeave.{IsOver, NamesLowest, stops_in}
 use Rattle.tau_run.specs.RunFacts.{chosen_by}
 use Rattle.tau_run.specs.Turns.{Progress}
 use Rattle.tau_step.specs.Came.{CameTo, came_far}
-use Rattle.tau_step.specs.RunTold.{IsLowestStopped, fates_by}
+use Rattle.tau_step.specs.RunTold.{fates_by}
 use Rattle.tau_crew_facts.specs.Ends.{AreApart, IsThreadEnd, IsThreadDone}
 use Rattle.tau_crew_facts.specs.Threads.{IsLowestFailed, NoneFailed, RanInThreads, RanInThreadsFrom, ThreadsEnded, ThreadsRan, ThreadsShort}
 use Rattle.tau_crew_facts.proofs.Came as at
@@ -81,7 +81,7 @@ module _ {D : Type 0} {G : Ghosts D} (n m : ℕ) (mode : LogMode) (load : Worklo
   many = e.count ∙ load_is.streams
 
   -- the lowest failed disk is that of the lowest stopped stream
-  pub lowest : (o : Option ℕ) → IsLowestFailed ws' o → IsLowestStopped n came_to.state o
+  pub lowest : (o : Option ℕ) → IsLowestFailed ws' o → NamesLowest n (stops_in came_to.state) o
   lowest None all = λ j lt.
       (let w = some_at ws j (let b = many in omega (arith, lt, b)) in
       let x = came_to.writers.each j w.0 w.1 in
@@ -199,7 +199,7 @@ module _ {D : Type 0} {G : Ghosts D} (only_now : OnlyNow G) (n m : ℕ) (mode : 
   t = came_to n m mode load threads (fresh_start n) begins sound first load_is ws ws' r.state r.acks r.came
 
   going : (j : ℕ) → j < n → (t.state.streams j).stop ≡ None
-  going = subst (λ (o : Option ℕ). IsLowestStopped n t.state o) none (lowest n m mode load threads (fresh_start n) begins sound first load_is ws ws' r.state r.acks r.came e.disk r.disk)
+  going = subst (λ (o : Option ℕ). NamesLowest n (stops_in t.state) o) none (lowest n m mode load threads (fresh_start n) begins sound first load_is ws ws' r.state r.acks r.came e.disk r.disk)
 
   is : IsRunOf n first.load r.came.closed.joined (at.end n m mode load (fresh_start n) first begins load_is sound r.state ws ws' r.acks r.came) load t.run
   is =

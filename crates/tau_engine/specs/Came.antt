@@ -12,12 +12,12 @@ use Rattle.tau_machine.specs.State.{sight}
 use Rattle.tau_text.specs.declared.load.Workload.{Workload}
 use Rattle.tau_report.specs.declared.report.RunEnd.{RunEnd}
 use Rattle.tau_core.specs.View.{setting_of}
-use Rattle.tau_run.specs.StopsLeave.{IsOver}
+use Rattle.tau_run.specs.StopsLeave.{IsOver, NamesLowest, stops_in}
 use Rattle.tau_run.specs.Run.{AllAcked}
 use Rattle.tau_run.specs.RunFacts.{chosen_by}
 use Rattle.tau_run.specs.Start.{Start}
 use Rattle.tau_step.specs.Came.{CameTo, came_far}
-use Rattle.tau_step.specs.RunTold.{IsLowestStopped, fates_by}
+use Rattle.tau_step.specs.RunTold.{fates_by}
 use Rattle.tau_step.specs.Telling.{Heard}
 
 module _ {D : Type 0} {G : Ghosts D} (n m : ℕ) (mode : LogMode) (load : Workload) (start : Start) (ws ws' : List (Writer D G)) (hears : Type 0) (held held' : List ℕ) (sink_rose : Type 0) where
@@ -30,7 +30,7 @@ module _ {D : Type 0} {G : Ghosts D} (n m : ℕ) (mode : LogMode) (load : Worklo
     pub complete : ((j : ℕ) → j < n → (came.state.streams j).stop ≡ None) → AllAcked load came.run
     pub heard : hears → Heard held acks end.sink_failed held'
     pub sink : end.sink_failed ≡ true → sink_rose
-    pub disk : IsLowestStopped n came.state end.disk
+    pub disk : NamesLowest n (stops_in came.state) end.disk
     pub told : end.report.acks ≡ acks
     pub fates : end.report.fates ≡ fates_by (length came.stands_on.calls) came.joined acks
     pub order : end.report.order ≡ map (λ (t : Act Txn). t.call.call.number) (reported came.state.ends came.joined)
