@@ -1,0 +1,25 @@
+-- One call more.
+use Rattle.std.proofs.Common.{ℕ, Bool, ◌≡◌, ◌++◌, ◌∷◌, [], ◌&&◌, not, List, take, map, get_or, sym, ap, ◌∙◌}
+use Rattle.std.specs.Prelude.{slice_index_or, false}
+use Rattle.std.proofs.lemmas.List.{take_more, map-append}
+use Rattle.tau_model.specs.History.{Act, Numbered, updates}
+use Rattle.tau_inspect.specs.Audit.{Case, acts, is_taken}
+use Rattle.tau_inspect.specs.Executed.{numbered}
+use Rattle.tau_inspect.specs.Taint.{is_missing}
+use Rattle.tau_inspect.proofs.Survivals.{read_there, flag_is}
+use Rattle.tau_inspect.proofs.Checked.{here_at}
+use Rattle.tau_inspect.specs.Cases.{in_case}
+use Rattle.tau_inspect.proofs.check_taint.missing_of.Goals as goal
+
+pub loop-i-preserved : goal.loop-i-preserved
+loop-i-preserved c =
+    let k : Case = (in_case c.args.case.now) in let i : ℕ = c.loop-i.i in let e = c.index-done-i.result in
+    let y : Act Numbered = record { call = numbered c.args.case.now.load.now.calls (get_or c.args.case.now.report.now.order i 0); effect = e } in
+    let at = read_there k c.args.done.now c.requires.done c.requires.many i e c.loop-i-test.true c.index-done-i.is in
+    let here = here_at (acts k) i y at in
+    let p : Act Numbered → Bool = is_missing (is_taken k) in
+    let flag = flag_is k c.args.takes.now c.requires.there c.requires.flagged i y at in
+    let gone : c.is_gone.result ≡ p y = c.is_gone.ensures ∙ ap (λ (b : Bool). updates e && not b) (c.is_flagged.ensures ∙ ap (λ (l : List ℕ). slice_index_or c.args.takes.now (get_or l i 0) false) c.deref.ensures ∙ flag) in
+    c.in_ok-push.ensures.items ∙ ap (λ (b : Bool). c.loop-i.missing.items ++ b ∷ []) gone ∙ ap (λ (l : List Bool). l ++ p y ∷ []) c.loop-i.invariant
+    ∙ ap (λ (x : Act Numbered). map p (take i (acts k)) ++ p x ∷ []) here.1
+    ∙ sym (map-append p (take i (acts k)) (get_or (acts k) i y ∷ [])) ∙ ap (map p) (sym (take_more (acts k) i y here.0))

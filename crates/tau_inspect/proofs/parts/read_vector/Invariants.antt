@@ -1,0 +1,6 @@
+-- The first components are read, and can be nothing else.
+use Rattle.tau_inspect.proofs.Cutting.{ReadTo}
+use Rattle.tau_inspect.proofs.parts.read_vector.Given as goal
+
+abbrev pub invariant-loop-j : goal.invariant-loop-j
+invariant-loop-j l = ReadTo l.streams l.text l.j l.lv l.rest

@@ -1,0 +1,80 @@
+//! Cutting texts at a byte, and reading the components of a vector.
+ghost use Rattle.std.specs.Prelude.{ℕ, ◌≡◌, ◌<◌, ◌≤◌, ◌++◌, ◌∷◌, List, true, IfOk, MatchOption, decimal};
+ghost use Rattle.tau_report.specs.Lines.{vector_text};
+ghost use Rattle.tau_inspect.specs.Parts.{lacks, IsCut};
+ghost use Rattle.tau_inspect.specs.Reading.{Reads};
+ghost use Rattle.tau_inspect.specs.ReportFor.{IsVector};
+
+use crate::words::read_plain;
+use tau_base::{Lv, MAX_LSN, MAX_STREAMS, NoMemory};
+
+/// Where a byte stands first in a text.
+pub fn cut_at(text: &[u8], byte: u8) -> Option<usize>
+    ensures { MatchOption result (lacks byte text.now ≡ true) (IsCut byte text.now) }
+{
+    for i in 0..text.len() {
+        if text[i] == byte {
+            return Some(i);
+        }
+    }
+    None
+}
+
+/// A component of a vector.
+fn read_position(word: &[u8]) -> Result<Option<u64>, NoMemory>
+    ensures { IfOk result (Reads decimal (λ p. p < MAX_LSN) word.now) }
+{
+    match read_plain(word) {
+        Err(_) => Err(NoMemory),
+        Ok(None) => Ok(None),
+        Ok(Some(position)) => {
+            if position >= MAX_LSN {
+                return Ok(None);
+            }
+            Ok(Some(position))
+        }
+    }
+}
+
+/// A component of a vector with a comma after it, and what is left.
+fn next_part(text: &[u8]) -> Result<Option<(u64, &[u8])>, NoMemory>
+    ensures { IfOk result (λ o. MatchOption o ((p : ℕ) (more : List ℕ) → p < MAX_LSN → text.now ≡ decimal p ++ 44 ∷ more → ⊥) (λ a. (a.0 < MAX_LSN) × (text.now ≡ decimal a.0 ++ 44 ∷ a.1.now))) }
+{
+    match cut_at(text, b',') {
+        None => Ok(None),
+        Some(i) => match read_position(&text[..i]) {
+            Err(_) => Err(NoMemory),
+            Ok(None) => Ok(None),
+            Ok(Some(position)) => Ok(Some((position, &text[i + 1..]))),
+        },
+    }
+}
+
+/// A vector with so many components.
+pub fn read_vector(text: &[u8], streams: usize) -> Result<Option<Lv>, NoMemory>
+    requires low { 1 ≤ streams }
+    requires high { streams ≤ MAX_STREAMS }
+    ensures { IfOk result (Reads vector_text (IsVector streams) text.now) }
+{
+    let mut lv = Lv::zero(streams);
+    let mut rest = text;
+    for j in 0..streams - 1 {
+        match next_part(rest) {
+            Err(_) => return Err(NoMemory),
+            Ok(None) => return Ok(None),
+            Ok(Some((position, more))) => {
+                lv.set(j, position);
+                rest = more;
+            }
+        }
+    }
+    match read_position(rest) {
+        Err(_) => Err(NoMemory),
+        Ok(None) => Ok(None),
+        Ok(Some(position)) => {
+            lv.set(streams - 1, position);
+            let _known = lv.as_slice();
+            Ok(Some(lv))
+        }
+    }
+}
