@@ -9,13 +9,13 @@ use Rattle.tau_disk.specs.Disk.{Passes}
 use Rattle.tau_disk.specs.Passing.{passes_none, passes_on, barrier}
 use Rattle.tau_stream.specs.Stream.{IsOldOrNew, IsUnborn}
 use Rattle.tau_begin.specs.Opened.{IsTouched}
-use Rattle.tau_begin.specs.Barrier.{IsPut, OpeningIsPut}
+use Rattle.tau_begin.specs.Barrier.{IsBarrier, OpeningHasBarrier}
 
 unborn_content : (f : Format) (n j : ℕ) (x : List ℕ) → length x ≤ 17 → HasContent f n j [] x
 unborn_content f n j x short = let small : nat_le (length x) 17 ≡ true = grind (arith, nat_tests, short) in rw small refl
 
-module _ {D : Type 0} (G : Ghosts D) (only_now : (d : D) (x : List ℕ) → G.may_leave_since d (G.moment d) x → G.may_leave d x) (f : Format) (n j : ℕ) (sizes old body : List ℕ) (d e : D) (t : G.tells)
-    (touched : IsTouched G f n j sizes old body d e) (has : HasContent f n j old (G.seen d)) (empty : G.seen d ≡ [] → (old ≡ []) × IsUnborn (G.may_leave d)) (g : D) (P : List ℕ → Type 0) (passes : Passes G.moment G.may_leave_since e g P) where
+module _ {D : Type 0} (G : Ghosts D) (only_now : (d : D) (x : List ℕ) → G.may_leave_since d (G.moment d) x → G.may_leave d x) (f : Format) (n j long : ℕ) (old body : List ℕ) (d e : D) (t : G.tells)
+    (touched : IsTouched G f n j long old body d e) (has : HasContent f n j old (G.seen d)) (empty : G.seen d ≡ [] → (old ≡ []) × IsUnborn (G.may_leave d)) (g : D) (P : List ℕ → Type 0) (passes : Passes G.moment G.may_leave_since e g P) where
   abbrev Left : List ℕ → Type 0
   Left x = IsOldOrNew f n j old body x ⊎ P x
 
@@ -26,14 +26,14 @@ module _ {D : Type 0} (G : Ghosts D) (only_now : (d : D) (x : List ℕ) → G.ma
   after = passes_on G.moment G.may_leave_since mid e g (IsOldOrNew f n j old body) P Left (touched.starts t (λ none. (empty none).1)) passes (λ x is. inl is) (λ x is. inr is)
 
   abbrev Put : Type 0
-  Put = (b : ℕ) × IsPut G b d g × ((x : List ℕ) → G.may_leave_since g b x → Left x)
+  Put = (b : ℕ) × IsBarrier G b d g × ((x : List ℕ) → G.may_leave_since g b x → Left x)
 
   from_entry : G.seen d ≡ [] → Put
   from_entry none = (
     G.moment d,
     record {
       low = omega arith;
-      high = omega (arith, touched.looked.only.moments.later, after.later);
+      high = omega (arith, touched.read.only.moments.later, after.later);
       since_b = λ x s. inr s;
       entry = λ tells empty. refl;
     },
@@ -41,24 +41,24 @@ module _ {D : Type 0} (G : Ghosts D) (only_now : (d : D) (x : List ℕ) → G.ma
         (λ early. let at : G.may_leave d x = at_entry x early in
         inl (inl (subst (λ (c : List ℕ). HasContent f n j c x) (sym (empty none).0) (unborn_content f n j x ((empty none).1 x at)))))
         (λ is. is)
-        (after.new_ones (G.moment d) x touched.looked.only.moments.later s),
+        (after.new_ones (G.moment d) x touched.read.only.moments.later s),
   )
     where
       at_entry : (x : List ℕ) → G.may_leave_since touched.mid (G.moment d) x → G.may_leave d x
-      at_entry x s = ⊎_elim (λ before. only_now d x before) (λ is. is) (touched.looked.only.moments.new_ones (G.moment d) x (omega arith) s)
+      at_entry x s = ⊎_elim (λ before. only_now d x before) (λ is. is) (touched.read.only.moments.new_ones (G.moment d) x (omega arith) s)
 
   from_barrier : (G.seen d ≡ [] → ⊥) → Put
   from_barrier some =
-      let both = barrier G.moment G.may_leave_since G.may_leave only_now d mid g (G.seen mid) Left touched.looked.only.moments (touched.looked.settled t some) after in (
+      let both = barrier G.moment G.may_leave_since G.may_leave only_now d mid g (G.seen mid) Left touched.read.only.moments (touched.read.settled t some) after in (
         G.moment mid,
         record {
-          low = touched.looked.only.moments.later;
+          low = touched.read.only.moments.later;
           high = after.later;
           since_b = both.0;
           entry = λ tells none. absurd (some none);
         },
         λ x s. ⊎_elim
-            (λ same. inl (inl (subst (λ (y : List ℕ). HasContent f n j old y) (sym (same ∙ touched.looked.same t)) has)))
+            (λ same. inl (inl (subst (λ (y : List ℕ). HasContent f n j old y) (sym (same ∙ touched.read.same t)) has)))
             (λ is. is)
             (both.1 x s),
       )
@@ -71,10 +71,10 @@ module _ {D : Type 0} (G : Ghosts D) (only_now : (d : D) (x : List ℕ) → G.ma
       no_list e = cc
 
   -- whatever a run does then, which leaves P
-  pub put_on : (b : ℕ) × IsPut G b d g × ((x : List ℕ) → G.may_leave_since g b x → IsOldOrNew f n j old body x ⊎ P x)
+  pub put_on : (b : ℕ) × IsBarrier G b d g × ((x : List ℕ) → G.may_leave_since g b x → IsOldOrNew f n j old body x ⊎ P x)
   put_on = by_bytes (G.seen d) refl
 
-pub opening_is_put : {D : Type 0} (G : Ghosts D) (only_now : (d : D) (x : List ℕ) → G.may_leave_since d (G.moment d) x → G.may_leave d x) → OpeningIsPut G
-opening_is_put G only_now f n j sizes old body d e t touched has empty =
-    let put = put_on G only_now f n j sizes old body d e t touched has empty e (IsOldOrNew f n j old body) (passes_none G.moment G.may_leave_since e (IsOldOrNew f n j old body)) in
+pub opening_has_barrier : {D : Type 0} (G : Ghosts D) (only_now : (d : D) (x : List ℕ) → G.may_leave_since d (G.moment d) x → G.may_leave d x) → OpeningHasBarrier G
+opening_has_barrier G only_now f n j long old body d e t touched has empty =
+    let put = put_on G only_now f n j long old body d e t touched has empty e (IsOldOrNew f n j old body) (passes_none G.moment G.may_leave_since e (IsOldOrNew f n j old body)) in
     (put.0, put.1, λ x s. ⊎_elim (λ is. is) (λ is. is) (put.2 x s))

@@ -16,7 +16,7 @@ use Rattle.tau_scan.specs.Reading.{or_else}
 use Rattle.tau_epoch.specs.Epochs.{largest}
 use Rattle.tau_scan.specs.Epochs.{marks_of}
 use Rattle.tau_scan.specs.declared.fault.LogCause.TheVariants as cause
-use Rattle.tau_begin.specs.Given.{all_nothing, is_nothing, next_epoch}
+use Rattle.tau_begin.specs.Given.{all_empty, is_empty, next_epoch}
 
 or_none : (a b : Option LogFault) → or_else a b ≡ None → (a ≡ None) × (b ≡ None)
 or_none None b is = (refl, is)
@@ -46,7 +46,7 @@ few_anchors text sizes log none many j ps at =
     let rest = (or_none (declared_fault text 0 log.streams) (or_else (long_fault 0 sizes log.streams) (last_fault log.streams)) none).1 in
     not_long sizes log.streams 0 (or_none (long_fault 0 sizes log.streams) (last_fault log.streams) rest).0 many j ps at
 
-nothing_is : (xs : List ℕ) → is_nothing xs ≡ true → xs ≡ []
+nothing_is : (xs : List ℕ) → is_empty xs ≡ true → xs ≡ []
 nothing_is [] is = refl
 nothing_is (x ∷ xs) is = absurd cc
 
@@ -54,16 +54,16 @@ and_both : (a b : Bool) → (a && b) ≡ true → (a ≡ true) × (b ≡ true)
 and_both true b is = (refl, is)
 and_both false b is = absurd cc
 
-all_empty : (contents : List Content) → all_nothing (bytes_in contents) ≡ true → (j : ℕ) (c : Content) → slice_get contents j ≡ Some c → c.bytes ≡ []
+all_empty : (contents : List Content) → all_empty (bytes_in contents) ≡ true → (j : ℕ) (c : Content) → slice_get contents j ≡ Some c → c.bytes ≡ []
 all_empty [] none j c at = absurd cc
-all_empty (x ∷ contents) none zero c at = subst (λ (z : Content). z.bytes ≡ []) (some_is x c at) (nothing_is x.bytes (and_both (is_nothing x.bytes) (all_nothing (bytes_in contents)) none).0)
-all_empty (x ∷ contents) none (suc j) c at = all_empty contents (and_both (is_nothing x.bytes) (all_nothing (bytes_in contents)) none).1 j c at
+all_empty (x ∷ contents) none zero c at = subst (λ (z : Content). z.bytes ≡ []) (some_is x c at) (nothing_is x.bytes (and_both (is_empty x.bytes) (all_empty (bytes_in contents)) none).0)
+all_empty (x ∷ contents) none (suc j) c at = all_empty contents (and_both (is_empty x.bytes) (all_empty (bytes_in contents)) none).1 j c at
 
 -- a run without an epoch begins on empty contents
 pub none_before : (contents : List Content) (log : Log) (epoch : ℕ) → epoch ≡ next_epoch (bytes_in contents) log → epoch ≡ 0 → (j : ℕ) (c : Content) → slice_get contents j ≡ Some c → c.bytes ≡ []
-none_before contents log epoch is none = by_case (all_nothing (bytes_in contents)) refl
+none_before contents log epoch is none = by_case (all_empty (bytes_in contents)) refl
   where
-    by_case : (b : Bool) → all_nothing (bytes_in contents) ≡ b → (j : ℕ) (c : Content) → slice_get contents j ≡ Some c → c.bytes ≡ []
+    by_case : (b : Bool) → all_empty (bytes_in contents) ≡ b → (j : ℕ) (c : Content) → slice_get contents j ≡ Some c → c.bytes ≡ []
     by_case true all = all_empty contents all
     by_case false not =
         let some : epoch ≡ largest (marks_of log) + 1 = is ∙ ap (λ (b : Bool). if b then 0 else largest (marks_of log) + 1) not in

@@ -9,7 +9,7 @@ use Rattle.tau_record.specs.declared.entry.Entry.TheVariants.{Epoch}
 use Rattle.tau_record.specs.Format.{One}
 use Rattle.tau_record.specs.Record.{spelling}
 use Rattle.tau_stream.specs.Stream.{catalogue_record}
-use Rattle.tau_begin.specs.Given.{epoch_record, given_after}
+use Rattle.tau_scan.specs.Given.{epoch_record, given_after}
 
 pub if_ok_then : {A E : Type 0} (P Q : A → Type 0) (r : Result A E) → IfOk r P → ((x : A) → P x → Q x) → IfOk r Q
 if_ok_then P Q (Ok x) is then_so = then_so x is

@@ -1,8 +1,6 @@
 pub mod Giving
 pub mod Starting
 pub mod Ending
-pub mod Finding
-pub mod Looking
 pub mod Beginning
 pub mod Slices
 pub mod Opened

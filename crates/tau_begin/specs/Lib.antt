@@ -1,5 +1,5 @@
 pub mod Given
 pub mod Starts
-pub mod Finding
+pub mod Reading
 pub mod Opened
 pub mod Barrier

@@ -8,7 +8,7 @@ use Rattle.tau_scan.specs.declared.log.Log.{Log}
 use Rattle.tau_core.specs.declared.opening.Opening.{Opening}
 use Rattle.tau_open.specs.declared.start.StreamStart.{StreamStart}
 use Rattle.tau_open.specs.Reopening.{IsStreamStart, started}
-use Rattle.tau_begin.specs.Given.{given_after}
+use Rattle.tau_scan.specs.Given.{given_after}
 
 -- stream j of n starts on this content, in a format, with what it is given in the epoch with this number and vector
 pub record IsStartOf (f : Format) (n j : ℕ) (text : List ℕ) (epoch : ℕ) (lv : List ℕ) (c : Content) (p : StreamStart) : Type 0 where

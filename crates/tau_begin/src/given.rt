@@ -2,8 +2,9 @@
 ghost use Rattle.std.specs.Prelude.{◌≡◌, ◌≤◌, ◌<◌, ◌+◌, ◌*◌, ◌^◌, ℕ, List, [], length, IfOk};
 ghost use Rattle.tau_base.specs.declared.limits.TheConstants.{MAX_CATALOGUE, MAX_STREAMS};
 ghost use Rattle.tau_block.specs.Image.{IsBody};
-ghost use Rattle.tau_begin.specs.Given.{epoch_record, given_after, next_epoch, all_nothing};
 ghost use Rattle.tau_scan.specs.Contents.{bytes_in};
+ghost use Rattle.tau_scan.specs.Given.{epoch_record, given_after};
+ghost use Rattle.tau_begin.specs.Given.{all_empty, next_epoch};
 ghost use Rattle.tau_epoch.specs.Epochs.{largest};
 ghost use Rattle.tau_scan.specs.Epochs.{marks_of};
 
@@ -14,8 +15,8 @@ use tau_record::{encode_catalogue, encode_epoch};
 use tau_scan::{Log, largest_epoch};
 
 /// Whether the contents of all streams are empty.
-pub fn all_nothing(contents: &[Content]) -> bool
-    ensures { result ≡ all_nothing (bytes_in contents.now) }
+pub fn all_empty(contents: &[Content]) -> bool
+    ensures { result ≡ all_empty (bytes_in contents.now) }
 {
     for content in contents {
         if content.bytes.len() > 0 {
@@ -30,7 +31,7 @@ pub fn next_epoch(contents: &[Content], log: &Log) -> Result<u32, NoMemory>
     ensures is { IfOk result (λ n. n ≡ next_epoch (bytes_in contents.now) log.now) }
     ensures small { IfOk result (λ n. n < 2 ^ 32) }
 {
-    if all_nothing(contents) {
+    if all_empty(contents) {
         return Ok(0);
     }
     match largest_epoch(log.streams.as_slice()).checked_add(1) {
@@ -52,7 +53,7 @@ fn epoch_bytes(alloc: Global, epoch: u32, elv: &Lv) -> Result<Vec<u8>, NoMemory>
     encode_epoch(alloc, epoch, elv)
 }
 
-/// What a stream that held this content is given: the catalogue with this text if it held nothing, and the epoch's record.
+/// What a stream with this content is given: the catalogue with this text if the content is empty, and the epoch's record.
 pub fn given_after(
     alloc: Global,
     content: &[u8],

@@ -9,5 +9,5 @@ mod opening;
 mod read;
 mod starts;
 
-pub use laws::opening_is_put;
+pub use laws::opening_has_barrier;
 pub use open::open_run;

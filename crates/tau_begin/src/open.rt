@@ -1,28 +1,23 @@
 //! A run opens its streams.
-ghost use Rattle.std.specs.Prelude.{◌≡◌, ◌≤◌, ◌<◌, ◌+◌, ℕ, List, [], length, vec_len};
+ghost use Rattle.std.specs.Prelude.{◌≡◌, ◌≤◌, ◌<◌, ◌+◌, ◌^◌, ℕ, List, [], length, take, drop, map, slice_get, vec_len, vec_capacity, Some, None, Ok, Err, IfOk, IfErr, OnErr};
 ghost use Rattle.tau_base.specs.declared.limits.TheConstants.{MAX_CATALOGUE};
 ghost use Rattle.tau_base.specs.Modes.{most_streams};
-ghost use Rattle.std.specs.Prelude.{vec_capacity, drop, take, map, slice_get, Some, None, Ok, Err, IfOk, IfErr, OnOk, OnErr};
-ghost use Rattle.tau_disk.specs.Used.{Each, EachIn, EachUsed, IsClean};
-ghost use Rattle.tau_scan.specs.declared.fault.LogFault.{LogFault};
-ghost use Rattle.std.specs.Prelude.{◌^◌};
 ghost use Rattle.tau_record.specs.declared.entry.Placed.{Placed as OneRecord};
 ghost use Rattle.tau_record.specs.Content.{anchors_of};
 ghost use Rattle.tau_record.specs.Vector.{ArePlaces};
-ghost use Rattle.tau_scan.specs.Contents.{AreShortContents, HasContents, bytes_in};
+ghost use Rattle.tau_scan.specs.declared.fault.LogFault.{LogFault};
+ghost use Rattle.tau_scan.specs.Contents.{AreShortContents, bytes_in};
+ghost use Rattle.tau_scan.specs.Reading.{IsLog};
 ghost use Rattle.tau_scan.specs.Sound.{IsOrderOver};
 ghost use Rattle.tau_scan.specs.Taken.{Kept, taken};
 ghost use Rattle.tau_replay.specs.Redone.{IsRedone, IsTangledAt};
 ghost use Rattle.tau_begin.specs.Given.{next_epoch};
+ghost use Rattle.tau_begin.specs.Opened.{BeginsOn, IsOpenRun, IsRefusedOn, ReadyToStart, RefusesReading, RefusesRun};
 ghost use Rattle.tau_begin.specs.Starts.{AreStarts, IsOpeningOn};
-ghost use Rattle.tau_scan.specs.Reading.{HasRead, IsLog};
-ghost use Rattle.tau_disk.specs.Stages.{AreLengths, OnlySynced};
-ghost use Rattle.tau_begin.specs.Finding.{AreFound, StopsFinding};
-ghost use Rattle.tau_begin.specs.Opened.{AreLooked, Begins, IsLooked, IsOpenRun, IsReadFrom, IsReady, IsRefusedOn, RefusesReading, RefusesRun, StopsLooking};
 
 use crate::given::next_epoch;
 use crate::opening::opening_of;
-use crate::read::{read_streams, refusal_of};
+use crate::read::{read_first, refusal_of};
 use crate::starts::starts_of;
 use std::alloc::Global;
 use tau_base::{Format, NoMemory};
@@ -30,7 +25,7 @@ use tau_block::Content;
 use tau_core::Opening;
 use tau_disk::Disk;
 use tau_model::Tables;
-use tau_open::{StreamStart, ask_each, reopen_streams};
+use tau_open::{StreamStart, reopen_streams};
 use tau_replay::replay_turns;
 use tau_scan::{Log, LogCause, LogFault, ReplayRefusal, ScanRefusal};
 use tau_stream::Writer;
@@ -69,7 +64,7 @@ fn begin_on(
     requires short { AreShortContents contents.items }
     requires log { IsLog log.now }
     requires text { length text.now ≤ MAX_CATALOGUE }
-    ensures begun { IfOk result (λ r. Begins format text.now sizes.now log.now contents.items r.0 r.1.items) }
+    ensures begun { IfOk result (λ r. BeginsOn format text.now sizes.now log.now contents.items r.0 r.1.items) }
     ensures bad { (fault : LogFault) → result ≡ Err (ScanRefusal.Bad fault) → IsRefusedOn text.now sizes.now log.now fault }
     ensures no_disk { (j : ℕ) → result ≡ Err (ScanRefusal.Failed j) → ⊥ }
 {
@@ -130,9 +125,9 @@ fn starts_on(
     starts_of(alloc, format, contents, text, epoch, &log.elv)
 }
 
-/// Opens the streams of a run of a workload with this text of declarations on the first n disks: their lengths are asked,
-/// those that hold a byte are synced and then all are read, and each stream is given what stands before the run's
-/// first record. The disks leave the list for the writers. At a refusal all disks stand in their places again.
+/// Opens the streams of a run of a workload with this text of declarations on the first n disks, always the lowest first:
+/// their lengths are asked, each that has a byte is synced and then read, and each stream is given what stands before the
+/// run's first record. The disks leave the list for the writers. At a refusal all disks stand in their places again.
 pub fn open_run<D: Disk>(
     alloc: Global,
     disks: &mut Vec<D>,
@@ -179,89 +174,12 @@ fn begin_run<D: Disk>(
     requires none { room.items ≡ [] }
     requires room { n ≤ vec_capacity room }
     requires short { length text.now ≤ MAX_CATALOGUE }
-    ensures begun { IfOk result (λ r. IsReady ⟦<D as Disk>⟧ format n text.now disks.old disks.new r.0 r.1.items) }
+    ensures begun { IfOk result (λ r. ReadyToStart ⟦<D as Disk>⟧ format n text.now disks.old disks.new r.0 r.1.items) }
     ensures refused { IfErr result (λ refusal. RefusesReading ⟦<D as Disk>⟧ format n text.now disks.old disks.new refusal) }
     ensures rest { drop n disks.new ≡ drop n disks.old }
 {
     match read_first(alloc, disks, n, format, room) {
         Ok((log, contents, sizes)) => begin_on(alloc, format, text, &sizes, &log, contents),
-        Err(refusal) => Err(refusal),
-    }
-}
-
-/// Asks and reads the first n disks.
-fn read_first<D: Disk>(
-    alloc: Global,
-    disks: &mut [D],
-    n: u8,
-    format: Format,
-    room: Vec<u64>,
-) -> Result<(Log, Vec<Content>, Vec<u64>), ScanRefusal>
-    requires low { 1 ≤ n }
-    requires high { n ≤ most_streams format }
-    requires there { n ≤ length disks.old }
-    requires none { room.items ≡ [] }
-    requires room { n ≤ vec_capacity room }
-    ensures only { EachUsed (OnlySynced ⟦<D as Disk>⟧) disks.old disks.new n }
-    ensures looked { IfOk result (λ r. EachIn (λ j. j < n) (IsLooked ⟦<D as Disk>⟧ r.2.items) disks.old disks.new) }
-    ensures read { IfOk result (λ r. IsReadFrom ⟦<D as Disk>⟧ format (take n disks.old) r.2.items r.0 r.1.items) }
-    ensures bad { (fault : LogFault) → result ≡ Err (ScanRefusal.Bad fault) →
-        HasRead D.tells D.seen (Some format) (take n disks.old) (Err (ScanRefusal.Bad fault)) × EachUsed (IsClean D.tells D.number D.fails) disks.old disks.new n }
-    ensures failed { (j : ℕ) → result ≡ Err (ScanRefusal.Failed j) → StopsLooking ⟦<D as Disk>⟧ n j disks.old disks.new }
-    ensures rest { drop n disks.new ≡ drop n disks.old }
-{
-    read_run(alloc, &mut disks[..n as usize], n, format, room)
-}
-
-/// Asks and reads these disks, n of them.
-fn read_run<D: Disk>(
-    alloc: Global,
-    disks: &mut [D],
-    n: u8,
-    format: Format,
-    room: Vec<u64>,
-) -> Result<(Log, Vec<Content>, Vec<u64>), ScanRefusal>
-    requires low { 1 ≤ n }
-    requires high { n ≤ most_streams format }
-    requires there { length disks.old ≡ n }
-    requires none { room.items ≡ [] }
-    requires room { n ≤ vec_capacity room }
-    ensures only { Each (OnlySynced ⟦<D as Disk>⟧) disks.old disks.new }
-    ensures looked { IfOk result (λ r. AreLooked ⟦<D as Disk>⟧ r.2.items disks.old disks.new) }
-    ensures read { IfOk result (λ r. IsReadFrom ⟦<D as Disk>⟧ format disks.old r.2.items r.0 r.1.items) }
-    ensures bad { (fault : LogFault) → result ≡ Err (ScanRefusal.Bad fault) → HasRead D.tells D.seen (Some format) disks.old (Err (ScanRefusal.Bad fault)) × EachUsed (IsClean D.tells D.number D.fails) disks.old disks.new n }
-    ensures failed { (j : ℕ) → result ≡ Err (ScanRefusal.Failed j) → StopsLooking ⟦<D as Disk>⟧ n j disks.old disks.new }
-{
-    let mut lengths = room;
-    match ask_each(disks, n, &mut lengths) {
-        Ok(()) => read_asked(alloc, disks, format, lengths),
-        Err(refusal) => Err(refusal_of(refusal)),
-    }
-}
-
-/// Reads these disks, which have these lengths, and hands the lengths on.
-fn read_asked<D: Disk>(
-    alloc: Global,
-    disks: &mut [D],
-    format: Format,
-    lengths: Vec<u64>,
-) -> Result<(Log, Vec<Content>, Vec<u64>), ScanRefusal>
-    requires low { 1 ≤ length disks.old }
-    requires high { length disks.old ≤ most_streams format }
-    requires many { length lengths.items ≡ length disks.old }
-    requires lengths { AreLengths D.tells D.seen disks.old lengths.items }
-    ensures only { Each (OnlySynced ⟦<D as Disk>⟧) disks.old disks.new }
-    ensures found { OnOk result (AreFound ⟦<D as Disk>⟧ lengths.items disks.old disks.new) }
-    ensures found_bad { (fault : LogFault) → result ≡ Err (ScanRefusal.Bad fault) → AreFound ⟦<D as Disk>⟧ lengths.items disks.old disks.new }
-    ensures failed { (j : ℕ) → result ≡ Err (ScanRefusal.Failed j) → StopsFinding ⟦<D as Disk>⟧ lengths.items j disks.old disks.new }
-    ensures same { IfOk result (λ r. r.2 ≡ lengths) }
-    ensures read { IfOk result (λ r. HasRead D.tells D.seen (Some format) disks.old (Ok r.0)) }
-    ensures bad { (fault : LogFault) → result ≡ Err (ScanRefusal.Bad fault) → HasRead D.tells D.seen (Some format) disks.old (Err (ScanRefusal.Bad fault)) }
-    ensures contents { IfOk result (λ r. HasContents D.tells D.seen (Some format) disks.old r.0 r.1.items) }
-    ensures sound { IfOk result (λ r. IsLog r.0) }
-{
-    match read_streams(alloc, format, disks, &lengths) {
-        Ok((log, contents)) => Ok((log, contents, lengths)),
         Err(refusal) => Err(refusal),
     }
 }

@@ -3,9 +3,10 @@ ghost use Rattle.std.specs.Prelude.{◌≡◌, ◌≤◌, ◌<◌, ◌+◌, ◌+
 ghost use Rattle.tau_base.specs.declared.limits.TheConstants.{MAX_CATALOGUE, MAX_STREAMS};
 ghost use Rattle.tau_base.specs.Modes.{most_streams};
 ghost use Rattle.tau_block.specs.declared.content.Content.{Content as OneContent};
-ghost use Rattle.tau_block.specs.Image.{count_in, format_in, header_of, index_in};
+ghost use Rattle.tau_block.specs.Image.{IsBody, count_in, format_in, header_of, index_in};
 ghost use Rattle.tau_scan.specs.Contents.{AreShortContents, IsShortContent};
-ghost use Rattle.tau_begin.specs.Starts.{AreStarts, IsStartOf};
+ghost use Rattle.tau_open.specs.Reopening.{IsStreamStart};
+ghost use Rattle.tau_begin.specs.Starts.{AreStarts};
 
 use crate::given::given_after;
 use std::alloc::Global;
@@ -25,32 +26,32 @@ fn head_in(format: Format, n: u16, j: u16) -> [u8; 17]
     }
 }
 
-/// What stream `j` of `n` starts with. A content with a gate beyond all that fits into memory is refused.
+/// What stream `j` of `n` starts with on this content, and with this body after it. A content with a gate beyond all that
+/// fits into memory is refused.
 fn start_of(
-    alloc: Global,
     format: Format,
     n: u16,
     j: u16,
     content: Content,
-    text: &[u8],
-    epoch: u32,
-    elv: &Lv,
+    body: Listed<u8>,
 ) -> Result<StreamStart, NoMemory>
-    requires text { length text.now ≤ MAX_CATALOGUE }
     requires streams { n ≤ most_streams format }
     requires stream { j < n }
     requires content { IsShortContent content }
-    requires fresh { epoch ≡ 0 → content.bytes ≡ [] }
-    ensures { IfOk result (λ p. IsStartOf format n j text.now epoch elv.now content p) }
+    requires body { IsBody body × (5 ≤ length body) }
+    ensures format { IfOk result (λ p. format_in p.head ≡ format) }
+    ensures names { IfOk result (λ p. (count_in p.head ≡ n) × (index_in p.head ≡ j)) }
+    ensures content { IfOk result (λ p. p.content ≡ content) }
+    ensures body { IfOk result (λ p. p.body ≡ body) }
+    ensures sound { IfOk result (λ p. IsStreamStart p) }
 {
     if content.gate_at > MAX_IMAGE {
         return Err(NoMemory);
     }
-    let body = given_after(alloc, content.bytes.as_slice(), text, epoch, elv)?;
     Ok(StreamStart {
         head: head_in(format, n, j),
         content,
-        body: Listed::of(body),
+        body,
     })
 }
 
@@ -77,7 +78,8 @@ pub fn starts_of(
         let Some(content) = left.pop() else {
             unreachable!()
         };
-        let start = start_of(alloc, format, n as u16, j as u16, content, text, epoch, elv)?;
+        let body = given_after(alloc, content.bytes.as_slice(), text, epoch, elv)?;
+        let start = start_of(format, n as u16, j as u16, content, Listed::of(body))?;
         starts.push(start)?;
     }
     Ok(starts)

@@ -8,17 +8,8 @@ use Rattle.tau_block.specs.declared.content.Content.{Content}
 use Rattle.tau_scan.specs.Contents.{bytes_in}
 use Rattle.tau_open.specs.declared.start.StreamStart.{StreamStart}
 use Rattle.tau_open.specs.Reopening.{started}
-use Rattle.tau_scan.specs.Given.{epoch_record as epoch_of}
-use Rattle.tau_run.specs.Start.{Start, catalogue_of, given_first, opened_with}
-use Rattle.tau_begin.specs.Given.{epoch_record, given_after}
-
-same_epoch : (k : ℕ) (lv : List ℕ) → epoch_record k lv ≡ epoch_of k lv
-same_epoch zero lv = refl
-same_epoch (suc k) lv = refl
-
-pub same_given : (load : Workload) (start : Start) (old : List ℕ) → given_after (declarations_text load.declarations) start.epoch start.log.elv old ≡ given_first load start old
-same_given load start [] = ap (λ (l : List ℕ). catalogue_of load ++ l) (same_epoch start.epoch start.log.elv)
-same_given load start (b ∷ bytes) = same_epoch start.epoch start.log.elv
+use Rattle.tau_scan.specs.Given.{given_after}
+use Rattle.tau_run.specs.Start.{Start, opened_with}
 
 module _ (load : Workload) (start : Start) where
   -- this stream starts on this content
@@ -26,7 +17,7 @@ module _ (load : Workload) (start : Start) where
   StartsOn c p = (p.content ≡ c) × (p.body ≡ given_after (declarations_text load.declarations) start.epoch start.log.elv c.bytes)
 
   end_is : (c : Content) (p : StreamStart) → StartsOn c p → length (started p) ≡ length (opened_with load start c.bytes)
-  end_is c p s = ap (λ (d : Content). length (d.bytes ++ p.body)) s.0 ∙ ap (λ (l : List ℕ). length (c.bytes ++ l)) (s.1 ∙ same_given load start c.bytes)
+  end_is c p s = ap (λ (d : Content). length (d.bytes ++ p.body)) s.0 ∙ ap (λ (l : List ℕ). length (c.bytes ++ l)) s.1
 
   pub ends_are : (contents : List Content) (starts : List StreamStart) → length starts ≡ length contents
       → ((j : ℕ) (p : StreamStart) → slice_get starts j ≡ Some p → (c : Content) × (slice_get contents j ≡ Some c) × StartsOn c p)

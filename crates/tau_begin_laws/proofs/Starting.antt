@@ -18,12 +18,12 @@ use Rattle.tau_open.specs.declared.start.StreamStart.{StreamStart}
 use Rattle.tau_epoch_laws.specs.Continues.{none_in}
 use Rattle.tau_epoch_laws.proofs.Contents.{Holds, holds, catalogue_ok}
 use Rattle.tau_run.specs.Start.{given_first}
-use Rattle.tau_begin.specs.Given.{all_nothing, next_epoch}
+use Rattle.tau_begin.specs.Given.{all_empty, next_epoch}
 use Rattle.tau_begin.specs.Opened.{IsBegun}
 use Rattle.tau_begin_laws.specs.Laws.{start_on, IsOpened}
 use Rattle.tau_begin_laws.proofs.Catalogues.{no_fault, declares}
 use Rattle.tau_begin_laws.proofs.Empty.{nothing_read, nothing_held}
-use Rattle.tau_begin_laws.proofs.Ends.{same_given, ends_are}
+use Rattle.tau_begin_laws.proofs.Ends.{ends_are}
 
 module _ {D : Type 0} (G : Ghosts D) (f : Format) (load : Workload) (disks : List D) (sizes : List ℕ) (starts : List StreamStart) (b : IsBegun G f (declarations_text load.declarations) disks sizes starts) where
   abbrev Declared : Type 0
@@ -54,9 +54,9 @@ module _ {D : Type 0} (G : Ghosts D) (f : Format) (load : Workload) (disks : Lis
   ]
 
   next_is : IsNext (next_epoch (bytes_in b.contents) b.log)
-  next_is = by_bytes (all_nothing (bytes_in b.contents)) refl
+  next_is = by_bytes (all_empty (bytes_in b.contents)) refl
     where
-      by_bytes : (some : Bool) → all_nothing (bytes_in b.contents) ≡ some → IsNext (if some then 0 else largest (marks_of b.log) + 1)
+      by_bytes : (some : Bool) → all_empty (bytes_in b.contents) ≡ some → IsNext (if some then 0 else largest (marks_of b.log) + 1)
       by_bytes true is = inl (nothing_read (bytes_in b.contents) b.log.streams held.streams is, refl)
       by_bytes false is = inr (λ none. absurd (let e : false ≡ true = sym is ∙ nothing_held (bytes_in b.contents) b.log.streams held.streams none in cc e), refl)
 
@@ -86,5 +86,5 @@ module _ {D : Type 0} (G : Ghosts D) (f : Format) (load : Workload) (disks : Lis
             let s = b.begins.starts_are.each j p at in
             let held = got_or (bytes_in b.contents) j s.0.bytes [] (map_get (λ c. c.bytes) b.contents j s.0 s.1) in
             let start = start_on b.contents b.log rows.order in
-            (ap (λ (c : Content). c.bytes) s.2.content ∙ sym held, s.2.body ∙ same_given load start s.0.bytes ∙ ap (given_first load start) (sym held));
+            (ap (λ (c : Content). c.bytes) s.2.content ∙ sym held, s.2.body ∙ ap (given_first load start) (sym held));
       }

@@ -1,5 +1,9 @@
-//! Tests of runs on disks that hold a log.
+//! Tests of how a run opens its streams, against values worked out by hand.
 #![tactic(auto)]
 
 #[cfg(test)]
-mod reopened;
+mod failing;
+#[cfg(test)]
+mod opening;
+#[cfg(test)]
+mod support;

@@ -1,8 +1,0 @@
--- All contents so far are empty.
-use Rattle.std.proofs.Common.{◌≡◌, drop}
-use Rattle.tau_scan.specs.Contents.{bytes_in}
-use Rattle.tau_begin.specs.Given.{all_nothing}
-use Rattle.tau_begin.proofs.given.all_nothing.Given as goal
-
-abbrev pub invariant-loop-content : goal.invariant-loop-content
-invariant-loop-content l = all_nothing (bytes_in l.contents) ≡ all_nothing (bytes_in (drop l.content-index l.contents))
