@@ -54,17 +54,17 @@ and_both : (a b : Bool) → (a && b) ≡ true → (a ≡ true) × (b ≡ true)
 and_both true b is = (refl, is)
 and_both false b is = absurd cc
 
-all_empty : (contents : List Content) → all_empty (bytes_in contents) ≡ true → (j : ℕ) (c : Content) → slice_get contents j ≡ Some c → c.bytes ≡ []
-all_empty [] none j c at = absurd cc
-all_empty (x ∷ contents) none zero c at = subst (λ (z : Content). z.bytes ≡ []) (some_is x c at) (nothing_is x.bytes (and_both (is_empty x.bytes) (all_empty (bytes_in contents)) none).0)
-all_empty (x ∷ contents) none (suc j) c at = all_empty contents (and_both (is_empty x.bytes) (all_empty (bytes_in contents)) none).1 j c at
+each_empty : (contents : List Content) → all_empty (bytes_in contents) ≡ true → (j : ℕ) (c : Content) → slice_get contents j ≡ Some c → c.bytes ≡ []
+each_empty [] none j c at = absurd cc
+each_empty (x ∷ contents) none zero c at = subst (λ (z : Content). z.bytes ≡ []) (some_is x c at) (nothing_is x.bytes (and_both (is_empty x.bytes) (all_empty (bytes_in contents)) none).0)
+each_empty (x ∷ contents) none (suc j) c at = each_empty contents (and_both (is_empty x.bytes) (all_empty (bytes_in contents)) none).1 j c at
 
 -- a run without an epoch begins on empty contents
 pub none_before : (contents : List Content) (log : Log) (epoch : ℕ) → epoch ≡ next_epoch (bytes_in contents) log → epoch ≡ 0 → (j : ℕ) (c : Content) → slice_get contents j ≡ Some c → c.bytes ≡ []
 none_before contents log epoch is none = by_case (all_empty (bytes_in contents)) refl
   where
     by_case : (b : Bool) → all_empty (bytes_in contents) ≡ b → (j : ℕ) (c : Content) → slice_get contents j ≡ Some c → c.bytes ≡ []
-    by_case true all = all_empty contents all
+    by_case true all = each_empty contents all
     by_case false not =
         let some : epoch ≡ largest (marks_of log) + 1 = is ∙ ap (λ (b : Bool). if b then 0 else largest (marks_of log) + 1) not in
         absurd (omega (arith, some, none))

@@ -1,5 +1,5 @@
 -- A stream starts on what was read of its disk.
-use Rattle.std.proofs.Common.{ℕ, ◌≡◌, ◌+◌, ◌<◌, ◌≤◌, List, [], ◌∷◌, refl, sym, ap, subst, ◌∙◌, inl, inr, ⊎_elim, length, take, drop, arith}
+use Rattle.std.proofs.Common.{ℕ, ◌≡◌, ◌+◌, ◌<◌, ◌≤◌, List, [], ◌∷◌, refl, sym, ap, subst, ◌∙◌, inl, inr, length, take, drop, arith}
 use Rattle.std.specs.Prelude.{Option, Some, None, IsSome, IsNone, slice_get, slice_index}
 use Rattle.tau_base.proofs.Logic.{some_is}
 use Rattle.tau_base.proofs.Lists.{got_within, some_at}

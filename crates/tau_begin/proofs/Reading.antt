@@ -1,5 +1,5 @@
 -- What the steps of reading come to together, disk by disk.
-use Rattle.std.proofs.Common.{ℕ, zero, suc, ◌≡◌, ◌+◌, ◌<◌, ◌≤◌, List, [], ◌∷◌, refl, sym, ap, subst, ◌∙◌, inl, inr, ⊎_elim, length, map, take, drop, arith}
+use Rattle.std.proofs.Common.{ℕ, suc, ◌≡◌, ◌+◌, ◌<◌, ◌≤◌, List, [], ◌∷◌, refl, sym, ap, subst, ◌∙◌, inl, inr, ⊎_elim, length, map, take, drop, arith}
 use Rattle.std.specs.Prelude.{Option, Some, Result, Ok, Err, IfErr, slice_get, slice_index}
 use Rattle.std.specs.List.{AllZip}
 use Rattle.std.proofs.lemmas.Bool.{cases_eq}
@@ -8,8 +8,8 @@ use Rattle.tau_base.proofs.Lists.{got_within, some_at, length_mapped}
 use Rattle.tau_base.specs.declared.format.Format.{Format}
 use Rattle.tau_block.specs.declared.content.Content.{Content}
 use Rattle.tau_disk.specs.declared.disk.Disk.{Ghosts}
-use Rattle.tau_disk.specs.Used.{EachIn, EachUsed}
-use Rattle.tau_disk.specs.Stages.{OnlySynced, Staged, StageFails, AreLengths}
+use Rattle.tau_disk.specs.Used.{EachUsed}
+use Rattle.tau_disk.specs.Stages.{OnlySynced, StageFails, AreLengths}
 use Rattle.tau_disk.proofs.Calls.{went_on}
 use Rattle.tau_disk.proofs.Places.{get_dropped, dropped_more}
 use Rattle.tau_disk.proofs.Syncing.{only_none, only_of_read, only_on}
@@ -19,11 +19,11 @@ use Rattle.tau_scan.specs.declared.fault.ScanRefusal.{ScanRefusal}
 use Rattle.tau_scan.specs.declared.fault.ScanRefusal.TheVariants as refusal
 use Rattle.tau_scan.specs.Contents.{IsContentOf, HasContents, bytes_in}
 use Rattle.tau_scan.specs.Reading.{HasRead, IsLog}
-use Rattle.tau_scan.specs.Outside.{calls_to_settle, IsSynced, IsSettled, AreSynced, AreSettled, StopsSettling}
+use Rattle.tau_scan.specs.Outside.{calls_to_settle, IsSynced, IsSettled, AreSynced, AreSettled}
 use Rattle.tau_open.specs.declared.refusal.OpenRefusal.{OpenRefusal}
 use Rattle.tau_open.specs.declared.refusal.OpenRefusal.TheVariants as opens
 use Rattle.tau_open.specs.Opening.{Asked, FailsAsked}
-use Rattle.tau_begin.specs.Reading.{calls_before_writes, WasRead, WereRead, AreAskedFor, StopsReading}
+use Rattle.tau_begin.specs.Reading.{WasRead, WereRead, AreAskedFor, StopsReading}
 use Rattle.tau_begin.specs.Opened.{IsReadFrom, IsRefusedOn, RefusesReading}
 use Rattle.tau_begin.proofs.Slices.{get_take, taken_long, lengths_first}
 
@@ -187,5 +187,5 @@ pub reading_fails : {A D : Type 0} (G : Ghosts D) (f : Format) (n : ℕ) (text :
 reading_fails G f n text old new r refusal.NoMemory is only failed bad = only
 reading_fails G f n text old new r (refusal.Failed j) is only failed bad = (failed j is, only)
 reading_fails G f n text old new r (refusal.Bad fault) is only failed bad =
-    let (read, sizes, lengths, count, were) = bad fault is in
-    record { sizes = sizes; lengths = lengths; count = count; read = were; why = inl read }
+    let (read, were) = bad fault is in
+    record { sizes = were.0; lengths = were.1; count = were.2; read = were.3; why = inl read }

@@ -1,7 +1,7 @@
 use Rattle.std.proofs.Common.{ℕ, ◌≡◌, List, ap, subst, take, ◌∙◌}
 use Rattle.std.specs.Prelude.{Err, Some}
 use Rattle.tau_scan.specs.declared.fault.ScanRefusal.TheVariants as refusal
-use Rattle.tau_scan.specs.Outside.{AreSettled}
+use Rattle.tau_scan.specs.Outside.{AreSettled, StopsSettling}
 use Rattle.tau_scan.specs.Reading.{HasRead, log_read}
 use Rattle.tau_begin.proofs.read.read_asked.Goals as goal
 
@@ -14,3 +14,8 @@ pub returns-in-Err-clause-bad : goal.returns-in-Err-clause-bad
 returns-in-Err-clause-bad g c fault e =
     let is : c.in-Err.refusal ≡ refusal.Bad fault = cc e in
     subst (λ r. HasRead g.D.Disk.tells g.D.Disk.seen (Some c.args.format) (take c.args.n c.args.disks.now) (log_read r)) (c.in-Err.is ∙ ap (λ x. Err x) is) c.settle_first.ensures.read
+
+pub returns-in-Err-clause-failed : goal.returns-in-Err-clause-failed
+returns-in-Err-clause-failed g c j e =
+    let is : c.in-Err.refusal ≡ refusal.Failed j = cc e in
+    subst (λ (xs : List ℕ). StopsSettling g.D.Disk xs j c.args.disks.now c.settle_first.new.disks) c.deref.ensures.value (c.settle_first.ensures.failed j (c.in-Err.is ∙ ap (λ x. Err x) is))

@@ -1,4 +1,4 @@
-use Rattle.std.proofs.Common.{ℕ, ◌≡◌, ◌≤◌, List, inl, inr, sym, ap, subst, ◌∙◌, length, take, arith}
+use Rattle.std.proofs.Common.{ℕ, ◌≡◌, List, inl, inr, sym, ap, subst, ◌∙◌, length, take, arith}
 use Rattle.std.specs.Prelude.{Err, Some}
 use Rattle.tau_begin.specs.Opened.{IsReadFrom}
 use Rattle.tau_begin.specs.Reading.{AreAskedFor, WereRead}
@@ -51,10 +51,12 @@ returns-in-Ok-clause-bad g c fault e =
     let count : length c.ask_each.new.lengths.items ≡ c.args.n = omega (arith, c.in-Ok.ensures.count, c.ask_each.new.lengths.ok.0) in
     let are : AreAskedFor g.D.Disk c.ask_each.new.lengths.items c.args.n c.args.disks.now c.ask_each.new.disks = record { asked = c.in-Ok.ensures.asked; lengths = c.in-Ok.ensures.lengths; count = count } in (
       has_read g.D.Disk c.ask_each.new.lengths.items c.args.n c.args.disks.now c.ask_each.new.disks are c.requires.there (Some c.args.format) _ (c.read_asked.ensures.bad fault e),
-      c.ask_each.new.lengths.items,
-      lengths_first g.D.Disk.tells g.D.Disk.seen c.args.disks.now c.args.n c.ask_each.new.lengths.items count c.in-Ok.ensures.lengths,
-      count,
-      were_read g.D.Disk c.ask_each.new.lengths.items c.args.n c.args.disks.now c.ask_each.new.disks are c.read_asked.new.disks c.read_asked.ensures.synced (c.read_asked.ensures.settled_bad fault e),
+      (
+        c.ask_each.new.lengths.items,
+        lengths_first g.D.Disk.tells g.D.Disk.seen c.args.disks.now c.args.n c.ask_each.new.lengths.items count c.in-Ok.ensures.lengths,
+        count,
+        were_read g.D.Disk c.ask_each.new.lengths.items c.args.n c.args.disks.now c.ask_each.new.disks are c.read_asked.new.disks c.read_asked.ensures.synced (c.read_asked.ensures.settled_bad fault e),
+      ),
     )
 
 pub returns-in-Ok-clause-failed : goal.returns-in-Ok-clause-failed

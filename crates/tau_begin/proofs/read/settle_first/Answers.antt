@@ -1,6 +1,6 @@
 use Rattle.std.proofs.Common.{◌≡◌, length, rules}
 use Rattle.tau_begin.proofs.Giving.{on_ok_then}
-use Rattle.tau_begin.proofs.Slices.{synced_back, settled_back, stops_back, lengths_first, taken_long}
+use Rattle.tau_begin.proofs.Slices.{synced_back, settled_back, stops_back, lengths_first}
 use Rattle.tau_begin.proofs.read.settle_first.Goals as goal
 
 pub returns-clause-synced : goal.returns-clause-synced
