@@ -20,7 +20,11 @@ fn pending(alloc: Global, image: &[u8], failing: &[u32]) -> Result<MemDisk, Fail
 }
 
 // Opens two streams that hold records, of which these calls fail, call 1 being the write of their images.
-fn reopened(alloc: Global, first: &[u32], second: &[u32]) -> Result<(Option<ScanRefusal>, Vec<MemDisk>), Fail> {
+fn reopened(
+    alloc: Global,
+    first: &[u32],
+    second: &[u32],
+) -> Result<(Option<ScanRefusal>, Vec<MemDisk>), Fail> {
     let mut disks = Vec::new(alloc);
     disks.push(pending(alloc, &image(alloc, HEADS[0], &[CATALOGUE, PUT])?, first)?)?;
     disks.push(pending(alloc, &image(alloc, HEADS[1], &[CATALOGUE])?, second)?)?;
@@ -46,10 +50,18 @@ fn a_disk_fails_in_each_call(rt: HostRuntime) -> Result<(), Fail> {
     for call in 2..10u32 {
         let (refusal, disks) = reopened(alloc, &[call], &[])?;
         assert!(rt; refusal == Some(ScanRefusal::Failed { stream: 0 }));
-        assert_eq!(rt; calls_of(&disks), [u64::from(call), others(call, 1, 2, 5)], "call {call}");
+        assert_eq!(rt;
+            calls_of(&disks),
+            [u64::from(call), others(call, 1, 2, 5)],
+            "call {call}"
+        );
         let (refusal, disks) = reopened(alloc, &[], &[call])?;
         assert!(rt; refusal == Some(ScanRefusal::Failed { stream: 1 }));
-        assert_eq!(rt; calls_of(&disks), [others(call, 2, 5, 9), u64::from(call)], "call {call}");
+        assert_eq!(rt;
+            calls_of(&disks),
+            [others(call, 2, 5, 9), u64::from(call)],
+            "call {call}"
+        );
     }
     let (refusal, disks) = reopened(alloc, &[10], &[10])?;
     assert!(rt; refusal == None);
@@ -67,7 +79,10 @@ fn named(
     calls: [u64; 2],
 ) -> Result<(), Fail> {
     let (refusal, disks) = reopened(alloc, &[first], &[second])?;
-    assert!(rt; refusal == Some(ScanRefusal::Failed { stream }), "{first} and {second}");
+    assert!(rt;
+        refusal == Some(ScanRefusal::Failed { stream }),
+        "{first} and {second}"
+    );
     assert_eq!(rt; calls_of(&disks), calls, "{first} and {second}");
     Ok(())
 }

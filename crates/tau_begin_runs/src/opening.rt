@@ -7,22 +7,28 @@ use tau_base::Format;
 use tau_scan::{LogCause, LogFault, ScanRefusal};
 
 // Call 2, `add a 1 2`, which waits for position 53 of stream 0.
-const ADD: &[u8] = b"\x01\x00\x00\x00\x30\x00\x00\x00\x00\x00\x00\x00\x02\x00\x00\x00\x00\x00\x01\x00\x00\x00\x00\x00\x00\x00\x35\x00\x01\x00\x00\x00\x00\x00\x00\x00\x00\x00\x01\x01\x00\x00\x00\x00\x00\x00\x00\x07";
+const ADD: &[u8] =
+    b"\x01\x00\x00\x00\x30\x00\x00\x00\x00\x00\x00\x00\x02\x00\x00\x00\x00\x00\x01\x00\x00\x00\x00\x00\x00\x00\x35\x00\x01\x00\x00\x00\x00\x00\x00\x00\x00\x00\x01\x01\x00\x00\x00\x00\x00\x00\x00\x07";
 
 // Epoch 1 with the vector (13,61).
-const FIRST_EPOCH: &[u8] = b"\x05\x00\x00\x00\x19\x00\x00\x00\x01\x00\x00\x00\x00\x00\x00\x00\x0d\x00\x00\x00\x00\x00\x00\x00\x3d";
+const FIRST_EPOCH: &[u8] =
+    b"\x05\x00\x00\x00\x19\x00\x00\x00\x01\x00\x00\x00\x00\x00\x00\x00\x0d\x00\x00\x00\x00\x00\x00\x00\x3d";
 
 // Call 1 of the next run, `put a 7 1`, which waits for that vector.
-const NEXT_PUT: &[u8] = b"\x01\x00\x00\x00\x38\x00\x00\x00\x00\x00\x00\x00\x01\x00\x00\x00\x00\x00\x03\x00\x00\x00\x00\x00\x00\x00\x0d\x00\x00\x00\x00\x00\x00\x00\x3d\x00\x01\x00\x00\x00\x00\x00\x00\x00\x00\x00\x07\x01\x00\x00\x00\x00\x00\x00\x00\x01";
+const NEXT_PUT: &[u8] =
+    b"\x01\x00\x00\x00\x38\x00\x00\x00\x00\x00\x00\x00\x01\x00\x00\x00\x00\x00\x03\x00\x00\x00\x00\x00\x00\x00\x0d\x00\x00\x00\x00\x00\x00\x00\x3d\x00\x01\x00\x00\x00\x00\x00\x00\x00\x00\x00\x07\x01\x00\x00\x00\x00\x00\x00\x00\x01";
 
 // Epoch 2 with the vector (94,86).
-const SECOND_EPOCH: &[u8] = b"\x05\x00\x00\x00\x19\x00\x00\x00\x02\x00\x00\x00\x00\x00\x00\x00\x5e\x00\x00\x00\x00\x00\x00\x00\x56";
+const SECOND_EPOCH: &[u8] =
+    b"\x05\x00\x00\x00\x19\x00\x00\x00\x02\x00\x00\x00\x00\x00\x00\x00\x5e\x00\x00\x00\x00\x00\x00\x00\x56";
 
 // The catalogue and epoch 1 with the vector (0,13), in one body.
-const CATALOGUE_AND_EPOCH: &[u8] = b"\x04\x00\x00\x00\x0dtable a\n\x05\x00\x00\x00\x19\x00\x00\x00\x01\x00\x00\x00\x00\x00\x00\x00\x00\x00\x00\x00\x00\x00\x00\x00\x0d";
+const CATALOGUE_AND_EPOCH: &[u8] =
+    b"\x04\x00\x00\x00\x0dtable a\n\x05\x00\x00\x00\x19\x00\x00\x00\x01\x00\x00\x00\x00\x00\x00\x00\x00\x00\x00\x00\x00\x00\x00\x00\x0d";
 
 // That epoch alone.
-const EPOCH_ALONE: &[u8] = b"\x05\x00\x00\x00\x19\x00\x00\x00\x01\x00\x00\x00\x00\x00\x00\x00\x00\x00\x00\x00\x00\x00\x00\x00\x0d";
+const EPOCH_ALONE: &[u8] =
+    b"\x05\x00\x00\x00\x19\x00\x00\x00\x01\x00\x00\x00\x00\x00\x00\x00\x00\x00\x00\x00\x00\x00\x00\x00\x0d";
 
 // Both streams hold the catalogue alone.
 fn begun(rt: &impl Abort, alloc: Global, disks: &[tau_disk::MemDisk]) -> Result<(), Fail> {
@@ -89,8 +95,18 @@ fn an_old_record_is_judged_by_its_epoch(rt: HostRuntime) -> Result<(), Fail> {
     assert_eq!(rt; told.ends, [38, 86]);
     assert_eq!(rt; told.rows, 0);
     assert_eq!(rt; calls_of(&disks), [8, 8]);
-    holds(&rt, &disks, 0, &image(alloc, HEADS[0], &[CATALOGUE, FIRST_EPOCH])?)?;
-    holds(&rt, &disks, 1, &image(alloc, HEADS[1], &[CATALOGUE, ADD, FIRST_EPOCH])?)
+    holds(
+        &rt,
+        &disks,
+        0,
+        &image(alloc, HEADS[0], &[CATALOGUE, FIRST_EPOCH])?,
+    )?;
+    holds(
+        &rt,
+        &disks,
+        1,
+        &image(alloc, HEADS[1], &[CATALOGUE, ADD, FIRST_EPOCH])?,
+    )
 }
 
 #[test]
@@ -107,8 +123,26 @@ fn the_next_epoch(rt: HostRuntime) -> Result<(), Fail> {
     assert_eq!(rt; told.ends, [119, 111]);
     // The row of `put a 7 1`, and none of `add a 1 2`, which stays out though stream 0 is longer now.
     assert_eq!(rt; told.rows, 1);
-    holds(&rt, &disks, 0, &image(alloc, HEADS[0], &[CATALOGUE, FIRST_EPOCH, NEXT_PUT, SECOND_EPOCH])?)?;
-    holds(&rt, &disks, 1, &image(alloc, HEADS[1], &[CATALOGUE, ADD, FIRST_EPOCH, SECOND_EPOCH])?)
+    holds(
+        &rt,
+        &disks,
+        0,
+        &image(
+            alloc,
+            HEADS[0],
+            &[CATALOGUE, FIRST_EPOCH, NEXT_PUT, SECOND_EPOCH],
+        )?,
+    )?;
+    holds(
+        &rt,
+        &disks,
+        1,
+        &image(
+            alloc,
+            HEADS[1],
+            &[CATALOGUE, ADD, FIRST_EPOCH, SECOND_EPOCH],
+        )?,
+    )
 }
 
 #[test]
@@ -121,8 +155,18 @@ fn an_empty_stream_beside_one_that_is_not(rt: HostRuntime) -> Result<(), Fail> {
         assert!(rt; told.refusal == None);
         assert_eq!(rt; told.floor, [0, 13]);
         assert_eq!(rt; told.ends, [38, 38]);
-        holds(&rt, &disks, 0, &image(alloc, HEADS[0], &[CATALOGUE_AND_EPOCH])?)?;
-        holds(&rt, &disks, 1, &image(alloc, HEADS[1], &[CATALOGUE, EPOCH_ALONE])?)?;
+        holds(
+            &rt,
+            &disks,
+            0,
+            &image(alloc, HEADS[0], &[CATALOGUE_AND_EPOCH])?,
+        )?;
+        holds(
+            &rt,
+            &disks,
+            1,
+            &image(alloc, HEADS[1], &[CATALOGUE, EPOCH_ALONE])?,
+        )?;
     }
     Ok(())
 }
@@ -149,12 +193,34 @@ fn causes_of_a_run(rt: HostRuntime) -> Result<(), Fail> {
     let alloc = rt.alloc();
     let first = image(alloc, HEADS[0], &[CATALOGUE, PUT])?;
     let second = image(alloc, HEADS[1], &[CATALOGUE])?;
-    refused(&rt, alloc, [&first, &second], b"table b\n", 0, LogCause::Declared { at: 6 })?;
+    refused(
+        &rt,
+        alloc,
+        [&first, &second],
+        b"table b\n",
+        0,
+        LogCause::Declared { at: 6 },
+    )?;
     // Epoch 4,294,967,295 with the vector (13,13).
-    let last = b"\x05\x00\x00\x00\x19\xff\xff\xff\xff\x00\x00\x00\x00\x00\x00\x00\x0d\x00\x00\x00\x00\x00\x00\x00\x0d";
+    let last =
+        b"\x05\x00\x00\x00\x19\xff\xff\xff\xff\x00\x00\x00\x00\x00\x00\x00\x0d\x00\x00\x00\x00\x00\x00\x00\x0d";
     let ended = image(alloc, HEADS[1], &[CATALOGUE, last])?;
-    refused(&rt, alloc, [&first, &ended], b"table a\n", 1, LogCause::Last)?;
-    refused(&rt, alloc, [&first, &ended], b"table ab\n", 0, LogCause::Declared { at: 7 })
+    refused(
+        &rt,
+        alloc,
+        [&first, &ended],
+        b"table a\n",
+        1,
+        LogCause::Last,
+    )?;
+    refused(
+        &rt,
+        alloc,
+        [&first, &ended],
+        b"table ab\n",
+        0,
+        LogCause::Declared { at: 7 },
+    )
 }
 
 #[test]
@@ -164,11 +230,19 @@ fn wide_streams(rt: HostRuntime) -> Result<(), Fail> {
     let told = opened(alloc, &mut disks, Format::Two, b"table a\n")?;
     assert!(rt; told.refusal == None);
     assert_eq!(rt; told.ends, [13, 13]);
-    holds(&rt, &disks, 0, &image(alloc, b"TAURUS-LOG-2\x00\x02\x00\x00", &[CATALOGUE])?)?;
+    holds(
+        &rt,
+        &disks,
+        0,
+        &image(alloc, b"TAURUS-LOG-2\x00\x02\x00\x00", &[CATALOGUE])?,
+    )?;
     let narrow = opened(alloc, &mut disks, Format::One, b"table a\n")?;
-    assert!(rt; narrow.refusal == Some(ScanRefusal::Bad(LogFault {
-        stream: 0,
-        cause: LogCause::Format { asked: 1, found: 2 },
-    })));
+    assert!(rt;
+        narrow.refusal
+            == Some(ScanRefusal::Bad(LogFault {
+                stream: 0,
+                cause: LogCause::Format { asked: 1, found: 2 },
+            }))
+    );
     Ok(())
 }

@@ -1,5 +1,4 @@
 //! What the tests share: images of two streams, and what an opening told.
-ghost use Rattle.std.specs.Prelude.{◌≡◌, length, vec_len, IfOk, OnOk};
 
 use std::alloc::Global;
 use std::process::Abort;
@@ -11,21 +10,26 @@ use tau_open::close_streams;
 use tau_scan::ScanRefusal;
 
 /// The header of each of two streams.
-pub const HEADS: [&[u8]; 2] = [b"TAURUS-LOG-1\x00\x02\x00\x00", b"TAURUS-LOG-1\x00\x02\x00\x01"];
+pub const HEADS: [&[u8]; 2] = [
+    b"TAURUS-LOG-1\x00\x02\x00\x00",
+    b"TAURUS-LOG-1\x00\x02\x00\x01",
+];
 
 /// The catalogue of `table a`.
 pub const CATALOGUE: &[u8] = b"\x04\x00\x00\x00\x0dtable a\n";
 
 /// Call 1, `put a 1 5`, which waits for nothing.
-pub const PUT: &[u8] = b"\x01\x00\x00\x00\x28\x00\x00\x00\x00\x00\x00\x00\x01\x00\x00\x00\x00\x00\x00\x00\x01\x00\x00\x00\x00\x00\x00\x00\x00\x00\x01\x01\x00\x00\x00\x00\x00\x00\x00\x05";
+pub const PUT: &[u8] =
+    b"\x01\x00\x00\x00\x28\x00\x00\x00\x00\x00\x00\x00\x01\x00\x00\x00\x00\x00\x00\x00\x01\x00\x00\x00\x00\x00\x00\x00\x00\x00\x01\x01\x00\x00\x00\x00\x00\x00\x00\x05";
 
 /// What an opening told: why it was refused, or the state in which the run begins.
+#[derive(Drop)]
 pub struct Told {
     pub refusal: Option<ScanRefusal>,
     pub floor: [u64; 2],
     pub ends: [u64; 2],
     pub anchors: [u32; 2],
-    /// How many rows, and the last one's number and value, where it has them.
+    /// How many rows.
     pub rows: usize,
 }
 
@@ -33,8 +37,9 @@ pub struct Told {
 pub fn image(alloc: Global, head: &[u8], bodies: &[&[u8]]) -> Result<Vec<u8>, Fail> {
     let mut image = Vec::from_slice(alloc, head)?;
     for body in bodies {
+        let size = u32::try_from(body.len()).ok().ok_or("a long body")?;
         image.push(1)?;
-        image.extend_from_slice(&(body.len() as u32).to_be_bytes())?;
+        image.extend_from_slice(&size.to_be_bytes())?;
         image.extend_from_slice(body)?;
     }
     image.push(0)?;
@@ -93,12 +98,7 @@ pub fn opened(
 }
 
 /// A stop leaves these bytes of the disk in this place.
-pub fn holds(
-    rt: &impl Abort,
-    disks: &[MemDisk],
-    place: usize,
-    wanted: &[u8],
-) -> Result<(), Fail> {
+pub fn holds(rt: &impl Abort, disks: &[MemDisk], place: usize, wanted: &[u8]) -> Result<(), Fail> {
     let disk = disks.get(place).ok_or("no disk")?;
     let image = disk.image(Tear::Old)?;
     assert_eq!(rt; image.as_slice(), wanted, "disk {place}");
