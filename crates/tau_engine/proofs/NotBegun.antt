@@ -1,6 +1,7 @@
 -- A run that has made nothing: its streams have nothing, or the catalogue alone.
 use Rattle.std.proofs.Common.{ℕ, zero, suc, ◌+◌, ◌<◌, ◌≤◌, ◌≡◌, ◌⊎◌, inl, inr, Bool, true, false, List, [], ◌∷◌, map, length, replicate, refl, sym, ap, subst, ◌∙◌, arith, lt-ltb}
-use Rattle.std.specs.Prelude.{Some, None, nat_lt, slice_get, slice_index}
+use Rattle.std.specs.Prelude.{Some, None, nat_lt, slice_get, slice_index, take}
+use Rattle.std.proofs.Math.Seq.{take-length}
 use Rattle.std.proofs.Math.Nat.{mod-lt}
 use Rattle.std.proofs.lemmas.List.{append-nil, length-replicate}
 use Rattle.std.proofs.lemmas.Bool.{cases_Bool}
@@ -201,6 +202,10 @@ module _ (n m : ℕ) (mode : LogMode) (load : Workload) (some : 1 ≤ n) (room :
     acks = λ w. refl;
   }
 
+  was_opened : (j : ℕ) (content : List ℕ) → slice_get (replicate n catalogue) j ≡ Some content → take (length (opened_at load (fresh_start n) j)) content ≡ opened_at load (fresh_start n) j
+  was_opened j content e =
+      subst (λ (b : List ℕ). take (length b) content ≡ b) (sym (base_at j)) (subst (λ (c : List ℕ). take (length catalogue) c ≡ catalogue) (got_same n catalogue content j e) (take-length catalogue))
+
   history : IsHistory n m load empty_run
   history = is_history (setting_of l) [] first inv n m load empty_run (is_set n m mode load (fresh_start n) l (length-replicate n []) load_is) is_run.calls is_run.streams (lengths_same n catalogue) is_run.acks
 
@@ -262,6 +267,7 @@ module _ (n m : ℕ) (mode : LogMode) (load : Workload) (some : 1 ≤ n) (room :
     imaged =
         (let w = whole n m mode load l [] first empty_run course is_run in
         record {
+          opened = was_opened;
           whole = w.0;
           reads = w.1;
           records = w.2;
