@@ -11,6 +11,14 @@ use Rattle.tau_stream.specs.Stream.{IsOldOrNew, IsUnborn}
 use Rattle.tau_begin.specs.Opened.{IsTouched}
 use Rattle.tau_begin.specs.Barrier.{IsBarrier, OpeningHasBarrier}
 
+abbrev pub moment_by : ℕ → ℕ → List ℕ → ℕ
+moment_by entry read [] = entry
+moment_by entry read (x ∷ xs) = read
+
+-- the moment of the barrier of a disk that was `d` at the entry, and `mid` once it was read
+abbrev pub barrier_of : {D : Type 0} → Ghosts D → D → D → ℕ
+barrier_of G d mid = moment_by (G.moment d) (G.moment mid) (G.seen d)
+
 unborn_content : (f : Format) (n j : ℕ) (x : List ℕ) → length x ≤ 17 → HasContent f n j [] x
 unborn_content f n j x short = let small : nat_le (length x) 17 ≡ true = grind (arith, nat_tests, short) in rw small refl
 
@@ -25,12 +33,11 @@ module _ {D : Type 0} (G : Ghosts D) (only_now : (d : D) (x : List ℕ) → G.ma
   after : Passes G.moment G.may_leave_since mid g Left
   after = passes_on G.moment G.may_leave_since mid e g (IsOldOrNew f n j old body) P Left (touched.starts t (λ none. (empty none).1)) passes (λ x is. inl is) (λ x is. inr is)
 
-  abbrev Put : Type 0
-  Put = (b : ℕ) × IsBarrier G b d g × ((x : List ℕ) → G.may_leave_since g b x → Left x)
+  abbrev Put : ℕ → Type 0
+  Put b = IsBarrier G b d g × ((x : List ℕ) → G.may_leave_since g b x → Left x)
 
-  from_entry : G.seen d ≡ [] → Put
+  from_entry : G.seen d ≡ [] → Put (G.moment d)
   from_entry none = (
-    G.moment d,
     record {
       low = omega arith;
       high = omega (arith, touched.read.only.moments.later, after.later);
@@ -47,10 +54,9 @@ module _ {D : Type 0} (G : Ghosts D) (only_now : (d : D) (x : List ℕ) → G.ma
       at_entry : (x : List ℕ) → G.may_leave_since touched.mid (G.moment d) x → G.may_leave d x
       at_entry x s = ⊎_elim (λ before. only_now d x before) (λ is. is) (touched.read.only.moments.new_ones (G.moment d) x (omega arith) s)
 
-  from_barrier : (G.seen d ≡ [] → ⊥) → Put
+  from_barrier : (G.seen d ≡ [] → ⊥) → Put (G.moment mid)
   from_barrier some =
       let both = barrier G.moment G.may_leave_since G.may_leave only_now d mid g (G.seen mid) Left touched.read.only.moments (touched.read.settled t some) after in (
-        G.moment mid,
         record {
           low = touched.read.only.moments.later;
           high = after.later;
@@ -63,7 +69,7 @@ module _ {D : Type 0} (G : Ghosts D) (only_now : (d : D) (x : List ℕ) → G.ma
             (both.1 x s),
       )
 
-  by_bytes : (xs : List ℕ) → G.seen d ≡ xs → Put
+  by_bytes : (xs : List ℕ) → G.seen d ≡ xs → Put (moment_by (G.moment d) (G.moment mid) xs)
   by_bytes [] is = from_entry is
   by_bytes (y ∷ ys) is = from_barrier (λ none. no_list (sym is ∙ none))
     where
@@ -71,10 +77,10 @@ module _ {D : Type 0} (G : Ghosts D) (only_now : (d : D) (x : List ℕ) → G.ma
       no_list e = cc
 
   -- whatever a run does then, which leaves P
-  pub put_on : (b : ℕ) × IsBarrier G b d g × ((x : List ℕ) → G.may_leave_since g b x → IsOldOrNew f n j old body x ⊎ P x)
+  pub put_on : IsBarrier G (barrier_of G d touched.mid) d g × ((x : List ℕ) → G.may_leave_since g (barrier_of G d touched.mid) x → IsOldOrNew f n j old body x ⊎ P x)
   put_on = by_bytes (G.seen d) refl
 
 pub opening_has_barrier : {D : Type 0} (G : Ghosts D) (only_now : (d : D) (x : List ℕ) → G.may_leave_since d (G.moment d) x → G.may_leave d x) → OpeningHasBarrier G
 opening_has_barrier G only_now f n j long old body d e t touched has empty =
     let put = put_on G only_now f n j long old body d e t touched has empty e (IsOldOrNew f n j old body) (passes_none G.moment G.may_leave_since e (IsOldOrNew f n j old body)) in
-    (put.0, put.1, λ x s. ⊎_elim (λ is. is) (λ is. is) (put.2 x s))
+    (barrier_of G d touched.mid, put.0, λ x s. ⊎_elim (λ is. is) (λ is. is) (put.1 x s))
