@@ -9,6 +9,7 @@ pub mod Leaving
 pub mod OneReport
 pub mod FirstBad
 pub mod Named
+pub mod Fitting
 pub mod ReadWords
 pub mod Spellings
 pub mod Staged

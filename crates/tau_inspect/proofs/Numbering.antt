@@ -1,11 +1,11 @@
 -- Tables by number, with one number more.
-use Rattle.std.proofs.Common.{ℕ, suc, ◌+◌, ◌-◌, ◌<◌, ◌≤◌, ◌≡◌, ◌==◌, ◌||◌, Bool, true, false, inl, inr, List, [], length, take, get_or, refl, sym, ap, subst, ◌∙◌, arith}
+use Rattle.std.proofs.Common.{ℕ, suc, ◌+◌, ◌-◌, ◌^◌, ◌<◌, ◌≤◌, ◌≡◌, ◌==◌, ◌||◌, Bool, zero, true, false, inl, inr, List, [], length, take, get_or, refl, sym, ap, subst, ◌∙◌, arith}
 use Rattle.std.specs.Prelude.{Some, nat_lt, slice_get, slice_index, slice_set, if◌then◌else◌}
 use Rattle.std.proofs.lemmas.Bool.{cases_Bool, both_ways}
 use Rattle.std.proofs.lemmas.Bool.Decides.{nat_tests}
 use Rattle.std.proofs.lemmas.List.{take_all, get_or-set_other, get_or-set_same}
 use Rattle.std.proofs.Math.ListN.{length-set}
-use Rattle.std.proofs.lemmas.List.Sums.{count_by_more_no, count_by_more_yes}
+use Rattle.std.proofs.lemmas.List.Sums.{count_by-le-length, count_by_more_no, count_by_more_yes}
 use Rattle.std.proofs.lemmas.List.Folds.{list_any_more}
 use Rattle.std.proofs.lemmas.Option.{slice_get-get_or}
 use Rattle.tau_base.proofs.Logic.{zeros}
@@ -121,3 +121,15 @@ module _ (count : ℕ) (numbers : List ℕ) where
 -- the count is one less than the places
 pub places_again : (count : ℕ) (numbers places : List ℕ) → HasPlaces count numbers places → HasPlaces (length places - 1) numbers places
 places_again count numbers places h = (let same : count ≡ length places - 1 = omega (arith, h.long) in subst (λ (n : ℕ). HasPlaces n numbers places) same h)
+
+-- a number that is in the list has a place
+some_place : (v : ℕ) (count k : ℕ) (numbers places : List ℕ) → HasPlaces count numbers places → k ≤ count → is_in k numbers ≡ true → slice_index places k ≡ v → 1 ≤ v
+some_place zero count k numbers places h le there e = absurd (both_ways (is_in k numbers) (h.none k le e) there)
+some_place (suc v) count k numbers places h le there e = omega arith
+
+pub has_place : (count k : ℕ) (numbers places : List ℕ) → HasPlaces count numbers places → k ≤ count → is_in k numbers ≡ true → 1 ≤ slice_index places k
+has_place count k numbers places h le there = some_place (slice_index places k) count k numbers places h le there refl
+
+-- a count is no more than there are numbers
+pub counts_small : (count k : ℕ) (numbers counts : List ℕ) → HasCounts count numbers counts → k < length counts → length numbers + 1 < 2 ^ 64 → slice_index counts k + 1 < 2 ^ 64
+counts_small count k numbers counts h lt small = omega (arith, h.tells k (omega (arith, lt, h.long)), count_by-le-length (λ n. n == k) numbers, small)

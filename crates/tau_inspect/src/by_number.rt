@@ -1,5 +1,5 @@
 //! Tables by the numbers of calls, up to a count.
-ghost use Rattle.std.specs.Prelude.{ℕ, ◌≡◌, ◌+◌, ◌≤◌, ◌++◌, ◌∷◌, [], List, false, IfOk, OnOk, IfNone, IfSome, Some, length, nat_lt, slice_get, slice_index, slice_index_or, slice_set, if◌then◌else◌};
+ghost use Rattle.std.specs.Prelude.{ℕ, ◌^◌, ◌≡◌, ◌<◌, ◌+◌, ◌≤◌, ◌++◌, ◌∷◌, [], List, false, IfOk, OnOk, IfNone, IfSome, Some, length, nat_lt, slice_get, slice_index, slice_index_or, slice_set, if◌then◌else◌};
 ghost use Rattle.tau_inspect.specs.ByNumber.{is_in, HasFlags, HasCounts, HasPlaces};
 
 use std::alloc::Global;
@@ -23,18 +23,15 @@ pub fn flags(alloc: Global, count: usize, numbers: &[u64]) -> Result<Vec<bool>, 
 }
 
 /// Counts one more of a number, if the table has room for it.
-fn count_one(counts: &mut Vec<usize>, number: u64) -> Result<(), NoMemory>
-    ensures { OnOk result (counts.new.items ≡ (if nat_lt number (length counts.old.items) then slice_set counts.old.items number (slice_index counts.old.items number + 1) else counts.old.items)) }
+fn count_one(counts: &mut Vec<usize>, number: u64)
+    requires { number < length counts.old.items → slice_index counts.old.items number + 1 < 2 ^ 64 }
+    ensures { counts.new.items ≡ (if nat_lt number (length counts.old.items) then slice_set counts.old.items number (slice_index counts.old.items number + 1) else counts.old.items) }
 {
     let at = number as usize;
     if at >= counts.len() {
-        return Ok(());
+        return;
     }
-    let Some(count) = counts[at].checked_add(1) else {
-        return Err(NoMemory);
-    };
-    counts[at] = count;
-    Ok(())
+    counts[at] += 1;
 }
 
 /// How often each number is in the list.
@@ -46,7 +43,7 @@ pub fn counts(alloc: Global, count: usize, numbers: &[u64]) -> Result<Vec<usize>
     };
     let mut counts = vec![in alloc; 0usize; long]?;
     for i in 0..numbers.len() {
-        count_one(&mut counts, numbers[i])?;
+        count_one(&mut counts, numbers[i]);
     }
     Ok(counts)
 }
@@ -90,6 +87,15 @@ pub fn index_of(places: &[usize], number: u64) -> Option<usize>
         return None;
     }
     Some(place - 1)
+}
+
+/// An index at which a number stands that is in the list.
+pub fn known_index(places: &[usize], number: u64) -> usize
+    requires within { number < length places.now }
+    requires there { 1 ≤ slice_index places.now number }
+    ensures { (count : ℕ) (numbers : List ℕ) → HasPlaces count numbers places.now → slice_get numbers result ≡ Some number }
+{
+    places[number as usize] - 1
 }
 
 /// Whether the number is flagged.

@@ -1,59 +1,49 @@
 //! The check of the order: it is the reported history.
-ghost use Rattle.std.specs.Prelude.{ℕ, ◌≡◌, ◌≤◌, ◌-◌, ◌++◌, ◌∷◌, [], List, true, false, length, map, All, IfOk, IfSome, OnOk, Some, IsTrue, ◌↔◌, if◌then◌else◌, slice_get};
+ghost use Rattle.std.specs.Prelude.{ℕ, ◌≡◌, ◌<◌, ◌≤◌, ◌-◌, ◌++◌, ◌∷◌, [], List, true, false, length, map, All, IfOk, IfSome, OnOk, Some, IsTrue, ◌↔◌, if◌then◌else◌, slice_get};
 ghost use Rattle.tau_model.specs.History.{updates};
-ghost use Rattle.tau_inspect.specs.Audit.{acts, records, committed_by, committed_of, nowhere, place_in, vector_in, FitsOrder};
+ghost use Rattle.tau_inspect.specs.Audit.{acts, records, committed_by, committed_of, has_ack, has_record, nowhere, place_in, vector_in, FitsOrder, IsWhole};
 ghost use Rattle.tau_inspect.specs.ByNumber.{HasPlaces, IsUnique};
-ghost use Rattle.tau_inspect.specs.Cases.{in_case};
+ghost use Rattle.tau_inspect.specs.Cases.{in_case, IsCase};
+ghost use Rattle.tau_inspect.specs.Records.{IsLv, IsPlaced};
 ghost use Rattle.tau_inspect.specs.Executed.{effects, IsNumberOf};
 ghost use Rattle.tau_inspect.specs.Firsts.{Finds};
 
 use crate::acked::{Ack, ack_at};
-use crate::by_number::index_of;
+use crate::by_number::known_index;
 use crate::case::LentCase;
 use crate::executed::Done;
 use crate::records::{Record, record_at};
 use std::alloc::Global;
-use tau_base::{Lv, MAX_LSN, MAX_STREAMS, NoMemory, Value};
-use tau_model::{CommittedList, Spot, are_within, reported};
+use tau_base::{Lv, NoMemory, Value};
+use tau_model::{CommittedList, Spot, reported};
 use tau_proc::Reply;
 
-/// The vector with these positions; none if they are no vector.
-fn vector_of(positions: &[u64]) -> Option<Lv>
-    ensures { IfSome result (λ lv. lv ≡ positions.now) }
+/// The vector with these positions.
+fn vector_of(positions: &[u64]) -> Lv
+    requires { IsLv positions.now }
+    ensures { result ≡ positions.now }
 {
-    if positions.len() < 1 {
-        return None;
-    }
-    if positions.len() > MAX_STREAMS {
-        return None;
-    }
     let mut lv = Lv::zero(positions.len());
     for j in 0..positions.len() {
-        if positions[j] >= MAX_LSN {
-            return None;
-        }
         lv.set(j, positions[j]);
     }
-    Some(lv)
+    lv
 }
 
-/// The place of a record; none if its stream is no stream.
-fn spot_of(one: &Record<'_>) -> Option<Spot>
-    ensures { IfSome result (λ s. s ≡ record { stream = one.now.place.stream; start = one.now.place.start; past = one.now.place.past; anchor = 0 }) }
+/// The place of a record.
+fn spot_of(one: &Record<'_>) -> Spot
+    requires { one.now.place.stream ≤ 255 }
+    ensures { result ≡ record { stream = one.now.place.stream; start = one.now.place.start; past = one.now.place.past; anchor = 0 } }
 {
-    if one.stream() > 255 {
-        return None;
-    }
-    Some(Spot {
+    Spot {
         stream: one.stream() as u8,
         start: one.start(),
         past: one.past(),
         anchor: 0,
-    })
+    }
 }
 
-/// Puts a call that writes at the end, with the place of its record. A record that no log has is refused as if memory
-/// ran out.
+/// Puts a call that writes at the end, with the place of its record.
 fn put_writer(
     list: &mut CommittedList,
     all: &[Record<'_>],
@@ -62,25 +52,17 @@ fn put_writer(
 ) -> Result<(), NoMemory>
     requires unique { IsUnique (map (λ r. r.number) all.now) }
     requires placed { HasPlaces (length places.now - 1) (map (λ r. r.number) all.now) places.now }
+    requires within { number < length places.now }
+    requires there { has_record number all.now ≡ true }
+    requires fits { All IsPlaced all.now }
     ensures { OnOk result (list.new.items ≡ list.old.items ++ committed_by number true (place_in number all.now) ∷ []) }
 {
-    match index_of(places, number) {
-        None => Err(NoMemory),
-        Some(index) => {
-            let one = record_at(all, index);
-            let Some(lv) = vector_of(one.dep()) else {
-                return Err(NoMemory);
-            };
-            let Some(spot) = spot_of(one) else {
-                return Err(NoMemory);
-            };
-            list.push(number, &Reply::Ok(Value::Absent), &lv, Some(spot))
-        }
-    }
+    let one = record_at(all, known_index(places, number));
+    let lv = vector_of(one.dep());
+    list.push(number, &Reply::Ok(Value::Absent), &lv, Some(spot_of(one)))
 }
 
-/// Puts a call that only reads at the end, with the vector of its acknowledgement. One that no report has is refused as
-/// if memory ran out.
+/// Puts a call that only reads at the end, with the vector of its acknowledgement.
 fn put_reader(
     list: &mut CommittedList,
     acks: &[Ack<'_>],
@@ -89,17 +71,13 @@ fn put_reader(
 ) -> Result<(), NoMemory>
     requires unique { IsUnique (map (λ a. a.0) acks.now) }
     requires placed { HasPlaces (length places.now - 1) (map (λ a. a.0) acks.now) places.now }
+    requires within { number < length places.now }
+    requires there { has_ack number acks.now ≡ true }
+    requires fits { All (λ a. IsLv a.1) acks.now }
     ensures { OnOk result (list.new.items ≡ list.old.items ++ committed_by number false (nowhere (vector_in number acks.now)) ∷ []) }
 {
-    match index_of(places, number) {
-        None => Err(NoMemory),
-        Some(index) => {
-            let Some(lv) = vector_of(ack_at(acks, index).lv()) else {
-                return Err(NoMemory);
-            };
-            list.push(number, &Reply::Ok(Value::Absent), &lv, None)
-        }
-    }
+    let lv = vector_of(ack_at(acks, known_index(places, number)).lv());
+    list.push(number, &Reply::Ok(Value::Absent), &lv, None)
 }
 
 /// The calls of the order with their places.
@@ -112,6 +90,8 @@ fn listed(
     all: &[Record<'_>],
     places: &[usize],
 ) -> Result<CommittedList, NoMemory>
+    requires is { IsCase (in_case case.now) }
+    requires whole { IsWhole (in_case case.now) }
     requires done { done.now ≡ effects (acts (in_case case.now)) }
     requires many { length done.now ≡ length case.now.report.now.order }
     requires acks { acks.now ≡ case.now.report.now.acks }
@@ -122,6 +102,8 @@ fn listed(
     requires records_placed { HasPlaces (length case.now.load.now.calls) (map (λ r. r.number) (records (in_case case.now))) places.now }
     ensures { IfOk result (λ list. list.items ≡ map (committed_of (in_case case.now)) (acts (in_case case.now))) }
 {
+    // A log has one stream at least and 32 at most.
+    let _width = case.log.elv.width();
     let mut list = CommittedList::new(alloc);
     for i in 0..done.len() {
         put_call(
@@ -149,8 +131,12 @@ fn put_call(
 ) -> Result<(), NoMemory>
     requires acked_once { IsUnique (map (λ a. a.0) acks.now) }
     requires acks_placed { HasPlaces (length ack_places.now - 1) (map (λ a. a.0) acks.now) ack_places.now }
+    requires acks_fit { All (λ a. IsLv a.1) acks.now }
     requires recorded_once { IsUnique (map (λ r. r.number) all.now) }
     requires records_placed { HasPlaces (length places.now - 1) (map (λ r. r.number) all.now) places.now }
+    requires records_fit { All IsPlaced all.now }
+    requires within { (number < length ack_places.now) × (number < length places.now) }
+    requires told { (if updates did.now then has_record number all.now else has_ack number acks.now) ≡ true }
     ensures { OnOk result (list.new.items ≡ list.old.items ++ committed_by number (updates did.now) (if updates did.now then place_in number all.now else nowhere (vector_in number acks.now)) ∷ []) }
 {
     if did.writes().is_empty() {
@@ -191,6 +177,8 @@ pub fn check_order(
     all: &[Record<'_>],
     places: &[usize],
 ) -> Result<Option<u64>, NoMemory>
+    requires is { IsCase (in_case case.now) }
+    requires whole { IsWhole (in_case case.now) }
     requires done { done.now ≡ effects (acts (in_case case.now)) }
     requires many { length done.now ≡ length case.now.report.now.order }
     requires acks { acks.now ≡ case.now.report.now.acks }
@@ -202,9 +190,6 @@ pub fn check_order(
     ensures { IfOk result (λ found. Finds (λ n. n) (FitsOrder (in_case case.now)) case.now.report.now.order found) }
 {
     let list = listed(alloc, case, done, acks, ack_places, all, places)?;
-    if !are_within(&case.log.elv, &list) {
-        return Err(NoMemory);
-    }
     let due = reported(alloc, &case.log.elv, &list)?;
     Ok(first_other(case.report.order.as_slice(), due.as_slice()))
 }

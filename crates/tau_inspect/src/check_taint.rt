@@ -89,9 +89,6 @@ pub fn tainted_of(
     ensures { IfOk result (λ tainted. KnowsTaint (in_case case.now) tainted.items) }
 {
     let missing = missing_of(alloc, case, done, takes)?;
-    if missing.len() != done.len() {
-        return Err(NoMemory);
-    }
     taints(alloc, done, missing.as_slice())
 }
 

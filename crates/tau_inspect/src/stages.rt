@@ -292,7 +292,8 @@ fn by_fate(alloc: Global, case: &LentCase<'_>) -> Result<Verdict, NoMemory>
     }
 }
 
-/// Whether a report of a run of this workload by so many workers fits a log: the first check that fails, if one does.
+/// Whether a report of a run of this workload by so many workers is true of a log: the first check that fails, if one does.
+/// The log is one that a scan gives, and the report is one over its streams.
 pub fn audit(
     alloc: Global,
     load: &Workload,

@@ -1,13 +1,17 @@
 -- The listing gives the reported history.
-use Rattle.std.proofs.Common.{ℕ, ◌≡◌, List, length, ap, subst, ◌∙◌}
-use Rattle.std.specs.Prelude.{Some, slice_get}
+use Rattle.std.proofs.Common.{ℕ, ◌≡◌, List, length, sym, ap, subst, ◌∙◌}
+use Rattle.std.specs.Prelude.{All, Some, slice_get}
 use Rattle.tau_model.specs.declared.committed.Committed.{Committed}
-use Rattle.tau_model.specs.Committed.{reported_numbers}
+use Rattle.tau_model.specs.Committed.{IsWithin, reported_numbers}
 use Rattle.tau_inspect.specs.Audit.{Case, due}
 use Rattle.tau_inspect.specs.Firsts.{Finds}
 use Rattle.tau_inspect.proofs.Due.{due_is}
+use Rattle.tau_inspect.proofs.Fitting.{all_within}
 use Rattle.tau_inspect.specs.Cases.{in_case}
 use Rattle.tau_inspect.proofs.check_order.check_order.Goals as goal
+
+pub reported-requires : goal.reported-requires
+reported-requires c = subst (All (IsWithin c.args.case.now.log.now.elv)) (sym c.in_ok-list.ensures) (all_within (in_case c.args.case.now) c.requires.is c.requires.whole)
 
 pub returns : goal.returns
 returns c =

@@ -1,13 +1,19 @@
 -- What the marks tell is dependence.
 use Rattle.std.proofs.Common.{Bool, ◌≡◌, List, length, map, ap, ◌∙◌}
+use Rattle.std.proofs.lemmas.List.{length-map}
 use Rattle.tau_proc.specs.Effect.{Effect}
 use Rattle.tau_inspect.specs.Audit.{Case, acts, is_taken}
 use Rattle.tau_inspect.specs.Executed.{effects}
 use Rattle.tau_inspect.specs.KnowsTaint.{KnowsTaint}
 use Rattle.tau_inspect.specs.Taint.{unmarked, is_missing, taints}
-use Rattle.tau_inspect.proofs.Survivals.{knows, taints_length, ok_then}
+use Rattle.tau_inspect.proofs.Survivals.{act_count, knows, taints_length, ok_then}
 use Rattle.tau_inspect.specs.Cases.{in_case}
 use Rattle.tau_inspect.proofs.check_taint.tainted_of.Goals as goal
+
+pub taints-requires : goal.taints-requires
+taints-requires c =
+    let k : Case = (in_case c.args.case.now) in
+    ap length (c.as_slice.ensures.value ∙ c.in_ok-missing.ensures) ∙ length-map (acts k) (is_missing (is_taken k)) ∙ act_count k c.args.done.now c.requires.many
 
 pub returns : goal.returns
 returns c =
