@@ -1,4 +1,6 @@
 //! Texts that are no report, with their first bad lines.
+ghost use Rattle.tau_scan.specs.Reading.{IsLog};
+
 use crate::records::{FIRST, SECOND};
 use crate::rows::{ACROSS, ACROSS_TOLD};
 use crate::support::{bad_line, log_of, verdict_on};
@@ -109,7 +111,9 @@ fn a_report_cut_short(rt: HostRuntime) -> Result<(), Fail> {
 }
 
 // Checks that a text is no report, or one that is not true of the log.
-fn is_not_true(rt: &impl Abort, alloc: Global, text: &[u8], log: &Log) -> Result<(), Fail> {
+fn is_not_true(rt: &impl Abort, alloc: Global, text: &[u8], log: &Log) -> Result<(), Fail>
+    requires { IsLog log.now }
+{
     if bad_line(alloc, ACROSS, text)? == 0 {
         let verdict = verdict_on(alloc, ACROSS, text, log)?;
         assert!(rt; verdict != Verdict::Yes);
@@ -125,7 +129,9 @@ fn other_byte_is_not_true(
     place: usize,
     byte: u8,
     log: &Log,
-) -> Result<(), Fail> {
+) -> Result<(), Fail>
+    requires { IsLog log.now }
+{
     if place >= text.len() {
         return Ok(());
     }

@@ -1,5 +1,6 @@
 //! What the tests share: logs of given records, and what an audit says of a report and a log.
-ghost use Rattle.std.specs.Prelude.{◌≤◌};
+ghost use Rattle.std.specs.Prelude.{IfOk};
+ghost use Rattle.tau_scan.specs.Reading.{IsLog};
 
 use std::alloc::{AllocError, Global};
 use std::test::Fail;
@@ -39,7 +40,9 @@ fn image_of(alloc: Global, digit: u8, n: u8, j: u8, records: &[u8]) -> Result<Me
 }
 
 /// The log of streams with these records, in the format of this digit.
-pub fn log_in(alloc: Global, digit: u8, streams: &[&[u8]]) -> Result<Log, Fail> {
+pub fn log_in(alloc: Global, digit: u8, streams: &[&[u8]]) -> Result<Log, Fail>
+    ensures { IfOk result (λ log. IsLog log) }
+{
     if streams.is_empty() || streams.len() > 32 {
         return Err(Fail::from("no number of streams"));
     }
@@ -60,7 +63,9 @@ pub fn log_in(alloc: Global, digit: u8, streams: &[&[u8]]) -> Result<Log, Fail> 
 }
 
 /// The log of streams with these records, in format 1.
-pub fn log_of(alloc: Global, streams: &[&[u8]]) -> Result<Log, Fail> {
+pub fn log_of(alloc: Global, streams: &[&[u8]]) -> Result<Log, Fail>
+    ensures { IfOk result (λ log. IsLog log) }
+{
     log_in(alloc, b'1', streams)
 }
 
@@ -74,12 +79,9 @@ pub fn joined(alloc: Global, records: &[&[u8]]) -> Result<Vec<u8>, Fail> {
 }
 
 /// What an audit says of a report of a run by two workers and a log.
-pub fn verdict_on(
-    alloc: Global,
-    workload: &[u8],
-    report: &[u8],
-    log: &Log,
-) -> Result<Verdict, Fail> {
+pub fn verdict_on(alloc: Global, workload: &[u8], report: &[u8], log: &Log) -> Result<Verdict, Fail>
+    requires { IsLog log.now }
+{
     let load = match parse_workload(alloc, workload) {
         Ok(load) => load,
         Err(_) => return Err(Fail::from("no workload")),
