@@ -1,0 +1,102 @@
+-- An applier goes on record by record.
+use Rattle.std.proofs.Common.{ℕ, zero, suc, ◌≤◌, ◌<◌, Bool, true, false, ◌≡◌, List, [], ◌∷◌, ◌++◌, length, Some, sym, ap, subst, ◌∙◌, arith, slice_index}
+use Rattle.std.specs.Prelude.{slice_get}
+use Rattle.tau_record.specs.declared.entry.Placed.{Placed}
+use Rattle.tau_follow_laws.specs.Following.{Followed, rlv, NoneReady, applied}
+use Rattle.tau_follow_laws.proofs.GoesOn.{fronts_stand}
+use Rattle.tau_follow.specs.declared.applier.Applier.{Applier}
+use Rattle.tau_follow.specs.declared.stage.Stage.{Stage}
+use Rattle.tau_follow.specs.declared.stage.Stage.TheVariants as stages
+use Rattle.tau_follow.specs.Applying.{is_ready_in, reaches, ArePassed, set_stage, stages_from, AreSpots}
+use Rattle.tau_follow.specs.Holding.{Holds, HasApplied, HasFollowed}
+use Rattle.tau_follow.proofs.Staging.{AtSpot, reaches_are, ready_spot, none_spot, applied_stages, passed_still}
+use Rattle.std.specs.Global.{Vec}
+use Rattle.tau_follow.specs.declared.spot.Spot.{Spot}
+use Rattle.tau_follow.proofs.Spots.{spots_push}
+use Rattle.tau_follow.proofs.Reaching.{applies_push}
+
+got_lt : (streams : List (List Placed)) (j : ℕ) (ps : List Placed) → slice_get streams j ≡ Some ps → j < length streams
+got_lt [] j ps e = absurd cc
+got_lt (qs ∷ streams) zero ps e = omega arith
+got_lt (qs ∷ streams) (suc j) ps e = let h = got_lt streams j ps e in omega (arith, h)
+
+module _ (streams : List (List Placed)) (t : Followed) (a : Applier) (h : Holds streams t a) where
+  -- with other indexes that are passed
+  other_firsts : (b : Applier) → b.stages ≡ a.stages → b.order ≡ a.order → ArePassed a.stages.items b.firsts.items → Holds streams t b
+  other_firsts b st order passed = record {
+    streams_are = h.streams_are;
+    format = h.format;
+    fed = h.fed;
+    fronts = h.fronts;
+    staged = record {
+      stages_are = ap (λ v. v.items) st ∙ h.staged.stages_are;
+      passed = subst (λ (l : List (List Stage)). ArePassed l b.firsts.items) (sym (ap (λ v. v.items) st)) passed;
+    };
+    spots = subst (λ (v : Vec Spot). AreSpots t.streams v.items t.order) (sym order) h.spots;
+  }
+
+  -- how far the streams are followed is told by where their records stand
+  reached_is : (list : List ℕ) → list ≡ reaches streams a.stages.items → list ≡ rlv t
+  reached_is list e = e ∙ ap (reaches streams) h.staged.stages_are ∙ ap (λ (xs : List (List Placed)). reaches xs (stages_from t.out t.order 0 t.streams)) h.streams_are ∙ reaches_are t.out t.order 0 t.streams
+
+  -- the tests of the code, as tests of the definitions
+  ready_is : (list : List ℕ) (st : List (List Stage)) (j i : ℕ) (b : Bool) → list ≡ rlv t → st ≡ a.stages.items → is_ready_in list streams st j i ≡ b → is_ready_in (rlv t) t.streams (stages_from t.out t.order 0 t.streams) j i ≡ b
+  ready_is list st j i b e s is =
+      ap (λ (v : List ℕ). is_ready_in v t.streams (stages_from t.out t.order 0 t.streams) j i) (sym e)
+      ∙ ap (λ (xs : List (List Placed)). is_ready_in list xs (stages_from t.out t.order 0 t.streams) j i) (sym h.streams_are)
+      ∙ ap (λ (l : List (List Stage)). is_ready_in list streams l j i) (sym h.staged.stages_are ∙ sym s) ∙ is
+
+  none_ready : (list fi : List ℕ) (st : List (List Stage)) → list ≡ rlv t → st ≡ a.stages.items → ArePassed a.stages.items fi →
+      ((j i : ℕ) (ps : List Placed) → j < length streams → slice_get streams j ≡ Some ps → slice_index fi j ≤ i → i < length ps → is_ready_in list streams st j i ≡ false) → NoneReady t
+  none_ready list fi st e s passed none =
+      none_spot t fi (subst (λ (l : List (List Stage)). ArePassed l fi) h.staged.stages_are passed)
+      (λ j i ps at le lt. (let there : slice_get streams j ≡ Some ps = ap (λ (xs : List (List Placed)). slice_get xs j) h.streams_are ∙ at in ready_is list st j i false e s (none j i ps (got_lt streams j ps there) there le lt)))
+
+  spot_is : (list : List ℕ) (st : List (List Stage)) (j i : ℕ) → list ≡ rlv t → st ≡ a.stages.items → is_ready_in list streams st j i ≡ true → AtSpot t j i
+  spot_is list st j i e s is = ready_spot t j i (ready_is list st j i true e s is)
+
+  -- the record at the spot is applied
+  with_spot : (b : Applier) (j i : ℕ) (x : AtSpot t j i) → b.stages.items ≡ set_stage a.stages.items j i stages.Applied → ArePassed a.stages.items b.firsts.items →
+      b.order.items ≡ a.order.items ++ record { stream = j; index = i } ∷ [] → Holds streams (applied t x.kept) b
+  with_spot b j i x st passed order = record {
+    streams_are = h.streams_are;
+    format = h.format;
+    fed = h.fed;
+    fronts = h.fronts;
+    staged = record {
+      stages_are = now;
+      passed = subst (λ (l : List (List Stage)). ArePassed l b.firsts.items) (sym now) (passed_still t.out t.order t.streams b.firsts.items x.kept (subst (λ (l : List (List Stage)). ArePassed l b.firsts.items) h.staged.stages_are passed));
+    };
+    spots = subst (λ (l : List Spot). AreSpots t.streams l (t.order ++ x.kept ∷ [])) (sym order)
+        (spots_push t.streams a.order.items t.order (record { stream = j; index = i }) x.kept h.spots (record { records = x.ps; placed = x.p; stream = x.stream; there = x.there; is = x.is }));
+  }
+    where
+      now : b.stages.items ≡ stages_from t.out (t.order ++ x.kept ∷ []) 0 t.streams
+      now = st ∙ ap (λ (l : List (List Stage)). set_stage l j i stages.Applied) h.staged.stages_are ∙ sym (applied_stages t j i x (fronts_stand h.format h.fed t.streams h.fronts))
+
+-- ---- a step
+
+module _ (streams : List (List Placed)) (s : Followed) (a b : Applier) (first second : List (List Stage)) (list fi re : List ℕ) (d : HasApplied streams s a)
+    (first_is : first ≡ a.stages.items) (told : ArePassed first a.firsts.items → list ≡ reaches streams first) (rose : ArePassed first a.firsts.items → ArePassed first b.firsts.items)
+    (second_is : second ≡ a.stages.items) (re_is : re ≡ list) where
+  passed : ArePassed first a.firsts.items
+  passed = subst (λ (l : List (List Stage)). ArePassed l a.firsts.items) (sym first_is) d.holds.staged.passed
+
+  risen : ArePassed a.stages.items b.firsts.items
+  risen = subst (λ (l : List (List Stage)). ArePassed l b.firsts.items) first_is (rose passed)
+
+  reached : re ≡ rlv d.now
+  reached = re_is ∙ reached_is streams d.now a d.holds list (told passed ∙ ap (reaches streams) first_is)
+
+  pub step_through : b.stages ≡ a.stages → b.order ≡ a.order → fi ≡ b.firsts.items →
+      ((j i : ℕ) (ps : List Placed) → j < length streams → slice_get streams j ≡ Some ps → slice_index fi j ≤ i → i < length ps → is_ready_in re streams second j i ≡ false) → HasFollowed streams s b
+  step_through st order fi_is none = record {
+    done = record { news = d.news; now = d.now; applies = d.applies; holds = other_firsts streams d.now a d.holds b st order risen };
+    through = none_ready streams d.now a d.holds re fi second reached second_is (subst (ArePassed a.stages.items) (sym fi_is) risen) none;
+  }
+
+  pub step_applied : (j i : ℕ) → is_ready_in re streams second j i ≡ true → b.stages.items ≡ set_stage a.stages.items j i stages.Applied →
+      b.order.items ≡ a.order.items ++ record { stream = j; index = i } ∷ [] → HasApplied streams s b
+  step_applied j i is st order =
+      let x = spot_is streams d.now a d.holds re second j i reached second_is is in
+      record { news = d.news ++ x.kept ∷ []; now = applied d.now x.kept; applies = applies_push s d.now d.news x.kept d.applies x.ready; holds = with_spot streams d.now a d.holds b j i x st risen order }

@@ -1,0 +1,9 @@
+-- The records so far are redone.
+use Rattle.std.proofs.Common.{◌≡◌, ◌≤◌, List, length, take}
+use Rattle.tau_model.specs.Store.{database}
+use Rattle.tau_scan.specs.Taken.{Kept}
+use Rattle.tau_follow.specs.Applying.{redone_of, AreSpots}
+use Rattle.tau_follow.proofs.redo.redo_from.Given as goal
+
+abbrev pub invariant-loop-i : goal.invariant-loop-i
+invariant-loop-i l = (order : List Kept) → AreSpots l.streams l.spots order → l.from ≤ length order → database l.initial.store ≡ redone_of l.procs (take l.from order) → database l.store ≡ redone_of l.procs (take l.i order)

@@ -1,0 +1,22 @@
+-- Nothing is applied yet, and then what is ready.
+use Rattle.std.proofs.Common.{◌∙◌, ap, sym, subst, refl, [], List}
+use Rattle.tau_follow.specs.declared.spot.Spot.{Spot}
+use Rattle.tau_follow.specs.Applying.{AreSpots}
+use Rattle.tau_follow.proofs.Fed.{none_passed, all_read}
+use Rattle.tau_follow.proofs.state.follow_on.Goals as goal
+
+pub returns-in-Ok : goal.returns-in-Ok
+returns-in-Ok c = λ f fed s fronts same stages spots.
+    c.in-Ok.ensures s (record {
+      news = [];
+      now = s;
+      applies = refl;
+      holds = record {
+        streams_are = same;
+        format = f;
+        fed = fed;
+        fronts = fronts ∙ ap all_read same;
+        staged = record { stages_are = stages; passed = none_passed _ _ c.in_ok-firsts.ensures };
+        spots = subst (λ (l : List Spot). AreSpots s.streams l s.order) (sym c.in_ok-order.ensures.items) spots;
+      };
+    })

@@ -1,0 +1,30 @@
+-- What an applier has applied.
+use Rattle.std.specs.Prelude.{ℕ, ◌≡◌, List, Ok}
+use Rattle.tau_base.specs.declared.format.Format.{Format}
+use Rattle.tau_record.specs.declared.entry.Placed.{Placed}
+use Rattle.tau_scan.specs.Taken.{Kept}
+use Rattle.tau_follow_laws.specs.Fed.{fronts_of}
+use Rattle.tau_follow_laws.specs.Following.{Followed, Applies, NoneReady}
+use Rattle.tau_follow.specs.declared.applier.Applier.{Applier}
+use Rattle.tau_follow.specs.Applying.{AreStaged, AreSpots}
+
+-- Of streams that were read of some bytes these records are applied: they stand so, and are those at the spots.
+pub record Holds (streams : List (List Placed)) (s : Followed) (a : Applier) : Type 0 where
+  pub streams_are : streams ≡ s.streams
+  pub format : Format
+  pub fed : List (List ℕ)
+  pub fronts : fronts_of format fed ≡ Ok s.streams
+  pub staged : AreStaged s a.stages.items a.firsts.items
+  pub spots : AreSpots s.streams a.order.items s.order
+
+-- the applier has applied these records, and then
+pub record HasApplied (streams : List (List Placed)) (s : Followed) (a : Applier) : Type 0 where
+  pub news : List Kept
+  pub now : Followed
+  pub applies : Applies s news now
+  pub holds : Holds streams now a
+
+-- the same, and nothing is ready
+pub record HasFollowed (streams : List (List Placed)) (s : Followed) (a : Applier) : Type 0 where
+  pub done : HasApplied streams s a
+  pub through : NoneReady done.now

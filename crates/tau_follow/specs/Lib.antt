@@ -1,0 +1,9 @@
+pub mod Width
+pub mod Reading
+pub mod Applying
+pub mod Holding
+pub mod Judging
+pub mod Feeding
+pub mod State
+pub mod Sealing
+pub mod Follower

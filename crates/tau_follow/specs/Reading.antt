@@ -1,0 +1,56 @@
+-- What a reader has read of a stream.
+use Rattle.std.specs.Prelude.{ℕ, ◌≡◌, ◌≤◌, ◌⊎◌, ◌==◌, List, [], ◌++◌, length, drop, None, Result, Ok, Err}
+use Rattle.tau_record.specs.declared.entry.Entry.{Entry}
+use Rattle.tau_record.specs.declared.entry.Placed.{Placed}
+use Rattle.tau_record.specs.declared.fault.RecordCause.{RecordCause}
+use Rattle.tau_record.specs.declared.fault.RecordCause.TheVariants.{Short}
+use Rattle.tau_record.specs.Format.{Format}
+use Rattle.tau_record.specs.Record.{named, record_at}
+use Rattle.tau_record.specs.Content.{named_behind, last_epoch, content_at}
+use Rattle.tau_scan.specs.Reading.{catalogue_of, declared_by, undeclared}
+use Rattle.tau_follow.specs.declared.reader.Reader.{Reader}
+use Rattle.tau_follow.specs.declared.reader.Mark.{Mark}
+
+-- Of a content, which ends with the bytes of the reader from this index on, these records are read, and the reader knows what
+-- stands behind them.
+pub record IsGoing (f : Format) (n : ℕ) (content : List ℕ) (ps : List Placed) (r : Reader) (from : ℕ) : Type 0 where
+  pub front : List ℕ
+  pub parts : content ≡ front ++ drop from r.rest.items
+  pub read : content_at f n front ≡ Ok ps
+  pub declared : undeclared ps ≡ None
+  pub place : r.at ≡ length front
+  pub vectors : r.vectors.items ≡ named_behind (named n []) ps
+  pub last : r.last ≡ last_epoch 0 ps
+  pub declarations : r.declarations ≡ declared_by (catalogue_of ps)
+  pub within : from ≤ length r.rest.items
+
+-- the same between two feeds: all of its bytes are left
+abbrev pub IsRead : Format → ℕ → List ℕ → List Placed → Reader → Type 0
+IsRead f n content ps r = IsGoing f n content ps r 0
+
+-- what the bytes of the reader from this index on are, as its next record
+abbrev pub next_at : Format → ℕ → Reader → ℕ → Result (Entry × List ℕ) RecordCause
+next_at f n r from = record_at f n r.last r.vectors.items (r.at == 0) (drop from r.rest.items)
+
+-- no bytes are left, or too few for a record
+abbrev pub IsStopped : Format → ℕ → Reader → ℕ → Type 0
+IsStopped f n r from = (drop from r.rest.items ≡ []) ⊎ (next_at f n r from ≡ Err Short)
+
+-- the second list begins with the first one
+abbrev pub BeginsWith : {A : Type 0} → List A → List A → Type 0
+BeginsWith xs ys = (more : List _) × (ys ≡ xs ++ more)
+
+-- a reader has gone on from this one, with more records: what it knew is in front
+pub record IsLonger (r t : Reader) (ps qs : List Placed) : Type 0 where
+  pub records : BeginsWith ps qs
+  pub vectors : BeginsWith r.vectors.items t.vectors.items
+  pub at : r.at ≤ t.at
+  pub declared : (r.at ≡ 0) ⊎ (t.declarations ≡ r.declarations)
+
+-- the reader was so, with these records read
+pub record IsMark (r : Reader) (ps : List Placed) (m : Mark) : Type 0 where
+  pub rest : m.rest.items ≡ r.rest.items
+  pub at : m.at ≡ r.at
+  pub vectors : m.vectors ≡ length r.vectors.items
+  pub last : m.last ≡ r.last
+  pub records : m.records ≡ length ps

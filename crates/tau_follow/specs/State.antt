@@ -1,0 +1,63 @@
+-- How a follower is that was fed these bytes.
+use Rattle.std.specs.Prelude.{ℕ, ◌≡◌, ◌≤◌, ◌<◌, List, [], length, take, slice_index, slice_index_or, Option, Ok}
+use Rattle.tau_base.specs.Database.{Db}
+use Rattle.tau_base.specs.declared.format.Format.{Format}
+use Rattle.tau_base.specs.declared.value.Key.{Key}
+use Rattle.tau_base.specs.declared.value.Value.{Value}
+use Rattle.tau_proc.specs.declared.proc.Proc.{Proc}
+use Rattle.tau_model.specs.Store.{database}
+use Rattle.tau_model.specs.Tables.{IsTablesOf}
+use Rattle.tau_scan.specs.Reading.{catalogue_in, declared_by}
+use Rattle.tau_follow_laws.specs.Following.{Followed}
+use Rattle.tau_follow_laws.specs.Feeding.{Piece, with_piece, IsFollower}
+use Rattle.tau_follow.specs.declared.applier.Applier.{Applier}
+use Rattle.tau_follow.specs.declared.state.State.{State}
+use Rattle.tau_follow.specs.Applying.{AreStaged, AreSpots, redone_of}
+use Rattle.tau_follow.specs.Feeding.{AreRead}
+
+-- where its records stand, and which are applied
+pub record Stands (s : Followed) (a : Applier) : Type 0 where
+  pub staged : AreStaged s a.stages.items a.firsts.items
+  pub spots : AreSpots s.streams a.order.items s.order
+
+-- each of these numbers is a byte
+abbrev pub AreBytes : List (List ℕ) → Type 0
+AreBytes fed = (j i : ℕ) → slice_index (slice_index_or fed j []) i < 256
+
+-- A database holds what the first of the applied records did by these procedures, and the rows are those of all of them.
+pub record IsRedone (procs : List Proc) (s : Followed) (done : ℕ) (db : Db) (rows : List (Key × Value)) : Type 0 where
+  pub within : done ≤ length s.order
+  pub store : db ≡ redone_of procs (take done s.order)
+  pub tables : IsTablesOf (redone_of procs s.order) rows
+
+-- It has read the bytes, has followed them as one does that is fed, and its rows are those of the applied records by the
+-- procedures that the catalogue declares.
+pub record IsAt (f : Format) (n : ℕ) (fed : List (List ℕ)) (s : Followed) (w : State) : Type 0 where
+  pub read : AreRead f n fed w.streams.items w.readers.items
+  pub bytes : AreBytes fed
+  pub follower : IsFollower f n fed s
+  pub catalogue : Option (List ℕ)
+  pub one : catalogue_in s.streams ≡ Ok catalogue
+  pub stands : Stands s w.applier
+  pub redone : IsRedone (declared_by catalogue).procs s w.done (database w.store) w.tables
+
+-- the same where a piece was read, and is not followed yet
+pub record HasRead (f : Format) (n : ℕ) (fed : List (List ℕ)) (s : Followed) (p : Piece) (w : State) : Type 0 where
+  pub read : AreRead f n (with_piece fed p) w.streams.items w.readers.items
+  pub bytes : AreBytes (with_piece fed p)
+  pub follower : IsFollower f n fed s
+  pub catalogue : Option (List ℕ)
+  pub one : catalogue_in s.streams ≡ Ok catalogue
+  pub stands : Stands s w.applier
+  pub redone : IsRedone (declared_by catalogue).procs s w.done (database w.store) w.tables
+
+-- what is read and applied, and the rows, are the same
+pub record IsSame (old new : State) : Type 0 where
+  pub streams : new.streams ≡ old.streams
+  pub readers : new.readers ≡ old.readers
+  pub applier : new.applier ≡ old.applier
+  pub tables : new.tables ≡ old.tables
+
+-- it is one that was fed some bytes
+abbrev pub IsFed : State → Type 0
+IsFed w = (f : Format) × (n : ℕ) × (fed : List (List ℕ)) × (s : Followed) × IsAt f n fed s w

@@ -1,0 +1,106 @@
+//! Feeding one of the streams.
+ghost use Rattle.std.specs.Prelude.{◌≡◌, ◌≤◌, ◌<◌, ◌++◌, [], ℕ, List, Some, Ok, Err, length, slice_get, slice_set, slice_index_or, false, IfOk, OnOk};
+ghost use Rattle.tau_base.specs.Modes.{most_streams};
+ghost use Rattle.tau_scan.specs.declared.fault.LogFault.{LogFault};
+ghost use Rattle.tau_scan.specs.declared.fault.LogRefusal.TheVariants as refusals;
+ghost use Rattle.tau_follow_laws.specs.Fed.{fronts_of};
+ghost use Rattle.tau_follow_laws.specs.Feeding.{Piece, with_piece};
+ghost use Rattle.tau_follow.specs.Reading.{IsRead};
+ghost use Rattle.tau_follow.specs.Feeding.{AreRead, AreLonger, IsMarkAt};
+ghost use Rattle.tau_record.specs.declared.entry.Placed.{Placed as OnePlaced};
+ghost use Rattle.tau_follow.specs.declared.reader.Reader.{Reader as OneReader};
+
+use crate::reader::{Mark, Reader};
+use std::alloc::Global;
+use tau_base::{Format, Listed, NoMemory};
+use tau_record::{Placed, RecordRefusal};
+use tau_scan::{LogCause, LogFault, LogRefusal};
+
+/// Reads what is fed to a stream.
+pub fn read_stream(
+    alloc: Global,
+    format: Format,
+    n: u16,
+    readers: &mut Vec<Reader>,
+    streams: &mut Vec<Listed<Placed>>,
+    stream: u8,
+    bytes: &[u8],
+) -> Result<(), LogRefusal>
+    requires low { 1 ≤ n }
+    requires high { n ≤ most_streams format }
+    ensures ok { (fed : List (List ℕ)) → AreRead format n fed streams.old.items readers.old.items → OnOk result (AreRead format n (with_piece fed (record { stream = stream; bytes = bytes.now })) streams.new.items readers.new.items) }
+    ensures bad { (fed : List (List ℕ)) (fault : LogFault) → AreRead format n fed streams.old.items readers.old.items → result ≡ Err (refusals.Bad fault) → fronts_of format (with_piece fed (record { stream = stream; bytes = bytes.now })) ≡ Err fault }
+    ensures longer { stream < length streams.old.items → stream < length readers.old.items → AreLonger stream streams.old.items readers.old.items streams.new.items readers.new.items }
+{
+    let j = stream as usize;
+    if j >= readers.len() {
+        return Err(LogRefusal::NoMemory);
+    }
+    if j >= streams.len() {
+        return Err(LogRefusal::NoMemory);
+    }
+    match readers[j].read(alloc, format, n, &mut streams[j], bytes) {
+        Ok(()) => Ok(()),
+        Err(RecordRefusal::NoMemory) => Err(LogRefusal::NoMemory),
+        Err(RecordRefusal::Bad(fault)) => Err(LogRefusal::Bad(LogFault {
+            stream,
+            cause: LogCause::Body(fault),
+        })),
+    }
+}
+
+/// How the stream is that is to be fed.
+pub fn mark_stream(
+    alloc: Global,
+    readers: &[Reader],
+    streams: &[Listed<Placed>],
+    stream: u8,
+) -> Result<Mark, NoMemory>
+    ensures { IfOk result (λ mark. IsMarkAt stream streams.now readers.now mark) }
+{
+    let Some(reader) = readers.get(stream as usize) else {
+        return Err(NoMemory);
+    };
+    let Some(records) = streams.get(stream as usize) else {
+        return Err(NoMemory);
+    };
+    reader.mark(alloc, records)
+}
+
+/// Has the stream that was fed as it was.
+pub fn undo_stream(
+    alloc: Global,
+    readers: &mut Vec<Reader>,
+    streams: &mut Vec<Listed<Placed>>,
+    stream: u8,
+    mark: Mark,
+)
+    ensures { (format : Format) (n : ℕ) (fed : List (List ℕ)) (before : List (List OnePlaced)) (by : List OneReader) → stream < n → AreRead format n fed before by → IsMarkAt stream before by mark →
+        AreLonger stream before by streams.old.items readers.old.items → AreRead format n fed streams.new.items readers.new.items × (streams.new.items ≡ before) }
+{
+    let j = stream as usize;
+    if j >= readers.len() {
+        return;
+    }
+    if j >= streams.len() {
+        return;
+    }
+    readers[j].undo(alloc, &mut streams[j], mark);
+}
+
+/// How many records are read of a stream.
+pub fn read_count(streams: &[Listed<Placed>], stream: u8) -> usize
+    ensures { (ps : List OnePlaced) → slice_get streams.now stream ≡ Some ps → result ≡ length ps }
+{
+    match streams.get(stream as usize) {
+        Some(records) => records.len(),
+        None => 0,
+    }
+}
+
+/// Whether there are others than before.
+pub fn is_more(before: usize, after: usize) -> bool
+    ensures { result ≡ false → after ≡ before }
+{
+    after != before
+}

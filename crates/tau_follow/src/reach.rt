@@ -1,0 +1,153 @@
+//! How far streams are followed, and which record is ready.
+ghost use Rattle.std.specs.Prelude.{◌≡◌, ◌≤◌, ◌<◌, ◌+◌, ◌++◌, ◌∷◌, [], ℕ, List, Some, None, true, false, length, slice_get, slice_index, slice_index_or, slice_set, IfOk, IfSome, IsNone, OnOk, OnErr};
+ghost use Rattle.tau_record.specs.declared.entry.Placed.{Placed};
+ghost use Rattle.tau_follow_laws.specs.Following.{read_to};
+ghost use Rattle.tau_follow.specs.declared.stage.Stage.{Stage as OneStage};
+ghost use Rattle.tau_follow.specs.Applying.{is_ready_in, is_open_stage, reach_by, reaches, ArePassed, set_stage};
+
+use crate::spot::Spot;
+use crate::stage::{Stage, Stages, first_open, first_ready};
+use std::alloc::Global;
+use tau_base::{Listed, NoMemory};
+use tau_record::Placed;
+
+/// To where a stream is read: nowhere if that is its catalogue alone.
+fn read_to(records: &[Placed]) -> u64
+    ensures { result ≡ read_to records.now }
+{
+    if records.len() < 2 {
+        return 0;
+    }
+    records[records.len() - 1].past
+}
+
+/// The first open record of a stream, and how far the stream is followed.
+#[derive(Clone, Copy)]
+struct Reach {
+    first: usize,
+    at: u64,
+}
+
+/// How far a stream is followed of which no record before an index is open.
+fn reach_of(records: &[Placed], stages: &[Stage], first: usize) -> Reach
+    requires { length records.now ≡ length stages.now }
+    ensures passed { ((i : ℕ) (s : OneStage) → i < first → slice_get stages.now i ≡ Some s → is_open_stage s ≡ false) → (i : ℕ) (s : OneStage) → i < result.first → slice_get stages.now i ≡ Some s → is_open_stage s ≡ false }
+    ensures at { ((i : ℕ) (s : OneStage) → i < first → slice_get stages.now i ≡ Some s → is_open_stage s ≡ false) → result.at ≡ reach_by (read_to records.now) records.now stages.now }
+{
+    let found = first_open(stages, first.min(stages.len()));
+    if found < records.len() {
+        return Reach {
+            first: found,
+            at: records[found].start,
+        };
+    }
+    Reach {
+        first: found,
+        at: read_to(records),
+    }
+}
+
+/// The first ready record of a stream from the first one on that may be open.
+fn ready_in(
+    streams: &[Listed<Placed>],
+    stages: &[Stages],
+    reached: &[u64],
+    j: usize,
+    first: usize,
+) -> Option<usize>
+    ensures some { IfSome result (λ i. is_ready_in reached.now streams.now stages.now j i ≡ true) }
+    ensures none { IsNone result → (i : ℕ) (ps : List Placed) → slice_get streams.now j ≡ Some ps → first ≤ i → i < length ps → is_ready_in reached.now streams.now stages.now j i ≡ false }
+{
+    match streams.get(j) {
+        None => None,
+        Some(records) => match stages.get(j) {
+            None => None,
+            Some(of_stream) => first_ready(
+                reached,
+                records.as_slice(),
+                of_stream.as_slice(),
+                first,
+            ),
+        },
+    }
+}
+
+/// The number at this index, or 0.
+fn first_at(firsts: &[usize], j: usize) -> usize
+    ensures { result ≡ slice_index firsts.now j }
+{
+    match firsts.get(j) {
+        Some(first) => *first,
+        None => 0,
+    }
+}
+
+/// The first ready record of all streams.
+pub fn find(
+    streams: &[Listed<Placed>],
+    stages: &[Stages],
+    firsts: &[usize],
+    reached: &[u64],
+) -> Option<Spot>
+    ensures some { IfSome result (λ spot. is_ready_in reached.now streams.now stages.now spot.stream spot.index ≡ true) }
+    ensures none { IsNone result → (j i : ℕ) (ps : List Placed) → j < length streams.now → slice_get streams.now j ≡ Some ps → slice_index firsts.now j ≤ i → i < length ps → is_ready_in reached.now streams.now stages.now j i ≡ false }
+{
+    for j in 0..streams.len() {
+        match ready_in(streams, stages, reached, j, first_at(firsts, j)) {
+            Some(index) => return Some(Spot { stream: j, index }),
+            None => {}
+        }
+    }
+    None
+}
+
+/// How far a stream is followed, and its first open record; none where its records stand nowhere.
+fn reach_at(
+    streams: &[Listed<Placed>],
+    stages: &[Stages],
+    firsts: &[usize],
+    j: usize,
+) -> Option<Reach>
+    ensures some { IfSome result (λ reach. ArePassed stages.now firsts.now → (ps : List Placed) × (ss : List OneStage) × (slice_get streams.now j ≡ Some ps) × (slice_get stages.now j ≡ Some ss) × (reach.at ≡ reach_by (read_to ps) ps ss) × ((i : ℕ) (s : OneStage) → i < reach.first → slice_get ss i ≡ Some s → is_open_stage s ≡ false)) }
+{
+    match streams.get(j) {
+        None => None,
+        Some(records) => match stages.get(j) {
+            None => None,
+            Some(of_stream) => {
+                if of_stream.len() != records.len() {
+                    return None;
+                }
+                Some(reach_of(
+                    records.as_slice(),
+                    of_stream.as_slice(),
+                    first_at(firsts, j),
+                ))
+            }
+        },
+    }
+}
+
+/// How far all streams are followed. No record before the numbers is open: they rise to the first ones that are.
+pub fn reaches(
+    alloc: Global,
+    streams: &[Listed<Placed>],
+    stages: &[Stages],
+    firsts: &mut Vec<usize>,
+) -> Result<Vec<u64>, NoMemory>
+    ensures reached { ArePassed stages.now firsts.old.items → IfOk result (λ list. list.items ≡ reaches streams.now stages.now) }
+    ensures passed { ArePassed stages.now firsts.old.items → OnOk result (ArePassed stages.now firsts.new.items) }
+{
+    let mut list = Vec::new(alloc);
+    for j in 0..streams.len() {
+        let Some(reach) = reach_at(streams, stages, firsts.as_slice(), j) else {
+            return Err(NoMemory);
+        };
+        list.push(reach.at)?;
+        if j >= firsts.len() {
+            return Err(NoMemory);
+        }
+        firsts[j] = reach.first;
+    }
+    Ok(list)
+}

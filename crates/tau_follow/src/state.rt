@@ -1,0 +1,268 @@
+//! What a follower has read and applied.
+ghost use Rattle.std.specs.Prelude.{◌≡◌, ◌≤◌, ◌<◌, ◌+◌, ◌++◌, ◌∷◌, [], false, ℕ, List, Some, None, Ok, Err, length, replicate, slice_index, IfOk, OnOk, OnErr};
+ghost use Rattle.tau_base.specs.Modes.{most_streams};
+ghost use Rattle.tau_base.specs.declared.format.Format.{Format};
+ghost use Rattle.tau_base.specs.declared.limits.TheConstants.{MAX_STREAMS as MOST};
+ghost use Rattle.tau_scan.specs.declared.fault.LogFault.{LogFault as OneFault};
+ghost use Rattle.tau_scan.specs.declared.fault.LogRefusal.TheVariants as refusals;
+ghost use Rattle.tau_follow_laws.specs.Fed.{fronts_of};
+ghost use Rattle.tau_follow_laws.specs.Following.{Followed, begun};
+ghost use Rattle.tau_follow_laws.specs.Feeding.{Piece, with_piece, read_now, HasFed, IsFollower};
+ghost use Rattle.tau_base.specs.Database.{empty_db};
+ghost use Rattle.tau_model.specs.Store.{database};
+ghost use Rattle.tau_record.specs.declared.entry.Placed.{Placed as OnePlaced};
+ghost use Rattle.tau_follow.specs.declared.reader.Reader.{Reader as OneReader};
+ghost use Rattle.tau_follow.specs.Applying.{stages_from, AreSpots};
+ghost use Rattle.tau_follow.specs.Feeding.{AreRead, AreLonger, IsMarkAt};
+ghost use Rattle.tau_follow.specs.Holding.{HasFollowed};
+ghost use Rattle.tau_follow.specs.State.{IsAt, Stands, HasRead, IsSame};
+
+use crate::applier::Applier;
+use crate::check::{checked, declared};
+use crate::feed::{is_more, mark_stream, read_count, read_stream, undo_stream};
+use crate::judge::judged_from;
+use crate::reader::{Mark, Reader};
+use crate::redo::redo_from;
+use crate::spot::Spot;
+use crate::stage::{Stages, copied, extend_all};
+use std::alloc::Global;
+use tau_base::{Format, Listed, MAX_STREAMS, NoMemory};
+use tau_model::{SerialStore, Tables};
+use tau_record::Placed;
+use tau_scan::LogRefusal;
+
+/// What was read of a log that is fed, and what of it is applied.
+#[derive(Drop)]
+pub struct State {
+    /// The reader and the records of each stream.
+    pub readers: Vec<Reader>,
+    pub streams: Vec<Listed<Placed>>,
+    pub applier: Applier,
+    /// What the first applied records did, so many.
+    pub store: SerialStore,
+    pub done: usize,
+    /// The rows of what all applied records did.
+    pub tables: Tables,
+}
+
+/// So many zeros.
+fn zeros(alloc: Global, n: usize) -> Result<Vec<usize>, NoMemory>
+    ensures { IfOk result (λ list. (j : ℕ) → slice_index list.items j ≡ 0) }
+{
+    let mut list = Vec::new(alloc);
+    for _ in 0..n {
+        list.push(0)?;
+    }
+    Ok(list)
+}
+
+/// Applies what is ready of records that stand so, where these are applied, until nothing is.
+fn follow_on(
+    alloc: Global,
+    streams: &[Listed<Placed>],
+    stages: Vec<Stages>,
+    order: &[Spot],
+) -> Result<Applier, NoMemory>
+    ensures { (format : Format) (fed : List (List ℕ)) (s : Followed) → fronts_of format fed ≡ Ok streams.now → streams.now ≡ s.streams → stages.items ≡ stages_from s.out s.order 0 s.streams → AreSpots s.streams order.now s.order → IfOk result (λ next. HasFollowed streams.now s next) }
+{
+    let firsts = zeros(alloc, streams.len())?;
+    let order = Vec::from_slice(alloc, order)?;
+    let mut next = Applier {
+        stages,
+        firsts,
+        order,
+    };
+    match next.follow(alloc, streams) {
+        Ok(()) => Ok(next),
+        Err(e) => Err(e),
+    }
+}
+
+/// Judges the records that are read, and applies what is ready until nothing is: the applier then.
+fn applied(
+    alloc: Global,
+    streams: &[Listed<Placed>],
+    applier: &Applier,
+) -> Result<Applier, LogRefusal>
+    ensures ok { (format : Format) (n : ℕ) (fed : List (List ℕ)) (s : Followed) (p : Piece) → IsFollower format n fed s → fronts_of format (with_piece fed p) ≡ Ok streams.now → Stands s applier.now → IfOk result (λ next. (t : Followed) × HasFed format (with_piece fed p) s t × Stands t next) }
+    ensures bad { (format : Format) (n : ℕ) (fed : List (List ℕ)) (s : Followed) (p : Piece) (fault : OneFault) → IsFollower format n fed s → fronts_of format (with_piece fed p) ≡ Ok streams.now → Stands s applier.now → result ≡ Err (refusals.Bad fault) → read_now format (with_piece fed p) s.order ≡ Err fault }
+{
+    if streams.len() > MAX_STREAMS {
+        return Err(LogRefusal::NoMemory);
+    }
+    if applier.stages.len() != streams.len() {
+        return Err(LogRefusal::NoMemory);
+    }
+    let Ok(mut stages) = copied(alloc, applier.stages.as_slice()) else {
+        return Err(LogRefusal::NoMemory);
+    };
+    match extend_all(&mut stages, streams) {
+        Ok(()) => {}
+        Err(_) => return Err(LogRefusal::NoMemory),
+    }
+    let known = match checked(alloc, streams, stages.as_slice()) {
+        Ok(known) => known,
+        Err(e) => return Err(e),
+    };
+    let Ok(judged) = judged_from(alloc, &known, streams, stages.as_slice()) else {
+        return Err(LogRefusal::NoMemory);
+    };
+    match follow_on(alloc, streams, judged, applier.order.as_slice()) {
+        Ok(next) => Ok(next),
+        Err(_) => Err(LogRefusal::NoMemory),
+    }
+}
+
+impl State {
+    /// Nothing is fed of `n` streams.
+    pub fn new(alloc: Global, n: u16) -> Result<State, NoMemory>
+        requires low { 1 ≤ n }
+        requires high { n ≤ MOST }
+        ensures { (format : Format) → IfOk result (λ state. IsAt format n (replicate n []) (begun n) state) }
+    {
+        let mut readers = Vec::new(alloc);
+        let mut streams = Vec::new(alloc);
+        let mut stages = Vec::new(alloc);
+        for _ in 0..n {
+            let reader = Reader::new(alloc, n)?;
+            readers.push(reader)?;
+            streams.push(Listed::new(alloc))?;
+            stages.push(Stages::new(alloc))?;
+        }
+        let firsts = zeros(alloc, n as usize)?;
+        let store = SerialStore::new(alloc);
+        let tables = store.tables(alloc)?;
+        Ok(State {
+            readers,
+            streams,
+            applier: Applier {
+                stages,
+                firsts,
+                order: Vec::new(alloc),
+            },
+            store,
+            done: 0,
+            tables,
+        })
+    }
+
+    /// Follows what is read, once a stream is fed. The rows and the records are as before if it is refused.
+    fn follow(&mut self, alloc: Global) -> Result<(), LogRefusal>
+        ensures ok { (format : Format) (n : ℕ) (fed : List (List ℕ)) (s : Followed) (p : Piece) → HasRead format n fed s p self.old → OnOk result ((t : Followed) × HasFed format (with_piece fed p) s t × IsAt format n (with_piece fed p) t self.new) }
+        ensures bad { (format : Format) (n : ℕ) (fed : List (List ℕ)) (s : Followed) (p : Piece) (fault : OneFault) → HasRead format n fed s p self.old → result ≡ Err (refusals.Bad fault) → read_now format (with_piece fed p) s.order ≡ Err fault }
+        ensures err { OnErr result (IsSame self.old self.new) }
+    {
+        if self.streams.len() > MAX_STREAMS {
+            return Err(LogRefusal::NoMemory);
+        }
+        let declarations = match declared(alloc, self.streams.as_slice()) {
+            Ok(declarations) => declarations,
+            Err(e) => return Err(e),
+        };
+        let next = match applied(alloc, self.streams.as_slice(), &self.applier) {
+            Ok(next) => next,
+            Err(e) => return Err(e),
+        };
+        match redo_from(
+            &mut self.store,
+            &declarations.procs,
+            self.streams.as_slice(),
+            next.order.as_slice(),
+            self.done,
+        ) {
+            Ok(()) => {}
+            Err(_) => return Err(LogRefusal::NoMemory),
+        }
+        match self.store.tables(alloc) {
+            Ok(tables) => {
+                self.done = next.order.len();
+                self.applier = next;
+                self.tables = tables;
+                Ok(())
+            }
+            Err(_) => Err(LogRefusal::NoMemory),
+        }
+    }
+
+    /// The same, if the feed has completed a record.
+    fn follow_new(&mut self, alloc: Global, more: bool) -> Result<(), LogRefusal>
+        ensures ok { (format : Format) (n : ℕ) (fed : List (List ℕ)) (s : Followed) (p : Piece) → HasRead format n fed s p self.old → (more ≡ false → self.old.streams.items ≡ s.streams) → OnOk result ((t : Followed) × HasFed format (with_piece fed p) s t × IsAt format n (with_piece fed p) t self.new) }
+        ensures bad { (format : Format) (n : ℕ) (fed : List (List ℕ)) (s : Followed) (p : Piece) (fault : OneFault) → HasRead format n fed s p self.old → result ≡ Err (refusals.Bad fault) → read_now format (with_piece fed p) s.order ≡ Err fault }
+        ensures err { OnErr result (IsSame self.old self.new) }
+    {
+        if !more {
+            return Ok(());
+        }
+        match self.follow(alloc) {
+            Ok(()) => Ok(()),
+            Err(e) => Err(e),
+        }
+    }
+
+    /// Has the stream that was fed as it was, and the store to be redone from the beginning.
+    fn undo(&mut self, alloc: Global, stream: u8, mark: Mark)
+        ensures read { (format : Format) (n : ℕ) (fed : List (List ℕ)) (before : List (List OnePlaced)) (by : List OneReader) → stream < n → AreRead format n fed before by → IsMarkAt stream before by mark →
+            AreLonger stream before by self.old.streams.items self.old.readers.items → AreRead format n fed self.new.streams.items self.new.readers.items × (self.new.streams.items ≡ before) }
+        ensures store { database self.new.store ≡ empty_db }
+        ensures done { self.new.done ≡ 0 }
+        ensures applier { self.new.applier ≡ self.old.applier }
+        ensures tables { self.new.tables ≡ self.old.tables }
+    {
+        undo_stream(alloc, &mut self.readers, &mut self.streams, stream, mark);
+        self.store = SerialStore::new(alloc);
+        self.done = 0;
+    }
+
+    /// Feeds bytes to a stream: reads, judges, and applies what is ready until nothing is.
+    pub fn feed(
+        &mut self,
+        alloc: Global,
+        format: Format,
+        n: u16,
+        stream: u8,
+        bytes: &[u8],
+    ) -> Result<(), LogRefusal>
+        requires low { 1 ≤ n }
+        requires high { n ≤ most_streams format }
+        requires stream { stream < n }
+        ensures ok { (fed : List (List ℕ)) (s : Followed) → IsAt format n fed s self.old → OnOk result ((t : Followed) × HasFed format (with_piece fed (record { stream = stream; bytes = bytes.now })) s t × IsAt format n (with_piece fed (record { stream = stream; bytes = bytes.now })) t self.new) }
+        ensures bad { (fed : List (List ℕ)) (s : Followed) (fault : OneFault) → IsAt format n fed s self.old → result ≡ Err (refusals.Bad fault) → read_now format (with_piece fed (record { stream = stream; bytes = bytes.now })) s.order ≡ Err fault }
+        ensures no_memory { (fed : List (List ℕ)) (s : Followed) → IsAt format n fed s self.old → result ≡ Err refusals.NoMemory → IsAt format n fed s self.new }
+        ensures tables { OnErr result (self.new.tables ≡ self.old.tables) }
+    {
+        let Ok(mark) = mark_stream(
+            alloc,
+            self.readers.as_slice(),
+            self.streams.as_slice(),
+            stream,
+        ) else {
+            return Err(LogRefusal::NoMemory);
+        };
+        let before = read_count(self.streams.as_slice(), stream);
+        match read_stream(
+            alloc,
+            format,
+            n,
+            &mut self.readers,
+            &mut self.streams,
+            stream,
+            bytes,
+        ) {
+            Ok(()) => {}
+            Err(LogRefusal::NoMemory) => {
+                self.undo(alloc, stream, mark);
+                return Err(LogRefusal::NoMemory);
+            }
+            Err(LogRefusal::Bad(fault)) => return Err(LogRefusal::Bad(fault)),
+        }
+        let after = read_count(self.streams.as_slice(), stream);
+        match self.follow_new(alloc, is_more(before, after)) {
+            Ok(()) => Ok(()),
+            Err(LogRefusal::NoMemory) => {
+                self.undo(alloc, stream, mark);
+                Err(LogRefusal::NoMemory)
+            }
+            Err(LogRefusal::Bad(fault)) => Err(LogRefusal::Bad(fault)),
+        }
+    }
+}
