@@ -1,5 +1,5 @@
 -- What the clerk tells, line by line and pass by pass.
-use Rattle.std.proofs.Common.{ℕ, ◌+◌, ◌<◌, ◌≤◌, ◌≡◌, ◌⊎◌, inl, inr, Bool, true, false, List, [], ◌∷◌, ◌++◌, length, take, refl, sym, ap, subst, ◌∙◌, append_assoc, arith}
+use Rattle.std.proofs.Common.{ℕ, ◌+◌, ◌<◌, ◌≡◌, inl, inr, Bool, true, false, List, [], ◌∷◌, ◌++◌, length, take, refl, sym, ap, subst, ◌∙◌, append_assoc, arith}
 use Rattle.std.specs.Prelude.{None, Some}
 use Rattle.std.proofs.lemmas.List.{append-nil, take-append-le, take_all}
 use Rattle.std.proofs.Math.Seq.{take-append-add, take-append_seam}
@@ -20,7 +20,6 @@ use Rattle.tau_rule.specs.Rule.{IsPart, Now, outbox_part}
 use Rattle.tau_rule.specs.Steps.{Sat, first_role}
 use Rattle.tau_rule.specs.declared.part.Part.{Part}
 use Rattle.tau_rule.specs.declared.part.Part.TheVariants as part
-use Rattle.tau_step.specs.Telling.{Heard, HeardFront}
 use Rattle.tau_desk.specs.Manages.{AcksFirst, SeesOn, acked_in, acked_in_share, told_raised}
 use Rattle.tau_desk.specs.Seats.{Clerks, PlainClerkSeat}
 use Rattle.tau_crew_facts.specs.Telling.{IsTelling}
@@ -29,6 +28,7 @@ use Rattle.tau_crew.specs.declared.told.Told.{Told}
 use Rattle.tau_crew.specs.Gathering.{raised_in}
 use Rattle.tau_crew.specs.Clerking.{Acknowledges, IsSameClerk, IsSoFar, all_told, with_missing}
 use Rattle.tau_base.proofs.Logic.{up_to_or_above}
+use Rattle.tau_run.specs.Heard.{Heard, HeardFront}
 
 pub lines_append : (xs ys : List (ℕ × List ℕ)) → ack_lines (xs ++ ys) ≡ ack_lines xs ++ ack_lines ys
 lines_append [] ys = refl

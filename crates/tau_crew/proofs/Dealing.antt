@@ -1,8 +1,7 @@
 -- A manager's seat leaves the head.
-use Rattle.std.proofs.Common.{ℕ, zero, suc, ◌+◌, ◌-◌, ◌<◌, ◌≡◌, ◌⊎◌, inl, inr, Bool, false, cond, List, [], ◌∷◌, ◌++◌, length, refl, sym, ap, subst, ◌∙◌, arith, eq-eqb, ne_eqb, slice_index}
-use Rattle.std.specs.Prelude.{replicate, ◌==◌, None, Option, Some, drop, if◌then◌else◌, slice_get, slice_index_or}
+use Rattle.std.proofs.Common.{ℕ, zero, suc, ◌+◌, ◌-◌, ◌<◌, ◌≡◌, inl, inr, Bool, false, List, [], ◌∷◌, ◌++◌, length, refl, sym, ap, subst, ◌∙◌, arith, slice_index}
+use Rattle.std.specs.Prelude.{replicate, None, Option, Some, drop, if◌then◌else◌, slice_get, slice_index_or}
 use Rattle.std.specs.List.{remove}
-use Rattle.std.proofs.lemmas.Bool.{cases_eq}
 use Rattle.std.proofs.lemmas.Bool.Decides.{leb_tells}
 use Rattle.atomic_table.specs.Seated.{TableId}
 use Rattle.tau_base.specs.Modes.{format_of}
@@ -10,13 +9,12 @@ use Rattle.tau_disk.specs.declared.disk.Disk.{Ghosts}
 use Rattle.tau_stream.specs.declared.writer.Writer.{Writer}
 use Rattle.tau_core.proofs.Lists.{got_other}
 use Rattle.tau_core.specs.State.{Plain}
-use Rattle.tau_rule.specs.First.{clerk_share, first_view, manager_share, outer_share, role_at, roles_below, share_at, worker_share}
-use Rattle.tau_rule.specs.Heads.{left_by, role_or, split_off, without}
+use Rattle.tau_rule.specs.First.{clerk_share, first_view, manager_share, outer_share, role_at, share_at, worker_share}
+use Rattle.tau_rule.specs.Heads.{left_by, role_or, split_off}
 use Rattle.tau_rule.specs.Knows.{Knows}
 use Rattle.tau_rule.specs.Role.{Managed, Role, role_in}
 use Rattle.tau_rule.specs.Rule.{clerk_role, has, manager_role}
 use Rattle.tau_rule.specs.Steps.{Sat}
-use Rattle.tau_step.specs.RunTold.{IsNew}
 use Rattle.tau_desk.specs.Ends.{IsClerkSplit, IsFirst, IsManagerSplit, IsWhole}
 use Rattle.tau_desk.specs.Shares.{PlainStock}
 use Rattle.tau_machine.specs.State.{Ticket}
@@ -27,7 +25,6 @@ use Rattle.tau_desk.specs.Seats.{Heads, Manages, PlainClerkSeat, PlainHead, Plai
 use Rattle.tau_crew_facts.specs.Writers.{SeenNow}
 use Rattle.tau_crew.specs.declared.manager.ManagerJob.{ManagerJob}
 use Rattle.tau_crew.specs.Dealing.{AreDealt, DealsOne, IsDealing, IsDealt}
-use Rattle.tau_step.specs.Whole.{IsBegun}
 use Rattle.tau_crew.specs.Driving.{IsManagerAt}
 use Rattle.tau_crew.specs.Gathering.{raised_in}
 use Rattle.tau_crew.proofs.Gathering.{managed_anchors, managed_gathered, managed_own}
@@ -35,6 +32,7 @@ use Rattle.tau_crew.proofs.ManagerEnds.{manager_begins}
 use Rattle.tau_base.proofs.Lists.{some_at, got_more}
 use Rattle.tau_desk.proofs.SplittingOff.{role_stays}
 use Rattle.tau_base.proofs.Logic.{some_is}
+use Rattle.tau_run.specs.Writers.{IsBegun, IsNew}
 use Rattle.tau_desk.proofs.Beginning.{role_below}
 
 -- a manager's share in the opening

@@ -8,7 +8,6 @@ use Rattle.std.proofs.lemmas.Option.{slice_get-map}
 use Rattle.tau_base.specs.Modes.{format_of}
 use Rattle.tau_outbox.specs.declared.Piece.{Piece}
 use Rattle.tau_run.specs.Run.{pair_of}
-use Rattle.tau_step.specs.RunTold.{EachOf}
 use Rattle.tau_crew_facts.specs.Ends.{IsThreadEnd}
 use Rattle.tau_crew_facts.specs.Telling.{IsTelling}
 use Rattle.tau_crew_facts.proofs.Closing.{thread_end}
@@ -38,6 +37,7 @@ use Rattle.tau_crew.specs.EndCloses.{ClosesRun, IsAllBack, acked_back, managed_b
 use Rattle.tau_crew.specs.EndJoins.{writer_in}
 use Rattle.tau_crew.proofs.EndJoins.{same_origin}
 use Rattle.tau_base.proofs.Lists.{some_at, got_within}
+use Rattle.tau_run.specs.Writers.{EachOf}
 
 module _ {D : Type 0} {G : Ghosts D} (first : Plain) (table : TableId) (bases : ℕ → List ℕ) (ws : List (Writer D G)) (h : PlainHead) (jobs : List (ManagerJob D G)) (telling : ClerkJob) (b : IsAllBack first table bases ws h jobs telling) (d : Heads h) where
   pub as_first : d.origin ≡ first

@@ -1,5 +1,5 @@
 -- When a pass has left nothing.
-use Rattle.std.proofs.Common.{ℕ, ◌+◌, ◌<◌, ◌≤◌, ◌≡◌, ◌⊎◌, inl, inr, Bool, true, false, Option, List, [], length, map, refl, sym, ap, subst, ◌∙◌, arith, slice_index}
+use Rattle.std.proofs.Common.{ℕ, ◌+◌, ◌<◌, ◌≤◌, ◌≡◌, ◌⊎◌, inl, inr, Bool, true, false, List, [], length, map, refl, sym, ap, subst, ◌∙◌, arith, slice_index}
 use Rattle.std.specs.Prelude.{Some, None, ◌%◌, ◌==◌, slice_get, slice_index_or, slice_set}
 use Rattle.std.specs.List.{filter}
 use Rattle.std.proofs.lemmas.Bool.{cases_eq, eqb-true}
@@ -29,8 +29,7 @@ use Rattle.tau_rule.specs.Steps.{worker_in_share}
 use Rattle.tau_desk.specs.Manages.{PlacedTo, acked_in, managed_in}
 use Rattle.tau_desk.specs.Resumes.{CanGoOn}
 use Rattle.tau_desk.specs.Seats.{Heads, PlainHead}
-use Rattle.tau_desk.specs.Shares.{PlainWork, ShowsWorker}
-use Rattle.tau_desk.specs.declared.mark.Mark.{Mark}
+use Rattle.tau_desk.specs.Shares.{PlainWork}
 use Rattle.tau_crew_facts.specs.Closing.{ClerkDone, EndsBy, ManagerDone, covered_count}
 use Rattle.tau_crew_facts.specs.Telling.{IsTelling}
 use Rattle.tau_crew.specs.declared.clerk.ClerkJob.{ClerkJob}

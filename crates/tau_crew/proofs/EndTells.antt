@@ -1,6 +1,6 @@
 -- What a run in threads tells at its end.
 use Rattle.std.proofs.Common.{ℕ, zero, suc, ◌+◌, ◌-◌, ◌<◌, ◌≡◌, inl, inr, Bool, true, false, Option, List, [], ◌∷◌, length, map, refl, sym, ap, subst, ◌∙◌, arith}
-use Rattle.std.specs.Prelude.{Some, None, Result, Ok, Err, IfOk, ◌==◌, if◌then◌else◌, slice_get, slice_index_or}
+use Rattle.std.specs.Prelude.{Some, None, Result, Ok, Err, IfOk, ◌==◌, slice_get, slice_index_or}
 use Rattle.std.specs.List.{All, filter}
 use Rattle.std.proofs.Math.Nat.{mod-lt}
 use Rattle.std.proofs.lemmas.Bool.{cases_eq, eq-eqb, ne_eqb}
@@ -23,9 +23,6 @@ use Rattle.tau_core.specs.Stands.{Stands}
 use Rattle.tau_core.specs.View.{Hidden, call_of, core_of, setting_of, worker_of}
 use Rattle.tau_core.proofs.Promises.{acknowledged_law, committed_law}
 use Rattle.tau_run.specs.Run.{pair_of}
-use Rattle.tau_step.specs.Fates.{IsNumberOf}
-use Rattle.tau_step.specs.RunTold.{fates_by}
-use Rattle.tau_step.specs.Telling.{Heard}
 use Rattle.tau_desk.specs.Seats.{PlainHead}
 use Rattle.tau_crew_facts.specs.Threads.{IsLowestFailed, ThreadsEnded, ThreadsRan}
 use Rattle.tau_crew.specs.declared.clerk.ClerkJob.{ClerkJob}
@@ -37,6 +34,8 @@ use Rattle.tau_crew.specs.EndDone.{ClosesDone, IsDone}
 use Rattle.tau_crew.proofs.EndTold.{all_heard, ends_short}
 use Rattle.tau_base.proofs.Logic.{if_true, if_false}
 use Rattle.tau_machine.proofs.Lists.{member_of}
+use Rattle.tau_run.specs.Fates.{IsNumberOf, fates_by}
+use Rattle.tau_run.specs.Heard.{Heard}
 
 at_member : {A : Type 0} (xs : List A) (k : ℕ) (d : A) → k < length xs → Member (slice_index_or xs k d) xs
 at_member [] k d lt = absurd (omega (arith, lt))

@@ -1,14 +1,13 @@
 -- What the clerk has told when the run ends.
-use Rattle.std.proofs.Common.{ℕ, ◌≡◌, Bool, true, false, Option, List, [], ◌∷◌, ◌++◌, length, take, refl, sym, ap, subst, ◌∙◌, append_assoc, arith}
+use Rattle.std.proofs.Common.{ℕ, ◌≡◌, Bool, true, false, Option, List, [], ◌∷◌, ◌++◌, length, take, sym, ap, subst, ◌∙◌, arith}
 use Rattle.std.specs.Prelude.{None, Some}
 use Rattle.std.proofs.lemmas.List.{append-nil, take_all}
 use Rattle.std.proofs.Math.Seq.{take-append_seam}
 use Rattle.tau_disk.specs.declared.disk.Disk.{Ghosts}
 use Rattle.tau_stream.specs.declared.writer.Writer.{Writer}
 use Rattle.tau_core.specs.State.{Plain}
-use Rattle.tau_report.specs.Lines.{ack_line}
+use Rattle.tau_run.specs.Heard.{Heard}
 use Rattle.tau_report.specs.Report.{ack_lines}
-use Rattle.tau_step.specs.Telling.{Heard}
 use Rattle.tau_crew_facts.specs.Threads.{ThreadsShort}
 use Rattle.tau_crew.specs.declared.clerk.ClerkJob.{ClerkJob}
 use Rattle.tau_crew.specs.declared.told.Told.{Told}

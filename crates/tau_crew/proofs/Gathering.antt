@@ -1,9 +1,8 @@
 -- What a manager gathers, step by step.
-use Rattle.std.proofs.Common.{ℕ, ◌-◌, ◌≤◌, ◌≡◌, ◌⊎◌, inl, inr, List, [], ◌∷◌, ◌++◌, length, take, refl, sym, ap, subst, ◌∙◌, append_assoc, arith, length-append}
+use Rattle.std.proofs.Common.{ℕ, ◌≤◌, ◌≡◌, ◌⊎◌, inl, inr, List, [], ◌∷◌, ◌++◌, length, refl, sym, ap, subst, ◌∙◌, append_assoc, arith, length-append}
 use Rattle.std.specs.Prelude.{Err, Ok, OnErr, OnOk, Result, Some}
 use Rattle.tau_base.specs.declared.value.NoMemory.{NoMemory}
 use Rattle.std.proofs.lemmas.List.{append-nil}
-use Rattle.std.proofs.Math.Seq.{take-append_seam}
 use Rattle.tau_base.specs.declared.limits.TheConstants.{MAX_BODY}
 use Rattle.tau_outbox.specs.declared.Piece.{Piece}
 use Rattle.tau_outbox.specs.Pieces.{bytes_of}
@@ -12,12 +11,12 @@ use Rattle.tau_machine.specs.State.{Item}
 use Rattle.tau_core.specs.Pieces.{IsPieceOf, Paired}
 use Rattle.tau_core.specs.State.{Plain}
 use Rattle.tau_core.specs.declared.state.Load.{Load}
+use Rattle.tau_run.proofs.Bodies.{five}
 use Rattle.tau_rule.specs.Boxes.{BoxOf, box_in}
 use Rattle.tau_rule.specs.Role.{Role, Share}
 use Rattle.tau_rule.specs.Rule.{IsPart, Now, anchors_at, outbox_part}
 use Rattle.tau_rule.specs.declared.part.Part.{Part}
 use Rattle.tau_rule.specs.declared.part.Part.TheVariants as part
-use Rattle.tau_step.proofs.Bodies.{five}
 use Rattle.tau_desk.specs.Manages.{GathersBox, GathersOwn, OnlyRoom, gone, managed_in, managed_in_share}
 use Rattle.tau_desk.specs.Seats.{Manages, PlainManagerSeat}
 use Rattle.tau_rule.specs.Steps.{first_role}

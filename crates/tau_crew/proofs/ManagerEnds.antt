@@ -12,7 +12,7 @@ use Rattle.tau_model.specs.History.{Member}
 use Rattle.tau_model.specs.declared.committed.Committed.{Committed}
 use Rattle.tau_machine.specs.Worker.{Worker}
 use Rattle.tau_core.specs.declared.state.Load.{Load}
-use Rattle.tau_step.specs.RunTold.{IsNew}
+use Rattle.tau_run.specs.Writers.{IsNew}
 use Rattle.tau_desk.specs.Manages.{managed_in}
 use Rattle.tau_desk.specs.Seats.{Manages, PlainManagerSeat}
 use Rattle.tau_crew_facts.specs.Closing.{EndsBy, ManagerApart, ManagerDone, ManagerKnows}

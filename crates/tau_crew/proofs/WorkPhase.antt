@@ -1,6 +1,6 @@
 -- When workers, managers and the clerk have run side by side, all is as the ending wants it.
-use Rattle.std.proofs.Common.{ℕ, zero, suc, ◌<◌, ◌≡◌, inl, inr, Bool, true, false, arith, List, [], ◌∷◌, length, sym, subst, ◌∙◌}
-use Rattle.std.specs.Prelude.{Some, None, slice_get, slice_index_or}
+use Rattle.std.proofs.Common.{ℕ, ◌<◌, ◌≡◌, inl, inr, Bool, true, false, arith, List, length, sym, subst, ◌∙◌}
+use Rattle.std.specs.Prelude.{Some}
 use Rattle.atomic_table.specs.Seated.{TableId}
 use Rattle.tau_base.specs.Modes.{format_of}
 use Rattle.tau_disk.specs.Disk.{Rose}
@@ -8,7 +8,6 @@ use Rattle.tau_disk.specs.declared.disk.Disk.{Ghosts}
 use Rattle.tau_stream.specs.declared.writer.Writer.{Writer}
 use Rattle.tau_stream.specs.Writer.{IsReady}
 use Rattle.tau_core.specs.State.{Plain}
-use Rattle.tau_step.specs.Whole.{IsBegun}
 use Rattle.tau_desk.specs.Seats.{PlainHead}
 use Rattle.tau_crew.specs.declared.clerk.ClerkJob.{ClerkJob}
 use Rattle.tau_crew.specs.declared.manager.ManagerJob.{ManagerJob}
@@ -18,6 +17,7 @@ use Rattle.tau_crew.specs.Ending.{AreManagersBack, IsBack}
 use Rattle.tau_crew.specs.Together.{ClerkWent, ManagerWent, ManagersWent}
 use Rattle.tau_crew.specs.WorkersBack.{AllAreBack, IsAtStart}
 use Rattle.tau_base.proofs.Lists.{some_at, got_within, got_or}
+use Rattle.tau_run.specs.Writers.{IsBegun}
 
 pub one_head : (x y : PlainHead) → Some x ≡ Some y → x ≡ y
 one_head x y e = cc e

@@ -10,7 +10,6 @@ use Rattle.tau_proc.specs.declared.reply.Reply.{Reply}
 use Rattle.tau_proc.specs.declared.reply.Want.{Want}
 use Rattle.tau_proc.specs.declared.reply.Want.TheVariants as want
 use Rattle.tau_proc.specs.Progress.{next_want}
-use Rattle.tau_proc.specs.declared.proc.Proc.{Proc}
 use Rattle.tau_model.specs.declared.committed.Committed.{Committed}
 use Rattle.tau_machine.specs.Hands.{Hand, Phase, act_in, act_of}
 use Rattle.tau_machine.specs.Hands as theory
@@ -18,7 +17,7 @@ use Rattle.tau_machine.specs.Worker.{Worker, begun}
 use Rattle.tau_txn.specs.Actions.{frees}
 use Rattle.tau_txn.specs.Hand.{PlainHand}
 use Rattle.tau_txn.specs.Next.{frees_on, kind_of, next_action, next_by, next_of}
-use Rattle.tau_txn.specs.Txn.{PlainTxn, hand_in, has_joined, held_by, held_in, joined_by, joined_of, leaves_in, shown, shown_of}
+use Rattle.tau_txn.specs.Txn.{PlainTxn, hand_in, has_joined, held_in, joined_by, joined_of, leaves_in, shown_of}
 use Rattle.tau_txn.specs.declared.action.Action.{Action}
 use Rattle.tau_txn.specs.declared.action.Action.TheVariants as action
 use Rattle.tau_txn.specs.declared.action.ActionKind.{ActionKind}

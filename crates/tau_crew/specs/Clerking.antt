@@ -2,9 +2,9 @@
 use Rattle.std.specs.Prelude.{ℕ, ◌≡◌, Bool, true, false, Option, Some, None, List, [], ◌∷◌, ◌++◌}
 use Rattle.tau_report.specs.Report.{ack_lines}
 use Rattle.tau_core.specs.declared.state.Load.{Load}
+use Rattle.tau_run.specs.Heard.{HeardFront}
 use Rattle.tau_desk.specs.Manages.{acked_in}
 use Rattle.tau_desk.specs.Seats.{PlainClerkSeat}
-use Rattle.tau_step.specs.Telling.{HeardFront}
 use Rattle.tau_crew_facts.specs.Telling.{IsTelling}
 use Rattle.tau_crew.specs.declared.told.Told.{Told}
 use Rattle.tau_crew.specs.Gathering.{raised_in}

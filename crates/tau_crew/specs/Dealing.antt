@@ -6,9 +6,9 @@ use Rattle.tau_disk.specs.declared.disk.Disk.{Ghosts}
 use Rattle.tau_stream.specs.declared.writer.Writer.{Writer}
 use Rattle.tau_core.specs.State.{Plain}
 use Rattle.tau_core.specs.declared.state.Load.{Load}
+use Rattle.tau_run.specs.Writers.{IsNew}
 use Rattle.tau_rule.specs.First.{role_at}
 use Rattle.tau_rule.specs.Rule.{clerk_role, has, manager_role}
-use Rattle.tau_step.specs.RunTold.{IsNew}
 use Rattle.tau_desk.specs.Seats.{PlainHead}
 use Rattle.tau_desk.specs.Shares.{PlainStock}
 use Rattle.tau_crew.specs.declared.manager.ManagerJob.{ManagerJob}

@@ -1,7 +1,7 @@
 //! The managers' seats leave the head, each with the writer of its stream.
 ghost use Rattle.std.specs.Prelude.{false, ◌≡◌, ◌+◌, ◌-◌, ◌<◌, ◌≤◌, [], Some, ℕ, List, drop, length, vec_capacity, vec_len};
 ghost use Rattle.tau_base.specs.Modes.{format_of};
-ghost use Rattle.tau_step.specs.Whole.{IsBegun};
+ghost use Rattle.tau_run.specs.Writers.{IsBegun};
 ghost use Rattle.tau_desk.specs.Ends.{IsClerkSplit};
 ghost use Rattle.tau_crew.specs.Clerking.{IsToldSoFar, Tells};
 ghost use Rattle.tau_crew.specs.Dealing.{AreDealt, DealsOne, IsDealing, KeepsWorkers};

@@ -20,7 +20,7 @@ use tau_base::NoMemory;
 use tau_desk::{Desk, Head};
 use tau_disk::{Disk, Sink};
 use tau_report::RunEnd;
-use tau_step::tell_end;
+use tau_run::tell_end;
 use tau_stream::Writer;
 
 /// The head has every role, and sees each stream persisted as far as its writer has it durable. The writers come back in the

@@ -8,7 +8,7 @@ use std::alloc::Global;
 use tau_base::{Lv, NoMemory};
 use tau_disk::Sink;
 use tau_report::{Acks, ack_line};
-use tau_step::write_all;
+use tau_run::write_all;
 
 /// What the clerk has told, and what it is to tell.
 #[derive(Drop)]

@@ -7,11 +7,11 @@ ghost use Rattle.tau_text.specs.Canonical.{declarations_text};
 ghost use Rattle.tau_text.specs.Kept.{AreCalls};
 ghost use Rattle.tau_core.specs.Opens.{Fits, Opened};
 ghost use Rattle.tau_run.specs.Start.{catalogue_of};
-ghost use Rattle.tau_step.specs.RunTold.{AreNew};
-ghost use Rattle.tau_step.specs.Whole.{IsBegun};
+ghost use Rattle.tau_run.specs.Writers.{AreNew, IsBegun};
 ghost use Rattle.tau_desk.specs.Ends.{IsFirst, IsWhole};
 ghost use Rattle.tau_desk.specs.Laid.{AreUnbegun};
-ghost use Rattle.tau_crew_facts.specs.Threads.{RanInThreads, RanInThreadsFrom, ThreadsRan};
+ghost use Rattle.tau_run.specs.Gives.{GaveFrom, GaveNew};
+ghost use Rattle.tau_crew_facts.specs.Threads.{ThreadsRan, in_threads};
 ghost use Rattle.tau_crew.specs.Ending.{IsBack};
 ghost use Rattle.tau_crew.specs.Tops.{ThreadsWent};
 
@@ -53,7 +53,7 @@ pub fn run_threads<R: Threads + Wait + Sync, D: Disk + Send, K: Sink + Send, G: 
     requires calls { AreCalls load.now.declarations.procs load.now.calls }
     requires text { length (declarations_text load.now.declarations) ≤ MAX_CATALOGUE }
     requires fresh { AreNew (format_of mode) (λ j. catalogue_of load.now) writers.old.items }
-    ensures ran { RanInThreads workers mode load.now writers.old.items writers.new.items K.tells (K.held sink.old) (K.held sink.new) (Rose (K.faults sink.old) (K.faults sink.new)) result }
+    ensures ran { GaveNew in_threads workers mode load.now writers.old.items writers.new.items K.tells (K.held sink.old) (K.held sink.new) (Rose (K.faults sink.old) (K.faults sink.new)) result }
     ensures faults { K.faults sink.old ≤ K.faults sink.new }
     ensures count { length writers.new.items ≡ length writers.old.items }
 {
@@ -80,7 +80,7 @@ pub fn run_threads_from<R: Threads + Wait + Sync, D: Disk + Send, K: Sink + Send
     requires fits { Fits opening }
     requires begun { (bases : ℕ → List ℕ) × IsBegun (format_of mode) bases writers.old.items opening }
     ensures ran { (bases : ℕ → List ℕ) → IsBegun (format_of mode) bases writers.old.items opening →
-        RanInThreadsFrom workers mode load.now writers.old.items writers.new.items K.tells (K.held sink.old) (K.held sink.new) (Rose (K.faults sink.old) (K.faults sink.new)) opening bases result }
+        GaveFrom in_threads opening bases workers mode load.now writers.old.items writers.new.items K.tells (K.held sink.old) (K.held sink.new) (Rose (K.faults sink.old) (K.faults sink.new)) result }
     ensures faults { K.faults sink.old ≤ K.faults sink.new }
     ensures count { length writers.new.items ≡ length writers.old.items }
 {

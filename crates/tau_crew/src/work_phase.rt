@@ -4,7 +4,7 @@ ghost use Rattle.std.specs.List.{All};
 ghost use Rattle.tau_base.specs.Modes.{format_of};
 ghost use Rattle.tau_disk.specs.Disk.{Rose};
 ghost use Rattle.tau_core.specs.Opens.{Opened};
-ghost use Rattle.tau_step.specs.Whole.{IsBegun};
+ghost use Rattle.tau_run.specs.Writers.{IsBegun};
 ghost use Rattle.tau_desk.specs.Seats.{PlainHead};
 ghost use Rattle.tau_crew.specs.Clerking.{IsToldSoFar, Tells};
 ghost use Rattle.tau_crew.specs.Dealing.{AreDealt};

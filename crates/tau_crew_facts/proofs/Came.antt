@@ -1,9 +1,8 @@
 -- What a run in threads has at its end is what a run by turns has at its end.
-use Rattle.std.proofs.Common.{ℕ, ◌<◌, ◌≤◌, ◌≡◌, ◌⊎◌, inl, inr, Bool, true, false, List, ◌++◌, length, take, refl, sym, ap, subst, ◌∙◌, arith, slice_index}
+use Rattle.std.proofs.Common.{ℕ, ◌<◌, ◌≤◌, ◌≡◌, ◌⊎◌, inl, inr, Bool, true, false, List, ◌++◌, map, length, take, refl, sym, ap, subst, ◌∙◌, arith, slice_index}
 use Rattle.std.specs.Prelude.{Option, Some, None, slice_get}
 use Rattle.std.proofs.lemmas.Bool.{cases_Bool}
 use Rattle.tau_base.specs.Modes.{format_of}
-use Rattle.tau_base.specs.declared.value.LogMode.{LogMode}
 use Rattle.tau_disk.specs.Passing.{passes_weaker}
 use Rattle.tau_disk.specs.declared.disk.Disk.{Ghosts}
 use Rattle.tau_outbox.specs.declared.Piece.{Piece}
@@ -17,27 +16,27 @@ use Rattle.tau_machine.specs.Events.{Event}
 use Rattle.tau_machine.specs.Runs as machine
 use Rattle.tau_machine.specs.Invariant.{Invariant}
 use Rattle.tau_machine.proofs.Results.{run_theorem}
-use Rattle.tau_text.specs.declared.load.Workload.{Workload}
 use Rattle.tau_core.specs.declared.state.Load.{Load}
 use Rattle.tau_core.specs.Opens.{nothing}
 use Rattle.tau_core.specs.State.{Plain}
 use Rattle.tau_core.specs.View.{core_of, setting_of}
 use Rattle.tau_core.specs.Pieces.{IsPieceOf, Paired, Spelled}
-use Rattle.tau_run.specs.Start.{Start, opened_at, IsStart}
-use Rattle.tau_run.proofs.Waits.{waits_for}
-use Rattle.tau_run.specs.Run.{Run}
-use Rattle.tau_run.specs.CoreRun.{AreAcks, IsLoadOn, IsRunOf, IsCourse, IsSoundLoad}
-use Rattle.tau_run.specs.StopsLeave.{HasFront, HasSomeFront, IsOver}
-use Rattle.tau_run.specs.Turns.{Progress}
+use Rattle.tau_run.specs.CoreRun.{AreAcks, IsGiven}
+use Rattle.tau_run.specs.Gives.{CameTo, Concluded, CutOff}
+use Rattle.tau_run.specs.StopsLeave.{HasFront, HasSomeFront, IsOver, NamesLowest, stops_in}
+use Rattle.tau_run.specs.Writers.{EachOf, Left}
+use Rattle.tau_run.proofs.Given.{contents_there}
 use Rattle.tau_run.proofs.Start.{started}
 use Rattle.tau_rule.specs.Rule.{anchors_at}
-use Rattle.tau_step.specs.Came.{CameTo}
-use Rattle.tau_step.specs.RunTold.{EachOf, Left}
+use Rattle.tau_report.specs.declared.report.RunEnd.{RunEnd}
 use Rattle.tau_crew_facts.specs.Writers.{HasPieces, HasWritten}
 use Rattle.tau_crew_facts.specs.Ends.{IsClosed, ManagerEnds, IsThreadEnd, IsThreadDone}
-use Rattle.tau_crew_facts.proofs.RunExists.{pieces_spelled, paired_front, loose_unplaced, acks_all, run_there}
+use Rattle.tau_crew_facts.specs.Spacing.{IsSpacing}
+use Rattle.tau_crew_facts.specs.Threads.{in_threads, IsLowestFailed, NoneFailed, ThreadsEnded, ThreadsShort}
+use Rattle.tau_crew_facts.proofs.RunExists.{pieces_spelled, paired_front, loose_unplaced, acks_all}
 use Rattle.tau_crew_facts.proofs.Stops.{stopped_at, stops_by, stop_events, none_above, none_works, some_failed, stops_led}
 use Rattle.tau_base.proofs.Lists.{some_at, got_within}
+use Rattle.tau_base.proofs.Logic.{some_is}
 
 -- whether the disk of this writer failed
 abbrev pub failed_in : {D : Type 0} {G : Ghosts D} → Option (Writer D G) → Bool
@@ -158,77 +157,100 @@ module _ {D : Type 0} {G : Ghosts D} (bases : ℕ → List ℕ) (first : Plain) 
       done = λ going w. d.done (λ j w' is. (let a = got_within ws' j w' is in let lt : j < l.streams = (let x = e.managers.count in let y = e.count in omega (arith, a, x, y)) in works j lt w' is (going j lt))) w;
     }
 
--- ---- a run of a workload that begins so, whatever is asked of its events
+-- ---- so far it has come
 
-module _ {D : Type 0} {G : Ghosts D} (n m : ℕ) (mode : LogMode) (load : Workload) (start : Start) (first : Plain) (begins : IsStart (format_of mode) n load start) (load_is : IsLoadOn n m mode load start first.load) (sound : IsSoundLoad load) (c : Core)
-    (ws ws' : List (Writer D G)) (acks : List (ℕ × List ℕ)) (e : IsThreadEnd (opened_at load start) first c ws ws' acks) where
-  abbrev bases : ℕ → List ℕ
-  bases = opened_at load start
-
+module _ {D : Type 0} {G : Ghosts D} (bases : ℕ → List ℕ) (first : Plain) (long : (j : ℕ) → j < first.load.streams → length (bases j) ≡ slice_index first.load.opening.ends j) (c : Core) (ws ws' : List (Writer D G)) (acks : List (ℕ × List ℕ))
+    (e : IsThreadEnd bases first c ws ws' acks) where
   abbrev K : List (Act Txn)
   K = e.closed.joined
 
   abbrev pub end : Core
   end = s bases first c ws ws' acks e
 
-  pub course : IsCourse n m mode load start first.load K end
-  course = record {
-    room = (let a = e.closed.opened.stands.sound.streams_high in let b = load_is.streams in omega (arith, a, b));
-    begins = subst (λ (k : LogMode). IsStart (format_of k) n load start) (sym load_is.mode_is) begins;
-    load_is = load_is;
-    sound = sound;
-    inv = inv bases first c ws ws' acks e;
-    waits = waits_for n m mode load start first.load (core_of first nothing) (events bases first c ws ws' acks e) K end load_is (led bases first c ws ws' acks e) (started first.load first e.closed.opened);
-  }
-
-  managed_at : (j : ℕ) → j < n → (w w' : Writer D G) × ManagerEnds first.load c j (bases j) w w'
+  managed_at : (j : ℕ) → j < first.load.streams → (w w' : Writer D G) × ManagerEnds first.load c j (bases j) w w'
   managed_at j lt =
-      let w = some_at ws j (let count = e.count in let b = load_is.streams in omega (arith, count, lt, b)) in
+      let w = some_at ws j (let count = e.count in omega (arith, count, lt)) in
       let x = e.managers.each j w.0 w.1 in
       (w.0, x.0, x.2)
 
-  some : 1 ≤ m
-  some = let a = load_is.workers in let b = e.closed.opened.stands.sound.workers_low in omega (arith, a, b)
+  pub given : (contents : List (List ℕ)) × (length contents ≡ first.load.streams) × ((j : ℕ) (content : List ℕ) → slice_get contents j ≡ Some content → IsGiven first.load K end j (bases j) content)
+  given =
+      contents_there first.load K end (inv bases first c ws ws' acks e) e.closed.opened.stands.sound.workers_low bases long e.closed.boxes (λ j lt. (let x = managed_at j lt in (x.2.own, x.2.posted)))
+      (λ j lt. (let x = managed_at j lt in (bytes_of x.2.taken, pieces_spelled first.load (anchors_at c) x.2.taken (c.streams j).moved x.2.moved)))
+      (λ w t placed. absurd (let bad : None ≡ Some t = sym (loose_unplaced (c.workers w).hand (e.closed.loose w)) ∙ placed in cc bad))
 
-  there : (run : Run) × IsRunOf n first.load K end load run × (run.acks ≡ acks) × (run.start ≡ start)
-  there = run_there n m mode load first.load K end (inv bases first c ws ws' acks e) start load_is begins.count some (λ w. loose_unplaced (c.workers w).hand (e.closed.loose w)) e.closed.boxes
-      (λ j lt. let x = managed_at j lt in (x.2.own, x.2.posted))
-      (λ j lt. let x = managed_at j lt in (bytes_of x.2.taken, pieces_spelled first.load (anchors_at c) x.2.taken (c.streams j).moved x.2.moved))
-      acks (are_acks bases first c ws ws' acks e)
+  abbrev pub came : CameTo in_threads bases first.load ws ws' acks
+  came = record {
+    opening = core_of first nothing;
+    first = started first.load first e.closed.opened;
+    state = end;
+    events = events bases first c ws ws' acks e;
+    joined = K;
+    led = led bases first c ws ws' acks e;
+    part = tt;
+    contents = given.0;
+    streams = given.1;
+    given = given.2;
+    acked = are_acks bases first c ws ws' acks e;
+    room = e.closed.opened.stands.sound.streams_high;
+    stop_low = stop_is_low bases first c ws ws' acks e;
+    writers = writers bases first c ws ws' acks e;
+  }
 
-  module _ (by : Bool → Load → Core → Progress → Type 0) (any : (whole : Bool) (p : Progress) → by whole first.load (core_of first nothing) p) where
-    pub came : CameTo by n m mode load start ws ws' acks
-    came = record {
-      stands_on = first.load;
-      opening = core_of first nothing;
-      first = started first.load first e.closed.opened;
-      state = end;
-      events = events bases first c ws ws' acks e;
-      joined = K;
-      led = led bases first c ws ws' acks e;
-      part = any false (record { state = end; events = events bases first c ws ws' acks e; joined = K; told = acks });
-      run = there.0;
-      begins = there.3;
-      course = subst (λ (x : Start). IsCourse n m mode load x first.load K end) (sym there.3) course;
-      is = there.1;
-      told = there.2;
-      stop_low = λ j at is. (let lt = stop_is_low bases first c ws ws' acks e j at is in let b = load_is.streams in omega (arith, lt, b));
-      writers = subst (λ (x : Start). EachOf (λ j w w'. Left first.load end j (opened_at load x j) w w') ws ws') (sym there.3) (writers bases first c ws ws' acks e);
-    }
+  -- the lowest failed disk is that of the lowest stopped stream
+  pub lowest : (o : Option ℕ) → IsLowestFailed ws' o → NamesLowest first.load.streams (stops_in end) o
+  lowest None all = λ j lt.
+      (let w = some_at ws j (let count = e.count in omega (arith, lt, count)) in
+      let x = (writers bases first c ws ws' acks e).each j w.0 w.1 in
+      (x.2.goes (all j x.0 x.1)).0)
+  lowest (Some j) (f, below) =
+      let lt : j < first.load.streams = (let a = got_within ws' j f.0 f.1 in let b = e.managers.count in let d = e.count in omega (arith, a, b, d)) in
+      let v = some_at ws j (let count = e.count in omega (arith, lt, count)) in
+      let x = (writers bases first c ws ws' acks e).each j v.0 v.1 in (
+        lt,
+        (x.2.stops (subst (λ (y : Writer D G). has_failed y ≡ true) (some_is f.0 x.0 (sym f.1 ∙ x.1)) f.2)).0,
+        λ i less.
+            (let w = some_at ws i (let count = e.count in omega (arith, lt, less, count)) in
+            let y = (writers bases first c ws ws' acks e).each i w.0 w.1 in
+            (y.2.goes (below i y.0 less y.1)).0),
+      )
 
-    -- its load and its state are these
-    pub load_is_that : came.stands_on ≡ first.load
-    unfolding came
-    load_is_that = refl
+  -- a disk whose stream is not stopped works
+  pub works_all : ((j : ℕ) → j < first.load.streams → (end.streams j).stop ≡ None) → NoneFailed ws'
+  works_all going j w is = by_flag (has_failed w) refl
+    where
+      lt : j < first.load.streams
+      lt = let a = got_within ws' j w is in let b = e.managers.count in let d = e.count in omega (arith, a, b, d)
 
-    pub state_is : came.state ≡ end
-    unfolding came
-    state_is = refl
+      by_flag : (b : Bool) → has_failed w ≡ b → has_failed w ≡ false
+      by_flag false f = f
+      by_flag true f =
+          let v = some_at ws j (let count = e.count in let low = lt in omega (arith, low, count)) in
+          let x = (writers bases first c ws ws' acks e).each j v.0 v.1 in
+          let at = (x.2.stops (subst (λ (y : Writer D G). has_failed y ≡ true) (some_is w x.0 (sym is ∙ x.1)) f)).0 in
+          absurd (let bad : None ≡ Some at.0 = sym (going j lt) ∙ at.1 in cc bad)
 
-    pub joined_is : came.joined ≡ K
-    unfolding came
-    joined_is = refl
+-- ---- what it gives
 
-    pub over_at : IsThreadDone first.load c ws' → IsOver n came.state
-    unfolding came
-    over_at d = subst (λ (j : ℕ). IsOver j end) load_is.streams (over bases first c ws ws' acks e d)
+module _ {D : Type 0} {G : Ghosts D} (bases : ℕ → List ℕ) (first : Plain) (long : (j : ℕ) → j < first.load.streams → length (bases j) ≡ slice_index first.load.opening.ends j) (ws ws' : List (Writer D G)) (hears : Type 0) (held held' : List ℕ) (sink_rose : Type 0) where
+  -- to its end
+  pub concluded : (e : RunEnd) → ThreadsEnded bases first ws ws' hears held held' sink_rose e → Concluded in_threads bases first.load ws ws' hears held held' sink_rose e
+  concluded e r = record {
+    acks = r.acks;
+    came = came bases first long r.state ws ws' r.acks r.came;
+    whole = λ going j lt.
+        subst (λ (k : ℕ). IsSpacing k (slice_index r.state.plv j) (map (λ (v : List ℕ). slice_index v j) (r.state.streams j).anchors)) (long j lt) (r.apart (works_all bases first long r.state ws ws' r.acks r.came going) j lt);
+    over = over bases first r.state ws ws' r.acks r.came r.done;
+    kept = r.done.kept;
+    heard = r.heard;
+    sink = r.sink;
+    disk = lowest bases first long r.state ws ws' r.acks r.came e.disk r.disk;
+    told = r.told;
+    fates = r.fates;
+    order = r.order;
+    tables = r.tables;
+  }
+
+  -- so far as memory was there
+  pub cut : ThreadsShort bases first ws ws' hears held held' sink_rose → CutOff in_threads bases first.load ws ws' hears held held' sink_rose
+  cut r = record { acks = r.acks; came = came bases first long r.state ws ws' r.acks r.came; count = r.count; sink_failed = r.sink_failed; heard = r.heard; sink = r.sink }

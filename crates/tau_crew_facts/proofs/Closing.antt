@@ -29,7 +29,6 @@ use Rattle.tau_run.specs.Run.{pair_of}
 use Rattle.tau_rule.specs.Knows.{Knows}
 use Rattle.tau_rule.specs.Role.{Managed, Share}
 use Rattle.tau_rule.specs.Rule.{IsManaged, IsShare, Now, anchors_at, clerk_role, manager_role}
-use Rattle.tau_step.specs.RunTold.{EachOf}
 use Rattle.tau_crew_facts.specs.Writers.{HasWritten}
 use Rattle.tau_crew_facts.specs.Telling.{IsTelling}
 use Rattle.tau_crew_facts.specs.Spacing.{IsSpacing}
@@ -41,6 +40,7 @@ use Rattle.tau_base.proofs.Logic.{below_or_not}
 use Rattle.tau_base.proofs.Lists.{same_list, got_within}
 use Rattle.tau_crew_facts.proofs.RunExists.{no_members}
 use Rattle.tau_model.proofs.Assembling.{member_mapped}
+use Rattle.tau_run.specs.Writers.{EachOf}
 
 rest_unplaced : (o : Option Hand) → o ≡ None → placed_in o ≡ None
 rest_unplaced o e = ap placed_in e

@@ -25,7 +25,7 @@ use Rattle.tau_run.proofs.Lists.{filter_append, filter_map}
 use Rattle.tau_crew_facts.specs.Closing.{EndsBy, covered_count}
 use Rattle.tau_model.proofs.Calls.{member_map}
 use Rattle.tau_base.proofs.Lists.{empty_of_length, length_mapped}
-use Rattle.tau_run.proofs.RunExists.{record_member}
+use Rattle.tau_run.proofs.Given.{record_member}
 
 -- the place of an updating call ends there
 spot_ends : (b : Bool) (t : Txn) (upto : ℕ) → b ≡ true → EndsBy upto (spot_of b t) → t.place.past ≤ upto

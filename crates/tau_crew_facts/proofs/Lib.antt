@@ -2,7 +2,6 @@ pub mod ManagerWriter
 pub mod Spacing
 pub mod Telling
 pub mod Stops
-pub mod Lost
 pub mod Anchors
 pub mod RunExists
 pub mod Came

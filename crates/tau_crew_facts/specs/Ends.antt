@@ -21,7 +21,7 @@ use Rattle.tau_core.specs.View.{core_of, setting_of, worker_of}
 use Rattle.tau_core.specs.declared.state.Load.{Load}
 use Rattle.tau_run.specs.Run.{pair_of}
 use Rattle.tau_rule.specs.Rule.{anchors_at}
-use Rattle.tau_step.specs.RunTold.{EachOf}
+use Rattle.tau_run.specs.Writers.{EachOf}
 use Rattle.tau_crew_facts.specs.Writers.{HasWritten}
 use Rattle.tau_crew_facts.specs.Spacing.{IsSpacing}
 

@@ -1,6 +1,5 @@
 -- What holds of each run in threads.
-use Rattle.std.specs.Prelude.{ℕ, ◌<◌, ◌≡◌, false, Some, List, [], ◌++◌, length, slice_get, slice_index_or}
-use Rattle.tau_base.specs.declared.value.LogMode.{LogMode}
+use Rattle.std.specs.Prelude.{ℕ, ◌<◌, ◌≡◌, false, Some, List, [], ◌++◌, length, slice_get, slice_index, slice_index_or}
 use Rattle.tau_disk.specs.declared.disk.Disk.{Ghosts}
 use Rattle.tau_stream.specs.declared.writer.Writer.{Writer}
 use Rattle.tau_stream.specs.Writer.{has_failed}
@@ -9,21 +8,17 @@ use Rattle.tau_machine.specs.Events.{Event, Leads}
 use Rattle.tau_machine.specs.Hands.{Txn}
 use Rattle.tau_machine.specs.State.{Core, Setting, Ticket}
 use Rattle.tau_machine.specs.Worker.{Worker}
-use Rattle.tau_text.specs.declared.load.Workload.{Workload}
 use Rattle.tau_core.specs.State.{Plain}
-use Rattle.tau_run.specs.CoreRun.{IsLoadOn, IsSoundLoad}
-use Rattle.tau_base.specs.Modes.{format_of}
-use Rattle.tau_run.specs.Start.{Start, opened_at, IsStart}
-use Rattle.tau_run.specs.RunFacts.{in_any_order}
+use Rattle.tau_run.specs.Gives.{CameTo}
+use Rattle.tau_run.specs.Writers.{EachOf}
 use Rattle.tau_rule.specs.Knows.{Knows}
 use Rattle.tau_rule.specs.Role.{Managed}
 use Rattle.tau_rule.specs.Rule.{Now}
-use Rattle.tau_step.specs.Came.{CameTo}
-use Rattle.tau_step.specs.RunTold.{EachOf}
 use Rattle.tau_crew_facts.specs.Closing.{ClerkDone, IsClosing, ManagerApart, ManagerDone, ManagerKnows, WorkerDone}
 use Rattle.tau_crew_facts.specs.Ends.{AreApart, IsLoose, IsThreadDone, IsThreadEnd}
 use Rattle.tau_crew_facts.specs.Spacing.{Flushes, IsSpacing, newest, placed_after}
 use Rattle.tau_crew_facts.specs.Telling.{IsTelling}
+use Rattle.tau_crew_facts.specs.Threads.{in_threads}
 use Rattle.tau_run.specs.Keeping.{Keeps, KeepsOf, Steady}
 
 -- anchors that are placed after each flush that makes them due stand in their distance, wherever the flushes end
@@ -50,5 +45,5 @@ module _ {D : Type 0} (G : Ghosts D) where
   -- and that is a run of the core, by events in any order
   abbrev pub EndsAreRuns : Type 0
   EndsAreRuns =
-      (n m : ℕ) (mode : LogMode) (load : Workload) (start : Start) (first : Plain) → IsStart (format_of mode) n load start → IsLoadOn n m mode load start first.load → IsSoundLoad load →
-      (c : Core) (ws ws' : List (Writer D G)) (acks : List (ℕ × List ℕ)) → IsThreadEnd (opened_at load start) first c ws ws' acks → CameTo in_any_order n m mode load start ws ws' acks
+      (bases : ℕ → List ℕ) (first : Plain) → ((j : ℕ) → j < first.load.streams → length (bases j) ≡ slice_index first.load.opening.ends j) → (c : Core) (ws ws' : List (Writer D G)) (acks : List (ℕ × List ℕ)) → IsThreadEnd bases first c ws ws' acks →
+      CameTo in_threads bases first.load ws ws' acks

@@ -3,5 +3,5 @@ pub mod Spacing
 pub mod Telling
 pub mod Ends
 pub mod Closing
-pub mod Laws
 pub mod Threads
+pub mod Laws

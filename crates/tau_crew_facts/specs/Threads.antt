@@ -1,6 +1,5 @@
--- What a run in threads leaves, and what it tells.
-use Rattle.std.specs.Prelude.{ℕ, ◌<◌, ◌≡◌, Bool, true, false, Option, Some, None, List, length, map, take, slice_get, Result, Ok, Err}
-use Rattle.tau_base.specs.declared.value.LogMode.{LogMode}
+-- What a run in threads has come to at its end, and how its events are chosen.
+use Rattle.std.specs.Prelude.{ℕ, ◌<◌, ◌≡◌, Bool, true, false, Option, Some, None, List, length, map, take, slice_get, slice_index, Result, Ok, Err}
 use Rattle.tau_base.specs.declared.value.NoMemory.{NoMemory}
 use Rattle.tau_disk.specs.declared.disk.Disk.{Ghosts}
 use Rattle.tau_stream.specs.declared.writer.Writer.{Writer}
@@ -10,17 +9,22 @@ use Rattle.tau_model.specs.Tables.{IsTablesOf}
 use Rattle.tau_machine.specs.Hands.{Txn}
 use Rattle.tau_machine.specs.Reports.{reported}
 use Rattle.tau_machine.specs.State.{Core, sight}
-use Rattle.tau_text.specs.declared.load.Workload.{Workload}
 use Rattle.tau_report.specs.declared.report.RunEnd.{RunEnd}
-use Rattle.tau_core.specs.declared.opening.Opening.{Opening}
-use Rattle.tau_core.specs.Opens.{load_of}
 use Rattle.tau_core.specs.State.{Plain}
 use Rattle.tau_core.specs.View.{setting_of}
-use Rattle.tau_run.specs.CoreRun.{IsLoadOn}
-use Rattle.tau_run.specs.Start.{fresh_start, catalogue_of}
-use Rattle.tau_step.specs.RunTold.{Began, fates_by}
-use Rattle.tau_step.specs.Telling.{Heard}
+use Rattle.tau_core.specs.declared.state.Load.{Load}
+use Rattle.tau_run.specs.Fates.{fates_by}
+use Rattle.tau_run.specs.Heard.{Heard}
+use Rattle.tau_run.specs.StopsLeave.{NamesLowest, stops_in}
+use Rattle.tau_run.specs.Turns.{Progress}
 use Rattle.tau_crew_facts.specs.Ends.{AreApart, IsThreadDone, IsThreadEnd}
+use Rattle.tau_crew_facts.specs.Spacing.{IsSpacing}
+
+-- The events of a run in threads come in any order. Of a whole run in which no stream was stopped the anchors of each stream
+-- stand in their distance, from where it ended at the opening.
+abbrev pub in_threads : Bool → Load → Core → Progress → Type 0
+in_threads true l opening p = NamesLowest l.streams (stops_in p.state) None → (j : ℕ) → j < l.streams → IsSpacing (slice_index l.opening.ends j) (slice_index p.state.plv j) (map (λ (v : List ℕ). slice_index v j) (p.state.streams j).anchors)
+in_threads false l opening p = Unit {0}
 
 -- no disk failed
 abbrev pub NoneFailed : {D : Type 0} {G : Ghosts D} → List (Writer D G) → Type 0
@@ -61,23 +65,3 @@ module _ {D : Type 0} {G : Ghosts D} (bases : ℕ → List ℕ) (first : Plain) 
   abbrev pub ThreadsRan : Result RunEnd NoMemory → Type 0
   ThreadsRan (Ok end) = ThreadsEnded end
   ThreadsRan (Err e) = ThreadsShort
-
-module _ {D : Type 0} {G : Ghosts D} (m : ℕ) (mode : LogMode) (load : Workload) (ws ws' : List (Writer D G)) (hears : Type 0) (held held' : List ℕ) (sink_rose : Type 0) where
-  -- by m workers on streams that were just created for the workload
-  pub record ThreadsNew (result : Result RunEnd NoMemory) : Type 0 where
-    pub first : Plain
-    pub load_is : IsLoadOn (length ws) m mode load (fresh_start (length ws)) first.load
-    pub ran : ThreadsRan (λ j. catalogue_of load) first ws ws' hears held held' sink_rose result
-
-  -- the same from a given state, on streams that had these bytes
-  pub record ThreadsFrom (opening : Opening) (bases : ℕ → List ℕ) (result : Result RunEnd NoMemory) : Type 0 where
-    pub first : Plain
-    pub load_is : first.load ≡ load_of load.declarations.procs load.calls mode m opening
-    pub ran : ThreadsRan bases first ws ws' hears held held' sink_rose result
-
-  -- It may have been out of memory before it began: then nothing was touched.
-  abbrev pub RanInThreads : Result RunEnd NoMemory → Type 0
-  RanInThreads result = Began m mode load ws ws' hears held held' sink_rose ThreadsNew result
-
-  abbrev pub RanInThreadsFrom : Opening → (ℕ → List ℕ) → Result RunEnd NoMemory → Type 0
-  RanInThreadsFrom opening bases result = Began m mode load ws ws' hears held held' sink_rose (ThreadsFrom opening bases) result

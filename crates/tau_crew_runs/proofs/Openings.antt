@@ -10,8 +10,7 @@ use Rattle.tau_text.specs.declared.load.Workload.{Workload}
 use Rattle.tau_core.specs.declared.opening.Opening.{Opening}
 use Rattle.tau_core.specs.Opens.{Fits}
 use Rattle.tau_run.specs.Start.{catalogue_of}
-use Rattle.tau_step.specs.RunTold.{AreNew}
-use Rattle.tau_step.specs.Whole.{IsBegun}
+use Rattle.tau_run.specs.Writers.{AreNew, IsBegun}
 
 pub are_new : {D : Type 0} {G : Ghosts D} (n : ℕ) (load : Workload) (old mid : List D) (ws : List (Writer D G)) → AreOpened G n (catalogue_of load) old mid ws → AreNew One (λ j. catalogue_of load) ws
 are_new {D} {G} n load old mid ws streams j w e =

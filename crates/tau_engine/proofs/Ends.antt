@@ -18,23 +18,26 @@ use Rattle.tau_open.proofs.Closed.{rest_back, each_back}
 use Rattle.tau_text.specs.declared.load.Turn.{Turn}
 use Rattle.tau_text.specs.declared.load.Workload.{Workload}
 use Rattle.tau_report.specs.declared.report.RunEnd.{RunEnd}
-use Rattle.tau_run.specs.Start.{fresh_start, catalogue_of}
-use Rattle.tau_run.specs.CoreRun.{IsSoundLoad}
+use Rattle.tau_core.specs.declared.state.Load.{Load}
+use Rattle.tau_run.specs.Start.{fresh_start, catalogue_of, opened_at}
+use Rattle.tau_run.specs.CoreRun.{IsLoadOn, IsSoundLoad}
+use Rattle.tau_run.specs.Gives.{Gave, GaveNew}
 use Rattle.tau_run.specs.RunFacts as ending
+use Rattle.tau_run.specs.RunFacts.{chosen_by}
+use Rattle.tau_crew_facts.specs.Threads.{in_threads}
 use Rattle.tau_run.proofs.Reading.{IsCatalogue}
 use Rattle.tau_engine.specs.declared.status.Status.{Status}
 use Rattle.tau_engine.specs.declared.status.Status.TheVariants as status
-use Rattle.tau_engine.specs.Came.{Gave}
 use Rattle.tau_engine.specs.DiskFacts.{HasSpaced, Past, Now, AreUnborn}
 use Rattle.tau_engine.specs.Fault.{fault_text}
 use Rattle.tau_engine.specs.Outside.{Wrote}
-use Rattle.tau_engine.specs.Runs.{RanChosen, RunsOn, TellsRun}
+use Rattle.tau_engine.specs.Runs.{RunsOn, TellsRun, ran_by}
 use Rattle.tau_engine.specs.Said.{SaysRun}
 use Rattle.tau_engine.proofs.Longs.{none_is_long}
 use Rattle.tau_engine.proofs.NotBegun.{facts_of_none}
-use Rattle.tau_engine.proofs.Ran as ran
+use Rattle.tau_engine.proofs.Ran.{as_chosen, gave}
 use Rattle.tau_engine.proofs.RanTo as to
-use Rattle.tau_engine.proofs.Threaded as of_threads
+use Rattle.tau_engine.proofs.Threaded.{spaced}
 use Rattle.tau_engine.proofs.Streams.{OnlyNow}
 
 -- an image of a disk on which at most the catalogue was written
@@ -48,12 +51,6 @@ module _ {D : Type 0} (G : Ghosts D) (only_now : OnlyNow G) (n : ℕ) (catalogue
         | inl first ↦ inl (short_content One n j x (unborn j d lt was t x (only_now d x first)))
         | inr made ↦ made
       ]
-
--- what either kind of run gives
-pub gave : {D : Type 0} {G : Ghosts D} → OnlyNow G → (n m : ℕ) (mode : LogMode) (load : Workload) → n ≤ 16 → IsSoundLoad load → (ws ws' : List (Writer D G)) → length ws ≡ n → (hears : Type 0) (held held' : List ℕ) (sink_rose : Type 0) (turns : Option (List Turn)) → load.turns ≡ turns →
-    (result : Result RunEnd NoMemory) → RanChosen turns m mode load ws ws' hears held held' sink_rose result → Gave n m mode load (fresh_start n) ws ws' hears held held' sink_rose result
-gave {D} {G} only_now n m mode load room sound ws ws' count hears held held' sink_rose None is result x = of_threads.gave n m mode load is sound ws ws' count hears held held' sink_rose result x
-gave {D} {G} only_now n m mode load room sound ws ws' count hears held held' sink_rose (Some turns) is result x = ran.gave n m mode load sound ws ws' count hears held held' sink_rose result x
 
 module _ {D : Type 0} {G : Ghosts D} (only_now : OnlyNow G) (n m : ℕ) (mode : LogMode) (load : Workload) (some : 1 ≤ n) (room : n ≤ 16) (narrow : format_of mode ≡ One) (workers : 1 ≤ m) (sound : IsSoundLoad load) (old mid new : List D) (many : n ≤ length old)
     (ws : List (Writer D G)) (streams : AreOpened G n (catalogue_of load) old mid ws) (hears : Type 0) (held : List ℕ) (faults : ℕ) where
@@ -89,23 +86,23 @@ module _ {D : Type 0} {G : Ghosts D} (only_now : OnlyNow G) (n m : ℕ) (mode : 
   Spaces (Err e) = Unit {0}
 
   module _ (after : List (Writer D G)) (back : new ≡ map (disk_of {D = D} {G = G}) after ++ mid) (held1 : List ℕ) (faults1 : ℕ) (early : faults ≤ faults1) where
-    says_gave : (held' : List ℕ) (faults' : ℕ) → faults1 ≤ faults' → (end : Result RunEnd NoMemory) → Gave n m mode load (fresh_start n) ws after hears held held1 (Rose faults faults1) end → Spaces end →
+    says_gave : (held' : List ℕ) (faults' : ℕ) → faults1 ≤ faults' → (end : Result RunEnd NoMemory) → (l : Load) × IsLoadOn n m mode load (fresh_start n) l × Gave (chosen_by load.turns n m load) (opened_at load (fresh_start n)) l ws after hears held held1 (Rose faults faults1) end → Spaces end →
         (answer : Status) → TellsRun load.declarations.tables end hears held1 held' (Rose faults1 faults') answer → SaysRun G n m mode load old new hears held held' faults faults' answer
-    says_gave held' faults' late (Ok e) x spaced answer t = to.concludes only_now n m mode load narrow ws after old mid new many streams back hears held held1 held' faults faults1 faults' early late e x spaced answer t
-    says_gave held' faults' late (Err no_memory) (inl x) spaced answer t =
-        subst (λ (a : Status). SaysRun G n m mode load old new hears held held' faults faults' a) (sym t.0) (to.cuts_off only_now n m mode load narrow ws after old mid new many streams back hears held held1 held' faults faults1 faults' early late x t.1)
-    says_gave held' faults' late (Err no_memory) (inr none) spaced answer t =
+    says_gave held' faults' late (Ok e) (l, load_is, x) spaced answer t = to.concludes only_now n m mode load narrow sound l load_is ws after old mid new many streams back hears held held1 held' faults faults1 faults' early late e x spaced answer t
+    says_gave held' faults' late (Err no_memory) (l, load_is, inl x) spaced answer t =
+        subst (λ (a : Status). SaysRun G n m mode load old new hears held held' faults faults' a) (sym t.0) (to.cuts_off only_now n m mode load narrow sound l load_is ws after old mid new many streams back hears held held1 held' faults faults1 faults' early late x t.1)
+    says_gave held' faults' late (Err no_memory) (l, load_is, inr none) spaced answer t =
         subst (λ (a : Status). SaysRun G n m mode load old new hears held held' faults faults' a) (sym t.0)
         (none_begun held' faults' (back ∙ ap (λ (w : List (Writer D G)). map (disk_of {D = D} {G = G}) w ++ mid) none.0) (t.1 ∙ none.1))
 
-    spaces : (turns : Option (List Turn)) → load.turns ≡ turns → (end : Result RunEnd NoMemory) → RanChosen turns m mode load ws after hears held held1 (Rose faults faults1) end → Spaces end
+    spaces : (turns : Option (List Turn)) → load.turns ≡ turns → (end : Result RunEnd NoMemory) → GaveNew (ran_by turns (length ws) m load) m mode load ws after hears held held1 (Rose faults faults1) end → Spaces end
     spaces turns is (Err e) x = tt
     spaces None is (Ok e) x = λ threads none j y lt now.
-        of_threads.spaced only_now n m mode load is sound x.first (of_threads.loaded n m mode load is sound ws after streams.count hears held held1 (Rose faults faults1) x.first.load x.load_is) ws after hears held held1 (Rose faults faults1) old mid new many streams back e
-        (of_threads.ran n m mode load is sound ws after streams.count hears held held1 (Rose faults faults1) x.first (Ok e) x.ran) none j y lt now
+        (let g = gave (λ k. ran_by None k m load) in_threads n m mode load (λ whole l opening p q. q) ws after streams.count hears held held1 (Rose faults faults1) (Ok e) x in
+        spaced only_now n m mode load is sound g.0 g.1 ws after hears held held1 (Rose faults faults1) old mid new many streams back e g.2 none j y lt now)
     spaces (Some turns) is (Ok e) x = λ threads. absurd (let bad : None ≡ Some turns = sym threads ∙ is in cc bad)
 
   pub says_run : (held' : List ℕ) (faults' : ℕ) (answer : Status) → RunsOn m mode load ws mid new hears held held' faults faults' answer → SaysRun G n m mode load old new hears held held' faults faults' answer
   says_run held' faults' answer r =
-      says_gave r.after r.back r.mid r.count r.early held' faults' r.late r.end (gave only_now n m mode load room sound ws r.after streams.count hears held r.mid (Rose faults r.count) load.turns refl r.end r.ran)
+      says_gave r.after r.back r.mid r.count r.early held' faults' r.late r.end (gave (λ k. ran_by load.turns k m load) (chosen_by load.turns n m load) n m mode load (as_chosen load.turns n m load) ws r.after streams.count hears held r.mid (Rose faults r.count) r.end r.ran)
       (spaces r.after r.back r.mid r.count r.early load.turns refl r.end r.ran) answer r.told

@@ -9,7 +9,7 @@ use Rattle.tau_stream.specs.Writer.{IsReady}
 use Rattle.tau_open.specs.Opening.{AreOpened}
 use Rattle.tau_text.specs.declared.load.Workload.{Workload}
 use Rattle.tau_run.specs.Start.{catalogue_of}
-use Rattle.tau_step.specs.RunTold.{AreNew}
+use Rattle.tau_run.specs.Writers.{AreNew}
 
 -- every format has room for the streams of the first
 pub low_streams : (f : Format) (n : ℕ) → n ≤ most_streams One → n ≤ most_streams f

@@ -27,7 +27,7 @@ use Rattle.tau_run.specs.CoreRun.{IsRunOf, IsCourse}
 use Rattle.tau_run.proofs.CommittedTold.{act_of, number_of, Apart, one_of_number, exec_told}
 use Rattle.tau_run.proofs.Order.{apart, once}
 use Rattle.tau_run.proofs.History.{IsSet, is_set, acts_are}
-use Rattle.tau_step.specs.RunTold.{reply_at, is_told, fates_by}
+use Rattle.tau_run.specs.Fates.{fates_by, is_told, reply_at}
 
 -- ---- the reply of a call, in whatever order the calls stand
 

@@ -23,10 +23,10 @@ use Rattle.tau_open.proofs.Closed.{rest_back}
 use Rattle.tau_machine.specs.State.{Core}
 use Rattle.tau_core.specs.declared.state.Load.{Load}
 use Rattle.tau_run.specs.StopsLeave.{HasFront, HasSomeFront, IsLeft, Leaves}
-use Rattle.tau_step.specs.RunTold.{EachOf, Left}
 use Rattle.tau_engine.specs.DiskFacts.{Past, Now, AreUnborn, NotEarlier, NextClean}
 use Rattle.tau_base.proofs.Lists.{some_at, got_mapped}
 use Rattle.tau_base.proofs.Logic.{some_is}
+use Rattle.tau_run.specs.Writers.{EachOf, Left}
 
 pub mapped_got : {A B : Type 0} (f : A → B) (xs rest : List A) (more : List B) (j : ℕ) (x : A) → slice_get xs j ≡ Some x → slice_get (map f xs ++ more) j ≡ Some (f x)
 mapped_got f [] rest more j x e = absurd (cc)

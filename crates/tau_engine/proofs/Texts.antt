@@ -8,7 +8,7 @@ use Rattle.tau_report.specs.declared.report.RunReport.{RunReport}
 use Rattle.tau_report.specs.Lines.{end_line}
 use Rattle.tau_report.specs.Report.{ack_lines, fate_lines, order_lines, row_lines, rest_text, report_text}
 use Rattle.tau_run.specs.RunFacts.{WroteFront}
-use Rattle.tau_step.specs.Telling.{Heard}
+use Rattle.tau_run.specs.Heard.{Heard}
 use Rattle.tau_engine.specs.Outside.{Wrote}
 
 module _ {A : Type 0} where

@@ -23,12 +23,13 @@ use Rattle.tau_gen.specs.Sums.{rows_of}
 use Rattle.tau_report.specs.declared.report.RunEnd.{RunEnd}
 use Rattle.tau_report.specs.Lines.{line, end_line}
 use Rattle.tau_report.specs.Report.{row_lines}
+use Rattle.tau_run.specs.Gives.{GaveNew}
 use Rattle.tau_run.specs.Run.{AllAcked, last_db}
 use Rattle.tau_scan.specs.declared.log.Log.{Log}
 use Rattle.tau_scan.specs.Reading.{log_of}
 use Rattle.tau_replay.specs.Redone.{IsRedone}
 use Rattle.tau_engine.specs.Drill.{IsRehearsed}
-use Rattle.tau_engine.specs.Runs.{RanChosen}
+use Rattle.tau_engine.specs.Runs.{ran_by}
 use Rattle.tau_engine.specs.declared.status.Status.{Status}
 use Rattle.tau_engine.specs.declared.status.Status.TheVariants as status
 
@@ -80,7 +81,7 @@ pub record PlaysWell {D : Type 0} {G : Ghosts D} (m : ℕ) (load : Workload) (ws
   pub after : List (Writer D G)
   pub back : now ≡ map disk_of after ++ rest
   pub end : RunEnd
-  pub ran : RanChosen load.turns m Values load ws after hears held held' rose (Ok end)
+  pub ran : GaveNew (ran_by load.turns (length ws) m load) m Values load ws after hears held held' rose (Ok end)
   pub heard : end.sink_failed ≡ false
   pub whole : end.disk ≡ None
   pub rows_are : end.report.tables ≡ rows

@@ -27,9 +27,9 @@ use Rattle.tau_run.specs.RecoveredFacts.{IsRecovered, takes}
 use Rattle.tau_open.specs.Outside.{calls_to_open}
 use Rattle.tau_run.specs.Start.{fresh_start}
 use Rattle.tau_run.specs.RunFacts as ending
-use Rattle.tau_run.specs.RunFacts.{RunFacts, chosen_by, turns_of}
+use Rattle.tau_run.specs.Gives.{GaveNew}
+use Rattle.tau_run.specs.RunFacts.{RunFacts, by_turns, chosen_by, turns_of}
 use Rattle.tau_step.specs.Device.{IsDeviceOrder}
-use Rattle.tau_step.specs.RunTold.{RanNew}
 use Rattle.tau_engine.specs.DiskFacts.{Now}
 use Rattle.tau_engine.specs.Recovery.{IsRecoveryOf}
 use Rattle.tau_engine.specs.declared.status.Status.{Status}
@@ -103,7 +103,7 @@ pub record PlaysOn {D : Type 0} {G : Ghosts D} (m : ℕ) (load : Workload) (ws :
   pub after : List (Writer D G)
   pub back : now ≡ map disk_of after ++ rest
   pub end : RunEnd
-  pub ran : RanNew m Values load ws after hears held held' rose (Ok end)
+  pub ran : GaveNew (by_turns (length ws) m load) m Values load ws after hears held held' rose (Ok end)
   pub heard : end.sink_failed ≡ false
 
 module _ {D : Type 0} (G : Ghosts D) where

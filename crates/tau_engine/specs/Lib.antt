@@ -4,7 +4,6 @@ pub mod Outside
 pub mod Fault
 pub mod DiskFacts
 pub mod Runs
-pub mod Came
 pub mod Said
 pub mod Recovery
 pub mod Same

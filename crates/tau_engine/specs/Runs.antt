@@ -1,5 +1,5 @@
 -- What a run on open streams leaves and tells.
-use Rattle.std.specs.Prelude.{ℕ, ◌<◌, ◌≤◌, ◌≡◌, ◌⊎◌, true, false, List, ◌++◌, length, map, take, Option, Some, None, Result, Ok, Err}
+use Rattle.std.specs.Prelude.{ℕ, ◌<◌, ◌≤◌, ◌≡◌, ◌⊎◌, Bool, true, false, List, ◌++◌, length, map, take, Option, Some, None, Result, Ok, Err}
 use Rattle.tau_base.specs.declared.value.LogMode.{LogMode}
 use Rattle.tau_base.specs.declared.value.NoMemory.{NoMemory}
 use Rattle.tau_disk.specs.Disk.{Rose}
@@ -8,20 +8,24 @@ use Rattle.tau_stream.specs.declared.writer.Writer.{Writer}
 use Rattle.tau_stream.specs.Writer.{disk_of}
 use Rattle.tau_open.specs.declared.refusal.OpenRefusal.{OpenRefusal}
 use Rattle.tau_open.specs.declared.refusal.OpenRefusal.TheVariants as refusal
-use Rattle.tau_crew_facts.specs.Threads.{RanInThreads}
+use Rattle.tau_machine.specs.State.{Core}
+use Rattle.tau_core.specs.declared.state.Load.{Load}
+use Rattle.tau_run.specs.Gives.{GaveNew}
+use Rattle.tau_run.specs.RunFacts.{by_turns}
+use Rattle.tau_run.specs.Turns.{Progress}
+use Rattle.tau_crew_facts.specs.Threads.{in_threads}
 use Rattle.tau_text.specs.declared.load.Turn.{Turn}
 use Rattle.tau_text.specs.declared.load.Workload.{Workload}
 use Rattle.tau_report.specs.declared.report.RunEnd.{RunEnd}
 use Rattle.tau_report.specs.Report.{rest_text}
-use Rattle.tau_step.specs.RunTold.{RanNew, Began}
 use Rattle.tau_engine.specs.declared.status.Status.{Status}
 use Rattle.tau_engine.specs.declared.status.Status.TheVariants as status
 use Rattle.tau_engine.specs.Outside.{Wrote}
 
--- What a run on these writers gives: by turns if the workload has them, also none, else in threads.
-abbrev pub RanChosen : {D : Type 0} {G : Ghosts D} → Option (List Turn) → ℕ → LogMode → Workload → List (Writer D G) → List (Writer D G) → Type 0 → List ℕ → List ℕ → Type 0 → Result RunEnd NoMemory → Type 0
-RanChosen {D} {G} None m mode load ws ws' hears held held' sink_rose result = RanInThreads m mode load ws ws' hears held held' sink_rose result
-RanChosen {D} {G} (Some turns) m mode load ws ws' hears held held' sink_rose result = Began m mode load ws ws' hears held held' sink_rose (RanNew m mode load ws ws' hears held held' sink_rose) result
+-- How the events of a run are chosen: by turns if the workload has them, also none, else in threads.
+abbrev pub ran_by : Option (List Turn) → ℕ → ℕ → Workload → Bool → Load → Core → Progress → Type 0
+ran_by None n m load = in_threads
+ran_by (Some turns) n m load = by_turns n m load
 
 -- the answer to a refused opening
 abbrev pub status_in : OpenRefusal → Status
@@ -54,5 +58,5 @@ pub record RunsOn {D : Type 0} {G : Ghosts D} (m : ℕ) (mode : LogMode) (load :
   pub early : faults ≤ count
   pub late : count ≤ faults'
   pub end : Result RunEnd NoMemory
-  pub ran : RanChosen load.turns m mode load ws after hears held mid (Rose faults count) end
+  pub ran : GaveNew (ran_by load.turns (length ws) m load) m mode load ws after hears held mid (Rose faults count) end
   pub told : TellsRun load.declarations.tables end hears mid held' (Rose count faults') answer

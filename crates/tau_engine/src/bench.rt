@@ -15,7 +15,7 @@ ghost use Rattle.tau_replay.specs.Redone.{IsOrderOf};
 ghost use Rattle.tau_report.specs.Lines.{line};
 ghost use Rattle.tau_run.specs.Start.{catalogue_of};
 ghost use Rattle.tau_run.specs.CoreRun.{IsSoundLoad};
-ghost use Rattle.tau_step.specs.RunTold.{AreNew};
+ghost use Rattle.tau_run.specs.Writers.{AreNew};
 ghost use Rattle.tau_engine.specs.Bench.{AreFound, BenchTells, IsMeasured, PlaysWell, bench_text, count_lines, digest_lines, digest_of, lines_in, measured_text, number_in, number_line, sum_of};
 ghost use Rattle.tau_engine.specs.declared.served.TheConstants.{MAX_COUNT};
 ghost use Rattle.tau_engine.specs.Drill.{AreNewDisks};
@@ -35,8 +35,8 @@ use tau_model::Tables;
 use tau_open::{close_streams, open_streams};
 use tau_replay::replay_threads;
 use tau_report::{RunEnd, table_text};
+use tau_run::write_all;
 use tau_scan::{Log, ReplayRefusal, ScanRefusal, scan};
-use tau_step::write_all;
 use tau_stream::Writer;
 use tau_text::{Declarations, Workload, print_declarations};
 

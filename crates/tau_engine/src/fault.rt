@@ -10,8 +10,8 @@ use std::alloc::{AllocError, Global};
 use tau_block::ImageFault;
 use tau_disk::Sink;
 use tau_record::{RecordCause, RecordFault};
+use tau_run::write_all;
 use tau_scan::{LogCause, LogFault};
-use tau_step::write_all;
 use tau_text::TextCause;
 
 // The line of a bad text.

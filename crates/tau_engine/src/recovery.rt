@@ -23,8 +23,8 @@ use std::thread::Threads;
 use tau_disk::{Disk, Gate, Sink};
 use tau_replay::replay_threads;
 use tau_report::recover_text;
+use tau_run::write_all;
 use tau_scan::{Log, LogCause, LogFault, ReplayRefusal, ScanRefusal, scan};
-use tau_step::write_all;
 
 /// The log of the first disks, in the format that they state.
 fn scan_first<D: Disk>(alloc: Global, streams: usize, disks: &mut [D]) -> Result<Log, ScanRefusal>

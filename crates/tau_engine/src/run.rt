@@ -7,10 +7,11 @@ ghost use Rattle.tau_disk.specs.Disk.{Rose};
 ghost use Rattle.tau_text.specs.Canonical.{declarations_text};
 ghost use Rattle.tau_text.specs.Kept.{AreCalls, IsRunnable};
 ghost use Rattle.tau_text.specs.Text.{workload_of};
+ghost use Rattle.tau_run.specs.Gives.{GaveNew};
 ghost use Rattle.tau_run.specs.Start.{catalogue_of};
-ghost use Rattle.tau_step.specs.RunTold.{AreNew};
+ghost use Rattle.tau_run.specs.Writers.{AreNew};
 ghost use Rattle.tau_engine.specs.declared.served.TheConstants.{MAX_COUNT};
-ghost use Rattle.tau_engine.specs.Runs.{RanChosen, RunsOn, TellsEnd, status_in};
+ghost use Rattle.tau_engine.specs.Runs.{RunsOn, TellsEnd, ran_by, status_in};
 ghost use Rattle.tau_engine.specs.Said.{SaysRun};
 
 use crate::fault::refuse;
@@ -23,7 +24,8 @@ use tau_crew::run_threads;
 use tau_disk::{Disk, Gate, Sink};
 use tau_open::{OpenRefusal, close_streams, open_streams};
 use tau_report::{RunEnd, report_text};
-use tau_step::{run_turns, write_all};
+use tau_run::write_all;
+use tau_step::run_turns;
 use tau_stream::Writer;
 use tau_text::{Workload, print_declarations};
 
@@ -77,7 +79,7 @@ pub(crate) fn run_writers<R: Threads + Wait + Sync, D: Disk + Send, K: Sink + Se
     requires calls { AreCalls load.now.declarations.procs load.now.calls }
     requires text { length (declarations_text load.now.declarations) ≤ MAX_CATALOGUE }
     requires fresh { AreNew (format_of mode) (λ j. catalogue_of load.now) writers.old.items }
-    ensures ran { RanChosen load.now.turns workers mode load.now writers.old.items writers.new.items K.tells (K.held sink.old) (K.held sink.new) (Rose (K.faults sink.old) (K.faults sink.new)) result }
+    ensures ran { GaveNew (ran_by load.now.turns (length writers.old.items) workers load.now) workers mode load.now writers.old.items writers.new.items K.tells (K.held sink.old) (K.held sink.new) (Rose (K.faults sink.old) (K.faults sink.new)) result }
     ensures faults { K.faults sink.old ≤ K.faults sink.new }
     ensures count { length writers.new.items ≡ length writers.old.items }
 {

@@ -62,17 +62,21 @@ member_of_number k (c ∷ cs) low = elim (cases_eq k c.number) [
       (rest.0, inr rest.1, rest.2)
 ]
 
--- where all workers rest and nothing is left, each call of the opening has committed
-pub committed_there : (set : Setting) (opening : Core) (events : List Event) (K : List (Act Txn)) (s : Core) → Run set opening events K s → Invariant set K s → KeepCalls events →
-    (k w : ℕ) → 1 ≤ in_worker k (opening.workers w) → (s.workers w).hand ≡ None → (s.workers w).waiting ≡ [] → (s.workers w).left ≡ [] → (t : Act Txn) × Member t K × (t.call.call.number ≡ k)
-committed_there set opening events K s run inv keep k w low hand waiting left =
+-- no number that a worker accounted for at the opening is lost
+pub kept_there : (set : Setting) (opening : Core) (events : List Event) (K : List (Act Txn)) (s : Core) → Run set opening events K s → KeepCalls events → (k w : ℕ) → 1 ≤ in_worker k (opening.workers w) → 1 ≤ in_worker k (s.workers w)
+kept_there set opening events K s run keep k w low =
     let steady : AllSteady opening = λ u h e. absurd (let f : None ≡ Some h = sym (run.opens.hands u) ∙ e in cc f) in
     let all = ((all_keep set events opening s K steady keep run.leads).each w).all k in
+    omega (arith, low, all)
+
+-- one that a worker accounts for, where it rests and nothing is left to it, is that of a committed call
+pub committed_at : (set : Setting) (K : List (Act Txn)) (s : Core) → Invariant set K s → (k w : ℕ) → 1 ≤ in_worker k (s.workers w) → (s.workers w).hand ≡ None → (s.workers w).waiting ≡ [] → (s.workers w).left ≡ [] → (t : Act Txn) × Member t K × (t.call.call.number ≡ k)
+committed_at set K s inv k w low hand waiting left =
     let a = ap (in_hand k) hand in
     let b = ap (in_calls k) waiting in
     let c = ap (in_calls k) left in
     let f : in_calls k (s.workers w).waiting + in_hand k (s.workers w).hand + in_calls k (s.workers w).left + in_committed k (s.workers w).committed ≡ in_worker k (s.workers w) = refl in
-    let there = member_of_number k (s.workers w).committed (omega (arith, low, all, a, b, c, f)) in
+    let there = member_of_number k (s.workers w).committed (omega (arith, low, a, b, c, f)) in
     let mine : Member there.0 (map committed_of (filter (λ (t : Act Txn). t.call.worker == w) K)) = subst (λ (cs : List Committed). Member there.0 cs) ((committed_theorem set K s inv).2 w) there.1 in
     let t = member_mapped committed_of there.0 (filter (λ (t : Act Txn). t.call.worker == w) K) mine in
     (t.0, (member_filtered (λ (u : Act Txn). u.call.worker == w) t.0 K t.1).0, ap (λ (c : Committed). c.number) t.2 ∙ there.2)

@@ -20,9 +20,11 @@ pub mod Sound
 pub mod Recovered
 pub mod Acked
 pub mod Ended
+pub mod Given
 pub mod RunExists
 pub mod Keeping
 pub mod Complete
+pub mod Kept
 pub mod Results
 pub mod Marked
 pub mod Lives
@@ -34,3 +36,8 @@ pub mod Start
 pub mod Fresh
 pub mod Waits
 pub mod NotBegun
+pub mod Fates
+pub mod Begun
+pub mod Flushes
+pub mod Bodies
+pub mod Came

@@ -1,18 +1,19 @@
 -- The laws on runs.
-use Rattle.std.proofs.Common.{ℕ, ◌≡◌, true, [], ◌++◌, sym, ap, subst, ◌∙◌}
+use Rattle.std.proofs.Common.{◌≡◌, [], ◌++◌, sym, ap, subst, ◌∙◌}
 use Rattle.std.specs.Prelude.{Ok, slice_index_or}
 use Rattle.tau_scan.specs.Sound.{IsSound}
 use Rattle.tau_scan.specs.Taken.{kept_in}
 use Rattle.tau_base.specs.declared.value.LogMode.{LogMode}
 use Rattle.tau_base.specs.Modes.{format_of}
 use Rattle.tau_core.specs.View.{setting_of}
-use Rattle.tau_run.specs.Run.{records_in, has_ack}
+use Rattle.tau_run.specs.Run.{records_in}
 use Rattle.tau_scan.specs.Reading.{log_of_contents}
 use Rattle.tau_run.specs.RecoveredFacts.{IsRecovered}
 use Rattle.tau_run.specs.Laws.{RunIsThere, RunIsHistory, ContentsAreRecords, ImagesAreRecovered, AckedIsTaken, EndsWell, NothingIsLost}
 use Rattle.tau_run.proofs.Acked.{whole, acked_taken}
-use Rattle.tau_run.proofs.Ended.{acked_is, all_acked_of, uncovered_is, flushed_is, opened_is}
-use Rattle.tau_run.proofs.Complete.{committed_there}
+use Rattle.tau_run.proofs.Ended.{acked_is, uncovered_is, flushed_is, opened_is}
+use Rattle.tau_run.proofs.Complete.{kept_there}
+use Rattle.tau_run.proofs.Kept.{kept_acked}
 use Rattle.tau_run.proofs.Recovered.{recovered}
 use Rattle.tau_run.proofs.Sound.{declared, history_is}
 use Rattle.tau_run.proofs.RunExists.{run_there}
@@ -51,8 +52,5 @@ ends_law n m mode load l K s run c is over = (
 )
 
 pub lost_law : NothingIsLost
-lost_law n m mode load l K s run c is opening events led keep wait over going k low high =
-    let w = wait k low high in
-    let rest = over.done going w.0 in
-    let t = committed_there (setting_of l) opening events K s led c.inv keep k w.0 w.1 (over.rests w.0) rest.0 rest.1 in
-    subst (λ (i : ℕ). has_ack run i ≡ true) t.2 (all_acked_of n m mode load l K s run (declared n m mode load l K s run c) is over going t.0 t.1)
+lost_law n m mode load l K s run c is opening events led keep wait over going =
+    kept_acked n m mode load l K s run c is over (λ k low high. (let w = wait k low high in (w.0, kept_there (setting_of l) opening events K s led keep k w.0 w.1))) going

@@ -6,5 +6,9 @@ pub mod StopsLeave
 pub mod Turns
 pub mod Keeping
 pub mod Lives
+pub mod Fates
+pub mod Heard
+pub mod Writers
+pub mod Gives
 pub mod Laws
 pub mod RunFacts

@@ -16,18 +16,9 @@ use Rattle.tau_core.specs.View.{Hidden}
 use Rattle.tau_core.specs.Stands.{Stands, anchors_at}
 use Rattle.tau_core.specs.Pieces.{AreBytesOf, Spelled}
 use Rattle.tau_core.proofs.Sizes.{named_copies}
+use Rattle.tau_run.proofs.Bodies.{five}
 
 module _ (l : Load) (anchors : ℕ → List (List ℕ)) where
-  -- a record has at least five bytes
-  pub five : (i : Item) (bytes : List ℕ) → AreBytesOf l anchors i bytes → 5 ≤ length bytes
-  five (Record t) bytes q =
-      let vectors : List (List ℕ) = replicate (suc t.call.anchor) q.base in
-      let s = q.spelled vectors (named_copies (suc t.call.anchor) t.call.anchor q.base (omega arith)) in
-      subst (λ (b : List ℕ). 5 ≤ length b) (sym s.text) (spelling_long (format_of l.mode) vectors (entry_of l.mode t))
-  five (Anchor start past v) bytes q =
-      let s = q [] in
-      subst (λ (b : List ℕ). 5 ≤ length b) (sym s.text) (spelling_long (format_of l.mode) [] (entry.Anchor v))
-
   -- the bytes of a chain of items are as long as it is
   pub spelled_long : (from to : ℕ) (items : List Item) (bytes : List ℕ) → Chain from items to → Spelled l anchors items bytes → from + length bytes ≡ to
   spelled_long from to [] bytes c s = (let e = ap (length {A = ℕ}) s in let f : from ≡ to = c in omega arith)
@@ -44,7 +35,7 @@ module _ (l : Load) (anchors : ℕ → List (List ℕ)) where
   behind_whole [] (k ∷ ks) b c p q =
       let (first, rest, whole, size, mine, more) = q in
       let is : c ≡ first ++ rest = ap (λ (x : List ℕ). x ++ c) (sym p) ∙ whole in
-      inr (let low = five k first mine in let e = ap (length {A = ℕ}) is ∙ length-append first rest in omega arith)
+      inr (let low = five l anchors k first mine in let e = ap (length {A = ℕ}) is ∙ length-append first rest in omega arith)
   behind_whole (i ∷ is) js b c p q =
       let (first, rest, whole, size, mine, more) = p in
       let (first', rest', whole', size', mine', more') = q in

@@ -17,6 +17,7 @@ use Rattle.tau_core.specs.Opens.{nothing}
 use Rattle.tau_core.specs.Stands.{Stands, Stood}
 use Rattle.tau_run.specs.Turns.{Progress}
 use Rattle.tau_run.specs.StopsLeave.{NamesLowest, stops_in}
+use Rattle.tau_run.specs.Heard.{Heard}
 use Rattle.tau_step.specs.declared.clerk.Clerk.{Clerk}
 use Rattle.tau_step.specs.declared.flushes.Flushes.{Flushes}
 use Rattle.tau_step.specs.declared.run.Run.{Run}
@@ -25,7 +26,7 @@ use Rattle.tau_step.specs.Device.{IsNoted, noting}
 use Rattle.tau_step.specs.RunEffects.{IsOn, Works, Manages, Moves, WentBy}
 use Rattle.tau_step.specs.Progressed.{progress, clerks}
 use Rattle.tau_step.specs.Rounding.{clerked}
-use Rattle.tau_step.specs.Telling.{Heard, Passed}
+use Rattle.tau_step.specs.Telling.{Passed}
 use Rattle.tau_step.proofs.RunSteps.{kept_after, went_quiet, went_on, went_as, since_none, rose_on}
 use Rattle.tau_step.proofs.Growing.{grows_none}
 use Rattle.tau_step.proofs.Joined.{comes_as, comes_on}

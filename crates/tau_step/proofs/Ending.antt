@@ -1,6 +1,6 @@
 -- How a run begins, and what it leaves and tells.
 use Rattle.std.proofs.Common.{ℕ, ◌+◌, ◌-◌, ◌≤◌, ◌≡◌, ◌⊎◌, inl, inr, Bool, true, false, List, [], ◌∷◌, length, map, refl, sym, ap, subst, ◌∙◌, Option, arith}
-use Rattle.std.specs.Prelude.{Some, None, ◌==◌, if◌then◌else◌, IfOk, slice_get, slice_index, slice_index_or, Result, Ok, Err}
+use Rattle.std.specs.Prelude.{Some, None, ◌<◌, ◌==◌, if◌then◌else◌, IfOk, slice_get, slice_index, slice_index_or, Result, Ok, Err}
 use Rattle.std.specs.List.{All, filter}
 use Rattle.std.proofs.Math.Seq.{take-length}
 use Rattle.std.proofs.Math.Nat.{mod-lt}
@@ -15,36 +15,45 @@ use Rattle.tau_disk.specs.declared.disk.Disk.{Ghosts}
 use Rattle.tau_stream.specs.declared.writer.Writer.{Writer}
 use Rattle.tau_stream.specs.Writer.{IsReady}
 use Rattle.tau_text.specs.declared.load.Turn.{Turn}
+use Rattle.tau_text.specs.declared.load.Workload.{Workload}
 use Rattle.tau_model.specs.History.{Act, Member}
 use Rattle.tau_model.specs.Tables.{IsTablesOf}
 use Rattle.tau_model.proofs.Assembling.{member_mapped}
 use Rattle.tau_machine.specs.Hands.{Txn}
 use Rattle.tau_machine.specs.Invariant.{Invariant}
+use Rattle.tau_machine.specs.Accounts.{in_worker}
 use Rattle.tau_machine.specs.Reports.{reported}
+use Rattle.tau_machine.specs.Runs as machine
 use Rattle.tau_machine.specs.State.{Core, Ticket, sight}
 use Rattle.tau_report.specs.declared.report.RunEnd.{RunEnd}
 use Rattle.tau_core.specs.declared.state.Load.{Load}
-use Rattle.tau_core.specs.Plain.{PlainSeat}
+use Rattle.tau_core.specs.Plain.{PlainSeat, PlainStream}
 use Rattle.tau_core.specs.State.{Plain}
-use Rattle.tau_core.specs.View.{Hidden, core_of, setting_of, worker_in, committed_by, pending_in}
+use Rattle.tau_core.specs.View.{Hidden, core_of, setting_of, worker_in, committed_by, pending_in, stop_in}
 use Rattle.tau_core.specs.Opens.{Opened, nothing}
 use Rattle.tau_core.specs.Stands.{Stands}
 use Rattle.tau_core.proofs.Promises.{acknowledged_law, committed_law}
+use Rattle.tau_run.specs.CoreRun.{AreAcks, IsGiven}
+use Rattle.tau_run.specs.Fates.{IsNumberOf, fates_by}
+use Rattle.tau_run.specs.Gives.{CameTo, Concluded, CutOff, Gave}
+use Rattle.tau_run.specs.Heard.{Heard}
+use Rattle.tau_run.specs.Laws.{KeepCalls}
 use Rattle.tau_run.specs.Run.{pair_of}
+use Rattle.tau_run.specs.RunFacts.{by_turns, turns_of}
 use Rattle.tau_run.specs.StopsLeave.{HasFront, IsOver, NamesLowest, stops_in}
-use Rattle.tau_run.specs.Turns.{Progress, begun, IsWholeRun}
+use Rattle.tau_run.specs.Turns.{Progress, begun, IsPartOfRun, IsWholeRun}
+use Rattle.tau_run.specs.Writers.{AreNew, EachOf, IsBegun, Left}
 use Rattle.tau_run.proofs.Acks.{turns_law}
+use Rattle.tau_run.proofs.Complete.{kept_there}
+use Rattle.tau_run.proofs.Fates.{at_member, number_is}
+use Rattle.tau_run.proofs.RunExists.{given_there}
+use Rattle.tau_run.proofs.Start.{started}
 use Rattle.tau_step.specs.declared.run.Run.{Run}
 use Rattle.tau_step.specs.Along.{AreKept, IsAlong, IsLeaving, KeptBy, Since, Went}
 use Rattle.tau_step.specs.Device.{noting}
-use Rattle.tau_step.specs.Fates.{IsNumberOf}
 use Rattle.tau_step.specs.RunEffects.{Moves}
 use Rattle.tau_step.specs.Progressed.{progress}
-use Rattle.tau_step.specs.RunTold.{AreNew, EachOf, Left, Ended, CutShort, Ran, fates_by}
-use Rattle.tau_step.specs.Telling.{Heard}
 use Rattle.tau_step.specs.Rounding.{ran_all}
-use Rattle.tau_step.specs.Whole.{IsBegun}
-use Rattle.tau_step.proofs.Fates.{at_member, number_is}
 use Rattle.tau_step.proofs.Kept.{kept_leaving}
 use Rattle.tau_step.proofs.EffectsInTurn.{lowest_same}
 use Rattle.tau_step.proofs.RunEnds.{IsBeyond, AreShort, whole_over}
@@ -145,117 +154,163 @@ module _ {D : Type 0} {G : Ghosts D} (seen_now : (d : D) → G.tells → G.may_l
 
 -- ---- all of it
 
-module _ {D : Type 0} {G : Ghosts D} (seen_now : (d : D) → G.tells → G.may_leave d (G.seen d)) (turns : List Turn) (bases : ℕ → List ℕ) (old new : Run) (ws ws' : List (Writer D G)) (hears : Type 0) (held held' : List ℕ) (faults faults' : ℕ)
+module _ {D : Type 0} {G : Ghosts D} (seen_now : (d : D) → G.tells → G.may_leave d (G.seen d)) (load : Workload) (bases : ℕ → List ℕ) (old new : Run) (ws ws' : List (Writer D G)) (hears : Type 0) (held held' : List ℕ) (faults faults' : ℕ)
     (o : Opened old.core.load old.core) (b : IsBegun (format_of old.core.load.mode) bases ws old.core.load.opening) (acks : old.clerk.acks ≡ []) (works : old.clerk.sink_failed ≡ false) where
+  abbrev turns : List Turn
+  turns = turns_of load
+
+  abbrev l : Load
+  l = old.core.load
+
+  abbrev opening : Core
+  opening = core_of old.core nothing
+
+  abbrev by : Bool → Load → Core → Progress → Type 0
+  by = by_turns l.streams l.workers load
+
   first_held : Heard held old.clerk.acks old.clerk.sink_failed held
   first_held = subst (λ (a : List (ℕ × List ℕ)). Heard held a old.clerk.sink_failed held) (sym acks) (subst (λ (f : Bool). Heard held [] f held) (sym works) (sym (append-nil held)))
 
   rose_now : (new.clerk.sink_failed ≡ true → (old.clerk.sink_failed ≡ true) ⊎ Rose faults faults') → new.clerk.sink_failed ≡ true → Rose faults faults'
-  rose_now rose e = elim (rose e) [ inl was ↦ absurd (let bad : false ≡ true = sym works ∙ was in cc) | inr r ↦ r ]
+  rose_now rose e = elim (rose e) [ inl was ↦ absurd (let bad : false ≡ true = sym works ∙ was in cc bad) | inr r ↦ r ]
 
   -- from its beginning
-  from_begun : (whole : Bool) (P : Progress) → ran_all turns whole old.core.load (progress old.core nothing [] [] old.clerk.acks) P → ran_all turns whole old.core.load (begun (core_of old.core nothing)) P
-  from_begun whole P r = subst (λ (a : List (ℕ × List ℕ)). ran_all turns whole old.core.load (record { state = core_of old.core nothing; events = []; joined = []; told = a }) P) acks r
+  from_begun : (whole : Bool) (P : Progress) → ran_all turns whole l (progress old.core nothing [] [] old.clerk.acks) P → ran_all turns whole l (begun opening) P
+  from_begun whole P r = subst (λ (a : List (ℕ × List ℕ)). ran_all turns whole l (record { state = opening; events = []; joined = []; told = a }) P) acks r
+
+  long : (j : ℕ) → j < l.streams → length (bases j) ≡ slice_index l.opening.ends j
+  long j lt = b.long j (let e = o.opening.count in omega (arith, e, lt))
+
+  -- how far it has come, where it told this
+  module _ (R : Bool → Load → Progress → Progress → Type 0) (whole : Bool) (told : List (ℕ × List ℕ)) (went : Went bases R whole old.core new.core ws ws' old.clerk.acks told [] nothing []) where
+    abbrev s : Core
+    s = core_of new.core went.hidden
+
+    abbrev P : Progress
+    P = progress new.core went.hidden went.events went.order told
+
+    pub given : (contents : List (List ℕ)) × (length contents ≡ l.streams) × ((j : ℕ) (content : List ℕ) → slice_get contents j ≡ Some content → IsGiven l went.order s j (bases j) content)
+    given = subst (λ (d : Load). (contents : List (List ℕ)) × (length contents ≡ d.streams) × ((j : ℕ) (content : List ℕ) → slice_get contents j ≡ Some content → IsGiven d went.order s j (bases j) content)) went.load
+        (given_there new.core went.order went.hidden went.stands bases (subst (λ (d : Load). (j : ℕ) → j < d.streams → length (bases j) ≡ slice_index d.opening.ends j) (sym went.load) long))
+
+    pub stop_low : (j at : ℕ) → (s.streams j).stop ≡ Some at → j < l.streams
+    stop_low j at e = by_case (slice_get new.core.streams j) refl
+      where
+        by_case : (o : Option PlainStream) → slice_get new.core.streams j ≡ o → j < l.streams
+        by_case None f = absurd (let g : None ≡ Some at = ap stop_in (sym f) ∙ e in cc g)
+        by_case (Some x) f =
+            let within = slice_get_within new.core.streams j x f in
+            let count = went.stands.sound.streams in
+            let same = ap (λ (d : Load). d.streams) went.load in
+            omega (arith, within, count, same)
+
+    module _ (either : IsWholeRun (setting_of l) l.workers l.streams turns opening P ⊎ IsPartOfRun (setting_of l) l.workers l.streams turns opening P) (part : IsPartOfRun (setting_of l) l.workers l.streams turns opening P) where
+      pub led : machine.Run (setting_of l) opening went.events went.order s × KeepCalls went.events × AreAcks l s told
+      led = turns_law (setting_of l) l.workers l.streams turns opening P o.opening either
+
+      abbrev pub came : CameTo by bases l ws ws' told
+      came = record {
+        opening = opening;
+        first = started l old.core o;
+        state = s;
+        events = went.events;
+        joined = went.order;
+        led = led.0;
+        part = part;
+        contents = given.0;
+        streams = given.1;
+        given = given.2;
+        acked = led.2;
+        room = o.stands.sound.streams_high;
+        stop_low = stop_low;
+        writers = writers_left seen_now bases R whole old.core new.core ws ws' old.clerk.acks told b.new went;
+      }
+
+      -- no call is lost
+      pub kept : (k : ℕ) → 1 ≤ k → k ≤ length l.calls → (w : ℕ) × (1 ≤ in_worker k (s.workers w))
+      kept k low high = let w = o.waits k low high in (w.0, kept_there (setting_of l) opening went.events went.order s led.0 led.1 k w.0 w.1)
 
   module _ (x : Moves (ran_all turns) true old new ws ws' hears held held' faults faults') where
-    went : Went bases (noting old.flushes new.flushes (ran_all turns)) true old.core new.core ws ws' old.clerk.acks new.clerk.acks [] nothing []
+    abbrev noted : Bool → Load → Progress → Progress → Type 0
+    noted = noting old.flushes new.flushes (ran_all turns)
+
+    went : Went bases noted true old.core new.core ws ws' old.clerk.acks new.clerk.acks [] nothing []
     went = x.went bases [] nothing [] o.stands (begun_kept bases ws old.core o b)
 
-    whole : IsWholeRun (setting_of old.core.load) old.core.load.workers old.core.load.streams turns (core_of old.core nothing) (progress new.core went.hidden went.events went.order new.clerk.acks)
-    whole = all_whole old.core.load turns (core_of old.core nothing) (progress new.core went.hidden went.events went.order new.clerk.acks) (from_begun true (progress new.core went.hidden went.events went.order new.clerk.acks) went.moved.0)
+    abbrev P_end : Progress
+    P_end = progress new.core went.hidden went.events went.order new.clerk.acks
+
+    whole : IsWholeRun (setting_of l) l.workers l.streams turns opening P_end
+    whole = all_whole l turns opening P_end (from_begun true P_end went.moved.0)
+
+    part : IsPartOfRun (setting_of l) l.workers l.streams turns opening P_end
+    part = whole_part l turns opening P_end o.stands.sound.workers_low (from_begun true P_end went.moved.0)
 
     pub told_numbers : All (λ (a : ℕ × List ℕ). IsNumberOf (length new.core.load.calls) a.0) new.clerk.acks
     told_numbers = λ k d lt.
         told_one new.core went.order went.hidden went.stands new.clerk.acks
-        (subst (λ (l : Load). (w : ℕ) → filter (λ (a : ℕ × List ℕ). (setting_of l).worker_of a.0 == w) new.clerk.acks ≡ map pair_of ((core_of new.core went.hidden).acked w)) (sym went.load)
-        (turns_law (setting_of old.core.load) old.core.load.workers old.core.load.streams turns (core_of old.core nothing) (progress new.core went.hidden went.events went.order new.clerk.acks) o.opening (inl whole)).2)
+        (subst (λ (d : Load). (w : ℕ) → filter (λ (a : ℕ × List ℕ). (setting_of d).worker_of a.0 == w) new.clerk.acks ≡ map pair_of ((core_of new.core went.hidden).acked w)) (sym went.load)
+        (turns_law (setting_of l) l.workers l.streams turns opening P_end o.opening (inl whole)).2)
         (slice_index_or new.clerk.acks k d) (at_member new.clerk.acks k d lt)
 
-    ended : (end : RunEnd) → end.report.acks ≡ new.clerk.acks →
+    concluded : (end : RunEnd) → end.report.acks ≡ new.clerk.acks →
         ((K : List (Act Txn)) (h : Hidden) → Stands new.core K h → end.report.fates ≡ fates_by (length new.core.load.calls) K new.clerk.acks) →
         ((K : List (Act Txn)) (h : Hidden) → Stands new.core K h → end.report.order ≡ map (λ (t : Act Txn). t.call.call.number) (reported new.core.ends K)) →
         ((K : List (Act Txn)) (h : Hidden) → Stands new.core K h → IsTablesOf (sight (setting_of new.core.load) (core_of new.core h)).row end.report.tables) →
-        end.disk ≡ new.failed → end.sink_failed ≡ new.clerk.sink_failed → Ended turns bases old.core ws ws' hears held held' (Rose faults faults') end
-    ended end told fates order tables disk sink = record {
-      came = record {
-        last = new.core;
-        hidden = went.hidden;
-        order = went.order;
-        events = went.events;
-        told = new.clerk.acks;
-        stands = went.stands;
-        load = went.load;
-        by = whole;
-        writers = writers_left seen_now bases (noting old.flushes new.flushes (ran_all turns)) true old.core new.core ws ws' old.clerk.acks new.clerk.acks b.new went;
-      };
-      over = subst (λ (l : Load). IsOver l.streams (core_of new.core went.hidden)) went.load
-          (over_at new.core went.order went.hidden went.stands turns (core_of old.core nothing) (progress new.core went.hidden went.events went.order new.clerk.acks) refl
-          (subst (λ (l : Load). IsWholeRun (setting_of l) l.workers l.streams turns (core_of old.core nothing) (progress new.core went.hidden went.events went.order new.clerk.acks)) (sym went.load) whole));
+        end.disk ≡ new.failed → end.sink_failed ≡ new.clerk.sink_failed → Concluded by bases l ws ws' hears held held' (Rose faults faults') end
+    concluded end told fates order tables disk sink = record {
+      acks = new.clerk.acks;
+      came = came noted true new.clerk.acks went (inl whole) part;
+      whole = whole;
+      over = subst (λ (d : Load). IsOver d.streams (core_of new.core went.hidden)) went.load
+          (over_at new.core went.order went.hidden went.stands turns opening P_end refl (subst (λ (d : Load). IsWholeRun (setting_of d) d.workers d.streams turns opening P_end) (sym went.load) whole));
+      kept = kept noted true new.clerk.acks went (inl whole) part;
       heard = λ q. subst (λ (f : Bool). Heard held new.clerk.acks f held') (sym sink) (x.heard refl q held first_held);
       sink = λ e. rose_now x.rose (sym sink ∙ e);
-      disk = subst (λ (f : Option ℕ). NamesLowest old.core.load.streams (stops_in (core_of new.core went.hidden)) f) (sym disk)
-          (subst (λ (l : Load). NamesLowest l.streams (stops_in (core_of new.core went.hidden)) new.failed) went.load
+      disk = subst (λ (f : Option ℕ). NamesLowest l.streams (stops_in (core_of new.core went.hidden)) f) (sym disk)
+          (subst (λ (d : Load). NamesLowest d.streams (stops_in (core_of new.core went.hidden)) new.failed) went.load
           (let a = (x.on refl).along in lowest_same new.core.load.streams (core_of new.core a.hidden) (core_of new.core went.hidden) (λ j. refl) new.failed a.lowest));
-      acks = told;
-      fates = fates went.order went.hidden went.stands ∙ ap (λ (l : Load). fates_by (length l.calls) went.order new.clerk.acks) went.load;
+      told = told;
+      fates = fates went.order went.hidden went.stands ∙ ap (λ (d : Load). fates_by (length d.calls) went.order new.clerk.acks) went.load;
       order = order went.order went.hidden went.stands;
-      tables = subst (λ (l : Load). IsTablesOf (sight (setting_of l) (core_of new.core went.hidden)).row end.report.tables) went.load (tables went.order went.hidden went.stands);
+      tables = subst (λ (d : Load). IsTablesOf (sight (setting_of d) (core_of new.core went.hidden)).row end.report.tables) went.load (tables went.order went.hidden went.stands);
     }
 
     -- memory ran out for what it tells
-    not_told : CutShort turns bases old.core ws ws' hears held held' (Rose faults faults')
+    not_told : CutOff by bases l ws ws' hears held held' (Rose faults faults')
     not_told = record {
-      came = record {
-        last = new.core;
-        hidden = went.hidden;
-        order = went.order;
-        events = went.events;
-        told = new.clerk.acks;
-        stands = went.stands;
-        load = went.load;
-        by = whole_part old.core.load turns (core_of old.core nothing) (progress new.core went.hidden went.events went.order new.clerk.acks) (o.stands.sound.workers_low)
-            (from_begun true (progress new.core went.hidden went.events went.order new.clerk.acks) went.moved.0);
-        writers = writers_left seen_now bases (noting old.flushes new.flushes (ran_all turns)) true old.core new.core ws ws' old.clerk.acks new.clerk.acks b.new went;
-      };
+      acks = new.clerk.acks;
+      came = came noted true new.clerk.acks went (inl whole) part;
       count = length new.clerk.acks;
       sink_failed = new.clerk.sink_failed;
       heard = λ q. subst (λ (a : List (ℕ × List ℕ)). Heard held a new.clerk.sink_failed held') (sym (take-length new.clerk.acks)) (x.heard refl q held first_held);
       sink = rose_now x.rose;
     }
 
-    pub calls_same : length new.core.load.calls ≡ length old.core.load.calls
-    calls_same = ap (λ (l : Load). length l.calls) went.load
+    pub calls_same : length new.core.load.calls ≡ length l.calls
+    calls_same = ap (λ (d : Load). length d.calls) went.load
 
     -- by what the end answered
-    pub ran_by : (r : Result RunEnd NoMemory) → IfOk r (λ end. end.report.acks ≡ new.clerk.acks) →
+    pub gave_by_end : (r : Result RunEnd NoMemory) → IfOk r (λ end. end.report.acks ≡ new.clerk.acks) →
         IfOk r (λ end. (K : List (Act Txn)) (h : Hidden) → Stands new.core K h → end.report.fates ≡ fates_by (length new.core.load.calls) K new.clerk.acks) →
         IfOk r (λ end. (K : List (Act Txn)) (h : Hidden) → Stands new.core K h → end.report.order ≡ map (λ (t : Act Txn). t.call.call.number) (reported new.core.ends K)) →
         IfOk r (λ end. (K : List (Act Txn)) (h : Hidden) → Stands new.core K h → IsTablesOf (sight (setting_of new.core.load) (core_of new.core h)).row end.report.tables) →
-        IfOk r (λ end. end.disk ≡ new.failed) → IfOk r (λ end. end.sink_failed ≡ new.clerk.sink_failed) → Ran turns bases old.core ws ws' hears held held' (Rose faults faults') r
-    ran_by (Ok end) told fates order tables disk sink = ended end told fates order tables disk sink
-    ran_by (Err e) told fates order tables disk sink = not_told
+        IfOk r (λ end. end.disk ≡ new.failed) → IfOk r (λ end. end.sink_failed ≡ new.clerk.sink_failed) → Gave by bases l ws ws' hears held held' (Rose faults faults') r
+    gave_by_end (Ok end) told fates order tables disk sink = concluded end told fates order tables disk sink
+    gave_by_end (Err e) told fates order tables disk sink = inl not_told
 
   -- memory ran out on the way
-  pub cut_short : Moves (ran_all turns) false old new ws ws' hears held held' faults faults' → CutShort turns bases old.core ws ws' hears held held' (Rose faults faults')
-  cut_short x =
-      let s = x.went bases [] nothing [] o.stands (begun_kept bases ws old.core o b) in
-      let went = s.went in
+  pub cut_off : Moves (ran_all turns) false old new ws ws' hears held held' faults faults' → CutOff by bases l ws ws' hears held held' (Rose faults faults')
+  cut_off x =
+      let c = x.went bases [] nothing [] o.stands (begun_kept bases ws old.core o b) in
+      let P_cut : Progress = progress new.core c.went.hidden c.went.events c.went.order c.told_now in
+      let part : IsPartOfRun (setting_of l) l.workers l.streams turns opening P_cut = all_part l turns opening P_cut (from_begun false P_cut c.went.moved) in
       record {
-        came = record {
-          last = new.core;
-          hidden = went.hidden;
-          order = went.order;
-          events = went.events;
-          told = s.told_now;
-          stands = went.stands;
-          load = went.load;
-          by = all_part old.core.load turns (core_of old.core nothing) (progress new.core went.hidden went.events went.order s.told_now)
-              (from_begun false (progress new.core went.hidden went.events went.order s.told_now) went.moved);
-          writers = writers_left seen_now bases (ran_all turns) false old.core new.core ws ws' old.clerk.acks s.told_now b.new went;
-        };
-        count = s.count;
+        acks = c.told_now;
+        came = came (ran_all turns) false c.told_now c.went (inr part) part;
+        count = c.count;
         sink_failed = new.clerk.sink_failed;
-        heard = λ q. s.heard q held first_held;
+        heard = λ q. c.heard q held first_held;
         sink = rose_now x.rose;
       }
 

@@ -37,6 +37,7 @@ use Rattle.tau_core.specs.Managers.{Bars}
 use Rattle.tau_core.specs.Steps.{Steps, Happened}
 use Rattle.tau_run.specs.StopsLeave.{HasFront, HasSomeFront}
 use Rattle.tau_run.specs.Turns.{Stays, Goes}
+use Rattle.tau_run.proofs.Flushes.{made_goes, made_stops}
 use Rattle.tau_step.specs.declared.manager.Managing.TheVariants as did
 use Rattle.tau_step.specs.Progressed.{progress}
 use Rattle.tau_step.specs.Keeping.{IsLoaded, FlushTurns}
@@ -54,22 +55,6 @@ kept_at F j x f e = fun_ext (λ i. elim (cases_eq i j) [
 pub spelled_kept : (p p' : Plain) (items : List Item) (bytes : List ℕ) → p'.load ≡ p.load → anchors_at p' ≡ anchors_at p → Spelled p.load (anchors_at p) items bytes → Spelled p'.load (anchors_at p') items bytes
 spelled_kept p p' items bytes load anchors s =
     subst (λ (l : Load). Spelled l (anchors_at p') items bytes) (sym load) (subst (λ (a : ℕ → List (List ℕ)). Spelled p.load a items bytes) (sym anchors) s)
-
--- what the calls of a flush have made of the disk
-module _ {D T : Type 0} (G : Ghosts D) (old new : D) where
-  abbrev FlushMade : Result T Flush → Type 0
-  FlushMade r = HasMade 4 (G.number old) (G.number new) (G.fails old) (G.fails new) (G.short old) (G.short new) r
-
-  pub made_goes : (x : T) (r : Result T Flush) → r ≡ Ok x → FlushMade r → GoesOn G.number G.fails old new
-  made_goes x r e m =
-      let all : MadeAll 4 (G.number old) (G.number new) (G.fails old) (G.short old) (G.short new) = subst (λ (o : Result T Flush). OnOk o (MadeAll 4 (G.number old) (G.number new) (G.fails old) (G.short old) (G.short new))) e m.ok in
-      let count = all.0 in
-      record { same = m.same; later = omega arith; clean = λ k low high. all.2 k low (omega arith) }
-
-  pub made_stops : (x : Flush) (r : Result T Flush) → r ≡ Err x → FlushMade r → (G.short new ≡ true) ⊎ ((G.number old < G.number new) × (G.fails old (G.number new) ≡ true) × ((k : ℕ) → G.number old < k → k < G.number new → G.fails old k ≡ false))
-  made_stops x r e m =
-      let some : MadeSome 4 (G.number old) (G.number new) (G.fails old) (G.short new) = subst (λ (o : Result T Flush). OnErr o (MadeSome 4 (G.number old) (G.number new) (G.fails old) (G.short new))) e m.failed in
-      elim some [ inl (low, high, fails, before) ↦ inr (low, fails, before) | inr short ↦ inl short ]
 
 -- an image with a front of what was gathered
 pub has_front : (n j : ℕ) (catalogue : List ℕ) (p : Plain) (h : Hidden) (before others : List Item) (bytes image : List ℕ) → h.moved j ≡ before ++ others → Spelled p.load (anchors_at p) before bytes →

@@ -37,7 +37,6 @@ mod Rounds
 mod Draining
 mod Staged
 mod LeftOvers
-mod Fates
 mod Whole
 mod Short
 mod Ending
@@ -45,4 +44,3 @@ pub mod Begun
 mod Silent
 mod Noting
 mod Ordered
-pub mod Facts

@@ -6,9 +6,9 @@ use Rattle.std.proofs.lemmas.Grind.{flat_map-append}
 use Rattle.std.proofs.Math.Seq.{take-append_seam, take-append-add}
 use Rattle.std.proofs.lemmas.Bool.{cases_Bool}
 use Rattle.tau_disk.specs.Disk.{Rose}
+use Rattle.tau_run.specs.Heard.{Heard, HeardFront}
 use Rattle.tau_report.specs.Lines.{ack_line}
 use Rattle.tau_report.specs.Report.{ack_lines}
-use Rattle.tau_step.specs.Telling.{Heard, HeardFront}
 
 line_more : (acks : List (ℕ × List ℕ)) (a : ℕ × List ℕ) → ack_lines (acks ++ a ∷ []) ≡ ack_lines acks ++ ack_line a
 line_more acks a = flat_map-append ack_line acks (a ∷ []) ∙ ap (λ (l : List ℕ). ack_lines acks ++ l) (append-nil (ack_line a))

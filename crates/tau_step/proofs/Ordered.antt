@@ -27,14 +27,14 @@ use Rattle.tau_run.proofs.Acks.{turns_law}
 use Rattle.tau_run.proofs.Results.{run_law}
 use Rattle.tau_run.proofs.Start.{started}
 use Rattle.tau_run.specs.StopsLeave.{NamesLowest, stops_in}
+use Rattle.tau_run.specs.Writers.{AreNew}
+use Rattle.tau_run.proofs.Begun.{fresh_begun, fresh_opened, loaded}
 use Rattle.tau_step.specs.declared.run.Run.{Run}
 use Rattle.tau_step.specs.Along.{IsAlong, Went}
 use Rattle.tau_step.specs.Device.{IsFlushOrder, IsOfRun, noting}
 use Rattle.tau_step.specs.RunEffects.{IsOn, Moves}
 use Rattle.tau_step.specs.Progressed.{progress}
 use Rattle.tau_step.specs.Rounding.{ran_all}
-use Rattle.tau_step.specs.RunTold.{AreNew}
-use Rattle.tau_step.proofs.Begun.{fresh_begun, loaded, fresh_opened}
 use Rattle.tau_step.proofs.Ending.{begun_along, begun_kept}
 use Rattle.tau_step.proofs.EffectsInTurn.{lowest_same}
 use Rattle.tau_step.proofs.Whole.{all_whole}

@@ -29,7 +29,7 @@ use Rattle.tau_step.proofs.Resting.{any_none, rest_hand, rest_waiting, busy_none
 use Rattle.tau_step.proofs.Rounding.{none_below}
 use Rattle.tau_step.proofs.Turning.{managed_keep}
 use Rattle.tau_base.proofs.Logic.{not_both}
-use Rattle.tau_run.proofs.RunExists.{record_member}
+use Rattle.tau_run.proofs.Given.{record_member}
 
 pub member_below : (w m : ℕ) → w < m → Member w (below m)
 member_below w zero lt = absurd (omega arith)

@@ -17,9 +17,9 @@ use Rattle.tau_core.specs.View.{Hidden, core_of}
 use Rattle.tau_core.specs.Stands.{Stands}
 use Rattle.tau_run.specs.StopsLeave.{HasFront, HasSomeFront, NamesLowest, stops_in}
 use Rattle.tau_run.specs.Turns.{Progress}
+use Rattle.tau_run.specs.Heard.{Heard}
 use Rattle.tau_step.specs.Keeping.{IsKept}
 use Rattle.tau_step.specs.Progressed.{progress}
-use Rattle.tau_step.specs.Telling.{Heard}
 
 -- items and anchors of each stream are those of before and more
 pub record Grows (s s' : Core) : Type 0 where

@@ -2,12 +2,8 @@ pub mod Progressed
 pub mod Acting
 pub mod Telling
 pub mod Keeping
-pub mod RunTold
 pub mod Along
 pub mod Device
 pub mod Remains
 pub mod Rounding
 pub mod RunEffects
-pub mod Fates
-pub mod Whole
-pub mod Came

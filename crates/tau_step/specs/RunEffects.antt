@@ -12,12 +12,12 @@ use Rattle.tau_core.specs.View.{Hidden, core_of, setting_of, worker_at}
 use Rattle.tau_core.specs.Opens.{nothing}
 use Rattle.tau_core.specs.Stands.{Stands, Stood}
 use Rattle.tau_run.specs.Turns.{Progress, is_busy}
+use Rattle.tau_run.specs.Heard.{Heard}
 use Rattle.tau_step.specs.declared.run.Run.{Run}
 use Rattle.tau_step.specs.Along.{AreKept, IsAlong, Went, WentShort}
 use Rattle.tau_step.specs.Device.{noting}
 use Rattle.tau_step.specs.Progressed.{Comes}
 use Rattle.tau_step.specs.Remains.{sum_below, worker_left}
-use Rattle.tau_step.specs.Telling.{Heard}
 
 -- how much is left of all workers
 abbrev pub total_left : Plain → ℕ

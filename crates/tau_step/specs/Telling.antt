@@ -8,17 +8,9 @@ use Rattle.tau_core.specs.State.{Plain}
 use Rattle.tau_core.specs.View.{Hidden, pending_in}
 use Rattle.tau_report.specs.Report.{ack_lines}
 use Rattle.tau_core.specs.declared.state.Load.{Load}
+use Rattle.tau_run.specs.Heard.{Heard}
 use Rattle.tau_run.specs.Turns.{Progress}
 use Rattle.tau_step.specs.Progressed.{Comes, tells, clears}
-
--- after what it held at first the sink holds a first part of the lines
-abbrev pub HeardFront : List ℕ → List (ℕ × List ℕ) → List ℕ → Type 0
-HeardFront base acks held = (k : ℕ) × (held ≡ base ++ take k (ack_lines acks))
-
--- all of them, where it has not failed
-abbrev pub Heard : List ℕ → List (ℕ × List ℕ) → Bool → List ℕ → Type 0
-Heard base acks false held = held ≡ base ++ ack_lines acks
-Heard base acks true held = HeardFront base acks held
 
 -- A pass of the clerk, whole or cut off when out of memory. Then one call more may be acknowledged than was told, and the
 -- sink was given so many lines.

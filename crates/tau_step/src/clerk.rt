@@ -6,16 +6,17 @@ ghost use Rattle.tau_machine.specs.Hands.{Txn};
 ghost use Rattle.tau_machine.specs.Events as machine;
 ghost use Rattle.tau_core.specs.View.{Hidden};
 ghost use Rattle.tau_core.specs.Stands.{Stands, Stood};
+ghost use Rattle.tau_run.specs.Heard.{Heard};
 ghost use Rattle.tau_step.specs.Progressed.{clears, clerks};
-ghost use Rattle.tau_step.specs.Telling.{Heard, NextTold, Passed, waiting_of};
+ghost use Rattle.tau_step.specs.Telling.{NextTold, Passed, waiting_of};
 
-use crate::sink::write_all;
 use std::alloc::Global;
 use tau_ack::Waiting;
 use tau_base::{Lv, NoMemory};
 use tau_core::Core;
 use tau_disk::Sink;
 use tau_report::{Acks, ack_line};
+use tau_run::write_all;
 
 /// What the clerk has told.
 #[derive(Drop)]

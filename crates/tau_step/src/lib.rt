@@ -7,11 +7,8 @@ mod end;
 mod flushes;
 mod manager;
 mod run;
-mod sink;
 mod top;
 mod worker;
 
 pub use device::device_order;
-pub use end::tell_end;
-pub use sink::write_all;
 pub use top::{run_turns, run_turns_from};

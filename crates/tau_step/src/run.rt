@@ -9,11 +9,12 @@ ghost use Rattle.tau_core.specs.Stands.{Stands, Stood};
 ghost use Rattle.tau_core.specs.View.{Hidden, core_of};
 ghost use Rattle.tau_run.specs.RunFacts.{turns_of};
 ghost use Rattle.tau_run.specs.StopsLeave.{NamesLowest, stops_in};
+ghost use Rattle.tau_run.specs.Heard.{Heard};
 ghost use Rattle.tau_step.specs.Acting.{IsAlone, IsSettling, Settles};
 ghost use Rattle.tau_step.specs.RunEffects.{IsOn, Manages, Moves, Works, calls_over, rests_in, to_flush, total_left};
 ghost use Rattle.tau_step.specs.Progressed.{clerks};
 ghost use Rattle.tau_step.specs.Rounding.{acted_alone, all_idled, all_managed, drained, flushed_by, idled, in_rounds, managed_by, ran_all, ran_behind, ran_last, ran_left_over, rest_of_round, resumed_by, round_by, rounded_by, turned, turned_all, worked_by};
-ghost use Rattle.tau_step.specs.Telling.{Heard, Passed};
+ghost use Rattle.tau_step.specs.Telling.{Passed};
 
 use crate::clerk::Clerk;
 use crate::flushes::Flushes;

@@ -7,9 +7,9 @@ ghost use Rattle.tau_text.specs.Canonical.{declarations_text};
 ghost use Rattle.tau_text.specs.Kept.{AreCalls};
 ghost use Rattle.tau_core.specs.Opens.{Fits, Opened};
 ghost use Rattle.tau_run.specs.Start.{catalogue_of};
-ghost use Rattle.tau_run.specs.RunFacts.{turns_of};
-ghost use Rattle.tau_step.specs.RunTold.{AreNew, Began, Ran, RanFrom, RanNew};
-ghost use Rattle.tau_step.specs.Whole.{IsBegun};
+ghost use Rattle.tau_run.specs.Gives.{Gave, GaveFrom, GaveNew};
+ghost use Rattle.tau_run.specs.RunFacts.{by_turns};
+ghost use Rattle.tau_run.specs.Writers.{AreNew, IsBegun};
 
 use crate::clerk::Clerk;
 use crate::end::end_of;
@@ -41,8 +41,7 @@ pub fn run_turns<D: Disk, K: Sink>(
     requires calls { AreCalls load.now.declarations.procs load.now.calls }
     requires text { length (declarations_text load.now.declarations) ≤ MAX_CATALOGUE }
     requires fresh { AreNew (format_of mode) (λ j. catalogue_of load.now) writers.old.items }
-    ensures ran { Began m mode load.now writers.old.items writers.new.items K.tells (K.held sink.old) (K.held sink.new) (Rose (K.faults sink.old) (K.faults sink.new))
-        (RanNew m mode load.now writers.old.items writers.new.items K.tells (K.held sink.old) (K.held sink.new) (Rose (K.faults sink.old) (K.faults sink.new))) result }
+    ensures ran { GaveNew (by_turns (length writers.old.items) m load.now) m mode load.now writers.old.items writers.new.items K.tells (K.held sink.old) (K.held sink.new) (Rose (K.faults sink.old) (K.faults sink.new)) result }
     ensures faults { K.faults sink.old ≤ K.faults sink.new }
     ensures count { length writers.new.items ≡ length writers.old.items }
 {
@@ -67,8 +66,7 @@ pub fn run_turns_from<D: Disk, K: Sink>(
     requires fits { Fits opening }
     requires begun { (bases : ℕ → List ℕ) × IsBegun (format_of mode) bases writers.old.items opening }
     ensures ran { (bases : ℕ → List ℕ) → IsBegun (format_of mode) bases writers.old.items opening →
-        Began m mode load.now writers.old.items writers.new.items K.tells (K.held sink.old) (K.held sink.new) (Rose (K.faults sink.old) (K.faults sink.new))
-        (RanFrom m mode load.now writers.old.items writers.new.items K.tells (K.held sink.old) (K.held sink.new) (Rose (K.faults sink.old) (K.faults sink.new)) opening bases) result }
+        GaveFrom (by_turns (length opening.ends) m load.now) opening bases m mode load.now writers.old.items writers.new.items K.tells (K.held sink.old) (K.held sink.new) (Rose (K.faults sink.old) (K.faults sink.new)) result }
     ensures faults { K.faults sink.old ≤ K.faults sink.new }
     ensures count { length writers.new.items ≡ length writers.old.items }
 {
@@ -90,7 +88,7 @@ fn go<D: Disk, K: Sink>(
     requires calls { load.now.calls ≡ core.load.calls }
     requires begun { (bases : ℕ → List ℕ) × IsBegun (format_of core.load.mode) bases writers.old.items core.load.opening }
     ensures ran { (bases : ℕ → List ℕ) → IsBegun (format_of core.load.mode) bases writers.old.items core.load.opening →
-        Ran (turns_of load.now) bases core writers.old.items writers.new.items K.tells (K.held sink.old) (K.held sink.new) (Rose (K.faults sink.old) (K.faults sink.new)) result }
+        Gave (by_turns core.load.streams core.load.workers load.now) bases core.load writers.old.items writers.new.items K.tells (K.held sink.old) (K.held sink.new) (Rose (K.faults sink.old) (K.faults sink.new)) result }
     ensures faults { K.faults sink.old ≤ K.faults sink.new }
     ensures count { length writers.new.items ≡ length writers.old.items }
 {

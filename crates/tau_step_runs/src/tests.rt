@@ -3,7 +3,7 @@ ghost use Rattle.tau_base.specs.declared.format.Format.TheVariants.{One};
 ghost use Rattle.tau_base.specs.declared.limits.TheConstants.{MAX_CATALOGUE, MAX_LSN, MAX_WORKERS};
 ghost use Rattle.tau_text.specs.Canonical.{declarations_text};
 ghost use Rattle.tau_run.specs.Start.{catalogue_of};
-ghost use Rattle.tau_step.specs.RunTold.{AreNew};
+ghost use Rattle.tau_run.specs.Writers.{AreNew};
 
 use arrayvec::ArrayVec;
 use std::alloc::Global;

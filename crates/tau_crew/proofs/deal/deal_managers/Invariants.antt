@@ -1,7 +1,7 @@
 use Rattle.std.proofs.Common.{◌≡◌, ℕ, List, drop, length}
 use Rattle.std.specs.Prelude.{vec_capacity}
 use Rattle.tau_base.specs.Modes.{format_of}
-use Rattle.tau_step.specs.Whole.{IsBegun}
+use Rattle.tau_run.specs.Writers.{IsBegun}
 use Rattle.tau_crew.specs.Dealing.{AreDealt, IsDealing, KeepsWorkers}
 use Rattle.tau_crew.proofs.deal.deal_managers.Given as goal
 

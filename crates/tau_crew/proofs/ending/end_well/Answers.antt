@@ -1,7 +1,7 @@
 use Rattle.std.proofs.Common.{◌∙◌, List, length, sym, ap, subst, ℕ}
 use Rattle.std.specs.List.{All}
 use Rattle.tau_core.specs.declared.state.Load.{Load}
-use Rattle.tau_step.specs.Fates.{IsNumberOf}
+use Rattle.tau_run.specs.Fates.{IsNumberOf}
 use Rattle.tau_crew.specs.declared.told.Told.{Told}
 use Rattle.tau_crew.proofs.EndDone.{done_keeps}
 use Rattle.tau_crew.proofs.EndTells.{ends_ran, told_numbers}

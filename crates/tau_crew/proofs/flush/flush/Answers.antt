@@ -1,6 +1,6 @@
 use Rattle.std.proofs.Common.{◌∙◌, sym, arith}
-use Rattle.tau_step.proofs.Flushing.{made_goes, made_stops}
 use Rattle.tau_stream.specs.declared.flush.Flush.TheVariants as flush
+use Rattle.tau_run.proofs.Flushes.{made_goes, made_stops}
 use Rattle.tau_crew.proofs.Driving.{driven_broke, driven_flushed, left_long}
 use Rattle.tau_crew.proofs.flush.flush.Goals as goal
 

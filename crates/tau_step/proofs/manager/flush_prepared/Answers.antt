@@ -2,8 +2,9 @@ use Rattle.std.proofs.Common.{sym, subst, ◌∙◌}
 use Rattle.tau_stream.specs.declared.flush.Flush.TheVariants as flush
 use Rattle.tau_step.specs.declared.manager.Managing.TheVariants as did
 use Rattle.tau_core.specs.Answered.{reached_by}
+use Rattle.tau_run.proofs.Flushes.{made_goes, made_stops}
 use Rattle.tau_step.specs.Keeping.{FlushTurns}
-use Rattle.tau_step.proofs.Flushing.{made_goes, made_stops, flush_done, flush_failed, flush_idle}
+use Rattle.tau_step.proofs.Flushing.{flush_done, flush_failed, flush_idle}
 use Rattle.tau_step.proofs.manager.flush_prepared.Goals as goal
 
 pub returns-in-Ok : goal.returns-in-Ok

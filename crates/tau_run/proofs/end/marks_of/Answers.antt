@@ -1,8 +1,8 @@
 use Rattle.std.proofs.Common.{ℕ, ◌-◌, ◌∙◌, Bool, true, List, take, sym, ap}
 use Rattle.std.specs.Prelude.{slice_set}
-use Rattle.tau_step.specs.Fates.{IsNumberOf, marks_in}
-use Rattle.tau_step.proofs.Fates.{marks_none, marks_more, told_more, told_number}
-use Rattle.tau_step.proofs.end.marks_of.Goals as goal
+use Rattle.tau_run.specs.Fates.{IsNumberOf, marks_in}
+use Rattle.tau_run.proofs.Fates.{marks_none, marks_more, told_more, told_number}
+use Rattle.tau_run.proofs.end.marks_of.Goals as goal
 
 pub loop-i-init : goal.loop-i-init
 loop-i-init c = c.in_ok-marks.ensures.items_if_clones_equal (λ y e. e) ∙ marks_none c.args.calls

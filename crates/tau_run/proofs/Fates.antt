@@ -27,8 +27,7 @@ use Rattle.tau_report.specs.declared.report.Fate.TheVariants.{Unrun}
 use Rattle.tau_run.specs.Run.{below, fate}
 use Rattle.tau_run.proofs.CommittedTold.{Apart, apart_reordered}
 use Rattle.tau_run.proofs.Order.{again_of}
-use Rattle.tau_step.specs.RunTold.{fates_by, is_told, reply_at}
-use Rattle.tau_step.specs.Fates.{IsNumberOf, fates_in, marks_in, reply_in}
+use Rattle.tau_run.specs.Fates.{IsNumberOf, fates_by, fates_in, is_told, marks_in, reply_at, reply_in}
 use Rattle.tau_base.proofs.Logic.{if_true, if_false}
 
 -- a function of the numbers below one, as a list

@@ -6,10 +6,10 @@ use Rattle.tau_model.specs.declared.committed.Committed.{Committed}
 use Rattle.tau_model.proofs.Places.{drop_before}
 use Rattle.tau_report.specs.declared.report.Fate.{Fate}
 use Rattle.tau_run.specs.Run.{fate}
-use Rattle.tau_step.specs.RunTold.{is_told}
-use Rattle.tau_step.specs.Fates.{IsNumberOf, fates_in}
-use Rattle.tau_step.proofs.Fates.{get_below, fates_none, fates_more}
-use Rattle.tau_step.proofs.end.fates_of.Goals as goal
+use Rattle.tau_run.specs.Fates.{is_told}
+use Rattle.tau_run.specs.Fates.{IsNumberOf, fates_in}
+use Rattle.tau_run.proofs.Fates.{get_below, fates_none, fates_more}
+use Rattle.tau_run.proofs.end.fates_of.Goals as goal
 
 pub loop-i-init : goal.loop-i-init
 loop-i-init c =

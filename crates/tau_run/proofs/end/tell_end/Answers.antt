@@ -2,9 +2,9 @@ use Rattle.std.proofs.Common.{ℕ, ◌∙◌, List, sym, ap, subst}
 use Rattle.std.specs.List.{All}
 use Rattle.tau_model.specs.declared.committed.Committed.{Committed}
 use Rattle.tau_model.specs.Committed.{IsWithin, reported_numbers}
-use Rattle.tau_step.specs.Fates.{IsNumberOf, fates_in}
-use Rattle.tau_step.proofs.Fates.{committed_numbers, committed_within, fates_stand, order_stands}
-use Rattle.tau_step.proofs.end.tell_end.Goals as goal
+use Rattle.tau_run.specs.Fates.{IsNumberOf, fates_in}
+use Rattle.tau_run.proofs.Fates.{committed_numbers, committed_within, fates_stand, order_stands}
+use Rattle.tau_run.proofs.end.tell_end.Goals as goal
 
 pub fates_of-requires-clause-committed : goal.fates_of-requires-clause-committed
 fates_of-requires-clause-committed c =
