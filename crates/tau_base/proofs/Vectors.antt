@@ -105,11 +105,6 @@ join_so_far u v w n all e below above = join_from u v w e (λ k. elim (leb_tells
   | inr h ↦ below k h.1
 ])
 
-pub join_comm : (v w : List ℕ) → join v w ≡ join w v
-join_comm v w =
-    let wide = join_wider v w in
-    join_from (join v w) w v (omega (arith, wide.0, wide.1, wide.2)) (λ k. let at = join_at v w k in omega (arith, at))
-
 -- a vector that zeros were put after joins to the same
 pub join_widened : (v u w : List ℕ) → length v < length w → length u ≡ length w → ((k : ℕ) → k < length w → slice_index u k ≡ slice_index v k) → join u w ≡ join v w
 join_widened v u w narrow wide same =

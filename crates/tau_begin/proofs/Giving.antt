@@ -34,10 +34,6 @@ pub on_ok_then : {A E : Type 0} (P Q : Type 0) (r : Result A E) → OnOk r P →
 on_ok_then P Q (Ok x) is then_so = then_so is
 on_ok_then P Q (Err e) is then_so = tt
 
-pub on_ok_all : {A E : Type 0} (P : Type 0) (r : Result A E) → P → OnOk r P
-on_ok_all P (Ok x) is = is
-on_ok_all P (Err e) is = tt
-
 pub if_ok_both : {A E : Type 0} (P Q R : A → Type 0) (r : Result A E) → IfOk r P → IfOk r Q → ((x : A) → P x → Q x → R x) → IfOk r R
 if_ok_both P Q R (Ok x) is also then_so = then_so x is also
 if_ok_both P Q R (Err e) is also then_so = tt

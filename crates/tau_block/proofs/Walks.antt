@@ -4,15 +4,7 @@ use Rattle.std.specs.Int.{w32, to_be_bytes}
 use Rattle.std.proofs.lemmas.List.{take_at, drop_more, drop-drop, length-take-le, append-nil}
 use Rattle.tau_base.specs.declared.format.Format.{Format}
 use Rattle.tau_block.specs.Image.{extended, bodies, block_of, IsFront, IsLog, IsHeader, IsBlockAt, IsWalked, header_fault, format_in, count_in, image_of, with_count}
-use Rattle.tau_block.proofs.Blocks.{extended_extended, extended_nil, bodies_block, bodies_shut, front_block, front_head, headed}
-
--- at the first gate
-pub walked_none : (image : List ℕ) → 16 < length image → IsWalked image 16 []
-walked_none image long = record {
-  within = long;
-  reads = sym (extended_nil (bodies 0 (drop 16 image)));
-  front = λ f n j header. front_head f n j (take 16 image) header;
-}
+use Rattle.tau_block.proofs.Blocks.{extended_extended, bodies_block, bodies_shut, front_block, headed}
 
 module _ (image : List ℕ) (gate_at : ℕ) (content : List ℕ) (is : IsWalked image gate_at content) where
   gate : (value : ℕ) → get_or image gate_at 0 ≡ value → drop gate_at image ≡ value ∷ drop (gate_at + 1) image

@@ -111,17 +111,6 @@ framed_of slot image c h = record {
 pub body_of : (c : Checkpoint) → FitsCheckpoint c → IsBody (length c.lv) (body_text c) c
 body_of c fits = record { fits = fits; width = refl; text = refl }
 
--- an image with this frame and body holds the checkpoint
-pub holds_of : (slot : ℕ) (image : List ℕ) (streams : ℕ) (body : List ℕ) (c : Checkpoint) → slot ≤ 1 → IsFramed slot image streams body → IsBody streams body c → Holds slot image c
-holds_of slot image streams body c low f b = record {
-  slot_is = low;
-  fits = b.fits;
-  rest = f.rest;
-  parts = f.parts
-      ∙ (λ i. 1 ∷ (frame (sym b.width i) slot (length (b.text i)) ++ (b.text i ++ f.rest)))
-      ∙ ap (λ (l : List ℕ). 1 ∷ l) (sym (append_assoc (frame (length c.lv) slot (length (body_text c))) (body_text c) f.rest));
-}
-
 pub same_checkpoint : (streams : ℕ) (body : List ℕ) (c d : Checkpoint) → IsBody streams body c → IsBody streams body d → c ≡ d
 same_checkpoint streams body c d p q =
     let h = one_head streams body (head_of c) (head_of d) (flat_map write c.rows) (flat_map write d.rows) (begins_of streams body c p) (begins_of streams body d q) in

@@ -18,9 +18,6 @@ use Rattle.tau_core.specs.Parts.{idle, all_idle, nobody}
 abbrev pub IsFree : Worker → Type 0
 IsFree wk = (h : Hand) → wk.hand ≡ Some h → (act_of h.phase ≡ None) × (h.held ≡ [])
 
-idle_free : (wk : Worker) → IsFree (idle wk)
-idle_free wk h e = absurd (let bad : None ≡ Some h = e in cc)
-
 idle_same : (wk : Worker) → wk.hand ≡ None → idle wk ≡ wk
 idle_same wk e = λ i. record wk { hand = sym e i }
 

@@ -16,20 +16,11 @@ each_snoc P [] x all q (suc i) a e = absurd (let bad : None ≡ Some a = e in cc
 each_snoc P (y ∷ ys) x all q zero a e = all zero a e
 each_snoc P (y ∷ ys) x all q (suc i) a e = each_snoc (λ k b. P (suc k) b) ys x (λ k b f. all (suc k) b f) q i a e
 
-pub no_element : {A : Type 0} (P : ℕ → A → Type 0) (i : ℕ) (a : A) → slice_get [] i ≡ Some a → P i a
-no_element P i a e = absurd (let bad : None ≡ Some a = e in cc)
-
-pub seats_none : (streams : ℕ) (mode : LogMode) → AreSeats 0 streams mode []
-seats_none streams mode = record { count = refl; each = no_element (IsSeatAtRest streams mode) }
-
 pub seats_more : (w streams : ℕ) (mode : LogMode) (xs : List PlainSeat) (x : PlainSeat) → AreSeats w streams mode xs → IsSeatAtRest streams mode w x → AreSeats (w + 1) streams mode (xs ++ x ∷ [])
 seats_more w streams mode xs x a r = record {
   count = length_snoc xs x ∙ ap (λ (n : ℕ). n + 1) a.count;
   each = each_snoc (IsSeatAtRest streams mode) xs x a.each (subst (λ (n : ℕ). IsSeatAtRest streams mode n x) (sym a.count) r);
 }
-
-pub streams_none : AreStreams 0 []
-streams_none = record { count_is = refl; each = no_element (λ j s. IsStreamAtRest s) }
 
 pub streams_more : (j : ℕ) (xs : List PlainStream) (x : PlainStream) → AreStreams j xs → IsStreamAtRest x → AreStreams (j + 1) (xs ++ x ∷ [])
 streams_more j xs x a r = record {

@@ -1,6 +1,6 @@
 -- A row is put into a shard that nobody has locked: its key is locked, freed with the value, and its entry is dropped.
 use Rattle.std.proofs.Common.{ℕ, ◌<◌, ◌≤◌, ◌≡◌, Bool, true, false, ◌⊎◌, inl, inr, List, [], ◌∷◌, length, refl, sym, ap, subst, ◌∙◌, Option, arith}
-use Rattle.std.specs.Prelude.{Some, None, not, ◌==◌, ◌&&◌, if◌then◌else◌, cond, slice_get, slice_set}
+use Rattle.std.specs.Prelude.{Some, None, ◌==◌, ◌&&◌, if◌then◌else◌, cond, slice_get, slice_set}
 use Rattle.std.specs.Option.{unwrap_or}
 use Rattle.std.specs.Map.{lookup}
 use Rattle.std.proofs.lemmas.Bool.{cases_eq}
@@ -22,17 +22,9 @@ use Rattle.tau_machine.specs.Shard.{at, entry_in, put_entry, held_as, shard_lock
 use Rattle.tau_machine.proofs.At.{at_same, at_other, entry_same}
 use Rattle.tau_shard.specs.Plain.{PlainShard}
 use Rattle.tau_shard.specs.Read.{shard_of}
-use Rattle.tau_shard.specs.Blocks.{IsLowest, blocks, empty}
+use Rattle.tau_shard.specs.Blocks.{empty}
 use Rattle.tau_core.specs.Opens.{IsUnlocked, PutsRow, IsShardAtRest, AreShards}
 use Rattle.tau_core.proofs.Lists.{got_same, got_other}
-
--- a key without an entry is held by nobody
-pub never_busy : (sh : machine.Shard) (x : Key) (w u : ℕ) (m : Mode) → sh.entries x ≡ None → IsLowest (entry_in sh x) w m u → ⊥
-never_busy sh x w u m none lowest = by_case (not (u == w)) (subst (λ (o : Option machine.Entry). blocks (machine.entry_or sh.floor o) w m u ≡ true) none lowest.0)
-  where
-    by_case : (b : Bool) → (b && false) ≡ true → ⊥
-    by_case true e = cc e
-    by_case false e = cc e
 
 -- the entry of a key that one worker has locked and freed
 abbrev nobody : ℕ → Option Mode

@@ -21,10 +21,6 @@ next_number calls s = number_by calls s.next s.again
 abbrev pub HasNext : Plain → ℕ → ℕ → Type 0
 HasNext p w n = (s : PlainSeat) → slice_get p.seats w ≡ Some s → next_number (length p.load.calls) s ≡ Some n
 
--- where the worker stands after its next call
-abbrev pub again_behind : Option ℕ → Option ℕ
-again_behind a = None
-
 abbrev pub next_behind : ℕ → ℕ → Option ℕ → ℕ
 next_behind workers next (Some n) = next
 next_behind workers next None = next + workers

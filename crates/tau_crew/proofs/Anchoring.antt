@@ -9,12 +9,11 @@ use Rattle.tau_record.specs.declared.entry.Entry.TheVariants as entry
 use Rattle.tau_record.proofs.ContentLaws.{spelling_long}
 use Rattle.tau_outbox.specs.declared.Piece.{Piece}
 use Rattle.tau_core.specs.declared.state.Load.{Load}
-use Rattle.tau_rule.specs.Positions.{sees_to}
 use Rattle.tau_desk.specs.Manages.{OnlyRoom, PlacesAnchor, told_raised}
 use Rattle.tau_desk.specs.Seats.{PlainManagerSeat}
 use Rattle.tau_crew_facts.specs.Spacing.{IsSpacing, newest}
 use Rattle.tau_crew_facts.specs.Writers.{HasWritten}
-use Rattle.tau_crew_facts.proofs.Spacing.{newest_more, spacing_places, spacing_stays}
+use Rattle.tau_crew_facts.proofs.Spacing.{newest_more, spacing_places}
 use Rattle.tau_crew.specs.Gathering.{AreLong, raised_in, taken_in}
 use Rattle.tau_disk.specs.declared.disk.Disk.{Ghosts}
 use Rattle.tau_stream.specs.declared.writer.Writer.{Writer}
@@ -48,19 +47,6 @@ keeps_on s1 s2 s3 p q = record {
   long = λ a. q.long (p.long a);
 }
 
--- another stream was looked at
-pub keeps_looked : (s s' : PlainManagerSeat) (other found : ℕ) → (other ≡ s.stream → ⊥) → s' ≡ record s { me = (sees_to other found s.me.0, s.me.1); seen = slice_set s.seen other found } → KeepsSeat s s'
-keeps_looked s s' other found ne e = record {
-  table = ap (λ (x : PlainManagerSeat). x.table_id) e;
-  stream = ap (λ (x : PlainManagerSeat). x.stream) e;
-  opened = ap (λ (x : PlainManagerSeat). x.me.0.opened) e;
-  raised = ap (λ (x : PlainManagerSeat). raised_in x.me.0) e;
-  taken = ap taken_in e;
-  gathered = ap (λ (x : PlainManagerSeat). x.stock.gathered) e;
-  stored = ap (λ (x : PlainManagerSeat). slice_index x.seen s.stream) e ∙ set_elsewhere s.seen other s.stream found ne;
-  long = λ a. subst (λ (x : PlainManagerSeat). AreLong x.stock.own.pieces) (sym e) a;
-}
-
 -- only room was made
 pub keeps_room : (s s' : PlainManagerSeat) → OnlyRoom s.stock s'.stock × (s' ≡ record s { stock = s'.stock }) → KeepsSeat s s'
 keeps_room s s' (o, e) = record {
@@ -92,16 +78,6 @@ keeps_placed l s s' p =
 pub keeps_anchored : (l : Load) (s1 s2 s3 : PlainManagerSeat) (r : Result Unit NoMemory) → KeepsSeat s1 s2 → OnOk r (PlacesAnchor l s2 s3) → OnErr r (s3 ≡ s2) → KeepsSeat s1 s3
 keeps_anchored l s1 s2 s3 (Ok u) k ok err = keeps_on s1 s2 s3 k (keeps_placed l s2 s3 ok)
 keeps_anchored l s1 s2 s3 (Err e) k ok err = keeps_on s1 s2 s3 k (keeps_same s2 s3 err)
-
--- no anchor is due
-pub apart_stays : (base before durable last placed : ℕ) (s s' : PlainManagerSeat) → IsApart base before last placed s → IsBlock before durable → durable < last + ANCHOR_BYTES → s'.stream ≡ s.stream → s'.stock.anchors ≡ s.stock.anchors → IsApart base durable last placed s'
-apart_stays base before durable last placed s s' a block near stream anchors =
-    let same : own_of s'.stream s'.stock.anchors ≡ own_of s.stream s.stock.anchors = ap (λ (j : ℕ). own_of j s'.stock.anchors) stream ∙ ap (own_of s.stream) anchors in
-    record {
-      spacing = subst (λ (xs : List ℕ). IsSpacing base durable xs) (sym same) (spacing_stays base before durable (own_of s.stream s.stock.anchors) a.spacing block.0 (let e = a.last_is in omega (arith, near, e)));
-      last_is = a.last_is ∙ ap (newest base) (sym same);
-      placed_is = a.placed_is ∙ ap (length {A = List ℕ}) (sym anchors);
-    }
 
 -- one is placed, whose own component is what is durable now
 pub apart_places : (base before durable last placed : ℕ) (s s' : PlainManagerSeat) (v : List ℕ) → IsApart base before last placed s → IsBlock before durable → last + ANCHOR_BYTES ≤ durable → s'.stream ≡ s.stream → s'.stock.anchors ≡ s.stock.anchors ++ v ∷ [] → slice_index v s.stream ≡ durable →

@@ -17,18 +17,18 @@ use Rattle.tau_report.specs.Report.{ack_lines}
 use Rattle.tau_rule.specs.Boxes.{BoxOf, box_in}
 use Rattle.tau_rule.specs.Role.{Role}
 use Rattle.tau_rule.specs.Rule.{IsPart, Now, outbox_part}
-use Rattle.tau_rule.specs.Steps.{Sat, first_role}
+use Rattle.tau_rule.specs.Steps.{first_role}
 use Rattle.tau_rule.specs.declared.part.Part.{Part}
 use Rattle.tau_rule.specs.declared.part.Part.TheVariants as part
-use Rattle.tau_desk.specs.Manages.{AcksFirst, SeesOn, acked_in, acked_in_share, told_raised}
+use Rattle.tau_desk.specs.Manages.{AcksFirst, acked_in, acked_in_share}
 use Rattle.tau_desk.specs.Seats.{Clerks, PlainClerkSeat}
 use Rattle.tau_crew_facts.specs.Telling.{IsTelling}
-use Rattle.tau_crew_facts.proofs.Telling.{pending_own, telling_more, telling_sees}
+use Rattle.tau_crew_facts.proofs.Telling.{pending_own, telling_more}
 use Rattle.tau_crew.specs.declared.told.Told.{Told}
 use Rattle.tau_crew.specs.Gathering.{raised_in}
 use Rattle.tau_crew.specs.Clerking.{Acknowledges, IsSameClerk, IsSoFar, all_told, with_missing}
 use Rattle.tau_base.proofs.Logic.{up_to_or_above}
-use Rattle.tau_run.specs.Heard.{Heard, HeardFront}
+use Rattle.tau_run.specs.Heard.{HeardFront}
 
 pub lines_append : (xs ys : List (ℕ × List ℕ)) → ack_lines (xs ++ ys) ≡ ack_lines xs ++ ack_lines ys
 lines_append [] ys = refl
@@ -43,10 +43,6 @@ front_more base acks more held (k, e) = elim (up_to_or_above k (length (ack_line
     e ∙ ap (λ (l : List ℕ). base ++ l) (take_all k (ack_lines acks) (omega (arith, gt)) ∙ sym (take-append_seam (ack_lines acks) (ack_lines more)) ∙ ap (take (length (ack_lines acks))) (sym (lines_append acks more))),
   )
 ]
-
--- nothing is told
-pub so_far_begins : (base : List ℕ) → IsSoFar base [] [] false base
-so_far_begins base = record { told = []; more = []; is = refl; held_is = sym (append-nil base); lines_are = refl }
 
 -- a line more
 pub so_far_put : (base : List ℕ) (acks : List (ℕ × List ℕ)) (a : ℕ × List ℕ) (lines : List ℕ) (failed : Bool) (held : List ℕ) → IsSoFar base acks lines failed held → IsSoFar base (acks ++ a ∷ []) (lines ++ ack_line a) failed held
@@ -79,13 +75,6 @@ so_far_cut base acks lines held held' k now w = (
       ∙ ap (λ (l : List ℕ). base ++ l) (sym (take-append-add (ack_lines w.told) (ack_lines w.more) k)) ∙ ap (λ (l : List ℕ). base ++ take (length (ack_lines w.told) + k) l) (sym (lines_append w.told w.more))
       ∙ ap (λ (xs : List (ℕ × List ℕ)). base ++ take (length (ack_lines w.told) + k) (ack_lines xs)) (sym w.is),
 )
-
--- where no line waits, all are heard
-pub so_far_heard : (base : List ℕ) (acks : List (ℕ × List ℕ)) (failed : Bool) (held : List ℕ) → IsSoFar base acks [] failed held → Heard base acks failed held
-so_far_heard base acks true held h = h
-so_far_heard base acks false held w =
-    let none : ack_lines acks ≡ ack_lines w.told = ap ack_lines w.is ∙ lines_append w.told w.more ∙ ap (λ (l : List ℕ). ack_lines w.told ++ l) (sym w.lines_are) ∙ append-nil (ack_lines w.told) in
-    w.held_is ∙ ap (λ (l : List ℕ). base ++ l) (sym none)
 
 -- ---- the seat
 
@@ -124,12 +113,6 @@ tells_first origin s s' w call acks acks' c opened lt a more t =
     subst (λ (xs : List (ℕ × List ℕ)). IsTelling origin.load (acked_in s'.me.0) s'.seen xs) (sym more)
     (subst (λ (x : PlainClerkSeat). IsTelling origin.load (acked_in x.me.0) x.seen (acks ++ (call.number, call.lv) ∷ [])) (sym a.after) now)
 
--- positions were looked at
-pub tells_seen : (l : Load) (s s' : PlainClerkSeat) (acks : List (ℕ × List ℕ)) → SeesOn s.me s'.me s.seen s'.seen → IsTelling l (acked_in s.me.0) s.seen acks → IsTelling l (acked_in s'.me.0) s'.seen acks
-tells_seen l s s' acks sees t =
-    let same : acked_in s'.me.0 ≡ acked_in s.me.0 = ap (λ (m : Sat). acked_in m.0) sees.knows in
-    subst (λ (xs : List (List Ticket)). IsTelling l xs s'.seen acks) (sym same) (telling_sees l (acked_in s.me.0) s.seen s'.seen acks sees.up t)
-
 -- ---- one call of a worker
 
 pub same_acks : (origin : Plain) (s s' : PlainClerkSeat) (w : ℕ) (call : Waiting) → AcksFirst origin s w call s' → IsSameClerk s s'
@@ -137,9 +120,6 @@ same_acks origin s s' w call a = record { table = ap (λ (x : PlainClerkSeat). x
 
 pub same_none : (s s' : PlainClerkSeat) → s' ≡ s → IsSameClerk s s'
 same_none s s' e = record { table = ap (λ (x : PlainClerkSeat). x.table_id) e; opened = ap (λ (x : PlainClerkSeat). x.me.0.opened) e }
-
-pub same_seen : (s s' : PlainClerkSeat) → SeesOn s.me s'.me s.seen s'.seen → s' ≡ record s { me = s'.me; seen = s'.seen } → IsSameClerk s s'
-same_seen s s' sees e = record { table = ap (λ (x : PlainClerkSeat). x.table_id) e; opened = ap (λ (m : Sat). m.0.opened) sees.knows }
 
 pub same_on : (s1 s2 s3 : PlainClerkSeat) → IsSameClerk s1 s2 → IsSameClerk s2 s3 → IsSameClerk s1 s3
 same_on s1 s2 s3 a b = record { table = b.table ∙ a.table; opened = b.opened ∙ a.opened }
@@ -188,10 +168,3 @@ acknowledges_missing origin s s' w call t t' c opened lt a none same missing lin
       (subst (λ (l : List ℕ). IsSoFar base t'.acks l t.sink_failed held) (sym lines) (subst (λ (xs : List (ℕ × List ℕ)). IsSoFar base xs t.lines.items t.sink_failed held) (sym same) h));
   sink = sink;
 }
-
--- the stop was raised
-pub tells_stopped : (l : Load) (s s' : PlainClerkSeat) (acks : List (ℕ × List ℕ)) → s' ≡ record s { me = (told_raised s.me.0, s.me.1) } → IsTelling l (acked_in s.me.0) s.seen acks → IsTelling l (acked_in s'.me.0) s'.seen acks
-tells_stopped l s s' acks e t = subst (λ (x : PlainClerkSeat). IsTelling l (acked_in x.me.0) x.seen acks) (sym e) t
-
-pub same_stopped : (s s' : PlainClerkSeat) → s' ≡ record s { me = (told_raised s.me.0, s.me.1) } → IsSameClerk s s'
-same_stopped s s' e = record { table = ap (λ (x : PlainClerkSeat). x.table_id) e; opened = ap (λ (x : PlainClerkSeat). x.me.0.opened) e }

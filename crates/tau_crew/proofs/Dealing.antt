@@ -1,6 +1,6 @@
 -- A manager's seat leaves the head.
 use Rattle.std.proofs.Common.{ℕ, zero, suc, ◌+◌, ◌-◌, ◌<◌, ◌≡◌, inl, inr, Bool, false, List, [], ◌∷◌, ◌++◌, length, refl, sym, ap, subst, ◌∙◌, arith, slice_index}
-use Rattle.std.specs.Prelude.{replicate, None, Option, Some, drop, if◌then◌else◌, slice_get, slice_index_or}
+use Rattle.std.specs.Prelude.{None, Option, Some, drop, if◌then◌else◌, slice_get, slice_index_or}
 use Rattle.std.specs.List.{remove}
 use Rattle.std.proofs.lemmas.Bool.Decides.{leb_tells}
 use Rattle.atomic_table.specs.Seated.{TableId}
@@ -15,13 +15,10 @@ use Rattle.tau_rule.specs.Knows.{Knows}
 use Rattle.tau_rule.specs.Role.{Managed, Role, role_in}
 use Rattle.tau_rule.specs.Rule.{clerk_role, has, manager_role}
 use Rattle.tau_rule.specs.Steps.{Sat}
-use Rattle.tau_desk.specs.Ends.{IsClerkSplit, IsFirst, IsManagerSplit, IsWhole}
+use Rattle.tau_desk.specs.Ends.{IsFirst, IsManagerSplit, IsWhole}
 use Rattle.tau_desk.specs.Shares.{PlainStock}
-use Rattle.tau_machine.specs.State.{Ticket}
-use Rattle.tau_crew_facts.specs.Telling.{IsTelling}
-use Rattle.tau_crew_facts.proofs.Telling.{telling_begins}
-use Rattle.tau_desk.specs.Manages.{acked_in, acked_in_share, managed_in, managed_in_share}
-use Rattle.tau_desk.specs.Seats.{Heads, Manages, PlainClerkSeat, PlainHead, PlainManagerSeat}
+use Rattle.tau_desk.specs.Manages.{managed_in, managed_in_share}
+use Rattle.tau_desk.specs.Seats.{Heads, Manages, PlainHead, PlainManagerSeat}
 use Rattle.tau_crew_facts.specs.Writers.{SeenNow}
 use Rattle.tau_crew.specs.declared.manager.ManagerJob.{ManagerJob}
 use Rattle.tau_crew.specs.Dealing.{AreDealt, DealsOne, IsDealing, IsDealt}
@@ -181,37 +178,3 @@ dealing_begins first table h f whole heads own =
     stock_there (Some o) no_stock = (o, refl)
 
 -- ---- the clerk
-
-clerk_share_is : (first : Plain) → share_at first (clerk_role first.load) ≡ clerk_share first
-clerk_share_is first = elim (leb_tells (clerk_role first.load + 1) first.load.workers) [
-  | inl a ↦ absurd (let low = a.1 in omega (arith, low))
-  | inr a ↦
-      ap (λ (b : Bool). if b then worker_share first (clerk_role first.load) else outer_share first (clerk_role first.load)) a.0
-      ∙ elim (leb_tells (clerk_role first.load + 1) (first.load.workers + first.load.streams)) [
-        | inl b ↦ absurd (let high = b.1 in omega (arith, high))
-        | inr b ↦ ap (λ (c : Bool). if c then manager_share first (clerk_role first.load) else clerk_share first) b.0
-      ]
-]
-
-none_acked : (n w : ℕ) (acked : List (List Ticket)) → acked ≡ replicate n [] → slice_index_or acked w [] ≡ []
-none_acked n w acked e = ap (λ (xs : List (List Ticket)). slice_index_or xs w []) e ∙ at n w
-  where
-    no_tickets : List Ticket
-    no_tickets = []
-
-    at : (n w : ℕ) → slice_index_or (replicate n no_tickets) w no_tickets ≡ no_tickets
-    at zero w = refl
-    at (suc n) zero = refl
-    at (suc n) (suc w) = at n w
-
--- the clerk's seat has told nothing
-pub clerk_begins : (first : Plain) (table : TableId) (k : ℕ) (h h' : PlainHead) (s : PlainClerkSeat) → IsDealing first table k h → IsClerkSplit first.load h h' s → (s.table_id ≡ table) × (s.me.0.opened ≡ Some first) × IsTelling first.load (acked_in s.me.0) s.seen []
-clerk_begins first table k h h' s d split =
-    let r : ℕ = clerk_role first.load in
-    let me : s.me.0 ≡ split_off r h.me.0 = ap (λ (m : Sat). m.0) split.split.new_is in
-    let role : role_or (role_in r h.me.0.roles) ≡ role_at first r = ap role_or d.clerk.1 in
-    let acked : acked_in s.me.0 ≡ replicate first.load.workers [] = ap acked_in me ∙ ap (λ (x : Role). acked_in_share x.share) role ∙ ap acked_in_share (clerk_share_is first) in (
-      split.table ∙ d.own,
-      ap (λ (v : Knows). v.opened) me ∙ d.opened,
-      telling_begins first.load (acked_in s.me.0) s.seen (λ w lt. none_acked first.load.workers w (acked_in s.me.0) acked),
-    )

@@ -20,10 +20,6 @@ use Rattle.tau_crew.specs.Gathering.{AreLong, GathersMore, raised_in, taken_in}
 use Rattle.tau_crew.specs.Driving.{IsDriven, IsDrivenShort, IsFlushed}
 use Rattle.tau_crew.proofs.Gathering.{long_back}
 
-none_long : (xs : List ℕ) → length xs ≡ 0 → xs ≡ []
-none_long [] e = refl
-none_long (x ∷ xs) e = absurd (omega (arith, e))
-
 drop_long : (xs : List ℕ) (k : ℕ) → k ≡ length xs → drop k xs ≡ []
 drop_long xs k e = subst (λ (i : ℕ). drop i xs ≡ []) (sym e) (all xs)
   where

@@ -44,7 +44,7 @@ use Rattle.tau_crew.proofs.Driving.{set_there}
 use Rattle.tau_crew.proofs.EndDone.{index_map}
 use Rattle.tau_crew.proofs.EndSettles.{set_other}
 use Rattle.tau_crew.proofs.ManagerEnds.{manager_done}
-use Rattle.tau_base.proofs.Lists.{same_list, got_within}
+use Rattle.tau_base.proofs.Lists.{got_within}
 use Rattle.tau_desk.proofs.CloseCalls.{shown_calls}
 use Rattle.tau_model.proofs.Assembling.{member_mapped}
 
@@ -160,10 +160,6 @@ told_more workers positions h acks upto had here w o lt is = elim (cases_eq w up
   | inl e ↦ subst (λ (u : ℕ). covered_count positions o.committed ≤ length (calls_of workers u acks)) (sym e) (here o (ap (slice_get h.workers) (sym e) ∙ is))
   | inr ne ↦ had w o (omega (arith, lt, ne)) is
 ]
-
--- the vector has what the writers have durable
-pub positions_all : {D : Type 0} {G : Ghosts D} (jobs : List (ManagerJob D G)) (xs : List ℕ) (upto : ℕ) → length xs ≡ length jobs → length jobs ≤ upto → ((j : ℕ) → j < upto → slice_index xs j ≡ slice_index (durables jobs) j) → xs ≡ durables jobs
-positions_all jobs xs upto long past had = same_list xs (durables jobs) (long ∙ sym (length-map jobs durable_in)) (λ j lt. had j (omega (arith, lt, long, past)))
 
 -- ---- what goes on
 

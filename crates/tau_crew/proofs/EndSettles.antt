@@ -1,6 +1,6 @@
 -- The head looks how far the streams are persisted.
-use Rattle.std.proofs.Common.{ℕ, zero, suc, ◌+◌, ◌<◌, ◌≤◌, ◌≡◌, ◌||◌, inl, inr, true, false, Bool, Option, List, [], ◌∷◌, ◌++◌, length, refl, sym, ap, subst, ◌∙◌, arith, slice_index}
-use Rattle.std.specs.Prelude.{Some, slice_get, slice_set}
+use Rattle.std.proofs.Common.{ℕ, zero, suc, ◌+◌, ◌<◌, ◌≤◌, ◌≡◌, ◌||◌, inl, inr, true, false, Bool, Option, List, [], ◌∷◌, ◌++◌, refl, sym, ap, subst, ◌∙◌, arith, slice_index}
+use Rattle.std.specs.Prelude.{Some, slice_set}
 use Rattle.std.proofs.lemmas.Bool.{cases_eq}
 use Rattle.tau_base.specs.Vectors.{join}
 use Rattle.tau_base.proofs.Vectors.{join_at}
@@ -11,13 +11,8 @@ use Rattle.tau_rule.specs.Rule.{clerk_role, has}
 use Rattle.tau_desk.specs.Ends.{IsClerkSplit}
 use Rattle.tau_desk.specs.Seats.{Heads, PlainClerkSeat, PlainHead}
 use Rattle.tau_desk.proofs.SplittingOff.{role_stays}
-use Rattle.tau_disk.specs.declared.disk.Disk.{Ghosts}
-use Rattle.tau_stream.specs.declared.writer.Writer.{Writer}
-use Rattle.tau_stream.specs.Writer.{durable_of}
 use Rattle.tau_rule.specs.Positions.{sees_to}
-use Rattle.tau_desk.specs.Seats.{Clerks}
-use Rattle.tau_crew.specs.EndSettles.{IsSameHead, KeepsSight, SightDurable}
-use Rattle.tau_crew.proofs.Driving.{set_there}
+use Rattle.tau_crew.specs.EndSettles.{IsSameHead, KeepsSight}
 use Rattle.tau_crew.proofs.EndJoins.{role_here, role_other, same_origin}
 
 same_or : (b : Bool) → (b || b) ≡ b
@@ -65,16 +60,6 @@ seen_joined first h m h' s s' j split keeps e =
     let same : slice_index s.seen j ≡ slice_index m.seen j = ap (λ (v : List ℕ). slice_index v j) split.seen ∙ ap (λ (x : PlainHead). slice_index x.seen j) (sym split.left) in
     omega (arith, a, b, low, same)
 
-pub sight_same : (s : PlainClerkSeat) → KeepsSight s s
-sight_same s = record { table = refl; me = refl; up = λ j. omega arith }
-
-pub keeps_sight : (s s' s'' : PlainClerkSeat) → KeepsSight s s' → KeepsSight s' s'' → KeepsSight s s''
-keeps_sight s s' s'' a b = record {
-  table = b.table ∙ a.table;
-  me = b.me ∙ ap (λ (m : _). (record m.0 { seen = s''.me.0.seen }, m.1)) a.me;
-  up = λ j. (let x = a.up j in let y = b.up j in omega (arith, x, y));
-}
-
 set_up : (xs : List ℕ) (j x : ℕ) → slice_index xs j ≤ x → (i : ℕ) → slice_index xs i ≤ slice_index (slice_set xs j x) i
 set_up [] j x le i = omega arith
 set_up (y ∷ xs) zero x le zero = le
@@ -89,28 +74,8 @@ set_other (y ∷ xs) zero x (suc i) ne = refl
 set_other (y ∷ xs) (suc j) x zero ne = refl
 set_other (y ∷ xs) (suc j) x (suc i) ne = set_other xs j x i (λ e. ne (ap suc e))
 
--- a look at one stream
-pub look_keeps : (s s' : PlainClerkSeat) (j x : ℕ) → slice_index s.seen j ≤ x → s' ≡ record s { me = (sees_to j x s.me.0, s.me.1); seen = slice_set s.seen j x } → KeepsSight s s'
-look_keeps s s' j x le e = record {
-  table = ap (λ (t : PlainClerkSeat). t.table_id) e;
-  me = ap (λ (t : PlainClerkSeat). t.me) e ∙ ap (λ (v : List ℕ). (record s.me.0 { seen = v }, s.me.1)) (sym (ap (λ (t : PlainClerkSeat). t.me.0.seen) e));
-  up = λ i. subst (λ (v : List ℕ). slice_index s.seen i ≤ slice_index v i) (sym (ap (λ (t : PlainClerkSeat). t.seen) e)) (set_up s.seen j x le i);
-}
-
-pub look_here : (first : Plain) (s s' : PlainClerkSeat) (j x : ℕ) → Clerks s → s.me.0.opened ≡ Some first → j < first.load.streams → s' ≡ record s { me = (sees_to j x s.me.0, s.me.1); seen = slice_set s.seen j x } → slice_index s'.seen j ≡ x
-look_here first s s' j x c opened lt e =
-    let as_first : c.origin ≡ first = same_origin s.me.0.opened c.opened opened in
-    let wide : length s.seen ≡ first.load.streams = c.seen_wide ∙ ap (λ (o : Plain). o.load.streams) as_first in
-    ap (λ (t : PlainClerkSeat). slice_index t.seen j) e ∙ set_there s.seen j x (omega (arith, lt, wide))
-
 pub look_others : (s s' : PlainClerkSeat) (j x i : ℕ) → s' ≡ record s { me = (sees_to j x s.me.0, s.me.1); seen = slice_set s.seen j x } → (i ≡ j → ⊥) → slice_index s'.seen i ≡ slice_index s.seen i
 look_others s s' j x i e ne = ap (λ (t : PlainClerkSeat). slice_index t.seen i) e ∙ set_other s.seen j x i ne
-
-pub sight_more : {D : Type 0} {G : Ghosts D} (seen seen' : List ℕ) (ws : List (Writer D G)) (j : ℕ) → SightDurable seen ws j → ((w : Writer D G) → slice_get ws j ≡ Some w → slice_index seen' j ≡ durable_of w) → ((i : ℕ) → (i ≡ j → ⊥) → slice_index seen' i ≡ slice_index seen i) → SightDurable seen' ws (j + 1)
-sight_more seen seen' ws j had here others i w lt is = elim (cases_eq i j) [
-  | inl at ↦ ap (slice_index seen') at ∙ here w (ap (slice_get ws) (sym at) ∙ is)
-  | inr ne ↦ others i ne ∙ had i w (omega (arith, lt, ne)) is
-]
 
 pub same_head_on : (h h' h'' : PlainHead) → IsSameHead h h' → IsSameHead h' h'' → IsSameHead h h''
 same_head_on h h' h'' a b = record {

@@ -3,19 +3,15 @@ use Rattle.std.proofs.Common.{ℕ, ◌≡◌, ◌⊎◌, ◌≤◌, Bool, true, 
 use Rattle.std.specs.Prelude.{Some, None, Result, Ok, Err, IfOk, OnErr}
 use Rattle.std.proofs.lemmas.Bool.Decides.{leb_tells}
 use Rattle.tau_base.specs.declared.value.NoMemory.{NoMemory}
-use Rattle.tau_machine.specs.Accounts.{in_calls, in_worker}
 use Rattle.tau_txn.specs.Txn.{held_by, held_in, leaves_by}
 use Rattle.tau_core.specs.Begins.{number_by}
-use Rattle.tau_core.specs.Opens.{calls_of}
 use Rattle.tau_core.specs.State.{Plain}
 use Rattle.tau_core.specs.declared.state.Load.{Load}
 use Rattle.tau_desk.specs.Resumes.{RestsWork}
 use Rattle.tau_desk.specs.Seats.{PlainWorkerSeat, Works}
-use Rattle.tau_desk.specs.Shares.{PlainWork, unbegun}
-use Rattle.tau_desk.specs.Works.{BeginsIn, GivesUpOn, IsSameSeat, undone}
-use Rattle.tau_desk.specs.declared.mark.Mark.{Mark}
-use Rattle.tau_crew_facts.specs.Closing.{WorkerDone}
-use Rattle.tau_crew.specs.Working.{HasNone, HasRun, IsBare, IsSteady, IsUnjoined, WorkerEnds, WorksOn, has_raised, worker_at}
+use Rattle.tau_desk.specs.Shares.{PlainWork}
+use Rattle.tau_desk.specs.Works.{BeginsIn, IsSameSeat, undone}
+use Rattle.tau_crew.specs.Working.{HasNone, HasRun, IsBare, IsSteady, IsUnjoined, WorkerEnds, WorksOn, has_raised}
 use Rattle.tau_crew.proofs.WorkSteps.{loose_hand, none_waits, rests_hand, unjoined_none}
 
 pub same_then : (a b c : PlainWorkerSeat) → IsSameSeat a b → IsSameSeat b c → IsSameSeat a c
@@ -100,23 +96,4 @@ pub record GaveUp (s s' : PlainWorkerSeat) : Type 0 where
   pub held : held_in s'.work.txn ≡ []
   pub unjoined : IsUnjoined s'.work.txn
 
-pub gave_none : (s s' : PlainWorkerSeat) → IsUnjoined s.work.txn → GivesUpOn s s' false → GaveUp s s'
-gave_none s s' free q = record {
-  seat = (ap (λ (x : PlainWorkerSeat). x.table_id) q.1, ap (λ (x : PlainWorkerSeat). x.id) q.1, ap (λ (x : PlainWorkerSeat). x.worker) q.1, ap (λ (x : PlainWorkerSeat). x.me.0.opened) q.1);
-  held = ap (λ (x : PlainWorkerSeat). held_in x.work.txn) q.1 ∙ held_by_mark s.work.mark;
-  unjoined = subst (λ (x : PlainWorkerSeat). IsUnjoined x.work.txn) (sym q.1) (free_by_mark s.work.mark);
-}
-  where
-    held_by_mark : (m : Option Mark) → held_in (undone s.work m).txn ≡ []
-    held_by_mark None = q.0
-    held_by_mark (Some k) = refl
-
-    free_by_mark : (m : Option Mark) → IsUnjoined (undone s.work m).txn
-    free_by_mark None = free
-    free_by_mark (Some k) = unjoined_none (unbegun s.work k).txn refl
-
 -- ---- what the end of a run in threads wants of a worker
-
--- none of its calls was lost
-pub worker_done : (l : Load) (s s' : PlainWorkerSeat) (w : ℕ) → ((k : ℕ) → in_calls k (calls_of l w) ≤ in_worker k (worker_at s)) → HasRun l s s' → WorkerDone l w (worker_at s')
-worker_done l s s' w was r = record { rests = r.rests; kept = λ k. (let a = was k in let b = r.keeps.all k in omega (arith, a, b)) }

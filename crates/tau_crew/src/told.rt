@@ -6,9 +6,8 @@ ghost use Rattle.tau_crew.specs.Clerking.{IsToldSoFar};
 
 use std::alloc::Global;
 use tau_base::{Lv, NoMemory};
-use tau_disk::Sink;
+use tau_disk::{Sink, write_all};
 use tau_report::{Acks, ack_line};
-use tau_run::write_all;
 
 /// What the clerk has told, and what it is to tell.
 #[derive(Drop)]

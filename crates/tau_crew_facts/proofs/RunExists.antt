@@ -1,19 +1,17 @@
 -- Pieces and their items, and the acknowledgements of all workers.
-use Rattle.std.proofs.Common.{ℕ, ◌+◌, ◌-◌, ◌<◌, ◌≤◌, ◌≡◌, ◌⊎◌, inl, inr, List, [], ◌∷◌, ◌++◌, map, length, take, refl, sym, ap, subst, ◌∙◌, arith}
+use Rattle.std.proofs.Common.{ℕ, ◌+◌, ◌-◌, ◌<◌, ◌≤◌, ◌≡◌, ◌⊎◌, inl, inr, List, [], ◌∷◌, ◌++◌, map, length, take, refl, sym, ap, ◌∙◌, arith}
 use Rattle.std.specs.Prelude.{Option, Some, None, ◌&&◌, ◌==◌, Bool, false, ◌%◌}
 use Rattle.std.specs.List.{filter}
 use Rattle.std.proofs.Math.Nat.{mod-lt}
 use Rattle.std.proofs.lemmas.Bool.{ne_eqb}
-use Rattle.tau_model.specs.History.{Act, Member, updates}
-use Rattle.tau_model.proofs.Logged.{member_filtered}
+use Rattle.tau_model.specs.History.{Act, Member}
 use Rattle.tau_model.proofs.Orders.{member_back, member_reordered}
 use Rattle.tau_machine.specs.Hands.{Txn, Hand, Phase, Running, Quitting, Placed, Freeing, act_in, act_of}
 use Rattle.tau_machine.specs.Accounts.{in_committed, in_worker, in_calls, in_hand, joined_list}
-use Rattle.tau_machine.specs.State.{Core, Item, Record, Ticket, ticket_of}
-use Rattle.tau_machine.specs.Pieces.{records_in, placed_in, placed_of, StreamGood}
+use Rattle.tau_machine.specs.State.{Core, Item, Ticket, ticket_of}
+use Rattle.tau_machine.specs.Pieces.{placed_in, placed_of}
 use Rattle.tau_machine.specs.Invariant.{Invariant}
 use Rattle.tau_machine.proofs.Accounts.{committed_append}
-use Rattle.tau_machine.proofs.Results.{committed_theorem}
 use Rattle.tau_outbox.specs.declared.Piece.{Piece}
 use Rattle.tau_outbox.specs.Pieces.{bytes_of}
 use Rattle.tau_core.specs.declared.state.Load.{Load}
@@ -23,7 +21,6 @@ use Rattle.tau_run.specs.Run.{pair_of}
 use Rattle.tau_run.specs.CoreRun.{AreAcks}
 use Rattle.tau_run.proofs.Counts.{count_member, count_tickets}
 use Rattle.tau_crew_facts.specs.Ends.{IsLoose}
-use Rattle.tau_run.proofs.Given.{record_member}
 
 -- ---- pieces that were gathered
 
@@ -92,16 +89,3 @@ acks_all l K s g some acks told w = by_side (split w l.workers)
         let none : s.acked w ≡ [] = no_members (s.acked w) (λ k m. let own = acked_own l K s g w k m in let lt = low k.number in absurd (omega (arith, own, lt, le))) in
         none_filtered (λ (a : ℕ × List ℕ). worker_of l.workers a.0 == w) acks (λ a. ne_eqb (worker_of l.workers a.0) w (λ e. let lt = low a.0 in omega (arith, e, lt, le)))
         ∙ ap (map pair_of) (sym none)
-
--- a worker whose outbox has a piece is there
-pub posted_low : (l : Load) (K : List (Act Txn)) (s : Core) → Invariant (setting_of l) K s → 1 ≤ l.workers → (j w : ℕ) (i : Item) → j < l.streams → w % l.streams ≡ j → Member i (s.outboxes w).posted → w < l.workers
-posted_low l K s inv some j w i lt is q =
-    let good : StreamGood (setting_of l) K s j = inv.agrees.pieces.stream j lt in
-    let t = inv.agrees.pieces.whose w i q in
-    let waits : Member (Record t.0) good.waiting = subst (λ (x : Item). Member x good.waiting) t.1 (good.posted i (inl (w, is, q))) in
-    let all : Member t.0 (records_in ((s.streams j).moved ++ good.waiting)) = record_member ((s.streams j).moved ++ good.waiting) t.0 (member_back (Record t.0) (s.streams j).moved good.waiting waits) in
-    let there : Member t.0 K = (member_filtered (λ (x : Act Txn). updates x.effect && x.call.place.stream == j) t.0 K (subst (λ (ts : List (Act Txn)). Member t.0 ts) good.records all)).0 in
-    let own : worker_of l.workers t.0.call.call.number ≡ t.0.call.worker = ((committed_theorem (setting_of l) K s inv).0 t.0 there).1 in
-    let low : worker_of l.workers t.0.call.call.number < l.workers = mod-lt (t.0.call.call.number - 1) {m = l.workers} (omega (arith, some)) in
-    let mine = t.2 in
-    omega (arith, own, low, mine)

@@ -5,7 +5,6 @@ use Rattle.std.specs.List.{filter}
 use Rattle.std.proofs.lemmas.Bool.{cases_eq, eq-eqb, ne_eqb}
 use Rattle.std.proofs.lemmas.List.{append-nil, map-append}
 use Rattle.tau_base.specs.Vectors.{AtMost}
-use Rattle.tau_base.proofs.Vectors.{at_most_trans}
 use Rattle.tau_model.specs.History.{Act, Member}
 use Rattle.tau_model.proofs.Orders.{member_front, member_reordered}
 use Rattle.tau_machine.specs.Hands.{Txn, act_in}
@@ -48,14 +47,6 @@ split_member : {A : Type 0} (x : A) (xs ys : List A) → Member x (xs ++ ys) →
 split_member x [] ys m = inr m
 split_member x (z ∷ xs) ys (inl e) = inl (inl e)
 split_member x (z ∷ xs) ys (inr m) = elim (split_member x xs ys m) [ inl p ↦ inl (inr p) | inr p ↦ inr p ]
-
--- at first
-pub telling_begins : (l : Load) (acked : List (List Ticket)) (seen : List ℕ) → ((w : ℕ) → w < l.workers → slice_index_or acked w [] ≡ []) → IsTelling l acked seen []
-telling_begins l acked seen none = record { each = λ w lt. sym (ap (map pair_of) (none w lt)); licensed = λ a m. absurd m }
-
--- the clerk loads positions anew
-pub telling_sees : (l : Load) (acked : List (List Ticket)) (seen seen' : List ℕ) (told : List (ℕ × List ℕ)) → AtMost seen seen' → IsTelling l acked seen told → IsTelling l acked seen' told
-telling_sees l acked seen seen' told le t = record { each = t.each; licensed = λ a m. at_most_trans a.1 seen seen' (t.licensed a m) le }
 
 -- it acknowledges a call of worker w that what it has seen covers, and tells it
 pub telling_more : (l : Load) (acked : List (List Ticket)) (seen : List ℕ) (told : List (ℕ × List ℕ)) (w : ℕ) (k : Ticket) → w < length acked → worker_of l.workers k.number ≡ w → AtMost k.lv seen → IsTelling l acked seen told →

@@ -34,7 +34,7 @@ use Rattle.tau_core.proofs.Hands.{some_hand}
 use Rattle.tau_core.proofs.Leaving.{settled_hand, settled_left, numbered_append, numbered_is}
 use Rattle.tau_rule.specs.Knows.{Knows}
 use Rattle.tau_rule.specs.Role.{Role, Working}
-use Rattle.tau_rule.specs.Steps.{IsReady, IsWorker, Sat, handed, next_worker, told, working}
+use Rattle.tau_rule.specs.Steps.{IsWorker, Sat, handed, next_worker, told, working}
 use Rattle.tau_rule.specs.Boxes.{told_box, with_box}
 use Rattle.tau_rule.proofs.Boxes.{told_box_is}
 use Rattle.tau_rule.proofs.Gives.{one_origin, told_is}
@@ -296,22 +296,6 @@ module _ (l : Load) (w : ℕ) (o : PlainWork) (f : FitsWork l w o) (h : Hand) (i
 
 pub seat_origin : (origin : Plain) (m : Sat) (w : ℕ) (o : PlainWork) (read : ℕ × List ℕ) (seen : List ℕ) → m.0.opened ≡ Some origin → (s : IsWorkerSeat m w o read seen) → s.origin ≡ origin
 seat_origin origin m w o read seen opened s = one_origin s.origin origin (sym s.seat.opened ∙ opened)
-
--- it may take a part
-pub seat_ready : (origin : Plain) (m : Sat) (w : ℕ) (o : PlainWork) (read : ℕ × List ℕ) (seen : List ℕ) → m.0.opened ≡ Some origin → IsWorkerSeat m w o read seen → is_some o.txn.hand ≡ true → IsReady origin w m o.txn
-seat_ready origin m w o read seen opened s has =
-    let there = hand_there s.origin.load w o s.work.fits has in
-    subst (λ (p : Plain). IsReady p w m o.txn) (seat_origin origin m w o read seen opened s) (record {
-      role = s.role;
-      worker = s.work.worker;
-      seat = s.seat;
-      share = s.work.share;
-      there = s.work.there;
-      number = s.work.fits.worker;
-      width = s.work.fits.width;
-      runs = s.work.fits.runs;
-      agrees = ap (λ (x : Worker). x.hand) (begun_own s.origin.load s.work.worker o there.0 there.1 s.work.shows);
-    })
 
 -- and goes on
 pub seat_on : (origin : Plain) (m m' : Sat) (w : ℕ) (o o' : PlainWork) (t : PlainTxn) (read : ℕ × List ℕ) (seen : List ℕ) → m.0.opened ≡ Some origin → IsWorkerSeat m w o read seen → is_some o.txn.hand ≡ true → m' ≡ (told origin.load m.0 t, []) → Stepped origin.load w o t o' → IsWorkerSeat m' w o' read seen

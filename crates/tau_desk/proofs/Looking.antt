@@ -1,5 +1,5 @@
 -- Seats look at words, and raise the stop.
-use Rattle.std.proofs.Common.{◌≡◌, ℕ, ◌+◌, ◌<◌, true, Bool, List, [], ◌∷◌, Option, refl, sym, ap, ◌∙◌, subst, arith}
+use Rattle.std.proofs.Common.{◌≡◌, ℕ, ◌+◌, ◌<◌, true, Bool, List, [], ◌∷◌, Option, refl, sym, ap, ◌∙◌, subst}
 use Rattle.std.specs.Prelude.{Some, ◌⊎◌, replicate}
 use mathlib.Core.Option.{none}
 use Rattle.atomic_table.specs.Table.{step, Allows}
@@ -8,12 +8,11 @@ use Rattle.tau_core.specs.State.{Plain}
 use Rattle.tau_core.specs.declared.state.Load.{Load}
 use Rattle.tau_rule.specs.Role.{Role}
 use Rattle.tau_rule.specs.Knows.{Knows}
-use Rattle.tau_rule.specs.Rule.{Rule, part_count, clerk_role, manager_role}
+use Rattle.tau_rule.specs.Rule.{Rule, part_count}
 use Rattle.tau_rule.specs.Boxes.{IsToPost}
 use Rattle.tau_rule.specs.Steps.{Sat, first_role, knew}
 use Rattle.tau_rule.specs.Stopping.{stop_word, raising}
-use Rattle.tau_rule.proofs.Gives.{one_origin}
-use Rattle.tau_rule.proofs.Stopping.{stops, looks_stop}
+use Rattle.tau_rule.proofs.Stopping.{stops}
 use Rattle.tau_desk.specs.Shares.{IsWork, PlainStock, PlainWork}
 use Rattle.tau_desk.specs.Seats.{IsClerkSeat, IsHead, IsManagerSeat, IsWorkerSeat}
 use Rattle.tau_desk.specs.Manages.{told_found, told_raised}
@@ -28,27 +27,7 @@ raises_as origin slots id u word m x knows es opened roles low is told =
     subst (λ (z : (ℕ × ℕ) × (ℕ → Knows)). Allows (Rule origin) z.0.0 id m z.0.1 (λ _. 1) (λ _. knew z.1 (step z.0.0 z.0.1 1 0 none) m 1)) (λ i. ((sym es i, sym is i), same i))
     (stops origin id u m x (step (part_count origin.load) (stop_word origin.load) 1 0 none) opened roles low)
 
-pub finds_as : (origin : Plain) (slots id word : ℕ) (m : Sat) (knows : ℕ → Knows) → slots ≡ part_count origin.load → word ≡ stop_word origin.load → knows ≡ told_found m.0 → Allows (Rule origin) slots id m word (λ n. n) (knew knows (step slots word 0 0 none) m)
-finds_as origin slots id word m knows es is told =
-    subst (λ (z : (ℕ × ℕ) × (ℕ → Knows)). Allows (Rule origin) z.0.0 id m z.0.1 (λ n. n) (knew z.1 (step z.0.0 z.0.1 0 0 none) m)) (λ i. ((sym es i, sym is i), sym told i))
-    (looks_stop origin id m (step (part_count origin.load) (stop_word origin.load) 0 0 none))
-
 -- the seats that raise it, or have looked, are those of their actors as before
-
-pub role_of_manager : (m : Sat) (j : ℕ) (o : PlainStock) (seen : List ℕ) (key : Plain) → IsManagerSeat m j o seen → m.0.opened ≡ Some key → (u : ℕ) × (x : Role) × (m.0.roles ≡ (u, x) ∷ []) × (u < key.load.workers + key.load.streams + 1)
-role_of_manager m j o seen key h opened =
-    let same = one_origin h.origin key (sym h.opened ∙ opened) in
-    (manager_role h.origin.load j, h.role, h.roles, subst (λ (p : Plain). manager_role h.origin.load j < p.load.workers + p.load.streams + 1) same (let a = h.stock.there in omega (arith, a)))
-
-pub role_of_clerk : (m : Sat) (seen : List ℕ) (key : Plain) → IsClerkSeat m seen → m.0.opened ≡ Some key → (u : ℕ) × (x : Role) × (m.0.roles ≡ (u, x) ∷ []) × (u < key.load.workers + key.load.streams + 1)
-role_of_clerk m seen key h opened =
-    let same = one_origin h.origin key (sym h.opened ∙ opened) in
-    (clerk_role h.origin.load, h.role, h.roles, subst (λ (p : Plain). clerk_role h.origin.load < p.load.workers + p.load.streams + 1) same (omega arith))
-
-pub worker_role : (m : Sat) (w : ℕ) (o : PlainWork) (read : ℕ × List ℕ) (seen : List ℕ) (key : Plain) → IsWorkerSeat m w o read seen → m.0.opened ≡ Some key → (u : ℕ) × (x : Role) × (m.0.roles ≡ (u, x) ∷ []) × (u < key.load.workers + key.load.streams + 1)
-worker_role m w o read seen key h opened =
-    let same = one_origin h.origin key (sym h.seat.opened ∙ opened) in
-    (w, h.role, h.seat.roles, subst (λ (p : Plain). w < p.load.workers + p.load.streams + 1) same (let a = h.work.there in omega (arith, a)))
 
 pub manager_raised : (m : Sat) (j : ℕ) (o : PlainStock) (seen : List ℕ) → IsManagerSeat m j o seen → IsManagerSeat (told_raised m.0, m.1) j o seen
 manager_raised m j o seen h = record {
@@ -62,9 +41,6 @@ manager_raised m j o seen h = record {
   seen_is = h.seen_is;
   seen_wide = h.seen_wide;
 }
-
-pub manager_found : (m : Sat) (j : ℕ) (o : PlainStock) (seen : List ℕ) (n : ℕ) → IsManagerSeat m j o seen → IsManagerSeat (told_found m.0 n, m.1) j o seen
-manager_found m j o seen n h = record { origin = h.origin; role = h.role; opened = h.opened; roles = h.roles; idle = h.idle; none = h.none; stock = h.stock; seen_is = h.seen_is; seen_wide = h.seen_wide }
 
 pub clerk_raised : (m : Sat) (seen : List ℕ) → IsClerkSeat m seen → IsClerkSeat (told_raised m.0, m.1) seen
 clerk_raised m seen h = record {
@@ -80,9 +56,6 @@ clerk_raised m seen h = record {
   seen_is = h.seen_is;
   seen_wide = h.seen_wide;
 }
-
-pub clerk_found : (m : Sat) (seen : List ℕ) (n : ℕ) → IsClerkSeat m seen → IsClerkSeat (told_found m.0 n, m.1) seen
-clerk_found m seen n h = record { origin = h.origin; role = h.role; acked = h.acked; opened = h.opened; roles = h.roles; idle = h.idle; none = h.none; share = h.share; wide = h.wide; seen_is = h.seen_is; seen_wide = h.seen_wide }
 
 post_on : (origin : Plain) (m m' : Sat) (t : PlainTxn) (start : ℕ) → m'.0.read ≡ m.0.read → IsToPost origin m t start → IsToPost origin m' t start
 post_on origin m m' t start same q = record {
@@ -114,19 +87,6 @@ worker_raised m w o read seen h = record {
   seen_is = h.seen_is;
   seen_wide = h.seen_wide;
   posts = λ e. post_on h.origin m (told_raised m.0, m.1) o.txn o.start refl (h.posts e);
-}
-
-pub worker_found : (m : Sat) (w : ℕ) (o : PlainWork) (read : ℕ × List ℕ) (seen : List ℕ) (n : ℕ) → IsWorkerSeat m w o read seen → IsWorkerSeat (told_found m.0 n, m.1) w o read seen
-worker_found m w o read seen n h = record {
-  origin = h.origin;
-  role = h.role;
-  seat = record { opened = h.seat.opened; roles = h.seat.roles; idle = h.seat.idle; none = h.seat.none };
-  work = h.work;
-  read_is = h.read_is;
-  read_wide = h.read_wide;
-  seen_is = h.seen_is;
-  seen_wide = h.seen_wide;
-  posts = λ e. post_on h.origin m (told_found m.0 n, m.1) o.txn o.start refl (h.posts e);
 }
 
 pub head_found : (m : Sat) (workers : List (Option PlainWork)) (managers : List (Option PlainStock)) (clerk : Bool) (seen : List ℕ) (n : ℕ) → IsHead m workers managers clerk seen → IsHead (told_found m.0 n, m.1) workers managers clerk seen

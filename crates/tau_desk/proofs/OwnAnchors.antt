@@ -31,7 +31,7 @@ use Rattle.tau_rule.proofs.Turns.{Turn, alone, more, one_role, reached_invariant
 use Rattle.tau_rule.proofs.Persisting.{small_gathered}
 use Rattle.tau_desk.specs.Shares.{PlainStock}
 use Rattle.tau_desk.specs.Seats.{IsManagerSeat}
-use Rattle.tau_desk.specs.Manages.{GivesOwn, OnlyRoom, gone, managing, own_gathered, told_own}
+use Rattle.tau_desk.specs.Manages.{GivesOwn, gone, managing, own_gathered, told_own}
 use Rattle.tau_desk.proofs.Taking.{At, gone_is, managed_is, managing_is}
 use Rattle.tau_rule.proofs.Gathering.{managing_sees}
 
@@ -256,26 +256,3 @@ seat_own m j o o' seen body longer h g anchors small =
       seen_is = h.seen_is;
       seen_wide = h.seen_wide;
     })
-
--- more room is no change
-pub seat_roomier : (m : Sat) (j : ℕ) (o o' : PlainStock) (seen : List ℕ) → IsManagerSeat m j o seen → OnlyRoom o o' → IsManagerSeat m j o' seen
-seat_roomier m j o o' seen h r = record {
-  origin = h.origin;
-  role = h.role;
-  opened = h.opened;
-  roles = h.roles;
-  idle = h.idle;
-  none = h.none;
-  stock = (let s = h.stock in record {
-    managed = s.managed;
-    share = s.share;
-    there = s.there;
-    anchors = s.anchors ∙ sym r.anchors;
-    own = s.own ∙ sym r.pieces;
-    gathered = s.gathered ∙ sym r.gathered;
-    small = (let a = s.small in let e = r.gathered in omega (arith, a, e));
-    wide = λ a e. s.wide a (subst (λ (l : List (List ℕ)). Member a l) r.anchors e);
-  });
-  seen_is = h.seen_is;
-  seen_wide = h.seen_wide;
-}

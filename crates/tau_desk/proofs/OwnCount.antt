@@ -1,5 +1,5 @@
 -- The records that a manager has not gathered, with how many bytes they have.
-use Rattle.std.proofs.Common.{◌≡◌, ℕ, ◌+◌, ◌-◌, ◌≤◌, List, [], ◌∷◌, ◌++◌, length, refl, sym, ap, subst, arith, length-append}
+use Rattle.std.proofs.Common.{◌≡◌, ℕ, ◌+◌, ◌-◌, ◌≤◌, List, [], ◌∷◌, ◌++◌, length, refl, ap, subst, arith, length-append}
 use Rattle.tau_outbox.specs.declared.Piece.{Piece}
 use Rattle.tau_outbox.specs.Gather.{Gathers}
 use Rattle.tau_outbox.specs.Pieces.{bytes_of, end_of, past_of}
@@ -29,9 +29,6 @@ end_last low (x ∷ xs) p = end_last (past_of x) xs p
 end_left : (low : ℕ) (taken : List Piece) (p : Piece) (ps : List Piece) → end_of low (taken ++ p ∷ ps) ≡ end_of (past_of p) ps
 end_left low [] p ps = refl
 end_left low (x ∷ taken) p ps = end_left (past_of x) taken p ps
-
-pub counted_none : (pieces : List Piece) → pieces ≡ [] → AreCounted 0 pieces
-counted_none pieces none = subst (λ (ps : List Piece). AreCounted 0 ps) (sym none) (record { all = refl; each = tt; within = omega arith })
 
 pub counted_more : (n start : ℕ) (bytes : List ℕ) (pieces : List Piece) → AreCounted n pieces → end_of 0 pieces ≤ start → 1 ≤ length bytes → AreCounted (n + length bytes) (pieces ++ record { start = start; bytes = bytes } ∷ [])
 counted_more n start bytes pieces h order some =

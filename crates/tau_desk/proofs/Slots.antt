@@ -3,12 +3,9 @@ use Rattle.std.proofs.Common.{ℕ, zero, suc, ◌+◌, ◌*◌, ◌<◌, ◌≡�
 use Rattle.std.specs.Prelude.{Some, None, replicate, slice_get, slice_index, slice_set}
 use mathlib.Core.Option.{some}
 use lib.ListN.{get_elem?, length-replicate}
-use Rattle.tau_core.proofs.Pushes.{length_snoc, each_snoc, no_element}
+use Rattle.tau_core.proofs.Pushes.{length_snoc, each_snoc}
 use Rattle.tau_desk.specs.Laid.{AreFirstWords, AreWords, EachOf}
 use Rattle.tau_base.proofs.Lists.{got_front, got_last}
-
-pub each_none : {A B : Type 0} (R : ℕ → A → B → Type 0) → EachOf R [] []
-each_none {A} {B} R = record { count = refl; each = no_element (λ k y. (x : A) × (slice_get [] k ≡ Some x) × R k x y) }
 
 pub each_more : {A B : Type 0} (R : ℕ → A → B → Type 0) (xs : List A) (ys : List B) (x : A) (y : B) → EachOf R xs ys → R (length xs) x y → EachOf R (xs ++ x ∷ []) (ys ++ y ∷ [])
 each_more {A} {B} R xs ys x y g r = record {

@@ -158,10 +158,6 @@ image_synced synced x is = ext_get_or 0 x synced (omega (arith, is.no_shorter, i
 pub image_of_synced : (synced : List ℕ) → IsImage synced [] synced
 image_of_synced synced = record { same = λ k within outside. refl; no_shorter = omega arith; no_longer = omega arith }
 
--- what a read gives is an image, and its end is within reach
-pub reach_seen : (s : DiskState) → leaves s s.seen → length s.seen ≤ reach (length s.synced) s.tears
-reach_seen s is = is.no_longer
-
 replayed_push : (s : DiskState) (calls : List DiskCall) (call : DiskCall) → replayed s (calls ++ call ∷ []) ≡ after_call (replayed s calls) call
 replayed_push s [] call = refl
 replayed_push s (c ∷ calls) call = replayed_push (after_call s c) calls call
@@ -251,13 +247,6 @@ module _ (s : DiskState) (old new : List DiskCall) (seen : List ℕ) (reads : se
 
     pub synced_reads : seen ≡ (replayed s new).seen
     synced_reads = reads ∙ sym (ap (λ (st : DiskState). st.seen) (now_is s old new Synced is))
-
-reach_old : (s : DiskState) → IsImage s.synced s.tears s.synced
-reach_old s = record { same = λ k within outside. refl; no_shorter = omega arith; no_longer = reach_least (length s.synced) s.tears }
-
--- what was synced last is an image that a stop may leave
-pub old_left : (s : DiskState) → leaves s s.synced
-old_left s = reach_old s
 
 length_over : (at : ℕ) (bytes file : List ℕ) → at ≤ length file → length (over at bytes file) ≡ at + (length bytes + (length file - (at + length bytes)))
 length_over at bytes file le = omega (arith, length-take-le at file le, length-append (take at file ++ bytes) (drop (at + length bytes) file), length-append (take at file) bytes, length-drop (at + length bytes) file)

@@ -7,6 +7,7 @@ mod durable;
 mod gate;
 mod image;
 mod memory;
+mod sink;
 mod streams;
 
 pub use call::{DiskCall, Tear};
@@ -14,4 +15,5 @@ pub use disk::{Disk, Failed, Sink, Source};
 pub use durable::write_durably;
 pub use gate::{Gate, Place, Quiet};
 pub use memory::MemDisk;
+pub use sink::write_all;
 pub use streams::{MemSink, MemSource, ReadSource, WriteSink};

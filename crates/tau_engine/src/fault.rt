@@ -8,9 +8,8 @@ ghost use Rattle.tau_engine.specs.Outside.{Wrote};
 use crate::status::Status;
 use std::alloc::{AllocError, Global};
 use tau_block::ImageFault;
-use tau_disk::Sink;
+use tau_disk::{Sink, write_all};
 use tau_record::{RecordCause, RecordFault};
-use tau_run::write_all;
 use tau_scan::{LogCause, LogFault};
 use tau_text::TextCause;
 

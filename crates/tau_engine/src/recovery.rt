@@ -20,10 +20,9 @@ use crate::status::Status;
 use std::alloc::Global;
 use std::sync::Wait;
 use std::thread::Threads;
-use tau_disk::{Disk, Gate, Sink};
+use tau_disk::{Disk, Gate, Sink, write_all};
 use tau_replay::replay_threads;
 use tau_report::recover_text;
-use tau_run::write_all;
 use tau_scan::{Log, LogCause, LogFault, ReplayRefusal, ScanRefusal, scan};
 
 /// The log of the first disks, in the format that they state.

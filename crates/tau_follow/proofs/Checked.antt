@@ -1,30 +1,14 @@
 -- What the checks of all that is read say together.
-use Rattle.std.proofs.Common.{ℕ, zero, suc, ◌+◌, ◌≤◌, ◌≡◌, List, [], ◌∷◌, ◌++◌, length, drop, Option, Some, None, Result, Ok, Err, refl, sym, ap, subst, ◌∙◌, arith, slice_index}
-use Rattle.std.specs.Prelude.{slice_get}
-use Rattle.std.specs.List.{All}
-use Rattle.std.proofs.lemmas.List.{drop_all}
+use Rattle.std.proofs.Common.{ℕ, ◌+◌, ◌≤◌, ◌≡◌, List, [], ◌∷◌, ◌++◌, Option, Some, None, Result, Ok, Err, ap, ◌∙◌}
 use Rattle.tau_base.specs.declared.format.Format.{Format}
 use Rattle.tau_record.specs.declared.entry.Placed.{Placed}
 use Rattle.tau_scan.specs.declared.fault.LogFault.{LogFault}
-use Rattle.tau_scan.specs.Found.{IsShort}
-use Rattle.tau_scan.specs.Reading.{◌>>=◌, unless, or_else, catalogue_of, catalogue_in, epoch_fault}
+use Rattle.tau_scan.specs.Reading.{◌>>=◌, unless, or_else, catalogue_in, epoch_fault}
 use Rattle.tau_scan.specs.Taken.{Kept}
 use Rattle.tau_follow_laws.specs.Fed.{fronts_of}
 use Rattle.tau_follow_laws.specs.Feeding.{late_in, read_now}
-use Rattle.tau_follow.proofs.Reaching.{drop_got}
 
 -- ---- the texts of all streams
-
-short_cons : (ps : List Placed) (streams : List (List Placed)) → IsShort (catalogue_of ps) → All (λ qs. IsShort (catalogue_of qs)) streams → All (λ qs. IsShort (catalogue_of qs)) (ps ∷ streams)
-short_cons ps streams here rest zero d lt = here
-short_cons ps streams here rest (suc k) d lt = rest k d (omega (arith, lt))
-
-pub short_next : (streams : List (List Placed)) (j : ℕ) (ps : List Placed) → slice_get streams j ≡ Some ps → IsShort (catalogue_of ps) →
-    (All (λ qs. IsShort (catalogue_of qs)) (drop j streams) → All (λ qs. IsShort (catalogue_of qs)) streams) → All (λ qs. IsShort (catalogue_of qs)) (drop (j + 1) streams) → All (λ qs. IsShort (catalogue_of qs)) streams
-short_next streams j ps e here so_far rest = so_far (subst (λ (l : List (List Placed)). All (λ qs. IsShort (catalogue_of qs)) l) (sym (drop_got streams j ps e)) (short_cons ps (drop (j + 1) streams) here rest))
-
-pub short_end : (streams : List (List Placed)) (j : ℕ) → length streams ≤ j → (All (λ qs. IsShort (catalogue_of qs)) (drop j streams) → All (λ qs. IsShort (catalogue_of qs)) streams) → All (λ qs. IsShort (catalogue_of qs)) streams
-short_end streams j le so_far = so_far (subst (λ (l : List (List Placed)). All (λ qs. IsShort (catalogue_of qs)) l) (sym (drop_all j streams le)) (λ k d lt. absurd (omega (arith, lt))))
 
 -- ---- what is read now
 
@@ -58,9 +42,3 @@ pub bad_record : (f : Format) (fed : List (List ℕ)) (order : List Kept) (fault
 bad_record f fed order fault e = ap (λ (r : Result (List (List Placed)) LogFault). r >>= λ xs. (catalogue_in xs >>= λ c. unless (or_else (epoch_fault xs) (late_in xs order)) xs)) e
 
 -- ---- zeros
-
-pub zeros_next : (xs : List ℕ) (j : ℕ) → ((i : ℕ) → slice_index xs i ≡ 0) → slice_index (xs ++ 0 ∷ []) j ≡ 0
-zeros_next [] zero z = refl
-zeros_next [] (suc j) z = z j
-zeros_next (x ∷ xs) zero z = z 0
-zeros_next (x ∷ xs) (suc j) z = zeros_next xs j (λ i. z (suc i))

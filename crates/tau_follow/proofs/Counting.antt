@@ -1,16 +1,16 @@
 -- How many records recovery takes.
-use Rattle.std.proofs.Common.{ℕ, zero, suc, ◌+◌, ◌≤◌, ◌≡◌, Bool, true, false, inl, inr, List, [], ◌∷◌, ◌++◌, length, map, drop, Some, refl, sym, ap, ◌∙◌, arith}
+use Rattle.std.proofs.Common.{ℕ, zero, suc, ◌+◌, ◌≤◌, ◌≡◌, Bool, true, false, inl, inr, List, [], ◌∷◌, ◌++◌, length, drop, Some, refl, sym, ap, ◌∙◌, arith}
 use Rattle.std.specs.Prelude.{slice_get, if◌then◌else◌}
 use Rattle.std.specs.List.{filter}
-use Rattle.std.proofs.lemmas.List.{length-append, append-nil}
+use Rattle.std.proofs.lemmas.List.{length-append}
 use Rattle.std.proofs.lemmas.Bool.{cases_Bool}
 use Rattle.tau_base.specs.Vectors.{covers}
 use Rattle.tau_record.specs.declared.entry.Entry.{Entry}
 use Rattle.tau_record.specs.declared.entry.Entry.TheVariants.{Written, Command, Anchor, Catalogue, Epoch}
 use Rattle.tau_record.specs.declared.entry.Placed.{Placed}
 use Rattle.tau_record.specs.Record.{epoch_after}
-use Rattle.tau_scan.specs.Taken.{Kept, is_taken_by, kept_as, taken_in, taken_from}
-use Rattle.tau_follow.specs.declared.reader.Reader.{Reader}
+use Rattle.tau_scan.specs.Taken.{Kept, is_taken_by, kept_as, taken_in}
+use Rattle.tau_base.proofs.Lists.{drop_at}
 
 one_taken : (lv : List ℕ) (j : ℕ) (p : Placed) (e : Entry) → length (filter (λ (r : Kept). covers lv r.place.dep) (kept_as j p e)) ≡ (if is_taken_by lv e then 1 else 0)
 one_taken lv j p (Written number anchor dep writes) = elim (cases_Bool (covers lv dep)) [ inl t ↦ rw t refl | inr f ↦ rw f refl ]
@@ -18,11 +18,6 @@ one_taken lv j p (Command number anchor dep call) = elim (cases_Bool (covers lv 
 one_taken lv j p (Anchor v) = refl
 one_taken lv j p (Catalogue text) = refl
 one_taken lv j p (Epoch number v) = refl
-
-drop_at : {A : Type 0} (xs : List A) (i : ℕ) (x : A) → slice_get xs i ≡ Some x → drop i xs ≡ x ∷ drop (suc i) xs
-drop_at [] i x e = absurd cc
-drop_at (y ∷ xs) zero x e = let same : y ≡ x = cc in ap (λ z. z ∷ xs) same
-drop_at (y ∷ xs) (suc i) x e = drop_at xs i x e
 
 pub drop_end : {A : Type 0} (xs : List A) (i : ℕ) → length xs ≤ i → drop i xs ≡ []
 drop_end [] zero le = refl
@@ -46,30 +41,5 @@ count_next judge j k i ps p lv b count sum all at is taken sum_of whole =
     let sum_at = sum_is b count sum (length first) sum_of one in
     omega (arith, long, sum_at, whole)
 
-pub count_stream : (judge : ℕ → List ℕ) (j : ℕ) (streams : List (List Placed)) (ps : List Placed) (count more sum all : ℕ) → slice_get streams j ≡ Some ps → more ≡ length (taken_in judge j 0 ps) → sum ≡ count + more →
-    count + length (taken_from judge j (drop j streams)) ≡ all → sum + length (taken_from judge (j + 1) (drop (j + 1) streams)) ≡ all
-count_stream judge j streams ps count more sum all at is sum_of whole =
-    let n : suc j ≡ j + 1 = omega arith in
-    let first : List Kept = taken_in judge j 0 ps in
-    let rest : List Kept = taken_from judge (j + 1) (drop (j + 1) streams) in
-    let cut : taken_from judge j (drop j streams) ≡ first ++ rest = ap (taken_from judge j) (drop_at streams j ps at) ∙ ap (λ (m : ℕ). first ++ taken_from judge m (drop m streams)) n in
-    let long = ap length cut ∙ length-append first rest in
-    omega (arith, long, is, sum_of, whole)
-
-pub ends_next : (readers : List Reader) (j : ℕ) (r : Reader) (list whole : List ℕ) → slice_get readers j ≡ Some r → list ++ map (λ (x : Reader). x.at) (drop j readers) ≡ whole → (list ++ r.at ∷ []) ++ map (λ (x : Reader). x.at) (drop (j + 1) readers) ≡ whole
-ends_next readers j r list whole at e =
-    let n : suc j ≡ j + 1 = omega arith in
-    push list r.at (map (λ (x : Reader). x.at) (drop (j + 1) readers)) ∙ ap (λ (l : List ℕ). list ++ l) (sym (ap (map (λ (x : Reader). x.at)) (drop_at readers j r at) ∙ ap (λ (m : ℕ). r.at ∷ map (λ (x : Reader). x.at) (drop m readers)) n)) ∙ e
-  where
-    push : (xs : List ℕ) (x : ℕ) (ys : List ℕ) → (xs ++ x ∷ []) ++ ys ≡ xs ++ x ∷ ys
-    push [] x ys = refl
-    push (z ∷ xs) x ys = ap (λ (l : List ℕ). z ∷ l) (push xs x ys)
-
-pub ends_all : (readers : List Reader) (j : ℕ) (list : List ℕ) → length readers ≤ j → list ++ map (λ (x : Reader). x.at) (drop j readers) ≡ map (λ (x : Reader). x.at) readers → list ≡ map (λ (x : Reader). x.at) readers
-ends_all readers j list le e = sym (append-nil list) ∙ ap (λ (l : List Reader). list ++ map (λ (x : Reader). x.at) l) (sym (drop_end readers j le)) ∙ e
-
 pub count_end : (judge : ℕ → List ℕ) (j k i : ℕ) (ps : List Placed) (count all : ℕ) → length ps ≤ i → count + length (taken_in judge j k (drop i ps)) ≡ all → count ≡ all
 count_end judge j k i ps count all le e = let none = ap (λ (l : List Placed). length (taken_in judge j k l)) (drop_end ps i le) in omega (arith, e, none)
-
-pub count_last : (judge : ℕ → List ℕ) (j : ℕ) (streams : List (List Placed)) (count all : ℕ) → length streams ≤ j → count + length (taken_from judge j (drop j streams)) ≡ all → count ≡ all
-count_last judge j streams count all le e = let none = ap (λ (l : List (List Placed)). length (taken_from judge j l)) (drop_end streams j le) in omega (arith, e, none)

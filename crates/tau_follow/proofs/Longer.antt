@@ -1,6 +1,5 @@
 -- A reader has gone on, and goes back.
 use Rattle.std.proofs.Common.{ℕ, ◌≡◌, inl, inr, List, [], ◌∷◌, ◌++◌, length, take, drop, None, Ok, refl, sym, ap, ◌∙◌, arith, append_assoc}
-use Rattle.std.proofs.lemmas.List.{append-nil}
 use Rattle.tau_record.specs.declared.entry.Placed.{Placed}
 use Rattle.tau_record.specs.Format.{Format}
 use Rattle.tau_record.specs.Content.{content_at}
@@ -11,12 +10,6 @@ use Rattle.tau_follow_laws.proofs.Rises.{stand_low}
 use Rattle.tau_follow.specs.declared.reader.Reader.{Reader}
 use Rattle.tau_follow.specs.Reading.{IsGoing, IsRead, BeginsWith, IsLonger}
 
-pub begins_same : {A : Type 0} (xs : List A) → BeginsWith xs xs
-begins_same xs = ([], sym (append-nil xs))
-
-pub begins_as : {A : Type 0} (xs ys : List A) → ys ≡ xs → BeginsWith xs ys
-begins_as xs ys e = ([], e ∙ sym (append-nil xs))
-
 pub begins_then : {A : Type 0} (xs ys zs : List A) → BeginsWith xs ys → BeginsWith ys zs → BeginsWith xs zs
 begins_then xs ys zs g h = (g.0 ++ h.0, h.1 ∙ ap (λ (l : List _). l ++ h.0) g.1 ∙ append_assoc xs g.0 h.0)
 
@@ -26,9 +19,6 @@ front_taken xs ys n e h = ap (λ (k : ℕ). take k ys) e ∙ ap (take (length xs
     by : (l : List _) → take (length l) (l ++ h.0) ≡ l
     by [] = refl
     by (x ∷ l) = ap (λ (m : List _). x ∷ m) (by l)
-
-pub longer_same : (r t : Reader) (ps qs : List Placed) → qs ≡ ps → t.vectors ≡ r.vectors → t.at ≡ r.at → t.declarations ≡ r.declarations → IsLonger r t ps qs
-longer_same r t ps qs records vectors at declared = record { records = begins_as ps qs records; vectors = begins_as r.vectors.items t.vectors.items (ap (λ v. v.items) vectors); at = omega (arith, at); declared = inr declared }
 
 pub longer_then : (r t u : Reader) (ps qs rs : List Placed) → IsLonger r t ps qs → IsLonger t u qs rs → IsLonger r u ps rs
 longer_then r t u ps qs rs g h =

@@ -20,11 +20,6 @@ read_last (p ∷ q ∷ ps) d le =
     let e : length (p ∷ q ∷ ps) - 1 ≡ suc (length ps) = omega arith in
     ap (λ (i : ℕ). (slice_index_or (p ∷ q ∷ ps) i d).past) e ∙ last_get q ps d
 
-pub read_few : (ps : List Placed) → length ps < 2 → 0 ≡ read_to ps
-read_few [] lt = refl
-read_few (p ∷ []) lt = refl
-read_few (p ∷ q ∷ ps) lt = absurd (omega (arith, lt))
-
 -- no record before this index is open
 abbrev pub NoneBefore : List Stage → ℕ → Type 0
 NoneBefore ss k = (i : ℕ) (s : Stage) → i < k → slice_get ss i ≡ Some s → is_open_stage s ≡ false

@@ -33,6 +33,7 @@ use Rattle.tau_follow.specs.Feeding.{AreRead}
 use Rattle.tau_follow.specs.Sealing.{short, IsCutAt, IsCutShort, AreLengths}
 use Rattle.tau_follow.specs.declared.state.State.{State}
 use Rattle.tau_follow.specs.State.{AreBytes, IsAt}
+use Rattle.tau_base.proofs.Lists.{some_at, got_within, got_or}
 
 -- ---- epochs
 
@@ -159,21 +160,6 @@ module _ (f : Format) (n : ℕ) where
 
 -- ---- the streams that a follower has read
 
-got : {A : Type 0} (xs : List A) (i : ℕ) → i < length xs → (x : A) × (slice_get xs i ≡ Some x)
-got [] i lt = absurd (omega (arith, lt))
-got (x ∷ xs) zero lt = (x, refl)
-got (x ∷ xs) (suc i) lt = got xs i (omega (arith, lt))
-
-pub got_low : {A : Type 0} (xs : List A) (i : ℕ) (x : A) → slice_get xs i ≡ Some x → i < length xs
-got_low [] i x e = absurd cc
-got_low (y ∷ xs) zero x e = omega arith
-got_low (y ∷ xs) (suc i) x e = let lt = got_low xs i x e in omega (arith, lt)
-
-pub got_or : {A : Type 0} (xs : List A) (i : ℕ) (x d : A) → slice_get xs i ≡ Some x → slice_index_or xs i d ≡ x
-got_or [] i x d e = absurd cc
-got_or (y ∷ xs) zero x d e = cc
-got_or (y ∷ xs) (suc i) x d e = got_or xs i x d e
-
 module _ (f : Format) (n : ℕ) (fed : List (List ℕ)) (streams : List (List Placed)) (readers : List Reader) (a : AreRead f n fed streams readers) where
   fronts : fronts_from f n 0 fed ≡ Ok streams
   unfolding fronts_of
@@ -183,7 +169,7 @@ module _ (f : Format) (n : ℕ) (fed : List (List ℕ)) (streams : List (List Pl
   read_at i b ps r at there by = subst (λ (z : List ℕ). IsRead f n z ps r) (got_or fed i b [] at) (a.each i ps r there by)
 
   pub reader_at : (i : ℕ) (b : List ℕ) → slice_get fed i ≡ Some b → (r : Reader) × (slice_get readers i ≡ Some r)
-  reader_at i b at = let lt = got_low fed i b at in let m = a.many in let k = a.as_many in got readers i (omega (arith, lt, m, k))
+  reader_at i b at = let lt = got_within fed i b at in let m = a.many in let k = a.as_many in some_at readers i (omega (arith, lt, m, k))
 
   front_at : (i : ℕ) (b : List ℕ) (ps : List Placed) → slice_get fed i ≡ Some b → slice_get streams i ≡ Some ps → front_of f n b ≡ Ok ps
   front_at i b ps at there = by 0 fed streams fronts i at there
@@ -213,12 +199,12 @@ module _ (f : Format) (n : ℕ) (fed : List (List ℕ)) (streams : List (List Pl
   unfolding streams_of
   one_left fault c =
       let j : ℕ = c.j in
-      let lt = got_low readers j c.reader c.there in
+      let lt = got_within readers j c.reader c.there in
       let m = a.many in
       let k = a.as_many in
       let w = a.wide in
-      let b = got fed j (omega (arith, lt, m, k)) in
-      let ps = got streams j (omega (arith, lt, w, k)) in
+      let b = some_at fed j (omega (arith, lt, m, k)) in
+      let ps = some_at streams j (omega (arith, lt, w, k)) in
       let bad = cut_records f n b.0 ps.0 c.reader (read_at j b.0 ps.0 c.reader b.1 ps.1 c.there) (front_at j b.0 ps.0 b.1 ps.1) c.left in
       let z : 0 + j ≡ j = omega arith in
       subst (λ (l : ℕ). whole_from f l 0 fed ≡ Err fault) (sym a.many)
@@ -269,7 +255,7 @@ sealed_log f n fed s streams readers log c a bytes h same none lengths one d_is 
     let w = a.wide in
     let long : length fed ≡ length readers = omega (arith, m, k) in
     let elv : log.elv ≡ map length fed = lengths ∙ same_lengths fed readers long (λ i b r at by.
-    (let ps = got streams i (let lt = got_low fed i b at in omega (arith, lt, m, w)) in whole_long f n b ps.0 r (read_at f n fed streams readers a i b ps.0 r at ps.1 by) (none i r by))) in
+    (let ps = some_at streams i (let lt = got_within fed i b at in omega (arith, lt, m, w)) in whole_long f n b ps.0 r (read_at f n fed streams readers a i b ps.0 r at ps.1 by) (none i r by))) in
     let read = all_read f n fed streams readers a none in
     let good : epoch_fault streams ≡ None = ap epoch_fault (sym same) ∙ follower_epochs f n fed s h in
     let declared = declares streams c one in
@@ -297,7 +283,7 @@ sealed_log f n fed s streams readers log c a bytes h same none lengths one d_is 
             let k = a.as_many in
             let w = a.wide in
             sym (lengths ∙ same_lengths fed readers (omega (arith, m, k)) (λ i b r at by.
-            (let ps = got streams i (let lt = got_low fed i b at in omega (arith, lt, m, w)) in whole_long f n b ps.0 r (read_at f n fed streams readers a i b ps.0 r at ps.1 by) (none i r by))))
+            (let ps = some_at streams i (let lt = got_within fed i b at in omega (arith, lt, m, w)) in whole_long f n b ps.0 r (read_at f n fed streams readers a i b ps.0 r at ps.1 by) (none i r by))))
 
     reading : (i : ℕ) (b : List ℕ) (ps : List Placed) → slice_get fed i ≡ Some b → slice_get streams i ≡ Some ps → IsReading f (length fed) b ps
     reading i b ps at there =

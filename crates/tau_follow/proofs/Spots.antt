@@ -1,6 +1,6 @@
 -- The records at spots.
 use Rattle.std.proofs.Common.{ℕ, zero, suc, ◌+◌, ◌≤◌, ◌<◌, ◌≡◌, List, [], ◌∷◌, ◌++◌, length, take, Some, refl, sym, ap, subst, ◌∙◌, arith}
-use Rattle.std.specs.Prelude.{slice_get, slice_index_or}
+use Rattle.std.specs.Prelude.{slice_get}
 use Rattle.std.proofs.lemmas.List.{take_all}
 use Rattle.tau_proc.specs.declared.proc.Proc.{Proc}
 use Rattle.tau_model.specs.Redo.{redo_contents}
@@ -49,11 +49,6 @@ redone_next procs streams spots order i x old new h e is does =
     let k : suc i ≡ i + 1 = omega arith in
     does s.records s.placed s.stream s.there ∙ ap (redo_contents procs (content_in s.placed.entry)) is ∙ redone_push procs (take i order) w.0 s.placed.entry (content_of x.stream s.placed s.placed.entry w.0 s.is)
     ∙ ap (redone_of procs) (sym w.2) ∙ ap (λ (m : ℕ). redone_of procs (take m order)) k
-
-pub got_from : {A : Type 0} (xs : List A) (i : ℕ) (x : A) → i < length xs → x ≡ slice_index_or xs i x → slice_get xs i ≡ Some x
-got_from [] i x lt e = absurd (omega (arith, lt))
-got_from (y ∷ xs) zero x lt e = ap (λ z. Some z) (sym e)
-got_from (y ∷ xs) (suc i) x lt e = got_from xs i x (omega (arith, lt)) e
 
 -- all are redone
 pub all_redone : (procs : List Proc) (streams : List (List Placed)) (spots : List Spot) (order : List Kept) (i : ℕ) (db : Db) → AreSpots streams spots order → length spots ≤ i → db ≡ redone_of procs (take i order) → db ≡ redone_of procs order

@@ -9,6 +9,7 @@ use Rattle.tau_follow.specs.declared.reader.Mark.{Mark}
 use Rattle.tau_follow.specs.Reading.{IsRead, BeginsWith, IsLonger, IsMark}
 use Rattle.tau_follow.specs.Feeding.{AreRead, AreLonger, IsMarkAt}
 use Rattle.tau_follow.proofs.Feeding.{got_set, got_other, set_long}
+use Rattle.tau_base.proofs.Lists.{some_at, get_set_same}
 
 pub set_back : {A : Type 0} (xs : List A) (j : ℕ) (x y : A) → slice_get xs j ≡ Some x → set (set xs j y) j x ≡ xs
 set_back [] j x y e = refl
@@ -51,11 +52,6 @@ longer_at j streams readers ps r qs t e g h = record {
   longer = λ ps_there r_there at by. subst (λ (z : List Placed). IsLonger r_there t z qs) (is_there streams j ps ps_there e at) (subst (λ (z : Reader). IsLonger z t ps qs) (is_there readers j r r_there g by) h);
 }
 
-there : {A : Type 0} (xs : List A) (i : ℕ) → i < length xs → (x : A) × (slice_get xs i ≡ Some x)
-there [] i lt = absurd (omega (arith, lt))
-there (x ∷ xs) zero lt = (x, refl)
-there (x ∷ xs) (suc i) lt = there xs i (omega (arith, lt))
-
 set_there : {A : Type 0} (xs : List A) (i : ℕ) (x y z : A) → slice_get xs i ≡ Some z → x ≡ slice_index_or (set xs i y) i x → x ≡ y
 set_there [] i x y z g e = absurd cc
 set_there (w ∷ xs) zero x y z g e = e
@@ -67,10 +63,10 @@ module _ (f : Format) (n : ℕ) (fed : List (List ℕ)) (before : List (List Pla
     (records : (q : Reader) (os : List Placed) → IsMark q os m → IsLonger q t os qs → ps ≡ os)
     (read : (g : Format) (k : ℕ) (content : List ℕ) (q : Reader) (os : List Placed) → IsMark q os m → IsLonger q t os qs → IsRead g k content os q → IsRead g k content os r) where
   old_records : (os : List Placed) × (slice_get before j ≡ Some os)
-  old_records = let w = a.wide in there before j (omega (arith, lt, w))
+  old_records = let w = a.wide in some_at before j (omega (arith, lt, w))
 
   old_reader : (q : Reader) × (slice_get by j ≡ Some q)
-  old_reader = let w = a.as_many in there by j (omega (arith, lt, w))
+  old_reader = let w = a.as_many in some_at by j (omega (arith, lt, w))
 
   longer : IsLonger old_reader.0 t old_records.0 qs
   longer =
@@ -110,19 +106,14 @@ set_own [] j x e = refl
 set_own (y ∷ xs) zero x e = let same : y ≡ x = cc in ap (λ z. z ∷ xs) (sym same)
 set_own (y ∷ xs) (suc j) x e = ap (λ l. y ∷ l) (set_own xs j x e)
 
-set_got : {A : Type 0} (xs : List A) (j : ℕ) (x : A) → j < length xs → slice_get (set xs j x) j ≡ Some x
-set_got [] j x lt = absurd (omega (arith, lt))
-set_got (y ∷ xs) zero x lt = refl
-set_got (y ∷ xs) (suc j) x lt = set_got xs j x (omega (arith, lt))
-
 -- of the stream no record more is read
 pub same_streams : (j : ℕ) (streams : List (List Placed)) (readers : List Reader) (now : List (List Placed)) (by : List Reader) (before after : ℕ) → j < length streams → j < length readers → AreLonger j streams readers now by →
     ((ps : List Placed) → slice_get streams j ≡ Some ps → before ≡ length ps) → ((ps : List Placed) → slice_get now j ≡ Some ps → after ≡ length ps) → after ≡ before → now ≡ streams
 same_streams j streams readers now by before after low high l old new same =
-    let ps = there streams j low in
-    let r = there readers j high in
+    let ps = some_at streams j low in
+    let r = some_at readers j high in
     let longer = l.longer ps.0 r.0 ps.1 r.1 in
-    let got : slice_get now j ≡ Some l.records = ap (λ (z : List (List Placed)). slice_get z j) l.streams_are ∙ set_got streams j l.records low in
+    let got : slice_get now j ≡ Some l.records = ap (λ (z : List (List Placed)). slice_get z j) l.streams_are ∙ get_set_same streams j l.records low in
     let first = old ps.0 ps.1 in
     let second = new l.records got in
     let records : l.records ≡ ps.0 = no_more ps.0 l.records longer.records (omega (arith, first, second, same)) in

@@ -18,13 +18,9 @@ use Rattle.tau_follow_laws.specs.Laws.{AppliedInOrder}
 use Rattle.tau_follow_laws.proofs.Kept.{member_kept, kept_grown, chosen_are, all_kept}
 use Rattle.tau_follow_laws.proofs.Among.{among_member, member_among}
 use Rattle.tau_follow_laws.proofs.Order.{IsKept, read_keeps, applies_is, applies_keep, begun_kept, in_order}
-use Rattle.tau_follow_laws.proofs.GoesOn.{extends_piece, fronts_grow, fronts_stand, fronts_none}
+use Rattle.tau_follow_laws.proofs.GoesOn.{extends_piece, fronts_grow, fronts_stand, fronts_none, bind_ok}
 
 -- ---- what a good feed says
-
-bind_ok : {A B : Type 0} (r : Result A LogFault) (g : A → Result B LogFault) (y : B) → (r >>= g) ≡ Ok y → (x : A) × (r ≡ Ok x) × (g x ≡ Ok y)
-bind_ok (Ok x) g y e = (x, refl, e)
-bind_ok (Err fault) g y e = absurd cc
 
 abbrev done : List (List Placed) → Result (List (List Placed)) LogFault
 done x = Ok x

@@ -276,7 +276,7 @@ front_none f n = refl
 
 -- ---- all streams
 
-bind_ok : {A B : Type 0} (r : Result A LogFault) (g : A → Result B LogFault) (y : B) → (r >>= g) ≡ Ok y → (x : A) × (r ≡ Ok x) × (g x ≡ Ok y)
+pub bind_ok : {A B : Type 0} (r : Result A LogFault) (g : A → Result B LogFault) (y : B) → (r >>= g) ≡ Ok y → (x : A) × (r ≡ Ok x) × (g x ≡ Ok y)
 bind_ok (Ok x) g y e = (x, refl, e)
 bind_ok (Err fault) g y e = absurd cc
 
@@ -290,7 +290,7 @@ first_ok : (ps : List Placed) (r : Result (List (List Placed)) LogFault) (stream
 first_ok ps (Ok rest) streams e = (rest, refl, all_done_is (ps ∷ rest) streams e)
 first_ok ps (Err fault) streams e = absurd cc
 
-recorded_ok : (j : ℕ) (r : Result (List Placed) RecordFault) (ps : List Placed) → recorded j r ≡ Ok ps → r ≡ Ok ps
+pub recorded_ok : (j : ℕ) (r : Result (List Placed) RecordFault) (ps : List Placed) → recorded j r ≡ Ok ps → r ≡ Ok ps
 recorded_ok j (Ok qs) ps e = cc
 recorded_ok j (Err fault) ps e = absurd cc
 

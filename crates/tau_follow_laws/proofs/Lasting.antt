@@ -25,7 +25,7 @@ use Rattle.tau_follow_laws.proofs.Rises.{AreStanding, stand_end}
 use Rattle.tau_follow_laws.proofs.Among.{among_member, member_among, not_back, not_both, open_parts}
 use Rattle.tau_follow_laws.proofs.Reached.{ends}
 use Rattle.tau_follow_laws.proofs.Order.{applies_is, pushed}
-use Rattle.tau_follow_laws.proofs.GoesOn.{Extends, extends_itself, extends_piece, fronts_from, fronts_grow}
+use Rattle.tau_follow_laws.proofs.GoesOn.{Extends, extends_itself, extends_piece, fronts_from, fronts_grow, bind_ok, recorded_ok}
 use Rattle.tau_follow_laws.proofs.Follows.{is_good}
 use Rattle.tau_follow_laws.proofs.Judged.{ready_taken, taken_free}
 
@@ -52,10 +52,6 @@ feeds_extend f fed now s t (p ∷ pieces) h = extends_then fed (with_piece fed p
 
 -- ---- a log of contents
 
-bind_ok : {A B : Type 0} (r : Result A LogFault) (g : A → Result B LogFault) (y : B) → (r >>= g) ≡ Ok y → (x : A) × (r ≡ Ok x) × (g x ≡ Ok y)
-bind_ok (Ok x) g y e = (x, refl, e)
-bind_ok (Err fault) g y e = absurd cc
-
 abbrev log_done : Log → Result Log LogFault
 log_done x = Ok x
 
@@ -72,10 +68,6 @@ all_done_is x y e = cc
 first_ok : (ps : List Placed) (r : Result (List (List Placed)) LogFault) (streams : List (List Placed)) → in_front ps r ≡ Ok streams → (rest : List (List Placed)) × (r ≡ Ok rest) × (ps ∷ rest ≡ streams)
 first_ok ps (Ok rest) streams e = (rest, refl, all_done_is (ps ∷ rest) streams e)
 first_ok ps (Err fault) streams e = absurd cc
-
-recorded_ok : (j : ℕ) (r : Result (List Placed) RecordFault) (ps : List Placed) → recorded j r ≡ Ok ps → r ≡ Ok ps
-recorded_ok j (Ok qs) ps e = cc
-recorded_ok j (Err fault) ps e = absurd cc
 
 whole_front : (f : Format) (n : ℕ) (content : List ℕ) (ps : List Placed) → records_of f n content ≡ Ok ps → front_of f n content ≡ Ok ps
 unfolding front_of

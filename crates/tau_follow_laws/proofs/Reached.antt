@@ -90,10 +90,6 @@ rlv_ahead s q h m e =
 
 -- ---- streams that grow
 
-last_more : (at : ℕ) (ps ms : List Placed) → last_past at (ps ++ ms) ≡ last_past (last_past at ps) ms
-last_more at [] ms = refl
-last_more at (p ∷ ps) ms = last_more p.past ps ms
-
 pub stand_parts : (at end : ℕ) (ps ms : List Placed) → Stand at end (ps ++ ms) → Stand at (last_past at ps) ps × Stand (last_past at ps) end ms
 stand_parts at end [] ms h = (refl, h)
 stand_parts at end (p ∷ ps) ms h = let rest = stand_parts p.past end ps ms h.2 in ((h.0, h.1, rest.0), rest.1)

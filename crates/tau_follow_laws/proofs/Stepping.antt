@@ -26,10 +26,6 @@ pub epoch_push : (k : ℕ) (ps : List Placed) (p : Placed) → last_epoch k (ps 
 epoch_push k [] p = refl
 epoch_push k (q ∷ ps) p = epoch_push (epoch_after k q.entry) ps p
 
-pub catalogue_push : (ps : List Placed) (p : Placed) (more : List Placed) → (ps ≡ [] → ⊥) → catalogue_of (ps ++ more) ≡ catalogue_of ps
-catalogue_push [] p more some = absurd (some refl)
-catalogue_push (q ∷ ps) p more some = refl
-
 -- ---- what is declared
 
 undeclared_more : (d : Declarations) (ps qs : List Placed) → first_undeclared d ps ≡ None → first_undeclared d (ps ++ qs) ≡ first_undeclared d qs

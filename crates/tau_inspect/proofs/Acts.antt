@@ -7,7 +7,7 @@ use Rattle.std.proofs.lemmas.Bool.Decides.{nat_tests}
 use Rattle.std.proofs.lemmas.List.Sums.{sum_by-cons}
 use Rattle.tau_base.specs.declared.value.Call.{Call}
 use Rattle.tau_base.specs.Database.{Db, written}
-use Rattle.tau_base.proofs.Logic.{or_true, or_left, below_or_not}
+use Rattle.tau_base.proofs.Logic.{or_true, or_left, below_or_not, some_is}
 use Rattle.tau_proc.specs.declared.proc.Proc.{Proc}
 use Rattle.tau_proc.specs.Effect.{Effect}
 use Rattle.tau_model.specs.History.{Numbered, Act, Member, Before, means, trace}
@@ -18,9 +18,6 @@ use Rattle.tau_inspect.specs.Taint.{Marks, Once, is_missing, is_tainted, passed,
 pub none_some : {A : Type 0} (x : A) → ◌≡◌ {A = Option A} None (Some x) → ⊥
 none_some x e = cc
 
-pub some_one : {A : Type 0} (x y : A) → Some x ≡ Some y → x ≡ y
-some_one x y e = cc
-
 -- ---- members by their index
 
 pub member_get : {A : Type 0} (x : A) (xs : List A) → Member x xs → (i : ℕ) × (slice_get xs i ≡ Some x)
@@ -30,7 +27,7 @@ member_get x (y ∷ ys) (inr m) = let w = member_get x ys m in (suc w.0, w.1)
 
 pub get_member : {A : Type 0} (x : A) (xs : List A) (i : ℕ) → slice_get xs i ≡ Some x → Member x xs
 get_member x [] i e = absurd (none_some x e)
-get_member x (y ∷ ys) zero e = inl (some_one y x e)
+get_member x (y ∷ ys) zero e = inl (some_is y x e)
 get_member x (y ∷ ys) (suc i) e = inr (get_member x ys i e)
 
 before_gets : {A : Type 0} (u t : A) (xs : List A) → Before u t xs → (i : ℕ) × (j : ℕ) × (i < j) × (slice_get xs i ≡ Some u) × (slice_get xs j ≡ Some t)
@@ -42,7 +39,7 @@ before_gets u t (x ∷ xs) (inr b) = let w = before_gets u t xs b in (suc w.0, s
 
 pub in_get : (k : ℕ) (xs : List ℕ) (i : ℕ) → slice_get xs i ≡ Some k → is_in k xs ≡ true
 in_get k [] i e = absurd (none_some k e)
-in_get k (y ∷ ys) zero e = (let same : y ≡ k = some_one y k e in let test : (y == k) ≡ true = grind (arith, nat_tests) in or_left (y == k) (is_in k ys) test)
+in_get k (y ∷ ys) zero e = (let same : y ≡ k = some_is y k e in let test : (y == k) ≡ true = grind (arith, nat_tests) in or_left (y == k) (is_in k ys) test)
 in_get k (y ∷ ys) (suc i) e = or_true (y == k) (is_in k ys) (in_get k ys i e)
 
 pub get_in : (k : ℕ) (xs : List ℕ) → is_in k xs ≡ true → (i : ℕ) × (slice_get xs i ≡ Some k)
@@ -63,13 +60,13 @@ found k y ys same = (let test : (y == k) ≡ true = grind (arith, nat_tests) in 
 
 one_place : (k : ℕ) (xs : List ℕ) (i : ℕ) → slice_get xs i ≡ Some k → 1 ≤ count_by (λ n. n == k) xs
 one_place k [] i e = absurd (none_some k e)
-one_place k (y ∷ ys) zero e = (let is = found k y ys (some_one y k e) in omega (arith, is))
+one_place k (y ∷ ys) zero e = (let is = found k y ys (some_is y k e) in omega (arith, is))
 one_place k (y ∷ ys) (suc i) e = (let le = counted k y ys in let more = one_place k ys i e in omega (arith, le, more))
 
 two_places : (k : ℕ) (xs : List ℕ) (i j : ℕ) → i < j → slice_get xs i ≡ Some k → slice_get xs j ≡ Some k → 2 ≤ count_by (λ n. n == k) xs
 two_places k [] i j lt a b = absurd (none_some k a)
 two_places k (y ∷ ys) i zero lt a b = absurd (omega (arith, lt))
-two_places k (y ∷ ys) zero (suc j) lt a b = (let is = found k y ys (some_one y k a) in let more = one_place k ys j b in omega (arith, is, more))
+two_places k (y ∷ ys) zero (suc j) lt a b = (let is = found k y ys (some_is y k a) in let more = one_place k ys j b in omega (arith, is, more))
 two_places k (y ∷ ys) (suc i) (suc j) lt a b = (let le = counted k y ys in let more = two_places k ys i j (omega (arith, lt)) a b in omega (arith, le, more))
 
 -- numbers of which each stands there at most once
@@ -100,14 +97,14 @@ module _ (procs : List Proc) (calls : List Call) where
       slice_get (run order db) i ≡ Some (record { call = numbered calls k; effect = e })
   act_at [] db i k e a b = absurd (none_some k a)
   act_at (n ∷ ns) db zero k e a b =
-      let p : n ≡ k = some_one n k a in
-      let q : means procs (numbered calls n) db ≡ e = some_one (means procs (numbered calls n) db) e b in
+      let p : n ≡ k = some_is n k a in
+      let q : means procs (numbered calls n) db ≡ e = some_is (means procs (numbered calls n) db) e b in
       λ j. Some (record { call = numbered calls (p j); effect = q j })
   act_at (n ∷ ns) db (suc i) k e a b = act_at ns (written (means procs (numbered calls n) db).writes db) i k e a b
 
   pub number_at : (order : List ℕ) (db : Db) (i : ℕ) (x : Act Numbered) → slice_get (run order db) i ≡ Some x → slice_get order i ≡ Some x.call.number
   number_at [] db i x e = absurd (none_some x e)
-  number_at (n ∷ ns) db zero x e = ap (λ (y : Act Numbered). Some y.call.number) (some_one (record { call = numbered calls n; effect = means procs (numbered calls n) db }) x e)
+  number_at (n ∷ ns) db zero x e = ap (λ (y : Act Numbered). Some y.call.number) (some_is (record { call = numbered calls n; effect = means procs (numbered calls n) db }) x e)
   number_at (n ∷ ns) db (suc i) x e = number_at ns (written (means procs (numbered calls n) db).writes db) i x e
 
   pub run_length : (order : List ℕ) (db : Db) → length (run order db) ≡ length order
@@ -120,7 +117,7 @@ module _ (procs : List Proc) (calls : List Call) where
     the_act i k y x at there m is =
         let w = member_get x (run order db) m in
         let same : w.0 ≡ i = unique w.0 i k (number_at order db w.0 x w.1 ∙ ap (λ (n : ℕ). Some n) is) at in
-        some_one x y (sym w.1 ∙ ap (slice_get (run order db)) same ∙ there)
+        some_is x y (sym w.1 ∙ ap (slice_get (run order db)) same ∙ there)
 
     pub once : Once (run order db)
     once x b =
@@ -135,11 +132,11 @@ module _ (taken : Numbered → Bool) where
       slice_get (taints marks (effects xs) (map (is_missing taken) xs)) i ≡ Some (is_tainted (marks_after taken marks (take i xs)) x.effect)
   unfolding taints
   taint_at [] marks i x e = absurd (none_some x e)
-  taint_at (y ∷ ys) marks zero x e = ap (λ (z : Act Numbered). Some (is_tainted marks z.effect)) (some_one y x e)
+  taint_at (y ∷ ys) marks zero x e = ap (λ (z : Act Numbered). Some (is_tainted marks z.effect)) (some_is y x e)
   taint_at (y ∷ ys) marks (suc i) x e = taint_at ys (passed taken marks y) i x e
 
 -- a list around one of its places
 pub split_at : {A : Type 0} (xs : List A) (i : ℕ) (x : A) → slice_get xs i ≡ Some x → xs ≡ take i xs ++ x ∷ drop (suc i) xs
 split_at [] i x e = absurd (none_some x e)
-split_at (y ∷ ys) zero x e = ap (λ z. z ∷ ys) (some_one y x e)
+split_at (y ∷ ys) zero x e = ap (λ z. z ∷ ys) (some_is y x e)
 split_at (y ∷ ys) (suc i) x e = ap (λ l. y ∷ l) (split_at ys i x e)

@@ -13,7 +13,8 @@ use Rattle.tau_inspect.specs.Executed.{effects, numbered}
 use Rattle.tau_inspect.specs.ByNumber.{is_in, HasCounts, HasFlags}
 use Rattle.tau_inspect.specs.Tests.{told_so}
 use Rattle.tau_inspect.specs.Audit.{Case, acts, fate_of, has_ack, times_due, is_acked, IsTold}
-use Rattle.tau_inspect.proofs.Acts.{act_at, some_one}
+use Rattle.tau_inspect.proofs.Acts.{act_at}
+use Rattle.tau_base.proofs.Logic.{some_is}
 
 -- an element that was read, whatever stands for one that is not there
 pub read_at : {A : Type 0} (xs : List A) (i : ℕ) (x d : A) → i < length xs → x ≡ get_or xs i x → slice_index_or xs i d ≡ x
@@ -84,5 +85,5 @@ here_at {A} [] i x e = absurd (none_some e)
   where
     none_some : ◌≡◌ {A = Option A} None (Some x) → ⊥
     none_some q = cc
-here_at (y ∷ ys) zero x e = (omega arith, sym (some_one y x e))
+here_at (y ∷ ys) zero x e = (omega arith, sym (some_is y x e))
 here_at (y ∷ ys) (suc i) x e = let w = here_at ys i x e in (omega (arith, w.0), w.1)

@@ -16,11 +16,9 @@ use Rattle.tau_base.specs.declared.value.Value.TheVariants.{Absent}
 use Rattle.tau_scan.specs.Taken.{Kept}
 use Rattle.tau_inspect.specs.ByNumber.{IsUnique}
 use Rattle.tau_inspect.specs.Audit.{Case, acts, records, nowhere, place_in, vector_in, place_of, due, committed_by, committed_of}
-use Rattle.tau_inspect.proofs.Acts.{some_one}
 use Rattle.tau_inspect.proofs.Mapped.{reported_map}
-
-none_some : {A : Type 0} (x : A) → ◌≡◌ {A = Option A} None (Some x) → ⊥
-none_some x e = cc
+use Rattle.tau_base.proofs.Logic.{some_is}
+use Rattle.tau_inspect.proofs.Acts.{none_some}
 
 unique_tail : (x : ℕ) (xs : List ℕ) → IsUnique (x ∷ xs) → IsUnique xs
 unique_tail x xs u i j k a b = (let e : suc i ≡ suc j = u (suc i) (suc j) k a b in omega arith)
@@ -30,13 +28,13 @@ same_test a b e = grind (arith, nat_tests)
 
 number_get : (rs : List Kept) (j : ℕ) (r : Kept) → slice_get rs j ≡ Some r → slice_get (map (λ (q : Kept). q.number) rs) j ≡ Some r.number
 number_get [] j r e = absurd (none_some r e)
-number_get (q ∷ qs) zero r e = ap (λ (z : Kept). Some z.number) (some_one q r e)
+number_get (q ∷ qs) zero r e = ap (λ (z : Kept). Some z.number) (some_is q r e)
 number_get (q ∷ qs) (suc j) r e = number_get qs j r e
 
 pub place_there : (rs : List Kept) (j k : ℕ) (r : Kept) → IsUnique (map (λ (q : Kept). q.number) rs) → slice_get rs j ≡ Some r → r.number ≡ k → place_in k rs ≡ r.place
 place_there [] j k r u at is = absurd (none_some r at)
 place_there (q ∷ qs) zero k r u at is =
-    let same : q ≡ r = some_one q r at in
+    let same : q ≡ r = some_is q r at in
     let test : (q.number == k) ≡ true = same_test q.number k (ap (λ (z : Kept). z.number) same ∙ is) in
     ap (λ (b : Bool). if b then q.place else place_in k qs) test ∙ ap (λ (z : Kept). z.place) same
 place_there (q ∷ qs) (suc j) k r u at is = elim (cases_Bool (q.number == k)) [
@@ -48,15 +46,15 @@ place_there (q ∷ qs) (suc j) k r u at is = elim (cases_Bool (q.number == k)) [
   | inr e ↦ ap (λ (b : Bool). if b then q.place else place_in k qs) e ∙ place_there qs j k r (unique_tail q.number (map (λ (z : Kept). z.number) qs) u) at is
 ]
 
-ack_get : (as' : List (ℕ × List ℕ)) (j : ℕ) (a : ℕ × List ℕ) → slice_get as' j ≡ Some a → slice_get (map (λ (b : ℕ × List ℕ). b.0) as') j ≡ Some a.0
+pub ack_get : (as' : List (ℕ × List ℕ)) (j : ℕ) (a : ℕ × List ℕ) → slice_get as' j ≡ Some a → slice_get (map (λ (b : ℕ × List ℕ). b.0) as') j ≡ Some a.0
 ack_get [] j a e = absurd (none_some a e)
-ack_get (q ∷ qs) zero a e = ap (λ (z : ℕ × List ℕ). Some z.0) (some_one q a e)
+ack_get (q ∷ qs) zero a e = ap (λ (z : ℕ × List ℕ). Some z.0) (some_is q a e)
 ack_get (q ∷ qs) (suc j) a e = ack_get qs j a e
 
 pub vector_there : (as' : List (ℕ × List ℕ)) (j k : ℕ) (a : ℕ × List ℕ) → IsUnique (map (λ (b : ℕ × List ℕ). b.0) as') → slice_get as' j ≡ Some a → a.0 ≡ k → vector_in k as' ≡ a.1
 vector_there [] j k a u at is = absurd (none_some a at)
 vector_there (q ∷ qs) zero k a u at is =
-    let same : q ≡ a = some_one q a at in
+    let same : q ≡ a = some_is q a at in
     let test : (q.0 == k) ≡ true = same_test q.0 k (ap (λ (z : ℕ × List ℕ). z.0) same ∙ is) in
     ap (λ (b : Bool). if b then q.1 else vector_in k qs) test ∙ ap (λ (z : ℕ × List ℕ). z.1) same
 vector_there (q ∷ qs) (suc j) k a u at is = elim (cases_Bool (q.0 == k)) [
@@ -70,10 +68,10 @@ vector_there (q ∷ qs) (suc j) k a u at is = elim (cases_Bool (q.0 == k)) [
 
 -- the element of which the number was found
 pub named_record : (rs : List Kept) (j k : ℕ) (r : Kept) → slice_get (map (λ (q : Kept). q.number) rs) j ≡ Some k → slice_get rs j ≡ Some r → r.number ≡ k
-named_record rs j k r at got = some_one r.number k (sym (number_get rs j r got) ∙ at)
+named_record rs j k r at got = some_is r.number k (sym (number_get rs j r got) ∙ at)
 
 pub named_ack : (as' : List (ℕ × List ℕ)) (j k : ℕ) (a : ℕ × List ℕ) → slice_get (map (λ (b : ℕ × List ℕ). b.0) as') j ≡ Some k → slice_get as' j ≡ Some a → a.0 ≡ k
-named_ack as' j k a at got = some_one a.0 k (sym (ack_get as' j a got) ∙ at)
+named_ack as' j k a at got = some_is a.0 k (sym (ack_get as' j a got) ∙ at)
 
 -- ---- what is put
 

@@ -22,16 +22,6 @@ stream_more judge streams i d lt = rw add-one (ap (λ (ps : List (List Placed)).
 
 -- ---- the lowest component
 
-pub uncovered_next : (judge dep : List ℕ) (i : ℕ) → i < length dep → get_or dep i 0 ≤ slice_index judge i → uncovered_from i judge (drop i dep) ≡ uncovered_from (i + 1) judge (drop (i + 1) dep)
-uncovered_next judge dep i lt le =
-    let test : nat_le (get_or dep i 0) (slice_index judge i) ≡ true = grind (arith, nat_tests) in
-    rw (add-one, drop-cons dep i 0 lt, test) refl
-
-pub uncovered_here : (judge dep : List ℕ) (i : ℕ) → i < length dep → slice_index judge i < get_or dep i 0 → uncovered_from i judge (drop i dep) ≡ Some i
-uncovered_here judge dep i lt above =
-    let test : nat_le (get_or dep i 0) (slice_index judge i) ≡ false = grind (arith, nat_tests) in
-    rw (drop-cons dep i 0 lt, test) refl
-
 abbrev tail : List ℕ → List ℕ
 tail [] = []
 tail (x ∷ xs) = xs

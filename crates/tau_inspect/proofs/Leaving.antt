@@ -43,6 +43,7 @@ use Rattle.tau_inspect.proofs.Acts.{get_in, none_some}
 use Rattle.tau_inspect.proofs.Cutting.{cut_one, cut_lacks, decimal_lacks, lacks_append}
 use Rattle.tau_inspect.proofs.Greedy.{reads_all, apart_lines}
 use Rattle.tau_inspect.proofs.Spellings.{small_pos, small_neg}
+use Rattle.tau_inspect.proofs.ReadSections.{fate_is}
 
 -- ---- no line has a byte 10 within
 
@@ -243,14 +244,9 @@ module _ (tables : List (List ℕ)) (names : AreNames tables) where
 
 -- ---- what became of the calls
 
-fate_line_is : (k : ℕ) (f : Fate) → fate_line k f ≡ fate_body k f ++ 10 ∷ []
-fate_line_is k (Acked r) = refl
-fate_line_is k (Unsure r) = refl
-fate_line_is k Unrun = refl
-
 pub fate_head : (k : ℕ) (f : Fate) (fs : List Fate) (more : List ℕ) → fate_lines k (f ∷ fs) ++ more ≡ fate_body k f ++ 10 ∷ (fate_lines (k + 1) fs ++ more)
 fate_head k f fs more =
-    ap (λ (l : List ℕ). (l ++ fate_lines (k + 1) fs) ++ more) (fate_line_is k f)
+    ap (λ (l : List ℕ). (l ++ fate_lines (k + 1) fs) ++ more) (fate_is k f)
     ∙ append_assoc (fate_body k f ++ 10 ∷ []) (fate_lines (k + 1) fs) more ∙ append_assoc (fate_body k f) (10 ∷ []) (fate_lines (k + 1) fs ++ more)
 
 -- what is left of fates whose lines begin a text, after those that it begins with for sure

@@ -14,7 +14,8 @@ use Rattle.tau_text_laws.proofs.Binds.{then_ok}
 use Rattle.tau_text_laws.proofs.Law.{source}
 use Rattle.tau_text_laws.proofs.PartsTold.{TablesTold}
 use Rattle.tau_inspect.specs.RunText.{AreNames}
-use Rattle.tau_inspect.proofs.Acts.{none_some, some_one}
+use Rattle.tau_inspect.proofs.Acts.{none_some}
+use Rattle.tau_base.proofs.Logic.{some_is}
 
 none_is : (n w : List ℕ) (o : Option ℕ) → fresh n o ≡ Ok w → (o ≡ None) × (n ≡ w)
 none_is n w None e = (refl, cc)
@@ -58,7 +59,7 @@ known_own before after w f = then_ok (name w) _ w (Ok (length before)) f.spelled
 names_from : (before ts : List (List ℕ)) → TablesTold before ts → (i : ℕ) (w : List ℕ) → slice_get ts i ≡ Some w → known (before ++ ts) w ≡ Ok (length before + i)
 names_from before [] told i w at = absurd (none_some w at)
 names_from before (t ∷ ts) told zero w at =
-    let same : t ≡ w = some_one t w at in
+    let same : t ≡ w = some_is t w at in
     let own : known (before ++ t ∷ ts) t ≡ Ok (length before + 0) = known_own before ts t (fresh_name before t told.0) ∙ ap (λ (j : ℕ). Ok j) (omega arith) in
     subst (λ (v : List ℕ). known (before ++ t ∷ ts) v ≡ Ok (length before + 0)) same own
 names_from before (t ∷ ts) told (suc i) w at =

@@ -81,11 +81,6 @@ module _ (calls n : ℕ) (rest : List ℕ) (a : AckLine) (fits : IsAck calls n a
   pub ack_cut : (i : ℕ) → IsCut 32 rest i → (decimal a.number ≡ take i rest) × (vector_text a.lv ≡ drop (i + 1) rest)
   ack_cut i cut = cut_one 32 (decimal a.number) (take i rest) (vector_text a.lv) (drop (i + 1) rest) (decimal_lacks 32 a.number (omega arith) (omega (arith, small, fits.0.1))) cut.first (behind ∙ cut.split)
 
-pub ack_told : (rest : List ℕ) (i number : ℕ) (lv : List ℕ) → IsCut 32 rest i → decimal number ≡ take i rest → vector_text lv ≡ drop (i + 1) rest → ack_body (record { number = number; lv = lv }) ≡ codes "ack " ++ rest
-ack_told rest i number lv cut p q =
-    append_assoc (codes "ack ") (decimal number) (32 ∷ vector_text lv)
-    ∙ ap (λ (l : List ℕ). codes "ack " ++ l) (ap (λ (l : List ℕ). l ++ 32 ∷ vector_text lv) p ∙ ap (λ (l : List ℕ). take i rest ++ 32 ∷ l) q ∙ sym cut.split)
-
 -- ---- rows
 
 pub signed_lacks : (z : ℤ) → is_i64 z ≡ true → lacks 32 (signed_decimal z) ≡ true
@@ -98,9 +93,6 @@ module _ (text : List ℕ) (r : ℤ × Value) (fits : IsKeyed r) (e : keyed_body
 
   pub keyed_cut : (i : ℕ) → IsCut 32 text i → (signed_decimal r.0 ≡ take i text) × (value_text r.1 ≡ drop (i + 1) text)
   keyed_cut i cut = cut_one 32 (signed_decimal r.0) (take i text) (value_text r.1) (drop (i + 1) text) (signed_lacks r.0 fits.0) cut.first (e ∙ cut.split)
-
-pub keyed_told : (text : List ℕ) (i : ℕ) (z : ℤ) (v : Value) → IsCut 32 text i → signed_decimal z ≡ take i text → value_text v ≡ drop (i + 1) text → keyed_body (z, v) ≡ text
-keyed_told text i z v cut p q = ap (λ (l : List ℕ). l ++ 32 ∷ value_text v) p ∙ ap (λ (l : List ℕ). take i text ++ 32 ∷ l) q ∙ sym cut.split
 
 present_spelled : (v : Value) → is_value v ≡ true → value_text v ≡ codes "none" → ⊥
 present_spelled Absent p e = both_ways false refl p

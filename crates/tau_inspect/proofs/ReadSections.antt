@@ -26,8 +26,9 @@ use Rattle.tau_inspect.specs.Parts.{lacks}
 use Rattle.tau_inspect.specs.ReportFor.{IsCall, IsFate, IsRow, IsVector}
 use Rattle.tau_inspect.specs.RunText.{IsTextOf}
 use Rattle.tau_inspect.specs.Sections.{IsLine, AreAcks, AreFates, AreOrders, AreRows, IsAbove}
-use Rattle.tau_inspect.proofs.Acts.{in_get, none_some, some_one}
+use Rattle.tau_inspect.proofs.Acts.{in_get, none_some}
 use Rattle.tau_inspect.proofs.Cutting.{cut_one, decimal_lacks}
+use Rattle.tau_base.proofs.Logic.{some_is}
 
 -- ---- the bodies of lines
 
@@ -51,7 +52,7 @@ line_more {A} f text xs x rest line behind told l is =
 -- ---- acknowledgements
 
 push_get : (xs : List ℕ) (k m i : ℕ) → slice_get (xs ++ k ∷ []) i ≡ Some m → (slice_get xs i ≡ Some m) ⊎ ((i ≡ length xs) × (m ≡ k))
-push_get [] k m zero e = inr (refl, sym (some_one k m e))
+push_get [] k m zero e = inr (refl, sym (some_is k m e))
 push_get [] k m (suc i) e = absurd (none_some m e)
 push_get (y ∷ ys) k m zero e = inl e
 push_get (y ∷ ys) k m (suc i) e = elim (push_get ys k m i e) [
@@ -169,9 +170,6 @@ no_rows tables text = record { told = refl; fit = All-nil (IsRow (length tables)
 
 pub no_orders : (calls : ℕ) (text : List ℕ) → AreOrders calls text [] text
 no_orders calls text = record { told = refl; numbers = All-nil (IsCall calls) }
-
-pub no_acks : (calls n : ℕ) (text : List ℕ) → AreAcks calls n text [] text
-no_acks calls n text = record { told = refl; numbers = All-nil (λ (a : ℕ × List ℕ). IsCall calls a.0); vectors = All-nil (λ (a : ℕ × List ℕ). IsVector n a.1); once = λ i j k p q. absurd (none_some k p) }
 
 pub order_more : (calls : ℕ) (text order rest line behind : List ℕ) (k : ℕ) → AreOrders calls text order rest → IsLine rest line behind → IsCall calls k → order_body k ≡ line → AreOrders calls text (order ++ k ∷ []) behind
 order_more calls text order rest line behind k are l call e = record {

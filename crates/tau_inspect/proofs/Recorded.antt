@@ -15,7 +15,9 @@ use Rattle.tau_scan.specs.Taken.{Kept}
 use Rattle.tau_inspect.specs.Executed.{effects, numbered, call_of, no_call, IsNumberOf}
 use Rattle.tau_inspect.specs.ByNumber.{is_in, IsUnique}
 use Rattle.tau_inspect.specs.Audit.{Case, acts, has_record, IsWork, HasAct, AckAgrees}
-use Rattle.tau_inspect.proofs.Acts.{member_get, get_member, number_at, in_get, act_at, the_act, some_one}
+use Rattle.tau_inspect.proofs.Acts.{member_get, get_member, number_at, in_get, act_at, the_act}
+use Rattle.tau_base.proofs.Logic.{some_is}
+use Rattle.tau_inspect.proofs.Due.{ack_get}
 
 pub of_all : {A : Type 0} (P : A → Type 0) (xs : List A) (i : ℕ) (x : A) → All P xs → slice_get xs i ≡ Some x → P x
 of_all P xs i x all at =
@@ -63,29 +65,21 @@ module _ (c : Case) (done : List Effect) (are : done ≡ effects (acts c)) (many
 
 -- ---- acknowledgements
 
-mapped_get : (as' : List (ℕ × List ℕ)) (i : ℕ) (a : ℕ × List ℕ) → slice_get as' i ≡ Some a → slice_get (map (λ (b : ℕ × List ℕ). b.0) as') i ≡ Some a.0
-mapped_get [] i a e = absurd (none e)
-  where
-    none : ◌≡◌ {A = Option (ℕ × List ℕ)} None (Some a) → ⊥
-    none q = cc
-mapped_get (b ∷ bs) zero a e = ap (λ (z : ℕ × List ℕ). Some z.0) (some_one b a e)
-mapped_get (b ∷ bs) (suc i) a e = mapped_get bs i a e
-
 module _ (c : Case) (unique : IsUnique (map (λ (a : ℕ × List ℕ). a.0) c.report.acks)) (r : Kept) where
   -- its call is not acknowledged
   pub no_ack : is_in r.number (map (λ (a : ℕ × List ℕ). a.0) c.report.acks) ≡ false → AckAgrees c r
   no_ack none v m =
       let w = member_get (r.number, v) c.report.acks m in
-      absurd (both_ways (is_in r.number (map (λ (a : ℕ × List ℕ). a.0) c.report.acks)) none (in_get r.number (map (λ (a : ℕ × List ℕ). a.0) c.report.acks) w.0 (mapped_get c.report.acks w.0 (r.number, v) w.1)))
+      absurd (both_ways (is_in r.number (map (λ (a : ℕ × List ℕ). a.0) c.report.acks)) none (in_get r.number (map (λ (a : ℕ × List ℕ). a.0) c.report.acks) w.0 (ack_get c.report.acks w.0 (r.number, v) w.1)))
 
   pub ack_iff : (i : ℕ) (a : ℕ × List ℕ) → slice_get (map (λ (b : ℕ × List ℕ). b.0) c.report.acks) i ≡ Some r.number → slice_get c.report.acks i ≡ Some a →
       (b : Bool) → (IsTrue b ↔ (a.1 ≡ lv true r.place)) → IsTrue b ↔ AckAgrees c r
   ack_iff i a at got b iff =
-      let named : a.0 ≡ r.number = some_one a.0 r.number (sym (mapped_get c.report.acks i a got) ∙ at) in (
+      let named : a.0 ≡ r.number = some_is a.0 r.number (sym (ack_get c.report.acks i a got) ∙ at) in (
         (λ t v m.
             let w = member_get (r.number, v) c.report.acks m in
-            let same : w.0 ≡ i = unique w.0 i r.number (mapped_get c.report.acks w.0 (r.number, v) w.1) at in
-            let is : (r.number, v) ≡ a = some_one (r.number, v) a (sym w.1 ∙ ap (slice_get c.report.acks) same ∙ got) in
+            let same : w.0 ≡ i = unique w.0 i r.number (ack_get c.report.acks w.0 (r.number, v) w.1) at in
+            let is : (r.number, v) ≡ a = some_is (r.number, v) a (sym w.1 ∙ ap (slice_get c.report.acks) same ∙ got) in
             ap (λ (z : ℕ × List ℕ). z.1) is ∙ iff.0 t),
         (λ h. iff.1 (h a.1 (get_member (r.number, a.1) c.report.acks i (got ∙ ap (λ (n : ℕ). Some (n, a.1)) named)))),
       )

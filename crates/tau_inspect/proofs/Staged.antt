@@ -8,7 +8,7 @@ use Rattle.tau_base.specs.Database.{Db, empty_db}
 use Rattle.tau_base.specs.Vectors.{covers}
 use Rattle.tau_base.specs.declared.value.Key.{Key}
 use Rattle.tau_base.specs.declared.value.Value.{Value}
-use Rattle.tau_base.proofs.Logic.{below_or_not}
+use Rattle.tau_base.proofs.Logic.{below_or_not, some_is}
 use Rattle.tau_proc.specs.Effect.{Effect}
 use Rattle.tau_model.specs.History.{Act, Numbered}
 use Rattle.tau_model.specs.Tables.{IsTablesOf}
@@ -23,7 +23,7 @@ use Rattle.tau_inspect.specs.ByNumber.{is_in, IsUnique, HasFlags}
 use Rattle.tau_inspect.specs.ReportFor.{IsCall}
 use Rattle.tau_inspect.specs.Cases.{IsCase}
 use Rattle.tau_inspect.specs.Audit.{Case, acts, numbers, records, times_due, fate_of, FitsFate, FitsRecord, FitRows, Passes}
-use Rattle.tau_inspect.proofs.Acts.{run_length, unique_counts, member_range, in_get, some_one}
+use Rattle.tau_inspect.proofs.Acts.{run_length, unique_counts, member_range, in_get}
 use Rattle.tau_inspect.proofs.Firsts.{fits_member}
 use Rattle.tau_inspect.proofs.Recorded.{of_all, recorded}
 use Rattle.tau_inspect.proofs.Ones.{tables_one}
@@ -51,7 +51,7 @@ number_get [] j k e = absurd (none e)
   where
     none : ◌≡◌ {A = Option ℕ} None (Some k) → ⊥
     none q = cc
-number_get (q ∷ qs) zero k e = (q, refl, some_one q.number k e)
+number_get (q ∷ qs) zero k e = (q, refl, some_is q.number k e)
 number_get (q ∷ qs) (suc j) k e = number_get qs j k e
 
 number_front : (rs : List Kept) (i j k : ℕ) → i < j → slice_get (map (λ (q : Kept). q.number) rs) i ≡ Some k → slice_get (map (λ (q : Kept). q.number) (take j rs)) i ≡ Some k
@@ -68,7 +68,7 @@ split_here [] j r e = absurd (none e)
   where
     none : ◌≡◌ {A = Option Kept} None (Some r) → ⊥
     none q = cc
-split_here (q ∷ qs) zero r e = ap (λ z. z ∷ qs) (some_one q r e)
+split_here (q ∷ qs) zero r e = ap (λ z. z ∷ qs) (some_is q r e)
 split_here (q ∷ qs) (suc j) r e = ap (λ l. q ∷ l) (split_here qs j r e)
 
 module _ (c : Case) (fit : Passes c check.Record) where

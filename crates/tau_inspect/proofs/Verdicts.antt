@@ -15,6 +15,7 @@ use Rattle.tau_inspect.specs.Firsts.{AllFit}
 use Rattle.tau_inspect.specs.Taint.{is_missing}
 use Rattle.tau_inspect.specs.Audit.{Case, acts, is_taken, fate_of, reply_of, FitsReply, FitsClosed, FitsOrder, due, place_of, ToldReplies, VerdictsMean}
 use Rattle.tau_inspect.proofs.Firsts.{fits_member}
+use Rattle.tau_base.proofs.Lists.{length_mapped}
 
 -- what depends on something is one of the calls
 depends_member : (acts : List (Act Numbered)) (t u : Act Numbered) → Depends acts t u → Member t acts
@@ -61,10 +62,6 @@ trace_length : (procs : List Proc) (calls : List Call) (order : List ℕ) (db : 
 trace_length procs calls [] db = refl
 trace_length procs calls (k ∷ ks) db = ap suc (trace_length procs calls ks (written (means procs (numbered calls k) db).writes db))
 
-map_length : {A B : Type 0} (f : A → B) (xs : List A) → length (map f xs) ≡ length xs
-map_length f [] = refl
-map_length f (x ∷ xs) = ap suc (map_length f xs)
-
 -- a list of which each element is that of the other at its place, which is no longer
 same_as : (xs ys : List ℕ) → ((front back : List ℕ) (x : ℕ) → xs ≡ front ++ x ∷ back → slice_get ys (length front) ≡ Some x) → length ys ≤ length xs → xs ≡ ys
 same_as [] [] all le = refl
@@ -81,7 +78,7 @@ order_by c all =
     let left : Left (Act Numbered) = left_of (place_of c) (λ x. updates x.effect) (λ x. x.call.number) (length c.log.elv) (acts c) in
     let short : length (reported_within (place_of c) (length (acts c)) c.log.elv left) ≤ length (acts c) = within_short (place_of c) (length (acts c)) c.log.elv left in
     let n : length (acts c) ≡ length c.report.order = trace_length c.load.declarations.procs c.load.calls c.report.order empty_db in
-    let m : length (due c) ≡ length (reported_within (place_of c) (length (acts c)) c.log.elv left) = map_length (λ (x : Act Numbered). x.call.number) (reported_within (place_of c) (length (acts c)) c.log.elv left) in
+    let m : length (due c) ≡ length (reported_within (place_of c) (length (acts c)) c.log.elv left) = length_mapped (λ (x : Act Numbered). x.call.number) (reported_within (place_of c) (length (acts c)) c.log.elv left) in
     same_as c.report.order (due c) all (omega (arith, n, m, short))
 
 pub verdicts_mean : VerdictsMean

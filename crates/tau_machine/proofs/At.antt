@@ -1,6 +1,5 @@
 -- Functions that are changed at one place, and shards that are changed at one key.
-use Rattle.std.proofs.Common.{ℕ, ◌<◌, false, ◌≡◌, inl, inr, List, length, refl, sym, ap, subst, ◌∙◌, get_or-set_same, get_or-set_other}
-use Rattle.std.specs.Prelude.{slice_index_or, slice_set}
+use Rattle.std.proofs.Common.{ℕ, ◌<◌, false, ◌≡◌, inl, inr, refl, sym, ap, subst, ◌∙◌}
 use Rattle.std.proofs.Math.Path.{fun_ext}
 use Rattle.std.proofs.lemmas.Bool.{eq-eqb, ne_eqb, cases_eq}
 use Rattle.tau_base.specs.declared.value.Key.{Key}
@@ -42,12 +41,3 @@ entry_same sh x e = rw (same_key_itself x) refl
 
 pub entry_other : (sh : Shard) (x y : Key) (e : Entry) → same_key y x ≡ false → entry_in (put_entry sh x e) y ≡ entry_in sh y
 entry_other sh x y e ne = rw ne refl
-
--- a list of parts, read as a function from their numbers
-pub reads_set : {A B : Type 0} (f : A → B) (d : A) (xs : List A) (i : ℕ) (x : A) → i < length xs →
-    (λ (j : ℕ). f (slice_index_or (slice_set xs i x) j d)) ≡ at i (f x) (λ j. f (slice_index_or xs j d))
-reads_set {A} f d xs i x lt = fun_ext (λ j. elim (cases_eq j i) [
-  | inl is ↦ subst (λ (k : ℕ). f (slice_index_or (slice_set xs i x) k d) ≡ at i (f x) (λ l. f (slice_index_or xs l d)) k) (sym is)
-      (ap f (get_or-set_same xs i x d lt) ∙ sym (at_same i (f x) (λ l. f (slice_index_or xs l d))))
-  | inr ne ↦ ap f (get_or-set_other xs i j x d ne) ∙ sym (at_other i (f x) (λ l. f (slice_index_or xs l d)) j ne)
-])

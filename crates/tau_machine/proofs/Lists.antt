@@ -7,7 +7,6 @@ use Rattle.std.proofs.lemmas.Bool.{cases_Bool, eq-eqb, cases_eq, ne_eqb}
 use Rattle.tau_model.specs.History.{Act, Member, Before, Reordered}
 use Rattle.tau_machine.specs.Hands.{Txn}
 use Rattle.tau_machine.specs.Accounts.{one, in_acts}
-use Rattle.tau_model.proofs.Logged.{member_filtered}
 
 -- of two elements one stands before the other, or they are equal
 pub either_way : {A : Type 0} (u t : A) (xs : List A) → Member u xs → Member t xs → (u ≡ t) ⊎ (Before u t xs ⊎ Before t u xs)
@@ -36,24 +35,8 @@ before_of p u t (x ∷ xs) (inr b) e f = elim (cases_Bool (p x)) [
   | inr n ↦ rw n (before_of p u t xs b e f)
 ]
 
-pub before_from : {A : Type 0} (p : A → Bool) (u t : A) (xs : List A) → Before u t (filter p xs) → Before u t xs
-before_from p u t [] b = b
-before_from p u t (x ∷ xs) b = elim (cases_Bool (p x)) [
-  | inl y ↦ elim (rw y at b) [
-    | inl w ↦ inl (w.0, (member_filtered p t xs w.1).0)
-    | inr c ↦ inr (before_from p u t xs c)
-  ]
-  | inr n ↦ inr (before_from p u t xs (rw n at b))
-]
-
 pub one_same : (n m : ℕ) → n ≡ m → one n m ≡ 1
 one_same n m e = let p : (n == m) ≡ true = eq-eqb n m e in rw p refl
-
-one_is : (n m : ℕ) → 1 ≤ one n m → n ≡ m
-one_is n m h = elim (cases_eq n m) [
-  | inl e ↦ e
-  | inr ne ↦ absurd (let p : (n == m) ≡ false = ne_eqb n m ne in let q : one n m ≡ 0 = rw p refl in omega arith)
-]
 
 pub member_counts : (n : ℕ) (t : Act Txn) (ts : List (Act Txn)) → Member t ts → n ≡ t.call.call.number → 1 ≤ in_acts n ts
 member_counts n t [] m e = absurd m

@@ -13,7 +13,7 @@ use Rattle.tau_model.specs.declared.committed_list.Head.{Head}
 use Rattle.tau_model.specs.declared.committed_list.KeptReply.{KeptReply}
 use Rattle.tau_model.specs.declared.committed_list.KeptReply.TheVariants.{Absent, Number, Text, Refused}
 use Rattle.tau_model.specs.Committed.{lv_at}
-use Rattle.tau_model.specs.KeptCommitted.{HasText, IsHead, call_of, calls_of, head_behind, reply_behind, reply_of, spot_by, spot_of, texts_in}
+use Rattle.tau_model.specs.KeptCommitted.{HasText, IsHead, call_of, calls_of, head_behind, reply_behind, reply_of, spot_by, spot_of}
 
 pub calls_length : (ts : List (List ℕ)) (hs : List Head) (ds : List (List ℕ)) → length hs ≡ length ds → length (calls_of ts hs ds) ≡ length hs
 calls_length ts [] ds e = refl
@@ -80,14 +80,6 @@ heads_more a b [] le all k d lt = absurd (omega (arith, lt))
 heads_more a b (h ∷ hs) le all zero d lt = has_more a b h.reply le (all 0 h (omega arith))
 heads_more a b (h ∷ hs) le all (suc k) d lt = heads_more a b hs le (rest_heads a h hs all) k d (omega (arith, lt))
 
--- one head
-pub head_alone : (n : ℕ) (h : Head) → IsHead n h → All (IsHead n) (h ∷ [])
-head_alone n h is zero d lt = is
-head_alone n h is (suc k) d lt = absurd (omega (arith, lt))
-
-pub heads_put : (a b : ℕ) (hs : List Head) (h : Head) → a ≤ b → All (IsHead a) hs → IsHead b h → All (IsHead b) (hs ++ h ∷ [])
-heads_put a b hs h le all is = All-append (IsHead b) hs (h ∷ []) (heads_more a b hs le all) (head_alone b h is)
-
 -- the same call in a list in which other texts stand before those of its own
 reply_is_behind : (ts us : List (List ℕ)) (n : ℕ) (r : KeptReply) → n ≡ length ts → reply_of (ts ++ us) (reply_behind n r) ≡ reply_of us r
 reply_is_behind ts us n (Text k) e =
@@ -140,12 +132,6 @@ heads_joined ts us n hs gs e all others =
     (heads_more (length ts) (length (ts ++ us)) hs (omega (arith, long, e)) all)
     (subst (λ (m : ℕ). All (IsHead m) (map (head_behind n) gs)) long (heads_behind n (length us) gs others))
 
--- its text can stand so much further on
-pub fits_behind : (n a b : ℕ) (hs : List Head) → n + a ≤ b → All (IsHead a) hs → All (λ h. HasText b (reply_behind n h.reply)) hs
-fits_behind n a b [] le all k d lt = absurd (omega (arith, lt))
-fits_behind n a b (h ∷ hs) le all zero d lt = has_more (n + a) b (reply_behind n h.reply) le (has_behind n a h.reply (all 0 h (omega arith)))
-fits_behind n a b (h ∷ hs) le all (suc k) d lt = fits_behind n a b hs le (rest_heads a h hs all) k d (omega (arith, lt))
-
 -- how many heads there are where so many calls are seen
 pub calls_within : (ts : List (List ℕ)) (hs : List Head) (ds : List (List ℕ)) (calls : List Committed) (i : ℕ) → length hs ≡ length ds → calls_of ts hs ds ≡ calls
     → i < length calls → i < length hs
@@ -153,12 +139,6 @@ calls_within ts hs ds calls i same is lt =
     let a = calls_length ts hs ds same in
     let b : length (calls_of ts hs ds) ≡ length calls = ap (λ (cs : List Committed). length cs) is in
     omega (arith, a, b, lt)
-
-pub few_texts : (r : Reply) → length (texts_in r) ≤ 1
-few_texts (reply.Ok (value.Text t)) = omega arith
-few_texts (reply.Ok (value.Int n)) = omega arith
-few_texts (reply.Ok value.Absent) = omega arith
-few_texts (reply.Refused step) = omega arith
 
 pub calls_count : (ts : List (List ℕ)) (hs : List Head) (ds : List (List ℕ)) (calls : List Committed) → length hs ≡ length ds → calls_of ts hs ds ≡ calls → length hs ≡ length calls
 calls_count ts hs ds calls same is = sym (calls_length ts hs ds same) ∙ ap (λ (cs : List Committed). length cs) is

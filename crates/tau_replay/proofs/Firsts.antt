@@ -1,8 +1,7 @@
 -- What a seat has first.
-use Rattle.std.proofs.Common.{ℕ, ◌≡◌, List, ◌∷◌, [], ap, Some, None, sym, subst, ◌∙◌}
-use Rattle.tau_replay.specs.Rule.{Slot, Boxed, Sat, hands_of, Names, holding, given, Took}
+use Rattle.std.proofs.Common.{ℕ, ◌≡◌, List, ◌∷◌, [], ap, Some, None, sym, ◌∙◌}
+use Rattle.tau_replay.specs.Rule.{Slot, Boxed, Sat, holding, given, Took}
 use Rattle.atomic_table.specs.Table.{rest}
-use Rattle.tau_replay.specs.Sound.{AreWorking}
 
 abbrev first_or : Slot → List (ℕ × Slot) → Slot
 first_or d [] = d
@@ -17,12 +16,6 @@ taken_same m m' b t is = let same : Some t.part ≡ Some b = first (sym (ap (λ 
 
 pub taken_is : (m m' after : Sat) (b : Boxed) → Took m m' → m'.1 ≡ (0, Some b) ∷ [] → after ≡ (m'.0, (0, None) ∷ []) → after ≡ (holding m.0 b, (0, None) ∷ [])
 taken_is m m' after b t is now = now ∙ ap (λ (z : Sat). (z.0, (0, None) ∷ [])) t.now ∙ ap (λ (z : Boxed). (holding m.0 z, (0, None) ∷ [])) (taken_same m m' b t is)
-
-pub taken_sound : (m m' : Sat) (b : Boxed) → Took m m' → m'.1 ≡ (0, Some b) ∷ [] → AreWorking m.0.log b.value.replay
-taken_sound m m' b t is = subst (λ (z : Boxed). AreWorking m.0.log z.value.replay) (taken_same m m' b t is) t.sound
-
-pub taken_named : (m m' : Sat) (b : Boxed) → Took m m' → m'.1 ≡ (0, Some b) ∷ [] → Names (hands_of b) m.0.hands
-taken_named m m' b t is = subst (λ (z : Boxed). Names (hands_of z) m.0.hands) (taken_same m m' b t is) t.named
 
 -- what the giver's view is
 pub given_is : (m m' after : Sat) (b : Boxed) → m.1 ≡ (0, None) ∷ [] → m' ≡ (m.0, (0, Some b) ∷ rest m.1) → ((z : Boxed) → m'.1 ≡ (0, Some z) ∷ [] → after ≡ (given m'.0 z, [])) → after ≡ (given m.0 b, [])

@@ -3,14 +3,6 @@ use Rattle.std.proofs.Common.{ℕ, zero, suc, ◌≡◌, ◌+◌, ◌<◌, ◌�
 use Rattle.std.specs.Prelude.{Option, Some, None, slice_get}
 use Rattle.std.proofs.Math.ListN.{set}
 use Rattle.std.proofs.lemmas.Bool.{cases_eq}
-use Rattle.tau_base.specs.declared.value.Key.{Key}
-use Rattle.tau_base.specs.declared.value.Value.{Value}
-use Rattle.tau_model.specs.History.{Reordered}
-use Rattle.tau_model.specs.Store.{database}
-use Rattle.tau_model.specs.Tables.{IsTablesOf}
-use Rattle.tau_base.specs.Database.{Db}
-use Rattle.tau_scan.specs.declared.log.Log.{Log}
-use Rattle.tau_scan.specs.Taken.{Kept}
 use Rattle.tau_pool.specs.declared.item.Job.{Job}
 use Rattle.tau_pool.specs.declared.item.Stage.{Stage}
 use Rattle.tau_pool.specs.declared.item.Stage.TheVariants.{Waiting, Flying, Finished}
@@ -19,11 +11,7 @@ use Rattle.tau_pool.specs.Pooled.{Pooled, IsStarted, IsFlying, IsFinished, stage
 use Rattle.tau_pool.proofs.Counts.{waiting_set, flying_set, one}
 use Rattle.tau_pool.proofs.Keeping.{waiting_flies}
 use Rattle.tau_pool.proofs.Flights.{flying_new, flying_fresh, flying_kept, flying_left}
-use Rattle.tau_replay.specs.declared.turns.Replay.{Replay}
 use Rattle.tau_replay.specs.Recovering.{AreHands, held_in, left_over}
-use Rattle.tau_replay.specs.Way.{IsOver}
-use Rattle.tau_replay.specs.Redone.{IsRedoneOn}
-use Rattle.tau_replay.specs.Course.{Course}
 use Rattle.tau_base.proofs.Lists.{got_within, get_set_same, get_set_other}
 
 job_is : (a b : Job) → Some (Some a) ≡ Some (Some b) → a ≡ b
@@ -153,18 +141,3 @@ empty_hands n p hands is idle = subst (λ (hs : List (Option Job)). AreHands p h
 -- of so many empty hands none holds anything
 pub none_of_idle : (n : ℕ) (p : Pooled) (hands : List (Option Job)) → hands ≡ replicate n None → AreHands p hands → flying_in p.items ≡ 0
 none_of_idle n p hands is h = sym h.count ∙ ap held_in is ∙ none_held n
-
--- where nothing is left, the tables are those of the order in which the records were finished
-pub over_redone : (log : Log) (course : Course) (r : Replay) (rows : List (Key × Value)) → IsOver log course r → IsTablesOf (database r.store) rows → IsRedoneOn log course.records course.base rows
-over_redone log course r rows o tables = record {
-  order = o.way.order;
-  is_order = record {
-    each_once = subst (λ (zs : List Kept). Reordered course.records zs) (ap (λ (zs : List Kept). o.way.order ++ zs) o.none ∙ append_nil o.way.order) o.way.going.each_once;
-    orderly = o.way.going.orderly;
-  };
-  tables = subst (λ (db : Db). IsTablesOf db rows) o.way.going.database tables;
-}
-  where
-    append_nil : (zs : List Kept) → zs ++ [] ≡ zs
-    append_nil [] = refl
-    append_nil (z ∷ zs) = ap (λ (ws : List Kept). z ∷ ws) (append_nil zs)

@@ -32,16 +32,6 @@ total_two f (x ∷ xs) zero (suc k) u v n a b = let r = ap f (some-injective x u
 total_two f (x ∷ xs) (suc j) zero u v n a b = let r = ap f (some-injective x v b) in let q = total_one f xs j u a in omega arith
 total_two f (x ∷ xs) (suc j) (suc k) u v n a b = let r = total_two f xs j k u v (λ e. n (ap suc e)) a b in omega arith
 
-pub total_none : (f : View → ℕ) (views : List View) → ((j : ℕ) (u : View) → get_elem? views j ≡ some u → f u ≡ 0) → total f views ≡ 0
-total_none f [] all = refl
-total_none f (x ∷ xs) all = let r = all zero x refl in let q = total_none f xs (λ j u e. all (suc j) u e) in omega arith
-
--- where f is 0 of each other view
-pub total_only : (f : View → ℕ) (views : List View) (k : ℕ) (v : View) → get_elem? views k ≡ some v → ((j : ℕ) (u : View) → j ≢ k → get_elem? views j ≡ some u → f u ≡ 0) → total f views ≡ f v
-total_only f [] k v e all = absurd (some-ne-none v (sym e))
-total_only f (x ∷ xs) zero v e all = let r = ap f (some-injective x v e) in let q = total_none f xs (λ j u a. all (suc j) u (λ z. absurd (omega arith)) a) in omega arith
-total_only f (x ∷ xs) (suc k) v e all = let r = all zero x (λ z. absurd (omega arith)) refl in let q = total_only f xs k v e (λ j u n a. all (suc j) u (λ z. n (omega arith)) a) in omega arith
-
 pub each_set : (P : ℕ → View → Type 0) (views : List View) (k : ℕ) (w : View) → ((j : ℕ) (u : View) → j ≢ k → get_elem? views j ≡ some u → P j u) → P k w
     → (j : ℕ) (u : View) → get_elem? (set views k w) j ≡ some u → P j u
 each_set P views k w others mine j u e =

@@ -235,11 +235,6 @@ module _ (origin : Plain) (j : ℕ) (m : Sat) (managed : Managed) (new : ℕ) (p
       let same : i ≡ j = stream_at origin o j i (sym p.opened ∙ its) (sym word ∙ at) in
       λ k. (sees_to (sym same k) (sym first k) m.0, m.1))
 
-pub loads_as : (origin : Plain) (slots id j word : ℕ) (m : Sat) → slots ≡ part_count origin.load → m.0.opened ≡ Some origin → j < origin.load.streams → word ≡ plv_word origin.load j → Allows (Rule origin) slots id m word (λ n. n) (looked (step slots word 0 0 none) m)
-loads_as origin slots id j word m es opened low is =
-    subst (λ (z : ℕ × ℕ). Allows (Rule origin) z.0 id m z.1 (λ n. n) (looked (step z.0 z.1 0 0 none) m)) (λ i. (sym es i, sym is i))
-    (loads_plv origin id j m (step (part_count origin.load) (plv_word origin.load j) 0 0 none) opened low refl)
-
 pub persists_as : (origin : Plain) (slots id j word new : ℕ) (m : Sat) (managed : Managed) → IsManager origin j m managed → slice_index m.0.seen j ≤ new → new ≤ managed.gathered → slots ≡ part_count origin.load → word ≡ plv_word origin.load j
     → Allows (Rule origin) slots id m word (λ _. new) (λ _. stored (step slots word new 0 none) m new)
 persists_as origin slots id j word new m managed p up high es is =

@@ -5,8 +5,6 @@ use Rattle.std.specs.List.{AllZip}
 use Rattle.std.proofs.lemmas.List.{append-nil, length-replicate}
 use Rattle.tau_base.specs.declared.format.Format.{Format}
 use Rattle.tau_base.specs.declared.value.LogMode.{LogMode}
-use Rattle.tau_base.specs.Vectors.{AtMost}
-use Rattle.tau_base.proofs.Logic.{zeros}
 use Rattle.tau_model.specs.Tables.{db_of_rows}
 use Rattle.tau_text.specs.declared.load.Workload.{Workload}
 use Rattle.tau_record.specs.declared.entry.Placed.{Placed}
@@ -15,7 +13,7 @@ use Rattle.tau_record.specs.Content.{anchors_of}
 use Rattle.tau_core.specs.declared.state.Load.{Load}
 use Rattle.tau_core.specs.Opens.{IsFresh}
 use Rattle.tau_scan.specs.Reading.{first_undeclared, IsReading}
-use Rattle.tau_scan.specs.Sound.{fresh_log, IsSound}
+use Rattle.tau_scan.specs.Sound.{IsSound}
 use Rattle.tau_epoch_laws.specs.Continues.{none_in}
 use Rattle.tau_epoch_laws.proofs.Fresh.{fresh_sound}
 use Rattle.tau_run.specs.Start.{fresh_start, catalogue_of, opened_with, old_at, opened_at, IsStart}
@@ -67,10 +65,6 @@ fresh_olds n = λ i j. empty_at n j i
 
 pub fresh_opened : (n : ℕ) (load : Workload) → opened_at load (fresh_start n) ≡ λ j. catalogue_of load
 fresh_opened n load = λ i j. (ap (opened_with load (fresh_start n)) (empty_at n j) ∙ append-nil (catalogue_of load)) i
-
--- no call has anything to wait for
-pub fresh_low : (n : ℕ) (v : List ℕ) → AtMost (fresh_log n).elv v
-fresh_low n v j = let none = zeros n j in omega (arith, none)
 
 ends_are : (load : Workload) (n k : ℕ) → replicate k (length (catalogue_of load)) ≡ map (λ (old : List ℕ). length (opened_with load (fresh_start n) old)) (replicate k [])
 ends_are load n zero = refl

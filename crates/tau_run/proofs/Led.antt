@@ -189,11 +189,3 @@ module _ (set : Setting) (m n : ℕ) (Q : Progress → Type 0) (goes : (e : Even
 
 pub begun_led : (set : Setting) (opening : Core) → IsLed set opening (begun opening)
 begun_led set opening = record { leads = (refl, refl); keep = tt }
-
-pub whole_led : (set : Setting) (m n : ℕ) (turns : List Turn) (opening : Core) (p : Progress) → IsWholeRun set m n turns opening p → IsLed set opening p
-whole_led set m n turns opening p r =
-    whole_run set m n (IsLed set opening) (λ e a b k q g. goes_led set m n opening e a b k q g) (λ w a b q g. tells_led set m n opening w a b q g) turns opening p (begun_led set opening) r
-
-pub part_led : (set : Setting) (m n : ℕ) (turns : List Turn) (opening : Core) (p : Progress) → IsPartOfRun set m n turns opening p → IsLed set opening p
-part_led set m n turns opening p r =
-    part_of_run set m n (IsLed set opening) (λ e a b k q g. goes_led set m n opening e a b k q g) (λ w a b q g. tells_led set m n opening w a b q g) turns opening p (begun_led set opening) r

@@ -3,7 +3,6 @@
 
 mod end;
 mod laws;
-mod sink;
 
 pub use end::tell_end;
 pub use laws::{
@@ -11,4 +10,3 @@ pub use laws::{
     images_are_recovered, left_out_for_good, lives_are_marked, lives_are_sound, nothing_begun,
     nothing_is_lost, run_is_history, run_is_there, texts_are_sound, turns_are_a_run,
 };
-pub use sink::write_all;

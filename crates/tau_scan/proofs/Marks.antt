@@ -1,5 +1,5 @@
 -- Marks of records and streams, one record or stream more at a time.
-use Rattle.std.proofs.Common.{ℕ, zero, suc, ◌+◌, ◌≤◌, true, false, ◌≡◌, List, [], ◌∷◌, ◌++◌, take, drop, length, refl, sym, ap, ◌∙◌, add-one, is_some}
+use Rattle.std.proofs.Common.{ℕ, zero, suc, ◌+◌, ◌≤◌, ◌≡◌, List, [], ◌∷◌, ◌++◌, take, drop, length, refl, ap, ◌∙◌, add-one}
 use Rattle.std.specs.Prelude.{Option, Some, None, slice_get}
 use Rattle.std.proofs.lemmas.List.{drop_all}
 use Rattle.tau_base.proofs.Lists.{drop_at}
@@ -12,7 +12,7 @@ use Rattle.tau_scan.specs.declared.fault.LogFault.{LogFault}
 use Rattle.tau_scan.specs.declared.fault.LogRefusal.{LogRefusal}
 use Rattle.tau_scan.specs.declared.fault.LogRefusal.TheVariants as refusals
 use Rattle.tau_scan.specs.Epochs.{mark_of, marks_in, marks_from, with_marks, least_number}
-use Rattle.tau_scan.specs.Reading.{unless, lowest_with, or_else, mark_fault, marks_fault, epochs_fault, epoch_fault}
+use Rattle.tau_scan.specs.Reading.{unless, or_else, marks_fault, epochs_fault, epoch_fault}
 use Rattle.tau_scan.specs.Found.{Lost, IsFault}
 use Rattle.tau_scan.proofs.Known.{first_of, vector_append, with_marks_append, least_append}
 
@@ -30,12 +30,6 @@ known_more known ps i p here = ap (with_marks known) (marks_here ps i p here) �
 pub known_stream : (known : List Mark) (streams : List (List Placed)) (j : ℕ) (ps : List Placed) → slice_get streams j ≡ Some ps →
     with_marks known (marks_from (drop j streams)) ≡ with_marks (with_marks known (marks_in ps)) (marks_from (drop (j + 1) streams))
 known_stream known streams j ps here = ap (with_marks known) (streams_here streams j ps here) ∙ with_marks_append known (marks_in ps) (marks_from (drop (j + 1) streams))
-
-pub known_last : (known : List Mark) (ps : List Placed) (i : ℕ) → length ps ≤ i → with_marks known (marks_in (drop i ps)) ≡ known
-known_last known ps i le = ap (λ (qs : List Placed). with_marks known (marks_in qs)) (drop_all i ps le)
-
-pub known_whole : (known : List Mark) (streams : List (List Placed)) (j : ℕ) → length streams ≤ j → with_marks known (marks_from (drop j streams)) ≡ known
-known_whole known streams j le = ap (λ (qs : List (List Placed)). with_marks known (marks_from qs)) (drop_all j streams le)
 
 -- ---- the vector of a number
 
@@ -64,41 +58,7 @@ no_vector_more number streams j le = ap (λ (qs : List (List Placed)). vector_of
 
 -- ---- the lowest stream with a number
 
-pub lowest_here : (number : ℕ) (streams : List (List Placed)) (j : ℕ) (ps : List Placed) → slice_get streams j ≡ Some ps → is_some (vector_of number (marks_in ps)) ≡ true → lowest_with number j (drop j streams) ≡ j
-lowest_here number streams j ps here is = rw (drop_at streams j ps here, is) refl
-
-pub not_here : (number : ℕ) (streams : List (List Placed)) (j : ℕ) (ps : List Placed) → slice_get streams j ≡ Some ps → is_some (vector_of number (marks_in ps)) ≡ false → lowest_with number j (drop j streams) ≡ lowest_with number (j + 1) (drop (j + 1) streams)
-not_here number streams j ps here is = rw (drop_at streams j ps here, is, add-one j) refl
-
-pub none_here : (number : ℕ) (streams : List (List Placed)) (j : ℕ) → length streams ≤ j → lowest_with number j (drop j streams) ≡ j
-none_here number streams j le = rw (drop_all j streams le) refl
-
 -- ---- the first fault
-
-faults_append : (streams : List (List Placed)) (j : ℕ) (xs ys : List Mark) → marks_fault streams j (xs ++ ys) ≡ or_else (marks_fault streams j xs) (marks_fault streams j ys)
-faults_append streams j [] ys = refl
-faults_append streams j (x ∷ xs) ys = ap (or_else (mark_fault streams j x)) (faults_append streams j xs ys) ∙ either_first (mark_fault streams j x)
-  where
-    either_first : (o : Option LogFault) → or_else o (or_else (marks_fault streams j xs) (marks_fault streams j ys)) ≡ or_else (or_else o (marks_fault streams j xs)) (marks_fault streams j ys)
-    either_first None = refl
-    either_first (Some fault) = refl
-
-pub fault_step : (streams : List (List Placed)) (j : ℕ) (ps : List Placed) (i : ℕ) (p : Placed) (o : Option LogFault) → slice_get ps i ≡ Some p → o ≡ marks_fault streams j (mark_of p.entry) →
-    marks_fault streams j (marks_in (drop i ps)) ≡ or_else o (marks_fault streams j (marks_in (drop (i + 1) ps)))
-fault_step streams j ps i p o here is =
-    ap (marks_fault streams j) (marks_here ps i p here) ∙ faults_append streams j (mark_of p.entry) (marks_in (drop (i + 1) ps))
-    ∙ ap (λ (q : Option LogFault). or_else q (marks_fault streams j (marks_in (drop (i + 1) ps)))) (sym is)
-
-pub no_fault_left : (streams : List (List Placed)) (j : ℕ) (ps : List Placed) (i : ℕ) → length ps ≤ i → marks_fault streams j (marks_in (drop i ps)) ≡ None
-no_fault_left streams j ps i le = ap (λ (qs : List Placed). marks_fault streams j (marks_in qs)) (drop_all i ps le)
-
-pub stream_step : (streams rest : List (List Placed)) (j : ℕ) (ps : List Placed) (o : Option LogFault) → slice_get rest j ≡ Some ps → o ≡ marks_fault streams j (marks_in ps) →
-    epochs_fault streams j (drop j rest) ≡ or_else o (epochs_fault streams (j + 1) (drop (j + 1) rest))
-stream_step streams rest j ps o here is =
-    rw (drop_at rest j ps here, add-one j) (ap (λ (q : Option LogFault). or_else q (epochs_fault streams (suc j) (drop (suc j) rest))) (sym is))
-
-pub no_stream_left : (streams rest : List (List Placed)) (j : ℕ) → length rest ≤ j → epochs_fault streams j (drop j rest) ≡ None
-no_stream_left streams rest j le = rw (drop_all j rest le) refl
 
 pub fault_lost : {A : Type 0} (e : LogRefusal) (found : Option LogFault) (x : A) → IsFault e found → Lost e (unless found x)
 fault_lost refusals.NoMemory found x is = tt
@@ -115,9 +75,6 @@ pub epoch_more : (ps : List Placed) (k i : ℕ) (p : Placed) → slice_get ps i 
 epoch_more ps k i p here = ap (λ (n : ℕ). last_epoch k (take n ps)) (add-one i) ∙ epoch_next ps k i p here
 
 -- ---- the least number
-
-pub least_here : (above : ℕ) (ps : List Placed) (i : ℕ) (p : Placed) (o : Option ℕ) → slice_get ps i ≡ Some p → least_number above (marks_in (drop i ps)) o ≡ least_number above (mark_of p.entry) (least_number above (marks_in (drop (i + 1) ps)) o)
-least_here above ps i p o here = ap (λ (ms : List Mark). least_number above ms o) (marks_here ps i p here) ∙ least_append above (mark_of p.entry) (marks_in (drop (i + 1) ps)) o
 
 pub least_there : (above : ℕ) (streams : List (List Placed)) (j : ℕ) (ps : List Placed) (o : Option ℕ) → slice_get streams j ≡ Some ps →
     least_number above (marks_from (drop j streams)) o ≡ least_number above (marks_in ps) (least_number above (marks_from (drop (j + 1) streams)) o)

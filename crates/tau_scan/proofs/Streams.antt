@@ -1,9 +1,9 @@
 -- Streams in their order: what is done below an index, and what is left from there on.
-use Rattle.std.proofs.Common.{ℕ, zero, suc, ◌≡◌, ◌+◌, ◌-◌, ◌<◌, ◌≤◌, min, List, [], ◌∷◌, ◌++◌, map, take, drop, replicate, length, get_or, inl, inr, Result, Ok, Err, refl, sym, ap, subst, ◌∙◌, arith, add-one, eqb, eq-eqb, length-take-le, slice_set, is_some}
+use Rattle.std.proofs.Common.{ℕ, zero, suc, ◌≡◌, ◌+◌, ◌-◌, ◌<◌, ◌≤◌, min, List, [], ◌∷◌, ◌++◌, map, take, drop, replicate, length, get_or, inl, inr, Result, Ok, Err, refl, sym, ap, subst, ◌∙◌, arith, add-one, length-take-le, slice_set, is_some}
 use Rattle.std.specs.Prelude.{Bool, true, false, Option, Some, None, slice_get, bytes_eq, if◌then◌else◌}
 use Rattle.std.proofs.lemmas.Bool.Decides.{leb_tells}
 use Rattle.std.specs.List.{All, AllZip}
-use Rattle.std.proofs.lemmas.List.{get_or_append_left, get_or_push, length-append, length-map, length-replicate, drop_all, take_all}
+use Rattle.std.proofs.lemmas.List.{get_or_append_left, get_or_push, length-append, length-map, drop_all, take_all}
 use Rattle.std.proofs.lemmas.Option.{slice_get_read, slice_get_within}
 use Rattle.tau_record.specs.declared.entry.Placed.{Placed}
 use Rattle.tau_record.specs.declared.fault.RecordCause.TheVariants.{BadBody}
@@ -116,9 +116,6 @@ other_here first text xs j x fault here is = rw (drop_at xs j x here) (by_case x
         by_test true is = absurd cc
         by_test false is = ap (λ (e : LogFault). Err e) (some_is (fault_of first text j other) fault is)
 
-pub same_to_end : (first : ℕ) (text : List ℕ) (xs : List (Option (List ℕ))) (j : ℕ) → length xs ≤ j → unless_other first text j (drop j xs) ≡ Ok (Some text)
-same_to_end first text xs j le = rw (drop_all j xs le) refl
-
 -- the element of a mapped list at the index of a read one
 pub map_get : {A B : Type 0} (f : A → B) (xs : List A) (i : ℕ) (x : A) → slice_get xs i ≡ Some x → slice_get (map f xs) i ≡ Some (f x)
 map_get f [] i x is = absurd cc
@@ -139,9 +136,6 @@ a_text_of (Some text) is = (text, refl)
 
 -- ---- texts that begin alike
 
-pub alike_more : (xs ys : List ℕ) (n : ℕ) (x y : ℕ) → slice_get xs n ≡ Some x → slice_get ys n ≡ Some y → x ≡ y → n + alike (drop n xs) (drop n ys) ≡ (n + 1) + alike (drop (n + 1) xs) (drop (n + 1) ys)
-alike_more xs ys n x y here there same = rw (drop_at xs n x here, drop_at ys n y there, eq-eqb x y same, add-one n) (omega arith)
-
 pub alike_end : (xs ys : List ℕ) (n : ℕ) → min (length xs) (length ys) ≤ n → alike (drop n xs) (drop n ys) ≡ 0
 alike_end xs ys n le = elim (leb_tells (length xs) n) [
   | inl h ↦ rw (drop_all n xs h.1) refl
@@ -152,9 +146,6 @@ alike_end xs ys n le = elim (leb_tells (length xs) n) [
     none [] = refl
     none (z ∷ zs) = refl
 
-pub alike_ends : (xs ys : List ℕ) (n : ℕ) (x y : ℕ) → slice_get xs n ≡ Some x → slice_get ys n ≡ Some y → eqb x y ≡ false → alike (drop n xs) (drop n ys) ≡ 0
-alike_ends xs ys n x y here there other = rw (drop_at xs n x here, drop_at ys n y there, other) refl
-
 -- ---- the lengths
 
 set_next : (ls : List ℕ) (k v : ℕ) → slice_set (ls ++ replicate (suc k) 0) (length ls) v ≡ (ls ++ v ∷ []) ++ replicate k 0
@@ -163,9 +154,6 @@ set_next (l ∷ ls) k v = ap (λ (zs : List ℕ). l ∷ zs) (set_next ls k v)
 
 abbrev pub lengths_to : List (List ℕ) → ℕ → List ℕ
 lengths_to xs j = map (λ (bytes : List ℕ). length bytes) (take j xs) ++ replicate (length xs - j) 0
-
-pub lengths_wide : (xs : List (List ℕ)) (j : ℕ) → j ≤ length xs → length (lengths_to xs j) ≡ length xs
-lengths_wide xs j le = omega (arith, length-append (map (λ (bytes : List ℕ). length bytes) (take j xs)) (replicate (length xs - j) 0), length-map (take j xs) (λ (bytes : List ℕ). length bytes), length-take-le j xs le, length-replicate {A = ℕ} (length xs - j) 0)
 
 pub lengths_more : (xs : List (List ℕ)) (j : ℕ) (x : List ℕ) → slice_get xs j ≡ Some x → slice_set (lengths_to xs j) j (length x) ≡ lengths_to xs (j + 1)
 lengths_more xs j x here =
@@ -185,15 +173,6 @@ lengths_more xs j x here =
     taken_more (y ∷ xs) (suc j) x here =
         let next : suc j + 1 ≡ suc (j + 1) = omega arith in
         rw next (ap (λ (zs : List ℕ). length y ∷ zs) (taken_more xs j x here))
-
-pub lengths_all : (xs : List (List ℕ)) (j : ℕ) → length xs ≤ j → j ≤ length xs → lengths_to xs j ≡ map length xs
-lengths_all xs j low high =
-    let none : length xs - j ≡ 0 = omega (arith, low) in
-    rw (none, take_all j xs low) (append_nil (map (λ (bytes : List ℕ). length bytes) xs))
-  where
-    append_nil : (zs : List ℕ) → zs ++ [] ≡ zs
-    append_nil [] = refl
-    append_nil (z ∷ zs) = ap (λ (ws : List ℕ). z ∷ ws) (append_nil zs)
 
 -- ---- chains
 

@@ -1,7 +1,7 @@
 -- The test of who stands against a lock, and the theory's word for it.
 use Rattle.std.proofs.Common.{ℕ, true, false, ◌≡◌, ◌⊎◌, inl, inr, refl, ap, ◌∙◌, Option}
 use Rattle.std.specs.Prelude.{Some, None}
-use Rattle.std.proofs.lemmas.Bool.{cases_eq, ne_eqb, eq-eqb, both_ways}
+use Rattle.std.proofs.lemmas.Bool.{ne_eqb, both_ways}
 use Rattle.tau_base.specs.declared.value.Key.{Key}
 use Rattle.tau_base.specs.declared.value.Mode.{Mode}
 use Rattle.tau_base.specs.declared.value.Mode.TheVariants.{Read, Write}
@@ -27,15 +27,6 @@ against_to Write (Some n) h = (n, refl, inl refl)
 pub no_conflict : (set : Setting) (sh : Shard) (w : ℕ) (x : Key) (m : Mode) → ((u : ℕ) → blocks (entry_in sh x) w m u ≡ false) → Conflicts set sh w x m → ⊥
 no_conflict set sh w x m free h =
     both_ways (blocks (entry_in sh x) w m h.0) (free h.0) (rw (ne_eqb h.0 w h.2, h.3) (against_from m h.1 h.4))
-
--- and where it finds one, there is
-pub a_conflict : (set : Setting) (sh : Shard) (w : ℕ) (x : Key) (m : Mode) (u : ℕ) → blocks (entry_in sh x) w m u ≡ true → Conflicts set sh w x m
-a_conflict set sh w x m u h = elim (cases_eq u w) [
-  | inl is ↦ absurd (let bad : false ≡ true = rw (eq-eqb u w is) at h in cc)
-  | inr ne ↦
-      let a = against_to m ((entry_in sh x).holders u) (rw (ne_eqb u w ne) at h) in
-      (u, a.0, ne, a.1, a.2)
-]
 
 -- a locked key is held
 pub locked_held : (sh : Shard) (w : ℕ) (x : Key) (m : Mode) → (entry_in (shard_locked sh w x m) x).holders w ≡ Some m

@@ -20,9 +20,6 @@ bits_with n w lt = fun_ext (λ u. elim (cases_eq u w) [
   | inr ne ↦ ap (λ (b : ℕ). b == 1) (bit_at_set_other w32 n w lt u ne) ∙ sym (at_other w true (bits n) u ne)
 ])
 
-pub bits_above : (n u : ℕ) → n < 4294967296 → 32 ≤ u → bits n u ≡ false
-bits_above n u small above = ap (λ (b : ℕ). b == 1) (bit_at_above n 32 u small above)
-
 pub bits_zero : (u : ℕ) → bits 0 u ≡ false
 bits_zero u = ap (λ (b : ℕ). b == 1) (bit_at-zero u)
 

@@ -2,7 +2,6 @@
 use Rattle.std.proofs.Common.{ℕ, true, false, cond, ◌≡◌, inl, inr, List, [], ◌∷◌, refl, sym, ap, subst, ◌∙◌, Option, arith}
 use Rattle.std.specs.Prelude.{Some, None, IsSome, IsOk, OnOk, OnErr, Result, Ok, Err, Bool, not, ◌&&◌, ◌==◌}
 use Rattle.tau_shard.specs.Blocks.{against, blocks, dep_locked}
-use Rattle.std.specs.Map.{lookup}
 use Rattle.tau_base.specs.declared.value.NoMemory.{NoMemory}
 use Rattle.std.specs.Option.{unwrap_or}
 use Rattle.std.proofs.Math.Path.{fun_ext}
@@ -16,13 +15,12 @@ use Rattle.tau_base.specs.Database.{Db, same_key, written}
 use Rattle.tau_base.specs.Vectors.{join}
 use Rattle.tau_base.proofs.Vectors.{join_at, join_wider, join_from}
 use Rattle.tau_base.proofs.Keys.{same_key_itself, same_key_is, same_key_sym, same_key_equal}
-use Rattle.tau_machine.specs.Shard.{at, Entry, Shard, entry_or, entry_in, put_entry, held_as}
+use Rattle.tau_machine.specs.Shard.{at, Entry, Shard, entry_or, put_entry, held_as}
 use Rattle.tau_machine.proofs.At.{at_same, at_other}
 use Rattle.tau_machine.proofs.Modes.{cases_key}
 use Rattle.tau_shard.specs.declared.entry.LockEntry.{LockEntry}
 use Rattle.tau_shard.specs.declared.entry.ShardRefusal.{ShardRefusal}
-use Rattle.tau_shard.specs.Plain.{PlainShard}
-use Rattle.tau_shard.specs.Read.{is_key, entry_of, entry_option, shard_of}
+use Rattle.tau_shard.specs.Read.{is_key, entry_of, entry_option}
 
 abbrev pub with_rows : Db → (Key → Option Entry) → List ℕ → Shard
 with_rows rows entries floor = record { rows = rows; entries = entries; floor = floor }
@@ -67,9 +65,6 @@ same_rows db x = fun_ext (λ q. elim (cases_Bool (same_key q x)) [
 
 is_new : {A : Type 0} (x : Key) (e : A) (get' get : Key → Option A) → ((q : Key) → get' q ≡ cond (is_key x q) (Some e) (get q)) → get' x ≡ Some e
 is_new x e get' get updates = updates x ∙ rw (is_key_itself x) refl
-
-is_old : {A : Type 0} (x y : Key) (e : A) (get' get : Key → Option A) → ((q : Key) → get' q ≡ cond (is_key x q) (Some e) (get q)) → same_key y x ≡ false → get' y ≡ get y
-is_old x y e get' get updates ne = updates y ∙ rw (key_apart y x ne) refl
 
 -- what holds at each key of a map still holds after a change at x
 pub placed_put : (get get' : Key → Option LockEntry) (floor : List ℕ) (there : Key → Type 0) (x : Key) (e : LockEntry) →
@@ -123,21 +118,6 @@ shard_in_place rows get get' floor x e f change at is updates =
     put_shard rows get get' floor x f updates
     ∙ ap (put_entry (record { rows = rows; entries = λ q. entry_option (get q); floor = floor }) x)
     (is ∙ ap (λ (o : Option LockEntry). change (entry_or floor (entry_option o))) at)
-
--- a key that a worker holds has an entry
-pub entry_there : (s : PlainShard) (x : Key) (w : ℕ) → IsSome ((entry_in (shard_of s) x).holders w) → IsSome (lookup (is_key x) s.entries)
-entry_there s x w h = by (lookup (is_key x) s.entries) h
-  where
-    by : (o : Option LockEntry) → IsSome ((entry_or s.floor (entry_option o)).holders w) → IsSome o
-    by None q = q
-    by (Some e) q = refl
-
-pub held_there : (p s : PlainShard) (x : Key) (w : ℕ) → p ≡ s → None ≡ lookup (is_key x) p.entries → IsSome ((entry_in (shard_of s) x).holders w) → ⊥
-held_there p s x w same at h =
-    no_some (subst (λ (o : Option LockEntry). IsSome o) (sym at) (subst (λ (t : PlainShard). IsSome (lookup (is_key x) t.entries)) (sym same) (entry_there s x w h)))
-  where
-    no_some : IsSome {T = LockEntry} None → ⊥
-    no_some e = cc
 
 pub when_ok : {P : Type 0} (r : Result (Unit {0}) NoMemory) → IsOk r → OnOk r P → P
 when_ok (Ok u) is p = p

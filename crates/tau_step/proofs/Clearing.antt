@@ -28,9 +28,6 @@ use Rattle.tau_step.specs.Progressed.{progress, Comes, tells, clears}
 use Rattle.tau_step.specs.Telling.{waiting_of}
 use Rattle.tau_base.proofs.Lists.{some_at}
 
-ticket_in : Waiting → Ticket
-ticket_in c = record { number = c.number; lv = c.lv }
-
 none_covered : (plv : List ℕ) (calls : List Waiting) → NoneCovered plv calls → list_any (λ (k : Ticket). covers plv k.lv) (tickets calls) ≡ false
 none_covered plv [] q = refl
 none_covered plv (c ∷ cs) q = ap (λ (b : Bool). b || list_any (λ (k : Ticket). covers plv k.lv) (tickets cs)) q.0 ∙ none_covered plv cs q.1

@@ -110,14 +110,6 @@ over_at p K h g turns opening P e r =
 
 -- ---- the numbers of the calls that are told
 
-pub if_member : {A : Type 0} (b : Bool) (x a : A) (ys : List A) → b ≡ true → x ≡ a → Member a (if b then x ∷ ys else ys)
-if_member true x a ys t e = inl e
-if_member false x a ys t e = absurd (let bad : false ≡ true = t in cc)
-
-pub if_behind : {A : Type 0} (b : Bool) (x a : A) (ys : List A) → Member a ys → Member a (if b then x ∷ ys else ys)
-if_behind true x a ys m = inr m
-if_behind false x a ys m = m
-
 told_one : (p : Plain) (K : List (Act Txn)) (h : Hidden) → Stands p K h → (told : List (ℕ × List ℕ)) → ((w : ℕ) → filter (λ (a : ℕ × List ℕ). (setting_of p.load).worker_of a.0 == w) told ≡ map pair_of ((core_of p h).acked w)) →
     (a : ℕ × List ℕ) → Member a told → IsNumberOf (length p.load.calls) a.0
 told_one p K h g told acks a m =

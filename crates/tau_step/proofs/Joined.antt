@@ -41,7 +41,3 @@ comes_on R S T f p m p' told told' told'' K h es c d = record {
       let P' = progress p' d.hidden d.events d.order told'' in
       f p.load (progress p h es K told) Q P' c.moved (subst (λ (l : Load). S l Q P') c.load d.moved);
 }
-
--- for each way in which the first state stands
-abbrev pub Always : (R : Load → Progress → Progress → Type 0) → Plain → Plain → List (ℕ × List ℕ) → List (ℕ × List ℕ) → Type 0
-Always R p p' told told' = (K : List (Act Txn)) (h : Hidden) (es : List machine.Event) → Stands p K h → Comes R p p' told told' K h es

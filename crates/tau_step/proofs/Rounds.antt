@@ -235,10 +235,6 @@ clerk_total old new hears held held' stood a passed =
     total_same old.core new.core c.load
     (clerked_workers (setting_of old.core.load) old.core.load.workers old.core.load.streams (progress old.core h [] K old.clerk.acks) (progress new.core c.hidden c.events c.order new.clerk.acks) true c.moved)
 
--- the measure of rounds
-pub rounds_fewer : (a b c : ℕ) → b < a → c ≡ b → c < a
-rounds_fewer a b c less same = omega (arith, less, same)
-
 -- by the answer of the rest of the round
 pub round_rest : {D : Type 0} {G : Ghosts D} (seen_now : (d : D) → G.tells → G.may_leave d (G.seen d)) (hears : Type 0) (r : Result Bool NoMemory) → (r ≡ Ok false → ⊥) → (old mid new : Run) (ws ws' : List (Writer D G)) (held held' : List ℕ) (faults faults' : ℕ) →
     Works (rounded_by (Ok true)) true old mid → IsOn ws old → Moves rest_of_round (is_ok r) mid new ws ws' hears held held' faults faults' → Moves (round_by r) (is_ok r) old new ws ws' hears held held' faults faults'

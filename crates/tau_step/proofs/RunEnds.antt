@@ -14,7 +14,7 @@ use Rattle.tau_machine.specs.Worker.{Worker}
 use Rattle.tau_machine.specs.Shard.{at}
 use Rattle.tau_machine.specs.Pieces.{Chain, Ascending, PostedAt, Flying, placed_in, records_in, StreamGood}
 use Rattle.tau_machine.specs.Invariant.{Invariant}
-use Rattle.tau_machine.specs.State.{Setting, Ticket, Item, Record, Anchor, Core, Stream, Outbox, start_of, past_of}
+use Rattle.tau_machine.specs.State.{Setting, Ticket, Item, Record, Core, Stream, Outbox, start_of, past_of}
 use Rattle.tau_machine.specs.Events.{Event, Lock, Busy, Quit, Commit, Post, Free, FirstFree, Done, DoneReading, Drop, Gather, PlaceAnchor, Persist, Ack, Stop, Resume, Leads, Gathered, stop, record_first, anchor_first}
 use Rattle.tau_machine.proofs.At.{at_same, at_other}
 use Rattle.tau_machine.proofs.Pieces.{chain_member, records_append}
@@ -49,9 +49,6 @@ member_below w (suc m) lt = elim (cases_eq w m) [
 
 record_is : (u t : Act Txn) → Record u ≡ Record t → u ≡ t
 record_is u t e = cc e
-
-anchor_not : (a b : ℕ) (v : List ℕ) (t : Act Txn) → Anchor a b v ≡ Record t → ⊥
-anchor_not a b v t e = cc
 
 module _ (set : Setting) (m n : ℕ) where
   -- ---- workers

@@ -25,13 +25,6 @@ sum_less f g w (suc n) lt less h = elim (cases_eq w n) [
       omega (arith, rest, here))
 ]
 
-pub sum_least : (f : ℕ → ℕ) (w n : ℕ) → w < n → f w ≤ sum_below f n
-sum_least f w zero lt = absurd (omega arith)
-sum_least f w (suc n) lt = elim (cases_eq w n) [
-  | inl e ↦ (let here = ap f e in omega (arith, here))
-  | inr ne ↦ (let rest = sum_least f w n (omega (arith, lt, ne)) in omega (arith, rest))
-]
-
 module _ (set : Setting) (m n : ℕ) where
   abbrev all_left : Core → ℕ
   all_left s = sum_below (λ w. worker_left set.procs (s.workers w)) m

@@ -14,9 +14,8 @@ use std::alloc::Global;
 use tau_ack::Waiting;
 use tau_base::{Lv, NoMemory};
 use tau_core::Core;
-use tau_disk::Sink;
+use tau_disk::{Sink, write_all};
 use tau_report::{Acks, ack_line};
-use tau_run::write_all;
 
 /// What the clerk has told.
 #[derive(Drop)]

@@ -8,8 +8,6 @@ use Rattle.tau_base.specs.declared.value.Key.{Key}
 use Rattle.tau_base.specs.declared.value.Value.{Value}
 use Rattle.tau_base.specs.declared.value.Mode.{Mode}
 use Rattle.tau_base.specs.Database.{same_key, key_cmp}
-use Rattle.tau_base.specs.Vectors.{join}
-use Rattle.tau_base.proofs.Vectors.{join_length}
 use Rattle.tau_proc.proofs.Ascending.{key_total}
 use Rattle.tau_proc.specs.Progress.{Progress}
 use Rattle.tau_machine.specs.Hands.{hold, without}
@@ -84,15 +82,3 @@ pub freed_keeps : (width : ℕ) (h new : PlainHand) (stays : Bool) → new.held 
 freed_keeps width h new false held dep freeing shaped run = tt
 freed_keeps width h new true held dep freeing shaped run =
     joined_keeps width h new dep (ap (is_sorted key_cmp) held ∙ first_ascends h.held shaped.ascend) (ap joined_by freeing) shaped run
-
--- a record was made
-pub prepared_keeps : (width : ℕ) (h : PlainHand) (anchor : List ℕ) (number : ℕ) (bytes : List ℕ) → length anchor ≡ length h.dep → KeepsHand width h →
-    IsRun (record h { dep = join h.dep anchor; anchor = number; bytes = bytes }) → KeepsHand width (record h { dep = join h.dep anchor; anchor = number; bytes = bytes })
-prepared_keeps width h anchor number bytes wide keeps run =
-    record { run = run; shaped = record { wide = join_length h.dep anchor (sym wide) ∙ keeps.shaped.wide; ascend = keeps.shaped.ascend }; settled = record { holds = keeps.settled.holds; last = keeps.settled.last } }
-
--- a record was made above an anchor that the vector covers
-pub covering_keeps : (width : ℕ) (h : PlainHand) (number : ℕ) (bytes : List ℕ) → KeepsHand width h →
-    IsRun (record h { anchor = number; bytes = bytes }) → KeepsHand width (record h { anchor = number; bytes = bytes })
-covering_keeps width h number bytes keeps run =
-    record { run = run; shaped = record { wide = keeps.shaped.wide; ascend = keeps.shaped.ascend }; settled = record { holds = keeps.settled.holds; last = keeps.settled.last } }

@@ -306,13 +306,3 @@ is_in_hand false h e = let bad : false ≡ true = e in cc
 abbrev pub numbered : ℕ → Option (Key × Mode) → Option (ℕ × Key × Mode)
 numbered number None = None
 numbered number (Some l) = Some (number, l.0, l.1)
-
-pub lock_is_numbered : (number : ℕ) (a : Action) → numbered_lock (Some number) a ≡ numbered number (lock_at a)
-lock_is_numbered number (action.Lock x m) = refl
-lock_is_numbered number (action.Quit x) = refl
-lock_is_numbered number (action.Commit size) = refl
-lock_is_numbered number action.Post = refl
-lock_is_numbered number (action.Free x write) = refl
-lock_is_numbered number (action.Done reply v) = refl
-lock_is_numbered number action.LeftOver = refl
-lock_is_numbered number action.Nothing = refl

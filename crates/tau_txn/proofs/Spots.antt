@@ -10,23 +10,6 @@ use Rattle.tau_base.specs.Database.{key_cmp}
 use Rattle.tau_machine.specs.Hands.{hold}
 use Rattle.tau_txn.specs.Spot.{later, spot}
 
-pub later_zero : (r : Result ℕ ℕ) → r ≡ later 0 r
-later_zero (Ok i) = let e : i ≡ 0 + i = omega arith in ap (λ n. Ok n) e
-later_zero (Err i) = let e : i ≡ 0 + i = omega arith in ap (λ n. Err n) e
-
-pub later_later : (n m : ℕ) (r : Result ℕ ℕ) → later n (later m r) ≡ later (n + m) r
-later_later n m (Ok i) = let e : n + (m + i) ≡ (n + m) + i = omega arith in ap (λ k. Ok k) e
-later_later n m (Err i) = let e : n + (m + i) ≡ (n + m) + i = omega arith in ap (λ k. Err k) e
-
-pub spot_greater : (key : Key) (e : Key × Mode) (es : List (Key × Mode)) → key_cmp key e.0 ≡ Greater → spot key (e ∷ es) ≡ later 1 (spot key es)
-spot_greater key e es p = ap (λ o. by_order o (Err 0) (Ok 0) (later 1 (spot key es))) p
-
-pub spot_less : (key : Key) (e : Key × Mode) (es : List (Key × Mode)) → key_cmp key e.0 ≡ Less → spot key (e ∷ es) ≡ Err 0
-spot_less key e es p = ap (λ o. by_order o (Err 0) (Ok 0) (later 1 (spot key es))) p
-
-pub spot_equal : (key : Key) (e : Key × Mode) (es : List (Key × Mode)) → key_cmp key e.0 ≡ Equal → spot key (e ∷ es) ≡ Ok 0
-spot_equal key e es p = ap (λ o. by_order o (Err 0) (Ok 0) (later 1 (spot key es))) p
-
 take_front : {A : Type 0} (ws ys : List A) → take (length ws) (ws ++ ys) ≡ ws
 take_front [] ys = refl
 take_front (w ∷ ws) ys = ap (λ l. w ∷ l) (take_front ws ys)

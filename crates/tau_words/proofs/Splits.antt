@@ -5,17 +5,11 @@ use Rattle.std.proofs.lemmas.Bool.{and_from, le-leb}
 use Rattle.std.proofs.lemmas.List.{append-nil}
 use Rattle.std.specs.Str.{bytes_eq}
 use Rattle.clap.specs.Lexer.{long_of, short_of}
-use Rattle.clap.specs.Simple.{App, Shape, new_app, new_rule, with_rule, on_top, built, filled, matches_of, is_simple, HasMatchesOf, app_of, app_of_fields}
-use Rattle.clap.specs.Walk.{Rule, Row, Text, Walk, walked, walk, walk_from, nothing_held, positional, all_of, row_of, rows_of, rule_of}
+use Rattle.clap.specs.Simple.{App, Shape, new_app, with_rule, on_top, built, filled, matches_of, is_simple, HasMatchesOf}
+use Rattle.clap.specs.Walk.{Rule, Row, Text, Walk, walked, walk, walk_from, nothing_held, positional, all_of, row_of, rows_of}
 use Rattle.clap.specs.Takes.{takes, turn_passes, walk_passes, values_pass}
 use Rattle.clap.specs.Matches.{found_of, raw_values}
-use Rattle.clap.specs.declared.builder.action.ArgAction.TheVariants.{Append}
 use Rattle.clap.specs.Facts.{Entry}
-use Rattle.clap.specs.declared.builder.arg.Arg.{Arg}
-use Rattle.clap.specs.declared.builder.range.ValueRange.{ValueRange}
-use Rattle.clap.specs.declared.builder.command.Command.{Command}
-use Rattle.clap.specs.declared.builder.command.Command.TheViews.{out-Command}
-use Rattle.clap.specs.declared.builder.command.Command.TheOpen.{Command-F}
 use Rattle.clap.specs.declared.parser.matches.ArgMatches.{ArgMatches}
 use Rattle.tau_words.specs.Split.{is_flag, has_flag, found_words, word_rule, words_app}
 
@@ -108,20 +102,6 @@ found a words m is h has =
     ap (λ (o : Option (List Text)). unwrap_or o []) (by_entries (codes "word") (found_of m).entries.items ∙ ap (all_of (codes "word")) rows) ∙ given words h
 
 -- ---- the command that is built
-
-pub app_is : (one two three : Command) (name : Text) → app_of one ≡ new_app name → out-Command two ≡ record (out-Command one) { no_binary_name = true } → out-Command three ≡ record (out-Command two) { disable_help_flag = true }
-    → app_of three ≡ on_top (λ s. record s { no_binary_name = true; disable_help_flag = true }) (new_app name)
-app_is one two three name a b c =
-    ap app_of_fields c ∙ ap (λ (f : Command-F Command). app_of_fields (record f { disable_help_flag = true })) b ∙ ap (on_top (λ s. record s { no_binary_name = true; disable_help_flag = true })) a
-
-pub rule_is : (one two three : Arg) → rule_of one ≡ new_rule (codes "word") → two ≡ record one { action = Some Append } → three ≡ record two { num_vals = three.num_vals }
-    → three.num_vals ≡ Some (record { start_inclusive = 0; end_inclusive = 7 }) → rule_of three ≡ word_rule
-rule_is one two three a b c d =
-    ap rule_of c ∙ ap (λ (r : Option ValueRange). rule_of (record two { num_vals = r })) d ∙ ap (λ (x : Arg). rule_of (record x { num_vals = Some (record { start_inclusive = 0; end_inclusive = 7 }) })) b
-    ∙ ap (λ (r : Rule). record r { action = Some Append; range = Some (record { start_inclusive = 0; end_inclusive = 7 }) }) a
-
-pub global_is : (one two three : Arg) → one.global ≡ false → two ≡ record one { action = Some Append } → three ≡ record two { num_vals = three.num_vals } → three.global ≡ false
-global_is one two three a b c = ap (λ (x : Arg). x.global) c ∙ ap (λ (x : Arg). x.global) b ∙ a
 
 pub whole : (old new : App) (rule : Rule) → new ≡ with_rule old rule → old ≡ on_top (λ s. record s { no_binary_name = true; disable_help_flag = true }) (new_app (codes "taurus")) → rule ≡ word_rule → new ≡ words_app
 whole old new rule e a b = e ∙ ap (λ (x : App). with_rule x rule) a ∙ ap (with_rule (on_top (λ s. record s { no_binary_name = true; disable_help_flag = true }) (new_app (codes "taurus")))) b

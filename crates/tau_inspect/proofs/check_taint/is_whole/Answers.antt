@@ -3,11 +3,11 @@ use Rattle.std.proofs.Common.{ℕ, Bool, false, ◌≡◌, inl, inr, List, get_o
 use Rattle.std.specs.Prelude.{slice_get, slice_index_or, if◌then◌else◌}
 use Rattle.std.proofs.lemmas.Bool.{both_ways}
 use Rattle.std.proofs.lemmas.Option.{slice_get_within}
-use Rattle.tau_base.proofs.Logic.{below_or_not}
+use Rattle.tau_base.proofs.Logic.{below_or_not, some_is}
 use Rattle.tau_model.specs.History.{Act, Numbered, updates}
 use Rattle.tau_inspect.specs.Audit.{Case, acts, is_told}
 use Rattle.tau_inspect.specs.Executed.{numbered}
-use Rattle.tau_inspect.proofs.Acts.{member_get, get_member, some_one}
+use Rattle.tau_inspect.proofs.Acts.{member_get, get_member}
 use Rattle.tau_inspect.proofs.Survivals.{read_there, act_count, told_is}
 use Rattle.tau_inspect.specs.Cases.{in_case}
 use Rattle.tau_inspect.proofs.check_taint.is_whole.Goals as goal
@@ -28,7 +28,7 @@ loop-i-preserved c =
       | inl less ↦ c.loop-i.invariant j x less there
       | inr le ↦
           let same : i ≡ j = omega (arith, lt, le) in
-          subst (λ (z : Act Numbered). is_told k z ≡ true) (some_one y x (sym at ∙ ap (slice_get (acts k)) same ∙ there)) told
+          subst (λ (z : Act Numbered). is_told k z ≡ true) (some_is y x (sym at ∙ ap (slice_get (acts k)) same ∙ there)) told
     ]
 
 pub returns-then-not-is_told : goal.returns-then-not-is_told

@@ -1,7 +1,7 @@
 use Rattle.std.proofs.Common.{◌≡◌, ◌++◌, ◌+◌, ◌-◌, ℕ, List, length, take, drop, arith, length-drop, append_assoc, sym, ◌∙◌, ap}
 use Rattle.std.proofs.Math.Seq.{take-add}
 use Rattle.std.proofs.lemmas.List.{take_all}
-use Rattle.tau_run.proofs.sink.write_all.Goals as goal
+use Rattle.tau_disk.proofs.sink.write_all.Goals as goal
 
 more : (first before now bytes : List ℕ) (i n : ℕ) → before ≡ first ++ take i bytes → now ≡ before ++ take n (take (length bytes - i) (drop i bytes)) → now ≡ first ++ take (i + n) bytes
 more first before now bytes i n was is =

@@ -2,7 +2,7 @@
 ghost use Rattle.std.specs.Prelude.{◌≡◌, ◌≤◌, ◌<◌, ◌++◌, ℕ, length, take, OnOk, OnErr};
 ghost use Rattle.tau_disk.specs.Disk.{HasCause};
 
-use tau_disk::{Failed, Sink};
+use crate::disk::{Failed, Sink};
 
 /// Writes all of the bytes. Where the sink fails, a first part of them is written.
 pub fn write_all<K: Sink>(sink: &mut K, bytes: &[u8]) -> Result<(), Failed>
