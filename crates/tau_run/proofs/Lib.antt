@@ -41,3 +41,4 @@ pub mod Begun
 pub mod Flushes
 pub mod Bodies
 pub mod Came
+pub mod Told

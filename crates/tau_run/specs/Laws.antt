@@ -1,5 +1,5 @@
 -- What holds of every run, whatever its events.
-use Rattle.std.specs.Prelude.{ℕ, ◌⊎◌, ◌==◌, map, false, ◌++◌, ◌∷◌, ◌<◌, ◌≤◌, ◌+◌, ◌≡◌, ◌↔◌, true, List, [], length, take, slice_get, slice_index, slice_index_or, Some, None, Ok}
+use Rattle.std.specs.Prelude.{ℕ, ◌⊎◌, ◌==◌, map, false, ◌++◌, ◌∷◌, ◌<◌, ◌≤◌, ◌+◌, ◌≡◌, ◌↔◌, true, List, [], length, take, slice_get, slice_index, slice_index_or, Option, Some, None, Ok}
 use Rattle.std.specs.List.{filter}
 use Rattle.tau_base.specs.declared.value.LogMode.{LogMode}
 use Rattle.tau_base.specs.Modes.{format_of, most_streams}
@@ -44,7 +44,8 @@ use Rattle.tau_run.specs.CoreRun.{IsLoadOn, IsFirstState, AreAcks, IsRunOf, IsSo
 use Rattle.tau_text.specs.declared.load.Turn.{Turn}
 use Rattle.tau_machine.specs.Runs.{IsOpening}
 use Rattle.tau_run.specs.Turns.{Progress, IsWholeRun, IsPartOfRun}
-use Rattle.tau_run.specs.StopsLeave.{HasFront, IsLeft, IsOver}
+use Rattle.tau_run.specs.RunFacts.{DiskFailed, IsCoreRun, IsCoreRunAt, chosen_by}
+use Rattle.tau_run.specs.StopsLeave.{HasFront, IsLeft, IsOver, NamesLowest}
 use Rattle.tau_run.specs.Lives.{Life, IsLife, AreLives, taken_calls, last_contents, last_log, all_taken, exec_lives}
 
 -- a workload that a text means is sound, where its procedures take its calls
@@ -128,6 +129,12 @@ NothingIsLost = (n m : ℕ) (mode : LogMode) (load : Workload) (l : Load) (K : L
 abbrev pub TurnsAreARun : Type 0
 TurnsAreARun = (set : Setting) (m n : ℕ) (turns : List Turn) (opening : Core) (p : Progress) → IsOpening set opening → IsWholeRun set m n turns opening p ⊎ IsPartOfRun set m n turns opening p →
     machine.Run set opening p.events p.joined p.state × KeepCalls p.events × ((w : ℕ) → filter (λ (a : ℕ × List ℕ). set.worker_of a.0 == w) p.told ≡ map pair_of (p.state.acked w))
+
+-- A run of which the report was written, with the stream whose disk failed, is one of all its events: of a run that was not
+-- begun no such report is written.
+abbrev pub ToldIsWhole : Type 0
+ToldIsWhole = (n m : ℕ) (mode : LogMode) (load : Workload) (stops : ℕ → Option ℕ) (run : Run) (j : ℕ) → IsCoreRunAt (chosen_by load.turns n m load) n m mode load stops run (DiskFailed j) → NamesLowest n stops (Some j) →
+    IsCoreRun (chosen_by load.turns n m load true) n m mode load stops run
 
 -- Any number of runs and stops on a sound log leave a sound one, whose database is that of executing the calls that are
 -- taken, run after run; and what each stop left is what was there and a closed part of the history.

@@ -73,11 +73,12 @@ pub record IsCoreRun (by : Load → Core → Progress → Type 0) (n m : ℕ) (m
   pub told : run.acks ≡ progress.told
   pub stopped : (j : ℕ) → j < n → (progress.state.streams j).stop ≡ stops j
 
--- a run that was not begun has no events; one that went to its end has all
+-- A run that was not begun has no events; one that went to its end has all. If a disk failed either may be so: in a run that
+-- was not begun no stream was stopped, and one that is told to its end names one that was.
 abbrev pub IsCoreRunAt : (Bool → Load → Core → Progress → Type 0) → ℕ → ℕ → LogMode → Workload → (ℕ → Option ℕ) → Run → Ending → Type 0
 IsCoreRunAt by n m mode load stops run NoMemory = IsCoreRun (by false) n m mode load stops run
 IsCoreRunAt by n m mode load stops run NotBegun = (run.calls ≡ []) × (run.acks ≡ [])
-IsCoreRunAt by n m mode load stops run (DiskFailed j) = IsCoreRun (by true) n m mode load stops run ⊎ ((run.calls ≡ []) × (run.acks ≡ []))
+IsCoreRunAt by n m mode load stops run (DiskFailed j) = IsCoreRun (by true) n m mode load stops run ⊎ ((run.calls ≡ []) × (run.acks ≡ []) × NamesLowest n stops None)
 IsCoreRunAt by n m mode load stops run other = IsCoreRun (by true) n m mode load stops run
 
 -- The run began so. What was written is its report, each image of a stop since the entry is what was there and a closed

@@ -1,5 +1,5 @@
 //! What holds of every run, as functions that do nothing.
-ghost use Rattle.tau_run.specs.Laws.{TextsAreSound, RunIsThere, RunIsHistory, ContentsAreRecords, ImagesAreRecovered, AckedIsTaken, EndsWell, NothingIsLost, TurnsAreARun, LivesAreSound, LivesAreRecovered, RunsMayGoOn, LivesAreOne, LeftOutForGood, LivesAreMarked, FreshMarked, FreshBegins, CallsWait, NothingBegun};
+ghost use Rattle.tau_run.specs.Laws.{TextsAreSound, RunIsThere, RunIsHistory, ContentsAreRecords, ImagesAreRecovered, AckedIsTaken, EndsWell, NothingIsLost, TurnsAreARun, LivesAreSound, LivesAreRecovered, RunsMayGoOn, LivesAreOne, LeftOutForGood, LivesAreMarked, FreshMarked, FreshBegins, CallsWait, NothingBegun, ToldIsWhole};
 
 /// A workload that a text means can be run and logged: its calls and its steps name declared tables alone, and its catalogue can be read again.
 pub fn texts_are_sound()
@@ -59,6 +59,11 @@ pub fn nothing_is_lost()
 /// A run by turns is a run of the machine, in which no call is given up.
 pub fn turns_are_a_run()
     ensures { TurnsAreARun }
+{}
+
+/// A run of which the report was written is one of all its events, also if a disk failed.
+pub fn told_is_whole()
+    ensures { ToldIsWhole }
 {}
 
 /// After any number of runs and stops the log is sound, and its tables are those of executing the calls that are taken, run
