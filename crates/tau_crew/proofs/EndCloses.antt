@@ -146,6 +146,7 @@ module _ {D : Type 0} {G : Ghosts D} (first : Plain) (table : TableId) (bases : 
           events = k.meets.reached.events;
           joined = k.meets.reached.joined;
           run = k.meets.reached.run;
+          held = k.meets.reached.held;
           going = k.meets.going;
           loose = t.closed.loose;
           boxes = t.closed.boxes;

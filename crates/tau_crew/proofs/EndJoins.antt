@@ -3,6 +3,7 @@ use Rattle.std.proofs.Common.{ℕ, zero, suc, ◌+◌, ◌<◌, ◌≡◌, ◌||
 use Rattle.std.specs.Prelude.{Some, slice_get, slice_index, slice_set}
 use Rattle.std.proofs.lemmas.List.{reverse-append}
 use Rattle.atomic_table.specs.Seated.{TableId}
+use Rattle.tau_base.specs.Vectors.{join}
 use Rattle.tau_core.specs.State.{Plain}
 use Rattle.tau_core.proofs.Lists.{got_other, got_same}
 use Rattle.tau_disk.specs.declared.disk.Disk.{Ghosts}
@@ -27,7 +28,7 @@ same_origin {a} {b} o e f = let g : Some a ≡ Some b = sym e ∙ f in cc g
 
 -- the head has one manager's role more
 pub manager_joined : (first : Plain) (h h' : PlainHead) (s : PlainManagerSeat) → Heads h → Manages s → h.me.0.opened ≡ Some first → s.me.0.opened ≡ Some first →
-    h' ≡ record h { me = (both_at s.stream h.me.0 s.me.0, []); managers = slice_set h.managers s.stream (Some s.stock); seen = slice_set h.seen s.stream (slice_index s.seen s.stream) } → TakesManager first h h' s
+    h' ≡ record h { me = (both_at s.stream h.me.0 s.me.0, []); managers = slice_set h.managers s.stream (Some s.stock); seen = slice_set (join h.seen s.seen) s.stream (slice_index s.seen s.stream) } → TakesManager first h h' s
 manager_joined first h h' s d m opened mine e =
     let as_head : d.origin ≡ first = same_origin h.me.0.opened d.opened opened in
     let as_seat : m.origin ≡ first = same_origin s.me.0.opened m.opened mine in

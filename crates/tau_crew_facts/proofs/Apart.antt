@@ -25,7 +25,7 @@ module _ {D : Type 0} {G : Ghosts D} (n m : ℕ) (mode : LogMode) (load : Worklo
   thread_spaced j content lt there =
       let low : j < l.streams = (let e = load_is.streams in omega (arith, lt, e)) in
       let own : IsSpacing (length (opened_at load start j)) (slice_index t.state.plv j) (map (λ (v : List ℕ). slice_index v j) (t.state.streams j).anchors) =
-      subst (λ (k : ℕ). IsSpacing k (slice_index t.state.plv j) (map (λ (v : List ℕ). slice_index v j) (t.state.streams j).anchors)) ((is_set n m mode load start l begins.count load_is).opening j lt) (whole going j low) in
+      subst (λ (k : ℕ). IsSpacing k (slice_index t.state.plv j) (map (λ (v : List ℕ). slice_index v j) (t.state.streams j).anchors)) ((is_set n m mode load start l begins.count load_is).opening j lt) (whole.1 going j low) in
       subst (λ (x : LogMode). AreSpaced (format_of x) n j (length (anchors_of (slice_index_or start.log.streams j []))) (length (opened_at load start j)) content) load_is.mode_is
       (anchors_spaced n m mode load l t.joined t.state (run_of in_threads n m mode load start begins sound l load_is ws ws' acks t) (course in_threads n m mode load start begins sound l load_is ws ws' acks t)
       (is_run in_threads n m mode load start begins sound l load_is ws ws' acks t) j lt content there (over.persisted j low (going j low)) own)

@@ -27,6 +27,7 @@ use Rattle.tau_run.specs.StopsLeave.{HasFront, HasSomeFront, IsOver, NamesLowest
 use Rattle.tau_run.specs.Writers.{EachOf, Left}
 use Rattle.tau_run.proofs.Given.{contents_there}
 use Rattle.tau_run.proofs.Start.{started}
+use Rattle.tau_rule.specs.Holders.{LeadHeld}
 use Rattle.tau_rule.specs.Rule.{anchors_at}
 use Rattle.tau_report.specs.declared.report.RunEnd.{RunEnd}
 use Rattle.tau_crew_facts.specs.Writers.{HasPieces, HasWritten}
@@ -34,7 +35,7 @@ use Rattle.tau_crew_facts.specs.Ends.{IsClosed, ManagerEnds, IsThreadEnd, IsThre
 use Rattle.tau_crew_facts.specs.Spacing.{IsSpacing}
 use Rattle.tau_crew_facts.specs.Threads.{in_threads, IsLowestFailed, NoneFailed, ThreadsEnded, ThreadsShort}
 use Rattle.tau_crew_facts.proofs.RunExists.{pieces_spelled, paired_front, loose_unplaced, acks_all}
-use Rattle.tau_crew_facts.proofs.Stops.{stopped_at, stops_by, stop_events, none_above, none_works, some_failed, stops_led}
+use Rattle.tau_crew_facts.proofs.Stops.{stopped_at, stops_by, stop_events, none_above, none_works, some_failed, stops_held, stops_led}
 use Rattle.tau_base.proofs.Lists.{some_at, got_within}
 use Rattle.tau_base.proofs.Logic.{some_is}
 
@@ -97,6 +98,9 @@ module _ {D : Type 0} {G : Ghosts D} (bases : ℕ → List ℕ) (first : Plain) 
 
   pub led : machine.Run (setting_of l) (core_of first nothing) events k.joined s
   led = stops_led (setting_of l) (core_of first nothing) k.events k.joined c k.run k.going failed l.streams (omega arith)
+
+  pub all_held : LeadHeld (setting_of l) events (core_of first nothing) s k.joined
+  all_held = stops_held (setting_of l) (core_of first nothing) k.events k.joined c k.run k.going failed k.held l.streams (omega arith)
 
   pub inv : Invariant (setting_of l) k.joined s
   inv = run_theorem (setting_of l) (core_of first nothing) events k.joined s led
@@ -187,7 +191,7 @@ module _ {D : Type 0} {G : Ghosts D} (bases : ℕ → List ℕ) (first : Plain) 
     events = events bases first c ws ws' acks e;
     joined = K;
     led = led bases first c ws ws' acks e;
-    part = tt;
+    part = (all_held bases first c ws ws' acks e, tt);
     contents = given.0;
     streams = given.1;
     given = given.2;
@@ -238,8 +242,11 @@ module _ {D : Type 0} {G : Ghosts D} (bases : ℕ → List ℕ) (first : Plain) 
   concluded e r = record {
     acks = r.acks;
     came = came bases first long r.state ws ws' r.acks r.came;
-    whole = λ going j lt.
-        subst (λ (k : ℕ). IsSpacing k (slice_index r.state.plv j) (map (λ (v : List ℕ). slice_index v j) (r.state.streams j).anchors)) (long j lt) (r.apart (works_all bases first long r.state ws ws' r.acks r.came going) j lt);
+    whole = (
+      all_held bases first r.state ws ws' r.acks r.came,
+      λ going j lt.
+          subst (λ (k : ℕ). IsSpacing k (slice_index r.state.plv j) (map (λ (v : List ℕ). slice_index v j) (r.state.streams j).anchors)) (long j lt) (r.apart (works_all bases first long r.state ws ws' r.acks r.came going) j lt),
+    );
     over = over bases first r.state ws ws' r.acks r.came r.done;
     kept = r.done.kept;
     heard = r.heard;

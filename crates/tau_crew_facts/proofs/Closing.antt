@@ -121,6 +121,7 @@ module _ (first : Plain) (v : Knows) (workers : ℕ → Worker) (managers : ℕ 
       events = k.meets.reached.events;
       joined = K;
       run = k.meets.reached.run;
+      held = k.meets.reached.held;
       going = k.meets.going;
       loose = loose_at loose;
       boxes = λ w lt. (let b = k.box w lt in (b.0.pieces, b.2.posted));

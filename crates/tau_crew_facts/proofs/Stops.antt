@@ -9,10 +9,11 @@ use Rattle.tau_machine.specs.Hands.{Txn}
 use Rattle.tau_machine.specs.Shard.{at}
 use Rattle.tau_machine.specs.State.{Setting, Stream, Core}
 use Rattle.tau_machine.specs.Events.{Event, Stop, Stops, with_stream}
-use Rattle.tau_machine.specs.Invariant.{Invariant}
 use Rattle.tau_machine.specs.Runs.{Run}
 use Rattle.tau_machine.proofs.At.{at_same, at_other}
 use Rattle.tau_machine.proofs.Results.{run_theorem, goes_on_theorem}
+use Rattle.tau_rule.specs.Holders.{LeadHeld}
+use Rattle.tau_rule.proofs.Holders.{held_more}
 
 -- the state with its streams stopped where the function tells
 abbrev pub stopped_at : (ℕ → Option ℕ) → Core → Core
@@ -57,12 +58,9 @@ some_failed f plv (suc k) j lt e = elim (cases_eq j k) [
 
 -- ---- the events
 
-module _ (set : Setting) (opening : Core) (events : List Event) (K : List (Act Txn)) (c : Core) (run : Run set opening events K c) (going : (j : ℕ) → (c.streams j).stop ≡ None) (f : ℕ → Bool) where
+module _ (set : Setting) (c : Core) (high : (j : ℕ) → slice_index c.plv j ≤ slice_index c.gathered j) (going : (j : ℕ) → (c.streams j).stop ≡ None) (f : ℕ → Bool) where
   abbrev after : ℕ → Core
   after k = stopped_at (stops_by f c.plv k) c
-
-  pub inv : Invariant set K c
-  inv = run_theorem set opening events K c run
 
   none_yet : stopped_at (λ j. None) c ≡ c
   none_yet = ap (λ (g : ℕ → Stream). record c { streams = g }) (fun_ext (λ j. ap (λ (o : Option ℕ). record (c.streams j) { stop = o }) (sym (going j))))
@@ -76,29 +74,45 @@ module _ (set : Setting) (opening : Core) (events : List Event) (K : List (Act T
         at_other k (record ((after k).streams k) { stop = Some (slice_index c.plv k) }) (after k).streams j other ∙ ap (λ (o : Option ℕ). record (c.streams j) { stop = o }) (sym (at_other k (Some (slice_index c.plv k)) (stops_by f c.plv k) j other))
   ]))
 
-  pub stops_led : (k : ℕ) → k ≤ set.width → Run set opening (events ++ stop_events f c.plv k) K (after k)
-  stops_led zero le = subst (λ (es : List Event). Run set opening es K (after 0)) (sym (append-nil events)) (subst (λ (s : Core). Run set opening events K s) (sym none_yet) run)
-  stops_led (suc k) le =
-      let before = stops_led k (omega (arith, le)) in elim (cases_Bool (f k)) [
-        | inr works ↦
-            let same : after (suc k) ≡ after k = ap (λ (b : Bool). stopped_at (if b then at k (Some (slice_index c.plv k)) (stops_by f c.plv k) else stops_by f c.plv k) c) works in
-            let no_more : events ++ stop_events f c.plv (suc k) ≡ events ++ stop_events f c.plv k =
-            ap (λ (b : Bool). events ++ (stop_events f c.plv k ++ (if b then Stop k (slice_index c.plv k) ∷ [] else []))) works ∙ ap (λ (es : List Event). events ++ es) (append-nil (stop_events f c.plv k)) in
-            subst (λ (es : List Event). Run set opening es K (after (suc k))) (sym no_more) (subst (λ (s : Core). Run set opening (events ++ stop_events f c.plv k) K s) (sym same) before)
-        | inl failed ↦
-            let stop : Stops set k (slice_index c.plv k) (after k) (with_stream (after k) k (record ((after k).streams k) { stop = Some (slice_index c.plv k) })) = record {
-              there = omega (arith, le);
-              going = none_above f c.plv k k (omega arith);
-              low = omega arith;
-              high = inv.agrees.good.persisted k;
-              after = refl;
-            } in
-            let gone = (goes_on_theorem set opening).1 (events ++ stop_events f c.plv k) K (after k) (with_stream (after k) k (record ((after k).streams k) { stop = Some (slice_index c.plv k) })) (Stop k (slice_index c.plv k)) [] before (stop, refl) in
-            let state : with_stream (after k) k (record ((after k).streams k) { stop = Some (slice_index c.plv k) }) ≡ after (suc k) =
-            one_more k ∙ ap (λ (b : Bool). stopped_at (if b then at k (Some (slice_index c.plv k)) (stops_by f c.plv k) else stops_by f c.plv k) c) (sym failed) in
-            let all : (events ++ stop_events f c.plv k) ++ Stop k (slice_index c.plv k) ∷ [] ≡ events ++ stop_events f c.plv (suc k) =
-            append_assoc events (stop_events f c.plv k) (Stop k (slice_index c.plv k) ∷ []) ∙ ap (λ (b : Bool). events ++ (stop_events f c.plv k ++ (if b then Stop k (slice_index c.plv k) ∷ [] else []))) (sym failed) in
-            subst (λ (es : List Event). Run set opening es K (after (suc k))) all
-            (subst (λ (s : Core). Run set opening ((events ++ stop_events f c.plv k) ++ Stop k (slice_index c.plv k) ∷ []) K s) state
-            (subst (λ (ts : List (Act Txn)). Run set opening ((events ++ stop_events f c.plv k) ++ Stop k (slice_index c.plv k) ∷ []) ts (with_stream (after k) k (record ((after k).streams k) { stop = Some (slice_index c.plv k) }))) (append-nil K) gone))
-      ]
+  -- what holds of the events so far, and is kept by a stop, holds once these streams are stopped
+  module _ (R : List Event → Core → Type 0) (one : (es : List Event) (s s' : Core) (j at : ℕ) → R es s → Stops set j at s s' → R (es ++ Stop j at ∷ []) s') (events : List Event) (first : R events c) where
+    pub stopped_all : (k : ℕ) → k ≤ set.width → R (events ++ stop_events f c.plv k) (after k)
+    stopped_all zero le = subst (λ (es : List Event). R es (after 0)) (sym (append-nil events)) (subst (λ (s : Core). R events s) (sym none_yet) first)
+    stopped_all (suc k) le =
+        let before = stopped_all k (omega (arith, le)) in elim (cases_Bool (f k)) [
+          | inr works ↦
+              let same : after (suc k) ≡ after k = ap (λ (b : Bool). stopped_at (if b then at k (Some (slice_index c.plv k)) (stops_by f c.plv k) else stops_by f c.plv k) c) works in
+              let no_more : events ++ stop_events f c.plv (suc k) ≡ events ++ stop_events f c.plv k =
+              ap (λ (b : Bool). events ++ (stop_events f c.plv k ++ (if b then Stop k (slice_index c.plv k) ∷ [] else []))) works ∙ ap (λ (es : List Event). events ++ es) (append-nil (stop_events f c.plv k)) in
+              subst (λ (es : List Event). R es (after (suc k))) (sym no_more) (subst (λ (s : Core). R (events ++ stop_events f c.plv k) s) (sym same) before)
+          | inl failed ↦
+              let stopped : Core = with_stream (after k) k (record ((after k).streams k) { stop = Some (slice_index c.plv k) }) in
+              let stop : Stops set k (slice_index c.plv k) (after k) stopped = record {
+                there = omega (arith, le);
+                going = none_above f c.plv k k (omega arith);
+                low = omega arith;
+                high = high k;
+                after = refl;
+              } in
+              let gone : R ((events ++ stop_events f c.plv k) ++ Stop k (slice_index c.plv k) ∷ []) stopped = one (events ++ stop_events f c.plv k) (after k) stopped k (slice_index c.plv k) before stop in
+              let state : stopped ≡ after (suc k) =
+              one_more k ∙ ap (λ (b : Bool). stopped_at (if b then at k (Some (slice_index c.plv k)) (stops_by f c.plv k) else stops_by f c.plv k) c) (sym failed) in
+              let all : (events ++ stop_events f c.plv k) ++ Stop k (slice_index c.plv k) ∷ [] ≡ events ++ stop_events f c.plv (suc k) =
+              append_assoc events (stop_events f c.plv k) (Stop k (slice_index c.plv k) ∷ []) ∙ ap (λ (b : Bool). events ++ (stop_events f c.plv k ++ (if b then Stop k (slice_index c.plv k) ∷ [] else []))) (sym failed) in
+              subst (λ (es : List Event). R es (after (suc k))) all (subst (λ (s : Core). R ((events ++ stop_events f c.plv k) ++ Stop k (slice_index c.plv k) ∷ []) s) state gone)
+        ]
+
+module _ (set : Setting) (opening : Core) (events : List Event) (K : List (Act Txn)) (c : Core) (run : Run set opening events K c) (going : (j : ℕ) → (c.streams j).stop ≡ None) (f : ℕ → Bool) where
+  high : (j : ℕ) → slice_index c.plv j ≤ slice_index c.gathered j
+  high j = (run_theorem set opening events K c run).agrees.good.persisted j
+
+  pub stops_led : (k : ℕ) → k ≤ set.width → Run set opening (events ++ stop_events f c.plv k) K (stopped_at (stops_by f c.plv k) c)
+  stops_led k le =
+      stopped_all set c high going f (λ es s. Run set opening es K s)
+      (λ es s s' j at r stop. subst (λ (ts : List (Act Txn)). Run set opening (es ++ Stop j at ∷ []) ts s') (append-nil K) ((goes_on_theorem set opening).1 es K s s' (Stop j at) [] r (stop, refl))) events run k le
+
+  -- no stop is a Busy
+  pub stops_held : LeadHeld set events opening c K → (k : ℕ) → k ≤ set.width → LeadHeld set (events ++ stop_events f c.plv k) opening (stopped_at (stops_by f c.plv k) c) K
+  stops_held held k le =
+      stopped_all set c high going f (λ es s. LeadHeld set es opening s K)
+      (λ es s s' j at r stop. subst (λ (ts : List (Act Txn)). LeadHeld set (es ++ Stop j at ∷ []) opening s' ts) (append-nil K) (held_more set es K opening s s' (Stop j at) [] r (stop, refl) tt)) events held k le

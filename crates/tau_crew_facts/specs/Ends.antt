@@ -20,6 +20,7 @@ use Rattle.tau_core.specs.State.{Plain}
 use Rattle.tau_core.specs.View.{core_of, setting_of, worker_of}
 use Rattle.tau_core.specs.declared.state.Load.{Load}
 use Rattle.tau_run.specs.Run.{pair_of}
+use Rattle.tau_rule.specs.Holders.{LeadHeld}
 use Rattle.tau_rule.specs.Rule.{anchors_at}
 use Rattle.tau_run.specs.Writers.{EachOf}
 use Rattle.tau_crew_facts.specs.Writers.{HasWritten}
@@ -32,12 +33,14 @@ abbrev pub IsLoose : Option Hand → Type 0
 IsLoose None = Unit {0}
 IsLoose (Some h) = (act_in (Some h) ≡ None) × (h.held ≡ [])
 
--- Events lead to this state from the core `first`, with which the desk was opened, and no stream was stopped; each outbox is at home.
+-- Events lead to this state from the core `first`, with which the desk was opened, and no stream was stopped; each worker that
+-- was Busy by one of them was barred; each outbox is at home.
 pub record IsClosed (first : Plain) (c : Core) : Type 0 where
   pub opened : Opened first.load first
   pub events : List Event
   pub joined : List (Act Txn)
   pub run : machine.Run (setting_of first.load) (core_of first nothing) events joined c
+  pub held : LeadHeld (setting_of first.load) events (core_of first nothing) c joined
   pub going : (j : ℕ) → (c.streams j).stop ≡ None
   pub loose : (w : ℕ) → IsLoose (c.workers w).hand
   pub boxes : (w : ℕ) → w < first.load.workers → (pieces : List Piece) × Paired (IsPieceOf first.load (anchors_at c)) pieces (c.outboxes w).posted

@@ -17,14 +17,19 @@ use Rattle.tau_run.specs.Fates.{fates_by}
 use Rattle.tau_run.specs.Heard.{Heard}
 use Rattle.tau_run.specs.StopsLeave.{NamesLowest, stops_in}
 use Rattle.tau_run.specs.Turns.{Progress}
+use Rattle.tau_rule.specs.Holders.{LeadHeld}
 use Rattle.tau_crew_facts.specs.Ends.{AreApart, IsThreadDone, IsThreadEnd}
 use Rattle.tau_crew_facts.specs.Spacing.{IsSpacing}
 
--- The events of a run in threads come in any order. Of a whole run in which no stream was stopped the anchors of each stream
--- stand in their distance, from where it ended at the opening.
+-- of a whole run in which no stream was stopped the anchors of each stream stand in their distance, from where it ended at the opening
+abbrev pub KeepsApart : Bool → Load → Progress → Type 0
+KeepsApart true l p = NamesLowest l.streams (stops_in p.state) None → (j : ℕ) → j < l.streams → IsSpacing (slice_index l.opening.ends j) (slice_index p.state.plv j) (map (λ (v : List ℕ). slice_index v j) (p.state.streams j).anchors)
+KeepsApart false l p = Unit {0}
+
+-- The events of a run in threads come in any order; but a worker is Busy only if another one holds the key that it wants, in a
+-- mode that conflicts.
 abbrev pub in_threads : Bool → Load → Core → Progress → Type 0
-in_threads true l opening p = NamesLowest l.streams (stops_in p.state) None → (j : ℕ) → j < l.streams → IsSpacing (slice_index l.opening.ends j) (slice_index p.state.plv j) (map (λ (v : List ℕ). slice_index v j) (p.state.streams j).anchors)
-in_threads false l opening p = Unit {0}
+in_threads whole l opening p = LeadHeld (setting_of l) p.events opening p.state p.joined × KeepsApart whole l p
 
 -- no disk failed
 abbrev pub NoneFailed : {D : Type 0} {G : Ghosts D} → List (Writer D G) → Type 0

@@ -95,7 +95,7 @@ module _ (origin : Plain) (c : Now) (seen : List ℕ) (w : ℕ) (call : Waiting)
     others = λ u x apart h. (shares_stay u x.share apart h.0, h.1, h.2);
     sight = λ v lacks h. sight_stays v h;
     kept = record {
-      reached = reached_on origin (Ack w seen) c.core acked_now.core [] meets.reached ack_leads;
+      reached = reached_on origin (Ack w seen) c.core acked_now.core [] meets.reached ack_leads tt;
       going = meets.going;
       fits = λ j lt. more _ _ (length meets.reached.joined) (length (meets.reached.joined ++ [])) _ (meets.fits j lt) (let a = length-append meets.reached.joined [] in omega arith);
       anchors = meets.anchors;

@@ -54,6 +54,7 @@ dones origin v w wk t' hand act b b' number lv is same phase held gone pieces ca
         posted = subst (λ ps. Paired (IsPieceOf origin.load (anchors_at c.core)) ps (c.core.outboxes w).posted) (sym pieces) box.posted;
         pending = (λ i. box.pending i ++ sym waits i ∷ []) ∙ sym (ap tickets calls ∙ map_append (λ (x : Waiting). record { number = x.number; lv = x.lv }) b.1.calls (record { number = number; lv = lv } ∷ []));
       },
+      tt,
     )
 
 -- the outbox that was taken has the room that its worker counts on

@@ -32,7 +32,7 @@ has_own r x v e = ap (role_in r) e ∙ ap (λ b. cond b (Some x) None) (eq-eqb r
 later_role : (r u : ℕ) (x : Role) (rs qs : List (ℕ × Role)) → rs ≡ (r, x) ∷ [] → (u ≡ r → ⊥) → role_in u (rs ++ qs) ≡ role_in u qs
 later_role r u x rs qs e ne = ap (λ (l : List (ℕ × Role)). role_in u (l ++ qs)) e ∙ ap (λ b. cond b (Some x) (role_in u qs)) (ne_eqb r u (λ d. ne (sym d)))
 
-join_wide : (a b : List ℕ) (n : ℕ) → length a ≡ n → length b ≡ n → length (join a b) ≡ n
+pub join_wide : (a b : List ℕ) (n : ℕ) → length a ≡ n → length b ≡ n → length (join a b) ≡ n
 join_wide a b n e f = (let w = join_wider a b in let x = w.0 in let y = w.1 in let z = w.2 in omega (arith, e, f, x, y, z))
 
 module _ (m : Sat) (works : List (Option PlainWork)) (stocks : List (Option PlainStock)) (clerk : Bool) (seen : List ℕ) (h : IsHead m works stocks clerk seen) (m' : Sat) (seen' : List ℕ) (seen_is : m'.0.seen ≡ seen') (seen_wide : length seen' ≡ h.origin.load.streams) (r : ℕ) (x : Role) (roles : m'.0.roles ≡ (r, x) ∷ []) where
@@ -79,11 +79,11 @@ module _ (m : Sat) (works : List (Option PlainWork)) (stocks : List (Option Plai
         clerk_is = λ e. clerk_on (λ d. omega (arith, d, at, there)) (h.clerk_is e);
       }
 
-  -- the same, with what the manager has seen of its own stream
+  -- the same, with just what the manager has seen of its own stream
   abbrev after_at : ℕ → Knows
   after_at j = both_at j m.0 m'.0
 
-  pub head_and_manager : (j : ℕ) (o : PlainStock) → r ≡ manager_role h.origin.load j → IsStock h.origin.load j x o → IsHead (after_at j, []) works (slice_set stocks j (Some o)) clerk (slice_set seen j (slice_index seen' j))
+  pub head_and_manager : (j : ℕ) (o : PlainStock) → r ≡ manager_role h.origin.load j → IsStock h.origin.load j x o → IsHead (after_at j, []) works (slice_set stocks j (Some o)) clerk (slice_set (join seen seen') j (slice_index seen' j))
   head_and_manager j o at stock =
       let there : j < h.origin.load.streams = stock.there in
       let inside : j < length stocks = (let c = h.manager_count in omega (arith, c, there)) in
@@ -93,8 +93,8 @@ module _ (m : Sat) (works : List (Option PlainWork)) (stocks : List (Option Plai
         idle = h.idle;
         none = refl;
         read = h.read;
-        seen_is = λ i. slice_set (h.seen_is i) j (slice_index (seen_is i) j);
-        seen_wide = length-set seen j (slice_index seen' j) ∙ h.seen_wide;
+        seen_is = λ i. slice_set (join (h.seen_is i) (seen_is i)) j (slice_index (seen_is i) j);
+        seen_wide = length-set (join seen seen') j (slice_index seen' j) ∙ seen_is_wide;
         worker_count = h.worker_count;
         manager_count = length-set stocks j (Some o) ∙ h.manager_count;
         worker = λ u y e. (let g = h.worker u y e in let t = g.work.there in let k = work_on u y (λ d. omega (arith, d, at, t)) g in record { role = k.role; is = k.is; work = k.work; rests = k.rests });

@@ -1,6 +1,7 @@
 -- A worker locks a key, or meets Busy.
-use Rattle.std.proofs.Common.{◌≡◌, ◌≤◌, ℕ, false, List, [], Option, length, refl, sym, ap, ◌∙◌, subst}
+use Rattle.std.proofs.Common.{◌≡◌, ◌≤◌, ℕ, true, false, inl, inr, List, [], Option, length, refl, sym, ap, ◌∙◌, subst}
 use Rattle.std.specs.Prelude.{Some, None}
+use Rattle.std.proofs.lemmas.Bool.{cases_eq, ne_eqb, eq-eqb}
 use Rattle.tau_base.specs.declared.value.Key.{Key}
 use Rattle.tau_base.specs.declared.value.Value.{Value}
 use Rattle.tau_base.specs.declared.value.Mode.{Mode}
@@ -9,9 +10,12 @@ use Rattle.tau_proc.specs.declared.proc.Proc.{Proc}
 use Rattle.tau_machine.specs.Hands.{Hand}
 use Rattle.tau_machine.specs.Shard.{Shard, Entry, entry_in, entry_or, shard_locked}
 use Rattle.tau_machine.specs.Shapes.{ShardShape}
+use Rattle.tau_machine.specs.State.{Setting}
 use Rattle.tau_machine.specs.Worker.{Worker, begun, settled, hand_busy, hand_locked}
-use Rattle.tau_machine.specs.Events.{Lock, Busy}
-use Rattle.tau_shard.specs.Blocks.{blocks, dep_locked}
+use Rattle.tau_machine.specs.Events.{Lock, Busy, Conflicts}
+use Rattle.tau_shard.specs.Blocks.{RefusedBy, blocks, dep_locked}
+use Rattle.tau_shard.specs.declared.entry.ShardRefusal.{ShardRefusal}
+use Rattle.tau_shard.specs.declared.entry.ShardRefusal.TheVariants as refusal
 use Rattle.tau_txn.specs.declared.standing.Standing.{Standing}
 use Rattle.tau_txn.specs.declared.standing.Standing.TheVariants as standing
 use Rattle.tau_txn.specs.Hand.{PlainHand}
@@ -32,7 +36,16 @@ use Rattle.tau_txn.specs.declared.action.ActionKind.TheVariants as kind
 use Rattle.tau_txn.specs.Narrow.{lock_at}
 use Rattle.tau_txn.specs.Next.{kind_of}
 use Rattle.tau_core.proofs.Hands.{shown_dep, locked_alike, locked_wide}
-use Rattle.tau_shard.proofs.Bridge.{no_conflict}
+use Rattle.tau_shard.proofs.Bridge.{against_to, no_conflict}
+
+-- the holder that stands against a lock is a conflict
+a_conflict : (set : Setting) (sh : Shard) (w : ℕ) (x : Key) (m : Mode) (u : ℕ) → blocks (entry_in sh x) w m u ≡ true → Conflicts set sh w x m
+a_conflict set sh w x m u h = elim (cases_eq u w) [
+  | inl is ↦ absurd (let bad : false ≡ true = rw (eq-eqb u w is) at h in cc)
+  | inr ne ↦
+      let a = against_to m ((entry_in sh x).holders u) (rw (ne_eqb u w ne) at h) in
+      (u, a.0, ne, a.1, a.2)
+]
 
 -- an action that asks for no such thing is not a lock
 pub no_lock : (a : Action) (o : Option (Key × Mode)) → o ≡ lock_at a → ((l : (Key × Mode)) → o ≡ Some l → ⊥) → kind_of a ≡ kind.Lock → ⊥
@@ -55,11 +68,17 @@ granted_steps origin w k wk sh sh' t t' key mode row dep dep' m agrees number de
     ∙ ap (λ (r : Value). record (begun origin.load.streams wk) { hand = Some (hand_locked m.hand key mode r (entry_in sh key).write_lv (entry_in sh key).read_lv) }) row_is)
     locked
 
-pub busy_steps : (origin : Plain) (w k : ℕ) (wk : Worker) (sh sh' : Shard) (t t' : PlainTxn) (key : Key) (mode : Mode) (m : txn.Locks origin.load.procs t key mode) → (begun origin.load.streams wk).hand ≡ hand_in origin.load.procs t → k ≡ shard_number key → sh' ≡ sh → t.width ≡ origin.load.streams →
+-- a shard that refuses a lock so has its key held by another worker
+pub refused_held : (origin : Plain) (sh : Shard) (w : ℕ) (key : Key) (mode : Mode) (e : ShardRefusal) (holder : ℕ) → e ≡ refusal.Busy holder → RefusedBy (entry_in sh key) w mode e → Conflicts (setting_of origin.load) sh w key mode
+refused_held origin sh w key mode e holder is refused =
+    let lowest : RefusedBy (entry_in sh key) w mode (refusal.Busy holder) = subst (λ (r : ShardRefusal). RefusedBy (entry_in sh key) w mode r) is refused in
+    a_conflict (setting_of origin.load) sh w key mode holder lowest.0
+
+pub busy_steps : (origin : Plain) (w k : ℕ) (wk : Worker) (sh sh' : Shard) (t t' : PlainTxn) (key : Key) (mode : Mode) (m : txn.Locks origin.load.procs t key mode) → Conflicts (setting_of origin.load) sh w key mode → (begun origin.load.streams wk).hand ≡ hand_in origin.load.procs t → k ≡ shard_number key → sh' ≡ sh → t.width ≡ origin.load.streams →
     ((x : Worker) (h : Hand) → hand_in origin.load.procs t ≡ Some h → worker_of origin.load.procs x t' ≡ settled t.width x (hand_busy h)) → StepsShard origin (Busy w) w wk (next_worker origin.load wk t') k sh sh'
-busy_steps origin w k wk sh sh' t t' key mode m agrees number same width busy =
+busy_steps origin w k wk sh sh' t t' key mode m held agrees number same width busy =
     subst (λ (x : Shard). StepsShard origin (Busy w) w wk (next_worker origin.load wk t') k sh x) (sym same)
-    (refuses origin w k wk sh m.hand key mode (agrees ∙ m.is) number m.phase m.next (next_worker origin.load wk t') (busy (begun origin.load.streams wk) m.hand m.is ∙ ap (λ (n : ℕ). settled n (begun origin.load.streams wk) (hand_busy m.hand)) width))
+    (refuses origin w k wk sh m.hand key mode (agrees ∙ m.is) number m.phase m.next (next_worker origin.load wk t') held (busy (begun origin.load.streams wk) m.hand m.is ∙ ap (λ (n : ℕ). settled n (begun origin.load.streams wk) (hand_busy m.hand)) width))
 
 pub worker_hand : (procs : List Proc) (wk : Worker) (t : PlainTxn) → (worker_of procs wk t).hand ≡ hand_in procs t
 worker_hand procs wk t = by_case t.hand

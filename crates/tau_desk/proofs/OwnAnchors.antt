@@ -130,7 +130,7 @@ module _ (origin : Plain) (c : Now) (j : ℕ) (taken left : List Piece) (g : Man
 
   own_kept : Meets origin own_now
   own_kept = record {
-    reached = reached_on origin (Gather j) c.core own_now.core [] meets.reached own_leads;
+    reached = reached_on origin (Gather j) c.core own_now.core [] meets.reached own_leads tt;
     going = no_stop;
     fits = fits_on;
     anchors = subst (λ (z : ℕ → List (List ℕ)). (i : ℕ) → i < origin.load.streams → length (z i) < 2 ^ 32) (sym same) meets.anchors;

@@ -68,4 +68,5 @@ quit_steps origin w k wk sh sh' t t' key q is same number width shard settles s 
         },
         refl,
       ),
+      tt,
     )

@@ -182,4 +182,5 @@ first_steps origin w k wk sh sh' t' key mode act h is same number r held lowest 
         },
         refl,
       ),
+      tt,
     )

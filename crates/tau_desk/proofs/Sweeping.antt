@@ -47,7 +47,7 @@ module _ (origin : Plain) (c : Now) (k : ℕ) (seen : List ℕ) (before sh : Sha
     others = λ u z apart h. (shares_stay u z.share h.0, h.1, h.2);
     sight = λ v lacks h. sight_stays v h;
     kept = record {
-      reached = reached_on origin (Drop k seen) c.core swept_now.core [] meets.reached sweep_leads;
+      reached = reached_on origin (Drop k seen) c.core swept_now.core [] meets.reached sweep_leads tt;
       going = meets.going;
       fits = λ j lt. more _ _ (length meets.reached.joined) (length (meets.reached.joined ++ [])) _ (meets.fits j lt) (let a = length-append meets.reached.joined [] in omega arith);
       anchors = meets.anchors;

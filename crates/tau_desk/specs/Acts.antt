@@ -5,11 +5,14 @@ use Rattle.tau_base.specs.declared.limits.TheConstants.{MAX_LSN}
 use Rattle.tau_base.specs.declared.value.Key.{Key}
 use Rattle.tau_base.specs.declared.value.Mode.{Mode}
 use Rattle.tau_base.specs.declared.value.Value.{Value}
+use Rattle.tau_base.specs.Shards.{shard_number}
 use Rattle.tau_proc.specs.declared.proc.Proc.{Proc}
 use Rattle.tau_proc.specs.declared.reply.Reply.{Reply}
 use Rattle.tau_model.specs.declared.committed.Committed.{Committed}
 use Rattle.tau_model.specs.History.{Act}
 use Rattle.tau_machine.specs.Hands.{Freeing, Hand, Placed, Txn, committed_of}
+use Rattle.tau_machine.specs.Events.{Conflicts}
+use Rattle.tau_machine.specs.Shard.{Shard}
 use Rattle.tau_machine.specs.Worker.{Worker, hand_busy, hand_freed, hand_joined, hand_quit, settled}
 use Rattle.tau_base.specs.Modes.{format_of}
 use Rattle.tau_record.specs.Record.{base_of, Spells}
@@ -19,7 +22,10 @@ use Rattle.tau_txn.specs.Next as txn
 use Rattle.tau_txn.specs.declared.action.Action.TheVariants as action
 use Rattle.tau_txn.specs.Steps.{locked_with}
 use Rattle.tau_core.specs.State.{Plain}
-use Rattle.tau_rule.specs.Steps.{Sat, told}
+use Rattle.tau_core.specs.View.{setting_of}
+use Rattle.tau_rule.specs.Knows.{Knows}
+use Rattle.tau_rule.specs.Steps.{Agrees, Sat, shard_in, told}
+use Rattle.tau_rule.specs.declared.part.Part.{Part}
 use Rattle.tau_desk.specs.declared.work.Acted.{Acted}
 use Rattle.tau_desk.specs.declared.work.Acted.TheVariants.{Went, Busy as IsBusy, Other, NoMemory}
 
@@ -122,10 +128,22 @@ module _ (procs : List Proc) (t t' : PlainTxn) where
     pub kept_is : kept ≡ committed_of act
     pub worker : SameWorker procs t t'
 
+-- another worker holds the key that the call wants, in a mode that conflicts: in the shard of that key as it was taken, by a
+-- seat that knew this
+pub record MeetsHolder (origin : Plain) (v : Knows) (t : PlainTxn) : Type 0 where
+  pub key : Key
+  pub mode : Mode
+  pub wanted : txn.Locks origin.load.procs t key mode
+  pub taken : Part
+  pub shard : Shard
+  pub was : shard_in taken ≡ Some shard
+  pub agrees : Agrees origin v (shard_number key) taken
+  pub held : Conflicts (setting_of origin.load) shard t.worker key mode
+
 -- after a lock, or a Busy, the seat knows what the call in hand shows; else nothing changed
 abbrev pub LockedBy : Plain → Sat → PlainTxn → Sat → PlainTxn → Acted → Type 0
 LockedBy origin m t m' t' Went = (m' ≡ (told origin.load m.0 t', [])) × HasLocked origin.load.procs t t'
-LockedBy origin m t m' t' IsBusy = (m' ≡ (told origin.load m.0 t', [])) × HasMetBusy origin.load.procs t t'
+LockedBy origin m t m' t' IsBusy = (m' ≡ (told origin.load m.0 t', [])) × HasMetBusy origin.load.procs t t' × MeetsHolder origin m.0 t
 LockedBy origin m t m' t' Other = (m' ≡ m) × (t' ≡ t)
 LockedBy origin m t m' t' NoMemory = (m' ≡ m) × (t' ≡ t)
 

@@ -35,11 +35,11 @@ impl Desk {
     }
 
     /// The head takes in the seat of the manager of a stream. Of that stream it has then seen just what the manager has, and of
-    /// the others what it had seen.
+    /// the others what both had seen.
     pub fn join_manager(&self, head: &mut Head, seat: ManagerSeat)
         requires own { (head.old.table_id ≡ self.now.table.shared.table_id) × (seat.table_id ≡ self.now.table.shared.table_id) }
         requires opened { (head.old.me.0.opened ≡ Some self.now.table.shared.key.value) × (seat.me.0.opened ≡ Some self.now.table.shared.key.value) }
-        ensures joined { head.new ≡ record head.old { me = (both_at seat.stream head.old.me.0 seat.me.0, []); managers = slice_set head.old.managers seat.stream (Some seat.stock); seen = slice_set head.old.seen seat.stream (slice_index seat.seen seat.stream) } }
+        ensures joined { head.new ≡ record head.old { me = (both_at seat.stream head.old.me.0 seat.me.0, []); managers = slice_set head.old.managers seat.stream (Some seat.stock); seen = slice_set (join head.old.seen seat.seen) seat.stream (slice_index seat.seen seat.stream) } }
     {
         let ManagerSeat {
             seat,
@@ -50,6 +50,7 @@ impl Desk {
         let at = stream as usize;
         self.take_manager(&mut head.seat, seat, at);
         let upto = seen.get(at);
+        head.seen.raise(&seen);
         head.seen.set(at, upto);
         let managers = &mut head.managers;
         managers[at] = Some(stock);
@@ -85,7 +86,7 @@ impl Desk {
         requires own { (seat.old.table_id ≡ self.now.table.shared.table_id) × (other.table_id ≡ self.now.table.shared.table_id) }
         requires opened { seat.old.me.0.opened ≡ Some self.now.table.shared.key.value }
         requires idle { (seat.old.me.0.hand ≡ None) × (other.me.0.hand ≡ None) × (other.me.1 ≡ []) }
-        requires wide { length seat.old.me.0.seen ≡ self.now.table.shared.key.value.load.streams }
+        requires wide { (length seat.old.me.0.seen ≡ self.now.table.shared.key.value.load.streams) × (length other.me.0.seen ≡ self.now.table.shared.key.value.load.streams) }
         requires unread { seat.old.me.0.read ≡ (0, replicate self.now.table.shared.key.value.load.streams 0) }
         requires manager { (stream < self.now.table.shared.key.value.load.streams) × (x : RoleOf) × (other.me.0.roles ≡ (manager_role self.now.table.shared.key.value.load stream, x) ∷ []) }
         ensures own { (seat.new.table_id ≡ seat.old.table_id) × (seat.new.id ≡ seat.old.id) }
@@ -98,7 +99,7 @@ impl Desk {
         requires own { (seat.old.table_id ≡ self.now.table.shared.table_id) × (other.table_id ≡ self.now.table.shared.table_id) }
         requires opened { seat.old.me.0.opened ≡ Some self.now.table.shared.key.value }
         requires idle { (seat.old.me.0.hand ≡ None) × (other.me.0.hand ≡ None) × (other.me.1 ≡ []) }
-        requires wide { length seat.old.me.0.seen ≡ self.now.table.shared.key.value.load.streams }
+        requires wide { (length seat.old.me.0.seen ≡ self.now.table.shared.key.value.load.streams) × (length other.me.0.seen ≡ self.now.table.shared.key.value.load.streams) }
         requires unread { seat.old.me.0.read ≡ (0, replicate self.now.table.shared.key.value.load.streams 0) }
         requires manager { (stream < self.now.table.shared.key.value.load.streams) × (x : RoleOf) × (other.me.0.roles ≡ (manager_role self.now.table.shared.key.value.load stream, x) ∷ []) }
         requires told { N.knows 0 ≡ both_at stream seat.old.me.0 other.me.0 }

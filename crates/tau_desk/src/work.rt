@@ -52,7 +52,7 @@ pub fn take_shard<R: Wait>(rt: &R, desk: &Desk, seat: &mut Seat, number: usize) 
     }
 }
 
-/// The worker locks the key that the call in hand wants.
+/// The worker locks the key that the call in hand wants, unless another one holds it in a mode that conflicts.
 pub fn lock<R: Wait>(
     rt: &R,
     desk: &Desk,

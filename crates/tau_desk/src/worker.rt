@@ -9,6 +9,7 @@ ghost use Rattle.tau_rule.specs.Role.{Role as RoleOf};
 ghost use Rattle.tau_desk.specs.Shares.{FitsWork, IsWork};
 ghost use Rattle.tau_txn.specs.Txn.{RunsBy, hand_in, has_joined, held_in, leaves_in};
 ghost use Rattle.tau_txn.specs.Next.{kind_of, next_action};
+ghost use Rattle.tau_desk.specs.Acts.{MeetsHolder};
 ghost use Rattle.tau_desk.specs.Works.{BeginsIn, CommitsOn, EndsOn, EndsReadingOn, FirstFreesOn, FreesOn, GivesUp, GivesUpOn, IsSameSeat, Leaves, LocksOn, PostsOn, QuitsOn, RoomMade, RoomOn, undone};
 
 use crate::desk::Desk;
@@ -23,11 +24,12 @@ use tau_proc::Procs;
 use tau_txn::{Action, ActionKind, Txn};
 
 impl WorkerSeat {
-    /// The call in hand locks the key that it wants. Out of memory, nothing has changed.
+    /// The call in hand locks the key that it wants. It is Busy only if another worker holds the key in a mode that conflicts. Out of memory, nothing has changed.
     pub fn lock<R: Wait>(&mut self, rt: &R, desk: &Desk) -> Acted
         requires own { self.old.table_id ≡ desk.now.table.shared.table_id }
         requires opened { self.old.me.0.opened ≡ Some desk.now.table.shared.key.value }
         ensures step { LocksOn desk.now.table.shared.key.value.load self.old self.new result }
+        ensures busy { result ≡ Acted.Busy → MeetsHolder desk.now.table.shared.key.value self.old.me.0 self.old.work.txn }
         ensures other { result ≡ Acted.Other → kind_of (next_action self.old.work.txn) ≡ ActionKind.Lock → ⊥ }
         ensures seat { IsSameSeat self.old self.new }
     {

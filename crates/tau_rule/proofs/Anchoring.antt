@@ -1,5 +1,5 @@
 -- A manager places an anchor: what names anchors goes on naming them.
-use Rattle.std.proofs.Common.{◌≡◌, ℕ, zero, suc, ◌+◌, ◌-◌, ◌*◌, ◌%◌, ◌^◌, ◌<◌, ◌≤◌, inl, inr, List, [], ◌∷◌, ◌++◌, Option, length, refl, sym, ap, ◌∙◌, subst, arith, add-zero, length-append, get_or-set_same, get_or-set_other}
+use Rattle.std.proofs.Common.{◌≡◌, ℕ, ◌+◌, ◌-◌, ◌*◌, ◌%◌, ◌^◌, ◌<◌, ◌≤◌, inl, inr, List, [], ◌∷◌, ◌++◌, Option, length, refl, sym, ap, ◌∙◌, subst, arith, add-zero, length-append, get_or-set_same, get_or-set_other}
 use Rattle.std.specs.Prelude.{Some, None, slice_get, slice_index, slice_set}
 use Rattle.std.proofs.Math.Nat.{mod-eq_of_lt}
 use Rattle.std.proofs.lemmas.List.{append-nil}
@@ -193,7 +193,7 @@ module _ (origin : Plain) (j : ℕ) (m : Sat) (bytes : List ℕ) (p : IsToAnchor
       others = λ u x apart h. (shares_stay u x.share apart h.0, h.1, h.2);
       sight = λ v lacks h. sees_stay v h;
       kept = record {
-        reached = reached_on origin (PlaceAnchor j m.0.seen) c.core (then_anchored c).core [] meets.reached leads;
+        reached = reached_on origin (PlaceAnchor j m.0.seen) c.core (then_anchored c).core [] meets.reached leads tt;
         going = no_stop;
         fits = fits_on;
         anchors = few_on;

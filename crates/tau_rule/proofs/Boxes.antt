@@ -20,6 +20,7 @@ use Rattle.tau_core.specs.View.{setting_of}
 use Rattle.tau_rule.specs.Role.{Share, Working, Managing, Clerking, Role}
 use Rattle.tau_core.specs.Pieces.{IsPieceOf, Paired}
 use Rattle.tau_rule.specs.Knows.{Knows}
+use Rattle.tau_rule.specs.Holders.{BusyHasHolder}
 use Rattle.tau_rule.specs.Rule.{Now, IsPart, IsShare, IsRole, IsOutbox, Sees, Meets, anchors_at, word_of, hand_of, has, part_count, outbox_part}
 use Rattle.tau_rule.specs.Steps.{ComesHome, handed, first_role, worker_in_share, next_worker}
 use Rattle.tau_rule.specs.Boxes.{BoxOf, box_in, with_box, StepsBox, GivesBox, told_box}
@@ -70,14 +71,14 @@ module _ (origin : Plain) where
     pub on_box_sees : (v : Knows) → Sees origin c v → Sees origin on_box v
     on_box_sees v h = record { opened = h.opened; wide = h.wide; low = h.low; own = h.own; read = h.read; found = h.found }
 
-    pub on_box_turn : (e : Event) (new : List (Act Txn)) → Meets origin c → IsRole origin.load w old c → Leads (setting_of origin.load) e c.core on_box.core new → Turn origin c on_box (outbox_part w) w (with_box old wk spare)
-    on_box_turn e new meets mine leads = record {
+    pub on_box_turn : (e : Event) (new : List (Act Txn)) → Meets origin c → IsRole origin.load w old c → Leads (setting_of origin.load) e c.core on_box.core new → BusyHasHolder (setting_of origin.load) e c.core → Turn origin c on_box (outbox_part w) w (with_box old wk spare)
+    on_box_turn e new meets mine leads holder = record {
       parts = λ j p low apart h. parts_stay j p apart h;
       mine = ((wide, at_same w wk c.core.workers), mine.1, at_same w spare c.spare);
       others = λ u x apart h. (shares_stay u x.share apart h.0, h.1, at_other w spare c.spare u apart ∙ h.2);
       sight = λ v lacks h. on_box_sees v h;
       kept = record {
-        reached = reached_on origin e c.core on_box.core new meets.reached leads;
+        reached = reached_on origin e c.core on_box.core new meets.reached leads holder;
         going = meets.going;
         fits = λ j low. more _ _ (length meets.reached.joined) (length (meets.reached.joined ++ new)) _ (meets.fits j low) (let a = length-append meets.reached.joined new in omega arith);
         anchors = meets.anchors;
@@ -101,7 +102,7 @@ gives_box origin id v carried q w wk' spare e g opened =
     let led = g.steps c m seen worker.1 (part_box origin c w g.taken g.before g.was part) in
     let c' : Now = on_box origin c w g.role wk' led.0 spare g.there in (
       c',
-      on_box_turn origin c w g.role wk' led.0 spare g.there e led.1 m mine led.2,
+      on_box_turn origin c w g.role wk' led.0 spare g.there e led.1 m mine led.2 led.4,
       box_part origin c' w q g.after g.is g.there (subst (λ (z : Outbox). IsOutbox origin.load g.after.0 g.after.1 (anchors_at c.core) z) (sym (at_same w led.0 c.core.outboxes)) led.3)
           (subst (λ (z : ℕ × ℕ). z.0 ≤ g.after.0.room) (sym (at_same w spare c.spare)) g.records) (subst (λ (z : ℕ × ℕ). z.1 ≤ g.after.1.room) (sym (at_same w spare c.spare)) g.calls),
       handed_sees origin c' v w g.role y g.there opened (one_role v w g.role g.roles) (on_box_sees origin c w g.role wk' led.0 spare g.there v seen),
@@ -137,6 +138,7 @@ posts origin v w wk wk' hand act b b' piece is phase worker pieces calls spelled
         (paired_snoc (IsPieceOf origin.load (anchors_at c.core)) b.0.pieces (c.core.outboxes w).posted piece (Record act) box.posted (spelled c sees));
     pending = box.pending ∙ ap tickets (sym calls);
   },
+  tt,
 )
 
 -- the pieces that stand in the outbox of a call that has its place end before it

@@ -237,7 +237,7 @@ module _ (origin : Plain) where
 
     gather_kept : Meets origin gathered_now
     gather_kept = record {
-      reached = reached_on origin (Gather j) c.core gathered_now.core [] meets.reached gather_leads;
+      reached = reached_on origin (Gather j) c.core gathered_now.core [] meets.reached gather_leads tt;
       going = no_stop;
       fits = subst (λ (z : ℕ × (ℕ → List (List ℕ))). (i : ℕ) → i < origin.load.streams → slice_index c.core.ends i ≤ slice_index origin.load.opening.ends i + LONGEST * z.0 + MAX_ANCHOR * length (z.1 i)) (λ i. (sym count_same i, sym same i)) meets.fits;
       anchors = subst (λ (z : ℕ → List (List ℕ)). (i : ℕ) → i < origin.load.streams → length (z i) < 2 ^ 32) (sym same) meets.anchors;

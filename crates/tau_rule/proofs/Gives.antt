@@ -56,7 +56,7 @@ gives_shard origin id k v p q w x wk wk' sh sh' e opened held roles share was is
     let led = steps c.core m.reached worker.1 shard.1 in
     let c' : Now = on_shard origin c w k x wk' sh' wide shard.0 in (
       c',
-      on_shard_turn origin c w k x wk' sh' wide shard.0 e led.0 m mine led.1,
+      on_shard_turn origin c w k x wk' sh' wide shard.0 e led.0 m mine led.1 led.2,
       shard_part origin c' k q sh' is shard.0 (at_same k sh' c.core.shards),
       handed_sees origin c' v w x y wide opened (one_role v w x roles) (record { opened = seen.opened; wide = seen.wide; low = seen.low; own = seen.own; read = seen.read; found = seen.found }),
       (λ i low. refl),

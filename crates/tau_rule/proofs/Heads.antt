@@ -101,27 +101,30 @@ joins origin id other v w idle rests opened wide_v wide_w read =
     found_of false b h f g = g h
 
 -- it takes in what the seat of the manager of stream j has
-pub joins_at : (origin : Plain) (id other : ℕ) (v w : Knows) (j : ℕ) (x : Role) → v.hand ≡ None → w.hand ≡ None → v.opened ≡ Some origin → length v.seen ≡ origin.load.streams → v.read ≡ (0, replicate origin.load.streams 0) →
+pub joins_at : (origin : Plain) (id other : ℕ) (v w : Knows) (j : ℕ) (x : Role) → v.hand ≡ None → w.hand ≡ None → v.opened ≡ Some origin → length v.seen ≡ origin.load.streams → length w.seen ≡ origin.load.streams → v.read ≡ (0, replicate origin.load.streams 0) →
     j < origin.load.streams → w.roles ≡ (manager_role origin.load j, x) ∷ [] → Joins (Rule origin) id v other w (both_at j v w) spent
-joins_at origin id other v w j x idle rests opened wide read there manages =
+joins_at origin id other v w j x idle rests opened wide wide_w read there manages =
     joins_roles (IsPart origin.load) (IsRole origin.load) (word_of origin.load) hand_of has (Sees origin) (Meets origin) (part_count origin.load) (origin.load.streams + origin.load.streams + 1) id v other w (both_at j v w) spent idle rests idle refl
     (λ u z h. in_either w.roles v.roles u z h) (λ u z h. let bad : None ≡ Some z = h in cc)
     (λ c meets a b.
     let own_is : has (manager_role origin.load j) w ≡ Some x = ap (role_in (manager_role origin.load j)) manages ∙ role_alone (manager_role origin.load j) x in
-    let inside : j < length v.seen = omega (arith, wide, there) in
-    let now : List ℕ = slice_set v.seen j (slice_index w.seen j) in record {
+    let all : List ℕ = join v.seen w.seen in
+    let all_wide : length all ≡ origin.load.streams = (let q = join_wider v.seen w.seen in let q0 = q.0 in let q1 = q.1 in let q2 = q.2 in omega arith) in
+    let below : AtMost all c.core.plv = join_below v.seen w.seen c.core.plv a.low b.low in
+    let inside : j < length all = omega (arith, all_wide, there) in
+    let now : List ℕ = slice_set all j (slice_index w.seen j) in record {
       opened = λ u r h. opened;
-      wide = λ u r h. length-set v.seen j (slice_index w.seen j) ∙ wide;
+      wide = λ u r h. length-set all j (slice_index w.seen j) ∙ all_wide;
       low = λ i. elim (cases_eq i j) [
-        | inl is ↦ (let e = ap (slice_index now) is in let f = set_there v.seen j (slice_index w.seen j) inside in let g = b.low j in let k = ap (slice_index c.core.plv) is in omega (arith, e, f, g, k))
-        | inr ne ↦ (let e = set_elsewhere v.seen j i (slice_index w.seen j) (λ d. ne (sym d)) in let g = a.low i in omega (arith, e, g))
+        | inl is ↦ (let e = ap (slice_index now) is in let f = set_there all j (slice_index w.seen j) inside in let g = b.low j in let k = ap (slice_index c.core.plv) is in omega (arith, e, f, g, k))
+        | inr ne ↦ (let e = set_elsewhere all j i (slice_index w.seen j) (λ d. ne (sym d)) in let g = below i in omega (arith, e, g))
       ];
       own = λ i r lt h. elim (cases_eq i j) [
-        | inl is ↦ (let e = ap (slice_index now) is in let f = set_there v.seen j (slice_index w.seen j) inside in let g = b.own j x there own_is in let k = ap (slice_index c.core.plv) is in omega (arith, e, f, g, k))
-        | inr ne ↦ (let e = set_elsewhere v.seen j i (slice_index w.seen j) (λ d. ne (sym d)) in ⊎_elim
+        | inl is ↦ (let e = ap (slice_index now) is in let f = set_there all j (slice_index w.seen j) inside in let g = b.own j x there own_is in let k = ap (slice_index c.core.plv) is in omega (arith, e, f, g, k))
+        | inr ne ↦ (let e = set_elsewhere all j i (slice_index w.seen j) (λ d. ne (sym d)) in let top = below i in let up = join_left v.seen w.seen i in ⊎_elim
             (λ (q : has (manager_role origin.load i) w ≡ Some r).
             (let same = alone (manager_role origin.load j) x (manager_role origin.load i) r (sym (ap (role_in (manager_role origin.load i)) manages) ∙ q) in absurd (ne (omega (arith, same)))))
-            (λ (q : has (manager_role origin.load i) v ≡ Some r). (let s = a.own i r lt q in omega (arith, e, s)))
+            (λ (q : has (manager_role origin.load i) v ≡ Some r). (let s = a.own i r lt q in omega (arith, e, s, top, up)))
             (in_either w.roles v.roles (manager_role origin.load i) r h))
       ];
       read = λ u r lt h. inl (ap (λ (z : ℕ × List ℕ). z.0) read, ap (λ (z : ℕ × List ℕ). z.1) read);

@@ -1,3 +1,4 @@
+pub mod Holders
 pub mod Turns
 pub mod Gives
 pub mod Workers

@@ -111,7 +111,7 @@ module _ (origin : Plain) (q : Opened origin.load origin) where
 
   meets_is : IsLimited origin.load → Meets origin now
   meets_is limits = record {
-    reached = record { events = []; joined = []; run = (goes_on_theorem (setting_of origin.load) o).0 q.opening };
+    reached = record { events = []; joined = []; run = (goes_on_theorem (setting_of origin.load) o).0 q.opening; held = (refl, refl) };
     going = q.opening.stops;
     fits = λ j lt. (let e = ap (λ (v : List ℕ). slice_index v j) q.opening.ends in omega arith);
     anchors = λ j lt. few_of (o.streams j).anchors (q.opening.anchors j);

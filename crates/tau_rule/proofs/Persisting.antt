@@ -176,7 +176,7 @@ module _ (origin : Plain) (j : ℕ) (m : Sat) (managed : Managed) (new : ℕ) (p
       others = λ u x apart h. (shares_stay u x.share h.0, h.1, h.2);
       sight = sight_stays;
       kept = record {
-        reached = reached_on origin (Persist j new) c.core (then_persisted c).core [] meets.reached leads;
+        reached = reached_on origin (Persist j new) c.core (then_persisted c).core [] meets.reached leads tt;
         going = meets.going;
         fits = subst (λ (k : ℕ). (i : ℕ) → i < origin.load.streams → slice_index c.core.ends i ≤ slice_index origin.load.opening.ends i + LONGEST * k + MAX_ANCHOR * length (c.core.streams i).anchors) (sym (length-append meets.reached.joined [] ∙ add-zero (length meets.reached.joined))) meets.fits;
         anchors = meets.anchors;

@@ -1,6 +1,6 @@
 -- A call gets its place by adding to the word of its stream.
-use Rattle.std.proofs.Common.{◌≡◌, ℕ, zero, suc, ◌+◌, ◌-◌, ◌*◌, ◌%◌, ◌^◌, ◌<◌, ◌≤◌, ◌⊎◌, inl, inr, true, false, Bool, List, [], ◌∷◌, ◌++◌, Option, length, refl, sym, ap, ◌∙◌, subst, arith, length-append, get_or-set_same, get_or-set_other}
-use Rattle.std.specs.Prelude.{None, Some, ◌==◌, if◌then◌else◌, max, replicate, slice_get, slice_index, slice_set, nat_le}
+use Rattle.std.proofs.Common.{◌≡◌, ℕ, zero, ◌+◌, ◌-◌, ◌*◌, ◌%◌, ◌^◌, ◌<◌, ◌≤◌, ◌⊎◌, inl, inr, true, false, Bool, List, [], ◌∷◌, ◌++◌, Option, length, refl, sym, ap, ◌∙◌, subst, arith, length-append, get_or-set_same, get_or-set_other}
+use Rattle.std.specs.Prelude.{None, Some, ◌==◌, if◌then◌else◌, replicate, slice_get, slice_index, slice_set, nat_le}
 use Rattle.std.proofs.Math.Nat.{mod-eq_of_lt}
 use Rattle.std.proofs.lemmas.Bool.{cases_eq, ne_eqb, le-leb}
 use mathlib.Core.Option.{none}
@@ -148,7 +148,7 @@ module _ (origin : Plain) (w : ℕ) (m : Sat) (t : PlainTxn) (p : IsToPlace orig
     small : slice_index c.core.ends j + length (bytes_in t) < 2 ^ 62
     small =
         let low : j < origin.load.streams = meets.reached.run.opens.small w in
-        let went = reached_on origin (Commit w) c.core (then_placed c).core (act c ∷ []) meets.reached leads in
+        let went = reached_on origin (Commit w) c.core (then_placed c).core (act c ∷ []) meets.reached leads tt in
         let few = few_joined origin (then_placed c).core went in
         let more_by : length (meets.reached.joined ++ act c ∷ []) ≡ length meets.reached.joined + 1 = length-append meets.reached.joined (act c ∷ []) in
         let size = p.size_high in
@@ -191,7 +191,7 @@ module _ (origin : Plain) (w : ℕ) (m : Sat) (t : PlainTxn) (p : IsToPlace orig
 
     pub kept : Meets origin (then_placed c)
     kept = record {
-      reached = reached_on origin (Commit w) c.core (then_placed c).core (act c ∷ []) meets.reached leads;
+      reached = reached_on origin (Commit w) c.core (then_placed c).core (act c ∷ []) meets.reached leads tt;
       going = meets.going;
       fits = fits_on;
       anchors = meets.anchors;

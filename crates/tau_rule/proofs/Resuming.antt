@@ -77,7 +77,7 @@ module _ (origin : Plain) (v : Knows) (w : ℕ) (call : Numbered) (front back : 
       others = λ u x apart h. (shares_stay u x.share apart h.0, h.1, h.2);
       sight = λ x lacks h. sees_stay x h;
       kept = record {
-        reached = reached_on origin (Resume w) c.core (then_resumed c).core [] meets.reached leads;
+        reached = reached_on origin (Resume w) c.core (then_resumed c).core [] meets.reached leads tt;
         going = meets.going;
         fits = subst (λ (k : ℕ). (i : ℕ) → i < origin.load.streams → slice_index c.core.ends i ≤ slice_index origin.load.opening.ends i + LONGEST * k + MAX_ANCHOR * length (c.core.streams i).anchors)
             (sym (length-append meets.reached.joined [] ∙ add-zero (length meets.reached.joined))) meets.fits;

@@ -20,17 +20,20 @@ use Rattle.tau_core.specs.State.{Plain}
 use Rattle.tau_core.specs.View.{setting_of}
 use Rattle.tau_rule.specs.Role.{Share, Working, Managing, Clerking, Role, role_in}
 use Rattle.tau_rule.specs.Knows.{Knows}
+use Rattle.tau_rule.specs.Holders.{BusyHasHolder}
 use Rattle.tau_rule.specs.Rule.{IsReached, Now, IsPart, IsShare, IsRole, IsOutbox, Sees, Meets, word_of, hand_of, has, part_count, manager_role, LONGEST}
 use Rattle.tau_rule.specs.Steps.{handed, shard_in, working}
 use Rattle.tau_rule.specs.declared.part.Part.{Part}
 use Rattle.tau_rule.specs.declared.part.Part.TheVariants as part
+use Rattle.tau_rule.proofs.Holders.{held_more}
 
 -- one event more
-abbrev pub reached_on : (origin : Plain) (e : Event) (s s' : Core) (new : List (Act Txn)) → IsReached origin s → Leads (setting_of origin.load) e s s' new → IsReached origin s'
-reached_on origin e s s' new r leads = record {
+abbrev pub reached_on : (origin : Plain) (e : Event) (s s' : Core) (new : List (Act Txn)) → IsReached origin s → Leads (setting_of origin.load) e s s' new → BusyHasHolder (setting_of origin.load) e s → IsReached origin s'
+reached_on origin e s s' new r leads holder = record {
   events = r.events ++ e ∷ [];
   joined = r.joined ++ new;
   run = record { opens = r.run.opens; leads = lead_on_more (setting_of origin.load) r.events r.joined (core_of origin nothing) s s' e new r.run.leads leads };
+  held = held_more (setting_of origin.load) r.events r.joined (core_of origin nothing) s s' e new r.held leads holder;
 }
 
 -- what holds of every state that a run leads to
@@ -72,14 +75,14 @@ module _ (origin : Plain) where
     sight_stays : (v : Knows) → Sees origin c v → Sees origin on_shard v
     sight_stays v h = record { opened = h.opened; wide = h.wide; low = h.low; own = h.own; read = h.read; found = h.found }
 
-    pub on_shard_turn : (e : Event) (new : List (Act Txn)) → Meets origin c → IsRole origin.load w old c → Leads (setting_of origin.load) e c.core on_shard.core new → Turn c on_shard k w (working old wk)
-    on_shard_turn e new meets mine leads = record {
+    pub on_shard_turn : (e : Event) (new : List (Act Txn)) → Meets origin c → IsRole origin.load w old c → Leads (setting_of origin.load) e c.core on_shard.core new → BusyHasHolder (setting_of origin.load) e c.core → Turn c on_shard k w (working old wk)
+    on_shard_turn e new meets mine leads holder = record {
       parts = λ j p low apart h. parts_stay j p apart h;
       mine = ((wide, at_same w wk c.core.workers), mine.1, mine.2);
       others = λ u x apart h. (shares_stay u x.share apart h.0, h.1, h.2);
       sight = λ v none h. sight_stays v h;
       kept = record {
-        reached = reached_on origin e c.core on_shard.core new meets.reached leads;
+        reached = reached_on origin e c.core on_shard.core new meets.reached leads holder;
         going = meets.going;
         fits = λ j low. more _ _ (length meets.reached.joined) (length (meets.reached.joined ++ new)) _ (meets.fits j low) (let a = length-append meets.reached.joined new in omega arith);
         anchors = meets.anchors;

@@ -1,30 +1,24 @@
 -- The events of a worker on a shard, from what the shard and the call in hand say.
-use Rattle.std.proofs.Common.{◌≡◌, ℕ, false, ◌⊎◌, inl, inr, List, [], Option, refl, sym, ap, ◌∙◌, subst}
-use Rattle.std.specs.Prelude.{Some, None, ◌==◌}
+use Rattle.std.proofs.Common.{◌≡◌, ℕ, List, [], Option, refl, sym, ap, ◌∙◌, subst}
+use Rattle.std.specs.Prelude.{Some, None}
 use Rattle.std.specs.Map.{lookup}
-use Rattle.std.proofs.lemmas.Bool.{ne_eqb}
 use Rattle.tau_base.specs.declared.value.Key.{Key}
-use Rattle.tau_base.specs.declared.value.Value.{Value}
 use Rattle.tau_base.specs.declared.value.Mode.{Mode}
-use Rattle.tau_base.specs.declared.value.Mode.TheVariants.{Read, Write}
 use Rattle.tau_base.specs.Database.{same_key}
 use Rattle.tau_base.specs.Shards.{shard_number}
 use Rattle.tau_proc.specs.declared.proc.Proc.{Proc}
 use Rattle.tau_model.specs.History.{Act}
 use Rattle.tau_machine.specs.Hands.{Txn, Hand, Running, Freeing, mode_of, lv_of}
-use Rattle.tau_machine.specs.Shard.{Shard, Entry, entry_in, shard_locked, shard_freed}
+use Rattle.tau_machine.specs.Shard.{Shard, entry_in, shard_locked, shard_freed}
 use Rattle.tau_machine.specs.Worker.{Worker, begun, hand_locked, hand_busy, settled, hand_freed}
-use Rattle.tau_machine.specs.State.{Setting}
 use Rattle.tau_machine.specs.Events.{Lock, Busy, Free, Conflicts, lock_next, with_worker, with_shard}
 use Rattle.tau_machine.proofs.At.{at_itself}
-use Rattle.tau_shard.specs.Blocks.{against, blocks, dep_locked}
 use Rattle.tau_txn.specs.declared.standing.Standing.{Standing}
 use Rattle.tau_txn.specs.declared.standing.Standing.TheVariants as standing
 use Rattle.tau_txn.specs.Hand.{PlainHand}
-use Rattle.tau_txn.specs.Read.{hand_of}
-use Rattle.tau_txn.specs.Steps.{locked_with, worker_by}
+use Rattle.tau_txn.specs.Steps.{worker_by}
 use Rattle.tau_txn.specs.Next.{IsLowest}
-use Rattle.tau_txn.specs.Txn.{PlainTxn, shown, shown_of, hand_in, worker_of, worker_in, dep_in, dep_by}
+use Rattle.tau_txn.specs.Txn.{PlainTxn, shown, shown_of, hand_in, worker_of, worker_in}
 use Rattle.tau_core.specs.State.{Plain}
 use Rattle.tau_core.specs.View.{setting_of}
 use Rattle.tau_rule.specs.Steps.{StepsShard}
@@ -68,10 +62,11 @@ module _ (origin : Plain) (w k : ℕ) (wk : Worker) (sh : Shard) (hand : Hand) (
             },
             refl,
           ),
+          tt,
         )
 
-    pub refuses : (wk' : Worker) → wk' ≡ settled origin.load.streams (begun origin.load.streams wk) (hand_busy hand) → StepsShard origin (Busy w) w wk wk' k sh sh
-    refuses wk' worker s r at_worker at_shard = (
+    pub refuses : (wk' : Worker) → Conflicts (setting_of origin.load) sh w key mode → wk' ≡ settled origin.load.streams (begun origin.load.streams wk) (hand_busy hand) → StepsShard origin (Busy w) w wk wk' k sh sh
+    refuses wk' held worker s r at_worker at_shard = (
       [],
       (
         record {
@@ -87,6 +82,14 @@ module _ (origin : Plain) (w k : ℕ) (wk : Worker) (sh : Shard) (hand : Hand) (
         },
         refl,
       ),
+      record {
+        hand = hand;
+        key = key;
+        mode = mode;
+        is = ap (λ (x : Worker). (begun origin.load.streams x).hand) at_worker ∙ is;
+        next = next;
+        held = subst (λ (x : Shard). Conflicts (setting_of origin.load) x w key mode) (sym at_shard ∙ ap s.shards number) held;
+      },
     )
 
 -- a key of a call that has joined is freed
@@ -110,4 +113,5 @@ frees origin w k wk wk' sh sh' hand key mode act is number phase held lowest wor
         },
         refl,
       ),
+      tt,
     )

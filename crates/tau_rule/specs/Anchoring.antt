@@ -1,5 +1,5 @@
 -- A manager places an anchor.
-use Rattle.std.specs.Prelude.{ℕ, false, ◌+◌, ◌-◌, ◌^◌, ◌<◌, ◌≤◌, List, [], ◌∷◌, ◌++◌, length, slice_index}
+use Rattle.std.specs.Prelude.{ℕ, false, ◌+◌, ◌<◌, ◌≤◌, List, [], ◌∷◌, ◌++◌, length, slice_index}
 use Rattle.tau_base.specs.declared.limits.TheConstants.{MAX_ANCHORS}
 use Rattle.tau_base.specs.Modes.{format_of}
 use Rattle.tau_record.specs.Record.{Spells}

@@ -21,6 +21,7 @@ use Rattle.tau_core.specs.declared.state.Load.{Load}
 use Rattle.tau_core.specs.View.{setting_of}
 use Rattle.tau_rule.specs.Role.{Managed, Working, Managing, Role}
 use Rattle.tau_rule.specs.Knows.{Knows}
+use Rattle.tau_rule.specs.Holders.{BusyHasHolder}
 use Rattle.tau_rule.specs.Rule.{Now, Sees, Meets, IsOutbox, anchors_at, outbox_part, manager_role}
 use Rattle.tau_rule.specs.Steps.{Sat, handed, first_role, worker_in, next_worker}
 use Rattle.tau_rule.specs.declared.part.Part.{Part}
@@ -38,11 +39,11 @@ BoxOf = PlainOutbox × PlainPending
 abbrev pub with_box : Role → Worker → ℕ × ℕ → Role
 with_box x wk spare = record x { share = Working wk; spare = spare }
 
--- the event leads from every state that this seat may see, with this worker and this outbox, to one in which they are these
+-- the event, which is no Busy without a holder, leads from every state that this seat may see, with this worker and this outbox, to one in which they are these
 abbrev pub StepsBox : Plain → Event → Knows → ℕ → Worker → Worker → PlainOutbox × PlainPending → PlainOutbox × PlainPending → Type 0
 StepsBox origin e v w wk wk' b b' =
     (c : Now) → Meets origin c → Sees origin c v → c.core.workers w ≡ wk → IsOutbox origin.load b.0 b.1 (anchors_at c.core) (c.core.outboxes w) →
-    (box : Outbox) × (new : List (Act Txn)) × Leads (setting_of origin.load) e c.core (with_outbox (with_worker c.core w wk') w box) new × IsOutbox origin.load b'.0 b'.1 (anchors_at c.core) box
+    (box : Outbox) × (new : List (Act Txn)) × Leads (setting_of origin.load) e c.core (with_outbox (with_worker c.core w wk') w box) new × IsOutbox origin.load b'.0 b'.1 (anchors_at c.core) box × BusyHasHolder (setting_of origin.load) e c.core
 
 -- the seat has its outbox in hand, and this event leaves it so
 pub record GivesBox (origin : Plain) (e : Event) (m : Sat) (q : Part) (w : ℕ) (wk' : Worker) (spare : ℕ × ℕ) : Type 0 where

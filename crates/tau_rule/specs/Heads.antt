@@ -41,6 +41,6 @@ pub record CanResume (l : Load) (v : Knows) (w : ℕ) (call : Numbered) (front b
 abbrev pub resumed : Role → Worker → Numbered → List Numbered → List Numbered → Role
 resumed x wk call front back = record x { share = Working (record wk { waiting = call ∷ []; left = front ++ back }) }
 
--- Where the second one is the manager's of stream j: of that stream the first one has then seen just what the manager has, which is how far it is persisted, and of the others what it had.
+-- Where the second one is the manager's of stream j: of that stream the first one has then seen just what the manager has, which is how far it is persisted, and of the others what both had.
 abbrev pub both_at : ℕ → Knows → Knows → Knows
-both_at j v w = record v { roles = w.roles ++ v.roles; seen = slice_set v.seen j (slice_index w.seen j); found = v.found || w.found }
+both_at j v w = record v { roles = w.roles ++ v.roles; seen = slice_set (join v.seen w.seen) j (slice_index w.seen j); found = v.found || w.found }

@@ -1,5 +1,6 @@
 pub mod Role
 pub mod Knows
+pub mod Holders
 pub mod Rule
 pub mod Steps
 pub mod Places

@@ -21,6 +21,7 @@ use Rattle.tau_core.specs.View.{setting_of, core_of, tickets}
 use Rattle.tau_rule.specs.Role.{Managed, Share, Working, Managing, Clerking, Role, role_in}
 use Rattle.tau_core.specs.Pieces.{Names, IsPieceOf, Paired}
 use Rattle.tau_rule.specs.Knows.{Knows}
+use Rattle.tau_rule.specs.Holders.{LeadHeld}
 use Rattle.tau_rule.specs.declared.part.Part.{Part}
 use Rattle.tau_rule.specs.declared.part.Part.TheVariants as part
 
@@ -123,11 +124,12 @@ pub record IsLimited (l : Load) : Type 0 where
   pub low : (j : ℕ) → j < l.streams → slice_index l.opening.ends j ≤ MAX_BEGIN
   pub wide : length l.opening.ends ≡ l.streams
 
--- events lead there from the core with which the desk was opened
+-- events lead there from the core with which the desk was opened, and each worker that was Busy by one was barred
 pub record IsReached (origin : Plain) (s : Core) : Type 0 where
   pub events : List Event
   pub joined : List (Act Txn)
   pub run : Run (setting_of origin.load) (core_of origin nothing) events joined s
+  pub held : LeadHeld (setting_of origin.load) events (core_of origin nothing) s joined
 
 -- events lead there from the opening, and no stream was stopped
 pub record Meets (origin : Plain) (c : Now) : Type 0 where

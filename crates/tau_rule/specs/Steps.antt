@@ -15,6 +15,7 @@ use Rattle.tau_core.specs.View.{setting_of}
 use Rattle.tau_core.specs.declared.state.Load.{Load}
 use Rattle.tau_rule.specs.Role.{Share, Working, Managing, Clerking, Role}
 use Rattle.tau_rule.specs.Knows.{Knows}
+use Rattle.tau_rule.specs.Holders.{BusyHasHolder}
 use Rattle.tau_rule.specs.Rule.{Now, IsPart, IsRole, IsReached, Sees, Meets, Rule, has, part_count}
 use Rattle.tau_rule.specs.declared.part.Part.{Part}
 use Rattle.tau_rule.specs.declared.part.Part.TheVariants as part
@@ -60,10 +61,11 @@ shard_in (part.Shard b) = Some (shard_of b.value)
 shard_in (part.Outbox o p) = None
 shard_in (part.Anchor number lv) = None
 
--- whatever else the state is, the event leads from a state with this worker and this shard to the one in which they are these
+-- Whatever else the state is, the event leads from a state with this worker and this shard to the one in which they are these;
+-- a worker that is Busy by it is barred.
 abbrev pub StepsShard : Plain → Event → ℕ → Worker → Worker → ℕ → Shard → Shard → Type 0
 StepsShard origin e w wk wk' k sh sh' =
-    (s : Core) → IsReached origin s → s.workers w ≡ wk → s.shards k ≡ sh → (new : List (Act Txn)) × Leads (setting_of origin.load) e s (with_shard (with_worker s w wk') k sh') new
+    (s : Core) → IsReached origin s → s.workers w ≡ wk → s.shards k ≡ sh → (new : List (Act Txn)) × Leads (setting_of origin.load) e s (with_shard (with_worker s w wk') k sh') new × BusyHasHolder (setting_of origin.load) e s
 
 -- what a worker's seat knows when its part is at home
 abbrev pub handed : Knows → ℕ → Role → Knows

@@ -1,7 +1,7 @@
 use Rattle.std.proofs.Common.{◌≡◌, ℕ, [], false, Some, refl, subst, sym, ap, ◌∙◌, List, length}
 use Rattle.tau_shard.specs.Blocks.{dep_locked}
 use Rattle.tau_shard.specs.Read.{shard_of}
-use Rattle.tau_machine.specs.Events.{Lock, Busy}
+use Rattle.tau_machine.specs.Events.{Lock, Busy, Conflicts}
 use Rattle.tau_machine.specs.Hands.{Hand}
 use Rattle.tau_machine.specs.Worker.{Worker, settled, hand_busy}
 use Rattle.tau_machine.specs.Shard.{Shard, entry_in}
@@ -13,10 +13,11 @@ use Rattle.tau_txn.specs.declared.action.Action.{Action}
 use Rattle.tau_txn.specs.Next.{next_action, IsLock, Locks}
 use Rattle.tau_txn.specs.Txn.{PlainTxn, RunsBy, dep_in, hand_in, leaves_in, worker_of}
 use Rattle.tau_core.specs.State.{Plain}
+use Rattle.tau_core.specs.View.{setting_of}
 use Rattle.tau_rule.specs.Knows.{Knows}
 use Rattle.tau_rule.specs.Steps.{Agrees, told, shard_in}
 use Rattle.tau_rule.proofs.Turns.{part_shard}
-use Rattle.tau_desk.proofs.Locking.{no_lock, granted_steps, busy_steps, taken_wide}
+use Rattle.tau_desk.proofs.Locking.{no_lock, granted_steps, busy_steps, refused_held, taken_wide}
 use Rattle.tau_desk.proofs.work.lock.Goals as goal
 
 pub dep_ref-wide-requires : goal.dep_ref-wide-requires
@@ -106,7 +107,8 @@ give_shard-requires-in-Err-Busy-clause-event g c =
         share = r.share;
         was = was;
         there = r.there;
-        steps = busy_steps origin c.args.worker k r.worker sh (shard_of c.lock_on.new.shard) c.args.txn.now c.busy.new.self c.in-Some.key c.in-Some.mode means r.agrees number c.in-Err-Busy.ensures.unchanged r.width
+        steps = busy_steps origin c.args.worker k r.worker sh (shard_of c.lock_on.new.shard) c.args.txn.now c.busy.new.self c.in-Some.key c.in-Some.mode means
+            (refused_held origin sh c.args.worker c.in-Some.key c.in-Some.mode _ _ c.in-Err-Busy.field-0-is c.in-Err-Busy.ensures.refused) r.agrees number c.in-Err-Busy.ensures.unchanged r.width
             (subst (λ (t : PlainTxn). (x : Worker) (h : Hand) → hand_in origin.load.procs t ≡ Some h → worker_of origin.load.procs x c.busy.new.self ≡ settled t.width x (hand_busy h)) c.in-Err-Busy.ensures.as_before
             (subst (λ (p : List Proc). (x : Worker) (h : Hand) → hand_in p c.lock_on.new.self ≡ Some h → worker_of p x c.busy.new.self ≡ settled c.lock_on.new.self.width x (hand_busy h)) c.requires.procs c.busy.ensures.busy));
       },
@@ -161,6 +163,11 @@ returns-in-Err-Busy-clause-step g c =
     let held = c.take_shard-shard.ensures.held in
     let origin : Plain = c.args.desk.now.table.shared.key.value in
     let v : Knows = c.args.seat.now.me.0 in
+    let k : ℕ = c.from-number.result in
+    let sh : Shard = shard_of c.deref_mut.result.now in
+    let was : shard_in held.0 ≡ Some sh = held.2 ∙ ap (λ (s : PlainShard). Some (shard_of s)) (sym c.deref_mut.ensures.value) in
+    let number : k ≡ shard_number c.in-Some.key = c.from-number.ensures ∙ c.shard_of.ensures.same in
+    let barred : Conflicts (setting_of origin.load) sh c.args.worker c.in-Some.key c.in-Some.mode = refused_held origin sh c.args.worker c.in-Some.key c.in-Some.mode _ _ c.in-Err-Busy.field-0-is c.in-Err-Busy.ensures.refused in
     let means : Locks origin.load.procs c.args.txn.now c.in-Some.key c.in-Some.mode = c.in-Some.ensures.means origin.load.procs r.runs in
     let next : next_action c.args.txn.now ≡ action.Lock c.in-Some.key c.in-Some.mode = c.in-Some.ensures.next in (
       c.give_shard-in-Err-Busy.ensures.given ∙ ap (λ m. (told origin.load m.0 c.busy.new.self, [])) held.1,
@@ -171,6 +178,16 @@ returns-in-Err-Busy-clause-step g c =
         settles = λ wk. subst (λ (t : PlainTxn). (x : Worker) (h : Hand) → hand_in origin.load.procs t ≡ Some h → worker_of origin.load.procs x c.busy.new.self ≡ settled t.width x (hand_busy h)) c.in-Err-Busy.ensures.as_before
             (subst (λ (p : List Proc). (x : Worker) (h : Hand) → hand_in p c.lock_on.new.self ≡ Some h → worker_of p x c.busy.new.self ≡ settled c.lock_on.new.self.width x (hand_busy h)) c.requires.procs c.busy.ensures.busy) wk means.hand means.is;
         worker = record { runs = subst (λ (p : List Proc). RunsBy p c.busy.new.self) c.requires.procs c.busy.ensures.runs; same = subst (λ (t : PlainTxn). c.busy.new.self ≡ record t { hand = c.busy.new.self.hand }) c.in-Err-Busy.ensures.as_before c.busy.ensures.same; stays = subst (λ (t : PlainTxn). leaves_in t ≡ false → leaves_in c.busy.new.self ≡ false) c.in-Err-Busy.ensures.as_before c.busy.ensures.stays };
+      },
+      record {
+        key = c.in-Some.key;
+        mode = c.in-Some.mode;
+        wanted = means;
+        taken = held.0;
+        shard = sh;
+        was = was;
+        agrees = subst (λ (n : ℕ). Agrees origin v n held.0) number held.3;
+        held = subst (λ (w : ℕ). Conflicts (setting_of origin.load) sh w c.in-Some.key c.in-Some.mode) (sym r.number) barred;
       },
     )
 
