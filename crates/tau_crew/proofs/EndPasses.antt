@@ -46,6 +46,7 @@ module _ {D : Type 0} {G : Ghosts D} (first : Plain) (table : TableId) (bases : 
   managers_set job' keeps same = record {
     count = length_set jobs j job' ∙ m.count;
     writers = m.writers;
+    long = m.long;
     each = λ i w x is there. elim (cases_eq i j) [
       | inl e ↦
           (let here : Some job' ≡ Some x = sym (got_same jobs j job' (got_within jobs j job at)) ∙ ap (slice_get (slice_set jobs j job')) (sym e) ∙ there in

@@ -28,40 +28,8 @@ use Rattle.tau_crew.specs.Together.{IsManagerReady}
 use Rattle.tau_crew.specs.WorkersBack.{IsAtStart, IsHeadReady}
 use Rattle.tau_crew.proofs.WorkReturn.{all_ready, at_start, ready_stays, start_stays}
 use Rattle.tau_crew.proofs.WorkStays.{workers_stay_clerk, workers_then}
-use Rattle.tau_crew_facts.specs.Threads.{in_threads, ThreadsRan}
-use Rattle.tau_crew_facts.proofs.Came.{concluded, cut}
-use Rattle.tau_crew.specs.Tops.{ThreadsWent}
 use Rattle.tau_base.proofs.Lists.{some_at, got_or}
-use Rattle.tau_run.specs.Gives.{Gave, GaveFrom, GaveNew}
 use Rattle.tau_run.specs.Writers.{AreNew, IsBegun}
-use Rattle.tau_run.proofs.Begun.{fresh_begun, fresh_opened, gave_from, gave_new, given_begun}
-
--- the bytes of the streams are as long as the opening says
-long_at : {D : Type 0} {G : Ghosts D} (f : Format) (bases : ℕ → List ℕ) (ws : List (Writer D G)) (p : Plain) → Opened p.load p → IsBegun f bases ws p.load.opening → (j : ℕ) → j < p.load.streams → length (bases j) ≡ slice_index p.load.opening.ends j
-long_at f bases ws p o b j lt = b.long j (let e = o.opening.count in omega (arith, e, lt))
-
-module _ {D : Type 0} {G : Ghosts D} (bases : ℕ → List ℕ) (first : Plain) (long : (j : ℕ) → j < first.load.streams → length (bases j) ≡ slice_index first.load.opening.ends j) (ws ws' : List (Writer D G)) (hears : Type 0) (held held' : List ℕ) (sink_rose : Type 0) where
-  went_gave : (r : Result RunEnd NoMemory) → ThreadsWent bases first ws ws' hears held held' sink_rose r → Gave in_threads bases first.load ws ws' hears held held' sink_rose r
-  went_gave (Ok end) x = concluded bases first long ws ws' hears held held' sink_rose end x
-  went_gave (Err e) (inl x) = inl (cut bases first long ws ws' hears held held' sink_rose x)
-  went_gave (Err e) (inr none) = inr none
-
-module _ {D : Type 0} {G : Ghosts D} (m : ℕ) (mode : LogMode) (load : Workload) (ws ws' : List (Writer D G)) (hears : Type 0) (held held' : List ℕ) (sink_rose : Type 0) where
-  -- on new streams
-  pub went_new : (p : Plain) → OpenedFresh load.declarations.procs load.calls mode m (length ws) (catalogue_size (declarations_text load.declarations)) p → AreNew (format_of mode) (λ j. catalogue_of load) ws → (r : Result RunEnd NoMemory) →
-      ThreadsWent (λ j. catalogue_of load) p ws ws' hears held held' sink_rose r → GaveNew in_threads m mode load ws ws' hears held held' sink_rose r
-  went_new p q new r ran =
-      let begun = fresh_begun m mode load ws ws' hears held held' sink_rose p q new in
-      let long = long_at (format_of p.load.mode) (λ j. catalogue_of load) ws p (fresh_opened m mode load ws ws' hears held held' sink_rose p q) begun in
-      gave_new m mode load ws ws' hears held held' sink_rose p q in_threads r (went_gave (λ j. catalogue_of load) p long ws ws' hears held held' sink_rose r ran)
-
-  -- from a given state
-  pub went_from : (o : Opening) (p : Plain) → Opened (load_of load.declarations.procs load.calls mode m o) p → (bases : ℕ → List ℕ) → IsBegun (format_of mode) bases ws o → (r : Result RunEnd NoMemory) → ThreadsWent bases p ws ws' hears held held' sink_rose r →
-      GaveFrom in_threads o bases m mode load ws ws' hears held held' sink_rose r
-  went_from o p q bases b r ran =
-      let begun = given_begun m mode load ws ws' hears held held' sink_rose o p q bases b in
-      let long = long_at (format_of p.load.mode) bases ws p (subst (λ (l : Load). Opened l p) (sym q.load) q) begun in
-      gave_from m mode load ws ws' hears held held' sink_rose o p q in_threads bases r (went_gave bases p long ws ws' hears held held' sink_rose r ran)
 
 -- ---- the beginning
 
@@ -116,9 +84,3 @@ all_start desk h h1 h2 clerk opened first unbegun keeps split w low =
     let key : Plain = desk.table.shared.key.value in
     let stays = workers_then key.load h h1 h2 keeps (workers_stay_clerk key.load h1 h2 clerk split) in
     start_stays key.load h h2 w (stays.roles w low) stays.works (at_start key h opened first.knows unbegun w low)
-
-module _ {D : Type 0} {G : Ghosts D} (bases : ℕ → List ℕ) (first : Plain) (ws ws' : List (Writer D G)) (hears : Type 0) (held held' : List ℕ) (sink_rose : Type 0) where
-  -- a run that has begun
-  pub went_ran : (r : Result RunEnd NoMemory) → ThreadsRan bases first ws ws' hears held held' sink_rose r → ThreadsWent bases first ws ws' hears held held' sink_rose r
-  went_ran (Ok end) q = q
-  went_ran (Err e) q = inl q

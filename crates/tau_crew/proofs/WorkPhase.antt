@@ -27,6 +27,7 @@ module _ {D : Type 0} {G : Ghosts D} (first : Plain) (table : TableId) (bases : 
   managers_back jobs jobs' dealt went long = record {
     count = long ∙ dealt.count;
     writers = begun.count ∙ wide;
+    long = λ j lt. begun.long j (omega (arith, wide, lt));
     each = λ j w job' at_w at_job.
         (let low : j < length jobs = (let q = got_within jobs' j job' at_job in omega (arith, q, long)) in
         let old = some_at jobs j low in

@@ -1,5 +1,5 @@
 -- What the threads of a run give back: a head with every worker's role, the managers' jobs in the order of the streams and the clerk's, their seats still out.
-use Rattle.std.specs.Prelude.{ℕ, ◌<◌, ◌≤◌, ◌≡◌, ◌⊎◌, Bool, true, false, Some, None, List, [], length, slice_get}
+use Rattle.std.specs.Prelude.{ℕ, ◌<◌, ◌≤◌, ◌≡◌, ◌⊎◌, Bool, true, false, Some, None, List, [], length, slice_get, slice_index}
 use Rattle.atomic_table.specs.Seated.{TableId}
 use Rattle.tau_base.specs.Modes.{format_of}
 use Rattle.tau_disk.specs.declared.disk.Disk.{Ghosts}
@@ -74,6 +74,7 @@ module _ {D : Type 0} {G : Ghosts D} (first : Plain) (table : TableId) (bases : 
   pub record AreManagersBack (ws : List (Writer D G)) (jobs : List (ManagerJob D G)) : Type 0 where
     pub count : length jobs ≡ first.load.streams
     pub writers : length ws ≡ first.load.streams
+    pub long : (j : ℕ) → j < first.load.streams → length (bases j) ≡ slice_index first.load.opening.ends j
     pub each : (j : ℕ) (w : Writer D G) (job : ManagerJob D G) → slice_get ws j ≡ Some w → slice_get jobs j ≡ Some job → IsManagerBack j w job
 
 -- All together. The sink held `held` at the entry and holds `held'` now, and `sink_rose` is that its faults have risen since. Where no

@@ -13,5 +13,4 @@ pub mod Together
 pub mod Dealing
 pub mod EndDone
 pub mod EndLeft
-pub mod Tops
 pub mod LeftOver

@@ -10,10 +10,9 @@ ghost use Rattle.tau_run.specs.Start.{catalogue_of};
 ghost use Rattle.tau_run.specs.Writers.{AreNew, IsBegun};
 ghost use Rattle.tau_desk.specs.Ends.{IsFirst, IsWhole};
 ghost use Rattle.tau_desk.specs.Laid.{AreUnbegun};
-ghost use Rattle.tau_run.specs.Gives.{GaveFrom, GaveNew};
-ghost use Rattle.tau_crew_facts.specs.Threads.{ThreadsRan, in_threads};
+ghost use Rattle.tau_run.specs.Gives.{Gave, GaveFrom, GaveNew};
+ghost use Rattle.tau_crew_facts.specs.Threads.{in_threads};
 ghost use Rattle.tau_crew.specs.Ending.{IsBack};
-ghost use Rattle.tau_crew.specs.Tops.{ThreadsWent};
 
 use crate::clerk::ClerkJob;
 use crate::deal::{clerk_job, deal_managers};
@@ -120,7 +119,7 @@ fn go<R: Threads + Wait + Sync, D: Disk + Send, K: Sink + Send, G: Gate + Sync>(
     requires unbegun { AreUnbegun head.workers }
     requires begun { (bases : ℕ → List ℕ) × IsBegun (format_of desk.table.shared.key.value.load.mode) bases writers.old.items desk.table.shared.key.value.load.opening }
     ensures ran { (bases : ℕ → List ℕ) → IsBegun (format_of desk.table.shared.key.value.load.mode) bases writers.old.items desk.table.shared.key.value.load.opening →
-        ThreadsWent bases desk.table.shared.key.value writers.old.items writers.new.items K.tells (K.held sink.old) (K.held sink.new) (Rose (K.faults sink.old) (K.faults sink.new)) result }
+        Gave in_threads bases desk.table.shared.key.value.load writers.old.items writers.new.items K.tells (K.held sink.old) (K.held sink.new) (Rose (K.faults sink.old) (K.faults sink.new)) result }
     ensures faults { K.faults sink.old ≤ K.faults sink.new }
     ensures count { length writers.new.items ≡ length writers.old.items }
 {
@@ -188,7 +187,7 @@ fn finish<R: Threads + Wait + Sync, D: Disk + Send, K: Sink + Send, G: Gate + Sy
     requires room { vec_len jobs ≤ vec_capacity writers.old }
     requires none { writers.old.items ≡ [] }
     ensures ran { (bases : ℕ → List ℕ) (ws : List _) (held : List ℕ) (faults : ℕ) → faults ≤ K.faults sink.old → IsBack desk.table.shared.key.value desk.table.shared.table_id bases ws K.tells held (K.held sink.old) (Rose faults (K.faults sink.old)) head jobs.items clerk short →
-        ThreadsRan bases desk.table.shared.key.value ws writers.new.items K.tells held (K.held sink.new) (Rose faults (K.faults sink.new)) result }
+        Gave in_threads bases desk.table.shared.key.value.load ws writers.new.items K.tells held (K.held sink.new) (Rose faults (K.faults sink.new)) result }
     ensures faults { K.faults sink.old ≤ K.faults sink.new }
     ensures count { length writers.new.items ≡ length jobs.items }
 {

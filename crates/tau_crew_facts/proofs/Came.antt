@@ -22,18 +22,17 @@ use Rattle.tau_core.specs.State.{Plain}
 use Rattle.tau_core.specs.View.{core_of, setting_of}
 use Rattle.tau_core.specs.Pieces.{IsPieceOf, Paired, Spelled}
 use Rattle.tau_run.specs.CoreRun.{AreAcks, IsGiven}
-use Rattle.tau_run.specs.Gives.{CameTo, Concluded, CutOff}
+use Rattle.tau_run.specs.Gives.{CameTo, came_far}
 use Rattle.tau_run.specs.StopsLeave.{HasFront, HasSomeFront, IsOver, NamesLowest, stops_in}
 use Rattle.tau_run.specs.Writers.{EachOf, Left}
 use Rattle.tau_run.proofs.Given.{contents_there}
 use Rattle.tau_run.proofs.Start.{started}
 use Rattle.tau_rule.specs.Holders.{LeadHeld}
 use Rattle.tau_rule.specs.Rule.{anchors_at}
-use Rattle.tau_report.specs.declared.report.RunEnd.{RunEnd}
 use Rattle.tau_crew_facts.specs.Writers.{HasPieces, HasWritten}
-use Rattle.tau_crew_facts.specs.Ends.{IsClosed, ManagerEnds, IsThreadEnd, IsThreadDone}
+use Rattle.tau_crew_facts.specs.Ends.{AreApart, IsClosed, ManagerEnds, IsThreadEnd, IsThreadDone}
 use Rattle.tau_crew_facts.specs.Spacing.{IsSpacing}
-use Rattle.tau_crew_facts.specs.Threads.{in_threads, IsLowestFailed, NoneFailed, ThreadsEnded, ThreadsShort}
+use Rattle.tau_crew_facts.specs.Threads.{in_threads, IsLowestFailed}
 use Rattle.tau_crew_facts.proofs.RunExists.{pieces_spelled, paired_front, loose_unplaced, acks_all}
 use Rattle.tau_crew_facts.proofs.Stops.{stopped_at, stops_by, stop_events, none_above, none_works, some_failed, stops_held, stops_led}
 use Rattle.tau_base.proofs.Lists.{some_at, got_within}
@@ -201,6 +200,13 @@ module _ {D : Type 0} {G : Ghosts D} (bases : ℕ → List ℕ) (first : Plain) 
     writers = writers bases first c ws ws' acks e;
   }
 
+  -- managers that have kept their distance
+  pub apart_whole : AreApart bases first.load.streams c → in_threads true first.load (core_of first nothing) (came_far came)
+  apart_whole apart = (
+    all_held bases first c ws ws' acks e,
+    λ going j lt. subst (λ (k : ℕ). IsSpacing k (slice_index c.plv j) (map (λ (v : List ℕ). slice_index v j) (c.streams j).anchors)) (long j lt) (apart j lt),
+  )
+
   -- the lowest failed disk is that of the lowest stopped stream
   pub lowest : (o : Option ℕ) → IsLowestFailed ws' o → NamesLowest first.load.streams (stops_in end) o
   lowest None all = λ j lt.
@@ -218,46 +224,3 @@ module _ {D : Type 0} {G : Ghosts D} (bases : ℕ → List ℕ) (first : Plain) 
             let y = (writers bases first c ws ws' acks e).each i w.0 w.1 in
             (y.2.goes (below i y.0 less y.1)).0),
       )
-
-  -- a disk whose stream is not stopped works
-  pub works_all : ((j : ℕ) → j < first.load.streams → (end.streams j).stop ≡ None) → NoneFailed ws'
-  works_all going j w is = by_flag (has_failed w) refl
-    where
-      lt : j < first.load.streams
-      lt = let a = got_within ws' j w is in let b = e.managers.count in let d = e.count in omega (arith, a, b, d)
-
-      by_flag : (b : Bool) → has_failed w ≡ b → has_failed w ≡ false
-      by_flag false f = f
-      by_flag true f =
-          let v = some_at ws j (let count = e.count in let low = lt in omega (arith, low, count)) in
-          let x = (writers bases first c ws ws' acks e).each j v.0 v.1 in
-          let at = (x.2.stops (subst (λ (y : Writer D G). has_failed y ≡ true) (some_is w x.0 (sym is ∙ x.1)) f)).0 in
-          absurd (let bad : None ≡ Some at.0 = sym (going j lt) ∙ at.1 in cc bad)
-
--- ---- what it gives
-
-module _ {D : Type 0} {G : Ghosts D} (bases : ℕ → List ℕ) (first : Plain) (long : (j : ℕ) → j < first.load.streams → length (bases j) ≡ slice_index first.load.opening.ends j) (ws ws' : List (Writer D G)) (hears : Type 0) (held held' : List ℕ) (sink_rose : Type 0) where
-  -- to its end
-  pub concluded : (e : RunEnd) → ThreadsEnded bases first ws ws' hears held held' sink_rose e → Concluded in_threads bases first.load ws ws' hears held held' sink_rose e
-  concluded e r = record {
-    acks = r.acks;
-    came = came bases first long r.state ws ws' r.acks r.came;
-    whole = (
-      all_held bases first r.state ws ws' r.acks r.came,
-      λ going j lt.
-          subst (λ (k : ℕ). IsSpacing k (slice_index r.state.plv j) (map (λ (v : List ℕ). slice_index v j) (r.state.streams j).anchors)) (long j lt) (r.apart (works_all bases first long r.state ws ws' r.acks r.came going) j lt),
-    );
-    over = over bases first r.state ws ws' r.acks r.came r.done;
-    kept = r.done.kept;
-    heard = r.heard;
-    sink = r.sink;
-    disk = lowest bases first long r.state ws ws' r.acks r.came e.disk r.disk;
-    told = r.told;
-    fates = r.fates;
-    order = r.order;
-    tables = r.tables;
-  }
-
-  -- so far as memory was there
-  pub cut : ThreadsShort bases first ws ws' hears held held' sink_rose → CutOff in_threads bases first.load ws ws' hears held held' sink_rose
-  cut r = record { acks = r.acks; came = came bases first long r.state ws ws' r.acks r.came; count = r.count; sink_failed = r.sink_failed; heard = r.heard; sink = r.sink }

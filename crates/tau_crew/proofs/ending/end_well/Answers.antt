@@ -25,7 +25,7 @@ tell_end-requires-clause-told g c =
 
 pub returns-clause-ran : goal.returns-clause-ran
 returns-clause-ran g c = λ bases ws held faults short b q.
-    ends_ran _ bases ws c.gather_back-acks.new.writers.items c.gather_back-acks.new.head c.args.jobs.items c.args.clerk c.close_run-core.result _ held _ _
+    ends_ran _ bases ws c.gather_back-acks.new.writers.items c.gather_back-acks.new.head c.args.jobs.items c.args.clerk c.close_run-core.result _ held _ _ b.managers.long
     (c.close_run-core.ensures bases ws c.args.jobs.items c.args.clerk c.gather_back-acks.ensures.writers (c.gather_back-acks.ensures.back bases ws b.managers))
     (done_keeps _ c.args.head c.gather_back-acks.new.head c.args.jobs.items c.args.clerk c.gather_back-acks.ensures.keeps q)
     (b.clerk.clerk.none c.requires.memory) b.clerk.clerk.written b.heard b.sink c.gather_back-acks.result c.gather_back-acks.ensures.told c.lowest_failed.result c.lowest_failed.ensures

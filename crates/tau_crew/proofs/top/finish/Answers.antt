@@ -1,11 +1,11 @@
-use Rattle.std.proofs.Common.{◌∙◌, length, sym, ap, arith}
+use Rattle.std.proofs.Common.{◌∙◌, length, sym, ap, arith, inl}
 use Rattle.std.proofs.lemmas.List.{length-map}
 use Rattle.tau_crew.specs.EndJoins.{writer_in}
 use Rattle.tau_crew.proofs.EndLeft.{back_on}
 use Rattle.tau_crew.proofs.top.finish.Goals as goal
 
 pub returns-then-short-clause-ran : goal.returns-then-short-clause-ran
-returns-then-short-clause-ran g c = λ bases ws held faults up b. c.end_short.ensures.short bases ws held faults c.args.short b
+returns-then-short-clause-ran g c = λ bases ws held faults up b. inl (c.end_short.ensures.short bases ws held faults c.args.short b)
 
 pub do_left-requires-clause-ran : goal.do_left-requires-clause-ran
 do_left-requires-clause-ran g c = let (bases, ws, held, faults, b) = c.requires.back in b.run c.if-short.false
@@ -50,7 +50,7 @@ end_short-requires-2-clause-room g c =
 
 pub returns-clause-ran : goal.returns-clause-ran
 returns-clause-ran g c = λ bases ws held faults up b.
-    c.end_short-2.ensures.short bases ws held faults _ (back_on _ _ _ bases ws held _ _ faults _ _ _ _ _ _ _ _ c.args.short up b c.do_left.ensures.head c.do_left.ensures.goes)
+    inl (c.end_short-2.ensures.short bases ws held faults _ (back_on _ _ _ bases ws held _ _ faults _ _ _ _ _ _ _ _ c.args.short up b c.do_left.ensures.head c.do_left.ensures.goes))
 
 pub returns-clause-count : goal.returns-clause-count
 returns-clause-count g c =

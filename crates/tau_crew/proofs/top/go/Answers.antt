@@ -1,6 +1,4 @@
 use Rattle.std.proofs.Common.{sym, ◌∙◌, arith}
-use Rattle.tau_disk.specs.Disk.{Rose}
-use Rattle.tau_crew.proofs.Tops.{went_ran}
 use Rattle.tau_crew.proofs.top.go.Goals as goal
 
 pub finish-requires-clause-back : goal.finish-requires-clause-back
@@ -21,8 +19,7 @@ finish-requires-clause-room g c κs within =
 
 pub returns-clause-ran : goal.returns-clause-ran
 returns-clause-ran g c = λ bases begun.
-    went_ran bases c.args.desk.table.shared.key.value c.args.writers.now.items c.finish.new.writers.items g.K.Sink.tells (g.K.Sink.held c.args.sink.now) (g.K.Sink.held c.finish.new.sink) (Rose (g.K.Sink.faults c.args.sink.now) (g.K.Sink.faults c.finish.new.sink)) c.finish.result
-    (c.finish.ensures.ran bases c.args.writers.now.items (g.K.Sink.held c.args.sink.now) (g.K.Sink.faults c.args.sink.now) c.run_all-head.ensures.faults (c.run_all-head.ensures.back bases begun))
+    c.finish.ensures.ran bases c.args.writers.now.items (g.K.Sink.held c.args.sink.now) (g.K.Sink.faults c.args.sink.now) c.run_all-head.ensures.faults (c.run_all-head.ensures.back bases begun)
 
 pub returns-clause-count : goal.returns-clause-count
 returns-clause-count g c =
