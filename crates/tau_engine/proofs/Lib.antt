@@ -1,4 +1,3 @@
-pub mod Longs
 pub mod Loaded
 pub mod Texts
 pub mod Streams
@@ -8,11 +7,9 @@ pub mod Chosen
 pub mod NotBegun
 pub mod RanTo
 pub mod Ran
-pub mod Threaded
-pub mod Ends
-pub mod Refused
 pub mod Refusals
 pub mod Recoveries
+pub mod RunClauses
 pub mod Tops
 pub mod Same
 mod Rehearsed
@@ -24,3 +21,10 @@ mod BenchSound
 mod BenchFound
 mod BenchTops
 mod Oks
+pub mod Images
+pub mod OnOpened
+pub mod NoneBegun
+pub mod OnStart
+pub mod OnlyTouched
+pub mod RefusedOpening
+pub mod AfterOpening

@@ -60,11 +60,11 @@ none_turned set m n (turn.Anchor j) p = refl
 none_turned set m n turn.Clerk p = none_told set m n (below m) p
 none_turned set m n turn.Drop p = inl refl
 
-none_of : (set : Setting) (m n : ℕ) (ts : List Turn) (p : Progress) → TurnedAll set m n false ts p p
+pub none_of : (set : Setting) (m n : ℕ) (ts : List Turn) (p : Progress) → TurnedAll set m n false ts p p
 none_of set m n [] p = refl
 none_of set m n (t ∷ ts) p = inl (none_turned set m n t p)
 
-never_stopped : (k : ℕ) → None ≡ Some k → ⊥
+pub never_stopped : (k : ℕ) → None ≡ Some k → ⊥
 never_stopped k e = cc
 
 -- ---- lists of one value
@@ -278,12 +278,6 @@ module _ (n m : ℕ) (mode : LogMode) (load : Workload) (some : 1 ≤ n) (room :
         });
     acknowledged = λ images from log reads x q e. absurd q;
   }
-
-  pub facts_of_none : (unborn : Type 0) (past now : ℕ → List ℕ → Type 0) (rose : ℕ → Type 0) (sink_rose : Type 0) (made : ℕ → ℕ → Type 0) (wrote : List ℕ → Type 0) (fault : ℕ → List ℕ) (ending : Ending) → MayEnd ending →
-      (unborn → (j : ℕ) (x : List ℕ) → j < n → past j x → HasContent One n j [] x ⊎ HasContent One n j catalogue x) →
-      RunTells (IsEnded n mode load now rose) n load (λ j. None) sink_rose (λ j. calls_to_open) made wrote fault empty_run ending →
-      RunFacts (chosen_by load.turns n m load) n m mode load (fresh_start n) unborn past now rose sink_rose (λ j. calls_to_open) made wrote fault ending
-  facts_of_none unborn past now rose sink_rose made wrote fault ending may left tells = built_of_none unborn past now rose sink_rose made wrote fault ending may left tells
 
   -- and nothing is acknowledged
   pub told_of_none : (unborn : Type 0) (past now : ℕ → List ℕ → Type 0) (rose : ℕ → Type 0) (sink_rose : Type 0) (made : ℕ → ℕ → Type 0) (wrote : List ℕ → Type 0) (fault : ℕ → List ℕ) (ending : Ending) → MayEnd ending →

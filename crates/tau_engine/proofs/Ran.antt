@@ -1,19 +1,23 @@
--- What a run on new streams gives, as one that begins on streams that hold nothing.
-use Rattle.std.proofs.Common.{ℕ, ◌≡◌, Bool, List, length, sym, subst}
+-- What a run gives, as one that begins on a start: on new streams, and from an opening.
+use Rattle.std.proofs.Common.{ℕ, ◌≡◌, Bool, List, length, refl, sym, ap, subst, ◌∙◌}
 use Rattle.std.specs.Prelude.{Option, Some, None, Result}
 use Rattle.tau_base.specs.declared.value.LogMode.{LogMode}
 use Rattle.tau_base.specs.declared.value.NoMemory.{NoMemory}
+use Rattle.tau_base.specs.Modes.{format_of}
+use Rattle.tau_base.proofs.Lists.{length_mapped}
 use Rattle.tau_disk.specs.declared.disk.Disk.{Ghosts}
 use Rattle.tau_stream.specs.declared.writer.Writer.{Writer}
 use Rattle.tau_machine.specs.State.{Core}
 use Rattle.tau_text.specs.declared.load.Turn.{Turn}
 use Rattle.tau_text.specs.declared.load.Workload.{Workload}
 use Rattle.tau_report.specs.declared.report.RunEnd.{RunEnd}
+use Rattle.tau_core.specs.declared.opening.Opening.{Opening}
 use Rattle.tau_core.specs.declared.state.Load.{Load}
-use Rattle.tau_run.specs.CoreRun.{IsLoadOn}
-use Rattle.tau_run.specs.Gives.{Gave, GaveNew}
+use Rattle.tau_core.specs.Opens.{load_of}
+use Rattle.tau_run.specs.CoreRun.{IsLoadOn, IsOpeningOn}
+use Rattle.tau_run.specs.Gives.{Gave, GaveFrom, GaveNew}
 use Rattle.tau_run.specs.RunFacts.{chosen_by}
-use Rattle.tau_run.specs.Start.{fresh_start, opened_at}
+use Rattle.tau_run.specs.Start.{Start, IsStart, fresh_start, opened_at, opened_with}
 use Rattle.tau_run.specs.Turns.{Progress}
 use Rattle.tau_run.proofs.Came.{gave_by}
 use Rattle.tau_run.proofs.Fresh.{fresh_opened}
@@ -35,3 +39,22 @@ gave by by' n m mode load also ws ws' count hears held held' sink_rose result x 
       (subst (λ (k : ℕ). Gave (by k) (opened_at load (fresh_start n)) x.0 ws ws' hears held held' sink_rose result) count
       (subst (λ (b : ℕ → List ℕ). Gave (by (length ws)) b x.0 ws ws' hears held held' sink_rose result) (sym (fresh_opened n load)) x.2)),
 )
+
+-- what a core stands on that was opened so
+pub loaded_from : (n m : ℕ) (mode : LogMode) (load : Workload) (start : Start) → IsStart (format_of mode) n load start → (o : Opening) → IsOpeningOn load start o → IsLoadOn n m mode load start (load_of load.declarations.procs load.calls mode m o)
+loaded_from n m mode load start begins o on = record {
+  procs = refl;
+  calls = refl;
+  mode_is = refl;
+  workers = refl;
+  streams = ap length on.ends ∙ length_mapped (λ (old : List ℕ). length (opened_with load start old)) start.old ∙ begins.count;
+  opening = on;
+}
+
+-- it stands on the start that it was opened for
+pub gave_from : {D : Type 0} {G : Ghosts D} (turns : Option (List Turn)) (n m : ℕ) (mode : LogMode) (load : Workload) (o : Opening) (bases : ℕ → List ℕ) → length o.ends ≡ n → (ws ws' : List (Writer D G)) (hears : Type 0) (held held' : List ℕ) (sink_rose : Type 0) (result : Result RunEnd NoMemory) →
+    GaveFrom (ran_by turns (length o.ends) m load) o bases m mode load ws ws' hears held held' sink_rose result → Gave (chosen_by turns n m load) bases (load_of load.declarations.procs load.calls mode m o) ws ws' hears held held' sink_rose result
+gave_from turns n m mode load o bases count ws ws' hears held held' sink_rose result x =
+    let l : Load = load_of load.declarations.procs load.calls mode m o in
+    gave_by (ran_by turns n m load) (chosen_by turns n m load) bases l ws ws' (λ whole opening p q. as_chosen turns n m load whole l opening p q) hears held held' sink_rose result
+    (subst (λ (k : ℕ). Gave (ran_by turns k m load) bases l ws ws' hears held held' sink_rose result) count x)

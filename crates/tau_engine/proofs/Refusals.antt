@@ -1,8 +1,7 @@
 -- What a refusal tells and leaves.
-use Rattle.std.proofs.Common.{ℕ, ◌≡◌, List, refl, sym, ◌∙◌, subst, inl, inr, true}
+use Rattle.std.proofs.Common.{ℕ, ◌≡◌, List, sym, ◌∙◌, subst, inl, inr, true}
 use Rattle.tau_engine.specs.declared.status.Status.{Status}
 use Rattle.tau_engine.specs.declared.status.Status.TheVariants as status
-use Rattle.tau_engine.specs.Outside.{ends_run}
 use Rattle.tau_engine.specs.Fault.{fault_text, is_refusal, TellsFault}
 use Rattle.tau_run.specs.RunFacts.{WroteFront}
 
@@ -18,16 +17,3 @@ told_refusal wrote rose refusal answer (inr none) e = let no : is_refusal status
 pub told_fault : (wrote : List ℕ → Type 0) (rose : Type 0) (refusal answer : Status) → TellsFault wrote rose refusal answer → (answer ≡ status.NoMemory → ⊥) → WroteFront wrote rose (fault_text answer)
 told_fault wrote rose refusal answer (inl told) some = subst (λ (s : Status). WroteFront wrote rose (fault_text s)) (sym told.0) told.1
 told_fault wrote rose refusal answer (inr none) some = absurd (some none.0)
-
--- of the answers of a run the one that is a refusal names a disk that is not empty
-pub refusal_of_run : (s : Status) → ends_run s ≡ true → is_refusal s ≡ true → (j : ℕ) × ((long : ℕ) × (s ≡ status.NotEmpty j long))
-refusal_of_run (status.NotEmpty j long) kind e = (j, (long, refl))
-refusal_of_run status.Ok kind e = absurd (cc)
-refusal_of_run status.NoMemory kind e = absurd (cc)
-refusal_of_run status.WriteFault kind e = absurd (cc)
-refusal_of_run (status.DiskFault j) kind e = absurd (cc)
-refusal_of_run status.Usage kind e = absurd (cc)
-refusal_of_run (status.BadText at why) kind e = absurd (cc)
-refusal_of_run status.ReadFault kind e = absurd (cc)
-refusal_of_run (status.BadLog fault) kind e = absurd (cc)
-refusal_of_run status.TooLong kind e = absurd (cc)

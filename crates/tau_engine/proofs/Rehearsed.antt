@@ -1,11 +1,14 @@
 -- The run of a drill: on streams that were opened, or one whose opening failed.
-use Rattle.std.proofs.Common.{ℕ, ◌<◌, ◌≤◌, ◌≡◌, inl, inr, Bool, true, false, List, [], ◌++◌, map, length, refl, sym, ap, subst, ◌∙◌, Option, Ok, arith}
-use Rattle.std.specs.Prelude.{Some, None}
+use Rattle.std.proofs.Common.{ℕ, ◌<◌, ◌≤◌, ◌≡◌, ◌⊎◌, inl, inr, Bool, true, false, List, [], ◌++◌, map, length, refl, sym, ap, subst, ◌∙◌, Option, Ok, arith}
+use Rattle.std.specs.Prelude.{Some, None, slice_get}
 use Rattle.std.proofs.lemmas.List.{append-nil}
 use Rattle.tau_base.specs.declared.value.Key.{Key}
 use Rattle.tau_base.specs.declared.value.LogMode.TheVariants.{Values}
 use Rattle.tau_base.specs.declared.value.Value.{Value}
 use Rattle.tau_base.specs.Database.{Db}
+use Rattle.tau_base.specs.declared.format.Format.TheVariants.{One}
+use Rattle.tau_block.specs.Image.{HasContent}
+use Rattle.tau_block.proofs.Blocks.{short_content}
 use Rattle.tau_disk.specs.declared.disk.Disk.{Ghosts}
 use Rattle.tau_disk.specs.Used.{EachIn, RoseAt, IsFirstStopped, Made}
 use Rattle.tau_stream.specs.declared.writer.Writer.{Writer}
@@ -39,7 +42,6 @@ use Rattle.tau_engine.specs.DiskFacts.{Past, Now, AreUnborn}
 use Rattle.tau_engine.specs.Outside.{Wrote}
 use Rattle.tau_engine.specs.Runs.{ran_by}
 use Rattle.tau_engine.proofs.Chosen.{chosen}
-use Rattle.tau_engine.proofs.Ends.{begun_left}
 use Rattle.tau_engine.proofs.NotBegun.{told_of_none}
 use Rattle.tau_engine.proofs.Ran.{as_chosen, gave}
 use Rattle.tau_engine.proofs.RanTo as to
@@ -181,6 +183,18 @@ pub heard_now : {D : Type 0} {G : Ghosts D} (n m : ℕ) (load : Workload) (old n
 heard_now n m load old new held held' r = record { failed = r.failed; ends = r.ends; facts = r.facts; acked = r.acked tt }
 
 -- ---- a disk failed while the streams were opened
+
+-- an image of a disk on which at most the catalogue was written
+module _ {D : Type 0} (G : Ghosts D) (only_now : OnlyNow G) (n : ℕ) (catalogue : List ℕ) (old new : List D) (each : (j : ℕ) (d : D) → j < n → slice_get old j ≡ Some d → (e : D) × (slice_get new j ≡ Some e) × Begins G n catalogue j d e) where
+  pub begun_left : AreUnborn G.tells G.may_leave old n → (j : ℕ) (x : List ℕ) → j < n → Past G.tells G.moment G.may_leave_since old new j x → HasContent One n j [] x ⊎ HasContent One n j catalogue x
+  begun_left unborn j x lt (d, e, was, is, (t, since)) =
+      let h = each j d lt was in
+      let same : h.0 ≡ e = (let f : Some h.0 ≡ Some e = sym h.1 ∙ is in cc) in
+      let passes = h.2 t (unborn j d lt was t) in
+      elim (passes.new_ones (G.moment d) x (omega arith) (subst (λ (y : D). G.may_leave_since y (G.moment d) x) (sym same) since)) [
+        | inl first ↦ inl (short_content One n j x (unborn j d lt was t x (only_now d x first)))
+        | inr made ↦ made
+      ]
 
 module _ {D : Type 0} (G : Ghosts D) (only_now : OnlyNow G) (counts_now : (d : D) (t : ℕ) (x : List ℕ) → t ≤ G.moment d → G.may_leave d x → G.may_leave_since d t x) (n m : ℕ) (load : Workload) (some : 1 ≤ n) (room : n ≤ 16) (workers : 1 ≤ m) (sound : IsSoundLoad load)
     (old new : List D) (tells : G.tells) (unborn : AreUnborn G.tells G.may_leave old n) (begins : EachIn (λ j. j < n) (Begins G n (catalogue_of load)) old new) (hears : Type 0) (held : List ℕ) where

@@ -1,17 +1,10 @@
--- What stops may leave of the disks of a call, how a call ends in the words of runs, and what a refused opening leaves.
-use Rattle.std.specs.Prelude.{ℕ, Bool, false, ◌+◌, ◌<◌, ◌≤◌, ◌≡◌, List, [], length, slice_get, Some}
-use Rattle.tau_base.specs.declared.format.Format.{Format}
-use Rattle.tau_block.specs.Image.{HasContent}
-use Rattle.tau_crew_facts.specs.Spacing.{AreSpaced}
-use Rattle.tau_disk.specs.Used.{OfDisk, EachUsed}
-use Rattle.tau_run.specs.Start.{catalogue_of}
-use Rattle.tau_run.specs.RunFacts.{Ending, WroteFront}
+-- What stops may leave of the disks of a call, and how a call ends in the words of runs.
+use Rattle.std.specs.Prelude.{ℕ, Bool, false, ◌+◌, ◌<◌, ◌≤◌, ◌≡◌, List, length, slice_get, Some}
+use Rattle.tau_disk.specs.Used.{OfDisk}
+use Rattle.tau_run.specs.RunFacts.{Ending}
 use Rattle.tau_run.specs.RunFacts as ending
-use Rattle.tau_text.specs.declared.load.Workload.{Workload}
 use Rattle.tau_engine.specs.declared.status.Status.{Status}
 use Rattle.tau_engine.specs.declared.status.Status.TheVariants as status
-use Rattle.tau_engine.specs.Fault.{fault_text}
-use Rattle.tau_engine.specs.Outside.{OpensBad}
 
 -- a stop at some moment since the entry might have left this image of the disk
 abbrev pub Past : {D : Type 0} → Type 0 → (D → ℕ) → (D → ℕ → List ℕ → Type 0) → List D → List D → ℕ → List ℕ → Type 0
@@ -46,14 +39,3 @@ abbrev pub DisksWorked : ℕ → (ℕ → Type 0) → Status → Type 0
 DisksWorked n rose status.Ok = Unit {0}
 DisksWorked n rose status.WriteFault = (j : ℕ) → j < n → rose j → ⊥
 DisksWorked n rose _ = ⊥
-
--- Disks that hold something are refused: they were at most read, and the line of the refusal was written, or nothing if memory ran out.
-pub record IsRefused {D : Type 0} (n : ℕ) (only_read : D → D → Type 0) (wrote : List ℕ → Type 0) (sink_rose : Type 0) (old new : List D) (answer : Status) : Type 0 where
-  pub bad : OpensBad answer
-  pub read : EachUsed only_read old new n
-  pub told : (answer ≡ status.NoMemory → ⊥) → WroteFront wrote sink_rose (fault_text answer)
-  pub silent : answer ≡ status.NoMemory → wrote []
-
--- the image of stream j has a content in this format, and the anchors that are read of it stand in their distance, the first of them from the catalogue's end
-abbrev pub HasSpaced : Format → ℕ → ℕ → Workload → List ℕ → Type 0
-HasSpaced f n j load x = (content : List ℕ) × HasContent f n j content x × AreSpaced f n j 0 (length (catalogue_of load)) content

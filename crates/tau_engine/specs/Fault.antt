@@ -51,7 +51,6 @@ fault_text (status.BadText at cause) = line (codes "fault" ∷ codes "3" ∷ dec
 fault_text status.ReadFault = line (codes "fault" ∷ codes "4" ∷ [])
 fault_text (status.DiskFault j) = line (codes "fault" ∷ codes "6" ∷ decimal j ∷ [])
 fault_text (status.BadLog fault) = log_fault_text fault.stream fault.cause
-fault_text (status.NotEmpty j long) = line (codes "fault" ∷ codes "8" ∷ decimal j ∷ decimal long ∷ [])
 fault_text status.TooLong = line (codes "fault" ∷ codes "9" ∷ [])
 fault_text _ = []
 
@@ -65,7 +64,6 @@ code_of status.ReadFault = 4
 code_of status.WriteFault = 5
 code_of (status.DiskFault j) = 6
 code_of (status.BadLog fault) = 7
-code_of (status.NotEmpty j long) = 8
 code_of status.TooLong = 9
 
 -- the answer is told by the one fault line, whatever the command
@@ -74,7 +72,6 @@ is_refusal status.Usage = true
 is_refusal (status.BadText at cause) = true
 is_refusal status.ReadFault = true
 is_refusal (status.BadLog fault) = true
-is_refusal (status.NotEmpty j long) = true
 is_refusal status.TooLong = true
 is_refusal _ = false
 

@@ -4,7 +4,8 @@ pub mod Outside
 pub mod Fault
 pub mod DiskFacts
 pub mod Runs
-pub mod Said
+pub mod Opening
+pub mod RunSays
 pub mod Recovery
 pub mod Same
 pub mod Drill

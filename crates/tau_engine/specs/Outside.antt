@@ -4,7 +4,6 @@ use Rattle.tau_base.specs.declared.limits.TheConstants.{MAX_WORKLOAD}
 use Rattle.tau_text.specs.declared.load.Workload.{Workload}
 use Rattle.tau_text.specs.declared.fault.TextFault.{TextFault}
 use Rattle.tau_text.specs.Text.{workload_of}
-use Rattle.tau_open.specs.Outside.{calls_to_open}
 use Rattle.tau_engine.specs.declared.status.Status.{Status}
 use Rattle.tau_engine.specs.declared.status.Status.TheVariants as status
 
@@ -30,7 +29,6 @@ is_behind_text status.Ok = true
 is_behind_text status.WriteFault = true
 is_behind_text (status.DiskFault j) = true
 is_behind_text (status.BadLog fault) = true
-is_behind_text (status.NotEmpty j long) = true
 is_behind_text _ = false
 
 -- the answer comes only once the source was read to its end
@@ -46,16 +44,7 @@ is_before_disks status.ReadFault = true
 is_before_disks status.TooLong = true
 is_before_disks _ = false
 
--- a run that was begun may end so
-abbrev pub ends_run : Status → Bool
-ends_run status.Ok = true
-ends_run status.NoMemory = true
-ends_run status.WriteFault = true
-ends_run (status.DiskFault j) = true
-ends_run (status.NotEmpty j long) = true
-ends_run _ = false
-
--- a recovery may end so
+-- a recovery may end so, and a run, which reads its streams too
 abbrev pub ends_recovery : Status → Bool
 ends_recovery status.Ok = true
 ends_recovery status.NoMemory = true
@@ -93,13 +82,6 @@ abbrev pub ends_reading : Status → Bool
 ends_reading status.NoMemory = true
 ends_reading other = is_before_disks other
 
--- the opening may end so
-abbrev pub OpensBad : Status → Type 0
-OpensBad (status.NotEmpty j long) = Unit {0}
-OpensBad (status.DiskFault j) = Unit {0}
-OpensBad status.NoMemory = Unit {0}
-OpensBad _ = ⊥
-
--- the call that failed was one of those that make the stream, and so much was written of this line; or it was a later one
-abbrev pub FailsTold : (ℕ → Type 0) → Type 0 → Type 0
-FailsTold made told = ((k : ℕ) × (k ≤ calls_to_open) × made k × told) ⊎ ((k : ℕ) × (calls_to_open < k) × made k)
+-- the call that failed was one of the first so many and so much was told of it, or it was a later one
+abbrev pub FailsTold : ℕ → (ℕ → Type 0) → Type 0 → Type 0
+FailsTold count made told = ((k : ℕ) × (k ≤ count) × made k × told) ⊎ ((k : ℕ) × (count < k) × made k)

@@ -1,10 +1,12 @@
--- What recovery tells of the images that the disks give.
-use Rattle.std.specs.Prelude.{ℕ, ◌≡◌, ◌<◌, ◌⊎◌, List, [], length, take, map, None, Ok, Err}
+-- What recovery tells of the images that the disks give, and why images are refused.
+use Rattle.std.specs.Prelude.{ℕ, ◌≡◌, ◌<◌, ◌⊎◌, List, [], length, take, map, Some, None, Ok, Err}
+use Rattle.tau_base.specs.declared.format.Format.{Format}
 use Rattle.tau_base.specs.declared.value.Key.{Key}
 use Rattle.tau_base.specs.declared.value.Value.{Value}
 use Rattle.tau_scan.specs.declared.log.Log.{Log}
 use Rattle.tau_scan.specs.declared.fault.LogFault.{LogFault}
 use Rattle.tau_scan.specs.declared.fault.LogCause.TheVariants as cause
+use Rattle.tau_scan.specs.Begins.{begins_fault}
 use Rattle.tau_scan.specs.Reading.{log_of}
 use Rattle.tau_replay.specs.Redone.{IsRedone, IsTangledAt}
 use Rattle.tau_report.specs.Recovery.{recover_text}
@@ -28,13 +30,18 @@ LogTells log wrote status.WriteFault = (text : List ℕ) × (k : ℕ) × IsRecov
 LogTells log wrote status.NoMemory = wrote []
 LogTells log wrote other = Unit {0}
 
--- recovery gets stuck in this log, and the fault tells where
+-- redoing this log gets stuck, and the fault tells where
 abbrev pub IsTangle : Log → LogFault → Type 0
 IsTangle log fault = (at : ℕ) × (fault.cause ≡ cause.Tangled at) × IsTangledAt log fault.stream at
 
 -- the images are refused for this fault
 abbrev pub IsBadLog : List (List ℕ) → LogFault → Type 0
 IsBadLog images fault = (log_of None images ≡ Err fault) ⊎ ((log : Log) × (log_of None images ≡ Ok log) × IsTangle log fault)
+
+-- the first cause of these images for which a run is refused whose workload has this text of declarations: they hold no log
+-- in this format, or one that it cannot go on from
+abbrev pub IsUnfit : Format → List ℕ → List (List ℕ) → LogFault → Type 0
+IsUnfit f text images fault = (log_of (Some f) images ≡ Err fault) ⊎ ((log : Log) × (log_of (Some f) images ≡ Ok log) × (begins_fault text (map length images) log ≡ Some fault))
 
 -- what recovery writes of these images, where they hold a log
 abbrev pub RecoverTells : List (List ℕ) → (List ℕ → Type 0) → Status → Type 0
@@ -50,7 +57,7 @@ EndsAsBad fault (status.DiskFault j) = Unit {0}
 EndsAsBad fault (status.BadLog other) = other ≡ fault
 EndsAsBad fault other = ⊥
 
--- the answer tells where recovery gets stuck, unless memory ran out or a disk failed
+-- the answer tells where the log is stuck, unless memory ran out or a disk failed
 abbrev pub EndsTangled : Log → Status → Type 0
 EndsTangled log status.NoMemory = Unit {0}
 EndsTangled log (status.DiskFault j) = Unit {0}

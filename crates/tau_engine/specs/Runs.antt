@@ -6,11 +6,12 @@ use Rattle.tau_disk.specs.Disk.{Rose}
 use Rattle.tau_disk.specs.declared.disk.Disk.{Ghosts}
 use Rattle.tau_stream.specs.declared.writer.Writer.{Writer}
 use Rattle.tau_stream.specs.Writer.{disk_of}
-use Rattle.tau_open.specs.declared.refusal.OpenRefusal.{OpenRefusal}
-use Rattle.tau_open.specs.declared.refusal.OpenRefusal.TheVariants as refusal
+use Rattle.tau_scan.specs.declared.fault.ScanRefusal.{ScanRefusal}
+use Rattle.tau_scan.specs.declared.fault.ScanRefusal.TheVariants as scan
 use Rattle.tau_machine.specs.State.{Core}
+use Rattle.tau_core.specs.declared.opening.Opening.{Opening}
 use Rattle.tau_core.specs.declared.state.Load.{Load}
-use Rattle.tau_run.specs.Gives.{GaveNew}
+use Rattle.tau_run.specs.Gives.{GaveFrom}
 use Rattle.tau_run.specs.RunFacts.{by_turns}
 use Rattle.tau_run.specs.Turns.{Progress}
 use Rattle.tau_crew_facts.specs.Threads.{in_threads}
@@ -27,11 +28,11 @@ abbrev pub ran_by : Option (List Turn) → ℕ → ℕ → Workload → Bool →
 ran_by None n m load = in_threads
 ran_by (Some turns) n m load = by_turns n m load
 
--- the answer to a refused opening
-abbrev pub status_in : OpenRefusal → Status
-status_in refusal.NoMemory = status.NoMemory
-status_in (refusal.Failed j) = status.DiskFault j
-status_in (refusal.NotEmpty j long) = status.NotEmpty j long
+-- the answer to an opening that was refused
+abbrev pub status_at : ScanRefusal → Status
+status_at scan.NoMemory = status.NoMemory
+status_at (scan.Failed j) = status.DiskFault j
+status_at (scan.Bad fault) = status.BadLog fault
 
 -- What was told after the acknowledgements of a run that went to its end, by the answer: the rest of the report, a
 -- first part of it where the sink failed, and nothing where it had failed before.
@@ -48,8 +49,9 @@ abbrev pub TellsRun : List (List ℕ) → Result RunEnd NoMemory → Type 0 → 
 TellsRun tables (Ok end) hears held held' rose answer = TellsEnd tables end hears held held' rose answer
 TellsRun tables (Err e) hears held held' rose answer = (answer ≡ status.NoMemory) × (held' ≡ held)
 
--- The run on these writers: their disks stand in front of the others, and what it told is after what the sink held.
-pub record RunsOn {D : Type 0} {G : Ghosts D} (m : ℕ) (mode : LogMode) (load : Workload) (ws : List (Writer D G)) (rest now : List D) (hears : Type 0) (held held' : List ℕ) (faults faults' : ℕ) (answer : Status) : Type 0 where
+-- The run on these writers from a given opening, on streams that had these bytes: their disks stand in front of the others,
+-- and what it told is after what the sink held.
+pub record RunsFrom {D : Type 0} {G : Ghosts D} (m : ℕ) (mode : LogMode) (load : Workload) (o : Opening) (bases : ℕ → List ℕ) (ws : List (Writer D G)) (rest now : List D) (hears : Type 0) (held held' : List ℕ) (faults faults' : ℕ) (answer : Status) : Type 0 where
   pub after : List (Writer D G)
   pub back : now ≡ map disk_of after ++ rest
   -- what the sink held after the run, and how often it had failed
@@ -58,5 +60,5 @@ pub record RunsOn {D : Type 0} {G : Ghosts D} (m : ℕ) (mode : LogMode) (load :
   pub early : faults ≤ count
   pub late : count ≤ faults'
   pub end : Result RunEnd NoMemory
-  pub ran : GaveNew (ran_by load.turns (length ws) m load) m mode load ws after hears held mid (Rose faults count) end
+  pub ran : GaveFrom (ran_by load.turns (length o.ends) m load) o bases m mode load ws after hears held mid (Rose faults count) end
   pub told : TellsRun load.declarations.tables end hears mid held' (Rose count faults') answer

@@ -23,15 +23,6 @@ fn bad_text_line(alloc: Global, at: u32, cause: TextCause) -> Result<String, All
     Ok(text)
 }
 
-// The line of a disk that is not empty.
-fn not_empty_line(alloc: Global, stream: u8, length: u64) -> Result<String, AllocError>
-    ensures { IfOk result (λ text. string_bytes text ≡ fault_text (Status.NotEmpty stream length)) }
-{
-    let mut text = String::new(alloc);
-    write!(text, "fault 8 {stream} {length}\n")?;
-    Ok(text)
-}
-
 // The number of an image's cause.
 fn image_number(fault: ImageFault) -> u8
     ensures { result ≡ image_fault_number fault }
@@ -190,7 +181,6 @@ fn fault_line(alloc: Global, status: Status) -> Result<String, AllocError>
         Status::ReadFault => format!(in alloc; "fault 4\n"),
         Status::DiskFault { stream } => format!(in alloc; "fault 6 {stream}\n"),
         Status::BadLog(fault) => log_line(alloc, fault),
-        Status::NotEmpty { stream, length } => not_empty_line(alloc, stream, length),
         Status::TooLong => format!(in alloc; "fault 9\n"),
         _ => format!(in alloc; ""),
     }

@@ -1,30 +1,33 @@
 //! A run on the first disks.
 ghost use Rattle.std.specs.Prelude.{◌≡◌, ◌≤◌, ◌+◌, ℕ, List, Ok, length, vec_len, vec_capacity};
-ghost use Rattle.tau_base.specs.declared.limits.TheConstants.{MAX_CATALOGUE, MAX_STREAMS};
-ghost use Rattle.tau_base.specs.declared.format.Format.TheVariants.{One};
+ghost use Rattle.tau_base.specs.declared.limits.TheConstants.{MAX_CATALOGUE, MAX_STREAMS, MAX_WORKERS};
 ghost use Rattle.tau_base.specs.Modes.{format_of, most_streams};
 ghost use Rattle.tau_disk.specs.Disk.{Rose};
 ghost use Rattle.tau_text.specs.Canonical.{declarations_text};
 ghost use Rattle.tau_text.specs.Kept.{AreCalls, IsRunnable};
 ghost use Rattle.tau_text.specs.Text.{workload_of};
-ghost use Rattle.tau_run.specs.Gives.{GaveNew};
+ghost use Rattle.tau_core.specs.Opens.{Fits};
+ghost use Rattle.tau_run.specs.Gives.{GaveFrom, GaveNew};
 ghost use Rattle.tau_run.specs.Start.{catalogue_of};
-ghost use Rattle.tau_run.specs.Writers.{AreNew};
+ghost use Rattle.tau_run.specs.Writers.{AreNew, IsBegun};
 ghost use Rattle.tau_engine.specs.declared.served.TheConstants.{MAX_COUNT};
-ghost use Rattle.tau_engine.specs.Runs.{RunsOn, TellsEnd, ran_by, status_in};
-ghost use Rattle.tau_engine.specs.Said.{SaysRun};
+ghost use Rattle.tau_engine.specs.RunSays.{RunSays};
+ghost use Rattle.tau_engine.specs.Runs.{RunsFrom, TellsEnd, ran_by, status_at};
 
 use crate::fault::refuse;
 use crate::status::Status;
 use std::alloc::Global;
 use std::sync::Wait;
 use std::thread::Threads;
-use tau_base::{LogMode, NoMemory};
-use tau_crew::run_threads;
+use tau_base::{LogMode, NoMemory, format_of};
+use tau_begin::open_run;
+use tau_core::Opening;
+use tau_crew::{run_threads, run_threads_from};
 use tau_disk::{Disk, Gate, Sink, write_all};
-use tau_open::{OpenRefusal, close_streams, open_streams};
+use tau_open::close_streams;
 use tau_report::{RunEnd, report_text};
-use tau_step::run_turns;
+use tau_scan::ScanRefusal;
+use tau_step::{run_turns, run_turns_from};
 use tau_stream::Writer;
 use tau_text::{Workload, print_declarations};
 
@@ -50,13 +53,13 @@ fn tell_end<K: Sink>(alloc: Global, load: &Workload, end: &RunEnd, sink: &mut K)
 }
 
 /// How a run ends where it could not begin.
-fn status_of(refusal: OpenRefusal) -> Status
-    ensures value { result ≡ status_in refusal }
+fn status_of(refusal: ScanRefusal) -> Status
+    ensures value { result ≡ status_at refusal }
 {
     match refusal {
-        OpenRefusal::NoMemory => Status::NoMemory,
-        OpenRefusal::Failed { stream } => Status::DiskFault { stream },
-        OpenRefusal::NotEmpty { stream, length } => Status::NotEmpty { stream, length },
+        ScanRefusal::NoMemory => Status::NoMemory,
+        ScanRefusal::Failed { stream } => Status::DiskFault { stream },
+        ScanRefusal::Bad(fault) => Status::BadLog(fault),
     }
 }
 
@@ -88,31 +91,84 @@ pub(crate) fn run_writers<R: Threads + Wait + Sync, D: Disk + Send, K: Sink + Se
     }
 }
 
-/// Runs a workload on the streams of these writers, and puts their disks back in front of the others.
+/// What a run begins on: where its core opens, the writers of its streams, how many workers it has, and how it logs.
+struct Ready<D: Disk> {
+    opening: Opening,
+    writers: Vec<Writer<D>>,
+    workers: u8,
+    mode: LogMode,
+}
+
+/// Runs a workload on what is ready: by turns if it has them, else in threads. Returns how it ended and the writers.
+fn run_from<R: Threads + Wait + Sync, D: Disk + Send, K: Sink + Send, G: Gate + Sync>(
+    rt: &R,
+    alloc: Global,
+    load: &Workload,
+    ready: Ready<D>,
+    sink: &mut K,
+    gate: &G,
+) -> (Result<RunEnd, NoMemory>, Vec<Writer<D>>)
+    requires low { 1 ≤ ready.workers }
+    requires high { ready.workers ≤ MAX_WORKERS }
+    requires calls { AreCalls load.now.declarations.procs load.now.calls }
+    requires streams { length ready.opening.ends ≤ most_streams (format_of ready.mode) }
+    requires fits { Fits ready.opening }
+    requires begun { (bases : ℕ → List ℕ) × IsBegun (format_of ready.mode) bases ready.writers.items ready.opening }
+    ensures ran { (bases : ℕ → List ℕ) → IsBegun (format_of ready.mode) bases ready.writers.items ready.opening →
+        GaveFrom (ran_by load.now.turns (length ready.opening.ends) ready.workers load.now) ready.opening bases ready.workers ready.mode load.now ready.writers.items result.1.items K.tells (K.held sink.old) (K.held sink.new) (Rose (K.faults sink.old) (K.faults sink.new)) result.0 }
+    ensures faults { K.faults sink.old ≤ K.faults sink.new }
+    ensures count { length result.1.items ≡ length ready.writers.items }
+{
+    let Ready {
+        opening,
+        mut writers,
+        workers,
+        mode,
+    } = ready;
+    match load.turns {
+        Some(_) => {
+            let end = run_turns_from(alloc, load, opening, workers, mode, &mut writers, sink);
+            (end, writers)
+        }
+        None => {
+            let end = run_threads_from(
+                rt,
+                alloc,
+                load,
+                opening,
+                workers,
+                mode,
+                &mut writers,
+                sink,
+                gate,
+            );
+            (end, writers)
+        }
+    }
+}
+
+/// Runs a workload on what is ready, puts the disks back in front of the others, and tells how it ended.
 fn run_on<R: Threads + Wait + Sync, D: Disk + Send, K: Sink + Send, G: Gate + Sync>(
     rt: &R,
     alloc: Global,
     load: &Workload,
-    workers: u8,
-    mode: LogMode,
+    ready: Ready<D>,
     sink: &mut K,
     disks: &mut Vec<D>,
-    writers: Vec<Writer<D>>,
     gate: &G,
 ) -> Status
-    requires streams_low { 1 ≤ vec_len writers }
-    requires streams_high { vec_len writers ≤ most_streams (format_of mode) }
-    requires low { 1 ≤ workers }
-    requires high { workers ≤ MAX_COUNT }
+    requires low { 1 ≤ ready.workers }
+    requires high { ready.workers ≤ MAX_WORKERS }
     requires runnable { IsRunnable load.now }
-    requires text { length (declarations_text load.now.declarations) ≤ MAX_CATALOGUE }
-    requires fresh { AreNew (format_of mode) (λ j. catalogue_of load.now) writers.items }
-    requires room { vec_len disks.old + vec_len writers ≤ vec_capacity disks.old }
-    ensures ran { RunsOn workers mode load.now writers.items disks.old.items disks.new.items K.tells (K.held sink.old) (K.held sink.new) (K.faults sink.old) (K.faults sink.new) result }
-    ensures len { vec_len disks.new ≡ vec_len writers + vec_len disks.old }
+    requires streams { length ready.opening.ends ≤ most_streams (format_of ready.mode) }
+    requires fits { Fits ready.opening }
+    requires begun { (bases : ℕ → List ℕ) × IsBegun (format_of ready.mode) bases ready.writers.items ready.opening }
+    requires room { vec_len disks.old + vec_len ready.writers ≤ vec_capacity disks.old }
+    ensures ran { (bases : ℕ → List ℕ) → IsBegun (format_of ready.mode) bases ready.writers.items ready.opening →
+        RunsFrom ready.workers ready.mode load.now ready.opening bases ready.writers.items disks.old.items disks.new.items K.tells (K.held sink.old) (K.held sink.new) (K.faults sink.old) (K.faults sink.new) result }
+    ensures len { vec_len disks.new ≡ vec_len ready.writers + vec_len disks.old }
 {
-    let mut writers = writers;
-    let end = run_writers(rt, alloc, load, workers, mode, &mut writers, sink, gate);
+    let (end, writers) = run_from(rt, alloc, load, ready, sink, gate);
     close_streams(disks, writers);
     match end {
         Ok(end) => tell_end(alloc, load, &end, sink),
@@ -120,7 +176,7 @@ fn run_on<R: Threads + Wait + Sync, D: Disk + Send, K: Sink + Send, G: Gate + Sy
     }
 }
 
-/// Runs a workload on the first `streams` disks, which are to hold nothing, and puts them back in their places. The log is of format 1.
+/// Runs a workload on what the first `streams` disks hold, and puts them back in their places.
 pub fn run<R: Threads + Wait + Sync, D: Disk + Send, K: Sink + Send, G: Gate + Sync>(
     rt: &R,
     alloc: Global,
@@ -134,21 +190,28 @@ pub fn run<R: Threads + Wait + Sync, D: Disk + Send, K: Sink + Send, G: Gate + S
 ) -> Status
     requires disks { vec_len disks.old ≡ MAX_STREAMS }
     requires streams_low { 1 ≤ streams }
-    requires streams_high { streams ≤ MAX_COUNT }
+    requires streams_high { streams ≤ most_streams (format_of mode) }
     requires low { 1 ≤ workers }
-    requires high { workers ≤ MAX_COUNT }
-    requires narrow { format_of mode ≡ One }
+    requires high { workers ≤ MAX_WORKERS }
     requires runnable { IsRunnable load.now }
     requires meant { (text : List ℕ) × (workload_of text ≡ Ok load.now) }
 
     ensures count { vec_len disks.new ≡ MAX_STREAMS }
-    ensures says { SaysRun ⟦<D as Disk>⟧ streams workers mode load.now disks.old.items disks.new.items K.tells (K.held sink.old) (K.held sink.new) (K.faults sink.old) (K.faults sink.new) result }
+    ensures says { RunSays ⟦<D as Disk>⟧ streams workers mode load.now disks.old.items disks.new.items K.tells (K.held sink.old) (K.held sink.new) (K.faults sink.old) (K.faults sink.new) result }
 {
-    let Ok(catalogue) = print_declarations(alloc, &load.declarations) else {
+    let Ok(text) = print_declarations(alloc, &load.declarations) else {
         return Status::NoMemory;
     };
-    match open_streams(alloc, disks, streams, &catalogue) {
+    match open_run(alloc, disks, streams, format_of(mode), &text) {
         Err(refusal) => refuse(alloc, sink, status_of(refusal)),
-        Ok(writers) => run_on(rt, alloc, load, workers, mode, sink, disks, writers, gate),
+        Ok((opening, writers)) => {
+            let ready = Ready {
+                opening,
+                writers,
+                workers,
+                mode,
+            };
+            run_on(rt, alloc, load, ready, sink, disks, gate)
+        }
     }
 }

@@ -30,15 +30,8 @@ pub enum Status {
         /// The stream of that disk.
         stream: u8,
     },
-    /// The images hold no log.
+    /// The images hold no log, or one that a run cannot go on from.
     BadLog(LogFault),
-    /// A disk that is to be empty holds something.
-    NotEmpty {
-        /// The stream of that disk.
-        stream: u8,
-        /// The disk's length in bytes.
-        length: u64,
-    },
     /// The text has more than 16,777,216 bytes.
     TooLong,
 }
@@ -57,10 +50,6 @@ impl Status {
             Status::WriteFault => 5,
             Status::DiskFault { stream: _ } => 6,
             Status::BadLog(_) => 7,
-            Status::NotEmpty {
-                stream: _,
-                length: _,
-            } => 8,
             Status::TooLong => 9,
         }
     }

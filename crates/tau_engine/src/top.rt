@@ -1,5 +1,5 @@
 //! The top call.
-ghost use Rattle.std.specs.Prelude.{◌≡◌, ◌<◌, ◌≤◌, ◌⊎◌, ◌++◌, ◌+◌, List, ℕ, [], ◌∷◌, length, drop, map, true, false, Some, None, Ok, Err, vec_len, string_bytes};
+ghost use Rattle.std.specs.Prelude.{◌≡◌, ◌<◌, ◌≤◌, ◌⊎◌, ◌+◌, List, ℕ, [], ◌∷◌, length, drop, map, slice_index, true, false, Some, None, Ok, Err, vec_len, string_bytes};
 ghost use Rattle.tau_base.specs.declared.limits.TheConstants.{MAX_STREAMS};
 ghost use Rattle.tau_base.specs.declared.value.LogMode.{LogMode};
 ghost use Rattle.tau_base.specs.Modes.{format_of};
@@ -10,23 +10,26 @@ ghost use Rattle.tau_text.specs.declared.fault.TextCause.{TextCause};
 ghost use Rattle.tau_text.specs.declared.fault.TextFault.{TextFault};
 ghost use Rattle.tau_scan.specs.declared.fault.LogFault.{LogFault};
 ghost use Rattle.tau_scan.specs.declared.log.Log.{Log};
+ghost use Rattle.tau_scan.specs.Begins.{begins_fault};
 ghost use Rattle.tau_scan.specs.Reading.{log_of};
 ghost use Rattle.tau_scan.specs.Outside.{calls_to_read};
 ghost use Rattle.tau_scan.specs.Taken.{Kept};
 ghost use Rattle.tau_replay.specs.Redone.{IsOrderOf};
-ghost use Rattle.tau_engine.specs.Recovery.{IsBadLog, RecoverTells, EndsAsBad, EndsTangled, images_of};
+ghost use Rattle.tau_engine.specs.Recovery.{IsBadLog, IsUnfit, RecoverTells, EndsAsBad, EndsTangled, images_of};
+ghost use Rattle.tau_engine.specs.Opening.{EmptyAreUnborn, opening_calls};
+ghost use Rattle.tau_engine.specs.RunSays.{IsRunRefused, RunSays};
 ghost use Rattle.tau_engine.specs.Bench.{BenchTells};
 ghost use Rattle.tau_engine.specs.Drill.{DrillTells, with_turns};
 ghost use Rattle.tau_words.specs.declared.command.Ending.{Ending};
 ghost use Rattle.tau_engine.specs.Served.{served, used_by, reads_source, writes_at_end};
 ghost use Rattle.tau_text.specs.declared.load.Workload.{Workload};
-ghost use Rattle.tau_run.specs.RunFacts.{chosen_by, RunFacts};
-ghost use Rattle.tau_run.specs.Start.{fresh_start};
-ghost use Rattle.tau_open.specs.Outside.{calls_to_open};
-ghost use Rattle.tau_engine.specs.DiskFacts.{DisksWorked, HasSpaced, Past, Now, AreUnborn, NotEarlier, NextClean, ending_of};
+ghost use Rattle.tau_text.specs.Canonical.{declarations_text};
+ghost use Rattle.tau_begin.specs.Reading.{calls_before_writes};
+ghost use Rattle.tau_engine.specs.DiskFacts.{NotEarlier, NextClean};
 ghost use Rattle.tau_engine.specs.Fault.{fault_text, is_refusal};
 ghost use Rattle.tau_run.specs.RunFacts.{WroteFront};
-ghost use Rattle.tau_disk.specs.Used.{RoseAt, EachUsed, AreEmpty, IsFirstLong, OnlyRead, AllCalls, IsClean, IsFirstStopped, Made};
+ghost use Rattle.tau_disk.specs.Stages.{OnlySynced};
+ghost use Rattle.tau_disk.specs.Used.{RoseAt, EachIn, EachUsed, OnlyRead, AllCalls, IsClean, IsFirstStopped, Made};
 ghost use Rattle.tau_engine.specs.Outside.{HasWorkload, HasNoWorkload, HasFault, FailsTold, Wrote, is_behind_text, is_behind_end, is_behind_reading, is_before_disks};
 
 use crate::bench::bench;
@@ -45,7 +48,7 @@ use tau_disk::{Disk, Gate, MemDisk, Sink, Source};
 use tau_words::WordsRefusal;
 
 /// Does what the words say, and returns how it ended. The words are those after the program's name. A run uses the
-/// first disks, which hold nothing before it; all disks stand in their places again, whatever the answer.
+/// first disks, and goes on from what they hold; all disks stand in their places again, whatever the answer.
 pub fn taurus<R: Threads + Wait + Sync, S: Source, K: Sink + Send, D: Disk + Send, G: Gate + Sync>(
     rt: &R,
     alloc: Global,
@@ -77,21 +80,24 @@ pub fn taurus<R: Threads + Wait + Sync, S: Source, K: Sink + Send, D: Disk + Sen
     // A fault of a disk is the first call that was to fail, of the lowest disk that has one, unless its memory was short.
     ensures disk_fault_first { (j : ℕ) → result ≡ Status.DiskFault j → D.tells → IsFirstStopped D.tells D.number D.fails D.short disks.old.items disks.new.items j }
     ensures disk_fault_told { result ≡ Status.Ok → EachUsed (IsClean D.tells D.number D.fails) disks.old.items disks.new.items (used_by (served (map string_bytes words.now))) }
-    ensures not_empty { (j long : ℕ) → result ≡ Status.NotEmpty j long → (n m : ℕ) × (mode : LogMode) × (served (map string_bytes words.now) ≡ Some (Command.Run n m mode false))
-        × (j < n) × (D.tells → IsFirstLong D.seen disks.old.items j long) }
-    ensures not_empty_told { (n m : ℕ) (mode : LogMode) (j long : ℕ) → served (map string_bytes words.now) ≡ Some (Command.Run n m mode false) →
-        S.tells → (load : Workload) → HasWorkload (S.left source.old) load → D.tells → j < n → IsFirstLong D.seen disks.old.items j long →
-        Member result (Status.NotEmpty j long ∷ Status.ReadFault ∷ Status.NoMemory ∷ []) ⊎ ((i : ℕ) × (result ≡ Status.DiskFault i)) }
-    ensures bad_log { (fault : LogFault) → result ≡ Status.BadLog fault → (n p : ℕ) × (served (map string_bytes words.now) ≡ Some (Command.Recover n p))
-        × (D.tells → IsBadLog (images_of D.seen disks.old.items n) fault) }
+    ensures bad_log { (fault : LogFault) → result ≡ Status.BadLog fault →
+        ((n p : ℕ) × (served (map string_bytes words.now) ≡ Some (Command.Recover n p)) × (D.tells → IsBadLog (images_of D.seen disks.old.items n) fault))
+        ⊎ ((n m : ℕ) × (mode : LogMode) × (served (map string_bytes words.now) ≡ Some (Command.Run n m mode false))
+        × (D.tells → (load : Workload) × (S.tells → HasWorkload (S.left source.old) load) × IsRunRefused (format_of mode) (declarations_text load.declarations) (images_of D.seen disks.old.items n) fault)) }
     ensures bad_log_told { (n p : ℕ) (fault : LogFault) → served (map string_bytes words.now) ≡ Some (Command.Recover n p) → D.tells →
         log_of None (images_of D.seen disks.old.items n) ≡ Err fault → EndsAsBad fault result }
     ensures tangled_told { (n p : ℕ) (log : Log) → served (map string_bytes words.now) ≡ Some (Command.Recover n p) → D.tells →
         log_of None (images_of D.seen disks.old.items n) ≡ Ok log → ((order : List Kept) → IsOrderOf log order → ⊥) → EndsTangled log result }
+    // A run is refused exactly where its workload can't go on from what the disks hold.
+    ensures unfit_told { (n m : ℕ) (mode : LogMode) (load : Workload) (fault : LogFault) → served (map string_bytes words.now) ≡ Some (Command.Run n m mode false) → S.tells → HasWorkload (S.left source.old) load → D.tells →
+        is_before_disks result ≡ false → IsUnfit (format_of mode) (declarations_text load.declarations) (images_of D.seen disks.old.items n) fault → EndsAsBad fault result }
+    ensures stuck_told { (n m : ℕ) (mode : LogMode) (load : Workload) (log : Log) → served (map string_bytes words.now) ≡ Some (Command.Run n m mode false) → S.tells → HasWorkload (S.left source.old) load → D.tells →
+        is_before_disks result ≡ false → log_of (Some (format_of mode)) (images_of D.seen disks.old.items n) ≡ Ok log → begins_fault (declarations_text load.declarations) (map length (images_of D.seen disks.old.items n)) log ≡ None →
+        ((order : List Kept) → IsOrderOf log order → ⊥) → EndsTangled log result }
     ensures write_fault { result ≡ Status.WriteFault → Rose (K.faults sink.old) (K.faults sink.new) }
     // A disk that fails while the streams are opened comes before a sink that fails.
     ensures write_fault_late { (n m : ℕ) (mode : LogMode) → served (map string_bytes words.now) ≡ Some (Command.Run n m mode false) → result ≡ Status.WriteFault →
-        EachUsed (NextClean D.tells D.number D.fails calls_to_open) disks.old.items disks.new.items n }
+        EachIn (λ j. j < n) (λ j. NextClean D.tells D.number D.fails (opening_calls (map length (images_of D.seen disks.old.items n)) j)) disks.old.items disks.new.items }
 
     // What is read of the source.
     ensures source { S.tells → (k : ℕ) × (k ≤ MAX_WORKLOAD + 1) × (S.left source.new ≡ drop k (S.left source.old)) }
@@ -100,34 +106,21 @@ pub fn taurus<R: Threads + Wait + Sync, S: Source, K: Sink + Send, D: Disk + Sen
 
     // A refusal writes its one line, and a call that runs out of memory before a run nothing.
     ensures refusal { is_refusal result ≡ true → WroteFront (Wrote K.tells (K.held sink.old) (K.held sink.new)) (Rose (K.faults sink.old) (K.faults sink.new)) (fault_text result) }
-    ensures opening_fault { (n m i j long : ℕ) (mode : LogMode) → served (map string_bytes words.now) ≡ Some (Command.Run n m mode false) → result ≡ Status.DiskFault i →
-        D.tells → j < n → IsFirstLong D.seen disks.old.items j long →
-        WroteFront (Wrote K.tells (K.held sink.old) (K.held sink.new)) (Rose (K.faults sink.old) (K.faults sink.new)) (fault_text result) }
-    // A disk that fails while its stream is made is told by the one line; one that fails later is told by the report.
-    ensures making_fault { (n m j : ℕ) (mode : LogMode) → served (map string_bytes words.now) ≡ Some (Command.Run n m mode false) → result ≡ Status.DiskFault j → D.tells → FailsTold (Made D.number D.short disks.old.items disks.new.items j)
+    // A disk that fails while its stream is opened is told by the one line; one that fails later is told by the report.
+    ensures opening_fault { (n m j : ℕ) (mode : LogMode) → served (map string_bytes words.now) ≡ Some (Command.Run n m mode false) → result ≡ Status.DiskFault j → D.tells → FailsTold (opening_calls (map length (images_of D.seen disks.old.items n)) j) (Made D.number D.short disks.old.items disks.new.items j)
         (WroteFront (Wrote K.tells (K.held sink.old) (K.held sink.new)) (Rose (K.faults sink.old) (K.faults sink.new)) (fault_text result)) }
     ensures silent { result ≡ Status.NoMemory → writes_at_end (served (map string_bytes words.now)) ≡ true → Wrote K.tells (K.held sink.old) (K.held sink.new) [] }
 
-    // Out of memory after a text that is no workload, or if a used disk holds something, writes nothing.
+    // Out of memory after a text that is no workload writes nothing.
     ensures silent_text { result ≡ Status.NoMemory → reads_source (served (map string_bytes words.now)) ≡ true → S.tells → HasNoWorkload (S.left source.old) → Wrote K.tells (K.held sink.old) (K.held sink.new) [] }
-    ensures silent_long { (n m j long : ℕ) (mode : LogMode) → served (map string_bytes words.now) ≡ Some (Command.Run n m mode false) → result ≡ Status.NoMemory →
-        D.tells → j < n → IsFirstLong D.seen disks.old.items j long → Wrote K.tells (K.held sink.old) (K.held sink.new) [] }
 
-    // A run has one history, of which its report, the images that stops may leave and its acknowledgements are, however it ends.
-    ensures run { (n m : ℕ) (mode : LogMode) (load : Workload) → served (map string_bytes words.now) ≡ Some (Command.Run n m mode false) →
-        S.tells → HasWorkload (S.left source.old) load → AreEmpty D.tells D.seen disks.old.items n →
-        RunFacts (chosen_by load.turns n m load) n m mode load (fresh_start n) (AreUnborn D.tells D.may_leave disks.old.items n) (Past D.tells D.moment D.may_leave_since disks.old.items disks.new.items) (Now D.tells D.may_leave disks.old.items disks.new.items)
-        (RoseAt D.faults disks.old.items disks.new.items) (Rose (K.faults sink.old) (K.faults sink.new)) (λ j. calls_to_open) (λ j k. D.tells → Made D.number D.short disks.old.items disks.new.items j k)
-        (Wrote K.tells (K.held sink.old) (K.held sink.new)) (λ j. fault_text (Status.DiskFault j)) (ending_of result) }
-
-    // In threads, if the run went to its end and no disk failed, the anchors that are read of each used disk stand in their
-    // distance, also if the sink failed.
-    ensures anchors { (n m : ℕ) (mode : LogMode) (load : Workload) → served (map string_bytes words.now) ≡ Some (Command.Run n m mode false) → S.tells → HasWorkload (S.left source.old) load → load.turns ≡ None →
-        DisksWorked n (RoseAt D.faults disks.old.items disks.new.items) result → (j : ℕ) (image : List ℕ) → j < n → Now D.tells D.may_leave disks.old.items disks.new.items j image → HasSpaced (format_of mode) n j load image }
+    // A run goes on from what its disks hold: it ended before they were written, or it is one run on that.
+    ensures run { (n m : ℕ) (mode : LogMode) (load : Workload) → served (map string_bytes words.now) ≡ Some (Command.Run n m mode false) → S.tells → HasWorkload (S.left source.old) load → is_before_disks result ≡ false →
+        RunSays ⟦<D as Disk>⟧ n m mode load disks.old.items disks.new.items K.tells (K.held sink.old) (K.held sink.new) (K.faults sink.old) (K.faults sink.new) result }
 
     // So an image that a stop now may leave is one that a stop since the entry might have left.
     ensures moments { (n m : ℕ) (mode : LogMode) → served (map string_bytes words.now) ≡ Some (Command.Run n m mode false) →
-        AreUnborn D.tells D.may_leave disks.old.items n → EachUsed (NotEarlier D.tells D.moment) disks.old.items disks.new.items n }
+        EmptyAreUnborn ⟦<D as Disk>⟧ disks.old.items n → EachUsed (NotEarlier D.tells D.moment) disks.old.items disks.new.items n }
 
     // Recovery is a function of what the disks read.
     ensures recover { (n p : ℕ) → served (map string_bytes words.now) ≡ Some (Command.Recover n p) → D.tells →
@@ -148,11 +141,10 @@ pub fn taurus<R: Threads + Wait + Sync, S: Source, K: Sink + Send, D: Disk + Sen
     ensures before_disks { is_before_disks result ≡ true → disks.new.items ≡ disks.old.items }
 
     ensures bad_text_untouched { S.tells → reads_source (served (map string_bytes words.now)) ≡ true → (fault : TextFault) → HasFault (S.left source.old) fault → disks.new.items ≡ disks.old.items }
-    ensures not_empty_untouched { (n m : ℕ) (mode : LogMode) (j long : ℕ) → served (map string_bytes words.now) ≡ Some (Command.Run n m mode false) → j < n → D.tells → IsFirstLong D.seen disks.old.items j long →
-        EachUsed (OnlyRead D.tells D.seen D.may_leave D.moment D.may_leave_since) disks.old.items disks.new.items n }
-    ensures asked { (j long : ℕ) → result ≡ Status.NotEmpty j long → EachUsed (OnlyRead D.tells D.seen D.may_leave D.moment D.may_leave_since) disks.old.items disks.new.items (used_by (served (map string_bytes words.now))) }
-    // A disk that fails comes before one that is not empty: each was asked, once, and none failed.
-    ensures asked_once { (j long : ℕ) → result ≡ Status.NotEmpty j long → EachUsed (AllCalls D.tells D.number D.fails D.short 1) disks.old.items disks.new.items (used_by (served (map string_bytes words.now))) }
+    // A run that is refused has at most read and synced its disks: a disk that fails while it is read comes before a bad log.
+    ensures refused { (n m : ℕ) (mode : LogMode) (fault : LogFault) → served (map string_bytes words.now) ≡ Some (Command.Run n m mode false) → result ≡ Status.BadLog fault → EachUsed (OnlySynced ⟦<D as Disk>⟧) disks.old.items disks.new.items n }
+    ensures refused_calls { (n m : ℕ) (mode : LogMode) (fault : LogFault) → served (map string_bytes words.now) ≡ Some (Command.Run n m mode false) → result ≡ Status.BadLog fault →
+        EachIn (λ j. j < n) (λ j. AllCalls D.tells D.number D.fails D.short (calls_before_writes (slice_index (map length (images_of D.seen disks.old.items n)) j))) disks.old.items disks.new.items }
 
     // A disk that fails comes before a bad log, and before a sink that fails: each disk was read whole, and none failed.
     ensures recover_calls { (n p : ℕ) → served (map string_bytes words.now) ≡ Some (Command.Recover n p) → is_behind_reading result ≡ true →
@@ -160,8 +152,9 @@ pub fn taurus<R: Threads + Wait + Sync, S: Source, K: Sink + Send, D: Disk + Sen
     ensures read { (n p : ℕ) → served (map string_bytes words.now) ≡ Some (Command.Recover n p) → EachUsed (OnlyRead D.tells D.seen D.may_leave D.moment D.may_leave_since) disks.old.items disks.new.items n }
 
     // Where nothing is amiss, the work is done.
-    ensures run_done { (n m : ℕ) (mode : LogMode) (load : Workload) → served (map string_bytes words.now) ≡ Some (Command.Run n m mode false) →
-        S.tells → D.tells → HasWorkload (S.left source.old) load → AreEmpty D.tells D.seen disks.old.items n →
+    ensures run_done { (n m : ℕ) (mode : LogMode) (load : Workload) (log : Log) (order : List Kept) → served (map string_bytes words.now) ≡ Some (Command.Run n m mode false) →
+        S.tells → D.tells → HasWorkload (S.left source.old) load →
+        log_of (Some (format_of mode)) (images_of D.seen disks.old.items n) ≡ Ok log → IsOrderOf log order → begins_fault (declarations_text load.declarations) (map length (images_of D.seen disks.old.items n)) log ≡ None →
         (Rose (S.faults source.old) (S.faults source.new) → ⊥) → (Rose (K.faults sink.old) (K.faults sink.new) → ⊥) → ((j : ℕ) → j < n → RoseAt D.faults disks.old.items disks.new.items j → ⊥) →
         Member result (Status.Ok ∷ Status.NoMemory ∷ []) }
     ensures drill_done { (n m p : ℕ) (ending : Ending) (load : Workload) → served (map string_bytes words.now) ≡ Some (Command.Drill n m p ending) → S.tells → HasWorkload (S.left source.old) load →

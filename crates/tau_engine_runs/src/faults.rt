@@ -7,7 +7,7 @@ use std::thread::Threads;
 use tau_disk::{MemDisk, MemSink, MemSource, Quiet};
 use tau_engine::Status;
 use tau_engine_support::{
-    disks_of, do_at, ends, ends_with, failing_disks, had_calls, new_disks, tells, tells_anew,
+    do_at, ends, ends_with, failing_disks, had_calls, new_disks, tells, tells_anew,
 };
 use tau_text::TextCause;
 
@@ -183,54 +183,6 @@ fn a_sink_that_fails(rt: HostRuntime) -> Result<(), Fail> {
         "ack 1 53,0\n",
         &mut disks,
     )
-}
-
-// A run over two disks that hold these bytes ends with this line, and asks the first one for its length alone.
-fn finds_bytes<R: Threads + Wait + Sync + Abort>(
-    rt: &R,
-    alloc: Global,
-    first: &[u8],
-    second: &[u8],
-    line: &str,
-) -> Result<(), Fail> {
-    let first = MemDisk::of_image(alloc, first)?;
-    let mut disks = disks_of(alloc, first, MemDisk::of_image(alloc, second)?)?;
-    tells(rt, alloc, "run 2 1", "table a\n", 8, line, &mut disks)?;
-    had_calls(&disks, 0, 1)
-}
-
-#[test]
-fn disks_that_are_not_empty(rt: HostRuntime) -> Result<(), Fail> {
-    let rows: [(&[u8], &[u8], &str); 3] = [
-        (
-            b"",
-            b"TAURUS-LOG-1\x00\x02\x00\x01\x01\x00\x00\x00\x0d\x04\x00\x00\x00\x0dtable a\n\x00",
-            "fault 8 1 35\n",
-        ),
-        (b"x", b"", "fault 8 0 1\n"),
-        (b"TAURUS-LOG-1\x00\x02\x00\x00\x00", b"x", "fault 8 0 17\n"),
-    ];
-    for (first, second, line) in rows {
-        finds_bytes(&rt, rt.alloc(), first, second, line)?;
-    }
-    Ok(())
-}
-
-#[test]
-fn a_disk_that_fails_comes_before_one_that_is_not_empty(rt: HostRuntime) -> Result<(), Fail> {
-    let alloc = rt.alloc();
-    let first = MemDisk::of_image(alloc, b"x")?;
-    let mut disks = disks_of(alloc, first, MemDisk::new(alloc, &[1])?)?;
-    tells(
-        &rt,
-        alloc,
-        "run 2 1",
-        "table a\n",
-        6,
-        "fault 6 1\n",
-        &mut disks,
-    )?;
-    had_calls(&disks, 0, 1)
 }
 
 // These calls of the first two disks are to fail, and the run ends with this line, after so many calls of that disk.

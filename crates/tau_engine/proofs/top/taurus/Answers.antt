@@ -1,4 +1,4 @@
-use Rattle.std.proofs.Common.{ℕ, ◌≡◌, ◌<◌, List, ◌∙◌, sym, ap, subst, refl, arith, map, length, take, drop, ◌++◌, rules, true, false}
+use Rattle.std.proofs.Common.{ℕ, ◌≡◌, ◌<◌, List, ◌∙◌, sym, ap, subst, refl, inl, inr, arith, map, length, take, drop, ◌++◌, rules, true, false}
 use Rattle.std.specs.Prelude.{string_bytes, Some, None, Ok}
 use Rattle.tau_base.specs.declared.value.LogMode.{LogMode}
 use Rattle.tau_base.specs.Modes.{format_of}
@@ -6,20 +6,20 @@ use Rattle.tau_words.specs.declared.command.Command.TheVariants.{Run, Recover}
 use Rattle.tau_text.specs.declared.load.Workload.{Workload}
 use Rattle.tau_scan.specs.Outside.{calls_to_read}
 use Rattle.tau_scan.specs.Reading.{log_of}
-use Rattle.tau_run.proofs.Sources.{catalogue_load}
+use Rattle.tau_engine.specs.declared.status.Status.{Status}
 use Rattle.tau_engine.specs.declared.status.Status.TheVariants as status
-use Rattle.tau_engine.specs.Recovery.{RecoverTells, IsBadLog, images_of}
+use Rattle.tau_engine.specs.Recovery.{EndsAsBad, EndsTangled, RecoverTells, IsBadLog, images_of}
 use Rattle.tau_engine.specs.Served.{served, used_by, reads_source, writes_at_end}
-use Rattle.tau_engine.specs.DiskFacts.{HasSpaced, Now}
-use Rattle.tau_engine.specs.Said.{SaysRun}
+use Rattle.tau_engine.specs.RunSays.{RunSays}
 use Rattle.tau_disk.specs.Used.{EachUsed, OnlyRead, AllCalls, RoseAt, IsClean, IsFirstStopped}
-use Rattle.tau_engine.specs.Outside.{Wrote, is_behind_reading}
+use Rattle.tau_engine.specs.Outside.{HasWorkload, Wrote, is_behind_reading}
 use Rattle.tau_disk.specs.Disk.{Rose}
-use Rattle.tau_engine.proofs.Longs.{none_is_long, long_told}
-use Rattle.tau_engine.proofs.Refusals.{told_refusal, refusal_of_run}
-use Rattle.tau_engine.proofs.Refused.{untouched_facts}
+use Rattle.tau_engine.proofs.Opened.{low_streams}
+use Rattle.tau_engine.proofs.Refusals.{told_refusal}
+use Rattle.tau_engine.proofs.RunClauses as of
+use Rattle.tau_engine.proofs.RunClauses.{may_end, only_memory}
 use Rattle.tau_engine.proofs.Recoveries.{handed_back, clean_of}
-use Rattle.tau_engine.proofs.Tops.{command_of_run, command_of_recovery, not_recovery, same_command, same_streams, within_served, same_load, not_both, says_at, other_end, runs_behind, recovers_well, ends_well, ends_unread, not_worked}
+use Rattle.tau_engine.proofs.Tops.{command_of_run, command_of_recovery, not_recovery, same_command, same_streams, same_load, not_both, says_at, other_end, runs_behind, recovers_well, ends_unread}
 use Rattle.tau_disk.specs.contracts.memory.MemDiskDisk.TheImpl.{ghosts}
 use Rattle.tau_engine.specs.Drill.{with_turns}
 use Rattle.tau_engine.proofs.BenchTops.{command_of_bench, benched_at}
@@ -37,7 +37,7 @@ used g c = sym (ap used_by (asked g c))
 
 abbrev Says : (g : Over) (c : goal.Joined-load g) → ℕ → ℕ → LogMode → Workload → Type 0
 Says g c n m mode load =
-    SaysRun g.D.Disk n m mode load c.args.disks.now.items c.run.new.disks.items g.K.Sink.tells (g.K.Sink.held c.args.sink.now) (g.K.Sink.held c.run.new.sink) (g.K.Sink.faults c.args.sink.now) (g.K.Sink.faults c.run.new.sink) c.run.result
+    RunSays g.D.Disk n m mode load c.args.disks.now.items c.run.new.disks.items g.K.Sink.tells (g.K.Sink.held c.args.sink.now) (g.K.Sink.held c.run.new.sink) (g.K.Sink.faults c.args.sink.now) (g.K.Sink.faults c.run.new.sink) c.run.result
 
 here : (g : Over) (c : goal.Joined-load g) → Says g c c.in-Ok-Run.n c.in-Ok-Run.m c.in-Ok-Run.mode c.in-Ok.load
 here g c = c.run.ensures.says
@@ -48,6 +48,9 @@ says g c n m mode words =
     says_at g.D.Disk c.in-Ok-Run.n c.in-Ok-Run.m n m c.in-Ok-Run.mode mode c.in-Ok.load c.in-Ok.load c.args.disks.now.items c.run.new.disks.items g.K.Sink.tells (g.K.Sink.held c.args.sink.now) (g.K.Sink.held c.run.new.sink) (g.K.Sink.faults c.args.sink.now) (g.K.Sink.faults c.run.new.sink)
     c.run.result q.0 q.1 q.2 refl (here g c)
 
+says_of : (g : Over) (c : goal.Joined-load g) (n m : ℕ) (mode : LogMode) (load : Workload) → served (map string_bytes c.args.words.now) ≡ Some (Run n m mode false) → g.S.Source.tells → HasWorkload (g.S.Source.left c.args.source.now) load → Says g c n m mode load
+says_of g c n m mode load words source read = subst (λ (l : Workload). Says g c n m mode l) (same_load (g.S.Source.left c.args.source.now) c.in-Ok.load load (c.in-Ok.ensures.load source) read) (says g c n m mode words)
+
 pub run-requires-clause-meant : goal.run-requires-clause-meant
 run-requires-clause-meant g c κs within = c.in-Ok.ensures.meant
 
@@ -55,16 +58,13 @@ pub run-requires-clause-streams_low : goal.run-requires-clause-streams_low
 run-requires-clause-streams_low g c κs within = (c.in-Ok-Run.ensures.within_run c.in-Ok-Run.n c.in-Ok-Run.m c.in-Ok-Run.mode c.in-Ok-Run.field-0-is).0.0
 
 pub run-requires-clause-streams_high : goal.run-requires-clause-streams_high
-run-requires-clause-streams_high g c κs within = (c.in-Ok-Run.ensures.within_run c.in-Ok-Run.n c.in-Ok-Run.m c.in-Ok-Run.mode c.in-Ok-Run.field-0-is).0.1
+run-requires-clause-streams_high g c κs within = low_streams (format_of c.in-Ok-Run.mode) c.in-Ok-Run.n (c.in-Ok-Run.ensures.within_run c.in-Ok-Run.n c.in-Ok-Run.m c.in-Ok-Run.mode c.in-Ok-Run.field-0-is).0.1
 
 pub run-requires-clause-low : goal.run-requires-clause-low
 run-requires-clause-low g c κs within = (c.in-Ok-Run.ensures.within_run c.in-Ok-Run.n c.in-Ok-Run.m c.in-Ok-Run.mode c.in-Ok-Run.field-0-is).1
 
 pub run-requires-clause-high : goal.run-requires-clause-high
-run-requires-clause-high g c κs within = (c.in-Ok-Run.ensures.within_run c.in-Ok-Run.n c.in-Ok-Run.m c.in-Ok-Run.mode c.in-Ok-Run.field-0-is).2
-
-pub run-requires-clause-narrow : goal.run-requires-clause-narrow
-run-requires-clause-narrow g c κs within = (c.in-Ok-Run.ensures.within_run c.in-Ok-Run.n c.in-Ok-Run.m c.in-Ok-Run.mode c.in-Ok-Run.field-0-is).3
+run-requires-clause-high g c κs within = (let few = (c.in-Ok-Run.ensures.within_run c.in-Ok-Run.n c.in-Ok-Run.m c.in-Ok-Run.mode c.in-Ok-Run.field-0-is).2 in omega (arith, few))
 
 pub run-requires-clause-runnable : goal.run-requires-clause-runnable
 run-requires-clause-runnable g c κs within = c.in-Ok.ensures.runnable
@@ -105,20 +105,30 @@ returns-in-Ok-clause-disk_fault_first g c j e tells = (here g c).stopped j e tel
 pub returns-in-Ok-clause-disk_fault_told : goal.returns-in-Ok-clause-disk_fault_told
 returns-in-Ok-clause-disk_fault_told g c e = subst (λ (k : ℕ). EachUsed (IsClean g.D.Disk.tells g.D.Disk.number g.D.Disk.fails) c.args.disks.now.items c.run.new.disks.items k) (used g c) ((here g c).clean e)
 
-pub returns-in-Ok-clause-not_empty : goal.returns-in-Ok-clause-not_empty
-returns-in-Ok-clause-not_empty g c j long e = (let f = (here g c).not_empty j long e in (c.in-Ok-Run.n, c.in-Ok-Run.m, c.in-Ok-Run.mode, asked g c, f.0, f.1))
-
-pub returns-in-Ok-clause-not_empty_told : goal.returns-in-Ok-clause-not_empty_told
-returns-in-Ok-clause-not_empty_told g c n m mode j long words source load read tells lt is = long_told g.D.Disk.seen c.args.disks.now.items c.run.result j long is ((says g c n m mode words).long j long lt tells is).bad (λ k other e. ((says g c n m mode words).not_empty k other e).1 tells)
-
 pub returns-in-Ok-clause-bad_log : goal.returns-in-Ok-clause-bad_log
-returns-in-Ok-clause-bad_log g c fault e = absurd (other_end c.run.result (status.BadLog fault) (here g c).kind refl e)
+returns-in-Ok-clause-bad_log g c fault e = inr (
+  c.in-Ok-Run.n,
+  c.in-Ok-Run.m,
+  c.in-Ok-Run.mode,
+  asked g c,
+  λ tells. (c.in-Ok.load, (λ reads. c.in-Ok.ensures.load reads), (here g c).bad_log fault e tells),
+)
 
 pub returns-in-Ok-clause-bad_log_told : goal.returns-in-Ok-clause-bad_log_told
 returns-in-Ok-clause-bad_log_told g c n p fault words tells is = absurd (not_recovery (served (map string_bytes c.args.words.now)) c.in-Ok-Run.n c.in-Ok-Run.m n p c.in-Ok-Run.mode (asked g c) words)
 
 pub returns-in-Ok-clause-tangled_told : goal.returns-in-Ok-clause-tangled_told
 returns-in-Ok-clause-tangled_told g c n p log words tells is none = absurd (not_recovery (served (map string_bytes c.args.words.now)) c.in-Ok-Run.n c.in-Ok-Run.m n p c.in-Ok-Run.mode (asked g c) words)
+
+pub returns-in-Ok-clause-unfit_told : goal.returns-in-Ok-clause-unfit_told
+returns-in-Ok-clause-unfit_told g c n m mode load fault words source read tells behind unfit =
+    of.bad_told g.D.Disk n m mode load c.args.disks.now.items c.run.new.disks.items g.K.Sink.tells (g.K.Sink.held c.args.sink.now) (g.K.Sink.held c.run.new.sink) (g.K.Sink.faults c.args.sink.now) (g.K.Sink.faults c.run.new.sink)
+    c.run.result (says_of g c n m mode load words source read) tells fault unfit
+
+pub returns-in-Ok-clause-stuck_told : goal.returns-in-Ok-clause-stuck_told
+returns-in-Ok-clause-stuck_told g c n m mode load log words source read tells behind reads fits none =
+    of.tangled_told g.D.Disk n m mode load c.args.disks.now.items c.run.new.disks.items g.K.Sink.tells (g.K.Sink.held c.args.sink.now) (g.K.Sink.held c.run.new.sink) (g.K.Sink.faults c.args.sink.now) (g.K.Sink.faults c.run.new.sink)
+    c.run.result (says_of g c n m mode load words source read) tells log reads fits none
 
 pub returns-in-Ok-clause-write_fault : goal.returns-in-Ok-clause-write_fault
 returns-in-Ok-clause-write_fault g c e = (here g c).sink e
@@ -136,23 +146,18 @@ pub returns-in-Ok-clause-source_unread : goal.returns-in-Ok-clause-source_unread
 returns-in-Ok-clause-source_unread g c tells reads = absurd (let f : true ≡ false = sym (ap reads_source (asked g c)) ∙ reads in cc f)
 
 pub returns-in-Ok-clause-refusal : goal.returns-in-Ok-clause-refusal
-returns-in-Ok-clause-refusal g c e = (let (j, (long, is)) = refusal_of_run c.run.result (here g c).kind e in ((here g c).asked j long is).0.told (λ none. (let f : status.NotEmpty j long ≡ status.NoMemory = sym is ∙ none in cc f)))
+returns-in-Ok-clause-refusal g c e = of.refusal_line g.D.Disk c.in-Ok-Run.n c.in-Ok-Run.m c.in-Ok-Run.mode c.in-Ok.load c.args.disks.now.items c.run.new.disks.items g.K.Sink.tells (g.K.Sink.held c.args.sink.now) (g.K.Sink.held c.run.new.sink) (g.K.Sink.faults c.args.sink.now) (g.K.Sink.faults c.run.new.sink)
+    c.run.result (here g c) e
 
 pub returns-in-Ok-clause-opening_fault : goal.returns-in-Ok-clause-opening_fault
-returns-in-Ok-clause-opening_fault g c n m i j long mode words e tells lt is = ((says g c n m mode words).long j long lt tells is).told (λ none. (let f : status.DiskFault i ≡ status.NoMemory = sym e ∙ none in cc f))
-
-pub returns-in-Ok-clause-making_fault : goal.returns-in-Ok-clause-making_fault
-returns-in-Ok-clause-making_fault g c n m j mode words e tells = (says g c n m mode words).told j e tells
+returns-in-Ok-clause-opening_fault g c n m j mode words e tells = of.opening_told g.D.Disk n m mode c.in-Ok.load c.args.disks.now.items c.run.new.disks.items g.K.Sink.tells (g.K.Sink.held c.args.sink.now) (g.K.Sink.held c.run.new.sink) (g.K.Sink.faults c.args.sink.now) (g.K.Sink.faults c.run.new.sink)
+    c.run.result (says g c n m mode words) j e tells
 
 pub returns-in-Ok-clause-silent : goal.returns-in-Ok-clause-silent
 returns-in-Ok-clause-silent g c e quiet = absurd (let f : false ≡ true = sym (ap writes_at_end (asked g c)) ∙ quiet in cc f)
 
 pub returns-in-Ok-clause-run : goal.returns-in-Ok-clause-run
-returns-in-Ok-clause-run g c n m mode load words tells read empty =
-    let q = same_command (served (map string_bytes c.args.words.now)) c.in-Ok-Run.n c.in-Ok-Run.m c.in-Ok-Run.mode n m mode (asked g c) words in
-    let same : c.in-Ok.load ≡ load = same_load (g.S.Source.left c.args.source.now) c.in-Ok.load load (c.in-Ok.ensures.load tells) read in
-    (says_at g.D.Disk c.in-Ok-Run.n c.in-Ok-Run.m n m c.in-Ok-Run.mode mode c.in-Ok.load load c.args.disks.now.items c.run.new.disks.items g.K.Sink.tells (g.K.Sink.held c.args.sink.now) (g.K.Sink.held c.run.new.sink) (g.K.Sink.faults c.args.sink.now) (g.K.Sink.faults c.run.new.sink)
-    c.run.result q.0 q.1 q.2 same (here g c)).facts
+returns-in-Ok-clause-run g c n m mode load words source read behind = says_of g c n m mode load words source read
 
 pub returns-in-Ok-clause-recover : goal.returns-in-Ok-clause-recover
 returns-in-Ok-clause-recover g c n p words tells = absurd (not_recovery (served (map string_bytes c.args.words.now)) c.in-Ok-Run.n c.in-Ok-Run.m n p c.in-Ok-Run.mode (asked g c) words)
@@ -169,29 +174,19 @@ returns-in-Ok-clause-before_disks g c e = absurd (runs_behind c.run.result (here
 pub returns-in-Ok-clause-bad_text_untouched : goal.returns-in-Ok-clause-bad_text_untouched
 returns-in-Ok-clause-bad_text_untouched g c tells reads fault has = absurd (not_both (g.S.Source.left c.args.source.now) c.in-Ok.load fault (c.in-Ok.ensures.load tells) has)
 
-pub returns-in-Ok-clause-not_empty_untouched : goal.returns-in-Ok-clause-not_empty_untouched
-returns-in-Ok-clause-not_empty_untouched g c n m mode j long words lt tells is = ((says g c n m mode words).long j long lt tells is).read
-
-pub returns-in-Ok-clause-asked : goal.returns-in-Ok-clause-asked
-returns-in-Ok-clause-asked g c j long e = subst (λ (k : ℕ). EachUsed (OnlyRead g.D.Disk.tells g.D.Disk.seen g.D.Disk.may_leave g.D.Disk.moment g.D.Disk.may_leave_since) c.args.disks.now.items c.run.new.disks.items k) (used g c) ((here g c).asked j long e).0.read
-
-pub returns-in-Ok-clause-asked_once : goal.returns-in-Ok-clause-asked_once
-returns-in-Ok-clause-asked_once g c j long e = subst (λ (k : ℕ). EachUsed (AllCalls g.D.Disk.tells g.D.Disk.number g.D.Disk.fails g.D.Disk.short 1) c.args.disks.now.items c.run.new.disks.items k) (used g c) ((here g c).asked j long e).1
-
 pub returns-in-Ok-clause-silent_text : goal.returns-in-Ok-clause-silent_text
 returns-in-Ok-clause-silent_text g c e reads tells none = absurd (none c.in-Ok.load (c.in-Ok.ensures.load tells))
 
-pub returns-in-Ok-clause-silent_long : goal.returns-in-Ok-clause-silent_long
-returns-in-Ok-clause-silent_long g c n m j long mode words e tells lt is = ((says g c n m mode words).long j long lt tells is).silent e
-
 pub returns-in-Ok-clause-moments : goal.returns-in-Ok-clause-moments
-returns-in-Ok-clause-moments g c n m mode words unborn = (says g c n m mode words).moments unborn
+returns-in-Ok-clause-moments g c n m mode words unborn = of.not_earlier g.D.Disk n m mode c.in-Ok.load c.args.disks.now.items c.run.new.disks.items g.K.Sink.tells (g.K.Sink.held c.args.sink.now) (g.K.Sink.held c.run.new.sink) (g.K.Sink.faults c.args.sink.now) (g.K.Sink.faults c.run.new.sink)
+    c.run.result (says g c n m mode words) unborn
 
-pub returns-in-Ok-clause-anchors : goal.returns-in-Ok-clause-anchors
-returns-in-Ok-clause-anchors g c n m mode load words tells read threads worked =
-    let same : c.in-Ok.load ≡ load = same_load (g.S.Source.left c.args.source.now) c.in-Ok.load load (c.in-Ok.ensures.load tells) read in
-    subst (λ (l : Workload). (j : ℕ) (image : List ℕ) → j < n → Now g.D.Disk.tells g.D.Disk.may_leave c.args.disks.now.items c.run.new.disks.items j image → HasSpaced (format_of mode) n j l image) same
-    ((says g c n m mode words).spaced (ap (λ (l : Workload). l.turns) same ∙ threads) worked)
+pub returns-in-Ok-clause-refused : goal.returns-in-Ok-clause-refused
+returns-in-Ok-clause-refused g c n m mode fault words e = of.refusal_synced g.D.Disk n m mode c.in-Ok.load c.args.disks.now.items c.run.new.disks.items g.K.Sink.tells (g.K.Sink.held c.args.sink.now) (g.K.Sink.held c.run.new.sink) (g.K.Sink.faults c.args.sink.now) (g.K.Sink.faults c.run.new.sink)
+    c.run.result (says g c n m mode words) fault e
+
+pub returns-in-Ok-clause-refused_calls : goal.returns-in-Ok-clause-refused_calls
+returns-in-Ok-clause-refused_calls g c n m mode fault words e = (says g c n m mode words).read_alone fault e
 
 pub returns-in-Ok-clause-recover_calls : goal.returns-in-Ok-clause-recover_calls
 returns-in-Ok-clause-recover_calls g c n p words e = absurd (not_recovery (served (map string_bytes c.args.words.now)) c.in-Ok-Run.n c.in-Ok-Run.m n p c.in-Ok-Run.mode (asked g c) words)
@@ -200,10 +195,11 @@ pub returns-in-Ok-clause-read : goal.returns-in-Ok-clause-read
 returns-in-Ok-clause-read g c n p words = absurd (not_recovery (served (map string_bytes c.args.words.now)) c.in-Ok-Run.n c.in-Ok-Run.m n p c.in-Ok-Run.mode (asked g c) words)
 
 pub returns-in-Ok-clause-run_done : goal.returns-in-Ok-clause-run_done
-returns-in-Ok-clause-run_done g c n m mode load words source tells read empty no_source no_sink no_disk =
-    let q = says g c n m mode words in
-    ends_well c.run.result q.kind (λ e. no_sink (q.sink e)) (λ j e. (let h = q.disk j e in no_disk j h.0 h.1))
-    (λ j long e. (let h = q.not_empty j long e in none_is_long g.D.Disk.seen c.args.disks.now.items g.D.Disk.tells n j long tells empty h.0 (h.1 tells)))
+returns-in-Ok-clause-run_done g c n m mode load log order words source tells read reads is fits no_source no_sink no_disk =
+    let q = says_of g c n m mode load words source read in
+    recovers_well c.run.result (may_end c.run.result q.kind) (λ e. no_sink (q.sink e)) (λ j e. (let h = q.disk j e in no_disk j h.0 h.1))
+    (of.not_bad g.D.Disk n m mode load c.args.disks.now.items c.run.new.disks.items g.K.Sink.tells (g.K.Sink.held c.args.sink.now) (g.K.Sink.held c.run.new.sink) (g.K.Sink.faults c.args.sink.now) (g.K.Sink.faults c.run.new.sink)
+    c.run.result q tells log order reads fits is)
 
 pub returns-in-Ok-clause-recover_done : goal.returns-in-Ok-clause-recover_done
 returns-in-Ok-clause-recover_done g c n p log order words tells is ordered no_sink no_disk = absurd (not_recovery (served (map string_bytes c.args.words.now)) c.in-Ok-Run.n c.in-Ok-Run.m n p c.in-Ok-Run.mode (asked g c) words)
@@ -211,45 +207,33 @@ returns-in-Ok-clause-recover_done g c n p log order words tells is ordered no_si
 -- ---- no run was begun
 
 pub returns-in-Err-NoMemory-clause-run : goal.returns-in-Err-NoMemory-clause-run
-returns-in-Err-NoMemory-clause-run g c n m mode load words tells read empty =
-    let within = within_served (map string_bytes c.args.words.now) n m mode words in
-    untouched_facts g.D.Disk (g.met.D.Disk g.world.𝓛 g.world.𝓜 g.world.𝓡 ((λ s x. x), (λ x. x), (λ x. x), λ x. x)).only_now n m mode load within.0 within.1 within.3 within.2 (catalogue_load (g.S.Source.left c.args.source.now) load read.1) c.args.disks.now.items
-    g.K.Sink.tells (g.K.Sink.held c.args.sink.now) (g.K.Sink.held c.args.sink.now) (g.K.Sink.faults c.args.sink.now) (g.K.Sink.faults c.args.sink.now) status.NoMemory refl (λ e told. search rules)
-
-pub returns-in-Err-NoMemory-clause-anchors : goal.returns-in-Err-NoMemory-clause-anchors
-returns-in-Err-NoMemory-clause-anchors g c n m mode load words tells read threads worked = absurd worked
+returns-in-Err-NoMemory-clause-run g c n m mode load words source read behind =
+    of.untouched g.D.Disk n m mode load c.args.disks.now.items g.K.Sink.tells (g.K.Sink.held c.args.sink.now) (g.K.Sink.held c.args.sink.now) (g.K.Sink.faults c.args.sink.now) (g.K.Sink.faults c.args.sink.now) status.NoMemory refl (λ e told. search rules)
 
 pub returns-in-Err-Usage-clause-run : goal.returns-in-Err-Usage-clause-run
-returns-in-Err-Usage-clause-run g c n m mode load words tells read empty = absurd (let f : None ≡ Some (Run n m mode false) = sym (c.in-Err-Usage.ensures.usage (search rules)) ∙ words in cc f)
+returns-in-Err-Usage-clause-run g c n m mode load words source read behind = absurd (let f : None ≡ Some (Run n m mode false) = sym (c.in-Err-Usage.ensures.usage (search rules)) ∙ words in cc f)
 
 pub returns-in-Err-clause-run : goal.returns-in-Err-clause-run
-returns-in-Err-clause-run g c n m mode load words tells read empty =
-    let within = within_served (map string_bytes c.args.words.now) n m mode words in
-    let kind : Rattle.tau_engine.specs.Outside.ends_reading c.in-Err.refusal ≡ true = c.in-Err.ensures.kind in
-    let ended = ends_unread (Wrote g.K.Sink.tells (g.K.Sink.held c.args.sink.now) (g.K.Sink.held c.refuse-in-Err.new.sink)) (Rose (g.K.Sink.faults c.args.sink.now) (g.K.Sink.faults c.refuse-in-Err.new.sink)) c.in-Err.refusal c.refuse-in-Err.result kind c.refuse-in-Err.ensures in
-    untouched_facts g.D.Disk (g.met.D.Disk g.world.𝓛 g.world.𝓜 g.world.𝓡 ((λ s x. x), (λ x. x), (λ x. x), λ x. x)).only_now n m mode load within.0 within.1 within.3 within.2 (catalogue_load (g.S.Source.left c.args.source.now) load read.1) c.args.disks.now.items
-    g.K.Sink.tells (g.K.Sink.held c.args.sink.now) (g.K.Sink.held c.refuse-in-Err.new.sink) (g.K.Sink.faults c.args.sink.now) (g.K.Sink.faults c.refuse-in-Err.new.sink) c.refuse-in-Err.result ended.0 ended.1
+returns-in-Err-clause-run g c n m mode load words source read behind =
+    let ended = ends_unread (Wrote g.K.Sink.tells (g.K.Sink.held c.args.sink.now) (g.K.Sink.held c.refuse-in-Err.new.sink)) (Rose (g.K.Sink.faults c.args.sink.now) (g.K.Sink.faults c.refuse-in-Err.new.sink)) c.in-Err.refusal c.refuse-in-Err.result c.in-Err.ensures.kind c.refuse-in-Err.ensures in
+    of.untouched g.D.Disk n m mode load c.args.disks.now.items g.K.Sink.tells (g.K.Sink.held c.args.sink.now) (g.K.Sink.held c.refuse-in-Err.new.sink) (g.K.Sink.faults c.args.sink.now) (g.K.Sink.faults c.refuse-in-Err.new.sink) c.refuse-in-Err.result (only_memory c.refuse-in-Err.result ended.0 behind) ended.1
 
 pub returns-in-Ok-Recover-clause-run : goal.returns-in-Ok-Recover-clause-run
-returns-in-Ok-Recover-clause-run g c n m mode load words tells read empty =
+returns-in-Ok-Recover-clause-run g c n m mode load words source read behind =
     absurd (not_recovery (served (map string_bytes c.args.words.now)) n m c.in-Ok-Recover.n c.in-Ok-Recover.p mode words
     (command_of_recovery (served (map string_bytes c.args.words.now)) c.in-Ok-Recover.field-0 c.in-Ok-Recover.n c.in-Ok-Recover.p c.in-Ok-Recover.ensures.ok c.in-Ok-Recover.field-0-is))
+
+pub returns-in-Err-clause-unfit_told : goal.returns-in-Err-clause-unfit_told
+returns-in-Err-clause-unfit_told g c n m mode load fault words source read tells behind unfit = subst (λ (s : Status). EndsAsBad fault s) (sym (only_memory c.refuse-in-Err.result (ends_unread (Wrote g.K.Sink.tells (g.K.Sink.held c.args.sink.now) (g.K.Sink.held c.refuse-in-Err.new.sink)) (Rose (g.K.Sink.faults c.args.sink.now) (g.K.Sink.faults c.refuse-in-Err.new.sink)) c.in-Err.refusal c.refuse-in-Err.result c.in-Err.ensures.kind c.refuse-in-Err.ensures).0 behind)) tt
+
+pub returns-in-Err-clause-stuck_told : goal.returns-in-Err-clause-stuck_told
+returns-in-Err-clause-stuck_told g c n m mode load log words source read tells behind reads fits none = subst (λ (s : Status). EndsTangled log s) (sym (only_memory c.refuse-in-Err.result (ends_unread (Wrote g.K.Sink.tells (g.K.Sink.held c.args.sink.now) (g.K.Sink.held c.refuse-in-Err.new.sink)) (Rose (g.K.Sink.faults c.args.sink.now) (g.K.Sink.faults c.refuse-in-Err.new.sink)) c.in-Err.refusal c.refuse-in-Err.result c.in-Err.ensures.kind c.refuse-in-Err.ensures).0 behind)) tt
 
 pub returns-in-Err-clause-refusal : goal.returns-in-Err-clause-refusal
 returns-in-Err-clause-refusal g c e = told_refusal (Wrote g.K.Sink.tells (g.K.Sink.held c.args.sink.now) (g.K.Sink.held c.refuse-in-Err.new.sink)) (Rose (g.K.Sink.faults c.args.sink.now) (g.K.Sink.faults c.refuse-in-Err.new.sink)) c.in-Err.refusal c.refuse-in-Err.result c.refuse-in-Err.ensures e
 
-pub returns-in-Err-clause-anchors : goal.returns-in-Err-clause-anchors
-returns-in-Err-clause-anchors g c n m mode load words tells read threads worked =
-    absurd (not_worked n (RoseAt g.D.Disk.faults c.args.disks.now.items c.args.disks.now.items) c.refuse-in-Err.result
-    (ends_unread (Wrote g.K.Sink.tells (g.K.Sink.held c.args.sink.now) (g.K.Sink.held c.refuse-in-Err.new.sink)) (Rose (g.K.Sink.faults c.args.sink.now) (g.K.Sink.faults c.refuse-in-Err.new.sink)) c.in-Err.refusal c.refuse-in-Err.result c.in-Err.ensures.kind c.refuse-in-Err.ensures).0 worked)
-
 pub returns-in-Err-clause-silent_text : goal.returns-in-Err-clause-silent_text
-returns-in-Err-clause-silent_text g c e reads tells none =
-    (ends_unread (Wrote g.K.Sink.tells (g.K.Sink.held c.args.sink.now) (g.K.Sink.held c.refuse-in-Err.new.sink)) (Rose (g.K.Sink.faults c.args.sink.now) (g.K.Sink.faults c.refuse-in-Err.new.sink)) c.in-Err.refusal c.refuse-in-Err.result c.in-Err.ensures.kind c.refuse-in-Err.ensures).1 e
-
-pub returns-in-Err-clause-silent_long : goal.returns-in-Err-clause-silent_long
-returns-in-Err-clause-silent_long g c n m j long mode words e tells lt is =
-    (ends_unread (Wrote g.K.Sink.tells (g.K.Sink.held c.args.sink.now) (g.K.Sink.held c.refuse-in-Err.new.sink)) (Rose (g.K.Sink.faults c.args.sink.now) (g.K.Sink.faults c.refuse-in-Err.new.sink)) c.in-Err.refusal c.refuse-in-Err.result c.in-Err.ensures.kind c.refuse-in-Err.ensures).1 e
+returns-in-Err-clause-silent_text g c e reads tells none = (ends_unread (Wrote g.K.Sink.tells (g.K.Sink.held c.args.sink.now) (g.K.Sink.held c.refuse-in-Err.new.sink)) (Rose (g.K.Sink.faults c.args.sink.now) (g.K.Sink.faults c.refuse-in-Err.new.sink)) c.in-Err.refusal c.refuse-in-Err.result c.in-Err.ensures.kind c.refuse-in-Err.ensures).1 e
 
 -- ---- a recovery
 
@@ -258,13 +242,40 @@ returns-in-Ok-Recover-clause-write_fault_late g c n m mode words e =
     absurd (not_recovery (served (map string_bytes c.args.words.now)) n m c.in-Ok-Recover.n c.in-Ok-Recover.p mode words
     (command_of_recovery (served (map string_bytes c.args.words.now)) c.in-Ok-Recover.field-0 c.in-Ok-Recover.n c.in-Ok-Recover.p c.in-Ok-Recover.ensures.ok c.in-Ok-Recover.field-0-is))
 
+pub returns-in-Ok-Recover-clause-unfit_told : goal.returns-in-Ok-Recover-clause-unfit_told
+returns-in-Ok-Recover-clause-unfit_told g c n m mode load fault words source read tells behind unfit =
+    absurd (not_recovery (served (map string_bytes c.args.words.now)) n m c.in-Ok-Recover.n c.in-Ok-Recover.p mode words
+    (command_of_recovery (served (map string_bytes c.args.words.now)) c.in-Ok-Recover.field-0 c.in-Ok-Recover.n c.in-Ok-Recover.p c.in-Ok-Recover.ensures.ok c.in-Ok-Recover.field-0-is))
+
+pub returns-in-Ok-Recover-clause-stuck_told : goal.returns-in-Ok-Recover-clause-stuck_told
+returns-in-Ok-Recover-clause-stuck_told g c n m mode load log words source read tells behind reads fits none =
+    absurd (not_recovery (served (map string_bytes c.args.words.now)) n m c.in-Ok-Recover.n c.in-Ok-Recover.p mode words
+    (command_of_recovery (served (map string_bytes c.args.words.now)) c.in-Ok-Recover.field-0 c.in-Ok-Recover.n c.in-Ok-Recover.p c.in-Ok-Recover.ensures.ok c.in-Ok-Recover.field-0-is))
+
+pub returns-in-Ok-Recover-clause-opening_fault : goal.returns-in-Ok-Recover-clause-opening_fault
+returns-in-Ok-Recover-clause-opening_fault g c n m j mode words e tells =
+    absurd (not_recovery (served (map string_bytes c.args.words.now)) n m c.in-Ok-Recover.n c.in-Ok-Recover.p mode words
+    (command_of_recovery (served (map string_bytes c.args.words.now)) c.in-Ok-Recover.field-0 c.in-Ok-Recover.n c.in-Ok-Recover.p c.in-Ok-Recover.ensures.ok c.in-Ok-Recover.field-0-is))
+
+pub returns-in-Ok-Recover-clause-refused : goal.returns-in-Ok-Recover-clause-refused
+returns-in-Ok-Recover-clause-refused g c n m mode fault words e =
+    absurd (not_recovery (served (map string_bytes c.args.words.now)) n m c.in-Ok-Recover.n c.in-Ok-Recover.p mode words
+    (command_of_recovery (served (map string_bytes c.args.words.now)) c.in-Ok-Recover.field-0 c.in-Ok-Recover.n c.in-Ok-Recover.p c.in-Ok-Recover.ensures.ok c.in-Ok-Recover.field-0-is))
+
+pub returns-in-Ok-Recover-clause-refused_calls : goal.returns-in-Ok-Recover-clause-refused_calls
+returns-in-Ok-Recover-clause-refused_calls g c n m mode fault words e =
+    absurd (not_recovery (served (map string_bytes c.args.words.now)) n m c.in-Ok-Recover.n c.in-Ok-Recover.p mode words
+    (command_of_recovery (served (map string_bytes c.args.words.now)) c.in-Ok-Recover.field-0 c.in-Ok-Recover.n c.in-Ok-Recover.p c.in-Ok-Recover.ensures.ok c.in-Ok-Recover.field-0-is))
+
+pub returns-in-Ok-Recover-clause-run_done : goal.returns-in-Ok-Recover-clause-run_done
+returns-in-Ok-Recover-clause-run_done g c n m mode load log order words source tells read reads is fits no_source no_sink no_disk =
+    absurd (not_recovery (served (map string_bytes c.args.words.now)) n m c.in-Ok-Recover.n c.in-Ok-Recover.p mode words
+    (command_of_recovery (served (map string_bytes c.args.words.now)) c.in-Ok-Recover.field-0 c.in-Ok-Recover.n c.in-Ok-Recover.p c.in-Ok-Recover.ensures.ok c.in-Ok-Recover.field-0-is))
+
 pub returns-in-Ok-Recover-clause-moments : goal.returns-in-Ok-Recover-clause-moments
 returns-in-Ok-Recover-clause-moments g c n m mode words unborn =
     absurd (not_recovery (served (map string_bytes c.args.words.now)) n m c.in-Ok-Recover.n c.in-Ok-Recover.p mode words
     (command_of_recovery (served (map string_bytes c.args.words.now)) c.in-Ok-Recover.field-0 c.in-Ok-Recover.n c.in-Ok-Recover.p c.in-Ok-Recover.ensures.ok c.in-Ok-Recover.field-0-is))
-
-pub returns-in-Ok-Recover-clause-silent_long : goal.returns-in-Ok-Recover-clause-silent_long
-returns-in-Ok-Recover-clause-silent_long g c n m j long mode words e tells lt is = c.recover.ensures.silent e
 
 pub returns-in-Ok-Recover-clause-recover_calls : goal.returns-in-Ok-Recover-clause-recover_calls
 returns-in-Ok-Recover-clause-recover_calls g c n p words e =
@@ -331,7 +342,8 @@ returns-in-Ok-Recover-clause-disk_fault_told g c e =
 pub returns-in-Ok-Recover-clause-bad_log : goal.returns-in-Ok-Recover-clause-bad_log
 returns-in-Ok-Recover-clause-bad_log g c fault e =
     let asked : served (map string_bytes c.args.words.now) ≡ Some (Recover c.in-Ok-Recover.n c.in-Ok-Recover.p) =
-    command_of_recovery (served (map string_bytes c.args.words.now)) c.in-Ok-Recover.field-0 c.in-Ok-Recover.n c.in-Ok-Recover.p c.in-Ok-Recover.ensures.ok c.in-Ok-Recover.field-0-is in (
+    command_of_recovery (served (map string_bytes c.args.words.now)) c.in-Ok-Recover.field-0 c.in-Ok-Recover.n c.in-Ok-Recover.p c.in-Ok-Recover.ensures.ok c.in-Ok-Recover.field-0-is in
+    inl (
       c.in-Ok-Recover.n,
       c.in-Ok-Recover.p,
       asked,

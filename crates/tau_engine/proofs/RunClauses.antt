@@ -1,0 +1,270 @@
+-- What follows of all that is said of a call that was to run a workload.
+use Rattle.std.proofs.Common.{ℕ, ◌+◌, ◌-◌, ◌<◌, ◌≤◌, ◌≡◌, ◌⊎◌, inl, inr, true, false, List, [], map, length, refl, sym, ap, subst, ◌∙◌, arith}
+use Rattle.std.specs.Prelude.{None, Some, Ok, Err, Result, slice_index}
+use Rattle.tau_base.specs.declared.format.Format.{Format}
+use Rattle.tau_base.specs.declared.value.LogMode.{LogMode}
+use Rattle.tau_base.specs.Modes.{format_of}
+use Rattle.tau_base.proofs.Logic.{below_or_not}
+use Rattle.tau_disk.specs.declared.disk.Disk.{Ghosts}
+use Rattle.tau_disk.specs.Disk.{Rose}
+use Rattle.tau_disk.specs.Stages.{OnlySynced}
+use Rattle.tau_disk.specs.Used.{EachIn, EachUsed, Made}
+use Rattle.tau_disk.proofs.Syncing.{only_none}
+use Rattle.tau_text.specs.declared.load.Workload.{Workload}
+use Rattle.tau_text.specs.Canonical.{declarations_text}
+use Rattle.tau_scan.specs.declared.fault.LogFault.{LogFault}
+use Rattle.tau_scan.specs.declared.log.Log.{Log}
+use Rattle.tau_scan.specs.Begins.{begins_fault}
+use Rattle.tau_scan.specs.Reading.{◌>>=◌, contents_of, log_as, log_of, log_of_contents}
+use Rattle.tau_scan.specs.Taken.{Kept}
+use Rattle.tau_replay.specs.Redone.{IsOrderOf}
+use Rattle.tau_begin.specs.Reading.{calls_before_writes}
+use Rattle.tau_run.specs.RunFacts.{WroteFront}
+use Rattle.tau_engine.specs.declared.status.Status.{Status}
+use Rattle.tau_engine.specs.declared.status.Status.TheVariants as status
+use Rattle.tau_engine.specs.DiskFacts.{NextClean, NotEarlier}
+use Rattle.tau_engine.specs.Fault.{fault_text, is_refusal}
+use Rattle.tau_engine.specs.Opening.{EmptyAreUnborn, opening_calls}
+use Rattle.tau_engine.specs.Outside.{FailsTold, Wrote, ends_reading, ends_recovery, is_before_disks}
+use Rattle.tau_engine.specs.Recovery.{EndsAsBad, EndsTangled, IsTangle, IsUnfit, images_of}
+use Rattle.tau_engine.specs.RunSays.{EndsRun, EndsUnwritten, HasRun, IsRunRefused, MayEnd, OnlyOpened, RunSays}
+
+-- a run ends in one of the ways in which a recovery does
+pub may_end : (s : Status) → MayEnd s → ends_recovery s ≡ true
+may_end status.Ok may = refl
+may_end status.NoMemory may = refl
+may_end status.WriteFault may = refl
+may_end (status.DiskFault j) may = refl
+may_end (status.BadLog fault) may = refl
+may_end status.Usage may = absurd may
+may_end (status.BadText at why) may = absurd may
+may_end status.ReadFault may = absurd may
+may_end status.TooLong may = absurd may
+
+-- ---- the log of these images
+
+log_there : (f : Format) (images contents : List (List ℕ)) (log : Log) → contents_of f images ≡ Ok contents → log_of_contents f contents ≡ Ok log → log_of (Some f) images ≡ Ok log
+unfolding log_as
+log_there f images contents log e is = ap (λ (r : Result (List (List ℕ)) LogFault). r >>= log_of_contents f) e ∙ is
+
+module _ (f : Format) (images : List (List ℕ)) where
+  same_log : (a b : Log) → log_of (Some f) images ≡ Ok a → log_of (Some f) images ≡ Ok b → a ≡ b
+  same_log a b one other = (let both : Ok a ≡ Ok b = sym one ∙ other in cc)
+
+  no_log : (fault : LogFault) (a : Log) → log_of (Some f) images ≡ Err fault → log_of (Some f) images ≡ Ok a → ⊥
+  no_log fault a bad good = (let both : Err fault ≡ Ok a = sym bad ∙ good in cc both)
+
+  no_fault : (text : List ℕ) (log : Log) (fault : LogFault) → begins_fault text (map length images) log ≡ Some fault → begins_fault text (map length images) log ≡ None → ⊥
+  no_fault text log fault is none = (let both : Some fault ≡ None = sym is ∙ none in cc both)
+
+  -- a first cause is the one that was found
+  pub same_fault : (text : List ℕ) (fault other : LogFault) → IsUnfit f text images fault → IsRunRefused f text images other → other ≡ fault
+  same_fault text fault other (inl bad) (inl found) = (let both : Err other ≡ Err fault = sym found ∙ bad in cc)
+  same_fault text fault other (inl bad) (inr (log, reads, on)) = absurd (no_log fault log bad reads)
+  same_fault text fault other (inr (log, reads, is)) (inl found) = absurd (no_log other log found reads)
+  same_fault text fault other (inr (log, reads, is)) (inr (log', reads', inl found)) =
+      let here = subst (λ (l : Log). begins_fault text (map length images) l ≡ Some other) (same_log log' log reads' reads) found in
+      (let both : Some other ≡ Some fault = sym here ∙ is in cc)
+  same_fault text fault other (inr (log, reads, is)) (inr (log', reads', inr tangled)) =
+      absurd (no_fault text log fault is (subst (λ (l : Log). begins_fault text (map length images) l ≡ None) (same_log log' log reads' reads) tangled.0))
+
+  -- of a log from which a run may go on but for its order, the cause is where it is tangled
+  pub same_tangle : (text : List ℕ) (log : Log) (other : LogFault) → log_of (Some f) images ≡ Ok log → begins_fault text (map length images) log ≡ None → IsRunRefused f text images other → IsTangle log other × ((order : List Kept) → IsOrderOf log order → ⊥)
+  same_tangle text log other reads none (inl found) = absurd (no_log other log found reads)
+  same_tangle text log other reads none (inr (log', reads', inl found)) = absurd (no_fault text log other (subst (λ (l : Log). begins_fault text (map length images) l ≡ Some other) (same_log log' log reads' reads) found) none)
+  same_tangle text log other reads none (inr (log', reads', inr (fits, tangle, stuck))) =
+      subst (λ (l : Log). IsTangle l other × ((order : List Kept) → IsOrderOf l order → ⊥)) (same_log log' log reads' reads) (tangle, stuck)
+
+-- ---- nothing was touched
+
+-- a call that ended before its run, but not where no disk is touched, ran out of memory
+pub only_memory : (s : Status) → ends_reading s ≡ true → is_before_disks s ≡ false → s ≡ status.NoMemory
+only_memory status.NoMemory kind behind = refl
+only_memory status.Usage kind behind = absurd (cc behind)
+only_memory (status.BadText at why) kind behind = absurd (cc behind)
+only_memory status.ReadFault kind behind = absurd (cc behind)
+only_memory status.TooLong kind behind = absurd (cc behind)
+only_memory status.Ok kind behind = absurd (cc kind)
+only_memory status.WriteFault kind behind = absurd (cc kind)
+only_memory (status.DiskFault j) kind behind = absurd (cc kind)
+only_memory (status.BadLog fault) kind behind = absurd (cc kind)
+
+module _ {D : Type 0} (G : Ghosts D) (n m : ℕ) (mode : LogMode) (load : Workload) (old : List D) (hears : Type 0) (held held' : List ℕ) (faults faults' : ℕ) where
+  -- memory ran out before the disks were asked
+  out_of_memory : Wrote hears held held' [] → RunSays G n m mode load old old hears held held' faults faults' status.NoMemory
+  out_of_memory silent = record {
+    tells = inl (record { ends = silent; only = λ j d lt was. (d, was, only_none G d); read = λ fault e. absurd (cc) });
+    kind = tt;
+    disk = λ j e. absurd (cc);
+    stopped = λ j e t. absurd (cc);
+    clean = λ e. absurd (cc);
+    sink = λ e. absurd (cc);
+    opened = λ e. absurd (cc);
+    bad_log = λ fault e. absurd (cc);
+    read_alone = λ fault e. absurd (cc);
+    rest = refl;
+  }
+
+  pub untouched : (answer : Status) → answer ≡ status.NoMemory → (answer ≡ status.NoMemory → Wrote hears held held' []) → RunSays G n m mode load old old hears held held' faults faults' answer
+  untouched answer is silent = subst (λ (s : Status). RunSays G n m mode load old old hears held held' faults faults' s) (sym is) (out_of_memory (silent is))
+
+-- ---- what was said
+
+module _ {D : Type 0} (G : Ghosts D) (n m : ℕ) (mode : LogMode) (load : Workload) (old new : List D) (hears : Type 0) (held held' : List ℕ) (faults faults' : ℕ) (answer : Status) (says : RunSays G n m mode load old new hears held held' faults faults' answer) where
+  abbrev f : Format
+  f = format_of mode
+
+  abbrev text : List ℕ
+  text = declarations_text load.declarations
+
+  abbrev images : List (List ℕ)
+  images = images_of G.seen old n
+
+  abbrev Unwritten : Status → Type 0
+  Unwritten s = EndsUnwritten G n m mode load old new hears held held' faults faults' answer s
+
+  -- the log on which the run went on
+  has_log : (run : HasRun G n m mode load old new hears held held' faults faults' answer) → G.tells → log_of (Some f) images ≡ Ok run.start.log
+  has_log run tells = log_there f images run.start.old run.start.log (run.contents tells) run.begins.reads
+
+  -- ---- a refusal
+
+  line_of : (s : Status) → Unwritten s → is_refusal s ≡ true → WroteFront (Wrote hears held held') (Rose faults faults') (fault_text answer)
+  line_of (status.BadLog fault) ends e = ends
+  line_of status.NoMemory ends e = absurd (cc e)
+  line_of (status.DiskFault j) ends e = absurd (cc e)
+  line_of status.Ok ends e = absurd ends
+  line_of status.WriteFault ends e = absurd ends
+  line_of status.Usage ends e = absurd ends
+  line_of (status.BadText at why) ends e = absurd ends
+  line_of status.ReadFault ends e = absurd ends
+  line_of status.TooLong ends e = absurd ends
+
+  runs_well : (s : Status) → EndsRun s → is_refusal s ≡ true → ⊥
+  runs_well status.Ok ends e = cc e
+  runs_well status.NoMemory ends e = cc e
+  runs_well status.WriteFault ends e = cc e
+  runs_well (status.DiskFault j) ends e = cc e
+  runs_well (status.BadLog fault) ends e = ends
+  runs_well status.Usage ends e = ends
+  runs_well (status.BadText at why) ends e = ends
+  runs_well status.ReadFault ends e = ends
+  runs_well status.TooLong ends e = ends
+
+  pub refusal_line : is_refusal answer ≡ true → WroteFront (Wrote hears held held') (Rose faults faults') (fault_text answer)
+  refusal_line e = by says.tells
+    where
+      by : OnlyOpened G n m mode load old new hears held held' faults faults' answer ⊎ HasRun G n m mode load old new hears held held' faults faults' answer → WroteFront (Wrote hears held held') (Rose faults faults') (fault_text answer)
+      by (inl only) = line_of answer only.ends e
+      by (inr run) = absurd (runs_well answer run.ends e)
+
+  pub refusal_synced : (fault : LogFault) → answer ≡ status.BadLog fault → EachUsed (OnlySynced G) old new n
+  refusal_synced fault e = by says.tells
+    where
+      by : OnlyOpened G n m mode load old new hears held held' faults faults' answer ⊎ HasRun G n m mode load old new hears held held' faults faults' answer → EachUsed (OnlySynced G) old new n
+      by (inl only) = only.only
+      by (inr run) = absurd (subst EndsRun e run.ends)
+
+  -- ---- a disk that failed
+
+  calls_are : (j : ℕ) → calls_before_writes (slice_index (map length images) j) ≤ opening_calls (map length images) j
+  calls_are j = omega arith
+
+  -- its call was one of those that open its stream, or a later one
+  pub opening_told : (j : ℕ) → answer ≡ status.DiskFault j → G.tells → FailsTold (opening_calls (map length images) j) (Made G.number G.short old new j) (WroteFront (Wrote hears held held') (Rose faults faults') (fault_text answer))
+  opening_told j e tells = by says.tells
+    where
+      unwritten : (s : Status) → answer ≡ s → Unwritten s → s ≡ status.DiskFault j → FailsTold (opening_calls (map length images) j) (Made G.number G.short old new j) (WroteFront (Wrote hears held held') (Rose faults faults') (fault_text answer))
+      unwritten (status.DiskFault i) is ends f =
+          let same : i ≡ j = cc in
+          let (k, le, made) = ends.0 tells in
+          let few = calls_are i in
+          subst (λ (x : ℕ). FailsTold (opening_calls (map length images) x) (Made G.number G.short old new x) (WroteFront (Wrote hears held held') (Rose faults faults') (fault_text answer))) same (inl (k, omega (arith, le, few), made, ends.1))
+      unwritten status.NoMemory is ends f = absurd (cc f)
+      unwritten (status.BadLog fault) is ends f = absurd (cc f)
+      unwritten status.Ok is ends f = absurd ends
+      unwritten status.WriteFault is ends f = absurd ends
+      unwritten status.Usage is ends f = absurd ends
+      unwritten (status.BadText at why) is ends f = absurd ends
+      unwritten status.ReadFault is ends f = absurd ends
+      unwritten status.TooLong is ends f = absurd ends
+
+      -- none of the calls that open its stream was to fail
+      after : EachIn (λ i. i < n) (λ i. NextClean G.tells G.number G.fails (opening_calls (map length images) i)) old new → (k : ℕ) × (opening_calls (map length images) j < k) × Made G.number G.short old new j k
+      after clean =
+          let (d, d', was, is, stop) = (says.stopped j e tells).0 in
+          let (f, at, next) = clean j d (says.disk j e).0 was in
+          elim (stop tells) [
+            | inl memory ↦ (opening_calls (map length images) j + 1, omega arith, (d, d', was, is, λ whole. absurd (let bad : true ≡ false = sym memory ∙ whole in cc bad)))
+            | inr made ↦ elim (below_or_not (G.number d + opening_calls (map length images) j) (G.number d')) [
+              | inl late ↦ (G.number d' - G.number d, omega (arith, late), (d, d', was, is, λ whole. omega (arith, late)))
+              | inr early ↦ absurd (let bad : true ≡ false = sym made.1 ∙ next tells (G.number d') made.0 early in cc bad)
+            ]
+          ]
+
+      by : OnlyOpened G n m mode load old new hears held held' faults faults' answer ⊎ HasRun G n m mode load old new hears held held' faults faults' answer → FailsTold (opening_calls (map length images) j) (Made G.number G.short old new j) (WroteFront (Wrote hears held held') (Rose faults faults') (fault_text answer))
+      by (inl only) = unwritten answer refl only.ends e
+      by (inr run) = elim (run.fails j e) [
+        | inl starting ↦ (let (k, late, le, made) = starting.0 in inl (k, le, made tells, starting.1))
+        | inr running ↦ inr (after running.1)
+      ]
+
+  -- ---- moments
+
+  pub not_earlier : EmptyAreUnborn G old n → EachUsed (NotEarlier G.tells G.moment) old new n
+  not_earlier unborn = by says.tells
+    where
+      by : OnlyOpened G n m mode load old new hears held held' faults faults' answer ⊎ HasRun G n m mode load old new hears held held' faults faults' answer → EachUsed (NotEarlier G.tells G.moment) old new n
+      by (inl only) j d lt was = let (e, is, synced) = only.only j d lt was in (e, is, λ t. synced.moments.later)
+      by (inr run) j d lt was =
+          let (e, is, has) = run.barriers unborn j d lt was in
+          (e, is, λ t. (let low = (has t).low in let high = (has t).high in omega (arith, low, high)))
+
+  -- ---- a bad log
+
+  module _ (tells : G.tells) where
+    pub bad_told : (fault : LogFault) → IsUnfit f text images fault → EndsAsBad fault answer
+    bad_told fault is = by says.tells
+      where
+        unwritten : (s : Status) → answer ≡ s → Unwritten s → EndsAsBad fault s
+        unwritten status.NoMemory e ends = tt
+        unwritten (status.DiskFault j) e ends = tt
+        unwritten (status.BadLog other) e ends = same_fault f images text fault other is (says.bad_log other e tells)
+        unwritten status.Ok e ends = absurd ends
+        unwritten status.WriteFault e ends = absurd ends
+        unwritten status.Usage e ends = absurd ends
+        unwritten (status.BadText at why) e ends = absurd ends
+        unwritten status.ReadFault e ends = absurd ends
+        unwritten status.TooLong e ends = absurd ends
+
+        begun : (log : Log) → log_of (Some f) images ≡ Ok log → begins_fault text (map length images) log ≡ None → IsUnfit f text images fault → ⊥
+        begun log reads fits (inl bad) = no_log f images fault log bad reads
+        begun log reads fits (inr (log', reads', found)) = no_fault f images text log fault (subst (λ (l : Log). begins_fault text (map length images) l ≡ Some fault) (same_log f images log' log reads' reads) found) fits
+
+        by : OnlyOpened G n m mode load old new hears held held' faults faults' answer ⊎ HasRun G n m mode load old new hears held held' faults faults' answer → EndsAsBad fault answer
+        by (inl only) = unwritten answer refl only.ends
+        by (inr run) = absurd (begun run.start.log (has_log run tells) (run.fits tells) is)
+
+    pub tangled_told : (log : Log) → log_of (Some f) images ≡ Ok log → begins_fault text (map length images) log ≡ None → ((order : List Kept) → IsOrderOf log order → ⊥) → EndsTangled log answer
+    tangled_told log reads fits none = by says.tells
+      where
+        unwritten : (s : Status) → answer ≡ s → Unwritten s → EndsTangled log s
+        unwritten status.NoMemory e ends = tt
+        unwritten (status.DiskFault j) e ends = tt
+        unwritten (status.BadLog other) e ends = (same_tangle f images text log other reads fits (says.bad_log other e tells)).0
+        unwritten status.Ok e ends = absurd ends
+        unwritten status.WriteFault e ends = absurd ends
+        unwritten status.Usage e ends = absurd ends
+        unwritten (status.BadText at why) e ends = absurd ends
+        unwritten status.ReadFault e ends = absurd ends
+        unwritten status.TooLong e ends = absurd ends
+
+        by : OnlyOpened G n m mode load old new hears held held' faults faults' answer ⊎ HasRun G n m mode load old new hears held held' faults faults' answer → EndsTangled log answer
+        by (inl only) = unwritten answer refl only.ends
+        by (inr run) =
+            let (order, is, redoes) = run.begins.redone in
+            absurd (none order (subst (λ (l : Log). IsOrderOf l order) (same_log f images run.start.log log (has_log run tells) reads) is))
+
+    -- a log from which a run may go on, and that has an order, is not refused
+    pub not_bad : (log : Log) (order : List Kept) → log_of (Some f) images ≡ Ok log → begins_fault text (map length images) log ≡ None → IsOrderOf log order → (fault : LogFault) → answer ≡ status.BadLog fault → ⊥
+    not_bad log order reads fits is fault e = (same_tangle f images text log fault reads fits (says.bad_log fault e tells)).1 order is
