@@ -5,7 +5,7 @@ use Rattle.tau_base.specs.declared.format.Format.{Format}
 use Rattle.tau_base.specs.Modes.{format_of}
 use Rattle.tau_disk.specs.declared.disk.Disk.{Ghosts}
 use Rattle.tau_stream.specs.declared.writer.Writer.{Writer}
-use Rattle.tau_stream.specs.Writer.{durable_of, has_failed, IsReady}
+use Rattle.tau_stream.specs.Writer.{disk_of, durable_of, has_failed, IsReady}
 use Rattle.tau_outbox.specs.declared.Piece.{Piece}
 use Rattle.tau_outbox.specs.Pieces.{bytes_of}
 use Rattle.tau_model.specs.History.{Member}
@@ -17,11 +17,13 @@ use Rattle.tau_desk.specs.Manages.{managed_in}
 use Rattle.tau_desk.specs.Seats.{Manages, PlainManagerSeat}
 use Rattle.tau_crew_facts.specs.Closing.{EndsBy, ManagerApart, ManagerDone, ManagerKnows}
 use Rattle.tau_crew_facts.specs.Spacing.{IsSpacing, newest}
-use Rattle.tau_crew_facts.specs.Writers.{HasWritten, IsManaging, SeenNow}
-use Rattle.tau_crew_facts.proofs.ManagerWriter.{begins}
+use Rattle.tau_crew_facts.specs.Writers.{HasLong, HasWritten, IsManaging, OnlyNow, SeenNow}
+use Rattle.tau_crew_facts.proofs.ManagerWriter.{begins, entry_moves, stored_kept}
 use Rattle.tau_crew_facts.proofs.Spacing.{spacing_begins}
 use Rattle.tau_crew.specs.Gathering.{AreLong, raised_in, taken_in}
+use Rattle.tau_crew.specs.declared.manager.ManagerJob.{ManagerJob}
 use Rattle.tau_crew.specs.Driving.{IsDriven, IsManagerAt, own_of}
+use Rattle.tau_crew.specs.Jobs.{IsManagerJob, KeepsManager}
 use Rattle.tau_crew.proofs.Driving.{left_long, short_of}
 use Rattle.tau_crew.proofs.Gathering.{managed_anchors, managed_gathered, managed_own}
 
@@ -48,6 +50,32 @@ manager_begins seen_now format n j base s w new stream taken seen gathered ancho
         placed_is = sym (ap (length {A = List ℕ}) anchors);
       };
     }
+
+-- the head of a turn is as the entry
+pub enters_again : {D : Type 0} {G : Ghosts D} (format : Format) (n j : ℕ) (base : List ℕ) (w0 : Writer D G) (job : ManagerJob D G) → IsManagerJob format n j base w0 job → job.short ≡ false → has_failed job.writer ≡ false → IsManagerJob format n j base job.writer job
+enters_again {D} {G} format n j base w0 job m enough works =
+    let s : PlainManagerSeat = job.seat in
+    let w : Writer D G = job.writer in
+    let d : IsDriven format n j base w0 s w = m.driven enough in
+    let again : IsDriven format n j base w s w = record {
+      stream = d.stream;
+      managing = record { managed = entry_moves format n j base (taken_in s) w0 w works d.managing.managed; current = λ e. d.managing.current e };
+      stored = d.stored;
+      counted = d.counted;
+      long = d.long;
+      raised = d.raised;
+    } in
+    record { wrote = short_of format n j base w s w again; driven = λ e. again; flushed = m.flushed; apart = m.apart }
+
+-- and what was stored there stays stored
+pub stays_stored : {D : Type 0} {G : Ghosts D} (only_now : OnlyNow G) (format : Format) (n j : ℕ) (base : List ℕ) (w0 : Writer D G) (job job' : ManagerJob D G) → IsManagerJob format n j base w0 job → job.short ≡ false → has_failed job.writer ≡ false → KeepsManager job job' → G.tells →
+    (slice_index job.seat.seen j ≡ durable_of job.writer) × ((x : List ℕ) → G.may_leave_since (disk_of job'.writer) (G.moment (disk_of job.writer)) x → HasLong format n j (durable_of job.writer) x)
+stays_stored only_now format n j base w0 job job' m enough works keeps t =
+    let d = m.driven enough in
+    let later = keeps format n j base job.writer (enters_again format n j base w0 job m enough works) in (
+      d.stored,
+      λ x since. stored_kept format n j base only_now (taken_in job.seat) (taken_in job'.seat) (slice_index job'.seat.seen j) w0 job.writer job'.writer d.managing.managed later.wrote.written t x since,
+    )
 
 module _ {D : Type 0} {G : Ghosts D} (l : Load) (v : List ℕ) (j : ℕ) (base : List ℕ) (s : PlainManagerSeat) (w0 w : Writer D G) (last placed : ℕ) (short : Bool) (m : IsManagerAt (format_of l.mode) l.streams j base w0 s w last placed short) (manages : Manages s) (now : slice_index v j ≡ slice_index s.seen j) where
   -- at whatever end

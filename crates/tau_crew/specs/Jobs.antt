@@ -1,8 +1,10 @@
 -- What the threads of a run keep.
-use Rattle.std.specs.Prelude.{ℕ, ◌≡◌, List}
+use Rattle.std.specs.Prelude.{ℕ, ◌≡◌, false, List, slice_index}
 use Rattle.tau_base.specs.declared.format.Format.{Format}
 use Rattle.tau_disk.specs.declared.disk.Disk.{Ghosts}
 use Rattle.tau_stream.specs.declared.writer.Writer.{Writer}
+use Rattle.tau_stream.specs.Writer.{disk_of, durable_of, has_failed}
+use Rattle.tau_crew_facts.specs.Writers.{HasLong}
 use Rattle.tau_crew.specs.declared.manager.ManagerJob.{ManagerJob}
 use Rattle.tau_crew.specs.Driving.{IsManagerAt}
 
@@ -29,3 +31,13 @@ module _ {D : Type 0} {G : Ghosts D} where
     pub opened : job'.seat.me.0.opened ≡ job.seat.me.0.opened
     pub at : job'.seat.stream ≡ job.seat.stream
     pub stream : job'.stream ≡ job.stream
+
+-- if memory was there and its disk works, the head of each turn is as the entry: the present writer may count as that of the entry
+abbrev pub TurnsAreEntries : {D : Type 0} → Ghosts D → Type 0
+TurnsAreEntries {D} G = (format : Format) (n j : ℕ) (base : List ℕ) (w0 : Writer D G) (job : ManagerJob D G) → IsManagerJob format n j base w0 job → job.short ≡ false → has_failed job.writer ≡ false → IsManagerJob format n j base job.writer job
+
+-- So what is stored stays stored: whatever a manager does from the head of a turn on, of which it keeps what its loop keeps, every
+-- image of its disk since then has at least what was durable then, which is what it had stored.
+abbrev pub StoredStays : {D : Type 0} → Ghosts D → Type 0
+StoredStays {D} G = (format : Format) (n j : ℕ) (base : List ℕ) (w0 : Writer D G) (job job' : ManagerJob D G) → IsManagerJob format n j base w0 job → job.short ≡ false → has_failed job.writer ≡ false → KeepsManager job job' → G.tells →
+    (slice_index job.seat.seen j ≡ durable_of job.writer) × ((x : List ℕ) → G.may_leave_since (disk_of job'.writer) (G.moment (disk_of job.writer)) x → HasLong format n j (durable_of job.writer) x)

@@ -12,6 +12,7 @@ mod ending_pass;
 mod ending_settle;
 mod flush;
 mod gather;
+mod laws;
 mod left_over;
 mod manager;
 mod shared;
@@ -25,6 +26,7 @@ mod worker;
 
 pub use anchor::Marks;
 pub use clerk::ClerkJob;
+pub use laws::stored_stays;
 pub use manager::ManagerJob;
 pub use shared::Crew;
 pub use told::Told;

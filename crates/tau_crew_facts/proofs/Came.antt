@@ -8,7 +8,7 @@ use Rattle.tau_disk.specs.declared.disk.Disk.{Ghosts}
 use Rattle.tau_outbox.specs.declared.Piece.{Piece}
 use Rattle.tau_outbox.specs.Pieces.{bytes_of}
 use Rattle.tau_stream.specs.declared.writer.Writer.{Writer}
-use Rattle.tau_stream.specs.Writer.{disk_of, has_failed}
+use Rattle.tau_stream.specs.Writer.{disk_of, durable_of, has_failed}
 use Rattle.tau_model.specs.History.{Act}
 use Rattle.tau_machine.specs.Hands.{Txn}
 use Rattle.tau_machine.specs.State.{Core, Item}
@@ -29,7 +29,7 @@ use Rattle.tau_run.proofs.Given.{contents_there}
 use Rattle.tau_run.proofs.Start.{started}
 use Rattle.tau_rule.specs.Holders.{LeadHeld}
 use Rattle.tau_rule.specs.Rule.{anchors_at}
-use Rattle.tau_crew_facts.specs.Writers.{HasPieces, HasWritten}
+use Rattle.tau_crew_facts.specs.Writers.{HasPieces, HasEnough, HasWritten}
 use Rattle.tau_crew_facts.specs.Ends.{AreApart, IsClosed, ManagerEnds, IsThreadEnd, IsThreadDone}
 use Rattle.tau_crew_facts.specs.Spacing.{IsSpacing}
 use Rattle.tau_crew_facts.specs.Threads.{in_threads, IsLowestFailed}
@@ -65,7 +65,7 @@ module _ (l : Load) (c s : Core) (j : ℕ) (base : List ℕ) (same_moved : (s.st
   writer_left {D} {G} w w' e plv goes stops =
       let g : HasWritten (format_of l.mode) l.streams j base e.taken (slice_index c.plv j) w w' = e.written in
       record {
-        before = λ t. passes_weaker G.moment G.may_leave_since (disk_of w) (disk_of w') (HasPieces (format_of l.mode) l.streams j base e.taken) (HasSomeFront l.streams j base l s) (g.before t) (λ x p. (bytes_of p.front, pieces_front e.taken e.moved x p));
+        before = λ t. passes_weaker G.moment G.may_leave_since (disk_of w) (disk_of w') (HasEnough (format_of l.mode) l.streams j base e.taken (durable_of w)) (HasSomeFront l.streams j base l s) (g.before t) (λ x p. (bytes_of p.0.front, pieces_front e.taken e.moved x p.0));
         present = λ t x left. (let p = g.present t x left in (bytes_of p.0.front, pieces_front e.taken e.moved x p.0, (let r = p.1 in omega (arith, r, plv))));
         reached = λ t. (let r = g.reached t in (r.0, r.1, r.2, r.3, r.4 ∙ sym plv));
         goes = λ f. (goes f, g.goes f);

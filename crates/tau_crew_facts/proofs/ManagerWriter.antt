@@ -14,7 +14,7 @@ use Rattle.tau_outbox.specs.Pieces.{bytes_of}
 use Rattle.tau_stream.specs.declared.writer.Writer.{Writer}
 use Rattle.tau_stream.specs.Stream.{IsSettled, IsOldOrNew, MayHold}
 use Rattle.tau_stream.specs.Writer.{disk_of, durable_of, left_of, has_failed, part_upto, IsReady}
-use Rattle.tau_crew_facts.specs.Writers.{HasPieces, HasLong, AreStored, SeenNow, CountsNow, OnlyNow, HasWritten, IsCurrent, IsManaging, IsFresh}
+use Rattle.tau_crew_facts.specs.Writers.{HasPieces, HasEnough, HasLong, SeenNow, CountsNow, OnlyNow, HasWritten, IsCurrent, IsManaging, IsFresh}
 
 -- ---- bytes of pieces
 
@@ -95,7 +95,8 @@ module _ {D : Type 0} {G : Ghosts D} (format : Format) (n j : ℕ) (base : List 
   pub managed_grows : (taken more : List Piece) (stored : ℕ) (w w' : Writer D G) → HasWritten format n j base taken stored w w' → HasWritten format n j base (taken ++ more) stored w w'
   unfolding pieces_grow
   managed_grows taken more stored w w' g = record {
-    before = λ t. passes_weaker G.moment G.may_leave_since (disk_of w) (disk_of w') (HasPieces format n j base taken) (HasPieces format n j base (taken ++ more)) (g.before t) (λ x p. pieces_grow format n j base taken more x p);
+    before = λ t. passes_weaker G.moment G.may_leave_since (disk_of w) (disk_of w') (HasEnough format n j base taken (durable_of w)) (HasEnough format n j base (taken ++ more) (durable_of w)) (g.before t) (λ x p. (pieces_grow format n j base taken more x p.0, p.1));
+    grown = g.grown;
     present = λ t x left. (let p = g.present t x left in (pieces_grow format n j base taken more x p.0, p.1));
     reached = g.reached;
     goes = g.goes;
@@ -106,7 +107,8 @@ module _ {D : Type 0} {G : Ghosts D} (format : Format) (n j : ℕ) (base : List 
   -- the same disk in another writer
   pub managed_same : (taken : List Piece) (stored : ℕ) (w w1 w2 : Writer D G) → disk_of w2 ≡ disk_of w1 → has_failed w2 ≡ has_failed w1 → HasWritten format n j base taken stored w w1 → HasWritten format n j base taken stored w w2
   managed_same taken stored w w1 w2 disk works g = record {
-    before = λ t. subst (λ (d : D). Passes G.moment G.may_leave_since (disk_of w) d (HasPieces format n j base taken)) (sym disk) (g.before t);
+    before = λ t. subst (λ (d : D). Passes G.moment G.may_leave_since (disk_of w) d (HasEnough format n j base taken (durable_of w))) (sym disk) (g.before t);
+    grown = g.grown;
     present = λ t x left. g.present t x (subst (λ (d : D). G.may_leave d x) disk left);
     reached = λ t. (let r = g.reached t in (r.0, r.1, subst (λ (d : D). G.may_leave d r.0) (sym disk) r.2, r.3, r.4));
     goes = λ e t. subst (λ (d : D). GoesOn G.number G.fails (disk_of w) d) (sym disk) (g.goes (sym works ∙ e) t);
@@ -116,11 +118,12 @@ module _ {D : Type 0} {G : Ghosts D} (format : Format) (n j : ℕ) (base : List 
 
   module _ (seen_now : SeenNow G) where
     -- a writer that works, with these pieces durable
-    ready_managed : (taken front rest : List Piece) (w w' : Writer D G) → taken ≡ front ++ rest → (G.tells → Passes G.moment G.may_leave_since (disk_of w) (disk_of w') (HasPieces format n j base taken)) →
+    ready_managed : (taken front rest : List Piece) (w w' : Writer D G) → taken ≡ front ++ rest → (G.tells → Passes G.moment G.may_leave_since (disk_of w) (disk_of w') (HasEnough format n j base taken (durable_of w))) → durable_of w ≤ durable_of w' →
         (G.tells → IsReady format n j w' (base ++ bytes_of front)) → has_failed w' ≡ false → durable_of w' ≡ length base + length (bytes_of front) →
         (G.tells → GoesOn G.number G.fails (disk_of w) (disk_of w')) → G.faults (disk_of w) ≤ G.faults (disk_of w') → HasWritten format n j base taken (durable_of w') w w'
-    ready_managed taken front rest w w' is before ready works durable goes faults = record {
+    ready_managed taken front rest w w' is before grown ready works durable goes faults = record {
       before = before;
+      grown = grown;
       present = λ t x left. (
         record { front = front; rest = rest; is = is; has = ready_has format n j w' (base ++ bytes_of front) (ready t) x left },
         omega (arith, durable),
@@ -139,7 +142,7 @@ module _ {D : Type 0} {G : Ghosts D} (format : Format) (n j : ℕ) (base : List 
         let ready : G.tells → IsReady format n j w (base ++ []) = λ t. subst (λ (c : List ℕ). IsReady format n j w c) (sym (append-nil base)) (f.ready t) in
         let size : durable_of w ≡ length base + length (bytes_of []) = (let e = f.durable in omega (arith, e)) in
         record {
-          managed = ready_managed [] [] [] w w refl (λ t. passes_none G.moment G.may_leave_since (disk_of w) (HasPieces format n j base [])) ready f.works size (λ t. goes_none G.number G.fails (disk_of w)) (omega arith);
+          managed = ready_managed [] [] [] w w refl (λ t. passes_none G.moment G.may_leave_since (disk_of w) (HasEnough format n j base [] (durable_of w))) (omega arith) ready f.works size (λ t. goes_none G.number G.fails (disk_of w)) (omega arith);
           current = λ e. record { front = []; rest = []; is = refl; left = f.none; durable = size; ready = ready };
         }
 
@@ -192,12 +195,15 @@ module _ {D : Type 0} {G : Ghosts D} (format : Format) (n j : ℕ) (base : List 
       long_is : length (bytes_of (c.front ++ now)) ≡ length (bytes_of c.front) + length (bytes_of now)
       long_is = ap (length {A = ℕ}) (bytes_append c.front now) ∙ length-append (bytes_of c.front) (bytes_of now)
 
-      either : (x : List ℕ) → IsOldOrNew format n j (base ++ bytes_of c.front) (part_upto w1 upto) x → HasPieces format n j base taken x
-      either x (inl has) = record { front = c.front; rest = c.rest; is = c.is; has = has }
-      either x (inr has) = record { front = c.front ++ now; rest = later; is = split_is; has = subst (λ (b : List ℕ). HasContent format n j b x) whole_is has }
+      either : (x : List ℕ) → IsOldOrNew format n j (base ++ bytes_of c.front) (part_upto w1 upto) x → HasEnough format n j base taken (durable_of w) x
+      either x (inl has) = (record { front = c.front; rest = c.rest; is = c.is; has = has }, (let d = c.durable in let up = g.managed.grown in omega (arith, d, up)))
+      either x (inr has) = (
+        record { front = c.front ++ now; rest = later; is = split_is; has = subst (λ (b : List ℕ). HasContent format n j b x) whole_is has },
+        (let d = c.durable in let up = g.managed.grown in let long = long_is in omega (arith, d, up, long)),
+      )
 
-      passed : G.tells → Passes G.moment G.may_leave_since (disk_of w) (disk_of w2) (HasPieces format n j base taken)
-      passed t = passes_on G.moment G.may_leave_since (disk_of w) (disk_of w1) (disk_of w2) (HasPieces format n j base taken) (IsOldOrNew format n j (base ++ bytes_of c.front) (part_upto w1 upto)) (HasPieces format n j base taken)
+      passed : G.tells → Passes G.moment G.may_leave_since (disk_of w) (disk_of w2) (HasEnough format n j base taken (durable_of w))
+      passed t = passes_on G.moment G.may_leave_since (disk_of w) (disk_of w1) (disk_of w2) (HasEnough format n j base taken (durable_of w)) (IsOldOrNew format n j (base ++ bytes_of c.front) (part_upto w1 upto)) (HasEnough format n j base taken (durable_of w))
           (g.managed.before t) (moments t format n j (base ++ bytes_of c.front) (c.ready t)) (λ x p. p) either
 
       -- these are durable
@@ -209,7 +215,7 @@ module _ {D : Type 0} {G : Ghosts D} (format : Format) (n j : ℕ) (base : List 
           let long = long_is in
           let size : durable_of w2 ≡ length base + length (bytes_of (c.front ++ now)) = omega (arith, durable, all, was, long) in
           record {
-            managed = ready_managed taken (c.front ++ now) later w w2 split_is passed ready works size (λ t. goes_on G.number G.fails (disk_of w) (disk_of w1) (disk_of w2) (g.managed.goes worked t) (goes t)) (let x = g.managed.faults in omega (arith, x, faults));
+            managed = ready_managed taken (c.front ++ now) later w w2 split_is passed (let up = g.managed.grown in omega (arith, up, durable, all)) ready works size (λ t. goes_on G.number G.fails (disk_of w) (disk_of w1) (disk_of w2) (g.managed.goes worked t) (goes t)) (let x = g.managed.faults in omega (arith, x, faults));
             current = λ e. record {
               front = c.front ++ now;
               rest = later;
@@ -226,6 +232,7 @@ module _ {D : Type 0} {G : Ghosts D} (format : Format) (n j : ℕ) (base : List 
       broke durable fails rose reached stops = record {
         managed = record {
           before = passed;
+          grown = (let up = g.managed.grown in omega (arith, up, durable));
           present = λ t x left. by_image x (left_by G.moment G.may_leave_since G.may_leave counts_now only_now (disk_of w1) (disk_of w2) (IsOldOrNew format n j (base ++ bytes_of c.front) (part_upto w1 upto))
               (moments t format n j (base ++ bytes_of c.front) (c.ready t)) x left) t;
           reached = λ t.
@@ -242,7 +249,7 @@ module _ {D : Type 0} {G : Ghosts D} (format : Format) (n j : ℕ) (base : List 
           rose_on a b c le r = omega (arith, le, r)
 
           by_image : (x : List ℕ) → G.may_leave (disk_of w1) x ⊎ IsOldOrNew format n j (base ++ bytes_of c.front) (part_upto w1 upto) x → G.tells →
-              (p : HasPieces format n j base taken x) × (durable_of w2 ≤ length base + length (bytes_of p.front))
+              HasEnough format n j base taken (durable_of w2) x
           by_image x (inl was) t = (
             record { front = c.front; rest = c.rest; is = c.is; has = ready_has format n j w1 (base ++ bytes_of c.front) (c.ready t) x was },
             (let d = c.durable in omega (arith, d, durable)),
@@ -253,45 +260,28 @@ module _ {D : Type 0} {G : Ghosts D} (format : Format) (n j : ℕ) (base : List 
             (let d = c.durable in let long = long_is in omega (arith, d, durable, long)),
           )
 
-      -- ---- what was stored before stays stored: each image since a flush has at least what it made durable
+-- ---- what was stored stays stored
 
-      content_long : length (base ++ bytes_of c.front) ≡ durable_of w1
-      content_long = let d = c.durable in let e = length-append base (bytes_of c.front) in omega (arith, d, e)
+module _ {D : Type 0} {G : Ghosts D} (format : Format) (n j : ℕ) (base : List ℕ) where
+  -- a manager whose disk works may count its present writer as that of the entry
+  pub entry_moves : (taken : List Piece) (w0 w : Writer D G) → has_failed w ≡ false → HasWritten format n j base taken (durable_of w) w0 w → HasWritten format n j base taken (durable_of w) w w
+  entry_moves taken w0 w works g = record {
+    before = λ t. passes_none G.moment G.may_leave_since (disk_of w) (HasEnough format n j base taken (durable_of w));
+    grown = omega arith;
+    present = g.present;
+    reached = g.reached;
+    goes = λ e t. goes_none G.number G.fails (disk_of w);
+    stops = λ e. absurd (true_false (has_failed w) e works);
+    faults = omega arith;
+  }
 
-      has_long : (d : ℕ) → d ≤ durable_of w1 → (x : List ℕ) → IsOldOrNew format n j (base ++ bytes_of c.front) (part_upto w1 upto) x → HasLong format n j d x
-      has_long d le x (inl has) = (base ++ bytes_of c.front, has, (let e = content_long in omega (arith, e, le)))
-      has_long d le x (inr has) = ((base ++ bytes_of c.front) ++ part_upto w1 upto, has, (let e = content_long in let f = length-append (base ++ bytes_of c.front) (part_upto w1 upto) in omega (arith, e, f, le)))
-
-      pub still_stored : (marks : List (ℕ × ℕ)) → durable_of w1 ≤ durable_of w2 → AreStored format n j marks w1 → AreStored format n j marks w2
-      still_stored marks up s t a m =
-          let h = s t a m in
-          let p = moments t format n j (base ++ bytes_of c.front) (c.ready t) in
-          let later_on = p.later in
-          let early = h.0 in
-          let low = h.1 in (
-            omega (arith, early, later_on),
-            omega (arith, low, up),
-            λ x since. elim (p.new_ones a.0 x early since) [ inl old ↦ h.2 x old | inr new ↦ has_long a.1 low x new ],
-          )
-
-    -- after a flush that made all durable a mark of this moment is set
-    pub mark_now : (only_now : OnlyNow G) (taken : List Piece) (marks : List (ℕ × ℕ)) (w w' : Writer D G) → IsManaging format n j base taken w w' → AreStored format n j marks w' → AreStored format n j ((G.moment (disk_of w'), durable_of w') ∷ marks) w'
-    mark_now only_now taken marks w w' g s t a (inr m) = s t a m
-    mark_now only_now taken marks w w' g s t a (inl is) =
-        subst (λ (b : ℕ × ℕ). (b.0 ≤ G.moment (disk_of w')) × (b.1 ≤ durable_of w') × ((x : List ℕ) → G.may_leave_since (disk_of w') b.0 x → HasLong format n j b.1 x)) is (
-          omega arith,
-          omega arith,
-          λ x since.
-              (let p = g.managed.present t x (only_now (disk_of w') x since) in
-              let long = p.1 in
-              (base ++ bytes_of p.0.front, p.0.has, (let e = length-append base (bytes_of p.0.front) in omega (arith, e, long)))),
-        )
-
-    -- other calls of the writer leave the disk
-    pub stored_same : (marks : List (ℕ × ℕ)) (w1 w2 : Writer D G) → disk_of w2 ≡ disk_of w1 → durable_of w2 ≡ durable_of w1 → AreStored format n j marks w1 → AreStored format n j marks w2
-    stored_same marks w1 w2 disk durable s t a m =
-        let h = s t a m in (
-          subst (λ (d : D). a.0 ≤ G.moment d) (sym disk) h.0,
-          (let low = h.1 in omega (arith, low, durable)),
-          λ x since. h.2 x (subst (λ (d : D). G.may_leave_since d a.0 x) disk since),
-        )
+  -- since then every image has at least what was durable
+  pub stored_kept : (only_now : OnlyNow G) (taken more : List Piece) (stored : ℕ) (w0 w w' : Writer D G) → HasWritten format n j base taken (durable_of w) w0 w → HasWritten format n j base more stored w w' → G.tells →
+      (x : List ℕ) → G.may_leave_since (disk_of w') (G.moment (disk_of w)) x → HasLong format n j (durable_of w) x
+  stored_kept only_now taken more stored w0 w w' g h t x since = elim ((h.before t).new_ones (G.moment (disk_of w)) x (omega arith) since) [
+    | inl was ↦ long taken (g.present t x (only_now (disk_of w) x was))
+    | inr new ↦ long more new
+  ]
+    where
+      long : (ps : List Piece) → HasEnough format n j base ps (durable_of w) x → HasLong format n j (durable_of w) x
+      long ps p = (base ++ bytes_of p.0.front, p.0.has, (let e = length-append base (bytes_of p.0.front) in let low = p.1 in omega (arith, e, low)))

@@ -2,7 +2,10 @@
 use Rattle.std.specs.Prelude.{ℕ, ◌<◌, ◌≡◌, false, Some, List, [], ◌++◌, length, slice_get, slice_index, slice_index_or}
 use Rattle.tau_disk.specs.declared.disk.Disk.{Ghosts}
 use Rattle.tau_stream.specs.declared.writer.Writer.{Writer}
-use Rattle.tau_stream.specs.Writer.{has_failed}
+use Rattle.tau_stream.specs.Writer.{disk_of, durable_of, has_failed}
+use Rattle.tau_base.specs.declared.format.Format.{Format}
+use Rattle.tau_outbox.specs.declared.Piece.{Piece}
+use Rattle.tau_crew_facts.specs.Writers.{HasLong, HasWritten}
 use Rattle.tau_model.specs.History.{Act}
 use Rattle.tau_machine.specs.Events.{Event, Leads}
 use Rattle.tau_machine.specs.Hands.{Txn}
@@ -30,6 +33,16 @@ abbrev pub WorkersKeepCalls : Type 0
 WorkersKeepCalls = (w : ℕ) (set : Setting) (e : Event) (s s' : Core) (new : List (Act Txn)) → Steady (s.workers w) → KeepsOf w e → Leads set e s s' new → Keeps (s.workers w) (s'.workers w)
 
 module _ {D : Type 0} (G : Ghosts D) where
+  -- What was stored stays stored. A manager whose disk works may count its present writer as that of the entry; whatever it
+  -- writes from then on, every image since then has at least what was durable then.
+  abbrev pub EntriesMove : Type 0
+  EntriesMove = (format : Format) (n j : ℕ) (base : List ℕ) (taken : List Piece) (w0 w : Writer D G) → has_failed w ≡ false → HasWritten format n j base taken (durable_of w) w0 w → HasWritten format n j base taken (durable_of w) w w
+
+  abbrev pub StoredIsKept : Type 0
+  StoredIsKept =
+      (format : Format) (n j : ℕ) (base : List ℕ) (taken more : List Piece) (stored : ℕ) (w0 w w' : Writer D G) → HasWritten format n j base taken (durable_of w) w0 w → HasWritten format n j base more stored w w' → G.tells →
+      (x : List ℕ) → G.may_leave_since (disk_of w') (G.moment (disk_of w)) x → HasLong format n j (durable_of w) x
+
   -- a desk that closes ends a run, with what the loops know of their own at their ends
   abbrev pub ClosedDesksEnd : Type 0
   ClosedDesksEnd =

@@ -7,7 +7,6 @@ use Rattle.tau_disk.specs.Used.{GoesOn, IsStopped}
 use Rattle.tau_disk.specs.declared.disk.Disk.{Ghosts}
 use Rattle.tau_outbox.specs.declared.Piece.{Piece}
 use Rattle.tau_outbox.specs.Pieces.{bytes_of}
-use Rattle.tau_model.specs.History.{Member}
 use Rattle.tau_stream.specs.declared.writer.Writer.{Writer}
 use Rattle.tau_stream.specs.Writer.{disk_of, durable_of, left_of, has_failed, IsReady}
 
@@ -17,6 +16,10 @@ pub record HasPieces (format : Format) (n j : ℕ) (base : List ℕ) (taken : Li
   pub rest : List Piece
   pub is : taken ≡ front ++ rest
   pub has : HasContent format n j (base ++ bytes_of front) image
+
+-- and so not less than this length
+abbrev pub HasEnough : Format → ℕ → ℕ → List ℕ → List Piece → ℕ → List ℕ → Type 0
+HasEnough format n j base taken low image = (p : HasPieces format n j base taken image) × (low ≤ length base + length (bytes_of p.front))
 
 -- the image has a content of at least this length
 abbrev pub HasLong : Format → ℕ → ℕ → ℕ → List ℕ → Type 0
@@ -36,9 +39,11 @@ module _ {D : Type 0} {G : Ghosts D} (format : Format) (n j : ℕ) (base : List 
   -- What became of the writer of a stream whose manager has gathered these pieces and stored this position: w is the writer at
   -- the entry, w' now. It speaks of no state of the core.
   pub record HasWritten (taken : List Piece) (stored : ℕ) (w w' : Writer D G) : Type 0 where
-    pub before : G.tells → Passes G.moment G.may_leave_since (disk_of w) (disk_of w') (HasPieces format n j base taken)
+    -- since the entry every image has at least what was durable then
+    pub before : G.tells → Passes G.moment G.may_leave_since (disk_of w) (disk_of w') (HasEnough format n j base taken (durable_of w))
+    pub grown : durable_of w ≤ stored
     -- whatever a stop now may leave reaches what was stored
-    pub present : G.tells → (x : List ℕ) → G.may_leave (disk_of w') x → (p : HasPieces format n j base taken x) × (stored ≤ length base + length (bytes_of p.front))
+    pub present : G.tells → (x : List ℕ) → G.may_leave (disk_of w') x → HasEnough format n j base taken stored x
     -- and no more, in one image
     pub reached : G.tells → (y content : List ℕ) × G.may_leave (disk_of w') y × HasContent format n j content y × (length content ≡ stored)
     pub goes : has_failed w' ≡ false → G.tells → GoesOn G.number G.fails (disk_of w) (disk_of w')
@@ -65,7 +70,3 @@ module _ {D : Type 0} {G : Ghosts D} (format : Format) (n j : ℕ) (base : List 
     pub durable : durable_of w ≡ length base
     pub none : left_of w ≡ bytes_of []
     pub ready : G.tells → IsReady format n j w base
-
--- Each of `marks` is a moment and what was durable then: since that moment every image has at least so much.
-abbrev pub AreStored : {D : Type 0} {G : Ghosts D} → Format → ℕ → ℕ → List (ℕ × ℕ) → Writer D G → Type 0
-AreStored {D} {G} format n j marks w = G.tells → (a : ℕ × ℕ) → Member a marks → (a.0 ≤ G.moment (disk_of w)) × (a.1 ≤ durable_of w) × ((x : List ℕ) → G.may_leave_since (disk_of w) a.0 x → HasLong format n j a.1 x)

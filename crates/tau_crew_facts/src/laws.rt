@@ -1,5 +1,5 @@
 //! What holds of each run in threads, as functions that do nothing.
-ghost use Rattle.tau_crew_facts.specs.Laws.{AnchorsKeepApart, ClosedDesksEnd, EndsAreRuns, WorkersKeepCalls};
+ghost use Rattle.tau_crew_facts.specs.Laws.{AnchorsKeepApart, ClosedDesksEnd, EndsAreRuns, EntriesMove, StoredIsKept, WorkersKeepCalls};
 
 use tau_disk::Disk;
 
@@ -11,6 +11,12 @@ pub fn anchors_keep_apart()
 /// No event loses a call of a worker but one by which this worker gives it up.
 pub fn workers_keep_calls()
     ensures { WorkersKeepCalls }
+{}
+
+/// What a manager has stored stays stored: from then on every image of its disk has at least so much.
+pub fn stored_is_kept<D: Disk>()
+    ensures entry { EntriesMove ⟦<D as Disk>⟧ }
+    ensures kept { StoredIsKept ⟦<D as Disk>⟧ }
 {}
 
 /// A desk that closes ends a run, with what the loops know of their own at their ends.

@@ -3,4 +3,6 @@
 
 mod laws;
 
-pub use laws::{anchors_keep_apart, closed_desks_end, ends_are_runs, workers_keep_calls};
+pub use laws::{
+    anchors_keep_apart, closed_desks_end, ends_are_runs, stored_is_kept, workers_keep_calls,
+};
