@@ -1,10 +1,10 @@
 use std::alloc::{Allocator, Global};
-use std::fs::{Files, Metadata, OpenFile, OpenOptions};
+use std::fs::{File, Files, Metadata, OpenFile, OpenOptions};
 use std::io::{Empty, ErrorKind, Read, Seek, SeekFrom, Write};
 use std::test::*;
 use std::{fs, io};
 use tau_disk::Disk;
-use tau_file::HostFile;
+use tau_file::{FileLocks, HostFile, SystemLocks};
 
 #[test]
 fn a_file_gives_what_was_written(rt: HostRuntime) -> Result<(), Fail> {
@@ -20,6 +20,69 @@ fn a_file_gives_what_was_written(rt: HostRuntime) -> Result<(), Fail> {
     assert!(rt; size >= 6);
     assert!(rt; disk.read_at(size, &mut bytes).is_err());
     fs::remove_file(&rt, "stream-07.log")?;
+    Ok(())
+}
+
+/// The file of this stream, as another process has it: by an opening of its own.
+fn locked_file<R: Files<File = File> + Clone + Drop>(
+    rt: &R,
+    alloc: Global,
+    j: u8,
+) -> Result<HostFile<R, SystemLocks>, Fail> {
+    let file = HostFile::of_stream(rt.clone()?, alloc, j);
+    Ok(file.locked(SystemLocks))
+}
+
+/// Whether the first byte is written.
+fn writes<D: Disk>(disk: &mut D, byte: u8) -> bool {
+    disk.write_at(0, &[byte]).is_ok()
+}
+
+#[test]
+fn a_file_is_read_together_and_written_alone(rt: HostRuntime) -> Result<(), Fail> {
+    let alloc = rt.alloc();
+    let mut first = locked_file(&rt, alloc, 8)?;
+    let mut second = locked_file(&rt, alloc, 8)?;
+    assert_eq!(rt; first.len()?, 0);
+    assert_eq!(rt; second.len()?, 0);
+    // (it is read by another: from here on all its calls fail)
+    assert!(rt; !writes(&mut first, 1));
+    assert!(rt; writes(&mut second, 2));
+    let mut third = locked_file(&rt, alloc, 8)?;
+    assert!(rt; third.len().is_err());
+    assert!(rt; !writes(&mut third, 3));
+    assert!(rt; second.sync().is_ok());
+    drop(second);
+    assert!(rt; first.len().is_err());
+    assert!(rt; first.sync().is_err());
+    assert_eq!(rt; third.len()?, 1);
+    assert!(rt; third.sync().is_ok());
+    fs::remove_file(&rt, "stream-08.log")?;
+    Ok(())
+}
+
+// Locks that can't be had.
+#[derive(Clone, Copy)]
+struct NoLocks;
+
+impl<F> FileLocks<F> for NoLocks {
+    fn share(&self, _file: &F) -> bool {
+        false
+    }
+
+    fn own(&self, _file: &F) -> bool {
+        false
+    }
+}
+
+#[test]
+fn a_file_without_its_lock_fails(rt: HostRuntime) -> Result<(), Fail> {
+    let mut disk = HostFile::of_stream(NoFolder, rt.alloc(), 7).locked(NoLocks);
+    let mut bytes = [0u8; 1];
+    assert!(rt; disk.len().is_err());
+    assert!(rt; disk.read_at(0, &mut bytes).is_err());
+    assert!(rt; !writes(&mut disk, 1));
+    assert!(rt; disk.sync().is_err());
     Ok(())
 }
 

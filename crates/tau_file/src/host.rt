@@ -2,6 +2,7 @@
 ghost use Rattle.std.specs.Prelude.{◌≡◌, ◌≤◌, [], false};
 ghost use Rattle.tau_disk.specs.Disk.{Rose};
 
+use crate::locks::{FileLocks, Unlocked};
 use std::alloc::Global;
 use std::fs::{OpenFile, OpenOptions};
 use std::io::{Read, Seek, SeekFrom, Write};
@@ -10,35 +11,70 @@ use tau_disk::{Disk, Failed};
 
 /// The file `stream-JJ.log` of the working directory, with two decimal digits. It is opened, or created, at the
 /// first call. Its first sync syncs the directory too. What it holds is told to no contract.
+///
+/// With locks, a shared one is taken as it is opened, and an exclusive one at its first write or sync. A call that can't have
+/// its lock fails. If that is the exclusive one, all later calls fail too, since another process may since have written over
+/// what was read.
 #[derive(Drop)]
-pub struct HostFile<R: Files + Drop> {
+pub struct HostFile<R: Files + Drop, L: Drop = Unlocked> {
     rt: R,
     alloc: Global,
+    locks: L,
     stream: u8,
     file: Option<R::File>,
+    hold: Hold,
     // Whether the folder was synced since the file was opened.
     is_entered: bool,
     faults: u64,
 }
 
+// How the file is held, once it is open.
+#[derive(Clone, Copy, PartialEq, Eq)]
+enum Hold {
+    // With others that read it.
+    Shared,
+    // Alone.
+    Owned,
+    // No more: it was not had alone.
+    Lost,
+}
+
 impl<R: Files + Drop> HostFile<R> {
-    /// The file of stream `j`, not opened yet.
+    /// The file of stream `j`, not opened yet, without locks.
     pub fn of_stream(rt: R, alloc: Global, j: u8) -> HostFile<R> {
         HostFile {
             rt,
             alloc,
+            locks: Unlocked,
             stream: j,
             file: None,
+            hold: Hold::Shared,
             is_entered: false,
             faults: 0,
         }
     }
 
-    // Opens it, if it is not open. If that fails, no file is there for the call that follows.
+    /// The same file with these locks, not opened yet.
+    pub fn locked<L: FileLocks<R::File> + Drop>(self, locks: L) -> HostFile<R, L> {
+        HostFile {
+            rt: self.rt,
+            alloc: self.alloc,
+            locks,
+            stream: self.stream,
+            file: None,
+            hold: Hold::Shared,
+            is_entered: false,
+            faults: self.faults,
+        }
+    }
+}
+
+impl<R: Files + Drop, L: FileLocks<R::File> + Drop> HostFile<R, L> {
+    // Opens it under a shared lock, if it is not open. If that fails, no file is there for the call that follows.
     fn open(&mut self)
         ensures { self.new.faults ≡ self.old.faults }
     {
-        if self.file.is_some() {
+        if self.file.is_some() || self.hold == Hold::Lost {
             return;
         }
         let stream = self.stream;
@@ -47,11 +83,39 @@ impl<R: Files + Drop> HostFile<R> {
                 let mut options = OpenOptions::new();
                 options.read(true).write(true).create(true);
                 match options.open(&self.rt, name.as_str()) {
-                    Ok(file) => self.file = Some(file),
+                    Ok(file) => self.share(file),
                     Err(_) => {}
                 }
             }
             Err(_) => {}
+        }
+    }
+
+    // Keeps the file, if the shared lock is had.
+    fn share(&mut self, file: R::File)
+        ensures { self.new.faults ≡ self.old.faults }
+    {
+        if self.locks.share(&file) {
+            self.file = Some(file);
+        }
+    }
+
+    // Opens it, if it is not open, and has it alone. If that fails, no file is there for the call that follows.
+    fn own(&mut self)
+        ensures { self.new.faults ≡ self.old.faults }
+    {
+        self.open();
+        if self.hold != Hold::Shared {
+            return;
+        }
+        let Some(file) = &self.file else {
+            return;
+        };
+        if self.locks.own(file) {
+            self.hold = Hold::Owned;
+        } else {
+            self.hold = Hold::Lost;
+            self.file = None;
         }
     }
 
@@ -120,7 +184,7 @@ fn sync_folder<R: Files>(rt: &R) -> bool {
     }
 }
 
-impl<R: Files + Drop> Disk for HostFile<R> {
+impl<R: Files + Drop, L: FileLocks<R::File> + Drop> Disk for HostFile<R, L> {
     ghost tells = { ⊥ };
 
     ghost seen = { λ _. [] };
@@ -162,7 +226,7 @@ impl<R: Files + Drop> Disk for HostFile<R> {
     }
 
     fn write_at(&mut self, at: u64, bytes: &[u8]) -> Result<(), Failed> {
-        self.open();
+        self.own();
         if write_to(&mut self.file, at, bytes) {
             return Ok(());
         }
@@ -170,7 +234,7 @@ impl<R: Files + Drop> Disk for HostFile<R> {
     }
 
     fn sync(&mut self) -> Result<(), Failed> {
-        self.open();
+        self.own();
         if !sync_of(&mut self.file) {
             return Err(self.fail());
         }
