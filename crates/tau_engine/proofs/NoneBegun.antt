@@ -75,7 +75,7 @@ module _ (n m : ℕ) (mode : LogMode) (load : Workload) (start : Start) (rows : 
 
   core_at : (ending : Ending) → MayEnd ending → IsCoreRunAt (chosen_by load.turns n m load) n m mode load (λ j. None) run ending
   core_at told.Done may = absurd may
-  core_at (told.DiskFailed j) may = inr (no_calls, no_acks)
+  core_at (told.DiskFailed j) may = inr (no_calls, no_acks, λ i lt. refl)
   core_at told.SinkFailed may = absurd may
   core_at told.NoMemory may = core
   core_at told.NotBegun may = absurd may

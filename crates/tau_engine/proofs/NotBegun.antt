@@ -233,7 +233,7 @@ module _ (n m : ℕ) (mode : LogMode) (load : Workload) (some : 1 ≤ n) (room :
 
   core_at : (ending : Ending) → MayEnd ending → IsCoreRunAt (chosen_by load.turns n m load) n m mode load (λ j. None) empty_run ending
   core_at told.Done may = absurd may
-  core_at (told.DiskFailed j) may = inr (refl, refl)
+  core_at (told.DiskFailed j) may = inr (refl, refl, λ i lt. refl)
   core_at told.SinkFailed may = absurd may
   core_at told.NoMemory may = core
   core_at told.NotBegun may = (refl, refl)

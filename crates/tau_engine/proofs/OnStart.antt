@@ -43,8 +43,6 @@ use Rattle.tau_run.specs.Gives.{CameTo, came_far}
 use Rattle.tau_run.specs.Heard.{Heard}
 use Rattle.tau_run.specs.Writers.{EachOf, Left}
 use Rattle.tau_run.proofs.Came as of
-use Rattle.tau_run.proofs.Imaged.{acknowledged, imaged}
-use Rattle.tau_run.proofs.Results.{history_law}
 use Rattle.tau_begin.specs.Barrier.{IsBarrier}
 use Rattle.tau_begin.specs.Opened.{IsTouched, IsOpenRun}
 use Rattle.tau_begin.proofs.Barrier.{barrier_of, put_on}
@@ -56,7 +54,7 @@ use Rattle.tau_engine.specs.Opening.{opening_calls, SinceBarrier, EmptyAreUnborn
 use Rattle.tau_engine.specs.Outside.{Wrote}
 use Rattle.tau_engine.specs.Recovery.{images_of}
 use Rattle.tau_engine.specs.Runs.{TellsEnd}
-use Rattle.tau_engine.specs.RunSays.{EndsRun, FailsRunning, FailsStarting, HasRun, RunSays, HasSpacedOn}
+use Rattle.tau_engine.specs.RunSays.{EndsRun, FailsStarting, HasRun, OpenedClean, RunSays, HasSpacedOn}
 use Rattle.tau_engine.proofs.OnOpened as on
 use Rattle.tau_engine.proofs.Reports.{reported_by}
 use Rattle.tau_engine.proofs.Streams.{OnlyNow, Way, Joined, mapped_got, opens_clean, rose_at, clean_below, first_stopped, made_all, leaves}
@@ -254,21 +252,12 @@ module _ {D : Type 0} {G : Ghosts D} (only_now : OnlyNow G) (n m : ℕ) (mode : 
     abbrev pub premise : Type 0
     premise = EmptyAreUnborn G old n × IsSound f start.old start.log start.base
 
-    -- spelled here, so that what is said of the run and of where it was stopped computes
-    abbrev pub facts : (sink_rose : Type 0) (made : ℕ → ℕ → Type 0) (wrote : List ℕ → Type 0) (fault : ℕ → List ℕ) (ended : Ending) → IsCoreRunAt by n m mode load stops run ended →
+    pub facts : (sink_rose : Type 0) (made : ℕ → ℕ → Type 0) (wrote : List ℕ → Type 0) (fault : ℕ → List ℕ) (ended : Ending) → IsCoreRunAt by n m mode load stops run ended →
         RunTells (IsEnded n mode load (Now G.tells G.may_leave old new) (RoseAt G.faults old new)) n load stops sink_rose (opening_calls sizes) made wrote fault run ended →
         RunFacts by n m mode load start premise (SinceBarrier G barrier old new) (Now G.tells G.may_leave old new) (RoseAt G.faults old new) sink_rose (opening_calls sizes) made wrote fault ended
-    facts sink_rose made wrote fault ended core told = record {
-      run = run;
-      begins = refl;
-      history = history_law n m mode load l K s run course is;
-      stops = stops;
-      core = core;
-      stopped = leaves_now.stopped;
-      told = told;
-      imaged = imaged n m mode load l K s run course is (SinceBarrier G barrier old new) (Now G.tells G.may_leave old new) (RoseAt G.faults old new) premise (λ u. (u.1, λ j x lt q. past_left u.0 j x lt q));
-      acknowledged = acknowledged n m mode load l K s run course is (λ j x. ⊥) (Now G.tells G.may_leave old new) (RoseAt G.faults old new) leaves_now;
-    }
+    facts sink_rose made wrote fault ended core told =
+        of.facts_of by n m mode load start begins sound l load_is ws ws' acks t (SinceBarrier G barrier old new) (Now G.tells G.may_leave old new) (RoseAt G.faults old new) leaves_now premise
+        (λ u. (u.1, λ j x lt q. past_left u.0 j x lt q)) sink_rose (opening_calls sizes) made wrote fault ended core told
 
     pub has_ended : IsOver n s → (((j : ℕ) → j < n → stops j ≡ None) → AllAcked load run) → IsEnded n mode load (Now G.tells G.may_leave old new) (RoseAt G.faults old new) run
     has_ended over complete =
@@ -293,11 +282,10 @@ module _ {D : Type 0} {G : Ghosts D} (only_now : OnlyNow G) (n m : ℕ) (mode : 
       abbrev Spaces : Type 0
       Spaces = load.turns ≡ None → DisksWorked n (RoseAt G.faults old new) answer → (j : ℕ) (x : List ℕ) → j < n → Now G.tells G.may_leave old new j x → HasSpacedOn f n j load start x
 
-      abbrev Fails : Facts → Type 0
-      Fails facts = (j : ℕ) → answer ≡ status.DiskFault j →
-          FailsStarting G n m mode load old new hears held held' faults faults' answer j ⊎ FailsRunning G n m mode load old new hears held held' faults faults' answer facts.run facts.stops
+      abbrev Fails : Type 0
+      Fails = (j : ℕ) → answer ≡ status.DiskFault j → FailsStarting G n m mode load old new hears held held' faults faults' answer j ⊎ OpenedClean G n m mode load old new hears held held' faults faults' answer
 
-      pub has_run : EndsRun answer → (facts : Facts) → Fails facts → Spaces → HasRun G n m mode load old new hears held held' faults faults' answer
+      pub has_run : EndsRun answer → Facts → Fails → Spaces → HasRun G n m mode load old new hears held held' faults faults' answer
       has_run ends facts fails spaced = record {
         ends = ends;
         start = start;
@@ -366,7 +354,7 @@ module _ {D : Type 0} {G : Ghosts D} (only_now : OnlyNow G) (n m : ℕ) (mode : 
                   λ i lt. made_all G n way l s streams_are old new there all i lt,
                   (report_text declared e.report (Some j), report_is (Some j), whole_text hears held held1 held' declared e.report (Some j) (heard_by false works) wrote),
                 )))
-                (λ i f. inr (core_run true whole, opened_clean)) (λ threads worked. absurd worked));
+                (λ i f. inr opened_clean) (λ threads worked. absurd worked));
             kind = tt;
             disk = λ i f. subst (λ (k : ℕ). (k < n) × RoseAt G.faults old new k) (same i f) (here.0, rose_at G n way l s streams_are old new there all j here.1.0 here.0 here.1.1);
             stopped = λ i f tells. subst (λ (k : ℕ). IsFirstStopped G.tells G.number G.fails G.short old new k) (same i f) (first_stopped G n way l s streams_are old new there all j here.1.0 here.0 here.1.1 here.2 tells);

@@ -206,7 +206,7 @@ module _ {D : Type 0} (G : Ghosts D) (n m : ℕ) (mode : LogMode) (load : Worklo
       by (inl only) = unwritten answer refl only.ends e
       by (inr run) = elim (run.fails j e) [
         | inl starting ↦ (let (k, late, le, made) = starting.0 in inl (k, le, made tells, starting.1))
-        | inr running ↦ inr (after running.1)
+        | inr running ↦ inr (after running)
       ]
 
   -- ---- moments

@@ -17,8 +17,7 @@ use Rattle.tau_scan.specs.declared.log.Log.{Log}
 use Rattle.tau_scan.specs.Begins.{begins_fault}
 use Rattle.tau_scan.specs.Reading.{contents_of, log_of}
 use Rattle.tau_scan.specs.Sound.{IsSound}
-use Rattle.tau_run.specs.Run.{Run}
-use Rattle.tau_run.specs.RunFacts.{WroteFront, IsCoreRun, RunFacts, chosen_by}
+use Rattle.tau_run.specs.RunFacts.{WroteFront, RunFacts, chosen_by}
 use Rattle.tau_run.specs.Start.{Start, IsStart, opened_at}
 use Rattle.tau_begin.specs.Barrier.{IsBarrier}
 use Rattle.tau_begin.specs.Opened.{IsRefusedOn}
@@ -86,13 +85,9 @@ module _ {D : Type 0} (G : Ghosts D) (n m : ℕ) (mode : LogMode) (load : Worklo
   abbrev pub OpenedClean : Type 0
   OpenedClean = EachIn (λ j. j < n) (λ j. NextClean G.tells G.number G.fails (opening_calls sizes j)) old new
 
-  -- How a disk failed once all was read: when its stream was started, and one line was written; or when all were, and this is
-  -- the whole run.
+  -- the disk failed once all was read, by a call that starts its stream, and one line was written
   abbrev pub FailsStarting : ℕ → Type 0
   FailsStarting j = ((k : ℕ) × (calls_before_writes (slice_index sizes j) < k) × (k ≤ opening_calls sizes j) × (G.tells → Made G.number G.short old new j k)) × OneLine
-
-  abbrev pub FailsRunning : Run → (ℕ → Option ℕ) → Type 0
-  FailsRunning run stops = IsCoreRun (chosen_by load.turns n m load true) n m mode load stops run × OpenedClean
 
   -- all was read, and this is one run on it
   pub record HasRun : Type 0 where
@@ -107,7 +102,8 @@ module _ {D : Type 0} (G : Ghosts D) (n m : ℕ) (mode : LogMode) (load : Worklo
     pub barriers : EmptyAreUnborn G old n → EachIn (λ j. j < n) (λ j d e. G.tells → IsBarrier G (barrier j) d e) old new
     pub facts : RunFacts (chosen_by load.turns n m load) n m mode load start (EmptyAreUnborn G old n × IsSound (format_of mode) start.old start.log start.base) (SinceBarrier G barrier old new) (Now G.tells G.may_leave old new) (RoseAt G.faults old new)
         (Rose faults faults') (opening_calls sizes) (λ j k. G.tells → Made G.number G.short old new j k) (Wrote hears held held') (λ j. fault_text (status.DiskFault j)) (ending_of answer)
-    pub fails : (j : ℕ) → answer ≡ status.DiskFault j → FailsStarting j ⊎ FailsRunning facts.run facts.stops
+    -- a disk that fails while the streams are opened comes before one that fails later
+    pub fails : (j : ℕ) → answer ≡ status.DiskFault j → FailsStarting j ⊎ OpenedClean
     -- in threads, if the run went to its end and no disk failed, its anchors stand in their distance, also if the sink failed
     pub spaced : load.turns ≡ None → DisksWorked n (RoseAt G.faults old new) answer → (j : ℕ) (x : List ℕ) → j < n → Now G.tells G.may_leave old new j x → HasSpacedOn (format_of mode) n j load start x
 
