@@ -5,6 +5,7 @@ ghost use Rattle.std.specs.Prelude.{◌≡◌, IfOk, vec_len};
 ghost use Rattle.tau_base.specs.declared.limits.TheConstants.{MAX_STREAMS};
 
 use std::alloc::{AllocError, Global};
+use std::fs::File;
 use std::io::ErrorKind;
 use std::process::ExitCode;
 use std::rt::Files;
@@ -12,19 +13,19 @@ use std::{env, io};
 use tau_base::MAX_STREAMS;
 use tau_disk::{Quiet, ReadSource, WriteSink};
 use tau_engine::taurus;
-use tau_file::HostFile;
+use tau_file::{HostFile, SystemLocks};
 
-/// The files of the working directory, one for each stream that there may be, each made as it is first used.
-fn host_files<R: Files + Clone + Drop>(
+/// The files of the working directory, one for each stream that there may be, each made as it is first used, and locked.
+fn host_files<R: Files<File = File> + Clone + Drop>(
     rt: &R,
     alloc: Global,
-) -> Result<Vec<HostFile<R>>, AllocError>
+) -> Result<Vec<HostFile<R, SystemLocks>>, AllocError>
     ensures { IfOk result (λ v. vec_len v ≡ MAX_STREAMS) }
 {
     let mut files = Vec::new(alloc);
     for j in 0..MAX_STREAMS {
         let file = HostFile::of_stream(rt.clone()?, alloc, j as u8);
-        files.push(file)?;
+        files.push(file.locked(SystemLocks))?;
     }
     Ok(files)
 }
