@@ -10,6 +10,7 @@ pub mod Ran
 pub mod Refusals
 pub mod Recoveries
 pub mod RunClauses
+pub mod Within
 pub mod Tops
 pub mod Same
 mod Rehearsed

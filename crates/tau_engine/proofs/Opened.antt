@@ -16,6 +16,11 @@ pub low_streams : (f : Format) (n : ℕ) → n ≤ most_streams One → n ≤ mo
 low_streams One n few = few
 low_streams Two n few = omega (arith, few)
 
+-- no format has room for more workers than there may be
+pub few_workers : (f : Format) (m : ℕ) → m ≤ most_streams f → m ≤ 32
+few_workers One m few = omega (arith, few)
+few_workers Two m few = few
+
 -- their writers are new
 pub are_new : {D : Type 0} {G : Ghosts D} (n : ℕ) (load : Workload) (old mid : List D) (ws : List (Writer D G)) → AreOpened G n (catalogue_of load) old mid ws → (f : Format) → One ≡ f → AreNew f (λ j. catalogue_of load) ws
 are_new {D} {G} n load old mid ws streams f is j w e =

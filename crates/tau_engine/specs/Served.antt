@@ -1,9 +1,8 @@
 -- Which commands are served, and what they use.
-use Rattle.std.specs.Prelude.{ℕ, Bool, true, false, ◌&&◌, nat_le, nat_lt, if◌then◌else◌, List, Option, Some, None, option_and_then}
+use Rattle.std.specs.Prelude.{ℕ, ◌≤◌, ◌≡◌, Bool, true, false, not, ◌&&◌, nat_le, nat_lt, if◌then◌else◌, List, Option, Some, None, option_and_then}
 use Rattle.tau_base.specs.declared.limits.TheConstants.{MAX_CALLS, MAX_RECOVERY_WORKERS, MAX_STREAMS}
-use Rattle.tau_base.specs.declared.format.Format.TheVariants.{One}
 use Rattle.tau_base.specs.declared.value.LogMode.{LogMode}
-use Rattle.tau_base.specs.Modes.{format_of, same_format}
+use Rattle.tau_base.specs.Modes.{format_of, most_streams}
 use Rattle.tau_words.specs.declared.command.Command.{Command}
 use Rattle.tau_words.specs.declared.command.Command.TheVariants.{Run, Recover, Drill, Bench, Checkpoint, Restore, Follow, Inspect, Audit}
 use Rattle.tau_words.specs.declared.command.Ending.{Ending}
@@ -18,26 +17,25 @@ abbrev pub is_ending : ℕ → Ending → Bool
 is_ending n (Stop after tear) = nat_le 1 after && nat_le after 1000000
 is_ending n (Fail stream call) = nat_lt stream n && nat_le 1 call && nat_le call 1000000
 
--- so many calls may be generated, whose rows begin there
-abbrev pub is_job : ℕ → ℕ → Bool
-is_job start calls = nat_le start 999 && nat_le calls MAX_CALLS
-
--- a run is of format 1, and its workers lock before they execute
-abbrev pub is_run : LogMode → Bool → Bool
-is_run mode true = false
-is_run mode false = same_format One (format_of mode)
-
--- the commands that are there by now
+-- the commands that are there by now: not runs whose workers execute a call before they lock its keys
 abbrev pub is_served : Command → Bool
-is_served (Run n m mode optimistic) = is_run mode optimistic && nat_le 1 n && nat_le n MAX_COUNT && nat_le 1 m && nat_le m MAX_COUNT
-is_served (Recover n p) = nat_le 1 n && nat_le n MAX_STREAMS && nat_le 1 p && nat_le p MAX_RECOVERY_WORKERS
-is_served (Drill n m p ending) = nat_le 1 n && nat_le n MAX_COUNT && nat_le 1 m && nat_le m MAX_COUNT && is_ending n ending
-is_served (Bench start calls n m) = is_job start calls && (nat_le 1 n && nat_le n MAX_COUNT) && (nat_le 1 m && nat_le m MAX_COUNT)
+is_served (Run n m mode optimistic) = not optimistic
+is_served (Recover n p) = true
+is_served (Drill n m p ending) = true
+is_served (Bench start calls n m) = true
 is_served (Checkpoint n p) = false
 is_served (Restore n p) = false
 is_served (Follow n) = false
 is_served (Inspect n) = false
 is_served (Audit n m) = false
+
+-- the bounds of the numbers that a command names, of those that are there by now
+abbrev pub IsWithin : Command → Type 0
+IsWithin (Run n m mode optimistic) = ((1 ≤ n) × (n ≤ most_streams (format_of mode))) × (1 ≤ m) × (m ≤ most_streams (format_of mode))
+IsWithin (Recover n p) = ((1 ≤ n) × (n ≤ MAX_STREAMS)) × (1 ≤ p) × (p ≤ MAX_RECOVERY_WORKERS)
+IsWithin (Drill n m p ending) = ((1 ≤ n) × (n ≤ MAX_COUNT)) × ((1 ≤ m) × (m ≤ MAX_COUNT)) × (is_ending n ending ≡ true)
+IsWithin (Bench start calls n m) = ((start ≤ 999) × (calls ≤ MAX_CALLS)) × ((1 ≤ n) × (n ≤ MAX_COUNT)) × (1 ≤ m) × (m ≤ MAX_COUNT)
+IsWithin other = Unit {0}
 
 abbrev pub if_served : Command → Option Command
 if_served c = if is_served c then Some c else None

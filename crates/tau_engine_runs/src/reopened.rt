@@ -5,7 +5,7 @@ use std::sync::Wait;
 use std::test::*;
 use std::thread::Threads;
 use tau_disk::MemDisk;
-use tau_engine_support::{disks_of, failing_disks, had_calls, holds, tells};
+use tau_engine_support::{disks_of, failing_disks, had_calls, holds, tells, tells_anew};
 
 // The catalogue of table a.
 static CATALOGUE: &[u8] = b"\x04\x00\x00\x00\x0dtable a\n";
@@ -268,4 +268,37 @@ fn runs_after_stops(rt: HostRuntime) -> Result<(), Fail> {
     // And so is its record.
     let behind_record = "ack 1 215,38\nreply 1 int 9\norder 1\nrow a 1 int 9\nend 0\n";
     stops_and_goes_on(&rt, alloc, [23, NEVER], unsure, behind_record)
+}
+
+// A log of format 2 is gone on from in format 2, and refused by a run in format 1.
+#[test]
+fn wide_logs(rt: HostRuntime) -> Result<(), Fail> {
+    let alloc = rt.alloc();
+    let mut disks = disks_with(alloc, b"", b"")?;
+    let put = "ack 1 55,0\nreply 1 none\norder 1\nrow a 1 int 5\nend 0\n";
+    tells(&rt, alloc, "run 2 1 wide", "table a\nput a 1 5\n", 0, put, &mut disks)?;
+    holds(&disks, 0, &image_in(alloc, b'2', 2, 0, &[CATALOGUE, WIDE_PUT])?)?;
+    let found = "elv 55,13\ntaken 0 13 1\nrow a 1 int 5\nend 0\n";
+    tells(&rt, alloc, "recover 2 1", "", 0, found, &mut disks)?;
+    let line = "fault 7 0 format 1 2\n";
+    tells(&rt, alloc, "run 2 1", "table a\n", 7, line, &mut disks)?;
+    let add = "ack 1 138,13\nreply 1 int 7\norder 1\nrow a 1 int 7\nend 0\n";
+    tells(&rt, alloc, "run 2 1 wide", "table a\nadd a 1 2\n", 0, add, &mut disks)?;
+    let found = "elv 138,38\ntaken 0 13 1\ntaken 0 80 1\nrow a 1 int 7\nend 0\n";
+    tells(&rt, alloc, "recover 2 1", "", 0, found, &mut disks)
+}
+
+// Format 2 has room for 32 streams and workers.
+#[test]
+fn words_of_wide_runs(rt: HostRuntime) -> Result<(), Fail> {
+    let alloc = rt.alloc();
+    let called = "ack 1 64,0\nreply 1 none\norder 1\nrow a 1 int 5\nend 0\n";
+    let text = "table a\nput a 1 5\n";
+    tells_anew(&rt, alloc, "run 2 1 command wide", text, 0, called)?;
+    tells_anew(&rt, alloc, "run 17 17 wide", "", 0, "end 0\n")?;
+    tells_anew(&rt, alloc, "run 32 32 data wide", "", 0, "end 0\n")?;
+    for line in ["run 17 1", "run 33 1 wide", "run 1 33 wide", "run 0 1 wide"] {
+        tells_anew(&rt, alloc, line, "", 2, "fault 2\n")?;
+    }
+    Ok(())
 }

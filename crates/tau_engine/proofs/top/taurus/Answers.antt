@@ -1,4 +1,4 @@
-use Rattle.std.proofs.Common.{ℕ, ◌≡◌, ◌<◌, List, ◌∙◌, sym, ap, subst, refl, inl, inr, arith, map, length, take, drop, ◌++◌, rules, true, false}
+use Rattle.std.proofs.Common.{ℕ, ◌≡◌, ◌<◌, ◌≤◌, List, ◌∙◌, sym, ap, subst, refl, inl, inr, arith, map, length, take, drop, ◌++◌, rules, true, false}
 use Rattle.std.specs.Prelude.{string_bytes, Some, None, Ok}
 use Rattle.tau_base.specs.declared.value.LogMode.{LogMode}
 use Rattle.tau_base.specs.Modes.{format_of}
@@ -9,12 +9,13 @@ use Rattle.tau_scan.specs.Reading.{log_of}
 use Rattle.tau_engine.specs.declared.status.Status.{Status}
 use Rattle.tau_engine.specs.declared.status.Status.TheVariants as status
 use Rattle.tau_engine.specs.Recovery.{EndsAsBad, EndsTangled, RecoverTells, IsBadLog, images_of}
-use Rattle.tau_engine.specs.Served.{served, used_by, reads_source, writes_at_end}
+use Rattle.tau_engine.specs.declared.served.Work.{Work}
+use Rattle.tau_engine.specs.Served.{IsWithin, command_in, served, used_by, reads_source, writes_at_end}
 use Rattle.tau_engine.specs.RunSays.{RunSays}
 use Rattle.tau_disk.specs.Used.{EachUsed, OnlyRead, AllCalls, RoseAt, IsClean, IsFirstStopped}
 use Rattle.tau_engine.specs.Outside.{HasWorkload, Wrote, is_behind_reading}
 use Rattle.tau_disk.specs.Disk.{Rose}
-use Rattle.tau_engine.proofs.Opened.{low_streams}
+use Rattle.tau_engine.proofs.Opened.{few_workers}
 use Rattle.tau_engine.proofs.Refusals.{told_refusal}
 use Rattle.tau_engine.proofs.RunClauses as of
 use Rattle.tau_engine.proofs.RunClauses.{may_end, only_memory}
@@ -55,16 +56,16 @@ pub run-requires-clause-meant : goal.run-requires-clause-meant
 run-requires-clause-meant g c κs within = c.in-Ok.ensures.meant
 
 pub run-requires-clause-streams_low : goal.run-requires-clause-streams_low
-run-requires-clause-streams_low g c κs within = (c.in-Ok-Run.ensures.within_run c.in-Ok-Run.n c.in-Ok-Run.m c.in-Ok-Run.mode c.in-Ok-Run.field-0-is).0.0
+run-requires-clause-streams_low g c κs within = (subst (λ (w : Work). IsWithin (command_in w)) c.in-Ok-Run.field-0-is c.in-Ok-Run.ensures.within).0.0
 
 pub run-requires-clause-streams_high : goal.run-requires-clause-streams_high
-run-requires-clause-streams_high g c κs within = low_streams (format_of c.in-Ok-Run.mode) c.in-Ok-Run.n (c.in-Ok-Run.ensures.within_run c.in-Ok-Run.n c.in-Ok-Run.m c.in-Ok-Run.mode c.in-Ok-Run.field-0-is).0.1
+run-requires-clause-streams_high g c κs within = (subst (λ (w : Work). IsWithin (command_in w)) c.in-Ok-Run.field-0-is c.in-Ok-Run.ensures.within).0.1
 
 pub run-requires-clause-low : goal.run-requires-clause-low
-run-requires-clause-low g c κs within = (c.in-Ok-Run.ensures.within_run c.in-Ok-Run.n c.in-Ok-Run.m c.in-Ok-Run.mode c.in-Ok-Run.field-0-is).1
+run-requires-clause-low g c κs within = (subst (λ (w : Work). IsWithin (command_in w)) c.in-Ok-Run.field-0-is c.in-Ok-Run.ensures.within).1
 
 pub run-requires-clause-high : goal.run-requires-clause-high
-run-requires-clause-high g c κs within = (let few = (c.in-Ok-Run.ensures.within_run c.in-Ok-Run.n c.in-Ok-Run.m c.in-Ok-Run.mode c.in-Ok-Run.field-0-is).2 in omega (arith, few))
+run-requires-clause-high g c κs within = few_workers (format_of c.in-Ok-Run.mode) c.in-Ok-Run.m (subst (λ (w : Work). IsWithin (command_in w)) c.in-Ok-Run.field-0-is c.in-Ok-Run.ensures.within).2
 
 pub run-requires-clause-runnable : goal.run-requires-clause-runnable
 run-requires-clause-runnable g c κs within = c.in-Ok.ensures.runnable
@@ -237,6 +238,15 @@ returns-in-Err-clause-silent_text g c e reads tells none = (ends_unread (Wrote g
 
 -- ---- a recovery
 
+pub recover-requires-clause-workers : goal.recover-requires-clause-workers
+recover-requires-clause-workers g c κs within = (let bounds = subst (λ (w : Work). IsWithin (command_in w)) c.in-Ok-Recover.field-0-is c.in-Ok-Recover.ensures.within in (bounds.1, bounds.2))
+
+pub recover-requires-clause-low : goal.recover-requires-clause-low
+recover-requires-clause-low g c κs within = subst (λ (k : ℕ). 1 ≤ k) (sym c.from.ensures) (subst (λ (w : Work). IsWithin (command_in w)) c.in-Ok-Recover.field-0-is c.in-Ok-Recover.ensures.within).0.0
+
+pub recover-requires-clause-high : goal.recover-requires-clause-high
+recover-requires-clause-high g c κs within = subst (λ (k : ℕ). k ≤ 32) (sym c.from.ensures) (subst (λ (w : Work). IsWithin (command_in w)) c.in-Ok-Recover.field-0-is c.in-Ok-Recover.ensures.within).0.1
+
 pub returns-in-Ok-Recover-clause-write_fault_late : goal.returns-in-Ok-Recover-clause-write_fault_late
 returns-in-Ok-Recover-clause-write_fault_late g c n m mode words e =
     absurd (not_recovery (served (map string_bytes c.args.words.now)) n m c.in-Ok-Recover.n c.in-Ok-Recover.p mode words
@@ -371,19 +381,19 @@ returns-in-Ok-Recover-clause-recover_done g c n p log order words tells is order
 -- ---- a drill
 
 pub drill_source-requires-clause-streams_low : goal.drill_source-requires-clause-streams_low
-drill_source-requires-clause-streams_low g c κs within = (c.in-Ok-Drill.ensures.within_drill c.in-Ok-Drill.n c.in-Ok-Drill.m c.in-Ok-Drill.field-0-2 c.in-Ok-Drill.ending c.in-Ok-Drill.field-0-is).0.0
+drill_source-requires-clause-streams_low g c κs within = (subst (λ (w : Work). IsWithin (command_in w)) c.in-Ok-Drill.field-0-is c.in-Ok-Drill.ensures.within).0.0
 
 pub drill_source-requires-clause-streams_high : goal.drill_source-requires-clause-streams_high
-drill_source-requires-clause-streams_high g c κs within = (c.in-Ok-Drill.ensures.within_drill c.in-Ok-Drill.n c.in-Ok-Drill.m c.in-Ok-Drill.field-0-2 c.in-Ok-Drill.ending c.in-Ok-Drill.field-0-is).0.1
+drill_source-requires-clause-streams_high g c κs within = (subst (λ (w : Work). IsWithin (command_in w)) c.in-Ok-Drill.field-0-is c.in-Ok-Drill.ensures.within).0.1
 
 pub drill_source-requires-clause-low : goal.drill_source-requires-clause-low
-drill_source-requires-clause-low g c κs within = (c.in-Ok-Drill.ensures.within_drill c.in-Ok-Drill.n c.in-Ok-Drill.m c.in-Ok-Drill.field-0-2 c.in-Ok-Drill.ending c.in-Ok-Drill.field-0-is).1.0
+drill_source-requires-clause-low g c κs within = (subst (λ (w : Work). IsWithin (command_in w)) c.in-Ok-Drill.field-0-is c.in-Ok-Drill.ensures.within).1.0
 
 pub drill_source-requires-clause-high : goal.drill_source-requires-clause-high
-drill_source-requires-clause-high g c κs within = (c.in-Ok-Drill.ensures.within_drill c.in-Ok-Drill.n c.in-Ok-Drill.m c.in-Ok-Drill.field-0-2 c.in-Ok-Drill.ending c.in-Ok-Drill.field-0-is).1.1
+drill_source-requires-clause-high g c κs within = (subst (λ (w : Work). IsWithin (command_in w)) c.in-Ok-Drill.field-0-is c.in-Ok-Drill.ensures.within).1.1
 
 pub drill_source-requires-clause-ending : goal.drill_source-requires-clause-ending
-drill_source-requires-clause-ending g c κs within = (c.in-Ok-Drill.ensures.within_drill c.in-Ok-Drill.n c.in-Ok-Drill.m c.in-Ok-Drill.field-0-2 c.in-Ok-Drill.ending c.in-Ok-Drill.field-0-is).2
+drill_source-requires-clause-ending g c κs within = (subst (λ (w : Work). IsWithin (command_in w)) c.in-Ok-Drill.field-0-is c.in-Ok-Drill.ensures.within).2
 
 pub returns-in-Ok-Drill-clause-drill : goal.returns-in-Ok-Drill-clause-drill
 returns-in-Ok-Drill-clause-drill g c n m p how load words tells has =
@@ -394,22 +404,22 @@ returns-in-Ok-Drill-clause-drill g c n m p how load words tells has =
 -- ---- the measured job
 
 pub bench-requires-clause-start : goal.bench-requires-clause-start
-bench-requires-clause-start g c κs within = (c.in-Ok-Bench.ensures.within_bench c.in-Ok-Bench.start c.in-Ok-Bench.calls c.in-Ok-Bench.n c.in-Ok-Bench.m c.in-Ok-Bench.field-0-is).0.0
+bench-requires-clause-start g c κs within = (subst (λ (w : Work). IsWithin (command_in w)) c.in-Ok-Bench.field-0-is c.in-Ok-Bench.ensures.within).0.0
 
 pub bench-requires-clause-calls : goal.bench-requires-clause-calls
-bench-requires-clause-calls g c κs within = (c.in-Ok-Bench.ensures.within_bench c.in-Ok-Bench.start c.in-Ok-Bench.calls c.in-Ok-Bench.n c.in-Ok-Bench.m c.in-Ok-Bench.field-0-is).0.1
+bench-requires-clause-calls g c κs within = (subst (λ (w : Work). IsWithin (command_in w)) c.in-Ok-Bench.field-0-is c.in-Ok-Bench.ensures.within).0.1
 
 pub bench-requires-clause-streams_low : goal.bench-requires-clause-streams_low
-bench-requires-clause-streams_low g c κs within = (c.in-Ok-Bench.ensures.within_bench c.in-Ok-Bench.start c.in-Ok-Bench.calls c.in-Ok-Bench.n c.in-Ok-Bench.m c.in-Ok-Bench.field-0-is).1.0
+bench-requires-clause-streams_low g c κs within = (subst (λ (w : Work). IsWithin (command_in w)) c.in-Ok-Bench.field-0-is c.in-Ok-Bench.ensures.within).1.0
 
 pub bench-requires-clause-streams_high : goal.bench-requires-clause-streams_high
-bench-requires-clause-streams_high g c κs within = (c.in-Ok-Bench.ensures.within_bench c.in-Ok-Bench.start c.in-Ok-Bench.calls c.in-Ok-Bench.n c.in-Ok-Bench.m c.in-Ok-Bench.field-0-is).1.1
+bench-requires-clause-streams_high g c κs within = (subst (λ (w : Work). IsWithin (command_in w)) c.in-Ok-Bench.field-0-is c.in-Ok-Bench.ensures.within).1.1
 
 pub bench-requires-clause-low : goal.bench-requires-clause-low
-bench-requires-clause-low g c κs within = (c.in-Ok-Bench.ensures.within_bench c.in-Ok-Bench.start c.in-Ok-Bench.calls c.in-Ok-Bench.n c.in-Ok-Bench.m c.in-Ok-Bench.field-0-is).2
+bench-requires-clause-low g c κs within = (subst (λ (w : Work). IsWithin (command_in w)) c.in-Ok-Bench.field-0-is c.in-Ok-Bench.ensures.within).2
 
 pub bench-requires-clause-high : goal.bench-requires-clause-high
-bench-requires-clause-high g c κs within = (c.in-Ok-Bench.ensures.within_bench c.in-Ok-Bench.start c.in-Ok-Bench.calls c.in-Ok-Bench.n c.in-Ok-Bench.m c.in-Ok-Bench.field-0-is).3
+bench-requires-clause-high g c κs within = (subst (λ (w : Work). IsWithin (command_in w)) c.in-Ok-Bench.field-0-is c.in-Ok-Bench.ensures.within).3
 
 pub returns-in-Ok-Bench-clause-bench : goal.returns-in-Ok-Bench-clause-bench
 returns-in-Ok-Bench-clause-bench g c start calls n m words =
