@@ -75,6 +75,7 @@ module _ {D : Type 0} {G : Ghosts D} (seen_now : (d : D) → G.tells → G.may_l
           count = whole.count;
           kept = whole.kept;
           since = whole.since;
+          calls = λ all. false_not all;
         });
     clerk = y.clerk ∙ x.clerk;
     streams = y.streams ∙ x.streams;
@@ -103,6 +104,7 @@ module _ {D : Type 0} {G : Ghosts D} (seen_now : (d : D) → G.tells → G.may_l
           count = a.count;
           kept = a.kept;
           since = a.since;
+          calls = a.calls;
           moved = (subst (λ (k : ℕ). idled_below k true old.core.load (progress old.core h es K told) (progress new.core a.hidden a.events a.order told)) e a.moved.0, a.moved.1);
         });
     clerk = x.clerk;

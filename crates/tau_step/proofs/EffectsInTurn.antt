@@ -28,7 +28,9 @@ use Rattle.tau_step.specs.Progressed.{progress, clerks}
 use Rattle.tau_step.specs.Rounding.{clerked}
 use Rattle.tau_step.specs.Telling.{Passed}
 use Rattle.tau_step.proofs.RunSteps.{kept_after, went_quiet, went_on, went_as, since_none, rose_on}
+use Rattle.tau_step.proofs.Counted.{counts_none}
 use Rattle.tau_step.proofs.Growing.{grows_none}
+use Rattle.tau_base.proofs.Logic.{some_is}
 use Rattle.tau_step.proofs.Joined.{comes_as, comes_on}
 use Rattle.tau_step.proofs.Silent.{Silent, clerked_silent}
 use Rattle.tau_step.proofs.Turning.{clerked_grows, clerked_same}
@@ -133,7 +135,7 @@ module _ {D : Type 0} {G : Ghosts D} (seen_now : (d : D) → G.tells → G.may_l
           load = c.load;
           taken = c.taken;
           moved = (c.moved, λ e was. noted_same old.flushes new.flushes P P' x.flushes (silent old.core.load P P' e c.moved) was);
-        }) (quiet old.core.load P P' c.moved)
+        }) (quiet old.core.load P P' c.moved) (λ e. silent old.core.load P P' e c.moved)
 
     works_along : whole ≡ true → IsAlong ws new.core new.failed
     works_along e =
@@ -195,6 +197,7 @@ module _ {D : Type 0} {G : Ghosts D} (seen_now : (d : D) → G.tells → G.may_l
     count = refl;
     kept = k.each;
     since = λ j w e. (w, e, since_none j (bases j) p.load (core_of p h) w);
+    calls = λ all j w w' e e'. counts_none j es es w w' refl (some_is w w' (sym e ∙ e'));
   }
 
   pub manages_none : (R : Bool → Load → Progress → Progress → Type 0) (run : Run) (ws : List (Writer D G)) → IsOn ws run → ((P : Progress) → R true run.core.load P P) → Manages R true run run ws ws
@@ -323,12 +326,12 @@ module _ {D : Type 0} {G : Ghosts D} (seen_now : (d : D) → G.tells → G.may_l
                 load = c.load;
                 taken = c.taken;
                 moved = (c.moved, λ e was. noted_same old.flushes new.flushes P P' flushes (clerked_silent true old.core.load P P' e c.moved) was);
-              }) (quiet true old.core.load P P' c.moved)
+              }) (quiet true old.core.load P P' c.moved) (λ e. clerked_silent true old.core.load P P' e c.moved)
       clerk_moves A (Err e) passed heard = record {
         went = λ bases K h es g k. (let t = passed K h es g in let c = t.comes in
             record {
               told_now = t.told;
-              went = went_quiet seen_now bases clerked false old.core new.core ws old.clerk.acks t.told K h es k c (quiet false old.core.load (progress old.core h es K old.clerk.acks) (progress new.core c.hidden c.events c.order t.told) c.moved);
+              went = went_quiet seen_now bases clerked false old.core new.core ws old.clerk.acks t.told K h es k c (quiet false old.core.load (progress old.core h es K old.clerk.acks) (progress new.core c.hidden c.events c.order t.told) c.moved) (λ e. absurd (let bad : false ≡ true = e in cc));
               count = t.count;
               heard = t.heard;
             });

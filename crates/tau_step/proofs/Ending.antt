@@ -13,7 +13,7 @@ use Rattle.tau_block.specs.Image.{HasContent}
 use Rattle.tau_disk.specs.Disk.{Rose}
 use Rattle.tau_disk.specs.declared.disk.Disk.{Ghosts}
 use Rattle.tau_stream.specs.declared.writer.Writer.{Writer}
-use Rattle.tau_stream.specs.Writer.{IsReady}
+use Rattle.tau_stream.specs.Writer.{IsReady, disk_of, has_failed}
 use Rattle.tau_text.specs.declared.load.Turn.{Turn}
 use Rattle.tau_text.specs.declared.load.Workload.{Workload}
 use Rattle.tau_model.specs.History.{Act, Member}
@@ -50,6 +50,7 @@ use Rattle.tau_run.proofs.RunExists.{given_there}
 use Rattle.tau_run.proofs.Start.{started}
 use Rattle.tau_step.specs.declared.run.Run.{Run}
 use Rattle.tau_step.specs.Along.{AreKept, IsAlong, IsLeaving, KeptBy, Since, Went}
+use Rattle.tau_step.specs.Counts.{AreCounted, HasFlushed, counting, flushed_in, flushes_of}
 use Rattle.tau_step.specs.Device.{noting}
 use Rattle.tau_step.specs.RunEffects.{Moves}
 use Rattle.tau_step.specs.Progressed.{progress}
@@ -58,6 +59,7 @@ use Rattle.tau_step.proofs.Kept.{kept_leaving}
 use Rattle.tau_step.proofs.EffectsInTurn.{lowest_same}
 use Rattle.tau_step.proofs.RunEnds.{IsBeyond, AreShort, whole_over}
 use Rattle.tau_step.proofs.Short.{are_short}
+use Rattle.tau_step.proofs.Silent.{false_not}
 use Rattle.tau_step.proofs.Whole.{all_whole, all_part, whole_part}
 use Rattle.tau_machine.proofs.Lists.{member_of}
 
@@ -158,7 +160,7 @@ module _ {D : Type 0} {G : Ghosts D} (seen_now : (d : D) → G.tells → G.may_l
   opening = core_of old.core nothing
 
   abbrev by : Bool → Load → Core → Progress → Type 0
-  by = by_turns l.streams l.workers load
+  by = counting ws ws' (by_turns l.streams l.workers load)
 
   first_held : Heard held old.clerk.acks old.clerk.sink_failed held
   first_held = subst (λ (a : List (ℕ × List ℕ)). Heard held a old.clerk.sink_failed held) (sym acks) (subst (λ (f : Bool). Heard held [] f held) (sym works) (sym (append-nil held)))
@@ -208,7 +210,7 @@ module _ {D : Type 0} {G : Ghosts D} (seen_now : (d : D) → G.tells → G.may_l
         events = went.events;
         joined = went.order;
         led = led.0;
-        part = part;
+        part = (part, λ e. false_not e);
         contents = given.0;
         streams = given.1;
         given = given.2;
@@ -238,6 +240,14 @@ module _ {D : Type 0} {G : Ghosts D} (seen_now : (d : D) → G.tells → G.may_l
     part : IsPartOfRun (setting_of l) l.workers l.streams turns opening P_end
     part = whole_part l turns opening P_end o.stands.sound.workers_low (from_begun true P_end went.moved.0)
 
+    -- the calls of the disks
+    counted : AreCounted ws ws' went.events
+    counted j v v' e e' tells =
+        let c = went.calls refl j v v' e e' tells in
+        let all = c.1 in
+        let many : c.0 ≡ flushes_of j (flushed_in went.events) = omega (arith, all) in
+        subst (λ (k : ℕ). HasFlushed G k false (has_failed v') (disk_of v) (disk_of v')) many (subst (λ (f : Bool). HasFlushed G c.0 f (has_failed v') (disk_of v) (disk_of v')) (b.new j v e).works c.2)
+
     pub told_numbers : All (λ (a : ℕ × List ℕ). IsNumberOf (length new.core.load.calls) a.0) new.clerk.acks
     told_numbers = λ k d lt.
         told_one new.core went.order went.hidden went.stands new.clerk.acks
@@ -253,7 +263,7 @@ module _ {D : Type 0} {G : Ghosts D} (seen_now : (d : D) → G.tells → G.may_l
     concluded end told fates order tables disk sink = record {
       acks = new.clerk.acks;
       came = came noted true new.clerk.acks went (inl whole) part;
-      whole = whole;
+      whole = (whole, λ e. counted);
       over = subst (λ (d : Load). IsOver d.streams (core_of new.core went.hidden)) went.load
           (over_at new.core went.order went.hidden went.stands turns opening P_end refl (subst (λ (d : Load). IsWholeRun (setting_of d) d.workers d.streams turns opening P_end) (sym went.load) whole));
       kept = kept noted true new.clerk.acks went (inl whole) part;

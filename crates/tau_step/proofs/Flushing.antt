@@ -40,7 +40,9 @@ use Rattle.tau_run.specs.Turns.{Stays, Goes}
 use Rattle.tau_run.proofs.Flushes.{made_goes, made_stops}
 use Rattle.tau_step.specs.declared.manager.Managing.TheVariants as did
 use Rattle.tau_step.specs.Progressed.{progress}
+use Rattle.tau_step.specs.Counts.{HasFlushed}
 use Rattle.tau_step.specs.Keeping.{IsLoaded, FlushTurns}
+use Rattle.tau_step.proofs.Counted.{flushed_none}
 use Rattle.tau_step.proofs.Deciding.{if_so, if_not}
 use Rattle.tau_step.proofs.Images.{settled_has}
 
@@ -113,7 +115,7 @@ module _ {D : Type 0} {G : Ghosts D} (j : ℕ) (catalogue : List ℕ) (upto : �
   module _ (ne : upto ≡ durable_of w → ⊥) (durable : durable_of w' ≡ upto) (left : left_of w' ≡ drop (upto - durable_of w) (left_of w)) (works : has_failed w' ≡ false)
       (done : G.tells → (f : Format) (n i : ℕ) (content : List ℕ) → IsReady f n i w content → IsReady f n i w' (content ++ part_upto w upto))
       (moments : G.tells → (f : Format) (n i : ℕ) (content : List ℕ) → IsReady f n i w content → Passes G.moment G.may_leave_since (disk_of w) (disk_of w') (IsOldOrNew f n i content (part_upto w upto)))
-      (goes : G.tells → GoesOn G.number G.fails (disk_of w) (disk_of w')) (faults : G.faults (disk_of w) ≤ G.faults (disk_of w')) where
+      (goes : G.tells → GoesOn G.number G.fails (disk_of w) (disk_of w')) (calls : G.tells → HasFlushed G 1 false (has_failed w') (disk_of w) (disk_of w')) (faults : G.faults (disk_of w) ≤ G.faults (disk_of w')) where
     by_persist : Happened (machine.Persist j upto) p p' K h → FlushTurns j catalogue w w' p p' told K h es did.Flushed
     by_persist q =
         let s = q.leads.0 in
@@ -152,6 +154,7 @@ module _ {D : Type 0} {G : Ghosts D} (j : ℕ) (catalogue : List ℕ) (upto : �
           idle = λ e. absurd (let bad : did.Flushed ≡ did.Idle = e in cc);
           goes = λ e. goes;
           stops = λ e. absurd (let bad : true ≡ false = sym e ∙ works in cc);
+          calls = calls;
         }
       where
         below : (a b c : ℕ) → a ≤ b → (a ≡ b → ⊥) → c ≡ b → a < c
@@ -179,7 +182,7 @@ module _ {D : Type 0} {G : Ghosts D} (j : ℕ) (catalogue : List ℕ) (upto : �
       (ne : upto ≡ durable_of w → ⊥) (durable : durable_of w' ≡ durable_of w) (fails : has_failed w' ≡ true) (rose : Rose (G.faults (disk_of w)) (G.faults (disk_of w')))
       (moments : G.tells → (f : Format) (n i : ℕ) (content : List ℕ) → IsReady f n i w content → Passes G.moment G.may_leave_since (disk_of w) (disk_of w') (IsOldOrNew f n i content (part_upto w upto)))
       (reached : G.tells → (f : Format) (n i : ℕ) (content : List ℕ) → IsReady f n i w content → MayHold f n i content (G.may_leave (disk_of w')))
-      (stops : IsStopped G.tells G.number G.fails G.short (disk_of w) (disk_of w')) (faults : G.faults (disk_of w) ≤ G.faults (disk_of w')) where
+      (stops : IsStopped G.tells G.number G.fails G.short (disk_of w) (disk_of w')) (calls : G.tells → HasFlushed G 0 false (has_failed w') (disk_of w) (disk_of w')) (faults : G.faults (disk_of w) ≤ G.faults (disk_of w')) where
     by_stop : Happened (machine.Stop j (slice_index p.plv j)) p p' K h → FlushTurns j catalogue w w' p p' told K h es did.Failed
     by_stop q =
         let s = q.leads.0 in
@@ -242,6 +245,7 @@ module _ {D : Type 0} {G : Ghosts D} (j : ℕ) (catalogue : List ℕ) (upto : �
           idle = λ e. absurd (let bad : did.Failed ≡ did.Idle = e in cc);
           goes = λ e. absurd (let bad : true ≡ false = sym fails ∙ e in cc);
           stops = λ e. stops;
+          calls = calls;
         }
 
     pub flush_failed : (at : ℕ) → at ≡ slice_index p.plv j → (o : Outcome) → Steps p p' K h (event.Stop j at) o → FlushTurns j catalogue w w' p p' told K h es did.Failed
@@ -258,9 +262,9 @@ module _ {D : Type 0} {G : Ghosts D} (j : ℕ) (catalogue : List ℕ) (upto : �
   module _ (ne : upto ≡ durable_of w → ⊥) (durable : durable_of w' ≡ upto) (left : left_of w' ≡ drop (upto - durable_of w) (left_of w)) (works : has_failed w' ≡ false)
       (done : G.tells → (f : Format) (n i : ℕ) (content : List ℕ) → IsReady f n i w content → IsReady f n i w' (content ++ part_upto w upto))
       (moments : G.tells → (f : Format) (n i : ℕ) (content : List ℕ) → IsReady f n i w content → Passes G.moment G.may_leave_since (disk_of w) (disk_of w') (IsOldOrNew f n i content (part_upto w upto)))
-      (goes : G.tells → GoesOn G.number G.fails (disk_of w) (disk_of w')) (faults : G.faults (disk_of w) ≤ G.faults (disk_of w')) where
+      (goes : G.tells → GoesOn G.number G.fails (disk_of w) (disk_of w')) (calls : G.tells → HasFlushed G 1 false (has_failed w') (disk_of w) (disk_of w')) (faults : G.faults (disk_of w) ≤ G.faults (disk_of w')) where
     pub flush_done : (o : Outcome) → Steps p p' K h (event.Persist j upto) o → FlushTurns j catalogue w w' p p' told K h es did.Flushed
-    flush_done outcome.Went t = by_persist ne durable left works done moments goes faults t
+    flush_done outcome.Went t = by_persist ne durable left works done moments goes calls faults t
     flush_done (outcome.Granted value) t = absurd t
     flush_done (outcome.Busy holder) t = absurd t
     flush_done (outcome.Placed start) t = absurd t
@@ -310,4 +314,5 @@ module _ {D : Type 0} {G : Ghosts D} (j : ℕ) (catalogue : List ℕ) (upto : �
         idle = λ e. (l.works, refl);
         goes = λ e tells. record { same = λ k. refl; later = omega arith; clean = λ k low high. absurd (omega (arith, low, high)) };
         stops = λ e. absurd (let bad : true ≡ false = sym e ∙ l.works in cc);
+        calls = λ tells. flushed_none G false (has_failed w) (disk_of w) (λ e f. absurd (let bad : true ≡ false = sym f ∙ l.works in cc));
       }

@@ -1,5 +1,5 @@
 -- What was gathered is handed to the writer.
-use Rattle.std.proofs.Common.{ℕ, ◌+◌, ◌<◌, ◌≤◌, ◌≡◌, ◌⊎◌, inl, inr, List, ◌++◌, length, sym, ap, subst, ◌∙◌, arith, length-append}
+use Rattle.std.proofs.Common.{ℕ, ◌+◌, ◌<◌, ◌≤◌, ◌≡◌, ◌⊎◌, inl, inr, List, ◌++◌, length, sym, ap, subst, ◌∙◌, arith, length-append, false}
 use Rattle.std.specs.Prelude.{slice_index}
 use Rattle.tau_base.specs.Modes.{format_of}
 use Rattle.tau_base.specs.declared.format.Format.{Format}
@@ -24,6 +24,7 @@ use Rattle.tau_run.specs.StopsLeave.{HasSomeFront}
 use Rattle.tau_run.specs.Turns.{Progress, Flushed}
 use Rattle.tau_step.specs.declared.manager.Managing.{Managing}
 use Rattle.tau_step.specs.Progressed.{progress}
+use Rattle.tau_step.specs.Counts.{HasFlushed, flushes_by}
 use Rattle.tau_step.specs.Keeping.{IsFilled, IsLoaded, Handed, FlushTurns, GatheredTurns, GatheredStops}
 use Rattle.tau_step.proofs.Bodies.{spelled_long, behind_whole}
 use Rattle.tau_step.proofs.Flushing.{spelled_kept}
@@ -145,6 +146,7 @@ module _ {D : Type 0} {G : Ghosts D} (j : ℕ) (catalogue : List ℕ) (upto : �
         idle = λ e. let f = t.idle e in (f.0, f.1 ∙ plv_same);
         goes = λ e tells. subst (λ (k : D). GoesOn G.number G.fails k (disk_of w')) disk (t.goes e tells);
         stops = λ e. subst (λ (k : D). IsStopped G.tells G.number G.fails G.short k (disk_of w')) disk (t.stops e);
+        calls = λ tells. subst (λ (k : D). HasFlushed G (flushes_by a) false (has_failed w') k (disk_of w')) disk (t.calls tells);
       }
 
   pub gathered_stops : has_failed m ≡ has_failed w → GatheredStops j catalogue w m p q told K h es

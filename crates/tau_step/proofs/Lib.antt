@@ -1,4 +1,5 @@
 mod Deciding
+mod Counted
 mod Standing
 mod Working
 mod Lines

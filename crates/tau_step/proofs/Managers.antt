@@ -28,7 +28,9 @@ use Rattle.tau_step.specs.declared.manager.Managing.TheVariants as did
 use Rattle.tau_step.specs.Along.{IsLeaving, Since, AreKept, Went}
 use Rattle.tau_step.specs.Keeping.{IsKept, ManagerTurns, ManagerStops, ManagerTurned}
 use Rattle.tau_step.specs.Progressed.{progress}
+use Rattle.tau_step.specs.Counts.{CountsTo, flushes_by}
 use Rattle.tau_step.specs.Device.{managed_flushing}
+use Rattle.tau_step.proofs.Counted.{counts_spared, turn_counts, turn_spares}
 use Rattle.tau_step.proofs.Calls.{calls_none}
 use Rattle.tau_step.proofs.RunSteps.{since_none}
 use Rattle.tau_step.proofs.Idling.{idle_idled, failed_idled, flushed_on, part_stop}
@@ -119,6 +121,19 @@ module _ {D : Type 0} {G : Ghosts D} (seen_now : (d : D) → G.tells → G.may_l
           flushed_noted (setting_of p.load) p.load.workers p.load.streams j there P P' going f.2 t.moved,
         )
 
+    -- the calls of its own disk, and of the others
+    each_counted : (i : ℕ) (v v' : Writer D G) → slice_get ws i ≡ Some v → slice_get ws' i ≡ Some v' → CountsTo i es t.events v v'
+    each_counted i v v' e e' = elim (cases_eq i j) [
+      | inl same ↦
+          (let was_at : slice_get ws j ≡ Some v = subst (λ (k : ℕ). slice_get ws k ≡ Some v) same e in
+          let is_at : slice_get ws' j ≡ Some v' = subst (λ (k : ℕ). slice_get ws' k ≡ Some v') same e' in
+          let first : w ≡ v = some_is w v (sym is ∙ was_at) in
+          let last : w' ≡ v' = some_is w' v' (sym got_here ∙ is_at) in
+          let here : CountsTo j es t.events w w' = λ tells. (flushes_by a, turn_counts j a P P' (by_answer a refl).1, t.calls tells) in
+          subst (λ (k : ℕ). CountsTo k es t.events v v') (sym same) (subst (λ (x : Writer D G). CountsTo j es t.events x v') first (subst (λ (x : Writer D G). CountsTo j es t.events w x) last here)))
+      | inr ne ↦ counts_spared i es t.events v v' (turn_spares j i ne a P P' (by_answer a refl).1) (some_is v v' (sym e ∙ sym (got_there i ne) ∙ e'))
+    ]
+
     turns_went : Went bases (managed_flushing j (Ok a)) true p p' ws ws' told told K h es
     turns_went =
         let grown = managed_grows (setting_of p.load) p.load.workers p.load.streams P P' j true t.moved in
@@ -140,6 +155,7 @@ module _ {D : Type 0} {G : Ghosts D} (seen_now : (d : D) → G.tells → G.may_l
             stops = λ works fails. (rises works fails, t.stops works fails);
             still = t.still;
           });
+          calls = λ all. each_counted;
         }
       where
         rises : has_failed w ≡ false → has_failed w' ≡ true → Rose (G.faults (disk_of w)) (G.faults (disk_of w'))
@@ -198,6 +214,7 @@ module _ {D : Type 0} {G : Ghosts D} (seen_now : (d : D) → G.tells → G.may_l
             stops = λ works fails. absurd (not_both (has_failed w') stays_working fails);
             still = λ fails. absurd (not_both (has_failed w) t.worked fails);
           });
+          calls = λ all. absurd (not_both false refl all);
         }
 
   pub manager_went : (r : Result Managing NoMemory) → ManagerTurned j (bases j) w w' p p' told K h es r → (whole : Bool) → whole ≡ is_ok r → Went bases (managed_flushing j r) whole p p' ws ws' told told K h es

@@ -5,7 +5,7 @@ use Rattle.std.proofs.lemmas.Bool.{cases_Bool, eq-eqb}
 use Rattle.tau_machine.specs.State.{Setting, Core}
 use Rattle.tau_machine.specs.Events.{Gather, Persist, Stop}
 use Rattle.tau_run.specs.Turns.{Progress, Managed}
-use Rattle.tau_step.specs.Device.{flushed_in}
+use Rattle.tau_step.specs.Counts.{flushed_in}
 use Rattle.tau_step.proofs.Idling.{gathered_stop, gathered_plv, managed_goes, managed_stays, if_then, if_else, none_some}
 use Rattle.tau_step.proofs.Silent.{Silent, goes_silent, goes_flushes}
 

@@ -23,7 +23,9 @@ use Rattle.tau_step.specs.Progressed.{progress, Comes}
 use Rattle.tau_step.proofs.Calls.{calls_none, calls_on, calls_stopped}
 use Rattle.tau_step.proofs.Growing.{grows_on}
 use Rattle.tau_step.proofs.Kept.{left_grows, kept_same, kept_leaving}
-use Rattle.tau_base.proofs.Logic.{not_both}
+use Rattle.tau_step.specs.Counts.{flushed_in}
+use Rattle.tau_step.proofs.Counted.{counts_none, counts_on}
+use Rattle.tau_base.proofs.Logic.{not_both, some_is}
 
 pub rose_on : (a b c : ℕ) → a ≤ b → Rose b c → Rose a c
 rose_on a b c le r = omega (arith, le, r)
@@ -72,8 +74,8 @@ module _ {D : Type 0} {G : Ghosts D} (seen_now : (d : D) → G.tells → G.may_l
 
   -- a step in which no manager acts
   pub went_quiet : (R : Bool → Load → Progress → Progress → Type 0) (whole : Bool) (p p' : Plain) (ws : List (Writer D G)) (told told' : List (ℕ × List ℕ)) (K : List (Act Txn)) (h : Hidden) (es : List machine.Event) →
-      AreKept bases ws p h → (c : Comes (R whole) p p' told told' K h es) → Quiet (core_of p h) (core_of p' c.hidden) → Went bases R whole p p' ws ws told told' K h es
-  went_quiet R whole p p' ws told told' K h es k c q = record {
+      AreKept bases ws p h → (c : Comes (R whole) p p' told told' K h es) → Quiet (core_of p h) (core_of p' c.hidden) → (whole ≡ true → flushed_in c.events ≡ flushed_in es) → Went bases R whole p p' ws ws told told' K h es
+  went_quiet R whole p p' ws told told' K h es k c q silent = record {
     hidden = c.hidden;
     order = c.order;
     events = c.events;
@@ -84,6 +86,7 @@ module _ {D : Type 0} {G : Ghosts D} (seen_now : (d : D) → G.tells → G.may_l
     count = refl;
     kept = λ j w e. kept_by whole j w p' c.hidden (kept_same seen_now j (bases j) w p p' h c.hidden c.load q.grown (q.same j) (ap (λ (t : ℕ → List ℕ). t j) c.taken) (k.each j w e));
     since = λ j w e. (w, e, since_none j (bases j) p.load (core_of p' c.hidden) w);
+    calls = λ all j w w' e e'. counts_none j es c.events w w' (silent all) (some_is w w' (sym e ∙ e'));
   }
 
   pub went_as : (R S : Bool → Load → Progress → Progress → Type 0) (whole : Bool) (p p' : Plain) (ws ws' : List (Writer D G)) (told told' : List (ℕ × List ℕ)) (K : List (Act Txn)) (h : Hidden) (es : List machine.Event) →
@@ -99,6 +102,7 @@ module _ {D : Type 0} {G : Ghosts D} (seen_now : (d : D) → G.tells → G.may_l
     count = x.count;
     kept = x.kept;
     since = x.since;
+    calls = x.calls;
   }
 
   -- one step after another
@@ -122,4 +126,9 @@ module _ {D : Type 0} {G : Ghosts D} (seen_now : (d : D) → G.tells → G.may_l
         (let (v, is, first) = x.since j w e in
         let (w', is', second) = y.since j v is in
         (w', is', since_on j (bases j) p.load (core_of m x.hidden) (core_of p' y.hidden) y.grown w v w' first (subst (λ (l : Load). Since j (bases j) l (core_of p' y.hidden) v w') x.load second)));
+    calls = λ all j w w' e e'.
+        (let (v, is, first) = x.since j w e in
+        let (u, is', second) = y.since j v is in
+        let same : u ≡ w' = some_is u w' (sym is' ∙ e') in
+        counts_on j es x.events y.events w v w' first.still (λ f. sym same ∙ second.still f) (x.calls refl j w v e is) (y.calls all j v w' is e'));
   }

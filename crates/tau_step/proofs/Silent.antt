@@ -11,7 +11,7 @@ use Rattle.tau_core.specs.declared.state.Load.{Load}
 use Rattle.tau_core.specs.View.{setting_of}
 use Rattle.tau_run.specs.Run.{below}
 use Rattle.tau_run.specs.Turns.{Progress, Stays, IsOwn, Goes, has_work, is_going, Worked, Cleared, OneByOne, Turned, DropOf, AnchoredPart, Alone, LeftOver}
-use Rattle.tau_step.specs.Device.{flushed_by_event, flushed_in}
+use Rattle.tau_step.specs.Counts.{flushed_by_event, flushed_in}
 use Rattle.tau_step.specs.Rounding.{turned, clerked, rounded_by, ran_left_over}
 use Rattle.tau_step.proofs.Turning.{if_either}
 

@@ -3,7 +3,7 @@ use Rattle.std.specs.Prelude.{ℕ, ◌≡◌, Bool, true, List, [], ◌∷◌, �
 use Rattle.std.specs.List.{flat_map}
 use Rattle.tau_base.specs.declared.value.LogMode.{LogMode}
 use Rattle.tau_base.specs.declared.value.NoMemory.{NoMemory}
-use Rattle.tau_machine.specs.Events.{Event, Persist}
+use Rattle.tau_machine.specs.Events.{Event}
 use Rattle.tau_text.specs.declared.load.Workload.{Workload}
 use Rattle.tau_core.specs.declared.state.Load.{Load}
 use Rattle.tau_open.specs.Outside.{calls_to_make}
@@ -14,16 +14,8 @@ use Rattle.tau_run.specs.Turns.{Progress}
 use Rattle.tau_step.specs.declared.flushes.Flushes.{Flushes}
 use Rattle.tau_step.specs.declared.manager.Managing.{Managing}
 use Rattle.tau_step.specs.declared.manager.Managing.TheVariants as did
+use Rattle.tau_step.specs.Counts.{calls_to_flush, flushed_in}
 use Rattle.tau_step.specs.Rounding.{managed_by}
-
--- the stream that an event flushes
-abbrev pub flushed_by_event : Event → List ℕ
-flushed_by_event (Persist j upto) = j ∷ []
-flushed_by_event _ = []
-
--- the streams that these events flush, in their order
-abbrev pub flushed_in : List Event → List ℕ
-flushed_in events = flat_map flushed_by_event events
 
 -- what is noted are the flushes of these events, where they are noted
 abbrev pub IsNoted : Flushes → List Event → Type 0
@@ -50,10 +42,6 @@ managed_flushing j r whole l P P' = managed_by j r whole l P P' × flushed_by_tu
 abbrev pub NotesTurn : ℕ → Result Managing NoMemory → Flushes → Flushes → Type 0
 NotesTurn j (Ok did.Flushed) old new = NotesFlush j old new
 NotesTurn j other old new = new ≡ old
-
--- the calls of a flush: two writes, each with a sync
-abbrev pub calls_to_flush : ℕ
-calls_to_flush = 4
 
 -- The stream of each disk call of a run by n streams that has these flushes, and in which none stops: each is asked its
 -- length, each is made, and then come the flushes.

@@ -20,6 +20,7 @@ use Rattle.tau_run.specs.Turns.{Managed, ManagedPart, Flushed}
 use Rattle.tau_run.specs.StopsLeave.{HasFront, HasSomeFront}
 use Rattle.tau_step.specs.declared.manager.Managing.{Managing}
 use Rattle.tau_step.specs.declared.manager.Managing.TheVariants as did
+use Rattle.tau_step.specs.Counts.{HasFlushed, flushes_by}
 use Rattle.tau_step.specs.Progressed.{progress}
 
 module _ {D : Type 0} {G : Ghosts D} (j : ℕ) (catalogue : List ℕ) where
@@ -96,6 +97,7 @@ module _ {D : Type 0} {G : Ghosts D} (j : ℕ) (catalogue : List ℕ) where
       pub goes : has_failed w' ≡ false → G.tells → GoesOn G.number G.fails (disk_of w) (disk_of w')
       pub stops : has_failed w ≡ false → has_failed w' ≡ true → IsStopped G.tells G.number G.fails G.short (disk_of w) (disk_of w')
       pub still : has_failed w ≡ true → w' ≡ w
+      pub calls : G.tells → HasFlushed G (flushes_by a) (has_failed w) (has_failed w') (disk_of w) (disk_of w')
 
     -- out of memory after the gathering: the disk is as it was
     pub record ManagerStops : Type 0 where
@@ -128,6 +130,7 @@ module _ {D : Type 0} {G : Ghosts D} (j : ℕ) (catalogue : List ℕ) where
       pub idle : a ≡ did.Idle → (has_failed w' ≡ false) × (slice_index p'.plv j ≡ slice_index p.plv j)
       pub goes : has_failed w' ≡ false → G.tells → GoesOn G.number G.fails (disk_of w) (disk_of w')
       pub stops : has_failed w' ≡ true → IsStopped G.tells G.number G.fails G.short (disk_of w) (disk_of w')
+      pub calls : G.tells → HasFlushed G (flushes_by a) false (has_failed w') (disk_of w) (disk_of w')
 
     -- the turn after its Gather
     pub record GatheredTurns (a : Managing) : Type 0 where
@@ -146,6 +149,7 @@ module _ {D : Type 0} {G : Ghosts D} (j : ℕ) (catalogue : List ℕ) where
       pub idle : a ≡ did.Idle → (has_failed w' ≡ false) × (slice_index p'.plv j ≡ slice_index p.plv j)
       pub goes : has_failed w' ≡ false → G.tells → GoesOn G.number G.fails (disk_of w) (disk_of w')
       pub stops : has_failed w' ≡ true → IsStopped G.tells G.number G.fails G.short (disk_of w) (disk_of w')
+      pub calls : G.tells → HasFlushed G (flushes_by a) false (has_failed w') (disk_of w) (disk_of w')
 
     -- out of memory: nothing happened, and the disk is as it was
     pub record GatheredStops : Type 0 where

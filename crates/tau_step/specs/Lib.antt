@@ -1,3 +1,4 @@
+pub mod Counts
 pub mod Progressed
 pub mod Acting
 pub mod Telling

@@ -12,7 +12,8 @@ ghost use Rattle.tau_open.specs.Outside.{calls_to_make};
 ghost use Rattle.tau_run.specs.Start.{catalogue_of};
 ghost use Rattle.tau_run.specs.Run.{below};
 ghost use Rattle.tau_run.specs.Writers.{AreNew};
-ghost use Rattle.tau_step.specs.Device.{IsDeviceOrder, IsFlushOrder, IsOfRun, calls_to_flush};
+ghost use Rattle.tau_step.specs.Counts.{calls_to_flush};
+ghost use Rattle.tau_step.specs.Device.{IsDeviceOrder, IsFlushOrder, IsOfRun};
 
 use crate::clerk::Clerk;
 use crate::flushes::Flushes;

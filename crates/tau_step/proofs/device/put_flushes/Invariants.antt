@@ -1,5 +1,5 @@
 use Rattle.std.proofs.Common.{◌≡◌, ◌++◌, take, replicate, flat_map}
-use Rattle.tau_step.specs.Device.{calls_to_flush}
+use Rattle.tau_step.specs.Counts.{calls_to_flush}
 use Rattle.tau_step.proofs.device.put_flushes.Given as goal
 
 abbrev pub invariant-loop-stream : goal.invariant-loop-stream

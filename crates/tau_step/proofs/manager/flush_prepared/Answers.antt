@@ -3,7 +3,9 @@ use Rattle.tau_stream.specs.declared.flush.Flush.TheVariants as flush
 use Rattle.tau_step.specs.declared.manager.Managing.TheVariants as did
 use Rattle.tau_core.specs.Answered.{reached_by}
 use Rattle.tau_run.proofs.Flushes.{made_goes, made_stops}
+use Rattle.tau_stream.specs.Writer.{has_failed}
 use Rattle.tau_step.specs.Keeping.{FlushTurns}
+use Rattle.tau_step.proofs.Counted.{flushed_part, flushed_whole}
 use Rattle.tau_step.proofs.Flushing.{flush_done, flush_failed, flush_idle}
 use Rattle.tau_step.proofs.manager.flush_prepared.Goals as goal
 
@@ -13,6 +15,7 @@ returns-in-Ok g c = λ catalogue K h es told stands size l.
     (λ e. let bad = sym c.in-Ok.is ∙ c.flush.ensures.flushes.idle.1 e in cc)
     c.in-Ok.ensures.flushed.durable c.in-Ok.ensures.flushed.left c.in-Ok.ensures.flushed.works c.in-Ok.ensures.flushed.done c.flush.ensures.flushes.moments
     (λ tells. made_goes g.D.Disk c.args.writer.now.disk c.flush.new.self.disk c.in-Ok.field-0 c.flush.result c.in-Ok.is (c.flush.ensures.flushes.plan tells (λ e. let bad = sym c.in-Ok.is ∙ c.flush.ensures.flushes.idle.1 e in cc)))
+    (λ tells. flushed_whole g.D.Disk c.in-Ok.field-0 c.flush.result (has_failed c.flush.new.self) c.args.writer.now.disk c.flush.new.self.disk c.in-Ok.is c.in-Ok.ensures.flushed.works (c.flush.ensures.flushes.plan tells (λ e. let bad = sym c.in-Ok.is ∙ c.flush.ensures.flushes.idle.1 e in cc)))
     c.flush.ensures.flushes.faults
     (reached_by c.persist.result) (c.persist.ensures K h stands)
 
@@ -24,6 +27,7 @@ returns-in-Err-Failed g c = λ catalogue K h es told stands size l.
     (λ e. let bad = sym err ∙ c.flush.ensures.flushes.idle.1 e in cc)
     c.in-Err-Failed.ensures.stays.durable failed.1 failed.0 c.flush.ensures.flushes.moments c.in-Err-Failed.ensures.stays.reached
     (λ tells. made_stops g.D.Disk c.args.writer.now.disk c.flush.new.self.disk flush.Failed c.flush.result err (c.flush.ensures.flushes.plan tells (λ e. let bad = sym err ∙ c.flush.ensures.flushes.idle.1 e in cc)))
+    (λ tells. flushed_part g.D.Disk flush.Failed c.flush.result (has_failed c.flush.new.self) c.args.writer.now.disk c.flush.new.self.disk err failed.1 (c.flush.ensures.flushes.plan tells (λ e. let bad = sym err ∙ c.flush.ensures.flushes.idle.1 e in cc)))
     c.flush.ensures.flushes.faults
     c.durable-at.result (c.durable-at.ensures ∙ c.in-Err-Failed.ensures.stays.durable ∙ l.durable) (reached_by c.stop.result) (c.stop.ensures K h stands)
 
