@@ -23,7 +23,7 @@ use Rattle.tau_replay.specs.Redone.{IsOrderOf}
 use Rattle.tau_run.specs.Run.{Committed, acts, means, has_ack}
 use Rattle.tau_run.specs.Start.{Start}
 use Rattle.tau_run.specs.RecoveredFacts.{AreFrom, IsRecovered, takes}
-use Rattle.tau_engine.specs.Drill.{AreNewDisks, ArePlanned, IsDrill, IsFound, IsNew, IsRehearsed, StopsAt, images_by, is_of, stop_at, tear_in}
+use Rattle.tau_engine.specs.Drill.{AreNewDisks, ArePlanned, IsDrill, IsFound, IsNew, IsPlay, IsRehearsed, StopsAt, images_by, is_of, stop_at, tear_in}
 use Rattle.tau_engine.specs.DiskFacts.{Now}
 use Rattle.tau_engine.specs.Recovery.{IsRecoveryOf}
 use Rattle.tau_base.proofs.Lists.{some_at, got_more, got_within, length_mapped, got_mapped}
@@ -76,7 +76,10 @@ module _ {G : Ghosts MemDisk} (tells : G.tells) (left : (d : MemDisk) (tear : Te
   ordered = (recovered.log, recovered.reads, recovered.sound.redone.ordered.0, recovered.sound.redone.ordered.1)
 
 module _ {G : Ghosts MemDisk} (tells : G.tells) (left : (d : MemDisk) (tear : Tear) → G.may_leave d (image_by (state_of d) tear)) (n m : ℕ) (how : Ending) (load : Workload) (old new : List MemDisk) (count : length old ≡ n) (same_count : length new ≡ n) (held acks text : List ℕ)
-    (r : IsRehearsed G n m load old new (λ lines. acks ≡ held ++ lines)) (begun : held ≡ []) (calls : ℕ) (f : IsFound (images_by (tear_in how) new) calls (λ lines. text ≡ acks ++ lines)) (planned : ArePlanned n m load how old new calls) (has_room : list_any is_short_by new ≡ false) where
+    (play : IsPlay G n m load old new (λ lines. acks ≡ held ++ lines)) (begun : held ≡ []) (calls : ℕ) (f : IsFound (images_by (tear_in how) new) calls (λ lines. text ≡ acks ++ lines)) (planned : ArePlanned n m load how old new calls) (has_room : list_any is_short_by new ≡ false) where
+  abbrev r : IsRehearsed G n m load old new (λ lines. acks ≡ held ++ lines)
+  r = play.rehearsed
+
   abbrev again : IsRehearsed G n m load old new (λ lines. acks ≡ lines)
   again = record { failed = r.failed; ends = r.ends; facts = r.facts; acked = r.acked ∙ ap (λ (h : List ℕ). h ++ ack_lines r.facts.run.acks) begun }
 
@@ -100,6 +103,7 @@ module _ {G : Ghosts MemDisk} (tells : G.tells) (left : (d : MemDisk) (tear : Te
     has_room = has_room;
     acks = acks;
     rehearsed = again;
+    played = play.played;
     recovered = recovers;
     found = f.found;
     recovery = finds;

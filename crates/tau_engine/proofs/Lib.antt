@@ -13,6 +13,7 @@ pub mod RunClauses
 pub mod Within
 pub mod Tops
 pub mod Same
+mod Playing
 mod Rehearsed
 mod Drilled
 mod Drilling

@@ -36,6 +36,7 @@ use Rattle.tau_run.specs.StopsLeave.{IsLeft}
 use Rattle.tau_engine.proofs.Chosen.{chosen}
 use Rattle.tau_run.specs.RunFacts.{Ending, chosen_by, IsCoreRun, IsCoreRunAt, RunTells, RunFacts, turns_of}
 use Rattle.tau_run.specs.RunFacts as told
+use Rattle.tau_run.specs.StopsLeave.{NamesLowest}
 use Rattle.tau_run.specs.Turns.{Progress, begun, Turned, TurnedAll, OneByOne, Cleared, IsPartOfRun}
 use Rattle.tau_run.proofs.Acked.{whole}
 use Rattle.tau_run.proofs.History.{is_set, is_history}
@@ -285,3 +286,12 @@ module _ (n m : ℕ) (mode : LogMode) (load : Workload) (some : 1 ≤ n) (room :
       RunTells (IsEnded n mode load now rose) n load (λ j. None) sink_rose (λ j. calls_to_open) made wrote fault empty_run ending →
       (facts : RunFacts (chosen_by load.turns n m load) n m mode load (fresh_start n) unborn past now rose sink_rose (λ j. calls_to_open) made wrote fault ending) × (facts.run.acks ≡ [])
   told_of_none unborn past now rose sink_rose made wrote fault ending may left tells = (built_of_none unborn past now rose sink_rose made wrote fault ending may left tells, refl)
+
+  -- so it is where a disk failed before it began
+  pub told_of_failed : (j : ℕ) (unborn : Type 0) (past now : ℕ → List ℕ → Type 0) (rose : ℕ → Type 0) (sink_rose : Type 0) (made : ℕ → ℕ → Type 0) (wrote : List ℕ → Type 0) (fault : ℕ → List ℕ) →
+      (unborn → (i : ℕ) (x : List ℕ) → i < n → past i x → HasContent One n i [] x ⊎ HasContent One n i catalogue x) →
+      RunTells (IsEnded n mode load now rose) n load (λ i. None) sink_rose (λ i. calls_to_open) made wrote fault empty_run (told.DiskFailed j) →
+      (facts : RunFacts (chosen_by load.turns n m load) n m mode load (fresh_start n) unborn past now rose sink_rose (λ i. calls_to_open) made wrote fault (told.DiskFailed j)) × (facts.run.acks ≡ [])
+      × ((none : (facts.run.calls ≡ []) × (facts.run.acks ≡ []) × NamesLowest n facts.stops None) × (facts.core ≡ inr none))
+  unfolding core_at
+  told_of_failed j unborn past now rose sink_rose made wrote fault left tells = (built_of_none unborn past now rose sink_rose made wrote fault (told.DiskFailed j) tt left tells, refl, ((refl, refl, λ i lt. refl), refl))

@@ -14,7 +14,8 @@ use Rattle.tau_disk.specs.Used.{EachIn, RoseAt, IsFirstStopped, Made}
 use Rattle.tau_stream.specs.declared.writer.Writer.{Writer}
 use Rattle.tau_stream.specs.Writer.{disk_of}
 use Rattle.tau_open.specs.Outside.{calls_to_open}
-use Rattle.tau_open.specs.Opening.{AreOpened, Begins}
+use Rattle.tau_open.specs.Opening.{AreOpened, Begins, Refuses}
+use Rattle.tau_open.specs.declared.refusal.OpenRefusal.TheVariants.{Failed}
 use Rattle.tau_model.specs.Tables.{IsTablesOf}
 use Rattle.tau_machine.specs.State.{Core}
 use Rattle.tau_text.specs.declared.load.Workload.{Workload}
@@ -28,21 +29,25 @@ use Rattle.tau_scan.specs.Sound.{IsSound}
 use Rattle.tau_run.specs.Start.{fresh_start, catalogue_of, old_at, opened_at}
 use Rattle.tau_run.specs.CoreRun.{IsCourse, IsLoadOn, IsRunOf, IsSoundLoad}
 use Rattle.tau_run.specs.StopsLeave.{IsLeft, IsOver, NamesLowest, stops_in}
-use Rattle.tau_run.specs.RunFacts as ending
 use Rattle.tau_run.specs.RunFacts.{by_turns, chosen_by, IsCoreRun}
 use Rattle.tau_run.proofs.Came as of
+use Rattle.tau_run.proofs.Came.{came_by}
+use Rattle.tau_run.specs.Turns.{Progress}
 use Rattle.tau_run.proofs.Fresh.{fresh_begins}
 use Rattle.tau_run.proofs.Imaged.{imaged, acknowledged}
 use Rattle.tau_run.proofs.Results.{history_law}
-use Rattle.tau_run.specs.Gives.{CameTo, Concluded}
+use Rattle.tau_run.specs.Gives.{CameTo, came_far, Concluded}
 use Rattle.tau_run.specs.Heard.{Heard}
 use Rattle.tau_engine.specs.Bench.{IsMeasured, PlaysWell}
-use Rattle.tau_engine.specs.Drill.{IsRehearsed, PlaysOn}
+use Rattle.tau_step.specs.Counts.{AreCounted, counting}
+use Rattle.tau_engine.specs.Drill.{IsPlay, IsRehearsed, PlaysOn}
+use Rattle.tau_engine.specs.Played.{ArePlayed}
 use Rattle.tau_engine.specs.DiskFacts.{Past, Now, AreUnborn}
 use Rattle.tau_engine.specs.Outside.{Wrote}
 use Rattle.tau_engine.specs.Runs.{ran_by}
 use Rattle.tau_engine.proofs.Chosen.{chosen}
-use Rattle.tau_engine.proofs.NotBegun.{told_of_none}
+use Rattle.tau_engine.proofs.NotBegun.{told_of_failed}
+use Rattle.tau_engine.proofs.Playing.{none_played, played}
 use Rattle.tau_engine.proofs.Ran.{as_chosen, gave}
 use Rattle.tau_engine.proofs.RanTo as to
 use Rattle.tau_engine.proofs.Reports.{reported_by, last_is}
@@ -50,9 +55,9 @@ use Rattle.tau_engine.proofs.Streams.{OnlyNow, fresh_way, Joined, clean_below, f
 
 -- a run of any kind that went to its end, on these writers, where the sink has not failed
 module _ {D : Type 0} {G : Ghosts D} (only_now : OnlyNow G) (n m : ℕ) (load : Workload) (old mid new : List D) (many : n ≤ length old) (ws after : List (Writer D G)) (streams : AreOpened G n (catalogue_of load) old mid ws) (back : new ≡ map disk_of after ++ mid)
-    (tells : G.tells) (hears : Type 0) (held held' : List ℕ) (rose : Type 0) (end : RunEnd) (sound : IsSoundLoad load) (l : Load) (load_is : IsLoadOn n m Values load (fresh_start n) l) (h : Concluded (chosen_by load.turns n m load) (opened_at load (fresh_start n)) l ws after hears held held' rose end) (works : end.sink_failed ≡ false) where
+    (tells : G.tells) (hears : Type 0) (held held' : List ℕ) (rose : Type 0) (end : RunEnd) (sound : IsSoundLoad load) (l : Load) (load_is : IsLoadOn n m Values load (fresh_start n) l) (how : Bool → Load → Core → Progress → Type 0) (also : (whole : Bool) (opening : Core) (p : Progress) → how whole l opening p → chosen_by load.turns n m load whole l opening p) (h : Concluded how (opened_at load (fresh_start n)) l ws after hears held held' rose end) (works : end.sink_failed ≡ false) where
   abbrev t : CameTo (chosen_by load.turns n m load) (opened_at load (fresh_start n)) l ws after h.acks
-  t = h.came
+  t = came_by how (chosen_by load.turns n m load) (opened_at load (fresh_start n)) l ws after also h.came
 
   abbrev s : Core
   s = t.state
@@ -75,8 +80,8 @@ module _ {D : Type 0} {G : Ghosts D} (only_now : OnlyNow G) (n m : ℕ) (load : 
   pub lowest : NamesLowest n (stops_in s) end.disk
   lowest = subst (λ (k : ℕ). NamesLowest k (stops_in s) end.disk) load_is.streams h.disk
 
-  core : IsCoreRun (chosen_by load.turns n m load true) n m Values load (λ j. (s.streams j).stop) run
-  core = to.core_run only_now n m Values load sound l load_is ws after h.acks t true h.whole
+  abbrev core : IsCoreRun (chosen_by load.turns n m load true) n m Values load (λ j. (s.streams j).stop) run
+  core = record { stands_on = l; load_is = load_is; opening = t.opening; first = t.first; progress = came_far t; led = t.led; chosen = also true t.opening (came_far t) h.whole; is = is; told = refl; stopped = λ j lt. refl }
 
   at_leaves : Rattle.tau_run.specs.StopsLeave.Leaves n (old_at run.start) (opened_at load run.start) l s (λ j x. ⊥) (Now G.tells G.may_leave old new) (RoseAt G.faults old new)
   at_leaves = to.at_leaves only_now n m Values load sound l load_is ws after h.acks t old mid new many streams back
@@ -126,40 +131,48 @@ module _ {D : Type 0} {G : Ghosts D} (only_now : OnlyNow G) (n m : ℕ) (load : 
     acked = told;
   }
 
-  pub rehearsal : IsRehearsed G n m load old new (Wrote hears held held')
-  rehearsal = by end.disk lowest
+  -- the disks are those of its calls
+  now_played : AreCounted ws after h.came.events → ArePlayed G n old new (came_far t)
+  now_played counted = played G n (catalogue_of load) l (came_far t) streams_are old mid new many ws after streams back (to.writers only_now n m Values load sound l load_is ws after h.acks t) counted all
+
+  pub rehearsal : AreCounted ws after h.came.events → IsPlay G n m load old new (Wrote hears held held')
+  rehearsal counted = by end.disk lowest
     where
-      by : (failed : Option ℕ) → NamesLowest n (stops_in s) failed → IsRehearsed G n m load old new (Wrote hears held held')
-      by None going = went_well going
+      by : (failed : Option ℕ) → NamesLowest n (stops_in s) failed → IsPlay G n m load old new (Wrote hears held held')
+      by None going = record { rehearsed = went_well going; played = now_played counted }
       by (Some j) q = record {
-        failed = Some j;
-        ends = (q.0, first_stopped G n (fresh_way G n (catalogue_of load)) l s streams_are old new many all j q.1.0 q.0 q.1.1 q.2 tells);
-        facts = record {
-          run = run;
-          begins = refl;
-          history = history_law n m Values load l t.joined s run course is;
-          stops = λ i. (s.streams i).stop;
-          core = inl core;
-          stopped = at_leaves.stopped;
-          told = inl (
-            ended,
-            q,
-            λ i lt. (let k = made_all G n (fresh_way G n (catalogue_of load)) l s streams_are old new many all i lt in (k.0, k.1, k.2 tells)),
-            (report_text load.declarations.tables end.report (Some j), reports (Some j), tt),
-          );
-          imaged = imaged n m Values load l t.joined s run course is (Now G.tells G.may_leave old new) (Now G.tells G.may_leave old new) (RoseAt G.faults old new) (Unit {0}) (λ u. (sound_start, λ i y lt w. left_now i y lt w));
-          acknowledged = acknowledged n m Values load l t.joined s run course is (λ i y. ⊥) (Now G.tells G.may_leave old new) (RoseAt G.faults old new) at_leaves;
+        rehearsed = record {
+          failed = Some j;
+          ends = (q.0, first_stopped G n (fresh_way G n (catalogue_of load)) l s streams_are old new many all j q.1.0 q.0 q.1.1 q.2 tells);
+          facts = record {
+            run = run;
+            begins = refl;
+            history = history_law n m Values load l t.joined s run course is;
+            stops = λ i. (s.streams i).stop;
+            core = inl core;
+            stopped = at_leaves.stopped;
+            told = inl (
+              ended,
+              q,
+              λ i lt. (let k = made_all G n (fresh_way G n (catalogue_of load)) l s streams_are old new many all i lt in (k.0, k.1, k.2 tells)),
+              (report_text load.declarations.tables end.report (Some j), reports (Some j), tt),
+            );
+            imaged = imaged n m Values load l t.joined s run course is (Now G.tells G.may_leave old new) (Now G.tells G.may_leave old new) (RoseAt G.faults old new) (Unit {0}) (λ u. (sound_start, λ i y lt w. left_now i y lt w));
+            acknowledged = acknowledged n m Values load l t.joined s run course is (λ i y. ⊥) (Now G.tells G.may_leave old new) (RoseAt G.faults old new) at_leaves;
+          };
+          acked = told;
         };
-        acked = told;
+        played = now_played counted;
       }
 
 -- the run of a drill
 module _ {D : Type 0} {G : Ghosts D} (only_now : OnlyNow G) (n m : ℕ) (load : Workload) (room : n ≤ 16) (sound : IsSoundLoad load) (old mid new : List D) (many : n ≤ length old) (ws : List (Writer D G))
     (streams : AreOpened G n (catalogue_of load) old mid ws) (tells : G.tells) (hears : Type 0) (held held' : List ℕ) (rose : Type 0) (p : PlaysOn m load ws mid new hears held held' rose) where
-  pub rehearsed_on : IsRehearsed G n m load old new (Wrote hears held held')
+  pub rehearsed_on : IsPlay G n m load old new (Wrote hears held held')
   rehearsed_on =
-      let g = gave (λ k. by_turns k m load) (chosen_by load.turns n m load) n m Values load (λ whole l opening p x. chosen load.turns whole n m load l opening p x) ws p.after streams.count hears held held' rose (Ok p.end) p.ran in
-      rehearsal only_now n m load old mid new many ws p.after streams p.back tells hears held held' rose p.end sound g.0 g.1 g.2 p.heard
+      let how : Bool → Load → Core → Progress → Type 0 = counting ws p.after (chosen_by load.turns n m load) in
+      let g = gave (λ k. counting ws p.after (by_turns k m load)) how n m Values load (λ whole l opening q x. (chosen load.turns whole n m load l opening q x.0, x.1)) ws p.after streams.count hears held held' rose (Ok p.end) p.ran in
+      rehearsal only_now n m load old mid new many ws p.after streams p.back tells hears held held' rose p.end sound g.0 g.1 how (λ whole opening q x. x.0) g.2 p.heard (g.2.whole.1 refl)
 
 -- a run in which nothing failed, with its rows
 module _ {D : Type 0} {G : Ghosts D} (only_now : OnlyNow G) (n m : ℕ) (load : Workload) (room : n ≤ 16) (sound : IsSoundLoad load) (old mid new : List D) (many : n ≤ length old) (ws : List (Writer D G))
@@ -168,19 +181,19 @@ module _ {D : Type 0} {G : Ghosts D} (only_now : OnlyNow G) (n m : ℕ) (load : 
   h_gave = gave (λ k. ran_by load.turns k m load) (chosen_by load.turns n m load) n m Values load (as_chosen load.turns n m load) ws q.after streams.count hears held held' rose (Ok q.end) q.ran
 
   going : NamesLowest n (stops_in h_gave.2.came.state) None
-  going = subst (λ (o : Option ℕ). NamesLowest n (stops_in h_gave.2.came.state) o) q.whole (lowest only_now n m load old mid new many ws q.after streams q.back tells hears held held' rose q.end sound h_gave.0 h_gave.1 h_gave.2 q.heard)
+  going = subst (λ (o : Option ℕ). NamesLowest n (stops_in h_gave.2.came.state) o) q.whole (lowest only_now n m load old mid new many ws q.after streams q.back tells hears held held' rose q.end sound h_gave.0 h_gave.1 (chosen_by load.turns n m load) (λ whole opening p x. x) h_gave.2 q.heard)
 
   pub measured_on : IsMeasured G n m load old new (Wrote hears held held') rows
   measured_on = record {
-    rehearsed = went_well only_now n m load old mid new many ws q.after streams q.back tells hears held held' rose q.end sound h_gave.0 h_gave.1 h_gave.2 q.heard going;
-    all = complete only_now n m load old mid new many ws q.after streams q.back tells hears held held' rose q.end sound h_gave.0 h_gave.1 h_gave.2 q.heard going;
-    present = subst (λ (xs : List (Key × Value)). IsTablesOf (last_db load (run only_now n m load old mid new many ws q.after streams q.back tells hears held held' rose q.end sound h_gave.0 h_gave.1 h_gave.2 q.heard)) xs) q.rows_are
-        (present only_now n m load old mid new many ws q.after streams q.back tells hears held held' rose q.end sound h_gave.0 h_gave.1 h_gave.2 q.heard);
+    rehearsed = went_well only_now n m load old mid new many ws q.after streams q.back tells hears held held' rose q.end sound h_gave.0 h_gave.1 (chosen_by load.turns n m load) (λ whole opening p x. x) h_gave.2 q.heard going;
+    all = complete only_now n m load old mid new many ws q.after streams q.back tells hears held held' rose q.end sound h_gave.0 h_gave.1 (chosen_by load.turns n m load) (λ whole opening p x. x) h_gave.2 q.heard going;
+    present = subst (λ (xs : List (Key × Value)). IsTablesOf (last_db load (run only_now n m load old mid new many ws q.after streams q.back tells hears held held' rose q.end sound h_gave.0 h_gave.1 (chosen_by load.turns n m load) (λ whole opening p x. x) h_gave.2 q.heard)) xs) q.rows_are
+        (present only_now n m load old mid new many ws q.after streams q.back tells hears held held' rose q.end sound h_gave.0 h_gave.1 (chosen_by load.turns n m load) (λ whole opening p x. x) h_gave.2 q.heard);
   }
 
 -- what a sink that tells has heard
-pub heard_now : {D : Type 0} {G : Ghosts D} (n m : ℕ) (load : Workload) (old new : List D) (held held' : List ℕ) → IsRehearsed G n m load old new (λ lines. Unit {0} → held' ≡ held ++ lines) → IsRehearsed G n m load old new (λ lines. held' ≡ held ++ lines)
-heard_now n m load old new held held' r = record { failed = r.failed; ends = r.ends; facts = r.facts; acked = r.acked tt }
+pub heard_now : {D : Type 0} {G : Ghosts D} (n m : ℕ) (load : Workload) (old new : List D) (held held' : List ℕ) → IsPlay G n m load old new (λ lines. Unit {0} → held' ≡ held ++ lines) → IsPlay G n m load old new (λ lines. held' ≡ held ++ lines)
+heard_now n m load old new held held' r = record { rehearsed = record { failed = r.rehearsed.failed; ends = r.rehearsed.ends; facts = r.rehearsed.facts; acked = r.rehearsed.acked tt }; played = r.played }
 
 -- ---- a disk failed while the streams were opened
 
@@ -205,16 +218,19 @@ module _ {D : Type 0} (G : Ghosts D) (only_now : OnlyNow G) (counts_now : (d : D
       let later : G.moment d ≤ G.moment e = subst (λ (y : D). G.moment d ≤ G.moment y) same (begun t (unborn j d lt was t)).later in
       (d, e, was, is, (t, counts_now e (G.moment d) x later now))
 
-  pub rehearsed_none : (j : ℕ) → j < n → IsFirstStopped G.tells G.number G.fails G.short old new j → (k : ℕ) → k ≤ calls_to_open → Made G.number G.short old new j k → IsRehearsed G n m load old new (Wrote hears held held)
-  rehearsed_none j lt stopped k few made =
+  pub rehearsed_none : (j : ℕ) → j < n → IsFirstStopped G.tells G.number G.fails G.short old new j → (k : ℕ) → k ≤ calls_to_open → Made G.number G.short old new j k → Refuses G n (catalogue_of load) old new (Failed j) → IsPlay G n m load old new (Wrote hears held held)
+  rehearsed_none j lt stopped k few made refused =
       let told =
-      told_of_none n m Values load some room refl workers (record { short = sound.short; bytes = sound.bytes; read = sound.read }) (Unit {0}) (Now G.tells G.may_leave old new) (Now G.tells G.may_leave old new) (RoseAt G.faults old new) ⊥
-      (λ i c. Made G.number G.short old new i c) (λ text. Unit {0}) (λ i. []) (ending.DiskFailed j) tt
+      told_of_failed n m Values load some room refl workers (record { short = sound.short; bytes = sound.bytes; read = sound.read }) j (Unit {0}) (Now G.tells G.may_leave old new) (Now G.tells G.may_leave old new) (RoseAt G.faults old new) ⊥
+      (λ i c. Made G.number G.short old new i c) (λ text. Unit {0}) (λ i. [])
       (λ u i x low now. begun_left G only_now n (catalogue_of load) old new (λ a d below was. (let b = begins a d below was in (b.0, b.1, b.2))) unborn i x low (past_now i x low now))
       (inr (refl, refl, (k, few, made), inl tt)) in
       record {
-        failed = Some j;
-        ends = (lt, stopped);
-        facts = told.0;
-        acked = λ hear. sym (append-nil held) ∙ ap (λ (acks : List (ℕ × List ℕ)). held ++ ack_lines acks) (sym told.1);
+        rehearsed = record {
+          failed = Some j;
+          ends = (lt, stopped);
+          facts = told.0;
+          acked = λ hear. sym (append-nil held) ∙ ap (λ (acks : List (ℕ × List ℕ)). held ++ ack_lines acks) (sym told.1);
+        };
+        played = none_played G n m load old new j told.0.stops told.0.run told.0.core told.2.0 told.2.1 refused;
       }

@@ -123,25 +123,25 @@ module _ {D : Type 0} (G : Ghosts D) where
 
     -- ---- a stream that is stopped has a disk that has failed
 
-    has_stopped : (j at : ℕ) (d e : D) (h : Joined n way l s j d e) → (s.streams j).stop ≡ Some at → has_failed h.after ≡ true
+    pub has_stopped : (j at : ℕ) (d e : D) (h : Joined n way l s j d e) → (s.streams j).stop ≡ Some at → has_failed h.after ≡ true
     has_stopped j at d e h stop = elim (cases_Bool (has_failed h.after)) [
       | inl failed ↦ failed
       | inr works ↦ absurd (let f : None ≡ Some at = sym (h.left.goes works).0 ∙ stop in cc f)
     ]
 
-    goes : (j : ℕ) (d e : D) (h : Joined n way l s j d e) → (s.streams j).stop ≡ None → G.tells → GoesOn G.number G.fails d e
+    pub goes : (j : ℕ) (d e : D) (h : Joined n way l s j d e) → (s.streams j).stop ≡ None → G.tells → GoesOn G.number G.fails d e
     goes j d e h none t = elim (cases_Bool (has_failed h.after)) [
       | inl failed ↦ (let stop = (h.left.stops failed).0 in absurd (let f : None ≡ Some stop.0 = sym none ∙ stop.1 in cc f))
       | inr works ↦ subst (λ (x : D). GoesOn G.number G.fails d x) (sym h.is) (goes_on G.number G.fails d (disk_of h.before) (disk_of h.after) (went_on_further G (way.calls j) d (disk_of h.before) h.went t) ((h.left.goes works).1 t))
     ]
 
-    rose : (j at : ℕ) (d e : D) → Joined n way l s j d e → (s.streams j).stop ≡ Some at → Rose (G.faults d) (G.faults e)
+    pub rose : (j at : ℕ) (d e : D) → Joined n way l s j d e → (s.streams j).stop ≡ Some at → Rose (G.faults d) (G.faults e)
     rose j at d e h stop =
         let more = (h.left.stops (has_stopped j at d e h stop)).1 in
         let few = h.went.counts in
         subst (λ (x : D). Rose (G.faults d) (G.faults x)) (sym h.is) (omega (arith, more, few))
 
-    stopped : (j at : ℕ) (d e : D) (h : Joined n way l s j d e) → (s.streams j).stop ≡ Some at → G.tells → IsStopped G.tells G.number G.fails G.short d e
+    pub stopped : (j at : ℕ) (d e : D) (h : Joined n way l s j d e) → (s.streams j).stop ≡ Some at → G.tells → IsStopped G.tells G.number G.fails G.short d e
     stopped j at d e h stop t =
         subst (λ (x : D). IsStopped G.tells G.number G.fails G.short d x) (sym h.is)
         (goes_stopped G.number G.fails G.tells G.short d (disk_of h.before) (disk_of h.after) (went_on_further G (way.calls j) d (disk_of h.before) h.went t) t (h.left.stops (has_stopped j at d e h stop)).2)

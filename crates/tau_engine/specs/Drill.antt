@@ -1,5 +1,6 @@
 -- A rehearsed crash: how the disks of a drill fail, what its run leaves on them, and what it tells.
 use Rattle.std.specs.Prelude.{ℕ, ◌+◌, ◌-◌, ◌<◌, ◌==◌, ◌≡◌, ◌&&◌, min, Bool, true, false, Option, Some, None, List, [], ◌∷◌, ◌++◌, codes, length, map, take, slice_get, Ok}
+use Rattle.std.proofs.Common.{inl, inr}
 use Rattle.std.specs.List.{filter, list_any, sum_by}
 use Rattle.std.specs.Fmt.{decimal}
 use Rattle.tau_base.specs.declared.value.LogMode.TheVariants.{Values}
@@ -22,15 +23,19 @@ use Rattle.tau_words.specs.declared.command.Ending.TheVariants.{Stop, Fail}
 use Rattle.tau_report.specs.declared.report.RunEnd.{RunEnd}
 use Rattle.tau_report.specs.Lines.{line}
 use Rattle.tau_report.specs.Report.{ack_lines}
-use Rattle.tau_run.specs.Run.{Committed, acts, means, has_ack}
+use Rattle.tau_run.specs.Run.{Committed, Run, acts, means, has_ack}
 use Rattle.tau_run.specs.RecoveredFacts.{IsRecovered, takes}
 use Rattle.tau_open.specs.Outside.{calls_to_open}
-use Rattle.tau_run.specs.Start.{fresh_start}
+use Rattle.tau_open.specs.Opening.{Refuses}
+use Rattle.tau_open.specs.declared.refusal.OpenRefusal.TheVariants.{Failed}
+use Rattle.tau_run.specs.Start.{fresh_start, catalogue_of}
 use Rattle.tau_run.specs.RunFacts as ending
 use Rattle.tau_run.specs.Gives.{GaveNew}
-use Rattle.tau_run.specs.RunFacts.{RunFacts, by_turns, chosen_by, turns_of}
+use Rattle.tau_run.specs.RunFacts.{RunFacts, IsCoreRunAt, by_turns, chosen_by, turns_of}
+use Rattle.tau_step.specs.Counts.{counting}
 use Rattle.tau_step.specs.Device.{IsDeviceOrder}
 use Rattle.tau_engine.specs.DiskFacts.{Now}
+use Rattle.tau_engine.specs.Played.{ArePlayed}
 use Rattle.tau_engine.specs.Recovery.{IsRecoveryOf}
 use Rattle.tau_engine.specs.declared.status.Status.{Status}
 use Rattle.tau_engine.specs.declared.status.Status.TheVariants as status
@@ -103,7 +108,7 @@ pub record PlaysOn {D : Type 0} {G : Ghosts D} (m : ℕ) (load : Workload) (ws :
   pub after : List (Writer D G)
   pub back : now ≡ map disk_of after ++ rest
   pub end : RunEnd
-  pub ran : GaveNew (by_turns (length ws) m load) m Values load ws after hears held held' rose (Ok end)
+  pub ran : GaveNew (counting ws after (by_turns (length ws) m load)) m Values load ws after hears held held' rose (Ok end)
   pub heard : end.sink_failed ≡ false
 
 module _ {D : Type 0} (G : Ghosts D) where
@@ -120,6 +125,17 @@ module _ {D : Type 0} (G : Ghosts D) where
     pub facts : RunFacts (chosen_by load.turns n m load) n m Values load (fresh_start n) (Unit {0}) (Now G.tells G.may_leave old new) (Now G.tells G.may_leave old new) (RoseAt G.faults old new) ⊥
         (λ j. calls_to_open) (λ j k. Made G.number G.short old new j k) (λ text. Unit {0}) (λ j. []) (ending_by failed)
     pub acked : wrote (ack_lines facts.run.acks)
+
+  -- The disks are those of the calls of the run that was told; or if a disk failed before the run began, of the calls that
+  -- were to open the streams.
+  abbrev pub IsPlayedBy : (n m : ℕ) (load : Workload) (old new : List D) (failed : Option ℕ) (stops : ℕ → Option ℕ) (run : Run) → IsCoreRunAt (chosen_by load.turns n m load) n m Values load stops run (ending_by failed) → Type 0
+  IsPlayedBy n m load old new None stops run core = ArePlayed G n old new core.progress
+  IsPlayedBy n m load old new (Some j) stops run (inl core) = ArePlayed G n old new core.progress
+  IsPlayedBy n m load old new (Some j) stops run (inr none) = Refuses G n (catalogue_of load) old new (Failed j)
+
+  pub record IsPlay (n m : ℕ) (load : Workload) (old new : List D) (wrote : List ℕ → Type 0) : Type 0 where
+    pub rehearsed : IsRehearsed n m load old new wrote
+    pub played : IsPlayedBy n m load old new rehearsed.failed rehearsed.facts.stops rehearsed.facts.run rehearsed.facts.core
 
 -- ---- what it tells
 
@@ -147,6 +163,7 @@ pub record IsDrill (G : Ghosts MemDisk) (n m : ℕ) (how : Ending) (load : Workl
   pub has_room : list_any is_short_by new ≡ false
   pub acks : List ℕ
   pub rehearsed : IsRehearsed G n m load old new (λ lines. acks ≡ lines)
+  pub played : IsPlayedBy G n m load old new rehearsed.failed rehearsed.facts.stops rehearsed.facts.run rehearsed.facts.core
   pub recovered : IsRecovered n Values load rehearsed.facts.run (images_by (tear_in how) new)
   pub found : List ℕ
   pub recovery : IsRecoveryOf recovered.log found

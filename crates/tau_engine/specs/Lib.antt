@@ -8,5 +8,6 @@ pub mod Opening
 pub mod RunSays
 pub mod Recovery
 pub mod Same
+pub mod Played
 pub mod Drill
 pub mod Bench

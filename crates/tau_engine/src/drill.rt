@@ -22,7 +22,7 @@ ghost use Rattle.tau_run.specs.CoreRun.{IsSoundLoad};
 ghost use Rattle.tau_run.specs.RunFacts.{WroteFront};
 ghost use Rattle.tau_run.specs.Writers.{AreNew};
 ghost use Rattle.tau_engine.specs.declared.served.TheConstants.{MAX_COUNT};
-ghost use Rattle.tau_engine.specs.Drill.{AreNewDisks, DrillTells, FailsOnce, IsDrill, IsFound, IsNew, IsRehearsed, PlaysOn, StopsAt, calls_of, images_by, is_of, stopped_line, with_turns};
+ghost use Rattle.tau_engine.specs.Drill.{AreNewDisks, DrillTells, FailsOnce, IsDrill, IsFound, IsNew, IsPlay, PlaysOn, StopsAt, calls_of, images_by, is_of, stopped_line, with_turns};
 ghost use Rattle.tau_engine.specs.DiskFacts.{AreUnborn};
 ghost use Rattle.tau_engine.specs.Fault.{fault_text, is_refusal};
 ghost use Rattle.tau_engine.specs.Outside.{HasFault, HasWorkload, Wrote, ends_drill, ends_rehearsal, is_behind_end, is_behind_text};
@@ -92,7 +92,7 @@ fn rehearse<D: Disk, K: Sink>(
     requires tells { D.tells }
     requires empty { AreEmpty D.tells D.seen disks.old.items streams }
     requires unborn { AreUnborn D.tells D.may_leave disks.old.items streams }
-    ensures told { OnOk result (IsRehearsed ⟦<D as Disk>⟧ streams workers load.now disks.old.items disks.new.items (Wrote K.tells (K.held sink.old) (K.held sink.new))) }
+    ensures told { OnOk result (IsPlay ⟦<D as Disk>⟧ streams workers load.now disks.old.items disks.new.items (Wrote K.tells (K.held sink.old) (K.held sink.new))) }
     ensures count { vec_len disks.new ≡ streams }
 {
     let catalogue = print_declarations(alloc, &load.declarations)?;
@@ -259,7 +259,7 @@ fn play(
     requires calls { AreCalls load.now.declarations.procs load.now.calls }
     requires count { vec_len disks.old ≡ streams }
     requires new { AreNewDisks (λ j d. Unit {0}) disks.old.items }
-    ensures told { OnOk result (IsRehearsed ⟦<MemDisk as Disk>⟧ streams workers load.now disks.old.items disks.new.items (λ lines. held_by out.new ≡ held_by out.old ++ lines)) }
+    ensures told { OnOk result (IsPlay ⟦<MemDisk as Disk>⟧ streams workers load.now disks.old.items disks.new.items (λ lines. held_by out.new ≡ held_by out.old ++ lines)) }
     ensures has_room { OnOk result (list_any is_short_by disks.new.items ≡ false) }
     ensures count { vec_len disks.new ≡ streams }
 {

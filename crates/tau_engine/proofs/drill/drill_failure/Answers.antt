@@ -21,7 +21,7 @@ tell-requires-clause-ordered g c κs within =
     let count : length c.in_ok-disks.disks.items ≡ c.args.streams = (let e = c.in_ok-disks.ensures.count in omega (arith, e)) in
     let same : length c.play.new.disks.items ≡ c.args.streams = (let e = c.in_ok-play.ensures.count in omega (arith, e)) in
     subst (λ (ds : List MemDisk). (log : Log) × (log_of None (images_by New ds) ≡ Ok log) × (order : List Kept) × IsOrderOf log order) (sym c.as_slice-2.ensures.value)
-    (ordered tt image_left c.args.streams c.args.workers c.args.load.now c.in_ok-disks.disks.items c.play.new.disks.items count same (λ lines. held_by c.play.new.out ≡ held_by c.args.out.now ++ lines) c.in_ok-play.ensures.told New)
+    (ordered tt image_left c.args.streams c.args.workers c.args.load.now c.in_ok-disks.disks.items c.play.new.disks.items count same (λ lines. held_by c.play.new.out ≡ held_by c.args.out.now ++ lines) c.in_ok-play.ensures.told.rehearsed New)
 
 pub returns : goal.returns
 returns g c =
