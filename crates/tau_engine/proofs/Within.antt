@@ -1,11 +1,10 @@
 -- The numbers that the words of a command name are within their bounds.
-use Rattle.std.proofs.Common.{ℕ, ◌-◌, ◌<◌, ◌≤◌, ◌≡◌, ◌⊎◌, inl, inr, Bool, true, false, List, [], ◌∷◌, refl, sym, ap, subst, ◌∙◌, arith}
+use Rattle.std.proofs.Common.{ℕ, ◌-◌, ◌<◌, ◌≤◌, ◌≡◌, ◌⊎◌, inl, inr, Bool, true, false, List, [], ◌∷◌, refl, subst, arith}
 use Rattle.std.specs.Prelude.{◌&&◌, nat_le, nat_lt, if◌then◌else◌, codes, Option, Some, None, option_map, option_and_then}
 use Rattle.std.specs.Str.Parse.{digits_value}
 use Rattle.std.proofs.lemmas.Bool.Decides.{nat_tests}
 use Rattle.std.proofs.lemmas.Bool.{and_parts}
 use Rattle.tau_base.specs.declared.limits.TheConstants.{MAX_CALLS}
-use Rattle.tau_base.specs.declared.value.LogMode.{LogMode}
 use Rattle.tau_base.specs.Modes.{format_of, most_streams}
 use Rattle.tau_disk.specs.declared.call.Tear.{Tear}
 use Rattle.tau_words.specs.declared.command.Command.{Command}

@@ -1,6 +1,6 @@
 -- All that is said of a call that was to run a workload: it ended before its disks were written, or it is one run on what
 -- they held.
-use Rattle.std.specs.Prelude.{ℕ, ◌<◌, ◌≤◌, ◌≡◌, ◌⊎◌, true, Option, None, Some, Ok, Err, List, [], length, map, drop, slice_index, slice_index_or}
+use Rattle.std.specs.Prelude.{ℕ, ◌<◌, ◌≤◌, ◌≡◌, ◌⊎◌, None, Some, Ok, Err, List, [], length, map, drop, slice_index, slice_index_or}
 use Rattle.tau_base.specs.declared.format.Format.{Format}
 use Rattle.tau_base.specs.declared.value.LogMode.{LogMode}
 use Rattle.tau_base.specs.Modes.{format_of}

@@ -37,11 +37,11 @@ static CATALOGUE_AND_EPOCH: &[u8] =
 static PUT_AFTER: &[u8] =
     b"\x01\x00\x00\x00\x30\x00\x00\x00\x00\x00\x00\x00\x01\x00\x00\x00\x00\x00\x02\x00\x00\x00\x00\x00\x00\x00\x0d\x00\x01\x00\x00\x00\x00\x00\x00\x00\x00\x00\x01\x01\x00\x00\x00\x00\x00\x00\x00\x05";
 // The last epoch of one stream, before which there were 13 bytes.
-static LAST_EPOCH: &[u8] =
-    b"\x05\x00\x00\x00\x11\xff\xff\xff\xff\x00\x00\x00\x00\x00\x00\x00\x0d";
+static LAST_EPOCH: &[u8] = b"\x05\x00\x00\x00\x11\xff\xff\xff\xff\x00\x00\x00\x00\x00\x00\x00\x0d";
 // Call 1, which waits for position 61 of stream 1, and call 2, which waits for position 61 of stream 0.
 static FIRST_WAITS: &[u8] =
     b"\x01\x00\x00\x00\x30\x00\x00\x00\x00\x00\x00\x00\x01\x00\x00\x00\x00\x00\x02\x00\x00\x00\x00\x00\x00\x00\x3d\x00\x01\x00\x00\x00\x00\x00\x00\x00\x00\x00\x01\x01\x00\x00\x00\x00\x00\x00\x00\x05";
+
 static SECOND_WAITS: &[u8] =
     b"\x01\x00\x00\x00\x30\x00\x00\x00\x00\x00\x00\x00\x02\x00\x00\x00\x00\x00\x01\x00\x00\x00\x00\x00\x00\x00\x3d\x00\x01\x00\x00\x00\x00\x00\x00\x00\x00\x00\x02\x01\x00\x00\x00\x00\x00\x00\x00\x06";
 
@@ -92,7 +92,15 @@ fn two_runs_one_after_another(rt: HostRuntime) -> Result<(), Fail> {
     let second = image_of(alloc, 1, &[CATALOGUE, DEPENDENT])?;
     let mut disks = disks_with(alloc, &first, &second)?;
     let put = "ack 1 94,61\nreply 1 none\norder 1\nrow a 7 int 1\nend 0\n";
-    tells(&rt, alloc, "run 2 1", "table a\nput a 7 1\n", 0, put, &mut disks)?;
+    tells(
+        &rt,
+        alloc,
+        "run 2 1",
+        "table a\nput a 7 1\n",
+        0,
+        put,
+        &mut disks,
+    )?;
     had_calls(&disks, 0, 12)?;
     had_calls(&disks, 1, 8)?;
     hold_blocks(
@@ -104,7 +112,15 @@ fn two_runs_one_after_another(rt: HostRuntime) -> Result<(), Fail> {
     let found = "elv 94,86\ntaken 0 38 1\nrow a 7 int 1\nend 0\n";
     tells(&rt, alloc, "recover 2 1", "", 0, found, &mut disks)?;
     let add = "ack 1 175,86\nreply 1 int 3\norder 1\nrow a 7 int 3\nend 0\n";
-    tells(&rt, alloc, "run 2 1", "table a\nadd a 7 2\n", 0, add, &mut disks)?;
+    tells(
+        &rt,
+        alloc,
+        "run 2 1",
+        "table a\nadd a 7 2\n",
+        0,
+        add,
+        &mut disks,
+    )?;
     hold_blocks(
         alloc,
         &disks,
@@ -122,7 +138,15 @@ fn a_stream_joins_a_log(rt: HostRuntime) -> Result<(), Fail> {
     let second = image_of(alloc, 1, &[CATALOGUE])?;
     let mut disks = disks_with(alloc, b"", &second)?;
     let wanted = "ack 1 86,13\nreply 1 none\norder 1\nrow a 1 int 5\nend 0\n";
-    tells(&rt, alloc, "run 2 1", "table a\nput a 1 5\n", 0, wanted, &mut disks)?;
+    tells(
+        &rt,
+        alloc,
+        "run 2 1",
+        "table a\nput a 1 5\n",
+        0,
+        wanted,
+        &mut disks,
+    )?;
     let first = image_of(alloc, 0, &[CATALOGUE_AND_EPOCH, PUT_AFTER])?;
     holds(&disks, 0, &first)?;
     let found = "elv 86,38\ntaken 0 38 1\nrow a 1 int 5\nend 0\n";
@@ -181,20 +205,55 @@ fn logs_that_no_run_goes_on_from(rt: HostRuntime) -> Result<(), Fail> {
     let of_put = image_of(alloc, 0, &[CATALOGUE, PUT])?;
     let bare = image_of(alloc, 1, &[CATALOGUE])?;
     // Its catalogue is another one.
-    refuses(&rt, alloc, "table b\n", &of_put, &bare, "fault 7 0 declared 6\n")?;
+    refuses(
+        &rt,
+        alloc,
+        "table b\n",
+        &of_put,
+        &bare,
+        "fault 7 0 declared 6\n",
+    )?;
     refuses(&rt, alloc, "", b"", &bare, "fault 7 1 declared 0\n")?;
     // There is no header, or one of other streams.
-    refuses(&rt, alloc, "table a\n", &[0; 18], b"", "fault 7 0 image 1\n")?;
+    refuses(
+        &rt,
+        alloc,
+        "table a\n",
+        &[0; 18],
+        b"",
+        "fault 7 0 image 1\n",
+    )?;
     let three = image_in(alloc, b'1', 3, 1, &[CATALOGUE])?;
-    refuses(&rt, alloc, "table a\n", b"", &three, "fault 7 1 count 2 3\n")?;
+    refuses(
+        &rt,
+        alloc,
+        "table a\n",
+        b"",
+        &three,
+        "fault 7 1 count 2 3\n",
+    )?;
     // It is of format 2.
     let wide = image_in(alloc, b'2', 2, 0, &[CATALOGUE, WIDE_PUT])?;
     let bare = image_in(alloc, b'2', 2, 1, &[CATALOGUE])?;
-    refuses(&rt, alloc, "table a\n", &wide, &bare, "fault 7 0 format 1 2\n")?;
+    refuses(
+        &rt,
+        alloc,
+        "table a\n",
+        &wide,
+        &bare,
+        "fault 7 0 format 1 2\n",
+    )?;
     // Each of two records waits for the other.
     let first = image_of(alloc, 0, &[CATALOGUE, FIRST_WAITS])?;
     let second = image_of(alloc, 1, &[CATALOGUE, SECOND_WAITS])?;
-    refuses(&rt, alloc, "table a\n", &first, &second, "fault 7 0 tangled 13\n")
+    refuses(
+        &rt,
+        alloc,
+        "table a\n",
+        &first,
+        &second,
+        "fault 7 0 tangled 13\n",
+    )
 }
 
 #[test]
@@ -228,7 +287,15 @@ fn stops_and_goes_on<R: Threads + Wait + Sync + Abort>(
 ) -> Result<(), Fail> {
     let mut disks = failing_disks(alloc, &[failing[0]], &[failing[1]])?;
     let put = "ack 1 53,0\nreply 1 none\norder 1\nrow a 1 int 5\nend 0\n";
-    tells(rt, alloc, "run 2 1", "table a\nput a 1 5\n", 0, put, &mut disks)?;
+    tells(
+        rt,
+        alloc,
+        "run 2 1",
+        "table a\nput a 1 5\n",
+        0,
+        put,
+        &mut disks,
+    )?;
     let text = "table a\nadd a 1 2\nturns\n";
     tells(rt, alloc, "run 2 1", text, 6, second, &mut disks)?;
     tells(rt, alloc, "run 2 1", text, 0, third, &mut disks)
@@ -276,14 +343,34 @@ fn wide_logs(rt: HostRuntime) -> Result<(), Fail> {
     let alloc = rt.alloc();
     let mut disks = disks_with(alloc, b"", b"")?;
     let put = "ack 1 55,0\nreply 1 none\norder 1\nrow a 1 int 5\nend 0\n";
-    tells(&rt, alloc, "run 2 1 wide", "table a\nput a 1 5\n", 0, put, &mut disks)?;
-    holds(&disks, 0, &image_in(alloc, b'2', 2, 0, &[CATALOGUE, WIDE_PUT])?)?;
+    tells(
+        &rt,
+        alloc,
+        "run 2 1 wide",
+        "table a\nput a 1 5\n",
+        0,
+        put,
+        &mut disks,
+    )?;
+    holds(
+        &disks,
+        0,
+        &image_in(alloc, b'2', 2, 0, &[CATALOGUE, WIDE_PUT])?,
+    )?;
     let found = "elv 55,13\ntaken 0 13 1\nrow a 1 int 5\nend 0\n";
     tells(&rt, alloc, "recover 2 1", "", 0, found, &mut disks)?;
     let line = "fault 7 0 format 1 2\n";
     tells(&rt, alloc, "run 2 1", "table a\n", 7, line, &mut disks)?;
     let add = "ack 1 138,13\nreply 1 int 7\norder 1\nrow a 1 int 7\nend 0\n";
-    tells(&rt, alloc, "run 2 1 wide", "table a\nadd a 1 2\n", 0, add, &mut disks)?;
+    tells(
+        &rt,
+        alloc,
+        "run 2 1 wide",
+        "table a\nadd a 1 2\n",
+        0,
+        add,
+        &mut disks,
+    )?;
     let found = "elv 138,38\ntaken 0 13 1\ntaken 0 80 1\nrow a 1 int 7\nend 0\n";
     tells(&rt, alloc, "recover 2 1", "", 0, found, &mut disks)
 }
