@@ -8,8 +8,8 @@ use Rattle.tau_disk.specs.declared.call.Tear.{Tear}
 use Rattle.tau_disk.specs.declared.call.Tear.TheVariants.{Old, New, Torn}
 use Rattle.tau_disk.specs.declared.disk.Disk.{Ghosts}
 use Rattle.tau_disk.specs.declared.memory.MemDisk.{MemDisk}
-use Rattle.tau_disk.specs.Memory.{seen_by, state_of, is_short_by, fails_at, keeps_at}
-use Rattle.tau_disk.specs.Replay.{DiskState, leaves, IsImage, is_from, is_stop}
+use Rattle.tau_disk.specs.Memory.{state_of, is_short_by, fails_at, keeps_at}
+use Rattle.tau_disk.specs.Replay.{leaves, is_from, is_stop}
 use Rattle.tau_disk.specs.Tear.{image_by}
 use Rattle.tau_model.specs.History.{Act, Member, exec, updates}
 use Rattle.tau_model.specs.Tables.{IsTablesOf}
@@ -36,15 +36,6 @@ pub image_left : (d : MemDisk) (tear : Tear) → leaves (state_of d) (image_by (
 image_left d Old = record { same = λ k got_within outside. refl; no_shorter = omega arith; no_longer = reach_least (length (state_of d).synced) (state_of d).tears }
 image_left d New = subst (λ (x : List ℕ). leaves (state_of d) x) d.reads d.sound
 image_left d Torn = d.torn_sound
-
-pub new_is_empty : (d : MemDisk) → IsNew d → seen_by d ≡ []
-new_is_empty d new = d.reads ∙ ap (λ (s : DiskState). s.seen) new.empty
-
-pub new_is_unborn : (d : MemDisk) → IsNew d → (x : List ℕ) → leaves (state_of d) x → length x ≤ 17
-new_is_unborn d new x left =
-    let image : IsImage [] [] x = subst (λ (s : DiskState). leaves s x) new.empty left in
-    let none = image.no_longer in
-    omega (arith, none)
 
 -- ---- what recovery finds
 
@@ -122,9 +113,6 @@ one_new planned disks more d i count is all new plan j x got = elim (got_more di
 
 pub one_longer : {A : Type 0} (xs more : List A) (x : A) (i : ℕ) → length xs ≡ i → more ≡ xs ++ x ∷ [] → length more ≡ i + 1
 one_longer {A} xs more x i count is = let e = ap (length {A = A}) is ∙ length-append xs (x ∷ []) in omega (arith, e, count)
-
-pub none_new : (planned : ℕ → MemDisk → Type 0) → AreNewDisks planned []
-none_new planned j d got = absurd (cc)
 
 -- ---- the calls of an order
 

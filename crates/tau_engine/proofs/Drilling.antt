@@ -11,7 +11,7 @@ use Rattle.tau_words.specs.declared.command.Ending.{Ending}
 use Rattle.tau_run.specs.CoreRun.{IsSoundLoad}
 use Rattle.tau_engine.specs.Drill.{DrillTells, with_turns}
 use Rattle.tau_engine.specs.Fault.{is_refusal}
-use Rattle.tau_engine.specs.Outside.{ends_drill, ends_rehearsal}
+use Rattle.tau_engine.specs.Outside.{ends_rehearsal}
 use Rattle.tau_engine.specs.Served.{command_in}
 use Rattle.tau_engine.specs.declared.served.Work.{Work}
 use Rattle.tau_engine.specs.declared.served.Work.TheVariants as work
@@ -24,9 +24,6 @@ sound_turns load other is s = subst (λ (l : Workload). IsSoundLoad l) (sym is) 
 
 pub rehearsal_ends : (s x : Status) → ends_rehearsal s ≡ true → ends_rehearsal x ≡ false → s ≡ x → {A : Type 0} → A
 rehearsal_ends s x kind none e = absurd (let f : true ≡ false = sym kind ∙ ap ends_rehearsal e ∙ none in cc f)
-
-pub drill_ends : (s x : Status) → ends_drill s ≡ true → ends_drill x ≡ false → s ≡ x → {A : Type 0} → A
-drill_ends s x kind none e = absurd (let f : true ≡ false = sym kind ∙ ap ends_drill e ∙ none in cc f)
 
 pub rehearses_well : (s : Status) → ends_rehearsal s ≡ true → (s ≡ status.WriteFault → ⊥) → Member s (status.Ok ∷ status.NoMemory ∷ [])
 rehearses_well status.Ok kind sink = inl refl

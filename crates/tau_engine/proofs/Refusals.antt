@@ -13,7 +13,3 @@ answers_as wrote rose refusal answer s (inr none) e some = absurd (some (sym e �
 pub told_refusal : (wrote : List ℕ → Type 0) (rose : Type 0) (refusal answer : Status) → TellsFault wrote rose refusal answer → is_refusal answer ≡ true → WroteFront wrote rose (fault_text answer)
 told_refusal wrote rose refusal answer (inl told) e = subst (λ (s : Status). WroteFront wrote rose (fault_text s)) (sym told.0) told.1
 told_refusal wrote rose refusal answer (inr none) e = let no : is_refusal status.NoMemory ≡ true = subst (λ (s : Status). is_refusal s ≡ true) none.0 e in absurd (cc)
-
-pub told_fault : (wrote : List ℕ → Type 0) (rose : Type 0) (refusal answer : Status) → TellsFault wrote rose refusal answer → (answer ≡ status.NoMemory → ⊥) → WroteFront wrote rose (fault_text answer)
-told_fault wrote rose refusal answer (inl told) some = subst (λ (s : Status). WroteFront wrote rose (fault_text s)) (sym told.0) told.1
-told_fault wrote rose refusal answer (inr none) some = absurd (some none.0)
