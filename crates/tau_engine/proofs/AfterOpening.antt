@@ -26,7 +26,6 @@ use Rattle.tau_run.specs.Start.{Start, IsStart, opened_at}
 use Rattle.tau_run.specs.CoreRun.{IsLoadOn, IsOpeningOn, IsSoundLoad}
 use Rattle.tau_run.specs.Gives.{CameTo, Concluded, Gave, GaveFrom}
 use Rattle.tau_run.specs.StopsLeave.{IsOver, NamesLowest, stops_in}
-use Rattle.tau_run.specs.RunFacts.{chosen_by}
 use Rattle.tau_run.specs.Turns.{Progress}
 use Rattle.tau_run.proofs.Came as of
 use Rattle.tau_run.proofs.Results.{ends_law}
@@ -41,7 +40,7 @@ use Rattle.tau_engine.specs.RunSays.{RunSays, HasSpacedOn}
 use Rattle.tau_engine.proofs.OnOpened as on
 use Rattle.tau_engine.proofs.OnStart as run
 use Rattle.tau_engine.proofs.OnlyTouched as touched
-use Rattle.tau_engine.proofs.Ran.{as_chosen, gave_from, loaded_from}
+use Rattle.tau_engine.proofs.Ran.{gave_from, loaded_from}
 use Rattle.tau_engine.proofs.RefusedOpening.{says_memory}
 use Rattle.tau_engine.proofs.Streams.{OnlyNow}
 
@@ -63,7 +62,7 @@ module _ {D : Type 0} {G : Ghosts D} (only_now : OnlyNow G) (n m : ℕ) (mode : 
   load_is = loaded_from n m mode load start begins o opening_on
 
   abbrev by : Bool → Load → Core → Progress → Type 0
-  by = chosen_by load.turns n m load
+  by = ran_by load.turns n m load
 
   module _ (hears : Type 0) (held : List ℕ) (faults : ℕ) (after : List (Writer D G)) (new : List D) (back : new ≡ map (disk_of {D = D} {G = G}) after ++ mid) (held1 : List ℕ) (faults1 : ℕ) (early : faults ≤ faults1) where
     -- ---- nothing was done
@@ -81,7 +80,7 @@ module _ {D : Type 0} {G : Ghosts D} (only_now : OnlyNow G) (n m : ℕ) (mode : 
     module _ (threads : load.turns ≡ None) (e : RunEnd) (c : Concluded in_threads (opened_at load start) l ws after hears held held1 (Rose faults faults1) e) (none : e.disk ≡ None) where
       abbrev t : CameTo by (opened_at load start) l ws after c.acks
       t = of.came_by in_threads by (opened_at load start) l ws after
-          (λ whole opening p x. as_chosen load.turns n m load whole l opening p (subst (λ (turns : Option (List Turn)). ran_by turns n m load whole l opening p) (sym threads) x)) c.came
+          (λ whole opening p x. subst (λ (turns : Option (List Turn)). ran_by turns n m load whole l opening p) (sym threads) x) c.came
 
       going : NamesLowest l.streams (stops_in c.came.state) None
       going = subst (λ (o : Option ℕ). NamesLowest l.streams (stops_in c.came.state) o) none c.disk

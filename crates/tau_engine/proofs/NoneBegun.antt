@@ -1,6 +1,6 @@
 -- A run that has made nothing, whatever it begins on: each image has what was there, or what its stream was opened with.
 use Rattle.std.proofs.Common.{ℕ, ◌<◌, ◌≤◌, ◌≡◌, ◌⊎◌, inl, inr, false, List, [], refl, sym, ap, subst, ◌∙◌}
-use Rattle.std.specs.Prelude.{None, true}
+use Rattle.std.specs.Prelude.{Option, None, Some, true}
 use Rattle.std.proofs.lemmas.List.{append-nil}
 use Rattle.tau_base.specs.declared.value.Key.{Key}
 use Rattle.tau_base.specs.declared.value.Value.{Value}
@@ -9,6 +9,7 @@ use Rattle.tau_base.specs.Modes.{format_of, most_streams}
 use Rattle.tau_block.specs.Image.{HasContent}
 use Rattle.tau_model.specs.Tables.{db_of_rows}
 use Rattle.tau_machine.specs.State.{Core}
+use Rattle.tau_text.specs.declared.load.Turn.{Turn}
 use Rattle.tau_text.specs.declared.load.Workload.{Workload}
 use Rattle.tau_core.specs.declared.state.Load.{Load}
 use Rattle.tau_core.specs.View.{setting_of}
@@ -19,13 +20,13 @@ use Rattle.tau_run.specs.Start.{Start, IsStart, old_at, opened_at}
 use Rattle.tau_machine.specs.Runs as machine
 use Rattle.tau_run.specs.CoreRun.{IsCourse, IsFirstState, IsRunOf, IsSoundLoad}
 use Rattle.tau_run.specs.StopsLeave.{IsLeft}
-use Rattle.tau_run.specs.RunFacts.{Ending, chosen_by, turns_of, IsCoreRun, IsCoreRunAt, RunTells, RunFacts}
+use Rattle.tau_run.specs.RunFacts.{Ending, turns_of, IsCoreRun, IsCoreRunAt, RunTells, RunFacts}
 use Rattle.tau_run.specs.RunFacts as told
 use Rattle.tau_run.specs.Turns.{begun, IsPartOfRun}
 use Rattle.tau_run.proofs.Imaged.{imaged}
 use Rattle.tau_run.proofs.NotBegun.{nothing_begun}
 use Rattle.tau_run.proofs.Results.{history_law}
-use Rattle.tau_engine.proofs.Chosen.{chosen}
+use Rattle.tau_engine.specs.Runs.{ran_by}
 use Rattle.tau_engine.proofs.NotBegun.{none_of, never_stopped}
 
 module _ (n m : ℕ) (mode : LogMode) (load : Workload) (start : Start) (rows : List (Key × Value)) (some : 1 ≤ n) (room : n ≤ most_streams (format_of mode)) (workers : 1 ≤ m) (begins : IsStart (format_of mode) n load start) (sound : IsSoundLoad load) (rows_are : db_of_rows rows ≡ start.base) where
@@ -53,7 +54,12 @@ module _ (n m : ℕ) (mode : LogMode) (load : Workload) (start : Start) (rows : 
   pub no_acks : run.acks ≡ []
   no_acks = nothing.9
 
-  core : IsCoreRun (chosen_by load.turns n m load false) n m mode load (λ j. None) run
+  -- no event was chosen, by turns or in threads
+  none_chosen : (turns : Option (List Turn)) → ran_by turns n m load false l opening (begun opening)
+  none_chosen None = ((refl, refl), tt)
+  none_chosen (Some turns) = IsPartOfRun.in_turns (none_of (setting_of l) m n (turns_of load) (begun opening))
+
+  core : IsCoreRun (ran_by load.turns n m load false) n m mode load (λ j. None) run
   core = record {
     stands_on = l;
     load_is = nothing.5.load_is;
@@ -61,7 +67,7 @@ module _ (n m : ℕ) (mode : LogMode) (load : Workload) (start : Start) (rows : 
     first = nothing.3;
     progress = begun opening;
     led = nothing.4;
-    chosen = chosen load.turns false n m load l opening (begun opening) (IsPartOfRun.in_turns (none_of (setting_of l) m n (turns_of load) (begun opening)));
+    chosen = none_chosen load.turns;
     is = nothing.6;
     told = no_acks;
     stopped = λ j lt. nothing.4.opens.stops j;
@@ -73,7 +79,7 @@ module _ (n m : ℕ) (mode : LogMode) (load : Workload) (start : Start) (rows : 
   MayEnd told.NoMemory = Unit {0}
   MayEnd _ = ⊥
 
-  core_at : (ending : Ending) → MayEnd ending → IsCoreRunAt (chosen_by load.turns n m load) n m mode load (λ j. None) run ending
+  core_at : (ending : Ending) → MayEnd ending → IsCoreRunAt (ran_by load.turns n m load) n m mode load (λ j. None) run ending
   core_at told.Done may = absurd may
   core_at (told.DiskFailed j) may = inr (no_calls, no_acks, λ i lt. refl)
   core_at told.SinkFailed may = absurd may
@@ -92,7 +98,7 @@ module _ (n m : ℕ) (mode : LogMode) (load : Workload) (start : Start) (rows : 
   pub facts_of_nothing : (premise : Type 0) (past now : ℕ → List ℕ → Type 0) (rose : ℕ → Type 0) (sink_rose : Type 0) (opening_calls : ℕ → ℕ) (made : ℕ → ℕ → Type 0) (wrote : List ℕ → Type 0) (fault : ℕ → List ℕ) (ending : Ending) → MayEnd ending →
       (premise → IsSound (format_of mode) start.old start.log start.base × ((j : ℕ) (x : List ℕ) → j < n → past j x → HasContent (format_of mode) n j (old_at start j) x ⊎ HasContent (format_of mode) n j (opened_at load start j) x)) →
       RunTells (IsEnded n mode load now rose) n load (λ j. None) sink_rose opening_calls made wrote fault run ending →
-      RunFacts (chosen_by load.turns n m load) n m mode load start premise past now rose sink_rose opening_calls made wrote fault ending
+      RunFacts (ran_by load.turns n m load) n m mode load start premise past now rose sink_rose opening_calls made wrote fault ending
   facts_of_nothing premise past now rose sink_rose opening_calls made wrote fault ending may left tells = record {
     run = run;
     begins = same_start;

@@ -35,7 +35,7 @@ use Rattle.tau_run.specs.RecoveredFacts.{IsEnded}
 use Rattle.tau_run.specs.Start.{Start, IsStart, old_at, opened_at}
 use Rattle.tau_run.specs.CoreRun.{IsCourse, IsLoadOn, IsRunOf, IsSoundLoad}
 use Rattle.tau_run.specs.StopsLeave.{HasSomeFront, IsLeft, Leaves, IsOver, NamesLowest, stops_in}
-use Rattle.tau_run.specs.RunFacts.{Ending, chosen_by, IsCoreRun, IsCoreRunAt, RunTells, RunFacts}
+use Rattle.tau_run.specs.RunFacts.{Ending, IsCoreRun, IsCoreRunAt, RunTells, RunFacts}
 use Rattle.tau_run.specs.RunFacts as ending
 use Rattle.tau_run.specs.Turns.{Progress}
 use Rattle.tau_run.specs.Fates.{fates_by}
@@ -53,7 +53,7 @@ use Rattle.tau_engine.specs.Fault.{fault_text}
 use Rattle.tau_engine.specs.Opening.{opening_calls, SinceBarrier, EmptyAreUnborn}
 use Rattle.tau_engine.specs.Outside.{Wrote}
 use Rattle.tau_engine.specs.Recovery.{images_of}
-use Rattle.tau_engine.specs.Runs.{TellsEnd}
+use Rattle.tau_engine.specs.Runs.{TellsEnd, ran_by}
 use Rattle.tau_engine.specs.RunSays.{EndsRun, FailsStarting, HasRun, OpenedClean, RunSays, HasSpacedOn}
 use Rattle.tau_engine.proofs.OnOpened as on
 use Rattle.tau_engine.proofs.Reports.{reported_by}
@@ -126,9 +126,9 @@ module _ {D : Type 0} {G : Ghosts D} (only_now : OnlyNow G) (n m : ℕ) (mode : 
 
   -- ---- the run
 
-  module _ (sound : IsSoundLoad load) (l : Load) (load_is : IsLoadOn n m mode load start l) (ws' : List (Writer D G)) (new : List D) (back : new ≡ map disk_of ws' ++ mid) (acks : List (ℕ × List ℕ)) (t : CameTo (chosen_by load.turns n m load) (opened_at load start) l ws ws' acks) where
+  module _ (sound : IsSoundLoad load) (l : Load) (load_is : IsLoadOn n m mode load start l) (ws' : List (Writer D G)) (new : List D) (back : new ≡ map disk_of ws' ++ mid) (acks : List (ℕ × List ℕ)) (t : CameTo (ran_by load.turns n m load) (opened_at load start) l ws ws' acks) where
     abbrev pub by : Bool → Load → Core → Progress → Type 0
-    by = chosen_by load.turns n m load
+    by = ran_by load.turns n m load
 
     abbrev pub K : List (Act Txn)
     K = t.joined

@@ -17,7 +17,7 @@ use Rattle.tau_scan.specs.declared.log.Log.{Log}
 use Rattle.tau_scan.specs.Begins.{begins_fault}
 use Rattle.tau_scan.specs.Reading.{contents_of, log_of}
 use Rattle.tau_scan.specs.Sound.{IsSound}
-use Rattle.tau_run.specs.RunFacts.{WroteFront, RunFacts, chosen_by}
+use Rattle.tau_run.specs.RunFacts.{WroteFront, RunFacts}
 use Rattle.tau_run.specs.Start.{Start, IsStart, opened_at}
 use Rattle.tau_begin.specs.Barrier.{IsBarrier}
 use Rattle.tau_begin.specs.Opened.{IsRefusedOn}
@@ -30,6 +30,7 @@ use Rattle.tau_engine.specs.Fault.{fault_text}
 use Rattle.tau_engine.specs.Opening.{opening_calls, IsUnwritten, SinceBarrier, EmptyAreUnborn}
 use Rattle.tau_engine.specs.Outside.{Wrote}
 use Rattle.tau_engine.specs.Recovery.{images_of}
+use Rattle.tau_engine.specs.Runs.{ran_by}
 
 -- the image of stream j has a content, and the anchors of the run that are read of it stand in their distance, the first
 -- of them from where the stream was opened
@@ -100,7 +101,7 @@ module _ {D : Type 0} (G : Ghosts D) (n m : ℕ) (mode : LogMode) (load : Worklo
     -- the barrier of each disk
     pub barrier : ℕ → ℕ
     pub barriers : EmptyAreUnborn G old n → EachIn (λ j. j < n) (λ j d e. G.tells → IsBarrier G (barrier j) d e) old new
-    pub facts : RunFacts (chosen_by load.turns n m load) n m mode load start (EmptyAreUnborn G old n × IsSound (format_of mode) start.old start.log start.base) (SinceBarrier G barrier old new) (Now G.tells G.may_leave old new) (RoseAt G.faults old new)
+    pub facts : RunFacts (ran_by load.turns n m load) n m mode load start (EmptyAreUnborn G old n × IsSound (format_of mode) start.old start.log start.base) (SinceBarrier G barrier old new) (Now G.tells G.may_leave old new) (RoseAt G.faults old new)
         (Rose faults faults') (opening_calls sizes) (λ j k. G.tells → Made G.number G.short old new j k) (Wrote hears held held') (λ j. fault_text (status.DiskFault j)) (ending_of answer)
     -- a disk that fails while the streams are opened comes before one that fails later
     pub fails : (j : ℕ) → answer ≡ status.DiskFault j → FailsStarting j ⊎ OpenedClean
