@@ -23,6 +23,40 @@ fn a_file_gives_what_was_written(rt: HostRuntime) -> Result<(), Fail> {
     Ok(())
 }
 
+/// Writes bytes into the file of a slot, and reads them by another opening.
+fn goes_through_slot<R: Files + Clone + Drop>(
+    rt: &R,
+    alloc: Global,
+    slot: u8,
+) -> Result<[u8; 3], Fail> {
+    let mut disk = HostFile::of_checkpoint(rt.clone()?, alloc, slot);
+    disk.write_at(0, &[slot, 5, 6])?;
+    disk.sync()?;
+    let mut again = HostFile::of_checkpoint(rt.clone()?, alloc, slot);
+    let mut bytes = [0u8; 3];
+    again.read_at(0, &mut bytes)?;
+    Ok(bytes)
+}
+
+#[test]
+fn each_slot_has_a_file_of_its_own(rt: HostRuntime) -> Result<(), Fail> {
+    let alloc = rt.alloc();
+    assert_eq!(rt; &goes_through_slot(&rt, alloc, 0)?, &[0, 5, 6]);
+    assert_eq!(rt; &goes_through_slot(&rt, alloc, 1)?, &[1, 5, 6]);
+    // (both are there, each by its name)
+    assert_eq!(rt;
+        fs::read(&rt, "checkpoint-0.log")?.as_slice(),
+        [0, 5, 6].as_slice()
+    );
+    assert_eq!(rt;
+        fs::read(&rt, "checkpoint-1.log")?.as_slice(),
+        [1, 5, 6].as_slice()
+    );
+    fs::remove_file(&rt, "checkpoint-0.log")?;
+    fs::remove_file(&rt, "checkpoint-1.log")?;
+    Ok(())
+}
+
 /// The file of this stream, as another process has it: by an opening of its own.
 fn locked_file<R: Files<File = File> + Clone + Drop>(
     rt: &R,

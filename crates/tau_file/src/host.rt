@@ -3,14 +3,15 @@ ghost use Rattle.std.specs.Prelude.{◌≡◌, ◌≤◌, [], false};
 ghost use Rattle.tau_disk.specs.Disk.{Rose};
 
 use crate::locks::{FileLocks, Unlocked};
-use std::alloc::Global;
+use std::alloc::{AllocError, Global};
 use std::fs::{OpenFile, OpenOptions};
 use std::io::{Read, Seek, SeekFrom, Write};
 use std::rt::Files;
 use tau_disk::{Disk, Failed};
 
-/// The file `stream-JJ.log` of the working directory, with two decimal digits. It is opened, or created, at the
-/// first call. Its first sync syncs the directory too. What it holds is told to no contract.
+/// The file of a stream, `stream-JJ.log` with two decimal digits, or of a slot for checkpoints, `checkpoint-S.log`, in the
+/// working directory. It is opened, or created, at the first call. Its first sync syncs the directory too. What it holds is
+/// told to no contract.
 ///
 /// With locks, a shared one is taken as it is opened, and an exclusive one at its first write or sync. A call that can't have
 /// its lock fails. If that is the exclusive one, all later calls fail too, since another process may since have written over
@@ -20,12 +21,21 @@ pub struct HostFile<R: Files + Drop, L: Drop = Unlocked> {
     rt: R,
     alloc: Global,
     locks: L,
-    stream: u8,
+    name: Name,
     file: Option<R::File>,
     hold: Hold,
     // Whether the folder was synced since the file was opened.
     is_entered: bool,
     faults: u64,
+}
+
+// Of what it is the file.
+#[derive(Clone, Copy)]
+enum Name {
+    // Of the stream with this number.
+    Stream(u8),
+    // Of this slot.
+    Slot(u8),
 }
 
 // How the file is held, once it is open.
@@ -42,11 +52,20 @@ enum Hold {
 impl<R: Files + Drop> HostFile<R> {
     /// The file of stream `j`, not opened yet, without locks.
     pub fn of_stream(rt: R, alloc: Global, j: u8) -> HostFile<R> {
+        HostFile::named(rt, alloc, Name::Stream(j))
+    }
+
+    /// The file of this slot for checkpoints, not opened yet, without locks.
+    pub fn of_checkpoint(rt: R, alloc: Global, slot: u8) -> HostFile<R> {
+        HostFile::named(rt, alloc, Name::Slot(slot))
+    }
+
+    fn named(rt: R, alloc: Global, name: Name) -> HostFile<R> {
         HostFile {
             rt,
             alloc,
             locks: Unlocked,
-            stream: j,
+            name,
             file: None,
             hold: Hold::Shared,
             is_entered: false,
@@ -60,7 +79,7 @@ impl<R: Files + Drop> HostFile<R> {
             rt: self.rt,
             alloc: self.alloc,
             locks,
-            stream: self.stream,
+            name: self.name,
             file: None,
             hold: Hold::Shared,
             is_entered: false,
@@ -77,8 +96,7 @@ impl<R: Files + Drop, L: FileLocks<R::File> + Drop> HostFile<R, L> {
         if self.file.is_some() || self.hold == Hold::Lost {
             return;
         }
-        let stream = self.stream;
-        match format!(in self.alloc; "stream-{stream:02}.log") {
+        match name_of(self.alloc, self.name) {
             Ok(name) => {
                 let mut options = OpenOptions::new();
                 options.read(true).write(true).create(true);
@@ -136,6 +154,14 @@ impl<R: Files + Drop, L: FileLocks<R::File> + Drop> HostFile<R, L> {
     {
         self.faults = self.faults.saturating_add(1);
         Failed
+    }
+}
+
+// The name of the file.
+fn name_of(alloc: Global, name: Name) -> Result<String, AllocError> {
+    match name {
+        Name::Stream(j) => format!(in alloc; "stream-{j:02}.log"),
+        Name::Slot(slot) => format!(in alloc; "checkpoint-{slot}.log"),
     }
 }
 
