@@ -52,6 +52,8 @@ fault_text status.ReadFault = line (codes "fault" ∷ codes "4" ∷ [])
 fault_text (status.DiskFault j) = line (codes "fault" ∷ codes "6" ∷ decimal j ∷ [])
 fault_text (status.BadLog fault) = log_fault_text fault.stream fault.cause
 fault_text status.TooLong = line (codes "fault" ∷ codes "9" ∷ [])
+fault_text (status.BadFeed at) = line (codes "fault" ∷ codes "10" ∷ decimal at ∷ [])
+fault_text (status.BadReport number) = line (codes "fault" ∷ codes "11" ∷ decimal number ∷ [])
 fault_text _ = []
 
 -- the code with which the program ends, which a fault line names too
@@ -65,6 +67,8 @@ code_of status.WriteFault = 5
 code_of (status.DiskFault j) = 6
 code_of (status.BadLog fault) = 7
 code_of status.TooLong = 9
+code_of (status.BadFeed at) = 10
+code_of (status.BadReport number) = 11
 
 -- the answer is told by the one fault line, whatever the command
 abbrev pub is_refusal : Status → Bool
@@ -73,6 +77,8 @@ is_refusal (status.BadText at cause) = true
 is_refusal status.ReadFault = true
 is_refusal (status.BadLog fault) = true
 is_refusal status.TooLong = true
+is_refusal (status.BadFeed at) = true
+is_refusal (status.BadReport number) = true
 is_refusal _ = false
 
 -- the refusal was told and is the answer, or memory ran out and nothing was told

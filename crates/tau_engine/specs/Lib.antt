@@ -11,3 +11,10 @@ pub mod Same
 pub mod Played
 pub mod Drill
 pub mod Bench
+pub mod Sources
+pub mod Inspecting
+pub mod Auditing
+pub mod Following
+pub mod Commands
+pub mod Reads
+pub mod Top

@@ -7,6 +7,21 @@ use Rattle.tau_text.specs.Text.{workload_of}
 use Rattle.tau_engine.specs.declared.status.Status.{Status}
 use Rattle.tau_engine.specs.declared.status.Status.TheVariants as status
 
+-- What the sink of a call held, before and after, and how many faults it told of. A sink may tell nothing.
+pub record Output : Type 1 where
+  pub hears : Type 0
+  pub held : List ℕ
+  pub held' : List ℕ
+  pub faults : ℕ
+  pub faults' : ℕ
+
+-- What the source of a call still had, before and after, and whether it told of a fault. A source may tell nothing.
+pub record Input : Type 1 where
+  pub tells : Type 0
+  pub left : List ℕ
+  pub left' : List ℕ
+  pub rose : Type 0
+
 -- the text is within the limit, and is of this workload
 abbrev pub HasWorkload : List ℕ → Workload → Type 0
 HasWorkload text load = (length text ≤ MAX_WORKLOAD) × (workload_of text ≡ Ok load)
@@ -34,6 +49,8 @@ is_behind_text _ = false
 -- the answer comes only once the source was read to its end
 abbrev pub is_behind_end : Status → Bool
 is_behind_end (status.BadText at cause) = true
+is_behind_end (status.BadFeed at) = true
+is_behind_end (status.BadReport number) = true
 is_behind_end other = is_behind_text other
 
 -- with this answer no disk was touched
@@ -42,6 +59,8 @@ is_before_disks status.Usage = true
 is_before_disks (status.BadText at cause) = true
 is_before_disks status.ReadFault = true
 is_before_disks status.TooLong = true
+is_before_disks (status.BadFeed at) = true
+is_before_disks (status.BadReport number) = true
 is_before_disks _ = false
 
 -- a recovery may end so, and a run, which reads its streams too

@@ -1,6 +1,6 @@
 -- Which commands are served, and what they use.
 use Rattle.std.specs.Prelude.{ℕ, ◌≤◌, ◌≡◌, Bool, true, false, not, ◌&&◌, nat_le, nat_lt, if◌then◌else◌, List, Option, Some, None, option_and_then}
-use Rattle.tau_base.specs.declared.limits.TheConstants.{MAX_CALLS, MAX_RECOVERY_WORKERS, MAX_STREAMS}
+use Rattle.tau_base.specs.declared.limits.TheConstants.{MAX_CALLS, MAX_RECOVERY_WORKERS, MAX_STREAMS, MAX_WORKERS}
 use Rattle.tau_base.specs.Modes.{format_of, most_streams}
 use Rattle.tau_words.specs.declared.command.Command.{Command}
 use Rattle.tau_words.specs.declared.command.Command.TheVariants.{Run, Recover, Drill, Bench, Checkpoint, Restore, Follow, Inspect, Audit}
@@ -24,9 +24,9 @@ is_served (Drill n m p ending) = true
 is_served (Bench start calls n m) = true
 is_served (Checkpoint n p) = false
 is_served (Restore n p) = false
-is_served (Follow n) = false
-is_served (Inspect n) = false
-is_served (Audit n m) = false
+is_served (Follow n) = true
+is_served (Inspect n) = true
+is_served (Audit n m) = true
 
 -- the bounds of the numbers that a command names, of those that are there by now
 abbrev pub IsWithin : Command → Type 0
@@ -34,7 +34,11 @@ IsWithin (Run n m mode optimistic) = ((1 ≤ n) × (n ≤ most_streams (format_o
 IsWithin (Recover n p) = ((1 ≤ n) × (n ≤ MAX_STREAMS)) × (1 ≤ p) × (p ≤ MAX_RECOVERY_WORKERS)
 IsWithin (Drill n m p ending) = ((1 ≤ n) × (n ≤ MAX_COUNT)) × ((1 ≤ m) × (m ≤ MAX_COUNT)) × (is_ending n ending ≡ true)
 IsWithin (Bench start calls n m) = ((start ≤ 999) × (calls ≤ MAX_CALLS)) × ((1 ≤ n) × (n ≤ MAX_COUNT)) × (1 ≤ m) × (m ≤ MAX_COUNT)
-IsWithin other = Unit {0}
+IsWithin (Checkpoint n p) = ((1 ≤ n) × (n ≤ MAX_STREAMS)) × (1 ≤ p) × (p ≤ MAX_RECOVERY_WORKERS)
+IsWithin (Restore n p) = ((1 ≤ n) × (n ≤ MAX_STREAMS)) × (1 ≤ p) × (p ≤ MAX_RECOVERY_WORKERS)
+IsWithin (Follow n) = (1 ≤ n) × (n ≤ MAX_STREAMS)
+IsWithin (Inspect n) = (1 ≤ n) × (n ≤ MAX_STREAMS)
+IsWithin (Audit n m) = ((1 ≤ n) × (n ≤ MAX_STREAMS)) × (1 ≤ m) × (m ≤ MAX_WORKERS)
 
 abbrev pub if_served : Command → Option Command
 if_served c = if is_served c then Some c else None
@@ -49,23 +53,56 @@ command_in (work.Run n m mode) = Run n m mode false
 command_in (work.Recover n p) = Recover n p
 command_in (work.Drill n m p ending) = Drill n m p ending
 command_in (work.Bench start calls n m) = Bench start calls n m
+command_in (work.Follow n) = Follow n
+command_in (work.Inspect n) = Inspect n
+command_in (work.Audit n m) = Audit n m
 
--- the command writes nothing before it knows all
-abbrev pub writes_at_end : Option Command → Bool
-writes_at_end None = true
-writes_at_end (Some (Recover n p)) = true
-writes_at_end (Some (Drill n m p ending)) = true
-writes_at_end (Some (Bench start calls n m)) = true
-writes_at_end (Some other) = false
+-- ---- what commands differ in: a case each
 
--- the disks that the command uses are the first of them
-abbrev pub used_by : Option Command → ℕ
-used_by (Some (Run n m mode optimistic)) = n
-used_by (Some (Recover n p)) = n
-used_by _ = 0
+-- the streams that the command uses are those of the first disks
+abbrev pub streams_of : Option Command → ℕ
+streams_of None = 0
+streams_of (Some (Run n m mode optimistic)) = n
+streams_of (Some (Recover n p)) = n
+streams_of (Some (Drill n m p ending)) = 0
+streams_of (Some (Bench start calls n m)) = 0
+streams_of (Some (Checkpoint n p)) = n
+streams_of (Some (Restore n p)) = n
+streams_of (Some (Follow n)) = 0
+streams_of (Some (Inspect n)) = n
+streams_of (Some (Audit n m)) = n
 
--- whether the command reads the source
+-- it uses the slots of checkpoints
+abbrev pub uses_slots : Option Command → Bool
+uses_slots (Some (Checkpoint n p)) = true
+uses_slots (Some (Restore n p)) = true
+uses_slots _ = false
+
+-- it reads the source
 abbrev pub reads_source : Option Command → Bool
+reads_source None = false
 reads_source (Some (Run n m mode optimistic)) = true
+reads_source (Some (Recover n p)) = false
 reads_source (Some (Drill n m p ending)) = true
-reads_source _ = false
+reads_source (Some (Bench start calls n m)) = false
+reads_source (Some (Checkpoint n p)) = false
+reads_source (Some (Restore n p)) = false
+reads_source (Some (Follow n)) = true
+reads_source (Some (Inspect n)) = false
+reads_source (Some (Audit n m)) = true
+
+-- it writes nothing before it knows all
+abbrev pub writes_at_end : Option Command → Bool
+writes_at_end (Some (Run n m mode optimistic)) = false
+writes_at_end _ = true
+
+-- it puts no byte on a disk
+abbrev pub only_reads : Option Command → Bool
+only_reads (Some (Run n m mode optimistic)) = false
+only_reads (Some (Checkpoint n p)) = false
+only_reads _ = true
+
+-- what it told before a bad log was found stays before that refusal's line
+abbrev pub tells_before : Option Command → Bool
+tells_before (Some (Follow n)) = true
+tells_before _ = false

@@ -182,6 +182,8 @@ fn fault_line(alloc: Global, status: Status) -> Result<String, AllocError>
         Status::DiskFault { stream } => format!(in alloc; "fault 6 {stream}\n"),
         Status::BadLog(fault) => log_line(alloc, fault),
         Status::TooLong => format!(in alloc; "fault 9\n"),
+        Status::BadFeed { at } => format!(in alloc; "fault 10 {at}\n"),
+        Status::BadReport { line } => format!(in alloc; "fault 11 {line}\n"),
         _ => format!(in alloc; ""),
     }
 }

@@ -1,9 +1,12 @@
 //! The top call of the engine.
 #![tactic(auto)]
 
+mod audit;
 mod bench;
 mod drill;
 mod fault;
+mod follow;
+mod inspect;
 mod laws;
 mod reading;
 mod recovery;
@@ -13,6 +16,7 @@ mod source;
 mod status;
 mod top;
 
+pub use served::DISKS;
 pub use laws::{one_text, runs_have_one_text};
 pub use status::Status;
 pub use top::taurus;

@@ -10,6 +10,9 @@ use tau_words::{Command, Ending, WordsRefusal, read_words};
 /// Workers or streams of a drill or of the measured job, or workers of a recovery, that a command may ask for.
 pub(crate) const MAX_COUNT: usize = 16;
 
+/// Disks of a call: one for each stream that there may be, and then the two slots of checkpoints.
+pub const DISKS: usize = 34;
+
 /// What a command that is there by now asks for.
 #[derive(Clone, Copy, Debug, PartialEq, Eq)]
 pub enum Work {
@@ -51,6 +54,23 @@ pub enum Work {
         /// Workers, 1 to 16.
         m: u8,
     },
+    /// A second copy that is fed pieces of the streams.
+    Follow {
+        /// Streams, 1 to 32.
+        n: u8,
+    },
+    /// What the streams hold, record by record.
+    Inspect {
+        /// Streams, 1 to 32.
+        n: u8,
+    },
+    /// Whether a report is true of what the streams hold.
+    Audit {
+        /// Streams, 1 to 32.
+        n: u8,
+        /// Workers, 1 to 32.
+        m: u8,
+    },
 }
 
 // What the command asks for, where it is there by now.
@@ -69,6 +89,9 @@ fn work_of(command: Command) -> Option<Work>
         Command::Recover { n, p } => Some(Work::Recover { n, p }),
         Command::Drill { n, m, p, ending } => Some(Work::Drill { n, m, p, ending }),
         Command::Bench { start, calls, n, m } => Some(Work::Bench { start, calls, n, m }),
+        Command::Follow { n } => Some(Work::Follow { n }),
+        Command::Inspect { n } => Some(Work::Inspect { n }),
+        Command::Audit { n, m } => Some(Work::Audit { n, m }),
         _ => None,
     }
 }

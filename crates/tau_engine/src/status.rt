@@ -34,6 +34,16 @@ pub enum Status {
     BadLog(LogFault),
     /// The text has more than 16,777,216 bytes.
     TooLong,
+    /// The source is no list of pieces of streams.
+    BadFeed {
+        /// The byte of the source at which the first bad piece starts.
+        at: u64,
+    },
+    /// The text after the workload is no report of a run.
+    BadReport {
+        /// Its first bad line, from 1; 0 if no line tells where it begins.
+        line: u32,
+    },
 }
 
 impl Status {
@@ -51,6 +61,8 @@ impl Status {
             Status::DiskFault { stream: _ } => 6,
             Status::BadLog(_) => 7,
             Status::TooLong => 9,
+            Status::BadFeed { at: _ } => 10,
+            Status::BadReport { line: _ } => 11,
         }
     }
 }

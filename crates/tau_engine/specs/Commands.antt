@@ -1,0 +1,106 @@
+-- What is said of each command alone.
+use Rattle.std.specs.Prelude.{ℕ, ◌<◌, ◌≤◌, ◌≡◌, ◌⊎◌, Bool, true, false, List, [], ◌∷◌, length, map, slice_index, Option, None, Some, Ok, Err}
+use Rattle.tau_base.specs.declared.value.LogMode.{LogMode}
+use Rattle.tau_base.specs.Modes.{format_of}
+use Rattle.tau_disk.specs.declared.disk.Disk.{Ghosts}
+use Rattle.tau_disk.specs.Disk.{Rose}
+use Rattle.tau_disk.specs.declared.memory.MemDisk.{MemDisk}
+use Rattle.tau_disk.specs.Stages.{OnlySynced}
+use Rattle.tau_disk.specs.Used.{EachIn, EachUsed, RoseAt, AllCalls, Made}
+use Rattle.tau_model.specs.History.{Member}
+use Rattle.tau_words.specs.declared.command.Command.{Command}
+use Rattle.tau_words.specs.declared.command.Command.TheVariants.{Run, Recover, Drill, Bench, Checkpoint, Restore, Follow, Inspect, Audit}
+use Rattle.tau_words.specs.declared.command.Ending.{Ending}
+use Rattle.tau_text.specs.declared.load.Workload.{Workload}
+use Rattle.tau_text.specs.Canonical.{declarations_text}
+use Rattle.tau_scan.specs.declared.fault.LogFault.{LogFault}
+use Rattle.tau_scan.specs.declared.log.Log.{Log}
+use Rattle.tau_scan.specs.Begins.{begins_fault}
+use Rattle.tau_scan.specs.Reading.{log_of}
+use Rattle.tau_scan.specs.Taken.{Kept}
+use Rattle.tau_replay.specs.Redone.{IsOrderOf}
+use Rattle.tau_begin.specs.Reading.{calls_before_writes}
+use Rattle.tau_run.specs.RunFacts.{WroteFront}
+use Rattle.tau_engine.specs.declared.status.Status.{Status}
+use Rattle.tau_engine.specs.declared.status.Status.TheVariants as status
+use Rattle.tau_engine.specs.Bench.{BenchTells}
+use Rattle.tau_engine.specs.DiskFacts.{NextClean, NotEarlier}
+use Rattle.tau_engine.specs.Drill.{DrillTells, with_turns}
+use Rattle.tau_engine.specs.Fault.{fault_text}
+use Rattle.tau_engine.specs.Opening.{EmptyAreUnborn, opening_calls}
+use Rattle.tau_engine.specs.Outside.{Input, Output, HasWorkload, FailsTold, Wrote, is_before_disks}
+use Rattle.tau_engine.specs.Recovery.{IsBadLog, IsUnfit, RecoverTells, EndsAsBad, EndsTangled, images_of}
+use Rattle.tau_engine.specs.RunSays.{IsRunRefused, RunSays}
+use Rattle.tau_engine.specs.Inspecting.{OfInspect}
+use Rattle.tau_engine.specs.Auditing.{OfAudit}
+use Rattle.tau_engine.specs.Following.{OfFollow}
+
+-- the work was done, unless memory ran out
+abbrev pub EndsWell : Status → Type 0
+EndsWell answer = Member answer (status.Ok ∷ status.NoMemory ∷ [])
+
+module _ (o : Output) (answer : Status) where
+  abbrev pub wrote : List ℕ → Type 0
+  wrote = Wrote o.hears o.held o.held'
+
+  abbrev pub OneLine : Type 0
+  OneLine = WroteFront wrote (Rose o.faults o.faults') (fault_text answer)
+
+  -- The measured job tells a function of its first row and of how many calls it makes, whatever streams and workers.
+  pub record OfBench (start calls : ℕ) : Type 0 where
+    pub bench : BenchTells start calls wrote answer
+    pub done : (Rose o.faults o.faults' → ⊥) → EndsWell answer
+
+module _ {D : Type 0} (G : Ghosts D) (o : Output) (old new : List D) (answer : Status) where
+  -- no count of the sink or of the first disks rose
+  pub record NoneRose (n : ℕ) : Type 0 where
+    pub sink : Rose o.faults o.faults' → ⊥
+    pub disks : (j : ℕ) → j < n → RoseAt G.faults old new j → ⊥
+
+  -- Recovery is a function of what the disks read.
+  pub record OfRecover (n : ℕ) : Type 0 where
+    pub recover : G.tells → RecoverTells (images_of G.seen old n) (wrote o answer) answer
+    pub bad_log : (fault : LogFault) → answer ≡ status.BadLog fault → G.tells → IsBadLog (images_of G.seen old n) fault
+    pub bad_log_told : G.tells → (fault : LogFault) → log_of None (images_of G.seen old n) ≡ Err fault → EndsAsBad fault answer
+    pub tangled_told : G.tells → (log : Log) → log_of None (images_of G.seen old n) ≡ Ok log → ((order : List Kept) → IsOrderOf log order → ⊥) → EndsTangled log answer
+    pub done : G.tells → (log : Log) (order : List Kept) → log_of None (images_of G.seen old n) ≡ Ok log → IsOrderOf log order → NoneRose n → EndsWell answer
+
+module _ {D : Type 0} (G : Ghosts D) (M : Ghosts MemDisk) (s : Input) (o : Output) (old new : List D) (answer : Status) where
+  -- A run goes on from what its disks hold: it ended before they were written, or it is one run on that.
+  pub record OfRun (n m : ℕ) (mode : LogMode) : Type 0 where
+    pub run : s.tells → (load : Workload) → HasWorkload s.left load → is_before_disks answer ≡ false → RunSays G n m mode load old new o.hears o.held o.held' o.faults o.faults' answer
+    -- it is refused exactly if its workload can't go on from what the disks hold
+    pub bad_log : (fault : LogFault) → answer ≡ status.BadLog fault → G.tells → (load : Workload) × (s.tells → HasWorkload s.left load) × IsRunRefused (format_of mode) (declarations_text load.declarations) (images_of G.seen old n) fault
+    pub unfit_told : s.tells → G.tells → (load : Workload) (fault : LogFault) → HasWorkload s.left load → is_before_disks answer ≡ false → IsUnfit (format_of mode) (declarations_text load.declarations) (images_of G.seen old n) fault → EndsAsBad fault answer
+    pub stuck_told : s.tells → G.tells → (load : Workload) (log : Log) → HasWorkload s.left load → is_before_disks answer ≡ false → log_of (Some (format_of mode)) (images_of G.seen old n) ≡ Ok log →
+        begins_fault (declarations_text load.declarations) (map length (images_of G.seen old n)) log ≡ None → ((order : List Kept) → IsOrderOf log order → ⊥) → EndsTangled log answer
+    -- a refusal has at most read and synced the disks, each by just these calls: a disk that fails while it is read comes before a bad log
+    pub refused : (fault : LogFault) → answer ≡ status.BadLog fault → EachUsed (OnlySynced G) old new n
+    pub refused_calls : (fault : LogFault) → answer ≡ status.BadLog fault → EachIn (λ j. j < n) (λ j. AllCalls G.tells G.number G.fails G.short (calls_before_writes (slice_index (map length (images_of G.seen old n)) j))) old new
+    -- a disk that fails while its stream is opened is told by the one line; one that fails later is told by the report
+    pub opening_fault : (j : ℕ) → answer ≡ status.DiskFault j → G.tells → FailsTold (opening_calls (map length (images_of G.seen old n)) j) (Made G.number G.short old new j) (OneLine o answer)
+    -- a disk that fails while the streams are opened comes before a sink that fails
+    pub write_fault_late : answer ≡ status.WriteFault → EachIn (λ j. j < n) (λ j. NextClean G.tells G.number G.fails (opening_calls (map length (images_of G.seen old n)) j)) old new
+    -- so an image that a stop now may leave is one that a stop since the entry might have left
+    pub moments : EmptyAreUnborn G old n → EachUsed (NotEarlier G.tells G.moment) old new n
+    -- where nothing is amiss, the work is done
+    pub done : s.tells → G.tells → (load : Workload) (log : Log) (order : List Kept) → HasWorkload s.left load → log_of (Some (format_of mode)) (images_of G.seen old n) ≡ Ok log → IsOrderOf log order →
+        begins_fault (declarations_text load.declarations) (map length (images_of G.seen old n)) log ≡ None → (s.rose → ⊥) → NoneRose G o old new answer n → EndsWell answer
+
+  -- A drill tells of the run by turns on disks of its own that fail exactly as it says, and of what recovery finds on them.
+  pub record OfDrill (n m : ℕ) (ending : Ending) : Type 0 where
+    pub drill : s.tells → (load : Workload) → HasWorkload s.left load → DrillTells M n m ending (with_turns load) (wrote o answer) answer
+    pub done : s.tells → (load : Workload) → HasWorkload s.left load → (s.rose → ⊥) → (Rose o.faults o.faults' → ⊥) → EndsWell answer
+
+  -- a case each
+  abbrev pub Of : Option Command → Type 0
+  Of None = Unit {0}
+  Of (Some (Run n m mode optimistic)) = OfRun n m mode
+  Of (Some (Recover n p)) = OfRecover G o old new answer n
+  Of (Some (Drill n m p ending)) = OfDrill n m ending
+  Of (Some (Bench start calls n m)) = OfBench o answer start calls
+  Of (Some (Checkpoint n p)) = Unit {0}
+  Of (Some (Restore n p)) = Unit {0}
+  Of (Some (Follow n)) = OfFollow s o answer n
+  Of (Some (Inspect n)) = OfInspect G o old new answer n
+  Of (Some (Audit n m)) = OfAudit G s o old new answer n m
