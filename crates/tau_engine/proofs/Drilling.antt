@@ -35,6 +35,8 @@ rehearses_well status.Usage kind sink = absurd (cc)
 rehearses_well (status.BadText at why) kind sink = absurd (cc)
 rehearses_well status.ReadFault kind sink = absurd (cc)
 rehearses_well status.TooLong kind sink = absurd (cc)
+rehearses_well (status.BadFeed at) kind sink = absurd (cc)
+rehearses_well (status.BadReport number) kind sink = absurd (cc)
 
 pub no_refusal : (s : Status) → ends_rehearsal s ≡ true → is_refusal s ≡ true → ⊥
 no_refusal status.Ok kind e = cc
@@ -46,6 +48,8 @@ no_refusal status.Usage kind e = cc
 no_refusal (status.BadText at why) kind e = cc
 no_refusal status.ReadFault kind e = cc
 no_refusal status.TooLong kind e = cc
+no_refusal (status.BadFeed at) kind e = cc
+no_refusal (status.BadReport number) kind e = cc
 
 -- the command of words is one
 

@@ -12,6 +12,7 @@ pub mod Recoveries
 pub mod RunClauses
 pub mod Within
 pub mod Tops
+pub mod Said
 pub mod Same
 mod Playing
 mod Rehearsed

@@ -415,6 +415,8 @@ module _ {D : Type 0} {G : Ghosts D} (only_now : OnlyNow G) (n m : ℕ) (mode : 
       tells_end status.ReadFault h = absurd h
       tells_end (status.BadLog fault) h = absurd h
       tells_end status.TooLong h = absurd h
+      tells_end (status.BadFeed at) h = absurd h
+      tells_end (status.BadReport number) h = absurd h
 
     -- it was out of memory before its end: one history, of which the first acknowledgements were told
     pub cuts_off : (hears : Type 0) (held held1 held' : List ℕ) (faults faults1 faults' : ℕ) → faults1 ≤ faults' → (count : ℕ) (sink_failed : Bool) → (hears → Heard held (take count acks) sink_failed held1) → (sink_failed ≡ true → Rose faults faults1) → held' ≡ held1 →

@@ -25,7 +25,7 @@ use Rattle.tau_engine.specs.declared.status.Status.TheVariants as status
 use Rattle.tau_engine.specs.DiskFacts.{NextClean, NotEarlier}
 use Rattle.tau_engine.specs.Fault.{fault_text, is_refusal}
 use Rattle.tau_engine.specs.Opening.{EmptyAreUnborn, opening_calls}
-use Rattle.tau_engine.specs.Outside.{FailsTold, Wrote, ends_reading, ends_recovery, is_before_disks}
+use Rattle.tau_engine.specs.Outside.{FailsTold, Wrote, ends_text, ends_recovery, is_before_disks}
 use Rattle.tau_engine.specs.Recovery.{EndsAsBad, EndsTangled, IsTangle, IsUnfit, images_of}
 use Rattle.tau_engine.specs.RunSays.{EndsRun, EndsUnwritten, HasRun, IsRunRefused, MayEnd, OnlyOpened, RunSays}
 
@@ -40,6 +40,8 @@ may_end status.Usage may = absurd may
 may_end (status.BadText at why) may = absurd may
 may_end status.ReadFault may = absurd may
 may_end status.TooLong may = absurd may
+may_end (status.BadFeed at) may = absurd may
+may_end (status.BadReport number) may = absurd may
 
 -- ---- the log of these images
 
@@ -78,12 +80,14 @@ module _ (f : Format) (images : List (List ℕ)) where
 -- ---- nothing was touched
 
 -- a call that ended before its run, but not where no disk is touched, ran out of memory
-pub only_memory : (s : Status) → ends_reading s ≡ true → is_before_disks s ≡ false → s ≡ status.NoMemory
+pub only_memory : (s : Status) → ends_text s ≡ true → is_before_disks s ≡ false → s ≡ status.NoMemory
 only_memory status.NoMemory kind behind = refl
-only_memory status.Usage kind behind = absurd (cc behind)
+only_memory status.Usage kind behind = absurd (cc kind)
 only_memory (status.BadText at why) kind behind = absurd (cc behind)
 only_memory status.ReadFault kind behind = absurd (cc behind)
 only_memory status.TooLong kind behind = absurd (cc behind)
+only_memory (status.BadFeed at) kind behind = absurd (cc behind)
+only_memory (status.BadReport number) kind behind = absurd (cc behind)
 only_memory status.Ok kind behind = absurd (cc kind)
 only_memory status.WriteFault kind behind = absurd (cc kind)
 only_memory (status.DiskFault j) kind behind = absurd (cc kind)
@@ -139,6 +143,8 @@ module _ {D : Type 0} (G : Ghosts D) (n m : ℕ) (mode : LogMode) (load : Worklo
   line_of (status.BadText at why) ends e = absurd ends
   line_of status.ReadFault ends e = absurd ends
   line_of status.TooLong ends e = absurd ends
+  line_of (status.BadFeed at) ends e = absurd ends
+  line_of (status.BadReport number) ends e = absurd ends
 
   runs_well : (s : Status) → EndsRun s → is_refusal s ≡ true → ⊥
   runs_well status.Ok ends e = cc e
@@ -150,6 +156,8 @@ module _ {D : Type 0} (G : Ghosts D) (n m : ℕ) (mode : LogMode) (load : Worklo
   runs_well (status.BadText at why) ends e = ends
   runs_well status.ReadFault ends e = ends
   runs_well status.TooLong ends e = ends
+  runs_well (status.BadFeed at) ends e = ends
+  runs_well (status.BadReport number) ends e = ends
 
   pub refusal_line : is_refusal answer ≡ true → WroteFront (Wrote hears held held') (Rose faults faults') (fault_text answer)
   refusal_line e = by says.tells
@@ -188,6 +196,8 @@ module _ {D : Type 0} (G : Ghosts D) (n m : ℕ) (mode : LogMode) (load : Worklo
       unwritten (status.BadText at why) is ends f = absurd ends
       unwritten status.ReadFault is ends f = absurd ends
       unwritten status.TooLong is ends f = absurd ends
+      unwritten (status.BadFeed at) is ends f = absurd ends
+      unwritten (status.BadReport number) is ends f = absurd ends
 
       -- none of the calls that open its stream was to fail
       after : EachIn (λ i. i < n) (λ i. NextClean G.tells G.number G.fails (opening_calls (map length images) i)) old new → (k : ℕ) × (opening_calls (map length images) j < k) × Made G.number G.short old new j k
@@ -236,6 +246,8 @@ module _ {D : Type 0} (G : Ghosts D) (n m : ℕ) (mode : LogMode) (load : Worklo
         unwritten (status.BadText at why) e ends = absurd ends
         unwritten status.ReadFault e ends = absurd ends
         unwritten status.TooLong e ends = absurd ends
+        unwritten (status.BadFeed at) e ends = absurd ends
+        unwritten (status.BadReport number) e ends = absurd ends
 
         begun : (log : Log) → log_of (Some f) images ≡ Ok log → begins_fault text (map length images) log ≡ None → IsUnfit f text images fault → ⊥
         begun log reads fits (inl bad) = no_log f images fault log bad reads
@@ -258,6 +270,8 @@ module _ {D : Type 0} (G : Ghosts D) (n m : ℕ) (mode : LogMode) (load : Worklo
         unwritten (status.BadText at why) e ends = absurd ends
         unwritten status.ReadFault e ends = absurd ends
         unwritten status.TooLong e ends = absurd ends
+        unwritten (status.BadFeed at) e ends = absurd ends
+        unwritten (status.BadReport number) e ends = absurd ends
 
         by : OnlyOpened G n m mode load old new hears held held' faults faults' answer ⊎ HasRun G n m mode load old new hears held held' faults faults' answer → EndsTangled log answer
         by (inl only) = unwritten answer refl only.ends

@@ -16,7 +16,7 @@ use Rattle.tau_engine.specs.declared.served.Work.{Work}
 use Rattle.tau_engine.specs.declared.served.Work.TheVariants as work
 use Rattle.tau_engine.specs.Served.{command_in}
 use Rattle.tau_engine.specs.Fault.{fault_text, TellsFault}
-use Rattle.tau_engine.specs.Outside.{HasWorkload, HasFault, is_before_disks, ends_recovery, ends_reading}
+use Rattle.tau_engine.specs.Outside.{HasWorkload, HasFault, is_before_disks, ends_recovery, ends_text}
 use Rattle.tau_engine.specs.RunSays.{MayEnd, RunSays}
 use Rattle.tau_engine.proofs.RunClauses.{may_end}
 
@@ -60,6 +60,8 @@ recovers_well status.Usage kind sink disk bad = absurd (cc)
 recovers_well (status.BadText at why) kind sink disk bad = absurd (cc)
 recovers_well status.ReadFault kind sink disk bad = absurd (cc)
 recovers_well status.TooLong kind sink disk bad = absurd (cc)
+recovers_well (status.BadFeed at) kind sink disk bad = absurd (cc)
+recovers_well (status.BadReport number) kind sink disk bad = absurd (cc)
 
 pub not_recovery : (o : Option Command) (n m k p : ℕ) (mode : LogMode) → o ≡ Some (Run n m mode false) → o ≡ Some (Recover k p) → ⊥
 not_recovery o n m k p mode one other = (let f : Some (Run n m mode false) ≡ Some (Recover k p) = sym one ∙ other in cc f)
@@ -89,11 +91,13 @@ runs_behind status.Usage may e = may
 runs_behind (status.BadText at why) may e = may
 runs_behind status.ReadFault may e = may
 runs_behind status.TooLong may e = may
+runs_behind (status.BadFeed at) may e = may
+runs_behind (status.BadReport number) may e = may
 
 -- a refusal before a run: its answer, and that lack of memory tells nothing
-pub ends_unread : (wrote : List ℕ → Type 0) (rose : Type 0) (refusal answer : Status) → ends_reading refusal ≡ true → TellsFault wrote rose refusal answer → (ends_reading answer ≡ true) × (answer ≡ status.NoMemory → wrote [])
-ends_unread wrote rose refusal answer kind (inr none) = (ap ends_reading none.0, λ e. none.1)
-ends_unread wrote rose refusal answer kind (inl told) = (ap ends_reading told.0 ∙ kind, λ e. nothing (subst (λ (s : Status). WroteFront wrote rose (fault_text s)) (sym told.0 ∙ e) told.1))
+pub ends_unread : (wrote : List ℕ → Type 0) (rose : Type 0) (refusal answer : Status) → ends_text refusal ≡ true → TellsFault wrote rose refusal answer → (ends_text answer ≡ true) × (answer ≡ status.NoMemory → wrote [])
+ends_unread wrote rose refusal answer kind (inr none) = (ap ends_text none.0, λ e. none.1)
+ends_unread wrote rose refusal answer kind (inl told) = (ap ends_text told.0 ∙ kind, λ e. nothing (subst (λ (s : Status). WroteFront wrote rose (fault_text s)) (sym told.0 ∙ e) told.1))
   where
     nothing : WroteFront wrote rose [] → wrote []
     nothing (inl all) = all

@@ -96,10 +96,13 @@ is_behind_reading status.WriteFault = true
 is_behind_reading (status.BadLog fault) = true
 is_behind_reading _ = false
 
--- a call may end so before its run
-abbrev pub ends_reading : Status → Bool
-ends_reading status.NoMemory = true
-ends_reading other = is_before_disks other
+-- the reading of a text may end so
+abbrev pub ends_text : Status → Bool
+ends_text status.NoMemory = true
+ends_text status.ReadFault = true
+ends_text status.TooLong = true
+ends_text (status.BadText at cause) = true
+ends_text _ = false
 
 -- the call that failed was one of the first so many and so much was told of it, or it was a later one
 abbrev pub FailsTold : ℕ → (ℕ → Type 0) → Type 0 → Type 0

@@ -7,7 +7,7 @@ ghost use Rattle.tau_text.specs.declared.fault.TextFault.{TextFault};
 ghost use Rattle.tau_text.specs.Kept.{IsRunnable};
 ghost use Rattle.tau_text.specs.Text.{workload_of};
 ghost use Rattle.tau_engine.specs.Outside.{HasWorkload, HasFault};
-ghost use Rattle.tau_engine.specs.Outside.{ends_reading, is_behind_end};
+ghost use Rattle.tau_engine.specs.Outside.{ends_text, is_behind_end};
 
 use crate::source::{SourceRefusal, read_text};
 use crate::status::Status;
@@ -27,8 +27,7 @@ pub fn read_source<S: Source>(alloc: Global, source: &mut S) -> Result<Workload,
     ensures end_bad { (line : ℕ) (cause : TextCause) → result ≡ Err (Status.BadText line cause) → S.tells → S.left source.new ≡ [] }
     ensures meant { IfOk result (λ load. (text : List ℕ) × (workload_of text ≡ Ok load)) }
     ensures runnable { IfOk result (λ load. IsRunnable load) }
-    ensures kind { IfErr result (λ status. ends_reading status ≡ true) }
-    ensures words { result ≡ Err Status.Usage → ⊥ }
+    ensures kind { IfErr result (λ status. ends_text status ≡ true) }
     ensures source { S.tells → (k : ℕ) × (k ≤ MAX_WORKLOAD + 1) × (S.left source.new ≡ drop k (S.left source.old)) }
     ensures later { S.faults source.old ≤ S.faults source.new }
 {

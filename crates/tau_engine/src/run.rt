@@ -188,7 +188,7 @@ pub fn run<R: Threads + Wait + Sync, D: Disk + Send, K: Sink + Send, G: Gate + S
     disks: &mut Vec<D>,
     gate: &G,
 ) -> Status
-    requires disks { vec_len disks.old ≡ MAX_STREAMS }
+    requires disks { MAX_STREAMS ≤ vec_len disks.old }
     requires streams_low { 1 ≤ streams }
     requires streams_high { streams ≤ most_streams (format_of mode) }
     requires low { 1 ≤ workers }
@@ -196,7 +196,7 @@ pub fn run<R: Threads + Wait + Sync, D: Disk + Send, K: Sink + Send, G: Gate + S
     requires runnable { IsRunnable load.now }
     requires meant { (text : List ℕ) × (workload_of text ≡ Ok load.now) }
 
-    ensures count { vec_len disks.new ≡ MAX_STREAMS }
+    ensures count { vec_len disks.new ≡ vec_len disks.old }
     ensures says { RunSays ⟦<D as Disk>⟧ streams workers mode load.now disks.old.items disks.new.items K.tells (K.held sink.old) (K.held sink.new) (K.faults sink.old) (K.faults sink.new) result }
 {
     let Ok(text) = print_declarations(alloc, &load.declarations) else {
