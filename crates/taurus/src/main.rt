@@ -2,7 +2,7 @@
 #![tactic(auto)]
 
 ghost use Rattle.std.specs.Prelude.{◌≡◌, IfOk, vec_len};
-ghost use Rattle.tau_base.specs.declared.limits.TheConstants.{MAX_STREAMS};
+ghost use Rattle.tau_engine.specs.declared.served.TheConstants.{DISKS};
 
 use std::alloc::{AllocError, Global};
 use std::fs::File;
@@ -12,19 +12,24 @@ use std::rt::Files;
 use std::{env, io};
 use tau_base::MAX_STREAMS;
 use tau_disk::{Quiet, ReadSource, WriteSink};
-use tau_engine::taurus;
+use tau_engine::{DISKS, taurus};
 use tau_file::{HostFile, SystemLocks};
 
-/// The files of the working directory, one for each stream that there may be, each made as it is first used, and locked.
+/// The files of the working directory, one for each stream that there may be, and then those of the two slots for
+/// checkpoints, each made as it is first used, and locked.
 fn host_files<R: Files<File = File> + Clone + Drop>(
     rt: &R,
     alloc: Global,
 ) -> Result<Vec<HostFile<R, SystemLocks>>, AllocError>
-    ensures { IfOk result (λ v. vec_len v ≡ MAX_STREAMS) }
+    ensures { IfOk result (λ v. vec_len v ≡ DISKS) }
 {
     let mut files = Vec::new(alloc);
-    for j in 0..MAX_STREAMS {
-        let file = HostFile::of_stream(rt.clone()?, alloc, j as u8);
+    for j in 0..DISKS {
+        let file = if j < MAX_STREAMS {
+            HostFile::of_stream(rt.clone()?, alloc, j as u8)
+        } else {
+            HostFile::of_checkpoint(rt.clone()?, alloc, (j - MAX_STREAMS) as u8)
+        };
         files.push(file.locked(SystemLocks))?;
     }
     Ok(files)
