@@ -9,6 +9,11 @@ pub mod RanTo
 pub mod Ran
 pub mod Refusals
 pub mod Recoveries
+pub mod Cutting
+pub mod First
+pub mod OneSource
+pub mod Verdicts
+pub mod Audited
 pub mod RunClauses
 pub mod Within
 pub mod Tops

@@ -43,7 +43,7 @@ use Rattle.tau_engine.proofs.Tops.{ends_unread, not_both, recovers_well, runs_be
 -- ---- answers
 
 -- a recovery refuses no source
-no_source : (a : Status) → ends_recovery a ≡ true → is_of_source a ≡ true → ⊥
+pub no_source : (a : Status) → ends_recovery a ≡ true → is_of_source a ≡ true → ⊥
 no_source status.Ok kind e = cc e
 no_source status.NoMemory kind e = cc e
 no_source status.WriteFault kind e = cc e
@@ -56,7 +56,7 @@ no_source status.TooLong kind e = cc kind
 no_source (status.BadFeed at) kind e = cc kind
 no_source (status.BadReport number) kind e = cc kind
 
-rehearsal_recovers : (a : Status) → ends_rehearsal a ≡ true → ends_recovery a ≡ true
+pub rehearsal_recovers : (a : Status) → ends_rehearsal a ≡ true → ends_recovery a ≡ true
 rehearsal_recovers status.Ok kind = refl
 rehearsal_recovers status.NoMemory kind = refl
 rehearsal_recovers status.WriteFault kind = refl
@@ -69,7 +69,7 @@ rehearsal_recovers status.TooLong kind = absurd (cc kind)
 rehearsal_recovers (status.BadFeed at) kind = absurd (cc kind)
 rehearsal_recovers (status.BadReport number) kind = absurd (cc kind)
 
-no_before : (a : Status) → ends_recovery a ≡ true → is_before_disks a ≡ true → ⊥
+pub no_before : (a : Status) → ends_recovery a ≡ true → is_before_disks a ≡ true → ⊥
 no_before status.Ok kind e = cc e
 no_before status.NoMemory kind e = cc e
 no_before status.WriteFault kind e = cc e
@@ -82,7 +82,7 @@ no_before status.TooLong kind e = cc kind
 no_before (status.BadFeed at) kind e = cc kind
 no_before (status.BadReport number) kind e = cc kind
 
-other : (ends : Status → Bool) (a x : Status) → ends a ≡ true → ends x ≡ false → a ≡ x → ⊥
+pub other : (ends : Status → Bool) (a x : Status) → ends a ≡ true → ends x ≡ false → a ≡ x → ⊥
 other ends a x kind none e = (let f : true ≡ false = sym kind ∙ ap ends e ∙ none in cc f)
 
 -- ---- commands
@@ -112,11 +112,11 @@ low_use c n is slots j (inl lt) = subst (λ (k : ℕ). j < k) is lt
 low_use c n is slots j (inr p) = absurd (let f : false ≡ true = sym slots ∙ p.0 in cc f)
 
 module _ {D : Type 0} (R : D → D → Type 0) (old new : List D) (c : Option Command) (n : ℕ) (is : streams_of c ≡ n) (slots : uses_slots c ≡ false) where
-  in_use : EachUsed R old new n → EachIn (Uses c) (λ j. R) old new
+  pub in_use : EachUsed R old new n → EachIn (Uses c) (λ j. R) old new
   in_use each j d use was = each j d (low_use c n is slots j use) was
 
 module _ {D : Type 0} (old new : List D) (c : Option Command) (n : ℕ) (is : streams_of c ≡ n) where
-  kept : drop n new ≡ drop n old → (j : ℕ) → (Uses c j → ⊥) → slice_get new j ≡ slice_get old j
+  pub kept : drop n new ≡ drop n old → (j : ℕ) → (Uses c j → ⊥) → slice_get new j ≡ slice_get old j
   kept rest j out = elim (below_or_not j n) [
     | inl lt ↦ absurd (out (inl (subst (λ (k : ℕ). j < k) (sym is) lt)))
     | inr ge ↦ get_dropped new old n j rest (omega (arith, ge))

@@ -1,5 +1,5 @@
 -- What an audit tells.
-use Rattle.std.specs.Prelude.{ℕ, ◌<◌, ◌≤◌, ◌≡◌, List, [], ◌∷◌, ◌++◌, codes, None, Ok, Err}
+use Rattle.std.specs.Prelude.{ℕ, false, ◌<◌, ◌≤◌, ◌≡◌, List, [], ◌∷◌, ◌++◌, codes, None, Ok, Err}
 use Rattle.std.specs.Fmt.{decimal}
 use Rattle.tau_disk.specs.declared.disk.Disk.{Ghosts}
 use Rattle.tau_disk.specs.Disk.{Rose}
@@ -15,7 +15,7 @@ use Rattle.tau_inspect.specs.declared.verdict.Check.{Check}
 use Rattle.tau_inspect.specs.declared.verdict.Check.TheVariants as check
 use Rattle.tau_inspect.specs.declared.verdict.Verdict.{Verdict}
 use Rattle.tau_inspect.specs.declared.verdict.Verdict.TheVariants as verdict
-use Rattle.tau_inspect.specs.Audit.{IsVerdict, case_of}
+use Rattle.tau_inspect.specs.Audit.{Case, IsVerdict, case_of}
 use Rattle.tau_engine.specs.declared.status.Status.{Status}
 use Rattle.tau_engine.specs.declared.status.Status.TheVariants as status
 use Rattle.tau_engine.specs.Inspecting.{TellsText}
@@ -41,6 +41,13 @@ verdict_words (verdict.No failed number) = codes "no" ∷ check_word failed ∷ 
 -- what an audit writes of its verdict
 abbrev pub audit_text : Verdict → List ℕ
 audit_text v = line (codes "audit" ∷ verdict_words v) ++ end_line None
+
+-- what is written of the verdict on this case, by how the call ended: its text, a first part of it, or nothing
+abbrev pub TellsVerdict : Case → (List ℕ → Type 0) → Status → Type 0
+TellsVerdict c wrote status.Ok = (v : Verdict) × IsVerdict c v × TellsText (audit_text v) wrote status.Ok
+TellsVerdict c wrote status.WriteFault = (v : Verdict) × IsVerdict c v × TellsText (audit_text v) wrote status.WriteFault
+TellsVerdict c wrote status.NoMemory = wrote []
+TellsVerdict c wrote other = Unit {0}
 
 -- the log of these images, and the verdict on it
 pub record IsAudited (m : ℕ) (load : Workload) (report : RunReport) (images : List (List ℕ)) (v : Verdict) : Type 0 where

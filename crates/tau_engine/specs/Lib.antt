@@ -11,7 +11,10 @@ pub mod Same
 pub mod Played
 pub mod Drill
 pub mod Bench
+pub mod Cut
 pub mod Sources
+pub mod First
+pub mod Cases
 pub mod Inspecting
 pub mod Auditing
 pub mod Following

@@ -1,10 +1,8 @@
 -- What each command asks of its source.
-use Rattle.std.specs.Prelude.{ℕ, Bool, true, false, ◌<◌, ◌≤◌, ◌≡◌, ◌≢◌, ◌⊎◌, List, [], ◌∷◌, ◌++◌, length, codes, Option, Some, None, Ok, Err, All}
+use Rattle.std.specs.Prelude.{ℕ, Bool, true, false, ◌<◌, ◌≤◌, ◌≡◌, ◌≢◌, List, [], ◌∷◌, ◌++◌, length, Option, Some, None, Ok, Err, All}
 use Rattle.std.specs.Int.{w32, to_be_bytes}
 use Rattle.std.specs.List.{flat_map}
 use Rattle.tau_base.specs.declared.limits.TheConstants.{MAX_WORKLOAD}
-use Rattle.tau_model.specs.History.{Member}
-use Rattle.tau_text.specs.Lines.{lines}
 use Rattle.tau_text.specs.Text.{workload_of}
 use Rattle.tau_text.specs.declared.fault.TextFault.{TextFault}
 use Rattle.tau_text.specs.declared.load.Workload.{Workload}
@@ -15,51 +13,45 @@ use Rattle.tau_words.specs.declared.command.Command.{Command}
 use Rattle.tau_words.specs.declared.command.Command.TheVariants.{Run, Recover, Drill, Bench, Checkpoint, Restore, Follow, Inspect, Audit}
 use Rattle.tau_engine.specs.declared.status.Status.{Status}
 use Rattle.tau_engine.specs.declared.status.Status.TheVariants as status
+use Rattle.tau_engine.specs.Cut.{cut_at_report}
 use Rattle.tau_engine.specs.Outside.{HasWorkload, HasFault}
 
 -- ---- an audit: a workload, a line `report`, and the report of a run
 
--- the text is cut at its first line that is exactly `report`: what stands before that line, and what after it
-pub record IsCut (text front behind : List ℕ) : Type 0 where
-  -- the last line of a text need not have an end
-  pub ending : List ℕ
-  pub ends : (ending ≡ 10 ∷ []) ⊎ ((ending ≡ []) × (behind ≡ []))
-  pub whole : text ≡ front ++ (codes "report" ++ (ending ++ behind))
-  pub begins : (front ≡ []) ⊎ ((before : List ℕ) × (front ≡ before ++ 10 ∷ []))
-  pub first : Member (codes "report") (lines front) → ⊥
+-- what stands before the cut, or all
+abbrev pub front_or : List ℕ → Option (List ℕ × List ℕ) → List ℕ
+front_or text None = text
+front_or text (Some cut) = cut.0
 
--- no line of the text is `report`
-abbrev pub IsUncut : List ℕ → Type 0
-IsUncut text = Member (codes "report") (lines text) → ⊥
-
--- this is the text of the workload: what stands before the first line `report`, or all
-abbrev pub IsWorkloadText : List ℕ → List ℕ → Type 0
-IsWorkloadText text front = ((behind : List ℕ) × IsCut text front behind) ⊎ (IsUncut text × (front ≡ text))
+-- the text of the workload: what stands before the first line that is exactly `report`, or all
+abbrev pub load_text : List ℕ → List ℕ
+load_text text = front_or text (cut_at_report text)
 
 -- the source holds this workload, and after it this report of a run of it over n streams
 pub record HasReport (n : ℕ) (text : List ℕ) (load : Workload) (report : RunReport) : Type 0 where
   pub within : length text ≤ MAX_WORKLOAD
   pub front : List ℕ
   pub behind : List ℕ
-  pub cut : IsCut text front behind
+  pub cut : cut_at_report text ≡ Some (front, behind)
   pub read : workload_of front ≡ Ok load
   pub failed : Option ℕ
   pub told : IsTextOf load.declarations.tables n (length load.calls) report failed behind
 
 -- this is the first bad line of the workload
-pub record HasBadWorkload (text : List ℕ) (fault : TextFault) : Type 0 where
-  pub within : length text ≤ MAX_WORKLOAD
-  pub front : List ℕ
-  pub stands : IsWorkloadText text front
-  pub bad : workload_of front ≡ Err fault
+abbrev pub HasBadWorkload : List ℕ → TextFault → Type 0
+HasBadWorkload text fault = (length text ≤ MAX_WORKLOAD) × (workload_of (load_text text) ≡ Err fault)
 
--- the workload is one, and this is the first bad line of the report; 0 if there is no line `report`
+-- this is the first bad line of the report, counted from the one after the line `report`; 0 if there is no such line
+abbrev pub IsBadReport : ℕ → Workload → Option (List ℕ × List ℕ) → ℕ → Type 0
+IsBadReport n load None number = number ≡ 0
+IsBadReport n load (Some cut) number = IsFirstBad load.declarations.tables n (length load.calls) cut.1 number
+
+-- the workload is one, and this is the first bad line of the report
 pub record HasBadReport (n : ℕ) (text : List ℕ) (number : ℕ) : Type 0 where
   pub within : length text ≤ MAX_WORKLOAD
-  pub front : List ℕ
   pub load : Workload
-  pub read : workload_of front ≡ Ok load
-  pub bad : ((behind : List ℕ) × IsCut text front behind × IsFirstBad load.declarations.tables n (length load.calls) behind number) ⊎ (IsUncut text × (front ≡ text) × (number ≡ 0))
+  pub read : workload_of (load_text text) ≡ Ok load
+  pub bad : IsBadReport n load (cut_at_report text) number
 
 -- ---- a follower: pieces of the contents of streams
 

@@ -3,11 +3,14 @@
 
 mod audit;
 mod bench;
+mod case;
+mod cut;
 mod drill;
 mod fault;
 mod follow;
 mod inspect;
 mod laws;
+mod look;
 mod reading;
 mod recovery;
 mod run;

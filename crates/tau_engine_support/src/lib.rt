@@ -10,20 +10,20 @@ use std::sync::Wait;
 use std::test::Fail;
 use std::thread::Threads;
 use tau_disk::{Gate, MemDisk, MemSink, MemSource, Quiet, Tear};
-use tau_engine::{Status, taurus};
+use tau_engine::{DISKS, Status, taurus};
 
-/// Thirty-two disks, of which these are the first two.
+/// The disks of a call, of which these are the first two.
 pub fn disks_of(alloc: Global, first: MemDisk, second: MemDisk) -> Result<Vec<MemDisk>, Fail> {
     let mut disks = Vec::new(alloc);
     disks.push(first)?;
     disks.push(second)?;
-    for _ in 0..30u64 {
+    for _ in 2..DISKS {
         disks.push(MemDisk::new(alloc, &[])?)?;
     }
     Ok(disks)
 }
 
-/// Thirty-two new disks; these calls of the first two are to fail.
+/// New disks; these calls of the first two are to fail.
 pub fn failing_disks(alloc: Global, first: &[u32], second: &[u32]) -> Result<Vec<MemDisk>, Fail> {
     disks_of(
         alloc,
@@ -32,7 +32,7 @@ pub fn failing_disks(alloc: Global, first: &[u32], second: &[u32]) -> Result<Vec
     )
 }
 
-/// Thirty-two new disks.
+/// New disks.
 pub fn new_disks(alloc: Global) -> Result<Vec<MemDisk>, Fail> {
     failing_disks(alloc, &[], &[])
 }
@@ -48,7 +48,7 @@ fn words_of(alloc: Global, line: &str) -> Result<Vec<String>, Fail> {
     Ok(words)
 }
 
-/// Does what these words say, over this source, with this gate. It takes thirty-two disks.
+/// Does what these words say, over this source, with this gate. It takes so many disks.
 pub fn do_at<R: Threads + Wait + Sync, G: Gate + Sync>(
     rt: &R,
     alloc: Global,
@@ -59,7 +59,7 @@ pub fn do_at<R: Threads + Wait + Sync, G: Gate + Sync>(
     gate: &G,
 ) -> Result<Status, Fail> {
     let words = words_of(alloc, line)?;
-    if disks.len() != 32 {
+    if disks.len() != DISKS {
         return Err(Fail::new("another number of disks"));
     }
     Ok(taurus(rt, alloc, words.as_slice(), source, sink, disks, gate))

@@ -234,7 +234,7 @@ fn last_born(alloc: Global, j: u8) -> Result<MemDisk, Fail> {
 fn logs_of_many_streams(rt: HostRuntime) -> Result<(), Fail> {
     let alloc = rt.alloc();
     let mut disks = Vec::new(alloc);
-    for j in 0u8..32 {
+    for j in 0u8..34 {
         disks.push(last_born(alloc, j)?)?;
     }
     let wanted = "elv 0,0,0,0,0,0,0,0,0,0,0,0,0,0,0,0,55\ntaken 16 13 1\nrow a 1 int 5\nend 0\n";

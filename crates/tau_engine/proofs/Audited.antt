@@ -1,0 +1,262 @@
+-- What is said of an audit, from what its source and its disks gave.
+use Rattle.std.proofs.Common.{ℕ, ◌+◌, ◌^◌, ◌<◌, ◌≤◌, ◌≡◌, inl, inr, true, false, Bool, List, [], ◌∷◌, length, drop, Option, refl, sym, ap, subst, ◌∙◌, arith}
+use Rattle.std.specs.Prelude.{Some, None, Ok, Err, Result, MatchResult, slice_get}
+use Rattle.tau_base.specs.declared.limits.TheConstants.{MAX_CALLS, MAX_STREAMS, MAX_WORKLOAD}
+use Rattle.tau_disk.specs.declared.disk.Disk.{Ghosts}
+use Rattle.tau_disk.specs.declared.memory.MemDisk.{MemDisk}
+use Rattle.tau_disk.specs.Disk.{Rose}
+use Rattle.tau_disk.specs.Used.{EachIn, EachUsed, RoseAt, OnlyRead, AllCalls, IsClean}
+use Rattle.tau_disk.proofs.Calls.{untouched}
+use Rattle.tau_model.specs.History.{Member}
+use Rattle.tau_run.specs.RunFacts.{WroteFront}
+use Rattle.tau_text.specs.declared.fault.TextFault.{TextFault}
+use Rattle.tau_text.specs.declared.load.Workload.{Workload}
+use Rattle.tau_text.specs.Kept.{IsRunnable}
+use Rattle.tau_text.specs.Text.{workload_of}
+use Rattle.tau_report.specs.declared.report.RunReport.{RunReport}
+use Rattle.tau_scan.specs.declared.fault.LogFault.{LogFault}
+use Rattle.tau_scan.specs.declared.fault.ScanRefusal.{ScanRefusal}
+use Rattle.tau_scan.specs.declared.fault.ScanRefusal.TheVariants as scan
+use Rattle.tau_scan.specs.declared.log.Log.{Log}
+use Rattle.tau_scan.specs.Outside.{calls_to_read}
+use Rattle.tau_scan.specs.Reading.{IsLog, log_of}
+use Rattle.tau_inspect.specs.Audit.{case_of}
+use Rattle.tau_inspect.specs.Cases.{IsCase}
+use Rattle.tau_inspect.specs.ReportFor.{IsReportFor}
+use Rattle.tau_inspect.specs.RunText.{IsTextOf}
+use Rattle.tau_words.specs.declared.command.Command.{Command}
+use Rattle.tau_words.specs.declared.command.Command.TheVariants.{Audit}
+use Rattle.tau_engine.specs.declared.status.Status.{Status}
+use Rattle.tau_engine.specs.declared.status.Status.TheVariants as status
+use Rattle.tau_engine.specs.Auditing.{AuditTells, OfAudit, TellsVerdict}
+use Rattle.tau_engine.specs.Cases.{GivesCase, IsRead, ReadsCase, ReadsLoad, ReadsReport}
+use Rattle.tau_engine.specs.Commands.{OneLine, wrote}
+use Rattle.tau_engine.specs.Cut.{cut_at_report}
+use Rattle.tau_engine.specs.Fault.{fault_text, is_refusal, TellsFault}
+use Rattle.tau_engine.specs.First.{TellsOfLog}
+use Rattle.tau_engine.specs.Outside.{Input, Output, Wrote, ends_recovery, is_behind_text, is_behind_end, is_behind_reading, is_before_disks}
+use Rattle.tau_engine.specs.Reads.{HasOnlyRead}
+use Rattle.tau_engine.specs.Recovery.{EndsAsBad, images_of}
+use Rattle.tau_engine.specs.Runs.{status_at}
+use Rattle.tau_engine.specs.Source.{ReadsText}
+use Rattle.tau_engine.specs.Sources.{HasReport, HasBadWorkload, HasBadReport, IsBadReport, RefusesSource, front_or, load_text, is_of_source}
+use Rattle.tau_engine.specs.Top.{Says, Uses, finds_log}
+use Rattle.tau_engine.proofs.First.{nothing}
+use Rattle.tau_engine.proofs.OneSource.{load_of, not_refused, one_refusal, same_loads, same_reports}
+use Rattle.tau_engine.proofs.Recoveries.{clean_of}
+use Rattle.tau_engine.proofs.Said.{in_use, kept, no_before, no_source, other}
+
+-- ---- the source was refused
+
+module _ (s : Input) (n m : ℕ) where
+  abbrev asked : Option Command
+  asked = Some (Audit n m)
+
+  abbrev Refused : Status → Type 0
+  Refused a = GivesCase s n (Err a)
+
+  no_answer : (a x : Status) → Refused a → (Refused x → ⊥) → a ≡ x → ⊥
+  no_answer a x h none e = none (subst Refused e h)
+
+  not_behind : (a : Status) → Refused a → is_behind_text a ≡ true → ⊥
+  not_behind status.NoMemory h e = cc e
+  not_behind status.ReadFault h e = cc e
+  not_behind status.TooLong h e = cc e
+  not_behind (status.BadText line why) h e = cc e
+  not_behind (status.BadReport number) h e = cc e
+  not_behind status.Ok h e = h
+  not_behind status.Usage h e = h
+  not_behind status.WriteFault h e = h
+  not_behind (status.DiskFault j) h e = h
+  not_behind (status.BadLog fault) h e = h
+  not_behind (status.BadFeed at) h e = h
+
+  not_read : (a : Status) → Refused a → is_behind_reading a ≡ true → ⊥
+  not_read status.NoMemory h e = cc e
+  not_read status.ReadFault h e = cc e
+  not_read status.TooLong h e = cc e
+  not_read (status.BadText line why) h e = cc e
+  not_read (status.BadReport number) h e = cc e
+  not_read status.Ok h e = h
+  not_read status.Usage h e = h
+  not_read status.WriteFault h e = h
+  not_read (status.DiskFault j) h e = h
+  not_read (status.BadLog fault) h e = h
+  not_read (status.BadFeed at) h e = h
+
+  refuses : (a : Status) → Refused a → is_of_source a ≡ true → s.tells → RefusesSource asked s.left a
+  refuses status.TooLong h e t = h t
+  refuses (status.BadText line why) h e t = (h t).0
+  refuses (status.BadReport number) h e t = (h t).0
+  refuses status.NoMemory h e t = absurd (cc e)
+  refuses status.ReadFault h e t = absurd (cc e)
+  refuses status.Ok h e t = absurd h
+  refuses status.Usage h e t = absurd h
+  refuses status.WriteFault h e t = absurd h
+  refuses (status.DiskFault j) h e t = absurd h
+  refuses (status.BadLog fault) h e t = absurd h
+  refuses (status.BadFeed at) h e t = absurd h
+
+  ended : (a : Status) → Refused a → s.tells → is_behind_end a ≡ true → s.left' ≡ []
+  ended (status.BadText line why) h t e = (h t).1
+  ended (status.BadReport number) h t e = (h t).1
+  ended status.TooLong h t e = absurd (cc e)
+  ended status.NoMemory h t e = absurd (cc e)
+  ended status.ReadFault h t e = absurd (cc e)
+  ended status.Ok h t e = absurd h
+  ended status.Usage h t e = absurd h
+  ended status.WriteFault h t e = absurd h
+  ended (status.DiskFault j) h t e = absurd h
+  ended (status.BadLog fault) h t e = absurd h
+  ended (status.BadFeed at) h t e = absurd h
+
+  told_so : (a : Status) → Refused a → s.tells → (refusal : Status) → RefusesSource asked s.left refusal → Member a (refusal ∷ status.ReadFault ∷ status.NoMemory ∷ [])
+  told_so status.NoMemory h t refusal r = inr (inr (inl refl))
+  told_so status.ReadFault h t refusal r = inr (inl refl)
+  told_so status.TooLong h t refusal r = inl (one_refusal n m s.left refusal status.TooLong r (h t))
+  told_so (status.BadText line why) h t refusal r = inl (one_refusal n m s.left refusal (status.BadText line why) r (h t).0)
+  told_so (status.BadReport number) h t refusal r = inl (one_refusal n m s.left refusal (status.BadReport number) r (h t).0)
+  told_so status.Ok h t refusal r = absurd h
+  told_so status.Usage h t refusal r = absurd h
+  told_so status.WriteFault h t refusal r = absurd h
+  told_so (status.DiskFault j) h t refusal r = absurd h
+  told_so (status.BadLog fault) h t refusal r = absurd h
+  told_so (status.BadFeed at) h t refusal r = absurd h
+
+  -- a source that has a report is not refused, unless memory ran out or it failed
+  well : (a : Status) → Refused a → s.tells → (load : Workload) (report : RunReport) → HasReport n s.left load report → (s.rose → ⊥) → Member a (status.Ok ∷ status.NoMemory ∷ [])
+  well status.NoMemory h t load report has no = inr (inl refl)
+  well status.ReadFault h t load report has no = absurd (no h)
+  well status.TooLong h t load report has no = absurd (not_refused n m s.left load report status.TooLong has (h t))
+  well (status.BadText line why) h t load report has no = absurd (not_refused n m s.left load report (status.BadText line why) has (h t).0)
+  well (status.BadReport number) h t load report has no = absurd (not_refused n m s.left load report (status.BadReport number) has (h t).0)
+  well status.Ok h t load report has no = absurd h
+  well status.Usage h t load report has no = absurd h
+  well status.WriteFault h t load report has no = absurd h
+  well (status.DiskFault j) h t load report has no = absurd h
+  well (status.BadLog fault) h t load report has no = absurd h
+  well (status.BadFeed at) h t load report has no = absurd h
+
+  bad_end : (a : Status) → Refused a → is_before_disks a ≡ false → (fault : LogFault) → EndsAsBad fault a
+  bad_end status.NoMemory h e fault = tt
+  bad_end status.ReadFault h e fault = absurd (cc e)
+  bad_end status.TooLong h e fault = absurd (cc e)
+  bad_end (status.BadText line why) h e fault = absurd (cc e)
+  bad_end (status.BadReport number) h e fault = absurd (cc e)
+  bad_end status.Ok h e fault = absurd h
+  bad_end status.Usage h e fault = absurd h
+  bad_end status.WriteFault h e fault = absurd h
+  bad_end (status.DiskFault j) h e fault = absurd h
+  bad_end (status.BadLog other) h e fault = absurd h
+  bad_end (status.BadFeed at) h e fault = absurd h
+
+  untold : (load : Workload) (report : RunReport) (images : List (List ℕ)) (write : List ℕ → Type 0) (a : Status) → Refused a → AuditTells m load report images write a
+  untold load report images write status.NoMemory h = tt
+  untold load report images write status.ReadFault h = tt
+  untold load report images write status.TooLong h = tt
+  untold load report images write (status.BadText line why) h = tt
+  untold load report images write (status.BadReport number) h = tt
+  untold load report images write status.Ok h = absurd h
+  untold load report images write status.Usage h = absurd h
+  untold load report images write status.WriteFault h = absurd h
+  untold load report images write (status.DiskFault j) h = absurd h
+  untold load report images write (status.BadLog fault) h = absurd h
+  untold load report images write (status.BadFeed at) h = absurd h
+
+  module _ {D : Type 0} (G : Ghosts D) (M : Ghosts MemDisk) (o : Output) (source : s.tells → (k : ℕ) × (k ≤ MAX_WORKLOAD + 1) × (s.left' ≡ drop k s.left)) where
+    says_so : (old : List D) (a : Status) → Refused a → (is_refusal a ≡ true → OneLine o a) → (a ≡ status.NoMemory → wrote o a []) → Says G M s o old old asked a
+    says_so old a h line silent = record {
+      causes = record {
+        usage = λ e. absurd (no_answer a status.Usage h (λ x. x) e);
+        usage_told = λ e. absurd (cc e);
+        read_fault = λ e. (refl, subst Refused e h);
+        bad_source = λ e. (refl, refuses a h e);
+        bad_source_told = told_so a h;
+        behind_text = λ e. absurd (not_behind a h e);
+        disk_fault = λ j e. absurd (no_answer a (status.DiskFault j) h (λ x. x) e);
+        disk_fault_first = λ j e. absurd (no_answer a (status.DiskFault j) h (λ x. x) e);
+        disk_fault_told = λ e. absurd (no_answer a status.Ok h (λ x. x) e);
+        bad_log = λ fault e. refl;
+        write_fault = λ e. absurd (no_answer a status.WriteFault h (λ x. x) e);
+      };
+      written = record {
+        source = source;
+        source_end = λ t e reads. ended a h t e;
+        source_unread = λ t e. absurd (cc e);
+        refusal = λ e late. line e;
+        disk_line = λ j e. absurd (no_answer a (status.DiskFault j) h (λ x. x) e);
+        silent = λ e late. silent e;
+        silent_text = λ e reads t none. silent e;
+      };
+      untouched = record {
+        rest = λ j out. refl;
+        before = λ e. refl;
+        bad_source = λ t refusal r. refl;
+        read = λ e j d used was. (d, was, untouched G d);
+        calls = λ e behind. absurd (not_read a h behind);
+      };
+      of = record {
+        audit = λ t tells load report has. untold load report (images_of G.seen old n) (Wrote o.hears o.held o.held') a h;
+        bad_log = λ fault e. absurd (no_answer a (status.BadLog fault) h (λ x. x) e);
+        bad_log_told = λ t tells load report fault has behind is. bad_end a h behind fault;
+        done = λ t tells load report log has is rose sink disks. well a h t load report has rose;
+      };
+    }
+
+    pub says_unread : (old : List D) (refusal a : Status) → Refused refusal → TellsFault (Wrote o.hears o.held o.held') (Rose o.faults o.faults') refusal a → Says G M s o old old asked a
+    says_unread old refusal a h (inr told) = subst (λ (x : Status). Says G M s o old old asked x) (sym told.0) (says_so old status.NoMemory tt (λ e. absurd (cc e)) (λ e. told.1))
+    says_unread old refusal a h (inl told) =
+        subst (λ (x : Status). Says G M s o old old asked x) (sym told.0)
+        (says_so old refusal h (λ e. told.1) (λ e. nothing (Wrote o.hears o.held o.held') (Rose o.faults o.faults') (subst (λ (x : Status). WroteFront (Wrote o.hears o.held o.held') (Rose o.faults o.faults') (fault_text x)) e told.1)))
+
+    -- ---- the source was read
+
+    module _ (few : n ≤ MAX_STREAMS) (load : Workload) (report : RunReport) (given : GivesCase s n (Ok (load, report))) where
+      few_calls : length load.calls < 2 ^ 32
+      few_calls = let count = given.0.0.calls.count in omega (arith, count)
+
+      tells_same : (images : List (List ℕ)) (write : List ℕ → Type 0) (a : Status) (other : Workload) (told : RunReport) → s.tells → HasReport n s.left other told → AuditTells m load report images write a → AuditTells m other told images write a
+      tells_same images write a other told t has h =
+          let same : load ≡ other = same_loads n s.left load other report told (given.1 t).0 has in
+          let here : HasReport n s.left load told = subst (λ (l : Workload). HasReport n s.left l told) (sym same) has in
+          let one : report ≡ told = same_reports n s.left load report told few few_calls (given.1 t).0 here in
+          subst (λ (l : Workload). AuditTells m l told images write a) same (subst (λ (r : RunReport). AuditTells m load r images write a) one h)
+
+      pub says_read : (old new : List D) (a : Status) → HasOnlyRead G o old new a n → TellsOfLog (AuditTells m load report) G o old new a n → Says G M s o old new asked a
+      says_read old new a h of = record {
+        causes = record {
+          usage = λ e. absurd (other ends_recovery a status.Usage h.kind refl e);
+          usage_told = λ e. absurd (cc e);
+          read_fault = λ e. absurd (other ends_recovery a status.ReadFault h.kind refl e);
+          bad_source = λ e. absurd (no_source a h.kind e);
+          bad_source_told = λ t refusal r. absurd (not_refused n m s.left load report refusal (given.1 t).0 r);
+          behind_text = λ e reads t. (load, report, (given.1 t).0);
+          disk_fault = λ j e. (let at = h.disk j e in (inl at.0, at.1));
+          disk_fault_first = h.stopped;
+          disk_fault_told = λ e. in_use (IsClean G.tells G.number G.fails) old new asked n refl refl (clean_of G.tells G.number G.fails G.short calls_to_read old new n (h.calls (ap is_behind_reading e)));
+          bad_log = λ fault e. refl;
+          write_fault = h.sink;
+        };
+        written = record {
+          source = source;
+          source_end = λ t e reads. (given.1 t).1;
+          source_unread = λ t e. absurd (cc e);
+          refusal = λ e late. h.refusal e;
+          disk_line = λ j e late. h.disk_line j e;
+          silent = λ e late. h.silent e;
+          silent_text = λ e reads t none. h.silent e;
+        };
+        untouched = record {
+          rest = kept old new asked n refl h.rest;
+          before = λ e. absurd (no_before a h.kind e);
+          bad_source = λ t refusal r. absurd (not_refused n m s.left load report refusal (given.1 t).0 r);
+          read = λ e. in_use (OnlyRead G.tells G.seen G.may_leave G.moment G.may_leave_since) old new asked n refl refl h.read;
+          calls = λ e behind. in_use (AllCalls G.tells G.number G.fails G.short calls_to_read) old new asked n refl refl (h.calls behind);
+        };
+        of = record {
+          audit = λ t tells other told has. tells_same (images_of G.seen old n) (Wrote o.hears o.held o.held') a other told t has (of.tells tells);
+          bad_log = of.bad_log;
+          bad_log_told = λ t tells other told fault has behind is. of.bad_log_told tells fault is;
+          done = λ t tells other told log has is rose sink disks. of.done tells log is sink disks;
+        };
+      }
