@@ -1,6 +1,6 @@
 -- What is said of a call, from what is said of its command.
-use Rattle.std.proofs.Common.{ℕ, Bool, true, false, ◌≡◌, ◌<◌, ◌≤◌, ◌⊎◌, inl, inr, refl, sym, ap, ◌∙◌, subst, List, [], ◌∷◌, drop, length, arith}
-use Rattle.std.specs.Prelude.{Option, Some, None, Ok, Err, slice_get}
+use Rattle.std.proofs.Common.{ℕ, Bool, true, false, ◌+◌, ◌≡◌, ◌<◌, ◌≤◌, ◌⊎◌, inl, inr, refl, sym, ap, ◌∙◌, subst, List, [], ◌∷◌, drop, length, arith}
+use Rattle.std.specs.Prelude.{Option, Some, None, Result, Ok, Err, slice_get}
 use Rattle.tau_base.proofs.Logic.{below_or_not}
 use Rattle.tau_base.specs.declared.limits.TheConstants.{MAX_STREAMS, MAX_WORKLOAD}
 use Rattle.tau_base.specs.declared.value.LogMode.{LogMode}
@@ -113,7 +113,7 @@ low_use c n is slots j (inr p) = absurd (let f : false ≡ true = sym slots ∙ 
 
 module _ {D : Type 0} (R : D → D → Type 0) (old new : List D) (c : Option Command) (n : ℕ) (is : streams_of c ≡ n) (slots : uses_slots c ≡ false) where
   pub in_use : EachUsed R old new n → EachIn (Uses c) (λ j. R) old new
-  in_use each j d use was = each j d (low_use c n is slots j use) was
+  in_use each j d used was = each j d (low_use c n is slots j used) was
 
 module _ {D : Type 0} (old new : List D) (c : Option Command) (n : ℕ) (is : streams_of c ≡ n) where
   pub kept : drop n new ≡ drop n old → (j : ℕ) → (Uses c j → ⊥) → slice_get new j ≡ slice_get old j
@@ -129,8 +129,8 @@ module _ {D : Type 0} (G : Ghosts D) (M : Ghosts MemDisk) (s : Input) (o : Outpu
     rest = λ j out. refl;
     before = λ e. refl;
     bad_source = λ t refusal r. refl;
-    read = λ e j d use was. absurd (none j use);
-    calls = λ e behind j d use was. absurd (none j use);
+    read = λ e j d used was. absurd (none j used);
+    calls = λ e behind j d used was. absurd (none j used);
   }
 
   -- ---- nothing was done
@@ -187,7 +187,7 @@ module _ {D : Type 0} (G : Ghosts D) (M : Ghosts MemDisk) (s : Input) (o : Outpu
       rest = λ j out. refl;
       before = λ e. refl;
       bad_source = λ t refusal r. refl;
-      read = λ e j d use was. (d, was, untouched G d);
+      read = λ e j d used was. (d, was, untouched G d);
       calls = λ e behind. absurd (cc behind);
     };
     of = of_nothing old c silent;
@@ -279,7 +279,7 @@ module _ {D : Type 0} (G : Ghosts D) (M : Ghosts MemDisk) (s : Input) (o : Outpu
       behind_text = λ e r t. h.behind_text e t;
       disk_fault = λ j e. absurd (disk j e);
       disk_fault_first = λ j e. absurd (disk j e);
-      disk_fault_told = λ e j d use was. absurd (no_use c few slots j use);
+      disk_fault_told = λ e j d used was. absurd (no_use c few slots j used);
       bad_log = finds;
       write_fault = sink;
     };
@@ -328,7 +328,7 @@ module _ {D : Type 0} (G : Ghosts D) (M : Ghosts MemDisk) (s : Input) (o : Outpu
       behind_text = λ e reads. absurd (cc reads);
       disk_fault = λ j e. absurd (other ends_rehearsal a (status.DiskFault j) kind refl e);
       disk_fault_first = λ j e. absurd (other ends_rehearsal a (status.DiskFault j) kind refl e);
-      disk_fault_told = λ e j d use was. absurd (no_use (Some (Bench start calls n m)) refl refl j use);
+      disk_fault_told = λ e j d used was. absurd (no_use (Some (Bench start calls n m)) refl refl j used);
       bad_log = λ fault e. absurd (other ends_rehearsal a (status.BadLog fault) kind refl e);
       write_fault = sink;
     };
@@ -447,7 +447,7 @@ module _ {D : Type 0} (G : Ghosts D) (M : Ghosts MemDisk) (s : Input) (o : Outpu
       same_bad : (at at' : ℕ) (why why' : TextCause) → HasFault s.left (record { line = at; cause = why }) → HasFault s.left (record { line = at'; cause = why' }) → status.BadText at why ≡ status.BadText at' why'
       same_bad at at' why why' one two = of_same (record { line = at; cause = why }) (record { line = at'; cause = why' }) (err_is (record { line = at; cause = why }) (record { line = at'; cause = why' }) (sym one.1 ∙ two.1))
         where
-          err_is : (x y : TextFault) → Err {A = Workload} x ≡ Err y → x ≡ y
+          err_is : (x y : TextFault) → ◌≡◌ {A = Result Workload TextFault} (Err x) (Err y) → x ≡ y
           err_is x y e = cc
 
           of_same : (x y : TextFault) → x ≡ y → status.BadText x.line x.cause ≡ status.BadText y.line y.cause
@@ -475,7 +475,7 @@ module _ {D : Type 0} (G : Ghosts D) (M : Ghosts MemDisk) (s : Input) (o : Outpu
         where
           bad_text : (x : Status) → RefusesSource run s.left x → Member (status.BadText at why) (x ∷ status.ReadFault ∷ status.NoMemory ∷ [])
           bad_text status.TooLong r = absurd (let under = (bad at why is t).0 in omega (arith, r, under))
-          bad_text (status.BadText at' why') r = inl (same_bad at at' why why' (bad at why is t) r)
+          bad_text (status.BadText at' why') r = inl (sym (same_bad at at' why why' (bad at why is t) r))
           bad_text status.Ok r = absurd r
           bad_text status.NoMemory r = absurd r
           bad_text status.WriteFault r = absurd r
@@ -543,7 +543,7 @@ module _ {D : Type 0} (G : Ghosts D) (M : Ghosts MemDisk) (s : Input) (o : Outpu
         ];
         bad_source_told = λ t x r. elim tells [
           | inl is ↦ told t a x (sym is.0) r
-          | inr none ↦ inr (inr (inl none.0))
+          | inr none ↦ inr (inr (inl (sym none.0)))
         ];
         behind_text = λ e t. absurd (behind_no_text a ends e);
         source = source;
@@ -595,8 +595,8 @@ module _ {D : Type 0} (G : Ghosts D) (M : Ghosts MemDisk) (s : Input) (o : Outpu
               write_fault_late = λ e. absurd (other ends_text a status.WriteFault ended.0 refl e);
               moments = λ unborn j d lt was. (d, was, λ t. omega arith);
               done = λ t tells' load log order has reads is fits none rose'. elim tells [
-                | inl is' ↦ inr (inl (only_short load has t none a (sym is'.0)))
-                | inr none' ↦ inr (inl none'.0)
+                | inl is' ↦ inr (inl (sym (only_short load has t none a (sym is'.0))))
+                | inr none' ↦ inr (inl (sym none'.0))
               ];
             };
           }

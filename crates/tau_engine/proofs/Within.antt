@@ -165,39 +165,42 @@ bench_within (a ∷ b ∷ n ∷ m ∷ []) c e =
     let few = number_within 1 16 m workers also in
     same_within (Bench start calls streams workers) c is (((number_within 0 999 a start first).1, (number_within 0 MAX_CALLS b calls many).1), number_within 1 16 n streams some, few.0, few.1)
 
--- of the commands that are not there yet nothing is asked
-pair_within : (make : ℕ → ℕ → Command) (o q : Option ℕ) (c : Command) → ((k l : ℕ) → IsWithin (make k l)) → option_and_then (λ (k : ℕ). option_map (λ (l : ℕ). make k l) q) o ≡ Some c → IsWithin c
+-- two numbers
+pair_within : (make : ℕ → ℕ → Command) (o q : Option ℕ) (c : Command) → ((k l : ℕ) → o ≡ Some k → q ≡ Some l → IsWithin (make k l)) → option_and_then (λ (k : ℕ). option_map (λ (l : ℕ). make k l) q) o ≡ Some c → IsWithin c
 pair_within make o q c each e =
     let (k, some, rest) = and_then_some (λ (k : ℕ). option_map (λ (l : ℕ). make k l) q) o c e in
     let (l, also, is) = map_some (λ (l : ℕ). make k l) q c rest in
-    subst IsWithin is (each k l)
+    subst IsWithin is (each k l some also)
+
+both_within : (high : ℕ) (n p : Word) (k l : ℕ) → streams_of n ≡ Some k → number_in 1 high p ≡ Some l → ((1 ≤ k) × (k ≤ 32)) × (1 ≤ l) × (l ≤ high)
+both_within high n p k l some also = (let few = number_within 1 high p l also in (number_within 1 32 n k some, few.0, few.1))
 
 checkpoint_within : (words : List Word) (c : Command) → checkpoint_of words ≡ Some c → IsWithin c
 checkpoint_within [] c e = absurd (cc e)
 checkpoint_within (n ∷ []) c e = absurd (cc e)
-checkpoint_within (n ∷ p ∷ []) c e = pair_within Checkpoint (streams_of n) (count_of p) c (λ k l. tt) e
+checkpoint_within (n ∷ p ∷ []) c e = pair_within Checkpoint (streams_of n) (count_of p) c (both_within 16 n p) e
 checkpoint_within (n ∷ p ∷ more ∷ words) c e = absurd (cc e)
 
 restore_within : (words : List Word) (c : Command) → restore_of words ≡ Some c → IsWithin c
 restore_within [] c e = absurd (cc e)
 restore_within (n ∷ []) c e = absurd (cc e)
-restore_within (n ∷ p ∷ []) c e = pair_within Restore (streams_of n) (count_of p) c (λ k l. tt) e
+restore_within (n ∷ p ∷ []) c e = pair_within Restore (streams_of n) (count_of p) c (both_within 16 n p) e
 restore_within (n ∷ p ∷ more ∷ words) c e = absurd (cc e)
 
 audit_within : (words : List Word) (c : Command) → audit_of words ≡ Some c → IsWithin c
 audit_within [] c e = absurd (cc e)
 audit_within (n ∷ []) c e = absurd (cc e)
-audit_within (n ∷ m ∷ []) c e = pair_within Audit (streams_of n) (workers_of m) c (λ k l. tt) e
+audit_within (n ∷ m ∷ []) c e = pair_within Audit (streams_of n) (workers_of m) c (both_within 32 n m) e
 audit_within (n ∷ m ∷ more ∷ words) c e = absurd (cc e)
 
 follow_within : (words : List Word) (c : Command) → follow_of words ≡ Some c → IsWithin c
 follow_within [] c e = absurd (cc e)
-follow_within (n ∷ []) c e = let (k, some, is) = map_some Follow (streams_of n) c e in subst IsWithin is tt
+follow_within (n ∷ []) c e = let (k, some, is) = map_some Follow (streams_of n) c e in subst IsWithin is (number_within 1 32 n k some)
 follow_within (n ∷ more ∷ words) c e = absurd (cc e)
 
 inspect_within : (words : List Word) (c : Command) → inspect_of words ≡ Some c → IsWithin c
 inspect_within [] c e = absurd (cc e)
-inspect_within (n ∷ []) c e = let (k, some, is) = map_some Inspect (streams_of n) c e in subst IsWithin is tt
+inspect_within (n ∷ []) c e = let (k, some, is) = map_some Inspect (streams_of n) c e in subst IsWithin is (number_within 1 32 n k some)
 inspect_within (n ∷ more ∷ words) c e = absurd (cc e)
 
 -- the first of these names that is the word

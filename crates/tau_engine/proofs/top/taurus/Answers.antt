@@ -1,15 +1,18 @@
 use Rattle.std.proofs.Common.{ℕ, ◌≡◌, ◌≤◌, List, ◌∙◌, sym, ap, subst, refl, arith, map, length, take, drop, ◌++◌, rules}
-use Rattle.std.specs.Prelude.{string_bytes, Option, Some, None}
+use Rattle.std.specs.Prelude.{string_bytes, Option, Some, None, Result, Err}
 use Rattle.tau_base.specs.declared.value.LogMode.{LogMode}
 use Rattle.tau_base.specs.Modes.{format_of}
 use Rattle.tau_disk.specs.Disk.{Rose}
 use Rattle.tau_disk.specs.contracts.memory.MemDiskDisk.TheImpl.{ghosts}
+use Rattle.tau_text.specs.declared.load.Workload.{Workload}
 use Rattle.tau_words.specs.declared.command.Command.{Command}
 use Rattle.tau_words.specs.declared.command.Command.TheVariants.{Run, Recover, Drill, Bench, Follow, Inspect, Audit}
 use Rattle.tau_engine.specs.declared.status.Status.{Status}
 use Rattle.tau_engine.specs.declared.status.Status.TheVariants as status
 use Rattle.tau_engine.specs.declared.served.Work.{Work}
-use Rattle.tau_engine.specs.Commands.{OfInspect, OfRecover}
+use Rattle.tau_engine.specs.declared.served.Work.TheVariants as work
+use Rattle.tau_engine.specs.Commands.{OfRecover}
+use Rattle.tau_engine.specs.Inspecting.{OfInspect}
 use Rattle.tau_engine.specs.Outside.{Input, Output}
 use Rattle.tau_engine.specs.Reads.{HasOnlyRead}
 use Rattle.tau_engine.specs.Served.{IsWithin, command_in, served}
@@ -19,3 +22,211 @@ use Rattle.tau_engine.proofs.Recoveries.{handed_back}
 use Rattle.tau_engine.proofs.Said as said
 use Rattle.tau_engine.proofs.top.taurus.Given.{Over}
 use Rattle.tau_engine.proofs.top.taurus.Goals as goal
+
+-- what a call reads and writes, from what its source and its sink were to what they are
+abbrev from : (g : Over) → g.row.S.Denot → g.row.S.Denot → Input
+from g a b = record { tells = g.S.Source.tells; left = g.S.Source.left a; left' = g.S.Source.left b; rose = Rose (g.S.Source.faults a) (g.S.Source.faults b) }
+
+abbrev to : (g : Over) → g.row.K.Denot → g.row.K.Denot → Output
+to g a b = record { hears = g.K.Sink.tells; held = g.K.Sink.held a; held' = g.K.Sink.held b; faults = g.K.Sink.faults a; faults' = g.K.Sink.faults b }
+
+-- what the words ask for is this command
+asked : (o : Option Command) (w x : Work) → o ≡ Some (command_in w) → w ≡ x → o ≡ Some (command_in x)
+asked o w x is e = is ∙ ap (λ (y : Work). Some (command_in y)) e
+
+within_of : (w x : Work) → w ≡ x → IsWithin (command_in w) → IsWithin (command_in x)
+within_of w x e within = subst (λ (y : Work). IsWithin (command_in y)) e within
+
+-- the same of the disks that were lent, and of those that came back
+module _ (g : Over) (o : Output) (lent old new back : List g.row.D.Denot) (a : Status) (k n : ℕ) (is : lent ≡ old) (same : back ≡ new) (many : k ≡ n) where
+  read_at : HasOnlyRead g.D.Disk o lent new a k → HasOnlyRead g.D.Disk o old back a n
+  read_at h = subst (λ (ds : List g.row.D.Denot). HasOnlyRead g.D.Disk o ds back a n) is (subst (λ (ds : List g.row.D.Denot). HasOnlyRead g.D.Disk o lent ds a n) (sym same) (subst (λ (j : ℕ). HasOnlyRead g.D.Disk o lent new a j) many h))
+
+  recover_at : OfRecover g.D.Disk o lent new a k → OfRecover g.D.Disk o old back a n
+  recover_at h = subst (λ (ds : List g.row.D.Denot). OfRecover g.D.Disk o ds back a n) is (subst (λ (ds : List g.row.D.Denot). OfRecover g.D.Disk o lent ds a n) (sym same) (subst (λ (j : ℕ). OfRecover g.D.Disk o lent new a j) many h))
+
+  inspect_at : OfInspect g.D.Disk o lent new a k → OfInspect g.D.Disk o old back a n
+  inspect_at h = subst (λ (ds : List g.row.D.Denot). OfInspect g.D.Disk o ds back a n) is (subst (λ (ds : List g.row.D.Denot). OfInspect g.D.Disk o lent ds a n) (sym same) (subst (λ (j : ℕ). OfInspect g.D.Disk o lent new a j) many h))
+
+as_err : (a b : Status) → a ≡ b → ◌≡◌ {A = Result Workload Status} (Err a) (Err b)
+as_err a b e = ap (λ (x : Status). Err x) e
+
+-- ---- no command
+
+pub returns-in-Err-NoMemory-clause-says : goal.returns-in-Err-NoMemory-clause-says
+returns-in-Err-NoMemory-clause-says g c = said.nothing_done g.D.Disk ghosts (from g c.args.source.now c.args.source.now) (to g c.args.sink.now c.args.sink.now) c.args.disks.now.items (served (map string_bytes c.args.words.now)) refl (λ t. search rules)
+
+pub returns-in-Err-Usage-clause-says : goal.returns-in-Err-Usage-clause-says
+returns-in-Err-Usage-clause-says g c =
+    subst (λ (x : Option Command). Says g.D.Disk ghosts (from g c.args.source.now c.args.source.now) (to g c.args.sink.now c.refuse.new.sink) c.args.disks.now.items c.args.disks.now.items x c.refuse.result) (sym (c.in-Err-Usage.ensures.usage (search rules)))
+    (said.says_usage g.D.Disk ghosts (from g c.args.source.now c.args.source.now) (to g c.args.sink.now c.refuse.new.sink) c.args.disks.now.items c.refuse.result refl c.refuse.ensures)
+
+-- ---- a run
+
+pub returns-in-Err-clause-says : goal.returns-in-Err-clause-says
+returns-in-Err-clause-says g c =
+    let is = asked (served (map string_bytes c.args.words.now)) c.in-Ok-Run.field-0 (work.Run c.in-Ok-Run.n c.in-Ok-Run.m c.in-Ok-Run.mode) c.in-Ok-Run.ensures.ok c.in-Ok-Run.field-0-is in
+    subst (λ (x : Option Command). Says g.D.Disk ghosts (from g c.args.source.now c.read_source.new.source) (to g c.args.sink.now c.refuse-in-Err.new.sink) c.args.disks.now.items c.args.disks.now.items x c.refuse-in-Err.result) (sym is)
+    (said.says_unread g.D.Disk ghosts (from g c.args.source.now c.read_source.new.source) (to g c.args.sink.now c.refuse-in-Err.new.sink) c.in-Ok-Run.n c.in-Ok-Run.m c.in-Ok-Run.mode
+    c.in-Err.refusal c.in-Err.ensures.kind (λ e. c.in-Err.ensures.read_fault (as_err c.in-Err.refusal status.ReadFault e)) (λ e. c.in-Err.ensures.too_long (as_err c.in-Err.refusal status.TooLong e)) (λ at why e. c.in-Err.ensures.bad_text at why (as_err c.in-Err.refusal (status.BadText at why) e))
+    c.args.disks.now.items c.refuse-in-Err.result c.refuse-in-Err.ensures c.read_source.ensures.source (λ at why e. c.in-Err.ensures.end_bad at why (as_err c.in-Err.refusal (status.BadText at why) e)))
+
+pub returns-in-Ok-clause-says : goal.returns-in-Ok-clause-says
+returns-in-Ok-clause-says g c =
+    let is = asked (served (map string_bytes c.args.words.now)) c.in-Ok-Run.field-0 (work.Run c.in-Ok-Run.n c.in-Ok-Run.m c.in-Ok-Run.mode) c.in-Ok-Run.ensures.ok c.in-Ok-Run.field-0-is in
+    subst (λ (x : Option Command). Says g.D.Disk ghosts (from g c.args.source.now c.read_source.new.source) (to g c.args.sink.now c.run.new.sink) c.args.disks.now.items c.run.new.disks.items x c.run.result) (sym is)
+    (said.says_run g.D.Disk ghosts (from g c.args.source.now c.read_source.new.source) (to g c.args.sink.now c.run.new.sink) c.in-Ok-Run.n c.in-Ok-Run.m c.in-Ok-Run.mode
+    c.args.disks.now.items c.run.new.disks.items c.run.result c.in-Ok.load c.in-Ok.ensures.load c.in-Ok.ensures.end c.read_source.ensures.source c.run.ensures.says)
+
+pub run-requires-clause-meant : goal.run-requires-clause-meant
+run-requires-clause-meant g c κs within = c.in-Ok.ensures.meant
+
+pub run-requires-clause-streams_low : goal.run-requires-clause-streams_low
+run-requires-clause-streams_low g c κs within = (subst (λ (w : Work). IsWithin (command_in w)) c.in-Ok-Run.field-0-is c.in-Ok-Run.ensures.within).0.0
+
+pub run-requires-clause-streams_high : goal.run-requires-clause-streams_high
+run-requires-clause-streams_high g c κs within = (subst (λ (w : Work). IsWithin (command_in w)) c.in-Ok-Run.field-0-is c.in-Ok-Run.ensures.within).0.1
+
+pub run-requires-clause-low : goal.run-requires-clause-low
+run-requires-clause-low g c κs within = (subst (λ (w : Work). IsWithin (command_in w)) c.in-Ok-Run.field-0-is c.in-Ok-Run.ensures.within).1
+
+pub run-requires-clause-high : goal.run-requires-clause-high
+run-requires-clause-high g c κs within = few_workers (format_of c.in-Ok-Run.mode) c.in-Ok-Run.m (subst (λ (w : Work). IsWithin (command_in w)) c.in-Ok-Run.field-0-is c.in-Ok-Run.ensures.within).2
+
+pub run-requires-clause-runnable : goal.run-requires-clause-runnable
+run-requires-clause-runnable g c κs within = c.in-Ok.ensures.runnable
+
+-- ---- a recovery
+
+pub recover-requires-clause-workers : goal.recover-requires-clause-workers
+recover-requires-clause-workers g c κs within = (let bounds = subst (λ (w : Work). IsWithin (command_in w)) c.in-Ok-Recover.field-0-is c.in-Ok-Recover.ensures.within in (bounds.1, bounds.2))
+
+pub recover-requires-clause-low : goal.recover-requires-clause-low
+recover-requires-clause-low g c κs within = subst (λ (k : ℕ). 1 ≤ k) (sym c.from.ensures) (subst (λ (w : Work). IsWithin (command_in w)) c.in-Ok-Recover.field-0-is c.in-Ok-Recover.ensures.within).0.0
+
+pub recover-requires-clause-high : goal.recover-requires-clause-high
+recover-requires-clause-high g c κs within = subst (λ (k : ℕ). k ≤ 32) (sym c.from.ensures) (subst (λ (w : Work). IsWithin (command_in w)) c.in-Ok-Recover.field-0-is c.in-Ok-Recover.ensures.within).0.1
+
+pub returns-in-Ok-Recover-clause-says : goal.returns-in-Ok-Recover-clause-says
+returns-in-Ok-Recover-clause-says g c =
+    let is = asked (served (map string_bytes c.args.words.now)) c.in-Ok-Recover.field-0 (work.Recover c.in-Ok-Recover.n c.in-Ok-Recover.p) c.in-Ok-Recover.ensures.ok c.in-Ok-Recover.field-0-is in
+    let long : length c.recover.new.disks ≡ c.args.disks.now.len = search rules in
+    let back = handed_back c.recover.new.disks c.args.disks.now.items c.args.disks.now.len long in
+    let now = take c.args.disks.now.len (c.recover.new.disks ++ drop (length c.recover.new.disks) c.args.disks.now.items) in
+    let o = to g c.args.sink.now c.recover.new.sink in
+    subst (λ (x : Option Command). Says g.D.Disk ghosts (from g c.args.source.now c.args.source.now) o c.args.disks.now.items now x c.recover.result) (sym is)
+    (said.says_reading g.D.Disk ghosts (from g c.args.source.now c.args.source.now) o c.args.disks.now.items now (Some (Recover c.in-Ok-Recover.n c.in-Ok-Recover.p)) c.recover.result c.in-Ok-Recover.n refl refl refl refl refl
+    (read_at g o c.deref_mut.result.now c.args.disks.now.items c.recover.new.disks now c.recover.result c.from.result c.in-Ok-Recover.n c.deref_mut.ensures.value back c.from.ensures c.recover.ensures.read)
+    (recover_at g o c.deref_mut.result.now c.args.disks.now.items c.recover.new.disks now c.recover.result c.from.result c.in-Ok-Recover.n c.deref_mut.ensures.value back c.from.ensures c.recover.ensures.of))
+
+-- ---- an inspection
+
+pub inspect-requires-clause-low : goal.inspect-requires-clause-low
+inspect-requires-clause-low g c = subst (λ (k : ℕ). 1 ≤ k) (sym c.from-in-Ok-Inspect.ensures) (subst (λ (w : Work). IsWithin (command_in w)) c.in-Ok-Inspect.field-0-is c.in-Ok-Inspect.ensures.within).0
+
+pub inspect-requires-clause-high : goal.inspect-requires-clause-high
+inspect-requires-clause-high g c = subst (λ (k : ℕ). k ≤ 32) (sym c.from-in-Ok-Inspect.ensures) (subst (λ (w : Work). IsWithin (command_in w)) c.in-Ok-Inspect.field-0-is c.in-Ok-Inspect.ensures.within).1
+
+pub returns-in-Ok-Inspect-clause-says : goal.returns-in-Ok-Inspect-clause-says
+returns-in-Ok-Inspect-clause-says g c =
+    let is = asked (served (map string_bytes c.args.words.now)) c.in-Ok-Inspect.field-0 (work.Inspect c.in-Ok-Inspect.n) c.in-Ok-Inspect.ensures.ok c.in-Ok-Inspect.field-0-is in
+    let long : length c.inspect.new.disks ≡ c.args.disks.now.len = search rules in
+    let back = handed_back c.inspect.new.disks c.args.disks.now.items c.args.disks.now.len long in
+    let now = take c.args.disks.now.len (c.inspect.new.disks ++ drop (length c.inspect.new.disks) c.args.disks.now.items) in
+    let o = to g c.args.sink.now c.inspect.new.sink in
+    subst (λ (x : Option Command). Says g.D.Disk ghosts (from g c.args.source.now c.args.source.now) o c.args.disks.now.items now x c.inspect.result) (sym is)
+    (said.says_reading g.D.Disk ghosts (from g c.args.source.now c.args.source.now) o c.args.disks.now.items now (Some (Inspect c.in-Ok-Inspect.n)) c.inspect.result c.in-Ok-Inspect.n refl refl refl refl refl
+    (read_at g o c.deref_mut-in-Ok-Inspect.result.now c.args.disks.now.items c.inspect.new.disks now c.inspect.result c.from-in-Ok-Inspect.result c.in-Ok-Inspect.n c.deref_mut-in-Ok-Inspect.ensures.value back c.from-in-Ok-Inspect.ensures c.inspect.ensures.read)
+    (inspect_at g o c.deref_mut-in-Ok-Inspect.result.now c.args.disks.now.items c.inspect.new.disks now c.inspect.result c.from-in-Ok-Inspect.result c.in-Ok-Inspect.n c.deref_mut-in-Ok-Inspect.ensures.value back c.from-in-Ok-Inspect.ensures c.inspect.ensures.of))
+
+-- ---- a follower
+
+pub follow-requires-clause-low : goal.follow-requires-clause-low
+follow-requires-clause-low g c = (subst (λ (w : Work). IsWithin (command_in w)) c.in-Ok-Follow.field-0-is c.in-Ok-Follow.ensures.within).0
+
+pub follow-requires-clause-high : goal.follow-requires-clause-high
+follow-requires-clause-high g c = (subst (λ (w : Work). IsWithin (command_in w)) c.in-Ok-Follow.field-0-is c.in-Ok-Follow.ensures.within).1
+
+pub returns-in-Ok-Follow-clause-says : goal.returns-in-Ok-Follow-clause-says
+returns-in-Ok-Follow-clause-says g c =
+    let is = asked (served (map string_bytes c.args.words.now)) c.in-Ok-Follow.field-0 (work.Follow c.in-Ok-Follow.n) c.in-Ok-Follow.ensures.ok c.in-Ok-Follow.field-0-is in
+    subst (λ (x : Option Command). Says g.D.Disk ghosts (from g c.args.source.now c.follow.new.source) (to g c.args.sink.now c.follow.new.sink) c.args.disks.now.items c.args.disks.now.items x c.follow.result) (sym is)
+    (said.says_follow g.D.Disk ghosts (from g c.args.source.now c.follow.new.source) (to g c.args.sink.now c.follow.new.sink) c.args.disks.now.items c.in-Ok-Follow.n c.follow.result c.follow.ensures.source c.follow.ensures.ends c.follow.ensures.of)
+
+-- ---- an audit
+
+pub audit-requires-clause-low : goal.audit-requires-clause-low
+audit-requires-clause-low g c = (subst (λ (w : Work). IsWithin (command_in w)) c.in-Ok-Audit.field-0-is c.in-Ok-Audit.ensures.within).0.0
+
+pub audit-requires-clause-high : goal.audit-requires-clause-high
+audit-requires-clause-high g c = (subst (λ (w : Work). IsWithin (command_in w)) c.in-Ok-Audit.field-0-is c.in-Ok-Audit.ensures.within).0.1
+
+pub audit-requires-clause-workers : goal.audit-requires-clause-workers
+audit-requires-clause-workers g c = (let bounds = subst (λ (w : Work). IsWithin (command_in w)) c.in-Ok-Audit.field-0-is c.in-Ok-Audit.ensures.within in (bounds.1, bounds.2))
+
+pub returns-in-Ok-Audit-clause-says : goal.returns-in-Ok-Audit-clause-says
+returns-in-Ok-Audit-clause-says g c =
+    let is = asked (served (map string_bytes c.args.words.now)) c.in-Ok-Audit.field-0 (work.Audit c.in-Ok-Audit.n c.in-Ok-Audit.m) c.in-Ok-Audit.ensures.ok c.in-Ok-Audit.field-0-is in
+    let long : length c.audit.new.disks ≡ c.args.disks.now.len = search rules in
+    let back = handed_back c.audit.new.disks c.args.disks.now.items c.args.disks.now.len long in
+    let now = take c.args.disks.now.len (c.audit.new.disks ++ drop (length c.audit.new.disks) c.args.disks.now.items) in
+    let s = from g c.args.source.now c.audit.new.source in
+    let o = to g c.args.sink.now c.audit.new.sink in
+    subst (λ (x : Option Command). Says g.D.Disk ghosts s o c.args.disks.now.items now x c.audit.result) (sym is)
+    (subst (λ (ds : List g.row.D.Denot). Says g.D.Disk ghosts s o ds now (Some (Audit c.in-Ok-Audit.n c.in-Ok-Audit.m)) c.audit.result) c.deref_mut-in-Ok-Audit.ensures.value
+    (subst (λ (ds : List g.row.D.Denot). Says g.D.Disk ghosts s o c.deref_mut-in-Ok-Audit.result.now ds (Some (Audit c.in-Ok-Audit.n c.in-Ok-Audit.m)) c.audit.result) (sym back) c.audit.ensures.says))
+
+-- ---- a drill
+
+pub drill_source-requires-clause-streams_low : goal.drill_source-requires-clause-streams_low
+drill_source-requires-clause-streams_low g c κs within = (subst (λ (w : Work). IsWithin (command_in w)) c.in-Ok-Drill.field-0-is c.in-Ok-Drill.ensures.within).0.0
+
+pub drill_source-requires-clause-streams_high : goal.drill_source-requires-clause-streams_high
+drill_source-requires-clause-streams_high g c κs within = (subst (λ (w : Work). IsWithin (command_in w)) c.in-Ok-Drill.field-0-is c.in-Ok-Drill.ensures.within).0.1
+
+pub drill_source-requires-clause-low : goal.drill_source-requires-clause-low
+drill_source-requires-clause-low g c κs within = (subst (λ (w : Work). IsWithin (command_in w)) c.in-Ok-Drill.field-0-is c.in-Ok-Drill.ensures.within).1.0
+
+pub drill_source-requires-clause-high : goal.drill_source-requires-clause-high
+drill_source-requires-clause-high g c κs within = (subst (λ (w : Work). IsWithin (command_in w)) c.in-Ok-Drill.field-0-is c.in-Ok-Drill.ensures.within).1.1
+
+pub drill_source-requires-clause-ending : goal.drill_source-requires-clause-ending
+drill_source-requires-clause-ending g c κs within = (subst (λ (w : Work). IsWithin (command_in w)) c.in-Ok-Drill.field-0-is c.in-Ok-Drill.ensures.within).2
+
+pub returns-in-Ok-Drill-clause-says : goal.returns-in-Ok-Drill-clause-says
+returns-in-Ok-Drill-clause-says g c =
+    let is = asked (served (map string_bytes c.args.words.now)) c.in-Ok-Drill.field-0 (work.Drill c.in-Ok-Drill.n c.in-Ok-Drill.m c.in-Ok-Drill.field-0-2 c.in-Ok-Drill.ending) c.in-Ok-Drill.ensures.ok c.in-Ok-Drill.field-0-is in
+    let s = from g c.args.source.now c.drill_source.new.source in
+    let o = to g c.args.sink.now c.drill_source.new.sink in
+    let d = c.drill_source.ensures in
+    subst (λ (x : Option Command). Says g.D.Disk ghosts s o c.args.disks.now.items c.args.disks.now.items x c.drill_source.result) (sym is)
+    (said.says_drill g.D.Disk ghosts s o c.in-Ok-Drill.n c.in-Ok-Drill.m c.in-Ok-Drill.field-0-2 c.in-Ok-Drill.ending c.drill_source.result d.kind c.args.disks.now.items
+    (said.read_for_drill g.D.Disk ghosts s o c.in-Ok-Drill.n c.in-Ok-Drill.m c.in-Ok-Drill.field-0-2 c.in-Ok-Drill.ending c.drill_source.result d.kind d.read_fault d.too_long d.too_long_told d.bad_text d.bad_text_told d.behind_text d.source d.source_end)
+    d.write_fault d.refusal d.silent (record { drill = d.told; done = d.done }))
+
+-- ---- the measured job
+
+pub bench-requires-clause-start : goal.bench-requires-clause-start
+bench-requires-clause-start g c κs within = (subst (λ (w : Work). IsWithin (command_in w)) c.in-Ok-Bench.field-0-is c.in-Ok-Bench.ensures.within).0.0
+
+pub bench-requires-clause-calls : goal.bench-requires-clause-calls
+bench-requires-clause-calls g c κs within = (subst (λ (w : Work). IsWithin (command_in w)) c.in-Ok-Bench.field-0-is c.in-Ok-Bench.ensures.within).0.1
+
+pub bench-requires-clause-streams_low : goal.bench-requires-clause-streams_low
+bench-requires-clause-streams_low g c κs within = (subst (λ (w : Work). IsWithin (command_in w)) c.in-Ok-Bench.field-0-is c.in-Ok-Bench.ensures.within).1.0
+
+pub bench-requires-clause-streams_high : goal.bench-requires-clause-streams_high
+bench-requires-clause-streams_high g c κs within = (subst (λ (w : Work). IsWithin (command_in w)) c.in-Ok-Bench.field-0-is c.in-Ok-Bench.ensures.within).1.1
+
+pub bench-requires-clause-low : goal.bench-requires-clause-low
+bench-requires-clause-low g c κs within = (subst (λ (w : Work). IsWithin (command_in w)) c.in-Ok-Bench.field-0-is c.in-Ok-Bench.ensures.within).2
+
+pub bench-requires-clause-high : goal.bench-requires-clause-high
+bench-requires-clause-high g c κs within = (subst (λ (w : Work). IsWithin (command_in w)) c.in-Ok-Bench.field-0-is c.in-Ok-Bench.ensures.within).3
+
+pub returns-in-Ok-Bench-clause-says : goal.returns-in-Ok-Bench-clause-says
+returns-in-Ok-Bench-clause-says g c =
+    let is = asked (served (map string_bytes c.args.words.now)) c.in-Ok-Bench.field-0 (work.Bench c.in-Ok-Bench.start c.in-Ok-Bench.calls c.in-Ok-Bench.n c.in-Ok-Bench.m) c.in-Ok-Bench.ensures.ok c.in-Ok-Bench.field-0-is in
+    subst (λ (x : Option Command). Says g.D.Disk ghosts (from g c.args.source.now c.args.source.now) (to g c.args.sink.now c.bench.new.sink) c.args.disks.now.items c.args.disks.now.items x c.bench.result) (sym is)
+    (said.says_bench g.D.Disk ghosts (from g c.args.source.now c.args.source.now) (to g c.args.sink.now c.bench.new.sink) c.args.disks.now.items c.in-Ok-Bench.start c.in-Ok-Bench.calls c.in-Ok-Bench.n c.in-Ok-Bench.m c.bench.result refl
+    c.bench.ensures.kind c.bench.ensures.write_fault c.bench.ensures.told)
