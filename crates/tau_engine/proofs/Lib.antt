@@ -36,3 +36,9 @@ pub mod OnStart
 pub mod OnlyTouched
 pub mod RefusedOpening
 pub mod AfterOpening
+mod Spelled
+mod Alike
+mod Telling
+mod Going
+mod Answering
+mod FedAll

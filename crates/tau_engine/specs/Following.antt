@@ -1,5 +1,5 @@
 -- What a follower tells that is fed the pieces of a source.
-use Rattle.std.specs.Prelude.{ℕ, Bool, true, false, ◌<◌, ◌≤◌, ◌≡◌, ◌⊎◌, List, [], ◌∷◌, ◌++◌, length, replicate, take, codes, nat_le, if◌then◌else◌, Ok, Err}
+use Rattle.std.specs.Prelude.{ℕ, Bool, true, false, ◌≡◌, ◌⊎◌, List, [], ◌∷◌, ◌++◌, length, replicate, codes, nat_le, if◌then◌else◌, Ok, Err}
 use Rattle.std.specs.Fmt.{decimal}
 use Rattle.tau_base.specs.declared.format.Format.{Format}
 use Rattle.tau_base.specs.declared.format.Format.TheVariants.{One, Two}
@@ -10,19 +10,21 @@ use Rattle.tau_disk.specs.Disk.{Rose}
 use Rattle.tau_model.specs.History.{Member}
 use Rattle.tau_scan.specs.declared.fault.LogFault.{LogFault}
 use Rattle.tau_scan.specs.declared.log.Log.{Log}
-use Rattle.tau_scan.specs.Taken.{taken}
-use Rattle.tau_report.specs.Lines.{line}
+use Rattle.tau_scan.specs.Reading.{log_of_contents}
+use Rattle.tau_replay.specs.Followed.{IsRedoneBy}
+use Rattle.tau_replay.specs.Redone.{IsRedone}
 use Rattle.tau_report.specs.Recovery.{recover_text}
-use Rattle.tau_run.specs.RunFacts.{WroteFront}
-use Rattle.tau_follow_laws.specs.Feeding.{Piece, with_piece, read_now, HasFed}
-use Rattle.tau_follow_laws.specs.Following.{Followed, begun}
-use Rattle.tau_follow.specs.Sealing.{IsNoLog, IsRecovered}
+use Rattle.tau_follow.specs.Sealing.{IsNoLog}
 use Rattle.tau_engine.specs.declared.status.Status.{Status}
 use Rattle.tau_engine.specs.declared.status.Status.TheVariants as status
 use Rattle.tau_engine.specs.Fault.{fault_text}
 use Rattle.tau_engine.specs.Inspecting.{TellsText}
-use Rattle.tau_engine.specs.Outside.{Input, Output, Wrote, is_before_disks}
-use Rattle.tau_engine.specs.Sources.{HasPieces}
+use Rattle.tau_engine.specs.Outside.{Input, Output, Wrote, is_before_disks, is_behind_text}
+use Rattle.tau_engine.specs.Sources.{ArePieces, HasPieces, HasBadPiece}
+use Rattle.tau_report.specs.Lines.{line}
+use Rattle.tau_run.specs.RunFacts.{WroteFront}
+use Rattle.tau_follow_laws.specs.Feeding.{Piece, with_piece, read_now, HasFed}
+use Rattle.tau_follow_laws.specs.Following.{Followed, begun}
 
 -- contents of up to 16 streams are of format 1, those of more of format 2
 abbrev pub fed_format : ℕ → Format
@@ -49,8 +51,10 @@ pub record IsFollowed (n : ℕ) (pieces : List Piece) (text : List ℕ) : Type 0
   pub state : Followed
   pub told : FedTold n pieces lines fed state
   pub log : Log
+  pub reads : log_of_contents (fed_format n) fed ≡ Ok log
   pub rows : List (Key × Value)
-  pub recovered : IsRecovered (fed_format n) fed log (length (taken log)) rows
+  pub redone : IsRedone log rows
+  pub by_turns : IsRedoneBy log [] rows
   pub text_is : text ≡ lines ++ recover_text log rows
 
 -- A feed is bad: the lines of the feeds before it.
@@ -81,16 +85,45 @@ FollowTells n pieces wrote rose status.WriteFault = (text : List ℕ) × IsFollo
 FollowTells n pieces wrote rose (status.BadLog fault) = (lines : List ℕ) × IsBadFollowed n pieces fault lines × WroteFront wrote rose (lines ++ fault_text (status.BadLog fault))
 FollowTells n pieces wrote rose other = Unit {0}
 
+-- these lines and then that of the refusal were told, and it is the answer, or memory ran out and nothing was told
+abbrev pub TellsAfter : List ℕ → (List ℕ → Type 0) → Type 0 → Status → Status → Type 0
+TellsAfter lines wrote rose refusal answer = ((answer ≡ refusal) × WroteFront wrote rose (lines ++ fault_text refusal)) ⊎ ((answer ≡ status.NoMemory) × wrote [])
+
+-- a follower may end so that was fed pieces
+abbrev pub ends_feeding : Status → Bool
+ends_feeding status.Ok = true
+ends_feeding status.NoMemory = true
+ends_feeding status.WriteFault = true
+ends_feeding (status.BadLog fault) = true
+ends_feeding _ = false
+
 -- a follower may end so
 abbrev pub ends_following : Status → Bool
-ends_following status.Ok = true
-ends_following status.NoMemory = true
-ends_following status.WriteFault = true
 ends_following status.ReadFault = true
 ends_following status.TooLong = true
 ends_following (status.BadFeed at) = true
-ends_following (status.BadLog fault) = true
-ends_following _ = false
+ends_following other = ends_feeding other
+
+-- What is said of a follower that was fed the pieces of a text.
+pub record HasFedText (n : ℕ) (text : List ℕ) (wrote : List ℕ → Type 0) (rose : Type 0) (answer : Status) : Type 0 where
+  pub kind : ends_feeding answer ≡ true
+  pub told : (pieces : List Piece) → ArePieces n pieces text → FollowTells n pieces wrote rose answer
+  pub sink : answer ≡ status.WriteFault → rose
+  pub silent : answer ≡ status.NoMemory → wrote []
+
+-- a text may be found bad, or followed so
+abbrev pub ends_text : Status → Bool
+ends_text (status.BadFeed at) = true
+ends_text other = ends_feeding other
+
+-- What is said of one that was given a text, whose pieces are looked at first.
+pub record HasFollowedText (n : ℕ) (text : List ℕ) (wrote : List ℕ → Type 0) (rose : Type 0) (answer : Status) : Type 0 where
+  pub kind : ends_text answer ≡ true
+  pub bad : (at : ℕ) → answer ≡ status.BadFeed at → HasBadPiece n text at × WroteFront wrote rose (fault_text answer)
+  pub pieces : is_behind_text answer ≡ true → (pieces : List Piece) × HasPieces n text pieces
+  pub told : (pieces : List Piece) → HasPieces n text pieces → FollowTells n pieces wrote rose answer
+  pub sink : answer ≡ status.WriteFault → rose
+  pub silent : answer ≡ status.NoMemory → wrote []
 
 -- each answer has its cause, and what is written with it
 pub record EndsFollowing (o : Output) (answer : Status) : Type 0 where

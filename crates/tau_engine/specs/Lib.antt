@@ -21,3 +21,4 @@ pub mod Following
 pub mod Commands
 pub mod Reads
 pub mod Top
+pub mod Fed

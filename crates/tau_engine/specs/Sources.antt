@@ -1,5 +1,5 @@
 -- What each command asks of its source.
-use Rattle.std.specs.Prelude.{ℕ, Bool, true, false, ◌<◌, ◌≤◌, ◌≡◌, ◌≢◌, List, [], ◌∷◌, ◌++◌, length, Option, Some, None, Ok, Err, All}
+use Rattle.std.specs.Prelude.{ℕ, Bool, true, false, ◌+◌, ◌<◌, ◌≤◌, ◌≡◌, ◌≢◌, List, [], ◌∷◌, ◌++◌, length, drop, Option, Some, None, Ok, Err, All}
 use Rattle.std.specs.Int.{w32, to_be_bytes}
 use Rattle.std.specs.List.{flat_map}
 use Rattle.tau_base.specs.declared.limits.TheConstants.{MAX_WORKLOAD}
@@ -64,6 +64,15 @@ pub record IsPiece (n : ℕ) (p : Piece) : Type 0 where
   pub stream : p.stream < n
   pub some : 1 ≤ length p.bytes
 
+-- no piece of n streams stands at the front of the text
+abbrev pub NoPiece : ℕ → List ℕ → Type 0
+NoPiece n text = (p : Piece) (behind : List ℕ) → IsPiece n p → text ≡ piece_text p ++ behind → ⊥
+
+-- this piece of n streams stands there
+pub record BeginsWith (n : ℕ) (text : List ℕ) (p : Piece) : Type 0 where
+  pub piece : IsPiece n p
+  pub front : text ≡ piece_text p ++ drop (5 + length p.bytes) text
+
 -- the text is that of these pieces
 abbrev pub ArePieces : ℕ → List Piece → List ℕ → Type 0
 ArePieces n pieces text = All (IsPiece n) pieces × (text ≡ flat_map piece_text pieces)
@@ -82,7 +91,7 @@ pub record HasBadPiece (n : ℕ) (text : List ℕ) (at : ℕ) : Type 0 where
   pub whole : text ≡ front ++ rest
   pub place : length front ≡ at
   pub more : rest ≢ []
-  pub none : (p : Piece) (behind : List ℕ) → IsPiece n p → rest ≡ piece_text p ++ behind → ⊥
+  pub none : NoPiece n rest
 
 -- ---- by command
 

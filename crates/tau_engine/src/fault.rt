@@ -171,8 +171,8 @@ fn log_line(alloc: Global, fault: LogFault) -> Result<String, AllocError>
     }
 }
 
-// The line of a status, where it has one.
-fn fault_line(alloc: Global, status: Status) -> Result<String, AllocError>
+/// The line of a status, where it has one.
+pub fn fault_line(alloc: Global, status: Status) -> Result<String, AllocError>
     ensures { IfOk result (λ text. string_bytes text ≡ fault_text status) }
 {
     match status {

@@ -1,4 +1,5 @@
-//! What holds of every recovery, as functions that do nothing.
+//! What holds of every recovery and of every follower, as functions that do nothing.
+ghost use Rattle.tau_engine.specs.Fed.{EndsAsRecovery, OneFollowing, OneSpelling};
 ghost use Rattle.tau_engine.specs.Same.{OneText, RunsHaveOneText};
 
 /// Of images whose log gives one database by each of its orderly orders, recovery writes one text, however many workers
@@ -10,4 +11,19 @@ pub fn one_text()
 /// Images that a run has left are such.
 pub fn runs_have_one_text()
     ensures { RunsHaveOneText }
+{}
+
+/// However contents are cut into pieces, a follower that was fed all of them ends as recovery does over images of them.
+pub fn follower_ends_as_recovery()
+    ensures { EndsAsRecovery }
+{}
+
+/// What a follower tells of its pieces is told in one way.
+pub fn one_following()
+    ensures { OneFollowing }
+{}
+
+/// The pieces of a source, and its first bad one, are told in one way.
+pub fn one_spelling()
+    ensures { OneSpelling }
 {}

@@ -11,6 +11,7 @@ mod follow;
 mod inspect;
 mod laws;
 mod look;
+mod pieces;
 mod reading;
 mod recovery;
 mod run;
@@ -19,7 +20,9 @@ mod source;
 mod status;
 mod top;
 
+pub use laws::{
+    follower_ends_as_recovery, one_following, one_spelling, one_text, runs_have_one_text,
+};
 pub use served::DISKS;
-pub use laws::{one_text, runs_have_one_text};
 pub use status::Status;
 pub use top::taurus;
