@@ -1,48 +1,34 @@
 -- What is said of an audit, from what its source and its disks gave.
-use Rattle.std.proofs.Common.{ℕ, ◌+◌, ◌^◌, ◌<◌, ◌≤◌, ◌≡◌, inl, inr, true, false, Bool, List, [], ◌∷◌, length, drop, Option, refl, sym, ap, subst, ◌∙◌, arith}
-use Rattle.std.specs.Prelude.{Some, None, Ok, Err, Result, MatchResult, slice_get}
-use Rattle.tau_base.specs.declared.limits.TheConstants.{MAX_CALLS, MAX_STREAMS, MAX_WORKLOAD}
+use Rattle.std.proofs.Common.{ℕ, ◌+◌, ◌^◌, ◌<◌, ◌≤◌, ◌≡◌, inl, inr, true, false, List, [], ◌∷◌, length, drop, Option, refl, sym, ap, subst, arith}
+use Rattle.std.specs.Prelude.{Some, Ok, Err}
+use Rattle.tau_base.specs.declared.limits.TheConstants.{MAX_STREAMS, MAX_WORKLOAD}
 use Rattle.tau_disk.specs.declared.disk.Disk.{Ghosts}
 use Rattle.tau_disk.specs.declared.memory.MemDisk.{MemDisk}
 use Rattle.tau_disk.specs.Disk.{Rose}
-use Rattle.tau_disk.specs.Used.{EachIn, EachUsed, RoseAt, OnlyRead, AllCalls, IsClean}
+use Rattle.tau_disk.specs.Used.{OnlyRead, AllCalls, IsClean}
 use Rattle.tau_disk.proofs.Calls.{untouched}
 use Rattle.tau_model.specs.History.{Member}
 use Rattle.tau_run.specs.RunFacts.{WroteFront}
-use Rattle.tau_text.specs.declared.fault.TextFault.{TextFault}
 use Rattle.tau_text.specs.declared.load.Workload.{Workload}
-use Rattle.tau_text.specs.Kept.{IsRunnable}
-use Rattle.tau_text.specs.Text.{workload_of}
 use Rattle.tau_report.specs.declared.report.RunReport.{RunReport}
 use Rattle.tau_scan.specs.declared.fault.LogFault.{LogFault}
-use Rattle.tau_scan.specs.declared.fault.ScanRefusal.{ScanRefusal}
-use Rattle.tau_scan.specs.declared.fault.ScanRefusal.TheVariants as scan
-use Rattle.tau_scan.specs.declared.log.Log.{Log}
 use Rattle.tau_scan.specs.Outside.{calls_to_read}
-use Rattle.tau_scan.specs.Reading.{IsLog, log_of}
-use Rattle.tau_inspect.specs.Audit.{case_of}
-use Rattle.tau_inspect.specs.Cases.{IsCase}
-use Rattle.tau_inspect.specs.ReportFor.{IsReportFor}
-use Rattle.tau_inspect.specs.RunText.{IsTextOf}
 use Rattle.tau_words.specs.declared.command.Command.{Command}
 use Rattle.tau_words.specs.declared.command.Command.TheVariants.{Audit}
 use Rattle.tau_engine.specs.declared.status.Status.{Status}
 use Rattle.tau_engine.specs.declared.status.Status.TheVariants as status
-use Rattle.tau_engine.specs.Auditing.{AuditTells, OfAudit, TellsVerdict}
-use Rattle.tau_engine.specs.Cases.{GivesCase, IsRead, ReadsCase, ReadsLoad, ReadsReport}
+use Rattle.tau_engine.specs.Auditing.{AuditTells}
+use Rattle.tau_engine.specs.Cases.{GivesCase}
 use Rattle.tau_engine.specs.Commands.{OneLine, wrote}
-use Rattle.tau_engine.specs.Cut.{cut_at_report}
 use Rattle.tau_engine.specs.Fault.{fault_text, is_refusal, TellsFault}
 use Rattle.tau_engine.specs.First.{TellsOfLog}
 use Rattle.tau_engine.specs.Outside.{Input, Output, Wrote, ends_recovery, is_behind_text, is_behind_end, is_behind_reading, is_before_disks}
 use Rattle.tau_engine.specs.Reads.{HasOnlyRead}
 use Rattle.tau_engine.specs.Recovery.{EndsAsBad, images_of}
-use Rattle.tau_engine.specs.Runs.{status_at}
-use Rattle.tau_engine.specs.Source.{ReadsText}
-use Rattle.tau_engine.specs.Sources.{HasReport, HasBadWorkload, HasBadReport, IsBadReport, RefusesSource, front_or, load_text, is_of_source}
-use Rattle.tau_engine.specs.Top.{Says, Uses, finds_log}
+use Rattle.tau_engine.specs.Sources.{HasReport, RefusesSource, is_of_source}
+use Rattle.tau_engine.specs.Top.{Says}
 use Rattle.tau_engine.proofs.First.{nothing}
-use Rattle.tau_engine.proofs.OneSource.{load_of, not_refused, one_refusal, same_loads, same_reports}
+use Rattle.tau_engine.proofs.OneSource.{not_refused, one_refusal, same_loads, same_reports}
 use Rattle.tau_engine.proofs.Recoveries.{clean_of}
 use Rattle.tau_engine.proofs.Said.{in_use, kept, no_before, no_source, other}
 
@@ -125,17 +111,17 @@ module _ (s : Input) (n m : ℕ) where
 
   -- a source that has a report is not refused, unless memory ran out or it failed
   well : (a : Status) → Refused a → s.tells → (load : Workload) (report : RunReport) → HasReport n s.left load report → (s.rose → ⊥) → Member a (status.Ok ∷ status.NoMemory ∷ [])
-  well status.NoMemory h t load report has no = inr (inl refl)
-  well status.ReadFault h t load report has no = absurd (no h)
-  well status.TooLong h t load report has no = absurd (not_refused n m s.left load report status.TooLong has (h t))
-  well (status.BadText line why) h t load report has no = absurd (not_refused n m s.left load report (status.BadText line why) has (h t).0)
-  well (status.BadReport number) h t load report has no = absurd (not_refused n m s.left load report (status.BadReport number) has (h t).0)
-  well status.Ok h t load report has no = absurd h
-  well status.Usage h t load report has no = absurd h
-  well status.WriteFault h t load report has no = absurd h
-  well (status.DiskFault j) h t load report has no = absurd h
-  well (status.BadLog fault) h t load report has no = absurd h
-  well (status.BadFeed at) h t load report has no = absurd h
+  well status.NoMemory h t load report has calm = inr (inl refl)
+  well status.ReadFault h t load report has calm = absurd (calm h)
+  well status.TooLong h t load report has calm = absurd (not_refused n m s.left load report status.TooLong has (h t))
+  well (status.BadText line why) h t load report has calm = absurd (not_refused n m s.left load report (status.BadText line why) has (h t).0)
+  well (status.BadReport number) h t load report has calm = absurd (not_refused n m s.left load report (status.BadReport number) has (h t).0)
+  well status.Ok h t load report has calm = absurd h
+  well status.Usage h t load report has calm = absurd h
+  well status.WriteFault h t load report has calm = absurd h
+  well (status.DiskFault j) h t load report has calm = absurd h
+  well (status.BadLog fault) h t load report has calm = absurd h
+  well (status.BadFeed at) h t load report has calm = absurd h
 
   bad_end : (a : Status) → Refused a → is_before_disks a ≡ false → (fault : LogFault) → EndsAsBad fault a
   bad_end status.NoMemory h e fault = tt

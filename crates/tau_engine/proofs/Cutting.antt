@@ -1,5 +1,5 @@
 -- Cutting a text at a line, one line after another.
-use Rattle.std.proofs.Common.{ℕ, ◌+◌, ◌-◌, ◌≤◌, ◌<◌, ◌≡◌, ◌==◌, Bool, true, false, List, [], ◌∷◌, ◌++◌, take, drop, length, bytes_eq, Option, refl, sym, ap, subst, ◌∙◌, append_assoc, arith}
+use Rattle.std.proofs.Common.{ℕ, ◌+◌, ◌-◌, ◌≤◌, ◌<◌, ◌≡◌, ◌==◌, Bool, true, false, List, [], ◌∷◌, ◌++◌, take, length, bytes_eq, Option, refl, sym, ap, ◌∙◌, append_assoc, arith}
 use Rattle.std.specs.Prelude.{Some, None, codes, if◌then◌else◌}
 use Rattle.std.specs.List.{concat}
 use Rattle.std.proofs.lemmas.List.{append-nil, length-append}
@@ -40,13 +40,13 @@ pub record IsCutFrom (text rest : List ℕ) : Type 0 where
 
 pub cut_first : (text : List ℕ) → IsCutFrom text text
 cut_first text = (
-  let none : length text - length text ≡ 0 = omega arith in
-  record { whole = rw none refl; within = omega arith; same = rw none (sym (begun_by_none (cut_at_report text))) })
+    let none : length text - length text ≡ 0 = omega arith in
+    record { whole = rw none refl; within = omega arith; same = rw none (sym (begun_by_none (cut_at_report text))) })
 
 front_of : (text front back : List ℕ) → text ≡ front ++ back → take (length text - length back) text ≡ front
 front_of text front back is = (
-  let long : length text - length back ≡ length front = omega (arith, ap length is, length-append front back) in
-  ap (λ (k : ℕ). take k text) long ∙ ap (take (length front)) is ∙ take-append_seam front back)
+    let long : length text - length back ≡ length front = omega (arith, ap length is, length-append front back) in
+    ap (λ (k : ℕ). take k text) long ∙ ap (take (length front)) is ∙ take-append_seam front back)
 
 module _ (text rest more line : List ℕ) (cut : lines rest ≡ take (length rest - length more) rest ∷ lines more) (is_body : body (take (length rest - length more) rest) ≡ line) (shorter : length more < length rest) (from : IsCutFrom text rest) where
   parts : rest ≡ take (length rest - length more) rest ++ more

@@ -1,5 +1,5 @@
 -- What a call tells that looks at the log of the first disks, by what reading that log gave.
-use Rattle.std.proofs.Common.{ℕ, ◌+◌, ◌<◌, ◌≤◌, ◌≡◌, inl, inr, true, false, List, [], ◌∷◌, ◌++◌, map, length, take, drop, refl, sym, ap, subst, ◌∙◌, arith}
+use Rattle.std.proofs.Common.{ℕ, ◌+◌, ◌<◌, ◌≤◌, ◌≡◌, inl, inr, true, List, [], ◌++◌, length, take, drop, refl, sym, ap, subst, ◌∙◌, arith}
 use Rattle.std.specs.Prelude.{Result, None, Ok, Err}
 use Rattle.std.proofs.Math.Seq.{take-append_seam, drop-append_seam}
 use Rattle.std.proofs.lemmas.List.{length-map, length-take-le}
@@ -7,7 +7,6 @@ use Rattle.tau_block.specs.declared.content.Content.{Content}
 use Rattle.tau_disk.specs.declared.disk.Disk.{Ghosts}
 use Rattle.tau_disk.specs.Disk.{Rose}
 use Rattle.tau_disk.specs.Used.{Each, EachUsed, RoseAt, AllCalls, OnlyRead, IsFirstStopped}
-use Rattle.tau_model.specs.History.{Member}
 use Rattle.tau_run.specs.RunFacts.{WroteFront}
 use Rattle.tau_replay.specs.Redone.{IsOrderOf}
 use Rattle.tau_scan.specs.declared.fault.LogFault.{LogFault}
@@ -21,13 +20,13 @@ use Rattle.tau_scan.specs.Taken.{Kept}
 use Rattle.tau_engine.specs.declared.status.Status.{Status}
 use Rattle.tau_engine.specs.declared.status.Status.TheVariants as status
 use Rattle.tau_engine.specs.Commands.{OfRecover, OneLine, wrote}
-use Rattle.tau_engine.specs.Fault.{fault_text, is_refusal, TellsFault}
-use Rattle.tau_engine.specs.First.{IsFirstLog, IsFirstFailed, IsFirstFault, ReadsFirst, TellsOfLog}
+use Rattle.tau_engine.specs.Fault.{is_refusal, TellsFault}
+use Rattle.tau_engine.specs.First.{ReadsFirst, TellsOfLog}
 use Rattle.tau_engine.specs.Inspecting.{InspectTells, OfInspect, TellsText}
 use Rattle.tau_inspect.specs.Inspection.{inspect_text}
-use Rattle.tau_engine.specs.Outside.{Output, Wrote, ends_recovery, ends_rehearsal, is_behind_reading}
+use Rattle.tau_engine.specs.Outside.{Output, Wrote, ends_recovery, ends_rehearsal}
 use Rattle.tau_engine.specs.Reads.{HasOnlyRead}
-use Rattle.tau_engine.specs.Recovery.{EndsAsBad, EndsTangled, IsBadLog, IsTangle, LogTells, RecoverTells, images_of}
+use Rattle.tau_engine.specs.Recovery.{EndsTangled, IsTangle, LogTells, RecoverTells, images_of}
 use Rattle.tau_engine.specs.Runs.{status_at}
 use Rattle.tau_engine.proofs.Drilling.{no_refusal, rehearsal_ends, rehearses_well}
 use Rattle.tau_engine.proofs.Recoveries.{each_lent, read_first, rose_among, stopped_among}

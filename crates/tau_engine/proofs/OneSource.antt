@@ -1,15 +1,13 @@
 -- The source of an audit holds one workload with one report, or is refused for one cause.
-use Rattle.std.proofs.Common.{ℕ, zero, suc, ◌+◌, ◌^◌, ◌<◌, ◌≤◌, ◌≡◌, ◌==◌, ◌⊎◌, inl, inr, Bool, true, false, not, List, [], ◌∷◌, ◌++◌, length, Option, refl, sym, ap, subst, ◌∙◌, append_assoc, arith}
+use Rattle.std.proofs.Common.{ℕ, ◌+◌, ◌^◌, ◌<◌, ◌≤◌, ◌≡◌, ◌==◌, ◌⊎◌, inl, inr, Bool, true, false, not, List, [], ◌∷◌, ◌++◌, length, Option, refl, sym, ap, subst, ◌∙◌, append_assoc, arith}
 use Rattle.std.specs.Prelude.{Some, None, Ok, Err, Result, count_by}
 use Rattle.std.specs.List.{list_all}
 use Rattle.std.proofs.lemmas.Bool.Decides.{nat_tests}
 use Rattle.std.proofs.lemmas.List.{append-nil, length-append}
 use Rattle.tau_base.proofs.Logic.{below_or_not}
 use Rattle.tau_base.specs.declared.limits.TheConstants.{MAX_STREAMS, MAX_WORKLOAD}
-use Rattle.tau_text.specs.declared.fault.TextCause.{TextCause}
 use Rattle.tau_text.specs.declared.fault.TextFault.{TextFault}
 use Rattle.tau_text.specs.declared.load.Workload.{Workload}
-use Rattle.tau_text.specs.Kept.{IsRunnable}
 use Rattle.tau_text.specs.Text.{workload_of}
 use Rattle.tau_report.specs.declared.report.RunReport.{RunReport}
 use Rattle.tau_inspect.specs.RunText.{AreLines, IsFirstBad, IsTextOf, MayBegin}
@@ -116,8 +114,8 @@ module _ (tables : List (List ℕ)) (n calls : ℕ) (bytes : List ℕ) where
     | inr ge ↦ elim (below_or_not (length b.front) (length a.front)) [
       | inl lt ↦ absurd (not_before j i b a lt)
       | inr le ↦ (
-        let same : b.front ≡ a.front = same_front a.front b.front a.back b.back (begins a.front b.front a.back b.back (sym a.there ∙ b.there) le) ge in
-        a.counted ∙ ap (λ (l : List ℕ). count_by (λ b. b == 10) l + 1) (sym same) ∙ sym b.counted)
+          let same : b.front ≡ a.front = same_front a.front b.front a.back b.back (begins a.front b.front a.back b.back (sym a.there ∙ b.there) le) ge in
+          a.counted ∙ ap (λ (l : List ℕ). count_by (λ b. b == 10) l + 1) (sym same) ∙ sym b.counted)
     ]
   ]
 

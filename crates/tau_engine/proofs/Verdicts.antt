@@ -44,4 +44,3 @@ is_case n m load report log some read sound width = record {
   log = sound;
   report = subst (λ (k : ℕ). IsReportFor (length load.declarations.tables) k (length load.calls) report) (sym width) read.1;
 }
-

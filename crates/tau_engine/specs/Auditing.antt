@@ -1,5 +1,5 @@
 -- What an audit tells.
-use Rattle.std.specs.Prelude.{ℕ, false, ◌<◌, ◌≤◌, ◌≡◌, List, [], ◌∷◌, ◌++◌, codes, None, Ok, Err}
+use Rattle.std.specs.Prelude.{ℕ, false, ◌<◌, ◌≡◌, List, [], ◌∷◌, ◌++◌, codes, None, Ok, Err}
 use Rattle.std.specs.Fmt.{decimal}
 use Rattle.tau_disk.specs.declared.disk.Disk.{Ghosts}
 use Rattle.tau_disk.specs.Disk.{Rose}

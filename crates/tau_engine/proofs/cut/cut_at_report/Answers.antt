@@ -1,6 +1,5 @@
-use Rattle.std.proofs.Common.{◌≡◌, true, false, bytes_eq, length, sym, ap, ◌∙◌, arith, rules}
+use Rattle.std.proofs.Common.{◌≡◌, true, false, bytes_eq, arith, rules}
 use Rattle.std.specs.Prelude.{codes}
-use Rattle.std.proofs.lemmas.Grind.{common_steps}
 use Rattle.tau_engine.proofs.Cutting.{cut_next, cut_here, cut_none}
 use Rattle.tau_engine.proofs.cut.cut_at_report.Goals as goal
 

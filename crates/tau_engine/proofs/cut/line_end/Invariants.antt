@@ -1,4 +1,3 @@
-use Rattle.std.proofs.Common.{ℕ}
 use Rattle.tau_text.specs.Places.{HasNone}
 use Rattle.tau_engine.proofs.cut.line_end.Given as goal
 

@@ -1,4 +1,4 @@
-use Rattle.std.proofs.Common.{◌≡◌, subst}
+use Rattle.std.proofs.Common.{subst}
 use Rattle.tau_inspect.specs.Inspection.{inspect_text}
 use Rattle.tau_engine.specs.Inspecting.{InspectTells, TellsText}
 use Rattle.tau_engine.specs.Outside.{Output, Wrote}

@@ -1,5 +1,4 @@
-use Rattle.std.proofs.Common.{◌≡◌, refl, subst}
-use Rattle.tau_engine.specs.declared.status.Status.TheVariants as status
+use Rattle.std.proofs.Common.{subst}
 use Rattle.tau_engine.specs.Outside.{Output, Wrote}
 use Rattle.tau_engine.specs.Recovery.{LogTells}
 use Rattle.tau_engine.proofs.First.{refused_read, log_read, refused_redone, log_redone}
