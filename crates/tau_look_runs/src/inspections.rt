@@ -9,7 +9,9 @@ use std::test::*;
 use std::thread::Threads;
 use tau_disk::MemDisk;
 use tau_engine::Status;
-use tau_engine_support::{disks_of, ends_with, had_calls, holds, new_disks, tells, tells_anew, told};
+use tau_engine_support::{
+    disks_of, ends_with, had_calls, holds, new_disks, tells, tells_anew, told,
+};
 
 // An inspection of two streams with these records tells what is wanted.
 fn two_tell<R: Threads + Wait + Sync + Abort>(
@@ -59,8 +61,7 @@ fn a_log_of_format_2(rt: HostRuntime) -> Result<(), Fail> {
     let alloc = rt.alloc();
     let first = image_in(alloc, b'2', 2, 0, WIDE)?;
     let mut disks = disks_of(alloc, first, image_in(alloc, b'2', 2, 1, b"")?)?;
-    let wanted =
-        "elv 55,13\ncatalogue 0 0 13\ndata 0 13 55 1 0,0 taken\ncatalogue 1 0 13\nend 0\n";
+    let wanted = "elv 55,13\ncatalogue 0 0 13\ndata 0 13 55 1 0,0 taken\ncatalogue 1 0 13\nend 0\n";
     tells(&rt, alloc, "inspect 2", "", 0, wanted, &mut disks)
 }
 
@@ -91,7 +92,14 @@ fn an_anchor(rt: HostRuntime) -> Result<(), Fail> {
 fn an_epoch(rt: HostRuntime) -> Result<(), Fail> {
     let alloc = rt.alloc();
     let mut disks = two_streams(alloc, b"", SECOND)?;
-    told(&rt, alloc, "run 2 1", b"table a\nput a 7 1\n", 0, &mut disks)?;
+    told(
+        &rt,
+        alloc,
+        "run 2 1",
+        b"table a\nput a 7 1\n",
+        0,
+        &mut disks,
+    )?;
     let wanted =
         "elv 94,86\ncatalogue 0 0 13\nepoch 0 13 38 1 13,61\ndata 0 38 94 1 13,61 taken\ncatalogue 1 0 13\ndata 1 13 61 2 53,0 out 0\nepoch 1 61 86 1 13,61\nend 0\n";
     tells(&rt, alloc, "inspect 2", "", 0, wanted, &mut disks)

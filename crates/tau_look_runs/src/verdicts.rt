@@ -1,7 +1,5 @@
 //! For each check of an audit, a report and streams that fail it and none before it.
-use crate::images::{
-    EPOCH, FIRST, FIRST_OTHER, SECOND, SECOND_ALONE, SECOND_APART, two_streams,
-};
+use crate::images::{EPOCH, FIRST, FIRST_OTHER, SECOND, SECOND_ALONE, SECOND_APART, two_streams};
 use std::alloc::Global;
 use std::process::Abort;
 use std::sync::Wait;
