@@ -1,5 +1,5 @@
 -- What `restore` takes of what the two slots hold, and what `checkpoint` writes.
-use Rattle.std.specs.Prelude.{ℕ, ◌+◌, ◌≡◌, ◌==◌, ◌&&◌, max, nat_le, nat_lt, if◌then◌else◌, Bool, List, [], ◌∷◌, length, Option, Some, None, Result, Ok, Err}
+use Rattle.std.specs.Prelude.{ℕ, ◌+◌, ◌==◌, ◌&&◌, max, nat_le, nat_lt, if◌then◌else◌, Bool, List, length, Option, Some, None, Result, Ok, Err}
 use Rattle.tau_base.specs.declared.limits.TheConstants.{MAX_STREAMS}
 use Rattle.tau_base.specs.declared.value.Key.{Key}
 use Rattle.tau_base.specs.declared.value.Value.{Value}
@@ -10,9 +10,8 @@ use Rattle.tau_scan.specs.declared.fault.LogCause.TheVariants.{Last}
 use Rattle.tau_scan.specs.declared.fault.LogFault.{LogFault}
 use Rattle.tau_scan.specs.declared.log.Log.{Log}
 use Rattle.tau_scan.specs.Epochs.{marks_of}
-use Rattle.tau_scan.specs.Sound.{IsOrderOver}
 use Rattle.tau_scan.specs.Taken.{Kept, taken}
-use Rattle.tau_replay.specs.Redone.{IsRedone, IsRedoneOn, IsTangledOver, taken_after}
+use Rattle.tau_replay.specs.Redone.{IsRedone, IsRedoneOn, taken_after}
 use Rattle.tau_ckpt.specs.Slot.{Holds, HoldsNone}
 use Rattle.tau_ckpt.specs.declared.checkpoint.Checkpoint.{Checkpoint}
 use Rattle.tau_ckpt.specs.declared.checkpoint.TheConstants.{MAX_NUMBER}

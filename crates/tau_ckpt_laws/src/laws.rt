@@ -1,0 +1,22 @@
+//! What holds of every checkpoint, as functions that do nothing.
+ghost use Rattle.tau_ckpt_laws.specs.Laws.{LivesKeepTrue, MadeIsTrue, NotTangled, RestoredIsRecovered, RestoredLater, TrueFits};
+
+/// What `restore` redoes of sound contents has an orderly order, and gives the rows that recovery gives, if the checkpoint
+/// that it takes is true for them, or it takes none.
+pub fn restored_is_recovered()
+    ensures rows { RestoredIsRecovered }
+    ensures order { NotTangled }
+{}
+
+/// A checkpoint of sound contents is true for them when it is made. Each true checkpoint fits.
+pub fn made_is_true()
+    ensures made { MadeIsTrue }
+    ensures fits { TrueFits }
+{}
+
+/// A true checkpoint is true for whatever later runs and stops leave, and what is redone on it then is what all of them have
+/// made.
+pub fn stays_true()
+    ensures kept { LivesKeepTrue }
+    ensures later { RestoredLater }
+{}
