@@ -20,24 +20,23 @@ use Rattle.tau_model.specs.History as history_of
 use Rattle.tau_model.specs.Tables.{IsTablesOf}
 use Rattle.tau_text.specs.declared.load.Workload.{Workload}
 use Rattle.tau_scan.specs.declared.log.Log.{Log}
-use Rattle.tau_report.specs.declared.report.Fate.{Fate}
-use Rattle.tau_report.specs.declared.report.Fate.TheVariants.{Acked, Unsure, Unrun}
+use Rattle.tau_report.specs.declared.report.Fate.TheVariants.{Unrun}
 use Rattle.tau_run.specs.Run.{Committed, Run, IsHistory, Distinct, below, fate, fates, has_ack, last_db, reply_in, report_of}
 use Rattle.tau_run.specs.Run as run_of
 use Rattle.tau_inspect.specs.declared.verdict.Check.TheVariants as check
-use Rattle.tau_inspect.specs.Audit.{Case, acts, fate_of, is_acked, numbers, reply_of, times_due, FitsFate, FitsReply, FitRows, IsTold, Passes}
-use Rattle.tau_inspect.specs.Executed.{call_of, history, no_call, numbered}
+use Rattle.tau_inspect.specs.Audit.{Case, acts, fate_of, is_acked, numbers, reply_of, times_due, IsTold, Passes}
+use Rattle.tau_inspect.specs.Executed.{call_of, history, no_call}
 use Rattle.tau_inspect_laws.specs.Laws.{case_of_run, ToldAsExecuted}
 
 -- ---- the calls of a run, as an audit executes them
 
-abbrev plain : Committed → Numbered
+abbrev pub plain : Committed → Numbered
 plain x = record { number = x.number; call = x.call }
 
-abbrev plain_act : Act Committed → Act Numbered
+abbrev pub plain_act : Act Committed → Act Numbered
 plain_act a = record { call = plain a.call; effect = a.effect }
 
-abbrev number_in : Act Committed → ℕ
+abbrev pub number_in : Act Committed → ℕ
 number_in a = a.call.number
 
 history_is : (calls : List Call) (xs : List Committed) → ((x : Committed) → Member x xs → slice_get calls (x.number - 1) ≡ Some x.call) → history calls (map (λ x. x.number) xs) ≡ map plain xs
@@ -60,19 +59,19 @@ trace_numbers procs (x ∷ xs) db = ap (λ (l : List ℕ). x.number ∷ l) (trac
 
 -- ---- members
 
-of_split : {A : Type 0} (xs front back : List A) (x : A) → xs ≡ front ++ x ∷ back → Member x xs
+pub of_split : {A : Type 0} (xs front back : List A) (x : A) → xs ≡ front ++ x ∷ back → Member x xs
 of_split {A} xs front back x e = subst (Member x) (sym e) (within front)
   where
     within : (f : List A) → Member x (f ++ x ∷ back)
     within [] = inl refl
     within (y ∷ f) = inr (within f)
 
-of_map : {A B : Type 0} (f : A → B) (xs : List A) (y : B) → Member y (map f xs) → (x : A) × Member x xs × (f x ≡ y)
+pub of_map : {A B : Type 0} (f : A → B) (xs : List A) (y : B) → Member y (map f xs) → (x : A) × Member x xs × (f x ≡ y)
 of_map f [] y m = absurd m
 of_map f (x ∷ xs) y (inl e) = (x, inl refl, e)
 of_map f (x ∷ xs) y (inr m) = (let w = of_map f xs y m in (w.0, inr w.1, w.2))
 
-in_map : {A B : Type 0} (f : A → B) (xs : List A) (x : A) → Member x xs → Member (f x) (map f xs)
+pub in_map : {A B : Type 0} (f : A → B) (xs : List A) (x : A) → Member x xs → Member (f x) (map f xs)
 in_map f [] x m = absurd m
 in_map f (y ∷ xs) x (inl e) = inl (ap f e)
 in_map f (y ∷ xs) x (inr m) = inr (in_map f xs x m)
@@ -111,7 +110,7 @@ below_mapped f (suc n) i d lt = elim (below_or_not i n) [
 count_step : (k y : ℕ) (ys : List ℕ) → count_by (λ n. n == k) (y ∷ ys) ≡ cond (y == k) 1 0 + count_by (λ n. n == k) ys
 count_step k y ys = sum_by-cons (λ n. cond (n == k) 1 0) y ys
 
-eq_is : (a b : ℕ) → (a == b) ≡ true → a ≡ b
+pub eq_is : (a b : ℕ) → (a == b) ≡ true → a ≡ b
 eq_is a b e = grind (arith, nat_tests)
 
 count_none : (k : ℕ) (ys : List ℕ) → (Member k ys → ⊥) → count_by (λ n. n == k) ys ≡ 0
@@ -181,24 +180,24 @@ acked_none None false h = refl
 -- ---- the checks
 
 module _ (n m : ℕ) (load : Workload) (run : Run) (rows : List (Key × Value)) (log : Log) (h : IsHistory n m load run) (fresh : run.start.base ≡ empty_db) where
-  abbrev c : Case
+  abbrev pub c : Case
   c = case_of_run m load run rows log
 
-  abbrev did : List (Act Committed)
+  abbrev pub did : List (Act Committed)
   did = run_of.acts load.declarations.procs run
 
   called : history load.calls (map (λ (x : Committed). x.number) run.calls) ≡ map plain run.calls
   called = history_is load.calls run.calls (λ x t. (h.of_workload x t).1)
 
-  acts_are : acts c ≡ map plain_act did
+  pub acts_are : acts c ≡ map plain_act did
   acts_are =
       ap (λ (l : List Numbered). trace (history_of.means load.declarations.procs) l empty_db) called ∙ trace_plain load.declarations.procs run.calls empty_db
       ∙ ap (λ (db : Db). map plain_act (trace (run_of.means load.declarations.procs) run.calls db)) (sym fresh)
 
-  numbers_are : map number_in did ≡ map (λ (x : Committed). x.number) run.calls
+  pub numbers_are : map number_in did ≡ map (λ (x : Committed). x.number) run.calls
   numbers_are = trace_numbers load.declarations.procs run.calls run.start.base
 
-  apart : Distinct (map number_in did)
+  pub apart : Distinct (map number_in did)
   apart = subst Distinct (sym numbers_are) h.once
 
   fate_is : (k : ℕ) → 1 ≤ k → k ≤ length load.calls → fate_of c k ≡ fate (reply_in k did) (has_ack run k)
@@ -217,10 +216,10 @@ module _ (n m : ℕ) (load : Workload) (run : Run) (rows : List (Key × Value)) 
   told_one k low high = record {
     order = ap (count_by (λ (j : ℕ). j == k)) (sym numbers_are) ∙ due_counted k did (has_ack run k) apart ∙ ap times_due (sym (fate_is k low high));
     ack = acked_none (reply_in k did) (has_ack run k) (λ e.
-      let a = ack_there k run.acks e in
-      let w = h.acked a.0 a.1 in
-      let r = replied w.0 w.1 in
-      (r.0, ap (λ (j : ℕ). reply_in j did) (sym (w.2 ∙ a.2)) ∙ r.1)) ∙ ap is_acked (sym (fate_is k low high));
+        let a = ack_there k run.acks e in
+        let w = h.acked a.0 a.1 in
+        let r = replied w.0 w.1 in
+        (r.0, ap (λ (j : ℕ). reply_in j did) (sym (w.2 ∙ a.2)) ∙ r.1)) ∙ ap is_acked (sym (fate_is k low high));
   }
 
   fates_pass : Passes c check.Fate

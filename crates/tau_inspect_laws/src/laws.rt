@@ -1,7 +1,19 @@
 //! What an audit finds of a run, as functions that do nothing.
-ghost use Rattle.tau_inspect_laws.specs.Laws.{ToldAsExecuted};
+ghost use Rattle.tau_inspect_laws.specs.Laws.{ToldAsExecuted, RecordsFit, TakenFits};
 
 /// The report of a run that began on no rows passes the checks of fates, replies and rows, beside whatever log.
 pub fn told_as_executed()
     ensures { ToldAsExecuted }
+{}
+
+/// Beside the report of a run that began on streams without a byte, each record of a log of its images is the first one of
+/// a call that writes, in its stream, with what the call did and the vector that was acknowledged.
+pub fn records_fit()
+    ensures { RecordsFit }
+{}
+
+/// Of such a log each acknowledged call that writes is taken, and what is acknowledged or taken depends on no updating call
+/// that is not.
+pub fn taken_fits()
+    ensures { TakenFits }
 {}
