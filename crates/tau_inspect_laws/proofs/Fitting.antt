@@ -257,6 +257,9 @@ module _ (n m : ℕ) (mode : LogMode) (load : Workload) (run : Run) (images : Li
   pub one_call : (a b : Committed) → Member a run.calls → Member b run.calls → a.number ≡ b.number → a ≡ b
   one_call a b p q e = one_of (λ (c : Committed). c.number) run.calls a b o.history.once p q e
 
+  pub calls_of_it : run.calls ≡ map (λ (x : Act Committed). x.call) (acts_in mode load run)
+  calls_of_it = sym (calls_trace (run_of.means load.declarations.procs) run.calls run.start.base)
+
   pub acts_of_it : acts its ≡ map plain_act (acts_in mode load run)
   acts_of_it = acts_are n m load run rows log o.history fresh_base
 

@@ -1,3 +1,5 @@
 pub mod Told
 pub mod Fitting
 pub mod Surviving
+pub mod Listing
+pub mod Ordering

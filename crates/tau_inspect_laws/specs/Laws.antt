@@ -1,5 +1,5 @@
 -- What an audit finds of a run's own report.
-use Rattle.std.specs.Prelude.{ℕ, ◌≡◌, true, List, length, None, Ok}
+use Rattle.std.specs.Prelude.{ℕ, ◌≤◌, ◌≡◌, ◌⊎◌, true, List, length, None, Ok, slice_index}
 use Rattle.tau_base.specs.declared.value.Key.{Key}
 use Rattle.tau_base.specs.declared.value.Value.{Value}
 use Rattle.tau_base.specs.declared.value.LogMode.{LogMode}
@@ -13,7 +13,7 @@ use Rattle.tau_run.specs.Start.{fresh_start}
 use Rattle.tau_run.specs.Run.{Committed, Run, IsHistory, acts, has_ack, report_of, last_db}
 use Rattle.tau_run.specs.RecoveredFacts.{takes, IsRecovered}
 use Rattle.tau_inspect.specs.declared.verdict.Check.TheVariants as check
-use Rattle.tau_inspect.specs.Audit.{Case, case_of, Passes}
+use Rattle.tau_inspect.specs.Audit.{Case, case_of, IsWhole, Passes}
 
 -- what a run of m workers told, with these rows, beside a log
 abbrev pub case_of_run : ℕ → Workload → Run → List (Key × Value) → Log → Case
@@ -49,3 +49,14 @@ RecordsFit = (n m : ℕ) (mode : LogMode) (load : Workload) (run : Run) (images 
 abbrev pub TakenFits : Type 0
 TakenFits = (n m : ℕ) (mode : LogMode) (load : Workload) (run : Run) (images : List (List ℕ)) (log : Log) (rows : List (Key × Value)) → IsLogOfRun n m mode load run images log →
     Passes (case_of_run m load run rows log) check.Ack × Passes (case_of_run m load run rows log) check.Closed
+
+-- What a call of the run waits for is within these lengths, or ends where the record of a call of the run does.
+abbrev pub WaitsWithin : List ℕ → Run → Type 0
+WaitsWithin lengths run = (c : Committed) → Member c run.calls → (j : ℕ) →
+    (slice_index c.place.dep j ≤ slice_index lengths j) ⊎ ((d : Committed) × Member d run.calls × (d.logs ≡ true) × (d.place.stream ≡ j) × (d.place.past ≡ slice_index c.place.dep j))
+
+-- If such a log is as long as what its calls wait for, and each call of the order has its record or its acknowledgement, the order is the
+-- reported history by the places in the log.
+abbrev pub OrderFits : Type 0
+OrderFits = (n m : ℕ) (mode : LogMode) (load : Workload) (run : Run) (images : List (List ℕ)) (log : Log) (rows : List (Key × Value)) → IsLogOfRun n m mode load run images log → WaitsWithin log.elv run →
+    IsWhole (case_of_run m load run rows log) → Passes (case_of_run m load run rows log) check.Order

@@ -1,5 +1,5 @@
 //! What an audit finds of a run, as functions that do nothing.
-ghost use Rattle.tau_inspect_laws.specs.Laws.{ToldAsExecuted, RecordsFit, TakenFits};
+ghost use Rattle.tau_inspect_laws.specs.Laws.{ToldAsExecuted, RecordsFit, TakenFits, OrderFits};
 
 /// The report of a run that began on no rows passes the checks of fates, replies and rows, beside whatever log.
 pub fn told_as_executed()
@@ -16,4 +16,10 @@ pub fn records_fit()
 /// that is not.
 pub fn taken_fits()
     ensures { TakenFits }
+{}
+
+/// If such a log is as long as what its calls wait for, and each call of the order has its record or its acknowledgement,
+/// the order is the reported history by the places in the log.
+pub fn order_fits()
+    ensures { OrderFits }
 {}

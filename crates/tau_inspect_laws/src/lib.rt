@@ -3,4 +3,4 @@
 
 mod laws;
 
-pub use laws::{records_fit, taken_fits, told_as_executed};
+pub use laws::{order_fits, records_fit, taken_fits, told_as_executed};
