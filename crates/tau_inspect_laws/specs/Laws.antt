@@ -1,19 +1,27 @@
 -- What an audit finds of a run's own report.
-use Rattle.std.specs.Prelude.{ℕ, ◌≤◌, ◌≡◌, ◌⊎◌, true, List, length, None, Ok, slice_index}
+use Rattle.std.specs.Prelude.{ℕ, ◌+◌, ◌≤◌, ◌≡◌, ◌≢◌, ◌⊎◌, true, List, [], length, None, Some, Ok, slice_get, slice_index}
 use Rattle.tau_base.specs.declared.value.Key.{Key}
 use Rattle.tau_base.specs.declared.value.Value.{Value}
 use Rattle.tau_base.specs.declared.value.LogMode.{LogMode}
 use Rattle.tau_base.specs.Database.{empty_db}
 use Rattle.tau_model.specs.History.{Act, Member, Depends, updates}
 use Rattle.tau_model.specs.Tables.{IsTablesOf}
+use Rattle.tau_machine.specs.Hands.{Txn}
+use Rattle.tau_machine.specs.State.{Core}
 use Rattle.tau_text.specs.declared.load.Workload.{Workload}
 use Rattle.tau_scan.specs.declared.log.Log.{Log}
+use Rattle.tau_scan.specs.Epochs.{marks_of}
 use Rattle.tau_scan.specs.Reading.{log_of}
-use Rattle.tau_run.specs.Start.{fresh_start}
+use Rattle.tau_core.specs.declared.state.Load.{Load}
+use Rattle.tau_run.specs.CoreRun.{IsCourse, IsRunOf}
+use Rattle.tau_run.specs.Start.{fresh_start, opened_at}
+use Rattle.tau_run.specs.StopsLeave.{HasFront}
 use Rattle.tau_run.specs.Run.{Committed, Run, IsHistory, acts, has_ack, report_of, last_db}
 use Rattle.tau_run.specs.RecoveredFacts.{takes, IsRecovered}
 use Rattle.tau_inspect.specs.declared.verdict.Check.TheVariants as check
-use Rattle.tau_inspect.specs.Audit.{Case, case_of, IsWhole, Passes}
+use Rattle.tau_inspect.specs.declared.verdict.Verdict.{Verdict}
+use Rattle.tau_inspect.specs.declared.verdict.Verdict.TheVariants as verdict
+use Rattle.tau_inspect.specs.Audit.{Case, case_of, IsVerdict, IsWhole, Passes}
 
 -- what a run of m workers told, with these rows, beside a log
 abbrev pub case_of_run : ℕ → Workload → Run → List (Key × Value) → Log → Case
@@ -60,3 +68,29 @@ WaitsWithin lengths run = (c : Committed) → Member c run.calls → (j : ℕ) �
 abbrev pub OrderFits : Type 0
 OrderFits = (n m : ℕ) (mode : LogMode) (load : Workload) (run : Run) (images : List (List ℕ)) (log : Log) (rows : List (Key × Value)) → IsLogOfRun n m mode load run images log → WaitsWithin log.elv run →
     IsWhole (case_of_run m load run rows log) → Passes (case_of_run m load run rows log) check.Order
+
+-- Beside such a log every verdict on the run's report is yes or cut; but for one that tells of an epoch record, or of the order if the log
+-- is shorter than what the calls wait for.
+abbrev pub VerdictsOfRun : Type 0
+VerdictsOfRun = (n m : ℕ) (mode : LogMode) (load : Workload) (run : Run) (images : List (List ℕ)) (log : Log) (rows : List (Key × Value)) → IsLogOfRun n m mode load run images log → IsTablesOf (last_db load run) rows →
+    (v : Verdict) → IsVerdict (case_of_run m load run rows log) v →
+    (v ≡ verdict.Yes) ⊎ ((v ≡ verdict.Cut) ⊎ (((k : ℕ) × (v ≡ verdict.No check.Epoch k) × (marks_of log ≢ [])) ⊎ ((k : ℕ) × (v ≡ verdict.No check.Order k) × (WaitsWithin log.elv run → ⊥))))
+
+-- Each image has what its stream held first and the first of what was gathered, and is not shorter than what is persisted.
+abbrev pub Reaches : ℕ → Workload → Run → Load → Core → List (List ℕ) → Type 0
+Reaches n load run l s images = (j : ℕ) (image : List ℕ) → slice_get images j ≡ Some image →
+    (bytes : List ℕ) × HasFront n j (opened_at load run.start j) l s bytes image × (slice_index s.plv j ≤ length (opened_at load run.start j) + length bytes)
+
+-- A log of images that reach what is persisted, of a run that began on nothing, is one of the run, has no epoch, and is as long as what the
+-- run's calls wait for.
+abbrev pub ReachImages : Type 0
+ReachImages = (n m : ℕ) (mode : LogMode) (load : Workload) (l : Load) (K : List (Act Txn)) (s : Core) → (run : Run) → IsCourse n m mode load run.start l K s → IsRunOf n l K s load run → run.start ≡ fresh_start n →
+    (images : List (List ℕ)) → length images ≡ n → Reaches n load run l s images → (log : Log) → log_of None images ≡ Ok log →
+    IsLogOfRun n m mode load run images log × (marks_of log ≡ []) × WaitsWithin log.elv run
+
+-- The report of a run that began on nothing, beside a log of images that reach what it persisted, is found whole or cut: every verdict on it
+-- is yes or cut.
+abbrev pub OwnReportFits : Type 0
+OwnReportFits = (n m : ℕ) (mode : LogMode) (load : Workload) (l : Load) (K : List (Act Txn)) (s : Core) → (run : Run) → IsCourse n m mode load run.start l K s → IsRunOf n l K s load run → run.start ≡ fresh_start n →
+    (images : List (List ℕ)) → length images ≡ n → Reaches n load run l s images → (log : Log) → log_of None images ≡ Ok log → (rows : List (Key × Value)) → IsTablesOf (last_db load run) rows →
+    (v : Verdict) → IsVerdict (case_of_run m load run rows log) v → (v ≡ verdict.Yes) ⊎ (v ≡ verdict.Cut)

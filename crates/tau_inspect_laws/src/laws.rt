@@ -1,5 +1,5 @@
 //! What an audit finds of a run, as functions that do nothing.
-ghost use Rattle.tau_inspect_laws.specs.Laws.{ToldAsExecuted, RecordsFit, TakenFits, OrderFits};
+ghost use Rattle.tau_inspect_laws.specs.Laws.{ToldAsExecuted, RecordsFit, TakenFits, OrderFits, VerdictsOfRun, ReachImages, OwnReportFits};
 
 /// The report of a run that began on no rows passes the checks of fates, replies and rows, beside whatever log.
 pub fn told_as_executed()
@@ -22,4 +22,22 @@ pub fn taken_fits()
 /// the order is the reported history by the places in the log.
 pub fn order_fits()
     ensures { OrderFits }
+{}
+
+/// Beside such a log every verdict on the run's report is yes or cut; but for one that tells of an epoch record, or of the
+/// order if the log is shorter than what the calls wait for.
+pub fn verdicts_of_run()
+    ensures { VerdictsOfRun }
+{}
+
+/// A log of images that reach what is persisted, of a run that began on nothing, is one of the run, has no epoch, and is as
+/// long as what the run's calls wait for.
+pub fn reach_images()
+    ensures { ReachImages }
+{}
+
+/// The report of a run that began on nothing, beside a log of images that reach what it persisted, is found whole or cut:
+/// every verdict on it is yes or cut.
+pub fn own_report_fits()
+    ensures { OwnReportFits }
 {}

@@ -3,4 +3,7 @@
 
 mod laws;
 
-pub use laws::{order_fits, records_fit, taken_fits, told_as_executed};
+pub use laws::{
+    order_fits, own_report_fits, reach_images, records_fit, taken_fits, told_as_executed,
+    verdicts_of_run,
+};
