@@ -2,6 +2,10 @@
 #![tactic(auto)]
 
 #[cfg(test)]
+mod choices;
+#[cfg(test)]
+mod logs;
+#[cfg(test)]
 mod slots;
 #[cfg(test)]
 mod stops;
