@@ -1,3 +1,4 @@
 pub mod Goes
 pub mod Restored
+pub mod Held
 pub mod Later

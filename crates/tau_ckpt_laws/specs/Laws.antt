@@ -11,13 +11,24 @@ use Rattle.tau_scan.specs.Taken.{Kept}
 use Rattle.tau_replay.specs.Redone.{IsRedone, IsRedoneOn, taken_after}
 use Rattle.tau_ckpt.specs.declared.checkpoint.Checkpoint.{Checkpoint}
 use Rattle.tau_ckpt.specs.declared.slots.Slots.{Slots}
-use Rattle.tau_ckpt.specs.Chosen.{IsRestored, checkpoint_at, chosen, fits, left_to_redo}
+use Rattle.tau_ckpt.specs.Slot.{Holds}
+use Rattle.tau_ckpt.specs.Writing.{HoldsOldOrNew}
+use Rattle.tau_ckpt.specs.Chosen.{AreHeld, IsRestored, checkpoint_at, chosen, fits, left_to_redo}
 use Rattle.tau_run.specs.Lives.{Life, AreLives, exec_lives, last_contents, last_log}
 use Rattle.tau_ckpt_laws.specs.True.{IsTrue}
 
 -- the checkpoint that `restore` takes, if it takes one, is true for the contents
 abbrev pub IsTrueIfTaken : Format → List (List ℕ) → Log → Slots → Type 0
 IsTrueIfTaken f contents log slots = (c : Checkpoint) → chosen log slots ≡ Some c → IsTrue f contents c
+
+-- each checkpoint that this image of a slot holds is true for the contents
+abbrev pub HoldsTrue : Format → List (List ℕ) → ℕ → List ℕ → Type 0
+HoldsTrue f contents slot image = (c : Checkpoint) → Holds slot image c → IsTrue f contents c
+
+-- It is, if what both slots hold is true.
+abbrev pub TakenIsTrue : Type 0
+TakenIsTrue = (f : Format) (contents : List (List ℕ)) (log : Log) (first second : List ℕ) (slots : Slots) → AreHeld first second slots → HoldsTrue f contents 0 first → HoldsTrue f contents 1 second →
+    IsTrueIfTaken f contents log slots
 
 -- The rows of `restore` on sound contents are the tables of their database, and those that recovery gives, if the checkpoint
 -- that it takes is true.
@@ -38,6 +49,12 @@ MadeIsTrue = (f : Format) (contents : List (List ℕ)) (log : Log) (base : Db) �
 -- a checkpoint that is true for contents fits their log
 abbrev pub TrueFits : Type 0
 TrueFits = (f : Format) (contents : List (List ℕ)) (log : Log) (base : Db) → IsSound f contents log base → (c : Checkpoint) → IsTrue f contents c → fits log c ≡ true
+
+-- Whatever a stop leaves of a slot into which a true checkpoint was written holds nothing but what is true, if the slot did
+-- before.
+abbrev pub WritesKeepTrue : Type 0
+WritesKeepTrue = (f : Format) (contents : List (List ℕ)) (slot : ℕ) (before : List ℕ) (c : Checkpoint) → HoldsTrue f contents slot before → IsTrue f contents c →
+    (after : List ℕ) → HoldsOldOrNew slot before c after → HoldsTrue f contents slot after
 
 -- A checkpoint that is true for sound contents is true for what any number of runs and stops leave of them.
 abbrev pub LivesKeepTrue : Type 0
