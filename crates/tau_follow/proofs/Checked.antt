@@ -1,5 +1,5 @@
 -- What the checks of all that is read say together.
-use Rattle.std.proofs.Common.{ℕ, ◌+◌, ◌≤◌, ◌≡◌, List, [], ◌∷◌, ◌++◌, Option, Some, None, Result, Ok, Err, ap, ◌∙◌}
+use Rattle.std.proofs.Common.{ℕ, ◌≡◌, List, Option, Some, None, Result, Ok, Err, ap, ◌∙◌}
 use Rattle.tau_base.specs.declared.format.Format.{Format}
 use Rattle.tau_record.specs.declared.entry.Placed.{Placed}
 use Rattle.tau_scan.specs.declared.fault.LogFault.{LogFault}

@@ -23,7 +23,7 @@ use Rattle.tau_follow.specs.declared.stage.Stage.{Stage}
 use Rattle.tau_follow.specs.declared.stage.Stage.TheVariants as stages
 use Rattle.tau_follow.specs.Applying.{stage_as, stage_of, stages_in, stages_from, first_stage, first_stages, extended, extended_from}
 
-fresh_one : (out order : List Kept) (r : Kept) → (is_among out r ≡ false) × (is_among order r ≡ false) → stage_as out order (r ∷ []) ≡ stages.Open
+pub fresh_one : (out order : List Kept) (r : Kept) → (is_among out r ≡ false) × (is_among order r ≡ false) → stage_as out order (r ∷ []) ≡ stages.Open
 fresh_one out order r w = ap (λ (b : Bool). cond b stages.Out (cond (is_among order r) stages.Applied stages.Open)) w.0 ∙ ap (λ (b : Bool). cond b stages.Applied stages.Open) w.1
 
 first_is : (out order : List Kept) (j : ℕ) (p : Placed) (e : Entry) → ((r : Kept) → Member r (kept_as j p e) → (is_among out r ≡ false) × (is_among order r ≡ false)) → stage_as out order (kept_as j p e) ≡ first_stage e
@@ -41,7 +41,7 @@ stages_append : (out order : List Kept) (j : ℕ) (ps ms : List Placed) → stag
 stages_append out order j [] ms = refl
 stages_append out order j (p ∷ ps) ms = ap (λ (l : List Stage). stage_of out order j p ∷ l) (stages_append out order j ps ms)
 
-stages_long : (out order : List Kept) (j : ℕ) (ps : List Placed) → length (stages_in out order j ps) ≡ length ps
+pub stages_long : (out order : List Kept) (j : ℕ) (ps : List Placed) → length (stages_in out order j ps) ≡ length ps
 stages_long out order j [] = refl
 stages_long out order j (p ∷ ps) = ap suc (stages_long out order j ps)
 

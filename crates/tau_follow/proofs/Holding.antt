@@ -10,7 +10,6 @@ use Rattle.tau_follow.specs.declared.stage.Stage.TheVariants as stages
 use Rattle.tau_follow.specs.Applying.{is_ready_in, reaches, ArePassed, set_stage, stages_from, AreSpots}
 use Rattle.tau_follow.specs.Holding.{Holds, HasApplied, HasFollowed}
 use Rattle.tau_follow.proofs.Staging.{AtSpot, reaches_are, ready_spot, none_spot, applied_stages, passed_still}
-use Rattle.std.specs.Global.{Vec}
 use Rattle.tau_follow.specs.declared.spot.Spot.{Spot}
 use Rattle.tau_follow.proofs.Spots.{spots_push}
 use Rattle.tau_follow.proofs.Reaching.{applies_push}
@@ -22,17 +21,17 @@ got_lt (qs ∷ streams) (suc j) ps e = let h = got_lt streams j ps e in omega (a
 
 module _ (streams : List (List Placed)) (t : Followed) (a : Applier) (h : Holds streams t a) where
   -- with other indexes that are passed
-  other_firsts : (b : Applier) → b.stages ≡ a.stages → b.order ≡ a.order → ArePassed a.stages.items b.firsts.items → Holds streams t b
+  other_firsts : (b : Applier) → b.stages.items ≡ a.stages.items → b.order.items ≡ a.order.items → ArePassed a.stages.items b.firsts.items → Holds streams t b
   other_firsts b st order passed = record {
     streams_are = h.streams_are;
     format = h.format;
     fed = h.fed;
     fronts = h.fronts;
     staged = record {
-      stages_are = ap (λ v. v.items) st ∙ h.staged.stages_are;
-      passed = subst (λ (l : List (List Stage)). ArePassed l b.firsts.items) (sym (ap (λ v. v.items) st)) passed;
+      stages_are = st ∙ h.staged.stages_are;
+      passed = subst (λ (l : List (List Stage)). ArePassed l b.firsts.items) (sym st) passed;
     };
-    spots = subst (λ (v : Vec Spot). AreSpots t.streams v.items t.order) (sym order) h.spots;
+    spots = subst (λ (l : List Spot). AreSpots t.streams l t.order) (sym order) h.spots;
   }
 
   -- how far the streams are followed is told by where their records stand
@@ -76,6 +75,16 @@ module _ (streams : List (List Placed)) (t : Followed) (a : Applier) (h : Holds 
 
 -- ---- a step
 
+-- nothing more is applied
+pub step_kept : (streams : List (List Placed)) (s : Followed) (a b : Applier) (first : List (List Stage)) → HasApplied streams s a → first ≡ a.stages.items → (ArePassed first a.firsts.items → ArePassed first b.firsts.items) →
+    b.stages.items ≡ a.stages.items → b.order.items ≡ a.order.items → HasApplied streams s b
+step_kept streams s a b first d first_is rose st order = record {
+  news = d.news;
+  now = d.now;
+  applies = d.applies;
+  holds = other_firsts streams d.now a d.holds b st order (subst (λ (l : List (List Stage)). ArePassed l b.firsts.items) first_is (rose (subst (λ (l : List (List Stage)). ArePassed l a.firsts.items) (sym first_is) d.holds.staged.passed)));
+}
+
 module _ (streams : List (List Placed)) (s : Followed) (a b : Applier) (first second : List (List Stage)) (list fi re : List ℕ) (d : HasApplied streams s a)
     (first_is : first ≡ a.stages.items) (told : ArePassed first a.firsts.items → list ≡ reaches streams first) (rose : ArePassed first a.firsts.items → ArePassed first b.firsts.items)
     (second_is : second ≡ a.stages.items) (re_is : re ≡ list) where
@@ -88,7 +97,7 @@ module _ (streams : List (List Placed)) (s : Followed) (a b : Applier) (first se
   reached : re ≡ rlv d.now
   reached = re_is ∙ reached_is streams d.now a d.holds list (told passed ∙ ap (reaches streams) first_is)
 
-  pub step_through : b.stages ≡ a.stages → b.order ≡ a.order → fi ≡ b.firsts.items →
+  pub step_through : b.stages.items ≡ a.stages.items → b.order.items ≡ a.order.items → fi ≡ b.firsts.items →
       ((j i : ℕ) (ps : List Placed) → j < length streams → slice_get streams j ≡ Some ps → slice_index fi j ≤ i → i < length ps → is_ready_in re streams second j i ≡ false) → HasFollowed streams s b
   step_through st order fi_is none = record {
     done = record { news = d.news; now = d.now; applies = d.applies; holds = other_firsts streams d.now a d.holds b st order risen };

@@ -33,7 +33,7 @@ known_judge ms k dep = ap not (told (with_marks [] ms) ∙ ap (λ (f : ℕ → L
 
 module _ (streams : List (List Placed)) (stands : AreStanding streams) where
   -- a record is among those that are left out exactly if it is left out
-  left_is : (k : ℕ) (r : Kept) → Member (k, r) (dated_from 0 streams) → is_among (left_out streams) r ≡ is_left_out (marks_from streams) k r.place.dep
+  pub left_is : (k : ℕ) (r : Kept) → Member (k, r) (dated_from 0 streams) → is_among (left_out streams) r ≡ is_left_out (marks_from streams) k r.place.dep
   left_is k r m = elim (cases_Bool (is_left_out (marks_from streams) k r.place.dep)) [
     | inl t ↦ member_among (left_out streams) r.place.stream r.place.start r (are_chosen (is_left_out (marks_from streams)) 0 streams (k, r) m t) refl refl ∙ sym t
     | inr f ↦ (elim (cases_Bool (is_among (left_out streams) r)) [

@@ -20,3 +20,8 @@ pub mod Bytes
 pub mod Counting
 pub mod Listed
 pub mod Waiting
+pub mod Calls
+pub mod Reopening
+pub mod ReadingOn
+pub mod Continuing
+pub mod Passing

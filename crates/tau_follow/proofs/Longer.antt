@@ -1,5 +1,6 @@
 -- A reader has gone on, and goes back.
 use Rattle.std.proofs.Common.{ℕ, ◌≡◌, inl, inr, List, [], ◌∷◌, ◌++◌, length, take, drop, None, Ok, refl, sym, ap, ◌∙◌, arith, append_assoc}
+use Rattle.std.proofs.lemmas.List.{append-nil}
 use Rattle.tau_record.specs.declared.entry.Placed.{Placed}
 use Rattle.tau_record.specs.Format.{Format}
 use Rattle.tau_record.specs.Content.{content_at}
@@ -9,6 +10,9 @@ use Rattle.tau_epoch_laws.proofs.Records.{content_stands}
 use Rattle.tau_follow_laws.proofs.Rises.{stand_low}
 use Rattle.tau_follow.specs.declared.reader.Reader.{Reader}
 use Rattle.tau_follow.specs.Reading.{IsGoing, IsRead, BeginsWith, IsLonger}
+
+pub begins_itself : {A : Type 0} (xs ys : List A) → ys ≡ xs → BeginsWith xs ys
+begins_itself xs ys e = ([], e ∙ sym (append-nil xs))
 
 pub begins_then : {A : Type 0} (xs ys zs : List A) → BeginsWith xs ys → BeginsWith ys zs → BeginsWith xs zs
 begins_then xs ys zs g h = (g.0 ++ h.0, h.1 ∙ ap (λ (l : List _). l ++ h.0) g.1 ∙ append_assoc xs g.0 h.0)

@@ -24,7 +24,7 @@ use Rattle.tau_follow.proofs.Fed.{Read}
 use Rattle.tau_follow.proofs.Declared.{procs_on, order_then}
 use Rattle.tau_follow.proofs.Spots.{spots_long}
 
-take_front : (xs ys : List Kept) (k : ℕ) → k ≤ length xs → take k (xs ++ ys) ≡ take k xs
+pub take_front : (xs ys : List Kept) (k : ℕ) → k ≤ length xs → take k (xs ++ ys) ≡ take k xs
 take_front xs ys zero le = refl
 take_front [] ys (suc k) le = absurd (omega (arith, le))
 take_front (x ∷ xs) ys (suc k) le = ap (λ (l : List Kept). x ∷ l) (take_front xs ys k (omega (arith, le)))
@@ -59,16 +59,18 @@ redone_all procs t streams spots done db rows h long is listed =
     }
 
 -- nothing is redone
-pub at_undone : (f : Format) (n : ℕ) (fed : List (List ℕ)) (s : Followed) (w v : State) → IsAt f n fed s w → AreRead f n fed v.streams.items v.readers.items → v.applier ≡ w.applier → v.tables ≡ w.tables → v.done ≡ 0 → database v.store ≡ empty_db → IsAt f n fed s v
-at_undone f n fed s w v a read applier tables done store =
+pub at_undone : (f : Format) (n : ℕ) (fed : List (List ℕ)) (s : Followed) (w v : State) → IsAt f n fed s w → AreRead f n fed v.streams.items v.readers.items → Stands s v.applier → v.known ≡ w.known → v.declarations ≡ w.declarations → v.tables ≡ w.tables → v.done ≡ 0 → database v.store ≡ empty_db → IsAt f n fed s v
+at_undone f n fed s w v a read stands known declarations tables done store =
     let r = a.redone in
+    let k = a.knows in
     record {
       read = read;
       bytes = a.bytes;
       follower = a.follower;
       catalogue = a.catalogue;
       one = a.one;
-      stands = subst (Stands s) (sym applier) a.stands;
+      knows = record { known = known ∙ k.known; declarations = declarations ∙ k.declarations };
+      stands = stands;
       redone = record {
         within = omega (arith, done);
         store = store ∙ ap (λ (k : ℕ). redone_of (declared_by a.catalogue).procs (take k s.order)) (sym done);
@@ -77,8 +79,8 @@ at_undone f n fed s w v a read applier tables done store =
     }
 
 -- the records came back
-pub at_again : (f : Format) (n : ℕ) (fed : List (List ℕ)) (s : Followed) (w v : State) → IsAt f n fed s w → v.streams.items ≡ w.streams.items → v.readers ≡ w.readers → v.applier ≡ w.applier → v.store ≡ w.store → v.done ≡ w.done → v.tables ≡ w.tables → IsAt f n fed s v
-at_again f n fed s w v a streams readers applier store done tables =
+pub at_again : (f : Format) (n : ℕ) (fed : List (List ℕ)) (s : Followed) (w v : State) → IsAt f n fed s w → v.streams.items ≡ w.streams.items → v.readers ≡ w.readers → v.applier ≡ w.applier → v.known ≡ w.known → v.declarations ≡ w.declarations → v.store ≡ w.store → v.done ≡ w.done → v.tables ≡ w.tables → IsAt f n fed s v
+at_again f n fed s w v a streams readers applier known declarations store done tables =
     let r = a.redone in
     record {
       read = subst (λ (l : List (List Placed)). AreRead f n fed l v.readers.items) (sym streams) (subst (λ (l : Vec Reader). AreRead f n fed w.streams.items l.items) (sym readers) a.read);
@@ -86,6 +88,7 @@ at_again f n fed s w v a streams readers applier store done tables =
       follower = a.follower;
       catalogue = a.catalogue;
       one = a.one;
+      knows = (let k = a.knows in record { known = known ∙ k.known; declarations = declarations ∙ k.declarations });
       stands = subst (Stands s) (sym applier) a.stands;
       redone = record {
         within = subst (λ (k : ℕ). k ≤ length s.order) (sym done) r.within;

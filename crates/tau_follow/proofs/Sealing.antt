@@ -1,6 +1,6 @@
 -- The log of all that was fed.
 use Rattle.std.proofs.Common.{ℕ, zero, suc, ◌+◌, ◌≤◌, ◌<◌, true, ◌≡◌, inl, inr, List, [], ◌∷◌, ◌++◌, map, length, take, drop, replicate, Option, Some, None, Result, Ok, Err, refl, sym, ap, subst, ◌∙◌, arith}
-use Rattle.std.specs.Prelude.{slice_get, slice_index_or}
+use Rattle.std.specs.Prelude.{slice_get}
 use Rattle.std.specs.List.{AllZip}
 use Rattle.std.proofs.lemmas.List.{length-append, length-take, append-nil}
 use Rattle.std.proofs.lemmas.Bool.{cases_lt}
@@ -37,7 +37,7 @@ use Rattle.tau_base.proofs.Lists.{some_at, got_within, got_or}
 
 -- ---- epochs
 
-no_marks : (n : ℕ) → marks_from (replicate n []) ≡ []
+pub no_marks : (n : ℕ) → marks_from (replicate n []) ≡ []
 no_marks zero = refl
 no_marks (suc n) = no_marks n
 

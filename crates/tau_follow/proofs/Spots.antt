@@ -1,5 +1,5 @@
 -- The records at spots.
-use Rattle.std.proofs.Common.{ℕ, zero, suc, ◌+◌, ◌≤◌, ◌<◌, ◌≡◌, List, [], ◌∷◌, ◌++◌, length, take, Some, refl, sym, ap, subst, ◌∙◌, arith}
+use Rattle.std.proofs.Common.{ℕ, zero, suc, ◌+◌, ◌≤◌, ◌≡◌, List, [], ◌∷◌, ◌++◌, length, take, Some, refl, sym, ap, subst, ◌∙◌, arith}
 use Rattle.std.specs.Prelude.{slice_get}
 use Rattle.std.proofs.lemmas.List.{take_all}
 use Rattle.tau_proc.specs.declared.proc.Proc.{Proc}
@@ -33,7 +33,7 @@ spot_at streams (y ∷ spots) [] i x h e = absurd h
 spot_at streams (y ∷ spots) (q ∷ order) zero x h e = (q, subst (λ (z : Spot). IsSpot streams z q) (let same : y ≡ x = cc in same) h.0, refl)
 spot_at streams (y ∷ spots) (q ∷ order) (suc i) x h e = let w = spot_at streams spots order i x h.1 e in (w.0, w.1, ap (λ (l : List Kept). q ∷ l) w.2)
 
-content_of : (j : ℕ) (p : Placed) (e : Entry) (r : Kept) → kept_as j p e ≡ r ∷ [] → content_in e ≡ r.content ∷ []
+pub content_of : (j : ℕ) (p : Placed) (e : Entry) (r : Kept) → kept_as j p e ≡ r ∷ [] → content_in e ≡ r.content ∷ []
 content_of j p (Written number anchor dep writes) r e = cc
 content_of j p (Command number anchor dep call) r e = cc
 content_of j p (Anchor lv) r e = absurd cc

@@ -69,7 +69,7 @@ reaches_are out order j (ps ∷ streams) = let a = reach_is out order j (read_to
 
 -- ---- what is ready
 
-stages_at : (out order : List Kept) (j i : ℕ) (streams : List (List Placed)) (ps : List Placed) → slice_get streams i ≡ Some ps → slice_get (stages_from out order j streams) i ≡ Some (stages_in out order (j + i) ps)
+pub stages_at : (out order : List Kept) (j i : ℕ) (streams : List (List Placed)) (ps : List Placed) → slice_get streams i ≡ Some ps → slice_get (stages_from out order j streams) i ≡ Some (stages_in out order (j + i) ps)
 stages_at out order j i [] ps e = absurd cc
 stages_at out order j zero (qs ∷ streams) ps e =
     let same : qs ≡ ps = cc in
@@ -77,7 +77,7 @@ stages_at out order j zero (qs ∷ streams) ps e =
     ap (λ (l : List Placed). Some (stages_in out order j l)) same ∙ ap (λ (l : ℕ). Some (stages_in out order l ps)) k
 stages_at out order j (suc i) (qs ∷ streams) ps e = let k : suc j + i ≡ j + suc i = omega arith in stages_at out order (suc j) i streams ps e ∙ ap (λ (l : ℕ). Some (stages_in out order l ps)) k
 
-stage_at : (out order : List Kept) (j i : ℕ) (ps : List Placed) (p : Placed) → slice_get ps i ≡ Some p → slice_get (stages_in out order j ps) i ≡ Some (stage_of out order j p)
+pub stage_at : (out order : List Kept) (j i : ℕ) (ps : List Placed) (p : Placed) → slice_get ps i ≡ Some p → slice_get (stages_in out order j ps) i ≡ Some (stage_of out order j p)
 stage_at out order j i [] p e = absurd cc
 stage_at out order j zero (q ∷ ps) p e = let same : q ≡ p = cc in ap (λ (z : Placed). Some (stage_of out order j z)) same
 stage_at out order j (suc i) (q ∷ ps) p e = stage_at out order j i ps p e

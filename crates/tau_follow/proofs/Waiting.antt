@@ -23,8 +23,8 @@ use Rattle.tau_follow.proofs.Checked.{all_good}
 use Rattle.tau_follow.proofs.Sealing.{follower_epochs}
 
 -- what is left out among the records read is out, and none of them is ready
-record IsThrough (s : Followed) : Type 0 where
-  out : (r : Kept) → is_among s.out r ≡ false → is_among (left_out s.streams) r ≡ false
+pub record IsThrough (s : Followed) : Type 0 where
+  pub out : (r : Kept) → is_among s.out r ≡ false → is_among (left_out s.streams) r ≡ false
   none : NoneReady s
 
 none_chosen : (test : ℕ → List ℕ → Bool) (j n : ℕ) → chosen_from test j (replicate n []) ≡ []
@@ -53,8 +53,21 @@ feeds_through : (f : Format) (fed now : List (List ℕ)) (s t : Followed) (piece
 feeds_through f fed now s t [] k h = subst IsThrough (sym h.1) k
 feeds_through f fed now s t (p ∷ pieces) k h = feeds_through f (with_piece fed p) now h.0 t pieces (fed_through f (with_piece fed p) s h.0 h.1) h.2
 
-follower_through : (f : Format) (n : ℕ) (fed : List (List ℕ)) (s : Followed) → IsFollower f n fed s → IsThrough s
+pub follower_through : (f : Format) (n : ℕ) (fed : List (List ℕ)) (s : Followed) → IsFollower f n fed s → IsThrough s
 follower_through f n fed s h = feeds_through f (replicate n []) fed (begun n) s h.0 (begun_through n) h.1
+
+-- where no applied record is left out, none is late
+pub late_none : (streams : List (List Placed)) (order : List Kept) → ((r : Kept) → Member r order → is_among (left_out streams) r ≡ false) → late_in streams order ≡ None
+late_none streams order free = ap late_at (filter_none (is_among order) (left_out streams) in_time)
+  where
+    in_time : (x : Kept) → Member x (left_out streams) → is_among order x ≡ false
+    in_time x m = elim (cases_Bool (is_among order x)) [
+      | inr f ↦ f
+      | inl t ↦
+          let w = among_member order x.place.stream x.place.start t in
+          let there : is_among (left_out streams) w.0 ≡ true = member_among (left_out streams) w.0.place.stream w.0.place.start x m (sym w.2) (sym w.3) in
+          absurd (let z = sym there ∙ free w.0 w.1 in cc z)
+    ]
 
 -- ---- records that are left out once more
 
@@ -109,20 +122,7 @@ module _ (f : Format) (n : ℕ) (fed : List (List ℕ)) (s : Followed) (p : Piec
   ]
 
   none_late : late_in s.streams s.order ≡ None
-  none_late = ap late_at (filter_none (is_among s.order) (left_out s.streams) (λ x m. in_time x m))
-    where
-      in_time : (x : Kept) → Member x (left_out s.streams) → is_among s.order x ≡ false
-      in_time x m = elim (cases_Bool (is_among s.order x)) [
-        | inr f ↦ f
-        | inl t ↦
-            let k = follower_following f n fed s h in
-            let kept = k.kept in
-            let w = among_member s.order x.place.stream x.place.start t in
-            let free = kept.in_time w.0 w.1 in
-            let gone = through.out w.0 free in
-            let there : is_among (left_out s.streams) w.0 ≡ true = member_among (left_out s.streams) w.0.place.stream w.0.place.start x m (sym w.2) (sym w.3) in
-            absurd (let z = sym there ∙ gone in cc z)
-      ]
+  none_late = late_none s.streams s.order (λ r m. (let k = follower_following f n fed s h in let kept = k.kept in through.out r (kept.in_time r m)))
 
   none_more : NoneReady (with_read s s.streams)
   none_more r is = through.none r (record {

@@ -50,6 +50,14 @@ extended_from [] all = []
 extended_from (ps ∷ streams) [] = []
 extended_from (ps ∷ streams) (ss ∷ all) = extended ps ss ∷ extended_from streams all
 
+-- whether it is the record of a call, or an anchor
+abbrev pub is_call : Entry → Bool
+is_call (Written number anchor dep writes) = true
+is_call (Command number anchor dep call) = true
+is_call (Anchor lv) = true
+is_call (Catalogue text) = false
+is_call (Epoch number lv) = false
+
 abbrev pub is_open_stage : Stage → Bool
 is_open_stage Open = true
 is_open_stage Out = false
@@ -114,6 +122,14 @@ reaches (ps ∷ streams) (ss ∷ stages) = reach_by (read_to ps) ps ss ∷ reach
 -- no record before these indexes is open
 abbrev pub ArePassed : List (List Stage) → List ℕ → Type 0
 ArePassed stages firsts = (j i : ℕ) (ss : List Stage) (s : Stage) → slice_get stages j ≡ Some ss → slice_get ss i ≡ Some s → i < slice_index firsts j → is_open_stage s ≡ false
+
+-- none is passed
+abbrev pub AreZero : List ℕ → Type 0
+AreZero firsts = (j : ℕ) → slice_index firsts j ≡ 0
+
+-- a record stands somewhere at this spot
+abbrev pub IsWithin : List (List Stage) → Spot → Type 0
+IsWithin stages spot = (ss : List Stage) × (slice_get stages spot.stream ≡ Some ss) × (spot.index < length ss)
 
 -- the record at this index of this stream stands so then
 abbrev pub set_stage : List (List Stage) → ℕ → ℕ → Stage → List (List Stage)

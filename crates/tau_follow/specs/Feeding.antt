@@ -1,5 +1,5 @@
 -- What is read of all streams.
-use Rattle.std.specs.Prelude.{ℕ, ◌≡◌, false, List, [], length, slice_get, slice_set, slice_index_or, Some, Ok}
+use Rattle.std.specs.Prelude.{ℕ, ◌≡◌, ◌≤◌, true, false, List, [], ◌++◌, length, slice_get, slice_set, slice_index_or, Some, Ok}
 use Rattle.tau_base.specs.declared.format.Format.{Format}
 use Rattle.tau_record.specs.declared.entry.Placed.{Placed}
 use Rattle.tau_model.specs.History.{Member}
@@ -10,7 +10,7 @@ use Rattle.tau_follow.specs.declared.reader.Reader.{Reader}
 use Rattle.tau_follow.specs.declared.stage.Stage.{Stage}
 use Rattle.tau_follow.specs.declared.reader.Mark.{Mark}
 use Rattle.tau_follow.specs.Reading.{IsRead, IsLonger, IsMark}
-use Rattle.tau_follow.specs.Applying.{stages_from}
+use Rattle.tau_follow.specs.Applying.{is_call, stages_from}
 
 -- these records are read of what was fed, and each reader is that of its stream
 pub record AreRead (f : Format) (n : ℕ) (fed : List (List ℕ)) (streams : List (List Placed)) (readers : List Reader) : Type 0 where
@@ -24,6 +24,22 @@ pub record AreRead (f : Format) (n : ℕ) (fed : List (List ℕ)) (streams : Lis
 pub record Standing (streams : List (List Placed)) (stages : List (List Stage)) (out order : List Kept) : Type 0 where
   pub stages_are : stages ≡ stages_from out order 0 streams
   pub apart : (r : Kept) → Member r order → is_among out r ≡ false
+
+-- of one stream more records are read than these many
+pub record IsReadOn (j count : ℕ) (old new : List (List Placed)) : Type 0 where
+  pub before : List Placed
+  pub news : List Placed
+  pub there : slice_get old j ≡ Some before
+  pub count_is : count ≡ length before
+  pub streams_are : new ≡ slice_set old j (before ++ news)
+
+-- each record from this index on is that of a call, or an anchor
+abbrev pub AreCalls : ℕ → List Placed → Type 0
+AreCalls from ps = (i : ℕ) (p : Placed) → from ≤ i → slice_get ps i ≡ Some p → is_call p.entry ≡ true
+
+-- the same of a stream
+abbrev pub AreCallsAt : ℕ → ℕ → List (List Placed) → Type 0
+AreCallsAt j from streams = (ps : List Placed) → slice_get streams j ≡ Some ps → AreCalls from ps
 
 -- one stream is read on
 pub record AreLonger (j : ℕ) (streams : List (List Placed)) (readers : List Reader) (now : List (List Placed)) (by : List Reader) : Type 0 where

@@ -1,12 +1,15 @@
 -- What an applier has applied.
-use Rattle.std.specs.Prelude.{ℕ, ◌≡◌, List, Ok}
+use Rattle.std.specs.Prelude.{ℕ, ◌≡◌, ◌≤◌, List, length, Ok, Some, slice_get, slice_set}
 use Rattle.tau_base.specs.declared.format.Format.{Format}
 use Rattle.tau_record.specs.declared.entry.Placed.{Placed}
 use Rattle.tau_scan.specs.Taken.{Kept}
 use Rattle.tau_follow_laws.specs.Fed.{fronts_of}
 use Rattle.tau_follow_laws.specs.Following.{Followed, Applies, NoneReady}
 use Rattle.tau_follow.specs.declared.applier.Applier.{Applier}
-use Rattle.tau_follow.specs.Applying.{AreStaged, AreSpots}
+use Rattle.tau_epoch.specs.Epochs.{Mark}
+use Rattle.tau_follow.specs.declared.stage.Stage.{Stage}
+use Rattle.tau_follow.specs.Applying.{AreStaged, AreSpots, ArePassed}
+use Rattle.tau_follow.specs.Judging.{with_judged}
 
 -- Of streams that were read of some bytes these records are applied: they stand so, and are those at the spots.
 pub record Holds (streams : List (List Placed)) (s : Followed) (a : Applier) : Type 0 where
@@ -28,3 +31,11 @@ pub record HasApplied (streams : List (List Placed)) (s : Followed) (a : Applier
 pub record HasFollowed (streams : List (List Placed)) (s : Followed) (a : Applier) : Type 0 where
   pub done : HasApplied streams s a
   pub through : NoneReady done.now
+
+-- of one stream more records stand, of which known epochs leave some out
+pub record HasReadOn (known : List Mark) (k : ℕ) (records : List Placed) (j : ℕ) (old new : Applier) : Type 0 where
+  pub stood : List Stage
+  pub there : slice_get old.stages.items j ≡ Some stood
+  pub within : length stood ≤ length records
+  pub stages_are : new.stages.items ≡ slice_set old.stages.items j (with_judged known k records stood)
+  pub passed : ArePassed old.stages.items old.firsts.items → ArePassed new.stages.items new.firsts.items

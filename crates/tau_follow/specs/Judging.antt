@@ -1,5 +1,5 @@
 -- Which records known epochs leave out, from where they stand.
-use Rattle.std.specs.Prelude.{ℕ, suc, ◌&&◌, Bool, true, false, List, [], ◌∷◌, Option, Some, None, if◌then◌else◌}
+use Rattle.std.specs.Prelude.{ℕ, suc, ◌&&◌, Bool, true, false, List, [], ◌∷◌, ◌++◌, drop, length, Option, Some, None, if◌then◌else◌}
 use Rattle.tau_record.specs.declared.entry.Placed.{Placed}
 use Rattle.tau_record.specs.Record.{epoch_after}
 use Rattle.tau_epoch.specs.Epochs.{Mark}
@@ -9,7 +9,7 @@ use Rattle.tau_scan.specs.Reading.{or_else}
 use Rattle.tau_follow_laws.specs.Following.{is_left_out}
 use Rattle.tau_follow.specs.declared.stage.Stage.{Stage}
 use Rattle.tau_follow.specs.declared.stage.Stage.TheVariants.{Open, Out, Applied, Other}
-use Rattle.tau_follow.specs.Applying.{dep_of}
+use Rattle.tau_follow.specs.Applying.{dep_of, first_stages}
 
 abbrev pub is_applied_stage : Stage → Bool
 is_applied_stage Open = false
@@ -33,6 +33,10 @@ abbrev pub judged_from : List Mark → List (List Placed) → List (List Stage) 
 judged_from known [] all = []
 judged_from known (ps ∷ streams) [] = []
 judged_from known (ps ∷ streams) (stages ∷ all) = judged_in known 0 ps stages ∷ judged_from known streams all
+
+-- with those of the records that are more, of which these epochs leave some out
+abbrev pub with_judged : List Mark → ℕ → List Placed → List Stage → List Stage
+with_judged known k ps ss = ss ++ judged_in known k (drop (length ss) ps) (first_stages (drop (length ss) ps))
 
 -- the start of the first applied record that a known epoch leaves out
 abbrev pub late_of : List Mark → ℕ → List Placed → List Stage → Option ℕ

@@ -39,6 +39,8 @@ AreLengths readers lv = lv ≡ map (λ (r : Reader). r.at) readers
 pub record IsWithout (old new : State) : Type 0 where
   pub readers : new.readers ≡ old.readers
   pub applier : new.applier ≡ old.applier
+  pub known : new.known ≡ old.known
+  pub declarations : new.declarations ≡ old.declarations
   pub store : new.store ≡ old.store
   pub done : new.done ≡ old.done
   pub tables : new.tables ≡ old.tables

@@ -4,9 +4,11 @@ use Rattle.tau_base.specs.Database.{Db}
 use Rattle.tau_base.specs.declared.format.Format.{Format}
 use Rattle.tau_base.specs.declared.value.Key.{Key}
 use Rattle.tau_base.specs.declared.value.Value.{Value}
+use Rattle.tau_record.specs.declared.entry.Placed.{Placed}
 use Rattle.tau_proc.specs.declared.proc.Proc.{Proc}
 use Rattle.tau_model.specs.Store.{database}
 use Rattle.tau_model.specs.Tables.{IsTablesOf}
+use Rattle.tau_scan.specs.Epochs.{marks_from, with_marks}
 use Rattle.tau_scan.specs.Reading.{catalogue_in, declared_by}
 use Rattle.tau_follow_laws.specs.Following.{Followed}
 use Rattle.tau_follow_laws.specs.Feeding.{Piece, with_piece, IsFollower}
@@ -14,6 +16,7 @@ use Rattle.tau_follow.specs.declared.applier.Applier.{Applier}
 use Rattle.tau_follow.specs.declared.state.State.{State}
 use Rattle.tau_follow.specs.Applying.{AreStaged, AreSpots, redone_of}
 use Rattle.tau_follow.specs.Feeding.{AreRead}
+use Rattle.tau_follow.specs.Holding.{HasFollowed}
 
 -- where its records stand, and which are applied
 pub record Stands (s : Followed) (a : Applier) : Type 0 where
@@ -30,6 +33,11 @@ pub record IsRedone (procs : List Proc) (s : Followed) (done : ℕ) (db : Db) (r
   pub store : db ≡ redone_of procs (take done s.order)
   pub tables : IsTablesOf (redone_of procs s.order) rows
 
+-- the epochs that are known are those of the records, and what is declared is what the catalogue declares
+pub record Knows (streams : List (List Placed)) (catalogue : Option (List ℕ)) (w : State) : Type 0 where
+  pub known : w.known ≡ with_marks [] (marks_from streams)
+  pub declarations : w.declarations ≡ declared_by catalogue
+
 -- It has read the bytes, has followed them as one does that is fed, and its rows are those of the applied records by the
 -- procedures that the catalogue declares.
 pub record IsAt (f : Format) (n : ℕ) (fed : List (List ℕ)) (s : Followed) (w : State) : Type 0 where
@@ -38,6 +46,7 @@ pub record IsAt (f : Format) (n : ℕ) (fed : List (List ℕ)) (s : Followed) (w
   pub follower : IsFollower f n fed s
   pub catalogue : Option (List ℕ)
   pub one : catalogue_in s.streams ≡ Ok catalogue
+  pub knows : Knows s.streams catalogue w
   pub stands : Stands s w.applier
   pub redone : IsRedone (declared_by catalogue).procs s w.done (database w.store) w.tables
 
@@ -48,15 +57,21 @@ pub record HasRead (f : Format) (n : ℕ) (fed : List (List ℕ)) (s : Followed)
   pub follower : IsFollower f n fed s
   pub catalogue : Option (List ℕ)
   pub one : catalogue_in s.streams ≡ Ok catalogue
+  pub knows : Knows s.streams catalogue w
   pub stands : Stands s w.applier
   pub redone : IsRedone (declared_by catalogue).procs s w.done (database w.store) w.tables
 
--- what is read and applied, and the rows, are the same
+-- what is read, known and declared is the same
 pub record IsSame (old new : State) : Type 0 where
   pub streams : new.streams ≡ old.streams
   pub readers : new.readers ≡ old.readers
-  pub applier : new.applier ≡ old.applier
-  pub tables : new.tables ≡ old.tables
+  pub known : new.known ≡ old.known
+  pub declarations : new.declarations ≡ old.declarations
+
+-- what was ready is applied, until nothing is, and redone
+pub record HasRedone (s : Followed) (w : State) : Type 0 where
+  pub followed : HasFollowed w.streams.items s w.applier
+  pub redone : IsRedone w.declarations.procs followed.done.now w.done (database w.store) w.tables
 
 -- it is one that was fed some bytes
 abbrev pub IsFed : State → Type 0

@@ -1,15 +1,22 @@
 //! What is applied of the streams that are read.
-ghost use Rattle.std.specs.Prelude.{◌≡◌, ◌≤◌, ◌<◌, ◌++◌, ◌∷◌, [], true, false, slice_set, IfOk, OnOk, OnErr};
+ghost use Rattle.std.specs.Prelude.{◌≡◌, ◌≤◌, ◌<◌, ◌++◌, ◌∷◌, ◌-◌, [], true, false, min, ℕ, List, Some, None, length, take, slice_get, slice_set, slice_index, IfOk, IfSome, IsNone, OnOk, OnErr};
+ghost use Rattle.tau_record.specs.declared.entry.Placed.{Placed as OnePlaced};
 ghost use Rattle.tau_follow_laws.specs.Following.{Followed};
-ghost use Rattle.tau_follow.specs.declared.stage.Stage.TheVariants.{Applied};
-ghost use Rattle.tau_follow.specs.Applying.{set_stage, open_all};
-ghost use Rattle.tau_follow.specs.Holding.{HasApplied, HasFollowed};
+ghost use Rattle.tau_follow.specs.declared.stage.Stage.{Stage as OneStage};
+ghost use Rattle.tau_follow.specs.declared.stage.Stage.TheVariants.{Applied, Open};
+ghost use Rattle.tau_follow.specs.declared.spot.Spot.{Spot as OneSpot};
+ghost use Rattle.tau_follow.specs.Applying.{set_stage, open_all, stages_from, ArePassed, IsWithin, AreZero};
+ghost use Rattle.tau_follow.specs.Holding.{HasApplied, HasFollowed, HasReadOn};
+ghost use Rattle.tau_follow.specs.Judging.{with_judged};
+ghost use Rattle.tau_follow.specs.Reading.{BeginsWith};
 
+use crate::judge::extend_judged;
 use crate::reach::{find, reaches};
 use crate::spot::Spot;
 use crate::stage::{Stage, Stages};
 use std::alloc::Global;
 use tau_base::{Listed, NoMemory};
+use tau_epoch::Epochs;
 use tau_record::Placed;
 
 /// Where the records of all streams stand, and which are applied.
@@ -27,6 +34,7 @@ pub struct Applier {
 fn set_at(stages: &mut Vec<Stages>, spot: Spot, stage: Stage) -> Result<(), NoMemory>
     ensures ok { OnOk result (stages.new.items ≡ set_stage stages.old.items spot.stream spot.index stage) }
     ensures err { OnErr result (stages.new.items ≡ stages.old.items) }
+    ensures within { IsWithin stages.old.items spot → stages.new.items ≡ set_stage stages.old.items spot.stream spot.index stage }
 {
     if spot.stream >= stages.len() {
         return Err(NoMemory);
@@ -39,30 +47,122 @@ fn set_at(stages: &mut Vec<Stages>, spot: Spot, stage: Stage) -> Result<(), NoMe
     Ok(())
 }
 
+/// Has the records of a stream stand that are more than those that stand somewhere. Out of memory nothing changes.
+fn stand_on(
+    known: &Epochs,
+    number: u32,
+    records: &[Placed],
+    stages: &mut Stages,
+) -> Result<(), NoMemory>
+    ensures ok { OnOk result (stages.new ≡ with_judged known.now number records.now stages.old) }
+    ensures long { OnOk result (length stages.old ≤ length records.now) }
+    ensures err { OnErr result (stages.new ≡ stages.old) }
+{
+    let many = stages.len();
+    if many > records.len() {
+        return Err(NoMemory);
+    }
+    match extend_judged(known, number, records, stages) {
+        Ok(()) => Ok(()),
+        Err(e) => {
+            stages.truncate(many);
+            Err(e)
+        }
+    }
+}
+
+/// Drops where the records of a stream stand from this index on.
+fn drop_from(stages: &mut Vec<Stages>, stream: usize, many: usize)
+    ensures { (ss : List OneStage) → slice_get stages.old.items stream ≡ Some ss → stages.new.items ≡ slice_set stages.old.items stream (take many ss) }
+{
+    if stream >= stages.len() {
+        return;
+    }
+    stages[stream].truncate(many);
+}
+
+/// Has no index of a stream be above this one.
+fn lower(firsts: &mut Vec<usize>, stream: usize, many: usize) -> Result<(), NoMemory>
+    ensures ok { OnOk result (firsts.new.items ≡ slice_set firsts.old.items stream (min (slice_index firsts.old.items stream) many)) }
+    ensures err { OnErr result (firsts.new.items ≡ firsts.old.items) }
+{
+    if stream >= firsts.len() {
+        return Err(NoMemory);
+    }
+    firsts[stream] = firsts[stream].min(many);
+    Ok(())
+}
+
 impl Applier {
-    /// Applies the record at a spot.
+    /// How many records of a stream stand somewhere.
+    pub fn stand_count(&self, stream: usize) -> usize
+        ensures { (ss : List OneStage) → slice_get self.now.stages.items stream ≡ Some ss → result ≡ length ss }
+    {
+        match self.stages.get(stream) {
+            Some(stages) => stages.len(),
+            None => 0,
+        }
+    }
+
+    /// Has the new records of a stream stand, of which these epochs leave some out. Out of memory the records stand as before.
+    pub fn read_on(
+        &mut self,
+        known: &Epochs,
+        number: u32,
+        records: &[Placed],
+        stream: usize,
+    ) -> Result<(), NoMemory>
+        ensures ok { OnOk result (HasReadOn known.now number records.now stream self.old self.new) }
+        ensures stages { OnErr result (self.new.stages.items ≡ self.old.stages.items) }
+        ensures passed { OnErr result (ArePassed self.old.stages.items self.old.firsts.items → ArePassed self.old.stages.items self.new.firsts.items) }
+        ensures order { self.new.order ≡ self.old.order }
+    {
+        let many = self.stand_count(stream);
+        // The new records come after those that are passed.
+        match lower(&mut self.firsts, stream, many) {
+            Ok(()) => {}
+            Err(e) => return Err(e),
+        }
+        if stream >= self.stages.len() {
+            return Err(NoMemory);
+        }
+        match stand_on(known, number, records, &mut self.stages[stream]) {
+            Ok(()) => Ok(()),
+            Err(e) => Err(e),
+        }
+    }
+
+    /// Applies the record at a spot. Out of memory nothing changes.
     fn apply(&mut self, spot: Spot) -> Result<(), NoMemory>
         ensures stages { OnOk result (self.new.stages.items ≡ set_stage self.old.stages.items spot.stream spot.index Applied) }
         ensures order { OnOk result (self.new.order.items ≡ self.old.order.items ++ spot ∷ []) }
         ensures firsts { self.new.firsts ≡ self.old.firsts }
+        ensures err_stages { OnErr result (self.new.stages.items ≡ self.old.stages.items) }
+        ensures err_order { OnErr result (self.new.order.items ≡ self.old.order.items) }
     {
-        match set_at(&mut self.stages, spot, Stage::Applied) {
-            Ok(()) => {}
-            Err(e) => return Err(e),
-        }
         match self.order.push(spot) {
+            Ok(()) => {}
+            Err(_) => return Err(NoMemory),
+        }
+        match set_at(&mut self.stages, spot, Stage::Applied) {
             Ok(()) => Ok(()),
-            Err(_) => Err(NoMemory),
+            Err(e) => {
+                self.order.pop();
+                Err(e)
+            }
         }
     }
 
     /// Applies a record that is ready, if there is one. Whether there was one.
     fn step(&mut self, alloc: Global, streams: &[Listed<Placed>]) -> Result<bool, NoMemory>
-        ensures applied { (s : Followed) → HasApplied streams.now s self.old → OnOk result (HasApplied streams.now s self.new) }
+        ensures applied { (s : Followed) → HasApplied streams.now s self.old → HasApplied streams.now s self.new }
         ensures through { (s : Followed) → HasApplied streams.now s self.old → IfOk result (λ found. found ≡ false → HasFollowed streams.now s self.new) }
         ensures fewer { IfOk result (λ found. found ≡ true → open_all self.new.stages.items < open_all self.old.stages.items) }
+        ensures order { BeginsWith self.old.order.items self.new.order.items }
     {
-        let reached = reaches(alloc, streams, self.stages.as_slice(), &mut self.firsts)?;
+        let Ok(reached) = reaches(alloc, streams, self.stages.as_slice(), &mut self.firsts) else {
+            return Err(NoMemory);
+        };
         match find(
             streams,
             self.stages.as_slice(),
@@ -79,7 +179,9 @@ impl Applier {
 
     /// Applies what is ready, one record after another, until nothing is.
     pub fn follow(&mut self, alloc: Global, streams: &[Listed<Placed>]) -> Result<(), NoMemory>
-        ensures { (s : Followed) → HasApplied streams.now s self.old → OnOk result (HasFollowed streams.now s self.new) }
+        ensures ok { (s : Followed) → HasApplied streams.now s self.old → OnOk result (HasFollowed streams.now s self.new) }
+        ensures applied { (s : Followed) → HasApplied streams.now s self.old → HasApplied streams.now s self.new }
+        ensures order { BeginsWith self.old.order.items self.new.order.items }
     {
         'steps: loop {
             match self.step(alloc, streams) {
@@ -88,5 +190,45 @@ impl Applier {
                 Err(e) => return Err(e),
             }
         }
+    }
+
+    /// Opens the last applied record again.
+    fn reopen_last(&mut self)
+        ensures order { self.new.order.items ≡ take (length self.old.order.items - 1) self.old.order.items }
+        ensures stages { (spot : OneSpot) → self.old.order.items ≡ self.new.order.items ++ spot ∷ [] → IsWithin self.old.stages.items spot → self.new.stages.items ≡ set_stage self.old.stages.items spot.stream spot.index Open }
+        ensures firsts { self.new.firsts ≡ self.old.firsts }
+    {
+        match self.order.pop() {
+            None => {}
+            Some(spot) => {
+                let _ = set_at(&mut self.stages, spot, Stage::Open);
+            }
+        }
+    }
+
+    /// Opens again the records that are applied after so many.
+    fn reopen(&mut self, count: usize)
+        ensures opened { (streams : List (List OnePlaced)) (s : Followed) → AreZero self.old.firsts.items → HasApplied streams s self.old → count ≡ length s.order → self.new.stages.items ≡ stages_from s.out s.order 0 s.streams }
+        ensures order { (spots : List OneSpot) → BeginsWith spots self.old.order.items → count ≡ length spots → self.new.order.items ≡ spots }
+        ensures firsts { self.new.firsts ≡ self.old.firsts }
+    {
+        'records: loop {
+            if self.order.len() <= count {
+                return;
+            }
+            self.reopen_last();
+        }
+    }
+
+    /// Has all stand as before a stream was read on, when so many of its records stood, and so many of all were applied.
+    pub fn undo(&mut self, stream: usize, many: usize, count: usize)
+        ensures stages { (streams : List (List OnePlaced)) (s : Followed) (ss : List OneStage) → HasApplied streams s self.old → count ≡ length s.order → slice_get (stages_from s.out s.order 0 s.streams) stream ≡ Some ss →
+            self.new.stages.items ≡ slice_set (stages_from s.out s.order 0 s.streams) stream (take many ss) }
+        ensures order { (spots : List OneSpot) → BeginsWith spots self.old.order.items → count ≡ length spots → self.new.order.items ≡ spots }
+        ensures firsts { AreZero self.new.firsts.items }
+    {
+        self.firsts.fill(0);
+        self.reopen(count);
+        drop_from(&mut self.stages, stream, many);
     }
 }

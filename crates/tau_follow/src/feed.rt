@@ -1,19 +1,23 @@
 //! Feeding one of the streams.
-ghost use Rattle.std.specs.Prelude.{◌≡◌, ◌≤◌, ◌<◌, ◌++◌, [], ℕ, List, Some, Ok, Err, length, slice_get, slice_set, slice_index_or, false, IfOk, OnOk};
+ghost use Rattle.std.specs.Prelude.{◌≡◌, ◌≤◌, ◌<◌, ◌++◌, [], ℕ, List, Some, Ok, Err, length, slice_get, slice_set, slice_index_or, true, false, IfOk, OnOk, OnErr};
 ghost use Rattle.tau_base.specs.Modes.{most_streams};
 ghost use Rattle.tau_scan.specs.declared.fault.LogFault.{LogFault};
 ghost use Rattle.tau_scan.specs.declared.fault.LogRefusal.TheVariants as refusals;
 ghost use Rattle.tau_follow_laws.specs.Fed.{fronts_of};
 ghost use Rattle.tau_follow_laws.specs.Feeding.{Piece, with_piece};
 ghost use Rattle.tau_follow.specs.Reading.{IsRead};
-ghost use Rattle.tau_follow.specs.Feeding.{AreRead, AreLonger, IsMarkAt};
+ghost use Rattle.tau_follow.specs.Applying.{is_call, ArePassed};
+ghost use Rattle.tau_follow.specs.Feeding.{AreRead, AreLonger, IsMarkAt, AreCalls, AreCallsAt};
+ghost use Rattle.tau_follow.specs.Holding.{HasReadOn};
 ghost use Rattle.tau_record.specs.declared.entry.Placed.{Placed as OnePlaced};
 ghost use Rattle.tau_follow.specs.declared.reader.Reader.{Reader as OneReader};
 
+use crate::applier::Applier;
 use crate::reader::{Mark, Reader};
 use std::alloc::Global;
 use tau_base::{Format, Listed, NoMemory};
-use tau_record::{Placed, RecordRefusal};
+use tau_epoch::Epochs;
+use tau_record::{Entry, Placed, RecordRefusal};
 use tau_scan::{LogCause, LogFault, LogRefusal};
 
 /// Reads what is fed to a stream.
@@ -103,4 +107,64 @@ pub fn is_more(before: usize, after: usize) -> bool
     ensures { result ≡ false → after ≡ before }
 {
     after != before
+}
+
+/// Whether this is the record of a call, or an anchor.
+fn is_call(entry: &Entry) -> bool
+    ensures { result ≡ is_call entry.now }
+{
+    match entry {
+        Entry::Written { .. } => true,
+        Entry::Command { .. } => true,
+        Entry::Anchor { .. } => true,
+        Entry::Catalogue { .. } => false,
+        Entry::Epoch { .. } => false,
+    }
+}
+
+/// Whether each record from an index on is that of a call, or an anchor.
+fn are_calls(records: &[Placed], from: usize) -> bool
+    ensures { result ≡ true → AreCalls from records.now }
+{
+    for i in from..records.len() {
+        if !is_call(&records[i].entry) {
+            return false;
+        }
+    }
+    true
+}
+
+/// The same of a stream.
+pub fn are_calls_at(streams: &[Listed<Placed>], stream: usize, from: usize) -> bool
+    ensures { result ≡ true → AreCallsAt stream from streams.now }
+{
+    match streams.get(stream) {
+        None => false,
+        Some(records) => are_calls(records.as_slice(), from),
+    }
+}
+
+/// Has the new records of a stream stand, which are those of calls, and anchors. Out of memory the records stand as before.
+pub fn read_calls(
+    applier: &mut Applier,
+    known: &Epochs,
+    readers: &[Reader],
+    streams: &[Listed<Placed>],
+    stream: usize,
+) -> Result<(), NoMemory>
+    ensures ok { (r : OneReader) (ps : List OnePlaced) → slice_get readers.now stream ≡ Some r → slice_get streams.now stream ≡ Some ps → OnOk result (HasReadOn known.now r.last ps stream applier.old applier.new) }
+    ensures stages { OnErr result (applier.new.stages.items ≡ applier.old.stages.items) }
+    ensures passed { OnErr result (ArePassed applier.old.stages.items applier.old.firsts.items → ArePassed applier.old.stages.items applier.new.firsts.items) }
+    ensures order { applier.new.order ≡ applier.old.order }
+{
+    let Some(reader) = readers.get(stream) else {
+        return Err(NoMemory);
+    };
+    let Some(records) = streams.get(stream) else {
+        return Err(NoMemory);
+    };
+    match applier.read_on(known, reader.last, records.as_slice(), stream) {
+        Ok(()) => Ok(()),
+        Err(e) => Err(e),
+    }
 }

@@ -2,8 +2,8 @@
 ghost use Rattle.std.specs.Prelude.{◌≡◌, ◌≤◌, ◌<◌, ◌+◌, ◌++◌, ◌∷◌, [], ℕ, List, Some, None, true, false, not, ◌&&◌, length, drop, take, slice_get, IfOk, IfSome, IsNone, OnOk, OnErr};
 ghost use Rattle.tau_record.specs.Record.{epoch_after};
 ghost use Rattle.tau_follow_laws.specs.Following.{is_left_out};
-ghost use Rattle.tau_follow.specs.Applying.{dep_of};
-ghost use Rattle.tau_follow.specs.Judging.{is_applied_stage, judged_stage, judged_in, judged_from, late_of, late_from};
+ghost use Rattle.tau_follow.specs.Applying.{dep_of, first_stage};
+ghost use Rattle.tau_follow.specs.Judging.{is_applied_stage, judged_stage, judged_in, judged_from, with_judged, late_of, late_from};
 ghost use Rattle.std.specs.Prelude.{Ok};
 ghost use Rattle.tau_base.specs.declared.format.Format.{Format};
 ghost use Rattle.tau_model.specs.History.{Member};
@@ -17,7 +17,7 @@ ghost use Rattle.tau_follow.specs.Applying.{stages_from};
 ghost use Rattle.tau_base.specs.declared.limits.TheConstants.{MAX_STREAMS};
 ghost use Rattle.tau_follow_laws.specs.Feeding.{late_in};
 
-use crate::stage::{Stage, Stages, dep_of};
+use crate::stage::{Stage, Stages, dep_of, first_stage};
 use std::alloc::Global;
 use tau_base::{Listed, NoMemory};
 use tau_epoch::Epochs;
@@ -62,6 +62,33 @@ fn judged_stage(known: &Epochs, number: u32, placed: &Placed, stage: Stage) -> S
         Stage::Applied => Stage::Applied,
         Stage::Other => Stage::Other,
     }
+}
+
+/// Where a record stands that was just read, once these epochs are known.
+fn first_judged(known: &Epochs, number: u32, placed: &Placed) -> Stage
+    ensures { result ≡ judged_stage known.now number placed.now (first_stage placed.now.entry) }
+{
+    judged_stage(known, number, placed, first_stage(&placed.entry))
+}
+
+/// Has the records stand that are more than those that stand somewhere, of which these epochs leave some out. Out of memory
+/// some of them stand.
+pub fn extend_judged(
+    known: &Epochs,
+    number: u32,
+    records: &[Placed],
+    stages: &mut Stages,
+) -> Result<(), NoMemory>
+    requires { length stages.old ≤ length records.now }
+    ensures ok { OnOk result (stages.new ≡ with_judged known.now number records.now stages.old) }
+    ensures begun { take (length stages.old) stages.new ≡ stages.old }
+{
+    let mut number = number;
+    for i in stages.len()..records.len() {
+        stages.push(first_judged(known, number, &records[i]))?;
+        number = epoch_after(number, &records[i].entry);
+    }
+    Ok(())
 }
 
 /// Whether an applied record is left out.

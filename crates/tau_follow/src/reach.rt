@@ -136,7 +136,7 @@ pub fn reaches(
     firsts: &mut Vec<usize>,
 ) -> Result<Vec<u64>, NoMemory>
     ensures reached { ArePassed stages.now firsts.old.items → IfOk result (λ list. list.items ≡ reaches streams.now stages.now) }
-    ensures passed { ArePassed stages.now firsts.old.items → OnOk result (ArePassed stages.now firsts.new.items) }
+    ensures passed { ArePassed stages.now firsts.old.items → ArePassed stages.now firsts.new.items }
 {
     let mut list = Vec::new(alloc);
     for j in 0..streams.len() {

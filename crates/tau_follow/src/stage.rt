@@ -1,5 +1,5 @@
 //! Where a record stands.
-ghost use Rattle.std.specs.Prelude.{◌≡◌, ◌≤◌, ◌<◌, ◌+◌, ◌++◌, ◌∷◌, [], ℕ, List, Some, None, true, false, length, slice_get, slice_set, slice_index_or, IfOk, IfSome, IsNone, OnOk, OnErr};
+ghost use Rattle.std.specs.Prelude.{◌≡◌, ◌≤◌, ◌<◌, ◌+◌, ◌++◌, ◌∷◌, [], ℕ, List, Some, None, true, false, length, take, slice_get, slice_set, slice_index_or, IfOk, IfSome, IsNone, OnOk, OnErr};
 ghost use Rattle.std.specs.Option.{option_copied};
 ghost use Rattle.tau_base.specs.Vectors.{covers};
 ghost use Rattle.tau_record.specs.Record.{epoch_after};
@@ -95,6 +95,13 @@ impl Stages {
         ensures { self.new ≡ slice_set self.old i stage }
     {
         self.list[i] = stage;
+    }
+
+    /// Drops those from this index on.
+    pub fn truncate(&mut self, n: usize)
+        ensures { self.new ≡ take n self.old }
+    {
+        self.list.truncate(n);
     }
 
     pub fn as_slice(&self) -> &[Stage]

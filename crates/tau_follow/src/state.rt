@@ -1,5 +1,5 @@
 //! What a follower has read and applied.
-ghost use Rattle.std.specs.Prelude.{◌≡◌, ◌≤◌, ◌<◌, ◌+◌, ◌++◌, ◌∷◌, [], false, ℕ, List, Some, None, Ok, Err, length, replicate, slice_index, IfOk, OnOk, OnErr};
+ghost use Rattle.std.specs.Prelude.{◌≡◌, ◌≤◌, ◌<◌, ◌+◌, ◌++◌, ◌∷◌, [], false, ℕ, List, Some, None, Ok, Err, length, take, replicate, slice_index, IfOk, OnOk, OnErr};
 ghost use Rattle.tau_base.specs.Modes.{most_streams};
 ghost use Rattle.tau_base.specs.declared.format.Format.{Format};
 ghost use Rattle.tau_base.specs.declared.limits.TheConstants.{MAX_STREAMS as MOST};
@@ -12,14 +12,18 @@ ghost use Rattle.tau_base.specs.Database.{empty_db};
 ghost use Rattle.tau_model.specs.Store.{database};
 ghost use Rattle.tau_record.specs.declared.entry.Placed.{Placed as OnePlaced};
 ghost use Rattle.tau_follow.specs.declared.reader.Reader.{Reader as OneReader};
-ghost use Rattle.tau_follow.specs.Applying.{stages_from, AreSpots};
-ghost use Rattle.tau_follow.specs.Feeding.{AreRead, AreLonger, IsMarkAt};
-ghost use Rattle.tau_follow.specs.Holding.{HasFollowed};
-ghost use Rattle.tau_follow.specs.State.{IsAt, Stands, HasRead, IsSame};
+ghost use Rattle.tau_scan.specs.Epochs.{marks_from, with_marks};
+ghost use Rattle.tau_follow.specs.Applying.{stages_from, redone_of, AreSpots};
+ghost use Rattle.tau_follow.specs.Feeding.{AreRead, AreLonger, IsMarkAt, IsReadOn, AreCallsAt};
+ghost use Rattle.tau_follow.specs.Holding.{HasApplied, HasFollowed};
+ghost use Rattle.tau_follow.specs.Reading.{BeginsWith};
+ghost use Rattle.tau_follow.specs.State.{IsAt, Stands, HasRead, HasRedone, IsSame};
 
 use crate::applier::Applier;
 use crate::check::{checked, declared};
-use crate::feed::{is_more, mark_stream, read_count, read_stream, undo_stream};
+use crate::feed::{
+    are_calls_at, is_more, mark_stream, read_calls, read_count, read_stream, undo_stream,
+};
 use crate::judge::judged_from;
 use crate::reader::{Mark, Reader};
 use crate::redo::redo_from;
@@ -27,9 +31,11 @@ use crate::spot::Spot;
 use crate::stage::{Stages, copied, extend_all};
 use std::alloc::Global;
 use tau_base::{Format, Listed, MAX_STREAMS, NoMemory};
+use tau_epoch::Epochs;
 use tau_model::{SerialStore, Tables};
 use tau_record::Placed;
-use tau_scan::LogRefusal;
+use tau_scan::{LogRefusal, none_declared};
+use tau_text::Declarations;
 
 /// What was read of a log that is fed, and what of it is applied.
 #[derive(Drop)]
@@ -38,6 +44,9 @@ pub struct State {
     pub readers: Vec<Reader>,
     pub streams: Vec<Listed<Placed>>,
     pub applier: Applier,
+    /// The epochs of these records, and what their catalogue declares.
+    pub known: Epochs,
+    pub declarations: Declarations,
     /// What the first applied records did, so many.
     pub store: SerialStore,
     pub done: usize,
@@ -78,13 +87,17 @@ fn follow_on(
     }
 }
 
-/// Judges the records that are read, and applies what is ready until nothing is: the applier then.
-fn applied(
-    alloc: Global,
-    streams: &[Listed<Placed>],
-    applier: &Applier,
-) -> Result<Applier, LogRefusal>
-    ensures ok { (format : Format) (n : ℕ) (fed : List (List ℕ)) (s : Followed) (p : Piece) → IsFollower format n fed s → fronts_of format (with_piece fed p) ≡ Ok streams.now → Stands s applier.now → IfOk result (λ next. (t : Followed) × HasFed format (with_piece fed p) s t × Stands t next) }
+/// An applier once more records are judged, and the epochs that are known then.
+#[derive(Drop)]
+struct Next {
+    applier: Applier,
+    known: Epochs,
+}
+
+/// Judges the records that are read, and applies what is ready until nothing is.
+fn applied(alloc: Global, streams: &[Listed<Placed>], applier: &Applier) -> Result<Next, LogRefusal>
+    ensures ok { (format : Format) (n : ℕ) (fed : List (List ℕ)) (s : Followed) (p : Piece) → IsFollower format n fed s → fronts_of format (with_piece fed p) ≡ Ok streams.now → Stands s applier.now → IfOk result (λ next. (t : Followed) × HasFed format (with_piece fed p) s t × Stands t next.applier) }
+    ensures known { IfOk result (λ next. next.known ≡ with_marks [] (marks_from streams.now)) }
     ensures bad { (format : Format) (n : ℕ) (fed : List (List ℕ)) (s : Followed) (p : Piece) (fault : OneFault) → IsFollower format n fed s → fronts_of format (with_piece fed p) ≡ Ok streams.now → Stands s applier.now → result ≡ Err (refusals.Bad fault) → read_now format (with_piece fed p) s.order ≡ Err fault }
 {
     if streams.len() > MAX_STREAMS {
@@ -108,7 +121,7 @@ fn applied(
         return Err(LogRefusal::NoMemory);
     };
     match follow_on(alloc, streams, judged, applier.order.as_slice()) {
-        Ok(next) => Ok(next),
+        Ok(applier) => Ok(Next { applier, known }),
         Err(_) => Err(LogRefusal::NoMemory),
     }
 }
@@ -140,17 +153,22 @@ impl State {
                 firsts,
                 order: Vec::new(alloc),
             },
+            known: Epochs::new(alloc),
+            declarations: none_declared(alloc),
             store,
             done: 0,
             tables,
         })
     }
 
-    /// Follows what is read, once a stream is fed. The rows and the records are as before if it is refused.
+    /// Follows what is read, once a stream is fed, whatever its new records are. All but the store is as before if it is
+    /// refused.
     fn follow(&mut self, alloc: Global) -> Result<(), LogRefusal>
         ensures ok { (format : Format) (n : ℕ) (fed : List (List ℕ)) (s : Followed) (p : Piece) → HasRead format n fed s p self.old → OnOk result ((t : Followed) × HasFed format (with_piece fed p) s t × IsAt format n (with_piece fed p) t self.new) }
         ensures bad { (format : Format) (n : ℕ) (fed : List (List ℕ)) (s : Followed) (p : Piece) (fault : OneFault) → HasRead format n fed s p self.old → result ≡ Err (refusals.Bad fault) → read_now format (with_piece fed p) s.order ≡ Err fault }
         ensures err { OnErr result (IsSame self.old self.new) }
+        ensures applier { OnErr result (self.new.applier ≡ self.old.applier) }
+        ensures tables { OnErr result (self.new.tables ≡ self.old.tables) }
     {
         if self.streams.len() > MAX_STREAMS {
             return Err(LogRefusal::NoMemory);
@@ -167,7 +185,7 @@ impl State {
             &mut self.store,
             &declarations.procs,
             self.streams.as_slice(),
-            next.order.as_slice(),
+            next.applier.order.as_slice(),
             self.done,
         ) {
             Ok(()) => {}
@@ -175,8 +193,10 @@ impl State {
         }
         match self.store.tables(alloc) {
             Ok(tables) => {
-                self.done = next.order.len();
-                self.applier = next;
+                self.done = next.applier.order.len();
+                self.applier = next.applier;
+                self.known = next.known;
+                self.declarations = declarations;
                 self.tables = tables;
                 Ok(())
             }
@@ -184,16 +204,104 @@ impl State {
         }
     }
 
-    /// The same, if the feed has completed a record.
-    fn follow_new(&mut self, alloc: Global, more: bool) -> Result<(), LogRefusal>
-        ensures ok { (format : Format) (n : ℕ) (fed : List (List ℕ)) (s : Followed) (p : Piece) → HasRead format n fed s p self.old → (more ≡ false → self.old.streams.items ≡ s.streams) → OnOk result ((t : Followed) × HasFed format (with_piece fed p) s t × IsAt format n (with_piece fed p) t self.new) }
+    /// Applies what is ready until nothing is, and redoes it.
+    fn redo_new(&mut self, alloc: Global) -> Result<(), NoMemory>
+        ensures ok { (s : Followed) → HasApplied self.old.streams.items s self.old.applier → self.old.done ≤ length s.order → database self.old.store ≡ redone_of self.old.declarations.procs (take self.old.done s.order) → OnOk result (HasRedone s self.new) }
+        ensures applied { (s : Followed) → HasApplied self.old.streams.items s self.old.applier → HasApplied self.old.streams.items s self.new.applier }
+        ensures order { BeginsWith self.old.applier.order.items self.new.applier.order.items }
+        ensures same { IsSame self.old self.new }
+        ensures tables { OnErr result (self.new.tables ≡ self.old.tables) }
+    {
+        match self.applier.follow(alloc, self.streams.as_slice()) {
+            Ok(()) => {}
+            Err(e) => return Err(e),
+        }
+        match redo_from(
+            &mut self.store,
+            &self.declarations.procs,
+            self.streams.as_slice(),
+            self.applier.order.as_slice(),
+            self.done,
+        ) {
+            Ok(()) => {}
+            Err(e) => return Err(e),
+        }
+        match self.store.tables(alloc) {
+            Ok(tables) => {
+                self.done = self.applier.order.len();
+                self.tables = tables;
+                Ok(())
+            }
+            Err(e) => Err(e),
+        }
+    }
+
+    /// The same as `follow`, if each new record of the stream is that of a call, or an anchor.
+    fn follow_calls(&mut self, alloc: Global, stream: usize) -> Result<(), NoMemory>
+        ensures ok { (format : Format) (n : ℕ) (fed : List (List ℕ)) (s : Followed) (p : Piece) (count : ℕ) → HasRead format n fed s p self.old → IsReadOn stream count s.streams self.old.streams.items → AreCallsAt stream count self.old.streams.items → OnOk result ((t : Followed) × HasFed format (with_piece fed p) s t × IsAt format n (with_piece fed p) t self.new) }
+        ensures same { IsSame self.old self.new }
+        ensures stands { (format : Format) (n : ℕ) (fed : List (List ℕ)) (s : Followed) (p : Piece) (count : ℕ) → HasRead format n fed s p self.old → IsReadOn stream count s.streams self.old.streams.items → AreCallsAt stream count self.old.streams.items → OnErr result (Stands s self.new.applier) }
+        ensures tables { OnErr result (self.new.tables ≡ self.old.tables) }
+    {
+        let stood = self.applier.stand_count(stream);
+        let count = self.applier.order.len();
+        match read_calls(
+            &mut self.applier,
+            &self.known,
+            self.readers.as_slice(),
+            self.streams.as_slice(),
+            stream,
+        ) {
+            Ok(()) => {}
+            Err(e) => return Err(e),
+        }
+        match self.redo_new(alloc) {
+            Ok(()) => Ok(()),
+            Err(e) => {
+                self.applier.undo(stream, stood, count);
+                Err(e)
+            }
+        }
+    }
+
+    /// Follows what is read, once a stream is fed of which so many records were read before.
+    fn follow_more(&mut self, alloc: Global, stream: usize, before: usize) -> Result<(), LogRefusal>
+        ensures ok { (format : Format) (n : ℕ) (fed : List (List ℕ)) (s : Followed) (p : Piece) → HasRead format n fed s p self.old → IsReadOn stream before s.streams self.old.streams.items → OnOk result ((t : Followed) × HasFed format (with_piece fed p) s t × IsAt format n (with_piece fed p) t self.new) }
         ensures bad { (format : Format) (n : ℕ) (fed : List (List ℕ)) (s : Followed) (p : Piece) (fault : OneFault) → HasRead format n fed s p self.old → result ≡ Err (refusals.Bad fault) → read_now format (with_piece fed p) s.order ≡ Err fault }
         ensures err { OnErr result (IsSame self.old self.new) }
+        ensures stands { (format : Format) (n : ℕ) (fed : List (List ℕ)) (s : Followed) (p : Piece) → HasRead format n fed s p self.old → IsReadOn stream before s.streams self.old.streams.items → OnErr result (Stands s self.new.applier) }
+        ensures tables { OnErr result (self.new.tables ≡ self.old.tables) }
+    {
+        if are_calls_at(self.streams.as_slice(), stream, before) {
+            return match self.follow_calls(alloc, stream) {
+                Ok(()) => Ok(()),
+                Err(_) => Err(LogRefusal::NoMemory),
+            };
+        }
+        match self.follow(alloc) {
+            Ok(()) => Ok(()),
+            Err(e) => Err(e),
+        }
+    }
+
+    /// The same, if the feed has completed a record.
+    fn follow_new(
+        &mut self,
+        alloc: Global,
+        stream: usize,
+        before: usize,
+        more: bool,
+    ) -> Result<(), LogRefusal>
+        ensures ok { (format : Format) (n : ℕ) (fed : List (List ℕ)) (s : Followed) (p : Piece) → HasRead format n fed s p self.old → IsReadOn stream before s.streams self.old.streams.items → (more ≡ false → self.old.streams.items ≡ s.streams) → OnOk result ((t : Followed) × HasFed format (with_piece fed p) s t × IsAt format n (with_piece fed p) t self.new) }
+        ensures bad { (format : Format) (n : ℕ) (fed : List (List ℕ)) (s : Followed) (p : Piece) (fault : OneFault) → HasRead format n fed s p self.old → result ≡ Err (refusals.Bad fault) → read_now format (with_piece fed p) s.order ≡ Err fault }
+        ensures err { OnErr result (IsSame self.old self.new) }
+        ensures stands { (format : Format) (n : ℕ) (fed : List (List ℕ)) (s : Followed) (p : Piece) → HasRead format n fed s p self.old → IsReadOn stream before s.streams self.old.streams.items → OnErr result (Stands s self.new.applier) }
+        ensures tables { OnErr result (self.new.tables ≡ self.old.tables) }
     {
         if !more {
             return Ok(());
         }
-        match self.follow(alloc) {
+        match self.follow_more(alloc, stream, before) {
             Ok(()) => Ok(()),
             Err(e) => Err(e),
         }
@@ -206,6 +314,8 @@ impl State {
         ensures store { database self.new.store ≡ empty_db }
         ensures done { self.new.done ≡ 0 }
         ensures applier { self.new.applier ≡ self.old.applier }
+        ensures known { self.new.known ≡ self.old.known }
+        ensures declarations { self.new.declarations ≡ self.old.declarations }
         ensures tables { self.new.tables ≡ self.old.tables }
     {
         undo_stream(alloc, &mut self.readers, &mut self.streams, stream, mark);
@@ -256,7 +366,7 @@ impl State {
             Err(LogRefusal::Bad(fault)) => return Err(LogRefusal::Bad(fault)),
         }
         let after = read_count(self.streams.as_slice(), stream);
-        match self.follow_new(alloc, is_more(before, after)) {
+        match self.follow_new(alloc, stream as usize, before, is_more(before, after)) {
             Ok(()) => Ok(()),
             Err(LogRefusal::NoMemory) => {
                 self.undo(alloc, stream, mark);

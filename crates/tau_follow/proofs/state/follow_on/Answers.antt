@@ -7,7 +7,7 @@ use Rattle.tau_follow.proofs.state.follow_on.Goals as goal
 
 pub returns-in-Ok : goal.returns-in-Ok
 returns-in-Ok c = λ f fed s fronts same stages spots.
-    c.in-Ok.ensures s (record {
+    c.in-Ok.ensures.ok s (record {
       news = [];
       now = s;
       applies = refl;

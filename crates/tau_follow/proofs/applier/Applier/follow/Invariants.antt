@@ -2,10 +2,11 @@
 use Rattle.tau_follow_laws.specs.Following.{Followed}
 use Rattle.tau_follow.specs.Applying.{open_all}
 use Rattle.tau_follow.specs.Holding.{HasApplied}
+use Rattle.tau_follow.specs.Reading.{BeginsWith}
 use Rattle.tau_follow.proofs.applier.Applier.follow.Given as goal
 
 abbrev pub invariant-steps : goal.invariant-steps
-invariant-steps l = (s : Followed) → HasApplied l.streams s l.initial.self → HasApplied l.streams s l.self
+invariant-steps l = ((s : Followed) → HasApplied l.streams s l.initial.self → HasApplied l.streams s l.self) × BeginsWith l.initial.self.order.items l.self.order.items
 
 abbrev pub decreases-steps : goal.decreases-steps
 decreases-steps l = open_all l.self.stages.items

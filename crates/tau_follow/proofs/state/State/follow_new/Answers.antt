@@ -6,7 +6,7 @@ use Rattle.tau_follow.proofs.Waiting.{waits, stages_same, same_out}
 use Rattle.tau_follow.proofs.state.State.follow_new.Goals as goal
 
 pub returns-then-not-more-clause-ok : goal.returns-then-not-more-clause-ok
-returns-then-not-more-clause-ok c = λ f n fed s p h same.
+returns-then-not-more-clause-ok c = λ f n fed s p h on same.
     (let r = h.read in
     let fronts = r.fronts ∙ ap all_read (same c.if-not-more.true) in
     let w = waits f n fed s p h.follower h.catalogue fronts h.one in
@@ -20,6 +20,7 @@ returns-then-not-more-clause-ok c = λ f n fed s p h same.
         follower = feeds_one f n fed s (with_read s s.streams) p h.follower w;
         catalogue = h.catalogue;
         one = h.one;
+        knows = (let k = h.knows in record { known = k.known; declarations = k.declarations });
         stands = record {
           staged = record { stages_are = staged.stages_are ∙ sym (stages_same s.out (s.out ++ left_out s.streams) s.order (same_out f n fed s p h.follower) 0 s.streams); passed = staged.passed };
           spots = stands.spots;

@@ -5,7 +5,9 @@ use Rattle.std.proofs.Common.{subst, sym, List, replicate}
 use Rattle.tau_base.specs.Database.{Db}
 use Rattle.tau_model.specs.Tables.{IsTablesOf}
 use Rattle.tau_follow.specs.declared.spot.Spot.{Spot}
+use Rattle.tau_scan.specs.Epochs.{with_marks}
 use Rattle.tau_follow.specs.Applying.{AreSpots}
+use Rattle.tau_follow.proofs.Sealing.{no_marks}
 use Rattle.tau_follow.proofs.Bytes.{no_bytes}
 use Rattle.tau_follow.proofs.Begun.{pushed_one, pushed_long, pushed_items, begun_read, begun_staged, begun_one}
 use Rattle.tau_follow.proofs.state.State.new.Goals as goal
@@ -29,6 +31,7 @@ returns c = λ f.
       follower = ([], (refl, refl));
       catalogue = None;
       one = begun_one c.args.n;
+      knows = record { known = c.new-3.ensures ∙ ap (with_marks []) (sym (no_marks c.args.n)); declarations = c.none_declared.ensures };
       stands = record { staged = begun_staged c.args.n c.loop.counter _ _ all c.loop.invariant.1 c.in_ok-firsts.ensures; spots = subst (λ (l : List Spot). AreSpots (replicate c.args.n []) l []) (sym c.new-2.ensures.items) tt };
       redone = record { within = omega arith; store = c.new-store.ensures; tables = subst (λ (x : Db). IsTablesOf x c.in_ok-tables.tables) c.new-store.ensures c.in_ok-tables.ensures };
     })

@@ -18,4 +18,4 @@ returns-in-Err-recovered-clause-bad c = λ f n fed s fault a e.
 
 pub returns-in-Err-recovered-clause-err : goal.returns-in-Err-recovered-clause-err
 returns-in-Err-recovered-clause-err c = λ f n fed s a.
-    (let w = c.in-Ok.ensures.rest in at_again f n fed s c.args.self.now _ a (c.into_vec.ensures ∙ c.in-Ok.ensures.streams) w.readers w.applier w.store w.done w.tables)
+    (let w = c.in-Ok.ensures.rest in at_again f n fed s c.args.self.now _ a (c.into_vec.ensures ∙ c.in-Ok.ensures.streams) w.readers w.applier w.known w.declarations w.store w.done w.tables)

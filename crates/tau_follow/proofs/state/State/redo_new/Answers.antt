@@ -1,0 +1,38 @@
+-- What is ready is applied, and redone.
+use Rattle.std.proofs.Common.{sym, subst, List, arith}
+use Rattle.tau_record.specs.declared.entry.Placed.{Placed}
+use Rattle.tau_follow_laws.proofs.Order.{applies_is}
+use Rattle.tau_follow.specs.declared.spot.Spot.{Spot}
+use Rattle.tau_follow.specs.Applying.{AreSpots}
+use Rattle.tau_follow.specs.Holding.{HasApplied, HasFollowed}
+use Rattle.tau_follow.proofs.Continuing.{redone_before}
+use Rattle.tau_follow.proofs.Redoing.{redone_all}
+use Rattle.tau_follow.proofs.state.State.redo_new.Goals as goal
+
+pub returns-in-Ok-tables-clause-ok : goal.returns-in-Ok-tables-clause-ok
+returns-in-Ok-tables-clause-ok c = λ s d within store.
+    (let lent = sym c.as_slice.ensures.value in
+    let g = c.in-Ok.ensures.ok s (subst (λ (l : List (List Placed)). HasApplied l s c.args.self.now.applier) lent d) in
+    let followed = subst (λ (l : List (List Placed)). HasFollowed l s c.follow.new.self) c.as_slice.ensures.value g in
+    let t = followed.done.now in
+    let before = redone_before c.args.self.now.declarations.procs s t followed.done.news c.args.self.now.done _ (applies_is s t followed.done.news followed.done.applies).2 within store in
+    let holds = followed.done.holds in
+    let spots = subst (λ (l : List (List Placed)). AreSpots l c.follow.new.self.order.items t.order) (sym holds.streams_are) holds.spots in
+    let spots_lent = subst (λ (l : List Spot). AreSpots c.as_slice-2.result.now l t.order) (sym c.as_slice-3.ensures.value) (subst (λ (l : List (List Placed)). AreSpots l c.follow.new.self.order.items t.order) (sym c.as_slice-2.ensures.value) spots) in
+    let all = c.in-Ok-redo_from.ensures t.order spots_lent before.0 before.1 in
+    record {
+      followed = followed;
+      redone = redone_all c.args.self.now.declarations.procs t c.args.self.now.streams.items c.follow.new.self.order.items _ _ _ spots (omega (arith, c.len-self.ensures)) all c.in-Ok-tables.ensures;
+    })
+
+pub returns-in-Err-clause-applied : goal.returns-in-Err-clause-applied
+returns-in-Err-clause-applied c = λ s d. subst (λ (l : List (List Placed)). HasApplied l s c.follow.new.self) c.as_slice.ensures.value (c.in-Err.ensures.applied s (subst (λ (l : List (List Placed)). HasApplied l s c.args.self.now.applier) (sym c.as_slice.ensures.value) d))
+
+pub returns-in-Err-redo_from-clause-applied : goal.returns-in-Err-redo_from-clause-applied
+returns-in-Err-redo_from-clause-applied c = λ s d. subst (λ (l : List (List Placed)). HasApplied l s c.follow.new.self) c.as_slice.ensures.value (c.in-Ok.ensures.applied s (subst (λ (l : List (List Placed)). HasApplied l s c.args.self.now.applier) (sym c.as_slice.ensures.value) d))
+
+pub returns-in-Ok-tables-clause-applied : goal.returns-in-Ok-tables-clause-applied
+returns-in-Ok-tables-clause-applied c = λ s d. subst (λ (l : List (List Placed)). HasApplied l s c.follow.new.self) c.as_slice.ensures.value (c.in-Ok.ensures.applied s (subst (λ (l : List (List Placed)). HasApplied l s c.args.self.now.applier) (sym c.as_slice.ensures.value) d))
+
+pub returns-in-Err-tables-clause-applied : goal.returns-in-Err-tables-clause-applied
+returns-in-Err-tables-clause-applied c = λ s d. subst (λ (l : List (List Placed)). HasApplied l s c.follow.new.self) c.as_slice.ensures.value (c.in-Ok.ensures.applied s (subst (λ (l : List (List Placed)). HasApplied l s c.args.self.now.applier) (sym c.as_slice.ensures.value) d))
