@@ -125,7 +125,7 @@ streams_long [] (ps ∷ streams) are = absurd are
 streams_long (content ∷ contents) [] are = absurd are
 streams_long (content ∷ contents) (ps ∷ streams) are = ap (λ (k : ℕ). suc k) (streams_long contents streams are.1)
 
-empty_at : (n j : ℕ) → slice_index_or {A = List Placed} (replicate n []) j [] ≡ []
+pub empty_at : (n j : ℕ) → slice_index_or {A = List Placed} (replicate n []) j [] ≡ []
 empty_at zero j = refl
 empty_at (suc n) zero = refl
 empty_at (suc n) (suc j) = empty_at n j

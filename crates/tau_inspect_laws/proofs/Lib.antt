@@ -5,3 +5,6 @@ pub mod Listing
 pub mod Ordering
 pub mod Reaching
 pub mod Verdicts
+pub mod Prefixes
+pub mod Unmarked
+pub mod Whole

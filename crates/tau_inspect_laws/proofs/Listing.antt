@@ -103,14 +103,30 @@ module _ {A : Type 0} (p q : A → Place) (up : A → Bool) (number : A → ℕ)
       one [] b = le-leb k x (low 0) ∙ sym (le-leb k y (low' 0))
       one (r ∷ rs) b = ap (nat_le k) b.0
 
-  module _ (e e' : List ℕ) (wide : length e ≡ length e') (low : (x : A) → AtMost (p x).dep e) (low' : (x : A) → AtMost (p x).dep e') where
+  -- the same elements start first
+  emitted_same : (streams : List (List A)) (e : List ℕ) → AllAgree streams → emitted p streams e ≡ emitted q streams e
+  emitted_same [] e a = refl
+  emitted_same (s ∷ streams) [] a = refl
+  emitted_same (s ∷ streams) (x ∷ e) a =
+      let here = one s a.0 in
+      let rest = emitted_same streams e a.1 in
+      λ i. here i ∷ rest i
+    where
+      one : (s : List A) → Agree s → next_start p s x ≡ next_start q s x
+      one [] b = refl
+      one (r ∷ rs) b = b.0
+
+  abbrev CoveredAlike : List ℕ → List ℕ → Type 0
+  CoveredAlike e e' = (streams : List (List A)) → AllAgree streams → (x : A) → covers (emitted p streams e) (p x).dep ≡ covers (emitted q streams e') (p x).dep
+
+  module _ (e e' : List ℕ) (alike : CoveredAlike e e') where
     within_same : (n : ℕ) (left : Left A) → AllAgree left.streams → reported_within p n e left ≡ reported_within q n e' left
     unfolding reported_within
     within_same zero left a = refl
     within_same (suc n) left a =
         let passes : A → Bool = λ x. covers (emitted p left.streams e) (p x).dep in
         let passes' : A → Bool = λ x. covers (emitted q left.streams e') (q x).dep in
-        let same : passes ≡ passes' = fun_ext (λ x. covers_same left.streams e e' (p x).dep wide a (low x) (low' x) ∙ ap (covers (emitted q left.streams e')) (deps x)) in
+        let same : passes ≡ passes' = fun_ext (λ x. alike left.streams a x ∙ ap (covers (emitted q left.streams e')) (deps x)) in
         ap (λ (g : A → Bool). listed (picked left.readers left.streams (take_first g left.readers) (take_record g left.streams)) (λ rest. reported_within p n e rest)) same
         ∙ by_pick (λ rest. reported_within p n e rest) (λ rest. reported_within q n e' rest) (λ rest b. within_same n rest b) (take_first passes' left.readers) (take_record passes' left.streams) (taken_agree passes' left.streams a)
       where
@@ -120,7 +136,13 @@ module _ {A : Type 0} (p q : A → Place) (up : A → Bool) (number : A → ℕ)
         by_pick one other same None (Some w) b = ap (λ (l : List A). w.0 ∷ l) (same (record { readers = left.readers; streams = w.1 }) b)
         by_pick one other same None None b = refl
 
-    pub reported_same : (calls : List A) → reported_of p up number e calls ≡ reported_of q up number e' calls
-    reported_same calls =
+    listed_same : length e ≡ length e' → (calls : List A) → reported_of p up number e calls ≡ reported_of q up number e' calls
+    listed_same wide calls =
         within_same (length calls) (first (length e) calls) (first_agrees (length e) calls)
         ∙ ap (λ (left : Left A). reported_within q (length calls) e' left) (first_same (length e) calls ∙ ap (λ (k : ℕ). left_of q up number k calls) wide)
+
+  pub reported_same : (e e' : List ℕ) → length e ≡ length e' → ((x : A) → AtMost (p x).dep e) → ((x : A) → AtMost (p x).dep e') → (calls : List A) → reported_of p up number e calls ≡ reported_of q up number e' calls
+  reported_same e e' wide low low' calls = listed_same e e' (λ streams a x. covers_same streams e e' (p x).dep wide a (low x) (low' x)) wide calls
+
+  pub reported_at_ends : (e : List ℕ) (calls : List A) → reported_of p up number e calls ≡ reported_of q up number e calls
+  reported_at_ends e calls = listed_same e e (λ streams a x. ap (λ (v : List ℕ). covers v (p x).dep) (emitted_same streams e a)) refl calls

@@ -29,10 +29,10 @@ use Rattle.tau_run.proofs.Lists.{any_member}
 use Rattle.tau_inspect.specs.declared.verdict.Check.TheVariants as check
 use Rattle.tau_inspect.specs.Audit.{Case, acts, due, has_ack, has_record, nowhere, place_in, place_of, records, vector_in, IsWhole, Passes}
 use Rattle.tau_inspect.proofs.Mapped.{reported_map}
-use Rattle.tau_inspect_laws.specs.Laws.{IsLogOfRun, OrderFits, WaitsWithin}
+use Rattle.tau_inspect_laws.specs.Laws.{IsLogOfRun, IsLongEnough, OrderFits, WaitsWithin}
 use Rattle.tau_inspect_laws.proofs.Told.{plain_act, of_map, in_map, eq_is}
 use Rattle.tau_inspect_laws.proofs.Fitting.{acts_in, its, held, elv_wide, logs_are, in_calls, one_call, acts_of_it, calls_of_it, call_of}
-use Rattle.tau_inspect_laws.proofs.Listing.{reported_same}
+use Rattle.tau_inspect_laws.proofs.Listing.{reported_same, reported_at_ends}
 
 -- ---- where records end
 
@@ -102,14 +102,14 @@ attached_are f [] = refl
 attached_are {A} {B} f (x ∷ xs) =
     ap (λ (l : List B). f x ∷ l) (map_map (λ (w : (z : A) × Member z (x ∷ xs)). f w.0) (λ (w : (z : A) × Member z xs). (w.0, inr w.1)) (attached xs) ∙ attached_are f xs)
 
-index_is : (xs : List (List ℕ)) (j : ℕ) → slice_index (map length xs) j ≡ length (slice_index_or xs j [])
+pub index_is : (xs : List (List ℕ)) (j : ℕ) → slice_index (map length xs) j ≡ length (slice_index_or xs j [])
 index_is [] j = refl
 index_is (x ∷ xs) zero = refl
 index_is (x ∷ xs) (suc j) = index_is xs j
 
 -- ---- the order
 
-module _ (n m : ℕ) (mode : LogMode) (load : Workload) (run : Run) (images : List (List ℕ)) (log : Log) (rows : List (Key × Value)) (o : IsLogOfRun n m mode load run images log) (waits : WaitsWithin log.elv run)
+module _ (n m : ℕ) (mode : LogMode) (load : Workload) (run : Run) (images : List (List ℕ)) (log : Log) (rows : List (Key × Value)) (o : IsLogOfRun n m mode load run images log) (long : IsLongEnough log.elv run)
     (whole : IsWhole (its n m mode load run images log rows o)) where
   abbrev c : Case
   c = its n m mode load run images log rows o
@@ -163,8 +163,8 @@ module _ (n m : ℕ) (mode : LogMode) (load : Workload) (run : Run) (images : Li
   ]
 
   -- what a call waits for is within the log
-  within : (w : Its) → AtMost w.0.call.place.dep log.elv
-  within w j = elim (waits w.0.call (called w.0 w.1) j) [
+  within : WaitsWithin log.elv run → (w : Its) → AtMost w.0.call.place.dep log.elv
+  within waits w j = elim (waits w.0.call (called w.0 w.1) j) [
     | inl le ↦ le
     | inr d ↦
         let y = of_map (λ (z : Act Committed). z.call) did d.0 (subst (Member d.0) (calls_of_it n m mode load run images log rows o) d.1) in
@@ -206,8 +206,13 @@ module _ (n m : ℕ) (mode : LogMode) (load : Workload) (run : Run) (images : Li
   theirs = reported_of (λ (w : Its). place_of c (plain_act w.0)) (λ w. updates w.0.effect) (λ w. w.0.call.number) log.elv all
 
   same_report : reported_of (λ (w : Its). w.0.call.place) (λ w. updates w.0.effect) (λ w. w.0.call.number) (ends run) all ≡ theirs
-  same_report = reported_same (λ (w : Its). w.0.call.place) (λ w. place_of c (plain_act w.0)) (λ w. updates w.0.effect) (λ w. w.0.call.number) same_dep (λ w up. sym (writer_place w.0 w.1 up))
-      (ends run) log.elv ends_wide (λ w. at_most_trans w.0.call.place.dep log.elv (ends run) (within w) shorter) within all
+  same_report = elim long [
+    | inl same ↦
+        ap (λ (e : List ℕ). reported_of (λ (w : Its). w.0.call.place) (λ w. updates w.0.effect) (λ w. w.0.call.number) e all) (sym same)
+        ∙ reported_at_ends (λ (w : Its). w.0.call.place) (λ w. place_of c (plain_act w.0)) (λ w. updates w.0.effect) (λ w. w.0.call.number) same_dep (λ w up. sym (writer_place w.0 w.1 up)) log.elv all
+    | inr waits ↦ reported_same (λ (w : Its). w.0.call.place) (λ w. place_of c (plain_act w.0)) (λ w. updates w.0.effect) (λ w. w.0.call.number) same_dep (λ w up. sym (writer_place w.0 w.1 up))
+        (ends run) log.elv ends_wide (λ w. at_most_trans w.0.call.place.dep log.elv (ends run) (within waits w) shorter) (within waits) all
+  ]
 
   calls_are : run.calls ≡ map (λ (w : Its). w.0.call) all
   calls_are = calls_of_it n m mode load run images log rows o ∙ sym (attached_are (λ (y : Act Committed). y.call) did)
@@ -239,4 +244,4 @@ module _ (n m : ℕ) (mode : LogMode) (load : Workload) (run : Run) (images : Li
       ap (λ (l : List ℕ). slice_get l (length front)) (due_is ∙ e) ∙ ap (slice_get (front ++ k ∷ back)) (sym zero_more) ∙ get_behind front (k ∷ back) 0
 
 pub order_fits : OrderFits
-order_fits n m mode load run images log rows o waits whole = order_passes n m mode load run images log rows o waits whole
+order_fits n m mode load run images log rows o long whole = order_passes n m mode load run images log rows o long whole

@@ -39,7 +39,7 @@ use Rattle.tau_inspect_laws.specs.Laws.{IsLogOfRun, ReachImages, Reaches, WaitsW
 
 -- ---- lists without members
 
-none_of : (ms : List Mark) → ((m : Mark) → Member m ms → ⊥) → ms ≡ []
+pub none_of : (ms : List Mark) → ((m : Mark) → Member m ms → ⊥) → ms ≡ []
 none_of [] none = refl
 none_of (m ∷ ms) none = absurd (none m (inl refl))
 

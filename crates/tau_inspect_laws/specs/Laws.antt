@@ -1,9 +1,11 @@
 -- What an audit finds of a run's own report.
-use Rattle.std.specs.Prelude.{ℕ, ◌+◌, ◌≤◌, ◌≡◌, ◌≢◌, ◌⊎◌, true, List, [], length, None, Some, Ok, slice_get, slice_index}
+use Rattle.std.specs.Prelude.{ℕ, ◌+◌, ◌≤◌, ◌≡◌, ◌≢◌, ◌⊎◌, true, List, [], length, None, Some, Ok, slice_get, slice_index, slice_index_or, Option}
 use Rattle.tau_base.specs.declared.value.Key.{Key}
 use Rattle.tau_base.specs.declared.value.Value.{Value}
 use Rattle.tau_base.specs.declared.value.LogMode.{LogMode}
 use Rattle.tau_base.specs.Database.{empty_db}
+use Rattle.tau_base.specs.Modes.{format_of, most_streams}
+use Rattle.tau_block.specs.Image.{HasContent}
 use Rattle.tau_model.specs.History.{Act, Member, Depends, updates}
 use Rattle.tau_model.specs.Tables.{IsTablesOf}
 use Rattle.tau_machine.specs.Hands.{Txn}
@@ -13,10 +15,11 @@ use Rattle.tau_scan.specs.declared.log.Log.{Log}
 use Rattle.tau_scan.specs.Epochs.{marks_of}
 use Rattle.tau_scan.specs.Reading.{log_of}
 use Rattle.tau_core.specs.declared.state.Load.{Load}
-use Rattle.tau_run.specs.CoreRun.{IsCourse, IsRunOf}
+use Rattle.tau_run.specs.CoreRun.{IsCourse, IsRunOf, IsSoundLoad}
 use Rattle.tau_run.specs.Start.{fresh_start, opened_at}
+use Rattle.tau_run.specs.RunFacts.{IsCoreRun, in_any_order}
 use Rattle.tau_run.specs.StopsLeave.{HasFront}
-use Rattle.tau_run.specs.Run.{Committed, Run, IsHistory, acts, has_ack, report_of, last_db}
+use Rattle.tau_run.specs.Run.{Committed, Run, IsHistory, acts, ends, has_ack, report_of, last_db}
 use Rattle.tau_run.specs.RecoveredFacts.{takes, IsRecovered}
 use Rattle.tau_inspect.specs.declared.verdict.Check.TheVariants as check
 use Rattle.tau_inspect.specs.declared.verdict.Verdict.{Verdict}
@@ -63,18 +66,22 @@ abbrev pub WaitsWithin : List ℕ → Run → Type 0
 WaitsWithin lengths run = (c : Committed) → Member c run.calls → (j : ℕ) →
     (slice_index c.place.dep j ≤ slice_index lengths j) ⊎ ((d : Committed) × Member d run.calls × (d.logs ≡ true) × (d.place.stream ≡ j) × (d.place.past ≡ slice_index c.place.dep j))
 
--- If such a log is as long as what its calls wait for, and each call of the order has its record or its acknowledgement, the order is the
--- reported history by the places in the log.
+-- these lengths are those that the streams had at the end, or as long as what the calls wait for
+abbrev pub IsLongEnough : List ℕ → Run → Type 0
+IsLongEnough lengths run = (lengths ≡ ends run) ⊎ WaitsWithin lengths run
+
+-- If such a log is long enough, and each call of the order has its record or its acknowledgement, the order is the reported history by the
+-- places in the log.
 abbrev pub OrderFits : Type 0
-OrderFits = (n m : ℕ) (mode : LogMode) (load : Workload) (run : Run) (images : List (List ℕ)) (log : Log) (rows : List (Key × Value)) → IsLogOfRun n m mode load run images log → WaitsWithin log.elv run →
+OrderFits = (n m : ℕ) (mode : LogMode) (load : Workload) (run : Run) (images : List (List ℕ)) (log : Log) (rows : List (Key × Value)) → IsLogOfRun n m mode load run images log → IsLongEnough log.elv run →
     IsWhole (case_of_run m load run rows log) → Passes (case_of_run m load run rows log) check.Order
 
 -- Beside such a log every verdict on the run's report is yes or cut; but for one that tells of an epoch record, or of the order if the log
--- is shorter than what the calls wait for.
+-- is not long enough.
 abbrev pub VerdictsOfRun : Type 0
 VerdictsOfRun = (n m : ℕ) (mode : LogMode) (load : Workload) (run : Run) (images : List (List ℕ)) (log : Log) (rows : List (Key × Value)) → IsLogOfRun n m mode load run images log → IsTablesOf (last_db load run) rows →
     (v : Verdict) → IsVerdict (case_of_run m load run rows log) v →
-    (v ≡ verdict.Yes) ⊎ ((v ≡ verdict.Cut) ⊎ (((k : ℕ) × (v ≡ verdict.No check.Epoch k) × (marks_of log ≢ [])) ⊎ ((k : ℕ) × (v ≡ verdict.No check.Order k) × (WaitsWithin log.elv run → ⊥))))
+    (v ≡ verdict.Yes) ⊎ ((v ≡ verdict.Cut) ⊎ (((k : ℕ) × (v ≡ verdict.No check.Epoch k) × (marks_of log ≢ [])) ⊎ ((k : ℕ) × (v ≡ verdict.No check.Order k) × (IsLongEnough log.elv run → ⊥))))
 
 -- Each image has what its stream held first and the first of what was gathered, and is not shorter than what is persisted.
 abbrev pub Reaches : ℕ → Workload → Run → Load → Core → List (List ℕ) → Type 0
@@ -93,4 +100,21 @@ ReachImages = (n m : ℕ) (mode : LogMode) (load : Workload) (l : Load) (K : Lis
 abbrev pub OwnReportFits : Type 0
 OwnReportFits = (n m : ℕ) (mode : LogMode) (load : Workload) (l : Load) (K : List (Act Txn)) (s : Core) → (run : Run) → IsCourse n m mode load run.start l K s → IsRunOf n l K s load run → run.start ≡ fresh_start n →
     (images : List (List ℕ)) → length images ≡ n → Reaches n load run l s images → (log : Log) → log_of None images ≡ Ok log → (rows : List (Key × Value)) → IsTablesOf (last_db load run) rows →
+    (v : Verdict) → IsVerdict (case_of_run m load run rows log) v → (v ≡ verdict.Yes) ⊎ (v ≡ verdict.Cut)
+
+-- A log of a run that a core has made from streams without a byte has no epoch record.
+abbrev pub NoEpochs : Type 0
+NoEpochs = (n m : ℕ) (mode : LogMode) (load : Workload) (l : Load) (K : List (Act Txn)) (s : Core) → (run : Run) → IsCourse n m mode load run.start l K s → IsRunOf n l K s load run →
+    (images : List (List ℕ)) (log : Log) → IsLogOfRun n m mode load run images log → marks_of log ≡ []
+
+-- Images that each have the whole content of their stream: the log is as long as the streams were at the end.
+abbrev pub WholeIsLong : Type 0
+WholeIsLong = (n m : ℕ) (mode : LogMode) (load : Workload) (run : Run) (images : List (List ℕ)) (log : Log) → IsLogOfRun n m mode load run images log →
+    ((j : ℕ) (image : List ℕ) → slice_get images j ≡ Some image → HasContent (format_of mode) n j (slice_index_or run.contents j []) image) → IsLongEnough log.elv run
+
+-- The report of a run of the core from streams without a byte, however its events were chosen, beside a log of its images that is long
+-- enough: every verdict on it is yes or cut.
+abbrev pub RunReportFits : Type 0
+RunReportFits = (n m : ℕ) (mode : LogMode) (load : Workload) (stops : ℕ → Option ℕ) (run : Run) → IsSoundLoad load → n ≤ most_streams (format_of mode) → IsCoreRun (in_any_order true) n m mode load stops run →
+    (images : List (List ℕ)) (log : Log) → IsLogOfRun n m mode load run images log → IsLongEnough log.elv run → (rows : List (Key × Value)) → IsTablesOf (last_db load run) rows →
     (v : Verdict) → IsVerdict (case_of_run m load run rows log) v → (v ≡ verdict.Yes) ⊎ (v ≡ verdict.Cut)

@@ -1,5 +1,5 @@
 //! What an audit finds of a run, as functions that do nothing.
-ghost use Rattle.tau_inspect_laws.specs.Laws.{ToldAsExecuted, RecordsFit, TakenFits, OrderFits, VerdictsOfRun, ReachImages, OwnReportFits};
+ghost use Rattle.tau_inspect_laws.specs.Laws.{ToldAsExecuted, RecordsFit, TakenFits, OrderFits, VerdictsOfRun, ReachImages, OwnReportFits, NoEpochs, WholeIsLong, RunReportFits};
 
 /// The report of a run that began on no rows passes the checks of fates, replies and rows, beside whatever log.
 pub fn told_as_executed()
@@ -18,14 +18,14 @@ pub fn taken_fits()
     ensures { TakenFits }
 {}
 
-/// If such a log is as long as what its calls wait for, and each call of the order has its record or its acknowledgement,
-/// the order is the reported history by the places in the log.
+/// If such a log is as long as the streams were at the end, or as what the calls wait for, and each call of the order has
+/// its record or its acknowledgement, the order is the reported history by the places in the log.
 pub fn order_fits()
     ensures { OrderFits }
 {}
 
 /// Beside such a log every verdict on the run's report is yes or cut; but for one that tells of an epoch record, or of the
-/// order if the log is shorter than what the calls wait for.
+/// order if the log is shorter than the streams were at the end and than what the calls wait for.
 pub fn verdicts_of_run()
     ensures { VerdictsOfRun }
 {}
@@ -40,4 +40,20 @@ pub fn reach_images()
 /// every verdict on it is yes or cut.
 pub fn own_report_fits()
     ensures { OwnReportFits }
+{}
+
+/// A log of a run that a core has made from streams without a byte has no epoch record.
+pub fn no_epochs()
+    ensures { NoEpochs }
+{}
+
+/// Images that each have the whole content of their stream: the log is as long as the streams were at the end.
+pub fn whole_is_long()
+    ensures { WholeIsLong }
+{}
+
+/// The report of a run of the core from streams without a byte, however its events were chosen, beside a log of its images
+/// that is long enough: every verdict on it is yes or cut.
+pub fn run_report_fits()
+    ensures { RunReportFits }
 {}
