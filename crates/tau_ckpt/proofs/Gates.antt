@@ -7,7 +7,7 @@ use Rattle.tau_disk.specs.Disk.{Holds as Written, Only, Passes, Torn}
 use Rattle.tau_disk.specs.Passing.{passes_on, passes_weaker}
 use Rattle.tau_disk.specs.Used.{OnlyRead}
 use Rattle.tau_ckpt.specs.Slot.{Holds, HoldsNone, body_text}
-use Rattle.tau_ckpt.specs.Writing.{GateIs, HoldsNoMore, HoldsOldOrNew, IsClosed, IsQuiet, IsSpelled}
+use Rattle.tau_ckpt.specs.Writing.{EmptyIsUnborn, GateIs, HoldsNoMore, HoldsOldOrNew, IsClosed, IsQuiet, IsSpelled}
 use Rattle.tau_ckpt.specs.declared.checkpoint.Checkpoint.{Checkpoint}
 use Rattle.tau_ckpt.proofs.Parts.{first_apart, frame_short, framed_of, held_once}
 
@@ -72,14 +72,14 @@ torn_opening slot size c gate file bytes old x one is torn b h =
 
 -- ---- each moment of a write
 
-no_more_of : (slot : ℕ) (file : List ℕ) (leaves : List ℕ → Type 0) → IsQuiet file leaves → (x : List ℕ) → leaves x → HoldsNoMore slot file x
-no_more_of slot [] leaves q x now b h = absurd (short_none slot x (q.unborn refl x now) b h)
-no_more_of slot (y ∷ file) leaves q x now b h = subst (λ (l : List ℕ). Holds slot l b) (q.settled (omega arith) x now) h
+no_more_of : (slot : ℕ) (file : List ℕ) (leaves : List ℕ → Type 0) → IsQuiet file leaves → EmptyIsUnborn file leaves → (x : List ℕ) → leaves x → HoldsNoMore slot file x
+no_more_of slot [] leaves quiet unborn x now b h = absurd (short_none slot x (unborn refl x now) b h)
+no_more_of slot (y ∷ file) leaves quiet unborn x now b h = subst (λ (l : List ℕ). Holds slot l b) (quiet (omega arith) x now) h
 
-closing : (slot size : ℕ) (file : List ℕ) (leaves : List ℕ → Type 0) → IsQuiet file leaves → GateIs false file → size ≡ 1 → (d x : List ℕ) → leaves d → Torn 0 size d x → HoldsNoMore slot file x
-closing slot size file leaves q (inl empty) one d x now torn = torn_unborn slot size file d x one (q.unborn empty d now) torn
-closing slot size file leaves q (inr gate) one d x now torn =
-    torn_closing slot size file x one gate.0 gate.1 (subst (λ (l : List ℕ). Torn 0 size l x) (q.settled gate.0 d now) torn)
+closing : (slot size : ℕ) (file : List ℕ) (leaves : List ℕ → Type 0) → IsQuiet file leaves → EmptyIsUnborn file leaves → GateIs false file → size ≡ 1 → (d x : List ℕ) → leaves d → Torn 0 size d x → HoldsNoMore slot file x
+closing slot size file leaves quiet unborn (inl empty) one d x now torn = torn_unborn slot size file d x one (unborn empty d now) torn
+closing slot size file leaves quiet unborn (inr gate) one d x now torn =
+    torn_closing slot size file x one gate.0 gate.1 (subst (λ (l : List ℕ). Torn 0 size l x) (quiet gate.0 d now) torn)
 
 module _ {D : Type 0} (G : Ghosts D) where
   abbrev pub passes : D → D → (List ℕ → Type 0) → Type 0
@@ -90,17 +90,17 @@ module _ {D : Type 0} (G : Ghosts D) where
   torn_from d at size x = (y : List ℕ) × G.may_leave d y × Torn at size y x
 
   -- a gate that was read and is not closed is written
-  pub closing_moments : (slot size : ℕ) (old mid new : D) → IsQuiet (G.seen old) (G.may_leave old) → GateIs false (G.seen old) → size ≡ 1
+  pub closing_moments : (slot size : ℕ) (old mid new : D) → IsQuiet (G.seen old) (G.may_leave old) → EmptyIsUnborn (G.seen old) (G.may_leave old) → GateIs false (G.seen old) → size ≡ 1
       → OnlyRead G.tells G.seen G.may_leave G.moment G.may_leave_since old mid → passes mid new (torn_from mid 0 size) → passes old new (HoldsNoMore slot (G.seen old))
-  closing_moments slot size old mid new quiet gate one read second =
+  closing_moments slot size old mid new quiet unborn gate one read second =
       passes_on G.moment G.may_leave_since old mid new (G.may_leave old) (torn_from mid 0 size) (HoldsNoMore slot (G.seen old)) read.moments second
-      (no_more_of slot (G.seen old) (G.may_leave old) quiet)
-      (λ x from. closing slot size (G.seen old) (G.may_leave old) quiet gate one from.0 x (read.no_more from.0 from.1) from.2)
+      (no_more_of slot (G.seen old) (G.may_leave old) quiet unborn)
+      (λ x from. closing slot size (G.seen old) (G.may_leave old) quiet unborn gate one from.0 x (read.no_more from.0 from.1) from.2)
 
   -- a gate that was only read
-  pub read_moments : (slot : ℕ) (old new : D) → IsQuiet (G.seen old) (G.may_leave old) → OnlyRead G.tells G.seen G.may_leave G.moment G.may_leave_since old new → passes old new (HoldsNoMore slot (G.seen old))
-  read_moments slot old new quiet read =
-      passes_weaker G.moment G.may_leave_since old new (G.may_leave old) (HoldsNoMore slot (G.seen old)) read.moments (no_more_of slot (G.seen old) (G.may_leave old) quiet)
+  pub read_moments : (slot : ℕ) (old new : D) → IsQuiet (G.seen old) (G.may_leave old) → EmptyIsUnborn (G.seen old) (G.may_leave old) → OnlyRead G.tells G.seen G.may_leave G.moment G.may_leave_since old new → passes old new (HoldsNoMore slot (G.seen old))
+  read_moments slot old new quiet unborn read =
+      passes_weaker G.moment G.may_leave_since old new (G.may_leave old) (HoldsNoMore slot (G.seen old)) read.moments (no_more_of slot (G.seen old) (G.may_leave old) quiet unborn)
 
   module _ (slot : ℕ) (c : Checkpoint) (old shut : D) (first : passes old shut (HoldsNoMore slot (G.seen old))) where
     abbrev pub either : List ℕ → Type 0

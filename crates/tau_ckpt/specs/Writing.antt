@@ -12,10 +12,13 @@ HoldsNoMore slot old image = (b : Checkpoint) → Holds slot image b → Holds s
 abbrev pub HoldsOldOrNew : ℕ → List ℕ → Checkpoint → List ℕ → Type 0
 HoldsOldOrNew slot old c image = (b : Checkpoint) → Holds slot image b → Holds slot old b ⊎ (b ≡ c)
 
--- Nothing is pending on a slot that has a byte. Of one that has none a stop leaves at most 17 bytes.
-pub record IsQuiet (file : List ℕ) (may_leave : List ℕ → Type 0) : Type 0 where
-  pub settled : 1 ≤ length file → Only file may_leave
-  pub unborn : file ≡ [] → (x : List ℕ) → may_leave x → length x ≤ 17
+-- nothing is pending on a slot that has a byte
+abbrev pub IsQuiet : List ℕ → (List ℕ → Type 0) → Type 0
+IsQuiet file may_leave = 1 ≤ length file → Only file may_leave
+
+-- of a slot that has no byte a stop leaves at most 17 bytes
+abbrev pub EmptyIsUnborn : List ℕ → (List ℕ → Type 0) → Type 0
+EmptyIsUnborn file may_leave = file ≡ [] → (x : List ℕ) → may_leave x → length x ≤ 17
 
 -- whether the slot has a gate that is closed
 abbrev pub GateIs : Bool → List ℕ → Type 0

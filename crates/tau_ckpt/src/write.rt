@@ -1,7 +1,7 @@
 //! A slot is written.
 ghost use Rattle.std.specs.Prelude.{◌≡◌, ◌<◌, ◌≤◌, ◌+◌, ◌^◌, List, ℕ, length, Err, OnOk, IfOk};
 ghost use Rattle.tau_ckpt.specs.Slot.{AreTables, Holds};
-ghost use Rattle.tau_ckpt.specs.Writing.{GateIs, HoldsNoMore, HoldsOldOrNew, IsClosed, IsQuiet, IsSpelled, calls_to_close, calls_to_look, calls_to_write};
+ghost use Rattle.tau_ckpt.specs.Writing.{EmptyIsUnborn, GateIs, HoldsNoMore, HoldsOldOrNew, IsClosed, IsQuiet, IsSpelled, calls_to_close, calls_to_look, calls_to_write};
 ghost use Rattle.tau_ckpt.specs.declared.checkpoint.Checkpoint.{Checkpoint as OneCheckpoint};
 ghost use Rattle.tau_ckpt.specs.declared.checkpoint.TheConstants.{MAX_NUMBER};
 ghost use Rattle.tau_disk.specs.Disk.{HasCause, Only, Passes, Rose};
@@ -32,8 +32,9 @@ pub fn write_checkpoint<D: Disk>(
     requires tables { AreTables value.now.rows }
     requires quiet { D.tells → IsQuiet (D.seen disk.old) (D.may_leave disk.old) }
 
-    // At each moment every image that a stop may leave holds none, the old checkpoint or the new one.
-    ensures moments { D.tells → Passes D.moment D.may_leave_since disk.old disk.new (HoldsOldOrNew slot (D.seen disk.old) value.now) }
+    // At each moment every image that a stop may leave holds none, the old checkpoint or the new one, if a stop at the entry
+    // leaves at most 17 bytes of a slot that has no byte.
+    ensures moments { D.tells → EmptyIsUnborn (D.seen disk.old) (D.may_leave disk.old) → Passes D.moment D.may_leave_since disk.old disk.new (HoldsOldOrNew slot (D.seen disk.old) value.now) }
     // After Ok a stop leaves one image, and it holds the new one.
     ensures done { OnOk result (D.tells → Holds slot (D.seen disk.new) value.now) }
     ensures durable { OnOk result (D.tells → Only (D.seen disk.new) (D.may_leave disk.new)) }
@@ -58,7 +59,7 @@ pub fn write_checkpoint<D: Disk>(
 fn put_slot<D: Disk>(disk: &mut D, bytes: &[u8]) -> Result<(), Failed>
     requires quiet { D.tells → IsQuiet (D.seen disk.old) (D.may_leave disk.old) }
     requires end { 1 + length bytes.now < 2 ^ 62 }
-    ensures moments { D.tells → (slot : ℕ) (c : OneCheckpoint) → IsSpelled slot c bytes.now →
+    ensures moments { D.tells → EmptyIsUnborn (D.seen disk.old) (D.may_leave disk.old) → (slot : ℕ) (c : OneCheckpoint) → IsSpelled slot c bytes.now →
         Passes D.moment D.may_leave_since disk.old disk.new (HoldsOldOrNew slot (D.seen disk.old) c) }
     ensures done { OnOk result (D.tells → (slot : ℕ) (c : OneCheckpoint) → IsSpelled slot c bytes.now → Holds slot (D.seen disk.new) c) }
     ensures durable { OnOk result (D.tells → Only (D.seen disk.new) (D.may_leave disk.new)) }
@@ -75,7 +76,7 @@ fn put_slot<D: Disk>(disk: &mut D, bytes: &[u8]) -> Result<(), Failed>
 fn close_gate<D: Disk>(disk: &mut D) -> Result<(), Failed>
     requires quiet { D.tells → IsQuiet (D.seen disk.old) (D.may_leave disk.old) }
     ensures closed { OnOk result (D.tells → IsClosed (D.seen disk.new) (D.may_leave disk.new)) }
-    ensures moments { D.tells → (slot : ℕ) → Passes D.moment D.may_leave_since disk.old disk.new (HoldsNoMore slot (D.seen disk.old)) }
+    ensures moments { D.tells → EmptyIsUnborn (D.seen disk.old) (D.may_leave disk.old) → (slot : ℕ) → Passes D.moment D.may_leave_since disk.old disk.new (HoldsNoMore slot (D.seen disk.old)) }
     ensures plan { D.tells → HasMade (calls_to_close (D.seen disk.old)) (D.number disk.old) (D.number disk.new) (D.fails disk.old) (D.fails disk.new) (D.short disk.old) (D.short disk.new) result }
     ensures cause { HasCause (D.faults disk.old) (D.faults disk.new) result }
 {

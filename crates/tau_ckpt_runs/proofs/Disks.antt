@@ -15,17 +15,11 @@ use Rattle.tau_ckpt.specs.declared.checkpoint.Checkpoint.{Checkpoint}
 
 -- on a disk with this image nothing is pending
 pub quiet_of : (image file : List ℕ) (s : DiskState) → file ≡ image → s ≡ opened image → IsQuiet file (leaves s)
-quiet_of image file s same is = record {
-  settled = λ some x left. image_synced image x (subst (λ (t : DiskState). leaves t x) is left) ∙ sym same;
-  unborn = λ none x left. omega (arith, ap length (image_synced image x (subst (λ (t : DiskState). leaves t x) is left)), ap length (sym same ∙ none));
-}
+quiet_of image file s same is some x left = image_synced image x (subst (λ (t : DiskState). leaves t x) is left) ∙ sym same
 
 -- nor on one whose slot was written
 pub quiet_again : (file : List ℕ) (may_leave : List ℕ → Type 0) (slot : ℕ) (c : Checkpoint) → Only file may_leave → Holds slot file c → IsQuiet file may_leave
-quiet_again file may_leave slot c only holds = record {
-  settled = λ some. only;
-  unborn = λ none x left. omega (arith, ap length none, ap length holds.parts);
-}
+quiet_again file may_leave slot c only holds some = only
 
 no_int : (z : ℤ) → Int z ≢ Absent
 no_int z e = cc
