@@ -153,11 +153,16 @@ impl Applier {
         }
     }
 
-    /// Applies a record that is ready, if there is one. Whether there was one.
-    fn step(&mut self, alloc: Global, streams: &[Listed<Placed>]) -> Result<bool, NoMemory>
+    /// Applies a record that is ready, if there is one, looked for from one stream on: its stream.
+    fn step(
+        &mut self,
+        alloc: Global,
+        streams: &[Listed<Placed>],
+        near: usize,
+    ) -> Result<Option<usize>, NoMemory>
         ensures applied { (s : Followed) → HasApplied streams.now s self.old → HasApplied streams.now s self.new }
-        ensures through { (s : Followed) → HasApplied streams.now s self.old → IfOk result (λ found. found ≡ false → HasFollowed streams.now s self.new) }
-        ensures fewer { IfOk result (λ found. found ≡ true → open_all self.new.stages.items < open_all self.old.stages.items) }
+        ensures through { (s : Followed) → HasApplied streams.now s self.old → IfOk result (λ found. IsNone found → HasFollowed streams.now s self.new) }
+        ensures fewer { IfOk result (λ found. IfSome found (λ _. open_all self.new.stages.items < open_all self.old.stages.items)) }
         ensures order { BeginsWith self.old.order.items self.new.order.items }
     {
         let Ok(reached) = reaches(alloc, streams, self.stages.as_slice(), &mut self.firsts) else {
@@ -168,10 +173,11 @@ impl Applier {
             self.stages.as_slice(),
             self.firsts.as_slice(),
             reached.as_slice(),
+            near,
         ) {
-            None => Ok(false),
+            None => Ok(None),
             Some(spot) => match self.apply(spot) {
-                Ok(()) => Ok(true),
+                Ok(()) => Ok(Some(spot.stream)),
                 Err(e) => Err(e),
             },
         }
@@ -183,10 +189,11 @@ impl Applier {
         ensures applied { (s : Followed) → HasApplied streams.now s self.old → HasApplied streams.now s self.new }
         ensures order { BeginsWith self.old.order.items self.new.order.items }
     {
+        let mut near = 0;
         'steps: loop {
-            match self.step(alloc, streams) {
-                Ok(true) => {}
-                Ok(false) => return Ok(()),
+            match self.step(alloc, streams, near) {
+                Ok(Some(stream)) => near = stream,
+                Ok(None) => return Ok(()),
                 Err(e) => return Err(e),
             }
         }

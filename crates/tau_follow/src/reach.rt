@@ -82,23 +82,42 @@ fn first_at(firsts: &[usize], j: usize) -> usize
     }
 }
 
-/// The first ready record of all streams.
-pub fn find(
+/// The first ready record of the streams from one on, before another.
+fn find_from(
     streams: &[Listed<Placed>],
     stages: &[Stages],
     firsts: &[usize],
     reached: &[u64],
+    from: usize,
+    to: usize,
 ) -> Option<Spot>
     ensures some { IfSome result (λ spot. is_ready_in reached.now streams.now stages.now spot.stream spot.index ≡ true) }
-    ensures none { IsNone result → (j i : ℕ) (ps : List Placed) → j < length streams.now → slice_get streams.now j ≡ Some ps → slice_index firsts.now j ≤ i → i < length ps → is_ready_in reached.now streams.now stages.now j i ≡ false }
+    ensures none { IsNone result → (j i : ℕ) (ps : List Placed) → from ≤ j → j < to → slice_get streams.now j ≡ Some ps → slice_index firsts.now j ≤ i → i < length ps → is_ready_in reached.now streams.now stages.now j i ≡ false }
 {
-    for j in 0..streams.len() {
+    for j in from..to {
         match ready_in(streams, stages, reached, j, first_at(firsts, j)) {
             Some(index) => return Some(Spot { stream: j, index }),
             None => {}
         }
     }
     None
+}
+
+/// A ready record of all streams, looked for from one stream on, and then before it.
+pub fn find(
+    streams: &[Listed<Placed>],
+    stages: &[Stages],
+    firsts: &[usize],
+    reached: &[u64],
+    near: usize,
+) -> Option<Spot>
+    ensures some { IfSome result (λ spot. is_ready_in reached.now streams.now stages.now spot.stream spot.index ≡ true) }
+    ensures none { IsNone result → (j i : ℕ) (ps : List Placed) → j < length streams.now → slice_get streams.now j ≡ Some ps → slice_index firsts.now j ≤ i → i < length ps → is_ready_in reached.now streams.now stages.now j i ≡ false }
+{
+    match find_from(streams, stages, firsts, reached, near, streams.len()) {
+        Some(spot) => Some(spot),
+        None => find_from(streams, stages, firsts, reached, 0, near),
+    }
 }
 
 /// How far a stream is followed, and its first open record; none where its records stand nowhere.

@@ -25,7 +25,7 @@ returns-in-Ok-apply-clause-applied c = λ s d.
     c.in-Some.spot.stream c.in-Some.spot.index c.in-Some.ensures.some c.in-Ok-apply.ensures.stages c.in-Ok-apply.ensures.order
 
 pub returns-in-Ok-apply-clause-fewer : goal.returns-in-Ok-apply-clause-fewer
-returns-in-Ok-apply-clause-fewer c = λ found.
+returns-in-Ok-apply-clause-fewer c =
     ready_fewer c.as_slice-4.result.now c.args.streams.now c.as_slice-2.result.now c.args.self.now.stages.items c.apply.new.self.stages.items c.in-Some.spot.stream c.in-Some.spot.index c.as_slice-2.ensures.value c.in-Some.ensures.some c.in-Ok-apply.ensures.stages
 
 pub returns-in-Ok-apply-clause-order : goal.returns-in-Ok-apply-clause-order
