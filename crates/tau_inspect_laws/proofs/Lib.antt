@@ -8,3 +8,4 @@ pub mod Verdicts
 pub mod Prefixes
 pub mod Unmarked
 pub mod Whole
+pub mod Facts

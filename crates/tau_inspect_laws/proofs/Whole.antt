@@ -17,12 +17,12 @@ use Rattle.tau_inspect_laws.proofs.Fitting.{contents_wide, elv_wide, held}
 use Rattle.tau_inspect_laws.proofs.Ordering.{index_is}
 use Rattle.tau_inspect_laws.proofs.Unmarked.{each_at}
 
-image_read : (f : Format) (images contents : List (List ℕ)) → contents_of f images ≡ Ok contents → (j : ℕ) (content : List ℕ) → slice_get contents j ≡ Some content →
+pub image_read : (f : Format) (images contents : List (List ℕ)) → contents_of f images ≡ Ok contents → (j : ℕ) (content : List ℕ) → slice_get contents j ≡ Some content →
     (image : List ℕ) × (slice_get images j ≡ Some image) × (opened f (length images) j (image_of j image) ≡ Ok content)
 unfolding contents_of
 image_read f images contents e j content got = each_at (λ i image. opened f (length images) i (image_of i image)) 0 images contents e j j content (omega arith) got
 
-one_is : (x y : List ℕ) → ◌≡◌ {A = Result (List ℕ) LogFault} (Ok x) (Ok y) → x ≡ y
+pub one_is : (x y : List ℕ) → ◌≡◌ {A = Result (List ℕ) LogFault} (Ok x) (Ok y) → x ≡ y
 one_is x y e = cc e
 
 module _ (n m : ℕ) (mode : LogMode) (load : Workload) (run : Run) (images : List (List ℕ)) (log : Log) (o : IsLogOfRun n m mode load run images log)
