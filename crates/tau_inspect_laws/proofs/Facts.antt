@@ -115,7 +115,7 @@ module _ (by : Bool → Load → Core → Progress → Type 0) (n m : ℕ) (mode
 
     -- it is long enough if no disk failed
     pub long_if_flushed : ((j : ℕ) → j < n → rose j → ⊥) → IsLongEnough log.elv f.run
-    long_if_flushed none = whole_is_long n m mode load f.run images log of_facts (λ j image g. (let lt = image_low j image g in ended.flushed j image lt (none j lt) (still.1 j image g)))
+    long_if_flushed none = inl (whole_is_long n m mode load f.run images log of_facts (λ j image g. (let lt = image_low j image g in ended.flushed j image lt (none j lt) (still.1 j image g))))
 
     durable_within : (j : ℕ) → j < n → slice_index ended.durable j ≤ slice_index log.elv j
     durable_within j lt =

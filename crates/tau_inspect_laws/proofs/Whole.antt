@@ -1,5 +1,5 @@
 -- Images that each have the whole content of their stream.
-use Rattle.std.proofs.Common.{ℕ, ◌<◌, ◌≡◌, inl, List, [], length, sym, ap, ◌∙◌, arith, Result, Ok}
+use Rattle.std.proofs.Common.{ℕ, ◌<◌, ◌≡◌, List, [], length, sym, ap, ◌∙◌, arith, Result, Ok}
 use Rattle.std.specs.Prelude.{Some, slice_get, slice_index, slice_index_or}
 use Rattle.tau_base.specs.declared.format.Format.{Format}
 use Rattle.tau_base.specs.declared.value.LogMode.{LogMode}
@@ -49,4 +49,4 @@ module _ (n m : ℕ) (mode : LogMode) (load : Workload) (run : Run) (images : Li
       ap (λ (v : List ℕ). slice_index v j) h.elv ∙ index_is o.recovered.contents j ∙ ap length (same_content j low) ∙ sym (index_is run.contents j))
 
 pub whole_is_long : WholeIsLong
-whole_is_long n m mode load run images log o has = inl (same_lengths n m mode load run images log o has)
+whole_is_long n m mode load run images log o has = same_lengths n m mode load run images log o has

@@ -110,7 +110,7 @@ NoEpochs = (n m : ℕ) (mode : LogMode) (load : Workload) (l : Load) (K : List (
 -- Images that each have the whole content of their stream: the log is as long as the streams were at the end.
 abbrev pub WholeIsLong : Type 0
 WholeIsLong = (n m : ℕ) (mode : LogMode) (load : Workload) (run : Run) (images : List (List ℕ)) (log : Log) → IsLogOfRun n m mode load run images log →
-    ((j : ℕ) (image : List ℕ) → slice_get images j ≡ Some image → HasContent (format_of mode) n j (slice_index_or run.contents j []) image) → IsLongEnough log.elv run
+    ((j : ℕ) (image : List ℕ) → slice_get images j ≡ Some image → HasContent (format_of mode) n j (slice_index_or run.contents j []) image) → log.elv ≡ ends run
 
 -- The report of a run of the core from streams without a byte, however its events were chosen, beside a log of its images that is long
 -- enough: every verdict on it is yes or cut.
