@@ -25,7 +25,7 @@ use Rattle.tau_scan.specs.declared.log.Log.{Log}
 use Rattle.tau_scan.specs.Epochs.{marks_of}
 use Rattle.tau_scan.specs.Reading.{counted, formatted, log_of, opened}
 use Rattle.tau_run.specs.CoreRun.{IsCourse, IsSoundLoad}
-use Rattle.tau_run.specs.RecoveredFacts.{AreFrom, IsEnded}
+use Rattle.tau_run.specs.RecoveredFacts.{WaitsWithin, AreFrom, IsEnded}
 use Rattle.tau_run.specs.Run.{Run, last_db}
 use Rattle.tau_run.specs.RunFacts.{Ending, IsCoreRun, RunFacts, in_any_order}
 use Rattle.tau_run.specs.Start.{Start, fresh_start, IsStart}
@@ -35,7 +35,7 @@ use Rattle.tau_run.proofs.Waits.{waits_for}
 use Rattle.tau_inspect.specs.declared.verdict.Verdict.{Verdict}
 use Rattle.tau_inspect.specs.declared.verdict.Verdict.TheVariants as verdict
 use Rattle.tau_inspect.specs.Audit.{IsVerdict}
-use Rattle.tau_inspect_laws.specs.Laws.{case_of_run, IsLogOfRun, IsLongEnough, RunReportFits, WaitsWithin}
+use Rattle.tau_inspect_laws.specs.Laws.{case_of_run, IsLogOfRun, IsLongEnough, RunReportFits}
 use Rattle.tau_inspect_laws.proofs.Fitting.{contents_wide, held}
 use Rattle.tau_inspect_laws.proofs.Ordering.{index_is}
 use Rattle.tau_inspect_laws.proofs.Unmarked.{no_epochs}
@@ -140,8 +140,8 @@ module _ (by : Bool → Load → Core → Progress → Type 0) (n m : ℕ) (mode
     ])
 
     -- the report of the run is found whole or cut
-    pub report_fits : IsSoundLoad load → n ≤ most_streams (format_of mode) → IsCoreRun (by true) n m mode load f.stops f.run → ((j : ℕ) → j < n → rose j → ⊥) ⊎ WaitsWithin ended.durable f.run →
+    pub report_fits : IsSoundLoad load → n ≤ most_streams (format_of mode) → IsCoreRun (by true) n m mode load f.stops f.run →
         (rows : List (Key × Value)) → IsTablesOf (last_db load f.run) rows → (v : Verdict) → IsVerdict (case_of_run m load f.run rows log) v → (v ≡ verdict.Yes) ⊎ (v ≡ verdict.Cut)
-    report_fits sound room core either rows present v h =
-        let long : IsLongEnough log.elv f.run = elim either [ inl none ↦ long_if_flushed none | inr waits ↦ long_if_durable waits ] in
+    report_fits sound room core rows present v h =
+        let long : IsLongEnough log.elv f.run = long_if_durable ended.waits in
         run_report_fits n m mode load f.stops f.run sound room (any_order (by true) n m mode load f.stops f.run core) images log of_facts long rows present v h

@@ -24,12 +24,13 @@ use Rattle.tau_epoch_laws.proofs.Contents.{AreStreams}
 use Rattle.tau_epoch_laws.proofs.Parts.{in_either}
 use Rattle.tau_epoch_laws.proofs.Records.{Stand}
 use Rattle.tau_run.specs.Start.{Start, old_at}
+use Rattle.tau_run.specs.RecoveredFacts.{WaitsWithin}
 use Rattle.tau_run.specs.Run.{Committed, Run, ends, vector_of}
 use Rattle.tau_run.proofs.Lists.{any_member}
 use Rattle.tau_inspect.specs.declared.verdict.Check.TheVariants as check
 use Rattle.tau_inspect.specs.Audit.{Case, acts, due, has_ack, has_record, nowhere, place_in, place_of, records, vector_in, IsWhole, Passes}
 use Rattle.tau_inspect.proofs.Mapped.{reported_map}
-use Rattle.tau_inspect_laws.specs.Laws.{IsLogOfRun, IsLongEnough, OrderFits, WaitsWithin}
+use Rattle.tau_inspect_laws.specs.Laws.{IsLogOfRun, IsLongEnough, OrderFits}
 use Rattle.tau_inspect_laws.proofs.Told.{plain_act, of_map, in_map, eq_is}
 use Rattle.tau_inspect_laws.proofs.Fitting.{acts_in, its, held, elv_wide, logs_are, in_calls, one_call, acts_of_it, calls_of_it, call_of}
 use Rattle.tau_inspect_laws.proofs.Listing.{reported_same, reported_at_ends}

@@ -25,6 +25,7 @@ use Rattle.tau_scan.specs.Reading.{log_of}
 use Rattle.tau_scan.specs.Sound.{IsSound}
 use Rattle.tau_epoch_laws.proofs.Grown.{mark_in}
 use Rattle.tau_run.specs.Start.{Start, fresh_start, opened_at}
+use Rattle.tau_run.specs.RecoveredFacts.{WaitsWithin}
 use Rattle.tau_run.specs.Run.{Committed, Run, told_of}
 use Rattle.tau_run.specs.CoreRun.{IsCourse, IsRunOf}
 use Rattle.tau_run.proofs.Each.{one_content}
@@ -35,7 +36,7 @@ use Rattle.tau_run.proofs.Order.{history, once, there}
 use Rattle.tau_run.proofs.Recovered.{CutLog, cut_log}
 use Rattle.tau_run.proofs.Results.{acked_law, history_law, images_law}
 use Rattle.tau_run.proofs.Sound.{declared}
-use Rattle.tau_inspect_laws.specs.Laws.{IsLogOfRun, ReachImages, Reaches, WaitsWithin}
+use Rattle.tau_inspect_laws.specs.Laws.{IsLogOfRun, ReachImages, Reaches}
 
 -- ---- lists without members
 

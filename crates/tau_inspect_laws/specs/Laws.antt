@@ -20,7 +20,7 @@ use Rattle.tau_run.specs.Start.{fresh_start, opened_at}
 use Rattle.tau_run.specs.RunFacts.{IsCoreRun, in_any_order}
 use Rattle.tau_run.specs.StopsLeave.{HasFront}
 use Rattle.tau_run.specs.Run.{Committed, Run, IsHistory, acts, ends, has_ack, report_of, last_db}
-use Rattle.tau_run.specs.RecoveredFacts.{takes, IsRecovered}
+use Rattle.tau_run.specs.RecoveredFacts.{WaitsWithin, takes, IsRecovered}
 use Rattle.tau_inspect.specs.declared.verdict.Check.TheVariants as check
 use Rattle.tau_inspect.specs.declared.verdict.Verdict.{Verdict}
 use Rattle.tau_inspect.specs.declared.verdict.Verdict.TheVariants as verdict
@@ -60,11 +60,6 @@ RecordsFit = (n m : ℕ) (mode : LogMode) (load : Workload) (run : Run) (images 
 abbrev pub TakenFits : Type 0
 TakenFits = (n m : ℕ) (mode : LogMode) (load : Workload) (run : Run) (images : List (List ℕ)) (log : Log) (rows : List (Key × Value)) → IsLogOfRun n m mode load run images log →
     Passes (case_of_run m load run rows log) check.Ack × Passes (case_of_run m load run rows log) check.Closed
-
--- What a call of the run waits for is within these lengths, or ends where the record of a call of the run does.
-abbrev pub WaitsWithin : List ℕ → Run → Type 0
-WaitsWithin lengths run = (c : Committed) → Member c run.calls → (j : ℕ) →
-    (slice_index c.place.dep j ≤ slice_index lengths j) ⊎ ((d : Committed) × Member d run.calls × (d.logs ≡ true) × (d.place.stream ≡ j) × (d.place.past ≡ slice_index c.place.dep j))
 
 -- these lengths are those that the streams had at the end, or as long as what the calls wait for
 abbrev pub IsLongEnough : List ℕ → Run → Type 0

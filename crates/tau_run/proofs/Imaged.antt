@@ -15,6 +15,7 @@ use Rattle.tau_run.specs.Run.{Run, AllAcked}
 use Rattle.tau_run.specs.RecoveredFacts.{IsImaged, IsAcknowledged, IsEnded}
 use Rattle.tau_run.specs.CoreRun.{IsRunOf, IsCourse}
 use Rattle.tau_run.specs.StopsLeave.{IsLeft, Leaves, IsOver}
+use Rattle.tau_run.proofs.Durable.{durable_waits}
 use Rattle.tau_run.proofs.Each.{one_content}
 use Rattle.tau_run.proofs.Results.{contents_law, images_law, acked_law, ends_law}
 use Rattle.tau_base.proofs.Lists.{got_within}
@@ -61,6 +62,7 @@ module _ (n m : ℕ) (mode : LogMode) (load : Workload) (l : Load) (K : List (Ac
               omega (arith, long, reach));
           reached = leaves.reached;
           acked = law.0;
+          waits = durable_waits n m mode load l K s run c is;
           uncovered = λ d q j lt gap. (let at = law.1 d q j lt gap in leaves.stopped j at.0 at.1);
           flushed = λ j x lt none q. (let p = leaves.present j x lt q in law.2 j lt (going j none) x p.0 p.1 p.2);
           all = λ none. complete (λ j lt. going j (none j lt));

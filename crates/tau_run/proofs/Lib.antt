@@ -42,3 +42,4 @@ pub mod Flushes
 pub mod Bodies
 pub mod Came
 pub mod Told
+pub mod Durable

@@ -58,6 +58,11 @@ IsAcknowledged n load now run = (images : List (List ℕ)) → AreFrom now n ima
     (updates x.effect ≡ true → takes log x.call ≡ true) ×
     ((u : Act Committed) → Depends (acts load.declarations.procs run) x u → updates u.effect ≡ true → takes log u.call ≡ true)
 
+-- What a call of the run waits for is within these lengths, or ends where the record of a call does.
+abbrev pub WaitsWithin : List ℕ → Run → Type 0
+WaitsWithin lengths run = (c : Committed) → Member c run.calls → (j : ℕ) →
+    (slice_index c.place.dep j ≤ slice_index lengths j) ⊎ ((d : Committed) × Member d run.calls × (d.logs ≡ true) × (d.place.stream ≡ j) × (d.place.past ≡ slice_index c.place.dep j))
+
 -- The run went to its end. The durable lengths are those of the shortest contents that a stop now may leave; the
 -- acknowledged calls are those of them that these cover, and where one is not covered, that disk failed.
 pub record IsEnded (n : ℕ) (mode : LogMode) (load : Workload) (now : ℕ → List ℕ → Type 0) (rose : ℕ → Type 0) (run : Run) : Type 0 where
@@ -66,6 +71,7 @@ pub record IsEnded (n : ℕ) (mode : LogMode) (load : Workload) (now : ℕ → L
   pub reached : (j : ℕ) (x : List ℕ) → j < n → now j x →
       (y content : List ℕ) × now j y × HasContent (format_of mode) n j content y × (length content ≡ slice_index durable j)
   pub acked : (c : Committed) → Member c run.calls → (has_ack run c.number ≡ true) ↔ (covers durable (vector_of c) ≡ true)
+  pub waits : WaitsWithin durable run
   pub uncovered : (c : Committed) → Member c run.calls → (j : ℕ) → j < n → slice_index durable j < slice_index (vector_of c) j → rose j
   -- a disk that has not failed has all
   pub flushed : (j : ℕ) (x : List ℕ) → j < n → (rose j → ⊥) → now j x → HasContent (format_of mode) n j (slice_index_or run.contents j []) x
