@@ -28,6 +28,11 @@ mod BenchLines
 mod BenchSound
 mod BenchFound
 mod BenchTops
+pub mod Entries
+pub mod SlotReading
+pub mod Held
+pub mod Found
+pub mod Restored
 mod Oks
 pub mod Images
 pub mod OnOpened
@@ -42,3 +47,8 @@ mod Telling
 mod Going
 mod Answering
 mod FedAll
+pub mod Settled
+pub mod Checkpointed
+pub mod CheckpointEnds
+pub mod Putting
+pub mod SaidSlots

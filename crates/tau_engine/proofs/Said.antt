@@ -10,6 +10,7 @@ use Rattle.tau_disk.specs.Disk.{Rose}
 use Rattle.tau_disk.specs.Used.{EachIn, EachUsed, OnlyRead, AllCalls, IsClean, RoseAt}
 use Rattle.tau_disk.proofs.Calls.{untouched}
 use Rattle.tau_disk.proofs.Places.{get_dropped}
+use Rattle.tau_disk.proofs.Syncing.{only_none}
 use Rattle.tau_model.specs.History.{Member}
 use Rattle.tau_run.specs.RunFacts.{WroteFront}
 use Rattle.tau_scan.specs.declared.fault.LogFault.{LogFault}
@@ -88,7 +89,7 @@ other ends a x kind none e = (let f : true ≡ false = sym kind ∙ ap ends e �
 -- ---- commands
 
 -- a command that reads no source refuses none
-refuses_none : (c : Option Command) (text : List ℕ) (refusal : Status) → reads_source c ≡ false → RefusesSource c text refusal → ⊥
+pub refuses_none : (c : Option Command) (text : List ℕ) (refusal : Status) → reads_source c ≡ false → RefusesSource c text refusal → ⊥
 refuses_none None text refusal e r = r
 refuses_none (Some (Run n m mode optimistic)) text refusal e r = cc e
 refuses_none (Some (Recover n p)) text refusal e r = r
@@ -100,7 +101,7 @@ refuses_none (Some (Follow n)) text refusal e r = cc e
 refuses_none (Some (Inspect n)) text refusal e r = r
 refuses_none (Some (Audit n m)) text refusal e r = cc e
 
-some_command : (c : Option Command) → finds_log c ≡ true → c ≡ None → ⊥
+pub some_command : (c : Option Command) → finds_log c ≡ true → c ≡ None → ⊥
 some_command c finds e = (let f : true ≡ false = sym finds ∙ ap finds_log e in cc f)
 
 no_use : (c : Option Command) → streams_of c ≡ 0 → uses_slots c ≡ false → (j : ℕ) → Uses c j → ⊥
@@ -152,8 +153,18 @@ module _ {D : Type 0} (G : Ghosts D) (M : Ghosts MemDisk) (s : Input) (o : Outpu
   of_nothing old (Some (Recover n p)) silent = record { recover = λ t. silent; bad_log = λ fault e. absurd (cc e); bad_log_told = λ t fault is. tt; tangled_told = λ t log is none. tt; done = λ t log order is ordered rose. inr (inl refl) }
   of_nothing old (Some (Drill n m p ending)) silent = record { drill = λ t load has. silent; done = λ t load has source sink. inr (inl refl) }
   of_nothing old (Some (Bench start calls n m)) silent = record { bench = silent; done = λ sink. inr (inl refl) }
-  of_nothing old (Some (Checkpoint n p)) silent = tt
-  of_nothing old (Some (Restore n p)) silent = tt
+  of_nothing old (Some (Checkpoint n p)) silent = record {
+    touched = inl (λ j d used was. (d, was, only_none G d));
+    written = λ e. absurd (cc e);
+    bad_log = λ fault e. absurd (cc e);
+    refused = λ fault e. absurd (cc e);
+    refused_calls = λ fault e. absurd (cc e);
+    bad_log_told = λ t fault is. tt;
+    last_told = λ t log held fault reads holds last. tt;
+    tangled_told = λ t log held next reads holds free none. tt;
+    done = λ t log held next order reads holds free is sink disks. inr (inl refl);
+  }
+  of_nothing old (Some (Restore n p)) silent = record { restore = λ t. silent; bad_log = λ fault e. absurd (cc e); bad_log_told = λ t fault is. tt; tangled_told = λ t log held reads holds none. tt; done = λ t log held order reads holds is sink disks. inr (inl refl) }
   of_nothing old (Some (Follow n)) silent = record { follow = λ t pieces has. tt; bad_told = λ t pieces fault lines has bad. inr (inr (inl refl)); done = λ t pieces text has is source sink. inr (inl refl) }
   of_nothing old (Some (Inspect n)) silent = record { inspect = λ t. tt; bad_log = λ fault e. absurd (cc e); bad_log_told = λ t fault is. tt; done = λ t log is sink disks. inr (inl refl) }
   of_nothing old (Some (Audit n m)) silent = record { audit = λ t tells load report has. tt; bad_log = λ fault e. absurd (cc e); bad_log_told = λ t tells load report fault has behind is. tt; done = λ t tells load report log has is source sink disks. inr (inl refl) }

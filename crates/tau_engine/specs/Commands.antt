@@ -24,6 +24,7 @@ use Rattle.tau_run.specs.RunFacts.{WroteFront}
 use Rattle.tau_engine.specs.declared.status.Status.{Status}
 use Rattle.tau_engine.specs.declared.status.Status.TheVariants as status
 use Rattle.tau_engine.specs.Bench.{BenchTells}
+use Rattle.tau_engine.specs.Checkpoints.{OfCheckpoint, OfRestore}
 use Rattle.tau_engine.specs.DiskFacts.{NextClean, NotEarlier}
 use Rattle.tau_engine.specs.Drill.{DrillTells, with_turns}
 use Rattle.tau_engine.specs.Fault.{fault_text}
@@ -99,8 +100,8 @@ module _ {D : Type 0} (G : Ghosts D) (M : Ghosts MemDisk) (s : Input) (o : Outpu
   Of (Some (Recover n p)) = OfRecover G o old new answer n
   Of (Some (Drill n m p ending)) = OfDrill n m ending
   Of (Some (Bench start calls n m)) = OfBench o answer start calls
-  Of (Some (Checkpoint n p)) = Unit {0}
-  Of (Some (Restore n p)) = Unit {0}
+  Of (Some (Checkpoint n p)) = OfCheckpoint G o old new answer n
+  Of (Some (Restore n p)) = OfRestore G o old new answer n
   Of (Some (Follow n)) = OfFollow s o answer n
   Of (Some (Inspect n)) = OfInspect G o old new answer n
   Of (Some (Audit n m)) = OfAudit G s o old new answer n m

@@ -18,6 +18,8 @@ pub mod Cases
 pub mod Inspecting
 pub mod Auditing
 pub mod Following
+pub mod Checkpoints
+pub mod Finding
 pub mod Commands
 pub mod Reads
 pub mod Top

@@ -4,6 +4,7 @@
 mod audit;
 mod bench;
 mod case;
+mod checkpoint;
 mod cut;
 mod drill;
 mod fault;
@@ -14,8 +15,10 @@ mod look;
 mod pieces;
 mod reading;
 mod recovery;
+mod restore;
 mod run;
 mod served;
+mod slots;
 mod source;
 mod status;
 mod top;

@@ -54,6 +54,20 @@ pub enum Work {
         /// Workers, 1 to 16.
         m: u8,
     },
+    /// A recovery that is written into the slot of a checkpoint.
+    Checkpoint {
+        /// Streams, 1 to 32.
+        n: u8,
+        /// Recovery workers, 1 to 16.
+        p: u8,
+    },
+    /// A recovery from the better checkpoint on.
+    Restore {
+        /// Streams, 1 to 32.
+        n: u8,
+        /// Recovery workers, 1 to 16.
+        p: u8,
+    },
     /// A second copy that is fed pieces of the streams.
     Follow {
         /// Streams, 1 to 32.
@@ -89,6 +103,8 @@ fn work_of(command: Command) -> Option<Work>
         Command::Recover { n, p } => Some(Work::Recover { n, p }),
         Command::Drill { n, m, p, ending } => Some(Work::Drill { n, m, p, ending }),
         Command::Bench { start, calls, n, m } => Some(Work::Bench { start, calls, n, m }),
+        Command::Checkpoint { n, p } => Some(Work::Checkpoint { n, p }),
+        Command::Restore { n, p } => Some(Work::Restore { n, p }),
         Command::Follow { n } => Some(Work::Follow { n }),
         Command::Inspect { n } => Some(Work::Inspect { n }),
         Command::Audit { n, m } => Some(Work::Audit { n, m }),

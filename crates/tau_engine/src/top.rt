@@ -6,12 +6,14 @@ ghost use Rattle.tau_engine.specs.Top.{Says};
 
 use crate::audit::audit;
 use crate::bench::bench;
+use crate::checkpoint::checkpoint;
 use crate::drill::drill_source;
 use crate::fault::refuse;
 use crate::follow::follow;
 use crate::inspect::inspect;
 use crate::reading::read_source;
 use crate::recovery::recover;
+use crate::restore::restore;
 use crate::run::run;
 use crate::served::{DISKS, Work, read_served};
 use crate::status::Status;
@@ -46,6 +48,8 @@ pub fn taurus<R: Threads + Wait + Sync, S: Source, K: Sink + Send, D: Disk + Sen
         Ok(Work::Drill { n, m, p: _, ending }) => drill_source(
             rt, alloc, n, m, ending, source, sink, gate,
         ),
+        Ok(Work::Checkpoint { n, p }) => checkpoint(rt, alloc, n, p, sink, disks, gate),
+        Ok(Work::Restore { n, p }) => restore(rt, alloc, n, p, sink, disks, gate),
         Ok(Work::Inspect { n }) => inspect(alloc, usize::from(n), sink, disks),
         Ok(Work::Audit { n, m }) => audit(alloc, n, m, source, sink, disks),
         Ok(Work::Follow { n }) => follow(alloc, n, source, sink),

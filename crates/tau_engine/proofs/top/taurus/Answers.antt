@@ -6,11 +6,12 @@ use Rattle.tau_disk.specs.Disk.{Rose}
 use Rattle.tau_disk.specs.contracts.memory.MemDiskDisk.TheImpl.{ghosts}
 use Rattle.tau_text.specs.declared.load.Workload.{Workload}
 use Rattle.tau_words.specs.declared.command.Command.{Command}
-use Rattle.tau_words.specs.declared.command.Command.TheVariants.{Run, Recover, Drill, Bench, Follow, Inspect, Audit}
+use Rattle.tau_words.specs.declared.command.Command.TheVariants.{Run, Recover, Drill, Bench, Checkpoint, Restore, Follow, Inspect, Audit}
 use Rattle.tau_engine.specs.declared.status.Status.{Status}
 use Rattle.tau_engine.specs.declared.status.Status.TheVariants as status
 use Rattle.tau_engine.specs.declared.served.Work.{Work}
 use Rattle.tau_engine.specs.declared.served.Work.TheVariants as work
+use Rattle.tau_engine.specs.Checkpoints.{HasEnded, HasReadAll, OfCheckpoint, OfRestore}
 use Rattle.tau_engine.specs.Commands.{OfRecover}
 use Rattle.tau_engine.specs.Inspecting.{OfInspect}
 use Rattle.tau_engine.specs.Outside.{Input, Output}
@@ -20,6 +21,7 @@ use Rattle.tau_engine.specs.Top.{Says}
 use Rattle.tau_engine.proofs.Opened.{few_workers}
 use Rattle.tau_engine.proofs.Recoveries.{handed_back}
 use Rattle.tau_engine.proofs.Said as said
+use Rattle.tau_engine.proofs.SaidSlots.{says_slots}
 use Rattle.tau_engine.proofs.top.taurus.Given.{Over}
 use Rattle.tau_engine.proofs.top.taurus.Goals as goal
 
@@ -230,3 +232,53 @@ returns-in-Ok-Bench-clause-says g c =
     subst (λ (x : Option Command). Says g.D.Disk ghosts (from g c.args.source.now c.args.source.now) (to g c.args.sink.now c.bench.new.sink) c.args.disks.now.items c.args.disks.now.items x c.bench.result) (sym is)
     (said.says_bench g.D.Disk ghosts (from g c.args.source.now c.args.source.now) (to g c.args.sink.now c.bench.new.sink) c.args.disks.now.items c.in-Ok-Bench.start c.in-Ok-Bench.calls c.in-Ok-Bench.n c.in-Ok-Bench.m c.bench.result refl
     c.bench.ensures.kind c.bench.ensures.write_fault c.bench.ensures.told)
+
+-- ---- a checkpoint
+
+pub checkpoint-requires-clause-low : goal.checkpoint-requires-clause-low
+checkpoint-requires-clause-low g c κs within = (subst (λ (w : Work). IsWithin (command_in w)) c.in-Ok-Checkpoint.field-0-is c.in-Ok-Checkpoint.ensures.within).0.0
+
+pub checkpoint-requires-clause-high : goal.checkpoint-requires-clause-high
+checkpoint-requires-clause-high g c κs within = (subst (λ (w : Work). IsWithin (command_in w)) c.in-Ok-Checkpoint.field-0-is c.in-Ok-Checkpoint.ensures.within).0.1
+
+pub checkpoint-requires-clause-workers : goal.checkpoint-requires-clause-workers
+checkpoint-requires-clause-workers g c κs within = (let bounds = subst (λ (w : Work). IsWithin (command_in w)) c.in-Ok-Checkpoint.field-0-is c.in-Ok-Checkpoint.ensures.within in (bounds.1, bounds.2))
+
+pub returns-in-Ok-Checkpoint-clause-says : goal.returns-in-Ok-Checkpoint-clause-says
+returns-in-Ok-Checkpoint-clause-says g c =
+    let is = asked (served (map string_bytes c.args.words.now)) c.in-Ok-Checkpoint.field-0 (work.Checkpoint c.in-Ok-Checkpoint.n c.in-Ok-Checkpoint.p) c.in-Ok-Checkpoint.ensures.ok c.in-Ok-Checkpoint.field-0-is in
+    let long : length c.checkpoint.new.disks ≡ c.args.disks.now.len = search rules in
+    let back = handed_back c.checkpoint.new.disks c.args.disks.now.items c.args.disks.now.len long in
+    let now = take c.args.disks.now.len (c.checkpoint.new.disks ++ drop (length c.checkpoint.new.disks) c.args.disks.now.items) in
+    let s = from g c.args.source.now c.args.source.now in
+    let o = to g c.args.sink.now c.checkpoint.new.sink in
+    let command = Some (Checkpoint c.in-Ok-Checkpoint.n c.in-Ok-Checkpoint.p) in
+    subst (λ (x : Option Command). Says g.D.Disk ghosts s o c.args.disks.now.items now x c.checkpoint.result) (sym is)
+    (subst (λ (ds : List g.row.D.Denot). Says g.D.Disk ghosts s o ds now command c.checkpoint.result) c.deref_mut-in-Ok-Checkpoint.ensures.value
+    (subst (λ (ds : List g.row.D.Denot). Says g.D.Disk ghosts s o c.deref_mut-in-Ok-Checkpoint.result.now ds command c.checkpoint.result) (sym back)
+    (says_slots g.D.Disk ghosts s o c.deref_mut-in-Ok-Checkpoint.result.now c.checkpoint.new.disks command c.checkpoint.result c.in-Ok-Checkpoint.n refl refl refl refl refl c.checkpoint.ensures.ended (λ e. absurd (cc e)) c.checkpoint.ensures.of)))
+
+-- ---- a recovery with a checkpoint
+
+pub restore-requires-clause-low : goal.restore-requires-clause-low
+restore-requires-clause-low g c κs within = (subst (λ (w : Work). IsWithin (command_in w)) c.in-Ok-Restore.field-0-is c.in-Ok-Restore.ensures.within).0.0
+
+pub restore-requires-clause-high : goal.restore-requires-clause-high
+restore-requires-clause-high g c κs within = (subst (λ (w : Work). IsWithin (command_in w)) c.in-Ok-Restore.field-0-is c.in-Ok-Restore.ensures.within).0.1
+
+pub restore-requires-clause-workers : goal.restore-requires-clause-workers
+restore-requires-clause-workers g c κs within = (let bounds = subst (λ (w : Work). IsWithin (command_in w)) c.in-Ok-Restore.field-0-is c.in-Ok-Restore.ensures.within in (bounds.1, bounds.2))
+
+pub returns-in-Ok-Restore-clause-says : goal.returns-in-Ok-Restore-clause-says
+returns-in-Ok-Restore-clause-says g c =
+    let is = asked (served (map string_bytes c.args.words.now)) c.in-Ok-Restore.field-0 (work.Restore c.in-Ok-Restore.n c.in-Ok-Restore.p) c.in-Ok-Restore.ensures.ok c.in-Ok-Restore.field-0-is in
+    let long : length c.restore.new.disks ≡ c.args.disks.now.len = search rules in
+    let back = handed_back c.restore.new.disks c.args.disks.now.items c.args.disks.now.len long in
+    let now = take c.args.disks.now.len (c.restore.new.disks ++ drop (length c.restore.new.disks) c.args.disks.now.items) in
+    let s = from g c.args.source.now c.args.source.now in
+    let o = to g c.args.sink.now c.restore.new.sink in
+    let command = Some (Restore c.in-Ok-Restore.n c.in-Ok-Restore.p) in
+    subst (λ (x : Option Command). Says g.D.Disk ghosts s o c.args.disks.now.items now x c.restore.result) (sym is)
+    (subst (λ (ds : List g.row.D.Denot). Says g.D.Disk ghosts s o ds now command c.restore.result) c.deref_mut-in-Ok-Restore.ensures.value
+    (subst (λ (ds : List g.row.D.Denot). Says g.D.Disk ghosts s o c.deref_mut-in-Ok-Restore.result.now ds command c.restore.result) (sym back)
+    (says_slots g.D.Disk ghosts s o c.deref_mut-in-Ok-Restore.result.now c.restore.new.disks command c.restore.result c.in-Ok-Restore.n refl refl refl refl refl c.restore.ensures.ended (λ e. c.restore.ensures.read) c.restore.ensures.of)))
