@@ -115,6 +115,7 @@ fn has_rows(
 ) -> Result<(), Fail> {
     let tables = store.tables(alloc)?;
     assert!(rt; tables.rows() == rows);
+    assert!(rt; tables.into_rows().as_slice() == rows);
     Ok(())
 }
 

@@ -30,7 +30,7 @@ use tau_ckpt::redo_after;
 use tau_disk::{Disk, Gate, Sink, write_all};
 use tau_model::Tables;
 use tau_replay::replay_threads;
-use tau_report::{put_number, recover_text};
+use tau_report::{put_number, put_recovery};
 use tau_scan::{Log, LogCause, LogFault, ReplayRefusal, ScanRefusal, scan};
 
 /// The log of the first disks, in the format that they state.
@@ -114,12 +114,11 @@ fn restore_text(alloc: Global, found: &Found, tables: &Tables) -> Result<Vec<u8>
     ensures { IfOk result (λ text. text.items ≡ base_line (chosen found.now.log found.now.slots) ++ recover_text found.now.log tables.now) }
 {
     let number = base_number(found);
-    let rest = recover_text(alloc, &found.log, tables)?;
     let mut text = Vec::new(alloc);
     text.extend_from_slice(b"base ")?;
     put_number(&mut text, number)?;
     text.push(b'\n')?;
-    text.extend_from_slice(&rest)?;
+    put_recovery(alloc, &mut text, &found.log, tables)?;
     Ok(text)
 }
 

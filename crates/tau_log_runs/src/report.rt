@@ -6,7 +6,7 @@ use tau_base::{Key, Listed, Lv, MAX_LSN, MAX_STREAMS, Text64, Value};
 use tau_model::Tables;
 use tau_proc::Reply;
 use tau_record::{Entry, KeptLv, KeptWrites, Placed};
-use tau_report::{Acks, KeptFate, RunReport, ack_line, recover_text, report_text, table_text};
+use tau_report::{Acks, KeptFate, RunReport, ack_line, put_recovery, recover_text, report_text, table_text};
 use tau_scan::Log;
 use tau_text::{Declarations, parse_declarations};
 
@@ -312,8 +312,16 @@ fn recovers(
     rows: &[TableRow],
     wanted: &[u8],
 ) -> Result<(), Fail> {
-    let text = recover_text(alloc, log, &tables_of(alloc, rows)?)?;
+    let tables = tables_of(alloc, rows)?;
+    let text = recover_text(alloc, log, &tables)?;
     is_text(rt, text.as_slice(), wanted);
+    let mut told = Vec::new(alloc);
+    told.extend_from_slice(b"base 1\n")?;
+    put_recovery(alloc, &mut told, log, &tables)?;
+    let mut both = Vec::new(alloc);
+    both.extend_from_slice(b"base 1\n")?;
+    both.extend_from_slice(wanted)?;
+    is_text(rt, told.as_slice(), both.as_slice());
     Ok(())
 }
 

@@ -34,4 +34,12 @@ impl Tables {
     {
         self.rows.as_slice()
     }
+
+    /// The list of the rows, given back.
+    pub fn into_rows(self) -> Vec<(Key, Value)>
+        ensures { result.items ≡ self }
+    {
+        let Tables { rows } = self;
+        rows
+    }
 }

@@ -107,7 +107,7 @@ fn put_streams(
     Ok(())
 }
 
-fn put_recovery(
+fn put_judged(
     out: &mut Vec<u8>,
     judge: &Judge,
     log: &Log,
@@ -122,13 +122,26 @@ fn put_recovery(
     put_end(out, None)
 }
 
-/// What recovery tells of a log: its end-of-log vector, the taken records by stream and place, and the rows that redoing
-/// them gives.
+/// Adds to a text what recovery tells of a log: its end-of-log vector, the taken records by stream and place, and the rows
+/// that redoing them gives.
+pub fn put_recovery(
+    alloc: Global,
+    out: &mut Vec<u8>,
+    log: &Log,
+    tables: &Tables,
+) -> Result<(), NoMemory>
+    ensures { OnOk result (out.new.items ≡ out.old.items ++ recover_text log.now tables.now) }
+{
+    let judge = Judge::of(alloc, log)?;
+    put_judged(out, &judge, log, tables)?;
+    Ok(())
+}
+
+/// The text of a recovery alone.
 pub fn recover_text(alloc: Global, log: &Log, tables: &Tables) -> Result<Vec<u8>, NoMemory>
     ensures { IfOk result (λ text. text.items ≡ recover_text log.now tables.now) }
 {
-    let judge = Judge::of(alloc, log)?;
     let mut text = Vec::new(alloc);
-    put_recovery(&mut text, &judge, log, tables)?;
+    put_recovery(alloc, &mut text, log, tables)?;
     Ok(text)
 }
