@@ -8,12 +8,14 @@ use Rattle.tau_base.specs.declared.value.Key.{Key}
 use Rattle.tau_base.specs.declared.value.Value.{Value}
 use Rattle.tau_base.specs.Database.{Db, empty_db}
 use Rattle.tau_model.specs.Tables.{IsTablesOf, db_of_rows}
+use Rattle.tau_model.proofs.Reorder.{reordered_filter}
 use Rattle.tau_scan.specs.declared.log.Log.{Log}
 use Rattle.tau_scan.specs.Sound.{IsOrderOver, IsSound, Redoes, redo_in}
 use Rattle.tau_scan.specs.Taken.{Kept, taken}
 use Rattle.tau_epoch_laws.specs.Continues.{news}
 use Rattle.tau_epoch_laws.specs.Laws.{starts_in}
 use Rattle.tau_epoch_laws.proofs.Listed.{news_listed}
+use Rattle.tau_epoch_laws.proofs.Splits.{orderly_filter}
 use Rattle.tau_epoch_laws.proofs.Stays.{redone_after}
 use Rattle.tau_replay.specs.Redone.{IsRedone, IsRedoneOn, kept_after, taken_after}
 use Rattle.tau_replay.proofs.Ones.{tables_one}
@@ -58,14 +60,16 @@ module _ (f : Format) (contents : List (List ℕ)) (log : Log) (base : Db) (soun
   by_choice None all rows r = recovered_rows rows r
   by_choice (Some c) all rows r = restored_rows c (all c refl) rows r
 
-  order_by_choice : (o : Option Checkpoint) → ((c : Checkpoint) → o ≡ Some c → IsTrue f contents c) → (order : List Kept) × IsOrderOver (left_to_redo log o) order
-  order_by_choice None all = sound.redone.ordered
-  order_by_choice (Some c) all = (redoes_after c (all c refl)).ordered
-
 pub restored_is_recovered : RestoredIsRecovered
 restored_is_recovered f contents log base sound slots all rows r =
     let mine = by_choice f contents log base sound (chosen log slots) all rows r in
     (mine, λ other h. tables_one base rows other mine (recovered_rows f contents log base sound other h))
 
+order_by_choice : (log : Log) (order : List Kept) → IsOrderOver (taken log) order → (o : Option Checkpoint) → (some : List Kept) × IsOrderOver (left_to_redo log o) some
+order_by_choice log order g None = (order, g)
+order_by_choice log order g (Some c) =
+    (filter (kept_after c.lv) order,
+    record { each_once = reordered_filter (kept_after c.lv) (taken log) order g.each_once; orderly = orderly_filter (λ (r : Kept). r.place) (kept_after c.lv) order g.orderly })
+
 pub not_tangled : NotTangled
-not_tangled f contents log base sound slots all = order_by_choice f contents log base sound (chosen log slots) all
+not_tangled log order g slots = order_by_choice log order g (chosen log slots)

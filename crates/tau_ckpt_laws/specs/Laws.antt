@@ -7,7 +7,7 @@ use Rattle.tau_base.specs.Database.{Db}
 use Rattle.tau_model.specs.Tables.{IsTablesOf, db_of_rows}
 use Rattle.tau_scan.specs.declared.log.Log.{Log}
 use Rattle.tau_scan.specs.Sound.{IsOrderOver, IsSound}
-use Rattle.tau_scan.specs.Taken.{Kept}
+use Rattle.tau_scan.specs.Taken.{Kept, taken}
 use Rattle.tau_replay.specs.Redone.{IsRedone, IsRedoneOn, taken_after}
 use Rattle.tau_ckpt.specs.declared.checkpoint.Checkpoint.{Checkpoint}
 use Rattle.tau_ckpt.specs.declared.slots.Slots.{Slots}
@@ -36,10 +36,10 @@ abbrev pub RestoredIsRecovered : Type 0
 RestoredIsRecovered = (f : Format) (contents : List (List ℕ)) (log : Log) (base : Db) → IsSound f contents log base → (slots : Slots) → IsTrueIfTaken f contents log slots →
     (rows : List (Key × Value)) → IsRestored log (chosen log slots) rows → IsTablesOf base rows × ((other : List (Key × Value)) → IsRedone log other → rows ≡ other)
 
--- and what it redoes has an orderly order, so that no record of it is tangled
+-- If what a log takes has an orderly order, what `restore` redoes of it has one, whatever the slots hold: then no record is
+-- tangled.
 abbrev pub NotTangled : Type 0
-NotTangled = (f : Format) (contents : List (List ℕ)) (log : Log) (base : Db) → IsSound f contents log base → (slots : Slots) → IsTrueIfTaken f contents log slots →
-    (order : List Kept) × IsOrderOver (left_to_redo log (chosen log slots)) order
+NotTangled = (log : Log) (order : List Kept) → IsOrderOver (taken log) order → (slots : Slots) → (some : List Kept) × IsOrderOver (left_to_redo log (chosen log slots)) some
 
 -- a checkpoint that is made of sound contents, with the rows of their recovery, is true for them
 abbrev pub MadeIsTrue : Type 0

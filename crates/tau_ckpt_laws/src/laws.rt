@@ -1,8 +1,9 @@
 //! What holds of every checkpoint, as functions that do nothing.
 ghost use Rattle.tau_ckpt_laws.specs.Laws.{LivesKeepTrue, MadeIsTrue, NotTangled, RestoredIsRecovered, RestoredLater, TakenIsTrue, TrueFits, WritesKeepTrue};
 
-/// What `restore` redoes of sound contents has an orderly order, and gives the rows that recovery gives, if the checkpoint
-/// that it takes is true for them, or it takes none. It is true if all that the slots hold is.
+/// What `restore` redoes of sound contents gives the rows that recovery gives, if the checkpoint that it takes is true for
+/// them, or it takes none. It is true if all that the slots hold is. Whatever they hold, what is redone of a log that can be
+/// redone is never tangled.
 pub fn restored_is_recovered()
     ensures rows { RestoredIsRecovered }
     ensures order { NotTangled }

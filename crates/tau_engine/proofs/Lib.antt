@@ -33,6 +33,7 @@ pub mod SlotReading
 pub mod Held
 pub mod Found
 pub mod Restored
+mod Restoring
 mod Oks
 pub mod Images
 pub mod OnOpened

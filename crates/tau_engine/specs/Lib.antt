@@ -24,3 +24,4 @@ pub mod Commands
 pub mod Reads
 pub mod Top
 pub mod Fed
+pub mod Restoring

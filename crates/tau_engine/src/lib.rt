@@ -24,7 +24,8 @@ mod status;
 mod top;
 
 pub use laws::{
-    follower_ends_as_recovery, one_following, one_spelling, one_text, runs_have_one_text,
+    follower_ends_as_recovery, one_following, one_spelling, one_text, restore_ends_as_recovery,
+    runs_have_one_text,
 };
 pub use served::DISKS;
 pub use status::Status;
