@@ -2,6 +2,14 @@
 #![tactic(auto)]
 
 #[cfg(test)]
+mod alike;
+#[cfg(test)]
+mod held;
+#[cfg(test)]
+mod lives;
+#[cfg(test)]
 mod rows;
+#[cfg(test)]
+mod saved;
 #[cfg(test)]
 mod stops;
