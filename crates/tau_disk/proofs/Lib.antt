@@ -1,4 +1,6 @@
 pub mod Tears
+mod Left
+mod LeftIn
 pub mod Images
 pub mod Replays
 mod Kept

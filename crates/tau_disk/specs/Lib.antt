@@ -1,4 +1,5 @@
 pub mod Disk
+pub mod Left
 pub mod Memory
 pub mod Passing
 pub mod Plan

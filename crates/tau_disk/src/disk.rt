@@ -1,6 +1,8 @@
 // What lies outside: a source, a sink and a disk.
 ghost use Rattle.std.specs.Prelude.{◌≡◌, ◌+◌, ◌<◌, ◌≤◌, ◌^◌, ◌++◌, Bool, List, ℕ, length, take, drop, IfOk, OnOk, OnErr};
 ghost use Rattle.tau_disk.specs.Disk.{Only, Follows, Torn, Holds, Elapses, HasCause, IsPlanned, Moved};
+ghost use Rattle.tau_disk.specs.Left.{LeavesAll, LeavesSync, LeavesWrite, MayLeaveEach};
+ghost use Rattle.tau_disk.specs.declared.call.Tear.{Tear};
 
 use thiserror::Error;
 
@@ -75,6 +77,15 @@ pub trait Disk {
     /// Whether a call that was not to fail was refused a growth, if it tells that.
     ghost short: { Self → Bool };
 
+    /// The images that a stop now leaves, by what it leaves of the writes since the last sync, if it tells that.
+    ghost image: { Self → Tear → List ℕ };
+
+    /// Whether a write that is the call with this number, and is to fail, counts as written and not synced, if it tells that.
+    ghost keeps: { Self → ℕ → Bool };
+
+    /// Whether a call that was to fail was refused a growth for what it leaves, if it tells that.
+    ghost cut: { Self → Bool };
+
     /// The length.
     fn len(&mut self) -> Result<u64, Failed>
         ensures length { IfOk result (λ n. tells → n ≡ length (seen self.old)) }
@@ -83,6 +94,7 @@ pub trait Disk {
         ensures keeps { (x : List ℕ) → may_leave self.old x → may_leave self.new x }
         ensures time { Elapses (moment self.old) (moment self.new) (may_leave_since self.old) (may_leave_since self.new) (may_leave self.new) }
         ensures plan { tells → IsPlanned (number self.old) (number self.new) (fails self.old) (fails self.new) (short self.old) (short self.new) result }
+        ensures left { tells → LeavesAll (image self.old) (image self.new) (keeps self.old) (keeps self.new) }
         ensures cause { HasCause (faults self.old) (faults self.new) result };
 
     /// Fills the buffer with the bytes from `at` on.
@@ -94,6 +106,7 @@ pub trait Disk {
         ensures keeps { (x : List ℕ) → may_leave self.old x → may_leave self.new x }
         ensures time { Elapses (moment self.old) (moment self.new) (may_leave_since self.old) (may_leave_since self.new) (may_leave self.new) }
         ensures plan { tells → IsPlanned (number self.old) (number self.new) (fails self.old) (fails self.new) (short self.old) (short self.new) result }
+        ensures left { tells → LeavesAll (image self.old) (image self.new) (keeps self.old) (keeps self.new) }
         ensures cause { HasCause (faults self.old) (faults self.new) result };
 
     /// Writes over what is there, and past the end. Until a sync succeeds, a stop may leave any bytes in
@@ -106,6 +119,7 @@ pub trait Disk {
         ensures keeps { (x : List ℕ) → may_leave self.old x → may_leave self.new x }
         ensures time { Elapses (moment self.old) (moment self.new) (may_leave_since self.old) (may_leave_since self.new) (may_leave self.new) }
         ensures plan { tells → IsPlanned (number self.old) (number self.new) (fails self.old) (fails self.new) (short self.old) (short self.new) result }
+        ensures left { tells → LeavesWrite at bytes.now (number self.new) (short self.new) (cut self.new) (image self.old) (image self.new) (keeps self.old) (keeps self.new) result }
         ensures cause { HasCause (faults self.old) (faults self.new) result };
 
     /// After it, a stop leaves what a read gives. After a failure nothing more is known than before.
@@ -116,10 +130,14 @@ pub trait Disk {
         ensures keeps { OnErr result ((x : List ℕ) → may_leave self.old x → may_leave self.new x) }
         ensures time { Elapses (moment self.old) (moment self.new) (may_leave_since self.old) (may_leave_since self.new) (may_leave self.new) }
         ensures plan { tells → IsPlanned (number self.old) (number self.new) (fails self.old) (fails self.new) (short self.old) (short self.new) result }
+        ensures left { tells → LeavesSync (seen self.old) (image self.old) (image self.new) (keeps self.old) (keeps self.new) result }
         ensures cause { HasCause (faults self.old) (faults self.new) result };
 
     /// What a read gives is an image that a stop may leave.
     ghost seen_now: { (d : Self) → tells → may_leave d (seen d) };
+
+    /// Each of these kinds is an image that a stop may leave.
+    ghost leaves_each: { MayLeaveEach tells may_leave image };
 
     /// This moment is one of those since an earlier one.
     ghost counts_now: { (d : Self) (t : ℕ) (x : List ℕ) → t ≤ moment d → may_leave d x → may_leave_since d t x };

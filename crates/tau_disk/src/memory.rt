@@ -138,6 +138,8 @@ impl MemDisk {
 
 impl Disk for MemDisk {
     ghost use Rattle.tau_disk.specs.Memory.{seen_by, state_of, count_of, fails_at, StaysAs, WritesTo, SyncsTo};
+    ghost use Rattle.tau_disk.specs.Tear.{image_by, leaves_kind};
+    ghost use Rattle.tau_disk.specs.Left.{may_leave_each};
 
     ghost tells = { Unit {0} };
 
@@ -157,7 +159,15 @@ impl Disk for MemDisk {
 
     ghost short = { λ d. d.is_short };
 
+    ghost image = { λ d. image_by (replayed (opened d.first.items) d.calls.items) };
+
+    ghost keeps = { λ d k. d.keeps_last && is_stop d.stops_at k };
+
+    ghost cut = { λ d. d.is_cut };
+
     ghost seen_now = { λ d _. d.sound };
+
+    ghost leaves_each = { may_leave_each (Unit {0}) (λ d. leaves (replayed (opened d.first.items) d.calls.items)) (λ d. image_by (replayed (opened d.first.items) d.calls.items)) (λ d kind _. leaves_kind (replayed (opened d.first.items) d.calls.items) d.seen.items d.reads d.sound d.torn_sound kind) };
 
     ghost counts_now = { λ d t x le now. since_now (opened d.first.items) d.calls.items t x le now };
 

@@ -1,6 +1,7 @@
 // A file of the system as a disk.
 ghost use Rattle.std.specs.Prelude.{◌≡◌, ◌≤◌, [], false};
 ghost use Rattle.tau_disk.specs.Disk.{Rose};
+ghost use Rattle.tau_disk.specs.Left.{may_leave_each};
 
 use crate::locks::{FileLocks, Unlocked};
 use std::alloc::{AllocError, Global};
@@ -229,7 +230,15 @@ impl<R: Files + Drop, L: FileLocks<R::File> + Drop> Disk for HostFile<R, L> {
 
     ghost short = { λ _. false };
 
+    ghost image = { λ _ _. [] };
+
+    ghost keeps = { λ _ _. false };
+
+    ghost cut = { λ _. false };
+
     ghost seen_now = { λ _ _. tt };
+
+    ghost leaves_each = { may_leave_each ⊥ (λ _ _. Unit {0}) (λ _ _. []) (λ _ _ _. tt) };
 
     ghost counts_now = { λ _ _ _ _ _. tt };
 

@@ -8,6 +8,7 @@ ghost use Rattle.tau_base.specs.Modes.{format_of, most_streams};
 ghost use Rattle.tau_text.specs.Canonical.{declarations_text};
 ghost use Rattle.tau_text.specs.Kept.{AreCalls};
 ghost use Rattle.tau_core.specs.Opens.{OpenedFresh, catalogue_size};
+ghost use Rattle.tau_disk.specs.Left.{may_leave_each};
 ghost use Rattle.tau_open.specs.Outside.{calls_to_make};
 ghost use Rattle.tau_run.specs.Start.{catalogue_of};
 ghost use Rattle.tau_run.specs.Run.{below};
@@ -49,7 +50,15 @@ impl Disk for NoDisk {
 
     ghost short = { λ _. false };
 
+    ghost image = { λ _ _. [] };
+
+    ghost keeps = { λ _ _. false };
+
+    ghost cut = { λ _. false };
+
     ghost seen_now = { λ _ tells. tells };
+
+    ghost leaves_each = { may_leave_each ⊥ (λ _ _. ⊥) (λ _ _. []) (λ _ _ tells. tells) };
 
     ghost counts_now = { λ _ _ _ _ now. now };
 

@@ -1,5 +1,6 @@
 ghost use Rattle.std.specs.Prelude.{◌≡◌, [], false};
 ghost use Rattle.tau_disk.specs.Disk.{HasCause};
+ghost use Rattle.tau_disk.specs.Left.{may_leave_each};
 ghost use Rattle.tau_disk.specs.Memory.{seen_by};
 
 use std::alloc::Global;
@@ -165,7 +166,15 @@ impl<'a> Disk for Recorder<'a> {
 
     ghost short = { λ _. false };
 
+    ghost image = { λ _ _. [] };
+
+    ghost keeps = { λ _ _. false };
+
+    ghost cut = { λ _. false };
+
     ghost seen_now = { λ _ tells. tells };
+
+    ghost leaves_each = { may_leave_each ⊥ (λ _ _. ⊥) (λ _ _. []) (λ _ _ tells. tells) };
 
     ghost counts_now = { λ _ _ _ _ now. now };
 
