@@ -5,6 +5,7 @@ use Rattle.std.proofs.lemmas.List.{take_at, drop_at, drop_all, take_more, take-t
 use Rattle.std.proofs.lemmas.Bool.{cases_eq}
 use Rattle.tau_base.specs.declared.format.Format.{Format}
 use Rattle.tau_disk.specs.Disk.{Torn, Holds, Only}
+use Rattle.tau_disk.specs.Replay.{over}
 use Rattle.tau_block.specs.Image.{content_of, HasContent, block_of, tail_of, IsBody, IsLog}
 use Rattle.tau_block.proofs.Blocks.{front_block, log_of_front, short_content}
 use Rattle.tau_stream.specs.Stream.{IsSettled, IsOldOrNew}
@@ -47,7 +48,7 @@ module _ (f : Format) (n j : ℕ) (file : List ℕ) (gate_at : ℕ) (content : L
     grown = front ++ block_of body
 
     -- with a gate of any value before the block
-    abbrev gated : ℕ → List ℕ
+    abbrev pub gated : ℕ → List ℕ
     gated gate = front ++ gate ∷ (tail_of body ++ behind)
 
     pub staged : (mid : List ℕ) → Holds file (gate_at + 1) (tail_of body) mid → mid ≡ gated (get_or file gate_at 0)
@@ -85,6 +86,19 @@ module _ (f : Format) (n j : ℕ) (file : List ℕ) (gate_at : ℕ) (content : L
         ∙ ap (λ (l : List ℕ). (front ++ 1 ∷ []) ++ l) (ap (drop (gate_at + 1)) (sym (append_assoc front (gate ∷ []) (tail_of body ++ behind))) ∙ drop_at (front ++ gate ∷ []) (tail_of body ++ behind) (gate_at + 1) (omega (arith, length_front, length-append front (gate ∷ []))))
         ∙ append_assoc front (1 ∷ []) (tail_of body ++ behind)
         ∙ opens
+
+    -- the gate byte written over
+    pub regated : (gate byte : ℕ) → over gate_at (byte ∷ []) (gated gate) ≡ gated byte
+    regated gate byte =
+        ap (λ (l : List ℕ). l ++ (byte ∷ []) ++ drop (gate_at + 1) (gated gate)) (take_at front (gate ∷ (tail_of body ++ behind)) gate_at length_front)
+        ∙ ap (λ (l : List ℕ). (front ++ byte ∷ []) ++ l) (ap (drop (gate_at + 1)) (sym (append_assoc front (gate ∷ []) (tail_of body ++ behind))) ∙ drop_at (front ++ gate ∷ []) (tail_of body ++ behind) (gate_at + 1) (omega (arith, length_front, length-append front (gate ∷ []))))
+        ∙ append_assoc front (byte ∷ []) (tail_of body ++ behind)
+
+    pub shut_has : (byte : ℕ) → (byte ≡ 1 → ⊥) → HasContent f n j content (gated byte)
+    shut_has byte shut = s.front.closed byte (tail_of body ++ behind) shut
+
+    pub open_has : HasContent f n j (content ++ body) (gated 1)
+    open_has = ap (content_of f n j) opens ∙ (front_block f n j front content body s.front some.some (omega (arith, some.most))).closed 0 behind (omega arith)
 
     pub settles : (new : List ℕ) (leaves : List ℕ → Type 0) → new ≡ grown ++ 0 ∷ behind → Only new leaves → IsSettled f n j new leaves (gate_at + length (tail_of body)) (content ++ body)
     settles new leaves is only = record {

@@ -5,11 +5,12 @@ use Rattle.tau_base.specs.declared.limits.TheConstants.{MAX_BODY}
 use Rattle.tau_block.specs.Image.{tail_of}
 use Rattle.tau_disk.specs.declared.disk.Disk.{Ghosts}
 use Rattle.tau_disk.specs.Disk.{Passes, Rose}
+use Rattle.tau_disk.specs.Left.{SameLast}
 use Rattle.tau_disk.specs.Plan.{HasMade}
 use Rattle.tau_stream.specs.declared.flush.Flush.{Flush}
 use Rattle.tau_stream.specs.declared.flush.Flush.TheVariants.{NoMemory, Failed, Idle}
 use Rattle.tau_stream.specs.declared.writer.Writer.{Writer}
-use Rattle.tau_stream.specs.Stream.{IsOldOrNew, IsSettled, MayHold}
+use Rattle.tau_stream.specs.Stream.{IsCutShort, IsOldOrNew, IsSettled, MayHold, is_through}
 
 module _ {D : Type 0} {G : Ghosts D} where
   abbrev pub disk_of : Writer D G → D
@@ -70,6 +71,12 @@ module _ {D : Type 0} {G : Ghosts D} where
     pub left : left_of new ≡ left_of old
     pub reached : G.tells → (f : Format) (n j : ℕ) (content : List ℕ) → IsReady f n j old content → MayHold f n j content (G.may_leave (disk_of new))
 
+  -- The disk failed in a flush up to there: the images have the old content, but the one with all that was written has the new one if
+  -- the flush was through.
+  unfoldable pub FlushStops : ℕ → Writer D G → Writer D G → Type 0
+  FlushStops upto old new = G.short (disk_of new) ≡ false → G.cut (disk_of new) ≡ false → (f : Format) (n j : ℕ) (content : List ℕ) → IsReady f n j old content →
+      IsCutShort f n j content (part_upto old upto) (is_through (G.number (disk_of new) - G.number (disk_of old)) (G.keeps (disk_of old) (G.number (disk_of new)))) (G.image (disk_of new))
+
   -- What is said of a flush up to there, however it ends. At each moment every image has the old content or the new one. It
   -- makes four calls of the disk, or is idle and makes none.
   pub record Flushes {T : Type 0} (upto : ℕ) (old new : Writer D G) (result : Result T Flush) : Type 0 where
@@ -82,3 +89,5 @@ module _ {D : Type 0} {G : Ghosts D} where
     pub memory : result ≡ Err NoMemory → ⊥
     pub added : added_of new ≡ added_of old
     pub faults : G.faults (disk_of old) ≤ G.faults (disk_of new)
+    pub stops : result ≡ Err Failed → G.tells → FlushStops upto old new
+    pub last : G.tells → SameLast (G.keeps (disk_of old)) (G.keeps (disk_of new))

@@ -3,8 +3,9 @@ ghost use Rattle.std.specs.Prelude.{◌≡◌, ◌+◌, ◌<◌, ◌≤◌, ◌^
 ghost use Rattle.tau_base.specs.declared.format.Format.{Format};
 ghost use Rattle.tau_block.specs.Image.{IsBody, tail_of};
 ghost use Rattle.tau_disk.specs.Disk.{Passes, HasCause};
+ghost use Rattle.tau_disk.specs.Left.{SameLast};
 ghost use Rattle.tau_disk.specs.Plan.{HasMade};
-ghost use Rattle.tau_stream.specs.Stream.{IsSettled, IsOldOrNew, MayHold};
+ghost use Rattle.tau_stream.specs.Stream.{IsSettled, IsOldOrNew, MayHold, PublishStops};
 
 use tau_block::open_gate;
 use tau_disk::{Disk, Failed, Gate, Place, Quiet, write_durably};
@@ -36,6 +37,9 @@ pub fn publish_gated<D: Disk, G: Gate>(
     // After a failure some image has the old content.
     ensures reached { OnErr result (D.tells → (f : Format) (n j : ℕ) (content : List ℕ) →
         IsSettled f n j (D.seen disk.old) (D.may_leave disk.old) gate_at content → MayHold f n j content (D.may_leave disk.new)) }
+    // After a failure the content is there in each kind of image, and in the one with all writes the block too if it was through.
+    ensures left { OnErr result (D.tells → PublishStops ⟦<D as Disk>⟧ gate_at block.now disk.old disk.new) }
+    ensures last { D.tells → SameLast (D.keeps disk.old) (D.keeps disk.new) }
     ensures plan { D.tells → HasMade 4 (D.number disk.old) (D.number disk.new) (D.fails disk.old) (D.fails disk.new) (D.short disk.old) (D.short disk.new) result }
     ensures cause { HasCause (D.faults disk.old) (D.faults disk.new) result }
 {
@@ -65,6 +69,9 @@ pub fn publish<D: Disk>(disk: &mut D, gate_at: u64, block: &[u8]) -> Result<(), 
     // After a failure some image has the old content.
     ensures reached { OnErr result (D.tells → (f : Format) (n j : ℕ) (content : List ℕ) →
         IsSettled f n j (D.seen disk.old) (D.may_leave disk.old) gate_at content → MayHold f n j content (D.may_leave disk.new)) }
+    // After a failure the content is there in each kind of image, and in the one with all writes the block too if it was through.
+    ensures left { OnErr result (D.tells → PublishStops ⟦<D as Disk>⟧ gate_at block.now disk.old disk.new) }
+    ensures last { D.tells → SameLast (D.keeps disk.old) (D.keeps disk.new) }
     ensures plan { D.tells → HasMade 4 (D.number disk.old) (D.number disk.new) (D.fails disk.old) (D.fails disk.new) (D.short disk.old) (D.short disk.new) result }
     ensures cause { HasCause (D.faults disk.old) (D.faults disk.new) result }
 {

@@ -6,8 +6,9 @@ ghost use Rattle.tau_base.specs.declared.limits.TheConstants.{MAX_CATALOGUE};
 ghost use Rattle.tau_base.specs.Modes.{most_streams};
 ghost use Rattle.tau_block.specs.Image.{IsBody, count_in, format_in, index_in, tail_of};
 ghost use Rattle.tau_disk.specs.Disk.{Passes, Rose, HasCause};
+ghost use Rattle.tau_disk.specs.Left.{SameLast};
 ghost use Rattle.tau_disk.specs.Plan.{HasMade, MadeAll, MadeSome};
-ghost use Rattle.tau_stream.specs.Stream.{IsHead, IsOldOrNew, IsRead, IsSettled, IsUnborn, calls_to_reopen, catalogue_record};
+ghost use Rattle.tau_stream.specs.Stream.{CreateStops, IsHead, IsOldOrNew, IsRead, IsSettled, IsUnborn, MakingStops, calls_to_reopen, catalogue_record};
 
 use crate::{Flush, publish, publish_gated};
 use std::alloc::Global;
@@ -69,6 +70,11 @@ impl<D: Disk> Writer<D> {
         ensures made_err { IfErr result (λ refusal. refusal.1 ≡ Flush.Failed → D.tells → MadeSome 6 (D.number disk) (D.number refusal.0) (D.fails disk) (D.short refusal.0)) }
         ensures plan { IfOk result (λ writer. D.tells → (k : ℕ) → D.fails (disk_of writer) k ≡ D.fails disk k) }
         ensures plan_err { IfErr result (λ refusal. D.tells → (k : ℕ) → D.fails refusal.0 k ≡ D.fails disk k) }
+
+        // What a stop then leaves, if the disk failed.
+        ensures last { IfOk result (λ writer. D.tells → SameLast (D.keeps disk) (D.keeps (disk_of writer))) }
+        ensures last_err { IfErr result (λ refusal. D.tells → SameLast (D.keeps disk) (D.keeps refusal.0)) }
+        ensures left_err { IfErr result (λ refusal. refusal.1 ≡ Flush.Failed → D.tells → CreateStops ⟦<D as Disk>⟧ n j catalogue.now disk refusal.0) }
 
         ensures failed { IfErr result (λ refusal. refusal.1 ≡ Flush.Failed → Rose (D.faults disk) (D.faults refusal.0)) }
         ensures memory { IfErr result (λ refusal. refusal.1 ≡ Flush.NoMemory → refusal.0 ≡ disk) }
@@ -301,6 +307,8 @@ fn begin<D: Disk>(disk: &mut D, head: &[u8], block: &[u8]) -> Result<(), Failed>
     ensures here { OnOk result (D.tells → 16 + length block.now < length (D.seen disk.new)) }
     ensures moments { D.tells → (first : List ℕ) → IsBody first → block.now ≡ tail_of first → IsUnborn (D.may_leave disk.old) →
         Passes D.moment D.may_leave_since disk.old disk.new (IsOldOrNew (format_in head.now) (count_in head.now) (index_in head.now) [] first) }
+    ensures left { OnErr result (D.tells → MakingStops ⟦<D as Disk>⟧ head.now block.now disk.old disk.new) }
+    ensures last { D.tells → SameLast (D.keeps disk.old) (D.keeps disk.new) }
     ensures plan { D.tells → HasMade 6 (D.number disk.old) (D.number disk.new) (D.fails disk.old) (D.fails disk.new) (D.short disk.old) (D.short disk.new) result }
     ensures cause { HasCause (D.faults disk.old) (D.faults disk.new) result }
 {

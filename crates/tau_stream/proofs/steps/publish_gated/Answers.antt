@@ -3,6 +3,7 @@ use Rattle.tau_disk.specs.Disk.{Torn, Holds}
 use Rattle.tau_disk.proofs.Images.{holds_torn}
 use Rattle.tau_disk.specs.Passing.{passes_weaker, passes_on}
 use Rattle.tau_stream.specs.Stream.{IsOldOrNew, IsSettled}
+use Rattle.tau_stream.proofs.Left.{durably_last, publish_first, publish_second}
 use Rattle.tau_stream.proofs.Tears.{torn_behind, content_now, staged, torn_gate, opened, settles, holds_long}
 use Rattle.tau_stream.proofs.steps.publish_gated.Goals as goal
 use Rattle.tau_base.proofs.Logic.{on_err}
@@ -53,3 +54,21 @@ returns-in_err-write_durably-2-clause-reached g c = on_err c.from_residual-in_er
     let mid = g.D.Disk.seen c.write_durably.new.disk in
     let torn = holds_torn (c.args.gate_at + 1) c.args.block.now file mid (omega (arith, s.log.within)) (c.in_ok-write_durably.ensures.written tells) in
     (mid, c.in_err-write_durably-2.ensures.keeps mid (g.met.D.Disk.seen_now c.write_durably.new.disk tells), torn_behind f n j file c.args.gate_at content s.log (length c.args.block.now) mid torn))
+
+pub returns-in_err-write_durably-clause-left : goal.returns-in_err-write_durably-clause-left
+returns-in_err-write_durably-clause-left g c = on_err c.from_residual.result (λ tells.
+    publish_first g.D.Disk g.met.D.Disk.leaves_each tells c.args.gate_at c.args.block.now c.args.disk.now c.write_durably.new.disk _ _ c.in_err-write_durably.field-0.0 (c.in_err-write_durably.ensures.left tells))
+
+pub returns-in_err-write_durably-clause-last : goal.returns-in_err-write_durably-clause-last
+returns-in_err-write_durably-clause-last g c = λ tells. durably_last _ _ _ _ _ _ _ _ _ _ _ _ (c.write_durably.ensures.left tells)
+
+pub returns-in_err-write_durably-2-clause-left : goal.returns-in_err-write_durably-2-clause-left
+returns-in_err-write_durably-2-clause-left g c = on_err c.from_residual-in_err-write_durably-2.result (λ tells.
+    publish_second g.D.Disk g.met.D.Disk.leaves_each tells c.args.gate_at c.args.block.now c.args.disk.now c.write_durably-2.new.disk _ _ _ _ c.in_ok-write_durably.field-0 c.in_err-write_durably-2.field-0.0 c.write_durably.new.disk c.open_gate.result c.open_gate.ensures
+    (c.in_ok-write_durably.ensures.written tells) (c.in_ok-write_durably.ensures.plan tells).ok.0 (c.in_ok-write_durably.ensures.left tells) (c.in_err-write_durably-2.ensures.left tells))
+
+pub returns-in_err-write_durably-2-clause-last : goal.returns-in_err-write_durably-2-clause-last
+returns-in_err-write_durably-2-clause-last g c = λ tells k. durably_last _ _ _ _ _ _ _ _ _ _ _ _ (c.write_durably-2.ensures.left tells) k ∙ durably_last _ _ _ _ _ _ _ _ _ _ _ _ (c.write_durably.ensures.left tells) k
+
+pub returns-clause-last : goal.returns-clause-last
+returns-clause-last g c = λ tells k. durably_last _ _ _ _ _ _ _ _ _ _ _ _ (c.write_durably-2.ensures.left tells) k ∙ durably_last _ _ _ _ _ _ _ _ _ _ _ _ (c.write_durably.ensures.left tells) k

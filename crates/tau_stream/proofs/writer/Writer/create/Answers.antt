@@ -4,6 +4,7 @@ use Rattle.tau_base.specs.declared.format.Format.TheVariants.{One}
 use Rattle.tau_disk.specs.Disk.{Passes}
 use Rattle.tau_stream.specs.Stream.{IsOldOrNew, IsSettled, catalogue_record}
 use Rattle.tau_stream.proofs.Heads.{is_head, of_stream}
+use Rattle.tau_stream.proofs.Left.{create_stops}
 use Rattle.tau_stream.proofs.Catalogues.{catalogue_is, length_block}
 use Rattle.tau_stream.proofs.writer.Writer.create.Goals as goal
 
@@ -48,3 +49,8 @@ returns-in_default-begin-clause-moments_err g c = λ tells unborn.
 
 pub begin-requires-clause-head : goal.begin-requires-clause-head
 begin-requires-clause-head g c = is_head One c.args.n c.args.j c.header.result c.requires.streams c.requires.stream c.header.ensures.bytes c.header.ensures.format c.header.ensures.names
+
+pub returns-in_default-begin-clause-left_err : goal.returns-in_default-begin-clause-left_err
+returns-in_default-begin-clause-left_err g c = λ failed tells.
+    let text = c.args.catalogue.now in
+    create_stops g.D.Disk c.args.n c.args.j text c.header.result c.deref.result.now c.args.disk c.begin.new.disk c.header.ensures.format c.header.ensures.names (catalogue_is text c.requires.text) (c.deref.ensures.value ∙ c.in-Ok.ensures.block) (c.in_default-begin.ensures.left tells)

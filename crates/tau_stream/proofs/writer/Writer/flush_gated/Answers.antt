@@ -1,7 +1,8 @@
-use Rattle.std.proofs.Common.{◌≡◌, ℕ, ◌+◌, ◌-◌, ◌<◌, ◌≤◌, ◌∙◌, ◌++◌, subst, length, ap, arith, rules, length-append, length-drop}
+use Rattle.std.proofs.Common.{◌≡◌, ℕ, ◌+◌, ◌-◌, ◌<◌, ◌≤◌, ◌∙◌, ◌++◌, subst, length, refl, ap, arith, rules, length-append, length-drop}
 use Rattle.tau_stream.specs.Stream.{IsSettled}
 use Rattle.tau_stream.specs.Writer.{part_upto}
 use Rattle.tau_stream.proofs.Tears.{content_now}
+use Rattle.tau_stream.proofs.Left.{flush_stops}
 use Rattle.tau_stream.proofs.Parts.{part_is, part_whole, length_part, length_tail}
 use Rattle.tau_stream.proofs.writer.Writer.flush_gated.Goals as goal
 
@@ -55,6 +56,8 @@ returns-in-Ok-clause-flushes g c =
       memory = search rules;
       added = search rules;
       faults = search rules;
+      stops = search rules;
+      last = λ tells. c.publish_gated.ensures.last tells;
     }
 
 pub returns-in-Err-clause-stays : goal.returns-in-Err-clause-stays
@@ -79,6 +82,8 @@ returns-in-Err-clause-flushes g c =
       memory = search rules;
       added = search rules;
       faults = search rules;
+      stops = λ failed tells. flush_stops w _ c.args.upto c.deref.result.now (part_is w c.args.upto reach some) (c.deref.ensures.value ∙ c.requires.prepared.block some) (c.in-Err.ensures.left tells);
+      last = λ tells. c.publish_gated.ensures.last tells;
     }
 
 pub returns-then-upto-self-clause-stays : goal.returns-then-upto-self-clause-stays
@@ -100,4 +105,6 @@ returns-then-upto-self-clause-flushes g c = record {
   memory = search rules;
   added = search rules;
   faults = search rules;
+  stops = search rules;
+  last = λ tells k. refl;
 }
