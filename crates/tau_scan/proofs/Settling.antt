@@ -8,7 +8,7 @@ use Rattle.tau_disk.specs.declared.disk.Disk.{Ghosts}
 use Rattle.tau_disk.specs.declared.disk.Failed.{Failed}
 use Rattle.tau_disk.specs.Disk.{Rose, Only, Elapses, HasCause, IsPlanned}
 use Rattle.tau_disk.specs.Stages.{Went, Broke, Staged}
-use Rattle.tau_disk.specs.Used.{AllCalls, IsStopped}
+use Rattle.tau_disk.specs.Used.{AllCalls, EachIn, IsStopped}
 use Rattle.tau_disk.proofs.Calls.{went_on, went_broke}
 use Rattle.tau_disk.proofs.Places.{get_set_same, get_set_other, get_dropped, was_here, each_weaker}
 use Rattle.tau_disk.proofs.Stages.{stage_fails}
@@ -16,7 +16,7 @@ use Rattle.tau_disk.proofs.Syncing.{only_none, only_of_read, only_on, only_of_sy
 use Rattle.tau_scan.specs.declared.fault.ReadRefusal.{ReadRefusal}
 use Rattle.tau_scan.specs.declared.fault.ReadRefusal.TheVariants.{Failed as FailedAt}
 use Rattle.tau_scan.proofs.Contents.{err_is}
-use Rattle.tau_scan.specs.Outside.{calls_to_read, calls_to_settle, IsRead, IsSynced, IsSettled, AreSynced, StopsSettling}
+use Rattle.tau_scan.specs.Outside.{calls_to_read, calls_to_settle, IsRead, IsSynced, IsSettled, AreSynced, StopsSettling, SyncedFirst}
 
 few_once : {T E : Type 0} (number number' : ℕ) (fails fails' : ℕ → Bool) (short short' : Bool) (r : Result T E) → IsPlanned number number' fails fails' short short' r → number' ≤ number + 1
 few_once number number' fails fails' short short' (Ok x) plan = let ok = plan.ok in omega (arith, ok.0)
@@ -39,6 +39,9 @@ module _ {D : Type 0} (G : Ghosts D) where
     went = record { counts = omega arith; same = λ t k. refl; made = λ t. (omega arith, refl, λ k low high. absurd (omega (arith, low, high))) };
   }
   alone_settled (suc n) d none = absurd (omega (arith, none))
+
+  pub alone_first : (d : D) → SyncedFirst G d d
+  alone_first d t more none = absurd (omega (arith, more))
 
   -- ---- a disk with a byte
 
@@ -69,6 +72,18 @@ module _ {D : Type 0} (G : Ghosts D) where
       few = λ t. (let few = few_calls t in let more = read.few t in omega (arith, few, more, settle_some n some));
       alone = λ none. absurd (some none);
     }
+
+  -- its sync failed, or it was read after its sync
+  pub failed_first : (d e : D) → Rose (G.faults d) (G.faults e) → SyncedFirst G d e
+  failed_first d e rose t more none = absurd (none rose)
+
+  pub read_first : (d e f : D) → (G.tells → Only (G.seen e) (G.may_leave e)) → IsRead G.tells G.seen G.may_leave G.moment G.may_leave_since G.faults G.number G.fails e f → SyncedFirst G d f
+  read_first d e f durable read t more none x m = durable t x (read.read.no_more x m) ∙ sym (read.read.same t)
+
+  -- it was settled
+  pub settled_first : (n : ℕ) (d e : D) → IsSynced G n d e → IsSettled G n d e → SyncedFirst G d e
+  settled_first zero d e synced settled t more none = absurd (let still : e ≡ d = synced.alone refl in let same = ap G.number still in omega (arith, more, same))
+  settled_first (suc n) d e synced settled t more none = settled.settled t (λ bad. absurd (omega (arith, bad)))
 
   -- its sync failed
   pub sync_broke : (n : ℕ) (d e : D) → (n ≡ 0 → ⊥) → Broke G 1 d e → Broke G (calls_to_settle n) d e
@@ -112,6 +127,9 @@ module _ {D : Type 0} (G : Ghosts D) where
     pub synced_all : (old new : List D) → Staged SettledAt (length lengths) old new → AreSynced G lengths old new
     synced_all old new staged = each_weaker (λ i. i < length lengths) (λ i. i < length lengths) SettledAt (λ i. IsSynced G (slice_index lengths i)) old new staged.each (λ i low. low) (λ i d e both. both.0)
 
+    pub first_all : (old new : List D) → Staged SettledAt (length lengths) old new → EachIn (λ i. i < length lengths) (λ i. SyncedFirst G) old new
+    first_all old new staged = each_weaker (λ i. i < length lengths) (λ i. i < length lengths) SettledAt (λ i. SyncedFirst G) old new staged.each (λ i low. low) (λ i d e both. settled_first (slice_index lengths i) d e both.0 both.1)
+
     module _ (old cur : List D) (j : ℕ) (d e : D) (staged : Staged SettledAt j old cur) (lt : j < length cur) (here : slice_get cur j ≡ Some d) where
       -- whatever was told of the disk of stream j
       pub synced_at : IsSynced G (slice_index lengths j) d e → AreSynced G lengths old (set cur j e)
@@ -123,6 +141,18 @@ module _ {D : Type 0} (G : Ghosts D) where
         | inr other ↦ ⊎_elim
             (λ under. let (f, at, both) = staged.each i b under was in (f, get_set_other cur j i e other ∙ at, both.0))
             (λ above. (b, get_set_other cur j i e other ∙ get_dropped cur old j i staged.rest above ∙ was, alone_synced (slice_index lengths i) b))
+            (below_or_not i j)
+      ]
+
+      pub first_at : SyncedFirst G d e → EachIn (λ i. i < length lengths) (λ i. SyncedFirst G) old (set cur j e)
+      first_at now i b low was = elim (cases_eq i j) [
+        | inl same ↦
+            let mine : slice_get old j ≡ Some b = subst (λ (k : ℕ). slice_get old k ≡ Some b) same was in
+            let is : d ≡ b = sym (was_here SettledAt old cur j d e staged.rest lt here b mine) in
+            (e, subst (λ (k : ℕ). slice_get (set cur j e) k ≡ Some e) (sym same) (get_set_same cur j e lt), subst (λ (z : D). SyncedFirst G z e) is now)
+        | inr other ↦ ⊎_elim
+            (λ under. let (f, at, both) = staged.each i b under was in (f, get_set_other cur j i e other ∙ at, settled_first (slice_index lengths i) b f both.0 both.1))
+            (λ above. (b, get_set_other cur j i e other ∙ get_dropped cur old j i staged.rest above ∙ was, alone_first b))
             (below_or_not i j)
       ]
 

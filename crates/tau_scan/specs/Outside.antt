@@ -1,7 +1,7 @@
 -- What a reading does to a disk.
 use Rattle.std.specs.Prelude.{ℕ, zero, suc, ◌+◌, ◌<◌, ◌≤◌, ◌≡◌, Bool, List, length, slice_index}
 use Rattle.tau_disk.specs.declared.disk.Disk.{Ghosts}
-use Rattle.tau_disk.specs.Disk.{Only}
+use Rattle.tau_disk.specs.Disk.{Only, Rose}
 use Rattle.tau_disk.specs.Stages.{Went, Broke, OnlySynced, Staged, StageFails}
 use Rattle.tau_disk.specs.Used.{EachIn, OnlyRead}
 
@@ -36,6 +36,10 @@ module _ {D : Type 0} (G : Ghosts D) where
     pub same : G.tells → G.seen e ≡ G.seen d
     pub settled : G.tells → (long ≡ 0 → ⊥) → Only (G.seen e) (G.may_leave e)
     pub went : Went G (calls_to_settle long) d e
+
+  -- The first call of the disk was a sync: once it had a call, and if none failed, a stop leaves nothing but what a read gives.
+  abbrev pub SyncedFirst : D → D → Type 0
+  SyncedFirst d e = G.tells → G.number d < G.number e → (Rose (G.faults d) (G.faults e) → ⊥) → Only (G.seen e) (G.may_leave e)
 
   -- each of the first disks, which had these lengths
   abbrev pub AreSynced : List ℕ → List D → List D → Type 0

@@ -1,10 +1,10 @@
 //! Reading disks.
-ghost use Rattle.std.specs.Prelude.{◌≡◌, ◌≤◌, ℕ, List, length, map, IfOk, OnOk, OnErr, Err};
+ghost use Rattle.std.specs.Prelude.{◌≡◌, ◌≤◌, ◌<◌, ℕ, List, length, map, IfOk, OnOk, OnErr, Err};
 ghost use Rattle.tau_base.specs.declared.limits.TheConstants.{MAX_STREAMS};
 ghost use Rattle.tau_disk.specs.Disk.{Rose};
 ghost use Rattle.tau_disk.specs.Stages.{AreLengths, Broke};
-ghost use Rattle.tau_disk.specs.Used.{Each, RoseAt, GoesOn, AllCalls, IsStopped, IsFirstStopped};
-ghost use Rattle.tau_scan.specs.Outside.{AreSettled, AreSynced, IsRead, IsSettled, IsSynced, StopsSettling, calls_to_read, calls_to_settle};
+ghost use Rattle.tau_disk.specs.Used.{Each, EachIn, RoseAt, GoesOn, AllCalls, IsStopped, IsFirstStopped};
+ghost use Rattle.tau_scan.specs.Outside.{AreSettled, AreSynced, IsRead, IsSettled, IsSynced, StopsSettling, SyncedFirst, calls_to_read, calls_to_settle};
 
 use crate::fault::ReadRefusal;
 use std::alloc::Global;
@@ -65,6 +65,7 @@ fn settle_image<D: Disk>(
     requires { D.tells → size ≡ length (D.seen disk.old) }
     ensures bytes { IfOk result (λ image. D.tells → image.items ≡ D.seen disk.old) }
     ensures synced { IsSynced ⟦<D as Disk>⟧ size disk.old disk.new }
+    ensures first { SyncedFirst ⟦<D as Disk>⟧ disk.old disk.new }
     ensures settled { OnOk result (IsSettled ⟦<D as Disk>⟧ size disk.old disk.new) }
     ensures failed { (j : ℕ) → result ≡ Err (ReadRefusal.Failed j) → (j ≡ stream) × Broke ⟦<D as Disk>⟧ (calls_to_settle size) disk.old disk.new }
 {
@@ -90,6 +91,7 @@ pub fn settle_images<D: Disk>(
     ensures many { IfOk result (λ images. length images ≡ length disks.old) }
     ensures bytes { IfOk result (λ images. D.tells → images ≡ map D.seen disks.old) }
     ensures synced { AreSynced ⟦<D as Disk>⟧ lengths.now disks.old disks.new }
+    ensures first { EachIn (λ j. j < length lengths.now) (λ j. SyncedFirst ⟦<D as Disk>⟧) disks.old disks.new }
     ensures settled { OnOk result (AreSettled ⟦<D as Disk>⟧ lengths.now disks.old disks.new) }
     ensures failed { (j : ℕ) → result ≡ Err (ReadRefusal.Failed j) → StopsSettling ⟦<D as Disk>⟧ lengths.now j disks.old disks.new }
 {

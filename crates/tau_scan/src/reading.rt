@@ -1,5 +1,5 @@
 //! Reading the log of all streams.
-ghost use Rattle.std.specs.Prelude.{◌≡◌, ◌≤◌, ℕ, List, length, Some, Ok, Err, IfOk, IfErr, OnOk};
+ghost use Rattle.std.specs.Prelude.{◌≡◌, ◌≤◌, ◌<◌, ℕ, List, length, Some, Ok, Err, IfOk, IfErr, OnOk};
 ghost use Rattle.std.specs.List.{All, AllZip};
 ghost use Rattle.tau_base.specs.declared.limits.TheConstants.{MAX_STREAMS};
 ghost use Rattle.tau_base.specs.Modes.{most_streams};
@@ -8,8 +8,8 @@ ghost use Rattle.tau_scan.specs.Reading.{catalogue_of, asked_format, contents_of
 ghost use Rattle.tau_scan.specs.Found.{Found, FoundAs, IsShort};
 ghost use Rattle.tau_scan.specs.Contents.{bytes_in, AreContents, IsLogOf, HasContents};
 ghost use Rattle.tau_disk.specs.Stages.{AreLengths};
-ghost use Rattle.tau_disk.specs.Used.{Each, RoseAt, AllCalls, IsFirstStopped};
-ghost use Rattle.tau_scan.specs.Outside.{AreSettled, AreSynced, IsRead, StopsSettling, calls_to_read};
+ghost use Rattle.tau_disk.specs.Used.{Each, EachIn, RoseAt, AllCalls, IsFirstStopped};
+ghost use Rattle.tau_scan.specs.Outside.{AreSettled, AreSynced, IsRead, StopsSettling, SyncedFirst, calls_to_read};
 
 use crate::catalogue::one_catalogue;
 use crate::content::{asked_format, contents_in, lengths_of};
@@ -243,6 +243,8 @@ pub fn scan_settled<D: Disk>(
     ensures contents { IfOk result (λ r. HasContents D.tells D.seen asked disks.old r.0 r.1.items) }
     // The disks were at most synced and read.
     ensures synced { AreSynced ⟦<D as Disk>⟧ lengths.now disks.old disks.new }
+    // A disk that had a call was synced first, also where memory ran out: then a stop leaves only what a read gives.
+    ensures first { EachIn (λ j. j < length lengths.now) (λ j. SyncedFirst ⟦<D as Disk>⟧) disks.old disks.new }
     // Before a log or a cause is told every disk with a byte was synced and read whole, and no call of any was to fail.
     ensures settled { OnOk result (AreSettled ⟦<D as Disk>⟧ lengths.now disks.old disks.new) }
     ensures settled_bad { (fault : LogFault) → result ≡ Err (ScanRefusal.Bad fault) → AreSettled ⟦<D as Disk>⟧ lengths.now disks.old disks.new }

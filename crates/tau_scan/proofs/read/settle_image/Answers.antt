@@ -1,7 +1,7 @@
 -- A sync and a reading, if the disk has a byte.
 use Rattle.std.proofs.Common.{sym, ◌∙◌}
 use Rattle.tau_base.proofs.Lists.{empty_of_length}
-use Rattle.tau_scan.proofs.Settling.{alone_synced, alone_settled, sync_alone, sync_read}
+use Rattle.tau_scan.proofs.Settling.{alone_synced, alone_settled, sync_alone, sync_read, alone_first, failed_first, read_first}
 use Rattle.tau_scan.proofs.read.settle_image.Goals as goal
 
 pub returns-then-size-eq0-clause-bytes : goal.returns-then-size-eq0-clause-bytes
@@ -21,3 +21,12 @@ pub returns-clause-synced : goal.returns-clause-synced
 returns-clause-synced g c =
     sync_read g.D.Disk g.met.D.Disk.counts_now c.args.size c.if-size-eq0.false c.args.disk.now c.sync.new.self c.sync.result c.sync.ensures.crash c.sync.ensures.time c.sync.ensures.seen c.sync.ensures.plan c.sync.ensures.cause
     c.read_image.new.disk c.read_image.ensures.only_read
+
+pub returns-then-size-eq0-clause-first : goal.returns-then-size-eq0-clause-first
+returns-then-size-eq0-clause-first g c = alone_first g.D.Disk c.args.disk.now
+
+pub returns-in_default-clause-first : goal.returns-in_default-clause-first
+returns-in_default-clause-first g c = failed_first g.D.Disk c.args.disk.now c.sync.new.self c.in_default.ensures.cause.failed
+
+pub returns-clause-first : goal.returns-clause-first
+returns-clause-first g c = read_first g.D.Disk c.args.disk.now c.sync.new.self c.read_image.new.disk c.in-Ok.ensures.durable c.read_image.ensures.only_read

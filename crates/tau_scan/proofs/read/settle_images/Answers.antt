@@ -7,7 +7,7 @@ use Rattle.tau_disk.proofs.Places.{get_dropped}
 use Rattle.tau_disk.proofs.Stages.{staged_more}
 use Rattle.tau_scan.specs.Outside.{StopsSettling}
 use Rattle.tau_scan.proofs.Disks.{taken_more}
-use Rattle.tau_scan.proofs.Settling.{SettledAt, synced_at, stops_at, failed_is}
+use Rattle.tau_scan.proofs.Settling.{SettledAt, synced_at, first_at, stops_at, failed_is}
 use Rattle.tau_scan.proofs.read.settle_images.Goals as goal
 
 pub settle_image-requires : goal.settle_image-requires
@@ -21,6 +21,12 @@ returns-in_err-image-clause-synced g c =
     let lt : c.loop-j.j < length c.loop-j.disks = omega (arith, c.loop-j-test.true, c.loop-j.invariant.settled.many, c.requires.many) in
     synced_at g.D.Disk c.args.lengths.now c.args.disks.now c.loop-j.disks c.loop-j.j (get_or c.loop-j.disks c.loop-j.j c.index-disks-j.result) c.settle_image.new.disk c.loop-j.invariant.settled lt
     (slice_get-get_or c.loop-j.disks c.loop-j.j c.index-disks-j.result lt) c.settle_image.ensures.synced
+
+pub returns-in_err-image-clause-first : goal.returns-in_err-image-clause-first
+returns-in_err-image-clause-first g c =
+    let lt : c.loop-j.j < length c.loop-j.disks = omega (arith, c.loop-j-test.true, c.loop-j.invariant.settled.many, c.requires.many) in
+    first_at g.D.Disk c.args.lengths.now c.args.disks.now c.loop-j.disks c.loop-j.j (get_or c.loop-j.disks c.loop-j.j c.index-disks-j.result) c.settle_image.new.disk c.loop-j.invariant.settled lt
+    (slice_get-get_or c.loop-j.disks c.loop-j.j c.index-disks-j.result lt) c.settle_image.ensures.first
 
 pub returns-in_err-image-clause-failed : goal.returns-in_err-image-clause-failed
 returns-in_err-image-clause-failed g c j e =
@@ -36,6 +42,12 @@ returns-in_err-push-clause-synced g c =
     let lt : c.loop-j.j < length c.loop-j.disks = omega (arith, c.loop-j-test.true, c.loop-j.invariant.settled.many, c.requires.many) in
     synced_at g.D.Disk c.args.lengths.now c.args.disks.now c.loop-j.disks c.loop-j.j (get_or c.loop-j.disks c.loop-j.j c.index-disks-j.result) c.settle_image.new.disk c.loop-j.invariant.settled lt
     (slice_get-get_or c.loop-j.disks c.loop-j.j c.index-disks-j.result lt) c.settle_image.ensures.synced
+
+pub returns-in_err-push-clause-first : goal.returns-in_err-push-clause-first
+returns-in_err-push-clause-first g c =
+    let lt : c.loop-j.j < length c.loop-j.disks = omega (arith, c.loop-j-test.true, c.loop-j.invariant.settled.many, c.requires.many) in
+    first_at g.D.Disk c.args.lengths.now c.args.disks.now c.loop-j.disks c.loop-j.j (get_or c.loop-j.disks c.loop-j.j c.index-disks-j.result) c.settle_image.new.disk c.loop-j.invariant.settled lt
+    (slice_get-get_or c.loop-j.disks c.loop-j.j c.index-disks-j.result lt) c.settle_image.ensures.first
 
 pub loop-j-preserved : goal.loop-j-preserved
 loop-j-preserved g c =
