@@ -5,7 +5,7 @@ use Rattle.std.proofs.Math.ListN.{set}
 use Rattle.std.proofs.lemmas.List.{length-set}
 use Rattle.tau_disk.specs.declared.disk.Disk.{Ghosts}
 use Rattle.tau_disk.specs.Disk.{Rose, Elapses, WasToFail, WasRefused}
-use Rattle.tau_open.specs.Opening.{Asked, FailsAsked, AreAsked, FailsAsking}
+use Rattle.tau_open.specs.Opening.{Asked, FailsAsked, AreAsked, FailsAsking, StillKeeps}
 use Rattle.tau_disk.proofs.Places.{each_more, each_below, at_here, rest_more}
 use Rattle.tau_disk.proofs.Calls.{only_read, one_went, one_broke}
 
@@ -13,9 +13,9 @@ module _ {D : Type 0} (G : Ghosts D) (counts_now : (d : D) (t : ℕ) (x : List �
     (same : G.tells → G.seen e ≡ G.seen d) (crash : (x : List ℕ) → G.may_leave e x → G.may_leave d x) (keeps : (x : List ℕ) → G.may_leave d x → G.may_leave e x)
     (time : Elapses (G.moment d) (G.moment e) (G.may_leave_since d) (G.may_leave_since e) (G.may_leave e)) (count : G.faults d ≤ G.faults e)
     (plan : G.tells → (k : ℕ) → G.fails e k ≡ G.fails d k) where
-  pub asked_more : (G.tells → (G.number e ≡ G.number d + 1) × (G.fails d (G.number d + 1) ≡ false) × (G.short e ≡ G.short d)) → AreAsked G (j + 1) old (set cur j e)
-  asked_more one = record {
-    each = each_more (λ i. Asked G) old cur j d e asked.rest lt here asked.each (record { read = only_read G counts_now d e same crash keeps time; went = one_went G d e count plan one });
+  pub asked_more : (G.tells → (G.number e ≡ G.number d + 1) × (G.fails d (G.number d + 1) ≡ false) × (G.short e ≡ G.short d)) → StillKeeps G d e → AreAsked G (j + 1) old (set cur j e)
+  asked_more one last = record {
+    each = each_more (λ i. Asked G) old cur j d e asked.rest lt here asked.each (record { read = only_read G counts_now d e same crash keeps time; went = one_went G d e count plan one; last = last });
     rest = rest_more (λ i. Asked G) old cur j d e asked.rest lt here;
     many = length-set cur j e ∙ asked.many;
   }

@@ -17,6 +17,7 @@ use Rattle.tau_open.specs.declared.refusal.OpenRefusal.TheVariants.{NoMemory, Fa
 use Rattle.tau_disk.specs.Used.{EachIn, OfDisk, AreEmpty, IsFirstLong, OnlyRead}
 use Rattle.tau_open.specs.Opening.{Begins, Asked, IsCreated, FailsCreated, IsOpened, FailsOpened, AreAsked, FailsAsking, FailsMaking, GivesUp, Refuses, AreOpened}
 use Rattle.tau_open.specs.Creating.{Creating, StopsCreating, Stops}
+use Rattle.tau_open.proofs.Half.{half_asked}
 use Rattle.tau_disk.proofs.Places.{get_dropped, dropped_more, each_then}
 use Rattle.tau_disk.proofs.Calls.{went_on, went_broke}
 use Rattle.tau_base.proofs.Logic.{some_is}
@@ -39,13 +40,14 @@ module _ {D : Type 0} (G : Ghosts D) (n : ℕ) (content : List ℕ) where
       passes_on G.moment G.may_leave_since d e f (IsOldOrNew One n j [] content) (IsOldOrNew One n j [] content) (IsOldOrNew One n j [] content) (read_begins j d e asked.read t unborn) (begins t kept) (λ x is. is) (λ x is. is)
 
   pub asked_created : (j : ℕ) (d e f : D) → Asked G d e → IsCreated G n content j e f → IsOpened G n content j d f
-  asked_created j d e f asked created = record { went = went_on G 1 6 d e f asked.went created.went; begins = begins_on j d e f asked created.begins }
+  asked_created j d e f asked created = record { went = went_on G 1 6 d e f asked.went created.went; begins = begins_on j d e f asked created.begins; last = λ t k. created.last t k ∙ asked.last t k }
 
   pub asked_failed : (j : ℕ) (d e f : D) → Asked G d e → FailsCreated G n content j e f → FailsOpened G n content j d f
   asked_failed j d e f asked fails = record {
     broke = went_broke G 1 6 d e f asked.went fails.broke;
     asked = λ t. (asked.went.made t).2 (G.number d + 1) (omega arith) (omega arith);
     begins = begins_on j d e f asked fails.begins;
+    half = half_asked G n j content d e f asked fails.half;
   }
 
   module _ (old mid : List D) (asked : AreAsked G n old mid) (empty : AreEmpty G.tells G.seen old n) where

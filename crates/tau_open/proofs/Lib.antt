@@ -5,4 +5,5 @@ pub mod Joined
 pub mod RefusalTold
 pub mod Closed
 pub mod AskedLengths
+pub mod Half
 pub mod Starting

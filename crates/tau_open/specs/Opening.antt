@@ -1,11 +1,12 @@
 -- What an opening makes of the disks, stream by stream, and which calls of each disk it makes.
-use Rattle.std.specs.Prelude.{ℕ, ◌+◌, ◌<◌, ◌≤◌, ◌⊎◌, ◌==◌, if◌then◌else◌, false, ◌≡◌, List, [], length, map, drop, slice_get, Some, Option, None, Result, Ok, Err}
+use Rattle.std.specs.Prelude.{ℕ, ◌+◌, ◌-◌, ◌<◌, ◌≤◌, ◌⊎◌, ◌==◌, if◌then◌else◌, false, ◌≡◌, List, [], length, map, drop, slice_get, Some, Option, None, Result, Ok, Err}
 use Rattle.tau_base.specs.declared.format.Format.TheVariants.{One}
 use Rattle.tau_disk.specs.declared.disk.Disk.{Ghosts}
 use Rattle.tau_disk.specs.Disk.{Passes}
+use Rattle.tau_disk.specs.Left.{SameLast}
 use Rattle.tau_disk.specs.Stages.{Went, Broke}
 use Rattle.tau_stream.specs.declared.writer.Writer.{Writer}
-use Rattle.tau_stream.specs.Stream.{IsOldOrNew, IsUnborn}
+use Rattle.tau_stream.specs.Stream.{IsCutShort, IsOldOrNew, IsUnborn, is_through}
 use Rattle.tau_stream.specs.Writer.{disk_of, durable_of, left_of, added_of, has_failed, IsReady}
 use Rattle.tau_open.specs.declared.refusal.OpenRefusal.{OpenRefusal}
 use Rattle.tau_open.specs.declared.refusal.OpenRefusal.TheVariants.{NoMemory, Failed, NotEmpty}
@@ -17,10 +18,21 @@ module _ {D : Type 0} (G : Ghosts D) where
   abbrev pub Begins : ℕ → List ℕ → ℕ → D → D → Type 0
   Begins n content j d e = G.tells → IsUnborn (G.may_leave d) → Passes G.moment G.may_leave_since d e (IsOldOrNew One n j [] content)
 
+  -- the same writes of the disk count as written though they fail
+  abbrev pub StillKeeps : D → D → Type 0
+  StillKeeps d e = G.tells → SameLast (G.keeps d) (G.keeps e)
+
+  -- The disk was unborn and failed while stream j of n was made on it. So many calls stand before the flush of the first block; if
+  -- that was through, the image with all that was written has the content, and no other kind has a byte of it.
+  unfoldable pub MakesHalf : ℕ → ℕ → List ℕ → ℕ → D → D → Type 0
+  MakesHalf before n content j d e = G.tells → G.short e ≡ false → G.cut e ≡ false → IsUnborn (G.may_leave d) →
+      IsCutShort One n j [] content (is_through (G.number e - (G.number d + before)) (G.keeps d (G.number e))) (G.image e)
+
   -- the length of the disk was asked
   pub record Asked (d e : D) : Type 0 where
     pub read : OnlyRead G.tells G.seen G.may_leave G.moment G.may_leave_since d e
     pub went : Went G 1 d e
+    pub last : StillKeeps d e
 
   -- the length of the disk was asked, and it failed
   pub record FailsAsked (d e : D) : Type 0 where
@@ -31,22 +43,26 @@ module _ {D : Type 0} (G : Ghosts D) where
   pub record IsCreated (n : ℕ) (content : List ℕ) (j : ℕ) (d e : D) : Type 0 where
     pub went : Went G calls_to_make d e
     pub begins : Begins n content j d e
+    pub last : StillKeeps d e
 
   -- the disk failed while stream j of n was made on it
   pub record FailsCreated (n : ℕ) (content : List ℕ) (j : ℕ) (d e : D) : Type 0 where
     pub broke : Broke G calls_to_make d e
     pub begins : Begins n content j d e
+    pub half : MakesHalf 2 n content j d e
 
   -- the length of the disk was asked, and stream j of n was made on it
   pub record IsOpened (n : ℕ) (content : List ℕ) (j : ℕ) (d e : D) : Type 0 where
     pub went : Went G calls_to_open d e
     pub begins : Begins n content j d e
+    pub last : StillKeeps d e
 
   -- the length of the disk was asked, and then it failed while stream j of n was made on it
   pub record FailsOpened (n : ℕ) (content : List ℕ) (j : ℕ) (d e : D) : Type 0 where
     pub broke : Broke G calls_to_open d e
     pub asked : G.tells → G.fails d (G.number d + 1) ≡ false
     pub begins : Begins n content j d e
+    pub half : MakesHalf 3 n content j d e
 
   -- all lengths were asked, and nothing else
   pub record AreAsked (n : ℕ) (old new : List D) : Type 0 where

@@ -7,6 +7,7 @@ use Rattle.tau_disk.specs.Stages.{StageFails, AreLengths}
 use Rattle.tau_disk.proofs.Calls.{only_read, one_went, one_broke}
 use Rattle.tau_disk.proofs.Places.{get_dropped}
 use Rattle.tau_disk.proofs.Stages.{staged_more, stage_fails}
+use Rattle.tau_open.proofs.Half.{still_asked}
 use Rattle.tau_open.proofs.AskedLengths.{lengths_more}
 use Rattle.tau_open.proofs.sizes.ask_each.Goals as goal
 
@@ -32,6 +33,7 @@ loop-j-preserved g c =
       staged_more (λ i. Asked g.D.Disk) c.args.disks.now c.loop-j.disks c.loop-j.j d c.len.new.self c.loop-j.invariant.0 lt here (record {
         read = only_read g.D.Disk g.met.D.Disk.counts_now d c.len.new.self c.len.ensures.seen c.len.ensures.crash c.len.ensures.keeps c.len.ensures.time;
         went = one_went g.D.Disk d c.len.new.self c.len.ensures.cause.later (λ t. (c.in-Ok.ensures.plan t).same) (λ t. (c.in-Ok.ensures.plan t).ok);
+        last = still_asked g.D.Disk _ _ c.in-Ok.ensures.left;
       }),
       subst (λ (ls : List ℕ). AreLengths g.D.Disk.tells g.D.Disk.seen c.args.disks.now ls) (sym c.push_reserved.ensures.items)
           (lengths_more g.D.Disk.tells g.D.Disk.seen c.args.disks.now c.loop-j.lengths.items c.loop-j.j d c.in-Ok.length (omega (arith, c.loop-j.lengths.ok.0, c.loop-j.invariant.2)) c.loop-j.invariant.1
