@@ -40,7 +40,7 @@ module _ {D : Type 0} (G : Ghosts D) (n : ℕ) (content : List ℕ) where
       passes_on G.moment G.may_leave_since d e f (IsOldOrNew One n j [] content) (IsOldOrNew One n j [] content) (IsOldOrNew One n j [] content) (read_begins j d e asked.read t unborn) (begins t kept) (λ x is. is) (λ x is. is)
 
   pub asked_created : (j : ℕ) (d e f : D) → Asked G d e → IsCreated G n content j e f → IsOpened G n content j d f
-  asked_created j d e f asked created = record { went = went_on G 1 6 d e f asked.went created.went; begins = begins_on j d e f asked created.begins; last = λ t k. created.last t k ∙ asked.last t k }
+  asked_created j d e f asked created = record { went = went_on G 1 6 d e f asked.went created.went; begins = begins_on j d e f asked created.begins; holds = created.holds; last = λ t k. created.last t k ∙ asked.last t k }
 
   pub asked_failed : (j : ℕ) (d e f : D) → Asked G d e → FailsCreated G n content j e f → FailsOpened G n content j d f
   asked_failed j d e f asked fails = record {

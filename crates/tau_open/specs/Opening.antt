@@ -1,6 +1,7 @@
 -- What an opening makes of the disks, stream by stream, and which calls of each disk it makes.
 use Rattle.std.specs.Prelude.{ℕ, ◌+◌, ◌-◌, ◌<◌, ◌≤◌, ◌⊎◌, ◌==◌, if◌then◌else◌, false, ◌≡◌, List, [], length, map, drop, slice_get, Some, Option, None, Result, Ok, Err}
 use Rattle.tau_base.specs.declared.format.Format.TheVariants.{One}
+use Rattle.tau_block.specs.Image.{HasContent}
 use Rattle.tau_disk.specs.declared.disk.Disk.{Ghosts}
 use Rattle.tau_disk.specs.Disk.{Passes}
 use Rattle.tau_disk.specs.Left.{SameLast}
@@ -28,6 +29,10 @@ module _ {D : Type 0} (G : Ghosts D) where
   MakesHalf before n content j d e = G.tells → G.short e ≡ false → G.cut e ≡ false → IsUnborn (G.may_leave d) →
       IsCutShort One n j [] content (is_through (G.number e - (G.number d + before)) (G.keeps d (G.number e))) (G.image e)
 
+  -- whatever a stop now leaves has this content
+  abbrev pub Holds : ℕ → List ℕ → ℕ → D → Type 0
+  Holds n content j e = G.tells → (x : List ℕ) → G.may_leave e x → HasContent One n j content x
+
   -- the length of the disk was asked
   pub record Asked (d e : D) : Type 0 where
     pub read : OnlyRead G.tells G.seen G.may_leave G.moment G.may_leave_since d e
@@ -43,6 +48,7 @@ module _ {D : Type 0} (G : Ghosts D) where
   pub record IsCreated (n : ℕ) (content : List ℕ) (j : ℕ) (d e : D) : Type 0 where
     pub went : Went G calls_to_make d e
     pub begins : Begins n content j d e
+    pub holds : Holds n content j e
     pub last : StillKeeps d e
 
   -- the disk failed while stream j of n was made on it
@@ -55,6 +61,7 @@ module _ {D : Type 0} (G : Ghosts D) where
   pub record IsOpened (n : ℕ) (content : List ℕ) (j : ℕ) (d e : D) : Type 0 where
     pub went : Went G calls_to_open d e
     pub begins : Begins n content j d e
+    pub holds : Holds n content j e
     pub last : StillKeeps d e
 
   -- the length of the disk was asked, and then it failed while stream j of n was made on it

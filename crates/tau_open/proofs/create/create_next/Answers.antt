@@ -1,7 +1,7 @@
 use Rattle.std.proofs.Common.{[], ◌∷◌, List, reverse, ap, ◌∙◌}
 use Rattle.std.proofs.lemmas.List.{reverse-append}
 use Rattle.tau_stream.specs.Stream.{catalogue_record}
-use Rattle.tau_open.proofs.Half.{fails_by, half_created}
+use Rattle.tau_open.proofs.Half.{fails_by, half_created, ready_holds}
 use Rattle.tau_open.proofs.create.create_next.Goals as goal
 
 pub returns-in-Ok-clause-created : goal.returns-in-Ok-clause-created
@@ -13,6 +13,7 @@ returns-in-Ok-clause-created g c = record {
   created = record {
     went = record { counts = c.in-Ok.ensures.faults; same = c.in-Ok.ensures.plan; made = c.in-Ok.ensures.made };
     begins = c.in-Ok.ensures.moments;
+    holds = ready_holds g.D.Disk c.args.n c.args.j (catalogue_record c.args.catalogue.now) c.in-Ok.writer c.in-Ok.ensures.ready;
     last = c.in-Ok.ensures.last;
   };
   begun = record { ready = c.in-Ok.ensures.ready; durable = c.in-Ok.ensures.durable; left = c.in-Ok.ensures.left; added = c.in-Ok.ensures.added; works = c.in-Ok.ensures.works };
