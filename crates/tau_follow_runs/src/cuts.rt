@@ -1,17 +1,30 @@
 //! Contents that are cut anywhere.
-use crate::contents::{FIRST, SECOND};
-use crate::support::{applies, fed, follower, seals};
+use crate::contents::{first, part, second};
+use crate::support::{End, Step, ends};
 use std::test::*;
+
+// Both are applied in the end.
+static BOTH: [(i64, i64); 1] = [(1, 7)];
 
 // The first stream in two pieces, and the other between them.
 #[test]
 fn wherever_the_first_is_cut(rt: HostRuntime) -> Result<(), Fail> {
     for cut in 0..54 {
-        let mut f = follower(&rt, 2)?;
-        fed(&mut f, 0, &FIRST[..cut])?;
-        fed(&mut f, 1, &SECOND)?;
-        applies(&mut f, 0, &FIRST[cut..], 2)?;
-        seals(&mut f, &[53, 61], 2, &[(1, 7)])?;
+        let steps = [
+            Step::Feeds(0, part(first(), 0, cut)),
+            Step::Feeds(1, second()),
+            Step::Applies(0, part(first(), cut, 53), 2),
+        ];
+        ends(
+            &rt,
+            2,
+            &steps,
+            &End {
+                elv: &[53, 61],
+                count: 2,
+                rows: &BOTH,
+            },
+        )?;
     }
     Ok(())
 }
@@ -20,11 +33,21 @@ fn wherever_the_first_is_cut(rt: HostRuntime) -> Result<(), Fail> {
 #[test]
 fn wherever_the_second_is_cut(rt: HostRuntime) -> Result<(), Fail> {
     for cut in 0..62 {
-        let mut f = follower(&rt, 2)?;
-        fed(&mut f, 1, &SECOND[..cut])?;
-        fed(&mut f, 0, &FIRST)?;
-        applies(&mut f, 1, &SECOND[cut..], 2)?;
-        seals(&mut f, &[53, 61], 2, &[(1, 7)])?;
+        let steps = [
+            Step::Feeds(1, part(second(), 0, cut)),
+            Step::Feeds(0, first()),
+            Step::Applies(1, part(second(), cut, 61), 2),
+        ];
+        ends(
+            &rt,
+            2,
+            &steps,
+            &End {
+                elv: &[53, 61],
+                count: 2,
+                rows: &BOTH,
+            },
+        )?;
     }
     Ok(())
 }
