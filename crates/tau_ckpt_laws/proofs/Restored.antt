@@ -67,9 +67,10 @@ restored_is_recovered f contents log base sound slots all rows r =
 
 order_by_choice : (log : Log) (order : List Kept) → IsOrderOver (taken log) order → (o : Option Checkpoint) → (some : List Kept) × IsOrderOver (left_to_redo log o) some
 order_by_choice log order g None = (order, g)
-order_by_choice log order g (Some c) =
-    (filter (kept_after c.lv) order,
-    record { each_once = reordered_filter (kept_after c.lv) (taken log) order g.each_once; orderly = orderly_filter (λ (r : Kept). r.place) (kept_after c.lv) order g.orderly })
+order_by_choice log order g (Some c) = (
+  filter (kept_after c.lv) order,
+  record { each_once = reordered_filter (kept_after c.lv) (taken log) order g.each_once; orderly = orderly_filter (λ (r : Kept). r.place) (kept_after c.lv) order g.orderly },
+)
 
 pub not_tangled : NotTangled
 not_tangled log order g slots = order_by_choice log order g (chosen log slots)

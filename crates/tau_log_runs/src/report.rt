@@ -6,7 +6,9 @@ use tau_base::{Key, Listed, Lv, MAX_LSN, MAX_STREAMS, Text64, Value};
 use tau_model::Tables;
 use tau_proc::Reply;
 use tau_record::{Entry, KeptLv, KeptWrites, Placed};
-use tau_report::{Acks, KeptFate, RunReport, ack_line, put_recovery, recover_text, report_text, table_text};
+use tau_report::{
+    Acks, KeptFate, RunReport, ack_line, put_recovery, recover_text, report_text, table_text,
+};
 use tau_scan::Log;
 use tau_text::{Declarations, parse_declarations};
 
