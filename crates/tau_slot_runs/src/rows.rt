@@ -1,6 +1,9 @@
 //! Checkpoints of two calls, and what recovery takes of them.
-use crate::saved::{CHECKPOINT, first_image, ran, saved, set_byte};
+use crate::saved::{CHECKPOINT, first_image, put_disk, ran, saved, set_byte};
+use std::alloc::Global;
+use std::sync::Wait;
 use std::test::*;
+use std::thread::Threads;
 use tau_disk::MemDisk;
 use tau_engine_support::{new_disks, tells};
 
@@ -49,24 +52,24 @@ fn slots_take_turns(rt: HostRuntime) -> Result<(), Fail> {
     tells(&rt, alloc, "restore 2 2", "", 0, told, &mut disks)
 }
 
+/// A slot whose disk fails is named, whatever the command.
+fn fails<R: Threads + Wait + Sync>(
+    rt: &R,
+    alloc: Global,
+    slot: usize,
+    told: &str,
+) -> Result<(), Fail> {
+    let mut disks = ran(rt, alloc)?;
+    put_disk(&mut disks, slot, MemDisk::new(alloc, &[1])?)?;
+    tells(rt, alloc, "restore 2 1", "", 6, told, &mut disks)?;
+    put_disk(&mut disks, slot, MemDisk::new(alloc, &[1])?)?;
+    tells(rt, alloc, "checkpoint 2 1", "", 6, told, &mut disks)
+}
+
 #[test]
 fn slots_that_fail(rt: HostRuntime) -> Result<(), Fail> {
-    let alloc = rt.alloc();
-    for slot in 32..34usize {
-        let mut disks = ran(&rt, alloc)?;
-        if slot < disks.len() {
-            disks[slot] = MemDisk::new(alloc, &[1])?;
-            let told = if slot == 32 {
-                "fault 6 32\n"
-            } else {
-                "fault 6 33\n"
-            };
-            tells(&rt, alloc, "restore 2 1", "", 6, told, &mut disks)?;
-            disks[slot] = MemDisk::new(alloc, &[1])?;
-            tells(&rt, alloc, "checkpoint 2 1", "", 6, told, &mut disks)?;
-        }
-    }
-    Ok(())
+    fails(&rt, rt.alloc(), 32, "fault 6 32\n")?;
+    fails(&rt, rt.alloc(), 33, "fault 6 33\n")
 }
 
 // The disk of a stream comes before that of a slot, and both before a fault of the log.
@@ -74,7 +77,11 @@ fn slots_that_fail(rt: HostRuntime) -> Result<(), Fail> {
 fn a_disk_comes_before_a_bad_log(rt: HostRuntime) -> Result<(), Fail> {
     let alloc = rt.alloc();
     let mut disks = new_disks(alloc)?;
-    disks[0] = MemDisk::of_image(alloc, b"no image of a stream")?;
+    put_disk(
+        &mut disks,
+        0,
+        MemDisk::of_image(alloc, b"no image of a stream")?,
+    )?;
     tells(
         &rt,
         alloc,
@@ -93,7 +100,7 @@ fn a_disk_comes_before_a_bad_log(rt: HostRuntime) -> Result<(), Fail> {
         "fault 7 0 image 1\n",
         &mut disks,
     )?;
-    disks[33] = MemDisk::new(alloc, &[1])?;
+    put_disk(&mut disks, 33, MemDisk::new(alloc, &[1])?)?;
     tells(
         &rt,
         alloc,
@@ -103,7 +110,7 @@ fn a_disk_comes_before_a_bad_log(rt: HostRuntime) -> Result<(), Fail> {
         "fault 6 33\n",
         &mut disks,
     )?;
-    disks[33] = MemDisk::new(alloc, &[1])?;
-    disks[1] = MemDisk::new(alloc, &[1])?;
+    put_disk(&mut disks, 33, MemDisk::new(alloc, &[1])?)?;
+    put_disk(&mut disks, 1, MemDisk::new(alloc, &[1])?)?;
     tells(&rt, alloc, "restore 2 1", "", 6, "fault 6 1\n", &mut disks)
 }

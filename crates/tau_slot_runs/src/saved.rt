@@ -56,6 +56,15 @@ pub fn put_byte(image: &mut Vec<u8>, at: usize, byte: u8) {
     }
 }
 
+/// Puts a disk in the place of that one.
+pub fn put_disk(disks: &mut Vec<MemDisk>, at: usize, disk: MemDisk) -> Result<(), Fail> {
+    if at < disks.len() {
+        disks[at] = disk;
+        return Ok(());
+    }
+    Err(Fail::new("no such disk"))
+}
+
 /// The slot holds this image.
 pub fn hold(
     alloc: Global,
@@ -63,11 +72,11 @@ pub fn hold(
     slot: usize,
     image: &[u8],
 ) -> Result<(), Fail> {
-    if slot < 2 && disks.len() == 34 {
-        disks[32 + slot] = MemDisk::of_image(alloc, image)?;
-        return Ok(());
-    }
-    Err(Fail::new("no such slot"))
+    put_disk(
+        disks,
+        if slot == 0 { 32 } else { 33 },
+        MemDisk::of_image(alloc, image)?,
+    )
 }
 
 /// The image of slot 0.

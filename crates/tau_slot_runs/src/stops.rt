@@ -1,6 +1,6 @@
 //! A stop at each call of a slot, and recovery after it with and without a checkpoint.
 use crate::alike::alike;
-use crate::saved::run_on;
+use crate::saved::{put_disk, run_on};
 use std::alloc::Global;
 use std::test::*;
 use tau_disk::{MemDisk, Tear};
@@ -23,7 +23,7 @@ fn each_call_of_a_slot(rt: HostRuntime) -> Result<(), Fail> {
     let alloc = rt.alloc();
     for k in 1..26u32 {
         let mut disks = new_disks(alloc)?;
-        disks[32] = MemDisk::stopping(alloc, k, true)?;
+        put_disk(&mut disks, 32, MemDisk::stopping(alloc, k, true)?)?;
         run_on(&rt, alloc, &mut disks)?;
         for _ in 0..3u32 {
             let _ = told(&rt, alloc, "checkpoint 2 1", b"", 0, &mut disks)?;
