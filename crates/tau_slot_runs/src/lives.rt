@@ -86,7 +86,7 @@ fn a_checkpoint_of_nothing(rt: HostRuntime) -> Result<(), Fail> {
 fn a_run_goes_on_after_a_checkpoint(rt: HostRuntime) -> Result<(), Fail> {
     let alloc = rt.alloc();
     let mut disks = saved(&rt, alloc)?;
-    let told = "ack 1 134,86\nreply 1 int 8\norder 1\nrow a 1 int 8\nend 0\n";
+    let told = "ack 1 134,61\nreply 1 int 8\norder 1\nrow a 1 int 8\nend 0\n";
     tells(
         &rt,
         alloc,
