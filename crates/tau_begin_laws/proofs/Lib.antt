@@ -1,4 +1,5 @@
 pub mod Catalogues
 pub mod Empty
 pub mod Ends
+pub mod Images
 pub mod Starting

@@ -35,22 +35,6 @@ not_so e = cc
 module _ (n : ℕ) (text : List ℕ) (wrote : List ℕ → Type 0) (rose : Type 0) where
   -- ---- a follower that was fed
 
-  pub fed_well : (lines : List ℕ) → ((pieces : List Piece) → ArePieces n pieces text → IsFollowed n pieces lines) → wrote lines → HasFedText n text wrote rose status.Ok
-  fed_well lines followed w = record {
-    kind = refl;
-    told = λ pieces are. (lines, followed pieces are, w);
-    sink = λ e. absurd cc;
-    silent = λ e. absurd cc;
-  }
-
-  pub fed_in_part : (lines : List ℕ) (k : ℕ) → ((pieces : List Piece) → ArePieces n pieces text → IsFollowed n pieces lines) → k < length lines → wrote (take k lines) → rose → HasFedText n text wrote rose status.WriteFault
-  fed_in_part lines k followed lt w r = record {
-    kind = refl;
-    told = λ pieces are. (lines, followed pieces are, (k, lt, w));
-    sink = λ e. r;
-    silent = λ e. absurd cc;
-  }
-
   pub fed_nothing : wrote [] → HasFedText n text wrote rose status.NoMemory
   fed_nothing w = record { kind = refl; told = λ pieces are. tt; sink = λ e. absurd cc; silent = λ e. w }
 
@@ -72,16 +56,6 @@ module _ (n : ℕ) (text : List ℕ) (wrote : List ℕ → Type 0) (rose : Type 
   ends_so (status.BadLog fault) e = refl
   ends_so (status.BadFeed at) e = refl
   ends_so _ e = e
-
-  pub good_text : (answer : Status) → length text ≤ MAX_WORKLOAD → (pieces : List Piece) → ArePieces n pieces text → HasFedText n text wrote rose answer → HasFollowedText n text wrote rose answer
-  good_text answer within pieces are h = record {
-    kind = ends_so answer h.kind;
-    bad = λ at e. absurd (wrong (ends_feeding answer) h.kind (ap ends_feeding e));
-    pieces = λ e. (pieces, (within, are));
-    told = λ ps has. h.told ps has.1;
-    sink = h.sink;
-    silent = h.silent;
-  }
 
   pub bad_text : (answer : Status) (at : ℕ) → HasBadPiece n text at → TellsFault wrote rose (status.BadFeed at) answer → HasFollowedText n text wrote rose answer
   bad_text answer at bad (inl told) = subst (HasFollowedText n text wrote rose) (sym told.0) (record {
@@ -209,14 +183,6 @@ module _ (s : Input) (o : Output) (n : ℕ) where
       only tells (status.BadFeed at) h = absurd (over tells h.within)
       only tells status.TooLong h = inl refl
       only tells _ h = absurd h
-
-  pub follows_failed : (answer : Status) → Reads → s.rose → TellsFault wrote rose status.ReadFault answer → Follows answer
-  follows_failed answer reads r (inl told) = subst Follows (sym told.0) (failed reads r told.1)
-  follows_failed answer reads r (inr none) = subst Follows (sym none.0) (out_of_memory reads none.1)
-
-  pub follows_long : (answer : Status) → Reads → (s.tells → MAX_WORKLOAD < length s.left) → TellsFault wrote rose status.TooLong answer → Follows answer
-  follows_long answer reads long (inl told) = subst Follows (sym told.0) (too_long reads long told.1)
-  follows_long answer reads long (inr none) = subst Follows (sym none.0) (out_of_memory reads none.1)
 
   -- ---- the text is there
 

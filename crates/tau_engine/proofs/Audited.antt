@@ -27,7 +27,7 @@ use Rattle.tau_engine.specs.Reads.{HasOnlyRead}
 use Rattle.tau_engine.specs.Recovery.{EndsAsBad, images_of}
 use Rattle.tau_engine.specs.Sources.{HasReport, RefusesSource, is_of_source}
 use Rattle.tau_engine.specs.Top.{Says}
-use Rattle.tau_engine.proofs.First.{nothing}
+use Rattle.tau_engine.proofs.Tops.{nothing_told}
 use Rattle.tau_engine.proofs.OneSource.{not_refused, one_refusal, same_loads, same_reports}
 use Rattle.tau_engine.proofs.Recoveries.{clean_of}
 use Rattle.tau_engine.proofs.Said.{in_use, kept, no_before, no_source, other}
@@ -193,7 +193,7 @@ module _ (s : Input) (n m : ℕ) where
     says_unread old refusal a h (inr told) = subst (λ (x : Status). Says G M s o old old asked x) (sym told.0) (says_so old status.NoMemory tt (λ e. absurd (cc e)) (λ e. told.1))
     says_unread old refusal a h (inl told) =
         subst (λ (x : Status). Says G M s o old old asked x) (sym told.0)
-        (says_so old refusal h (λ e. told.1) (λ e. nothing (Wrote o.hears o.held o.held') (Rose o.faults o.faults') (subst (λ (x : Status). WroteFront (Wrote o.hears o.held o.held') (Rose o.faults o.faults') (fault_text x)) e told.1)))
+        (says_so old refusal h (λ e. told.1) (λ e. nothing_told (Wrote o.hears o.held o.held') (Rose o.faults o.faults') (subst (λ (x : Status). WroteFront (Wrote o.hears o.held o.held') (Rose o.faults o.faults') (fault_text x)) e told.1)))
 
     -- ---- the source was read
 

@@ -28,20 +28,11 @@ begun_twice : (a b : List ℕ) (cut : Option (List ℕ × List ℕ)) → begun_b
 begun_twice a b None = refl
 begun_twice a b (Some cut) = ap (λ (l : List ℕ). Some (l, cut.1)) (sym (append_assoc a b cut.0))
 
-begun_by_none : (cut : Option (List ℕ × List ℕ)) → begun_by [] cut ≡ cut
-begun_by_none None = refl
-begun_by_none (Some cut) = refl
-
 -- the lines before this rest are none that is sought
 pub record IsCutFrom (text rest : List ℕ) : Type 0 where
   pub whole : text ≡ take (length text - length rest) text ++ rest
   pub within : length rest ≤ length text
   pub same : cut_at_report text ≡ begun_by (take (length text - length rest) text) (cut_at_report rest)
-
-pub cut_first : (text : List ℕ) → IsCutFrom text text
-cut_first text = (
-    let none : length text - length text ≡ 0 = omega arith in
-    record { whole = rw none refl; within = omega arith; same = rw none (sym (begun_by_none (cut_at_report text))) })
 
 front_of : (text front back : List ℕ) → text ≡ front ++ back → take (length text - length back) text ≡ front
 front_of text front back is = (

@@ -1,20 +1,11 @@
 -- How a drill may end.
-use Rattle.std.proofs.Common.{ℕ, ◌≡◌, List, [], ◌∷◌, refl, sym, ap, ◌∙◌, subst, inl, inr, true, false, Option}
-use Rattle.std.specs.Prelude.{Some}
-use Rattle.tau_disk.specs.declared.disk.Disk.{Ghosts}
-use Rattle.tau_disk.specs.declared.memory.MemDisk.{MemDisk}
+use Rattle.std.proofs.Common.{◌≡◌, [], ◌∷◌, refl, sym, ap, ◌∙◌, subst, inl, inr, true, false}
 use Rattle.tau_model.specs.History.{Member}
 use Rattle.tau_text.specs.declared.load.Workload.{Workload}
-use Rattle.tau_words.specs.declared.command.Command.{Command}
-use Rattle.tau_words.specs.declared.command.Command.TheVariants.{Drill}
-use Rattle.tau_words.specs.declared.command.Ending.{Ending}
 use Rattle.tau_run.specs.CoreRun.{IsSoundLoad}
-use Rattle.tau_engine.specs.Drill.{DrillTells, with_turns}
+use Rattle.tau_engine.specs.Drill.{with_turns}
 use Rattle.tau_engine.specs.Fault.{is_refusal}
-use Rattle.tau_engine.specs.Outside.{ends_rehearsal}
-use Rattle.tau_engine.specs.Served.{command_in}
-use Rattle.tau_engine.specs.declared.served.Work.{Work}
-use Rattle.tau_engine.specs.declared.served.Work.TheVariants as work
+use Rattle.tau_engine.specs.Outside.{ends_recovery, ends_rehearsal}
 use Rattle.tau_engine.specs.declared.status.Status.{Status}
 use Rattle.tau_engine.specs.declared.status.Status.TheVariants as status
 
@@ -51,19 +42,16 @@ no_refusal status.TooLong kind e = cc
 no_refusal (status.BadFeed at) kind e = cc
 no_refusal (status.BadReport number) kind e = cc
 
--- the command of words is one
-
-pub command_of_drill : (o : Option Command) (w : Work) (n m p : ℕ) (how : Ending) → o ≡ Some (command_in w) → w ≡ work.Drill n m p how → o ≡ Some (Drill n m p how)
-command_of_drill o w n m p how is e = subst (λ (x : Work). o ≡ Some (command_in x)) e is
-
-drill_in : Option Command → (ℕ × ℕ × Ending) → ℕ × ℕ × Ending
-drill_in (Some (Drill n m p how)) other = (n, m, how)
-drill_in o other = other
-
--- so what is told of a drill is told of that one
-pub tells_at : (G : Ghosts MemDisk) (o : Option Command) (a b c n m p : ℕ) (by how : Ending) (load : Workload) (wrote : List ℕ → Type 0) (s : Status) → o ≡ Some (Drill a b c by) → o ≡ Some (Drill n m p how) →
-    DrillTells G a b by load wrote s → DrillTells G n m how load wrote s
-unfolding drill_in
-tells_at G o a b c n m p by how load wrote s one other told =
-    let same : (a, b, by) ≡ (n, m, how) = ap (λ (x : Option Command). drill_in x (a, b, by)) (sym one ∙ other) in
-    subst (λ (x : ℕ × ℕ × Ending). DrillTells G x.0 x.1 x.2 load wrote s) same told
+-- a recovery may end so too
+pub rehearsal_recovers : (a : Status) → ends_rehearsal a ≡ true → ends_recovery a ≡ true
+rehearsal_recovers status.Ok kind = refl
+rehearsal_recovers status.NoMemory kind = refl
+rehearsal_recovers status.WriteFault kind = refl
+rehearsal_recovers (status.DiskFault j) kind = absurd (cc kind)
+rehearsal_recovers (status.BadLog fault) kind = absurd (cc kind)
+rehearsal_recovers status.Usage kind = absurd (cc kind)
+rehearsal_recovers (status.BadText at why) kind = absurd (cc kind)
+rehearsal_recovers status.ReadFault kind = absurd (cc kind)
+rehearsal_recovers status.TooLong kind = absurd (cc kind)
+rehearsal_recovers (status.BadFeed at) kind = absurd (cc kind)
+rehearsal_recovers (status.BadReport number) kind = absurd (cc kind)

@@ -28,9 +28,9 @@ use Rattle.tau_engine.specs.Outside.{Output, Wrote, ends_recovery, ends_rehearsa
 use Rattle.tau_engine.specs.Reads.{HasOnlyRead}
 use Rattle.tau_engine.specs.Recovery.{EndsTangled, IsTangle, LogTells, RecoverTells, images_of}
 use Rattle.tau_engine.specs.Runs.{status_at}
-use Rattle.tau_engine.proofs.Drilling.{no_refusal, rehearsal_ends, rehearses_well}
+use Rattle.tau_engine.proofs.Drilling.{no_refusal, rehearsal_ends, rehearsal_recovers, rehearses_well}
 use Rattle.tau_engine.proofs.Recoveries.{each_lent, read_first, rose_among, stopped_among}
-use Rattle.tau_engine.proofs.Tops.{recovers_well}
+use Rattle.tau_engine.proofs.Tops.{nothing_told, recovers_well}
 
 -- ---- reading
 
@@ -89,10 +89,6 @@ module _ {D : Type 0} (G : Ghosts D) (old lent : List D) (n : ℕ) (many : n ≤
 
 -- ---- telling
 
-pub nothing : (write : List ℕ → Type 0) (rose : Type 0) → WroteFront write rose [] → write []
-nothing write rose (inl all) = all
-nothing write rose (inr part) = absurd (let lt = part.1 in omega (arith, lt))
-
 same_disk : (j i : ℕ) → status.DiskFault j ≡ status.DiskFault i → j ≡ i
 same_disk j i e = cc
 
@@ -113,19 +109,6 @@ same_reading images a b one other = same_err (log_of None images) a b one other
 
 one_log : (images : List (List ℕ)) (a b : Log) → log_of None images ≡ Ok a → log_of None images ≡ Ok b → a ≡ b
 one_log images a b one other = same_ok (log_of None images) a b one other
-
-pub recovers : (a : Status) → ends_rehearsal a ≡ true → ends_recovery a ≡ true
-recovers status.Ok kind = refl
-recovers status.NoMemory kind = refl
-recovers status.WriteFault kind = refl
-recovers (status.DiskFault j) kind = absurd (cc kind)
-recovers (status.BadLog fault) kind = absurd (cc kind)
-recovers status.Usage kind = absurd (cc kind)
-recovers (status.BadText at why) kind = absurd (cc kind)
-recovers status.ReadFault kind = absurd (cc kind)
-recovers status.TooLong kind = absurd (cc kind)
-recovers (status.BadFeed at) kind = absurd (cc kind)
-recovers (status.BadReport number) kind = absurd (cc kind)
 
 -- what is told where there is no log says nothing of these
 pub inspect_free : (images : List (List ℕ)) (write : List ℕ → Type 0) (refusal : ScanRefusal) → InspectTells images write (status_at refusal)
@@ -234,7 +217,7 @@ module _ {D : Type 0} (G : Ghosts D) (o : Output) (old new : List D) (n : ℕ) w
 
   pub refused_read : (refusal : ScanRefusal) (a : Status) → Reads (Err refusal) → Refuses refusal a → HasOnlyRead G o old new a n
   refused_read refusal a h (inr told) = subst (λ (x : Status). HasOnlyRead G o old new x n) (sym told.0) (none_read (forgotten refusal h) told.1)
-  refused_read scan.NoMemory a h (inl told) = subst (λ (x : Status). HasOnlyRead G o old new x n) (sym told.0) (none_read h (nothing (Wrote o.hears o.held o.held') (Rose o.faults o.faults') told.1))
+  refused_read scan.NoMemory a h (inl told) = subst (λ (x : Status). HasOnlyRead G o old new x n) (sym told.0) (none_read h (nothing_told (Wrote o.hears o.held o.held') (Rose o.faults o.faults') told.1))
   refused_read (scan.Failed j) a h (inl told) = subst (λ (x : Status). HasOnlyRead G o old new x n) (sym told.0) (failed_read j h told.1)
   refused_read (scan.Bad fault) a h (inl told) = subst (λ (x : Status). HasOnlyRead G o old new x n) (sym told.0) (bad_read fault h told.1)
 
@@ -257,7 +240,7 @@ module _ {D : Type 0} (G : Ghosts D) (o : Output) (old new : List D) (n : ℕ) w
 
   -- by a call that told a text of it
   pub text_read : (log : Log) (a : Status) → Reads (Ok log) → ends_rehearsal a ≡ true → (a ≡ status.WriteFault → Rose o.faults o.faults') → (a ≡ status.NoMemory → wrote o a []) → HasOnlyRead G o old new a n
-  text_read log a h kind sink silent = log_read log a h (recovers a kind) (λ j e. rehearsal_ends a (status.DiskFault j) kind refl e) (λ e. absurd (no_refusal a kind e)) sink silent
+  text_read log a h kind sink silent = log_read log a h (rehearsal_recovers a kind) (λ j e. rehearsal_ends a (status.DiskFault j) kind refl e) (λ e. absurd (no_refusal a kind e)) sink silent
 
   -- ---- a call that redoes nothing
 
@@ -318,7 +301,7 @@ module _ {D : Type 0} (G : Ghosts D) (o : Output) (old new : List D) (n : ℕ) w
 
   pub refused_redone : (refusal : ScanRefusal) (a : Status) → Reads (Err refusal) → Refuses refusal a → OfRecover G o old new a n
   refused_redone refusal a h (inr told) = subst (λ (x : Status). OfRecover G o old new x n) (sym told.0) (none_redone told.1)
-  refused_redone scan.NoMemory a h (inl told) = subst (λ (x : Status). OfRecover G o old new x n) (sym told.0) (none_redone (nothing (Wrote o.hears o.held o.held') (Rose o.faults o.faults') told.1))
+  refused_redone scan.NoMemory a h (inl told) = subst (λ (x : Status). OfRecover G o old new x n) (sym told.0) (none_redone (nothing_told (Wrote o.hears o.held o.held') (Rose o.faults o.faults') told.1))
   refused_redone (scan.Failed j) a h (inl told) = subst (λ (x : Status). OfRecover G o old new x n) (sym told.0) (failed_redone j h)
   refused_redone (scan.Bad fault) a h (inl told) = subst (λ (x : Status). OfRecover G o old new x n) (sym told.0) (bad_redone fault h)
 

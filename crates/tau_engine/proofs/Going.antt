@@ -53,18 +53,6 @@ pub record IsFedTo (n : ℕ) (text : List ℕ) (at : ℕ) (lines : List ℕ) (w 
   pub told : FedTold n before lines fed state
   pub follows : Follows (fed_format n) n fed state w
 
-pub none_fed : (n : ℕ) (text lines : List ℕ) (w : Follower) (pieces : List Piece) → Follows (fed_format n) n (replicate n []) (begun n) w → lines ≡ [] → ArePieces n pieces text → IsFedTo n text 0 lines w pieces
-none_fed n text lines w pieces begins empty are = record {
-  before = [];
-  after = pieces;
-  pieces_are = refl;
-  rest = are;
-  fed = replicate n [];
-  state = begun n;
-  told = (empty, refl, refl);
-  follows = begins;
-}
-
 -- what feeding a piece does
 abbrev pub Feeds : Piece → List ℕ → Follower → List ℕ → Follower → Type 0
 Feeds p lines w now next =

@@ -27,7 +27,6 @@ mod BenchNumbers
 mod BenchLines
 mod BenchSound
 mod BenchFound
-mod BenchTops
 pub mod Entries
 pub mod SlotReading
 pub mod Held
@@ -35,7 +34,6 @@ pub mod Found
 pub mod Restored
 mod Restoring
 mod Oks
-pub mod Images
 pub mod OnOpened
 pub mod NoneBegun
 pub mod OnStart

@@ -280,13 +280,6 @@ module _ (n m : ℕ) (mode : LogMode) (load : Workload) (some : 1 ≤ n) (room :
     acknowledged = λ images from log reads x q e. absurd q;
   }
 
-  -- and nothing is acknowledged
-  pub told_of_none : (unborn : Type 0) (past now : ℕ → List ℕ → Type 0) (rose : ℕ → Type 0) (sink_rose : Type 0) (made : ℕ → ℕ → Type 0) (wrote : List ℕ → Type 0) (fault : ℕ → List ℕ) (ending : Ending) → MayEnd ending →
-      (unborn → (j : ℕ) (x : List ℕ) → j < n → past j x → HasContent One n j [] x ⊎ HasContent One n j catalogue x) →
-      RunTells (IsEnded n mode load now rose) n load (λ j. None) sink_rose (λ j. calls_to_open) made wrote fault empty_run ending →
-      (facts : RunFacts (chosen_by load.turns n m load) n m mode load (fresh_start n) unborn past now rose sink_rose (λ j. calls_to_open) made wrote fault ending) × (facts.run.acks ≡ [])
-  told_of_none unborn past now rose sink_rose made wrote fault ending may left tells = (built_of_none unborn past now rose sink_rose made wrote fault ending may left tells, refl)
-
   -- so it is where a disk failed before it began
   pub told_of_failed : (j : ℕ) (unborn : Type 0) (past now : ℕ → List ℕ → Type 0) (rose : ℕ → Type 0) (sink_rose : Type 0) (made : ℕ → ℕ → Type 0) (wrote : List ℕ → Type 0) (fault : ℕ → List ℕ) →
       (unborn → (i : ℕ) (x : List ℕ) → i < n → past i x → HasContent One n i [] x ⊎ HasContent One n i catalogue x) →

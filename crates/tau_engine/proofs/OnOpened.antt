@@ -41,7 +41,7 @@ use Rattle.tau_begin.specs.Opened.{IsBegun}
 use Rattle.tau_begin.proofs.Slices.{get_take, taken_long}
 use Rattle.tau_begin_laws.specs.Laws.{start_on, IsOpened}
 use Rattle.tau_begin_laws.proofs.Starting as starting
-use Rattle.tau_engine.proofs.Images.{images_hold, seen_hold}
+use Rattle.tau_begin_laws.proofs.Images.{images_hold, seen_hold}
 use Rattle.tau_engine.specs.Opening.{opening_calls}
 use Rattle.tau_engine.specs.Recovery.{images_of}
 
@@ -214,9 +214,6 @@ module _ {D : Type 0} (G : Ghosts D) (f : Format) (n : ℕ) (load : Workload) (o
 
     pub opening_fits : Fits o
     opening_fits = fits f n load start opened.starts o opening_on
-
-    pub opening_long : length o.ends ≡ n
-    opening_long = ends_long f n load start opened.starts o opening_on
 
     pub writers_begun : (ws : List (Writer D G)) → length ws ≡ n → ((j : ℕ) (w : Writer D G) (p : StreamStart) → slice_get ws j ≡ Some w → slice_get starts j ≡ Some p → HasStarted p w) → StreamsBegun f (opened_at load start) ws o
     writers_begun ws count writers = streams_begun f n load start opened.starts o opening_on starts ws count starts_long names alike writers

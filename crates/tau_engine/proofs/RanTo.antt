@@ -25,8 +25,8 @@ use Rattle.tau_run.specs.Turns.{Progress}
 use Rattle.tau_run.specs.Gives.{CameTo, came_far}
 use Rattle.tau_run.specs.Writers.{EachOf, Left}
 use Rattle.tau_run.proofs.Came as of
-use Rattle.tau_engine.specs.DiskFacts.{Past, Now}
-use Rattle.tau_engine.proofs.Streams.{OnlyNow, Way, fresh_way, Joined, joined, leaves}
+use Rattle.tau_engine.specs.DiskFacts.{Now}
+use Rattle.tau_engine.proofs.Streams.{OnlyNow, Way, fresh_way, Joined, joined, leaves, Past}
 
 module _ {D : Type 0} {G : Ghosts D} (only_now : OnlyNow G) (n m : ℕ) (mode : LogMode) (load : Workload) (sound : IsSoundLoad load) (l : Load) (load_is : IsLoadOn n m mode load (fresh_start n) l) (ws ws' : List (Writer D G)) (acks : List (ℕ × List ℕ))
     (t : CameTo (chosen_by load.turns n m load) (opened_at load (fresh_start n)) l ws ws' acks) where
@@ -87,4 +87,4 @@ module _ {D : Type 0} {G : Ghosts D} (only_now : OnlyNow G) (n m : ℕ) (mode : 
 
     pub has_ended : IsOver n s → (((j : ℕ) → j < n → stops j ≡ None) → AllAcked load run) → IsEnded n mode load (Now G.tells G.may_leave old new) (RoseAt G.faults old new) run
     has_ended over complete =
-        of.ended_of by n m mode load (fresh_start n) begins sound l load_is ws ws' acks t (Past G.tells G.moment G.may_leave_since old new) (Now G.tells G.may_leave old new) (RoseAt G.faults old new) fresh_leaves over complete
+        of.ended_of by n m mode load (fresh_start n) begins sound l load_is ws ws' acks t (Past G old new) (Now G.tells G.may_leave old new) (RoseAt G.faults old new) fresh_leaves over complete

@@ -45,6 +45,7 @@ use Rattle.tau_engine.specs.RunSays.{HasRun, IsRunRefused, OnlyOpened, RunSays}
 use Rattle.tau_engine.proofs.OnOpened.{calls_are, same_sizes, size_is, starts_long}
 use Rattle.tau_engine.proofs.OnlyTouched as touched
 use Rattle.tau_engine.proofs.Streams.{OnlyNow}
+use Rattle.tau_engine.proofs.Tops.{nothing_told}
 
 broke_as : {D : Type 0} (G : Ghosts D) (a b : ℕ) (d e : D) → Broke G a d e → (G.tells → a ≡ b) → Broke G b d e
 broke_as G a b d e broke same = record {
@@ -350,10 +351,6 @@ module _ {D : Type 0} (G : Ghosts D) (only_now : OnlyNow G) (n m : ℕ) (mode : 
 
   -- ---- the refusal, and what was told of it
 
-  nothing_told : WroteFront wrote (Rose faults faults') [] → wrote []
-  nothing_told (inl told) = told
-  nothing_told (inr part) = absurd (let lt = part.1 in omega (arith, lt))
-
   silent_memory : (r : ScanRefusal) → RefusesRun G f n text old new r → wrote [] → Told status.NoMemory
   silent_memory refusal.NoMemory (inl only) silent = only_memory only silent
   silent_memory refusal.NoMemory (inr (k, le, s)) silent = says_memory (inr (touched.memory_told only_now n m mode load some room workers sound old new there s.sizes s.starts s.begun (some_touched k s) hears held held' faults faults' silent))
@@ -362,7 +359,7 @@ module _ {D : Type 0} (G : Ghosts D) (only_now : OnlyNow G) (n m : ℕ) (mode : 
   silent_memory (refusal.Bad fault) refuses silent = only_memory (only_read fault refuses) silent
 
   told_so : (r : ScanRefusal) → RefusesRun G f n text old new r → WroteFront wrote (Rose faults faults') (fault_text (status_at r)) → Told (status_at r)
-  told_so refusal.NoMemory refuses line = silent_memory refusal.NoMemory refuses (nothing_told line)
+  told_so refusal.NoMemory refuses line = silent_memory refusal.NoMemory refuses (nothing_told wrote (Rose faults faults') line)
   told_so (refusal.Failed j) (inl (stop, only)) line = only_failed j (stops_reading j stop) only line
   told_so (refusal.Failed j) (inr s) line =
       let starting = stops_starting j s in

@@ -42,7 +42,7 @@ use Rattle.tau_engine.specs.Bench.{IsMeasured, PlaysWell}
 use Rattle.tau_step.specs.Counts.{AreCounted, counting}
 use Rattle.tau_engine.specs.Drill.{IsPlay, IsRehearsed, PlaysOn}
 use Rattle.tau_engine.specs.Played.{ArePlayed}
-use Rattle.tau_engine.specs.DiskFacts.{Past, Now, AreUnborn}
+use Rattle.tau_engine.specs.DiskFacts.{Now, AreUnborn}
 use Rattle.tau_engine.specs.Outside.{Wrote}
 use Rattle.tau_engine.specs.Runs.{ran_by}
 use Rattle.tau_engine.proofs.Chosen.{chosen}
@@ -51,7 +51,7 @@ use Rattle.tau_engine.proofs.Playing.{none_played, played}
 use Rattle.tau_engine.proofs.Ran.{as_chosen, gave}
 use Rattle.tau_engine.proofs.RanTo as to
 use Rattle.tau_engine.proofs.Reports.{reported_by, last_is}
-use Rattle.tau_engine.proofs.Streams.{OnlyNow, fresh_way, Joined, clean_below, first_stopped, made_all}
+use Rattle.tau_engine.proofs.Streams.{OnlyNow, fresh_way, Joined, clean_below, first_stopped, made_all, Past}
 
 -- a run of any kind that went to its end, on these writers, where the sink has not failed
 module _ {D : Type 0} {G : Ghosts D} (only_now : OnlyNow G) (n m : ℕ) (load : Workload) (old mid new : List D) (many : n ≤ length old) (ws after : List (Writer D G)) (streams : AreOpened G n (catalogue_of load) old mid ws) (back : new ≡ map disk_of after ++ mid)
@@ -199,7 +199,7 @@ heard_now n m load old new held held' r = record { rehearsed = record { failed =
 
 -- an image of a disk on which at most the catalogue was written
 module _ {D : Type 0} (G : Ghosts D) (only_now : OnlyNow G) (n : ℕ) (catalogue : List ℕ) (old new : List D) (each : (j : ℕ) (d : D) → j < n → slice_get old j ≡ Some d → (e : D) × (slice_get new j ≡ Some e) × Begins G n catalogue j d e) where
-  pub begun_left : AreUnborn G.tells G.may_leave old n → (j : ℕ) (x : List ℕ) → j < n → Past G.tells G.moment G.may_leave_since old new j x → HasContent One n j [] x ⊎ HasContent One n j catalogue x
+  pub begun_left : AreUnborn G.tells G.may_leave old n → (j : ℕ) (x : List ℕ) → j < n → Past G old new j x → HasContent One n j [] x ⊎ HasContent One n j catalogue x
   begun_left unborn j x lt (d, e, was, is, (t, since)) =
       let h = each j d lt was in
       let same : h.0 ≡ e = (let f : Some h.0 ≡ Some e = sym h.1 ∙ is in cc) in
@@ -211,7 +211,7 @@ module _ {D : Type 0} (G : Ghosts D) (only_now : OnlyNow G) (n : ℕ) (catalogue
 
 module _ {D : Type 0} (G : Ghosts D) (only_now : OnlyNow G) (counts_now : (d : D) (t : ℕ) (x : List ℕ) → t ≤ G.moment d → G.may_leave d x → G.may_leave_since d t x) (n m : ℕ) (load : Workload) (some : 1 ≤ n) (room : n ≤ 16) (workers : 1 ≤ m) (sound : IsSoundLoad load)
     (old new : List D) (tells : G.tells) (unborn : AreUnborn G.tells G.may_leave old n) (begins : EachIn (λ j. j < n) (Begins G n (catalogue_of load)) old new) (hears : Type 0) (held : List ℕ) where
-  past_now : (j : ℕ) (x : List ℕ) → j < n → Now G.tells G.may_leave old new j x → Past G.tells G.moment G.may_leave_since old new j x
+  past_now : (j : ℕ) (x : List ℕ) → j < n → Now G.tells G.may_leave old new j x → Past G old new j x
   past_now j x lt (d, e, was, is, (t, now)) =
       let (f, there, begun) = begins j d lt was in
       let same : f ≡ e = (let q : Some f ≡ Some e = sym there ∙ is in cc) in

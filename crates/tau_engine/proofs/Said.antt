@@ -34,7 +34,7 @@ use Rattle.tau_engine.specs.Served.{streams_of, uses_slots, reads_source, writes
 use Rattle.tau_engine.specs.Sources.{HasSource, RefusesSource, is_of_source}
 use Rattle.tau_engine.specs.Top.{Says, Untouched, Uses, Written, finds_log, is_told_late}
 use Rattle.tau_engine.specs.Recovery.{EndsAsBad, EndsTangled}
-use Rattle.tau_engine.proofs.Drilling.{no_refusal, rehearses_well}
+use Rattle.tau_engine.proofs.Drilling.{no_refusal, rehearsal_recovers, rehearses_well}
 use Rattle.tau_engine.proofs.Recoveries.{clean_of}
 use Rattle.tau_engine.proofs.Refusals.{answers_as, told_refusal}
 use Rattle.tau_engine.proofs.RunClauses as of
@@ -56,19 +56,6 @@ no_source status.ReadFault kind e = cc kind
 no_source status.TooLong kind e = cc kind
 no_source (status.BadFeed at) kind e = cc kind
 no_source (status.BadReport number) kind e = cc kind
-
-pub rehearsal_recovers : (a : Status) → ends_rehearsal a ≡ true → ends_recovery a ≡ true
-rehearsal_recovers status.Ok kind = refl
-rehearsal_recovers status.NoMemory kind = refl
-rehearsal_recovers status.WriteFault kind = refl
-rehearsal_recovers (status.DiskFault j) kind = absurd (cc kind)
-rehearsal_recovers (status.BadLog fault) kind = absurd (cc kind)
-rehearsal_recovers status.Usage kind = absurd (cc kind)
-rehearsal_recovers (status.BadText at why) kind = absurd (cc kind)
-rehearsal_recovers status.ReadFault kind = absurd (cc kind)
-rehearsal_recovers status.TooLong kind = absurd (cc kind)
-rehearsal_recovers (status.BadFeed at) kind = absurd (cc kind)
-rehearsal_recovers (status.BadReport number) kind = absurd (cc kind)
 
 pub no_before : (a : Status) → ends_recovery a ≡ true → is_before_disks a ≡ true → ⊥
 no_before status.Ok kind e = cc e

@@ -112,9 +112,6 @@ pub record Pieced (n : ℕ) (text : List ℕ) (at : ℕ) : Type 0 where
   pub pieces : List Piece
   pub before : ArePieces n pieces (take at text)
 
-pub none_pieced : (n : ℕ) (text : List ℕ) → Pieced n text 0
-none_pieced n text = record { within = omega arith; pieces = []; before = (All-nil (IsPiece n), refl) }
-
 pub more_pieced : (n : ℕ) (text : List ℕ) (at : ℕ) (p : Piece) → Pieced n text at → BeginsWith n (drop at text) p → Pieced n text (at + (5 + length p.bytes))
 more_pieced n text at p h b =
     let k = 5 + length p.bytes in
@@ -130,9 +127,6 @@ more_pieced n text at p h b =
         taken ∙ ap (λ (l : List ℕ). l ++ piece_text p) h.before.1 ∙ ap (λ (l : List ℕ). texts h.pieces ++ l) (sym (append-nil (piece_text p))) ∙ sym (flat_map-append piece_text h.pieces (p ∷ [])),
       );
     }
-
-pub all_pieced : (n : ℕ) (text : List ℕ) (at : ℕ) → Pieced n text at → length text ≤ at → (pieces : List Piece) × ArePieces n pieces text
-all_pieced n text at h le = (h.pieces, (h.before.0, sym (take_all at text le) ∙ h.before.1))
 
 pub bad_pieced : (n : ℕ) (text : List ℕ) (at : ℕ) → Pieced n text at → length text ≤ MAX_WORKLOAD → at < length text → NoPiece n (drop at text) → HasBadPiece n text at
 bad_pieced n text at h within lt none = record {

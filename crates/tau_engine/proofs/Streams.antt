@@ -1,5 +1,5 @@
 -- The disks of a run, from the entry of the call to its end.
-use Rattle.std.proofs.Common.{ℕ, zero, suc, ◌+◌, ◌-◌, ◌<◌, ◌≤◌, ◌≡◌, inl, inr, true, false, List, [], ◌∷◌, ◌++◌, map, length, drop, refl, sym, ap, subst, ◌∙◌, arith}
+use Rattle.std.proofs.Common.{ℕ, zero, suc, ◌+◌, ◌-◌, ◌<◌, ◌≤◌, ◌≡◌, inl, inr, true, false, List, [], ◌∷◌, ◌++◌, map, length, refl, sym, ap, subst, ◌∙◌, arith}
 use Rattle.std.specs.Prelude.{Some, None, slice_get}
 use Rattle.std.proofs.lemmas.Bool.{cases_Bool}
 use Rattle.std.proofs.lemmas.List.{append-nil}
@@ -9,7 +9,7 @@ use Rattle.tau_base.specs.Modes.{format_of}
 use Rattle.tau_block.specs.Image.{HasContent}
 use Rattle.tau_disk.specs.declared.disk.Disk.{Ghosts}
 use Rattle.tau_disk.specs.Disk.{Rose, Passes}
-use Rattle.tau_disk.specs.Used.{EachIn, EachUsed, RoseAt, IsClean, IsStopped, IsFirstStopped, GoesOn, Made}
+use Rattle.tau_disk.specs.Used.{EachIn, EachUsed, OfDisk, RoseAt, IsClean, IsStopped, IsFirstStopped, GoesOn, Made}
 use Rattle.tau_stream.specs.declared.writer.Writer.{Writer}
 use Rattle.tau_stream.specs.Stream.{IsOldOrNew, IsUnborn}
 use Rattle.tau_stream.specs.Writer.{disk_of, has_failed}
@@ -19,11 +19,10 @@ use Rattle.tau_disk.specs.Stages.{Went}
 use Rattle.tau_open.specs.Opening.{IsOpened, AreOpened}
 use Rattle.tau_disk.proofs.Calls.{went_on_further}
 use Rattle.tau_scan.proofs.Plans.{goes_on, goes_stopped}
-use Rattle.tau_open.proofs.Closed.{rest_back}
 use Rattle.tau_machine.specs.State.{Core}
 use Rattle.tau_core.specs.declared.state.Load.{Load}
 use Rattle.tau_run.specs.StopsLeave.{HasFront, HasSomeFront, IsLeft, Leaves}
-use Rattle.tau_engine.specs.DiskFacts.{Past, Now, AreUnborn, NotEarlier, NextClean}
+use Rattle.tau_engine.specs.DiskFacts.{Now, AreUnborn, NextClean}
 use Rattle.tau_base.proofs.Lists.{some_at, got_mapped}
 use Rattle.tau_base.proofs.Logic.{some_is}
 use Rattle.tau_run.specs.Writers.{EachOf, Left}
@@ -32,6 +31,10 @@ pub mapped_got : {A B : Type 0} (f : A → B) (xs rest : List A) (more : List B)
 mapped_got f [] rest more j x e = absurd (cc)
 mapped_got {B = B} f (y ∷ xs) rest more zero x e = (let same = some_is y x e in ap (λ z. Some (f z)) same)
 mapped_got f (y ∷ xs) rest more (suc j) x e = mapped_got f xs rest more j x e
+
+-- a stop at some moment since the entry might have left this image of the disk
+abbrev pub Past : {D : Type 0} → Ghosts D → List D → List D → ℕ → List ℕ → Type 0
+Past G old new j x = OfDisk (λ d e. G.tells × G.may_leave_since e (G.moment d) x) old new j
 
 -- since this moment there is no other
 abbrev pub OnlyNow : {D : Type 0} → Ghosts D → Type 0
@@ -72,9 +75,6 @@ module _ {D : Type 0} (G : Ghosts D) where
         let here : IsOpened G n catalogue j d (disk_of first.0) = subst (λ (x : D). IsOpened G n catalogue j d x) (sym first.2) made.2 in
         (disk_of went.0, there, record { before = first.0; after = went.0; went = here.went; opens = here.begins; left = went.2; is = refl })
 
-    pub rest_is : drop n new ≡ drop n old
-    rest_is = rest_back n old new mid ws' (ran.count ∙ opened.count) back ∙ opened.rest
-
   module _ (n : ℕ) (way : Way D) (l : Load) (s : Core) (streams : l.streams ≡ n) (old new : List D) (many : n ≤ length old) (all : EachIn (λ j. j < n) (Joined n way l s) old new) where
     -- the disk of a stream as it is at the end
     at_end : (j : ℕ) → j < n → (d e : D) → slice_get old j ≡ Some d → slice_get new j ≡ Some e → Joined n way l s j d e
@@ -104,18 +104,6 @@ module _ {D : Type 0} (G : Ghosts D) where
           ]
           | inr ran ↦ inr (subst (λ (k : ℕ). HasSomeFront k j (way.first j) l s x) streams ran)
         ]
-
-    -- no moment has fallen
-    pub rises : ((j : ℕ) (d : D) → j < n → slice_get old j ≡ Some d → G.tells → way.ready j d) → EachUsed (NotEarlier G.tells G.moment) old new n
-    rises ready j d lt was =
-        let h = all j d lt was in (
-          h.0,
-          h.1,
-          λ t.
-              let first = (h.2.opens t (ready j d lt was t)).later in
-              let next = (h.2.left.before t).later in
-              subst (λ (x : D). G.moment d ≤ G.moment x) (sym h.2.is) (omega (arith, first, next)),
-        )
 
     -- no call that opens a stream was to fail
     pub opens_clean : EachIn (λ j. j < n) (λ j. NextClean G.tells G.number G.fails (way.calls j)) old new
@@ -158,19 +146,6 @@ module _ {D : Type 0} (G : Ghosts D) where
     pub first_stopped : (j at : ℕ) → j < n → (s.streams j).stop ≡ Some at → ((i : ℕ) → i < j → (s.streams i).stop ≡ None) → G.tells → IsFirstStopped G.tells G.number G.fails G.short old new j
     first_stopped j at lt stop below t =
         (let (d, e, was, is, h) = at_start j lt in ((d, e, was, is, stopped j at d e h stop t), clean_below j (omega (arith, lt)) below))
-
-    -- the call that failed came after those that make a stream
-    made_late : (count : ℕ) (d e f : D) → Went G count d e → G.tells → IsStopped G.tells G.number G.fails G.short e f → (k : ℕ) × (count < k) × (G.short f ≡ false → G.number f ≡ G.number d + k)
-    made_late count d e f went t stop = elim (stop t) [
-      | inl memory ↦ (count + 1, omega arith, λ no_memory. absurd (let g : true ≡ false = sym memory ∙ no_memory in cc g))
-      | inr made ↦ (let first = (went.made t).0 in let later = made.0 in (G.number f - G.number d, omega (arith, first, later), λ no_memory. omega (arith, first, later)))
-    ]
-
-    pub stopped_late : (j at : ℕ) → j < n → (s.streams j).stop ≡ Some at → G.tells → (k : ℕ) × (way.calls j < k) × Made G.number G.short old new j k
-    stopped_late j at lt stop t =
-        let (d, e, was, is, h) = at_start j lt in
-        let late = made_late (way.calls j) d (disk_of h.before) (disk_of h.after) h.went t (h.left.stops (has_stopped j at d e h stop)).2 in
-        (late.0, late.1, (d, e, was, is, subst (λ (x : D). G.short x ≡ false → G.number x ≡ G.number d + late.0) (sym h.is) late.2))
 
     pub made_all : (j : ℕ) → j < n → (k : ℕ) × (way.calls j ≤ k) × (G.tells → Made G.number G.short old new j k)
     made_all j lt =
@@ -217,7 +192,7 @@ module _ {D : Type 0} (G : Ghosts D) where
         inr ([], record { count = 0; spelled = refl; has = subst (λ (c : List ℕ). HasContent (format_of l.mode) n j c x) (sym (append-nil catalogue)) has })
 
     -- an image that a stop since the entry might have left
-    pub left_since : OnlyNow G → AreUnborn G.tells G.may_leave old n → (j : ℕ) (x : List ℕ) → j < n → Past G.tells G.moment G.may_leave_since old new j x → IsLeft n j [] catalogue l s x
+    pub left_since : OnlyNow G → AreUnborn G.tells G.may_leave old n → (j : ℕ) (x : List ℕ) → j < n → Past G old new j x → IsLeft n j [] catalogue l s x
     left_since only_now unborn j x lt (d, e, was, is, (t, so)) =
         let way : Way D = fresh_way G n catalogue in
         since n way l s streams old new many all (λ i. []) j d e (at_end n way l s streams old new many all j lt d e was is) t (unborn j d lt was t) (made_so j) (G.moment d) (omega arith)

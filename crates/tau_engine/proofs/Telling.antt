@@ -11,7 +11,7 @@ use Rattle.tau_scan.specs.Reading.{log_of_contents}
 use Rattle.tau_replay.proofs.Tangles.{tangled_alike, tangled_has_no_order}
 use Rattle.tau_replay.specs.Redone.{IsTangledAt, IsRedone}
 use Rattle.tau_follow_laws.specs.Following.{Followed, begun}
-use Rattle.tau_follow_laws.specs.Feeding.{read_now, HasFed, Piece, with_piece, IsFollower, Feeds}
+use Rattle.tau_follow_laws.specs.Feeding.{read_now, HasFed, Piece, with_piece, IsFollower}
 use Rattle.tau_follow.proofs.Fed.{feeds_one}
 use Rattle.tau_follow.specs.Sealing.{IsNoLog, cut_short, stuck, tangled}
 use Rattle.tau_engine.specs.Following.{applied_line, fed_format, FeedsTold, FedTold, IsFollowed, IsFedBad, IsBadFollowed}
@@ -38,13 +38,6 @@ told_more f fed now s t u (q ∷ pieces) p lines h g = (
   ap (λ (l : List ℕ). lined l u) h.3 ∙ append_assoc (applied_line (length (h.0).order)) h.1 (applied_line (length u.order)),
   told_more f (with_piece fed q) now h.0 t u pieces p h.1 h.4 g,
 )
-
-feeds_told : (f : Format) (fed now : List (List ℕ)) (s t : Followed) (pieces : List Piece) (lines : List ℕ) → FeedsTold f fed s pieces lines now t → Feeds f fed s pieces now t
-feeds_told f fed now s t [] lines h = (h.1, h.2)
-feeds_told f fed now s t (p ∷ pieces) lines h = (h.0, h.2, feeds_told f (with_piece fed p) now h.0 t pieces h.1 h.4)
-
-pub follower_told : (n : ℕ) (pieces : List Piece) (lines : List ℕ) (now : List (List ℕ)) (t : Followed) → FedTold n pieces lines now t → IsFollower (fed_format n) n now t
-follower_told n pieces lines now t h = (pieces, feeds_told (fed_format n) (replicate n []) now (begun n) t pieces lines h)
 
 pub begun_follower : (f : Format) (n : ℕ) → IsFollower f n (replicate n []) (begun n)
 begun_follower f n = ([], (refl, refl))

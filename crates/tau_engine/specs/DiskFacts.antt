@@ -6,10 +6,6 @@ use Rattle.tau_run.specs.RunFacts as ending
 use Rattle.tau_engine.specs.declared.status.Status.{Status}
 use Rattle.tau_engine.specs.declared.status.Status.TheVariants as status
 
--- a stop at some moment since the entry might have left this image of the disk
-abbrev pub Past : {D : Type 0} → Type 0 → (D → ℕ) → (D → ℕ → List ℕ → Type 0) → List D → List D → ℕ → List ℕ → Type 0
-Past tells moment since old new j x = OfDisk (λ d e. tells × since e (moment d) x) old new j
-
 -- a stop now may leave this image of the disk
 abbrev pub Now : {D : Type 0} → Type 0 → (D → List ℕ → Type 0) → List D → List D → ℕ → List ℕ → Type 0
 Now tells may_leave old new j x = OfDisk (λ d e. tells × may_leave e x) old new j

@@ -30,10 +30,6 @@ HasWorkload text load = (length text ≤ MAX_WORKLOAD) × (workload_of text ≡ 
 abbrev pub HasFault : List ℕ → TextFault → Type 0
 HasFault text fault = (length text ≤ MAX_WORKLOAD) × (workload_of text ≡ Err fault)
 
--- the text is too long, or of no workload
-abbrev pub HasNoWorkload : List ℕ → Type 0
-HasNoWorkload text = (load : Workload) → HasWorkload text load → ⊥
-
 -- a sink that tells has this after what it held
 abbrev pub Wrote : Type 0 → List ℕ → List ℕ → List ℕ → Type 0
 Wrote tells old new text = tells → new ≡ old ++ text

@@ -2,6 +2,7 @@
 ghost use Rattle.std.specs.Prelude.{ℕ, ◌≡◌, ◌≤◌, ◌+◌, ◌++◌, ◌∷◌, List, [], false, true, length, map, string_bytes, vec_len, vec_capacity, codes, Ok, Some, None, IfOk, OnOk};
 ghost use Rattle.tau_base.specs.declared.limits.TheConstants.{MAX_CALLS, MAX_CATALOGUE, MAX_RECOVERY_WORKERS};
 ghost use Rattle.tau_base.specs.declared.format.Format.TheVariants.{One};
+ghost use Rattle.tau_base.specs.declared.value.LogMode.TheVariants.{Values};
 ghost use Rattle.tau_base.specs.Modes.{most_streams};
 ghost use Rattle.tau_disk.specs.Disk.{Rose};
 ghost use Rattle.tau_disk.specs.Memory.{seen_by};
@@ -13,6 +14,7 @@ ghost use Rattle.tau_scan.specs.Reading.{log_of};
 ghost use Rattle.tau_scan.specs.Taken.{Kept};
 ghost use Rattle.tau_replay.specs.Redone.{IsOrderOf};
 ghost use Rattle.tau_report.specs.Lines.{line};
+ghost use Rattle.tau_run.specs.Gives.{GaveNew};
 ghost use Rattle.tau_run.specs.Start.{catalogue_of};
 ghost use Rattle.tau_run.specs.CoreRun.{IsSoundLoad};
 ghost use Rattle.tau_run.specs.Writers.{AreNew};
@@ -21,14 +23,15 @@ ghost use Rattle.tau_engine.specs.declared.served.TheConstants.{MAX_COUNT};
 ghost use Rattle.tau_engine.specs.Drill.{AreNewDisks};
 ghost use Rattle.tau_engine.specs.DiskFacts.{AreUnborn};
 ghost use Rattle.tau_engine.specs.Outside.{Wrote, ends_rehearsal};
+ghost use Rattle.tau_engine.specs.Runs.{ran_by};
 
-use crate::run::run_writers;
 use crate::status::Status;
 use sha2::{Digest, Sha256};
 use std::alloc::{AllocError, Global};
 use std::sync::Wait;
 use std::thread::Threads;
 use tau_base::{Format, Key, LogMode, NoMemory, Value};
+use tau_crew::run_threads;
 use tau_disk::{Disk, Gate, MemDisk, MemSink, Sink, write_all};
 use tau_gen::generate;
 use tau_model::Tables;
@@ -36,6 +39,7 @@ use tau_open::{close_streams, open_streams};
 use tau_replay::replay_threads;
 use tau_report::{RunEnd, table_text};
 use tau_scan::{Log, ReplayRefusal, ScanRefusal, scan};
+use tau_step::run_turns;
 use tau_stream::Writer;
 use tau_text::{Declarations, Workload, print_declarations};
 
@@ -57,6 +61,42 @@ fn rows_of(end: RunEnd) -> Result<Tables, NoMemory>
     match disk {
         Some(_) => Err(NoMemory),
         None => Ok(report.tables),
+    }
+}
+
+/// Runs a workload on the streams of these writers, of which records hold values: by turns if it has them, else in threads.
+fn run_writers<R: Threads + Wait + Sync, D: Disk + Send, K: Sink + Send, G: Gate + Sync>(
+    rt: &R,
+    alloc: Global,
+    load: &Workload,
+    workers: u8,
+    writers: &mut Vec<Writer<D>>,
+    sink: &mut K,
+    gate: &G,
+) -> Result<RunEnd, NoMemory>
+    requires streams_low { 1 ≤ length writers.old.items }
+    requires streams_high { length writers.old.items ≤ most_streams One }
+    requires low { 1 ≤ workers }
+    requires high { workers ≤ MAX_COUNT }
+    requires calls { AreCalls load.now.declarations.procs load.now.calls }
+    requires text { length (declarations_text load.now.declarations) ≤ MAX_CATALOGUE }
+    requires fresh { AreNew One (λ j. catalogue_of load.now) writers.old.items }
+    ensures ran { GaveNew (ran_by load.now.turns (length writers.old.items) workers load.now) workers Values load.now writers.old.items writers.new.items K.tells (K.held sink.old) (K.held sink.new) (Rose (K.faults sink.old) (K.faults sink.new)) result }
+    ensures faults { K.faults sink.old ≤ K.faults sink.new }
+    ensures count { length writers.new.items ≡ length writers.old.items }
+{
+    match load.turns {
+        Some(_) => run_turns(alloc, load, workers, LogMode::Values, writers, sink),
+        None => run_threads(
+            rt,
+            alloc,
+            load,
+            workers,
+            LogMode::Values,
+            writers,
+            sink,
+            gate,
+        ),
     }
 }
 
@@ -84,16 +124,7 @@ fn play_on<R: Threads + Wait + Sync, D: Disk + Send, K: Sink + Send, G: Gate + S
     ensures len { vec_len disks.new ≡ vec_len writers + vec_len disks.old }
 {
     let mut writers = writers;
-    let end = run_writers(
-        rt,
-        alloc,
-        load,
-        workers,
-        LogMode::Values,
-        &mut writers,
-        sink,
-        gate,
-    );
+    let end = run_writers(rt, alloc, load, workers, &mut writers, sink, gate);
     close_streams(disks, writers);
     rows_of(end?)
 }

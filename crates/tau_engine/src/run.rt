@@ -1,20 +1,17 @@
 //! A run on the first disks.
 ghost use Rattle.std.specs.Prelude.{◌≡◌, ◌≤◌, ◌+◌, ℕ, List, Ok, length, vec_len, vec_capacity};
-ghost use Rattle.tau_base.specs.declared.limits.TheConstants.{MAX_CATALOGUE, MAX_STREAMS, MAX_WORKERS};
+ghost use Rattle.tau_base.specs.declared.limits.TheConstants.{MAX_STREAMS, MAX_WORKERS};
 ghost use Rattle.tau_base.specs.Modes.{format_of, most_streams};
 ghost use Rattle.tau_disk.specs.Disk.{Rose};
-ghost use Rattle.tau_text.specs.Canonical.{declarations_text};
 ghost use Rattle.tau_text.specs.Kept.{AreCalls, IsRunnable};
 ghost use Rattle.tau_text.specs.Text.{workload_of};
 ghost use Rattle.tau_core.specs.Opens.{Fits};
-ghost use Rattle.tau_run.specs.Gives.{GaveFrom, GaveNew};
-ghost use Rattle.tau_run.specs.Start.{catalogue_of};
-ghost use Rattle.tau_run.specs.Writers.{AreNew, IsBegun};
-ghost use Rattle.tau_engine.specs.declared.served.TheConstants.{MAX_COUNT};
+ghost use Rattle.tau_run.specs.Gives.{GaveFrom};
+ghost use Rattle.tau_run.specs.Writers.{IsBegun};
 ghost use Rattle.tau_engine.specs.RunSays.{RunSays};
-ghost use Rattle.tau_engine.specs.Runs.{RunsFrom, TellsEnd, ran_by, status_at};
+ghost use Rattle.tau_engine.specs.Runs.{RunsFrom, TellsEnd, ran_by};
 
-use crate::fault::refuse;
+use crate::look::refuse_scan;
 use crate::status::Status;
 use std::alloc::Global;
 use std::sync::Wait;
@@ -22,12 +19,11 @@ use std::thread::Threads;
 use tau_base::{LogMode, NoMemory, format_of};
 use tau_begin::open_run;
 use tau_core::Opening;
-use tau_crew::{run_threads, run_threads_from};
+use tau_crew::run_threads_from;
 use tau_disk::{Disk, Gate, Sink, write_all};
 use tau_open::close_streams;
 use tau_report::{RunEnd, report_text};
-use tau_scan::ScanRefusal;
-use tau_step::{run_turns, run_turns_from};
+use tau_step::run_turns_from;
 use tau_stream::Writer;
 use tau_text::{Workload, print_declarations};
 
@@ -49,45 +45,6 @@ fn tell_end<K: Sink>(alloc: Global, load: &Workload, end: &RunEnd, sink: &mut K)
             None => Status::Ok,
             Some(stream) => Status::DiskFault { stream },
         },
-    }
-}
-
-/// How a run ends where it could not begin.
-fn status_of(refusal: ScanRefusal) -> Status
-    ensures value { result ≡ status_at refusal }
-{
-    match refusal {
-        ScanRefusal::NoMemory => Status::NoMemory,
-        ScanRefusal::Failed { stream } => Status::DiskFault { stream },
-        ScanRefusal::Bad(fault) => Status::BadLog(fault),
-    }
-}
-
-/// Runs a workload on the streams of these writers: by turns if it has them, else in threads.
-pub(crate) fn run_writers<R: Threads + Wait + Sync, D: Disk + Send, K: Sink + Send, G: Gate + Sync>(
-    rt: &R,
-    alloc: Global,
-    load: &Workload,
-    workers: u8,
-    mode: LogMode,
-    writers: &mut Vec<Writer<D>>,
-    sink: &mut K,
-    gate: &G,
-) -> Result<RunEnd, NoMemory>
-    requires streams_low { 1 ≤ length writers.old.items }
-    requires streams_high { length writers.old.items ≤ most_streams (format_of mode) }
-    requires low { 1 ≤ workers }
-    requires high { workers ≤ MAX_COUNT }
-    requires calls { AreCalls load.now.declarations.procs load.now.calls }
-    requires text { length (declarations_text load.now.declarations) ≤ MAX_CATALOGUE }
-    requires fresh { AreNew (format_of mode) (λ j. catalogue_of load.now) writers.old.items }
-    ensures ran { GaveNew (ran_by load.now.turns (length writers.old.items) workers load.now) workers mode load.now writers.old.items writers.new.items K.tells (K.held sink.old) (K.held sink.new) (Rose (K.faults sink.old) (K.faults sink.new)) result }
-    ensures faults { K.faults sink.old ≤ K.faults sink.new }
-    ensures count { length writers.new.items ≡ length writers.old.items }
-{
-    match load.turns {
-        Some(_) => run_turns(alloc, load, workers, mode, writers, sink),
-        None => run_threads(rt, alloc, load, workers, mode, writers, sink, gate),
     }
 }
 
@@ -176,40 +133,49 @@ fn run_on<R: Threads + Wait + Sync, D: Disk + Send, K: Sink + Send, G: Gate + Sy
     }
 }
 
-/// Runs a workload on what the first `streams` disks hold, and puts them back in their places.
+/// What is chosen for a run.
+#[derive(Clone, Copy, Debug)]
+pub struct Choice {
+    /// Streams, 1 to 16; 1 to 32 of a wide mode.
+    pub streams: u8,
+    /// Workers, 1 to 32.
+    pub workers: u8,
+    /// What records hold, and in which format.
+    pub mode: LogMode,
+}
+
+/// Runs a workload on what the first disks hold, one for each stream, and puts them back in their places.
 pub fn run<R: Threads + Wait + Sync, D: Disk + Send, K: Sink + Send, G: Gate + Sync>(
     rt: &R,
     alloc: Global,
     load: &Workload,
-    streams: u8,
-    workers: u8,
-    mode: LogMode,
+    choice: Choice,
     sink: &mut K,
     disks: &mut Vec<D>,
     gate: &G,
 ) -> Status
     requires disks { MAX_STREAMS ≤ vec_len disks.old }
-    requires streams_low { 1 ≤ streams }
-    requires streams_high { streams ≤ most_streams (format_of mode) }
-    requires low { 1 ≤ workers }
-    requires high { workers ≤ MAX_WORKERS }
+    requires streams_low { 1 ≤ choice.streams }
+    requires streams_high { choice.streams ≤ most_streams (format_of choice.mode) }
+    requires low { 1 ≤ choice.workers }
+    requires high { choice.workers ≤ MAX_WORKERS }
     requires runnable { IsRunnable load.now }
     requires meant { (text : List ℕ) × (workload_of text ≡ Ok load.now) }
 
     ensures count { vec_len disks.new ≡ vec_len disks.old }
-    ensures says { RunSays ⟦<D as Disk>⟧ streams workers mode load.now disks.old.items disks.new.items K.tells (K.held sink.old) (K.held sink.new) (K.faults sink.old) (K.faults sink.new) result }
+    ensures says { RunSays ⟦<D as Disk>⟧ choice.streams choice.workers choice.mode load.now disks.old.items disks.new.items K.tells (K.held sink.old) (K.held sink.new) (K.faults sink.old) (K.faults sink.new) result }
 {
     let Ok(text) = print_declarations(alloc, &load.declarations) else {
         return Status::NoMemory;
     };
-    match open_run(alloc, disks, streams, format_of(mode), &text) {
-        Err(refusal) => refuse(alloc, sink, status_of(refusal)),
+    match open_run(alloc, disks, choice.streams, format_of(choice.mode), &text) {
+        Err(refusal) => refuse_scan(alloc, sink, refusal),
         Ok((opening, writers)) => {
             let ready = Ready {
                 opening,
                 writers,
-                workers,
-                mode,
+                workers: choice.workers,
+                mode: choice.mode,
             };
             run_on(rt, alloc, load, ready, sink, disks, gate)
         }

@@ -14,7 +14,7 @@ use crate::inspect::inspect;
 use crate::reading::read_source;
 use crate::recovery::recover;
 use crate::restore::restore;
-use crate::run::run;
+use crate::run::{Choice, run};
 use crate::served::{DISKS, Work, read_served};
 use crate::status::Status;
 use std::alloc::Global;
@@ -56,7 +56,14 @@ pub fn taurus<R: Threads + Wait + Sync, S: Source, K: Sink + Send, D: Disk + Sen
         Ok(Work::Bench { start, calls, n, m }) => bench(rt, alloc, start, calls, n, m, sink, gate),
         Ok(Work::Run { n, m, mode }) => match read_source(alloc, source) {
             Err(refusal) => refuse(alloc, sink, refusal),
-            Ok(load) => run(rt, alloc, &load, n, m, mode, sink, disks, gate),
+            Ok(load) => {
+                let choice = Choice {
+                    streams: n,
+                    workers: m,
+                    mode,
+                };
+                run(rt, alloc, &load, choice, sink, disks, gate)
+            }
         },
     }
 }

@@ -1,11 +1,11 @@
 -- What a read of the disks gives holds the contents.
-use Rattle.std.proofs.Common.{ℕ, zero, suc, ◌+◌, ◌<◌, Bool, true, ◌≡◌, List, [], ◌∷◌, map, length, Option, Some, None, Result, Ok, Err, refl, sym, ap, subst, ◌∙◌, arith}
+use Rattle.std.proofs.Common.{ℕ, suc, ◌+◌, Bool, true, ◌≡◌, List, [], ◌∷◌, map, length, Option, Some, None, Result, Ok, Err, refl, sym, ap, subst, ◌∙◌, arith}
 use Rattle.std.specs.Prelude.{slice_get, IsNone, if◌then◌else◌}
 use Rattle.std.proofs.lemmas.Bool.{eq-eqb}
 use Rattle.tau_base.specs.declared.format.Format.{Format}
 use Rattle.tau_base.specs.declared.format.Format.TheVariants.{One, Two}
 use Rattle.tau_base.specs.Modes.{format_number, same_format}
-use Rattle.tau_base.proofs.Lists.{some_at, length_mapped}
+use Rattle.tau_base.proofs.Lists.{got_within, some_at, length_mapped}
 use Rattle.tau_base.proofs.Logic.{some_is}
 use Rattle.tau_block.specs.Image.{IfBorn, image_of}
 use Rattle.tau_block.specs.declared.content.Content.{Content}
@@ -15,11 +15,6 @@ use Rattle.tau_scan.specs.declared.fault.LogFault.{LogFault}
 use Rattle.tau_scan.specs.declared.fault.LogCause.TheVariants as cause
 use Rattle.tau_scan.specs.Contents.{bytes_in, IsContentOf, AreContents, HasContents}
 use Rattle.tau_scan.specs.Reading.{◌>>=◌, in_front, each_from, counted, formatted, opened, contents_of}
-
-pub got_low : {A : Type 0} (xs : List A) (i : ℕ) (x : A) → slice_get xs i ≡ Some x → i < length xs
-got_low [] i x e = absurd cc
-got_low (y ∷ xs) zero x e = omega arith
-got_low (y ∷ xs) (suc i) x e = (let h = got_low xs i x e in omega (arith, h))
 
 abbrev done : {A : Type 0} → A → Result A LogFault
 done x = Ok x
@@ -73,7 +68,7 @@ seen_hold tells seen f disks log contents h t =
     record {
       many = h.many ∙ sym wide;
       each = λ j c e.
-          let d = some_at disks j (let low = got_low contents j c e in let many = h.many in omega (arith, low, many)) in (
+          let d = some_at disks j (let low = got_within contents j c e in let many = h.many in omega (arith, low, many)) in (
             seen d.0,
             map_get seen disks j d.0 d.1,
             subst (λ (n : ℕ). IsContentOf f n j (seen d.0) c) (sym wide) (subst (λ (g : Format). IsContentOf g (length disks) j (seen d.0) c) (h.as_asked f refl) (h.each t j d.0 c d.1 e)),
