@@ -43,6 +43,19 @@ use tau_step::run_turns;
 use tau_stream::Writer;
 use tau_text::{Declarations, Workload, print_declarations};
 
+/// What the measured job is.
+#[derive(Clone, Copy, Debug)]
+pub struct Job {
+    /// Where the rows begin, 0 to 999.
+    pub start: u16,
+    /// Calls, up to 200,000.
+    pub calls: u32,
+    /// Streams, 1 to 16.
+    pub streams: u8,
+    /// Workers, 1 to 16.
+    pub workers: u8,
+}
+
 /// The rows of a run in which nothing failed. Out of memory if a disk or the sink failed: those in memory do so for
 /// want of it alone.
 fn rows_of(end: RunEnd) -> Result<Tables, NoMemory>
@@ -64,7 +77,8 @@ fn rows_of(end: RunEnd) -> Result<Tables, NoMemory>
     }
 }
 
-/// Runs a workload on the streams of these writers, of which records hold values: by turns if it has them, else in threads.
+/// Runs a workload on the streams of these writers, of which records hold values: by turns if it has them, else in
+/// threads.
 fn run_writers<R: Threads + Wait + Sync, D: Disk + Send, K: Sink + Send, G: Gate + Sync>(
     rt: &R,
     alloc: Global,
@@ -100,30 +114,38 @@ fn run_writers<R: Threads + Wait + Sync, D: Disk + Send, K: Sink + Send, G: Gate
     }
 }
 
-/// Runs the calls of a workload by so many workers on the streams of these writers, and puts their disks back in front
-/// of the others. The lines of acknowledgements go to the sink.
+/// The writers of streams, and how many workers run on them.
+struct Crew<D: Disk> {
+    writers: Vec<Writer<D>>,
+    workers: u8,
+}
+
+/// Runs the calls of a workload on the streams of these writers, and puts their disks back in front of the others. The
+/// lines of acknowledgements go to the sink.
 fn play_on<R: Threads + Wait + Sync, D: Disk + Send, K: Sink + Send, G: Gate + Sync>(
     rt: &R,
     alloc: Global,
     load: &Workload,
-    workers: u8,
+    crew: Crew<D>,
     sink: &mut K,
     disks: &mut Vec<D>,
-    writers: Vec<Writer<D>>,
     gate: &G,
 ) -> Result<Tables, NoMemory>
-    requires streams_low { 1 ≤ vec_len writers }
-    requires streams_high { vec_len writers ≤ MAX_COUNT }
-    requires low { 1 ≤ workers }
-    requires high { workers ≤ MAX_COUNT }
+    requires streams_low { 1 ≤ vec_len crew.writers }
+    requires streams_high { vec_len crew.writers ≤ MAX_COUNT }
+    requires low { 1 ≤ crew.workers }
+    requires high { crew.workers ≤ MAX_COUNT }
     requires calls { AreCalls load.now.declarations.procs load.now.calls }
     requires text { length (declarations_text load.now.declarations) ≤ MAX_CATALOGUE }
-    requires fresh { AreNew One (λ j. catalogue_of load.now) writers.items }
-    requires room { vec_len disks.old + vec_len writers ≤ vec_capacity disks.old }
-    ensures ran { IfOk result (λ rows. PlaysWell workers load.now writers.items disks.old.items disks.new.items K.tells (K.held sink.old) (K.held sink.new) (Rose (K.faults sink.old) (K.faults sink.new)) rows) }
-    ensures len { vec_len disks.new ≡ vec_len writers + vec_len disks.old }
+    requires fresh { AreNew One (λ j. catalogue_of load.now) crew.writers.items }
+    requires room { vec_len disks.old + vec_len crew.writers ≤ vec_capacity disks.old }
+    ensures ran { IfOk result (λ rows. PlaysWell crew.workers load.now crew.writers.items disks.old.items disks.new.items K.tells (K.held sink.old) (K.held sink.new) (Rose (K.faults sink.old) (K.faults sink.new)) rows) }
+    ensures len { vec_len disks.new ≡ vec_len crew.writers + vec_len disks.old }
 {
-    let mut writers = writers;
+    let Crew {
+        mut writers,
+        workers,
+    } = crew;
     let end = run_writers(rt, alloc, load, workers, &mut writers, sink, gate);
     close_streams(disks, writers);
     rows_of(end?)
@@ -135,28 +157,33 @@ fn play<R: Threads + Wait + Sync, D: Disk + Send, K: Sink + Send, G: Gate + Sync
     rt: &R,
     alloc: Global,
     load: &Workload,
-    streams: u8,
-    workers: u8,
+    job: Job,
     sink: &mut K,
     disks: &mut Vec<D>,
     gate: &G,
 ) -> Result<Tables, NoMemory>
-    requires streams_low { 1 ≤ streams }
-    requires streams_high { streams ≤ MAX_COUNT }
-    requires low { 1 ≤ workers }
-    requires high { workers ≤ MAX_COUNT }
+    requires streams_low { 1 ≤ job.streams }
+    requires streams_high { job.streams ≤ MAX_COUNT }
+    requires low { 1 ≤ job.workers }
+    requires high { job.workers ≤ MAX_COUNT }
     requires sound { IsSoundLoad load.now }
     requires calls { AreCalls load.now.declarations.procs load.now.calls }
-    requires count { vec_len disks.old ≡ streams }
+    requires count { vec_len disks.old ≡ job.streams }
     requires tells { D.tells }
-    requires empty { AreEmpty D.tells D.seen disks.old.items streams }
-    requires unborn { AreUnborn D.tells D.may_leave disks.old.items streams }
-    ensures told { IfOk result (λ rows. IsMeasured ⟦<D as Disk>⟧ streams workers load.now disks.old.items disks.new.items (Wrote K.tells (K.held sink.old) (K.held sink.new)) rows) }
-    ensures count { OnOk result (vec_len disks.new ≡ streams) }
+    requires empty { AreEmpty D.tells D.seen disks.old.items job.streams }
+    requires unborn { AreUnborn D.tells D.may_leave disks.old.items job.streams }
+    ensures told { IfOk result (λ rows. IsMeasured ⟦<D as Disk>⟧ job.streams job.workers load.now disks.old.items disks.new.items (Wrote K.tells (K.held sink.old) (K.held sink.new)) rows) }
+    ensures count { OnOk result (vec_len disks.new ≡ job.streams) }
 {
     let catalogue = print_declarations(alloc, &load.declarations)?;
-    match open_streams(alloc, disks, streams, &catalogue) {
-        Ok(writers) => play_on(rt, alloc, load, workers, sink, disks, writers, gate),
+    match open_streams(alloc, disks, job.streams, &catalogue) {
+        Ok(writers) => {
+            let crew = Crew {
+                writers,
+                workers: job.workers,
+            };
+            play_on(rt, alloc, load, crew, sink, disks, gate)
+        }
         // That a disk in memory fails is want of memory.
         Err(_) => Err(NoMemory),
     }
@@ -312,56 +339,48 @@ fn measured_text(
 fn measure<R: Threads + Wait + Sync, G: Gate + Sync>(
     rt: &R,
     alloc: Global,
-    start: u16,
-    calls: u32,
-    streams: u8,
-    workers: u8,
+    job: Job,
     gate: &G,
 ) -> Result<String, NoMemory>
-    requires start { start ≤ 999 }
-    requires calls { calls ≤ MAX_CALLS }
-    requires streams_low { 1 ≤ streams }
-    requires streams_high { streams ≤ MAX_COUNT }
-    requires low { 1 ≤ workers }
-    requires high { workers ≤ MAX_COUNT }
-    ensures { IfOk result (λ text. string_bytes text ≡ bench_text start calls) }
+    requires start { job.start ≤ 999 }
+    requires calls { job.calls ≤ MAX_CALLS }
+    requires streams_low { 1 ≤ job.streams }
+    requires streams_high { job.streams ≤ MAX_COUNT }
+    requires low { 1 ≤ job.workers }
+    requires high { job.workers ≤ MAX_COUNT }
+    ensures { IfOk result (λ text. string_bytes text ≡ bench_text job.start job.calls) }
 {
-    let load = generate(alloc, start, calls)?;
-    let mut disks = new_disks(alloc, streams)?;
+    let load = generate(alloc, job.start, job.calls)?;
+    let mut disks = new_disks(alloc, job.streams)?;
     let mut out = MemSink::new(alloc, &[])?;
-    let rows = play(
-        rt, alloc, &load, streams, workers, &mut out, &mut disks, gate,
-    )?;
+    let rows = play(rt, alloc, &load, job, &mut out, &mut disks, gate)?;
     let acked = lines_in(out.bytes());
-    let again = recovered(rt, alloc, workers, disks.as_mut_slice(), gate)?;
-    measured_text(alloc, &load.declarations, calls, acked, &rows, &again)
+    let again = recovered(rt, alloc, job.workers, disks.as_mut_slice(), gate)?;
+    measured_text(alloc, &load.declarations, job.calls, acked, &rows, &again)
 }
 
-/// The measured job: runs the generated calls, of which the first one's row begins at `start`, by so many workers on so many new
-/// disks in memory, recovers from these by as many workers, and writes what came of both. The time and the memory that it
-/// takes grow with the number of calls.
+/// Does the measured job: runs the generated calls by so many workers on so many new disks in memory, recovers from
+/// these by as many workers, and writes what came of both. The time and the memory that it takes grow with the number
+/// of calls.
 pub fn bench<R: Threads + Wait + Sync, K: Sink, G: Gate + Sync>(
     rt: &R,
     alloc: Global,
-    start: u16,
-    calls: u32,
-    streams: u8,
-    workers: u8,
+    job: Job,
     sink: &mut K,
     gate: &G,
 ) -> Status
-    requires start { start ≤ 999 }
-    requires calls { calls ≤ MAX_CALLS }
-    requires streams_low { 1 ≤ streams }
-    requires streams_high { streams ≤ MAX_COUNT }
-    requires low { 1 ≤ workers }
-    requires high { workers ≤ MAX_COUNT }
+    requires start { job.start ≤ 999 }
+    requires calls { job.calls ≤ MAX_CALLS }
+    requires streams_low { 1 ≤ job.streams }
+    requires streams_high { job.streams ≤ MAX_COUNT }
+    requires low { 1 ≤ job.workers }
+    requires high { job.workers ≤ MAX_COUNT }
     // The text is a function of the first row and of how many calls there are.
-    ensures told { BenchTells start calls (Wrote K.tells (K.held sink.old) (K.held sink.new)) result }
+    ensures told { BenchTells job.start job.calls (Wrote K.tells (K.held sink.old) (K.held sink.new)) result }
     ensures kind { ends_rehearsal result ≡ true }
     ensures write_fault { result ≡ Status.WriteFault → Rose (K.faults sink.old) (K.faults sink.new) }
 {
-    let Ok(text) = measure(rt, alloc, start, calls, streams, workers, gate) else {
+    let Ok(text) = measure(rt, alloc, job, gate) else {
         return Status::NoMemory;
     };
     match write_all(sink, text.as_bytes()) {

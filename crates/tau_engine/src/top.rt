@@ -5,7 +5,7 @@ ghost use Rattle.tau_engine.specs.Served.{served};
 ghost use Rattle.tau_engine.specs.Top.{Says};
 
 use crate::audit::audit;
-use crate::bench::bench;
+use crate::bench::{Job, bench};
 use crate::checkpoint::checkpoint;
 use crate::drill::drill_source;
 use crate::fault::refuse;
@@ -53,7 +53,15 @@ pub fn taurus<R: Threads + Wait + Sync, S: Source, K: Sink + Send, D: Disk + Sen
         Ok(Work::Inspect { n }) => inspect(alloc, usize::from(n), sink, disks),
         Ok(Work::Audit { n, m }) => audit(alloc, n, m, source, sink, disks),
         Ok(Work::Follow { n }) => follow(alloc, n, source, sink),
-        Ok(Work::Bench { start, calls, n, m }) => bench(rt, alloc, start, calls, n, m, sink, gate),
+        Ok(Work::Bench { start, calls, n, m }) => {
+            let job = Job {
+                start,
+                calls,
+                streams: n,
+                workers: m,
+            };
+            bench(rt, alloc, job, sink, gate)
+        }
         Ok(Work::Run { n, m, mode }) => match read_source(alloc, source) {
             Err(refusal) => refuse(alloc, sink, refusal),
             Ok(load) => {

@@ -22,28 +22,28 @@ use Rattle.tau_engine.proofs.Drilled.{image_left}
 use Rattle.tau_engine.proofs.bench.measure.Goals as goal
 
 pub play-requires-clause-sound : goal.play-requires-clause-sound
-play-requires-clause-sound g c κs within = subst (λ (l : Workload). IsSoundLoad l) (sym c.in_ok-load.ensures) (sound_generated c.args.start c.args.calls)
+play-requires-clause-sound g c κs within = subst (λ (l : Workload). IsSoundLoad l) (sym c.in_ok-load.ensures) (sound_generated c.args.job.start c.args.job.calls)
 
 pub play-requires-clause-calls : goal.play-requires-clause-calls
-play-requires-clause-calls g c κs within = subst (λ (l : Workload). AreCalls l.declarations.procs l.calls) (sym c.in_ok-load.ensures) (are_calls c.args.start c.args.calls c.requires.calls)
+play-requires-clause-calls g c κs within = subst (λ (l : Workload). AreCalls l.declarations.procs l.calls) (sym c.in_ok-load.ensures) (are_calls c.args.job.start c.args.job.calls c.requires.calls)
 
 pub recovered-requires-clause-ordered : goal.recovered-requires-clause-ordered
 recovered-requires-clause-ordered g c κs within =
-    let old_count : length c.in_ok-disks.disks.items ≡ c.args.streams = (let e = c.in_ok-disks.ensures.count in omega (arith, e)) in
-    let new_count : length c.play.new.disks.items ≡ c.args.streams = (let e = c.in_ok-rows.ensures.count in omega (arith, e)) in
+    let old_count : length c.in_ok-disks.disks.items ≡ c.args.job.streams = (let e = c.in_ok-disks.ensures.count in omega (arith, e)) in
+    let new_count : length c.play.new.disks.items ≡ c.args.job.streams = (let e = c.in_ok-rows.ensures.count in omega (arith, e)) in
     subst (λ (ds : List MemDisk). (log : Log) × (log_of (Some One) (map seen_by ds) ≡ Ok log) × (order : List Kept) × IsOrderOf log order) (sym c.as_mut_slice.ensures.value)
-    (can_recover tt image_left c.args.streams c.args.workers c.args.start c.args.calls c.requires.calls c.in_ok-load.load c.in_ok-load.ensures c.in_ok-disks.disks.items c.play.new.disks.items old_count new_count _ c.in_ok-rows.rows c.in_ok-rows.ensures.told)
+    (can_recover tt image_left c.args.job.streams c.args.job.workers c.args.job.start c.args.job.calls c.requires.calls c.in_ok-load.load c.in_ok-load.ensures c.in_ok-disks.disks.items c.play.new.disks.items old_count new_count _ c.in_ok-rows.rows c.in_ok-rows.ensures.told)
 
 pub returns : goal.returns
 returns g c =
-    let old_count : length c.in_ok-disks.disks.items ≡ c.args.streams = (let e = c.in_ok-disks.ensures.count in omega (arith, e)) in
-    let new_count : length c.play.new.disks.items ≡ c.args.streams = (let e = c.in_ok-rows.ensures.count in omega (arith, e)) in
-    let rows = rows_are tt image_left c.args.streams c.args.workers c.args.start c.args.calls c.requires.calls c.in_ok-load.load c.in_ok-load.ensures c.in_ok-disks.disks.items c.play.new.disks.items old_count new_count _ c.in_ok-rows.rows c.in_ok-rows.ensures.told in
-    let acks = acks_are tt image_left c.args.streams c.args.workers c.args.start c.args.calls c.requires.calls c.in_ok-load.load c.in_ok-load.ensures c.in_ok-disks.disks.items c.play.new.disks.items old_count new_count _ c.in_ok-rows.rows c.in_ok-rows.ensures.told in
-    let again = found_are tt image_left c.args.streams c.args.workers c.args.start c.args.calls c.requires.calls c.in_ok-load.load c.in_ok-load.ensures c.in_ok-disks.disks.items c.play.new.disks.items old_count new_count _ c.in_ok-rows.rows c.in_ok-rows.ensures.told
+    let old_count : length c.in_ok-disks.disks.items ≡ c.args.job.streams = (let e = c.in_ok-disks.ensures.count in omega (arith, e)) in
+    let new_count : length c.play.new.disks.items ≡ c.args.job.streams = (let e = c.in_ok-rows.ensures.count in omega (arith, e)) in
+    let rows = rows_are tt image_left c.args.job.streams c.args.job.workers c.args.job.start c.args.job.calls c.requires.calls c.in_ok-load.load c.in_ok-load.ensures c.in_ok-disks.disks.items c.play.new.disks.items old_count new_count _ c.in_ok-rows.rows c.in_ok-rows.ensures.told in
+    let acks = acks_are tt image_left c.args.job.streams c.args.job.workers c.args.job.start c.args.job.calls c.requires.calls c.in_ok-load.load c.in_ok-load.ensures c.in_ok-disks.disks.items c.play.new.disks.items old_count new_count _ c.in_ok-rows.rows c.in_ok-rows.ensures.told in
+    let again = found_are tt image_left c.args.job.streams c.args.job.workers c.args.job.start c.args.job.calls c.requires.calls c.in_ok-load.load c.in_ok-load.ensures c.in_ok-disks.disks.items c.play.new.disks.items old_count new_count _ c.in_ok-rows.rows c.in_ok-rows.ensures.told
     c.in_ok-again.again (subst (λ (ds : List MemDisk). AreFound ds c.in_ok-again.again) c.as_mut_slice.ensures.value c.in_ok-again.ensures) in
     let told = c.in_ok-rows.ensures.told.rehearsed.acked tt ∙ ap (λ (h : List ℕ). h ++ ack_lines c.in_ok-rows.ensures.told.rehearsed.facts.run.acks) c.in_ok-out.ensures.empty in
-    let acked : c.lines_in-acked.result ≡ c.args.calls = c.lines_in-acked.ensures ∙ ap lines_in (c.bytes.ensures ∙ told) ∙ in_acks c.in_ok-rows.ensures.told.rehearsed.facts.run.acks ∙ acks in
+    let acked : c.lines_in-acked.result ≡ c.args.job.calls = c.lines_in-acked.ensures ∙ ap lines_in (c.bytes.ensures ∙ told) ∙ in_acks c.in_ok-rows.ensures.told.rehearsed.facts.run.acks ∙ acks in
     if_ok c.measured_text.result
-    (λ text e. e ∙ text_is c.in_ok-load.load.declarations.tables (generated c.args.start c.args.calls).declarations.tables c.args.calls c.lines_in-acked.result c.in_ok-rows.rows c.in_ok-again.again _ (ap (λ (l : Workload). l.declarations.tables) c.in_ok-load.ensures) acked rows again)
+    (λ text e. e ∙ text_is c.in_ok-load.load.declarations.tables (generated c.args.job.start c.args.job.calls).declarations.tables c.args.job.calls c.lines_in-acked.result c.in_ok-rows.rows c.in_ok-again.again _ (ap (λ (l : Workload). l.declarations.tables) c.in_ok-load.ensures) acked rows again)
     c.measured_text.ensures
