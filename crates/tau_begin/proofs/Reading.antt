@@ -8,7 +8,8 @@ use Rattle.tau_base.proofs.Lists.{got_within, some_at, length_mapped}
 use Rattle.tau_base.specs.declared.format.Format.{Format}
 use Rattle.tau_block.specs.declared.content.Content.{Content}
 use Rattle.tau_disk.specs.declared.disk.Disk.{Ghosts}
-use Rattle.tau_disk.specs.Used.{EachUsed}
+use Rattle.tau_disk.specs.Disk.{Rose}
+use Rattle.tau_disk.specs.Used.{EachIn, EachUsed}
 use Rattle.tau_disk.specs.Stages.{OnlySynced, StageFails, AreLengths}
 use Rattle.tau_disk.proofs.Calls.{went_on}
 use Rattle.tau_disk.proofs.Places.{get_dropped, dropped_more}
@@ -19,11 +20,11 @@ use Rattle.tau_scan.specs.declared.fault.ScanRefusal.{ScanRefusal}
 use Rattle.tau_scan.specs.declared.fault.ScanRefusal.TheVariants as refusal
 use Rattle.tau_scan.specs.Contents.{IsContentOf, HasContents, bytes_in}
 use Rattle.tau_scan.specs.Reading.{HasRead, IsLog}
-use Rattle.tau_scan.specs.Outside.{calls_to_settle, IsSynced, IsSettled, AreSynced, AreSettled}
+use Rattle.tau_scan.specs.Outside.{calls_to_settle, IsSynced, IsSettled, AreSynced, AreSettled, SyncedFirst}
 use Rattle.tau_open.specs.declared.refusal.OpenRefusal.{OpenRefusal}
 use Rattle.tau_open.specs.declared.refusal.OpenRefusal.TheVariants as opens
 use Rattle.tau_open.specs.Opening.{Asked, FailsAsked}
-use Rattle.tau_begin.specs.Reading.{WasRead, WereRead, AreAskedFor, StopsReading}
+use Rattle.tau_begin.specs.Reading.{AtMostRead, WasRead, WereRead, AreAskedFor, StopsReading}
 use Rattle.tau_begin.specs.Opened.{IsReadFrom, IsRefusedOn, RefusesReading}
 use Rattle.tau_begin.proofs.Slices.{get_take, taken_long, lengths_first}
 
@@ -37,6 +38,25 @@ module _ {D : Type 0} (G : Ghosts D) where
 
   only_failed : (d e : D) → FailsAsked G d e → OnlySynced G d e
   only_failed d e fails = only_of_read G d e fails.read fails.broke.counts
+
+  -- a disk that was left alone, one that was asked, one that failed then, and one that was synced and read after it
+  alone_at_most : (d : D) → AtMostRead G d d
+  alone_at_most d = record { only = only_none G d; settled = λ t more none. absurd (omega (arith, more)) }
+
+  asked_at_most : (d e : D) → Asked G d e → AtMostRead G d e
+  asked_at_most d e asked = record { only = only_asked d e asked; settled = λ t more none. absurd (let one = (asked.went.made t).0 in omega (arith, one, more)) }
+
+  failed_at_most : (d e : D) → FailsAsked G d e → AtMostRead G d e
+  failed_at_most d e fails = record { only = only_failed d e fails; settled = λ t more none. absurd (none fails.broke.rose) }
+
+  read_at_most : (d e f : D) → Asked G d e → OnlySynced G e f → SyncedFirst G e f → AtMostRead G d f
+  read_at_most d e f asked only first = record {
+    only = only_on G d e f (only_asked d e asked) only;
+    settled = λ t more none. first t (let one = (asked.went.made t).0 in omega (arith, one, more)) (λ rose. none (later rose));
+  }
+    where
+      later : Rose (G.faults e) (G.faults f) → Rose (G.faults d) (G.faults f)
+      later rose = (let counts = asked.went.counts in omega (arith, counts, rose))
 
   was_read : (long : ℕ) (d e f : D) → (G.tells → long ≡ length (G.seen d)) → Asked G d e → IsSynced G long e f → IsSettled G long e f → WasRead G long d f
   was_read long d e f is asked synced settled = record {
@@ -54,11 +74,12 @@ module _ {D : Type 0} (G : Ghosts D) where
         let (f, at, r) = are.asked.each j d (omega (arith, low, are.count)) was in
         are.lengths j d low was t ∙ sym (ap (λ (z : D). length (G.seen z)) (some_is e f (sym now ∙ at)) ∙ ap (λ (xs : List ℕ). length xs) (r.read.same t))
 
-    pub only_after : (new : List D) → AreSynced G sizes mid new → EachUsed (OnlySynced G) old new n
-    only_after new synced j d low was =
+    pub only_after : (new : List D) → AreSynced G sizes mid new → EachIn (λ j. j < length sizes) (λ j. SyncedFirst G) mid new → EachUsed (AtMostRead G) old new n
+    only_after new synced first j d low was =
         let (e, there, r) = are.asked.each j d low was in
         let (f, is, s) = synced j e (omega (arith, low, are.count)) there in
-        (f, is, only_on G d e f (only_asked d e r) s.only)
+        let (g, at, q) = first j e (omega (arith, low, are.count)) there in
+        (f, is, read_at_most d e f r s.only (subst (λ (z : D). SyncedFirst G e z) (some_is g f (sym at ∙ is)) q))
 
     pub were_read : (new : List D) → AreSynced G sizes mid new → AreSettled G sizes mid new → WereRead G sizes n old new
     were_read new synced settled j d low was =
@@ -70,21 +91,21 @@ module _ {D : Type 0} (G : Ghosts D) where
 
   -- asking that was refused
   module _ (n : ℕ) (old new : List D) (j : ℕ) (fails : StageFails (λ i. Asked G) (λ i. FailsAsked G) j old new) where
-    only_asking : EachUsed (OnlySynced G) old new n
+    only_asking : EachUsed (AtMostRead G) old new n
     only_asking i b low before = elim (cases_eq i j) [
       | inl same ↦
           let (d, e, was, is, r) = fails.here in
           let it : d ≡ b = some_is d b (sym was ∙ subst (λ (k : ℕ). slice_get old k ≡ Some b) same before) in
-          (e, subst (λ (k : ℕ). slice_get new k ≡ Some e) (sym same) is, subst (λ (z : D). OnlySynced G z e) it (only_failed d e r))
+          (e, subst (λ (k : ℕ). slice_get new k ≡ Some e) (sym same) is, subst (λ (z : D). AtMostRead G z e) it (failed_at_most d e r))
       | inr other ↦ ⊎_elim
-          (λ under. let (c, at, q) = fails.below i b under before in (c, at, only_asked b c q))
-          (λ above. (b, get_dropped new old (j + 1) i fails.rest (omega (arith, above, other)) ∙ before, only_none G b))
+          (λ under. let (c, at, q) = fails.below i b under before in (c, at, asked_at_most b c q))
+          (λ above. (b, get_dropped new old (j + 1) i fails.rest (omega (arith, above, other)) ∙ before, alone_at_most b))
           (below_or_not i j)
     ]
 
 pub asking_refused : {D : Type 0} (G : Ghosts D) (n : ℕ) (old new : List D) (r : Result Unit OpenRefusal) (e : OpenRefusal) → r ≡ Err e →
     ((j : ℕ) → r ≡ Err (opens.Failed j) → (j < n) × StageFails (λ i. Asked G) (λ i. FailsAsked G) j old new) →
-    (r ≡ Err opens.NoMemory → ⊥) → ((j size : ℕ) → r ≡ Err (opens.NotEmpty j size) → ⊥) → EachUsed (OnlySynced G) old new n
+    (r ≡ Err opens.NoMemory → ⊥) → ((j size : ℕ) → r ≡ Err (opens.NotEmpty j size) → ⊥) → EachUsed (AtMostRead G) old new n
 asking_refused G n old new r opens.NoMemory is failed memory long = absurd (memory is)
 asking_refused G n old new r (opens.Failed j) is failed memory long = let (low, fails) = failed j is in only_asking G n old new j fails
 asking_refused G n old new r (opens.NotEmpty j size) is failed memory long = absurd (long j size is)
@@ -156,7 +177,7 @@ streams_long G f disks sizes log contents read =
     omega (arith, zip, long)
 
 module _ {D : Type 0} (G : Ghosts D) (f : Format) (n : ℕ) (text : List ℕ) (old new : List D) (there : n ≤ length old) (sizes : List ℕ) (log : Log) (contents : List Content) (read : IsReadFrom G f (take n old) sizes log contents)
-    (were : WereRead G sizes n old new) (only : EachUsed (OnlySynced G) old new n) where
+    (were : WereRead G sizes n old new) (only : EachUsed (AtMostRead G) old new n) where
   by_cause : (e : ScanRefusal) → ((fault : LogFault) → e ≡ refusal.Bad fault → IsRefusedOn text sizes log fault) → ((j : ℕ) → e ≡ refusal.Failed j → ⊥) → RefusesReading G f n text old new e
   by_cause refusal.NoMemory bad no_disk = only
   by_cause (refusal.Failed j) bad no_disk = absurd (no_disk j refl)
@@ -180,7 +201,7 @@ asking_rest G n old new r (opens.Failed j) is failed memory long = let (low, fai
 asking_rest G n old new r (opens.NotEmpty j size) is failed memory long = absurd (long j size is)
 
 -- what a beginning tells that was refused before all was read, or since the log is bad
-pub reading_fails : {A D : Type 0} (G : Ghosts D) (f : Format) (n : ℕ) (text : List ℕ) (old new : List D) (r : Result A ScanRefusal) (e : ScanRefusal) → r ≡ Err e → EachUsed (OnlySynced G) old new n →
+pub reading_fails : {A D : Type 0} (G : Ghosts D) (f : Format) (n : ℕ) (text : List ℕ) (old new : List D) (r : Result A ScanRefusal) (e : ScanRefusal) → r ≡ Err e → EachUsed (AtMostRead G) old new n →
     ((j : ℕ) → r ≡ Err (refusal.Failed j) → StopsReading G n j old new) →
     ((fault : LogFault) → r ≡ Err (refusal.Bad fault) → HasRead G.tells G.seen (Some f) (take n old) (Err (refusal.Bad fault)) × ((sizes : List ℕ) × AreLengths G.tells G.seen (take n old) sizes × (length sizes ≡ n) × WereRead G sizes n old new)) →
     RefusesReading G f n text old new e

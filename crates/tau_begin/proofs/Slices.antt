@@ -6,7 +6,7 @@ use Rattle.std.proofs.lemmas.List.{take-append-drop, drop-append-le, length-appe
 use Rattle.tau_disk.specs.declared.disk.Disk.{Ghosts}
 use Rattle.tau_disk.specs.Stages.{Broke, Staged, StageFails, AreLengths}
 use Rattle.tau_disk.specs.Used.{EachIn, OfDisk}
-use Rattle.tau_scan.specs.Outside.{calls_to_settle, IsSettled, IsSynced, AreSettled, AreSynced, StopsSettling}
+use Rattle.tau_scan.specs.Outside.{calls_to_settle, IsSettled, IsSynced, AreSettled, AreSynced, StopsSettling, SyncedFirst}
 
 module _ {D : Type 0} where
   pub get_take : (ds : List D) (n j : ℕ) → j < n → slice_get (take n ds) j ≡ slice_get ds j
@@ -66,6 +66,9 @@ module _ {D : Type 0} where
     module _ (G : Ghosts D) (lengths : List ℕ) (count : length lengths ≡ n) where
       pub synced_back : AreSynced G lengths (take n old) now → AreSynced G lengths old Back
       synced_back synced = each_back (λ j. j < length lengths) (λ j. IsSynced G (slice_index lengths j)) (λ j low. omega (arith, low, count)) synced
+
+      pub first_back : EachIn (λ j. j < length lengths) (λ j. SyncedFirst G) (take n old) now → EachIn (λ j. j < length lengths) (λ j. SyncedFirst G) old Back
+      first_back each = each_back (λ j. j < length lengths) (λ j. SyncedFirst G) (λ j low. omega (arith, low, count)) each
 
       pub settled_back : AreSettled G lengths (take n old) now → AreSettled G lengths old Back
       settled_back settled = stage_back (λ j. IsSettled G (slice_index lengths j)) (length lengths) (omega (arith, count)) settled

@@ -4,7 +4,7 @@ use Rattle.tau_base.specs.declared.format.Format.{Format}
 use Rattle.tau_block.specs.declared.content.Content.{Content}
 use Rattle.tau_disk.specs.declared.disk.Disk.{Ghosts}
 use Rattle.tau_disk.specs.Disk.{Passes}
-use Rattle.tau_disk.specs.Stages.{Went, Broke, AreLengths, OnlySynced}
+use Rattle.tau_disk.specs.Stages.{Went, Broke, AreLengths}
 use Rattle.tau_disk.specs.Used.{EachIn, EachUsed, OfDisk}
 use Rattle.tau_scan.specs.declared.fault.LogCause.TheVariants as cause
 use Rattle.tau_scan.specs.declared.fault.LogFault.{LogFault}
@@ -25,7 +25,7 @@ use Rattle.tau_stream.specs.Writer.{disk_of}
 use Rattle.tau_open.specs.declared.start.StreamStart.{StreamStart}
 use Rattle.tau_open.specs.Reopening.{HasStarted}
 use Rattle.tau_begin.specs.Given.{next_epoch}
-use Rattle.tau_begin.specs.Reading.{calls_before_writes, WasRead, WereRead, StopsReading}
+use Rattle.tau_begin.specs.Reading.{calls_before_writes, AtMostRead, WasRead, WereRead, StopsReading}
 use Rattle.tau_begin.specs.Starts.{AreStarts, IsOpeningOn}
 
 -- what was read: the log of the disks, of which these are the lengths and the contents
@@ -111,8 +111,8 @@ module _ {D : Type 0} (G : Ghosts D) where
 
   -- what a refusal tells before anything is written
   abbrev pub RefusesReading : Format → ℕ → List ℕ → List D → List D → ScanRefusal → Type 0
-  RefusesReading f n text old new refusal.NoMemory = EachUsed (OnlySynced G) old new n
-  RefusesReading f n text old new (refusal.Failed j) = StopsReading G n j old new × EachUsed (OnlySynced G) old new n
+  RefusesReading f n text old new refusal.NoMemory = EachUsed (AtMostRead G) old new n
+  RefusesReading f n text old new (refusal.Failed j) = StopsReading G n j old new × EachUsed (AtMostRead G) old new n
   RefusesReading f n text old new (refusal.Bad fault) = RefusesLog f n text old new fault
 
   -- All was read of the first n disks, and a run begins on it. The streams below k have started, and the disks from k on
@@ -137,6 +137,6 @@ module _ {D : Type 0} (G : Ghosts D) where
 
   -- what a refusal of the opening tells of the disks, which stand in their places
   abbrev pub RefusesRun : Format → ℕ → List ℕ → List D → List D → ScanRefusal → Type 0
-  RefusesRun f n text old new refusal.NoMemory = EachUsed (OnlySynced G) old new n ⊎ ((k : ℕ) × (k ≤ n) × StartsSome f n text k old new)
-  RefusesRun f n text old new (refusal.Failed j) = (StopsReading G n j old new × EachUsed (OnlySynced G) old new n) ⊎ StopsStarting f n text j old new
+  RefusesRun f n text old new refusal.NoMemory = EachUsed (AtMostRead G) old new n ⊎ ((k : ℕ) × (k ≤ n) × StartsSome f n text k old new)
+  RefusesRun f n text old new (refusal.Failed j) = (StopsReading G n j old new × EachUsed (AtMostRead G) old new n) ⊎ StopsStarting f n text j old new
   RefusesRun f n text old new (refusal.Bad fault) = RefusesLog f n text old new fault

@@ -1,7 +1,7 @@
 -- What is done to the disks of a run before anything is written.
 use Rattle.std.specs.Prelude.{ℕ, ◌+◌, ◌<◌, ◌≡◌, ◌⊎◌, List, [], length, slice_index}
 use Rattle.tau_disk.specs.declared.disk.Disk.{Ghosts}
-use Rattle.tau_disk.specs.Disk.{Only}
+use Rattle.tau_disk.specs.Disk.{Only, Rose}
 use Rattle.tau_disk.specs.Stages.{Went, OnlySynced, Staged, StageFails, AreLengths}
 use Rattle.tau_disk.specs.Used.{EachIn}
 use Rattle.tau_scan.specs.Outside.{calls_to_settle, StopsSettling}
@@ -12,6 +12,12 @@ abbrev pub calls_before_writes : ℕ → ℕ
 calls_before_writes long = 1 + calls_to_settle long
 
 module _ {D : Type 0} (G : Ghosts D) where
+  -- The disk was at most asked, and then synced and read. Its second call was a sync: once it was made, and if no call failed, a
+  -- stop leaves nothing but what a read gives.
+  pub record AtMostRead (d e : D) : Type 0 where
+    pub only : OnlySynced G d e
+    pub settled : G.tells → G.number d + 1 < G.number e → (Rose (G.faults d) (G.faults e) → ⊥) → Only (G.seen e) (G.may_leave e)
+
   -- the disk, which has this length, was asked, and with a byte synced and then read
   pub record WasRead (long : ℕ) (d e : D) : Type 0 where
     pub only : OnlySynced G d e

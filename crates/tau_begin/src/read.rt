@@ -1,14 +1,14 @@
 //! The disks of a run are asked, synced and read before anything is written.
-ghost use Rattle.std.specs.Prelude.{◌≡◌, ◌≤◌, ℕ, List, [], length, take, drop, vec_capacity, Some, Ok, Err, IfOk, OnOk};
+ghost use Rattle.std.specs.Prelude.{◌≡◌, ◌≤◌, ◌<◌, ℕ, List, [], length, take, drop, vec_capacity, Some, Ok, Err, IfOk, OnOk};
 ghost use Rattle.tau_base.specs.Modes.{most_streams};
-ghost use Rattle.tau_disk.specs.Stages.{AreLengths, OnlySynced};
-ghost use Rattle.tau_disk.specs.Used.{EachUsed};
+ghost use Rattle.tau_disk.specs.Stages.{AreLengths};
+ghost use Rattle.tau_disk.specs.Used.{EachIn, EachUsed};
 ghost use Rattle.tau_scan.specs.Contents.{HasContents};
-ghost use Rattle.tau_scan.specs.Outside.{AreSettled, AreSynced, StopsSettling};
+ghost use Rattle.tau_scan.specs.Outside.{AreSettled, AreSynced, StopsSettling, SyncedFirst};
 ghost use Rattle.tau_scan.specs.Reading.{HasRead, IsLog, log_read};
 ghost use Rattle.tau_scan.specs.declared.fault.LogFault.{LogFault};
 ghost use Rattle.tau_begin.specs.Opened.{IsReadFrom};
-ghost use Rattle.tau_begin.specs.Reading.{StopsReading, WereRead};
+ghost use Rattle.tau_begin.specs.Reading.{AtMostRead, StopsReading, WereRead};
 
 use std::alloc::Global;
 use tau_base::Format;
@@ -47,7 +47,7 @@ pub fn read_first<D: Disk>(
     requires there { n ≤ length disks.old }
     requires none { room.items ≡ [] }
     requires room { n ≤ vec_capacity room }
-    ensures only { EachUsed (OnlySynced ⟦<D as Disk>⟧) disks.old disks.new n }
+    ensures only { EachUsed (AtMostRead ⟦<D as Disk>⟧) disks.old disks.new n }
     ensures were { IfOk result (λ r. WereRead ⟦<D as Disk>⟧ r.2.items n disks.old disks.new) }
     ensures read { IfOk result (λ r. IsReadFrom ⟦<D as Disk>⟧ format (take n disks.old) r.2.items r.0 r.1.items) }
     ensures bad { (fault : LogFault) → result ≡ Err (ScanRefusal.Bad fault) →
@@ -77,6 +77,7 @@ fn read_asked<D: Disk>(
     requires many { length lengths.items ≡ n }
     requires lengths { AreLengths D.tells D.seen disks.old lengths.items }
     ensures synced { AreSynced ⟦<D as Disk>⟧ lengths.items disks.old disks.new }
+    ensures first { EachIn (λ j. j < length lengths.items) (λ j. SyncedFirst ⟦<D as Disk>⟧) disks.old disks.new }
     ensures settled { OnOk result (AreSettled ⟦<D as Disk>⟧ lengths.items disks.old disks.new) }
     ensures settled_bad { (fault : LogFault) → result ≡ Err (ScanRefusal.Bad fault) → AreSettled ⟦<D as Disk>⟧ lengths.items disks.old disks.new }
     ensures failed { (j : ℕ) → result ≡ Err (ScanRefusal.Failed j) → StopsSettling ⟦<D as Disk>⟧ lengths.items j disks.old disks.new }
@@ -107,6 +108,7 @@ fn settle_first<D: Disk>(
     requires many { length lengths.now ≡ n }
     requires lengths { AreLengths D.tells D.seen disks.old lengths.now }
     ensures synced { AreSynced ⟦<D as Disk>⟧ lengths.now disks.old disks.new }
+    ensures first { EachIn (λ j. j < length lengths.now) (λ j. SyncedFirst ⟦<D as Disk>⟧) disks.old disks.new }
     ensures settled { OnOk result (AreSettled ⟦<D as Disk>⟧ lengths.now disks.old disks.new) }
     ensures settled_bad { (fault : LogFault) → result ≡ Err (ScanRefusal.Bad fault) → AreSettled ⟦<D as Disk>⟧ lengths.now disks.old disks.new }
     ensures failed { (j : ℕ) → result ≡ Err (ScanRefusal.Failed j) → StopsSettling ⟦<D as Disk>⟧ lengths.now j disks.old disks.new }

@@ -28,7 +28,7 @@ pub returns-in-Ok-clause-only : goal.returns-in-Ok-clause-only
 returns-in-Ok-clause-only g c =
     let count : length c.ask_each.new.lengths.items ≡ c.args.n = omega (arith, c.in-Ok.ensures.count, c.ask_each.new.lengths.ok.0) in
     let are : AreAskedFor g.D.Disk c.ask_each.new.lengths.items c.args.n c.args.disks.now c.ask_each.new.disks = record { asked = c.in-Ok.ensures.asked; lengths = c.in-Ok.ensures.lengths; count = count } in
-    only_after g.D.Disk c.ask_each.new.lengths.items c.args.n c.args.disks.now c.ask_each.new.disks are c.read_asked.new.disks c.read_asked.ensures.synced
+    only_after g.D.Disk c.ask_each.new.lengths.items c.args.n c.args.disks.now c.ask_each.new.disks are c.read_asked.new.disks c.read_asked.ensures.synced c.read_asked.ensures.first
 
 pub returns-in-Ok-clause-were : goal.returns-in-Ok-clause-were
 returns-in-Ok-clause-were g c =
