@@ -8,7 +8,7 @@ use Rattle.tau_base.specs.Modes.{format_of, most_streams}
 use Rattle.tau_base.proofs.Lists.{got_within, some_at}
 use Rattle.tau_base.proofs.Logic.{some_is, below_or_not}
 use Rattle.tau_disk.specs.declared.disk.Disk.{Ghosts}
-use Rattle.tau_disk.specs.Disk.{Rose}
+use Rattle.tau_disk.specs.Disk.{Only, Rose}
 use Rattle.tau_disk.specs.Passing.{passes_none}
 use Rattle.tau_disk.specs.Plan.{MadeAll, MadeSome}
 use Rattle.tau_disk.specs.Stages.{Went, Broke, OnlySynced}
@@ -31,13 +31,13 @@ use Rattle.tau_run.specs.CoreRun.{IsSoundLoad}
 use Rattle.tau_run.specs.RunFacts.{WroteFront}
 use Rattle.tau_run.proofs.Logs.{length_at}
 use Rattle.tau_begin.specs.Opened.{IsReadFrom, IsRefusedOn, TouchedAt, RefusesLog, RefusesRun, StartsSome, StopsStarting}
-use Rattle.tau_begin.specs.Reading.{calls_before_writes, StopsReading, WasRead}
+use Rattle.tau_begin.specs.Reading.{calls_before_writes, AtMostRead, StopsReading, WasRead}
 use Rattle.tau_begin.proofs.Barrier.{barrier_of, moment_by}
 use Rattle.tau_begin.proofs.Slices.{get_take, taken_long}
 use Rattle.tau_engine.specs.declared.status.Status.{Status}
 use Rattle.tau_engine.specs.declared.status.Status.TheVariants as status
 use Rattle.tau_engine.specs.Fault.{fault_text, TellsFault}
-use Rattle.tau_engine.specs.Opening.{opening_calls, IsUnwritten}
+use Rattle.tau_engine.specs.Opening.{opening_calls, HasBarrier, IsUnwritten}
 use Rattle.tau_engine.specs.Outside.{Wrote}
 use Rattle.tau_engine.specs.Recovery.{images_of}
 use Rattle.tau_engine.specs.Runs.{status_at}
@@ -96,6 +96,91 @@ module _ {D : Type 0} (G : Ghosts D) (only_now : OnlyNow G) (n m : ℕ) (mode : 
   size_at : (j : ℕ) (d : D) → j < n → slice_get old j ≡ Some d → slice_index sizes j ≡ length (G.seen d)
   size_at j d lt was = length_at (images_of G.seen old n) j (G.seen d) (map_get G.seen (take n old) j d (get_take old n j lt ∙ was))
 
+  -- ---- the barriers of disks that were not written
+
+  -- what a disk must have been for its barrier
+  record IsKept (d e : D) : Type 0 where
+    pub only : OnlySynced G d e
+    pub same : G.seen e ≡ G.seen d
+    pub settled : (G.seen d ≡ [] → ⊥) → Only (G.seen e) (G.may_leave e)
+
+  unwritten : (d e : D) → IsKept d e → IsUnwritten G (barrier_of G d e) d e
+  unwritten d e kept = by (G.seen d) refl
+    where
+      by : (xs : List ℕ) → G.seen d ≡ xs → IsUnwritten G (moment_by (G.moment d) (G.moment e) xs) d e
+      by [] none = record {
+        barrier = record { low = omega arith; high = kept.only.moments.later; since_b = λ x so. inr so; entry = λ tells empty. refl };
+        same = kept.same;
+        only = λ x so. inr (none, ⊎_elim (λ before. only_now d x before) (λ is. is) (kept.only.moments.new_ones (G.moment d) x (omega arith) so));
+      }
+      by (x ∷ xs) full = record {
+        barrier = record {
+          low = kept.only.moments.later;
+          high = omega arith;
+          since_b = λ y so. ⊎_elim (λ before. inl (only_now d y before)) (λ is. inl is) (kept.only.moments.new_ones (G.moment d) y (omega arith) so);
+          entry = λ tells empty. absurd (no_list (sym full ∙ empty));
+        };
+        same = kept.same;
+        only = λ y so. inl (kept.settled (λ empty. no_list (sym full ∙ empty)) y (only_now e y so) ∙ kept.same);
+      }
+        where
+          no_list : x ∷ xs ≡ [] → ⊥
+          no_list bad = cc bad
+
+  -- of disks in any relation to those before
+  module _ (R : ℕ → D → D → Type 0) (each : EachIn (λ j. j < n) R old new) where
+    abbrev barrier_from : (j : ℕ) (d : Option D) → slice_get old j ≡ d → (j < n) ⊎ (n ≤ j) → ℕ
+    barrier_from j None was side = 0
+    barrier_from j (Some d) was (inr high) = 0
+    barrier_from j (Some d) was (inl low) = barrier_of G d (each j d low was).0
+
+    abbrev barrier_at : ℕ → ℕ
+    barrier_at j = barrier_from j (slice_get old j) refl (below_or_not j n)
+
+    record Has (j b : ℕ) : Type 0 where
+      pub disk : D
+      pub was : slice_get old j ≡ Some disk
+      pub now : D
+      pub is : slice_get new j ≡ Some now
+      pub related : R j disk now
+      pub barrier_is : b ≡ barrier_of G disk now
+
+    has_at : (j : ℕ) → j < n → Has j (barrier_at j)
+    has_at j lt = by (slice_get old j) refl (below_or_not j n)
+      where
+        by : (d : Option D) (was : slice_get old j ≡ d) (side : (j < n) ⊎ (n ≤ j)) → Has j (barrier_from j d was side)
+        by None was side = absurd (let d = some_at old j (omega (arith, lt, there)) in let bad : None ≡ Some d.0 = sym was ∙ d.1 in cc bad)
+        by (Some d) was (inr high) = absurd (omega (arith, lt, high))
+        by (Some d) was (inl low) = let (e, is, r) = each j d low was in record { disk = d; was = was; now = e; is = is; related = r; barrier_is = refl }
+
+    -- what holds of each disk with its own barrier
+    put : (P : ℕ → D → D → Type 0) → ((j : ℕ) (d e : D) → R j d e → P (barrier_of G d e) d e) → EachIn (λ j. j < n) (λ j. P (barrier_at j)) old new
+    put P make j d low was =
+        let h = has_at j low in (
+          h.now,
+          h.is,
+          subst (λ (z : D). P (barrier_at j) z h.now) (some_is h.disk d (sym h.was ∙ was)) (subst (λ (b : ℕ). P b h.disk h.now) (sym h.barrier_is) (make j h.disk h.now h.related)),
+        )
+
+  -- the disks were at most read and synced, and what is left of each that has a barrier
+  record IsBarred : Type 0 where
+    pub only : EachUsed (OnlySynced G) old new n
+    pub barrier : ℕ → ℕ
+    pub barred : EachIn (λ j. j < n) (λ j d e. G.tells → HasBarrier G d e → IsUnwritten G (barrier j) d e) old new
+
+  most_barred : EachUsed (AtMostRead G) old new n → IsBarred
+  most_barred most = record {
+    only = λ j d low was. (let (e, is, r) = most j d low was in (e, is, r.only));
+    barrier = barrier_at (λ j. AtMostRead G) most;
+    barred = put (λ j. AtMostRead G) most (λ b d e. G.tells → HasBarrier G d e → IsUnwritten G b d e) (λ j d e r t has. unwritten d e (kept d e r t has));
+  }
+    where
+      more : (d e : D) → HasBarrier G d e → (G.seen d ≡ [] → ⊥) → G.number d + 1 < G.number e
+      more d e has some = ⊎_elim (λ none. absurd (some none)) (λ late. late) has.1
+
+      kept : (d e : D) → AtMostRead G d e → G.tells → HasBarrier G d e → IsKept d e
+      kept d e r t has = record { only = r.only; same = r.only.same t has.0; settled = λ some. r.settled t (more d e has some) has.0 }
+
   -- ---- memory ran out
 
   pub says_memory : OnlyOpened G n m mode load old new hears held held' faults faults' status.NoMemory ⊎ HasRun G n m mode load old new hears held held' faults faults' status.NoMemory → Told status.NoMemory
@@ -112,8 +197,8 @@ module _ {D : Type 0} (G : Ghosts D) (only_now : OnlyNow G) (n m : ℕ) (mode : 
     rest = rest;
   }
 
-  only_memory : EachUsed (OnlySynced G) old new n → wrote [] → Told status.NoMemory
-  only_memory only silent = says_memory (inl (record { ends = silent; only = only; read = λ fault e. absurd (cc) }))
+  only_memory : IsBarred → wrote [] → Told status.NoMemory
+  only_memory b silent = says_memory (inl (record { ends = silent; only = b.only; barrier = b.barrier; barred = b.barred; read = λ fault e. absurd (cc) }))
 
   -- ---- a disk failed
 
@@ -141,11 +226,12 @@ module _ {D : Type 0} (G : Ghosts D) (only_now : OnlyNow G) (n m : ℕ) (mode : 
         rest = rest;
       }
 
-  only_failed : (j : ℕ) → IsFailed (calls_before_writes (slice_index sizes j)) j → EachUsed (OnlySynced G) old new n → WroteFront wrote (Rose faults faults') (fault_text (status.DiskFault j)) → Told (status.DiskFault j)
+  only_failed : (j : ℕ) → IsFailed (calls_before_writes (slice_index sizes j)) j → EachUsed (AtMostRead G) old new n → WroteFront wrote (Rose faults faults') (fault_text (status.DiskFault j)) → Told (status.DiskFault j)
   only_failed j failed only line =
       let (d, e, was, is, broke) = failed.here in
       let few = few_made G (calls_before_writes (slice_index sizes j)) d e broke in
-      says_failed (calls_before_writes (slice_index sizes j)) j failed (inl (record { ends = (λ t. (few.0, few.1, (d, e, was, is, few.2 t)), line); only = only; read = λ fault e. absurd (cc) }))
+      let b = most_barred only in
+      says_failed (calls_before_writes (slice_index sizes j)) j failed (inl (record { ends = (λ t. (few.0, few.1, (d, e, was, is, few.2 t)), line); only = b.only; barrier = b.barrier; barred = b.barred; read = λ fault e. absurd (cc) }))
 
   stops_reading : (j : ℕ) → StopsReading G n j old new → IsFailed (calls_before_writes (slice_index sizes j)) j
   stops_reading j (inl (low, fails)) =
@@ -259,52 +345,18 @@ module _ {D : Type 0} (G : Ghosts D) (only_now : OnlyNow G) (n m : ℕ) (mode : 
     sizes_are t = same_sizes G refuses.sizes (take n old) (refuses.count ∙ sym (taken_long old n there)) (λ j d at.
         refuses.lengths j d (let low = got_within (take n old) j d at in let long = taken_long old n there in let many = refuses.count in omega (arith, low, long, many)) at t)
 
-    abbrev barrier_from : (j : ℕ) (d : Option D) → slice_get old j ≡ d → (j < n) ⊎ (n ≤ j) → ℕ
-    barrier_from j None was side = 0
-    barrier_from j (Some d) was (inr high) = 0
-    barrier_from j (Some d) was (inl low) = barrier_of G d (refuses.read j d low was).0
+    Read : ℕ → D → D → Type 0
+    Read j = WasRead G (slice_index refuses.sizes j)
 
-    record Has (j b : ℕ) : Type 0 where
-      pub disk : D
-      pub was : slice_get old j ≡ Some disk
-      pub now : D
-      pub is : slice_get new j ≡ Some now
-      pub read : WasRead G (slice_index refuses.sizes j) disk now
-      pub barrier_is : b ≡ barrier_of G disk now
+    kept : (j : ℕ) (d e : D) → Read j d e → G.tells → IsKept d e
+    kept j d e read t = record { only = read.only; same = read.same t; settled = λ some. read.settled t some }
 
-    has_at : (j : ℕ) → j < n → Has j (barrier_from j (slice_get old j) refl (below_or_not j n))
-    has_at j lt = by (slice_get old j) refl (below_or_not j n)
-      where
-        by : (d : Option D) (was : slice_get old j ≡ d) (side : (j < n) ⊎ (n ≤ j)) → Has j (barrier_from j d was side)
-        by None was side = absurd (let d = some_at old j (omega (arith, lt, there)) in let bad : None ≡ Some d.0 = sym was ∙ d.1 in cc bad)
-        by (Some d) was (inr high) = absurd (omega (arith, lt, high))
-        by (Some d) was (inl low) = let (e, is, read) = refuses.read j d low was in record { disk = d; was = was; now = e; is = is; read = read; barrier_is = refl }
-
-    unwritten : (d e : D) (long : ℕ) → G.tells → WasRead G long d e → IsUnwritten G (barrier_of G d e) d e
-    unwritten d e long t read = by (G.seen d) refl
-      where
-        by : (xs : List ℕ) → G.seen d ≡ xs → IsUnwritten G (moment_by (G.moment d) (G.moment e) xs) d e
-        by [] none = record {
-          barrier = record { low = omega arith; high = read.only.moments.later; since_b = λ x so. inr so; entry = λ tells empty. refl };
-          same = read.same t;
-          only = λ x so. inr (none, ⊎_elim (λ before. only_now d x before) (λ is. is) (read.only.moments.new_ones (G.moment d) x (omega arith) so));
-        }
-        by (x ∷ xs) full = record {
-          barrier = record {
-            low = read.only.moments.later;
-            high = omega arith;
-            since_b = λ y so. ⊎_elim (λ before. inl (only_now d y before)) (λ is. inl is) (read.only.moments.new_ones (G.moment d) y (omega arith) so);
-            entry = λ tells empty. absurd (no_list (sym full ∙ empty));
-          };
-          same = read.same t;
-          only = λ y so. inl (read.settled t (λ empty. no_list (sym full ∙ empty)) y (only_now e y so) ∙ read.same t);
-        }
-          where
-            no_list : x ∷ xs ≡ [] → ⊥
-            no_list bad = cc bad
-
-    only_read : EachUsed (OnlySynced G) old new n
-    only_read j d low was = let (e, is, read) = refuses.read j d low was in (e, is, read.only)
+    read_barred : IsBarred
+    read_barred = record {
+      only = λ j d low was. (let (e, is, read) = refuses.read j d low was in (e, is, read.only));
+      barrier = barrier_at Read refuses.read;
+      barred = put Read refuses.read (λ b d e. G.tells → HasBarrier G d e → IsUnwritten G b d e) (λ j d e read t has. unwritten d e (kept j d e read t));
+    }
 
     is_refused : G.tells → IsRunRefused f text (images_of G.seen old n) fault
     is_refused t = by refuses.why
@@ -323,13 +375,10 @@ module _ {D : Type 0} (G : Ghosts D) (only_now : OnlyNow G) (n m : ℕ) (mode : 
         record {
           tells = inl (record {
             ends = line;
-            only = only_read;
-            read = λ other e. (
-              λ j. barrier_from j (slice_get old j) refl (below_or_not j n),
-              λ j d low was.
-                  let h = has_at j low in
-                  (h.now, h.is, λ t. subst (λ (b : ℕ). IsUnwritten G b d h.now) (sym h.barrier_is ∙ refl) (put_at j d low was t)),
-            );
+            only = read_barred.only;
+            barrier = read_barred.barrier;
+            barred = read_barred.barred;
+            read = λ other e. put Read refuses.read (λ b d e. G.tells → IsUnwritten G b d e) (λ j d e read t. unwritten d e (kept j d e read t));
           });
           kind = tt;
           disk = λ j e. absurd (cc);
@@ -343,20 +392,15 @@ module _ {D : Type 0} (G : Ghosts D) (only_now : OnlyNow G) (n m : ℕ) (mode : 
               (c, is, λ t. subst (λ (xs : List ℕ). MadeAll (calls_before_writes (slice_index xs j)) (G.number d) (G.number c) (G.fails d) (G.short d) (G.short c)) (sizes_are t) (read.went.made t));
           rest = rest;
         }
-      where
-        put_at : (j : ℕ) (d : D) (low : j < n) → slice_get old j ≡ Some d → (t : G.tells) → IsUnwritten G (barrier_of G (has_at j low).disk (has_at j low).now) d (has_at j low).now
-        put_at j d low was t =
-            let h = has_at j low in
-            subst (λ (z : D). IsUnwritten G (barrier_of G h.disk h.now) z h.now) (some_is h.disk d (sym h.was ∙ was)) (unwritten h.disk h.now (slice_index refuses.sizes j) t h.read)
 
   -- ---- the refusal, and what was told of it
 
   silent_memory : (r : ScanRefusal) → RefusesRun G f n text old new r → wrote [] → Told status.NoMemory
-  silent_memory refusal.NoMemory (inl only) silent = only_memory only silent
+  silent_memory refusal.NoMemory (inl only) silent = only_memory (most_barred only) silent
   silent_memory refusal.NoMemory (inr (k, le, s)) silent = says_memory (inr (touched.memory_told only_now n m mode load some room workers sound old new there s.sizes s.starts s.begun (some_touched k s) hears held held' faults faults' silent))
-  silent_memory (refusal.Failed j) (inl (stop, only)) silent = only_memory only silent
+  silent_memory (refusal.Failed j) (inl (stop, only)) silent = only_memory (most_barred only) silent
   silent_memory (refusal.Failed j) (inr s) silent = says_memory (inr (touched.memory_told only_now n m mode load some room workers sound old new there s.sizes s.starts s.begun (stops_touched j s) hears held held' faults faults' silent))
-  silent_memory (refusal.Bad fault) refuses silent = only_memory (only_read fault refuses) silent
+  silent_memory (refusal.Bad fault) refuses silent = only_memory (read_barred fault refuses) silent
 
   told_so : (r : ScanRefusal) → RefusesRun G f n text old new r → WroteFront wrote (Rose faults faults') (fault_text (status_at r)) → Told (status_at r)
   told_so refusal.NoMemory refuses line = silent_memory refusal.NoMemory refuses (nothing_told wrote (Rose faults faults') line)

@@ -1,6 +1,7 @@
 -- What a run makes of its disks before its first call, and what of it stops leave.
 use Rattle.std.specs.Prelude.{ℕ, ◌+◌, ◌<◌, ◌≡◌, ◌⊎◌, nat_le, if◌then◌else◌, List, [], slice_get, slice_index, Some}
 use Rattle.tau_disk.specs.declared.disk.Disk.{Ghosts}
+use Rattle.tau_disk.specs.Disk.{Rose}
 use Rattle.tau_disk.specs.Used.{OfDisk}
 use Rattle.tau_stream.specs.Stream.{IsUnborn}
 use Rattle.tau_begin.specs.Barrier.{IsBarrier}
@@ -12,6 +13,10 @@ abbrev pub opening_calls : List ℕ → ℕ → ℕ
 opening_calls sizes j = calls_before_writes (slice_index sizes j) + (if nat_le (slice_index sizes j) 17 then 6 else 4)
 
 module _ {D : Type 0} (G : Ghosts D) where
+  -- no call of the disk failed, and it has its barrier: the entry without a byte, and else its second call, a sync
+  abbrev pub HasBarrier : D → D → Type 0
+  HasBarrier d e = (Rose (G.faults d) (G.faults e) → ⊥) × ((G.seen d ≡ []) ⊎ (G.number d + 1 < G.number e))
+
   -- since its barrier a stop leaves what a read gives, and of a disk without a byte what it left at the entry
   pub record IsUnwritten (b : ℕ) (d e : D) : Type 0 where
     pub barrier : IsBarrier G b d e

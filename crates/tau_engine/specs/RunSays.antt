@@ -27,7 +27,7 @@ use Rattle.tau_engine.specs.declared.status.Status.{Status}
 use Rattle.tau_engine.specs.declared.status.Status.TheVariants as status
 use Rattle.tau_engine.specs.DiskFacts.{DisksWorked, NextClean, Now, ending_of}
 use Rattle.tau_engine.specs.Fault.{fault_text}
-use Rattle.tau_engine.specs.Opening.{opening_calls, IsUnwritten, SinceBarrier, EmptyAreUnborn}
+use Rattle.tau_engine.specs.Opening.{opening_calls, HasBarrier, IsUnwritten, SinceBarrier, EmptyAreUnborn}
 use Rattle.tau_engine.specs.Outside.{Wrote}
 use Rattle.tau_engine.specs.Recovery.{images_of}
 use Rattle.tau_engine.specs.Runs.{ran_by}
@@ -76,11 +76,14 @@ module _ {D : Type 0} (G : Ghosts D) (n m : ℕ) (mode : LogMode) (load : Worklo
   EndsUnwritten (status.BadLog fault) = OneLine
   EndsUnwritten _ = ⊥
 
-  -- The disks were at most read and synced. At a bad log all were read, and since their barriers a stop leaves what reads gave.
+  -- The disks were at most read and synced. Since its barrier a stop leaves of a disk what a read gives, whatever the answer: so
+  -- once all were read it is what they held. At a bad log all were read.
   pub record OnlyOpened : Type 0 where
     pub ends : EndsUnwritten answer
     pub only : EachUsed (OnlySynced G) old new n
-    pub read : (fault : LogFault) → answer ≡ status.BadLog fault → (barrier : ℕ → ℕ) × EachIn (λ j. j < n) (λ j d e. G.tells → IsUnwritten G (barrier j) d e) old new
+    pub barrier : ℕ → ℕ
+    pub barred : EachIn (λ j. j < n) (λ j d e. G.tells → HasBarrier G d e → IsUnwritten G (barrier j) d e) old new
+    pub read : (fault : LogFault) → answer ≡ status.BadLog fault → EachIn (λ j. j < n) (λ j d e. G.tells → IsUnwritten G (barrier j) d e) old new
 
   -- no call that opens a stream was to fail
   abbrev pub OpenedClean : Type 0
