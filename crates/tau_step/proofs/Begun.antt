@@ -1,5 +1,5 @@
 -- What a run by turns gives, by the core with which it begins.
-use Rattle.std.proofs.Common.{ℕ, ◌≡◌, Bool, List, length, subst}
+use Rattle.std.proofs.Common.{ℕ, Bool, List, length, subst}
 use Rattle.std.specs.Prelude.{Result}
 use Rattle.tau_base.specs.declared.value.LogMode.{LogMode}
 use Rattle.tau_base.specs.declared.value.NoMemory.{NoMemory}

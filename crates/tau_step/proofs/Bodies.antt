@@ -1,21 +1,16 @@
 -- The bytes that are handed out of a stream.
-use Rattle.std.proofs.Common.{ℕ, suc, ◌+◌, ◌<◌, ◌≤◌, ◌≡◌, ◌⊎◌, inl, inr, List, [], ◌∷◌, ◌++◌, length, sym, ap, subst, ◌∙◌, append_assoc, arith, length-append}
-use Rattle.std.specs.Prelude.{Some, slice_get, slice_index, replicate}
-use Rattle.tau_base.specs.Modes.{format_of}
+use Rattle.std.proofs.Common.{ℕ, ◌+◌, ◌<◌, ◌≤◌, ◌≡◌, ◌⊎◌, inl, inr, List, [], ◌∷◌, ◌++◌, length, sym, ap, subst, ◌∙◌, append_assoc, arith, length-append}
+use Rattle.std.specs.Prelude.{Some, slice_get, slice_index}
 use Rattle.tau_model.specs.History.{Act}
 use Rattle.tau_machine.specs.Hands.{Txn}
-use Rattle.tau_machine.specs.State.{Item, Record, Anchor, past_of}
+use Rattle.tau_machine.specs.State.{Item, past_of}
 use Rattle.tau_machine.specs.Pieces.{Chain}
-use Rattle.tau_record.specs.declared.entry.Entry.TheVariants as entry
-use Rattle.tau_record.proofs.ContentLaws.{spelling_long}
-use Rattle.tau_txn.specs.Record.{entry_of}
 use Rattle.tau_core.specs.declared.state.Load.{Load}
 use Rattle.tau_core.specs.Plain.{PlainStream}
 use Rattle.tau_core.specs.State.{Plain}
 use Rattle.tau_core.specs.View.{Hidden}
 use Rattle.tau_core.specs.Stands.{Stands, anchors_at}
-use Rattle.tau_core.specs.Pieces.{AreBytesOf, Spelled}
-use Rattle.tau_core.proofs.Sizes.{named_copies}
+use Rattle.tau_core.specs.Pieces.{Spelled}
 use Rattle.tau_run.proofs.Bodies.{five}
 
 module _ (l : Load) (anchors : ℕ → List (List ℕ)) where

@@ -197,7 +197,7 @@ module _ {D : Type 0} {G : Ghosts D} (seen_now : (d : D) → G.tells → G.may_l
     count = refl;
     kept = k.each;
     since = λ j w e. (w, e, since_none j (bases j) p.load (core_of p h) w);
-    calls = λ all j w w' e e'. counts_none j es es w w' refl (some_is w w' (sym e ∙ e'));
+    calls = λ all j w w' e e'. counts_none p.load j es es w w' refl (some_is w w' (sym e ∙ e'));
   }
 
   pub manages_none : (R : Bool → Load → Progress → Progress → Type 0) (run : Run) (ws : List (Writer D G)) → IsOn ws run → ((P : Progress) → R true run.core.load P P) → Manages R true run run ws ws

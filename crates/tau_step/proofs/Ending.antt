@@ -1,6 +1,6 @@
 -- How a run begins, and what it leaves and tells.
-use Rattle.std.proofs.Common.{ℕ, ◌+◌, ◌-◌, ◌≤◌, ◌≡◌, ◌⊎◌, inl, inr, Bool, true, false, List, [], ◌∷◌, length, map, refl, sym, ap, subst, ◌∙◌, Option, arith}
-use Rattle.std.specs.Prelude.{Some, None, ◌<◌, ◌==◌, if◌then◌else◌, IfOk, slice_get, slice_index, slice_index_or, Result, Ok, Err}
+use Rattle.std.proofs.Common.{ℕ, ◌+◌, ◌*◌, ◌-◌, ◌≤◌, ◌≡◌, ◌⊎◌, inl, inr, Bool, true, false, List, [], length, map, refl, sym, ap, subst, ◌∙◌, Option, arith}
+use Rattle.std.specs.Prelude.{Some, None, ◌<◌, ◌==◌, IfOk, slice_get, slice_index, slice_index_or, Result, Ok, Err}
 use Rattle.std.specs.List.{All, filter}
 use Rattle.std.proofs.Math.Seq.{take-length}
 use Rattle.std.proofs.Math.Nat.{mod-lt}
@@ -13,7 +13,7 @@ use Rattle.tau_block.specs.Image.{HasContent}
 use Rattle.tau_disk.specs.Disk.{Rose}
 use Rattle.tau_disk.specs.declared.disk.Disk.{Ghosts}
 use Rattle.tau_stream.specs.declared.writer.Writer.{Writer}
-use Rattle.tau_stream.specs.Writer.{IsReady, disk_of, has_failed}
+use Rattle.tau_stream.specs.Writer.{IsReady, disk_of, gathered_of, has_failed}
 use Rattle.tau_text.specs.declared.load.Turn.{Turn}
 use Rattle.tau_text.specs.declared.load.Workload.{Workload}
 use Rattle.tau_model.specs.History.{Act, Member}
@@ -50,11 +50,12 @@ use Rattle.tau_run.proofs.RunExists.{given_there}
 use Rattle.tau_run.proofs.Start.{started}
 use Rattle.tau_step.specs.declared.run.Run.{Run}
 use Rattle.tau_step.specs.Along.{AreKept, IsAlong, IsLeaving, KeptBy, Since, Went}
-use Rattle.tau_step.specs.Counts.{AreCounted, HasFlushed, counting, flushed_in, flushes_of}
+use Rattle.tau_step.specs.Counts.{AreCounted, AreHalved, HasFlushed, IsHalfFlushed, MayHalve, calls_to_flush, counting, flushed_in, flushes_of}
 use Rattle.tau_step.specs.Device.{noting}
 use Rattle.tau_step.specs.RunEffects.{Moves}
 use Rattle.tau_step.specs.Progressed.{progress}
 use Rattle.tau_step.specs.Rounding.{ran_all}
+use Rattle.tau_step.proofs.Gathering.{is_broken}
 use Rattle.tau_step.proofs.Kept.{kept_leaving}
 use Rattle.tau_step.proofs.EffectsInTurn.{lowest_same}
 use Rattle.tau_step.proofs.RunEnds.{IsBeyond, AreShort, whole_over}
@@ -248,6 +249,19 @@ module _ {D : Type 0} {G : Ghosts D} (seen_now : (d : D) → G.tells → G.may_l
         let many : c.0 ≡ flushes_of j (flushed_in went.events) = omega (arith, all) in
         subst (λ (k : ℕ). HasFlushed G k false (has_failed v') (disk_of v) (disk_of v')) many (subst (λ (f : Bool). HasFlushed G c.0 f (has_failed v') (disk_of v) (disk_of v')) (b.new j v e).works c.2)
 
+    -- and what those that failed left
+    halved : AreHalved ws ws' l P_end
+    unfolding MayHalve
+    halved j v v' e e' tells fails room cut =
+        let c = went.calls refl j v v' e e' tells in
+        let all = c.1 in
+        let many : c.0 ≡ flushes_of j (flushed_in went.events) = omega (arith, all) in
+        let broken = is_broken j (bases j) v' new.core went.hidden fails (went.kept j v' e') in
+        let half = c.3 (b.new j v e).works fails room cut in
+        subst (λ (k : ℕ). IsHalfFlushed G (format_of l.mode) l.streams j (slice_index new.core.plv j) (slice_index new.core.gathered j) (G.number (disk_of v) + calls_to_flush * k) (G.keeps (disk_of v)) (disk_of v')) many
+        (subst (λ (k : ℕ). IsHalfFlushed G (format_of l.mode) l.streams j (slice_index new.core.plv j) k (G.number (disk_of v) + calls_to_flush * c.0) (G.keeps (disk_of v)) (disk_of v')) broken.gathered
+        (subst (λ (k : ℕ). IsHalfFlushed G (format_of l.mode) l.streams j k (gathered_of v') (G.number (disk_of v) + calls_to_flush * c.0) (G.keeps (disk_of v)) (disk_of v')) broken.durable half))
+
     pub told_numbers : All (λ (a : ℕ × List ℕ). IsNumberOf (length new.core.load.calls) a.0) new.clerk.acks
     told_numbers = λ k d lt.
         told_one new.core went.order went.hidden went.stands new.clerk.acks
@@ -263,7 +277,7 @@ module _ {D : Type 0} {G : Ghosts D} (seen_now : (d : D) → G.tells → G.may_l
     concluded end told fates order tables disk sink = record {
       acks = new.clerk.acks;
       came = came noted true new.clerk.acks went (inl whole) part;
-      whole = (whole, λ e. counted);
+      whole = (whole, λ e. (counted, halved));
       over = subst (λ (d : Load). IsOver d.streams (core_of new.core went.hidden)) went.load
           (over_at new.core went.order went.hidden went.stands turns opening P_end refl (subst (λ (d : Load). IsWholeRun (setting_of d) d.workers d.streams turns opening P_end) (sym went.load) whole));
       kept = kept noted true new.clerk.acks went (inl whole) part;

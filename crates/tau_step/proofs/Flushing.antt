@@ -1,6 +1,6 @@
 -- A flush, and what becomes of the writer and the core by it.
 use Rattle.std.proofs.Common.{ℕ, ◌+◌, ◌-◌, ◌<◌, ◌≤◌, ◌≡◌, ◌⊎◌, inl, inr, true, false, List, [], ◌∷◌, ◌++◌, length, take, drop, refl, sym, ap, subst, ◌∙◌, append_assoc, arith, length-append}
-use Rattle.std.specs.Prelude.{Result, Ok, Err, OnOk, OnErr, Some, None, ◌==◌, slice_index, slice_set}
+use Rattle.std.specs.Prelude.{Some, None, ◌==◌, slice_index, slice_set}
 use Rattle.std.proofs.lemmas.List.{append-nil, take_all, drop_all, get_or-set_same}
 use Rattle.std.proofs.lemmas.Bool.{eq-eqb, ne_eqb, cases_eq}
 use Rattle.std.proofs.Math.Path.{fun_ext}
@@ -9,14 +9,12 @@ use Rattle.tau_base.specs.declared.format.Format.{Format}
 use Rattle.tau_base.specs.Modes.{format_of}
 use Rattle.tau_block.specs.Image.{HasContent}
 use Rattle.tau_disk.specs.Disk.{Passes, Rose}
-use Rattle.tau_disk.specs.Plan.{HasMade, MadeAll, MadeSome}
 use Rattle.tau_disk.specs.Used.{GoesOn, IsStopped}
-use Rattle.tau_stream.specs.declared.flush.Flush.{Flush}
 use Rattle.tau_disk.specs.Passing.{passes_weaker, passes_none, left_by}
 use Rattle.tau_disk.specs.declared.disk.Disk.{Ghosts}
 use Rattle.tau_stream.specs.declared.writer.Writer.{Writer}
 use Rattle.tau_stream.specs.Stream.{IsOldOrNew, MayHold}
-use Rattle.tau_stream.specs.Writer.{disk_of, durable_of, left_of, has_failed, part_upto, IsReady}
+use Rattle.tau_stream.specs.Writer.{FlushStops, disk_of, durable_of, gathered_of, left_of, has_failed, part_upto, IsReady}
 use Rattle.tau_model.specs.History.{Act}
 use Rattle.tau_machine.specs.Hands.{Txn}
 use Rattle.tau_machine.specs.Shard.{at}
@@ -37,12 +35,11 @@ use Rattle.tau_core.specs.Managers.{Bars}
 use Rattle.tau_core.specs.Steps.{Steps, Happened}
 use Rattle.tau_run.specs.StopsLeave.{HasFront, HasSomeFront}
 use Rattle.tau_run.specs.Turns.{Stays, Goes}
-use Rattle.tau_run.proofs.Flushes.{made_goes, made_stops}
 use Rattle.tau_step.specs.declared.manager.Managing.TheVariants as did
 use Rattle.tau_step.specs.Progressed.{progress}
 use Rattle.tau_step.specs.Counts.{HasFlushed}
 use Rattle.tau_step.specs.Keeping.{IsLoaded, FlushTurns}
-use Rattle.tau_step.proofs.Counted.{flushed_none}
+use Rattle.tau_step.proofs.Counted.{flushed_none, half_flushed, half_none}
 use Rattle.tau_step.proofs.Deciding.{if_so, if_not}
 use Rattle.tau_step.proofs.Images.{settled_has}
 
@@ -155,6 +152,7 @@ module _ {D : Type 0} {G : Ghosts D} (j : ℕ) (catalogue : List ℕ) (upto : �
           goes = λ e. goes;
           stops = λ e. absurd (let bad : true ≡ false = sym e ∙ works in cc);
           calls = calls;
+          half = λ tells. half_none p.load j 1 false (disk_of w) w' (λ e f. absurd (let bad : true ≡ false = sym f ∙ works in cc));
         }
       where
         below : (a b c : ℕ) → a ≤ b → (a ≡ b → ⊥) → c ≡ b → a < c
@@ -179,7 +177,7 @@ module _ {D : Type 0} {G : Ghosts D} (j : ℕ) (catalogue : List ℕ) (upto : �
 
   -- the disk failed
   module _ (counts : (d : D) (t : ℕ) (x : List ℕ) → t ≤ G.moment d → G.may_leave d x → G.may_leave_since d t x) (only : (d : D) (x : List ℕ) → G.may_leave_since d (G.moment d) x → G.may_leave d x)
-      (ne : upto ≡ durable_of w → ⊥) (durable : durable_of w' ≡ durable_of w) (fails : has_failed w' ≡ true) (rose : Rose (G.faults (disk_of w)) (G.faults (disk_of w')))
+      (ne : upto ≡ durable_of w → ⊥) (durable : durable_of w' ≡ durable_of w) (left : left_of w' ≡ left_of w) (cut : G.tells → FlushStops upto w w') (fails : has_failed w' ≡ true) (rose : Rose (G.faults (disk_of w)) (G.faults (disk_of w')))
       (moments : G.tells → (f : Format) (n i : ℕ) (content : List ℕ) → IsReady f n i w content → Passes G.moment G.may_leave_since (disk_of w) (disk_of w') (IsOldOrNew f n i content (part_upto w upto)))
       (reached : G.tells → (f : Format) (n i : ℕ) (content : List ℕ) → IsReady f n i w content → MayHold f n i content (G.may_leave (disk_of w')))
       (stops : IsStopped G.tells G.number G.fails G.short (disk_of w) (disk_of w')) (calls : G.tells → HasFlushed G 0 false (has_failed w') (disk_of w) (disk_of w')) (faults : G.faults (disk_of w) ≤ G.faults (disk_of w')) where
@@ -215,6 +213,7 @@ module _ {D : Type 0} {G : Ghosts D} (j : ℕ) (catalogue : List ℕ) (upto : �
             at = slice_index p.plv j;
             stop = ap (λ (o : ℕ → Stream). (o j).stop) streams ∙ ap (λ (o : Stream). o.stop) (at_same j x f);
             durable = durable ∙ l.durable ∙ sym here;
+            gathered = all_gathered (ap (λ (c : Core). slice_index c.gathered j) s.after);
             present = λ tells y left.
                 subst (λ (d : Load). (bytes : List ℕ) × HasFront d.streams j catalogue d (core_of p' q.hidden) bytes y × (slice_index p'.plv j ≤ length catalogue + length bytes)) (sym q.load)
                 (elim (left_by G.moment G.may_leave_since G.may_leave counts only (disk_of w) (disk_of w') (IsOldOrNew (format_of p.load.mode) p.load.streams j (catalogue ++ l.first) (part_upto w upto))
@@ -246,7 +245,12 @@ module _ {D : Type 0} {G : Ghosts D} (j : ℕ) (catalogue : List ℕ) (upto : �
           goes = λ e. absurd (let bad : true ≡ false = sym fails ∙ e in cc);
           stops = λ e. stops;
           calls = calls;
+          half = λ tells. half_flushed p.load j upto (catalogue ++ l.first) w w' (l.ready tells) part_is durable left (cut tells);
         }
+      where
+        -- the block was of all that was gathered
+        all_gathered : slice_index p'.gathered j ≡ slice_index p.gathered j → gathered_of w' ≡ slice_index p'.gathered j
+        all_gathered same = let size = ap (length {A = ℕ}) left in let d = l.durable in let c = l.count in let e = l.gathered in omega (arith, same, size, durable, d, c, e)
 
     pub flush_failed : (at : ℕ) → at ≡ slice_index p.plv j → (o : Outcome) → Steps p p' K h (event.Stop j at) o → FlushTurns j catalogue w w' p p' told K h es did.Failed
     flush_failed at is outcome.Went t = by_stop (subst (λ (u : ℕ). Happened (machine.Stop j u) p p' K h) is t)
@@ -315,4 +319,5 @@ module _ {D : Type 0} {G : Ghosts D} (j : ℕ) (catalogue : List ℕ) (upto : �
         goes = λ e tells. record { same = λ k. refl; later = omega arith; clean = λ k low high. absurd (omega (arith, low, high)) };
         stops = λ e. absurd (let bad : true ≡ false = sym e ∙ l.works in cc);
         calls = λ tells. flushed_none G false (has_failed w) (disk_of w) (λ e f. absurd (let bad : true ≡ false = sym f ∙ l.works in cc));
+        half = λ tells. half_none p.load j 0 false (disk_of w) w (λ e f. absurd (let bad : true ≡ false = sym f ∙ l.works in cc));
       }

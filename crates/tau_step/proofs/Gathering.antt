@@ -37,9 +37,9 @@ use Rattle.tau_run.specs.StopsLeave.{HasFront, HasSomeFront}
 use Rattle.tau_step.specs.declared.manager.Managing.{Managing}
 use Rattle.tau_step.specs.declared.manager.Managing.TheVariants as did
 use Rattle.tau_step.specs.Progressed.{progress}
-use Rattle.tau_step.specs.Counts.{HasFlushed, flushes_by}
+use Rattle.tau_step.specs.Counts.{HasFlushed, MayHalve, flushes_by}
 use Rattle.tau_step.specs.Keeping.{IsCurrent, IsBroken, IsKept, IsFilled, ManagerTurns, ManagerStops, ManagerTurned, GatheredTurns, GatheredStops, GatheredTurned}
-use Rattle.tau_step.proofs.Counted.{flushed_none}
+use Rattle.tau_step.proofs.Counted.{flushed_none, half_by, half_none}
 use Rattle.tau_base.proofs.Logic.{not_both}
 use Rattle.tau_step.proofs.Deciding.{if_so, if_not}
 use Rattle.tau_step.proofs.Images.{settled_has}
@@ -184,6 +184,7 @@ module _ {D : Type 0} {G : Ghosts D} (j : ℕ) (catalogue : List ℕ) (w : Write
           stops = λ e f. t.stops f;
           still = λ e. absurd (let bad : true ≡ false = sym e ∙ l.works in cc);
           calls = λ tells. subst (λ (b : Bool). HasFlushed G (flushes_by a) b (has_failed w') (disk_of w) (disk_of w')) (sym l.works) (t.calls tells);
+          half = λ tells. subst (λ (d : Load). MayHalve d j (flushes_by a) (has_failed w) (disk_of w) w') q.load (half_by m.load j false (has_failed w) (flushes_by a) (disk_of w) w' (sym l.works) (t.half tells));
         }
 
     pub manager_stops : GatheredStops j catalogue w w' m p' told (K ++ q.joined) q.hidden (es ++ machine.Gather j ∷ []) → ManagerStops j catalogue w w' p p' told K h es
@@ -254,6 +255,7 @@ manager_idle {D} {G} j catalogue w p told K h es g b =
       stops = λ e. absurd (let bad : true ≡ false = sym b.fails ∙ e in cc);
       still = λ e. refl;
       calls = λ tells. flushed_none G (has_failed w) (has_failed w) (disk_of w) (not_both (has_failed w));
+      half = λ tells. half_none p.load j 0 (has_failed w) (disk_of w) w (not_both (has_failed w));
     }
   where
     second : (a b : Bool) → b ≡ false → (a && b) ≡ false

@@ -24,7 +24,8 @@ use Rattle.tau_run.specs.StopsLeave.{HasSomeFront}
 use Rattle.tau_run.specs.Turns.{Progress, Flushed}
 use Rattle.tau_step.specs.declared.manager.Managing.{Managing}
 use Rattle.tau_step.specs.Progressed.{progress}
-use Rattle.tau_step.specs.Counts.{HasFlushed, flushes_by}
+use Rattle.tau_step.specs.Counts.{HasFlushed, MayHalve, flushes_by}
+use Rattle.tau_step.proofs.Counted.{half_at}
 use Rattle.tau_step.specs.Keeping.{IsFilled, IsLoaded, Handed, FlushTurns, GatheredTurns, GatheredStops}
 use Rattle.tau_step.proofs.Bodies.{spelled_long, behind_whole}
 use Rattle.tau_step.proofs.Flushing.{spelled_kept}
@@ -147,6 +148,7 @@ module _ {D : Type 0} {G : Ghosts D} (j : ℕ) (catalogue : List ℕ) (upto : �
         goes = λ e tells. subst (λ (k : D). GoesOn G.number G.fails k (disk_of w')) disk (t.goes e tells);
         stops = λ e. subst (λ (k : D). IsStopped G.tells G.number G.fails G.short k (disk_of w')) disk (t.stops e);
         calls = λ tells. subst (λ (k : D). HasFlushed G (flushes_by a) false (has_failed w') k (disk_of w')) disk (t.calls tells);
+        half = λ tells. subst (λ (d : Load). MayHalve d j (flushes_by a) false (disk_of w) w') x.load (half_at q.load j (flushes_by a) false (disk_of m) (disk_of w) w' disk (t.half tells));
       }
 
   pub gathered_stops : has_failed m ≡ has_failed w → GatheredStops j catalogue w m p q told K h es

@@ -67,6 +67,7 @@ module _ {D : Type 0} {G : Ghosts D} (seen_now : (d : D) → G.tells → G.may_l
         at = k.at;
         stop = same.stop ∙ k.stop;
         durable = k.durable ∙ sym same.plv;
+        gathered = k.gathered ∙ sym same.gathered;
         present = λ tells x left.
             (let (bytes, front, reach) = k.present tells x left in (
               bytes,

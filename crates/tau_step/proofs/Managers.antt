@@ -122,16 +122,16 @@ module _ {D : Type 0} {G : Ghosts D} (seen_now : (d : D) → G.tells → G.may_l
         )
 
     -- the calls of its own disk, and of the others
-    each_counted : (i : ℕ) (v v' : Writer D G) → slice_get ws i ≡ Some v → slice_get ws' i ≡ Some v' → CountsTo i es t.events v v'
+    each_counted : (i : ℕ) (v v' : Writer D G) → slice_get ws i ≡ Some v → slice_get ws' i ≡ Some v' → CountsTo p.load i es t.events v v'
     each_counted i v v' e e' = elim (cases_eq i j) [
       | inl same ↦
           (let was_at : slice_get ws j ≡ Some v = subst (λ (k : ℕ). slice_get ws k ≡ Some v) same e in
           let is_at : slice_get ws' j ≡ Some v' = subst (λ (k : ℕ). slice_get ws' k ≡ Some v') same e' in
           let first : w ≡ v = some_is w v (sym is ∙ was_at) in
           let last : w' ≡ v' = some_is w' v' (sym got_here ∙ is_at) in
-          let here : CountsTo j es t.events w w' = λ tells. (flushes_by a, turn_counts j a P P' (by_answer a refl).1, t.calls tells) in
-          subst (λ (k : ℕ). CountsTo k es t.events v v') (sym same) (subst (λ (x : Writer D G). CountsTo j es t.events x v') first (subst (λ (x : Writer D G). CountsTo j es t.events w x) last here)))
-      | inr ne ↦ counts_spared i es t.events v v' (turn_spares j i ne a P P' (by_answer a refl).1) (some_is v v' (sym e ∙ sym (got_there i ne) ∙ e'))
+          let here : CountsTo p.load j es t.events w w' = λ tells. (flushes_by a, turn_counts j a P P' (by_answer a refl).1, t.calls tells, t.half tells) in
+          subst (λ (k : ℕ). CountsTo p.load k es t.events v v') (sym same) (subst (λ (x : Writer D G). CountsTo p.load j es t.events x v') first (subst (λ (x : Writer D G). CountsTo p.load j es t.events w x) last here)))
+      | inr ne ↦ counts_spared p.load i es t.events v v' (turn_spares j i ne a P P' (by_answer a refl).1) (some_is v v' (sym e ∙ sym (got_there i ne) ∙ e'))
     ]
 
     turns_went : Went bases (managed_flushing j (Ok a)) true p p' ws ws' told told K h es

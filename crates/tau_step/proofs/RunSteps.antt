@@ -23,7 +23,7 @@ use Rattle.tau_step.specs.Progressed.{progress, Comes}
 use Rattle.tau_step.proofs.Calls.{calls_none, calls_on, calls_stopped}
 use Rattle.tau_step.proofs.Growing.{grows_on}
 use Rattle.tau_step.proofs.Kept.{left_grows, kept_same, kept_leaving}
-use Rattle.tau_step.specs.Counts.{flushed_in}
+use Rattle.tau_step.specs.Counts.{CountsTo, flushed_in}
 use Rattle.tau_step.proofs.Counted.{counts_none, counts_on}
 use Rattle.tau_base.proofs.Logic.{not_both, some_is}
 
@@ -86,7 +86,7 @@ module _ {D : Type 0} {G : Ghosts D} (seen_now : (d : D) → G.tells → G.may_l
     count = refl;
     kept = λ j w e. kept_by whole j w p' c.hidden (kept_same seen_now j (bases j) w p p' h c.hidden c.load q.grown (q.same j) (ap (λ (t : ℕ → List ℕ). t j) c.taken) (k.each j w e));
     since = λ j w e. (w, e, since_none j (bases j) p.load (core_of p' c.hidden) w);
-    calls = λ all j w w' e e'. counts_none j es c.events w w' (silent all) (some_is w w' (sym e ∙ e'));
+    calls = λ all j w w' e e'. counts_none p.load j es c.events w w' (silent all) (some_is w w' (sym e ∙ e'));
   }
 
   pub went_as : (R S : Bool → Load → Progress → Progress → Type 0) (whole : Bool) (p p' : Plain) (ws ws' : List (Writer D G)) (told told' : List (ℕ × List ℕ)) (K : List (Act Txn)) (h : Hidden) (es : List machine.Event) →
@@ -130,5 +130,5 @@ module _ {D : Type 0} {G : Ghosts D} (seen_now : (d : D) → G.tells → G.may_l
         (let (v, is, first) = x.since j w e in
         let (u, is', second) = y.since j v is in
         let same : u ≡ w' = some_is u w' (sym is' ∙ e') in
-        counts_on j es x.events y.events w v w' first.still (λ f. sym same ∙ second.still f) (x.calls refl j w v e is) (y.calls all j v w' is e'));
+        counts_on p.load j es x.events y.events w v w' first.still (λ f. sym same ∙ second.still f) (x.calls refl j w v e is) (subst (λ (l : Load). CountsTo l j x.events y.events v w') x.load (y.calls all j v w' is e')));
   }

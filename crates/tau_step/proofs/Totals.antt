@@ -1,5 +1,5 @@
 -- What is left of all workers falls where one of them acts.
-use Rattle.std.proofs.Common.{ℕ, zero, suc, ◌<◌, ◌≤◌, ◌≡◌, true, inl, inr, refl, sym, ap, subst, arith}
+use Rattle.std.proofs.Common.{ℕ, zero, suc, ◌<◌, ◌≡◌, true, inl, inr, refl, sym, ap, subst, arith}
 use Rattle.std.proofs.lemmas.Bool.{cases_eq}
 use Rattle.tau_machine.specs.State.{Setting, Core}
 use Rattle.tau_run.specs.Turns.{Progress, Worked, has_work}

@@ -87,7 +87,7 @@ module _ {D : Type 0} {G : Ghosts D} (bases : ℕ → List ℕ) where
     pub count : length ws' ≡ length ws
     pub kept : (j : ℕ) (w' : Writer D G) → slice_get ws' j ≡ Some w' → KeptBy j (bases j) whole w' p' hidden
     pub since : (j : ℕ) (w : Writer D G) → slice_get ws j ≡ Some w → (w' : Writer D G) × (slice_get ws' j ≡ Some w') × Since j (bases j) p.load (core_of p' hidden) w w'
-    pub calls : whole ≡ true → (j : ℕ) (w w' : Writer D G) → slice_get ws j ≡ Some w → slice_get ws' j ≡ Some w' → CountsTo j es events w w'
+    pub calls : whole ≡ true → (j : ℕ) (w w' : Writer D G) → slice_get ws j ≡ Some w → slice_get ws' j ≡ Some w' → CountsTo p.load j es events w w'
 
   -- a part, where one call more may have been acknowledged than was told
   pub record WentShort (R : Bool → Load → Progress → Progress → Type 0) (p p' : Plain) (ws ws' : List (Writer D G)) (told : List (ℕ × List ℕ)) (failed failed' : Bool) (hears : Type 0) (held held' : List ℕ) (K : List (Act Txn)) (h : Hidden) (es : List Event) : Type 0 where

@@ -7,7 +7,7 @@ use Rattle.tau_disk.specs.Disk.{Passes, Rose}
 use Rattle.tau_disk.specs.Used.{GoesOn, IsStopped}
 use Rattle.tau_disk.specs.declared.disk.Disk.{Ghosts}
 use Rattle.tau_stream.specs.declared.writer.Writer.{Writer}
-use Rattle.tau_stream.specs.Writer.{disk_of, durable_of, left_of, has_failed, IsReady}
+use Rattle.tau_stream.specs.Writer.{disk_of, durable_of, gathered_of, left_of, has_failed, IsReady}
 use Rattle.tau_model.specs.History.{Act}
 use Rattle.tau_machine.specs.Hands.{Txn}
 use Rattle.tau_machine.specs.State.{Item}
@@ -20,7 +20,7 @@ use Rattle.tau_run.specs.Turns.{Managed, ManagedPart, Flushed}
 use Rattle.tau_run.specs.StopsLeave.{HasFront, HasSomeFront}
 use Rattle.tau_step.specs.declared.manager.Managing.{Managing}
 use Rattle.tau_step.specs.declared.manager.Managing.TheVariants as did
-use Rattle.tau_step.specs.Counts.{HasFlushed, flushes_by}
+use Rattle.tau_step.specs.Counts.{HasFlushed, MayHalve, flushes_by}
 use Rattle.tau_step.specs.Progressed.{progress}
 
 module _ {D : Type 0} {G : Ghosts D} (j : ℕ) (catalogue : List ℕ) where
@@ -40,6 +40,7 @@ module _ {D : Type 0} {G : Ghosts D} (j : ℕ) (catalogue : List ℕ) where
     pub at : ℕ
     pub stop : stop_in (slice_get p.streams j) ≡ Some at
     pub durable : durable_of w ≡ slice_index p.plv j
+    pub gathered : gathered_of w ≡ slice_index p.gathered j
     pub present : G.tells → (x : List ℕ) → G.may_leave (disk_of w) x →
         (bytes : List ℕ) × HasFront p.load.streams j catalogue p.load (core_of p h) bytes x × (slice_index p.plv j ≤ length catalogue + length bytes)
     pub reached : G.tells → (y content : List ℕ) × G.may_leave (disk_of w) y × HasContent (format_of p.load.mode) p.load.streams j content y × (length content ≡ slice_index p.plv j)
@@ -98,6 +99,7 @@ module _ {D : Type 0} {G : Ghosts D} (j : ℕ) (catalogue : List ℕ) where
       pub stops : has_failed w ≡ false → has_failed w' ≡ true → IsStopped G.tells G.number G.fails G.short (disk_of w) (disk_of w')
       pub still : has_failed w ≡ true → w' ≡ w
       pub calls : G.tells → HasFlushed G (flushes_by a) (has_failed w) (has_failed w') (disk_of w) (disk_of w')
+      pub half : G.tells → MayHalve p.load j (flushes_by a) (has_failed w) (disk_of w) w'
 
     -- out of memory after the gathering: the disk is as it was
     pub record ManagerStops : Type 0 where
@@ -131,6 +133,7 @@ module _ {D : Type 0} {G : Ghosts D} (j : ℕ) (catalogue : List ℕ) where
       pub goes : has_failed w' ≡ false → G.tells → GoesOn G.number G.fails (disk_of w) (disk_of w')
       pub stops : has_failed w' ≡ true → IsStopped G.tells G.number G.fails G.short (disk_of w) (disk_of w')
       pub calls : G.tells → HasFlushed G (flushes_by a) false (has_failed w') (disk_of w) (disk_of w')
+      pub half : G.tells → MayHalve p.load j (flushes_by a) false (disk_of w) w'
 
     -- the turn after its Gather
     pub record GatheredTurns (a : Managing) : Type 0 where
@@ -150,6 +153,7 @@ module _ {D : Type 0} {G : Ghosts D} (j : ℕ) (catalogue : List ℕ) where
       pub goes : has_failed w' ≡ false → G.tells → GoesOn G.number G.fails (disk_of w) (disk_of w')
       pub stops : has_failed w' ≡ true → IsStopped G.tells G.number G.fails G.short (disk_of w) (disk_of w')
       pub calls : G.tells → HasFlushed G (flushes_by a) false (has_failed w') (disk_of w) (disk_of w')
+      pub half : G.tells → MayHalve p.load j (flushes_by a) false (disk_of w) w'
 
     -- out of memory: nothing happened, and the disk is as it was
     pub record GatheredStops : Type 0 where

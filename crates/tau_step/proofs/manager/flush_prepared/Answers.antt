@@ -15,7 +15,7 @@ returns-in-Ok g c = λ catalogue K h es told stands size l.
     (λ e. let bad = sym c.in-Ok.is ∙ c.flush.ensures.flushes.idle.1 e in cc)
     c.in-Ok.ensures.flushed.durable c.in-Ok.ensures.flushed.left c.in-Ok.ensures.flushed.works c.in-Ok.ensures.flushed.done c.flush.ensures.flushes.moments
     (λ tells. made_goes g.D.Disk c.args.writer.now.disk c.flush.new.self.disk c.in-Ok.field-0 c.flush.result c.in-Ok.is (c.flush.ensures.flushes.plan tells (λ e. let bad = sym c.in-Ok.is ∙ c.flush.ensures.flushes.idle.1 e in cc)))
-    (λ tells. flushed_whole g.D.Disk c.in-Ok.field-0 c.flush.result (has_failed c.flush.new.self) c.args.writer.now.disk c.flush.new.self.disk c.in-Ok.is c.in-Ok.ensures.flushed.works (c.flush.ensures.flushes.plan tells (λ e. let bad = sym c.in-Ok.is ∙ c.flush.ensures.flushes.idle.1 e in cc)))
+    (λ tells. flushed_whole g.D.Disk c.in-Ok.field-0 c.flush.result (has_failed c.flush.new.self) c.args.writer.now.disk c.flush.new.self.disk c.in-Ok.is c.in-Ok.ensures.flushed.works (c.flush.ensures.flushes.plan tells (λ e. let bad = sym c.in-Ok.is ∙ c.flush.ensures.flushes.idle.1 e in cc)) (c.flush.ensures.flushes.last tells))
     c.flush.ensures.flushes.faults
     (reached_by c.persist.result) (c.persist.ensures K h stands)
 
@@ -25,9 +25,9 @@ returns-in-Err-Failed g c = λ catalogue K h es told stands size l.
     let failed = c.flush.ensures.flushes.failed err in
     flush_failed c.args.stream catalogue c.args.upto c.args.writer.now c.flush.new.self c.args.core.now c.stop.new.self told K h es stands c.requires.there size l g.met.D.Disk.counts_now g.met.D.Disk.only_now
     (λ e. let bad = sym err ∙ c.flush.ensures.flushes.idle.1 e in cc)
-    c.in-Err-Failed.ensures.stays.durable failed.1 failed.0 c.flush.ensures.flushes.moments c.in-Err-Failed.ensures.stays.reached
+    c.in-Err-Failed.ensures.stays.durable c.in-Err-Failed.ensures.stays.left (c.flush.ensures.flushes.stops err) failed.1 failed.0 c.flush.ensures.flushes.moments c.in-Err-Failed.ensures.stays.reached
     (λ tells. made_stops g.D.Disk c.args.writer.now.disk c.flush.new.self.disk flush.Failed c.flush.result err (c.flush.ensures.flushes.plan tells (λ e. let bad = sym err ∙ c.flush.ensures.flushes.idle.1 e in cc)))
-    (λ tells. flushed_part g.D.Disk flush.Failed c.flush.result (has_failed c.flush.new.self) c.args.writer.now.disk c.flush.new.self.disk err failed.1 (c.flush.ensures.flushes.plan tells (λ e. let bad = sym err ∙ c.flush.ensures.flushes.idle.1 e in cc)))
+    (λ tells. flushed_part g.D.Disk flush.Failed c.flush.result (has_failed c.flush.new.self) c.args.writer.now.disk c.flush.new.self.disk err failed.1 (c.flush.ensures.flushes.plan tells (λ e. let bad = sym err ∙ c.flush.ensures.flushes.idle.1 e in cc)) (c.flush.ensures.flushes.last tells))
     c.flush.ensures.flushes.faults
     c.durable-at.result (c.durable-at.ensures ∙ c.in-Err-Failed.ensures.stays.durable ∙ l.durable) (reached_by c.stop.result) (c.stop.ensures K h stands)
 
