@@ -10,6 +10,7 @@ use Rattle.tau_base.specs.declared.format.Format.TheVariants.{One}
 use Rattle.tau_block.specs.Image.{HasContent}
 use Rattle.tau_block.proofs.Blocks.{short_content}
 use Rattle.tau_disk.specs.declared.disk.Disk.{Ghosts}
+use Rattle.tau_disk.specs.Left.{MayLeaveEach}
 use Rattle.tau_disk.specs.Used.{EachIn, RoseAt, IsFirstStopped, Made}
 use Rattle.tau_stream.specs.declared.writer.Writer.{Writer}
 use Rattle.tau_stream.specs.Writer.{disk_of}
@@ -39,7 +40,7 @@ use Rattle.tau_run.proofs.Results.{history_law}
 use Rattle.tau_run.specs.Gives.{CameTo, came_far, Concluded}
 use Rattle.tau_run.specs.Heard.{Heard}
 use Rattle.tau_engine.specs.Bench.{IsMeasured, PlaysWell}
-use Rattle.tau_step.specs.Counts.{AreCounted, counting}
+use Rattle.tau_step.specs.Counts.{AreCounted, AreHalved, counting}
 use Rattle.tau_engine.specs.Drill.{IsPlay, IsRehearsed, PlaysOn}
 use Rattle.tau_engine.specs.Played.{ArePlayed}
 use Rattle.tau_engine.specs.DiskFacts.{Now, AreUnborn}
@@ -132,14 +133,14 @@ module _ {D : Type 0} {G : Ghosts D} (only_now : OnlyNow G) (n m : ℕ) (load : 
   }
 
   -- the disks are those of its calls
-  now_played : AreCounted ws after h.came.events → ArePlayed G n old new (came_far t)
-  now_played counted = played G n (catalogue_of load) l (came_far t) streams_are old mid new many ws after streams back (to.writers only_now n m Values load sound l load_is ws after h.acks t) counted all
+  now_played : MayLeaveEach G.tells G.may_leave G.image → AreCounted ws after h.came.events × AreHalved ws after l (came_far t) → ArePlayed G n (catalogue_of load) l old new (came_far t)
+  now_played each counted = played G n (catalogue_of load) l (came_far t) streams_are old mid new many ws after streams back (to.writers only_now n m Values load sound l load_is ws after h.acks t) counted.0 counted.1 each all
 
-  pub rehearsal : AreCounted ws after h.came.events → IsPlay G n m load old new (Wrote hears held held')
-  rehearsal counted = by end.disk lowest
+  pub rehearsal : MayLeaveEach G.tells G.may_leave G.image → AreCounted ws after h.came.events × AreHalved ws after l (came_far t) → IsPlay G n m load old new (Wrote hears held held')
+  rehearsal each counted = by end.disk lowest
     where
       by : (failed : Option ℕ) → NamesLowest n (stops_in s) failed → IsPlay G n m load old new (Wrote hears held held')
-      by None going = record { rehearsed = went_well going; played = now_played counted }
+      by None going = record { rehearsed = went_well going; played = now_played each counted }
       by (Some j) q = record {
         rehearsed = record {
           failed = Some j;
@@ -162,17 +163,17 @@ module _ {D : Type 0} {G : Ghosts D} (only_now : OnlyNow G) (n m : ℕ) (load : 
           };
           acked = told;
         };
-        played = now_played counted;
+        played = now_played each counted;
       }
 
 -- the run of a drill
 module _ {D : Type 0} {G : Ghosts D} (only_now : OnlyNow G) (n m : ℕ) (load : Workload) (room : n ≤ 16) (sound : IsSoundLoad load) (old mid new : List D) (many : n ≤ length old) (ws : List (Writer D G))
     (streams : AreOpened G n (catalogue_of load) old mid ws) (tells : G.tells) (hears : Type 0) (held held' : List ℕ) (rose : Type 0) (p : PlaysOn m load ws mid new hears held held' rose) where
-  pub rehearsed_on : IsPlay G n m load old new (Wrote hears held held')
-  rehearsed_on =
+  pub rehearsed_on : MayLeaveEach G.tells G.may_leave G.image → IsPlay G n m load old new (Wrote hears held held')
+  rehearsed_on each =
       let how : Bool → Load → Core → Progress → Type 0 = counting ws p.after (chosen_by load.turns n m load) in
       let g = gave (λ k. counting ws p.after (by_turns k m load)) how n m Values load (λ whole l opening q x. (chosen load.turns whole n m load l opening q x.0, x.1)) ws p.after streams.count hears held held' rose (Ok p.end) p.ran in
-      rehearsal only_now n m load old mid new many ws p.after streams p.back tells hears held held' rose p.end sound g.0 g.1 how (λ whole opening q x. x.0) g.2 p.heard (g.2.whole.1 refl)
+      rehearsal only_now n m load old mid new many ws p.after streams p.back tells hears held held' rose p.end sound g.0 g.1 how (λ whole opening q x. x.0) g.2 p.heard each (g.2.whole.1 refl)
 
 -- a run in which nothing failed, with its rows
 module _ {D : Type 0} {G : Ghosts D} (only_now : OnlyNow G) (n m : ℕ) (load : Workload) (room : n ≤ 16) (sound : IsSoundLoad load) (old mid new : List D) (many : n ≤ length old) (ws : List (Writer D G))

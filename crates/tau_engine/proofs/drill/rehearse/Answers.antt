@@ -25,7 +25,7 @@ returns-in-Ok-clause-told g c =
     on_ok c.play_on.result
     (λ p. rehearsed_on {D = g.row.D.Denot} {G = g.D.Disk} g.met.D.Disk.only_now c.args.streams c.args.workers c.args.load.now c.requires.streams_high c.requires.sound c.args.disks.now.items c.open_streams.new.disks.items c.play_on.new.disks.items (omega (arith, many)) c.in-Ok.writers.items
     (subst (λ (text : List ℕ). AreOpened g.D.Disk c.args.streams text c.args.disks.now.items c.open_streams.new.disks.items c.in-Ok.writers.items) is c.in-Ok.ensures.opened)
-    c.requires.tells g.K.Sink.tells (g.K.Sink.held c.args.sink.now) (g.K.Sink.held c.play_on.new.sink) _ p)
+    c.requires.tells g.K.Sink.tells (g.K.Sink.held c.args.sink.now) (g.K.Sink.held c.play_on.new.sink) _ p g.met.D.Disk.leaves_each)
     c.play_on.ensures.ran
 
 pub returns-in-Err-Failed-clause-told : goal.returns-in-Err-Failed-clause-told
