@@ -32,8 +32,8 @@ use Rattle.tau_run.proofs.Results.{ends_law}
 use Rattle.tau_crew_facts.specs.Threads.{in_threads}
 use Rattle.tau_crew_facts.proofs.Apart as apart
 use Rattle.tau_begin.specs.Opened.{IsOpenRun, TouchedAt}
-use Rattle.tau_engine.specs.declared.status.Status.{Status}
-use Rattle.tau_engine.specs.declared.status.Status.TheVariants as status
+use Rattle.tau_commands.specs.declared.status.Status.{Status}
+use Rattle.tau_commands.specs.declared.status.Status.TheVariants as status
 use Rattle.tau_engine.specs.DiskFacts.{Now}
 use Rattle.tau_engine.specs.Runs.{RunsFrom, TellsRun, ran_by}
 use Rattle.tau_engine.specs.RunSays.{RunSays, HasSpacedOn}

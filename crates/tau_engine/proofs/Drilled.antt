@@ -25,7 +25,7 @@ use Rattle.tau_run.specs.Start.{Start}
 use Rattle.tau_run.specs.RecoveredFacts.{AreFrom, IsRecovered, takes}
 use Rattle.tau_engine.specs.Drill.{AreNewDisks, ArePlanned, IsDrill, IsFound, IsNew, IsPlay, IsRehearsed, StopsAt, images_by, is_of, stop_at, tear_in}
 use Rattle.tau_engine.specs.DiskFacts.{Now}
-use Rattle.tau_engine.specs.Recovery.{IsRecoveryOf}
+use Rattle.tau_commands.specs.Recovery.{IsRecoveryOf}
 use Rattle.tau_base.proofs.Lists.{some_at, got_more, got_within, length_mapped, got_mapped}
 use Rattle.tau_disk.proofs.Images.{reach_least}
 

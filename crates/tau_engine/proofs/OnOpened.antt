@@ -43,7 +43,7 @@ use Rattle.tau_begin_laws.specs.Laws.{start_on, IsOpened}
 use Rattle.tau_begin_laws.proofs.Starting as starting
 use Rattle.tau_begin_laws.proofs.Images.{images_hold, seen_hold}
 use Rattle.tau_engine.specs.Opening.{opening_calls}
-use Rattle.tau_engine.specs.Recovery.{images_of}
+use Rattle.tau_commands.specs.Recovery.{images_of}
 
 -- ---- contents of images
 

@@ -46,13 +46,13 @@ use Rattle.tau_run.proofs.Came as of
 use Rattle.tau_begin.specs.Barrier.{IsBarrier}
 use Rattle.tau_begin.specs.Opened.{IsTouched, IsOpenRun}
 use Rattle.tau_begin.proofs.Barrier.{barrier_of, put_on}
-use Rattle.tau_engine.specs.declared.status.Status.{Status}
-use Rattle.tau_engine.specs.declared.status.Status.TheVariants as status
+use Rattle.tau_commands.specs.declared.status.Status.{Status}
+use Rattle.tau_commands.specs.declared.status.Status.TheVariants as status
 use Rattle.tau_engine.specs.DiskFacts.{DisksWorked, NextClean, Now, ending_of}
-use Rattle.tau_engine.specs.Fault.{fault_text}
+use Rattle.tau_commands.specs.Fault.{fault_text}
 use Rattle.tau_engine.specs.Opening.{opening_calls, SinceBarrier, EmptyAreUnborn}
-use Rattle.tau_engine.specs.Outside.{Wrote}
-use Rattle.tau_engine.specs.Recovery.{images_of}
+use Rattle.tau_commands.specs.Outside.{Wrote}
+use Rattle.tau_commands.specs.Recovery.{images_of}
 use Rattle.tau_engine.specs.Runs.{TellsEnd, ran_by}
 use Rattle.tau_engine.specs.RunSays.{EndsRun, FailsStarting, HasRun, OpenedClean, RunSays, HasSpacedOn}
 use Rattle.tau_engine.proofs.OnOpened as on

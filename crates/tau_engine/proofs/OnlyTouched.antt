@@ -23,13 +23,13 @@ use Rattle.tau_begin.specs.Barrier.{IsBarrier}
 use Rattle.tau_begin.specs.Opened.{IsBegun, IsTouched, TouchedAt}
 use Rattle.tau_begin.specs.Reading.{calls_before_writes}
 use Rattle.tau_begin.proofs.Barrier.{barrier_of, put_on}
-use Rattle.tau_engine.specs.declared.status.Status.{Status}
-use Rattle.tau_engine.specs.declared.status.Status.TheVariants as status
+use Rattle.tau_commands.specs.declared.status.Status.{Status}
+use Rattle.tau_commands.specs.declared.status.Status.TheVariants as status
 use Rattle.tau_engine.specs.DiskFacts.{DisksWorked, Now, ending_of}
-use Rattle.tau_engine.specs.Fault.{fault_text}
+use Rattle.tau_commands.specs.Fault.{fault_text}
 use Rattle.tau_engine.specs.Opening.{opening_calls, SinceBarrier, EmptyAreUnborn}
-use Rattle.tau_engine.specs.Outside.{Wrote}
-use Rattle.tau_engine.specs.Recovery.{images_of}
+use Rattle.tau_commands.specs.Outside.{Wrote}
+use Rattle.tau_commands.specs.Recovery.{images_of}
 use Rattle.tau_engine.specs.RunSays.{EndsRun, FailsStarting, HasRun}
 use Rattle.tau_engine.proofs.NoneBegun as none
 use Rattle.tau_engine.proofs.OnOpened as on

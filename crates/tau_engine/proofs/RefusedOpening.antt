@@ -34,18 +34,18 @@ use Rattle.tau_begin.specs.Opened.{IsReadFrom, IsRefusedOn, TouchedAt, RefusesLo
 use Rattle.tau_begin.specs.Reading.{calls_before_writes, AtMostRead, StopsReading, WasRead}
 use Rattle.tau_begin.proofs.Barrier.{barrier_of, moment_by}
 use Rattle.tau_begin.proofs.Slices.{get_take, taken_long}
-use Rattle.tau_engine.specs.declared.status.Status.{Status}
-use Rattle.tau_engine.specs.declared.status.Status.TheVariants as status
-use Rattle.tau_engine.specs.Fault.{fault_text, TellsFault}
+use Rattle.tau_commands.specs.declared.status.Status.{Status}
+use Rattle.tau_commands.specs.declared.status.Status.TheVariants as status
+use Rattle.tau_commands.specs.Fault.{fault_text, TellsFault}
 use Rattle.tau_engine.specs.Opening.{opening_calls, HasBarrier, IsUnwritten}
-use Rattle.tau_engine.specs.Outside.{Wrote}
-use Rattle.tau_engine.specs.Recovery.{images_of}
-use Rattle.tau_engine.specs.Runs.{status_at}
+use Rattle.tau_commands.specs.Outside.{Wrote}
+use Rattle.tau_commands.specs.Recovery.{images_of}
+use Rattle.tau_commands.specs.First.{status_at}
 use Rattle.tau_engine.specs.RunSays.{HasRun, IsRunRefused, OnlyOpened, RunSays}
 use Rattle.tau_engine.proofs.OnOpened.{calls_are, same_sizes, size_is, starts_long}
 use Rattle.tau_engine.proofs.OnlyTouched as touched
 use Rattle.tau_engine.proofs.Streams.{OnlyNow}
-use Rattle.tau_engine.proofs.Tops.{nothing_told}
+use Rattle.tau_commands.proofs.Ends.{nothing_told}
 
 broke_as : {D : Type 0} (G : Ghosts D) (a b : ℕ) (d e : D) → Broke G a d e → (G.tells → a ≡ b) → Broke G b d e
 broke_as G a b d e broke same = record {

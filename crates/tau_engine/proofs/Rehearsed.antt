@@ -44,7 +44,7 @@ use Rattle.tau_step.specs.Counts.{AreCounted, AreHalved, counting}
 use Rattle.tau_engine.specs.Drill.{IsPlay, IsRehearsed, PlaysOn}
 use Rattle.tau_engine.specs.Played.{ArePlayed}
 use Rattle.tau_engine.specs.DiskFacts.{Now, AreUnborn}
-use Rattle.tau_engine.specs.Outside.{Wrote}
+use Rattle.tau_commands.specs.Outside.{Wrote}
 use Rattle.tau_engine.specs.Runs.{ran_by}
 use Rattle.tau_engine.proofs.Chosen.{chosen}
 use Rattle.tau_engine.proofs.NotBegun.{told_of_failed}

@@ -20,13 +20,13 @@ use Rattle.tau_scan.specs.Taken.{Kept}
 use Rattle.tau_replay.specs.Redone.{IsOrderOf}
 use Rattle.tau_begin.specs.Reading.{calls_before_writes}
 use Rattle.tau_run.specs.RunFacts.{WroteFront}
-use Rattle.tau_engine.specs.declared.status.Status.{Status}
-use Rattle.tau_engine.specs.declared.status.Status.TheVariants as status
+use Rattle.tau_commands.specs.declared.status.Status.{Status}
+use Rattle.tau_commands.specs.declared.status.Status.TheVariants as status
 use Rattle.tau_engine.specs.DiskFacts.{NextClean, NotEarlier}
-use Rattle.tau_engine.specs.Fault.{fault_text, is_refusal}
+use Rattle.tau_commands.specs.Fault.{fault_text, is_refusal}
 use Rattle.tau_engine.specs.Opening.{EmptyAreUnborn, opening_calls}
-use Rattle.tau_engine.specs.Outside.{FailsTold, Wrote, ends_text, ends_recovery, is_before_disks}
-use Rattle.tau_engine.specs.Recovery.{EndsAsBad, EndsTangled, IsTangle, IsUnfit, images_of}
+use Rattle.tau_commands.specs.Outside.{FailsTold, Wrote, ends_text, ends_recovery, is_before_disks}
+use Rattle.tau_commands.specs.Recovery.{EndsAsBad, EndsTangled, IsTangle, IsUnfit, images_of}
 use Rattle.tau_engine.specs.RunSays.{EndsRun, EndsUnwritten, HasRun, IsRunRefused, MayEnd, OnlyOpened, RunSays}
 
 -- a run ends in one of the ways in which a recovery does

@@ -1,5 +1,5 @@
 -- What is said of a call, from what is said of its command.
-use Rattle.std.proofs.Common.{ℕ, Bool, true, false, ◌+◌, ◌≡◌, ◌<◌, ◌≤◌, ◌⊎◌, inl, inr, refl, sym, ap, ◌∙◌, subst, List, [], ◌∷◌, drop, length, arith}
+use Rattle.std.proofs.Common.{ℕ, true, false, ◌+◌, ◌≡◌, ◌<◌, ◌≤◌, ◌⊎◌, inl, inr, refl, sym, ap, ◌∙◌, subst, List, [], ◌∷◌, drop, length, arith}
 use Rattle.std.specs.Prelude.{Option, Some, None, Result, Ok, Err, slice_get}
 use Rattle.tau_base.proofs.Logic.{below_or_not}
 use Rattle.tau_base.specs.declared.limits.TheConstants.{MAX_STREAMS, MAX_WORKLOAD}
@@ -21,41 +21,28 @@ use Rattle.tau_text.specs.declared.load.Workload.{Workload}
 use Rattle.tau_words.specs.declared.command.Command.{Command}
 use Rattle.tau_words.specs.declared.command.Command.TheVariants.{Run, Recover, Drill, Bench, Checkpoint, Restore, Follow, Inspect, Audit}
 use Rattle.tau_words.specs.declared.command.Ending.{Ending}
-use Rattle.tau_engine.specs.declared.status.Status.{Status}
-use Rattle.tau_engine.specs.declared.status.Status.TheVariants as status
+use Rattle.tau_commands.specs.declared.status.Status.{Status}
+use Rattle.tau_commands.specs.declared.status.Status.TheVariants as status
 use Rattle.tau_engine.specs.Bench.{BenchTells}
-use Rattle.tau_engine.specs.Commands.{Of, OfRun, OfRecover, OfDrill, OfBench, OneLine, wrote}
-use Rattle.tau_engine.specs.Fault.{fault_text, is_refusal, TellsFault}
-use Rattle.tau_engine.specs.Following.{OfFollow, EndsFollowing, ends_following}
-use Rattle.tau_engine.specs.Outside.{Input, Output, HasWorkload, HasFault, ends_drill, ends_recovery, ends_rehearsal, ends_text, is_behind_text, is_behind_end, is_behind_reading, is_before_disks}
-use Rattle.tau_engine.specs.Reads.{HasOnlyRead, HasReadSource}
+use Rattle.tau_engine.specs.Commands.{Of, OfRun, OfDrill, OfBench}
+use Rattle.tau_commands.specs.Recovery.{OfRecover, EndsAsBad, EndsTangled}
+use Rattle.tau_commands.specs.Ends.{OneLine, wrote}
+use Rattle.tau_commands.specs.Fault.{fault_text, is_refusal, TellsFault}
+use Rattle.tau_commands.specs.Following.{OfFollow, EndsFollowing, ends_following}
+use Rattle.tau_commands.specs.Outside.{Input, Output, HasWorkload, HasFault, ends_drill, ends_recovery, ends_rehearsal, ends_text, is_behind_text, is_behind_end, is_behind_reading, is_before_disks}
+use Rattle.tau_commands.specs.Reads.{HasOnlyRead, HasReadSource}
 use Rattle.tau_engine.specs.RunSays.{MayEnd, RunSays}
 use Rattle.tau_engine.specs.Served.{streams_of, uses_slots, reads_source, writes_at_end, only_reads}
-use Rattle.tau_engine.specs.Sources.{HasSource, RefusesSource, is_of_source}
+use Rattle.tau_commands.specs.Sources.{HasSource, RefusesSource, is_of_source}
 use Rattle.tau_engine.specs.Top.{Says, Untouched, Uses, Written, finds_log, is_told_late}
-use Rattle.tau_engine.specs.Recovery.{EndsAsBad, EndsTangled}
-use Rattle.tau_engine.proofs.Drilling.{no_refusal, rehearsal_recovers, rehearses_well}
-use Rattle.tau_engine.proofs.Recoveries.{clean_of}
-use Rattle.tau_engine.proofs.Refusals.{answers_as, told_refusal}
+use Rattle.tau_commands.proofs.Ends.{no_refusal, rehearsal_recovers, rehearses_well, recovers_well, no_source, other}
+use Rattle.tau_commands.proofs.Recoveries.{clean_of}
+use Rattle.tau_commands.proofs.Refusals.{answers_as, told_refusal}
 use Rattle.tau_engine.proofs.RunClauses as of
 use Rattle.tau_engine.proofs.RunClauses.{may_end, only_memory}
-use Rattle.tau_engine.proofs.Tops.{ends_unread, not_both, recovers_well, runs_behind, same_load}
+use Rattle.tau_engine.proofs.Tops.{ends_unread, not_both, runs_behind, same_load}
 
 -- ---- answers
-
--- a recovery refuses no source
-pub no_source : (a : Status) → ends_recovery a ≡ true → is_of_source a ≡ true → ⊥
-no_source status.Ok kind e = cc e
-no_source status.NoMemory kind e = cc e
-no_source status.WriteFault kind e = cc e
-no_source (status.DiskFault j) kind e = cc e
-no_source (status.BadLog fault) kind e = cc e
-no_source status.Usage kind e = cc kind
-no_source (status.BadText at why) kind e = cc kind
-no_source status.ReadFault kind e = cc kind
-no_source status.TooLong kind e = cc kind
-no_source (status.BadFeed at) kind e = cc kind
-no_source (status.BadReport number) kind e = cc kind
 
 pub no_before : (a : Status) → ends_recovery a ≡ true → is_before_disks a ≡ true → ⊥
 no_before status.Ok kind e = cc e
@@ -69,9 +56,6 @@ no_before status.ReadFault kind e = cc kind
 no_before status.TooLong kind e = cc kind
 no_before (status.BadFeed at) kind e = cc kind
 no_before (status.BadReport number) kind e = cc kind
-
-pub other : (ends : Status → Bool) (a x : Status) → ends a ≡ true → ends x ≡ false → a ≡ x → ⊥
-other ends a x kind none e = (let f : true ≡ false = sym kind ∙ ap ends e ∙ none in cc f)
 
 -- ---- commands
 

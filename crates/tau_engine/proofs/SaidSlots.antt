@@ -8,14 +8,15 @@ use Rattle.tau_disk.specs.Disk.{Rose}
 use Rattle.tau_scan.specs.declared.fault.LogFault.{LogFault}
 use Rattle.tau_words.specs.declared.command.Command.{Command}
 use Rattle.tau_words.specs.declared.command.Command.TheVariants.{Checkpoint, Restore}
-use Rattle.tau_engine.specs.declared.status.Status.{Status}
-use Rattle.tau_engine.specs.declared.status.Status.TheVariants as status
-use Rattle.tau_engine.specs.Checkpoints.{HasEnded, HasReadAll, IsUsed}
+use Rattle.tau_commands.specs.declared.status.Status.{Status}
+use Rattle.tau_commands.specs.declared.status.Status.TheVariants as status
+use Rattle.tau_commands.specs.Checkpoints.{HasEnded, HasReadAll, IsUsed}
 use Rattle.tau_engine.specs.Commands.{Of}
-use Rattle.tau_engine.specs.Outside.{Input, Output, ends_recovery, is_behind_reading}
+use Rattle.tau_commands.specs.Outside.{Input, Output, ends_recovery, is_behind_reading}
 use Rattle.tau_engine.specs.Served.{only_reads, reads_source, streams_of, tells_before, uses_slots, writes_at_end}
 use Rattle.tau_engine.specs.Top.{Says, Uses, finds_log}
-use Rattle.tau_engine.proofs.Said.{no_before, no_source, other, refuses_none, some_command}
+use Rattle.tau_engine.proofs.Said.{no_before, refuses_none, some_command}
+use Rattle.tau_commands.proofs.Ends.{no_source, other}
 
 module _ {D : Type 0} (G : Ghosts D) (M : Ghosts MemDisk) (s : Input) (o : Output) (old new : List D) (c : Option Command) (a : Status) (n : ℕ) (streams : streams_of c ≡ n) (slots : uses_slots c ≡ true) (unread : reads_source c ≡ false) (finds : finds_log c ≡ true)
     (same : s.left' ≡ s.left) where

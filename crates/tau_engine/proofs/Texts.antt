@@ -9,7 +9,7 @@ use Rattle.tau_report.specs.Lines.{end_line}
 use Rattle.tau_report.specs.Report.{ack_lines, fate_lines, order_lines, row_lines, rest_text, report_text}
 use Rattle.tau_run.specs.RunFacts.{WroteFront}
 use Rattle.tau_run.specs.Heard.{Heard}
-use Rattle.tau_engine.specs.Outside.{Wrote}
+use Rattle.tau_commands.specs.Outside.{Wrote}
 
 module _ {A : Type 0} where
   take_short : (k : ℕ) (xs : List A) → length (take k xs) ≤ length xs

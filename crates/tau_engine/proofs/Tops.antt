@@ -1,31 +1,15 @@
 -- How a call may end, by its causes.
-use Rattle.std.proofs.Common.{ℕ, ◌≡◌, List, [], ◌∷◌, refl, sym, ap, ◌∙◌, subst, inl, inr, true, arith}
+use Rattle.std.proofs.Common.{ℕ, ◌≡◌, List, [], sym, ap, ◌∙◌, subst, inl, inr, true}
 use Rattle.std.specs.Prelude.{Result, Ok, Err}
-use Rattle.tau_model.specs.History.{Member}
 use Rattle.tau_text.specs.declared.load.Workload.{Workload}
 use Rattle.tau_text.specs.declared.fault.TextFault.{TextFault}
-use Rattle.tau_scan.specs.declared.fault.LogFault.{LogFault}
 use Rattle.tau_run.specs.RunFacts.{WroteFront}
-use Rattle.tau_engine.specs.declared.status.Status.{Status}
-use Rattle.tau_engine.specs.declared.status.Status.TheVariants as status
-use Rattle.tau_engine.specs.Fault.{fault_text, TellsFault}
-use Rattle.tau_engine.specs.Outside.{HasWorkload, HasFault, is_before_disks, ends_recovery, ends_text}
+use Rattle.tau_commands.specs.declared.status.Status.{Status}
+use Rattle.tau_commands.specs.declared.status.Status.TheVariants as status
+use Rattle.tau_commands.specs.Fault.{fault_text, TellsFault}
+use Rattle.tau_commands.specs.Outside.{HasWorkload, HasFault, is_before_disks, ends_text}
 use Rattle.tau_engine.specs.RunSays.{MayEnd}
-
--- without a cause to end otherwise, a recovery ends well, and so does a run
-pub recovers_well : (s : Status) → ends_recovery s ≡ true → (s ≡ status.WriteFault → ⊥) → ((j : ℕ) → s ≡ status.DiskFault j → ⊥) → ((fault : LogFault) → s ≡ status.BadLog fault → ⊥) →
-    Member s (status.Ok ∷ status.NoMemory ∷ [])
-recovers_well status.Ok kind sink disk bad = inl refl
-recovers_well status.NoMemory kind sink disk bad = inr (inl refl)
-recovers_well status.WriteFault kind sink disk bad = absurd (sink refl)
-recovers_well (status.DiskFault j) kind sink disk bad = absurd (disk j refl)
-recovers_well (status.BadLog fault) kind sink disk bad = absurd (bad fault refl)
-recovers_well status.Usage kind sink disk bad = absurd (cc)
-recovers_well (status.BadText at why) kind sink disk bad = absurd (cc)
-recovers_well status.ReadFault kind sink disk bad = absurd (cc)
-recovers_well status.TooLong kind sink disk bad = absurd (cc)
-recovers_well (status.BadFeed at) kind sink disk bad = absurd (cc)
-recovers_well (status.BadReport number) kind sink disk bad = absurd (cc)
+use Rattle.tau_commands.proofs.Ends.{nothing_told}
 
 loaded : Workload → Result Workload TextFault → Workload
 loaded a (Ok x) = x
@@ -50,10 +34,6 @@ runs_behind status.ReadFault may e = may
 runs_behind status.TooLong may e = may
 runs_behind (status.BadFeed at) may e = may
 runs_behind (status.BadReport number) may e = may
-
-pub nothing_told : (wrote : List ℕ → Type 0) (rose : Type 0) → WroteFront wrote rose [] → wrote []
-nothing_told wrote rose (inl all) = all
-nothing_told wrote rose (inr part) = absurd (let lt = part.1 in omega (arith, lt))
 
 -- a refusal before a run: its answer, and that lack of memory tells nothing
 pub ends_unread : (wrote : List ℕ → Type 0) (rose : Type 0) (refusal answer : Status) → ends_text refusal ≡ true → TellsFault wrote rose refusal answer → (ends_text answer ≡ true) × (answer ≡ status.NoMemory → wrote [])

@@ -30,8 +30,8 @@ use Rattle.tau_scan.specs.Reading.{log_of}
 use Rattle.tau_replay.specs.Redone.{IsRedone}
 use Rattle.tau_engine.specs.Drill.{IsRehearsed}
 use Rattle.tau_engine.specs.Runs.{ran_by}
-use Rattle.tau_engine.specs.declared.status.Status.{Status}
-use Rattle.tau_engine.specs.declared.status.Status.TheVariants as status
+use Rattle.tau_commands.specs.declared.status.Status.{Status}
+use Rattle.tau_commands.specs.declared.status.Status.TheVariants as status
 
 -- ---- what it tells
 

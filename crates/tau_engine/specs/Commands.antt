@@ -1,13 +1,12 @@
 -- What is said of each command alone.
-use Rattle.std.specs.Prelude.{ℕ, ◌<◌, ◌≤◌, ◌≡◌, ◌⊎◌, Bool, true, false, List, [], ◌∷◌, length, map, slice_index, Option, None, Some, Ok, Err}
+use Rattle.std.specs.Prelude.{ℕ, ◌<◌, ◌≤◌, ◌≡◌, ◌⊎◌, Bool, true, false, List, length, map, slice_index, Option, None, Some, Ok}
 use Rattle.tau_base.specs.declared.value.LogMode.{LogMode}
 use Rattle.tau_base.specs.Modes.{format_of}
 use Rattle.tau_disk.specs.declared.disk.Disk.{Ghosts}
 use Rattle.tau_disk.specs.Disk.{Rose}
 use Rattle.tau_disk.specs.declared.memory.MemDisk.{MemDisk}
 use Rattle.tau_disk.specs.Stages.{OnlySynced}
-use Rattle.tau_disk.specs.Used.{EachIn, EachUsed, RoseAt, AllCalls, Made}
-use Rattle.tau_model.specs.History.{Member}
+use Rattle.tau_disk.specs.Used.{EachIn, EachUsed, AllCalls, Made}
 use Rattle.tau_words.specs.declared.command.Command.{Command}
 use Rattle.tau_words.specs.declared.command.Command.TheVariants.{Run, Recover, Drill, Bench, Checkpoint, Restore, Follow, Inspect, Audit}
 use Rattle.tau_words.specs.declared.command.Ending.{Ending}
@@ -20,51 +19,26 @@ use Rattle.tau_scan.specs.Reading.{log_of}
 use Rattle.tau_scan.specs.Taken.{Kept}
 use Rattle.tau_replay.specs.Redone.{IsOrderOf}
 use Rattle.tau_begin.specs.Reading.{calls_before_writes}
-use Rattle.tau_run.specs.RunFacts.{WroteFront}
-use Rattle.tau_engine.specs.declared.status.Status.{Status}
-use Rattle.tau_engine.specs.declared.status.Status.TheVariants as status
+use Rattle.tau_commands.specs.declared.status.Status.{Status}
+use Rattle.tau_commands.specs.declared.status.Status.TheVariants as status
 use Rattle.tau_engine.specs.Bench.{BenchTells}
-use Rattle.tau_engine.specs.Checkpoints.{OfCheckpoint, OfRestore}
+use Rattle.tau_commands.specs.Checkpoints.{OfCheckpoint, OfRestore}
 use Rattle.tau_engine.specs.DiskFacts.{NextClean, NotEarlier}
 use Rattle.tau_engine.specs.Drill.{DrillTells, with_turns}
-use Rattle.tau_engine.specs.Fault.{fault_text}
 use Rattle.tau_engine.specs.Opening.{EmptyAreUnborn, opening_calls}
-use Rattle.tau_engine.specs.Outside.{Input, Output, HasWorkload, FailsTold, Wrote, is_before_disks}
-use Rattle.tau_engine.specs.Recovery.{IsBadLog, IsUnfit, RecoverTells, EndsAsBad, EndsTangled, images_of}
+use Rattle.tau_commands.specs.Outside.{Input, Output, HasWorkload, FailsTold, is_before_disks}
+use Rattle.tau_commands.specs.Recovery.{IsUnfit, EndsAsBad, EndsTangled, images_of, OfRecover}
 use Rattle.tau_engine.specs.RunSays.{IsRunRefused, RunSays}
-use Rattle.tau_engine.specs.Inspecting.{OfInspect}
-use Rattle.tau_engine.specs.Auditing.{OfAudit}
-use Rattle.tau_engine.specs.Following.{OfFollow}
-
--- the work was done, unless memory ran out
-abbrev pub EndsWell : Status → Type 0
-EndsWell answer = Member answer (status.Ok ∷ status.NoMemory ∷ [])
+use Rattle.tau_commands.specs.Inspecting.{OfInspect}
+use Rattle.tau_commands.specs.Auditing.{OfAudit}
+use Rattle.tau_commands.specs.Following.{OfFollow}
+use Rattle.tau_commands.specs.Ends.{EndsWell, NoneRose, OneLine, wrote}
 
 module _ (o : Output) (answer : Status) where
-  abbrev pub wrote : List ℕ → Type 0
-  wrote = Wrote o.hears o.held o.held'
-
-  abbrev pub OneLine : Type 0
-  OneLine = WroteFront wrote (Rose o.faults o.faults') (fault_text answer)
-
   -- The measured job tells a function of its first row and of how many calls it makes, whatever streams and workers.
   pub record OfBench (start calls : ℕ) : Type 0 where
-    pub bench : BenchTells start calls wrote answer
+    pub bench : BenchTells start calls (wrote o answer) answer
     pub done : (Rose o.faults o.faults' → ⊥) → EndsWell answer
-
-module _ {D : Type 0} (G : Ghosts D) (o : Output) (old new : List D) (answer : Status) where
-  -- no count of the sink or of the first disks rose
-  pub record NoneRose (n : ℕ) : Type 0 where
-    pub sink : Rose o.faults o.faults' → ⊥
-    pub disks : (j : ℕ) → j < n → RoseAt G.faults old new j → ⊥
-
-  -- Recovery is a function of what the disks read.
-  pub record OfRecover (n : ℕ) : Type 0 where
-    pub recover : G.tells → RecoverTells (images_of G.seen old n) (wrote o answer) answer
-    pub bad_log : (fault : LogFault) → answer ≡ status.BadLog fault → G.tells → IsBadLog (images_of G.seen old n) fault
-    pub bad_log_told : G.tells → (fault : LogFault) → log_of None (images_of G.seen old n) ≡ Err fault → EndsAsBad fault answer
-    pub tangled_told : G.tells → (log : Log) → log_of None (images_of G.seen old n) ≡ Ok log → ((order : List Kept) → IsOrderOf log order → ⊥) → EndsTangled log answer
-    pub done : G.tells → (log : Log) (order : List Kept) → log_of None (images_of G.seen old n) ≡ Ok log → IsOrderOf log order → NoneRose n → EndsWell answer
 
 module _ {D : Type 0} (G : Ghosts D) (M : Ghosts MemDisk) (s : Input) (o : Output) (old new : List D) (answer : Status) where
   -- A run goes on from what its disks hold: it ended before they were written, or it is one run on that.

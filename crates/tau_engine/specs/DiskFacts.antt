@@ -3,8 +3,8 @@ use Rattle.std.specs.Prelude.{ℕ, Bool, false, ◌+◌, ◌<◌, ◌≤◌, ◌
 use Rattle.tau_disk.specs.Used.{OfDisk}
 use Rattle.tau_run.specs.RunFacts.{Ending}
 use Rattle.tau_run.specs.RunFacts as ending
-use Rattle.tau_engine.specs.declared.status.Status.{Status}
-use Rattle.tau_engine.specs.declared.status.Status.TheVariants as status
+use Rattle.tau_commands.specs.declared.status.Status.{Status}
+use Rattle.tau_commands.specs.declared.status.Status.TheVariants as status
 
 -- a stop now may leave this image of the disk
 abbrev pub Now : {D : Type 0} → Type 0 → (D → List ℕ → Type 0) → List D → List D → ℕ → List ℕ → Type 0

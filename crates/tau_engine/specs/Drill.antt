@@ -36,9 +36,9 @@ use Rattle.tau_step.specs.Counts.{counting}
 use Rattle.tau_step.specs.Device.{IsDeviceOrder}
 use Rattle.tau_engine.specs.DiskFacts.{Now}
 use Rattle.tau_engine.specs.Played.{ArePlayed}
-use Rattle.tau_engine.specs.Recovery.{IsRecoveryOf}
-use Rattle.tau_engine.specs.declared.status.Status.{Status}
-use Rattle.tau_engine.specs.declared.status.Status.TheVariants as status
+use Rattle.tau_commands.specs.Recovery.{IsRecoveryOf}
+use Rattle.tau_commands.specs.declared.status.Status.{Status}
+use Rattle.tau_commands.specs.declared.status.Status.TheVariants as status
 use Rattle.tau_scan.specs.declared.log.Log.{Log}
 use Rattle.tau_scan.specs.Reading.{log_of}
 

@@ -23,13 +23,13 @@ use Rattle.tau_begin.specs.Barrier.{IsBarrier}
 use Rattle.tau_begin.specs.Opened.{IsRefusedOn}
 use Rattle.tau_begin.specs.Reading.{calls_before_writes}
 use Rattle.tau_crew_facts.specs.Spacing.{AreSpaced}
-use Rattle.tau_engine.specs.declared.status.Status.{Status}
-use Rattle.tau_engine.specs.declared.status.Status.TheVariants as status
+use Rattle.tau_commands.specs.declared.status.Status.{Status}
+use Rattle.tau_commands.specs.declared.status.Status.TheVariants as status
 use Rattle.tau_engine.specs.DiskFacts.{DisksWorked, NextClean, Now, ending_of}
-use Rattle.tau_engine.specs.Fault.{fault_text}
+use Rattle.tau_commands.specs.Fault.{fault_text}
 use Rattle.tau_engine.specs.Opening.{opening_calls, HasBarrier, IsUnwritten, SinceBarrier, EmptyAreUnborn}
-use Rattle.tau_engine.specs.Outside.{Wrote}
-use Rattle.tau_engine.specs.Recovery.{images_of}
+use Rattle.tau_commands.specs.Outside.{Wrote}
+use Rattle.tau_commands.specs.Recovery.{images_of}
 use Rattle.tau_engine.specs.Runs.{ran_by}
 
 -- the image of stream j has a content, and the anchors of the run that are read of it stand in their distance, the first

@@ -6,8 +6,6 @@ use Rattle.tau_disk.specs.Disk.{Rose}
 use Rattle.tau_disk.specs.declared.disk.Disk.{Ghosts}
 use Rattle.tau_stream.specs.declared.writer.Writer.{Writer}
 use Rattle.tau_stream.specs.Writer.{disk_of}
-use Rattle.tau_scan.specs.declared.fault.ScanRefusal.{ScanRefusal}
-use Rattle.tau_scan.specs.declared.fault.ScanRefusal.TheVariants as scan
 use Rattle.tau_machine.specs.State.{Core}
 use Rattle.tau_core.specs.declared.opening.Opening.{Opening}
 use Rattle.tau_core.specs.declared.state.Load.{Load}
@@ -19,20 +17,14 @@ use Rattle.tau_text.specs.declared.load.Turn.{Turn}
 use Rattle.tau_text.specs.declared.load.Workload.{Workload}
 use Rattle.tau_report.specs.declared.report.RunEnd.{RunEnd}
 use Rattle.tau_report.specs.Report.{rest_text}
-use Rattle.tau_engine.specs.declared.status.Status.{Status}
-use Rattle.tau_engine.specs.declared.status.Status.TheVariants as status
-use Rattle.tau_engine.specs.Outside.{Wrote}
+use Rattle.tau_commands.specs.declared.status.Status.{Status}
+use Rattle.tau_commands.specs.declared.status.Status.TheVariants as status
+use Rattle.tau_commands.specs.Outside.{Wrote}
 
 -- How the events of a run are chosen: by turns if the workload has them, also none, else in threads.
 abbrev pub ran_by : Option (List Turn) → ℕ → ℕ → Workload → Bool → Load → Core → Progress → Type 0
 ran_by None n m load = in_threads
 ran_by (Some turns) n m load = by_turns n m load
-
--- the answer to an opening that was refused
-abbrev pub status_at : ScanRefusal → Status
-status_at scan.NoMemory = status.NoMemory
-status_at (scan.Failed j) = status.DiskFault j
-status_at (scan.Bad fault) = status.BadLog fault
 
 -- What was told after the acknowledgements of a run that went to its end, by the answer: the rest of the report, a
 -- first part of it where the sink failed, and nothing where it had failed before.

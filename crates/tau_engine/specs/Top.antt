@@ -11,13 +11,13 @@ use Rattle.tau_words.specs.declared.command.Command.TheVariants.{Run, Recover, D
 use Rattle.tau_scan.specs.declared.fault.LogFault.{LogFault}
 use Rattle.tau_scan.specs.Outside.{calls_to_read}
 use Rattle.tau_run.specs.RunFacts.{WroteFront}
-use Rattle.tau_engine.specs.declared.served.TheConstants.{DISKS}
-use Rattle.tau_engine.specs.declared.status.Status.{Status}
-use Rattle.tau_engine.specs.declared.status.Status.TheVariants as status
-use Rattle.tau_engine.specs.Fault.{fault_text, is_refusal}
-use Rattle.tau_engine.specs.Outside.{Input, Output, Wrote, is_behind_text, is_behind_end, is_behind_reading, is_before_disks}
+use Rattle.tau_commands.specs.declared.disks.TheConstants.{DISKS}
+use Rattle.tau_commands.specs.declared.status.Status.{Status}
+use Rattle.tau_commands.specs.declared.status.Status.TheVariants as status
+use Rattle.tau_commands.specs.Fault.{fault_text, is_refusal}
+use Rattle.tau_commands.specs.Outside.{Input, Output, Wrote, is_behind_text, is_behind_end, is_behind_reading, is_before_disks}
 use Rattle.tau_engine.specs.Served.{streams_of, uses_slots, reads_source, writes_at_end, only_reads, tells_before}
-use Rattle.tau_engine.specs.Sources.{HasSource, RefusesSource, is_of_source}
+use Rattle.tau_commands.specs.Sources.{HasSource, RefusesSource, is_of_source}
 use Rattle.tau_engine.specs.Commands.{Of}
 
 -- the command looks at the logs of its streams

@@ -22,15 +22,15 @@ ghost use Rattle.tau_engine.specs.Bench.{AreFound, BenchTells, IsMeasured, Plays
 ghost use Rattle.tau_engine.specs.declared.served.TheConstants.{MAX_COUNT};
 ghost use Rattle.tau_engine.specs.Drill.{AreNewDisks};
 ghost use Rattle.tau_engine.specs.DiskFacts.{AreUnborn};
-ghost use Rattle.tau_engine.specs.Outside.{Wrote, ends_rehearsal};
+ghost use Rattle.tau_commands.specs.Outside.{Wrote, ends_rehearsal};
 ghost use Rattle.tau_engine.specs.Runs.{ran_by};
 
-use crate::status::Status;
 use sha2::{Digest, Sha256};
 use std::alloc::{AllocError, Global};
 use std::sync::Wait;
 use std::thread::Threads;
 use tau_base::{Format, Key, LogMode, NoMemory, Value};
+use tau_commands::Status;
 use tau_crew::run_threads;
 use tau_disk::{Disk, Gate, MemDisk, MemSink, Sink, write_all};
 use tau_gen::generate;

@@ -11,13 +11,12 @@ ghost use Rattle.tau_run.specs.Writers.{IsBegun};
 ghost use Rattle.tau_engine.specs.RunSays.{RunSays};
 ghost use Rattle.tau_engine.specs.Runs.{RunsFrom, TellsEnd, ran_by};
 
-use crate::look::refuse_scan;
-use crate::status::Status;
 use std::alloc::Global;
 use std::sync::Wait;
 use std::thread::Threads;
 use tau_base::{LogMode, NoMemory, format_of};
 use tau_begin::open_run;
+use tau_commands::{Status, refuse_scan};
 use tau_core::Opening;
 use tau_crew::run_threads_from;
 use tau_disk::{Disk, Gate, Sink, write_all};

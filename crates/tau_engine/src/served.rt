@@ -10,9 +10,6 @@ use tau_words::{Command, Ending, WordsRefusal, read_words};
 /// Workers or streams of a drill or of the measured job, or workers of a recovery, that a command may ask for.
 pub(crate) const MAX_COUNT: usize = 16;
 
-/// Disks of a call: one for each stream that there may be, and then the two slots of checkpoints.
-pub const DISKS: usize = 34;
-
 /// What a command that is there by now asks for.
 #[derive(Clone, Copy, Debug, PartialEq, Eq)]
 pub enum Work {

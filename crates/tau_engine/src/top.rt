@@ -4,22 +4,16 @@ ghost use Rattle.tau_disk.specs.Disk.{Rose};
 ghost use Rattle.tau_engine.specs.Served.{served};
 ghost use Rattle.tau_engine.specs.Top.{Says};
 
-use crate::audit::audit;
 use crate::bench::{Job, bench};
-use crate::checkpoint::checkpoint;
 use crate::drill::drill_source;
-use crate::fault::refuse;
-use crate::follow::follow;
-use crate::inspect::inspect;
-use crate::reading::read_source;
-use crate::recovery::recover;
-use crate::restore::restore;
 use crate::run::{Choice, run};
-use crate::served::{DISKS, Work, read_served};
-use crate::status::Status;
+use crate::served::{Work, read_served};
 use std::alloc::Global;
 use std::sync::Wait;
 use std::thread::Threads;
+use tau_commands::{
+    DISKS, Status, audit, checkpoint, follow, inspect, read_source, recover, refuse, restore,
+};
 use tau_disk::{Disk, Gate, MemDisk, Sink, Source};
 use tau_words::WordsRefusal;
 

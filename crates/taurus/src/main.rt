@@ -2,7 +2,7 @@
 #![tactic(auto)]
 
 ghost use Rattle.std.specs.Prelude.{◌≡◌, IfOk, vec_len};
-ghost use Rattle.tau_engine.specs.declared.served.TheConstants.{DISKS};
+ghost use Rattle.tau_commands.specs.declared.disks.TheConstants.{DISKS};
 
 use std::alloc::{AllocError, Global};
 use std::fs::File;

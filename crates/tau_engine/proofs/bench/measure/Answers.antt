@@ -14,7 +14,7 @@ use Rattle.tau_run.specs.CoreRun.{IsSoundLoad}
 use Rattle.tau_gen.specs.Generated.{generated}
 use Rattle.tau_gen.proofs.BenchDeclared.{are_calls}
 use Rattle.tau_engine.specs.Bench.{AreFound, lines_in}
-use Rattle.tau_engine.proofs.Oks.{if_ok}
+use Rattle.tau_commands.proofs.Oks.{if_ok}
 use Rattle.tau_engine.proofs.BenchFound.{acks_are, rows_are, found_are, can_recover}
 use Rattle.tau_engine.proofs.BenchLines.{in_acks}
 use Rattle.tau_engine.proofs.BenchSound.{sound_generated, text_is}

@@ -4,7 +4,7 @@ use Rattle.tau_stream.specs.Stream.{catalogue_record}
 use Rattle.tau_open.specs.Opening.{AreOpened}
 use Rattle.tau_run.specs.Start.{catalogue_of}
 use Rattle.tau_engine.proofs.Opened.{are_new}
-use Rattle.tau_engine.proofs.Oks.{if_ok}
+use Rattle.tau_commands.proofs.Oks.{if_ok}
 use Rattle.tau_engine.proofs.Rehearsed.{measured_on}
 use Rattle.tau_engine.proofs.bench.play.Goals as goal
 

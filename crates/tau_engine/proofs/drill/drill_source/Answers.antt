@@ -2,9 +2,9 @@ use Rattle.std.proofs.Common.{refl, subst}
 use Rattle.tau_disk.specs.contracts.memory.MemDiskDisk.TheImpl.{ghosts}
 use Rattle.tau_text.specs.declared.load.Workload.{Workload}
 use Rattle.tau_engine.specs.Drill.{DrillTells, with_turns}
-use Rattle.tau_engine.specs.Outside.{Wrote}
-use Rattle.tau_engine.specs.declared.status.Status.TheVariants as status
-use Rattle.tau_engine.proofs.Drilling.{rehearsal_ends, rehearses_well, no_refusal}
+use Rattle.tau_commands.specs.Outside.{Wrote}
+use Rattle.tau_commands.specs.declared.status.Status.TheVariants as status
+use Rattle.tau_commands.proofs.Ends.{rehearsal_ends, rehearses_well, no_refusal}
 use Rattle.tau_engine.proofs.Tops.{same_load}
 use Rattle.tau_engine.proofs.drill.drill_source.Goals as goal
 

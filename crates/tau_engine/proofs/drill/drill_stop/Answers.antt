@@ -8,7 +8,7 @@ use Rattle.tau_scan.specs.Reading.{log_of}
 use Rattle.tau_scan.specs.Taken.{Kept}
 use Rattle.tau_replay.specs.Redone.{IsOrderOf}
 use Rattle.tau_engine.specs.Drill.{AreNewDisks, IsFound, StopsAt, images_by}
-use Rattle.tau_engine.proofs.Oks.{on_ok}
+use Rattle.tau_commands.proofs.Oks.{on_ok}
 use Rattle.tau_engine.proofs.Drilled.{drilled, image_left, ordered}
 use Rattle.tau_engine.proofs.drill.drill_stop.Goals as goal
 

@@ -7,7 +7,7 @@ use Rattle.tau_open.specs.Opening.{AreOpened, Begins, Refuses}
 use Rattle.tau_open.specs.declared.refusal.OpenRefusal.TheVariants.{Failed}
 use Rattle.tau_run.specs.Start.{catalogue_of}
 use Rattle.tau_engine.proofs.Opened.{are_new}
-use Rattle.tau_engine.proofs.Oks.{on_ok}
+use Rattle.tau_commands.proofs.Oks.{on_ok}
 use Rattle.tau_engine.proofs.Rehearsed.{rehearsed_on, rehearsed_none}
 use Rattle.tau_engine.proofs.drill.rehearse.Goals as goal
 

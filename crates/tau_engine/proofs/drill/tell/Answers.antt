@@ -10,7 +10,7 @@ use Rattle.tau_scan.specs.Taken.{Kept}
 use Rattle.tau_replay.specs.Redone.{IsOrderOf}
 use Rattle.tau_replay.proofs.Tangles.{tangled_has_no_order}
 use Rattle.tau_engine.specs.Drill.{images_by}
-use Rattle.tau_engine.specs.Recovery.{IsBadLog, images_of}
+use Rattle.tau_commands.specs.Recovery.{IsBadLog, images_of}
 use Rattle.tau_engine.proofs.drill.tell.Goals as goal
 
 -- images that hold a log with an orderly order are not refused

@@ -7,20 +7,21 @@ use Rattle.tau_disk.specs.contracts.memory.MemDiskDisk.TheImpl.{ghosts}
 use Rattle.tau_text.specs.declared.load.Workload.{Workload}
 use Rattle.tau_words.specs.declared.command.Command.{Command}
 use Rattle.tau_words.specs.declared.command.Command.TheVariants.{Run, Recover, Drill, Bench, Checkpoint, Restore, Follow, Inspect, Audit}
-use Rattle.tau_engine.specs.declared.status.Status.{Status}
-use Rattle.tau_engine.specs.declared.status.Status.TheVariants as status
+use Rattle.tau_commands.specs.declared.status.Status.{Status}
+use Rattle.tau_commands.specs.declared.status.Status.TheVariants as status
 use Rattle.tau_engine.specs.declared.served.Work.{Work}
 use Rattle.tau_engine.specs.declared.served.Work.TheVariants as work
-use Rattle.tau_engine.specs.Checkpoints.{HasEnded, HasReadAll, OfCheckpoint, OfRestore}
-use Rattle.tau_engine.specs.Commands.{OfRecover}
-use Rattle.tau_engine.specs.Inspecting.{OfInspect}
-use Rattle.tau_engine.specs.Outside.{Input, Output}
-use Rattle.tau_engine.specs.Reads.{HasOnlyRead}
+use Rattle.tau_commands.specs.Checkpoints.{HasEnded, HasReadAll, OfCheckpoint, OfRestore}
+use Rattle.tau_commands.specs.Recovery.{OfRecover}
+use Rattle.tau_commands.specs.Inspecting.{OfInspect}
+use Rattle.tau_commands.specs.Outside.{Input, Output}
+use Rattle.tau_commands.specs.Reads.{HasOnlyRead}
 use Rattle.tau_engine.specs.Served.{IsWithin, command_in, served}
 use Rattle.tau_engine.specs.Top.{Says}
 use Rattle.tau_engine.proofs.Opened.{few_workers}
-use Rattle.tau_engine.proofs.Recoveries.{handed_back}
+use Rattle.tau_commands.proofs.Recoveries.{handed_back}
 use Rattle.tau_engine.proofs.Said as said
+use Rattle.tau_engine.proofs.SaidAudit.{says_audit}
 use Rattle.tau_engine.proofs.SaidSlots.{says_slots}
 use Rattle.tau_engine.proofs.top.taurus.Given.{Over}
 use Rattle.tau_engine.proofs.top.taurus.Goals as goal
@@ -176,7 +177,8 @@ returns-in-Ok-Audit-clause-says g c =
     let o = to g c.args.sink.now c.audit.new.sink in
     subst (λ (x : Option Command). Says g.D.Disk ghosts s o c.args.disks.now.items now x c.audit.result) (sym is)
     (subst (λ (ds : List g.row.D.Denot). Says g.D.Disk ghosts s o ds now (Some (Audit c.in-Ok-Audit.n c.in-Ok-Audit.m)) c.audit.result) c.deref_mut-in-Ok-Audit.ensures.value
-    (subst (λ (ds : List g.row.D.Denot). Says g.D.Disk ghosts s o c.deref_mut-in-Ok-Audit.result.now ds (Some (Audit c.in-Ok-Audit.n c.in-Ok-Audit.m)) c.audit.result) (sym back) c.audit.ensures.says))
+    (subst (λ (ds : List g.row.D.Denot). Says g.D.Disk ghosts s o c.deref_mut-in-Ok-Audit.result.now ds (Some (Audit c.in-Ok-Audit.n c.in-Ok-Audit.m)) c.audit.result) (sym back)
+    (says_audit g.D.Disk ghosts s o c.deref_mut-in-Ok-Audit.result.now c.audit.new.disks c.in-Ok-Audit.n c.in-Ok-Audit.m c.audit.result c.audit.ensures.source c.audit.ensures.ends c.audit.ensures.of)))
 
 -- ---- a drill
 

@@ -1,0 +1,14 @@
+use Rattle.std.proofs.Common.{ℕ, ◌≡◌, List, refl, inr, sym, subst, ◌∙◌}
+use Rattle.tau_scan.specs.Taken.{Kept, taken}
+use Rattle.tau_replay.specs.Redone.{IsTangledOver}
+use Rattle.tau_commands.proofs.checkpoints.make.Goals as goal
+
+-- the same place
+placed : (records : List Kept) (j k at other : ℕ) → j ≡ k → at ≡ other → IsTangledOver records j at → IsTangledOver records k other
+placed records j k at other streams starts is = subst (λ (i : ℕ). IsTangledOver records k i) starts (subst (λ (i : ℕ). IsTangledOver records i at) streams is)
+
+pub returns-in-Err-Tangled-clause-refused : goal.returns-in-Err-Tangled-clause-refused
+returns-in-Err-Tangled-clause-refused g c =
+    let failed = rw c.in-Err-Tangled.field-0-is at c.in-Err-Tangled.is in
+    let stuck = c.replay_threads.ensures.tangled c.in-Err-Tangled.stream c.in-Err-Tangled.at failed in
+    inr (c.in-Ok.next, sym c.next_write.ensures.exact ∙ c.in-Ok.is, (_, refl, placed (taken c.args.found.now.log) c.in-Err-Tangled.stream _ c.in-Err-Tangled.at _ (sym c.in-Err-Tangled.stream-is) (sym c.in-Err-Tangled.at-is) stuck.0), stuck.1)

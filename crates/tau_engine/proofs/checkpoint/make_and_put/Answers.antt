@@ -1,8 +1,0 @@
-use Rattle.std.proofs.Common.{inl, inr, refl}
-use Rattle.tau_engine.proofs.checkpoint.make_and_put.Goals as goal
-
-pub returns-in-Ok : goal.returns-in-Ok
-returns-in-Ok g c = inr (c.in-Ok.ready, c.in-Ok.ensures.ready, c.put.ensures)
-
-pub returns-in-Err : goal.returns-in-Err
-returns-in-Err g c = inl (c.in-Err.refusal, c.in-Err.ensures.refused, c.refuse.ensures, refl)

@@ -1,5 +1,0 @@
-use Rattle.tau_engine.proofs.FedAll.{ends_as_recovery}
-use Rattle.tau_engine.proofs.laws.follower_ends_as_recovery.Goals as goal
-
-pub returns : goal.returns
-returns c = ends_as_recovery

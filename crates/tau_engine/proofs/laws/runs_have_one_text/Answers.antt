@@ -1,6 +1,0 @@
--- The law is a lemma.
-use Rattle.tau_engine.proofs.Same.{runs_have_one_text}
-use Rattle.tau_engine.proofs.laws.runs_have_one_text.Goals as goal
-
-pub returns : goal.returns
-returns c = runs_have_one_text
