@@ -171,24 +171,27 @@ fn checkpoint_text(alloc: Global, next: NextWrite, rows: usize) -> Result<Vec<u8
     Ok(text)
 }
 
-/// The checkpoint of what was found, redone by so many workers.
+/// The checkpoint of what was found, redone by so many workers. What was found is dropped as soon as it has served.
 fn make<R: Threads + Wait + Sync, G: Gate + Sync>(
     rt: &R,
     alloc: Global,
-    found: &Found,
+    found: Found,
     workers: u8,
     gate: &G,
 ) -> Result<Ready, Status>
-    requires log { IsLog found.now.log }
+    requires log { IsLog found.log }
     requires workers { (1 ≤ workers) × (workers ≤ MAX_RECOVERY_WORKERS) }
-    ensures ready { IfOk result (λ ready. IsReadyOf found.now ready) }
-    ensures refused { IfErr result (λ status. RefusesToMake found.now status) }
+    ensures ready { IfOk result (λ ready. IsReadyOf found ready) }
+    ensures refused { IfErr result (λ status. RefusesToMake found status) }
 {
-    let next = match found.slots.next_write() {
+    let Found { log, slots } = found;
+    let next = match slots.next_write() {
         Ok(next) => next,
         Err(fault) => return Err(Status::BadLog(fault)),
     };
-    let rows = match replay_threads(rt, alloc, &found.log, workers, gate) {
+    // The rows of the old checkpoints make room for those of the new one.
+    drop(slots);
+    let rows = match replay_threads(rt, alloc, &log, workers, gate) {
         Ok(rows) => rows,
         Err(ReplayRefusal::NoMemory) => return Err(Status::NoMemory),
         Err(ReplayRefusal::Tangled { stream, at }) => {
@@ -199,7 +202,7 @@ fn make<R: Threads + Wait + Sync, G: Gate + Sync>(
     let Ok(text) = checkpoint_text(alloc, next, rows.rows().len()) else {
         return Err(Status::NoMemory);
     };
-    let value = checkpoint_at(&found.log, next.number, rows);
+    let value = checkpoint_at(&log, next.number, rows);
     Ok(Ready {
         slot: next.slot,
         value,
@@ -235,17 +238,17 @@ fn put<D: Disk, K: Sink>(alloc: Global, ready: &Ready, slots: &mut [D], sink: &m
 fn make_and_put<R: Threads + Wait + Sync, D: Disk, K: Sink, G: Gate + Sync>(
     rt: &R,
     alloc: Global,
-    found: &Found,
+    found: Found,
     workers: u8,
     sink: &mut K,
     slots: &mut [D],
     gate: &G,
 ) -> Status
-    requires log { IsLog found.now.log }
+    requires log { IsLog found.log }
     requires workers { (1 ≤ workers) × (workers ≤ MAX_RECOVERY_WORKERS) }
     requires there { length slots.old ≡ SLOTS }
     requires quiet { AreQuiet ⟦<D as Disk>⟧ slots.old }
-    ensures { MakesAndPuts ⟦<D as Disk>⟧ found.now slots.old slots.new (Wrote K.tells (K.held sink.old) (K.held sink.new)) (Rose (K.faults sink.old) (K.faults sink.new)) result }
+    ensures { MakesAndPuts ⟦<D as Disk>⟧ found slots.old slots.new (Wrote K.tells (K.held sink.old) (K.held sink.new)) (Rose (K.faults sink.old) (K.faults sink.new)) result }
 {
     match make(rt, alloc, found, workers, gate) {
         Ok(ready) => put(alloc, &ready, slots, sink),
@@ -273,7 +276,7 @@ pub fn checkpoint<R: Threads + Wait + Sync, D: Disk, K: Sink, G: Gate + Sync>(
 {
     let (front, slots) = disks.split_at_mut(MAX_STREAMS);
     match settle_all(alloc, streams, front, slots) {
-        Ok(found) => make_and_put(rt, alloc, &found, workers, sink, slots, gate),
+        Ok(found) => make_and_put(rt, alloc, found, workers, sink, slots, gate),
         Err(refusal) => refuse(alloc, sink, refusal),
     }
 }

@@ -11,4 +11,4 @@ pub returns-in-Err-Tangled-clause-refused : goal.returns-in-Err-Tangled-clause-r
 returns-in-Err-Tangled-clause-refused g c =
     let failed = rw c.in-Err-Tangled.field-0-is at c.in-Err-Tangled.is in
     let stuck = c.replay_threads.ensures.tangled c.in-Err-Tangled.stream c.in-Err-Tangled.at failed in
-    inr (c.in-Ok.next, sym c.next_write.ensures.exact ∙ c.in-Ok.is, (_, refl, placed (taken c.args.found.now.log) c.in-Err-Tangled.stream _ c.in-Err-Tangled.at _ (sym c.in-Err-Tangled.stream-is) (sym c.in-Err-Tangled.at-is) stuck.0), stuck.1)
+    inr (c.in-Ok.next, sym c.next_write.ensures.exact ∙ c.in-Ok.is, (_, refl, placed (taken c.args.found.log) c.in-Err-Tangled.stream _ c.in-Err-Tangled.at _ (sym c.in-Err-Tangled.stream-is) (sym c.in-Err-Tangled.at-is) stuck.0), stuck.1)
