@@ -9,7 +9,7 @@ use Rattle.tau_disk.specs.Disk.{Rose}
 use Rattle.tau_disk.specs.Stages.{AreLengths, Broke, OnlySynced, StageFails, Staged, Went}
 use Rattle.tau_disk.specs.Used.{Each, EachUsed, IsClean, IsFirstStopped, OfDisk}
 use Rattle.tau_disk.proofs.Calls.{broke_stopped, went_broke, went_clean, went_on}
-use Rattle.tau_disk.proofs.Syncing.{only_none, only_of_read}
+use Rattle.tau_disk.proofs.Syncing.{only_none, only_of_read, only_on}
 use Rattle.tau_scan.specs.declared.fault.LogFault.{LogFault}
 use Rattle.tau_scan.specs.declared.fault.ScanRefusal.TheVariants as scans
 use Rattle.tau_scan.specs.Outside.{AreSettled, AreSynced, StopsSettling, calls_to_settle, IsSettled}
@@ -17,8 +17,8 @@ use Rattle.tau_scan.specs.Reading.{HasRead}
 use Rattle.tau_open.specs.declared.refusal.OpenRefusal.{OpenRefusal}
 use Rattle.tau_open.specs.declared.refusal.OpenRefusal.TheVariants as opens
 use Rattle.tau_open.specs.Opening.{Asked, FailsAsked}
-use Rattle.tau_begin.specs.Reading.{AreAskedFor, WasRead, WereRead, calls_before_writes}
-use Rattle.tau_begin.proofs.Reading.{asking_refused, asking_rest, has_read, only_after, were_read}
+use Rattle.tau_begin.specs.Reading.{AreAskedFor, AtMostRead, WasRead, WereRead, calls_before_writes}
+use Rattle.tau_begin.proofs.Reading.{asking_refused, asking_rest, has_read, were_read}
 use Rattle.tau_commands.specs.declared.slots.Found.{Found}
 use Rattle.tau_commands.specs.declared.slots.SlotRefusal.{SlotRefusal}
 use Rattle.tau_commands.specs.declared.slots.SlotRefusal.TheVariants as refusals
@@ -54,6 +54,17 @@ module _ {D : Type 0} (G : Ghosts D) where
 
   each_none : (ds : List D) → Each (OnlySynced G) ds ds
   each_none ds j d was = (d, was, only_none G d)
+
+  -- what was at most read was at most synced
+  at_most : (n : ℕ) (old new : List D) → EachUsed (AtMostRead G) old new n → EachUsed (OnlySynced G) old new n
+  at_most n old new each j d low was = let (e, is, read) = each j d low was in (e, is, read.only)
+
+  -- asked, and then at most synced
+  only_both : (sizes : List ℕ) (n : ℕ) (old mid new : List D) → AreAskedFor G sizes n old mid → AreSynced G sizes mid new → EachUsed (OnlySynced G) old new n
+  only_both sizes n old mid new are synced j d low was =
+      let (e, there, r) = are.asked.each j d low was in
+      let (f, is, s) = synced j e (omega (arith, low, are.count)) there in
+      (f, is, only_on G d e f (only_asked d e r) s.only)
 
   -- so many as there are
   all_of : (R : D → D → Type 0) (n : ℕ) (old new : List D) → length old ≤ n → EachUsed R old new n → Each R old new
@@ -144,7 +155,7 @@ module _ {D : Type 0} (G : Ghosts D) (n : ℕ) (front slots : List D) (there : n
   pub stream_unasked : (front' : List D) (r : Result Unit OpenRefusal) (refusal : OpenRefusal) → r ≡ Err refusal → ((j : ℕ) → r ≡ Err (opens.Failed j) → (j < n) × StageFails (λ i. Asked G) (λ i. FailsAsked G) j front front') →
       (r ≡ Err opens.NoMemory → ⊥) → ((j size : ℕ) → r ≡ Err (opens.NotEmpty j size) → ⊥) → SettlesAll G n front front' slots slots (Err (asked_status refusal))
   stream_unasked front' r refusal is failed memory long = record {
-    streams = asking_refused G n front front' r refusal is failed memory long;
+    streams = at_most G n front front' (asking_refused G n front front' r refusal is failed memory long);
     rest = asking_rest G n front front' r refusal is failed memory long;
     slots_at = each_none G slots;
     by = why refusal is;
@@ -162,7 +173,7 @@ module _ {D : Type 0} (G : Ghosts D) (n : ℕ) (front slots : List D) (there : n
     slot_unasked slots' r refusal is failed memory long = record {
       streams = asked_only G lengths n front mid are;
       rest = are.asked.rest;
-      slots_at = all_of G (OnlySynced G) 2 slots slots' (omega (arith, two)) (asking_refused G 2 slots slots' r refusal is failed memory long);
+      slots_at = all_of G (OnlySynced G) 2 slots slots' (omega (arith, two)) (at_most G 2 slots slots' (asking_refused G 2 slots slots' r refusal is failed memory long));
       by = why refusal is;
     }
       where
@@ -217,8 +228,8 @@ module _ {D : Type 0} (G : Ghosts D) (n : ℕ) (front slots : List D) (there : n
 
       pub settles_all : SettlesAll G n front front' slots slots' result
       settles_all = record {
-        streams = only_after G lengths n front mid are front' h.streams;
+        streams = only_both G lengths n front mid front' are h.streams;
         rest = h.rest ∙ are.asked.rest;
-        slots_at = all_of G (OnlySynced G) 2 slots slots' (omega (arith, two)) (only_after G sizes 2 slots mid' are' slots' h.slots_at);
+        slots_at = all_of G (OnlySynced G) 2 slots slots' (omega (arith, two)) (only_both G sizes 2 slots mid' slots' are' h.slots_at);
         by = why result h.by;
       }

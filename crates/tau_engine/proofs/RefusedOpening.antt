@@ -345,7 +345,7 @@ module _ {D : Type 0} (G : Ghosts D) (only_now : OnlyNow G) (n m : ℕ) (mode : 
     sizes_are t = same_sizes G refuses.sizes (take n old) (refuses.count ∙ sym (taken_long old n there)) (λ j d at.
         refuses.lengths j d (let low = got_within (take n old) j d at in let long = taken_long old n there in let many = refuses.count in omega (arith, low, long, many)) at t)
 
-    Read : ℕ → D → D → Type 0
+    abbrev Read : ℕ → D → D → Type 0
     Read j = WasRead G (slice_index refuses.sizes j)
 
     kept : (j : ℕ) (d e : D) → Read j d e → G.tells → IsKept d e

@@ -1,6 +1,6 @@
 -- What follows of all that is said of a call that was to run a workload.
-use Rattle.std.proofs.Common.{ℕ, ◌+◌, ◌-◌, ◌<◌, ◌≤◌, ◌≡◌, ◌⊎◌, inl, inr, true, false, List, [], map, length, refl, sym, ap, subst, ◌∙◌, arith}
-use Rattle.std.specs.Prelude.{None, Some, Ok, Err, Result, slice_index}
+use Rattle.std.proofs.Common.{ℕ, ◌+◌, ◌-◌, ◌<◌, ◌≤◌, ◌≡◌, ◌⊎◌, inl, inr, ⊎_elim, true, false, List, [], map, length, refl, sym, ap, subst, ◌∙◌, arith}
+use Rattle.std.specs.Prelude.{None, Some, Ok, Err, Option, Result, slice_get, slice_index}
 use Rattle.tau_base.specs.declared.format.Format.{Format}
 use Rattle.tau_base.specs.declared.value.LogMode.{LogMode}
 use Rattle.tau_base.specs.Modes.{format_of}
@@ -24,9 +24,10 @@ use Rattle.tau_commands.specs.declared.status.Status.{Status}
 use Rattle.tau_commands.specs.declared.status.Status.TheVariants as status
 use Rattle.tau_engine.specs.DiskFacts.{NextClean, NotEarlier}
 use Rattle.tau_commands.specs.Fault.{fault_text, is_refusal}
-use Rattle.tau_engine.specs.Opening.{EmptyAreUnborn, opening_calls}
+use Rattle.tau_engine.specs.Opening.{EmptyAreUnborn, HasBarrier, IsUnwritten, opening_calls}
 use Rattle.tau_commands.specs.Outside.{FailsTold, Wrote, ends_text, ends_recovery, is_before_disks}
 use Rattle.tau_commands.specs.Recovery.{EndsAsBad, EndsTangled, IsTangle, IsUnfit, images_of}
+use Rattle.tau_engine.proofs.Streams.{OnlyNow}
 use Rattle.tau_engine.specs.RunSays.{EndsRun, EndsUnwritten, HasRun, IsRunRefused, MayEnd, OnlyOpened, RunSays}
 
 -- a run ends in one of the ways in which a recovery does
@@ -93,11 +94,36 @@ only_memory status.WriteFault kind behind = absurd (cc kind)
 only_memory (status.DiskFault j) kind behind = absurd (cc kind)
 only_memory (status.BadLog fault) kind behind = absurd (cc kind)
 
-module _ {D : Type 0} (G : Ghosts D) (n m : ℕ) (mode : LogMode) (load : Workload) (old : List D) (hears : Type 0) (held held' : List ℕ) (faults faults' : ℕ) where
+-- the moment of a disk, if there is one
+abbrev moment_of : {D : Type 0} → (D → ℕ) → Option D → ℕ
+moment_of moment None = 0
+moment_of moment (Some d) = moment d
+
+module _ {D : Type 0} (G : Ghosts D) (only_now : OnlyNow G) (n m : ℕ) (mode : LogMode) (load : Workload) (old : List D) (hears : Type 0) (held held' : List ℕ) (faults faults' : ℕ) where
+  -- a disk that was left alone has its barrier if it has no byte
+  still : (d : D) → HasBarrier G d d → IsUnwritten G (G.moment d) d d
+  still d has = record {
+    barrier = record { low = omega arith; high = omega arith; since_b = λ x so. inr so; entry = λ tells empty. refl };
+    same = refl;
+    only = λ x so. inr (none, only_now d x so);
+  }
+    where
+      none : G.seen d ≡ []
+      none = ⊎_elim (λ is. is) (λ more. absurd (omega (arith, more))) has.1
+
+  still_at : (j : ℕ) (d : D) → slice_get old j ≡ Some d → HasBarrier G d d → IsUnwritten G (moment_of G.moment (slice_get old j)) d d
+  still_at j d was has = subst (λ (b : ℕ). IsUnwritten G b d d) (sym (ap (λ (e : Option D). moment_of G.moment e) was)) (still d has)
+
   -- memory ran out before the disks were asked
   out_of_memory : Wrote hears held held' [] → RunSays G n m mode load old old hears held held' faults faults' status.NoMemory
   out_of_memory silent = record {
-    tells = inl (record { ends = silent; only = λ j d lt was. (d, was, only_none G d); read = λ fault e. absurd (cc) });
+    tells = inl (record {
+      ends = silent;
+      only = λ j d lt was. (d, was, only_none G d);
+      barrier = λ j. moment_of G.moment (slice_get old j);
+      barred = λ j d lt was. (d, was, λ t has. still_at j d was has);
+      read = λ fault e. absurd (cc);
+    });
     kind = tt;
     disk = λ j e. absurd (cc);
     stopped = λ j e t. absurd (cc);

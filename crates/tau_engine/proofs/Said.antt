@@ -39,6 +39,7 @@ use Rattle.tau_commands.proofs.Ends.{no_refusal, rehearsal_recovers, rehearses_w
 use Rattle.tau_commands.proofs.Recoveries.{clean_of}
 use Rattle.tau_commands.proofs.Refusals.{answers_as, told_refusal}
 use Rattle.tau_engine.proofs.RunClauses as of
+use Rattle.tau_engine.proofs.Streams.{OnlyNow}
 use Rattle.tau_engine.proofs.RunClauses.{may_end, only_memory}
 use Rattle.tau_engine.proofs.Tops.{ends_unread, not_both, runs_behind, same_load}
 
@@ -107,10 +108,10 @@ module _ {D : Type 0} (G : Ghosts D) (M : Ghosts MemDisk) (s : Input) (o : Outpu
 
   -- ---- nothing was done
 
-  of_nothing : (old : List D) (c : Option Command) → wrote o status.NoMemory [] → Of G M s o old old status.NoMemory c
-  of_nothing old None silent = tt
-  of_nothing old (Some (Run n m mode optimistic)) silent = record {
-    run = λ t load has behind. of.untouched G n m mode load old o.hears o.held o.held' o.faults o.faults' status.NoMemory refl (λ e. silent);
+  of_nothing : OnlyNow G → (old : List D) (c : Option Command) → wrote o status.NoMemory [] → Of G M s o old old status.NoMemory c
+  of_nothing only_now old None silent = tt
+  of_nothing only_now old (Some (Run n m mode optimistic)) silent = record {
+    run = λ t load has behind. of.untouched G only_now n m mode load old o.hears o.held o.held' o.faults o.faults' status.NoMemory refl (λ e. silent);
     bad_log = λ fault e. absurd (cc e);
     unfit_told = λ t tells load fault has behind unfit. tt;
     stuck_told = λ t tells load log has behind reads fits none. tt;
@@ -121,10 +122,10 @@ module _ {D : Type 0} (G : Ghosts D) (M : Ghosts MemDisk) (s : Input) (o : Outpu
     moments = λ unborn j d lt was. (d, was, λ t. omega arith);
     done = λ t tells load log order has reads is fits source rose. inr (inl refl);
   }
-  of_nothing old (Some (Recover n p)) silent = record { recover = λ t. silent; bad_log = λ fault e. absurd (cc e); bad_log_told = λ t fault is. tt; tangled_told = λ t log is none. tt; done = λ t log order is ordered rose. inr (inl refl) }
-  of_nothing old (Some (Drill n m p ending)) silent = record { drill = λ t load has. silent; done = λ t load has source sink. inr (inl refl) }
-  of_nothing old (Some (Bench start calls n m)) silent = record { bench = silent; done = λ sink. inr (inl refl) }
-  of_nothing old (Some (Checkpoint n p)) silent = record {
+  of_nothing only_now old (Some (Recover n p)) silent = record { recover = λ t. silent; bad_log = λ fault e. absurd (cc e); bad_log_told = λ t fault is. tt; tangled_told = λ t log is none. tt; done = λ t log order is ordered rose. inr (inl refl) }
+  of_nothing only_now old (Some (Drill n m p ending)) silent = record { drill = λ t load has. silent; done = λ t load has source sink. inr (inl refl) }
+  of_nothing only_now old (Some (Bench start calls n m)) silent = record { bench = silent; done = λ sink. inr (inl refl) }
+  of_nothing only_now old (Some (Checkpoint n p)) silent = record {
     touched = inl (λ j d used was. (d, was, only_none G d));
     written = λ e. absurd (cc e);
     bad_log = λ fault e. absurd (cc e);
@@ -135,14 +136,14 @@ module _ {D : Type 0} (G : Ghosts D) (M : Ghosts MemDisk) (s : Input) (o : Outpu
     tangled_told = λ t log held next reads holds free none. tt;
     done = λ t log held next order reads holds free is sink disks. inr (inl refl);
   }
-  of_nothing old (Some (Restore n p)) silent = record { restore = λ t. silent; bad_log = λ fault e. absurd (cc e); bad_log_told = λ t fault is. tt; tangled_told = λ t log held reads holds none. tt; done = λ t log held order reads holds is sink disks. inr (inl refl) }
-  of_nothing old (Some (Follow n)) silent = record { follow = λ t pieces has. tt; bad_told = λ t pieces fault lines has bad. inr (inr (inl refl)); done = λ t pieces text has is source sink. inr (inl refl) }
-  of_nothing old (Some (Inspect n)) silent = record { inspect = λ t. tt; bad_log = λ fault e. absurd (cc e); bad_log_told = λ t fault is. tt; done = λ t log is sink disks. inr (inl refl) }
-  of_nothing old (Some (Audit n m)) silent = record { audit = λ t tells load report has. tt; bad_log = λ fault e. absurd (cc e); bad_log_told = λ t tells load report fault has behind is. tt; done = λ t tells load report log has is source sink disks. inr (inl refl) }
+  of_nothing only_now old (Some (Restore n p)) silent = record { restore = λ t. silent; bad_log = λ fault e. absurd (cc e); bad_log_told = λ t fault is. tt; tangled_told = λ t log held reads holds none. tt; done = λ t log held order reads holds is sink disks. inr (inl refl) }
+  of_nothing only_now old (Some (Follow n)) silent = record { follow = λ t pieces has. tt; bad_told = λ t pieces fault lines has bad. inr (inr (inl refl)); done = λ t pieces text has is source sink. inr (inl refl) }
+  of_nothing only_now old (Some (Inspect n)) silent = record { inspect = λ t. tt; bad_log = λ fault e. absurd (cc e); bad_log_told = λ t fault is. tt; done = λ t log is sink disks. inr (inl refl) }
+  of_nothing only_now old (Some (Audit n m)) silent = record { audit = λ t tells load report has. tt; bad_log = λ fault e. absurd (cc e); bad_log_told = λ t tells load report fault has behind is. tt; done = λ t tells load report log has is source sink disks. inr (inl refl) }
 
   -- memory ran out before anything was done
-  pub nothing_done : (old : List D) (c : Option Command) → s.left' ≡ s.left → wrote o status.NoMemory [] → Says G M s o old old c status.NoMemory
-  nothing_done old c same silent = record {
+  pub nothing_done : OnlyNow G → (old : List D) (c : Option Command) → s.left' ≡ s.left → wrote o status.NoMemory [] → Says G M s o old old c status.NoMemory
+  nothing_done only_now old c same silent = record {
     causes = record {
       usage = λ e. absurd (cc e);
       usage_told = λ e. inr (inl refl);
@@ -172,7 +173,7 @@ module _ {D : Type 0} (G : Ghosts D) (M : Ghosts MemDisk) (s : Input) (o : Outpu
       read = λ e j d used was. (d, was, untouched G d);
       calls = λ e behind. absurd (cc behind);
     };
-    of = of_nothing old c silent;
+    of = of_nothing only_now old c silent;
   }
 
   -- ---- the words are no command
@@ -205,9 +206,9 @@ module _ {D : Type 0} (G : Ghosts D) (M : Ghosts MemDisk) (s : Input) (o : Outpu
     of = tt;
   }
 
-  pub says_usage : (old : List D) (a : Status) → s.left' ≡ s.left → TellsFault (wrote o a) (Rose o.faults o.faults') status.Usage a → Says G M s o old old None a
-  says_usage old a same (inl told) = subst (λ (x : Status). Says G M s o old old None x) (sym told.0) (usage_told old same told.1)
-  says_usage old a same (inr told) = subst (λ (x : Status). Says G M s o old old None x) (sym told.0) (nothing_done old None same told.1)
+  pub says_usage : OnlyNow G → (old : List D) (a : Status) → s.left' ≡ s.left → TellsFault (wrote o a) (Rose o.faults o.faults') status.Usage a → Says G M s o old old None a
+  says_usage only_now old a same (inl told) = subst (λ (x : Status). Says G M s o old old None x) (sym told.0) (usage_told old same told.1)
+  says_usage only_now old a same (inr told) = subst (λ (x : Status). Says G M s o old old None x) (sym told.0) (nothing_done only_now old None same told.1)
 
   -- ---- a command that only reads disks
 
@@ -532,9 +533,9 @@ module _ {D : Type 0} (G : Ghosts D) (M : Ghosts MemDisk) (s : Input) (o : Outpu
         source_end = λ t e. (let at = end_is_bad a ends e in end at.0 at.1 (answers_as (wrote o a) (Rose o.faults o.faults') refusal a (status.BadText at.0 at.1) tells at.2 (λ f. cc f)) t);
       }
 
-      pub says_unread : (old : List D) (a : Status) → TellsFault (wrote o a) (Rose o.faults o.faults') refusal a → (s.tells → (k : ℕ) × (k ≤ MAX_WORKLOAD + 1) × (s.left' ≡ drop k s.left)) →
+      pub says_unread : OnlyNow G → (old : List D) (a : Status) → TellsFault (wrote o a) (Rose o.faults o.faults') refusal a → (s.tells → (k : ℕ) × (k ≤ MAX_WORKLOAD + 1) × (s.left' ≡ drop k s.left)) →
           ((at : ℕ) (why : TextCause) → refusal ≡ status.BadText at why → s.tells → s.left' ≡ []) → Says G M s o old old run a
-      says_unread old a tells source end =
+      says_unread only_now old a tells source end =
           let ended = ends_unread (wrote o a) (Rose o.faults o.faults') refusal a kind tells in
           let h = read_of_run a tells ended.0 source end in record {
             causes = record {
@@ -567,7 +568,7 @@ module _ {D : Type 0} (G : Ghosts D) (M : Ghosts MemDisk) (s : Input) (o : Outpu
               calls = λ e. absurd (cc e);
             };
             of = record {
-              run = λ t load has behind. of.untouched G n m mode load old o.hears o.held o.held' o.faults o.faults' a (only_memory a ended.0 behind) ended.1;
+              run = λ t load has behind. of.untouched G only_now n m mode load old o.hears o.held o.held' o.faults o.faults' a (only_memory a ended.0 behind) ended.1;
               bad_log = λ fault e. absurd (other ends_text a (status.BadLog fault) ended.0 refl e);
               unfit_told = λ t tells' load fault has behind unfit. subst (λ (x : Status). EndsAsBad fault x) (sym (only_memory a ended.0 behind)) tt;
               stuck_told = λ t tells' load log has behind reads fits none. subst (λ (x : Status). EndsTangled log x) (sym (only_memory a ended.0 behind)) tt;

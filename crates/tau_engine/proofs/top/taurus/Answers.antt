@@ -57,12 +57,12 @@ as_err a b e = ap (λ (x : Status). Err x) e
 -- ---- no command
 
 pub returns-in-Err-NoMemory-clause-says : goal.returns-in-Err-NoMemory-clause-says
-returns-in-Err-NoMemory-clause-says g c = said.nothing_done g.D.Disk ghosts (from g c.args.source.now c.args.source.now) (to g c.args.sink.now c.args.sink.now) c.args.disks.now.items (served (map string_bytes c.args.words.now)) refl (λ t. search rules)
+returns-in-Err-NoMemory-clause-says g c = said.nothing_done g.D.Disk ghosts (from g c.args.source.now c.args.source.now) (to g c.args.sink.now c.args.sink.now) (g.met.D.Disk g.world.𝓛 g.world.𝓜 g.world.𝓡 ((λ s x. x), (λ x. x), (λ x. x), λ x. x)).only_now c.args.disks.now.items (served (map string_bytes c.args.words.now)) refl (λ t. search rules)
 
 pub returns-in-Err-Usage-clause-says : goal.returns-in-Err-Usage-clause-says
 returns-in-Err-Usage-clause-says g c =
     subst (λ (x : Option Command). Says g.D.Disk ghosts (from g c.args.source.now c.args.source.now) (to g c.args.sink.now c.refuse.new.sink) c.args.disks.now.items c.args.disks.now.items x c.refuse.result) (sym (c.in-Err-Usage.ensures.usage (search rules)))
-    (said.says_usage g.D.Disk ghosts (from g c.args.source.now c.args.source.now) (to g c.args.sink.now c.refuse.new.sink) c.args.disks.now.items c.refuse.result refl c.refuse.ensures)
+    (said.says_usage g.D.Disk ghosts (from g c.args.source.now c.args.source.now) (to g c.args.sink.now c.refuse.new.sink) (g.met.D.Disk g.world.𝓛 g.world.𝓜 g.world.𝓡 ((λ s x. x), (λ x. x), (λ x. x), λ x. x)).only_now c.args.disks.now.items c.refuse.result refl c.refuse.ensures)
 
 -- ---- a run
 
@@ -72,7 +72,7 @@ returns-in-Err-clause-says g c =
     subst (λ (x : Option Command). Says g.D.Disk ghosts (from g c.args.source.now c.read_source.new.source) (to g c.args.sink.now c.refuse-in-Err.new.sink) c.args.disks.now.items c.args.disks.now.items x c.refuse-in-Err.result) (sym is)
     (said.says_unread g.D.Disk ghosts (from g c.args.source.now c.read_source.new.source) (to g c.args.sink.now c.refuse-in-Err.new.sink) c.in-Ok-Run.n c.in-Ok-Run.m c.in-Ok-Run.mode
     c.in-Err.refusal c.in-Err.ensures.kind (λ e. c.in-Err.ensures.read_fault (as_err c.in-Err.refusal status.ReadFault e)) (λ e. c.in-Err.ensures.too_long (as_err c.in-Err.refusal status.TooLong e)) (λ at why e. c.in-Err.ensures.bad_text at why (as_err c.in-Err.refusal (status.BadText at why) e))
-    c.args.disks.now.items c.refuse-in-Err.result c.refuse-in-Err.ensures c.read_source.ensures.source (λ at why e. c.in-Err.ensures.end_bad at why (as_err c.in-Err.refusal (status.BadText at why) e)))
+    (g.met.D.Disk g.world.𝓛 g.world.𝓜 g.world.𝓡 ((λ s x. x), (λ x. x), (λ x. x), λ x. x)).only_now c.args.disks.now.items c.refuse-in-Err.result c.refuse-in-Err.ensures c.read_source.ensures.source (λ at why e. c.in-Err.ensures.end_bad at why (as_err c.in-Err.refusal (status.BadText at why) e)))
 
 pub returns-in-Ok-clause-says : goal.returns-in-Ok-clause-says
 returns-in-Ok-clause-says g c =
