@@ -266,6 +266,19 @@ fn records_wait_for_another_stream(rt: HostRuntime) -> Result<(), Fail> {
     )
 }
 
+// Call 1 waits for position 53 of stream 1, which ends at 13; call 3, after it in stream 0, waits for nothing.
+#[test]
+fn an_uncovered_record_before_a_covered_one(rt: HostRuntime) -> Result<(), Fail> {
+    two_tell(
+        &rt,
+        rt.alloc(),
+        [WAITING, &[]],
+        &["recover 2 1", "recover 2 3"],
+        0,
+        "elv 101,13\ntaken 0 61 3\nrow a 3 int 7\nend 0\n",
+    )
+}
+
 #[test]
 fn recovery_of_a_dependence(rt: HostRuntime) -> Result<(), Fail> {
     let alloc = rt.alloc();
