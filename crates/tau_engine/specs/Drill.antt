@@ -126,8 +126,8 @@ module _ {D : Type 0} (G : Ghosts D) where
         (λ j. calls_to_open) (λ j k. Made G.number G.short old new j k) (λ text. Unit {0}) (λ j. []) (ending_by failed)
     pub acked : wrote (ack_lines facts.run.acks)
 
-  -- The disks are those of the calls of the run that was told, and of each that failed in it is told what it holds; or if a disk failed before the run began, of the calls that
-  -- were to open the streams.
+  -- The disks are those of the calls of the run that was told, and of each that failed in it is told what it holds; or if a
+  -- disk failed before the run began, of the calls that were to open the streams.
   abbrev pub IsPlayedBy : (n m : ℕ) (load : Workload) (old new : List D) (failed : Option ℕ) (stops : ℕ → Option ℕ) (run : Run) → IsCoreRunAt (chosen_by load.turns n m load) n m Values load stops run (ending_by failed) → Type 0
   IsPlayedBy n m load old new None stops run core = ArePlayed G n (catalogue_of load) core.stands_on old new core.progress
   IsPlayedBy n m load old new (Some j) stops run (inl core) = ArePlayed G n (catalogue_of load) core.stands_on old new core.progress
