@@ -1,5 +1,5 @@
 -- Texts that are cut at a byte: there is one way.
-use Rattle.std.proofs.Common.{ℕ, zero, suc, ◌+◌, ◌^◌, ◌<◌, ◌≤◌, ◌≡◌, ◌==◌, Bool, true, false, not, List, [], ◌∷◌, ◌++◌, length, take, drop, get_or, refl, sym, ap, ◌∙◌, append_assoc, arith}
+use Rattle.std.proofs.Common.{ℕ, zero, suc, ◌+◌, ◌^◌, ◌<◌, ◌≤◌, ◌≡◌, ◌==◌, Bool, true, false, not, ◌&&◌, List, [], ◌∷◌, ◌++◌, length, take, drop, get_or, refl, sym, ap, subst, ◌∙◌, append_assoc, arith}
 use Rattle.std.specs.Fmt.{decimal}
 use Rattle.std.proofs.lemmas.Bool.{both_ways, and_parts}
 use Rattle.std.proofs.lemmas.Bool.Decides.{nat_tests}
@@ -13,7 +13,8 @@ use Rattle.std.proofs.lemmas.List.Elements.{All-get_or}
 use Rattle.tau_report.specs.Lines.{vector_text}
 use Rattle.tau_inspect.specs.ReportFor.{IsVector}
 use Rattle.tau_inspect.specs.Reading.{IsSmall}
-use Rattle.tau_inspect.specs.Parts.{lacks, commas}
+use Rattle.tau_base.proofs.Lists.{split_at}
+use Rattle.tau_inspect.specs.Parts.{lacks, commas, IsCut}
 use Rattle.tau_inspect.proofs.ReadWords.{number_same}
 
 pub position_bad : (word : List ℕ) (position : ℕ) → IsSmall position → decimal position ≡ word → MAX_LSN ≤ position → (p : ℕ) → p < MAX_LSN → decimal p ≡ word → ⊥
@@ -52,6 +53,18 @@ cut_lacks byte (x ∷ u) r e = cut_lacks byte u r (and_parts (not (x == byte)) (
 pub lacks_append : (byte : ℕ) (u v : List ℕ) → lacks byte u ≡ true → lacks byte v ≡ true → lacks byte (u ++ v) ≡ true
 lacks_append byte [] v a b = b
 lacks_append byte (x ∷ u) v a b = let p = and_parts (not (x == byte)) (lacks byte u) a in rw (p.0, lacks_append byte u v p.1 b) refl
+
+-- one byte more is another one
+pub lacks_more : (byte i j : ℕ) (text : List ℕ) → j ≡ i + 1 → i < length text → lacks byte (take i text) ≡ true → (get_or text i 0 == byte) ≡ false → lacks byte (take j text) ≡ true
+lacks_more byte i j text next lt none other =
+    let here : lacks byte (get_or text i 0 ∷ []) ≡ true = ap (λ (t : Bool). not t && true) other in
+    ap (λ (k : ℕ). lacks byte (take k text)) next ∙ ap (lacks byte) (take_more text i 0 lt) ∙ lacks_append byte (take i text) (get_or text i 0 ∷ []) none here
+
+-- it stands here first
+pub cut_here : (byte i : ℕ) (text : List ℕ) → i < length text → lacks byte (take i text) ≡ true → (get_or text i 0 == byte) ≡ true → IsCut byte text i
+cut_here byte i text lt none here =
+    let same : get_or text i 0 ≡ byte = grind (arith, nat_tests) in
+    record { within = lt; split = split_at text i lt ∙ ap (λ (b : ℕ). take i text ++ b ∷ drop (i + 1) text) same; first = none }
 
 digit_lacks : (byte d : ℕ) → byte < 48 → lacks byte ((48 + d) ∷ []) ≡ true
 digit_lacks byte d low = (let test : ((48 + d) == byte) ≡ false = grind (arith, nat_tests) in rw test refl)

@@ -8,6 +8,8 @@ pub mod Greedy
 pub mod Leaving
 pub mod OneReport
 pub mod FirstBad
+pub mod OneBad
+pub mod KeptDone
 pub mod Named
 pub mod Fitting
 pub mod ReadWords

@@ -1,7 +1,8 @@
 -- Marks that are set key by key.
-use Rattle.std.proofs.Common.{ℕ, ◌+◌, ◌<◌, ◌≤◌, Bool, true, false, ◌||◌, ◌≡◌, inl, inr, List, [], ◌∷◌, ◌++◌, length, take, drop, get_or, refl, sym, ap, subst, ◌∙◌, cond, drop-cons, add-one, arith, suc, Option}
-use Rattle.std.specs.Prelude.{Some, unwrap_or}
-use Rattle.std.proofs.lemmas.Bool.{cases_Bool}
+use Rattle.std.proofs.Common.{ℕ, ◌+◌, ◌<◌, ◌≤◌, Bool, true, false, ◌||◌, ◌≡◌, inl, inr, List, [], ◌∷◌, ◌++◌, length, take, drop, get_or, refl, sym, ap, subst, ◌∙◌, cond, drop-cons, add-one, arith, suc, Option, replicate}
+use Rattle.std.specs.Prelude.{Some, unwrap_or, if◌then◌else◌}
+use Rattle.std.specs.List.{list_any}
+use Rattle.std.proofs.lemmas.Bool.{both_ways, cases_Bool}
 use Rattle.std.proofs.lemmas.List.{take_more, drop_all}
 use Rattle.tau_base.specs.declared.value.Key.{Key}
 use Rattle.tau_base.specs.declared.value.Value.{Value}
@@ -10,7 +11,7 @@ use Rattle.tau_base.proofs.Keys.{same_key_is, same_key_sym, same_key_equal}
 use Rattle.tau_proc.specs.Effect.{Effect, has_key}
 use Rattle.tau_model.specs.Store.{is_key}
 use Rattle.tau_inspect.specs.declared.taint.Mark.{Mark}
-use Rattle.tau_inspect.specs.Taint.{Marks, is_tainted, pass, taints}
+use Rattle.tau_inspect.specs.Taint.{Marks, unmarked, any_written, any_touched, is_tainted, marked, pass, taints}
 
 abbrev no_mark : Mark
 no_mark = record { read = false; written = false }
@@ -81,3 +82,27 @@ taints_next marks es ms i e lt same is =
 pub taints_end : (marks : Marks) (es : List Effect) (ms : List Bool) (i : ℕ) → length es ≤ i → taints marks (drop i es) (drop i ms) ≡ []
 unfolding taints
 taints_end marks es ms i le = ap (λ (l : List Effect). taints marks l (drop i ms)) (drop_all i es le)
+
+-- without a missing call nothing is marked
+none_written : (rows : List (Key × Value)) → any_written unmarked rows ≡ false
+none_written [] = refl
+none_written (r ∷ rows) = none_written rows
+
+none_touched : (rows : List (Key × Value)) → any_touched unmarked rows ≡ false
+none_touched [] = refl
+none_touched (r ∷ rows) = none_touched rows
+
+untainted : (e : Effect) → is_tainted unmarked e ≡ false
+untainted e = rw (none_written e.reads, none_touched e.writes) refl
+
+unmarked_stays : (e : Effect) → pass false e unmarked ≡ unmarked
+unmarked_stays e = ap (λ (b : Bool). if false || b then marked e unmarked else unmarked) (untainted e)
+
+pub none_tainted : (es : List Effect) (ms : List Bool) → length ms ≡ length es → list_any (λ b. b) ms ≡ false → taints unmarked es ms ≡ replicate (length es) false
+unfolding taints
+none_tainted [] ms same none = refl
+none_tainted (e ∷ es) [] same none = absurd (omega (arith, same))
+none_tainted (e ∷ es) (true ∷ ms) same none = absurd (both_ways true none refl)
+none_tainted (e ∷ es) (false ∷ ms) same none =
+    let rest : taints (pass false e unmarked) es ms ≡ replicate (length es) false = ap (λ (marks : Marks). taints marks es ms) (unmarked_stays e) ∙ none_tainted es ms (omega (arith, same)) none in
+    λ i. untainted e i ∷ rest i

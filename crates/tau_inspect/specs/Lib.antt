@@ -1,6 +1,7 @@
 pub mod Taint
 pub mod Marks
 pub mod Executed
+pub mod KeptDone
 pub mod Spaced
 pub mod Inspection
 pub mod ByNumber

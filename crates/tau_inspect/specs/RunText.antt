@@ -51,3 +51,7 @@ pub record IsFirstBad (tables : List (List ℕ)) (n calls : ℕ) (bytes : List �
 abbrev pub OneReport : Type 0
 OneReport = (tables : List (List ℕ)) (n calls : ℕ) → AreNames tables → n ≤ MAX_STREAMS → calls < 2 ^ 32 → (text : List ℕ) (r q : RunReport) (failed other : Option ℕ) →
     IsTextOf tables n calls r failed text → IsTextOf tables n calls q other text → (r ≡ q) × (failed ≡ other)
+
+-- a text has at most one first bad line
+abbrev pub OneFirstBad : Type 0
+OneFirstBad = (tables : List (List ℕ)) (n calls : ℕ) (bytes : List ℕ) (number other : ℕ) → IsFirstBad tables n calls bytes number → IsFirstBad tables n calls bytes other → number ≡ other

@@ -11,7 +11,7 @@ ghost use Rattle.tau_inspect.specs.Firsts.{Finds};
 use crate::acked::{Ack, ack_at};
 use crate::by_number::known_index;
 use crate::case::LentCase;
-use crate::executed::Done;
+use crate::executed::{AllDone, Done};
 use crate::records::{Record, record_at};
 use std::alloc::Global;
 use tau_base::{Lv, NoMemory, Value};
@@ -84,7 +84,7 @@ fn put_reader(
 fn listed(
     alloc: Global,
     case: &LentCase<'_>,
-    done: &[Done],
+    done: &AllDone,
     acks: &[Ack<'_>],
     ack_places: &[usize],
     all: &[Record<'_>],
@@ -106,9 +106,10 @@ fn listed(
     let _width = case.log.elv.width();
     let mut list = CommittedList::new(alloc);
     for i in 0..done.len() {
+        let did = done.at(i);
         put_call(
             &mut list,
-            &done[i],
+            &did,
             case.report.order[i],
             acks,
             ack_places,
@@ -122,7 +123,7 @@ fn listed(
 /// Puts a call at the end, with its place.
 fn put_call(
     list: &mut CommittedList,
-    did: &Done,
+    did: &Done<'_>,
     number: u64,
     acks: &[Ack<'_>],
     ack_places: &[usize],
@@ -171,7 +172,7 @@ fn stands(due: &[u64], place: usize, number: u64) -> bool
 pub fn check_order(
     alloc: Global,
     case: &LentCase<'_>,
-    done: &[Done],
+    done: &AllDone,
     acks: &[Ack<'_>],
     ack_places: &[usize],
     all: &[Record<'_>],

@@ -10,13 +10,13 @@ ghost use Rattle.tau_inspect.specs.Firsts.{Finds};
 use crate::acked::{Ack, ack_at};
 use crate::by_number::{flag, flags, index_of, is_flagged};
 use crate::case::LentCase;
-use crate::executed::{Done, done_at};
+use crate::executed::AllDone;
 use crate::records::Record;
 use std::alloc::Global;
 use tau_base::{NoMemory, stream_of, worker_of};
 
 /// Whether a record holds what a call of the order did that writes. `places` has where the numbers of the order stand in it.
-fn has_act(case: &LentCase<'_>, done: &[Done], places: &[usize], one: &Record<'_>) -> bool
+fn has_act(case: &LentCase<'_>, done: &AllDone, places: &[usize], one: &Record<'_>) -> bool
     requires done { done.now ≡ effects (acts (in_case case.now)) }
     requires many { length done.now ≡ length case.now.report.now.order }
     requires there { All (IsNumberOf case.now.load.now.calls) case.now.report.now.order }
@@ -27,7 +27,7 @@ fn has_act(case: &LentCase<'_>, done: &[Done], places: &[usize], one: &Record<'_
     match index_of(places, one.number()) {
         None => false,
         Some(index) => {
-            let did = done_at(done, index);
+            let did = done.at(index);
             if did.writes().is_empty() {
                 return false;
             }
@@ -65,7 +65,7 @@ fn ack_agrees(case: &LentCase<'_>, acks: &[Ack<'_>], places: &[usize], one: &Rec
 /// Whether a record fits, after others whose numbers are flagged.
 fn fits_record(
     case: &LentCase<'_>,
-    done: &[Done],
+    done: &AllDone,
     places: &[usize],
     acks: &[Ack<'_>],
     ack_places: &[usize],
@@ -102,7 +102,7 @@ fn fits_record(
 pub fn check_records(
     alloc: Global,
     case: &LentCase<'_>,
-    done: &[Done],
+    done: &AllDone,
     places: &[usize],
     acks: &[Ack<'_>],
     ack_places: &[usize],

@@ -13,20 +13,20 @@ ghost use Rattle.tau_inspect.specs.Taint.{is_missing};
 use crate::acked::Ack;
 use crate::by_number::{index_of, is_flagged};
 use crate::case::LentCase;
-use crate::executed::{Done, done_at};
+use crate::executed::{AllDone, Done};
 use crate::taint::taints;
 use std::alloc::Global;
 use tau_base::NoMemory;
 
 /// Whether a call writes and is not taken.
-fn is_gone(did: &Done, taken: bool) -> bool
+fn is_gone(did: &Done<'_>, taken: bool) -> bool
     ensures { result ≡ (updates did.now && not taken) }
 {
     did.writes().len() > 0 && !taken
 }
 
 /// Whether a call that writes is taken, or one that only reads is not tainted.
-fn survives_so(did: &Done, taken: bool, tainted: bool) -> bool
+fn survives_so(did: &Done<'_>, taken: bool, tainted: bool) -> bool
     ensures { result ≡ (if updates did.now then taken else not tainted) }
 {
     if did.writes().len() > 0 {
@@ -37,7 +37,7 @@ fn survives_so(did: &Done, taken: bool, tainted: bool) -> bool
 }
 
 /// Whether a call that writes has a record, or one that only reads an acknowledgement.
-fn is_told(did: &Done, recorded: bool, acked: bool) -> bool
+fn is_told(did: &Done<'_>, recorded: bool, acked: bool) -> bool
     ensures { result ≡ (if updates did.now then recorded else acked) }
 {
     if did.writes().len() > 0 {
@@ -58,7 +58,7 @@ fn both(one: bool, other: bool) -> bool
 fn missing_of(
     alloc: Global,
     case: &LentCase<'_>,
-    done: &[Done],
+    done: &AllDone,
     takes: &[bool],
 ) -> Result<Vec<bool>, NoMemory>
     requires done { done.now ≡ effects (acts (in_case case.now)) }
@@ -69,7 +69,8 @@ fn missing_of(
 {
     let mut missing = Vec::new(alloc);
     for i in 0..done.len() {
-        missing.push(is_gone(&done[i], is_flagged(takes, case.report.order[i])))?;
+        let did = done.at(i);
+        missing.push(is_gone(&did, is_flagged(takes, case.report.order[i])))?;
     }
     Ok(missing)
 }
@@ -78,7 +79,7 @@ fn missing_of(
 pub fn tainted_of(
     alloc: Global,
     case: &LentCase<'_>,
-    done: &[Done],
+    done: &AllDone,
     takes: &[bool],
 ) -> Result<Vec<bool>, NoMemory>
     requires done { done.now ≡ effects (acts (in_case case.now)) }
@@ -96,7 +97,7 @@ pub fn tainted_of(
 /// updating call that is not.
 fn survives(
     case: &LentCase<'_>,
-    done: &[Done],
+    done: &AllDone,
     places: &[usize],
     takes: &[bool],
     tainted: &[bool],
@@ -113,18 +114,21 @@ fn survives(
 {
     match index_of(places, number) {
         None => true,
-        Some(index) => survives_so(
-            done_at(done, index),
-            is_flagged(takes, number),
-            is_flagged(tainted, index as u64),
-        ),
+        Some(index) => {
+            let did = done.at(index);
+            survives_so(
+                &did,
+                is_flagged(takes, number),
+                is_flagged(tainted, index as u64),
+            )
+        }
     }
 }
 
 /// The first acknowledged call that does not survive.
 pub fn check_acks(
     case: &LentCase<'_>,
-    done: &[Done],
+    done: &AllDone,
     places: &[usize],
     takes: &[bool],
     tainted: &[bool],
@@ -152,7 +156,7 @@ pub fn check_acks(
 /// The first call of the order that is taken and depends on an updating one that is not.
 pub fn check_closed(
     case: &LentCase<'_>,
-    done: &[Done],
+    done: &AllDone,
     takes: &[bool],
     tainted: &[bool],
 ) -> Option<u64>
@@ -174,7 +178,7 @@ pub fn check_closed(
 
 /// Whether each call of the order that writes has a record, and each other one an acknowledgement. `recorded` and
 /// `acked` flag the numbers of these.
-pub fn is_whole(case: &LentCase<'_>, done: &[Done], recorded: &[bool], acked: &[bool]) -> bool
+pub fn is_whole(case: &LentCase<'_>, done: &AllDone, recorded: &[bool], acked: &[bool]) -> bool
     requires done { done.now ≡ effects (acts (in_case case.now)) }
     requires many { length done.now ≡ length case.now.report.now.order }
     requires there { All (IsNumberOf case.now.load.now.calls) case.now.report.now.order }
@@ -184,8 +188,9 @@ pub fn is_whole(case: &LentCase<'_>, done: &[Done], recorded: &[bool], acked: &[
 {
     for i in 0..done.len() {
         let number = case.report.order[i];
+        let did = done.at(i);
         if !is_told(
-            &done[i],
+            &did,
             is_flagged(recorded, number),
             is_flagged(acked, number),
         ) {

@@ -9,7 +9,7 @@ ghost use Rattle.tau_inspect.specs.Firsts.{Finds};
 ghost use Rattle.tau_inspect.specs.Tests.{told_so};
 
 use crate::case::LentCase;
-use crate::executed::Done;
+use crate::executed::AllDone;
 use crate::same::same_reply;
 use tau_proc::Reply;
 use tau_report::{Fate, KeptFate};
@@ -55,14 +55,15 @@ fn has_replied(fates: &[KeptFate], number: u64, reply: &Reply) -> bool
 }
 
 /// The first call of the order that is told to have replied otherwise than it does there.
-pub fn check_reply(case: &LentCase<'_>, done: &[Done]) -> Option<u64>
+pub fn check_reply(case: &LentCase<'_>, done: &AllDone) -> Option<u64>
     requires done { done.now ≡ effects (acts (in_case case.now)) }
     requires many { length done.now ≡ length case.now.report.now.order }
     ensures { Finds (λ x. x.call.number) (FitsReply (in_case case.now)) (acts (in_case case.now)) result }
 {
     for i in 0..done.len() {
         let number = case.report.order[i];
-        if !has_replied(case.report.fates.as_slice(), number, done[i].reply()) {
+        let did = done.at(i);
+        if !has_replied(case.report.fates.as_slice(), number, did.reply()) {
             return Some(number);
         }
     }

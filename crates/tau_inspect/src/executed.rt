@@ -1,133 +1,202 @@
 //! A history, executed: what each call read, wrote and replied.
-ghost use Rattle.std.specs.Prelude.{ℕ, ◌≡◌, ◌++◌, ◌∷◌, [], ◌<◌, length, All, IfOk, OnOk, IsTrue, Some, slice_get};
+ghost use Rattle.std.specs.Prelude.{ℕ, ◌≡◌, ◌++◌, ◌∷◌, [], ◌<◌, length, map, All, IfOk, OnOk, IsTrue, Some, slice_get, slice_index_or};
 ghost use Rattle.tau_base.specs.Database.{empty_db, written};
 ghost use Rattle.tau_proc.specs.Meaning.{meaning};
+ghost use Rattle.tau_proc.specs.Progress.{buffered};
 ghost use Rattle.tau_proc.specs.Takes.{takes};
 ghost use Rattle.tau_model.specs.Store.{database};
 ghost use Rattle.tau_inspect.specs.Executed.{acts_of, effects, rows_after, IsNumberOf};
+ghost use Rattle.tau_inspect.specs.KeptDone.{done_in, HasRun, IsMark};
 
+use arrayvec::ArrayVec;
 use std::alloc::Global;
 use std::marker::Model;
-use tau_base::{Call, Calls, Key, Listed, NoMemory, Value};
-use tau_model::SerialStore;
+use tau_base::{Call, Calls, Key, NoMemory, Value};
+use tau_model::{RowPlaces, SerialStore};
 use tau_proc::{Machine, Procs, Reply, Want};
 
-/// What a call did: the keys that it read with what they had, what it wrote, and its reply.
+/// Where what a call did lies among the rows of all: what it read, and then what it wrote.
 #[derive(Debug, Drop)]
-pub struct Done {
-    reads: Vec<(Key, Value)>,
-    writes: Vec<(Key, Value)>,
+struct Mark {
+    /// Where the rows begin that it read.
+    from: usize,
+    /// Where those begin that it wrote.
+    middle: usize,
+    /// Where they end.
+    past: usize,
     reply: Reply,
 }
 
-impl Model for Done {
+/// What calls did, one after another. The rows of all lie in one list. Contracts see it as the list of what each did.
+#[derive(Debug, Drop)]
+pub struct AllDone {
+    rows: Vec<(Key, Value)>,
+    marks: Vec<Mark>,
+}
+
+impl Model for AllDone {
+    ghost use Rattle.std.specs.Prelude.{List, All, map};
     ghost use Rattle.tau_proc.specs.Effect.{Effect};
+    ghost use Rattle.tau_inspect.specs.KeptDone.{done_in, IsMark};
 
-    ghost Value = { Effect };
+    ghost Value = { List Effect };
 
-    ghost view = { λ d. record { reads = d.reads.items; writes = d.writes.items; reply = d.reply } };
+    ghost view = { λ a. map (done_in a.rows.items) a.marks.items };
+
+    ghost invariant = { λ a. All (IsMark a.rows.items) a.marks.items };
 }
 
-impl Done {
-    /// What it read, in order.
-    pub fn reads(&self) -> &[(Key, Value)]
-        ensures { result.now ≡ self.now.reads }
+impl AllDone {
+    /// How many calls there are.
+    pub fn len(&self) -> usize
+        ensures { result ≡ length self.now }
     {
-        self.reads.as_slice()
+        self.marks.len()
     }
 
-    /// What it wrote, by ascending keys.
-    pub fn writes(&self) -> &[(Key, Value)]
-        ensures { result.now ≡ self.now.writes }
+    /// What the call at this index did.
+    pub fn at(&self, index: usize) -> Done<'_>
+        requires { index < length self.now }
+        ensures at { slice_get self.now index ≡ Some result }
+        ensures is { result ≡ slice_index_or self.now index result }
     {
-        self.writes.as_slice()
-    }
-
-    /// What it replied.
-    pub fn reply(&self) -> &Reply
-        ensures { result.now ≡ self.now.reply }
-    {
-        &self.reply
-    }
-}
-
-/// What the call at this index did.
-pub fn done_at(done: &[Done], index: usize) -> &Done
-    requires { index < length done.now }
-    ensures { slice_get done.now index ≡ Some result.now }
-{
-    &done[index]
-}
-
-/// The same rows again.
-fn copied(alloc: Global, rows: &[(Key, Value)]) -> Result<Vec<(Key, Value)>, NoMemory>
-    ensures { IfOk result (λ copy. copy.items ≡ rows.now) }
-{
-    let mut copy = Vec::new(alloc);
-    for row in rows {
-        copy.push((row.0, row.1.copied()))?;
-    }
-    Ok(copy)
-}
-
-/// What a call does on the rows of a store, which stay.
-fn done_on(
-    alloc: Global,
-    procs: &Procs,
-    call: &Call,
-    store: &SerialStore,
-    machine: &mut Machine,
-) -> Result<Done, NoMemory>
-    requires { IsTrue (takes procs.now call.now) }
-    ensures { IfOk result (λ done. done ≡ meaning procs.now call.now (database store.now)) }
-{
-    machine.restart(procs, call);
-    let mut reads = Vec::new(alloc);
-    'wants: loop {
-        match machine.next() {
-            Want::Read(key) => {
-                let value = store.value(key);
-                reads.push((key, value.copied()))?;
-                machine.give(value);
-            }
-            Want::Write(_) => machine.granted(),
-            Want::Finished(reply) => {
-                let writes = copied(alloc, machine.writes())?;
-                return Ok(Done {
-                    reads,
-                    writes,
-                    reply,
-                });
-            }
+        let mark = &self.marks[index];
+        Done {
+            reads: &self.rows[mark.from..mark.middle],
+            writes: &self.rows[mark.middle..mark.past],
+            reply: &mark.reply,
         }
     }
 }
 
-/// The calls of a history that were executed so far.
+/// What a call did: the keys that it read with what they had, what it wrote, and its reply.
+#[derive(Drop)]
+pub struct Done<'a> {
+    reads: &'a [(Key, Value)],
+    writes: &'a [(Key, Value)],
+    reply: &'a Reply,
+}
+
+impl<'a> Model for Done<'a> {
+    ghost use Rattle.tau_proc.specs.Effect.{Effect};
+
+    ghost Value = { Effect };
+
+    ghost view = { λ d. record { reads = d.reads.now; writes = d.writes.now; reply = d.reply.now } };
+}
+
+impl<'a> Done<'a> {
+    /// What it read, in order.
+    pub fn reads(&self) -> &'a [(Key, Value)]
+        ensures { result.now ≡ self.now.reads }
+    {
+        self.reads
+    }
+
+    /// What it wrote, by ascending keys.
+    pub fn writes(&self) -> &'a [(Key, Value)]
+        ensures { result.now ≡ self.now.writes }
+    {
+        self.writes
+    }
+
+    /// What it replied.
+    pub fn reply(&self) -> &'a Reply
+        ensures { result.now ≡ self.now.reply }
+    {
+        self.reply
+    }
+}
+
+/// Puts rows at the end.
+fn put_rows(rows: &mut Vec<(Key, Value)>, more: &[(Key, Value)]) -> Result<(), NoMemory>
+    ensures { OnOk result (rows.new.items ≡ rows.old.items ++ more.now) }
+{
+    for row in more {
+        rows.push((row.0, row.1.copied()))?;
+    }
+    Ok(())
+}
+
+/// Goes through a call on the rows of a store, which stay, and puts what it reads at the end of the list. Returns its reply.
+fn read_on(
+    rows: &mut Vec<(Key, Value)>,
+    procs: &Procs,
+    call: &Call,
+    store: &SerialStore,
+    machine: &mut Machine,
+    places: &mut RowPlaces,
+) -> Result<Reply, NoMemory>
+    requires { IsTrue (takes procs.now call.now) }
+    ensures { IfOk result (HasRun (meaning procs.now call.now (database store.now)) rows.old.items rows.new.items (buffered machine.new)) }
+{
+    machine.restart(procs, call);
+    let mut value = Value::Absent;
+    'wants: loop {
+        match machine.next() {
+            Want::Read(key) => {
+                store.read_noted(key, places, &mut value);
+                rows.push((key, value.copied()))?;
+                machine.give_lent(&value);
+            }
+            Want::Write(_) => machine.granted(),
+            Want::Finished(reply) => return Ok(reply),
+        }
+    }
+}
+
+/// The calls of a history that were executed so far: what each did, and the rows that they leave.
+#[derive(Drop)]
+struct SoFar {
+    rows: Vec<(Key, Value)>,
+    marks: Vec<Mark>,
+    store: SerialStore,
+}
+
+/// The calls of a history, executed.
 #[derive(Drop)]
 pub struct Executed {
     /// What each did.
-    pub done: Listed<Done>,
+    pub done: AllDone,
     /// The rows that they leave.
     pub store: SerialStore,
 }
 
 /// Executes one more call.
 fn go_on(
-    alloc: Global,
     procs: &Procs,
     call: &Call,
-    all: &mut Executed,
+    all: &mut SoFar,
     machine: &mut Machine,
+    places: &mut RowPlaces,
 ) -> Result<(), NoMemory>
-    requires { IsTrue (takes procs.now call.now) }
-    ensures done { OnOk result (all.new.done ≡ all.old.done ++ meaning procs.now call.now (database all.old.store) ∷ []) }
+    requires taken { IsTrue (takes procs.now call.now) }
+    requires marked { All (IsMark all.old.rows.items) all.old.marks.items }
+    ensures marked { OnOk result (All (IsMark all.new.rows.items) all.new.marks.items) }
+    ensures done { OnOk result (map (done_in all.new.rows.items) all.new.marks.items ≡ map (done_in all.old.rows.items) all.old.marks.items ++ meaning procs.now call.now (database all.old.store) ∷ []) }
     ensures rows { OnOk result (database all.new.store ≡ written (meaning procs.now call.now (database all.old.store)).writes (database all.old.store)) }
 {
-    let done = done_on(alloc, procs, call, &all.store, machine)?;
-    all.store.write(done.writes())?;
-    all.done.push(done)?;
+    let from = all.rows.len();
+    let reply = read_on(&mut all.rows, procs, call, &all.store, machine, places)?;
+    let middle = all.rows.len();
+    put_rows(&mut all.rows, machine.writes())?;
+    let past = all.rows.len();
+    all.marks.push(Mark {
+        from,
+        middle,
+        past,
+        reply,
+    })?;
+    all.store.write_near(machine.writes(), places)?;
     Ok(())
+}
+
+/// The place in which each call is laid.
+fn blank_call() -> Call {
+    Call {
+        proc: 0,
+        args: ArrayVec::new(),
+    }
 }
 
 /// Executes the calls with these numbers, one after another from no rows.
@@ -142,14 +211,23 @@ pub fn execute(
     ensures done { IfOk result (λ all. all.done ≡ effects (acts_of procs.now calls.now order.now)) }
     ensures rows { IfOk result (λ all. database all.store ≡ rows_after procs.now calls.now order.now) }
 {
-    let mut all = Executed {
-        done: Listed::new(alloc),
+    let mut all = SoFar {
+        rows: Vec::new(alloc),
+        marks: Vec::new(alloc),
         store: SerialStore::new(alloc),
     };
     let mut machine = Machine::new();
+    let mut places = RowPlaces::new(alloc);
+    let mut call = blank_call();
     for i in 0..order.len() {
-        let call = calls.call_at((order[i] - 1) as usize);
-        go_on(alloc, procs, &call, &mut all, &mut machine)?;
+        calls.put_into((order[i] - 1) as usize, &mut call);
+        go_on(procs, &call, &mut all, &mut machine, &mut places)?;
     }
-    Ok(all)
+    Ok(Executed {
+        done: AllDone {
+            rows: all.rows,
+            marks: all.marks,
+        },
+        store: all.store,
+    })
 }

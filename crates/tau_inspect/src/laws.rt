@@ -2,7 +2,7 @@
 ghost use Rattle.tau_inspect.specs.Taint.{TaintIsDependence};
 ghost use Rattle.tau_inspect.specs.Inspection.{UncoveredIsLowest};
 ghost use Rattle.tau_inspect.specs.Audit.{OneVerdict, VerdictsMean};
-ghost use Rattle.tau_inspect.specs.RunText.{NamesAreKnown, OneReport};
+ghost use Rattle.tau_inspect.specs.RunText.{NamesAreKnown, OneFirstBad, OneReport};
 
 /// Marks that are carried along a history tell of each call whether it depends on an updating call that is not taken.
 pub fn taint_is_dependence()
@@ -29,6 +29,11 @@ pub fn one_verdict()
 /// A text is that of one report with one end: what a run writes is read back as it was.
 pub fn one_report()
     ensures { OneReport }
+{}
+
+/// A text has at most one first bad line.
+pub fn one_first_bad()
+    ensures { OneFirstBad }
 {}
 
 /// The tables of a workload that was read have names that tell them apart.

@@ -24,8 +24,8 @@ mod words;
 
 pub use inspect::inspect_text;
 pub use laws::{
-    names_are_known, one_report, one_verdict, taint_is_dependence, uncovered_is_lowest,
-    verdicts_mean,
+    names_are_known, one_first_bad, one_report, one_verdict, taint_is_dependence,
+    uncovered_is_lowest, verdicts_mean,
 };
 pub use refusal::ReportRefusal;
 pub use sections::read_report;

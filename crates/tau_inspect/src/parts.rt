@@ -1,5 +1,5 @@
 //! Cutting texts at a byte, and reading the components of a vector.
-ghost use Rattle.std.specs.Prelude.{ℕ, ◌≡◌, ◌<◌, ◌≤◌, ◌++◌, ◌∷◌, List, true, IfOk, MatchOption, decimal};
+ghost use Rattle.std.specs.Prelude.{ℕ, ◌≡◌, ◌<◌, ◌≤◌, ◌++◌, ◌∷◌, List, true, IfOk, MatchOption, decimal, length, take};
 ghost use Rattle.tau_report.specs.Lines.{vector_text};
 ghost use Rattle.tau_inspect.specs.Parts.{lacks, IsCut};
 ghost use Rattle.tau_inspect.specs.Reading.{Reads};
@@ -8,16 +8,43 @@ ghost use Rattle.tau_inspect.specs.ReportFor.{IsVector};
 use crate::words::read_plain;
 use tau_base::{Lv, MAX_LSN, MAX_STREAMS, NoMemory};
 
-/// Where a byte stands first in a text.
-pub fn cut_at(text: &[u8], byte: u8) -> Option<usize>
+/// The same, if it stands at none of the first so many places.
+fn cut_after(text: &[u8], byte: u8, begin: usize) -> Option<usize>
+    requires within { begin ≤ length text.now }
+    requires none { lacks byte (take begin text.now) ≡ true }
     ensures { MatchOption result (lacks byte text.now ≡ true) (IsCut byte text.now) }
 {
-    for i in 0..text.len() {
+    let mut i = begin;
+    while i < text.len() {
         if text[i] == byte {
             return Some(i);
         }
+        i += 1;
     }
     None
+}
+
+/// Where a byte stands first in a text. Four bytes are tested for each test whether the end is near.
+pub fn cut_at(text: &[u8], byte: u8) -> Option<usize>
+    ensures { MatchOption result (lacks byte text.now ≡ true) (IsCut byte text.now) }
+{
+    let mut i = 0;
+    while text.len() - i >= 4 {
+        if text[i] == byte {
+            return Some(i);
+        }
+        if text[i + 1] == byte {
+            return Some(i + 1);
+        }
+        if text[i + 2] == byte {
+            return Some(i + 2);
+        }
+        if text[i + 3] == byte {
+            return Some(i + 3);
+        }
+        i += 4;
+    }
+    cut_after(text, byte, i)
 }
 
 /// A component of a vector.

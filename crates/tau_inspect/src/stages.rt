@@ -16,7 +16,7 @@ use crate::check_order::check_order;
 use crate::check_records::check_records;
 use crate::check_taint::{check_acks, check_closed, is_whole, tainted_of};
 use crate::checks::{check_fate, check_reply};
-use crate::executed::{Done, Executed, execute};
+use crate::executed::{AllDone, Executed, execute};
 use crate::records::{Record, records_of};
 use crate::same::same_rows;
 use crate::verdict::{Check, Verdict};
@@ -92,7 +92,7 @@ fn all_numbers(alloc: Global, all: &[Record<'_>]) -> Result<Vec<u64>, NoMemory>
 fn by_order(
     alloc: Global,
     case: &LentCase<'_>,
-    done: &[Done],
+    done: &AllDone,
     acks: &[Ack<'_>],
     ack_places: &[usize],
     all: &[Record<'_>],
@@ -135,7 +135,7 @@ fn by_order(
 fn by_taken(
     alloc: Global,
     case: &LentCase<'_>,
-    done: &[Done],
+    done: &AllDone,
     order_places: &[usize],
     acks: &[Ack<'_>],
     ack_places: &[usize],
@@ -179,7 +179,7 @@ fn by_taken(
 fn by_records(
     alloc: Global,
     case: &LentCase<'_>,
-    done: &[Done],
+    done: &AllDone,
     acks: &[Ack<'_>],
     ack_numbers: &[u64],
 ) -> Result<Verdict, NoMemory>
@@ -242,7 +242,7 @@ fn by_rows(
             number: 0,
         });
     }
-    by_records(alloc, case, all.done.as_slice(), acks, ack_numbers)
+    by_records(alloc, case, &all.done, acks, ack_numbers)
 }
 
 /// The check of the replies, and what follows.
@@ -264,7 +264,7 @@ fn by_reply(
         &case.load.calls,
         case.report.order.as_slice(),
     )?;
-    match check_reply(case, all.done.as_slice()) {
+    match check_reply(case, &all.done) {
         Some(number) => Ok(Verdict::No {
             check: Check::Reply,
             number,

@@ -1,10 +1,11 @@
 //! Marks of keys that are carried along a history: which calls depend on an updating call that is not taken.
 ghost use Rattle.std.specs.Prelude.{ℕ, ◌≡◌, ◌∷◌, [], ◌||◌, true, false, length, cond, IfOk, OnOk};
+ghost use Rattle.std.specs.List.{list_any};
 ghost use Rattle.tau_base.specs.Database.{same_key};
 ghost use Rattle.tau_proc.specs.Effect.{has_key};
 ghost use Rattle.tau_inspect.specs.Taint.{unmarked, any_written, any_touched, is_tainted, marked, pass, taints};
 
-use crate::executed::Done;
+use crate::executed::{AllDone, Done};
 use indexmap::IndexMap;
 use std::alloc::Global;
 use tau_base::{Key, NoMemory, Value};
@@ -119,14 +120,14 @@ impl Taint {
     }
 
     /// Whether the marks say that the call depends on an updating call that is not taken.
-    fn is_tainted(&self, done: &Done) -> bool
+    fn is_tainted(&self, done: &Done<'_>) -> bool
         ensures { result ≡ is_tainted (marks_of self.now) done.now }
     {
         self.any_written(done.reads()) || self.any_touched(done.writes())
     }
 
     /// Leaves the marks of a call that is missing, or depends on one that is.
-    fn mark(&mut self, done: &Done) -> Result<(), NoMemory>
+    fn mark(&mut self, done: &Done<'_>) -> Result<(), NoMemory>
         ensures { OnOk result (marks_of self.new ≡ marked done.now (marks_of self.old)) }
     {
         self.mark_read(done.reads())?;
@@ -134,7 +135,7 @@ impl Taint {
     }
 
     /// Goes past a call: whether it depends on an updating call that is not taken.
-    fn pass(&mut self, missing: bool, done: &Done) -> Result<bool, NoMemory>
+    fn pass(&mut self, missing: bool, done: &Done<'_>) -> Result<bool, NoMemory>
         ensures tells { IfOk result (λ tainted. tainted ≡ is_tainted (marks_of self.old) done.now) }
         ensures marks { OnOk result (marks_of self.new ≡ pass missing done.now (marks_of self.old)) }
     {
@@ -146,15 +147,27 @@ impl Taint {
     }
 }
 
-/// Of each call whether it depends on an updating call that is missing.
-pub fn taints(alloc: Global, all: &[Done], missing: &[bool]) -> Result<Vec<bool>, NoMemory>
+/// Whether one of the calls is missing.
+fn is_any(missing: &[bool]) -> bool
+    ensures { result ≡ list_any (λ b. b) missing.now }
+{
+    missing.iter().any(|one| *one)
+}
+
+/// Of each call whether it depends on an updating call that is missing. If none is missing, no marks are carried.
+pub fn taints(alloc: Global, all: &AllDone, missing: &[bool]) -> Result<Vec<bool>, NoMemory>
     requires { length missing.now ≡ length all.now }
     ensures { IfOk result (λ tainted. tainted.items ≡ taints unmarked all.now missing.now) }
 {
+    if !is_any(missing) {
+        let clean = vec![in alloc; false; all.len()]?;
+        return Ok(clean);
+    }
     let mut taint = Taint::new(alloc);
     let mut tainted = Vec::new(alloc);
     for i in 0..all.len() {
-        tainted.push(taint.pass(missing[i], &all[i])?)?;
+        let did = all.at(i);
+        tainted.push(taint.pass(missing[i], &did)?)?;
     }
     Ok(tainted)
 }

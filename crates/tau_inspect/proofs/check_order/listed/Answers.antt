@@ -41,16 +41,16 @@ put_call-requires-clause-records_fit c =
 pub put_call-requires-clause-within : goal.put_call-requires-clause-within
 put_call-requires-clause-within c =
     let order : List ℕ = c.args.case.now.report.now.order in let i : ℕ = c.loop-i.i in
-    let call = All-get_or (IsCall (length c.args.case.now.load.now.calls)) order i 0 (omega (arith, c.loop-i-test.true, c.requires.many)) c.requires.is.report.order in
+    let call = All-get_or (IsCall (length c.args.case.now.load.now.calls)) order i 0 (omega (arith, c.len-i-end.ensures, c.loop-i-test.true, c.requires.many)) c.requires.is.report.order in
     let turn : get_or c.deref.result.now i 0 ≡ get_or order i 0 = ap (λ (l : List ℕ). get_or l i 0) c.deref.ensures in
     (omega (arith, turn, call.1, c.requires.acks_placed.long), omega (arith, turn, call.1, c.requires.records_placed.long))
 
 pub put_call-requires-clause-told : goal.put_call-requires-clause-told
 put_call-requires-clause-told c =
-    let k : Case = (in_case c.args.case.now) in let i : ℕ = c.loop-i.i in let e = c.index-done-i.result in
+    let k : Case = (in_case c.args.case.now) in let i : ℕ = c.loop-i.i in let e = c.at-did.result in
     let order : List ℕ = c.args.case.now.report.now.order in
     let y : Act Numbered = record { call = numbered c.args.case.now.load.now.calls (get_or order i 0); effect = e } in
-    let at = read_there k c.args.done.now c.requires.done c.requires.many i e c.loop-i-test.true c.index-done-i.is in
+    let at = read_there k c.args.done.now c.requires.done c.requires.many i e (omega (arith, c.len-i-end.ensures, c.loop-i-test.true)) c.at-did.ensures.is in
     ap (λ (l : List ℕ). if updates e then has_record (get_or l i 0) c.args.all.now else has_ack (get_or l i 0) c.args.acks.now) c.deref.ensures
     ∙ ap (λ (rs : List Kept). if updates e then has_record (get_or order i 0) rs else has_ack (get_or order i 0) c.args.acks.now) c.requires.all
     ∙ ap (λ (as' : List (ℕ × List ℕ)). if updates e then has_record (get_or order i 0) (records k) else has_ack (get_or order i 0) as') c.requires.acks
@@ -58,9 +58,9 @@ put_call-requires-clause-told c =
 
 pub loop-i-preserved : goal.loop-i-preserved
 loop-i-preserved c =
-    let k : Case = (in_case c.args.case.now) in let i : ℕ = c.loop-i.i in let e = c.index-done-i.result in
+    let k : Case = (in_case c.args.case.now) in let i : ℕ = c.loop-i.i in let e = c.at-did.result in
     let y : Act Numbered = record { call = numbered c.args.case.now.load.now.calls (get_or c.args.case.now.report.now.order i 0); effect = e } in
-    let at = read_there k c.args.done.now c.requires.done c.requires.many i e c.loop-i-test.true c.index-done-i.is in
+    let at = read_there k c.args.done.now c.requires.done c.requires.many i e (omega (arith, c.len-i-end.ensures, c.loop-i-test.true)) c.at-did.ensures.is in
     let here = here_at (acts k) i y at in
     let f : Act Numbered → Committed = committed_of k in
     let put : ℕ → List Kept → List (ℕ × List ℕ) → List Committed = λ n rs as'. c.loop-i.list.items ++ committed_by n (updates e) (if updates e then place_in n rs else nowhere (vector_in n as')) ∷ [] in

@@ -15,8 +15,8 @@ returns-in-None c =
     let k : Case = (in_case c.args.case.now) in
     (λ t. absurd (both_ways false refl t), λ h. absurd (no_act k c.args.done.now c.requires.done c.requires.many c.requires.there c.requires.unique c.args.one.now (λ le. ap (λ (n : ℕ). is_in n c.args.case.now.report.now.order) (sym c.number.ensures) ∙ c.in-None.ensures.none (length c.args.case.now.load.now.calls) c.args.case.now.report.now.order c.requires.placed (omega (arith, le, c.number.ensures))) h))
 
-pub done_at-did-requires : goal.done_at-did-requires
-done_at-did-requires c =
+pub at-did-requires : goal.at-did-requires
+at-did-requires c =
     let at = c.in-Some.ensures.some (length c.args.case.now.load.now.calls) c.args.case.now.report.now.order c.requires.placed in
     omega (arith, slice_get_within c.args.case.now.report.now.order c.in-Some.index c.number.result at, c.requires.many)
 
@@ -24,7 +24,7 @@ pub returns-then-is_empty : goal.returns-then-is_empty
 returns-then-is_empty c =
     let k : Case = (in_case c.args.case.now) in
     let at : slice_get c.args.case.now.report.now.order c.in-Some.index ≡ Some c.args.one.now.number = c.in-Some.ensures.some (length c.args.case.now.load.now.calls) c.args.case.now.report.now.order c.requires.placed ∙ ap (λ (n : ℕ). Some n) c.number.ensures in
-    (λ t. absurd (both_ways false refl t), λ h. absurd (reads_only k c.args.done.now c.requires.done c.requires.many c.requires.there c.requires.unique c.args.one.now c.in-Some.index c.done_at-did.result.now at c.done_at-did.ensures (search (rules, no_writes)) h))
+    (λ t. absurd (both_ways false refl t), λ h. absurd (reads_only k c.args.done.now c.requires.done c.requires.many c.requires.there c.requires.unique c.args.one.now c.in-Some.index c.at-did.result at c.at-did.ensures.at (search (rules, no_writes)) h))
 
 pub overflow_sub-number : goal.overflow_sub-number
 overflow_sub-number c =
@@ -42,5 +42,5 @@ pub returns-else-is_empty : goal.returns-else-is_empty
 returns-else-is_empty c =
     let k : Case = (in_case c.args.case.now) in
     let at : slice_get c.args.case.now.report.now.order c.in-Some.index ≡ Some c.args.one.now.number = c.in-Some.ensures.some (length c.args.case.now.load.now.calls) c.args.case.now.report.now.order c.requires.placed ∙ ap (λ (n : ℕ). Some n) c.number.ensures in
-    act_iff k c.args.done.now c.requires.done c.requires.many c.requires.there c.requires.unique c.args.one.now c.in-Some.index c.done_at-did.result.now at c.done_at-did.ensures c.has_work.result c.at.result.now
+    act_iff k c.args.done.now c.requires.done c.requires.many c.requires.there c.requires.unique c.args.one.now c.in-Some.index c.at-did.result at c.at-did.ensures.at c.has_work.result c.at.result.now
     (search (rules, some_writes)) (search rules) (search rules)

@@ -19,7 +19,7 @@ loop-i-init c = fit_none (FitsClosed (in_case c.args.case.now))
 pub loop-i-preserved : goal.loop-i-preserved
 loop-i-preserved c =
     let k : Case = (in_case c.args.case.now) in let i : ℕ = c.loop-i.i in
-    let (y, at) = some_at (acts k) i (omega (arith, c.loop-i-test.true, act_count k c.args.done.now c.requires.many)) in
+    let (y, at) = some_at (acts k) i (omega (arith, c.len-i-end.ensures, c.loop-i-test.true, act_count k c.args.done.now c.requires.many)) in
     let here = here_at (acts k) i y at in
     let number : get_or c.deref.result.now i 0 ≡ y.call.number = ap (λ (l : List ℕ). get_or l i 0) c.deref.ensures ∙ get_or_from_slice_get k.report.order i y.call.number 0 (number_at k.load.declarations.procs k.load.calls k.report.order empty_db i y at) in
     let told : (slice_index_or c.args.takes.now y.call.number false && slice_index_or c.args.tainted.now i false) ≡ false =
@@ -30,7 +30,7 @@ loop-i-preserved c =
 pub returns-then-both : goal.returns-then-both
 returns-then-both c =
     let k : Case = (in_case c.args.case.now) in let i : ℕ = c.loop-i.i in
-    let (y, at) = some_at (acts k) i (omega (arith, c.loop-i-test.true, act_count k c.args.done.now c.requires.many)) in
+    let (y, at) = some_at (acts k) i (omega (arith, c.len-i-end.ensures, c.loop-i-test.true, act_count k c.args.done.now c.requires.many)) in
     let here = here_at (acts k) i y at in
     let number : get_or c.deref.result.now i 0 ≡ y.call.number = ap (λ (l : List ℕ). get_or l i 0) c.deref.ensures ∙ get_or_from_slice_get k.report.order i y.call.number 0 (number_at k.load.declarations.procs k.load.calls k.report.order empty_db i y at) in
     let told : (slice_index_or c.args.takes.now y.call.number false && slice_index_or c.args.tainted.now i false) ≡ true =
@@ -41,4 +41,4 @@ returns-then-both c =
 pub returns : goal.returns
 returns c =
     let k : Case = (in_case c.args.case.now) in
-    fit_all (FitsClosed k) (acts k) c.loop-i.i (omega (arith, c.loop-i-test.false, act_count k c.args.done.now c.requires.many)) c.loop-i.invariant
+    fit_all (FitsClosed k) (acts k) c.loop-i.i (omega (arith, c.len-i-end.ensures, c.loop-i-test.false, act_count k c.args.done.now c.requires.many)) c.loop-i.invariant

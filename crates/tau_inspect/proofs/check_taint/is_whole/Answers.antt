@@ -14,9 +14,9 @@ use Rattle.tau_inspect.proofs.check_taint.is_whole.Goals as goal
 
 pub loop-i-preserved : goal.loop-i-preserved
 loop-i-preserved c =
-    let k : Case = (in_case c.args.case.now) in let i : ℕ = c.loop-i.i in let e = c.index-done-i.result in
+    let k : Case = (in_case c.args.case.now) in let i : ℕ = c.loop-i.i in let e = c.at-did.result in
     let y : Act Numbered = record { call = numbered c.args.case.now.load.now.calls (get_or c.args.case.now.report.now.order i 0); effect = e } in
-    let at = read_there k c.args.done.now c.requires.done c.requires.many i e c.loop-i-test.true c.index-done-i.is in
+    let at = read_there k c.args.done.now c.requires.done c.requires.many i e (omega (arith, c.len-i-end.ensures, c.loop-i-test.true)) c.at-did.ensures.is in
     let n : ℕ = get_or c.args.case.now.report.now.order i 0 in
     let turn : get_or c.deref.result.now i 0 ≡ n = ap (λ (l : List ℕ). get_or l i 0) c.deref.ensures in
     let told : is_told k y ≡ true =
@@ -33,9 +33,9 @@ loop-i-preserved c =
 
 pub returns-then-not-is_told : goal.returns-then-not-is_told
 returns-then-not-is_told c =
-    let k : Case = (in_case c.args.case.now) in let i : ℕ = c.loop-i.i in let e = c.index-done-i.result in
+    let k : Case = (in_case c.args.case.now) in let i : ℕ = c.loop-i.i in let e = c.at-did.result in
     let y : Act Numbered = record { call = numbered c.args.case.now.load.now.calls (get_or c.args.case.now.report.now.order i 0); effect = e } in
-    let at = read_there k c.args.done.now c.requires.done c.requires.many i e c.loop-i-test.true c.index-done-i.is in
+    let at = read_there k c.args.done.now c.requires.done c.requires.many i e (omega (arith, c.len-i-end.ensures, c.loop-i-test.true)) c.at-did.ensures.is in
     let n : ℕ = get_or c.args.case.now.report.now.order i 0 in
     let turn : get_or c.deref.result.now i 0 ≡ n = ap (λ (l : List ℕ). get_or l i 0) c.deref.ensures in
     let told : is_told k y ≡ false =
@@ -50,6 +50,6 @@ returns c =
     let k : Case = (in_case c.args.case.now) in (
       (λ t x m.
           let w = member_get x (acts k) m in
-          c.loop-i.invariant w.0 x (omega (arith, c.loop-i-test.false, act_count k c.args.done.now c.requires.many, slice_get_within (acts k) w.0 x w.1)) w.1),
+          c.loop-i.invariant w.0 x (omega (arith, c.len-i-end.ensures, c.loop-i-test.false, act_count k c.args.done.now c.requires.many, slice_get_within (acts k) w.0 x w.1)) w.1),
       (λ h. refl),
     )

@@ -1,5 +1,5 @@
 -- One call more.
-use Rattle.std.proofs.Common.{ℕ, Bool, ◌≡◌, ◌++◌, ◌∷◌, [], ◌&&◌, not, List, take, map, get_or, sym, ap, ◌∙◌}
+use Rattle.std.proofs.Common.{arith, ℕ, Bool, ◌≡◌, ◌++◌, ◌∷◌, [], ◌&&◌, not, List, take, map, get_or, sym, ap, ◌∙◌}
 use Rattle.std.specs.Prelude.{slice_index_or, false}
 use Rattle.std.proofs.lemmas.List.{take_more, map-append}
 use Rattle.tau_model.specs.History.{Act, Numbered, updates}
@@ -13,9 +13,9 @@ use Rattle.tau_inspect.proofs.check_taint.missing_of.Goals as goal
 
 pub loop-i-preserved : goal.loop-i-preserved
 loop-i-preserved c =
-    let k : Case = (in_case c.args.case.now) in let i : ℕ = c.loop-i.i in let e = c.index-done-i.result in
+    let k : Case = (in_case c.args.case.now) in let i : ℕ = c.loop-i.i in let e = c.at-did.result in
     let y : Act Numbered = record { call = numbered c.args.case.now.load.now.calls (get_or c.args.case.now.report.now.order i 0); effect = e } in
-    let at = read_there k c.args.done.now c.requires.done c.requires.many i e c.loop-i-test.true c.index-done-i.is in
+    let at = read_there k c.args.done.now c.requires.done c.requires.many i e (omega (arith, c.len-i-end.ensures, c.loop-i-test.true)) c.at-did.ensures.is in
     let here = here_at (acts k) i y at in
     let p : Act Numbered → Bool = is_missing (is_taken k) in
     let flag = flag_is k c.args.takes.now c.requires.there c.requires.flagged i y at in

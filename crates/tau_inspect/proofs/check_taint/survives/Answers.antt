@@ -13,8 +13,8 @@ returns-in-None c =
     let k : Case = (in_case c.args.case.now) in
     ((λ t x m n. absurd (no_survivor k c.args.number c.requires.there (c.in-None.ensures.none (length c.args.case.now.load.now.calls) c.args.case.now.report.now.order c.requires.placed) x m n)), (λ h. refl))
 
-pub done_at-requires : goal.done_at-requires
-done_at-requires c =
+pub at-did-requires : goal.at-did-requires
+at-did-requires c =
     let at = c.in-Some.ensures.some (length c.args.case.now.load.now.calls) c.args.case.now.report.now.order c.requires.placed in
     omega (arith, slice_get_within c.args.case.now.report.now.order c.in-Some.index c.args.number at, c.requires.many)
 
@@ -22,6 +22,6 @@ pub returns-in-Some : goal.returns-in-Some
 returns-in-Some c =
     let k : Case = (in_case c.args.case.now) in let i : ℕ = c.in-Some.index in
     let at = c.in-Some.ensures.some (length c.args.case.now.load.now.calls) c.args.case.now.report.now.order c.requires.placed in
-    let y : Act Numbered = record { call = numbered c.args.case.now.load.now.calls c.args.number; effect = c.done_at.result.now } in
-    let there = there_is k c.args.done.now c.requires.done c.requires.many i c.done_at.result.now c.args.number c.done_at.ensures at in
+    let y : Act Numbered = record { call = numbered c.args.case.now.load.now.calls c.args.number; effect = c.at-did.result } in
+    let there = there_is k c.args.done.now c.requires.done c.requires.many i c.at-did.result c.args.number c.at-did.ensures.at at in
     survive_iff k c.args.takes.now c.args.tainted.now c.requires.there c.requires.flagged c.requires.knows i y there c.args.number c.requires.unique refl c.survives_so.result (search rules)

@@ -7,5 +7,5 @@ use Rattle.tau_inspect.proofs.stages.by_reply.Goals as goal
 
 pub check_reply-requires-clause-many : goal.check_reply-requires-clause-many
 check_reply-requires-clause-many c =
-    many (in_case c.args.case.now) c.as_slice-2.result.now
-    (c.as_slice-2.ensures ∙ c.in_ok-all.ensures.done ∙ ap (λ (l : List ℕ). effects (acts_of c.args.case.now.load.now.declarations.procs c.args.case.now.load.now.calls l)) c.as_slice.ensures)
+    many (in_case c.args.case.now) c.in_ok-all.all.done
+    (c.in_ok-all.ensures.done ∙ ap (λ (l : List ℕ). effects (acts_of c.args.case.now.load.now.declarations.procs c.args.case.now.load.now.calls l)) c.as_slice.ensures)
