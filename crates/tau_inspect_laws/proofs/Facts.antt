@@ -35,7 +35,7 @@ use Rattle.tau_run.proofs.Waits.{waits_for}
 use Rattle.tau_inspect.specs.declared.verdict.Verdict.{Verdict}
 use Rattle.tau_inspect.specs.declared.verdict.Verdict.TheVariants as verdict
 use Rattle.tau_inspect.specs.Audit.{IsVerdict}
-use Rattle.tau_inspect_laws.specs.Laws.{case_of_run, IsLogOfRun, IsLongEnough, RunReportFits}
+use Rattle.tau_inspect_laws.specs.Laws.{case_of_run, AreNotOlder, EndIsLong, EndedReportFits, IsLogOfRun, IsLongEnough, RunReportFits}
 use Rattle.tau_inspect_laws.proofs.Fitting.{contents_wide, held}
 use Rattle.tau_inspect_laws.proofs.Ordering.{index_is}
 use Rattle.tau_inspect_laws.proofs.Unmarked.{no_epochs}
@@ -102,6 +102,36 @@ has_opened : (f : Format) (n j : ℕ) (r : Result ImageReading ImageFault) (cont
 has_opened f n j (Ok r) content e = opened_formatted f n j r.format r.count r.bytes content e
 has_opened f n j (Err fault) content e = absurd cc
 
+-- a log of images that are not older than the end of their run
+module _ (n m : ℕ) (mode : LogMode) (load : Workload) (run : Run) (images : List (List ℕ)) (log : Log) (o : IsLogOfRun n m mode load run images log) (images_late : AreNotOlder n mode run images) where
+  durable_within : (j : ℕ) → j < n → slice_index images_late.durable j ≤ slice_index log.elv j
+  durable_within j lt =
+      let r = o.recovered in
+      let h = held n m mode load run images log [] o in
+      let wide = contents_wide n m mode load run images log [] o in
+      let x = some_at r.contents j (omega (arith, wide, lt)) in
+      let w = image_read (format_of mode) images r.contents r.have j x.0 x.1 in
+      let has : HasContent (format_of mode) n j x.0 w.0 = has_opened (format_of mode) n j (image_of j w.0) x.0 (ap (λ (k : ℕ). opened (format_of mode) k j (image_of j w.0)) (sym o.count) ∙ w.2) in
+      let low = images_late.least j w.0 x.0 lt w.1 has in
+      let size : slice_index log.elv j ≡ length x.0 = ap (λ (v : List ℕ). slice_index v j) h.elv ∙ index_is r.contents j ∙ ap length (got_or r.contents j x.0 [] x.1) in
+      omega (arith, low, size)
+
+  waits_within : WaitsWithin log.elv run
+  waits_within c t j = elim (below_or_not j n) [
+    | inl lt ↦ elim (images_late.waits c t j) [
+      | inl le ↦ (let low = durable_within j lt in inl (omega (arith, le, low)))
+      | inr record' ↦ inr record'
+    ]
+    | inr le ↦ (let wide = o.history.widths c t in let none = beyond c.place.dep j (omega (arith, wide, le)) in inl (omega (arith, none)))
+  ]
+
+pub end_is_long : EndIsLong
+end_is_long n m mode load run images log o late = waits_within n m mode load run images log o late
+
+pub ended_report_fits : EndedReportFits
+ended_report_fits n m mode load stops run sound room r images log o late rows present v h =
+    run_report_fits n m mode load stops run sound room r images log o (inr (end_is_long n m mode load run images log o late)) rows present v h
+
 module _ (by : Bool → Load → Core → Progress → Type 0) (n m : ℕ) (mode : LogMode) (load : Workload) (unborn : Type 0) (past now : ℕ → List ℕ → Type 0) (rose : ℕ → Type 0) (sink_rose : Type 0) (opening : ℕ → ℕ) (made : ℕ → ℕ → Type 0)
     (wrote : List ℕ → Type 0) (fault : ℕ → List ℕ) (ending : Ending) (f : RunFacts by n m mode load (fresh_start n) unborn past now rose sink_rose opening made wrote fault ending) (born : unborn)
     (images : List (List ℕ)) (since : AreFrom past n images) (still : AreFrom now n images) (log : Log) (reads : log_of None images ≡ Ok log) where
@@ -117,31 +147,12 @@ module _ (by : Bool → Load → Core → Progress → Type 0) (n m : ℕ) (mode
     pub long_if_flushed : ((j : ℕ) → j < n → rose j → ⊥) → IsLongEnough log.elv f.run
     long_if_flushed none = inl (whole_is_long n m mode load f.run images log of_facts (λ j image g. (let lt = image_low j image g in ended.flushed j image lt (none j lt) (still.1 j image g))))
 
-    durable_within : (j : ℕ) → j < n → slice_index ended.durable j ≤ slice_index log.elv j
-    durable_within j lt =
-        let r = of_facts.recovered in
-        let h = held n m mode load f.run images log [] of_facts in
-        let wide = contents_wide n m mode load f.run images log [] of_facts in
-        let x = some_at r.contents j (omega (arith, wide, lt)) in
-        let w = image_read (format_of mode) images r.contents r.have j x.0 x.1 in
-        let has : HasContent (format_of mode) n j x.0 w.0 = has_opened (format_of mode) n j (image_of j w.0) x.0 (ap (λ (k : ℕ). opened (format_of mode) k j (image_of j w.0)) (sym still.0) ∙ w.2) in
-        let low = ended.least j w.0 x.0 lt (still.1 j w.0 w.1) has in
-        let size : slice_index log.elv j ≡ length x.0 = ap (λ (v : List ℕ). slice_index v j) h.elv ∙ index_is r.contents j ∙ ap length (got_or r.contents j x.0 [] x.1) in
-        omega (arith, low, size)
-
-    -- and if what the calls wait for is durable, or ends where a record does
-    pub long_if_durable : WaitsWithin ended.durable f.run → IsLongEnough log.elv f.run
-    long_if_durable waits = inr (λ c t j. elim (below_or_not j n) [
-      | inl lt ↦ elim (waits c t j) [
-        | inl le ↦ (let low = durable_within j lt in inl (omega (arith, le, low)))
-        | inr record' ↦ inr record'
-      ]
-      | inr le ↦ (let wide = f.history.widths c t in let none = beyond c.place.dep j (omega (arith, wide, le)) in inl (omega (arith, none)))
-    ])
+    -- images that a stop may leave at the end are not older than it
+    not_older : AreNotOlder n mode f.run images
+    not_older = record { durable = ended.durable; waits = ended.waits; least = λ j image content lt g has. ended.least j image content lt (still.1 j image g) has }
 
     -- the report of the run is found whole or cut
     pub report_fits : IsSoundLoad load → n ≤ most_streams (format_of mode) → IsCoreRun (by true) n m mode load f.stops f.run →
         (rows : List (Key × Value)) → IsTablesOf (last_db load f.run) rows → (v : Verdict) → IsVerdict (case_of_run m load f.run rows log) v → (v ≡ verdict.Yes) ⊎ (v ≡ verdict.Cut)
     report_fits sound room core rows present v h =
-        let long : IsLongEnough log.elv f.run = long_if_durable ended.waits in
-        run_report_fits n m mode load f.stops f.run sound room (any_order (by true) n m mode load f.stops f.run core) images log of_facts long rows present v h
+        ended_report_fits n m mode load f.stops f.run sound room (any_order (by true) n m mode load f.stops f.run core) images log of_facts not_older rows present v h

@@ -1,5 +1,5 @@
 -- What an audit finds of a run's own report.
-use Rattle.std.specs.Prelude.{ℕ, ◌+◌, ◌≤◌, ◌≡◌, ◌≢◌, ◌⊎◌, true, List, [], length, None, Some, Ok, slice_get, slice_index, slice_index_or, Option}
+use Rattle.std.specs.Prelude.{ℕ, ◌+◌, ◌<◌, ◌≤◌, ◌≡◌, ◌≢◌, ◌⊎◌, true, List, [], length, None, Some, Ok, slice_get, slice_index, slice_index_or, Option}
 use Rattle.tau_base.specs.declared.value.Key.{Key}
 use Rattle.tau_base.specs.declared.value.Value.{Value}
 use Rattle.tau_base.specs.declared.value.LogMode.{LogMode}
@@ -112,4 +112,22 @@ WholeIsLong = (n m : ℕ) (mode : LogMode) (load : Workload) (run : Run) (images
 abbrev pub RunReportFits : Type 0
 RunReportFits = (n m : ℕ) (mode : LogMode) (load : Workload) (stops : ℕ → Option ℕ) (run : Run) → IsSoundLoad load → n ≤ most_streams (format_of mode) → IsCoreRun (in_any_order true) n m mode load stops run →
     (images : List (List ℕ)) (log : Log) → IsLogOfRun n m mode load run images log → IsLongEnough log.elv run → (rows : List (Key × Value)) → IsTablesOf (last_db load run) rows →
+    (v : Verdict) → IsVerdict (case_of_run m load run rows log) v → (v ≡ verdict.Yes) ⊎ (v ≡ verdict.Cut)
+
+-- Images of a run that went to its end, not older than its end: each is as long as what is durable of its stream, and what the run's calls
+-- wait for is durable, or ends where the record of a call does.
+pub record AreNotOlder (n : ℕ) (mode : LogMode) (run : Run) (images : List (List ℕ)) : Type 0 where
+  pub durable : List ℕ
+  pub waits : WaitsWithin durable run
+  pub least : (j : ℕ) (image content : List ℕ) → j < n → slice_get images j ≡ Some image → HasContent (format_of mode) n j content image → slice_index durable j ≤ length content
+
+-- A log of such images is as long as what the run's calls wait for.
+abbrev pub EndIsLong : Type 0
+EndIsLong = (n m : ℕ) (mode : LogMode) (load : Workload) (run : Run) (images : List (List ℕ)) (log : Log) → IsLogOfRun n m mode load run images log → AreNotOlder n mode run images → WaitsWithin log.elv run
+
+-- The report of a run of the core from streams without a byte that went to its end, whether disks failed in it or not, beside a log of images
+-- not older than its end: every verdict on it is yes or cut.
+abbrev pub EndedReportFits : Type 0
+EndedReportFits = (n m : ℕ) (mode : LogMode) (load : Workload) (stops : ℕ → Option ℕ) (run : Run) → IsSoundLoad load → n ≤ most_streams (format_of mode) → IsCoreRun (in_any_order true) n m mode load stops run →
+    (images : List (List ℕ)) (log : Log) → IsLogOfRun n m mode load run images log → AreNotOlder n mode run images → (rows : List (Key × Value)) → IsTablesOf (last_db load run) rows →
     (v : Verdict) → IsVerdict (case_of_run m load run rows log) v → (v ≡ verdict.Yes) ⊎ (v ≡ verdict.Cut)

@@ -1,5 +1,5 @@
 //! What an audit finds of a run, as functions that do nothing.
-ghost use Rattle.tau_inspect_laws.specs.Laws.{ToldAsExecuted, RecordsFit, TakenFits, OrderFits, VerdictsOfRun, ReachImages, OwnReportFits, NoEpochs, WholeIsLong, RunReportFits};
+ghost use Rattle.tau_inspect_laws.specs.Laws.{ToldAsExecuted, RecordsFit, TakenFits, OrderFits, VerdictsOfRun, ReachImages, OwnReportFits, NoEpochs, WholeIsLong, RunReportFits, EndIsLong, EndedReportFits};
 
 /// The report of a run that began on no rows passes the checks of fates, replies and rows, beside whatever log.
 pub fn told_as_executed()
@@ -56,4 +56,15 @@ pub fn whole_is_long()
 /// that is long enough: every verdict on it is yes or cut.
 pub fn run_report_fits()
     ensures { RunReportFits }
+{}
+
+/// Images of a run that went to its end, not older than its end: the log is as long as what the run's calls wait for.
+pub fn end_is_long()
+    ensures { EndIsLong }
+{}
+
+/// The report of a run of the core from streams without a byte that went to its end, whether disks failed in it or not,
+/// beside a log of images not older than its end: every verdict on it is yes or cut.
+pub fn ended_report_fits()
+    ensures { EndedReportFits }
 {}
