@@ -6,6 +6,8 @@ mod bad;
 #[cfg(test)]
 mod checks;
 #[cfg(test)]
+mod executions;
+#[cfg(test)]
 mod inspections;
 #[cfg(test)]
 mod records;
