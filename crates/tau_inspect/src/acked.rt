@@ -49,7 +49,7 @@ pub fn ack_at<'b, 'a>(acks: &'b [Ack<'a>], index: usize) -> &'b Ack<'a>
 pub fn acks_of<'a>(alloc: Global, acks: &'a Acks) -> Result<Vec<Ack<'a>>, NoMemory>
     ensures { IfOk result (λ all. all.items ≡ acks.now) }
 {
-    let mut all = Vec::new(alloc);
+    let mut all = Vec::with_capacity(alloc, acks.len())?;
     let mut walk = acks.walk();
     while let Some((number, lv)) = walk.next() {
         all.push(Ack { number, lv })?;
@@ -61,7 +61,7 @@ pub fn acks_of<'a>(alloc: Global, acks: &'a Acks) -> Result<Vec<Ack<'a>>, NoMemo
 pub fn numbers_of(alloc: Global, acks: &[Ack<'_>]) -> Result<Vec<u64>, NoMemory>
     ensures { IfOk result (λ numbers. numbers.items ≡ map (λ a. a.0) acks.now) }
 {
-    let mut numbers = Vec::new(alloc);
+    let mut numbers = Vec::with_capacity(alloc, acks.len())?;
     for i in 0..acks.len() {
         numbers.push(acks[i].number())?;
     }

@@ -105,6 +105,7 @@ fn listed(
     // A log has one stream at least and 32 at most.
     let _width = case.log.elv.width();
     let mut list = CommittedList::new(alloc);
+    list.reserve(done.len())?;
     for i in 0..done.len() {
         let did = done.at(i);
         put_call(

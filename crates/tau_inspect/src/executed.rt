@@ -6,7 +6,7 @@ ghost use Rattle.tau_proc.specs.Progress.{buffered};
 ghost use Rattle.tau_proc.specs.Takes.{takes};
 ghost use Rattle.tau_model.specs.Store.{database};
 ghost use Rattle.tau_inspect.specs.Executed.{acts_of, effects, rows_after, IsNumberOf};
-ghost use Rattle.tau_inspect.specs.KeptDone.{done_in, HasRun, IsMark};
+ghost use Rattle.tau_inspect.specs.KeptDone.{done_in, HasRun, IsExtent};
 
 use arrayvec::ArrayVec;
 use std::alloc::Global;
@@ -17,7 +17,7 @@ use tau_proc::{Machine, Procs, Reply, Want};
 
 /// Where what a call did lies among the rows of all: what it read, and then what it wrote.
 #[derive(Debug, Drop)]
-struct Mark {
+struct Extent {
     /// Where the rows begin that it read.
     from: usize,
     /// Where those begin that it wrote.
@@ -31,19 +31,19 @@ struct Mark {
 #[derive(Debug, Drop)]
 pub struct AllDone {
     rows: Vec<(Key, Value)>,
-    marks: Vec<Mark>,
+    extents: Vec<Extent>,
 }
 
 impl Model for AllDone {
     ghost use Rattle.std.specs.Prelude.{List, All, map};
     ghost use Rattle.tau_proc.specs.Effect.{Effect};
-    ghost use Rattle.tau_inspect.specs.KeptDone.{done_in, IsMark};
+    ghost use Rattle.tau_inspect.specs.KeptDone.{done_in, IsExtent};
 
     ghost Value = { List Effect };
 
-    ghost view = { λ a. map (done_in a.rows.items) a.marks.items };
+    ghost view = { λ a. map (done_in a.rows.items) a.extents.items };
 
-    ghost invariant = { λ a. All (IsMark a.rows.items) a.marks.items };
+    ghost invariant = { λ a. All (IsExtent a.rows.items) a.extents.items };
 }
 
 impl AllDone {
@@ -51,7 +51,7 @@ impl AllDone {
     pub fn len(&self) -> usize
         ensures { result ≡ length self.now }
     {
-        self.marks.len()
+        self.extents.len()
     }
 
     /// What the call at this index did.
@@ -60,11 +60,11 @@ impl AllDone {
         ensures at { slice_get self.now index ≡ Some result }
         ensures is { result ≡ slice_index_or self.now index result }
     {
-        let mark = &self.marks[index];
+        let extent = &self.extents[index];
         Done {
-            reads: &self.rows[mark.from..mark.middle],
-            writes: &self.rows[mark.middle..mark.past],
-            reply: &mark.reply,
+            reads: &self.rows[extent.from..extent.middle],
+            writes: &self.rows[extent.middle..extent.past],
+            reply: &extent.reply,
         }
     }
 }
@@ -149,7 +149,7 @@ fn read_on(
 #[derive(Drop)]
 struct SoFar {
     rows: Vec<(Key, Value)>,
-    marks: Vec<Mark>,
+    extents: Vec<Extent>,
     store: SerialStore,
 }
 
@@ -171,9 +171,9 @@ fn go_on(
     places: &mut RowPlaces,
 ) -> Result<(), NoMemory>
     requires taken { IsTrue (takes procs.now call.now) }
-    requires marked { All (IsMark all.old.rows.items) all.old.marks.items }
-    ensures marked { OnOk result (All (IsMark all.new.rows.items) all.new.marks.items) }
-    ensures done { OnOk result (map (done_in all.new.rows.items) all.new.marks.items ≡ map (done_in all.old.rows.items) all.old.marks.items ++ meaning procs.now call.now (database all.old.store) ∷ []) }
+    requires within { All (IsExtent all.old.rows.items) all.old.extents.items }
+    ensures within { OnOk result (All (IsExtent all.new.rows.items) all.new.extents.items) }
+    ensures done { OnOk result (map (done_in all.new.rows.items) all.new.extents.items ≡ map (done_in all.old.rows.items) all.old.extents.items ++ meaning procs.now call.now (database all.old.store) ∷ []) }
     ensures rows { OnOk result (database all.new.store ≡ written (meaning procs.now call.now (database all.old.store)).writes (database all.old.store)) }
 {
     let from = all.rows.len();
@@ -181,7 +181,7 @@ fn go_on(
     let middle = all.rows.len();
     put_rows(&mut all.rows, machine.writes())?;
     let past = all.rows.len();
-    all.marks.push(Mark {
+    all.extents.push(Extent {
         from,
         middle,
         past,
@@ -211,9 +211,10 @@ pub fn execute(
     ensures done { IfOk result (λ all. all.done ≡ effects (acts_of procs.now calls.now order.now)) }
     ensures rows { IfOk result (λ all. database all.store ≡ rows_after procs.now calls.now order.now) }
 {
+    // Most calls read a row, or read one and write it. Room that is made once is not copied as a list grows.
     let mut all = SoFar {
-        rows: Vec::new(alloc),
-        marks: Vec::new(alloc),
+        rows: Vec::with_capacity(alloc, order.len().saturating_mul(2))?,
+        extents: Vec::with_capacity(alloc, order.len())?,
         store: SerialStore::new(alloc),
     };
     let mut machine = Machine::new();
@@ -226,7 +227,7 @@ pub fn execute(
     Ok(Executed {
         done: AllDone {
             rows: all.rows,
-            marks: all.marks,
+            extents: all.extents,
         },
         store: all.store,
     })

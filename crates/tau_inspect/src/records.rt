@@ -184,14 +184,15 @@ fn put_stream<'a>(
     Ok(())
 }
 
-/// The records of calls of all streams, by stream and place.
+/// The records of calls of all streams, by stream and place. Room is made at once for so many.
 pub fn records_of<'a>(
     alloc: Global,
     streams: &'a [Listed<Placed>],
+    room: usize,
 ) -> Result<Vec<Record<'a>>, NoMemory>
     ensures { IfOk result (λ all. all.items ≡ kept_from 0 streams.now) }
 {
-    let mut all = Vec::new(alloc);
+    let mut all = Vec::with_capacity(alloc, room)?;
     for j in 0..streams.len() {
         put_stream(&mut all, j as u64, streams[j].as_slice())?;
     }

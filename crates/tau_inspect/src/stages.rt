@@ -68,7 +68,7 @@ fn has_epoch(streams: &[Listed<Placed>]) -> bool
 fn covered_numbers(alloc: Global, elv: &Lv, all: &[Record<'_>]) -> Result<Vec<u64>, NoMemory>
     ensures { IfOk result (λ numbers. numbers.items ≡ map (λ r. r.number) (filter (λ r. covers elv.now r.place.dep) all.now)) }
 {
-    let mut numbers = Vec::new(alloc);
+    let mut numbers = Vec::with_capacity(alloc, all.len())?;
     for i in 0..all.len() {
         if elv.covers_all(all[i].dep()) {
             numbers.push(all[i].number())?;
@@ -81,7 +81,7 @@ fn covered_numbers(alloc: Global, elv: &Lv, all: &[Record<'_>]) -> Result<Vec<u6
 fn all_numbers(alloc: Global, all: &[Record<'_>]) -> Result<Vec<u64>, NoMemory>
     ensures { IfOk result (λ numbers. numbers.items ≡ map (λ r. r.number) all.now) }
 {
-    let mut numbers = Vec::new(alloc);
+    let mut numbers = Vec::with_capacity(alloc, all.len())?;
     for i in 0..all.len() {
         numbers.push(all[i].number())?;
     }
@@ -190,7 +190,7 @@ fn by_records(
     requires numbers { ack_numbers.now ≡ map (λ a. a.0) case.now.report.now.acks }
     ensures { IfOk result (IsVerdict (in_case case.now)) }
 {
-    let all = records_of(alloc, case.log.streams.as_slice())?;
+    let all = records_of(alloc, case.log.streams.as_slice(), case.report.order.len())?;
     let order_places = places(alloc, case.load.calls.len(), case.report.order.as_slice())?;
     let ack_places = places(alloc, case.load.calls.len(), ack_numbers)?;
     match check_records(

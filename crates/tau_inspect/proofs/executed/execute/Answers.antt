@@ -21,8 +21,8 @@ loop-i-preserved c =
     let is = call_there calls _ call c.put_into.ensures in
     let before : Db = database c.loop-i.all.store in
     record {
-      marked = c.in_ok-go_on.ensures.marked;
-      done = c.in_ok-go_on.ensures.done ∙ ap (λ (db : Db). map (done_in c.loop-i.all.rows.items) c.loop-i.all.marks.items ++ meaning procs call db ∷ []) c.loop-i.invariant.rows
+      within = c.in_ok-go_on.ensures.within;
+      done = c.in_ok-go_on.ensures.done ∙ ap (λ (db : Db). map (done_in c.loop-i.all.rows.items) c.loop-i.all.extents.items ++ meaning procs call db ∷ []) c.loop-i.invariant.rows
           ∙ ap (λ l. l ++ meaning procs call (rows_after procs calls (take i order)) ∷ []) c.loop-i.invariant.done
           ∙ sym (acts_more procs calls order i call c.loop-i-test.true is);
       rows = c.in_ok-go_on.ensures.rows ∙ ap (λ (db : Db). written (meaning procs call db).writes db) c.loop-i.invariant.rows
