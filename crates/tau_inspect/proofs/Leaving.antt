@@ -30,7 +30,7 @@ use Rattle.tau_text_laws.proofs.Values.{literal_tells}
 use Rattle.tau_report.specs.declared.report.Fate.{Fate}
 use Rattle.tau_report.specs.declared.report.Fate.TheVariants.{Acked, Unsure, Unrun}
 use Rattle.tau_report.specs.declared.report.RunReport.{RunReport}
-use Rattle.tau_report.specs.Lines.{ack_line, fate_line, order_line, row_line, end_line, value_text, reply_text, vector_text}
+use Rattle.tau_report.specs.Lines.{ack_line, order_line, row_line, end_line, value_text, reply_text, vector_text}
 use Rattle.tau_report.specs.Report.{ack_lines, fate_lines, order_lines, row_lines}
 use Rattle.tau_inspect.specs.declared.told.AckLine.{AckLine}
 use Rattle.tau_inspect.specs.Bodies.{order_body, fate_body, ack_body, row_body, keyed_body, IsEnd, IsAck}

@@ -1,5 +1,5 @@
 -- A text has one first bad line: the lines before it begin the text of some run, and with it they begin none.
-use Rattle.std.proofs.Common.{ℕ, ◌+◌, ◌<◌, ◌≤◌, ◌≡◌, ◌==◌, Bool, true, false, cond, List, [], ◌∷◌, ◌++◌, inl, inr, ◌⊎◌, length, take, drop, refl, sym, ap, subst, ◌∙◌, append_assoc, arith}
+use Rattle.std.proofs.Common.{ℕ, ◌+◌, ◌<◌, ◌≤◌, ◌≡◌, ◌==◌, Bool, true, false, cond, List, [], ◌∷◌, ◌++◌, inl, inr, length, take, drop, refl, sym, ap, subst, ◌∙◌, append_assoc, arith}
 use Rattle.std.specs.Prelude.{count_by}
 use Rattle.std.proofs.Math.Seq.{take-append_seam}
 use Rattle.std.proofs.lemmas.List.{append_cancel_left, take-append-drop, take-append-le}
@@ -7,7 +7,7 @@ use Rattle.std.proofs.lemmas.List.Sums.{count_by-le-length, sum_by-append, sum_b
 use Rattle.std.proofs.lemmas.Bool.Decides.{nat_tests}
 use Rattle.tau_base.proofs.Logic.{below_or_not}
 use Rattle.tau_inspect.specs.Parts.{lacks}
-use Rattle.tau_inspect.specs.RunText.{IsFirstBad, IsTextOf, MayBegin, OneFirstBad}
+use Rattle.tau_inspect.specs.RunText.{IsFirstBad, IsTextOf, OneFirstBad}
 
 abbrev lines_in : List ℕ → ℕ
 lines_in text = count_by (λ b. b == 10) text

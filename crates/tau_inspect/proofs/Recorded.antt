@@ -1,6 +1,6 @@
 -- What the tests of a record decide.
-use Rattle.std.proofs.Common.{ℕ, zero, suc, ◌-◌, ◌==◌, ◌||◌, ◌<◌, ◌≤◌, ◌≡◌, ◌↔◌, Bool, true, false, IsTrue, List, [], ◌∷◌, length, map, refl, sym, ap, subst, ◌∙◌, arith, Option}
-use Rattle.std.specs.Prelude.{Some, None, slice_get, All}
+use Rattle.std.proofs.Common.{ℕ, ◌-◌, ◌==◌, ◌||◌, ◌<◌, ◌≤◌, ◌≡◌, ◌↔◌, Bool, true, false, IsTrue, List, [], ◌∷◌, length, map, refl, sym, ap, subst, ◌∙◌, arith}
+use Rattle.std.specs.Prelude.{Some, slice_get, All}
 use Rattle.std.proofs.lemmas.Bool.{both_ways}
 use Rattle.std.proofs.lemmas.Option.{slice_get_within, get_or_from_slice_get}
 use Rattle.std.proofs.lemmas.List.Elements.{All-get_or}

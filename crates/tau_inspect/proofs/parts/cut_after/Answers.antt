@@ -1,5 +1,5 @@
 -- The byte stands here, or not among one more, or nowhere.
-use Rattle.std.proofs.Common.{◌≡◌, ◌==◌, ◌+◌, List, ℕ, false, true, take, get_or, sym, ap, ◌∙◌, arith}
+use Rattle.std.proofs.Common.{◌≡◌, ◌==◌, ◌+◌, List, ℕ, false, get_or, sym, ap, ◌∙◌, arith}
 use Rattle.std.proofs.lemmas.Grind.{common_steps}
 use Rattle.std.proofs.lemmas.List.{take_all}
 use Rattle.tau_inspect.specs.Parts.{lacks}
