@@ -1,7 +1,7 @@
 -- A feed of records of calls, and anchors, is followed.
 use Rattle.std.proofs.Common.{ℕ, ◌≤◌, ◌<◌, ◌≡◌, List, [], ◌++◌, length, take, Some, Ok, refl, sym, ap, subst, ◌∙◌, arith}
 use Rattle.std.specs.Prelude.{slice_get}
-use Rattle.std.proofs.lemmas.List.{length-append}
+use Rattle.std.proofs.lemmas.List.{length-append, take_all}
 use Rattle.tau_base.proofs.Lists.{some_at}
 use Rattle.tau_base.specs.Database.{Db}
 use Rattle.tau_base.specs.declared.format.Format.{Format}
@@ -25,6 +25,8 @@ use Rattle.tau_follow.specs.State.{IsAt, IsRedone, Stands, HasRead, HasRedone, I
 use Rattle.tau_follow.proofs.Fed.{feeds_one}
 use Rattle.tau_follow.proofs.ReadingOn.{same_marks, same_catalogue, read_calls}
 use Rattle.tau_follow.proofs.Redoing.{take_front}
+use Rattle.tau_follow.proofs.Spots.{spots_long}
+use Rattle.tau_follow.specs.Holding.{HasApplied}
 use Rattle.std.specs.Global.{Vec}
 
 -- what was redone before is as much of what is applied then
@@ -32,6 +34,16 @@ pub redone_before : (procs : List Proc) (s t : Followed) (news : List Kept) (don
 redone_before procs s t news done db is le store =
     let long = ap length is ∙ length-append s.order news in
     (omega (arith, le, long), store ∙ sym (ap (redone_of procs) (ap (take done) is ∙ take_front s.order news done le)))
+
+-- all that is applied is redone
+pub all_there : (streams : List (List Placed)) (s : Followed) (a : Applier) (done : ℕ) → HasApplied streams s a → done ≤ length s.order → done ≡ length a.order.items → take done s.order ≡ s.order
+all_there streams s a done h le is =
+    let now = h.now in
+    let order = (applies_is s now h.news h.applies).2 in
+    let long = ap length order ∙ length-append s.order h.news in
+    let holds = h.holds in
+    let spots = spots_long now.streams a.order.items now.order holds.spots in
+    take_all done s.order (omega (arith, le, is, long, spots))
 
 -- the stream is read on from the records that were read
 pub reads_on : (j count : ℕ) (old streams now : List (List Placed)) (readers by : List Reader) → j < length streams → j < length readers → AreLonger j streams readers now by → ((ps : List Placed) → slice_get streams j ≡ Some ps → count ≡ length ps) → streams ≡ old → IsReadOn j count old now

@@ -16,6 +16,7 @@ pub mod Declared
 pub mod Sealing
 pub mod Undoing
 pub mod Redoing
+pub mod Renewing
 pub mod Bytes
 pub mod Counting
 pub mod Listed
@@ -25,3 +26,4 @@ pub mod Reopening
 pub mod ReadingOn
 pub mod Continuing
 pub mod Passing
+pub mod Cut

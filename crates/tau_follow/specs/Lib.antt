@@ -1,5 +1,6 @@
 pub mod Width
 pub mod Reading
+pub mod Renewing
 pub mod Applying
 pub mod Holding
 pub mod Judging

@@ -1,11 +1,12 @@
 -- What a reader has read of a stream.
-use Rattle.std.specs.Prelude.{ℕ, ◌≡◌, ◌≤◌, ◌⊎◌, ◌==◌, List, [], ◌++◌, length, drop, None, Result, Ok, Err}
+use Rattle.std.specs.Prelude.{ℕ, ◌≡◌, ◌≤◌, ◌⊎◌, ◌==◌, ◌+◌, ◌-◌, ◌&&◌, Bool, true, false, nat_lt, List, [], ◌∷◌, ◌++◌, length, take, drop, slice_get, Some, None, Result, Ok, Err, if◌then◌else◌}
+use Rattle.std.specs.Int.{w32, from_be_bytes}
 use Rattle.tau_record.specs.declared.entry.Entry.{Entry}
 use Rattle.tau_record.specs.declared.entry.Placed.{Placed}
 use Rattle.tau_record.specs.declared.fault.RecordCause.{RecordCause}
 use Rattle.tau_record.specs.declared.fault.RecordCause.TheVariants.{Short}
 use Rattle.tau_record.specs.Format.{Format}
-use Rattle.tau_record.specs.Record.{named, record_at}
+use Rattle.tau_record.specs.Record.{named, record_at, kind_fits}
 use Rattle.tau_record.specs.Content.{named_behind, last_epoch, content_at}
 use Rattle.tau_scan.specs.Reading.{catalogue_of, declared_by, undeclared}
 use Rattle.tau_follow.specs.declared.reader.Reader.{Reader}
@@ -54,3 +55,12 @@ pub record IsMark (r : Reader) (ps : List Placed) (m : Mark) : Type 0 where
   pub vectors : m.vectors ≡ length r.vectors.items
   pub last : m.last ≡ r.last
   pub records : m.records ≡ length ps
+
+-- whether the length of the record at the front of these bytes is there, and asks for more than so many bytes more
+abbrev pub is_cut : Bool → List ℕ → ℕ → Bool
+is_cut first [] more = false
+is_cut first (kind ∷ bytes) more = kind_fits first kind && (if nat_lt (length bytes) 4 then false else nat_lt more (from_be_bytes w32 (take 4 bytes) - (length (drop 4 bytes) + 5)))
+
+-- the same of the bytes of a stream that are left
+abbrev pub IsShortBy : List Reader → ℕ → ℕ → Type 0
+IsShortBy readers j more = (r : Reader) → slice_get readers j ≡ Some r → is_cut (r.at == 0) r.rest.items more ≡ true

@@ -5,7 +5,7 @@ ghost use Rattle.tau_scan.specs.declared.fault.LogFault.{LogFault};
 ghost use Rattle.tau_scan.specs.declared.fault.LogRefusal.TheVariants as refusals;
 ghost use Rattle.tau_follow_laws.specs.Fed.{fronts_of};
 ghost use Rattle.tau_follow_laws.specs.Feeding.{Piece, with_piece};
-ghost use Rattle.tau_follow.specs.Reading.{IsRead};
+ghost use Rattle.tau_follow.specs.Reading.{IsRead, is_cut, IsShortBy};
 ghost use Rattle.tau_follow.specs.Applying.{is_call, ArePassed};
 ghost use Rattle.tau_follow.specs.Feeding.{AreRead, AreLonger, IsMarkAt, AreCalls, AreCallsAt};
 ghost use Rattle.tau_follow.specs.Holding.{HasReadOn};
@@ -50,6 +50,31 @@ pub fn read_stream(
             stream,
             cause: LogCause::Body(fault),
         })),
+    }
+}
+
+/// Whether the next record of a stream is not whole by so many bytes more, as its length says.
+pub fn is_short_by(readers: &[Reader], stream: u8, more: usize) -> bool
+    ensures { result ≡ true → IsShortBy readers.now stream more }
+{
+    match readers.get(stream as usize) {
+        None => false,
+        Some(reader) => reader.is_short_by(more),
+    }
+}
+
+/// Feeds bytes to a stream by which its next record is not whole.
+pub fn wait_stream(readers: &mut Vec<Reader>, stream: u8, bytes: &[u8]) -> Result<(), NoMemory>
+    ensures ok { (format : Format) (n : ℕ) (fed : List (List ℕ)) (streams : List (List OnePlaced)) → stream < n → AreRead format n fed streams readers.old.items → IsShortBy readers.old.items stream (length bytes.now) → OnOk result (AreRead format n (with_piece fed (record { stream = stream; bytes = bytes.now })) streams readers.new.items) }
+    ensures err { (format : Format) (n : ℕ) (fed : List (List ℕ)) (streams : List (List OnePlaced)) → stream < n → AreRead format n fed streams readers.old.items → OnErr result (AreRead format n fed streams readers.new.items) }
+{
+    let j = stream as usize;
+    if j >= readers.len() {
+        return Err(NoMemory);
+    }
+    match readers[j].wait(bytes) {
+        Ok(()) => Ok(()),
+        Err(e) => Err(e),
     }
 }
 

@@ -11,6 +11,7 @@ mod reach;
 mod reader;
 mod redo;
 mod refusal;
+mod renew;
 mod seal;
 mod spot;
 mod stage;

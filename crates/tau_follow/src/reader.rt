@@ -2,14 +2,14 @@
 ghost use Rattle.std.specs.Prelude.{◌≡◌, ◌≤◌, ◌<◌, ◌+◌, ◌-◌, ◌++◌, ◌∷◌, [], ℕ, List, length, drop, take, true, false, None, Ok, Err, is_ok, IfOk, IfErr, OnOk, OnErr, IfSome, IsNone, if◌then◌else◌, ◌==◌};
 ghost use Rattle.tau_base.specs.declared.limits.TheConstants.{MAX_LSN, MAX_STREAMS};
 ghost use Rattle.tau_base.specs.Modes.{most_streams};
-ghost use Rattle.tau_record.specs.Record.{named, epoch_after};
+ghost use Rattle.tau_record.specs.Record.{named, epoch_after, kind_fits};
 ghost use Rattle.tau_record.specs.Content.{named_after, placed};
 ghost use Rattle.tau_record.specs.declared.entry.Placed.{Placed};
 ghost use Rattle.tau_record.specs.declared.fault.RecordFault.{RecordFault};
 ghost use Rattle.tau_record.specs.declared.fault.RecordRefusal.TheVariants as refusals;
 ghost use Rattle.tau_scan.specs.Reading.{is_declared, declared_by, catalogue_of, text_of};
 ghost use Rattle.tau_follow_laws.specs.Fed.{is_short, front_of};
-ghost use Rattle.tau_follow.specs.Reading.{IsGoing, IsRead, BeginsWith, IsLonger, IsMark, next_at, IsStopped};
+ghost use Rattle.tau_follow.specs.Reading.{IsGoing, IsRead, BeginsWith, IsLonger, IsMark, next_at, IsStopped, is_cut};
 
 use arrayvec::ArrayVec;
 use std::alloc::Global;
@@ -207,6 +207,41 @@ fn keep_from(alloc: Global, rest: &mut Vec<u8>, from: usize) -> Result<(), NoMem
     Ok(())
 }
 
+/// Whether a record that is the first one of its stream, or another one, may be of this kind.
+fn is_kind(first: bool, kind: u8) -> bool
+    ensures { result ≡ kind_fits first kind }
+{
+    if first {
+        kind == 4
+    } else if kind == 5 {
+        true
+    } else if 1 <= kind {
+        kind <= 3
+    } else {
+        false
+    }
+}
+
+/// Whether the length of the record at the front of these bytes is there, and asks for more than so many bytes more.
+fn is_cut(first: bool, bytes: &[u8], more: usize) -> bool
+    ensures { result ≡ is_cut first bytes.now more }
+{
+    match bytes {
+        [] => false,
+        [kind, rest @ ..] => {
+            if !is_kind(first, *kind) {
+                return false;
+            }
+            if rest.len() < 4 {
+                return false;
+            }
+            let (head, left) = rest.split_at(4);
+            let total = u32::from_be_bytes([head[0], head[1], head[2], head[3]]) as usize;
+            more < total.saturating_sub(left.len() + 5)
+        }
+    }
+}
+
 impl Reader {
     /// Nothing is read of a stream of `n`.
     pub fn new(alloc: Global, n: u16) -> Result<Reader, NoMemory>
@@ -394,6 +429,24 @@ impl Reader {
                 Err(_) => Err(RecordRefusal::NoMemory),
                 Ok(()) => Ok(()),
             },
+        }
+    }
+
+    /// Whether its next record is not whole by so many bytes more, as its length says.
+    pub fn is_short_by(&self, more: usize) -> bool
+        ensures { result ≡ is_cut (self.now.at == 0) self.now.rest.items more }
+    {
+        is_cut(self.at == 0, self.rest.as_slice(), more)
+    }
+
+    /// Puts these bytes after those that are there, if the record is not whole by them.
+    pub fn wait(&mut self, bytes: &[u8]) -> Result<(), NoMemory>
+        ensures ok { (f : Format) (n : ℕ) (content : List ℕ) (ps : List Placed) → IsRead f n content ps self.old → is_cut (self.old.at == 0) self.old.rest.items (length bytes.now) ≡ true → OnOk result (IsRead f n (content ++ bytes.now) ps self.new × (front_of f n (content ++ bytes.now) ≡ Ok ps)) }
+        ensures err { (f : Format) (n : ℕ) (content : List ℕ) (ps : List Placed) → IsRead f n content ps self.old → OnErr result (IsRead f n content ps self.new) }
+    {
+        match extend(&mut self.rest, bytes) {
+            Ok(()) => Ok(()),
+            Err(e) => Err(e),
         }
     }
 

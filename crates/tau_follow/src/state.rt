@@ -1,5 +1,5 @@
 //! What a follower has read and applied.
-ghost use Rattle.std.specs.Prelude.{◌≡◌, ◌≤◌, ◌<◌, ◌+◌, ◌++◌, ◌∷◌, [], false, ℕ, List, Some, None, Ok, Err, length, take, replicate, slice_index, IfOk, OnOk, OnErr};
+ghost use Rattle.std.specs.Prelude.{◌≡◌, ◌≤◌, ◌<◌, ◌+◌, ◌++◌, ◌∷◌, [], true, false, ℕ, List, Some, None, Ok, Err, length, take, replicate, slice_index, IfOk, OnOk, OnErr};
 ghost use Rattle.tau_base.specs.Modes.{most_streams};
 ghost use Rattle.tau_base.specs.declared.format.Format.{Format};
 ghost use Rattle.tau_base.specs.declared.limits.TheConstants.{MAX_STREAMS as MOST};
@@ -10,23 +10,26 @@ ghost use Rattle.tau_follow_laws.specs.Following.{Followed, begun};
 ghost use Rattle.tau_follow_laws.specs.Feeding.{Piece, with_piece, read_now, HasFed, IsFollower};
 ghost use Rattle.tau_base.specs.Database.{empty_db};
 ghost use Rattle.tau_model.specs.Store.{database};
+ghost use Rattle.tau_model.specs.Tables.{IsTablesOf};
 ghost use Rattle.tau_record.specs.declared.entry.Placed.{Placed as OnePlaced};
 ghost use Rattle.tau_follow.specs.declared.reader.Reader.{Reader as OneReader};
 ghost use Rattle.tau_scan.specs.Epochs.{marks_from, with_marks};
 ghost use Rattle.tau_follow.specs.Applying.{stages_from, redone_of, AreSpots};
 ghost use Rattle.tau_follow.specs.Feeding.{AreRead, AreLonger, IsMarkAt, IsReadOn, AreCallsAt};
 ghost use Rattle.tau_follow.specs.Holding.{HasApplied, HasFollowed};
-ghost use Rattle.tau_follow.specs.Reading.{BeginsWith};
+ghost use Rattle.tau_follow.specs.Reading.{BeginsWith, IsShortBy};
 ghost use Rattle.tau_follow.specs.State.{IsAt, Stands, HasRead, HasRedone, IsSame};
 
 use crate::applier::Applier;
 use crate::check::{checked, declared};
 use crate::feed::{
-    are_calls_at, is_more, mark_stream, read_calls, read_count, read_stream, undo_stream,
+    are_calls_at, is_more, is_short_by, mark_stream, read_calls, read_count, read_stream,
+    undo_stream, wait_stream,
 };
 use crate::judge::judged_from;
 use crate::reader::{Mark, Reader};
 use crate::redo::redo_from;
+use crate::renew::renew_rows;
 use crate::spot::Spot;
 use crate::stage::{Stages, copied, extend_all};
 use std::alloc::Global;
@@ -63,6 +66,13 @@ fn zeros(alloc: Global, n: usize) -> Result<Vec<usize>, NoMemory>
         list.push(0)?;
     }
     Ok(list)
+}
+
+/// Whether both are one number.
+fn is_same(a: usize, b: usize) -> bool
+    ensures { result ≡ true → a ≡ b }
+{
+    a == b
 }
 
 /// Applies what is ready of records that stand so, where these are applied, until nothing is.
@@ -187,6 +197,7 @@ impl State {
             self.streams.as_slice(),
             next.applier.order.as_slice(),
             self.done,
+            &mut Vec::new(alloc),
         ) {
             Ok(()) => {}
             Err(_) => return Err(LogRefusal::NoMemory),
@@ -206,30 +217,38 @@ impl State {
 
     /// Applies what is ready until nothing is, and redoes it.
     fn redo_new(&mut self, alloc: Global) -> Result<(), NoMemory>
-        ensures ok { (s : Followed) → HasApplied self.old.streams.items s self.old.applier → self.old.done ≤ length s.order → database self.old.store ≡ redone_of self.old.declarations.procs (take self.old.done s.order) → OnOk result (HasRedone s self.new) }
+        ensures ok { (s : Followed) → HasApplied self.old.streams.items s self.old.applier → self.old.done ≤ length s.order → database self.old.store ≡ redone_of self.old.declarations.procs (take self.old.done s.order) → IsTablesOf (redone_of self.old.declarations.procs s.order) self.old.tables → OnOk result (HasRedone s self.new) }
         ensures applied { (s : Followed) → HasApplied self.old.streams.items s self.old.applier → HasApplied self.old.streams.items s self.new.applier }
         ensures order { BeginsWith self.old.applier.order.items self.new.applier.order.items }
         ensures same { IsSame self.old self.new }
         ensures tables { OnErr result (self.new.tables ≡ self.old.tables) }
     {
+        let stood = is_same(self.done, self.applier.order.len());
         match self.applier.follow(alloc, self.streams.as_slice()) {
             Ok(()) => {}
             Err(e) => return Err(e),
         }
+        let mut noted = Vec::new(alloc);
         match redo_from(
             &mut self.store,
             &self.declarations.procs,
             self.streams.as_slice(),
             self.applier.order.as_slice(),
             self.done,
+            &mut noted,
         ) {
             Ok(()) => {}
             Err(e) => return Err(e),
         }
-        match self.store.tables(alloc) {
-            Ok(tables) => {
+        match renew_rows(
+            alloc,
+            &self.store,
+            noted.as_slice(),
+            &mut self.tables,
+            stood,
+        ) {
+            Ok(()) => {
                 self.done = self.applier.order.len();
-                self.tables = tables;
                 Ok(())
             }
             Err(e) => Err(e),
@@ -323,8 +342,20 @@ impl State {
         self.done = 0;
     }
 
-    /// Feeds bytes to a stream: reads, judges, and applies what is ready until nothing is.
-    pub fn feed(
+    /// Feeds bytes to a stream by which its next record is not whole.
+    fn wait(&mut self, stream: u8, bytes: &[u8]) -> Result<(), NoMemory>
+        ensures ok { (format : Format) (n : ℕ) (fed : List (List ℕ)) (s : Followed) → stream < n → IsAt format n fed s self.old → IsShortBy self.old.readers.items stream (length bytes.now) → OnOk result ((t : Followed) × HasFed format (with_piece fed (record { stream = stream; bytes = bytes.now })) s t × IsAt format n (with_piece fed (record { stream = stream; bytes = bytes.now })) t self.new) }
+        ensures err { (format : Format) (n : ℕ) (fed : List (List ℕ)) (s : Followed) → stream < n → IsAt format n fed s self.old → OnErr result (IsAt format n fed s self.new) }
+        ensures tables { self.new.tables ≡ self.old.tables }
+    {
+        match wait_stream(&mut self.readers, stream, bytes) {
+            Ok(()) => Ok(()),
+            Err(e) => Err(e),
+        }
+    }
+
+    /// Feeds bytes to a stream by which its next record may be whole.
+    fn feed_on(
         &mut self,
         alloc: Global,
         format: Format,
@@ -373,6 +404,35 @@ impl State {
                 Err(LogRefusal::NoMemory)
             }
             Err(LogRefusal::Bad(fault)) => Err(LogRefusal::Bad(fault)),
+        }
+    }
+
+    /// Feeds bytes to a stream: reads, judges, and applies what is ready until nothing is.
+    pub fn feed(
+        &mut self,
+        alloc: Global,
+        format: Format,
+        n: u16,
+        stream: u8,
+        bytes: &[u8],
+    ) -> Result<(), LogRefusal>
+        requires low { 1 ≤ n }
+        requires high { n ≤ most_streams format }
+        requires stream { stream < n }
+        ensures ok { (fed : List (List ℕ)) (s : Followed) → IsAt format n fed s self.old → OnOk result ((t : Followed) × HasFed format (with_piece fed (record { stream = stream; bytes = bytes.now })) s t × IsAt format n (with_piece fed (record { stream = stream; bytes = bytes.now })) t self.new) }
+        ensures bad { (fed : List (List ℕ)) (s : Followed) (fault : OneFault) → IsAt format n fed s self.old → result ≡ Err (refusals.Bad fault) → read_now format (with_piece fed (record { stream = stream; bytes = bytes.now })) s.order ≡ Err fault }
+        ensures no_memory { (fed : List (List ℕ)) (s : Followed) → IsAt format n fed s self.old → result ≡ Err refusals.NoMemory → IsAt format n fed s self.new }
+        ensures tables { OnErr result (self.new.tables ≡ self.old.tables) }
+    {
+        if is_short_by(self.readers.as_slice(), stream, bytes.len()) {
+            return match self.wait(stream, bytes) {
+                Ok(()) => Ok(()),
+                Err(_) => Err(LogRefusal::NoMemory),
+            };
+        }
+        match self.feed_on(alloc, format, n, stream, bytes) {
+            Ok(()) => Ok(()),
+            Err(e) => Err(e),
         }
     }
 }

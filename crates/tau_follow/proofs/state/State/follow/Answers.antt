@@ -31,7 +31,7 @@ returns-in-Ok-tables-clause-ok c = λ f n fed s p h.
     let spots = subst (λ (l : List (List Placed)). AreSpots l c.in-Ok-applied.next.applier.order.items t.order) (streams_then f now s t _ third w.1) w.2.spots in
     let lent = subst (λ (l : List Spot). AreSpots c.as_slice-3.result.now l t.order) (sym c.as_slice-4.ensures.value) spots in
     let procs_are : c.in-Ok.declarations.procs ≡ (declared_by d.0).procs = ap (λ (z : Declarations). z.procs) d.2 in
-    let all = c.in-Ok-redo_from.ensures t.order lent before.0 (before.1 ∙ ap (λ ps. redone_of ps (take c.args.self.now.done t.order)) (sym procs_are)) in (
+    let all = c.in-Ok-redo_from.ensures.ok t.order lent before.0 (before.1 ∙ ap (λ ps. redone_of ps (take c.args.self.now.done t.order)) (sym procs_are)) in (
       t,
       w.1,
       record {

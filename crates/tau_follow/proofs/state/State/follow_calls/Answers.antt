@@ -1,5 +1,7 @@
 -- The new records stand, and what is ready is applied; or all stands as before.
-use Rattle.std.proofs.Common.{sym, ap, ◌∙◌, ◌≡◌, ◌++◌, List, length, take, arith}
+use Rattle.tau_model.specs.Tables.{IsTablesOf}
+use Rattle.tau_text.specs.declared.load.Declarations.{Declarations}
+use Rattle.std.proofs.Common.{sym, ap, subst, ◌∙◌, ◌≡◌, ◌++◌, List, length, take, arith}
 use Rattle.std.specs.Prelude.{slice_get}
 use Rattle.tau_record.specs.declared.entry.Placed.{Placed}
 use Rattle.tau_follow_laws.specs.Following.{with_read}
@@ -25,7 +27,8 @@ returns-in-Ok-redo_new-clause-ok c = λ f n fed s p count h on calls.
     let r = some_at c.args.self.now.readers.items c.args.stream (omega (arith, lt, wide, many)) in
     let w = c.in-Ok.ensures.ok r.0 (on.before ++ on.news) (ap (λ (l : List Reader). slice_get l c.args.stream) c.as_slice.ensures.value ∙ r.1) (ap (λ (l : List (List Placed)). slice_get l c.args.stream) c.as_slice-2.ensures.value ∙ there) in
     let begun = begun_on f n fed s p streams h.follower a.fronts c.args.stream count on calls c.args.self.now.applier c.read_calls.new.applier h.stands c.args.self.now.known k.known (on.before ++ on.news) there r.0.last (a.each c.args.stream (on.before ++ on.news) r.0 there r.1).last w c.in-Ok.ensures.order in
-    let redone = c.in-Ok-redo_new.ensures.ok (with_read s streams) begun h.redone.within (h.redone.store ∙ ap (λ d. redone_of d.procs (take c.args.self.now.done s.order)) (sym k.declarations)) in
+    let redone = c.in-Ok-redo_new.ensures.ok (with_read s streams) begun h.redone.within (h.redone.store ∙ ap (λ d. redone_of d.procs (take c.args.self.now.done s.order)) (sym k.declarations))
+    (subst (λ (d : Declarations). IsTablesOf (redone_of d.procs s.order) c.args.self.now.tables) (sym k.declarations) h.redone.tables) in
     let same = c.in-Ok-redo_new.ensures.same in
     at_calls f n fed s p c.args.self.now c.redo_new.new.self c.args.stream count h on calls (record { streams = same.streams; readers = same.readers; known = same.known; declarations = same.declarations }) redone)
 

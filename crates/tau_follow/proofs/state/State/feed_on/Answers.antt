@@ -13,7 +13,7 @@ use Rattle.tau_follow.proofs.Undoing.{same_streams}
 use Rattle.tau_follow.proofs.Waiting.{at_streams}
 use Rattle.tau_follow.proofs.Bytes.{bytes_then}
 use Rattle.tau_follow.proofs.Redoing.{at_undone}
-use Rattle.tau_follow.proofs.state.State.feed.Goals as goal
+use Rattle.tau_follow.proofs.state.State.feed_on.Goals as goal
 
 pub returns-in-Err-NoMemory-clause-no_memory : goal.returns-in-Err-NoMemory-clause-no_memory
 returns-in-Err-NoMemory-clause-no_memory c = λ fed s a e.
