@@ -1,5 +1,5 @@
 -- What a checkpoint and a recovery with one tell, and what they make of the disks of the streams and of the slots.
-use Rattle.std.specs.Prelude.{ℕ, ◌+◌, ◌<◌, ◌≤◌, ◌≡◌, ◌⊎◌, Bool, true, List, [], ◌∷◌, ◌++◌, codes, length, map, take, drop, slice_get, slice_index_or, Option, None, Some, Ok, Err}
+use Rattle.std.specs.Prelude.{ℕ, ◌+◌, ◌<◌, ◌≤◌, ◌≡◌, ◌⊎◌, Bool, true, List, [], ◌∷◌, ◌++◌, codes, length, map, take, drop, slice_get, slice_index_or, Option, None, Ok, Err}
 use Rattle.std.specs.Fmt.{decimal}
 use Rattle.tau_base.specs.declared.limits.TheConstants.{MAX_STREAMS}
 use Rattle.tau_base.specs.declared.value.Key.{Key}

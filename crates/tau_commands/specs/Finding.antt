@@ -4,12 +4,11 @@ use Rattle.std.specs.Prelude.{ℕ, ◌+◌, ◌<◌, ◌≤◌, ◌≡◌, ◌�
 use Rattle.tau_base.specs.declared.limits.TheConstants.{MAX_STREAMS}
 use Rattle.tau_disk.specs.declared.disk.Disk.{Ghosts}
 use Rattle.tau_disk.specs.Disk.{Only, Passes, Rose}
-use Rattle.tau_disk.specs.Plan.{MadeAll, MadeSome}
+use Rattle.tau_disk.specs.Plan.{MadeSome}
 use Rattle.tau_disk.specs.Stages.{OnlySynced}
 use Rattle.tau_disk.specs.Used.{AllCalls, Each, EachUsed, IsClean, IsFirstStopped, OfDisk, OnlyRead, RoseAt}
 use Rattle.tau_scan.specs.declared.fault.ScanRefusal.TheVariants as scans
 use Rattle.tau_scan.specs.declared.fault.LogFault.{LogFault}
-use Rattle.tau_scan.specs.declared.log.Log.{Log}
 use Rattle.tau_scan.specs.Outside.{AreSettled, AreSynced, StopsSettling, calls_to_read}
 use Rattle.tau_scan.specs.Reading.{HasRead, IsLog}
 use Rattle.tau_scan.specs.Taken.{taken}
