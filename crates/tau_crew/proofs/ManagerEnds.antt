@@ -3,6 +3,7 @@ use Rattle.std.proofs.Common.{ℕ, ◌<◌, ◌≡◌, Bool, false, List, [], le
 use Rattle.std.specs.Prelude.{◌%◌}
 use Rattle.tau_base.specs.declared.format.Format.{Format}
 use Rattle.tau_base.specs.Modes.{format_of}
+use Rattle.tau_base.proofs.Logic.{some_is}
 use Rattle.tau_disk.specs.declared.disk.Disk.{Ghosts}
 use Rattle.tau_stream.specs.declared.writer.Writer.{Writer}
 use Rattle.tau_stream.specs.Writer.{disk_of, durable_of, has_failed, IsReady}
@@ -17,13 +18,13 @@ use Rattle.tau_desk.specs.Manages.{managed_in}
 use Rattle.tau_desk.specs.Seats.{Manages, PlainManagerSeat}
 use Rattle.tau_crew_facts.specs.Closing.{EndsBy, ManagerApart, ManagerDone, ManagerKnows}
 use Rattle.tau_crew_facts.specs.Spacing.{IsSpacing, newest}
-use Rattle.tau_crew_facts.specs.Writers.{HasLong, HasWritten, IsManaging, OnlyNow, SeenNow}
+use Rattle.tau_crew_facts.specs.Writers.{CountsNow, HasWritten, IsManaging, OnlyNow, SeenNow}
 use Rattle.tau_crew_facts.proofs.ManagerWriter.{begins, entry_moves, stored_kept}
 use Rattle.tau_crew_facts.proofs.Spacing.{spacing_begins}
 use Rattle.tau_crew.specs.Gathering.{AreLong, raised_in, taken_in}
 use Rattle.tau_crew.specs.declared.manager.ManagerJob.{ManagerJob}
 use Rattle.tau_crew.specs.Driving.{IsDriven, IsManagerAt, own_of}
-use Rattle.tau_crew.specs.Jobs.{IsManagerJob, KeepsManager}
+use Rattle.tau_crew.specs.Jobs.{IsDurableSince, IsManagerJob, KeepsManager}
 use Rattle.tau_crew.proofs.Driving.{left_long, short_of}
 use Rattle.tau_crew.proofs.Gathering.{managed_anchors, managed_gathered, managed_own}
 
@@ -68,13 +69,22 @@ enters_again {D} {G} format n j base w0 job m enough works =
     record { wrote = short_of format n j base w s w again; driven = λ e. again; flushed = m.flushed; apart = m.apart }
 
 -- and what was stored there stays stored
-pub stays_stored : {D : Type 0} {G : Ghosts D} (only_now : OnlyNow G) (format : Format) (n j : ℕ) (base : List ℕ) (w0 : Writer D G) (job job' : ManagerJob D G) → IsManagerJob format n j base w0 job → job.short ≡ false → has_failed job.writer ≡ false → KeepsManager job job' → G.tells →
-    (slice_index job.seat.seen j ≡ durable_of job.writer) × ((x : List ℕ) → G.may_leave_since (disk_of job'.writer) (G.moment (disk_of job.writer)) x → HasLong format n j (durable_of job.writer) x)
-stays_stored only_now format n j base w0 job job' m enough works keeps t =
+pub stays_stored : {D : Type 0} {G : Ghosts D} (counts_now : CountsNow G) (only_now : OnlyNow G) (format : Format) (n j : ℕ) (base : List ℕ) (w0 : Writer D G) (job job' : ManagerJob D G) → IsManagerJob format n j base w0 job → job.short ≡ false → has_failed job.writer ≡ false → KeepsManager job job' → G.tells →
+    (slice_index job.seat.seen j ≡ durable_of job.writer) × IsDurableSince G format n j (disk_of job'.writer) (G.moment (disk_of job.writer)) (durable_of job.writer)
+stays_stored {D} {G} counts_now only_now format n j base w0 job job' m enough works keeps t =
     let d = m.driven enough in
-    let later = keeps format n j base job.writer (enters_again format n j base w0 job m enough works) in (
+    let later = keeps format n j base job.writer (enters_again format n j base w0 job m enough works) in
+    let disk : D = disk_of job.writer in
+    let now = d.managing.managed.reached t in (
       d.stored,
-      λ x since. stored_kept format n j base only_now (taken_in job.seat) (taken_in job'.seat) (slice_index job'.seat.seen j) w0 job.writer job'.writer d.managing.managed later.wrote.written t x since,
+      record {
+        long = λ x since. stored_kept format n j base only_now (taken_in job.seat) (taken_in job'.seat) (slice_index job'.seat.seen j) w0 job.writer job'.writer d.managing.managed later.wrote.written t x since;
+        no_more = (
+          now.0,
+          (later.wrote.written.before t).kept (G.moment disk) now.0 (omega arith) (counts_now disk (G.moment disk) now.0 (omega arith) now.2),
+          λ more has. (let same = ap (length {A = ℕ}) (some_is has.0 now.1 (sym has.1 ∙ now.3)) in let upto = now.4 in let low = has.2 in omega (arith, same, upto, low)),
+        );
+      },
     )
 
 module _ {D : Type 0} {G : Ghosts D} (l : Load) (v : List ℕ) (j : ℕ) (base : List ℕ) (s : PlainManagerSeat) (w0 w : Writer D G) (last placed : ℕ) (short : Bool) (m : IsManagerAt (format_of l.mode) l.streams j base w0 s w last placed short) (manages : Manages s) (now : slice_index v j ≡ slice_index s.seen j) where

@@ -1,5 +1,5 @@
 -- What the threads of a run keep.
-use Rattle.std.specs.Prelude.{ℕ, ◌≡◌, false, List, slice_index}
+use Rattle.std.specs.Prelude.{ℕ, ◌≤◌, ◌≡◌, false, List, slice_index}
 use Rattle.tau_base.specs.declared.format.Format.{Format}
 use Rattle.tau_disk.specs.declared.disk.Disk.{Ghosts}
 use Rattle.tau_stream.specs.declared.writer.Writer.{Writer}
@@ -36,8 +36,13 @@ module _ {D : Type 0} {G : Ghosts D} where
 abbrev pub TurnsAreEntries : {D : Type 0} → Ghosts D → Type 0
 TurnsAreEntries {D} G = (format : Format) (n j : ℕ) (base : List ℕ) (w0 : Writer D G) (job : ManagerJob D G) → IsManagerJob format n j base w0 job → job.short ≡ false → has_failed job.writer ≡ false → IsManagerJob format n j base job.writer job
 
--- So what is stored stays stored: whatever a manager does from the head of a turn on, of which it keeps what its loop keeps, every
--- image of its disk since then has at least what was durable then, which is what it had stored.
+-- Since this moment every image of the disk has at least so much content, and some image no more: at that moment just so much was durable.
+pub record IsDurableSince {D : Type 0} (G : Ghosts D) (format : Format) (n j : ℕ) (d : D) (moment upto : ℕ) : Type 0 where
+  pub long : (x : List ℕ) → G.may_leave_since d moment x → HasLong format n j upto x
+  pub no_more : (x : List ℕ) × G.may_leave_since d moment x × ((more : ℕ) → HasLong format n j more x → more ≤ upto)
+
+-- So what is stored stays stored: whatever a manager does from the head of a turn on, of which it keeps what its loop keeps, what was
+-- durable then, which is what it had stored, is durable since that moment.
 abbrev pub StoredStays : {D : Type 0} → Ghosts D → Type 0
 StoredStays {D} G = (format : Format) (n j : ℕ) (base : List ℕ) (w0 : Writer D G) (job job' : ManagerJob D G) → IsManagerJob format n j base w0 job → job.short ≡ false → has_failed job.writer ≡ false → KeepsManager job job' → G.tells →
-    (slice_index job.seat.seen j ≡ durable_of job.writer) × ((x : List ℕ) → G.may_leave_since (disk_of job'.writer) (G.moment (disk_of job.writer)) x → HasLong format n j (durable_of job.writer) x)
+    (slice_index job.seat.seen j ≡ durable_of job.writer) × IsDurableSince G format n j (disk_of job'.writer) (G.moment (disk_of job.writer)) (durable_of job.writer)
