@@ -1,24 +1,26 @@
 -- A manager looks, removes entries and places anchors.
 use Rattle.std.proofs.Common.{ℕ, zero, suc, ◌+◌, ◌<◌, ◌≤◌, ◌≡◌, List, [], ◌∷◌, ◌++◌, length, refl, sym, ap, subst, ◌∙◌, arith, length-append, slice_index}
-use Rattle.std.specs.Prelude.{Err, Ok, OnErr, OnOk, Result, slice_set}
-use Rattle.std.proofs.lemmas.List.{map-append}
+use Rattle.std.specs.Prelude.{Err, Ok, OnErr, OnOk, Option, Result, Some, slice_set}
+use Rattle.std.proofs.lemmas.List.{length-map, map-append}
 use Rattle.tau_base.specs.declared.format.Format.{Format}
 use Rattle.tau_base.specs.declared.value.NoMemory.{NoMemory}
 use Rattle.tau_base.specs.Modes.{format_of}
 use Rattle.tau_record.specs.declared.entry.Entry.TheVariants as entry
 use Rattle.tau_record.proofs.ContentLaws.{spelling_long}
 use Rattle.tau_outbox.specs.declared.Piece.{Piece}
+use Rattle.tau_core.specs.State.{Plain}
 use Rattle.tau_core.specs.declared.state.Load.{Load}
+use Rattle.tau_desk.specs.declared.desk.Desk.{Desk}
 use Rattle.tau_desk.specs.Manages.{OnlyRoom, PlacesAnchor, told_raised}
 use Rattle.tau_desk.specs.Seats.{PlainManagerSeat}
 use Rattle.tau_crew_facts.specs.Spacing.{IsSpacing, newest}
 use Rattle.tau_crew_facts.specs.Writers.{HasWritten}
-use Rattle.tau_crew_facts.proofs.Spacing.{newest_more, spacing_places}
+use Rattle.tau_crew_facts.proofs.Spacing.{newest_more, spacing_places, spacing_stays}
 use Rattle.tau_crew.specs.Gathering.{AreLong, raised_in, taken_in}
 use Rattle.tau_disk.specs.declared.disk.Disk.{Ghosts}
 use Rattle.tau_stream.specs.declared.writer.Writer.{Writer}
-use Rattle.tau_base.specs.declared.limits.TheConstants.{ANCHOR_BYTES}
-use Rattle.tau_crew.specs.Driving.{IsApart, IsBlock, IsDriven, IsDrivenShort, KeepsSeat, own_of}
+use Rattle.tau_base.specs.declared.limits.TheConstants.{ANCHOR_BYTES, MAX_ANCHORS}
+use Rattle.tau_crew.specs.Driving.{IsApart, IsBlock, IsDriven, IsDrivenShort, KeepsSeat, anchors_in, before_of, own_of}
 use Rattle.tau_crew.proofs.Driving.{driven_same}
 use Rattle.tau_crew.proofs.Gathering.{long_append}
 
@@ -79,15 +81,47 @@ pub keeps_anchored : (l : Load) (s1 s2 s3 : PlainManagerSeat) (r : Result Unit N
 keeps_anchored l s1 s2 s3 (Ok u) k ok err = keeps_on s1 s2 s3 k (keeps_placed l s2 s3 ok)
 keeps_anchored l s1 s2 s3 (Err e) k ok err = keeps_on s1 s2 s3 k (keeps_same s2 s3 err)
 
+-- what the desk of a seat says of its stream
+pub before_is : (desk : Desk) (s : PlainManagerSeat) (j : ℕ) → s.me.0.opened ≡ Some desk.table.shared.key.value → s.stream ≡ j → before_of s ≡ slice_index desk.load.opening.anchors.items j
+before_is desk s j opened stream =
+    ap (λ (o : Option Plain). anchors_in o s.stream) opened ∙ ap (slice_index desk.table.shared.key.value.load.opening.anchors.items) stream ∙ sym (ap (λ (l : Load). slice_index l.opening.anchors.items j) desk.same_load)
+
+-- the stream had as many anchors before
+before_same : (s s' : PlainManagerSeat) → s'.stream ≡ s.stream → s'.me.0.opened ≡ s.me.0.opened → before_of s' ≡ before_of s
+before_same s s' stream opened = ap (anchors_in s'.me.0.opened) stream ∙ ap (λ (o : Option Plain). anchors_in o s.stream) opened
+
+-- a step that places no anchor and stores nothing
+pub apart_same : (base durable last placed : ℕ) (s s' : PlainManagerSeat) → IsApart base durable last placed s → s'.stream ≡ s.stream → s'.me.0.opened ≡ s.me.0.opened → s'.stock.anchors ≡ s.stock.anchors → IsApart base durable last placed s'
+apart_same base durable last placed s s' a stream opened anchors =
+    let same : own_of s'.stream s'.stock.anchors ≡ own_of s.stream s.stock.anchors = ap (λ (j : ℕ). own_of j s'.stock.anchors) stream ∙ ap (own_of s.stream) anchors in
+    record {
+      spacing = subst (λ (k : ℕ). IsSpacing k base durable (own_of s'.stream s'.stock.anchors)) (sym (before_same s s' stream opened)) (subst (λ (xs : List ℕ). IsSpacing (before_of s) base durable xs) (sym same) a.spacing);
+      last_is = a.last_is ∙ ap (newest base) (sym same);
+      placed_is = a.placed_is ∙ ap (length {A = List ℕ}) (sym anchors);
+    }
+
+-- after a flush none is due, or none can be placed
+pub apart_stays : (base before durable last placed : ℕ) (s s' : PlainManagerSeat) → IsApart base before last placed s → before ≤ durable → (before_of s + placed < MAX_ANCHORS → durable < last + ANCHOR_BYTES) → s'.stream ≡ s.stream → s'.me.0.opened ≡ s.me.0.opened → s'.stock.anchors ≡ s.stock.anchors →
+    IsApart base durable last placed s'
+apart_stays base before durable last placed s s' a later near stream opened anchors =
+    let xs : List ℕ = own_of s.stream s.stock.anchors in
+    let long : length xs ≡ placed = length-map s.stock.anchors (λ (p : List ℕ). slice_index p s.stream) ∙ sym a.placed_is in
+    let spacing : IsSpacing (before_of s) base durable xs =
+    spacing_stays (before_of s) base before durable xs a.spacing later (λ few. (let lt = near (omega (arith, few, long)) in let e = a.last_is in omega (arith, lt, e))) in
+    apart_same base durable last placed s s' (record { spacing = spacing; last_is = a.last_is; placed_is = a.placed_is }) stream opened anchors
+
 -- one is placed, whose own component is what is durable now
-pub apart_places : (base before durable last placed : ℕ) (s s' : PlainManagerSeat) (v : List ℕ) → IsApart base before last placed s → IsBlock before durable → last + ANCHOR_BYTES ≤ durable → s'.stream ≡ s.stream → s'.stock.anchors ≡ s.stock.anchors ++ v ∷ [] → slice_index v s.stream ≡ durable →
-    IsApart base durable durable (placed + 1) s'
-apart_places base before durable last placed s s' v a block due stream anchors own =
+pub apart_places : (base before durable last placed : ℕ) (s s' : PlainManagerSeat) (v : List ℕ) → IsApart base before last placed s → IsBlock before durable → before_of s + placed < MAX_ANCHORS → last + ANCHOR_BYTES ≤ durable → s'.stream ≡ s.stream → s'.me.0.opened ≡ s.me.0.opened →
+    s'.stock.anchors ≡ s.stock.anchors ++ v ∷ [] → slice_index v s.stream ≡ durable → IsApart base durable durable (placed + 1) s'
+apart_places base before durable last placed s s' v a block few due stream opened anchors own =
     let xs : List ℕ = own_of s.stream s.stock.anchors in
     let all : own_of s'.stream s'.stock.anchors ≡ xs ++ durable ∷ [] =
     ap (λ (j : ℕ). own_of j s'.stock.anchors) stream ∙ ap (own_of s.stream) anchors ∙ map-append (λ (p : List ℕ). slice_index p s.stream) s.stock.anchors (v ∷ []) ∙ ap (λ (k : ℕ). own_of s.stream s.stock.anchors ++ k ∷ []) own in
+    let long : length xs ≡ placed = length-map s.stock.anchors (λ (p : List ℕ). slice_index p s.stream) ∙ sym a.placed_is in
+    let spacing : IsSpacing (before_of s) base durable (xs ++ durable ∷ []) =
+    spacing_places (before_of s) base before durable xs a.spacing (omega (arith, few, long)) block.1 (let e = a.last_is in omega (arith, due, e)) in
     record {
-      spacing = subst (λ (ys : List ℕ). IsSpacing base durable ys) (sym all) (spacing_places base before durable xs a.spacing block.1 (let e = a.last_is in omega (arith, due, e)));
+      spacing = subst (λ (k : ℕ). IsSpacing k base durable (own_of s'.stream s'.stock.anchors)) (sym (before_same s s' stream opened)) (subst (λ (ys : List ℕ). IsSpacing (before_of s) base durable ys) (sym all) spacing);
       last_is = sym (ap (newest base) all ∙ newest_more base durable xs);
       placed_is = (let e = ap (length {A = List ℕ}) anchors in let f = length-append s.stock.anchors (v ∷ []) in let d = a.placed_is in omega (arith, e, f, d));
     }
@@ -96,16 +130,6 @@ apart_places base before durable last placed s s' v a block due stream anchors o
 pub driven_keeps : {D : Type 0} {G : Ghosts D} (format : Format) (n j : ℕ) (base : List ℕ) (w0 : Writer D G) (s s' : PlainManagerSeat) (w : Writer D G) → IsDriven format n j base w0 s w → KeepsSeat s s' → IsDriven format n j base w0 s' w
 driven_keeps format n j base w0 s s' w d k =
     driven_same format n j base w0 s s' w d k.stream k.taken (subst (λ (i : ℕ). slice_index s'.seen i ≡ slice_index s.seen i) d.stream k.stored) k.gathered (k.long d.long) k.raised
-
--- a step that places no anchor and stores nothing
-pub apart_same : (base durable last placed : ℕ) (s s' : PlainManagerSeat) → IsApart base durable last placed s → s'.stream ≡ s.stream → s'.stock.anchors ≡ s.stock.anchors → IsApart base durable last placed s'
-apart_same base durable last placed s s' a stream anchors =
-    let same : own_of s'.stream s'.stock.anchors ≡ own_of s.stream s.stock.anchors = ap (λ (j : ℕ). own_of j s'.stock.anchors) stream ∙ ap (own_of s.stream) anchors in
-    record {
-      spacing = subst (λ (xs : List ℕ). IsSpacing base durable xs) (sym same) a.spacing;
-      last_is = a.last_is ∙ ap (newest base) (sym same);
-      placed_is = a.placed_is ∙ ap (length {A = List ℕ}) (sym anchors);
-    }
 
 -- the stop was raised
 pub short_stopped : {D : Type 0} {G : Ghosts D} (format : Format) (n j : ℕ) (base : List ℕ) (w0 : Writer D G) (s s' : PlainManagerSeat) (w : Writer D G) → IsDrivenShort format n j base w0 s w → s' ≡ record s { me = (told_raised s.me.0, s.me.1) } → IsDrivenShort format n j base w0 s' w

@@ -28,7 +28,7 @@ use Rattle.tau_crew_facts.proofs.Closing.{thread_apart, thread_done}
 use Rattle.tau_crew.specs.declared.clerk.ClerkJob.{ClerkJob}
 use Rattle.tau_crew.specs.declared.manager.ManagerJob.{ManagerJob}
 use Rattle.tau_crew.specs.Clerking.{all_told}
-use Rattle.tau_crew.specs.Driving.{own_of}
+use Rattle.tau_crew.specs.Driving.{anchors_in, own_of}
 use Rattle.tau_crew.specs.Ending.{role_back, worker_back}
 use Rattle.tau_crew.specs.EndCloses.{IsAllBack, acked_back, managed_back}
 use Rattle.tau_crew.specs.EndDone.{ClosesDone, IsDone, NoneShort, durable_in, durables}
@@ -85,7 +85,7 @@ module _ {D : Type 0} {G : Ghosts D} (first : Plain) (table : TableId) (bases : 
       subst (λ (a : List (List Ticket)). ClerkDone h.me.0.seen (worker_back h w) (slice_index_or a w [])) (sym (acked_is first table bases ws h jobs telling b d))
       (subst (λ (v : List ℕ). ClerkDone v (worker_back h w) (slice_index_or (acked_in telling.seat.me.0) w [])) (sym seen_durables) (q.clerk w lt))
 
-  apart_at : NoneShort jobs → (j : ℕ) → j < first.load.streams → ManagerApart h.me.0.seen j (bases j) (managed_back first h j)
+  apart_at : NoneShort jobs → (j : ℕ) → j < first.load.streams → ManagerApart first.load h.me.0.seen j (bases j) (managed_back first h j)
   apart_at memory j lt =
       let (job, at) = job_at first table bases ws h jobs telling b d j lt in
       let (w, is) = writer_at j lt in
@@ -96,9 +96,12 @@ module _ {D : Type 0} {G : Ghosts D} (first : Plain) (table : TableId) (bases : 
       let role : role_back h (manager_role first.load j) ≡ has_stock.role = ap role_or has_stock.is in
       let managed : managed_back first h j ≡ has_stock.stock.managed = ap (λ (r : Role). managed_in_share r.share) role ∙ ap managed_in_share has_stock.stock.share in
       let anchors : (managed_back first h j).anchors ≡ job.seat.stock.anchors = ap (λ (x : Managed). x.anchors) managed ∙ has_stock.stock.anchors in
-      subst (λ (vs : List (List ℕ)). IsSpacing (length (bases j)) (slice_index h.me.0.seen j) (own_of j vs)) (sym anchors)
-      (subst (λ (n : ℕ). IsSpacing (length (bases j)) n (own_of j job.seat.stock.anchors)) (sym (seen_at j job at))
-      (subst (λ (i : ℕ). IsSpacing (length (bases j)) (durable_of job.writer) (own_of i job.seat.stock.anchors)) back.at apart.spacing))
+      let before : ℕ = slice_index first.load.opening.anchors.items j in
+      let spacing : IsSpacing before (length (bases j)) (durable_of job.writer) (own_of j job.seat.stock.anchors) =
+      subst (λ (i : ℕ). IsSpacing (slice_index first.load.opening.anchors.items i) (length (bases j)) (durable_of job.writer) (own_of i job.seat.stock.anchors)) back.at
+      (subst (λ (o : Option Plain). IsSpacing (anchors_in o job.seat.stream) (length (bases j)) (durable_of job.writer) (own_of job.seat.stream job.seat.stock.anchors)) back.opened apart.spacing) in
+      subst (λ (vs : List (List ℕ)). IsSpacing before (length (bases j)) (slice_index h.me.0.seen j) (own_of j vs)) (sym anchors)
+      (subst (λ (n : ℕ). IsSpacing before (length (bases j)) n (own_of j job.seat.stock.anchors)) (sym (seen_at j job at)) spacing)
 
   pub closes_done : (result : Plain) → desk.IsClosing first h.me.0 result → ClosesDone first bases ws (map writer_in jobs) h jobs telling result
   closes_done result k = record {
@@ -106,7 +109,7 @@ module _ {D : Type 0} {G : Ghosts D} (first : Plain) (table : TableId) (bases : 
     done = λ q. subst (λ (s : Core). IsThreadDone first.load s (map writer_in jobs)) (sym (closes_state first table bases ws h jobs telling b d result k))
         (thread_done first h.me.0 (worker_back h) (managed_back first h) (acked_back first h) k.state (closing first table bases ws h jobs telling b d result k) bases ws (map writer_in jobs) (all_told telling.told) b.managers.writers (λ w lt. (b.head.workers w lt).loose)
         (knows first table bases ws h jobs telling b d) (telling_back first table bases ws h jobs telling b d) (λ w lt. record { rests = (q.workers w lt).rests; kept = (q.workers w lt).kept }) (done_manager q) (done_clerk q) (λ works. nothing_left first table bases ws h jobs telling b d result k q.memory q.workers (b.clerk.clerk.raised q.telling_memory) works q.left));
-    apart = λ memory. subst (λ (s : Core). AreApart bases first.load.streams s) (sym (closes_state first table bases ws h jobs telling b d result k))
+    apart = λ memory. subst (λ (s : Core). AreApart bases first.load s) (sym (closes_state first table bases ws h jobs telling b d result k))
         (thread_apart first h.me.0 (worker_back h) (managed_back first h) (acked_back first h) k.state (closing first table bases ws h jobs telling b d result k) bases ws (map writer_in jobs) (all_told telling.told) b.managers.writers (λ w lt. (b.head.workers w lt).loose)
         (knows first table bases ws h jobs telling b d) (telling_back first table bases ws h jobs telling b d) (apart_at memory));
   }

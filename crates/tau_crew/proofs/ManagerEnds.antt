@@ -16,17 +16,17 @@ use Rattle.tau_core.specs.declared.state.Load.{Load}
 use Rattle.tau_run.specs.Writers.{IsNew}
 use Rattle.tau_desk.specs.Manages.{managed_in}
 use Rattle.tau_desk.specs.Seats.{Manages, PlainManagerSeat}
-use Rattle.tau_crew_facts.specs.Closing.{EndsBy, ManagerApart, ManagerDone, ManagerKnows}
+use Rattle.tau_crew_facts.specs.Closing.{EndsBy, ManagerDone, ManagerKnows}
 use Rattle.tau_crew_facts.specs.Spacing.{IsSpacing, newest}
 use Rattle.tau_crew_facts.specs.Writers.{CountsNow, HasWritten, IsManaging, OnlyNow, SeenNow}
 use Rattle.tau_crew_facts.proofs.ManagerWriter.{begins, entry_moves, stored_kept}
 use Rattle.tau_crew_facts.proofs.Spacing.{spacing_begins}
 use Rattle.tau_crew.specs.Gathering.{AreLong, raised_in, taken_in}
 use Rattle.tau_crew.specs.declared.manager.ManagerJob.{ManagerJob}
-use Rattle.tau_crew.specs.Driving.{IsDriven, IsManagerAt, own_of}
+use Rattle.tau_crew.specs.Driving.{IsDriven, IsManagerAt, before_of, own_of}
 use Rattle.tau_crew.specs.Jobs.{IsDurableSince, IsManagerJob, KeepsManager}
 use Rattle.tau_crew.proofs.Driving.{left_long, short_of}
-use Rattle.tau_crew.proofs.Gathering.{managed_anchors, managed_gathered, managed_own}
+use Rattle.tau_crew.proofs.Gathering.{managed_gathered, managed_own}
 
 -- a manager that has done nothing, with a writer that was just opened
 pub manager_begins : {D : Type 0} {G : Ghosts D} → SeenNow G → (format : Format) (n j : ℕ) (base : List ℕ) (s : PlainManagerSeat) (w : Writer D G) → IsNew format n j base w → s.stream ≡ j → taken_in s ≡ [] → slice_index s.seen j ≡ length base → s.stock.gathered ≡ length base → s.stock.anchors ≡ [] → s.stock.own.pieces ≡ [] →
@@ -46,7 +46,7 @@ manager_begins seen_now format n j base s w new stream taken seen gathered ancho
       driven = λ e. driven;
       flushed = λ e f. new.left;
       apart = λ e. record {
-        spacing = subst (λ (xs : List ℕ). IsSpacing (length base) (durable_of w) xs) (sym none) (subst (λ (d : ℕ). IsSpacing (length base) d []) (sym new.durable) (spacing_begins (length base)));
+        spacing = subst (λ (xs : List ℕ). IsSpacing (before_of s) (length base) (durable_of w) xs) (sym none) (subst (λ (d : ℕ). IsSpacing (before_of s) (length base) d []) (sym new.durable) (spacing_begins (before_of s) (length base)));
         last_is = sym (ap (newest (length base)) none);
         placed_is = sym (ap (length {A = List ℕ}) anchors);
       };
@@ -94,14 +94,7 @@ module _ {D : Type 0} {G : Ghosts D} (l : Load) (v : List ℕ) (j : ℕ) (base :
 
   -- where memory was there
   module _ (enough : short ≡ false) where
-    pub manager_apart : ManagerApart v j base (managed_in s.me.0)
-    manager_apart =
-        let a = m.apart enough in
-        let stored : slice_index v j ≡ durable_of w = now ∙ (m.driven enough).stored in
-        let anchors : own_of s.stream s.stock.anchors ≡ own_of j (managed_in s.me.0).anchors = ap (λ (i : ℕ). own_of i s.stock.anchors) m.wrote.stream ∙ ap (own_of j) (sym (managed_anchors s manages)) in
-        subst (λ (d : ℕ). IsSpacing (length base) d (own_of j (managed_in s.me.0).anchors)) (sym stored) (subst (λ (xs : List ℕ). IsSpacing (length base) (durable_of w) xs) anchors a.spacing)
-
-    -- and where its disk works, it has no anchor that waits, and the records of the workers end within what it gathered
+    -- if its disk works, it has no anchor that waits, and the records of the workers end within what it gathered
     pub manager_done : has_failed w ≡ false → s.stock.own.pieces ≡ [] → (workers : ℕ → Worker) → ((u : ℕ) (call : Committed) → u < l.workers → u % l.streams ≡ j → Member call (workers u).committed → EndsBy s.stock.gathered call.spot) → ManagerDone l v workers j (managed_in s.me.0)
     manager_done works own workers placed_by =
         let d = m.driven enough in

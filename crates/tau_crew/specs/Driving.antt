@@ -1,11 +1,12 @@
 -- A manager with its writer: what its loop keeps.
-use Rattle.std.specs.Prelude.{ℕ, ◌+◌, ◌≤◌, ◌≡◌, Bool, false, List, [], length, map, slice_index}
+use Rattle.std.specs.Prelude.{ℕ, ◌+◌, ◌≤◌, ◌≡◌, Bool, false, Option, Some, None, List, [], length, map, slice_index}
 use Rattle.tau_base.specs.declared.format.Format.{Format}
 use Rattle.tau_base.specs.declared.limits.TheConstants.{MAX_BODY}
 use Rattle.tau_disk.specs.declared.disk.Disk.{Ghosts}
 use Rattle.tau_stream.specs.declared.writer.Writer.{Writer}
 use Rattle.tau_stream.specs.Writer.{durable_of, has_failed, left_of}
 use Rattle.tau_outbox.specs.Pieces.{bytes_of}
+use Rattle.tau_core.specs.State.{Plain}
 use Rattle.tau_desk.specs.Seats.{PlainManagerSeat}
 use Rattle.tau_crew_facts.specs.Spacing.{IsSpacing, newest}
 use Rattle.tau_crew_facts.specs.Writers.{HasWritten, IsManaging}
@@ -14,6 +15,15 @@ use Rattle.tau_crew.specs.Gathering.{AreLong, raised_in, taken_in}
 -- the own components of the anchors that the manager of a stream has placed
 abbrev pub own_of : ℕ → List (List ℕ) → List ℕ
 own_of j anchors = map (λ (v : List ℕ). slice_index v j) anchors
+
+-- how many anchors stream j had in the core with which a desk was opened
+abbrev pub anchors_in : Option Plain → ℕ → ℕ
+anchors_in None j = 0
+anchors_in (Some first) j = slice_index first.load.opening.anchors.items j
+
+-- how many anchors the stream of a manager had before it placed any
+abbrev pub before_of : PlainManagerSeat → ℕ
+before_of s = anchors_in s.me.0.opened s.stream
 
 module _ {D : Type 0} {G : Ghosts D} where
   -- The seat of the manager of stream j of n with its writer, which was w0 at the entry: the writer has what the view has gathered, and what was
@@ -67,7 +77,7 @@ pub record KeepsSeat (s s' : PlainManagerSeat) : Type 0 where
 
 -- So many anchors were placed, in their distance up to there; the newest one, or the opening's end, is `last`.
 pub record IsApart (base durable last placed : ℕ) (s : PlainManagerSeat) : Type 0 where
-  pub spacing : IsSpacing base durable (own_of s.stream s.stock.anchors)
+  pub spacing : IsSpacing (before_of s) base durable (own_of s.stream s.stock.anchors)
   pub last_is : last ≡ newest base (own_of s.stream s.stock.anchors)
   pub placed_is : placed ≡ length s.stock.anchors
 

@@ -39,4 +39,4 @@ module _ {D : Type 0} {G : Ghosts D} where
   pub record ClosesDone (first : Plain) (bases : ℕ → List ℕ) (ws ws' : List (Writer D G)) (h : PlainHead) (jobs : List (ManagerJob D G)) (telling : ClerkJob) (result : Plain) : Type 0 where
     pub run : ClosesRun first bases ws ws' telling result
     pub done : IsDone first h jobs telling → IsThreadDone first.load run.state ws'
-    pub apart : NoneShort jobs → AreApart bases first.load.streams run.state
+    pub apart : NoneShort jobs → AreApart bases first.load run.state

@@ -1,5 +1,5 @@
 //! A manager places anchors, and removes entries that are not needed any more.
-ghost use Rattle.std.specs.Prelude.{◌≡◌, ◌+◌, ◌^◌, ◌<◌, ◌≤◌, ◌++◌, ◌∷◌, [], Some, ℕ, OnOk, length, slice_index};
+ghost use Rattle.std.specs.Prelude.{◌≡◌, ◌+◌, ◌<◌, ◌≤◌, ◌++◌, ◌∷◌, [], Some, ℕ, OnOk, false, length, slice_index, true};
 ghost use Rattle.tau_crew.specs.Driving.{IsApart, IsBlock, KeepsSeat};
 
 use std::sync::Wait;
@@ -67,35 +67,33 @@ fn sweep<R: Wait>(rt: &R, desk: &Desk, seat: &mut ManagerSeat, stream: u8)
     }
 }
 
-/// Places and publishes an anchor that holds the positions which the manager has seen persisted, where so many were placed.
-fn anchor<R: Wait>(
-    rt: &R,
-    desk: &Desk,
-    seat: &mut ManagerSeat,
-    stream: u8,
-    placed: u32,
-) -> Result<(), NoMemory>
+/// Whether a stream has all the anchors that it may have, when so many were placed in it since the opening.
+fn is_full(desk: &Desk, stream: u8, placed: u32) -> bool
+    requires there { stream < length desk.now.load.opening.anchors.items }
+    ensures full { result ≡ true → MAX_ANCHORS ≤ slice_index desk.now.load.opening.anchors.items stream + placed }
+    ensures room { result ≡ false → slice_index desk.now.load.opening.anchors.items stream + placed < MAX_ANCHORS }
+{
+    let before = desk.load.opening.anchors.as_slice()[stream as usize];
+    u64::from(before) + u64::from(placed) >= MAX_ANCHORS
+}
+
+/// Places and publishes an anchor that holds the positions which the manager has seen persisted.
+fn anchor<R: Wait>(rt: &R, desk: &Desk, seat: &mut ManagerSeat) -> Result<(), NoMemory>
     requires own { seat.old.table_id ≡ desk.now.table.shared.table_id }
     requires opened { seat.old.me.0.opened ≡ Some desk.now.table.shared.key.value }
-    requires stream { seat.old.stream ≡ stream }
-    requires placed { placed ≡ length seat.old.stock.anchors }
-    requires there { stream < length desk.now.load.opening.anchors.items }
+    requires few { slice_index desk.now.table.shared.key.value.load.opening.anchors.items seat.old.stream + length seat.old.stock.anchors < MAX_ANCHORS }
     ensures keeps { KeepsSeat seat.old seat.new }
     ensures more { OnOk result (seat.new.stock.anchors ≡ seat.old.stock.anchors ++ seat.old.seen ∷ []) }
-    ensures room { OnOk result (placed < MAX_ANCHORS) }
 {
     seat.agrees();
-    let before = desk.load.opening.anchors.as_slice()[stream as usize];
-    if u64::from(before) + u64::from(placed) >= MAX_ANCHORS {
-        return Err(NoMemory);
-    }
     seat.reserve()?;
     seat.place_anchor(rt, desk)?;
     seat.publish(rt, desk);
     Ok(())
 }
 
-/// What follows a flush, up to which the stream is persisted: entries that are covered go, and an anchor is placed if one is due.
+/// What follows a flush, up to which the stream is persisted: entries that are covered go, and an anchor is placed if one is due,
+/// unless the stream has all that it may have.
 pub(crate) fn follow<R: Wait>(
     rt: &R,
     desk: &Desk,
@@ -119,7 +117,10 @@ pub(crate) fn follow<R: Wait>(
     if durable - marks.last < ANCHOR_BYTES {
         return Ok(());
     }
-    anchor(rt, desk, seat, stream, marks.placed)?;
+    if is_full(desk, stream, marks.placed) {
+        return Ok(());
+    }
+    anchor(rt, desk, seat)?;
     marks.last = durable;
     marks.placed += 1;
     Ok(())

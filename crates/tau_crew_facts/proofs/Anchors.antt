@@ -68,7 +68,7 @@ module _ (n m : ℕ) (mode : LogMode) (load : Workload) (l : Load) (K : List (Ac
       ap (length {A = ℕ}) g.is ∙ length-append (opened_at load run.start j) g.bytes ∙ spelled_long l (λ i. (s.streams i).anchors) (length (opened_at load run.start j)) (slice_index s.ends j) items g.bytes g.spelled chain
 
   -- where all is persisted, and the manager kept its distance
-  pub anchors_spaced : slice_index s.plv j ≡ slice_index s.ends j → IsSpacing (length base) (slice_index s.plv j) (map (λ (v : List ℕ). slice_index v j) (s.streams j).anchors) →
+  pub anchors_spaced : slice_index s.plv j ≡ slice_index s.ends j → IsSpacing (length (anchors_of olds)) (length base) (slice_index s.plv j) (map (λ (v : List ℕ). slice_index v j) (s.streams j).anchors) →
       AreSpaced (format_of l.mode) n j (length (anchors_of olds)) (length base) content
   anchors_spaced flushed k =
       let r = anchors_read in
@@ -78,5 +78,7 @@ module _ (n m : ℕ) (mode : LogMode) (load : Workload) (l : Load) (K : List (Ac
       record {
         records = r.0;
         reads = r.1;
-        spacing = subst (λ (at : ℕ). IsSpacing (length base) at (map (λ (v : List ℕ). slice_index v j) own)) whole (subst (λ (xs : List ℕ). IsSpacing (length base) (slice_index s.plv j) xs) (sym same) k);
+        spacing =
+            subst (λ (at : ℕ). IsSpacing (length (anchors_of olds)) (length base) at (map (λ (v : List ℕ). slice_index v j) own)) whole
+            (subst (λ (xs : List ℕ). IsSpacing (length (anchors_of olds)) (length base) (slice_index s.plv j) xs) (sym same) k);
       }

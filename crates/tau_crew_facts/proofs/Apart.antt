@@ -1,5 +1,5 @@
 -- The anchors of a run in threads stand in their distance, in what is read of its streams.
-use Rattle.std.proofs.Common.{ℕ, ◌<◌, ◌≡◌, true, List, [], map, length, subst, arith, slice_index}
+use Rattle.std.proofs.Common.{ℕ, ◌<◌, ◌≡◌, true, List, [], map, length, sym, subst, arith, slice_index}
 use Rattle.std.specs.Prelude.{Some, None, slice_get, slice_index_or}
 use Rattle.tau_base.specs.Modes.{format_of}
 use Rattle.tau_base.specs.declared.value.LogMode.{LogMode}
@@ -14,6 +14,7 @@ use Rattle.tau_run.specs.Gives.{CameTo, came_far}
 use Rattle.tau_run.specs.StopsLeave.{IsOver, NamesLowest, stops_in}
 use Rattle.tau_run.proofs.Came.{course, is_run, run_of}
 use Rattle.tau_run.proofs.History.{is_set}
+use Rattle.tau_run.proofs.Streams.{anchored}
 use Rattle.tau_crew_facts.specs.Spacing.{IsSpacing, AreSpaced}
 use Rattle.tau_crew_facts.specs.Threads.{in_threads}
 use Rattle.tau_crew_facts.proofs.Anchors.{anchors_spaced}
@@ -24,8 +25,11 @@ module _ {D : Type 0} {G : Ghosts D} (n m : ℕ) (mode : LogMode) (load : Worklo
   pub thread_spaced : (j : ℕ) (content : List ℕ) → j < n → slice_get t.contents j ≡ Some content → AreSpaced (format_of mode) n j (length (anchors_of (slice_index_or start.log.streams j []))) (length (opened_at load start j)) content
   thread_spaced j content lt there =
       let low : j < l.streams = (let e = load_is.streams in omega (arith, lt, e)) in
-      let own : IsSpacing (length (opened_at load start j)) (slice_index t.state.plv j) (map (λ (v : List ℕ). slice_index v j) (t.state.streams j).anchors) =
-      subst (λ (k : ℕ). IsSpacing k (slice_index t.state.plv j) (map (λ (v : List ℕ). slice_index v j) (t.state.streams j).anchors)) ((is_set n m mode load start l begins.count load_is).opening j lt) (whole.1 going j low) in
+      let olds : ℕ = length (anchors_of (slice_index_or start.log.streams j [])) in
+      let old_is : slice_index l.opening.anchors.items j ≡ olds = anchored n m mode load start l (subst (λ (x : LogMode). IsStart (format_of x) n load start) (sym load_is.mode_is) begins) load_is j lt in
+      let own : IsSpacing olds (length (opened_at load start j)) (slice_index t.state.plv j) (map (λ (v : List ℕ). slice_index v j) (t.state.streams j).anchors) =
+      subst (λ (k : ℕ). IsSpacing k (length (opened_at load start j)) (slice_index t.state.plv j) (map (λ (v : List ℕ). slice_index v j) (t.state.streams j).anchors)) old_is
+      (subst (λ (k : ℕ). IsSpacing (slice_index l.opening.anchors.items j) k (slice_index t.state.plv j) (map (λ (v : List ℕ). slice_index v j) (t.state.streams j).anchors)) ((is_set n m mode load start l begins.count load_is).opening j lt) (whole.1 going j low)) in
       subst (λ (x : LogMode). AreSpaced (format_of x) n j (length (anchors_of (slice_index_or start.log.streams j []))) (length (opened_at load start j)) content) load_is.mode_is
       (anchors_spaced n m mode load l t.joined t.state (run_of in_threads n m mode load start begins sound l load_is ws ws' acks t) (course in_threads n m mode load start begins sound l load_is ws ws' acks t)
       (is_run in_threads n m mode load start begins sound l load_is ws ws' acks t) j lt content there (over.persisted j low (going j low)) own)

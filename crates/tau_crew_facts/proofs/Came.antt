@@ -201,10 +201,10 @@ module _ {D : Type 0} {G : Ghosts D} (bases : ℕ → List ℕ) (first : Plain) 
   }
 
   -- managers that have kept their distance
-  pub apart_whole : AreApart bases first.load.streams c → in_threads true first.load (core_of first nothing) (came_far came)
+  pub apart_whole : AreApart bases first.load c → in_threads true first.load (core_of first nothing) (came_far came)
   apart_whole apart = (
     all_held bases first c ws ws' acks e,
-    λ going j lt. subst (λ (k : ℕ). IsSpacing k (slice_index c.plv j) (map (λ (v : List ℕ). slice_index v j) (c.streams j).anchors)) (long j lt) (apart j lt),
+    λ going j lt. subst (λ (k : ℕ). IsSpacing (slice_index first.load.opening.anchors.items j) k (slice_index c.plv j) (map (λ (v : List ℕ). slice_index v j) (c.streams j).anchors)) (long j lt) (apart j lt),
   )
 
   -- the lowest failed disk is that of the lowest stopped stream

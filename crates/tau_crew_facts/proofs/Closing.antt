@@ -161,10 +161,10 @@ module _ (first : Plain) (v : Knows) (workers : ℕ → Worker) (managers : ℕ 
     }
 
     -- the managers have kept their distance
-    pub thread_apart : ((j : ℕ) → j < l.streams → ManagerApart seen j (bases j) (managers j)) → AreApart bases l.streams s
+    pub thread_apart : ((j : ℕ) → j < l.streams → ManagerApart l seen j (bases j) (managers j)) → AreApart bases l s
     thread_apart apart j lt =
-        subst (λ (vs : List (List ℕ)). IsSpacing (length (bases j)) (slice_index s.plv j) (map (λ (p : List ℕ). slice_index p j) vs)) (sym (manager_is j lt).anchors)
-        (subst (λ (d : ℕ). IsSpacing (length (bases j)) d (map (λ (p : List ℕ). slice_index p j) (managers j).anchors)) (stored_is j) (apart j lt))
+        subst (λ (vs : List (List ℕ)). IsSpacing (slice_index l.opening.anchors.items j) (length (bases j)) (slice_index s.plv j) (map (λ (p : List ℕ). slice_index p j) vs)) (sym (manager_is j lt).anchors)
+        (subst (λ (d : ℕ). IsSpacing (slice_index l.opening.anchors.items j) (length (bases j)) d (map (λ (p : List ℕ). slice_index p j) (managers j).anchors)) (stored_is j) (apart j lt))
 
     -- where it went to its end
     module _ (done : (w : ℕ) → w < l.workers → WorkerDone l w (workers w)) (flushed : (j : ℕ) (w' : Writer D G) → slice_get ws' j ≡ Some w' → has_failed w' ≡ false → ManagerDone l seen workers j (managers j))

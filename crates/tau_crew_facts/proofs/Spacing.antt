@@ -1,9 +1,8 @@
 -- Anchors stand in their distance.
-use Rattle.std.proofs.Common.{ℕ, ◌+◌, ◌<◌, ◌≤◌, ◌≡◌, Bool, inl, inr, List, [], ◌∷◌, ◌++◌, refl, sym, ap, subst, ◌∙◌, arith}
-use Rattle.std.specs.Prelude.{nat_le, if◌then◌else◌}
-use Rattle.std.proofs.lemmas.Bool.{cases_Bool}
-use Rattle.std.proofs.lemmas.Bool.Decides.{nat_tests}
-use Rattle.tau_base.specs.declared.limits.TheConstants.{ANCHOR_BYTES, MAX_BODY}
+use Rattle.std.proofs.Common.{ℕ, suc, ◌+◌, ◌<◌, ◌≤◌, ◌≡◌, Bool, true, false, ◌⊎◌, inl, inr, List, [], ◌∷◌, ◌++◌, length, refl, sym, ap, subst, ◌∙◌, arith, length-append}
+use Rattle.std.specs.Prelude.{◌&&◌, nat_le, nat_lt, if◌then◌else◌}
+use Rattle.std.proofs.lemmas.Bool.Decides.{leb_tells}
+use Rattle.tau_base.specs.declared.limits.TheConstants.{ANCHOR_BYTES, MAX_ANCHORS, MAX_BODY}
 use Rattle.tau_crew_facts.specs.Spacing.{Spaced, newest, IsSpacing, Flushes, placed_after}
 
 -- ---- the loop of a manager, step by step
@@ -17,44 +16,59 @@ newest_more base x [] = refl
 newest_more base x (y ∷ xs) = newest_more y x xs
 
 -- at first
-pub spacing_begins : (base : ℕ) → IsSpacing base base []
-spacing_begins base = record { spaced = tt; low = omega arith; near = omega arith }
+pub spacing_begins : (before base : ℕ) → IsSpacing before base base []
+spacing_begins before base = record { spaced = tt; low = omega arith; near = λ few. omega arith }
 
--- a flush after which no anchor is due
-pub spacing_stays : (base durable upto : ℕ) (xs : List ℕ) → IsSpacing base durable xs → durable ≤ upto → upto < newest base xs + ANCHOR_BYTES → IsSpacing base upto xs
-spacing_stays base durable upto xs s le lt = record { spaced = s.spaced; low = (let a = s.low in omega (arith, a, le)); near = lt }
+-- a flush after which no anchor is due, or none can be placed
+pub spacing_stays : (before base durable upto : ℕ) (xs : List ℕ) → IsSpacing before base durable xs → durable ≤ upto → (before + length xs < MAX_ANCHORS → upto < newest base xs + ANCHOR_BYTES) → IsSpacing before base upto xs
+spacing_stays before base durable upto xs s le near = record { spaced = s.spaced; low = (let a = s.low in omega (arith, a, le)); near = near }
 
 -- a flush after which one is placed, whose own component is what is durable now
-pub spacing_places : (base durable upto : ℕ) (xs : List ℕ) → IsSpacing base durable xs → upto ≤ durable + MAX_BODY → newest base xs + ANCHOR_BYTES ≤ upto → IsSpacing base upto (xs ++ upto ∷ [])
-spacing_places base durable upto xs s block due =
-    let near = s.near in
+pub spacing_places : (before base durable upto : ℕ) (xs : List ℕ) → IsSpacing before base durable xs → before + length xs < MAX_ANCHORS → upto ≤ durable + MAX_BODY → newest base xs + ANCHOR_BYTES ≤ upto → IsSpacing before base upto (xs ++ upto ∷ [])
+spacing_places before base durable upto xs s few block due =
+    let near = s.near few in
     let last : newest base (xs ++ upto ∷ []) ≡ upto = newest_more base upto xs in
     record {
       spaced = spaced_more base upto xs s.spaced due (omega (arith, near, block));
       low = omega (arith, last);
-      near = omega (arith, last);
+      near = λ more. omega (arith, last);
     }
 
 -- ---- the whole loop, as a function of where its flushes end
 
-pub spacing_loop : (base durable : ℕ) (xs ds : List ℕ) → IsSpacing base durable xs → Flushes durable ds → IsSpacing base (newest durable ds) (xs ++ placed_after (newest base xs) ds)
-spacing_loop base durable xs [] s f = subst (λ (ys : List ℕ). IsSpacing base durable ys) (sym (nil xs)) s
+-- the test of the loop
+abbrev is_due : ℕ → ℕ → ℕ → Bool
+is_due count last d = nat_lt count MAX_ANCHORS && nat_le (last + ANCHOR_BYTES) d
+
+due_tells : (count last d : ℕ) → ((is_due count last d ≡ true) × (count < MAX_ANCHORS) × (last + ANCHOR_BYTES ≤ d)) ⊎ ((is_due count last d ≡ false) × (count < MAX_ANCHORS → d < last + ANCHOR_BYTES))
+due_tells count last d = elim (leb_tells (suc count) MAX_ANCHORS) [
+  | inr full ↦ inr (ap (λ (b : Bool). b && nat_le (last + ANCHOR_BYTES) d) full.0, λ few. absurd (let no = full.1 in omega (arith, no, few)))
+  | inl few ↦ elim (leb_tells (last + ANCHOR_BYTES) d) [
+    | inl due ↦ inl (ap (λ (b : Bool). b && nat_le (last + ANCHOR_BYTES) d) few.0 ∙ due.0, (let a = few.1 in omega (arith, a)), due.1)
+    | inr not_due ↦ inr (ap (λ (b : Bool). b && nat_le (last + ANCHOR_BYTES) d) few.0 ∙ not_due.0, λ a. (let e = not_due.1 in omega (arith, e)))
+  ]
+]
+
+pub spacing_loop : (before base durable : ℕ) (xs ds : List ℕ) → IsSpacing before base durable xs → Flushes durable ds → IsSpacing before base (newest durable ds) (xs ++ placed_after (before + length xs) (newest base xs) ds)
+spacing_loop before base durable xs [] s f = subst (λ (ys : List ℕ). IsSpacing before base durable ys) (sym (nil xs)) s
   where
     nil : (ys : List ℕ) → ys ++ [] ≡ ys
     nil [] = refl
     nil (y ∷ ys) = ap (λ (zs : List ℕ). y ∷ zs) (nil ys)
-spacing_loop base durable xs (d ∷ ds) s f = elim (cases_Bool (nat_le (newest base xs + ANCHOR_BYTES) d)) [
-  | inl due ↦
-      let le : newest base xs + ANCHOR_BYTES ≤ d = grind (arith, nat_tests, due) in
-      let rest = spacing_loop base d (xs ++ d ∷ []) ds (spacing_places base durable d xs s f.1 le) f.2 in
+spacing_loop before base durable xs (d ∷ ds) s f = elim (due_tells (before + length xs) (newest base xs) d) [
+  | inl (due, few, le) ↦
+      let rest = spacing_loop before base d (xs ++ d ∷ []) ds (spacing_places before base durable d xs s few f.1 le) f.2 in
       let last : newest base (xs ++ d ∷ []) ≡ d = newest_more base d xs in
-      let here : placed_after (newest base xs) (d ∷ ds) ≡ d ∷ placed_after d ds = ap (λ (b : Bool). if b then d ∷ placed_after d ds else placed_after (newest base xs) ds) due in
-      subst (λ (ys : List ℕ). IsSpacing base (newest d ds) ys) (ap (λ (k : ℕ). (xs ++ d ∷ []) ++ placed_after k ds) last ∙ assoc xs d (placed_after d ds) ∙ ap (λ (ys : List ℕ). xs ++ ys) (sym here)) rest
-  | inr not_due ↦
-      let lt : d < newest base xs + ANCHOR_BYTES = grind (arith, nat_tests, not_due) in
-      let rest = spacing_loop base d xs ds (spacing_stays base durable d xs s f.0 lt) f.2 in
-      let here : placed_after (newest base xs) (d ∷ ds) ≡ placed_after (newest base xs) ds = ap (λ (b : Bool). if b then d ∷ placed_after d ds else placed_after (newest base xs) ds) not_due in
-      subst (λ (ys : List ℕ). IsSpacing base (newest d ds) ys) (ap (λ (ys : List ℕ). xs ++ ys) (sym here)) rest
+      let count : before + length (xs ++ d ∷ []) ≡ before + length xs + 1 = (let e = length-append xs (d ∷ []) in omega (arith, e)) in
+      let here : placed_after (before + length xs) (newest base xs) (d ∷ ds) ≡ d ∷ placed_after (before + length xs + 1) d ds =
+      ap (λ (b : Bool). if b then d ∷ placed_after (before + length xs + 1) d ds else placed_after (before + length xs) (newest base xs) ds) due in
+      subst (λ (ys : List ℕ). IsSpacing before base (newest d ds) ys)
+      (ap (λ (k : ℕ). (xs ++ d ∷ []) ++ placed_after (before + length (xs ++ d ∷ [])) k ds) last ∙ ap (λ (k : ℕ). (xs ++ d ∷ []) ++ placed_after k d ds) count ∙ assoc xs d (placed_after (before + length xs + 1) d ds) ∙ ap (λ (ys : List ℕ). xs ++ ys) (sym here)) rest
+  | inr (not_due, near) ↦
+      let rest = spacing_loop before base d xs ds (spacing_stays before base durable d xs s f.0 near) f.2 in
+      let here : placed_after (before + length xs) (newest base xs) (d ∷ ds) ≡ placed_after (before + length xs) (newest base xs) ds =
+      ap (λ (b : Bool). if b then d ∷ placed_after (before + length xs + 1) d ds else placed_after (before + length xs) (newest base xs) ds) not_due in
+      subst (λ (ys : List ℕ). IsSpacing before base (newest d ds) ys) (ap (λ (ys : List ℕ). xs ++ ys) (sym here)) rest
 ]
   where
     assoc : (ys : List ℕ) (y : ℕ) (zs : List ℕ) → (ys ++ y ∷ []) ++ zs ≡ ys ++ y ∷ zs

@@ -41,8 +41,8 @@ pub record ManagerKnows {D : Type 0} {G : Ghosts D} (l : Load) (seen : List ℕ)
   pub written : HasWritten (format_of l.mode) l.streams j base g.taken (slice_index seen j) w w'
 
 -- the own components of its anchors stand in their distance up to what it has stored
-abbrev pub ManagerApart : List ℕ → ℕ → List ℕ → Managed → Type 0
-ManagerApart seen j base g = IsSpacing (length base) (slice_index seen j) (map (λ (v : List ℕ). slice_index v j) g.anchors)
+abbrev pub ManagerApart : Load → List ℕ → ℕ → List ℕ → Managed → Type 0
+ManagerApart l seen j base g = IsSpacing (slice_index l.opening.anchors.items j) (length base) (slice_index seen j) (map (λ (v : List ℕ). slice_index v j) g.anchors)
 
 -- the record of this call, if it has one, ends no later
 abbrev pub EndsBy : ℕ → Option Spot → Type 0

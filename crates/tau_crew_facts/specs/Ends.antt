@@ -95,5 +95,5 @@ RoseOf {D} {G} ws ws' j = OfWriters (λ w w'. Rose (G.faults (disk_of w)) (G.fau
 -- ---- anchors
 
 -- the managers have kept their distance, over the own components of their anchors, from the opening's end on
-abbrev pub AreApart : (ℕ → List ℕ) → ℕ → Core → Type 0
-AreApart bases n c = (j : ℕ) → j < n → IsSpacing (length (bases j)) (slice_index c.plv j) (map (λ (v : List ℕ). slice_index v j) (c.streams j).anchors)
+abbrev pub AreApart : (ℕ → List ℕ) → Load → Core → Type 0
+AreApart bases l c = (j : ℕ) → j < l.streams → IsSpacing (slice_index l.opening.anchors.items j) (length (bases j)) (slice_index c.plv j) (map (λ (v : List ℕ). slice_index v j) (c.streams j).anchors)

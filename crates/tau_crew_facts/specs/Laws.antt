@@ -1,5 +1,5 @@
 -- What holds of each run in threads.
-use Rattle.std.specs.Prelude.{ℕ, ◌<◌, ◌≡◌, false, Some, List, [], ◌++◌, length, slice_get, slice_index, slice_index_or}
+use Rattle.std.specs.Prelude.{ℕ, ◌+◌, ◌<◌, ◌≡◌, false, Some, List, [], ◌++◌, length, slice_get, slice_index, slice_index_or}
 use Rattle.tau_disk.specs.declared.disk.Disk.{Ghosts}
 use Rattle.tau_stream.specs.declared.writer.Writer.{Writer}
 use Rattle.tau_stream.specs.Writer.{disk_of, durable_of, has_failed}
@@ -24,9 +24,10 @@ use Rattle.tau_crew_facts.specs.Telling.{IsTelling}
 use Rattle.tau_crew_facts.specs.Threads.{in_threads}
 use Rattle.tau_run.specs.Keeping.{Keeps, KeepsOf, Steady}
 
--- anchors that are placed after each flush that makes them due stand in their distance, wherever the flushes end
+-- anchors that are placed after each flush that makes them due, as long as the stream may have one more, stand in their distance,
+-- wherever the flushes end
 abbrev pub AnchorsKeepApart : Type 0
-AnchorsKeepApart = (base durable : ℕ) (anchors ends : List ℕ) → IsSpacing base durable anchors → Flushes durable ends → IsSpacing base (newest durable ends) (anchors ++ placed_after (newest base anchors) ends)
+AnchorsKeepApart = (before base durable : ℕ) (anchors ends : List ℕ) → IsSpacing before base durable anchors → Flushes durable ends → IsSpacing before base (newest durable ends) (anchors ++ placed_after (before + length anchors) (newest base anchors) ends)
 
 -- no event loses a call of a worker but one by which this worker gives it up
 abbrev pub WorkersKeepCalls : Type 0
@@ -49,7 +50,7 @@ module _ {D : Type 0} (G : Ghosts D) where
       (first : Plain) (v : Knows) (workers : ℕ → Worker) (managers : ℕ → Managed) (acked : List (List Ticket)) (c : Now) → IsClosing first v workers managers acked c → (bases : ℕ → List ℕ) (ws ws' : List (Writer D G)) (acks : List (ℕ × List ℕ)) →
       length ws ≡ first.load.streams → ((w : ℕ) → w < first.load.workers → IsLoose (workers w).hand) → EachOf (λ j w w'. ManagerKnows first.load v.seen j (bases j) (managers j) w w') ws ws' → IsTelling first.load acked v.seen acks →
       IsThreadEnd bases first c.core ws ws' acks
-      × (((j : ℕ) → j < first.load.streams → ManagerApart v.seen j (bases j) (managers j)) → AreApart bases first.load.streams c.core)
+      × (((j : ℕ) → j < first.load.streams → ManagerApart first.load v.seen j (bases j) (managers j)) → AreApart bases first.load c.core)
       × (((w : ℕ) → w < first.load.workers → WorkerDone first.load w (workers w)) →
       ((j : ℕ) (w' : Writer D G) → slice_get ws' j ≡ Some w' → has_failed w' ≡ false → ManagerDone first.load v.seen workers j (managers j)) →
       ((w : ℕ) → w < first.load.workers → ClerkDone v.seen (workers w) (slice_index_or acked w [])) →

@@ -13,7 +13,7 @@ use Rattle.tau_crew_facts.specs.Spacing.{IsSpacing}
 
 -- of a whole run in which no stream was stopped the anchors of each stream stand in their distance, from where it ended at the opening
 abbrev pub KeepsApart : Bool → Load → Progress → Type 0
-KeepsApart true l p = NamesLowest l.streams (stops_in p.state) None → (j : ℕ) → j < l.streams → IsSpacing (slice_index l.opening.ends j) (slice_index p.state.plv j) (map (λ (v : List ℕ). slice_index v j) (p.state.streams j).anchors)
+KeepsApart true l p = NamesLowest l.streams (stops_in p.state) None → (j : ℕ) → j < l.streams → IsSpacing (slice_index l.opening.anchors.items j) (slice_index l.opening.ends j) (slice_index p.state.plv j) (map (λ (v : List ℕ). slice_index v j) (p.state.streams j).anchors)
 KeepsApart false l p = Unit {0}
 
 -- The events of a run in threads come in any order; but a worker is Busy only if another one holds the key that it wants, in a

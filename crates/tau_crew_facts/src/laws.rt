@@ -3,7 +3,8 @@ ghost use Rattle.tau_crew_facts.specs.Laws.{AnchorsKeepApart, ClosedDesksEnd, En
 
 use tau_disk::Disk;
 
-/// Anchors that are placed after each flush that makes them due stand in their distance, wherever the flushes end.
+/// Anchors that are placed after each flush that makes them due, as long as the stream may have one more, stand in their
+/// distance, wherever the flushes end.
 pub fn anchors_keep_apart()
     ensures { AnchorsKeepApart }
 {}

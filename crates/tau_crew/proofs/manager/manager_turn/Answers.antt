@@ -20,7 +20,7 @@ returns-in_ok-follow-in-Flushed-clause-keeps g c = λ format n j base w0 d.
 pub returns-in_ok-follow-in-Flushed-clause-apart : goal.returns-in_ok-follow-in-Flushed-clause-apart
 returns-in_ok-follow-in-Flushed-clause-apart g c = λ base a.
     let before = c.args.writer.now.durable in
-    let now = apart_same base before c.args.marks.now.last c.args.marks.now.placed c.args.seat.now c.gather_and_flush.new.seat a c.gather_and_flush.ensures.own.2 c.gather_and_flush.ensures.anchors in
+    let now = apart_same base before c.args.marks.now.last c.args.marks.now.placed c.args.seat.now c.gather_and_flush.new.seat a c.gather_and_flush.ensures.own.2 c.gather_and_flush.ensures.own.1 c.gather_and_flush.ensures.anchors in
     let block : IsBlock before c.durable-durable.result = subst (λ (d : ℕ). IsBlock before d) (sym c.durable-durable.ensures) c.in_ok-gather_and_flush.ensures.block in
     subst (λ (d : ℕ). IsApart base d c.follow.new.marks.last c.follow.new.marks.placed c.follow.new.seat) c.durable-durable.ensures (c.in_ok-follow-in-Flushed.ensures.apart base before now block)
 
