@@ -370,6 +370,7 @@ module _ {D : Type 0} (G : Ghosts D) (only_now : OnlyNow G) (n m : ℕ) (mode : 
         )
 
     says_bad : WroteFront wrote (Rose faults faults') (fault_text (status.BadLog fault)) → Told (status.BadLog fault)
+    unfolding read_barred
     says_bad line =
         let same : (other : LogFault) → status.BadLog fault ≡ status.BadLog other → fault ≡ other = λ other e. cc in
         record {

@@ -1,11 +1,13 @@
-use Rattle.std.proofs.Common.{ℕ, ◌≡◌, List, length, ap, subst, ◌∙◌, arith, rules}
+use Rattle.std.proofs.Common.{ℕ, ◌≡◌, List, length, ap, refl, subst, ◌∙◌, arith, rules}
 use Rattle.tau_base.specs.declared.format.Format.{Format}
 use Rattle.tau_base.specs.Modes.{format_of}
 use Rattle.tau_text.specs.Canonical.{declarations_text}
 use Rattle.tau_run.specs.Start.{opened_at}
 use Rattle.tau_run.proofs.Sources.{catalogue_load}
 use Rattle.tau_begin.specs.Opened.{IsOpenRun, RefusesRun}
+use Rattle.tau_commands.specs.declared.status.Status.TheVariants as status
 use Rattle.tau_engine.proofs.RefusedOpening.{says_refused}
+use Rattle.tau_engine.proofs.RunClauses.{untouched}
 use Rattle.tau_engine.proofs.OnOpened as on
 use Rattle.tau_engine.proofs.AfterOpening.{says_run}
 use Rattle.tau_engine.proofs.Loaded.{sound_of}
@@ -53,3 +55,8 @@ returns-in-Err-clause-says g c =
     (sound_of c.requires.meant.0 c.args.load.now c.requires.meant.1 c.requires.runnable) c.args.disks.now.items c.open_run.new.disks.items (search rules) c.in-Err.ensures.rest g.K.Sink.tells (g.K.Sink.held c.args.sink.now) (g.K.Sink.held c.refuse_scan.new.sink) (g.K.Sink.faults c.args.sink.now) (g.K.Sink.faults c.refuse_scan.new.sink)
     c.in-Err.refusal refused c.refuse_scan.result
     c.refuse_scan.ensures
+
+pub returns-in_default-clause-says : goal.returns-in_default-clause-says
+returns-in_default-clause-says g c =
+    untouched g.D.Disk (g.met.D.Disk g.world.𝓛 g.world.𝓜 g.world.𝓡 ((λ s x. x), (λ x. x), (λ x. x), λ x. x)).only_now c.args.choice.streams c.args.choice.workers c.args.choice.mode c.args.load.now c.args.disks.now.items
+    g.K.Sink.tells (g.K.Sink.held c.args.sink.now) (g.K.Sink.held c.args.sink.now) (g.K.Sink.faults c.args.sink.now) (g.K.Sink.faults c.args.sink.now) status.NoMemory refl (λ e t. search rules)
