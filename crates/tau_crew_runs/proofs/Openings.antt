@@ -32,8 +32,8 @@ low end zero = omega arith
 low end (suc zero) = omega arith
 low end (suc (suc j)) = omega arith
 
-module _ (o : Opening) (end : ℕ) (ends : o.ends ≡ end ∷ end ∷ []) where
-  pub fits : o.floor ≡ 0 ∷ 0 ∷ [] → o.anchors.items ≡ 0 ∷ 0 ∷ [] → Fits o
+module _ (o : Opening) (end count : ℕ) (ends : o.ends ≡ end ∷ end ∷ []) where
+  pub fits : o.floor ≡ 0 ∷ 0 ∷ [] → o.anchors.items ≡ count ∷ 0 ∷ [] → Fits o
   fits floor anchors = record {
     floor = ap (length {A = ℕ}) floor ∙ sym (ap (length {A = ℕ}) ends);
     covered = λ j. subst (λ (v : List ℕ). slice_index v j ≤ slice_index o.ends j) (sym floor) (subst (λ (v : List ℕ). slice_index (0 ∷ 0 ∷ []) j ≤ slice_index v j) (sym ends) (low end j));
