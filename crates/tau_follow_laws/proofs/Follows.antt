@@ -1,5 +1,5 @@
 -- A follower is kept through every feed.
-use Rattle.std.proofs.Common.{ℕ, true, false, ◌≡◌, inl, inr, List, [], ◌∷◌, replicate, Option, Some, None, Result, Ok, Err, refl, sym, ap, subst, ◌∙◌}
+use Rattle.std.proofs.Common.{ℕ, true, false, ◌≡◌, inl, inr, List, [], ◌∷◌, replicate, Option, Some, None, Result, Ok, refl, sym, ap, subst, ◌∙◌}
 use Rattle.std.specs.List.{filter}
 use Rattle.std.proofs.lemmas.Bool.{cases_Bool}
 use Rattle.tau_base.specs.declared.format.Format.{Format}

@@ -11,3 +11,5 @@ pub mod Lasting
 pub mod Histories
 pub mod Closing
 pub mod Stepping
+pub mod Begins
+pub mod NeverBad

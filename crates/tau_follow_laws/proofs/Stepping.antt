@@ -80,7 +80,7 @@ module _ (f : Format) (n : ℕ) where
   next_placed at e rest after = placed e at (at + (length rest - length after))
 
   -- what is left to be read: the next record in front of the rest
-  rest_ok : (at : ℕ) (ps : List Placed) (rest : List ℕ) (x : Entry × List ℕ) → 1 ≤ length rest → next_at at ps rest ≡ Ok x →
+  pub rest_ok : (at : ℕ) (ps : List Placed) (rest : List ℕ) (x : Entry × List ℕ) → 1 ≤ length rest → next_at at ps rest ≡ Ok x →
       (m : ℕ) × (length x.1 ≤ m) × (rest_of f n at ps rest ≡ in_front (next_placed at x.0 rest x.1)
       (records_at f n m (at + (length rest - length x.1)) (epoch_after (last_epoch 0 ps) x.0) (named_after (named_behind (named n []) ps) x.0) x.1))
   unfolding records_at
@@ -91,7 +91,7 @@ module _ (f : Format) (n : ℕ) where
       let long = l.some in
       (length bytes, omega (arith, wide, long), rw e refl)
 
-  rest_err : (at : ℕ) (ps : List Placed) (rest : List ℕ) (cause : RecordCause) → 1 ≤ length rest → next_at at ps rest ≡ Err cause → rest_of f n at ps rest ≡ Err (record { at = at; cause = cause })
+  pub rest_err : (at : ℕ) (ps : List Placed) (rest : List ℕ) (cause : RecordCause) → 1 ≤ length rest → next_at at ps rest ≡ Err cause → rest_of f n at ps rest ≡ Err (record { at = at; cause = cause })
   unfolding records_at
   rest_err at ps [] cause some e = absurd (omega (arith, some))
   rest_err at ps (b ∷ bytes) cause some e = rw e refl

@@ -9,7 +9,7 @@ use Rattle.tau_scan.specs.Reading.{log_of_contents}
 use Rattle.tau_scan.specs.Taken.{Kept, kept_from, taken}
 use Rattle.tau_follow_laws.specs.Following.{Followed, is_among, with_read, IsApplied}
 use Rattle.tau_follow_laws.specs.Fed.{fronts_of}
-use Rattle.tau_follow_laws.specs.Feeding.{late_in, HasFed, Piece, with_piece, BeginWith, IsFollower}
+use Rattle.tau_follow_laws.specs.Feeding.{late_in, read_now, HasFed, Piece, with_piece, BeginWith, IsFollower}
 use Rattle.tau_epoch_laws.specs.Marked.{AreMarked}
 use Rattle.tau_model.specs.History.{Act, Closed}
 use Rattle.tau_follow_laws.specs.Histories.{has_record, HoldsHistory, Recorded, place_of, logs_of}
@@ -43,6 +43,11 @@ OnlyTaken = (f : Format) (n : ℕ) (fed contents : List (List ℕ)) (s : Followe
 abbrev pub NeverLate : Type 0
 NeverLate = (f : Format) (n : ℕ) (fed contents : List (List ℕ)) (s : Followed) (log : Log) (p : Piece) (streams : List (List Placed)) → IsFollower f n fed s → BeginWith contents (with_piece fed p) → log_of_contents f contents ≡ Ok log → AreMarked log.streams →
     fronts_of f (with_piece fed p) ≡ Ok streams → late_in streams s.order ≡ None
+
+-- No feed of such contents is bad, however they are cut.
+abbrev pub NeverBad : Type 0
+NeverBad = (f : Format) (n : ℕ) (fed contents : List (List ℕ)) (s : Followed) (log : Log) (p : Piece) → IsFollower f n fed s → BeginWith contents (with_piece fed p) → log_of_contents f contents ≡ Ok log → AreMarked log.streams →
+    (streams : List (List Placed)) × (read_now f (with_piece fed p) s.order ≡ Ok streams)
 
 -- The applied calls are closed in every history of which the contents hold the log.
 abbrev pub AppliedIsClosed : Type 0

@@ -1,5 +1,5 @@
 //! What holds of every follower, as functions that do nothing.
-ghost use Rattle.tau_follow_laws.specs.Laws.{AppliedInOrder, AppliedIsLeast, OnlyTaken, NeverLate, AppliedIsClosed};
+ghost use Rattle.tau_follow_laws.specs.Laws.{AppliedInOrder, AppliedIsLeast, OnlyTaken, NeverLate, NeverBad, AppliedIsClosed};
 
 /// Whatever was fed, and however it was cut: what is applied stands in an orderly order.
 pub fn applied_in_order()
@@ -15,6 +15,11 @@ pub fn applied_is_least()
 pub fn only_taken()
     ensures taken { OnlyTaken }
     ensures late { NeverLate }
+{}
+
+/// On such contents no feed is bad.
+pub fn never_bad()
+    ensures { NeverBad }
 {}
 
 /// On such contents the applied calls are closed in the history.
