@@ -8,10 +8,10 @@ use Rattle.tau_report.specs.declared.report.Fate.{Fate}
 use Rattle.tau_report.specs.declared.report.Fate.TheVariants.{Acked, Unsure, Unrun}
 use Rattle.tau_report.specs.Lines.{reply_text, value_text, vector_text}
 use Rattle.tau_inspect.specs.Bodies.{fate_body, end_body, ack_body, keyed_body, row_body, IsEnd, IsAck, IsKeyed}
-use Rattle.tau_inspect.specs.Reading.{IsSmall}
-use Rattle.tau_inspect.specs.ReportFor.{IsCall, IsFate, IsReply, IsRow}
+use Rattle.tau_inspect.specs.Reading.{IsSmall, Reads, if_found}
+use Rattle.tau_inspect.specs.ReportFor.{IsCall, IsFate, IsReply, IsRow, IsVector}
 use Rattle.std.proofs.Common.{suc, length, take, drop, ◌==◌, ◌&&◌, not, true, ℤ, pos, negsuc}
-use Rattle.std.specs.Prelude.{nat_lt, slice_index_or, Result, Ok, Err}
+use Rattle.std.specs.Prelude.{nat_lt, slice_index_or, Bool, Result, Ok, Err, IfOk}
 use Rattle.std.proofs.lemmas.Bool.{and_parts, both_ways}
 use Rattle.tau_model.specs.Tables.{is_value}
 use Rattle.tau_base.specs.declared.value.Value.TheVariants.{Absent, Int, Text}
@@ -80,6 +80,17 @@ module _ (calls n : ℕ) (rest : List ℕ) (a : AckLine) (fits : IsAck calls n a
 
   pub ack_cut : (i : ℕ) → IsCut 32 rest i → (decimal a.number ≡ take i rest) × (vector_text a.lv ≡ drop (i + 1) rest)
   ack_cut i cut = cut_one 32 (decimal a.number) (take i rest) (vector_text a.lv) (drop (i + 1) rest) (decimal_lacks 32 a.number (omega arith) (omega (arith, small, fits.0.1))) cut.first (behind ∙ cut.split)
+
+-- an acknowledgement whose number was read, and what was read of its vector
+pub ack_told : {E : Type 0} (calls n : ℕ) (rest part : List ℕ) (number i : ℕ) (lv : List ℕ) (r : Result Bool E) → calls < 2 ^ 32 → IsCut 32 rest i → IsCall calls number × (decimal number ≡ take i rest) → part ≡ drop (i + 1) rest →
+    IfOk r (λ found. Reads vector_text (IsVector n) part (if_found found lv)) → IfOk r (λ found. Reads ack_body (IsAck calls n) (codes "ack " ++ rest) (if_found found (record { number = number; lv = lv })))
+ack_told calls n rest part number i lv (Err error) small cut call is read = read
+ack_told calls n rest part number i lv (Ok true) small cut call is read = (
+  (call.0, read.0),
+  append_assoc (codes "ack ") (decimal number) (32 ∷ vector_text lv)
+      ∙ ap (λ (l : List ℕ). codes "ack " ++ l) (ap (λ (l : List ℕ). l ++ 32 ∷ vector_text lv) call.1 ∙ ap (λ (l : List ℕ). take i rest ++ 32 ∷ l) (read.1 ∙ is) ∙ sym cut.split),
+)
+ack_told calls n rest part number i lv (Ok false) small cut call is read = λ a fits e. read a.lv fits.1 ((ack_cut calls n rest a fits small e i cut).1 ∙ sym is)
 
 -- ---- rows
 

@@ -1,12 +1,12 @@
 //! Cutting texts at a byte, and reading the components of a vector.
-ghost use Rattle.std.specs.Prelude.{ℕ, ◌≡◌, ◌<◌, ◌≤◌, ◌++◌, ◌∷◌, List, true, IfOk, MatchOption, decimal, length, take};
+ghost use Rattle.std.specs.Prelude.{ℕ, ◌≡◌, ◌<◌, ◌≤◌, ◌++◌, ◌∷◌, List, true, IfOk, OnOk, MatchOption, decimal, length, take};
 ghost use Rattle.tau_report.specs.Lines.{vector_text};
 ghost use Rattle.tau_inspect.specs.Parts.{lacks, IsCut};
-ghost use Rattle.tau_inspect.specs.Reading.{Reads};
+ghost use Rattle.tau_inspect.specs.Reading.{Reads, if_found};
 ghost use Rattle.tau_inspect.specs.ReportFor.{IsVector};
 
 use crate::words::read_plain;
-use tau_base::{Lv, MAX_LSN, MAX_STREAMS, NoMemory};
+use tau_base::{Lv, MAX_LSN, NoMemory};
 
 /// The same, if it stands at none of the first so many places.
 fn cut_after(text: &[u8], byte: u8, begin: usize) -> Option<usize>
@@ -77,18 +77,18 @@ fn next_part(text: &[u8]) -> Result<Option<(u64, &[u8])>, NoMemory>
     }
 }
 
-/// A vector with so many components.
-pub fn read_vector(text: &[u8], streams: usize) -> Result<Option<Lv>, NoMemory>
-    requires low { 1 ≤ streams }
-    requires high { streams ≤ MAX_STREAMS }
-    ensures { IfOk result (Reads vector_text (IsVector streams) text.now) }
+/// Reads a vector into a place, with as many components as the place has. Returns whether the text is one. If it is not,
+/// some may have changed.
+pub fn read_vector(text: &[u8], lv: &mut Lv) -> Result<bool, NoMemory>
+    ensures wide { OnOk result (length lv.new ≡ length lv.old) }
+    ensures read { IfOk result (λ found. Reads vector_text (IsVector (length lv.old)) text.now (if_found found lv.new)) }
 {
-    let mut lv = Lv::zero(streams);
+    let streams = lv.width();
     let mut rest = text;
     for j in 0..streams - 1 {
         match next_part(rest) {
             Err(_) => return Err(NoMemory),
-            Ok(None) => return Ok(None),
+            Ok(None) => return Ok(false),
             Ok(Some((position, more))) => {
                 lv.set(j, position);
                 rest = more;
@@ -97,11 +97,11 @@ pub fn read_vector(text: &[u8], streams: usize) -> Result<Option<Lv>, NoMemory>
     }
     match read_position(rest) {
         Err(_) => Err(NoMemory),
-        Ok(None) => Ok(None),
+        Ok(None) => Ok(false),
         Ok(Some(position)) => {
             lv.set(streams - 1, position);
             let _known = lv.as_slice();
-            Ok(Some(lv))
+            Ok(true)
         }
     }
 }

@@ -15,10 +15,10 @@ ghost use Rattle.tau_inspect.specs.Sections.{IsLine, AreAcks, AreFates, AreOrder
 use crate::by_number::{flag, flags, is_flagged};
 use crate::parts::cut_at;
 use crate::refusal::ReportRefusal;
-use crate::told::{read_ack, read_end, read_fate, read_order, read_row};
+use crate::told::{AckLine, read_ack, read_end, read_fate, read_order, read_row};
 use std::alloc::Global;
 use std::cmp::Ordering;
-use tau_base::{Key, Listed, MAX_STREAMS, MAX_TABLES, Name, NoMemory, Value};
+use tau_base::{Key, Listed, Lv, MAX_STREAMS, MAX_TABLES, Name, NoMemory, Value};
 use tau_model::Tables;
 use tau_report::{Acks, Fate, KeptFate, RunReport};
 use tau_text::Declarations;
@@ -74,21 +74,27 @@ fn read_acks<'a>(
     ensures stops { IfOk result (λ rest. Stops ack_line (AcksFit calls streams) 97 acks.new rest.now) }
 {
     let mut seen = flags(alloc, calls as usize, &[])?;
+    // A place that serves for all lines, since a vector is large.
+    let mut ack = AckLine {
+        number: 0,
+        lv: Lv::zero(streams),
+    };
     let mut rest = text;
     'lines: loop {
         match next_line(rest) {
             None => return Ok(rest),
-            Some((line, following)) => match read_ack(line, calls, streams)? {
-                None => return Ok(rest),
-                Some(ack) => {
-                    if is_flagged(&seen, ack.number) {
-                        return Ok(rest);
-                    }
-                    flag(&mut seen, ack.number);
-                    acks.push(ack.number, &ack.lv)?;
-                    rest = following;
+            Some((line, following)) => {
+                let found = read_ack(line, calls, &mut ack)?;
+                if !found {
+                    return Ok(rest);
                 }
-            },
+                if is_flagged(&seen, ack.number) {
+                    return Ok(rest);
+                }
+                flag(&mut seen, ack.number);
+                acks.push(ack.number, &ack.lv)?;
+                rest = following;
+            }
         }
     }
 }

@@ -1,8 +1,8 @@
 //! Reading the lines of a report, without the byte at their end. Each reader returns what the line says, and none if it is
 //! no such line.
-ghost use Rattle.std.specs.Prelude.{ℕ, ◌≡◌, ◌≤◌, length, ◌↔◌, ◌++◌, ◌∷◌, List, IfOk, IsTrue, MatchOption, codes, decimal};
+ghost use Rattle.std.specs.Prelude.{ℕ, ◌≡◌, ◌≤◌, length, ◌↔◌, ◌++◌, ◌∷◌, List, IfOk, OnOk, IsTrue, MatchOption, codes, decimal};
 ghost use Rattle.tau_inspect.specs.Bodies.{order_body, fate_body, end_body, ack_body, keyed_body, row_body, IsEnd, IsAck, IsKeyed};
-ghost use Rattle.tau_inspect.specs.Reading.{Reads};
+ghost use Rattle.tau_inspect.specs.Reading.{Reads, if_found};
 ghost use Rattle.tau_inspect.specs.ReportFor.{IsCall, IsFate, IsRow};
 ghost use Rattle.tau_inspect.specs.RunText.{AreNames};
 ghost use Rattle.tau_model.specs.Tables.{is_value};
@@ -10,7 +10,7 @@ ghost use Rattle.tau_model.specs.Tables.{is_value};
 use crate::parts::{cut_at, read_vector};
 use crate::words::{after, read_plain, read_reply, read_value, read_whole};
 use itoa::Buffer;
-use tau_base::{Key, Lv, MAX_STREAMS, MAX_TABLES, Name, NoMemory, Value};
+use tau_base::{Key, Lv, MAX_TABLES, Name, NoMemory, Value};
 use tau_report::Fate;
 use tau_text::{LineRefusal, known_table};
 
@@ -160,34 +160,32 @@ pub struct AckLine {
 }
 
 /// What comes after the word of an acknowledgement.
-fn read_acknowledged(rest: &[u8], calls: u32, streams: usize) -> Result<Option<AckLine>, NoMemory>
-    requires low { 1 ≤ streams }
-    requires high { streams ≤ MAX_STREAMS }
-    ensures { IfOk result (Reads ack_body (IsAck calls streams) (codes "ack " ++ rest.now)) }
+fn read_acknowledged(rest: &[u8], calls: u32, ack: &mut AckLine) -> Result<bool, NoMemory>
+    ensures wide { OnOk result (length ack.new.lv ≡ length ack.old.lv) }
+    ensures read { IfOk result (λ found. Reads ack_body (IsAck calls (length ack.old.lv)) (codes "ack " ++ rest.now) (if_found found ack.new)) }
 {
     match cut_at(rest, b' ') {
-        None => Ok(None),
+        None => Ok(false),
         Some(i) => match read_call(&rest[..i], calls) {
             Err(_) => Err(NoMemory),
-            Ok(None) => Ok(None),
-            Ok(Some(number)) => match read_vector(&rest[i + 1..], streams) {
-                Err(_) => Err(NoMemory),
-                Ok(None) => Ok(None),
-                Ok(Some(lv)) => Ok(Some(AckLine { number, lv })),
-            },
+            Ok(None) => Ok(false),
+            Ok(Some(number)) => {
+                ack.number = number;
+                read_vector(&rest[i + 1..], &mut ack.lv)
+            }
         },
     }
 }
 
-/// An acknowledged call, with its vector.
-pub fn read_ack(line: &[u8], calls: u32, streams: usize) -> Result<Option<AckLine>, NoMemory>
-    requires low { 1 ≤ streams }
-    requires high { streams ≤ MAX_STREAMS }
-    ensures { IfOk result (Reads ack_body (IsAck calls streams) line.now) }
+/// Reads an acknowledged call into a place, with a vector as wide as the place has. Returns whether the line is one. If it
+/// is not, the place may have changed.
+pub fn read_ack(line: &[u8], calls: u32, ack: &mut AckLine) -> Result<bool, NoMemory>
+    ensures wide { OnOk result (length ack.new.lv ≡ length ack.old.lv) }
+    ensures read { IfOk result (λ found. Reads ack_body (IsAck calls (length ack.old.lv)) line.now (if_found found ack.new)) }
 {
     match after(line, b"ack ") {
-        None => Ok(None),
-        Some(rest) => read_acknowledged(rest, calls, streams),
+        None => Ok(false),
+        Some(rest) => read_acknowledged(rest, calls, ack),
     }
 }
 

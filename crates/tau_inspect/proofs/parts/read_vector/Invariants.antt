@@ -1,6 +1,7 @@
 -- The first components are read, and can be nothing else.
+use Rattle.std.proofs.Common.{length}
 use Rattle.tau_inspect.proofs.Cutting.{ReadTo}
 use Rattle.tau_inspect.proofs.parts.read_vector.Given as goal
 
 abbrev pub invariant-loop-j : goal.invariant-loop-j
-invariant-loop-j l = ReadTo l.streams l.text l.j l.lv l.rest
+invariant-loop-j l = ReadTo (length l.initial.lv) l.text l.j l.lv l.rest
