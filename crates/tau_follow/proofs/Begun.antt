@@ -1,5 +1,5 @@
 -- Nothing is read.
-use Rattle.std.proofs.Common.{ℕ, zero, suc, ◌+◌, ◌≡◌, List, [], ◌∷◌, ◌++◌, length, replicate, Some, None, Ok, refl, sym, ap, subst, ◌∙◌, arith, slice_index}
+use Rattle.std.proofs.Common.{ℕ, inl, true, zero, suc, ◌+◌, ◌≡◌, List, [], ◌∷◌, ◌++◌, length, replicate, Some, None, Ok, refl, sym, ap, subst, ◌∙◌, arith, slice_index}
 use Rattle.std.proofs.lemmas.List.{length-append}
 use Rattle.std.specs.Prelude.{slice_get, slice_index_or}
 use Rattle.tau_base.specs.declared.format.Format.{Format}
@@ -11,7 +11,9 @@ use Rattle.tau_follow_laws.proofs.GoesOn.{fronts_none}
 use Rattle.tau_follow.specs.declared.reader.Reader.{Reader}
 use Rattle.tau_follow.specs.declared.stage.Stage.{Stage}
 use Rattle.tau_follow.specs.Reading.{IsRead}
-use Rattle.tau_follow.specs.Applying.{AreStaged, stages_from}
+use Rattle.tau_follow.specs.Applying.{stages_from}
+use Rattle.tau_follow.specs.Holding.{AreStaged}
+use Rattle.tau_follow.specs.declared.waits.Waits.{Waits}
 use Rattle.tau_follow.specs.Feeding.{AreRead}
 use Rattle.tau_follow.proofs.Fed.{none_passed}
 
@@ -65,8 +67,8 @@ pub begun_read : (f : Format) (n k : ℕ) (streams : List (List Placed)) (reader
 begun_read f n k streams readers e is as_many all =
     subst (λ (l : List (List Placed)). AreRead f n (replicate n []) l readers) (sym (is ∙ ap (λ (m : ℕ). replicate m []) e)) (none_read f n readers (as_many ∙ e) all)
 
-pub begun_staged : (n k : ℕ) (stages : List (List Stage)) (firsts : List ℕ) → k ≡ n → stages ≡ replicate k [] → ((j : ℕ) → slice_index firsts j ≡ 0) → AreStaged (begun n) stages firsts
-begun_staged n k stages firsts e is z = record { stages_are = is ∙ ap (λ (m : ℕ). replicate m []) e ∙ no_stages 0 n; passed = none_passed stages firsts z }
+pub begun_staged : (n k : ℕ) (stages : List (List Stage)) (firsts : List ℕ) (waits : Waits) → k ≡ n → stages ≡ replicate k [] → ((j : ℕ) → slice_index firsts j ≡ 0) → waits.lost ≡ true → AreStaged (begun n) stages firsts waits
+begun_staged n k stages firsts waits e is z lost = record { stages_are = is ∙ ap (λ (m : ℕ). replicate m []) e ∙ no_stages 0 n; passed = none_passed stages firsts z; kept = inl lost }
 
 pub begun_one : (n : ℕ) → catalogue_in (replicate n []) ≡ Ok None
 unfolding catalogue_in

@@ -27,6 +27,7 @@ use Rattle.tau_follow.proofs.ReadingOn.{same_marks, same_catalogue, read_calls}
 use Rattle.tau_follow.proofs.Redoing.{take_front}
 use Rattle.tau_follow.proofs.Spots.{spots_long}
 use Rattle.tau_follow.specs.Holding.{HasApplied}
+use Rattle.tau_follow.specs.Waits.{AreKept}
 use Rattle.std.specs.Global.{Vec}
 
 -- what was redone before is as much of what is applied then
@@ -62,9 +63,9 @@ reads_on j count old streams now readers by low high l counted same =
     set_at : List (List Placed) → List Placed → List (List Placed)
     set_at xs qs = Rattle.std.proofs.Common.set xs j qs
 
-pub stands_kept : (s : Followed) (a b : Applier) → Stands s a → b.stages.items ≡ a.stages.items → (ArePassed a.stages.items a.firsts.items → ArePassed a.stages.items b.firsts.items) → b.order ≡ a.order → Stands s b
-stands_kept s a b h stages passed order = record {
-  staged = record { stages_are = stages ∙ h.staged.stages_are; passed = subst (λ (l : List (List Stage)). ArePassed l b.firsts.items) (sym stages) (passed h.staged.passed) };
+pub stands_kept : (s : Followed) (a b : Applier) → Stands s a → b.stages.items ≡ a.stages.items → (ArePassed a.stages.items a.firsts.items → ArePassed a.stages.items b.firsts.items) → b.order ≡ a.order → (AreKept s.streams a.stages.items a.waits → AreKept s.streams a.stages.items b.waits) → Stands s b
+stands_kept s a b h stages passed order keeps = record {
+  staged = record { stages_are = stages ∙ h.staged.stages_are; passed = subst (λ (l : List (List Stage)). ArePassed l b.firsts.items) (sym stages) (passed h.staged.passed); kept = subst (λ (l : List (List Stage)). AreKept s.streams l b.waits) (sym stages) (keeps h.staged.kept) };
   spots = subst (λ v. AreSpots s.streams v.items s.order) (sym order) h.spots;
 }
 

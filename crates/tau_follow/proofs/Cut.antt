@@ -107,7 +107,7 @@ waits_at f n fed s p w h same =
         one = h.one;
         knows = (let k = h.knows in record { known = k.known; declarations = k.declarations });
         stands = record {
-          staged = record { stages_are = staged.stages_are ∙ sym (stages_same s.out (s.out ++ left_out s.streams) s.order (same_out f n fed s p h.follower) 0 s.streams); passed = staged.passed };
+          staged = record { stages_are = staged.stages_are ∙ sym (stages_same s.out (s.out ++ left_out s.streams) s.order (same_out f n fed s p h.follower) 0 s.streams); passed = staged.passed; kept = staged.kept };
           spots = stands.spots;
         };
         redone = (let d = h.redone in record { within = d.within; store = d.store; tables = d.tables });

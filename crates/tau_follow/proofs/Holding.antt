@@ -1,5 +1,5 @@
 -- An applier goes on record by record.
-use Rattle.std.proofs.Common.{ℕ, zero, suc, ◌≤◌, ◌<◌, Bool, true, false, ◌≡◌, List, [], ◌∷◌, ◌++◌, length, Some, sym, ap, subst, ◌∙◌, arith, slice_index}
+use Rattle.std.proofs.Common.{ℕ, zero, suc, ◌≤◌, ◌<◌, Bool, true, false, ◌≡◌, inr, List, [], ◌∷◌, ◌++◌, length, Some, sym, ap, subst, ◌∙◌, arith, slice_index}
 use Rattle.std.specs.Prelude.{slice_get}
 use Rattle.tau_record.specs.declared.entry.Placed.{Placed}
 use Rattle.tau_follow_laws.specs.Following.{Followed, rlv, NoneReady, applied}
@@ -8,6 +8,8 @@ use Rattle.tau_follow.specs.declared.applier.Applier.{Applier}
 use Rattle.tau_follow.specs.declared.stage.Stage.{Stage}
 use Rattle.tau_follow.specs.declared.stage.Stage.TheVariants as stages
 use Rattle.tau_follow.specs.Applying.{is_ready_in, reaches, ArePassed, set_stage, stages_from, AreSpots}
+use Rattle.tau_follow.specs.Waits.{AreFound, AreKept, AreAllAbove}
+use Rattle.tau_follow.proofs.Queued.{found_more, found_applied, none_found, none_in}
 use Rattle.tau_follow.specs.Holding.{Holds, HasApplied, HasFollowed}
 use Rattle.tau_follow.proofs.Staging.{AtSpot, reaches_are, ready_spot, none_spot, applied_stages, passed_still}
 use Rattle.tau_follow.specs.declared.spot.Spot.{Spot}
@@ -21,8 +23,8 @@ got_lt (qs ∷ streams) (suc j) ps e = let h = got_lt streams j ps e in omega (a
 
 module _ (streams : List (List Placed)) (t : Followed) (a : Applier) (h : Holds streams t a) where
   -- with other indexes that are passed
-  other_firsts : (b : Applier) → b.stages.items ≡ a.stages.items → b.order.items ≡ a.order.items → ArePassed a.stages.items b.firsts.items → Holds streams t b
-  other_firsts b st order passed = record {
+  other_firsts : (b : Applier) → b.stages.items ≡ a.stages.items → b.order.items ≡ a.order.items → ArePassed a.stages.items b.firsts.items → AreKept streams a.stages.items b.waits → Holds streams t b
+  other_firsts b st order passed kept = record {
     streams_are = h.streams_are;
     format = h.format;
     fed = h.fed;
@@ -30,9 +32,14 @@ module _ (streams : List (List Placed)) (t : Followed) (a : Applier) (h : Holds 
     staged = record {
       stages_are = st ∙ h.staged.stages_are;
       passed = subst (λ (l : List (List Stage)). ArePassed l b.firsts.items) (sym st) passed;
+      kept = subst (λ (xs : List (List Placed)). AreKept xs b.stages.items b.waits) h.streams_are (subst (λ (l : List (List Stage)). AreKept streams l b.waits) (sym st) kept);
     };
     spots = subst (λ (l : List Spot). AreSpots t.streams l t.order) (sym order) h.spots;
   }
+
+  -- what waits, by the streams that are lent
+  kept_is : AreKept streams a.stages.items a.waits
+  kept_is = subst (λ (xs : List (List Placed)). AreKept xs a.stages.items a.waits) (sym h.streams_are) h.staged.kept
 
   -- how far the streams are followed is told by where their records stand
   reached_is : (list : List ℕ) → list ≡ reaches streams a.stages.items → list ≡ rlv t
@@ -56,8 +63,8 @@ module _ (streams : List (List Placed)) (t : Followed) (a : Applier) (h : Holds 
 
   -- the record at the spot is applied
   with_spot : (b : Applier) (j i : ℕ) (x : AtSpot t j i) → b.stages.items ≡ set_stage a.stages.items j i stages.Applied → ArePassed a.stages.items b.firsts.items →
-      b.order.items ≡ a.order.items ++ record { stream = j; index = i } ∷ [] → Holds streams (applied t x.kept) b
-  with_spot b j i x st passed order = record {
+      b.order.items ≡ a.order.items ++ record { stream = j; index = i } ∷ [] → AreKept streams b.stages.items b.waits → Holds streams (applied t x.kept) b
+  with_spot b j i x st passed order kept = record {
     streams_are = h.streams_are;
     format = h.format;
     fed = h.fed;
@@ -65,6 +72,7 @@ module _ (streams : List (List Placed)) (t : Followed) (a : Applier) (h : Holds 
     staged = record {
       stages_are = now;
       passed = subst (λ (l : List (List Stage)). ArePassed l b.firsts.items) (sym now) (passed_still t.out t.order t.streams b.firsts.items x.kept (subst (λ (l : List (List Stage)). ArePassed l b.firsts.items) h.staged.stages_are passed));
+      kept = subst (λ (xs : List (List Placed)). AreKept xs b.stages.items b.waits) h.streams_are kept;
     };
     spots = subst (λ (l : List Spot). AreSpots t.streams l (t.order ++ x.kept ∷ [])) (sym order)
         (spots_push t.streams a.order.items t.order (record { stream = j; index = i }) x.kept h.spots (record { records = x.ps; placed = x.p; stream = x.stream; there = x.there; is = x.is }));
@@ -77,15 +85,16 @@ module _ (streams : List (List Placed)) (t : Followed) (a : Applier) (h : Holds 
 
 -- nothing more is applied
 pub step_kept : (streams : List (List Placed)) (s : Followed) (a b : Applier) (first : List (List Stage)) → HasApplied streams s a → first ≡ a.stages.items → (ArePassed first a.firsts.items → ArePassed first b.firsts.items) →
-    b.stages.items ≡ a.stages.items → b.order.items ≡ a.order.items → HasApplied streams s b
-step_kept streams s a b first d first_is rose st order = record {
+    b.stages.items ≡ a.stages.items → b.order.items ≡ a.order.items → (AreKept streams a.stages.items a.waits → AreKept streams a.stages.items b.waits) → HasApplied streams s b
+step_kept streams s a b first d first_is rose st order keeps = record {
   news = d.news;
   now = d.now;
   applies = d.applies;
-  holds = other_firsts streams d.now a d.holds b st order (subst (λ (l : List (List Stage)). ArePassed l b.firsts.items) first_is (rose (subst (λ (l : List (List Stage)). ArePassed l a.firsts.items) (sym first_is) d.holds.staged.passed)));
+  holds = other_firsts streams d.now a d.holds b st order (subst (λ (l : List (List Stage)). ArePassed l b.firsts.items) first_is (rose (subst (λ (l : List (List Stage)). ArePassed l a.firsts.items) (sym first_is) d.holds.staged.passed)))
+      (keeps (kept_is streams d.now a d.holds));
 }
 
-module _ (streams : List (List Placed)) (s : Followed) (a b : Applier) (first second : List (List Stage)) (list fi re : List ℕ) (d : HasApplied streams s a)
+module _ (streams : List (List Placed)) (s : Followed) (a b : Applier) (first second : List (List Stage)) (list re : List ℕ) (d : HasApplied streams s a)
     (first_is : first ≡ a.stages.items) (told : ArePassed first a.firsts.items → list ≡ reaches streams first) (rose : ArePassed first a.firsts.items → ArePassed first b.firsts.items)
     (second_is : second ≡ a.stages.items) (re_is : re ≡ list) where
   passed : ArePassed first a.firsts.items
@@ -97,15 +106,27 @@ module _ (streams : List (List Placed)) (s : Followed) (a b : Applier) (first se
   reached : re ≡ rlv d.now
   reached = re_is ∙ reached_is streams d.now a d.holds list (told passed ∙ ap (reaches streams) first_is)
 
-  pub step_through : b.stages.items ≡ a.stages.items → b.order.items ≡ a.order.items → fi ≡ b.firsts.items →
-      ((j i : ℕ) (ps : List Placed) → j < length streams → slice_get streams j ≡ Some ps → slice_index fi j ≤ i → i < length ps → is_ready_in re streams second j i ≡ false) → HasFollowed streams s b
-  step_through st order fi_is none = record {
-    done = record { news = d.news; now = d.now; applies = d.applies; holds = other_firsts streams d.now a d.holds b st order risen };
-    through = none_ready streams d.now a d.holds re fi second reached second_is (subst (ArePassed a.stages.items) (sym fi_is) risen) none;
-  }
+  kept : AreKept streams second a.waits
+  kept = subst (λ (l : List (List Stage)). AreKept streams l a.waits) (sym second_is) (kept_is streams d.now a d.holds)
+
+  pub step_through : b.stages.items ≡ a.stages.items → b.order.items ≡ a.order.items → (AreKept streams second a.waits → AreFound streams second [] b.waits.queues.items × AreAllAbove re b.waits.queues.items) → HasFollowed streams s b
+  step_through st order none =
+      let k = none kept in
+      let found = found_more streams second [] b.waits.looked.items b.waits.queues.items (λ x c. none_in x _ c) k.0 in
+      record {
+        done = record { news = d.news; now = d.now; applies = d.applies; holds = other_firsts streams d.now a d.holds b st order risen (subst (λ (l : List (List Stage)). AreKept streams l b.waits) second_is (inr found)) };
+        through = none_ready streams d.now a d.holds re b.firsts.items second reached second_is risen (λ j i ps lt at le in_it. none_found streams second b.waits.queues.items re k.0 k.1 j i);
+      }
 
   pub step_applied : (j i : ℕ) → is_ready_in re streams second j i ≡ true → b.stages.items ≡ set_stage a.stages.items j i stages.Applied →
-      b.order.items ≡ a.order.items ++ record { stream = j; index = i } ∷ [] → HasApplied streams s b
-  step_applied j i is st order =
+      b.order.items ≡ a.order.items ++ record { stream = j; index = i } ∷ [] → (AreKept streams second a.waits → AreFound streams second (b.waits.looked.items ++ record { stream = j; index = i } ∷ []) b.waits.queues.items) → HasApplied streams s b
+  step_applied j i is st order found =
       let x = spot_is streams d.now a d.holds re second j i reached second_is is in
-      record { news = d.news ++ x.kept ∷ []; now = applied d.now x.kept; applies = applies_push s d.now d.news x.kept d.applies x.ready; holds = with_spot streams d.now a d.holds b j i x st risen order }
+      let then_kept : AreKept streams b.stages.items b.waits = subst (λ (l : List (List Stage)). AreKept streams l b.waits) (ap (λ (l : List (List Stage)). set_stage l j i stages.Applied) second_is ∙ sym st)
+      (inr (found_applied streams second b.waits.looked.items b.waits.queues.items (record { stream = j; index = i }) (found kept))) in
+      record {
+        news = d.news ++ x.kept ∷ [];
+        now = applied d.now x.kept;
+        applies = applies_push s d.now d.news x.kept d.applies x.ready;
+        holds = with_spot streams d.now a d.holds b j i x st risen order then_kept;
+      }

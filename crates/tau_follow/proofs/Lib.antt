@@ -1,6 +1,7 @@
 pub mod Going
 pub mod Longer
 pub mod Staging
+pub mod Queued
 pub mod Reaching
 pub mod Spots
 pub mod Holding
@@ -23,6 +24,7 @@ pub mod Listed
 pub mod Waiting
 pub mod Calls
 pub mod Reopening
+pub mod LooksOn
 pub mod ReadingOn
 pub mod Continuing
 pub mod Passing

@@ -1,5 +1,5 @@
 -- A stream is read on by records of calls, and anchors, and goes back.
-use Rattle.std.proofs.Common.{ℕ, zero, suc, ◌≤◌, ◌<◌, true, false, ◌≡◌, List, [], ◌∷◌, ◌++◌, length, take, set, Option, None, Some, Ok, refl, sym, ap, subst, ◌∙◌, arith}
+use Rattle.std.proofs.Common.{ℕ, zero, suc, ◌+◌, ◌≤◌, ◌<◌, true, false, ◌≡◌, inl, List, [], ◌∷◌, ◌++◌, length, take, drop, set, Option, None, Some, Ok, refl, sym, ap, subst, ◌∙◌, arith}
 use Rattle.std.specs.Prelude.{slice_get}
 use Rattle.std.proofs.Math.Seq.{take-append_seam}
 use Rattle.tau_base.proofs.Lists.{get_set_same}
@@ -18,14 +18,17 @@ use Rattle.tau_follow_laws.proofs.GoesOn.{fronts_stand}
 use Rattle.tau_follow.specs.declared.applier.Applier.{Applier}
 use Rattle.tau_follow.specs.declared.spot.Spot.{Spot}
 use Rattle.tau_follow.specs.declared.stage.Stage.{Stage}
-use Rattle.tau_follow.specs.Applying.{stages_from, extended_from, AreSpots, AreZero, is_call}
-use Rattle.tau_follow.specs.Judging.{judged_from, with_judged}
+use Rattle.tau_follow.specs.Applying.{stages_in, stages_from, first_stages, extended_from, AreSpots, AreZero, is_call}
+use Rattle.tau_follow.specs.Judging.{judged_in, judged_from, with_judged}
 use Rattle.tau_follow.specs.Feeding.{IsReadOn, AreCallsAt}
 use Rattle.tau_follow.specs.Holding.{HasApplied, HasReadOn}
 use Rattle.tau_follow.specs.State.{Stands}
+use Rattle.tau_follow.specs.Waits.{AreKept}
 use Rattle.tau_follow.proofs.Calls.{marks_are, catalogue_is, epochs_are, last_is, left_same, all_read_on}
 use Rattle.tau_follow.proofs.Checked.{all_good}
-use Rattle.tau_follow.proofs.Extending.{extend_all}
+use Rattle.tau_follow.proofs.Extending.{extend_all, stages_long}
+use Rattle.tau_follow.proofs.Staging.{stages_at}
+use Rattle.tau_follow.proofs.LooksOn.{kept_on, judged_within}
 use Rattle.tau_follow.proofs.Fed.{Read, reads, none_passed}
 use Rattle.tau_follow.proofs.Judging.{judged_all}
 use Rattle.tau_follow.proofs.Sealing.{follower_epochs}
@@ -100,6 +103,20 @@ module _ (f : Format) (n : ℕ) (fed : List (List ℕ)) (s : Followed) (p : Piec
         ∙ ap (judged_from known streams) (extend_all s.streams w.more streams s.out s.order (fronts_stand f fed s.streams w.before) w.grown (fronts_stand f (with_piece fed p) streams after) w.out_read w.order_read)
         ∙ judged_all streams (fronts_stand f (with_piece fed p) streams after) s.out s.order known (known_is ∙ ap (with_marks []) (sym same_marks)) in_time
 
+    stood_is : r.stood ≡ stages_in s.out s.order (0 + j) on.before
+    stood_is = some_same (stages_from s.out s.order 0 s.streams) j r.stood (stages_in s.out s.order (0 + j) on.before) stood_there (stages_at s.out s.order 0 j s.streams on.before on.there)
+
+    long : length r.stood ≡ length on.before
+    long = ap length stood_is ∙ stages_long s.out s.order (0 + j) on.before
+
+    -- the new records are looked at
+    kept_now : AreKept streams b.stages.items b.waits
+    kept_now =
+        subst (λ (xs : List (List Placed)). AreKept xs b.stages.items b.waits) (sym on.streams_are)
+        (subst (λ (l : List (List Stage)). AreKept (set s.streams j (on.before ++ on.news)) l b.waits) (sym r.stages_are)
+        (kept_on s.streams a.stages.items j on.before on.news r.stood (judged_in known k (drop (length r.stood) records) (first_stages (drop (length r.stood) records))) (length records) a.waits b.waits on.there r.there long
+        r.more r.looked (judged_within known k (length r.stood) records r.within) stands.staged.kept))
+
     -- the records stand, and nothing more is applied yet
     pub begun_on : HasApplied streams (with_read s streams) b
     begun_on = record {
@@ -111,17 +128,17 @@ module _ (f : Format) (n : ℕ) (fed : List (List ℕ)) (s : Followed) (p : Piec
         format = f;
         fed = with_piece fed p;
         fronts = after;
-        staged = record { stages_are = stages_now; passed = r.passed stands.staged.passed };
+        staged = record { stages_are = stages_now; passed = r.passed stands.staged.passed; kept = kept_now };
         spots = subst (λ v. AreSpots streams v.items s.order) (sym order) (spots_grow s.streams w.more streams w.grown a.order.items s.order stands.spots);
       };
     }
 
-    module _ (e : Applier) (many : ℕ) (many_is : (ss : List Stage) → slice_get a.stages.items j ≡ Some ss → many ≡ length ss) (zeros : AreZero e.firsts.items) (spots : e.order.items ≡ a.order.items)
+    module _ (e : Applier) (many : ℕ) (many_is : (ss : List Stage) → slice_get a.stages.items j ≡ Some ss → many ≡ length ss) (zeros : AreZero e.firsts.items) (lost : e.waits.lost ≡ true) (spots : e.order.items ≡ a.order.items)
         (cut : (ss : List Stage) → slice_get (stages_from (s.out ++ left_out streams) s.order 0 streams) j ≡ Some ss → e.stages.items ≡ set (stages_from (s.out ++ left_out streams) s.order 0 streams) j (take many ss)) where
       -- all stand as before
       pub undone_on : Stands s e
       undone_on = record {
-        staged = record { stages_are = stages_back ∙ stands.staged.stages_are; passed = none_passed e.stages.items e.firsts.items zeros };
+        staged = record { stages_are = stages_back ∙ stands.staged.stages_are; passed = none_passed e.stages.items e.firsts.items zeros; kept = inl lost };
         spots = subst (λ (l : List Spot). AreSpots s.streams l s.order) (sym spots) stands.spots;
       }
         where

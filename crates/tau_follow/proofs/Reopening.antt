@@ -1,5 +1,5 @@
 -- Records that were applied are opened again.
-use Rattle.std.proofs.Common.{ℕ, zero, suc, ◌+◌, ◌-◌, ◌≤◌, ◌<◌, ◌≡◌, inl, inr, List, [], ◌∷◌, ◌++◌, length, take, set, Some, refl, sym, ap, subst, ◌∙◌, arith, append_assoc}
+use Rattle.std.proofs.Common.{ℕ, zero, suc, ◌+◌, ◌-◌, ◌≤◌, ◌<◌, true, ◌≡◌, inl, inr, List, [], ◌∷◌, ◌++◌, length, take, set, Some, refl, sym, ap, subst, ◌∙◌, arith, append_assoc}
 use Rattle.std.specs.Prelude.{slice_get, slice_index_or}
 use Rattle.std.proofs.lemmas.List.{length-append, append-nil}
 use Rattle.std.proofs.Math.Seq.{take-append_seam}
@@ -114,7 +114,7 @@ open_there m x r s ready =
     stage_at m.out m.order (0 + x.stream) x.index s.records s.placed s.there
     ∙ ap (λ (l : List Kept). Some (stage_as m.out m.order l)) is ∙ ap (λ (z : Stage). Some z) (fresh_one m.out m.order r (open_parts m.out m.order r ready.open_still))
 
-module _ (streams : List (List Placed)) (s : Followed) (a b : Applier) (zeros : AreZero a.firsts.items) (firsts : b.firsts ≡ a.firsts) (front : b.order.items ≡ take (length a.order.items - 1) a.order.items)
+module _ (streams : List (List Placed)) (s : Followed) (a b : Applier) (zeros : AreZero a.firsts.items) (lost : b.waits.lost ≡ true) (firsts : b.firsts ≡ a.firsts) (front : b.order.items ≡ take (length a.order.items - 1) a.order.items)
     (opened : (spot : Spot) → a.order.items ≡ b.order.items ++ spot ∷ [] → IsWithin a.stages.items spot → b.stages.items ≡ set_stage a.stages.items spot.stream spot.index stages.Open) where
   back : (us : List Kept) (m : Followed) (r : Kept) → Applies s us m → IsReady m r → Holds streams (applied m r) a → HasApplied streams s b
   back us m r went ready h = record {
@@ -126,7 +126,7 @@ module _ (streams : List (List Placed)) (s : Followed) (a b : Applier) (zeros : 
       format = h.format;
       fed = h.fed;
       fronts = h.fronts;
-      staged = record { stages_are = stages_now; passed = none_passed b.stages.items b.firsts.items (λ j. ap (λ v. slice_at v.items j) firsts ∙ zeros j) };
+      staged = record { stages_are = stages_now; passed = none_passed b.stages.items b.firsts.items (λ j. ap (λ v. slice_at v.items j) firsts ∙ zeros j); kept = inl lost };
       spots = subst (λ (l : List Spot). AreSpots m.streams l m.order) (sym order_is) w.3;
     };
   }

@@ -8,7 +8,7 @@ use Rattle.tau_record.specs.declared.entry.Entry.{Entry}
 use Rattle.tau_record.specs.declared.entry.Entry.TheVariants.{Written, Command, Anchor, Catalogue, Epoch}
 use Rattle.tau_record.specs.declared.entry.Placed.{Placed}
 use Rattle.tau_scan.specs.Taken.{Kept, kept_as}
-use Rattle.tau_follow_laws.specs.Following.{Followed, is_among, read_to}
+use Rattle.tau_follow_laws.specs.Following.{is_among, read_to}
 use Rattle.tau_follow.specs.declared.spot.Spot.{Spot}
 use Rattle.tau_follow.specs.declared.stage.Stage.{Stage}
 use Rattle.tau_follow.specs.declared.stage.Stage.TheVariants.{Open, Out, Applied, Other}
@@ -134,11 +134,6 @@ IsWithin stages spot = (ss : List Stage) × (slice_get stages spot.stream ≡ So
 -- the record at this index of this stream stands so then
 abbrev pub set_stage : List (List Stage) → ℕ → ℕ → Stage → List (List Stage)
 set_stage stages j i stage = slice_set stages j (slice_set (slice_index_or stages j []) i stage)
-
--- where the records of a follower stand
-pub record AreStaged (s : Followed) (stages : List (List Stage)) (firsts : List ℕ) : Type 0 where
-  pub stages_are : stages ≡ stages_from s.out s.order 0 s.streams
-  pub passed : ArePassed stages firsts
 
 -- the record at a spot is this one
 pub record IsSpot (streams : List (List Placed)) (spot : Spot) (r : Kept) : Type 0 where

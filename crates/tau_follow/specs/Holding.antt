@@ -1,5 +1,6 @@
 -- What an applier has applied.
-use Rattle.std.specs.Prelude.{ℕ, ◌≡◌, ◌≤◌, List, length, Ok, Some, slice_get, slice_set}
+use Rattle.std.specs.Prelude.{ℕ, ◌≡◌, ◌≤◌, ◌<◌, List, length, Ok, Some, slice_get, slice_set}
+use Rattle.std.specs.List.{Contains}
 use Rattle.tau_base.specs.declared.format.Format.{Format}
 use Rattle.tau_record.specs.declared.entry.Placed.{Placed}
 use Rattle.tau_scan.specs.Taken.{Kept}
@@ -8,8 +9,17 @@ use Rattle.tau_follow_laws.specs.Following.{Followed, Applies, NoneReady}
 use Rattle.tau_follow.specs.declared.applier.Applier.{Applier}
 use Rattle.tau_epoch.specs.Epochs.{Mark}
 use Rattle.tau_follow.specs.declared.stage.Stage.{Stage}
-use Rattle.tau_follow.specs.Applying.{AreStaged, AreSpots, ArePassed}
+use Rattle.tau_follow.specs.Applying.{stages_from, AreSpots, ArePassed}
 use Rattle.tau_follow.specs.Judging.{with_judged}
+use Rattle.tau_follow.specs.declared.waits.Waits.{Waits}
+use Rattle.tau_follow.specs.Queue.{spot_at}
+use Rattle.tau_follow.specs.Waits.{AreKept, IsMore}
+
+-- where the records of a follower stand, and which of them wait
+pub record AreStaged (s : Followed) (stages : List (List Stage)) (firsts : List ℕ) (waits : Waits) : Type 0 where
+  pub stages_are : stages ≡ stages_from s.out s.order 0 s.streams
+  pub passed : ArePassed stages firsts
+  pub kept : AreKept s.streams stages waits
 
 -- Of streams that were read of some bytes these records are applied: they stand so, and are those at the spots.
 pub record Holds (streams : List (List Placed)) (s : Followed) (a : Applier) : Type 0 where
@@ -17,7 +27,7 @@ pub record Holds (streams : List (List Placed)) (s : Followed) (a : Applier) : T
   pub format : Format
   pub fed : List (List ℕ)
   pub fronts : fronts_of format fed ≡ Ok s.streams
-  pub staged : AreStaged s a.stages.items a.firsts.items
+  pub staged : AreStaged s a.stages.items a.firsts.items a.waits
   pub spots : AreSpots s.streams a.order.items s.order
 
 -- the applier has applied these records, and then
@@ -39,3 +49,5 @@ pub record HasReadOn (known : List Mark) (k : ℕ) (records : List Placed) (j : 
   pub within : length stood ≤ length records
   pub stages_are : new.stages.items ≡ slice_set old.stages.items j (with_judged known k records stood)
   pub passed : ArePassed old.stages.items old.firsts.items → ArePassed new.stages.items new.firsts.items
+  pub more : IsMore old.waits new.waits
+  pub looked : (i : ℕ) → length stood ≤ i → i < length records → Contains new.waits.looked.items (spot_at j i)

@@ -2,6 +2,8 @@ pub mod Width
 pub mod Reading
 pub mod Renewing
 pub mod Applying
+pub mod Queue
+pub mod Waits
 pub mod Holding
 pub mod Judging
 pub mod Feeding

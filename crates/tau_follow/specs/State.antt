@@ -14,13 +14,13 @@ use Rattle.tau_follow_laws.specs.Following.{Followed}
 use Rattle.tau_follow_laws.specs.Feeding.{Piece, with_piece, IsFollower}
 use Rattle.tau_follow.specs.declared.applier.Applier.{Applier}
 use Rattle.tau_follow.specs.declared.state.State.{State}
-use Rattle.tau_follow.specs.Applying.{AreStaged, AreSpots, redone_of}
+use Rattle.tau_follow.specs.Applying.{AreSpots, redone_of}
 use Rattle.tau_follow.specs.Feeding.{AreRead}
-use Rattle.tau_follow.specs.Holding.{HasFollowed}
+use Rattle.tau_follow.specs.Holding.{AreStaged, HasFollowed}
 
 -- where its records stand, and which are applied
 pub record Stands (s : Followed) (a : Applier) : Type 0 where
-  pub staged : AreStaged s a.stages.items a.firsts.items
+  pub staged : AreStaged s a.stages.items a.firsts.items a.waits
   pub spots : AreSpots s.streams a.order.items s.order
 
 -- each of these numbers is a byte

@@ -7,13 +7,15 @@ ghost use Rattle.tau_follow.specs.declared.stage.Stage.TheVariants.{Applied, Ope
 ghost use Rattle.tau_follow.specs.declared.spot.Spot.{Spot as OneSpot};
 ghost use Rattle.tau_follow.specs.Applying.{set_stage, open_all, stages_from, ArePassed, IsWithin, AreZero};
 ghost use Rattle.tau_follow.specs.Holding.{HasApplied, HasFollowed, HasReadOn};
+ghost use Rattle.tau_follow.specs.Waits.{AreKept};
 ghost use Rattle.tau_follow.specs.Judging.{with_judged};
 ghost use Rattle.tau_follow.specs.Reading.{BeginsWith};
 
 use crate::judge::extend_judged;
-use crate::reach::{find, reaches};
+use crate::reach::reaches;
 use crate::spot::Spot;
 use crate::stage::{Stage, Stages};
+use crate::waits::Waits;
 use std::alloc::Global;
 use tau_base::{Listed, NoMemory};
 use tau_epoch::Epochs;
@@ -28,6 +30,8 @@ pub struct Applier {
     pub firsts: Vec<usize>,
     /// The applied records in their order.
     pub order: Vec<Spot>,
+    /// What the open records wait for.
+    pub waits: Waits,
 }
 
 /// Has the record at a spot stand so.
@@ -116,6 +120,7 @@ impl Applier {
         ensures stages { OnErr result (self.new.stages.items ≡ self.old.stages.items) }
         ensures passed { OnErr result (ArePassed self.old.stages.items self.old.firsts.items → ArePassed self.old.stages.items self.new.firsts.items) }
         ensures order { self.new.order ≡ self.old.order }
+        ensures kept { (streams : List (List OnePlaced)) → AreKept streams self.old.stages.items self.old.waits → OnErr result (AreKept streams self.old.stages.items self.new.waits) }
     {
         let many = self.stand_count(stream);
         // The new records come after those that are passed.
@@ -125,6 +130,10 @@ impl Applier {
         }
         if stream >= self.stages.len() {
             return Err(NoMemory);
+        }
+        match self.waits.look_on(stream, many, records.len()) {
+            Ok(()) => {}
+            Err(e) => return Err(e),
         }
         match stand_on(known, number, records, &mut self.stages[stream]) {
             Ok(()) => Ok(()),
@@ -137,6 +146,7 @@ impl Applier {
         ensures stages { OnOk result (self.new.stages.items ≡ set_stage self.old.stages.items spot.stream spot.index Applied) }
         ensures order { OnOk result (self.new.order.items ≡ self.old.order.items ++ spot ∷ []) }
         ensures firsts { self.new.firsts ≡ self.old.firsts }
+        ensures waits { self.new.waits ≡ self.old.waits }
         ensures err_stages { OnErr result (self.new.stages.items ≡ self.old.stages.items) }
         ensures err_order { OnErr result (self.new.order.items ≡ self.old.order.items) }
     {
@@ -153,13 +163,8 @@ impl Applier {
         }
     }
 
-    /// Applies a record that is ready, if there is one, looked for from one stream on: its stream.
-    fn step(
-        &mut self,
-        alloc: Global,
-        streams: &[Listed<Placed>],
-        near: usize,
-    ) -> Result<Option<usize>, NoMemory>
+    /// Applies a record that is ready, if there is one, and returns where it stands.
+    fn step(&mut self, alloc: Global, streams: &[Listed<Placed>]) -> Result<Option<Spot>, NoMemory>
         ensures applied { (s : Followed) → HasApplied streams.now s self.old → HasApplied streams.now s self.new }
         ensures through { (s : Followed) → HasApplied streams.now s self.old → IfOk result (λ found. IsNone found → HasFollowed streams.now s self.new) }
         ensures fewer { IfOk result (λ found. IfSome found (λ _. open_all self.new.stages.items < open_all self.old.stages.items)) }
@@ -168,17 +173,18 @@ impl Applier {
         let Ok(reached) = reaches(alloc, streams, self.stages.as_slice(), &mut self.firsts) else {
             return Err(NoMemory);
         };
-        match find(
-            streams,
-            self.stages.as_slice(),
-            self.firsts.as_slice(),
-            reached.as_slice(),
-            near,
-        ) {
-            None => Ok(None),
-            Some(spot) => match self.apply(spot) {
-                Ok(()) => Ok(Some(spot.stream)),
-                Err(e) => Err(e),
+        match self
+            .waits
+            .next(alloc, streams, self.stages.as_slice(), reached.as_slice())
+        {
+            Err(e) => Err(e),
+            Ok(None) => Ok(None),
+            Ok(Some(spot)) => match self.apply(spot) {
+                Ok(()) => Ok(Some(spot)),
+                Err(e) => {
+                    self.waits.lose();
+                    Err(e)
+                }
             },
         }
     }
@@ -189,10 +195,9 @@ impl Applier {
         ensures applied { (s : Followed) → HasApplied streams.now s self.old → HasApplied streams.now s self.new }
         ensures order { BeginsWith self.old.order.items self.new.order.items }
     {
-        let mut near = 0;
         'steps: loop {
-            match self.step(alloc, streams, near) {
-                Ok(Some(stream)) => near = stream,
+            match self.step(alloc, streams) {
+                Ok(Some(_)) => {}
                 Ok(None) => return Ok(()),
                 Err(e) => return Err(e),
             }
@@ -204,6 +209,7 @@ impl Applier {
         ensures order { self.new.order.items ≡ take (length self.old.order.items - 1) self.old.order.items }
         ensures stages { (spot : OneSpot) → self.old.order.items ≡ self.new.order.items ++ spot ∷ [] → IsWithin self.old.stages.items spot → self.new.stages.items ≡ set_stage self.old.stages.items spot.stream spot.index Open }
         ensures firsts { self.new.firsts ≡ self.old.firsts }
+        ensures waits { self.new.waits ≡ self.old.waits }
     {
         match self.order.pop() {
             None => {}
@@ -215,9 +221,10 @@ impl Applier {
 
     /// Opens again the records that are applied after so many.
     fn reopen(&mut self, count: usize)
-        ensures opened { (streams : List (List OnePlaced)) (s : Followed) → AreZero self.old.firsts.items → HasApplied streams s self.old → count ≡ length s.order → self.new.stages.items ≡ stages_from s.out s.order 0 s.streams }
+        ensures opened { (streams : List (List OnePlaced)) (s : Followed) → AreZero self.old.firsts.items → self.old.waits.lost ≡ true → HasApplied streams s self.old → count ≡ length s.order → self.new.stages.items ≡ stages_from s.out s.order 0 s.streams }
         ensures order { (spots : List OneSpot) → BeginsWith spots self.old.order.items → count ≡ length spots → self.new.order.items ≡ spots }
         ensures firsts { self.new.firsts ≡ self.old.firsts }
+        ensures waits { self.new.waits ≡ self.old.waits }
     {
         'records: loop {
             if self.order.len() <= count {
@@ -233,8 +240,10 @@ impl Applier {
             self.new.stages.items ≡ slice_set (stages_from s.out s.order 0 s.streams) stream (take many ss) }
         ensures order { (spots : List OneSpot) → BeginsWith spots self.old.order.items → count ≡ length spots → self.new.order.items ≡ spots }
         ensures firsts { AreZero self.new.firsts.items }
+        ensures lost { self.new.waits.lost ≡ true }
     {
         self.firsts.fill(0);
+        self.waits.lose();
         self.reopen(count);
         drop_from(&mut self.stages, stream, many);
     }

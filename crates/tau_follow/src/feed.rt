@@ -9,6 +9,7 @@ ghost use Rattle.tau_follow.specs.Reading.{IsRead, is_cut, IsShortBy};
 ghost use Rattle.tau_follow.specs.Applying.{is_call, ArePassed};
 ghost use Rattle.tau_follow.specs.Feeding.{AreRead, AreLonger, IsMarkAt, AreCalls, AreCallsAt};
 ghost use Rattle.tau_follow.specs.Holding.{HasReadOn};
+ghost use Rattle.tau_follow.specs.Waits.{AreKept};
 ghost use Rattle.tau_record.specs.declared.entry.Placed.{Placed as OnePlaced};
 ghost use Rattle.tau_follow.specs.declared.reader.Reader.{Reader as OneReader};
 
@@ -181,6 +182,7 @@ pub fn read_calls(
     ensures stages { OnErr result (applier.new.stages.items ≡ applier.old.stages.items) }
     ensures passed { OnErr result (ArePassed applier.old.stages.items applier.old.firsts.items → ArePassed applier.old.stages.items applier.new.firsts.items) }
     ensures order { applier.new.order ≡ applier.old.order }
+    ensures kept { (all : List (List OnePlaced)) → AreKept all applier.old.stages.items applier.old.waits → OnErr result (AreKept all applier.old.stages.items applier.new.waits) }
 {
     let Some(reader) = readers.get(stream) else {
         return Err(NoMemory);

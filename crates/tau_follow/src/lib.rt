@@ -7,6 +7,7 @@ mod check;
 mod feed;
 mod follower;
 mod judge;
+mod queue;
 mod reach;
 mod reader;
 mod redo;
@@ -16,6 +17,7 @@ mod seal;
 mod spot;
 mod stage;
 mod state;
+mod waits;
 mod width;
 
 pub use follower::Follower;

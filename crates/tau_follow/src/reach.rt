@@ -3,10 +3,9 @@ ghost use Rattle.std.specs.Prelude.{◌≡◌, ◌≤◌, ◌<◌, ◌+◌, ◌+
 ghost use Rattle.tau_record.specs.declared.entry.Placed.{Placed};
 ghost use Rattle.tau_follow_laws.specs.Following.{read_to};
 ghost use Rattle.tau_follow.specs.declared.stage.Stage.{Stage as OneStage};
-ghost use Rattle.tau_follow.specs.Applying.{is_ready_in, is_open_stage, reach_by, reaches, ArePassed, set_stage};
+ghost use Rattle.tau_follow.specs.Applying.{is_open_stage, reach_by, reaches, ArePassed};
 
-use crate::spot::Spot;
-use crate::stage::{Stage, Stages, first_open, first_ready};
+use crate::stage::{Stage, Stages, first_open};
 use std::alloc::Global;
 use tau_base::{Listed, NoMemory};
 use tau_record::Placed;
@@ -47,31 +46,6 @@ fn reach_of(records: &[Placed], stages: &[Stage], first: usize) -> Reach
     }
 }
 
-/// The first ready record of a stream from the first one on that may be open.
-fn ready_in(
-    streams: &[Listed<Placed>],
-    stages: &[Stages],
-    reached: &[u64],
-    j: usize,
-    first: usize,
-) -> Option<usize>
-    ensures some { IfSome result (λ i. is_ready_in reached.now streams.now stages.now j i ≡ true) }
-    ensures none { IsNone result → (i : ℕ) (ps : List Placed) → slice_get streams.now j ≡ Some ps → first ≤ i → i < length ps → is_ready_in reached.now streams.now stages.now j i ≡ false }
-{
-    match streams.get(j) {
-        None => None,
-        Some(records) => match stages.get(j) {
-            None => None,
-            Some(of_stream) => first_ready(
-                reached,
-                records.as_slice(),
-                of_stream.as_slice(),
-                first,
-            ),
-        },
-    }
-}
-
 /// The number at this index, or 0.
 fn first_at(firsts: &[usize], j: usize) -> usize
     ensures { result ≡ slice_index firsts.now j }
@@ -79,44 +53,6 @@ fn first_at(firsts: &[usize], j: usize) -> usize
     match firsts.get(j) {
         Some(first) => *first,
         None => 0,
-    }
-}
-
-/// The first ready record of the streams from one on, before another.
-fn find_from(
-    streams: &[Listed<Placed>],
-    stages: &[Stages],
-    firsts: &[usize],
-    reached: &[u64],
-    from: usize,
-    to: usize,
-) -> Option<Spot>
-    ensures some { IfSome result (λ spot. is_ready_in reached.now streams.now stages.now spot.stream spot.index ≡ true) }
-    ensures none { IsNone result → (j i : ℕ) (ps : List Placed) → from ≤ j → j < to → slice_get streams.now j ≡ Some ps → slice_index firsts.now j ≤ i → i < length ps → is_ready_in reached.now streams.now stages.now j i ≡ false }
-{
-    for j in from..to {
-        match ready_in(streams, stages, reached, j, first_at(firsts, j)) {
-            Some(index) => return Some(Spot { stream: j, index }),
-            None => {}
-        }
-    }
-    None
-}
-
-/// A ready record of all streams, looked for from one stream on, and then before it.
-pub fn find(
-    streams: &[Listed<Placed>],
-    stages: &[Stages],
-    firsts: &[usize],
-    reached: &[u64],
-    near: usize,
-) -> Option<Spot>
-    ensures some { IfSome result (λ spot. is_ready_in reached.now streams.now stages.now spot.stream spot.index ≡ true) }
-    ensures none { IsNone result → (j i : ℕ) (ps : List Placed) → j < length streams.now → slice_get streams.now j ≡ Some ps → slice_index firsts.now j ≤ i → i < length ps → is_ready_in reached.now streams.now stages.now j i ≡ false }
-{
-    match find_from(streams, stages, firsts, reached, near, streams.len()) {
-        Some(spot) => Some(spot),
-        None => find_from(streams, stages, firsts, reached, 0, near),
     }
 }
 

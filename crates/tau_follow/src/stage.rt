@@ -125,59 +125,13 @@ pub fn dep_of(entry: &Entry) -> &[u64]
 }
 
 /// The position in stream `j`. Beyond its end a vector has zeros.
-fn position(positions: &[u64], j: usize) -> u64
+pub fn position(positions: &[u64], j: usize) -> u64
     ensures { result ≡ slice_index_or positions.now j 0 }
 {
     match positions.get(j) {
         Some(position) => *position,
         None => 0,
     }
-}
-
-/// Whether each position is at least that of a vector.
-pub fn covers(positions: &[u64], dep: &[u64]) -> bool
-    ensures { result ≡ covers positions.now dep.now }
-{
-    for j in 0..dep.len() {
-        let at = dep[j];
-        if at > position(positions, j) {
-            return false;
-        }
-    }
-    true
-}
-
-/// Whether a record that stands so is open, and covered.
-fn is_ready(reached: &[u64], placed: &Placed, stage: Option<&Stage>) -> bool
-    ensures { result ≡ is_ready_one reached.now (Some placed.now) (option_copied stage.entry) }
-{
-    match stage {
-        None => false,
-        Some(stage) => {
-            if !stage.is_open() {
-                return false;
-            }
-            covers(reached, dep_of(&placed.entry))
-        }
-    }
-}
-
-/// The first ready record of a stream from an index on.
-pub fn first_ready(
-    reached: &[u64],
-    records: &[Placed],
-    stages: &[Stage],
-    from: usize,
-) -> Option<usize>
-    ensures some { IfSome result (λ i. is_ready_at reached.now records.now stages.now i ≡ true) }
-    ensures none { IsNone result → (i : ℕ) → from ≤ i → i < length records.now → is_ready_at reached.now records.now stages.now i ≡ false }
-{
-    for i in from..records.len() {
-        if is_ready(reached, &records[i], stages.get(i)) {
-            return Some(i);
-        }
-    }
-    None
 }
 
 /// The first open record of a stream from an index on, or their number.

@@ -32,6 +32,7 @@ use crate::redo::redo_from;
 use crate::renew::renew_rows;
 use crate::spot::Spot;
 use crate::stage::{Stages, copied, extend_all};
+use crate::waits::Waits;
 use std::alloc::Global;
 use tau_base::{Format, Listed, MAX_STREAMS, NoMemory};
 use tau_epoch::Epochs;
@@ -90,6 +91,7 @@ fn follow_on(
         stages,
         firsts,
         order,
+        waits: Waits::new(alloc),
     };
     match next.follow(alloc, streams) {
         Ok(()) => Ok(next),
@@ -162,6 +164,7 @@ impl State {
                 stages,
                 firsts,
                 order: Vec::new(alloc),
+                waits: Waits::new(alloc),
             },
             known: Epochs::new(alloc),
             declarations: none_declared(alloc),

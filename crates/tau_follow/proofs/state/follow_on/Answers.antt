@@ -1,5 +1,5 @@
 -- Nothing is applied yet, and then what is ready.
-use Rattle.std.proofs.Common.{◌∙◌, ap, sym, subst, refl, [], List}
+use Rattle.std.proofs.Common.{◌∙◌, inl, ap, sym, subst, refl, [], List}
 use Rattle.tau_follow.specs.declared.spot.Spot.{Spot}
 use Rattle.tau_follow.specs.Applying.{AreSpots}
 use Rattle.tau_follow.proofs.Fed.{none_passed, all_read}
@@ -16,7 +16,7 @@ returns-in-Ok c = λ f fed s fronts same stages spots.
         format = f;
         fed = fed;
         fronts = fronts ∙ ap all_read same;
-        staged = record { stages_are = stages; passed = none_passed _ _ c.in_ok-firsts.ensures };
+        staged = record { stages_are = stages; passed = none_passed _ _ c.in_ok-firsts.ensures; kept = inl c.new.ensures };
         spots = subst (λ (l : List Spot). AreSpots s.streams l s.order) (sym c.in_ok-order.ensures.items) spots;
       };
     })

@@ -33,7 +33,7 @@ returns-in-Ok-redo_new-clause-ok c = λ f n fed s p count h on calls.
     at_calls f n fed s p c.args.self.now c.redo_new.new.self c.args.stream count h on calls (record { streams = same.streams; readers = same.readers; known = same.known; declarations = same.declarations }) redone)
 
 pub returns-in-Err-clause-stands : goal.returns-in-Err-clause-stands
-returns-in-Err-clause-stands c = λ f n fed s p count h on calls. stands_kept s c.args.self.now.applier c.read_calls.new.applier h.stands c.in-Err.ensures.stages c.in-Err.ensures.passed c.in-Err.ensures.order
+returns-in-Err-clause-stands c = λ f n fed s p count h on calls. stands_kept s c.args.self.now.applier c.read_calls.new.applier h.stands c.in-Err.ensures.stages c.in-Err.ensures.passed c.in-Err.ensures.order (c.in-Err.ensures.kept s.streams)
 
 pub returns-in-Err-redo_new-clause-stands : goal.returns-in-Err-redo_new-clause-stands
 returns-in-Err-redo_new-clause-stands c = λ f n fed s p count h on calls.
@@ -53,6 +53,6 @@ returns-in-Err-redo_new-clause-stands c = λ f n fed s p count h on calls.
     let count_is : c.len-count.result ≡ length c.args.self.now.applier.order.items = omega (arith, c.len-count.ensures) in
     let front = c.in-Err-redo_new.ensures.order in
     undone_on f n fed s p streams h.follower a.fronts c.args.stream count on calls c.args.self.now.applier c.read_calls.new.applier h.stands c.args.self.now.known k.known (on.before ++ on.news) there r.0.last last w c.in-Ok.ensures.order
-    c.undo.new.self c.stand_count-stood.result c.stand_count-stood.ensures c.undo.ensures.firsts
+    c.undo.new.self c.stand_count-stood.result c.stand_count-stood.ensures c.undo.ensures.firsts c.undo.ensures.lost
     (c.undo.ensures.order c.args.self.now.applier.order.items (front.0, front.1 ∙ ap (λ (v : Vec Spot). v.items ++ front.0) c.in-Ok.ensures.order) count_is)
     (λ ss e. c.undo.ensures.stages streams (with_read s streams) ss applied (omega (arith, count_is, long)) e))

@@ -31,7 +31,7 @@ returns c = λ f.
       follower = ([], (refl, refl));
       catalogue = None;
       one = begun_one c.args.n;
-      knows = record { known = c.new-3.ensures ∙ ap (with_marks []) (sym (no_marks c.args.n)); declarations = c.none_declared.ensures };
-      stands = record { staged = begun_staged c.args.n c.loop.counter _ _ all c.loop.invariant.1 c.in_ok-firsts.ensures; spots = subst (λ (l : List Spot). AreSpots (replicate c.args.n []) l []) (sym c.new-2.ensures.items) tt };
+      knows = record { known = c.new-4.ensures ∙ ap (with_marks []) (sym (no_marks c.args.n)); declarations = c.none_declared.ensures };
+      stands = record { staged = begun_staged c.args.n c.loop.counter _ _ _ all c.loop.invariant.1 c.in_ok-firsts.ensures c.new-3.ensures; spots = subst (λ (l : List Spot). AreSpots (replicate c.args.n []) l []) (sym c.new-2.ensures.items) tt };
       redone = record { within = omega arith; store = c.new-store.ensures; tables = subst (λ (x : Db). IsTablesOf x c.in_ok-tables.tables) c.new-store.ensures c.in_ok-tables.ensures };
     })
